@@ -1,0 +1,5 @@
+pub mod Bytes
+pub mod Bits
+pub mod Polynomial
+pub mod Masked
+pub mod Pieces

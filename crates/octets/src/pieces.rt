@@ -1,0 +1,95 @@
+// A text that comes in pieces, taken in by whole blocks of 16 bytes.
+
+ghost use Rattle.std.specs.Prelude.{◌≡◌, ℕ, ◌+◌, ◌<◌, ◌%◌, ◌++◌, List, [], length};
+
+/// What takes in whole blocks of 16 bytes, and keeps nothing of how they were cut.
+pub trait Absorb {
+    // a value has taken in this text of whole blocks, under this key
+    ghost absorbed: { Self → List ℕ → List ℕ → Type 0 };
+
+    /// Takes in any number of whole blocks.
+    fn absorb(&mut self, blocks: &[u8])
+        requires { length blocks.now % 16 ≡ 0 }
+        ensures { (k m : List ℕ) → length m % 16 ≡ 0 → absorbed self.old k m → absorbed self.new k (m ++ blocks.now) };
+}
+
+/// A text that comes in pieces of any length: what took in its whole blocks of 16 bytes, and the bytes after them.
+/// Whole blocks are handed on many at a time; only the ends of a piece are copied.
+#[derive(Drop)]
+pub struct Pieces<A> {
+    pub core: A,
+    pub buffer: [u8; 16],
+    pub used: usize,
+    ghost in_range: { used < 16 },
+}
+
+impl<A: Absorb> Pieces<A> {
+    ghost use Rattle.octets.specs.Bytes.{pad16};
+    ghost use Rattle.octets.specs.Pieces.{HoldsPieces};
+
+    /// No text yet.
+    pub fn new(core: A) -> Pieces<A>
+        ensures { (k : List ℕ) → A.absorbed core k [] → HoldsPieces A.absorbed result k [] }
+    {
+        Pieces {
+            core,
+            buffer: [0; 16],
+            used: 0,
+        }
+    }
+
+    // Adds bytes that end no block.
+    fn keep(&mut self, bytes: &[u8])
+        requires { self.old.used + length bytes.now < 16 }
+        ensures { (k m : List ℕ) → HoldsPieces A.absorbed self.old k m → HoldsPieces A.absorbed self.new k (m ++ bytes.now) }
+    {
+        let end = self.used + bytes.len();
+        self.buffer[self.used..end].copy_from_slice(bytes);
+        self.used = end;
+    }
+
+    // Adds the bytes that end the block begun.
+    fn fill(&mut self, bytes: &[u8])
+        requires { self.old.used + length bytes.now ≡ 16 }
+        ensures holds { (k m : List ℕ) → HoldsPieces A.absorbed self.old k m → HoldsPieces A.absorbed self.new k (m ++ bytes.now) }
+        ensures empty { self.new.used ≡ 0 }
+    {
+        self.buffer[self.used..16].copy_from_slice(bytes);
+        self.core.absorb(&self.buffer);
+        self.used = 0;
+    }
+
+    // Adds bytes where no block is begun.
+    fn update_whole(&mut self, bytes: &[u8])
+        requires { self.old.used ≡ 0 }
+        ensures { (k m : List ℕ) → HoldsPieces A.absorbed self.old k m → HoldsPieces A.absorbed self.new k (m ++ bytes.now) }
+    {
+        let whole = bytes.len() / 16 * 16;
+        self.core.absorb(&bytes[..whole]);
+        self.keep(&bytes[whole..]);
+    }
+
+    /// Adds `piece`, of any length, to the end of the text.
+    pub fn update(&mut self, piece: &[u8])
+        ensures { (k m : List ℕ) → HoldsPieces A.absorbed self.old k m → HoldsPieces A.absorbed self.new k (m ++ piece.now) }
+    {
+        if self.used == 0 {
+            self.update_whole(piece);
+        } else if piece.len() < 16 - self.used {
+            self.keep(piece);
+        } else {
+            let room = 16 - self.used;
+            self.fill(&piece[..room]);
+            self.update_whole(&piece[room..]);
+        }
+    }
+
+    /// Adds the fewest zero bytes that make the length of the text a multiple of 16: none where it is one.
+    pub fn pad16(&mut self)
+        ensures { (k m : List ℕ) → HoldsPieces A.absorbed self.old k m → HoldsPieces A.absorbed self.new k (pad16 m) }
+    {
+        let zeros = [0u8; 16];
+        let missing = (16 - self.used) % 16;
+        self.update(&zeros[..missing]);
+    }
+}

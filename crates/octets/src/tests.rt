@@ -1,0 +1,49 @@
+use super::*;
+use std::test::Fail;
+
+#[test]
+fn each_length_has_its_type(rt: HostRuntime) -> Result<(), Fail> {
+    let bytes = [7u8; 33];
+    assert_eq!(rt;
+        Key16::from_slice(&bytes[..16])?.bytes().as_slice(),
+        &bytes[..16]
+    );
+    assert_eq!(rt;
+        Key24::from_slice(&bytes[..24])?.bytes().as_slice(),
+        &bytes[..24]
+    );
+    assert_eq!(rt;
+        Key32::from_slice(&bytes[..32])?.bytes().as_slice(),
+        &bytes[..32]
+    );
+    assert_eq!(rt;
+        Nonce::from_slice(&bytes[..12])?.bytes().as_slice(),
+        &bytes[..12]
+    );
+    assert!(rt; Key32::from_slice(&bytes).is_err_and(|e| e == Fault::KeyLength));
+    assert!(rt; Nonce::from_slice(&bytes).is_err_and(|e| e == Fault::NonceLength));
+    Ok(())
+}
+
+#[test]
+fn a_fault_shows_its_name(rt: HostRuntime) -> Result<(), Fail> {
+    for (fault, name) in [
+        (Fault::KeyLength, "KeyLength"),
+        (Fault::NonceLength, "NonceLength"),
+        (Fault::TextTooLong, "TextTooLong"),
+        (Fault::AadTooLong, "AadTooLong"),
+        (Fault::TooShort, "TooShort"),
+        (Fault::TagMismatch, "TagMismatch"),
+        (Fault::WrapLength, "WrapLength"),
+        (Fault::WrapIntegrity, "WrapIntegrity"),
+        (Fault::OutOfMemory, "OutOfMemory"),
+        (Fault::StreamEnd, "StreamEnd"),
+        (Fault::Read, "Read"),
+        (Fault::Write, "Write"),
+        (Fault::SourceChanged, "SourceChanged"),
+    ] {
+        let text = format!(in rt.alloc(); "{fault}")?;
+        assert_eq!(rt; text.as_str(), name);
+    }
+    Ok(())
+}
