@@ -1,0 +1,3 @@
+pub mod Poly1305
+pub mod Residue
+pub mod States

@@ -1,0 +1,104 @@
+// The authenticator over a text that comes in pieces.
+
+ghost use Rattle.std.specs.Prelude.{◌≡◌, ℕ, ◌<◌, ◌++◌, List, [], take};
+ghost use Rattle.poly1305.specs.Poly1305.{block_number};
+
+use crate::Multiplier;
+use crate::residue::Residue;
+use octets::{Absorb, Pieces, Tag};
+
+// The bits of r that the clamping keeps (RFC 8439, 2.5).
+const R_MASK: u128 = 0x0ffffffc0ffffffc0ffffffc0fffffff;
+
+// The sum over whole blocks, with both numbers of the key.
+#[derive(Drop)]
+struct Core<M> {
+    multiplier: M,
+    addend: u128,
+    sum: Residue,
+}
+
+impl<M: Multiplier> Absorb for Core<M> {
+    ghost use Rattle.poly1305.specs.States.{CoreHolds};
+
+    ghost absorbed = { λ c k m. CoreHolds M.factor c k m };
+
+    fn absorb(&mut self, blocks: &[u8]) {
+        let (whole, _) = blocks.as_chunks::<16>();
+        // Partly reduced from block to block, and wholly at the end.
+        let mut sum = self.sum.sum();
+        'taken: for block in whole {
+            sum = self.multiplier.step(sum, u128::from_le_bytes(*block), 1);
+        }
+        self.sum = sum.residue();
+    }
+}
+
+// What a block of fewer than 16 bytes counts: its bytes, then one bit more.
+fn short_block_number(buffer: &[u8; 16], used: usize) -> u128
+    requires { used < 16 }
+    ensures { result ≡ block_number (take used buffer.now) }
+{
+    let mut block = [0u8; 16];
+    block[..used].copy_from_slice(&buffer[..used]);
+    block[used] = 1;
+    u128::from_le_bytes(block)
+}
+
+/// A one-time authenticator over a text that comes in pieces, by the multiplier `M`.
+#[derive(Drop)]
+pub struct PolyBy<M> {
+    pieces: Pieces<Core<M>>,
+}
+
+impl<M: Multiplier> PolyBy<M> {
+    ghost use Rattle.octets.specs.Bytes.{pad16, IsBlock};
+    ghost use Rattle.poly1305.specs.Poly1305.{poly1305};
+    ghost use Rattle.poly1305.specs.States.{HoldsBy};
+
+    /// A state that holds the empty text, under a key of 32 bytes: r, then s (RFC 8439, 2.5).
+    pub fn new(key: &[u8; 32]) -> PolyBy<M>
+        ensures { HoldsBy M.factor result key.now [] }
+    {
+        let mut first = [0u8; 16];
+        first.copy_from_slice(&key[..16]);
+        let mut second = [0u8; 16];
+        second.copy_from_slice(&key[16..]);
+        PolyBy {
+            pieces: Pieces::new(Core {
+                multiplier: M::new(u128::from_le_bytes(first) & R_MASK),
+                addend: u128::from_le_bytes(second),
+                sum: Residue::zero(),
+            }),
+        }
+    }
+
+    /// Adds `piece`, of any length, to the text.
+    pub fn update(&mut self, piece: &[u8])
+        ensures { (k m : List ℕ) → HoldsBy M.factor self.old k m → HoldsBy M.factor self.new k (m ++ piece.now) }
+    {
+        self.pieces.update(piece);
+    }
+
+    /// Adds the fewest zero bytes that make the text's length a multiple of 16 bytes (RFC 8439, 2.8.1).
+    pub fn pad16(&mut self)
+        ensures { (k m : List ℕ) → HoldsBy M.factor self.old k m → HoldsBy M.factor self.new k (pad16 m) }
+    {
+        self.pieces.pad16();
+    }
+
+    /// The tag of the text (RFC 8439, 2.5): 16 bytes. It spends the state.
+    pub fn finish(self) -> Tag
+        ensures value { (k m : List ℕ) → HoldsBy M.factor self k m → result ≡ poly1305 k m }
+        ensures is_block { IsBlock result }
+    {
+        let core = &self.pieces.core;
+        let used = self.pieces.used;
+        let mut sum = core.sum;
+        if used > 0 {
+            let last = short_block_number(&self.pieces.buffer, used);
+            sum = core.multiplier.step(sum.sum(), last, 0).residue();
+        }
+        Tag::new(sum.low.wrapping_add(core.addend).to_le_bytes())
+    }
+}
