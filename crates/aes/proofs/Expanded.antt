@@ -1,0 +1,100 @@
+-- An expanded key, and the rounds with its words.
+use Rattle.std.proofs.Common.{◌≡◌, ℕ, suc, ◌+◌, ◌-◌, ◌*◌, ◌/◌, ◌%◌, ◌<◌, ◌≤◌, List, [], get_or, length, refl, sym, ap, ap₂, ◌∙◌, arith, inl, inr, take_all, zero-add, bit_xor, add-one}
+use Rattle.std.proofs.lemmas.List.FromFn.{get_or-map-range_with_len}
+use Rattle.aes.specs.Schedule.{round_count, schedule, table, key_of, IsKeySize, IsExpanded}
+use Rattle.aes.specs.Cipher.{at, grid, sub_bytes, shift_rows, mix_columns, add_round_key, rounds, cipher, IsKey, IsKeyLength}
+use Rattle.aes.proofs.Words.{words_at, word_start, table_start, key_of_words}
+use Rattle.aes.proofs.Grids.{grid_is}
+use Rattle.aes.proofs.Steps.{add_twice}
+
+-- ws begins with the schedule of the key
+abbrev pub HasSchedule : List (List ℕ) → List ℕ → Type 0
+HasSchedule ws key = (k : ℕ) → k < 4 * (round_count key + 1) → get_or ws k [] ≡ get_or (schedule key) k []
+
+-- a table begins with the schedule
+table_has : (ws : List (List ℕ)) (key : List ℕ) → ws ≡ table key → HasSchedule ws key
+table_has ws key e k h = ap (λ v. get_or v k []) e ∙ table_start key k h
+
+-- the first words of an expanded key spell it
+pub spelled : (ws : List (List ℕ)) (key : List ℕ) (n : ℕ) → length ws ≡ 60 → IsKeySize n → length key ≡ 4 * n → ws ≡ table key → key_of ws n ≡ key
+spelled ws key n long size len e =
+    key_of_words ws key n (omega arith)
+    (λ k h. table_has ws key e k (omega arith) ∙ words_at key (4 * (round_count key + 1)) k (omega arith) ∙ word_start key k (omega arith))
+    ∙ take_all (4 * n) key (omega arith)
+
+-- the fields of a new expanded key
+pub expanded : (ws : List (List ℕ)) (key : List ℕ) (n : ℕ) → ((i : ℕ) → get_or key i 0 < 256) → length ws ≡ 60 → IsKeySize n → length key ≡ 4 * n → ws ≡ table key → IsExpanded ws n
+expanded ws key n small long size len e =
+    let k : key_of ws n ≡ key = spelled ws key n long size len e in
+    record { size = size; length_is = ap length k ∙ len; bytes = λ i. rw k (small i); words_are = e ∙ ap table (sym k) }
+
+-- an expanded key begins with the schedule of the key that it is seen as
+pub has_schedule : (ws : List (List ℕ)) (n : ℕ) (key : List ℕ) → IsExpanded ws n → key_of ws n ≡ key → HasSchedule ws key
+has_schedule ws n key x e = table_has ws key (x.words_are ∙ ap table e)
+
+-- grids that agree at their sixteen places
+grid_same : (f h : ℕ → ℕ → ℕ) → ((k : ℕ) → k < 16 → f (k % 4) (k / 4) ≡ h (k % 4) (k / 4)) → grid f ≡ grid h
+grid_same f h same =
+    grid_is h (grid f) refl (λ k l. get_or-map-range_with_len (λ i. f (i % 4) (i / 4)) 0 16 k k 0 l (zero-add k) ∙ same k l)
+
+-- AddRoundKey reads the words of the schedule only
+pub same_round_key : (ws : List (List ℕ)) (key : List ℕ) (n : ℕ) (s : List ℕ) → HasSchedule ws key → n ≤ round_count key
+    → add_round_key ws n s ≡ add_round_key (schedule key) n s
+unfolding add_round_key
+same_round_key ws key n s has within =
+    grid_same (λ r c. bit_xor (at s r c) (get_or (get_or ws (4 * n + c) []) r 0)) (λ r c. bit_xor (at s r c) (get_or (get_or (schedule key) (4 * n + c) []) r 0))
+    (λ k h. ap (λ w. bit_xor (at s (k % 4) (k / 4)) (get_or w (k % 4) 0)) (has (4 * n + k / 4) (omega arith)))
+
+-- the state before the first round
+pub rounds_start : (ws : List (List ℕ)) (s : List ℕ) → rounds ws 0 s ≡ add_round_key ws 0 s
+unfolding rounds
+rounds_start ws s = refl
+
+-- the state after one round more
+pub rounds_more : (ws : List (List ℕ)) (n : ℕ) (s : List ℕ)
+    → rounds ws (n + 1) s ≡ add_round_key ws (n + 1) (mix_columns (shift_rows (sub_bytes (rounds ws n s))))
+unfolding rounds
+rounds_more ws n s = rw add-one refl
+
+-- the cipher by its rounds
+pub cipher_is : (key s : List ℕ) → cipher key s
+    ≡ add_round_key (schedule key) (round_count key) (shift_rows (sub_bytes (rounds (schedule key) (round_count key - 1) s)))
+unfolding cipher
+cipher_is key s = refl
+
+-- the same step, as the definition writes it
+pub rounds_suc : (ws : List (List ℕ)) (n : ℕ) (s : List ℕ)
+    → rounds ws (suc n) s ≡ add_round_key ws (suc n) (mix_columns (shift_rows (sub_bytes (rounds ws n s))))
+unfolding rounds
+rounds_suc ws n s = refl
+
+-- a key of 4, 6 or 8 words has 16, 24 or 32 bytes
+pub key_length : (key : List ℕ) (n : ℕ) → IsKeySize n → length key ≡ 4 * n → IsKeyLength (length key)
+key_length key n (inl e) h = inl (omega arith)
+key_length key n (inr (inl e)) h = inr (inl (omega arith))
+key_length key n (inr (inr e)) h = inr (inr (omega arith))
+
+-- ---- backwards: where the state after the last rounds but one is s, and s is what comes before the last round of c
+pub last_back : (key c s l b : List ℕ) → length c ≡ 16 → add_round_key (schedule key) (round_count key) c ≡ l
+    → shift_rows (sub_bytes s) ≡ l → rounds (schedule key) (round_count key - 1) b ≡ s → cipher key b ≡ c
+last_back key c s l b long e f h =
+    cipher_is key b
+    ∙ ap (add_round_key (schedule key) (round_count key)) (ap shift_rows (ap sub_bytes h) ∙ f ∙ sym e)
+    ∙ add_twice (schedule key) (round_count key) c long
+
+-- one round back
+pub round_back : (key s t m b : List ℕ) (n k : ℕ) → suc k ≡ n → length s ≡ 16 → add_round_key (schedule key) n s ≡ m
+    → mix_columns (shift_rows (sub_bytes t)) ≡ m → rounds (schedule key) k b ≡ t → rounds (schedule key) n b ≡ s
+round_back key s t m b n k i long e f h =
+    ap (λ j. rounds (schedule key) j b) (sym i) ∙ rounds_suc (schedule key) k b
+    ∙ ap₂ (add_round_key (schedule key)) i (ap mix_columns (ap shift_rows (ap sub_bytes h)) ∙ f ∙ sym e)
+    ∙ add_twice (schedule key) n s long
+
+-- where no round is left, AddRoundKey alone is undone
+pub first_back : (key s f : List ℕ) (n : ℕ) → n ≡ 0 → length s ≡ 16 → add_round_key (schedule key) 0 s ≡ f → rounds (schedule key) n f ≡ s
+first_back key s f n i long e =
+    ap (λ j. rounds (schedule key) j f) i ∙ rounds_start (schedule key) f ∙ ap (add_round_key (schedule key) 0) (sym e) ∙ add_twice (schedule key) 0 s long
+
+-- the fields spell a key
+pub is_key : (ws : List (List ℕ)) (n : ℕ) → IsExpanded ws n → IsKey (key_of ws n)
+is_key ws n x = record { length_is = key_length (key_of ws n) n x.size x.length_is; bytes = x.bytes }

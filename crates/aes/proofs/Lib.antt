@@ -1,0 +1,12 @@
+pub mod Tables
+pub mod FieldFacts
+pub mod Multiples
+pub mod Grids
+pub mod Rows
+pub mod Words
+pub mod Expanded
+pub mod Linear
+pub mod Steps
+pub mod Permutation
+pub mod Counting
+pub mod StreamSteps

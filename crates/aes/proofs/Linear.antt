@@ -1,0 +1,223 @@
+-- Products distribute over sums; the inverse of the matrix of MixColumns.
+use Rattle.std.proofs.Common.{◌≡◌, ℕ, ◌<◌, Bool, List, [], ◌∷◌, map, get_or, refl, sym, ap, ap₂, ◌∙◌, bit_xor}
+use mathlib.Core.Path.{fun_ext}
+use Rattle.std.specs.Int.Bits.{xor_zero_r, xor_zero_l, xor_comm, xor_assoc, xor_self}
+use Rattle.octets.specs.Bits.{bit, bits}
+use Rattle.octets.specs.Polynomial.{coefficient, plus, sum, Agree, product, residue}
+use Rattle.octets.proofs.Sequence.{mult, mult_sum}
+use Rattle.octets.proofs.Ring.{coefficient_product, coefficient_sum, residue_agree, residue_sum}
+use Rattle.octets.proofs.BitFacts.{bit_number, bit_of_xor, same_bits, bits_of_xor}
+use Rattle.aes.specs.Field.{modulus, times}
+use Rattle.aes.specs.Cipher.{dot, matrix, mix_column}
+use Rattle.aes.proofs.FieldFacts.{times_comm, times_swap}
+use Rattle.aes.proofs.Multiples.{single_is}
+use Rattle.aes.proofs.Rows.{four}
+
+-- the bits of a product
+bit_times : (x y i : ℕ) → bit (times x y) i ≡ coefficient (residue modulus (product (bits x) (bits y))) i
+unfolding times
+bit_times x y i = bit_number (residue modulus (product (bits x) (bits y))) i
+
+-- the product with a sum, as polynomials
+product_xor : (x y z : ℕ) → Agree (product (bits x) (bits (bit_xor y z))) (sum (product (bits x) (bits y)) (product (bits x) (bits z)))
+product_xor x y z k =
+    let p : List Bool = bits x in
+    coefficient_product p (bits (bit_xor y z)) k
+    ∙ ap (λ h. mult p h k) (fun_ext (λ i. bits_of_xor y z i ∙ coefficient_sum (bits y) (bits z) i))
+    ∙ ap (λ h. h k) (mult_sum p (coefficient (bits y)) (coefficient (bits z)))
+    ∙ sym (coefficient_sum (product p (bits y)) (product p (bits z)) k
+    ∙ ap₂ plus (coefficient_product p (bits y) k) (coefficient_product p (bits z) k))
+
+-- the product with a sum
+pub times_xor : (x y z : ℕ) → times x (bit_xor y z) ≡ bit_xor (times x y) (times x z)
+times_xor x y z =
+    let p : List Bool = bits x in
+    same_bits (times x (bit_xor y z)) (bit_xor (times x y) (times x z))
+    (λ i.
+    bit_times x (bit_xor y z) i
+    ∙ residue_agree modulus (product p (bits (bit_xor y z))) (sum (product p (bits y)) (product p (bits z))) refl (product_xor x y z) i
+    ∙ residue_sum modulus (product p (bits y)) (product p (bits z)) refl i
+    ∙ coefficient_sum (residue modulus (product p (bits y))) (residue modulus (product p (bits z))) i
+    ∙ sym (bit_of_xor (times x y) (times x z) i ∙ ap₂ plus (bit_times x y i) (bit_times x z i)))
+
+-- the product with 0
+pub times_zero : (x : ℕ) → times x 0 ≡ 0
+times_zero x = times_xor x 0 0 ∙ xor_self (times x 0)
+
+-- the product of 0
+pub zero_times : (x : ℕ) → times 0 x ≡ 0
+zero_times x = times_comm 0 x ∙ times_zero x
+
+-- the product of a sum
+pub xor_times : (x y z : ℕ) → times (bit_xor x y) z ≡ bit_xor (times x z) (times y z)
+xor_times x y z = times_comm (bit_xor x y) z ∙ times_xor z x y ∙ ap₂ bit_xor (times_comm z x) (times_comm z y)
+
+-- products associate
+pub times_assoc : (x y z : ℕ) → times x (times y z) ≡ times (times x y) z
+times_assoc x y z = times_swap x y z ∙ ap (times z) (times_comm y x) ∙ times_comm z (times x y)
+
+-- the middle two of four terms exchanged
+xor_exchange : (a b c d : ℕ) → bit_xor (bit_xor a b) (bit_xor c d) ≡ bit_xor (bit_xor a c) (bit_xor b d)
+xor_exchange a b c d =
+    xor_assoc a b (bit_xor c d)
+    ∙ ap (bit_xor a) (sym (xor_assoc b c d) ∙ ap (λ x. bit_xor x d) (xor_comm b c) ∙ xor_assoc c b d)
+    ∙ sym (xor_assoc a c (bit_xor b d))
+
+-- ---- rows
+abbrev add_rows : List ℕ → List ℕ → List ℕ
+add_rows [] w = w
+add_rows (x ∷ u) [] = x ∷ u
+add_rows (x ∷ u) (y ∷ w) = bit_xor x y ∷ add_rows u w
+
+-- the dot product of a sum of rows
+dot_add : (u w v : List ℕ) → dot (add_rows u w) v ≡ bit_xor (dot u v) (dot w v)
+dot_add [] w v = sym (xor_zero_l (dot w v))
+dot_add (x ∷ u) [] v = sym (xor_zero_r (dot (x ∷ u) v))
+dot_add (x ∷ u) (y ∷ w) [] = sym (xor_self 0)
+dot_add (x ∷ u) (y ∷ w) (z ∷ v) =
+    ap₂ bit_xor (xor_times x y z) (dot_add u w v) ∙ xor_exchange (times x z) (times y z) (dot u v) (dot w v)
+
+-- a multiple of a dot product
+dot_times : (x : ℕ) (w v : List ℕ) → times x (dot w v) ≡ dot (map (times x) w) v
+dot_times x [] v = times_zero x
+dot_times x (y ∷ w) [] = times_zero x
+dot_times x (y ∷ w) (z ∷ v) = times_xor x (times y z) (dot w v) ∙ ap₂ bit_xor (times_assoc x y z) (dot_times x w v)
+
+-- a row times a matrix
+abbrev combined : List ℕ → List (List ℕ) → List ℕ
+combined [] ws = []
+combined (x ∷ u) [] = []
+combined (x ∷ u) (w ∷ ws) = add_rows (map (times x) w) (combined u ws)
+
+-- a row times a product of a matrix and a column is the combined row times the column
+dot_map : (u : List ℕ) (ws : List (List ℕ)) (v : List ℕ) → dot u (map (λ w. dot w v) ws) ≡ dot (combined u ws) v
+dot_map [] ws v = refl
+dot_map (x ∷ u) [] v = refl
+dot_map (x ∷ u) (w ∷ ws) v =
+    ap₂ bit_xor (dot_times x w v) (dot_map u ws v) ∙ sym (dot_add (map (times x) w) (combined u ws) v)
+
+-- ---- the inverse matrix
+abbrev pub inverse_matrix : List (List ℕ)
+inverse_matrix =
+    (14 ∷ 11 ∷ 13 ∷ 9 ∷ []) ∷
+    (9 ∷ 14 ∷ 11 ∷ 13 ∷ []) ∷
+    (13 ∷ 9 ∷ 14 ∷ 11 ∷ []) ∷
+    (11 ∷ 13 ∷ 9 ∷ 14 ∷ []) ∷ []
+
+-- the product of the inverse matrix and a column
+pub unmix_column : List ℕ → List ℕ
+unmix_column v = map (λ u. dot u v) inverse_matrix
+
+-- the identity matrix
+abbrev identity : List (List ℕ)
+identity = (1 ∷ 0 ∷ 0 ∷ 0 ∷ []) ∷ (0 ∷ 1 ∷ 0 ∷ 0 ∷ []) ∷ (0 ∷ 0 ∷ 1 ∷ 0 ∷ []) ∷ (0 ∷ 0 ∷ 0 ∷ 1 ∷ []) ∷ []
+
+-- the matrix times its inverse
+inverse_right : map (λ u. combined u inverse_matrix) matrix ≡ identity
+unfolding times product residue
+inverse_right = refl
+
+-- the inverse times the matrix
+inverse_left : map (λ u. combined u matrix) inverse_matrix ≡ identity
+unfolding times product residue
+inverse_left = refl
+
+-- the identity leaves four bytes alone
+row_first : (a b c d : ℕ) → a < 256 → dot (1 ∷ 0 ∷ 0 ∷ 0 ∷ []) (a ∷ b ∷ c ∷ d ∷ []) ≡ a
+row_first a b c d h =
+    ap₂ bit_xor (single_is a h) (ap₂ bit_xor (zero_times b) (ap₂ bit_xor (zero_times c) (ap (λ x. bit_xor x 0) (zero_times d)))) ∙ xor_zero_r a
+
+-- the second row of the identity
+row_second : (a b c d : ℕ) → b < 256 → dot (0 ∷ 1 ∷ 0 ∷ 0 ∷ []) (a ∷ b ∷ c ∷ d ∷ []) ≡ b
+row_second a b c d h =
+    ap₂ bit_xor (zero_times a) (ap₂ bit_xor (single_is b h) (ap₂ bit_xor (zero_times c) (ap (λ x. bit_xor x 0) (zero_times d)))) ∙ xor_zero_l (bit_xor b 0) ∙ xor_zero_r b
+
+-- the third row of the identity
+row_third : (a b c d : ℕ) → c < 256 → dot (0 ∷ 0 ∷ 1 ∷ 0 ∷ []) (a ∷ b ∷ c ∷ d ∷ []) ≡ c
+row_third a b c d h =
+    ap₂ bit_xor (zero_times a) (ap₂ bit_xor (zero_times b) (ap₂ bit_xor (single_is c h) (ap (λ x. bit_xor x 0) (zero_times d))))
+    ∙ xor_zero_l (bit_xor 0 (bit_xor c 0)) ∙ xor_zero_l (bit_xor c 0) ∙ xor_zero_r c
+
+-- the fourth row of the identity
+row_fourth : (a b c d : ℕ) → d < 256 → dot (0 ∷ 0 ∷ 0 ∷ 1 ∷ []) (a ∷ b ∷ c ∷ d ∷ []) ≡ d
+row_fourth a b c d h =
+    ap₂ bit_xor (zero_times a) (ap₂ bit_xor (zero_times b) (ap₂ bit_xor (zero_times c) (ap (λ x. bit_xor x 0) (single_is d h))))
+    ∙ xor_zero_l (bit_xor 0 (bit_xor 0 (bit_xor d 0))) ∙ xor_zero_l (bit_xor 0 (bit_xor d 0)) ∙ xor_zero_l (bit_xor d 0) ∙ xor_zero_r d
+
+-- the identity matrix leaves a column as it is
+identity_is : (a b c d : ℕ) → a < 256 → b < 256 → c < 256 → d < 256
+    → map (λ u. dot u (a ∷ b ∷ c ∷ d ∷ [])) identity ≡ a ∷ b ∷ c ∷ d ∷ []
+identity_is a b c d ha hb hc hd = four (row_first a b c d ha) (row_second a b c d hb) (row_third a b c d hc) (row_fourth a b c d hd)
+
+-- two matrices after one another are their product
+rows_of : (us ws : List (List ℕ)) (v : List ℕ) → map (λ u. dot u (map (λ w. dot w v) ws)) us ≡ map (λ u. dot u v) (map (λ u. combined u ws) us)
+rows_of [] ws v = refl
+rows_of (u ∷ us) ws v = ap₂ (λ x y. x ∷ y) (dot_map u ws v) (rows_of us ws v)
+
+-- the matrix undoes its inverse
+pub mix_unmix : (a b c d : ℕ) → a < 256 → b < 256 → c < 256 → d < 256 → mix_column (unmix_column (a ∷ b ∷ c ∷ d ∷ [])) ≡ a ∷ b ∷ c ∷ d ∷ []
+unfolding mix_column unmix_column
+mix_unmix a b c d ha hb hc hd =
+    rows_of matrix inverse_matrix (a ∷ b ∷ c ∷ d ∷ [])
+    ∙ ap (map (λ u. dot u (a ∷ b ∷ c ∷ d ∷ []))) inverse_right ∙ identity_is a b c d ha hb hc hd
+
+-- the inverse undoes the matrix
+pub unmix_mix : (a b c d : ℕ) → a < 256 → b < 256 → c < 256 → d < 256 → unmix_column (mix_column (a ∷ b ∷ c ∷ d ∷ [])) ≡ a ∷ b ∷ c ∷ d ∷ []
+unfolding mix_column unmix_column
+unmix_mix a b c d ha hb hc hd =
+    rows_of inverse_matrix matrix (a ∷ b ∷ c ∷ d ∷ [])
+    ∙ ap (map (λ u. dot u (a ∷ b ∷ c ∷ d ∷ []))) inverse_left ∙ identity_is a b c d ha hb hc hd
+
+-- the inverse map by its rows
+pub unmix_column_is : (v : List ℕ) → unmix_column v ≡ map (λ u. dot u v) inverse_matrix
+unfolding unmix_column
+unmix_column_is v = refl
+
+-- the inverse map at a whole column
+pub unmix_column_whole : (v : List ℕ)
+    → get_or (unmix_column v) 0 0 ∷ get_or (unmix_column v) 1 0 ∷ get_or (unmix_column v) 2 0 ∷ get_or (unmix_column v) 3 0 ∷ [] ≡ unmix_column v
+unfolding unmix_column
+unmix_column_whole v = refl
+
+-- ---- multiples by doubling
+pub doubled : (k l x y z : ℕ) → z ≡ times 2 y → y ≡ times k x → times 2 k ≡ l → z ≡ times l x
+doubled k l x y z e f g = e ∙ ap (times 2) f ∙ times_assoc 2 k x ∙ ap (λ m. times m x) g
+
+-- a multiple and one more
+pub plus_one : (k l x y : ℕ) → x < 256 → y ≡ times k x → bit_xor k 1 ≡ l → bit_xor y x ≡ times l x
+plus_one k l x y h e g = ap₂ bit_xor e (sym (single_is x h)) ∙ sym (xor_times k 1 x) ∙ ap (λ m. times m x) g
+
+-- x times x
+pub two_two : times 2 2 ≡ 4
+unfolding times product residue
+two_two = refl
+
+-- x times x + 1
+pub two_three : times 2 3 ≡ 6
+unfolding times product residue
+two_three = refl
+
+-- x times x^2
+pub two_four : times 2 4 ≡ 8
+unfolding times product residue
+two_four = refl
+
+-- x times x^2 + 1
+pub two_five : times 2 5 ≡ 10
+unfolding times product residue
+two_five = refl
+
+-- x times x^2 + x
+pub two_six : times 2 6 ≡ 12
+unfolding times product residue
+two_six = refl
+
+-- x times x^2 + x + 1
+pub two_seven : times 2 7 ≡ 14
+unfolding times product residue
+two_seven = refl
+
+-- the product with the inverse matrix, written out
+pub unmix_written : (a b c d : ℕ) → a < 256 → b < 256 → c < 256 → d < 256
+    → mix_column (map (λ u. dot u (a ∷ b ∷ c ∷ d ∷ [])) inverse_matrix) ≡ a ∷ b ∷ c ∷ d ∷ []
+unmix_written a b c d ha hb hc hd = ap mix_column (sym (unmix_column_is (a ∷ b ∷ c ∷ d ∷ []))) ∙ mix_unmix a b c d ha hb hc hd

@@ -1,0 +1,175 @@
+-- Streams of counting blocks, one piece after the other.
+use Rattle.std.proofs.Common.{◌≡◌, ℕ, suc, ◌+◌, ◌-◌, ◌/◌, ◌%◌, ◌^◌, ◌<◌, ◌≤◌, List, [], ◌∷◌, ◌++◌, length, take, drop, get_or, bit_xor, refl, sym, ap, ap₂, subst, ◌∙◌, arith, take-add, add-zero}
+use Rattle.std.proofs.lemmas.List.{take_at, drop_at, take_all, drop_all, drop-drop, length-append, length-take-le, length-drop, get_or-take, get_or-drop, append-nil}
+use Rattle.std.proofs.lemmas.Slice.{take-put_mid, drop-put_mid}
+use Rattle.std.specs.Int.{to_be_bytes, to_le_bytes, from_be_bytes, from_le_bytes, w32}
+use borrow.Rule.Slice.PartMut.{put_mid}
+use Rattle.octets.specs.Bytes.{xor_bytes, le, be}
+use Rattle.octets.specs.Masked.{masked}
+use Rattle.octets.proofs.Masks.{masked-append}
+use Rattle.octets.proofs.Numbers.{be_is, le_is}
+use Rattle.aes.specs.Cipher.{cipher}
+use Rattle.aes.specs.Counters.{up_be, up_le, counter_byte, WrapsAround}
+use Rattle.aes.specs.Streams.{Makes, Advances}
+use Rattle.aes.specs.declared.counter.Counter.{Counter}
+use Rattle.aes.proofs.Words.{take_four}
+
+-- the number in four bytes, counted on and written over them
+pub up_be_written : (b ys : List ℕ) (n j : ℕ) → length b ≡ 16
+    → n ≡ from_be_bytes w32 (get_or b 12 0 ∷ get_or b 13 0 ∷ get_or b 14 0 ∷ get_or b 15 0 ∷ [])
+    → ys ≡ to_be_bytes w32 ((n + j) % 2 ^ 32) → put_mid 12 4 b ys ≡ up_be b j
+unfolding up_be
+up_be_written b ys n j long read written =
+    let four : drop 12 b ≡ get_or b 12 0 ∷ get_or b 13 0 ∷ get_or b 14 0 ∷ get_or b 15 0 ∷ [] =
+    sym (take_all 4 (drop 12 b) (omega (arith, length-drop 12 b))) ∙ take_four b 12 (omega arith) in
+    let size : length (drop 12 b) ≡ 4 = length-drop 12 b ∙ omega arith in
+    let number : n ≡ be (drop 12 b) = read ∙ ap (from_be_bytes w32) (sym four) ∙ sym (be_is w32 (drop 12 b) (omega arith) size) in
+    let none : drop 4 (drop 12 b) ≡ [] = drop_all 4 (drop 12 b) (omega arith) in
+    ap (λ x. take 12 b ++ x) (
+    ap (λ x. ys ++ x) none ∙ append-nil ys ∙ written ∙ ap (λ (x : ℕ). to_be_bytes w32 ((x + j) % 2 ^ 32)) number)
+
+-- the same in the first four bytes
+pub up_le_written : (b ys : List ℕ) (n j : ℕ) → length b ≡ 16
+    → n ≡ from_le_bytes w32 (get_or b 0 0 ∷ get_or b 1 0 ∷ get_or b 2 0 ∷ get_or b 3 0 ∷ [])
+    → ys ≡ to_le_bytes w32 ((n + j) % 2 ^ 32) → ys ++ drop 4 b ≡ up_le b j
+unfolding up_le
+up_le_written b ys n j long read written =
+    let four : take 4 b ≡ get_or b 0 0 ∷ get_or b 1 0 ∷ get_or b 2 0 ∷ get_or b 3 0 ∷ [] = take_four b 0 (omega arith) in
+    let size : length (take 4 b) ≡ 4 = length-take-le 4 b (omega arith) in
+    let number : n ≡ le (take 4 b) = read ∙ ap (from_le_bytes w32) (sym four) ∙ sym (le_is w32 (take 4 b) (omega arith) size) in
+    ap (λ x. x ++ drop 4 b) (written ∙ ap (λ (x : ℕ). to_le_bytes w32 ((x + j) % 2 ^ 32)) number)
+
+-- the XOR with bytes of a stream
+xor_bytes-masked : (f : ℕ → ℕ) (at : ℕ) (xs ys : List ℕ) → length xs ≡ length ys
+    → ((i : ℕ) → i < length xs → get_or ys i 0 ≡ f (at + i)) → xor_bytes xs ys ≡ masked f at xs
+unfolding xor_bytes masked
+xor_bytes-masked f at [] ys e same = refl
+xor_bytes-masked f at (x ∷ xs) [] e same = absurd (omega arith)
+xor_bytes-masked f at (x ∷ xs) (y ∷ ys) e same =
+    ap₂ (λ (z : ℕ) (zs : List ℕ). z ∷ zs)
+    (ap (bit_xor x) (same 0 (omega arith) ∙ ap f (add-zero at)))
+    (xor_bytes-masked f (suc at) xs ys (omega arith) (λ i l.
+    let next : at + suc i ≡ suc at + i = omega arith in
+    same (suc i) (omega arith) ∙ ap f next))
+
+-- the XOR with a part of the cipher of one block
+block_masked : (up : List ℕ → ℕ → List ℕ) (key first mask xs : List ℕ) (made used n : ℕ)
+    → mask ≡ cipher key (up first (made / 16)) → used ≡ made % 16 → used + length xs ≤ 16 → length mask ≡ 16 → n ≡ length xs
+    → xor_bytes xs (take n (drop used mask)) ≡ masked (counter_byte up key first) made xs
+unfolding counter_byte
+block_masked up key first mask xs made used n is place room long size =
+    let part : length (take n (drop used mask)) ≡ n = length-take-le n (drop used mask) (omega (arith, length-drop used mask)) in
+    xor_bytes-masked (counter_byte up key first) made xs (take n (drop used mask)) (omega arith)
+    (λ i l.
+    let block : (made + i) / 16 ≡ made / 16 = omega arith in
+    let byte : (made + i) % 16 ≡ used + i = omega arith in
+    get_or-take n (drop used mask) i 0 (omega arith) ∙ get_or-drop used mask i 0
+    ∙ ap (λ m. get_or m (used + i) 0) is
+    ∙ sym (ap₂ (λ (q r : ℕ). get_or (cipher key (up first q)) r 0) block byte))
+
+-- some bytes of the block begun
+pub went_on : {C : Type 0} (up : List ℕ → ℕ → List ℕ) (s t : Counter C) (xs ys : List ℕ) (n : ℕ)
+    → t.key ≡ s.key → t.first ≡ s.first → t.begun ≡ s.begun → t.mask ≡ s.mask → t.used ≡ (s.used + length xs) % 16
+    → 0 < s.used → s.used + length xs ≤ 16 → length s.mask ≡ 16 → n ≡ length xs
+    → ys ≡ xor_bytes xs (take n (drop s.used s.mask)) → Advances up s t xs ys
+went_on up s t xs ys n key_stays first_stays begun_stays mask_stays used_rises some room long size xored = λ key first made held.
+    let place : s.used ≡ made % 16 = held.used_is in
+    let mask : s.mask ≡ cipher key (up first (made / 16)) = held.mask_is (omega arith) in
+    let blocks : (made + 15) / 16 ≡ (made + length xs + 15) / 16 = omega arith in (
+      record {
+        key_is = key_stays ∙ held.key_is;
+        first_is = first_stays ∙ held.first_is;
+        begun_is = begun_stays ∙ held.begun_is ∙ ap (λ (x : ℕ). x % 2 ^ 32) blocks;
+        used_is = omega arith;
+        mask_is = λ left.
+            let block : made / 16 ≡ (made + length xs) / 16 = omega arith in
+            mask_stays ∙ mask ∙ ap (λ (x : ℕ). cipher key (up first x)) block;
+      },
+      xored ∙ block_masked up key first s.mask xs made s.used n mask place room long size,
+    )
+
+-- the first bytes of the next block
+pub began : {C : Type 0} (up : List ℕ → ℕ → List ℕ) (s t : Counter C) (xs ys : List ℕ) (n : ℕ) → WrapsAround up
+    → t.key ≡ s.key → t.first ≡ s.first → t.begun ≡ (s.begun + 1) % 2 ^ 32 → t.mask ≡ cipher s.key (up s.first s.begun)
+    → t.used ≡ length xs % 16 → s.used ≡ 0 → 0 < length xs → length xs ≤ 16 → length t.mask ≡ 16 → n ≡ length xs
+    → ys ≡ xor_bytes xs (take n t.mask) → Advances up s t xs ys
+began up s t xs ys n wraps key_stays first_stays counted new_mask used_is none some room long size xored = λ key first made held.
+    let place : 0 ≡ made % 16 = sym none ∙ held.used_is in
+    let blocks : (made + 15) / 16 ≡ made / 16 = omega arith in
+    let more : (made + length xs + 15) / 16 ≡ made / 16 + 1 = omega arith in
+    let before : s.begun ≡ (made / 16) % 2 ^ 32 = held.begun_is ∙ ap (λ (x : ℕ). x % 2 ^ 32) blocks in
+    let next : ((made / 16) % 2 ^ 32 + 1) % 2 ^ 32 ≡ (made / 16 + 1) % 2 ^ 32 = omega arith in
+    let room_at_0 : 0 + length xs ≤ 16 = omega arith in
+    let mask : t.mask ≡ cipher key (up first (made / 16)) =
+    new_mask ∙ ap₂ cipher held.key_is (ap₂ up held.first_is before ∙ wraps first (made / 16)) in (
+      record {
+        key_is = key_stays ∙ held.key_is;
+        first_is = first_stays ∙ held.first_is;
+        begun_is = counted ∙ ap (λ (x : ℕ). (x + 1) % 2 ^ 32) before ∙ next ∙ ap (λ (x : ℕ). x % 2 ^ 32) (sym more);
+        used_is = omega arith;
+        mask_is = λ left.
+            let block : made / 16 ≡ (made + length xs) / 16 = omega arith in
+            mask ∙ ap (λ (x : ℕ). cipher key (up first x)) block;
+      },
+      xored ∙ block_masked up key first t.mask xs made 0 n mask place room_at_0 long size,
+    )
+
+-- no bytes
+pub advances-nil : {C : Type 0} (up : List ℕ → ℕ → List ℕ) (s : Counter C) → Advances up s s [] []
+unfolding masked
+advances-nil up s = λ key first made held. (subst (Makes up s key first) (sym (add-zero made)) held, refl)
+
+-- one piece and then another
+pub advances-append : {C : Type 0} (up : List ℕ → ℕ → List ℕ) (s t u : Counter C) (a x b y : List ℕ)
+    → Advances up s t a x → Advances up t u b y → Advances up s u (a ++ b) (x ++ y)
+advances-append up s t u a x b y front back = λ key first made held.
+    let one = front key first made held in
+    let two = back key first (made + length a) one.0 in
+    let size : made + length a + length b ≡ made + length (a ++ b) = omega (arith, length-append a b) in (
+      subst (Makes up u key first) size two.0,
+      ap₂ (λ (v w : List ℕ). v ++ w) one.1 two.1 ∙ sym (masked-append (counter_byte up key first) made a b),
+    )
+
+-- a piece more, written from place a on
+pub advances_more : {C : Type 0} (up : List ℕ → ℕ → List ℕ) (s t u : Counter C) (was mid ys : List ℕ) (a k b : ℕ)
+    → a + k ≤ length mid → a + k ≡ b → length ys ≡ k → drop a mid ≡ drop a was
+    → Advances up s t (take a was) (take a mid) → Advances up t u (take k (drop a mid)) ys
+    → Advances up s u (take b was) (take b (put_mid a k mid ys)) × (drop b (put_mid a k mid ys) ≡ drop b was)
+advances_more up s t u was mid ys a k b room sum size rest front back =
+    let now : take b (put_mid a k mid ys) ≡ take a mid ++ ys = take-put_mid a k mid ys b (omega arith) (omega arith) in
+    let old : take b was ≡ take a was ++ take k (drop a mid) =
+    ap (λ i. take i was) (sym sum) ∙ take-add a k was ∙ ap (λ l. take a was ++ take k l) (sym rest) in
+    let left : drop b (put_mid a k mid ys) ≡ drop b was =
+    drop-put_mid a k mid ys b (omega arith) (omega arith) size
+    ∙ ap (λ i. drop i mid) (sym sum) ∙ sym (drop-drop k a mid) ∙ ap (drop k) rest ∙ drop-drop k a was ∙ ap (λ i. drop i was) sum in
+    let joined = advances-append up s t u (take a was) (take a mid) (take k (drop a mid)) ys front back in (rw (now, old) joined, left)
+
+-- what a written part leaves of the length
+pub length-put_mid : (a k : ℕ) (xs ys : List ℕ) → a + k ≤ length xs → length ys ≡ k → length (put_mid a k xs ys) ≡ length xs
+length-put_mid a k xs ys room size =
+    let front : length (take a xs) ≡ a = length-take-le a xs (omega arith) in
+    let back : length (drop k (drop a xs)) ≡ length xs - a - k = length-drop k (drop a xs) ∙ ap (λ (x : ℕ). x - k) (length-drop a xs) in
+    length-append (take a xs) (ys ++ drop k (drop a xs))
+    ∙ ap (λ (x : ℕ). length (take a xs) + x) (length-append ys (drop k (drop a xs)))
+    ∙ omega arith
+
+-- the last piece
+pub advances_all : {C : Type 0} (up : List ℕ → ℕ → List ℕ) (s t : Counter C) (was now : List ℕ) (b : ℕ)
+    → length was ≤ b → length now ≤ b → Advances up s t (take b was) (take b now) → Advances up s t was now
+advances_all up s t was now b h k all = rw (take_all b was h, take_all b now k) at all
+
+-- the rest of a block, and then all that is left
+pub advances_two : {C : Type 0} (up : List ℕ → ℕ → List ℕ) (s t u : Counter C) (was begun ys : List ℕ) (h : ℕ)
+    → h ≤ length was → length begun ≡ h
+    → length ys ≡ length (take (length (begun ++ drop h was) - h) (drop h (begun ++ drop h was)))
+    → Advances up s t (take h was) begun → Advances up t u (take (length (begun ++ drop h was) - h) (drop h (begun ++ drop h was))) ys
+    → Advances up s u was (put_mid h (length (begun ++ drop h was) - h) (begun ++ drop h was) ys)
+advances_two up s t u was begun ys h within size same front back =
+    let mid : List ℕ = begun ++ drop h was in
+    let k : ℕ = length mid - h in
+    let whole : length mid ≡ length was = length-append begun (drop h was) ∙ omega (arith, length-drop h was) in
+    let part : length (take k (drop h mid)) ≡ k = length-take-le k (drop h mid) (omega (arith, length-drop h mid)) in
+    let first : Advances up s t (take h was) (take h mid) = rw (take_at begun (drop h was) h size) front in
+    let more = advances_more up s t u was mid ys h k (length was) (omega arith) (omega arith) (same ∙ part) (drop_at begun (drop h was) h size) first back in
+    advances_all up s u was (put_mid h k mid ys) (length was) (omega arith)
+    (omega (arith, length-put_mid h k mid ys (omega arith) (same ∙ part))) more.0

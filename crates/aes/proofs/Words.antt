@@ -1,0 +1,144 @@
+-- The words of a schedule.
+use Rattle.std.proofs.Common.{◌≡◌, ℕ, zero, suc, ◌+◌, ◌-◌, ◌*◌, ◌/◌, ◌%◌, ◌<◌, ◌≤◌, cond, ◌==◌, ◌&&◌, List, [], ◌∷◌, ◌++◌, take, drop, get_or, length, flat_map, replicate, set, inl, inr, refl, sym, ap, ap₂, ◌∙◌, arith, lt-ltb, le-ltb, take-add, add-one}
+use Rattle.std.proofs.lemmas.Bool.{cases_eq, cases_lt, and_parts, false_from_ne_true, eq-eqb, ne_eqb, eqb-true}
+use Rattle.std.proofs.lemmas.List.{get_or_append_left, get_or_push, get_or-append_right, get_or-replicate, length-replicate, length-append, ext_get_or, length_push, drop_more, flat_map_more, take_more, get_or-set_same, get_or-set_other}
+use Rattle.aes.specs.Schedule.{table, schedule, xor_word, key_words, changed, next_word, words, key_of, sub_word, rot_word, rcon, round_count, MeetsRecurrence}
+
+-- the number of words
+pub length_words : (key : List ℕ) (n : ℕ) → length (words key n) ≡ n
+unfolding words
+length_words key zero = refl
+length_words key (suc n) = length_push (words key n) (next_word key (words key n) n) ∙ ap (λ x. x + 1) (length_words key n) ∙ add-one n
+
+-- word k of the schedule
+abbrev pub word : List ℕ → ℕ → List ℕ
+word key k = next_word key (words key k) k
+
+-- word k among the first n
+pub words_at : (key : List ℕ) (n k : ℕ) → k < n → get_or (words key n) k [] ≡ word key k
+unfolding words
+words_at key zero k h = absurd (omega arith)
+words_at key (suc n) k h =
+    elim (cases_lt k n) [
+      | inl l ↦
+          get_or_append_left (words key n) (word key n ∷ []) [] k (omega (arith, length_words key n))
+          ∙ words_at key n k l
+      | inr g ↦
+          let e : n ≡ k = omega arith in
+          get_or_push (words key n) (word key n) [] k (length_words key n ∙ e) ∙ ap (word key) e
+    ]
+
+-- a word below Nk is the key's
+pub word_start : (key : List ℕ) (k : ℕ) → k < key_words key → word key k ≡ take 4 (drop (4 * k) key)
+unfolding next_word
+word_start key k h =
+    ap (λ b. cond b (take 4 (drop (4 * k) key)) (xor_word (get_or (words key k) (k - key_words key) []) (changed (key_words key) k (get_or (words key k) (k - 1) []))))
+    (lt-ltb k (key_words key) h)
+
+-- a word from Nk on, by the recurrence
+pub word_rest : (key : List ℕ) (k : ℕ) → key_words key ≤ k → 0 < key_words key
+    → word key k ≡ xor_word (word key (k - key_words key)) (changed (key_words key) k (word key (k - 1)))
+unfolding next_word
+word_rest key k h some =
+    ap (λ b. cond b (take 4 (drop (4 * k) key)) (xor_word (get_or (words key k) (k - key_words key) []) (changed (key_words key) k (get_or (words key k) (k - 1) []))))
+    (le-ltb k (key_words key) h)
+    ∙ ap₂ (λ v w. xor_word v (changed (key_words key) k w)) (words_at key k (k - key_words key) (omega arith)) (words_at key k (k - 1) (omega arith))
+
+-- what is added, in the three cases
+pub changed_first : (nk i : ℕ) (t : List ℕ) → i % nk ≡ 0 → xor_word (sub_word (rot_word t)) (rcon (i / nk)) ≡ changed nk i t
+unfolding changed
+changed_first nk i t h = rw (eq-eqb (i % nk) 0 h) refl
+
+-- at i mod 8 = 4 where Nk is 8
+pub changed_fourth : (nk i : ℕ) (t : List ℕ) → (i % nk ≡ 0 → ⊥) → nk ≡ 8 → i % 8 ≡ 4 → sub_word t ≡ changed nk i t
+unfolding changed
+changed_fourth nk i t h e f = rw (ne_eqb (i % nk) 0 h, eq-eqb nk 8 e, eq-eqb (i % 8) 4 f) refl
+
+-- at any other word
+pub changed_other : (nk i : ℕ) (t : List ℕ) → (i % nk ≡ 0 → ⊥) → (nk ≡ 8 → i % 8 ≡ 4 → ⊥) → t ≡ changed nk i t
+unfolding changed
+changed_other nk i t h no_fourth =
+    rw (
+      ne_eqb (i % nk) 0 h,
+      false_from_ne_true ((nk == 8) && (i % 8 == 4))
+          (λ e. let p = and_parts (nk == 8) (i % 8 == 4) e in no_fourth (eqb-true nk 8 p.0) (eqb-true (i % 8) 4 p.1)),
+    ) refl
+
+-- four places of a list
+pub take_four : (s : List ℕ) (n : ℕ) → n + 4 ≤ length s
+    → take 4 (drop n s) ≡ get_or s n 0 ∷ get_or s (n + 1) 0 ∷ get_or s (n + 2) 0 ∷ get_or s (n + 3) 0 ∷ []
+take_four s n h =
+    let up : (n + 1) + 1 ≡ n + 2 = omega arith in
+    let up2 : (n + 2) + 1 ≡ n + 3 = omega arith in
+    ap (take 4) (drop_more s n 0 (omega arith))
+    ∙ ap (λ x. get_or s n 0 ∷ x) (
+    ap (take 3) (drop_more s (n + 1) 0 (omega arith) ∙ ap (λ i. get_or s (n + 1) 0 ∷ drop i s) up)
+    ∙ ap (λ x. get_or s (n + 1) 0 ∷ x) (
+    ap (take 2) (drop_more s (n + 2) 0 (omega arith) ∙ ap (λ i. get_or s (n + 2) 0 ∷ drop i s) up2)
+    ∙ ap (λ x. get_or s (n + 2) 0 ∷ x) (ap (take 1) (drop_more s (n + 3) 0 (omega arith)))))
+
+-- one more word written
+pub one_more_word : (f : ℕ → List ℕ) (ws : List (List ℕ)) (i : ℕ) (v : List ℕ) → i < length ws
+    → ((k : ℕ) → k < i → get_or ws k [] ≡ f k) → v ≡ f i → (k : ℕ) → k < i + 1 → get_or (set ws i v) k [] ≡ f k
+one_more_word f ws i v h before e k l =
+    elim (cases_eq k i) [
+      | inl g ↦ rw g (get_or-set_same ws i v [] h ∙ e)
+      | inr g ↦ get_or-set_other ws i k v [] g ∙ before k (omega arith)
+    ]
+
+-- and the words after it as they were
+pub others_stay : (z : List ℕ) (ws : List (List ℕ)) (i : ℕ) (v : List ℕ)
+    → ((k : ℕ) → i ≤ k → k < 60 → get_or ws k [] ≡ z) → (k : ℕ) → i + 1 ≤ k → k < 60 → get_or (set ws i v) k [] ≡ z
+others_stay z ws i v after k h l =
+    let other : k ≡ i → ⊥ = λ e. omega arith in
+    get_or-set_other ws i k v [] other ∙ after k (omega arith) l
+
+-- the words of a table
+pub table_start : (key : List ℕ) (k : ℕ) → k < 4 * (round_count key + 1) → get_or (table key) k [] ≡ get_or (schedule key) k []
+unfolding table
+table_start key k h =
+    get_or_append_left (schedule key) (replicate (60 - length (schedule key)) (replicate 4 0)) [] k
+    (omega (arith, length_words key (4 * (round_count key + 1))))
+
+-- sixty words that begin with the schedule and are zero after it are the table
+pub is_table : (ws : List (List ℕ)) (key : List ℕ) → length ws ≡ 60 → 4 * (round_count key + 1) ≤ 60
+    → ((k : ℕ) → k < 4 * (round_count key + 1) → get_or ws k [] ≡ word key k)
+    → ((k : ℕ) → 4 * (round_count key + 1) ≤ k → k < 60 → get_or ws k [] ≡ replicate 4 0) → ws ≡ table key
+unfolding table
+is_table ws key long short start after =
+    let n : ℕ = 4 * (round_count key + 1) in
+    let m : ℕ = 60 - length (schedule key) in
+    let zeros : List (List ℕ) = replicate m (replicate 4 0) in
+    let size : length (schedule key) ≡ n = length_words key n in
+    let size_zeros : length zeros ≡ m = length-replicate m (replicate 4 0) in
+    let size_table : length (schedule key ++ zeros) ≡ 60 = length-append (schedule key) zeros ∙ omega arith in
+    ext_get_or [] ws (schedule key ++ zeros) (long ∙ sym size_table)
+    (λ k l. elim (cases_lt k n) [
+      | inl g ↦
+          start k g ∙ sym (words_at key n k g) ∙ sym (get_or_append_left (schedule key) zeros [] k (omega arith))
+      | inr g ↦
+          after k g (omega arith) ∙ sym (get_or-append_right (schedule key) zeros n k [] size g ∙ get_or-replicate m (k - n) (replicate 4 0) [] (omega arith))
+    ])
+
+-- the first words spell the key
+pub key_of_words : (ws : List (List ℕ)) (key : List ℕ) (n : ℕ) → n ≤ length ws
+    → ((k : ℕ) → k < n → get_or ws k [] ≡ take 4 (drop (4 * k) key)) → key_of ws n ≡ take (4 * n) key
+key_of_words ws key zero h same = refl
+key_of_words ws key (suc n) h same =
+    let four_more : 4 * suc n ≡ 4 * n + 4 = omega arith in
+    ap (λ i. flat_map (λ w. w) (take i ws)) (sym (add-one n))
+    ∙ ap (flat_map (λ w. w)) (take_more ws n [] (omega arith))
+    ∙ sym (flat_map_more (λ w. w) [] (take n ws) (get_or ws n []))
+    ∙ ap₂ (λ x y. x ++ y) (key_of_words ws key n (omega arith) (λ k l. same k (omega arith))) (same n (omega arith))
+    ∙ sym (ap (λ i. take i key) four_more ∙ take-add (4 * n) 4 key)
+
+-- the words of the schedule itself
+pub meets_recurrence : MeetsRecurrence
+meets_recurrence key i some within = (
+  λ h. words_at key (4 * (round_count key + 1)) i within ∙ word_start key i h,
+  λ h.
+      words_at key (4 * (round_count key + 1)) i within ∙ word_rest key i h some
+      ∙ sym (ap₂ (λ v w. xor_word v (changed (key_words key) i w))
+      (words_at key (4 * (round_count key + 1)) (i - key_words key) (omega arith))
+      (words_at key (4 * (round_count key + 1)) (i - 1) (omega arith))),
+)

@@ -1,0 +1,17 @@
+use Rattle.std.proofs.Common.{◌≡◌, ℕ, ◌<◌, ◌≤◌, [], get_or, length, replicate}
+use Rattle.aes.proofs.Words.{word}
+use Rattle.aes.proofs.schedule.expand.Given as goal
+
+abbrev pub invariant-start : goal.invariant-start
+invariant-start l = record {
+  size : length l.words ≡ 60;
+  made : (k : ℕ) → k < l.i → get_or l.words k [] ≡ word l.key k;
+  after : (k : ℕ) → l.i ≤ k → k < 60 → get_or l.words k [] ≡ replicate 4 0;
+}
+
+abbrev pub invariant-rest : goal.invariant-rest
+invariant-rest l = record {
+  size : length l.words ≡ 60;
+  made : (k : ℕ) → k < l.i → get_or l.words k [] ≡ word l.key k;
+  after : (k : ℕ) → l.i ≤ k → k < 60 → get_or l.words k [] ≡ replicate 4 0;
+}

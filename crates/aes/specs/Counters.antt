@@ -1,0 +1,42 @@
+-- Streams of bytes from a block that counts (SP 800-38D, 6.2 and 6.5; RFC 8452, 4).
+use Rattle.std.specs.Prelude.{◌≡◌, ℕ, ◌+◌, ◌/◌, ◌%◌, ◌^◌, List, ◌++◌, take, drop, get_or}
+use Rattle.std.proofs.Common.{ap, arith}
+use Rattle.std.specs.Int.{bytes_high_first, bytes_low_first}
+use Rattle.octets.specs.Bytes.{IsBlock, le, be}
+use Rattle.aes.specs.Cipher.{cipher}
+
+-- b with its last four bytes replaced by their number, most significant byte first, plus j modulo 2^32: inc32 j times (SP 800-38D, 6.2)
+unfoldable pub up_be : List ℕ → ℕ → List ℕ
+up_be b j = take 12 b ++ bytes_high_first 4 ((be (drop 12 b) + j) % 2 ^ 32)
+
+-- b with its first four bytes replaced by their number, least significant byte first, plus j modulo 2^32 (RFC 8452, 4)
+unfoldable pub up_le : List ℕ → ℕ → List ℕ
+up_le b j = bytes_low_first 0 4 ((le (take 4 b) + j) % 2 ^ 32) ++ drop 4 b
+
+-- byte i of the stream under a key: byte i mod 16 of the cipher of block i / 16, where block j is `up first j` (SP 800-38D, 6.5; RFC 8452, 4)
+unfoldable pub counter_byte : (List ℕ → ℕ → List ℕ) → List ℕ → List ℕ → ℕ → ℕ
+counter_byte up key first i = get_or (cipher key (up first (i / 16))) (i % 16) 0
+
+-- no step leaves a block as it is, and j + 1 steps are one step more than j
+abbrev pub CountsOn : (List ℕ → ℕ → List ℕ) → Type 0
+CountsOn up = (b : List ℕ) → IsBlock b → (up b 0 ≡ b) × ((j : ℕ) → up b (j + 1) ≡ up (up b j) 1)
+
+-- as many steps as a counter of 32 bits has values lead back to the block
+abbrev pub WrapsAround : (List ℕ → ℕ → List ℕ) → Type 0
+WrapsAround up = (b : List ℕ) (j : ℕ) → up b (j % 2 ^ 32) ≡ up b j
+
+-- so it is in the last four bytes
+pub up_be-wraps : WrapsAround up_be
+unfolding up_be
+up_be-wraps b j =
+    let n : ℕ = be (drop 12 b) in
+    let sum : (n + j % 2 ^ 32) % 2 ^ 32 ≡ (n + j) % 2 ^ 32 = omega arith in
+    ap (λ i. take 12 b ++ bytes_high_first 4 i) sum
+
+-- and in the first four bytes
+pub up_le-wraps : WrapsAround up_le
+unfolding up_le
+up_le-wraps b j =
+    let n : ℕ = le (take 4 b) in
+    let sum : (n + j % 2 ^ 32) % 2 ^ 32 ≡ (n + j) % 2 ^ 32 = omega arith in
+    ap (λ i. bytes_low_first 0 4 i ++ drop 4 b) sum

@@ -1,0 +1,84 @@
+-- The key schedule (FIPS 197, 5.2). A word is a list of four bytes. A key has Nk words: 4, 6 or 8.
+use Rattle.std.specs.Prelude.{◌≡◌, ℕ, zero, suc, ◌+◌, ◌-◌, ◌*◌, ◌/◌, ◌%◌, ◌<◌, ◌≤◌, Bool, true, false, ◌&&◌, ◌==◌, nat_lt, List, [], ◌∷◌, ◌++◌, map, take, drop, get_or, length, replicate, bit_xor, flat_map, ◌⊎◌, if◌then◌else◌}
+use Rattle.std.specs.List.{range_with_len}
+use Rattle.octets.specs.Bits.{number}
+use Rattle.octets.specs.Polynomial.{residue}
+use Rattle.aes.specs.Field.{modulus, sbox}
+
+-- the sum of two words, byte by byte
+unfoldable pub xor_word : List ℕ → List ℕ → List ℕ
+xor_word v w = map (λ i. bit_xor (get_or v i 0) (get_or w i 0)) (range_with_len 0 4)
+
+-- SubWord: the S-box at each byte
+abbrev pub sub_word : List ℕ → List ℕ
+sub_word w = map sbox w
+
+-- RotWord: (a, b, c, d) to (b, c, d, a)
+abbrev pub rot_word : List ℕ → List ℕ
+rot_word w = get_or w 1 0 ∷ get_or w 2 0 ∷ get_or w 3 0 ∷ get_or w 0 0 ∷ []
+
+-- x^n
+abbrev pub x_power : ℕ → List Bool
+x_power n = replicate n false ++ true ∷ []
+
+-- Rcon: x^(j-1) and three zero bytes
+unfoldable pub rcon : ℕ → List ℕ
+rcon j = number (residue modulus (x_power (j - 1))) ∷ 0 ∷ 0 ∷ 0 ∷ []
+
+-- Nk and Nr: how many words a key has, and how many rounds its cipher (5)
+abbrev pub key_words : List ℕ → ℕ
+key_words key = length key / 4
+
+abbrev pub round_count : List ℕ → ℕ
+round_count key = key_words key + 6
+
+-- what is added to the word Nk places back, from the word before
+unfoldable pub changed : ℕ → ℕ → List ℕ → List ℕ
+changed nk i t =
+    if i % nk == 0 then xor_word (sub_word (rot_word t)) (rcon (i / nk))
+    else if (nk == 8) && (i % 8 == 4) then sub_word t
+    else t
+
+-- word i, where ws holds the words before it
+unfoldable pub next_word : List ℕ → List (List ℕ) → ℕ → List ℕ
+next_word key ws i =
+    if nat_lt i (key_words key) then take 4 (drop (4 * i) key)
+    else xor_word (get_or ws (i - key_words key) []) (changed (key_words key) i (get_or ws (i - 1) []))
+
+-- the first n words of the schedule
+unfoldable pub words : List ℕ → ℕ → List (List ℕ)
+words key zero = []
+words key (suc n) = words key n ++ next_word key (words key n) n ∷ []
+
+-- the whole schedule
+abbrev pub schedule : List ℕ → List (List ℕ)
+schedule key = words key (4 * (round_count key + 1))
+
+-- the key that the first nk words spell
+abbrev pub key_of : List (List ℕ) → ℕ → List ℕ
+key_of ws nk = flat_map (λ w. w) (take nk ws)
+
+-- the sixty words that an expanded key keeps: those of the schedule, and zero words after them
+unfoldable pub table : List ℕ → List (List ℕ)
+table key = schedule key ++ replicate (60 - length (schedule key)) (replicate 4 0)
+
+-- 4, 6 or 8
+abbrev pub IsKeySize : ℕ → Type 0
+IsKeySize nk = (nk ≡ 4) ⊎ ((nk ≡ 6) ⊎ (nk ≡ 8))
+
+-- what the fields of an expanded key keep
+pub record IsExpanded (ws : List (List ℕ)) (nk : ℕ) : Type 0 where
+  pub size : IsKeySize nk
+  pub length_is : length (key_of ws nk) ≡ 4 * nk
+  pub bytes : (i : ℕ) → get_or (key_of ws nk) i 0 < 256
+  pub words_are : ws ≡ table (key_of ws nk)
+
+-- word i of the schedule
+abbrev pub word : List ℕ → ℕ → List ℕ
+word key i = get_or (schedule key) i []
+
+-- a word below Nk is the key's; any other is the sum of the word Nk places back and what is made of the word before
+abbrev pub MeetsRecurrence : Type 0
+MeetsRecurrence = (key : List ℕ) (i : ℕ) → 0 < key_words key → i < 4 * (round_count key + 1)
+    → (i < key_words key → word key i ≡ take 4 (drop (4 * i) key))
+    × (key_words key ≤ i → word key i ≡ xor_word (word key (i - key_words key)) (changed (key_words key) i (word key (i - 1))))

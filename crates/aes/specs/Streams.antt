@@ -1,0 +1,30 @@
+-- The states of the streams of counting blocks.
+use Rattle.std.specs.Prelude.{◌≡◌, ℕ, ◌+◌, ◌/◌, ◌%◌, ◌^◌, ◌<◌, List, length}
+use Rattle.octets.specs.Masked.{masked}
+use Rattle.aes.specs.Cipher.{cipher}
+use Rattle.aes.specs.Counters.{up_be, up_le, counter_byte}
+use Rattle.aes.specs.declared.counter.Counter.{Counter}
+use Rattle.aes.specs.declared.counter.CtrBe.{CtrBe}
+use Rattle.aes.specs.declared.counter.CtrLe.{CtrLe}
+
+-- s has made this many bytes of the stream from the first block on: it has begun their blocks, counted modulo 2^32,
+-- and where the last one is not used up it keeps its cipher
+pub record Makes {C : Type 0} (up : List ℕ → ℕ → List ℕ) (s : Counter C) (key : List ℕ) (first : List ℕ) (made : ℕ) : Type 0 where
+  pub key_is : s.key ≡ key
+  pub first_is : s.first ≡ first
+  pub begun_is : s.begun ≡ (made + 15) / 16 % 2 ^ 32
+  pub used_is : s.used ≡ made % 16
+  pub mask_is : 0 < made % 16 → s.mask ≡ cipher key (up first (made / 16))
+
+-- s becomes t, and was becomes now: wherever s has made a number of bytes, the next ones are XORed in, and t has made them too
+abbrev pub Advances : {C : Type 0} (up : List ℕ → ℕ → List ℕ) (s t : Counter C) (was now : List ℕ) → Type 0
+Advances up s t was now = (key first : List ℕ) (made : ℕ) → Makes up s key first made
+    → Makes up t key first (made + length was) × (now ≡ masked (counter_byte up key first) made was)
+
+-- s has made this many bytes of the stream that counts by `up_be` from the first block on
+pub record HoldsBe (s : CtrBe) (key : List ℕ) (first : List ℕ) (made : ℕ) : Type 0 where
+  pub makes : Makes up_be s.counter key first made
+
+-- the same by `up_le`
+pub record HoldsLe (s : CtrLe) (key : List ℕ) (first : List ℕ) (made : ℕ) : Type 0 where
+  pub makes : Makes up_le s.counter key first made

@@ -1,0 +1,218 @@
+// Streams of bytes from a block that counts (SP 800-38D, 6.5; RFC 8452, 4).
+
+ghost use Rattle.std.specs.Prelude.{◌≡◌, ℕ, ◌+◌, ◌%◌, ◌<◌, ◌≤◌, List, length};
+ghost use Rattle.octets.specs.Masked.{masked};
+ghost use Rattle.aes.specs.Counters.{CountsOn, WrapsAround, counter_byte, up_be, up_le, up_be-wraps, up_le-wraps};
+
+use crate::key::AesKey;
+use octets::{Block, xor_into};
+use std::marker::PhantomData;
+
+/// The law of counting blocks (SP 800-38D, 6.2; RFC 8452, 4): no step leaves a block of 16 bytes as it is, and j + 1 steps
+/// are one step more than j. The call does nothing; its contract is the law.
+pub fn blocks_count_on()
+    ensures big_endian { CountsOn up_be }
+    ensures little_endian { CountsOn up_le }
+{}
+
+// A block some steps on, counting in its last four bytes.
+fn add_be(first: &[u8; 16], steps: u32) -> [u8; 16]
+    ensures { result ≡ up_be first.now steps }
+{
+    let number = u32::from_be_bytes([first[12], first[13], first[14], first[15]]);
+    let mut next = *first;
+    next[12..].copy_from_slice(&number.wrapping_add(steps).to_be_bytes());
+    next
+}
+
+// A block some steps on, counting in its first four bytes.
+fn add_le(first: &[u8; 16], steps: u32) -> [u8; 16]
+    ensures { result ≡ up_le first.now steps }
+{
+    let number = u32::from_le_bytes([first[0], first[1], first[2], first[3]]);
+    let mut next = *first;
+    next[..4].copy_from_slice(&number.wrapping_add(steps).to_le_bytes());
+    next
+}
+
+// Where a block counts.
+trait Count {
+    // The block that is some steps after the first one.
+    ghost up: { List ℕ → ℕ → List ℕ };
+
+    fn block(first: &Block, steps: u32) -> Block
+        ensures { result ≡ up first.now steps };
+
+    ghost wraps: { WrapsAround up };
+}
+
+// In its last four bytes, most significant byte first.
+struct LastFour;
+
+impl Count for LastFour {
+    ghost up = { up_be };
+
+    ghost wraps = { up_be-wraps };
+
+    fn block(first: &Block, steps: u32) -> Block {
+        Block::new(add_be(first.bytes(), steps))
+    }
+}
+
+// In its first four bytes, least significant byte first.
+struct FirstFour;
+
+impl Count for FirstFour {
+    ghost up = { up_le };
+
+    ghost wraps = { up_le-wraps };
+
+    fn block(first: &Block, steps: u32) -> Block {
+        Block::new(add_le(first.bytes(), steps))
+    }
+}
+
+// A stream from its first block on: how many blocks were begun, modulo 2^32, and the cipher of the last one with the
+// number of its bytes that were used, 0 where all were.
+#[derive(Drop)]
+struct Counter<C> {
+    key: AesKey,
+    first: Block,
+    begun: u32,
+    mask: Block,
+    used: usize,
+    way: PhantomData<C>,
+    ghost in_range: { used < 16 },
+}
+
+impl<C: Count> Counter<C> {
+    ghost use Rattle.aes.specs.Streams.{Makes, Advances};
+
+    // The stream whose first block is the cipher of `first`.
+    fn new(key: &AesKey, first: &Block) -> Counter<C>
+        ensures { Makes C.up result key.now first.now 0 }
+    {
+        Counter {
+            key: *key,
+            first: *first,
+            begun: 0,
+            mask: *first,
+            used: 0,
+            way: PhantomData,
+        }
+    }
+
+    // XORs in bytes of the block begun.
+    fn go_on(&mut self, bytes: &mut [u8])
+        requires begun { 0 < self.old.used }
+        requires room { self.old.used + length bytes.old ≤ 16 }
+        ensures advances { Advances C.up self.old self.new bytes.old bytes.new }
+        ensures used { self.new.used ≡ (self.old.used + length bytes.old) % 16 }
+    {
+        let end = self.used + bytes.len();
+        xor_into(bytes, &self.mask.bytes()[self.used..end]);
+        self.used = end % 16;
+    }
+
+    // XORs in the first bytes of the next block, where none is begun.
+    fn begin(&mut self, bytes: &mut [u8])
+        requires none { self.old.used ≡ 0 }
+        requires some { 0 < length bytes.old }
+        requires room { length bytes.old ≤ 16 }
+        ensures advances { Advances C.up self.old self.new bytes.old bytes.new }
+        ensures used { self.new.used ≡ length bytes.old % 16 }
+    {
+        self.mask = self.key.encrypt(&C::block(&self.first, self.begun));
+        self.begun = self.begun.wrapping_add(1);
+        xor_into(bytes, &self.mask.bytes()[..bytes.len()]);
+        self.used = bytes.len() % 16;
+    }
+
+    // XORs in blocks, the last one perhaps in part, where none is begun.
+    fn apply_blocks(&mut self, bytes: &mut [u8])
+        requires { self.old.used ≡ 0 }
+        ensures { Advances C.up self.old self.new bytes.old bytes.new }
+    {
+        let mut done = 0;
+        'whole: while bytes.len() - done >= 16 {
+            self.begin(&mut bytes[done..done + 16]);
+            done += 16;
+        }
+        if done < bytes.len() {
+            self.begin(&mut bytes[done..]);
+        }
+    }
+
+    // XORs in the next bytes.
+    fn apply(&mut self, bytes: &mut [u8])
+        ensures { Advances C.up self.old self.new bytes.old bytes.new }
+    {
+        if self.used == 0 {
+            self.apply_blocks(bytes);
+        } else if bytes.len() <= 16 - self.used {
+            self.go_on(bytes);
+        } else {
+            let left = 16 - self.used;
+            self.go_on(&mut bytes[..left]);
+            self.apply_blocks(&mut bytes[left..]);
+        }
+    }
+}
+
+/// The stream of AES-GCM: the ciphers of blocks that count in their last four bytes, most significant byte first, modulo
+/// 2^32 (SP 800-38D, 6.5).
+#[derive(Drop)]
+pub struct CtrBe {
+    counter: Counter<LastFour>,
+}
+
+impl CtrBe {
+    ghost use Rattle.aes.specs.Streams.{HoldsBe};
+
+    /// The stream whose first block is the cipher of `first`.
+    pub fn new(key: &AesKey, first: &Block) -> CtrBe
+        ensures { HoldsBe result key.now first.now 0 }
+    {
+        CtrBe {
+            counter: Counter::new(key, first),
+        }
+    }
+
+    /// XORs the next bytes of the stream into `bytes`, of any length: two calls do what one call does for both pieces in
+    /// turn. It has no fault: after 2^32 blocks the stream begins again (SP 800-38D, 6.5).
+    pub fn apply(&mut self, bytes: &mut [u8])
+        ensures { (key first : List ℕ) (made : ℕ) → HoldsBe self.old key first made
+            → HoldsBe self.new key first (made + length bytes.old) × (bytes.new ≡ masked (counter_byte up_be key first) made bytes.old) }
+    {
+        self.counter.apply(bytes);
+    }
+}
+
+/// The stream of AES-GCM-SIV: the ciphers of blocks that count in their first four bytes, least significant byte first,
+/// modulo 2^32 (RFC 8452, 4).
+#[derive(Drop)]
+pub struct CtrLe {
+    counter: Counter<FirstFour>,
+}
+
+impl CtrLe {
+    ghost use Rattle.aes.specs.Streams.{HoldsLe};
+
+    /// The stream whose first block is the cipher of `first`.
+    pub fn new(key: &AesKey, first: &Block) -> CtrLe
+        ensures { HoldsLe result key.now first.now 0 }
+    {
+        CtrLe {
+            counter: Counter::new(key, first),
+        }
+    }
+
+    /// XORs the next bytes of the stream into `bytes`, of any length: two calls do what one call does for both pieces in
+    /// turn. It has no fault: after 2^32 blocks the stream begins again (RFC 8452, 4).
+    pub fn apply(&mut self, bytes: &mut [u8])
+        ensures { (key first : List ℕ) (made : ℕ) → HoldsLe self.old key first made
+            → HoldsLe self.new key first (made + length bytes.old) × (bytes.new ≡ masked (counter_byte up_le key first) made bytes.old) }
+    {
+        self.counter.apply(bytes);
+    }
+}

@@ -1,0 +1,17 @@
+//! AES with keys of 128, 192 and 256 bits, both ways (FIPS 197), and its streams of counting blocks (SP 800-38D, RFC 8452).
+#![tactic(auto)]
+
+mod cipher;
+mod counter;
+mod inverse;
+mod key;
+mod sbox;
+mod schedule;
+#[cfg(test)]
+mod tests;
+
+pub use cipher::is_permutation;
+pub use counter::{CtrBe, CtrLe, blocks_count_on};
+pub use key::AesKey;
+pub use sbox::inverse_is_the_only;
+pub use schedule::schedule_recurs;

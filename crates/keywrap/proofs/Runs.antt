@@ -1,0 +1,29 @@
+-- Many steps.
+use Rattle.std.proofs.Common.{◌≡◌, ℕ, ◌+◌, ◌*◌, ◌-◌, ◌<◌, List, refl, sym, ap, ◌∙◌, arith, add-one}
+use Rattle.keywrap.specs.Wrapping.{step, steps}
+
+-- one step more
+pub steps_more : (key s : List ℕ) (t : ℕ) → step key (t + 1) (steps key t s) ≡ steps key (t + 1) s
+unfolding steps
+steps_more key s t = rw add-one refl
+
+-- no step
+pub steps_none : (key s : List ℕ) (t : ℕ) → t ≡ 0 → s ≡ steps key t s
+unfolding steps
+steps_none key s t e = rw e refl
+
+-- now is what the first t of n steps make on the way to last
+abbrev pub LeadsTo : List ℕ → ℕ → List ℕ → ℕ → List ℕ → Type 0
+LeadsTo key n last t now = (s : List ℕ) → steps key t s ≡ now → steps key n s ≡ last
+
+-- what a step takes to a register on the way is on the way too
+pub leads_before : (key : List ℕ) (n t : ℕ) (last after before : List ℕ) → LeadsTo key n last (t + 1) after → step key (t + 1) before ≡ after
+    → LeadsTo key n last t before
+leads_before key n t last after before leads e s h = leads s (sym (steps_more key s t) ∙ ap (step key (t + 1)) h ∙ e)
+
+-- the steps before the last of some rounds
+pub one_round_less : (n r : ℕ) → 0 < r → n * r ≡ n * (r - 1) + n
+one_round_less n r h =
+    let q : ℕ = r - 1 in
+    let e : r ≡ q + 1 = omega arith in
+    ap (λ x. n * x) e ∙ omega arith

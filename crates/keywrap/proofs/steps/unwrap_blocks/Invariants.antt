@@ -1,0 +1,10 @@
+use Rattle.std.proofs.Common.{◌+◌, ◌*◌, ◌++◌}
+use Rattle.keywrap.specs.Places.{register}
+use Rattle.keywrap.proofs.Runs.{LeadsTo}
+use Rattle.keywrap.proofs.steps.unwrap_blocks.Given as goal
+
+abbrev pub invariant-rounds : goal.invariant-rounds
+invariant-rounds l = LeadsTo l.key (l.count * 6) (l.fn.first ++ l.fn.blocks) (l.count * l.round) (l.first ++ l.blocks)
+
+abbrev pub invariant-places : goal.invariant-places
+invariant-places l = LeadsTo l.key (l.count * 6) (l.fn.first ++ l.fn.blocks) (l.count * l.round + l.i) (register (8 * l.i) l.first l.blocks)

@@ -1,0 +1,4 @@
+pub mod Wrapping
+pub mod Blocks
+pub mod Refusals
+pub mod Places

@@ -1,0 +1,30 @@
+-- What each refusal says. A fault that a call never answers has no case of its own.
+use Rattle.std.specs.Prelude.{ℕ, ◌+◌, ◌<◌, ◌≤◌, List, length}
+use Rattle.octets.specs.declared.fault.Fault.{Fault}
+use Rattle.octets.specs.declared.fault.Fault.TheVariants.{TextTooLong, WrapLength, WrapIntegrity, OutOfMemory}
+use Rattle.keywrap.specs.Wrapping.{HasTextLength, HasWrappedLength, IsNoWrapping}
+
+-- why a text is not wrapped into a vector of at most so many bytes
+abbrev pub WrapRefused : ℕ → List ℕ → Fault → Type 0
+WrapRefused most text WrapLength = ¬ HasTextLength text
+WrapRefused most text TextTooLong = HasTextLength text × (most < length text + 8)
+WrapRefused most text OutOfMemory = HasTextLength text × (length text + 8 ≤ most)
+WrapRefused most text _ = ⊥
+
+-- why bytes are not unwrapped into a vector
+abbrev pub UnwrapRefused : List ℕ → List ℕ → Fault → Type 0
+UnwrapRefused key wrapped WrapLength = ¬ HasWrappedLength wrapped
+UnwrapRefused key wrapped OutOfMemory = HasWrappedLength wrapped
+UnwrapRefused key wrapped WrapIntegrity = HasWrappedLength wrapped × IsNoWrapping key wrapped
+UnwrapRefused key wrapped _ = ⊥
+
+-- why bytes, room for A and a text, are not wrapped in place
+abbrev pub WrapInPlaceRefused : List ℕ → Fault → Type 0
+WrapInPlaceRefused bytes WrapLength = ¬ HasWrappedLength bytes
+WrapInPlaceRefused bytes _ = ⊥
+
+-- why bytes are not unwrapped in place
+abbrev pub UnwrapInPlaceRefused : List ℕ → List ℕ → Fault → Type 0
+UnwrapInPlaceRefused key wrapped WrapLength = ¬ HasWrappedLength wrapped
+UnwrapInPlaceRefused key wrapped WrapIntegrity = HasWrappedLength wrapped × IsNoWrapping key wrapped
+UnwrapInPlaceRefused key wrapped _ = ⊥
