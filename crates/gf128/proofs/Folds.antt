@@ -1,0 +1,206 @@
+-- What falls out below a word, kept in a half word and folded in at the end.
+use Rattle.std.proofs.Common.{◌≡◌, ℕ, zero, suc, ◌+◌, ◌-◌, ◌*◌, ◌/◌, ◌%◌, ◌^◌, ◌<◌, ◌≤◌, Bool, true, false, ◌==◌, List, [], ◌∷◌, ◌++◌, length, replicate, bit_xor, inl, inr, refl, sym, ap, ap₂, ◌∙◌, arith}
+use mathlib.Core.Path.{fun_ext}
+use Rattle.std.proofs.lemmas.Bool.{cases_lt}
+use Rattle.std.proofs.lemmas.List.{get_or_past, get_or_append_left, get_or-append_right}
+use Rattle.std.proofs.lemmas.List.FromFn.{get_or-map-range_with_len, length-map-range_with_len}
+use Rattle.std.proofs.lemmas.Nat.{shr-shr, xor_lt}
+use Rattle.std.proofs.lemmas.Nat.Bits.{bit_at_above, bit_at_cat_low, bit_at_cat_high}
+use Rattle.octets.specs.Bits.{bit, is_odd}
+use Rattle.octets.specs.Polynomial.{coefficient, plus, residue}
+use Rattle.octets.proofs.Sequence.{Sequence, sum_of, shift, mult, mult_comm, shift_sum, plus_false}
+use Rattle.octets.proofs.Ring.{residue_of_lower}
+use Rattle.octets.proofs.Reversal.{raised, raised_low, raised_high, times_power, residue_by}
+use Rattle.gf128.specs.Ghash.{ghash_modulus}
+use Rattle.gf128.specs.Words.{of_word, of_half, folded}
+use Rattle.gf128.proofs.WordLemmas.{of_word_at, of_word_past, of_word_xor, length-of_word}
+
+-- ---- bits of numbers
+
+-- a bit of a number that was moved down
+pub bit_shr : (n i j : ℕ) → bit (n / 2 ^ i) j ≡ bit n (i + j)
+bit_shr n i j = ap is_odd (shr-shr n i j)
+
+-- a number below 2^k has no bit from k on
+pub bit_above : (n k j : ℕ) → n < 2 ^ k → k ≤ j → bit n j ≡ false
+bit_above n k j small h = ap (λ (x : ℕ). x == 1) (bit_at_above n k j small h)
+
+-- the low bits of two numbers put together
+pub bit_low : (a k b j : ℕ) → j < k → bit (a * 2 ^ k + b) j ≡ bit b j
+bit_low a k b j h = ap (λ (x : ℕ). x == 1) (bit_at_cat_low a k b j h)
+
+-- the high bits of two numbers put together
+bit_high : (a k b j : ℕ) → b < 2 ^ k → k ≤ j → bit (a * 2 ^ k + b) j ≡ bit a (j - k)
+bit_high a k b j small h = ap (λ (x : ℕ). x == 1) (bit_at_cat_high a k b j small h)
+
+-- ---- the places of a half word
+pub of_half_at : (n k : ℕ) → k < 64 → coefficient (of_half n) k ≡ bit n (63 - k)
+unfolding of_half
+of_half_at n k h = get_or-map-range_with_len (λ i. bit n (63 - i)) 0 64 k k false h (omega arith)
+
+-- a half word has 64 places
+length-of_half : (n : ℕ) → length (of_half n) ≡ 64
+unfolding of_half
+length-of_half n = length-map-range_with_len (λ i. bit n (63 - i)) 0 64
+
+-- no coefficient from x^64 on
+pub of_half_past : (n k : ℕ) → 64 ≤ k → coefficient (of_half n) k ≡ false
+of_half_past n k h = get_or_past (of_half n) k false (omega (arith, length-of_half n))
+
+-- a word moved down, below x^128
+pub of_word_shr : (n i k : ℕ) → n < 2 ^ 128 → k < 128 → coefficient (of_word (n / 2 ^ i)) k ≡ raised i (coefficient (of_word n)) k
+of_word_shr n i k small l =
+    of_word_at (n / 2 ^ i) k l ∙ bit_shr n i (127 - k)
+    ∙ elim (cases_lt k i) [
+      | inl h ↦ bit_above n 128 (i + (127 - k)) small (omega arith) ∙ sym (raised_low i (coefficient (of_word n)) k h)
+      | inr h ↦
+          let at : i + (127 - k) ≡ 127 - (k - i) = omega arith in
+          ap (bit n) at ∙ sym (raised_high i (coefficient (of_word n)) k h ∙ of_word_at n (k - i) (omega arith))
+    ]
+
+-- ---- a word and x^128 times a half word
+abbrev pub wide : ℕ → ℕ → List Bool
+wide z s = of_word z ++ of_half s
+
+-- the coefficients below x^128
+pub wide_low : (z s k : ℕ) → k < 128 → coefficient (wide z s) k ≡ coefficient (of_word z) k
+wide_low z s k h = get_or_append_left (of_word z) (of_half s) false k (omega (arith, length-of_word z))
+
+-- those from x^128 on
+pub wide_high : (z s k : ℕ) → 128 ≤ k → coefficient (wide z s) k ≡ coefficient (of_half s) (k - 128)
+wide_high z s k h = get_or-append_right (of_word z) (of_half s) 128 k false (length-of_word z) h
+
+-- none from x^192 on
+wide_past : (z s k : ℕ) → 192 ≤ k → coefficient (wide z s) k ≡ false
+wide_past z s k h = wide_high z s k (omega arith) ∙ of_half_past s (k - 128) (omega arith)
+
+-- sequences that agree up to a place
+raised_agree : (n : ℕ) (e f : Sequence) (k : ℕ) → ((j : ℕ) → j ≤ k → e j ≡ f j) → raised n e k ≡ raised n f k
+raised_agree zero e f k h = h k (omega arith)
+raised_agree (suc n) e f zero h = refl
+raised_agree (suc n) e f (suc k) h = raised_agree n e f k (λ j l. h j (omega arith))
+
+-- times x^4, and one more sum of multiples
+pub wide_more : (z s t : ℕ) → z < 2 ^ 128 → s < 2 ^ 64 → ((k : ℕ) → 188 ≤ k → coefficient (wide z s) k ≡ false) → (k : ℕ)
+    → coefficient (wide (bit_xor (z / 2 ^ 4) t) (z % 2 ^ 4 * 2 ^ 60 + s / 2 ^ 4)) k ≡ plus (raised 4 (coefficient (wide z s)) k) (coefficient (of_word t) k)
+wide_more z s t lz ls low k =
+    let y : ℕ = bit_xor (z / 2 ^ 4) t in
+    let r : ℕ = z % 2 ^ 4 * 2 ^ 60 + s / 2 ^ 4 in
+    let small : s / 2 ^ 4 < 2 ^ 60 = omega arith in
+    elim (cases_lt k 128) [
+      | inl l ↦
+          wide_low y r k l ∙ of_word_xor (z / 2 ^ 4) t k
+          ∙ ap (λ b. plus b (coefficient (of_word t) k))
+          (of_word_shr z 4 k lz l ∙ raised_agree 4 (coefficient (of_word z)) (coefficient (wide z s)) k (λ j h. sym (wide_low z s j (omega arith))))
+      | inr l ↦
+          let j : ℕ = k - 128 in
+          let moved : coefficient (of_half r) j ≡ coefficient (wide z s) (k - 4) =
+          elim (cases_lt j 64) [
+            | inl h ↦
+                of_half_at r j h
+                ∙ elim (cases_lt j 4) [
+                  | inl first ↦
+                      let at : 63 - j - 60 ≡ 3 - j = omega arith in
+                      let up : 127 - (k - 4) ≡ 3 - j = omega arith in
+                      let whole : z / 2 ^ 4 * 2 ^ 4 + z % 2 ^ 4 ≡ z = omega arith in
+                      bit_high (z % 2 ^ 4) 60 (s / 2 ^ 4) (63 - j) small (omega arith) ∙ ap (bit (z % 2 ^ 4)) at
+                      ∙ sym (bit_low (z / 2 ^ 4) 4 (z % 2 ^ 4) (3 - j) (omega arith)) ∙ ap (λ (x : ℕ). bit x (3 - j)) whole
+                      ∙ sym (wide_low z s (k - 4) (omega arith) ∙ of_word_at z (k - 4) (omega arith) ∙ ap (bit z) up)
+                  | inr rest ↦
+                      let at : 63 - (k - 4 - 128) ≡ 4 + (63 - j) = omega arith in
+                      bit_low (z % 2 ^ 4) 60 (s / 2 ^ 4) (63 - j) (omega arith) ∙ bit_shr s 4 (63 - j)
+                      ∙ sym (wide_high z s (k - 4) (omega arith) ∙ of_half_at s (k - 4 - 128) (omega arith) ∙ ap (bit s) at)
+                ]
+            | inr h ↦ of_half_past r j h ∙ sym (low (k - 4) (omega arith))
+          ] in
+          wide_high y r k l ∙ moved ∙ sym (ap₂ plus (raised_high 4 (coefficient (wide z s)) k (omega arith)) (of_word_past t k l) ∙ plus_false (coefficient (wide z s) (k - 4)))
+    ]
+
+-- ---- the modulus times a polynomial
+
+-- x^n times a sum
+raised_sum : (n : ℕ) (e f : Sequence) → raised n (sum_of e f) ≡ sum_of (raised n e) (raised n f)
+raised_sum zero e f = refl
+raised_sum (suc n) e f = ap shift (raised_sum n e f) ∙ shift_sum (raised n e) (raised n f)
+
+-- q + x q + x^2 q + x^7 q
+abbrev pub low_multiple : Sequence → Sequence
+low_multiple q = sum_of q (sum_of (raised 1 q) (sum_of (raised 2 q) (raised 7 q)))
+
+-- q times the modulus x^128+x^7+x^2+x+1
+modulus_times : (q : Sequence) → mult ghash_modulus q
+    ≡ sum_of q (sum_of (raised 1 q) (sum_of (raised 2 q) (sum_of (raised 7 q) (raised 128 q))))
+modulus_times q =
+    let top : mult (replicate 120 false ++ true ∷ []) q ≡ raised 120 q = fun_ext (times_power 120 q) in
+    let inner : raised 5 (sum_of q (raised 121 q)) ≡ sum_of (raised 5 q) (raised 126 q) = raised_sum 5 q (raised 121 q) in
+    let second : shift (sum_of q (sum_of (raised 5 q) (raised 126 q))) ≡ sum_of (raised 1 q) (sum_of (raised 6 q) (raised 127 q)) =
+    raised_sum 1 q (sum_of (raised 5 q) (raised 126 q)) ∙ ap (sum_of (raised 1 q)) (raised_sum 1 (raised 5 q) (raised 126 q)) in
+    let third : shift (sum_of q (sum_of (raised 1 q) (sum_of (raised 6 q) (raised 127 q)))) ≡ sum_of (raised 1 q) (sum_of (raised 2 q) (sum_of (raised 7 q) (raised 128 q))) =
+    raised_sum 1 q (sum_of (raised 1 q) (sum_of (raised 6 q) (raised 127 q)))
+    ∙ ap (sum_of (raised 1 q)) (raised_sum 1 (raised 1 q) (sum_of (raised 6 q) (raised 127 q)) ∙ ap (sum_of (raised 2 q)) (raised_sum 1 (raised 6 q) (raised 127 q))) in
+    let form : Sequence → Sequence = λ (f : Sequence). sum_of q (shift (sum_of q (shift (sum_of q (raised 5 (sum_of q (shift f))))))) in
+    let start : mult ghash_modulus q ≡ form (mult (replicate 120 false ++ true ∷ []) q) = refl in
+    start ∙ ap form top
+    ∙ ap (λ (f : Sequence). sum_of q (shift (sum_of q (shift (sum_of q f))))) inner
+    ∙ ap (λ (f : Sequence). sum_of q (shift (sum_of q f))) second
+    ∙ ap (sum_of q) third
+
+-- ---- folding
+
+-- a bit added twice
+cancel : (a b : Bool) → a ≡ plus b (plus a b)
+cancel true true = refl
+cancel true false = refl
+cancel false true = refl
+cancel false false = refl
+
+-- the half word s as the high half of a word
+high_at : (s k : ℕ) → k < 128 → coefficient (of_word (s * 2 ^ 64)) k ≡ coefficient (of_half s) k
+high_at s k l =
+    let whole : s * 2 ^ 64 + 0 ≡ s * 2 ^ 64 = omega arith in
+    of_word_at (s * 2 ^ 64) k l ∙ ap (λ (x : ℕ). bit x (127 - k)) (sym whole)
+    ∙ elim (cases_lt k 64) [
+      | inl h ↦ let at : 127 - k - 64 ≡ 63 - k = omega arith in bit_high s 64 0 (127 - k) (omega arith) (omega arith) ∙ ap (bit s) at ∙ sym (of_half_at s k h)
+      | inr h ↦ bit_low s 64 0 (127 - k) (omega arith) ∙ bit_above 0 0 (127 - k) (omega arith) (omega arith) ∙ sym (of_half_past s k h)
+    ]
+
+-- what is folded has the residue of the whole
+pub folded_at : (z s : ℕ) → z < 2 ^ 128 → s < 2 ^ 64 → coefficient (of_word (folded z s)) ≡ coefficient (residue ghash_modulus (wide z s))
+folded_at z s lz ls =
+    let m : List Bool = ghash_modulus in
+    let f : ℕ = s * 2 ^ 64 in
+    let q : Sequence = coefficient (of_half s) in
+    let lf : f < 2 ^ 128 = omega arith in
+    let down : (i k : ℕ) → k < 128 → coefficient (of_word (f / 2 ^ i)) k ≡ raised i q k = λ i k l.
+    of_word_shr f i k lf l ∙ raised_agree i (coefficient (of_word f)) q k (λ j h. high_at s j (omega arith)) in
+    let low : (k : ℕ) → k < 128 → coefficient (of_word (folded z s)) k ≡ plus (coefficient (of_word z) k) (low_multiple q k) = λ k l.
+    of_word_xor z (bit_xor f (bit_xor (f / 2 ^ 1) (bit_xor (f / 2 ^ 2) (f / 2 ^ 7)))) k
+    ∙ ap (plus (coefficient (of_word z) k)) (of_word_xor f (bit_xor (f / 2 ^ 1) (bit_xor (f / 2 ^ 2) (f / 2 ^ 7))) k
+    ∙ ap₂ plus (high_at s k l) (of_word_xor (f / 2 ^ 1) (bit_xor (f / 2 ^ 2) (f / 2 ^ 7)) k
+    ∙ ap₂ plus (down 1 k l) (of_word_xor (f / 2 ^ 2) (f / 2 ^ 7) k ∙ ap₂ plus (down 2 k l) (down 7 k l)))) in
+    let by : (k : ℕ) → coefficient (wide z s) k ≡ plus (mult (of_half s) (coefficient m) k) (coefficient (of_word (folded z s)) k) = λ k.
+    let times : mult (of_half s) (coefficient m) k ≡ plus (q k) (plus (raised 1 q k) (plus (raised 2 q k) (plus (raised 7 q k) (raised 128 q k)))) =
+    ap (λ e. e k) (mult_comm (of_half s) m ∙ modulus_times q) in
+    elim (cases_lt k 128) [
+      | inl l ↦
+          let none : plus (raised 7 q k) (raised 128 q k) ≡ raised 7 q k = ap (plus (raised 7 q k)) (raised_low 128 q k l) ∙ plus_false (raised 7 q k) in
+          wide_low z s k l ∙ cancel (coefficient (of_word z) k) (low_multiple q k)
+          ∙ sym (ap₂ plus (times ∙ ap (λ b. plus (q k) (plus (raised 1 q k) (plus (raised 2 q k) b))) none) (low k l))
+      | inr l ↦
+          let past : (i : ℕ) → i ≤ 7 → raised i q k ≡ false = λ i h. raised_high i q k (omega arith) ∙ of_half_past s (k - i) (omega arith) in
+          let all : mult (of_half s) (coefficient m) k ≡ raised 128 q k =
+          times ∙ ap₂ plus (past 0 (omega arith)) (ap₂ plus (past 1 (omega arith)) (ap₂ plus (past 2 (omega arith)) (ap (λ b. plus b (raised 128 q k)) (past 7 (omega arith))))) in
+          wide_high z s k l
+          ∙ sym (ap₂ plus (all ∙ raised_high 128 q k l) (of_word_past (folded z s) k l) ∙ plus_false (q (k - 128)))
+    ] in
+    sym (residue_by m (wide z s) (of_word (folded z s)) (of_half s) refl by
+    ∙ fun_ext (residue_of_lower m (of_word (folded z s)) refl (λ i h. of_word_past (folded z s) i h)))
+
+-- what is folded is a word
+pub folded_lt : (z s : ℕ) → z < 2 ^ 128 → s < 2 ^ 64 → folded z s < 2 ^ 128
+folded_lt z s lz ls =
+    let f : ℕ = s * 2 ^ 64 in
+    let lf : f < 2 ^ 128 = omega arith in
+    xor_lt 128 z (bit_xor f (bit_xor (f / 2 ^ 1) (bit_xor (f / 2 ^ 2) (f / 2 ^ 7)))) lz
+    (xor_lt 128 f (bit_xor (f / 2 ^ 1) (bit_xor (f / 2 ^ 2) (f / 2 ^ 7))) lf
+    (xor_lt 128 (f / 2 ^ 1) (bit_xor (f / 2 ^ 2) (f / 2 ^ 7)) (omega arith) (xor_lt 128 (f / 2 ^ 2) (f / 2 ^ 7) (omega arith) (omega arith))))

@@ -1,0 +1,9 @@
+pub mod WordLemmas
+pub mod Sums
+pub mod Texts
+pub mod Dot
+pub mod PolyvalSums
+pub mod ByGhash
+pub mod Tables
+pub mod Folds
+pub mod Halves

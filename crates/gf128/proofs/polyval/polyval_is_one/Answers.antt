@@ -1,0 +1,5 @@
+use Rattle.gf128.proofs.PolyvalSums as sums
+use Rattle.gf128.proofs.polyval.polyval_is_one.Goals as goal
+
+pub returns : goal.returns
+returns c = sums.polyval_is_one

@@ -1,0 +1,36 @@
+// The product by shifts, one bit after the other.
+
+ghost use Rattle.std.specs.Prelude.{◌≡◌, ℕ};
+ghost use Rattle.std.specs.Int.{w128, to_be_bytes};
+
+use crate::Keyed128;
+use crate::words::{times_x, word_of};
+use octets::Block;
+
+/// The multiplier that takes one bit after the other.
+#[derive(Drop, Clone, Copy)]
+pub struct BitMul {
+    key: u128,
+}
+
+impl Keyed128 for BitMul {
+    ghost key_bytes = { λ s. to_be_bytes w128 s.key };
+
+    fn of(key: &Block) -> BitMul {
+        BitMul {
+            key: word_of(key.bytes()),
+        }
+    }
+
+    fn times_word(&self, x: u128) -> u128 {
+        let mut product = 0u128;
+        // From the coefficient of x^127, the lowest bit, to that of x^0.
+        'bits: for i in 0..128u32 {
+            product = times_x(product);
+            if (x >> i) & 1 == 1 {
+                product ^= self.key;
+            }
+        }
+        product
+    }
+}

@@ -1,0 +1,82 @@
+// GHASH over a text fed piece by piece.
+
+ghost use Rattle.std.specs.Prelude.{◌≡◌, ℕ, ◌++◌, List, []};
+ghost use Rattle.gf128.specs.Ghash.{GhashIsOne};
+
+use crate::Keyed128;
+use crate::words::{block_of, word_of};
+use octets::{Absorb, Block, Pieces};
+
+/// GHASH's sum over whole blocks.
+#[derive(Drop)]
+pub struct GhashSum<M> {
+    multiplier: M,
+    sum: u128,
+}
+
+impl<M: Keyed128> Absorb for GhashSum<M> {
+    ghost use Rattle.gf128.specs.States.{GhashSumHolds};
+
+    ghost absorbed = { λ s h m. GhashSumHolds M.key_bytes s h m };
+
+    fn absorb(&mut self, blocks: &[u8]) {
+        let (whole, _) = blocks.as_chunks::<16>();
+        let mut sum = self.sum;
+        'taken: for block in whole {
+            sum = self.multiplier.times_word(sum ^ word_of(block));
+        }
+        self.sum = sum;
+    }
+}
+
+/// GHASH over a text fed piece by piece (SP 800-38D, 6.4), by the multiplier `M`.
+#[derive(Drop)]
+pub struct Ghash<M> {
+    pieces: Pieces<GhashSum<M>>,
+}
+
+impl<M: Keyed128> Ghash<M> {
+    ghost use Rattle.octets.specs.Bytes.{pad16, IsBlock};
+    ghost use Rattle.gf128.specs.Ghash.{ghash};
+    ghost use Rattle.gf128.specs.States.{Holds};
+
+    /// A state that holds the empty text, under a key of 16 bytes.
+    pub fn new(key: &Block) -> Ghash<M>
+        ensures { Holds M.key_bytes result key.now [] }
+    {
+        Ghash {
+            pieces: Pieces::new(GhashSum {
+                multiplier: M::of(key),
+                sum: 0,
+            }),
+        }
+    }
+
+    /// Adds `piece`, of any length, to the text.
+    pub fn update(&mut self, piece: &[u8])
+        ensures { (h m : List ℕ) → Holds M.key_bytes self.old h m → Holds M.key_bytes self.new h (m ++ piece.now) }
+    {
+        self.pieces.update(piece);
+    }
+
+    /// Feeds zeros up to a multiple of 16 bytes fed.
+    pub fn pad16(&mut self)
+        ensures { (h m : List ℕ) → Holds M.key_bytes self.old h m → Holds M.key_bytes self.new h (pad16 m) }
+    {
+        self.pieces.pad16();
+    }
+
+    /// GHASH of the text fed, padded by zeros to whole blocks: 16 bytes. It spends the state.
+    pub fn finish(mut self) -> Block
+        ensures value { (h m : List ℕ) → Holds M.key_bytes self h m → result ≡ ghash h (pad16 m) }
+        ensures is_block { IsBlock result }
+    {
+        self.pad16();
+        block_of(self.pieces.core.sum)
+    }
+}
+
+/// GHASH is the only block whose polynomial is the sum of the residues of the blocks times powers of the key.
+pub fn ghash_is_one()
+    ensures { GhashIsOne }
+{}

@@ -1,0 +1,32 @@
+// Multiplication by a key in GHASH's field.
+
+ghost use Rattle.std.specs.Prelude.{◌≡◌, ℕ, List};
+ghost use Rattle.octets.specs.Bytes.{IsBlock};
+ghost use Rattle.gf128.specs.Ghash.{IsProduct};
+ghost use Rattle.gf128.specs.Words.{IsWordProduct};
+
+use crate::words::{block_of, word_of};
+use octets::Block;
+
+/// A key of 16 bytes by which blocks are multiplied in GHASH's field (SP 800-38D, 6.3).
+pub trait Keyed128: Drop {
+    // The key's bytes.
+    ghost key_bytes: { Self → List ℕ };
+
+    /// The multiplier of `key`.
+    fn of(key: &Block) -> Self
+        ensures { key_bytes result ≡ key.now };
+
+    /// The product of a word and the key. A word is the number that a block spells, its first byte the highest,
+    /// so the bit of weight 2^127 is the coefficient of x^0.
+    fn times_word(&self, x: u128) -> u128
+        ensures { IsWordProduct x (key_bytes self.now) result };
+
+    /// The product of a block and the key.
+    fn times(&self, x: &Block) -> Block
+        ensures value { IsProduct x.now (key_bytes self.now) result }
+        ensures is_block { IsBlock result }
+    {
+        block_of(self.times_word(word_of(x.bytes())))
+    }
+}

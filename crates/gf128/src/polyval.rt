@@ -1,0 +1,103 @@
+// POLYVAL over a text fed piece by piece.
+
+ghost use Rattle.std.specs.Prelude.{◌≡◌, ℕ, ◌++◌, List, []};
+ghost use Rattle.octets.specs.Bytes.{IsBlock};
+ghost use Rattle.gf128.specs.Polyval.{DotIsOne, PolyvalIsOne, PolyvalByGhash, IsReversedMulX};
+
+use crate::Keyed128;
+use crate::words::{block_of, reversed_block_of, reversed_word_of, times_x};
+use octets::{Absorb, Block, Pieces};
+
+// The key by which GHASH's product gives POLYVAL's (RFC 8452, appendix A).
+fn ghash_key(key: &Block) -> Block
+    ensures value { IsReversedMulX key.now result }
+    ensures of_block { IsBlock key.now }
+{
+    let word = reversed_word_of(key.bytes());
+    let times = times_x(word);
+    block_of(times)
+}
+
+/// POLYVAL's sum over whole blocks, its bytes reversed.
+#[derive(Drop)]
+pub struct PolyvalSum<M> {
+    multiplier: M,
+    sum: u128,
+}
+
+impl<M: Keyed128> Absorb for PolyvalSum<M> {
+    ghost use Rattle.gf128.specs.States.{PolyvalSumHolds};
+
+    ghost absorbed = { λ s h m. PolyvalSumHolds M.key_bytes s h m };
+
+    fn absorb(&mut self, blocks: &[u8]) {
+        let (whole, _) = blocks.as_chunks::<16>();
+        let mut sum = self.sum;
+        'taken: for block in whole {
+            sum = self.multiplier.times_word(sum ^ reversed_word_of(block));
+        }
+        self.sum = sum;
+    }
+}
+
+/// POLYVAL over a text fed piece by piece (RFC 8452, 3), by the multiplier `M` in GHASH's field.
+#[derive(Drop)]
+pub struct Polyval<M> {
+    pieces: Pieces<PolyvalSum<M>>,
+}
+
+impl<M: Keyed128> Polyval<M> {
+    ghost use Rattle.octets.specs.Bytes.{pad16};
+    ghost use Rattle.gf128.specs.Polyval.{polyval};
+    ghost use Rattle.gf128.specs.States.{PolyvalHolds};
+
+    /// A state that holds the empty text, under a key of 16 bytes.
+    pub fn new(key: &Block) -> Polyval<M>
+        ensures { PolyvalHolds M.key_bytes result key.now [] }
+    {
+        Polyval {
+            pieces: Pieces::new(PolyvalSum {
+                multiplier: M::of(&ghash_key(key)),
+                sum: 0,
+            }),
+        }
+    }
+
+    /// Adds `piece`, of any length, to the text.
+    pub fn update(&mut self, piece: &[u8])
+        ensures { (h m : List ℕ) → PolyvalHolds M.key_bytes self.old h m → PolyvalHolds M.key_bytes self.new h (m ++ piece.now) }
+    {
+        self.pieces.update(piece);
+    }
+
+    /// Feeds zeros up to a multiple of 16 bytes fed.
+    pub fn pad16(&mut self)
+        ensures { (h m : List ℕ) → PolyvalHolds M.key_bytes self.old h m → PolyvalHolds M.key_bytes self.new h (pad16 m) }
+    {
+        self.pieces.pad16();
+    }
+
+    /// POLYVAL of the text fed, padded by zeros to whole blocks: 16 bytes. It spends the state.
+    pub fn finish(mut self) -> Block
+        ensures value { (h m : List ℕ) → PolyvalHolds M.key_bytes self h m → result ≡ polyval h (pad16 m) }
+        ensures is_block { IsBlock result }
+    {
+        self.pad16();
+        reversed_block_of(self.pieces.core.sum)
+    }
+}
+
+/// The dot of two polynomials is the only one of degree below 128 that times x^128 has their product's residue.
+pub fn dot_is_one()
+    ensures { DotIsOne }
+{}
+
+/// POLYVAL is the only block that the sums by dot give.
+pub fn polyval_is_one()
+    ensures { PolyvalIsOne }
+{}
+
+/// POLYVAL is the byte reverse of GHASH under mulX of the reversed key over the reversed blocks (RFC 8452, appendix A).
+pub fn polyval_by_ghash()
+    ensures { PolyvalByGhash }
+{}

@@ -1,0 +1,179 @@
+// Worked values and published vectors, by both multipliers.
+
+use super::*;
+use octets::Block;
+use std::test::Fail;
+
+const ANY: [u8; 16] = [
+    0x12, 0x34, 0x56, 0x78, 0x9a, 0xbc, 0xde, 0xf0, 0x01, 0x02, 0x03, 0x04, 0x05, 0x06, 0x07, 0x88,
+];
+
+fn ghash_of<M: Keyed128>(key: [u8; 16], text: &[u8]) -> [u8; 16] {
+    let mut state = Ghash::<M>::new(&Block::new(key));
+    state.update(text);
+    *state.finish().bytes()
+}
+
+fn polyval_of<M: Keyed128>(key: [u8; 16], text: &[u8]) -> [u8; 16] {
+    let mut state = Polyval::<M>::new(&Block::new(key));
+    state.update(text);
+    *state.finish().bytes()
+}
+
+// The polynomial 1 as a key gives each block back.
+#[test]
+fn ghash_under_one_is_the_block(rt: HostRuntime) -> Result<(), Fail> {
+    let mut one = [0u8; 16];
+    one[0] = 0x80;
+    assert_eq!(rt; ghash_of::<BitMul>(one, &ANY).as_slice(), ANY.as_slice());
+    assert_eq!(rt; ghash_of::<TableMul>(one, &ANY).as_slice(), ANY.as_slice());
+    Ok(())
+}
+
+// x * x^127 is x^7+x^2+x+1.
+#[test]
+fn x_times_the_highest_power_is_reduced(rt: HostRuntime) -> Result<(), Fail> {
+    let mut x = [0u8; 16];
+    x[0] = 0x40;
+    let mut highest = [0u8; 16];
+    highest[15] = 0x01;
+    let mut want = [0u8; 16];
+    want[0] = 0xe1;
+    assert_eq!(rt; ghash_of::<BitMul>(x, &highest).as_slice(), want.as_slice());
+    assert_eq!(rt;
+        ghash_of::<TableMul>(x, &highest).as_slice(),
+        want.as_slice()
+    );
+    let product = BitMul::of(&Block::new(x)).times(&Block::new(highest));
+    assert_eq!(rt; product.bytes().as_slice(), want.as_slice());
+    let product = Mul::of(&Block::new(x)).times(&Block::new(highest));
+    assert_eq!(rt; product.bytes().as_slice(), want.as_slice());
+    Ok(())
+}
+
+// The block of ciphertext and the block of lengths of the GCM specification's test case 2.
+const HASH_KEY: [u8; 16] = [
+    0x66, 0xe9, 0x4b, 0xd4, 0xef, 0x8a, 0x2c, 0x3b, 0x88, 0x4c, 0xfa, 0x59, 0xca, 0x34, 0x2b, 0x2e,
+];
+
+const HASHED: [u8; 32] = [
+    0x03, 0x88, 0xda, 0xce, 0x60, 0xb6, 0xa3, 0x92, 0xf3, 0x28, 0xc2, 0xb9, 0x71, 0xb2, 0xfe, 0x78,
+    0, 0, 0, 0, 0, 0, 0, 0, 0, 0, 0, 0, 0, 0, 0, 0x80,
+];
+
+const HASH: [u8; 16] = [
+    0xf3, 0x8c, 0xbb, 0x1a, 0xd6, 0x92, 0x23, 0xdc, 0xc3, 0x45, 0x7a, 0xe5, 0xb6, 0xb0, 0xf8, 0x85,
+];
+
+fn ghash_in_pieces<M: Keyed128>() -> [u8; 16] {
+    let mut state = Ghash::<M>::new(&Block::new(HASH_KEY));
+    state.update(&HASHED[..1]);
+    state.update(&HASHED[1..16]);
+    state.pad16();
+    state.update(&HASHED[16..16]);
+    state.update(&HASHED[16..]);
+    *state.finish().bytes()
+}
+
+#[test]
+fn ghash_of_the_published_blocks(rt: HostRuntime) -> Result<(), Fail> {
+    assert_eq!(rt;
+        ghash_of::<BitMul>(HASH_KEY, &HASHED).as_slice(),
+        HASH.as_slice()
+    );
+    assert_eq!(rt;
+        ghash_of::<TableMul>(HASH_KEY, &HASHED).as_slice(),
+        HASH.as_slice()
+    );
+    assert_eq!(rt; ghash_in_pieces::<BitMul>().as_slice(), HASH.as_slice());
+    assert_eq!(rt; ghash_in_pieces::<TableMul>().as_slice(), HASH.as_slice());
+    Ok(())
+}
+
+// A short last block counts as one filled with zeros.
+#[test]
+fn a_short_block_is_padded(rt: HostRuntime) -> Result<(), Fail> {
+    let mut filled = ANY;
+    filled[13] = 0;
+    filled[14] = 0;
+    filled[15] = 0;
+    assert_eq!(rt;
+        ghash_of::<Mul>(HASH_KEY, &ANY[..13]).as_slice(),
+        ghash_of::<BitMul>(HASH_KEY, &filled).as_slice()
+    );
+    assert_eq!(rt;
+        polyval_of::<Mul>(HASH_KEY, &ANY[..13]).as_slice(),
+        polyval_of::<BitMul>(HASH_KEY, &filled).as_slice()
+    );
+    assert_eq!(rt;
+        ghash_of::<Mul>(HASH_KEY, &[]).as_slice(),
+        [0u8; 16].as_slice()
+    );
+    Ok(())
+}
+
+// x^128 as a key gives each block back.
+#[test]
+fn polyval_under_x_to_128_is_the_block(rt: HostRuntime) -> Result<(), Fail> {
+    let mut key = [0u8; 16];
+    key[0] = 0x01;
+    key[15] = 0xc2;
+    assert_eq!(rt; polyval_of::<BitMul>(key, &ANY).as_slice(), ANY.as_slice());
+    assert_eq!(rt;
+        polyval_of::<TableMul>(key, &ANY).as_slice(),
+        ANY.as_slice()
+    );
+    Ok(())
+}
+
+// RFC 8452, appendix A.
+const POLYVAL_KEY: [u8; 16] = [
+    0x25, 0x62, 0x93, 0x47, 0x58, 0x92, 0x42, 0x76, 0x1d, 0x31, 0xf8, 0x26, 0xba, 0x4b, 0x75, 0x7b,
+];
+
+const POLYVAL_TEXT: [u8; 32] = [
+    0x4f, 0x4f, 0x95, 0x66, 0x8c, 0x83, 0xdf, 0xb6, 0x40, 0x17, 0x62, 0xbb, 0x2d, 0x01, 0xa2, 0x62,
+    0xd1, 0xa2, 0x4d, 0xdd, 0x27, 0x21, 0xd0, 0x06, 0xbb, 0xe4, 0x5f, 0x20, 0xd3, 0xc9, 0xf3, 0x62,
+];
+
+const POLYVAL: [u8; 16] = [
+    0xf7, 0xa3, 0xb4, 0x7b, 0x84, 0x61, 0x19, 0xfa, 0xe5, 0xb7, 0x86, 0x6c, 0xf5, 0xe5, 0xb7, 0x7e,
+];
+
+fn polyval_in_pieces<M: Keyed128>() -> [u8; 16] {
+    let mut state = Polyval::<M>::new(&Block::new(POLYVAL_KEY));
+    state.update(&POLYVAL_TEXT[..7]);
+    state.update(&POLYVAL_TEXT[7..9]);
+    state.update(&POLYVAL_TEXT[9..]);
+    state.pad16();
+    *state.finish().bytes()
+}
+
+#[test]
+fn polyval_of_the_published_blocks(rt: HostRuntime) -> Result<(), Fail> {
+    assert_eq!(rt;
+        polyval_of::<BitMul>(POLYVAL_KEY, &POLYVAL_TEXT).as_slice(),
+        POLYVAL.as_slice()
+    );
+    assert_eq!(rt;
+        polyval_of::<TableMul>(POLYVAL_KEY, &POLYVAL_TEXT).as_slice(),
+        POLYVAL.as_slice()
+    );
+    assert_eq!(rt;
+        polyval_in_pieces::<BitMul>().as_slice(),
+        POLYVAL.as_slice()
+    );
+    assert_eq!(rt;
+        polyval_in_pieces::<TableMul>().as_slice(),
+        POLYVAL.as_slice()
+    );
+    Ok(())
+}
+
+#[test]
+fn laws_can_be_cited() {
+    ghash_is_one();
+    dot_is_one();
+    polyval_is_one();
+    polyval_by_ghash();
+}

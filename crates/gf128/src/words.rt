@@ -1,0 +1,58 @@
+// Words of 128 bits as polynomials: the bit of weight 2^127 is the coefficient of x^0.
+
+ghost use Rattle.std.specs.Prelude.{◌≡◌, ℕ, List, reverse};
+ghost use Rattle.octets.specs.Bytes.{IsBlock};
+ghost use Rattle.octets.specs.Bits.{g, v};
+ghost use Rattle.gf128.specs.Words.{of_word, times_x};
+
+use octets::Block;
+
+// The coefficients of the modulus below x^128.
+const REDUCTION: u128 = 0xe100_0000_0000_0000_0000_0000_0000_0000;
+
+// The word of a block.
+#[inline(always)]
+pub(crate) fn word_of(block: &[u8; 16]) -> u128
+    ensures { of_word result ≡ g block.now }
+{
+    u128::from_be_bytes(*block)
+}
+
+// The word of the block with its bytes in reverse order.
+#[inline(always)]
+pub(crate) fn reversed_word_of(block: &[u8; 16]) -> u128
+    ensures { of_word result ≡ g (reverse block.now) }
+{
+    u128::from_le_bytes(*block)
+}
+
+// The block of a word.
+#[inline(always)]
+pub(crate) fn block_of(word: u128) -> Block
+    ensures value { g result ≡ of_word word }
+    ensures is_block { IsBlock result }
+{
+    Block::new(word.to_be_bytes())
+}
+
+// The block of a word, with its bytes in reverse order.
+#[inline(always)]
+pub(crate) fn reversed_block_of(word: u128) -> Block
+    ensures value { v result ≡ reverse (of_word word) }
+    ensures is_block { IsBlock result }
+{
+    Block::new(word.to_le_bytes())
+}
+
+// The word times x.
+#[inline(always)]
+pub(crate) fn times_x(word: u128) -> u128
+    ensures { result ≡ times_x word }
+{
+    let half = word >> 1;
+    if word & 1 == 1 {
+        half ^ REDUCTION
+    } else {
+        half
+    }
+}
