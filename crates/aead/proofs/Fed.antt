@@ -1,0 +1,39 @@
+-- A text fed part by part to an authenticator, each part padded to whole blocks.
+use Rattle.std.proofs.Common.{◌≡◌, ℕ, ◌-◌, ◌%◌, List, ◌++◌, length, replicate, ap, ◌∙◌, arith, append_assoc, length-append}
+use Rattle.std.proofs.lemmas.List.{length-replicate, append-nil}
+use Rattle.octets.specs.Bytes.{padding, pad16}
+
+-- the padding makes whole blocks
+pub whole_padded : (m : List ℕ) → length (pad16 m) % 16 ≡ 0
+whole_padded m = omega (arith, length-append m (padding m), length-replicate {A = ℕ} ((16 - length m % 16) % 16) 0)
+
+-- whole blocks are not padded
+pub pad16_whole : (m : List ℕ) → length m % 16 ≡ 0 → pad16 m ≡ m
+pad16_whole m whole =
+    let none : (16 - length m % 16) % 16 ≡ 0 = omega arith in
+    ap (λ n. m ++ replicate n 0) none ∙ append-nil m
+
+-- after whole blocks, the padding is that of what follows
+pub pad16_after : (a b : List ℕ) → length a % 16 ≡ 0 → pad16 (a ++ b) ≡ a ++ pad16 b
+pad16_after a b whole =
+    let same : (16 - length (a ++ b) % 16) % 16 ≡ (16 - length b % 16) % 16 = omega (arith, length-append a b) in
+    ap (λ n. (a ++ b) ++ replicate n 0) same ∙ append_assoc a b (padding b)
+
+-- two padded parts and two more
+pub fed : (a b x y : List ℕ) → (pad16 (pad16 a ++ b) ++ x) ++ y ≡ pad16 a ++ (pad16 b ++ (x ++ y))
+fed a b x y =
+    ap (λ l. (l ++ x) ++ y) (pad16_after (pad16 a) b (whole_padded a))
+    ∙ append_assoc (pad16 a ++ pad16 b) x y
+    ∙ append_assoc (pad16 a) (pad16 b) (x ++ y)
+
+-- and they are whole blocks where the last two are one
+pub whole_fed : (a b x y : List ℕ) → length x ≡ 8 → length y ≡ 8 → length (pad16 a ++ (pad16 b ++ (x ++ y))) % 16 ≡ 0
+whole_fed a b x y l m =
+    omega (
+      arith,
+      whole_padded a,
+      whole_padded b,
+      length-append x y,
+      length-append (pad16 b) (x ++ y),
+      length-append (pad16 a) (pad16 b ++ (x ++ y)),
+    )

@@ -1,0 +1,41 @@
+-- Why a call is refused: one case for each fault that it answers, in the order in which they are tried.
+use Rattle.std.specs.Prelude.{ℕ, ◌+◌, ◌<◌, ◌≤◌, List, ◌++◌, length}
+use Rattle.octets.specs.declared.fault.Fault.{Fault}
+use Rattle.octets.specs.declared.fault.Fault.TheVariants.{TextTooLong, AadTooLong, TooShort, TagMismatch, OutOfMemory}
+use Rattle.aead.specs.Suites.{text_limit, aad_limit}
+use Rattle.aead.specs.Sealing.{Setting, Fits, IsNoSealing}
+
+-- why a text is not sealed in place
+abbrev pub SealRefused : Setting → List ℕ → Fault → Type 0
+SealRefused s text AadTooLong = aad_limit s.suite < length s.aad
+SealRefused s text TextTooLong = (length s.aad ≤ aad_limit s.suite) × (text_limit s.suite < length text)
+SealRefused s text _ = ⊥
+
+-- why a body and a tag are not opened in place
+abbrev pub OpenRefused : Setting → List ℕ → List ℕ → Fault → Type 0
+OpenRefused s body tag AadTooLong = aad_limit s.suite < length s.aad
+OpenRefused s body tag TextTooLong = (length s.aad ≤ aad_limit s.suite) × (text_limit s.suite < length body)
+OpenRefused s body tag TagMismatch = Fits s body × IsNoSealing s (body ++ tag)
+OpenRefused s body tag _ = ⊥
+
+-- why a text is not sealed as a whole
+abbrev pub WholeSealRefused : Setting → List ℕ → Fault → Type 0
+WholeSealRefused s text AadTooLong = aad_limit s.suite < length s.aad
+WholeSealRefused s text TextTooLong = (length s.aad ≤ aad_limit s.suite) × (text_limit s.suite < length text)
+WholeSealRefused s text OutOfMemory = Fits s text
+WholeSealRefused s text _ = ⊥
+
+-- there is a body of an allowed length before the tag
+pub record FitsSealed (s : Setting) (sealed : List ℕ) : Type 0 where
+  pub aad_fits : length s.aad ≤ aad_limit s.suite
+  pub long : 16 ≤ length sealed
+  pub text_fits : length sealed ≤ text_limit s.suite + 16
+
+-- why sealed bytes are not opened as a whole
+abbrev pub WholeOpenRefused : Setting → List ℕ → Fault → Type 0
+WholeOpenRefused s sealed AadTooLong = aad_limit s.suite < length s.aad
+WholeOpenRefused s sealed TooShort = (length s.aad ≤ aad_limit s.suite) × (length sealed < 16)
+WholeOpenRefused s sealed TextTooLong = (length s.aad ≤ aad_limit s.suite) × (text_limit s.suite + 16 < length sealed)
+WholeOpenRefused s sealed OutOfMemory = FitsSealed s sealed
+WholeOpenRefused s sealed TagMismatch = FitsSealed s sealed × IsNoSealing s sealed
+WholeOpenRefused s sealed _ = ⊥

@@ -1,0 +1,62 @@
+-- The suites: their names, key lengths and limits (RFC 8439, 2.8; SP 800-38D, 5.2.1.1; RFC 8452, 6).
+use Rattle.std.specs.Prelude.{ℕ, ◌-◌, ◌^◌, Bool, true, false, List, codes}
+use Rattle.aead.specs.declared.suite.Suite.{Suite}
+use Rattle.aead.specs.declared.suite.Suite.TheVariants.{ChaCha20Poly1305, Aes128Gcm, Aes192Gcm, Aes256Gcm, Aes128GcmSiv, Aes256GcmSiv}
+
+-- the constructions: a suite is one of them with a key length
+pub data Construction : Type 0 where
+  ByChaCha : Construction
+  ByGcm : Construction
+  ByGcmSiv : Construction
+
+-- the construction of a suite
+abbrev pub construction_of : Suite → Construction
+construction_of ChaCha20Poly1305 = ByChaCha
+construction_of Aes128Gcm = ByGcm
+construction_of Aes192Gcm = ByGcm
+construction_of Aes256Gcm = ByGcm
+construction_of Aes128GcmSiv = ByGcmSiv
+construction_of Aes256GcmSiv = ByGcmSiv
+
+-- the bytes of a suite's name
+abbrev pub suite_name : Suite → List ℕ
+suite_name ChaCha20Poly1305 = codes "chacha20-poly1305"
+suite_name Aes128Gcm = codes "aes-128-gcm"
+suite_name Aes192Gcm = codes "aes-192-gcm"
+suite_name Aes256Gcm = codes "aes-256-gcm"
+suite_name Aes128GcmSiv = codes "aes-128-gcm-siv"
+suite_name Aes256GcmSiv = codes "aes-256-gcm-siv"
+
+-- the bytes of a key
+abbrev pub key_length : Suite → ℕ
+key_length ChaCha20Poly1305 = 32
+key_length Aes128Gcm = 16
+key_length Aes192Gcm = 24
+key_length Aes256Gcm = 32
+key_length Aes128GcmSiv = 16
+key_length Aes256GcmSiv = 32
+
+-- whether the tag is over the ciphertext; else it is over the text
+abbrev pub is_one_pass : Construction → Bool
+is_one_pass ByChaCha = true
+is_one_pass ByGcm = true
+is_one_pass ByGcmSiv = false
+
+-- the most bytes of a text
+abbrev pub text_limit_by : Construction → ℕ
+text_limit_by ByChaCha = 2 ^ 38 - 64
+text_limit_by ByGcm = 2 ^ 36 - 32
+text_limit_by ByGcmSiv = 2 ^ 36
+
+-- the most bytes of associated data
+abbrev pub aad_limit_by : Construction → ℕ
+aad_limit_by ByChaCha = 2 ^ 64 - 1
+aad_limit_by ByGcm = 2 ^ 61 - 1
+aad_limit_by ByGcmSiv = 2 ^ 36
+
+-- both by suite
+abbrev pub text_limit : Suite → ℕ
+text_limit suite = text_limit_by (construction_of suite)
+
+abbrev pub aad_limit : Suite → ℕ
+aad_limit suite = aad_limit_by (construction_of suite)

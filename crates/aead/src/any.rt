@@ -1,0 +1,125 @@
+// A cipher of any suite.
+
+ghost use Rattle.std.specs.Prelude.{◌≡◌, ◌≢◌, ◌++◌, length, MatchResult};
+ghost use Rattle.aead.specs.Suites.{key_length};
+ghost use Rattle.aead.specs.Sealing.{Opened};
+ghost use Rattle.aead.specs.Ciphers.{setting};
+ghost use Rattle.aead.specs.AnyCiphers.{one_pass_keyed, keyed_of};
+ghost use Rattle.aead.specs.Refusals.{SealRefused, OpenRefused};
+
+use crate::aead::Aead;
+use crate::chacha_poly::ChaChaPoly;
+use crate::gcm::Gcm;
+use crate::gcm_siv::GcmSiv;
+use crate::suite::Suite;
+use aes::AesKey;
+use octets::{Fault, Key32, Nonce, Tag};
+
+/// A cipher whose tag is over the ciphertext: one reading of a text seals it.
+#[derive(Drop)]
+pub enum AnyOnePass {
+    /// ChaCha20-Poly1305.
+    ChaCha(ChaChaPoly),
+    /// AES-GCM.
+    Gcm(Gcm),
+}
+
+/// A cipher of any suite.
+#[derive(Drop)]
+pub enum AnyAead {
+    /// One whose tag is over the ciphertext.
+    OnePass(AnyOnePass),
+    /// AES-GCM-SIV, whose tag is over the text.
+    Siv(GcmSiv),
+}
+
+impl AnyAead {
+    /// The cipher of a suite under a key: 32 bytes for ChaCha20-Poly1305 and the suites of AES-256, 24 for AES-192 and
+    /// 16 for AES-128. Any other length is `KeyLength`, the only fault.
+    pub fn new(suite: Suite, key: &[u8]) -> Result<AnyAead, Fault>
+        ensures { MatchResult result (λ c. (keyed_of c ≡ record { suite = suite; key = key.now }) × (length key.now ≡ key_length suite))
+            (λ e. (e ≡ Fault.KeyLength) × (length key.now ≢ key_length suite)) }
+    {
+        if key.len() != suite.key_length() {
+            return Err(Fault::KeyLength);
+        }
+        match suite {
+            Suite::ChaCha20Poly1305 => match Key32::from_slice(key) {
+                Ok(key) => Ok(AnyAead::OnePass(AnyOnePass::ChaCha(ChaChaPoly::new(&key)))),
+                Err(fault) => Err(fault),
+            },
+            Suite::Aes128Gcm | Suite::Aes192Gcm | Suite::Aes256Gcm => match AesKey::from_slice(
+                key,
+            ) {
+                Ok(key) => Ok(AnyAead::OnePass(AnyOnePass::Gcm(Gcm::new(suite, key)))),
+                Err(fault) => Err(fault),
+            },
+            Suite::Aes128GcmSiv | Suite::Aes256GcmSiv => match AesKey::from_slice(key) {
+                Ok(key) => Ok(AnyAead::Siv(GcmSiv::new(suite, key))),
+                Err(fault) => Err(fault),
+            },
+        }
+    }
+}
+
+impl Aead for AnyOnePass {
+    ghost keyed = { one_pass_keyed };
+
+    fn suite(&self) -> Suite {
+        match self {
+            AnyOnePass::ChaCha(cipher) => cipher.suite(),
+            AnyOnePass::Gcm(cipher) => cipher.suite(),
+        }
+    }
+
+    fn seal_in_place(&self, nonce: &Nonce, aad: &[u8], text: &mut [u8]) -> Result<Tag, Fault> {
+        match self {
+            AnyOnePass::ChaCha(cipher) => cipher.seal_in_place(nonce, aad, text),
+            AnyOnePass::Gcm(cipher) => cipher.seal_in_place(nonce, aad, text),
+        }
+    }
+
+    fn open_in_place(
+        &self,
+        nonce: &Nonce,
+        aad: &[u8],
+        body: &mut [u8],
+        tag: &Tag,
+    ) -> Result<(), Fault> {
+        match self {
+            AnyOnePass::ChaCha(cipher) => cipher.open_in_place(nonce, aad, body, tag),
+            AnyOnePass::Gcm(cipher) => cipher.open_in_place(nonce, aad, body, tag),
+        }
+    }
+}
+
+impl Aead for AnyAead {
+    ghost keyed = { keyed_of };
+
+    fn suite(&self) -> Suite {
+        match self {
+            AnyAead::OnePass(cipher) => cipher.suite(),
+            AnyAead::Siv(cipher) => cipher.suite(),
+        }
+    }
+
+    fn seal_in_place(&self, nonce: &Nonce, aad: &[u8], text: &mut [u8]) -> Result<Tag, Fault> {
+        match self {
+            AnyAead::OnePass(cipher) => cipher.seal_in_place(nonce, aad, text),
+            AnyAead::Siv(cipher) => cipher.seal_in_place(nonce, aad, text),
+        }
+    }
+
+    fn open_in_place(
+        &self,
+        nonce: &Nonce,
+        aad: &[u8],
+        body: &mut [u8],
+        tag: &Tag,
+    ) -> Result<(), Fault> {
+        match self {
+            AnyAead::OnePass(cipher) => cipher.open_in_place(nonce, aad, body, tag),
+            AnyAead::Siv(cipher) => cipher.open_in_place(nonce, aad, body, tag),
+        }
+    }
+}

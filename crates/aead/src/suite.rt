@@ -1,0 +1,84 @@
+// The suites: their names and limits.
+
+ghost use Rattle.std.specs.Prelude.{◌≡◌, ◌↔◌};
+ghost use Rattle.aead.specs.declared.suite.Suite.{Suite};
+ghost use Rattle.aead.specs.Suites.{suite_name, key_length, text_limit, aad_limit, construction_of, is_one_pass};
+
+/// A way of authenticated encryption with its key length.
+#[derive(Clone, Copy, Debug, PartialEq, Eq, Drop)]
+pub enum Suite {
+    /// ChaCha20 and Poly1305 (RFC 8439, 2.8), with a key of 32 bytes.
+    ChaCha20Poly1305,
+    /// AES-GCM (SP 800-38D) with a key of 16 bytes.
+    Aes128Gcm,
+    /// AES-GCM (SP 800-38D) with a key of 24 bytes.
+    Aes192Gcm,
+    /// AES-GCM (SP 800-38D) with a key of 32 bytes.
+    Aes256Gcm,
+    /// AES-GCM-SIV (RFC 8452) with a key of 16 bytes.
+    Aes128GcmSiv,
+    /// AES-GCM-SIV (RFC 8452) with a key of 32 bytes.
+    Aes256GcmSiv,
+}
+
+impl Suite {
+    /// The suite of a name: `chacha20-poly1305`, `aes-128-gcm`, `aes-192-gcm`, `aes-256-gcm`, `aes-128-gcm-siv` or
+    /// `aes-256-gcm-siv`. No other text names one.
+    pub fn named(name: &str) -> Option<Suite>
+        ensures { (suite : Suite) → (result ≡ Some suite) ↔ (name.now ≡ suite_name suite) }
+    {
+        match name {
+            "chacha20-poly1305" => Some(Suite::ChaCha20Poly1305),
+            "aes-128-gcm" => Some(Suite::Aes128Gcm),
+            "aes-192-gcm" => Some(Suite::Aes192Gcm),
+            "aes-256-gcm" => Some(Suite::Aes256Gcm),
+            "aes-128-gcm-siv" => Some(Suite::Aes128GcmSiv),
+            "aes-256-gcm-siv" => Some(Suite::Aes256GcmSiv),
+            _ => None,
+        }
+    }
+
+    // The bytes of a key.
+    pub(crate) fn key_length(self) -> usize
+        ensures { result ≡ key_length self }
+    {
+        match self {
+            Suite::Aes128Gcm | Suite::Aes128GcmSiv => 16,
+            Suite::Aes192Gcm => 24,
+            Suite::ChaCha20Poly1305 | Suite::Aes256Gcm | Suite::Aes256GcmSiv => 32,
+        }
+    }
+
+    // Whether the tag is over the ciphertext.
+    pub(crate) fn is_one_pass(self) -> bool
+        ensures { result ≡ is_one_pass (construction_of self) }
+    {
+        match self {
+            Suite::ChaCha20Poly1305 | Suite::Aes128Gcm | Suite::Aes192Gcm | Suite::Aes256Gcm =>
+                true,
+            Suite::Aes128GcmSiv | Suite::Aes256GcmSiv => false,
+        }
+    }
+
+    // The most bytes of a text.
+    pub(crate) fn text_limit(self) -> u64
+        ensures { result ≡ text_limit self }
+    {
+        match self {
+            Suite::ChaCha20Poly1305 => (1 << 38) - 64,
+            Suite::Aes128Gcm | Suite::Aes192Gcm | Suite::Aes256Gcm => (1 << 36) - 32,
+            Suite::Aes128GcmSiv | Suite::Aes256GcmSiv => 1 << 36,
+        }
+    }
+
+    // The most bytes of associated data.
+    pub(crate) fn aad_limit(self) -> u64
+        ensures { result ≡ aad_limit self }
+    {
+        match self {
+            Suite::ChaCha20Poly1305 => u64::MAX,
+            Suite::Aes128Gcm | Suite::Aes192Gcm | Suite::Aes256Gcm => (1 << 61) - 1,
+            Suite::Aes128GcmSiv | Suite::Aes256GcmSiv => 1 << 36,
+        }
+    }
+}

@@ -1,0 +1,115 @@
+// Sealing and opening into a vector.
+
+ghost use Rattle.std.specs.Prelude.{◌≡◌, ℕ, List, MatchResult};
+ghost use Rattle.aead.specs.Sealing.{Opened};
+ghost use Rattle.aead.specs.Ciphers.{setting};
+ghost use Rattle.aead.specs.AnyCiphers.{keyed_of};
+ghost use Rattle.aead.specs.Refusals.{WholeSealRefused, WholeOpenRefused};
+
+use crate::aead::Aead;
+use crate::any::AnyAead;
+use crate::has_one_text;
+use octets::{Fault, Nonce, Tag};
+use std::alloc::Allocator;
+
+// The ciphertext and the tag.
+fn seal_by<A: Allocator, C: Aead>(
+    alloc: A,
+    cipher: &C,
+    nonce: &Nonce,
+    aad: &[u8],
+    text: &[u8],
+) -> Result<Vec<u8, A>, Fault>
+    ensures { let s = setting (C.keyed cipher.now) nonce.now aad.now in
+        MatchResult result (λ v. Opened s v.items text.now) (λ e. WholeSealRefused s text.now e) }
+{
+    let suite = cipher.suite();
+    if aad.len() as u64 > suite.aad_limit() {
+        return Err(Fault::AadTooLong);
+    }
+    if text.len() as u64 > suite.text_limit() {
+        return Err(Fault::TextTooLong);
+    }
+    let Ok(mut sealed) = Vec::with_capacity(alloc, text.len() + 16) else {
+        return Err(Fault::OutOfMemory);
+    };
+    if sealed.extend_from_slice(text).is_err() {
+        return Err(Fault::OutOfMemory);
+    }
+    let tag = match cipher.seal_in_place(nonce, aad, &mut sealed) {
+        Ok(tag) => tag,
+        Err(fault) => return Err(fault),
+    };
+    if sealed.extend_from_slice(tag.bytes()).is_err() {
+        return Err(Fault::OutOfMemory);
+    }
+    Ok(sealed)
+}
+
+// The text of a ciphertext and its tag.
+fn open_by<A: Allocator, C: Aead>(
+    alloc: A,
+    cipher: &C,
+    nonce: &Nonce,
+    aad: &[u8],
+    sealed: &[u8],
+) -> Result<Vec<u8, A>, Fault>
+    ensures { let s = setting (C.keyed cipher.now) nonce.now aad.now in
+        MatchResult result (λ v. Opened s sealed.now v.items) (λ e. WholeOpenRefused s sealed.now e) }
+{
+    let suite = cipher.suite();
+    if aad.len() as u64 > suite.aad_limit() {
+        return Err(Fault::AadTooLong);
+    }
+    if sealed.len() < 16 {
+        return Err(Fault::TooShort);
+    }
+    let (body, last) = sealed.split_at(sealed.len() - 16);
+    if body.len() as u64 > suite.text_limit() {
+        return Err(Fault::TextTooLong);
+    }
+    let mut tag = [0; 16];
+    tag.copy_from_slice(last);
+    let Ok(mut text) = Vec::from_slice(alloc, body) else {
+        return Err(Fault::OutOfMemory);
+    };
+    match cipher.open_in_place(nonce, aad, &mut text, &Tag::new(tag)) {
+        Ok(()) => Ok(text),
+        Err(fault) => Err(fault),
+    }
+}
+
+/// The sealing of a text under a nonce with associated data: the ciphertext, of the text's length, and the tag of 16
+/// bytes. `AadTooLong`, then `TextTooLong`, where a length in bytes is past the suite's limit, then `OutOfMemory`. The
+/// limits are low enough that any sealing's length is a `usize`.
+pub fn seal<A: Allocator>(
+    alloc: A,
+    cipher: &AnyAead,
+    nonce: &Nonce,
+    aad: &[u8],
+    text: &[u8],
+) -> Result<Vec<u8, A>, Fault>
+    ensures { let s = setting (keyed_of cipher.now) nonce.now aad.now in
+        MatchResult result (λ v. Opened s v.items text.now) (λ e. WholeSealRefused s text.now e) }
+{
+    seal_by(alloc, cipher, nonce, aad, text)
+}
+
+/// The text of a sealing under a nonce with associated data. `AadTooLong` where the data is past the suite's limit, then
+/// `TooShort` for fewer than 16 bytes, then `TextTooLong` where there are more than 16 bytes past the suite's limit of a
+/// text, then `OutOfMemory`, then `TagMismatch` where the bytes are no sealing.
+pub fn open<A: Allocator>(
+    alloc: A,
+    cipher: &AnyAead,
+    nonce: &Nonce,
+    aad: &[u8],
+    sealed: &[u8],
+) -> Result<Vec<u8, A>, Fault>
+    ensures answer { let s = setting (keyed_of cipher.now) nonce.now aad.now in
+        MatchResult result (λ v. Opened s sealed.now v.items) (λ e. WholeOpenRefused s sealed.now e) }
+    ensures found { let s = setting (keyed_of cipher.now) nonce.now aad.now in
+        (text : List ℕ) → Opened s sealed.now text → MatchResult result (λ v. v.items ≡ text) (λ e. e ≡ Fault.OutOfMemory) }
+{
+    has_one_text();
+    open_by(alloc, cipher, nonce, aad, sealed)
+}

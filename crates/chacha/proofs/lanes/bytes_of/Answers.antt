@@ -1,0 +1,5 @@
+use Rattle.chacha.proofs.FourStates.{four_serialized}
+use Rattle.chacha.proofs.lanes.bytes_of.Goals as goal
+
+pub returns : goal.returns
+returns c = four_serialized c.args.lanes c.fits-lanes.0 c.fits-lanes.1

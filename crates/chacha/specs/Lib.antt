@@ -1,0 +1,4 @@
+pub mod Block
+pub mod Stream
+pub mod States
+pub mod Lanes

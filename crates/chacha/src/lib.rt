@@ -1,0 +1,13 @@
+//! ChaCha20 (RFC 8439, 2.1 to 2.4): the block, four blocks at once, and the key stream in pieces.
+#![tactic(auto)]
+
+mod lanes;
+mod single;
+mod state;
+mod stream;
+#[cfg(test)]
+mod tests;
+
+pub use lanes::four_blocks;
+pub use single::block;
+pub use stream::ChaStream;

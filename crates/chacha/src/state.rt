@@ -1,0 +1,48 @@
+// The state from which a block starts.
+
+ghost use Rattle.std.specs.Prelude.{◌≡◌, ◌+◌, ◌*◌, ◌≤◌, length, take, drop};
+ghost use Rattle.octets.specs.Bytes.{le};
+ghost use Rattle.chacha.specs.Block.{initial_state};
+
+use octets::{Key32, Nonce};
+
+// The word that the four bytes from place `4 * i` on spell, lowest byte first.
+#[inline(always)]
+fn word(bytes: &[u8], i: usize) -> u32
+    requires { 4 * i + 4 ≤ length bytes.now }
+    ensures { result ≡ le (take 4 (drop (4 * i) bytes.now)) }
+{
+    u32::from_le_bytes([
+        bytes[4 * i],
+        bytes[4 * i + 1],
+        bytes[4 * i + 2],
+        bytes[4 * i + 3],
+    ])
+}
+
+// Four constants, eight words of the key, the counter, three words of the nonce.
+#[tactic(auto, unfolding(crate::specs::Block::initial_state))]
+pub fn initial_state(key: &Key32, counter: u32, nonce: &Nonce) -> [u32; 16]
+    ensures { result ≡ initial_state key.now counter nonce.now }
+{
+    let key = key.bytes();
+    let nonce = nonce.bytes();
+    [
+        0x6170_7865,
+        0x3320_646e,
+        0x7962_2d32,
+        0x6b20_6574,
+        word(key, 0),
+        word(key, 1),
+        word(key, 2),
+        word(key, 3),
+        word(key, 4),
+        word(key, 5),
+        word(key, 6),
+        word(key, 7),
+        counter,
+        word(nonce, 0),
+        word(nonce, 1),
+        word(nonce, 2),
+    ]
+}

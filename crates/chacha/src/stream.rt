@@ -1,0 +1,86 @@
+// The key stream, in pieces.
+
+ghost use Rattle.std.specs.Prelude.{◌≡◌, ℕ, ◌+◌, ◌*◌, ◌^◌, ◌<◌, ◌≤◌, ◌++◌, List, length, take, drop, MatchResult};
+ghost use Rattle.octets.specs.Masked.{masked};
+ghost use Rattle.chacha.specs.Stream.{key_stream_byte};
+
+use crate::{lanes, single};
+use octets::{Fault, Key32, Nonce, xor_into};
+
+// The end of the key stream from counter 0 on: 2^32 blocks of 64 bytes.
+const END: u64 = 0x40_0000_0000;
+
+/// A ChaCha20 key stream, of which some bytes were made (RFC 8439, 2.4).
+#[derive(Clone, Copy)]
+pub struct ChaStream {
+    key: Key32,
+    nonce: Nonce,
+    // The place of the next byte in the key stream from counter 0 on.
+    place: u64,
+    ghost within: { place ≤ 2 ^ 38 },
+}
+
+impl ChaStream {
+    ghost use Rattle.chacha.specs.States.{Holds, Applied, Refused};
+
+    /// The key stream from the block with counter `first` on (RFC 8439, 2.4). No byte is made yet.
+    pub fn new(key: &Key32, nonce: &Nonce, first: u32) -> ChaStream
+        ensures { Holds result key.now nonce.now first 0 }
+    {
+        ChaStream {
+            key: *key,
+            nonce: *nonce,
+            place: first as u64 * 64,
+        }
+    }
+
+    /// XORs the next bytes of the key stream into `bytes`, of any length (RFC 8439, 2.4). Pieces of
+    /// a text, one call each, give what the whole text gives.
+    ///
+    /// `StreamEnd` comes where a block past counter 2^32 - 1 would be needed, never for no bytes.
+    /// It leaves the stream and the bytes as they were.
+    pub fn apply(&mut self, bytes: &mut [u8]) -> Result<(), Fault>
+        ensures { (key nonce : List ℕ) (first made : ℕ) → Holds self.old key nonce first made
+            → MatchResult result (λ _. Applied self.new key nonce first made bytes.old bytes.new)
+            (λ fault. Refused fault self.old self.new first made bytes.old bytes.new) }
+    {
+        if bytes.len() as u64 > END - self.place {
+            return Err(Fault::StreamEnd);
+        }
+        xor_stream(&self.key, &self.nonce, self.place, bytes);
+        self.place += bytes.len() as u64;
+        Ok(())
+    }
+}
+
+// XORs the key stream from a place of the key stream from counter 0 on.
+fn xor_stream(key: &Key32, nonce: &Nonce, place: u64, bytes: &mut [u8])
+    requires { place + length bytes.old ≤ 2 ^ 38 }
+    ensures { bytes.new ≡ masked (key_stream_byte key.now nonce.now 0) place bytes.old }
+{
+    let mut done = 0;
+    'runs: while done < bytes.len() {
+        done += xor_run(key, nonce, place + done as u64, &mut bytes[done..]);
+    }
+}
+
+// XORs the same into the first bytes, and answers how many they are.
+fn xor_run(key: &Key32, nonce: &Nonce, place: u64, bytes: &mut [u8]) -> usize
+    requires some { 0 < length bytes.old }
+    requires within { place + length bytes.old ≤ 2 ^ 38 }
+    ensures progress { 0 < result }
+    ensures in_range { result ≤ length bytes.old }
+    ensures masked { bytes.new ≡ masked (key_stream_byte key.now nonce.now 0) place (take result bytes.old) ++ drop result bytes.old }
+{
+    let counter = (place / 64) as u32;
+    if place % 64 == 0 && bytes.len() >= 256 {
+        let blocks = lanes::four_blocks(key, counter, nonce);
+        xor_into(&mut bytes[..256], blocks.as_flattened());
+        return 256;
+    }
+    let skip = (place % 64) as usize;
+    let count = (64 - skip).min(bytes.len());
+    let block = single::block(key, counter, nonce);
+    xor_into(&mut bytes[..count], &block[skip..skip + count]);
+    count
+}

@@ -1,0 +1,217 @@
+ghost use Rattle.std.specs.Prelude.{◌<◌};
+
+use super::*;
+use octets::{Fault, Key32, Nonce};
+use rand_chacha::ChaCha20Rng;
+use rand_chacha::rand_core::{Rng, SeedableRng};
+use std::test::Fail;
+
+// 00 01 .. 1f
+const KEY: [u8; 32] = [
+    0x00, 0x01, 0x02, 0x03, 0x04, 0x05, 0x06, 0x07, 0x08, 0x09, 0x0a, 0x0b, 0x0c, 0x0d, 0x0e, 0x0f,
+    0x10, 0x11, 0x12, 0x13, 0x14, 0x15, 0x16, 0x17, 0x18, 0x19, 0x1a, 0x1b, 0x1c, 0x1d, 0x1e, 0x1f,
+];
+
+#[test]
+fn quarter_round_of_the_standard(rt: HostRuntime) {
+    // RFC 8439, 2.1.1
+    let mut state = [0; 16];
+    state[2] = 0x1111_1111;
+    state[7] = 0x0102_0304;
+    state[8] = 0x9b8d_6f43;
+    state[13] = 0x0123_4567;
+    single::quarter_round(&mut state, 2, 7, 8, 13);
+    assert_eq!(rt;
+        state,
+        [
+            0,
+            0,
+            0xea2a_92f4,
+            0,
+            0,
+            0,
+            0,
+            0xcb1c_f8ce,
+            0x4581_472e,
+            0,
+            0,
+            0,
+            0,
+            0x5881_c4bb,
+            0,
+            0,
+        ]
+    );
+}
+
+#[test]
+fn block_of_the_standard(rt: HostRuntime) -> Result<(), Fail> {
+    // RFC 8439, 2.3.2
+    let key = Key32::from_slice(&KEY)?;
+    let nonce = Nonce::from_slice(&[0, 0, 0, 0x09, 0, 0, 0, 0x4a, 0, 0, 0, 0])?;
+    assert_eq!(rt;
+        block(&key, 1, &nonce),
+        [
+            0x10, 0xf1, 0xe7, 0xe4, 0xd1, 0x3b, 0x59, 0x15, 0x50, 0x0f, 0xdd, 0x1f, 0xa3, 0x20,
+            0x71, 0xc4, 0xc7, 0xd1, 0xf4, 0xc7, 0x33, 0xc0, 0x68, 0x03, 0x04, 0x22, 0xaa, 0x9a,
+            0xc3, 0xd4, 0x6c, 0x4e, 0xd2, 0x82, 0x64, 0x46, 0x07, 0x9f, 0xaa, 0x09, 0x14, 0xc2,
+            0xd7, 0x05, 0xd9, 0x8b, 0x02, 0xa2, 0xb5, 0x12, 0x9c, 0xd1, 0xde, 0x16, 0x4e, 0xb9,
+            0xcb, 0xd0, 0x83, 0xe8, 0xa2, 0x50, 0x3c, 0x4e,
+        ]
+    );
+    Ok(())
+}
+
+#[test]
+fn block_of_zeros(rt: HostRuntime) -> Result<(), Fail> {
+    // RFC 8439, A.1, vector 1
+    let key = Key32::from_slice(&[0; 32])?;
+    let nonce = Nonce::from_slice(&[0; 12])?;
+    assert_eq!(rt;
+        block(&key, 0, &nonce),
+        [
+            0x76, 0xb8, 0xe0, 0xad, 0xa0, 0xf1, 0x3d, 0x90, 0x40, 0x5d, 0x6a, 0xe5, 0x53, 0x86,
+            0xbd, 0x28, 0xbd, 0xd2, 0x19, 0xb8, 0xa0, 0x8d, 0xed, 0x1a, 0xa8, 0x36, 0xef, 0xcc,
+            0x8b, 0x77, 0x0d, 0xc7, 0xda, 0x41, 0x59, 0x7c, 0x51, 0x57, 0x48, 0x8d, 0x77, 0x24,
+            0xe0, 0x3f, 0xb8, 0xd8, 0x4a, 0x37, 0x6a, 0x43, 0xb8, 0xf4, 0x15, 0x18, 0xa1, 0x1c,
+            0xc3, 0x87, 0xb6, 0x69, 0xb2, 0xee, 0x65, 0x86,
+        ]
+    );
+    Ok(())
+}
+
+#[test]
+fn blocks_of_another_implementation(rt: HostRuntime) -> Result<(), Fail> {
+    let key = Key32::from_slice(&KEY)?;
+    let nonce = Nonce::from_slice(&[0, 0, 0, 0, 0, 1, 2, 3, 4, 5, 6, 7])?;
+    let mut other = ChaCha20Rng::from_seed(KEY);
+    other.set_stream(0x0706_0504_0302_0100);
+    for counter in [0, 1, u32::MAX] {
+        other.set_word_pos(16 * counter as u128);
+        for word in block(&key, counter, &nonce).chunks(4) {
+            assert_eq!(rt;
+                word,
+                other.next_u32().to_le_bytes().as_slice(),
+                "counter {counter}"
+            );
+        }
+    }
+    Ok(())
+}
+
+// The first 640 bytes of the key stream from a counter on, by single blocks.
+fn ten_blocks(key: &Key32, nonce: &Nonce, first: u32) -> [u8; 640] {
+    let mut bytes = [0; 640];
+    for i in 0..10 {
+        let block = block(key, first.wrapping_add(i as u32), nonce);
+        bytes[64 * i..64 * i + 64].copy_from_slice(&block);
+    }
+    bytes
+}
+
+#[test]
+fn every_length(rt: HostRuntime) -> Result<(), Fail> {
+    let key = Key32::from_slice(&KEY)?;
+    let nonce = Nonce::from_slice(&[7; 12])?;
+    let expected = ten_blocks(&key, &nonce, 0);
+    for n in 0..601 {
+        let mut bytes = [0; 640];
+        ChaStream::new(&key, &nonce, 0).apply(&mut bytes[..n])?;
+        assert_eq!(rt; &bytes[..n], &expected[..n]);
+        assert!(rt; bytes[n..] == [0; 640][n..], "length {n}");
+    }
+    Ok(())
+}
+
+fn pieces(size: usize) -> Result<bool, Fault>
+    requires { 0 < size }
+{
+    let key = Key32::from_slice(&KEY)?;
+    let nonce = Nonce::from_slice(&[7; 12])?;
+    let mut stream = ChaStream::new(&key, &nonce, 0);
+    let mut bytes = [0; 640];
+    for piece in bytes.chunks_mut(size) {
+        stream.apply(piece)?;
+    }
+    Ok(bytes == ten_blocks(&key, &nonce, 0))
+}
+
+#[test]
+fn every_cut(rt: HostRuntime) -> Result<(), Fail> {
+    assert!(rt; pieces(1)?);
+    assert!(rt; pieces(63)?);
+    assert!(rt; pieces(64)?);
+    assert!(rt; pieces(65)?);
+    assert!(rt; pieces(255)?);
+    assert!(rt; pieces(256)?);
+    assert!(rt; pieces(257)?);
+    Ok(())
+}
+
+#[test]
+fn last_block_at_once(rt: HostRuntime) -> Result<(), Fail> {
+    let key = Key32::from_slice(&KEY)?;
+    let nonce = Nonce::from_slice(&[7; 12])?;
+    let mut stream = ChaStream::new(&key, &nonce, u32::MAX);
+    let mut bytes = [0; 64];
+    stream.apply(&mut bytes)?;
+    assert_eq!(rt; bytes, block(&key, u32::MAX, &nonce));
+    let mut more = [9];
+    assert_eq!(rt; stream.apply(&mut more), Err(Fault::StreamEnd));
+    assert_eq!(rt; more, [9]);
+    Ok(())
+}
+
+#[test]
+fn last_block_in_pieces(rt: HostRuntime) -> Result<(), Fail> {
+    let key = Key32::from_slice(&KEY)?;
+    let nonce = Nonce::from_slice(&[7; 12])?;
+    let mut stream = ChaStream::new(&key, &nonce, u32::MAX);
+    let mut bytes = [0; 64];
+    let (front, last) = bytes.split_at_mut(63);
+    stream.apply(front)?;
+    stream.apply(last)?;
+    stream.apply(&mut [])?;
+    assert_eq!(rt; bytes, block(&key, u32::MAX, &nonce));
+    let mut more = [9];
+    assert_eq!(rt; stream.apply(&mut more), Err(Fault::StreamEnd));
+    assert_eq!(rt; more, [9]);
+    stream.apply(&mut [])?;
+    Ok(())
+}
+
+#[test]
+fn past_the_last_block(rt: HostRuntime) -> Result<(), Fail> {
+    let key = Key32::from_slice(&KEY)?;
+    let nonce = Nonce::from_slice(&[7; 12])?;
+    let mut stream = ChaStream::new(&key, &nonce, u32::MAX);
+    let mut long = [9; 65];
+    assert_eq!(rt; stream.apply(&mut long), Err(Fault::StreamEnd));
+    assert_eq!(rt; long, [9; 65]);
+    let mut bytes = [0; 64];
+    stream.apply(&mut bytes)?;
+    assert_eq!(rt; bytes, block(&key, u32::MAX, &nonce));
+    Ok(())
+}
+
+#[test]
+fn last_three_blocks(rt: HostRuntime) -> Result<(), Fail> {
+    let key = Key32::from_slice(&KEY)?;
+    let nonce = Nonce::from_slice(&[7; 12])?;
+    let mut bytes = [0; 192];
+    ChaStream::new(&key, &nonce, u32::MAX - 2).apply(&mut bytes)?;
+    let expected = ten_blocks(&key, &nonce, u32::MAX - 2);
+    assert!(rt; expected.starts_with(&bytes));
+    Ok(())
+}
+
+#[test]
+fn past_the_last_three_blocks(rt: HostRuntime) -> Result<(), Fail> {
+    let key = Key32::from_slice(&KEY)?;
+    let nonce = Nonce::from_slice(&[7; 12])?;
+    let mut stream = ChaStream::new(&key, &nonce, u32::MAX - 2);
+    let mut bytes = [9; 193];
+    assert_eq!(rt; stream.apply(&mut bytes), Err(Fault::StreamEnd));
+    assert_eq!(rt; bytes, [9; 193]);
+    Ok(())
+}
