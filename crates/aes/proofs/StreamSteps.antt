@@ -1,56 +1,41 @@
 -- Streams of counting blocks, one piece after the other.
-use Rattle.std.proofs.Common.{◌≡◌, ℕ, suc, ◌+◌, ◌-◌, ◌/◌, ◌%◌, ◌^◌, ◌<◌, ◌≤◌, List, [], ◌∷◌, ◌++◌, length, take, drop, get_or, bit_xor, refl, sym, ap, ap₂, subst, ◌∙◌, arith, take-add, add-zero}
+use Rattle.std.proofs.Common.{◌≡◌, ℕ, ◌+◌, ◌-◌, ◌/◌, ◌%◌, ◌^◌, ◌<◌, ◌≤◌, List, [], ◌++◌, length, take, drop, get_or, refl, sym, ap, ap₂, subst, ◌∙◌, arith, take-add, add-zero}
 use Rattle.std.proofs.lemmas.List.{take_at, drop_at, take_all, drop_all, drop-drop, length-append, length-take-le, length-drop, get_or-take, get_or-drop, append-nil}
 use Rattle.std.proofs.lemmas.Slice.{take-put_mid, drop-put_mid}
-use Rattle.std.specs.Int.{to_be_bytes, to_le_bytes, from_be_bytes, from_le_bytes, w32}
+use Rattle.std.specs.Int.{bytes_high_first}
 use borrow.Rule.Slice.PartMut.{put_mid}
 use Rattle.octets.specs.Bytes.{xor_bytes, le, be}
 use Rattle.octets.specs.Masked.{masked}
-use Rattle.octets.proofs.Masks.{masked-append}
-use Rattle.octets.proofs.Numbers.{be_is, le_is}
+use Rattle.octets.proofs.Masks.{masked-append, xor_bytes-masked}
+use Rattle.byteorder.specs.Endian.{big_number, big_bytes, little_number, little_bytes}
+use Rattle.octets.proofs.Orders.{big_number_is, little_number_is}
 use Rattle.aes.specs.Cipher.{cipher}
 use Rattle.aes.specs.Counters.{up_be, up_le, counter_byte, WrapsAround}
 use Rattle.aes.specs.Streams.{Makes, Advances}
 use Rattle.aes.specs.declared.counter.Counter.{Counter}
-use Rattle.aes.proofs.Words.{take_four}
 
--- the number in four bytes, counted on and written over them
-pub up_be_written : (b ys : List ℕ) (n j : ℕ) → length b ≡ 16
-    → n ≡ from_be_bytes w32 (get_or b 12 0 ∷ get_or b 13 0 ∷ get_or b 14 0 ∷ get_or b 15 0 ∷ [])
-    → ys ≡ to_be_bytes w32 ((n + j) % 2 ^ 32) → put_mid 12 4 b ys ≡ up_be b j
+-- the number in the last four bytes, counted on and written over them
+pub up_be_written : (b ys : List ℕ) (n j : ℕ) → length b ≡ 16 → n ≡ big_number 4 (take 4 (drop 12 b))
+    → ys ≡ big_bytes 4 ((n + j) % 2 ^ 32) ++ drop 4 (take 4 (drop 12 b)) → put_mid 12 4 b ys ≡ up_be b j
 unfolding up_be
 up_be_written b ys n j long read written =
-    let four : drop 12 b ≡ get_or b 12 0 ∷ get_or b 13 0 ∷ get_or b 14 0 ∷ get_or b 15 0 ∷ [] =
-    sym (take_all 4 (drop 12 b) (omega (arith, length-drop 12 b))) ∙ take_four b 12 (omega arith) in
-    let size : length (drop 12 b) ≡ 4 = length-drop 12 b ∙ omega arith in
-    let number : n ≡ be (drop 12 b) = read ∙ ap (from_be_bytes w32) (sym four) ∙ sym (be_is w32 (drop 12 b) (omega arith) size) in
-    let none : drop 4 (drop 12 b) ≡ [] = drop_all 4 (drop 12 b) (omega arith) in
-    ap (λ x. take 12 b ++ x) (
-    ap (λ x. ys ++ x) none ∙ append-nil ys ∙ written ∙ ap (λ (x : ℕ). to_be_bytes w32 ((x + j) % 2 ^ 32)) number)
+    let last : List ℕ = drop 12 b in
+    let size : length last ≡ 4 = length-drop 12 b ∙ omega arith in
+    let whole : take 4 last ≡ last = take_all 4 last (omega arith) in
+    let none : drop 4 last ≡ [] = drop_all 4 last (omega arith) in
+    let number : n ≡ be last = read ∙ ap (big_number 4) whole ∙ big_number_is 4 last (omega arith) ∙ ap be whole in
+    let bytes : ys ≡ bytes_high_first 4 ((be last + j) % 2 ^ 32) =
+    written ∙ ap (λ x. big_bytes 4 ((n + j) % 2 ^ 32) ++ x) (ap (drop 4) whole ∙ none) ∙ append-nil (big_bytes 4 ((n + j) % 2 ^ 32))
+    ∙ ap (λ (x : ℕ). big_bytes 4 ((x + j) % 2 ^ 32)) number in
+    ap (λ x. take 12 b ++ x) (ap (λ x. ys ++ x) none ∙ append-nil ys ∙ bytes)
 
 -- the same in the first four bytes
-pub up_le_written : (b ys : List ℕ) (n j : ℕ) → length b ≡ 16
-    → n ≡ from_le_bytes w32 (get_or b 0 0 ∷ get_or b 1 0 ∷ get_or b 2 0 ∷ get_or b 3 0 ∷ [])
-    → ys ≡ to_le_bytes w32 ((n + j) % 2 ^ 32) → ys ++ drop 4 b ≡ up_le b j
+pub up_le_written : (b : List ℕ) (n j : ℕ) → length b ≡ 16 → n ≡ little_number 4 b
+    → little_bytes 4 ((n + j) % 2 ^ 32) ++ drop 4 b ≡ up_le b j
 unfolding up_le
-up_le_written b ys n j long read written =
-    let four : take 4 b ≡ get_or b 0 0 ∷ get_or b 1 0 ∷ get_or b 2 0 ∷ get_or b 3 0 ∷ [] = take_four b 0 (omega arith) in
-    let size : length (take 4 b) ≡ 4 = length-take-le 4 b (omega arith) in
-    let number : n ≡ le (take 4 b) = read ∙ ap (from_le_bytes w32) (sym four) ∙ sym (le_is w32 (take 4 b) (omega arith) size) in
-    ap (λ x. x ++ drop 4 b) (written ∙ ap (λ (x : ℕ). to_le_bytes w32 ((x + j) % 2 ^ 32)) number)
-
--- the XOR with bytes of a stream
-xor_bytes-masked : (f : ℕ → ℕ) (at : ℕ) (xs ys : List ℕ) → length xs ≡ length ys
-    → ((i : ℕ) → i < length xs → get_or ys i 0 ≡ f (at + i)) → xor_bytes xs ys ≡ masked f at xs
-unfolding xor_bytes masked
-xor_bytes-masked f at [] ys e same = refl
-xor_bytes-masked f at (x ∷ xs) [] e same = absurd (omega arith)
-xor_bytes-masked f at (x ∷ xs) (y ∷ ys) e same =
-    ap₂ (λ (z : ℕ) (zs : List ℕ). z ∷ zs)
-    (ap (bit_xor x) (same 0 (omega arith) ∙ ap f (add-zero at)))
-    (xor_bytes-masked f (suc at) xs ys (omega arith) (λ i l.
-    let next : at + suc i ≡ suc at + i = omega arith in
-    same (suc i) (omega arith) ∙ ap f next))
+up_le_written b n j long read =
+    let number : n ≡ le (take 4 b) = read ∙ little_number_is 4 b (omega arith) in
+    ap (λ (x : ℕ). little_bytes 4 ((x + j) % 2 ^ 32) ++ drop 4 b) number
 
 -- the XOR with a part of the cipher of one block
 block_masked : (up : List ℕ → ℕ → List ℕ) (key first mask xs : List ℕ) (made used n : ℕ)

@@ -5,6 +5,7 @@ ghost use Rattle.octets.specs.Masked.{masked};
 ghost use Rattle.aes.specs.Counters.{CountsOn, WrapsAround, counter_byte, up_be, up_le, up_be-wraps, up_le-wraps};
 
 use crate::key::AesKey;
+use byteorder::{BigEndian, ByteOrder, LittleEndian};
 use octets::{Block, xor_into};
 use std::marker::PhantomData;
 
@@ -19,9 +20,9 @@ pub fn blocks_count_on()
 fn add_be(first: &[u8; 16], steps: u32) -> [u8; 16]
     ensures { result ≡ up_be first.now steps }
 {
-    let number = u32::from_be_bytes([first[12], first[13], first[14], first[15]]);
+    let number = BigEndian::read_u32(&first[12..]);
     let mut next = *first;
-    next[12..].copy_from_slice(&number.wrapping_add(steps).to_be_bytes());
+    BigEndian::write_u32(&mut next[12..], number.wrapping_add(steps));
     next
 }
 
@@ -29,9 +30,9 @@ fn add_be(first: &[u8; 16], steps: u32) -> [u8; 16]
 fn add_le(first: &[u8; 16], steps: u32) -> [u8; 16]
     ensures { result ≡ up_le first.now steps }
 {
-    let number = u32::from_le_bytes([first[0], first[1], first[2], first[3]]);
+    let number = LittleEndian::read_u32(first);
     let mut next = *first;
-    next[..4].copy_from_slice(&number.wrapping_add(steps).to_le_bytes());
+    LittleEndian::write_u32(&mut next, number.wrapping_add(steps));
     next
 }
 

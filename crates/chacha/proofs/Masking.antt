@@ -7,7 +7,7 @@ use Rattle.std.proofs.Math.Seq.{take-add}
 use borrow.Rule.Slice.PartMut.{put_mid}
 use Rattle.octets.specs.Bytes.{xor_bytes}
 use Rattle.octets.specs.Masked.{masked}
-use Rattle.octets.proofs.Masks.{length-masked, masked-append}
+use Rattle.octets.proofs.Masks.{length-masked, masked-append, xor_bytes-masked}
 use Rattle.chacha.specs.Block.{block}
 use Rattle.chacha.specs.Stream.{key_stream_byte}
 use Rattle.chacha.proofs.Lengths.{length-block}
@@ -25,19 +25,6 @@ masked_same f g p q (x ∷ xs) same =
     let p1 : suc p + j ≡ p + suc j = omega arith in
     let q1 : suc q + j ≡ q + suc j = omega arith in
     ap f p1 ∙ same (suc j) ∙ ap g (sym q1)))
-
--- a list XORed with a part of the stream
-pub xor_bytes-masked : (f : ℕ → ℕ) (p : ℕ) (xs part : List ℕ) → length part ≡ length xs
-    → ((j : ℕ) → j < length xs → get_or part j 0 ≡ f (p + j)) → xor_bytes xs part ≡ masked f p xs
-unfolding masked xor_bytes
-xor_bytes-masked f p [] part len stream = refl
-xor_bytes-masked f p (x ∷ xs) [] len stream = absurd (omega arith)
-xor_bytes-masked f p (x ∷ xs) (y ∷ part) len stream =
-    let p0 : p + 0 ≡ p = omega arith in
-    ap₂ (λ (z : ℕ) (ys : List ℕ). bit_xor x z ∷ ys) (stream 0 (omega arith) ∙ ap f p0)
-    (xor_bytes-masked f (suc p) xs part (omega arith) (λ j l.
-    let p1 : p + suc j ≡ suc p + j = omega arith in
-    stream (suc j) (omega arith) ∙ ap f p1))
 
 -- a part of the block of a place
 pub block_part : (key nonce : List ℕ) (p n : ℕ) (xs : List ℕ) → p % 64 + n ≤ 64 → length xs ≡ n

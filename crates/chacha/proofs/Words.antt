@@ -1,11 +1,9 @@
 -- Words, their sums, and the bytes that they are written to.
-use Rattle.std.proofs.Common.{◌≡◌, ℕ, zero, suc, ◌+◌, ◌%◌, ◌^◌, ◌<◌, ◌≤◌, refl, sym, ap, ◌∙◌, arith}
+use Rattle.std.proofs.Common.{◌≡◌, ℕ, zero, suc, ◌+◌, ◌%◌, ◌^◌, ◌<◌, ◌≤◌, refl, ap, ◌∙◌, arith}
 use Rattle.std.proofs.Common.{List, [], ◌∷◌, ◌++◌, length, length-append, length-drop, take, drop, set, get_or}
 use Rattle.std.proofs.lemmas.List.{take_all, take_more, take_at, drop_more, drop_all, length-take-le, append-nil}
 use Rattle.std.proofs.lemmas.List.Concat.{flat_map-append}
-use Rattle.std.specs.Int.{w32, to_le_bytes, from_le_bytes}
-use Rattle.octets.specs.Bytes.{le}
-use Rattle.octets.proofs.Numbers.{le_is}
+use Rattle.std.specs.Int.{w32, to_le_bytes}
 use Rattle.chacha.specs.Block.{added, serialized}
 
 -- no word is added yet
@@ -52,14 +50,6 @@ four_bytes bytes a h =
     ∙ ap (λ l. b0 ∷ take 3 l) (drop_more bytes (a + 1) 0 (omega arith) ∙ ap (λ (n : ℕ). b1 ∷ drop n bytes) second)
     ∙ ap (λ l. b0 ∷ b1 ∷ take 2 l) (drop_more bytes (a + 2) 0 (omega arith) ∙ ap (λ (n : ℕ). b2 ∷ drop n bytes) third)
     ∙ ap (λ l. b0 ∷ b1 ∷ b2 ∷ take 1 l) (drop_more bytes (a + 3) 0 (omega arith))
-
--- the word that they spell
-pub word_is : (bytes : List ℕ) (a : ℕ) → a + 4 ≤ length bytes
-    → from_le_bytes w32 (get_or bytes a 0 ∷ get_or bytes (a + 1) 0 ∷ get_or bytes (a + 2) 0 ∷ get_or bytes (a + 3) 0 ∷ [])
-    ≡ le (take 4 (drop a bytes))
-word_is bytes a h =
-    sym (ap le (four_bytes bytes a h)
-    ∙ le_is w32 (get_or bytes a 0 ∷ get_or bytes (a + 1) 0 ∷ get_or bytes (a + 2) 0 ∷ get_or bytes (a + 3) 0 ∷ []) (omega arith) refl)
 
 -- a part of a list is put in place of another: the list keeps its length
 pub length-put : (out bytes : List ℕ) (at : ℕ) → at + length bytes ≤ length out

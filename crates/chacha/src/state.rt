@@ -4,6 +4,7 @@ ghost use Rattle.std.specs.Prelude.{◌≡◌, ◌+◌, ◌*◌, ◌≤◌, leng
 ghost use Rattle.octets.specs.Bytes.{le};
 ghost use Rattle.chacha.specs.Block.{initial_state};
 
+use byteorder::{ByteOrder, LittleEndian};
 use octets::{Key32, Nonce};
 
 // The word that the four bytes from place `4 * i` on spell, lowest byte first.
@@ -12,12 +13,7 @@ fn word(bytes: &[u8], i: usize) -> u32
     requires { 4 * i + 4 ≤ length bytes.now }
     ensures { result ≡ le (take 4 (drop (4 * i) bytes.now)) }
 {
-    u32::from_le_bytes([
-        bytes[4 * i],
-        bytes[4 * i + 1],
-        bytes[4 * i + 2],
-        bytes[4 * i + 3],
-    ])
+    LittleEndian::read_u32(&bytes[4 * i..])
 }
 
 // Four constants, eight words of the key, the counter, three words of the nonce.

@@ -10,7 +10,7 @@ use Rattle.octets.proofs.Ring.{product_is, residue_of_lower}
 use Rattle.octets.proofs.Horner.{sum_is, product_swap, product_assoc, product_second, product_one, residue_same, times_same, times_residue}
 use Rattle.octets.proofs.Readings.{v_injective}
 use Rattle.octets.proofs.Spelled.{bytes_of_v_bytes, v_bytes_of}
-use Rattle.octets.proofs.Rest.{block_at-append}
+use Rattle.octets.proofs.Blocks.{block_at-append}
 use Rattle.octets.proofs.Reversal.{none_at, times_power, coefficient_below}
 use Rattle.gf128.specs.Polyval.{polyval_modulus, x_to_128, x_to_minus_128, dot, polyval_sum, polyval, IsDot, IsPolyvalSum, DotIsOne, PolyvalIsOne}
 

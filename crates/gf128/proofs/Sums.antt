@@ -10,7 +10,7 @@ use Rattle.octets.proofs.Ring.{coefficient_sum}
 use Rattle.octets.proofs.Spelled.{bytes_of_g_bytes, g_bytes_of}
 use Rattle.octets.proofs.Horner.{sum_is, times_same, horner}
 use Rattle.octets.proofs.Readings.{g_injective}
-use Rattle.octets.proofs.Rest.{block_at-append}
+use Rattle.octets.proofs.Blocks.{block_at-append}
 use Rattle.gf128.specs.Ghash.{ghash_modulus, ghash_sum, ghash, GhashIsOne}
 use Rattle.gf128.specs.Words.{of_word, IsWordProduct}
 use Rattle.gf128.proofs.WordLemmas.{of_word_xor, of_word_zero, word_product}

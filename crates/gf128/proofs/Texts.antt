@@ -1,9 +1,7 @@
 -- How the sums follow a text as it grows.
-use Rattle.std.proofs.Common.{◌≡◌, ℕ, zero, suc, ◌+◌, ◌-◌, ◌*◌, ◌/◌, ◌%◌, ◌<◌, ◌≤◌, false, List, [], ◌++◌, length, take, drop, get_or, replicate, reverse, bit_xor, inl, inr, refl, sym, ap, ap₂, ◌∙◌, arith}
+use Rattle.std.proofs.Common.{◌≡◌, ℕ, suc, ◌+◌, ◌-◌, ◌*◌, ◌/◌, ◌%◌, ◌<◌, ◌≤◌, false, List, [], length, take, replicate, reverse, bit_xor, inl, inr, sym, ap, ap₂, ◌∙◌, arith}
 use Rattle.std.proofs.lemmas.Bool.{cases_lt}
-use Rattle.std.proofs.lemmas.List.{take_all, drop-drop, length-append, length-replicate, length-reverse, get_or_past, get_or-reverse}
-use Rattle.std.proofs.Math.Seq.{drop-append-add}
-use Rattle.std.specs.Simd.{first_chunks}
+use Rattle.std.proofs.lemmas.List.{take_all, length-append, length-replicate, length-reverse, get_or_past, get_or-reverse}
 use Rattle.octets.specs.Bytes.{block_at, pad16}
 use Rattle.octets.specs.Bits.{g, v}
 use Rattle.octets.specs.Polynomial.{coefficient, plus, sum, Agree}
@@ -14,20 +12,6 @@ use Rattle.gf128.specs.Words.{of_word, IsWordProduct}
 use Rattle.gf128.proofs.WordLemmas.{length-of_word, of_word_xor, of_word_zero, word_product}
 use Rattle.gf128.proofs.Dot.{bits_of_block, dot_turned, mul_x_residue}
 use Rattle.gf128.proofs.PolyvalSums.{polyval_more}
-
--- block i of the blocks that follow whole blocks
-pub next_block : (m x : List ℕ) (i : ℕ) → length m % 16 ≡ 0 → block_at (m ++ x) (length m / 16 + i) ≡ block_at x i
-next_block m x i whole =
-    let at : (length m / 16 + i) * 16 ≡ length m + i * 16 = omega arith in
-    ap (λ (j : ℕ). take 16 (drop j (m ++ x))) at ∙ ap (take 16) (drop-append-add m x (i * 16))
-
--- chunk i of a slice cut into chunks
-pub chunk_at : (n k i : ℕ) (xs : List ℕ) → i < k → get_or (first_chunks n k xs) i [] ≡ take n (drop (i * n) xs)
-chunk_at n zero i xs h = absurd (omega arith)
-chunk_at n (suc k) zero xs h = let e : 0 * n ≡ 0 = omega arith in rw e refl
-chunk_at n (suc k) (suc i) xs h =
-    let e : n + i * n ≡ suc i * n = omega arith in
-    chunk_at n k i (drop n xs) (omega arith) ∙ ap (take n) (drop-drop (i * n) n xs) ∙ ap (λ (j : ℕ). take n (drop j xs)) e
 
 -- a padded text is its whole blocks
 pub padded_whole : (m : List ℕ) → take (length (pad16 m) / 16 * 16) (pad16 m) ≡ pad16 m

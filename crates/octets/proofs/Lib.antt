@@ -1,6 +1,6 @@
 pub mod Sums
 pub mod Numbers
-pub mod Rest
+pub mod Blocks
 pub mod Xors
 pub mod Sequence
 pub mod Residue
@@ -12,3 +12,4 @@ pub mod Horner
 pub mod Reversal
 pub mod Texts
 pub mod Masks
+pub mod Orders

@@ -1,15 +1,14 @@
 -- How the sum follows a text as it grows.
-use Rattle.std.proofs.Common.{◌≡◌, ℕ, zero, suc, ◌+◌, ◌-◌, ◌*◌, ◌/◌, ◌%◌, ◌^◌, ◌<◌, ◌≤◌, List, [], ◌∷◌, ◌++◌, length, take, drop, get_or, set, bit_and, replicate, refl, sym, ap, ◌∙◌, arith}
+use Rattle.std.proofs.Common.{◌≡◌, ℕ, suc, ◌+◌, ◌-◌, ◌*◌, ◌/◌, ◌%◌, ◌^◌, ◌<◌, ◌≤◌, List, [], ◌∷◌, ◌++◌, length, take, drop, get_or, set, bit_and, replicate, refl, sym, ap, ◌∙◌, arith}
 use Rattle.std.proofs.Math.Nat.{mod-add-mod, mod-mod}
 use Rattle.std.proofs.lemmas.Nat.{mul-mod_first, and_mod, and_shr, and_le_r}
-use Rattle.std.proofs.lemmas.List.{take_all, length-take-le, length-drop, drop-drop, take-append-drop, drop-replicate, set_at, length-append, length-replicate}
-use Rattle.std.proofs.Math.Seq.{drop-append-add}
+use Rattle.std.proofs.lemmas.List.{take_all, length-take-le, length-drop, take-append-drop, drop-replicate, set_at, length-append, length-replicate}
 use Rattle.std.specs.Simd.{first_chunks}
 use borrow.Rule.Slice.PartMut.{put_mid, mid_of}
 use Rattle.std.specs.Int.{w128, from_le_bytes}
 use Rattle.octets.specs.Bytes.{le, block_at, block_count}
 use Rattle.octets.proofs.Sums.{sum_below_same, powers_more}
-use Rattle.octets.proofs.Rest.{block_at-append}
+use Rattle.octets.proofs.Blocks.{block_at-append, next_block, chunk_at}
 use Rattle.octets.proofs.Numbers.{le_ended, le_word, power_of_bytes}
 use Rattle.poly1305.specs.Poly1305.{prime, block_number, block_sum, r_of}
 use Rattle.poly1305.specs.Residue.{pair, IsClamped}
@@ -51,21 +50,6 @@ whole_block_taken r f m q i s w v before number same step =
     (step ∙ ap (λ (x : ℕ). x * f % prime) sums ∙ ap (λ (x : ℕ). (s + (w + 1 * 2 ^ 128)) * x % prime) same)
     ∙ ap (λ (x : ℕ). block_sum r m x % prime) next
 
--- block i of the blocks that follow whole blocks
-next_block : (m x : List ℕ) (i : ℕ) → length m % 16 ≡ 0 → (i + 1) * 16 ≤ length x
-    → block_at (m ++ x) (length m / 16 + i) ≡ take 16 (drop (i * 16) x)
-next_block m x i whole room =
-    let at : (length m / 16 + i) * 16 ≡ length m + i * 16 = omega arith in
-    ap (λ (j : ℕ). take 16 (drop j (m ++ x))) at ∙ ap (take 16) (drop-append-add m x (i * 16))
-
--- chunk i of a slice cut into chunks
-chunk_at : (n k i : ℕ) (xs : List ℕ) → i < k → get_or (first_chunks n k xs) i [] ≡ take n (drop (i * n) xs)
-chunk_at n zero i xs h = absurd (omega arith)
-chunk_at n (suc k) zero xs h = let e : 0 * n ≡ 0 = omega arith in rw e refl
-chunk_at n (suc k) (suc i) xs h =
-    let e : n + i * n ≡ suc i * n = omega arith in
-    chunk_at n k i (drop n xs) (omega arith) ∙ ap (take n) (drop-drop (i * n) n xs) ∙ ap (λ (j : ℕ). take n (drop j xs)) e
-
 -- a whole block's number
 whole_number : (b : List ℕ) → length b ≡ 16 → block_number b ≡ from_le_bytes w128 b + 1 * 2 ^ 128
 whole_number b len = rw (len, le_word b len) refl
@@ -79,7 +63,7 @@ whole_block_read m x chunks i w whole room ec ew =
     let n : length b ≡ 16 = length-take-le 16 (drop (i * 16) x) (omega (arith, length-drop (i * 16) x)) in
     let read : get_or chunks i [] ≡ b = ap (λ (y : List (List ℕ)). get_or y i []) ec ∙ chunk_at 16 (length x / 16) i x (omega arith) in
     ap (λ (y : ℕ). y + 1 * 2 ^ 128) (ew ∙ ap (from_le_bytes w128) read) ∙ sym (whole_number b n)
-    ∙ ap block_number (sym (next_block m x i whole room))
+    ∙ ap block_number (sym (next_block m x i whole))
 
 -- a short block with one bit more, as `short_block_number` writes it
 pub ended_block : (buffer ys : List ℕ) (u : ℕ) → u < 16 → length buffer ≡ 16 → ys ≡ mid_of 0 u buffer

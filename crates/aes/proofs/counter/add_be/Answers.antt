@@ -1,8 +1,7 @@
-use Rattle.std.proofs.Common.{◌∙◌, arith}
 use Rattle.aes.proofs.StreamSteps.{up_be_written}
 use Rattle.aes.proofs.counter.add_be.Goals as goal
 
 pub returns : goal.returns
 returns c =
-    up_be_written c.args.first.now c.copy_from_slice.new.self c.from_be_bytes-number.result c.args.steps (omega arith)
-    c.from_be_bytes-number.ensures (c.copy_from_slice.ensures.after ∙ c.to_be_bytes.ensures)
+    up_be_written c.args.first.now c.write_u32.new.buf c.read_u32-number.result c.args.steps c.told-first
+    c.read_u32-number.ensures c.write_u32.ensures

@@ -6,7 +6,7 @@ use Rattle.octets.specs.Bits.{g}
 use Rattle.gf128.specs.Ghash.{ghash_sum}
 use Rattle.gf128.specs.Words.{of_word}
 use Rattle.gf128.proofs.Sums.{ghash_sum-append, ghash_more}
-use Rattle.gf128.proofs.Texts.{next_block, chunk_at}
+use Rattle.octets.proofs.Blocks.{next_block, chunk_at}
 use Rattle.gf128.proofs.ghash.GhashSumAbsorb.absorb.Goals as goal
 
 pub taken-init : goal.taken-init

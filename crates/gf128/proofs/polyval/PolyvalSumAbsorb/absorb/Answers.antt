@@ -5,7 +5,8 @@ use Rattle.octets.specs.Bytes.{block_at}
 use Rattle.octets.specs.Bits.{g}
 use Rattle.gf128.specs.Words.{of_word}
 use Rattle.gf128.proofs.PolyvalSums.{polyval_sum-append}
-use Rattle.gf128.proofs.Texts.{next_block, chunk_at, polyval_taken}
+use Rattle.octets.proofs.Blocks.{next_block, chunk_at}
+use Rattle.gf128.proofs.Texts.{polyval_taken}
 use Rattle.gf128.proofs.polyval.PolyvalSumAbsorb.absorb.Goals as goal
 
 pub taken-init : goal.taken-init

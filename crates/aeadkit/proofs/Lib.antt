@@ -1,0 +1,2 @@
+pub mod AeadLemmas
+pub mod KeywrapLemmas

@@ -1,0 +1,96 @@
+-- What `seal` and `open` answer on a suite's name and values given as digits.
+use Rattle.std.specs.Prelude.{◌≡◌, ◌≢◌, ℕ, ◌⊎◌, List, length, ⊤}
+use Rattle.octets.specs.declared.fault.Fault.{Fault}
+use Rattle.octets.specs.declared.fault.Fault.TheVariants.{KeyLength, NonceLength, OutOfMemory}
+use Rattle.aead.specs.declared.suite.Suite.{Suite}
+use Rattle.aead.specs.Suites.{suite_name, key_length}
+use Rattle.aead.specs.Sealing.{Setting, Opened}
+use Rattle.aead.specs.Ciphers.{Keyed, setting}
+use Rattle.aeadkit.specs.declared.failure.Failure.{Failure}
+use Rattle.aeadkit.specs.declared.failure.Failure.TheVariants.{UnknownSuite, BadHex, Fault as OfFault}
+use Rattle.aeadkit.specs.declared.words.Inputs.{Inputs}
+use Rattle.aeadkit.specs.Hex.{Spells, IsBadHex}
+
+-- the word is the name of a suite
+pub record IsSuite (word : List ℕ) : Type 0 where
+  pub suite : Suite
+  pub is : word ≡ suite_name suite
+
+-- the words name a suite and spell a key, whatever its length, a nonce, associated data, and a text or sealed bytes
+pub record IsSpelled (words : Inputs) (keyed : Keyed) (nonce aad body : List ℕ) : Type 0 where
+  pub suite_is : words.suite.now ≡ suite_name keyed.suite
+  pub key_is : Spells words.key.now keyed.key
+  pub nonce_is : Spells words.nonce.now nonce
+  pub aad_is : Spells words.aad.now aad
+  pub body_is : Spells words.body.now body
+
+-- the same, with the lengths that the suite asks of its key and its nonce
+pub record IsReady (words : Inputs) (keyed : Keyed) (nonce aad body : List ℕ) : Type 0 where
+  pub spelled : IsSpelled words keyed nonce aad body
+  pub key_long : length keyed.key ≡ key_length keyed.suite
+  pub nonce_long : length nonce ≡ 12
+
+-- sealed is the sealing of the text that is spelled
+pub record IsSealed (words : Inputs) (sealed : List ℕ) : Type 0 where
+  pub keyed : Keyed
+  pub nonce : List ℕ
+  pub aad : List ℕ
+  pub text : List ℕ
+  pub ready : IsReady words keyed nonce aad text
+  pub is : Opened (setting keyed nonce aad) sealed text
+
+-- text is what the sealed bytes that are spelled seal
+pub record IsOpened (words : Inputs) (text : List ℕ) : Type 0 where
+  pub keyed : Keyed
+  pub nonce : List ℕ
+  pub aad : List ℕ
+  pub sealed : List ℕ
+  pub ready : IsReady words keyed nonce aad sealed
+  pub is : Opened (setting keyed nonce aad) sealed text
+
+-- the key that is spelled is none of the suite's
+pub record HasWrongKey (words : Inputs) : Type 0 where
+  pub keyed : Keyed
+  pub nonce : List ℕ
+  pub aad : List ℕ
+  pub body : List ℕ
+  pub spelled : IsSpelled words keyed nonce aad body
+  pub key_long : length keyed.key ≢ key_length keyed.suite
+
+-- the key is one of the suite's, and the nonce that is spelled has not 12 bytes
+pub record HasWrongNonce (words : Inputs) : Type 0 where
+  pub keyed : Keyed
+  pub nonce : List ℕ
+  pub aad : List ℕ
+  pub body : List ℕ
+  pub spelled : IsSpelled words keyed nonce aad body
+  pub key_long : length keyed.key ≡ key_length keyed.suite
+  pub nonce_long : length nonce ≢ 12
+
+-- some value is no hex
+abbrev pub HasBadHex : Inputs → Type 0
+HasBadHex words = IsBadHex words.key.now ⊎ (IsBadHex words.nonce.now ⊎ (IsBadHex words.aad.now ⊎ IsBadHex words.body.now))
+
+-- why the words give no inputs of a call
+abbrev pub InputsRefused : Inputs → Failure → Type 0
+InputsRefused words UnknownSuite = ¬ IsSuite words.suite.now
+InputsRefused words BadHex = IsSuite words.suite.now × HasBadHex words
+InputsRefused words (OfFault KeyLength) = HasWrongKey words
+InputsRefused words (OfFault NonceLength) = HasWrongNonce words
+InputsRefused words (OfFault OutOfMemory) = ⊤
+InputsRefused words _ = ⊥
+
+-- the call is refused for the inputs that the words give, by its own rule
+pub record CallRefused (refused : Setting → List ℕ → Fault → Type 0) (words : Inputs) (e : Failure) : Type 0 where
+  pub keyed : Keyed
+  pub nonce : List ℕ
+  pub aad : List ℕ
+  pub body : List ℕ
+  pub ready : IsReady words keyed nonce aad body
+  pub fault : Fault
+  pub is : e ≡ OfFault fault
+  pub why : refused (setting keyed nonce aad) body fault
+
+-- why the words have no answer
+abbrev pub IsRefused : (Setting → List ℕ → Fault → Type 0) → Inputs → Failure → Type 0
+IsRefused refused words e = InputsRefused words e ⊎ CallRefused refused words e

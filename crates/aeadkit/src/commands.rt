@@ -1,0 +1,148 @@
+//! What the commands answer: bytes, for values given as hexadecimal.
+ghost use Rattle.std.specs.Prelude.{◌≡◌, ◌⊎◌, Ok, MatchResult, IfSome};
+ghost use Rattle.keywrap.specs.Refusals.{UnwrapRefused};
+ghost use Rattle.aead.specs.AnyCiphers.{keyed_of};
+ghost use Rattle.aead.specs.Refusals.{WholeSealRefused, WholeOpenRefused};
+ghost use Rattle.aeadkit.specs.Aead.{IsReady, IsSealed, IsOpened, InputsRefused, IsRefused};
+ghost use Rattle.aeadkit.specs.Hex.{Spells, IsBadHex};
+ghost use Rattle.aeadkit.specs.Reports.{IsReportOf, FileRefused};
+ghost use Rattle.aeadkit.specs.Keywrap.{IsWrapped, IsUnwrapped, IsWrapRefused, WrapFault};
+ghost use Rattle.aeadkit.specs.declared.failure.Failure.TheVariants.{BadHex, Fault as OfFault};
+ghost use Rattle.octets.specs.declared.fault.Fault.TheVariants.{OutOfMemory, Read as OfRead};
+
+use crate::failure::{Failure, fault_of};
+use crate::storage::Storage;
+use crate::words::Inputs;
+use aead::{AnyAead, Suite};
+use aes::AesKey;
+use hex::FromHexError;
+use octets::{Fault, Nonce};
+use std::alloc::Allocator;
+use std::io::Read;
+use vectors::Report;
+
+/// The bytes that a value given for hexadecimal spells. `BadHex` where it is not an even number of hex digits.
+fn decoded<A: Allocator>(alloc: A, digits: &str) -> Result<Vec<u8, A>, Failure>
+    ensures { MatchResult result (λ v. Spells digits.now v.items) (λ e. (e ≡ OfFault OutOfMemory) ⊎ ((e ≡ BadHex) × IsBadHex digits.now)) }
+{
+    hex::decode(alloc, digits).map_err(|error| match error {
+        FromHexError::OutOfMemory => Failure::Fault(Fault::OutOfMemory),
+        _ => Failure::BadHex,
+    })
+}
+
+/// `wrap`: the wrapping of a text. In this order: `BadHex` for the key, then for the text, `KeyLength`, and the
+/// refusals of the call.
+pub fn wrap<'a, A: Allocator>(
+    alloc: &'a A,
+    key: &str,
+    text: &str,
+) -> Result<Vec<u8, &'a A>, Failure>
+    ensures { MatchResult result (λ v. IsWrapped key.now text.now v.items) (IsWrapRefused WrapFault key.now text.now) }
+{
+    let key_bytes = decoded(alloc, key)?;
+    let text_bytes = decoded(alloc, text)?;
+    let key = AesKey::from_slice(&key_bytes)?;
+    Ok(keywrap::wrap(alloc, &key, &text_bytes)?)
+}
+
+/// `unwrap`: the text of a wrapping. In this order: `BadHex` for the key, then for the wrapping, `KeyLength`, and the
+/// refusals of the call.
+pub fn unwrap<'a, A: Allocator>(
+    alloc: &'a A,
+    key: &str,
+    sealed: &str,
+) -> Result<Vec<u8, &'a A>, Failure>
+    ensures { MatchResult result (λ v. IsUnwrapped key.now sealed.now v.items) (IsWrapRefused UnwrapRefused key.now sealed.now) }
+{
+    let key_bytes = decoded(alloc, key)?;
+    let sealed_bytes = decoded(alloc, sealed)?;
+    let key = AesKey::from_slice(&key_bytes)?;
+    Ok(keywrap::unwrap(alloc, &key, &sealed_bytes)?)
+}
+
+/// The inputs of a call under a suite.
+#[derive(Drop)]
+struct Prepared<A: Allocator> {
+    cipher: AnyAead,
+    nonce: Nonce,
+    aad: Vec<u8, A>,
+    body: Vec<u8, A>,
+}
+
+/// The inputs that the words give. In this order: `UnknownSuite`, `BadHex` for the key, the nonce, the associated data
+/// and the body, `KeyLength`, `NonceLength`.
+fn prepare<'a, A: Allocator>(alloc: &'a A, words: &Inputs<'_>) -> Result<Prepared<&'a A>, Failure>
+    ensures { MatchResult result (λ p. IsReady words.now (keyed_of p.cipher) p.nonce p.aad.items p.body.items) (InputsRefused words.now) }
+{
+    let Some(suite) = Suite::named(words.suite) else {
+        return Err(Failure::UnknownSuite);
+    };
+    let key = decoded(alloc, words.key)?;
+    let nonce = decoded(alloc, words.nonce)?;
+    let aad = decoded(alloc, words.aad)?;
+    let body = decoded(alloc, words.body)?;
+    Ok(Prepared {
+        cipher: AnyAead::new(suite, &key)?,
+        nonce: Nonce::from_slice(&nonce)?,
+        aad,
+        body,
+    })
+}
+
+/// `seal`: the sealing of a text. The refusals of its inputs come first, then those of the call.
+pub fn seal<'a, A: Allocator>(alloc: &'a A, words: &Inputs<'_>) -> Result<Vec<u8, &'a A>, Failure>
+    ensures { MatchResult result (λ v. IsSealed words.now v.items) (IsRefused WholeSealRefused words.now) }
+{
+    let Prepared {
+        cipher,
+        nonce,
+        aad,
+        body,
+    } = prepare(alloc, words)?;
+    Ok(aead::seal(alloc, &cipher, &nonce, &aad, &body)?)
+}
+
+/// `open`: the text of sealed bytes. The refusals of its inputs come first, then those of the call.
+pub fn open<'a, A: Allocator>(alloc: &'a A, words: &Inputs<'_>) -> Result<Vec<u8, &'a A>, Failure>
+    ensures { MatchResult result (λ v. IsOpened words.now v.items) (IsRefused WholeOpenRefused words.now) }
+{
+    let Prepared {
+        cipher,
+        nonce,
+        aad,
+        body,
+    } = prepare(alloc, words)?;
+    Ok(aead::open(alloc, &cipher, &nonce, &aad, &body)?)
+}
+
+/// The bytes of a file. `Read` where it can't be opened or read, `OutOfMemory` where a growth is refused.
+fn file_bytes<'a, A: Allocator, F: Storage>(
+    alloc: &'a A,
+    files: &F,
+    path: &str,
+) -> Result<Vec<u8, &'a A>, Fault>
+    ensures { MatchResult result (λ v. IfSome (F.contents files.now path.now) (λ bytes. v.items ≡ bytes)) (λ e. (e ≡ OutOfMemory) ⊎ (e ≡ OfRead)) }
+{
+    let mut file = match files.open(path) {
+        Ok(file) => file,
+        Err(error) => return Err(fault_of(&error, Fault::Read)),
+    };
+    let mut bytes = Vec::new(alloc);
+    match file.read_to_end(&mut bytes) {
+        Ok(_) => Ok(bytes),
+        Err(error) => Err(fault_of(&error, Fault::Read)),
+    }
+}
+
+/// `check`: the report of a vector file. The refusals of reading it come first, then the file's first fault.
+pub fn check<'a, A: Allocator, F: Storage>(
+    alloc: &'a A,
+    files: &F,
+    path: &str,
+) -> Result<Report<&'a A>, Failure>
+    ensures { MatchResult result (λ r. IsReportOf (F.contents files.now path.now) r.records r.bad.items) (FileRefused (F.contents files.now path.now)) }
+{
+    let file = file_bytes(alloc, files, path)?;
+    Ok(vectors::check(alloc, &file)?)
+}

@@ -1,0 +1,106 @@
+//! Why the program stops, and with which status.
+ghost use Rattle.std.specs.Prelude.{◌≡◌, ◌≤◌, ◌⊎◌};
+ghost use Rattle.aeadkit.specs.Statuses.{failure_status, fault_status, vector_status};
+ghost use Rattle.aeadkit.specs.declared.failure.Failure.TheVariants.{Fault as OfFault, Vector as OfVector};
+ghost use Rattle.octets.specs.declared.fault.Fault.TheVariants.{OutOfMemory};
+
+use octets::Fault;
+use std::alloc::AllocError;
+use std::io;
+use thiserror::Error;
+use vectors::VectorFault;
+
+/// Why the program stops. `Display` is what stands behind `aeadkit: ` on standard error.
+#[derive(Clone, Copy, Debug, PartialEq, Eq, Drop, Error)]
+pub enum Failure {
+    /// The words are no command line of the program.
+    #[error("Words")]
+    Words,
+    /// The name is no suite's.
+    #[error("UnknownSuite")]
+    UnknownSuite,
+    /// A value given for hexadecimal is not an even number of hex digits.
+    #[error("BadHex")]
+    BadHex,
+    /// A call refused, a reading or a writing failed, or memory was wanting.
+    #[error(transparent)]
+    Fault(Fault),
+    /// A file has no report.
+    #[error(transparent)]
+    Vector(VectorFault),
+}
+
+impl Failure {
+    /// The status that the program ends with, from 1 to 4.
+    pub fn status(self) -> u8
+        ensures value { result ≡ failure_status self }
+        ensures bound { result ≤ 4 }
+    {
+        match self {
+            Failure::Words | Failure::UnknownSuite | Failure::BadHex => 2,
+            Failure::Fault(fault) => fault_status(fault),
+            Failure::Vector(fault) => vector_status(fault),
+        }
+    }
+}
+
+/// The status of a fault.
+fn fault_status(fault: Fault) -> u8
+    ensures { result ≡ fault_status fault }
+{
+    match fault {
+        Fault::TooShort | Fault::TagMismatch | Fault::WrapIntegrity => 1,
+        Fault::KeyLength
+        | Fault::NonceLength
+        | Fault::TextTooLong
+        | Fault::AadTooLong
+        | Fault::WrapLength
+        | Fault::StreamEnd => 2,
+        Fault::Read | Fault::Write | Fault::SourceChanged => 3,
+        Fault::OutOfMemory => 4,
+    }
+}
+
+/// The status of a fault of a vector file.
+fn vector_status(fault: VectorFault) -> u8
+    ensures { result ≡ vector_status fault }
+{
+    match fault {
+        VectorFault::OutOfMemory => 4,
+        _ => 1,
+    }
+}
+
+impl From<Fault> for Failure {
+    ghost from_gives = { λ fault failure. failure ≡ OfFault fault };
+
+    fn from(fault: Fault) -> Failure {
+        Failure::Fault(fault)
+    }
+}
+
+impl From<VectorFault> for Failure {
+    ghost from_gives = { λ fault failure. failure ≡ OfVector fault };
+
+    fn from(fault: VectorFault) -> Failure {
+        Failure::Vector(fault)
+    }
+}
+
+impl From<AllocError> for Failure {
+    ghost from_gives = { λ _ failure. failure ≡ OfFault OutOfMemory };
+
+    fn from(_error: AllocError) -> Failure {
+        Failure::Fault(Fault::OutOfMemory)
+    }
+}
+
+/// What a failed reading or writing comes to: want of memory where that is its kind, and else the given fault.
+pub fn fault_of(error: &io::Error, otherwise: Fault) -> Fault
+    ensures { (result ≡ Fault.OutOfMemory) ⊎ (result ≡ otherwise) }
+{
+    match error.kind() {
+        io::ErrorKind::OutOfMemory => Fault::OutOfMemory,
+        _ => otherwise,
+    }
+}

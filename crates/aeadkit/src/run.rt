@@ -1,0 +1,159 @@
+//! The program, over a writer for each stream.
+ghost use Rattle.std.specs.Prelude.{◌≤◌, ◌≡◌, IfOk, MatchResult, string_bytes};
+ghost use Rattle.std.specs.Io.KnownBytes.{Appends};
+ghost use Rattle.aeadkit.specs.Answers.{Answered, Stopped, IsOutputFailure, IsRefusedAs, HasOutcome, Ends};
+ghost use Rattle.aeadkit.specs.Hex.{hex_line};
+ghost use Rattle.aeadkit.specs.Reports.{report_text};
+ghost use Rattle.aeadkit.specs.Statuses.{failure_status};
+
+use crate::failure::{Failure, fault_of};
+use crate::storage::Storage;
+use crate::words::{Refusal, Request};
+use crate::{commands, words};
+use octets::Fault;
+use std::alloc::{AllocError, Allocator, Global};
+use std::convert::AsStr;
+use std::io::Write;
+
+/// Writes text to standard output, and answers status 0. The only faults are `Write` and `OutOfMemory`.
+fn print<W: Write>(out: &mut W, text: &str) -> Result<u8, Failure>
+    ensures { MatchResult result (λ status. (status ≡ 0) × Appends (W.contents out.old) (W.contents out.new) text.now) IsOutputFailure }
+{
+    if let Err(error) = out.write_all(text.as_bytes()) {
+        return Err(Failure::Fault(fault_of(&error, Fault::Write)));
+    }
+    if let Err(error) = out.flush() {
+        return Err(Failure::Fault(fault_of(&error, Fault::Write)));
+    }
+    Ok(0)
+}
+
+/// Prints bytes as one line of lower-case hexadecimal, and answers status 0. The only faults are `Write` and
+/// `OutOfMemory`.
+fn print_bytes<A: Allocator, W: Write>(alloc: A, out: &mut W, bytes: &[u8]) -> Result<u8, Failure>
+    ensures { MatchResult result (λ status. (status ≡ 0) × Appends (W.contents out.old) (W.contents out.new) (hex_line bytes.now)) IsOutputFailure }
+{
+    let mut line = hex::encode(alloc, bytes)?;
+    line.push('\n')?;
+    print(out, &line)
+}
+
+/// The text of a report: the number of records, then a line for each bad one.
+fn report_text<A: Allocator>(alloc: A, records: u64, bad: &[u64]) -> Result<String<A>, AllocError>
+    ensures { IfOk result (λ text. string_bytes text ≡ report_text records bad.now) }
+{
+    let mut text = String::new(alloc);
+    writeln!(text, "records {records}")?;
+    for number in bad {
+        writeln!(text, "bad {number}")?;
+    }
+    Ok(text)
+}
+
+/// Prints a report. The only faults are `Write` and `OutOfMemory`.
+fn print_report<A: Allocator, W: Write>(
+    alloc: A,
+    out: &mut W,
+    records: u64,
+    bad: &[u64],
+) -> Result<u8, Failure>
+    ensures { MatchResult result (λ status. (status ≡ 0) × Appends (W.contents out.old) (W.contents out.new) (report_text records bad.now)) IsOutputFailure }
+{
+    let text = report_text(alloc, records, bad)?;
+    print(out, &text)
+}
+
+/// Does what a request asks for: prints its answer, and answers the status.
+pub fn perform<A: Allocator, F: Storage, W: Write>(
+    alloc: &A,
+    files: &F,
+    request: &Request<'_>,
+    out: &mut W,
+) -> Result<u8, Failure>
+    ensures answer { MatchResult result (Answered (F.contents files.now) request.now (W.contents out.old) (W.contents out.new)) (Stopped (F.contents files.now) request.now) }
+    ensures status { IfOk result (λ status. status ≤ 1) }
+{
+    match request {
+        Request::Seal(inputs) => {
+            let sealed = commands::seal(alloc, inputs)?;
+            print_bytes(alloc, out, &sealed)
+        }
+        Request::Open(inputs) => {
+            let opened = commands::open(alloc, inputs)?;
+            print_bytes(alloc, out, &opened)
+        }
+        Request::Wrap { key, text } => {
+            let wrapped = commands::wrap(alloc, key, text)?;
+            print_bytes(alloc, out, &wrapped)
+        }
+        Request::Unwrap { key, sealed } => {
+            let text = commands::unwrap(alloc, key, sealed)?;
+            print_bytes(alloc, out, &text)
+        }
+        Request::Check { path } => {
+            let report = commands::check(alloc, files, path)?;
+            let status = if report.yes() { 0 } else { 1 };
+            print_report(alloc, out, report.records, &report.bad)?;
+            Ok(status)
+        }
+    }
+}
+
+/// Prints the help that was asked for, or says why the words are no request.
+fn refuse<W: Write>(alloc: Global, refusal: &Refusal, out: &mut W) -> Result<u8, Failure>
+    ensures answer { IsRefusedAs refusal.now result }
+    ensures status { IfOk result (λ status. status ≤ 1) }
+{
+    match refusal {
+        Refusal::Help(help) => {
+            let text = format!(in alloc; "{help}")?;
+            print(out, &text)
+        }
+        Refusal::Words => Err(Failure::Words),
+        Refusal::OutOfMemory => Err(Failure::Fault(Fault::OutOfMemory)),
+    }
+}
+
+/// Says on standard error why the program stops, and answers the status. A failing standard error changes nothing.
+pub fn report<E: Write>(err: &mut E, failure: Failure) -> u8
+    ensures value { result ≡ failure_status failure }
+    ensures bound { result ≤ 4 }
+{
+    let _ = writeln!(err, "aeadkit: {failure}");
+    failure.status()
+}
+
+/// What the words behind the program's name come to.
+fn answer<S: AsStr, F: Storage, W: Write>(
+    alloc: Global,
+    files: &F,
+    words: &[S],
+    out: &mut W,
+) -> Result<u8, Failure>
+    ensures outcome { HasOutcome (F.contents files.now) (W.contents out.old) (W.contents out.new) result }
+    ensures status { IfOk result (λ status. status ≤ 1) }
+{
+    match words::read(alloc, words) {
+        Ok(request) => perform(&alloc, files, &request, out),
+        Err(refusal) => refuse(alloc, &refusal, out),
+    }
+}
+
+/// Runs the program on the words behind its name, and answers its status: 0 where it is done, 1 where bytes are no
+/// sealing or wrapping, or a vector file has a fault or a bad record, 2 where the words or a value are of no use, 3 where
+/// a reading or a writing failed, 4 for want of memory. A failing standard error changes no status.
+pub fn run<S: AsStr, F: Storage, W: Write, E: Write>(
+    alloc: Global,
+    files: &F,
+    words: &[S],
+    out: &mut W,
+    err: &mut E,
+) -> u8
+    ensures ends { Ends (F.contents files.now) (W.contents out.old) (W.contents out.new) result }
+    ensures bound { result ≤ 4 }
+{
+    match answer(alloc, files, words, out) {
+        Ok(status) => status,
+        Err(failure) => report(err, failure),
+    }
+}

@@ -1,0 +1,106 @@
+//! `check` on vector files.
+use super::devices::{BrokenFiles, Narrow, NoFiles, OneFile};
+use super::runs_over;
+use super::vector_files::{ODD_NONCE, ONE_OF_EIGHTEEN_BAD, TWO_BAD_RECORDS, TWO_RECORDS};
+use crate::run::run;
+use crate::storage::Disk;
+use std::test::Fail;
+use std::{fs, io};
+
+const WORDS: [&str; 2] = ["check", "vectors.txt"];
+
+/// The report of a file, or its first fault.
+#[test]
+fn reports(rt: HostRuntime) {
+    for (file, status, printed, complaint) in [
+        (TWO_RECORDS, 0, "records 2\n", ""),
+        (TWO_BAD_RECORDS, 1, "records 2\nbad 1\nbad 2\n", ""),
+        (ONE_OF_EIGHTEEN_BAD, 1, "records 18\nbad 5\n", ""),
+        ("format = 1", 1, "", "aeadkit: NoRecords\n"),
+        ("", 1, "", "aeadkit: NoRecords\n"),
+        (ODD_NONCE, 1, "", "aeadkit: BadHex at line 4\n"),
+        ("format = 2\n", 1, "", "aeadkit: BadFormat at line 1\n"),
+        (
+            "format = 1\nsuite = des\n",
+            1,
+            "",
+            "aeadkit: UnknownSuite at line 2\n",
+        ),
+        (
+            "format = 1\nsuite = aes-128-wrap\n\n",
+            1,
+            "",
+            "aeadkit: BadLine at line 3\n",
+        ),
+        (
+            "format = 1\nsuite = aes-128-wrap\nkey = 00\n",
+            1,
+            "",
+            "aeadkit: BadLength at line 3\n",
+        ),
+        (
+            "format = 1\nname = x\n",
+            1,
+            "",
+            "aeadkit: WrongName at line 2\n",
+        ),
+        (
+            "format = 1\nsuite = aes-128-wrap\n",
+            1,
+            "",
+            "aeadkit: Unfinished at line 2\n",
+        ),
+    ] {
+        let files = OneFile {
+            file: file.as_bytes(),
+        };
+        runs_over(&rt, &files, &WORDS, status, printed, complaint);
+    }
+}
+
+/// A file that can't be opened or read is `Read`, and want of memory is `OutOfMemory`.
+#[test]
+fn unreadable_files(rt: HostRuntime) {
+    runs_over(&rt, &NoFiles, &WORDS, 3, "", "aeadkit: Read\n");
+    let kind = io::ErrorKind::IsADirectory;
+    for room in [0, 100] {
+        let files = BrokenFiles { room, kind };
+        runs_over(&rt, &files, &WORDS, 3, "", "aeadkit: Read\n");
+    }
+    let kind = io::ErrorKind::OutOfMemory;
+    let files = BrokenFiles { room: 10, kind };
+    runs_over(&rt, &files, &WORDS, 4, "", "aeadkit: OutOfMemory\n");
+}
+
+/// A report that can't be printed is `Write`.
+#[test]
+fn failing_output(rt: HostRuntime) {
+    let files = OneFile {
+        file: TWO_RECORDS.as_bytes(),
+    };
+    let kind = io::ErrorKind::StorageFull;
+    let mut out = Narrow { room: 8, kind };
+    let mut err: Vec<u8> = Vec::new(rt.alloc());
+    let status = run(rt.alloc(), &files, &WORDS, &mut out, &mut err);
+    assert_eq!(rt; status, 3);
+    assert_eq!(rt; err.as_slice(), b"aeadkit: Write\n".as_slice());
+}
+
+/// The same over the system's files, in a folder of the test's own.
+#[test]
+fn system_files(rt: HostRuntime) -> Result<(), Fail> {
+    let folder = "aeadkit_checks";
+    let path = "aeadkit_checks/vectors.txt";
+    let _ = fs::remove_dir_all(&rt, folder);
+    fs::create_dir(&rt, folder)?;
+    fs::write(&rt, path, TWO_BAD_RECORDS)?;
+    let files = Disk::new(&rt);
+    let printed = "records 2\nbad 1\nbad 2\n";
+    runs_over(&rt, &files, &["check", path], 1, printed, "");
+    for unreadable in [folder, "aeadkit_checks/none", ""] {
+        let words = ["check", unreadable];
+        runs_over(&rt, &files, &words, 3, "", "aeadkit: Read\n");
+    }
+    fs::remove_dir_all(&rt, folder)?;
+    Ok(())
+}

@@ -1,0 +1,91 @@
+//! Files in memory, and files and writers that fail.
+ghost use Rattle.std.specs.Prelude.{Some};
+
+use crate::storage::Storage;
+use std::io;
+
+/// One file in memory, at every path.
+#[derive(Drop)]
+pub struct OneFile<'a> {
+    pub file: &'a [u8],
+}
+
+impl<'a> Storage for OneFile<'a> {
+    type Input = &'a [u8];
+
+    ghost contents = { λ s _. Some s.file.now };
+
+    fn open(&self, _path: &str) -> io::Result<&'a [u8]> {
+        Ok(self.file)
+    }
+}
+
+/// No files: each opening fails.
+#[derive(Drop)]
+pub struct NoFiles;
+
+impl Storage for NoFiles {
+    type Input = BrokenFile;
+
+    fn open(&self, _path: &str) -> io::Result<BrokenFile> {
+        Err(io::Error::from(io::ErrorKind::NotFound))
+    }
+}
+
+/// At every path a file whose reading gives these many bytes and then fails.
+#[derive(Drop)]
+pub struct BrokenFiles {
+    pub room: usize,
+    pub kind: io::ErrorKind,
+}
+
+impl Storage for BrokenFiles {
+    type Input = BrokenFile;
+
+    fn open(&self, _path: &str) -> io::Result<BrokenFile> {
+        Ok(BrokenFile {
+            room: self.room,
+            kind: self.kind,
+        })
+    }
+}
+
+/// A file whose reading gives these many bytes and then fails.
+#[derive(Drop)]
+pub struct BrokenFile {
+    room: usize,
+    kind: io::ErrorKind,
+}
+
+impl io::Read for BrokenFile {
+    fn read(&mut self, buf: &mut [u8]) -> io::Result<usize> {
+        let count = self.room.min(buf.len());
+        if count == 0 {
+            return Err(io::Error::from(self.kind));
+        }
+        self.room -= count;
+        Ok(count)
+    }
+}
+
+/// A writer that takes these many bytes and then fails.
+#[derive(Drop)]
+pub struct Narrow {
+    pub room: usize,
+    pub kind: io::ErrorKind,
+}
+
+impl io::Write for Narrow {
+    fn write(&mut self, buf: &[u8]) -> io::Result<usize> {
+        let count = self.room.min(buf.len());
+        if count == 0 {
+            return Err(io::Error::from(self.kind));
+        }
+        self.room -= count;
+        Ok(count)
+    }
+
+    fn flush(&mut self) -> io::Result<()> {
+        Ok(())
+    }
+}

@@ -1,0 +1,74 @@
+//! Words that are no request.
+use super::devices::{Narrow, NoFiles};
+use super::refuses;
+use crate::run::run;
+use std::io;
+
+const KEY: &str = "000102030405060708090a0b0c0d0e0f";
+
+const TEXT: &str = "00112233445566778899aabbccddeeff";
+
+/// What is no command line is refused as `Words`.
+#[test]
+fn refused_words(rt: HostRuntime) {
+    let refused = |words: &[&str]| refuses(&rt, words, 2, "aeadkit: Words\n");
+    refused(&[]);
+    refused(&[""]);
+    refused(&["frob"]);
+    refused(&["wrap"]);
+    refused(&["wrap", "--key", KEY]);
+    refused(&["wrap", "--key", KEY, "--text"]);
+    refused(&["wrap", "--key", KEY, "--key", KEY, "--text", TEXT]);
+    refused(&["wrap", "--key", KEY, "--text", TEXT, "more"]);
+    refused(&["wrap", "--key", KEY, "--sealed", TEXT]);
+    refused(&["unwrap", "--key", KEY, "--text", TEXT]);
+    refused(&["seal", "--suite", "aes-128-gcm", "--key", KEY]);
+    refused(&[
+        "open",
+        "--suite",
+        "aes-128-gcm",
+        "--key",
+        KEY,
+        "--nonce",
+        "",
+    ]);
+    refused(&["check"]);
+    refused(&["check", "a", "b"]);
+    refused(&["seal-file"]);
+    refused(&["open-file", "--help"]);
+    refused(&["help", "frob"]);
+    refused(&["--version"]);
+}
+
+/// Help goes to standard output, with status 0.
+#[test]
+fn help_asked_for(rt: HostRuntime) {
+    for words in [
+        ["--help"].as_slice(),
+        ["-h"].as_slice(),
+        ["help"].as_slice(),
+        ["help", "wrap"].as_slice(),
+        ["help", "check"].as_slice(),
+        ["seal", "--help"].as_slice(),
+        ["unwrap", "--help"].as_slice(),
+        ["wrap", "--key", "0", "-h"].as_slice(),
+    ] {
+        let mut out: Vec<u8> = Vec::new(rt.alloc());
+        let mut err: Vec<u8> = Vec::new(rt.alloc());
+        let status = run(rt.alloc(), &NoFiles, words, &mut out, &mut err);
+        assert_eq!(rt; status, 0, "{words:?}");
+        assert!(rt; !out.is_empty(), "{words:?}");
+        assert!(rt; err.is_empty(), "{words:?}");
+    }
+}
+
+/// Help that can't be written is `Write`.
+#[test]
+fn failing_help(rt: HostRuntime) {
+    let kind = io::ErrorKind::BrokenPipe;
+    let mut out = Narrow { room: 3, kind };
+    let mut err: Vec<u8> = Vec::new(rt.alloc());
+    let status = run(rt.alloc(), &NoFiles, &["--help"], &mut out, &mut err);
+    assert_eq!(rt; status, 3);
+    assert_eq!(rt; err.as_slice(), b"aeadkit: Write\n".as_slice());
+}

@@ -1,0 +1,130 @@
+//! `wrap` and `unwrap` (RFC 3394, section 4).
+use super::devices::{Narrow, NoFiles};
+use super::{prints, refuses};
+use crate::run::run;
+use std::io;
+
+const KEY16: &str = "000102030405060708090a0b0c0d0e0f";
+
+const KEY24: &str = "000102030405060708090a0b0c0d0e0f1011121314151617";
+
+const KEY32: &str = "000102030405060708090a0b0c0d0e0f101112131415161718191a1b1c1d1e1f";
+
+const TEXT: &str = "00112233445566778899aabbccddeeff";
+
+const LONG_TEXT: &str = "00112233445566778899aabbccddeeff0001020304050607";
+
+const WRAPPED: &str = "1fa68b0a8112b447aef34bd8fb5a7b829d3e862371d2cfe5";
+
+/// RFC 3394, sections 4.1 to 4.5, both ways.
+#[test]
+fn standard_vectors(rt: HostRuntime) {
+    for (key, text, wrapped) in [
+        (KEY16, TEXT, WRAPPED),
+        (
+            KEY24,
+            TEXT,
+            "96778b25ae6ca435f92b5b97c050aed2468ab8a17ad84e5d",
+        ),
+        (
+            KEY32,
+            TEXT,
+            "64e8c3f9ce0f5ba263e9777905818a2a93c8191e7d6e8ae7",
+        ),
+        (
+            KEY24,
+            LONG_TEXT,
+            "031d33264e15d33268f24ec260743edce1c6c7ddee725a936ba814915c6762d2",
+        ),
+        (
+            KEY32,
+            LONG_TEXT,
+            "a8f9bc1612c68b3ff6e6f4fbe30e71e4769c8b80a32cb8958cd5d17d6b254da1",
+        ),
+    ] {
+        prints(&rt, &["wrap", "--key", key, "--text", text], wrapped);
+        prints(&rt, &["unwrap", "--key", key, "--sealed", wrapped], text);
+    }
+}
+
+/// The hex of the key comes first, then that of the text, then the key's length, then the text's.
+#[test]
+fn refusals_in_order(rt: HostRuntime) {
+    for (key, body, name) in [
+        ("0", "0", "aeadkit: BadHex\n"),
+        ("0g", "", "aeadkit: BadHex\n"),
+        ("00", "0", "aeadkit: BadHex\n"),
+        ("00", "00", "aeadkit: KeyLength\n"),
+        ("", "", "aeadkit: KeyLength\n"),
+        (KEY16, "0x", "aeadkit: BadHex\n"),
+        (KEY16, "", "aeadkit: WrapLength\n"),
+        (KEY16, "0011223344556677", "aeadkit: WrapLength\n"),
+    ] {
+        refuses(&rt, &["wrap", "--key", key, "--text", body], 2, name);
+        refuses(&rt, &["unwrap", "--key", key, "--sealed", body], 2, name);
+    }
+    let twenty = "00112233445566778899aabbccddeeff00112233";
+    let name = "aeadkit: WrapLength\n";
+    refuses(&rt, &["wrap", "--key", KEY16, "--text", twenty], 2, name);
+    refuses(&rt, &["unwrap", "--key", KEY16, "--sealed", TEXT], 2, name);
+}
+
+/// Changed bytes are no wrapping.
+#[test]
+fn changed_wrapping(rt: HostRuntime) {
+    let changed = "1fa68b0a8112b447aef34bd8fb5a7b829d3e862371d2cfe4";
+    let words = ["unwrap", "--key", KEY16, "--sealed", changed];
+    refuses(&rt, &words, 1, "aeadkit: WrapIntegrity\n");
+}
+
+/// Hex digits may be of either case, and a value may stand behind `=`.
+#[test]
+fn other_spellings(rt: HostRuntime) {
+    prints(
+        &rt,
+        &[
+            "unwrap",
+            "--sealed=1FA68B0A8112B447AEF34BD8FB5A7B829D3E862371D2CFE5",
+            "--key=000102030405060708090A0b0c0d0E0F",
+        ],
+        TEXT,
+    );
+}
+
+/// A failing standard output is `Write`, and one that wants memory is `OutOfMemory`.
+#[test]
+fn failing_output(rt: HostRuntime) {
+    let words = ["wrap", "--key", KEY16, "--text", TEXT];
+    for (kind, status, name) in [
+        (io::ErrorKind::StorageFull, 3, "aeadkit: Write\n"),
+        (io::ErrorKind::OutOfMemory, 4, "aeadkit: OutOfMemory\n"),
+    ] {
+        let mut out = Narrow { room: 5, kind };
+        let mut err: Vec<u8> = Vec::new(rt.alloc());
+        assert_eq!(rt;
+            run(rt.alloc(), &NoFiles, &words, &mut out, &mut err),
+            status
+        );
+        assert_eq!(rt; err.as_slice(), name.as_bytes());
+    }
+}
+
+/// A failing standard error changes no status.
+#[test]
+fn failing_error(rt: HostRuntime) {
+    for (words, status) in [
+        (["wrap", "--key", "0", "--text", ""].as_slice(), 2),
+        (
+            ["unwrap", "--key", KEY16, "--sealed", WRAPPED].as_slice(),
+            0,
+        ),
+    ] {
+        let mut out: Vec<u8> = Vec::new(rt.alloc());
+        let kind = io::ErrorKind::BrokenPipe;
+        let mut err = Narrow { room: 3, kind };
+        assert_eq!(rt;
+            run(rt.alloc(), &NoFiles, words, &mut out, &mut err),
+            status
+        );
+    }
+}

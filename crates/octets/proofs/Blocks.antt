@@ -1,0 +1,26 @@
+-- The blocks of a text as it grows.
+use Rattle.std.proofs.Common.{◌≡◌, ℕ, zero, suc, ◌+◌, ◌*◌, ◌/◌, ◌%◌, ◌<◌, ◌≤◌, List, [], ◌++◌, length, take, drop, get_or, refl, ap, ◌∙◌, arith, length-drop}
+use Rattle.std.proofs.lemmas.List.{take-append-le, drop-append-le, drop-drop}
+use Rattle.std.proofs.Math.Seq.{drop-append-add}
+use Rattle.std.specs.Simd.{first_chunks}
+use Rattle.octets.specs.Bytes.{block_at}
+
+-- a whole block of m is that of a longer text
+pub block_at-append : (m x : List ℕ) (i : ℕ) → (i + 1) * 16 ≤ length m → block_at (m ++ x) i ≡ block_at m i
+block_at-append m x i h =
+    rw (drop-append-le (i * 16) m x (omega arith))
+    (take-append-le 16 (drop (i * 16) m) x (omega (arith, length-drop (i * 16) m)))
+
+-- block i of the blocks that follow whole blocks
+pub next_block : (m x : List ℕ) (i : ℕ) → length m % 16 ≡ 0 → block_at (m ++ x) (length m / 16 + i) ≡ block_at x i
+next_block m x i whole =
+    let at : (length m / 16 + i) * 16 ≡ length m + i * 16 = omega arith in
+    ap (λ (j : ℕ). take 16 (drop j (m ++ x))) at ∙ ap (take 16) (drop-append-add m x (i * 16))
+
+-- chunk i of a slice cut into chunks
+pub chunk_at : (n k i : ℕ) (xs : List ℕ) → i < k → get_or (first_chunks n k xs) i [] ≡ take n (drop (i * n) xs)
+chunk_at n zero i xs h = absurd (omega arith)
+chunk_at n (suc k) zero xs h = let e : 0 * n ≡ 0 = omega arith in rw e refl
+chunk_at n (suc k) (suc i) xs h =
+    let e : n + i * n ≡ suc i * n = omega arith in
+    chunk_at n k i (drop n xs) (omega arith) ∙ ap (take n) (drop-drop (i * n) n xs) ∙ ap (λ (j : ℕ). take n (drop j xs)) e

@@ -1,0 +1,12 @@
+pub mod LineLemmas
+pub mod DigitLemmas
+pub mod FieldLemmas
+pub mod RunLemmas
+pub mod Viable
+pub mod ExpectedLemmas
+pub mod OnlyExpected
+pub mod RowLemmas
+pub mod Sizes
+pub mod Progress
+pub mod Judged
+pub mod AgreeLemmas

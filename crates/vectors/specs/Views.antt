@@ -1,0 +1,39 @@
+-- What the program's values are in the words of the grammar.
+use Rattle.std.specs.Prelude.{◌≡◌, ℕ, List, [], ◌∷◌, Option, Some, None, Result, Ok, Err}
+use Rattle.vectors.specs.declared.digits.Digits.{Digits}
+use Rattle.vectors.specs.declared.place.Entry.{Entry}
+use Rattle.vectors.specs.declared.place.Place.{Place}
+use Rattle.vectors.specs.declared.place.Place.TheVariants.{Format, Between, Key, Nonce, Aad, Sealed, End}
+use Rattle.vectors.specs.declared.fault.Cause.{Cause}
+use Rattle.vectors.specs.Grammar.{Record}
+use Rattle.vectors.specs.Faults.{bytes_of}
+use Rattle.vectors.specs.Steps as steps
+
+-- the bytes that the digits spell
+abbrev pub bytes_in : Digits → List ℕ
+bytes_in d = bytes_of d.text.now
+
+abbrev pub text_view : Option Digits → Option (List ℕ)
+text_view None = None
+text_view (Some t) = Some (bytes_in t)
+
+abbrev pub entry_view : Entry → Record
+entry_view e = record { suite = e.suite; key = bytes_in e.key; nonce = bytes_in e.nonce; aad = bytes_in e.aad; sealed = bytes_in e.sealed; text = text_view e.text }
+
+abbrev pub view : Place → steps.Place
+view Format = steps.format
+view Between = steps.between
+view (Key s) = steps.key s
+view (Nonce s k) = steps.nonce s (bytes_in k)
+view (Aad s k n) = steps.aad s (bytes_in k) (bytes_in n)
+view (Sealed s k n a) = steps.sealed s (bytes_in k) (bytes_in n) (bytes_in a)
+view (End s k n a x) = steps.end s (bytes_in k) (bytes_in n) (bytes_in a) (bytes_in x)
+
+abbrev pub made : Option Entry → List Record
+made None = []
+made (Some e) = entry_view e ∷ []
+
+-- what a call returned, seen by f, is what reading gives
+abbrev pub Gives : {X Y : Type 0} → (X → Y) → Result X Cause → Result Y Cause → Type 0
+Gives f (Ok x) read = read ≡ Ok (f x)
+Gives f (Err e) read = read ≡ Err e

@@ -1,0 +1,59 @@
+// Hexadecimal values.
+ghost use Rattle.std.specs.Prelude.{◌≡◌, true};
+ghost use Rattle.vectors.specs.Faults.{is_hex};
+
+use crate::field::is_hex;
+use hex::FromHexError;
+use std::alloc::{AllocError, Allocator};
+
+/// An even number of hexadecimal digits of either case.
+#[derive(Clone, Copy)]
+pub(crate) struct Digits<'a> {
+    text: &'a [u8],
+    ghost valid: { is_hex text.now ≡ true },
+}
+
+impl<'a> Digits<'a> {
+    ghost use Rattle.std.specs.Prelude.{length, [], IfOk, MatchOption, false};
+    ghost use Rattle.vectors.specs.Faults.{bytes_of};
+    ghost use Rattle.vectors.specs.Views.{bytes_in};
+
+    /// The digits of a value, if it is any.
+    pub fn of(value: &'a [u8]) -> Option<Digits<'a>>
+        ensures { MatchOption result (is_hex value.entry.now ≡ false)
+            (λ d. (is_hex value.entry.now ≡ true) × (bytes_in d ≡ bytes_of value.entry.now)) }
+    {
+        if is_hex(value) {
+            Some(Digits { text: value })
+        } else {
+            None
+        }
+    }
+
+    /// No digits.
+    pub fn none() -> Digits<'a>
+        ensures { bytes_in result ≡ [] }
+    {
+        Digits { text: &[] }
+    }
+
+    /// How many bytes they spell.
+    pub fn byte_count(self) -> usize
+        ensures { result ≡ length (bytes_in self.entry) }
+    {
+        self.text.len() / 2
+    }
+
+    /// The bytes that they spell.
+    pub fn bytes<A: Allocator>(self, alloc: A) -> Result<Vec<u8, A>, AllocError>
+        ensures { IfOk result (λ bytes. bytes.items ≡ bytes_in self.entry) }
+    {
+        match hex::decode(alloc, self.text) {
+            Ok(bytes) => Ok(bytes),
+            Err(fault) => match fault {
+                FromHexError::OutOfMemory => Err(AllocError),
+                _ => unreachable!(),
+            },
+        }
+    }
+}

@@ -1,0 +1,18 @@
+//! Vector files: which records a file lists, and whether each agrees with its standard.
+#![tactic(auto)]
+
+mod agree;
+mod digits;
+mod fault;
+mod field;
+mod lines;
+mod place;
+mod reading;
+mod report;
+mod suite;
+#[cfg(test)]
+mod tests;
+
+pub use fault::VectorFault;
+pub use reading::check;
+pub use report::Report;

@@ -1,0 +1,83 @@
+// A file, read once from its first byte to its last.
+ghost use Rattle.std.specs.Prelude.{◌≡◌, ℕ, List, IfOk, IfErr};
+ghost use Rattle.vectors.specs.Lines.{lines_of};
+ghost use Rattle.vectors.specs.Grammar.{Record, IsFile};
+ghost use Rattle.vectors.specs.Faults.{IsFaultOf, IsFaultAt};
+ghost use Rattle.vectors.specs.Faults as faults;
+ghost use Rattle.vectors.specs.Reports.{IsReport, IsReported};
+
+use crate::fault::{Cause, VectorFault};
+use crate::lines::first_line;
+use crate::place::{Place, step};
+use crate::report::Report;
+use std::alloc::Allocator;
+
+/// The fault at a line.
+fn fault_at(cause: Cause, line: u64) -> VectorFault
+    ensures { (lines : List (List ℕ)) → IsFaultAt lines line cause → IsFaultOf lines result }
+{
+    match cause {
+        Cause::BadFormat => VectorFault::BadFormat(line),
+        Cause::BadLine => VectorFault::BadLine(line),
+        Cause::WrongName => VectorFault::WrongName(line),
+        Cause::UnknownSuite => VectorFault::UnknownSuite(line),
+        Cause::BadHex => VectorFault::BadHex(line),
+        Cause::BadLength => VectorFault::BadLength(line),
+    }
+}
+
+/// Reads a vector file and judges each record as it ends.
+fn read<A: Allocator>(alloc: A, file: &[u8]) -> Result<Report<A>, VectorFault>
+    ensures report { IfOk result (λ report. IsReport (lines_of file.now) report.records report.bad.items) }
+    ensures fault { IfErr result (IsFaultOf (lines_of file.now)) }
+{
+    let mut report = Report {
+        records: 0,
+        bad: Vec::new(alloc),
+    };
+    let mut place = Place::Format;
+    let mut count = 0u64;
+    let mut rest = file;
+    while let Some((line, behind)) = first_line(rest) {
+        count += 1;
+        rest = behind;
+        match step(place, line) {
+            Err(cause) => return Err(fault_at(cause, count)),
+            Ok((next, None)) => place = next,
+            Ok((next, Some(entry))) => {
+                let Ok(()) = report.judge(&entry) else {
+                    return Err(VectorFault::OutOfMemory);
+                };
+                place = next;
+            }
+        }
+    }
+    match place {
+        Place::Format => Err(VectorFault::NoRecords),
+        Place::Between => {
+            if report.records == 0 {
+                Err(VectorFault::NoRecords)
+            } else {
+                Ok(report)
+            }
+        }
+        _ => Err(VectorFault::Unfinished(count)),
+    }
+}
+
+/// The report of a vector file of format 1: how many records it has, and which of them disagree with their standard. The
+/// file is any bytes, and is read once. Where it is not in the grammar the answer is its first fault: the number of a
+/// line is the least one such that the lines up to it can't begin a file. `OutOfMemory` comes only where a growth was
+/// refused in this call; memory is taken for the record that is judged and for the numbers in the report.
+pub fn check<A: Allocator>(alloc: A, file: &[u8]) -> Result<Report<A>, VectorFault>
+    // A report is that of the records which the file's lines make.
+    ensures report { IfOk result (λ report. IsReport (lines_of file.now) report.records report.bad.items) }
+
+    // Anything else is the first fault of the file, at its line.
+    ensures fault { IfErr result (IsFaultOf (lines_of file.now)) }
+
+    // A file in the grammar has a report, or memory was refused.
+    ensures found { (records : List Record) → IsFile (lines_of file.now) records → IsReported result }
+{
+    read(alloc, file)
+}

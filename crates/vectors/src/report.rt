@@ -1,0 +1,54 @@
+// How many records a file has, and which of them disagree.
+ghost use Rattle.std.specs.Prelude.{◌≡◌, ◌↔◌, ◌+◌, ◌<◌, ◌≤◌, ◌^◌, [], ◌∷◌, ◌++◌, OnOk, IsTrue, if◌then◌else◌};
+ghost use Rattle.vectors.specs.Views.{entry_view};
+ghost use Rattle.vectors.specs.Agreement.{IsSized};
+ghost use Rattle.vectors.specs.Reports.{Judges};
+
+use crate::agree::agrees;
+use crate::place::Entry;
+use std::alloc::{AllocError, Allocator};
+
+/// What a vector file lists: how many records, and the numbers, from 1 and rising, of those that disagree with their
+/// standard.
+#[derive(Debug, Drop)]
+pub struct Report<A: Allocator> {
+    /// The number of records.
+    pub records: u64,
+    /// The numbers of the records that disagree.
+    pub bad: Vec<u64, A>,
+}
+
+impl<A: Allocator> Report<A> {
+    /// Counts one more record, and notes its number where it disagrees.
+    pub(crate) fn judge(&mut self, entry: &Entry<'_>) -> Result<(), AllocError>
+        requires room { self.old.records + 1 < 2 ^ 64 }
+        requires sized { IsSized (entry_view entry.now) }
+        ensures { OnOk result (Judges self.old.records self.old.bad.items (entry_view entry.now)
+            self.new.records self.new.bad.items) }
+    {
+        let agrees = agrees(self.bad.allocator(), entry)?;
+        self.count(agrees)
+    }
+
+    /// Counts one more record, which agrees or disagrees.
+    fn count(&mut self, agrees: bool) -> Result<(), AllocError>
+        requires { self.old.records + 1 < 2 ^ 64 }
+        ensures records { OnOk result (self.new.records ≡ self.old.records + 1) }
+        ensures bad { OnOk result (self.new.bad.items
+            ≡ (if agrees then self.old.bad.items else self.old.bad.items ++ (self.old.records + 1) ∷ [])) }
+    {
+        let number = self.records + 1;
+        if !agrees {
+            self.bad.push(number)?;
+        }
+        self.records = number;
+        Ok(())
+    }
+
+    /// Whether there is at least one record, and each agrees with its standard.
+    pub fn yes(&self) -> bool
+        ensures { IsTrue result ↔ ((1 ≤ self.now.records) × (self.now.bad.items ≡ [])) }
+    {
+        self.records >= 1 && self.bad.is_empty()
+    }
+}
