@@ -1,7 +1,7 @@
 -- The statuses that the program ends with.
 use Rattle.std.specs.Prelude.{ℕ}
 use Rattle.octets.specs.declared.fault.Fault.{Fault}
-use Rattle.octets.specs.declared.fault.Fault.TheVariants.{KeyLength, NonceLength, TextTooLong, AadTooLong, TooShort, TagMismatch, WrapLength, WrapIntegrity, OutOfMemory, StreamEnd, Read, Write, SourceChanged}
+use Rattle.octets.specs.declared.fault.Fault.TheVariants as fault
 use Rattle.vectors.specs.declared.fault.VectorFault.{VectorFault}
 use Rattle.vectors.specs.declared.fault.VectorFault.TheVariants as vector
 use Rattle.aeadkit.specs.declared.failure.Failure.{Failure}
@@ -9,19 +9,19 @@ use Rattle.aeadkit.specs.declared.failure.Failure.TheVariants.{Words, UnknownSui
 
 -- 1: the bytes are no sealing or wrapping; 2: an input is of no use; 3: a reading or a writing failed; 4: want of memory
 abbrev pub fault_status : Fault → ℕ
-fault_status TooShort = 1
-fault_status TagMismatch = 1
-fault_status WrapIntegrity = 1
-fault_status KeyLength = 2
-fault_status NonceLength = 2
-fault_status TextTooLong = 2
-fault_status AadTooLong = 2
-fault_status WrapLength = 2
-fault_status StreamEnd = 2
-fault_status Read = 3
-fault_status Write = 3
-fault_status SourceChanged = 3
-fault_status OutOfMemory = 4
+fault_status fault.TooShort = 1
+fault_status fault.TagMismatch = 1
+fault_status fault.WrapIntegrity = 1
+fault_status fault.KeyLength = 2
+fault_status fault.NonceLength = 2
+fault_status fault.TextTooLong = 2
+fault_status fault.AadTooLong = 2
+fault_status fault.WrapLength = 2
+fault_status fault.StreamEnd = 2
+fault_status fault.Read = 3
+fault_status fault.Write = 3
+fault_status fault.SourceChanged = 3
+fault_status fault.OutOfMemory = 4
 
 -- a file that is no vector file has status 1
 abbrev pub vector_status : VectorFault → ℕ
@@ -33,5 +33,5 @@ abbrev pub failure_status : Failure → ℕ
 failure_status Words = 2
 failure_status UnknownSuite = 2
 failure_status BadHex = 2
-failure_status (OfFault fault) = fault_status fault
-failure_status (OfVector fault) = vector_status fault
+failure_status (OfFault f) = fault_status f
+failure_status (OfVector f) = vector_status f

@@ -23,7 +23,8 @@ use vectors::Report;
 
 /// The bytes that a value given for hexadecimal spells. `BadHex` where it is not an even number of hex digits.
 fn decoded<A: Allocator>(alloc: A, digits: &str) -> Result<Vec<u8, A>, Failure>
-    ensures { MatchResult result (λ v. Spells digits.now v.items) (λ e. (e ≡ OfFault OutOfMemory) ⊎ ((e ≡ BadHex) × IsBadHex digits.now)) }
+    ensures { MatchResult result (λ v. Spells digits.now v.items)
+        (λ e. (e ≡ OfFault OutOfMemory) ⊎ ((e ≡ BadHex) × IsBadHex digits.now)) }
 {
     hex::decode(alloc, digits).map_err(|error| match error {
         FromHexError::OutOfMemory => Failure::Fault(Fault::OutOfMemory),
@@ -38,7 +39,8 @@ pub fn wrap<'a, A: Allocator>(
     key: &str,
     text: &str,
 ) -> Result<Vec<u8, &'a A>, Failure>
-    ensures { MatchResult result (λ v. IsWrapped key.now text.now v.items) (IsWrapRefused WrapFault key.now text.now) }
+    ensures { MatchResult result (λ v. IsWrapped key.now text.now v.items)
+        (IsWrapRefused WrapFault key.now text.now) }
 {
     let key_bytes = decoded(alloc, key)?;
     let text_bytes = decoded(alloc, text)?;
@@ -53,7 +55,8 @@ pub fn unwrap<'a, A: Allocator>(
     key: &str,
     sealed: &str,
 ) -> Result<Vec<u8, &'a A>, Failure>
-    ensures { MatchResult result (λ v. IsUnwrapped key.now sealed.now v.items) (IsWrapRefused UnwrapRefused key.now sealed.now) }
+    ensures { MatchResult result (λ v. IsUnwrapped key.now sealed.now v.items)
+        (IsWrapRefused UnwrapRefused key.now sealed.now) }
 {
     let key_bytes = decoded(alloc, key)?;
     let sealed_bytes = decoded(alloc, sealed)?;
@@ -73,7 +76,9 @@ struct Prepared<A: Allocator> {
 /// The inputs that the words give. In this order: `UnknownSuite`, `BadHex` for the key, the nonce, the associated data
 /// and the body, `KeyLength`, `NonceLength`.
 fn prepare<'a, A: Allocator>(alloc: &'a A, words: &Inputs<'_>) -> Result<Prepared<&'a A>, Failure>
-    ensures { MatchResult result (λ p. IsReady words.now (keyed_of p.cipher) p.nonce p.aad.items p.body.items) (InputsRefused words.now) }
+    ensures { MatchResult result
+        (λ p. IsReady words.now (keyed_of p.cipher) p.nonce p.aad.items p.body.items)
+        (InputsRefused words.now) }
 {
     let Some(suite) = Suite::named(words.suite) else {
         return Err(Failure::UnknownSuite);
@@ -122,7 +127,9 @@ fn file_bytes<'a, A: Allocator, F: Storage>(
     files: &F,
     path: &str,
 ) -> Result<Vec<u8, &'a A>, Fault>
-    ensures { MatchResult result (λ v. IfSome (F.contents files.now path.now) (λ bytes. v.items ≡ bytes)) (λ e. (e ≡ OutOfMemory) ⊎ (e ≡ OfRead)) }
+    ensures { MatchResult result
+        (λ v. IfSome (F.contents files.now path.now) (λ bytes. v.items ≡ bytes))
+        (λ e. (e ≡ OutOfMemory) ⊎ (e ≡ OfRead)) }
 {
     let mut file = match files.open(path) {
         Ok(file) => file,
@@ -141,7 +148,9 @@ pub fn check<'a, A: Allocator, F: Storage>(
     files: &F,
     path: &str,
 ) -> Result<Report<&'a A>, Failure>
-    ensures { MatchResult result (λ r. IsReportOf (F.contents files.now path.now) r.records r.bad.items) (FileRefused (F.contents files.now path.now)) }
+    ensures { MatchResult result
+        (λ r. IsReportOf (F.contents files.now path.now) r.records r.bad.items)
+        (FileRefused (F.contents files.now path.now)) }
 {
     let file = file_bytes(alloc, files, path)?;
     Ok(vectors::check(alloc, &file)?)

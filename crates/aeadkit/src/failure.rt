@@ -1,5 +1,6 @@
 //! Why the program stops, and with which status.
 ghost use Rattle.std.specs.Prelude.{◌≡◌, ◌≤◌, ◌⊎◌};
+ghost use Rattle.std.specs.IoError.{error_kind};
 ghost use Rattle.aeadkit.specs.Statuses.{failure_status, fault_status, vector_status};
 ghost use Rattle.aeadkit.specs.declared.failure.Failure.TheVariants.{Fault as OfFault, Vector as OfVector};
 ghost use Rattle.octets.specs.declared.fault.Fault.TheVariants.{OutOfMemory};
@@ -7,6 +8,7 @@ ghost use Rattle.octets.specs.declared.fault.Fault.TheVariants.{OutOfMemory};
 use octets::Fault;
 use std::alloc::AllocError;
 use std::io;
+use std::io::ErrorKind;
 use thiserror::Error;
 use vectors::VectorFault;
 
@@ -97,10 +99,11 @@ impl From<AllocError> for Failure {
 
 /// What a failed reading or writing comes to: want of memory where that is its kind, and else the given fault.
 pub fn fault_of(error: &io::Error, otherwise: Fault) -> Fault
-    ensures { (result ≡ Fault.OutOfMemory) ⊎ (result ≡ otherwise) }
+    ensures memory { error_kind error.now ≡ ErrorKind.OutOfMemory → result ≡ Fault.OutOfMemory }
+    ensures either { (result ≡ Fault.OutOfMemory) ⊎ (result ≡ otherwise) }
 {
     match error.kind() {
-        io::ErrorKind::OutOfMemory => Fault::OutOfMemory,
+        ErrorKind::OutOfMemory => Fault::OutOfMemory,
         _ => otherwise,
     }
 }

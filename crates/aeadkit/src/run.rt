@@ -17,7 +17,9 @@ use std::io::Write;
 
 /// Writes text to standard output, and answers status 0. The only faults are `Write` and `OutOfMemory`.
 fn print<W: Write>(out: &mut W, text: &str) -> Result<u8, Failure>
-    ensures { MatchResult result (λ status. (status ≡ 0) × Appends (W.contents out.old) (W.contents out.new) text.now) IsOutputFailure }
+    ensures { MatchResult result
+        (λ status. (status ≡ 0) × Appends (W.contents out.old) (W.contents out.new) text.now)
+        IsOutputFailure }
 {
     if let Err(error) = out.write_all(text.as_bytes()) {
         return Err(Failure::Fault(fault_of(&error, Fault::Write)));
@@ -31,7 +33,9 @@ fn print<W: Write>(out: &mut W, text: &str) -> Result<u8, Failure>
 /// Prints bytes as one line of lower-case hexadecimal, and answers status 0. The only faults are `Write` and
 /// `OutOfMemory`.
 fn print_bytes<A: Allocator, W: Write>(alloc: A, out: &mut W, bytes: &[u8]) -> Result<u8, Failure>
-    ensures { MatchResult result (λ status. (status ≡ 0) × Appends (W.contents out.old) (W.contents out.new) (hex_line bytes.now)) IsOutputFailure }
+    ensures { MatchResult result
+        (λ status. (status ≡ 0) × Appends (W.contents out.old) (W.contents out.new) (hex_line bytes.now))
+        IsOutputFailure }
 {
     let mut line = hex::encode(alloc, bytes)?;
     line.push('\n')?;
@@ -57,20 +61,26 @@ fn print_report<A: Allocator, W: Write>(
     records: u64,
     bad: &[u64],
 ) -> Result<u8, Failure>
-    ensures { MatchResult result (λ status. (status ≡ 0) × Appends (W.contents out.old) (W.contents out.new) (report_text records bad.now)) IsOutputFailure }
+    ensures { MatchResult result
+        (λ status. (status ≡ 0) × Appends (W.contents out.old) (W.contents out.new) (report_text records bad.now))
+        IsOutputFailure }
 {
     let text = report_text(alloc, records, bad)?;
     print(out, &text)
 }
 
-/// Does what a request asks for: prints its answer, and answers the status.
+/// Does what a request asks for: prints its answer, and answers the status, 0 or for a file with bad records 1. In this
+/// order: the refusals of its values, those of the call, `Write`; `OutOfMemory` wherever a growth is refused.
 pub fn perform<A: Allocator, F: Storage, W: Write>(
     alloc: &A,
     files: &F,
     request: &Request<'_>,
     out: &mut W,
 ) -> Result<u8, Failure>
-    ensures answer { MatchResult result (Answered (F.contents files.now) request.now (W.contents out.old) (W.contents out.new)) (Stopped (F.contents files.now) request.now) }
+    // At Ok the answer is right and was printed; else the failure is one that the request has.
+    ensures answer { MatchResult result
+        (Answered (F.contents files.now) request.now (W.contents out.old) (W.contents out.new))
+        (Stopped (F.contents files.now) request.now) }
     ensures status { IfOk result (λ status. status ≤ 1) }
 {
     match request {
@@ -149,6 +159,7 @@ pub fn run<S: AsStr, F: Storage, W: Write, E: Write>(
     out: &mut W,
     err: &mut E,
 ) -> u8
+    // Whatever the words, it ends as some request does, or as help or a refusal of the words.
     ensures ends { Ends (F.contents files.now) (W.contents out.old) (W.contents out.new) result }
     ensures bound { result ≤ 4 }
 {

@@ -16,7 +16,8 @@ pub trait Storage {
 
     /// Opens a file for reading, at its beginning.
     fn open(&self, path: &str) -> io::Result<Self::Input>
-        ensures { IfOk result (λ input. IfSome (contents self.now path.now) (λ bytes. Self.Input.remaining input ≡ Some bytes)) };
+        ensures { IfOk result (λ input.
+            IfSome (contents self.now path.now) (λ bytes. Self.Input.remaining input ≡ Some bytes)) };
 }
 
 /// The files of the system.

@@ -3,6 +3,7 @@ mod checks;
 mod devices;
 mod growths;
 mod helps;
+mod published;
 mod seals;
 mod vector_files;
 mod wraps;

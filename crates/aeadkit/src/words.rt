@@ -28,6 +28,9 @@ const SEALED: &str = "sealed";
 
 const FILE: &str = "file";
 
+const SUITES: &str =
+    "chacha20-poly1305, aes-128-gcm, aes-192-gcm, aes-256-gcm, aes-128-gcm-siv or aes-256-gcm-siv";
+
 /// A suite's name and the inputs of a call, each as it was written; the body is a text or sealed bytes.
 #[derive(Drop)]
 pub struct Inputs<'a> {
@@ -87,8 +90,12 @@ fn under_suite<'a>(
 ) -> Result<Command<'a>, AllocError> {
     Command::new(alloc, name)
         .about(about)
-        .arg(option(alloc, SUITE, "SUITE", "The suite's name"))?
-        .arg(hex_option(alloc, KEY, "The key, as long as the suite's"))?
+        .arg(option(alloc, SUITE, "SUITE", SUITES))?
+        .arg(hex_option(
+            alloc,
+            KEY,
+            "The key: as many bytes as the suite's keys have",
+        ))?
         .arg(hex_option(alloc, NONCE, "The nonce: 12 bytes"))?
         .arg(hex_option(alloc, AAD, "The associated data").required(false))
 }

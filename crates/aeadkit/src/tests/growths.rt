@@ -1,5 +1,6 @@
 //! Each growth is refused in turn, and the answer is `OutOfMemory` each time.
 use super::devices::{NoFiles, OneFile};
+use super::published::{CHACHA, GCM, GCM_SIV, Vector};
 use super::vector_files::TWO_RECORDS;
 use crate::run::{perform, report, run};
 use crate::storage::Storage;
@@ -79,33 +80,33 @@ fn unwrap(rt: HostRuntime) -> Result<(), Fail> {
     performs(&rt, &NoFiles, &request, TEXT)
 }
 
-/// RFC 8439, section 2.8.2.
-const SEAL_KEY: &str = "808182838485868788898a8b8c8d8e8f909192939495969798999a9b9c9d9e9f";
-
-const SEAL_TEXT: &str =
-    "4c616469657320616e642047656e746c656d656e206f662074686520636c617373206f66202739393a204966204920636f756c64206f6666657220796f75206f6e6c79206f6e652074697020666f7220746865206675747572652c2073756e73637265656e20776f756c642062652069742e";
-
-const SEALED: &str =
-    "d31a8d34648e60db7b86afbc53ef7ec2a4aded51296e08fea9e2b5a736ee62d63dbea45e8ca9671282fafb69da92728b1a71de0a9e060b2905d6a5b67ecd3b3692ddbd7f2d778b8c9803aee328091b58fab324e4fad675945585808b4831d7bc3ff4def08e4b7a9de576d26586cec64b61161ae10b594f09e26a7e902ecbd0600691";
-
-fn inputs<'a>(body: &'a str) -> Inputs<'a> {
+/// The inputs of a vector, with a body.
+fn inputs<'a>(vector: &Vector<'a>, body: &'a str) -> Inputs<'a> {
     Inputs {
-        suite: "chacha20-poly1305",
-        key: SEAL_KEY,
-        nonce: "070000004041424344454647",
-        aad: "50515253c0c1c2c3c4c5c6c7",
+        suite: vector.suite,
+        key: vector.key,
+        nonce: vector.nonce,
+        aad: vector.aad,
         body,
     }
 }
 
 #[test]
 fn seal(rt: HostRuntime) -> Result<(), Fail> {
-    performs(&rt, &NoFiles, &Request::Seal(inputs(SEAL_TEXT)), SEALED)
+    for vector in [CHACHA, GCM, GCM_SIV] {
+        let request = Request::Seal(inputs(&vector, vector.text));
+        performs(&rt, &NoFiles, &request, vector.sealed)?;
+    }
+    Ok(())
 }
 
 #[test]
 fn open(rt: HostRuntime) -> Result<(), Fail> {
-    performs(&rt, &NoFiles, &Request::Open(inputs(SEALED)), SEAL_TEXT)
+    for vector in [CHACHA, GCM, GCM_SIV] {
+        let request = Request::Open(inputs(&vector, vector.sealed));
+        performs(&rt, &NoFiles, &request, vector.text)?;
+    }
+    Ok(())
 }
 
 #[test]

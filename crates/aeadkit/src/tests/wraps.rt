@@ -1,47 +1,25 @@
 //! `wrap` and `unwrap` (RFC 3394, section 4).
 use super::devices::{Narrow, NoFiles};
+use super::published::{WRAPPINGS, Wrapping};
 use super::{prints, refuses};
 use crate::run::run;
 use std::io;
 
 const KEY16: &str = "000102030405060708090a0b0c0d0e0f";
 
-const KEY24: &str = "000102030405060708090a0b0c0d0e0f1011121314151617";
-
-const KEY32: &str = "000102030405060708090a0b0c0d0e0f101112131415161718191a1b1c1d1e1f";
-
 const TEXT: &str = "00112233445566778899aabbccddeeff";
-
-const LONG_TEXT: &str = "00112233445566778899aabbccddeeff0001020304050607";
 
 const WRAPPED: &str = "1fa68b0a8112b447aef34bd8fb5a7b829d3e862371d2cfe5";
 
-/// RFC 3394, sections 4.1 to 4.5, both ways.
+/// RFC 3394, sections 4.1 to 4.6, both ways.
 #[test]
 fn standard_vectors(rt: HostRuntime) {
-    for (key, text, wrapped) in [
-        (KEY16, TEXT, WRAPPED),
-        (
-            KEY24,
-            TEXT,
-            "96778b25ae6ca435f92b5b97c050aed2468ab8a17ad84e5d",
-        ),
-        (
-            KEY32,
-            TEXT,
-            "64e8c3f9ce0f5ba263e9777905818a2a93c8191e7d6e8ae7",
-        ),
-        (
-            KEY24,
-            LONG_TEXT,
-            "031d33264e15d33268f24ec260743edce1c6c7ddee725a936ba814915c6762d2",
-        ),
-        (
-            KEY32,
-            LONG_TEXT,
-            "a8f9bc1612c68b3ff6e6f4fbe30e71e4769c8b80a32cb8958cd5d17d6b254da1",
-        ),
-    ] {
+    for Wrapping {
+        key,
+        text,
+        wrapped,
+        ..
+    } in WRAPPINGS {
         prints(&rt, &["wrap", "--key", key, "--text", text], wrapped);
         prints(&rt, &["unwrap", "--key", key, "--sealed", wrapped], text);
     }
