@@ -13,3 +13,4 @@ pub mod Reversal
 pub mod Texts
 pub mod Masks
 pub mod Orders
+pub mod Devices

@@ -3,3 +3,4 @@ pub mod Bits
 pub mod Polynomial
 pub mod Masked
 pub mod Pieces
+pub mod Device

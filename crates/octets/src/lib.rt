@@ -1,19 +1,29 @@
-//! Bytes, blocks, keys and faults, and polynomials over two elements: what every layer above speaks of.
+//! Bytes, blocks, keys, faults and devices, and polynomials over two elements: what every layer above speaks of.
 #![tactic(auto)]
 
 ghost use Rattle.octets.specs.Polynomial.{EachHasOneResidue};
 
 mod bytes;
 mod compare;
+mod device;
 mod fault;
+mod memory;
 mod pieces;
+mod script;
+mod std_io;
 #[cfg(test)]
 mod tests;
+mod transfer;
 
 pub use bytes::{Block, Key16, Key24, Key32, Nonce, Tag, are_bytes};
 pub use compare::{same, xor_into, xored};
+pub use device::{DeviceFault, Intake, Outlet};
 pub use fault::Fault;
+pub use memory::{SliceIntake, VecOutlet};
 pub use pieces::{Absorb, Pieces};
+pub use script::{ScriptIntake, ScriptOutlet, Step};
+pub use std_io::{FromRead, ToWrite};
+pub use transfer::{fill, give_all};
 
 /// Every polynomial has exactly one residue modulo a polynomial of degree at least 1.
 pub fn each_has_one_residue()

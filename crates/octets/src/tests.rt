@@ -47,3 +47,20 @@ fn a_fault_shows_its_name(rt: HostRuntime) -> Result<(), Fail> {
     }
     Ok(())
 }
+
+#[test]
+fn readers_and_writers_of_std(rt: HostRuntime) -> Result<(), Fail> {
+    let bytes = [1u8, 2, 3, 4, 5];
+    let mut intake = FromRead::new(&bytes[..]);
+    let mut buf = [0u8; 8];
+    assert!(rt; fill(&mut intake, &mut buf) == Ok(5));
+    assert_eq!(rt; &buf[..5], &bytes[..]);
+    let mut room = [0u8; 4];
+    {
+        let mut outlet = ToWrite::new(&mut room[..]);
+        assert!(rt; give_all(&mut outlet, &bytes[..4]).is_ok());
+        assert!(rt; give_all(&mut outlet, &bytes[4..]).is_err());
+    }
+    assert_eq!(rt; &room[..], &bytes[..4]);
+    Ok(())
+}

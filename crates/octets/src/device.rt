@@ -1,0 +1,41 @@
+// What gives bytes and what takes them.
+
+ghost use Rattle.std.specs.Prelude.{ℕ, List, Option};
+ghost use Rattle.std.specs.Io.{ReadsAtMost};
+ghost use Rattle.std.specs.Io.KnownBytes.{ReadConsumes, WriteAppends};
+ghost use Rattle.octets.specs.Device.{Counts, GivesSome};
+
+/// A device's own refusal.
+#[derive(Clone, Copy, Debug, PartialEq, Eq, Drop)]
+pub struct DeviceFault;
+
+/// A device that gives bytes. Contracts see its count of failures and, where it tells them, the bytes left.
+pub trait Intake {
+    // The bytes left, where the device tells them.
+    ghost left: { Self → Option (List ℕ) };
+
+    // How many takes have failed, up to 2^64 - 1.
+    ghost failures: { Self → ℕ };
+
+    /// Takes the next bytes into the beginning of `buf`, and answers how many they are: none only at the end, or for an
+    /// empty `buf`. What stands past them is open. After a fault the bytes left are as they were.
+    fn take(&mut self, buf: &mut [u8]) -> Result<usize, DeviceFault>
+        ensures bound { ReadsAtMost result buf.new }
+        ensures bytes { ReadConsumes (left self.old) (left self.new) result buf.new }
+        ensures count { Counts (failures self.old) (failures self.new) result };
+}
+
+/// A device that takes bytes. Contracts see its count of failures and, where it tells them, the bytes taken.
+pub trait Outlet {
+    // The bytes taken, where the device tells them.
+    ghost taken: { Self → Option (List ℕ) };
+
+    // How many gives have failed, up to 2^64 - 1.
+    ghost failures: { Self → ℕ };
+
+    /// Gives the first of `bytes`, and answers how many they are: none only for no bytes. A fault gives nothing.
+    fn give(&mut self, bytes: &[u8]) -> Result<usize, DeviceFault>
+        ensures bound { GivesSome result bytes.now }
+        ensures bytes { WriteAppends (taken self.old) (taken self.new) result bytes.now }
+        ensures count { Counts (failures self.old) (failures self.new) result };
+}

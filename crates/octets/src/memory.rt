@@ -1,0 +1,85 @@
+// Devices over memory.
+
+ghost use Rattle.std.specs.Prelude.{◌≡◌, min, length, drop, take, [], Some, MatchResult};
+ghost use Rattle.std.specs.Io.{ReadsAtMost};
+ghost use Rattle.std.specs.Io.KnownBytes.{ReadConsumes};
+ghost use Rattle.octets.specs.Device.{Counts};
+
+use crate::device::{DeviceFault, Intake, Outlet};
+use std::alloc::Allocator;
+
+/// Gives the bytes of a slice: at each take as many as fit and are left. It never fails.
+#[derive(Drop)]
+pub struct SliceIntake<'a> {
+    rest: &'a [u8],
+}
+
+impl<'a> SliceIntake<'a> {
+    /// All bytes of the slice are left.
+    pub fn new(bytes: &'a [u8]) -> Self
+        ensures { ⟦<SliceIntake<'a> as Intake>⟧.left result ≡ Some bytes.now }
+    {
+        SliceIntake { rest: bytes }
+    }
+}
+
+impl<'a> Intake for SliceIntake<'a> {
+    ghost left = { λ s. Some s.rest.now };
+
+    ghost failures = { λ _. 0 };
+
+    fn take(&mut self, buf: &mut [u8]) -> Result<usize, DeviceFault>
+        ensures bound { ReadsAtMost result buf.new }
+        ensures bytes { ReadConsumes (Some self.old.rest.now) (Some self.new.rest.now) result buf.new }
+        ensures count { Counts 0 0 result }
+        ensures all { MatchResult result (λ n. n ≡ min (length buf.old) (length self.old.rest.now)) (λ _. ⊥) }
+    {
+        let n = buf.len().min(self.rest.len());
+        let (front, back) = self.rest.split_at(n);
+        buf[..n].copy_from_slice(front);
+        self.rest = back;
+        Ok(n)
+    }
+}
+
+/// Keeps the bytes that it is given. A refused growth is its failure.
+#[derive(Drop)]
+pub struct VecOutlet<A: Allocator> {
+    kept: Vec<u8, A>,
+    failed: u64,
+}
+
+impl<A: Allocator> VecOutlet<A> {
+    /// Nothing is taken yet.
+    pub fn new(alloc: A) -> Self
+        ensures { ⟦<VecOutlet<A> as Outlet>⟧.taken result ≡ Some [] }
+    {
+        VecOutlet {
+            kept: Vec::new(alloc),
+            failed: 0,
+        }
+    }
+
+    /// What it took.
+    pub fn bytes(&self) -> &[u8]
+        ensures { ⟦<VecOutlet<A> as Outlet>⟧.taken self.now ≡ Some result.now }
+    {
+        self.kept.as_slice()
+    }
+}
+
+impl<A: Allocator> Outlet for VecOutlet<A> {
+    ghost taken = { λ s. Some s.kept.items };
+
+    ghost failures = { λ s. s.failed };
+
+    fn give(&mut self, bytes: &[u8]) -> Result<usize, DeviceFault> {
+        match self.kept.extend_from_slice(bytes) {
+            Ok(()) => Ok(bytes.len()),
+            Err(_) => {
+                self.failed = self.failed.saturating_add(1);
+                Err(DeviceFault)
+            }
+        }
+    }
+}

@@ -1,0 +1,126 @@
+// Devices that follow a script, for tests.
+
+ghost use Rattle.std.specs.Prelude.{◌≡◌, ◌≤◌, [], Some, drop, IfSome, vec_len};
+
+use crate::device::{DeviceFault, Intake, Outlet};
+use crate::memory::VecOutlet;
+use std::alloc::Allocator;
+
+/// What one call does.
+#[derive(Clone, Copy, PartialEq, Eq, Debug, Drop)]
+pub enum Step {
+    /// At most so many bytes; 0 counts as 1.
+    Give(usize),
+    /// A failure.
+    Fail,
+}
+
+/// Gives bytes by a script, and after its end as many as fit.
+#[derive(Drop)]
+pub struct ScriptIntake<A: Allocator> {
+    bytes: Vec<u8, A>,
+    at: usize,
+    steps: Vec<Step, A>,
+    call: usize,
+    failed: u64,
+    ghost in_range: { at ≤ vec_len bytes },
+}
+
+impl<A: Allocator> ScriptIntake<A> {
+    /// All bytes are left, and no step is made.
+    pub fn new(bytes: Vec<u8, A>, steps: Vec<Step, A>) -> Self
+        ensures { ⟦<ScriptIntake<A> as Intake>⟧.left result ≡ Some bytes.items }
+    {
+        ScriptIntake {
+            bytes,
+            at: 0,
+            steps,
+            call: 0,
+            failed: 0,
+        }
+    }
+}
+
+// How many bytes this call may move; `None` at a failure.
+fn allowed(steps: &[Step], call: &mut usize, wanted: usize) -> Option<usize>
+    ensures { IfSome result (λ n. (n ≤ wanted) × (n ≡ 0 → wanted ≡ 0)) }
+{
+    if *call >= steps.len() {
+        return Some(wanted);
+    }
+    let step = steps[*call];
+    *call += 1;
+    match step {
+        Step::Give(most) => Some(wanted.min(most.max(1))),
+        Step::Fail => None,
+    }
+}
+
+impl<A: Allocator> Intake for ScriptIntake<A> {
+    ghost left = { λ s. Some (drop s.at s.bytes.items) };
+
+    ghost failures = { λ s. s.failed };
+
+    fn take(&mut self, buf: &mut [u8]) -> Result<usize, DeviceFault> {
+        let rest = &self.bytes.as_slice()[self.at..];
+        let wanted = buf.len().min(rest.len());
+        match allowed(self.steps.as_slice(), &mut self.call, wanted) {
+            Some(n) => {
+                let (front, _) = rest.split_at(n);
+                buf[..n].copy_from_slice(front);
+                self.at += n;
+                Ok(n)
+            }
+            None => {
+                self.failed = self.failed.saturating_add(1);
+                Err(DeviceFault)
+            }
+        }
+    }
+}
+
+/// Takes bytes by a script, and after its end all that it is given.
+#[derive(Drop)]
+pub struct ScriptOutlet<A: Allocator> {
+    kept: VecOutlet<A>,
+    steps: Vec<Step, A>,
+    call: usize,
+    failed: u64,
+}
+
+impl<A: Allocator> ScriptOutlet<A> {
+    /// Nothing is taken yet, and no step is made.
+    pub fn new(alloc: A, steps: Vec<Step, A>) -> Self
+        ensures { ⟦<ScriptOutlet<A> as Outlet>⟧.taken result ≡ Some [] }
+    {
+        ScriptOutlet {
+            kept: VecOutlet::new(alloc),
+            steps,
+            call: 0,
+            failed: 0,
+        }
+    }
+
+    /// What it took.
+    pub fn bytes(&self) -> &[u8]
+        ensures { ⟦<ScriptOutlet<A> as Outlet>⟧.taken self.now ≡ Some result.now }
+    {
+        self.kept.bytes()
+    }
+}
+
+impl<A: Allocator> Outlet for ScriptOutlet<A> {
+    ghost taken = { λ s. ⟦<VecOutlet<A> as Outlet>⟧.taken s.kept };
+
+    ghost failures = { λ s. s.failed };
+
+    fn give(&mut self, bytes: &[u8]) -> Result<usize, DeviceFault> {
+        if let Some(n) = allowed(self.steps.as_slice(), &mut self.call, bytes.len()) {
+            if let Ok(given) = self.kept.give(&bytes[..n]) {
+                return Ok(given);
+            }
+        }
+        self.failed = self.failed.saturating_add(1);
+        Err(DeviceFault)
+    }
+}

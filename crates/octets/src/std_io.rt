@@ -1,0 +1,71 @@
+// Devices over the readers and writers of std.
+
+ghost use Rattle.std.specs.Prelude.{◌≡◌};
+
+use crate::device::{DeviceFault, Intake, Outlet};
+use std::io::{Read, Write};
+
+/// Takes from a reader, and counts its failures; an interrupted read is one. It tells its bytes where the reader does.
+#[derive(Drop)]
+pub struct FromRead<R> {
+    reader: R,
+    failed: u64,
+}
+
+impl<R: Read> FromRead<R> {
+    /// What the reader has left is left.
+    pub fn new(reader: R) -> Self
+        ensures { ⟦<FromRead<R> as Intake>⟧.left result ≡ R.remaining reader }
+    {
+        FromRead { reader, failed: 0 }
+    }
+}
+
+impl<R: Read> Intake for FromRead<R> {
+    ghost left = { λ s. R.remaining s.reader };
+
+    ghost failures = { λ s. s.failed };
+
+    fn take(&mut self, buf: &mut [u8]) -> Result<usize, DeviceFault> {
+        match self.reader.read(buf) {
+            Ok(n) => Ok(n),
+            Err(_) => {
+                self.failed = self.failed.saturating_add(1);
+                Err(DeviceFault)
+            }
+        }
+    }
+}
+
+/// Gives to a writer, and counts its failures; an interrupted write is one, and a write of nothing from a slice that is not
+/// empty. It tells its bytes where the writer does.
+#[derive(Drop)]
+pub struct ToWrite<W> {
+    writer: W,
+    failed: u64,
+}
+
+impl<W: Write> ToWrite<W> {
+    /// What the writer holds is taken.
+    pub fn new(writer: W) -> Self
+        ensures { ⟦<ToWrite<W> as Outlet>⟧.taken result ≡ W.contents writer }
+    {
+        ToWrite { writer, failed: 0 }
+    }
+}
+
+impl<W: Write> Outlet for ToWrite<W> {
+    ghost taken = { λ s. W.contents s.writer };
+
+    ghost failures = { λ s. s.failed };
+
+    fn give(&mut self, bytes: &[u8]) -> Result<usize, DeviceFault> {
+        match self.writer.write(bytes) {
+            Ok(n) if 0 < n || bytes.is_empty() => Ok(n),
+            _ => {
+                self.failed = self.failed.saturating_add(1);
+                Err(DeviceFault)
+            }
+        }
+    }
+}
