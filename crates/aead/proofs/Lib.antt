@@ -4,4 +4,18 @@ pub mod Fed
 pub mod DerivedKeys
 pub mod Streams
 pub mod Found
+pub mod KeyStreamStart
 mod Vectors
+pub mod Pieces
+pub mod Tags
+pub mod Maskings
+pub mod Sealers
+pub mod Measuring
+pub mod Passing
+pub mod Findings
+pub mod Tellings
+pub mod StreamExits
+pub mod Repeats
+pub mod Extents
+pub mod SealExits
+pub mod SivExits

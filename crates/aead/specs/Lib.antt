@@ -3,3 +3,14 @@ pub mod Sealing
 pub mod Ciphers
 pub mod AnyCiphers
 pub mod Refusals
+pub mod Cuts
+pub mod States
+pub mod Pieces
+pub mod Measure
+pub mod Passes
+pub mod Findings
+pub mod Verdict
+pub mod Told
+pub mod Extents
+pub mod SealStream
+pub mod SealSivStream

@@ -106,13 +106,17 @@ pub record Setting : Type 0 where
   pub nonce : List ℕ
   pub aad : List ℕ
 
+-- the mask of a message with this tag
+abbrev pub mask_of : Setting → List ℕ → ℕ → ℕ
+mask_of s tag = mask s.suite s.key s.nonce tag
+
 -- the tag of a text
 unfoldable pub tag_of : Setting → List ℕ → List ℕ
 tag_of s text = tag_by (construction_of s.suite) s.key s.nonce s.aad text
 
 -- the sealing of a text: the ciphertext, which is the text XORed with the mask, and the tag
 unfoldable pub sealing : Setting → List ℕ → List ℕ
-sealing s text = masked (mask s.suite s.key s.nonce (tag_of s text)) 0 text ++ tag_of s text
+sealing s text = masked (mask_of s (tag_of s text)) 0 text ++ tag_of s text
 
 -- the lengths that have a sealing
 pub record Fits (s : Setting) (text : List ℕ) : Type 0 where
@@ -124,6 +128,10 @@ pub record Opened (s : Setting) (sealed : List ℕ) (text : List ℕ) : Type 0 w
   pub fits : Fits s text
   pub bytes : (i : ℕ) → get_or text i 0 < 256
   pub is : sealed ≡ sealing s text
+
+-- sealed is the sealing of some text
+abbrev pub IsSealing : Setting → List ℕ → Type 0
+IsSealing s sealed = (text : List ℕ) × Opened s sealed text
 
 -- sealed is the sealing of no text
 abbrev pub IsNoSealing : Setting → List ℕ → Type 0

@@ -1,20 +1,28 @@
 // AES-GCM (SP 800-38D).
 
-ghost use Rattle.std.specs.Prelude.{◌≡◌, ◌<◌, ◌^◌, ◌++◌, ◌∷◌, [], length, MatchResult};
-ghost use Rattle.octets.specs.Bytes.{IsBlock};
+ghost use Rattle.std.specs.Prelude.{◌≡◌, ◌<◌, ◌≤◌, ◌*◌, ◌^◌, ◌++◌, ◌∷◌, ℕ, List, [], length, MatchResult};
+ghost use Rattle.std.specs.Int.{w64, to_be_bytes};
+ghost use Rattle.octets.specs.Bytes.{pad16, xor_bytes};
+ghost use Rattle.aes.specs.Cipher.{cipher};
 ghost use Rattle.gf128.specs.Ghash.{ghash};
-ghost use Rattle.aead.specs.Suites.{construction_of, ByGcm};
-ghost use Rattle.aead.specs.Sealing.{hash_key, gcm_authenticated, Opened};
+ghost use Rattle.gf128.specs.States.{Holds};
+ghost use Rattle.aead.specs.Suites.{construction_of, ByGcm, text_limit, aad_limit};
+ghost use Rattle.aead.specs.Sealing.{hash_key, j0, tag_over, Opened};
 ghost use Rattle.aead.specs.Ciphers.{Keyed, setting};
 ghost use Rattle.aead.specs.Refusals.{SealRefused, OpenRefused};
 
 use crate::aead::Aead;
+use crate::authenticator::UniversalHash;
+use crate::mask::MaskStream;
 use crate::parts::{Parts, open_parts, seal_parts};
 use crate::suite::Suite;
 use aes::{AesKey, CtrBe};
-use gf128::{Ghash, Mul};
+use gf128::{Ghash, HashKey, Keyed128};
 use octets::{Block, Fault, Nonce, Tag, xored};
 use std::marker::Model;
+
+// From so many bytes on, a larger multiplier is worth its making.
+const LONG: usize = 4096;
 
 /// AES-GCM under a key of 16, 24 or 32 bytes (SP 800-38D). Opening in place authenticates before it changes a byte.
 /// Contracts see its suite and key. `AnyAead::new` makes it.
@@ -22,7 +30,7 @@ use std::marker::Model;
 pub struct Gcm {
     suite: Suite,
     key: AesKey,
-    subkey: Block,
+    ghash_key: HashKey,
 }
 
 impl Model for Gcm {
@@ -30,7 +38,7 @@ impl Model for Gcm {
 
     ghost view = { λ c. record { suite = c.suite; key = c.key } };
 
-    ghost invariant = { λ c. (construction_of c.suite ≡ ByGcm) × (c.subkey ≡ hash_key c.key) };
+    ghost invariant = { λ c. (construction_of c.suite ≡ ByGcm) × (c.ghash_key ≡ hash_key c.key) };
 }
 
 impl Gcm {
@@ -39,20 +47,37 @@ impl Gcm {
         requires { construction_of suite ≡ ByGcm }
         ensures { result ≡ record { suite = suite; key = key } }
     {
-        let subkey = key.encrypt(&Block::new([0; 16]));
-        Gcm { suite, key, subkey }
+        let ghash_key = HashKey::new(&key.encrypt(&Block::new([0; 16])));
+        Gcm {
+            suite,
+            key,
+            ghash_key,
+        }
+    }
+
+    // The cipher with a nonce.
+    pub(crate) fn message<'a>(&'a self, nonce: &'a Nonce) -> Message<'a>
+        ensures keyed { ⟦<Message<'a> as Parts>⟧.keyed result ≡ self.now }
+        ensures nonce { ⟦<Message<'a> as Parts>⟧.nonce result ≡ nonce.now }
+    {
+        Message {
+            suite: self.suite,
+            key: &self.key,
+            ghash_key: &self.ghash_key,
+            nonce,
+        }
     }
 }
 
 // The cipher with a nonce.
 #[derive(Drop)]
-struct Message<'a> {
+pub(crate) struct Message<'a> {
     suite: Suite,
     key: &'a AesKey,
-    subkey: &'a Block,
+    ghash_key: &'a HashKey,
     nonce: &'a Nonce,
     ghost by_gcm: { construction_of suite ≡ ByGcm },
-    ghost subkey_is: { subkey.now ≡ hash_key key.now },
+    ghost ghash_key_is: { ghash_key.now ≡ hash_key key.now },
 }
 
 // The nonce and a counter (SP 800-38D, 7.1).
@@ -66,21 +91,50 @@ fn counter_block(nonce: &Nonce, counter: u8) -> Block
     Block::new(bytes)
 }
 
-// GHASH of what is authenticated (SP 800-38D, 7.1).
-fn hashed(subkey: &Block, aad: &[u8], bytes: &[u8]) -> Block
-    requires aad_fits { length aad.now < 2 ^ 61 }
-    requires bytes_fit { length bytes.now < 2 ^ 61 }
-    ensures value { result ≡ ghash subkey.now (gcm_authenticated aad.now bytes.now) }
-    ensures is_block { IsBlock result }
+// The tag of what was taken in, padded, with the lengths in bits after it, under the cipher of J0 (SP 800-38D, 7.1).
+pub(crate) fn gcm_tag<M: Keyed128>(
+    mut state: Ghash<M>,
+    mask: &Block,
+    aad_length: u64,
+    length: u64,
+) -> Tag
+    requires aad_fits { aad_length < 2 ^ 61 }
+    requires text_fits { length < 2 ^ 61 }
+    ensures { (h m : List ℕ) → Holds M.key_bytes state h m
+        → result ≡ xor_bytes mask.now (ghash h (pad16 ((m ++ to_be_bytes w64 (8 * aad_length)) ++ to_be_bytes w64 (8 * length)))) }
 {
-    let mut state = Ghash::<Mul>::new(subkey);
-    state.update(aad);
-    state.pad16();
-    state.update(bytes);
-    state.pad16();
-    state.update(&(8 * aad.len() as u64).to_be_bytes());
-    state.update(&(8 * bytes.len() as u64).to_be_bytes());
-    state.finish()
+    state.update(&(8 * aad_length).to_be_bytes());
+    state.update(&(8 * length).to_be_bytes());
+    Tag::new(xored(mask.bytes(), state.finish().bytes()))
+}
+
+impl<'a> Message<'a> {
+    // The cipher of J0 (SP 800-38D, 7.1).
+    fn tag_mask(&self) -> Block
+        ensures { result ≡ cipher self.now.key.now (j0 self.now.nonce.now) }
+    {
+        self.key.encrypt(&counter_block(self.nonce, 1))
+    }
+
+    // The tag of a ciphertext, by a state of GHASH that holds the empty text.
+    #[inline(never)]
+    fn tag_by<M: Keyed128>(&self, mut state: Ghash<M>, aad: &[u8], bytes: &[u8]) -> Tag
+        requires empty { Holds M.key_bytes state self.now.ghash_key.now [] }
+        requires aad_fits { length aad.now ≤ aad_limit self.now.suite }
+        requires text_fits { length bytes.now ≤ text_limit self.now.suite }
+        ensures { result ≡ tag_over self.now.suite self.now.key.now self.now.nonce.now aad.now bytes.now }
+    {
+        state.update(aad);
+        state.pad16();
+        state.update(bytes);
+        state.pad16();
+        gcm_tag(
+            state,
+            &self.tag_mask(),
+            aad.len() as u64,
+            bytes.len() as u64,
+        )
+    }
 }
 
 impl<'a> Parts for Message<'a> {
@@ -92,15 +146,20 @@ impl<'a> Parts for Message<'a> {
         self.suite
     }
 
-    fn apply(&self, _tag: &Tag, bytes: &mut [u8]) {
-        let mut stream = CtrBe::new(self.key, &counter_block(self.nonce, 2));
-        stream.apply(bytes);
+    fn mask(&self, _tag: &Tag) -> MaskStream {
+        MaskStream::CountsBe(CtrBe::new(self.key, &counter_block(self.nonce, 2)))
+    }
+
+    fn hash(&self) -> UniversalHash {
+        UniversalHash::ByGhash(self.ghash_key.ghash(), self.tag_mask())
     }
 
     fn tag(&self, aad: &[u8], bytes: &[u8]) -> Tag {
-        let hash = hashed(self.subkey, aad, bytes);
-        let mask = self.key.encrypt(&counter_block(self.nonce, 1));
-        Tag::new(xored(mask.bytes(), hash.bytes()))
+        if aad.len() + bytes.len() < LONG {
+            self.tag_by(self.ghash_key.ghash(), aad, bytes)
+        } else {
+            self.tag_by(self.ghash_key.ghash_of_long(), aad, bytes)
+        }
     }
 }
 
@@ -112,13 +171,7 @@ impl Aead for Gcm {
     }
 
     fn seal_in_place(&self, nonce: &Nonce, aad: &[u8], text: &mut [u8]) -> Result<Tag, Fault> {
-        let message = Message {
-            suite: self.suite,
-            key: &self.key,
-            subkey: &self.subkey,
-            nonce,
-        };
-        seal_parts(&message, aad, text)
+        seal_parts(&self.message(nonce), aad, text)
     }
 
     fn open_in_place(
@@ -128,12 +181,6 @@ impl Aead for Gcm {
         body: &mut [u8],
         tag: &Tag,
     ) -> Result<(), Fault> {
-        let message = Message {
-            suite: self.suite,
-            key: &self.key,
-            subkey: &self.subkey,
-            nonce,
-        };
-        open_parts(&message, aad, body, tag)
+        open_parts(&self.message(nonce), aad, body, tag)
     }
 }

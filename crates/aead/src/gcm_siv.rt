@@ -1,22 +1,32 @@
 // AES-GCM-SIV (RFC 8452).
 
-ghost use Rattle.std.specs.Prelude.{◌≡◌, ◌<◌, ◌^◌, ◌++◌, length, take, MatchResult};
-ghost use Rattle.std.specs.Int.{w32, to_le_bytes};
-ghost use Rattle.octets.specs.Bytes.{IsBlock};
-ghost use Rattle.aes.specs.Cipher.{IsKeyLength};
+ghost use Rattle.std.specs.Prelude.{◌≡◌, ◌<◌, ◌≤◌, ◌*◌, ◌^◌, ◌++◌, ℕ, List, length, take, MatchResult};
+ghost use Rattle.std.specs.Int.{w32, w64, to_le_bytes};
+ghost use Rattle.octets.specs.Bytes.{pad16};
+ghost use Rattle.aes.specs.Cipher.{cipher, IsKeyLength};
 ghost use Rattle.gf128.specs.Polyval.{polyval};
-ghost use Rattle.aead.specs.Suites.{construction_of, key_length, ByGcmSiv};
-ghost use Rattle.aead.specs.Sealing.{key_part, authentication_key, encryption_key, siv_authenticated, tag_block, counter_block, Opened};
+ghost use Rattle.gf128.specs.States.{PolyvalHolds};
+ghost use Rattle.aead.specs.Suites.{construction_of, key_length, ByGcmSiv, text_limit, aad_limit};
+ghost use Rattle.aead.specs.Sealing.{Setting, key_part, authentication_key, encryption_key, tag_block, counter_block, tag_over, Opened};
 ghost use Rattle.aead.specs.Ciphers.{Keyed, setting};
 ghost use Rattle.aead.specs.Refusals.{SealRefused, OpenRefused};
+ghost use Rattle.aead.specs.States.{HoldsMask};
 
 use crate::aead::Aead;
+use crate::authenticator::UniversalHash;
+use crate::mask::MaskStream;
 use crate::parts::{Parts, open_parts, seal_parts};
 use crate::suite::Suite;
 use aes::{AesKey, CtrLe};
-use gf128::{Mul, Polyval};
+use gf128::{Keyed128, PlacedMul, Polyval, TableMul, WideMul};
 use octets::{Block, Fault, Nonce, Tag, xor_into};
 use std::marker::Model;
+
+// From so many bytes on, multiples at eight places are worth their making.
+const SHORT: usize = 128;
+
+// From so many bytes on, those of four powers of the key are.
+const LONG: usize = 1536;
 
 /// AES-GCM-SIV under a key of 16 or 32 bytes (RFC 8452). Opening in place decrypts before it can authenticate, and
 /// encrypts again after `TagMismatch`. Contracts see its suite and key. `AnyAead::new` makes it.
@@ -42,6 +52,14 @@ impl GcmSiv {
         ensures { result ≡ record { suite = suite; key = key } }
     {
         GcmSiv { suite, key }
+    }
+
+    // The cipher with a nonce.
+    pub(crate) fn message<'a>(&'a self, nonce: &'a Nonce) -> Message<'a>
+        ensures keyed { ⟦<Message<'a> as Parts>⟧.keyed result ≡ self.now }
+        ensures nonce { ⟦<Message<'a> as Parts>⟧.nonce result ≡ nonce.now }
+    {
+        Message::new(self.suite, &self.key, nonce)
     }
 }
 
@@ -125,23 +143,6 @@ fn expanded(bytes: &[u8]) -> AesKey
     AesKey::from_slice(bytes).unwrap()
 }
 
-// POLYVAL of what is authenticated (RFC 8452, 4).
-fn hashed(authentication_key: &Block, aad: &[u8], text: &[u8]) -> Block
-    requires aad_fits { length aad.now < 2 ^ 61 }
-    requires text_fits { length text.now < 2 ^ 61 }
-    ensures value { result ≡ polyval authentication_key.now (siv_authenticated aad.now text.now) }
-    ensures is_block { IsBlock result }
-{
-    let mut state = Polyval::<Mul>::new(authentication_key);
-    state.update(aad);
-    state.pad16();
-    state.update(text);
-    state.pad16();
-    state.update(&(8 * aad.len() as u64).to_le_bytes());
-    state.update(&(8 * text.len() as u64).to_le_bytes());
-    state.finish()
-}
-
 // The block whose cipher is the tag (RFC 8452, 4).
 fn tag_block(hash: &[u8; 16], nonce: &[u8; 12]) -> [u8; 16]
     ensures { result ≡ tag_block hash.now nonce.now }
@@ -150,6 +151,25 @@ fn tag_block(hash: &[u8; 16], nonce: &[u8; 12]) -> [u8; 16]
     xor_into(&mut block[..12], nonce);
     block[15] &= 0x7f;
     block
+}
+
+// The tag of what was taken in, padded, with the lengths in bits after it (RFC 8452, 4).
+pub(crate) fn siv_tag<M: Keyed128>(
+    mut state: Polyval<M>,
+    key: &AesKey,
+    nonce: &Nonce,
+    aad_length: u64,
+    length: u64,
+) -> Tag
+    requires aad_fits { aad_length < 2 ^ 61 }
+    requires text_fits { length < 2 ^ 61 }
+    ensures { (h m : List ℕ) → PolyvalHolds M.key_bytes state h m
+        → result ≡ cipher key.now (tag_block (polyval h (pad16 ((m ++ to_le_bytes w64 (8 * aad_length)) ++ to_le_bytes w64 (8 * length)))) nonce.now) }
+{
+    state.update(&(8 * aad_length).to_le_bytes());
+    state.update(&(8 * length).to_le_bytes());
+    let block = key.encrypt(&Block::new(tag_block(state.finish().bytes(), nonce.bytes())));
+    Tag::new(*block.bytes())
 }
 
 // The first counter block of a tag (RFC 8452, 4).
@@ -161,14 +181,23 @@ fn counter_block(tag: &[u8; 16]) -> [u8; 16]
     block
 }
 
+// The mask under a tag (RFC 8452, 4).
+pub(crate) fn tag_mask(encryption: &AesKey, tag: &Tag) -> MaskStream
+    ensures { (s : Setting) → construction_of s.suite ≡ ByGcmSiv → encryption.now ≡ encryption_key s.key s.nonce
+        → HoldsMask result s tag.now 0 }
+{
+    let first = Block::new(counter_block(tag.bytes()));
+    MaskStream::CountsLe(CtrLe::new(encryption, &first))
+}
+
 // The cipher with a nonce, and the keys derived from both.
 #[derive(Drop)]
-struct Message<'a> {
+pub(crate) struct Message<'a> {
     suite: Suite,
     key: &'a AesKey,
     nonce: &'a Nonce,
     authentication: Block,
-    encryption: AesKey,
+    pub(crate) encryption: AesKey,
     ghost by_gcm_siv: { construction_of suite ≡ ByGcmSiv },
     ghost authentication_is: { authentication ≡ authentication_key key.now nonce.now },
     ghost encryption_is: { encryption ≡ encryption_key key.now nonce.now },
@@ -196,6 +225,27 @@ impl<'a> Message<'a> {
             encryption,
         }
     }
+
+    // The tag of a text, by the multiplier `M`.
+    #[inline(never)]
+    fn tag_by<M: Keyed128>(&self, aad: &[u8], text: &[u8]) -> Tag
+        requires aad_fits { length aad.now ≤ aad_limit self.now.suite }
+        requires text_fits { length text.now ≤ text_limit self.now.suite }
+        ensures { result ≡ tag_over self.now.suite self.now.key.now self.now.nonce.now aad.now text.now }
+    {
+        let mut state = Polyval::<M>::new(&self.authentication);
+        state.update(aad);
+        state.pad16();
+        state.update(text);
+        state.pad16();
+        siv_tag(
+            state,
+            &self.encryption,
+            self.nonce,
+            aad.len() as u64,
+            text.len() as u64,
+        )
+    }
 }
 
 impl<'a> Parts for Message<'a> {
@@ -207,17 +257,27 @@ impl<'a> Parts for Message<'a> {
         self.suite
     }
 
-    fn apply(&self, tag: &Tag, bytes: &mut [u8]) {
-        let mut stream = CtrLe::new(&self.encryption, &Block::new(counter_block(tag.bytes())));
-        stream.apply(bytes);
+    fn mask(&self, tag: &Tag) -> MaskStream {
+        tag_mask(&self.encryption, tag)
     }
 
-    fn tag(&self, aad: &[u8], bytes: &[u8]) -> Tag {
-        let hash = hashed(&self.authentication, aad, bytes);
-        let block = self
-            .encryption
-            .encrypt(&Block::new(tag_block(hash.bytes(), self.nonce.bytes())));
-        Tag::new(*block.bytes())
+    fn hash(&self) -> UniversalHash {
+        UniversalHash::ByPolyval(
+            Polyval::new(&self.authentication),
+            self.encryption,
+            *self.nonce,
+        )
+    }
+
+    fn tag(&self, aad: &[u8], text: &[u8]) -> Tag {
+        let length = aad.len() + text.len();
+        if length < SHORT {
+            self.tag_by::<TableMul>(aad, text)
+        } else if length < LONG {
+            self.tag_by::<PlacedMul>(aad, text)
+        } else {
+            self.tag_by::<WideMul>(aad, text)
+        }
     }
 }
 
@@ -229,7 +289,7 @@ impl Aead for GcmSiv {
     }
 
     fn seal_in_place(&self, nonce: &Nonce, aad: &[u8], text: &mut [u8]) -> Result<Tag, Fault> {
-        seal_parts(&Message::new(self.suite, &self.key, nonce), aad, text)
+        seal_parts(&self.message(nonce), aad, text)
     }
 
     fn open_in_place(
@@ -239,6 +299,6 @@ impl Aead for GcmSiv {
         body: &mut [u8],
         tag: &Tag,
     ) -> Result<(), Fault> {
-        open_parts(&Message::new(self.suite, &self.key, nonce), aad, body, tag)
+        open_parts(&self.message(nonce), aad, body, tag)
     }
 }

@@ -3,13 +3,21 @@
 #![tactic(auto)]
 
 ghost use Rattle.aead.specs.Sealing.{HasOneText};
+ghost use Rattle.aead.specs.Verdict.{ShownRepeatsTheText};
 
 mod aead;
 mod any;
+mod authenticator;
 mod chacha_poly;
+mod cuts;
+mod engine;
 mod gcm;
 mod gcm_siv;
+mod mask;
+mod masking;
 mod parts;
+mod sealer;
+mod siv;
 mod suite;
 #[cfg(test)]
 mod tests;
@@ -18,12 +26,22 @@ mod whole;
 pub use aead::Aead;
 pub use any::{AnyAead, AnyOnePass};
 pub use chacha_poly::ChaChaPoly;
+pub use cuts::seal_cut;
+pub use engine::{open_stream, seal_siv_stream, seal_stream};
 pub use gcm::Gcm;
 pub use gcm_siv::GcmSiv;
+pub use sealer::Sealer;
+pub use siv::{SivAbsorb, SivWriter};
 pub use suite::Suite;
 pub use whole::{open, seal};
 
 /// A sealing has one text, and is sixteen bytes longer: for every suite, key, nonce and associated data.
 pub fn has_one_text()
     ensures { HasOneText }
+{}
+
+/// Where the verify reading of the stream opener is a sealing of the measured length and last 16 bytes, each byte that the
+/// write reading repeats of its body is given as that byte of the text.
+pub fn shown_repeats_the_text()
+    ensures { ShownRepeatsTheText }
 {}

@@ -1,16 +1,19 @@
-// Sealing and opening in place, for any cipher that gives its mask and its tag.
+// A cipher under a key and a nonce, and sealing and opening in place by it.
 
-ghost use Rattle.std.specs.Prelude.{◌≡◌, ◌≤◌, ◌++◌, ℕ, List, length, MatchResult};
+ghost use Rattle.std.specs.Prelude.{◌≡◌, ◌≤◌, ◌++◌, ℕ, List, [], length, MatchResult};
 ghost use Rattle.octets.specs.Masked.{masked};
 ghost use Rattle.aead.specs.Suites.{text_limit, aad_limit};
 ghost use Rattle.aead.specs.Sealing.{mask, tag_over, Opened};
 ghost use Rattle.aead.specs.Ciphers.{Keyed, setting};
 ghost use Rattle.aead.specs.Refusals.{SealRefused, OpenRefused};
+ghost use Rattle.aead.specs.States.{HoldsMask, HoldsHash, HoldsAuthenticator};
 
+use crate::authenticator::{Authenticator, UniversalHash};
+use crate::mask::MaskStream;
 use crate::suite::Suite;
 use octets::{Fault, Tag, are_bytes, same};
 
-// A cipher under a key and a nonce.
+// A cipher under a key and a nonce: how it begins a mask and an authenticator.
 pub(crate) trait Parts {
     ghost keyed: { Self → Keyed };
 
@@ -19,16 +22,40 @@ pub(crate) trait Parts {
     fn suite(&self) -> Suite
         ensures { result ≡ (keyed self.now).suite };
 
+    // The mask under a tag.
+    fn mask(&self, tag: &Tag) -> MaskStream
+        ensures { (aad : List ℕ) → HoldsMask result (setting (keyed self.now) (nonce self.now) aad) tag.now 0 };
+
+    // The hash of what is authenticated.
+    fn hash(&self) -> UniversalHash
+        ensures { (aad : List ℕ) → HoldsHash result (setting (keyed self.now) (nonce self.now) aad) [] };
+
+    // The authenticator that has taken in associated data.
+    fn authenticator(&self, aad: &[u8]) -> Authenticator
+        requires { length aad.now ≤ aad_limit (keyed self.now).suite }
+        ensures { HoldsAuthenticator result (setting (keyed self.now) (nonce self.now) aad.now) [] }
+    {
+        Authenticator::new(self.hash(), aad)
+    }
+
     // XORs the mask under a tag into the bytes.
     fn apply(&self, tag: &Tag, bytes: &mut [u8])
         requires { length bytes.old ≤ text_limit (keyed self.now).suite }
-        ensures { bytes.new ≡ masked (mask (keyed self.now).suite (keyed self.now).key (nonce self.now) tag.now) 0 bytes.old };
+        ensures { bytes.new ≡ masked (mask (keyed self.now).suite (keyed self.now).key (nonce self.now) tag.now) 0 bytes.old }
+    {
+        self.mask(tag).apply(bytes);
+    }
 
     // The tag of a ciphertext, or where it is over the text, of a text.
     fn tag(&self, aad: &[u8], bytes: &[u8]) -> Tag
         requires aad_fits { length aad.now ≤ aad_limit (keyed self.now).suite }
         requires text_fits { length bytes.now ≤ text_limit (keyed self.now).suite }
-        ensures { result ≡ tag_over (keyed self.now).suite (keyed self.now).key (nonce self.now) aad.now bytes.now };
+        ensures { result ≡ tag_over (keyed self.now).suite (keyed self.now).key (nonce self.now) aad.now bytes.now }
+    {
+        let mut authenticator = self.authenticator(aad);
+        authenticator.update(bytes);
+        authenticator.finish()
+    }
 }
 
 // The tag of a text, which is left as ciphertext.

@@ -38,8 +38,22 @@ impl Suite {
         }
     }
 
-    // The bytes of a key.
-    pub(crate) fn key_length(self) -> usize
+    /// The name of a suite.
+    pub fn name(self) -> &'static str
+        ensures { result.now ≡ suite_name self }
+    {
+        match self {
+            Suite::ChaCha20Poly1305 => "chacha20-poly1305",
+            Suite::Aes128Gcm => "aes-128-gcm",
+            Suite::Aes192Gcm => "aes-192-gcm",
+            Suite::Aes256Gcm => "aes-256-gcm",
+            Suite::Aes128GcmSiv => "aes-128-gcm-siv",
+            Suite::Aes256GcmSiv => "aes-256-gcm-siv",
+        }
+    }
+
+    /// The bytes of a key.
+    pub fn key_length(self) -> usize
         ensures { result ≡ key_length self }
     {
         match self {

@@ -5,6 +5,7 @@ use std::process::Abort;
 use std::test::Fail;
 
 mod published;
+mod streams;
 
 use published::*;
 
@@ -260,6 +261,63 @@ fn refused_growths(rt: HostRuntime) -> Result<(), Fail> {
                 assert!(rt; short.is_err_and(|e| e == Fault::TooShort));
                 let wrong = open(&bump, &cipher, &nonce, &CHACHA_AAD, &changed);
                 assert!(rt; wrong.is_err_and(|e| e == Fault::OutOfMemory));
+            }
+        }
+    }
+    assert!(rt; 0 < refused && 0 < done, "{refused} refused, {done} done");
+    Ok(())
+}
+
+/// A sealing in pieces has the published bytes, and its pieces begin at the cuts.
+#[test]
+fn sealing_in_pieces(rt: HostRuntime) -> Result<(), Fail> {
+    let cipher = AnyAead::new(Suite::ChaCha20Poly1305, &CHACHA_KEY)?;
+    let nonce = Nonce::from_slice(&CHACHA_NONCE)?;
+    for (cuts, lengths) in [
+        ([].as_slice(), [114usize, 16].as_slice()),
+        ([1u64, 64, 65].as_slice(), [1, 63, 1, 49, 16].as_slice()),
+        ([114].as_slice(), [114, 0, 16].as_slice()),
+        ([114, 115, 200].as_slice(), [114, 0, 16].as_slice()),
+    ] {
+        let pieces = seal_cut(rt.alloc(), &cipher, &nonce, &CHACHA_AAD, CHACHA_TEXT, cuts)?;
+        let mut joined = Vec::new(rt.alloc());
+        for piece in pieces.iter() {
+            joined.extend_from_slice(piece)?;
+        }
+        assert_eq!(rt; joined.as_slice(), CHACHA_SEALED.as_slice());
+        assert_eq!(rt; pieces.len(), lengths.len());
+        for (piece, length) in pieces.iter().zip(lengths) {
+            assert_eq!(rt; piece.len(), *length);
+        }
+    }
+    Ok(())
+}
+
+/// Each growth of `seal_cut` is refused in turn.
+#[test]
+fn refused_growths_of_pieces(rt: HostRuntime) -> Result<(), Fail> {
+    let cipher = AnyAead::new(Suite::ChaCha20Poly1305, &CHACHA_KEY)?;
+    let nonce = Nonce::from_slice(&CHACHA_NONCE)?;
+    let mut refused = 0u32;
+    let mut done = 0u32;
+    for step in 0..100usize {
+        let bump = Bump::try_with_capacity(rt.alloc(), 1500)?;
+        leave(&rt, &bump, 10 * step)?;
+        match seal_cut(
+            &bump,
+            &cipher,
+            &nonce,
+            &CHACHA_AAD,
+            CHACHA_TEXT,
+            &[1, 64, 65],
+        ) {
+            Ok(pieces) => {
+                assert_eq!(rt; pieces.len(), 5);
+                done = done.saturating_add(1);
+            }
+            Err(fault) => {
+                assert_eq!(rt; fault, Fault::OutOfMemory);
+                refused = refused.saturating_add(1);
             }
         }
     }

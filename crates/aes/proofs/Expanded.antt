@@ -1,7 +1,10 @@
 -- An expanded key, and the rounds with its words.
-use Rattle.std.proofs.Common.{◌≡◌, ℕ, suc, ◌+◌, ◌-◌, ◌*◌, ◌/◌, ◌%◌, ◌<◌, ◌≤◌, List, [], get_or, length, refl, sym, ap, ap₂, ◌∙◌, arith, inl, inr, take_all, zero-add, bit_xor, add-one}
+use Rattle.std.proofs.Common.{◌≡◌, ℕ, suc, ◌+◌, ◌-◌, ◌*◌, ◌/◌, ◌%◌, ◌^◌, ◌<◌, ◌≤◌, List, [], get_or, length, refl, sym, ap, ap₂, ◌∙◌, arith, inl, inr, take_all, zero-add, bit_xor, add-one}
 use Rattle.std.proofs.lemmas.List.FromFn.{get_or-map-range_with_len}
-use Rattle.aes.specs.Schedule.{round_count, schedule, table, key_of, IsKeySize, IsExpanded}
+use Rattle.std.proofs.lemmas.List.{length-map, get_or-map}
+use Rattle.aes.specs.Columns.{column_of, columns_of}
+use Rattle.aes.specs.Schedule.{round_count, schedule, table, key_of, IsKeySize}
+use Rattle.aes.specs.AesKey.{IsExpanded}
 use Rattle.aes.specs.Cipher.{at, grid, sub_bytes, shift_rows, mix_columns, add_round_key, rounds, cipher, IsKey, IsKeyLength}
 use Rattle.aes.proofs.Words.{words_at, word_start, table_start, key_of_words}
 use Rattle.aes.proofs.Grids.{grid_is}
@@ -16,34 +19,46 @@ table_has : (ws : List (List ℕ)) (key : List ℕ) → ws ≡ table key → Has
 table_has ws key e k h = ap (λ v. get_or v k []) e ∙ table_start key k h
 
 -- the first words of an expanded key spell it
-pub spelled : (ws : List (List ℕ)) (key : List ℕ) (n : ℕ) → length ws ≡ 60 → IsKeySize n → length key ≡ 4 * n → ws ≡ table key → key_of ws n ≡ key
+pub spelled : (ws key : List ℕ) (n : ℕ) → length ws ≡ 60 → IsKeySize n → length key ≡ 4 * n → columns_of ws ≡ table key → key_of (columns_of ws) n ≡ key
 spelled ws key n long size len e =
-    key_of_words ws key n (omega arith)
-    (λ k h. table_has ws key e k (omega arith) ∙ words_at key (4 * (round_count key + 1)) k (omega arith) ∙ word_start key k (omega arith))
+    let columns : length (columns_of ws) ≡ 60 = length-map ws column_of ∙ long in
+    key_of_words (columns_of ws) key n (omega arith)
+    (λ k h. table_has (columns_of ws) key e k (omega arith) ∙ words_at key (4 * (round_count key + 1)) k (omega arith) ∙ word_start key k (omega arith))
     ∙ take_all (4 * n) key (omega arith)
 
 -- the fields of a new expanded key
-pub expanded : (ws : List (List ℕ)) (key : List ℕ) (n : ℕ) → ((i : ℕ) → get_or key i 0 < 256) → length ws ≡ 60 → IsKeySize n → length key ≡ 4 * n → ws ≡ table key → IsExpanded ws n
-expanded ws key n small long size len e =
-    let k : key_of ws n ≡ key = spelled ws key n long size len e in
-    record { size = size; length_is = ap length k ∙ len; bytes = λ i. rw k (small i); words_are = e ∙ ap table (sym k) }
+pub expanded : (ws key : List ℕ) (n : ℕ) → ((i : ℕ) → get_or key i 0 < 256) → length ws ≡ 60 → IsKeySize n → length key ≡ 4 * n
+    → columns_of ws ≡ table key → ((i : ℕ) → get_or ws i 0 < 2 ^ 32) → IsExpanded ws n
+expanded ws key n small long size len e words =
+    let k : key_of (columns_of ws) n ≡ key = spelled ws key n long size len e in
+    record { size = size; length_is = ap length k ∙ len; bytes = λ i. rw k (small i); columns_are = e ∙ ap table (sym k); words = words }
 
 -- an expanded key begins with the schedule of the key that it is seen as
-pub has_schedule : (ws : List (List ℕ)) (n : ℕ) (key : List ℕ) → IsExpanded ws n → key_of ws n ≡ key → HasSchedule ws key
-has_schedule ws n key x e = table_has ws key (x.words_are ∙ ap table e)
+pub has_schedule : (ws : List ℕ) (n : ℕ) (key : List ℕ) → IsExpanded ws n → key_of (columns_of ws) n ≡ key → HasSchedule (columns_of ws) key
+has_schedule ws n key x e = table_has (columns_of ws) key (x.columns_are ∙ ap table e)
+
+-- a word of it as a number
+pub has_word : (ws key : List ℕ) (k : ℕ) → length ws ≡ 60 → HasSchedule (columns_of ws) key → k < 4 * (round_count key + 1) × (k < 60) → column_of (get_or ws k 0) ≡ get_or (schedule key) k []
+has_word ws key k long has h =
+    let within : k < 4 * (round_count key + 1) = h.0 in
+    let below : k < 60 = h.1 in
+    sym (get_or-map column_of ws k 0 [] (omega arith)) ∙ has k within
 
 -- grids that agree at their sixteen places
 grid_same : (f h : ℕ → ℕ → ℕ) → ((k : ℕ) → k < 16 → f (k % 4) (k / 4) ≡ h (k % 4) (k / 4)) → grid f ≡ grid h
 grid_same f h same =
     grid_is h (grid f) refl (λ k l. get_or-map-range_with_len (λ i. f (i % 4) (i / 4)) 0 16 k k 0 l (zero-add k) ∙ same k l)
 
--- AddRoundKey reads the words of the schedule only
-pub same_round_key : (ws : List (List ℕ)) (key : List ℕ) (n : ℕ) (s : List ℕ) → HasSchedule ws key → n ≤ round_count key
-    → add_round_key ws n s ≡ add_round_key (schedule key) n s
+-- AddRoundKey with the four words of a round
+pub round_key_is : (vs ws : List (List ℕ)) (key : List ℕ) (n : ℕ) (s : List ℕ) → ((c : ℕ) → c < 4 → get_or vs c [] ≡ get_or ws (4 * n + c) [])
+    → HasSchedule ws key → n ≤ round_count key → add_round_key vs 0 s ≡ add_round_key (schedule key) n s
 unfolding add_round_key
-same_round_key ws key n s has within =
-    grid_same (λ r c. bit_xor (at s r c) (get_or (get_or ws (4 * n + c) []) r 0)) (λ r c. bit_xor (at s r c) (get_or (get_or (schedule key) (4 * n + c) []) r 0))
-    (λ k h. ap (λ w. bit_xor (at s (k % 4) (k / 4)) (get_or w (k % 4) 0)) (has (4 * n + k / 4) (omega arith)))
+round_key_is vs ws key n s four has within =
+    grid_same (λ r c. bit_xor (at s r c) (get_or (get_or vs (4 * 0 + c) []) r 0)) (λ r c. bit_xor (at s r c) (get_or (get_or (schedule key) (4 * n + c) []) r 0))
+    (λ k h.
+    let first : 4 * 0 + k / 4 ≡ k / 4 = omega arith in
+    ap (λ w. bit_xor (at s (k % 4) (k / 4)) (get_or w (k % 4) 0))
+    (ap (λ i. get_or vs i []) first ∙ four (k / 4) (omega arith) ∙ has (4 * n + k / 4) (omega arith)))
 
 -- the state before the first round
 pub rounds_start : (ws : List (List ℕ)) (s : List ℕ) → rounds ws 0 s ≡ add_round_key ws 0 s
@@ -96,5 +111,5 @@ first_back key s f n i long e =
     ap (λ j. rounds (schedule key) j f) i ∙ rounds_start (schedule key) f ∙ ap (add_round_key (schedule key) 0) (sym e) ∙ add_twice (schedule key) 0 s long
 
 -- the fields spell a key
-pub is_key : (ws : List (List ℕ)) (n : ℕ) → IsExpanded ws n → IsKey (key_of ws n)
-is_key ws n x = record { length_is = key_length (key_of ws n) n x.size x.length_is; bytes = x.bytes }
+pub is_key : (ws : List ℕ) (n : ℕ) → IsExpanded ws n → IsKey (key_of (columns_of ws) n)
+is_key ws n x = record { length_is = key_length (key_of (columns_of ws) n) n x.size x.length_is; bytes = x.bytes }

@@ -7,6 +7,10 @@ pub mod Words
 pub mod Expanded
 pub mod Linear
 pub mod Steps
+pub mod ColumnWords
+pub mod InverseRounds
+pub mod FourBlocks
+pub mod FourRounds
 pub mod Permutation
 pub mod Counting
 pub mod StreamSteps

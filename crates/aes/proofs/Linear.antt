@@ -57,7 +57,7 @@ pub times_assoc : (x y z : ℕ) → times x (times y z) ≡ times (times x y) z
 times_assoc x y z = times_swap x y z ∙ ap (times z) (times_comm y x) ∙ times_comm z (times x y)
 
 -- the middle two of four terms exchanged
-xor_exchange : (a b c d : ℕ) → bit_xor (bit_xor a b) (bit_xor c d) ≡ bit_xor (bit_xor a c) (bit_xor b d)
+pub xor_exchange : (a b c d : ℕ) → bit_xor (bit_xor a b) (bit_xor c d) ≡ bit_xor (bit_xor a c) (bit_xor b d)
 xor_exchange a b c d =
     xor_assoc a b (bit_xor c d)
     ∙ ap (bit_xor a) (sym (xor_assoc b c d) ∙ ap (λ x. bit_xor x d) (xor_comm b c) ∙ xor_assoc c b d)
@@ -178,44 +178,6 @@ pub unmix_column_whole : (v : List ℕ)
     → get_or (unmix_column v) 0 0 ∷ get_or (unmix_column v) 1 0 ∷ get_or (unmix_column v) 2 0 ∷ get_or (unmix_column v) 3 0 ∷ [] ≡ unmix_column v
 unfolding unmix_column
 unmix_column_whole v = refl
-
--- ---- multiples by doubling
-pub doubled : (k l x y z : ℕ) → z ≡ times 2 y → y ≡ times k x → times 2 k ≡ l → z ≡ times l x
-doubled k l x y z e f g = e ∙ ap (times 2) f ∙ times_assoc 2 k x ∙ ap (λ m. times m x) g
-
--- a multiple and one more
-pub plus_one : (k l x y : ℕ) → x < 256 → y ≡ times k x → bit_xor k 1 ≡ l → bit_xor y x ≡ times l x
-plus_one k l x y h e g = ap₂ bit_xor e (sym (single_is x h)) ∙ sym (xor_times k 1 x) ∙ ap (λ m. times m x) g
-
--- x times x
-pub two_two : times 2 2 ≡ 4
-unfolding times product residue
-two_two = refl
-
--- x times x + 1
-pub two_three : times 2 3 ≡ 6
-unfolding times product residue
-two_three = refl
-
--- x times x^2
-pub two_four : times 2 4 ≡ 8
-unfolding times product residue
-two_four = refl
-
--- x times x^2 + 1
-pub two_five : times 2 5 ≡ 10
-unfolding times product residue
-two_five = refl
-
--- x times x^2 + x
-pub two_six : times 2 6 ≡ 12
-unfolding times product residue
-two_six = refl
-
--- x times x^2 + x + 1
-pub two_seven : times 2 7 ≡ 14
-unfolding times product residue
-two_seven = refl
 
 -- the product with the inverse matrix, written out
 pub unmix_written : (a b c d : ℕ) → a < 256 → b < 256 → c < 256 → d < 256

@@ -267,7 +267,3 @@ quad (a ∷ b ∷ []) h = absurd (omega arith)
 quad (a ∷ b ∷ c ∷ []) h = absurd (omega arith)
 quad (a ∷ b ∷ c ∷ d ∷ []) h = refl
 quad (a ∷ b ∷ c ∷ d ∷ e ∷ l) h = absurd (omega arith)
-
--- the same below the matrix
-pub mix_quad : (a v : List ℕ) → length a ≡ 4 → mix_column a ≡ v → mix_column (get_or a 0 0 ∷ get_or a 1 0 ∷ get_or a 2 0 ∷ get_or a 3 0 ∷ []) ≡ v
-mix_quad a v long e = ap mix_column (quad a long) ∙ e

@@ -1,10 +1,10 @@
 -- Streams of counting blocks, one piece after the other.
-use Rattle.std.proofs.Common.{◌≡◌, ℕ, ◌+◌, ◌-◌, ◌/◌, ◌%◌, ◌^◌, ◌<◌, ◌≤◌, List, [], ◌++◌, length, take, drop, get_or, refl, sym, ap, ap₂, subst, ◌∙◌, arith, take-add, add-zero}
+use Rattle.std.proofs.Common.{◌≡◌, ℕ, ◌+◌, ◌-◌, ◌*◌, ◌/◌, ◌%◌, zero, suc, ◌^◌, ◌<◌, ◌≤◌, List, [], ◌∷◌, ◌++◌, length, take, drop, get_or, refl, sym, ap, ap₂, subst, ◌∙◌, arith, take-add, add-zero}
 use Rattle.std.proofs.lemmas.List.{take_at, drop_at, take_all, drop_all, drop-drop, length-append, length-take-le, length-drop, get_or-take, get_or-drop, append-nil}
 use Rattle.std.proofs.lemmas.Slice.{take-put_mid, drop-put_mid}
 use Rattle.std.specs.Int.{bytes_high_first}
 use borrow.Rule.Slice.PartMut.{put_mid}
-use Rattle.octets.specs.Bytes.{xor_bytes, le, be}
+use Rattle.octets.specs.Bytes.{xor_bytes, le, be, block_at}
 use Rattle.octets.specs.Masked.{masked}
 use Rattle.octets.proofs.Masks.{masked-append, xor_bytes-masked}
 use Rattle.byteorder.specs.Endian.{big_number, big_bytes, little_number, little_bytes}
@@ -99,10 +99,61 @@ began up s t xs ys n wraps key_stays first_stays counted new_mask used_is none s
       xored ∙ block_masked up key first t.mask xs made 0 n mask place room_at_0 long size,
     )
 
+-- four blocks one after the other
+pub joined_blocks : (a b c d m : List ℕ) (f : ℕ → List ℕ) → length a ≡ 16 → length b ≡ 16 → length c ≡ 16 → length d ≡ 16 → m ≡ a ++ (b ++ (c ++ d))
+    → a ≡ f 0 → b ≡ f 1 → c ≡ f 2 → d ≡ f 3 → (q : ℕ) → q < 4 → block_at m q ≡ f q
+joined_blocks a b c d m f ha hb hc hd is ea eb ec ed zero h = ap (take 16) is ∙ take_at a (b ++ (c ++ d)) 16 ha ∙ ea
+joined_blocks a b c d m f ha hb hc hd is ea eb ec ed (suc zero) h =
+    ap (λ l. take 16 (drop 16 l)) is ∙ ap (take 16) (drop_at a (b ++ (c ++ d)) 16 ha) ∙ take_at b (c ++ d) 16 hb ∙ eb
+joined_blocks a b c d m f ha hb hc hd is ea eb ec ed (suc (suc zero)) h =
+    ap (take 16) (sym (drop-drop 16 16 m) ∙ ap (drop 16) (ap (drop 16) is ∙ drop_at a (b ++ (c ++ d)) 16 ha) ∙ drop_at b (c ++ d) 16 hb) ∙ take_at c d 16 hc ∙ ec
+joined_blocks a b c d m f ha hb hc hd is ea eb ec ed (suc (suc (suc zero))) h =
+    ap (take 16) (sym (drop-drop 16 32 m) ∙ ap (drop 16) (sym (drop-drop 16 16 m) ∙ ap (drop 16) (ap (drop 16) is ∙ drop_at a (b ++ (c ++ d)) 16 ha) ∙ drop_at b (c ++ d) 16 hb) ∙ drop_at c d 16 hc)
+    ∙ take_all 16 d (omega arith) ∙ ed
+joined_blocks a b c d m f ha hb hc hd is ea eb ec ed (suc (suc (suc (suc q)))) h = absurd (omega arith)
+
+-- the next four blocks
+pub began_four : {C : Type 0} (up : List ℕ → ℕ → List ℕ) (s t : Counter C) (masks xs ys : List ℕ) → WrapsAround up
+    → t.key ≡ s.key → t.first ≡ s.first → t.begun ≡ (s.begun + 4) % 2 ^ 32 → t.used ≡ 0 → s.used ≡ 0 → length xs ≡ 64 → length masks ≡ 64
+    → ((q : ℕ) → q < 4 → block_at masks q ≡ cipher s.key (up s.first ((s.begun + q) % 2 ^ 32))) → ys ≡ xor_bytes xs masks → Advances up s t xs ys
+unfolding counter_byte
+began_four up s t masks xs ys wraps key_stays first_stays counted used_is none long size are xored = λ key first made held.
+    let place : 0 ≡ made % 16 = sym none ∙ held.used_is in
+    let blocks : (made + 15) / 16 ≡ made / 16 = omega arith in
+    let more : (made + length xs + 15) / 16 ≡ made / 16 + 4 = omega arith in
+    let before : s.begun ≡ (made / 16) % 2 ^ 32 = held.begun_is ∙ ap (λ (x : ℕ). x % 2 ^ 32) blocks in
+    let next : ((made / 16) % 2 ^ 32 + 4) % 2 ^ 32 ≡ (made / 16 + 4) % 2 ^ 32 = omega arith in
+    let ended : (made + length xs) % 16 ≡ 0 = omega arith in (
+      record {
+        key_is = key_stays ∙ held.key_is;
+        first_is = first_stays ∙ held.first_is;
+        begun_is = counted ∙ ap (λ (x : ℕ). (x + 4) % 2 ^ 32) before ∙ next ∙ ap (λ (x : ℕ). x % 2 ^ 32) (sym more);
+        used_is = used_is ∙ sym ended;
+        mask_is = λ left. absurd (omega arith);
+      },
+      xored ∙ xor_bytes-masked (counter_byte up key first) made xs masks (omega arith) (λ i l.
+          let q : ℕ = i / 16 in
+          let within : q < 4 = omega arith in
+          let split : i ≡ q * 16 + i % 16 = omega arith in
+          let block : (made + i) / 16 ≡ made / 16 + q = omega arith in
+          let byte : (made + i) % 16 ≡ i % 16 = omega arith in
+          let count : ((made / 16) % 2 ^ 32 + q) % 2 ^ 32 ≡ (made / 16 + q) % 2 ^ 32 = omega arith in
+          ap (λ (k : ℕ). get_or masks k 0) split ∙ sym (get_or-drop (q * 16) masks (i % 16) 0) ∙ sym (get_or-take 16 (drop (q * 16) masks) (i % 16) 0 (omega arith))
+          ∙ ap (λ m. get_or m (i % 16) 0) (
+          are q within
+          ∙ ap₂ cipher held.key_is (ap₂ up held.first_is (ap (λ (x : ℕ). (x + q) % 2 ^ 32) before ∙ count) ∙ wraps first (made / 16 + q)))
+          ∙ sym (ap₂ (λ (b r : ℕ). get_or (cipher key (up first b)) r 0) block byte)),
+    )
+
 -- no bytes
 pub advances-nil : {C : Type 0} (up : List ℕ → ℕ → List ℕ) (s : Counter C) → Advances up s s [] []
 unfolding masked
 advances-nil up s = λ key first made held. (subst (Makes up s key first) (sym (add-zero made)) held, refl)
+
+-- a piece of length 0
+pub advances_empty : {C : Type 0} (up : List ℕ → ℕ → List ℕ) (s : Counter C) (was : List ℕ) → length was ≡ 0 → Advances up s s was was
+advances_empty up s [] h = advances-nil up s
+advances_empty up s (x ∷ was) h = absurd (omega arith)
 
 -- one piece and then another
 pub advances-append : {C : Type 0} (up : List ℕ → ℕ → List ℕ) (s t u : Counter C) (a x b y : List ℕ)
@@ -137,6 +188,10 @@ length-put_mid a k xs ys room size =
     length-append (take a xs) (ys ++ drop k (drop a xs))
     ∙ ap (λ (x : ℕ). length (take a xs) + x) (length-append ys (drop k (drop a xs)))
     ∙ omega arith
+
+-- a list whose beginning was written anew keeps its length
+pub length-begun : (was begun : List ℕ) (h : ℕ) → length begun ≡ h → h ≤ length was → length (begun ++ drop h was) ≡ length was
+length-begun was begun h size within = length-append begun (drop h was) ∙ omega (arith, length-drop h was)
 
 -- the last piece
 pub advances_all : {C : Type 0} (up : List ℕ → ℕ → List ℕ) (s t : Counter C) (was now : List ℕ) (b : ℕ)

@@ -1,5 +1,5 @@
 -- Tables, and that they are the definitions at every entry.
-use Rattle.std.proofs.Common.{◌≡◌, ℕ, zero, suc, ◌+◌, ◌<◌, Bool, true, not, ◌&&◌, ◌==◌, cond, List, [], ◌∷◌, get_or, inl, inr, refl, sym, ap, ◌∙◌, arith, position, unwrap_or, ltb, nat_lt, Some, None, ne_of_lt, lt-ltb, ltb-true, add-one, zero-add}
+use Rattle.std.proofs.Common.{◌≡◌, ℕ, zero, suc, ◌+◌, ◌<◌, Bool, true, ◌&&◌, ◌==◌, cond, List, [], ◌∷◌, get_or, inl, inr, refl, sym, ap, ◌∙◌, arith, position, unwrap_or, ltb, nat_lt, Some, None, ne_of_lt, lt-ltb, ltb-true, add-one, zero-add}
 use Rattle.std.specs.List.{range_with_len, position_or_len}
 use Rattle.std.proofs.lemmas.Bool.{and_parts, eqb-true, cases_Bool, cases_eq}
 use Rattle.std.proofs.lemmas.List.Sums.{position_or_len_is}
@@ -47,11 +47,6 @@ all_below_at t (suc n) k h l =
 inverses_computed : all_below (λ x. (times (x + 1) (get_or inverses (x + 1) 0) == 1) && (ltb (get_or inverses (x + 1) 0) 256)) 255 ≡ true
 unfolding times product residue
 inverses_computed = refl
-
--- no product with 0 is 1, tested at each byte
-zero_computed : all_below (λ y. not (times 0 y == 1)) 256 ≡ true
-unfolding times product residue
-zero_computed = refl
 
 -- the product with 1, tested at each byte
 one_computed : all_below (λ x. times x 1 == x) 256 ≡ true

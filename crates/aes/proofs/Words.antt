@@ -1,7 +1,8 @@
 -- The words of a schedule.
-use Rattle.std.proofs.Common.{◌≡◌, ℕ, zero, suc, ◌+◌, ◌-◌, ◌*◌, ◌/◌, ◌%◌, ◌<◌, ◌≤◌, cond, ◌==◌, ◌&&◌, List, [], ◌∷◌, ◌++◌, take, drop, get_or, length, flat_map, replicate, set, inl, inr, refl, sym, ap, ap₂, ◌∙◌, arith, lt-ltb, le-ltb, take-add, add-one}
+use Rattle.std.proofs.Common.{◌≡◌, ℕ, zero, suc, ◌+◌, ◌-◌, ◌*◌, ◌/◌, ◌%◌, ◌^◌, ◌<◌, ◌≤◌, cond, ◌==◌, ◌&&◌, List, [], ◌∷◌, ◌++◌, take, drop, get_or, length, flat_map, replicate, set, inl, inr, refl, sym, ap, ap₂, ◌∙◌, arith, lt-ltb, le-ltb, take-add, add-one}
 use Rattle.std.proofs.lemmas.Bool.{cases_eq, cases_lt, and_parts, false_from_ne_true, eq-eqb, ne_eqb, eqb-true}
-use Rattle.std.proofs.lemmas.List.{get_or_append_left, get_or_push, get_or-append_right, get_or-replicate, length-replicate, length-append, ext_get_or, length_push, drop_more, flat_map_more, take_more, get_or-set_same, get_or-set_other}
+use Rattle.std.proofs.lemmas.List.{get_or_append_left, get_or_push, get_or-append_right, get_or-replicate, length-replicate, length-append, ext_get_or, length_push, drop_more, flat_map_more, take_more, get_or-set_same, get_or-set_other, get_or-map, length-map, get_or_past}
+use Rattle.aes.specs.Columns.{column_of, columns_of}
 use Rattle.aes.specs.Schedule.{table, schedule, xor_word, key_words, changed, next_word, words, key_of, sub_word, rot_word, rcon, round_count, MeetsRecurrence}
 
 -- the number of words
@@ -77,21 +78,37 @@ take_four s n h =
     ap (take 2) (drop_more s (n + 2) 0 (omega arith) ∙ ap (λ i. get_or s (n + 2) 0 ∷ drop i s) up2)
     ∙ ap (λ x. get_or s (n + 2) 0 ∷ x) (ap (take 1) (drop_more s (n + 3) 0 (omega arith)))))
 
--- one more word written
-pub one_more_word : (f : ℕ → List ℕ) (ws : List (List ℕ)) (i : ℕ) (v : List ℕ) → i < length ws
-    → ((k : ℕ) → k < i → get_or ws k [] ≡ f k) → v ≡ f i → (k : ℕ) → k < i + 1 → get_or (set ws i v) k [] ≡ f k
+-- one more word written, each of which spells the column that f says
+pub one_more_word : (f : ℕ → List ℕ) (ws : List ℕ) (i v : ℕ) → i < length ws
+    → ((k : ℕ) → k < i → column_of (get_or ws k 0) ≡ f k) → column_of v ≡ f i → (k : ℕ) → k < i + 1 → column_of (get_or (set ws i v) k 0) ≡ f k
 one_more_word f ws i v h before e k l =
     elim (cases_eq k i) [
-      | inl g ↦ rw g (get_or-set_same ws i v [] h ∙ e)
-      | inr g ↦ get_or-set_other ws i k v [] g ∙ before k (omega arith)
+      | inl g ↦ rw g (ap column_of (get_or-set_same ws i v 0 h) ∙ e)
+      | inr g ↦ ap column_of (get_or-set_other ws i k v 0 g) ∙ before k (omega arith)
     ]
 
 -- and the words after it as they were
-pub others_stay : (z : List ℕ) (ws : List (List ℕ)) (i : ℕ) (v : List ℕ)
-    → ((k : ℕ) → i ≤ k → k < 60 → get_or ws k [] ≡ z) → (k : ℕ) → i + 1 ≤ k → k < 60 → get_or (set ws i v) k [] ≡ z
-others_stay z ws i v after k h l =
+pub others_stay : (ws : List ℕ) (i v : ℕ)
+    → ((k : ℕ) → i ≤ k → k < 60 → get_or ws k 0 ≡ 0) → (k : ℕ) → i + 1 ≤ k → k < 60 → get_or (set ws i v) k 0 ≡ 0
+others_stay ws i v after k h l =
     let other : k ≡ i → ⊥ = λ e. omega arith in
-    get_or-set_other ws i k v [] other ∙ after k (omega arith) l
+    get_or-set_other ws i k v 0 other ∙ after k (omega arith) l
+
+-- words of 32 bits, one of them written
+pub small_words : (ws : List ℕ) (i v : ℕ) → v < 2 ^ 32 → ((k : ℕ) → get_or ws k 0 < 2 ^ 32) → (k : ℕ) → get_or (set ws i v) k 0 < 2 ^ 32
+small_words [] i v h small k = small k
+small_words (w ∷ ws) zero v h small zero = h
+small_words (w ∷ ws) zero v h small (suc k) = small (suc k)
+small_words (w ∷ ws) (suc i) v h small zero = small zero
+small_words (w ∷ ws) (suc i) v h small (suc k) = small_words ws i v h (λ k. small (suc k)) k
+
+-- sixty zero words
+pub zero_words : (k : ℕ) → get_or (replicate 60 0) k 0 < 2 ^ 32
+zero_words k =
+    elim (cases_lt k 60) [
+      | inl l ↦ rw (get_or-replicate {A = ℕ} 60 k 0 0 l) (omega arith)
+      | inr g ↦ rw (get_or_past (replicate {A = ℕ} 60 0) k 0 g) (omega arith)
+    ]
 
 -- the words of a table
 pub table_start : (key : List ℕ) (k : ℕ) → k < 4 * (round_count key + 1) → get_or (table key) k [] ≡ get_or (schedule key) k []
@@ -100,11 +117,11 @@ table_start key k h =
     get_or_append_left (schedule key) (replicate (60 - length (schedule key)) (replicate 4 0)) [] k
     (omega (arith, length_words key (4 * (round_count key + 1))))
 
--- sixty words that begin with the schedule and are zero after it are the table
-pub is_table : (ws : List (List ℕ)) (key : List ℕ) → length ws ≡ 60 → 4 * (round_count key + 1) ≤ 60
-    → ((k : ℕ) → k < 4 * (round_count key + 1) → get_or ws k [] ≡ word key k)
-    → ((k : ℕ) → 4 * (round_count key + 1) ≤ k → k < 60 → get_or ws k [] ≡ replicate 4 0) → ws ≡ table key
-unfolding table
+-- sixty words that begin with the schedule and are zero after it spell the table
+pub is_table : (ws key : List ℕ) → length ws ≡ 60 → 4 * (round_count key + 1) ≤ 60
+    → ((k : ℕ) → k < 4 * (round_count key + 1) → column_of (get_or ws k 0) ≡ word key k)
+    → ((k : ℕ) → 4 * (round_count key + 1) ≤ k → k < 60 → get_or ws k 0 ≡ 0) → columns_of ws ≡ table key
+unfolding table column_of
 is_table ws key long short start after =
     let n : ℕ = 4 * (round_count key + 1) in
     let m : ℕ = 60 - length (schedule key) in
@@ -112,12 +129,15 @@ is_table ws key long short start after =
     let size : length (schedule key) ≡ n = length_words key n in
     let size_zeros : length zeros ≡ m = length-replicate m (replicate 4 0) in
     let size_table : length (schedule key ++ zeros) ≡ 60 = length-append (schedule key) zeros ∙ omega arith in
-    ext_get_or [] ws (schedule key ++ zeros) (long ∙ sym size_table)
-    (λ k l. elim (cases_lt k n) [
+    let columns : length (columns_of ws) ≡ 60 = length-map ws column_of ∙ long in
+    ext_get_or [] (columns_of ws) (schedule key ++ zeros) (columns ∙ sym size_table)
+    (λ k l.
+    get_or-map column_of ws k 0 [] (omega arith)
+    ∙ elim (cases_lt k n) [
       | inl g ↦
           start k g ∙ sym (words_at key n k g) ∙ sym (get_or_append_left (schedule key) zeros [] k (omega arith))
       | inr g ↦
-          after k g (omega arith) ∙ sym (get_or-append_right (schedule key) zeros n k [] size g ∙ get_or-replicate m (k - n) (replicate 4 0) [] (omega arith))
+          ap column_of (after k g (omega arith)) ∙ sym (get_or-append_right (schedule key) zeros n k [] size g ∙ get_or-replicate m (k - n) (replicate 4 0) [] (omega arith))
     ])
 
 -- the first words spell the key

@@ -1,6 +1,9 @@
 pub mod Field
+pub mod Columns
 pub mod Schedule
 pub mod Cipher
+pub mod Lanes
 pub mod AesKey
+pub mod InverseKey
 pub mod Counters
 pub mod Streams

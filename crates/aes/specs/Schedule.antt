@@ -66,13 +66,6 @@ table key = schedule key ++ replicate (60 - length (schedule key)) (replicate 4 
 abbrev pub IsKeySize : ℕ → Type 0
 IsKeySize nk = (nk ≡ 4) ⊎ ((nk ≡ 6) ⊎ (nk ≡ 8))
 
--- what the fields of an expanded key keep
-pub record IsExpanded (ws : List (List ℕ)) (nk : ℕ) : Type 0 where
-  pub size : IsKeySize nk
-  pub length_is : length (key_of ws nk) ≡ 4 * nk
-  pub bytes : (i : ℕ) → get_or (key_of ws nk) i 0 < 256
-  pub words_are : ws ≡ table (key_of ws nk)
-
 -- word i of the schedule
 abbrev pub word : List ℕ → ℕ → List ℕ
 word key i = get_or (schedule key) i []

@@ -1,6 +1,7 @@
 // Streams of bytes from a block that counts (SP 800-38D, 6.5; RFC 8452, 4).
 
-ghost use Rattle.std.specs.Prelude.{◌≡◌, ℕ, ◌+◌, ◌%◌, ◌<◌, ◌≤◌, List, length};
+ghost use Rattle.std.specs.Prelude.{◌≡◌, ℕ, ◌+◌, ◌%◌, ◌^◌, ◌<◌, ◌≤◌, List, ◌++◌, length};
+ghost use Rattle.octets.specs.Bytes.{block_at};
 ghost use Rattle.octets.specs.Masked.{masked};
 ghost use Rattle.aes.specs.Counters.{CountsOn, WrapsAround, counter_byte, up_be, up_le, up_be-wraps, up_le-wraps};
 
@@ -34,6 +35,19 @@ fn add_le(first: &[u8; 16], steps: u32) -> [u8; 16]
     let mut next = *first;
     LittleEndian::write_u32(&mut next, number.wrapping_add(steps));
     next
+}
+
+// Four blocks one after the other.
+fn joined(a: &[u8; 16], b: &[u8; 16], c: &[u8; 16], d: &[u8; 16]) -> [u8; 64]
+    ensures { result ≡ a.now ++ (b.now ++ (c.now ++ d.now)) }
+{
+    [
+        a[0], a[1], a[2], a[3], a[4], a[5], a[6], a[7], a[8], a[9], a[10], a[11], a[12], a[13],
+        a[14], a[15], b[0], b[1], b[2], b[3], b[4], b[5], b[6], b[7], b[8], b[9], b[10], b[11],
+        b[12], b[13], b[14], b[15], c[0], c[1], c[2], c[3], c[4], c[5], c[6], c[7], c[8], c[9],
+        c[10], c[11], c[12], c[13], c[14], c[15], d[0], d[1], d[2], d[3], d[4], d[5], d[6], d[7],
+        d[8], d[9], d[10], d[11], d[12], d[13], d[14], d[15],
+    ]
 }
 
 // Where a block counts.
@@ -88,6 +102,7 @@ struct Counter<C> {
 
 impl<C: Count> Counter<C> {
     ghost use Rattle.aes.specs.Streams.{Makes, Advances};
+    ghost use Rattle.aes.specs.Lanes.{IsReady};
 
     // The stream whose first block is the cipher of `first`.
     fn new(key: &AesKey, first: &Block) -> Counter<C>
@@ -129,12 +144,56 @@ impl<C: Count> Counter<C> {
         self.used = bytes.len() % 16;
     }
 
+    // The next four blocks that count.
+    fn four(&self) -> [u8; 64]
+        ensures { (q : ℕ) → q < 4 → block_at result q ≡ C.up self.now.first ((self.now.begun + q) % 2 ^ 32) }
+    {
+        let first = C::block(&self.first, self.begun);
+        let second = C::block(&self.first, self.begun.wrapping_add(1));
+        let third = C::block(&self.first, self.begun.wrapping_add(2));
+        let fourth = C::block(&self.first, self.begun.wrapping_add(3));
+        joined(first.bytes(), second.bytes(), third.bytes(), fourth.bytes())
+    }
+
+    // XORs in the next four blocks, where none is begun.
+    fn begin_four(&mut self, keys: &[[u8; 16]; 15], bytes: &mut [u8])
+        requires ready { IsReady keys.now self.old.key }
+        requires none { self.old.used ≡ 0 }
+        requires long { length bytes.old ≡ 64 }
+        ensures advances { Advances C.up self.old self.new bytes.old bytes.new }
+        ensures used { self.new.used ≡ 0 }
+        ensures key { self.new.key ≡ self.old.key }
+    {
+        let masks = self.key.encrypt_ready(keys, &self.four());
+        self.begun = self.begun.wrapping_add(4);
+        xor_into(bytes, &masks);
+    }
+
+    // XORs in runs of four blocks, where none is begun.
+    fn apply_fours(&mut self, bytes: &mut [u8])
+        requires none { self.old.used ≡ 0 }
+        requires whole { length bytes.old % 64 ≡ 0 }
+        ensures advances { Advances C.up self.old self.new bytes.old bytes.new }
+        ensures used { self.new.used ≡ 0 }
+    {
+        if bytes.len() < 64 {
+            return;
+        }
+        let keys = self.key.ready();
+        let mut done = 0;
+        'fours: while bytes.len() - done >= 64 {
+            self.begin_four(&keys, &mut bytes[done..done + 64]);
+            done += 64;
+        }
+    }
+
     // XORs in blocks, the last one perhaps in part, where none is begun.
     fn apply_blocks(&mut self, bytes: &mut [u8])
         requires { self.old.used ≡ 0 }
         ensures { Advances C.up self.old self.new bytes.old bytes.new }
     {
-        let mut done = 0;
+        let mut done = bytes.len() / 64 * 64;
+        self.apply_fours(&mut bytes[..done]);
         'whole: while bytes.len() - done >= 16 {
             self.begin(&mut bytes[done..done + 16]);
             done += 16;

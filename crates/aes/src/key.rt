@@ -1,19 +1,25 @@
 // An expanded key, and the cipher under it.
 
-ghost use Rattle.std.specs.Prelude.{◌≡◌, length, MatchResult};
-ghost use Rattle.octets.specs.Bytes.{IsBlock};
+ghost use Rattle.std.specs.Prelude.{◌≡◌, ℕ, ◌<◌, length, MatchResult};
+ghost use Rattle.octets.specs.Bytes.{IsBlock, block_at};
 ghost use Rattle.aes.specs.Cipher.{cipher, IsKey, IsKeyLength, IsPreimage};
+ghost use Rattle.aes.specs.InverseKey.{IsInverse};
+ghost use Rattle.aes.specs.Lanes.{IsReady};
 
-use crate::cipher::{add_round_key, mix_columns, shift_rows, sub_bytes};
-use crate::inverse::{unmix_columns, unshift_rows, unsub_bytes};
+use crate::columns::{add_key, last_round, load, round, round_key, store};
+use crate::inverse::unmix_words;
+use crate::inverse_key::InverseKey;
+use crate::lanes::{first_four, last_four, ready_keys, round_four, spread};
 use crate::schedule::expand;
 use octets::{Block, Fault, Key16, Key24, Key32, are_bytes};
 use std::marker::Model;
+use std::simd::prelude::*;
+use std::simd::u8x64;
 
 /// A key of AES with its schedule (FIPS 197, 5.2). Contracts see the key's bytes: 16, 24 or 32.
 #[derive(Clone, Copy)]
 pub struct AesKey {
-    words: [[u8; 4]; 60],
+    words: [u32; 60],
     size: usize,
 }
 
@@ -22,10 +28,11 @@ impl Model for AesKey {
 
     ghost Value = { List ℕ };
 
-    ghost use Rattle.aes.specs.Schedule.{key_of, IsExpanded};
-    ghost use Rattle.aes.specs.AesKey.{fields_of, fields_of-key_of};
+    ghost use Rattle.aes.specs.Schedule.{key_of};
+    ghost use Rattle.aes.specs.Columns.{columns_of};
+    ghost use Rattle.aes.specs.AesKey.{IsExpanded, fields_of, fields_of-key_of};
 
-    ghost view = { λ a. key_of a.words a.size };
+    ghost view = { λ a. key_of (columns_of a.words) a.size };
 
     ghost invariant = { λ a. IsExpanded a.words a.size };
 
@@ -95,28 +102,58 @@ impl AesKey {
         ensures is_block { IsBlock result }
     {
         let count = self.size + 6;
-        let mut state = add_round_key(&self.words, 0, block.bytes());
-        for round in 0..count - 1 {
-            let mixed = mix_columns(&shift_rows(&sub_bytes(&state)));
-            state = add_round_key(&self.words, round + 1, &mixed);
+        let mut state = add_key(load(block.bytes()), round_key(&self.words, 0));
+        for done in 0..count - 1 {
+            let next = round(state, round_key(&self.words, done + 1));
+            state = next;
         }
-        let shifted = shift_rows(&sub_bytes(&state));
-        Block::new(add_round_key(&self.words, count, &shifted))
+        Block::new(store(last_round(state, round_key(&self.words, count))))
     }
 
-    /// The block of 16 bytes that the cipher takes to `block`; it is the only one (FIPS 197, 5.3).
+    // The words of its rounds made ready for `encrypt_ready`.
+    pub(crate) fn ready(&self) -> [[u8; 16]; 15]
+        ensures { IsReady result self.now }
+    {
+        ready_keys(&self.words)
+    }
+
+    // The ciphers of four blocks, one after the other, by words made ready.
+    pub(crate) fn encrypt_ready(&self, keys: &[[u8; 16]; 15], blocks: &[u8; 64]) -> [u8; 64]
+        requires { IsReady keys.now self.now }
+        ensures { (q : ℕ) → q < 4 → block_at result q ≡ cipher self.now (block_at blocks.now q) }
+    {
+        let count = self.size + 6;
+        let mut lanes = first_four(
+            u8x64::from_array(*blocks),
+            spread(round_key(&self.words, 0)),
+        );
+        for done in 0..count - 1 {
+            let next = round_four(lanes, keys[done + 1]);
+            lanes = next;
+        }
+        last_four(lanes, spread(round_key(&self.words, count))).to_array()
+    }
+
+    /// The ciphers of four blocks, one after the other, each of 16 bytes (FIPS 197, 5.1).
+    pub fn encrypt_four(&self, blocks: &[u8; 64]) -> [u8; 64]
+        ensures { (q : ℕ) → q < 4 → block_at result q ≡ cipher self.now (block_at blocks.now q) }
+    {
+        self.encrypt_ready(&self.ready(), blocks)
+    }
+
+    /// The same key made ready for `InverseKey::decrypt` (FIPS 197, 5.3.5).
+    pub fn inverse(&self) -> InverseKey
+        ensures { IsInverse result self.now }
+    {
+        InverseKey::new(unmix_words(&self.words, self.size + 6), self.size)
+    }
+
+    /// The block of 16 bytes that the cipher takes to `block`; it is the only one (FIPS 197, 5.3). For many blocks make the
+    /// `inverse` once.
     pub fn decrypt(&self, block: &Block) -> Block
         ensures value { IsPreimage self.now block.now result }
         ensures is_block { IsBlock result }
     {
-        let count = self.size + 6;
-        let last = add_round_key(&self.words, count, block.bytes());
-        let mut state = unsub_bytes(&unshift_rows(&last));
-        for done in 0..count - 1 {
-            let mixed = add_round_key(&self.words, count - 1 - done, &state);
-            state = unsub_bytes(&unshift_rows(&unmix_columns(&mixed)));
-        }
-        let first = add_round_key(&self.words, 0, &state);
-        Block::new(first)
+        self.inverse().decrypt(block)
     }
 }

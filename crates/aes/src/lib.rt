@@ -2,16 +2,21 @@
 #![tactic(auto)]
 
 mod cipher;
+mod columns;
 mod counter;
 mod inverse;
+mod inverse_key;
 mod key;
+mod lanes;
 mod sbox;
 mod schedule;
 #[cfg(test)]
 mod tests;
 
 pub use cipher::is_permutation;
+pub use columns::round;
 pub use counter::{CtrBe, CtrLe, blocks_count_on};
+pub use inverse_key::InverseKey;
 pub use key::AesKey;
 pub use sbox::inverse_is_the_only;
 pub use schedule::schedule_recurs;

@@ -1,27 +1,24 @@
-// The key schedule (FIPS 197, 5.2).
+// The key schedule (FIPS 197, 5.2). A word is a number of 32 bits, its first byte the least significant one.
 
-ghost use Rattle.std.specs.Prelude.{◌≡◌, ◌*◌, ◌≤◌, ◌/◌, ◌<◌, length};
-ghost use Rattle.aes.specs.Schedule.{xor_word, sub_word, rcon, changed, table, IsKeySize, MeetsRecurrence};
+ghost use Rattle.std.specs.Prelude.{◌≡◌, ℕ, ◌*◌, ◌^◌, ◌≤◌, ◌/◌, ◌<◌, length, slice_index};
+ghost use Rattle.aes.specs.Columns.{column_of, columns_of};
+ghost use Rattle.aes.specs.Schedule.{xor_word, sub_word, rot_word, rcon, changed, table, IsKeySize, MeetsRecurrence};
 
 use crate::sbox::substitute;
 
-// The sum of two words.
-fn xor_word(v: [u8; 4], w: [u8; 4]) -> [u8; 4]
-    ensures { result ≡ xor_word v w }
+// SubWord: the S-box at each byte.
+fn sub_word(w: u32) -> u32
+    ensures { column_of result ≡ sub_word (column_of w) }
 {
-    [v[0] ^ w[0], v[1] ^ w[1], v[2] ^ w[2], v[3] ^ w[3]]
+    let [a, b, c, d] = w.to_le_bytes();
+    u32::from_le_bytes([substitute(a), substitute(b), substitute(c), substitute(d)])
 }
 
-// SubWord: the S-box at each byte.
-fn sub_word(w: [u8; 4]) -> [u8; 4]
-    ensures { result ≡ sub_word w }
+// RotWord: the rows move up by one, around the end.
+fn rot_word(w: u32) -> u32
+    ensures { column_of result ≡ rot_word (column_of w) }
 {
-    [
-        substitute(w[0]),
-        substitute(w[1]),
-        substitute(w[2]),
-        substitute(w[3]),
-    ]
+    w.rotate_left(24)
 }
 
 // The first bytes of the round constants, from 1 on (5.2).
@@ -30,40 +27,40 @@ const RCON: [u8; 11] = [
 ];
 
 // The round constant of number j.
-fn rcon(j: usize) -> [u8; 4]
+fn rcon(j: usize) -> u32
     requires low { 0 < j }
     requires high { j < 11 }
-    ensures { result ≡ rcon j }
+    ensures { column_of result ≡ rcon j }
 {
-    [RCON[j], 0, 0, 0]
+    u32::from_le_bytes([RCON[j], 0, 0, 0])
 }
 
 // Word i of the schedule of a key of nk words, by the word nk places back and the word before.
-fn next_word(nk: usize, i: usize, back: [u8; 4], previous: [u8; 4]) -> [u8; 4]
+fn next_word(nk: usize, i: usize, back: u32, previous: u32) -> u32
     requires some { 0 < nk }
     requires from { nk ≤ i }
     requires below { i / nk < 11 }
-    ensures { result ≡ xor_word back (changed nk i previous) }
+    ensures { column_of result ≡ xor_word (column_of back) (changed nk i (column_of previous)) }
 {
     if i % nk == 0 {
-        let [a, b, c, d] = previous;
-        xor_word(back, xor_word(sub_word([b, c, d, a]), rcon(i / nk)))
+        back ^ (sub_word(rot_word(previous)) ^ rcon(i / nk))
     } else if nk == 8 && i % 8 == 4 {
-        xor_word(back, sub_word(previous))
+        back ^ sub_word(previous)
     } else {
-        xor_word(back, previous)
+        back ^ previous
     }
 }
 
 // The schedule of a key of nk words, and zero words after it.
-pub(crate) fn expand(key: &[u8], nk: usize) -> [[u8; 4]; 60]
+pub(crate) fn expand(key: &[u8], nk: usize) -> [u32; 60]
     requires size { IsKeySize nk }
     requires long { length key.now ≡ 4 * nk }
-    ensures { result ≡ table key.now }
+    ensures table { columns_of result ≡ table key.now }
+    ensures words { (i : ℕ) → slice_index result i < 2 ^ 32 }
 {
-    let mut words = [[0; 4]; 60];
+    let mut words = [0; 60];
     'start: for i in 0..nk {
-        words[i] = [key[4 * i], key[4 * i + 1], key[4 * i + 2], key[4 * i + 3]];
+        words[i] = u32::from_le_bytes([key[4 * i], key[4 * i + 1], key[4 * i + 2], key[4 * i + 3]]);
     }
     'rest: for i in nk..4 * (nk + 7) {
         words[i] = next_word(nk, i, words[i - nk], words[i - 1]);

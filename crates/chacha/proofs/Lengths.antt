@@ -36,12 +36,12 @@ length-added [] y same = same
 length-added (a ∷ x) [] same = absurd (omega arith)
 length-added (a ∷ x) (b ∷ y) same = ap suc (length-added x y (omega arith))
 
-length-serialized : (words : List ℕ) → length (serialized words) ≡ 4 * length words
+pub length-serialized : (words : List ℕ) → length (serialized words) ≡ 4 * length words
 unfolding serialized
 length-serialized [] = refl
 length-serialized (w ∷ words) = omega (arith, length-append (to_le_bytes w32 w) (serialized words), length-serialized words)
 
-pub length-initial_state : (key : List ℕ) (counter : ℕ) (nonce : List ℕ) → length (initial_state key counter nonce) ≡ 16
+length-initial_state : (key : List ℕ) (counter : ℕ) (nonce : List ℕ) → length (initial_state key counter nonce) ≡ 16
 unfolding initial_state
 length-initial_state key counter nonce = refl
 

@@ -1,5 +1,5 @@
 pub mod Vectors
 pub mod Words
 pub mod Masking
-pub mod FourStates
+pub mod SideBySide
 pub mod Lengths

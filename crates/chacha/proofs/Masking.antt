@@ -1,17 +1,20 @@
 -- Bytes with the key stream XORed in, one run after the other.
 use Rattle.std.proofs.Common.{◌≡◌, ℕ, suc, ◌+◌, ◌-◌, ◌*◌, ◌/◌, ◌%◌, ◌<◌, ◌≤◌, bit_xor, refl, sym, ap, ap₂, ◌∙◌, arith}
-use Rattle.std.proofs.Common.{List, [], ◌∷◌, ◌++◌, length, length-append, take, drop, get_or, flat_map, append_assoc}
+use Rattle.std.proofs.Common.{zero, List, [], ◌∷◌, ◌++◌, length, length-append, take, drop, get_or, min, flat_map, append_assoc, replicate}
+use Rattle.std.specs.Simd.Lanes.{Each1}
+use Rattle.std.specs.Int.Bits.{xor_zero_l}
 use Rattle.std.proofs.lemmas.List.{get_or-take, get_or-drop, get_or_append_left, get_or-append_right, length-take-le, length-drop}
 use Rattle.std.proofs.lemmas.List.{take_at, drop_at, drop-drop, take_all, drop_all, append-nil}
 use Rattle.std.proofs.Math.Seq.{take-add}
+use Rattle.std.proofs.lemmas.Simd.{length-replicate, get_or-replicate}
 use borrow.Rule.Slice.PartMut.{put_mid}
 use Rattle.octets.specs.Bytes.{xor_bytes}
 use Rattle.octets.specs.Masked.{masked}
 use Rattle.octets.proofs.Masks.{length-masked, masked-append, xor_bytes-masked}
-use Rattle.chacha.specs.Block.{block}
+use Rattle.chacha.specs.Block.{serialized, block}
+use Rattle.chacha.specs.Lanes.{lane, HasBlocks}
 use Rattle.chacha.specs.Stream.{key_stream_byte}
 use Rattle.chacha.proofs.Lengths.{length-block}
-use Rattle.chacha.proofs.FourStates.{each_lane}
 
 -- streams that agree from two places on
 pub masked_same : (f g : ℕ → ℕ) (p q : ℕ) (xs : List ℕ) → ((j : ℕ) → f (p + j) ≡ g (q + j)) → masked f p xs ≡ masked g q xs
@@ -26,77 +29,152 @@ masked_same f g p q (x ∷ xs) same =
     let q1 : suc q + j ≡ q + suc j = omega arith in
     ap f p1 ∙ same (suc j) ∙ ap g (sym q1)))
 
--- a part of the block of a place
-pub block_part : (key nonce : List ℕ) (p n : ℕ) (xs : List ℕ) → p % 64 + n ≤ 64 → length xs ≡ n
-    → xor_bytes xs (take (p % 64 + n - p % 64) (drop (p % 64) (block key (p / 64) nonce))) ≡ masked (key_stream_byte key nonce 0) p xs
+-- a place of the key stream from counter first on
+pub key_stream_byte-first : (key nonce : List ℕ) (first made i : ℕ)
+    → key_stream_byte key nonce 0 (first * 64 + made + i) ≡ key_stream_byte key nonce first (made + i)
 unfolding key_stream_byte
-block_part key nonce p n xs room len =
-    let s : ℕ = p % 64 in
-    let bytes = block key (p / 64) nonce in
-    let whole : length bytes ≡ 64 = length-block key (p / 64) nonce in
-    let part = take (s + n - s) (drop s bytes) in
-    let size : length part ≡ length xs = length-take-le (s + n - s) (drop s bytes) (omega (arith, length-drop s bytes)) ∙ omega arith in
-    xor_bytes-masked (key_stream_byte key nonce 0) p xs part size (λ j l.
-    let counter : p / 64 ≡ 0 + (p + j) / 64 = omega arith in
-    let place : s + j ≡ (p + j) % 64 = omega arith in
-    get_or-take (s + n - s) (drop s bytes) j 0 (omega arith) ∙ get_or-drop s bytes j 0
-    ∙ ap₂ (λ (c i : ℕ). get_or (block key c nonce) i 0) counter place)
+key_stream_byte-first key nonce first made i =
+    let counter : 0 + (first * 64 + made + i) / 64 ≡ first + (made + i) / 64 = omega arith in
+    let place : (first * 64 + made + i) % 64 ≡ (made + i) % 64 = omega arith in
+    ap₂ (λ (c j : ℕ). get_or (block key c nonce) j 0) counter place
 
--- what stands after the first 64 bytes
-past_block : (xs ys : List ℕ) (k i : ℕ) → length xs ≡ 64 → k ≡ 64 + i → get_or (xs ++ ys) k 0 ≡ get_or ys i 0
-past_block xs ys k i long e =
-    let at : k - 64 ≡ i = omega arith in
-    get_or-append_right xs ys 64 k 0 long (omega arith) ∙ ap (λ (n : ℕ). get_or ys n 0) at
-
--- a byte of four blocks, by its block and its place there
-four_at : (bs cs ds es : List ℕ) (i : ℕ) → length bs ≡ 64 → length cs ≡ 64 → length ds ≡ 64 → length es ≡ 64 → i < 64
-    → (P : ℕ → ℕ) → get_or bs i 0 ≡ P 0 → get_or cs i 0 ≡ P 1 → get_or ds i 0 ≡ P 2 → get_or es i 0 ≡ P 3
-    → (b : ℕ) → b < 4 → get_or (bs ++ (cs ++ (ds ++ (es ++ [])))) (64 * b + i) 0 ≡ P b
-four_at bs cs ds es i b64 c64 d64 e64 l P p0 p1 p2 p3 =
-    let last : get_or (es ++ []) i 0 ≡ P 3 = get_or_append_left es [] 0 i (omega arith) ∙ p3 in
-    let third : get_or (ds ++ (es ++ [])) i 0 ≡ P 2 = get_or_append_left ds (es ++ []) 0 i (omega arith) ∙ p2 in
-    let second : get_or (cs ++ (ds ++ (es ++ []))) i 0 ≡ P 1 = get_or_append_left cs (ds ++ (es ++ [])) 0 i (omega arith) ∙ p1 in
-    let first : get_or (bs ++ (cs ++ (ds ++ (es ++ [])))) i 0 ≡ P 0 = get_or_append_left bs (cs ++ (ds ++ (es ++ []))) 0 i (omega arith) ∙ p0 in
-    let skip = past_block bs (cs ++ (ds ++ (es ++ []))) in
-    let Q : ℕ → Type 0 = λ b. get_or (bs ++ (cs ++ (ds ++ (es ++ [])))) (64 * b + i) 0 ≡ P b in
-    let at0 : 64 * 0 + i ≡ i = omega arith in
-    each_lane Q (ap (λ (n : ℕ). get_or (bs ++ (cs ++ (ds ++ (es ++ [])))) n 0) at0 ∙ first)
-    (skip (64 * 1 + i) i b64 (omega arith) ∙ second)
-    (skip (64 * 2 + i) (64 + i) b64 (omega arith) ∙ past_block cs (ds ++ (es ++ [])) (64 + i) i c64 refl ∙ third)
-    (skip (64 * 3 + i) (64 + (64 + i)) b64 (omega arith) ∙ past_block cs (ds ++ (es ++ [])) (64 + (64 + i)) (64 + i) c64 refl
-    ∙ past_block ds (es ++ []) (64 + i) i d64 refl ∙ last)
-
--- the four blocks from a place on that begins one
-pub four_part : (key nonce : List ℕ) (p : ℕ) (xs : List ℕ) → p % 64 ≡ 0 → length xs ≡ 256
-    → xor_bytes xs (flat_map (λ b. b) (block key (p / 64) nonce ∷ block key (p / 64 + 1) nonce
-    ∷ block key (p / 64 + 2) nonce ∷ block key (p / 64 + 3) nonce ∷ []))
-    ≡ masked (key_stream_byte key nonce 0) p xs
+-- the bytes of a block are the first ones of the key stream from its counter on
+pub block_bytes : (key nonce : List ℕ) (c i : ℕ) → i < 64 → get_or (block key c nonce) i 0 ≡ key_stream_byte key nonce c i
 unfolding key_stream_byte
-four_part key nonce p xs begins len =
-    let c : ℕ = p / 64 in
-    let bs = block key c nonce in
-    let cs = block key (c + 1) nonce in
-    let ds = block key (c + 2) nonce in
-    let es = block key (c + 3) nonce in
-    let all = flat_map (λ (b : List ℕ). b) (bs ∷ cs ∷ ds ∷ es ∷ []) in
-    let b64 : length bs ≡ 64 = length-block key c nonce in
-    let c64 : length cs ≡ 64 = length-block key (c + 1) nonce in
-    let d64 : length ds ≡ 64 = length-block key (c + 2) nonce in
-    let e64 : length es ≡ 64 = length-block key (c + 3) nonce in
-    let n2 : length (ds ++ (es ++ [])) ≡ 128 = length-append ds (es ++ []) ∙ omega (arith, d64, e64, length-append es []) in
-    let n1 : length (cs ++ (ds ++ (es ++ []))) ≡ 192 = length-append cs (ds ++ (es ++ [])) ∙ omega (arith, c64, n2) in
-    let size : length all ≡ length xs = length-append bs (cs ++ (ds ++ (es ++ []))) ∙ omega (arith, b64, n1, len) in
-    xor_bytes-masked (key_stream_byte key nonce 0) p xs all size (λ j l.
-    let i : ℕ = j % 64 in
-    let b : ℕ = j / 64 in
-    let whole : j ≡ 64 * b + i = omega arith in
-    let counter : c + b ≡ 0 + (p + j) / 64 = omega arith in
-    let place : i ≡ (p + j) % 64 = omega arith in
+block_bytes key nonce c i below =
+    let counter : c ≡ c + i / 64 = omega arith in
+    let place : i ≡ i % 64 = omega arith in
+    ap₂ (λ (n j : ℕ). get_or (block key n nonce) j 0) counter place
+
+-- a byte of blocks that stand one after the other
+byte_of_blocks : (bs : List (List ℕ)) (q r : ℕ) → Each1 (λ b. length b ≡ 64) bs → q < length bs → r < 64
+    → get_or (flat_map (λ b. b) bs) (64 * q + r) 0 ≡ get_or (get_or bs q []) r 0
+byte_of_blocks [] q r long there below = absurd (omega arith)
+byte_of_blocks (b ∷ bs) zero r long there below =
+    let first : 64 * 0 + r ≡ r = omega arith in
+    ap (λ (n : ℕ). get_or (b ++ flat_map (λ x. x) bs) n 0) first ∙ get_or_append_left b (flat_map (λ x. x) bs) 0 r (omega (arith, long.0))
+byte_of_blocks (b ∷ bs) (suc q) r long there below =
+    let rest : 64 * suc q + r - 64 ≡ 64 * q + r = omega arith in
+    get_or-append_right b (flat_map (λ x. x) bs) 64 (64 * suc q + r) 0 long.0 (omega arith)
+    ∙ ap (λ (n : ℕ). get_or (flat_map (λ x. x) bs) n 0) rest ∙ byte_of_blocks bs q r long.1 (omega arith) below
+
+-- the blocks of four counters, by their place
+block_of_four : (key nonce : List ℕ) (c q : ℕ) → q < 4
+    → get_or (block key c nonce ∷ block key (c + 1) nonce ∷ block key (c + 2) nonce ∷ block key (c + 3) nonce ∷ []) q [] ≡ block key (c + q) nonce
+block_of_four key nonce c zero h =
     let first : c ≡ c + 0 = omega arith in
-    ap (λ (n : ℕ). get_or all n 0) whole
-    ∙ four_at bs cs ds es i b64 c64 d64 e64 (omega arith)
-    (λ n. get_or (block key (c + n) nonce) i 0) (ap (λ (n : ℕ). get_or (block key n nonce) i 0) first) refl refl refl b (omega arith)
-    ∙ ap₂ (λ (n k : ℕ). get_or (block key n nonce) k 0) counter place)
+    ap (λ (n : ℕ). block key n nonce) first
+block_of_four key nonce c (suc zero) h = refl
+block_of_four key nonce c (suc (suc zero)) h = refl
+block_of_four key nonce c (suc (suc (suc zero))) h = refl
+block_of_four key nonce c (suc (suc (suc (suc q)))) h = absurd (omega arith)
+
+-- four blocks are the first bytes of the key stream from their counter on
+pub four_blocks_bytes : (key nonce : List ℕ) (c i : ℕ) → i < 256
+    → get_or (flat_map (λ (b : List ℕ). b) (block key c nonce ∷ block key (c + 1) nonce ∷ block key (c + 2) nonce ∷ block key (c + 3) nonce ∷ [])) i 0
+    ≡ key_stream_byte key nonce c i
+unfolding key_stream_byte
+four_blocks_bytes key nonce c i below =
+    let bs = block key c nonce ∷ block key (c + 1) nonce ∷ block key (c + 2) nonce ∷ block key (c + 3) nonce ∷ [] in
+    let size = λ (n : ℕ). length-block key n nonce in
+    let whole : i ≡ 64 * (i / 64) + i % 64 = omega arith in
+    ap (λ (n : ℕ). get_or (flat_map (λ (b : List ℕ). b) bs) n 0) whole
+    ∙ byte_of_blocks bs (i / 64) (i % 64) (size c, (size (c + 1), (size (c + 2), (size (c + 3), tt {0})))) (omega arith) (omega arith)
+    ∙ ap (λ (b : List ℕ). get_or b (i % 64) 0) (block_of_four key nonce c (i / 64) (omega arith))
+
+-- a zero becomes the byte of the stream
+masked_zero : (f : ℕ → ℕ) (at i k : ℕ) (xs : List ℕ) → i < length xs → get_or xs i 0 ≡ 0 → k ≡ at + i → get_or (masked f at xs) i 0 ≡ f k
+unfolding masked
+masked_zero f at i k [] below is_zero e = absurd (omega arith)
+masked_zero f at zero k (x ∷ xs) below is_zero e =
+    let same : at ≡ k = omega arith in
+    ap (λ (y : ℕ). bit_xor y (f at)) is_zero ∙ xor_zero_l (f at) ∙ ap f same
+masked_zero f at (suc i) k (x ∷ xs) below is_zero e = masked_zero f (suc at) i k xs (omega arith) is_zero (omega arith)
+
+-- the words of a block, written out, are XORed into the bytes at its place in the key stream
+block_masked : (key nonce : List ℕ) (c j at : ℕ) (xs words : List ℕ) → length xs ≡ 64 → at ≡ 64 * j → words ≡ block key (c + j) nonce
+    → xor_bytes xs words ≡ masked (key_stream_byte key nonce c) at xs
+unfolding key_stream_byte
+block_masked key nonce c j at xs words size is_at is_block =
+    xor_bytes-masked (key_stream_byte key nonce c) at xs words (ap length is_block ∙ length-block key (c + j) nonce ∙ sym size) (λ i l.
+    let counter : c + j ≡ c + (at + i) / 64 = omega arith in
+    let place : i ≡ (at + i) % 64 = omega arith in
+    ap (λ b. get_or b i 0) is_block ∙ ap₂ (λ (n k : ℕ). get_or (block key n nonce) k 0) counter place)
+
+-- four blocks, one after the other
+pub four_masked : (key nonce : List ℕ) (c : ℕ) (x : List (List ℕ)) (a b d e now_a now_b now_d now_e : List ℕ) → HasBlocks 4 x key c nonce
+    → length a ≡ 64 → length b ≡ 64 → length d ≡ 64 → length e ≡ 64
+    → now_a ≡ xor_bytes a (serialized (lane 0 x)) → now_b ≡ xor_bytes b (serialized (lane 1 x))
+    → now_d ≡ xor_bytes d (serialized (lane 2 x)) → now_e ≡ xor_bytes e (serialized (lane 3 x))
+    → now_a ++ now_b ++ (now_d ++ now_e) ≡ masked (key_stream_byte key nonce c) 0 (a ++ b ++ (d ++ e))
+four_masked key nonce c x a b d e now_a now_b now_d now_e has a64 b64 d64 e64 is_a is_b is_d is_e =
+    let f = key_stream_byte key nonce c in
+    let at_b : 0 + length a ≡ 64 = omega (arith, a64) in
+    let at_d : 0 + length (a ++ b) ≡ 128 = omega (arith, a64, b64, length-append a b) in
+    let at_e : 128 + length d ≡ 192 = omega (arith, d64) in
+    let first : now_a ≡ masked f 0 a = is_a ∙ block_masked key nonce c 0 0 a _ a64 refl (has 0 (omega arith)) in
+    let second : now_b ≡ masked f 64 b = is_b ∙ block_masked key nonce c 1 64 b _ b64 refl (has 1 (omega arith)) in
+    let third : now_d ≡ masked f 128 d = is_d ∙ block_masked key nonce c 2 128 d _ d64 refl (has 2 (omega arith)) in
+    let fourth : now_e ≡ masked f 192 e = is_e ∙ block_masked key nonce c 3 192 e _ e64 refl (has 3 (omega arith)) in
+    ap₂ (λ (y z : List ℕ). y ++ z)
+    (ap₂ (λ (y z : List ℕ). y ++ z) first second ∙ sym (masked-append f 0 a b ∙ ap (λ (n : ℕ). masked f 0 a ++ masked f n b) at_b))
+    (ap₂ (λ (y z : List ℕ). y ++ z) third fourth ∙ sym (masked-append f 128 d e ∙ ap (λ (n : ℕ). masked f 128 d ++ masked f n e) at_e))
+    ∙ sym (masked-append f 0 (a ++ b) (d ++ e) ∙ ap (λ (n : ℕ). masked f 0 (a ++ b) ++ masked f n (d ++ e)) at_d)
+
+-- what stands after the first four blocks
+pub four_later : (key nonce : List ℕ) (c : ℕ) (xs : List ℕ) → masked (key_stream_byte key nonce (c + 4)) 0 xs ≡ masked (key_stream_byte key nonce c) 256 xs
+unfolding key_stream_byte
+four_later key nonce c xs =
+    masked_same (key_stream_byte key nonce (c + 4)) (key_stream_byte key nonce c) 0 256 xs (λ j.
+    let counter : c + 4 + (0 + j) / 64 ≡ c + (256 + j) / 64 = omega arith in
+    let place : (0 + j) % 64 ≡ (256 + j) % 64 = omega arith in
+    ap₂ (λ (n k : ℕ). get_or (block key n nonce) k 0) counter place)
+
+-- the key stream from the counter of a place on that begins a block
+pub whole_blocks : (key nonce : List ℕ) (p : ℕ) (xs : List ℕ) → p % 64 ≡ 0
+    → masked (key_stream_byte key nonce (p / 64)) 0 xs ≡ masked (key_stream_byte key nonce 0) p xs
+whole_blocks key nonce p xs begins =
+    masked_same (key_stream_byte key nonce (p / 64)) (key_stream_byte key nonce 0) 0 p xs (λ j.
+    let place : p / 64 * 64 + 0 + j ≡ p + j = omega arith in
+    sym (key_stream_byte-first key nonce (p / 64) 0 j) ∙ ap (key_stream_byte key nonce 0) place)
+
+-- a run of bytes, from a place on: what is XORed into them begins within the key stream from the counter of that place on
+run_of_stream : (key nonce : List ℕ) (p size n : ℕ) (bytes stream now : List ℕ) → length stream ≡ size
+    → ((i : ℕ) → i < size → get_or stream i 0 ≡ key_stream_byte key nonce (p / 64) i) → n ≡ min (length stream - p % 64) (length bytes)
+    → now ≡ xor_bytes (take n bytes) (take n (drop (p % 64) stream)) ++ drop n bytes
+    → now ≡ masked (key_stream_byte key nonce 0) p (take n bytes) ++ drop n bytes
+run_of_stream key nonce p size n bytes stream now long same least is_now =
+    let s : ℕ = p % 64 in
+    let part = take n (drop s stream) in
+    let whole : length (take n bytes) ≡ n = length-take-le n bytes (omega arith) in
+    let room : length part ≡ n = length-take-le n (drop s stream) (omega (arith, length-drop s stream)) in
+    is_now
+    ∙ ap (λ l. l ++ drop n bytes)
+    (xor_bytes-masked (key_stream_byte key nonce 0) p (take n bytes) part (room ∙ sym whole) (λ j l.
+    let place : p / 64 * 64 + s + j ≡ p + j = omega arith in
+    get_or-take n (drop s stream) j 0 (omega (arith, whole)) ∙ get_or-drop s stream j 0 ∙ same (s + j) (omega (arith, l, whole))
+    ∙ sym (key_stream_byte-first key nonce (p / 64) s j) ∙ ap (key_stream_byte key nonce 0) place))
+
+-- where it is zeros with the key stream XORed in
+pub run_of_zeros : (key nonce : List ℕ) (p size n : ℕ) (bytes stream now : List ℕ)
+    → stream ≡ masked (key_stream_byte key nonce (p / 64)) 0 (replicate size 0) → length stream ≡ size
+    → n ≡ min (length stream - p % 64) (length bytes)
+    → now ≡ xor_bytes (take n bytes) (take n (drop (p % 64) stream)) ++ drop n bytes
+    → now ≡ masked (key_stream_byte key nonce 0) p (take n bytes) ++ drop n bytes
+run_of_zeros key nonce p size n bytes stream now is_stream long =
+    run_of_stream key nonce p size n bytes stream now long (λ i l.
+    ap (λ s. get_or s i 0) is_stream
+    ∙ masked_zero (key_stream_byte key nonce (p / 64)) 0 i i (replicate size 0) (omega (arith, l, length-replicate {A = ℕ} size 0))
+    (get_or-replicate size i 0 0 l) (omega arith))
+
+-- where it is a block
+pub run_of_block : (key nonce : List ℕ) (p n : ℕ) (bytes stream now : List ℕ) → stream ≡ block key (p / 64) nonce
+    → n ≡ min (length stream - p % 64) (length bytes)
+    → now ≡ xor_bytes (take n bytes) (take n (drop (p % 64) stream)) ++ drop n bytes
+    → now ≡ masked (key_stream_byte key nonce 0) p (take n bytes) ++ drop n bytes
+run_of_block key nonce p n bytes stream now is_block =
+    run_of_stream key nonce p 64 n bytes stream now (ap length is_block ∙ length-block key (p / 64) nonce) (λ i l.
+    ap (λ s. get_or s i 0) is_block ∙ block_bytes key nonce (p / 64) i l)
 
 -- no run yet
 pub no_run : (f : ℕ → ℕ) (p : ℕ) (was : List ℕ) → was ≡ masked f p (take 0 was) ++ drop 0 was
@@ -132,12 +210,3 @@ all_runs f p n was whole =
     let taken : take n was ≡ was = take_all n was whole in
     let rest : drop n was ≡ [] = drop_all n was whole in
     rw (taken, rest) (append-nil (masked f p was))
-
--- a place of the key stream from counter first on
-pub key_stream_byte-first : (key nonce : List ℕ) (first made i : ℕ)
-    → key_stream_byte key nonce 0 (first * 64 + made + i) ≡ key_stream_byte key nonce first (made + i)
-unfolding key_stream_byte
-key_stream_byte-first key nonce first made i =
-    let counter : 0 + (first * 64 + made + i) / 64 ≡ first + (made + i) / 64 = omega arith in
-    let place : (first * 64 + made + i) % 64 ≡ (made + i) % 64 = omega arith in
-    ap₂ (λ (c j : ℕ). get_or (block key c nonce) j 0) counter place

@@ -29,6 +29,11 @@ partly_added_all x y n h k =
     let rest : drop n x ≡ [] = drop_all n x (omega arith) in
     rw (taken, others, rest) (append-nil (added x y))
 
+-- words written one after the other
+pub serialized-append : (words more : List ℕ) → serialized (words ++ more) ≡ serialized words ++ serialized more
+unfolding serialized
+serialized-append words more = flat_map-append (to_le_bytes w32) words more
+
 -- a word more is written
 pub serialized_more : (words : List ℕ) (i : ℕ) → i < length words
     → serialized (take (i + 1) words) ≡ serialized (take i words) ++ to_le_bytes w32 (get_or words i 0)

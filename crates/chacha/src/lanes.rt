@@ -1,36 +1,38 @@
-// Four blocks at once, one in each lane.
+// Several blocks at once, one in each lane.
 
-ghost use Rattle.std.specs.Prelude.{◌≡◌, ℕ, ◌+◌, ◌%◌, ◌^◌, ◌<◌, ◌∷◌, [], slice_index, bit_xor};
+ghost use Rattle.std.specs.Prelude.{◌≡◌, ℕ, ◌+◌, ◌%◌, ◌^◌, ◌<◌, ◌≤◌, ◌∷◌, ◌++◌, [], List, length, take, drop, slice_index, slice_set, bit_xor};
 ghost use Rattle.std.specs.Int.{w32, rotate_left};
-ghost use Rattle.chacha.specs.Block.{add_xor_rotate, quarter_round, column_round, diagonal_round, added, serialized, initial_state, block};
-ghost use Rattle.chacha.specs.Lanes.{lane};
+ghost use Rattle.octets.specs.Bytes.{xor_bytes};
+ghost use Rattle.octets.specs.Masked.{masked};
+ghost use Rattle.chacha.specs.Block.{add_xor_rotate, quarter_round, column_round, diagonal_round, double_rounds, added, serialized, block};
+ghost use Rattle.chacha.specs.Lanes.{lane, HasBlocks};
+ghost use Rattle.chacha.specs.Stream.{key_stream_byte};
 
-use crate::single::put;
 use crate::state::initial_state;
-use octets::{Key32, Nonce};
-use std::simd::u32x4;
+use octets::{Key32, Nonce, xor_into};
+use std::simd::{Simd, u32x4, u32x8};
 
 #[inline(always)]
-fn sum(x: u32x4, y: u32x4) -> u32x4
-    ensures { (j : ℕ) → j < 4 → slice_index result j ≡ (slice_index x j + slice_index y j) % 2 ^ 32 }
+fn sum<const N: usize>(x: Simd<u32, N>, y: Simd<u32, N>) -> Simd<u32, N>
+    ensures { (j : ℕ) → j < N → slice_index result j ≡ (slice_index x.entry j + slice_index y.entry j) % 2 ^ 32 }
 {
     x + y
 }
 
 #[inline(always)]
-fn xor_rotated(x: u32x4, y: u32x4, n: u32) -> u32x4
+fn xor_rotated<const N: usize>(x: Simd<u32, N>, y: Simd<u32, N>, n: u32) -> Simd<u32, N>
     requires { (0 < n) × (n < 32) }
-    ensures { (j : ℕ) → j < 4 → slice_index result j ≡ rotate_left w32 (bit_xor (slice_index x j) (slice_index y j)) n }
+    ensures { (j : ℕ) → j < N → slice_index result j ≡ rotate_left w32 (bit_xor (slice_index x.entry j) (slice_index y.entry j)) n }
 {
     let z = x ^ y;
-    (z << u32x4::splat(n)) | (z >> u32x4::splat(32 - n))
+    (z << Simd::splat(n)) | (z >> Simd::splat(32 - n))
 }
 
 #[inline(always)]
-fn add_xor_rotate(x: &mut [u32x4; 16], a: usize, b: usize, d: usize, n: u32)
+fn add_xor_rotate<const N: usize>(x: &mut [Simd<u32, N>; 16], a: usize, b: usize, d: usize, n: u32)
     requires places { (a < 16) × (b < 16) × (d < 16) }
     requires turn { (0 < n) × (n < 32) }
-    ensures { (j : ℕ) → j < 4 → lane j x.new ≡ add_xor_rotate a b d n (lane j x.old) }
+    ensures { (j : ℕ) → j < N → lane j x.new ≡ add_xor_rotate a b d n (lane j x.old) }
 {
     let sum = sum(x[a], x[b]);
     let turned = xor_rotated(x[d], sum, n);
@@ -39,9 +41,9 @@ fn add_xor_rotate(x: &mut [u32x4; 16], a: usize, b: usize, d: usize, n: u32)
 }
 
 #[inline(always)]
-fn quarter_round(x: &mut [u32x4; 16], a: usize, b: usize, c: usize, d: usize)
+fn quarter_round<const N: usize>(x: &mut [Simd<u32, N>; 16], a: usize, b: usize, c: usize, d: usize)
     requires { (a < 16) × (b < 16) × (c < 16) × (d < 16) }
-    ensures { (j : ℕ) → j < 4 → lane j x.new ≡ quarter_round a b c d (lane j x.old) }
+    ensures { (j : ℕ) → j < N → lane j x.new ≡ quarter_round a b c d (lane j x.old) }
 {
     add_xor_rotate(x, a, b, d, 16);
     add_xor_rotate(x, c, d, b, 12);
@@ -50,8 +52,8 @@ fn quarter_round(x: &mut [u32x4; 16], a: usize, b: usize, c: usize, d: usize)
 }
 
 #[inline(always)]
-fn column_round(x: &mut [u32x4; 16])
-    ensures { (j : ℕ) → j < 4 → lane j x.new ≡ column_round (lane j x.old) }
+fn column_round<const N: usize>(x: &mut [Simd<u32, N>; 16])
+    ensures { (j : ℕ) → j < N → lane j x.new ≡ column_round (lane j x.old) }
 {
     quarter_round(x, 0, 4, 8, 12);
     quarter_round(x, 1, 5, 9, 13);
@@ -60,13 +62,116 @@ fn column_round(x: &mut [u32x4; 16])
 }
 
 #[inline(always)]
-fn diagonal_round(x: &mut [u32x4; 16])
-    ensures { (j : ℕ) → j < 4 → lane j x.new ≡ diagonal_round (lane j x.old) }
+fn diagonal_round<const N: usize>(x: &mut [Simd<u32, N>; 16])
+    ensures { (j : ℕ) → j < N → lane j x.new ≡ diagonal_round (lane j x.old) }
 {
     quarter_round(x, 0, 5, 10, 15);
     quarter_round(x, 1, 6, 11, 12);
     quarter_round(x, 2, 7, 8, 13);
     quarter_round(x, 3, 4, 9, 14);
+}
+
+// Ten double rounds.
+#[inline(always)]
+fn ten_rounds<const N: usize>(x: &mut [Simd<u32, N>; 16])
+    ensures { (j : ℕ) → j < N → lane j x.new ≡ double_rounds 10 (lane j x.old) }
+{
+    'rounds: for _round in 0..10u32 {
+        column_round(x);
+        diagonal_round(x);
+    }
+}
+
+// Adds the words of `start`.
+#[inline(always)]
+fn add<const N: usize>(x: &mut [Simd<u32, N>; 16], start: &[Simd<u32, N>; 16])
+    ensures { (j : ℕ) → j < N → lane j x.new ≡ added (lane j x.old) (lane j start.now) }
+{
+    'words: for i in 0..16 {
+        x[i] = sum(x[i], start[i]);
+    }
+}
+
+// The state goes into each lane, with the lane's own counter.
+#[inline(always)]
+fn set_starts<const N: usize>(x: &mut [Simd<u32, N>; 16], state: &[u32; 16], counters: Simd<u32, N>)
+    ensures { (j : ℕ) → j < N → lane j x.new ≡ slice_set state.now 12 (slice_index counters.entry j) }
+{
+    'words: for i in 0..16 {
+        x[i] = Simd::splat(state[i]);
+    }
+    x[12] = counters;
+}
+
+// Each lane gets the words of the block of its counter.
+#[inline(always)]
+fn set_blocks<const N: usize>(
+    x: &mut [Simd<u32, N>; 16],
+    key: &Key32,
+    counters: Simd<u32, N>,
+    nonce: &Nonce,
+)
+    ensures { (j : ℕ) → j < N → serialized (lane j x.new) ≡ block key.now (slice_index counters.entry j) nonce.now }
+{
+    set_starts(x, &initial_state(key, 0, nonce), counters);
+    let start = *x;
+    ten_rounds(x);
+    add(x, &start);
+}
+
+// The words of the four blocks, one block in each lane.
+#[inline(always)]
+fn four_lanes(key: &Key32, counter: u32, nonce: &Nonce) -> [u32x4; 16]
+    requires { counter + 3 < 2 ^ 32 }
+    ensures { HasBlocks 4 result key.now counter nonce.now }
+{
+    let counters = u32x4::from_array([counter, counter + 1, counter + 2, counter + 3]);
+    let mut x = [u32x4::splat(0); 16];
+    set_blocks(&mut x, key, counters, nonce);
+    x
+}
+
+// The words of the eight blocks, one block in each lane.
+#[inline(always)]
+fn eight_lanes(key: &Key32, counter: u32, nonce: &Nonce) -> [u32x8; 16]
+    requires { counter + 7 < 2 ^ 32 }
+    ensures { HasBlocks 8 result key.now counter nonce.now }
+{
+    let counters = u32x8::from_array([
+        counter,
+        counter + 1,
+        counter + 2,
+        counter + 3,
+        counter + 4,
+        counter + 5,
+        counter + 6,
+        counter + 7,
+    ]);
+    let mut x = [u32x8::splat(0); 16];
+    set_blocks(&mut x, key, counters, nonce);
+    x
+}
+
+// The first four lanes of a vector, and the last four.
+#[inline(always)]
+fn halves(x: u32x8) -> (u32x4, u32x4)
+    ensures front { result.0 ≡ take 4 x }
+    ensures back { result.1 ≡ take 4 (drop 4 x) }
+{
+    (x.extract::<0, 4>(), x.extract::<4, 4>())
+}
+
+// Parts eight states into the first four and the last four.
+#[inline(always)]
+fn part(x: &[u32x8; 16], front: &mut [u32x4; 16], back: &mut [u32x4; 16])
+    ensures front { (j : ℕ) → j < 4 → lane j front.new ≡ lane j x.now }
+    ensures back { (j : ℕ) → j < 4 → lane j back.new ≡ lane (4 + j) x.now }
+{
+    'words: for i in 0..16 {
+        let (low, high) = halves(x[i]);
+        front[i] = low;
+        back[i] = high;
+    }
 }
 
 // Lane j of the four vectors becomes vector j.
@@ -84,16 +189,6 @@ fn transposed(a: u32x4, b: u32x4, c: u32x4, d: u32x4) -> (u32x4, u32x4, u32x4, u
     (first, second, third, fourth)
 }
 
-// Adds the words of `start`.
-#[inline(always)]
-fn add(x: &mut [u32x4; 16], start: &[u32x4; 16])
-    ensures { (j : ℕ) → j < 4 → lane j x.new ≡ added (lane j x.old) (lane j start.now) }
-{
-    'words: for i in 0..16 {
-        x[i] = sum(x[i], start[i]);
-    }
-}
-
 // The words of the lanes, each with its lowest byte first.
 #[inline(always)]
 fn bytes_of(lanes: u32x4) -> [u8; 16]
@@ -102,38 +197,51 @@ fn bytes_of(lanes: u32x4) -> [u8; 16]
     lanes.to_le_bytes().to_array()
 }
 
+// XORs four words, written out, into the sixteen bytes from place `at` on.
 #[inline(always)]
-fn serialized(x: &[u32x4; 16]) -> [[u8; 64]; 4]
-    ensures { result ≡ serialized (lane 0 x.now) ∷ serialized (lane 1 x.now)
-        ∷ serialized (lane 2 x.now) ∷ serialized (lane 3 x.now) ∷ [] }
+fn xor_at(bytes: &mut [u8], at: usize, words: u32x4)
+    requires { at + 16 ≤ length bytes.old }
+    ensures { bytes.new ≡ take at bytes.old ++ xor_bytes (take 16 (drop at bytes.old)) (serialized words) ++ drop (at + 16) bytes.old }
 {
-    let mut first = [0; 64];
-    let mut second = [0; 64];
-    let mut third = [0; 64];
-    let mut fourth = [0; 64];
-    'quads: for q in 0..4 {
-        let (a, b, c, d) = transposed(x[4 * q], x[4 * q + 1], x[4 * q + 2], x[4 * q + 3]);
-        put(&mut first, 16 * q, &bytes_of(a));
-        put(&mut second, 16 * q, &bytes_of(b));
-        put(&mut third, 16 * q, &bytes_of(c));
-        put(&mut fourth, 16 * q, &bytes_of(d));
-    }
-    [first, second, third, fourth]
+    xor_into(&mut bytes[at..at + 16], &bytes_of(words));
 }
 
-// The states from which the blocks with the counters `counter` to `counter + 3` start.
+// XORs the words of each lane, written out, into the block of bytes of that lane.
 #[inline(always)]
-fn starts(key: &Key32, counter: u32, nonce: &Nonce) -> [u32x4; 16]
-    requires { counter + 3 < 2 ^ 32 }
-    ensures { (j : ℕ) → j < 4 → lane j result ≡ initial_state key.now (counter + j) nonce.now }
+fn xor_lanes(
+    x: &[u32x4; 16],
+    first: &mut [u8],
+    second: &mut [u8],
+    third: &mut [u8],
+    fourth: &mut [u8],
+)
+    requires front { (length first.old ≡ 64) × (length second.old ≡ 64) }
+    requires back { (length third.old ≡ 64) × (length fourth.old ≡ 64) }
+    ensures first { first.new ≡ xor_bytes first.old (serialized (lane 0 x.now)) }
+    ensures second { second.new ≡ xor_bytes second.old (serialized (lane 1 x.now)) }
+    ensures third { third.new ≡ xor_bytes third.old (serialized (lane 2 x.now)) }
+    ensures fourth { fourth.new ≡ xor_bytes fourth.old (serialized (lane 3 x.now)) }
 {
-    let state = initial_state(key, counter, nonce);
-    let mut x = [u32x4::splat(0); 16];
-    'words: for i in 0..16 {
-        x[i] = u32x4::splat(state[i]);
+    'quads: for q in 0..4 {
+        let (a, b, c, d) = transposed(x[4 * q], x[4 * q + 1], x[4 * q + 2], x[4 * q + 3]);
+        xor_at(first, 16 * q, a);
+        xor_at(second, 16 * q, b);
+        xor_at(third, 16 * q, c);
+        xor_at(fourth, 16 * q, d);
     }
-    x[12] = u32x4::from_array([counter, counter + 1, counter + 2, counter + 3]);
-    x
+}
+
+// XORs the words of the lanes, written out one lane after the other, into 256 bytes.
+#[inline(always)]
+fn xor_written(x: &[u32x4; 16], bytes: &mut [u8])
+    requires { length bytes.old ≡ 256 }
+    ensures { (key nonce : List ℕ) (counter : ℕ) → HasBlocks 4 x.now key counter nonce
+        → bytes.new ≡ masked (key_stream_byte key nonce counter) 0 bytes.old }
+{
+    let (front, back) = bytes.split_at_mut(128);
+    let (first, second) = front.split_at_mut(64);
+    let (third, fourth) = back.split_at_mut(64);
+    xor_lanes(x, first, second, third, fourth);
 }
 
 /// The four blocks of 64 bytes with the counters `counter` to `counter + 3` (RFC 8439, 2.3). The
@@ -143,12 +251,35 @@ pub fn four_blocks(key: &Key32, counter: u32, nonce: &Nonce) -> [[u8; 64]; 4]
     ensures { result ≡ block key.now counter nonce.now ∷ block key.now (counter + 1) nonce.now
         ∷ block key.now (counter + 2) nonce.now ∷ block key.now (counter + 3) nonce.now ∷ [] }
 {
-    let start = starts(key, counter, nonce);
-    let mut x = start;
-    'rounds: for _round in 0..10u32 {
-        column_round(&mut x);
-        diagonal_round(&mut x);
-    }
-    add(&mut x, &start);
-    serialized(&x)
+    let x = four_lanes(key, counter, nonce);
+    let mut first = [0; 64];
+    let mut second = [0; 64];
+    let mut third = [0; 64];
+    let mut fourth = [0; 64];
+    xor_lanes(&x, &mut first, &mut second, &mut third, &mut fourth);
+    [first, second, third, fourth]
+}
+
+// XORs the first 256 bytes of the key stream from a counter on.
+pub fn xor_four_blocks(key: &Key32, counter: u32, nonce: &Nonce, bytes: &mut [u8])
+    requires counters { counter + 3 < 2 ^ 32 }
+    requires size { length bytes.old ≡ 256 }
+    ensures { bytes.new ≡ masked (key_stream_byte key.now nonce.now counter) 0 bytes.old }
+{
+    xor_written(&four_lanes(key, counter, nonce), bytes);
+}
+
+// XORs the first 512 bytes of the key stream from a counter on.
+pub fn xor_eight_blocks(key: &Key32, counter: u32, nonce: &Nonce, bytes: &mut [u8])
+    requires counters { counter + 7 < 2 ^ 32 }
+    requires size { length bytes.old ≡ 512 }
+    ensures { bytes.new ≡ masked (key_stream_byte key.now nonce.now counter) 0 bytes.old }
+{
+    let x = eight_lanes(key, counter, nonce);
+    let mut first = [u32x4::splat(0); 16];
+    let mut last = [u32x4::splat(0); 16];
+    part(&x, &mut first, &mut last);
+    let (front, back) = bytes.split_at_mut(256);
+    xor_written(&first, front);
+    xor_written(&last, back);
 }

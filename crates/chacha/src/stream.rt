@@ -1,6 +1,7 @@
 // The key stream, in pieces.
 
-ghost use Rattle.std.specs.Prelude.{◌≡◌, ℕ, ◌+◌, ◌*◌, ◌^◌, ◌<◌, ◌≤◌, ◌++◌, List, length, take, drop, MatchResult};
+ghost use Rattle.std.specs.Prelude.{◌≡◌, ℕ, ◌+◌, ◌-◌, ◌*◌, ◌^◌, ◌<◌, ◌≤◌, ◌++◌, List, length, take, drop, min, MatchResult};
+ghost use Rattle.octets.specs.Bytes.{xor_bytes};
 ghost use Rattle.octets.specs.Masked.{masked};
 ghost use Rattle.chacha.specs.Stream.{key_stream_byte};
 
@@ -73,14 +74,32 @@ fn xor_run(key: &Key32, nonce: &Nonce, place: u64, bytes: &mut [u8]) -> usize
     ensures masked { bytes.new ≡ masked (key_stream_byte key.now nonce.now 0) place (take result bytes.old) ++ drop result bytes.old }
 {
     let counter = (place / 64) as u32;
-    if place % 64 == 0 && bytes.len() >= 256 {
-        let blocks = lanes::four_blocks(key, counter, nonce);
-        xor_into(&mut bytes[..256], blocks.as_flattened());
-        return 256;
-    }
     let skip = (place % 64) as usize;
-    let count = (64 - skip).min(bytes.len());
-    let block = single::block(key, counter, nonce);
-    xor_into(&mut bytes[..count], &block[skip..skip + count]);
+    if skip == 0 && bytes.len() >= 512 {
+        lanes::xor_eight_blocks(key, counter, nonce, &mut bytes[..512]);
+        return 512;
+    }
+    if skip + bytes.len() > 256 && counter <= u32::MAX - 7 {
+        let mut stream = [0; 512];
+        lanes::xor_eight_blocks(key, counter, nonce, &mut stream);
+        return xor_part(&stream, skip, bytes);
+    }
+    if skip + bytes.len() > 64 && counter <= u32::MAX - 3 {
+        let mut stream = [0; 256];
+        lanes::xor_four_blocks(key, counter, nonce, &mut stream);
+        return xor_part(&stream, skip, bytes);
+    }
+    xor_part(&single::block(key, counter, nonce), skip, bytes)
+}
+
+// XORs the bytes of `stream` from place `skip` on into the first bytes, and answers how many they are.
+#[inline(always)]
+fn xor_part(stream: &[u8], skip: usize, bytes: &mut [u8]) -> usize
+    requires { skip ≤ length stream.now }
+    ensures count { result ≡ min (length stream.now - skip) (length bytes.old) }
+    ensures xored { bytes.new ≡ xor_bytes (take result bytes.old) (take result (drop skip stream.now)) ++ drop result bytes.old }
+{
+    let count = (stream.len() - skip).min(bytes.len());
+    xor_into(&mut bytes[..count], &stream[skip..skip + count]);
     count
 }

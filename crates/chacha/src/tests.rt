@@ -145,6 +145,8 @@ fn every_cut(rt: HostRuntime) -> Result<(), Fail> {
     assert!(rt; pieces(255)?);
     assert!(rt; pieces(256)?);
     assert!(rt; pieces(257)?);
+    assert!(rt; pieces(300)?);
+    assert!(rt; pieces(511)?);
     Ok(())
 }
 
@@ -213,5 +215,19 @@ fn past_the_last_three_blocks(rt: HostRuntime) -> Result<(), Fail> {
     let mut bytes = [9; 193];
     assert_eq!(rt; stream.apply(&mut bytes), Err(Fault::StreamEnd));
     assert_eq!(rt; bytes, [9; 193]);
+    Ok(())
+}
+
+#[test]
+fn last_eight_blocks(rt: HostRuntime) -> Result<(), Fail> {
+    let key = Key32::from_slice(&KEY)?;
+    let nonce = Nonce::from_slice(&[7; 12])?;
+    let expected = ten_blocks(&key, &nonce, u32::MAX - 7);
+    let mut bytes = [0; 512];
+    ChaStream::new(&key, &nonce, u32::MAX - 7).apply(&mut bytes)?;
+    assert!(rt; expected.starts_with(&bytes));
+    let mut fewer = [0; 448];
+    ChaStream::new(&key, &nonce, u32::MAX - 6).apply(&mut fewer)?;
+    assert!(rt; expected[64..].starts_with(&fewer));
     Ok(())
 }

@@ -1,51 +1,19 @@
 -- What falls out below a word, kept in a half word and folded in at the end.
-use Rattle.std.proofs.Common.{◌≡◌, ℕ, zero, suc, ◌+◌, ◌-◌, ◌*◌, ◌/◌, ◌%◌, ◌^◌, ◌<◌, ◌≤◌, Bool, true, false, ◌==◌, List, [], ◌∷◌, ◌++◌, length, replicate, bit_xor, inl, inr, refl, sym, ap, ap₂, ◌∙◌, arith}
+use Rattle.std.proofs.Common.{◌≡◌, ℕ, zero, suc, ◌+◌, ◌-◌, ◌*◌, ◌/◌, ◌%◌, ◌^◌, ◌<◌, ◌≤◌, Bool, true, false, List, [], ◌∷◌, ◌++◌, replicate, bit_xor, inl, inr, refl, sym, ap, ap₂, ◌∙◌, arith}
 use mathlib.Core.Path.{fun_ext}
 use Rattle.std.proofs.lemmas.Bool.{cases_lt}
-use Rattle.std.proofs.lemmas.List.{get_or_past, get_or_append_left, get_or-append_right}
-use Rattle.std.proofs.lemmas.List.FromFn.{get_or-map-range_with_len, length-map-range_with_len}
-use Rattle.std.proofs.lemmas.Nat.{shr-shr, xor_lt}
-use Rattle.std.proofs.lemmas.Nat.Bits.{bit_at_above, bit_at_cat_low, bit_at_cat_high}
-use Rattle.octets.specs.Bits.{bit, is_odd}
+use Rattle.std.proofs.lemmas.List.{get_or_append_left, get_or-append_right}
+use Rattle.std.proofs.lemmas.Nat.{xor_lt}
+use Rattle.octets.specs.Bits.{bit}
 use Rattle.octets.specs.Polynomial.{coefficient, plus, residue}
+use Rattle.octets.proofs.BitFacts.{bit_of_zero}
 use Rattle.octets.proofs.Sequence.{Sequence, sum_of, shift, mult, mult_comm, shift_sum, plus_false}
 use Rattle.octets.proofs.Ring.{residue_of_lower}
 use Rattle.octets.proofs.Reversal.{raised, raised_low, raised_high, times_power, residue_by}
 use Rattle.gf128.specs.Ghash.{ghash_modulus}
-use Rattle.gf128.specs.Words.{of_word, of_half, folded}
-use Rattle.gf128.proofs.WordLemmas.{of_word_at, of_word_past, of_word_xor, length-of_word}
-
--- ---- bits of numbers
-
--- a bit of a number that was moved down
-pub bit_shr : (n i j : ℕ) → bit (n / 2 ^ i) j ≡ bit n (i + j)
-bit_shr n i j = ap is_odd (shr-shr n i j)
-
--- a number below 2^k has no bit from k on
-pub bit_above : (n k j : ℕ) → n < 2 ^ k → k ≤ j → bit n j ≡ false
-bit_above n k j small h = ap (λ (x : ℕ). x == 1) (bit_at_above n k j small h)
-
--- the low bits of two numbers put together
-pub bit_low : (a k b j : ℕ) → j < k → bit (a * 2 ^ k + b) j ≡ bit b j
-bit_low a k b j h = ap (λ (x : ℕ). x == 1) (bit_at_cat_low a k b j h)
-
--- the high bits of two numbers put together
-bit_high : (a k b j : ℕ) → b < 2 ^ k → k ≤ j → bit (a * 2 ^ k + b) j ≡ bit a (j - k)
-bit_high a k b j small h = ap (λ (x : ℕ). x == 1) (bit_at_cat_high a k b j small h)
-
--- ---- the places of a half word
-pub of_half_at : (n k : ℕ) → k < 64 → coefficient (of_half n) k ≡ bit n (63 - k)
-unfolding of_half
-of_half_at n k h = get_or-map-range_with_len (λ i. bit n (63 - i)) 0 64 k k false h (omega arith)
-
--- a half word has 64 places
-length-of_half : (n : ℕ) → length (of_half n) ≡ 64
-unfolding of_half
-length-of_half n = length-map-range_with_len (λ i. bit n (63 - i)) 0 64
-
--- no coefficient from x^64 on
-pub of_half_past : (n k : ℕ) → 64 ≤ k → coefficient (of_half n) k ≡ false
-of_half_past n k h = get_or_past (of_half n) k false (omega (arith, length-of_half n))
+use Rattle.gf128.specs.Words.{of_bits, of_word, folded, wide}
+use Rattle.gf128.proofs.BitParts.{bit_shr, bit_above, bit_low, bit_high, of_bits_at, of_bits_past}
+use Rattle.gf128.proofs.WordLemmas.{of_word_at, of_word_past, of_word_xor, of_word_zero, length-of_word}
 
 -- a word moved down, below x^128
 pub of_word_shr : (n i k : ℕ) → n < 2 ^ 128 → k < 128 → coefficient (of_word (n / 2 ^ i)) k ≡ raised i (coefficient (of_word n)) k
@@ -59,20 +27,32 @@ of_word_shr n i k small l =
     ]
 
 -- ---- a word and x^128 times a half word
-abbrev pub wide : ℕ → ℕ → List Bool
-wide z s = of_word z ++ of_half s
 
 -- the coefficients below x^128
 pub wide_low : (z s k : ℕ) → k < 128 → coefficient (wide z s) k ≡ coefficient (of_word z) k
-wide_low z s k h = get_or_append_left (of_word z) (of_half s) false k (omega (arith, length-of_word z))
+wide_low z s k h = get_or_append_left (of_word z) (of_bits 64 s) false k (omega (arith, length-of_word z))
 
 -- those from x^128 on
-pub wide_high : (z s k : ℕ) → 128 ≤ k → coefficient (wide z s) k ≡ coefficient (of_half s) (k - 128)
-wide_high z s k h = get_or-append_right (of_word z) (of_half s) 128 k false (length-of_word z) h
+pub wide_high : (z s k : ℕ) → 128 ≤ k → coefficient (wide z s) k ≡ coefficient (of_bits 64 s) (k - 128)
+wide_high z s k h = get_or-append_right (of_word z) (of_bits 64 s) 128 k false (length-of_word z) h
 
 -- none from x^192 on
 wide_past : (z s k : ℕ) → 192 ≤ k → coefficient (wide z s) k ≡ false
-wide_past z s k h = wide_high z s k (omega arith) ∙ of_half_past s (k - 128) (omega arith)
+wide_past z s k h = wide_high z s k (omega arith) ∙ of_bits_past 64 s (k - 128) (omega arith)
+
+-- a word and the half word 0
+pub wide_alone : (n k : ℕ) → coefficient (wide n 0) k ≡ coefficient (of_word n) k
+wide_alone n k = elim (cases_lt k 128) [
+  | inl l ↦ wide_low n 0 k l
+  | inr l ↦ wide_high n 0 k l ∙ elim (cases_lt (k - 128) 64) [
+    | inl h ↦ of_bits_at 64 0 (k - 128) h ∙ bit_of_zero (63 - (k - 128))
+    | inr h ↦ of_bits_past 64 0 (k - 128) h
+  ] ∙ sym (of_word_past n k l)
+]
+
+-- the word 0 and the half word 0
+pub wide_none : (k : ℕ) → coefficient (wide 0 0) k ≡ false
+wide_none k = wide_alone 0 k ∙ of_word_zero k
 
 -- sequences that agree up to a place
 raised_agree : (n : ℕ) (e f : Sequence) (k : ℕ) → ((j : ℕ) → j ≤ k → e j ≡ f j) → raised n e k ≡ raised n f k
@@ -80,46 +60,48 @@ raised_agree zero e f k h = h k (omega arith)
 raised_agree (suc n) e f zero h = refl
 raised_agree (suc n) e f (suc k) h = raised_agree n e f k (λ j l. h j (omega arith))
 
--- times x^4, and one more sum of multiples
-pub wide_more : (z s t : ℕ) → z < 2 ^ 128 → s < 2 ^ 64 → ((k : ℕ) → 188 ≤ k → coefficient (wide z s) k ≡ false) → (k : ℕ)
-    → coefficient (wide (bit_xor (z / 2 ^ 4) t) (z % 2 ^ 4 * 2 ^ 60 + s / 2 ^ 4)) k ≡ plus (raised 4 (coefficient (wide z s)) k) (coefficient (of_word t) k)
-wide_more z s t lz ls low k =
-    let y : ℕ = bit_xor (z / 2 ^ 4) t in
-    let r : ℕ = z % 2 ^ 4 * 2 ^ 60 + s / 2 ^ 4 in
-    let small : s / 2 ^ 4 < 2 ^ 60 = omega arith in
+-- times x^w, and one more sum of multiples
+pub wide_more : (w z s t : ℕ) → w ≤ 64 → z < 2 ^ 128 → s / 2 ^ w < 2 ^ (64 - w) → z / 2 ^ w * 2 ^ w + z % 2 ^ w ≡ z
+    → ((k : ℕ) → 192 - w ≤ k → coefficient (wide z s) k ≡ false) → (k : ℕ)
+    → coefficient (wide (bit_xor (z / 2 ^ w) t) (z % 2 ^ w * 2 ^ (64 - w) + s / 2 ^ w)) k ≡ plus (raised w (coefficient (wide z s)) k) (coefficient (of_word t) k)
+wide_more w z s t lw lz small whole low k =
+    let y : ℕ = bit_xor (z / 2 ^ w) t in
+    let c : ℕ = 64 - w in
+    let out : ℕ = z % 2 ^ w in
+    let rest : ℕ = s / 2 ^ w in
+    let r : ℕ = out * 2 ^ c + rest in
     elim (cases_lt k 128) [
       | inl l ↦
-          wide_low y r k l ∙ of_word_xor (z / 2 ^ 4) t k
+          wide_low y r k l ∙ of_word_xor (z / 2 ^ w) t k
           ∙ ap (λ b. plus b (coefficient (of_word t) k))
-          (of_word_shr z 4 k lz l ∙ raised_agree 4 (coefficient (of_word z)) (coefficient (wide z s)) k (λ j h. sym (wide_low z s j (omega arith))))
+          (of_word_shr z w k lz l ∙ raised_agree w (coefficient (of_word z)) (coefficient (wide z s)) k (λ j h. sym (wide_low z s j (omega arith))))
       | inr l ↦
           let j : ℕ = k - 128 in
-          let moved : coefficient (of_half r) j ≡ coefficient (wide z s) (k - 4) =
+          let moved : coefficient (of_bits 64 r) j ≡ coefficient (wide z s) (k - w) =
           elim (cases_lt j 64) [
             | inl h ↦
-                of_half_at r j h
-                ∙ elim (cases_lt j 4) [
+                of_bits_at 64 r j h
+                ∙ elim (cases_lt j w) [
                   | inl first ↦
-                      let at : 63 - j - 60 ≡ 3 - j = omega arith in
-                      let up : 127 - (k - 4) ≡ 3 - j = omega arith in
-                      let whole : z / 2 ^ 4 * 2 ^ 4 + z % 2 ^ 4 ≡ z = omega arith in
-                      bit_high (z % 2 ^ 4) 60 (s / 2 ^ 4) (63 - j) small (omega arith) ∙ ap (bit (z % 2 ^ 4)) at
-                      ∙ sym (bit_low (z / 2 ^ 4) 4 (z % 2 ^ 4) (3 - j) (omega arith)) ∙ ap (λ (x : ℕ). bit x (3 - j)) whole
-                      ∙ sym (wide_low z s (k - 4) (omega arith) ∙ of_word_at z (k - 4) (omega arith) ∙ ap (bit z) up)
-                  | inr rest ↦
-                      let at : 63 - (k - 4 - 128) ≡ 4 + (63 - j) = omega arith in
-                      bit_low (z % 2 ^ 4) 60 (s / 2 ^ 4) (63 - j) (omega arith) ∙ bit_shr s 4 (63 - j)
-                      ∙ sym (wide_high z s (k - 4) (omega arith) ∙ of_half_at s (k - 4 - 128) (omega arith) ∙ ap (bit s) at)
+                      let at : 63 - j - c ≡ w - 1 - j = omega arith in
+                      let up : 127 - (k - w) ≡ w - 1 - j = omega arith in
+                      bit_high out c rest (63 - j) small (omega arith) ∙ ap (bit out) at
+                      ∙ sym (bit_low (z / 2 ^ w) w out (w - 1 - j) (omega arith)) ∙ ap (λ (x : ℕ). bit x (w - 1 - j)) whole
+                      ∙ sym (wide_low z s (k - w) (omega arith) ∙ of_word_at z (k - w) (omega arith) ∙ ap (bit z) up)
+                  | inr later ↦
+                      let at : 63 - (k - w - 128) ≡ w + (63 - j) = omega arith in
+                      bit_low out c rest (63 - j) (omega arith) ∙ bit_shr s w (63 - j)
+                      ∙ sym (wide_high z s (k - w) (omega arith) ∙ of_bits_at 64 s (k - w - 128) (omega arith) ∙ ap (bit s) at)
                 ]
-            | inr h ↦ of_half_past r j h ∙ sym (low (k - 4) (omega arith))
+            | inr h ↦ of_bits_past 64 r j h ∙ sym (low (k - w) (omega arith))
           ] in
-          wide_high y r k l ∙ moved ∙ sym (ap₂ plus (raised_high 4 (coefficient (wide z s)) k (omega arith)) (of_word_past t k l) ∙ plus_false (coefficient (wide z s) (k - 4)))
+          wide_high y r k l ∙ moved ∙ sym (ap₂ plus (raised_high w (coefficient (wide z s)) k (omega arith)) (of_word_past t k l) ∙ plus_false (coefficient (wide z s) (k - w)))
     ]
 
 -- ---- the modulus times a polynomial
 
 -- x^n times a sum
-raised_sum : (n : ℕ) (e f : Sequence) → raised n (sum_of e f) ≡ sum_of (raised n e) (raised n f)
+pub raised_sum : (n : ℕ) (e f : Sequence) → raised n (sum_of e f) ≡ sum_of (raised n e) (raised n f)
 raised_sum zero e f = refl
 raised_sum (suc n) e f = ap shift (raised_sum n e f) ∙ shift_sum (raised n e) (raised n f)
 
@@ -155,13 +137,13 @@ cancel false true = refl
 cancel false false = refl
 
 -- the half word s as the high half of a word
-high_at : (s k : ℕ) → k < 128 → coefficient (of_word (s * 2 ^ 64)) k ≡ coefficient (of_half s) k
+high_at : (s k : ℕ) → k < 128 → coefficient (of_word (s * 2 ^ 64)) k ≡ coefficient (of_bits 64 s) k
 high_at s k l =
     let whole : s * 2 ^ 64 + 0 ≡ s * 2 ^ 64 = omega arith in
     of_word_at (s * 2 ^ 64) k l ∙ ap (λ (x : ℕ). bit x (127 - k)) (sym whole)
     ∙ elim (cases_lt k 64) [
-      | inl h ↦ let at : 127 - k - 64 ≡ 63 - k = omega arith in bit_high s 64 0 (127 - k) (omega arith) (omega arith) ∙ ap (bit s) at ∙ sym (of_half_at s k h)
-      | inr h ↦ bit_low s 64 0 (127 - k) (omega arith) ∙ bit_above 0 0 (127 - k) (omega arith) (omega arith) ∙ sym (of_half_past s k h)
+      | inl h ↦ let at : 127 - k - 64 ≡ 63 - k = omega arith in bit_high s 64 0 (127 - k) (omega arith) (omega arith) ∙ ap (bit s) at ∙ sym (of_bits_at 64 s k h)
+      | inr h ↦ bit_low s 64 0 (127 - k) (omega arith) ∙ bit_above 0 0 (127 - k) (omega arith) (omega arith) ∙ sym (of_bits_past 64 s k h)
     ]
 
 -- what is folded has the residue of the whole
@@ -169,7 +151,7 @@ pub folded_at : (z s : ℕ) → z < 2 ^ 128 → s < 2 ^ 64 → coefficient (of_w
 folded_at z s lz ls =
     let m : List Bool = ghash_modulus in
     let f : ℕ = s * 2 ^ 64 in
-    let q : Sequence = coefficient (of_half s) in
+    let q : Sequence = coefficient (of_bits 64 s) in
     let lf : f < 2 ^ 128 = omega arith in
     let down : (i k : ℕ) → k < 128 → coefficient (of_word (f / 2 ^ i)) k ≡ raised i q k = λ i k l.
     of_word_shr f i k lf l ∙ raised_agree i (coefficient (of_word f)) q k (λ j h. high_at s j (omega arith)) in
@@ -178,22 +160,22 @@ folded_at z s lz ls =
     ∙ ap (plus (coefficient (of_word z) k)) (of_word_xor f (bit_xor (f / 2 ^ 1) (bit_xor (f / 2 ^ 2) (f / 2 ^ 7))) k
     ∙ ap₂ plus (high_at s k l) (of_word_xor (f / 2 ^ 1) (bit_xor (f / 2 ^ 2) (f / 2 ^ 7)) k
     ∙ ap₂ plus (down 1 k l) (of_word_xor (f / 2 ^ 2) (f / 2 ^ 7) k ∙ ap₂ plus (down 2 k l) (down 7 k l)))) in
-    let by : (k : ℕ) → coefficient (wide z s) k ≡ plus (mult (of_half s) (coefficient m) k) (coefficient (of_word (folded z s)) k) = λ k.
-    let times : mult (of_half s) (coefficient m) k ≡ plus (q k) (plus (raised 1 q k) (plus (raised 2 q k) (plus (raised 7 q k) (raised 128 q k)))) =
-    ap (λ e. e k) (mult_comm (of_half s) m ∙ modulus_times q) in
+    let by : (k : ℕ) → coefficient (wide z s) k ≡ plus (mult (of_bits 64 s) (coefficient m) k) (coefficient (of_word (folded z s)) k) = λ k.
+    let times : mult (of_bits 64 s) (coefficient m) k ≡ plus (q k) (plus (raised 1 q k) (plus (raised 2 q k) (plus (raised 7 q k) (raised 128 q k)))) =
+    ap (λ e. e k) (mult_comm (of_bits 64 s) m ∙ modulus_times q) in
     elim (cases_lt k 128) [
       | inl l ↦
           let none : plus (raised 7 q k) (raised 128 q k) ≡ raised 7 q k = ap (plus (raised 7 q k)) (raised_low 128 q k l) ∙ plus_false (raised 7 q k) in
           wide_low z s k l ∙ cancel (coefficient (of_word z) k) (low_multiple q k)
           ∙ sym (ap₂ plus (times ∙ ap (λ b. plus (q k) (plus (raised 1 q k) (plus (raised 2 q k) b))) none) (low k l))
       | inr l ↦
-          let past : (i : ℕ) → i ≤ 7 → raised i q k ≡ false = λ i h. raised_high i q k (omega arith) ∙ of_half_past s (k - i) (omega arith) in
-          let all : mult (of_half s) (coefficient m) k ≡ raised 128 q k =
+          let past : (i : ℕ) → i ≤ 7 → raised i q k ≡ false = λ i h. raised_high i q k (omega arith) ∙ of_bits_past 64 s (k - i) (omega arith) in
+          let all : mult (of_bits 64 s) (coefficient m) k ≡ raised 128 q k =
           times ∙ ap₂ plus (past 0 (omega arith)) (ap₂ plus (past 1 (omega arith)) (ap₂ plus (past 2 (omega arith)) (ap (λ b. plus b (raised 128 q k)) (past 7 (omega arith))))) in
           wide_high z s k l
           ∙ sym (ap₂ plus (all ∙ raised_high 128 q k l) (of_word_past (folded z s) k l) ∙ plus_false (q (k - 128)))
     ] in
-    sym (residue_by m (wide z s) (of_word (folded z s)) (of_half s) refl by
+    sym (residue_by m (wide z s) (of_word (folded z s)) (of_bits 64 s) refl by
     ∙ fun_ext (residue_of_lower m (of_word (folded z s)) refl (λ i h. of_word_past (folded z s) i h)))
 
 -- what is folded is a word

@@ -4,6 +4,7 @@ pub mod Texts
 pub mod Dot
 pub mod PolyvalSums
 pub mod ByGhash
-pub mod Tables
 pub mod Folds
-pub mod Halves
+pub mod BitParts
+pub mod Chains
+pub mod FourProducts

@@ -1,19 +1,18 @@
 -- GHASH's sum of one block more.
 use Rattle.std.proofs.Common.{◌≡◌, ℕ, zero, suc, ◌-◌, ◌*◌, ◌<◌, ◌≤◌, Bool, false, List, [], ◌++◌, length, bit_xor, refl, sym, ap, ap₂, ◌∙◌, arith, ◌/◌}
-use mathlib.Core.Path.{fun_ext}
 use Rattle.octets.specs.Bytes.{block_at, IsBlock}
 use Rattle.octets.specs.Bits.{g, bytes_of_g}
 use Rattle.octets.specs.Polynomial.{coefficient, plus, sum, product, power, sum_of_first, residue, Agree}
-use Rattle.octets.proofs.Sequence.{sum_of}
 use Rattle.octets.proofs.Residue.{residue_lower}
 use Rattle.octets.proofs.Ring.{coefficient_sum}
 use Rattle.octets.proofs.Spelled.{bytes_of_g_bytes, g_bytes_of}
-use Rattle.octets.proofs.Horner.{sum_is, times_same, horner}
+use Rattle.octets.proofs.Horner.{horner}
 use Rattle.octets.proofs.Readings.{g_injective}
 use Rattle.octets.proofs.Blocks.{block_at-append}
 use Rattle.gf128.specs.Ghash.{ghash_modulus, ghash_sum, ghash, GhashIsOne}
-use Rattle.gf128.specs.Words.{of_word, IsWordProduct}
-use Rattle.gf128.proofs.WordLemmas.{of_word_xor, of_word_zero, word_product}
+use Rattle.gf128.specs.Words.{of_word, IsWordProduct, IsFourProducts}
+use Rattle.gf128.proofs.FourProducts.{product_of, product_of_is, four_steps, horner_more}
+use Rattle.gf128.proofs.WordLemmas.{of_word_zero}
 
 -- sums of equal terms
 sum_of_first_same : (f e : ℕ → List Bool) (n : ℕ) → ((i : ℕ) → i < n → f i ≡ e i) → sum_of_first n f ≡ sum_of_first n e
@@ -41,12 +40,21 @@ ghash_step h m n = horner ghash_modulus (λ i. g (block_at m i)) (g h) n refl
 -- the product of the sum so far and the next block
 pub ghash_more : (h m : List ℕ) (s x z n : ℕ) → Agree (of_word s) (ghash_sum h m n) → of_word x ≡ g (block_at m n)
     → IsWordProduct (bit_xor s x) h z → Agree (of_word z) (ghash_sum h m (suc n))
-ghash_more h m s x z n held ex is k =
-    let block : List Bool = g (block_at m n) in
-    let before : List Bool = ghash_sum h m n in
-    let same : coefficient (of_word (bit_xor s x)) ≡ coefficient (sum before block) =
-    fun_ext (of_word_xor s x) ∙ ap₂ sum_of (fun_ext held) (ap coefficient ex) ∙ sym (sum_is before block) in
-    ap (λ f. f k) (word_product (bit_xor s x) z h is ∙ times_same ghash_modulus (of_word (bit_xor s x)) (sum before block) (g h) refl same ∙ sym (ghash_step h m n))
+unfolding ghash_sum
+ghash_more h m s x z n held ex is = horner_more (λ i. g (block_at m i)) h s x z n held ex is
+
+-- four blocks
+pub ghash_four : (h m : List ℕ) (s a b c d z n : ℕ) → Agree (of_word s) (ghash_sum h m n) → of_word a ≡ g (block_at m n) → of_word b ≡ g (block_at m (suc n))
+    → of_word c ≡ g (block_at m (suc (suc n))) → of_word d ≡ g (block_at m (suc (suc (suc n)))) → IsFourProducts (bit_xor s a) b c d h z
+    → Agree (of_word z) (ghash_sum h m (suc (suc (suc (suc n)))))
+ghash_four h m s a b c d z n held ea eb ec ed is =
+    let p : ℕ = bit_xor s a in
+    let t : ℕ = product_of p h in
+    let u : ℕ = product_of (bit_xor t b) h in
+    let w : ℕ = product_of (bit_xor u c) h in
+    ghash_more h m w d z (suc (suc (suc n)))
+    (ghash_more h m u c w (suc (suc n)) (ghash_more h m t b u (suc n) (ghash_more h m s a t n held ea (product_of_is p h)) eb (product_of_is (bit_xor t b) h))
+    ec (product_of_is (bit_xor u c) h)) ed (four_steps p b c d z h is)
 
 -- no block
 pub ghash_none : (h : List ℕ) → Agree (of_word 0) (ghash_sum h [] 0)

@@ -8,7 +8,8 @@ use Rattle.octets.specs.Polynomial.{coefficient, plus, sum, Agree}
 use Rattle.octets.proofs.Ring.{coefficient_sum}
 use Rattle.octets.proofs.Readings.{v_is}
 use Rattle.gf128.specs.Polyval.{IsDot, IsReversedMulX, IsPolyvalSum}
-use Rattle.gf128.specs.Words.{of_word, IsWordProduct}
+use Rattle.gf128.specs.Words.{of_word, IsWordProduct, IsFourProducts}
+use Rattle.gf128.proofs.FourProducts.{product_of, product_of_is, four_steps}
 use Rattle.gf128.proofs.WordLemmas.{length-of_word, of_word_xor, of_word_zero, word_product}
 use Rattle.gf128.proofs.Dot.{bits_of_block, dot_turned, mul_x_residue}
 use Rattle.gf128.proofs.PolyvalSums.{polyval_more}
@@ -59,3 +60,17 @@ polyval_taken h m k s x z n lh hk held ex is =
     dot_turned (of_word y) (g (reverse h)) (g k) (of_word z) (length-of_word y) (bits_of_block (reverse h) (length-reverse h ∙ lh)) (length-of_word z)
     (mul_x_residue (reverse h) k hk) (word_product y z k is) in
     polyval_more h m n (reverse (of_word s)) (reverse (of_word y)) (reverse (of_word z)) held same (rw (v_is h) dot)
+
+-- four blocks
+pub polyval_four : (h m k : List ℕ) (s a b c d z n : ℕ) → length h ≡ 16 → IsReversedMulX h k → IsPolyvalSum h m n (reverse (of_word s))
+    → of_word a ≡ g (reverse (block_at m n)) → of_word b ≡ g (reverse (block_at m (suc n)))
+    → of_word c ≡ g (reverse (block_at m (suc (suc n)))) → of_word d ≡ g (reverse (block_at m (suc (suc (suc n))))) → IsFourProducts (bit_xor s a) b c d k z
+    → IsPolyvalSum h m (suc (suc (suc (suc n)))) (reverse (of_word z))
+polyval_four h m k s a b c d z n lh hk held ea eb ec ed is =
+    let p : ℕ = bit_xor s a in
+    let t : ℕ = product_of p k in
+    let u : ℕ = product_of (bit_xor t b) k in
+    let w : ℕ = product_of (bit_xor u c) k in
+    polyval_taken h m k w d z (suc (suc (suc n))) lh hk
+    (polyval_taken h m k u c w (suc (suc n)) lh hk (polyval_taken h m k t b u (suc n) lh hk (polyval_taken h m k s a t n lh hk held ea (product_of_is p k)) eb (product_of_is (bit_xor t b) k))
+    ec (product_of_is (bit_xor u c) k)) ed (four_steps p b c d z k is)

@@ -19,11 +19,11 @@ use Rattle.octets.proofs.Residue.{residue_is, residue_lower, residue_step}
 use Rattle.octets.proofs.Ring.{residue_more, residue_agree, coefficient_product, residue_of_lower, the_residue}
 use Rattle.gf128.specs.Ghash.{ghash_modulus, IsProduct}
 use Rattle.gf128.specs.Polyval.{IsMulX}
-use Rattle.gf128.specs.Words.{of_word, IsWordProduct, reduction, times_x}
+use Rattle.gf128.specs.Words.{of_bits, of_word, IsWordProduct, reduction, times_x}
 
 -- ---- words and blocks
 pub of_word-be : (bs : List ℕ) → IsBlock bs → of_word (from_be_bytes w128 bs) ≡ g bs
-unfolding of_word g
+unfolding of_word of_bits g
 of_word-be bs block =
     let len : length bs ≡ 16 = block.length_is in
     let n : ℕ = from_be_bytes w128 bs in
@@ -38,7 +38,7 @@ of_word-be bs block =
 
 -- the polynomial of a word's bytes
 pub g-to_be : (n : ℕ) → g (to_be_bytes w128 n) ≡ of_word n
-unfolding of_word g
+unfolding of_word of_bits g
 g-to_be n =
     made_same (λ k. bit (get_or (bytes_high_first 16 n) (k / 8) 0) (7 - k % 8)) (λ k. bit n (127 - k)) 128 (λ k l.
     let at : 8 * (16 - suc (k / 8)) + (7 - k % 8) ≡ 127 - k = omega arith in
@@ -104,12 +104,12 @@ v-to_le n = v_is (to_le_bytes w128 n) ∙ ap (λ (x : List ℕ). reverse (g x)) 
 
 -- ---- the places of a word
 pub of_word_at : (n k : ℕ) → k < 128 → coefficient (of_word n) k ≡ bit n (127 - k)
-unfolding of_word
+unfolding of_word of_bits
 of_word_at n k h = get_or-map-range_with_len (λ i. bit n (127 - i)) 0 128 k k false h (zero-add k)
 
 -- a word has 128 places
 pub length-of_word : (n : ℕ) → length (of_word n) ≡ 128
-unfolding of_word
+unfolding of_word of_bits
 length-of_word n = length-map-range_with_len (λ i. bit n (127 - i)) 0 128
 
 -- none from x^128 on
@@ -144,7 +144,7 @@ top_at n = of_word_at n 127 (omega arith) ∙ bit_zero n
 
 -- the modulus by its low word
 modulus_is : ghash_modulus ≡ of_word reduction ++ true ∷ []
-unfolding of_word
+unfolding of_word of_bits
 modulus_is = refl
 
 -- its coefficients below x^128

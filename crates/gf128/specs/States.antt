@@ -1,5 +1,6 @@
 -- The text that a state in pieces holds, where its multiplier shows its key by `key`.
 use Rattle.std.specs.Prelude.{◌≡◌, ℕ, ◌/◌, List, length, reverse}
+use Rattle.std.specs.Int.{w128, to_be_bytes}
 use Rattle.octets.specs.Bytes.{IsBlock}
 use Rattle.octets.specs.Polynomial.{Agree}
 use Rattle.octets.specs.Pieces.{HoldsPieces}
@@ -10,6 +11,11 @@ use Rattle.gf128.specs.declared.ghash.Ghash.{Ghash}
 use Rattle.gf128.specs.declared.ghash.GhashSum.{GhashSum}
 use Rattle.gf128.specs.declared.polyval.Polyval.{Polyval}
 use Rattle.gf128.specs.declared.polyval.PolyvalSum.{PolyvalSum}
+use Rattle.gf128.specs.declared.placed_mul.PlacedMul.{PlacedMul}
+
+-- the key of the multiplier of texts in pieces
+abbrev pub key_of : PlacedMul → List ℕ
+key_of s = to_be_bytes w128 s.high.first.word
 
 -- s has taken in the whole blocks m under the key h
 pub record GhashSumHolds {M : Type 0} (key : M → List ℕ) (s : GhashSum M) (h : List ℕ) (m : List ℕ) : Type 0 where

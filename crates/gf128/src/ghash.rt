@@ -21,15 +21,24 @@ impl<M: Keyed128> Absorb for GhashSum<M> {
 
     fn absorb(&mut self, blocks: &[u8]) {
         let (whole, _) = blocks.as_chunks::<16>();
+        let (fours, rest) = whole.as_chunks::<4>();
         let mut sum = self.sum;
-        'taken: for block in whole {
+        'fours: for four in fours {
+            sum = self.multiplier.times_four(
+                sum ^ word_of(&four[0]),
+                word_of(&four[1]),
+                word_of(&four[2]),
+                word_of(&four[3]),
+            );
+        }
+        'taken: for block in rest {
             sum = self.multiplier.times_word(sum ^ word_of(block));
         }
         self.sum = sum;
     }
 }
 
-/// GHASH over a text fed piece by piece (SP 800-38D, 6.4), by the multiplier `M`.
+/// GHASH over a text fed piece by piece (SP 800-38D, 6.4), by a multiplier of its key.
 #[derive(Drop)]
 pub struct Ghash<M> {
     pieces: Pieces<GhashSum<M>>,
@@ -40,15 +49,12 @@ impl<M: Keyed128> Ghash<M> {
     ghost use Rattle.gf128.specs.Ghash.{ghash};
     ghost use Rattle.gf128.specs.States.{Holds};
 
-    /// A state that holds the empty text, under a key of 16 bytes.
-    pub fn new(key: &Block) -> Ghash<M>
-        ensures { Holds M.key_bytes result key.now [] }
+    /// A state that holds the empty text, under the multiplier's key.
+    pub fn new(multiplier: M) -> Ghash<M>
+        ensures { Holds M.key_bytes result (M.key_bytes multiplier) [] }
     {
         Ghash {
-            pieces: Pieces::new(GhashSum {
-                multiplier: M::of(key),
-                sum: 0,
-            }),
+            pieces: Pieces::new(GhashSum { multiplier, sum: 0 }),
         }
     }
 

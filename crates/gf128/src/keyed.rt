@@ -3,7 +3,7 @@
 ghost use Rattle.std.specs.Prelude.{◌≡◌, ℕ, List};
 ghost use Rattle.octets.specs.Bytes.{IsBlock};
 ghost use Rattle.gf128.specs.Ghash.{IsProduct};
-ghost use Rattle.gf128.specs.Words.{IsWordProduct};
+ghost use Rattle.gf128.specs.Words.{IsFourProducts, IsWordProduct};
 
 use crate::words::{block_of, word_of};
 use octets::Block;
@@ -21,6 +21,16 @@ pub trait Keyed128: Drop {
     /// so the bit of weight 2^127 is the coefficient of x^0.
     fn times_word(&self, x: u128) -> u128
         ensures { IsWordProduct x (key_bytes self.now) result };
+
+    /// The sum of `a` times the fourth power of the key, `b` times its third, `c` times its second, and `d` times the key.
+    fn times_four(&self, a: u128, b: u128, c: u128, d: u128) -> u128
+        ensures { IsFourProducts a b c d (key_bytes self.now) result }
+    {
+        let first = self.times_word(a);
+        let second = self.times_word(first ^ b);
+        let third = self.times_word(second ^ c);
+        self.times_word(third ^ d)
+    }
 
     /// The product of a block and the key.
     fn times(&self, x: &Block) -> Block

@@ -2,19 +2,29 @@
 #![tactic(auto)]
 
 mod bit_mul;
+mod byte_mul;
+mod chain;
 mod ghash;
+mod hash_key;
 mod keyed;
+mod multiples;
+mod placed_mul;
 mod polyval;
 mod table_mul;
 #[cfg(test)]
 mod tests;
+mod wide_mul;
 mod words;
 
 pub use bit_mul::BitMul;
+pub use byte_mul::ByteMul;
 pub use ghash::{Ghash, ghash_is_one};
+pub use hash_key::HashKey;
 pub use keyed::Keyed128;
+pub use placed_mul::PlacedMul;
 pub use polyval::{Polyval, dot_is_one, polyval_by_ghash, polyval_is_one};
 pub use table_mul::TableMul;
+pub use wide_mul::WideMul;
 
-/// The multiplier in use.
-pub type Mul = TableMul;
+/// The multiplier of texts in pieces.
+pub type Mul = PlacedMul;

@@ -32,8 +32,17 @@ impl<M: Keyed128> Absorb for PolyvalSum<M> {
 
     fn absorb(&mut self, blocks: &[u8]) {
         let (whole, _) = blocks.as_chunks::<16>();
+        let (fours, rest) = whole.as_chunks::<4>();
         let mut sum = self.sum;
-        'taken: for block in whole {
+        'fours: for four in fours {
+            sum = self.multiplier.times_four(
+                sum ^ reversed_word_of(&four[0]),
+                reversed_word_of(&four[1]),
+                reversed_word_of(&four[2]),
+                reversed_word_of(&four[3]),
+            );
+        }
+        'taken: for block in rest {
             sum = self.multiplier.times_word(sum ^ reversed_word_of(block));
         }
         self.sum = sum;

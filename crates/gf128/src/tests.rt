@@ -1,4 +1,4 @@
-// Worked values and published vectors, by both multipliers.
+// Worked values and published vectors, by each multiplier.
 
 use super::*;
 use octets::Block;
@@ -9,7 +9,7 @@ const ANY: [u8; 16] = [
 ];
 
 fn ghash_of<M: Keyed128>(key: [u8; 16], text: &[u8]) -> [u8; 16] {
-    let mut state = Ghash::<M>::new(&Block::new(key));
+    let mut state = Ghash::new(M::of(&Block::new(key)));
     state.update(text);
     *state.finish().bytes()
 }
@@ -27,6 +27,9 @@ fn ghash_under_one_is_the_block(rt: HostRuntime) -> Result<(), Fail> {
     one[0] = 0x80;
     assert_eq!(rt; ghash_of::<BitMul>(one, &ANY).as_slice(), ANY.as_slice());
     assert_eq!(rt; ghash_of::<TableMul>(one, &ANY).as_slice(), ANY.as_slice());
+    assert_eq!(rt; ghash_of::<ByteMul>(one, &ANY).as_slice(), ANY.as_slice());
+    assert_eq!(rt; ghash_of::<PlacedMul>(one, &ANY).as_slice(), ANY.as_slice());
+    assert_eq!(rt; ghash_of::<WideMul>(one, &ANY).as_slice(), ANY.as_slice());
     Ok(())
 }
 
@@ -66,7 +69,7 @@ const HASH: [u8; 16] = [
 ];
 
 fn ghash_in_pieces<M: Keyed128>() -> [u8; 16] {
-    let mut state = Ghash::<M>::new(&Block::new(HASH_KEY));
+    let mut state = Ghash::new(M::of(&Block::new(HASH_KEY)));
     state.update(&HASHED[..1]);
     state.update(&HASHED[1..16]);
     state.pad16();
@@ -87,6 +90,59 @@ fn ghash_of_the_published_blocks(rt: HostRuntime) -> Result<(), Fail> {
     );
     assert_eq!(rt; ghash_in_pieces::<BitMul>().as_slice(), HASH.as_slice());
     assert_eq!(rt; ghash_in_pieces::<TableMul>().as_slice(), HASH.as_slice());
+    Ok(())
+}
+
+// The four blocks of ciphertext and the block of lengths of test case 3.
+const LONGER_KEY: [u8; 16] = [
+    0xb8, 0x3b, 0x53, 0x37, 0x08, 0xbf, 0x53, 0x5d, 0x0a, 0xa6, 0xe5, 0x29, 0x80, 0xd5, 0x3b, 0x78,
+];
+
+const LONGER: [u8; 80] = [
+    0x42, 0x83, 0x1e, 0xc2, 0x21, 0x77, 0x74, 0x24, 0x4b, 0x72, 0x21, 0xb7, 0x84, 0xd0, 0xd4, 0x9c,
+    0xe3, 0xaa, 0x21, 0x2f, 0x2c, 0x02, 0xa4, 0xe0, 0x35, 0xc1, 0x7e, 0x23, 0x29, 0xac, 0xa1, 0x2e,
+    0x21, 0xd5, 0x14, 0xb2, 0x54, 0x66, 0x93, 0x1c, 0x7d, 0x8f, 0x6a, 0x5a, 0xac, 0x84, 0xaa, 0x05,
+    0x1b, 0xa3, 0x0b, 0x39, 0x6a, 0x0a, 0xac, 0x97, 0x3d, 0x58, 0xe0, 0x91, 0x47, 0x3f, 0x59, 0x85,
+    0, 0, 0, 0, 0, 0, 0, 0, 0, 0, 0, 0, 0, 0, 0x02, 0,
+];
+
+const LONGER_HASH: [u8; 16] = [
+    0x7f, 0x1b, 0x32, 0xb8, 0x1b, 0x82, 0x0d, 0x02, 0x61, 0x4f, 0x88, 0x95, 0xac, 0x1d, 0x4e, 0xac,
+];
+
+#[test]
+fn ghash_of_more_than_four_blocks(rt: HostRuntime) -> Result<(), Fail> {
+    assert_eq!(rt;
+        ghash_of::<BitMul>(LONGER_KEY, &LONGER).as_slice(),
+        LONGER_HASH.as_slice()
+    );
+    assert_eq!(rt;
+        ghash_of::<TableMul>(LONGER_KEY, &LONGER).as_slice(),
+        LONGER_HASH.as_slice()
+    );
+    assert_eq!(rt;
+        ghash_of::<ByteMul>(LONGER_KEY, &LONGER).as_slice(),
+        LONGER_HASH.as_slice()
+    );
+    assert_eq!(rt;
+        ghash_of::<PlacedMul>(LONGER_KEY, &LONGER).as_slice(),
+        LONGER_HASH.as_slice()
+    );
+    assert_eq!(rt;
+        ghash_of::<WideMul>(LONGER_KEY, &LONGER).as_slice(),
+        LONGER_HASH.as_slice()
+    );
+    let key = HashKey::new(&Block::new(LONGER_KEY));
+    let mut state = key.ghash();
+    state.update(&LONGER);
+    assert_eq!(rt; state.finish().bytes().as_slice(), LONGER_HASH.as_slice());
+    let mut state = key.ghash_of_long();
+    state.update(&LONGER);
+    assert_eq!(rt; state.finish().bytes().as_slice(), LONGER_HASH.as_slice());
+    assert_eq!(rt;
+        polyval_of::<WideMul>(LONGER_KEY, &LONGER).as_slice(),
+        polyval_of::<BitMul>(LONGER_KEY, &LONGER).as_slice()
+    );
     Ok(())
 }
 

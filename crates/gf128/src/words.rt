@@ -1,9 +1,9 @@
 // Words of 128 bits as polynomials: the bit of weight 2^127 is the coefficient of x^0.
 
-ghost use Rattle.std.specs.Prelude.{◌≡◌, ℕ, List, reverse};
+ghost use Rattle.std.specs.Prelude.{◌≡◌, ℕ, ◌*◌, ◌/◌, ◌%◌, ◌^◌, ◌<◌, List, reverse, slice_index};
 ghost use Rattle.octets.specs.Bytes.{IsBlock};
 ghost use Rattle.octets.specs.Bits.{g, v};
-ghost use Rattle.gf128.specs.Words.{of_word, times_x};
+ghost use Rattle.gf128.specs.Words.{of_bits, of_word, times_x};
 
 use octets::Block;
 
@@ -24,6 +24,30 @@ pub(crate) fn reversed_word_of(block: &[u8; 16]) -> u128
     ensures { of_word result ≡ g (reverse block.now) }
 {
     u128::from_le_bytes(*block)
+}
+
+// The high half word.
+#[inline(always)]
+pub(crate) fn high_half(word: u128) -> u64
+    ensures { result ≡ word / 2 ^ 64 }
+{
+    (word >> 64) as u64
+}
+
+// The low half word.
+#[inline(always)]
+pub(crate) fn low_half(word: u128) -> u64
+    ensures { result ≡ word % 2 ^ 64 }
+{
+    (word % 0x1_0000_0000_0000_0000) as u64
+}
+
+// The bytes of a half word, that of the lowest bits first.
+#[inline(always)]
+pub(crate) fn bytes_of(half: u64) -> [u8; 8]
+    ensures { (i : ℕ) → i < 8 → of_bits 8 (slice_index result i) ≡ of_bits 8 (half / 2 ^ (8 * i)) }
+{
+    half.to_le_bytes()
 }
 
 // The block of a word.

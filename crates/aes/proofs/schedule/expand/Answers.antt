@@ -1,14 +1,16 @@
-use Rattle.std.proofs.Common.{◌≡◌, ℕ, ◌-◌, ◌*◌, List, [], replicate, sym, ap₂, ◌∙◌, arith, rules}
+use Rattle.std.proofs.Common.{◌≡◌, ℕ, ◌+◌, ◌-◌, ◌*◌, ◌<◌, List, get_or, sym, ap₂, ◌∙◌, arith, rules}
 use Rattle.std.proofs.lemmas.List.{get_or-replicate}
 use Rattle.aes.specs.Schedule.{xor_word, key_words, changed}
-use Rattle.aes.proofs.Words.{word, word_start, word_rest, take_four, one_more_word, others_stay, is_table}
+use Rattle.aes.proofs.Words.{word, word_start, word_rest, take_four, one_more_word, others_stay, small_words, zero_words, is_table}
+use Rattle.aes.proofs.ColumnWords.{column_back}
 use Rattle.aes.proofs.schedule.expand.Goals as goal
 
 pub start-init : goal.start-init
 start-init c = record {
   size = search rules;
   made = λ k l. absurd (omega arith);
-  after = λ k h l. get_or-replicate 60 k (replicate 4 0) [] l;
+  after = λ k h l. get_or-replicate 60 k 0 0 l;
+  small = λ k. zero_words k;
 }
 
 pub start-preserved : goal.start-preserved
@@ -16,11 +18,15 @@ start-preserved c =
     let key = c.args.key.now in
     let i = c.start.i in
     let size : key_words key ≡ c.args.nk = omega arith in
+    let small : (k : ℕ) → get_or key k 0 < 256 = λ k. (c.type_inv.key k).fits in
     record {
       size = search rules;
-      made = one_more_word (word key) c.start.words i _ (omega arith) c.start.invariant.made
-          (sym (word_start key i (omega arith) ∙ take_four key (4 * i) (omega arith)));
-      after = others_stay (replicate 4 0) c.start.words i _ c.start.invariant.after;
+      made = one_more_word (word key) c.start.words i c.from_le_bytes.result (omega arith) c.start.invariant.made
+          (column_back (get_or key (4 * i) 0) (get_or key (4 * i + 1) 0) (get_or key (4 * i + 2) 0) (get_or key (4 * i + 3) 0) c.from_le_bytes.result
+          (small (4 * i)) (small (4 * i + 1)) (small (4 * i + 2)) (small (4 * i + 3)) c.from_le_bytes.ensures
+          ∙ sym (word_start key i (omega arith) ∙ take_four key (4 * i) (omega arith)));
+      after = others_stay c.start.words i c.from_le_bytes.result c.start.invariant.after;
+      small = small_words c.start.words i c.from_le_bytes.result c.from_le_bytes.type_inv c.start.invariant.small;
     }
 
 pub rest-preserved : goal.rest-preserved
@@ -37,13 +43,17 @@ rest-preserved c =
           (c.next_word.ensures
           ∙ ap₂ (λ (v w : List ℕ). xor_word v (changed nk i w)) (c.rest.invariant.made (i - nk) (omega arith)) (c.rest.invariant.made (i - 1) (omega arith))
           ∙ sym step);
-      after = others_stay (replicate 4 0) c.rest.words i c.next_word.result c.rest.invariant.after;
+      after = others_stay c.rest.words i c.next_word.result c.rest.invariant.after;
+      small = small_words c.rest.words i c.next_word.result c.next_word.type_inv c.rest.invariant.small;
     }
 
-pub returns : goal.returns
-returns c =
+pub returns-clause-table : goal.returns-clause-table
+returns-clause-table c =
     let key = c.args.key.now in
     let size : key_words key ≡ c.args.nk = omega arith in
     is_table c.rest.words key c.rest.invariant.size (omega arith)
     (λ k h. c.rest.invariant.made k (omega arith))
     (λ k h l. c.rest.invariant.after k (omega arith) l)
+
+pub returns-clause-words : goal.returns-clause-words
+returns-clause-words c = c.rest.invariant.small

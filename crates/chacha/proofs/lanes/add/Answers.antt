@@ -2,14 +2,14 @@ use Rattle.std.proofs.Common.{◌≡◌, ℕ, ◌+◌, ◌%◌, ◌^◌, ◌++�
 use Rattle.chacha.specs.Block.{added}
 use Rattle.chacha.specs.Lanes.{lane}
 use Rattle.chacha.proofs.Words.{partly_added_none, partly_added_more, partly_added_all}
-use Rattle.chacha.proofs.FourStates.{lane-sum, length-lane}
+use Rattle.chacha.proofs.SideBySide.{lane-sum, length-lane}
 use Rattle.chacha.proofs.lanes.add.Goals as goal
 
 pub words-init : goal.words-init
-words-init c = λ j l. partly_added_none (lane j c.args.x.now) (lane j c.args.start.now)
+words-init g c = λ j l. partly_added_none (lane j c.args.x.now) (lane j c.args.start.now)
 
 pub words-preserved : goal.words-preserved
-words-preserved c = λ j l.
+words-preserved g c = λ j l.
     let i : ℕ = c.words.i in
     let was = lane j c.args.x.now in
     let start = lane j c.args.start.now in
@@ -22,7 +22,7 @@ words-preserved c = λ j l.
     )
 
 pub returns : goal.returns
-returns c = λ j l.
+returns g c = λ j l.
     let was = lane j c.args.x.now in
     let start = lane j c.args.start.now in
     let end : c.words.i ≡ 16 = omega (arith, c.words-test.false, c.words.auto.i-end) in

@@ -4,5 +4,5 @@ use Rattle.chacha.specs.Lanes.{lane}
 use Rattle.chacha.proofs.lanes.add.Given as goal
 
 abbrev pub invariant-words : goal.invariant-words
-invariant-words l = (j : ℕ) → j < 4
+invariant-words g l = (j : ℕ) → j < g.row.N
     → lane j l.x ≡ added (take l.i (lane j l.initial.x)) (take l.i (lane j l.start)) ++ drop l.i (lane j l.initial.x)

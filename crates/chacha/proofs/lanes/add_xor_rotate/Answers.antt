@@ -1,7 +1,7 @@
-use Rattle.chacha.proofs.FourStates.{lane-step}
+use Rattle.chacha.proofs.SideBySide.{lane-step}
 use Rattle.chacha.proofs.lanes.add_xor_rotate.Goals as goal
 
 pub returns : goal.returns
-returns c = λ j l.
+returns g c = λ j l.
     lane-step c.args.x.now c.sum-sum.result c.xor_rotated-turned.result c.args.a c.args.b c.args.d c.args.n j
     (c.sum-sum.ensures j l) (c.xor_rotated-turned.ensures j l)

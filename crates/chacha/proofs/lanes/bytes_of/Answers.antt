@@ -1,4 +1,4 @@
-use Rattle.chacha.proofs.FourStates.{four_serialized}
+use Rattle.chacha.proofs.SideBySide.{four_serialized}
 use Rattle.chacha.proofs.lanes.bytes_of.Goals as goal
 
 pub returns : goal.returns

@@ -1,31 +1,24 @@
-use Rattle.std.proofs.Common.{List, ◌≡◌, ℕ, ◌+◌, ◌-◌, ◌%◌, ◌++◌, ◌∙◌, ap, arith, length, take, drop, min, flat_map}
-use Rattle.std.proofs.lemmas.List.{length-take-le}
-use Rattle.octets.specs.Bytes.{xor_bytes}
-use Rattle.chacha.proofs.Masking.{block_part, four_part}
+use Rattle.std.proofs.Common.{◌++◌, ◌∙◌, ap, arith, take, drop}
+use Rattle.chacha.proofs.Masking.{whole_blocks, run_of_zeros, run_of_block}
 use Rattle.chacha.proofs.stream.xor_run.Goals as goal
+
+pub returns-then-bytes-ge512-clause-masked : goal.returns-then-bytes-ge512-clause-masked
+returns-then-bytes-ge512-clause-masked c =
+    ap (λ l. l ++ drop 512 c.args.bytes.now)
+    (c.xor_eight_blocks.ensures
+    ∙ whole_blocks c.args.key.now c.args.nonce.now c.args.place (take 512 c.args.bytes.now) (omega arith))
+
+pub returns-then-counter-clause-masked : goal.returns-then-counter-clause-masked
+returns-then-counter-clause-masked c =
+    run_of_zeros c.args.key.now c.args.nonce.now c.args.place 512 c.xor_part.result c.args.bytes.now c.xor_eight_blocks-then-counter.new.bytes _
+    c.xor_eight_blocks-then-counter.ensures c.xor_eight_blocks-then-counter.auto.bytes c.xor_part.ensures.count c.xor_part.ensures.xored
+
+pub returns-then-counter-2-clause-masked : goal.returns-then-counter-2-clause-masked
+returns-then-counter-2-clause-masked c =
+    run_of_zeros c.args.key.now c.args.nonce.now c.args.place 256 c.xor_part-then-counter-2.result c.args.bytes.now c.xor_four_blocks.new.bytes _
+    c.xor_four_blocks.ensures c.xor_four_blocks.auto.bytes c.xor_part-then-counter-2.ensures.count c.xor_part-then-counter-2.ensures.xored
 
 pub returns-clause-masked : goal.returns-clause-masked
 returns-clause-masked c =
-    let p : ℕ = c.args.place in
-    let n : ℕ = c.min-count.result in
-    let xs = take n c.args.bytes.now in
-    let least : n ≡ min (64 - p % 64) (length c.args.bytes.now) = c.min-count.ensures in
-    ap (λ l. l ++ drop n c.args.bytes.now) (
-    c.xor_into-2.ensures
-    ∙ ap (λ b. xor_bytes xs (take (p % 64 + n - p % 64) (drop (p % 64) b))) c.block-block.ensures.value
-    ∙ block_part c.args.key.now c.args.nonce.now p n xs (omega arith) (length-take-le n c.args.bytes.now (omega arith))
-    )
-
-pub xor_into-requires : goal.xor_into-requires
-xor_into-requires c =
-    let four : length c.four_blocks-blocks.result ≡ 4 = ap length c.four_blocks-blocks.ensures in
-    omega (arith, four, c.as_flattened.ensures.len, length-take-le 256 c.args.bytes.now c.if-bytes-ge256.true)
-
-pub returns-then-bytes-ge256-clause-masked : goal.returns-then-bytes-ge256-clause-masked
-returns-then-bytes-ge256-clause-masked c =
-    let xs = take 256 c.args.bytes.now in
-    ap (λ l. l ++ drop 256 c.args.bytes.now) (
-    c.xor_into.ensures
-    ∙ ap (xor_bytes xs) (c.as_flattened.ensures.value ∙ ap (λ blocks. flat_map (λ (b : List ℕ). b) blocks) c.four_blocks-blocks.ensures)
-    ∙ four_part c.args.key.now c.args.nonce.now c.args.place xs c.if-place-eq0.true (length-take-le 256 c.args.bytes.now c.if-bytes-ge256.true)
-    )
+    run_of_block c.args.key.now c.args.nonce.now c.args.place c.xor_part-2.result c.args.bytes.now c.block.result _
+    c.block.ensures.value c.xor_part-2.ensures.count c.xor_part-2.ensures.xored

@@ -1,11 +1,21 @@
-use Rattle.std.proofs.Common.{◌≡◌, ℕ, ◌+◌, ◌-◌, ◌≤◌, ◌∙◌, length, take, drop, refl, arith}
-use Rattle.std.proofs.lemmas.List.{length-take-le, length-drop}
+use Rattle.std.proofs.Common.{◌≡◌, ℕ, ◌+◌, ◌-◌, ◌*◌, ◌/◌, ◌≤◌, ◌∙◌, length, take, drop, arith}
+use Rattle.std.proofs.lemmas.List.{length-take-le, length-drop, take_at, drop_at}
 use borrow.Rule.Slice.PartMut.{put_mid}
-use Rattle.aes.proofs.StreamSteps.{length-put_mid, advances-nil, advances_more, advances_all}
+use Rattle.aes.proofs.StreamSteps.{length-begun, length-put_mid, advances_more, advances_all}
 use Rattle.aes.proofs.counter.Counter.apply_blocks.Goals as goal
 
 pub whole-init : goal.whole-init
-whole-init g c = record { within = omega arith; none = c.requires; left = refl; so_far = advances-nil g.C.Count.up c.args.self.now }
+whole-init g c =
+    let was = c.args.bytes.now in
+    let done : ℕ = length was / 64 * 64 in
+    let begun = c.apply_fours.new.bytes in
+    let size : length begun ≡ done = c.apply_fours.auto.bytes ∙ length-take-le done was (omega arith) in
+    record {
+      within = omega (arith, length-begun was begun done size (omega arith));
+      none = c.apply_fours.ensures.used;
+      left = drop_at begun (drop done was) done size;
+      so_far = rw (take_at begun (drop done was) done size) c.apply_fours.ensures.advances;
+    }
 
 pub whole-preserved : goal.whole-preserved
 whole-preserved g c =
@@ -31,7 +41,8 @@ returns-then-done-bytes g c =
     let mid = c.whole.bytes in
     let k : ℕ = length mid - a in
     let ys = c.begin-then-done-bytes.new.bytes in
-    let same : length mid ≡ length c.args.bytes.now = c.whole.auto.bytes in
+    let same : length mid ≡ length c.args.bytes.now = c.whole.auto.bytes ∙ length-begun c.args.bytes.now c.apply_fours.new.bytes (length c.args.bytes.now / 64 * 64)
+    (c.apply_fours.auto.bytes ∙ length-take-le (length c.args.bytes.now / 64 * 64) c.args.bytes.now (omega arith)) (omega arith) in
     let room : a + k ≤ length mid = omega (arith, c.whole.invariant.within) in
     let part : length (take k (drop a mid)) ≡ k = length-take-le k (drop a mid) (omega (arith, length-drop a mid)) in
     let size : length ys ≡ k = c.begin-then-done-bytes.auto.bytes ∙ part in
@@ -42,6 +53,7 @@ returns-then-done-bytes g c =
 
 pub returns-else-done-bytes : goal.returns-else-done-bytes
 returns-else-done-bytes g c =
-    let same : length c.whole.bytes ≡ length c.args.bytes.now = c.whole.auto.bytes in
+    let same : length c.whole.bytes ≡ length c.args.bytes.now = c.whole.auto.bytes ∙ length-begun c.args.bytes.now c.apply_fours.new.bytes (length c.args.bytes.now / 64 * 64)
+    (c.apply_fours.auto.bytes ∙ length-take-le (length c.args.bytes.now / 64 * 64) c.args.bytes.now (omega arith)) (omega arith) in
     advances_all g.C.Count.up c.args.self.now c.whole.self c.args.bytes.now c.whole.bytes c.whole.done
     (omega (arith, c.if-done-bytes.false)) (omega (arith, c.if-done-bytes.false)) c.whole.invariant.so_far

@@ -1,5 +1,8 @@
+use Rattle.std.proofs.Common.{ℕ, List, refl}
 use Rattle.gf128.proofs.Sums.{ghash_none}
 use Rattle.gf128.proofs.ghash.Ghash.new.Goals as goal
 
 pub returns : goal.returns
-returns x c = c.new.ensures c.args.key.now (record { key_is = c.of.ensures; sum_is = ghash_none c.args.key.now })
+returns x c =
+    let k : List ℕ = x.M.Keyed128.key_bytes c.args.multiplier in
+    c.new.ensures k (record { key_is = refl; sum_is = ghash_none k })

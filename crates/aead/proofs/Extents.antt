@@ -1,0 +1,96 @@
+-- What a reading to its end finds.
+use Rattle.std.proofs.Common.{◌≡◌, ℕ, List, [], ◌++◌, ◌≤◌, ◌<◌, inl, inr, Bool, false, length, take, refl, ap, ◌∙◌, sym, arith, Option, Some, None, subst, length-append}
+use Rattle.std.specs.Io.KnownBytes.{Consumes, Appends}
+use Rattle.std.proofs.lemmas.List.{take_all, take_at, take-append-le}
+use Rattle.octets.specs.Masked.{masked}
+use Rattle.octets.proofs.Devices.{consumes_more}
+use Rattle.octets.proofs.Masks.{take-masked}
+use Rattle.aead.specs.declared.masking.Masking.{Masking}
+use Rattle.aead.specs.Pieces.{Task, task_mask, HoldsMasking}
+use Rattle.aead.specs.Passes.{WentFar, Stopped}
+use Rattle.aead.specs.Extents.{IsExtent, WentAll, More}
+use Rattle.aead.proofs.Findings.{front_of}
+
+-- the reading ended before the length
+pub all_short : (t : Task) (len n : ℕ) (l l' o o' : Option (List ℕ)) (k : Masking) → WentFar t [] len l l' o o' k n → n < len → WentAll t len l l' o o' k (Some n)
+all_short t len n l l' o o' k q less =
+    let P : List ℕ → Type 0 = λ b. Appends o o' (masked (task_mask t) 0 b) in
+    let Q : List ℕ → Type 0 = λ b. HoldsMasking k t b in
+    let all : take len q.bytes ≡ q.bytes = take_all len q.bytes (omega (arith, q.count, less)) in
+    record {
+      bytes = q.bytes;
+      consumed = q.went.consumed;
+      given = subst P (sym all) q.went.given;
+      held = subst Q (sym all) q.went.held;
+      is = (q.count, omega (arith, less));
+      end = λ _. q.end less;
+    }
+
+-- it came to the length, and then there was more or not
+pub all_more : (t : Task) (len n : ℕ) (l l' l'' o o' : Option (List ℕ)) (k : Masking) (extent : Option ℕ) (b : Bool) → (q : WentFar t [] len l l' o o' k n) → len ≤ n →
+    (more : More l' l'' b) → (length q.bytes ≡ len → IsExtent len (q.bytes ++ more.bytes) extent × (length (q.bytes ++ more.bytes) ≤ len → b ≡ false)) →
+    WentAll t len l l'' o o' k extent
+all_more t len n l l' l'' o o' k extent b q full more found =
+    let P : List ℕ → Type 0 = λ b. Appends o o' (masked (task_mask t) 0 b) in
+    let Q : List ℕ → Type 0 = λ b. HoldsMasking k t b in
+    let size : length q.bytes ≡ len = omega (arith, q.count, q.short, full) in
+    let front : take len (q.bytes ++ more.bytes) ≡ q.bytes = take_at q.bytes more.bytes len size in
+    record {
+      bytes = q.bytes ++ more.bytes;
+      consumed = consumes_more l l' l'' q.bytes more.bytes q.went.consumed more.consumed;
+      given = subst P (sym front) q.went.given;
+      held = subst Q (sym front) q.went.held;
+      is = (found size).0;
+      end = λ h. (more.none ((found size).1 h)).1;
+    }
+
+-- a device failed as it was asked for more
+pub all_stopped : (t : Task) (len n : ℕ) (l l' l'' o o' : Option (List ℕ)) (k : Masking) (y : List ℕ) →
+    WentFar t [] len l l' o o' k n → Consumes l' l'' y → Stopped t [] len l l'' o o'
+all_stopped t len n l l' l'' o o' k y q more =
+    let P : List ℕ → Type 0 = λ b. Appends o o' b in
+    let same : take (length q.bytes) (masked (task_mask t) 0 (q.bytes ++ y)) ≡ masked (task_mask t) 0 q.bytes =
+    take-masked (task_mask t) (length q.bytes) 0 (q.bytes ++ y) ∙ ap (λ b. masked (task_mask t) 0 b) (take_at q.bytes y (length q.bytes) refl) in
+    record {
+      bytes = q.bytes ++ y;
+      shown = length q.bytes;
+      consumed = consumes_more l l' l'' q.bytes y q.went.consumed more;
+      within = omega (arith, length-append q.bytes y);
+      short = omega (arith, q.count, q.short);
+      given = subst P (sym same) q.went.given;
+    }
+
+-- ---- where the reading tells its bytes
+
+-- the same extent by a longer list
+extent_of : (len : ℕ) (x y : List ℕ) (e : Option ℕ) → len < length x → len < length y → IsExtent len x e → IsExtent len y e
+extent_of len x y None p q h = q
+extent_of len x y (Some n) p q h = absurd (omega (arith, p, h.0, h.1))
+
+-- what was given and is held, in the reading's own bytes
+pub all_told : (t : Task) (len : ℕ) (x : List ℕ) (l' o o' : Option (List ℕ)) (k : Masking) (e : Option ℕ) → WentAll t len (Some x) l' o o' k e →
+    Appends o o' (masked (task_mask t) 0 (take len x)) × HoldsMasking k t (take len x) × IsExtent len x e
+all_told t len x None o o' k e w = absurd w.consumed
+all_told t len x (Some rest) o o' k e w =
+    let P : List ℕ → Type 0 = λ b. Appends o o' (masked (task_mask t) 0 b) in
+    let Q : List ℕ → Type 0 = λ b. HoldsMasking k t b in
+    let R : List ℕ → Type 0 = λ b. IsExtent len b e in
+    elim (front_of x w.bytes rest len w.consumed w.end) [
+      | inl same ↦
+          let e = ap (λ b. take len b) (sym same) in (subst P e w.given, subst Q e w.held, subst R (sym same) w.is)
+      | inr long ↦
+          let e : take len w.bytes ≡ take len x = sym (ap (λ b. take len b) w.consumed ∙ take-append-le len w.bytes rest (omega (arith, long.0))) in
+          (subst P e w.given, subst Q e w.held, extent_of len w.bytes x _ long.0 long.1 w.is)
+    ]
+
+-- what a device's failure leaves given, in the reading's own bytes
+pub all_stopped_told : (t : Task) (len : ℕ) (x : List ℕ) (l' o o' : Option (List ℕ)) → Stopped t [] len (Some x) l' o o' →
+    (k : ℕ) × (k ≤ length x) × (k ≤ len) × Appends o o' (take k (masked (task_mask t) 0 x))
+all_stopped_told t len x None o o' w = absurd w.consumed
+all_stopped_told t len x (Some rest) o o' w =
+    let P : List ℕ → Type 0 = λ b. Appends o o' b in
+    let same : take w.shown (masked (task_mask t) 0 x) ≡ take w.shown (masked (task_mask t) 0 w.bytes) =
+    take-masked (task_mask t) w.shown 0 x
+    ∙ ap (λ b. masked (task_mask t) 0 b) (ap (λ b. take w.shown b) w.consumed ∙ take-append-le w.shown w.bytes rest w.within)
+    ∙ sym (take-masked (task_mask t) w.shown 0 w.bytes) in
+    (w.shown, omega (arith, ap length w.consumed, length-append w.bytes rest, w.within), w.short, subst P (sym same) w.given)

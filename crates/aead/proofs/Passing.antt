@@ -1,0 +1,80 @@
+-- Pieces of a pass, one after another.
+use Rattle.std.proofs.Common.{◌≡◌, ℕ, zero, suc, List, [], ◌∷◌, ◌++◌, ◌≤◌, ◌<◌, ◌+◌, length, take, get_or, ap, ◌∙◌, sym, arith, append_assoc, Option, subst, length-append}
+use Rattle.std.proofs.lemmas.List.{append-nil}
+use Rattle.std.proofs.Math.Seq.{take-append-add}
+use Rattle.std.specs.Io.KnownBytes.{Consumes, Appends}
+use Rattle.octets.specs.Masked.{masked}
+use Rattle.octets.proofs.Devices.{consumes_none, consumes_more, appends_none, appends_more}
+use Rattle.octets.proofs.Masks.{length-masked, masked-append}
+use Rattle.aead.specs.declared.masking.Masking.{Masking}
+use Rattle.aead.specs.Pieces.{Task, task_mask, HoldsMasking}
+use Rattle.aead.specs.Passes.{Went, WentFar, Stopped}
+
+-- what holds of the places of two lists holds of both joined
+small-append : (x y : List ℕ) → ((i : ℕ) → get_or x i 0 < 256) → ((i : ℕ) → get_or y i 0 < 256) → (i : ℕ) → get_or (x ++ y) i 0 < 256
+small-append [] y p q i = q i
+small-append (b ∷ x) y p q zero = p 0
+small-append (b ∷ x) y p q (suc i) = small-append x y (λ j. p (suc j)) q i
+
+-- nothing yet
+pub went_none : (t : Task) (fed : List ℕ) (l o : Option (List ℕ)) (k : Masking) → HoldsMasking k t fed → Went t fed l l o o k []
+unfolding masked
+went_none t fed l o k h =
+    let P : List ℕ → Type 0 = λ b. HoldsMasking k t b in
+    record { consumed = consumes_none l; given = appends_none o; held = subst P (sym (append-nil fed)) h; small = λ i. omega arith }
+
+-- the masked x, and then that of y
+two_masked : (t : Task) (fed x y : List ℕ) → masked (task_mask t) (length fed) (x ++ y) ≡ masked (task_mask t) (length fed) x ++ masked (task_mask t) (length (fed ++ x)) y
+two_masked t fed x y =
+    masked-append (task_mask t) (length fed) x y ∙ ap (λ i. masked (task_mask t) (length fed) x ++ masked (task_mask t) i y) (sym (length-append fed x))
+
+pub went_more : (t : Task) (fed x y : List ℕ) (l l' l'' o o' o'' : Option (List ℕ)) (k k' : Masking) →
+    Went t fed l l' o o' k x → Went t (fed ++ x) l' l'' o' o'' k' y → Went t fed l l'' o o'' k' (x ++ y)
+went_more t fed x y l l' l'' o o' o'' k k' p q =
+    let P : List ℕ → Type 0 = λ b. HoldsMasking k' t b in
+    let Q : List ℕ → Type 0 = λ b. Appends o o'' b in
+    let R : List ℕ → Type 0 = λ b. (i : ℕ) → get_or b i 0 < 256 in
+    record {
+      consumed = consumes_more l l' l'' x y p.consumed q.consumed;
+      given = subst Q (sym (two_masked t fed x y)) (appends_more o o' o'' _ _ p.given q.given);
+      held = subst P (append_assoc fed x y) q.held;
+      small = subst R (sym (two_masked t fed x y)) (small-append _ _ p.small q.small);
+    }
+
+pub stopped_more : (t : Task) (fed x : List ℕ) (room room' : ℕ) (l l' l'' o o' o'' : Option (List ℕ)) (k : Masking) →
+    Went t fed l l' o o' k x → Stopped t (fed ++ x) room l' l'' o' o'' → length x + room ≤ room' → Stopped t fed room' l l'' o o''
+stopped_more t fed x room room' l l' l'' o o' o'' k p q fits =
+    let Q : List ℕ → Type 0 = λ b. Appends o o'' b in
+    let texts : take (length x + q.shown) (masked (task_mask t) (length fed) (x ++ q.bytes)) ≡ masked (task_mask t) (length fed) x ++ take q.shown (masked (task_mask t) (length (fed ++ x)) q.bytes) =
+    ap (λ l. take (length x + q.shown) l) (two_masked t fed x q.bytes)
+    ∙ ap (λ n. take (n + q.shown) (masked (task_mask t) (length fed) x ++ masked (task_mask t) (length (fed ++ x)) q.bytes)) (sym (length-masked (task_mask t) (length fed) x))
+    ∙ take-append-add (masked (task_mask t) (length fed) x) _ q.shown in
+    record {
+      bytes = x ++ q.bytes;
+      shown = length x + q.shown;
+      consumed = consumes_more l l' l'' x q.bytes p.consumed q.consumed;
+      within = omega (arith, length-append x q.bytes, q.within);
+      short = omega (arith, q.short, fits);
+      given = subst Q (sym texts) (appends_more o o' o'' _ _ p.given q.given);
+    }
+
+-- a piece that was the last
+pub far_more : (t : Task) (x : List ℕ) (room room' n done : ℕ) (l l' l'' o o' o'' : Option (List ℕ)) (k k' : Masking) →
+    Went t [] l l' o o' k x → length x ≡ done → WentFar t x room l' l'' o' o'' k' n → n < room → done + room ≤ room' →
+    WentFar t [] room' l l'' o o'' k' (done + n)
+far_more t x room room' n done l l' l'' o o' o'' k k' p size q less fits =
+    record {
+      bytes = x ++ q.bytes;
+      went = went_more t [] x q.bytes l l' l'' o o' o'' k k' p q.went;
+      count = omega (arith, length-append x q.bytes, q.count, size);
+      short = omega (arith, q.short, fits);
+      end = λ _. q.end less;
+    }
+
+-- a give that stopped
+pub stopped : (t : Task) (fed bytes out : List ℕ) (room n : ℕ) (l l' o o' : Option (List ℕ)) → Consumes l l' bytes → length bytes ≤ room →
+    out ≡ masked (task_mask t) (length fed) bytes → n ≤ length out → Appends o o' (take n out) → Stopped t fed room l l' o o'
+stopped t fed bytes out room n l l' o o' consumed fits is within given =
+    let P : List ℕ → Type 0 = λ b. Appends o o' (take n b) in
+    let size : length out ≡ length bytes = ap length is ∙ length-masked (task_mask t) (length fed) bytes in
+    record { bytes = bytes; shown = n; consumed = consumed; within = omega arith; short = omega arith; given = subst P is given }

@@ -1,7 +1,0 @@
-use Rattle.std.proofs.Common.{take, ap, ◌∙◌}
-use Rattle.aead.specs.Sealing.{poly_key}
-use Rattle.aead.proofs.chacha_poly.poly_key.Goals as goal
-
-pub returns : goal.returns
-unfolding poly_key
-returns c = c.first_half.ensures ∙ ap (take 32) c.block.ensures.value

@@ -1,0 +1,8 @@
+use Rattle.aead.proofs.siv.SivWriter.update.Goals as goal
+
+pub returns : goal.returns
+returns c = λ s first text h.
+    let u = c.update.ensures.masked _ text h.masking in (
+      record { by_gcm_siv = h.by_gcm_siv; tag_is = h.tag_is; masking = u.0 },
+      u.1,
+    )

@@ -1,0 +1,36 @@
+-- A reading to its end, but for what it has past a length.
+use Rattle.std.specs.Prelude.{◌≡◌, ℕ, ◌≤◌, ◌<◌, List, [], Bool, true, false, length, take, Option, Some, None, Result, MatchResult}
+use Rattle.std.specs.Io.KnownBytes.{Consumes, Appends, IsAtEnd}
+use Rattle.octets.specs.declared.fault.Fault.{Fault}
+use Rattle.octets.specs.Masked.{masked}
+use Rattle.aead.specs.declared.masking.Masking.{Masking}
+use Rattle.aead.specs.Pieces.{Task, task_mask, HoldsMasking}
+use Rattle.aead.specs.Passes.{Stopped}
+
+-- how many bytes x has, or that it has more than a length
+abbrev pub IsExtent : ℕ → List ℕ → Option ℕ → Type 0
+IsExtent len x None = len < length x
+IsExtent len x (Some n) = (length x ≡ n) × (n ≤ len)
+
+-- all was taken, or more than the length
+pub record WentAll (t : Task) (len : ℕ) (left left' taken taken' : Option (List ℕ)) (after : Masking) (extent : Option ℕ) : Type 0 where
+  pub bytes : List ℕ
+  pub consumed : Consumes left left' bytes
+  pub given : Appends taken taken' (masked (task_mask t) 0 (take len bytes))
+  pub held : HoldsMasking after t (take len bytes)
+  pub is : IsExtent len bytes extent
+  pub end : length bytes ≤ len → IsAtEnd left'
+
+abbrev pub PassedAll : Task → ℕ → Option (List ℕ) → Option (List ℕ) → Option (List ℕ) → Option (List ℕ) → Masking → Result (Option ℕ) Fault → Type 0
+PassedAll t len left left' taken taken' after r =
+    MatchResult r (λ e. WentAll t len left left' taken taken' after e) (λ _. Stopped t [] len left left' taken taken')
+
+-- some byte came, or the reading is at its end
+pub record More (left left' : Option (List ℕ)) (b : Bool) : Type 0 where
+  pub bytes : List ℕ
+  pub consumed : Consumes left left' bytes
+  pub some : b ≡ true → 0 < length bytes
+  pub none : b ≡ false → (bytes ≡ []) × IsAtEnd left'
+
+abbrev pub HasMore : Option (List ℕ) → Option (List ℕ) → Result Bool Fault → Type 0
+HasMore left left' r = MatchResult r (λ b. More left left' b) (λ _. (bytes : List ℕ) × Consumes left left' bytes)

@@ -1,0 +1,54 @@
+-- What each step of the stream opener answers, where its reading tells its bytes.
+use Rattle.std.specs.Prelude.{◌≡◌, ◌≢◌, ℕ, ◌+◌, ◌-◌, ◌≤◌, ◌<◌, ◌⊎◌, List, length, take, Option, Result, Ok, Err, MatchResult}
+use Rattle.std.specs.Io.KnownBytes.{Appends}
+use Rattle.octets.specs.declared.fault.Fault.{Fault}
+use Rattle.octets.specs.declared.fault.Fault.TheVariants.{Read, Write, TextTooLong, TooShort, TagMismatch, SourceChanged}
+use Rattle.octets.specs.Device.{Failed}
+use Rattle.octets.specs.Masked.{masked}
+use Rattle.aead.specs.declared.engine.measure.Measured.{Measured}
+use Rattle.aead.specs.declared.engine.passes.Finding.{Finding}
+use Rattle.aead.specs.declared.engine.passes.Finding.TheVariants.{Differs, Unsealed, Sealed}
+use Rattle.aead.specs.Sealing.{Setting, mask_of}
+use Rattle.aead.specs.Measure.{last_16}
+use Rattle.aead.specs.Findings.{IsFinding}
+
+abbrev pub MeasureTold : ℕ → List ℕ → ℕ → ℕ → Result Measured Fault → Type 0
+MeasureTold limit m read read' r =
+    MatchResult r (λ a. (a.length ≡ length m) × (a.tag ≡ last_16 m) × (16 ≤ length m) × (length m ≤ limit + 16) × (read' ≡ read))
+    (λ f. ((f ≡ TextTooLong) × (limit + 16 < length m) × (read' ≡ read))
+    ⊎ ((f ≡ TooShort) × (length m < 16) × (read' ≡ read))
+    ⊎ ((f ≡ Read) × Failed read read'))
+
+-- the answer to what the verify reading showed
+abbrev pub verify_answer : Finding → Result (Unit {0}) Fault
+verify_answer Sealed = Ok tt
+verify_answer Unsealed = Err TagMismatch
+verify_answer Differs = Err SourceChanged
+
+-- the answer to what the write reading showed
+abbrev pub write_answer : Finding → Result (Unit {0}) Fault
+write_answer Sealed = Ok tt
+write_answer Unsealed = Err SourceChanged
+write_answer Differs = Err SourceChanged
+
+abbrev pub VerifyTold : Setting → List ℕ → ℕ → List ℕ → ℕ → ℕ → Result (Unit {0}) Fault → Type 0
+VerifyTold s tag len v read read' r =
+    ((f : Finding) × (r ≡ verify_answer f) × IsFinding s tag len v f × (read' ≡ read)) ⊎ ((r ≡ Err Read) × Failed read read')
+
+abbrev pub WriteTold : Setting → List ℕ → ℕ → List ℕ → Option (List ℕ) → Option (List ℕ) → ℕ → ℕ → ℕ → ℕ → Result (Unit {0}) Fault → Type 0
+WriteTold s tag len w taken taken' read read' wrote wrote' r =
+    (Appends taken taken' (masked (mask_of s tag) 0 (take (len - 16) w))
+    × ((f : Finding) × (r ≡ write_answer f) × IsFinding s tag len w f × (read' ≡ read) × (wrote' ≡ wrote)))
+    ⊎ ((k : ℕ) × Appends taken taken' (take k (masked (mask_of s tag) 0 (take (len - 16) w)))
+    × (((r ≡ Err Read) × Failed read read') ⊎ ((r ≡ Err Write) × Failed wrote wrote')))
+
+-- a step's fault is the reading's, which failed, or the call's own
+abbrev pub StepBlames : {T : Type 0} → ℕ → ℕ → Result T Fault → Type 0
+StepBlames read read' r =
+    MatchResult r (λ _. read' ≡ read) (λ f. ((f ≡ Read) × Failed read read') ⊎ ((f ≢ Read) × (f ≢ Write) × (read' ≡ read)))
+
+-- likewise of a step that gives
+abbrev pub GiveBlames : {T : Type 0} → ℕ → ℕ → ℕ → ℕ → Result T Fault → Type 0
+GiveBlames read read' wrote wrote' r =
+    MatchResult r (λ _. (read' ≡ read) × (wrote' ≡ wrote))
+    (λ f. ((f ≡ Read) × Failed read read') ⊎ ((f ≡ Write) × Failed wrote wrote') ⊎ ((f ≢ Read) × (f ≢ Write) × (read' ≡ read) × (wrote' ≡ wrote)))

@@ -1,0 +1,12 @@
+// Sealing and opening of streams, in buffers of a fixed size.
+
+mod measure;
+mod open;
+mod opening;
+mod passes;
+mod seal;
+mod seal_siv;
+
+pub use open::open_stream;
+pub use seal::seal_stream;
+pub use seal_siv::seal_siv_stream;

@@ -1,0 +1,145 @@
+// The stream opener.
+
+ghost use Rattle.std.specs.Prelude.{◌≡◌, ℕ, ◌+◌, ◌≤◌, length, None, IfSome, IfOk};
+ghost use Rattle.aead.specs.Suites.{text_limit, aad_limit};
+ghost use Rattle.aead.specs.Ciphers.{setting};
+ghost use Rattle.aead.specs.AnyCiphers.{keyed_of};
+ghost use Rattle.aead.specs.Verdict.{WhereTold, OpensStream, BlamesRightly};
+ghost use Rattle.aead.specs.Told.{MeasureTold, VerifyTold, WriteTold, StepBlames, GiveBlames, verify_answer, write_answer};
+
+use crate::aead::Aead;
+use crate::any::AnyAead;
+use crate::engine::measure::Measured;
+use crate::engine::opening::opening;
+use crate::engine::passes::{Finding, pass};
+use crate::suite::Suite;
+use octets::{DeviceFault, Fault, Intake, Nonce, Outlet};
+
+// Takes all bytes and keeps none.
+#[derive(Drop)]
+struct Discard;
+
+impl Outlet for Discard {
+    ghost taken = { λ _. None };
+
+    ghost failures = { λ _. 0 };
+
+    fn give(&mut self, bytes: &[u8]) -> Result<usize, DeviceFault> {
+        Ok(bytes.len())
+    }
+}
+
+// The first step: the measured length and tag.
+fn measure_step<I: Intake>(suite: Suite, intake: &mut I) -> Result<Measured, Fault>
+    ensures high { IfOk result (λ m. m.length ≤ text_limit suite + 16) }
+    ensures blame { StepBlames (I.failures intake.old) (I.failures intake.new) result }
+    ensures told { IfSome (I.left intake.old) (λ m. MeasureTold (text_limit suite) m (I.failures intake.old) (I.failures intake.new) result) }
+{
+    Measured::of(intake, suite.text_limit())
+}
+
+// The answer to what the verify reading showed.
+fn answer_verify(finding: Finding) -> Result<(), Fault>
+    ensures { result ≡ verify_answer finding }
+{
+    match finding {
+        Finding::Sealed => Ok(()),
+        Finding::Unsealed => Err(Fault::TagMismatch),
+        Finding::Differs => Err(Fault::SourceChanged),
+    }
+}
+
+// The answer to what the write reading showed.
+fn answer_write(finding: Finding) -> Result<(), Fault>
+    ensures { result ≡ write_answer finding }
+{
+    match finding {
+        Finding::Sealed => Ok(()),
+        Finding::Unsealed | Finding::Differs => Err(Fault::SourceChanged),
+    }
+}
+
+// The second step: whether the reading is a sealing of the measured length and tag.
+fn verify_step<I: Intake>(
+    cipher: &AnyAead,
+    nonce: &Nonce,
+    aad: &[u8],
+    measured: &Measured,
+    intake: &mut I,
+) -> Result<(), Fault>
+    requires aad_fits { length aad.now ≤ aad_limit (keyed_of cipher.now).suite }
+    requires high { measured.now.length ≤ text_limit (keyed_of cipher.now).suite + 16 }
+    ensures blame { StepBlames (I.failures intake.old) (I.failures intake.new) result }
+    ensures told { IfSome (I.left intake.old) (λ v. VerifyTold (setting (keyed_of cipher.now) nonce.now aad.now)
+        measured.now.tag measured.now.length v (I.failures intake.old) (I.failures intake.new) result) }
+{
+    let opening = opening(cipher, nonce, aad, &measured.tag);
+    match pass(intake, opening, measured, &mut Discard) {
+        Ok(finding) => answer_verify(finding),
+        Err(_) => Err(Fault::Read),
+    }
+}
+
+// The third step: each piece is authenticated again, decrypted and given.
+fn write_step<I: Intake, O: Outlet>(
+    cipher: &AnyAead,
+    nonce: &Nonce,
+    aad: &[u8],
+    measured: &Measured,
+    intake: &mut I,
+    outlet: &mut O,
+) -> Result<(), Fault>
+    requires aad_fits { length aad.now ≤ aad_limit (keyed_of cipher.now).suite }
+    requires high { measured.now.length ≤ text_limit (keyed_of cipher.now).suite + 16 }
+    ensures blame { GiveBlames (I.failures intake.old) (I.failures intake.new) (O.failures outlet.old) (O.failures outlet.new) result }
+    ensures told { IfSome (I.left intake.old) (λ w. WriteTold (setting (keyed_of cipher.now) nonce.now aad.now)
+        measured.now.tag measured.now.length w (O.taken outlet.old) (O.taken outlet.new) (I.failures intake.old) (I.failures intake.new)
+        (O.failures outlet.old) (O.failures outlet.new) result) }
+{
+    let opening = opening(cipher, nonce, aad, &measured.tag);
+    match pass(intake, opening, measured, outlet) {
+        Ok(finding) => answer_write(finding),
+        Err(fault) => Err(fault),
+    }
+}
+
+/// Opens a sealed stream that is read three times: measured, verified as a sealing, and then written, each piece being
+/// decrypted and given before the next one is taken. It takes no memory, and holds buffers of a fixed size.
+///
+/// `AadTooLong` comes before any reading. `TextTooLong` comes once the measure reading gave more than 16 bytes past the
+/// suite's limit of a text, `TooShort` where it has fewer than 16. `SourceChanged` comes where the verify reading has another
+/// length or other last 16 bytes, then `TagMismatch` where it is no sealing: nothing is given up to here. `SourceChanged` comes
+/// then where the write reading has another length or other last 16 bytes, or is no sealing: what was given is to be thrown
+/// away, as after `Read`, where a reading failed, and `Write`, where the outlet did.
+pub fn open_stream<I: Intake, J: Intake, K: Intake, O: Outlet>(
+    cipher: &AnyAead,
+    nonce: &Nonce,
+    aad: &[u8],
+    measure: &mut I,
+    verify: &mut J,
+    write: &mut K,
+    out: &mut O,
+) -> Result<(), Fault>
+    ensures blame { BlamesRightly
+        (record { measure = I.failures measure.old; verify = J.failures verify.old; write = K.failures write.old; outlet = O.failures out.old })
+        (record { measure = I.failures measure.new; verify = J.failures verify.new; write = K.failures write.new; outlet = O.failures out.new })
+        result }
+    ensures opens { WhereTold (I.left measure.old) (J.left verify.old) (K.left write.old) (O.taken out.old) (O.taken out.new)
+        (λ m v w given. OpensStream (setting (keyed_of cipher.now) nonce.now aad.now) m v w given
+        (record { measure = I.failures measure.old; verify = J.failures verify.old; write = K.failures write.old; outlet = O.failures out.old })
+        (record { measure = I.failures measure.new; verify = J.failures verify.new; write = K.failures write.new; outlet = O.failures out.new })
+        result) }
+{
+    let suite = cipher.suite();
+    if aad.len() as u64 > suite.aad_limit() {
+        return Err(Fault::AadTooLong);
+    }
+    let measured = match measure_step(suite, measure) {
+        Ok(measured) => measured,
+        Err(fault) => return Err(fault),
+    };
+    match verify_step(cipher, nonce, aad, &measured, verify) {
+        Ok(()) => write_step(cipher, nonce, aad, &measured, write, out),
+        Err(fault) => Err(fault),
+    }
+}

@@ -1,0 +1,161 @@
+// One pass over a reading: each piece is masked, authenticated and given.
+
+ghost use Rattle.std.specs.Prelude.{◌≡◌, ℕ, ◌+◌, ◌≤◌, List, [], length, IfOk};
+ghost use Rattle.aead.specs.Suites.{text_limit};
+ghost use Rattle.aead.specs.Sealing.{Setting};
+ghost use Rattle.aead.specs.Pieces.{Task, HoldsMasking, opening_task};
+ghost use Rattle.aead.specs.Passes.{Passed, Blames, BlamesReading};
+
+use crate::engine::measure::Measured;
+use crate::masking::Masking;
+use octets::{Fault, Intake, Outlet, Tag, are_bytes, fill, give_all, same};
+
+// How a reading compares with the measured one.
+#[derive(Drop)]
+pub(crate) enum Finding {
+    // It has another length or other last 16 bytes.
+    Differs,
+    // It has these, and is no sealing.
+    Unsealed,
+    // It has these, and is one.
+    Sealed,
+}
+
+ghost use Rattle.aead.specs.Findings.{PassedWhole, Ends};
+ghost use Rattle.aead.specs.Extents.{PassedAll, HasMore};
+
+// One piece: at most what the buffer holds.
+fn pass_piece<I: Intake, O: Outlet>(
+    intake: &mut I,
+    masking: &mut Masking,
+    buf: &mut [u8],
+    outlet: &mut O,
+) -> Result<usize, Fault>
+    requires { masking.old.authenticator.length + length buf.old ≤ masking.old.limit }
+    ensures bound { IfOk result (λ n. n ≤ length buf.old) }
+    ensures passed { (t : Task) (fed : List ℕ) → HoldsMasking masking.old t fed →
+        Passed t fed (length buf.old) (I.left intake.old) (I.left intake.new) (O.taken outlet.old) (O.taken outlet.new) masking.new result }
+    ensures blame { Blames (I.failures intake.old) (I.failures intake.new) (O.failures outlet.old) (O.failures outlet.new) result }
+    ensures length { IfOk result (λ n. masking.new.authenticator.length ≡ masking.old.authenticator.length + n) }
+    ensures limit { masking.new.limit ≡ masking.old.limit }
+{
+    let n = match fill(intake, buf) {
+        Ok(n) => n,
+        Err(_) => return Err(Fault::Read),
+    };
+    let piece = &mut buf[..n];
+    masking.update(piece);
+    are_bytes(piece);
+    match give_all(outlet, piece) {
+        Ok(()) => Ok(n),
+        Err(_) => Err(Fault::Write),
+    }
+}
+
+// At most `length` bytes.
+pub(crate) fn pass_body<I: Intake, O: Outlet>(
+    intake: &mut I,
+    masking: &mut Masking,
+    length: u64,
+    outlet: &mut O,
+) -> Result<u64, Fault>
+    requires { masking.old.authenticator.length + length ≤ masking.old.limit }
+    ensures passed { (t : Task) → HoldsMasking masking.old t [] →
+        Passed t [] length (I.left intake.old) (I.left intake.new) (O.taken outlet.old) (O.taken outlet.new) masking.new result }
+    ensures blame { Blames (I.failures intake.old) (I.failures intake.new) (O.failures outlet.old) (O.failures outlet.new) result }
+{
+    let mut buf = [0; 4096];
+    let mut done = 0;
+    while done < length {
+        let want = (length - done).min(4096) as usize;
+        let n = pass_piece(intake, masking, &mut buf[..want], outlet)?;
+        done += n as u64;
+        if n < want {
+            return Ok(done);
+        }
+    }
+    Ok(done)
+}
+
+// Whether what is left of a reading is this tag and nothing more.
+fn ends_with<I: Intake>(intake: &mut I, tag: &Tag) -> Result<bool, Fault>
+    ensures ends { Ends tag.now (I.left intake.old) (I.left intake.new) result }
+    ensures blame { BlamesReading (I.failures intake.old) (I.failures intake.new) result }
+{
+    let mut last = [0; 17];
+    match fill(intake, &mut last) {
+        Ok(n) => Ok(last[..n] == tag.bytes()[..]),
+        Err(_) => Err(Fault::Read),
+    }
+}
+
+// A whole reading: the body of the measured length, the measured tag, the end.
+pub(crate) fn pass<I: Intake, O: Outlet>(
+    intake: &mut I,
+    mut opening: Masking,
+    measured: &Measured,
+    outlet: &mut O,
+) -> Result<Finding, Fault>
+    requires { opening.authenticator.length + measured.now.length ≤ opening.limit + 16 }
+    ensures passed { (s : Setting) → HoldsMasking opening (opening_task s measured.now.tag) [] →
+        PassedWhole s measured.now.tag measured.now.length (I.left intake.old) (I.left intake.new) (O.taken outlet.old) (O.taken outlet.new) result }
+    ensures blame { Blames (I.failures intake.old) (I.failures intake.new) (O.failures outlet.old) (O.failures outlet.new) result }
+{
+    let body = measured.length - 16;
+    let n = match pass_body(intake, &mut opening, body, outlet) {
+        Ok(n) => n,
+        Err(fault) => return Err(fault),
+    };
+    if n < body {
+        return Ok(Finding::Differs);
+    }
+    match ends_with(intake, &measured.tag) {
+        Ok(true) => {
+            if same(opening.finish().bytes(), measured.tag.bytes()) {
+                Ok(Finding::Sealed)
+            } else {
+                Ok(Finding::Unsealed)
+            }
+        }
+        Ok(false) => Ok(Finding::Differs),
+        Err(fault) => Err(fault),
+    }
+}
+
+// Whether anything is left of a reading.
+pub(crate) fn has_more<I: Intake>(intake: &mut I) -> Result<bool, Fault>
+    ensures more { HasMore (I.left intake.old) (I.left intake.new) result }
+    ensures blame { BlamesReading (I.failures intake.old) (I.failures intake.new) result }
+{
+    let mut next = [0; 1];
+    match fill(intake, &mut next) {
+        Ok(n) => Ok(n > 0),
+        Err(_) => Err(Fault::Read),
+    }
+}
+
+// A reading to its end, and how many bytes it has; of more than `length` the first ones, and `None`.
+pub(crate) fn pass_all<I: Intake, O: Outlet>(
+    intake: &mut I,
+    masking: &mut Masking,
+    length: u64,
+    outlet: &mut O,
+) -> Result<Option<u64>, Fault>
+    requires { masking.old.authenticator.length + length ≤ masking.old.limit }
+    ensures passed { (t : Task) → HoldsMasking masking.old t [] →
+        PassedAll t length (I.left intake.old) (I.left intake.new) (O.taken outlet.old) (O.taken outlet.new) masking.new result }
+    ensures blame { Blames (I.failures intake.old) (I.failures intake.new) (O.failures outlet.old) (O.failures outlet.new) result }
+{
+    let n = match pass_body(intake, masking, length, outlet) {
+        Ok(n) => n,
+        Err(fault) => return Err(fault),
+    };
+    if n < length {
+        return Ok(Some(n));
+    }
+    match has_more(intake) {
+        Ok(true) => Ok(None),
+        Ok(false) => Ok(Some(n)),
+        Err(fault) => Err(fault),
+    }
+}

@@ -1,0 +1,138 @@
+// Sealing piece by piece in two readings, where the tag is over the text (RFC 8452).
+
+ghost use Rattle.std.specs.Prelude.{◌≡◌, ◌++◌, ◌+◌, ◌<◌, ◌≤◌, ℕ, List, [], length, false, MatchResult};
+ghost use Rattle.octets.specs.Masked.{masked};
+ghost use Rattle.aead.specs.Suites.{construction_of, is_one_pass};
+ghost use Rattle.aead.specs.Sealing.{Setting, mask_of, tag_of, Opened};
+ghost use Rattle.aead.specs.Ciphers.{setting};
+ghost use Rattle.aead.specs.Refusals.{SealRefused};
+ghost use Rattle.aead.specs.States.{AbsorbsSome};
+
+use crate::authenticator::Authenticator;
+use crate::gcm_siv::{GcmSiv, Message, tag_mask};
+use crate::masking::Masking;
+use crate::parts::Parts;
+use aes::AesKey;
+use octets::{Fault, Nonce, Tag, are_bytes, same};
+
+/// The first reading of a text that is sealed by AES-GCM-SIV.
+#[derive(Drop)]
+pub struct SivAbsorb {
+    authenticator: Authenticator,
+    // What the second reading begins with.
+    again: Authenticator,
+    encryption: AesKey,
+    limit: u64,
+    ghost absorbs: { AbsorbsSome authenticator again encryption limit },
+}
+
+impl SivAbsorb {
+    ghost use Rattle.aead.specs.Pieces.{HoldsAbsorb, HoldsWriter};
+
+    /// A state that holds the empty text, under a nonce with associated data. `AadTooLong` where the data is past the
+    /// suite's limit.
+    pub fn new(cipher: &GcmSiv, nonce: &Nonce, aad: &[u8]) -> Result<SivAbsorb, Fault>
+        ensures { let s = setting cipher.now nonce.now aad.now in
+            MatchResult result (λ absorb. HoldsAbsorb absorb s []) (λ e. SealRefused s [] e) }
+    {
+        SivAbsorb::over(&cipher.message(nonce), aad)
+    }
+
+    // The same of a cipher with a nonce.
+    pub(crate) fn over(message: &Message, aad: &[u8]) -> Result<SivAbsorb, Fault>
+        ensures { let s = setting (record { suite = message.now.suite; key = message.now.key.now }) message.now.nonce.now aad.now in
+            MatchResult result (λ absorb. HoldsAbsorb absorb s []) (λ e. SealRefused s [] e) }
+    {
+        let suite = message.suite();
+        if aad.len() as u64 > suite.aad_limit() {
+            return Err(Fault::AadTooLong);
+        }
+        Ok(SivAbsorb {
+            authenticator: message.authenticator(aad),
+            again: message.authenticator(aad),
+            encryption: message.encryption,
+            limit: suite.text_limit(),
+        })
+    }
+
+    // How many bytes more are within the limit.
+    pub(crate) fn room(&self) -> u64
+        ensures { result + self.now.authenticator.length ≡ self.now.limit }
+    {
+        self.limit - self.authenticator.length
+    }
+
+    // Adds a piece that is within the limit.
+    pub(crate) fn extend(&mut self, piece: &[u8])
+        requires { self.old.authenticator.length + length piece.now ≤ self.old.limit }
+        ensures holds { (s : Setting) (text : List ℕ) → HoldsAbsorb self.old s text → HoldsAbsorb self.new s (text ++ piece.now) }
+        ensures length { self.new.authenticator.length ≡ self.old.authenticator.length + length piece.now }
+        ensures limit { self.new.limit ≡ self.old.limit }
+    {
+        self.authenticator.update(piece);
+    }
+
+    /// Adds `piece`, of any length, to the text. `TextTooLong` where the text would be past its limit: the state is then as
+    /// it was.
+    pub fn update(&mut self, piece: &[u8]) -> Result<(), Fault>
+        ensures { (s : Setting) (text : List ℕ) → HoldsAbsorb self.old s text → MatchResult result
+            (λ _. HoldsAbsorb self.new s (text ++ piece.now))
+            (λ e. SealRefused s (text ++ piece.now) e × (self.new ≡ self.old)) }
+    {
+        if piece.len() as u64 > self.room() {
+            return Err(Fault::TextTooLong);
+        }
+        self.extend(piece);
+        Ok(())
+    }
+
+    /// The tag of the text, 16 bytes, and what encrypts the second reading. It spends the state.
+    pub fn finish(self) -> (Tag, SivWriter)
+        ensures { (s : Setting) (text : List ℕ) → HoldsAbsorb self s text → (result.0 ≡ tag_of s text) × HoldsWriter result.1 s text [] }
+    {
+        let length = self.authenticator.length;
+        let tag = self.authenticator.finish();
+        let mask = tag_mask(&self.encryption, &tag);
+        let masking = Masking::new(mask, self.again, true, length);
+        (tag, SivWriter { masking, tag })
+    }
+}
+
+/// The second reading of a text that is sealed by AES-GCM-SIV.
+#[derive(Drop)]
+pub struct SivWriter {
+    pub(crate) masking: Masking,
+    tag: Tag,
+}
+
+impl SivWriter {
+    ghost use Rattle.aead.specs.Pieces.{HoldsWriter, Repeats};
+
+    /// Adds `piece`, of any length, to the second text, and leaves its ciphertext in its place. `SourceChanged` where that
+    /// text would be longer than the first: state and piece are then as they were.
+    pub fn update(&mut self, piece: &mut [u8]) -> Result<(), Fault>
+        ensures { (s : Setting) (first text : List ℕ) → HoldsWriter self.old s first text → MatchResult result
+            (λ _. HoldsWriter self.new s first (text ++ piece.old) × (piece.new ≡ masked (mask_of s (tag_of s first)) (length text) piece.old))
+            (λ e. (e ≡ Fault.SourceChanged) × (length first < length text + length piece.old) × (self.new ≡ self.old) × (piece.new ≡ piece.old)) }
+    {
+        if piece.len() as u64 > self.masking.room() {
+            return Err(Fault::SourceChanged);
+        }
+        self.masking.update(piece);
+        Ok(())
+    }
+
+    /// Whether the second text has the length and the tag of the first; else `SourceChanged`. It spends the state.
+    pub fn finish(self) -> Result<(), Fault>
+        ensures { (s : Setting) (first text : List ℕ) → HoldsWriter self s first text
+            → MatchResult result (λ _. Repeats s first text) (λ e. (e ≡ Fault.SourceChanged) × ¬ (Repeats s first text)) }
+    {
+        let missing = self.masking.room();
+        let tag = self.tag;
+        if missing == 0 && same(self.masking.finish().bytes(), tag.bytes()) {
+            Ok(())
+        } else {
+            Err(Fault::SourceChanged)
+        }
+    }
+}

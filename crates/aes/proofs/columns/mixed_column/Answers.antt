@@ -1,0 +1,28 @@
+use Rattle.std.proofs.Common.{ℕ, get_or, ap, ◌∙◌, List}
+use Rattle.aes.specs.Field.{sbox}
+use Rattle.aes.specs.Schedule.{xor_word}
+use Rattle.aes.specs.Cipher.{mix_column}
+use Rattle.aes.specs.Columns.{column_of}
+use Rattle.aes.proofs.Rows.{four}
+use Rattle.aes.proofs.Steps.{sbox_small}
+use Rattle.aes.proofs.ColumnWords.{column_row, column_small, mixed_is}
+use Rattle.aes.proofs.columns.mixed_column.Goals as goal
+
+pub returns : goal.returns
+returns t =
+    let key = t.args.key in
+    let a = column_row t.args.a 0 t.to_le_bytes.result t.to_le_bytes.ensures in
+    let b = column_row t.args.b 1 t.to_le_bytes-2.result t.to_le_bytes-2.ensures in
+    let c = column_row t.args.c 2 t.to_le_bytes-3.result t.to_le_bytes-3.ensures in
+    let d = column_row t.args.d 3 t.to_le_bytes-4.result t.to_le_bytes-4.ensures in
+    let row0 : ℕ = get_or t.to_le_bytes.result 0 0 in
+    let row1 : ℕ = get_or t.to_le_bytes-2.result 1 0 in
+    let row2 : ℕ = get_or t.to_le_bytes-3.result 2 0 in
+    let row3 : ℕ = get_or t.to_le_bytes-4.result 3 0 in
+    rw (t.rotate_left-moved1.ensures, t.rotate_left-moved2.ensures, t.rotate_left-moved3.ensures) (
+    mixed_is (sbox row0) (sbox row1) (sbox row2) (sbox row3) key t.entry-4.result t.entry.result t.entry-2.result t.entry-3.result
+    t.entry-4.type_inv t.entry.type_inv t.entry-2.type_inv t.entry-3.type_inv
+    (sbox_small row0 (rw a (column_small t.args.a 0))) (sbox_small row1 (rw b (column_small t.args.b 1)))
+    (sbox_small row2 (rw c (column_small t.args.c 2))) (sbox_small row3 (rw d (column_small t.args.d 3)))
+    t.entry-4.ensures t.entry.ensures t.entry-2.ensures t.entry-3.ensures
+    ∙ ap (λ (v : List ℕ). xor_word (mix_column v) (column_of key)) (four (ap sbox a) (ap sbox b) (ap sbox c) (ap sbox d)))

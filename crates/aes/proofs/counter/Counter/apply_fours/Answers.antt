@@ -1,0 +1,36 @@
+use Rattle.std.proofs.Common.{◌≡◌, ℕ, ◌+◌, ◌-◌, ◌≤◌, ◌∙◌, length, take, drop, refl, arith}
+use Rattle.std.proofs.lemmas.List.{length-take-le, length-drop}
+use Rattle.aes.proofs.StreamSteps.{advances_empty, length-put_mid, advances-nil, advances_more, advances_all}
+use Rattle.aes.proofs.counter.Counter.apply_fours.Goals as goal
+
+pub fours-init : goal.fours-init
+fours-init g c = record { within = omega arith; none = c.requires.none; key = refl; whole = refl; left = refl; so_far = advances-nil g.C.Count.up c.args.self.now }
+
+pub fours-preserved : goal.fours-preserved
+fours-preserved g c =
+    let a : ℕ = c.fours.done in
+    let k : ℕ = a + 64 - a in
+    let mid = c.fours.bytes in
+    let ys = c.begin_four.new.bytes in
+    let room : a + k ≤ length mid = omega (arith, c.fours-test.true, c.fours.invariant.within) in
+    let part : length (take k (drop a mid)) ≡ k = length-take-le k (drop a mid) (omega (arith, length-drop a mid)) in
+    let size : length ys ≡ k = c.begin_four.auto.bytes ∙ part in
+    let more = advances_more g.C.Count.up c.args.self.now c.fours.self c.begin_four.new.self c.args.bytes.now mid ys a k (a + 64)
+    room (omega arith) size c.fours.invariant.left c.fours.invariant.so_far c.begin_four.ensures.advances in
+    record {
+      within = omega (arith, room, length-put_mid a k mid ys room size);
+      none = omega (arith, c.begin_four.ensures.used);
+      key = c.begin_four.ensures.key ∙ c.fours.invariant.key;
+      whole = omega (arith, c.fours.invariant.whole);
+      left = more.1;
+      so_far = more.0;
+    }
+
+pub returns-then-bytes-lt64-clause-advances : goal.returns-then-bytes-lt64-clause-advances
+returns-then-bytes-lt64-clause-advances g c = advances_empty g.C.Count.up c.args.self.now c.args.bytes.now (omega arith)
+
+pub returns-clause-advances : goal.returns-clause-advances
+returns-clause-advances g c =
+    let same : length c.fours.bytes ≡ length c.args.bytes.now = c.fours.auto.bytes in
+    advances_all g.C.Count.up c.args.self.now c.fours.self c.args.bytes.now c.fours.bytes c.fours.done
+    (omega arith) (omega arith) c.fours.invariant.so_far

@@ -1,6 +1,0 @@
-use Rattle.std.proofs.Common.{◌≡◌, ℕ, ◌<◌, get_or, length}
-use Rattle.aes.specs.Field.{sbox}
-use Rattle.aes.proofs.inverse.unsub_bytes.Given as goal
-
-abbrev pub invariant-loop-i : goal.invariant-loop-i
-invariant-loop-i l = (length l.out ≡ 16) × ((k : ℕ) → k < l.i → sbox (get_or l.out k 0) ≡ get_or l.s k 0)

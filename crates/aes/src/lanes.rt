@@ -1,0 +1,242 @@
+// Four blocks at once by look-ups in tables of sixteen bytes, with no table in memory. The field of 256 elements is seen over
+// its subfield of 16, in which an inverse is five look-ups; 0x80 stands for the inverse of 0.
+
+ghost use Rattle.std.specs.Prelude.{◌≡◌, ℕ, ◌%◌, ◌<◌, ◌/◌, List, [], slice_index, slice_index_or, length, bit_xor};
+ghost use Rattle.octets.specs.Bytes.{IsBlock};
+ghost use Rattle.aes.specs.Field.{times, sbox};
+ghost use Rattle.aes.specs.Cipher.{sub_bytes, shift_rows, mix_columns, add_round_key};
+ghost use Rattle.aes.specs.Columns.{columns_of};
+ghost use Rattle.aes.specs.Lanes.{HasLanes, IsPlace, entry, key_byte, row_source, row_below, row_above, in_basis, linear_sbox, HoldsBlocks, HoldsInBasis, ready_byte};
+
+use crate::columns::round_key;
+use std::simd::prelude::*;
+use std::simd::{u8x16, u8x64, u32x4};
+
+// The bytes below 16 in the basis.
+const TO_LOW: [u8; 16] = [
+    0x00, 0x01, 0x5f, 0x5e, 0x13, 0x12, 0x4c, 0x4d, 0x11, 0x10, 0x4e, 0x4f, 0x02, 0x03, 0x5d, 0x5c,
+];
+
+// The multiples of 16 in the basis.
+const TO_HIGH: [u8; 16] = [
+    0x00, 0xc9, 0xef, 0x26, 0xcd, 0x04, 0x22, 0xeb, 0x2e, 0xe7, 0xc1, 0x08, 0xe3, 0x2a, 0x0c, 0xc5,
+];
+
+// The inverses of the subfield.
+const INVERSE: [u8; 16] = [
+    0x80, 0x01, 0x08, 0x0d, 0x0f, 0x06, 0x05, 0x0e, 0x02, 0x0c, 0x0b, 0x0a, 0x09, 0x03, 0x07, 0x04,
+];
+
+// The inverses times a constant.
+const SCALED: [u8; 16] = [
+    0x80, 0x0c, 0x0d, 0x0b, 0x05, 0x04, 0x06, 0x09, 0x0e, 0x07, 0x0f, 0x03, 0x01, 0x02, 0x08, 0x0a,
+];
+
+// The S-box by the two parts of an inverse.
+const U0: [u8; 16] = [
+    0x00, 0xb1, 0x40, 0x80, 0x79, 0x88, 0xc0, 0xc8, 0xf9, 0x31, 0x08, 0xb9, 0xf1, 0x48, 0x39, 0x71,
+];
+
+// For the second part.
+const T0: [u8; 16] = [
+    0x00, 0xd3, 0x73, 0xae, 0x94, 0x34, 0xdd, 0x47, 0x3a, 0x7d, 0x9a, 0x49, 0xa0, 0xe9, 0xe7, 0x0e,
+];
+
+// The same in the basis.
+const U1: [u8; 16] = [
+    0x00, 0x09, 0xcd, 0x2e, 0xfb, 0x3f, 0xe3, 0xf2, 0xd5, 0x27, 0x11, 0x18, 0xc4, 0xdc, 0x36, 0xea,
+];
+
+// For the second part.
+const T1: [u8; 16] = [
+    0x00, 0x74, 0xb5, 0x9c, 0xf4, 0x35, 0x29, 0x80, 0x68, 0xe8, 0xa9, 0xdd, 0xc1, 0x1c, 0x41, 0x5d,
+];
+
+// Twice the S-box in the basis.
+const U2: [u8; 16] = [
+    0x00, 0xfb, 0x2e, 0x86, 0x9a, 0x4f, 0xa8, 0x61, 0x1c, 0x7d, 0xc9, 0x32, 0xd5, 0xe7, 0xb4, 0x53,
+];
+
+// For the second part.
+const T2: [u8; 16] = [
+    0x00, 0x0b, 0x40, 0x80, 0x78, 0x33, 0xc0, 0x73, 0xf8, 0x8b, 0xb3, 0xb8, 0x4b, 0xf3, 0x38, 0xcb,
+];
+
+// The place from which ShiftRows brings each byte.
+const ROW_SOURCES: [usize; 64] = [
+    0, 5, 10, 15, 4, 9, 14, 3, 8, 13, 2, 7, 12, 1, 6, 11, 16, 21, 26, 31, 20, 25, 30, 19, 24, 29,
+    18, 23, 28, 17, 22, 27, 32, 37, 42, 47, 36, 41, 46, 35, 40, 45, 34, 39, 44, 33, 38, 43, 48, 53,
+    58, 63, 52, 57, 62, 51, 56, 61, 50, 55, 60, 49, 54, 59,
+];
+
+// The place one row down in the same column, around the end.
+const ROWS_BELOW: [usize; 64] = [
+    1, 2, 3, 0, 5, 6, 7, 4, 9, 10, 11, 8, 13, 14, 15, 12, 17, 18, 19, 16, 21, 22, 23, 20, 25, 26,
+    27, 24, 29, 30, 31, 28, 33, 34, 35, 32, 37, 38, 39, 36, 41, 42, 43, 40, 45, 46, 47, 44, 49, 50,
+    51, 48, 53, 54, 55, 52, 57, 58, 59, 56, 61, 62, 63, 60,
+];
+
+// The place one row up in the same column, around the end.
+const ROWS_ABOVE: [usize; 64] = [
+    3, 0, 1, 2, 7, 4, 5, 6, 11, 8, 9, 10, 15, 12, 13, 14, 19, 16, 17, 18, 23, 20, 21, 22, 27, 24,
+    25, 26, 31, 28, 29, 30, 35, 32, 33, 34, 39, 36, 37, 38, 43, 40, 41, 42, 47, 44, 45, 46, 51, 48,
+    49, 50, 55, 52, 53, 54, 59, 56, 57, 58, 63, 60, 61, 62,
+];
+
+// Four copies of sixteen bytes.
+#[inline(always)]
+fn four_times(bytes: u8x16) -> u8x64
+    ensures { HasLanes result (λ i. slice_index bytes (i % 16)) }
+{
+    bytes.swizzle([
+        0, 1, 2, 3, 4, 5, 6, 7, 8, 9, 10, 11, 12, 13, 14, 15, 0, 1, 2, 3, 4, 5, 6, 7, 8, 9, 10, 11,
+        12, 13, 14, 15, 0, 1, 2, 3, 4, 5, 6, 7, 8, 9, 10, 11, 12, 13, 14, 15, 0, 1, 2, 3, 4, 5, 6,
+        7, 8, 9, 10, 11, 12, 13, 14, 15,
+    ])
+}
+
+// The table at each lane.
+#[inline(always)]
+fn look(table: [u8; 16], at: u8x64) -> u8x64
+    requires { (k : ℕ) → k < 64 → IsPlace (slice_index at k) }
+    ensures { HasLanes result (λ k. entry table (slice_index at k)) }
+{
+    four_times(u8x16::from_array(table)).swizzle_dyn_within::<16>(at)
+}
+
+// The low nibble of each lane.
+#[inline(always)]
+fn low_nibbles(x: u8x64) -> u8x64
+    ensures { HasLanes result (λ k. slice_index x k % 16) }
+{
+    x & u8x64::splat(15)
+}
+
+// The high nibble of each lane.
+#[inline(always)]
+fn high_nibbles(x: u8x64) -> u8x64
+    ensures { HasLanes result (λ k. slice_index x k / 16) }
+{
+    x >> u8x64::splat(4)
+}
+
+// The sum of each lane.
+#[inline(always)]
+fn sum(x: u8x64, y: u8x64) -> u8x64
+    ensures { HasLanes result (λ k. bit_xor (slice_index x k) (slice_index y k)) }
+{
+    x ^ y
+}
+
+// Each lane in the basis.
+#[inline(always)]
+fn to_basis(x: u8x64) -> u8x64
+    ensures { HasLanes result (λ k. in_basis (slice_index x k)) }
+{
+    sum(look(TO_LOW, low_nibbles(x)), look(TO_HIGH, high_nibbles(x)))
+}
+
+// What the S-box without its constant makes of bytes in the basis: itself, and itself and twice itself in the basis.
+#[inline(always)]
+fn substitute(x: u8x64) -> (u8x64, u8x64, u8x64)
+    ensures { (s : ℕ → ℕ) → ((k : ℕ) → k < 64 → s k < 256) → HasLanes x (λ k. in_basis (s k))
+        → HasLanes result.0 (λ k. linear_sbox (s k)) × HasLanes result.1 (λ k. in_basis (linear_sbox (s k))) × HasLanes result.2 (λ k. in_basis (times 2 (linear_sbox (s k)))) }
+{
+    let low = low_nibbles(x);
+    let high = high_nibbles(x);
+    let both = sum(low, high);
+    let scaled = look(SCALED, low);
+    let first = sum(look(INVERSE, high), scaled);
+    let second = sum(look(INVERSE, both), scaled);
+    let u = sum(look(INVERSE, first), both);
+    let t = sum(look(INVERSE, second), high);
+    (
+        sum(look(U0, u), look(T0, t)),
+        sum(look(U1, u), look(T1, t)),
+        sum(look(U2, u), look(T2, t)),
+    )
+}
+
+// ShiftRows in each block.
+#[inline(always)]
+fn shifted(x: u8x64) -> u8x64
+    ensures { HasLanes result (λ i. slice_index x (row_source i)) }
+{
+    x.swizzle(ROW_SOURCES)
+}
+
+// Each column moved up by one row, around the end.
+#[inline(always)]
+fn moved_up(x: u8x64) -> u8x64
+    ensures { HasLanes result (λ i. slice_index x (row_below i)) }
+{
+    x.swizzle(ROWS_BELOW)
+}
+
+// Each column moved down by one row, around the end.
+#[inline(always)]
+fn moved_down(x: u8x64) -> u8x64
+    ensures { HasLanes result (λ i. slice_index x (row_above i)) }
+{
+    x.swizzle(ROWS_ABOVE)
+}
+
+// The four words of a round, for each block.
+#[inline(always)]
+pub(crate) fn spread(key: [u32; 4]) -> u8x64
+    ensures { HasLanes result (key_byte (columns_of key)) }
+{
+    four_times(u32x4::from_array([key[0], key[1], key[2], key[3]]).to_le_bytes())
+}
+
+// AddRoundKey before the first round, and the change of basis.
+#[inline(always)]
+pub(crate) fn first_four(x: u8x64, key: u8x64) -> u8x64
+    ensures { (f : ℕ → List ℕ) (ws : List (List ℕ)) → HoldsBlocks x f → HasLanes key (key_byte ws) → HoldsInBasis result (λ q. add_round_key ws 0 (f q)) }
+{
+    to_basis(sum(x, key))
+}
+
+// The first sixteen lanes.
+#[inline(always)]
+fn first_sixteen(x: u8x64) -> [u8; 16]
+    ensures { (i : ℕ) → i < 16 → slice_index result i ≡ slice_index x i }
+{
+    let first: u8x16 = x.swizzle([0, 1, 2, 3, 4, 5, 6, 7, 8, 9, 10, 11, 12, 13, 14, 15]);
+    first.to_array()
+}
+
+// The words of each round in the basis, less the constant of the S-box there.
+pub(crate) fn ready_keys(words: &[u32; 60]) -> [[u8; 16]; 15]
+    ensures { (n i : ℕ) → n < 15 → i < 16 → slice_index (slice_index_or result n []) i ≡ ready_byte (columns_of words.now) n i }
+{
+    let mut keys = [[0; 16]; 15];
+    for n in 0..15 {
+        let key = sum(to_basis(spread(round_key(words, n))), u8x64::splat(0x7c));
+        keys[n] = first_sixteen(key);
+    }
+    keys
+}
+
+// A round but the last in each block (FIPS 197, 5.1), by its key made ready.
+#[inline(always)]
+pub(crate) fn round_four(x: u8x64, key: [u8; 16]) -> u8x64
+    ensures { (f : ℕ → List ℕ) (ws : List (List ℕ)) → ((q : ℕ) → IsBlock (f q)) → ((k r : ℕ) → slice_index (slice_index_or ws k []) r < 256) → HoldsInBasis x f
+        → ((i : ℕ) → i < 16 → slice_index key i ≡ ready_byte ws 0 i)
+        → HoldsInBasis result (λ q. add_round_key ws 0 (mix_columns (shift_rows (sub_bytes (f q))))) }
+{
+    let (_, once, twice) = substitute(shifted(x));
+    let upper = sum(twice, moved_up(once));
+    let lower = sum(moved_up(upper), moved_down(once));
+    sum(sum(upper, lower), four_times(u8x16::from_array(key)))
+}
+
+// The last round in each block, out of the basis.
+#[inline(always)]
+pub(crate) fn last_four(x: u8x64, key: u8x64) -> u8x64
+    ensures { (f : ℕ → List ℕ) (ws : List (List ℕ)) → ((q : ℕ) → IsBlock (f q)) → HoldsInBasis x f → HasLanes key (key_byte ws)
+        → HoldsBlocks result (λ q. add_round_key ws 0 (shift_rows (sub_bytes (f q)))) }
+{
+    let (plain, _, _) = substitute(shifted(x));
+    sum(plain, sum(key, u8x64::splat(0x63)))
+}

@@ -1,0 +1,7 @@
+use Rattle.std.proofs.Common.{◌≡◌, ℕ, ◌<◌}
+use Rattle.chacha.specs.Block.{double_rounds}
+use Rattle.chacha.specs.Lanes.{lane}
+use Rattle.chacha.proofs.lanes.ten_rounds.Given as goal
+
+abbrev pub invariant-rounds : goal.invariant-rounds
+invariant-rounds g l = (j : ℕ) → j < g.row.N → lane j l.x ≡ double_rounds l._round (lane j l.initial.x)

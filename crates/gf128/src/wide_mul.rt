@@ -1,0 +1,82 @@
+// Four products in one sum, by tables of 256 multiples of the key's first four powers.
+
+ghost use Rattle.std.specs.Prelude.{List, [], ◌∷◌};
+ghost use Rattle.std.specs.Int.{w128, to_be_bytes};
+ghost use Rattle.octets.specs.Polynomial.{power};
+ghost use Rattle.gf128.specs.Words.{of_word, products, IsReduced};
+
+use crate::chain::{Chain, times_x64};
+use crate::multiples::Multiples256;
+use crate::words::{bytes_of, high_half, low_half};
+use crate::{ByteMul, Keyed128};
+use octets::Block;
+
+/// The multiplier that holds 256 multiples of each of the key's first four powers, 16 KiB, and takes four blocks at a
+/// time. It is for a key that is kept.
+#[derive(Drop)]
+pub struct WideMul {
+    first: ByteMul,
+    second: Multiples256,
+    third: Multiples256,
+    fourth: Multiples256,
+    ghost second_power: { IsReduced (power (of_word first.multiples.word) 2) second.word },
+    ghost third_power: { IsReduced (power (of_word first.multiples.word) 3) third.word },
+    ghost fourth_power: { IsReduced (power (of_word first.multiples.word) 4) fourth.word },
+}
+
+impl WideMul {
+    // The sum of the multiples by four bytes, that of the fourth power first.
+    #[inline(always)]
+    fn four_multiples(&self, a: u8, b: u8, c: u8, d: u8) -> u128
+        ensures { IsReduced (products 8 ((a, self.now.fourth.word) ∷ (b, self.now.third.word) ∷ (c, self.now.second.word)
+            ∷ (d, self.now.first.multiples.word) ∷ [])) result }
+    {
+        self.fourth.at(a) ^ (self.third.at(b) ^ (self.second.at(c) ^ self.first.multiples.at(d)))
+    }
+
+    // The sum of four half words, the first times the fourth power of the key, the last times the key.
+    #[inline(always)]
+    fn four_halves(&self, a: u64, b: u64, c: u64, d: u64) -> u128
+        ensures { IsReduced (products 64 ((a, self.now.fourth.word) ∷ (b, self.now.third.word) ∷ (c, self.now.second.word)
+            ∷ (d, self.now.first.multiples.word) ∷ [])) result }
+    {
+        let a_bytes = bytes_of(a);
+        let b_bytes = bytes_of(b);
+        let c_bytes = bytes_of(c);
+        let d_bytes = bytes_of(d);
+        let mut sum = Chain::empty();
+        'places: for i in 0..8usize {
+            sum = sum.take_eight(self.four_multiples(
+                a_bytes[i], b_bytes[i], c_bytes[i], d_bytes[i],
+            ));
+        }
+        sum.reduced()
+    }
+}
+
+impl Keyed128 for WideMul {
+    ghost key_bytes = { λ s. to_be_bytes w128 s.first.multiples.word };
+
+    fn of(key: &Block) -> WideMul {
+        let first = ByteMul::of(key);
+        let second = first.times_word(first.multiples.word);
+        let third = first.times_word(second);
+        let fourth = first.times_word(third);
+        WideMul {
+            first,
+            second: Multiples256::of(second),
+            third: Multiples256::of(third),
+            fourth: Multiples256::of(fourth),
+        }
+    }
+
+    fn times_word(&self, x: u128) -> u128 {
+        self.first.times_word(x)
+    }
+
+    fn times_four(&self, a: u128, b: u128, c: u128, d: u128) -> u128 {
+        let high = self.four_halves(high_half(a), high_half(b), high_half(c), high_half(d));
+        let low = self.four_halves(low_half(a), low_half(b), low_half(c), low_half(d));
+        high ^ times_x64(low)
+    }
+}
