@@ -1,4 +1,5 @@
 pub mod Wrapping
+pub mod Padded
 pub mod Blocks
 pub mod Refusals
 pub mod Places

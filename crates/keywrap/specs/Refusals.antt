@@ -1,8 +1,9 @@
 -- What each refusal says. A fault that a call never answers has no case of its own.
-use Rattle.std.specs.Prelude.{ℕ, ◌+◌, ◌<◌, ◌≤◌, List, length}
+use Rattle.std.specs.Prelude.{◌≡◌, ℕ, ◌+◌, ◌^◌, ◌<◌, ◌≤◌, List, length}
 use Rattle.octets.specs.declared.fault.Fault.{Fault}
 use Rattle.octets.specs.declared.fault.Fault.TheVariants.{TextTooLong, WrapLength, WrapIntegrity, OutOfMemory}
 use Rattle.keywrap.specs.Wrapping.{HasTextLength, HasWrappedLength, IsNoWrapping}
+use Rattle.keywrap.specs.Padded.{HasPaddableLength, HasBlocks, IsNoPaddedWrapping}
 
 -- why a text is not wrapped into a vector of at most so many bytes
 abbrev pub WrapRefused : ℕ → List ℕ → Fault → Type 0
@@ -28,3 +29,18 @@ abbrev pub UnwrapInPlaceRefused : List ℕ → List ℕ → Fault → Type 0
 UnwrapInPlaceRefused key wrapped WrapLength = ¬ HasWrappedLength wrapped
 UnwrapInPlaceRefused key wrapped WrapIntegrity = HasWrappedLength wrapped × IsNoWrapping key wrapped
 UnwrapInPlaceRefused key wrapped _ = ⊥
+
+-- why a text is not wrapped with padding
+abbrev pub PaddedWrapRefused : List ℕ → Fault → Type 0
+PaddedWrapRefused text WrapLength = length text ≡ 0
+PaddedWrapRefused text TextTooLong = 2 ^ 32 ≤ length text
+PaddedWrapRefused text OutOfMemory = HasPaddableLength text
+PaddedWrapRefused text _ = ⊥
+
+-- why bytes are not unwrapped to a padded text
+abbrev pub PaddedUnwrapRefused : List ℕ → List ℕ → Fault → Type 0
+PaddedUnwrapRefused key wrapped WrapLength = ¬ HasBlocks wrapped
+PaddedUnwrapRefused key wrapped TextTooLong = HasBlocks wrapped × (2 ^ 32 + 8 < length wrapped)
+PaddedUnwrapRefused key wrapped OutOfMemory = HasBlocks wrapped × (length wrapped ≤ 2 ^ 32 + 8)
+PaddedUnwrapRefused key wrapped WrapIntegrity = HasBlocks wrapped × (length wrapped ≤ 2 ^ 32 + 8) × IsNoPaddedWrapping key wrapped
+PaddedUnwrapRefused key wrapped _ = ⊥

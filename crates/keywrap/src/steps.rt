@@ -1,12 +1,13 @@
 // The steps of the wrapping and of its inverse (RFC 3394, 2.2.1 and 2.2.2), by index, from any first value of A.
 
-ghost use Rattle.std.specs.Prelude.{◌≡◌, ◌+◌, ◌-◌, ◌*◌, ◌/◌, ◌%◌, ◌≤◌, ◌++◌, ◌↔◌, take, drop, length, IsTrue};
+ghost use Rattle.std.specs.Prelude.{◌≡◌, ℕ, List, ◌+◌, ◌-◌, ◌*◌, ◌/◌, ◌%◌, ◌≤◌, ◌++◌, ◌↔◌, take, drop, length, IsTrue};
 ghost use Rattle.std.specs.Int.{bytes_high_first};
 ghost use Rattle.octets.specs.Bytes.{xor_bytes};
+ghost use Rattle.aes.specs.InverseKey.{IsInverse};
 ghost use Rattle.keywrap.specs.Wrapping.{step, steps, initial_value, HasWrappedLength};
 ghost use Rattle.keywrap.specs.Places.{register};
 
-use aes::AesKey;
+use aes::{AesKey, InverseKey};
 use octets::{Block, xor_into};
 
 /// The default initial value (RFC 3394, 2.2.3.1).
@@ -46,7 +47,7 @@ fn numbered(half: &[u8; 8], t: u64) -> [u8; 8]
 }
 
 /// The block of two halves.
-fn joined(first: &[u8; 8], second: &[u8]) -> [u8; 16]
+pub fn joined(first: &[u8; 8], second: &[u8]) -> [u8; 16]
     requires { length second.now ≡ 8 }
     ensures { result ≡ first.now ++ second.now }
 {
@@ -57,7 +58,7 @@ fn joined(first: &[u8; 8], second: &[u8]) -> [u8; 16]
 }
 
 /// The two halves of a block.
-fn halves(block: &[u8; 16]) -> ([u8; 8], [u8; 8])
+pub fn halves(block: &[u8; 16]) -> ([u8; 8], [u8; 8])
     ensures first { result.0 ≡ take 8 block.now }
     ensures second { result.1 ≡ drop 8 block.now }
     ensures long { length block.now ≡ 16 }
@@ -81,12 +82,12 @@ fn wrap_step(key: &AesKey, t: u64, place: usize, first: &mut [u8; 8], blocks: &m
 }
 
 /// Step t undone, on the block at a place.
-fn unwrap_step(key: &AesKey, t: u64, place: usize, first: &mut [u8; 8], blocks: &mut [u8])
+fn unwrap_step(inverse: &InverseKey, t: u64, place: usize, first: &mut [u8; 8], blocks: &mut [u8])
     requires { place + 8 ≤ length blocks.old }
-    ensures { step key.now t (register place first.new blocks.new) ≡ register (place + 8) first.old blocks.old }
+    ensures { (key : List ℕ) → IsInverse inverse.now key → step key t (register place first.new blocks.new) ≡ register (place + 8) first.old blocks.old }
 {
     let block = joined(&numbered(first, t), &blocks[place..place + 8]);
-    let (half, second) = halves(key.decrypt(&Block::new(block)).bytes());
+    let (half, second) = halves(inverse.decrypt(&Block::new(block)).bytes());
     *first = half;
     blocks[place..place + 8].copy_from_slice(&second);
 }
@@ -109,10 +110,11 @@ pub fn unwrap_blocks(key: &AesKey, first: &mut [u8; 8], blocks: &mut [u8])
     requires { length blocks.old % 8 ≡ 0 }
     ensures { steps key.now (6 * (length blocks.old / 8)) (first.new ++ blocks.new) ≡ first.old ++ blocks.old }
 {
+    let ready = key.inverse();
     let count = blocks.len() / 8;
     'rounds: for round in (0..6).rev() {
         'places: for i in (0..count).rev() {
-            unwrap_step(key, (count * round + i + 1) as u64, 8 * i, first, blocks);
+            unwrap_step(&ready, (count * round + i + 1) as u64, 8 * i, first, blocks);
         }
     }
 }

@@ -25,7 +25,7 @@ places-preserved c =
     (register (8 * (c.places.i - 1) + 8) c.places.first c.places.blocks)
     (register (8 * (c.places.i - 1)) c.unwrap_step.new.first c.unwrap_step.new.blocks)
     (λ s h. c.places.invariant s (ap (λ u. steps key u s) count ∙ h ∙ ap (λ p. register p c.places.first c.places.blocks) place))
-    c.unwrap_step.ensures
+    (c.unwrap_step.ensures key c.inverse-ready.ensures)
 
 pub rounds-preserved : goal.rounds-preserved
 rounds-preserved c s h =

@@ -9,15 +9,15 @@ use Rattle.keywrap.proofs.steps.unwrap_step.Goals as goal
 use borrow.Rule.Slice.PartMut.{put_mid}
 
 pub returns : goal.returns
-returns c =
+returns c = λ key x.
     let d : List ℕ = c.bytes.result.now in
     let p : ℕ = c.args.place in
     let a : List ℕ = c.args.first.now in
     let s : List ℕ = c.args.blocks.now in
     let eight : p + 8 - p ≡ 8 = omega arith in
-    let taken : cipher c.args.key.now d ≡ xor_bytes a (bytes_high_first 8 c.args.t) ++ take (p + 8 - p) (drop p s) =
-    ap (cipher c.args.key.now) c.bytes.ensures.value ∙ c.decrypt.ensures.value.taken ∙ c.new.ensures.value ∙ c.joined-block.ensures
-    ∙ ap (λ x. x ++ take (p + 8 - p) (drop p s)) c.numbered.ensures in
-    ap (λ x. step c.args.key.now c.args.t (register p x (put_mid p (p + 8 - p) s c.copy_from_slice.new.self))) c.halves.ensures.first
-    ∙ unwrapped_at c.args.key.now c.args.t p (p + 8 - p) a s d c.copy_from_slice.new.self
+    let taken : cipher key d ≡ xor_bytes a (bytes_high_first 8 c.args.t) ++ take (p + 8 - p) (drop p s) =
+    ap (cipher key) c.bytes.ensures.value ∙ (c.decrypt.ensures.value key x).taken ∙ c.new.ensures.value ∙ c.joined-block.ensures
+    ∙ ap (λ y. y ++ take (p + 8 - p) (drop p s)) c.numbered.ensures in
+    ap (λ y. step key c.args.t (register p y (put_mid p (p + 8 - p) s c.copy_from_slice.new.self))) c.halves.ensures.first
+    ∙ unwrapped_at key c.args.t p (p + 8 - p) a s d c.copy_from_slice.new.self
     eight c.told-first c.requires c.halves.ensures.long taken (c.copy_from_slice.ensures.after ∙ c.halves.ensures.second)

@@ -1,0 +1,210 @@
+-- Texts to pad, what their wrappings begin with, and what is made of it.
+use Rattle.std.proofs.Common.{◌≡◌, ◌≢◌, ℕ, zero, suc, ◌+◌, ◌-◌, ◌*◌, ◌/◌, ◌%◌, ◌^◌, ◌<◌, ◌≤◌, ◌==◌, Bool, true, false, eqb, List, [], ◌∷◌, ◌++◌, take, drop, length, replicate, refl, sym, ap, ap₂, ◌∙◌, arith, length-append, length-drop}
+use Rattle.std.specs.Prelude.{Option, Some, None, MatchOption}
+use Rattle.std.specs.List.{list_all}
+use Rattle.std.specs.Int.{bytes_high_first, from_be_bytes, w32}
+use Rattle.std.proofs.lemmas.Nat.{from_be_bytes-to_be_bytes_4}
+use Rattle.std.proofs.lemmas.Bool.{and_parts, eqb-true}
+use Rattle.std.proofs.lemmas.List.{drop_at, take-append-drop, take_all, length-replicate, length-take-le}
+use Rattle.octets.specs.Bytes.{AreBytes}
+use Rattle.aes.specs.Cipher.{cipher, IsKey, IsPermutation}
+use Rattle.keywrap.specs.Wrapping.{steps}
+use Rattle.keywrap.specs.Padded.{constant, alternative_value, padded, transformed, HasPaddableLength, HasBlocks, IsStartOf, UnwrappedPadded, IsNoPaddedWrapping, HasOnePaddedText}
+use Rattle.keywrap.proofs.Bytes.{bytes_append, bytes_resized, bytes_take, bytes_replicate, bytes_number, same_front, same_back, steps_bytes, steps_one_to_one}
+
+-- a list of sixteen bytes is its own front
+front_16 : (s : List ℕ) → length s ≡ 16 → take 16 s ≡ s
+front_16 s e = take_all 16 s (omega arith)
+
+-- one block
+pub transformed_one : (key s : List ℕ) → length s ≡ 16 → transformed key s ≡ cipher key s
+unfolding transformed
+transformed_one key s e = rw e refl
+
+-- numbers that differ fail the test
+differs : (m n : ℕ) → m ≢ n → eqb m n ≡ false
+differs m n d = grind arith
+
+-- more blocks than one
+pub transformed_more : (key s : List ℕ) → length s ≢ 16 → transformed key s ≡ steps key (6 * ((length s - 8) / 8)) s
+unfolding transformed
+transformed_more key s d = rw (differs (length s) 16 d) refl
+
+-- a test of a number against itself does not fail
+fails : eqb 16 16 ≡ false → ⊥
+fails e = cc
+
+-- what is made of bytes is as many bytes
+made_bytes : (b : Bool) (key s : List ℕ) (n : ℕ) → eqb n 16 ≡ b → IsPermutation → IsKey key → AreBytes n s → 16 ≤ n → AreBytes n (transformed key s)
+made_bytes true key s n e law k h l =
+    let long : n ≡ 16 = eqb-true n 16 e in
+    let block : AreBytes 16 s = bytes_resized n 16 s long h in
+    rw (transformed_one key s block.length_is) (bytes_resized 16 n (cipher key s) (sym long) ((law key k).0 s block))
+made_bytes false key s n e law k h l =
+    let d : length s ≢ 16 = λ is. fails (sym (ap (λ m. eqb m 16) (sym h.length_is ∙ is)) ∙ e) in
+    rw (transformed_more key s d) (steps_bytes key s (6 * ((length s - 8) / 8)) n law k h l)
+
+-- and nothing else has the same made of it
+made_one_to_one : (b : Bool) (key s r : List ℕ) (n : ℕ) → eqb n 16 ≡ b → IsPermutation → IsKey key → AreBytes n s → AreBytes n r → 16 ≤ n
+    → transformed key s ≡ transformed key r → s ≡ r
+made_one_to_one true key s r n e law k h i l same =
+    let long : n ≡ 16 = eqb-true n 16 e in
+    let x : AreBytes 16 s = bytes_resized n 16 s long h in
+    let y : AreBytes 16 r = bytes_resized n 16 r long i in
+    (law key k).1 s r x y (sym (transformed_one key s x.length_is) ∙ same ∙ transformed_one key r y.length_is)
+made_one_to_one false key s r n e law k h i l same =
+    let none : n ≢ 16 = λ is. fails (sym (ap (λ m. eqb m 16) is) ∙ e) in
+    let ds : length s ≢ 16 = λ is. none (sym h.length_is ∙ is) in
+    let dr : length r ≢ 16 = λ is. none (sym i.length_is ∙ is) in
+    let count : length s ≡ length r = h.length_is ∙ sym i.length_is in
+    steps_one_to_one key s r (6 * ((length r - 8) / 8)) n law k h i l
+    (ap (λ m. steps key (6 * ((m - 8) / 8)) s) (sym count) ∙ sym (transformed_more key s ds) ∙ same ∙ transformed_more key r dr)
+
+-- a padded text has whole blocks, and no block more than it needs
+pub padded_long : (text : List ℕ) → (length (padded text) % 8 ≡ 0) × (length text ≤ length (padded text)) × (length (padded text) < length text + 8)
+padded_long text =
+    let all : length (padded text) ≡ length text + (8 - length text % 8) % 8 =
+    length-append text (replicate ((8 - length text % 8) % 8) 0) ∙ ap (λ n. length text + n) (length-replicate ((8 - length text % 8) % 8) 0) in
+    (omega arith, omega arith, omega arith)
+
+-- what the wrapping of a text begins with
+abbrev pub start : List ℕ → List ℕ
+start text = alternative_value (length text) ++ padded text
+
+-- it is bytes
+pub start_bytes : (text : List ℕ) → AreBytes (length text) text → AreBytes (8 + length (padded text)) (start text)
+start_bytes text b =
+    let zeros : ℕ = (8 - length text % 8) % 8 in
+    let long : length text + zeros ≡ length (padded text) =
+    sym (length-append text (replicate zeros 0) ∙ ap (λ n. length text + n) (length-replicate zeros 0)) in
+    bytes_append 8 (length (padded text)) (alternative_value (length text)) (padded text)
+    (bytes_append 4 4 constant (bytes_high_first 4 (length text)) (bytes_number 4 0xa65959a6) (bytes_number 4 (length text)))
+    (bytes_resized (length text + zeros) (length (padded text)) (padded text) long (bytes_append (length text) zeros text (replicate zeros 0) b (bytes_replicate zeros 0 (omega arith))))
+
+-- the same alternative initial value tells the same length
+pub one_length : (m n : ℕ) → m < 2 ^ 32 → n < 2 ^ 32 → alternative_value m ≡ alternative_value n → m ≡ n
+one_length m n lm ln e =
+    sym (from_be_bytes-to_be_bytes_4 m lm)
+    ∙ ap (from_be_bytes w32) (same_back constant constant (bytes_high_first 4 m) (bytes_high_first 4 n) refl e)
+    ∙ from_be_bytes-to_be_bytes_4 n ln
+
+-- texts of one length whose wrappings begin alike are the same
+pub one_start : (text other : List ℕ) → HasPaddableLength text → HasPaddableLength other → start text ≡ start other → text ≡ other
+one_start text other h i e =
+    let fronts : alternative_value (length text) ≡ alternative_value (length other) =
+    same_front (alternative_value (length text)) (alternative_value (length other)) (padded text) (padded other) refl e in
+    let backs : padded text ≡ padded other =
+    same_back (alternative_value (length text)) (alternative_value (length other)) (padded text) (padded other) refl e in
+    let long : length text ≡ length other = one_length (length text) (length other) h.most i.most fronts in
+    same_front text other (replicate ((8 - length text % 8) % 8) 0) (replicate ((8 - length other % 8) % 8) 0) long backs
+
+-- the register of a text has whole blocks, and at least one
+pub start_long : (text : List ℕ) → 1 ≤ length text → 16 ≤ 8 + length (padded text)
+start_long text h = omega (arith, (padded_long text).0, (padded_long text).1)
+
+-- a wrapping with padding has the length of the register
+pub wrapped_bytes : (key wrapped text : List ℕ) → IsPermutation → IsKey key → UnwrappedPadded key wrapped text → AreBytes (8 + length (padded text)) wrapped
+wrapped_bytes key wrapped text law k u =
+    rw u.is (made_bytes (eqb (8 + length (padded text)) 16) key (start text) (8 + length (padded text)) refl law k (start_bytes text u.bytes) (start_long text u.length_is.least))
+
+-- a register of which a wrapping of the text is made is the one that the text begins with
+pub only_start : (key wrapped text s : List ℕ) → IsPermutation → IsKey key → AreBytes (length wrapped) s → transformed key s ≡ wrapped
+    → UnwrappedPadded key wrapped text → s ≡ start text
+only_start key wrapped text s law k b e u =
+    let n : ℕ = 8 + length (padded text) in
+    let long : length wrapped ≡ n = (wrapped_bytes key wrapped text law k u).length_is in
+    made_one_to_one (eqb n 16) key s (start text) n refl law k (bytes_resized (length wrapped) n s long b) (start_bytes text u.bytes)
+    (start_long text u.length_is.least) (e ∙ u.is)
+
+-- a wrapping with padding has one text
+pub one_text : IsPermutation → HasOnePaddedText
+one_text law key k wrapped text u = (
+  (wrapped_bytes key wrapped text law k u).length_is ∙ omega arith,
+  λ other v.
+      let long : 8 + length (padded other) ≡ length wrapped = sym (wrapped_bytes key wrapped other law k v).length_is in
+      one_start other text v.length_is u.length_is
+      (only_start key wrapped text (start other) law k (bytes_resized (8 + length (padded other)) (length wrapped) (start other) long (start_bytes other v.bytes)) (sym v.is) u),
+)
+
+-- zero bytes are as many zeros
+pub zeros : (xs : List ℕ) → list_all (λ b. b == 0) xs ≡ true → xs ≡ replicate (length xs) 0
+zeros [] h = refl
+zeros (x ∷ xs) h =
+    let both = and_parts (eqb x 0) (list_all (λ b. b == 0) xs) h in
+    ap₂ (λ y ys. y ∷ ys) (eqb-true x 0 both.0) (zeros xs both.1)
+
+-- and zeros are zero bytes
+pub are_zeros : (n : ℕ) → list_all (λ b. b == 0) (replicate n 0) ≡ true
+are_zeros zero = refl
+are_zeros (suc n) = are_zeros n
+
+-- blocks whose bytes past the text are the fewest zeros
+pub padded_by : (n : ℕ) (blocks : List ℕ) → length blocks % 8 ≡ 0 → n ≤ length blocks → length blocks < n + 8 → list_all (λ b. b == 0) (drop n blocks) ≡ true
+    → blocks ≡ padded (take n blocks)
+padded_by n blocks whole least few h =
+    let long : length (take n blocks) ≡ n = length-take-le n blocks least in
+    let rest : length (drop n blocks) ≡ (8 - length (take n blocks) % 8) % 8 = length-drop n blocks ∙ omega arith in
+    sym (take-append-drop n blocks) ∙ ap (λ z. take n blocks ++ z) (zeros (drop n blocks) h ∙ ap (λ m. replicate m 0) rest)
+
+-- the lengths of a wrapping with padding
+pub wrapped_long : (key wrapped text : List ℕ) → IsPermutation → IsKey key → UnwrappedPadded key wrapped text → HasBlocks wrapped × (length wrapped ≤ 2 ^ 32 + 8)
+wrapped_long key wrapped text law k u =
+    let long : length wrapped ≡ 8 + length (padded text) = (wrapped_bytes key wrapped text law k u).length_is in
+    let fits = padded_long text in
+    (record { least = omega (arith, long, fits.0, fits.1, u.length_is.least); whole = omega (arith, long, fits.0) }, omega (arith, long, fits.0, fits.2, u.length_is.most))
+
+-- A and the blocks of a wrapping, taken apart
+pub parts : (wrapped a blocks : List ℕ) → a ≡ take 8 wrapped → blocks ≡ take (length wrapped - 8) (drop 8 wrapped) → a ++ blocks ≡ wrapped
+parts wrapped a blocks e f =
+    ap₂ (λ x y. x ++ y) e (f ∙ take_all (length wrapped - 8) (drop 8 wrapped) (omega (arith, length-drop 8 wrapped))) ∙ take-append-drop 8 wrapped
+
+-- the text whose start was found
+pub unwrapped_by : (key wrapped first rest : List ℕ) (n : ℕ) → n ≤ length rest → AreBytes (length rest) rest → IsStartOf (take n rest) first rest
+    → transformed key (first ++ rest) ≡ wrapped → UnwrappedPadded key wrapped (take n rest)
+unwrapped_by key wrapped first rest n l b s e = record {
+  length_is = s.length_is;
+  bytes = bytes_resized n (length (take n rest)) (take n rest) (sym (length-take-le n rest l)) (bytes_take n (length rest) rest l b);
+  is = sym e ∙ ap (transformed key) (ap₂ (λ x y. x ++ y) s.first_is s.blocks_are);
+}
+
+-- where none was found, there is none
+pub no_wrapping : (key wrapped first rest : List ℕ) → IsPermutation → IsKey key → AreBytes (length wrapped) (first ++ rest) → length first ≡ 8
+    → transformed key (first ++ rest) ≡ wrapped → ((text : List ℕ) → IsStartOf text first rest → ⊥) → IsNoPaddedWrapping key wrapped
+no_wrapping key wrapped first rest law k b long e none text u =
+    let same : first ++ rest ≡ start text = only_start key wrapped text (first ++ rest) law k b e u in
+    none text (record {
+      length_is = u.length_is;
+      first_is = same_front first (alternative_value (length text)) rest (padded text) long same;
+      blocks_are = same_back first (alternative_value (length text)) rest (padded text) long same;
+    })
+
+-- blocks that a text begins with have zeros past it
+pub zeros_past : (text blocks : List ℕ) (n : ℕ) → n ≡ length text → blocks ≡ padded text → list_all (λ b. b == 0) (take (length blocks - n) (drop n blocks)) ≡ true
+zeros_past text blocks n e is =
+    let past : take (length blocks - n) (drop n blocks) ≡ replicate ((8 - length text % 8) % 8) 0 =
+    take_all (length blocks - n) (drop n blocks) (omega (arith, length-drop n blocks))
+    ∙ ap (drop n) is ∙ drop_at text (replicate ((8 - length text % 8) % 8) 0) n (sym e) in
+    ap (list_all (λ b. b == 0)) past ∙ are_zeros ((8 - length text % 8) % 8)
+
+-- the first of eight zeros
+pub few_zeros : (n : ℕ) → n ≤ 8 → take {A = ℕ} n (0 ∷ 0 ∷ 0 ∷ 0 ∷ 0 ∷ 0 ∷ 0 ∷ 0 ∷ []) ≡ replicate n 0
+few_zeros n l = take_zeros 8 n l where
+  take_zeros : (m n : ℕ) → n ≤ m → take {A = ℕ} n (replicate m 0) ≡ replicate n 0
+  take_zeros m zero l = refl
+  take_zeros zero (suc n) l = absurd (omega arith)
+  take_zeros (suc m) (suc n) l = ap (λ (xs : List ℕ). 0 ∷ xs) (take_zeros m n (omega arith))
+
+-- a start that was put together part by part
+pub started : (text value first second third last : List ℕ) → first ≡ constant → value ≡ bytes_high_first 4 (length text) → second ≡ first ++ value → third ≡ second ++ text
+    → last ≡ third ++ take {A = ℕ} ((8 - length text % 8) % 8) (0 ∷ 0 ∷ 0 ∷ 0 ∷ 0 ∷ 0 ∷ 0 ∷ 0 ∷ []) → last ≡ start text
+started text value first second third last a b d e f =
+    let zeros_are : take {A = ℕ} ((8 - length text % 8) % 8) (0 ∷ 0 ∷ 0 ∷ 0 ∷ 0 ∷ 0 ∷ 0 ∷ 0 ∷ []) ≡ replicate ((8 - length text % 8) % 8) 0 = few_zeros ((8 - length text % 8) % 8) (omega arith) in
+    f ∙ ap₂ (λ x y. x ++ y) (e ∙ ap (λ x. x ++ text) (d ∙ ap₂ (λ x y. x ++ y) a b)) zeros_are
+
+-- the length that was found is that of the text of a wrapping, and where none was found, there is no text
+pub found_by : (key wrapped first rest : List ℕ) (found : Option ℕ) → IsPermutation → IsKey key → AreBytes (length wrapped) (first ++ rest) → length first ≡ 8
+    → AreBytes (length rest) rest → transformed key (first ++ rest) ≡ wrapped
+    → MatchOption found ((text : List ℕ) → ¬ IsStartOf text first rest) (λ n. (n ≤ length rest) × IsStartOf (take n rest) first rest)
+    → MatchOption found (IsNoPaddedWrapping key wrapped) (λ n. (n ≤ length rest) × UnwrappedPadded key wrapped (take n rest))
+found_by key wrapped first rest None law k b long r e h = no_wrapping key wrapped first rest law k b long e h
+found_by key wrapped first rest (Some n) law k b long r e h = (h.0, unwrapped_by key wrapped first rest n h.0 r h.1 e)

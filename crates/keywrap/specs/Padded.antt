@@ -1,0 +1,58 @@
+-- AES Key Wrap with Padding (RFC 5649, 3 and 4; SP 800-38F, 6.3). The register is that of RFC 3394.
+use Rattle.std.specs.Prelude.{◌≡◌, ℕ, ◌+◌, ◌-◌, ◌*◌, ◌/◌, ◌%◌, ◌^◌, ◌<◌, ◌≤◌, List, [], ◌∷◌, ◌++◌, length, replicate, ◌==◌, if◌then◌else◌}
+use Rattle.std.specs.Int.{bytes_high_first}
+use Rattle.octets.specs.Bytes.{AreBytes}
+use Rattle.aes.specs.Cipher.{cipher, IsKey}
+use Rattle.keywrap.specs.Wrapping.{steps}
+
+-- the constant of the alternative initial value (3)
+abbrev pub constant : List ℕ
+constant = 0xa6 ∷ 0x59 ∷ 0x59 ∷ 0xa6 ∷ []
+
+-- the alternative initial value for a text of n bytes: the constant, then n in 32 bits, most significant byte first (3)
+abbrev pub alternative_value : ℕ → List ℕ
+alternative_value n = constant ++ bytes_high_first 4 n
+
+-- a text with the fewest zero bytes behind it that make whole blocks of eight (4.1)
+abbrev pub padded : List ℕ → List ℕ
+padded text = text ++ replicate ((8 - length text % 8) % 8) 0
+
+-- what is made of A and n blocks: the cipher of both where there is one block, and else the register after the 6n
+-- steps of RFC 3394 (4.1)
+unfoldable pub transformed : List ℕ → List ℕ → List ℕ
+transformed key s = if length s == 16 then cipher key s else steps key (6 * ((length s - 8) / 8)) s
+
+-- the wrapping of a text with padding
+abbrev pub padded_wrapping : List ℕ → List ℕ → List ℕ
+padded_wrapping key text = transformed key (alternative_value (length text) ++ padded text)
+
+-- a text to pad has a length from 1 on that 32 bits can hold
+pub record HasPaddableLength (text : List ℕ) : Type 0 where
+  pub least : 1 ≤ length text
+  pub most : length text < 2 ^ 32
+
+-- A and whole blocks of eight bytes, at least one
+pub record HasBlocks (wrapped : List ℕ) : Type 0 where
+  pub least : 16 ≤ length wrapped
+  pub whole : length wrapped % 8 ≡ 0
+
+-- A and the blocks are those that the wrapping of the text begins with
+pub record IsStartOf (text first blocks : List ℕ) : Type 0 where
+  pub length_is : HasPaddableLength text
+  pub first_is : first ≡ alternative_value (length text)
+  pub blocks_are : blocks ≡ padded text
+
+-- text is a text to pad, and wrapped is its wrapping with padding
+pub record UnwrappedPadded (key : List ℕ) (wrapped : List ℕ) (text : List ℕ) : Type 0 where
+  pub length_is : HasPaddableLength text
+  pub bytes : AreBytes (length text) text
+  pub is : wrapped ≡ padded_wrapping key text
+
+-- wrapped is the wrapping of no text with padding
+abbrev pub IsNoPaddedWrapping : List ℕ → List ℕ → Type 0
+IsNoPaddedWrapping key wrapped = (text : List ℕ) → ¬ UnwrappedPadded key wrapped text
+
+-- a wrapping with padding has one text, and is eight bytes longer than the padded text
+abbrev pub HasOnePaddedText : Type 0
+HasOnePaddedText = (key : List ℕ) → IsKey key → (wrapped text : List ℕ) → UnwrappedPadded key wrapped text
+    → (length wrapped ≡ length (padded text) + 8) × ((other : List ℕ) → UnwrappedPadded key wrapped other → other ≡ text)

@@ -1,0 +1,176 @@
+// Wrapping with padding (RFC 5649).
+
+ghost use Rattle.std.specs.Prelude.{◌≡◌, ◌≢◌, ◌<◌, ◌≤◌, ◌^◌, ◌%◌, ◌++◌, ◌↔◌, ◌==◌, ℕ, List, length, take, IsTrue, IfOk, MatchOption, MatchResult, replicate};
+ghost use Rattle.std.specs.List.{list_all};
+ghost use Rattle.keywrap.specs.Padded.{alternative_value, padded, transformed, IsStartOf, UnwrappedPadded, IsNoPaddedWrapping};
+ghost use Rattle.keywrap.specs.Refusals.{PaddedWrapRefused, PaddedUnwrapRefused};
+
+use crate::has_one_padded_text;
+use crate::steps::{first_eight, halves, joined, unwrap_blocks, wrap_register};
+use aes::{AesKey, is_permutation};
+use octets::{Block, Fault, are_bytes};
+use std::alloc::{AllocError, Allocator};
+
+/// The constant of the alternative initial value (RFC 5649, 3).
+const CONSTANT: [u8; 4] = [0xa6, 0x59, 0x59, 0xa6];
+
+/// The one block of a register.
+fn only_block(bytes: &[u8]) -> Block
+    requires { length bytes.now ≡ 16 }
+    ensures { result ≡ bytes.now }
+{
+    let mut block = [0; 16];
+    block.copy_from_slice(bytes);
+    Block::new(block)
+}
+
+/// Makes of A and the blocks what the padded form makes of them.
+fn transform(key: &AesKey, bytes: &mut [u8])
+    requires least { 16 ≤ length bytes.old }
+    requires whole { length bytes.old % 8 ≡ 0 }
+    ensures { bytes.new ≡ transformed key.now bytes.old }
+{
+    if bytes.len() == 16 {
+        bytes.copy_from_slice(key.encrypt(&only_block(bytes)).bytes());
+    } else {
+        wrap_register(key, bytes);
+    }
+}
+
+/// The same undone, on A and the blocks.
+fn untransform(key: &AesKey, first: &mut [u8; 8], blocks: &mut [u8])
+    requires least { 8 ≤ length blocks.old }
+    requires whole { length blocks.old % 8 ≡ 0 }
+    ensures { transformed key.now (first.new ++ blocks.new) ≡ first.old ++ blocks.old }
+{
+    if blocks.len() == 8 {
+        let block = Block::new(joined(first, blocks));
+        let (half, second) = halves(key.decrypt(&block).bytes());
+        *first = half;
+        blocks.copy_from_slice(&second);
+    } else {
+        unwrap_blocks(key, first, blocks);
+    }
+}
+
+/// The length that an alternative initial value tells.
+fn told_length(first: &[u8; 8]) -> Option<u32>
+    ensures { MatchOption result ((n : ℕ) → n < 2 ^ 32 → first.now ≢ alternative_value n)
+        (λ n. (n < 2 ^ 32) × (first.now ≡ alternative_value n)) }
+{
+    let mut constant = [0; 4];
+    let mut length = [0; 4];
+    constant.copy_from_slice(&first[..4]);
+    length.copy_from_slice(&first[4..]);
+    if constant == CONSTANT {
+        Some(u32::from_be_bytes(length))
+    } else {
+        None
+    }
+}
+
+/// Whether all bytes are zero.
+fn are_zero(bytes: &[u8]) -> bool
+    ensures { result ≡ list_all (λ b. b == 0) bytes.now }
+{
+    bytes.iter().all(|b| *b == 0)
+}
+
+/// The length of the text that A and the blocks were made from, if there is one.
+fn text_length(first: &[u8; 8], blocks: &[u8]) -> Option<usize>
+    requires least { 8 ≤ length blocks.now }
+    requires whole { length blocks.now % 8 ≡ 0 }
+    ensures { MatchOption result ((text : List ℕ) → ¬ IsStartOf text first.now blocks.now)
+        (λ n. (n ≤ length blocks.now) × IsStartOf (take n blocks.now) first.now blocks.now) }
+{
+    let length = told_length(first)? as usize;
+    if length <= blocks.len() && blocks.len() < length + 8 && are_zero(&blocks[length..]) {
+        Some(length)
+    } else {
+        None
+    }
+}
+
+/// Undoes the wrapping of A and the blocks. Where they are the wrapping of a text, it answers the text's length, and the
+/// text is at the front of the blocks.
+fn unwrap_start(key: &AesKey, first: &mut [u8; 8], blocks: &mut [u8]) -> Option<usize>
+    requires least { 8 ≤ length blocks.old }
+    requires whole { length blocks.old % 8 ≡ 0 }
+    ensures { MatchOption result (IsNoPaddedWrapping key.now (first.old ++ blocks.old))
+        (λ n. (n ≤ length blocks.new) × UnwrappedPadded key.now (first.old ++ blocks.old) (take n blocks.new)) }
+{
+    key.is_key();
+    is_permutation();
+    untransform(key, first, blocks);
+    are_bytes(first);
+    are_bytes(blocks);
+    text_length(first, blocks)
+}
+
+/// What the wrapping of a text begins with: A and the padded text.
+fn start<A: Allocator>(alloc: A, text: &[u8]) -> Result<Vec<u8, A>, AllocError>
+    requires { length text.now < 2 ^ 32 }
+    ensures { IfOk result (λ v. v.items ≡ alternative_value (length text.now) ++ padded text.now) }
+{
+    let zeros = (8 - text.len() % 8) % 8;
+    let mut bytes = Vec::with_capacity(alloc, 8 + text.len() + zeros)?;
+    bytes.extend_from_slice(&CONSTANT)?;
+    bytes.extend_from_slice(&(text.len() as u32).to_be_bytes())?;
+    bytes.extend_from_slice(text)?;
+    bytes.extend_from_slice(&[0; 8][..zeros])?;
+    Ok(bytes)
+}
+
+/// The wrapping of a text with padding: eight bytes more than the padded text (RFC 5649, 4.1). In this order:
+/// `WrapLength` for an empty text, `TextTooLong` past 2^32 - 1 bytes, `OutOfMemory` where `alloc` refuses the result.
+pub fn wrap_padded<A: Allocator>(alloc: A, key: &AesKey, text: &[u8]) -> Result<Vec<u8, A>, Fault>
+    ensures { MatchResult result (λ v. UnwrappedPadded key.now v.items text.now) (PaddedWrapRefused text.now) }
+{
+    are_bytes(text);
+    if text.is_empty() {
+        return Err(Fault::WrapLength);
+    }
+    if text.len() as u64 >= 1 << 32 {
+        return Err(Fault::TextTooLong);
+    }
+    let Ok(mut wrapped) = start(alloc, text) else {
+        return Err(Fault::OutOfMemory);
+    };
+    transform(key, &mut wrapped);
+    Ok(wrapped)
+}
+
+/// The text of a wrapping with padding (RFC 5649, 4.2). In this order: `WrapLength` where the length is under 16 or no
+/// multiple of 8, `TextTooLong` past 2^32 + 8 bytes, `OutOfMemory` where `alloc` refuses as many bytes,
+/// `WrapIntegrity` where the bytes are the wrapping of no text with padding under this key.
+pub fn unwrap_padded<A: Allocator>(
+    alloc: A,
+    key: &AesKey,
+    wrapped: &[u8],
+) -> Result<Vec<u8, A>, Fault>
+    ensures answer { MatchResult result (λ v. UnwrappedPadded key.now wrapped.now v.items)
+        (PaddedUnwrapRefused key.now wrapped.now) }
+    ensures found { (text : List ℕ) → UnwrappedPadded key.now wrapped.now text
+        → MatchResult result (λ v. v.items ≡ text) (λ e. (e ≡ Fault.OutOfMemory)) }
+{
+    key.is_key();
+    is_permutation();
+    has_one_padded_text();
+    if wrapped.len() < 16 || wrapped.len() % 8 != 0 {
+        return Err(Fault::WrapLength);
+    }
+    if wrapped.len() as u64 > (1 << 32) + 8 {
+        return Err(Fault::TextTooLong);
+    }
+    let mut first = first_eight(wrapped);
+    let Ok(mut text) = Vec::from_slice(alloc, &wrapped[8..]) else {
+        return Err(Fault::OutOfMemory);
+    };
+    match unwrap_start(key, &mut first, &mut text) {
+        Some(length) => {
+            text.truncate(length);
+            Ok(text)
+        }
+        None => Err(Fault::WrapIntegrity),
+    }
+}
