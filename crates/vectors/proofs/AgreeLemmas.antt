@@ -1,11 +1,6 @@
 -- A record agrees exactly where its text is the one that was found.
 use Rattle.std.proofs.Common.{◌≡◌, ℕ, ◌+◌, Bool, true, false, inl, inr, List, [], ◌∷◌, ◌++◌, Option, Some, None, Result, Ok, Err, refl, sym, ap, ◌∙◌, subst}
 use Rattle.std.specs.Prelude.{◌↔◌, IsTrue, OnOk, if◌then◌else◌}
-use Rattle.aead.specs.declared.suite.Suite as aead
-use Rattle.aead.specs.Suites.{key_length}
-use Rattle.vectors.specs.declared.suite.Suite.{Suite}
-use Rattle.vectors.specs.declared.suite.Suite.TheVariants.{ChaCha20Poly1305, Aes128Gcm, Aes192Gcm, Aes256Gcm, Aes128GcmSiv, Aes256GcmSiv, Aes128Wrap, Aes192Wrap, Aes256Wrap}
-use Rattle.vectors.specs.Suites.{aead_suite, key_bytes}
 use Rattle.vectors.specs.Grammar.{Record}
 use Rattle.vectors.specs.Agreement.{Holds, Agrees, AgreesWith, IsOnly}
 use Rattle.vectors.specs.Reports.{Judges}
@@ -20,22 +15,6 @@ decided r (Some v) None h = (λ e. absurd cc, λ a. absurd (a v h.holds))
 decided r (Some v) (Some u) h = (λ e. subst (λ (x : List ℕ). Holds r x) (some_is e) h.holds, λ a. h.only u a) where
   some_is : Some v ≡ Some u → v ≡ u
   some_is e = cc
-
--- equal options hold equal suites
-some_is : (x y : aead.Suite) → Some x ≡ Some y → x ≡ y
-some_is x y e = cc
-
--- a key of the suite's length is one of the AEAD suite's
-pub key_bytes-aead : (s : Suite) (t : aead.Suite) → aead_suite s ≡ Some t → key_bytes s ≡ key_length t
-key_bytes-aead ChaCha20Poly1305 t e = ap key_length (some_is _ t e)
-key_bytes-aead Aes128Gcm t e = ap key_length (some_is _ t e)
-key_bytes-aead Aes192Gcm t e = ap key_length (some_is _ t e)
-key_bytes-aead Aes256Gcm t e = ap key_length (some_is _ t e)
-key_bytes-aead Aes128GcmSiv t e = ap key_length (some_is _ t e)
-key_bytes-aead Aes256GcmSiv t e = ap key_length (some_is _ t e)
-key_bytes-aead Aes128Wrap t e = absurd cc
-key_bytes-aead Aes192Wrap t e = absurd cc
-key_bytes-aead Aes256Wrap t e = absurd cc
 
 -- a record counted as it was judged
 pub judges : {E : Type 0} (result : Result (Unit {0}) E) (count more : ℕ) (bad worse : List ℕ) (r : Record) (b : Bool) → IsTrue b ↔ Agrees r

@@ -1,18 +1,21 @@
 -- A line is what the grammar says exactly where reading it gives that.
-use Rattle.std.proofs.Common.{◌≡◌, ℕ, Bool, true, false, cond, eqb, List, length, Option, Some, None, Result, Ok, Err, refl, sym, ap, ◌∙◌, subst, arith}
-use Rattle.std.specs.Prelude.{codes}
+use Rattle.std.proofs.Common.{◌≡◌, ℕ, Bool, true, false, cond, List, [], ◌∷◌, Option, Some, None, Result, Ok, Err, refl, sym, ap, ◌∙◌, subst}
+use Rattle.std.specs.Prelude.{codes, ◌&&◌}
 use Rattle.std.specs.Str.{bytes_eq}
-use Rattle.std.proofs.lemmas.Bool.{eqb-true}
+use Rattle.std.proofs.lemmas.Bool.{and_parts}
 use Rattle.std.proofs.lemmas.Slice.Eq.{bytes_eq-Decides}
 use Rattle.vectors.specs.declared.fault.Cause.{Cause}
-use Rattle.vectors.specs.declared.fault.Cause.TheVariants.{WrongName, BadHex, BadLength}
+use Rattle.vectors.specs.declared.fault.Cause.TheVariants.{BadFormat, WrongName, UnknownSuite, BadHex, BadLength, BadCuts}
+use Rattle.vectors.specs.declared.suite.Format.{Format}
 use Rattle.vectors.specs.declared.suite.Suite.{Suite}
-use Rattle.vectors.specs.Suites.{suite_named}
-use Rattle.vectors.specs.Grammar.IsEndLine.{text, invalid}
-use Rattle.vectors.specs.Grammar.{is_gap, field_of, value_line, IsField, IsHexField, IsSizedField, IsSuiteLine, IsEndLine}
-use Rattle.vectors.specs.Faults.{is_hex, bytes_of}
+use Rattle.vectors.specs.declared.suite.Field.{Field}
+use Rattle.vectors.specs.Suites.{format_named, suite_named, field_name, field_length}
+use Rattle.vectors.specs.Cuts.{are_cuts}
+use Rattle.vectors.specs.Grammar.{Record, is_gap, field_of, value_line, has_length, IsField, IsHexField, IsFieldLine, IsFormatLine, IsSuiteLine, IsCutsLine, Ends, may_cut, most_cut, with_text}
+use Rattle.vectors.specs.Faults.{is_hex, bytes_of, is_named}
 use Rattle.vectors.proofs.DigitLemmas.{spells, spelled-bytes, spelled-digits}
-use Rattle.vectors.specs.Steps.{◌>>=◌, named_value, value_at, hex_at, sized_at, known_suite, suite_at, end_at}
+use Rattle.vectors.specs.Code.Steps as steps
+use Rattle.vectors.specs.Code.Steps.{◌>>=◌, Place, named_value, value_at, hex_at, field_at, ok_or, format_of, format_at, suite_at, text_at, cuts_at, end_at}
 
 -- what an Ok of two steps shows
 pub bind_ok : {A B : Type 0} (r : Result A Cause) (f : A → Result B Cause) (y : B) → (r >>= f) ≡ Ok y → (x : A) × (r ≡ Ok x) × (f x ≡ Ok y)
@@ -23,6 +26,15 @@ bind_ok (Err d) f y e = absurd cc
 pub guard_ok : {A : Type 0} (b : Bool) (d : Cause) (x y : A) → cond b (Ok x) (Err d) ≡ Ok y → (b ≡ true) × (x ≡ y)
 guard_ok true d x y e = (refl, cc)
 guard_ok false d x y e = absurd cc
+
+-- what was found is what there was
+pub found_ok : {A : Type 0} (d : Cause) (f : Option A) (x : A) → ok_or d f ≡ Ok x → f ≡ Some x
+found_ok d None x e = absurd cc
+found_ok d (Some y) x e = cc
+
+-- equal results hold equal values
+pub ok_is : {A : Type 0} (x y : A) → ◌≡◌ {A = Result A Cause} (Ok x) (Ok y) → x ≡ y
+ok_is x y e = cc
 
 -- a value that was read had the name
 named_ok : (name v : List ℕ) (f : Option (List ℕ × List ℕ)) → named_value name f ≡ Ok v → f ≡ Some (name, v)
@@ -64,55 +76,106 @@ unfolding hex_at
 hex_again name line v h =
     rw (value_again name line h.digits h.field, spelled-digits h.digits v h.spelled) (ap Ok (spelled-bytes h.digits v h.spelled))
 
--- and their number
-pub sized_ok : (name line : List ℕ) (n : ℕ) (v : List ℕ) → sized_at name n line ≡ Ok v → IsSizedField line name n v
-unfolding sized_at
-sized_ok name line n v e =
-    let b = bind_ok (hex_at name line) (λ bytes. cond (eqb (length bytes) n) (Ok bytes) (Err BadLength)) v e in
-    let g = guard_ok (eqb (length b.0) n) BadLength b.0 v b.2 in
-    record { field = subst (λ (x : List ℕ). IsHexField line name x) g.1 (hex_ok name line b.0 b.1); size = ap length (sym g.1) ∙ eqb-true _ _ g.0 }
+-- a field that was read stands on its line
+pub field_ok : (s : Suite) (f : Field) (line v : List ℕ) → field_at s f line ≡ Ok v → IsFieldLine s f line v
+unfolding field_at
+field_ok s f line v e =
+    let b = bind_ok (hex_at (field_name f) line) (λ bytes. cond (has_length (field_length s f) bytes) (Ok bytes) (Err BadLength)) v e in
+    let g = guard_ok (has_length (field_length s f) b.0) BadLength b.0 v b.2 in
+    record {
+      hex = subst (λ (x : List ℕ). IsHexField line (field_name f) x) g.1 (hex_ok (field_name f) line b.0 b.1);
+      size = subst (λ (x : List ℕ). has_length (field_length s f) x ≡ true) g.1 g.0;
+    }
 
--- equal numbers pass the test
-eqb_same : (m n : ℕ) → m ≡ n → eqb m n ≡ true
-eqb_same m n e = grind arith
+-- the line of a field is read
+pub field_again : (s : Suite) (f : Field) (line v : List ℕ) → IsFieldLine s f line v → field_at s f line ≡ Ok v
+unfolding field_at
+field_again s f line v h = rw (hex_again (field_name f) line v h.hex, h.size) refl
 
--- a value line of n bytes is read
-pub sized_again : (name line : List ℕ) (n : ℕ) (v : List ℕ) → IsSizedField line name n v → sized_at name n line ≡ Ok v
-unfolding sized_at
-sized_again name line n v h = rw (hex_again name line v h.field, eqb_same (length v) n h.size) refl
+-- what a format that was read shows of its line
+format_found : (v : Option (List ℕ × List ℕ)) (F : Format) → format_of v ≡ Ok F → (name : List ℕ) × (v ≡ Some (codes "format", name)) × (format_named name ≡ Some F)
+format_found None F e = absurd cc
+format_found (Some f) F e = by_name (bytes_eq f.0 (codes "format")) refl e where
+  by_name : (b : Bool) → bytes_eq f.0 (codes "format") ≡ b → cond b (ok_or BadFormat (format_named f.1)) (Err BadFormat) ≡ Ok F
+      → (name : List ℕ) × (Some f ≡ Some (codes "format", name)) × (format_named name ≡ Some F)
+  by_name true is e = (f.1, ap (λ (x : List ℕ). Some (x, f.1)) ((bytes_eq-Decides f.0 (codes "format")).0 is), found_ok BadFormat (format_named f.1) F e)
+  by_name false is e = absurd cc
 
--- a known suite is the one that was found
-known_ok : (f : Option Suite) (s : Suite) → known_suite f ≡ Ok s → f ≡ Some s
-known_ok None s e = absurd cc
-known_ok (Some t) s e = cc
+-- a format that was read stands on a format line
+pub format_ok : (line : List ℕ) (F : Format) → format_at line ≡ Ok F → IsFormatLine line F
+unfolding format_at
+format_ok line F e = let h = format_found (value_line line) F e in record { name = h.0; field = h.1; known = h.2 }
+
+-- a format line is read
+pub format_again : (line : List ℕ) (F : Format) → IsFormatLine line F → format_at line ≡ Ok F
+unfolding format_at
+format_again line F h = ap format_of h.field ∙ ap (ok_or BadFormat) h.known
 
 -- a suite that was read stands on a suite line
-pub suite_ok : (line : List ℕ) (s : Suite) → suite_at line ≡ Ok s → IsSuiteLine line s
+pub suite_ok : (F : Format) (line : List ℕ) (s : Suite) → suite_at F line ≡ Ok s → IsSuiteLine F line s
 unfolding suite_at
-suite_ok line s e =
-    let b = bind_ok (value_at (codes "suite") line) (λ name. known_suite (suite_named name)) s e in
-    record { name = b.0; field = value_ok (codes "suite") line b.0 b.1; known = known_ok (suite_named b.0) s b.2 }
+suite_ok F line s e =
+    let b = bind_ok (value_at (codes "suite") line) (λ name. ok_or UnknownSuite (suite_named F name)) s e in
+    record { name = b.0; field = value_ok (codes "suite") line b.0 b.1; known = found_ok UnknownSuite (suite_named F b.0) s b.2 }
 
 -- a suite line is read
-pub suite_again : (line : List ℕ) (s : Suite) → IsSuiteLine line s → suite_at line ≡ Ok s
+pub suite_again : (F : Format) (line : List ℕ) (s : Suite) → IsSuiteLine F line s → suite_at F line ≡ Ok s
 unfolding suite_at
-suite_again line s h = rw (value_again (codes "suite") line h.name h.field, h.known) refl
+suite_again F line s h = rw (value_again (codes "suite") line h.name h.field, h.known) refl
 
--- an end line that was read, by the test for the word `invalid`
-end_cases : (b : Bool) (line : List ℕ) (t : Option (List ℕ)) → bytes_eq line (codes "invalid") ≡ b → cond b (Ok None) (hex_at (codes "text") line >>= λ bytes. Ok (Some bytes)) ≡ Ok t → IsEndLine line t
-end_cases true line t is e =
-    let none : None ≡ t = cc in
-    let same : codes "invalid" ≡ line = sym ((bytes_eq-Decides line (codes "invalid")).0 is) in
-    subst (λ (x : List ℕ). IsEndLine x t) same (subst (λ (x : Option (List ℕ)). IsEndLine (codes "invalid") x) none invalid)
-end_cases false line t is e =
-    let b = bind_ok (hex_at (codes "text") line) (λ bytes. Ok (Some bytes)) t e in
-    let some : Some b.0 ≡ t = let f = b.2 in cc in
-    subst (λ (x : Option (List ℕ)). IsEndLine line x) some (text (hex_ok (codes "text") line b.0 b.1))
+-- ---- the end of a record
 
--- an end that was read stands on an end line
-pub end_ok : (line : List ℕ) (t : Option (List ℕ)) → end_at line ≡ Ok t → IsEndLine line t
+-- a place, and the records that ended before it
+abbrev pub Next : Type 0
+Next = Place × List Record
+
+-- a text line that was read
+pub text_ok : (F : Format) (r : Record) (line : List ℕ) (x : Next) → text_at F r line ≡ Ok x
+    → (v : List ℕ) × IsHexField line (codes "text") v × (◌≡◌ {A = Next} (steps.between F, with_text (Some v) r ∷ []) x)
+unfolding text_at
+text_ok F r line x e =
+    let b = bind_ok (hex_at (codes "text") line) (λ bytes. Ok (steps.between F, with_text (Some bytes) r ∷ [])) x e in
+    (b.0, hex_ok (codes "text") line b.0 b.1, ok_is (steps.between F, with_text (Some b.0) r ∷ []) x b.2)
+
+-- a text line is read
+pub text_again : (F : Format) (r : Record) (line v : List ℕ) → IsHexField line (codes "text") v → text_at F r line ≡ Ok (steps.between F, with_text (Some v) r ∷ [])
+unfolding text_at
+text_again F r line v h = rw (hex_again (codes "text") line v h) refl
+
+-- a line of cuts that was read
+pub cuts_ok : (F : Format) (r : Record) (line : List ℕ) (x : Next) → cuts_at F r line ≡ Ok x → IsCutsLine r line × (◌≡◌ {A = Next} (steps.text F r, []) x)
+unfolding cuts_at
+cuts_ok F r line x e =
+    let b = bind_ok (value_at (codes "cuts") line) (λ value. cond (are_cuts (most_cut r) value) (Ok (steps.text F r, [])) (Err BadCuts)) x e in
+    let g = guard_ok {A = Next} (are_cuts (most_cut r) b.0) BadCuts (steps.text F r, []) x b.2 in
+    (record { value = b.0; field = value_ok (codes "cuts") line b.0 b.1; cuts = g.0 }, g.1)
+
+-- a line of cuts is read
+pub cuts_again : (F : Format) (r : Record) (line : List ℕ) → IsCutsLine r line → cuts_at F r line ≡ Ok (steps.text F r, [])
+unfolding cuts_at
+cuts_again F r line h = rw (value_again (codes "cuts") line h.value h.field, h.cuts) refl
+
+-- what the line behind all fields comes to
+pub data Ended (F : Format) (r : Record) (line : List ℕ) (x : Next) : Type 0 where
+  by_text : (text : Option (List ℕ)) → Ends F r (line ∷ []) text → ◌≡◌ {A = Next} (steps.between F, with_text text r ∷ []) x → Ended F r line x
+  by_cuts : may_cut F r.suite ≡ true → IsCutsLine r line → ◌≡◌ {A = Next} (steps.text F r, []) x → Ended F r line x
+
+-- the line behind all fields, as it was read
+pub end_ok : (F : Format) (r : Record) (line : List ℕ) (x : Next) → end_at F r line ≡ Ok x → Ended F r line x
 unfolding end_at
-end_ok line t e = end_cases (bytes_eq line (codes "invalid")) line t refl e
+end_ok F r line x e = by_word (bytes_eq line (codes "invalid")) refl e where
+  by_name : (b : Bool) → (may_cut F r.suite && is_named (codes "cuts") (value_line line)) ≡ b → cond b (cuts_at F r line) (text_at F r line) ≡ Ok x → Ended F r line x
+  by_name true is e =
+      let c = cuts_ok F r line x e in
+      by_cuts (and_parts (may_cut F r.suite) (is_named (codes "cuts") (value_line line)) is).0 c.0 c.1
+  by_name false is e = let t = text_ok F r line x e in by_text (Some t.0) (Ends.text_line t.1) t.2
+
+  by_word : (b : Bool) → bytes_eq line (codes "invalid") ≡ b
+      → cond b (Ok (steps.between F, with_text None r ∷ [])) (cond (may_cut F r.suite && is_named (codes "cuts") (value_line line)) (cuts_at F r line) (text_at F r line)) ≡ Ok x → Ended F r line x
+  by_word true is e =
+      by_text None (subst (λ (l : List ℕ). Ends F r (l ∷ []) None) (sym ((bytes_eq-Decides line (codes "invalid")).0 is)) Ends.invalid)
+      (ok_is (steps.between F, with_text None r ∷ []) x e)
+  by_word false is e = by_name (may_cut F r.suite && is_named (codes "cuts") (value_line line)) refl e
 
 -- the word `invalid` is no value line
 no_field : value_line (codes "invalid") ≡ None
@@ -123,15 +186,40 @@ no_field = refl
 none_some : (x : List ℕ × List ℕ) → None ≡ Some x → ⊥
 none_some x e = cc
 
--- a text line is not the word `invalid`
-differs : (line v : List ℕ) (b : Bool) → IsHexField line (codes "text") v → bytes_eq line (codes "invalid") ≡ b → b ≡ false
-differs line v true h is =
+-- a value line is not the word `invalid`
+pub differs : (line : List ℕ) (f : List ℕ × List ℕ) (b : Bool) → value_line line ≡ Some f → bytes_eq line (codes "invalid") ≡ b → b ≡ false
+differs line f true h is =
     let same : line ≡ codes "invalid" = (bytes_eq-Decides line (codes "invalid")).0 is in
-    absurd (none_some (codes "text", h.digits) (sym no_field ∙ ap value_line (sym same) ∙ h.field))
-differs line v false h is = refl
+    absurd (none_some f (sym no_field ∙ ap value_line (sym same) ∙ h))
+differs line f false h is = refl
 
--- an end line is read
-pub end_again : (line : List ℕ) (t : Option (List ℕ)) → IsEndLine line t → end_at line ≡ Ok t
+-- `text` is not the name `cuts`
+text_is_no_cuts : bytes_eq (codes "text") (codes "cuts") ≡ false
+text_is_no_cuts = refl
+
+-- and nothing
+and_false : (a b : Bool) → b ≡ false → (a && b) ≡ false
+and_false true b e = e
+and_false false b e = refl
+
+-- a text line behind all fields is read
+pub end_text : (F : Format) (r : Record) (line v : List ℕ) → IsHexField line (codes "text") v → end_at F r line ≡ Ok (steps.between F, with_text (Some v) r ∷ [])
 unfolding end_at
-end_again line (Some v) (text h) = rw (differs line v (bytes_eq line (codes "invalid")) h refl, hex_again (codes "text") line v h) refl
-end_again line None invalid = refl
+end_text F r line v h =
+    rw (
+      differs line (codes "text", h.digits) (bytes_eq line (codes "invalid")) h.field refl,
+      and_false (may_cut F r.suite) (is_named (codes "cuts") (value_line line)) (ap (is_named (codes "cuts")) h.field),
+    )
+    (text_again F r line v h)
+
+-- the word `invalid` is read
+pub end_invalid : (F : Format) (r : Record) → end_at F r (codes "invalid") ≡ Ok (steps.between F, with_text None r ∷ [])
+unfolding end_at
+end_invalid F r = refl
+
+-- a line of cuts is read
+pub end_cuts : (F : Format) (r : Record) (line : List ℕ) → may_cut F r.suite ≡ true → IsCutsLine r line → end_at F r line ≡ Ok (steps.text F r, [])
+unfolding end_at
+end_cuts F r line m h =
+    rw (differs line (codes "cuts", h.value) (bytes_eq line (codes "invalid")) h.field refl, m, ap (is_named (codes "cuts")) h.field)
+    (cuts_again F r line h)

@@ -3,13 +3,14 @@ use Rattle.std.proofs.Common.{◌≡◌, ◌≢◌, ℕ, ◌+◌, ◌≤◌, Boo
 use Rattle.std.proofs.lemmas.List.{nil_from_length}
 use Rattle.vectors.specs.declared.fault.Cause.{Cause}
 use Rattle.vectors.specs.Grammar.{Record}
-use Rattle.vectors.specs.Steps as steps
-use Rattle.vectors.specs.Steps.{Place, step}
+use Rattle.vectors.specs.Code.Steps as steps
+use Rattle.vectors.specs.Code.Steps.{Place, step}
 use Rattle.vectors.specs.Faults.{IsFaultAt, IsCutOff, is_inside}
 use Rattle.vectors.specs.Agreement.{Agrees, IsSized}
 use Rattle.vectors.proofs.Sizes.{last_read_sized}
 use Rattle.vectors.specs.Reports.IsBad.{ends, agrees, disagrees}
-use Rattle.vectors.proofs.ExpectedLemmas.{expected}
+use Rattle.vectors.specs.declared.suite.Format.{Format}
+use Rattle.vectors.proofs.Places.{expected}
 use Rattle.vectors.specs.Reports.{IsBad, Judges, IsReport}
 use Rattle.vectors.proofs.Progress.{Progress, begins, goes_on, shift, same, fault, is_file, cut_off, count_is}
 use Rattle.std.proofs.lemmas.List.{append-nil}
@@ -44,7 +45,7 @@ judged_more records more rs r bad worse c h (m, inl j) = subst (λ (b : List ℕ
 judged_more records more rs r bad worse c h (m, inr j) = subst (λ (b : List ℕ). IsBad 1 (rs ++ r ∷ []) b) (sym j.1) (bad_no 1 more rs r bad (omega arith) h j.0)
 
 -- no line was read
-pub start : (lines : List (List ℕ)) (bad : List ℕ) → bad ≡ [] → Judged lines lines 0 steps.format 0 bad
+pub start : (lines : List (List ℕ)) (bad : List ℕ) → bad ≡ [] → Judged lines lines 0 steps.start 0 bad
 start lines bad e = record { entries = []; progress = begins lines; count = refl; judged = subst (λ (b : List ℕ). IsBad 1 [] b) (sym e) ends; room = omega arith }
 
 -- a line that ends no record
@@ -75,18 +76,18 @@ pub at_fault : (lines other : List (List ℕ)) (l : List ℕ) (rest : List (List
 at_fault lines other l rest n p c records bad h e s = fault lines l rest n p h.entries c (shift lines other (l ∷ rest) n p h.entries h.progress e) s
 
 -- the report at the end of a file
-pub at_end : (lines other : List (List ℕ)) (n records : ℕ) (bad : List ℕ) → Judged lines other n steps.between records bad → other ≡ [] → records ≢ 0 → IsReport lines records bad
-at_end lines other n records bad h e some = record {
+pub at_end : (lines other : List (List ℕ)) (n records : ℕ) (bad : List ℕ) (F : Format) → Judged lines other n (steps.between F) records bad → other ≡ [] → records ≢ 0 → IsReport lines records bad
+at_end lines other n records bad F h e some = record {
   records = h.entries;
-  file = is_file lines n h.entries (shift lines other [] n steps.between h.entries h.progress e) (λ none. some (h.count ∙ ap length none));
+  file = is_file lines n F h.entries (shift lines other [] n (steps.between F) h.entries h.progress e) (λ none. some (h.count ∙ ap length none));
   count_is = h.count;
   judged = h.judged;
 }
 
 -- the fault of a file that was cut
-pub at_cut : (lines other : List (List ℕ)) (n : ℕ) (p : Place) (inside : Bool) (records : ℕ) (bad : List ℕ) → Judged lines other n p records bad → other ≡ [] → (p ≡ steps.between → records ≡ 0) → is_inside (expected p) ≡ inside → IsCutOff lines inside
+pub at_cut : (lines other : List (List ℕ)) (n : ℕ) (p : Place) (inside : Bool) (records : ℕ) (bad : List ℕ) → Judged lines other n p records bad → other ≡ [] → ((F : Format) → p ≡ steps.between F → records ≡ 0) → is_inside (expected p) ≡ inside → IsCutOff lines inside
 at_cut lines other n p inside records bad h e none is =
-    cut_off lines n p h.entries inside (shift lines other [] n p h.entries h.progress e) (λ b. nil_from_length h.entries (sym h.count ∙ none b)) is
+    cut_off lines n p h.entries inside (shift lines other [] n p h.entries h.progress e) (λ F b. nil_from_length h.entries (sym h.count ∙ none F b)) is
 
 -- at the end all lines are counted
 pub lines_read : (lines other : List (List ℕ)) (n : ℕ) (p : Place) (records : ℕ) (bad : List ℕ) → Judged lines other n p records bad → other ≡ [] → n ≡ length lines

@@ -1,12 +1,13 @@
 pub mod LineLemmas
 pub mod DigitLemmas
 pub mod FieldLemmas
-pub mod RunLemmas
-pub mod Viable
-pub mod ExpectedLemmas
+pub mod CutLemmas
+pub mod AgreeLemmas
+pub mod Runs
+pub mod Places
 pub mod OnlyExpected
+pub mod Viable
 pub mod RowLemmas
 pub mod Sizes
 pub mod Progress
 pub mod Judged
-pub mod AgreeLemmas

@@ -1,22 +1,27 @@
 -- Lines read so far, in a loop.
-use Rattle.std.proofs.Common.{◌≡◌, ◌≢◌, ℕ, ◌+◌, Bool, true, false, List, [], ◌∷◌, ◌++◌, length, Ok, Err, refl, sym, ap, ◌∙◌, subst, arith, append_assoc, length-append}
+use Rattle.std.proofs.Common.{◌≡◌, ◌≢◌, ℕ, ◌+◌, Bool, true, false, cond, List, [], ◌∷◌, ◌++◌, length, Ok, Err, refl, sym, ap, ◌∙◌, subst, arith, append_assoc, length-append}
 use Rattle.std.proofs.lemmas.List.{append-nil}
 use Rattle.vectors.specs.declared.fault.Cause.{Cause}
 use Rattle.vectors.specs.Grammar.{Record, IsFile, IsViable}
-use Rattle.vectors.specs.Steps as steps
+use Rattle.vectors.specs.Code.Steps as steps
 use Rattle.vectors.specs.declared.place.Place as program
-use Rattle.vectors.specs.declared.place.Place.TheVariants.{Format, Between, Key, Nonce, Aad, Sealed, End}
-use Rattle.vectors.specs.Views.{view}
-use Rattle.vectors.specs.Steps.{Place, step, run}
+use Rattle.vectors.specs.declared.place.Place.TheVariants.{Start, Between, Fields, Text}
+use Rattle.vectors.specs.Code.Views.{view}
+use Rattle.vectors.specs.Code.Steps.{Place, step, run}
 use Rattle.vectors.specs.Faults.{IsFaultAt, IsCutOff, IsFaultOf, is_inside}
 use Rattle.vectors.specs.Reports.{IsReported}
 use Rattle.vectors.specs.declared.fault.Cause.TheVariants as cause
 use Rattle.vectors.specs.declared.fault.VectorFault.{VectorFault}
-use Rattle.vectors.specs.declared.fault.VectorFault.TheVariants.{BadFormat, BadLine, WrongName, UnknownSuite, BadHex, BadLength, NoRecords, Unfinished, OutOfMemory}
+use Rattle.vectors.specs.declared.fault.VectorFault.TheVariants.{BadFormat, BadLine, WrongName, UnknownSuite, BadHex, BadLength, BadCuts, NoRecords, Unfinished, OutOfMemory}
 use Rattle.std.specs.Prelude.{Result, IfErr}
-use Rattle.vectors.proofs.RunLemmas.{ok_is, Read, behind, behind-Ok, run-cons, run-empty, run-append, run-front, complete_file, sound_file}
+use Rattle.vectors.specs.declared.suite.Format.{Format}
+use Rattle.vectors.specs.declared.suite.Field.{Field}
+use Rattle.vectors.specs.Grammar.{may_cut, most_cut}
+use Rattle.vectors.specs.Faults as faults
+use Rattle.vectors.proofs.FieldLemmas.{ok_is}
+use Rattle.vectors.proofs.Runs.{Read, behind, run-empty, run-append, run-front, both, one, complete}
 use Rattle.vectors.proofs.Viable.{viable, viable_reads}
-use Rattle.vectors.proofs.ExpectedLemmas.{expected, expects}
+use Rattle.vectors.proofs.Places.{expected, expects, lines_at}
 use Rattle.vectors.proofs.OnlyExpected.{only_expected}
 use Rattle.vectors.proofs.RowLemmas.{wrong}
 
@@ -25,22 +30,21 @@ pub record Progress (lines rest : List (List ℕ)) (n : ℕ) (p : Place) (rs : L
   pub before : List (List ℕ)
   pub whole : lines ≡ before ++ rest
   pub number : length before ≡ n
-  pub read : run steps.format before ≡ Ok (p, rs)
+  pub read : run steps.start before ≡ Ok (p, rs)
 
 -- at the start no line was read
-pub begins : (lines : List (List ℕ)) → Progress lines lines 0 steps.format []
-begins lines = record { before = []; whole = refl; number = refl; read = run-empty steps.format }
+pub begins : (lines : List (List ℕ)) → Progress lines lines 0 steps.start []
+begins lines = record { before = []; whole = refl; number = refl; read = run-empty steps.start }
 
 -- one more line
 pub goes_on : (lines : List (List ℕ)) (l : List ℕ) (rest : List (List ℕ)) (n : ℕ) (p q : Place) (rs made : List Record)
     → Progress lines (l ∷ rest) n p rs → step p l ≡ Ok (q, made) → Progress lines rest (n + 1) q (rs ++ made)
 goes_on lines l rest n p q rs made h e =
-    let one_more : run p (l ∷ []) ≡ Ok (q, made) = run-cons p l [] (q, made) e ∙ behind-Ok made (run q []) (q, []) (run-empty q) ∙ ap (λ (y : List Record). Ok (q, y)) (append-nil made) in
     record {
       before = h.before ++ l ∷ [];
       whole = h.whole ∙ sym (append_assoc h.before (l ∷ []) rest);
       number = omega (arith, length-append h.before (l ∷ []), h.number);
-      read = run-append steps.format h.before (l ∷ []) (p, rs) h.read ∙ behind-Ok rs (run p (l ∷ [])) (q, made) one_more;
+      read = both steps.start p h.before (l ∷ []) q rs made h.read (one p q l made e);
     }
 
 -- a line at which the step fails
@@ -54,15 +58,15 @@ no_read rs (Ok y) c x e h = cc
 no_read rs (Err d) c x e h = cc
 
 -- a line at which the step fails is no line of a viable front
-stuck : (before : List (List ℕ)) (l : List ℕ) (p : Place) (rs : List Record) (c : Cause) → run steps.format before ≡ Ok (p, rs) → step p l ≡ Err c → IsViable (before ++ l ∷ []) → ⊥
+stuck : (before : List (List ℕ)) (l : List ℕ) (p : Place) (rs : List Record) (c : Cause) → run steps.start before ≡ Ok (p, rs) → step p l ≡ Err c → IsViable (before ++ l ∷ []) → ⊥
 stuck before l p rs c h e v =
     let r = viable_reads (before ++ l ∷ []) v in
-    no_read rs (run p (l ∷ [])) c r.0 (run-err p l [] c e) (sym (run-append steps.format before (l ∷ []) (p, rs) h) ∙ r.1)
+    no_read rs (run p (l ∷ [])) c r.0 (run-err p l [] c e) (sym (run-append steps.start before (l ∷ []) (p, rs) h) ∙ r.1)
 
 -- each front of lines that were read is viable
-fronts : (ls : List (List ℕ)) (x : Place × List Record) → run steps.format ls ≡ Ok x → (front rest : List (List ℕ)) → ls ≡ front ++ rest → IsViable front
+fronts : (ls : List (List ℕ)) (x : Place × List Record) → run steps.start ls ≡ Ok x → (front rest : List (List ℕ)) → ls ≡ front ++ rest → IsViable front
 fronts ls x h front rest e =
-    let f = run-front steps.format front rest x (ap (run steps.format) (sym e) ∙ h) in
+    let f = run-front steps.start front rest x (ap (run steps.start) (sym e) ∙ h) in
     viable front f.0 f.1
 
 -- the fault at the line at which the step fails
@@ -84,16 +88,16 @@ fault lines l rest n p rs c h e =
     }
 
 -- at the end all lines were read
-all_read : (lines : List (List ℕ)) (n : ℕ) (p : Place) (rs : List Record) → Progress lines [] n p rs → run steps.format lines ≡ Ok (p, rs)
-all_read lines n p rs h = ap (run steps.format) (h.whole ∙ append-nil h.before) ∙ h.read
+all_read : (lines : List (List ℕ)) (n : ℕ) (p : Place) (rs : List Record) → Progress lines [] n p rs → run steps.start lines ≡ Ok (p, rs)
+all_read lines n p rs h = ap (run steps.start) (h.whole ∙ append-nil h.before) ∙ h.read
 
 -- and counted
 pub count_is : (lines : List (List ℕ)) (n : ℕ) (p : Place) (rs : List Record) → Progress lines [] n p rs → length lines ≡ n
 count_is lines n p rs h = ap length (h.whole ∙ append-nil h.before) ∙ h.number
 
 -- between records, at least one, the lines are a file
-pub is_file : (lines : List (List ℕ)) (n : ℕ) (rs : List Record) → Progress lines [] n steps.between rs → rs ≢ [] → IsFile lines rs
-is_file lines n rs h some = record { formatted = sound_file lines rs (all_read lines n steps.between rs h); some = some }
+pub is_file : (lines : List (List ℕ)) (n : ℕ) (F : Format) (rs : List Record) → Progress lines [] n (steps.between F) rs → rs ≢ [] → IsFile lines rs
+is_file lines n F rs h some = record { format = F; formatted = lines_at lines (steps.between F, rs) (all_read lines n (steps.between F) rs h); some = some }
 
 -- equal readings have equal parts
 pair_is : (p q : Place) (rs ss : List Record) → ◌≡◌ {A = Read} (Ok (p, rs)) (Ok (q, ss)) → (p ≡ q) × (rs ≡ ss)
@@ -101,17 +105,13 @@ pair_is p q rs ss e =
     let same = ok_is (p, rs) (q, ss) e in
     (ap (λ (x : Place × List Record). x.0) same, ap (λ (x : Place × List Record). x.1) same)
 
--- a file has one list of records
-pub one_reading : (lines : List (List ℕ)) (rs ss : List Record) → IsFile lines rs → IsFile lines ss → rs ≡ ss
-one_reading lines rs ss a b = (pair_is steps.between steps.between rs ss (sym (complete_file lines rs a.formatted) ∙ complete_file lines ss b.formatted)).1
-
 -- elsewhere they are cut off
-pub cut_off : (lines : List (List ℕ)) (n : ℕ) (p : Place) (rs : List Record) (inside : Bool) → Progress lines [] n p rs → (p ≡ steps.between → rs ≡ []) → is_inside (expected p) ≡ inside → IsCutOff lines inside
+pub cut_off : (lines : List (List ℕ)) (n : ℕ) (p : Place) (rs : List Record) (inside : Bool) → Progress lines [] n p rs → ((F : Format) → p ≡ steps.between F → rs ≡ []) → is_inside (expected p) ≡ inside → IsCutOff lines inside
 cut_off lines n p rs inside h none is =
     let read = all_read lines n p rs h in
     record {
       viable = fronts lines (p, rs) read;
-      no_file = λ ss file. let same = pair_is p steps.between rs ss (sym read ∙ complete_file lines ss file.formatted) in file.some (sym same.1 ∙ none same.0);
+      no_file = λ ss file. let same = pair_is p (steps.between file.format) rs ss (sym read ∙ complete file.format lines ss file.formatted) in file.some (sym same.1 ∙ none file.format same.0);
       expected = expected p;
       expects = expects lines (p, rs) read;
       only = λ e. only_expected lines (p, rs) e read;
@@ -121,8 +121,9 @@ cut_off lines n p rs inside h none is =
 -- a file has no fault
 pub no_fault : (lines : List (List ℕ)) (n : ℕ) (c : Cause) (rs : List Record) → IsFaultAt lines n c → IsFile lines rs → ⊥
 no_fault lines n c rs f file =
-    let whole : run steps.format ((f.before ++ f.line ∷ []) ++ f.after) ≡ Ok (steps.between, rs) = ap (run steps.format) (append_assoc f.before (f.line ∷ []) f.after ∙ sym f.whole) ∙ complete_file lines rs file.formatted in
-    let front = run-front steps.format (f.before ++ f.line ∷ []) f.after (steps.between, rs) whole in
+    let whole : run steps.start ((f.before ++ f.line ∷ []) ++ f.after) ≡ Ok (steps.between file.format, rs) =
+    ap (run steps.start) (append_assoc f.before (f.line ∷ []) f.after ∙ sym f.whole) ∙ complete file.format lines rs file.formatted in
+    let front = run-front steps.start (f.before ++ f.line ∷ []) f.after (steps.between file.format, rs) whole in
     f.faulty (viable (f.before ++ f.line ∷ []) front.0 front.1)
 
 -- the same lines are left
@@ -133,26 +134,33 @@ shift lines rest other n p rs h e = subst (λ (x : List (List ℕ)). Progress li
 pub same : (lines rest : List (List ℕ)) (n : ℕ) (p : Place) (rs ss : List Record) → Progress lines rest n p rs → rs ≡ ss → Progress lines rest n p ss
 same lines rest n p rs ss h e = subst (λ (x : List Record). Progress lines rest n p x) e h
 
+-- behind all fields is inside a record
+inside_end : (m : Bool) (most : ℕ) → is_inside (cond m (faults.cuts_or_end most) faults.end_line) ≡ true
+inside_end true most = refl
+inside_end false most = refl
+
+-- and so is each field
+inside_fields : (F : Format) (left : List Field) (r : Record) → is_inside (expected (steps.fields F left r)) ≡ true
+inside_fields F [] r = inside_end (may_cut F r.suite) (most_cut r)
+inside_fields F (f ∷ fs) r = refl
+
 -- a place that is neither of the first two is inside a record
-pub inside_is : (p : program.Place) → p ≢ Format → p ≢ Between → is_inside (expected (view p)) ≡ true
-inside_is Format f b = absurd (f refl)
-inside_is Between f b = absurd (b refl)
-inside_is (Key s) f b = refl
-inside_is (Nonce s k) f b = refl
-inside_is (Aad s k n) f b = refl
-inside_is (Sealed s k n a) f b = refl
-inside_is (End s k n a x) f b = refl
+pub inside_is : (p : program.Place) → p ≢ Start → ((F : Format) → p ≢ Between F) → is_inside (expected (view p)) ≡ true
+inside_is Start f b = absurd (f refl)
+inside_is (Between F) f b = absurd (b F refl)
+inside_is (Fields F left e) f b = inside_fields F left.now _
+inside_is (Text F e) f b = refl
 
 -- which has no end there
-pub not_between : (p : Place) → is_inside (expected p) ≡ true → p ≢ steps.between
-not_between p is e = no_true (sym is ∙ ap (λ q. is_inside (expected q)) e) where
+pub not_between : (p : Place) (F : Format) → is_inside (expected p) ≡ true → p ≢ steps.between F
+not_between p F is e = no_true (sym is ∙ ap (λ q. is_inside (expected q)) e) where
   no_true : true ≡ false → ⊥
   no_true h = cc
 
 -- before the format line is not between records
-pub not_format : (p : Place) → p ≡ steps.format → p ≢ steps.between
-not_format p f b = apart (sym f ∙ b) where
-  apart : steps.format ≡ steps.between → ⊥
+pub not_start : (p : Place) (F : Format) → p ≡ steps.start → p ≢ steps.between F
+not_start p F f b = apart (sym f ∙ b) where
+  apart : steps.start ≡ steps.between F → ⊥
   apart h = cc
 
 -- a file has no first fault, so it is reported or memory was refused
@@ -164,6 +172,7 @@ reported lines records (Err (WrongName n)) file h = absurd (no_fault lines n cau
 reported lines records (Err (UnknownSuite n)) file h = absurd (no_fault lines n cause.UnknownSuite records h file)
 reported lines records (Err (BadHex n)) file h = absurd (no_fault lines n cause.BadHex records h file)
 reported lines records (Err (BadLength n)) file h = absurd (no_fault lines n cause.BadLength records h file)
+reported lines records (Err (BadCuts n)) file h = absurd (no_fault lines n cause.BadCuts records h file)
 reported lines records (Err NoRecords) file h = absurd (h.no_file records file)
 reported lines records (Err (Unfinished n)) file h = absurd (h.0.no_file records file)
 reported lines records (Err OutOfMemory) file h = refl

@@ -1,20 +1,20 @@
 -- A line that can't be read is at fault by the table.
-use Rattle.std.proofs.Common.{◌≡◌, ℕ, Bool, true, false, cond, eqb, not, List, length, [], ◌∷◌, Option, Some, None, Result, Ok, Err}
-use Rattle.std.specs.Prelude.{codes, is_none, ◌&&◌, ◌||◌}
+use Rattle.std.proofs.Common.{◌≡◌, ℕ, Bool, true, false, cond, not, List, [], ◌∷◌, Option, Some, None, Result, Ok, Err, refl, sym, ap, ◌∙◌, subst}
+use Rattle.std.specs.Prelude.{codes, is_none, is_some, ◌&&◌, ◌||◌}
 use Rattle.std.specs.Str.{bytes_eq}
 use Rattle.vectors.specs.declared.fault.Cause.{Cause}
-use Rattle.vectors.specs.declared.fault.Cause.TheVariants.{BadFormat, BadLine, WrongName, UnknownSuite, BadHex, BadLength}
+use Rattle.vectors.specs.declared.fault.Cause.TheVariants.{BadFormat, BadLine, WrongName, UnknownSuite, BadHex, BadLength, BadCuts}
+use Rattle.vectors.specs.declared.suite.Format.{Format}
 use Rattle.vectors.specs.declared.suite.Suite.{Suite}
-use Rattle.vectors.specs.Suites.{suite_named, key_bytes}
-use Rattle.vectors.specs.Grammar.{Record, is_gap, value_line}
-use Rattle.vectors.specs.Faults.{is_hex, bytes_of, is_format, first_fitting, value_rows, sized_rows, is_misnamed, is_no_suite, is_no_hex, rows}
-use Rattle.vectors.specs.Steps as steps
-use Rattle.vectors.specs.Steps.{◌>>=◌, Place, named_value, value_at, hex_at, sized_at, known_suite, suite_at, end_at, after_key, step}
-use Rattle.vectors.proofs.ExpectedLemmas.{expected}
-
--- a place, and the records that were read
-abbrev Step : Type 0
-Step = Place × List Record
+use Rattle.vectors.specs.Suites.{format_named, suite_named, fields_of, field_name, field_length}
+use Rattle.vectors.specs.Cuts.{are_cuts}
+use Rattle.vectors.specs.Grammar.{Record, is_gap, value_line, has_length, may_cut, most_cut, unread, with_field, with_text}
+use Rattle.vectors.specs.Faults.{cuts_or_end, end_line, is_hex, bytes_of, is_format, first_fitting, value_rows, is_named, is_misnamed, value_fails, rows}
+use Rattle.vectors.specs.Code.Steps as steps
+use Rattle.vectors.specs.Code.Steps.{◌>>=◌, Place, named_value, value_at, hex_at, field_at, ok_or, format_of, format_at, suite_at, text_at, cuts_at, end_at, step}
+use Rattle.std.proofs.lemmas.Slice.Eq.{bytes_eq-Decides}
+use Rattle.vectors.proofs.FieldLemmas.{Next}
+use Rattle.vectors.proofs.Places.{expected}
 
 -- a fault before a step that has none
 bind_err : {A B : Type 0} (r : Result A Cause) (f : A → B) (c : Cause) → (r >>= λ x. Ok (f x)) ≡ Err c → r ≡ Err c
@@ -41,8 +41,8 @@ hex_rows name None c e = cc
 hex_rows name (Some f) c e = name_row (bytes_eq f.0 name) f.1 c e
 
 -- the same with a length
-abbrev sized : ℕ → List ℕ → Result (List ℕ) Cause
-sized n bytes = cond (eqb (length bytes) n) (Ok bytes) (Err BadLength)
+abbrev sized : Option ℕ → List ℕ → Result (List ℕ) Cause
+sized n bytes = cond (has_length n bytes) (Ok bytes) (Err BadLength)
 
 -- the row of the length
 size_row : (b : Bool) (bytes : List ℕ) (c : Cause) → cond b (Ok bytes) (Err BadLength) ≡ Err c → first_fitting ((not b, BadLength) ∷ []) ≡ Some c
@@ -50,67 +50,146 @@ size_row true bytes c e = absurd cc
 size_row false bytes c e = cc
 
 -- the rows of the digits and the length
-sized_hex_row : (n : ℕ) (b : Bool) (bytes : List ℕ) (c : Cause) → (cond b (Ok bytes) (Err BadHex) >>= sized n) ≡ Err c → first_fitting ((not b, BadHex) ∷ (not (eqb (length bytes) n), BadLength) ∷ []) ≡ Some c
-sized_hex_row n true bytes c e = size_row (eqb (length bytes) n) bytes c e
+sized_hex_row : (n : Option ℕ) (b : Bool) (bytes : List ℕ) (c : Cause) → (cond b (Ok bytes) (Err BadHex) >>= sized n) ≡ Err c → first_fitting ((not b, BadHex) ∷ (not (has_length n bytes), BadLength) ∷ []) ≡ Some c
+sized_hex_row n true bytes c e = size_row (has_length n bytes) bytes c e
 sized_hex_row n false bytes c e = cc
 
 -- the rows of the name, the digits and the length
-sized_name_row : (n : ℕ) (b : Bool) (digits : List ℕ) (c : Cause) → ((cond b (Ok digits) (Err WrongName) >>= bytes_at) >>= sized n) ≡ Err c
-    → first_fitting ((not b, WrongName) ∷ (not (is_hex digits), BadHex) ∷ (not (eqb (length (bytes_of digits)) n), BadLength) ∷ []) ≡ Some c
+sized_name_row : (n : Option ℕ) (b : Bool) (digits : List ℕ) (c : Cause) → ((cond b (Ok digits) (Err WrongName) >>= bytes_at) >>= sized n) ≡ Err c
+    → first_fitting ((not b, WrongName) ∷ (not (is_hex digits), BadHex) ∷ (not (has_length n (bytes_of digits)), BadLength) ∷ []) ≡ Some c
 sized_name_row n true digits c e = sized_hex_row n (is_hex digits) (bytes_of digits) c e
 sized_name_row n false digits c e = cc
 
--- all rows of a value of n bytes
-size_rows : (name : List ℕ) (n : ℕ) (f : Option (List ℕ × List ℕ)) (c : Cause) → ((named_value name f >>= bytes_at) >>= sized n) ≡ Err c → first_fitting (sized_rows name n f) ≡ Some c
-size_rows name n None c e = cc
-size_rows name n (Some f) c e = sized_name_row n (bytes_eq f.0 name) f.1 c e
+-- all rows of a field
+field_rows : (name : List ℕ) (n : Option ℕ) (f : Option (List ℕ × List ℕ)) (c : Cause) → ((named_value name f >>= bytes_at) >>= sized n) ≡ Err c
+    → first_fitting ((is_none f, BadLine) ∷ (is_misnamed name f, WrongName) ∷ (value_fails is_hex f, BadHex) ∷ (value_fails (λ digits. has_length n (bytes_of digits)) f, BadLength) ∷ []) ≡ Some c
+field_rows name n None c e = cc
+field_rows name n (Some f) c e = sized_name_row n (bytes_eq f.0 name) f.1 c e
 
 -- the rows of a suite line
-known_row : (s : Option Suite) (c : Cause) → known_suite s ≡ Err c → first_fitting ((is_none s, UnknownSuite) ∷ []) ≡ Some c
+known_row : (s : Option Suite) (c : Cause) → ok_or UnknownSuite s ≡ Err c → first_fitting ((not (is_some s), UnknownSuite) ∷ []) ≡ Some c
 known_row None c e = cc
 known_row (Some s) c e = absurd cc
 
 -- the rows of the name and the suite
-suite_row : (b : Bool) (name : List ℕ) (c : Cause) → (cond b (Ok name) (Err WrongName) >>= λ x. known_suite (suite_named x)) ≡ Err c → first_fitting ((not b, WrongName) ∷ (is_none (suite_named name), UnknownSuite) ∷ []) ≡ Some c
-suite_row true name c e = known_row (suite_named name) c e
-suite_row false name c e = cc
+suite_row : (F : Format) (b : Bool) (name : List ℕ) (c : Cause) → (cond b (Ok name) (Err WrongName) >>= λ x. ok_or UnknownSuite (suite_named F x)) ≡ Err c
+    → first_fitting ((not b, WrongName) ∷ (not (is_some (suite_named F name)), UnknownSuite) ∷ []) ≡ Some c
+suite_row F true name c e = known_row (suite_named F name) c e
+suite_row F false name c e = cc
 
 -- all rows of a suite line
-suite_rows : (f : Option (List ℕ × List ℕ)) (c : Cause) → (named_value (codes "suite") f >>= λ x. known_suite (suite_named x)) ≡ Err c
-    → first_fitting ((is_none f, BadLine) ∷ (is_misnamed (codes "suite") f, WrongName) ∷ (is_no_suite f, UnknownSuite) ∷ []) ≡ Some c
-suite_rows None c e = cc
-suite_rows (Some f) c e = suite_row (bytes_eq f.0 (codes "suite")) f.1 c e
+suite_rows : (F : Format) (f : Option (List ℕ × List ℕ)) (c : Cause) → (named_value (codes "suite") f >>= λ x. ok_or UnknownSuite (suite_named F x)) ≡ Err c
+    → first_fitting ((is_none f, BadLine) ∷ (is_misnamed (codes "suite") f, WrongName) ∷ (value_fails (λ name. is_some (suite_named F name)) f, UnknownSuite) ∷ []) ≡ Some c
+suite_rows F None c e = cc
+suite_rows F (Some f) c e = suite_row F (bytes_eq f.0 (codes "suite")) f.1 c e
 
 -- the same where a blank line or a comment may stand
-between_rows : (gap : Bool) (f : Option (List ℕ × List ℕ)) (c : Cause) → cond {A = Result Step Cause} gap (Ok (steps.between, [])) ((named_value (codes "suite") f >>= λ x. known_suite (suite_named x)) >>= λ s. Ok (steps.key s, [])) ≡ Err c
-    → first_fitting ((not gap && is_none f, BadLine) ∷ (is_misnamed (codes "suite") f, WrongName) ∷ (is_no_suite f, UnknownSuite) ∷ []) ≡ Some c
-between_rows true f c e = absurd cc
-between_rows false f c e = suite_rows f c (bind_err (named_value (codes "suite") f >>= λ x. known_suite (suite_named x)) (λ s. (steps.key s, [])) c e)
+between_rows : (F : Format) (gap : Bool) (f : Option (List ℕ × List ℕ)) (c : Cause)
+    → cond {A = Result Next Cause} gap (Ok (steps.between F, [])) ((named_value (codes "suite") f >>= λ x. ok_or UnknownSuite (suite_named F x)) >>= λ s. Ok (steps.fields F (fields_of s) (unread s), [])) ≡ Err c
+    → first_fitting ((not gap && is_none f, BadLine) ∷ (is_misnamed (codes "suite") f, WrongName) ∷ (value_fails (λ name. is_some (suite_named F name)) f, UnknownSuite) ∷ []) ≡ Some c
+between_rows F true f c e = absurd cc
+between_rows F false f c e =
+    suite_rows F f c (bind_err (named_value (codes "suite") f >>= λ x. ok_or UnknownSuite (suite_named F x)) (λ s. (steps.fields F (fields_of s) (unread s), [])) c e)
 
--- the rows of an end line
-end_rows : (invalid : Bool) (f : Option (List ℕ × List ℕ)) (c : Cause) → cond invalid (Ok None) ((named_value (codes "text") f >>= bytes_at) >>= λ bytes. Ok (Some bytes)) ≡ Err c
-    → first_fitting ((not invalid && is_none f, BadLine) ∷ (is_misnamed (codes "text") f, WrongName) ∷ (is_no_hex f, BadHex) ∷ []) ≡ Some c
-end_rows true f c e = absurd cc
-end_rows false f c e = hex_rows (codes "text") f c (bind_err (named_value (codes "text") f >>= bytes_at) (λ bytes. Some bytes) c e)
+-- the row of the format's name
+format_row : (b : Bool) (n : Option Format) (c : Cause) → cond b (ok_or BadFormat n) (Err BadFormat) ≡ Err c → first_fitting ((not (b && is_some n), BadFormat) ∷ []) ≡ Some c
+format_row true None c e = cc
+format_row true (Some F) c e = absurd cc
+format_row false n c e = cc
 
 -- the row of the format line
-format_row : (gap is : Bool) (c : Cause) → cond {A = Result Step Cause} gap (Ok (steps.format, [])) (cond is (Ok (steps.between, [])) (Err BadFormat)) ≡ Err c → first_fitting ((not (gap || is), BadFormat) ∷ []) ≡ Some c
-format_row true is c e = absurd cc
-format_row false true c e = absurd cc
-format_row false false c e = cc
+format_rows : (gap : Bool) (f : Option (List ℕ × List ℕ)) (c : Cause) → cond {A = Result Next Cause} gap (Ok (steps.start, [])) (format_of f >>= λ F. Ok (steps.between F, [])) ≡ Err c
+    → first_fitting ((not (gap || is_format f), BadFormat) ∷ []) ≡ Some c
+format_rows true f c e = absurd cc
+format_rows false None c e = cc
+format_rows false (Some f) c e = format_row (bytes_eq f.0 (codes "format")) (format_named f.1) c (bind_err (format_of (Some f)) (λ F. (steps.between F, [])) c e)
+
+-- ---- the line behind all fields
+
+-- what the bytes of a text line lead to
+abbrev text_behind : Format → Record → Result (List ℕ) Cause → Result Next Cause
+text_behind F r read = read >>= λ bytes. Ok (steps.between F, with_text (Some bytes) r ∷ [])
+
+-- what a text line leads to
+abbrev text_next : Format → Record → Option (List ℕ × List ℕ) → Result Next Cause
+text_next F r f = text_behind F r (named_value (codes "text") f >>= bytes_at)
+
+-- and a line of cuts
+abbrev cuts_next : Format → Record → Option (List ℕ × List ℕ) → Result Next Cause
+cuts_next F r f = named_value (codes "cuts") f >>= λ value. cond (are_cuts (most_cut r) value) (Ok (steps.text F r, [])) (Err BadCuts)
+
+-- the rows where no cuts may stand
+end_rows : (F : Format) (r : Record) (invalid : Bool) (f : Option (List ℕ × List ℕ)) (c : Cause) → cond invalid (Ok (steps.between F, with_text None r ∷ [])) (text_next F r f) ≡ Err c
+    → first_fitting ((not invalid && is_none f, BadLine) ∷ (is_misnamed (codes "text") f, WrongName) ∷ (value_fails is_hex f, BadHex) ∷ []) ≡ Some c
+end_rows F r true f c e = absurd cc
+end_rows F r false f c e = hex_rows (codes "text") f c (bind_err (named_value (codes "text") f >>= bytes_at) (λ bytes. (steps.between F, with_text (Some bytes) r ∷ [])) c e)
+
+-- a line of cuts is no text line
+no_text : (name : List ℕ) (t : Bool) → bytes_eq name (codes "cuts") ≡ true → bytes_eq name (codes "text") ≡ t → t ≡ false
+no_text name t k e = sym e ∙ ap (λ (x : List ℕ). bytes_eq x (codes "text")) ((bytes_eq-Decides name (codes "cuts")).0 k)
+
+-- the rows of the names, the digits and the cuts
+names_rows : (t k hex cuts : Bool) (c : Cause) → Type 0
+names_rows t k hex cuts c =
+    first_fitting ((not t && not k, WrongName) ∷ (t && not hex, BadHex) ∷ (k && not cuts, BadCuts) ∷ []) ≡ Some c
+
+-- where the name is `cuts`
+cuts_row : (F : Format) (r : Record) (t hex cuts : Bool) (c : Cause) → t ≡ false → cond {A = Result Next Cause} cuts (Ok (steps.text F r, [])) (Err BadCuts) ≡ Err c → names_rows t true hex cuts c
+unfolding names_rows
+cuts_row F r true hex cuts c is e = absurd cc
+cuts_row F r false hex true c is e = absurd cc
+cuts_row F r false hex false c is e = cc
+
+-- where it is `text`, the row of the digits
+digits_row : (F : Format) (r : Record) (hex cuts : Bool) (bytes : List ℕ) (c : Cause) → text_behind F r (cond hex (Ok bytes) (Err BadHex)) ≡ Err c → names_rows true false hex cuts c
+unfolding names_rows
+digits_row F r true cuts bytes c e = absurd cc
+digits_row F r false cuts bytes c e = cc
+
+-- where it is not `cuts`
+text_row : (F : Format) (r : Record) (t cuts : Bool) (digits : List ℕ) (c : Cause) → text_behind F r (cond t (Ok digits) (Err WrongName) >>= bytes_at) ≡ Err c → names_rows t false (is_hex digits) cuts c
+unfolding names_rows
+text_row F r true cuts digits c e = digits_row F r (is_hex digits) cuts (bytes_of digits) c e
+text_row F r false cuts digits c e = cc
+
+-- by the name
+by_name : (F : Format) (r : Record) (f : List ℕ × List ℕ) (k : Bool) (c : Cause) → bytes_eq f.0 (codes "cuts") ≡ k → cond k (cuts_next F r (Some f)) (text_next F r (Some f)) ≡ Err c
+    → names_rows (bytes_eq f.0 (codes "text")) k (is_hex f.1) (are_cuts (most_cut r) f.1) c
+by_name F r f true c is e =
+    cuts_row F r (bytes_eq f.0 (codes "text")) (is_hex f.1) (are_cuts (most_cut r) f.1) c (no_text f.0 (bytes_eq f.0 (codes "text")) is refl)
+    (subst (λ (b : Bool). (cond b (Ok f.1) (Err WrongName) >>= λ value. cond {A = Result Next Cause} (are_cuts (most_cut r) value) (Ok (steps.text F r, [])) (Err BadCuts)) ≡ Err c) is e)
+by_name F r f false c is e = text_row F r (bytes_eq f.0 (codes "text")) (are_cuts (most_cut r) f.1) f.1 c e
+
+-- the rows where cuts may stand
+cuts_rows : (F : Format) (r : Record) (invalid : Bool) (f : Option (List ℕ × List ℕ)) (c : Cause)
+    → cond invalid (Ok (steps.between F, with_text None r ∷ [])) (cond (is_named (codes "cuts") f) (cuts_next F r f) (text_next F r f)) ≡ Err c
+    → first_fitting (
+    (not invalid && is_none f, BadLine)
+    ∷ (is_misnamed (codes "text") f && is_misnamed (codes "cuts") f, WrongName)
+    ∷ (is_named (codes "text") f && value_fails is_hex f, BadHex)
+    ∷ (is_named (codes "cuts") f && value_fails (are_cuts (most_cut r)) f, BadCuts)
+    ∷ []) ≡ Some c
+unfolding names_rows
+cuts_rows F r true f c e = absurd cc
+cuts_rows F r false None c e = cc
+cuts_rows F r false (Some f) c e = by_name F r f (bytes_eq f.0 (codes "cuts")) c refl e
+
+-- the line behind all fields
+behind_rows : (F : Format) (r : Record) (line : List ℕ) (c : Cause) (m : Bool)
+    → cond (bytes_eq line (codes "invalid")) (Ok (steps.between F, with_text None r ∷ []))
+    (cond (m && is_named (codes "cuts") (value_line line)) (cuts_next F r (value_line line)) (text_next F r (value_line line))) ≡ Err c
+    → first_fitting (rows (cond m (cuts_or_end (most_cut r)) end_line) line) ≡ Some c
+behind_rows F r line c true e = cuts_rows F r (bytes_eq line (codes "invalid")) (value_line line) c e
+behind_rows F r line c false e = end_rows F r (bytes_eq line (codes "invalid")) (value_line line) c e
 
 -- where a step fails, the fault is the first row that fits what is expected
 pub wrong : (p : Place) (line : List ℕ) (c : Cause) → step p line ≡ Err c → first_fitting (rows (expected p) line) ≡ Some c
-unfolding step sized_at hex_at value_at suite_at end_at
-wrong steps.format line c e = format_row (is_gap line) (is_format (value_line line)) c e
-wrong steps.between line c e = between_rows (is_gap line) (value_line line) c e
-wrong (steps.key s) line c e =
-    size_rows (codes "key") (key_bytes s) (value_line line) c (bind_err ((named_value (codes "key") (value_line line) >>= bytes_at) >>= sized (key_bytes s)) (λ k. (after_key s k, [])) c e)
-wrong (steps.nonce s k) line c e =
-    size_rows (codes "nonce") 12 (value_line line) c (bind_err ((named_value (codes "nonce") (value_line line) >>= bytes_at) >>= sized 12) (λ n. (steps.aad s k n, [])) c e)
-wrong (steps.aad s k n) line c e = hex_rows (codes "aad") (value_line line) c (bind_err (named_value (codes "aad") (value_line line) >>= bytes_at) (λ a. (steps.sealed s k n a, [])) c e)
-wrong (steps.sealed s k n a) line c e = hex_rows (codes "sealed") (value_line line) c (bind_err (named_value (codes "sealed") (value_line line) >>= bytes_at) (λ x. (steps.end s k n a x, [])) c e)
-wrong (steps.end s k n a x) line c e =
-    end_rows (bytes_eq line (codes "invalid")) (value_line line) c
-    (bind_err (cond (bytes_eq line (codes "invalid")) (Ok None) ((named_value (codes "text") (value_line line) >>= bytes_at) >>= λ bytes. Ok (Some bytes)))
-    (λ t. (steps.between, record { suite = s; key = k; nonce = n; aad = a; sealed = x; text = t } ∷ [])) c e)
+unfolding step field_at hex_at value_at format_at suite_at end_at text_at cuts_at
+wrong steps.start line c e = format_rows (is_gap line) (value_line line) c e
+wrong (steps.between F) line c e = between_rows F (is_gap line) (value_line line) c e
+wrong (steps.fields F [] r) line c e = behind_rows F r line c (may_cut F r.suite) e
+wrong (steps.fields F (f ∷ fs) r) line c e =
+    field_rows (field_name f) (field_length r.suite f) (value_line line) c
+    (bind_err ((named_value (field_name f) (value_line line) >>= bytes_at) >>= sized (field_length r.suite f)) (λ v. (steps.fields F fs (with_field f v r), [])) c e)
+wrong (steps.text F r) line c e =
+    hex_rows (codes "text") (value_line line) c (bind_err (named_value (codes "text") (value_line line) >>= bytes_at) (λ bytes. (steps.between F, with_text (Some bytes) r ∷ [])) c e)

@@ -1,54 +1,62 @@
 -- The records of a file have keys and nonces of their suites' lengths.
-use Rattle.std.proofs.Common.{◌≡◌, ℕ, true, false, List, [], ◌∷◌, ◌++◌, Ok, sym, ◌∙◌}
+use Rattle.std.proofs.Common.{◌≡◌, ℕ, List, [], ◌∷◌, ◌++◌, Ok}
+use Rattle.std.proofs.lemmas.Bool.{eqb-true}
+use Rattle.vectors.specs.declared.suite.Format.{Format}
+use Rattle.vectors.specs.declared.suite.Suite.{Suite}
+use Rattle.vectors.specs.declared.suite.Suite.TheVariants.{Aead, Wrap, WrapPad}
+use Rattle.vectors.specs.Suites.{fields_of}
 use Rattle.vectors.specs.Grammar as grammar
-use Rattle.vectors.specs.Grammar.{Record, Records, Formatted}
+use Rattle.vectors.specs.Grammar.{Record, unread, with_text, Fills, IsRecord, Formatted}
 use Rattle.vectors.specs.Agreement.{IsSized}
-use Rattle.vectors.specs.Steps as steps
-use Rattle.vectors.specs.Steps.{Place, run}
-use Rattle.vectors.proofs.RunLemmas.{behind-Ok, run-append, sound_file}
-use Rattle.vectors.proofs.Viable.{endable}
+use Rattle.vectors.specs.Code.Steps as steps
+use Rattle.vectors.specs.Code.Steps.{Place, run}
+use Rattle.vectors.proofs.Places.{At, lines_at}
 
--- each of them has
+-- so do those whose fields were filled
+filled_sized : (s : Suite) (ms : List (List ℕ)) (r : Record) → Fills (fields_of s) (unread s) ms r → IsSized r
+filled_sized (Aead s) _ _ (grammar.field h (grammar.field k (grammar.field a (grammar.field x grammar.nothing)))) =
+    record { key = eqb-true _ _ h.size; nonce = λ _. eqb-true _ _ k.size }
+filled_sized (Wrap s) _ _ (grammar.field h (grammar.field x grammar.nothing)) = record { key = eqb-true _ _ h.size; nonce = λ e. absurd cc }
+filled_sized (WrapPad s) _ _ (grammar.field h (grammar.field x grammar.nothing)) = record { key = eqb-true _ _ h.size; nonce = λ e. absurd cc }
+
+-- each of them does
 AreSized : List Record → Type 0
 AreSized [] = Unit {0}
 AreSized (r ∷ rs) = IsSized r × AreSized rs
 
--- records have their lengths
-records_sized : (ls : List (List ℕ)) (rs : List Record) → Records ls rs → AreSized rs
+-- one more
+more_sized : (rs : List Record) (r : Record) → AreSized rs → IsSized r → AreSized (rs ++ r ∷ [])
 unfolding AreSized
-records_sized [] [] grammar.ends = tt
-records_sized [] (r ∷ rs) h = elim h [ ]
-records_sized (l ∷ ls) rs (grammar.gap g h) = records_sized ls rs h
-records_sized (a ∷ b ∷ c ∷ d ∷ e ∷ f ∷ ls) (r ∷ rs) (grammar.aead m h) = (record { key = m.key.size; nonce = λ _. m.nonce.size }, records_sized ls rs h)
-records_sized (a ∷ b ∷ c ∷ d ∷ ls) (r ∷ rs) (grammar.wrap m h) = (record { key = m.key.size; nonce = λ aead. none (sym m.kind ∙ aead) }, records_sized ls rs h) where
-  none : {A : Type 0} → true ≡ false → A
-  none e = absurd cc
+more_sized [] r h k = (k, tt)
+more_sized (s ∷ rs) r h k = (h.0, more_sized rs r h.1 k)
 
--- and so do those behind a format line
-formatted_sized : (ls : List (List ℕ)) (rs : List Record) → Formatted ls rs → AreSized rs
-formatted_sized [] rs h = elim h [ ]
-formatted_sized (l ∷ ls) rs (grammar.before g h) = formatted_sized ls rs h
-formatted_sized (l ∷ ls) rs (grammar.starts g h) = records_sized ls rs h
-
--- the first of them have
-front_sized : (rs ss : List Record) → AreSized (rs ++ ss) → AreSized rs
-unfolding AreSized
-front_sized [] ss h = tt
-front_sized (r ∷ rs) ss h = (h.0, front_sized rs ss h.1)
-
--- the last of them has
+-- the last of them
 last_sized : (rs : List Record) (r : Record) → AreSized (rs ++ r ∷ []) → IsSized r
 unfolding AreSized
 last_sized [] r h = h.0
 last_sized (s ∷ rs) r h = last_sized rs r h.1
 
--- records that were read, in a file that isn't at its end, are those of a file
-read_sized : (ls : List (List ℕ)) (x : Place × List Record) → run steps.format ls ≡ Ok x → AreSized x.1
-read_sized ls x e =
-    let end = endable x.0 in
-    let read : run steps.format (ls ++ end.ending.more) ≡ Ok (steps.between, x.1 ++ end.ending.records) = run-append steps.format ls end.ending.more x e ∙ behind-Ok x.1 (run x.0 end.ending.more) (steps.between, end.ending.records) end.ending.read in
-    front_sized x.1 end.ending.records (formatted_sized (ls ++ end.ending.more) (x.1 ++ end.ending.records) (sound_file (ls ++ end.ending.more) (x.1 ++ end.ending.records) read))
+-- a record does
+record_sized : (F : Format) (ms : List (List ℕ)) (r : Record) → IsRecord F ms r → IsSized r
+record_sized F _ _ (grammar.made {suite = s} {ms = ms} {r = r} a h e) = let k = filled_sized s ms r h in record { key = k.key; nonce = k.nonce }
 
--- the last record that was read has
-pub last_read_sized : (ls : List (List ℕ)) (p : Place) (rs : List Record) (r : Record) → run steps.format ls ≡ Ok (p, rs ++ r ∷ []) → IsSized r
-last_read_sized ls p rs r e = last_sized rs r (read_sized ls (p, rs ++ r ∷ []) e)
+-- and those behind a format line
+formatted_sized : (F : Format) (ls : List (List ℕ)) (rs : List Record) → Formatted F ls rs → AreSized rs
+unfolding AreSized
+formatted_sized F _ _ (grammar.starts gaps h a) = tt
+formatted_sized F _ _ (grammar.gap {ls = ls} l {rs = rs} h g) = formatted_sized F ls rs h
+formatted_sized F _ _ (grammar.adds {ls = ls} {ms = ms} {rs = rs} {r = r} h m) = more_sized rs r (formatted_sized F ls rs h) (record_sized F ms r m)
+
+-- and the last one before a place
+at_sized : (p : Place) (ls : List (List ℕ)) (rs : List Record) (r : Record) → At p ls (rs ++ r ∷ []) → IsSized r
+at_sized steps.start ls rs r h = absurd (some rs h.1) where
+  some : (rs : List Record) → (rs ++ r ∷ []) ≡ [] → ⊥
+  some [] e = cc
+  some (s ∷ ss) e = cc
+at_sized (steps.between F) ls rs r h = last_sized rs r (formatted_sized F ls (rs ++ r ∷ []) h)
+at_sized (steps.fields F left s) ls rs r h = last_sized rs r (formatted_sized F h.front (rs ++ r ∷ []) h.formatted)
+at_sized (steps.text F s) ls rs r h = last_sized rs r (formatted_sized F h.front (rs ++ r ∷ []) h.formatted)
+
+-- the last record that was read
+pub last_read_sized : (ls : List (List ℕ)) (p : Place) (rs : List Record) (r : Record) → run steps.start ls ≡ Ok (p, rs ++ r ∷ []) → IsSized r
+last_read_sized ls p rs r e = at_sized p ls rs r (lines_at ls (p, rs ++ r ∷ []) e)

@@ -1,153 +1,145 @@
 -- Lines that were read can be ended, and no others.
-use Rattle.std.proofs.Common.{◌≡◌, ◌≢◌, ℕ, ◌+◌, ◌*◌, ◌≤◌, Bool, true, false, List, [], ◌∷◌, ◌++◌, length, replicate, None, Ok, refl, ap, ◌∙◌, arith}
+use Rattle.std.proofs.Common.{◌≡◌, ◌≢◌, ℕ, suc, ◌*◌, ◌≤◌, List, [], ◌∷◌, ◌++◌, length, replicate, None, Some, Ok, refl, ap, arith, length-append}
 use Rattle.std.specs.Prelude.{codes}
+use Rattle.aead.specs.declared.suite.Suite.TheVariants.{ChaCha20Poly1305, Aes128Gcm, Aes192Gcm, Aes256Gcm, Aes128GcmSiv, Aes256GcmSiv}
+use Rattle.vectors.specs.declared.suite.Format.{Format}
+use Rattle.vectors.specs.declared.suite.Format.TheVariants.{One, Two}
+use Rattle.vectors.specs.declared.suite.Aes.TheVariants.{Bits128, Bits192, Bits256}
 use Rattle.vectors.specs.declared.suite.Suite.{Suite}
-use Rattle.vectors.specs.declared.suite.Suite.TheVariants.{ChaCha20Poly1305, Aes128Gcm, Aes192Gcm, Aes256Gcm, Aes128GcmSiv, Aes256GcmSiv, Aes128Wrap, Aes192Wrap, Aes256Wrap}
-use Rattle.vectors.specs.Suites.{suite_named, key_bytes, is_wrap}
-use Rattle.vectors.specs.Grammar.{Record, field_of, value_line, IsViable}
+use Rattle.vectors.specs.declared.suite.Suite.TheVariants.{Aead, Wrap, WrapPad}
+use Rattle.vectors.specs.declared.suite.Field.{Field}
+use Rattle.vectors.specs.declared.suite.Field.TheVariants.{Key, Nonce, Aad, Sealed}
+use Rattle.vectors.specs.Suites.{suite_named, suite_key_length, fields_of}
+use Rattle.vectors.specs.Grammar.{Record, field_of, value_line, with_field, with_text, unread, IsViable}
 use Rattle.vectors.specs.Faults.{is_hex, bytes_of}
 use Rattle.hex.specs.Hex.{decode_pairs}
-use Rattle.vectors.specs.Steps as steps
-use Rattle.vectors.specs.Steps.{Place, value_at, hex_at, sized_at, suite_at, end_at, after_key, step, run}
-use Rattle.vectors.proofs.RunLemmas.{one, behind-Ok, run-append, run-front, complete_file, sound_file}
+use Rattle.vectors.specs.Code.Steps as steps
+use Rattle.vectors.specs.Code.Steps.{Place, value_at, hex_at, field_at, format_at, suite_at, end_at, text_at, step, run}
+use Rattle.vectors.proofs.FieldLemmas.{Next}
+use Rattle.vectors.proofs.Runs.{both, one, first, run-front, complete}
+use Rattle.vectors.proofs.Places.{At, lines_at}
 
 -- n lines that lead from a place to the end of a record
 pub record Ending (p : Place) (n : ℕ) : Type 0 where
+  pub format : Format
   pub more : List (List ℕ)
   pub size : length more ≡ n
   pub records : List Record
   pub some : records ≢ []
-  pub read : run p more ≡ Ok (steps.between, records)
+  pub read : run p more ≡ Ok (steps.between format, records)
 
 -- one record and others are some
 cons_some : (r : Record) (rs : List Record) → (r ∷ rs) ≢ []
 cons_some r rs e = cc
 
 -- one line more before an end
-longer : (p q : Place) (n : ℕ) (l : List ℕ) → step p l ≡ Ok (q, []) → Ending q n → Ending p (n + 1)
-longer p q n l e end = record { more = l ∷ end.more; size = grind (arith, end.size); records = end.records; some = end.some; read = one p l end.more q [] end.records e end.read }
+longer : (p q : Place) (n : ℕ) (l : List ℕ) → step p l ≡ Ok (q, []) → Ending q n → Ending p (suc n)
+longer p q n l e end = record {
+  format = end.format;
+  more = l ∷ end.more;
+  size = ap suc end.size;
+  records = end.records;
+  some = end.some;
+  read = first p q l end.more (steps.between end.format) end.records e end.read;
+}
 
--- the record that the word `invalid` ends
-last_entry : Suite → List ℕ → List ℕ → List ℕ → List ℕ → Record
-last_entry s k n a x = record { suite = s; key = k; nonce = n; aad = a; sealed = x; text = None }
+-- a record that ends with a line
+last : (p : Place) (F : Format) (l : List ℕ) (r : Record) → step p l ≡ Ok (steps.between F, r ∷ []) → Ending p 1
+last p F l r e = record { format = F; more = l ∷ []; size = refl; records = r ∷ []; some = cons_some r []; read = one p (steps.between F) l (r ∷ []) e }
 
 -- the word `invalid` ends a record
-invalid-read : (s : Suite) (k n a x : List ℕ) → run (steps.end s k n a x) (codes "invalid" ∷ []) ≡ Ok (steps.between, last_entry s k n a x ∷ [])
-unfolding run step end_at last_entry
-invalid-read s k n a x = refl
+invalid-step : (F : Format) (r : Record) → step (steps.fields F [] r) (codes "invalid") ≡ Ok (steps.between F, with_text None r ∷ [])
+unfolding step end_at
+invalid-step F r = refl
 
--- one line ends a record at its end
-of_end : (s : Suite) (k n a x : List ℕ) → Ending (steps.end s k n a x) 1
-of_end s k n a x = record { more = codes "invalid" ∷ []; size = refl; records = last_entry s k n a x ∷ []; some = cons_some (last_entry s k n a x) []; read = invalid-read s k n a x }
+-- a text line ends a record behind cuts
+text-step : (F : Format) (r : Record) → step (steps.text F r) (codes "text=") ≡ Ok (steps.between F, with_text (Some []) r ∷ [])
+unfolding step text_at hex_at value_at value_line field_of is_hex bytes_of decode_pairs
+text-step F r = refl
 
--- sealed bytes of none are read
-sealed-read : (s : Suite) (k n a : List ℕ) → step (steps.sealed s k n a) (codes "sealed=") ≡ Ok (steps.end s k n a [], [])
-unfolding step hex_at value_at value_line field_of is_hex bytes_of decode_pairs
-sealed-read s k n a = refl
-
--- two lines from the sealed bytes on
-of_sealed : (s : Suite) (k n a : List ℕ) → Ending (steps.sealed s k n a) 2
-of_sealed s k n a = longer _ _ 1 (codes "sealed=") (sealed-read s k n a) (of_end s k n a [])
-
--- no associated data are read
-aad-read : (s : Suite) (k n : List ℕ) → step (steps.aad s k n) (codes "aad=") ≡ Ok (steps.sealed s k n [], [])
-unfolding step hex_at value_at value_line field_of is_hex bytes_of decode_pairs
-aad-read s k n = refl
-
--- three from the associated data on
-of_aad : (s : Suite) (k n : List ℕ) → Ending (steps.aad s k n) 3
-of_aad s k n = longer _ _ 2 (codes "aad=") (aad-read s k n) (of_sealed s k n [])
-
--- a nonce
-abbrev some_nonce : List ℕ
-some_nonce = replicate 12 0
+-- a key of the suite's length
+key_line : Suite → List ℕ
+key_line s = codes "key=" ++ replicate (2 * suite_key_length s) 48
 
 -- it is read
-nonce-read : (s : Suite) (k : List ℕ) → step (steps.nonce s k) (codes "nonce=000000000000000000000000") ≡ Ok (steps.aad s k some_nonce, [])
-unfolding step sized_at hex_at value_at value_line field_of is_hex bytes_of decode_pairs
-nonce-read s k = refl
+key-read : (s : Suite) → field_at s Key (key_line s) ≡ Ok (replicate (suite_key_length s) 0)
+unfolding field_at hex_at value_at value_line field_of is_hex bytes_of decode_pairs key_line
+key-read (Aead ChaCha20Poly1305) = refl
+key-read (Aead Aes128Gcm) = refl
+key-read (Aead Aes192Gcm) = refl
+key-read (Aead Aes256Gcm) = refl
+key-read (Aead Aes128GcmSiv) = refl
+key-read (Aead Aes256GcmSiv) = refl
+key-read (Wrap Bits128) = refl
+key-read (Wrap Bits192) = refl
+key-read (Wrap Bits256) = refl
+key-read (WrapPad Bits128) = refl
+key-read (WrapPad Bits192) = refl
+key-read (WrapPad Bits256) = refl
 
--- four from the nonce on
-of_nonce : (s : Suite) (k : List ℕ) → Ending (steps.nonce s k) 4
-of_nonce s k = longer _ _ 3 (codes "nonce=000000000000000000000000") (nonce-read s k) (of_aad s k some_nonce)
+-- a line for a field
+record HasLine (s : Suite) (f : Field) : Type 0 where
+  pub l : List ℕ
+  pub bytes : List ℕ
+  pub read : field_at s f l ≡ Ok bytes
 
--- a key of the suite's length, and its digits
-some_key : Suite → List ℕ
-some_key s = replicate (key_bytes s) 0
+-- each field has one
+line_of : (s : Suite) (f : Field) → HasLine s f
+unfolding field_at hex_at value_at value_line field_of is_hex bytes_of decode_pairs
+line_of s Key = record { l = key_line s; bytes = replicate (suite_key_length s) 0; read = key-read s }
+line_of s Nonce = record { l = codes "nonce=000000000000000000000000"; bytes = replicate 12 0; read = refl }
+line_of s Aad = record { l = codes "aad="; bytes = []; read = refl }
+line_of s Sealed = record { l = codes "sealed="; bytes = []; read = refl }
 
--- and its digits
-key_digits : Suite → List ℕ
-key_digits s = replicate (2 * key_bytes s) 48
-
--- the key is read
-key-read : (s : Suite) → sized_at (codes "key") (key_bytes s) (codes "key=" ++ key_digits s) ≡ Ok (some_key s)
-unfolding sized_at hex_at value_at value_line field_of is_hex bytes_of decode_pairs some_key key_digits
-key-read ChaCha20Poly1305 = refl
-key-read Aes128Gcm = refl
-key-read Aes192Gcm = refl
-key-read Aes256Gcm = refl
-key-read Aes128GcmSiv = refl
-key-read Aes256GcmSiv = refl
-key-read Aes128Wrap = refl
-key-read Aes192Wrap = refl
-key-read Aes256Wrap = refl
-
--- and leads on
-key-step : (s : Suite) (q : Place) → after_key s (some_key s) ≡ q → step (steps.key s) (codes "key=" ++ key_digits s) ≡ Ok (q, [])
+-- the step of a field's line
+field-step : (F : Format) (f : Field) (fs : List Field) (r : Record) (l v : List ℕ) → field_at r.suite f l ≡ Ok v → step (steps.fields F (f ∷ fs) r) l ≡ Ok (steps.fields F fs (with_field f v r), [])
 unfolding step
-key-step s q e = rw (key-read s) (ap (λ (x : Place). Ok (x, [])) e)
+field-step F f fs r l v e = rw e refl
 
--- the places behind the key, and how many lines are left there
-lines_left : Bool → ℕ
-lines_left true = 3
-lines_left false = 5
-
--- three or five lines from the key on
-of_key : (s : Suite) (b : Bool) → is_wrap s ≡ b → Ending (steps.key s) (lines_left b)
-unfolding lines_left
-of_key s true e = longer _ _ 2 _ (key-step s (steps.sealed s (some_key s) [] []) (rw e refl)) (of_sealed s (some_key s) [] [])
-of_key s false e = longer _ _ 4 _ (key-step s (steps.nonce s (some_key s)) (rw e refl)) (of_nonce s (some_key s))
+-- a line for each field that is left, and one more
+of_fields : (F : Format) (left : List Field) (r : Record) → Ending (steps.fields F left r) (suc (length left))
+of_fields F [] r = last (steps.fields F [] r) F (codes "invalid") (with_text None r) (invalid-step F r)
+of_fields F (f ∷ fs) r =
+    let h = line_of r.suite f in
+    longer (steps.fields F (f ∷ fs) r) (steps.fields F fs (with_field f h.bytes r)) (suc (length fs)) h.l (field-step F f fs r h.l h.bytes h.read) (of_fields F fs (with_field f h.bytes r))
 
 -- a wrap suite is read
-suite-read : step steps.between (codes "suite=aes-128-wrap") ≡ Ok (steps.key Aes128Wrap, [])
+suite-step : (F : Format) → step (steps.between F) (codes "suite=aes-128-wrap") ≡ Ok (steps.fields F (Key ∷ Sealed ∷ []) (unread (Wrap Bits128)), [])
 unfolding step suite_at value_at value_line field_of suite_named
-suite-read = refl
+suite-step One = refl
+suite-step Two = refl
 
 -- four lines from between records on
-of_between : Ending steps.between 4
-unfolding lines_left
-of_between = longer _ _ 3 (codes "suite=aes-128-wrap") suite-read (of_key Aes128Wrap true refl)
+of_between : (F : Format) → Ending (steps.between F) 4
+of_between F = longer (steps.between F) _ 3 (codes "suite=aes-128-wrap") (suite-step F) (of_fields F (Key ∷ Sealed ∷ []) (unread (Wrap Bits128)))
 
 -- a format line is read
-format-read : step steps.format (codes "format=1") ≡ Ok (steps.between, [])
-unfolding step value_line field_of
-format-read = refl
+format-step : step steps.start (codes "format=1") ≡ Ok (steps.between One, [])
+unfolding step format_at value_line field_of
+format-step = refl
 
--- five lines from the format line on
-of_format : Ending steps.format 5
-of_format = longer _ _ 4 (codes "format=1") format-read of_between
-
--- from each place a record can be ended in five lines
+-- from a place a record can be ended in five lines
 pub record Endable (p : Place) : Type 0 where
   pub n : ℕ
   pub few : n ≤ 5
   pub ending : Ending p n
 
--- at most five lines are left
-few_left : (b : Bool) → lines_left b ≤ 5
-unfolding lines_left
-few_left true = omega arith
-few_left false = omega arith
+-- a record has at most four fields
+four : (s : Suite) → length (fields_of s) ≤ 4
+four (Aead s) = omega arith
+four (Wrap aes) = omega arith
+four (WrapPad aes) = omega arith
 
--- each place can be ended
-pub endable : (p : Place) → Endable p
-endable steps.format = record { n = 5; few = omega arith; ending = of_format }
-endable steps.between = record { n = 4; few = omega arith; ending = of_between }
-endable (steps.key s) = record { n = lines_left (is_wrap s); few = few_left (is_wrap s); ending = of_key s (is_wrap s) refl }
-endable (steps.nonce s k) = record { n = 4; few = omega arith; ending = of_nonce s k }
-endable (steps.aad s k n) = record { n = 3; few = omega arith; ending = of_aad s k n }
-endable (steps.sealed s k n a) = record { n = 2; few = omega arith; ending = of_sealed s k n a }
-endable (steps.end s k n a x) = record { n = 1; few = omega arith; ending = of_end s k n a x }
+-- each place behind lines can be ended
+endable : (p : Place) (ls : List (List ℕ)) (rs : List Record) → At p ls rs → Endable p
+endable steps.start ls rs h = record { n = 5; few = omega arith; ending = longer steps.start (steps.between One) 4 (codes "format=1") format-step (of_between One) }
+endable (steps.between F) ls rs h = record { n = 4; few = omega arith; ending = of_between F }
+endable (steps.fields F left r) ls rs h = record {
+  n = suc (length left);
+  few = omega (arith, four h.suite, ap length h.order, length-append h.read left);
+  ending = of_fields F left r;
+}
+endable (steps.text F r) ls rs h = record { n = 1; few = omega arith; ending = last (steps.text F r) F (codes "text=") (with_text (Some []) r) (text-step F r) }
 
 -- records and some are some
 append_some : (rs ss : List Record) → ss ≢ [] → (rs ++ ss) ≢ []
@@ -155,17 +147,23 @@ append_some [] ss h = h
 append_some (r ∷ rs) ss h = cons_some r (rs ++ ss)
 
 -- lines that were read are viable
-pub viable : (ls : List (List ℕ)) (x : Place × List Record) → run steps.format ls ≡ Ok x → IsViable ls
+pub viable : (ls : List (List ℕ)) (x : Next) → run steps.start ls ≡ Ok x → IsViable ls
 viable ls x e =
-    let end = endable x.0 in
-    let read : run steps.format (ls ++ end.ending.more) ≡ Ok (steps.between, x.1 ++ end.ending.records) = run-append steps.format ls end.ending.more x e ∙ behind-Ok x.1 (run x.0 end.ending.more) (steps.between, end.ending.records) end.ending.read in
+    let end = endable x.0 ls x.1 (lines_at ls x e) in
+    let F : Format = end.ending.format in
+    let read : run steps.start (ls ++ end.ending.more) ≡ Ok (steps.between F, x.1 ++ end.ending.records) =
+    both steps.start x.0 ls end.ending.more (steps.between F) x.1 end.ending.records e end.ending.read in
     record {
       more = end.ending.more;
       few = omega (arith, end.few, end.ending.size);
       records = x.1 ++ end.ending.records;
-      file = record { formatted = sound_file (ls ++ end.ending.more) (x.1 ++ end.ending.records) read; some = append_some x.1 end.ending.records end.ending.some };
+      file = record {
+        format = F;
+        formatted = lines_at (ls ++ end.ending.more) (steps.between F, x.1 ++ end.ending.records) read;
+        some = append_some x.1 end.ending.records end.ending.some;
+      };
     }
 
 -- and viable lines are read
-pub viable_reads : (ls : List (List ℕ)) → IsViable ls → (x : Place × List Record) × (run steps.format ls ≡ Ok x)
-viable_reads ls v = run-front steps.format ls v.more (steps.between, v.records) (complete_file (ls ++ v.more) v.records v.file.formatted)
+pub viable_reads : (ls : List (List ℕ)) → IsViable ls → (x : Next) × (run steps.start ls ≡ Ok x)
+viable_reads ls v = run-front steps.start ls v.more (steps.between v.file.format, v.records) (complete v.file.format (ls ++ v.more) v.records v.file.formatted)

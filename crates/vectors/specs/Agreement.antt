@@ -1,20 +1,23 @@
 -- Whether a record agrees with its standard.
-use Rattle.std.specs.Prelude.{◌≡◌, ℕ, List, length, false, Option, Some, None, IfSome}
-use Rattle.aead.specs.declared.suite.Suite as aead
+use Rattle.std.specs.Prelude.{◌≡◌, ℕ, List, length, true, Option, Some, None, IfSome}
 use Rattle.aead.specs.Sealing.{Opened}
 use Rattle.keywrap.specs.Wrapping.{Unwrapped}
-use Rattle.vectors.specs.Suites.{aead_suite, key_bytes, is_wrap}
+use Rattle.keywrap.specs.Padded.{UnwrappedPadded}
+use Rattle.vectors.specs.declared.suite.Suite.{Suite}
+use Rattle.vectors.specs.declared.suite.Suite.TheVariants.{Aead, Wrap, WrapPad}
+use Rattle.vectors.specs.Suites.{suite_key_length, is_aead}
 use Rattle.vectors.specs.Grammar.{Record}
 
--- the sealed bytes are the sealing of the text by this AEAD suite and the record's key, nonce and associated data;
--- with no AEAD suite, they are the wrapping of the text by its key
-abbrev pub HoldsBy : Option aead.Suite → Record → List ℕ → Type 0
-HoldsBy (Some suite) r text = Opened (record { suite = suite; key = r.key; nonce = r.nonce; aad = r.aad }) r.sealed text
-HoldsBy None r text = Unwrapped r.key r.sealed text
+-- the sealed bytes are the sealing or the wrapping of the text by a suite, and the record's key, nonce and associated
+-- data
+abbrev pub HoldsBy : Suite → Record → List ℕ → Type 0
+HoldsBy (Aead suite) r text = Opened (record { suite = suite; key = r.key; nonce = r.nonce; aad = r.aad }) r.sealed text
+HoldsBy (Wrap aes) r text = Unwrapped r.key r.sealed text
+HoldsBy (WrapPad aes) r text = UnwrappedPadded r.key r.sealed text
 
--- the sealed bytes are the sealing or the wrapping of the text by the record's suite
+-- the same by the record's suite
 abbrev pub Holds : Record → List ℕ → Type 0
-Holds r text = HoldsBy (aead_suite r.suite) r text
+Holds r text = HoldsBy r.suite r text
 
 -- with a text, the sealed bytes hold it; with `invalid`, they hold no text
 abbrev pub AgreesWith : Record → Option (List ℕ) → Type 0
@@ -26,8 +29,8 @@ Agrees r = AgreesWith r r.text
 
 -- the key and the nonce of a record have the lengths of its suite
 pub record IsSized (r : Record) : Type 0 where
-  pub key : length r.key ≡ key_bytes r.suite
-  pub nonce : is_wrap r.suite ≡ false → length r.nonce ≡ 12
+  pub key : length r.key ≡ suite_key_length r.suite
+  pub nonce : is_aead r.suite ≡ true → length r.nonce ≡ 12
 
 -- what was found is a text of which the fact holds, and the only one; or it holds of none
 pub record IsOnly (P : List ℕ → Type 0) (found : Option (List ℕ)) : Type 0 where

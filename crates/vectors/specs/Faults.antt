@@ -1,5 +1,5 @@
 -- The first fault of a file: at which line it is, and which.
-use Rattle.std.specs.Prelude.{◌≡◌, ℕ, ◌+◌, ◌%◌, List, [], ◌∷◌, ◌++◌, length, Bool, true, false, not, ◌&&◌, ◌||◌, ◌==◌, Option, Some, None, is_none, if◌then◌else◌, codes}
+use Rattle.std.specs.Prelude.{◌≡◌, ℕ, ◌+◌, ◌%◌, List, [], ◌∷◌, ◌++◌, length, Bool, true, false, not, ◌&&◌, ◌||◌, ◌==◌, Option, Some, None, is_none, is_some, if◌then◌else◌, codes}
 use Rattle.std.specs.List.{list_all}
 use Rattle.std.specs.Str.{bytes_eq}
 use Rattle.std.specs.Result.{result_unwrap_or}
@@ -7,44 +7,47 @@ use Rattle.hex.specs.Hex.{is_hex_digit, decode_of}
 use Rattle.vectors.specs.declared.fault.Cause.{Cause}
 use Rattle.vectors.specs.declared.fault.Cause.TheVariants as cause
 use Rattle.vectors.specs.declared.fault.VectorFault.{VectorFault}
-use Rattle.vectors.specs.declared.fault.VectorFault.TheVariants.{BadFormat, BadLine, WrongName, UnknownSuite, BadHex, BadLength, NoRecords, Unfinished, OutOfMemory}
+use Rattle.vectors.specs.declared.fault.VectorFault.TheVariants.{BadFormat, BadLine, WrongName, UnknownSuite, BadHex, BadLength, BadCuts, NoRecords, Unfinished, OutOfMemory}
 use Rattle.vectors.specs.declared.suite.Suite.{Suite}
-use Rattle.vectors.specs.Suites.{suite_named, key_bytes, is_wrap}
-use Rattle.vectors.specs.Grammar.{Record, is_gap, value_line, IsSuiteLine, IsHexField, IsSizedField, Formatted, IsFile, IsViable}
+use Rattle.vectors.specs.declared.suite.Format.{Format}
+use Rattle.vectors.specs.declared.suite.Field.{Field}
+use Rattle.vectors.specs.Suites.{format_named, suite_named, fields_of, field_name, field_length}
+use Rattle.vectors.specs.Cuts.{are_cuts}
+use Rattle.vectors.specs.Grammar.{Line, Record, is_gap, value_line, has_length, may_cut, most_cut, IsSuiteLine, IsCutsLine, unread, Fills, Formatted, IsFile, IsViable}
 
 -- ---- what is expected on a line
 
--- the format line, the first line of a record, or one of a record that was begun
+-- the format line, the first line of a record, or one of a record that was begun: a field, the end, the end or a line
+-- of cuts up to some number, or the text line behind cuts
 pub data Expected : Type 0 where
-  format : Expected
-  suite : Expected
-  key : Suite → Expected
-  nonce : Expected
-  aad : Expected
-  sealed : Expected
-  end : Expected
+  format_line : Expected
+  suite_line : Format → Expected
+  field_line : Suite → Field → Expected
+  end_line : Expected
+  cuts_or_end : ℕ → Expected
+  text_line : Expected
+
+-- what is expected behind all the fields of a record
+abbrev pub behind_fields : Format → Record → Expected
+behind_fields format r = if may_cut format r.suite then cuts_or_end (most_cut r) else end_line
 
 -- the first lines of a record that isn't ended, and what is expected behind them
-pub data Begun : List (List ℕ) → Expected → Type 0 where
-  suite_read : {a : List ℕ} {s : Suite} → IsSuiteLine a s → Begun (a ∷ []) (key s)
-  key_read : {a b k : List ℕ} {s : Suite} → IsSuiteLine a s → is_wrap s ≡ false
-      → IsSizedField b (codes "key") (key_bytes s) k → Begun (a ∷ b ∷ []) nonce
-  nonce_read : {a b c n : List ℕ} → Begun (a ∷ b ∷ []) nonce → IsSizedField c (codes "nonce") 12 n
-      → Begun (a ∷ b ∷ c ∷ []) aad
-  aad_read : {a b c d x : List ℕ} → Begun (a ∷ b ∷ c ∷ []) aad → IsHexField d (codes "aad") x
-      → Begun (a ∷ b ∷ c ∷ d ∷ []) sealed
-  sealed_read : {a b c d e x : List ℕ} → Begun (a ∷ b ∷ c ∷ d ∷ []) sealed → IsHexField e (codes "sealed") x
-      → Begun (a ∷ b ∷ c ∷ d ∷ e ∷ []) end
-  wrap_key_read : {a b k : List ℕ} {s : Suite} → IsSuiteLine a s → is_wrap s ≡ true
-      → IsSizedField b (codes "key") (key_bytes s) k → Begun (a ∷ b ∷ []) sealed
-  wrapped_read : {a b c x : List ℕ} → Begun (a ∷ b ∷ []) sealed → IsHexField c (codes "sealed") x
-      → Begun (a ∷ b ∷ c ∷ []) end
+pub data Begun (format : Format) : List Line → Expected → Type 0 where
+  some_fields : {suite : Suite} {l : Line} {ms : List Line} {r : Record} {f : Field} {fs : List Field} (gs : List Field)
+      → IsSuiteLine format l suite → fields_of suite ≡ fs ++ f ∷ gs → Fills fs (unread suite) ms r
+      → Begun format (l ∷ ms) (field_line r.suite f)
+  all_fields : {suite : Suite} {l : Line} {ms : List Line} {r : Record}
+      → IsSuiteLine format l suite → Fills (fields_of suite) (unread suite) ms r
+      → Begun format (l ∷ ms) (behind_fields format r)
+  cuts : {suite : Suite} {l c : Line} {ms : List Line} {r : Record}
+      → IsSuiteLine format l suite → Fills (fields_of suite) (unread suite) ms r → may_cut format r.suite ≡ true → IsCutsLine r c
+      → Begun format (l ∷ (ms ++ c ∷ [])) text_line
 
 -- behind these lines, this is expected
-pub data Expects : List (List ℕ) → Expected → Type 0 where
-  unformatted : {ls : List (List ℕ)} → list_all is_gap ls ≡ true → Expects ls format
-  formatted : {ls : List (List ℕ)} {rs : List Record} → Formatted ls rs → Expects ls suite
-  inside : {ls ms : List (List ℕ)} {rs : List Record} {e : Expected} → Formatted ls rs → Begun ms e
+pub data Expects : List Line → Expected → Type 0 where
+  unformatted : {ls : List Line} → list_all is_gap ls ≡ true → Expects ls format_line
+  formatted : {F : Format} {ls : List Line} {rs : List Record} → Formatted F ls rs → Expects ls (suite_line F)
+  inside : {F : Format} {ls ms : List Line} {rs : List Record} {e : Expected} → Formatted F ls rs → Begun F ms e
       → Expects (ls ++ ms) e
 
 -- ---- what is wrong with a line, by what is expected there
@@ -62,72 +65,70 @@ is_hex text = (length text % 2 == 0) && list_all is_hex_digit text
 unfoldable pub bytes_of : List ℕ → List ℕ
 bytes_of digits = result_unwrap_or (decode_of digits) []
 
--- the format line
-abbrev pub is_format : Option (List ℕ × List ℕ) → Bool
-is_format None = false
-is_format (Some f) = bytes_eq f.0 (codes "format") && bytes_eq f.1 (codes "1")
+-- whether a value line has this name
+abbrev pub is_named : List ℕ → Option (List ℕ × List ℕ) → Bool
+is_named name None = false
+is_named name (Some f) = bytes_eq f.0 name
 
 -- a value line with another name
 abbrev pub is_misnamed : List ℕ → Option (List ℕ × List ℕ) → Bool
 is_misnamed name None = false
 is_misnamed name (Some f) = not (bytes_eq f.0 name)
 
--- a value that is no suite
-abbrev pub is_no_suite : Option (List ℕ × List ℕ) → Bool
-is_no_suite None = false
-is_no_suite (Some f) = is_none (suite_named f.1)
+-- the format line
+abbrev pub is_format : Option (List ℕ × List ℕ) → Bool
+is_format None = false
+is_format (Some f) = bytes_eq f.0 (codes "format") && is_some (format_named f.1)
 
--- a value of an odd number of bytes, or with a byte that is no digit
-abbrev pub is_no_hex : Option (List ℕ × List ℕ) → Bool
-is_no_hex None = false
-is_no_hex (Some f) = not (is_hex f.1)
-
--- a value of another length than n bytes
-abbrev pub is_missized : ℕ → Option (List ℕ × List ℕ) → Bool
-is_missized n None = false
-is_missized n (Some f) = not (length (bytes_of f.1) == n)
+-- a value line whose value doesn't pass a test
+abbrev pub value_fails : (List ℕ → Bool) → Option (List ℕ × List ℕ) → Bool
+value_fails test None = false
+value_fails test (Some f) = not (test f.1)
 
 -- the rows for a line with a hexadecimal value
 abbrev pub value_rows : List ℕ → Option (List ℕ × List ℕ) → List (Bool × Cause)
 value_rows name f =
     (is_none f, cause.BadLine)
     ∷ (is_misnamed name f, cause.WrongName)
-    ∷ (is_no_hex f, cause.BadHex)
+    ∷ (value_fails is_hex f, cause.BadHex)
     ∷ []
-
--- the same, where the value has n bytes
-abbrev pub sized_rows : List ℕ → ℕ → Option (List ℕ × List ℕ) → List (Bool × Cause)
-sized_rows name n f = value_rows name f ++ (is_missized n f, cause.BadLength) ∷ []
 
 -- the table of faults, by what is expected
-abbrev pub rows : Expected → List ℕ → List (Bool × Cause)
-rows format line = (not (is_gap line || is_format (value_line line)), cause.BadFormat) ∷ []
-rows suite line =
+abbrev pub rows : Expected → Line → List (Bool × Cause)
+rows format_line line = (not (is_gap line || is_format (value_line line)), cause.BadFormat) ∷ []
+rows (suite_line F) line =
     (not (is_gap line) && is_none (value_line line), cause.BadLine)
     ∷ (is_misnamed (codes "suite") (value_line line), cause.WrongName)
-    ∷ (is_no_suite (value_line line), cause.UnknownSuite)
+    ∷ (value_fails (λ name. is_some (suite_named F name)) (value_line line), cause.UnknownSuite)
     ∷ []
-rows (key s) line = sized_rows (codes "key") (key_bytes s) (value_line line)
-rows nonce line = sized_rows (codes "nonce") 12 (value_line line)
-rows aad line = value_rows (codes "aad") (value_line line)
-rows sealed line = value_rows (codes "sealed") (value_line line)
-rows end line =
+rows (field_line s f) line =
+    value_rows (field_name f) (value_line line)
+    ++ (value_fails (λ digits. has_length (field_length s f) (bytes_of digits)) (value_line line), cause.BadLength)
+    ∷ []
+rows end_line line =
     (not (bytes_eq line (codes "invalid")) && is_none (value_line line), cause.BadLine)
     ∷ (is_misnamed (codes "text") (value_line line), cause.WrongName)
-    ∷ (is_no_hex (value_line line), cause.BadHex)
+    ∷ (value_fails is_hex (value_line line), cause.BadHex)
     ∷ []
+rows (cuts_or_end most) line =
+    (not (bytes_eq line (codes "invalid")) && is_none (value_line line), cause.BadLine)
+    ∷ (is_misnamed (codes "text") (value_line line) && is_misnamed (codes "cuts") (value_line line), cause.WrongName)
+    ∷ (is_named (codes "text") (value_line line) && value_fails is_hex (value_line line), cause.BadHex)
+    ∷ (is_named (codes "cuts") (value_line line) && value_fails (are_cuts most) (value_line line), cause.BadCuts)
+    ∷ []
+rows text_line line = value_rows (codes "text") (value_line line)
 
 -- ---- the fault of a file
 
 -- n is the least number such that the first n lines are not viable, and this is what is wrong with line n
-pub record IsFaultAt (lines : List (List ℕ)) (n : ℕ) (why : Cause) : Type 0 where
-  pub before : List (List ℕ)
-  pub line : List ℕ
-  pub after : List (List ℕ)
+pub record IsFaultAt (lines : List Line) (n : ℕ) (why : Cause) : Type 0 where
+  pub before : List Line
+  pub line : Line
+  pub after : List Line
   pub whole : lines ≡ before ++ line ∷ after
   pub number : n ≡ length before + 1
   pub faulty : ¬ IsViable (before ++ line ∷ [])
-  pub least : (front rest : List (List ℕ)) → before ≡ front ++ rest → IsViable front
+  pub least : (front rest : List Line) → before ≡ front ++ rest → IsViable front
   pub expected : Expected
   pub expects : Expects before expected
   pub only : (e : Expected) → Expects before e → e ≡ expected
@@ -135,17 +136,16 @@ pub record IsFaultAt (lines : List (List ℕ)) (n : ℕ) (why : Cause) : Type 0 
 
 -- whether a record was begun and not ended
 abbrev pub is_inside : Expected → Bool
-is_inside format = false
-is_inside suite = false
-is_inside (key s) = true
-is_inside nonce = true
-is_inside aad = true
-is_inside sealed = true
-is_inside end = true
+is_inside format_line = false
+is_inside (suite_line F) = false
+is_inside (field_line s f) = true
+is_inside end_line = true
+is_inside (cuts_or_end most) = true
+is_inside text_line = true
 
 -- no line is at fault, but the lines are no file: they end inside a record, or no record was begun
-pub record IsCutOff (lines : List (List ℕ)) (begun : Bool) : Type 0 where
-  pub viable : (front rest : List (List ℕ)) → lines ≡ front ++ rest → IsViable front
+pub record IsCutOff (lines : List Line) (begun : Bool) : Type 0 where
+  pub viable : (front rest : List Line) → lines ≡ front ++ rest → IsViable front
   pub no_file : (records : List Record) → ¬ IsFile lines records
   pub expected : Expected
   pub expects : Expects lines expected
@@ -153,13 +153,14 @@ pub record IsCutOff (lines : List (List ℕ)) (begun : Bool) : Type 0 where
   pub is : is_inside expected ≡ begun
 
 -- the fault is the first one of these lines; of want of memory nothing is said
-abbrev pub IsFaultOf : List (List ℕ) → VectorFault → Type 0
+abbrev pub IsFaultOf : List Line → VectorFault → Type 0
 IsFaultOf lines (BadFormat n) = IsFaultAt lines n cause.BadFormat
 IsFaultOf lines (BadLine n) = IsFaultAt lines n cause.BadLine
 IsFaultOf lines (WrongName n) = IsFaultAt lines n cause.WrongName
 IsFaultOf lines (UnknownSuite n) = IsFaultAt lines n cause.UnknownSuite
 IsFaultOf lines (BadHex n) = IsFaultAt lines n cause.BadHex
 IsFaultOf lines (BadLength n) = IsFaultAt lines n cause.BadLength
+IsFaultOf lines (BadCuts n) = IsFaultAt lines n cause.BadCuts
 IsFaultOf lines (Unfinished n) = IsCutOff lines true × (n ≡ length lines)
 IsFaultOf lines NoRecords = IsCutOff lines false
 IsFaultOf lines OutOfMemory = Unit {0}

@@ -1,12 +1,17 @@
--- The grammar of a vector file, format 1: which lines make which records.
-use Rattle.std.specs.Prelude.{◌≡◌, ◌≢◌, ℕ, ◌≤◌, List, [], ◌∷◌, ◌++◌, length, Bool, true, false, Option, Some, None, Ok, if◌then◌else◌, nat_lt, ◌==◌, codes}
-use Rattle.std.specs.List.{position_or_len, before_first, after_first}
+-- The grammar of a vector file: which lines make which records.
+use Rattle.std.specs.Prelude.{◌≡◌, ◌≢◌, ℕ, ◌-◌, ◌≤◌, List, [], ◌∷◌, ◌++◌, length, Bool, true, false, Option, Some, None, Ok, if◌then◌else◌, nat_lt, ◌==◌, codes}
+use Rattle.std.specs.List.{list_all, position_or_len, before_first, after_first}
 use Rattle.hex.specs.Hex.{decode_of}
+use Rattle.vectors.specs.declared.suite.Format.{Format}
+use Rattle.vectors.specs.declared.suite.Format.TheVariants.{One, Two}
 use Rattle.vectors.specs.declared.suite.Suite.{Suite}
-use Rattle.vectors.specs.Suites.{suite_named, key_bytes, is_wrap}
+use Rattle.vectors.specs.declared.suite.Field.{Field}
+use Rattle.vectors.specs.declared.suite.Field.TheVariants.{Key, Nonce, Aad, Sealed}
+use Rattle.vectors.specs.Suites.{format_named, suite_named, is_aead, fields_of, field_name, field_length}
 use Rattle.vectors.specs.Lines.{trim_end, trim_start}
+use Rattle.vectors.specs.Cuts.{are_cuts}
 
--- a record of the file; one that says `invalid` has no text
+-- a record of the file; key wrapping has no nonce and no associated data, and a record that says `invalid` has no text
 pub record Record : Type 0 where
   pub suite : Suite
   pub key : List ℕ
@@ -17,8 +22,12 @@ pub record Record : Type 0 where
 
 -- ---- lines
 
+-- the bytes of a line
+abbrev pub Line : Type 0
+Line = List ℕ
+
 -- whether a line is blank, or a comment: its first byte is `#`
-abbrev pub is_gap : List ℕ → Bool
+abbrev pub is_gap : Line → Bool
 is_gap [] = true
 is_gap (b ∷ bs) = b == 35
 
@@ -27,18 +36,18 @@ is_equals b = b == 61
 
 -- What stands before the first `=` of a line, without the spaces at its end, and what stands after it, without the
 -- spaces at its beginning.
-unfoldable pub field_of : List ℕ → Option (List ℕ × List ℕ)
+unfoldable pub field_of : Line → Option (List ℕ × List ℕ)
 field_of line =
     if nat_lt (position_or_len is_equals line) (length line)
     then Some (trim_end (before_first is_equals line), trim_start (after_first is_equals line))
     else None
 
 -- the name and the value of a value line; a comment is none
-unfoldable pub value_line : List ℕ → Option (List ℕ × List ℕ)
+unfoldable pub value_line : Line → Option (List ℕ × List ℕ)
 value_line line = if is_gap line then None else field_of line
 
 -- a value line with this name and value
-abbrev pub IsField : List ℕ → List ℕ → List ℕ → Type 0
+abbrev pub IsField : Line → List ℕ → List ℕ → Type 0
 IsField line name value = value_line line ≡ Some (name, value)
 
 -- The link from digits to bytes: the text has two hexadecimal digits, of either case, for each of these bytes.
@@ -46,74 +55,107 @@ abbrev pub Spells : List ℕ → List ℕ → Type 0
 Spells digits bytes = decode_of digits ≡ Ok bytes
 
 -- a value line with this name, whose value spells these bytes
-pub record IsHexField (line name bytes : List ℕ) : Type 0 where
+pub record IsHexField (line : Line) (name bytes : List ℕ) : Type 0 where
   pub digits : List ℕ
   pub field : IsField line name digits
   pub spelled : Spells digits bytes
 
--- the same, of n bytes
-pub record IsSizedField (line name : List ℕ) (n : ℕ) (bytes : List ℕ) : Type 0 where
-  pub field : IsHexField line name bytes
-  pub size : length bytes ≡ n
+-- so many bytes, where a number is asked for
+abbrev pub has_length : Option ℕ → List ℕ → Bool
+has_length None bytes = true
+has_length (Some n) bytes = length bytes == n
 
--- a value line with the name `suite`, whose value names this suite
-pub record IsSuiteLine (line : List ℕ) (suite : Suite) : Type 0 where
+-- a value line with a field's name, whose value spells these bytes, as many as the suite asks for
+pub record IsFieldLine (suite : Suite) (field : Field) (line : Line) (bytes : List ℕ) : Type 0 where
+  pub hex : IsHexField line (field_name field) bytes
+  pub size : has_length (field_length suite field) bytes ≡ true
+
+-- a value line with the name `format`, whose value names this format
+pub record IsFormatLine (line : Line) (format : Format) : Type 0 where
+  pub name : List ℕ
+  pub field : IsField line (codes "format") name
+  pub known : format_named name ≡ Some format
+
+-- a value line with the name `suite`, whose value names this suite of the format
+pub record IsSuiteLine (format : Format) (line : Line) (suite : Suite) : Type 0 where
   pub name : List ℕ
   pub field : IsField line (codes "suite") name
-  pub known : suite_named name ≡ Some suite
+  pub known : suite_named format name ≡ Some suite
 
--- the last line of a record: its text, or `invalid`
-pub data IsEndLine : List ℕ → Option (List ℕ) → Type 0 where
-  text : {line bytes : List ℕ} → IsHexField line (codes "text") bytes → IsEndLine line (Some bytes)
-  invalid : IsEndLine (codes "invalid") None
+-- ---- cuts
+
+-- whether a record may have a line of cuts: one of an AEAD suite, in format 2
+abbrev pub may_cut : Format → Suite → Bool
+may_cut One suite = false
+may_cut Two suite = is_aead suite
+
+-- the greatest number that may stand there: the bytes of the text
+abbrev pub most_cut : Record → ℕ
+most_cut r = length r.sealed - 16
+
+-- a value line with the name `cuts`, whose value is cuts of the record's text
+pub record IsCutsLine (r : Record) (line : Line) : Type 0 where
+  pub value : List ℕ
+  pub field : IsField line (codes "cuts") value
+  pub cuts : are_cuts (most_cut r) value ≡ true
 
 -- ---- records
 
--- six lines that make a record of an AEAD suite
-pub record IsAead (a b c d e f : List ℕ) (r : Record) : Type 0 where
-  pub suite : IsSuiteLine a r.suite
-  pub kind : is_wrap r.suite ≡ false
-  pub key : IsSizedField b (codes "key") (key_bytes r.suite) r.key
-  pub nonce : IsSizedField c (codes "nonce") 12 r.nonce
-  pub aad : IsHexField d (codes "aad") r.aad
-  pub sealed : IsHexField e (codes "sealed") r.sealed
-  pub ends : IsEndLine f r.text
+-- a record of which the suite alone is known
+abbrev pub unread : Suite → Record
+unread suite = record { suite = suite; key = []; nonce = []; aad = []; sealed = []; text = None }
 
--- four lines that make a record of a wrap suite, which has no nonce and no associated data
-pub record IsWrap (a b c d : List ℕ) (r : Record) : Type 0 where
-  pub suite : IsSuiteLine a r.suite
-  pub kind : is_wrap r.suite ≡ true
-  pub key : IsSizedField b (codes "key") (key_bytes r.suite) r.key
-  pub nonce : r.nonce ≡ []
-  pub aad : r.aad ≡ []
-  pub sealed : IsHexField c (codes "sealed") r.sealed
-  pub ends : IsEndLine d r.text
+-- a record with the bytes of one field
+abbrev pub with_field : Field → List ℕ → Record → Record
+with_field Key bytes r = record r { key = bytes }
+with_field Nonce bytes r = record r { nonce = bytes }
+with_field Aad bytes r = record r { aad = bytes }
+with_field Sealed bytes r = record r { sealed = bytes }
 
--- records, with blank lines and comments between them
-pub data Records : List (List ℕ) → List Record → Type 0 where
-  ends : Records [] []
-  gap : {l : List ℕ} {ls : List (List ℕ)} {rs : List Record} → is_gap l ≡ true → Records ls rs → Records (l ∷ ls) rs
-  aead : {a b c d e f : List ℕ} {ls : List (List ℕ)} {r : Record} {rs : List Record} → IsAead a b c d e f r
-      → Records ls rs → Records (a ∷ b ∷ c ∷ d ∷ e ∷ f ∷ ls) (r ∷ rs)
-  wrap : {a b c d : List ℕ} {ls : List (List ℕ)} {r : Record} {rs : List Record} → IsWrap a b c d r
-      → Records ls rs → Records (a ∷ b ∷ c ∷ d ∷ ls) (r ∷ rs)
+-- a record with its text
+abbrev pub with_text : Option (List ℕ) → Record → Record
+with_text text r = record r { text = text }
+
+-- a line for each of these fields, in this order, makes of the first record the second
+pub data Fills : List Field → Record → List Line → Record → Type 0 where
+  nothing : {r : Record} → Fills [] r [] r
+  field : {f : Field} {fs : List Field} {r s : Record} {l : Line} {ls : List Line} {bytes : List ℕ}
+      → IsFieldLine r.suite f l bytes → Fills fs (with_field f bytes r) ls s → Fills (f ∷ fs) r (l ∷ ls) s
+
+-- the last lines of a record, and its text: a text line, or `invalid`, or a line of cuts and then a text line
+pub data Ends (format : Format) (r : Record) : List Line → Option (List ℕ) → Type 0 where
+  text_line : {l : Line} {bytes : List ℕ} → IsHexField l (codes "text") bytes → Ends format r (l ∷ []) (Some bytes)
+  invalid : Ends format r (codes "invalid" ∷ []) None
+  cuts : {c l : Line} {bytes : List ℕ} → may_cut format r.suite ≡ true → IsCutsLine r c → IsHexField l (codes "text") bytes
+      → Ends format r (c ∷ l ∷ []) (Some bytes)
+
+-- the lines of a record: its suite, the fields of the suite, and its end
+pub data IsRecord (format : Format) : List Line → Record → Type 0 where
+  made : {suite : Suite} {l : Line} {ms es : List Line} {r : Record} {text : Option (List ℕ)}
+      → IsSuiteLine format l suite → Fills (fields_of suite) (unread suite) ms r → Ends format r es text
+      → IsRecord format (l ∷ (ms ++ es)) (with_text text r)
 
 -- ---- the file
 
--- the format line, with blank lines and comments before it, and then records
-pub data Formatted : List (List ℕ) → List Record → Type 0 where
-  before : {l : List ℕ} {ls : List (List ℕ)} {rs : List Record} → is_gap l ≡ true → Formatted ls rs → Formatted (l ∷ ls) rs
-  starts : {l : List ℕ} {ls : List (List ℕ)} {rs : List Record} → IsField l (codes "format") (codes "1")
-      → Records ls rs → Formatted (l ∷ ls) rs
+-- the format line, with blank lines and comments before it; and then, one after the other, records and further blank
+-- lines and comments
+pub data Formatted (format : Format) : List Line → List Record → Type 0 where
+  starts : (gaps : List Line) {l : Line} → list_all is_gap gaps ≡ true → IsFormatLine l format
+      → Formatted format (gaps ++ l ∷ []) []
+  gap : {ls : List Line} (l : Line) {rs : List Record} → Formatted format ls rs → is_gap l ≡ true
+      → Formatted format (ls ++ l ∷ []) rs
+  adds : {ls ms : List Line} {rs : List Record} {r : Record} → Formatted format ls rs → IsRecord format ms r
+      → Formatted format (ls ++ ms) (rs ++ r ∷ [])
 
 -- the lines are a file of these records, at least one
-pub record IsFile (lines : List (List ℕ)) (records : List Record) : Type 0 where
-  pub formatted : Formatted lines records
+pub record IsFile (lines : List Line) (records : List Record) : Type 0 where
+  pub format : Format
+  pub formatted : Formatted format lines records
   pub some : records ≢ []
 
 -- some lines after these, at most five, make a file
-pub record IsViable (lines : List (List ℕ)) : Type 0 where
-  pub more : List (List ℕ)
+pub record IsViable (lines : List Line) : Type 0 where
+  pub more : List Line
   pub few : length more ≤ 5
   pub records : List Record
   pub file : IsFile (lines ++ more) records

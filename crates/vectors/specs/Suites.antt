@@ -1,50 +1,89 @@
--- The suites of a vector file.
-use Rattle.std.specs.Prelude.{ℕ, List, Bool, Option, Some, None, is_none, if◌then◌else◌, codes}
+-- The formats, their suites, and the fields of a suite's records.
+use Rattle.std.specs.Prelude.{ℕ, List, [], ◌∷◌, ◌++◌, Bool, true, false, Option, Some, None, if◌then◌else◌, codes}
+use Rattle.std.specs.List.{find}
 use Rattle.std.specs.Str.{bytes_eq}
-use Rattle.aead.specs.declared.suite.Suite as aead
-use Rattle.aead.specs.declared.suite.Suite.TheVariants as sealing
-use Rattle.aead.specs.Suites.{suite_name, key_length}
+use Rattle.aead.specs.declared.suite.Suite.TheVariants.{ChaCha20Poly1305, Aes128Gcm, Aes192Gcm, Aes256Gcm, Aes128GcmSiv, Aes256GcmSiv}
+use Rattle.aead.specs.Suites as ciphers
+use Rattle.vectors.specs.declared.suite.Format.{Format}
+use Rattle.vectors.specs.declared.suite.Format.TheVariants.{One, Two}
+use Rattle.vectors.specs.declared.suite.Aes.{Aes}
+use Rattle.vectors.specs.declared.suite.Aes.TheVariants.{Bits128, Bits192, Bits256}
 use Rattle.vectors.specs.declared.suite.Suite.{Suite}
-use Rattle.vectors.specs.declared.suite.Suite.TheVariants.{ChaCha20Poly1305, Aes128Gcm, Aes192Gcm, Aes256Gcm, Aes128GcmSiv, Aes256GcmSiv, Aes128Wrap, Aes192Wrap, Aes256Wrap}
+use Rattle.vectors.specs.declared.suite.Suite.TheVariants.{Aead, Wrap, WrapPad}
+use Rattle.vectors.specs.declared.suite.Field.{Field}
+use Rattle.vectors.specs.declared.suite.Field.TheVariants.{Key, Nonce, Aad, Sealed}
 
--- the suite of that name: an AEAD suite by its own name, and key wrapping by its key's bits
-unfoldable pub suite_named : List ℕ → Option Suite
-suite_named name =
-    if bytes_eq name (suite_name sealing.ChaCha20Poly1305) then Some ChaCha20Poly1305
-    else if bytes_eq name (suite_name sealing.Aes128Gcm) then Some Aes128Gcm
-    else if bytes_eq name (suite_name sealing.Aes192Gcm) then Some Aes192Gcm
-    else if bytes_eq name (suite_name sealing.Aes256Gcm) then Some Aes256Gcm
-    else if bytes_eq name (suite_name sealing.Aes128GcmSiv) then Some Aes128GcmSiv
-    else if bytes_eq name (suite_name sealing.Aes256GcmSiv) then Some Aes256GcmSiv
-    else if bytes_eq name (codes "aes-128-wrap") then Some Aes128Wrap
-    else if bytes_eq name (codes "aes-192-wrap") then Some Aes192Wrap
-    else if bytes_eq name (codes "aes-256-wrap") then Some Aes256Wrap
-    else None
+-- the format that a format line names
+abbrev pub format_named : List ℕ → Option Format
+format_named name = if bytes_eq name (codes "1") then Some One else if bytes_eq name (codes "2") then Some Two else None
 
--- the AEAD suite; a suite of key wrapping is none
-abbrev pub aead_suite : Suite → Option aead.Suite
-aead_suite ChaCha20Poly1305 = Some sealing.ChaCha20Poly1305
-aead_suite Aes128Gcm = Some sealing.Aes128Gcm
-aead_suite Aes192Gcm = Some sealing.Aes192Gcm
-aead_suite Aes256Gcm = Some sealing.Aes256Gcm
-aead_suite Aes128GcmSiv = Some sealing.Aes128GcmSiv
-aead_suite Aes256GcmSiv = Some sealing.Aes256GcmSiv
-aead_suite Aes128Wrap = None
-aead_suite Aes192Wrap = None
-aead_suite Aes256Wrap = None
+-- ---- suites
 
--- whether a record of the suite has no nonce and no associated data
-abbrev pub is_wrap : Suite → Bool
-is_wrap suite = is_none (aead_suite suite)
+-- the name of a suite
+abbrev pub suite_name : Suite → List ℕ
+suite_name (Aead suite) = ciphers.suite_name suite
+suite_name (Wrap Bits128) = codes "aes-128-wrap"
+suite_name (Wrap Bits192) = codes "aes-192-wrap"
+suite_name (Wrap Bits256) = codes "aes-256-wrap"
+suite_name (WrapPad Bits128) = codes "aes-128-wrap-pad"
+suite_name (WrapPad Bits192) = codes "aes-192-wrap-pad"
+suite_name (WrapPad Bits256) = codes "aes-256-wrap-pad"
 
--- the number of bytes in a key
-abbrev pub key_bytes : Suite → ℕ
-key_bytes ChaCha20Poly1305 = key_length sealing.ChaCha20Poly1305
-key_bytes Aes128Gcm = key_length sealing.Aes128Gcm
-key_bytes Aes192Gcm = key_length sealing.Aes192Gcm
-key_bytes Aes256Gcm = key_length sealing.Aes256Gcm
-key_bytes Aes128GcmSiv = key_length sealing.Aes128GcmSiv
-key_bytes Aes256GcmSiv = key_length sealing.Aes256GcmSiv
-key_bytes Aes128Wrap = 16
-key_bytes Aes192Wrap = 24
-key_bytes Aes256Wrap = 32
+-- the suites of both formats
+abbrev pub common_suites : List Suite
+common_suites =
+    Aead ChaCha20Poly1305 ∷ Aead Aes128Gcm ∷ Aead Aes192Gcm ∷ Aead Aes256Gcm ∷ Aead Aes128GcmSiv ∷ Aead Aes256GcmSiv
+    ∷ Wrap Bits128 ∷ Wrap Bits192 ∷ Wrap Bits256 ∷ []
+
+-- the suites of key wrapping with padding
+abbrev pub padded_suites : List Suite
+padded_suites = WrapPad Bits128 ∷ WrapPad Bits192 ∷ WrapPad Bits256 ∷ []
+
+-- the suites of a format
+abbrev pub suites : Format → List Suite
+suites One = common_suites
+suites Two = common_suites ++ padded_suites
+
+-- the suite of a format with that name
+unfoldable pub suite_named : Format → List ℕ → Option Suite
+suite_named format name = find (λ s. bytes_eq name (suite_name s)) (suites format)
+
+-- whether a suite is one of authenticated encryption
+abbrev pub is_aead : Suite → Bool
+is_aead (Aead suite) = true
+is_aead (Wrap aes) = false
+is_aead (WrapPad aes) = false
+
+-- the number of bytes in a key of AES
+abbrev pub aes_key_length : Aes → ℕ
+aes_key_length Bits128 = 16
+aes_key_length Bits192 = 24
+aes_key_length Bits256 = 32
+
+-- the number of bytes in a suite's key
+abbrev pub suite_key_length : Suite → ℕ
+suite_key_length (Aead suite) = ciphers.key_length suite
+suite_key_length (Wrap aes) = aes_key_length aes
+suite_key_length (WrapPad aes) = aes_key_length aes
+
+-- ---- the lines of a record between its suite and its end
+
+-- the fields, in the order of their lines
+abbrev pub fields_of : Suite → List Field
+fields_of (Aead suite) = Key ∷ Nonce ∷ Aad ∷ Sealed ∷ []
+fields_of (Wrap aes) = Key ∷ Sealed ∷ []
+fields_of (WrapPad aes) = Key ∷ Sealed ∷ []
+
+-- the name of a field
+abbrev pub field_name : Field → List ℕ
+field_name Key = codes "key"
+field_name Nonce = codes "nonce"
+field_name Aad = codes "aad"
+field_name Sealed = codes "sealed"
+
+-- how many bytes a field has; nothing is asked of associated data and of sealed bytes
+abbrev pub field_length : Suite → Field → Option ℕ
+field_length suite Key = Some (suite_key_length suite)
+field_length suite Nonce = Some 12
+field_length suite Aad = None
+field_length suite Sealed = None

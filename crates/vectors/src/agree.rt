@@ -4,13 +4,15 @@ ghost use Rattle.aes.specs.Cipher.{IsKeyLength};
 ghost use Rattle.aead.specs.Suites.{key_length};
 ghost use Rattle.aead.specs.Sealing.{Opened, Setting};
 ghost use Rattle.keywrap.specs.Wrapping.{Unwrapped};
-ghost use Rattle.vectors.specs.Views.{entry_view};
+ghost use Rattle.keywrap.specs.Padded.{UnwrappedPadded};
+ghost use Rattle.vectors.specs.Code.Views.{entry_view};
 ghost use Rattle.vectors.specs.Agreement.{Agrees, Holds, IsOnly, IsSized};
 
 use crate::place::Entry;
+use crate::suite::Suite;
 use aead::{AnyAead, open};
 use aes::AesKey;
-use keywrap::unwrap;
+use keywrap::{unwrap, unwrap_padded};
 use octets::{Fault, Nonce};
 use std::alloc::{AllocError, Allocator};
 
@@ -60,6 +62,25 @@ fn unwrapped<A: Allocator>(
     }
 }
 
+/// The same with padding.
+fn unwrapped_padded<A: Allocator>(
+    alloc: A,
+    key: &[u8],
+    sealed: &[u8],
+) -> Result<Option<Vec<u8, A>>, AllocError>
+    requires { IsKeyLength (length key.now) }
+    ensures { IfOk result (λ found. IsOnly (UnwrappedPadded key.now sealed.now) (option_map (λ v. v.items) found)) }
+{
+    let Ok(key) = AesKey::from_slice(key) else {
+        unreachable!()
+    };
+    match unwrap_padded(alloc, &key, sealed) {
+        Ok(text) => Ok(Some(text)),
+        Err(Fault::OutOfMemory) => Err(AllocError),
+        Err(_) => Ok(None),
+    }
+}
+
 /// The text that a record's sealed bytes hold, if there is one.
 fn text_in<'a, A: Allocator>(
     alloc: &'a A,
@@ -70,13 +91,14 @@ fn text_in<'a, A: Allocator>(
 {
     let key = entry.key.bytes(alloc)?;
     let sealed = entry.sealed.bytes(alloc)?;
-    match entry.suite.aead() {
-        Some(suite) => {
+    match entry.suite {
+        Suite::Aead(suite) => {
             let nonce = entry.nonce.bytes(alloc)?;
             let aad = entry.aad.bytes(alloc)?;
             opened(alloc, suite, &key, &nonce, &aad, &sealed)
         }
-        None => unwrapped(alloc, &key, &sealed),
+        Suite::Wrap(_) => unwrapped(alloc, &key, &sealed),
+        Suite::WrapPad(_) => unwrapped_padded(alloc, &key, &sealed),
     }
 }
 

@@ -16,7 +16,7 @@ pub(crate) struct Digits<'a> {
 impl<'a> Digits<'a> {
     ghost use Rattle.std.specs.Prelude.{length, [], IfOk, MatchOption, false};
     ghost use Rattle.vectors.specs.Faults.{bytes_of};
-    ghost use Rattle.vectors.specs.Views.{bytes_in};
+    ghost use Rattle.vectors.specs.Code.Views.{bytes_in};
 
     /// The digits of a value, if it is any.
     pub fn of(value: &'a [u8]) -> Option<Digits<'a>>

@@ -25,6 +25,9 @@ pub enum VectorFault {
     /// A key or a nonce of another length than the suite's.
     #[error("BadLength at line {0}")]
     BadLength(u64),
+    /// The value is no list of cuts: numbers joined by commas that are at least 1, rise, and are at most the text's length.
+    #[error("BadCuts at line {0}")]
+    BadCuts(u64),
     /// No line is at fault, and no record was begun.
     #[error("NoRecords")]
     NoRecords,
@@ -45,4 +48,5 @@ pub(crate) enum Cause {
     UnknownSuite,
     BadHex,
     BadLength,
+    BadCuts,
 }

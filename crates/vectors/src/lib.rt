@@ -2,6 +2,7 @@
 #![tactic(auto)]
 
 mod agree;
+mod cuts;
 mod digits;
 mod fault;
 mod field;

@@ -1,16 +1,17 @@
 // What may stand on the next line.
 ghost use Rattle.std.specs.Prelude.{◌≡◌, ◌≤◌};
-ghost use Rattle.vectors.specs.Grammar.{value_line};
-ghost use Rattle.vectors.specs.Faults.{is_format};
-ghost use Rattle.vectors.specs.Steps.{value_at, hex_at, sized_at, suite_at, end_at, step};
-ghost use Rattle.vectors.specs.Views.{view, made, bytes_in, text_view, Gives};
+ghost use Rattle.vectors.specs.Grammar.{value_line, may_cut, unread, with_field};
+ghost use Rattle.vectors.specs.Faults.{is_named};
+ghost use Rattle.vectors.specs.Code.Steps.{value_at, hex_at, field_at, format_at, suite_at, text_at, cuts_at, end_at, step};
+ghost use Rattle.vectors.specs.Code.Views.{view, made, bytes_in, entry_view, Gives};
 
+use crate::cuts::are_cuts;
 use crate::digits::Digits;
 use crate::fault::Cause;
 use crate::field::{is_gap, value_line};
-use crate::suite::Suite;
+use crate::suite::{Field, Format, Suite};
 
-/// A record as the file writes it.
+/// A record as the file writes it, or what was read of it.
 #[derive(Clone, Copy)]
 pub(crate) struct Entry<'a> {
     pub suite: Suite,
@@ -21,20 +22,59 @@ pub(crate) struct Entry<'a> {
     pub text: Option<Digits<'a>>,
 }
 
-/// Which line is expected, with the values of the record that were read.
-#[derive(Clone, Copy)]
-pub(crate) enum Place<'a> {
-    Format,
-    Between,
-    Key(Suite),
-    Nonce(Suite, Digits<'a>),
-    Aad(Suite, Digits<'a>, Digits<'a>),
-    Sealed(Suite, Digits<'a>, Digits<'a>, Digits<'a>),
-    End(Suite, Digits<'a>, Digits<'a>, Digits<'a>, Digits<'a>),
+impl<'a> Entry<'a> {
+    /// A record of which the suite alone was read.
+    fn unread(suite: Suite) -> Entry<'a>
+        ensures { entry_view result ≡ unread suite }
+    {
+        let none = Digits::none();
+        Entry {
+            suite,
+            key: none,
+            nonce: none,
+            aad: none,
+            sealed: none,
+            text: None,
+        }
+    }
+
+    /// The record with the value of a field.
+    fn with_field(self, field: Field, value: Digits<'a>) -> Entry<'a>
+        ensures { entry_view result ≡ with_field field (bytes_in value.entry) (entry_view self.entry) }
+    {
+        match field {
+            Field::Key => Entry { key: value, ..self },
+            Field::Nonce => Entry {
+                nonce: value,
+                ..self
+            },
+            Field::Aad => Entry { aad: value, ..self },
+            Field::Sealed => Entry {
+                sealed: value,
+                ..self
+            },
+        }
+    }
 }
 
+/// Which line is expected, with what was read of the record.
+#[derive(Clone, Copy)]
+pub(crate) enum Place<'a> {
+    /// The format line, or a line before it.
+    Start,
+    /// The first line of a record, or a line between records.
+    Between(Format),
+    /// The first of these fields, or the end where none is left.
+    Fields(Format, &'static [Field], Entry<'a>),
+    /// The text line behind cuts.
+    Text(Format, Entry<'a>),
+}
+
+/// A place, and the record that ended before it.
+type Next<'a> = (Place<'a>, Option<Entry<'a>>);
+
 /// The value of a line with this name.
-#[tactic(auto, unfolding(crate::specs::Steps::value_at))]
+#[tactic(auto, unfolding(crate::specs::Code::Steps::value_at))]
 fn value_at<'a>(name: &[u8], line: &'a [u8]) -> Result<&'a [u8], Cause>
     ensures { Gives (λ v. v.now) result (value_at name.now line.entry.now) }
 {
@@ -51,7 +91,7 @@ fn value_at<'a>(name: &[u8], line: &'a [u8]) -> Result<&'a [u8], Cause>
 }
 
 /// The digits of a line with this name.
-#[tactic(auto, unfolding(crate::specs::Steps::hex_at))]
+#[tactic(auto, unfolding(crate::specs::Code::Steps::hex_at))]
 fn hex_at<'a>(name: &[u8], line: &'a [u8]) -> Result<Digits<'a>, Cause>
     ensures { Gives bytes_in result (hex_at name.now line.entry.now) }
 {
@@ -62,107 +102,146 @@ fn hex_at<'a>(name: &[u8], line: &'a [u8]) -> Result<Digits<'a>, Cause>
     }
 }
 
-/// The same, of `size` bytes.
-#[tactic(auto, unfolding(crate::specs::Steps::sized_at))]
-fn sized_at<'a>(name: &[u8], size: usize, line: &'a [u8]) -> Result<Digits<'a>, Cause>
-    ensures { Gives bytes_in result (sized_at name.now size line.entry.now) }
+/// The digits of a field.
+#[tactic(auto, unfolding(crate::specs::Code::Steps::field_at))]
+fn field_at<'a>(suite: Suite, field: Field, line: &'a [u8]) -> Result<Digits<'a>, Cause>
+    ensures { Gives bytes_in result (field_at suite field line.entry.now) }
 {
-    let digits = hex_at(name, line)?;
-    if digits.byte_count() == size {
-        Ok(digits)
-    } else {
-        Err(Cause::BadLength)
+    let digits = hex_at(field.name(), line)?;
+    match suite.field_length(field) {
+        Some(length) => {
+            if digits.byte_count() == length {
+                Ok(digits)
+            } else {
+                Err(Cause::BadLength)
+            }
+        }
+        None => Ok(digits),
     }
 }
 
-/// The suite that a line names.
-#[tactic(auto, unfolding(crate::specs::Steps::suite_at))]
-fn suite_at(line: &[u8]) -> Result<Suite, Cause>
-    ensures { Gives (λ s. s) result (suite_at line.now) }
-{
-    let name = value_at(b"suite", line)?;
-    Suite::named(name).ok_or(Cause::UnknownSuite)
-}
-
-/// The text of a record's last line, if it has one.
-#[tactic(auto, unfolding(crate::specs::Steps::end_at))]
-fn end_at<'a>(line: &'a [u8]) -> Result<Option<Digits<'a>>, Cause>
-    ensures { Gives text_view result (end_at line.entry.now) }
-{
-    if line == b"invalid".as_slice() {
-        return Ok(None);
-    }
-    let digits = hex_at(b"text", line)?;
-    Ok(Some(digits))
-}
-
-/// Whether a line is the format line.
-fn is_format(line: &[u8]) -> bool
-    ensures { result ≡ is_format (value_line line.now) }
+/// The format that a line names.
+#[tactic(auto, unfolding(crate::specs::Code::Steps::format_at))]
+fn format_at(line: &[u8]) -> Result<Format, Cause>
+    ensures { Gives (λ f. f) result (format_at line.now) }
 {
     match value_line(line) {
-        Some((name, value)) => name == b"format".as_slice() && value == b"1".as_slice(),
-        None => false,
-    }
-}
-
-/// What is expected behind a line, and the record that it ends.
-#[tactic(auto, unfolding(crate::specs::Steps::step))]
-pub(crate) fn step<'a>(
-    place: Place<'a>,
-    line: &'a [u8],
-) -> Result<(Place<'a>, Option<Entry<'a>>), Cause>
-    ensures { Gives (λ r. (view r.0, made r.1)) result (step (view place.entry) line.entry.now) }
-{
-    match place {
-        Place::Format => {
-            if is_gap(line) {
-                Ok((Place::Format, None))
-            } else if is_format(line) {
-                Ok((Place::Between, None))
+        Some((name, value)) => {
+            if name == b"format".as_slice() {
+                Format::named(value).ok_or(Cause::BadFormat)
             } else {
                 Err(Cause::BadFormat)
             }
         }
-        Place::Between => {
+        None => Err(Cause::BadFormat),
+    }
+}
+
+/// The suite that a line names.
+#[tactic(auto, unfolding(crate::specs::Code::Steps::suite_at))]
+fn suite_at(format: Format, line: &[u8]) -> Result<Suite, Cause>
+    ensures { Gives (λ s. s) result (suite_at format line.now) }
+{
+    let name = value_at(b"suite", line)?;
+    Suite::named(format, name).ok_or(Cause::UnknownSuite)
+}
+
+/// Whether a value line has this name.
+fn is_named(name: &[u8], line: &[u8]) -> bool
+    ensures { result ≡ is_named name.now (value_line line.now) }
+{
+    match value_line(line) {
+        Some((found, _)) => found == name,
+        None => false,
+    }
+}
+
+/// Whether a record may have a line of cuts.
+fn may_cut(format: Format, suite: Suite) -> bool
+    ensures { result ≡ may_cut format suite }
+{
+    match format {
+        Format::One => false,
+        Format::Two => suite.is_aead(),
+    }
+}
+
+/// What is expected behind a text line, and the record that it ends.
+#[tactic(auto, unfolding(crate::specs::Code::Steps::text_at))]
+fn text_at<'a>(format: Format, entry: Entry<'a>, line: &'a [u8]) -> Result<Next<'a>, Cause>
+    ensures { Gives (λ r. (view r.0, made r.1)) result (text_at format (entry_view entry.entry) line.entry.now) }
+{
+    let text = Some(hex_at(b"text", line)?);
+    Ok((Place::Between(format), Some(Entry { text, ..entry })))
+}
+
+/// What is expected behind a line of cuts.
+#[tactic(auto, unfolding(crate::specs::Code::Steps::cuts_at))]
+fn cuts_at<'a>(format: Format, entry: Entry<'a>, line: &'a [u8]) -> Result<Next<'a>, Cause>
+    ensures { Gives (λ r. (view r.0, made r.1)) result (cuts_at format (entry_view entry.entry) line.entry.now) }
+{
+    let value = value_at(b"cuts", line)?;
+    if are_cuts(entry.sealed.byte_count().saturating_sub(16) as u64, value) {
+        Ok((Place::Text(format, entry), None))
+    } else {
+        Err(Cause::BadCuts)
+    }
+}
+
+/// What is expected behind the line behind all fields, and the record that it ends.
+#[tactic(auto, unfolding(crate::specs::Code::Steps::end_at))]
+fn end_at<'a>(format: Format, entry: Entry<'a>, line: &'a [u8]) -> Result<Next<'a>, Cause>
+    ensures { Gives (λ r. (view r.0, made r.1)) result (end_at format (entry_view entry.entry) line.entry.now) }
+{
+    if line == b"invalid".as_slice() {
+        return Ok((
+            Place::Between(format),
+            Some(Entry {
+                text: None,
+                ..entry
+            }),
+        ));
+    }
+    if may_cut(format, entry.suite) && is_named(b"cuts", line) {
+        return cuts_at(format, entry, line);
+    }
+    text_at(format, entry, line)
+}
+
+/// What is expected behind a line, and the record that it ends.
+#[tactic(auto, unfolding(crate::specs::Code::Steps::step))]
+pub(crate) fn step<'a>(place: Place<'a>, line: &'a [u8]) -> Result<Next<'a>, Cause>
+    ensures { Gives (λ r. (view r.0, made r.1)) result (step (view place.entry) line.entry.now) }
+{
+    match place {
+        Place::Start => {
             if is_gap(line) {
-                Ok((Place::Between, None))
+                Ok((Place::Start, None))
             } else {
-                Ok((Place::Key(suite_at(line)?), None))
+                Ok((Place::Between(format_at(line)?), None))
             }
         }
-        Place::Key(suite) => {
-            let key = sized_at(b"key", suite.key_bytes(), line)?;
-            if suite.is_wrap() {
-                let none = Digits::none();
-                Ok((Place::Sealed(suite, key, none, none), None))
+        Place::Between(format) => {
+            if is_gap(line) {
+                Ok((Place::Between(format), None))
             } else {
-                Ok((Place::Nonce(suite, key), None))
+                let suite = suite_at(format, line)?;
+                Ok((
+                    Place::Fields(format, suite.fields(), Entry::unread(suite)),
+                    None,
+                ))
             }
         }
-        Place::Nonce(suite, key) => {
-            let nonce = sized_at(b"nonce", 12, line)?;
-            Ok((Place::Aad(suite, key, nonce), None))
-        }
-        Place::Aad(suite, key, nonce) => {
-            let aad = hex_at(b"aad", line)?;
-            Ok((Place::Sealed(suite, key, nonce, aad), None))
-        }
-        Place::Sealed(suite, key, nonce, aad) => {
-            let sealed = hex_at(b"sealed", line)?;
-            Ok((Place::End(suite, key, nonce, aad, sealed), None))
-        }
-        Place::End(suite, key, nonce, aad, sealed) => {
-            let text = end_at(line)?;
-            let entry = Entry {
-                suite,
-                key,
-                nonce,
-                aad,
-                sealed,
-                text,
-            };
-            Ok((Place::Between, Some(entry)))
-        }
+        Place::Fields(format, left, entry) => match left {
+            [] => end_at(format, entry, line),
+            [field, others @ ..] => {
+                let value = field_at(entry.suite, *field, line)?;
+                Ok((
+                    Place::Fields(format, others, entry.with_field(*field, value)),
+                    None,
+                ))
+            }
+        },
+        Place::Text(format, entry) => text_at(format, entry, line),
     }
 }

@@ -23,6 +23,7 @@ fn fault_at(cause: Cause, line: u64) -> VectorFault
         Cause::UnknownSuite => VectorFault::UnknownSuite(line),
         Cause::BadHex => VectorFault::BadHex(line),
         Cause::BadLength => VectorFault::BadLength(line),
+        Cause::BadCuts => VectorFault::BadCuts(line),
     }
 }
 
@@ -35,7 +36,7 @@ fn read<A: Allocator>(alloc: A, file: &[u8]) -> Result<Report<A>, VectorFault>
         records: 0,
         bad: Vec::new(alloc),
     };
-    let mut place = Place::Format;
+    let mut place = Place::Start;
     let mut count = 0u64;
     let mut rest = file;
     while let Some((line, behind)) = first_line(rest) {
@@ -53,8 +54,8 @@ fn read<A: Allocator>(alloc: A, file: &[u8]) -> Result<Report<A>, VectorFault>
         }
     }
     match place {
-        Place::Format => Err(VectorFault::NoRecords),
-        Place::Between => {
+        Place::Start => Err(VectorFault::NoRecords),
+        Place::Between(_) => {
             if report.records == 0 {
                 Err(VectorFault::NoRecords)
             } else {
@@ -65,7 +66,7 @@ fn read<A: Allocator>(alloc: A, file: &[u8]) -> Result<Report<A>, VectorFault>
     }
 }
 
-/// The report of a vector file of format 1: how many records it has, and which of them disagree with their standard. The
+/// The report of a vector file of format 1 or 2: how many records it has, and which of them disagree with their standard. The
 /// file is any bytes, and is read once. Where it is not in the grammar the answer is its first fault: the number of a
 /// line is the least one such that the lines up to it can't begin a file. `OutOfMemory` comes only where a growth was
 /// refused in this call; memory is taken for the record that is judged and for the numbers in the report.

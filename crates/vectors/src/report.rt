@@ -1,6 +1,6 @@
 // How many records a file has, and which of them disagree.
 ghost use Rattle.std.specs.Prelude.{◌≡◌, ◌↔◌, ◌+◌, ◌<◌, ◌≤◌, ◌^◌, [], ◌∷◌, ◌++◌, OnOk, IsTrue, if◌then◌else◌};
-ghost use Rattle.vectors.specs.Views.{entry_view};
+ghost use Rattle.vectors.specs.Code.Views.{entry_view};
 ghost use Rattle.vectors.specs.Agreement.{IsSized};
 ghost use Rattle.vectors.specs.Reports.{Judges};
 

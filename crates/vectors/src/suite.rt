@@ -1,82 +1,189 @@
-// The suites of a vector file.
+// The formats, their suites, and the fields of a suite's records.
 ghost use Rattle.std.specs.Prelude.{◌≡◌, ◌≤◌};
-ghost use Rattle.vectors.specs.Suites.{suite_named, key_bytes, aead_suite, is_wrap};
+ghost use Rattle.std.specs.List.{find};
+ghost use Rattle.std.specs.Str.{bytes_eq};
+ghost use Rattle.vectors.specs.Suites.{format_named, suite_name, suites, suite_named, aes_key_length, suite_key_length, is_aead, fields_of, field_name, field_length};
+
+/// The format of a vector file.
+#[derive(Clone, Copy, Debug, PartialEq, Eq)]
+pub(crate) enum Format {
+    One,
+    /// It knows key wrapping with padding, and cuts.
+    Two,
+}
+
+/// The length of a key of AES.
+#[derive(Clone, Copy, Debug, PartialEq, Eq)]
+pub(crate) enum Aes {
+    Bits128,
+    Bits192,
+    Bits256,
+}
 
 /// What a record's bytes are sealed or wrapped by.
 #[derive(Clone, Copy, Debug, PartialEq, Eq)]
 pub(crate) enum Suite {
-    ChaCha20Poly1305,
-    Aes128Gcm,
-    Aes192Gcm,
-    Aes256Gcm,
-    Aes128GcmSiv,
-    Aes256GcmSiv,
-    Aes128Wrap,
-    Aes192Wrap,
-    Aes256Wrap,
+    Aead(aead::Suite),
+    /// Key wrapping.
+    Wrap(Aes),
+    /// Key wrapping with padding.
+    WrapPad(Aes),
 }
 
-impl Suite {
-    /// The suite of that name.
-    #[tactic(auto, unfolding(crate::specs::Suites::suite_named))]
-    pub fn named(name: &[u8]) -> Option<Suite>
-        ensures { result ≡ suite_named name.now }
+/// A line of a record between its suite and its end.
+#[derive(Clone, Copy, Debug, PartialEq, Eq)]
+pub(crate) enum Field {
+    Key,
+    Nonce,
+    Aad,
+    Sealed,
+}
+
+const AEAD_FIELDS: [Field; 4] = [Field::Key, Field::Nonce, Field::Aad, Field::Sealed];
+
+const WRAP_FIELDS: [Field; 2] = [Field::Key, Field::Sealed];
+
+/// The suites of both formats, and then those of format 2.
+const SUITES: [Suite; 12] = [
+    Suite::Aead(aead::Suite::ChaCha20Poly1305),
+    Suite::Aead(aead::Suite::Aes128Gcm),
+    Suite::Aead(aead::Suite::Aes192Gcm),
+    Suite::Aead(aead::Suite::Aes256Gcm),
+    Suite::Aead(aead::Suite::Aes128GcmSiv),
+    Suite::Aead(aead::Suite::Aes256GcmSiv),
+    Suite::Wrap(Aes::Bits128),
+    Suite::Wrap(Aes::Bits192),
+    Suite::Wrap(Aes::Bits256),
+    Suite::WrapPad(Aes::Bits128),
+    Suite::WrapPad(Aes::Bits192),
+    Suite::WrapPad(Aes::Bits256),
+];
+
+impl Format {
+    /// The suites of the format.
+    fn suites(self) -> &'static [Suite]
+        ensures { result.now ≡ suites self }
     {
-        if name == b"chacha20-poly1305".as_slice() {
-            Some(Suite::ChaCha20Poly1305)
-        } else if name == b"aes-128-gcm".as_slice() {
-            Some(Suite::Aes128Gcm)
-        } else if name == b"aes-192-gcm".as_slice() {
-            Some(Suite::Aes192Gcm)
-        } else if name == b"aes-256-gcm".as_slice() {
-            Some(Suite::Aes256Gcm)
-        } else if name == b"aes-128-gcm-siv".as_slice() {
-            Some(Suite::Aes128GcmSiv)
-        } else if name == b"aes-256-gcm-siv".as_slice() {
-            Some(Suite::Aes256GcmSiv)
-        } else if name == b"aes-128-wrap".as_slice() {
-            Some(Suite::Aes128Wrap)
-        } else if name == b"aes-192-wrap".as_slice() {
-            Some(Suite::Aes192Wrap)
-        } else if name == b"aes-256-wrap".as_slice() {
-            Some(Suite::Aes256Wrap)
+        match self {
+            Format::One => &SUITES[..9],
+            Format::Two => &SUITES,
+        }
+    }
+
+    /// The format of that name.
+    pub fn named(name: &[u8]) -> Option<Format>
+        ensures { result ≡ format_named name.now }
+    {
+        if name == b"1".as_slice() {
+            Some(Format::One)
+        } else if name == b"2".as_slice() {
+            Some(Format::Two)
         } else {
             None
         }
     }
+}
+
+impl Field {
+    /// The name before its value.
+    pub fn name(self) -> &'static [u8]
+        ensures { result.now ≡ field_name self }
+    {
+        match self {
+            Field::Key => b"key".as_slice(),
+            Field::Nonce => b"nonce".as_slice(),
+            Field::Aad => b"aad".as_slice(),
+            Field::Sealed => b"sealed".as_slice(),
+        }
+    }
+}
+
+impl Aes {
+    /// The number of bytes in a key.
+    fn key_length(self) -> usize
+        ensures { result ≡ aes_key_length self }
+    {
+        match self {
+            Aes::Bits128 => 16,
+            Aes::Bits192 => 24,
+            Aes::Bits256 => 32,
+        }
+    }
+}
+
+/// The first of some suites that has that name.
+fn first_named(suites: &[Suite], name: &[u8]) -> Option<Suite>
+    ensures { result ≡ find (λ s. bytes_eq name.now (suite_name s)) suites.now }
+{
+    suites.iter().copied().find(|suite| suite.is_named(name))
+}
+
+impl Suite {
+    /// The suite of a format with that name.
+    #[tactic(auto, unfolding(crate::specs::Suites::suite_named))]
+    pub fn named(format: Format, name: &[u8]) -> Option<Suite>
+        ensures { result ≡ suite_named format name.now }
+    {
+        first_named(format.suites(), name)
+    }
+
+    /// Whether that is its name.
+    fn is_named(self, name: &[u8]) -> bool
+        ensures { result ≡ bytes_eq name.now (suite_name self) }
+    {
+        name == self.name()
+    }
+
+    /// The name of a suite.
+    fn name(self) -> &'static [u8]
+        ensures { result.now ≡ suite_name self }
+    {
+        match self {
+            Suite::Aead(suite) => suite.name().as_bytes(),
+            Suite::Wrap(Aes::Bits128) => b"aes-128-wrap".as_slice(),
+            Suite::Wrap(Aes::Bits192) => b"aes-192-wrap".as_slice(),
+            Suite::Wrap(Aes::Bits256) => b"aes-256-wrap".as_slice(),
+            Suite::WrapPad(Aes::Bits128) => b"aes-128-wrap-pad".as_slice(),
+            Suite::WrapPad(Aes::Bits192) => b"aes-192-wrap-pad".as_slice(),
+            Suite::WrapPad(Aes::Bits256) => b"aes-256-wrap-pad".as_slice(),
+        }
+    }
 
     /// The number of bytes in a key.
-    pub fn key_bytes(self) -> usize
-        ensures value { result ≡ key_bytes self }
-        ensures small { result ≤ 32 }
+    fn key_length(self) -> usize
+        ensures { result ≡ suite_key_length self }
     {
         match self {
-            Suite::Aes128Gcm | Suite::Aes128GcmSiv | Suite::Aes128Wrap => 16,
-            Suite::Aes192Gcm | Suite::Aes192Wrap => 24,
-            Suite::ChaCha20Poly1305 | Suite::Aes256Gcm | Suite::Aes256GcmSiv | Suite::Aes256Wrap =>
-                32,
+            Suite::Aead(suite) => suite.key_length(),
+            Suite::Wrap(aes) | Suite::WrapPad(aes) => aes.key_length(),
         }
     }
 
-    /// The AEAD suite; a suite of key wrapping is none.
-    pub fn aead(self) -> Option<aead::Suite>
-        ensures { result ≡ aead_suite self }
+    /// Whether it is a suite of authenticated encryption.
+    pub fn is_aead(self) -> bool
+        ensures { result ≡ is_aead self }
+    {
+        matches!(self, Suite::Aead(_))
+    }
+
+    /// The fields of a record, in the order of their lines.
+    pub fn fields(self) -> &'static [Field]
+        ensures { result.now ≡ fields_of self }
     {
         match self {
-            Suite::ChaCha20Poly1305 => Some(aead::Suite::ChaCha20Poly1305),
-            Suite::Aes128Gcm => Some(aead::Suite::Aes128Gcm),
-            Suite::Aes192Gcm => Some(aead::Suite::Aes192Gcm),
-            Suite::Aes256Gcm => Some(aead::Suite::Aes256Gcm),
-            Suite::Aes128GcmSiv => Some(aead::Suite::Aes128GcmSiv),
-            Suite::Aes256GcmSiv => Some(aead::Suite::Aes256GcmSiv),
-            Suite::Aes128Wrap | Suite::Aes192Wrap | Suite::Aes256Wrap => None,
+            Suite::Aead(_) => &AEAD_FIELDS,
+            Suite::Wrap(_) | Suite::WrapPad(_) => &WRAP_FIELDS,
         }
     }
 
-    /// Whether a record of the suite has no nonce and no associated data.
-    pub fn is_wrap(self) -> bool
-        ensures { result ≡ is_wrap self }
+    /// How many bytes a field has, where the format says so.
+    pub fn field_length(self, field: Field) -> Option<usize>
+        ensures { result ≡ field_length self field }
     {
-        self.aead().is_none()
+        match field {
+            Field::Key => Some(self.key_length()),
+            Field::Nonce => Some(12),
+            Field::Aad | Field::Sealed => None,
+        }
     }
 }

@@ -1,11 +1,12 @@
 // The published vectors as files, and the first fault of files with a damaged line.
 use crate::fault::VectorFault;
 use crate::reading::check;
-use crate::suite::Suite;
+use crate::suite::{Format, Suite};
 use bumpalo::Bump;
 use published::PUBLISHED;
 use std::test::Fail;
 
+mod cuts;
 mod damaged;
 mod published;
 
@@ -135,13 +136,12 @@ fn suites_have_the_names_of_the_ciphers(rt: HostRuntime) {
         "aes-256-gcm",
         "aes-128-gcm-siv",
         "aes-256-gcm-siv",
-        "aes-128-wrap",
     ] {
-        let suite = Suite::named(name.as_bytes());
+        let suite = Suite::named(Format::One, name.as_bytes());
         assert!(rt; suite.is_some(), "{name}");
         assert_eq!(rt;
-            suite.and_then(|s| s.aead()),
-            aead::Suite::named(name),
+            suite,
+            aead::Suite::named(name).map(|s| Suite::Aead(s)),
             "{name}"
         );
     }
@@ -156,6 +156,7 @@ fn faults_print_their_names_and_lines(rt: HostRuntime) -> Result<(), Fail> {
         (VectorFault::UnknownSuite(3), "UnknownSuite at line 3"),
         (VectorFault::BadHex(4), "BadHex at line 4"),
         (VectorFault::BadLength(5), "BadLength at line 5"),
+        (VectorFault::BadCuts(7), "BadCuts at line 7"),
         (VectorFault::NoRecords, "NoRecords"),
         (VectorFault::Unfinished(13), "Unfinished at line 13"),
         (VectorFault::OutOfMemory, "OutOfMemory"),

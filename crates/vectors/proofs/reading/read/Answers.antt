@@ -1,12 +1,12 @@
 use Rattle.std.proofs.Common.{rules, ap, ◌∙◌, subst, ◌≡◌, ◌∷◌, [], Ok, true, false, arith}
 use Rattle.vectors.specs.Lines.{lines_of}
-use Rattle.vectors.specs.Steps.{Place, step}
+use Rattle.vectors.specs.Code.Steps.{Place, step}
 use Rattle.vectors.specs.Faults.{is_inside}
-use Rattle.vectors.specs.Views.{entry_view, view}
+use Rattle.vectors.specs.Code.Views.{entry_view, view}
 use Rattle.vectors.specs.Reports.{Judges}
-use Rattle.vectors.proofs.ExpectedLemmas.{expected}
+use Rattle.vectors.proofs.Places.{expected}
 use Rattle.vectors.proofs.LineLemmas.{lines_nil}
-use Rattle.vectors.proofs.Progress.{inside_is, not_between, not_format}
+use Rattle.vectors.proofs.Progress.{inside_is, not_between, not_start}
 use Rattle.vectors.proofs.Judged.{Judged, sized_at_end, start, after_line, after_record, at_fault, at_end, at_cut, lines_read}
 use Rattle.vectors.proofs.reading.read.Goals as goal
 
@@ -50,18 +50,18 @@ loop-line-preserved g c =
       room = omega (arith, c.in-Some.ensures.shorter);
     }
 
-pub returns-in-Format-clause-fault : goal.returns-in-Format-clause-fault
-returns-in-Format-clause-fault g c =
+pub returns-in-Start-clause-fault : goal.returns-in-Start-clause-fault
+returns-in-Start-clause-fault g c =
     let place = view c.loop-line.place in
     let ended : c.loop-line.rest.now ≡ [] = search rules in
     at_cut (lines_of c.args.file.now) (lines_of c.loop-line.rest.now) c.loop-line.count place false c.loop-line.report.records c.loop-line.report.bad.items c.loop-line.invariant.so_far
-    (ap lines_of ended ∙ lines_nil) (λ e. absurd (not_format place (ap view c.in-Format.is) e)) (ap (λ p. is_inside (expected (view p))) c.in-Format.is)
+    (ap lines_of ended ∙ lines_nil) (λ F e. absurd (not_start place F (ap view c.in-Start.is) e)) (ap (λ p. is_inside (expected (view p))) c.in-Start.is)
 
 pub returns-then-report-eq0-clause-fault : goal.returns-then-report-eq0-clause-fault
 returns-then-report-eq0-clause-fault g c =
     let ended : c.loop-line.rest.now ≡ [] = search rules in
     at_cut (lines_of c.args.file.now) (lines_of c.loop-line.rest.now) c.loop-line.count (view c.loop-line.place) false c.loop-line.report.records c.loop-line.report.bad.items c.loop-line.invariant.so_far
-    (ap lines_of ended ∙ lines_nil) (λ e. c.if-report-eq0.true) (ap (λ p. is_inside (expected (view p))) c.in-Between.is)
+    (ap lines_of ended ∙ lines_nil) (λ F e. c.if-report-eq0.true) (ap (λ p. is_inside (expected (view p))) c.in-Between.is)
 
 pub returns-else-report-eq0-clause-report : goal.returns-else-report-eq0-clause-report
 returns-else-report-eq0-clause-report g c =
@@ -69,18 +69,18 @@ returns-else-report-eq0-clause-report g c =
     let report = c.loop-line.report in
     let lines = lines_of c.args.file.now in
     let rest = lines_of c.loop-line.rest.now in
-    at_end lines rest c.loop-line.count report.records report.bad.items
+    at_end lines rest c.loop-line.count report.records report.bad.items c.in-Between.field-0
     (subst (λ (p : Place). Judged lines rest c.loop-line.count p report.records report.bad.items) (ap view c.in-Between.is) c.loop-line.invariant.so_far) (ap lines_of ended ∙ lines_nil) c.if-report-eq0.false
 
 pub returns-in_default-place-clause-fault : goal.returns-in_default-place-clause-fault
 returns-in_default-place-clause-fault g c =
     let place = view c.loop-line.place in
     let ended : c.loop-line.rest.now ≡ [] = search rules in
-    let inside = inside_is c.loop-line.place c.in_default-place.not-Format c.in_default-place.not-Between in
+    let inside = inside_is c.loop-line.place c.in_default-place.not-Start c.in_default-place.not-Between in
     let lines = lines_of c.args.file.now in
     let rest = lines_of c.loop-line.rest.now in
     let so_far = c.loop-line.invariant.so_far in
     let none_left = ap lines_of ended ∙ lines_nil in (
-      at_cut lines rest c.loop-line.count place true c.loop-line.report.records c.loop-line.report.bad.items so_far none_left (λ e. absurd (not_between place inside e)) inside,
+      at_cut lines rest c.loop-line.count place true c.loop-line.report.records c.loop-line.report.bad.items so_far none_left (λ F e. absurd (not_between place F inside e)) inside,
       lines_read lines rest c.loop-line.count place c.loop-line.report.records c.loop-line.report.bad.items so_far none_left,
     )

@@ -1,6 +1,6 @@
 use Rattle.std.proofs.Common.{◌+◌, ◌≤◌, length}
 use Rattle.vectors.specs.Lines.{lines_of}
-use Rattle.vectors.specs.Views.{view}
+use Rattle.vectors.specs.Code.Views.{view}
 use Rattle.vectors.proofs.Judged.{Judged}
 use Rattle.vectors.proofs.reading.read.Given as goal
 

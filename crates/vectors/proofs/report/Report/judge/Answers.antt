@@ -1,4 +1,4 @@
-use Rattle.vectors.specs.Views.{entry_view}
+use Rattle.vectors.specs.Code.Views.{entry_view}
 use Rattle.vectors.proofs.AgreeLemmas.{judges}
 use Rattle.vectors.proofs.report.Report.judge.Goals as goal
 

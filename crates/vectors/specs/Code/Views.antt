@@ -3,11 +3,11 @@ use Rattle.std.specs.Prelude.{◌≡◌, ℕ, List, [], ◌∷◌, Option, Some,
 use Rattle.vectors.specs.declared.digits.Digits.{Digits}
 use Rattle.vectors.specs.declared.place.Entry.{Entry}
 use Rattle.vectors.specs.declared.place.Place.{Place}
-use Rattle.vectors.specs.declared.place.Place.TheVariants.{Format, Between, Key, Nonce, Aad, Sealed, End}
+use Rattle.vectors.specs.declared.place.Place.TheVariants.{Start, Between, Fields, Text}
 use Rattle.vectors.specs.declared.fault.Cause.{Cause}
 use Rattle.vectors.specs.Grammar.{Record}
 use Rattle.vectors.specs.Faults.{bytes_of}
-use Rattle.vectors.specs.Steps as steps
+use Rattle.vectors.specs.Code.Steps as steps
 
 -- the bytes that the digits spell
 abbrev pub bytes_in : Digits → List ℕ
@@ -18,16 +18,20 @@ text_view None = None
 text_view (Some t) = Some (bytes_in t)
 
 abbrev pub entry_view : Entry → Record
-entry_view e = record { suite = e.suite; key = bytes_in e.key; nonce = bytes_in e.nonce; aad = bytes_in e.aad; sealed = bytes_in e.sealed; text = text_view e.text }
+entry_view e = record {
+  suite = e.suite;
+  key = bytes_in e.key;
+  nonce = bytes_in e.nonce;
+  aad = bytes_in e.aad;
+  sealed = bytes_in e.sealed;
+  text = text_view e.text;
+}
 
 abbrev pub view : Place → steps.Place
-view Format = steps.format
-view Between = steps.between
-view (Key s) = steps.key s
-view (Nonce s k) = steps.nonce s (bytes_in k)
-view (Aad s k n) = steps.aad s (bytes_in k) (bytes_in n)
-view (Sealed s k n a) = steps.sealed s (bytes_in k) (bytes_in n) (bytes_in a)
-view (End s k n a x) = steps.end s (bytes_in k) (bytes_in n) (bytes_in a) (bytes_in x)
+view Start = steps.start
+view (Between format) = steps.between format
+view (Fields format left e) = steps.fields format left.now (entry_view e)
+view (Text format e) = steps.text format (entry_view e)
 
 abbrev pub made : Option Entry → List Record
 made None = []

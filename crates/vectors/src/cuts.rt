@@ -1,0 +1,83 @@
+// The value of a `cuts` line.
+ghost use Rattle.std.specs.Prelude.{◌≡◌, ◌<◌, ◌==◌, [], ◌∷◌, length, position, IfSome, map};
+ghost use Rattle.std.specs.Option.{option_map_or};
+ghost use Rattle.std.specs.List.{slice_split};
+ghost use Rattle.vectors.specs.Cuts.{is_digit, has_no_leading_zero, number_of, rise, are_cuts};
+
+/// Where the first comma stands.
+fn comma(text: &[u8]) -> Option<usize>
+    ensures { result ≡ position (λ b. b == 44) text.now }
+{
+    text.iter().position(|b| *b == b',')
+}
+
+/// The text before the first comma, and what stands behind it.
+fn first_part(text: &[u8]) -> (&[u8], Option<&[u8]>)
+    ensures parts { slice_split (λ b. b == 44) text.now
+        ≡ result.0.now ∷ option_map_or (λ rest. slice_split (λ b. b == 44) rest.now) result.1 [] }
+    ensures shorter { IfSome result.1 (λ rest. length rest.now < length text.now) }
+{
+    match comma(text) {
+        Some(at) => (&text[..at], Some(&text[at + 1..])),
+        None => (text, None),
+    }
+}
+
+/// Whether a byte is a decimal digit.
+fn is_digit(byte: u8) -> bool
+    ensures { result ≡ is_digit byte }
+{
+    matches!(byte, b'0'..=b'9')
+}
+
+/// Whether a text begins with a byte other than a zero.
+fn has_no_leading_zero(text: &[u8]) -> bool
+    ensures { result ≡ has_no_leading_zero text.now }
+{
+    !matches!(text, [] | [b'0', ..])
+}
+
+/// The number that a text spells.
+fn number_of(text: &[u8]) -> Option<u64>
+    ensures { result ≡ number_of text.now }
+{
+    if !has_no_leading_zero(text) {
+        return None;
+    }
+    let mut number = 0u64;
+    for digit in text {
+        if !is_digit(*digit) {
+            return None;
+        }
+        let Some(tens) = number.checked_mul(10) else {
+            return None;
+        };
+        let Some(sum) = tens.checked_add(u64::from(*digit - b'0')) else {
+            return None;
+        };
+        number = sum;
+    }
+    Some(number)
+}
+
+/// Whether a value is numbers, joined by single commas, that are at least 1, rise, and are at most this one.
+pub(crate) fn are_cuts(most: u64, value: &[u8]) -> bool
+    ensures { result ≡ are_cuts most value.now }
+{
+    let mut last = 0u64;
+    let mut rest = value;
+    'parts: loop {
+        let (part, behind) = first_part(rest);
+        let Some(number) = number_of(part) else {
+            return false;
+        };
+        if number <= last || most < number {
+            return false;
+        }
+        last = number;
+        let Some(others) = behind else {
+            return true;
+        };
+        rest = others;
+    }
+}
