@@ -18,7 +18,7 @@ fn reports(rt: HostRuntime) {
         ("format = 1", 1, "", "aeadkit: NoRecords\n"),
         ("", 1, "", "aeadkit: NoRecords\n"),
         (ODD_NONCE, 1, "", "aeadkit: BadHex at line 4\n"),
-        ("format = 2\n", 1, "", "aeadkit: BadFormat at line 1\n"),
+        ("format = 3\n", 1, "", "aeadkit: BadFormat at line 1\n"),
         (
             "format = 1\nsuite = des\n",
             1,
