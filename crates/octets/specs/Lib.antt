@@ -4,3 +4,5 @@ pub mod Polynomial
 pub mod Masked
 pub mod Pieces
 pub mod Device
+pub mod Names
+pub mod Numbers

@@ -30,12 +30,10 @@ impl Key16 {
     pub fn from_slice(bytes: &[u8]) -> Result<Key16, Fault>
         ensures { MatchResult result (λ k. (k ≡ bytes.now) × (length bytes.now ≡ 16)) (λ e. (e ≡ Fault.KeyLength) × (length bytes.now ≢ 16)) }
     {
-        if bytes.len() != 16 {
-            return Err(Fault::KeyLength);
+        match <[u8; 16]>::try_from(bytes) {
+            Ok(bytes) => Ok(Key16 { bytes }),
+            Err(_) => Err(Fault::KeyLength),
         }
-        let mut copy = [0; 16];
-        copy.copy_from_slice(bytes);
-        Ok(Key16 { bytes: copy })
     }
 
     /// Its 16 bytes.
@@ -43,8 +41,9 @@ impl Key16 {
         ensures value { result.now ≡ self.now }
         ensures are_bytes { AreBytes 16 self.now }
     {
-        are_bytes(&self.bytes);
-        &self.bytes
+        let Key16 { bytes } = self;
+        are_bytes(bytes);
+        bytes
     }
 }
 
@@ -67,12 +66,10 @@ impl Key24 {
     pub fn from_slice(bytes: &[u8]) -> Result<Key24, Fault>
         ensures { MatchResult result (λ k. (k ≡ bytes.now) × (length bytes.now ≡ 24)) (λ e. (e ≡ Fault.KeyLength) × (length bytes.now ≢ 24)) }
     {
-        if bytes.len() != 24 {
-            return Err(Fault::KeyLength);
+        match <[u8; 24]>::try_from(bytes) {
+            Ok(bytes) => Ok(Key24 { bytes }),
+            Err(_) => Err(Fault::KeyLength),
         }
-        let mut copy = [0; 24];
-        copy.copy_from_slice(bytes);
-        Ok(Key24 { bytes: copy })
     }
 
     /// Its 24 bytes.
@@ -80,8 +77,9 @@ impl Key24 {
         ensures value { result.now ≡ self.now }
         ensures are_bytes { AreBytes 24 self.now }
     {
-        are_bytes(&self.bytes);
-        &self.bytes
+        let Key24 { bytes } = self;
+        are_bytes(bytes);
+        bytes
     }
 }
 
@@ -104,12 +102,10 @@ impl Key32 {
     pub fn from_slice(bytes: &[u8]) -> Result<Key32, Fault>
         ensures { MatchResult result (λ k. (k ≡ bytes.now) × (length bytes.now ≡ 32)) (λ e. (e ≡ Fault.KeyLength) × (length bytes.now ≢ 32)) }
     {
-        if bytes.len() != 32 {
-            return Err(Fault::KeyLength);
+        match <[u8; 32]>::try_from(bytes) {
+            Ok(bytes) => Ok(Key32 { bytes }),
+            Err(_) => Err(Fault::KeyLength),
         }
-        let mut copy = [0; 32];
-        copy.copy_from_slice(bytes);
-        Ok(Key32 { bytes: copy })
     }
 
     /// Its 32 bytes.
@@ -117,8 +113,9 @@ impl Key32 {
         ensures value { result.now ≡ self.now }
         ensures are_bytes { AreBytes 32 self.now }
     {
-        are_bytes(&self.bytes);
-        &self.bytes
+        let Key32 { bytes } = self;
+        are_bytes(bytes);
+        bytes
     }
 }
 
@@ -141,12 +138,10 @@ impl Nonce {
     pub fn from_slice(bytes: &[u8]) -> Result<Nonce, Fault>
         ensures { MatchResult result (λ k. (k ≡ bytes.now) × (length bytes.now ≡ 12)) (λ e. (e ≡ Fault.NonceLength) × (length bytes.now ≢ 12)) }
     {
-        if bytes.len() != 12 {
-            return Err(Fault::NonceLength);
+        match <[u8; 12]>::try_from(bytes) {
+            Ok(bytes) => Ok(Nonce { bytes }),
+            Err(_) => Err(Fault::NonceLength),
         }
-        let mut copy = [0; 12];
-        copy.copy_from_slice(bytes);
-        Ok(Nonce { bytes: copy })
     }
 
     /// Its 12 bytes.
@@ -154,8 +149,9 @@ impl Nonce {
         ensures value { result.now ≡ self.now }
         ensures are_bytes { AreBytes 12 self.now }
     {
-        are_bytes(&self.bytes);
-        &self.bytes
+        let Nonce { bytes } = self;
+        are_bytes(bytes);
+        bytes
     }
 }
 
@@ -188,8 +184,9 @@ impl Block {
         ensures value { result.now ≡ self.now }
         ensures is_block { IsBlock self.now }
     {
-        are_bytes(&self.bytes);
-        &self.bytes
+        let Block { bytes } = self;
+        are_bytes(bytes);
+        bytes
     }
 }
 
@@ -222,7 +219,8 @@ impl Tag {
         ensures value { result.now ≡ self.now }
         ensures is_block { IsBlock self.now }
     {
-        are_bytes(&self.bytes);
-        &self.bytes
+        let Tag { bytes } = self;
+        are_bytes(bytes);
+        bytes
     }
 }

@@ -1,45 +1,85 @@
-use thiserror::Error;
+ghost use Rattle.std.specs.Prelude.{◌≡◌};
+ghost use Rattle.octets.specs.Numbers.{outcome_number};
+
+use std::error::Error;
+use std::fmt;
 
 /// Why a call was refused. `Display` writes the fault's name, as `TagMismatch`.
-#[derive(Clone, Copy, Debug, PartialEq, Eq, Drop, Error)]
+#[derive(Clone, Copy, Debug, PartialEq, Eq, Drop)]
 pub enum Fault {
     /// The key has no length of this cipher.
-    #[error("KeyLength")]
     KeyLength,
     /// The nonce has not 12 bytes.
-    #[error("NonceLength")]
     NonceLength,
     /// The text is past its limit.
-    #[error("TextTooLong")]
     TextTooLong,
     /// The associated data is past its limit.
-    #[error("AadTooLong")]
     AadTooLong,
     /// The sealed bytes are fewer than 16.
-    #[error("TooShort")]
     TooShort,
     /// The bytes are no sealing.
-    #[error("TagMismatch")]
     TagMismatch,
     /// The length is none of a text to wrap, or of a wrapping.
-    #[error("WrapLength")]
     WrapLength,
     /// The bytes are no wrapping.
-    #[error("WrapIntegrity")]
     WrapIntegrity,
     /// A growth was refused in this call.
-    #[error("OutOfMemory")]
     OutOfMemory,
     /// A block past counter 2^32 - 1 would be needed.
-    #[error("StreamEnd")]
     StreamEnd,
     /// A reading failed in this call.
-    #[error("Read")]
     Read,
     /// The outlet failed in this call.
-    #[error("Write")]
     Write,
     /// A later reading of an input differs from an earlier one.
-    #[error("SourceChanged")]
     SourceChanged,
+}
+
+impl fmt::Display for Fault {
+    ghost use Rattle.std.specs.Prelude.{Some};
+    ghost use Rattle.octets.specs.Names.{fault_name};
+
+    ghost output = { λ fault. Some (fault_name fault) };
+
+    fn fmt<W: fmt::Write>(&self, f: &mut fmt::Formatter<W>) -> fmt::Result {
+        f.write_str(match self {
+            Fault::KeyLength => "KeyLength",
+            Fault::NonceLength => "NonceLength",
+            Fault::TextTooLong => "TextTooLong",
+            Fault::AadTooLong => "AadTooLong",
+            Fault::TooShort => "TooShort",
+            Fault::TagMismatch => "TagMismatch",
+            Fault::WrapLength => "WrapLength",
+            Fault::WrapIntegrity => "WrapIntegrity",
+            Fault::OutOfMemory => "OutOfMemory",
+            Fault::StreamEnd => "StreamEnd",
+            Fault::Read => "Read",
+            Fault::Write => "Write",
+            Fault::SourceChanged => "SourceChanged",
+        })
+    }
+}
+
+impl Error for Fault {}
+
+/// The number that an outcome has at C: 0 where the call was done, else the fault's place in `Fault`, counted from 1.
+pub fn outcome_number(outcome: Result<(), Fault>) -> u32
+    ensures { result ≡ outcome_number outcome }
+{
+    match outcome {
+        Ok(()) => 0,
+        Err(Fault::KeyLength) => 1,
+        Err(Fault::NonceLength) => 2,
+        Err(Fault::TextTooLong) => 3,
+        Err(Fault::AadTooLong) => 4,
+        Err(Fault::TooShort) => 5,
+        Err(Fault::TagMismatch) => 6,
+        Err(Fault::WrapLength) => 7,
+        Err(Fault::WrapIntegrity) => 8,
+        Err(Fault::OutOfMemory) => 9,
+        Err(Fault::StreamEnd) => 10,
+        Err(Fault::Read) => 11,
+        Err(Fault::Write) => 12,
+        Err(Fault::SourceChanged) => 13,
+    }
 }

@@ -14,11 +14,13 @@ mod std_io;
 #[cfg(test)]
 mod tests;
 mod transfer;
+#[cfg(test)]
+mod uses;
 
 pub use bytes::{Block, Key16, Key24, Key32, Nonce, Tag, are_bytes};
 pub use compare::{same, xor_into, xored};
 pub use device::{DeviceFault, Intake, Outlet};
-pub use fault::Fault;
+pub use fault::{Fault, outcome_number};
 pub use memory::{SliceIntake, VecOutlet};
 pub use pieces::{Absorb, Pieces};
 pub use script::{ScriptIntake, ScriptOutlet, Step};

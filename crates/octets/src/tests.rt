@@ -26,29 +26,6 @@ fn each_length_has_its_type(rt: HostRuntime) -> Result<(), Fail> {
 }
 
 #[test]
-fn a_fault_shows_its_name(rt: HostRuntime) -> Result<(), Fail> {
-    for (fault, name) in [
-        (Fault::KeyLength, "KeyLength"),
-        (Fault::NonceLength, "NonceLength"),
-        (Fault::TextTooLong, "TextTooLong"),
-        (Fault::AadTooLong, "AadTooLong"),
-        (Fault::TooShort, "TooShort"),
-        (Fault::TagMismatch, "TagMismatch"),
-        (Fault::WrapLength, "WrapLength"),
-        (Fault::WrapIntegrity, "WrapIntegrity"),
-        (Fault::OutOfMemory, "OutOfMemory"),
-        (Fault::StreamEnd, "StreamEnd"),
-        (Fault::Read, "Read"),
-        (Fault::Write, "Write"),
-        (Fault::SourceChanged, "SourceChanged"),
-    ] {
-        let text = format!(in rt.alloc(); "{fault}")?;
-        assert_eq!(rt; text.as_str(), name);
-    }
-    Ok(())
-}
-
-#[test]
 fn readers_and_writers_of_std(rt: HostRuntime) -> Result<(), Fail> {
     let bytes = [1u8, 2, 3, 4, 5];
     let mut intake = FromRead::new(&bytes[..]);
