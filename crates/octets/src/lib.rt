@@ -9,6 +9,7 @@ mod device;
 mod fault;
 mod memory;
 mod pieces;
+mod refusing;
 mod script;
 mod std_io;
 #[cfg(test)]
@@ -23,6 +24,7 @@ pub use device::{DeviceFault, Intake, Outlet};
 pub use fault::{Fault, outcome_number};
 pub use memory::{SliceIntake, VecOutlet};
 pub use pieces::{Absorb, Pieces};
+pub use refusing::RefusingMemory;
 pub use script::{ScriptIntake, ScriptOutlet, Step};
 pub use std_io::{FromRead, ToWrite};
 pub use transfer::{fill, give_all};

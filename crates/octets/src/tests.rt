@@ -41,3 +41,18 @@ fn readers_and_writers_of_std(rt: HostRuntime) -> Result<(), Fail> {
     assert_eq!(rt; &room[..], &bytes[..4]);
     Ok(())
 }
+
+/// Each request of a vector that grows twice is refused in turn, and none after the last.
+#[test]
+fn refused_requests(rt: HostRuntime) -> Result<(), Fail> {
+    for passed in 0..4u64 {
+        let memory = RefusingMemory::after(passed, rt.alloc());
+        let mut outlet = VecOutlet::new(&memory);
+        let first = outlet.give(b"0123456789abcdef").is_ok();
+        let second = outlet.give(b"0123456789abcdef").is_ok();
+        assert!(rt; first == (passed != 0));
+        assert!(rt; second == (passed != 1));
+        assert!(rt; memory.has_refused() == (passed < 2));
+    }
+    Ok(())
+}
