@@ -12,34 +12,42 @@ block_at-append m x i h =
     (take-append-le 16 (drop (i * 16) m) x (omega (arith, length-drop (i * 16) m)))
 
 -- block i of the blocks that follow whole blocks
-pub next_block : (m x : List ℕ) (i : ℕ) → length m % 16 ≡ 0 → block_at (m ++ x) (length m / 16 + i) ≡ block_at x i
+pub next_block : (m x : List ℕ) (i : ℕ) → length m % 16 ≡ 0
+    → block_at (m ++ x) (length m / 16 + i) ≡ block_at x i
 next_block m x i whole =
     let at : (length m / 16 + i) * 16 ≡ length m + i * 16 = omega arith in
     ap (λ (j : ℕ). take 16 (drop j (m ++ x))) at ∙ ap (take 16) (drop-append-add m x (i * 16))
 
 -- chunk i of a slice cut into chunks
-pub chunk_at : {A : Type 0} (n k i : ℕ) (xs : List A) → i < k → get_or (first_chunks n k xs) i [] ≡ take n (drop (i * n) xs)
+pub chunk_at : {A : Type 0} (n k i : ℕ) (xs : List A) → i < k
+    → get_or (first_chunks n k xs) i [] ≡ take n (drop (i * n) xs)
 chunk_at n zero i xs h = absurd (omega arith)
 chunk_at n (suc k) zero xs h = let e : 0 * n ≡ 0 = omega arith in rw e refl
 chunk_at n (suc k) (suc i) xs h =
     let e : n + i * n ≡ suc i * n = omega arith in
-    chunk_at n k i (drop n xs) (omega arith) ∙ ap (take n) (drop-drop (i * n) n xs) ∙ ap (λ (j : ℕ). take n (drop j xs)) e
+    chunk_at n k i (drop n xs) (omega arith) ∙ ap (take n) (drop-drop (i * n) n xs)
+    ∙ ap (λ (j : ℕ). take n (drop j xs)) e
 
 -- block j of chunk i of a text cut into blocks, and those into fours
 pub four_at : (xs : List ℕ) (whole : List (List ℕ)) (fours : List (List (List ℕ))) (i j : ℕ)
-    → whole ≡ first_chunks 16 (length xs / 16) xs → length whole ≡ length xs / 16 → fours ≡ first_chunks 4 (length whole / 4) whole
+    → whole ≡ first_chunks 16 (length xs / 16) xs → length whole ≡ length xs / 16
+    → fours ≡ first_chunks 4 (length whole / 4) whole
     → i < length whole / 4 → j < 4 → get_or (get_or fours i []) j [] ≡ block_at xs (i * 4 + j)
 four_at xs whole fours i j ew lw ef li lj =
     ap (λ (y : List (List (List ℕ))). get_or (get_or y i []) j []) ef
     ∙ ap (λ (y : List (List ℕ)). get_or y j []) (chunk_at 4 (length whole / 4) i whole li)
     ∙ get_or-take 4 (drop (i * 4) whole) j [] lj ∙ get_or-drop (i * 4) whole j []
-    ∙ ap (λ (y : List (List ℕ)). get_or y (i * 4 + j) []) ew ∙ chunk_at 16 (length xs / 16) (i * 4 + j) xs (omega arith)
+    ∙ ap (λ (y : List (List ℕ)). get_or y (i * 4 + j) []) ew
+    ∙ chunk_at 16 (length xs / 16) (i * 4 + j) xs (omega arith)
 
 -- block i after the fours
 pub after_fours : (xs : List ℕ) (whole rest : List (List ℕ)) (i : ℕ)
-    → whole ≡ first_chunks 16 (length xs / 16) xs → length whole ≡ length xs / 16 → rest ≡ drop (length whole / 4 * 4) whole
+    → whole ≡ first_chunks 16 (length xs / 16) xs → length whole ≡ length xs / 16
+    → rest ≡ drop (length whole / 4 * 4) whole
     → i < length whole % 4 → get_or rest i [] ≡ block_at xs (length xs / 16 / 4 * 4 + i)
 after_fours xs whole rest i ew lw er li =
     let at : length whole / 4 * 4 + i ≡ length xs / 16 / 4 * 4 + i = ap (λ (n : ℕ). n / 4 * 4 + i) lw in
-    ap (λ (y : List (List ℕ)). get_or y i []) er ∙ get_or-drop (length whole / 4 * 4) whole i [] ∙ ap (λ (n : ℕ). get_or whole n []) at
-    ∙ ap (λ (y : List (List ℕ)). get_or y (length xs / 16 / 4 * 4 + i) []) ew ∙ chunk_at 16 (length xs / 16) (length xs / 16 / 4 * 4 + i) xs (omega arith)
+    ap (λ (y : List (List ℕ)). get_or y i []) er ∙ get_or-drop (length whole / 4 * 4) whole i []
+    ∙ ap (λ (n : ℕ). get_or whole n []) at
+    ∙ ap (λ (y : List (List ℕ)). get_or y (length xs / 16 / 4 * 4 + i) []) ew
+    ∙ chunk_at 16 (length xs / 16) (length xs / 16 / 4 * 4 + i) xs (omega arith)

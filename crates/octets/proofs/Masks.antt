@@ -11,12 +11,14 @@ length-masked f at [] = refl
 length-masked f at (x ∷ xs) = ap suc (length-masked f (suc at) xs)
 
 -- two pieces, one after the other
-pub masked-append : (f : ℕ → ℕ) (at : ℕ) (xs ys : List ℕ) → masked f at (xs ++ ys) ≡ masked f at xs ++ masked f (at + length xs) ys
+pub masked-append : (f : ℕ → ℕ) (at : ℕ) (xs ys : List ℕ)
+    → masked f at (xs ++ ys) ≡ masked f at xs ++ masked f (at + length xs) ys
 unfolding masked
 masked-append f at [] ys = ap (λ i. masked f i ys) (sym (add-zero at))
 masked-append f at (x ∷ xs) ys =
     let e : suc at + length xs ≡ at + suc (length xs) = omega arith in
-    ap (λ l. bit_xor x (f at) ∷ l) (masked-append f (suc at) xs ys ∙ ap (λ i. masked f (suc at) xs ++ masked f i ys) e)
+    ap (λ l. bit_xor x (f at) ∷ l)
+    (masked-append f (suc at) xs ys ∙ ap (λ i. masked f (suc at) xs ++ masked f i ys) e)
 
 -- the first bytes
 pub take-masked : (f : ℕ → ℕ) (n at : ℕ) (xs : List ℕ) → take n (masked f at xs) ≡ masked f at (take n xs)
@@ -30,7 +32,8 @@ pub masked_twice : (f : ℕ → ℕ) (at : ℕ) (xs : List ℕ) → masked f at 
 unfolding masked
 masked_twice f at [] = refl
 masked_twice f at (x ∷ xs) =
-    ap (λ b. b ∷ masked f (suc at) (masked f (suc at) xs)) (xor_assoc x (f at) (f at) ∙ ap (λ z. bit_xor x z) (xor_self (f at)) ∙ xor_zero_r x)
+    ap (λ b. b ∷ masked f (suc at) (masked f (suc at) xs))
+    (xor_assoc x (f at) (f at) ∙ ap (λ z. bit_xor x z) (xor_self (f at)) ∙ xor_zero_r x)
     ∙ ap (λ l. x ∷ l) (masked_twice f (suc at) xs)
 
 -- the XOR with bytes of a stream

@@ -17,7 +17,8 @@ little_number_is (suc n) (x ∷ xs) h =
     omega (arith, rest, moved)
 
 -- a number m with the first n bytes behind it
-big_after : (n m : ℕ) (xs : List ℕ) → n ≤ length xs → number_from_digits_after 256 m (take n xs) ≡ m * 256 ^ n + big_from 0 n xs
+big_after : (n m : ℕ) (xs : List ℕ) → n ≤ length xs
+    → number_from_digits_after 256 m (take n xs) ≡ m * 256 ^ n + big_from 0 n xs
 big_after zero m xs h = rw (pow-zero 256) (omega arith)
 big_after (suc n) m [] h = absurd (omega arith)
 big_after (suc n) m (x ∷ xs) h =
@@ -25,7 +26,8 @@ big_after (suc n) m (x ∷ xs) h =
     let rest = big_after n (m * 256 + x) xs (omega arith) in
     let moved = big_from-cons 0 n x xs in
     let spread : (m * 256 + x) * p ≡ m * 256 * p + x * p = add-mul (m * 256) x p in
-    let power : m * 256 ^ suc n ≡ m * 256 * p = ap (λ y. m * y) (pow-suc 256 n ∙ mul_comm p 256) ∙ sym (mul_assoc m 256 p) in
+    let power : m * 256 ^ suc n ≡ m * 256 * p = ap (λ y. m * y) (pow-suc 256 n ∙ mul_comm p 256)
+    ∙ sym (mul_assoc m 256 p) in
     omega (arith, rest, moved, spread, power)
 
 -- the first n bytes, most significant first

@@ -5,22 +5,28 @@ use Rattle.octets.specs.Pieces.{HoldsPieces}
 use Rattle.octets.specs.declared.pieces.Pieces.{Pieces}
 
 -- bytes that end no block
-pub holds_kept : {A : Type 0} (absorbed : A → List ℕ → List ℕ → Type 0) (p n : Pieces A) (k m x : List ℕ) → HoldsPieces absorbed p k m
-    → p.used + length x < 16 → n.core ≡ p.core → take (p.used + length x) n.buffer ≡ take p.used p.buffer ++ x → n.used ≡ p.used + length x
+pub holds_kept : {A : Type 0} (absorbed : A → List ℕ → List ℕ → Type 0) (p n : Pieces A) (k m x : List ℕ)
+    → HoldsPieces absorbed p k m
+    → p.used + length x < 16 → n.core ≡ p.core
+    → take (p.used + length x) n.buffer ≡ take p.used p.buffer ++ x → n.used ≡ p.used + length x
     → HoldsPieces absorbed n k (m ++ x)
 holds_kept absorbed p n k m x h short ec eb eu =
     let used : p.used ≡ length m % 16 = h.rest.used_is in
     let len : length (m ++ x) ≡ length m + length x = length-append m x in
     let q : length (m ++ x) / 16 ≡ length m / 16 = omega arith in
-    let front : take (length m / 16 * 16) (m ++ x) ≡ take (length m / 16 * 16) m = take-append-le (length m / 16 * 16) m x (omega arith) in
-    let rest : drop (length m / 16 * 16) (m ++ x) ≡ drop (length m / 16 * 16) m ++ x = drop-append-le (length m / 16 * 16) m x (omega arith) in
+    let front : take (length m / 16 * 16) (m ++ x)
+    ≡ take (length m / 16 * 16) m = take-append-le (length m / 16 * 16) m x (omega arith) in
+    let rest : drop (length m / 16 * 16) (m ++ x) ≡ drop (length m / 16 * 16) m
+    ++ x = drop-append-le (length m / 16 * 16) m x (omega arith) in
     record {
       taken = rw (ec, q, front) h.taken;
-      rest = record { used_is = omega arith; kept = rw (eu, q, rest) (eb ∙ ap (λ (y : List ℕ). y ++ x) h.rest.kept) };
+      rest = record
+          { used_is = omega arith; kept = rw (eu, q, rest) (eb ∙ ap (λ (y : List ℕ). y ++ x) h.rest.kept) };
     }
 
 -- bytes up to the end of a block
-pub holds_blocks : {A : Type 0} (absorbed : A → List ℕ → List ℕ → Type 0) (p n : Pieces A) (k m x blocks : List ℕ) → HoldsPieces absorbed p k m
+pub holds_blocks : {A : Type 0} (absorbed : A → List ℕ → List ℕ → Type 0) (p n : Pieces A)
+    (k m x blocks : List ℕ) → HoldsPieces absorbed p k m
     → (p.used + length x) % 16 ≡ 0 → blocks ≡ take p.used p.buffer ++ x
     → ((j t : List ℕ) → length t % 16 ≡ 0 → absorbed p.core j t → absorbed n.core j (t ++ blocks))
     → n.used ≡ 0 → HoldsPieces absorbed n k (m ++ x)
@@ -34,12 +40,18 @@ holds_blocks absorbed p n k m x blocks h whole eb step eu =
     ap (λ (y : ℕ). take y (m ++ x)) e ∙ take_all (length (m ++ x)) (m ++ x) (omega arith)
     ∙ ap (λ (y : List ℕ). y ++ x) (sym (take-append-drop f m))
     ∙ append_assoc (take f m) (drop f m) x
-    ∙ ap (λ (y : List ℕ). take f m ++ (y ++ x)) (sym h.rest.kept) ∙ ap (λ (y : List ℕ). take f m ++ y) (sym eb) in
+    ∙ ap (λ (y : List ℕ). take f m ++ (y ++ x)) (sym h.rest.kept)
+    ∙ ap (λ (y : List ℕ). take f m ++ y) (sym eb) in
     record {
       taken = rw all (step k (take f m) (omega arith) h.taken);
-      rest = record { used_is = omega arith; kept = rw (eu, e) (sym (drop_all (length (m ++ x)) (m ++ x) (omega arith))) };
+      rest = record {
+        used_is = omega arith;
+        kept = rw (eu, e)
+            (sym (drop_all (length (m ++ x)) (m ++ x) (omega arith)));
+      };
     }
 
 -- how many bytes the buffer keeps
-pub holds_used : {A : Type 0} (absorbed : A → List ℕ → List ℕ → Type 0) (p : Pieces A) (k m : List ℕ) → HoldsPieces absorbed p k m → p.used ≡ length m % 16
+pub holds_used : {A : Type 0} (absorbed : A → List ℕ → List ℕ → Type 0) (p : Pieces A) (k m : List ℕ)
+    → HoldsPieces absorbed p k m → p.used ≡ length m % 16
 holds_used absorbed p k m h = h.rest.used_is

@@ -28,7 +28,8 @@ impl Model for Key16 {
 impl Key16 {
     /// The key with these 16 bytes. Another length is `KeyLength`.
     pub fn from_slice(bytes: &[u8]) -> Result<Key16, Fault>
-        ensures { MatchResult result (λ k. (k ≡ bytes.now) × (length bytes.now ≡ 16)) (λ e. (e ≡ Fault.KeyLength) × (length bytes.now ≢ 16)) }
+        ensures { MatchResult result (λ k. (k ≡ bytes.now) × (length bytes.now ≡ 16))
+            (λ e. (e ≡ Fault.KeyLength) × (length bytes.now ≢ 16)) }
     {
         match <[u8; 16]>::try_from(bytes) {
             Ok(bytes) => Ok(Key16 { bytes }),
@@ -64,7 +65,8 @@ impl Model for Key24 {
 impl Key24 {
     /// The key with these 24 bytes. Another length is `KeyLength`.
     pub fn from_slice(bytes: &[u8]) -> Result<Key24, Fault>
-        ensures { MatchResult result (λ k. (k ≡ bytes.now) × (length bytes.now ≡ 24)) (λ e. (e ≡ Fault.KeyLength) × (length bytes.now ≢ 24)) }
+        ensures { MatchResult result (λ k. (k ≡ bytes.now) × (length bytes.now ≡ 24))
+            (λ e. (e ≡ Fault.KeyLength) × (length bytes.now ≢ 24)) }
     {
         match <[u8; 24]>::try_from(bytes) {
             Ok(bytes) => Ok(Key24 { bytes }),
@@ -100,7 +102,8 @@ impl Model for Key32 {
 impl Key32 {
     /// The key with these 32 bytes. Another length is `KeyLength`.
     pub fn from_slice(bytes: &[u8]) -> Result<Key32, Fault>
-        ensures { MatchResult result (λ k. (k ≡ bytes.now) × (length bytes.now ≡ 32)) (λ e. (e ≡ Fault.KeyLength) × (length bytes.now ≢ 32)) }
+        ensures { MatchResult result (λ k. (k ≡ bytes.now) × (length bytes.now ≡ 32))
+            (λ e. (e ≡ Fault.KeyLength) × (length bytes.now ≢ 32)) }
     {
         match <[u8; 32]>::try_from(bytes) {
             Ok(bytes) => Ok(Key32 { bytes }),
@@ -136,7 +139,8 @@ impl Model for Nonce {
 impl Nonce {
     /// The nonce with these 12 bytes. Another length is `NonceLength`.
     pub fn from_slice(bytes: &[u8]) -> Result<Nonce, Fault>
-        ensures { MatchResult result (λ k. (k ≡ bytes.now) × (length bytes.now ≡ 12)) (λ e. (e ≡ Fault.NonceLength) × (length bytes.now ≢ 12)) }
+        ensures { MatchResult result (λ k. (k ≡ bytes.now) × (length bytes.now ≡ 12))
+            (λ e. (e ≡ Fault.NonceLength) × (length bytes.now ≢ 12)) }
     {
         match <[u8; 12]>::try_from(bytes) {
             Ok(bytes) => Ok(Nonce { bytes }),

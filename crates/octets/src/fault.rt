@@ -62,7 +62,8 @@ impl fmt::Display for Fault {
 
 impl Error for Fault {}
 
-/// The number that an outcome has at C: 0 where the call was done, else the fault's place in `Fault`, counted from 1.
+/// The number that an outcome has at C: 0 where the call was done, else the fault's place in `Fault`,
+/// counted from 1.
 pub fn outcome_number(outcome: Result<(), Fault>) -> u32
     ensures { result ≡ outcome_number outcome }
 {

@@ -1,4 +1,5 @@
-//! Bytes, blocks, keys, faults and devices, and polynomials over two elements: what every layer above speaks of.
+//! Bytes, blocks, keys, faults and devices, and polynomials over two elements: what every layer above
+//! speaks of.
 #![tactic(auto)]
 
 ghost use Rattle.octets.specs.Polynomial.{EachHasOneResidue};

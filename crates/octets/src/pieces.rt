@@ -10,11 +10,12 @@ pub trait Absorb {
     /// Takes in any number of whole blocks.
     fn absorb(&mut self, blocks: &[u8])
         requires { length blocks.now % 16 ≡ 0 }
-        ensures { (k m : List ℕ) → length m % 16 ≡ 0 → absorbed self.old k m → absorbed self.new k (m ++ blocks.now) };
+        ensures { (k m : List ℕ) → length m % 16 ≡ 0 → absorbed self.old k m
+            → absorbed self.new k (m ++ blocks.now) };
 }
 
-/// A text that comes in pieces of any length: what took in its whole blocks of 16 bytes, and the bytes after them.
-/// Whole blocks are handed on many at a time; only the ends of a piece are copied.
+/// A text that comes in pieces of any length: what took in its whole blocks of 16 bytes, and the bytes
+/// after them. Whole blocks are handed on many at a time; only the ends of a piece are copied.
 #[derive(Drop)]
 pub struct Pieces<A> {
     pub core: A,
@@ -41,7 +42,8 @@ impl<A: Absorb> Pieces<A> {
     // Adds bytes that end no block.
     fn keep(&mut self, bytes: &[u8])
         requires { self.old.used + length bytes.now < 16 }
-        ensures { (k m : List ℕ) → HoldsPieces A.absorbed self.old k m → HoldsPieces A.absorbed self.new k (m ++ bytes.now) }
+        ensures { (k m : List ℕ) → HoldsPieces A.absorbed self.old k m
+            → HoldsPieces A.absorbed self.new k (m ++ bytes.now) }
     {
         let end = self.used + bytes.len();
         self.buffer[self.used..end].copy_from_slice(bytes);
@@ -51,7 +53,8 @@ impl<A: Absorb> Pieces<A> {
     // Adds the bytes that end the block begun.
     fn fill(&mut self, bytes: &[u8])
         requires { self.old.used + length bytes.now ≡ 16 }
-        ensures holds { (k m : List ℕ) → HoldsPieces A.absorbed self.old k m → HoldsPieces A.absorbed self.new k (m ++ bytes.now) }
+        ensures holds { (k m : List ℕ) → HoldsPieces A.absorbed self.old k m
+            → HoldsPieces A.absorbed self.new k (m ++ bytes.now) }
         ensures empty { self.new.used ≡ 0 }
     {
         self.buffer[self.used..16].copy_from_slice(bytes);
@@ -62,7 +65,8 @@ impl<A: Absorb> Pieces<A> {
     // Adds bytes where no block is begun.
     fn update_whole(&mut self, bytes: &[u8])
         requires { self.old.used ≡ 0 }
-        ensures { (k m : List ℕ) → HoldsPieces A.absorbed self.old k m → HoldsPieces A.absorbed self.new k (m ++ bytes.now) }
+        ensures { (k m : List ℕ) → HoldsPieces A.absorbed self.old k m
+            → HoldsPieces A.absorbed self.new k (m ++ bytes.now) }
     {
         let whole = bytes.len() / 16 * 16;
         self.core.absorb(&bytes[..whole]);
@@ -71,7 +75,8 @@ impl<A: Absorb> Pieces<A> {
 
     /// Adds `piece`, of any length, to the end of the text.
     pub fn update(&mut self, piece: &[u8])
-        ensures { (k m : List ℕ) → HoldsPieces A.absorbed self.old k m → HoldsPieces A.absorbed self.new k (m ++ piece.now) }
+        ensures { (k m : List ℕ) → HoldsPieces A.absorbed self.old k m
+            → HoldsPieces A.absorbed self.new k (m ++ piece.now) }
     {
         if self.used == 0 {
             self.update_whole(piece);
@@ -86,7 +91,8 @@ impl<A: Absorb> Pieces<A> {
 
     /// Adds the fewest zero bytes that make the length of the text a multiple of 16: none where it is one.
     pub fn pad16(&mut self)
-        ensures { (k m : List ℕ) → HoldsPieces A.absorbed self.old k m → HoldsPieces A.absorbed self.new k (pad16 m) }
+        ensures { (k m : List ℕ) → HoldsPieces A.absorbed self.old k m
+            → HoldsPieces A.absorbed self.new k (pad16 m) }
     {
         let zeros = [0u8; 16];
         let missing = (16 - self.used) % 16;

@@ -5,7 +5,8 @@ ghost use Rattle.std.specs.Prelude.{◌≡◌};
 use crate::device::{DeviceFault, Intake, Outlet};
 use std::io::{Read, Write};
 
-/// Takes from a reader, and counts its failures; an interrupted read is one. It tells its bytes where the reader does.
+/// Takes from a reader, and counts its failures; an interrupted read is one. It tells its bytes where the
+/// reader does.
 #[derive(Drop)]
 pub struct FromRead<R> {
     reader: R,
@@ -37,8 +38,8 @@ impl<R: Read> Intake for FromRead<R> {
     }
 }
 
-/// Gives to a writer, and counts its failures; an interrupted write is one, and a write of nothing from a slice that is not
-/// empty. It tells its bytes where the writer does.
+/// Gives to a writer, and counts its failures; an interrupted write is one, and a write of nothing from a
+/// slice that is not empty. It tells its bytes where the writer does.
 #[derive(Drop)]
 pub struct ToWrite<W> {
     writer: W,

@@ -1,6 +1,8 @@
 use super::*;
 use std::test::Fail;
 
+mod devices;
+
 #[test]
 fn each_length_has_its_type(rt: HostRuntime) -> Result<(), Fail> {
     let bytes = [7u8; 33];
@@ -39,20 +41,5 @@ fn readers_and_writers_of_std(rt: HostRuntime) -> Result<(), Fail> {
         assert!(rt; give_all(&mut outlet, &bytes[4..]).is_err());
     }
     assert_eq!(rt; &room[..], &bytes[..4]);
-    Ok(())
-}
-
-/// Each request of a vector that grows twice is refused in turn, and none after the last.
-#[test]
-fn refused_requests(rt: HostRuntime) -> Result<(), Fail> {
-    for passed in 0..4u64 {
-        let memory = RefusingMemory::after(passed, rt.alloc());
-        let mut outlet = VecOutlet::new(&memory);
-        let first = outlet.give(b"0123456789abcdef").is_ok();
-        let second = outlet.give(b"0123456789abcdef").is_ok();
-        assert!(rt; first == (passed != 0));
-        assert!(rt; second == (passed != 1));
-        assert!(rt; memory.has_refused() == (passed < 2));
-    }
     Ok(())
 }

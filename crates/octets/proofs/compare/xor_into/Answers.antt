@@ -4,4 +4,5 @@ use Rattle.octets.proofs.compare.xor_into.Goals as goal
 
 pub returns : goal.returns
 returns c =
-    is_xor c.bytes.dst c.args.dst.now c.args.src.now c.bytes.invariant.length_is c.requires (λ i l. c.bytes.invariant.done i (omega arith))
+    is_xor c.bytes.dst c.args.dst.now c.args.src.now c.bytes.invariant.length_is c.requires
+    (λ i l. c.bytes.invariant.done i (omega arith))
