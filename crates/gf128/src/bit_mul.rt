@@ -3,8 +3,8 @@
 ghost use Rattle.std.specs.Prelude.{◌≡◌, ℕ};
 ghost use Rattle.std.specs.Int.{w128, to_be_bytes};
 
-use crate::Keyed128;
-use crate::words::{times_x, word_of};
+use crate::words::{block_of, times_x, word_of};
+use crate::{Keyed128, Multiply};
 use octets::Block;
 
 /// The multiplier that takes one bit after the other.
@@ -13,24 +13,27 @@ pub struct BitMul {
     key: u128,
 }
 
-impl Keyed128 for BitMul {
+impl Multiply for BitMul {
     ghost key_bytes = { λ s. to_be_bytes w128 s.key };
 
-    fn of(key: &Block) -> BitMul {
-        BitMul {
-            key: word_of(key.bytes()),
-        }
-    }
-
-    fn times_word(&self, x: u128) -> u128 {
+    fn times(&self, x: &Block) -> Block {
+        let factor = word_of(x.bytes());
         let mut product = 0u128;
         // From the coefficient of x^127, the lowest bit, to that of x^0.
         'bits: for i in 0..128u32 {
             product = times_x(product);
-            if (x >> i) & 1 == 1 {
+            if (factor >> i) & 1 == 1 {
                 product ^= self.key;
             }
         }
-        product
+        block_of(product)
+    }
+}
+
+impl Keyed128 for BitMul {
+    fn of(key: &Block) -> BitMul {
+        BitMul {
+            key: word_of(key.bytes()),
+        }
     }
 }

@@ -2,10 +2,10 @@
 
 ghost use Rattle.std.specs.Int.{w128, to_be_bytes};
 
-use crate::Keyed128;
 use crate::chain::{Chain, times_x64};
 use crate::multiples::Multiples256;
-use crate::words::{bytes_of, high_half, low_half, word_of};
+use crate::words::{block_of, bytes_of, high_half, low_half, word_of};
+use crate::{Keyed128, Multiply};
 use octets::Block;
 
 /// The multiplier that holds 256 multiples of the key, and takes a byte at a time.
@@ -31,18 +31,24 @@ impl ByteMul {
     }
 }
 
-impl Keyed128 for ByteMul {
+impl Multiply for ByteMul {
     ghost key_bytes = { λ s. to_be_bytes w128 s.multiples.word };
 
-    fn of(key: &Block) -> ByteMul {
-        ByteMul {
-            multiples: Multiples256::of(word_of(key.bytes())),
-        }
+    fn times(&self, x: &Block) -> Block {
+        block_of(self.times_word(word_of(x.bytes())))
     }
 
     fn times_word(&self, x: u128) -> u128 {
         let high = self.times_half(high_half(x));
         let low = self.times_half(low_half(x));
         high ^ times_x64(low)
+    }
+}
+
+impl Keyed128 for ByteMul {
+    fn of(key: &Block) -> ByteMul {
+        ByteMul {
+            multiples: Multiples256::of(word_of(key.bytes())),
+        }
     }
 }

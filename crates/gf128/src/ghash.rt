@@ -3,8 +3,8 @@
 ghost use Rattle.std.specs.Prelude.{◌≡◌, ℕ, ◌++◌, List, []};
 ghost use Rattle.gf128.specs.Ghash.{GhashIsOne};
 
-use crate::Keyed128;
 use crate::words::{block_of, word_of};
+use crate::{Keyed128, Multiply};
 use octets::{Absorb, Block, Pieces};
 
 /// GHASH's sum over whole blocks.
@@ -14,7 +14,7 @@ pub struct GhashSum<M> {
     sum: u128,
 }
 
-impl<M: Keyed128> Absorb for GhashSum<M> {
+impl<M: Multiply> Absorb for GhashSum<M> {
     ghost use Rattle.gf128.specs.States.{GhashSumHolds};
 
     ghost absorbed = { λ s h m. GhashSumHolds M.key_bytes s h m };
@@ -38,19 +38,30 @@ impl<M: Keyed128> Absorb for GhashSum<M> {
     }
 }
 
-/// GHASH over a text fed piece by piece (SP 800-38D, 6.4), by a multiplier of its key.
+/// GHASH over a text fed piece by piece (SP 800-38D, 6.4), by the multiplier `M`.
 #[derive(Drop)]
 pub struct Ghash<M> {
     pieces: Pieces<GhashSum<M>>,
 }
 
 impl<M: Keyed128> Ghash<M> {
+    ghost use Rattle.gf128.specs.States.{Holds};
+
+    /// A state that holds the empty text, under a key of 16 bytes.
+    pub fn new(key: &Block) -> Ghash<M>
+        ensures { Holds M.key_bytes result key.now [] }
+    {
+        Ghash::with(M::of(key))
+    }
+}
+
+impl<M: Multiply> Ghash<M> {
     ghost use Rattle.octets.specs.Bytes.{pad16, IsBlock};
     ghost use Rattle.gf128.specs.Ghash.{ghash};
     ghost use Rattle.gf128.specs.States.{Holds};
 
-    /// A state that holds the empty text, under the multiplier's key.
-    pub fn new(multiplier: M) -> Ghash<M>
+    /// A state that holds the empty text, under the key of a multiplier, or of a reference to one that is kept.
+    pub fn with(multiplier: M) -> Ghash<M>
         ensures { Holds M.key_bytes result (M.key_bytes multiplier) [] }
     {
         Ghash {

@@ -3,7 +3,7 @@
 ghost use Rattle.std.specs.Prelude.{◌≡◌, ℕ, List, []};
 ghost use Rattle.gf128.specs.States.{Holds, key_of};
 
-use crate::{Ghash, Keyed128, PlacedMul, WideMul};
+use crate::{Ghash, Keyed128, Multiply, PlacedMul};
 use octets::Block;
 use std::marker::Model;
 
@@ -33,17 +33,24 @@ impl HashKey {
         }
     }
 
-    /// A state that holds the empty text, under this key.
-    pub fn ghash(&self) -> Ghash<PlacedMul>
-        ensures { Holds key_of result self.now [] }
+    /// Its 16 bytes.
+    pub fn key(&self) -> &Block
+        ensures { result.now ≡ self.now }
     {
-        Ghash::new(self.multiplier)
+        &self.key
     }
 
-    /// The same for a long text, by a multiplier that is made for it.
-    pub fn ghash_of_long(&self) -> Ghash<WideMul>
-        ensures { Holds ⟦<WideMul as Keyed128>⟧.key_bytes result self.now [] }
+    /// Its multiples.
+    pub fn multiplier(&self) -> &PlacedMul
+        ensures { key_of result.now ≡ self.now }
     {
-        Ghash::new(WideMul::of(&self.key))
+        &self.multiplier
+    }
+
+    /// A state that holds the empty text, under this key. It borrows the key's multiples.
+    pub fn ghash<'a>(&'a self) -> Ghash<&'a PlacedMul>
+        ensures { Holds ⟦<&'a PlacedMul as Multiply>⟧.key_bytes result self.now [] }
+    {
+        Ghash::with(self.multiplier())
     }
 }

@@ -8,19 +8,25 @@ ghost use Rattle.gf128.specs.Words.{IsFourProducts, IsWordProduct};
 use crate::words::{block_of, word_of};
 use octets::Block;
 
-/// A key of 16 bytes by which blocks are multiplied in GHASH's field (SP 800-38D, 6.3).
-pub trait Keyed128: Drop {
+/// Multiplication by a key of 16 bytes in GHASH's field (SP 800-38D, 6.3). An implementor gives `times`, and may give a faster
+/// method on words.
+pub trait Multiply: Drop {
     // The key's bytes.
     ghost key_bytes: { Self → List ℕ };
 
-    /// The multiplier of `key`.
-    fn of(key: &Block) -> Self
-        ensures { key_bytes result ≡ key.now };
+    /// The product of a block and the key.
+    fn times(&self, x: &Block) -> Block
+        ensures value { IsProduct x.now (key_bytes self.now) result }
+        ensures is_block { IsBlock result };
 
     /// The product of a word and the key. A word is the number that a block spells, its first byte the highest,
     /// so the bit of weight 2^127 is the coefficient of x^0.
     fn times_word(&self, x: u128) -> u128
-        ensures { IsWordProduct x (key_bytes self.now) result };
+        ensures { IsWordProduct x (key_bytes self.now) result }
+    {
+        let product = self.times(&block_of(x));
+        word_of(product.bytes())
+    }
 
     /// The sum of `a` times the fourth power of the key, `b` times its third, `c` times its second, and `d` times the key.
     fn times_four(&self, a: u128, b: u128, c: u128, d: u128) -> u128
@@ -31,12 +37,31 @@ pub trait Keyed128: Drop {
         let third = self.times_word(second ^ c);
         self.times_word(third ^ d)
     }
+}
 
-    /// The product of a block and the key.
-    fn times(&self, x: &Block) -> Block
-        ensures value { IsProduct x.now (key_bytes self.now) result }
-        ensures is_block { IsBlock result }
-    {
-        block_of(self.times_word(word_of(x.bytes())))
+/// A multiplier that is made of its key.
+pub trait Keyed128: Multiply {
+    /// The multiplier of `key`.
+    fn of(key: &Block) -> Self
+        ensures { Self.key_bytes result ≡ key.now };
+}
+
+/// A multiplier that is kept elsewhere.
+impl<M: Multiply> Multiply for &M {
+    ghost key_bytes = { λ s. M.key_bytes s.now };
+
+    #[inline(always)]
+    fn times(&self, x: &Block) -> Block {
+        (**self).times(x)
+    }
+
+    #[inline(always)]
+    fn times_word(&self, x: u128) -> u128 {
+        (**self).times_word(x)
+    }
+
+    #[inline(always)]
+    fn times_four(&self, a: u128, b: u128, c: u128, d: u128) -> u128 {
+        (**self).times_four(a, b, c, d)
     }
 }

@@ -20,11 +20,11 @@ pub use bit_mul::BitMul;
 pub use byte_mul::ByteMul;
 pub use ghash::{Ghash, ghash_is_one};
 pub use hash_key::HashKey;
-pub use keyed::Keyed128;
+pub use keyed::{Keyed128, Multiply};
 pub use placed_mul::PlacedMul;
-pub use polyval::{Polyval, dot_is_one, polyval_by_ghash, polyval_is_one};
+pub use polyval::{Polyval, dot_is_one, polyval_by_ghash, polyval_is_one, reversed_mul_x};
 pub use table_mul::TableMul;
 pub use wide_mul::WideMul;
 
-/// The multiplier of texts in pieces.
-pub type Mul = PlacedMul;
+/// The multiplier for a key of which nothing more is known: 16 multiples, quickly made.
+pub type Mul = TableMul;

@@ -3,10 +3,10 @@
 ghost use Rattle.std.specs.Prelude.{◌≡◌, List, [], ◌∷◌};
 ghost use Rattle.gf128.specs.Words.{products, IsBitsProduct, IsMoved, IsReduced};
 
-use crate::Keyed128;
 use crate::chain::{Chain, times_x16, times_x64};
 use crate::multiples::Multiples16;
-use crate::words::{high_half, low_half, word_of};
+use crate::words::{block_of, high_half, low_half, word_of};
+use crate::{Keyed128, Multiply};
 use octets::Block;
 
 // The multiples of a word, of x^16, of x^32 and of x^48 times it.
@@ -73,20 +73,26 @@ pub struct PlacedMul {
     ghost low_moved: { IsMoved 64 high.first.word low.first.word },
 }
 
-impl Keyed128 for PlacedMul {
+impl Multiply for PlacedMul {
     ghost use Rattle.gf128.specs.States.{key_of};
 
     ghost key_bytes = { key_of };
 
+    fn times(&self, x: &Block) -> Block {
+        block_of(self.times_word(word_of(x.bytes())))
+    }
+
+    fn times_word(&self, x: u128) -> u128 {
+        self.high.times_half(high_half(x)) ^ self.low.times_half(low_half(x))
+    }
+}
+
+impl Keyed128 for PlacedMul {
     fn of(key: &Block) -> PlacedMul {
         let word = word_of(key.bytes());
         PlacedMul {
             high: FourPlaces::of(word),
             low: FourPlaces::of(times_x64(word)),
         }
-    }
-
-    fn times_word(&self, x: u128) -> u128 {
-        self.high.times_half(high_half(x)) ^ self.low.times_half(low_half(x))
     }
 }

@@ -4,12 +4,13 @@ ghost use Rattle.std.specs.Prelude.{◌≡◌, ℕ, ◌++◌, List, []};
 ghost use Rattle.octets.specs.Bytes.{IsBlock};
 ghost use Rattle.gf128.specs.Polyval.{DotIsOne, PolyvalIsOne, PolyvalByGhash, IsReversedMulX};
 
-use crate::Keyed128;
 use crate::words::{block_of, reversed_block_of, reversed_word_of, times_x};
+use crate::{Keyed128, Multiply};
 use octets::{Absorb, Block, Pieces};
 
-// The key by which GHASH's product gives POLYVAL's (RFC 8452, appendix A).
-fn ghash_key(key: &Block) -> Block
+/// The key by which GHASH's product gives POLYVAL's: mulX of the reversed key (RFC 8452, appendix A). A multiplier of it serves
+/// [`Polyval::with`].
+pub fn reversed_mul_x(key: &Block) -> Block
     ensures value { IsReversedMulX key.now result }
     ensures of_block { IsBlock key.now }
 {
@@ -25,7 +26,7 @@ pub struct PolyvalSum<M> {
     sum: u128,
 }
 
-impl<M: Keyed128> Absorb for PolyvalSum<M> {
+impl<M: Multiply> Absorb for PolyvalSum<M> {
     ghost use Rattle.gf128.specs.States.{PolyvalSumHolds};
 
     ghost absorbed = { λ s h m. PolyvalSumHolds M.key_bytes s h m };
@@ -56,19 +57,28 @@ pub struct Polyval<M> {
 }
 
 impl<M: Keyed128> Polyval<M> {
-    ghost use Rattle.octets.specs.Bytes.{pad16};
-    ghost use Rattle.gf128.specs.Polyval.{polyval};
     ghost use Rattle.gf128.specs.States.{PolyvalHolds};
 
     /// A state that holds the empty text, under a key of 16 bytes.
     pub fn new(key: &Block) -> Polyval<M>
         ensures { PolyvalHolds M.key_bytes result key.now [] }
     {
+        Polyval::with(M::of(&reversed_mul_x(key)))
+    }
+}
+
+impl<M: Multiply> Polyval<M> {
+    ghost use Rattle.octets.specs.Bytes.{pad16};
+    ghost use Rattle.gf128.specs.Polyval.{polyval};
+    ghost use Rattle.gf128.specs.States.{PolyvalHolds};
+
+    /// A state that holds the empty text, under the key of which the multiplier's is [`reversed_mul_x`]. The multiplier may be a
+    /// reference to one that is kept.
+    pub fn with(multiplier: M) -> Polyval<M>
+        ensures { (h : List ℕ) → IsBlock h → IsReversedMulX h (M.key_bytes multiplier) → PolyvalHolds M.key_bytes result h [] }
+    {
         Polyval {
-            pieces: Pieces::new(PolyvalSum {
-                multiplier: M::of(&ghash_key(key)),
-                sum: 0,
-            }),
+            pieces: Pieces::new(PolyvalSum { multiplier, sum: 0 }),
         }
     }
 

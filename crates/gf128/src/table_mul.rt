@@ -2,10 +2,10 @@
 
 ghost use Rattle.std.specs.Int.{w128, to_be_bytes};
 
-use crate::Keyed128;
 use crate::chain::{Chain, times_x64};
 use crate::multiples::Multiples16;
-use crate::words::{high_half, low_half, word_of};
+use crate::words::{block_of, high_half, low_half, word_of};
+use crate::{Keyed128, Multiply};
 use octets::Block;
 
 /// The multiplier that holds 16 multiples of the key, and takes four bits at a time.
@@ -14,13 +14,11 @@ pub struct TableMul {
     multiples: Multiples16,
 }
 
-impl Keyed128 for TableMul {
+impl Multiply for TableMul {
     ghost key_bytes = { λ s. to_be_bytes w128 s.multiples.word };
 
-    fn of(key: &Block) -> TableMul {
-        TableMul {
-            multiples: Multiples16::of(word_of(key.bytes())),
-        }
+    fn times(&self, x: &Block) -> Block {
+        block_of(self.times_word(word_of(x.bytes())))
     }
 
     fn times_word(&self, x: u128) -> u128 {
@@ -33,5 +31,13 @@ impl Keyed128 for TableMul {
             low = low.take_four(self.multiples.at(low_bits >> (4 * i)));
         }
         high.reduced() ^ times_x64(low.reduced())
+    }
+}
+
+impl Keyed128 for TableMul {
+    fn of(key: &Block) -> TableMul {
+        TableMul {
+            multiples: Multiples16::of(word_of(key.bytes())),
+        }
     }
 }

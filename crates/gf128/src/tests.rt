@@ -9,7 +9,7 @@ const ANY: [u8; 16] = [
 ];
 
 fn ghash_of<M: Keyed128>(key: [u8; 16], text: &[u8]) -> [u8; 16] {
-    let mut state = Ghash::new(M::of(&Block::new(key)));
+    let mut state = Ghash::<M>::new(&Block::new(key));
     state.update(text);
     *state.finish().bytes()
 }
@@ -69,7 +69,7 @@ const HASH: [u8; 16] = [
 ];
 
 fn ghash_in_pieces<M: Keyed128>() -> [u8; 16] {
-    let mut state = Ghash::new(M::of(&Block::new(HASH_KEY)));
+    let mut state = Ghash::<M>::new(&Block::new(HASH_KEY));
     state.update(&HASHED[..1]);
     state.update(&HASHED[1..16]);
     state.pad16();
@@ -136,7 +136,8 @@ fn ghash_of_more_than_four_blocks(rt: HostRuntime) -> Result<(), Fail> {
     let mut state = key.ghash();
     state.update(&LONGER);
     assert_eq!(rt; state.finish().bytes().as_slice(), LONGER_HASH.as_slice());
-    let mut state = key.ghash_of_long();
+    let multiplier = WideMul::of(key.key());
+    let mut state = Ghash::with(&multiplier);
     state.update(&LONGER);
     assert_eq!(rt; state.finish().bytes().as_slice(), LONGER_HASH.as_slice());
     assert_eq!(rt;

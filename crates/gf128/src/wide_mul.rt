@@ -7,8 +7,8 @@ ghost use Rattle.gf128.specs.Words.{of_word, products, IsReduced};
 
 use crate::chain::{Chain, times_x64};
 use crate::multiples::Multiples256;
-use crate::words::{bytes_of, high_half, low_half};
-use crate::{ByteMul, Keyed128};
+use crate::words::{block_of, bytes_of, high_half, low_half, word_of};
+use crate::{ByteMul, Keyed128, Multiply};
 use octets::Block;
 
 /// The multiplier that holds 256 multiples of each of the key's first four powers, 16 KiB, and takes four blocks at a
@@ -54,9 +54,25 @@ impl WideMul {
     }
 }
 
-impl Keyed128 for WideMul {
+impl Multiply for WideMul {
     ghost key_bytes = { λ s. to_be_bytes w128 s.first.multiples.word };
 
+    fn times(&self, x: &Block) -> Block {
+        block_of(self.times_word(word_of(x.bytes())))
+    }
+
+    fn times_word(&self, x: u128) -> u128 {
+        self.first.times_word(x)
+    }
+
+    fn times_four(&self, a: u128, b: u128, c: u128, d: u128) -> u128 {
+        let high = self.four_halves(high_half(a), high_half(b), high_half(c), high_half(d));
+        let low = self.four_halves(low_half(a), low_half(b), low_half(c), low_half(d));
+        high ^ times_x64(low)
+    }
+}
+
+impl Keyed128 for WideMul {
     fn of(key: &Block) -> WideMul {
         let first = ByteMul::of(key);
         let second = first.times_word(first.multiples.word);
@@ -68,15 +84,5 @@ impl Keyed128 for WideMul {
             third: Multiples256::of(third),
             fourth: Multiples256::of(fourth),
         }
-    }
-
-    fn times_word(&self, x: u128) -> u128 {
-        self.first.times_word(x)
-    }
-
-    fn times_four(&self, a: u128, b: u128, c: u128, d: u128) -> u128 {
-        let high = self.four_halves(high_half(a), high_half(b), high_half(c), high_half(d));
-        let low = self.four_halves(low_half(a), low_half(b), low_half(c), low_half(d));
-        high ^ times_x64(low)
     }
 }

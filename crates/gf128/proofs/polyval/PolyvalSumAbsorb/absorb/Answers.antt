@@ -27,7 +27,7 @@ fours-preserved x c = λ h m whole held.
     let e : suc (suc (suc (suc (q + i * 4)))) ≡ q + (i + 1) * 4 = omega arith in
     let word : (j k w : ℕ) → j < 4 → q + i * 4 + j ≡ k → of_word w ≡ g (reverse (get_or (get_or c.as_chunks-2.result.0.now i []) j [])) → of_word w ≡ g (reverse (block_at (m ++ blocks) k)) = λ j k w l at is.
     is ∙ read j l ∙ ap (λ (n : ℕ). g (reverse (block_at (m ++ blocks) n))) (place j ∙ at) in
-    rw e at (polyval_four h (m ++ blocks) (x.M.Keyed128.key_bytes c.args.self.now.multiplier) c.fours.sum c.reversed_word_of.result c.reversed_word_of-in-fours.result c.reversed_word_of-in-fours-2.result c.reversed_word_of-in-fours-3.result c.times_four-sum.result
+    rw e at (polyval_four h (m ++ blocks) (x.M.Multiply.key_bytes c.args.self.now.multiplier) c.fours.sum c.reversed_word_of.result c.reversed_word_of-in-fours.result c.reversed_word_of-in-fours-2.result c.reversed_word_of-in-fours-3.result c.times_four-sum.result
     (q + i * 4) held.key_block.length_is held.key_is (c.fours.invariant h m whole held)
     (word 0 (q + i * 4) c.reversed_word_of.result (omega arith) (omega arith) c.reversed_word_of.ensures)
     (word 1 (suc (q + i * 4)) c.reversed_word_of-in-fours.result (omega arith) (omega arith) c.reversed_word_of-in-fours.ensures)
@@ -54,7 +54,7 @@ taken-preserved x c = λ h m whole held.
     ∙ ap (λ (b : List ℕ). g (reverse b)) (after_fours blocks c.as_chunks.result.0.now c.as_chunks-2.result.1.now i c.as_chunks.ensures.front c.as_chunks.ensures.front_len c.as_chunks-2.ensures.back small
     ∙ sym (next_block m blocks (n + i) whole) ∙ ap (block_at (m ++ blocks)) at) in
     let e : suc (q + n + i) ≡ q + n + (i + 1) = omega arith in
-    rw e at (polyval_taken h (m ++ blocks) (x.M.Keyed128.key_bytes c.args.self.now.multiplier) c.taken.sum c.reversed_word_of-in-taken.result c.times_word-sum.result (q + n + i) held.key_block.length_is held.key_is (c.taken.invariant h m whole held) word
+    rw e at (polyval_taken h (m ++ blocks) (x.M.Multiply.key_bytes c.args.self.now.multiplier) c.taken.sum c.reversed_word_of-in-taken.result c.times_word-sum.result (q + n + i) held.key_block.length_is held.key_is (c.taken.invariant h m whole held) word
     c.times_word-sum.ensures)
 
 pub returns : goal.returns

@@ -3,7 +3,7 @@ use Rattle.octets.specs.Polynomial.{product}
 use Rattle.gf128.specs.Words.{of_bits, of_word, IsSpread, IsBitsProduct}
 use Rattle.gf128.proofs.BitParts.{product_low, word_product_is}
 use Rattle.gf128.proofs.Chains.{no_bits, factor_more, halves_product}
-use Rattle.gf128.proofs.table_mul.TableMulKeyed128.times_word.Goals as goal
+use Rattle.gf128.proofs.table_mul.TableMulMultiply.times_word.Goals as goal
 
 pub nibbles-init : goal.nibbles-init
 nibbles-init c =

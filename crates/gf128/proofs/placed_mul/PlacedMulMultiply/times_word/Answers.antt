@@ -1,7 +1,7 @@
 use Rattle.std.proofs.Common.{ℕ, ◌/◌, ◌%◌, ◌^◌, arith, bit_xor}
 use Rattle.gf128.specs.Words.{IsBitsProduct}
 use Rattle.gf128.proofs.BitParts.{joined, product_low, word_product_is}
-use Rattle.gf128.proofs.placed_mul.PlacedMulKeyed128.times_word.Goals as goal
+use Rattle.gf128.proofs.placed_mul.PlacedMulMultiply.times_word.Goals as goal
 
 pub returns : goal.returns
 returns c =

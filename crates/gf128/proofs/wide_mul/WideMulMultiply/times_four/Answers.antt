@@ -2,7 +2,7 @@ use Rattle.std.proofs.Common.{◌≡◌, ℕ, ◌/◌, ◌%◌, ◌^◌, List, [
 use Rattle.gf128.specs.Words.{of_bits, products, IsReduced}
 use Rattle.gf128.proofs.BitParts.{bits_low}
 use Rattle.gf128.proofs.FourProducts.{shortened, products_halves, four_parts, four_products}
-use Rattle.gf128.proofs.wide_mul.WideMulKeyed128.times_four.Goals as goal
+use Rattle.gf128.proofs.wide_mul.WideMulMultiply.times_four.Goals as goal
 
 -- the bits of a low half word
 low_bits : (x n : ℕ) → n ≡ x % 2 ^ 64 → of_bits 64 n ≡ of_bits 64 x

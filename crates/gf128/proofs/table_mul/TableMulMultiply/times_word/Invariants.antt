@@ -1,7 +1,7 @@
 use Rattle.std.proofs.Common.{◌*◌}
 use Rattle.octets.specs.Polynomial.{product}
 use Rattle.gf128.specs.Words.{of_bits, of_word, IsSpread}
-use Rattle.gf128.proofs.table_mul.TableMulKeyed128.times_word.Given as goal
+use Rattle.gf128.proofs.table_mul.TableMulMultiply.times_word.Given as goal
 
 abbrev pub invariant-nibbles : goal.invariant-nibbles
 invariant-nibbles l = record {

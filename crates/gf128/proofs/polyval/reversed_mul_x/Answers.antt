@@ -1,7 +1,7 @@
 use Rattle.std.proofs.Common.{List, ℕ, ◌∙◌, ap, reverse, arith}
 use Rattle.octets.specs.Bits.{g}
 use Rattle.gf128.proofs.WordLemmas.{times_x_is}
-use Rattle.gf128.proofs.polyval.ghash_key.Goals as goal
+use Rattle.gf128.proofs.polyval.reversed_mul_x.Goals as goal
 
 pub returns-clause-value : goal.returns-clause-value
 returns-clause-value c =

@@ -2,7 +2,7 @@ use Rattle.std.proofs.Common.{ℕ, ◌/◌, ◌%◌, ◌^◌, arith, bit_xor}
 use Rattle.gf128.specs.Words.{IsBitsProduct}
 use Rattle.gf128.proofs.BitParts.{product_low, word_product_is}
 use Rattle.gf128.proofs.Chains.{halves_product}
-use Rattle.gf128.proofs.byte_mul.ByteMulKeyed128.times_word.Goals as goal
+use Rattle.gf128.proofs.byte_mul.ByteMulMultiply.times_word.Goals as goal
 
 pub returns : goal.returns
 returns c =

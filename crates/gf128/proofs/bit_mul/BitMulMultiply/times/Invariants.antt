@@ -1,0 +1,5 @@
+use Rattle.gf128.proofs.WordLemmas.{IsSoFar}
+use Rattle.gf128.proofs.bit_mul.BitMulMultiply.times.Given as goal
+
+abbrev pub invariant-bits : goal.invariant-bits
+invariant-bits l = IsSoFar l.factor l.self.key l.i l.product
