@@ -1,8 +1,11 @@
 -- How the sum follows a text as it grows.
-use Rattle.std.proofs.Common.{◌≡◌, ℕ, suc, ◌+◌, ◌-◌, ◌*◌, ◌/◌, ◌%◌, ◌^◌, ◌<◌, ◌≤◌, List, [], ◌∷◌, ◌++◌, length, take, drop, get_or, set, bit_and, replicate, refl, sym, ap, ◌∙◌, arith}
+use Rattle.std.proofs.Common.{◌≡◌, ℕ, suc, ◌+◌, ◌-◌, ◌*◌, ◌/◌, ◌%◌, ◌^◌, ◌<◌, ◌≤◌, List, [], ◌∷◌, ◌++◌}
+use Rattle.std.proofs.Common.{length, take, drop, get_or, set, bit_and, replicate, refl, sym, ap, ◌∙◌}
+use Rattle.std.proofs.Common.{arith}
 use Rattle.std.proofs.Math.Nat.{mod-add-mod, mod-mod}
 use Rattle.std.proofs.lemmas.Nat.{mul-mod_first, and_mod, and_shr, and_le_r}
-use Rattle.std.proofs.lemmas.List.{take_all, length-take-le, length-drop, take-append-drop, drop-replicate, set_at, length-append, length-replicate}
+use Rattle.std.proofs.lemmas.List.{take_all, length-take-le, length-drop, take-append-drop, drop-replicate}
+use Rattle.std.proofs.lemmas.List.{set_at, length-append, length-replicate}
 use Rattle.std.specs.Simd.{first_chunks}
 use borrow.Rule.Slice.PartMut.{put_mid, mid_of}
 use Rattle.std.specs.Int.{w128, from_le_bytes}
@@ -11,37 +14,44 @@ use Rattle.octets.proofs.Sums.{sum_below_same, powers_more}
 use Rattle.octets.proofs.Blocks.{block_at-append, next_block, chunk_at}
 use Rattle.octets.proofs.Numbers.{le_ended, le_word, power_of_bytes}
 use Rattle.poly1305.specs.Poly1305.{prime, block_number, block_sum, r_of}
-use Rattle.poly1305.specs.Residue.{pair, IsClamped}
+use Rattle.poly1305.specs.Code.Residue.{pair, IsClamped}
 use Rattle.poly1305.specs.States.{HoldsBy}
 use Rattle.poly1305.specs.declared.poly.PolyBy.{PolyBy}
 
 -- the sum over one block more
-block_sum_more : (r : ℕ) (m : List ℕ) (k : ℕ) → block_sum r m (k + 1) ≡ (block_sum r m k + block_number (block_at m k)) * r
+block_sum_more : (r : ℕ) (m : List ℕ) (k : ℕ)
+    → block_sum r m (k + 1) ≡ (block_sum r m k + block_number (block_at m k)) * r
 unfolding block_sum
 block_sum_more r m k = powers_more (λ i. block_number (block_at m i)) r k
 
 -- a longer text has the same sum over its first blocks
-pub block_sum-append : (r : ℕ) (m x : List ℕ) (k : ℕ) → k * 16 ≤ length m → block_sum r (m ++ x) k ≡ block_sum r m k
+pub block_sum-append : (r : ℕ) (m x : List ℕ) (k : ℕ) → k * 16 ≤ length m
+    → block_sum r (m ++ x) k ≡ block_sum r m k
 unfolding block_sum
 block_sum-append r m x k h =
-    sum_below_same (λ i. block_number (block_at (m ++ x) i) * r ^ (k - i)) (λ i. block_number (block_at m i) * r ^ (k - i)) k
+    sum_below_same (λ i. block_number (block_at (m ++ x) i) * r ^ (k - i))
+    (λ i. block_number (block_at m i) * r ^ (k - i)) k
     (λ i l. ap (λ (b : List ℕ). block_number b * r ^ (k - i)) (block_at-append m x i (omega arith)))
 
 -- one block more, modulo p
 taken : (p a t c r : ℕ) → a % p ≡ t % p → (a + c) * r % p ≡ (t + c) * r % p
 taken p a t c r e =
-    sym (mul-mod_first (a + c) r p) ∙ ap (λ (x : ℕ). x * r % p) (sym (mod-add-mod a p c) ∙ ap (λ (x : ℕ). (x + c) % p) e ∙ mod-add-mod t p c) ∙ mul-mod_first (t + c) r p
+    sym (mul-mod_first (a + c) r p) ∙ ap (λ (x : ℕ). x * r % p) (sym (mod-add-mod a p c)
+    ∙ ap (λ (x : ℕ). (x + c) % p) e ∙ mod-add-mod t p c) ∙ mul-mod_first (t + c) r p
 
 -- a step makes a number that is congruent to the sum over q blocks one that is congruent to that over q + 1
-pub block_taken : (r : ℕ) (m : List ℕ) (q s c v : ℕ) → s % prime ≡ block_sum r m q % prime → c ≡ block_number (block_at m q)
+pub block_taken : (r : ℕ) (m : List ℕ) (q s c v : ℕ) → s % prime ≡ block_sum r m q % prime
+    → c ≡ block_number (block_at m q)
     → v % prime ≡ (s + c) * r % prime → v % prime ≡ block_sum r m (q + 1) % prime
 block_taken r m q s c v before number step =
     step ∙ taken prime s (block_sum r m q) c r before
-    ∙ ap (λ (x : ℕ). (block_sum r m q + x) * r % prime) number ∙ ap (λ (x : ℕ). x % prime) (sym (block_sum_more r m q))
+    ∙ ap (λ (x : ℕ). (block_sum r m q + x) * r % prime) number ∙ ap (λ (x : ℕ). x % prime)
+    (sym (block_sum_more r m q))
 
 -- the same for block i after q blocks, as `absorb` adds it up
 pub whole_block_taken : (r f : ℕ) (m : List ℕ) (q i s w v : ℕ) → s % prime ≡ block_sum r m (q + i) % prime
-    → w + 1 * 2 ^ 128 ≡ block_number (block_at m (q + i)) → f ≡ r → v % prime ≡ (s + w + 1 * 2 ^ 128) * f % prime
+    → w + 1 * 2 ^ 128 ≡ block_number (block_at m (q + i)) → f ≡ r
+    → v % prime ≡ (s + w + 1 * 2 ^ 128) * f % prime
     → v % prime ≡ block_sum r m (q + (i + 1)) % prime
 whole_block_taken r f m q i s w v before number same step =
     let next : q + i + 1 ≡ q + (i + 1) = omega arith in
@@ -54,14 +64,17 @@ whole_block_taken r f m q i s w v before number same step =
 whole_number : (b : List ℕ) → length b ≡ 16 → block_number b ≡ from_le_bytes w128 b + 1 * 2 ^ 128
 whole_number b len = rw (len, le_word b len) refl
 
--- the word read from chunk i of whole blocks x that follow whole blocks m is what the block counts, but for its added bit
-pub whole_block_read : (m x : List ℕ) (chunks : List (List ℕ)) (i w : ℕ) → length m % 16 ≡ 0 → (i + 1) * 16 ≤ length x
+-- the word read from chunk i of whole blocks x that follow whole blocks m is what the block counts, but for
+-- its added bit
+pub whole_block_read : (m x : List ℕ) (chunks : List (List ℕ)) (i w : ℕ) → length m % 16 ≡ 0
+    → (i + 1) * 16 ≤ length x
     → chunks ≡ first_chunks 16 (length x / 16) x → w ≡ from_le_bytes w128 (get_or chunks i [])
     → w + 1 * 2 ^ 128 ≡ block_number (block_at (m ++ x) (length m / 16 + i))
 whole_block_read m x chunks i w whole room ec ew =
     let b : List ℕ = take 16 (drop (i * 16) x) in
     let n : length b ≡ 16 = length-take-le 16 (drop (i * 16) x) (omega (arith, length-drop (i * 16) x)) in
-    let read : get_or chunks i [] ≡ b = ap (λ (y : List (List ℕ)). get_or y i []) ec ∙ chunk_at 16 (length x / 16) i x (omega arith) in
+    let read : get_or chunks i [] ≡ b = ap (λ (y : List (List ℕ)). get_or y i []) ec
+    ∙ chunk_at 16 (length x / 16) i x (omega arith) in
     ap (λ (y : ℕ). y + 1 * 2 ^ 128) (ew ∙ ap (from_le_bytes w128) read) ∙ sym (whole_number b n)
     ∙ ap block_number (sym (next_block m x i whole))
 
@@ -71,16 +84,19 @@ pub ended_block : (buffer ys : List ℕ) (u : ℕ) → u < 16 → length buffer 
 ended_block buffer ys u h len e =
     let n : length (take u buffer) ≡ u = length-take-le u buffer (omega arith) in
     let s : 16 - u ≡ suc (15 - u) = omega arith in
-    let tail : drop u (replicate {A = ℕ} 16 0) ≡ 0 ∷ replicate (15 - u) 0 = drop-replicate u 16 0 ∙ rw s refl in
+    let tail : drop u (replicate {A = ℕ} 16 0) ≡ 0 ∷ replicate (15 - u) 0 = drop-replicate u 16 0
+    ∙ rw s refl in
     rw (e, tail) (set_at (take u buffer) 0 (replicate (15 - u) 0) 1 u n)
 
 -- the word that it spells is what the block counts
-pub ended_number : (front block : List ℕ) (u : ℕ) → u < 16 → length front ≡ u → block ≡ front ++ 1 ∷ replicate (15 - u) 0
+pub ended_number : (front block : List ℕ) (u : ℕ) → u < 16 → length front ≡ u
+    → block ≡ front ++ 1 ∷ replicate (15 - u) 0
     → from_le_bytes w128 block ≡ block_number front
 ended_number front block u h n e =
     let z : length (replicate {A = ℕ} (15 - u) 0) ≡ 15 - u = length-replicate (15 - u) 0 in
     let whole : length block ≡ 16 = rw e (omega (arith, length-append front (1 ∷ replicate (15 - u) 0))) in
-    sym (le_word block whole) ∙ ap le e ∙ le_ended front (15 - u) ∙ ap (λ (x : ℕ). le front + x) (power_of_bytes (length front))
+    sym (le_word block whole) ∙ ap le e ∙ le_ended front (15 - u) ∙ ap (λ (x : ℕ). le front + x)
+    (power_of_bytes (length front))
 
 -- the mask leaves a clamped number
 pub clamped : (x : ℕ) → IsClamped (bit_and x 0x0ffffffc0ffffffc0ffffffc0fffffff)
@@ -88,17 +104,21 @@ clamped x =
     let mask : ℕ = 0x0ffffffc0ffffffc0ffffffc0fffffff in
     let all : bit_and x mask ≤ mask = and_le_r x mask in
     let low : bit_and x mask % 2 ^ 64 ≡ bit_and (x % 2 ^ 64) (mask % 2 ^ 64) = and_mod x mask 64 in
-    let low_at_most : bit_and (x % 2 ^ 64) (mask % 2 ^ 64) ≤ mask % 2 ^ 64 = and_le_r (x % 2 ^ 64) (mask % 2 ^ 64) in
+    let low_at_most : bit_and (x % 2 ^ 64) (mask % 2 ^ 64) ≤ mask % 2 ^ 64 =
+    and_le_r (x % 2 ^ 64) (mask % 2 ^ 64) in
     let high : bit_and x mask / 2 ^ 64 ≡ bit_and (x / 2 ^ 64) (mask / 2 ^ 64) = and_shr x mask 64 in
-    let even : bit_and (x / 2 ^ 64) (mask / 2 ^ 64) % 2 ^ 2 ≡ bit_and (x / 2 ^ 64 % 2 ^ 2) (mask / 2 ^ 64 % 2 ^ 2) = and_mod (x / 2 ^ 64) (mask / 2 ^ 64) 2 in
-    let none : bit_and (x / 2 ^ 64 % 2 ^ 2) (mask / 2 ^ 64 % 2 ^ 2) ≤ mask / 2 ^ 64 % 2 ^ 2 = and_le_r (x / 2 ^ 64 % 2 ^ 2) (mask / 2 ^ 64 % 2 ^ 2) in (
+    let even : bit_and (x / 2 ^ 64) (mask / 2 ^ 64) % 2 ^ 2 ≡ bit_and (x / 2 ^ 64 % 2 ^ 2)
+    (mask / 2 ^ 64 % 2 ^ 2) = and_mod (x / 2 ^ 64) (mask / 2 ^ 64) 2 in
+    let none : bit_and (x / 2 ^ 64 % 2 ^ 2) (mask / 2 ^ 64 % 2 ^ 2) ≤ mask / 2 ^ 64 % 2 ^ 2 =
+    and_le_r (x / 2 ^ 64 % 2 ^ 2) (mask / 2 ^ 64 % 2 ^ 2) in (
       omega arith,
       omega arith,
       omega arith,
     )
 
 -- at the end the state's sum is that over all blocks, where the last one is whole
-pub holds_whole : {M : Type 0} (factor : M → ℕ) (p : PolyBy M) (k m : List ℕ) → HoldsBy factor p k m → p.pieces.used ≡ 0
+pub holds_whole : {M : Type 0} (factor : M → ℕ) (p : PolyBy M) (k m : List ℕ) → HoldsBy factor p k m
+    → p.pieces.used ≡ 0
     → pair p.pieces.core.sum.low p.pieces.core.sum.high ≡ block_sum (r_of k) m (block_count m) % prime
 holds_whole factor p k m h e =
     let used : p.pieces.used ≡ length m % 16 = h.rest.used_is in
@@ -107,7 +127,8 @@ holds_whole factor p k m h e =
     rw q (rw all at h.taken.sum_is)
 
 -- and one step makes it that where the last block is short
-pub holds_partial : {M : Type 0} (factor : M → ℕ) (p : PolyBy M) (k m : List ℕ) (start last v : ℕ) → HoldsBy factor p k m
+pub holds_partial : {M : Type 0} (factor : M → ℕ) (p : PolyBy M) (k m : List ℕ) (start last v : ℕ)
+    → HoldsBy factor p k m
     → 0 < p.pieces.used → p.pieces.used < 16 → length p.pieces.buffer ≡ 16
     → last ≡ block_number (take p.pieces.used p.pieces.buffer)
     → start ≡ pair p.pieces.core.sum.low p.pieces.core.sum.high
@@ -126,11 +147,14 @@ holds_partial factor p k m start last v h some small len el es ev =
     let lt : length (take (q * 16) m) ≡ q * 16 = length-take-le (q * 16) m (omega arith) in
     let lq : length (take (q * 16) m) / 16 ≡ q = omega arith in
     let same : block_sum (r_of k) m q ≡ block_sum (r_of k) (take (q * 16) m) q =
-    ap (λ (x : List ℕ). block_sum (r_of k) x q) (sym split) ∙ block_sum-append (r_of k) (take (q * 16) m) (drop (q * 16) m) q (omega arith) in
+    ap (λ (x : List ℕ). block_sum (r_of k) x q) (sym split) ∙ block_sum-append (r_of k) (take (q * 16) m)
+    (drop (q * 16) m) q (omega arith) in
     let before : s % prime ≡ block_sum (r_of k) m q % prime =
-    ap (λ (x : ℕ). x % prime) (h.taken.sum_is ∙ ap (λ (x : ℕ). block_sum (r_of k) (take (q * 16) m) x % prime) lq)
+    ap (λ (x : ℕ). x % prime) (h.taken.sum_is
+    ∙ ap (λ (x : ℕ). block_sum (r_of k) (take (q * 16) m) x % prime) lq)
     ∙ mod-mod (block_sum (r_of k) (take (q * 16) m) q) prime ∙ ap (λ (x : ℕ). x % prime) (sym same) in
     let sums : start + last + 0 * 2 ^ 128 ≡ s + last = omega arith in
     block_taken (r_of k) m q s last v before number
-    (ev ∙ ap (λ (x : ℕ). x * factor p.pieces.core.multiplier % prime) sums ∙ ap (λ (x : ℕ). (s + last) * x % prime) h.taken.factor_is)
+    (ev ∙ ap (λ (x : ℕ). x * factor p.pieces.core.multiplier % prime) sums
+    ∙ ap (λ (x : ℕ). (s + last) * x % prime) h.taken.factor_is)
     ∙ ap (λ (x : ℕ). block_sum (r_of k) m x % prime) (sym count)

@@ -1,3 +1,3 @@
 pub mod Poly1305
-pub mod Residue
 pub mod States
+pub mod Code

@@ -23,6 +23,7 @@ block_number b = le b + 2 ^ (8 * length b)
 unfoldable pub block_sum : ℕ → List ℕ → ℕ → ℕ
 block_sum r m q = sum_below (λ i. block_number (block_at m i) * r ^ (q - i)) q
 
--- the tag of m: the sum over all its blocks modulo 2^130 - 5, plus s, modulo 2^128, as 16 bytes, the least significant first
+-- the tag of m: the sum over all its blocks modulo 2^130 - 5, plus s, modulo 2^128, as 16 bytes, the least
+-- significant first
 unfoldable pub poly1305 : List ℕ → List ℕ → List ℕ
 poly1305 key m = to_le_bytes w128 ((block_sum (r_of key) m (block_count m) % prime + s_of key) % 2 ^ 128)

@@ -2,21 +2,22 @@
 use Rattle.std.specs.Prelude.{◌≡◌, ℕ, ◌+◌, ◌*◌, ◌/◌, ◌%◌, ◌^◌, ◌<◌, List, length}
 use Rattle.octets.specs.Pieces.{HoldsPieces}
 use Rattle.poly1305.specs.Poly1305.{prime, block_sum, r_of, s_of}
-use Rattle.poly1305.specs.Residue.{pair}
-use Rattle.poly1305.specs.declared.poly.Core.{Core}
+use Rattle.poly1305.specs.Code.Residue.{pair}
+use Rattle.poly1305.specs.declared.poly.PolySum.{PolySum}
 use Rattle.poly1305.specs.declared.poly.PolyBy.{PolyBy}
-use Rattle.poly1305.specs.declared.words.WordMul.{WordMul}
+use Rattle.poly1305.specs.declared.word_mul.WordMul.{WordMul}
 
 -- c has taken in the whole blocks m under the key, and keeps a pair of words below 2^130 - 5
-pub record CoreHolds {M : Type 0} (factor : M → ℕ) (c : Core M) (key : List ℕ) (m : List ℕ) : Type 0 where
-  pub factor_is : factor c.multiplier ≡ r_of key
-  pub addend_is : c.addend ≡ s_of key
-  pub sum_is : pair c.sum.low c.sum.high ≡ block_sum (r_of key) m (length m / 16) % prime
-  pub sum_below_prime : pair c.sum.low c.sum.high < prime
+pub record PolySumHolds {M : Type 0} (factor : M → ℕ) (c : PolySum M) (key : List ℕ) (m : List ℕ) : Type 0
+  where
+    pub factor_is : factor c.multiplier ≡ r_of key
+    pub addend_is : c.addend ≡ s_of key
+    pub sum_is : pair c.sum.low c.sum.high ≡ block_sum (r_of key) m (length m / 16) % prime
+    pub sum_below_prime : pair c.sum.low c.sum.high < prime
 
 -- p holds the text m under the key, by a multiplier with these factors
 abbrev pub HoldsBy : {M : Type 0} → (M → ℕ) → PolyBy M → List ℕ → List ℕ → Type 0
-HoldsBy factor p key m = HoldsPieces (CoreHolds factor) p.pieces key m
+HoldsBy factor p key m = HoldsPieces (PolySumHolds factor) p.pieces key m
 
 -- the factor of the multiplier in use
 abbrev pub factor_of : WordMul → ℕ

@@ -2,21 +2,21 @@
 //! It is a one-time key: it serves for one text alone. No call refuses, and none takes memory.
 #![tactic(auto)]
 
+mod nibble_mul;
 mod poly;
 mod residue;
-mod table;
 #[cfg(test)]
 mod tests;
-mod words;
+mod word_mul;
 
 ghost use Rattle.std.specs.Prelude.{◌≡◌, ℕ, ◌+◌, ◌*◌, ◌%◌, ◌^◌, ◌≤◌};
 ghost use Rattle.poly1305.specs.Poly1305.{prime};
-ghost use Rattle.poly1305.specs.Residue.{pair, IsClamped};
+ghost use Rattle.poly1305.specs.Code.Residue.{pair, IsClamped};
 
+pub use nibble_mul::NibbleMul;
 pub use poly::PolyBy;
 pub use residue::Sum;
-pub use table::TableMul;
-pub use words::WordMul;
+pub use word_mul::WordMul;
 
 /// A way to multiply by the key's clamped number r, modulo 2^130 - 5.
 pub trait Multiplier: Drop {
@@ -28,13 +28,14 @@ pub trait Multiplier: Drop {
         requires { IsClamped r }
         ensures { factor result ≡ r };
 
-    /// The sum with one block more, times the factor. `mark` is 1 for a whole block, whose added bit stands past its 16 bytes,
-    /// and 0 for a shorter one, which has that bit within `block`.
+    /// The sum with one block more, times the factor. `mark` is 1 for a whole block, whose added bit stands
+    /// past its 16 bytes, and 0 for a shorter one, which has that bit within `block`.
     fn step(&self, sum: Sum, block: u128, mark: u64) -> Sum
         requires { mark ≤ 1 }
         ensures { pair result.low result.high % prime
             ≡ (pair sum.low sum.high + block + mark * 2 ^ 128) * factor self.now % prime };
 }
 
-/// The one-time authenticator (RFC 8439, 2.5) with the multiplier in use: `new`, `update` and `pad16` in any order, `finish`.
+/// The one-time authenticator (RFC 8439, 2.5) with the multiplier in use: `new`, `update` and `pad16` in any
+/// order, `finish`.
 pub type Poly = PolyBy<WordMul>;

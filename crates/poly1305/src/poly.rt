@@ -12,16 +12,16 @@ const R_MASK: u128 = 0x0ffffffc0ffffffc0ffffffc0fffffff;
 
 // The sum over whole blocks, with both numbers of the key.
 #[derive(Drop)]
-struct Core<M> {
+struct PolySum<M> {
     multiplier: M,
     addend: u128,
     sum: Residue,
 }
 
-impl<M: Multiplier> Absorb for Core<M> {
-    ghost use Rattle.poly1305.specs.States.{CoreHolds};
+impl<M: Multiplier> Absorb for PolySum<M> {
+    ghost use Rattle.poly1305.specs.States.{PolySumHolds};
 
-    ghost absorbed = { λ c k m. CoreHolds M.factor c k m };
+    ghost absorbed = { λ c k m. PolySumHolds M.factor c k m };
 
     fn absorb(&mut self, blocks: &[u8]) {
         let (whole, _) = blocks.as_chunks::<16>();
@@ -48,7 +48,7 @@ fn short_block_number(buffer: &[u8; 16], used: usize) -> u128
 /// A one-time authenticator over a text that comes in pieces, by the multiplier `M`.
 #[derive(Drop)]
 pub struct PolyBy<M> {
-    pieces: Pieces<Core<M>>,
+    pieces: Pieces<PolySum<M>>,
 }
 
 impl<M: Multiplier> PolyBy<M> {
@@ -65,7 +65,7 @@ impl<M: Multiplier> PolyBy<M> {
         let mut second = [0u8; 16];
         second.copy_from_slice(&key[16..]);
         PolyBy {
-            pieces: Pieces::new(Core {
+            pieces: Pieces::new(PolySum {
                 multiplier: M::new(u128::from_le_bytes(first) & R_MASK),
                 addend: u128::from_le_bytes(second),
                 sum: Residue::zero(),
@@ -75,7 +75,8 @@ impl<M: Multiplier> PolyBy<M> {
 
     /// Adds `piece`, of any length, to the text.
     pub fn update(&mut self, piece: &[u8])
-        ensures { (k m : List ℕ) → HoldsBy M.factor self.old k m → HoldsBy M.factor self.new k (m ++ piece.now) }
+        ensures { (k m : List ℕ) → HoldsBy M.factor self.old k m
+            → HoldsBy M.factor self.new k (m ++ piece.now) }
     {
         self.pieces.update(piece);
     }

@@ -40,7 +40,7 @@ fn tag_in_pieces<M: Multiplier>(key: &[u8; 32], message: &[u8], size: usize) -> 
 
 fn has_tag(rt: &impl Abort, key: &[u8; 32], pieces: &[&[u8]], tag: &[u8; 16]) {
     assert_eq!(rt; tag_of::<WordMul>(key, pieces).as_slice(), tag.as_slice());
-    assert_eq!(rt; tag_of::<TableMul>(key, pieces).as_slice(), tag.as_slice());
+    assert_eq!(rt; tag_of::<NibbleMul>(key, pieces).as_slice(), tag.as_slice());
 }
 
 #[test]
@@ -85,7 +85,7 @@ fn published_tag(rt: HostRuntime) {
             TAG.as_slice()
         );
         assert_eq!(rt;
-            tag_in_pieces::<TableMul>(&KEY, &MESSAGE, size).as_slice(),
+            tag_in_pieces::<NibbleMul>(&KEY, &MESSAGE, size).as_slice(),
             TAG.as_slice()
         );
     }
@@ -121,7 +121,7 @@ fn padding_is_part_of_the_text(rt: HostRuntime) {
             tag.as_slice()
         );
         assert_eq!(rt;
-            padded_tag::<TableMul>(&zero, times).as_slice(),
+            padded_tag::<NibbleMul>(&zero, times).as_slice(),
             tag.as_slice()
         );
     }
@@ -130,7 +130,7 @@ fn padding_is_part_of_the_text(rt: HostRuntime) {
         [0; 16].as_slice()
     );
     assert_eq!(rt;
-        padded_tag::<TableMul>(&[], 1).as_slice(),
+        padded_tag::<NibbleMul>(&[], 1).as_slice(),
         [0; 16].as_slice()
     );
 }

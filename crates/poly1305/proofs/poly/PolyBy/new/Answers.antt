@@ -15,11 +15,13 @@ returns g c =
     let key = c.args.key.now in
     let n : length key ≡ 32 = omega arith in
     let first : c.copy_from_slice.new.self ≡ take 16 key = c.copy_from_slice.ensures.after in
-    let second : c.copy_from_slice-2.new.self ≡ drop 16 key = c.copy_from_slice-2.ensures.after ∙ take_all 16 (drop 16 key) (omega (arith, length-drop 16 key)) in
+    let second : c.copy_from_slice-2.new.self ≡ drop 16 key = c.copy_from_slice-2.ensures.after
+    ∙ take_all 16 (drop 16 key) (omega (arith, length-drop 16 key)) in
     let n1 : length c.copy_from_slice.new.self ≡ 16 = omega arith in
     let n2 : length c.copy_from_slice-2.new.self ≡ 16 = omega arith in
     c.new-2.ensures key (record {
-      factor_is = c.new.ensures ∙ ap (λ (x : ℕ). bit_and x 0x0ffffffc0ffffffc0ffffffc0fffffff) (c.from_le_bytes.ensures ∙ sym (le_word c.copy_from_slice.new.self n1) ∙ ap le first);
+      factor_is = c.new.ensures ∙ ap (λ (x : ℕ). bit_and x 0x0ffffffc0ffffffc0ffffffc0fffffff)
+          (c.from_le_bytes.ensures ∙ sym (le_word c.copy_from_slice.new.self n1) ∙ ap le first);
       addend_is = c.from_le_bytes-2.ensures ∙ sym (le_word c.copy_from_slice-2.new.self n2) ∙ ap le second;
       sum_is = c.zero.ensures;
       sum_below_prime = c.zero.result.below;

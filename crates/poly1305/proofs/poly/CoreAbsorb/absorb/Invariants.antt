@@ -1,9 +1,0 @@
-use Rattle.std.proofs.Common.{◌≡◌, ℕ, ◌++◌, List, ◌+◌, ◌/◌, ◌%◌, length}
-use Rattle.poly1305.specs.Poly1305.{prime, block_sum, r_of}
-use Rattle.poly1305.specs.Residue.{pair}
-use Rattle.poly1305.specs.States.{CoreHolds}
-use Rattle.poly1305.proofs.poly.CoreAbsorb.absorb.Given as goal
-
-abbrev pub invariant-taken : goal.invariant-taken
-invariant-taken g l = (k m : List ℕ) → length m % 16 ≡ 0 → CoreHolds g.M.Multiplier.factor l.self k m
-    → pair l.sum.low l.sum.high % prime ≡ block_sum (r_of k) (m ++ l.blocks) (length m / 16 + l.block-index) % prime

@@ -1,0 +1,2 @@
+-- How the code holds numbers modulo 2^130 - 5. The tag is defined without it.
+pub mod Residue
