@@ -1,5 +1,7 @@
 -- Products of some bits of a number and a word.
-use Rattle.std.proofs.Common.{◌≡◌, ℕ, zero, suc, ◌+◌, ◌-◌, ◌*◌, ◌/◌, ◌%◌, ◌^◌, ◌<◌, ◌≤◌, Bool, true, false, ◌==◌, List, [], ◌∷◌, ◌++◌, length, get_or, reverse, replicate, bit_xor, inl, inr, refl, sym, ap, ap₂, ◌∙◌, arith, zero-add}
+use Rattle.std.proofs.Common.{◌≡◌, ℕ, zero, suc, ◌+◌, ◌-◌, ◌*◌, ◌/◌, ◌%◌, ◌^◌, ◌<◌, ◌≤◌, Bool, true, false}
+use Rattle.std.proofs.Common.{◌==◌, List, [], ◌∷◌, ◌++◌, length, get_or, reverse, replicate, bit_xor, inl}
+use Rattle.std.proofs.Common.{inr, refl, sym, ap, ap₂, ◌∙◌, arith, zero-add}
 use mathlib.Core.Path.{fun_ext}
 use Rattle.std.specs.Int.{w64, w128, to_be_bytes, to_le_bytes, bytes_high_first, byte_at}
 use Rattle.std.proofs.Math.Nat.{zero-mul, one-mul}
@@ -15,10 +17,12 @@ use Rattle.octets.proofs.Sequence.{sum_of, scaled, plus_false, shift_none}
 use Rattle.octets.proofs.Numbers.{bytes_high_at, byte_bit}
 use Rattle.octets.proofs.Readings.{made_same}
 use Rattle.octets.proofs.Ring.{product_is, residue_sum, residue_product, residue_of_lower, the_residue}
-use Rattle.octets.proofs.Horner.{sum_is, product_first, product_second, product_swap, product_assoc, product_of_sum, product_one, residue_same}
+use Rattle.octets.proofs.Horner.{sum_is, product_first, product_second, product_swap, product_assoc}
+use Rattle.octets.proofs.Horner.{product_of_sum, product_one, residue_same}
 use Rattle.octets.proofs.Reversal.{raised, raised_low, raised_high, coefficient_below, times_power}
 use Rattle.gf128.specs.Ghash.{ghash_modulus}
-use Rattle.gf128.specs.Words.{of_bits, of_word, IsReduced, IsBitsProduct, IsMoved, IsWordProduct, times_x}
+use Rattle.gf128.specs.Code.Words.{of_bits, of_word, IsReduced, IsBitsProduct, IsMoved, IsWordProduct}
+use Rattle.gf128.specs.Code.Words.{times_x}
 use Rattle.gf128.proofs.WordLemmas.{of_word_past, of_word_xor, of_word_zero, g-to_be, times_x_at}
 
 -- ---- bits of numbers
@@ -56,33 +60,39 @@ of_bits_past w n k h = get_or_past (of_bits w n) k false (omega (arith, length-o
 -- equal bits
 pub bits_same : (w n m : ℕ) → ((j : ℕ) → j < w → bit n j ≡ bit m j) → of_bits w n ≡ of_bits w m
 unfolding of_bits
-bits_same w n m e = made_same (λ k. bit n (w - 1 - k)) (λ k. bit m (w - 1 - k)) w (λ k l. e (w - 1 - k) (omega arith))
+bits_same w n m e = made_same (λ k. bit n (w - 1 - k)) (λ k. bit m (w - 1 - k)) w
+    (λ k l. e (w - 1 - k) (omega arith))
 
 -- the lowest bits alone count
 pub bits_low : (w a b n : ℕ) → a * 2 ^ w + b ≡ n → of_bits w b ≡ of_bits w n
 bits_low w a b n e = bits_same w b n (λ j l. sym (bit_low a w b j l) ∙ ap (λ (x : ℕ). bit x j) e)
 
 -- the byte of a half word from the bit of weight 2^(8 i)
-pub byte_of_half : (n i : ℕ) → i < 8 → of_bits 8 (get_or (to_le_bytes w64 n) i 0) ≡ of_bits 8 (n / 2 ^ (8 * i))
+pub byte_of_half : (n i : ℕ) → i < 8 → of_bits 8 (get_or (to_le_bytes w64 n) i 0)
+    ≡ of_bits 8 (n / 2 ^ (8 * i))
 byte_of_half n i l =
     let back : reverse (bytes_high_first 8 n) ≡ to_le_bytes w64 n = refl in
     let at : 8 - suc (7 - i) ≡ i = omega arith in
     let byte : get_or (to_le_bytes w64 n) i 0 ≡ byte_at i n =
-    ap (λ (bs : List ℕ). get_or bs i 0) (sym back) ∙ get_or-reverse (bytes_high_first 8 n) i 0 l ∙ bytes_high_at 8 n (7 - i) (omega arith)
+    ap (λ (bs : List ℕ). get_or bs i 0) (sym back) ∙ get_or-reverse (bytes_high_first 8 n) i 0 l
+    ∙ bytes_high_at 8 n (7 - i) (omega arith)
     ∙ ap (λ (j : ℕ). byte_at j n) at in
     bits_same 8 (get_or (to_le_bytes w64 n) i 0) (n / 2 ^ (8 * i)) (λ j h.
     ap (λ (x : ℕ). bit x j) byte ∙ ap (λ (x : ℕ). x == 1) (byte_bit n i j h) ∙ sym (bit_shr n (8 * i) j))
 
 -- bits put together
-pub bits_joined : (w d n : ℕ) → coefficient (of_bits (w + d) n) ≡ sum_of (coefficient (of_bits w (n / 2 ^ d))) (raised w (coefficient (of_bits d n)))
+pub bits_joined : (w d n : ℕ) → coefficient (of_bits (w + d) n)
+    ≡ sum_of (coefficient (of_bits w (n / 2 ^ d))) (raised w (coefficient (of_bits d n)))
 bits_joined w d n =
     let a : List Bool = of_bits w (n / 2 ^ d) in
     let b : List Bool = of_bits d n in
     fun_ext (λ k. elim (cases_lt k w) [
       | inl l ↦
           let at : d + (w - 1 - k) ≡ w + d - 1 - k = omega arith in
-          of_bits_at (w + d) n k (omega arith) ∙ ap (bit n) (sym at) ∙ sym (bit_shr n d (w - 1 - k)) ∙ sym (of_bits_at w (n / 2 ^ d) k l)
-          ∙ sym (ap (plus (coefficient a k)) (raised_low w (coefficient b) k l) ∙ plus_false (coefficient a k))
+          of_bits_at (w + d) n k (omega arith) ∙ ap (bit n) (sym at) ∙ sym (bit_shr n d (w - 1 - k))
+          ∙ sym (of_bits_at w (n / 2 ^ d) k l)
+          ∙ sym (ap (plus (coefficient a k)) (raised_low w (coefficient b) k l)
+          ∙ plus_false (coefficient a k))
       | inr l ↦
           let low : coefficient (of_bits (w + d) n) k ≡ coefficient b (k - w) = elim (cases_lt k (w + d)) [
             | inl h ↦
@@ -96,7 +106,8 @@ bits_joined w d n =
 -- ---- words as residues
 
 -- the coefficients of a residue
-pub reduced_is : (p : List Bool) (z : ℕ) → IsReduced p z → coefficient (of_word z) ≡ coefficient (residue ghash_modulus p)
+pub reduced_is : (p : List Bool) (z : ℕ) → IsReduced p z
+    → coefficient (of_word z) ≡ coefficient (residue ghash_modulus p)
 reduced_is p z is = fun_ext is
 
 -- a residue is seen by the coefficients of what it is of
@@ -104,57 +115,75 @@ pub reduced_same : (p q : List Bool) (z : ℕ) → coefficient p ≡ coefficient
 reduced_same p q z e is k = is k ∙ ap (λ f. f k) (residue_same ghash_modulus p q refl e)
 
 -- the residue of a sum
-pub residue_parts : (p q : List Bool) → coefficient (residue ghash_modulus (sum p q)) ≡ sum_of (coefficient (residue ghash_modulus p)) (coefficient (residue ghash_modulus q))
-residue_parts p q = fun_ext (residue_sum ghash_modulus p q refl) ∙ sum_is (residue ghash_modulus p) (residue ghash_modulus q)
+pub residue_parts : (p q : List Bool) → coefficient (residue ghash_modulus (sum p q))
+    ≡ sum_of (coefficient (residue ghash_modulus p)) (coefficient (residue ghash_modulus q))
+residue_parts p q = fun_ext (residue_sum ghash_modulus p q refl) ∙ sum_is (residue ghash_modulus p)
+    (residue ghash_modulus q)
 
 -- an XOR is the residue of a sum
-pub reduced_sum : (p q : List Bool) (a b : ℕ) → IsReduced p a → IsReduced q b → IsReduced (sum p q) (bit_xor a b)
+pub reduced_sum : (p q : List Bool) (a b : ℕ) → IsReduced p a → IsReduced q b
+    → IsReduced (sum p q) (bit_xor a b)
 reduced_sum p q a b ha hb k =
     of_word_xor a b k ∙ ap₂ plus (ha k) (hb k)
     ∙ sym (ap (λ f. f k) (residue_parts p q))
 
 -- x^w times a polynomial, as a product
-x_times : (w : ℕ) (p : List Bool) → coefficient (replicate w false ++ p) ≡ coefficient (product (replicate w false ++ true ∷ []) p)
-x_times w p = fun_ext (coefficient_below w p) ∙ sym (product_is (replicate w false ++ true ∷ []) p ∙ fun_ext (times_power w (coefficient p)))
+x_times : (w : ℕ) (p : List Bool) → coefficient (replicate w false ++ p)
+    ≡ coefficient (product (replicate w false ++ true ∷ []) p)
+x_times w p = fun_ext (coefficient_below w p) ∙ sym (product_is (replicate w false ++ true ∷ []) p
+    ∙ fun_ext (times_power w (coefficient p)))
 
 -- x^w times a product, by its first factor
-x_first : (w : ℕ) (p q : List Bool) → coefficient (product (replicate w false ++ p) q) ≡ coefficient (replicate w false ++ product p q)
+x_first : (w : ℕ) (p q : List Bool) → coefficient (product (replicate w false ++ p) q)
+    ≡ coefficient (replicate w false ++ product p q)
 x_first w p q =
     let power : List Bool = replicate w false ++ true ∷ [] in
-    product_first (replicate w false ++ p) (product power p) q (x_times w p) ∙ product_assoc power p q ∙ sym (x_times w (product p q))
+    product_first (replicate w false ++ p) (product power p) q (x_times w p) ∙ product_assoc power p q
+    ∙ sym (x_times w (product p q))
 
 -- the same by its second
-x_second : (w : ℕ) (p q : List Bool) → coefficient (product p (replicate w false ++ q)) ≡ coefficient (replicate w false ++ product p q)
+x_second : (w : ℕ) (p q : List Bool) → coefficient (product p (replicate w false ++ q))
+    ≡ coefficient (replicate w false ++ product p q)
 x_second w p q =
     let power : List Bool = replicate w false ++ true ∷ [] in
-    product_swap p (replicate w false ++ q) ∙ x_first w q p ∙ x_times w (product q p) ∙ product_second power (product q p) (product p q) (product_swap q p)
+    product_swap p (replicate w false ++ q) ∙ x_first w q p ∙ x_times w (product q p) ∙ product_second power
+    (product q p) (product p q) (product_swap q p)
     ∙ sym (x_times w (product p q))
 
 -- x^w times a residue
-pub x_residue : (w : ℕ) (p : List Bool) → coefficient (residue ghash_modulus (replicate w false ++ residue ghash_modulus p)) ≡ coefficient (residue ghash_modulus (replicate w false ++ p))
+pub x_residue : (w : ℕ) (p : List Bool)
+    → coefficient (residue ghash_modulus (replicate w false ++ residue ghash_modulus p))
+    ≡ coefficient (residue ghash_modulus (replicate w false ++ p))
 x_residue w p =
     let m : List Bool = ghash_modulus in
     let power : List Bool = replicate w false ++ true ∷ [] in
-    residue_same m (replicate w false ++ residue m p) (product power (residue m p)) refl (x_times w (residue m p))
-    ∙ fun_ext (residue_product m power p refl) ∙ sym (residue_same m (replicate w false ++ p) (product power p) refl (x_times w p))
+    residue_same m (replicate w false ++ residue m p) (product power (residue m p)) refl
+    (x_times w (residue m p))
+    ∙ fun_ext (residue_product m power p refl)
+    ∙ sym (residue_same m (replicate w false ++ p) (product power p) refl (x_times w p))
 
 -- x^w times polynomials whose residues agree
-pub x_same : (w : ℕ) (p q : List Bool) → coefficient (residue ghash_modulus p) ≡ coefficient (residue ghash_modulus q)
-    → coefficient (residue ghash_modulus (replicate w false ++ p)) ≡ coefficient (residue ghash_modulus (replicate w false ++ q))
+pub x_same : (w : ℕ) (p q : List Bool) → coefficient (residue ghash_modulus p)
+    ≡ coefficient (residue ghash_modulus q)
+    → coefficient (residue ghash_modulus (replicate w false ++ p))
+    ≡ coefficient (residue ghash_modulus (replicate w false ++ q))
 x_same w p q e =
     let m : List Bool = ghash_modulus in
     let up : List Bool → List Bool = λ (r : List Bool). replicate w false ++ r in
     sym (x_residue w p)
-    ∙ residue_same m (up (residue m p)) (up (residue m q)) refl (fun_ext (coefficient_below w (residue m p)) ∙ ap (raised w) e ∙ sym (fun_ext (coefficient_below w (residue m q))))
+    ∙ residue_same m (up (residue m p)) (up (residue m q)) refl (fun_ext (coefficient_below w (residue m p))
+    ∙ ap (raised w) e ∙ sym (fun_ext (coefficient_below w (residue m q))))
     ∙ x_residue w q
 
 -- what is moved has x^w times the residue
-pub moved_is : (w b z : ℕ) (p : List Bool) → IsReduced p b → IsMoved w b z → IsReduced (replicate w false ++ p) z
+pub moved_is : (w b z : ℕ) (p : List Bool) → IsReduced p b → IsMoved w b z
+    → IsReduced (replicate w false ++ p) z
 moved_is w b z p is moved k =
     let m : List Bool = ghash_modulus in
     let up : List Bool → List Bool = λ (r : List Bool). replicate w false ++ r in
     let same : coefficient (up (of_word b)) ≡ coefficient (up (residue m p)) =
-    fun_ext (coefficient_below w (of_word b)) ∙ ap (raised w) (fun_ext is) ∙ sym (fun_ext (coefficient_below w (residue m p))) in
+    fun_ext (coefficient_below w (of_word b)) ∙ ap (raised w) (fun_ext is)
+    ∙ sym (fun_ext (coefficient_below w (residue m p))) in
     moved k ∙ ap (λ f. f k) (residue_same m (up (of_word b)) (up (residue m p)) refl same ∙ x_residue w p)
 
 -- a word is its own residue
@@ -177,44 +206,54 @@ four_moves n a b ha hb = moved_is 2 a b (replicate 2 false ++ of_word n) ha hb
 
 -- the product by more bits, from those of its parts
 pub product_joined : (w d n h : ℕ) → coefficient (product (of_bits (w + d) n) (of_word h))
-    ≡ coefficient (sum (product (of_bits w (n / 2 ^ d)) (of_word h)) (replicate w false ++ product (of_bits d n) (of_word h)))
+    ≡ coefficient (sum (product (of_bits w (n / 2 ^ d)) (of_word h)) (replicate w false
+    ++ product (of_bits d n) (of_word h)))
 product_joined w d n h =
     let a : List Bool = of_bits w (n / 2 ^ d) in
     let b : List Bool = replicate w false ++ of_bits d n in
     let parts : coefficient (of_bits (w + d) n) ≡ coefficient (sum a b) =
-    bits_joined w d n ∙ ap (sum_of (coefficient a)) (sym (fun_ext (coefficient_below w (of_bits d n)))) ∙ sym (sum_is a b) in
+    bits_joined w d n ∙ ap (sum_of (coefficient a)) (sym (fun_ext (coefficient_below w (of_bits d n))))
+    ∙ sym (sum_is a b) in
     product_first (of_bits (w + d) n) (sum a b) (of_word h) parts ∙ product_of_sum a b (of_word h)
     ∙ ap (sum_of (coefficient (product a (of_word h)))) (x_first w (of_bits d n) (of_word h))
     ∙ sym (sum_is (product a (of_word h)) (replicate w false ++ product (of_bits d n) (of_word h)))
 
 -- a product by a moved word
 moved_product : (w h moved : ℕ) (q : List Bool) → IsMoved w h moved
-    → coefficient (residue ghash_modulus (product q (of_word moved))) ≡ coefficient (residue ghash_modulus (replicate w false ++ product q (of_word h)))
+    → coefficient (residue ghash_modulus (product q (of_word moved)))
+    ≡ coefficient (residue ghash_modulus (replicate w false ++ product q (of_word h)))
 moved_product w h moved q mv =
     let m : List Bool = ghash_modulus in
     let up : List Bool = replicate w false ++ of_word h in
-    residue_same m (product q (of_word moved)) (product q (residue m up)) refl (product_second q (of_word moved) (residue m up) (fun_ext mv))
-    ∙ fun_ext (residue_product m q up refl) ∙ residue_same m (product q up) (replicate w false ++ product q (of_word h)) refl (x_second w q (of_word h))
+    residue_same m (product q (of_word moved)) (product q (residue m up)) refl
+    (product_second q (of_word moved) (residue m up) (fun_ext mv))
+    ∙ fun_ext (residue_product m q up refl) ∙ residue_same m (product q up) (replicate w false
+    ++ product q (of_word h)) refl (x_second w q (of_word h))
 
 -- the bits at one place more
 pub place_more : (w d n h moved : ℕ) (q : List Bool) → IsMoved w h moved
-    → coefficient (residue ghash_modulus q) ≡ coefficient (residue ghash_modulus (product (of_bits d n) (of_word moved)))
-    → coefficient (residue ghash_modulus (sum (product (of_bits w (n / 2 ^ d)) (of_word h)) q)) ≡ coefficient (residue ghash_modulus (product (of_bits (w + d) n) (of_word h)))
+    → coefficient (residue ghash_modulus q)
+    ≡ coefficient (residue ghash_modulus (product (of_bits d n) (of_word moved)))
+    → coefficient (residue ghash_modulus (sum (product (of_bits w (n / 2 ^ d)) (of_word h)) q))
+    ≡ coefficient (residue ghash_modulus (product (of_bits (w + d) n) (of_word h)))
 place_more w d n h moved q mv e =
     let m : List Bool = ghash_modulus in
     let p : List Bool = product (of_bits w (n / 2 ^ d)) (of_word h) in
     let r : List Bool = replicate w false ++ product (of_bits d n) (of_word h) in
-    residue_parts p q ∙ ap (sum_of (coefficient (residue m p))) (e ∙ moved_product w h moved (of_bits d n) mv) ∙ sym (residue_parts p r)
+    residue_parts p q ∙ ap (sum_of (coefficient (residue m p))) (e ∙ moved_product w h moved (of_bits d n)
+    mv) ∙ sym (residue_parts p r)
     ∙ residue_same m (sum p r) (product (of_bits (w + d) n) (of_word h)) refl (sym (product_joined w d n h))
 
 -- two products joined, the second by a moved word
-pub joined : (w d n h moved a b : ℕ) → IsMoved w h moved → IsBitsProduct w (n / 2 ^ d) h a → IsBitsProduct d n moved b
+pub joined : (w d n h moved a b : ℕ) → IsMoved w h moved → IsBitsProduct w (n / 2 ^ d) h a
+    → IsBitsProduct d n moved b
     → IsBitsProduct (w + d) n h (bit_xor a b)
 joined w d n h moved a b mv ha hb =
     let high : List Bool = product (of_bits w (n / 2 ^ d)) (of_word h) in
     let q : List Bool = of_bits d n in
     let low : List Bool = replicate w false ++ product q (of_word h) in
-    reduced_same (sum high low) (product (of_bits (w + d) n) (of_word h)) (bit_xor a b) (sym (product_joined w d n h))
+    reduced_same (sum high low) (product (of_bits (w + d) n) (of_word h)) (bit_xor a b)
+    (sym (product_joined w d n h))
     (reduced_sum high low a b ha (λ k. hb k ∙ ap (λ f. f k) (moved_product w h moved q mv)))
 
 -- the lowest bits alone count
@@ -226,16 +265,21 @@ pub product_bit : (b h : ℕ) → b < 2 → IsBitsProduct 1 b h (b * h)
 unfolding of_bits
 product_bit zero h l = λ k.
     let m : List Bool = ghash_modulus in
-    let none : coefficient (product (false ∷ []) (of_word h)) ≡ coefficient [] = product_is (false ∷ []) (of_word h) ∙ ap (sum_of (scaled false (coefficient (of_word h)))) shift_none in
+    let none : coefficient (product (false ∷ []) (of_word h)) ≡ coefficient [] =
+    product_is (false ∷ []) (of_word h) ∙ ap (sum_of (scaled false (coefficient (of_word h))))
+    shift_none in
     ap (λ (x : ℕ). coefficient (of_word x) k) (zero-mul h) ∙ of_word_zero k
-    ∙ sym (ap (λ f. f k) (residue_same m (product (false ∷ []) (of_word h)) [] refl none) ∙ residue_of_lower m [] refl (λ i l. refl) k)
+    ∙ sym (ap (λ f. f k) (residue_same m (product (false ∷ []) (of_word h)) [] refl none)
+    ∙ residue_of_lower m [] refl (λ i l. refl) k)
 product_bit (suc zero) h l = λ k.
     ap (λ (x : ℕ). coefficient (of_word x) k) (one-mul h) ∙ own_residue h k
-    ∙ ap (λ f. f k) (residue_same ghash_modulus (of_word h) (product (true ∷ []) (of_word h)) refl (sym (product_one (of_word h))))
+    ∙ ap (λ f. f k) (residue_same ghash_modulus (of_word h) (product (true ∷ []) (of_word h)) refl
+    (sym (product_one (of_word h))))
 product_bit (suc (suc b)) h l = absurd (omega arith)
 
 -- the sums of a word or 0 and another or 0
-two_entries : (h m j : ℕ) → j < 4 → get_or (0 ∷ m ∷ h ∷ bit_xor h m ∷ []) j 0 ≡ bit_xor (j / 2 * h) (j % 2 * m)
+two_entries : (h m j : ℕ) → j < 4 → get_or (0 ∷ m ∷ h ∷ bit_xor h m ∷ []) j 0 ≡ bit_xor (j / 2 * h)
+    (j % 2 * m)
 two_entries h m zero l = rw (zero-mul h, zero-mul m) refl
 two_entries h m (suc zero) l = rw (zero-mul h, one-mul m) (sym (xor_zero_l m))
 two_entries h m (suc (suc zero)) l = rw (one-mul h, zero-mul m) (sym (xor_zero_r h))
@@ -243,15 +287,19 @@ two_entries h m (suc (suc (suc zero))) l = rw (one-mul h, one-mul m) refl
 two_entries h m (suc (suc (suc (suc j)))) l = absurd (omega arith)
 
 -- the multiples by two bits
-pub two_bits : (h m j : ℕ) → IsMoved 1 h m → j < 4 → IsBitsProduct 2 j h (get_or (0 ∷ m ∷ h ∷ bit_xor h m ∷ []) j 0)
+pub two_bits : (h m j : ℕ) → IsMoved 1 h m → j < 4
+    → IsBitsProduct 2 j h (get_or (0 ∷ m ∷ h ∷ bit_xor h m ∷ []) j 0)
 two_bits h m j moved l =
     let by : IsBitsProduct 2 j h (bit_xor (j / 2 * h) (j % 2 * m)) =
-    joined 1 1 j h m (j / 2 * h) (j % 2 * m) moved (product_bit (j / 2) h (omega arith)) (product_low 1 (j / 2) (j % 2) j m (j % 2 * m) (omega arith) (product_bit (j % 2) m (omega arith))) in
+    joined 1 1 j h m (j / 2 * h) (j % 2 * m) moved (product_bit (j / 2) h (omega arith))
+    (product_low 1 (j / 2) (j % 2) j m (j % 2 * m) (omega arith)
+    (product_bit (j % 2) m (omega arith))) in
     rw (two_entries h m j l) by
 
 -- all the bits of a word
 pub word_product_is : (x h z : ℕ) → IsBitsProduct 128 x h z → IsWordProduct x (to_be_bytes w128 h) z
 unfolding IsWordProduct of_word
 word_product_is x h z is =
-    let agree : Agree (of_word z) (residue ghash_modulus (product (of_word x) (g (to_be_bytes w128 h)))) = rw (g-to_be h) is in
+    let agree : Agree (of_word z) (residue ghash_modulus (product (of_word x) (g (to_be_bytes w128 h)))) =
+    rw (g-to_be h) is in
     the_residue ghash_modulus (product (of_word x) (g (to_be_bytes w128 h))) (of_word z) refl agree

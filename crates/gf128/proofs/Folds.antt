@@ -1,5 +1,7 @@
 -- What falls out below a word, kept in a half word and folded in at the end.
-use Rattle.std.proofs.Common.{◌≡◌, ℕ, zero, suc, ◌+◌, ◌-◌, ◌*◌, ◌/◌, ◌%◌, ◌^◌, ◌<◌, ◌≤◌, Bool, true, false, List, [], ◌∷◌, ◌++◌, replicate, bit_xor, inl, inr, refl, sym, ap, ap₂, ◌∙◌, arith}
+use Rattle.std.proofs.Common.{◌≡◌, ℕ, zero, suc, ◌+◌, ◌-◌, ◌*◌, ◌/◌, ◌%◌, ◌^◌, ◌<◌, ◌≤◌, Bool, true, false}
+use Rattle.std.proofs.Common.{List, [], ◌∷◌, ◌++◌, replicate, bit_xor, inl, inr, refl, sym, ap, ap₂, ◌∙◌}
+use Rattle.std.proofs.Common.{arith}
 use mathlib.Core.Path.{fun_ext}
 use Rattle.std.proofs.lemmas.Bool.{cases_lt}
 use Rattle.std.proofs.lemmas.List.{get_or_append_left, get_or-append_right}
@@ -11,19 +13,22 @@ use Rattle.octets.proofs.Sequence.{Sequence, sum_of, shift, mult, mult_comm, shi
 use Rattle.octets.proofs.Ring.{residue_of_lower}
 use Rattle.octets.proofs.Reversal.{raised, raised_low, raised_high, times_power, residue_by}
 use Rattle.gf128.specs.Ghash.{ghash_modulus}
-use Rattle.gf128.specs.Words.{of_bits, of_word, folded, wide}
+use Rattle.gf128.specs.Code.Words.{of_bits, of_word, folded, wide}
 use Rattle.gf128.proofs.BitParts.{bit_shr, bit_above, bit_low, bit_high, of_bits_at, of_bits_past}
 use Rattle.gf128.proofs.WordLemmas.{of_word_at, of_word_past, of_word_xor, of_word_zero, length-of_word}
 
 -- a word moved down, below x^128
-pub of_word_shr : (n i k : ℕ) → n < 2 ^ 128 → k < 128 → coefficient (of_word (n / 2 ^ i)) k ≡ raised i (coefficient (of_word n)) k
+pub of_word_shr : (n i k : ℕ) → n < 2 ^ 128 → k < 128 → coefficient (of_word (n / 2 ^ i)) k
+    ≡ raised i (coefficient (of_word n)) k
 of_word_shr n i k small l =
     of_word_at (n / 2 ^ i) k l ∙ bit_shr n i (127 - k)
     ∙ elim (cases_lt k i) [
-      | inl h ↦ bit_above n 128 (i + (127 - k)) small (omega arith) ∙ sym (raised_low i (coefficient (of_word n)) k h)
+      | inl h ↦ bit_above n 128 (i + (127 - k)) small (omega arith)
+          ∙ sym (raised_low i (coefficient (of_word n)) k h)
       | inr h ↦
           let at : i + (127 - k) ≡ 127 - (k - i) = omega arith in
-          ap (bit n) at ∙ sym (raised_high i (coefficient (of_word n)) k h ∙ of_word_at n (k - i) (omega arith))
+          ap (bit n) at ∙ sym (raised_high i (coefficient (of_word n)) k h ∙ of_word_at n (k - i)
+          (omega arith))
     ]
 
 -- ---- a word and x^128 times a half word
@@ -55,15 +60,18 @@ pub wide_none : (k : ℕ) → coefficient (wide 0 0) k ≡ false
 wide_none k = wide_alone 0 k ∙ of_word_zero k
 
 -- sequences that agree up to a place
-raised_agree : (n : ℕ) (e f : Sequence) (k : ℕ) → ((j : ℕ) → j ≤ k → e j ≡ f j) → raised n e k ≡ raised n f k
+raised_agree : (n : ℕ) (e f : Sequence) (k : ℕ) → ((j : ℕ) → j ≤ k → e j ≡ f j)
+    → raised n e k ≡ raised n f k
 raised_agree zero e f k h = h k (omega arith)
 raised_agree (suc n) e f zero h = refl
 raised_agree (suc n) e f (suc k) h = raised_agree n e f k (λ j l. h j (omega arith))
 
 -- times x^w, and one more sum of multiples
-pub wide_more : (w z s t : ℕ) → w ≤ 64 → z < 2 ^ 128 → s / 2 ^ w < 2 ^ (64 - w) → z / 2 ^ w * 2 ^ w + z % 2 ^ w ≡ z
+pub wide_more : (w z s t : ℕ) → w ≤ 64 → z < 2 ^ 128 → s / 2 ^ w < 2 ^ (64 - w)
+    → z / 2 ^ w * 2 ^ w + z % 2 ^ w ≡ z
     → ((k : ℕ) → 192 - w ≤ k → coefficient (wide z s) k ≡ false) → (k : ℕ)
-    → coefficient (wide (bit_xor (z / 2 ^ w) t) (z % 2 ^ w * 2 ^ (64 - w) + s / 2 ^ w)) k ≡ plus (raised w (coefficient (wide z s)) k) (coefficient (of_word t) k)
+    → coefficient (wide (bit_xor (z / 2 ^ w) t) (z % 2 ^ w * 2 ^ (64 - w) + s / 2 ^ w)) k
+    ≡ plus (raised w (coefficient (wide z s)) k) (coefficient (of_word t) k)
 wide_more w z s t lw lz small whole low k =
     let y : ℕ = bit_xor (z / 2 ^ w) t in
     let c : ℕ = 64 - w in
@@ -74,7 +82,8 @@ wide_more w z s t lw lz small whole low k =
       | inl l ↦
           wide_low y r k l ∙ of_word_xor (z / 2 ^ w) t k
           ∙ ap (λ b. plus b (coefficient (of_word t) k))
-          (of_word_shr z w k lz l ∙ raised_agree w (coefficient (of_word z)) (coefficient (wide z s)) k (λ j h. sym (wide_low z s j (omega arith))))
+          (of_word_shr z w k lz l ∙ raised_agree w (coefficient (of_word z)) (coefficient (wide z s)) k
+          (λ j h. sym (wide_low z s j (omega arith))))
       | inr l ↦
           let j : ℕ = k - 128 in
           let moved : coefficient (of_bits 64 r) j ≡ coefficient (wide z s) (k - w) =
@@ -86,16 +95,20 @@ wide_more w z s t lw lz small whole low k =
                       let at : 63 - j - c ≡ w - 1 - j = omega arith in
                       let up : 127 - (k - w) ≡ w - 1 - j = omega arith in
                       bit_high out c rest (63 - j) small (omega arith) ∙ ap (bit out) at
-                      ∙ sym (bit_low (z / 2 ^ w) w out (w - 1 - j) (omega arith)) ∙ ap (λ (x : ℕ). bit x (w - 1 - j)) whole
-                      ∙ sym (wide_low z s (k - w) (omega arith) ∙ of_word_at z (k - w) (omega arith) ∙ ap (bit z) up)
+                      ∙ sym (bit_low (z / 2 ^ w) w out (w - 1 - j) (omega arith))
+                      ∙ ap (λ (x : ℕ). bit x (w - 1 - j)) whole
+                      ∙ sym (wide_low z s (k - w) (omega arith) ∙ of_word_at z (k - w) (omega arith)
+                      ∙ ap (bit z) up)
                   | inr later ↦
                       let at : 63 - (k - w - 128) ≡ w + (63 - j) = omega arith in
                       bit_low out c rest (63 - j) (omega arith) ∙ bit_shr s w (63 - j)
-                      ∙ sym (wide_high z s (k - w) (omega arith) ∙ of_bits_at 64 s (k - w - 128) (omega arith) ∙ ap (bit s) at)
+                      ∙ sym (wide_high z s (k - w) (omega arith) ∙ of_bits_at 64 s (k - w - 128)
+                      (omega arith) ∙ ap (bit s) at)
                 ]
             | inr h ↦ of_bits_past 64 r j h ∙ sym (low (k - w) (omega arith))
           ] in
-          wide_high y r k l ∙ moved ∙ sym (ap₂ plus (raised_high w (coefficient (wide z s)) k (omega arith)) (of_word_past t k l) ∙ plus_false (coefficient (wide z s) (k - w)))
+          wide_high y r k l ∙ moved ∙ sym (ap₂ plus (raised_high w (coefficient (wide z s)) k (omega arith))
+          (of_word_past t k l) ∙ plus_false (coefficient (wide z s) (k - w)))
     ]
 
 -- ---- the modulus times a polynomial
@@ -114,13 +127,19 @@ modulus_times : (q : Sequence) → mult ghash_modulus q
     ≡ sum_of q (sum_of (raised 1 q) (sum_of (raised 2 q) (sum_of (raised 7 q) (raised 128 q))))
 modulus_times q =
     let top : mult (replicate 120 false ++ true ∷ []) q ≡ raised 120 q = fun_ext (times_power 120 q) in
-    let inner : raised 5 (sum_of q (raised 121 q)) ≡ sum_of (raised 5 q) (raised 126 q) = raised_sum 5 q (raised 121 q) in
-    let second : shift (sum_of q (sum_of (raised 5 q) (raised 126 q))) ≡ sum_of (raised 1 q) (sum_of (raised 6 q) (raised 127 q)) =
-    raised_sum 1 q (sum_of (raised 5 q) (raised 126 q)) ∙ ap (sum_of (raised 1 q)) (raised_sum 1 (raised 5 q) (raised 126 q)) in
-    let third : shift (sum_of q (sum_of (raised 1 q) (sum_of (raised 6 q) (raised 127 q)))) ≡ sum_of (raised 1 q) (sum_of (raised 2 q) (sum_of (raised 7 q) (raised 128 q))) =
+    let inner : raised 5 (sum_of q (raised 121 q)) ≡ sum_of (raised 5 q) (raised 126 q) =
+    raised_sum 5 q (raised 121 q) in
+    let second : shift (sum_of q (sum_of (raised 5 q) (raised 126 q))) ≡ sum_of (raised 1 q)
+    (sum_of (raised 6 q) (raised 127 q)) =
+    raised_sum 1 q (sum_of (raised 5 q) (raised 126 q)) ∙ ap (sum_of (raised 1 q))
+    (raised_sum 1 (raised 5 q) (raised 126 q)) in
+    let third : shift (sum_of q (sum_of (raised 1 q) (sum_of (raised 6 q) (raised 127 q))))
+    ≡ sum_of (raised 1 q) (sum_of (raised 2 q) (sum_of (raised 7 q) (raised 128 q))) =
     raised_sum 1 q (sum_of (raised 1 q) (sum_of (raised 6 q) (raised 127 q)))
-    ∙ ap (sum_of (raised 1 q)) (raised_sum 1 (raised 1 q) (sum_of (raised 6 q) (raised 127 q)) ∙ ap (sum_of (raised 2 q)) (raised_sum 1 (raised 6 q) (raised 127 q))) in
-    let form : Sequence → Sequence = λ (f : Sequence). sum_of q (shift (sum_of q (shift (sum_of q (raised 5 (sum_of q (shift f))))))) in
+    ∙ ap (sum_of (raised 1 q)) (raised_sum 1 (raised 1 q) (sum_of (raised 6 q) (raised 127 q))
+    ∙ ap (sum_of (raised 2 q)) (raised_sum 1 (raised 6 q) (raised 127 q))) in
+    let form : Sequence → Sequence =
+    λ (f : Sequence). sum_of q (shift (sum_of q (shift (sum_of q (raised 5 (sum_of q (shift f))))))) in
     let start : mult ghash_modulus q ≡ form (mult (replicate 120 false ++ true ∷ []) q) = refl in
     start ∙ ap form top
     ∙ ap (λ (f : Sequence). sum_of q (shift (sum_of q (shift (sum_of q f))))) inner
@@ -142,38 +161,53 @@ high_at s k l =
     let whole : s * 2 ^ 64 + 0 ≡ s * 2 ^ 64 = omega arith in
     of_word_at (s * 2 ^ 64) k l ∙ ap (λ (x : ℕ). bit x (127 - k)) (sym whole)
     ∙ elim (cases_lt k 64) [
-      | inl h ↦ let at : 127 - k - 64 ≡ 63 - k = omega arith in bit_high s 64 0 (127 - k) (omega arith) (omega arith) ∙ ap (bit s) at ∙ sym (of_bits_at 64 s k h)
-      | inr h ↦ bit_low s 64 0 (127 - k) (omega arith) ∙ bit_above 0 0 (127 - k) (omega arith) (omega arith) ∙ sym (of_bits_past 64 s k h)
+      | inl h ↦ let at : 127 - k - 64 ≡ 63 - k = omega arith in bit_high s 64 0 (127 - k) (omega arith)
+          (omega arith) ∙ ap (bit s) at ∙ sym (of_bits_at 64 s k h)
+      | inr h ↦ bit_low s 64 0 (127 - k) (omega arith) ∙ bit_above 0 0 (127 - k) (omega arith) (omega arith)
+          ∙ sym (of_bits_past 64 s k h)
     ]
 
 -- what is folded has the residue of the whole
-pub folded_at : (z s : ℕ) → z < 2 ^ 128 → s < 2 ^ 64 → coefficient (of_word (folded z s)) ≡ coefficient (residue ghash_modulus (wide z s))
+pub folded_at : (z s : ℕ) → z < 2 ^ 128 → s < 2 ^ 64 → coefficient (of_word (folded z s))
+    ≡ coefficient (residue ghash_modulus (wide z s))
 folded_at z s lz ls =
     let m : List Bool = ghash_modulus in
     let f : ℕ = s * 2 ^ 64 in
     let q : Sequence = coefficient (of_bits 64 s) in
     let lf : f < 2 ^ 128 = omega arith in
     let down : (i k : ℕ) → k < 128 → coefficient (of_word (f / 2 ^ i)) k ≡ raised i q k = λ i k l.
-    of_word_shr f i k lf l ∙ raised_agree i (coefficient (of_word f)) q k (λ j h. high_at s j (omega arith)) in
-    let low : (k : ℕ) → k < 128 → coefficient (of_word (folded z s)) k ≡ plus (coefficient (of_word z) k) (low_multiple q k) = λ k l.
+    of_word_shr f i k lf l ∙ raised_agree i (coefficient (of_word f)) q k
+    (λ j h. high_at s j (omega arith)) in
+    let low : (k : ℕ) → k < 128 → coefficient (of_word (folded z s)) k ≡ plus (coefficient (of_word z) k)
+    (low_multiple q k) = λ k l.
     of_word_xor z (bit_xor f (bit_xor (f / 2 ^ 1) (bit_xor (f / 2 ^ 2) (f / 2 ^ 7)))) k
-    ∙ ap (plus (coefficient (of_word z) k)) (of_word_xor f (bit_xor (f / 2 ^ 1) (bit_xor (f / 2 ^ 2) (f / 2 ^ 7))) k
+    ∙ ap (plus (coefficient (of_word z) k))
+    (of_word_xor f (bit_xor (f / 2 ^ 1) (bit_xor (f / 2 ^ 2) (f / 2 ^ 7))) k
     ∙ ap₂ plus (high_at s k l) (of_word_xor (f / 2 ^ 1) (bit_xor (f / 2 ^ 2) (f / 2 ^ 7)) k
-    ∙ ap₂ plus (down 1 k l) (of_word_xor (f / 2 ^ 2) (f / 2 ^ 7) k ∙ ap₂ plus (down 2 k l) (down 7 k l)))) in
-    let by : (k : ℕ) → coefficient (wide z s) k ≡ plus (mult (of_bits 64 s) (coefficient m) k) (coefficient (of_word (folded z s)) k) = λ k.
-    let times : mult (of_bits 64 s) (coefficient m) k ≡ plus (q k) (plus (raised 1 q k) (plus (raised 2 q k) (plus (raised 7 q k) (raised 128 q k)))) =
+    ∙ ap₂ plus (down 1 k l) (of_word_xor (f / 2 ^ 2) (f / 2 ^ 7) k ∙ ap₂ plus (down 2 k l) (down 7 k l))))
+    in
+    let by : (k : ℕ) → coefficient (wide z s) k ≡ plus (mult (of_bits 64 s) (coefficient m) k)
+    (coefficient (of_word (folded z s)) k) = λ k.
+    let times : mult (of_bits 64 s) (coefficient m) k
+    ≡ plus (q k) (plus (raised 1 q k) (plus (raised 2 q k) (plus (raised 7 q k) (raised 128 q k)))) =
     ap (λ e. e k) (mult_comm (of_bits 64 s) m ∙ modulus_times q) in
     elim (cases_lt k 128) [
       | inl l ↦
-          let none : plus (raised 7 q k) (raised 128 q k) ≡ raised 7 q k = ap (plus (raised 7 q k)) (raised_low 128 q k l) ∙ plus_false (raised 7 q k) in
+          let none : plus (raised 7 q k) (raised 128 q k) ≡ raised 7 q k =
+          ap (plus (raised 7 q k)) (raised_low 128 q k l) ∙ plus_false (raised 7 q k) in
           wide_low z s k l ∙ cancel (coefficient (of_word z) k) (low_multiple q k)
-          ∙ sym (ap₂ plus (times ∙ ap (λ b. plus (q k) (plus (raised 1 q k) (plus (raised 2 q k) b))) none) (low k l))
+          ∙ sym (ap₂ plus (times ∙ ap (λ b. plus (q k) (plus (raised 1 q k) (plus (raised 2 q k) b))) none)
+          (low k l))
       | inr l ↦
-          let past : (i : ℕ) → i ≤ 7 → raised i q k ≡ false = λ i h. raised_high i q k (omega arith) ∙ of_bits_past 64 s (k - i) (omega arith) in
+          let past : (i : ℕ) → i ≤ 7 → raised i q k ≡ false = λ i h. raised_high i q k (omega arith)
+          ∙ of_bits_past 64 s (k - i) (omega arith) in
           let all : mult (of_bits 64 s) (coefficient m) k ≡ raised 128 q k =
-          times ∙ ap₂ plus (past 0 (omega arith)) (ap₂ plus (past 1 (omega arith)) (ap₂ plus (past 2 (omega arith)) (ap (λ b. plus b (raised 128 q k)) (past 7 (omega arith))))) in
+          times ∙ ap₂ plus (past 0 (omega arith)) (ap₂ plus (past 1 (omega arith))
+          (ap₂ plus (past 2 (omega arith)) (ap (λ b. plus b (raised 128 q k)) (past 7 (omega arith)))))
+          in
           wide_high z s k l
-          ∙ sym (ap₂ plus (all ∙ raised_high 128 q k l) (of_word_past (folded z s) k l) ∙ plus_false (q (k - 128)))
+          ∙ sym (ap₂ plus (all ∙ raised_high 128 q k l) (of_word_past (folded z s) k l)
+          ∙ plus_false (q (k - 128)))
     ] in
     sym (residue_by m (wide z s) (of_word (folded z s)) (of_bits 64 s) refl by
     ∙ fun_ext (residue_of_lower m (of_word (folded z s)) refl (λ i h. of_word_past (folded z s) i h)))
@@ -185,4 +219,5 @@ folded_lt z s lz ls =
     let lf : f < 2 ^ 128 = omega arith in
     xor_lt 128 z (bit_xor f (bit_xor (f / 2 ^ 1) (bit_xor (f / 2 ^ 2) (f / 2 ^ 7)))) lz
     (xor_lt 128 f (bit_xor (f / 2 ^ 1) (bit_xor (f / 2 ^ 2) (f / 2 ^ 7))) lf
-    (xor_lt 128 (f / 2 ^ 1) (bit_xor (f / 2 ^ 2) (f / 2 ^ 7)) (omega arith) (xor_lt 128 (f / 2 ^ 2) (f / 2 ^ 7) (omega arith) (omega arith))))
+    (xor_lt 128 (f / 2 ^ 1) (bit_xor (f / 2 ^ 2) (f / 2 ^ 7)) (omega arith)
+    (xor_lt 128 (f / 2 ^ 2) (f / 2 ^ 7) (omega arith) (omega arith))))

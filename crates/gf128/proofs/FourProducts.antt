@@ -1,5 +1,6 @@
 -- Several products in one sum.
-use Rattle.std.proofs.Common.{◌≡◌, ℕ, suc, ◌+◌, ◌-◌, ◌/◌, ◌^◌, Bool, true, false, List, [], ◌∷◌, ◌++◌, get_or, replicate, bit_xor, inl, inr, refl, sym, ap, ap₂, ◌∙◌}
+use Rattle.std.proofs.Common.{◌≡◌, ℕ, suc, ◌+◌, ◌-◌, ◌/◌, ◌^◌, Bool, true, false, List, [], ◌∷◌, ◌++◌}
+use Rattle.std.proofs.Common.{get_or, replicate, bit_xor, inl, inr, refl, sym, ap, ap₂, ◌∙◌}
 use mathlib.Core.Path.{fun_ext}
 use Rattle.std.proofs.lemmas.Bool.{cases_lt}
 use lib.Bits.{xor_zero_l}
@@ -10,13 +11,16 @@ use Rattle.octets.specs.Polynomial.{coefficient, plus, sum, product, power, sum_
 use Rattle.octets.proofs.Sequence.{sum_of, sum_exchange, plus_assoc, plus_false}
 use Rattle.octets.proofs.Residue.{residue_lower}
 use Rattle.octets.proofs.Ring.{residue_product, residue_of_lower, the_residue, coefficient_sum}
-use Rattle.octets.proofs.Horner.{sum_is, product_second, residue_same, times_same, times_residue, horner, product_one}
+use Rattle.octets.proofs.Horner.{sum_is, product_second, residue_same, times_same, times_residue, horner}
+use Rattle.octets.proofs.Horner.{product_one}
 use Rattle.octets.proofs.Spelled.{bytes_of_g_bytes, g_bytes_of}
 use Rattle.octets.proofs.Reversal.{raised, raised_low, raised_high, coefficient_below}
 use Rattle.gf128.specs.Ghash.{ghash_modulus}
-use Rattle.gf128.specs.Words.{of_bits, of_word, products, IsReduced, IsWordProduct, IsFourProducts, IsSpread, IsMoved, IsBitsProduct}
+use Rattle.gf128.specs.Code.Words.{of_bits, of_word, products, IsReduced, IsWordProduct, IsFourProducts}
+use Rattle.gf128.specs.Code.Words.{IsSpread, IsMoved, IsBitsProduct}
 use Rattle.gf128.proofs.WordLemmas.{of_word_xor, of_word_zero, of_word-be, g-to_be, word_product}
-use Rattle.gf128.proofs.BitParts.{residue_parts, place_more, product_joined, reduced_same, reduced_is, own_residue}
+use Rattle.gf128.proofs.BitParts.{residue_parts, place_more, product_joined, reduced_same, reduced_is}
+use Rattle.gf128.proofs.BitParts.{own_residue}
 use Rattle.gf128.proofs.Folds.{raised_sum}
 use Rattle.gf128.proofs.Chains.{spread_same, two_chains, no_bits}
 
@@ -30,11 +34,16 @@ shortened d (p ∷ rest) = (p.0 / 2 ^ d, p.1) ∷ shortened d rest
 -- x^w times nothing
 raised_none : (w : ℕ) → coefficient [] ≡ coefficient (sum [] (replicate w false ++ []))
 raised_none w = fun_ext (λ k.
-    let none : raised w (coefficient []) k ≡ false = elim (cases_lt k w) [ inl l ↦ raised_low w (coefficient []) k l | inr l ↦ raised_high w (coefficient []) k l ] in
+    let none : raised w (coefficient []) k ≡ false = elim (cases_lt k w) [
+      | inl l ↦ raised_low w
+          (coefficient []) k l
+      | inr l ↦ raised_high w (coefficient []) k l
+    ] in
     sym (coefficient_sum [] (replicate w false ++ []) k ∙ coefficient_below w [] k ∙ none))
 
 -- w bits more of each number
-pub products_joined : (w d : ℕ) (l : List (ℕ × ℕ)) → coefficient (products (w + d) l) ≡ coefficient (sum (products w (shortened d l)) (replicate w false ++ products d l))
+pub products_joined : (w d : ℕ) (l : List (ℕ × ℕ)) → coefficient (products (w + d) l)
+    ≡ coefficient (sum (products w (shortened d l)) (replicate w false ++ products d l))
 products_joined w d [] = raised_none w
 products_joined w d (p ∷ rest) =
     let a : List Bool = product (of_bits w (p.0 / 2 ^ d)) (of_word p.1) in
@@ -42,49 +51,61 @@ products_joined w d (p ∷ rest) =
     let e : List Bool = products w (shortened d rest) in
     let f : List Bool = products d rest in
     let up : List Bool → List Bool = λ (q : List Bool). replicate w false ++ q in
-    let raise : (q : List Bool) → coefficient (up q) ≡ raised w (coefficient q) = λ q. fun_ext (coefficient_below w q) in
-    let first : coefficient (product (of_bits (w + d) p.0) (of_word p.1)) ≡ sum_of (coefficient a) (raised w (coefficient b)) =
+    let raise : (q : List Bool) → coefficient (up q) ≡ raised w (coefficient q) =
+    λ q. fun_ext (coefficient_below w q) in
+    let first : coefficient (product (of_bits (w + d) p.0) (of_word p.1)) ≡ sum_of (coefficient a)
+    (raised w (coefficient b)) =
     product_joined w d p.0 p.1 ∙ sum_is a (up b) ∙ ap (sum_of (coefficient a)) (raise b) in
     let later : coefficient (products (w + d) rest) ≡ sum_of (coefficient e) (raised w (coefficient f)) =
     products_joined w d rest ∙ sum_is e (up f) ∙ ap (sum_of (coefficient e)) (raise f) in
     sum_is (product (of_bits (w + d) p.0) (of_word p.1)) (products (w + d) rest)
     ∙ ap₂ sum_of first later
     ∙ sum_exchange (coefficient a) (raised w (coefficient b)) (coefficient e) (raised w (coefficient f))
-    ∙ ap₂ sum_of (sym (sum_is a e)) (sym (raised_sum w (coefficient b) (coefficient f)) ∙ ap (raised w) (sym (sum_is b f)) ∙ sym (raise (sum b f)))
+    ∙ ap₂ sum_of (sym (sum_is a e)) (sym (raised_sum w (coefficient b) (coefficient f))
+    ∙ ap (raised w) (sym (sum_is b f)) ∙ sym (raise (sum b f)))
     ∙ sym (sum_is (sum a e) (up (sum b f)))
 
 -- no bits of any number
 pub products_none : (l : List (ℕ × ℕ)) (k : ℕ) → coefficient (products 0 l) k ≡ false
 products_none [] k = refl
 products_none (p ∷ rest) k =
-    coefficient_sum (product (of_bits 0 p.0) (of_word p.1)) (products 0 rest) k ∙ ap₂ plus (no_bits p.0 p.1 k) (products_none rest k)
+    coefficient_sum (product (of_bits 0 p.0) (of_word p.1)) (products 0 rest) k
+    ∙ ap₂ plus (no_bits p.0 p.1 k) (products_none rest k)
 
 -- a few bits more in a chain
 pub products_more : (w d e : ℕ) (l : List (ℕ × ℕ)) (z s : ℕ) → w + d ≡ e
-    → IsSpread (w + d) (sum (products w (shortened d l)) (replicate w false ++ products d l)) z s → IsSpread e (products e l) z s
+    → IsSpread (w + d) (sum (products w (shortened d l)) (replicate w false ++ products d l)) z s
+    → IsSpread e (products e l) z s
 products_more w d e l z s at held =
-    rw at at (spread_same (w + d) (sum (products w (shortened d l)) (replicate w false ++ products d l)) (products (w + d) l) z s (sym (products_joined w d l)) held)
+    rw at at (spread_same (w + d) (sum (products w (shortened d l)) (replicate w false ++ products d l))
+    (products (w + d) l) z s (sym (products_joined w d l)) held)
 
 -- the last of a sum
 pub last_product : (p : List Bool) (t : ℕ) → IsReduced p t → IsReduced (sum p []) t
 last_product p t is =
-    reduced_same p (sum p []) t (fun_ext (λ k. sym (coefficient_sum p [] k ∙ plus_false (coefficient p k)))) is
+    reduced_same p (sum p []) t (fun_ext (λ k. sym (coefficient_sum p [] k ∙ plus_false (coefficient p k))))
+    is
 
 -- all the bits, from the chains of the two half words
-pub products_halves : (l : List (ℕ × ℕ)) (a b c : ℕ) → IsReduced (products 64 (shortened 64 l)) a → IsReduced (products 64 l) b → IsMoved 64 b c
+pub products_halves : (l : List (ℕ × ℕ)) (a b c : ℕ) → IsReduced (products 64 (shortened 64 l)) a
+    → IsReduced (products 64 l) b → IsMoved 64 b c
     → IsReduced (products 128 l) (bit_xor a c)
 products_halves l a b c ha hb moved =
-    reduced_same (sum (products 64 (shortened 64 l)) (replicate 64 false ++ products 64 l)) (products 128 l) (bit_xor a c) (sym (products_joined 64 64 l))
+    reduced_same (sum (products 64 (shortened 64 l)) (replicate 64 false ++ products 64 l)) (products 128 l)
+    (bit_xor a c) (sym (products_joined 64 64 l))
     (two_chains (products 64 (shortened 64 l)) (products 64 l) a b c ha hb moved)
 
 -- numbers with the same bits
-pub four_parts : (w a b c d p q r e h s t u z : ℕ) → of_bits w p ≡ of_bits w a → of_bits w q ≡ of_bits w b → of_bits w r ≡ of_bits w c → of_bits w e ≡ of_bits w d
-    → IsReduced (products w ((p, u) ∷ (q, t) ∷ (r, s) ∷ (e, h) ∷ [])) z → IsReduced (products w ((a, u) ∷ (b, t) ∷ (c, s) ∷ (d, h) ∷ [])) z
+pub four_parts : (w a b c d p q r e h s t u z : ℕ) → of_bits w p ≡ of_bits w a → of_bits w q ≡ of_bits w b
+    → of_bits w r ≡ of_bits w c → of_bits w e ≡ of_bits w d
+    → IsReduced (products w ((p, u) ∷ (q, t) ∷ (r, s) ∷ (e, h) ∷ [])) z
+    → IsReduced (products w ((a, u) ∷ (b, t) ∷ (c, s) ∷ (d, h) ∷ [])) z
 four_parts w a b c d p q r e h s t u z ea eb ec ed is = rw (ea, eb, ec, ed) at is
 
 -- the products at four places
 pub four_places : (n h s t u z : ℕ) → IsMoved 16 h s → IsMoved 16 s t → IsMoved 16 t u
-    → IsReduced (products 16 ((n / 2 ^ 48, h) ∷ (n / 2 ^ 32, s) ∷ (n / 2 ^ 16, t) ∷ (n, u) ∷ [])) z → IsBitsProduct 64 n h z
+    → IsReduced (products 16 ((n / 2 ^ 48, h) ∷ (n / 2 ^ 32, s) ∷ (n / 2 ^ 16, t) ∷ (n, u) ∷ [])) z
+    → IsBitsProduct 64 n h z
 four_places n h s t u z ms mt mu is k =
     let m : List Bool = ghash_modulus in
     let part : ℕ → ℕ → List Bool = λ (b w : ℕ). product (of_bits 16 b) (of_word w) in
@@ -92,43 +113,55 @@ four_places n h s t u z ms mt mu is k =
     let third : List Bool = sum (part (n / 2 ^ 16) t) last in
     let second : List Bool = sum (part (n / 2 ^ 32) s) third in
     let alone : coefficient (residue m last) ≡ coefficient (residue m (part n u)) =
-    residue_same m last (part n u) refl (fun_ext (λ i. coefficient_sum (part n u) [] i ∙ plus_false (coefficient (part n u) i))) in
-    is k ∙ ap (λ f. f k) (place_more 16 48 n h s second ms (place_more 16 32 n s t third mt (place_more 16 16 n t u last mu alone)))
+    residue_same m last (part n u) refl (fun_ext (λ i. coefficient_sum (part n u) [] i
+    ∙ plus_false (coefficient (part n u) i))) in
+    is k ∙ ap (λ f. f k) (place_more 16 48 n h s second ms (place_more 16 32 n s t third mt
+    (place_more 16 16 n t u last mu alone)))
 
 -- ---- powers of the key
 
 -- the key
 pub first_power : (h : ℕ) → IsReduced (power (of_word h) 1) h
 unfolding power
-first_power h = reduced_same (of_word h) (product (true ∷ []) (of_word h)) h (sym (product_one (of_word h))) (own_residue h)
+first_power h = reduced_same (of_word h) (product (true ∷ []) (of_word h)) h (sym (product_one (of_word h)))
+    (own_residue h)
 
 -- the next power
-pub next_power : (h n s t : ℕ) → IsReduced (power (of_word h) n) s → IsWordProduct s (to_be_bytes w128 h) t → IsReduced (power (of_word h) (suc n)) t
+pub next_power : (h n s t : ℕ) → IsReduced (power (of_word h) n) s → IsWordProduct s (to_be_bytes w128 h) t
+    → IsReduced (power (of_word h) (suc n)) t
 unfolding power
 next_power h n s t is by k =
     let m : List Bool = ghash_modulus in
     let p : List Bool = power (of_word h) n in
     let times : coefficient (of_word t) ≡ coefficient (residue m (product (of_word s) (of_word h))) =
-    word_product s t (to_be_bytes w128 h) by ∙ ap (λ (q : List Bool). coefficient (residue m (product (of_word s) q))) (g-to_be h) in
-    ap (λ f. f k) (times ∙ times_same m (of_word s) (residue m p) (of_word h) refl (reduced_is p s is) ∙ times_residue m p (of_word h) refl)
+    word_product s t (to_be_bytes w128 h) by
+    ∙ ap (λ (q : List Bool). coefficient (residue m (product (of_word s) q))) (g-to_be h) in
+    ap (λ f. f k) (times ∙ times_same m (of_word s) (residue m p) (of_word h) refl (reduced_is p s is)
+    ∙ times_residue m p (of_word h) refl)
 
 -- a product by a power
 by_power : (x h n s : ℕ) → IsReduced (power (of_word h) n) s
-    → coefficient (residue ghash_modulus (product (of_word x) (of_word s))) ≡ coefficient (residue ghash_modulus (product (of_word x) (power (of_word h) n)))
+    → coefficient (residue ghash_modulus (product (of_word x) (of_word s)))
+    ≡ coefficient (residue ghash_modulus (product (of_word x) (power (of_word h) n)))
 by_power x h n s is =
     let m : List Bool = ghash_modulus in
     let p : List Bool = power (of_word h) n in
-    residue_same m (product (of_word x) (of_word s)) (product (of_word x) (residue m p)) refl (product_second (of_word x) (of_word s) (residue m p) (reduced_is p s is))
+    residue_same m (product (of_word x) (of_word s)) (product (of_word x) (residue m p)) refl
+    (product_second (of_word x) (of_word s) (residue m p) (reduced_is p s is))
     ∙ fun_ext (residue_product m (of_word x) p refl)
 
 -- the order of four terms
-in_order : (a b c d : Bool) → plus a (plus b (plus c (plus d false))) ≡ plus (plus (plus (plus false a) b) c) d
+in_order : (a b c d : Bool) → plus a (plus b (plus c (plus d false)))
+    ≡ plus (plus (plus (plus false a) b) c) d
 in_order a b c d =
-    ap (λ e. plus a (plus b (plus c e))) (plus_false d) ∙ sym (plus_assoc a b (plus c d)) ∙ sym (plus_assoc (plus a b) c d)
+    ap (λ e. plus a (plus b (plus c e))) (plus_false d) ∙ sym (plus_assoc a b (plus c d))
+    ∙ sym (plus_assoc (plus a b) c d)
 
 -- four products by the powers of the key
-pub four_products : (a b c d h s t u z : ℕ) → IsReduced (power (of_word h) 2) s → IsReduced (power (of_word h) 3) t → IsReduced (power (of_word h) 4) u
-    → IsReduced (products 128 ((a, u) ∷ (b, t) ∷ (c, s) ∷ (d, h) ∷ [])) z → IsFourProducts a b c d (to_be_bytes w128 h) z
+pub four_products : (a b c d h s t u z : ℕ) → IsReduced (power (of_word h) 2) s
+    → IsReduced (power (of_word h) 3) t → IsReduced (power (of_word h) 4) u
+    → IsReduced (products 128 ((a, u) ∷ (b, t) ∷ (c, s) ∷ (d, h) ∷ [])) z
+    → IsFourProducts a b c d (to_be_bytes w128 h) z
 unfolding IsFourProducts of_word sum_of_first
 four_products a b c d h s t u z hs ht hu is =
     let m : List Bool = ghash_modulus in
@@ -136,18 +169,25 @@ four_products a b c d h s t u z hs ht hu is =
     let tail3 : List Bool = sum (product (of_word d) (of_word h)) [] in
     let tail2 : List Bool = sum (product (of_word c) (of_word s)) tail3 in
     let tail1 : List Bool = sum (product (of_word b) (of_word t)) tail2 in
-    let split : (p q : List Bool) (k : ℕ) → coefficient (residue m (sum p q)) k ≡ plus (coefficient (residue m p) k) (coefficient (residue m q) k) = λ p q k. ap (λ f. f k) (residue_parts p q) in
-    let at : (x n r : ℕ) → IsReduced (power (of_word h) n) r → (k : ℕ) → coefficient (residue m (product (of_word x) (of_word r))) k ≡ coefficient (term x n) k = λ x n r e k.
+    let split : (p q : List Bool) (k : ℕ) → coefficient (residue m (sum p q)) k
+    ≡ plus (coefficient (residue m p) k) (coefficient (residue m q) k) =
+    λ p q k. ap (λ f. f k) (residue_parts p q) in
+    let at : (x n r : ℕ) → IsReduced (power (of_word h) n) r → (k : ℕ)
+    → coefficient (residue m (product (of_word x) (of_word r))) k ≡ coefficient (term x n) k =
+    λ x n r e k.
     ap (λ f. f k) (by_power x h n r e) in
-    let all : Agree (of_word z) (sum (sum (sum (sum [] (term a 4)) (term b 3)) (term c 2)) (term d 1)) = λ k.
+    let all : Agree (of_word z) (sum (sum (sum (sum [] (term a 4)) (term b 3)) (term c 2)) (term d 1)) =
+    λ k.
     is k ∙ split (product (of_word a) (of_word u)) tail1 k
     ∙ ap₂ plus (at a 4 u hu k) (split (product (of_word b) (of_word t)) tail2 k
     ∙ ap₂ plus (at b 3 t ht k) (split (product (of_word c) (of_word s)) tail3 k
     ∙ ap₂ plus (at c 2 s hs k) (split (product (of_word d) (of_word h)) [] k
     ∙ ap₂ plus (at d 1 h (first_power h) k) (residue_of_lower m [] refl (λ i l. refl) k))))
-    ∙ in_order (coefficient (term a 4) k) (coefficient (term b 3) k) (coefficient (term c 2) k) (coefficient (term d 1) k)
+    ∙ in_order (coefficient (term a 4) k) (coefficient (term b 3) k) (coefficient (term c 2) k)
+    (coefficient (term d 1) k)
     ∙ sym (coefficient_sum (sum (sum (sum [] (term a 4)) (term b 3)) (term c 2)) (term d 1) k
-    ∙ ap (λ e. plus e (coefficient (term d 1) k)) (coefficient_sum (sum (sum [] (term a 4)) (term b 3)) (term c 2) k
+    ∙ ap (λ e. plus e (coefficient (term d 1) k)) (coefficient_sum (sum (sum [] (term a 4)) (term b 3))
+    (term c 2) k
     ∙ ap (λ e. plus e (coefficient (term c 2) k)) (coefficient_sum (sum [] (term a 4)) (term b 3) k
     ∙ ap (λ e. plus e (coefficient (term b 3) k)) (coefficient_sum [] (term a 4) k)))) in
     rw (g-to_be h) all
@@ -170,24 +210,30 @@ product_of_is x y =
     the_residue ghash_modulus p (of_word (from_be_bytes w128 (bytes_of_g 16 r))) refl agree
 
 -- a sum by powers of the key, and one term more
-pub horner_more : (x : ℕ → List Bool) (y : List ℕ) (s w z n : ℕ) → Agree (of_word s) (sum_of_first n (λ i. residue ghash_modulus (product (x i) (power (g y) (n - i)))))
+pub horner_more : (x : ℕ → List Bool) (y : List ℕ) (s w z n : ℕ)
+    → Agree (of_word s) (sum_of_first n (λ i. residue ghash_modulus (product (x i) (power (g y) (n - i)))))
     → of_word w ≡ x n → IsWordProduct (bit_xor s w) y z
-    → Agree (of_word z) (sum_of_first (suc n) (λ i. residue ghash_modulus (product (x i) (power (g y) (suc n - i)))))
+    → Agree (of_word z) (sum_of_first (suc n)
+    (λ i. residue ghash_modulus (product (x i) (power (g y) (suc n - i)))))
 horner_more x y s w z n held ew is k =
     let m : List Bool = ghash_modulus in
     let before : List Bool = sum_of_first n (λ i. residue m (product (x i) (power (g y) (n - i)))) in
     let same : coefficient (of_word (bit_xor s w)) ≡ coefficient (sum before (x n)) =
     fun_ext (of_word_xor s w) ∙ ap₂ sum_of (fun_ext held) (ap coefficient ew) ∙ sym (sum_is before (x n)) in
-    ap (λ f. f k) (word_product (bit_xor s w) z y is ∙ times_same m (of_word (bit_xor s w)) (sum before (x n)) (g y) refl same ∙ sym (horner m x (g y) n refl))
+    ap (λ f. f k) (word_product (bit_xor s w) z y is ∙ times_same m (of_word (bit_xor s w))
+    (sum before (x n)) (g y) refl same ∙ sym (horner m x (g y) n refl))
 
 -- the sum of four products, by one after the other
-pub four_more : (a b c d s t u z : ℕ) (y : List ℕ) → IsWordProduct a y s → IsWordProduct (bit_xor s b) y t → IsWordProduct (bit_xor t c) y u
+pub four_more : (a b c d s t u z : ℕ) (y : List ℕ) → IsWordProduct a y s → IsWordProduct (bit_xor s b) y t
+    → IsWordProduct (bit_xor t c) y u
     → IsWordProduct (bit_xor u d) y z → IsFourProducts a b c d y z
 unfolding IsFourProducts sum_of_first
 four_more a b c d s t u z y ha hb hc hd =
     let x : ℕ → List Bool = λ (i : ℕ). of_word (get_or (a ∷ b ∷ c ∷ d ∷ []) i 0) in
     let first : IsWordProduct (bit_xor 0 a) y s = rw (xor_zero_l a) ha in
-    horner_more x y u d z 3 (horner_more x y t c u 2 (horner_more x y s b t 1 (horner_more x y 0 a s 0 of_word_zero refl first) refl hb) refl hc) refl hd
+    horner_more x y u d z 3
+    (horner_more x y t c u 2 (horner_more x y s b t 1 (horner_more x y 0 a s 0 of_word_zero refl first)
+    refl hb) refl hc) refl hd
 
 -- the last of four products whose sum is known
 pub four_steps : (a b c d z : ℕ) (y : List ℕ) → IsFourProducts a b c d y z
@@ -200,7 +246,9 @@ four_steps a b c d z y is =
     let last : ℕ = product_of (bit_xor u d) y in
     let p : List Bool = product (of_word (bit_xor u d)) (g y) in
     let other : IsFourProducts a b c d y last =
-    four_more a b c d s t u last y (product_of_is a y) (product_of_is (bit_xor s b) y) (product_of_is (bit_xor t c) y) (product_of_is (bit_xor u d) y) in
+    four_more a b c d s t u last y (product_of_is a y) (product_of_is (bit_xor s b) y)
+    (product_of_is (bit_xor t c) y) (product_of_is (bit_xor u d) y) in
     let agree : Agree (of_word z) (residue ghash_modulus p) = λ k.
-    is k ∙ sym (other k) ∙ ap (λ f. f k) (word_product (bit_xor u d) last y (product_of_is (bit_xor u d) y)) in
+    is k ∙ sym (other k) ∙ ap (λ f. f k) (word_product (bit_xor u d) last y
+    (product_of_is (bit_xor u d) y)) in
     the_residue ghash_modulus p (of_word z) refl agree

@@ -1,5 +1,6 @@
 -- POLYVAL's sum: one block more, and only one value.
-use Rattle.std.proofs.Common.{◌≡◌, ℕ, zero, suc, ◌*◌, ◌/◌, ◌≤◌, Bool, true, false, List, [], ◌∷◌, ◌++◌, length, replicate, refl, sym, ap, ◌∙◌, arith, subst}
+use Rattle.std.proofs.Common.{◌≡◌, ℕ, zero, suc, ◌*◌, ◌/◌, ◌≤◌, Bool, true, false, List, [], ◌∷◌, ◌++◌}
+use Rattle.std.proofs.Common.{length, replicate, refl, sym, ap, ◌∙◌, arith, subst}
 use mathlib.Core.Path.{fun_ext}
 use Rattle.octets.specs.Bytes.{block_at, IsBlock}
 use Rattle.octets.specs.Bits.{v, bytes_of_v}
@@ -7,25 +8,33 @@ use Rattle.octets.specs.Polynomial.{coefficient, sum, product, residue, Agree}
 use Rattle.octets.proofs.Sequence.{sum_of}
 use Rattle.octets.proofs.Residue.{residue_lower}
 use Rattle.octets.proofs.Ring.{product_is, residue_of_lower}
-use Rattle.octets.proofs.Horner.{sum_is, product_swap, product_assoc, product_second, product_one, residue_same, times_same, times_residue}
+use Rattle.octets.proofs.Horner.{sum_is, product_swap, product_assoc, product_second, product_one}
+use Rattle.octets.proofs.Horner.{residue_same, times_same, times_residue}
 use Rattle.octets.proofs.Readings.{v_injective}
 use Rattle.octets.proofs.Spelled.{bytes_of_v_bytes, v_bytes_of}
 use Rattle.octets.proofs.Blocks.{block_at-append}
 use Rattle.octets.proofs.Reversal.{none_at, times_power, coefficient_below}
-use Rattle.gf128.specs.Polyval.{polyval_modulus, x_to_128, x_to_minus_128, dot, polyval_sum, polyval, IsDot, IsPolyvalSum, DotIsOne, PolyvalIsOne}
+use Rattle.gf128.specs.Polyval.{polyval_modulus, x_to_128, x_to_minus_128, dot, polyval_sum, polyval, IsDot}
+use Rattle.gf128.specs.Polyval.{IsPolyvalSum, DotIsTheOnly, PolyvalIsTheOnly}
 
 -- the sum over the blocks of a text is that of a longer text
-pub polyval_sum-append : (h m x : List ℕ) (n : ℕ) (s : List Bool) → n * 16 ≤ length m → IsPolyvalSum h m n s → IsPolyvalSum h (m ++ x) n s
+pub polyval_sum-append : (h m x : List ℕ) (n : ℕ) (s : List Bool) → n * 16 ≤ length m → IsPolyvalSum h m n s
+    → IsPolyvalSum h (m ++ x) n s
 unfolding IsPolyvalSum
 polyval_sum-append h m x zero s small e = e
 polyval_sum-append h m x (suc n) s small e =
-    let P : List ℕ → Type 0 = λ b. IsDot (sum e.0 (v b)) (v h) s in
-    (e.0, polyval_sum-append h m x n e.0 (omega arith) e.1, subst P (sym (block_at-append m x n (omega arith))) e.2)
+    let P : List ℕ → Type 0 = λ b. IsDot (sum e.0 (v b)) (v h) s in (
+      e.0,
+      polyval_sum-append h m x n e.0 (omega arith) e.1,
+      subst P
+          (sym (block_at-append m x n (omega arith))) e.2,
+    )
 
 -- dot sees its first factor by its coefficients
 pub dot_same : (a b c d : List Bool) → Agree a d → IsDot a b c → IsDot d b c
 dot_same a b c d e is =
-    let same : coefficient (residue polyval_modulus (product a b)) ≡ coefficient (residue polyval_modulus (product d b)) =
+    let same : coefficient (residue polyval_modulus (product a b))
+    ≡ coefficient (residue polyval_modulus (product d b)) =
     times_same polyval_modulus a d b refl (fun_ext e) in
     record { low = is.low; same = λ k. is.same k ∙ ap (λ f. f k) same }
 
@@ -48,37 +57,46 @@ one_is zero = refl
 one_is (suc k) = none_at 127 k
 
 -- x^128 * x^-128 has the residue 1
-inverse_is : coefficient (residue polyval_modulus (product x_to_128 x_to_minus_128)) ≡ coefficient (true ∷ [])
+inverse_is : coefficient (residue polyval_modulus (product x_to_128 x_to_minus_128))
+    ≡ coefficient (true ∷ [])
 inverse_is =
-    let shifted : coefficient (product x_to_128 x_to_minus_128) ≡ coefficient (replicate 128 false ++ x_to_minus_128) =
+    let shifted : coefficient (product x_to_128 x_to_minus_128) ≡ coefficient (replicate 128 false
+    ++ x_to_minus_128) =
     product_is x_to_128 x_to_minus_128
-    ∙ fun_ext (λ k. times_power 128 (coefficient x_to_minus_128) k ∙ sym (coefficient_below 128 x_to_minus_128 k)) in
-    residue_same polyval_modulus (product x_to_128 x_to_minus_128) (replicate 128 false ++ x_to_minus_128) refl shifted
+    ∙ fun_ext (λ k. times_power 128 (coefficient x_to_minus_128) k
+    ∙ sym (coefficient_below 128 x_to_minus_128 k)) in
+    residue_same polyval_modulus (product x_to_128 x_to_minus_128) (replicate 128 false ++ x_to_minus_128)
+    refl shifted
     ∙ ap coefficient computed ∙ fun_ext one_is
 
 -- times x^128 and its inverse
 pub undone : (c : List Bool)
-    → coefficient (residue polyval_modulus (product (residue polyval_modulus (product c x_to_128)) x_to_minus_128)) ≡ coefficient (residue polyval_modulus c)
+    → coefficient (residue polyval_modulus (product (residue polyval_modulus (product c x_to_128))
+    x_to_minus_128)) ≡ coefficient (residue polyval_modulus c)
 undone c =
     let m : List Bool = polyval_modulus in
     let both : List Bool = product x_to_128 x_to_minus_128 in
     times_residue m (product c x_to_128) x_to_minus_128 refl
-    ∙ residue_same m (product (product c x_to_128) x_to_minus_128) (product both c) refl (product_assoc c x_to_128 x_to_minus_128 ∙ product_swap c both)
+    ∙ residue_same m (product (product c x_to_128) x_to_minus_128) (product both c) refl
+    (product_assoc c x_to_128 x_to_minus_128 ∙ product_swap c both)
     ∙ sym (times_residue m both c refl)
     ∙ times_same m (residue m both) (true ∷ []) c refl inverse_is
     ∙ residue_same m (product (true ∷ []) c) c refl (product_one c)
 
 -- a polynomial of degree below 128 is its own residue
-lower_is : (c : List Bool) → ((k : ℕ) → 128 ≤ k → coefficient c k ≡ false) → coefficient (residue polyval_modulus c) ≡ coefficient c
+lower_is : (c : List Bool) → ((k : ℕ) → 128 ≤ k → coefficient c k ≡ false)
+    → coefficient (residue polyval_modulus c) ≡ coefficient c
 lower_is c low = fun_ext (residue_of_lower polyval_modulus c refl low)
 
 -- two dots agree
 dots_agree : (a b c d : List Bool) → IsDot a b c → IsDot a b d → Agree c d
 dots_agree a b c d hc hd k =
     let m : List Bool = polyval_modulus in
-    let same : coefficient (residue m (product c x_to_128)) ≡ coefficient (residue m (product d x_to_128)) = fun_ext (λ i. hc.same i ∙ sym (hd.same i)) in
+    let same : coefficient (residue m (product c x_to_128)) ≡ coefficient (residue m (product d x_to_128)) =
+    fun_ext (λ i. hc.same i ∙ sym (hd.same i)) in
     ap (λ f. f k) (sym (lower_is c hc.low) ∙ sym (undone c)
-    ∙ times_same m (residue m (product c x_to_128)) (residue m (product d x_to_128)) x_to_minus_128 refl same
+    ∙ times_same m (residue m (product c x_to_128)) (residue m (product d x_to_128)) x_to_minus_128 refl
+    same
     ∙ undone d ∙ lower_is d hd.low)
 
 -- the product by the inverse is a dot
@@ -88,37 +106,43 @@ dot_is a b =
     let m : List Bool = polyval_modulus in
     let p : List Bool = product a b in
     let both : List Bool = product x_to_128 x_to_minus_128 in
-    let whole : coefficient (residue m (product (residue m (product p x_to_minus_128)) x_to_128)) ≡ coefficient (residue m p) =
+    let whole : coefficient (residue m (product (residue m (product p x_to_minus_128)) x_to_128))
+    ≡ coefficient (residue m p) =
     times_residue m (product p x_to_minus_128) x_to_128 refl
     ∙ residue_same m (product (product p x_to_minus_128) x_to_128) (product both p) refl
-    (product_assoc p x_to_minus_128 x_to_128 ∙ product_second p (product x_to_minus_128 x_to_128) both (product_swap x_to_minus_128 x_to_128) ∙ product_swap p both)
+    (product_assoc p x_to_minus_128 x_to_128 ∙ product_second p (product x_to_minus_128 x_to_128) both
+    (product_swap x_to_minus_128 x_to_128) ∙ product_swap p both)
     ∙ sym (times_residue m both p refl)
     ∙ times_same m (residue m both) (true ∷ []) p refl inverse_is
     ∙ residue_same m (product (true ∷ []) p) p refl (product_one p) in
     record { low = λ k h. residue_lower m (product p x_to_minus_128) k h; same = λ k. ap (λ f. f k) whole }
 
 -- there is one dot
-pub dot_is_one : DotIsOne
-dot_is_one a b = (dot_is a b, λ c is. dots_agree a b c (dot a b) is (dot_is a b))
+pub dot_is_the_only : DotIsTheOnly
+dot_is_the_only a b = (dot_is a b, λ c is. dots_agree a b c (dot a b) is (dot_is a b))
 
 -- ---- a text has one POLYVAL
 sum_first : (s t x : List Bool) → Agree s t → Agree (sum s x) (sum t x)
-sum_first s t x e k = ap (λ f. f k) (sum_is s x ∙ ap (λ f. sum_of f (coefficient x)) (fun_ext e) ∙ sym (sum_is t x))
+sum_first s t x e k = ap (λ f. f k) (sum_is s x ∙ ap (λ f. sum_of f (coefficient x)) (fun_ext e)
+    ∙ sym (sum_is t x))
 
 -- two sums agree
-sums_agree : (h m : List ℕ) (n : ℕ) (s t : List Bool) → IsPolyvalSum h m n s → IsPolyvalSum h m n t → Agree s t
+sums_agree : (h m : List ℕ) (n : ℕ) (s t : List Bool) → IsPolyvalSum h m n s → IsPolyvalSum h m n t
+    → Agree s t
 unfolding IsPolyvalSum
 sums_agree h m zero s t hs ht = λ k. hs k ∙ sym (ht k)
 sums_agree h m (suc n) s t hs ht =
     let x : List Bool = v (block_at m n) in
     let before : Agree hs.0 ht.0 = sums_agree h m n hs.0 ht.0 hs.1 ht.1 in
-    dots_agree (sum ht.0 x) (v h) s t (dot_same (sum hs.0 x) (v h) s (sum ht.0 x) (sum_first hs.0 ht.0 x before) hs.2) ht.2
+    dots_agree (sum ht.0 x) (v h) s t (dot_same (sum hs.0 x) (v h) s (sum ht.0 x)
+    (sum_first hs.0 ht.0 x before) hs.2) ht.2
 
 -- the computed sum is one by any dot
 sum_is_one : (h m : List ℕ) (n : ℕ) → IsPolyvalSum h m n (polyval_sum h m n)
 unfolding IsPolyvalSum polyval_sum
 sum_is_one h m zero = λ k. refl
-sum_is_one h m (suc n) = (polyval_sum h m n, sum_is_one h m n, dot_is (sum (polyval_sum h m n) (v (block_at m n))) (v h))
+sum_is_one h m (suc n) =
+    (polyval_sum h m n, sum_is_one h m n, dot_is (sum (polyval_sum h m n) (v (block_at m n))) (v h))
 
 -- it is of degree below 128
 sum_low : (h m : List ℕ) (n k : ℕ) → 128 ≤ k → coefficient (polyval_sum h m n) k ≡ false
@@ -127,22 +151,33 @@ sum_low h m zero k l = refl
 sum_low h m (suc n) k l = (dot_is (sum (polyval_sum h m n) (v (block_at m n))) (v h)).low k l
 
 -- a sum is seen by its coefficients
-sum_same : (h m : List ℕ) (n : ℕ) (s t : List Bool) → Agree t s → IsPolyvalSum h m n s → IsPolyvalSum h m n t
+sum_same : (h m : List ℕ) (n : ℕ) (s t : List Bool) → Agree t s → IsPolyvalSum h m n s
+    → IsPolyvalSum h m n t
 unfolding IsPolyvalSum
 sum_same h m zero s t e is = λ k. e k ∙ is k
 sum_same h m (suc n) s t e is =
-    let product : coefficient (residue polyval_modulus (product t x_to_128)) ≡ coefficient (residue polyval_modulus (product s x_to_128)) =
-    times_same polyval_modulus t s x_to_128 refl (fun_ext e) in
-    (is.0, is.1, record { low = λ k l. e k ∙ is.2.low k l; same = λ k. ap (λ f. f k) product ∙ is.2.same k })
+    let product : coefficient (residue polyval_modulus (product t x_to_128))
+    ≡ coefficient (residue polyval_modulus (product s x_to_128)) =
+    times_same polyval_modulus t s x_to_128 refl (fun_ext e) in (
+      is.0,
+      is.1,
+      record {
+        low = λ k l. e k ∙ is.2.low k l;
+        same = λ k. ap (λ f. f k) product
+            ∙ is.2.same k;
+      },
+    )
 
 -- there is one POLYVAL
-pub polyval_is_one : PolyvalIsOne
+pub polyval_is_the_only : PolyvalIsTheOnly
 unfolding polyval
-polyval_is_one h m =
+polyval_is_the_only h m =
     let n : ℕ = length m / 16 in
     let s : List Bool = polyval_sum h m n in
     let block : IsBlock (bytes_of_v 16 s) = bytes_of_v_bytes 16 s in
-    let whole : IsPolyvalSum h m n (v (bytes_of_v 16 s)) = sum_same h m n s (v (bytes_of_v 16 s)) (v_bytes_of 16 s (sum_low h m n)) (sum_is_one h m n) in (
+    let whole : IsPolyvalSum h m n (v (bytes_of_v 16 s)) = sum_same h m n s (v (bytes_of_v 16 s))
+    (v_bytes_of 16 s (sum_low h m n)) (sum_is_one h m n) in (
       record { is_block = block; sum_is = whole },
-      λ y is. v_injective 16 y (bytes_of_v 16 s) is.is_block block (sums_agree h m n (v y) (v (bytes_of_v 16 s)) is.sum_is whole),
+      λ y is. v_injective 16 y (bytes_of_v 16 s) is.is_block block
+          (sums_agree h m n (v y) (v (bytes_of_v 16 s)) is.sum_is whole),
     )

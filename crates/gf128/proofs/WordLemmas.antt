@@ -1,10 +1,14 @@
 -- Words of 128 bits as polynomials, and a product bit by bit.
-use Rattle.std.proofs.Common.{◌≡◌, ◌≢◌, ℕ, zero, suc, ◌+◌, ◌-◌, ◌*◌, ◌/◌, ◌%◌, ◌^◌, ◌<◌, ◌≤◌, Bool, true, false, ◌&&◌, ◌==◌, List, [], ◌∷◌, ◌++◌, map, drop, take, length, get_or, reverse, bit_xor, bit_and, inl, inr, refl, sym, ap, ap₂, ◌∙◌, arith, zero-add}
-use Rattle.std.specs.Int.{w128, from_be_bytes, from_le_bytes, to_be_bytes, to_le_bytes, bytes_high_first, byte_at}
+use Rattle.std.proofs.Common.{◌≡◌, ◌≢◌, ℕ, zero, suc, ◌+◌, ◌-◌, ◌*◌, ◌/◌, ◌%◌, ◌^◌, ◌<◌, ◌≤◌, Bool, true}
+use Rattle.std.proofs.Common.{false, ◌&&◌, ◌==◌, List, [], ◌∷◌, ◌++◌, map, drop, take, length, get_or}
+use Rattle.std.proofs.Common.{reverse, bit_xor, bit_and, inl, inr, refl, sym, ap, ap₂, ◌∙◌, arith, zero-add}
+use Rattle.std.specs.Int.{w128, from_be_bytes, from_le_bytes, to_be_bytes, to_le_bytes, bytes_high_first}
+use Rattle.std.specs.Int.{byte_at}
 use Rattle.std.specs.List.{range_with_len}
 use Rattle.std.proofs.Math.Nat.{zero-mul, one-mul, mod-lt}
 use Rattle.std.proofs.lemmas.Bool.{cases_lt}
-use Rattle.std.proofs.lemmas.List.{get_or_past, get_or_append_left, get_or-reverse, length-reverse, reverse-append, drop_more, drop_all, take_all}
+use Rattle.std.proofs.lemmas.List.{get_or_past, get_or_append_left, get_or-reverse, length-reverse}
+use Rattle.std.proofs.lemmas.List.{reverse-append, drop_more, drop_all, take_all}
 use Rattle.std.proofs.lemmas.List.FromFn.{get_or-map-range_with_len, length-map-range_with_len}
 use Rattle.std.proofs.lemmas.Nat.Bits.{shr_and_one}
 use mathlib.Core.Path.{fun_ext}
@@ -16,10 +20,11 @@ use Rattle.octets.proofs.BitFacts.{bit_suc, bit_zero, bit_of_xor, bit_of_zero}
 use Rattle.octets.proofs.Numbers.{be_word, be_bit, be_push, le_word, byte_bit, bytes_high_at}
 use Rattle.octets.proofs.Readings.{made_same, g_injective, v_is}
 use Rattle.octets.proofs.Residue.{residue_is, residue_lower, residue_step}
-use Rattle.octets.proofs.Ring.{residue_more, residue_agree, coefficient_product, residue_of_lower, the_residue}
+use Rattle.octets.proofs.Ring.{residue_more, residue_agree, coefficient_product, residue_of_lower}
+use Rattle.octets.proofs.Ring.{the_residue}
 use Rattle.gf128.specs.Ghash.{ghash_modulus, IsProduct}
 use Rattle.gf128.specs.Polyval.{IsMulX}
-use Rattle.gf128.specs.Words.{of_bits, of_word, IsWordProduct, reduction, times_x}
+use Rattle.gf128.specs.Code.Words.{of_bits, of_word, IsWordProduct, reduction, times_x}
 
 -- ---- words and blocks
 pub of_word-be : (bs : List ℕ) → IsBlock bs → of_word (from_be_bytes w128 bs) ≡ g bs
@@ -40,7 +45,8 @@ of_word-be bs block =
 pub g-to_be : (n : ℕ) → g (to_be_bytes w128 n) ≡ of_word n
 unfolding of_word of_bits g
 g-to_be n =
-    made_same (λ k. bit (get_or (bytes_high_first 16 n) (k / 8) 0) (7 - k % 8)) (λ k. bit n (127 - k)) 128 (λ k l.
+    made_same (λ k. bit (get_or (bytes_high_first 16 n) (k / 8) 0) (7 - k % 8)) (λ k. bit n (127 - k)) 128
+    (λ k l.
     let at : 8 * (16 - suc (k / 8)) + (7 - k % 8) ≡ 127 - k = omega arith in
     ap (λ (x : ℕ). bit x (7 - k % 8)) (bytes_high_at 16 n (k / 8) (omega arith))
     ∙ ap (λ (x : ℕ). x == 1) (byte_bit n (16 - suc (k / 8)) (7 - k % 8) (omega arith)) ∙ ap (bit n) at)
@@ -59,22 +65,26 @@ to_be_block n = record {
         let at : get_or (bytes_high_first 16 n) i 0 ≡ byte_at (16 - suc i) n = bytes_high_at 16 n i l in
         let small : byte_at (16 - suc i) n < 256 = byte_lt (16 - suc i) n in
         omega arith
-    | inr l ↦ let past : get_or (to_be_bytes w128 n) i 0 ≡ 0 = get_or_past (to_be_bytes w128 n) i 0 l in omega arith
+    | inr l ↦ let past : get_or (to_be_bytes w128 n) i 0 ≡ 0 =
+        get_or_past (to_be_bytes w128 n) i 0 l in omega arith
   ];
 }
 
 -- a block is the bytes of its word
 pub bytes_of_word : (n : ℕ) (k : List ℕ) → IsBlock k → of_word n ≡ g k → to_be_bytes w128 n ≡ k
 bytes_of_word n k block e =
-    g_injective 16 (to_be_bytes w128 n) k (to_be_block n) block (λ i. ap (λ (p : List Bool). coefficient p i) (g-to_be n ∙ e))
+    g_injective 16 (to_be_bytes w128 n) k (to_be_block n) block
+    (λ i. ap (λ (p : List Bool). coefficient p i) (g-to_be n ∙ e))
 
 -- ---- bytes in reverse order
 pub reverse_block : (y : List ℕ) → IsBlock y → IsBlock (reverse y)
 reverse_block y b = record {
   length_is = length-reverse y ∙ b.length_is;
   bytes = λ i. elim (cases_lt i (length y)) [
-    | inl l ↦ let e : get_or (reverse y) i 0 ≡ get_or y (length y - 1 - i) 0 = get_or-reverse y i 0 l in omega (arith, b.bytes (length y - 1 - i))
-    | inr l ↦ let e : get_or (reverse y) i 0 ≡ 0 = get_or_past (reverse y) i 0 (omega (arith, length-reverse y)) in omega arith
+    | inl l ↦ let e : get_or (reverse y) i 0 ≡ get_or y (length y - 1 - i) 0 =
+        get_or-reverse y i 0 l in omega (arith, b.bytes (length y - 1 - i))
+    | inr l ↦ let e : get_or (reverse y) i 0 ≡ 0 =
+        get_or_past (reverse y) i 0 (omega (arith, length-reverse y)) in omega arith
   ];
 }
 
@@ -91,7 +101,8 @@ le_reversed (b ∷ bs) =
 -- the word of a block from its end
 pub of_word-le : (bs : List ℕ) → IsBlock bs → of_word (from_le_bytes w128 bs) ≡ g (reverse bs)
 of_word-le bs block =
-    ap of_word (sym (le_word bs block.length_is) ∙ le_reversed bs ∙ be_word (reverse bs) (length-reverse bs ∙ block.length_is))
+    ap of_word (sym (le_word bs block.length_is) ∙ le_reversed bs ∙ be_word (reverse bs) (length-reverse bs
+    ∙ block.length_is))
     ∙ of_word-be (reverse bs) (reverse_block bs block)
 
 -- a word's bytes from its end
@@ -100,7 +111,8 @@ to_le_reversed n = refl
 
 -- the polynomial of a word's bytes, from its end, in POLYVAL's reading
 pub v-to_le : (n : ℕ) → v (to_le_bytes w128 n) ≡ reverse (of_word n)
-v-to_le n = v_is (to_le_bytes w128 n) ∙ ap (λ (x : List ℕ). reverse (g x)) (to_le_reversed n) ∙ ap reverse (g-to_be n)
+v-to_le n = v_is (to_le_bytes w128 n) ∙ ap (λ (x : List ℕ). reverse (g x)) (to_le_reversed n)
+    ∙ ap reverse (g-to_be n)
 
 -- ---- the places of a word
 pub of_word_at : (n k : ℕ) → k < 128 → coefficient (of_word n) k ≡ bit n (127 - k)
@@ -117,15 +129,21 @@ pub of_word_past : (n k : ℕ) → 128 ≤ k → coefficient (of_word n) k ≡ f
 of_word_past n k h = get_or_past (of_word n) k false (omega (arith, length-of_word n))
 
 -- an XOR is a sum
-pub of_word_xor : (a b k : ℕ) → coefficient (of_word (bit_xor a b)) k ≡ plus (coefficient (of_word a) k) (coefficient (of_word b) k)
+pub of_word_xor : (a b k : ℕ) → coefficient (of_word (bit_xor a b)) k ≡ plus (coefficient (of_word a) k)
+    (coefficient (of_word b) k)
 of_word_xor a b k = elim (cases_lt k 128) [
-  | inl l ↦ of_word_at (bit_xor a b) k l ∙ bit_of_xor a b (127 - k) ∙ ap₂ plus (sym (of_word_at a k l)) (sym (of_word_at b k l))
+  | inl l ↦ of_word_at (bit_xor a b) k l ∙ bit_of_xor a b (127 - k) ∙ ap₂ plus (sym (of_word_at a k l))
+      (sym (of_word_at b k l))
   | inr l ↦ of_word_past (bit_xor a b) k l ∙ ap₂ plus (sym (of_word_past a k l)) (sym (of_word_past b k l))
 ]
 
 -- the word 0
 pub of_word_zero : (k : ℕ) → coefficient (of_word 0) k ≡ false
-of_word_zero k = elim (cases_lt k 128) [ inl h ↦ of_word_at 0 k h ∙ bit_of_zero (127 - k) | inr h ↦ of_word_past 0 k h ]
+of_word_zero k = elim (cases_lt k 128) [
+  | inl h ↦ of_word_at 0 k h ∙ bit_of_zero (127 - k)
+  | inr h ↦
+      of_word_past 0 k h
+]
 
 -- ---- a word times x
 bit_past : (n : ℕ) → n < 2 ^ 128 → bit n 128 ≡ false
@@ -151,26 +169,31 @@ modulus_is = refl
 modulus_at : (k : ℕ) → k < 128 → coefficient ghash_modulus k ≡ bit reduction (127 - k)
 modulus_at k h =
     ap (λ (p : List Bool). coefficient p k) modulus_is
-    ∙ get_or_append_left (of_word reduction) (true ∷ []) false k (omega (arith, length-of_word reduction)) ∙ of_word_at reduction k h
+    ∙ get_or_append_left (of_word reduction) (true ∷ []) false k (omega (arith, length-of_word reduction))
+    ∙ of_word_at reduction k h
 
 -- the low word, or 0
-reduction_at : (c k : ℕ) → c < 2 → k < 128 → bit (c * reduction) (127 - k) ≡ ((c == 1) && coefficient ghash_modulus k)
+reduction_at : (c k : ℕ) → c < 2 → k < 128 → bit (c * reduction) (127 - k)
+    ≡ ((c == 1) && coefficient ghash_modulus k)
 reduction_at zero k h l = ap (λ (x : ℕ). bit x (127 - k)) (zero-mul reduction) ∙ bit_of_zero (127 - k)
 reduction_at (suc zero) k h l = ap (λ (x : ℕ). bit x (127 - k)) (one-mul reduction) ∙ sym (modulus_at k l)
 reduction_at (suc (suc c)) k h l = absurd (omega arith)
 
 -- the coefficients of x times a word
 pub stepped_at : (n k : ℕ) → n < 2 ^ 128 → k < 128
-    → coefficient (of_word (times_x n)) k ≡ plus (coefficient (false ∷ of_word n) k) (coefficient (false ∷ of_word n) 128 && coefficient ghash_modulus k)
+    → coefficient (of_word (times_x n)) k ≡ plus (coefficient (false ∷ of_word n) k)
+    (coefficient (false ∷ of_word n) 128 && coefficient ghash_modulus k)
 stepped_at n k small l =
     of_word_at (times_x n) k l ∙ bit_of_xor (n / 2) (n % 2 * reduction) (127 - k)
-    ∙ ap₂ plus (half_at n k small l) (reduction_at (n % 2) k (omega arith) l ∙ ap (λ b. b && coefficient ghash_modulus k) (sym (top_at n)))
+    ∙ ap₂ plus (half_at n k small l) (reduction_at (n % 2) k (omega arith) l
+    ∙ ap (λ b. b && coefficient ghash_modulus k) (sym (top_at n)))
 
 -- ---- a product bit by bit
 
 -- p is the product so far, of the coefficients of f from place 128 - i on and h
 abbrev pub IsSoFar : ℕ → ℕ → ℕ → ℕ → Type 0
-IsSoFar f h i p = Agree (of_word p) (residue ghash_modulus (product (drop (128 - i) (of_word f)) (of_word h)))
+IsSoFar f h i p = Agree (of_word p) (residue ghash_modulus (product (drop (128 - i) (of_word f))
+    (of_word h)))
 
 -- the residue of 0
 residue_zero : (k : ℕ) → coefficient (residue ghash_modulus []) k ≡ false
@@ -181,8 +204,10 @@ residue_zero k = refl
 pub so_far_none : (f h : ℕ) → IsSoFar f h 0 0
 so_far_none f h k =
     of_word_zero k
-    ∙ sym (ap (λ p. coefficient (residue ghash_modulus (product p (of_word h))) k) (drop_all 128 (of_word f) (omega (arith, length-of_word f)))
-    ∙ residue_agree ghash_modulus (product [] (of_word h)) [] refl (coefficient_product [] (of_word h)) k ∙ residue_zero k)
+    ∙ sym (ap (λ p. coefficient (residue ghash_modulus (product p (of_word h))) k)
+    (drop_all 128 (of_word f) (omega (arith, length-of_word f)))
+    ∙ residue_agree ghash_modulus (product [] (of_word h)) [] refl (coefficient_product [] (of_word h)) k
+    ∙ residue_zero k)
 
 -- x times equal polynomials
 pub next_same : (p q : List Bool) → Agree p q → Agree (false ∷ p) (false ∷ q)
@@ -191,7 +216,8 @@ next_same p q same (suc i) = same i
 
 -- one bit more
 pub so_far_more : (f h i p q : ℕ) → i < 128 → p < 2 ^ 128
-    → ((k : ℕ) → k < 128 → coefficient (of_word q) k ≡ plus (bit f i && coefficient (of_word h) k) (coefficient (of_word (times_x p)) k))
+    → ((k : ℕ) → k < 128 → coefficient (of_word q) k ≡ plus (bit f i && coefficient (of_word h) k)
+    (coefficient (of_word (times_x p)) k))
     → IsSoFar f h i p → IsSoFar f h (i + 1) q
 so_far_more f h i p q l small next held k =
     let j : ℕ = 128 - (i + 1) in
@@ -206,10 +232,12 @@ so_far_more f h i p q l small next held k =
     elim (cases_lt k 128) [
       | inl low ↦
           next k low ∙ ap (plus (bit f i && coefficient (of_word h) k)) (stepped_at p k small low)
-          ∙ ap₂ (λ a b. plus (bit f i && coefficient (of_word h) k) (plus a (b && coefficient ghash_modulus k))) (same k) (same 128)
+          ∙ ap₂ (λ a b. plus (bit f i && coefficient (of_word h) k)
+          (plus a (b && coefficient ghash_modulus k))) (same k) (same 128)
           ∙ sym (ap (λ t. coefficient (residue ghash_modulus (product t (of_word h))) k) split
           ∙ residue_more ghash_modulus (bit f i) rest (of_word h) k refl (λ n m. of_word_past h n m))
-      | inr high ↦ of_word_past q k high ∙ sym (residue_lower ghash_modulus (product (drop j (of_word f)) (of_word h)) k high)
+      | inr high ↦ of_word_past q k high
+          ∙ sym (residue_lower ghash_modulus (product (drop j (of_word f)) (of_word h)) k high)
     ]
 
 -- a bit as a truth value
@@ -217,63 +245,77 @@ bit_is : (f i b : ℕ) → f / 2 ^ i % 2 ≡ b → bit f i ≡ (b == 1)
 bit_is f i b e = ap (λ (x : ℕ). x == 1) e
 
 -- one bit more, that is set
-pub so_far_set : (f h i p : ℕ) → i < 128 → p < 2 ^ 128 → bit_and (f / 2 ^ i) 1 ≡ 1 → IsSoFar f h i p → IsSoFar f h (i + 1) (bit_xor (times_x p) h)
+pub so_far_set : (f h i p : ℕ) → i < 128 → p < 2 ^ 128 → bit_and (f / 2 ^ i) 1 ≡ 1 → IsSoFar f h i p
+    → IsSoFar f h (i + 1) (bit_xor (times_x p) h)
 so_far_set f h i p l small set =
     let b : bit f i ≡ true = bit_is f i 1 (sym (shr_and_one f i) ∙ set) in
     so_far_more f h i p (bit_xor (times_x p) h) l small (λ k low.
-    of_word_xor (times_x p) h k ∙ plus_comm (coefficient (of_word (times_x p)) k) (coefficient (of_word h) k)
+    of_word_xor (times_x p) h k ∙ plus_comm (coefficient (of_word (times_x p)) k)
+    (coefficient (of_word h) k)
     ∙ ap (λ x. plus (x && coefficient (of_word h) k) (coefficient (of_word (times_x p)) k)) (sym b))
 
 -- one bit more, that is not
-pub so_far_clear : (f h i p : ℕ) → i < 128 → p < 2 ^ 128 → bit_and (f / 2 ^ i) 1 ≢ 1 → IsSoFar f h i p → IsSoFar f h (i + 1) (times_x p)
+pub so_far_clear : (f h i p : ℕ) → i < 128 → p < 2 ^ 128 → bit_and (f / 2 ^ i) 1 ≢ 1 → IsSoFar f h i p
+    → IsSoFar f h (i + 1) (times_x p)
 so_far_clear f h i p l small clear =
     let e : bit_and (f / 2 ^ i) 1 ≡ f / 2 ^ i % 2 = shr_and_one f i in
     let b : bit f i ≡ false = bit_is f i 0 (omega arith) in
-    so_far_more f h i p (times_x p) l small (λ k low. ap (λ x. plus (x && coefficient (of_word h) k) (coefficient (of_word (times_x p)) k)) (sym b))
+    so_far_more f h i p (times_x p) l small
+    (λ k low. ap (λ x. plus (x && coefficient (of_word h) k) (coefficient (of_word (times_x p)) k))
+    (sym b))
 
 -- after the last bit
 pub so_far_all : (f h i p : ℕ) → i ≡ 128 → IsSoFar f h i p → IsWordProduct f (to_be_bytes w128 h) p
 unfolding IsWordProduct
 so_far_all f h i p e held =
     let done : IsSoFar f h 128 p = rw e at held in
-    let whole : Agree (of_word p) (residue ghash_modulus (product (of_word f) (g (to_be_bytes w128 h)))) = rw (g-to_be h) done in
+    let whole : Agree (of_word p) (residue ghash_modulus (product (of_word f) (g (to_be_bytes w128 h)))) =
+    rw (g-to_be h) done in
     the_residue ghash_modulus (product (of_word f) (g (to_be_bytes w128 h))) (of_word p) refl whole
 
 -- ---- products of words
 
 -- a product of words as one of blocks
-pub block_product : (f p : ℕ) (x y z : List ℕ) → of_word f ≡ g x → IsWordProduct f y p → g z ≡ of_word p → IsProduct x y z
+pub block_product : (f p : ℕ) (x y z : List ℕ) → of_word f ≡ g x → IsWordProduct f y p → g z ≡ of_word p
+    → IsProduct x y z
 unfolding IsProduct IsWordProduct
 block_product f p x y z ex is ez = rw (← ex, ez) is
 
 -- a product of blocks as one of words
-pub product_block : (f p : ℕ) (x y z : List ℕ) → g x ≡ of_word f → IsProduct x y z → of_word p ≡ g z → IsWordProduct f y p
+pub product_block : (f p : ℕ) (x y z : List ℕ) → g x ≡ of_word f → IsProduct x y z → of_word p ≡ g z
+    → IsWordProduct f y p
 unfolding IsProduct IsWordProduct
 product_block f p x y z ex is ez = rw (← ex, ez) is
 
 -- the coefficients of a product
-pub word_product : (x z : ℕ) (y : List ℕ) → IsWordProduct x y z → coefficient (of_word z) ≡ coefficient (residue ghash_modulus (product (of_word x) (g y)))
+pub word_product : (x z : ℕ) (y : List ℕ) → IsWordProduct x y z
+    → coefficient (of_word z) ≡ coefficient (residue ghash_modulus (product (of_word x) (g y)))
 unfolding IsWordProduct
 word_product x z y h =
     let p : List Bool = product (of_word x) (g y) in
     sym (fun_ext (h.1 (residue ghash_modulus p) (residue_is ghash_modulus p refl)))
 
 -- ---- a word times x is that of the polynomial times x
-pub times_x_at : (n k : ℕ) → n < 2 ^ 128 → coefficient (of_word (times_x n)) k ≡ coefficient (residue ghash_modulus (false ∷ of_word n)) k
+pub times_x_at : (n k : ℕ) → n < 2 ^ 128 → coefficient (of_word (times_x n)) k
+    ≡ coefficient (residue ghash_modulus (false ∷ of_word n)) k
 times_x_at n k small =
     let p : List Bool = of_word n in
     let same : Agree (false ∷ residue ghash_modulus p) (false ∷ p) =
-    next_same (residue ghash_modulus p) p (residue_of_lower ghash_modulus p refl (λ i h. of_word_past n i h)) in
+    next_same (residue ghash_modulus p) p (residue_of_lower ghash_modulus p refl
+    (λ i h. of_word_past n i h)) in
     elim (cases_lt k 128) [
       | inl l ↦
           stepped_at n k small l
-          ∙ sym (residue_step ghash_modulus false p k refl ∙ ap₂ (λ a b. plus a (b && coefficient ghash_modulus k)) (same k) (same 128))
+          ∙ sym (residue_step ghash_modulus false p k refl
+          ∙ ap₂ (λ a b. plus a (b && coefficient ghash_modulus k)) (same k) (same 128))
       | inr l ↦ of_word_past (times_x n) k l ∙ sym (residue_lower ghash_modulus (false ∷ p) k l)
     ]
 
 -- x times a block
-pub times_x_is : (n s : ℕ) (x z : List ℕ) → n < 2 ^ 128 → of_word n ≡ g x → s ≡ times_x n → g z ≡ of_word s → IsMulX x z
+pub times_x_is : (n s : ℕ) (x z : List ℕ) → n < 2 ^ 128 → of_word n ≡ g x → s ≡ times_x n → g z ≡ of_word s
+    → IsMulX x z
 unfolding IsMulX
 times_x_is n s x z small ex es ez =
-    let same : Agree (g z) (residue ghash_modulus (false ∷ g x)) = rw (← ex, ez, es) (λ k. times_x_at n k small) in
+    let same : Agree (g z) (residue ghash_modulus (false ∷ g x)) =
+    rw (← ex, ez, es) (λ k. times_x_at n k small) in
     the_residue ghash_modulus (false ∷ g x) (g z) refl same

@@ -1,5 +1,7 @@
--- POLYVAL (RFC 8452, 3 and appendix A). A block is read by `v`: the bit of weight 1 of byte 0 is the coefficient of x^0.
-use Rattle.std.specs.Prelude.{◌≡◌, ℕ, zero, suc, ◌/◌, ◌%◌, ◌<◌, ◌≤◌, Bool, true, false, List, [], ◌∷◌, ◌++◌, length, replicate, reverse}
+-- POLYVAL (RFC 8452, 3 and appendix A). A block is read by `v`: the bit of weight 1 of byte 0 is the
+-- coefficient of x^0.
+use Rattle.std.specs.Prelude.{◌≡◌, ℕ, zero, suc, ◌/◌, ◌%◌, ◌<◌, ◌≤◌, Bool, true, false, List, [], ◌∷◌, ◌++◌}
+use Rattle.std.specs.Prelude.{length, replicate, reverse}
 use Rattle.octets.specs.Bytes.{block_at, IsBlock}
 use Rattle.octets.specs.Bits.{g, v, bytes_of_g, bytes_of_v}
 use Rattle.octets.specs.Polynomial.{coefficient, sum, product, residue, Agree, IsTheResidue}
@@ -22,7 +24,8 @@ pub record IsDot (a : List Bool) (b : List Bool) (c : List Bool) : Type 0 where
 -- x^-128 = x^127+x^124+x^121+x^114+1
 abbrev pub x_to_minus_128 : List Bool
 x_to_minus_128 =
-    true ∷ (replicate 113 false ++ true ∷ (replicate 6 false ++ true ∷ false ∷ false ∷ true ∷ false ∷ false ∷ true ∷ []))
+    true ∷ (replicate 113 false ++ true ∷ (replicate 6 false ++ true ∷ false ∷ false ∷ true ∷ false ∷ false
+    ∷ true ∷ []))
 
 -- a * b * x^-128
 unfoldable pub dot : List Bool → List Bool → List Bool
@@ -44,7 +47,8 @@ mul_x h = bytes_of_g 16 (residue ghash_modulus (false ∷ g h))
 -- s is S_n, by any dot
 unfoldable pub IsPolyvalSum : List ℕ → List ℕ → ℕ → List Bool → Type 0
 IsPolyvalSum h m zero s = Agree s []
-IsPolyvalSum h m (suc n) s = (t : List Bool) × IsPolyvalSum h m n t × IsDot (sum t (v (block_at m n))) (v h) s
+IsPolyvalSum h m (suc n) s = (t : List Bool) × IsPolyvalSum h m n t × IsDot (sum t (v (block_at m n)))
+    (v h) s
 
 -- y is a block whose polynomial is the last S_n
 pub record IsPolyval (h : List ℕ) (m : List ℕ) (y : List ℕ) : Type 0 where
@@ -61,15 +65,17 @@ IsReversedMulX h k = IsMulX (reverse h) k
 
 -- r is m with the bytes of each block reversed
 abbrev pub AreReversed : List ℕ → List ℕ → Type 0
-AreReversed m r = (length r ≡ length m) × ((i : ℕ) → i < length m / 16 → block_at r i ≡ reverse (block_at m i))
+AreReversed m r = (length r ≡ length m) × ((i : ℕ) → i < length m / 16
+    → block_at r i ≡ reverse (block_at m i))
 
 -- dot is the only c of degree below 128 such that c * x^128 and a * b have one residue
-abbrev pub DotIsOne : Type 0
-DotIsOne = (a b : List Bool) → IsDot a b (dot a b) × ((c : List Bool) → IsDot a b c → Agree c (dot a b))
+abbrev pub DotIsTheOnly : Type 0
+DotIsTheOnly = (a b : List Bool) → IsDot a b (dot a b) × ((c : List Bool) → IsDot a b c → Agree c (dot a b))
 
 -- POLYVAL is the only block that S_n gives
-abbrev pub PolyvalIsOne : Type 0
-PolyvalIsOne = (h m : List ℕ) → IsPolyval h m (polyval h m) × ((y : List ℕ) → IsPolyval h m y → y ≡ polyval h m)
+abbrev pub PolyvalIsTheOnly : Type 0
+PolyvalIsTheOnly = (h m : List ℕ) → IsPolyval h m (polyval h m) × ((y : List ℕ) → IsPolyval h m y
+    → y ≡ polyval h m)
 
 -- POLYVAL is the byte reverse of GHASH under mulX of the reversed key over the reversed blocks
 abbrev pub PolyvalByGhash : Type 0

@@ -3,7 +3,7 @@
 ghost use Rattle.std.specs.Prelude.{◌≡◌, ℕ};
 ghost use Rattle.std.specs.Int.{w128, to_be_bytes};
 
-use crate::words::{block_of, times_x, word_of};
+use crate::polynomial_word::{block_of, times_x, word_of};
 use crate::{Keyed128, Multiply};
 use octets::Block;
 

@@ -2,9 +2,9 @@
 
 ghost use Rattle.std.specs.Prelude.{◌≡◌, ℕ, ◌+◌, ◌≤◌, Bool, false, List, ◌++◌, replicate};
 ghost use Rattle.octets.specs.Polynomial.{coefficient, sum};
-ghost use Rattle.gf128.specs.Words.{folded, IsMoved, IsReduced, IsSpread};
+ghost use Rattle.gf128.specs.Code.Words.{folded, IsMoved, IsReduced, IsSpread};
 
-use crate::words::low_half;
+use crate::polynomial_word::low_half;
 
 // The word and x^128 times the half word that fell out below it, reduced.
 #[inline(always)]
@@ -42,7 +42,8 @@ impl Chain {
     // The sum of nothing.
     #[inline(always)]
     pub(crate) fn empty() -> Chain
-        ensures { (p : List Bool) → ((k : ℕ) → coefficient p k ≡ false) → IsSpread 0 p result.word result.spill }
+        ensures { (p : List Bool) → ((k : ℕ) → coefficient p k ≡ false)
+            → IsSpread 0 p result.word result.spill }
     {
         Chain { word: 0, spill: 0 }
     }
@@ -50,8 +51,9 @@ impl Chain {
     // The sum times x^4, and a multiple by four bits more.
     #[inline(always)]
     pub(crate) fn take_four(self, multiple: u128) -> Chain
-        ensures { (d : ℕ) (p q : List Bool) → 4 + d ≤ 64 → IsSpread d p self.word self.spill → IsReduced q multiple
-            → IsSpread (4 + d) (sum q (replicate 4 false ++ p)) result.word result.spill }
+        ensures { (d : ℕ) (p q : List Bool) → 4 + d ≤ 64 → IsSpread d p self.word self.spill
+            → IsReduced q multiple → IsSpread (4 + d) (sum q (replicate 4 false ++ p)) result.word
+            result.spill }
     {
         Chain {
             word: (self.word >> 4) ^ multiple,
@@ -62,8 +64,9 @@ impl Chain {
     // The sum times x^8, and a multiple by eight bits more.
     #[inline(always)]
     pub(crate) fn take_eight(self, multiple: u128) -> Chain
-        ensures { (d : ℕ) (p q : List Bool) → 8 + d ≤ 64 → IsSpread d p self.word self.spill → IsReduced q multiple
-            → IsSpread (8 + d) (sum q (replicate 8 false ++ p)) result.word result.spill }
+        ensures { (d : ℕ) (p q : List Bool) → 8 + d ≤ 64 → IsSpread d p self.word self.spill
+            → IsReduced q multiple → IsSpread (8 + d) (sum q (replicate 8 false ++ p)) result.word
+            result.spill }
     {
         Chain {
             word: (self.word >> 8) ^ multiple,

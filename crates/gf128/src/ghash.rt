@@ -1,9 +1,9 @@
 // GHASH over a text fed piece by piece.
 
 ghost use Rattle.std.specs.Prelude.{◌≡◌, ℕ, ◌++◌, List, []};
-ghost use Rattle.gf128.specs.Ghash.{GhashIsOne};
+ghost use Rattle.gf128.specs.Ghash.{GhashIsTheOnly};
 
-use crate::words::{block_of, word_of};
+use crate::polynomial_word::{block_of, word_of};
 use crate::{Keyed128, Multiply};
 use octets::{Absorb, Block, Pieces};
 
@@ -60,7 +60,8 @@ impl<M: Multiply> Ghash<M> {
     ghost use Rattle.gf128.specs.Ghash.{ghash};
     ghost use Rattle.gf128.specs.States.{Holds};
 
-    /// A state that holds the empty text, under the key of a multiplier, or of a reference to one that is kept.
+    /// A state that holds the empty text, under the key of a multiplier, or of a reference to one that is
+    /// kept.
     pub fn with(multiplier: M) -> Ghash<M>
         ensures { Holds M.key_bytes result (M.key_bytes multiplier) [] }
     {
@@ -71,7 +72,8 @@ impl<M: Multiply> Ghash<M> {
 
     /// Adds `piece`, of any length, to the text.
     pub fn update(&mut self, piece: &[u8])
-        ensures { (h m : List ℕ) → Holds M.key_bytes self.old h m → Holds M.key_bytes self.new h (m ++ piece.now) }
+        ensures { (h m : List ℕ) → Holds M.key_bytes self.old h m
+            → Holds M.key_bytes self.new h (m ++ piece.now) }
     {
         self.pieces.update(piece);
     }
@@ -93,7 +95,8 @@ impl<M: Multiply> Ghash<M> {
     }
 }
 
-/// GHASH is the only block whose polynomial is the sum of the residues of the blocks times powers of the key.
-pub fn ghash_is_one()
-    ensures { GhashIsOne }
+/// GHASH is the only block whose polynomial is the sum of the residues of the blocks times powers of the
+/// key.
+pub fn ghash_is_the_only()
+    ensures { GhashIsTheOnly }
 {}

@@ -3,13 +3,13 @@
 ghost use Rattle.std.specs.Prelude.{◌≡◌, ℕ, List};
 ghost use Rattle.octets.specs.Bytes.{IsBlock};
 ghost use Rattle.gf128.specs.Ghash.{IsProduct};
-ghost use Rattle.gf128.specs.Words.{IsFourProducts, IsWordProduct};
+ghost use Rattle.gf128.specs.Code.Words.{IsFourProducts, IsWordProduct};
 
-use crate::words::{block_of, word_of};
+use crate::polynomial_word::{block_of, word_of};
 use octets::Block;
 
-/// Multiplication by a key of 16 bytes in GHASH's field (SP 800-38D, 6.3). An implementor gives `times`, and may give a faster
-/// method on words.
+/// Multiplication by a key of 16 bytes in GHASH's field (SP 800-38D, 6.3). An implementor gives `times`, and
+/// may give faster methods on words.
 pub trait Multiply: Drop {
     // The key's bytes.
     ghost key_bytes: { Self → List ℕ };
@@ -19,8 +19,8 @@ pub trait Multiply: Drop {
         ensures value { IsProduct x.now (key_bytes self.now) result }
         ensures is_block { IsBlock result };
 
-    /// The product of a word and the key. A word is the number that a block spells, its first byte the highest,
-    /// so the bit of weight 2^127 is the coefficient of x^0.
+    /// The product of a word and the key. A word is the number that a block spells, its first byte the
+    /// highest, so the bit of weight 2^127 is the coefficient of x^0.
     fn times_word(&self, x: u128) -> u128
         ensures { IsWordProduct x (key_bytes self.now) result }
     {
@@ -28,7 +28,8 @@ pub trait Multiply: Drop {
         word_of(product.bytes())
     }
 
-    /// The sum of `a` times the fourth power of the key, `b` times its third, `c` times its second, and `d` times the key.
+    /// The sum of `a` times the fourth power of the key, `b` times its third, `c` times its second, and `d`
+    /// times the key.
     fn times_four(&self, a: u128, b: u128, c: u128, d: u128) -> u128
         ensures { IsFourProducts a b c d (key_bytes self.now) result }
     {

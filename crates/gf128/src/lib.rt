@@ -2,27 +2,27 @@
 #![tactic(auto)]
 
 mod bit_mul;
-mod byte_mul;
 mod chain;
 mod ghash;
 mod hash_key;
 mod keyed;
 mod multiples;
 mod placed_mul;
+mod polynomial_word;
 mod polyval;
 mod table_mul;
 #[cfg(test)]
 mod tests;
 mod wide_mul;
-mod words;
 
 pub use bit_mul::BitMul;
-pub use byte_mul::ByteMul;
-pub use ghash::{Ghash, ghash_is_one};
+pub use ghash::{Ghash, ghash_is_the_only};
 pub use hash_key::HashKey;
 pub use keyed::{Keyed128, Multiply};
 pub use placed_mul::PlacedMul;
-pub use polyval::{Polyval, dot_is_one, polyval_by_ghash, polyval_is_one, reversed_mul_x};
+pub use polyval::{
+    Polyval, dot_is_the_only, polyval_by_ghash, polyval_is_the_only, reversed_mul_x,
+};
 pub use table_mul::TableMul;
 pub use wide_mul::WideMul;
 

@@ -1,10 +1,12 @@
-// The multiples of a word by two, four and eight bits, each made of two smaller ones. The bit of highest weight is the
-// coefficient of x^0.
+// The multiples of a word by two, four and eight bits, each made of two smaller ones. The bit of highest
+// weight is the coefficient of x^0.
 
 ghost use Rattle.std.specs.Prelude.{◌≡◌, ℕ, ◌<◌, slice_index};
-ghost use Rattle.gf128.specs.Words.{IsBitsProduct, IsMoved};
+ghost use Rattle.std.specs.Int.{w128, to_be_bytes};
+ghost use Rattle.gf128.specs.Code.Words.{IsBitsProduct, IsMoved, IsWordProduct};
 
-use crate::words::times_x;
+use crate::chain::{Chain, times_x64};
+use crate::polynomial_word::{bytes_of, high_half, low_half, times_x};
 
 // The word times x^2.
 #[inline(always)]
@@ -25,7 +27,7 @@ fn times_x4(word: u128) -> u128
 }
 
 // The 4 multiples of a word by two bits.
-#[derive(Drop, Clone, Copy)]
+#[derive(Drop)]
 struct Multiples4 {
     word: u128,
     entries: [u128; 4],
@@ -33,6 +35,7 @@ struct Multiples4 {
 }
 
 impl Multiples4 {
+    // The multiples of a word.
     #[inline(always)]
     fn of(word: u128) -> Multiples4
         ensures { result.word ≡ word }
@@ -71,6 +74,7 @@ pub(crate) struct Multiples16 {
 }
 
 impl Multiples16 {
+    // The multiples of a word, made of those by two bits.
     #[inline(always)]
     pub(crate) fn of(word: u128) -> Multiples16
         ensures { result.word ≡ word }
@@ -103,7 +107,7 @@ fn by_eight_bits(high: &Multiples16, low: &Multiples16, bits: u64) -> u128
 }
 
 // The 256 multiples of a word by eight bits.
-#[derive(Drop, Clone, Copy)]
+#[derive(Drop)]
 pub(crate) struct Multiples256 {
     pub(crate) word: u128,
     entries: [u128; 256],
@@ -111,6 +115,7 @@ pub(crate) struct Multiples256 {
 }
 
 impl Multiples256 {
+    // The multiples of a word, made of those by four bits.
     pub(crate) fn of(word: u128) -> Multiples256
         ensures { result.word ≡ word }
     {
@@ -132,5 +137,28 @@ impl Multiples256 {
         ensures { IsBitsProduct 8 byte self.now.word result }
     {
         self.entries[byte as usize]
+    }
+
+    // The product of a half word and the word.
+    #[inline(always)]
+    fn times_half(&self, half: u64) -> u128
+        ensures { IsBitsProduct 64 half self.now.word result }
+    {
+        let bytes = bytes_of(half);
+        let mut sum = Chain::empty();
+        'places: for i in 0..8usize {
+            sum = sum.take_eight(self.at(bytes[i]));
+        }
+        sum.reduced()
+    }
+
+    // The product of another word and the word.
+    #[inline(always)]
+    pub(crate) fn times_word(&self, x: u128) -> u128
+        ensures { IsWordProduct x (to_be_bytes w128 self.now.word) result }
+    {
+        let high = self.times_half(high_half(x));
+        let low = self.times_half(low_half(x));
+        high ^ times_x64(low)
     }
 }

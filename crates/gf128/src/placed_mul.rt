@@ -1,11 +1,11 @@
 // The product by tables of 16 multiples of the key at eight places, 16 bits apart.
 
 ghost use Rattle.std.specs.Prelude.{◌≡◌, List, [], ◌∷◌};
-ghost use Rattle.gf128.specs.Words.{products, IsBitsProduct, IsMoved, IsReduced};
+ghost use Rattle.gf128.specs.Code.Words.{products, IsBitsProduct, IsMoved, IsReduced};
 
 use crate::chain::{Chain, times_x16, times_x64};
 use crate::multiples::Multiples16;
-use crate::words::{block_of, high_half, low_half, word_of};
+use crate::polynomial_word::{block_of, high_half, low_half, word_of};
 use crate::{Keyed128, Multiply};
 use octets::Block;
 
@@ -22,6 +22,7 @@ struct FourPlaces {
 }
 
 impl FourPlaces {
+    // The multiples of a word.
     #[inline(always)]
     fn of(word: u128) -> FourPlaces
         ensures { result.first.word ≡ word }
@@ -40,8 +41,10 @@ impl FourPlaces {
     // The sum of the multiples by the four lowest bits of four numbers.
     #[inline(always)]
     fn four_multiples(&self, a: u64, b: u64, c: u64, d: u64) -> u128
-        ensures { IsReduced (products 4 ((a, self.now.first.word) ∷ (b, self.now.second.word) ∷ (c, self.now.third.word)
-            ∷ (d, self.now.fourth.word) ∷ [])) result }
+        ensures { let s = self.now in
+            IsReduced (products 4 ((a, s.first.word) ∷ (b, s.second.word) ∷ (c, s.third.word)
+            ∷ (d, s.fourth.word) ∷ []))
+            result }
     {
         self.first.at(a) ^ (self.second.at(b) ^ (self.third.at(c) ^ self.fourth.at(d)))
     }
@@ -64,8 +67,8 @@ impl FourPlaces {
     }
 }
 
-/// The multiplier that holds 16 multiples of the key at each of eight places, 2 KiB. It is for texts in pieces, and for a key
-/// of few texts.
+/// The multiplier that holds 16 multiples of the key at each of eight places, 16 bits apart: 2 KiB. It is
+/// for a key that is kept, and for a text of a hundred bytes and more.
 #[derive(Drop, Clone, Copy)]
 pub struct PlacedMul {
     high: FourPlaces,

@@ -3,7 +3,7 @@
 ghost use Rattle.std.specs.Prelude.{◌≡◌, ℕ, ◌*◌, ◌/◌, ◌%◌, ◌^◌, ◌<◌, List, reverse, slice_index};
 ghost use Rattle.octets.specs.Bytes.{IsBlock};
 ghost use Rattle.octets.specs.Bits.{g, v};
-ghost use Rattle.gf128.specs.Words.{of_bits, of_word, times_x};
+ghost use Rattle.gf128.specs.Code.Words.{of_bits, of_word, times_x};
 
 use octets::Block;
 

@@ -2,14 +2,14 @@
 
 ghost use Rattle.std.specs.Prelude.{◌≡◌, ℕ, ◌++◌, List, []};
 ghost use Rattle.octets.specs.Bytes.{IsBlock};
-ghost use Rattle.gf128.specs.Polyval.{DotIsOne, PolyvalIsOne, PolyvalByGhash, IsReversedMulX};
+ghost use Rattle.gf128.specs.Polyval.{DotIsTheOnly, PolyvalIsTheOnly, PolyvalByGhash, IsReversedMulX};
 
-use crate::words::{block_of, reversed_block_of, reversed_word_of, times_x};
+use crate::polynomial_word::{block_of, reversed_block_of, reversed_word_of, times_x};
 use crate::{Keyed128, Multiply};
 use octets::{Absorb, Block, Pieces};
 
-/// The key by which GHASH's product gives POLYVAL's: mulX of the reversed key (RFC 8452, appendix A). A multiplier of it serves
-/// [`Polyval::with`].
+/// The key by which GHASH's product gives POLYVAL's: mulX of the reversed key (RFC 8452, appendix A). A
+/// multiplier of it serves [`Polyval::with`].
 pub fn reversed_mul_x(key: &Block) -> Block
     ensures value { IsReversedMulX key.now result }
     ensures of_block { IsBlock key.now }
@@ -72,10 +72,11 @@ impl<M: Multiply> Polyval<M> {
     ghost use Rattle.gf128.specs.Polyval.{polyval};
     ghost use Rattle.gf128.specs.States.{PolyvalHolds};
 
-    /// A state that holds the empty text, under the key of which the multiplier's is [`reversed_mul_x`]. The multiplier may be a
-    /// reference to one that is kept.
+    /// A state that holds the empty text, under the key of which the multiplier's is [`reversed_mul_x`]. The
+    /// multiplier may be a reference to one that is kept.
     pub fn with(multiplier: M) -> Polyval<M>
-        ensures { (h : List ℕ) → IsBlock h → IsReversedMulX h (M.key_bytes multiplier) → PolyvalHolds M.key_bytes result h [] }
+        ensures { (h : List ℕ) → IsBlock h → IsReversedMulX h (M.key_bytes multiplier)
+            → PolyvalHolds M.key_bytes result h [] }
     {
         Polyval {
             pieces: Pieces::new(PolyvalSum { multiplier, sum: 0 }),
@@ -84,14 +85,16 @@ impl<M: Multiply> Polyval<M> {
 
     /// Adds `piece`, of any length, to the text.
     pub fn update(&mut self, piece: &[u8])
-        ensures { (h m : List ℕ) → PolyvalHolds M.key_bytes self.old h m → PolyvalHolds M.key_bytes self.new h (m ++ piece.now) }
+        ensures { (h m : List ℕ) → PolyvalHolds M.key_bytes self.old h m
+            → PolyvalHolds M.key_bytes self.new h (m ++ piece.now) }
     {
         self.pieces.update(piece);
     }
 
     /// Feeds zeros up to a multiple of 16 bytes fed.
     pub fn pad16(&mut self)
-        ensures { (h m : List ℕ) → PolyvalHolds M.key_bytes self.old h m → PolyvalHolds M.key_bytes self.new h (pad16 m) }
+        ensures { (h m : List ℕ) → PolyvalHolds M.key_bytes self.old h m
+            → PolyvalHolds M.key_bytes self.new h (pad16 m) }
     {
         self.pieces.pad16();
     }
@@ -106,17 +109,19 @@ impl<M: Multiply> Polyval<M> {
     }
 }
 
-/// The dot of two polynomials is the only one of degree below 128 that times x^128 has their product's residue.
-pub fn dot_is_one()
-    ensures { DotIsOne }
+/// The dot of two polynomials is the only one of degree below 128 that times x^128 has their product's
+/// residue.
+pub fn dot_is_the_only()
+    ensures { DotIsTheOnly }
 {}
 
 /// POLYVAL is the only block that the sums by dot give.
-pub fn polyval_is_one()
-    ensures { PolyvalIsOne }
+pub fn polyval_is_the_only()
+    ensures { PolyvalIsTheOnly }
 {}
 
-/// POLYVAL is the byte reverse of GHASH under mulX of the reversed key over the reversed blocks (RFC 8452, appendix A).
+/// POLYVAL is the byte reverse of GHASH under mulX of the reversed key over the reversed blocks (RFC 8452,
+/// appendix A).
 pub fn polyval_by_ghash()
     ensures { PolyvalByGhash }
 {}

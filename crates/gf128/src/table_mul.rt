@@ -4,7 +4,7 @@ ghost use Rattle.std.specs.Int.{w128, to_be_bytes};
 
 use crate::chain::{Chain, times_x64};
 use crate::multiples::Multiples16;
-use crate::words::{block_of, high_half, low_half, word_of};
+use crate::polynomial_word::{block_of, high_half, low_half, word_of};
 use crate::{Keyed128, Multiply};
 use octets::Block;
 

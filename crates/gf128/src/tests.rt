@@ -2,56 +2,115 @@
 
 use super::*;
 use octets::Block;
-use std::test::Fail;
+use std::process::Abort;
 
 const ANY: [u8; 16] = [
     0x12, 0x34, 0x56, 0x78, 0x9a, 0xbc, 0xde, 0xf0, 0x01, 0x02, 0x03, 0x04, 0x05, 0x06, 0x07, 0x88,
 ];
 
-fn ghash_of<M: Keyed128>(key: [u8; 16], text: &[u8]) -> [u8; 16] {
-    let mut state = Ghash::<M>::new(&Block::new(key));
+fn ghash_of<M: Keyed128>(key: &[u8; 16], text: &[u8]) -> [u8; 16] {
+    let mut state = Ghash::<M>::new(&Block::new(*key));
     state.update(text);
     *state.finish().bytes()
 }
 
-fn polyval_of<M: Keyed128>(key: [u8; 16], text: &[u8]) -> [u8; 16] {
-    let mut state = Polyval::<M>::new(&Block::new(key));
+fn ghash_kept<M: Multiply>(multiplier: M, pieces: &[&[u8]]) -> [u8; 16] {
+    let mut state = Ghash::with(multiplier);
+    for piece in pieces {
+        state.update(piece);
+    }
+    *state.finish().bytes()
+}
+
+// By each multiplier, made for the text and kept, and whole and in two pieces.
+fn has_ghash(rt: &impl Abort, key: &[u8; 16], text: &[u8], want: &[u8; 16]) {
+    assert_eq!(rt; ghash_of::<BitMul>(key, text).as_slice(), want.as_slice());
+    assert_eq!(rt; ghash_of::<TableMul>(key, text).as_slice(), want.as_slice());
+    assert_eq!(rt;
+        ghash_of::<PlacedMul>(key, text).as_slice(),
+        want.as_slice()
+    );
+    assert_eq!(rt; ghash_of::<WideMul>(key, text).as_slice(), want.as_slice());
+    let (front, back) = text.split_at(text.len() / 3);
+    let pieces: [&[u8]; 3] = [front, &[], back];
+    let kept = HashKey::new(&Block::new(*key));
+    assert_eq!(rt;
+        ghash_kept(kept.multiplier(), &pieces).as_slice(),
+        want.as_slice()
+    );
+    let wide = WideMul::of(kept.key());
+    assert_eq!(rt; ghash_kept(&wide, &pieces).as_slice(), want.as_slice());
+    let mut state = kept.ghash();
+    state.update(text);
+    assert_eq!(rt; state.finish().bytes().as_slice(), want.as_slice());
+}
+
+fn polyval_of<M: Keyed128>(key: &[u8; 16], text: &[u8]) -> [u8; 16] {
+    let mut state = Polyval::<M>::new(&Block::new(*key));
     state.update(text);
     *state.finish().bytes()
+}
+
+// The same for POLYVAL.
+fn has_polyval(rt: &impl Abort, key: &[u8; 16], text: &[u8], want: &[u8; 16]) {
+    assert_eq!(rt; polyval_of::<BitMul>(key, text).as_slice(), want.as_slice());
+    assert_eq!(rt;
+        polyval_of::<TableMul>(key, text).as_slice(),
+        want.as_slice()
+    );
+    assert_eq!(rt;
+        polyval_of::<PlacedMul>(key, text).as_slice(),
+        want.as_slice()
+    );
+    assert_eq!(rt;
+        polyval_of::<WideMul>(key, text).as_slice(),
+        want.as_slice()
+    );
+    let kept = PlacedMul::of(&reversed_mul_x(&Block::new(*key)));
+    let mut state = Polyval::with(&kept);
+    let (front, back) = text.split_at(text.len() / 3);
+    state.update(front);
+    state.update(back);
+    state.pad16();
+    assert_eq!(rt; state.finish().bytes().as_slice(), want.as_slice());
 }
 
 // The polynomial 1 as a key gives each block back.
 #[test]
-fn ghash_under_one_is_the_block(rt: HostRuntime) -> Result<(), Fail> {
+fn ghash_under_one_is_the_block(rt: HostRuntime) {
     let mut one = [0u8; 16];
     one[0] = 0x80;
-    assert_eq!(rt; ghash_of::<BitMul>(one, &ANY).as_slice(), ANY.as_slice());
-    assert_eq!(rt; ghash_of::<TableMul>(one, &ANY).as_slice(), ANY.as_slice());
-    assert_eq!(rt; ghash_of::<ByteMul>(one, &ANY).as_slice(), ANY.as_slice());
-    assert_eq!(rt; ghash_of::<PlacedMul>(one, &ANY).as_slice(), ANY.as_slice());
-    assert_eq!(rt; ghash_of::<WideMul>(one, &ANY).as_slice(), ANY.as_slice());
-    Ok(())
+    has_ghash(&rt, &one, &ANY, &ANY);
 }
 
 // x * x^127 is x^7+x^2+x+1.
 #[test]
-fn x_times_the_highest_power_is_reduced(rt: HostRuntime) -> Result<(), Fail> {
+fn x_times_the_highest_power_is_reduced(rt: HostRuntime) {
     let mut x = [0u8; 16];
     x[0] = 0x40;
     let mut highest = [0u8; 16];
     highest[15] = 0x01;
     let mut want = [0u8; 16];
     want[0] = 0xe1;
-    assert_eq!(rt; ghash_of::<BitMul>(x, &highest).as_slice(), want.as_slice());
-    assert_eq!(rt;
-        ghash_of::<TableMul>(x, &highest).as_slice(),
-        want.as_slice()
-    );
-    let product = BitMul::of(&Block::new(x)).times(&Block::new(highest));
+    has_ghash(&rt, &x, &highest, &want);
+    let block = Block::new(highest);
+    let product = BitMul::of(&Block::new(x)).times(&block);
     assert_eq!(rt; product.bytes().as_slice(), want.as_slice());
-    let product = Mul::of(&Block::new(x)).times(&Block::new(highest));
+    let product = Mul::of(&Block::new(x)).times(&block);
     assert_eq!(rt; product.bytes().as_slice(), want.as_slice());
-    Ok(())
+    let product = PlacedMul::of(&Block::new(x)).times(&block);
+    assert_eq!(rt; product.bytes().as_slice(), want.as_slice());
+    let product = WideMul::of(&Block::new(x)).times(&block);
+    assert_eq!(rt; product.bytes().as_slice(), want.as_slice());
+}
+
+// A multiplier that gives no more than `times` has the methods on words through it.
+#[test]
+fn words_are_multiplied_as_blocks(rt: HostRuntime) {
+    let plain = BitMul::of(&Block::new(ANY));
+    let table = TableMul::of(&Block::new(ANY));
+    let word = u128::from_be_bytes(HASH_KEY);
+    assert_eq!(rt; plain.times_word(word), table.times_word(word));
 }
 
 // The block of ciphertext and the block of lengths of the GCM specification's test case 2.
@@ -68,29 +127,19 @@ const HASH: [u8; 16] = [
     0xf3, 0x8c, 0xbb, 0x1a, 0xd6, 0x92, 0x23, 0xdc, 0xc3, 0x45, 0x7a, 0xe5, 0xb6, 0xb0, 0xf8, 0x85,
 ];
 
-fn ghash_in_pieces<M: Keyed128>() -> [u8; 16] {
-    let mut state = Ghash::<M>::new(&Block::new(HASH_KEY));
-    state.update(&HASHED[..1]);
-    state.update(&HASHED[1..16]);
-    state.pad16();
-    state.update(&HASHED[16..16]);
-    state.update(&HASHED[16..]);
-    *state.finish().bytes()
+#[test]
+fn ghash_of_the_published_blocks(rt: HostRuntime) {
+    has_ghash(&rt, &HASH_KEY, &HASHED, &HASH);
 }
 
 #[test]
-fn ghash_of_the_published_blocks(rt: HostRuntime) -> Result<(), Fail> {
-    assert_eq!(rt;
-        ghash_of::<BitMul>(HASH_KEY, &HASHED).as_slice(),
-        HASH.as_slice()
-    );
-    assert_eq!(rt;
-        ghash_of::<TableMul>(HASH_KEY, &HASHED).as_slice(),
-        HASH.as_slice()
-    );
-    assert_eq!(rt; ghash_in_pieces::<BitMul>().as_slice(), HASH.as_slice());
-    assert_eq!(rt; ghash_in_pieces::<TableMul>().as_slice(), HASH.as_slice());
-    Ok(())
+fn padding_of_whole_blocks_adds_nothing(rt: HostRuntime) {
+    let mut state = Ghash::<Mul>::new(&Block::new(HASH_KEY));
+    state.update(&HASHED[..1]);
+    state.update(&HASHED[1..16]);
+    state.pad16();
+    state.update(&HASHED[16..]);
+    assert_eq!(rt; state.finish().bytes().as_slice(), HASH.as_slice());
 }
 
 // The four blocks of ciphertext and the block of lengths of test case 3.
@@ -111,76 +160,50 @@ const LONGER_HASH: [u8; 16] = [
 ];
 
 #[test]
-fn ghash_of_more_than_four_blocks(rt: HostRuntime) -> Result<(), Fail> {
-    assert_eq!(rt;
-        ghash_of::<BitMul>(LONGER_KEY, &LONGER).as_slice(),
-        LONGER_HASH.as_slice()
-    );
-    assert_eq!(rt;
-        ghash_of::<TableMul>(LONGER_KEY, &LONGER).as_slice(),
-        LONGER_HASH.as_slice()
-    );
-    assert_eq!(rt;
-        ghash_of::<ByteMul>(LONGER_KEY, &LONGER).as_slice(),
-        LONGER_HASH.as_slice()
-    );
-    assert_eq!(rt;
-        ghash_of::<PlacedMul>(LONGER_KEY, &LONGER).as_slice(),
-        LONGER_HASH.as_slice()
-    );
-    assert_eq!(rt;
-        ghash_of::<WideMul>(LONGER_KEY, &LONGER).as_slice(),
-        LONGER_HASH.as_slice()
-    );
-    let key = HashKey::new(&Block::new(LONGER_KEY));
-    let mut state = key.ghash();
-    state.update(&LONGER);
-    assert_eq!(rt; state.finish().bytes().as_slice(), LONGER_HASH.as_slice());
-    let multiplier = WideMul::of(key.key());
-    let mut state = Ghash::with(&multiplier);
-    state.update(&LONGER);
-    assert_eq!(rt; state.finish().bytes().as_slice(), LONGER_HASH.as_slice());
-    assert_eq!(rt;
-        polyval_of::<WideMul>(LONGER_KEY, &LONGER).as_slice(),
-        polyval_of::<BitMul>(LONGER_KEY, &LONGER).as_slice()
-    );
-    Ok(())
+fn ghash_of_more_than_four_blocks(rt: HostRuntime) {
+    has_ghash(&rt, &LONGER_KEY, &LONGER, &LONGER_HASH);
+}
+
+#[test]
+fn polyval_of_more_than_four_blocks(rt: HostRuntime) {
+    let plain = polyval_of::<BitMul>(&LONGER_KEY, &LONGER);
+    has_polyval(&rt, &LONGER_KEY, &LONGER, &plain);
 }
 
 // A short last block counts as one filled with zeros.
 #[test]
-fn a_short_block_is_padded(rt: HostRuntime) -> Result<(), Fail> {
+fn a_short_block_is_padded(rt: HostRuntime) {
     let mut filled = ANY;
     filled[13] = 0;
     filled[14] = 0;
     filled[15] = 0;
-    assert_eq!(rt;
-        ghash_of::<Mul>(HASH_KEY, &ANY[..13]).as_slice(),
-        ghash_of::<BitMul>(HASH_KEY, &filled).as_slice()
+    has_ghash(
+        &rt,
+        &HASH_KEY,
+        &ANY[..13],
+        &ghash_of::<BitMul>(&HASH_KEY, &filled),
     );
-    assert_eq!(rt;
-        polyval_of::<Mul>(HASH_KEY, &ANY[..13]).as_slice(),
-        polyval_of::<BitMul>(HASH_KEY, &filled).as_slice()
+    has_polyval(
+        &rt,
+        &HASH_KEY,
+        &ANY[..13],
+        &polyval_of::<BitMul>(&HASH_KEY, &filled),
     );
-    assert_eq!(rt;
-        ghash_of::<Mul>(HASH_KEY, &[]).as_slice(),
-        [0u8; 16].as_slice()
-    );
-    Ok(())
+}
+
+#[test]
+fn no_text_has_the_hash_of_zeros(rt: HostRuntime) {
+    has_ghash(&rt, &HASH_KEY, &[], &[0; 16]);
+    has_polyval(&rt, &HASH_KEY, &[], &[0; 16]);
 }
 
 // x^128 as a key gives each block back.
 #[test]
-fn polyval_under_x_to_128_is_the_block(rt: HostRuntime) -> Result<(), Fail> {
+fn polyval_under_x_to_128_is_the_block(rt: HostRuntime) {
     let mut key = [0u8; 16];
     key[0] = 0x01;
     key[15] = 0xc2;
-    assert_eq!(rt; polyval_of::<BitMul>(key, &ANY).as_slice(), ANY.as_slice());
-    assert_eq!(rt;
-        polyval_of::<TableMul>(key, &ANY).as_slice(),
-        ANY.as_slice()
-    );
-    Ok(())
+    has_polyval(&rt, &key, &ANY, &ANY);
 }
 
 // RFC 8452, appendix A.
@@ -197,40 +220,15 @@ const POLYVAL: [u8; 16] = [
     0xf7, 0xa3, 0xb4, 0x7b, 0x84, 0x61, 0x19, 0xfa, 0xe5, 0xb7, 0x86, 0x6c, 0xf5, 0xe5, 0xb7, 0x7e,
 ];
 
-fn polyval_in_pieces<M: Keyed128>() -> [u8; 16] {
-    let mut state = Polyval::<M>::new(&Block::new(POLYVAL_KEY));
-    state.update(&POLYVAL_TEXT[..7]);
-    state.update(&POLYVAL_TEXT[7..9]);
-    state.update(&POLYVAL_TEXT[9..]);
-    state.pad16();
-    *state.finish().bytes()
-}
-
 #[test]
-fn polyval_of_the_published_blocks(rt: HostRuntime) -> Result<(), Fail> {
-    assert_eq!(rt;
-        polyval_of::<BitMul>(POLYVAL_KEY, &POLYVAL_TEXT).as_slice(),
-        POLYVAL.as_slice()
-    );
-    assert_eq!(rt;
-        polyval_of::<TableMul>(POLYVAL_KEY, &POLYVAL_TEXT).as_slice(),
-        POLYVAL.as_slice()
-    );
-    assert_eq!(rt;
-        polyval_in_pieces::<BitMul>().as_slice(),
-        POLYVAL.as_slice()
-    );
-    assert_eq!(rt;
-        polyval_in_pieces::<TableMul>().as_slice(),
-        POLYVAL.as_slice()
-    );
-    Ok(())
+fn polyval_of_the_published_blocks(rt: HostRuntime) {
+    has_polyval(&rt, &POLYVAL_KEY, &POLYVAL_TEXT, &POLYVAL);
 }
 
 #[test]
 fn laws_can_be_cited() {
-    ghash_is_one();
-    dot_is_one();
-    polyval_is_one();
+    ghash_is_the_only();
+    dot_is_the_only();
+    polyval_is_the_only();
     polyval_by_ghash();
 }

@@ -3,42 +3,46 @@
 ghost use Rattle.std.specs.Prelude.{List, [], ◌∷◌};
 ghost use Rattle.std.specs.Int.{w128, to_be_bytes};
 ghost use Rattle.octets.specs.Polynomial.{power};
-ghost use Rattle.gf128.specs.Words.{of_word, products, IsReduced};
+ghost use Rattle.gf128.specs.Code.Words.{of_word, products, IsReduced};
 
 use crate::chain::{Chain, times_x64};
 use crate::multiples::Multiples256;
-use crate::words::{block_of, bytes_of, high_half, low_half, word_of};
-use crate::{ByteMul, Keyed128, Multiply};
+use crate::polynomial_word::{block_of, bytes_of, high_half, low_half, word_of};
+use crate::{Keyed128, Multiply};
 use octets::Block;
 
-/// The multiplier that holds 256 multiples of each of the key's first four powers, 16 KiB, and takes four blocks at a
-/// time. It is for a key that is kept.
+/// The multiplier that holds 256 multiples of each of the key's first four powers, 16 KiB, and takes four
+/// blocks at a time. It is for a text of some KiB, or for a key that is kept.
 #[derive(Drop)]
 pub struct WideMul {
-    first: ByteMul,
+    first: Multiples256,
     second: Multiples256,
     third: Multiples256,
     fourth: Multiples256,
-    ghost second_power: { IsReduced (power (of_word first.multiples.word) 2) second.word },
-    ghost third_power: { IsReduced (power (of_word first.multiples.word) 3) third.word },
-    ghost fourth_power: { IsReduced (power (of_word first.multiples.word) 4) fourth.word },
+    ghost second_power: { IsReduced (power (of_word first.word) 2) second.word },
+    ghost third_power: { IsReduced (power (of_word first.word) 3) third.word },
+    ghost fourth_power: { IsReduced (power (of_word first.word) 4) fourth.word },
 }
 
 impl WideMul {
     // The sum of the multiples by four bytes, that of the fourth power first.
     #[inline(always)]
     fn four_multiples(&self, a: u8, b: u8, c: u8, d: u8) -> u128
-        ensures { IsReduced (products 8 ((a, self.now.fourth.word) ∷ (b, self.now.third.word) ∷ (c, self.now.second.word)
-            ∷ (d, self.now.first.multiples.word) ∷ [])) result }
+        ensures { let s = self.now in
+            IsReduced (products 8 ((a, s.fourth.word) ∷ (b, s.third.word) ∷ (c, s.second.word)
+            ∷ (d, s.first.word) ∷ []))
+            result }
     {
-        self.fourth.at(a) ^ (self.third.at(b) ^ (self.second.at(c) ^ self.first.multiples.at(d)))
+        self.fourth.at(a) ^ (self.third.at(b) ^ (self.second.at(c) ^ self.first.at(d)))
     }
 
     // The sum of four half words, the first times the fourth power of the key, the last times the key.
     #[inline(always)]
     fn four_halves(&self, a: u64, b: u64, c: u64, d: u64) -> u128
-        ensures { IsReduced (products 64 ((a, self.now.fourth.word) ∷ (b, self.now.third.word) ∷ (c, self.now.second.word)
-            ∷ (d, self.now.first.multiples.word) ∷ [])) result }
+        ensures { let s = self.now in
+            IsReduced (products 64 ((a, s.fourth.word) ∷ (b, s.third.word) ∷ (c, s.second.word)
+            ∷ (d, s.first.word) ∷ []))
+            result }
     {
         let a_bytes = bytes_of(a);
         let b_bytes = bytes_of(b);
@@ -55,7 +59,7 @@ impl WideMul {
 }
 
 impl Multiply for WideMul {
-    ghost key_bytes = { λ s. to_be_bytes w128 s.first.multiples.word };
+    ghost key_bytes = { λ s. to_be_bytes w128 s.first.word };
 
     fn times(&self, x: &Block) -> Block {
         block_of(self.times_word(word_of(x.bytes())))
@@ -74,8 +78,8 @@ impl Multiply for WideMul {
 
 impl Keyed128 for WideMul {
     fn of(key: &Block) -> WideMul {
-        let first = ByteMul::of(key);
-        let second = first.times_word(first.multiples.word);
+        let first = Multiples256::of(word_of(key.bytes()));
+        let second = first.times_word(first.word);
         let third = first.times_word(second);
         let fourth = first.times_word(third);
         WideMul {

@@ -1,8 +1,10 @@
 -- Words of 128 bits as polynomials.
-use Rattle.std.specs.Prelude.{◌≡◌, ℕ, ◌+◌, ◌-◌, ◌*◌, ◌/◌, ◌%◌, ◌^◌, ◌≤◌, Bool, false, List, [], ◌∷◌, ◌++◌, get_or, map, replicate, bit_xor}
+use Rattle.std.specs.Prelude.{◌≡◌, ℕ, ◌+◌, ◌-◌, ◌*◌, ◌/◌, ◌%◌, ◌^◌, ◌≤◌, Bool, false, List, [], ◌∷◌, ◌++◌}
+use Rattle.std.specs.Prelude.{get_or, map, replicate, bit_xor}
 use Rattle.std.specs.List.{range_with_len}
 use Rattle.octets.specs.Bits.{bit, g}
-use Rattle.octets.specs.Polynomial.{coefficient, Agree, sum, product, power, sum_of_first, residue, IsTheResidue}
+use Rattle.octets.specs.Polynomial.{coefficient, Agree, sum, product, power, sum_of_first, residue}
+use Rattle.octets.specs.Polynomial.{IsTheResidue}
 use Rattle.gf128.specs.Ghash.{ghash_modulus}
 
 -- the polynomial of the w lowest bits of a number: the bit of weight 2^(w-1) is the coefficient of x^0
@@ -37,7 +39,9 @@ products w (p ∷ rest) = sum (product (of_bits w p.0) (of_word p.1)) (products 
 -- the word z is the sum of a * y^4, b * y^3, c * y^2 and d * y in GHASH's field
 unfoldable pub IsFourProducts : ℕ → ℕ → ℕ → ℕ → List ℕ → ℕ → Type 0
 IsFourProducts a b c d y z =
-    Agree (of_word z) (sum_of_first 4 (λ i. residue ghash_modulus (product (of_word (get_or (a ∷ b ∷ c ∷ d ∷ []) i 0)) (power (g y) (4 - i)))))
+    Agree (of_word z) (sum_of_first 4
+    (λ i. residue ghash_modulus (product (of_word (get_or (a ∷ b ∷ c ∷ d ∷ []) i 0))
+    (power (g y) (4 - i)))))
 
 -- the coefficients of GHASH's modulus below x^128, as a word
 abbrev pub reduction : ℕ

@@ -1,6 +1,6 @@
 use Rattle.std.proofs.Common.{ℕ, ◌/◌, ◌^◌, ◌<◌, ◌∙◌, ap, rules}
 use Rattle.octets.specs.Polynomial.{coefficient}
-use Rattle.gf128.specs.Words.{of_word, folded}
+use Rattle.gf128.specs.Code.Words.{of_word, folded}
 use Rattle.gf128.proofs.Chains.{half_moves}
 use Rattle.gf128.proofs.chain.times_x64.Goals as goal
 
@@ -8,4 +8,5 @@ pub returns : goal.returns
 returns c = λ k.
     let n : ℕ = c.args.word in
     let small : n < 2 ^ 128 = search rules in
-    ap (λ (m : ℕ). coefficient (of_word m) k) (c.folded.ensures ∙ ap (folded (n / 2 ^ 64)) c.low_half.ensures) ∙ half_moves n small k
+    ap (λ (m : ℕ). coefficient (of_word m) k) (c.folded.ensures
+    ∙ ap (folded (n / 2 ^ 64)) c.low_half.ensures) ∙ half_moves n small k

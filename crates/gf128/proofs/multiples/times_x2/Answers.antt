@@ -1,5 +1,5 @@
 use Rattle.std.proofs.Common.{◌≡◌, ℕ, ◌^◌, ◌<◌, rules}
-use Rattle.gf128.specs.Words.{IsMoved, times_x}
+use Rattle.gf128.specs.Code.Words.{IsMoved, times_x}
 use Rattle.gf128.proofs.BitParts.{two_moves, times_x_moves}
 use Rattle.gf128.proofs.multiples.times_x2.Goals as goal
 
@@ -12,4 +12,5 @@ returns c =
     let h : ℕ = c.args.word in
     let x1 : ℕ = c.times_x-by_x.result in
     let x2 : ℕ = c.times_x.result in
-    two_moves h x1 x2 (moves h x1 (search rules) c.times_x-by_x.ensures) (moves x1 x2 (search rules) c.times_x.ensures)
+    two_moves h x1 x2 (moves h x1 (search rules) c.times_x-by_x.ensures)
+    (moves x1 x2 (search rules) c.times_x.ensures)

@@ -1,7 +1,8 @@
 use Rattle.std.proofs.Common.{◌∙◌, ap}
-use Rattle.gf128.specs.Words.{of_word}
+use Rattle.gf128.specs.Code.Words.{of_word}
 use Rattle.gf128.proofs.WordLemmas.{of_word-le}
-use Rattle.gf128.proofs.words.reversed_word_of.Goals as goal
+use Rattle.gf128.proofs.polynomial_word.reversed_word_of.Goals as goal
 
 pub returns : goal.returns
-returns c = ap of_word c.from_le_bytes.ensures ∙ of_word-le c.args.block.now (record { length_is = c.told-block; bytes = c.fits-block })
+returns c = ap of_word c.from_le_bytes.ensures ∙ of_word-le c.args.block.now
+    (record { length_is = c.told-block; bytes = c.fits-block })

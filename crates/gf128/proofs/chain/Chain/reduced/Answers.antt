@@ -1,6 +1,6 @@
 use Rattle.std.proofs.Common.{ℕ, ◌^◌, ◌<◌, ◌∙◌, ap, rules}
 use Rattle.octets.specs.Polynomial.{coefficient}
-use Rattle.gf128.specs.Words.{of_word}
+use Rattle.gf128.specs.Code.Words.{of_word}
 use Rattle.gf128.proofs.Chains.{spread_all}
 use Rattle.gf128.proofs.chain.Chain.reduced.Goals as goal
 

@@ -8,4 +8,5 @@ returns c = λ d p q room held is.
     let s : ℕ = c.args.self.spill in
     let lz : z < 2 ^ 128 = search rules in
     let ls : s < 2 ^ 64 = search rules in
-    spread_more 4 d p q z s c.args.multiple (omega arith) (omega arith) lz (omega arith) (omega arith) is held
+    spread_more 4 d p q z s c.args.multiple (omega arith) (omega arith) lz (omega arith) (omega arith) is
+    held

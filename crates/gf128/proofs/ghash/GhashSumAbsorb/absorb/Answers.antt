@@ -1,10 +1,11 @@
-use Rattle.std.proofs.Common.{◌≡◌, ℕ, suc, ◌+◌, ◌*◌, ◌/◌, ◌%◌, ◌<◌, ◌∙◌, ap, sym, arith, List, [], ◌++◌, length, get_or}
+use Rattle.std.proofs.Common.{◌≡◌, ℕ, suc, ◌+◌, ◌*◌, ◌/◌, ◌%◌, ◌<◌, ◌∙◌, ap, sym, arith, List, [], ◌++◌}
+use Rattle.std.proofs.Common.{length, get_or}
 use Rattle.std.proofs.lemmas.List.{length-append}
 use Rattle.octets.specs.Bytes.{block_at}
 use Rattle.octets.specs.Bits.{g}
 use Rattle.octets.proofs.Blocks.{next_block, four_at, after_fours}
 use Rattle.gf128.specs.Ghash.{ghash_sum}
-use Rattle.gf128.specs.Words.{of_word}
+use Rattle.gf128.specs.Code.Words.{of_word}
 use Rattle.gf128.proofs.Sums.{ghash_sum-append, ghash_more, ghash_four}
 use Rattle.gf128.proofs.ghash.GhashSumAbsorb.absorb.Goals as goal
 
@@ -12,7 +13,8 @@ pub fours-init : goal.fours-init
 fours-init x c = λ h m whole held.
     let q : ℕ = length m / 16 in
     let e : q + 0 ≡ q = omega arith in
-    let before : ghash_sum h (m ++ c.args.blocks.now) q ≡ ghash_sum h m q = ghash_sum-append h m c.args.blocks.now q (omega arith) in
+    let before : ghash_sum h (m ++ c.args.blocks.now) q ≡ ghash_sum h m q =
+    ghash_sum-append h m c.args.blocks.now q (omega arith) in
     rw (e, before) held.sum_is
 
 pub fours-preserved : goal.fours-preserved
@@ -20,26 +22,42 @@ fours-preserved x c = λ h m whole held.
     let blocks : List ℕ = c.args.blocks.now in
     let i : ℕ = c.fours.four-index in
     let q : ℕ = length m / 16 in
-    let small : i < length c.as_chunks.result.0.now / 4 = omega (arith, c.fours-test.true, c.as_chunks-2.ensures.front_len) in
-    let read : (j : ℕ) → j < 4 → g (get_or (get_or c.as_chunks-2.result.0.now i []) j []) ≡ g (block_at (m ++ blocks) (q + (i * 4 + j))) = λ j l.
-    ap g (four_at blocks c.as_chunks.result.0.now c.as_chunks-2.result.0.now i j c.as_chunks.ensures.front c.as_chunks.ensures.front_len c.as_chunks-2.ensures.front small l
+    let small : i < length c.as_chunks.result.0.now / 4 =
+    omega (arith, c.fours-test.true, c.as_chunks-2.ensures.front_len) in
+    let read : (j : ℕ) → j < 4 → g (get_or (get_or c.as_chunks-2.result.0.now i []) j [])
+    ≡ g (block_at (m ++ blocks) (q + (i * 4 + j))) = λ j l.
+    ap g (four_at blocks c.as_chunks.result.0.now c.as_chunks-2.result.0.now i j c.as_chunks.ensures.front
+    c.as_chunks.ensures.front_len c.as_chunks-2.ensures.front small l
     ∙ sym (next_block m blocks (i * 4 + j) whole)) in
     let place : (j : ℕ) → q + (i * 4 + j) ≡ q + i * 4 + j = λ j. omega arith in
     let e : suc (suc (suc (suc (q + i * 4)))) ≡ q + (i + 1) * 4 = omega arith in
-    let word : (j k w : ℕ) → j < 4 → q + i * 4 + j ≡ k → of_word w ≡ g (get_or (get_or c.as_chunks-2.result.0.now i []) j []) → of_word w ≡ g (block_at (m ++ blocks) k) = λ j k w l at is.
+    let word : (j k w : ℕ) → j < 4 → q + i * 4 + j ≡ k
+    → of_word w ≡ g (get_or (get_or c.as_chunks-2.result.0.now i []) j [])
+    → of_word w ≡ g (block_at (m ++ blocks) k) = λ j k w l at is.
     is ∙ read j l ∙ ap (λ (n : ℕ). g (block_at (m ++ blocks) n)) (place j ∙ at) in
-    rw e at (ghash_four h (m ++ blocks) c.fours.sum c.word_of.result c.word_of-in-fours.result c.word_of-in-fours-2.result c.word_of-in-fours-3.result c.times_four-sum.result
+    rw e at (ghash_four h (m ++ blocks) c.fours.sum c.word_of.result c.word_of-in-fours.result
+    c.word_of-in-fours-2.result c.word_of-in-fours-3.result c.times_four-sum.result
     (q + i * 4) (c.fours.invariant h m whole held)
     (word 0 (q + i * 4) c.word_of.result (omega arith) (omega arith) c.word_of.ensures)
-    (word 1 (suc (q + i * 4)) c.word_of-in-fours.result (omega arith) (omega arith) c.word_of-in-fours.ensures)
-    (word 2 (suc (suc (q + i * 4))) c.word_of-in-fours-2.result (omega arith) (omega arith) c.word_of-in-fours-2.ensures)
-    (word 3 (suc (suc (suc (q + i * 4)))) c.word_of-in-fours-3.result (omega arith) (omega arith) c.word_of-in-fours-3.ensures)
+    (word 1 (suc (q + i * 4)) c.word_of-in-fours.result (omega arith) (omega arith)
+    c.word_of-in-fours.ensures)
+    (word 2 (suc (suc (q + i * 4))) c.word_of-in-fours-2.result (omega arith) (omega arith)
+    c.word_of-in-fours-2.ensures)
+    (word 3 (suc (suc (suc (q + i * 4)))) c.word_of-in-fours-3.result (omega arith) (omega arith)
+    c.word_of-in-fours-3.ensures)
     (rw held.key_is at c.times_four-sum.ensures))
 
 pub taken-init : goal.taken-init
 taken-init x c = λ h m whole held.
-    let all : length m / 16 + c.fours.four-index * 4 ≡ length m / 16 + length c.args.blocks.now / 16 / 4 * 4 + 0 =
-    omega (arith, c.fours-test.false, c.fours.auto.four-index-end, c.as_chunks.ensures.front_len, c.as_chunks-2.ensures.front_len) in
+    let all : length m / 16 + c.fours.four-index * 4
+    ≡ length m / 16 + length c.args.blocks.now / 16 / 4 * 4 + 0 =
+    omega (
+      arith,
+      c.fours-test.false,
+      c.fours.auto.four-index-end,
+      c.as_chunks.ensures.front_len,
+      c.as_chunks-2.ensures.front_len,
+    ) in
     rw all at (c.fours.invariant h m whole held)
 
 pub taken-preserved : goal.taken-preserved
@@ -48,19 +66,30 @@ taken-preserved x c = λ h m whole held.
     let i : ℕ = c.taken.block-index in
     let n : ℕ = length blocks / 16 / 4 * 4 in
     let q : ℕ = length m / 16 in
-    let small : i < length c.as_chunks.result.0.now % 4 = omega (arith, c.taken-test.true, c.as_chunks-2.ensures.back_len) in
+    let small : i < length c.as_chunks.result.0.now % 4 =
+    omega (arith, c.taken-test.true, c.as_chunks-2.ensures.back_len) in
     let at : q + (n + i) ≡ q + n + i = omega arith in
     let word : of_word c.word_of-in-taken.result ≡ g (block_at (m ++ blocks) (q + n + i)) =
     c.word_of-in-taken.ensures
-    ∙ ap g (after_fours blocks c.as_chunks.result.0.now c.as_chunks-2.result.1.now i c.as_chunks.ensures.front c.as_chunks.ensures.front_len c.as_chunks-2.ensures.back small
+    ∙ ap g (after_fours blocks c.as_chunks.result.0.now c.as_chunks-2.result.1.now i
+    c.as_chunks.ensures.front c.as_chunks.ensures.front_len c.as_chunks-2.ensures.back small
     ∙ sym (next_block m blocks (n + i) whole) ∙ ap (block_at (m ++ blocks)) at) in
     let e : suc (q + n + i) ≡ q + n + (i + 1) = omega arith in
-    rw e at (ghash_more h (m ++ blocks) c.taken.sum c.word_of-in-taken.result c.times_word-sum.result (q + n + i) (c.taken.invariant h m whole held) word
+    rw e at (ghash_more h (m ++ blocks) c.taken.sum c.word_of-in-taken.result c.times_word-sum.result
+    (q + n + i) (c.taken.invariant h m whole held) word
     (rw held.key_is at c.times_word-sum.ensures))
 
 pub returns : goal.returns
 returns x c = λ h m whole held.
     let blocks : List ℕ = c.args.blocks.now in
     let n : length (m ++ blocks) / 16 ≡ length m / 16 + length blocks / 16 / 4 * 4 + c.taken.block-index =
-    omega (arith, length-append m blocks, c.taken-test.false, c.taken.auto.block-index-end, c.as_chunks.ensures.front_len, c.as_chunks-2.ensures.back_len, c.requires) in
+    omega (
+      arith,
+      length-append m blocks,
+      c.taken-test.false,
+      c.taken.auto.block-index-end,
+      c.as_chunks.ensures.front_len,
+      c.as_chunks-2.ensures.back_len,
+      c.requires,
+    ) in
     record { key_is = held.key_is; sum_is = rw n (c.taken.invariant h m whole held) }

@@ -6,4 +6,5 @@ pub returns : goal.returns
 returns c =
     let s = c.args.self.now in
     let n : ℕ = c.args.bits in
-    product_low 4 (n / 16) (n % 16) n s.word (slice_index s.entries (n % 16)) (omega arith) (s.filled (n % 16) (omega arith))
+    product_low 4 (n / 16) (n % 16) n s.word (slice_index s.entries (n % 16)) (omega arith)
+    (s.filled (n % 16) (omega arith))

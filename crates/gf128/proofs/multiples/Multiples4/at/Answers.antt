@@ -6,4 +6,5 @@ pub returns : goal.returns
 returns c =
     let s = c.args.self.now in
     let n : ℕ = c.args.bits in
-    product_low 2 (n / 4) (n % 4) n s.word (slice_index s.entries (n % 4)) (omega arith) (s.filled (n % 4) (omega arith))
+    product_low 2 (n / 4) (n % 4) n s.word (slice_index s.entries (n % 4)) (omega arith)
+    (s.filled (n % 4) (omega arith))

@@ -1,5 +1,5 @@
 use Rattle.std.proofs.Common.{ℕ, ◌^◌, ◌<◌, rules}
-use Rattle.gf128.specs.Words.{IsMoved}
+use Rattle.gf128.specs.Code.Words.{IsMoved}
 use Rattle.gf128.proofs.BitParts.{two_bits, times_x_moves}
 use Rattle.gf128.proofs.multiples.Multiples4.of.Goals as goal
 

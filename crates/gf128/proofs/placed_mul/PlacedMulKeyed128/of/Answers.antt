@@ -10,4 +10,5 @@ invariant_of-result c = record { low_moved = rw (c.of.ensures, c.of-2.ensures) c
 pub returns : goal.returns
 returns c =
     ap (to_be_bytes w128) c.of.ensures
-    ∙ bytes_of_word c.word_of-word.result c.args.key.now c.bytes.ensures.is_block (c.word_of-word.ensures ∙ ap g c.bytes.ensures.value)
+    ∙ bytes_of_word c.word_of-word.result c.args.key.now c.bytes.ensures.is_block (c.word_of-word.ensures
+    ∙ ap g c.bytes.ensures.value)

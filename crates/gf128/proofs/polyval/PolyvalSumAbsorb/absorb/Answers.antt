@@ -1,9 +1,10 @@
-use Rattle.std.proofs.Common.{◌≡◌, ℕ, suc, ◌+◌, ◌*◌, ◌/◌, ◌%◌, ◌<◌, ◌∙◌, ap, sym, arith, List, [], ◌++◌, length, reverse, get_or}
+use Rattle.std.proofs.Common.{◌≡◌, ℕ, suc, ◌+◌, ◌*◌, ◌/◌, ◌%◌, ◌<◌, ◌∙◌, ap, sym, arith, List, [], ◌++◌}
+use Rattle.std.proofs.Common.{length, reverse, get_or}
 use Rattle.std.proofs.lemmas.List.{length-append}
 use Rattle.octets.specs.Bytes.{block_at}
 use Rattle.octets.specs.Bits.{g}
 use Rattle.octets.proofs.Blocks.{next_block, four_at, after_fours}
-use Rattle.gf128.specs.Words.{of_word}
+use Rattle.gf128.specs.Code.Words.{of_word}
 use Rattle.gf128.proofs.PolyvalSums.{polyval_sum-append}
 use Rattle.gf128.proofs.Texts.{polyval_taken, polyval_four}
 use Rattle.gf128.proofs.polyval.PolyvalSumAbsorb.absorb.Goals as goal
@@ -12,33 +13,51 @@ pub fours-init : goal.fours-init
 fours-init x c = λ h m whole held.
     let q : ℕ = length m / 16 in
     let e : q + 0 ≡ q = omega arith in
-    rw e (polyval_sum-append h m c.args.blocks.now q (reverse (of_word c.args.self.now.sum)) (omega arith) held.sum_is)
+    rw e (polyval_sum-append h m c.args.blocks.now q (reverse (of_word c.args.self.now.sum)) (omega arith)
+    held.sum_is)
 
 pub fours-preserved : goal.fours-preserved
 fours-preserved x c = λ h m whole held.
     let blocks : List ℕ = c.args.blocks.now in
     let i : ℕ = c.fours.four-index in
     let q : ℕ = length m / 16 in
-    let small : i < length c.as_chunks.result.0.now / 4 = omega (arith, c.fours-test.true, c.as_chunks-2.ensures.front_len) in
-    let read : (j : ℕ) → j < 4 → g (reverse (get_or (get_or c.as_chunks-2.result.0.now i []) j [])) ≡ g (reverse (block_at (m ++ blocks) (q + (i * 4 + j)))) = λ j l.
-    ap (λ (b : List ℕ). g (reverse b)) (four_at blocks c.as_chunks.result.0.now c.as_chunks-2.result.0.now i j c.as_chunks.ensures.front c.as_chunks.ensures.front_len c.as_chunks-2.ensures.front small l
+    let small : i < length c.as_chunks.result.0.now / 4 =
+    omega (arith, c.fours-test.true, c.as_chunks-2.ensures.front_len) in
+    let read : (j : ℕ) → j < 4 → g (reverse (get_or (get_or c.as_chunks-2.result.0.now i []) j []))
+    ≡ g (reverse (block_at (m ++ blocks) (q + (i * 4 + j)))) = λ j l.
+    ap (λ (b : List ℕ). g (reverse b)) (four_at blocks c.as_chunks.result.0.now c.as_chunks-2.result.0.now i
+    j c.as_chunks.ensures.front c.as_chunks.ensures.front_len c.as_chunks-2.ensures.front small l
     ∙ sym (next_block m blocks (i * 4 + j) whole)) in
     let place : (j : ℕ) → q + (i * 4 + j) ≡ q + i * 4 + j = λ j. omega arith in
     let e : suc (suc (suc (suc (q + i * 4)))) ≡ q + (i + 1) * 4 = omega arith in
-    let word : (j k w : ℕ) → j < 4 → q + i * 4 + j ≡ k → of_word w ≡ g (reverse (get_or (get_or c.as_chunks-2.result.0.now i []) j [])) → of_word w ≡ g (reverse (block_at (m ++ blocks) k)) = λ j k w l at is.
+    let word : (j k w : ℕ) → j < 4 → q + i * 4 + j ≡ k
+    → of_word w ≡ g (reverse (get_or (get_or c.as_chunks-2.result.0.now i []) j []))
+    → of_word w ≡ g (reverse (block_at (m ++ blocks) k)) = λ j k w l at is.
     is ∙ read j l ∙ ap (λ (n : ℕ). g (reverse (block_at (m ++ blocks) n))) (place j ∙ at) in
-    rw e at (polyval_four h (m ++ blocks) (x.M.Multiply.key_bytes c.args.self.now.multiplier) c.fours.sum c.reversed_word_of.result c.reversed_word_of-in-fours.result c.reversed_word_of-in-fours-2.result c.reversed_word_of-in-fours-3.result c.times_four-sum.result
+    rw e at (polyval_four h (m ++ blocks) (x.M.Multiply.key_bytes c.args.self.now.multiplier) c.fours.sum
+    c.reversed_word_of.result c.reversed_word_of-in-fours.result c.reversed_word_of-in-fours-2.result
+    c.reversed_word_of-in-fours-3.result c.times_four-sum.result
     (q + i * 4) held.key_block.length_is held.key_is (c.fours.invariant h m whole held)
     (word 0 (q + i * 4) c.reversed_word_of.result (omega arith) (omega arith) c.reversed_word_of.ensures)
-    (word 1 (suc (q + i * 4)) c.reversed_word_of-in-fours.result (omega arith) (omega arith) c.reversed_word_of-in-fours.ensures)
-    (word 2 (suc (suc (q + i * 4))) c.reversed_word_of-in-fours-2.result (omega arith) (omega arith) c.reversed_word_of-in-fours-2.ensures)
-    (word 3 (suc (suc (suc (q + i * 4)))) c.reversed_word_of-in-fours-3.result (omega arith) (omega arith) c.reversed_word_of-in-fours-3.ensures)
+    (word 1 (suc (q + i * 4)) c.reversed_word_of-in-fours.result (omega arith) (omega arith)
+    c.reversed_word_of-in-fours.ensures)
+    (word 2 (suc (suc (q + i * 4))) c.reversed_word_of-in-fours-2.result (omega arith) (omega arith)
+    c.reversed_word_of-in-fours-2.ensures)
+    (word 3 (suc (suc (suc (q + i * 4)))) c.reversed_word_of-in-fours-3.result (omega arith) (omega arith)
+    c.reversed_word_of-in-fours-3.ensures)
     c.times_four-sum.ensures)
 
 pub taken-init : goal.taken-init
 taken-init x c = λ h m whole held.
-    let all : length m / 16 + c.fours.four-index * 4 ≡ length m / 16 + length c.args.blocks.now / 16 / 4 * 4 + 0 =
-    omega (arith, c.fours-test.false, c.fours.auto.four-index-end, c.as_chunks.ensures.front_len, c.as_chunks-2.ensures.front_len) in
+    let all : length m / 16 + c.fours.four-index * 4
+    ≡ length m / 16 + length c.args.blocks.now / 16 / 4 * 4 + 0 =
+    omega (
+      arith,
+      c.fours-test.false,
+      c.fours.auto.four-index-end,
+      c.as_chunks.ensures.front_len,
+      c.as_chunks-2.ensures.front_len,
+    ) in
     rw all at (c.fours.invariant h m whole held)
 
 pub taken-preserved : goal.taken-preserved
@@ -47,19 +66,38 @@ taken-preserved x c = λ h m whole held.
     let i : ℕ = c.taken.block-index in
     let n : ℕ = length blocks / 16 / 4 * 4 in
     let q : ℕ = length m / 16 in
-    let small : i < length c.as_chunks.result.0.now % 4 = omega (arith, c.taken-test.true, c.as_chunks-2.ensures.back_len) in
+    let small : i < length c.as_chunks.result.0.now % 4 =
+    omega (arith, c.taken-test.true, c.as_chunks-2.ensures.back_len) in
     let at : q + (n + i) ≡ q + n + i = omega arith in
-    let word : of_word c.reversed_word_of-in-taken.result ≡ g (reverse (block_at (m ++ blocks) (q + n + i))) =
+    let word : of_word c.reversed_word_of-in-taken.result
+    ≡ g (reverse (block_at (m ++ blocks) (q + n + i))) =
     c.reversed_word_of-in-taken.ensures
-    ∙ ap (λ (b : List ℕ). g (reverse b)) (after_fours blocks c.as_chunks.result.0.now c.as_chunks-2.result.1.now i c.as_chunks.ensures.front c.as_chunks.ensures.front_len c.as_chunks-2.ensures.back small
+    ∙ ap (λ (b : List ℕ). g (reverse b)) (after_fours blocks c.as_chunks.result.0.now
+    c.as_chunks-2.result.1.now i c.as_chunks.ensures.front c.as_chunks.ensures.front_len
+    c.as_chunks-2.ensures.back small
     ∙ sym (next_block m blocks (n + i) whole) ∙ ap (block_at (m ++ blocks)) at) in
     let e : suc (q + n + i) ≡ q + n + (i + 1) = omega arith in
-    rw e at (polyval_taken h (m ++ blocks) (x.M.Multiply.key_bytes c.args.self.now.multiplier) c.taken.sum c.reversed_word_of-in-taken.result c.times_word-sum.result (q + n + i) held.key_block.length_is held.key_is (c.taken.invariant h m whole held) word
+    rw e at (polyval_taken h (m ++ blocks) (x.M.Multiply.key_bytes c.args.self.now.multiplier) c.taken.sum
+    c.reversed_word_of-in-taken.result c.times_word-sum.result (q + n + i) held.key_block.length_is
+    held.key_is (c.taken.invariant h m whole held) word
     c.times_word-sum.ensures)
 
 pub returns : goal.returns
 returns x c = λ h m whole held.
     let blocks : List ℕ = c.args.blocks.now in
     let n : length (m ++ blocks) / 16 ≡ length m / 16 + length blocks / 16 / 4 * 4 + c.taken.block-index =
-    omega (arith, length-append m blocks, c.taken-test.false, c.taken.auto.block-index-end, c.as_chunks.ensures.front_len, c.as_chunks-2.ensures.back_len, c.requires) in
-    record { key_block = held.key_block; key_is = held.key_is; sum_is = rw n (c.taken.invariant h m whole held) }
+    omega (
+      arith,
+      length-append m blocks,
+      c.taken-test.false,
+      c.taken.auto.block-index-end,
+      c.as_chunks.ensures.front_len,
+      c.as_chunks-2.ensures.back_len,
+      c.requires,
+    ) in
+    record {
+      key_block = held.key_block;
+      key_is = held.key_is;
+      sum_is =
+          rw n (c.taken.invariant h m whole held);
+    }

@@ -1,6 +1,6 @@
 use Rattle.std.proofs.Common.{ℕ, List, [], Bool, bit_xor}
 use Rattle.octets.specs.Polynomial.{sum, product}
-use Rattle.gf128.specs.Words.{of_bits, of_word}
+use Rattle.gf128.specs.Code.Words.{of_bits, of_word}
 use Rattle.gf128.proofs.BitParts.{reduced_sum}
 use Rattle.gf128.proofs.FourProducts.{last_product}
 use Rattle.gf128.proofs.wide_mul.WideMul.four_multiples.Goals as goal
@@ -12,8 +12,10 @@ returns c =
     let first : List Bool = part c.args.a s.fourth.word in
     let second : List Bool = part c.args.b s.third.word in
     let third : List Bool = part c.args.c s.second.word in
-    let last : List Bool = part c.args.d s.first.multiples.word in
+    let last : List Bool = part c.args.d s.first.word in
     let t : ℕ = bit_xor c.at-3.result c.at-4.result in
-    reduced_sum first (sum second (sum third (sum last []))) c.at.result (bit_xor c.at-2.result t) c.at.ensures
+    reduced_sum first (sum second (sum third (sum last []))) c.at.result (bit_xor c.at-2.result t)
+    c.at.ensures
     (reduced_sum second (sum third (sum last [])) c.at-2.result t c.at-2.ensures
-    (reduced_sum third (sum last []) c.at-3.result c.at-4.result c.at-3.ensures (last_product last c.at-4.result c.at-4.ensures)))
+    (reduced_sum third (sum last []) c.at-3.result c.at-4.result c.at-3.ensures
+    (last_product last c.at-4.result c.at-4.ensures)))
