@@ -1,9 +1,12 @@
 -- Bytes with the key stream XORed in, one run after the other.
-use Rattle.std.proofs.Common.{◌≡◌, ℕ, suc, ◌+◌, ◌-◌, ◌*◌, ◌/◌, ◌%◌, ◌<◌, ◌≤◌, bit_xor, refl, sym, ap, ap₂, ◌∙◌, arith}
-use Rattle.std.proofs.Common.{zero, List, [], ◌∷◌, ◌++◌, length, length-append, take, drop, get_or, min, flat_map, append_assoc, replicate}
+use Rattle.std.proofs.Common.{◌≡◌, ℕ, suc, ◌+◌, ◌-◌, ◌*◌, ◌/◌, ◌%◌, ◌<◌, ◌≤◌, bit_xor, refl, sym, ap, ap₂}
+use Rattle.std.proofs.Common.{◌∙◌, arith}
+use Rattle.std.proofs.Common.{zero, List, [], ◌∷◌, ◌++◌, length, length-append, take, drop, get_or, min}
+use Rattle.std.proofs.Common.{flat_map, append_assoc, replicate}
 use Rattle.std.specs.Simd.Lanes.{Each1}
 use Rattle.std.specs.Int.Bits.{xor_zero_l}
-use Rattle.std.proofs.lemmas.List.{get_or-take, get_or-drop, get_or_append_left, get_or-append_right, length-take-le, length-drop}
+use Rattle.std.proofs.lemmas.List.{get_or-take, get_or-drop, get_or_append_left, get_or-append_right}
+use Rattle.std.proofs.lemmas.List.{length-take-le, length-drop}
 use Rattle.std.proofs.lemmas.List.{take_at, drop_at, drop-drop, take_all, drop_all, append-nil}
 use Rattle.std.proofs.Math.Seq.{take-add}
 use Rattle.std.proofs.lemmas.Simd.{length-replicate, get_or-replicate}
@@ -12,12 +15,13 @@ use Rattle.octets.specs.Bytes.{xor_bytes}
 use Rattle.octets.specs.Masked.{masked}
 use Rattle.octets.proofs.Masks.{length-masked, masked-append, xor_bytes-masked}
 use Rattle.chacha.specs.Block.{serialized, block}
-use Rattle.chacha.specs.Lanes.{lane, HasBlocks}
+use Rattle.chacha.specs.Code.Lanes.{lane, HasBlocks}
 use Rattle.chacha.specs.Stream.{key_stream_byte}
 use Rattle.chacha.proofs.Lengths.{length-block}
 
 -- streams that agree from two places on
-pub masked_same : (f g : ℕ → ℕ) (p q : ℕ) (xs : List ℕ) → ((j : ℕ) → f (p + j) ≡ g (q + j)) → masked f p xs ≡ masked g q xs
+pub masked_same : (f g : ℕ → ℕ) (p q : ℕ) (xs : List ℕ) → ((j : ℕ) → f (p + j) ≡ g (q + j))
+    → masked f p xs ≡ masked g q xs
 unfolding masked
 masked_same f g p q [] same = refl
 masked_same f g p q (x ∷ xs) same =
@@ -39,7 +43,8 @@ key_stream_byte-first key nonce first made i =
     ap₂ (λ (c j : ℕ). get_or (block key c nonce) j 0) counter place
 
 -- the bytes of a block are the first ones of the key stream from its counter on
-pub block_bytes : (key nonce : List ℕ) (c i : ℕ) → i < 64 → get_or (block key c nonce) i 0 ≡ key_stream_byte key nonce c i
+pub block_bytes : (key nonce : List ℕ) (c i : ℕ) → i < 64 → get_or (block key c nonce) i 0
+    ≡ key_stream_byte key nonce c i
 unfolding key_stream_byte
 block_bytes key nonce c i below =
     let counter : c ≡ c + i / 64 = omega arith in
@@ -52,15 +57,18 @@ byte_of_blocks : (bs : List (List ℕ)) (q r : ℕ) → Each1 (λ b. length b �
 byte_of_blocks [] q r long there below = absurd (omega arith)
 byte_of_blocks (b ∷ bs) zero r long there below =
     let first : 64 * 0 + r ≡ r = omega arith in
-    ap (λ (n : ℕ). get_or (b ++ flat_map (λ x. x) bs) n 0) first ∙ get_or_append_left b (flat_map (λ x. x) bs) 0 r (omega (arith, long.0))
+    ap (λ (n : ℕ). get_or (b ++ flat_map (λ x. x) bs) n 0) first ∙ get_or_append_left b
+    (flat_map (λ x. x) bs) 0 r (omega (arith, long.0))
 byte_of_blocks (b ∷ bs) (suc q) r long there below =
     let rest : 64 * suc q + r - 64 ≡ 64 * q + r = omega arith in
     get_or-append_right b (flat_map (λ x. x) bs) 64 (64 * suc q + r) 0 long.0 (omega arith)
-    ∙ ap (λ (n : ℕ). get_or (flat_map (λ x. x) bs) n 0) rest ∙ byte_of_blocks bs q r long.1 (omega arith) below
+    ∙ ap (λ (n : ℕ). get_or (flat_map (λ x. x) bs) n 0) rest ∙ byte_of_blocks bs q r long.1 (omega arith)
+    below
 
 -- the blocks of four counters, by their place
 block_of_four : (key nonce : List ℕ) (c q : ℕ) → q < 4
-    → get_or (block key c nonce ∷ block key (c + 1) nonce ∷ block key (c + 2) nonce ∷ block key (c + 3) nonce ∷ []) q [] ≡ block key (c + q) nonce
+    → get_or (block key c nonce ∷ block key (c + 1) nonce ∷ block key (c + 2) nonce
+    ∷ block key (c + 3) nonce ∷ []) q [] ≡ block key (c + q) nonce
 block_of_four key nonce c zero h =
     let first : c ≡ c + 0 = omega arith in
     ap (λ (n : ℕ). block key n nonce) first
@@ -71,38 +79,46 @@ block_of_four key nonce c (suc (suc (suc (suc q)))) h = absurd (omega arith)
 
 -- four blocks are the first bytes of the key stream from their counter on
 pub four_blocks_bytes : (key nonce : List ℕ) (c i : ℕ) → i < 256
-    → get_or (flat_map (λ (b : List ℕ). b) (block key c nonce ∷ block key (c + 1) nonce ∷ block key (c + 2) nonce ∷ block key (c + 3) nonce ∷ [])) i 0
+    → get_or (flat_map (λ (b : List ℕ). b) (block key c nonce ∷ block key (c + 1) nonce
+    ∷ block key (c + 2) nonce ∷ block key (c + 3) nonce ∷ [])) i 0
     ≡ key_stream_byte key nonce c i
 unfolding key_stream_byte
 four_blocks_bytes key nonce c i below =
-    let bs = block key c nonce ∷ block key (c + 1) nonce ∷ block key (c + 2) nonce ∷ block key (c + 3) nonce ∷ [] in
+    let bs = block key c nonce ∷ block key (c + 1) nonce ∷ block key (c + 2) nonce ∷ block key (c + 3) nonce
+    ∷ [] in
     let size = λ (n : ℕ). length-block key n nonce in
     let whole : i ≡ 64 * (i / 64) + i % 64 = omega arith in
     ap (λ (n : ℕ). get_or (flat_map (λ (b : List ℕ). b) bs) n 0) whole
-    ∙ byte_of_blocks bs (i / 64) (i % 64) (size c, (size (c + 1), (size (c + 2), (size (c + 3), tt {0})))) (omega arith) (omega arith)
+    ∙ byte_of_blocks bs (i / 64) (i % 64) (size c, (size (c + 1), (size (c + 2), (size (c + 3), tt {0}))))
+    (omega arith) (omega arith)
     ∙ ap (λ (b : List ℕ). get_or b (i % 64) 0) (block_of_four key nonce c (i / 64) (omega arith))
 
 -- a zero becomes the byte of the stream
-masked_zero : (f : ℕ → ℕ) (at i k : ℕ) (xs : List ℕ) → i < length xs → get_or xs i 0 ≡ 0 → k ≡ at + i → get_or (masked f at xs) i 0 ≡ f k
+masked_zero : (f : ℕ → ℕ) (at i k : ℕ) (xs : List ℕ) → i < length xs → get_or xs i 0 ≡ 0 → k ≡ at + i
+    → get_or (masked f at xs) i 0 ≡ f k
 unfolding masked
 masked_zero f at i k [] below is_zero e = absurd (omega arith)
 masked_zero f at zero k (x ∷ xs) below is_zero e =
     let same : at ≡ k = omega arith in
     ap (λ (y : ℕ). bit_xor y (f at)) is_zero ∙ xor_zero_l (f at) ∙ ap f same
-masked_zero f at (suc i) k (x ∷ xs) below is_zero e = masked_zero f (suc at) i k xs (omega arith) is_zero (omega arith)
+masked_zero f at (suc i) k (x ∷ xs) below is_zero e = masked_zero f (suc at) i k xs (omega arith) is_zero
+    (omega arith)
 
 -- the words of a block, written out, are XORed into the bytes at its place in the key stream
-block_masked : (key nonce : List ℕ) (c j at : ℕ) (xs words : List ℕ) → length xs ≡ 64 → at ≡ 64 * j → words ≡ block key (c + j) nonce
+block_masked : (key nonce : List ℕ) (c j at : ℕ) (xs words : List ℕ) → length xs ≡ 64 → at ≡ 64 * j
+    → words ≡ block key (c + j) nonce
     → xor_bytes xs words ≡ masked (key_stream_byte key nonce c) at xs
 unfolding key_stream_byte
 block_masked key nonce c j at xs words size is_at is_block =
-    xor_bytes-masked (key_stream_byte key nonce c) at xs words (ap length is_block ∙ length-block key (c + j) nonce ∙ sym size) (λ i l.
+    xor_bytes-masked (key_stream_byte key nonce c) at xs words (ap length is_block
+    ∙ length-block key (c + j) nonce ∙ sym size) (λ i l.
     let counter : c + j ≡ c + (at + i) / 64 = omega arith in
     let place : i ≡ (at + i) % 64 = omega arith in
     ap (λ b. get_or b i 0) is_block ∙ ap₂ (λ (n k : ℕ). get_or (block key n nonce) k 0) counter place)
 
 -- four blocks, one after the other
-pub four_masked : (key nonce : List ℕ) (c : ℕ) (x : List (List ℕ)) (a b d e now_a now_b now_d now_e : List ℕ) → HasBlocks 4 x key c nonce
+pub four_masked : (key nonce : List ℕ) (c : ℕ) (x : List (List ℕ)) (a b d e now_a now_b now_d now_e : List
+    ℕ) → HasBlocks 4 x key c nonce
     → length a ≡ 64 → length b ≡ 64 → length d ≡ 64 → length e ≡ 64
     → now_a ≡ xor_bytes a (serialized (lane 0 x)) → now_b ≡ xor_bytes b (serialized (lane 1 x))
     → now_d ≡ xor_bytes d (serialized (lane 2 x)) → now_e ≡ xor_bytes e (serialized (lane 3 x))
@@ -112,17 +128,25 @@ four_masked key nonce c x a b d e now_a now_b now_d now_e has a64 b64 d64 e64 is
     let at_b : 0 + length a ≡ 64 = omega (arith, a64) in
     let at_d : 0 + length (a ++ b) ≡ 128 = omega (arith, a64, b64, length-append a b) in
     let at_e : 128 + length d ≡ 192 = omega (arith, d64) in
-    let first : now_a ≡ masked f 0 a = is_a ∙ block_masked key nonce c 0 0 a _ a64 refl (has 0 (omega arith)) in
-    let second : now_b ≡ masked f 64 b = is_b ∙ block_masked key nonce c 1 64 b _ b64 refl (has 1 (omega arith)) in
-    let third : now_d ≡ masked f 128 d = is_d ∙ block_masked key nonce c 2 128 d _ d64 refl (has 2 (omega arith)) in
-    let fourth : now_e ≡ masked f 192 e = is_e ∙ block_masked key nonce c 3 192 e _ e64 refl (has 3 (omega arith)) in
+    let first : now_a ≡ masked f 0 a = is_a ∙ block_masked key nonce c 0 0 a _ a64 refl
+    (has 0 (omega arith)) in
+    let second : now_b ≡ masked f 64 b = is_b ∙ block_masked key nonce c 1 64 b _ b64 refl
+    (has 1 (omega arith)) in
+    let third : now_d ≡ masked f 128 d = is_d ∙ block_masked key nonce c 2 128 d _ d64 refl
+    (has 2 (omega arith)) in
+    let fourth : now_e ≡ masked f 192 e = is_e ∙ block_masked key nonce c 3 192 e _ e64 refl
+    (has 3 (omega arith)) in
     ap₂ (λ (y z : List ℕ). y ++ z)
-    (ap₂ (λ (y z : List ℕ). y ++ z) first second ∙ sym (masked-append f 0 a b ∙ ap (λ (n : ℕ). masked f 0 a ++ masked f n b) at_b))
-    (ap₂ (λ (y z : List ℕ). y ++ z) third fourth ∙ sym (masked-append f 128 d e ∙ ap (λ (n : ℕ). masked f 128 d ++ masked f n e) at_e))
-    ∙ sym (masked-append f 0 (a ++ b) (d ++ e) ∙ ap (λ (n : ℕ). masked f 0 (a ++ b) ++ masked f n (d ++ e)) at_d)
+    (ap₂ (λ (y z : List ℕ). y ++ z) first second
+    ∙ sym (masked-append f 0 a b ∙ ap (λ (n : ℕ). masked f 0 a ++ masked f n b) at_b))
+    (ap₂ (λ (y z : List ℕ). y ++ z) third fourth ∙ sym (masked-append f 128 d e
+    ∙ ap (λ (n : ℕ). masked f 128 d ++ masked f n e) at_e))
+    ∙ sym (masked-append f 0 (a ++ b) (d ++ e) ∙ ap (λ (n : ℕ). masked f 0 (a ++ b) ++ masked f n (d ++ e))
+    at_d)
 
 -- what stands after the first four blocks
-pub four_later : (key nonce : List ℕ) (c : ℕ) (xs : List ℕ) → masked (key_stream_byte key nonce (c + 4)) 0 xs ≡ masked (key_stream_byte key nonce c) 256 xs
+pub four_later : (key nonce : List ℕ) (c : ℕ) (xs : List ℕ)
+    → masked (key_stream_byte key nonce (c + 4)) 0 xs ≡ masked (key_stream_byte key nonce c) 256 xs
 unfolding key_stream_byte
 four_later key nonce c xs =
     masked_same (key_stream_byte key nonce (c + 4)) (key_stream_byte key nonce c) 0 256 xs (λ j.
@@ -138,9 +162,11 @@ whole_blocks key nonce p xs begins =
     let place : p / 64 * 64 + 0 + j ≡ p + j = omega arith in
     sym (key_stream_byte-first key nonce (p / 64) 0 j) ∙ ap (key_stream_byte key nonce 0) place)
 
--- a run of bytes, from a place on: what is XORed into them begins within the key stream from the counter of that place on
+-- a run of bytes, from a place on: what is XORed into them begins within the key stream from the counter of
+-- that place on
 run_of_stream : (key nonce : List ℕ) (p size n : ℕ) (bytes stream now : List ℕ) → length stream ≡ size
-    → ((i : ℕ) → i < size → get_or stream i 0 ≡ key_stream_byte key nonce (p / 64) i) → n ≡ min (length stream - p % 64) (length bytes)
+    → ((i : ℕ) → i < size → get_or stream i 0 ≡ key_stream_byte key nonce (p / 64) i)
+    → n ≡ min (length stream - p % 64) (length bytes)
     → now ≡ xor_bytes (take n bytes) (take n (drop (p % 64) stream)) ++ drop n bytes
     → now ≡ masked (key_stream_byte key nonce 0) p (take n bytes) ++ drop n bytes
 run_of_stream key nonce p size n bytes stream now long same least is_now =
@@ -152,7 +178,8 @@ run_of_stream key nonce p size n bytes stream now long same least is_now =
     ∙ ap (λ l. l ++ drop n bytes)
     (xor_bytes-masked (key_stream_byte key nonce 0) p (take n bytes) part (room ∙ sym whole) (λ j l.
     let place : p / 64 * 64 + s + j ≡ p + j = omega arith in
-    get_or-take n (drop s stream) j 0 (omega (arith, whole)) ∙ get_or-drop s stream j 0 ∙ same (s + j) (omega (arith, l, whole))
+    get_or-take n (drop s stream) j 0 (omega (arith, whole)) ∙ get_or-drop s stream j 0
+    ∙ same (s + j) (omega (arith, l, whole))
     ∙ sym (key_stream_byte-first key nonce (p / 64) s j) ∙ ap (key_stream_byte key nonce 0) place))
 
 -- where it is zeros with the key stream XORed in
@@ -164,16 +191,19 @@ pub run_of_zeros : (key nonce : List ℕ) (p size n : ℕ) (bytes stream now : L
 run_of_zeros key nonce p size n bytes stream now is_stream long =
     run_of_stream key nonce p size n bytes stream now long (λ i l.
     ap (λ s. get_or s i 0) is_stream
-    ∙ masked_zero (key_stream_byte key nonce (p / 64)) 0 i i (replicate size 0) (omega (arith, l, length-replicate {A = ℕ} size 0))
+    ∙ masked_zero (key_stream_byte key nonce (p / 64)) 0 i i (replicate size 0)
+    (omega (arith, l, length-replicate {A = ℕ} size 0))
     (get_or-replicate size i 0 0 l) (omega arith))
 
 -- where it is a block
-pub run_of_block : (key nonce : List ℕ) (p n : ℕ) (bytes stream now : List ℕ) → stream ≡ block key (p / 64) nonce
+pub run_of_block : (key nonce : List ℕ) (p n : ℕ) (bytes stream now : List ℕ)
+    → stream ≡ block key (p / 64) nonce
     → n ≡ min (length stream - p % 64) (length bytes)
     → now ≡ xor_bytes (take n bytes) (take n (drop (p % 64) stream)) ++ drop n bytes
     → now ≡ masked (key_stream_byte key nonce 0) p (take n bytes) ++ drop n bytes
 run_of_block key nonce p n bytes stream now is_block =
-    run_of_stream key nonce p 64 n bytes stream now (ap length is_block ∙ length-block key (p / 64) nonce) (λ i l.
+    run_of_stream key nonce p 64 n bytes stream now (ap length is_block ∙ length-block key (p / 64) nonce)
+    (λ i l.
     ap (λ s. get_or s i 0) is_block ∙ block_bytes key nonce (p / 64) i l)
 
 -- no run yet
@@ -196,16 +226,20 @@ run_more f p a k r was mid now whole room held done =
     let back : drop a mid ≡ d = ap (drop a) held ∙ drop_at (masked f p u) d a size in
     let part : take k (drop a mid) ≡ d = ap (take k) back ∙ take_all k d long in
     let none : drop k (drop a mid) ≡ [] = ap (drop k) back ∙ drop_all k d long in
-    let new : now ≡ masked f (p + a) (take r d) ++ drop r d = done ∙ ap (λ l. masked f (p + a) (take r l) ++ drop r l) part in
+    let new : now ≡ masked f (p + a) (take r d) ++ drop r d = done ∙ ap (λ l. masked f (p + a) (take r l)
+    ++ drop r l) part in
     let end : now ++ drop k (drop a mid) ≡ masked f (p + a) (take r d) ++ drop r d =
     ap₂ (λ (x y : List ℕ). x ++ y) new none ∙ append-nil (masked f (p + a) (take r d) ++ drop r d) in
     let taken : masked f p (take (a + r) was) ≡ masked f p u ++ masked f (p + a) (take r d) =
-    ap (masked f p) (take-add a r was) ∙ masked-append f p u (take r d) ∙ ap (λ (n : ℕ). masked f p u ++ masked f (p + n) (take r d)) len in
-    ap₂ (λ (x y : List ℕ). x ++ y) front end ∙ sym (append_assoc (masked f p u) (masked f (p + a) (take r d)) (drop r d))
+    ap (masked f p) (take-add a r was) ∙ masked-append f p u (take r d) ∙ ap (λ (n : ℕ). masked f p u
+    ++ masked f (p + n) (take r d)) len in
+    ap₂ (λ (x y : List ℕ). x ++ y) front end
+    ∙ sym (append_assoc (masked f p u) (masked f (p + a) (take r d)) (drop r d))
     ∙ ap₂ (λ (x y : List ℕ). x ++ y) (sym taken) (drop-drop r a was)
 
 -- all runs
-pub all_runs : (f : ℕ → ℕ) (p n : ℕ) (was : List ℕ) → length was ≤ n → masked f p (take n was) ++ drop n was ≡ masked f p was
+pub all_runs : (f : ℕ → ℕ) (p n : ℕ) (was : List ℕ) → length was ≤ n → masked f p (take n was) ++ drop n was
+    ≡ masked f p was
 all_runs f p n was whole =
     let taken : take n was ≡ was = take_all n was whole in
     let rest : drop n was ≡ [] = drop_all n was whole in

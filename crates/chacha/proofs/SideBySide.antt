@@ -1,7 +1,9 @@
 -- States side by side, lane by lane.
-use Rattle.std.proofs.Common.{◌≡◌, ℕ, zero, suc, ◌+◌, ◌-◌, ◌*◌, ◌/◌, ◌%◌, ◌^◌, ◌<◌, Fits, bit_or, bit_xor, refl, sym, ap, ap₂, ◌∙◌, arith}
+use Rattle.std.proofs.Common.{◌≡◌, ℕ, zero, suc, ◌+◌, ◌-◌, ◌*◌, ◌/◌, ◌%◌, ◌^◌, ◌<◌, Fits, bit_or, bit_xor}
+use Rattle.std.proofs.Common.{refl, sym, ap, ap₂, ◌∙◌, arith}
 use Rattle.std.proofs.Common.{List, [], ◌∷◌, ◌++◌, length, get_or, set, take, drop, map, replicate}
-use Rattle.std.proofs.lemmas.List.{map-set, length-map, get_or-map, take_all, take_at, take_more, take_more_set, drop_all, drop_at, drop-drop}
+use Rattle.std.proofs.lemmas.List.{map-set, length-map, get_or-map, take_all, take_at, take_more}
+use Rattle.std.proofs.lemmas.List.{take_more_set, drop_all, drop_at, drop-drop}
 use Rattle.std.proofs.lemmas.List.{append-nil, length-take-le}
 use Rattle.std.proofs.Math.ListN.{get_or-map as get_or-map_any}
 use Rattle.std.proofs.lemmas.Simd.{zip2_splat, zip2-map}
@@ -11,8 +13,9 @@ use Rattle.std.specs.Int.Bits.{xor_zero_l}
 use Rattle.std.specs.Int.{w32, rotate_left, to_le_bytes}
 use Rattle.octets.specs.Bytes.{xor_bytes}
 use Rattle.octets.proofs.Xors.{length-xor_bytes}
-use Rattle.chacha.specs.Block.{add_xor_rotate, double_rounds, added, serialized, block_from, initial_state, block}
-use Rattle.chacha.specs.Lanes.{lane}
+use Rattle.chacha.specs.Block.{add_xor_rotate, double_rounds, added, serialized, block_from, initial_state}
+use Rattle.chacha.specs.Block.{block}
+use Rattle.chacha.specs.Code.Lanes.{lane}
 use Rattle.chacha.proofs.Words.{serialized-append, four_bytes}
 use Rattle.chacha.proofs.Lengths.{length-serialized}
 
@@ -27,7 +30,8 @@ shifts_rotate v lanes n j long below low high =
     let left : n ≡ n % 32 = omega arith in
     let right : 32 - n ≡ (32 - n % 32) % 32 = omega arith in
     ap (λ l. get_or l j 0)
-    (ap₂ (zip2 bit_or) (zip2_splat (λ (x k : ℕ). x * 2 ^ k % 2 ^ 32) v lanes n long) (zip2_splat (λ (x k : ℕ). x / 2 ^ k) v lanes (32 - n) long)
+    (ap₂ (zip2 bit_or) (zip2_splat (λ (x k : ℕ). x * 2 ^ k % 2 ^ 32) v lanes n long)
+    (zip2_splat (λ (x k : ℕ). x / 2 ^ k) v lanes (32 - n) long)
     ∙ zip2-map bit_or up down v)
     ∙ get_or-map (λ (x : ℕ). bit_or (up x) (down x)) v j 0 0 (omega arith)
     ∙ ap₂ (λ (s t : ℕ). bit_or (get_or v j 0 * 2 ^ s % 2 ^ 32) (get_or v j 0 / 2 ^ t)) left right
@@ -41,7 +45,8 @@ unfolding lane add_xor_rotate
 lane-step x sum turned a b d n j is_sum is_turned =
     let f : List ℕ → ℕ = λ v. get_or v j 0 in
     let at : (k : ℕ) → f (get_or x k []) ≡ get_or (map f x) k 0 = λ k. sym (get_or-map_any f x k []) in
-    let s : f sum ≡ (get_or (map f x) a 0 + get_or (map f x) b 0) % 2 ^ 32 = is_sum ∙ ap₂ (λ (y z : ℕ). (y + z) % 2 ^ 32) (at a) (at b) in
+    let s : f sum ≡ (get_or (map f x) a 0 + get_or (map f x) b 0) % 2 ^ 32 =
+    is_sum ∙ ap₂ (λ (y z : ℕ). (y + z) % 2 ^ 32) (at a) (at b) in
     map-set f (set x a sum) d turned ∙ ap (λ l. set l d (f turned)) (map-set f x a sum)
     ∙ ap₂ (λ (y z : ℕ). set (set (map f x) a y) d z) s
     (is_turned ∙ ap₂ (λ (y z : ℕ). rotate_left w32 (bit_xor y z) n) (at d) s)
@@ -57,7 +62,8 @@ unfolding lane
 get_or-lane j x i = get_or-map_any (λ (v : List ℕ). get_or v j 0) x i []
 
 -- a vector is replaced
-pub lane-set : (j : ℕ) (x : List (List ℕ)) (i : ℕ) (v : List ℕ) → lane j (set x i v) ≡ set (lane j x) i (get_or v j 0)
+pub lane-set : (j : ℕ) (x : List (List ℕ)) (i : ℕ) (v : List ℕ)
+    → lane j (set x i v) ≡ set (lane j x) i (get_or v j 0)
 unfolding lane
 lane-set j x i v = map-set (λ (w : List ℕ). get_or w j 0) x i v
 
@@ -67,10 +73,12 @@ pub lane-sum : (x start : List (List ℕ)) (sum : List ℕ) (i j : ℕ)
     → lane j (set x i sum) ≡ set (lane j x) i ((get_or (lane j x) i 0 + get_or (lane j start) i 0) % 2 ^ 32)
 lane-sum x start sum i j is_sum =
     lane-set j x i sum
-    ∙ ap (set (lane j x) i) (is_sum ∙ ap₂ (λ (y z : ℕ). (y + z) % 2 ^ 32) (sym (get_or-lane j x i)) (sym (get_or-lane j start i)))
+    ∙ ap (set (lane j x) i) (is_sum ∙ ap₂ (λ (y z : ℕ). (y + z) % 2 ^ 32) (sym (get_or-lane j x i))
+    (sym (get_or-lane j start i)))
 
 -- the lowest four digits to the base 256 of a number whose lowest 32 bits are a word
-word_digits : (w r n : ℕ) → w < 2 ^ 32 → digits_l 256 (suc (suc (suc (suc n)))) (w + 2 ^ 32 * r) ≡ to_le_bytes w32 w ++ digits_l 256 n r
+word_digits : (w r n : ℕ) → w < 2 ^ 32 → digits_l 256 (suc (suc (suc (suc n)))) (w + 2 ^ 32 * r)
+    ≡ to_le_bytes w32 w ++ digits_l 256 n r
 word_digits w r n small =
     let x : ℕ = w + 2 ^ 32 * r in
     let e0 : x % 256 ≡ w % 256 = omega arith in
@@ -81,7 +89,8 @@ word_digits w r n small =
     λ k. e0 k ∷ e1 k ∷ e2 k ∷ e3 k ∷ digits_l 256 n (e4 k)
 
 -- any number of them
-digits-serialized : (v : List ℕ) → Each1 (Fits w32) v → digits_l 256 (4 * length v) (number_l (2 ^ 32) v) ≡ serialized v
+digits-serialized : (v : List ℕ) → Each1 (Fits w32) v → digits_l 256 (4 * length v) (number_l (2 ^ 32) v)
+    ≡ serialized v
 unfolding serialized
 digits-serialized [] fit = refl
 digits-serialized (w ∷ v) fit =
@@ -91,18 +100,21 @@ digits-serialized (w ∷ v) fit =
     ∙ ap (λ l. to_le_bytes w32 w ++ l) (digits-serialized v fit.1)
 
 -- four lanes of words written out as bytes
-pub four_serialized : (v : List ℕ) → length v ≡ 4 → Each1 (Fits w32) v → digits_l 256 16 (number_l (2 ^ 32) v) ≡ serialized v
+pub four_serialized : (v : List ℕ) → length v ≡ 4 → Each1 (Fits w32) v
+    → digits_l 256 16 (number_l (2 ^ 32) v) ≡ serialized v
 four_serialized v long fit =
     let whole : 16 ≡ 4 * length v = omega arith in
     ap (λ (n : ℕ). digits_l 256 n (number_l (2 ^ 32) v)) whole ∙ digits-serialized v fit
 
 -- two XORs, one after the other
-xor_bytes-append : (xs ys zs ws : List ℕ) → length xs ≡ length ys → xor_bytes (xs ++ zs) (ys ++ ws) ≡ xor_bytes xs ys ++ xor_bytes zs ws
+xor_bytes-append : (xs ys zs ws : List ℕ) → length xs ≡ length ys → xor_bytes (xs ++ zs) (ys ++ ws)
+    ≡ xor_bytes xs ys ++ xor_bytes zs ws
 unfolding xor_bytes
 xor_bytes-append [] [] zs ws same = refl
 xor_bytes-append [] (y ∷ ys) zs ws same = absurd (omega arith)
 xor_bytes-append (x ∷ xs) [] zs ws same = absurd (omega arith)
-xor_bytes-append (x ∷ xs) (y ∷ ys) zs ws same = ap (λ l. bit_xor x y ∷ l) (xor_bytes-append xs ys zs ws (omega arith))
+xor_bytes-append (x ∷ xs) (y ∷ ys) zs ws same =
+    ap (λ l. bit_xor x y ∷ l) (xor_bytes-append xs ys zs ws (omega arith))
 
 -- zeros become what is XORed into them
 pub xor_bytes-zeros : (ys : List ℕ) (n : ℕ) → length ys ≡ n → xor_bytes (replicate n 0) ys ≡ ys
@@ -110,11 +122,13 @@ unfolding xor_bytes
 xor_bytes-zeros [] zero same = refl
 xor_bytes-zeros [] (suc n) same = absurd (omega arith)
 xor_bytes-zeros (y ∷ ys) zero same = absurd (omega arith)
-xor_bytes-zeros (y ∷ ys) (suc n) same = ap₂ (λ (z : ℕ) (zs : List ℕ). z ∷ zs) (xor_zero_l y) (xor_bytes-zeros ys n (omega arith))
+xor_bytes-zeros (y ∷ ys) (suc n) same = ap₂ (λ (z : ℕ) (zs : List ℕ). z ∷ zs) (xor_zero_l y)
+    (xor_bytes-zeros ys n (omega arith))
 
 -- the first 4 * q words of a state are XORed, written out, into bytes
 abbrev pub Xored : List ℕ → ℕ → List ℕ → List ℕ → Type 0
-Xored words q was now = now ≡ xor_bytes (take (16 * q) was) (serialized (take (4 * q) words)) ++ drop (16 * q) was
+Xored words q was now = now ≡ xor_bytes (take (16 * q) was) (serialized (take (4 * q) words))
+    ++ drop (16 * q) was
 
 -- no word yet
 pub xored_none : (words was : List ℕ) → Xored words 0 was was
@@ -122,9 +136,12 @@ unfolding serialized xor_bytes
 xored_none words was = refl
 
 -- four words more
-xored_more : (words was mid now quad : List ℕ) (q : ℕ) → length words ≡ 16 → length was ≡ 64 → q < 4 → Xored words q was mid
-    → quad ≡ get_or words (4 * q) 0 ∷ get_or words (4 * q + 1) 0 ∷ get_or words (4 * q + 2) 0 ∷ get_or words (4 * q + 3) 0 ∷ []
-    → now ≡ take (16 * q) mid ++ xor_bytes (take 16 (drop (16 * q) mid)) (serialized quad) ++ drop (16 * q + 16) mid
+xored_more : (words was mid now quad : List ℕ) (q : ℕ) → length words ≡ 16 → length was ≡ 64 → q < 4
+    → Xored words q was mid
+    → quad ≡ get_or words (4 * q) 0 ∷ get_or words (4 * q + 1) 0 ∷ get_or words (4 * q + 2) 0
+    ∷ get_or words (4 * q + 3) 0 ∷ []
+    → now ≡ take (16 * q) mid ++ xor_bytes (take 16 (drop (16 * q) mid)) (serialized quad)
+    ++ drop (16 * q + 16) mid
     → Xored words (q + 1) was now
 xored_more words was mid now quad q sixteen long below held is_quad is_now =
     let a : ℕ = 16 * q in
@@ -135,17 +152,27 @@ xored_more words was mid now quad q sixteen long below held is_quad is_now =
     let four : 4 * (q + 1) ≡ 4 * q + 4 = omega arith in
     let size : length front ≡ a = length-take-le a was (omega arith) in
     let same : length front ≡ length done =
-    size ∙ omega (arith, length-serialized (take (4 * q) words), length-take-le (4 * q) words (omega arith)) in
+    size ∙ omega (
+      arith,
+      length-serialized (take (4 * q) words),
+      length-take-le (4 * q) words
+          (omega arith),
+    ) in
     let whole : length (xor_bytes front done) ≡ a = length-xor_bytes front done same ∙ size in
-    let before : take a mid ≡ xor_bytes front done = ap (take a) held ∙ take_at (xor_bytes front done) rest a whole in
+    let before : take a mid ≡ xor_bytes front done = ap (take a) held ∙ take_at (xor_bytes front done) rest
+    a whole in
     let after : drop a mid ≡ rest = ap (drop a) held ∙ drop_at (xor_bytes front done) rest a whole in
     let past : drop (a + 16) mid ≡ drop (16 * (q + 1)) was =
-    sym (drop-drop 16 a mid) ∙ ap (drop 16) after ∙ drop-drop 16 a was ∙ ap (λ (n : ℕ). drop n was) (sym next) in
-    let part : quad ≡ take 4 (drop (4 * q) words) = is_quad ∙ sym (four_bytes words (4 * q) (omega arith)) in
+    sym (drop-drop 16 a mid) ∙ ap (drop 16) after ∙ drop-drop 16 a was ∙ ap (λ (n : ℕ). drop n was)
+    (sym next) in
+    let part : quad ≡ take 4 (drop (4 * q) words) =
+    is_quad ∙ sym (four_bytes words (4 * q) (omega arith)) in
     let words_more : serialized (take (4 * (q + 1)) words) ≡ done ++ serialized quad =
     ap (λ (n : ℕ). serialized (take n words)) four ∙ ap serialized (take-add (4 * q) 4 words)
-    ∙ serialized-append (take (4 * q) words) (take 4 (drop (4 * q) words)) ∙ ap (λ l. done ++ serialized l) (sym part) in
-    let bytes_more : take (16 * (q + 1)) was ≡ front ++ take 16 rest = ap (λ (n : ℕ). take n was) next ∙ take-add a 16 was in
+    ∙ serialized-append (take (4 * q) words) (take 4 (drop (4 * q) words)) ∙ ap (λ l. done ++ serialized l)
+    (sym part) in
+    let bytes_more : take (16 * (q + 1)) was ≡ front ++ take 16 rest = ap (λ (n : ℕ). take n was) next
+    ∙ take-add a 16 was in
     is_now
     ∙ ap₂ (λ (x y : List ℕ). x ++ y)
     (ap₂ (λ (x y : List ℕ). x ++ xor_bytes (take 16 y) (serialized quad)) before after
@@ -154,11 +181,13 @@ xored_more words was mid now quad q sixteen long below held is_quad is_now =
     past
 
 -- the same of the state in a lane
-pub xored_lane : (x : List (List ℕ)) (j : ℕ) (was mid now quad : List ℕ) (q : ℕ) → length x ≡ 16 → length was ≡ 64 → q < 4
+pub xored_lane : (x : List (List ℕ)) (j : ℕ) (was mid now quad : List ℕ) (q : ℕ) → length x ≡ 16
+    → length was ≡ 64 → q < 4
     → Xored (lane j x) q was mid
     → quad ≡ get_or (get_or x (4 * q) []) j 0 ∷ get_or (get_or x (4 * q + 1) []) j 0
     ∷ get_or (get_or x (4 * q + 2) []) j 0 ∷ get_or (get_or x (4 * q + 3) []) j 0 ∷ []
-    → now ≡ take (16 * q) mid ++ xor_bytes (take 16 (drop (16 * q) mid)) (serialized quad) ++ drop (16 * q + 16) mid
+    → now ≡ take (16 * q) mid ++ xor_bytes (take 16 (drop (16 * q) mid)) (serialized quad)
+    ++ drop (16 * q + 16) mid
     → Xored (lane j x) (q + 1) was now
 xored_lane x j was mid now quad q sixteen long below held is_quad is_now =
     let at : (i : ℕ) → get_or (get_or x i []) j 0 ≡ get_or (lane j x) i 0 = λ i. sym (get_or-lane j x i) in
@@ -166,16 +195,19 @@ xored_lane x j was mid now quad q sixteen long below held is_quad is_now =
     (is_quad ∙ (λ k. at (4 * q) k ∷ at (4 * q + 1) k ∷ at (4 * q + 2) k ∷ at (4 * q + 3) k ∷ [])) is_now
 
 -- all words
-pub xored_all : (words was now : List ℕ) → length words ≡ 16 → length was ≡ 64 → Xored words 4 was now → now ≡ xor_bytes was (serialized words)
+pub xored_all : (words was now : List ℕ) → length words ≡ 16 → length was ≡ 64 → Xored words 4 was now
+    → now ≡ xor_bytes was (serialized words)
 xored_all words was now sixteen long held =
     held
     ∙ ap₂ (λ (x y : List ℕ). x ++ y)
-    (ap₂ (λ (x y : List ℕ). xor_bytes x (serialized y)) (take_all 64 was (omega arith)) (take_all 16 words (omega arith)))
+    (ap₂ (λ (x y : List ℕ). xor_bytes x (serialized y)) (take_all 64 was (omega arith))
+    (take_all 16 words (omega arith)))
     (drop_all 64 was (omega arith))
     ∙ append-nil (xor_bytes was (serialized words))
 
 -- one vector more, whose lane has the next word
-pub lane_more : (j : ℕ) (x : List (List ℕ)) (v words : List ℕ) (i : ℕ) → i < length x → i < length words → get_or v j 0 ≡ get_or words i 0
+pub lane_more : (j : ℕ) (x : List (List ℕ)) (v words : List ℕ) (i : ℕ) → i < length x → i < length words
+    → get_or v j 0 ≡ get_or words i 0
     → take i (lane j x) ≡ take i words → take (i + 1) (lane j (set x i v)) ≡ take (i + 1) words
 lane_more j x v words i there in_words is same =
     ap (take (i + 1)) (lane-set j x i v)
@@ -183,13 +215,16 @@ lane_more j x v words i there in_words is same =
     ∙ ap₂ (λ (l : List ℕ) (y : ℕ). l ++ y ∷ []) same is ∙ sym (take_more words i 0 in_words)
 
 -- all vectors
-pub lane_all : (j : ℕ) (x : List (List ℕ)) (words : List ℕ) (i : ℕ) → length x ≡ 16 → length words ≡ 16 → i ≡ 16
+pub lane_all : (j : ℕ) (x : List (List ℕ)) (words : List ℕ) (i : ℕ) → length x ≡ 16 → length words ≡ 16
+    → i ≡ 16
     → take i (lane j x) ≡ take i words → lane j x ≡ words
 lane_all j x words i sixteen long end same =
     sym (take_all i (lane j x) (omega (arith, length-lane j x))) ∙ same ∙ take_all i words (omega arith)
 
--- a lane that went through ten double rounds from the state of its counter, with the start added, is its block
-pub lane_block : (key nonce state start x rounds : List ℕ) (n : ℕ) → state ≡ initial_state key 0 nonce → start ≡ set state 12 n
+-- a lane that went through ten double rounds from the state of its counter, with the start added, is its
+-- block
+pub lane_block : (key nonce state start x rounds : List ℕ) (n : ℕ) → state ≡ initial_state key 0 nonce
+    → start ≡ set state 12 n
     → rounds ≡ double_rounds 10 start → x ≡ added rounds start → serialized x ≡ block key n nonce
 unfolding block block_from initial_state
 lane_block key nonce state start x rounds n is_state is_start is_rounds is_x =

@@ -1,4 +1,4 @@
 pub mod Block
 pub mod Stream
 pub mod States
-pub mod Lanes
+pub mod Code

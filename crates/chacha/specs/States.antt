@@ -13,16 +13,18 @@ pub record Holds (s : ChaStream) (key nonce : List ℕ) (first made : ℕ) : Typ
   pub place_is : s.place ≡ first * 64 + made
 
 -- the next bytes of the key stream were there, and are XORed in
-pub record Applied (after : ChaStream) (key nonce : List ℕ) (first made : ℕ) (was now : List ℕ) : Type 0 where
-  pub holds : Holds after key nonce first (made + length was)
-  pub there : (i : ℕ) → i < made + length was → HasByte first i
-  pub within : first * 64 + made + length was ≤ 2 ^ 38
-  pub masked_is : now ≡ masked (key_stream_byte key nonce first) made was
+pub record Applied (after : ChaStream) (key nonce : List ℕ) (first made : ℕ) (was now : List ℕ) : Type 0
+  where
+    pub holds : Holds after key nonce first (made + length was)
+    pub there : (i : ℕ) → i < made + length was → HasByte first i
+    pub within : first * 64 + made + length was ≤ 2 ^ 38
+    pub masked_is : now ≡ masked (key_stream_byte key nonce first) made was
 
 -- the last of the next bytes of the key stream was not there, and nothing was changed
-pub record Refused (fault : Fault) (before after : ChaStream) (first made : ℕ) (was now : List ℕ) : Type 0 where
-  pub fault_is : fault ≡ StreamEnd
-  pub missing : 0 < length was × (HasByte first (made + length was - 1) → ⊥)
-  pub past_end : 2 ^ 38 < first * 64 + made + length was
-  pub stream_unchanged : after ≡ before
-  pub bytes_unchanged : now ≡ was
+pub record Refused (fault : Fault) (before after : ChaStream) (first made : ℕ) (was now : List ℕ) : Type 0
+  where
+    pub fault_is : fault ≡ StreamEnd
+    pub missing : 0 < length was × (HasByte first (made + length was - 1) → ⊥)
+    pub past_end : 2 ^ 38 < first * 64 + made + length was
+    pub stream_unchanged : after ≡ before
+    pub bytes_unchanged : now ≡ was

@@ -1,33 +1,40 @@
 // Several blocks at once, one in each lane.
 
-ghost use Rattle.std.specs.Prelude.{◌≡◌, ℕ, ◌+◌, ◌%◌, ◌^◌, ◌<◌, ◌≤◌, ◌∷◌, ◌++◌, [], List, length, take, drop, slice_index, slice_set, bit_xor};
+ghost use Rattle.std.specs.Prelude.{◌≡◌, ℕ, ◌+◌, ◌%◌, ◌^◌, ◌<◌, ◌≤◌, ◌∷◌, ◌++◌, [], List, length};
+ghost use Rattle.std.specs.Prelude.{take, drop, slice_index, slice_set, bit_xor};
 ghost use Rattle.std.specs.Int.{w32, rotate_left};
 ghost use Rattle.octets.specs.Bytes.{xor_bytes};
 ghost use Rattle.octets.specs.Masked.{masked};
-ghost use Rattle.chacha.specs.Block.{add_xor_rotate, quarter_round, column_round, diagonal_round, double_rounds, added, serialized, block};
-ghost use Rattle.chacha.specs.Lanes.{lane, HasBlocks};
+ghost use Rattle.chacha.specs.Block.{add_xor_rotate, quarter_round, column_round, diagonal_round};
+ghost use Rattle.chacha.specs.Block.{double_rounds, added, serialized, block};
+ghost use Rattle.chacha.specs.Code.Lanes.{lane, HasBlocks};
 ghost use Rattle.chacha.specs.Stream.{key_stream_byte};
 
 use crate::state::initial_state;
 use octets::{Key32, Nonce, xor_into};
 use std::simd::{Simd, u32x4, u32x8};
 
+// The sums of the words, lane by lane.
 #[inline(always)]
 fn sum<const N: usize>(x: Simd<u32, N>, y: Simd<u32, N>) -> Simd<u32, N>
-    ensures { (j : ℕ) → j < N → slice_index result j ≡ (slice_index x.entry j + slice_index y.entry j) % 2 ^ 32 }
+    ensures { (j : ℕ) → j < N
+        → slice_index result j ≡ (slice_index x.entry j + slice_index y.entry j) % 2 ^ 32 }
 {
     x + y
 }
 
+// The XORs of the words, rotated to the left by `n` bits.
 #[inline(always)]
 fn xor_rotated<const N: usize>(x: Simd<u32, N>, y: Simd<u32, N>, n: u32) -> Simd<u32, N>
     requires { (0 < n) × (n < 32) }
-    ensures { (j : ℕ) → j < N → slice_index result j ≡ rotate_left w32 (bit_xor (slice_index x.entry j) (slice_index y.entry j)) n }
+    ensures { (j : ℕ) → j < N → slice_index result j
+        ≡ rotate_left w32 (bit_xor (slice_index x.entry j) (slice_index y.entry j)) n }
 {
     let z = x ^ y;
     (z << Simd::splat(n)) | (z >> Simd::splat(32 - n))
 }
 
+// a += b; d ^= a; d <<<= n, in each lane.
 #[inline(always)]
 fn add_xor_rotate<const N: usize>(x: &mut [Simd<u32, N>; 16], a: usize, b: usize, d: usize, n: u32)
     requires places { (a < 16) × (b < 16) × (d < 16) }
@@ -40,6 +47,7 @@ fn add_xor_rotate<const N: usize>(x: &mut [Simd<u32, N>; 16], a: usize, b: usize
     x[d] = turned;
 }
 
+// The quarter round in each lane.
 #[inline(always)]
 fn quarter_round<const N: usize>(x: &mut [Simd<u32, N>; 16], a: usize, b: usize, c: usize, d: usize)
     requires { (a < 16) × (b < 16) × (c < 16) × (d < 16) }
@@ -51,6 +59,7 @@ fn quarter_round<const N: usize>(x: &mut [Simd<u32, N>; 16], a: usize, b: usize,
     add_xor_rotate(x, c, d, b, 7);
 }
 
+// The quarter round on each column, in each lane.
 #[inline(always)]
 fn column_round<const N: usize>(x: &mut [Simd<u32, N>; 16])
     ensures { (j : ℕ) → j < N → lane j x.new ≡ column_round (lane j x.old) }
@@ -61,6 +70,7 @@ fn column_round<const N: usize>(x: &mut [Simd<u32, N>; 16])
     quarter_round(x, 3, 7, 11, 15);
 }
 
+// The quarter round on each diagonal, in each lane.
 #[inline(always)]
 fn diagonal_round<const N: usize>(x: &mut [Simd<u32, N>; 16])
     ensures { (j : ℕ) → j < N → lane j x.new ≡ diagonal_round (lane j x.old) }
@@ -111,7 +121,8 @@ fn set_blocks<const N: usize>(
     counters: Simd<u32, N>,
     nonce: &Nonce,
 )
-    ensures { (j : ℕ) → j < N → serialized (lane j x.new) ≡ block key.now (slice_index counters.entry j) nonce.now }
+    ensures { (j : ℕ) → j < N
+        → serialized (lane j x.new) ≡ block key.now (slice_index counters.entry j) nonce.now }
 {
     set_starts(x, &initial_state(key, 0, nonce), counters);
     let start = *x;
@@ -201,7 +212,8 @@ fn bytes_of(lanes: u32x4) -> [u8; 16]
 #[inline(always)]
 fn xor_at(bytes: &mut [u8], at: usize, words: u32x4)
     requires { at + 16 ≤ length bytes.old }
-    ensures { bytes.new ≡ take at bytes.old ++ xor_bytes (take 16 (drop at bytes.old)) (serialized words) ++ drop (at + 16) bytes.old }
+    ensures { bytes.new ≡ take at bytes.old ++ xor_bytes (take 16 (drop at bytes.old)) (serialized words)
+        ++ drop (at + 16) bytes.old }
 {
     xor_into(&mut bytes[at..at + 16], &bytes_of(words));
 }
@@ -260,7 +272,8 @@ pub fn four_blocks(key: &Key32, counter: u32, nonce: &Nonce) -> [[u8; 64]; 4]
     [first, second, third, fourth]
 }
 
-// XORs the first 256 bytes of the key stream from a counter on.
+/// XORs the four blocks with the counters `counter` to `counter + 3` into 256 bytes (RFC 8439, 2.4). The
+/// caller shows that these are counters of 32 bits.
 pub fn xor_four_blocks(key: &Key32, counter: u32, nonce: &Nonce, bytes: &mut [u8])
     requires counters { counter + 3 < 2 ^ 32 }
     requires size { length bytes.old ≡ 256 }
@@ -270,7 +283,7 @@ pub fn xor_four_blocks(key: &Key32, counter: u32, nonce: &Nonce, bytes: &mut [u8
 }
 
 // XORs the first 512 bytes of the key stream from a counter on.
-pub fn xor_eight_blocks(key: &Key32, counter: u32, nonce: &Nonce, bytes: &mut [u8])
+pub(crate) fn xor_eight_blocks(key: &Key32, counter: u32, nonce: &Nonce, bytes: &mut [u8])
     requires counters { counter + 7 < 2 ^ 32 }
     requires size { length bytes.old ≡ 512 }
     ensures { bytes.new ≡ masked (key_stream_byte key.now nonce.now counter) 0 bytes.old }

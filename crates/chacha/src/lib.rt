@@ -8,6 +8,6 @@ mod stream;
 #[cfg(test)]
 mod tests;
 
-pub use lanes::four_blocks;
+pub use lanes::{four_blocks, xor_four_blocks};
 pub use single::block;
 pub use stream::ChaStream;

@@ -2,11 +2,13 @@
 
 ghost use Rattle.std.specs.Prelude.{◌≡◌, ◌+◌, ◌<◌, ◌≤◌, ◌++◌, length, take, drop};
 ghost use Rattle.octets.specs.Bytes.{AreBytes};
-ghost use Rattle.chacha.specs.Block.{add_xor_rotate, quarter_round, column_round, diagonal_round, added, serialized, block_from, block};
+ghost use Rattle.chacha.specs.Block.{add_xor_rotate, quarter_round, column_round, diagonal_round};
+ghost use Rattle.chacha.specs.Block.{added, serialized, block_from, block};
 
 use crate::state::initial_state;
 use octets::{Key32, Nonce, are_bytes};
 
+// a += b; d ^= a; d <<<= n (RFC 8439, 2.1).
 #[tactic(auto, unfolding(crate::specs::Block::add_xor_rotate))]
 #[inline(always)]
 fn add_xor_rotate(s: &mut [u32; 16], a: usize, b: usize, d: usize, n: u32)
@@ -19,9 +21,10 @@ fn add_xor_rotate(s: &mut [u32; 16], a: usize, b: usize, d: usize, n: u32)
     s[d] = turned;
 }
 
+// The quarter round on four words of a state (RFC 8439, 2.1).
 #[tactic(auto, unfolding(crate::specs::Block::quarter_round))]
 #[inline(always)]
-pub fn quarter_round(s: &mut [u32; 16], a: usize, b: usize, c: usize, d: usize)
+pub(crate) fn quarter_round(s: &mut [u32; 16], a: usize, b: usize, c: usize, d: usize)
     requires places { (a < 16) × (b < 16) × (c < 16) × (d < 16) }
     ensures { s.new ≡ quarter_round a b c d s.old }
 {
@@ -31,6 +34,7 @@ pub fn quarter_round(s: &mut [u32; 16], a: usize, b: usize, c: usize, d: usize)
     add_xor_rotate(s, c, d, b, 7);
 }
 
+// The quarter round on each column (RFC 8439, 2.3).
 #[tactic(auto, unfolding(crate::specs::Block::column_round))]
 #[inline(always)]
 fn column_round(s: &mut [u32; 16])
@@ -42,6 +46,7 @@ fn column_round(s: &mut [u32; 16])
     quarter_round(s, 3, 7, 11, 15);
 }
 
+// The quarter round on each diagonal (RFC 8439, 2.3).
 #[tactic(auto, unfolding(crate::specs::Block::diagonal_round))]
 #[inline(always)]
 fn diagonal_round(s: &mut [u32; 16])
@@ -65,13 +70,14 @@ fn add(s: &mut [u32; 16], start: &[u32; 16])
 
 // Puts bytes into a part of `out`, from place `at` on.
 #[inline(always)]
-pub fn put(out: &mut [u8], at: usize, bytes: &[u8])
+fn put(out: &mut [u8], at: usize, bytes: &[u8])
     requires { at + length bytes.now ≤ length out.old }
     ensures { out.new ≡ take at out.old ++ bytes.now ++ drop (at + length bytes.now) out.old }
 {
     out[at..at + bytes.len()].copy_from_slice(bytes);
 }
 
+// The words written one after the other, each with its lowest byte first.
 #[inline(always)]
 fn serialized(words: &[u32; 16]) -> [u8; 64]
     ensures { result ≡ serialized words.now }

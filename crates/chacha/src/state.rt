@@ -18,7 +18,7 @@ fn word(bytes: &[u8], i: usize) -> u32
 
 // Four constants, eight words of the key, the counter, three words of the nonce.
 #[tactic(auto, unfolding(crate::specs::Block::initial_state))]
-pub fn initial_state(key: &Key32, counter: u32, nonce: &Nonce) -> [u32; 16]
+pub(crate) fn initial_state(key: &Key32, counter: u32, nonce: &Nonce) -> [u32; 16]
     ensures { result ≡ initial_state key.now counter nonce.now }
 {
     let key = key.bytes();

@@ -1,6 +1,7 @@
 // The key stream, in pieces.
 
-ghost use Rattle.std.specs.Prelude.{◌≡◌, ℕ, ◌+◌, ◌-◌, ◌*◌, ◌^◌, ◌<◌, ◌≤◌, ◌++◌, List, length, take, drop, min, MatchResult};
+ghost use Rattle.std.specs.Prelude.{◌≡◌, ℕ, ◌+◌, ◌-◌, ◌*◌, ◌^◌, ◌<◌, ◌≤◌, ◌++◌, List, length, take, drop};
+ghost use Rattle.std.specs.Prelude.{min, MatchResult};
 ghost use Rattle.octets.specs.Bytes.{xor_bytes};
 ghost use Rattle.octets.specs.Masked.{masked};
 ghost use Rattle.chacha.specs.Stream.{key_stream_byte};
@@ -65,13 +66,14 @@ fn xor_stream(key: &Key32, nonce: &Nonce, place: u64, bytes: &mut [u8])
     }
 }
 
-// XORs the same into the first bytes, and answers how many they are.
+// XORs the same into the first bytes, by the widest form that fits, and answers how many they are.
 fn xor_run(key: &Key32, nonce: &Nonce, place: u64, bytes: &mut [u8]) -> usize
     requires some { 0 < length bytes.old }
     requires within { place + length bytes.old ≤ 2 ^ 38 }
     ensures progress { 0 < result }
     ensures in_range { result ≤ length bytes.old }
-    ensures masked { bytes.new ≡ masked (key_stream_byte key.now nonce.now 0) place (take result bytes.old) ++ drop result bytes.old }
+    ensures masked { bytes.new ≡ masked (key_stream_byte key.now nonce.now 0) place (take result bytes.old)
+        ++ drop result bytes.old }
 {
     let counter = (place / 64) as u32;
     let skip = (place % 64) as usize;
@@ -79,7 +81,8 @@ fn xor_run(key: &Key32, nonce: &Nonce, place: u64, bytes: &mut [u8]) -> usize
         lanes::xor_eight_blocks(key, counter, nonce, &mut bytes[..512]);
         return 512;
     }
-    if skip + bytes.len() > 256 && counter <= u32::MAX - 7 {
+    // Up to five blocks are made faster as four and one.
+    if skip + bytes.len() > 320 && counter <= u32::MAX - 7 {
         let mut stream = [0; 512];
         lanes::xor_eight_blocks(key, counter, nonce, &mut stream);
         return xor_part(&stream, skip, bytes);
@@ -97,7 +100,8 @@ fn xor_run(key: &Key32, nonce: &Nonce, place: u64, bytes: &mut [u8]) -> usize
 fn xor_part(stream: &[u8], skip: usize, bytes: &mut [u8]) -> usize
     requires { skip ≤ length stream.now }
     ensures count { result ≡ min (length stream.now - skip) (length bytes.old) }
-    ensures xored { bytes.new ≡ xor_bytes (take result bytes.old) (take result (drop skip stream.now)) ++ drop result bytes.old }
+    ensures xored { bytes.new ≡ xor_bytes (take result bytes.old) (take result (drop skip stream.now))
+        ++ drop result bytes.old }
 {
     let count = (stream.len() - skip).min(bytes.len());
     xor_into(&mut bytes[..count], &stream[skip..skip + count]);

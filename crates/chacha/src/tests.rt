@@ -1,4 +1,4 @@
-ghost use Rattle.std.specs.Prelude.{◌<◌};
+ghost use Rattle.std.specs.Prelude.{◌<◌, ◌+◌, ◌^◌};
 
 use super::*;
 use octets::{Fault, Key32, Nonce};
@@ -107,6 +107,26 @@ fn ten_blocks(key: &Key32, nonce: &Nonce, first: u32) -> [u8; 640] {
         bytes[64 * i..64 * i + 64].copy_from_slice(&block);
     }
     bytes
+}
+
+// Whether four blocks at once are those that are made one by one.
+fn four_agree(first: u32) -> Result<bool, Fault>
+    requires { first + 3 < 2 ^ 32 }
+{
+    let key = Key32::from_slice(&KEY)?;
+    let nonce = Nonce::from_slice(&[7; 12])?;
+    let expected = ten_blocks(&key, &nonce, first);
+    let blocks = four_blocks(&key, first, &nonce);
+    let mut bytes = [0; 256];
+    xor_four_blocks(&key, first, &nonce, &mut bytes);
+    Ok(expected.starts_with(blocks.as_flattened()) && expected.starts_with(&bytes))
+}
+
+#[test]
+fn four_blocks_are_single_blocks(rt: HostRuntime) -> Result<(), Fail> {
+    assert!(rt; four_agree(0)?);
+    assert!(rt; four_agree(u32::MAX - 3)?);
+    Ok(())
 }
 
 #[test]

@@ -6,4 +6,5 @@ pub returns : goal.returns
 unfolding diagonal_round
 returns g c = λ j l.
     c.quarter_round-4.ensures j l ∙ ap (quarter_round 3 4 9 14) (c.quarter_round-3.ensures j l
-    ∙ ap (quarter_round 2 7 8 13) (c.quarter_round-2.ensures j l ∙ ap (quarter_round 1 6 11 12) (c.quarter_round.ensures j l)))
+    ∙ ap (quarter_round 2 7 8 13) (c.quarter_round-2.ensures j l ∙ ap (quarter_round 1 6 11 12)
+    (c.quarter_round.ensures j l)))

@@ -4,4 +4,5 @@ use Rattle.chacha.proofs.SideBySide.{eight_counters}
 use Rattle.chacha.proofs.lanes.eight_lanes.Goals as goal
 
 pub returns : goal.returns
-returns c = λ j l. c.set_blocks.ensures j l ∙ ap (λ n. block c.args.key.now n c.args.nonce.now) (eight_counters c.args.counter j l)
+returns c = λ j l. c.set_blocks.ensures j l ∙ ap (λ n. block c.args.key.now n c.args.nonce.now)
+    (eight_counters c.args.counter j l)

@@ -1,6 +1,6 @@
 use Rattle.std.proofs.Common.{◌≡◌, ℕ, ◌+◌, ◌<◌, [], ◌∷◌, ◌∙◌, ap, arith, length}
 use Rattle.chacha.specs.Block.{serialized, block}
-use Rattle.chacha.specs.Lanes.{lane}
+use Rattle.chacha.specs.Code.Lanes.{lane}
 use Rattle.chacha.proofs.Lengths.{length-block}
 use Rattle.chacha.proofs.SideBySide.{xor_bytes-zeros}
 use Rattle.chacha.proofs.lanes.four_blocks.Goals as goal
@@ -12,7 +12,8 @@ returns c =
     let n : ℕ = c.args.counter in
     let x = c.four_lanes-x.result in
     let has = c.four_lanes-x.ensures in
-    let size : (j : ℕ) → j < 4 → length (serialized (lane j x)) ≡ 64 = λ j l. ap length (has j l) ∙ length-block key (n + j) nonce in
+    let size : (j : ℕ) → j < 4 → length (serialized (lane j x)) ≡ 64 = λ j l. ap length (has j l)
+    ∙ length-block key (n + j) nonce in
     let each = λ (j : ℕ) (l : j < 4). xor_bytes-zeros (serialized (lane j x)) 64 (size j l) ∙ has j l in
     let first : n + 0 ≡ n = omega arith in
     let e0 = c.xor_lanes.ensures.first ∙ each 0 (omega arith) ∙ ap (λ m. block key m nonce) first in

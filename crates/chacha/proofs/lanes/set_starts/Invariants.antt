@@ -1,5 +1,5 @@
 use Rattle.std.proofs.Common.{◌≡◌, ℕ, ◌<◌, length, take}
-use Rattle.chacha.specs.Lanes.{lane}
+use Rattle.chacha.specs.Code.Lanes.{lane}
 use Rattle.chacha.proofs.lanes.set_starts.Given as goal
 
 abbrev pub invariant-words : goal.invariant-words

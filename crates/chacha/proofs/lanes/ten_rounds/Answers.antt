@@ -1,6 +1,6 @@
 use Rattle.std.proofs.Common.{◌≡◌, ◌∙◌, refl, ap, arith, add-one}
 use Rattle.chacha.specs.Block.{column_round, diagonal_round, double_rounds}
-use Rattle.chacha.specs.Lanes.{lane}
+use Rattle.chacha.specs.Code.Lanes.{lane}
 use Rattle.chacha.proofs.lanes.ten_rounds.Goals as goal
 
 pub rounds-init : goal.rounds-init
@@ -10,7 +10,8 @@ rounds-init g c = λ j l. refl
 pub rounds-preserved : goal.rounds-preserved
 unfolding double_rounds
 rounds-preserved g c = λ j l.
-    rw add-one (c.diagonal_round.ensures j l ∙ ap diagonal_round (c.column_round.ensures j l ∙ ap column_round (c.rounds.invariant j l)))
+    rw add-one (c.diagonal_round.ensures j l ∙ ap diagonal_round (c.column_round.ensures j l
+    ∙ ap column_round (c.rounds.invariant j l)))
 
 pub returns : goal.returns
 returns g c = λ j l.

@@ -1,6 +1,6 @@
 use Rattle.std.proofs.Common.{◌≡◌, ℕ, ◌<◌}
 use Rattle.chacha.specs.Block.{double_rounds}
-use Rattle.chacha.specs.Lanes.{lane}
+use Rattle.chacha.specs.Code.Lanes.{lane}
 use Rattle.chacha.proofs.lanes.ten_rounds.Given as goal
 
 abbrev pub invariant-rounds : goal.invariant-rounds

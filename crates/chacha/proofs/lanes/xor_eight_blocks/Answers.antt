@@ -17,10 +17,12 @@ returns c =
     let front = c.split_at_mut-front.result.0.now in
     let back = c.split_at_mut-front.result.1.now in
     let at : 0 + length front ≡ 256 = omega (arith, halves.front_len) in
-    let first = c.xor_written.ensures key nonce n (λ j l. ap serialized (c.part.ensures.front j l) ∙ has j (omega (arith, l))) in
+    let first = c.xor_written.ensures key nonce n (λ j l. ap serialized (c.part.ensures.front j l)
+    ∙ has j (omega (arith, l))) in
     let last = c.xor_written-2.ensures key nonce (n + 4) (λ j l.
     let counter : n + (4 + j) ≡ n + 4 + j = omega arith in
-    ap serialized (c.part.ensures.back j l) ∙ has (4 + j) (omega (arith, l)) ∙ ap (λ m. block key m nonce) counter) in
+    ap serialized (c.part.ensures.back j l) ∙ has (4 + j) (omega (arith, l)) ∙ ap (λ m. block key m nonce)
+    counter) in
     ap₂ (λ (y z : List ℕ). y ++ z) first (last ∙ four_later key nonce n back)
     ∙ sym (masked-append f 0 front back ∙ ap (λ (m : ℕ). masked f 0 front ++ masked f m back) at)
     ∙ ap (masked f 0) (sym halves.value)

@@ -1,5 +1,5 @@
 use Rattle.std.proofs.Common.{◌≡◌, ℕ, List, ◌∙◌, arith, length}
-use Rattle.chacha.specs.Lanes.{lane}
+use Rattle.chacha.specs.Code.Lanes.{lane}
 use Rattle.chacha.proofs.SideBySide.{Xored, xored_none, xored_lane, xored_all, length-lane}
 use Rattle.chacha.proofs.lanes.xor_lanes.Goals as goal
 
@@ -17,34 +17,42 @@ quads-preserved c =
     let q : ℕ = c.quads.q in
     let held = c.quads.invariant in
     let rows = c.transposed.ensures in
-    let more = λ (j : ℕ) (was mid now quad : List ℕ) (long : length was ≡ 64) (done : Xored (lane j x) q was mid).
+    let more = λ (j : ℕ) (was mid now quad : List ℕ) (long : length was ≡ 64)
+    (done : Xored (lane j x) q was mid).
     xored_lane x j was mid now quad q c.told-x long c.quads-test.true done in (
       more 0 c.args.first.now c.quads.first _ _ c.requires.front.0 held.0 rows.first c.xor_at.ensures,
-      more 1 c.args.second.now c.quads.second _ _ c.requires.front.1 held.1 rows.second c.xor_at-in-quads.ensures,
-      more 2 c.args.third.now c.quads.third _ _ c.requires.back.0 held.2 rows.third c.xor_at-in-quads-2.ensures,
-      more 3 c.args.fourth.now c.quads.fourth _ _ c.requires.back.1 held.3 rows.fourth c.xor_at-in-quads-3.ensures,
+      more 1 c.args.second.now c.quads.second _ _ c.requires.front.1 held.1 rows.second
+          c.xor_at-in-quads.ensures,
+      more 2 c.args.third.now c.quads.third _ _ c.requires.back.0 held.2 rows.third
+          c.xor_at-in-quads-2.ensures,
+      more 3 c.args.fourth.now c.quads.fourth _ _ c.requires.back.1 held.3 rows.fourth
+          c.xor_at-in-quads-3.ensures,
     )
 
 pub returns-clause-first : goal.returns-clause-first
 returns-clause-first c =
     let end : c.quads.q ≡ 4 = omega (arith, c.quads-test.false, c.quads.auto.q-end) in
-    xored_all (lane 0 c.args.x.now) c.args.first.now c.quads.first (length-lane 0 c.args.x.now ∙ c.told-x) c.requires.front.0
+    xored_all (lane 0 c.args.x.now) c.args.first.now c.quads.first (length-lane 0 c.args.x.now ∙ c.told-x)
+    c.requires.front.0
     (rw end at c.quads.invariant.0)
 
 pub returns-clause-second : goal.returns-clause-second
 returns-clause-second c =
     let end : c.quads.q ≡ 4 = omega (arith, c.quads-test.false, c.quads.auto.q-end) in
-    xored_all (lane 1 c.args.x.now) c.args.second.now c.quads.second (length-lane 1 c.args.x.now ∙ c.told-x) c.requires.front.1
+    xored_all (lane 1 c.args.x.now) c.args.second.now c.quads.second (length-lane 1 c.args.x.now ∙ c.told-x)
+    c.requires.front.1
     (rw end at c.quads.invariant.1)
 
 pub returns-clause-third : goal.returns-clause-third
 returns-clause-third c =
     let end : c.quads.q ≡ 4 = omega (arith, c.quads-test.false, c.quads.auto.q-end) in
-    xored_all (lane 2 c.args.x.now) c.args.third.now c.quads.third (length-lane 2 c.args.x.now ∙ c.told-x) c.requires.back.0
+    xored_all (lane 2 c.args.x.now) c.args.third.now c.quads.third (length-lane 2 c.args.x.now ∙ c.told-x)
+    c.requires.back.0
     (rw end at c.quads.invariant.2)
 
 pub returns-clause-fourth : goal.returns-clause-fourth
 returns-clause-fourth c =
     let end : c.quads.q ≡ 4 = omega (arith, c.quads-test.false, c.quads.auto.q-end) in
-    xored_all (lane 3 c.args.x.now) c.args.fourth.now c.quads.fourth (length-lane 3 c.args.x.now ∙ c.told-x) c.requires.back.1
+    xored_all (lane 3 c.args.x.now) c.args.fourth.now c.quads.fourth (length-lane 3 c.args.x.now ∙ c.told-x)
+    c.requires.back.1
     (rw end at c.quads.invariant.3)

@@ -17,4 +17,5 @@ returns g c = λ j l.
     let y = c.args.y in
     let long = length-zip2 bit_xor x y (omega (arith, c.fits-x.0, c.fits-y.0)) ∙ c.fits-x.0 in
     shifts_rotate (zip2 bit_xor x y) g.row.N c.args.n j long l c.requires.0 c.requires.1
-    ∙ ap (λ z. rotate_left w32 z c.args.n) (get_or-zip2 bit_xor x y j 0 0 0 (omega (arith, l, c.fits-x.0)) (omega (arith, l, c.fits-y.0)))
+    ∙ ap (λ z. rotate_left w32 z c.args.n) (get_or-zip2 bit_xor x y j 0 0 0 (omega (arith, l, c.fits-x.0))
+    (omega (arith, l, c.fits-y.0)))

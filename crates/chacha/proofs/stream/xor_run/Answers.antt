@@ -10,15 +10,20 @@ returns-then-bytes-ge512-clause-masked c =
 
 pub returns-then-counter-clause-masked : goal.returns-then-counter-clause-masked
 returns-then-counter-clause-masked c =
-    run_of_zeros c.args.key.now c.args.nonce.now c.args.place 512 c.xor_part.result c.args.bytes.now c.xor_eight_blocks-then-counter.new.bytes _
-    c.xor_eight_blocks-then-counter.ensures c.xor_eight_blocks-then-counter.auto.bytes c.xor_part.ensures.count c.xor_part.ensures.xored
+    run_of_zeros c.args.key.now c.args.nonce.now c.args.place 512 c.xor_part.result c.args.bytes.now
+    c.xor_eight_blocks-then-counter.new.bytes _
+    c.xor_eight_blocks-then-counter.ensures c.xor_eight_blocks-then-counter.auto.bytes
+    c.xor_part.ensures.count c.xor_part.ensures.xored
 
 pub returns-then-counter-2-clause-masked : goal.returns-then-counter-2-clause-masked
 returns-then-counter-2-clause-masked c =
-    run_of_zeros c.args.key.now c.args.nonce.now c.args.place 256 c.xor_part-then-counter-2.result c.args.bytes.now c.xor_four_blocks.new.bytes _
-    c.xor_four_blocks.ensures c.xor_four_blocks.auto.bytes c.xor_part-then-counter-2.ensures.count c.xor_part-then-counter-2.ensures.xored
+    run_of_zeros c.args.key.now c.args.nonce.now c.args.place 256 c.xor_part-then-counter-2.result
+    c.args.bytes.now c.xor_four_blocks.new.bytes _
+    c.xor_four_blocks.ensures c.xor_four_blocks.auto.bytes c.xor_part-then-counter-2.ensures.count
+    c.xor_part-then-counter-2.ensures.xored
 
 pub returns-clause-masked : goal.returns-clause-masked
 returns-clause-masked c =
-    run_of_block c.args.key.now c.args.nonce.now c.args.place c.xor_part-2.result c.args.bytes.now c.block.result _
+    run_of_block c.args.key.now c.args.nonce.now c.args.place c.xor_part-2.result c.args.bytes.now
+    c.block.result _
     c.block.ensures.value c.xor_part-2.ensures.count c.xor_part-2.ensures.xored

@@ -5,7 +5,11 @@ use Rattle.chacha.proofs.Masking.{no_run, run_more, all_runs}
 use Rattle.chacha.proofs.stream.xor_stream.Goals as goal
 
 pub runs-init : goal.runs-init
-runs-init c = (omega arith, no_run (key_stream_byte c.args.key.now c.args.nonce.now 0) c.args.place c.args.bytes.now)
+runs-init c = (
+  omega arith,
+  no_run (key_stream_byte c.args.key.now c.args.nonce.now 0) c.args.place
+      c.args.bytes.now,
+)
 
 pub runs-preserved : goal.runs-preserved
 runs-preserved c =
@@ -15,10 +19,12 @@ runs-preserved c =
     let k : ℕ = length mid - a in
     let r : ℕ = c.xor_run-done.result in
     let same : length mid ≡ length was = c.runs.auto.bytes in
-    let part : length (take k (drop a mid)) ≡ k = length-take-le k (drop a mid) (omega (arith, length-drop a mid)) in
+    let part : length (take k (drop a mid)) ≡ k =
+    length-take-le k (drop a mid) (omega (arith, length-drop a mid)) in
     let room : r ≤ k = omega (arith, part, c.xor_run-done.ensures.in_range) in (
       omega (arith, same, c.runs.invariant.0, room),
-      run_more (key_stream_byte c.args.key.now c.args.nonce.now 0) c.args.place a k r was mid c.xor_run-done.new.bytes
+      run_more (key_stream_byte c.args.key.now c.args.nonce.now 0) c.args.place a k r was mid
+          c.xor_run-done.new.bytes
           (omega (arith, same, c.runs.invariant.0)) room c.runs.invariant.1 c.xor_run-done.ensures.masked,
     )
 

@@ -1,0 +1,2 @@
+-- How the code makes several blocks at once. The key stream is defined without it.
+pub mod Lanes
