@@ -8,3 +8,4 @@ pub mod Folds
 pub mod BitParts
 pub mod Chains
 pub mod FourProducts
+pub mod Vectors

@@ -7,9 +7,9 @@ use crate::polynomial_word::{block_of, word_of};
 use crate::{Keyed128, Multiply};
 use octets::{Absorb, Block, Pieces};
 
-/// GHASH's sum over whole blocks.
+// GHASH's sum over whole blocks.
 #[derive(Drop)]
-pub struct GhashSum<M> {
+struct GhashSum<M> {
     multiplier: M,
     sum: u128,
 }

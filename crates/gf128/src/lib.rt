@@ -1,4 +1,5 @@
-//! Products in GHASH's field, GHASH (SP 800-38D, 6.3 and 6.4) and POLYVAL (RFC 8452, 3).
+//! Products in GHASH's field, and GHASH (SP 800-38D, 6.3 and 6.4) and POLYVAL (RFC 8452, 3) over a text that
+//! comes in pieces. No call refuses, and none takes memory.
 #![tactic(auto)]
 
 mod bit_mul;

@@ -19,9 +19,9 @@ pub fn reversed_mul_x(key: &Block) -> Block
     block_of(times)
 }
 
-/// POLYVAL's sum over whole blocks, its bytes reversed.
+// POLYVAL's sum over whole blocks, its bytes reversed.
 #[derive(Drop)]
-pub struct PolyvalSum<M> {
+struct PolyvalSum<M> {
     multiplier: M,
     sum: u128,
 }
