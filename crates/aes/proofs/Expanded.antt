@@ -3,8 +3,8 @@ use Rattle.std.proofs.Common.{◌≡◌, ℕ, suc, ◌+◌, ◌-◌, ◌*◌, �
 use Rattle.std.proofs.lemmas.List.FromFn.{get_or-map-range_with_len}
 use Rattle.std.proofs.lemmas.List.{length-map, get_or-map}
 use Rattle.aes.specs.Columns.{column_of, columns_of}
-use Rattle.aes.specs.Schedule.{round_count, schedule, table, key_of, IsKeySize}
-use Rattle.aes.specs.AesKey.{IsExpanded}
+use Rattle.aes.specs.Schedule.{round_count, schedule}
+use Rattle.aes.specs.ExpandedKey.{table, key_of, IsKeySize, IsExpanded}
 use Rattle.aes.specs.Cipher.{at, grid, sub_bytes, shift_rows, mix_columns, add_round_key, rounds, cipher, IsKey, IsKeyLength}
 use Rattle.aes.proofs.Words.{words_at, word_start, table_start, key_of_words}
 use Rattle.aes.proofs.Grids.{grid_is}
@@ -82,6 +82,30 @@ pub rounds_suc : (ws : List (List ℕ)) (n : ℕ) (s : List ℕ)
     → rounds ws (suc n) s ≡ add_round_key ws (suc n) (mix_columns (shift_rows (sub_bytes (rounds ws n s))))
 unfolding rounds
 rounds_suc ws n s = refl
+
+-- ---- a state by its words, where vs are those of a round
+pub first_state : (vs ws : List (List ℕ)) (key b s t : List ℕ) → HasSchedule ws key → ((c : ℕ) → c < 4 → get_or vs c [] ≡ get_or ws (4 * 0 + c) [])
+    → s ≡ b → t ≡ add_round_key vs 0 s → t ≡ rounds (schedule key) 0 b
+first_state vs ws key b s t has four e f =
+    f ∙ ap (add_round_key vs 0) e ∙ round_key_is vs ws key 0 b four has (omega arith) ∙ sym (rounds_start (schedule key) b)
+
+-- after one round more
+pub next_state : (vs ws : List (List ℕ)) (key : List ℕ) (n : ℕ) (b s t : List ℕ) → HasSchedule ws key → n + 1 ≤ round_count key
+    → ((c : ℕ) → c < 4 → get_or vs c [] ≡ get_or ws (4 * (n + 1) + c) []) → s ≡ rounds (schedule key) n b
+    → t ≡ add_round_key vs 0 (mix_columns (shift_rows (sub_bytes s))) → t ≡ rounds (schedule key) (n + 1) b
+next_state vs ws key n b s t has within four e f =
+    f ∙ round_key_is vs ws key (n + 1) (mix_columns (shift_rows (sub_bytes s))) four has within
+    ∙ ap (add_round_key (schedule key) (n + 1)) (ap mix_columns (ap shift_rows (ap sub_bytes e)))
+    ∙ sym (rounds_more (schedule key) n b)
+
+-- after the last round
+pub last_state : (vs ws : List (List ℕ)) (key : List ℕ) (n m : ℕ) (b s t : List ℕ) → HasSchedule ws key → m ≡ round_count key → n ≡ round_count key - 1
+    → ((c : ℕ) → c < 4 → get_or vs c [] ≡ get_or ws (4 * m + c) []) → s ≡ rounds (schedule key) n b
+    → t ≡ add_round_key vs 0 (shift_rows (sub_bytes s)) → t ≡ cipher key b
+last_state vs ws key n m b s t has count last four e f =
+    f ∙ round_key_is vs ws key m (shift_rows (sub_bytes s)) four has (omega arith)
+    ∙ ap₂ (add_round_key (schedule key)) count (ap shift_rows (ap sub_bytes (e ∙ ap (λ (i : ℕ). rounds (schedule key) i b) last)))
+    ∙ sym (cipher_is key b)
 
 -- a key of 4, 6 or 8 words has 16, 24 or 32 bytes
 pub key_length : (key : List ℕ) (n : ℕ) → IsKeySize n → length key ≡ 4 * n → IsKeyLength (length key)

@@ -9,7 +9,7 @@ use Rattle.octets.specs.Polynomial.{product, residue}
 use Rattle.aes.specs.Field.{times}
 use Rattle.aes.specs.Lanes.{HasLanes, IsPlace, entry, row_source, row_below, row_above, in_basis, linear_sbox}
 use Rattle.aes.specs.declared.sbox.TheConstants.{SBOX}
-use Rattle.aes.specs.declared.lanes.TheConstants.{TO_LOW, TO_HIGH, INVERSE, SCALED, U0, T0, U1, T1, U2, T2, ROW_SOURCES, ROWS_BELOW, ROWS_ABOVE}
+use Rattle.aes.specs.declared.lanes.TheConstants.{TO_LOW, TO_HIGH, INVERSE, SCALED, PLAIN_BY_FIRST, PLAIN_BY_SECOND, ONCE_BY_FIRST, ONCE_BY_SECOND, TWICE_BY_FIRST, TWICE_BY_SECOND, ROW_SOURCES, ROWS_BELOW, ROWS_ABOVE}
 use Rattle.aes.proofs.Tables.{all_below, all_below_at, sbox_at}
 use Rattle.aes.proofs.Linear.{xor_exchange}
 
@@ -224,17 +224,17 @@ abbrev pub by_parts : List ℕ → List ℕ → ℕ → ℕ
 by_parts p q y = bit_xor (entry p (u_at y)) (entry q (t_at y))
 
 -- the S-box without its constant, tested at each byte
-plain_computed : all_below (λ b. by_parts U0 T0 (in_basis b) == bit_xor (get_or SBOX b 0) 0x63) 256 ≡ true
+plain_computed : all_below (λ b. by_parts PLAIN_BY_FIRST PLAIN_BY_SECOND (in_basis b) == bit_xor (get_or SBOX b 0) 0x63) 256 ≡ true
 unfolding in_basis
 plain_computed = refl
 
 -- the same in the basis, tested at each byte
-once_computed : all_below (λ b. by_parts U1 T1 (in_basis b) == in_basis (bit_xor (get_or SBOX b 0) 0x63)) 256 ≡ true
+once_computed : all_below (λ b. by_parts ONCE_BY_FIRST ONCE_BY_SECOND (in_basis b) == in_basis (bit_xor (get_or SBOX b 0) 0x63)) 256 ≡ true
 unfolding in_basis
 once_computed = refl
 
 -- twice it in the basis, tested at each byte
-twice_computed : all_below (λ b. by_parts U2 T2 (in_basis b) == in_basis (times 2 (bit_xor (get_or SBOX b 0) 0x63))) 256 ≡ true
+twice_computed : all_below (λ b. by_parts TWICE_BY_FIRST TWICE_BY_SECOND (in_basis b) == in_basis (times 2 (bit_xor (get_or SBOX b 0) 0x63))) 256 ≡ true
 unfolding in_basis times product residue
 twice_computed = refl
 
@@ -252,13 +252,13 @@ substituted p q v x s h made small held test =
     same_lanes v made (λ k l. ap (by_parts p q) (held.each k l) ∙ by_sbox (λ b. by_parts p q (in_basis b)) h (s k) (small k l) test)
 
 -- lanes of the S-box without its constant
-pub plain_lanes : (v x : List ℕ) (s : ℕ → ℕ) → HasLanes v (λ k. by_parts U0 T0 (get_or x k 0)) → ((k : ℕ) → k < 64 → s k < 256) → HasLanes x (λ k. in_basis (s k)) → HasLanes v (λ k. linear_sbox (s k))
-plain_lanes v x s made small held = substituted U0 T0 v x s (λ y. y) made small held plain_computed
+pub plain_lanes : (v x : List ℕ) (s : ℕ → ℕ) → HasLanes v (λ k. by_parts PLAIN_BY_FIRST PLAIN_BY_SECOND (get_or x k 0)) → ((k : ℕ) → k < 64 → s k < 256) → HasLanes x (λ k. in_basis (s k)) → HasLanes v (λ k. linear_sbox (s k))
+plain_lanes v x s made small held = substituted PLAIN_BY_FIRST PLAIN_BY_SECOND v x s (λ y. y) made small held plain_computed
 
 -- the same in the basis
-pub once_lanes : (v x : List ℕ) (s : ℕ → ℕ) → HasLanes v (λ k. by_parts U1 T1 (get_or x k 0)) → ((k : ℕ) → k < 64 → s k < 256) → HasLanes x (λ k. in_basis (s k)) → HasLanes v (λ k. in_basis (linear_sbox (s k)))
-once_lanes v x s made small held = substituted U1 T1 v x s in_basis made small held once_computed
+pub once_lanes : (v x : List ℕ) (s : ℕ → ℕ) → HasLanes v (λ k. by_parts ONCE_BY_FIRST ONCE_BY_SECOND (get_or x k 0)) → ((k : ℕ) → k < 64 → s k < 256) → HasLanes x (λ k. in_basis (s k)) → HasLanes v (λ k. in_basis (linear_sbox (s k)))
+once_lanes v x s made small held = substituted ONCE_BY_FIRST ONCE_BY_SECOND v x s in_basis made small held once_computed
 
 -- twice it in the basis
-pub twice_lanes : (v x : List ℕ) (s : ℕ → ℕ) → HasLanes v (λ k. by_parts U2 T2 (get_or x k 0)) → ((k : ℕ) → k < 64 → s k < 256) → HasLanes x (λ k. in_basis (s k)) → HasLanes v (λ k. in_basis (times 2 (linear_sbox (s k))))
-twice_lanes v x s made small held = substituted U2 T2 v x s (λ y. in_basis (times 2 y)) made small held twice_computed
+pub twice_lanes : (v x : List ℕ) (s : ℕ → ℕ) → HasLanes v (λ k. by_parts TWICE_BY_FIRST TWICE_BY_SECOND (get_or x k 0)) → ((k : ℕ) → k < 64 → s k < 256) → HasLanes x (λ k. in_basis (s k)) → HasLanes v (λ k. in_basis (times 2 (linear_sbox (s k))))
+twice_lanes v x s made small held = substituted TWICE_BY_FIRST TWICE_BY_SECOND v x s (λ y. in_basis (times 2 y)) made small held twice_computed

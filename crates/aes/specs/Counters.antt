@@ -1,6 +1,7 @@
 -- Streams of bytes from a block that counts (SP 800-38D, 6.2 and 6.5; RFC 8452, 4).
 use Rattle.std.specs.Prelude.{◌≡◌, ℕ, ◌+◌, ◌/◌, ◌%◌, ◌^◌, List, ◌++◌, take, drop, get_or}
-use Rattle.std.proofs.Common.{ap, arith}
+use Rattle.std.proofs.Common.{ap}
+use Rattle.std.proofs.Math.Nat.{add-mod-mod}
 use Rattle.std.specs.Int.{bytes_high_first, bytes_low_first}
 use Rattle.octets.specs.Bytes.{IsBlock, le, be}
 use Rattle.aes.specs.Cipher.{cipher}
@@ -28,15 +29,9 @@ WrapsAround up = (b : List ℕ) (j : ℕ) → up b (j % 2 ^ 32) ≡ up b j
 -- so it is in the last four bytes
 pub up_be-wraps : WrapsAround up_be
 unfolding up_be
-up_be-wraps b j =
-    let n : ℕ = be (drop 12 b) in
-    let sum : (n + j % 2 ^ 32) % 2 ^ 32 ≡ (n + j) % 2 ^ 32 = omega arith in
-    ap (λ i. take 12 b ++ bytes_high_first 4 i) sum
+up_be-wraps b j = ap (λ i. take 12 b ++ bytes_high_first 4 i) (add-mod-mod (be (drop 12 b)) j (2 ^ 32))
 
 -- and in the first four bytes
 pub up_le-wraps : WrapsAround up_le
 unfolding up_le
-up_le-wraps b j =
-    let n : ℕ = le (take 4 b) in
-    let sum : (n + j % 2 ^ 32) % 2 ^ 32 ≡ (n + j) % 2 ^ 32 = omega arith in
-    ap (λ i. bytes_low_first 0 4 i ++ drop 4 b) sum
+up_le-wraps b j = ap (λ i. bytes_low_first 0 4 i ++ drop 4 b) (add-mod-mod (le (take 4 b)) j (2 ^ 32))

@@ -3,7 +3,7 @@ pub mod Columns
 pub mod Schedule
 pub mod Cipher
 pub mod Lanes
-pub mod AesKey
+pub mod ExpandedKey
 pub mod InverseKey
 pub mod Counters
 pub mod Streams

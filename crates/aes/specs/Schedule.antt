@@ -1,5 +1,5 @@
 -- The key schedule (FIPS 197, 5.2). A word is a list of four bytes. A key has Nk words: 4, 6 or 8.
-use Rattle.std.specs.Prelude.{◌≡◌, ℕ, zero, suc, ◌+◌, ◌-◌, ◌*◌, ◌/◌, ◌%◌, ◌<◌, ◌≤◌, Bool, true, false, ◌&&◌, ◌==◌, nat_lt, List, [], ◌∷◌, ◌++◌, map, take, drop, get_or, length, replicate, bit_xor, flat_map, ◌⊎◌, if◌then◌else◌}
+use Rattle.std.specs.Prelude.{◌≡◌, ℕ, zero, suc, ◌+◌, ◌-◌, ◌*◌, ◌/◌, ◌%◌, ◌<◌, ◌≤◌, Bool, true, false, ◌&&◌, ◌==◌, nat_lt, List, [], ◌∷◌, ◌++◌, map, take, drop, get_or, length, replicate, bit_xor, if◌then◌else◌}
 use Rattle.std.specs.List.{range_with_len}
 use Rattle.octets.specs.Bits.{number}
 use Rattle.octets.specs.Polynomial.{residue}
@@ -53,18 +53,6 @@ words key (suc n) = words key n ++ next_word key (words key n) n ∷ []
 -- the whole schedule
 abbrev pub schedule : List ℕ → List (List ℕ)
 schedule key = words key (4 * (round_count key + 1))
-
--- the key that the first nk words spell
-abbrev pub key_of : List (List ℕ) → ℕ → List ℕ
-key_of ws nk = flat_map (λ w. w) (take nk ws)
-
--- the sixty words that an expanded key keeps: those of the schedule, and zero words after them
-unfoldable pub table : List ℕ → List (List ℕ)
-table key = schedule key ++ replicate (60 - length (schedule key)) (replicate 4 0)
-
--- 4, 6 or 8
-abbrev pub IsKeySize : ℕ → Type 0
-IsKeySize nk = (nk ≡ 4) ⊎ ((nk ≡ 6) ⊎ (nk ≡ 8))
 
 -- word i of the schedule
 abbrev pub word : List ℕ → ℕ → List ℕ

@@ -1,7 +1,7 @@
 // Four blocks at once by look-ups in tables of sixteen bytes, with no table in memory. The field of 256 elements is seen over
 // its subfield of 16, in which an inverse is five look-ups; 0x80 stands for the inverse of 0.
 
-ghost use Rattle.std.specs.Prelude.{◌≡◌, ℕ, ◌%◌, ◌<◌, ◌/◌, List, [], slice_index, slice_index_or, length, bit_xor};
+ghost use Rattle.std.specs.Prelude.{◌≡◌, ℕ, ◌%◌, ◌<◌, ◌≤◌, ◌/◌, List, [], slice_index, slice_index_or, length, bit_xor};
 ghost use Rattle.octets.specs.Bytes.{IsBlock};
 ghost use Rattle.aes.specs.Field.{times, sbox};
 ghost use Rattle.aes.specs.Cipher.{sub_bytes, shift_rows, mix_columns, add_round_key};
@@ -32,33 +32,33 @@ const SCALED: [u8; 16] = [
     0x80, 0x0c, 0x0d, 0x0b, 0x05, 0x04, 0x06, 0x09, 0x0e, 0x07, 0x0f, 0x03, 0x01, 0x02, 0x08, 0x0a,
 ];
 
-// The S-box by the two parts of an inverse.
-const U0: [u8; 16] = [
+// The S-box without its constant, by the first part of an inverse.
+const PLAIN_BY_FIRST: [u8; 16] = [
     0x00, 0xb1, 0x40, 0x80, 0x79, 0x88, 0xc0, 0xc8, 0xf9, 0x31, 0x08, 0xb9, 0xf1, 0x48, 0x39, 0x71,
 ];
 
-// For the second part.
-const T0: [u8; 16] = [
+// The same by the second part.
+const PLAIN_BY_SECOND: [u8; 16] = [
     0x00, 0xd3, 0x73, 0xae, 0x94, 0x34, 0xdd, 0x47, 0x3a, 0x7d, 0x9a, 0x49, 0xa0, 0xe9, 0xe7, 0x0e,
 ];
 
-// The same in the basis.
-const U1: [u8; 16] = [
+// The S-box without its constant in the basis, by the first part.
+const ONCE_BY_FIRST: [u8; 16] = [
     0x00, 0x09, 0xcd, 0x2e, 0xfb, 0x3f, 0xe3, 0xf2, 0xd5, 0x27, 0x11, 0x18, 0xc4, 0xdc, 0x36, 0xea,
 ];
 
-// For the second part.
-const T1: [u8; 16] = [
+// The same by the second part.
+const ONCE_BY_SECOND: [u8; 16] = [
     0x00, 0x74, 0xb5, 0x9c, 0xf4, 0x35, 0x29, 0x80, 0x68, 0xe8, 0xa9, 0xdd, 0xc1, 0x1c, 0x41, 0x5d,
 ];
 
-// Twice the S-box in the basis.
-const U2: [u8; 16] = [
+// Twice that in the basis, by the first part.
+const TWICE_BY_FIRST: [u8; 16] = [
     0x00, 0xfb, 0x2e, 0x86, 0x9a, 0x4f, 0xa8, 0x61, 0x1c, 0x7d, 0xc9, 0x32, 0xd5, 0xe7, 0xb4, 0x53,
 ];
 
-// For the second part.
-const T2: [u8; 16] = [
+// The same by the second part.
+const TWICE_BY_SECOND: [u8; 16] = [
     0x00, 0x0b, 0x40, 0x80, 0x78, 0x33, 0xc0, 0x73, 0xf8, 0x8b, 0xb3, 0xb8, 0x4b, 0xf3, 0x38, 0xcb,
 ];
 
@@ -151,9 +151,9 @@ fn substitute(x: u8x64) -> (u8x64, u8x64, u8x64)
     let u = sum(look(INVERSE, first), both);
     let t = sum(look(INVERSE, second), high);
     (
-        sum(look(U0, u), look(T0, t)),
-        sum(look(U1, u), look(T1, t)),
-        sum(look(U2, u), look(T2, t)),
+        sum(look(PLAIN_BY_FIRST, u), look(PLAIN_BY_SECOND, t)),
+        sum(look(ONCE_BY_FIRST, u), look(ONCE_BY_SECOND, t)),
+        sum(look(TWICE_BY_FIRST, u), look(TWICE_BY_SECOND, t)),
     )
 }
 
@@ -206,12 +206,13 @@ fn first_sixteen(x: u8x64) -> [u8; 16]
     first.to_array()
 }
 
-// The words of each round in the basis, less the constant of the S-box there.
-pub(crate) fn ready_keys(words: &[u32; 60]) -> [[u8; 16]; 15]
-    ensures { (n i : ℕ) → n < 15 → i < 16 → slice_index (slice_index_or result n []) i ≡ ready_byte (columns_of words.now) n i }
+// The words of the rounds up to the last one in the basis, less the constant of the S-box there.
+pub(crate) fn ready_keys(words: &[u32; 60], last: usize) -> [[u8; 16]; 15]
+    requires { last < 15 }
+    ensures { (n i : ℕ) → n ≤ last → i < 16 → slice_index (slice_index_or result n []) i ≡ ready_byte (columns_of words.now) n i }
 {
     let mut keys = [[0; 16]; 15];
-    for n in 0..15 {
+    for n in 0..last + 1 {
         let key = sum(to_basis(spread(round_key(words, n))), u8x64::splat(0x7c));
         keys[n] = first_sixteen(key);
     }

@@ -2,11 +2,13 @@
 
 ghost use Rattle.std.specs.Prelude.{◌≡◌, ℕ, ◌*◌, ◌^◌, ◌≤◌, ◌/◌, ◌<◌, length, slice_index};
 ghost use Rattle.aes.specs.Columns.{column_of, columns_of};
-ghost use Rattle.aes.specs.Schedule.{xor_word, sub_word, rot_word, rcon, changed, table, IsKeySize, MeetsRecurrence};
+ghost use Rattle.aes.specs.Schedule.{xor_word, sub_word, rot_word, rcon, changed, MeetsRecurrence};
+ghost use Rattle.aes.specs.ExpandedKey.{table, IsKeySize};
 
 use crate::sbox::substitute;
 
 // SubWord: the S-box at each byte.
+#[inline(always)]
 fn sub_word(w: u32) -> u32
     ensures { column_of result ≡ sub_word (column_of w) }
 {
@@ -27,6 +29,7 @@ const RCON: [u8; 11] = [
 ];
 
 // The round constant of number j.
+#[inline(always)]
 fn rcon(j: usize) -> u32
     requires low { 0 < j }
     requires high { j < 11 }
@@ -36,6 +39,7 @@ fn rcon(j: usize) -> u32
 }
 
 // Word i of the schedule of a key of nk words, by the word nk places back and the word before.
+#[inline(always)]
 fn next_word(nk: usize, i: usize, back: u32, previous: u32) -> u32
     requires some { 0 < nk }
     requires from { nk ≤ i }
@@ -51,8 +55,9 @@ fn next_word(nk: usize, i: usize, back: u32, previous: u32) -> u32
     }
 }
 
-// The schedule of a key of nk words, and zero words after it.
-pub(crate) fn expand(key: &[u8], nk: usize) -> [u32; 60]
+// The schedule of a key of nk words, and zero words after it. Where nk is a constant of the caller, nothing is divided.
+#[inline(always)]
+fn expand_by(key: &[u8], nk: usize) -> [u32; 60]
     requires size { IsKeySize nk }
     requires long { length key.now ≡ 4 * nk }
     ensures table { columns_of result ≡ table key.now }
@@ -66,6 +71,22 @@ pub(crate) fn expand(key: &[u8], nk: usize) -> [u32; 60]
         words[i] = next_word(nk, i, words[i - nk], words[i - 1]);
     }
     words
+}
+
+// The same, with code of its own for each size.
+pub(crate) fn expand(key: &[u8], nk: usize) -> [u32; 60]
+    requires size { IsKeySize nk }
+    requires long { length key.now ≡ 4 * nk }
+    ensures table { columns_of result ≡ table key.now }
+    ensures words { (i : ℕ) → slice_index result i < 2 ^ 32 }
+{
+    if nk == 4 {
+        expand_by(key, 4)
+    } else if nk == 6 {
+        expand_by(key, 6)
+    } else {
+        expand_by(key, 8)
+    }
 }
 
 /// The law of the key schedule (FIPS 197, 5.2): a word below Nk is the key's; any other is the sum of the word Nk places

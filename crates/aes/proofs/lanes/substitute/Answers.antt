@@ -1,6 +1,6 @@
 use Rattle.std.proofs.Common.{ℕ, ◌/◌, ◌%◌, get_or, bit_xor}
 use Rattle.aes.specs.Lanes.{HasLanes, entry}
-use Rattle.aes.specs.declared.lanes.TheConstants.{INVERSE, SCALED, U0, T0, U1, T1, U2, T2}
+use Rattle.aes.specs.declared.lanes.TheConstants.{INVERSE, SCALED, PLAIN_BY_FIRST, PLAIN_BY_SECOND, ONCE_BY_FIRST, ONCE_BY_SECOND, TWICE_BY_FIRST, TWICE_BY_SECOND}
 use Rattle.aes.proofs.FourBlocks.{via, via_two, shown, scaled_at, both_at, first_at, second_at, u_at, t_at, by_parts, both_place, first_place, second_place, u_place, t_place, plain_lanes, once_lanes, twice_lanes}
 use Rattle.aes.proofs.lanes.substitute.Goals as goal
 
@@ -160,22 +160,22 @@ returns c =
     via (entry INVERSE) (λ k. second_at (get_or x k 0)) c.look-4.result c.sum-second.result c.look-4.ensures second in
     let t : HasLanes c.sum-t.result (λ k. t_at (get_or x k 0)) =
     via_two bit_xor (λ k. (λ (y : ℕ). entry INVERSE (second_at y)) (get_or x k 0)) (λ k. (λ (y : ℕ). y / 16) (get_or x k 0)) c.sum-t.result c.look-4.result c.high_nibbles-high.result c.sum-t.ensures of_second c.high_nibbles-high.ensures in
-    let by_u0 : HasLanes c.look-5.result (λ k. entry U0 (u_at (get_or x k 0))) =
-    via (entry U0) (λ k. u_at (get_or x k 0)) c.look-5.result c.sum-u.result c.look-5.ensures u in
-    let by_t0 : HasLanes c.look-6.result (λ k. entry T0 (t_at (get_or x k 0))) =
-    via (entry T0) (λ k. t_at (get_or x k 0)) c.look-6.result c.sum-t.result c.look-6.ensures t in
-    let made0 : HasLanes c.sum.result (λ k. by_parts U0 T0 (get_or x k 0)) =
-    via_two bit_xor (λ k. (λ (y : ℕ). entry U0 (u_at y)) (get_or x k 0)) (λ k. (λ (y : ℕ). entry T0 (t_at y)) (get_or x k 0)) c.sum.result c.look-5.result c.look-6.result c.sum.ensures by_u0 by_t0 in
-    let by_u1 : HasLanes c.look-7.result (λ k. entry U1 (u_at (get_or x k 0))) =
-    via (entry U1) (λ k. u_at (get_or x k 0)) c.look-7.result c.sum-u.result c.look-7.ensures u in
-    let by_t1 : HasLanes c.look-8.result (λ k. entry T1 (t_at (get_or x k 0))) =
-    via (entry T1) (λ k. t_at (get_or x k 0)) c.look-8.result c.sum-t.result c.look-8.ensures t in
-    let made1 : HasLanes c.sum-2.result (λ k. by_parts U1 T1 (get_or x k 0)) =
-    via_two bit_xor (λ k. (λ (y : ℕ). entry U1 (u_at y)) (get_or x k 0)) (λ k. (λ (y : ℕ). entry T1 (t_at y)) (get_or x k 0)) c.sum-2.result c.look-7.result c.look-8.result c.sum-2.ensures by_u1 by_t1 in
-    let by_u2 : HasLanes c.look-9.result (λ k. entry U2 (u_at (get_or x k 0))) =
-    via (entry U2) (λ k. u_at (get_or x k 0)) c.look-9.result c.sum-u.result c.look-9.ensures u in
-    let by_t2 : HasLanes c.look-10.result (λ k. entry T2 (t_at (get_or x k 0))) =
-    via (entry T2) (λ k. t_at (get_or x k 0)) c.look-10.result c.sum-t.result c.look-10.ensures t in
-    let made2 : HasLanes c.sum-3.result (λ k. by_parts U2 T2 (get_or x k 0)) =
-    via_two bit_xor (λ k. (λ (y : ℕ). entry U2 (u_at y)) (get_or x k 0)) (λ k. (λ (y : ℕ). entry T2 (t_at y)) (get_or x k 0)) c.sum-3.result c.look-9.result c.look-10.result c.sum-3.ensures by_u2 by_t2 in
+    let by_u0 : HasLanes c.look-5.result (λ k. entry PLAIN_BY_FIRST (u_at (get_or x k 0))) =
+    via (entry PLAIN_BY_FIRST) (λ k. u_at (get_or x k 0)) c.look-5.result c.sum-u.result c.look-5.ensures u in
+    let by_t0 : HasLanes c.look-6.result (λ k. entry PLAIN_BY_SECOND (t_at (get_or x k 0))) =
+    via (entry PLAIN_BY_SECOND) (λ k. t_at (get_or x k 0)) c.look-6.result c.sum-t.result c.look-6.ensures t in
+    let made0 : HasLanes c.sum.result (λ k. by_parts PLAIN_BY_FIRST PLAIN_BY_SECOND (get_or x k 0)) =
+    via_two bit_xor (λ k. (λ (y : ℕ). entry PLAIN_BY_FIRST (u_at y)) (get_or x k 0)) (λ k. (λ (y : ℕ). entry PLAIN_BY_SECOND (t_at y)) (get_or x k 0)) c.sum.result c.look-5.result c.look-6.result c.sum.ensures by_u0 by_t0 in
+    let by_u1 : HasLanes c.look-7.result (λ k. entry ONCE_BY_FIRST (u_at (get_or x k 0))) =
+    via (entry ONCE_BY_FIRST) (λ k. u_at (get_or x k 0)) c.look-7.result c.sum-u.result c.look-7.ensures u in
+    let by_t1 : HasLanes c.look-8.result (λ k. entry ONCE_BY_SECOND (t_at (get_or x k 0))) =
+    via (entry ONCE_BY_SECOND) (λ k. t_at (get_or x k 0)) c.look-8.result c.sum-t.result c.look-8.ensures t in
+    let made1 : HasLanes c.sum-2.result (λ k. by_parts ONCE_BY_FIRST ONCE_BY_SECOND (get_or x k 0)) =
+    via_two bit_xor (λ k. (λ (y : ℕ). entry ONCE_BY_FIRST (u_at y)) (get_or x k 0)) (λ k. (λ (y : ℕ). entry ONCE_BY_SECOND (t_at y)) (get_or x k 0)) c.sum-2.result c.look-7.result c.look-8.result c.sum-2.ensures by_u1 by_t1 in
+    let by_u2 : HasLanes c.look-9.result (λ k. entry TWICE_BY_FIRST (u_at (get_or x k 0))) =
+    via (entry TWICE_BY_FIRST) (λ k. u_at (get_or x k 0)) c.look-9.result c.sum-u.result c.look-9.ensures u in
+    let by_t2 : HasLanes c.look-10.result (λ k. entry TWICE_BY_SECOND (t_at (get_or x k 0))) =
+    via (entry TWICE_BY_SECOND) (λ k. t_at (get_or x k 0)) c.look-10.result c.sum-t.result c.look-10.ensures t in
+    let made2 : HasLanes c.sum-3.result (λ k. by_parts TWICE_BY_FIRST TWICE_BY_SECOND (get_or x k 0)) =
+    via_two bit_xor (λ k. (λ (y : ℕ). entry TWICE_BY_FIRST (u_at y)) (get_or x k 0)) (λ k. (λ (y : ℕ). entry TWICE_BY_SECOND (t_at y)) (get_or x k 0)) c.sum-3.result c.look-9.result c.look-10.result c.sum-3.ensures by_u2 by_t2 in
     λ s small held. (plain_lanes c.sum.result x s made0 small held, once_lanes c.sum-2.result x s made1 small held, twice_lanes c.sum-3.result x s made2 small held)

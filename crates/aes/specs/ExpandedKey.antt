@@ -1,12 +1,28 @@
--- The fields of an expanded key, which its bytes determine.
-use Rattle.std.specs.Prelude.{◌≡◌, ℕ, ◌*◌, ◌/◌, ◌^◌, ◌<◌, List, [], ◌∷◌, map, length, get_or}
-use Rattle.std.proofs.Common.{refl, sym, ap, ap₂, ◌∙◌, arith, suc}
+-- What the code keeps of a key: the schedule as sixty words of 32 bits. No definition of the standard.
+use Rattle.std.specs.Prelude.{◌≡◌, ℕ, ◌-◌, ◌*◌, ◌/◌, ◌^◌, ◌<◌, List, [], ◌∷◌, ◌++◌, map, take, length, get_or, replicate, flat_map, ◌⊎◌}
+use Rattle.std.specs.Int.{w32}
+use Rattle.std.proofs.Common.{refl, sym, ap, ap₂, ◌∙◌, suc, lit≤, lit<}
+use Rattle.std.proofs.lemmas.Nat.{from_le_bytes-to_le_bytes_4}
+use Rattle.std.proofs.Math.Nat.{mul-div_cancel_left}
 use Rattle.octets.specs.Bytes.{le}
+use Rattle.octets.proofs.Numbers.{le_is}
 use Rattle.aes.specs.Columns.{column_of, columns_of}
-use Rattle.aes.specs.Schedule.{key_of, table, IsKeySize}
+use Rattle.aes.specs.Schedule.{schedule}
 use Rattle.aes.specs.declared.key.AesKey.TheInside.{Inside}
 
--- what the fields of an expanded key keep: words that spell the columns of its table
+-- 4, 6 or 8
+abbrev pub IsKeySize : ℕ → Type 0
+IsKeySize nk = (nk ≡ 4) ⊎ ((nk ≡ 6) ⊎ (nk ≡ 8))
+
+-- the key that the first nk words spell
+abbrev pub key_of : List (List ℕ) → ℕ → List ℕ
+key_of ws nk = flat_map (λ w. w) (take nk ws)
+
+-- the sixty words that are kept: those of the schedule, and zero words after them
+unfoldable pub table : List ℕ → List (List ℕ)
+table key = schedule key ++ replicate (60 - length (schedule key)) (replicate 4 0)
+
+-- what the fields keep: words that spell the columns of the table of the key that they begin with
 pub record IsExpanded (ws : List ℕ) (nk : ℕ) : Type 0 where
   pub size : IsKeySize nk
   pub length_is : length (key_of (columns_of ws) nk) ≡ 4 * nk
@@ -20,8 +36,8 @@ fields_of key = record { words = map le (table key); size = length key / 4 }
 
 -- the number that a word's column spells is the word
 le_column_of : (w : ℕ) → w < 2 ^ 32 → le (column_of w) ≡ w
-unfolding le column_of
-le_column_of w h = omega arith
+unfolding column_of
+le_column_of w h = le_is w32 (column_of w) (lit≤ tt) refl ∙ from_le_bytes-to_le_bytes_4 w h
 
 -- the same of a list of words
 le_columns_of : (ws : List ℕ) → ((i : ℕ) → get_or ws i 0 < 2 ^ 32) → map le (columns_of ws) ≡ ws
@@ -31,7 +47,6 @@ le_columns_of (w ∷ ws) h = ap₂ (λ (x : ℕ) (xs : List ℕ). x ∷ xs) (le_
 -- the fields are those that the key determines
 pub fields_of-key_of : (a : Inside) → IsExpanded a.words a.size → fields_of (key_of (columns_of a.words) a.size) ≡ a
 fields_of-key_of a x =
-    let long : length (key_of (columns_of a.words) a.size) ≡ 4 * a.size = x.length_is in
-    let size : length (key_of (columns_of a.words) a.size) / 4 ≡ a.size = omega arith in
+    let size : length (key_of (columns_of a.words) a.size) / 4 ≡ a.size = ap (λ n. n / 4) x.length_is ∙ mul-div_cancel_left a.size (lit< tt) in
     let fields : List ℕ → ℕ → Inside = λ words size. record { words = words; size = size } in
     ap₂ fields (ap (map le) (sym x.columns_are) ∙ le_columns_of a.words x.words) size

@@ -1,7 +1,7 @@
 use Rattle.std.proofs.Common.{◌≡◌, ℕ, ◌^◌, ◌<◌, ◌≤◌, get_or, length}
 use Rattle.aes.specs.Columns.{column_of}
 use Rattle.aes.proofs.Words.{word}
-use Rattle.aes.proofs.schedule.expand.Given as goal
+use Rattle.aes.proofs.schedule.expand_by.Given as goal
 
 abbrev pub invariant-start : goal.invariant-start
 invariant-start l = record {

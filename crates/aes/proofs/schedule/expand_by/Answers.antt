@@ -3,7 +3,7 @@ use Rattle.std.proofs.lemmas.List.{get_or-replicate}
 use Rattle.aes.specs.Schedule.{xor_word, key_words, changed}
 use Rattle.aes.proofs.Words.{word, word_start, word_rest, take_four, one_more_word, others_stay, small_words, zero_words, is_table}
 use Rattle.aes.proofs.ColumnWords.{column_back}
-use Rattle.aes.proofs.schedule.expand.Goals as goal
+use Rattle.aes.proofs.schedule.expand_by.Goals as goal
 
 pub start-init : goal.start-init
 start-init c = record {
