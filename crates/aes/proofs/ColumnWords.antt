@@ -1,8 +1,8 @@
 -- Columns as words: sums, moves and bytes.
-use Rattle.std.proofs.Common.{◌≡◌, ℕ, ◌+◌, ◌*◌, ◌/◌, ◌%◌, ◌^◌, ◌<◌, ◌≤◌, true, ◌==◌, List, [], ◌∷◌, ◌++◌, map, get_or, length, zero, suc, refl, sym, ap, ap₂, ◌∙◌, arith, bit_or, bit_xor, w32}
+use Rattle.std.proofs.Common.{◌≡◌, ℕ, ◌+◌, ◌*◌, ◌/◌, ◌%◌, ◌^◌, ◌<◌, ◌≤◌, true, ◌==◌, ◌&&◌, ltb, ltb-true, List, [], ◌∷◌, ◌++◌, map, get_or, length, zero, suc, refl, sym, ap, ap₂, ◌∙◌, arith, bit_or, bit_xor, w32}
 use Rattle.std.specs.Int.{bytes_low_first, rotate_left, from_le_bytes}
 use Rattle.std.proofs.lemmas.Nat.{xor_shr, xor_mod, or_shifted}
-use Rattle.std.proofs.lemmas.Bool.{eqb-true}
+use Rattle.std.proofs.lemmas.Bool.{and_parts, eqb-true}
 use Rattle.std.proofs.lemmas.List.{get_or-map}
 use Rattle.octets.specs.Bytes.{IsBlock}
 use Rattle.octets.specs.Polynomial.{product, residue}
@@ -11,8 +11,7 @@ use Rattle.aes.specs.Schedule.{xor_word}
 use Rattle.aes.specs.Cipher.{dot, sub_bytes, shift_rows, mix_column, mix_columns, add_round_key}
 use Rattle.aes.specs.Columns.{column_of, columns_of, state_of}
 use Rattle.aes.specs.declared.sbox.TheConstants.{SBOX}
-use Rattle.aes.specs.declared.columns.TheConstants.{TABLE}
-use Rattle.aes.specs.declared.inverse.TheConstants.{INVERSE_TABLE}
+use Rattle.aes.specs.declared.round_tables.TheConstants.{TABLE, TABLE_ROW1, TABLE_ROW2, TABLE_ROW3, INVERSE_TABLE, INVERSE_ROW1, INVERSE_ROW2, INVERSE_ROW3}
 use Rattle.aes.proofs.Tables.{all_below, all_below_at, sbox_at}
 use Rattle.aes.proofs.Multiples.{single_is}
 use Rattle.aes.proofs.Rows.{four, dot_is}
@@ -97,29 +96,80 @@ table_at x h =
     (all_below_at (λ x. get_or TABLE x 0 == from_le_bytes w32 (times 2 (get_or SBOX x 0) ∷ get_or SBOX x 0 ∷ get_or SBOX x 0 ∷ times 3 (get_or SBOX x 0) ∷ [])) 256 x table_computed h)
     ∙ ap (λ y. from_le_bytes w32 (times 2 y ∷ y ∷ y ∷ times 3 y ∷ [])) (sbox_at x h))
 
--- ---- a column of the next state: the entries of its rows, each moved to its row, and the key
--- a column of the next state: the entries of its rows, each moved to its row, and the key
-pub mixed_is : (a b c d key s t u v : ℕ) → s < 2 ^ 32 → t < 2 ^ 32 → u < 2 ^ 32 → v < 2 ^ 32 → a < 256 → b < 256 → c < 256 → d < 256
-    → column_of s ≡ times 2 a ∷ a ∷ a ∷ times 3 a ∷ [] → column_of t ≡ times 2 b ∷ b ∷ b ∷ times 3 b ∷ []
-    → column_of u ≡ times 2 c ∷ c ∷ c ∷ times 3 c ∷ [] → column_of v ≡ times 2 d ∷ d ∷ d ∷ times 3 d ∷ []
-    → column_of (bit_xor (bit_xor s (bit_xor (rotate_left w32 t 8) (bit_xor (rotate_left w32 u 16) (rotate_left w32 v 24)))) key)
-    ≡ xor_word (mix_column (a ∷ b ∷ c ∷ d ∷ [])) (column_of key)
+-- ---- tables whose columns are those of another, moved down
+-- the entries of one table are those of another moved by some bits, and below 2^32
+abbrev IsMoved : List ℕ → List ℕ → ℕ → Type 0
+IsMoved moved table n = all_below (λ x. (get_or moved x 0 == rotate_left w32 (get_or table x 0) n) && ltb (get_or table x 0) (2 ^ 32)) 256 ≡ true
+
+-- an entry of such a table
+moved_at : (moved table : List ℕ) (n x : ℕ) → IsMoved moved table n → x < 256
+    → (get_or moved x 0 ≡ rotate_left w32 (get_or table x 0) n) × (get_or table x 0 < 2 ^ 32)
+moved_at moved table n x h l =
+    let t : ℕ = get_or table x 0 in
+    let both = and_parts (get_or moved x 0 == rotate_left w32 t n) (ltb t (2 ^ 32))
+    (all_below_at (λ x. (get_or moved x 0 == rotate_left w32 (get_or table x 0) n) && ltb (get_or table x 0) (2 ^ 32)) 256 x h l) in
+    (eqb-true (get_or moved x 0) (rotate_left w32 t n) both.0, ltb-true t (2 ^ 32) both.1)
+
+-- moved by one row
+moved_once : (moved table : List ℕ) (x a b c d : ℕ) → IsMoved moved table 8 → x < 256
+    → column_of (get_or table x 0) ≡ a ∷ b ∷ c ∷ d ∷ [] → column_of (get_or moved x 0) ≡ d ∷ a ∷ b ∷ c ∷ []
+moved_once moved table x a b c d h l e =
+    let at = moved_at moved table 8 x h l in
+    ap column_of at.0 ∙ moved_one (get_or table x 0) at.1 ∙ ap (λ l. get_or l 3 0 ∷ get_or l 0 0 ∷ get_or l 1 0 ∷ get_or l 2 0 ∷ []) e
+
+-- by two
+moved_twice : (moved table : List ℕ) (x a b c d : ℕ) → IsMoved moved table 16 → x < 256
+    → column_of (get_or table x 0) ≡ a ∷ b ∷ c ∷ d ∷ [] → column_of (get_or moved x 0) ≡ c ∷ d ∷ a ∷ b ∷ []
+moved_twice moved table x a b c d h l e =
+    let at = moved_at moved table 16 x h l in
+    ap column_of at.0 ∙ moved_two (get_or table x 0) at.1 ∙ ap (λ l. get_or l 2 0 ∷ get_or l 3 0 ∷ get_or l 0 0 ∷ get_or l 1 0 ∷ []) e
+
+-- by three
+moved_thrice : (moved table : List ℕ) (x a b c d : ℕ) → IsMoved moved table 24 → x < 256
+    → column_of (get_or table x 0) ≡ a ∷ b ∷ c ∷ d ∷ [] → column_of (get_or moved x 0) ≡ b ∷ c ∷ d ∷ a ∷ []
+moved_thrice moved table x a b c d h l e =
+    let at = moved_at moved table 24 x h l in
+    ap column_of at.0 ∙ moved_three (get_or table x 0) at.1 ∙ ap (λ l. get_or l 1 0 ∷ get_or l 2 0 ∷ get_or l 3 0 ∷ get_or l 0 0 ∷ []) e
+
+-- the table of row 1, tested at each entry
+table_row1 : IsMoved TABLE_ROW1 TABLE 8
+table_row1 = refl
+
+-- of row 2
+table_row2 : IsMoved TABLE_ROW2 TABLE 16
+table_row2 = refl
+
+-- of row 3
+table_row3 : IsMoved TABLE_ROW3 TABLE 24
+table_row3 = refl
+
+-- an entry of the table of row 1 as a column
+pub table_row1_at : (x : ℕ) → x < 256 → column_of (get_or TABLE_ROW1 x 0) ≡ times 3 (sbox x) ∷ times 2 (sbox x) ∷ sbox x ∷ sbox x ∷ []
+table_row1_at x h = moved_once TABLE_ROW1 TABLE x (times 2 (sbox x)) (sbox x) (sbox x) (times 3 (sbox x)) table_row1 h (table_at x h)
+
+-- of row 2
+pub table_row2_at : (x : ℕ) → x < 256 → column_of (get_or TABLE_ROW2 x 0) ≡ sbox x ∷ times 3 (sbox x) ∷ times 2 (sbox x) ∷ sbox x ∷ []
+table_row2_at x h = moved_twice TABLE_ROW2 TABLE x (times 2 (sbox x)) (sbox x) (sbox x) (times 3 (sbox x)) table_row2 h (table_at x h)
+
+-- of row 3
+pub table_row3_at : (x : ℕ) → x < 256 → column_of (get_or TABLE_ROW3 x 0) ≡ sbox x ∷ sbox x ∷ times 3 (sbox x) ∷ times 2 (sbox x) ∷ []
+table_row3_at x h = moved_thrice TABLE_ROW3 TABLE x (times 2 (sbox x)) (sbox x) (sbox x) (times 3 (sbox x)) table_row3 h (table_at x h)
+
+-- ---- a column of the next state: the entries of its rows, and the key
+pub mixed_is : (a b c d key s t u v : ℕ) → a < 256 → b < 256 → c < 256 → d < 256
+    → column_of s ≡ times 2 a ∷ a ∷ a ∷ times 3 a ∷ [] → column_of t ≡ times 3 b ∷ times 2 b ∷ b ∷ b ∷ []
+    → column_of u ≡ c ∷ times 3 c ∷ times 2 c ∷ c ∷ [] → column_of v ≡ d ∷ d ∷ times 3 d ∷ times 2 d ∷ []
+    → column_of (bit_xor (bit_xor s (bit_xor t (bit_xor u v))) key) ≡ xor_word (mix_column (a ∷ b ∷ c ∷ d ∷ [])) (column_of key)
 unfolding mix_column xor_word
-mixed_is a b c d key s t u v hs ht hu hv ha hb hc hd es et eu ev =
-    let w : ℕ = rotate_left w32 u 16 in
-    let x : ℕ = rotate_left w32 v 24 in
-    let y : ℕ = rotate_left w32 t 8 in
-    let ft : column_of y ≡ times 3 b ∷ times 2 b ∷ b ∷ b ∷ [] = moved_one t ht ∙ ap (λ l. get_or l 3 0 ∷ get_or l 0 0 ∷ get_or l 1 0 ∷ get_or l 2 0 ∷ []) et in
-    let fu : column_of w ≡ c ∷ times 3 c ∷ times 2 c ∷ c ∷ [] = moved_two u hu ∙ ap (λ l. get_or l 2 0 ∷ get_or l 3 0 ∷ get_or l 0 0 ∷ get_or l 1 0 ∷ []) eu in
-    let fv : column_of x ≡ d ∷ d ∷ times 3 d ∷ times 2 d ∷ [] = moved_three v hv ∙ ap (λ l. get_or l 1 0 ∷ get_or l 2 0 ∷ get_or l 3 0 ∷ get_or l 0 0 ∷ []) ev in
+mixed_is a b c d key s t u v ha hb hc hd es et eu ev =
     let a1 : a ≡ times 1 a = sym (single_is a ha) in
     let b1 : b ≡ times 1 b = sym (single_is b hb) in
     let c1 : c ≡ times 1 c = sym (single_is c hc) in
     let d1 : d ≡ times 1 d = sym (single_is d hd) in
-    column_xor (bit_xor s (bit_xor y (bit_xor w x))) key
+    column_xor (bit_xor s (bit_xor t (bit_xor u v))) key
     ∙ ap (λ l. xor_word l (column_of key)) (
-    column_xor s (bit_xor y (bit_xor w x))
-    ∙ ap₂ xor_word es (column_xor y (bit_xor w x) ∙ ap₂ xor_word ft (column_xor w x ∙ ap₂ xor_word fu fv))
+    column_xor s (bit_xor t (bit_xor u v))
+    ∙ ap₂ xor_word es (column_xor t (bit_xor u v) ∙ ap₂ xor_word et (column_xor u v ∙ ap₂ xor_word eu ev))
     ∙ four
     (dot_is 2 3 1 1 a b c d (times 2 a) (times 3 b) c d refl refl c1 d1)
     (dot_is 1 2 3 1 a b c d a (times 2 b) (times 3 c) d a1 refl refl d1)
@@ -185,22 +235,40 @@ inverse_at x y h e =
     ∙ eqb-true (get_or INVERSE_TABLE (get_or SBOX y 0) 0) (unmixed_entry y)
     (all_below_at (λ y. get_or INVERSE_TABLE (get_or SBOX y 0) 0 == unmixed_entry y) 256 y inverse_computed h))
 
--- a column and the inverse matrix: the entries of its rows, each moved to its row
-pub unmixed_is : (a b c d s t u v : ℕ) → s < 2 ^ 32 → t < 2 ^ 32 → u < 2 ^ 32 → v < 2 ^ 32 → a < 256 → b < 256 → c < 256 → d < 256
-    → column_of s ≡ times 14 a ∷ times 9 a ∷ times 13 a ∷ times 11 a ∷ [] → column_of t ≡ times 14 b ∷ times 9 b ∷ times 13 b ∷ times 11 b ∷ []
-    → column_of u ≡ times 14 c ∷ times 9 c ∷ times 13 c ∷ times 11 c ∷ [] → column_of v ≡ times 14 d ∷ times 9 d ∷ times 13 d ∷ times 11 d ∷ []
-    → mix_column (column_of (bit_xor s (bit_xor (rotate_left w32 t 8) (bit_xor (rotate_left w32 u 16) (rotate_left w32 v 24))))) ≡ a ∷ b ∷ c ∷ d ∷ []
+-- the inverse table of row 1, tested at each entry
+inverse_row1 : IsMoved INVERSE_ROW1 INVERSE_TABLE 8
+inverse_row1 = refl
+
+-- of row 2
+inverse_row2 : IsMoved INVERSE_ROW2 INVERSE_TABLE 16
+inverse_row2 = refl
+
+-- of row 3
+inverse_row3 : IsMoved INVERSE_ROW3 INVERSE_TABLE 24
+inverse_row3 = refl
+
+-- an entry of the inverse table of row 1 as a column
+pub inverse_row1_at : (x y : ℕ) → x < 256 → y < 256 → sbox y ≡ x → column_of (get_or INVERSE_ROW1 x 0) ≡ times 11 y ∷ times 14 y ∷ times 9 y ∷ times 13 y ∷ []
+inverse_row1_at x y l h e = moved_once INVERSE_ROW1 INVERSE_TABLE x (times 14 y) (times 9 y) (times 13 y) (times 11 y) inverse_row1 l (inverse_at x y h e)
+
+-- of row 2
+pub inverse_row2_at : (x y : ℕ) → x < 256 → y < 256 → sbox y ≡ x → column_of (get_or INVERSE_ROW2 x 0) ≡ times 13 y ∷ times 11 y ∷ times 14 y ∷ times 9 y ∷ []
+inverse_row2_at x y l h e = moved_twice INVERSE_ROW2 INVERSE_TABLE x (times 14 y) (times 9 y) (times 13 y) (times 11 y) inverse_row2 l (inverse_at x y h e)
+
+-- of row 3
+pub inverse_row3_at : (x y : ℕ) → x < 256 → y < 256 → sbox y ≡ x → column_of (get_or INVERSE_ROW3 x 0) ≡ times 9 y ∷ times 13 y ∷ times 11 y ∷ times 14 y ∷ []
+inverse_row3_at x y l h e = moved_thrice INVERSE_ROW3 INVERSE_TABLE x (times 14 y) (times 9 y) (times 13 y) (times 11 y) inverse_row3 l (inverse_at x y h e)
+
+-- a column and the inverse matrix: the entries of its rows
+pub unmixed_is : (a b c d s t u v : ℕ) → a < 256 → b < 256 → c < 256 → d < 256
+    → column_of s ≡ times 14 a ∷ times 9 a ∷ times 13 a ∷ times 11 a ∷ [] → column_of t ≡ times 11 b ∷ times 14 b ∷ times 9 b ∷ times 13 b ∷ []
+    → column_of u ≡ times 13 c ∷ times 11 c ∷ times 14 c ∷ times 9 c ∷ [] → column_of v ≡ times 9 d ∷ times 13 d ∷ times 11 d ∷ times 14 d ∷ []
+    → mix_column (column_of (bit_xor s (bit_xor t (bit_xor u v)))) ≡ a ∷ b ∷ c ∷ d ∷ []
 unfolding xor_word
-unmixed_is a b c d s t u v hs ht hu hv ha hb hc hd es et eu ev =
-    let w : ℕ = rotate_left w32 u 16 in
-    let x : ℕ = rotate_left w32 v 24 in
-    let y : ℕ = rotate_left w32 t 8 in
-    let ft : column_of y ≡ times 11 b ∷ times 14 b ∷ times 9 b ∷ times 13 b ∷ [] = moved_one t ht ∙ ap (λ l. get_or l 3 0 ∷ get_or l 0 0 ∷ get_or l 1 0 ∷ get_or l 2 0 ∷ []) et in
-    let fu : column_of w ≡ times 13 c ∷ times 11 c ∷ times 14 c ∷ times 9 c ∷ [] = moved_two u hu ∙ ap (λ l. get_or l 2 0 ∷ get_or l 3 0 ∷ get_or l 0 0 ∷ get_or l 1 0 ∷ []) eu in
-    let fv : column_of x ≡ times 9 d ∷ times 13 d ∷ times 11 d ∷ times 14 d ∷ [] = moved_three v hv ∙ ap (λ l. get_or l 1 0 ∷ get_or l 2 0 ∷ get_or l 3 0 ∷ get_or l 0 0 ∷ []) ev in
+unmixed_is a b c d s t u v ha hb hc hd es et eu ev =
     ap mix_column (
-    column_xor s (bit_xor y (bit_xor w x))
-    ∙ ap₂ xor_word es (column_xor y (bit_xor w x) ∙ ap₂ xor_word ft (column_xor w x ∙ ap₂ xor_word fu fv))
+    column_xor s (bit_xor t (bit_xor u v))
+    ∙ ap₂ xor_word es (column_xor t (bit_xor u v) ∙ ap₂ xor_word et (column_xor u v ∙ ap₂ xor_word eu ev))
     ∙ four
     (dot_is 14 11 13 9 a b c d (times 14 a) (times 11 b) (times 13 c) (times 9 d) refl refl refl refl)
     (dot_is 9 14 11 13 a b c d (times 9 a) (times 14 b) (times 11 c) (times 13 d) refl refl refl refl)

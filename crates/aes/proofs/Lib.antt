@@ -14,3 +14,6 @@ pub mod FourRounds
 pub mod Permutation
 pub mod Counting
 pub mod StreamSteps
+pub mod Computed
+pub mod Small
+pub mod Vectors

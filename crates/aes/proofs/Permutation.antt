@@ -44,7 +44,7 @@ sub_word_is (x ∷ w) h zero = sbox_small x (h 0)
 sub_word_is (x ∷ w) h (suc r) = sub_word_is w (λ i. h (suc i)) r
 
 -- a rotated word
-rot_word_is : (w : List ℕ) → IsWord w → IsWord (rot_word w)
+pub rot_word_is : (w : List ℕ) → IsWord w → IsWord (rot_word w)
 rot_word_is w h = four_word (get_or w 1 0) (get_or w 2 0) (get_or w 3 0) (get_or w 0 0) (h 1) (h 2) (h 3) (h 0)
 
 -- a round constant

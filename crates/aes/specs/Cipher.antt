@@ -1,5 +1,6 @@
 -- The cipher (FIPS 197, 5.1). The state is a grid of 4 by 4 bytes, filled column by column from a block.
-use Rattle.std.specs.Prelude.{◌≡◌, ℕ, zero, suc, ◌+◌, ◌-◌, ◌*◌, ◌/◌, ◌%◌, ◌<◌, List, [], ◌∷◌, map, get_or, length, ◌⊎◌, bit_xor}
+use Rattle.std.specs.Prelude.{◌≡◌, ℕ, zero, suc, ◌+◌, ◌-◌, ◌*◌, ◌/◌, ◌%◌, ◌<◌, List, [], ◌∷◌, map, get_or}
+use Rattle.std.specs.Prelude.{length, ◌⊎◌, bit_xor}
 use Rattle.std.specs.List.{range_with_len}
 use Rattle.octets.specs.Bytes.{IsBlock}
 use Rattle.aes.specs.Field.{times, sbox}

@@ -1,5 +1,7 @@
--- Bytes as elements of the field of polynomials over two elements modulo x^8+x^4+x^3+x+1 (FIPS 197, 4), and the S-box (5.1.1).
-use Rattle.std.specs.Prelude.{◌≡◌, ℕ, ◌+◌, ◌%◌, ◌<◌, Bool, true, false, ◌==◌, List, [], ◌∷◌, map, unwrap_or, position, ◌⊎◌}
+-- Bytes as elements of the field of polynomials over two elements modulo x^8+x^4+x^3+x+1 (FIPS 197, 4), and
+-- the S-box (5.1.1).
+use Rattle.std.specs.Prelude.{◌≡◌, ℕ, ◌+◌, ◌%◌, ◌<◌, Bool, true, false, ◌==◌, List, [], ◌∷◌, map, unwrap_or}
+use Rattle.std.specs.Prelude.{position, ◌⊎◌}
 use Rattle.std.specs.List.{range_with_len}
 use Rattle.octets.specs.Bits.{bit, bits, number}
 use Rattle.octets.specs.Polynomial.{plus, product, residue}
@@ -21,7 +23,8 @@ abbrev pub IsInverse : ℕ → ℕ → Type 0
 IsInverse x y = ((x ≡ 0) × (y ≡ 0))
     ⊎ ((y < 256) × (times x y ≡ 1) × ((z : ℕ) → z < 256 → times x z ≡ 1 → z ≡ y))
 
--- the affine map: bit i is b_i + b_(i+4) + b_(i+5) + b_(i+6) + b_(i+7) + c_i, indices modulo 8, with c = 63 (5.1.1)
+-- the affine map: bit i is b_i + b_(i+4) + b_(i+5) + b_(i+6) + b_(i+7) + c_i, indices modulo 8, with c = 63
+-- (5.1.1)
 unfoldable pub affine : ℕ → ℕ
 affine y =
     let b : ℕ → Bool = λ i. bit y (i % 8) in

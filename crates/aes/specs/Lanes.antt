@@ -1,5 +1,6 @@
 -- Four blocks in a vector of 64 bytes, and the bytes of the field in another basis.
-use Rattle.std.specs.Prelude.{◌≤◌, ◌≡◌, ℕ, ◌+◌, ◌*◌, ◌/◌, ◌%◌, ◌<◌, true, ◌||◌, nat_le, nat_lt, List, [], length, slice_index, slice_index_or, if◌then◌else◌, bit_xor}
+use Rattle.std.specs.Prelude.{◌≤◌, ◌≡◌, ℕ, ◌+◌, ◌*◌, ◌/◌, ◌%◌, ◌<◌, true, ◌||◌, nat_le, nat_lt, List, []}
+use Rattle.std.specs.Prelude.{length, slice_index, slice_index_or, if◌then◌else◌, bit_xor}
 use Rattle.aes.specs.Field.{sbox}
 use Rattle.aes.specs.Schedule.{round_count, schedule}
 use Rattle.aes.specs.declared.lanes.TheConstants.{TO_LOW, TO_HIGH}

@@ -1,5 +1,7 @@
 -- The key schedule (FIPS 197, 5.2). A word is a list of four bytes. A key has Nk words: 4, 6 or 8.
-use Rattle.std.specs.Prelude.{◌≡◌, ℕ, zero, suc, ◌+◌, ◌-◌, ◌*◌, ◌/◌, ◌%◌, ◌<◌, ◌≤◌, Bool, true, false, ◌&&◌, ◌==◌, nat_lt, List, [], ◌∷◌, ◌++◌, map, take, drop, get_or, length, replicate, bit_xor, if◌then◌else◌}
+use Rattle.std.specs.Prelude.{◌≡◌, ℕ, zero, suc, ◌+◌, ◌-◌, ◌*◌, ◌/◌, ◌%◌, ◌<◌, ◌≤◌, Bool, true, false, ◌&&◌}
+use Rattle.std.specs.Prelude.{◌==◌, nat_lt, List, [], ◌∷◌, ◌++◌, map, take, drop, get_or, length, replicate}
+use Rattle.std.specs.Prelude.{bit_xor, if◌then◌else◌}
 use Rattle.std.specs.List.{range_with_len}
 use Rattle.octets.specs.Bits.{number}
 use Rattle.octets.specs.Polynomial.{residue}
@@ -58,7 +60,8 @@ schedule key = words key (4 * (round_count key + 1))
 abbrev pub word : List ℕ → ℕ → List ℕ
 word key i = get_or (schedule key) i []
 
--- a word below Nk is the key's; any other is the sum of the word Nk places back and what is made of the word before
+-- a word below Nk is the key's; any other is the sum of the word Nk places back and what is made of the
+-- word before
 abbrev pub MeetsRecurrence : Type 0
 MeetsRecurrence = (key : List ℕ) (i : ℕ) → 0 < key_words key → i < 4 * (round_count key + 1)
     → (i < key_words key → word key i ≡ take 4 (drop (4 * i) key))

@@ -7,8 +7,8 @@ use Rattle.aes.specs.declared.counter.Counter.{Counter}
 use Rattle.aes.specs.declared.counter.CtrBe.{CtrBe}
 use Rattle.aes.specs.declared.counter.CtrLe.{CtrLe}
 
--- s has made this many bytes of the stream from the first block on: it has begun their blocks, counted modulo 2^32,
--- and where the last one is not used up it keeps its cipher
+-- s has made this many bytes of the stream from the first block on: it has begun their blocks, counted
+-- modulo 2^32, and where the last one is not used up it keeps its cipher
 pub record Makes {C : Type 0} (up : List ℕ → ℕ → List ℕ) (s : Counter C) (key : List ℕ) (first : List ℕ) (made : ℕ) : Type 0 where
   pub key_is : s.key ≡ key
   pub first_is : s.first ≡ first
@@ -16,7 +16,8 @@ pub record Makes {C : Type 0} (up : List ℕ → ℕ → List ℕ) (s : Counter 
   pub used_is : s.used ≡ made % 16
   pub mask_is : 0 < made % 16 → s.mask ≡ cipher key (up first (made / 16))
 
--- s becomes t, and was becomes now: wherever s has made a number of bytes, the next ones are XORed in, and t has made them too
+-- s becomes t, and was becomes now: wherever s has made a number of bytes, the next ones are XORed in, and
+-- t has made them too
 abbrev pub Advances : {C : Type 0} (up : List ℕ → ℕ → List ℕ) (s t : Counter C) (was now : List ℕ) → Type 0
 Advances up s t was now = (key first : List ℕ) (made : ℕ) → Makes up s key first made
     → Makes up t key first (made + length was) × (now ≡ masked (counter_byte up key first) made was)

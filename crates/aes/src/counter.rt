@@ -3,15 +3,16 @@
 ghost use Rattle.std.specs.Prelude.{◌≡◌, ℕ, ◌+◌, ◌%◌, ◌^◌, ◌<◌, ◌≤◌, List, ◌++◌, length};
 ghost use Rattle.octets.specs.Bytes.{block_at};
 ghost use Rattle.octets.specs.Masked.{masked};
-ghost use Rattle.aes.specs.Counters.{CountsOn, WrapsAround, counter_byte, up_be, up_le, up_be-wraps, up_le-wraps};
+ghost use Rattle.aes.specs.Counters.{CountsOn, WrapsAround, counter_byte, up_be, up_le, up_be-wraps};
+ghost use Rattle.aes.specs.Counters.{up_le-wraps};
 
 use crate::key::AesKey;
 use byteorder::{BigEndian, ByteOrder, LittleEndian};
 use octets::{Block, xor_into};
 use std::marker::PhantomData;
 
-/// The law of counting blocks (SP 800-38D, 6.2; RFC 8452, 4): no step leaves a block of 16 bytes as it is, and j + 1 steps
-/// are one step more than j. The call does nothing; its contract is the law.
+/// The law of counting blocks (SP 800-38D, 6.2; RFC 8452, 4): 0 steps lead from a block of 16 bytes to itself,
+/// and j + 1 steps to the block one step after the j-th. The call does nothing; its contract is the law.
 pub fn blocks_count_on()
     ensures big_endian { CountsOn up_be }
     ensures little_endian { CountsOn up_le }
@@ -87,8 +88,8 @@ impl Count for FirstFour {
     }
 }
 
-// A stream from its first block on: how many blocks were begun, modulo 2^32, and the cipher of the last one with the
-// number of its bytes that were used, 0 where all were.
+// A stream from its first block on: how many blocks were begun, modulo 2^32, and the cipher of the last one
+// with the number of its bytes that were used, 0 where all were.
 #[derive(Drop)]
 struct Counter<C> {
     key: AesKey,
@@ -219,8 +220,8 @@ impl<C: Count> Counter<C> {
     }
 }
 
-/// The stream of AES-GCM: the ciphers of blocks that count in their last four bytes, most significant byte first, modulo
-/// 2^32 (SP 800-38D, 6.5).
+/// The stream of AES-GCM: the ciphers of blocks that count in their last four bytes, most significant byte
+/// first, modulo 2^32 (SP 800-38D, 6.5).
 #[derive(Drop)]
 pub struct CtrBe {
     counter: Counter<LastFour>,
@@ -238,18 +239,19 @@ impl CtrBe {
         }
     }
 
-    /// XORs the next bytes of the stream into `bytes`, of any length: two calls do what one call does for both pieces in
-    /// turn. It has no fault: after 2^32 blocks the stream begins again (SP 800-38D, 6.5).
+    /// XORs the next bytes of the stream into `bytes`, of any length: two calls do what one call does for
+    /// both pieces in turn. It has no fault: after 2^32 blocks the stream begins again (SP 800-38D, 6.5).
     pub fn apply(&mut self, bytes: &mut [u8])
         ensures { (key first : List ℕ) (made : ℕ) → HoldsBe self.old key first made
-            → HoldsBe self.new key first (made + length bytes.old) × (bytes.new ≡ masked (counter_byte up_be key first) made bytes.old) }
+            → HoldsBe self.new key first (made + length bytes.old)
+            × (bytes.new ≡ masked (counter_byte up_be key first) made bytes.old) }
     {
         self.counter.apply(bytes);
     }
 }
 
-/// The stream of AES-GCM-SIV: the ciphers of blocks that count in their first four bytes, least significant byte first,
-/// modulo 2^32 (RFC 8452, 4).
+/// The stream of AES-GCM-SIV: the ciphers of blocks that count in their first four bytes, least significant
+/// byte first, modulo 2^32 (RFC 8452, 4).
 #[derive(Drop)]
 pub struct CtrLe {
     counter: Counter<FirstFour>,
@@ -267,11 +269,12 @@ impl CtrLe {
         }
     }
 
-    /// XORs the next bytes of the stream into `bytes`, of any length: two calls do what one call does for both pieces in
-    /// turn. It has no fault: after 2^32 blocks the stream begins again (RFC 8452, 4).
+    /// XORs the next bytes of the stream into `bytes`, of any length: two calls do what one call does for
+    /// both pieces in turn. It has no fault: after 2^32 blocks the stream begins again (RFC 8452, 4).
     pub fn apply(&mut self, bytes: &mut [u8])
         ensures { (key first : List ℕ) (made : ℕ) → HoldsLe self.old key first made
-            → HoldsLe self.new key first (made + length bytes.old) × (bytes.new ≡ masked (counter_byte up_le key first) made bytes.old) }
+            → HoldsLe self.new key first (made + length bytes.old)
+            × (bytes.new ≡ masked (counter_byte up_le key first) made bytes.old) }
     {
         self.counter.apply(bytes);
     }

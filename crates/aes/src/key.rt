@@ -73,7 +73,8 @@ impl AesKey {
 
     /// The key with these bytes: 16, 24 or 32. Any other length is `KeyLength`, the only fault (FIPS 197, 5).
     pub fn from_slice(key: &[u8]) -> Result<AesKey, Fault>
-        ensures { MatchResult result (λ k. (k ≡ key.now) × IsKey key.now) (λ e. (e ≡ Fault.KeyLength) × ¬ IsKeyLength (length key.now)) }
+        ensures { MatchResult result (λ k. (k ≡ key.now) × IsKey key.now)
+            (λ e. (e ≡ Fault.KeyLength) × ¬ IsKeyLength (length key.now)) }
     {
         let size = match key.len() {
             16 => 4,
@@ -172,8 +173,8 @@ impl AesKey {
         InverseKey::new(unmix_words(&self.words, self.size + 6), self.size)
     }
 
-    /// The block of 16 bytes that the cipher takes to `block`; it is the only one (FIPS 197, 5.3). For many blocks make the
-    /// `inverse` once.
+    /// The block of 16 bytes that the cipher takes to `block`; it is the only one (FIPS 197, 5.3). For many
+    /// blocks make the `inverse` once.
     pub fn decrypt(&self, block: &Block) -> Block
         ensures value { IsPreimage self.now block.now result }
         ensures is_block { IsBlock result }

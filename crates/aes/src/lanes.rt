@@ -1,12 +1,15 @@
-// Four blocks at once by look-ups in tables of sixteen bytes, with no table in memory. The field of 256 elements is seen over
-// its subfield of 16, in which an inverse is five look-ups; 0x80 stands for the inverse of 0.
+// Four blocks at once by look-ups in tables of sixteen bytes, with no table in memory. The field of 256
+// elements is seen over its subfield of 16, in which an inverse is five look-ups; 0x80 stands for the
+// inverse of 0.
 
-ghost use Rattle.std.specs.Prelude.{◌≡◌, ℕ, ◌%◌, ◌<◌, ◌≤◌, ◌/◌, List, [], slice_index, slice_index_or, length, bit_xor};
+ghost use Rattle.std.specs.Prelude.{◌≡◌, ℕ, ◌%◌, ◌<◌, ◌≤◌, ◌/◌, List, [], slice_index, slice_index_or};
+ghost use Rattle.std.specs.Prelude.{length, bit_xor};
 ghost use Rattle.octets.specs.Bytes.{IsBlock};
 ghost use Rattle.aes.specs.Field.{times, sbox};
 ghost use Rattle.aes.specs.Cipher.{sub_bytes, shift_rows, mix_columns, add_round_key};
 ghost use Rattle.aes.specs.Columns.{columns_of};
-ghost use Rattle.aes.specs.Lanes.{HasLanes, IsPlace, entry, key_byte, row_source, row_below, row_above, in_basis, linear_sbox, HoldsBlocks, HoldsInBasis, ready_byte};
+ghost use Rattle.aes.specs.Lanes.{HasLanes, IsPlace, entry, key_byte, row_source, row_below, row_above};
+ghost use Rattle.aes.specs.Lanes.{in_basis, linear_sbox, HoldsBlocks, HoldsInBasis, ready_byte};
 
 use crate::columns::round_key;
 use std::simd::prelude::*;
@@ -136,11 +139,14 @@ fn to_basis(x: u8x64) -> u8x64
     sum(look(TO_LOW, low_nibbles(x)), look(TO_HIGH, high_nibbles(x)))
 }
 
-// What the S-box without its constant makes of bytes in the basis: itself, and itself and twice itself in the basis.
+// What the S-box without its constant makes of bytes in the basis: itself, and itself and twice itself in
+// the basis.
 #[inline(always)]
 fn substitute(x: u8x64) -> (u8x64, u8x64, u8x64)
     ensures { (s : ℕ → ℕ) → ((k : ℕ) → k < 64 → s k < 256) → HasLanes x (λ k. in_basis (s k))
-        → HasLanes result.0 (λ k. linear_sbox (s k)) × HasLanes result.1 (λ k. in_basis (linear_sbox (s k))) × HasLanes result.2 (λ k. in_basis (times 2 (linear_sbox (s k)))) }
+        → HasLanes result.0 (λ k. linear_sbox (s k))
+        × HasLanes result.1 (λ k. in_basis (linear_sbox (s k)))
+        × HasLanes result.2 (λ k. in_basis (times 2 (linear_sbox (s k)))) }
 {
     let low = low_nibbles(x);
     let high = high_nibbles(x);
@@ -192,7 +198,8 @@ pub(crate) fn spread(key: [u32; 4]) -> u8x64
 // AddRoundKey before the first round, and the change of basis.
 #[inline(always)]
 pub(crate) fn first_four(x: u8x64, key: u8x64) -> u8x64
-    ensures { (f : ℕ → List ℕ) (ws : List (List ℕ)) → HoldsBlocks x f → HasLanes key (key_byte ws) → HoldsInBasis result (λ q. add_round_key ws 0 (f q)) }
+    ensures { (f : ℕ → List ℕ) (ws : List (List ℕ)) → HoldsBlocks x f → HasLanes key (key_byte ws)
+        → HoldsInBasis result (λ q. add_round_key ws 0 (f q)) }
 {
     to_basis(sum(x, key))
 }
@@ -209,7 +216,8 @@ fn first_sixteen(x: u8x64) -> [u8; 16]
 // The words of the rounds up to the last one in the basis, less the constant of the S-box there.
 pub(crate) fn ready_keys(words: &[u32; 60], last: usize) -> [[u8; 16]; 15]
     requires { last < 15 }
-    ensures { (n i : ℕ) → n ≤ last → i < 16 → slice_index (slice_index_or result n []) i ≡ ready_byte (columns_of words.now) n i }
+    ensures { (n i : ℕ) → n ≤ last → i < 16
+        → slice_index (slice_index_or result n []) i ≡ ready_byte (columns_of words.now) n i }
 {
     let mut keys = [[0; 16]; 15];
     for n in 0..last + 1 {
@@ -222,7 +230,8 @@ pub(crate) fn ready_keys(words: &[u32; 60], last: usize) -> [[u8; 16]; 15]
 // A round but the last in each block (FIPS 197, 5.1), by its key made ready.
 #[inline(always)]
 pub(crate) fn round_four(x: u8x64, key: [u8; 16]) -> u8x64
-    ensures { (f : ℕ → List ℕ) (ws : List (List ℕ)) → ((q : ℕ) → IsBlock (f q)) → ((k r : ℕ) → slice_index (slice_index_or ws k []) r < 256) → HoldsInBasis x f
+    ensures { (f : ℕ → List ℕ) (ws : List (List ℕ)) → ((q : ℕ) → IsBlock (f q))
+        → ((k r : ℕ) → slice_index (slice_index_or ws k []) r < 256) → HoldsInBasis x f
         → ((i : ℕ) → i < 16 → slice_index key i ≡ ready_byte ws 0 i)
         → HoldsInBasis result (λ q. add_round_key ws 0 (mix_columns (shift_rows (sub_bytes (f q))))) }
 {
@@ -235,7 +244,8 @@ pub(crate) fn round_four(x: u8x64, key: [u8; 16]) -> u8x64
 // The last round in each block, out of the basis.
 #[inline(always)]
 pub(crate) fn last_four(x: u8x64, key: u8x64) -> u8x64
-    ensures { (f : ℕ → List ℕ) (ws : List (List ℕ)) → ((q : ℕ) → IsBlock (f q)) → HoldsInBasis x f → HasLanes key (key_byte ws)
+    ensures { (f : ℕ → List ℕ) (ws : List (List ℕ)) → ((q : ℕ) → IsBlock (f q)) → HoldsInBasis x f
+        → HasLanes key (key_byte ws)
         → HoldsBlocks result (λ q. add_round_key ws 0 (shift_rows (sub_bytes (f q)))) }
 {
     let (plain, _, _) = substitute(shifted(x));

@@ -1,4 +1,5 @@
-//! AES with keys of 128, 192 and 256 bits, both ways (FIPS 197), and its streams of counting blocks (SP 800-38D, RFC 8452).
+//! AES with keys of 128, 192 and 256 bits, both ways (FIPS 197), and its streams of counting blocks (SP
+//! 800-38D, RFC 8452).
 #![tactic(auto)]
 
 mod cipher;
@@ -8,6 +9,7 @@ mod inverse;
 mod inverse_key;
 mod key;
 mod lanes;
+mod round_tables;
 mod sbox;
 mod schedule;
 #[cfg(test)]

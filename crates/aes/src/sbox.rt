@@ -57,8 +57,8 @@ pub(crate) fn unsubstitute(y: u8) -> u8
     INVERSE_SBOX[y as usize]
 }
 
-/// The law of the field's inverses (FIPS 197, 4.4): the inverse of a byte other than 0 is the only byte whose product
-/// with it is 1, and the inverse of 0 is 0. The call does nothing; its contract is the law.
+/// The law of the field's inverses (FIPS 197, 4.4): the inverse of a byte other than 0 is the only byte
+/// whose product with it is 1, and the inverse of 0 is 0. The call does nothing; its contract is the law.
 pub fn inverse_is_the_only()
     ensures { (x : ℕ) → x < 256 → IsInverse x (inverse x) }
 {}

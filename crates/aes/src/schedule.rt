@@ -55,7 +55,8 @@ fn next_word(nk: usize, i: usize, back: u32, previous: u32) -> u32
     }
 }
 
-// The schedule of a key of nk words, and zero words after it. Where nk is a constant of the caller, nothing is divided.
+// The schedule of a key of nk words, and zero words after it. Where nk is a constant of the caller, nothing
+// is divided.
 #[inline(always)]
 fn expand_by(key: &[u8], nk: usize) -> [u32; 60]
     requires size { IsKeySize nk }
@@ -89,8 +90,9 @@ pub(crate) fn expand(key: &[u8], nk: usize) -> [u32; 60]
     }
 }
 
-/// The law of the key schedule (FIPS 197, 5.2): a word below Nk is the key's; any other is the sum of the word Nk places
-/// back and what is made of the word before it. The call does nothing; its contract is the law.
+/// The law of the key schedule (FIPS 197, 5.2): a word below Nk is the key's; any other is the sum of the
+/// word Nk places back and what is made of the word before it. The call does nothing; its contract is the
+/// law.
 pub fn schedule_recurs()
     ensures { MeetsRecurrence }
 {}

@@ -110,8 +110,8 @@ fn stream_of_four_blocks(rt: HostRuntime) -> Result<(), Fail> {
     Ok(())
 }
 
-// Twelve bytes 00 and ffffffff under the key of sixteen 00: the second block counts from 2^32 - 1 to 0. Its cipher is that
-// of sixteen 00.
+// Twelve bytes 00 and ffffffff under the key of sixteen 00: the second block counts from 2^32 - 1 to 0. Its
+// cipher is that of sixteen 00.
 const LAST: [u8; 16] = [0, 0, 0, 0, 0, 0, 0, 0, 0, 0, 0, 0, 0xff, 0xff, 0xff, 0xff];
 
 #[test]

@@ -19,10 +19,8 @@ returns t =
     let row1 : ℕ = get_or t.to_le_bytes-2.result 1 0 in
     let row2 : ℕ = get_or t.to_le_bytes-3.result 2 0 in
     let row3 : ℕ = get_or t.to_le_bytes-4.result 3 0 in
-    rw (t.rotate_left-moved1.ensures, t.rotate_left-moved2.ensures, t.rotate_left-moved3.ensures) (
-    mixed_is (sbox row0) (sbox row1) (sbox row2) (sbox row3) key t.entry-4.result t.entry.result t.entry-2.result t.entry-3.result
-    t.entry-4.type_inv t.entry.type_inv t.entry-2.type_inv t.entry-3.type_inv
+    mixed_is (sbox row0) (sbox row1) (sbox row2) (sbox row3) key t.entry.result t.entry_row1.result t.entry_row2.result t.entry_row3.result
     (sbox_small row0 (rw a (column_small t.args.a 0))) (sbox_small row1 (rw b (column_small t.args.b 1)))
     (sbox_small row2 (rw c (column_small t.args.c 2))) (sbox_small row3 (rw d (column_small t.args.d 3)))
-    t.entry-4.ensures t.entry.ensures t.entry-2.ensures t.entry-3.ensures
-    ∙ ap (λ (v : List ℕ). xor_word (mix_column v) (column_of key)) (four (ap sbox a) (ap sbox b) (ap sbox c) (ap sbox d)))
+    t.entry.ensures t.entry_row1.ensures t.entry_row2.ensures t.entry_row3.ensures
+    ∙ ap (λ (v : List ℕ). xor_word (mix_column v) (column_of key)) (four (ap sbox a) (ap sbox b) (ap sbox c) (ap sbox d))
