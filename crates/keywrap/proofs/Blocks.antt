@@ -19,7 +19,7 @@ length_added ws n s =
     length-map-range_with_len (λ i. bit_xor (at s (i % 4) (i / 4)) (get_or (get_or ws (4 * n + i / 4) []) (i % 4) 0)) 0 16
 
 -- the cipher makes a block, whatever the key
-length_cipher : (key b : List ℕ) → length (cipher key b) ≡ 16
+pub length_cipher : (key b : List ℕ) → length (cipher key b) ≡ 16
 unfolding cipher
 length_cipher key b =
     length_added (schedule key) (round_count key) (shift_rows (sub_bytes (rounds (schedule key) (round_count key - 1) b)))

@@ -1,16 +1,20 @@
 -- Texts to pad, what their wrappings begin with, and what is made of it.
-use Rattle.std.proofs.Common.{◌≡◌, ◌≢◌, ℕ, zero, suc, ◌+◌, ◌-◌, ◌*◌, ◌/◌, ◌%◌, ◌^◌, ◌<◌, ◌≤◌, ◌==◌, Bool, true, false, eqb, List, [], ◌∷◌, ◌++◌, take, drop, length, replicate, refl, sym, ap, ap₂, ◌∙◌, arith, length-append, length-drop}
-use Rattle.std.specs.Prelude.{Option, Some, None, MatchOption}
+use Rattle.std.proofs.Common.{◌≡◌, ◌≢◌, ℕ, zero, suc, ◌+◌, ◌-◌, ◌*◌, ◌/◌, ◌%◌, ◌^◌, ◌<◌, ◌≤◌, ◌==◌, Bool, true, false, eqb, List, [], ◌∷◌, ◌++◌, take, drop, length, replicate, refl, sym, ap, ap₂, ◌∙◌, arith, length-append, length-drop, append_assoc}
+use Rattle.std.specs.Prelude.{Option, Some, None, MatchOption, IfSome}
 use Rattle.std.specs.List.{list_all}
 use Rattle.std.specs.Int.{bytes_high_first, from_be_bytes, w32}
 use Rattle.std.proofs.lemmas.Nat.{from_be_bytes-to_be_bytes_4}
 use Rattle.std.proofs.lemmas.Bool.{and_parts, eqb-true}
-use Rattle.std.proofs.lemmas.List.{drop_at, take-append-drop, take_all, length-replicate, length-take-le}
+use Rattle.std.proofs.lemmas.List.{take_at, drop_at, drop_all, append-nil, take-append-drop, take_all, length-replicate, length-take-le}
+use Rattle.std.proofs.Math.Seq.{take-add}
 use Rattle.octets.specs.Bytes.{AreBytes}
 use Rattle.aes.specs.Cipher.{cipher, IsKey, IsPermutation}
 use Rattle.keywrap.specs.Wrapping.{steps}
-use Rattle.keywrap.specs.Padded.{constant, alternative_value, padded, transformed, HasPaddableLength, HasBlocks, IsStartOf, UnwrappedPadded, IsNoPaddedWrapping, HasOnePaddedText}
-use Rattle.keywrap.proofs.Bytes.{bytes_append, bytes_resized, bytes_take, bytes_replicate, bytes_number, same_front, same_back, steps_bytes, steps_one_to_one}
+use Rattle.keywrap.specs.Padded.{constant, alternative_value, padded, transformed, HasPaddableLength, HasBlocks, HasPaddedRoom, IsStartOf, UnwrappedPadded, IsNoPaddedWrapping, HasOnePaddedText}
+use borrow.Rule.Slice.PartMut.{put_mid}
+use Rattle.keywrap.proofs.Blocks.{length_cipher}
+use Rattle.keywrap.proofs.Texts.{steps_length}
+use Rattle.keywrap.proofs.Bytes.{bytes_append, bytes_resized, bytes_take, bytes_drop, bytes_replicate, bytes_number, same_front, same_back, steps_bytes, steps_one_to_one}
 
 -- a list of sixteen bytes is its own front
 front_16 : (s : List ℕ) → length s ≡ 16 → take 16 s ≡ s
@@ -146,11 +150,23 @@ padded_by n blocks whole least few h =
     let rest : length (drop n blocks) ≡ (8 - length (take n blocks) % 8) % 8 = length-drop n blocks ∙ omega arith in
     sym (take-append-drop n blocks) ∙ ap (λ z. take n blocks ++ z) (zeros (drop n blocks) h ∙ ap (λ m. replicate m 0) rest)
 
+-- what is made of a register of blocks is as long, whatever the key
+made_length : (b : Bool) (key s : List ℕ) → eqb (length s) 16 ≡ b → 16 ≤ length s → length (transformed key s) ≡ length s
+made_length true key s e l =
+    let long : length s ≡ 16 = eqb-true (length s) 16 e in
+    ap length (transformed_one key s long) ∙ length_cipher key s ∙ sym long
+made_length false key s e l =
+    let d : length s ≢ 16 = λ is. fails (sym (ap (λ m. eqb m 16) is) ∙ e) in
+    ap length (transformed_more key s d) ∙ steps_length key s (6 * ((length s - 8) / 8)) l
+
 -- the lengths of a wrapping with padding
-pub wrapped_long : (key wrapped text : List ℕ) → IsPermutation → IsKey key → UnwrappedPadded key wrapped text → HasBlocks wrapped × (length wrapped ≤ 2 ^ 32 + 8)
-wrapped_long key wrapped text law k u =
-    let long : length wrapped ≡ 8 + length (padded text) = (wrapped_bytes key wrapped text law k u).length_is in
+pub wrapped_long : (key wrapped text : List ℕ) → UnwrappedPadded key wrapped text → HasBlocks wrapped × (length wrapped ≤ 2 ^ 32 + 8)
+wrapped_long key wrapped text u =
+    let s : List ℕ = start text in
     let fits = padded_long text in
+    let begins : length s ≡ 8 + length (padded text) = length-append (alternative_value (length text)) (padded text) in
+    let long : length wrapped ≡ 8 + length (padded text) =
+    ap length u.is ∙ made_length (eqb (length s) 16) key s refl (omega (arith, begins, start_long text u.length_is.least)) ∙ begins in
     (record { least = omega (arith, long, fits.0, fits.1, u.length_is.least); whole = omega (arith, long, fits.0) }, omega (arith, long, fits.0, fits.2, u.length_is.most))
 
 -- A and the blocks of a wrapping, taken apart
@@ -194,12 +210,52 @@ few_zeros n l = take_zeros 8 n l where
   take_zeros zero (suc n) l = absurd (omega arith)
   take_zeros (suc m) (suc n) l = ap (λ (xs : List ℕ). 0 ∷ xs) (take_zeros m n (omega arith))
 
+-- the alternative initial value, in its two parts
+pub value_of : (n : ℕ) (count first second value : List ℕ) → count ≡ bytes_high_first 4 n → first ≡ constant → second ≡ count
+    → value ≡ first ++ second → value ≡ alternative_value n
+value_of n count first second value e f h k = k ∙ ap₂ (λ x y. x ++ y) f (h ∙ e)
+
 -- a start that was put together part by part
-pub started : (text value first second third last : List ℕ) → first ≡ constant → value ≡ bytes_high_first 4 (length text) → second ≡ first ++ value → third ≡ second ++ text
-    → last ≡ third ++ take {A = ℕ} ((8 - length text % 8) % 8) (0 ∷ 0 ∷ 0 ∷ 0 ∷ 0 ∷ 0 ∷ 0 ∷ 0 ∷ []) → last ≡ start text
-started text value first second third last a b d e f =
-    let zeros_are : take {A = ℕ} ((8 - length text % 8) % 8) (0 ∷ 0 ∷ 0 ∷ 0 ∷ 0 ∷ 0 ∷ 0 ∷ 0 ∷ []) ≡ replicate ((8 - length text % 8) % 8) 0 = few_zeros ((8 - length text % 8) % 8) (omega arith) in
-    f ∙ ap₂ (λ x y. x ++ y) (e ∙ ap (λ x. x ++ text) (d ∙ ap₂ (λ x y. x ++ y) a b)) zeros_are
+pub started : (text value first second last : List ℕ) → value ≡ alternative_value (length text) → first ≡ value → second ≡ first ++ text
+    → last ≡ second ++ take {A = ℕ} ((8 - length text % 8) % 8) (0 ∷ 0 ∷ 0 ∷ 0 ∷ 0 ∷ 0 ∷ 0 ∷ 0 ∷ []) → last ≡ start text
+started text value first second last a b e f =
+    let z : List ℕ = replicate ((8 - length text % 8) % 8) 0 in
+    f ∙ ap₂ (λ x y. x ++ y) (e ∙ ap (λ x. x ++ text) (b ∙ a)) (few_zeros ((8 - length text % 8) % 8) (omega arith))
+    ∙ append_assoc (alternative_value (length text)) text z
+
+-- the text in its room, with A written in front and zeros past it
+pub wrapped_in_room : (key bytes value zeros wrapped : List ℕ) (n : ℕ) → HasPaddedRoom bytes n → n < 2 ^ 32 → AreBytes (length bytes) bytes
+    → value ≡ alternative_value n → zeros ≡ take {A = ℕ} (length bytes - 8 - n) (0 ∷ 0 ∷ 0 ∷ 0 ∷ 0 ∷ 0 ∷ 0 ∷ 0 ∷ [])
+    → wrapped ≡ transformed key (put_mid (8 + n) (length (value ++ drop 8 bytes) - (8 + n)) (value ++ drop 8 bytes) zeros)
+    → UnwrappedPadded key wrapped (take n (drop 8 bytes))
+wrapped_in_room key bytes value zeros wrapped n room most b v z e =
+    let text : List ℕ = take n (drop 8 bytes) in
+    let least : 1 ≤ n = room.least in
+    let size : length bytes ≡ 8 + (n + (8 - n % 8) % 8) = room.room in
+    let within : n ≤ length (drop 8 bytes) = omega (arith, length-drop 8 bytes) in
+    let long : length text ≡ n = length-take-le n (drop 8 bytes) within in
+    let eight : length value ≡ 8 = ap length v in
+    let count : length bytes - 8 - n ≡ (8 - n % 8) % 8 = omega arith in
+    let front : take (8 + n) (value ++ drop 8 bytes) ≡ value ++ text =
+    take-add 8 n (value ++ drop 8 bytes) ∙ ap₂ (λ x y. x ++ take n y) (take_at value (drop 8 bytes) 8 eight) (drop_at value (drop 8 bytes) 8 eight) in
+    let all : List ℕ = value ++ drop 8 bytes in
+    let none : drop (length all - (8 + n)) (drop (8 + n) all) ≡ [] =
+    drop_all (length all - (8 + n)) (drop (8 + n) all) (omega (arith, length-drop (8 + n) all)) in
+    let past : zeros ≡ replicate ((8 - n % 8) % 8) 0 =
+    z ∙ ap (λ m. take {A = ℕ} m (0 ∷ 0 ∷ 0 ∷ 0 ∷ 0 ∷ 0 ∷ 0 ∷ 0 ∷ [])) count ∙ few_zeros ((8 - n % 8) % 8) (omega arith) in
+    record {
+      length_is = record { least = omega arith; most = omega arith };
+      bytes = bytes_resized n (length text) text (sym long) (bytes_take n (length bytes - 8) (drop 8 bytes) (omega arith) (bytes_drop 8 (length bytes) bytes b));
+      is = e ∙ ap (transformed key) (ap₂ (λ x y. x ++ y) front (ap (λ y. zeros ++ y) none ∙ append-nil zeros ∙ past) ∙ append_assoc value text (replicate ((8 - n % 8) % 8) 0)
+          ∙ ap₂ (λ x m. x ++ (text ++ replicate ((8 - m % 8) % 8) 0)) (v ∙ ap alternative_value (sym long)) (sym long));
+    }
+
+-- where a length was found, the text of that length is what the register begins with
+pub start_found : (first rest : List ℕ) (found : Option ℕ)
+    → MatchOption found ((text : List ℕ) → ¬ IsStartOf text first rest) (λ n. (n ≤ length rest) × IsStartOf (take n rest) first rest)
+    → IfSome found (λ n. IsStartOf (take n rest) first rest)
+start_found first rest None h = tt
+start_found first rest (Some n) h = h.1
 
 -- the length that was found is that of the text of a wrapping, and where none was found, there is no text
 pub found_by : (key wrapped first rest : List ℕ) (found : Option ℕ) → IsPermutation → IsKey key → AreBytes (length wrapped) (first ++ rest) → length first ≡ 8
@@ -208,3 +264,13 @@ pub found_by : (key wrapped first rest : List ℕ) (found : Option ℕ) → IsPe
     → MatchOption found (IsNoPaddedWrapping key wrapped) (λ n. (n ≤ length rest) × UnwrappedPadded key wrapped (take n rest))
 found_by key wrapped first rest None law k b long r e h = no_wrapping key wrapped first rest law k b long e h
 found_by key wrapped first rest (Some n) law k b long r e h = (h.0, unwrapped_by key wrapped first rest n h.0 r h.1 e)
+
+-- the blocks of a register of which A was written again
+pub rest_in_place : (x xs ys : List ℕ) → length x ≡ 8 → 16 ≤ length xs → length ys ≡ length xs - 8
+    → drop 8 (x ++ drop 8 (put_mid 8 (length xs - 8) xs ys)) ≡ ys
+rest_in_place x xs ys lx l ly =
+    let z : List ℕ = drop (length xs - 8) (drop 8 xs) in
+    drop_at x (drop 8 (put_mid 8 (length xs - 8) xs ys)) 8 lx
+    ∙ drop_at (take 8 xs) (ys ++ z) 8 (length-take-le 8 xs (omega arith))
+    ∙ ap (λ v. ys ++ v) (drop_all (length xs - 8) (drop 8 xs) (omega (arith, length-drop 8 xs)))
+    ∙ append-nil ys

@@ -1,10 +1,13 @@
 -- Wrappings and their texts.
-use Rattle.std.proofs.Common.{◌≡◌, ℕ, ◌+◌, ◌-◌, ◌*◌, ◌/◌, ◌≤◌, List, ◌++◌, take, drop, length, refl, sym, ap, ap₂, ◌∙◌, arith, length-append, length-drop, take_all}
-use Rattle.std.proofs.lemmas.List.{take_at, take-append-drop}
-use Rattle.octets.specs.Bytes.{AreBytes}
-use Rattle.aes.specs.Cipher.{IsKey, IsPermutation}
-use Rattle.keywrap.specs.Wrapping.{steps, initial_value, HasTextLength, HasWrappedLength, Unwrapped, IsNoWrapping, HasOneText}
-use Rattle.keywrap.proofs.Bytes.{bytes_append, bytes_resized, bytes_replicate, same_back, steps_bytes, steps_one_to_one}
+use Rattle.std.proofs.Common.{◌≡◌, ℕ, ◌+◌, ◌-◌, ◌*◌, ◌/◌, ◌≤◌, List, ◌++◌, take, drop, length, refl, sym, ap, ap₂, ◌∙◌, zero, suc, arith, length-append, length-drop, take_all}
+use Rattle.std.proofs.lemmas.List.{take_at, take-append-drop, length-take-le}
+use Rattle.std.specs.Int.{bytes_high_first}
+use Rattle.octets.specs.Bytes.{AreBytes, xor_bytes}
+use Rattle.octets.proofs.Xors.{length-xor_bytes}
+use Rattle.aes.specs.Cipher.{cipher, IsKey, IsPermutation}
+use Rattle.keywrap.specs.Wrapping.{step, steps, initial_value, HasTextLength, HasWrappedLength, Unwrapped, IsNoWrapping, HasOneText}
+use Rattle.keywrap.proofs.Blocks.{length_cipher}
+use Rattle.keywrap.proofs.Bytes.{length_number, bytes_append, bytes_resized, bytes_replicate, same_back, steps_bytes, steps_one_to_one}
 
 -- the initial value and a text of n bytes are 8 + n bytes
 pub start_bytes : (n : ℕ) (text : List ℕ) → AreBytes n text → AreBytes (8 + n) (initial_value ++ text)
@@ -17,6 +20,35 @@ wrapped_bytes key wrapped text law k u =
     rw u.is
     (steps_bytes key (initial_value ++ text) (6 * (length text / 8)) (8 + length text) law k
     (start_bytes (length text) text u.bytes) (omega arith))
+
+-- a step keeps the register's length, whatever the key
+step_length : (key s : List ℕ) (t : ℕ) → 16 ≤ length s → length (step key t s) ≡ length s
+unfolding step
+step_length key s t l =
+    let b : List ℕ = cipher key (take 16 s) in
+    let n : List ℕ = bytes_high_first 8 t in
+    let whole : length b ≡ 16 = length_cipher key (take 16 s) in
+    let half : length (take 8 b) ≡ 8 = length-take-le 8 b (omega arith) in
+    let first : length (xor_bytes (take 8 b) n) ≡ 8 = length-xor_bytes (take 8 b) n (half ∙ sym (length_number 8 t)) ∙ half in
+    let rest : length (drop 16 s ++ drop 8 b) ≡ length (drop 16 s) + length (drop 8 b) = length-append (drop 16 s) (drop 8 b) in
+    length-append (xor_bytes (take 8 b) n) (drop 16 s ++ drop 8 b) ∙ omega (arith, first, rest, length-drop 16 s, length-drop 8 b)
+
+-- the same for many steps
+pub steps_length : (key s : List ℕ) (t : ℕ) → 16 ≤ length s → length (steps key t s) ≡ length s
+unfolding steps
+steps_length key s zero l = refl
+steps_length key s (suc t) l =
+    let before : length (steps key t s) ≡ length s = steps_length key s t l in
+    step_length key (steps key t s) (suc t) (omega arith) ∙ before
+
+-- a wrapping has one block more than a text
+pub wrapped_length : (key wrapped text : List ℕ) → Unwrapped key wrapped text → HasWrappedLength wrapped
+wrapped_length key wrapped text u =
+    let start : length (initial_value ++ text) ≡ 8 + length text = length-append initial_value text in
+    let least : 16 ≤ length text = u.length_is.least in
+    let long : length wrapped ≡ 8 + length text =
+    ap length u.is ∙ steps_length key (initial_value ++ text) (6 * (length text / 8)) (omega arith) ∙ start in
+    record { least = omega arith; whole = omega (arith, long, u.length_is.whole) }
 
 -- a register from which the steps lead to a wrapping of the text begins with the initial value and the text
 pub one_start : (key wrapped text start : List ℕ) → IsPermutation → IsKey key → AreBytes (length wrapped) start

@@ -9,8 +9,8 @@ pub record Register : Type 0 where
   pub first : List ℕ
   pub blocks : List (List ℕ)
 
--- step t: with B the cipher of A and R[1], A becomes the first half of B XOR t, each further block moves down one
--- place, and R[n] becomes the second half of B
+-- step t: with B the cipher of A and R[1], A becomes the first half of B XOR t, each further block moves
+-- down one place, and R[n] becomes the second half of B
 abbrev pub block_step : List ℕ → ℕ → List ℕ → List (List ℕ) → Register
 block_step key t a [] = record { first = a; blocks = [] }
 block_step key t a (r ∷ rs) =

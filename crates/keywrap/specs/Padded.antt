@@ -1,5 +1,6 @@
 -- AES Key Wrap with Padding (RFC 5649, 3 and 4; SP 800-38F, 6.3). The register is that of RFC 3394.
-use Rattle.std.specs.Prelude.{◌≡◌, ℕ, ◌+◌, ◌-◌, ◌*◌, ◌/◌, ◌%◌, ◌^◌, ◌<◌, ◌≤◌, List, [], ◌∷◌, ◌++◌, length, replicate, ◌==◌, if◌then◌else◌}
+use Rattle.std.specs.Prelude.{◌≡◌, ℕ, ◌+◌, ◌-◌, ◌*◌, ◌/◌, ◌%◌, ◌^◌, ◌<◌, ◌≤◌, List, [], ◌∷◌, ◌++◌, length}
+use Rattle.std.specs.Prelude.{replicate, ◌==◌, if◌then◌else◌}
 use Rattle.std.specs.Int.{bytes_high_first}
 use Rattle.octets.specs.Bytes.{AreBytes}
 use Rattle.aes.specs.Cipher.{cipher, IsKey}
@@ -9,7 +10,8 @@ use Rattle.keywrap.specs.Wrapping.{steps}
 abbrev pub constant : List ℕ
 constant = 0xa6 ∷ 0x59 ∷ 0x59 ∷ 0xa6 ∷ []
 
--- the alternative initial value for a text of n bytes: the constant, then n in 32 bits, most significant byte first (3)
+-- the alternative initial value for a text of n bytes: the constant, then n in 32 bits, most significant
+-- byte first (3)
 abbrev pub alternative_value : ℕ → List ℕ
 alternative_value n = constant ++ bytes_high_first 4 n
 
@@ -17,8 +19,8 @@ alternative_value n = constant ++ bytes_high_first 4 n
 abbrev pub padded : List ℕ → List ℕ
 padded text = text ++ replicate ((8 - length text % 8) % 8) 0
 
--- what is made of A and n blocks: the cipher of both where there is one block, and else the register after the 6n
--- steps of RFC 3394 (4.1)
+-- what is made of A and n blocks: the cipher of both where there is one block, and else the register after
+-- the 6n steps of RFC 3394 (4.1)
 unfoldable pub transformed : List ℕ → List ℕ → List ℕ
 transformed key s = if length s == 16 then cipher key s else steps key (6 * ((length s - 8) / 8)) s
 
@@ -35,6 +37,11 @@ pub record HasPaddableLength (text : List ℕ) : Type 0 where
 pub record HasBlocks (wrapped : List ℕ) : Type 0 where
   pub least : 16 ≤ length wrapped
   pub whole : length wrapped % 8 ≡ 0
+
+-- bytes are room for A and for a text of n bytes with its padding
+pub record HasPaddedRoom (bytes : List ℕ) (n : ℕ) : Type 0 where
+  pub least : 1 ≤ n
+  pub room : length bytes ≡ 8 + (n + (8 - n % 8) % 8)
 
 -- A and the blocks are those that the wrapping of the text begins with
 pub record IsStartOf (text first blocks : List ℕ) : Type 0 where

@@ -3,7 +3,7 @@ use Rattle.std.specs.Prelude.{◌≡◌, ℕ, ◌+◌, ◌^◌, ◌<◌, ◌≤�
 use Rattle.octets.specs.declared.fault.Fault.{Fault}
 use Rattle.octets.specs.declared.fault.Fault.TheVariants.{TextTooLong, WrapLength, WrapIntegrity, OutOfMemory}
 use Rattle.keywrap.specs.Wrapping.{HasTextLength, HasWrappedLength, IsNoWrapping}
-use Rattle.keywrap.specs.Padded.{HasPaddableLength, HasBlocks, IsNoPaddedWrapping}
+use Rattle.keywrap.specs.Padded.{HasPaddableLength, HasBlocks, HasPaddedRoom, IsNoPaddedWrapping}
 
 -- why a text is not wrapped into a vector of at most so many bytes
 abbrev pub WrapRefused : ℕ → List ℕ → Fault → Type 0
@@ -44,3 +44,16 @@ PaddedUnwrapRefused key wrapped TextTooLong = HasBlocks wrapped × (2 ^ 32 + 8 <
 PaddedUnwrapRefused key wrapped OutOfMemory = HasBlocks wrapped × (length wrapped ≤ 2 ^ 32 + 8)
 PaddedUnwrapRefused key wrapped WrapIntegrity = HasBlocks wrapped × (length wrapped ≤ 2 ^ 32 + 8) × IsNoPaddedWrapping key wrapped
 PaddedUnwrapRefused key wrapped _ = ⊥
+
+-- why bytes, room for the wrapping of a text of n bytes, are not wrapped with padding in place
+abbrev pub PaddedWrapInPlaceRefused : List ℕ → ℕ → Fault → Type 0
+PaddedWrapInPlaceRefused bytes n WrapLength = ¬ HasPaddedRoom bytes n
+PaddedWrapInPlaceRefused bytes n TextTooLong = HasPaddedRoom bytes n × (2 ^ 32 ≤ n)
+PaddedWrapInPlaceRefused bytes n _ = ⊥
+
+-- why bytes are not unwrapped to a padded text in place
+abbrev pub PaddedUnwrapInPlaceRefused : List ℕ → List ℕ → Fault → Type 0
+PaddedUnwrapInPlaceRefused key wrapped WrapLength = ¬ HasBlocks wrapped
+PaddedUnwrapInPlaceRefused key wrapped TextTooLong = HasBlocks wrapped × (2 ^ 32 + 8 < length wrapped)
+PaddedUnwrapInPlaceRefused key wrapped WrapIntegrity = HasBlocks wrapped × (length wrapped ≤ 2 ^ 32 + 8) × IsNoPaddedWrapping key wrapped
+PaddedUnwrapInPlaceRefused key wrapped _ = ⊥

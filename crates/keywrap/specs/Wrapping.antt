@@ -1,12 +1,14 @@
--- AES Key Wrap (RFC 3394, 2.2; SP 800-38F, 6.1 and 6.2). The register is a list of bytes: A is its first eight bytes,
--- R[1] the next eight, and so on to R[n].
-use Rattle.std.specs.Prelude.{◌≡◌, ℕ, zero, suc, ◌+◌, ◌*◌, ◌/◌, ◌%◌, ◌≤◌, List, ◌++◌, take, drop, length, replicate}
+-- AES Key Wrap (RFC 3394, 2.2; SP 800-38F, 6.1 and 6.2). The register is a list of bytes: A is its first
+-- eight bytes, R[1] the next eight, and so on to R[n].
+use Rattle.std.specs.Prelude.{◌≡◌, ℕ, zero, suc, ◌+◌, ◌*◌, ◌/◌, ◌%◌, ◌≤◌, List, ◌++◌, take, drop, length}
+use Rattle.std.specs.Prelude.{replicate}
 use Rattle.std.specs.Int.{bytes_high_first}
 use Rattle.octets.specs.Bytes.{AreBytes, xor_bytes}
 use Rattle.aes.specs.Cipher.{cipher, IsKey}
 
--- step t (2.2.1): with B the cipher of A and R[1], A becomes the first half of B XOR t, written in eight bytes, most
--- significant first; each further block moves down one place, and R[n] becomes the second half of B
+-- step t (2.2.1): with B the cipher of A and R[1], A becomes the first half of B XOR t, written in eight
+-- bytes, most significant first; each further block moves down one place, and R[n] becomes the second half
+-- of B
 unfoldable pub step : List ℕ → ℕ → List ℕ → List ℕ
 step key t s =
     let b = cipher key (take 16 s) in

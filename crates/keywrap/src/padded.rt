@@ -1,20 +1,23 @@
 // Wrapping with padding (RFC 5649).
 
-ghost use Rattle.std.specs.Prelude.{◌≡◌, ◌≢◌, ◌<◌, ◌≤◌, ◌^◌, ◌%◌, ◌++◌, ◌↔◌, ◌==◌, ℕ, List, length, take, IsTrue, IfOk, MatchOption, MatchResult, replicate};
+ghost use Rattle.std.specs.Prelude.{◌≡◌, ◌≢◌, ◌<◌, ◌≤◌, ◌^◌, ◌%◌, ◌++◌, ◌↔◌, ◌==◌, ℕ, List, length, take};
+ghost use Rattle.std.specs.Prelude.{IsTrue, IfOk, IfSome, MatchOption, MatchResult, replicate};
 ghost use Rattle.std.specs.List.{list_all};
-ghost use Rattle.keywrap.specs.Padded.{alternative_value, padded, transformed, IsStartOf, UnwrappedPadded, IsNoPaddedWrapping};
+ghost use Rattle.octets.specs.Bytes.{AreBytes};
+ghost use Rattle.aes.specs.Cipher.{IsKey};
+ghost use Rattle.keywrap.specs.Padded.{alternative_value, padded, transformed, HasBlocks, IsStartOf};
+ghost use Rattle.keywrap.specs.Padded.{UnwrappedPadded, IsNoPaddedWrapping};
 ghost use Rattle.keywrap.specs.Refusals.{PaddedWrapRefused, PaddedUnwrapRefused};
 
-use crate::has_one_padded_text;
 use crate::steps::{first_eight, halves, joined, unwrap_blocks, wrap_register};
-use aes::{AesKey, is_permutation};
-use octets::{Block, Fault, are_bytes};
+use aes::AesKey;
+use octets::{Block, Fault};
 use std::alloc::{AllocError, Allocator};
 
-/// The constant of the alternative initial value (RFC 5649, 3).
+// The constant of the alternative initial value (RFC 5649, 3).
 const CONSTANT: [u8; 4] = [0xa6, 0x59, 0x59, 0xa6];
 
-/// The one block of a register.
+// The one block of a register.
 fn only_block(bytes: &[u8]) -> Block
     requires { length bytes.now ≡ 16 }
     ensures { result ≡ bytes.now }
@@ -24,8 +27,8 @@ fn only_block(bytes: &[u8]) -> Block
     Block::new(block)
 }
 
-/// Makes of A and the blocks what the padded form makes of them.
-fn transform(key: &AesKey, bytes: &mut [u8])
+// Makes of A and the blocks what the padded form makes of them.
+pub(crate) fn transform(key: &AesKey, bytes: &mut [u8])
     requires least { 16 ≤ length bytes.old }
     requires whole { length bytes.old % 8 ≡ 0 }
     ensures { bytes.new ≡ transformed key.now bytes.old }
@@ -37,15 +40,18 @@ fn transform(key: &AesKey, bytes: &mut [u8])
     }
 }
 
-/// The same undone, on A and the blocks.
+// The same undone, on A and the blocks.
 fn untransform(key: &AesKey, first: &mut [u8; 8], blocks: &mut [u8])
     requires least { 8 ≤ length blocks.old }
     requires whole { length blocks.old % 8 ≡ 0 }
-    ensures { transformed key.now (first.new ++ blocks.new) ≡ first.old ++ blocks.old }
+    ensures undone { transformed key.now (first.new ++ blocks.new) ≡ first.old ++ blocks.old }
+    ensures key { IsKey key.now }
+    ensures first { AreBytes (length first.new) first.new }
+    ensures rest { AreBytes (length blocks.new) blocks.new }
 {
     if blocks.len() == 8 {
         let block = Block::new(joined(first, blocks));
-        let (half, second) = halves(key.decrypt(&block).bytes());
+        let (half, second) = halves(key.inverse().decrypt(&block).bytes());
         *first = half;
         blocks.copy_from_slice(&second);
     } else {
@@ -53,7 +59,7 @@ fn untransform(key: &AesKey, first: &mut [u8; 8], blocks: &mut [u8])
     }
 }
 
-/// The length that an alternative initial value tells.
+// The length that an alternative initial value tells.
 fn told_length(first: &[u8; 8]) -> Option<u32>
     ensures { MatchOption result ((n : ℕ) → n < 2 ^ 32 → first.now ≢ alternative_value n)
         (λ n. (n < 2 ^ 32) × (first.now ≡ alternative_value n)) }
@@ -69,14 +75,14 @@ fn told_length(first: &[u8; 8]) -> Option<u32>
     }
 }
 
-/// Whether all bytes are zero.
+// Whether all bytes are zero.
 fn are_zero(bytes: &[u8]) -> bool
     ensures { result ≡ list_all (λ b. b == 0) bytes.now }
 {
     bytes.iter().all(|b| *b == 0)
 }
 
-/// The length of the text that A and the blocks were made from, if there is one.
+// The length of the text that A and the blocks were made from, if there is one.
 fn text_length(first: &[u8; 8], blocks: &[u8]) -> Option<usize>
     requires least { 8 ≤ length blocks.now }
     requires whole { length blocks.now % 8 ≡ 0 }
@@ -91,42 +97,59 @@ fn text_length(first: &[u8; 8], blocks: &[u8]) -> Option<usize>
     }
 }
 
-/// Undoes the wrapping of A and the blocks. Where they are the wrapping of a text, it answers the text's length, and the
-/// text is at the front of the blocks.
-fn unwrap_start(key: &AesKey, first: &mut [u8; 8], blocks: &mut [u8]) -> Option<usize>
+// Undoes the wrapping of A and the blocks. Where they are the wrapping of a text, it answers the text's
+// length, and the text is at the front of the blocks.
+pub(crate) fn unwrap_start(key: &AesKey, first: &mut [u8; 8], blocks: &mut [u8]) -> Option<usize>
     requires least { 8 ≤ length blocks.old }
     requires whole { length blocks.old % 8 ≡ 0 }
-    ensures { MatchOption result (IsNoPaddedWrapping key.now (first.old ++ blocks.old))
-        (λ n. (n ≤ length blocks.new) × UnwrappedPadded key.now (first.old ++ blocks.old) (take n blocks.new)) }
+    ensures found { MatchOption result (IsNoPaddedWrapping key.now (first.old ++ blocks.old))
+        (λ n. (n ≤ length blocks.new)
+        × UnwrappedPadded key.now (first.old ++ blocks.old) (take n blocks.new)) }
+    ensures start { IfSome result (λ n. IsStartOf (take n blocks.new) first.new blocks.new) }
+    ensures undone { transformed key.now (first.new ++ blocks.new) ≡ first.old ++ blocks.old }
+    ensures key { IsKey key.now }
 {
-    key.is_key();
-    is_permutation();
     untransform(key, first, blocks);
-    are_bytes(first);
-    are_bytes(blocks);
     text_length(first, blocks)
 }
 
-/// What the wrapping of a text begins with: A and the padded text.
+// The alternative initial value for a text of n bytes (RFC 5649, 3).
+pub(crate) fn alternative_value(n: u32) -> [u8; 8]
+    ensures { result ≡ alternative_value n }
+{
+    let mut value = [0; 8];
+    value[..4].copy_from_slice(&CONSTANT);
+    value[4..].copy_from_slice(&n.to_be_bytes());
+    value
+}
+
+// What the wrapping of a text begins with: A and the padded text.
 fn start<A: Allocator>(alloc: A, text: &[u8]) -> Result<Vec<u8, A>, AllocError>
     requires { length text.now < 2 ^ 32 }
     ensures { IfOk result (λ v. v.items ≡ alternative_value (length text.now) ++ padded text.now) }
 {
     let zeros = (8 - text.len() % 8) % 8;
     let mut bytes = Vec::with_capacity(alloc, 8 + text.len() + zeros)?;
-    bytes.extend_from_slice(&CONSTANT)?;
-    bytes.extend_from_slice(&(text.len() as u32).to_be_bytes())?;
+    bytes.extend_from_slice(&alternative_value(text.len() as u32))?;
     bytes.extend_from_slice(text)?;
     bytes.extend_from_slice(&[0; 8][..zeros])?;
     Ok(bytes)
 }
 
-/// The wrapping of a text with padding: eight bytes more than the padded text (RFC 5649, 4.1). In this order:
-/// `WrapLength` for an empty text, `TextTooLong` past 2^32 - 1 bytes, `OutOfMemory` where `alloc` refuses the result.
-pub fn wrap_padded<A: Allocator>(alloc: A, key: &AesKey, text: &[u8]) -> Result<Vec<u8, A>, Fault>
-    ensures { MatchResult result (λ v. UnwrappedPadded key.now v.items text.now) (PaddedWrapRefused text.now) }
+// Whether the bytes are A and whole blocks of eight, at least one.
+pub(crate) fn has_blocks(bytes: &[u8]) -> bool
+    ensures { IsTrue result ↔ HasBlocks bytes.now }
 {
-    are_bytes(text);
+    bytes.len() >= 16 && bytes.len() % 8 == 0
+}
+
+/// The wrapping of a text with padding: eight bytes more than the padded text (RFC 5649, 4.1). In this
+/// order: `WrapLength` for an empty text, `TextTooLong` past 2^32 - 1 bytes, `OutOfMemory` where `alloc`
+/// refuses the result.
+pub fn wrap_padded<A: Allocator>(alloc: A, key: &AesKey, text: &[u8]) -> Result<Vec<u8, A>, Fault>
+    ensures { MatchResult result
+        (λ v. UnwrappedPadded key.now v.items text.now) (PaddedWrapRefused text.now) }
+{
     if text.is_empty() {
         return Err(Fault::WrapLength);
     }
@@ -140,9 +163,9 @@ pub fn wrap_padded<A: Allocator>(alloc: A, key: &AesKey, text: &[u8]) -> Result<
     Ok(wrapped)
 }
 
-/// The text of a wrapping with padding (RFC 5649, 4.2). In this order: `WrapLength` where the length is under 16 or no
-/// multiple of 8, `TextTooLong` past 2^32 + 8 bytes, `OutOfMemory` where `alloc` refuses as many bytes,
-/// `WrapIntegrity` where the bytes are the wrapping of no text with padding under this key.
+/// The text of a wrapping with padding (RFC 5649, 4.2). In this order: `WrapLength` where the length is
+/// under 16 or no multiple of 8, `TextTooLong` past 2^32 + 8 bytes, `OutOfMemory` where `alloc` refuses as
+/// many bytes, `WrapIntegrity` where the bytes are the wrapping of no text with padding under this key.
 pub fn unwrap_padded<A: Allocator>(
     alloc: A,
     key: &AesKey,
@@ -153,10 +176,7 @@ pub fn unwrap_padded<A: Allocator>(
     ensures found { (text : List ℕ) → UnwrappedPadded key.now wrapped.now text
         → MatchResult result (λ v. v.items ≡ text) (λ e. (e ≡ Fault.OutOfMemory)) }
 {
-    key.is_key();
-    is_permutation();
-    has_one_padded_text();
-    if wrapped.len() < 16 || wrapped.len() % 8 != 0 {
+    if !has_blocks(wrapped) {
         return Err(Fault::WrapLength);
     }
     if wrapped.len() as u64 > (1 << 32) + 8 {

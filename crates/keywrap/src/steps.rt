@@ -1,34 +1,38 @@
-// The steps of the wrapping and of its inverse (RFC 3394, 2.2.1 and 2.2.2), by index, from any first value of A.
+// The steps of the wrapping and of its inverse (RFC 3394, 2.2.1 and 2.2.2), by index, from any first value
+// of A.
 
-ghost use Rattle.std.specs.Prelude.{◌≡◌, ℕ, List, ◌+◌, ◌-◌, ◌*◌, ◌/◌, ◌%◌, ◌≤◌, ◌++◌, ◌↔◌, take, drop, length, IsTrue};
+ghost use Rattle.std.specs.Prelude.{◌≡◌, ℕ, List, ◌+◌, ◌-◌, ◌*◌, ◌/◌, ◌%◌, ◌≤◌, ◌++◌, ◌↔◌, take, drop};
+ghost use Rattle.std.specs.Prelude.{length, IsTrue};
 ghost use Rattle.std.specs.Int.{bytes_high_first};
-ghost use Rattle.octets.specs.Bytes.{xor_bytes};
+ghost use Rattle.octets.specs.Bytes.{AreBytes, xor_bytes};
+ghost use Rattle.aes.specs.Cipher.{IsKey};
 ghost use Rattle.aes.specs.InverseKey.{IsInverse};
 ghost use Rattle.keywrap.specs.Wrapping.{step, steps, initial_value, HasWrappedLength};
 ghost use Rattle.keywrap.specs.Places.{register};
 
 use aes::{AesKey, InverseKey};
-use octets::{Block, xor_into};
+use octets::{Block, are_bytes, xor_into};
 
-/// The default initial value (RFC 3394, 2.2.3.1).
-pub const INITIAL_VALUE: [u8; 8] = [0xa6; 8];
+// The default initial value (RFC 3394, 2.2.3.1).
+pub(crate) const INITIAL_VALUE: [u8; 8] = [0xa6; 8];
 
-/// Whether the length is that of a wrapping.
-pub fn has_wrapped_length(bytes: &[u8]) -> bool
-    ensures { IsTrue result ↔ HasWrappedLength bytes.now }
+// Whether the length is that of a wrapping.
+pub(crate) fn has_wrapped_length(bytes: &[u8]) -> bool
+    ensures answer { IsTrue result ↔ HasWrappedLength bytes.now }
+    ensures bytes { AreBytes (length bytes.now) bytes.now }
 {
     bytes.len() >= 24 && bytes.len() % 8 == 0
 }
 
-/// Whether A is the default initial value.
-pub fn is_initial_value(first: &[u8; 8]) -> bool
+// Whether A is the default initial value.
+pub(crate) fn is_initial_value(first: &[u8; 8]) -> bool
     ensures { IsTrue result ↔ (first.now ≡ initial_value) }
 {
     *first == INITIAL_VALUE
 }
 
-/// The first eight bytes.
-pub fn first_eight(bytes: &[u8]) -> [u8; 8]
+// The first eight bytes.
+pub(crate) fn first_eight(bytes: &[u8]) -> [u8; 8]
     requires { 8 ≤ length bytes.now }
     ensures { result ≡ take 8 bytes.now }
 {
@@ -37,7 +41,7 @@ pub fn first_eight(bytes: &[u8]) -> [u8; 8]
     first
 }
 
-/// The XOR of half a block with the number of a step.
+// The XOR of half a block with the number of a step.
 fn numbered(half: &[u8; 8], t: u64) -> [u8; 8]
     ensures { result ≡ xor_bytes half.now (bytes_high_first 8 t) }
 {
@@ -46,8 +50,8 @@ fn numbered(half: &[u8; 8], t: u64) -> [u8; 8]
     sum
 }
 
-/// The block of two halves.
-pub fn joined(first: &[u8; 8], second: &[u8]) -> [u8; 16]
+// The block of two halves.
+pub(crate) fn joined(first: &[u8; 8], second: &[u8]) -> [u8; 16]
     requires { length second.now ≡ 8 }
     ensures { result ≡ first.now ++ second.now }
 {
@@ -57,8 +61,8 @@ pub fn joined(first: &[u8; 8], second: &[u8]) -> [u8; 16]
     block
 }
 
-/// The two halves of a block.
-pub fn halves(block: &[u8; 16]) -> ([u8; 8], [u8; 8])
+// The two halves of a block.
+pub(crate) fn halves(block: &[u8; 16]) -> ([u8; 8], [u8; 8])
     ensures first { result.0 ≡ take 8 block.now }
     ensures second { result.1 ≡ drop 8 block.now }
     ensures long { length block.now ≡ 16 }
@@ -70,10 +74,11 @@ pub fn halves(block: &[u8; 16]) -> ([u8; 8], [u8; 8])
     (first, second)
 }
 
-/// Step t, on the block at a place.
+// Step t, on the block at a place.
 fn wrap_step(key: &AesKey, t: u64, place: usize, first: &mut [u8; 8], blocks: &mut [u8])
     requires { place + 8 ≤ length blocks.old }
-    ensures { register (place + 8) first.new blocks.new ≡ step key.now t (register place first.old blocks.old) }
+    ensures { register (place + 8) first.new blocks.new
+        ≡ step key.now t (register place first.old blocks.old) }
 {
     let block = joined(first, &blocks[place..place + 8]);
     let (half, second) = halves(key.encrypt(&Block::new(block)).bytes());
@@ -81,10 +86,11 @@ fn wrap_step(key: &AesKey, t: u64, place: usize, first: &mut [u8; 8], blocks: &m
     blocks[place..place + 8].copy_from_slice(&second);
 }
 
-/// Step t undone, on the block at a place.
+// Step t undone, on the block at a place.
 fn unwrap_step(inverse: &InverseKey, t: u64, place: usize, first: &mut [u8; 8], blocks: &mut [u8])
     requires { place + 8 ≤ length blocks.old }
-    ensures { (key : List ℕ) → IsInverse inverse.now key → step key t (register place first.new blocks.new) ≡ register (place + 8) first.old blocks.old }
+    ensures { (key : List ℕ) → IsInverse inverse.now key
+        → step key t (register place first.new blocks.new) ≡ register (place + 8) first.old blocks.old }
 {
     let block = joined(&numbered(first, t), &blocks[place..place + 8]);
     let (half, second) = halves(inverse.decrypt(&Block::new(block)).bytes());
@@ -92,10 +98,11 @@ fn unwrap_step(inverse: &InverseKey, t: u64, place: usize, first: &mut [u8; 8], 
     blocks[place..place + 8].copy_from_slice(&second);
 }
 
-/// The steps of all six rounds.
-pub fn wrap_blocks(key: &AesKey, first: &mut [u8; 8], blocks: &mut [u8])
+// The steps of all six rounds.
+pub(crate) fn wrap_blocks(key: &AesKey, first: &mut [u8; 8], blocks: &mut [u8])
     requires { length blocks.old % 8 ≡ 0 }
-    ensures { first.new ++ blocks.new ≡ steps key.now (6 * (length blocks.old / 8)) (first.old ++ blocks.old) }
+    ensures { first.new ++ blocks.new
+        ≡ steps key.now (6 * (length blocks.old / 8)) (first.old ++ blocks.old) }
 {
     let count = blocks.len() / 8;
     'rounds: for round in 0..6 {
@@ -105,10 +112,14 @@ pub fn wrap_blocks(key: &AesKey, first: &mut [u8; 8], blocks: &mut [u8])
     }
 }
 
-/// The steps of all six rounds undone, the last one first.
-pub fn unwrap_blocks(key: &AesKey, first: &mut [u8; 8], blocks: &mut [u8])
+// The steps of all six rounds undone, the last one first.
+pub(crate) fn unwrap_blocks(key: &AesKey, first: &mut [u8; 8], blocks: &mut [u8])
     requires { length blocks.old % 8 ≡ 0 }
-    ensures { steps key.now (6 * (length blocks.old / 8)) (first.new ++ blocks.new) ≡ first.old ++ blocks.old }
+    ensures undone { steps key.now (6 * (length blocks.old / 8)) (first.new ++ blocks.new)
+        ≡ first.old ++ blocks.old }
+    ensures key { IsKey key.now }
+    ensures first { AreBytes (length first.new) first.new }
+    ensures rest { AreBytes (length blocks.new) blocks.new }
 {
     let ready = key.inverse();
     let count = blocks.len() / 8;
@@ -117,10 +128,12 @@ pub fn unwrap_blocks(key: &AesKey, first: &mut [u8; 8], blocks: &mut [u8])
             unwrap_step(&ready, (count * round + i + 1) as u64, 8 * i, first, blocks);
         }
     }
+    are_bytes(first);
+    are_bytes(blocks);
 }
 
-/// The steps on one run of bytes, A first.
-pub fn wrap_register(key: &AesKey, bytes: &mut [u8])
+// The steps on one run of bytes, A first.
+pub(crate) fn wrap_register(key: &AesKey, bytes: &mut [u8])
     requires least { 8 ≤ length bytes.old }
     requires whole { length bytes.old % 8 ≡ 0 }
     ensures { bytes.new ≡ steps key.now (6 * ((length bytes.old - 8) / 8)) bytes.old }
@@ -130,11 +143,13 @@ pub fn wrap_register(key: &AesKey, bytes: &mut [u8])
     bytes[..8].copy_from_slice(&first);
 }
 
-/// The steps undone on one run of bytes, A first.
-pub fn unwrap_register(key: &AesKey, bytes: &mut [u8])
+// The steps undone on one run of bytes, A first.
+pub(crate) fn unwrap_register(key: &AesKey, bytes: &mut [u8])
     requires least { 8 ≤ length bytes.old }
     requires whole { length bytes.old % 8 ≡ 0 }
-    ensures { steps key.now (6 * ((length bytes.old - 8) / 8)) bytes.new ≡ bytes.old }
+    ensures undone { steps key.now (6 * ((length bytes.old - 8) / 8)) bytes.new ≡ bytes.old }
+    ensures key { IsKey key.now }
+    ensures bytes { AreBytes (length bytes.new) bytes.new }
 {
     let mut first = first_eight(bytes);
     unwrap_blocks(key, &mut first, &mut bytes[8..]);

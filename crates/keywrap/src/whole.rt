@@ -4,28 +4,23 @@ ghost use Rattle.std.specs.Prelude.{◌≡◌, List, ℕ, MatchResult};
 ghost use Rattle.keywrap.specs.Wrapping.{Unwrapped};
 ghost use Rattle.keywrap.specs.Refusals.{WrapRefused, UnwrapRefused};
 
-use crate::has_one_text;
 use crate::steps::{
     INITIAL_VALUE, first_eight, has_wrapped_length, is_initial_value, unwrap_blocks, wrap_register,
 };
-use aes::{AesKey, is_permutation};
-use octets::{Fault, are_bytes};
+use aes::AesKey;
+use octets::Fault;
 use std::alloc::Allocator;
 
-/// The wrapping of a text: its bytes and eight more (RFC 3394, 2.2.1). A text has whole blocks of eight bytes, and at
-/// least two. In this order: `WrapLength` where it has not, `TextTooLong` where no vector can hold the result,
-/// `OutOfMemory` where `alloc` refuses it.
+/// The wrapping of a text: its bytes and eight more (RFC 3394, 2.2.1). A text has whole blocks of eight
+/// bytes, and at least two. In this order: `WrapLength` where it has not, `OutOfMemory` where `alloc`
+/// refuses the result. A result that no vector could hold would be `TextTooLong`; no slice is so long.
 pub fn wrap<A: Allocator>(alloc: A, key: &AesKey, text: &[u8]) -> Result<Vec<u8, A>, Fault>
     ensures { MatchResult result (λ v. Unwrapped key.now v.items text.now) (WrapRefused usize.MAX text.now) }
 {
-    are_bytes(text);
     if text.len() < 16 || text.len() % 8 != 0 {
         return Err(Fault::WrapLength);
     }
-    let Some(size) = text.len().checked_add(8) else {
-        return Err(Fault::TextTooLong);
-    };
-    let Ok(mut wrapped) = Vec::with_capacity(alloc, size) else {
+    let Ok(mut wrapped) = Vec::with_capacity(alloc, text.len() + 8) else {
         return Err(Fault::OutOfMemory);
     };
     if wrapped.extend_from_slice(&INITIAL_VALUE).is_err()
@@ -37,18 +32,15 @@ pub fn wrap<A: Allocator>(alloc: A, key: &AesKey, text: &[u8]) -> Result<Vec<u8,
     Ok(wrapped)
 }
 
-/// The text of a wrapping: its bytes but eight (RFC 3394, 2.2.2). In this order: `WrapLength` where the length is
-/// under 24 or no multiple of 8, `OutOfMemory` where `alloc` refuses the text, `WrapIntegrity` where the bytes are the
-/// wrapping of no text under this key.
+/// The text of a wrapping: its bytes but eight (RFC 3394, 2.2.2). In this order: `WrapLength` where the
+/// length is under 24 or no multiple of 8, `OutOfMemory` where `alloc` refuses the text, `WrapIntegrity`
+/// where the bytes are the wrapping of no text under this key.
 pub fn unwrap<A: Allocator>(alloc: A, key: &AesKey, wrapped: &[u8]) -> Result<Vec<u8, A>, Fault>
     ensures answer { MatchResult result (λ v. Unwrapped key.now wrapped.now v.items)
         (UnwrapRefused key.now wrapped.now) }
     ensures found { (text : List ℕ) → Unwrapped key.now wrapped.now text
         → MatchResult result (λ v. v.items ≡ text) (λ e. e ≡ Fault.OutOfMemory) }
 {
-    key.is_key();
-    is_permutation();
-    has_one_text();
     if !has_wrapped_length(wrapped) {
         return Err(Fault::WrapLength);
     }
@@ -57,8 +49,6 @@ pub fn unwrap<A: Allocator>(alloc: A, key: &AesKey, wrapped: &[u8]) -> Result<Ve
         return Err(Fault::OutOfMemory);
     };
     unwrap_blocks(key, &mut first, &mut text);
-    are_bytes(&first);
-    are_bytes(&text);
     if is_initial_value(&first) {
         Ok(text)
     } else {

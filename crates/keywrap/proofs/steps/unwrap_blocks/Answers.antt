@@ -37,8 +37,8 @@ rounds-preserved c s h =
     (ap (λ t. steps c.args.key.now t s) count ∙ h ∙ sym (register_start c.places.first c.places.blocks)
     ∙ ap (λ p. register p c.places.first c.places.blocks) place)
 
-pub returns : goal.returns
-returns c =
+pub returns-clause-undone : goal.returns-clause-undone
+returns-clause-undone c =
     let n : ℕ = length c.args.blocks.now / 8 in
     let start : List ℕ = c.rounds.first ++ c.rounds.blocks in
     let last : c.rounds.round ≡ 0 = omega arith in
@@ -46,3 +46,6 @@ returns c =
     let turned : 6 * n ≡ n * 6 = omega arith in
     ap (λ t. steps c.args.key.now t start) turned
     ∙ c.rounds.invariant start (sym (steps_none c.args.key.now start (n * c.rounds.round) none))
+
+pub returns-clause-key : goal.returns-clause-key
+returns-clause-key c = c.inverse-ready.ensures.is_key
