@@ -8,15 +8,17 @@ use Rattle.std.proofs.lemmas.Slice.Eq.{bytes_eq-Decides}
 use Rattle.octets.specs.Masked.{masked}
 use Rattle.octets.proofs.Devices.{consumes_more}
 use Rattle.octets.proofs.Masks.{take-masked}
-use Rattle.aead.specs.declared.masking.Masking.{Masking}
+use Rattle.aead.specs.declared.any_masking.AnyMasking.{AnyMasking}
 use Rattle.aead.specs.declared.engine.passes.Finding.{Finding}
 use Rattle.aead.specs.declared.engine.passes.Finding.TheVariants.{Differs, Unsealed, Sealed}
 use Rattle.aead.specs.Suites.{construction_of, is_one_pass}
 use Rattle.aead.specs.Sealing.{Setting, Fits, Opened, IsNoSealing, mask_of, tag_of, tag_over}
 use Rattle.aead.specs.States.{authenticated}
-use Rattle.aead.specs.Pieces.{HoldsMasking, opening_task}
+use Rattle.aead.specs.AnyMaskings.{HoldsAnyMasking}
+use Rattle.aead.specs.Maskings.{opening_task}
 use Rattle.aead.specs.Passes.{WentFar, Stopped}
 use Rattle.aead.specs.Findings.{IsFinding, WentWhole, Tail}
+use Rattle.aead.proofs.AnyMaskings.{fed_within}
 use Rattle.aead.proofs.Opens.{unmasked, no_sealing, opened_as, body_tag, two_pass_tag}
 
 -- the tag that an opening makes is that of what the body would open to
@@ -29,8 +31,8 @@ opening_tag s tag body =
     ]
 
 -- the lengths that an opening was fed are allowed
-pub opening_fits : (k : Masking) (s : Setting) (tag body : List ℕ) → HoldsMasking k (opening_task s tag) body → Fits s body
-opening_fits k s tag body h = record { aad_fits = h.masks.taken.fits.aad_fits; text_fits = omega (arith, h.masks.within, h.masks.limit_fits) }
+pub opening_fits : (k : AnyMasking) (s : Setting) (tag body : List ℕ) → HoldsAnyMasking k (opening_task s tag) body → Fits s body
+opening_fits k s tag body h = let w = fed_within _ _ _ h in record { aad_fits = w.aad_fits; text_fits = omega (arith, w.within, w.limit_fits) }
 
 -- ---- what was found of a body and what came after it
 
@@ -60,7 +62,7 @@ unsealed_found s tag body y len long size equal other =
 -- ---- a whole pass
 
 -- the reading ended within the body
-pub whole_short : (s : Setting) (tag : List ℕ) (len n : ℕ) (l l' o o' : Option (List ℕ)) (k : Masking) → length tag ≡ 16 →
+pub whole_short : (s : Setting) (tag : List ℕ) (len n : ℕ) (l l' o o' : Option (List ℕ)) (k : AnyMasking) → length tag ≡ 16 →
     WentFar (opening_task s tag) [] (len - 16) l l' o o' k n → n < len - 16 → WentWhole s tag len l l' o o' Differs
 whole_short s tag len n l l' o o' k size q less =
     let P : List ℕ → Type 0 = λ b. Appends o o' (masked (mask_of s tag) 0 b) in
@@ -75,7 +77,7 @@ whole_short s tag len n l l' o o' k size q less =
     }
 
 -- the body came whole, and then a tail
-pub whole_tail : (s : Setting) (tag : List ℕ) (len n : ℕ) (l l' l'' o o' : Option (List ℕ)) (k : Masking) (b : Bool) (f : Finding) → 16 ≤ len →
+pub whole_tail : (s : Setting) (tag : List ℕ) (len n : ℕ) (l l' l'' o o' : Option (List ℕ)) (k : AnyMasking) (b : Bool) (f : Finding) → 16 ≤ len →
     (q : WentFar (opening_task s tag) [] (len - 16) l l' o o' k n) → len - 16 ≤ n → (tail : Tail tag l' l'' b) →
     (length q.bytes ≡ len - 16 → IsFinding s tag len (q.bytes ++ tail.bytes) f) → WentWhole s tag len l l'' o o' f
 whole_tail s tag len n l l' l'' o o' k b f low q full tail found =
@@ -90,7 +92,7 @@ whole_tail s tag len n l l' l'' o o' k b f low q full tail found =
     }
 
 -- the body came whole, and then a device failed
-pub stopped_tail : (s : Setting) (tag : List ℕ) (len n : ℕ) (l l' l'' o o' : Option (List ℕ)) (k : Masking) (y : List ℕ) →
+pub stopped_tail : (s : Setting) (tag : List ℕ) (len n : ℕ) (l l' l'' o o' : Option (List ℕ)) (k : AnyMasking) (y : List ℕ) →
     WentFar (opening_task s tag) [] (len - 16) l l' o o' k n → Consumes l' l'' y → Stopped (opening_task s tag) [] (len - 16) l l'' o o'
 stopped_tail s tag len n l l' l'' o o' k y q more =
     let P : List ℕ → Type 0 = λ b. Appends o o' b in

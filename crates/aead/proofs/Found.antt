@@ -1,9 +1,9 @@
 -- A sealing is refused only for want of memory.
-use Rattle.std.proofs.Common.{◌≡◌, ℕ, List, refl, arith, Result, Ok, Err, MatchResult}
+use Rattle.std.proofs.Common.{◌≡◌, ℕ, List, ◌++◌, length, refl, arith, length-append, Result, Ok, Err, MatchResult}
 use Rattle.octets.specs.declared.fault.Fault.{Fault}
 use Rattle.octets.specs.declared.fault.Fault.TheVariants.{KeyLength, NonceLength, TextTooLong, AadTooLong, TooShort, TagMismatch, WrapLength, WrapIntegrity, OutOfMemory, StreamEnd, Read, Write, SourceChanged}
 use Rattle.aead.specs.Sealing.{Setting, Opened, HasOneText}
-use Rattle.aead.specs.Refusals.{WholeOpenRefused}
+use Rattle.aead.specs.Refusals.{OpenRefused, WholeOpenRefused}
 
 -- no other refusal fits a sealing
 refused_only : HasOneText → (s : Setting) (sealed text : List ℕ) → Opened s sealed text → (e : Fault) → WholeOpenRefused s sealed e → e ≡ OutOfMemory
@@ -28,3 +28,27 @@ pub found : {T : Type 0} (items : T → List ℕ) → HasOneText → (s : Settin
     → (text : List ℕ) → Opened s sealed text → MatchResult r (λ v. items v ≡ text) (λ e. e ≡ OutOfMemory)
 found items law s sealed (Ok v) m text o = (law s sealed text o).1 (items v) m
 found items law s sealed (Err e) m text o = refused_only law s sealed text o e m
+
+-- no refusal of opening in place fits a sealing
+never_refused : HasOneText → (s : Setting) (body tag text : List ℕ) → length tag ≡ 16 → Opened s (body ++ tag) text → (e : Fault) → OpenRefused s body tag e → ⊥
+never_refused law s body tag text long o AadTooLong h = let fits = o.fits.aad_fits in omega (arith, h, fits)
+never_refused law s body tag text long o TextTooLong h =
+    let size = (law s (body ++ tag) text o).0 in omega (arith, size, length-append body tag, long, h.1, o.fits.text_fits)
+never_refused law s body tag text long o TagMismatch h = h.1 text o
+never_refused law s body tag text long o TooShort h = h
+never_refused law s body tag text long o OutOfMemory h = h
+never_refused law s body tag text long o KeyLength h = h
+never_refused law s body tag text long o NonceLength h = h
+never_refused law s body tag text long o WrapLength h = h
+never_refused law s body tag text long o WrapIntegrity h = h
+never_refused law s body tag text long o StreamEnd h = h
+never_refused law s body tag text long o Read h = h
+never_refused law s body tag text long o Write h = h
+never_refused law s body tag text long o SourceChanged h = h
+
+-- so a sealing is opened in place, to its text
+pub found_in_place : HasOneText → (s : Setting) (body tag opened : List ℕ) (r : Result (Unit {0}) Fault) → length tag ≡ 16
+    → MatchResult r (λ _. Opened s (body ++ tag) opened) (λ e. OpenRefused s body tag e × (opened ≡ body))
+    → (text : List ℕ) → Opened s (body ++ tag) text → MatchResult r (λ _. opened ≡ text) (λ _. ⊥)
+found_in_place law s body tag opened (Ok v) long m text o = (law s (body ++ tag) text o).1 opened m
+found_in_place law s body tag opened (Err e) long m text o = never_refused law s body tag text long o e m.0

@@ -7,9 +7,10 @@ pub mod Found
 pub mod KeyStreamStart
 mod Vectors
 pub mod Pieces
-pub mod Tags
 pub mod Maskings
-pub mod Sealers
+pub mod AnyMaskings
+pub mod BegunStreams
+pub mod Tags
 pub mod Measuring
 pub mod Passing
 pub mod Findings

@@ -1,21 +1,24 @@
 -- Pieces masked and authenticated one after another.
-use mathlib.Core.Logic.{∥∥₁_elim, ∥∥₁_map}
-use Rattle.std.proofs.Props.{props}
-use Rattle.std.proofs.Common.{◌≡◌, ℕ, ◌+◌, ◌≤◌, Bool, true, false, List, ◌++◌, length, subst, sym, ap, ◌∙◌, arith, length-append, zero-add, refl}
+use Rattle.std.proofs.Common.{◌≡◌, ℕ, ◌+◌, ◌≤◌, Bool, true, false, List, [], ◌++◌, length, subst, sym, ap, ◌∙◌, arith, length-append, zero-add, refl}
 use Rattle.octets.specs.Masked.{masked}
 use Rattle.octets.proofs.Masks.{length-masked, masked-append}
-use Rattle.aead.specs.declared.mask.MaskStream.{MaskStream}
 use Rattle.aead.specs.declared.authenticator.Authenticator.{Authenticator}
+use Rattle.aead.specs.declared.masking.Masking.{Masking}
 use Rattle.aead.specs.Suites.{text_limit}
 use Rattle.aead.specs.Sealing.{Setting, mask_of}
-use Rattle.aead.specs.States.{HoldsMask, CanMask, HoldsAuthenticator, CanTake, Masks, MasksSome, authenticated}
-use Rattle.aead.specs.Pieces.{Task, HoldsMasking}
-use Rattle.aead.specs.declared.masking.Masking.{Masking}
+use Rattle.aead.specs.States.{HoldsAuthenticator, authenticated}
+use Rattle.aead.specs.Maskings.{Task, task_mask, HoldsMasking}
 
 -- what is authenticated is as long as the pieces
 pub length-authenticated : (over_input : Bool) (s : Setting) (tag fed : List ℕ) → length (authenticated over_input s tag fed) ≡ length fed
 length-authenticated true s tag fed = refl
 length-authenticated false s tag fed = length-masked (mask_of s tag) 0 fed
+
+-- of no pieces nothing is authenticated
+pub none_authenticated : (over_input : Bool) (s : Setting) (tag : List ℕ) → authenticated over_input s tag [] ≡ []
+unfolding masked
+none_authenticated true s tag = refl
+none_authenticated false s tag = refl
 
 -- a mask from its beginning, in two parts
 pub two_masked : (s : Setting) (tag fed piece : List ℕ)
@@ -24,110 +27,74 @@ two_masked s tag fed piece =
     masked-append (mask_of s tag) 0 fed piece
     ∙ ap (λ i. masked (mask_of s tag) 0 fed ++ masked (mask_of s tag) i piece) (zero-add (length fed))
 
+-- a state whose parts hold these pieces, and how many they are
+pub record Grown {S H : Type 0} (made : S → Setting → List ℕ → ℕ → Type 0) (held : H → Setting → List ℕ → Type 0)
+    (m : S) (a : Authenticator H) (t : Task) (fed : List ℕ) : Type 0 where
+  pub mask_is : made m t.setting t.tag (length fed)
+  pub taken : HoldsAuthenticator held a t.setting (authenticated t.over_input t.setting t.tag fed)
+  pub within : length fed ≤ t.limit
+
 -- a piece authenticated as it comes
-pub more_input : (m m' : MaskStream) (a a' : Authenticator) (over_input : Bool) (limit : ℕ) (s : Setting) (tag fed piece out : List ℕ) → over_input ≡ true
-    → Masks m a over_input limit s tag fed → length fed + length piece ≤ limit
-    → ((s : Setting) (tag : List ℕ) (made : ℕ) → HoldsMask m s tag made → HoldsMask m' s tag (made + length piece) × (out ≡ masked (mask_of s tag) made piece))
-    → ((s : Setting) (x : List ℕ) → HoldsAuthenticator a s x → length x + length piece ≤ text_limit s.suite → HoldsAuthenticator a' s (x ++ piece))
-    → Masks m' a' over_input limit s tag (fed ++ piece) × (out ≡ masked (mask_of s tag) (length fed) piece)
-more_input m m' a a' over_input limit s tag fed piece out is h room masks takes =
-    let P : Bool → Type 0 = λ b. HoldsAuthenticator a s (authenticated b s tag fed) in
-    let Q : Bool → Type 0 = λ b. HoldsAuthenticator a' s (authenticated b s tag (fed ++ piece)) in
-    let M : ℕ → Type 0 = λ n. HoldsMask m' s tag n in
-    let made = masks s tag (length fed) h.made in (
+pub more_input : {S H : Type 0} (made : S → Setting → List ℕ → ℕ → Type 0) (held : H → Setting → List ℕ → Type 0) (k : Masking S H) (m' : S) (a' : Authenticator H)
+    (t : Task) (fed piece out : List ℕ) → k.over_input ≡ true → HoldsMasking made held k t fed → k.authenticator.length + length piece ≤ k.limit
+    → ((s : Setting) (tag : List ℕ) (n : ℕ) → made k.mask s tag n → n + length piece ≤ text_limit s.suite → made m' s tag (n + length piece) × (out ≡ masked (mask_of s tag) n piece))
+    → ((s : Setting) (x : List ℕ) → HoldsAuthenticator held k.authenticator s x → length x + length piece ≤ text_limit s.suite → HoldsAuthenticator held a' s (x ++ piece))
+    → Grown made held m' a' t (fed ++ piece) × (out ≡ masked (task_mask t) (length fed) piece)
+more_input made held k m' a' t fed piece out over h room masks takes =
+    let way : t.over_input ≡ true = sym h.over_input_is ∙ over in
+    let long : length (authenticated t.over_input t.setting t.tag fed) ≡ length fed = length-authenticated t.over_input t.setting t.tag fed in
+    let fits : length fed + length piece ≤ t.limit = omega (arith, room, h.taken.length_is, long, h.limit_is) in
+    let in_all : length fed + length piece ≤ text_limit t.setting.suite = omega (arith, fits, h.limit_fits) in
+    let P : Bool → Type 0 = λ b. HoldsAuthenticator held k.authenticator t.setting (authenticated b t.setting t.tag fed) in
+    let Q : Bool → Type 0 = λ b. HoldsAuthenticator held a' t.setting (authenticated b t.setting t.tag (fed ++ piece)) in
+    let M : ℕ → Type 0 = λ n. made m' t.setting t.tag n in
+    let next = masks t.setting t.tag (length fed) h.mask_is in_all in (
       record {
-        made = subst M (sym (length-append fed piece)) made.0;
-        taken = subst Q (sym is) (takes s fed (subst P is h.taken) (omega (arith, h.limit_fits)));
-        within = omega (arith, length-append fed piece);
-        limit_fits = h.limit_fits;
+        mask_is = subst M (sym (length-append fed piece)) next.0;
+        taken = subst Q (sym way) (takes t.setting fed (subst P way h.taken) in_all);
+        within = omega (arith, length-append fed piece, fits);
       },
-      made.1,
+      next.1,
     )
 
 -- a piece authenticated as it leaves
-pub more_output : (m m' : MaskStream) (a a' : Authenticator) (over_input : Bool) (limit : ℕ) (s : Setting) (tag fed piece out : List ℕ) → over_input ≡ false
-    → Masks m a over_input limit s tag fed → length fed + length piece ≤ limit → length out ≡ length piece
-    → ((s : Setting) (tag : List ℕ) (made : ℕ) → HoldsMask m s tag made → HoldsMask m' s tag (made + length piece) × (out ≡ masked (mask_of s tag) made piece))
-    → ((s : Setting) (x : List ℕ) → HoldsAuthenticator a s x → length x + length out ≤ text_limit s.suite → HoldsAuthenticator a' s (x ++ out))
-    → Masks m' a' over_input limit s tag (fed ++ piece) × (out ≡ masked (mask_of s tag) (length fed) piece)
-more_output m m' a a' over_input limit s tag fed piece out is h room long masks takes =
-    let P : Bool → Type 0 = λ b. HoldsAuthenticator a s (authenticated b s tag fed) in
-    let Q : Bool → Type 0 = λ b. HoldsAuthenticator a' s (authenticated b s tag (fed ++ piece)) in
-    let R : List ℕ → Type 0 = λ x. HoldsAuthenticator a' s x in
-    let M : ℕ → Type 0 = λ n. HoldsMask m' s tag n in
-    let made = masks s tag (length fed) h.made in
-    let both : masked (mask_of s tag) 0 fed ++ out ≡ masked (mask_of s tag) 0 (fed ++ piece) =
-    ap (λ o. masked (mask_of s tag) 0 fed ++ o) made.1 ∙ sym (two_masked s tag fed piece) in
-    let taken = takes s (masked (mask_of s tag) 0 fed) (subst P is h.taken) (omega (arith, h.limit_fits, length-masked (mask_of s tag) 0 fed)) in (
+pub more_output : {S H : Type 0} (made : S → Setting → List ℕ → ℕ → Type 0) (held : H → Setting → List ℕ → Type 0) (k : Masking S H) (m' : S) (a' : Authenticator H)
+    (t : Task) (fed piece out : List ℕ) → k.over_input ≡ false → HoldsMasking made held k t fed → k.authenticator.length + length piece ≤ k.limit
+    → ((s : Setting) (tag : List ℕ) (n : ℕ) → made k.mask s tag n → n + length piece ≤ text_limit s.suite → made m' s tag (n + length piece) × (out ≡ masked (mask_of s tag) n piece))
+    → ((s : Setting) (x : List ℕ) → HoldsAuthenticator held k.authenticator s x → length x + length out ≤ text_limit s.suite → HoldsAuthenticator held a' s (x ++ out))
+    → Grown made held m' a' t (fed ++ piece) × (out ≡ masked (task_mask t) (length fed) piece)
+more_output made held k m' a' t fed piece out over h room masks takes =
+    let way : t.over_input ≡ false = sym h.over_input_is ∙ over in
+    let long : length (authenticated t.over_input t.setting t.tag fed) ≡ length fed = length-authenticated t.over_input t.setting t.tag fed in
+    let fits : length fed + length piece ≤ t.limit = omega (arith, room, h.taken.length_is, long, h.limit_is) in
+    let in_all : length fed + length piece ≤ text_limit t.setting.suite = omega (arith, fits, h.limit_fits) in
+    let P : Bool → Type 0 = λ b. HoldsAuthenticator held k.authenticator t.setting (authenticated b t.setting t.tag fed) in
+    let Q : Bool → Type 0 = λ b. HoldsAuthenticator held a' t.setting (authenticated b t.setting t.tag (fed ++ piece)) in
+    let R : List ℕ → Type 0 = λ x. HoldsAuthenticator held a' t.setting x in
+    let M : ℕ → Type 0 = λ n. made m' t.setting t.tag n in
+    let next = masks t.setting t.tag (length fed) h.mask_is in_all in
+    let out_long : length out ≡ length piece = ap length next.1 ∙ length-masked (task_mask t) (length fed) piece in
+    let before : List ℕ = masked (task_mask t) 0 fed in
+    let both : before ++ out ≡ masked (task_mask t) 0 (fed ++ piece) =
+    ap (λ o. before ++ o) next.1 ∙ sym (two_masked t.setting t.tag fed piece) in
+    let taken = takes t.setting before (subst P way h.taken) (omega (arith, in_all, out_long, length-masked (task_mask t) 0 fed)) in (
       record {
-        made = subst M (sym (length-append fed piece)) made.0;
-        taken = subst Q (sym is) (subst R both taken);
-        within = omega (arith, length-append fed piece);
-        limit_fits = h.limit_fits;
+        mask_is = subst M (sym (length-append fed piece)) next.0;
+        taken = subst Q (sym way) (subst R both taken);
+        within = omega (arith, length-append fed piece, fits);
       },
-      made.1,
+      next.1,
     )
 
--- ---- where some pieces were masked and authenticated
+-- how long the pieces of a state are
+pub length_fed : {S H : Type 0} (made : S → Setting → List ℕ → ℕ → Type 0) (held : H → Setting → List ℕ → Type 0) (k : Masking S H) (t : Task) (fed : List ℕ)
+    → HoldsMasking made held k t fed → k.authenticator.length ≡ length fed
+length_fed made held k t fed h = h.taken.length_is ∙ length-authenticated t.over_input t.setting t.tag fed
 
--- their number is within the limit
-pub within_limit : (m : MaskStream) (a : Authenticator) (over_input : Bool) (limit : ℕ) → MasksSome m a over_input limit → a.length ≤ limit
-within_limit m a over_input limit some =
-    ∥∥₁_elim some (hlevel props) (λ r.
-    let h = r.3 in omega (arith, h.taken.length_is, length-authenticated over_input r.0 r.1 r.2, h.within))
-
--- so many more can be authenticated
-pub can_take : (m : MaskStream) (a : Authenticator) (over_input : Bool) (limit n : ℕ) → MasksSome m a over_input limit → a.length + n ≤ limit → CanTake a n
-can_take m a over_input limit n some room =
-    ∥∥₁_map some (λ r.
-    let h = r.3 in
-    (r.0, authenticated over_input r.0 r.1 r.2, h.taken, omega (arith, h.taken.length_is, h.limit_fits)))
-
--- and masked
-pub can_mask : (m : MaskStream) (a : Authenticator) (over_input : Bool) (limit n : ℕ) → MasksSome m a over_input limit → a.length + n ≤ limit → CanMask m n
-can_mask m a over_input limit n some room =
-    ∥∥₁_map some (λ r.
-    let h = r.3 in
-    (r.0, r.1, length r.2, h.made, omega (arith, h.taken.length_is, length-authenticated over_input r.0 r.1 r.2, h.limit_fits)))
-
--- a piece authenticated as it comes
-pub some_input : (m m' : MaskStream) (a a' : Authenticator) (over_input : Bool) (limit : ℕ) (piece out : List ℕ) → over_input ≡ true
-    → MasksSome m a over_input limit → a.length + length piece ≤ limit
-    → ((s : Setting) (tag : List ℕ) (made : ℕ) → HoldsMask m s tag made → HoldsMask m' s tag (made + length piece) × (out ≡ masked (mask_of s tag) made piece))
-    → ((s : Setting) (x : List ℕ) → HoldsAuthenticator a s x → length x + length piece ≤ text_limit s.suite → HoldsAuthenticator a' s (x ++ piece))
-    → MasksSome m' a' over_input limit
-some_input m m' a a' over_input limit piece out is some room masks takes =
-    ∥∥₁_map some (λ r.
-    let h = r.3 in
-    let fits : length r.2 + length piece ≤ limit = omega (arith, h.taken.length_is, length-authenticated over_input r.0 r.1 r.2) in
-    (r.0, r.1, r.2 ++ piece, (more_input m m' a a' over_input limit r.0 r.1 r.2 piece out is h fits masks takes).0))
-
--- a piece authenticated as it leaves
-pub some_output : (m m' : MaskStream) (a a' : Authenticator) (over_input : Bool) (limit : ℕ) (piece out : List ℕ) → over_input ≡ false
-    → MasksSome m a over_input limit → a.length + length piece ≤ limit → length out ≡ length piece
-    → ((s : Setting) (tag : List ℕ) (made : ℕ) → HoldsMask m s tag made → HoldsMask m' s tag (made + length piece) × (out ≡ masked (mask_of s tag) made piece))
-    → ((s : Setting) (x : List ℕ) → HoldsAuthenticator a s x → length x + length out ≤ text_limit s.suite → HoldsAuthenticator a' s (x ++ out))
-    → MasksSome m' a' over_input limit
-some_output m m' a a' over_input limit piece out is some room long masks takes =
-    ∥∥₁_map some (λ r.
-    let h = r.3 in
-    let fits : length r.2 + length piece ≤ limit = omega (arith, h.taken.length_is, length-authenticated over_input r.0 r.1 r.2) in
-    (r.0, r.1, r.2 ++ piece, (more_output m m' a a' over_input limit r.0 r.1 r.2 piece out is h fits long masks takes).0))
-
--- ---- of a whole state
-
--- how long its pieces are
-pub fed_length : (k : Masking) (t : Task) (fed : List ℕ) → HoldsMasking k t fed → k.authenticator.length ≡ length fed
-fed_length k t fed h = h.masks.taken.length_is ∙ length-authenticated k.over_input t.setting t.tag fed
-
--- and with more of them
-pub fed_within : (k : Masking) (t : Task) (fed : List ℕ) (n : ℕ) → HoldsMasking k t fed
-    → k.authenticator.length + n ≤ k.limit → length fed + n ≤ k.limit
-fed_within k t fed n h room = omega (arith, fed_length k t fed h)
-
--- its authenticator
-pub masking_tag : (k : Masking) (t : Task) (fed : List ℕ) → HoldsMasking k t fed
-    → HoldsAuthenticator k.authenticator t.setting (authenticated t.over_input t.setting t.tag fed)
-masking_tag k t fed h =
-    let P : Bool → Type 0 = λ b. HoldsAuthenticator k.authenticator t.setting (authenticated b t.setting t.tag fed) in
-    subst P h.over_input_is h.masks.taken
+-- the same limit by another name
+pub at_limit : {S H : Type 0} (made : S → Setting → List ℕ → ℕ → Type 0) (held : H → Setting → List ℕ → Type 0) (k : Masking S H) (over_input : Bool) (limit other : ℕ)
+    (s : Setting) (tag fed : List ℕ) → limit ≡ other
+    → HoldsMasking made held k (record { over_input = over_input; limit = limit; setting = s; tag = tag }) fed
+    → HoldsMasking made held k (record { over_input = over_input; limit = other; setting = s; tag = tag }) fed
+at_limit made held k over_input limit other s tag fed e h =
+    let P : ℕ → Type 0 = λ n. HoldsMasking made held k (record { over_input = over_input; limit = n; setting = s; tag = tag }) fed in subst P e h

@@ -11,11 +11,13 @@ use Rattle.octets.specs.Device.{Failed}
 use Rattle.octets.specs.Masked.{masked}
 use Rattle.octets.proofs.Devices.{appends_more}
 use Rattle.octets.proofs.Masks.{length-masked, take-masked}
-use Rattle.aead.specs.declared.masking.Masking.{Masking}
+use Rattle.aead.specs.declared.any_masking.AnyMasking.{AnyMasking}
 use Rattle.aead.specs.declared.sealer.Sealer.{Sealer}
 use Rattle.aead.specs.Suites.{construction_of, is_one_pass, text_limit, aad_limit}
 use Rattle.aead.specs.Sealing.{Setting, mask_of, tag_of, sealing}
-use Rattle.aead.specs.Pieces.{HoldsMasking, HoldsSealer, sealing_task}
+use Rattle.aead.specs.AnyMaskings.{HoldsAnyMasking}
+use Rattle.aead.specs.Pieces.{HoldsSealer}
+use Rattle.aead.specs.Maskings.{sealing_task}
 use Rattle.aead.specs.Passes.{Stopped}
 use Rattle.aead.specs.Extents.{WentAll}
 use Rattle.aead.specs.SealStream.{may_seal, SealVerdict, SealsStream, WhereTextTold}
@@ -94,7 +96,7 @@ exit_stopped l l' o o' s limit read read' wrote wrote' f same one fits stop blam
     ))
 
 -- the text is too long
-pub exit_long : (l l' o o' : Option (List ℕ)) (s : Setting) (k : Masking) (limit read read' wrote wrote' : ℕ) → limit ≡ text_limit s.suite
+pub exit_long : (l l' o o' : Option (List ℕ)) (s : Setting) (k : AnyMasking) (limit read read' wrote wrote' : ℕ) → limit ≡ text_limit s.suite
     → length s.aad ≤ aad_limit s.suite
     → WentAll (sealing_task s []) limit l l' o o' k None → (read' ≡ read) × (wrote' ≡ wrote)
     → WhereTextTold l o o' (λ x given. SealsStream s x given read read' wrote wrote' (Err TextTooLong))
@@ -119,10 +121,10 @@ pub holds_all : (before after : Sealer) (s : Setting) (limit n : ℕ) (x : List 
     → ((tag : List ℕ) → WentAll (sealing_task s tag) limit (Some x) l' o o' after.masking (Some n))
     → HoldsSealer after s x × (length x ≤ text_limit s.suite)
 holds_all before after s limit n x l' o o' same h went =
-    let t : (tag : List ℕ) → Appends o o' (masked (mask_of s tag) 0 (take limit x)) × HoldsMasking after.masking (sealing_task s tag) (take limit x) × (length x ≡ n) × (n ≤ limit) =
+    let t : (tag : List ℕ) → Appends o o' (masked (mask_of s tag) 0 (take limit x)) × HoldsAnyMasking after.masking (sealing_task s tag) (take limit x) × (length x ≡ n) × (n ≤ limit) =
     λ tag. let a = all_told (sealing_task s tag) limit x l' o o' after.masking (Some n) (went tag) in (a.0, a.1, a.2.0, a.2.1) in
     let all : take limit x ≡ x = take_all limit x (omega (arith, (t []).2, (t []).3)) in
-    let P : List ℕ → List ℕ → Type 0 = λ tag y. HoldsMasking after.masking (sealing_task s tag) y in
+    let P : List ℕ → List ℕ → Type 0 = λ tag y. HoldsAnyMasking after.masking (sealing_task s tag) y in
     (record { one_pass = h.one_pass; masking = λ tag. subst (P tag) all (t tag).1 }, omega (arith, (t []).2, (t []).3, same))
 
 -- the tag was given, or begun

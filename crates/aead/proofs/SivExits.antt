@@ -9,13 +9,15 @@ use Rattle.octets.specs.Device.{Failed}
 use Rattle.octets.specs.Masked.{masked}
 use Rattle.octets.proofs.Devices.{appends_none, appends_more}
 use Rattle.octets.proofs.Masks.{take-masked}
-use Rattle.aead.specs.declared.masking.Masking.{Masking}
+use Rattle.aead.specs.declared.any_masking.AnyMasking.{AnyMasking}
 use Rattle.aead.specs.declared.siv.SivAbsorb.{SivAbsorb}
 use Rattle.aead.specs.declared.siv.SivWriter.{SivWriter}
 use Rattle.aead.specs.Suites.{text_limit, aad_limit}
 use Rattle.aead.specs.Sealing.{Setting, Fits, mask_of, tag_of}
 use Rattle.aead.specs.Refusals.{SealRefused}
-use Rattle.aead.specs.Pieces.{HoldsMasking, HoldsAbsorb, HoldsWriter, Repeats, repeating_task}
+use Rattle.aead.specs.AnyMaskings.{HoldsAnyMasking}
+use Rattle.aead.specs.Pieces.{HoldsAbsorb, HoldsWriter, Repeats}
+use Rattle.aead.specs.Maskings.{repeating_task}
 use Rattle.aead.specs.Passes.{Stopped}
 use Rattle.aead.specs.Extents.{WentAll}
 use Rattle.aead.specs.SealSivStream.{AbsorbedAll, again, WritesAgain, SivVerdict, SivCounts, SealsSivStream, WhereBothTold}
@@ -25,16 +27,16 @@ use Rattle.aead.proofs.SealExits.{told}
 -- ---- the second reading
 
 -- what was given and is held of it
-again_told : (s : Setting) (a b : List ℕ) (len : ℕ) (l' o o' : Option (List ℕ)) (k : Masking) (e : Option ℕ) → len ≡ length a
-    → WentAll (repeating_task s a) len (Some b) l' o o' k e → Appends o o' (again s a b) × HoldsMasking k (repeating_task s a) (take (length a) b)
+again_told : (s : Setting) (a b : List ℕ) (len : ℕ) (l' o o' : Option (List ℕ)) (k : AnyMasking) (e : Option ℕ) → len ≡ length a
+    → WentAll (repeating_task s a) len (Some b) l' o o' k e → Appends o o' (again s a b) × HoldsAnyMasking k (repeating_task s a) (take (length a) b)
 again_told s a b len l' o o' k e same w =
     let t = all_told (repeating_task s a) len b l' o o' k e w in
     let P : ℕ → Type 0 = λ n. Appends o o' (masked (mask_of s (tag_of s a)) 0 (take n b)) in
-    let Q : ℕ → Type 0 = λ n. HoldsMasking k (repeating_task s a) (take n b) in
+    let Q : ℕ → Type 0 = λ n. HoldsAnyMasking k (repeating_task s a) (take n b) in
     (subst P same t.0, subst Q same t.1)
 
 -- where its length is within the first one's, it is held whole
-whole_again : (s : Setting) (a b : List ℕ) (len n : ℕ) (l' o o' : Option (List ℕ)) (k : Masking) → len ≡ length a
+whole_again : (s : Setting) (a b : List ℕ) (len n : ℕ) (l' o o' : Option (List ℕ)) (k : AnyMasking) → len ≡ length a
     → WentAll (repeating_task s a) len (Some b) l' o o' k (Some n) → take (length a) b ≡ b
 whole_again s a b len n l' o o' k same w =
     let t = all_told (repeating_task s a) len b l' o o' k (Some n) w in
@@ -54,7 +56,7 @@ again_stopped s a b len read read' wrote wrote' l' o o' f same stop blame =
     inr (inr (inl (k.0, subst P front k.3, elim blame [ inl x ↦ inl (ap Err x.0, x.1) | inr x ↦ inr (ap Err x.0, x.2) ])))
 
 -- it is longer than the first one
-pub again_long : (s : Setting) (a b : List ℕ) (len read read' wrote wrote' : ℕ) (l' o o' : Option (List ℕ)) (k : Masking) → len ≡ length a
+pub again_long : (s : Setting) (a b : List ℕ) (len read read' wrote wrote' : ℕ) (l' o o' : Option (List ℕ)) (k : AnyMasking) → len ≡ length a
     → WentAll (repeating_task s a) len (Some b) l' o o' k None → (read' ≡ read) × (wrote' ≡ wrote)
     → WritesAgain s a b o o' read read' wrote wrote' (Err SourceChanged)
 again_long s a b len read read' wrote wrote' l' o o' k same w kept =

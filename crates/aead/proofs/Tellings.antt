@@ -5,7 +5,7 @@ use Rattle.octets.specs.declared.fault.Fault.TheVariants.{Read, Write}
 use Rattle.octets.specs.Device.{Failed}
 use Rattle.aead.specs.declared.engine.passes.Finding.{Finding}
 use Rattle.aead.specs.Sealing.{Setting}
-use Rattle.aead.specs.Pieces.{opening_task}
+use Rattle.aead.specs.Maskings.{opening_task}
 use Rattle.aead.specs.Passes.{Stopped}
 use Rattle.aead.specs.Findings.{WentWhole}
 use Rattle.aead.specs.Told.{VerifyTold, WriteTold, verify_answer, write_answer}

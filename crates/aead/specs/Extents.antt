@@ -1,10 +1,11 @@
--- A reading to its end, but for what it has past a length.
+-- Internal words: a reading to its end, but for what it has past a length.
 use Rattle.std.specs.Prelude.{◌≡◌, ℕ, ◌≤◌, ◌<◌, List, [], Bool, true, false, length, take, Option, Some, None, Result, MatchResult}
 use Rattle.std.specs.Io.KnownBytes.{Consumes, Appends, IsAtEnd}
 use Rattle.octets.specs.declared.fault.Fault.{Fault}
 use Rattle.octets.specs.Masked.{masked}
-use Rattle.aead.specs.declared.masking.Masking.{Masking}
-use Rattle.aead.specs.Pieces.{Task, task_mask, HoldsMasking}
+use Rattle.aead.specs.declared.any_masking.AnyMasking.{AnyMasking}
+use Rattle.aead.specs.Maskings.{Task, task_mask}
+use Rattle.aead.specs.AnyMaskings.{HoldsAnyMasking}
 use Rattle.aead.specs.Passes.{Stopped}
 
 -- how many bytes x has, or that it has more than a length
@@ -13,15 +14,15 @@ IsExtent len x None = len < length x
 IsExtent len x (Some n) = (length x ≡ n) × (n ≤ len)
 
 -- all was taken, or more than the length
-pub record WentAll (t : Task) (len : ℕ) (left left' taken taken' : Option (List ℕ)) (after : Masking) (extent : Option ℕ) : Type 0 where
+pub record WentAll (t : Task) (len : ℕ) (left left' taken taken' : Option (List ℕ)) (after : AnyMasking) (extent : Option ℕ) : Type 0 where
   pub bytes : List ℕ
   pub consumed : Consumes left left' bytes
   pub given : Appends taken taken' (masked (task_mask t) 0 (take len bytes))
-  pub held : HoldsMasking after t (take len bytes)
+  pub held : HoldsAnyMasking after t (take len bytes)
   pub is : IsExtent len bytes extent
   pub end : length bytes ≤ len → IsAtEnd left'
 
-abbrev pub PassedAll : Task → ℕ → Option (List ℕ) → Option (List ℕ) → Option (List ℕ) → Option (List ℕ) → Masking → Result (Option ℕ) Fault → Type 0
+abbrev pub PassedAll : Task → ℕ → Option (List ℕ) → Option (List ℕ) → Option (List ℕ) → Option (List ℕ) → AnyMasking → Result (Option ℕ) Fault → Type 0
 PassedAll t len left left' taken taken' after r =
     MatchResult r (λ e. WentAll t len left left' taken taken' after e) (λ _. Stopped t [] len left left' taken taken')
 

@@ -5,6 +5,9 @@ pub mod AnyCiphers
 pub mod Refusals
 pub mod Cuts
 pub mod States
+pub mod Begun
+pub mod Maskings
+pub mod AnyMaskings
 pub mod Pieces
 pub mod Measure
 pub mod Passes

@@ -1,18 +1,19 @@
--- What a pass over a reading leaves.
+-- Internal words: what a pass over a reading leaves.
 use Rattle.std.specs.Prelude.{◌≡◌, ℕ, ◌≤◌, ◌<◌, ◌⊎◌, List, ◌++◌, length, take, get_or, Option, Result, MatchResult}
 use Rattle.std.specs.Io.KnownBytes.{Consumes, Appends, IsAtEnd}
 use Rattle.octets.specs.declared.fault.Fault.{Fault}
 use Rattle.octets.specs.declared.fault.Fault.TheVariants.{Read, Write}
 use Rattle.octets.specs.Device.{Failed}
 use Rattle.octets.specs.Masked.{masked}
-use Rattle.aead.specs.declared.masking.Masking.{Masking}
-use Rattle.aead.specs.Pieces.{Task, task_mask, HoldsMasking}
+use Rattle.aead.specs.declared.any_masking.AnyMasking.{AnyMasking}
+use Rattle.aead.specs.Maskings.{Task, task_mask}
+use Rattle.aead.specs.AnyMaskings.{HoldsAnyMasking}
 
 -- after these bytes, more were taken, fed and, masked, given
-pub record Went (t : Task) (fed : List ℕ) (left left' taken taken' : Option (List ℕ)) (after : Masking) (bytes : List ℕ) : Type 0 where
+pub record Went (t : Task) (fed : List ℕ) (left left' taken taken' : Option (List ℕ)) (after : AnyMasking) (bytes : List ℕ) : Type 0 where
   pub consumed : Consumes left left' bytes
   pub given : Appends taken taken' (masked (task_mask t) (length fed) bytes)
-  pub held : HoldsMasking after t (fed ++ bytes)
+  pub held : HoldsAnyMasking after t (fed ++ bytes)
   pub small : (i : ℕ) → get_or (masked (task_mask t) (length fed) bytes) i 0 < 256
 
 -- after these bytes, a device failed: more were taken, and the first of them, masked, were given
@@ -25,14 +26,14 @@ pub record Stopped (t : Task) (fed : List ℕ) (room : ℕ) (left left' taken ta
   pub given : Appends taken taken' (take shown (masked (task_mask t) (length fed) bytes))
 
 -- all of the room, or all that was left
-pub record WentFar (t : Task) (fed : List ℕ) (room : ℕ) (left left' taken taken' : Option (List ℕ)) (after : Masking) (n : ℕ) : Type 0 where
+pub record WentFar (t : Task) (fed : List ℕ) (room : ℕ) (left left' taken taken' : Option (List ℕ)) (after : AnyMasking) (n : ℕ) : Type 0 where
   pub bytes : List ℕ
   pub went : Went t fed left left' taken taken' after bytes
   pub count : length bytes ≡ n
   pub short : n ≤ room
   pub end : n < room → IsAtEnd left'
 
-abbrev pub Passed : Task → List ℕ → ℕ → Option (List ℕ) → Option (List ℕ) → Option (List ℕ) → Option (List ℕ) → Masking → Result ℕ Fault → Type 0
+abbrev pub Passed : Task → List ℕ → ℕ → Option (List ℕ) → Option (List ℕ) → Option (List ℕ) → Option (List ℕ) → AnyMasking → Result ℕ Fault → Type 0
 Passed t fed room left left' taken taken' after r =
     MatchResult r (λ n. WentFar t fed room left left' taken taken' after n) (λ _. Stopped t fed room left left' taken taken')
 

@@ -1,5 +1,5 @@
 -- What the sealing engines answer, and what they give.
-use Rattle.std.specs.Prelude.{◌≡◌, ℕ, ◌<◌, ◌⊎◌, nat_le, List, [], length, take, Option, Some, Result, Ok, Err, MatchResult, IfSome, if◌then◌else◌}
+use Rattle.std.specs.Prelude.{◌≡◌, ◌≢◌, ℕ, ◌<◌, ◌⊎◌, nat_le, List, [], length, take, Option, Some, Result, Ok, Err, MatchResult, IfSome, if◌then◌else◌}
 use Rattle.std.specs.Io.KnownBytes.{Appends}
 use Rattle.octets.specs.declared.fault.Fault.{Fault}
 use Rattle.octets.specs.declared.fault.Fault.TheVariants.{Read, Write}
@@ -37,3 +37,9 @@ pub record SealsStream (s : Setting) (x given : List ℕ) (read read' wrote wrot
 abbrev pub WhereTextTold : Option (List ℕ) → Option (List ℕ) → Option (List ℕ) → (List ℕ → List ℕ → Type 0) → Type 0
 WhereTextTold text taken taken' P =
     IfSome text (λ x. IfSome taken (λ before. (given : List ℕ) × Appends (Some before) taken' given × P x given))
+
+-- a call's fault is the reading's or the outlet's, which failed, or the call's own
+abbrev pub GiveBlames : {T : Type 0} → ℕ → ℕ → ℕ → ℕ → Result T Fault → Type 0
+GiveBlames read read' wrote wrote' r =
+    MatchResult r (λ _. (read' ≡ read) × (wrote' ≡ wrote))
+    (λ f. ((f ≡ Read) × Failed read read') ⊎ ((f ≡ Write) × Failed wrote wrote') ⊎ ((f ≢ Read) × (f ≢ Write) × (read' ≡ read) × (wrote' ≡ wrote)))

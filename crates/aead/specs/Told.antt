@@ -1,4 +1,4 @@
--- What each step of the stream opener answers, where its reading tells its bytes.
+-- Internal words: what each step of the stream opener answers, where its reading tells its bytes.
 use Rattle.std.specs.Prelude.{◌≡◌, ◌≢◌, ℕ, ◌+◌, ◌-◌, ◌≤◌, ◌<◌, ◌⊎◌, List, length, take, Option, Result, Ok, Err, MatchResult}
 use Rattle.std.specs.Io.KnownBytes.{Appends}
 use Rattle.octets.specs.declared.fault.Fault.{Fault}
@@ -46,9 +46,3 @@ WriteTold s tag len w taken taken' read read' wrote wrote' r =
 abbrev pub StepBlames : {T : Type 0} → ℕ → ℕ → Result T Fault → Type 0
 StepBlames read read' r =
     MatchResult r (λ _. read' ≡ read) (λ f. ((f ≡ Read) × Failed read read') ⊎ ((f ≢ Read) × (f ≢ Write) × (read' ≡ read)))
-
--- likewise of a step that gives
-abbrev pub GiveBlames : {T : Type 0} → ℕ → ℕ → ℕ → ℕ → Result T Fault → Type 0
-GiveBlames read read' wrote wrote' r =
-    MatchResult r (λ _. (read' ≡ read) × (wrote' ≡ wrote))
-    (λ f. ((f ≡ Read) × Failed read read') ⊎ ((f ≡ Write) × Failed wrote wrote') ⊎ ((f ≢ Read) × (f ≢ Write) × (read' ≡ read) × (wrote' ≡ wrote)))

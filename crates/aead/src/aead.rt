@@ -1,6 +1,6 @@
 // What every cipher here does.
 
-ghost use Rattle.std.specs.Prelude.{◌≡◌, ◌++◌, MatchResult};
+ghost use Rattle.std.specs.Prelude.{◌≡◌, ◌++◌, ℕ, List, MatchResult};
 ghost use Rattle.aead.specs.Sealing.{Opened};
 ghost use Rattle.aead.specs.Ciphers.{Keyed, setting};
 ghost use Rattle.aead.specs.Refusals.{SealRefused, OpenRefused};
@@ -27,7 +27,8 @@ pub trait Aead {
 
     /// Opens a ciphertext and its tag under a nonce with associated data: the text is left in the ciphertext's place.
     /// `AadTooLong`, then `TextTooLong`, where a length in bytes is past the suite's limit, then `TagMismatch` where
-    /// ciphertext and tag are no sealing. A refusal leaves every byte as it was. It takes no memory.
+    /// ciphertext and tag are no sealing. A refusal leaves every byte as it was. What is a sealing of a text is opened, to
+    /// that text. It takes no memory.
     fn open_in_place(
         &self,
         nonce: &Nonce,
@@ -35,6 +36,8 @@ pub trait Aead {
         body: &mut [u8],
         tag: &Tag,
     ) -> Result<(), Fault>
-        ensures { let s = setting (keyed self.now) nonce.now aad.now in
-            MatchResult result (λ _. Opened s (body.old ++ tag.now) body.new) (λ e. OpenRefused s body.old tag.now e × (body.new ≡ body.old)) };
+        ensures answer { let s = setting (keyed self.now) nonce.now aad.now in
+            MatchResult result (λ _. Opened s (body.old ++ tag.now) body.new) (λ e. OpenRefused s body.old tag.now e × (body.new ≡ body.old)) }
+        ensures found { let s = setting (keyed self.now) nonce.now aad.now in
+            (text : List ℕ) → Opened s (body.old ++ tag.now) text → MatchResult result (λ _. body.new ≡ text) (λ _. ⊥) };
 }

@@ -1,24 +1,18 @@
 // ChaCha20-Poly1305 (RFC 8439, 2.8).
 
-ghost use Rattle.std.specs.Prelude.{◌≡◌, ℕ, ◌+◌, ◌*◌, ◌^◌, ◌<◌, ◌≤◌, ◌++◌, List, length, take, slice_index, MatchResult};
-ghost use Rattle.std.specs.Int.{w64, to_le_bytes};
-ghost use Rattle.octets.specs.Masked.{masked};
+ghost use Rattle.std.specs.Prelude.{◌≡◌, ℕ, ◌%◌, ◌<◌, ◌≤◌, List, length, take, slice_index, MatchResult};
 ghost use Rattle.chacha.specs.Stream.{key_stream_byte};
-ghost use Rattle.chacha.specs.Block.{block};
-ghost use Rattle.poly1305.specs.Poly1305.{poly1305};
-ghost use Rattle.poly1305.specs.States.{Holds};
 ghost use Rattle.aead.specs.Sealing.{poly_key, Opened};
 ghost use Rattle.aead.specs.Ciphers.{Keyed, setting};
 ghost use Rattle.aead.specs.Refusals.{SealRefused, OpenRefused};
 ghost use Rattle.aead.specs.declared.suite.Suite.TheVariants.{ChaCha20Poly1305};
 
 use crate::aead::Aead;
-use crate::authenticator::UniversalHash;
-use crate::mask::MaskStream;
-use crate::parts::{Parts, open_parts, seal_parts};
+use crate::begun_stream::BegunStream;
+use crate::nonced::{Nonced, open_whole, seal_whole};
 use crate::suite::Suite;
 use chacha::{ChaStream, block, four_blocks};
-use octets::{Fault, Key32, Nonce, Tag, xor_into};
+use octets::{Fault, Key32, Nonce, Tag};
 use poly1305::Poly;
 use std::marker::Model;
 
@@ -43,38 +37,16 @@ impl ChaChaPoly {
         ChaChaPoly { key: *key }
     }
 
-    // The first block of the key stream (RFC 8439, 2.6).
-    pub(crate) fn start(&self, nonce: &Nonce) -> [u8; 64]
-        ensures { result ≡ block self.now.key 0 nonce.now }
-    {
-        block(&self.key, 0, nonce)
-    }
-
     // The cipher with a nonce, for a text in pieces.
-    pub(crate) fn message<'a>(&'a self, nonce: &'a Nonce, start: &'a [u8; 64]) -> Message<'a>
-        requires { start.now ≡ block self.now.key 0 nonce.now }
-        ensures keyed { ⟦<Message<'a> as Parts>⟧.keyed result ≡ self.now }
-        ensures nonce { ⟦<Message<'a> as Parts>⟧.nonce result ≡ nonce.now }
+    pub(crate) fn nonced<'a>(&'a self, nonce: &'a Nonce) -> NoncedChaCha<'a>
+        ensures keyed { ⟦<NoncedChaCha<'a> as Nonced>⟧.keyed result ≡ self.now }
+        ensures nonce { ⟦<NoncedChaCha<'a> as Nonced>⟧.nonce result ≡ nonce.now }
     {
-        Message {
+        NoncedChaCha {
             key: &self.key,
             nonce,
-            start: &start[..],
         }
     }
-}
-
-// How many bytes of text the blocks with the counters 1 to 3 mask.
-const SHORT: usize = 192;
-
-// The cipher with a nonce, and the first blocks of its key stream from counter 0 on.
-#[derive(Drop)]
-pub(crate) struct Message<'a> {
-    key: &'a Key32,
-    nonce: &'a Nonce,
-    start: &'a [u8],
-    ghost has_a_block: { 64 ≤ length start.now },
-    ghost start_is: { (i : ℕ) → i < length start.now → slice_index start.now i ≡ key_stream_byte key.now nonce.now 0 i },
 }
 
 // The first 32 bytes.
@@ -87,26 +59,18 @@ fn first_half(start: &[u8]) -> [u8; 32]
     first
 }
 
-impl<'a> Message<'a> {
-    // The key of the one-time authenticator: the first 32 bytes of the block with counter 0 (RFC 8439, 2.6).
-    fn poly_key(&self) -> [u8; 32]
-        ensures { result ≡ poly_key self.now.key.now self.now.nonce.now }
-    {
-        first_half(self.start)
-    }
+// The cipher with a nonce, for a text in pieces.
+#[derive(Drop)]
+pub(crate) struct NoncedChaCha<'a> {
+    key: &'a Key32,
+    nonce: &'a Nonce,
 }
 
-// The tag of what was taken in, padded, with the lengths in bytes after it (RFC 8439, 2.8).
-pub(crate) fn poly_tag(mut state: Poly, aad_length: u64, length: u64) -> Tag
-    ensures { (k m : List ℕ) → Holds state k m
-        → result ≡ poly1305 k ((m ++ to_le_bytes w64 aad_length) ++ to_le_bytes w64 length) }
-{
-    state.update(&aad_length.to_le_bytes());
-    state.update(&length.to_le_bytes());
-    state.finish()
-}
+impl<'a> Nonced for NoncedChaCha<'a> {
+    type Stream = ChaStream;
 
-impl<'a> Parts for Message<'a> {
+    type Hash = Poly;
+
     ghost keyed = { λ m. record { suite = ChaCha20Poly1305; key = m.key.now } };
 
     ghost nonce = { λ m. m.nonce.now };
@@ -115,24 +79,52 @@ impl<'a> Parts for Message<'a> {
         Suite::ChaCha20Poly1305
     }
 
-    fn mask(&self, _tag: &Tag) -> MaskStream {
-        MaskStream::ChaCha(ChaStream::new(self.key, self.nonce, 1))
+    fn mask(&self, _tag: &Tag) -> ChaStream {
+        ChaStream::new(self.key, self.nonce, 1)
     }
 
-    fn hash(&self) -> UniversalHash {
-        UniversalHash::ByPoly1305(Poly::new(&self.poly_key()))
-    }
-
-    // The key stream from counter 1 on: of the blocks that are there, where they suffice.
-    fn apply(&self, _tag: &Tag, bytes: &mut [u8]) {
-        if bytes.len() <= self.start.len() - 64 {
-            xor_into(bytes, &self.start[64..64 + bytes.len()]);
-        } else {
-            let mut stream = ChaStream::new(self.key, self.nonce, 1);
-            stream.apply(bytes).unwrap();
-        }
+    // Under the first 32 bytes of the block with counter 0 (RFC 8439, 2.6).
+    fn hash(&self) -> Poly {
+        Poly::new(&first_half(&block(self.key, 0, self.nonce)))
     }
 }
+
+// The same with the first blocks of its key stream from counter 0 on, for a whole text.
+#[derive(Drop)]
+struct BegunChaCha<'a> {
+    key: &'a Key32,
+    nonce: &'a Nonce,
+    start: &'a [u8],
+    ghost has_a_block: { 64 ≤ length start.now },
+    ghost short: { length start.now ≤ 256 },
+    ghost whole: { length start.now % 64 ≡ 0 },
+    ghost start_is: { (i : ℕ) → i < length start.now → slice_index start.now i ≡ key_stream_byte key.now nonce.now 0 i },
+}
+
+impl<'a> Nonced for BegunChaCha<'a> {
+    type Stream = BegunStream<'a>;
+
+    type Hash = Poly;
+
+    ghost keyed = { λ m. record { suite = ChaCha20Poly1305; key = m.key.now } };
+
+    ghost nonce = { λ m. m.nonce.now };
+
+    fn suite(&self) -> Suite {
+        Suite::ChaCha20Poly1305
+    }
+
+    fn mask(&self, _tag: &Tag) -> BegunStream<'a> {
+        BegunStream::new(self.key, self.nonce, self.start)
+    }
+
+    fn hash(&self) -> Poly {
+        Poly::new(&first_half(self.start))
+    }
+}
+
+// How many bytes of text the blocks with the counters 1 to 3 mask.
+const SHORT: usize = 192;
 
 impl Aead for ChaChaPoly {
     ghost keyed = { λ c. c };
@@ -147,10 +139,10 @@ impl Aead for ChaChaPoly {
         if text.len() <= SHORT {
             let blocks = four_blocks(key, 0, nonce);
             let start = blocks.as_flattened();
-            seal_parts(&Message { key, nonce, start }, aad, text)
+            seal_whole(&BegunChaCha { key, nonce, start }, aad, text)
         } else {
             let start = &block(key, 0, nonce)[..];
-            seal_parts(&Message { key, nonce, start }, aad, text)
+            seal_whole(&BegunChaCha { key, nonce, start }, aad, text)
         }
     }
 
@@ -165,10 +157,10 @@ impl Aead for ChaChaPoly {
         if body.len() <= SHORT {
             let blocks = four_blocks(key, 0, nonce);
             let start = blocks.as_flattened();
-            open_parts(&Message { key, nonce, start }, aad, body, tag)
+            open_whole(&BegunChaCha { key, nonce, start }, aad, body, tag)
         } else {
             let start = &block(key, 0, nonce)[..];
-            open_parts(&Message { key, nonce, start }, aad, body, tag)
+            open_whole(&BegunChaCha { key, nonce, start }, aad, body, tag)
         }
     }
 }

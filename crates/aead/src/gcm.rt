@@ -1,24 +1,20 @@
 // AES-GCM (SP 800-38D).
 
-ghost use Rattle.std.specs.Prelude.{◌≡◌, ◌<◌, ◌≤◌, ◌*◌, ◌^◌, ◌++◌, ◌∷◌, ℕ, List, [], length, MatchResult};
-ghost use Rattle.std.specs.Int.{w64, to_be_bytes};
-ghost use Rattle.octets.specs.Bytes.{pad16, xor_bytes};
+ghost use Rattle.std.specs.Prelude.{◌≡◌, ◌++◌, ◌∷◌, ℕ, List, [], length, MatchResult};
 ghost use Rattle.aes.specs.Cipher.{cipher};
-ghost use Rattle.gf128.specs.Ghash.{ghash};
-ghost use Rattle.gf128.specs.States.{Holds};
-ghost use Rattle.aead.specs.Suites.{construction_of, ByGcm, text_limit, aad_limit};
-ghost use Rattle.aead.specs.Sealing.{hash_key, j0, tag_over, Opened};
+ghost use Rattle.gf128.specs.States.{key_of};
+ghost use Rattle.aead.specs.Suites.{construction_of, ByGcm};
+ghost use Rattle.aead.specs.Sealing.{hash_key, j0, Opened};
 ghost use Rattle.aead.specs.Ciphers.{Keyed, setting};
 ghost use Rattle.aead.specs.Refusals.{SealRefused, OpenRefused};
 
 use crate::aead::Aead;
-use crate::authenticator::UniversalHash;
-use crate::mask::MaskStream;
-use crate::parts::{Parts, open_parts, seal_parts};
+use crate::hashes::GhashTag;
+use crate::nonced::{Nonced, open_whole, seal_whole};
 use crate::suite::Suite;
 use aes::{AesKey, CtrBe};
-use gf128::{Ghash, HashKey, Keyed128};
-use octets::{Block, Fault, Nonce, Tag, xored};
+use gf128::{Ghash, HashKey, Keyed128, Multiply, PlacedMul, WideMul};
+use octets::{Block, Fault, Nonce, Tag};
 use std::marker::Model;
 
 // From so many bytes on, a larger multiplier is worth its making.
@@ -55,29 +51,59 @@ impl Gcm {
         }
     }
 
-    // The cipher with a nonce.
-    pub(crate) fn message<'a>(&'a self, nonce: &'a Nonce) -> Message<'a>
-        ensures keyed { ⟦<Message<'a> as Parts>⟧.keyed result ≡ self.now }
-        ensures nonce { ⟦<Message<'a> as Parts>⟧.nonce result ≡ nonce.now }
+    // The cipher with a nonce, by a multiplier of its hash key.
+    pub(crate) fn nonced<'a, M: Multiply + Copy>(
+        &'a self,
+        nonce: &'a Nonce,
+        multiplier: M,
+    ) -> NoncedGcm<'a, M>
+        requires { M.key_bytes multiplier ≡ hash_key self.now.key }
+        ensures keyed { ⟦<NoncedGcm<'a, M> as Nonced>⟧.keyed result ≡ self.now }
+        ensures nonce { ⟦<NoncedGcm<'a, M> as Nonced>⟧.nonce result ≡ nonce.now }
     {
-        Message {
+        NoncedGcm {
             suite: self.suite,
             key: &self.key,
-            ghash_key: &self.ghash_key,
             nonce,
+            multiplier,
         }
     }
-}
 
-// The cipher with a nonce.
-#[derive(Drop)]
-pub(crate) struct Message<'a> {
-    suite: Suite,
-    key: &'a AesKey,
-    ghash_key: &'a HashKey,
-    nonce: &'a Nonce,
-    ghost by_gcm: { construction_of suite ≡ ByGcm },
-    ghost ghash_key_is: { ghash_key.now ≡ hash_key key.now },
+    // The multiples of its hash key that are kept.
+    pub(crate) fn multiplier(&self) -> &PlacedMul
+        ensures { key_of result.now ≡ hash_key self.now.key }
+    {
+        self.ghash_key.multiplier()
+    }
+
+    // A larger multiplier of its hash key, for a long text.
+    fn wide_multiplier(&self) -> WideMul
+        ensures { ⟦<WideMul as Multiply>⟧.key_bytes result ≡ hash_key self.now.key }
+    {
+        WideMul::of(self.ghash_key.key())
+    }
+
+    // Seals a long text.
+    #[inline(never)]
+    fn seal_long(&self, nonce: &Nonce, aad: &[u8], text: &mut [u8]) -> Result<Tag, Fault>
+        ensures { let s = setting self.now nonce.now aad.now in
+            MatchResult result (λ tag. Opened s (text.new ++ tag) text.old) (λ e. SealRefused s text.old e × (text.new ≡ text.old)) }
+    {
+        let wide = self.wide_multiplier();
+        seal_whole(&self.nonced(nonce, &wide), aad, text)
+    }
+
+    // Opens a long ciphertext.
+    #[inline(never)]
+    fn open_long(&self, nonce: &Nonce, aad: &[u8], body: &mut [u8], tag: &Tag) -> Result<(), Fault>
+        ensures answer { let s = setting self.now nonce.now aad.now in
+            MatchResult result (λ _. Opened s (body.old ++ tag.now) body.new) (λ e. OpenRefused s body.old tag.now e × (body.new ≡ body.old)) }
+        ensures found { let s = setting self.now nonce.now aad.now in
+            (text : List ℕ) → Opened s (body.old ++ tag.now) text → MatchResult result (λ _. body.new ≡ text) (λ _. ⊥) }
+    {
+        let wide = self.wide_multiplier();
+        open_whole(&self.nonced(nonce, &wide), aad, body, tag)
+    }
 }
 
 // The nonce and a counter (SP 800-38D, 7.1).
@@ -91,53 +117,22 @@ fn counter_block(nonce: &Nonce, counter: u8) -> Block
     Block::new(bytes)
 }
 
-// The tag of what was taken in, padded, with the lengths in bits after it, under the cipher of J0 (SP 800-38D, 7.1).
-pub(crate) fn gcm_tag<M: Keyed128>(
-    mut state: Ghash<M>,
-    mask: &Block,
-    aad_length: u64,
-    length: u64,
-) -> Tag
-    requires aad_fits { aad_length < 2 ^ 61 }
-    requires text_fits { length < 2 ^ 61 }
-    ensures { (h m : List ℕ) → Holds M.key_bytes state h m
-        → result ≡ xor_bytes mask.now (ghash h (pad16 ((m ++ to_be_bytes w64 (8 * aad_length)) ++ to_be_bytes w64 (8 * length)))) }
-{
-    state.update(&(8 * aad_length).to_be_bytes());
-    state.update(&(8 * length).to_be_bytes());
-    Tag::new(xored(mask.bytes(), state.finish().bytes()))
+// The cipher with a nonce, and a multiplier of its hash key.
+#[derive(Drop)]
+pub(crate) struct NoncedGcm<'a, M: Multiply> {
+    suite: Suite,
+    key: &'a AesKey,
+    nonce: &'a Nonce,
+    multiplier: M,
+    ghost by_gcm: { construction_of suite ≡ ByGcm },
+    ghost multiplier_is: { M.key_bytes multiplier ≡ hash_key key.now },
 }
 
-impl<'a> Message<'a> {
-    // The cipher of J0 (SP 800-38D, 7.1).
-    fn tag_mask(&self) -> Block
-        ensures { result ≡ cipher self.now.key.now (j0 self.now.nonce.now) }
-    {
-        self.key.encrypt(&counter_block(self.nonce, 1))
-    }
+impl<'a, M: Multiply + Copy> Nonced for NoncedGcm<'a, M> {
+    type Stream = CtrBe;
 
-    // The tag of a ciphertext, by a state of GHASH that holds the empty text.
-    #[inline(never)]
-    fn tag_by<M: Keyed128>(&self, mut state: Ghash<M>, aad: &[u8], bytes: &[u8]) -> Tag
-        requires empty { Holds M.key_bytes state self.now.ghash_key.now [] }
-        requires aad_fits { length aad.now ≤ aad_limit self.now.suite }
-        requires text_fits { length bytes.now ≤ text_limit self.now.suite }
-        ensures { result ≡ tag_over self.now.suite self.now.key.now self.now.nonce.now aad.now bytes.now }
-    {
-        state.update(aad);
-        state.pad16();
-        state.update(bytes);
-        state.pad16();
-        gcm_tag(
-            state,
-            &self.tag_mask(),
-            aad.len() as u64,
-            bytes.len() as u64,
-        )
-    }
-}
+    type Hash = GhashTag<M>;
 
-impl<'a> Parts for Message<'a> {
     ghost keyed = { λ m. record { suite = m.suite; key = m.key.now } };
 
     ghost nonce = { λ m. m.nonce.now };
@@ -146,19 +141,14 @@ impl<'a> Parts for Message<'a> {
         self.suite
     }
 
-    fn mask(&self, _tag: &Tag) -> MaskStream {
-        MaskStream::CountsBe(CtrBe::new(self.key, &counter_block(self.nonce, 2)))
+    fn mask(&self, _tag: &Tag) -> CtrBe {
+        CtrBe::new(self.key, &counter_block(self.nonce, 2))
     }
 
-    fn hash(&self) -> UniversalHash {
-        UniversalHash::ByGhash(self.ghash_key.ghash(), self.tag_mask())
-    }
-
-    fn tag(&self, aad: &[u8], bytes: &[u8]) -> Tag {
-        if aad.len() + bytes.len() < LONG {
-            self.tag_by(self.ghash_key.ghash(), aad, bytes)
-        } else {
-            self.tag_by(self.ghash_key.ghash_of_long(), aad, bytes)
+    fn hash(&self) -> GhashTag<M> {
+        GhashTag {
+            hash: Ghash::with(self.multiplier),
+            mask: self.key.encrypt(&counter_block(self.nonce, 1)),
         }
     }
 }
@@ -171,7 +161,11 @@ impl Aead for Gcm {
     }
 
     fn seal_in_place(&self, nonce: &Nonce, aad: &[u8], text: &mut [u8]) -> Result<Tag, Fault> {
-        seal_parts(&self.message(nonce), aad, text)
+        if aad.len() + text.len() < LONG {
+            seal_whole(&self.nonced(nonce, self.multiplier()), aad, text)
+        } else {
+            self.seal_long(nonce, aad, text)
+        }
     }
 
     fn open_in_place(
@@ -181,6 +175,10 @@ impl Aead for Gcm {
         body: &mut [u8],
         tag: &Tag,
     ) -> Result<(), Fault> {
-        open_parts(&self.message(nonce), aad, body, tag)
+        if aad.len() + body.len() < LONG {
+            open_whole(&self.nonced(nonce, self.multiplier()), aad, body, tag)
+        } else {
+            self.open_long(nonce, aad, body, tag)
+        }
     }
 }

@@ -1,39 +1,44 @@
 // A message masked piece by piece, and its tag.
 
-ghost use Rattle.std.specs.Prelude.{◌≡◌, ◌+◌, ◌≤◌, ◌++◌, ℕ, List, [], length};
+ghost use Rattle.std.specs.Prelude.{◌≡◌, ◌+◌, ◌<◌, ◌≤◌, ◌^◌, ◌++◌, ℕ, List, [], length};
 ghost use Rattle.octets.specs.Masked.{masked};
+ghost use Rattle.aead.specs.Suites.{text_limit};
 ghost use Rattle.aead.specs.Sealing.{Setting, tag_over};
-ghost use Rattle.aead.specs.States.{Masks, MasksSome, authenticated};
 
 use crate::authenticator::Authenticator;
+use crate::hashes::TagHash;
 use crate::mask::MaskStream;
 use octets::Tag;
 
 // Pieces are masked where they stand, and authenticated as they come or as they leave.
 #[derive(Drop)]
-pub(crate) struct Masking {
-    mask: MaskStream,
-    authenticator: Authenticator,
+pub(crate) struct Masking<S, H> {
+    mask: S,
+    pub(crate) authenticator: Authenticator<H>,
     // Whether the tag is over the pieces as they come.
     over_input: bool,
     // The most bytes of all pieces.
-    limit: u64,
-    ghost masks: { MasksSome mask authenticator over_input limit },
+    pub(crate) limit: u64,
+    ghost within: { authenticator.length ≤ limit },
+    ghost limit_small: { limit < 2 ^ 64 },
 }
 
-impl Masking {
-    ghost use Rattle.aead.specs.Pieces.{Task, HoldsMasking, task_mask};
+impl<S: MaskStream, H: TagHash> Masking<S, H> {
+    ghost use Rattle.aead.specs.States.{HoldsAuthenticator, authenticated};
+    ghost use Rattle.aead.specs.Maskings.{Task, HoldsMasking, task_mask};
 
-    // What was masked and authenticated so far.
+    // No piece yet.
     pub(crate) fn new(
-        mask: MaskStream,
-        authenticator: Authenticator,
+        mask: S,
+        authenticator: Authenticator<H>,
         over_input: bool,
         limit: u64,
-    ) -> Masking
-        requires { MasksSome mask authenticator over_input limit }
-        ensures { (s : Setting) (tag fed : List ℕ) → Masks mask authenticator over_input limit s tag fed
-            → HoldsMasking result (record { over_input = over_input; limit = limit; setting = s; tag = tag }) fed }
+    ) -> Masking<S, H>
+        requires { authenticator.length ≡ 0 }
+        ensures holds { (s : Setting) (tag : List ℕ) → S.made mask s tag 0 → HoldsAuthenticator H.held authenticator s [] → limit ≤ text_limit s.suite
+            → HoldsMasking S.made H.held result (record { over_input = over_input; limit = limit; setting = s; tag = tag }) [] }
+        ensures none { result.authenticator.length ≡ 0 }
+        ensures limit { result.limit ≡ limit }
     {
         Masking {
             mask,
@@ -53,23 +58,23 @@ impl Masking {
     // Masks the next piece.
     pub(crate) fn update(&mut self, piece: &mut [u8])
         requires { self.old.authenticator.length + length piece.old ≤ self.old.limit }
-        ensures masked { (t : Task) (fed : List ℕ) → HoldsMasking self.old t fed
-            → HoldsMasking self.new t (fed ++ piece.old) × (piece.new ≡ masked (task_mask t) (length fed) piece.old) }
+        ensures masked { (t : Task) (fed : List ℕ) → HoldsMasking S.made H.held self.old t fed
+            → HoldsMasking S.made H.held self.new t (fed ++ piece.old) × (piece.new ≡ masked (task_mask t) (length fed) piece.old) }
         ensures length { self.new.authenticator.length ≡ self.old.authenticator.length + length piece.old }
         ensures limit { self.new.limit ≡ self.old.limit }
     {
         if self.over_input {
             self.authenticator.update(piece);
-            self.mask.apply(piece);
+            self.mask.apply_to(piece);
         } else {
-            self.mask.apply(piece);
+            self.mask.apply_to(piece);
             self.authenticator.update(piece);
         }
     }
 
     // The tag of all pieces.
     pub(crate) fn finish(self) -> Tag
-        ensures { (t : Task) (fed : List ℕ) → HoldsMasking self t fed
+        ensures { (t : Task) (fed : List ℕ) → HoldsMasking S.made H.held self t fed
             → result ≡ tag_over t.setting.suite t.setting.key t.setting.nonce t.setting.aad (authenticated t.over_input t.setting t.tag fed) }
     {
         self.authenticator.finish()

@@ -1,22 +1,44 @@
 // Sealing piece by piece, where the tag is over the ciphertext.
 
-ghost use Rattle.std.specs.Prelude.{◌≡◌, ◌++◌, ℕ, List, [], length, true, MatchResult};
+ghost use Rattle.std.specs.Prelude.{◌≡◌, ◌≤◌, ◌++◌, ℕ, List, [], length, true, MatchResult};
 ghost use Rattle.octets.specs.Masked.{masked};
-ghost use Rattle.aead.specs.Suites.{construction_of, is_one_pass};
-ghost use Rattle.aead.specs.Sealing.{Setting, mask_of, tag_of, Opened};
+ghost use Rattle.aead.specs.Suites.{construction_of, is_one_pass, aad_limit};
+ghost use Rattle.aead.specs.Sealing.{Setting, mask_of, tag_of};
 ghost use Rattle.aead.specs.Ciphers.{setting};
 ghost use Rattle.aead.specs.AnyCiphers.{one_pass_keyed};
 ghost use Rattle.aead.specs.Refusals.{SealRefused};
+ghost use Rattle.aead.specs.Maskings.{sealing_task};
+ghost use Rattle.aead.specs.AnyMaskings.{HoldsAnyMasking};
 
+use crate::aead::Aead;
 use crate::any::AnyOnePass;
-use crate::masking::Masking;
-use crate::parts::Parts;
-use octets::{Fault, Nonce, Tag, are_bytes};
+use crate::any_masking::AnyMasking;
+use crate::nonced::masking;
+use octets::{Fault, Nonce, Tag};
 
 /// A text that is sealed piece by piece in one reading.
 #[derive(Drop)]
 pub struct Sealer {
-    pub(crate) masking: Masking,
+    pub(crate) masking: AnyMasking,
+}
+
+// The state that masks pieces and authenticates them as they leave; its mask looks at no tag.
+fn sealing(cipher: &AnyOnePass, nonce: &Nonce, aad: &[u8]) -> AnyMasking
+    requires { length aad.now ≤ aad_limit (one_pass_keyed cipher.now).suite }
+    ensures one_pass { is_one_pass (construction_of (one_pass_keyed cipher.now).suite) ≡ true }
+    ensures holds { let s = setting (one_pass_keyed cipher.now) nonce.now aad.now in
+        (tag : List ℕ) → HoldsAnyMasking result (sealing_task s tag) [] }
+{
+    let tag = Tag::new([0; 16]);
+    match cipher {
+        AnyOnePass::ChaCha(cipher) => {
+            AnyMasking::ByChaCha(masking(&cipher.nonced(nonce), aad, &tag, false))
+        }
+        AnyOnePass::Gcm(cipher) => {
+            let nonced = cipher.nonced(nonce, *cipher.multiplier());
+            AnyMasking::ByGcm(masking(&nonced, aad, &tag, false))
+        }
+    }
 }
 
 impl Sealer {
@@ -28,29 +50,11 @@ impl Sealer {
         ensures { let s = setting (one_pass_keyed cipher.now) nonce.now aad.now in
             MatchResult result (λ sealer. HoldsSealer sealer s []) (λ e. SealRefused s [] e) }
     {
-        match cipher {
-            AnyOnePass::ChaCha(cipher) => {
-                let start = cipher.start(nonce);
-                Sealer::over(&cipher.message(nonce, &start), aad)
-            }
-            AnyOnePass::Gcm(cipher) => Sealer::over(&cipher.message(nonce), aad),
-        }
-    }
-
-    // The same of a cipher with a nonce.
-    pub(crate) fn over<P: Parts>(parts: &P, aad: &[u8]) -> Result<Sealer, Fault>
-        requires { is_one_pass (construction_of (P.keyed parts.now).suite) ≡ true }
-        ensures { let s = setting (P.keyed parts.now) (P.nonce parts.now) aad.now in
-            MatchResult result (λ sealer. HoldsSealer sealer s []) (λ e. SealRefused s [] e) }
-    {
-        let suite = parts.suite();
-        if aad.len() as u64 > suite.aad_limit() {
+        if aad.len() as u64 > cipher.suite().aad_limit() {
             return Err(Fault::AadTooLong);
         }
-        let mask = parts.mask(&Tag::new([0; 16]));
-        let authenticator = parts.authenticator(aad);
         Ok(Sealer {
-            masking: Masking::new(mask, authenticator, false, suite.text_limit()),
+            masking: sealing(cipher, nonce, aad),
         })
     }
 

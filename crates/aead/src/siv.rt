@@ -1,29 +1,33 @@
 // Sealing piece by piece in two readings, where the tag is over the text (RFC 8452).
 
-ghost use Rattle.std.specs.Prelude.{◌≡◌, ◌++◌, ◌+◌, ◌<◌, ◌≤◌, ℕ, List, [], length, false, MatchResult};
+ghost use Rattle.std.specs.Prelude.{◌≡◌, ◌++◌, ◌+◌, ◌<◌, ◌≤◌, ◌^◌, ℕ, List, [], length, MatchResult};
 ghost use Rattle.octets.specs.Masked.{masked};
-ghost use Rattle.aead.specs.Suites.{construction_of, is_one_pass};
-ghost use Rattle.aead.specs.Sealing.{Setting, mask_of, tag_of, Opened};
+ghost use Rattle.aead.specs.Sealing.{Setting, mask_of, tag_of};
 ghost use Rattle.aead.specs.Ciphers.{setting};
 ghost use Rattle.aead.specs.Refusals.{SealRefused};
-ghost use Rattle.aead.specs.States.{AbsorbsSome};
 
+use crate::aead::Aead;
+use crate::any_masking::AnyMasking;
 use crate::authenticator::Authenticator;
-use crate::gcm_siv::{GcmSiv, Message, tag_mask};
+use crate::gcm_siv::{GcmSiv, tag_mask};
+use crate::hashes::PolyvalTag;
 use crate::masking::Masking;
-use crate::parts::Parts;
+use crate::nonced::authenticator;
 use aes::AesKey;
-use octets::{Fault, Nonce, Tag, are_bytes, same};
+use gf128::{Keyed128, PlacedMul};
+use octets::{Fault, Nonce, Tag, same};
 
 /// The first reading of a text that is sealed by AES-GCM-SIV.
 #[derive(Drop)]
 pub struct SivAbsorb {
-    authenticator: Authenticator,
+    authenticator: Authenticator<PolyvalTag<PlacedMul>>,
     // What the second reading begins with.
-    again: Authenticator,
+    again: Authenticator<PolyvalTag<PlacedMul>>,
     encryption: AesKey,
     limit: u64,
-    ghost absorbs: { AbsorbsSome authenticator again encryption limit },
+    ghost within: { authenticator.length ≤ limit },
+    ghost none: { again.length ≡ 0 },
+    ghost limit_small: { limit < 2 ^ 64 },
 }
 
 impl SivAbsorb {
@@ -35,22 +39,17 @@ impl SivAbsorb {
         ensures { let s = setting cipher.now nonce.now aad.now in
             MatchResult result (λ absorb. HoldsAbsorb absorb s []) (λ e. SealRefused s [] e) }
     {
-        SivAbsorb::over(&cipher.message(nonce), aad)
-    }
-
-    // The same of a cipher with a nonce.
-    pub(crate) fn over(message: &Message, aad: &[u8]) -> Result<SivAbsorb, Fault>
-        ensures { let s = setting (record { suite = message.now.suite; key = message.now.key.now }) message.now.nonce.now aad.now in
-            MatchResult result (λ absorb. HoldsAbsorb absorb s []) (λ e. SealRefused s [] e) }
-    {
-        let suite = message.suite();
+        let suite = cipher.suite();
         if aad.len() as u64 > suite.aad_limit() {
             return Err(Fault::AadTooLong);
         }
+        let keys = cipher.derive(nonce);
+        let multiplier = PlacedMul::of(&keys.hash_key);
+        let nonced = cipher.nonced(nonce, &keys.encryption, multiplier);
         Ok(SivAbsorb {
-            authenticator: message.authenticator(aad),
-            again: message.authenticator(aad),
-            encryption: message.encryption,
+            authenticator: authenticator(&nonced, aad),
+            again: authenticator(&nonced, aad),
+            encryption: keys.encryption,
             limit: suite.text_limit(),
         })
     }
@@ -93,7 +92,7 @@ impl SivAbsorb {
         let length = self.authenticator.length;
         let tag = self.authenticator.finish();
         let mask = tag_mask(&self.encryption, &tag);
-        let masking = Masking::new(mask, self.again, true, length);
+        let masking = AnyMasking::ByGcmSiv(Masking::new(mask, self.again, true, length));
         (tag, SivWriter { masking, tag })
     }
 }
@@ -101,7 +100,7 @@ impl SivAbsorb {
 /// The second reading of a text that is sealed by AES-GCM-SIV.
 #[derive(Drop)]
 pub struct SivWriter {
-    pub(crate) masking: Masking,
+    pub(crate) masking: AnyMasking,
     tag: Tag,
 }
 
@@ -124,7 +123,8 @@ impl SivWriter {
 
     /// Whether the second text has the length and the tag of the first; else `SourceChanged`. It spends the state.
     pub fn finish(self) -> Result<(), Fault>
-        ensures { (s : Setting) (first text : List ℕ) → HoldsWriter self s first text
+        ensures fault { MatchResult result (λ _. Unit {0}) (λ e. e ≡ Fault.SourceChanged) }
+        ensures answer { (s : Setting) (first text : List ℕ) → HoldsWriter self s first text
             → MatchResult result (λ _. Repeats s first text) (λ e. (e ≡ Fault.SourceChanged) × ¬ (Repeats s first text)) }
     {
         let missing = self.masking.room();

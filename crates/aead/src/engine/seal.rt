@@ -2,8 +2,7 @@
 
 ghost use Rattle.aead.specs.Ciphers.{setting};
 ghost use Rattle.aead.specs.AnyCiphers.{one_pass_keyed};
-ghost use Rattle.aead.specs.Told.{GiveBlames};
-ghost use Rattle.aead.specs.SealStream.{SealsStream, WhereTextTold};
+ghost use Rattle.aead.specs.SealStream.{GiveBlames, SealsStream, WhereTextTold};
 
 use crate::any::AnyOnePass;
 use crate::engine::passes::pass_all;

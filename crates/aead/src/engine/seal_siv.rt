@@ -5,7 +5,7 @@ ghost use Rattle.aead.specs.Sealing.{Setting, tag_of};
 ghost use Rattle.aead.specs.Ciphers.{setting};
 ghost use Rattle.aead.specs.Pieces.{HoldsAbsorb, HoldsWriter};
 ghost use Rattle.aead.specs.Passes.{BlamesReading};
-ghost use Rattle.aead.specs.Told.{GiveBlames};
+ghost use Rattle.aead.specs.SealStream.{GiveBlames};
 ghost use Rattle.aead.specs.SealSivStream.{TookPiece, TakenIn, WritesAgain, SealsSivStream, SivBlames, WhereBothTold};
 
 use crate::engine::passes::{has_more, pass_all};

@@ -2,14 +2,14 @@ use Rattle.std.proofs.Common.{arith}
 use Rattle.aead.specs.Sealing.{Setting}
 use Rattle.aead.specs.Ciphers.{setting}
 use Rattle.aead.specs.AnyCiphers.{keyed_of}
-use Rattle.aead.proofs.Maskings.{fed_length}
+use Rattle.aead.proofs.AnyMaskings.{fed_length, limit_is}
 use Rattle.aead.proofs.Tellings.{verify_told}
 use Rattle.aead.proofs.engine.open.verify_step.Goals as goal
 
 pub pass-requires : goal.pass-requires
 pass-requires g c =
     let none = fed_length _ _ _ c.opening-opening.ensures in
-    omega (arith, none, c.opening-opening.ensures.limit_is, c.requires.high)
+    omega (arith, none, limit_is _ _ _ c.opening-opening.ensures, c.requires.high)
 
 pub returns-in-Ok-clause-told : goal.returns-in-Ok-clause-told
 returns-in-Ok-clause-told g c =

@@ -2,10 +2,10 @@ use Rattle.std.proofs.Common.{◌≡◌, ℕ, List, [], length, take, refl, arit
 use Rattle.std.proofs.lemmas.List.{take_all}
 use Rattle.std.specs.Io.KnownBytes.{Appends}
 use Rattle.octets.specs.Device.{Failed}
-use Rattle.aead.specs.Pieces.{repeating_task}
+use Rattle.aead.specs.Maskings.{repeating_task}
 use Rattle.aead.specs.Passes.{Stopped}
 use Rattle.aead.specs.Extents.{WentAll}
-use Rattle.aead.proofs.Maskings.{fed_length}
+use Rattle.aead.proofs.AnyMaskings.{fed_length, limit_is}
 use Rattle.aead.proofs.SealExits.{told, where_told}
 use Rattle.aead.proofs.SivExits.{again_stopped, again_long, again_differs, again_tag}
 use Rattle.aead.proofs.engine.seal_siv.write_again.Goals as goal
@@ -13,7 +13,7 @@ use Rattle.aead.proofs.engine.seal_siv.write_again.Goals as goal
 pub returns-in-Err-clause-written : goal.returns-in-Err-clause-written
 returns-in-Err-clause-written g c = λ s first h e.
     let none = fed_length _ _ _ h.masking in
-    let len : c.room-length.result ≡ length first = omega (arith, none, c.room-length.ensures, h.masking.limit_is) in
+    let len : c.room-length.result ≡ length first = omega (arith, none, c.room-length.ensures, limit_is _ _ _ h.masking) in
     let l : Option (List ℕ) = g.J.Intake.left c.args.intake.now in
     where_told l _ _
     (told l (λ m. Stopped (repeating_task s first) [] c.room-length.result m (g.J.Intake.left c.pass_all.new.intake) (g.O.Outlet.taken c.args.outlet.now) (g.O.Outlet.taken c.pass_all.new.outlet))
@@ -23,7 +23,7 @@ returns-in-Err-clause-written g c = λ s first h e.
 pub returns-in-Ok-None-clause-written : goal.returns-in-Ok-None-clause-written
 returns-in-Ok-None-clause-written g c = λ s first h e.
     let none = fed_length _ _ _ h.masking in
-    let len : c.room-length.result ≡ length first = omega (arith, none, c.room-length.ensures, h.masking.limit_is) in
+    let len : c.room-length.result ≡ length first = omega (arith, none, c.room-length.ensures, limit_is _ _ _ h.masking) in
     let l : Option (List ℕ) = g.J.Intake.left c.args.intake.now in
     let went = rw c.in-Ok-None.field-0-is at (c.in-Ok-None.ensures.passed (repeating_task s first) h.masking) in
     where_told l _ _
@@ -33,19 +33,19 @@ returns-in-Ok-None-clause-written g c = λ s first h e.
 pub returns-in-Err-finish-clause-written : goal.returns-in-Err-finish-clause-written
 returns-in-Err-finish-clause-written g c = λ s first h e.
     let none = fed_length _ _ _ h.masking in
-    let len : c.room-length.result ≡ length first = omega (arith, none, c.room-length.ensures, h.masking.limit_is) in
+    let len : c.room-length.result ≡ length first = omega (arith, none, c.room-length.ensures, limit_is _ _ _ h.masking) in
     let l : Option (List ℕ) = g.J.Intake.left c.args.intake.now in
     let went = rw c.in-Ok-Some.field-0-is at (c.in-Ok-Some.ensures.passed (repeating_task s first) h.masking) in
     where_told l _ _
     (told l (λ m. WentAll (repeating_task s first) c.room-length.result m (g.J.Intake.left c.pass_all.new.intake) (g.O.Outlet.taken c.args.outlet.now) (g.O.Outlet.taken c.pass_all.new.outlet) c.pass_all.new.masking (Some c.in-Ok-Some.field-0-0)) went)
     (λ b w. again_differs s first b c.room-length.result _ _ _ _ _ _ _ _ c.args.writer
     (record { masking = c.pass_all.new.masking; tag = c.args.writer.tag }) _ len h refl w c.in-Ok-Some.ensures.blame
-    (λ s' a t held. (refl, (c.in-Err-finish.ensures s' a t held).1)))
+    (λ s' a t held. (refl, (c.in-Err-finish.ensures.answer s' a t held).1)))
 
 pub returns-in-Ok-give_all-clause-written : goal.returns-in-Ok-give_all-clause-written
 returns-in-Ok-give_all-clause-written g c = λ s first h e.
     let none = fed_length _ _ _ h.masking in
-    let len : c.room-length.result ≡ length first = omega (arith, none, c.room-length.ensures, h.masking.limit_is) in
+    let len : c.room-length.result ≡ length first = omega (arith, none, c.room-length.ensures, limit_is _ _ _ h.masking) in
     let l : Option (List ℕ) = g.J.Intake.left c.args.intake.now in
     let went = rw c.in-Ok-Some.field-0-is at (c.in-Ok-Some.ensures.passed (repeating_task s first) h.masking) in
     let size : length c.args.tag.now ≡ 16 = c.bytes.ensures.is_block.length_is in
@@ -53,14 +53,14 @@ returns-in-Ok-give_all-clause-written g c = λ s first h e.
     where_told l _ _
     (told l (λ m. WentAll (repeating_task s first) c.room-length.result m (g.J.Intake.left c.pass_all.new.intake) (g.O.Outlet.taken c.args.outlet.now) (g.O.Outlet.taken c.pass_all.new.outlet) c.pass_all.new.masking (Some c.in-Ok-Some.field-0-0)) went)
     (λ b w. again_tag s first b c.args.tag.now c.room-length.result _ 16 _ _ _ _ _ _ _ _ c.args.writer
-    (record { masking = c.pass_all.new.masking; tag = c.args.writer.tag }) _ len h refl w c.in-Ok.ensures e
+    (record { masking = c.pass_all.new.masking; tag = c.args.writer.tag }) _ len h refl w c.in-Ok.ensures.answer e
     (subst R (c.bytes.ensures.value ∙ sym (take_all 16 c.args.tag.now (omega (arith, size)))) c.in-Ok-give_all.ensures.bytes)
     (inl (refl, omega (arith, size), c.in-Ok-Some.ensures.blame.0, c.in-Ok-give_all.ensures.count ∙ c.in-Ok-Some.ensures.blame.1)))
 
 pub returns-in-Err-give_all-clause-written : goal.returns-in-Err-give_all-clause-written
 returns-in-Err-give_all-clause-written g c = λ s first h e.
     let none = fed_length _ _ _ h.masking in
-    let len : c.room-length.result ≡ length first = omega (arith, none, c.room-length.ensures, h.masking.limit_is) in
+    let len : c.room-length.result ≡ length first = omega (arith, none, c.room-length.ensures, limit_is _ _ _ h.masking) in
     let l : Option (List ℕ) = g.J.Intake.left c.args.intake.now in
     let went = rw c.in-Ok-Some.field-0-is at (c.in-Ok-Some.ensures.passed (repeating_task s first) h.masking) in
     let given = c.in-Err-give_all.ensures.bytes in
@@ -69,6 +69,6 @@ returns-in-Err-give_all-clause-written g c = λ s first h e.
     where_told l _ _
     (told l (λ m. WentAll (repeating_task s first) c.room-length.result m (g.J.Intake.left c.pass_all.new.intake) (g.O.Outlet.taken c.args.outlet.now) (g.O.Outlet.taken c.pass_all.new.outlet) c.pass_all.new.masking (Some c.in-Ok-Some.field-0-0)) went)
     (λ b w. again_tag s first b c.args.tag.now c.room-length.result _ given.0 _ _ _ _ _ _ _ _ c.args.writer
-    (record { masking = c.pass_all.new.masking; tag = c.args.writer.tag }) _ len h refl w c.in-Ok.ensures e
+    (record { masking = c.pass_all.new.masking; tag = c.args.writer.tag }) _ len h refl w c.in-Ok.ensures.answer e
     (subst R c.bytes.ensures.value given.2)
     (inr (refl, subst F c.in-Ok-Some.ensures.blame.1 c.in-Err-give_all.ensures.count)))

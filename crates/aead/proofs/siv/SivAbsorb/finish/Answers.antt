@@ -1,36 +1,21 @@
-use mathlib.Core.Logic.{∥∥₁_map}
-use Rattle.std.proofs.Common.{◌≡◌, ◌∙◌, [], ◌≤◌, ℕ, List, subst, sym, ap, arith}
+use Rattle.std.proofs.Common.{◌≡◌, ◌∙◌, ◌≤◌, ℕ, List, [], subst, sym, ap, arith}
 use Rattle.aead.specs.Suites.{is_one_pass, text_limit}
 use Rattle.aead.specs.Sealing.{tag_of}
-use Rattle.aead.specs.States.{HoldsMask}
+use Rattle.aead.specs.States.{MadeByGcmSiv}
+use Rattle.aead.proofs.Maskings.{at_limit}
 use Rattle.aead.proofs.Opens.{two_pass_tag}
-use Rattle.aead.proofs.Sealers.{begins, at_limit}
 use Rattle.aead.proofs.siv.SivAbsorb.finish.Goals as goal
-
-pub finish-tag-requires : goal.finish-tag-requires
-finish-tag-requires c = ∥∥₁_map c.args.self.absorbs (λ r. let h = r.2 in (r.0, r.1, h.taken, omega (arith, h.taken.fits.text_fits)))
-
-pub new-masking-requires : goal.new-masking-requires
-new-masking-requires c =
-    ∥∥₁_map c.args.self.absorbs (λ r.
-    let h = r.2 in (
-      r.0,
-      c.finish-tag.result,
-      [],
-      begins _ _ _ _ r.0 _ (c.tag_mask-mask.ensures r.0 h.by_gcm_siv h.encryption_is) h.begun
-          (omega (arith, h.taken.length_is, h.taken.fits.text_fits)),
-    ))
 
 pub returns : goal.returns
 returns c = λ s text h.
     let tag_is : c.finish-tag.result ≡ tag_of s text = c.finish-tag.ensures s text h.taken ∙ sym (two_pass_tag s text (ap is_one_pass h.by_gcm_siv)) in
-    let P : List ℕ → Type 0 = λ t. HoldsMask c.tag_mask-mask.result s t 0 in
+    let P : List ℕ → Type 0 = λ t. MadeByGcmSiv c.tag_mask-mask.result s t 0 in
     let made = subst P tag_is (c.tag_mask-mask.ensures s h.by_gcm_siv h.encryption_is) in
     let fits : c.args.self.authenticator.length ≤ text_limit s.suite = omega (arith, h.taken.length_is, h.taken.fits.text_fits) in (
       tag_is,
       record {
         by_gcm_siv = h.by_gcm_siv;
         tag_is = tag_is;
-        masking = at_limit _ _ _ _ s _ [] h.taken.length_is (c.new-masking.ensures s (tag_of s text) [] (begins _ _ _ _ s _ made h.begun fits));
+        masking = at_limit _ _ _ _ _ _ s _ [] h.taken.length_is (c.new.ensures.holds s (tag_of s text) made h.begun fits);
       },
     )

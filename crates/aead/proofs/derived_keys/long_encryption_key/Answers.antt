@@ -1,0 +1,11 @@
+use Rattle.std.proofs.Common.{ap₂, ◌∙◌, ◌++◌, sym}
+use Rattle.aead.proofs.DerivedKeys.{long_key}
+use Rattle.aead.proofs.derived_keys.long_encryption_key.Goals as goal
+
+pub returns : goal.returns
+returns c =
+    c.joined_blocks.ensures
+    ∙ ap₂ (λ a b. a ++ b)
+    (c.joined-first.ensures ∙ ap₂ (λ a b. a ++ b) c.key_part.ensures c.key_part-2.ensures)
+    (c.joined-second.ensures ∙ ap₂ (λ a b. a ++ b) c.key_part-3.ensures c.key_part-4.ensures)
+    ∙ sym (long_key c.args.key.now c.args.nonce.now c.requires)

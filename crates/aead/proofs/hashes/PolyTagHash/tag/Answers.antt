@@ -1,0 +1,14 @@
+use Rattle.std.proofs.Common.{ℕ, List, ◌++◌, ap₂, ◌∙◌}
+use Rattle.octets.specs.Bytes.{pad16}
+use Rattle.poly1305.specs.Poly1305.{poly1305}
+use Rattle.aead.specs.Sealing.{poly_key}
+use Rattle.aead.proofs.Tags.{by_poly1305}
+use Rattle.aead.proofs.hashes.PolyTagHash.tag.Goals as goal
+
+pub returns : goal.returns
+returns c = λ s m h fits is_aad is_bytes.
+    let k : List ℕ = poly_key s.key s.nonce in
+    let fed : List ℕ = pad16 (pad16 s.aad ++ m) in
+    by_poly1305 s m _ _ _ h.0 is_aad is_bytes
+    (c.finish.ensures.value k _ (c.update-2.ensures k _ (c.update.ensures k fed h.1))
+    ∙ ap₂ (λ x y. poly1305 k ((fed ++ x) ++ y)) c.to_le_bytes.ensures c.to_le_bytes-2.ensures)

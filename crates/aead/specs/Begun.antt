@@ -1,0 +1,17 @@
+-- Internal words: what ChaCha20's mask whose first bytes are there has made.
+use Rattle.std.specs.Prelude.{◌≡◌, ℕ, ◌+◌, ◌<◌, List, length, min, max, slice_index}
+use Rattle.chacha.specs.Stream.{key_stream_byte}
+use Rattle.chacha.specs.States as chacha
+use Rattle.aead.specs.declared.begun_stream.BegunStream.{BegunStream}
+use Rattle.aead.specs.Suites.{ByChaCha, construction_of}
+use Rattle.aead.specs.Sealing.{Setting}
+
+-- m has made n bytes of the key stream from counter 1 on: used as many of those that are there, and made the others
+pub record IsBegun (m : BegunStream) (key nonce : List ℕ) (n : ℕ) : Type 0 where
+  pub start_is : (i : ℕ) → i < length m.start.now → slice_index m.start.now i ≡ key_stream_byte key nonce 0 i
+  pub used_is : m.used ≡ min (64 + n) (length m.start.now)
+  pub rest_is : chacha.Holds m.rest key nonce 0 (max (64 + n) (length m.start.now))
+
+-- and that is the mask of a message
+abbrev pub MadeByBegun : BegunStream → Setting → List ℕ → ℕ → Type 0
+MadeByBegun m s tag n = (construction_of s.suite ≡ ByChaCha) × IsBegun m s.key s.nonce n

@@ -1,0 +1,67 @@
+// A message of any construction, masked piece by piece.
+
+ghost use Rattle.std.specs.Prelude.{◌≡◌, ◌+◌, ◌≤◌, ◌++◌, ℕ, List, [], length};
+ghost use Rattle.octets.specs.Masked.{masked};
+ghost use Rattle.aead.specs.Sealing.{tag_over};
+ghost use Rattle.aead.specs.States.{authenticated};
+ghost use Rattle.aead.specs.Maskings.{Task, task_mask};
+ghost use Rattle.aead.specs.AnyMaskings.{HoldsAnyMasking, count_of, limit_of};
+
+use crate::hashes::{GhashTag, PolyvalTag};
+use crate::masking::Masking;
+use aes::{CtrBe, CtrLe};
+use chacha::ChaStream;
+use gf128::PlacedMul;
+use octets::Tag;
+use poly1305::Poly;
+
+// The state of a message in pieces, whose construction is known when it runs.
+#[derive(Drop)]
+pub(crate) enum AnyMasking {
+    // ChaCha20-Poly1305.
+    ByChaCha(Masking<ChaStream, Poly>),
+    // AES-GCM.
+    ByGcm(Masking<CtrBe, GhashTag<PlacedMul>>),
+    // AES-GCM-SIV.
+    ByGcmSiv(Masking<CtrLe, PolyvalTag<PlacedMul>>),
+}
+
+impl AnyMasking {
+    // How many bytes more are within the limit.
+    pub(crate) fn room(&self) -> u64
+        ensures { result + count_of self.now ≡ limit_of self.now }
+    {
+        match self {
+            AnyMasking::ByChaCha(masking) => masking.room(),
+            AnyMasking::ByGcm(masking) => masking.room(),
+            AnyMasking::ByGcmSiv(masking) => masking.room(),
+        }
+    }
+
+    // Masks the next piece.
+    pub(crate) fn update(&mut self, piece: &mut [u8])
+        requires { count_of self.old + length piece.old ≤ limit_of self.old }
+        ensures masked { (t : Task) (fed : List ℕ) → HoldsAnyMasking self.old t fed
+            → HoldsAnyMasking self.new t (fed ++ piece.old) × (piece.new ≡ masked (task_mask t) (length fed) piece.old) }
+        ensures length { count_of self.new ≡ count_of self.old + length piece.old }
+        ensures limit { limit_of self.new ≡ limit_of self.old }
+    {
+        match self {
+            AnyMasking::ByChaCha(masking) => masking.update(piece),
+            AnyMasking::ByGcm(masking) => masking.update(piece),
+            AnyMasking::ByGcmSiv(masking) => masking.update(piece),
+        }
+    }
+
+    // The tag of all pieces.
+    pub(crate) fn finish(self) -> Tag
+        ensures { (t : Task) (fed : List ℕ) → HoldsAnyMasking self t fed
+            → result ≡ tag_over t.setting.suite t.setting.key t.setting.nonce t.setting.aad (authenticated t.over_input t.setting t.tag fed) }
+    {
+        match self {
+            AnyMasking::ByChaCha(masking) => masking.finish(),
+            AnyMasking::ByGcm(masking) => masking.finish(),
+            AnyMasking::ByGcmSiv(masking) => masking.finish(),
+        }
+    }
+}

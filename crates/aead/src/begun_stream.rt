@@ -1,0 +1,54 @@
+// ChaCha20's mask whose first bytes are there.
+
+ghost use Rattle.std.specs.Prelude.{◌≡◌, ◌+◌, ◌*◌, ◌%◌, ◌<◌, ◌≤◌, ℕ, List, length, min, slice_index};
+ghost use Rattle.chacha.specs.Stream.{key_stream_byte};
+
+use crate::mask::MaskStream;
+use chacha::ChaStream;
+use octets::{Key32, Nonce, xor_into};
+
+// The key stream from counter 1 on: of the blocks that are there, and then of those after them.
+#[derive(Drop)]
+pub(crate) struct BegunStream<'a> {
+    // The blocks from counter 0 on.
+    start: &'a [u8],
+    // How many of their bytes were used.
+    used: usize,
+    rest: ChaStream,
+    ghost in_range: { used ≤ length start.now },
+    ghost short: { length start.now ≤ 256 },
+}
+
+impl<'a> BegunStream<'a> {
+    ghost use Rattle.aead.specs.Begun.{IsBegun};
+
+    // No byte is made yet.
+    pub(crate) fn new(key: &Key32, nonce: &Nonce, start: &'a [u8]) -> BegunStream<'a>
+        requires has_a_block { 64 ≤ length start.now }
+        requires short { length start.now ≤ 256 }
+        requires whole { length start.now % 64 ≡ 0 }
+        requires start_is { (i : ℕ) → i < length start.now → slice_index start.now i ≡ key_stream_byte key.now nonce.now 0 i }
+        ensures { IsBegun result key.now nonce.now 0 }
+    {
+        BegunStream {
+            start,
+            used: 64,
+            rest: ChaStream::new(key, nonce, (start.len() / 64) as u32),
+        }
+    }
+}
+
+impl<'a> MaskStream for BegunStream<'a> {
+    ghost use Rattle.aead.specs.Begun.{MadeByBegun};
+
+    ghost made = { MadeByBegun };
+
+    fn apply_to(&mut self, piece: &mut [u8]) {
+        let n = piece.len().min(self.start.len() - self.used);
+        let (first, last) = piece.split_at_mut(n);
+        xor_into(first, &self.start[self.used..self.used + n]);
+        self.used += n;
+        // Within the limit of a text the key stream does not end.
+        let _ = self.rest.apply(last);
+    }
+}

@@ -1,0 +1,131 @@
+// The keys of a message of AES-GCM-SIV (RFC 8452, 4).
+
+ghost use Rattle.std.specs.Prelude.{◌≡◌, ◌++◌, length, take};
+ghost use Rattle.std.specs.Int.{w32, to_le_bytes};
+ghost use Rattle.octets.specs.Bytes.{IsBlock};
+ghost use Rattle.aes.specs.Cipher.{IsKeyLength};
+ghost use Rattle.gf128.specs.Polyval.{IsReversedMulX};
+ghost use Rattle.aead.specs.Suites.{construction_of, key_length, ByGcmSiv};
+ghost use Rattle.aead.specs.Sealing.{key_part, authentication_key, encryption_key};
+
+use crate::suite::Suite;
+use aes::AesKey;
+use gf128::reversed_mul_x;
+use octets::{Block, Nonce};
+
+// Two halves of a block.
+fn joined(first: &[u8; 8], second: &[u8; 8]) -> [u8; 16]
+    ensures { result ≡ first.now ++ second.now }
+{
+    let mut both = [0; 16];
+    both[..8].copy_from_slice(first);
+    both[8..].copy_from_slice(second);
+    both
+}
+
+// Two blocks.
+fn joined_blocks(first: &[u8; 16], second: &[u8; 16]) -> [u8; 32]
+    ensures { result ≡ first.now ++ second.now }
+{
+    let mut both = [0; 32];
+    both[..16].copy_from_slice(first);
+    both[16..].copy_from_slice(second);
+    both
+}
+
+// The first half of a block.
+fn first_half(block: &[u8; 16]) -> [u8; 8]
+    ensures { result ≡ take 8 block.now }
+{
+    let mut first = [0; 8];
+    first.copy_from_slice(&block[..8]);
+    first
+}
+
+// A number and a nonce.
+fn numbered(i: u32, nonce: &[u8; 12]) -> [u8; 16]
+    ensures { result ≡ to_le_bytes w32 i ++ nonce.now }
+{
+    let mut block = [0; 16];
+    block[..4].copy_from_slice(&i.to_le_bytes());
+    block[4..].copy_from_slice(nonce);
+    block
+}
+
+// Part `i` of the derived keys: 8 bytes (RFC 8452, 4).
+fn key_part(key: &AesKey, nonce: &Nonce, i: u32) -> [u8; 8]
+    ensures { result ≡ key_part key.now nonce.now i }
+{
+    let block = key.encrypt(&Block::new(numbered(i, nonce.bytes())));
+    first_half(block.bytes())
+}
+
+// The key of POLYVAL: parts 0 and 1 (RFC 8452, 4).
+fn authentication_key(key: &AesKey, nonce: &Nonce) -> Block
+    ensures { result ≡ authentication_key key.now nonce.now }
+{
+    Block::new(joined(&key_part(key, nonce, 0), &key_part(key, nonce, 1)))
+}
+
+// The key of the cipher, where it has 16 bytes: parts 2 and 3 (RFC 8452, 4).
+fn short_encryption_key(key: &AesKey, nonce: &Nonce) -> [u8; 16]
+    requires { length key.now ≡ 16 }
+    ensures { result ≡ encryption_key key.now nonce.now }
+{
+    joined(&key_part(key, nonce, 2), &key_part(key, nonce, 3))
+}
+
+// The same, where it has 32 bytes: parts 2 to 5.
+fn long_encryption_key(key: &AesKey, nonce: &Nonce) -> [u8; 32]
+    requires { length key.now ≡ 32 }
+    ensures { result ≡ encryption_key key.now nonce.now }
+{
+    let first = joined(&key_part(key, nonce, 2), &key_part(key, nonce, 3));
+    let second = joined(&key_part(key, nonce, 4), &key_part(key, nonce, 5));
+    joined_blocks(&first, &second)
+}
+
+// The expanded key of 16 or 32 bytes.
+fn expanded(bytes: &[u8]) -> AesKey
+    requires { IsKeyLength (length bytes.now) }
+    ensures { result ≡ bytes.now }
+{
+    AesKey::from_slice(bytes).unwrap()
+}
+
+// The key of POLYVAL's multiplier in GHASH's field (RFC 8452, appendix A).
+fn hash_key(key: &AesKey, nonce: &Nonce) -> Block
+    ensures value { IsReversedMulX (authentication_key key.now nonce.now) result }
+    ensures of_block { IsBlock (authentication_key key.now nonce.now) }
+{
+    reversed_mul_x(&authentication_key(key, nonce))
+}
+
+// The keys of one message.
+#[derive(Drop)]
+pub(crate) struct DerivedKeys {
+    // Of POLYVAL's multiplier in GHASH's field.
+    pub(crate) hash_key: Block,
+    pub(crate) encryption: AesKey,
+}
+
+impl DerivedKeys {
+    // Those under a suite's key with a nonce.
+    pub(crate) fn new(suite: Suite, key: &AesKey, nonce: &Nonce) -> DerivedKeys
+        requires by_gcm_siv { construction_of suite ≡ ByGcmSiv }
+        requires long { length key.now ≡ key_length suite }
+        ensures block { IsBlock (authentication_key key.now nonce.now) }
+        ensures hash_key { IsReversedMulX (authentication_key key.now nonce.now) result.hash_key }
+        ensures encryption { result.encryption ≡ encryption_key key.now nonce.now }
+    {
+        let hash_key = hash_key(key, nonce);
+        let encryption = match suite {
+            Suite::Aes128GcmSiv => expanded(&short_encryption_key(key, nonce)),
+            _ => expanded(&long_encryption_key(key, nonce)),
+        };
+        DerivedKeys {
+            hash_key,
+            encryption,
+        }
+    }
+}
