@@ -22,6 +22,12 @@ pub enum Suite {
 }
 
 impl Suite {
+    /// The bytes of a nonce, in each suite.
+    pub const NONCE_LENGTH: usize = 12;
+
+    /// The bytes of a tag, in each suite: so many more than its text has a sealing.
+    pub const TAG_LENGTH: usize = 16;
+
     /// The suite of a name: `chacha20-poly1305`, `aes-128-gcm`, `aes-192-gcm`, `aes-256-gcm`, `aes-128-gcm-siv` or
     /// `aes-256-gcm-siv`. No other text names one.
     pub fn named(name: &str) -> Option<Suite>
@@ -52,7 +58,7 @@ impl Suite {
         }
     }
 
-    /// The bytes of a key.
+    /// The bytes of a key: 16, 24 or 32.
     pub fn key_length(self) -> usize
         ensures { result ≡ key_length self }
     {
@@ -74,8 +80,9 @@ impl Suite {
         }
     }
 
-    // The most bytes of a text.
-    pub(crate) fn text_limit(self) -> u64
+    /// The most bytes of a text: 2^38 - 64 (RFC 8439, 2.8), 2^36 - 32 (SP 800-38D, 5.2.1.1) or 2^36 (RFC 8452, 6). A longer one
+    /// is refused as `TextTooLong`.
+    pub fn text_limit(self) -> u64
         ensures { result ≡ text_limit self }
     {
         match self {
@@ -85,8 +92,9 @@ impl Suite {
         }
     }
 
-    // The most bytes of associated data.
-    pub(crate) fn aad_limit(self) -> u64
+    /// The most bytes of associated data: 2^64 - 1 (RFC 8439, 2.8), 2^61 - 1 (SP 800-38D, 5.2.1.1, which counts bits) or 2^36
+    /// (RFC 8452, 6). A longer one is refused as `AadTooLong`.
+    pub fn aad_limit(self) -> u64
         ensures { result ≡ aad_limit self }
     {
         match self {
