@@ -1,17 +1,117 @@
 // Sealing in pieces.
 
-ghost use Rattle.std.specs.Prelude.{◌≡◌, ◌≤◌, ◌+◌, ◌-◌, ◌∷◌, ◌++◌, [], List, ℕ, length, map, IfOk, OnOk, MatchResult};
-ghost use Rattle.std.specs.List.{concat};
+ghost use Rattle.std.specs.Prelude.{◌≡◌, ◌≤◌, ◌+◌, ◌∷◌, ◌++◌, [], List, ℕ, length, map, OnOk, MatchResult};
+ghost use Rattle.octets.specs.Masked.{masked};
+ghost use Rattle.aead.specs.Sealing.{Setting, mask_of, tag_of};
 ghost use Rattle.aead.specs.Ciphers.{setting};
 ghost use Rattle.aead.specs.AnyCiphers.{keyed_of};
-ghost use Rattle.aead.specs.Cuts.{Rise, piece_lengths, IsCutSealing};
-ghost use Rattle.aead.specs.Refusals.{WholeSealRefused};
+ghost use Rattle.aead.specs.Cuts.{Rise, IsCutSealing, Encrypted, Encrypts};
+ghost use Rattle.aead.specs.Refusals.{SealRefused, WholeSealRefused};
 
+use crate::aead::Aead;
 use crate::any::AnyAead;
-use crate::has_one_text;
-use crate::whole::seal;
-use octets::{Fault, Nonce};
+use crate::sealer::Sealer;
+use crate::siv::{SivAbsorb, SivWriter};
+use octets::{Fault, Nonce, Tag, are_bytes};
 use std::alloc::{AllocError, Allocator};
+
+// What encrypts a text piece by piece.
+#[derive(Drop)]
+enum Cutting {
+    // The tag is over the ciphertext.
+    OnePass(Sealer),
+    // The tag is over the text, which was read before.
+    Siv(SivWriter, Tag),
+}
+
+impl Cutting {
+    ghost use Rattle.aead.specs.Pieces.{HoldsAbsorb};
+
+    // Nothing of the text is encrypted yet.
+    fn new(cipher: &AnyAead, nonce: &Nonce, aad: &[u8], text: &[u8]) -> Result<Cutting, Fault>
+        ensures { let s = setting (keyed_of cipher.now) nonce.now aad.now in
+            MatchResult result (λ c. Encrypts c s text.now []) (λ e. SealRefused s text.now e) }
+    {
+        let suite = cipher.suite();
+        if aad.len() as u64 > suite.aad_limit() {
+            return Err(Fault::AadTooLong);
+        }
+        if text.len() as u64 > suite.text_limit() {
+            return Err(Fault::TextTooLong);
+        }
+        match cipher {
+            AnyAead::OnePass(cipher) => match Sealer::new(cipher, nonce, aad) {
+                Ok(sealer) => Ok(Cutting::OnePass(sealer)),
+                Err(fault) => Err(fault),
+            },
+            AnyAead::Siv(cipher) => match SivAbsorb::new(cipher, nonce, aad) {
+                Ok(absorb) => Cutting::read(absorb, text),
+                Err(fault) => Err(fault),
+            },
+        }
+    }
+
+    // Reads the text once.
+    fn read(mut absorb: SivAbsorb, text: &[u8]) -> Result<Cutting, Fault>
+        ensures { (s : Setting) → HoldsAbsorb absorb s [] →
+            MatchResult result (λ c. Encrypted c s text.now []) (λ e. SealRefused s text.now e) }
+    {
+        match absorb.update(text) {
+            Ok(()) => {
+                let (tag, writer) = absorb.finish();
+                Ok(Cutting::Siv(writer, tag))
+            }
+            Err(fault) => Err(fault),
+        }
+    }
+
+    // Leaves the ciphertext of the next piece in its place.
+    fn update(&mut self, piece: &mut [u8]) -> Result<(), Fault>
+        ensures { (s : Setting) (text done : List ℕ) → Encrypted self.old s text done → length done + length piece.old ≤ length text →
+            MatchResult result (λ _. Encrypted self.new s text (done ++ piece.old) × (piece.new ≡ masked (mask_of s (tag_of s text)) (length done) piece.old))
+            (λ e. SealRefused s (done ++ piece.old) e) }
+    {
+        match self {
+            Cutting::OnePass(sealer) => sealer.update(piece),
+            Cutting::Siv(writer, _) => writer.update(piece),
+        }
+    }
+
+    // The tag of the text.
+    fn finish(self) -> Tag
+        ensures { (s : Setting) (text : List ℕ) → Encrypted self s text text → result ≡ tag_of s text }
+    {
+        match self {
+            Cutting::OnePass(sealer) => sealer.finish(),
+            Cutting::Siv(_, tag) => tag,
+        }
+    }
+
+    // The ciphertext of the next piece as one more.
+    #[tactic(auto, using(crate::proofs::Pieces::refused_piece))]
+    fn add<A: Allocator + Copy>(
+        &mut self,
+        alloc: A,
+        pieces: &mut Vec<Vec<u8, A>, A>,
+        piece: &[u8],
+    ) -> Result<(), Fault>
+        ensures { (s : Setting) (text done : List ℕ) → Encrypts self.old s text done → length done + length piece.now ≤ length text →
+            MatchResult result (λ _. Encrypts self.new s text (done ++ piece.now) × (map (λ v. v.items) pieces.new.items
+            ≡ map (λ v. v.items) pieces.old.items ++ masked (mask_of s (tag_of s text)) (length done) piece.now ∷ []))
+            (λ e. WholeSealRefused s text e) }
+    {
+        let Ok(mut bytes) = Vec::from_slice(alloc, piece) else {
+            return Err(Fault::OutOfMemory);
+        };
+        match self.update(&mut bytes) {
+            Ok(()) => match pieces.push(bytes) {
+                Ok(()) => Ok(()),
+                Err(_) => Err(Fault::OutOfMemory),
+            },
+            Err(fault) => Err(fault),
+        }
+    }
+}
 
 // One piece more.
 fn add<A: Allocator + Copy>(
@@ -24,33 +124,6 @@ fn add<A: Allocator + Copy>(
     let bytes = Vec::from_slice(alloc, piece)?;
     pieces.push(bytes)?;
     Ok(())
-}
-
-// The pieces of the ciphertext, and the tag.
-fn cut<A: Allocator + Copy>(
-    alloc: A,
-    sealed: &[u8],
-    cuts: &[u64],
-) -> Result<Vec<Vec<u8, A>, A>, AllocError>
-    requires long { 16 ≤ length sealed.now }
-    requires rising { Rise 0 cuts.now }
-    ensures joined { IfOk result (λ pieces. concat (map (λ v. v.items) pieces.items) ≡ sealed.now) }
-    ensures lengths { IfOk result (λ pieces. map length (map (λ v. v.items) pieces.items)
-        ≡ piece_lengths (length sealed.now - 16) 0 cuts.now ++ 16 ∷ []) }
-{
-    let (body, tag) = sealed.split_at(sealed.len() - 16);
-    let mut pieces = Vec::new(alloc);
-    let mut place = 0;
-    for cut in cuts {
-        if *cut <= body.len() as u64 {
-            let end = *cut as usize;
-            add(alloc, &mut pieces, &body[place..end])?;
-            place = end;
-        }
-    }
-    add(alloc, &mut pieces, &body[place..])?;
-    add(alloc, &mut pieces, tag)?;
-    Ok(pieces)
 }
 
 /// The sealing of a text in pieces: the ciphertext in pieces that begin at place 0 and at each cut that is at most the
@@ -69,13 +142,27 @@ pub fn seal_cut<A: Allocator + Copy>(
         MatchResult result (λ pieces. IsCutSealing s text.now cuts.now (map (λ v. v.items) pieces.items))
         (λ e. WholeSealRefused s text.now e) }
 {
-    has_one_text();
-    let sealed = match seal(alloc, cipher, nonce, aad, text) {
-        Ok(sealed) => sealed,
+    are_bytes(text);
+    let mut cutting = match Cutting::new(cipher, nonce, aad, text) {
+        Ok(cutting) => cutting,
         Err(fault) => return Err(fault),
     };
-    match cut(alloc, &sealed, cuts) {
-        Ok(pieces) => Ok(pieces),
-        Err(_) => Err(Fault::OutOfMemory),
+    let mut pieces = Vec::new(alloc);
+    let mut place = 0;
+    for cut in cuts {
+        if *cut <= text.len() as u64 {
+            let end = *cut as usize;
+            match cutting.add(alloc, &mut pieces, &text[place..end]) {
+                Ok(()) => place = end,
+                Err(fault) => return Err(fault),
+            }
+        }
+    }
+    match cutting.add(alloc, &mut pieces, &text[place..]) {
+        Ok(()) => match add(alloc, &mut pieces, cutting.finish().bytes()) {
+            Ok(()) => Ok(pieces),
+            Err(_) => Err(Fault::OutOfMemory),
+        },
+        Err(fault) => Err(fault),
     }
 }
