@@ -14,6 +14,8 @@ mod sbox;
 mod schedule;
 #[cfg(test)]
 mod tests;
+#[cfg(test)]
+mod uses;
 
 pub use cipher::is_permutation;
 pub use columns::round;

@@ -7,6 +7,8 @@ mod state;
 mod stream;
 #[cfg(test)]
 mod tests;
+#[cfg(test)]
+mod uses;
 
 pub use lanes::{four_blocks, xor_four_blocks};
 pub use single::block;

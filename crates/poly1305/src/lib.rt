@@ -7,6 +7,8 @@ mod poly;
 mod residue;
 #[cfg(test)]
 mod tests;
+#[cfg(test)]
+mod uses;
 mod word_mul;
 
 ghost use Rattle.std.specs.Prelude.{◌≡◌, ℕ, ◌+◌, ◌*◌, ◌%◌, ◌^◌, ◌≤◌};
