@@ -3,3 +3,4 @@ pub mod Padded
 pub mod Blocks
 pub mod Refusals
 pub mod Places
+pub mod Exports

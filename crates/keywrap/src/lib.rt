@@ -7,12 +7,15 @@ ghost use Rattle.keywrap.specs.Wrapping.{HasOneText};
 ghost use Rattle.keywrap.specs.Padded.{HasOnePaddedText};
 ghost use Rattle.keywrap.specs.Blocks.{WrapsByBlocks};
 
+mod exports;
 mod in_place;
 mod padded;
 mod padded_in_place;
 mod steps;
 #[cfg(test)]
 mod tests;
+#[cfg(test)]
+mod uses;
 mod whole;
 
 pub use in_place::{unwrap_in_place, wrap_in_place};

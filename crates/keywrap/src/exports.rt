@@ -1,0 +1,93 @@
+// What C calls: a slice crosses as a pointer and a length, and an outcome as its number.
+
+ghost use Rattle.std.specs.Prelude.{◌≡◌, ℕ, List, take, drop, MatchResult};
+ghost use Rattle.octets.specs.Numbers.{HasOutcome};
+ghost use Rattle.keywrap.specs.Wrapping.{Unwrapped, initial_value};
+ghost use Rattle.keywrap.specs.Refusals.{WrapInPlaceRefused, UnwrapInPlaceRefused};
+ghost use Rattle.keywrap.specs.Exports.{KeyedRefused};
+
+use crate::in_place::{unwrap_in_place, wrap_in_place};
+use aes::AesKey;
+use octets::{Fault, outcome_number};
+
+// `wrap_in_place` under a key's bytes.
+fn wrap_bytes(key: &[u8], bytes: &mut [u8]) -> Result<(), Fault>
+    ensures { MatchResult result (λ _. Unwrapped key.now bytes.new (drop 8 bytes.old))
+        (λ e. (bytes.new ≡ bytes.old) × KeyedRefused key.now (WrapInPlaceRefused bytes.old) e) }
+{
+    match AesKey::from_slice(key) {
+        Ok(key) => wrap_in_place(&key, bytes),
+        Err(fault) => Err(fault),
+    }
+}
+
+// `unwrap_in_place` under a key's bytes.
+fn unwrap_bytes(key: &[u8], bytes: &mut [u8]) -> Result<(), Fault>
+    ensures answer { MatchResult result (λ _. Unwrapped key.now bytes.old (drop 8 bytes.new) × (take 8 bytes.new ≡ initial_value))
+        (λ e. (bytes.new ≡ bytes.old) × KeyedRefused key.now (UnwrapInPlaceRefused key.now bytes.old) e) }
+{
+    match AesKey::from_slice(key) {
+        Ok(key) => unwrap_in_place(&key, bytes),
+        Err(fault) => Err(fault),
+    }
+}
+
+/// Wraps the text that stands from place 8 on, as `wrap_in_place`.
+#[unsafe(no_mangle)]
+pub extern "C" fn aeadkit_wrap(key: &[u8], bytes: &mut [u8]) -> u32
+    ensures { HasOutcome result (Unwrapped key.now bytes.new (drop 8 bytes.old))
+        (λ e. (bytes.new ≡ bytes.old) × KeyedRefused key.now (WrapInPlaceRefused bytes.old) e) }
+{
+    outcome_number(wrap_bytes(key, bytes))
+}
+
+/// Unwraps, as `unwrap_in_place`: the text then stands from place 8 on.
+#[unsafe(no_mangle)]
+pub extern "C" fn aeadkit_unwrap(key: &[u8], bytes: &mut [u8]) -> u32
+    ensures { HasOutcome result (Unwrapped key.now bytes.old (drop 8 bytes.new) × (take 8 bytes.new ≡ initial_value))
+        (λ e. (bytes.new ≡ bytes.old) × KeyedRefused key.now (UnwrapInPlaceRefused key.now bytes.old) e) }
+{
+    outcome_number(unwrap_bytes(key, bytes))
+}
+
+#[cfg(test)]
+mod tests {
+    use super::*;
+
+    /// RFC 3394, 4.1, under the key 00 to 0f.
+    const TEXT: [u8; 16] = [
+        0x00, 0x11, 0x22, 0x33, 0x44, 0x55, 0x66, 0x77, 0x88, 0x99, 0xaa, 0xbb, 0xcc, 0xdd, 0xee,
+        0xff,
+    ];
+
+    const WRAPPED: [u8; 24] = [
+        0x1f, 0xa6, 0x8b, 0x0a, 0x81, 0x12, 0xb4, 0x47, 0xae, 0xf3, 0x4b, 0xd8, 0xfb, 0x5a, 0x7b,
+        0x82, 0x9d, 0x3e, 0x86, 0x23, 0x71, 0xd2, 0xcf, 0xe5,
+    ];
+
+    const KEY: [u8; 16] = [0, 1, 2, 3, 4, 5, 6, 7, 8, 9, 10, 11, 12, 13, 14, 15];
+
+    #[test]
+    fn a_published_wrapping_and_back(rt: HostRuntime) {
+        let mut bytes = [0x55; 24];
+        bytes[8..].copy_from_slice(&TEXT);
+        assert_eq!(rt; aeadkit_wrap(&KEY, &mut bytes), 0);
+        assert_eq!(rt; bytes, WRAPPED);
+        assert_eq!(rt; aeadkit_unwrap(&KEY, &mut bytes), 0);
+        assert_eq!(rt; &bytes[..8], [0xa6; 8].as_slice());
+        assert_eq!(rt; &bytes[8..], TEXT.as_slice());
+    }
+
+    #[test]
+    fn the_numbers_of_refusals(rt: HostRuntime) {
+        let mut bytes = WRAPPED;
+        bytes[23] = 0xe4;
+        let before = bytes;
+        assert_eq!(rt; aeadkit_unwrap(&KEY, &mut bytes), 8);
+        assert_eq!(rt; aeadkit_unwrap(&KEY, &mut bytes[..23]), 7);
+        assert_eq!(rt; aeadkit_wrap(&KEY, &mut bytes[..16]), 7);
+        assert_eq!(rt; aeadkit_unwrap(&KEY[..15], &mut bytes[..23]), 1);
+        assert_eq!(rt; aeadkit_wrap(&KEY[..15], &mut bytes[..16]), 1);
+        assert_eq!(rt; bytes, before);
+    }
+}
