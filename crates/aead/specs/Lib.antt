@@ -17,3 +17,4 @@ pub mod Told
 pub mod Extents
 pub mod SealStream
 pub mod SealSivStream
+pub mod Exports

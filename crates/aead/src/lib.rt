@@ -14,6 +14,7 @@ mod chacha_poly;
 mod cuts;
 mod derived_keys;
 mod engine;
+mod exports;
 mod gcm;
 mod gcm_siv;
 mod hashes;
@@ -25,6 +26,8 @@ mod siv;
 mod suite;
 #[cfg(test)]
 mod tests;
+#[cfg(test)]
+mod uses;
 mod whole;
 
 pub use aead::Aead;

@@ -1,0 +1,167 @@
+// What C calls: a slice crosses as a pointer and a length, a suite and an outcome as their numbers.
+
+ghost use Rattle.std.specs.Prelude.{◌≡◌, ◌≢◌, ◌↔◌, MatchResult};
+ghost use Rattle.octets.specs.Numbers.{HasOutcome};
+ghost use Rattle.aead.specs.declared.suite.Suite.{Suite};
+ghost use Rattle.aead.specs.Exports.{suite_number, setting_of, WasSealed, WasNotSealed, WasOpened, WasNotOpened};
+
+use crate::aead::Aead;
+use crate::any::AnyAead;
+use crate::suite::Suite;
+use octets::{Fault, Nonce, Tag, outcome_number};
+
+/// The answer at C where the number of a suite is none.
+const UNKNOWN_SUITE: u32 = 14;
+
+// The suite of a number.
+fn suite_numbered(number: u32) -> Option<Suite>
+    ensures { (suite : Suite) → (result ≡ Some suite) ↔ (number ≡ suite_number suite) }
+{
+    match number {
+        1 => Some(Suite::ChaCha20Poly1305),
+        2 => Some(Suite::Aes128Gcm),
+        3 => Some(Suite::Aes192Gcm),
+        4 => Some(Suite::Aes256Gcm),
+        5 => Some(Suite::Aes128GcmSiv),
+        6 => Some(Suite::Aes256GcmSiv),
+        _ => None,
+    }
+}
+
+// Seals the bytes before the last sixteen, where the tag goes.
+fn seal_bytes(
+    suite: Suite,
+    key: &[u8],
+    nonce: &[u8],
+    aad: &[u8],
+    bytes: &mut [u8],
+) -> Result<(), Fault>
+    ensures { let s = setting_of suite key.now nonce.now aad.now in
+        MatchResult result (λ _. WasSealed s bytes.old bytes.new) (WasNotSealed s bytes.old bytes.new) }
+{
+    let cipher = AnyAead::new(suite, key)?;
+    let nonce = Nonce::from_slice(nonce)?;
+    if aad.len() as u64 > suite.aad_limit() {
+        return Err(Fault::AadTooLong);
+    }
+    if bytes.len() < 16 {
+        return Err(Fault::TooShort);
+    }
+    let (body, last) = bytes.split_at_mut(bytes.len() - 16);
+    match cipher.seal_in_place(&nonce, aad, body) {
+        Ok(tag) => {
+            last.copy_from_slice(tag.bytes());
+            Ok(())
+        }
+        Err(fault) => Err(fault),
+    }
+}
+
+// Opens the bytes before the last sixteen, which are the tag.
+fn open_bytes(
+    suite: Suite,
+    key: &[u8],
+    nonce: &[u8],
+    aad: &[u8],
+    bytes: &mut [u8],
+) -> Result<(), Fault>
+    ensures { let s = setting_of suite key.now nonce.now aad.now in
+        MatchResult result (λ _. WasOpened s bytes.old bytes.new) (WasNotOpened s bytes.old bytes.new) }
+{
+    let cipher = AnyAead::new(suite, key)?;
+    let nonce = Nonce::from_slice(nonce)?;
+    if aad.len() as u64 > suite.aad_limit() {
+        return Err(Fault::AadTooLong);
+    }
+    if bytes.len() < 16 {
+        return Err(Fault::TooShort);
+    }
+    let (body, last) = bytes.split_at_mut(bytes.len() - 16);
+    let mut tag = [0; 16];
+    tag.copy_from_slice(last);
+    cipher.open_in_place(&nonce, aad, body, &Tag::new(tag))
+}
+
+/// Seals in place: the bytes are a text and room for a tag of 16 bytes, and become the sealing.
+#[unsafe(no_mangle)]
+pub extern "C" fn aeadkit_seal(
+    suite: u32,
+    key: &[u8],
+    nonce: &[u8],
+    aad: &[u8],
+    bytes: &mut [u8],
+) -> u32
+    ensures known { (named : Suite) → suite ≡ suite_number named → let s = setting_of named key.now nonce.now aad.now in
+        HasOutcome result (WasSealed s bytes.old bytes.new) (WasNotSealed s bytes.old bytes.new) }
+    ensures unknown { ((named : Suite) → suite ≢ suite_number named) → (result ≡ UNKNOWN_SUITE) × (bytes.new ≡ bytes.old) }
+{
+    match suite_numbered(suite) {
+        Some(suite) => outcome_number(seal_bytes(suite, key, nonce, aad, bytes)),
+        None => UNKNOWN_SUITE,
+    }
+}
+
+/// Opens in place: the bytes are a sealing, and become its text, followed by the tag as it was.
+#[unsafe(no_mangle)]
+pub extern "C" fn aeadkit_open(
+    suite: u32,
+    key: &[u8],
+    nonce: &[u8],
+    aad: &[u8],
+    bytes: &mut [u8],
+) -> u32
+    ensures known { (named : Suite) → suite ≡ suite_number named → let s = setting_of named key.now nonce.now aad.now in
+        HasOutcome result (WasOpened s bytes.old bytes.new) (WasNotOpened s bytes.old bytes.new) }
+    ensures unknown { ((named : Suite) → suite ≢ suite_number named) → (result ≡ UNKNOWN_SUITE) × (bytes.new ≡ bytes.old) }
+{
+    match suite_numbered(suite) {
+        Some(suite) => outcome_number(open_bytes(suite, key, nonce, aad, bytes)),
+        None => UNKNOWN_SUITE,
+    }
+}
+
+#[cfg(test)]
+mod tests {
+    use super::*;
+
+    /// The sealing of sixteen zero bytes under AES-128-GCM with a zero key and nonce: test case 2 of GCM's vectors.
+    const SEALED: [u8; 32] = [
+        0x03, 0x88, 0xda, 0xce, 0x60, 0xb6, 0xa3, 0x92, 0xf3, 0x28, 0xc2, 0xb9, 0x71, 0xb2, 0xfe,
+        0x78, 0xab, 0x6e, 0x47, 0xd4, 0x2c, 0xec, 0x13, 0xbd, 0xf5, 0x3a, 0x67, 0xb2, 0x12, 0x57,
+        0xbd, 0xdf,
+    ];
+
+    #[test]
+    fn a_published_sealing_by_its_number(rt: HostRuntime) {
+        let mut bytes = [0; 32];
+        assert_eq!(rt; aeadkit_seal(2, &[0; 16], &[0; 12], &[], &mut bytes), 0);
+        assert_eq!(rt; bytes, SEALED);
+        assert_eq!(rt; aeadkit_open(2, &[0; 16], &[0; 12], &[], &mut bytes), 0);
+        assert_eq!(rt; &bytes[..16], [0; 16].as_slice());
+        assert_eq!(rt; &bytes[16..], &SEALED[16..]);
+    }
+
+    #[test]
+    fn the_numbers_of_refusals(rt: HostRuntime) {
+        let mut bytes = SEALED;
+        for (suite, key, nonce, most, number) in [
+            (0, 0usize, 0usize, 0usize, 14),
+            (7, 16, 12, 32, 14),
+            (2, 15, 0, 0, 1),
+            (2, 16, 11, 0, 2),
+            (2, 16, 12, 15, 5),
+            (2, 16, 12, 31, 6),
+        ] {
+            let key = &[0; 16][..key];
+            let nonce = &[0; 12][..nonce];
+            let made = aeadkit_open(suite, key, nonce, &[], &mut bytes[..most]);
+            assert_eq!(rt; made, number);
+            assert_eq!(rt; bytes, SEALED);
+            if number != 6 {
+                let made = aeadkit_seal(suite, key, nonce, &[], &mut bytes[..most]);
+                assert_eq!(rt; made, number);
+                assert_eq!(rt; bytes, SEALED);
+            }
+        }
+    }
+}
