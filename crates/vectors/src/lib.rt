@@ -13,6 +13,8 @@ mod report;
 mod suite;
 #[cfg(test)]
 mod tests;
+#[cfg(test)]
+mod uses;
 
 pub use fault::VectorFault;
 pub use reading::check;
