@@ -1,0 +1,75 @@
+/* Seals, opens, refuses, wraps and unwraps published vectors. It is C and C++. */
+#include "aeadkit.h"
+#include <stdio.h>
+#include <string.h>
+
+static int wrong;
+
+static void is(const char *what, int holds) {
+    if (!holds) {
+        wrong = 1;
+        printf("wrong: %s\n", what);
+    }
+}
+
+/* AES-128-GCM of sixteen zero bytes under a zero key and nonce: test case 2 of GCM's vectors. */
+static void sealing(void) {
+    const uint8_t want[32] = {0x03, 0x88, 0xda, 0xce, 0x60, 0xb6, 0xa3, 0x92, 0xf3, 0x28, 0xc2, 0xb9, 0x71, 0xb2, 0xfe, 0x78,
+                              0xab, 0x6e, 0x47, 0xd4, 0x2c, 0xec, 0x13, 0xbd, 0xf5, 0x3a, 0x67, 0xb2, 0x12, 0x57, 0xbd, 0xdf};
+    const uint8_t zero[16] = {0};
+    uint8_t bytes[32] = {0}, before[32];
+    is("seal", aeadkit_seal(AEADKIT_AES_128_GCM, zero, 16, zero, 12, NULL, 0, bytes, 32) == AEADKIT_DONE);
+    is("the sealing", !memcmp(bytes, want, 32));
+    bytes[3] ^= 1;
+    memcpy(before, bytes, 32);
+    is("a mismatch", aeadkit_open(AEADKIT_AES_128_GCM, zero, 16, zero, 12, NULL, 0, bytes, 32) == AEADKIT_TAG_MISMATCH);
+    is("a refusal changes no byte", !memcmp(bytes, before, 32));
+    bytes[3] ^= 1;
+    is("open", aeadkit_open(AEADKIT_AES_128_GCM, zero, 16, zero, 12, NULL, 0, bytes, 32) == AEADKIT_DONE);
+    is("the text", !memcmp(bytes, zero, 16));
+    is("a short key", aeadkit_seal(AEADKIT_AES_256_GCM, zero, 16, zero, 12, NULL, 0, bytes, 32) == AEADKIT_KEY_LENGTH);
+    is("no key", aeadkit_seal(AEADKIT_AES_256_GCM, NULL, 0, NULL, 0, NULL, 0, NULL, 0) == AEADKIT_KEY_LENGTH);
+    is("a short nonce", aeadkit_seal(AEADKIT_AES_128_GCM, zero, 16, zero, 11, NULL, 0, bytes, 32) == AEADKIT_NONCE_LENGTH);
+    is("too short", aeadkit_open(AEADKIT_AES_128_GCM, zero, 16, zero, 12, NULL, 0, bytes, 15) == AEADKIT_TOO_SHORT);
+    is("no bytes", aeadkit_open(AEADKIT_AES_128_GCM, zero, 16, zero, 12, NULL, 0, NULL, 0) == AEADKIT_TOO_SHORT);
+    is("no suite", aeadkit_seal(7, zero, 16, zero, 12, NULL, 0, bytes, 32) == AEADKIT_UNKNOWN_SUITE);
+}
+
+/* The empty text: test case 1 of GCM's vectors. */
+static void empty(void) {
+    const uint8_t want[16] = {0x58, 0xe2, 0xfc, 0xce, 0xfa, 0x7e, 0x30, 0x61, 0x36, 0x7f, 0x1d, 0x57, 0xa4, 0xe7, 0x45, 0x5a};
+    const uint8_t zero[16] = {0};
+    uint8_t bytes[16];
+    is("seal nothing", aeadkit_seal(AEADKIT_AES_128_GCM, zero, 16, zero, 12, NULL, 0, bytes, 16) == AEADKIT_DONE);
+    is("its tag", !memcmp(bytes, want, 16));
+    is("open it", aeadkit_open(AEADKIT_AES_128_GCM, zero, 16, zero, 12, NULL, 0, bytes, 16) == AEADKIT_DONE);
+}
+
+/* RFC 3394, 4.1. */
+static void wrapping(void) {
+    const uint8_t want[24] = {0x1f, 0xa6, 0x8b, 0x0a, 0x81, 0x12, 0xb4, 0x47, 0xae, 0xf3, 0x4b, 0xd8,
+                              0xfb, 0x5a, 0x7b, 0x82, 0x9d, 0x3e, 0x86, 0x23, 0x71, 0xd2, 0xcf, 0xe5};
+    uint8_t key[16], text[16], room[24] = {0}, before[24];
+    for (int i = 0; i < 16; i++) {
+        key[i] = (uint8_t)i;
+        text[i] = (uint8_t)(0x11 * i);
+    }
+    memcpy(room + 8, text, 16);
+    is("wrap", aeadkit_wrap(key, 16, room, 24) == AEADKIT_DONE);
+    is("the wrapping", !memcmp(room, want, 24));
+    is("unwrap", aeadkit_unwrap(key, 16, room, 24) == AEADKIT_DONE);
+    is("the key data", !memcmp(room + 8, text, 16));
+    memcpy(before, room, 24);
+    is("no wrapping", aeadkit_unwrap(key, 16, room, 24) == AEADKIT_WRAP_INTEGRITY);
+    is("it is as before", !memcmp(room, before, 24));
+    is("a length", aeadkit_wrap(key, 16, room, 20) == AEADKIT_WRAP_LENGTH);
+    is("no length", aeadkit_unwrap(key, 16, NULL, 0) == AEADKIT_WRAP_LENGTH);
+    is("no AES key", aeadkit_wrap(key, 15, room, 24) == AEADKIT_KEY_LENGTH);
+}
+
+int main(void) {
+    sealing();
+    empty();
+    wrapping();
+    return wrong;
+}

@@ -1,0 +1,54 @@
+"""Seals, opens, refuses, wraps and unwraps published vectors."""
+
+import aeadkit
+from aeadkit import Suite
+
+KEY = bytes(range(0x80, 0xA0))
+NONCE = bytes.fromhex("070000004041424344454647")
+AAD = bytes.fromhex("50515253c0c1c2c3c4c5c6c7")
+TEXT = (b"Ladies and Gentlemen of the class of '99: If I could offer you only one tip for the future, "
+        b"sunscreen would be it.")
+
+
+def refused(fault, call, *words):
+    """The call raises this fault, and no other."""
+    try:
+        call(*words)
+    except aeadkit.Refused as error:
+        assert type(error) is fault, (fault, error)
+    else:
+        raise SystemExit(f"not refused as {fault.__name__}")
+
+
+# RFC 8439, 2.8.2
+sealed = aeadkit.seal(Suite.CHACHA20_POLY1305, KEY, NONCE, AAD, TEXT)
+assert sealed[:16].hex() == "d31a8d34648e60db7b86afbc53ef7ec2"
+assert sealed[-16:].hex() == "1ae10b594f09e26a7e902ecbd0600691"
+assert aeadkit.open(Suite.CHACHA20_POLY1305, KEY, NONCE, AAD, sealed) == TEXT
+assert aeadkit.open(Suite.CHACHA20_POLY1305, bytearray(KEY), memoryview(NONCE), AAD, bytes(sealed)) == TEXT
+refused(aeadkit.TagMismatch, aeadkit.open, Suite.CHACHA20_POLY1305, KEY, NONCE, b"", sealed)
+refused(aeadkit.TooShort, aeadkit.open, Suite.CHACHA20_POLY1305, KEY, NONCE, AAD, sealed[:15])
+refused(aeadkit.TooShort, aeadkit.open, Suite.CHACHA20_POLY1305, KEY, NONCE, AAD, b"")
+
+# each suite with texts around the length of a block; no text is a text too
+for suite, length in zip(Suite, (32, 16, 24, 32, 16, 32)):
+    key = bytes(length)
+    for n in (0, 1, 15, 16, 17, 300):
+        made = aeadkit.seal(suite, key, bytes(12), b"", bytes(n))
+        assert len(made) == n + 16
+        assert aeadkit.open(suite, key, bytes(12), b"", made) == bytes(n)
+        refused(aeadkit.TagMismatch, aeadkit.open, suite, key, bytes(12), b"x", made)
+    refused(aeadkit.KeyLength, aeadkit.seal, suite, key[1:], bytes(11), b"", b"")
+    refused(aeadkit.NonceLength, aeadkit.seal, suite, key, bytes(11), b"", b"")
+refused(aeadkit.UnknownSuite, aeadkit.seal, 7, b"", b"", b"", b"")
+refused(aeadkit.UnknownSuite, aeadkit.open, 2**32 + 1, KEY, NONCE, AAD, sealed)
+
+# RFC 3394, 4.1
+text = bytes.fromhex("00112233445566778899aabbccddeeff")
+wrapped = aeadkit.wrap(bytes(range(16)), text)
+assert wrapped.hex() == "1fa68b0a8112b447aef34bd8fb5a7b829d3e862371d2cfe5"
+assert aeadkit.unwrap(bytes(range(16)), wrapped) == text
+refused(aeadkit.WrapIntegrity, aeadkit.unwrap, bytes(16), wrapped)
+refused(aeadkit.WrapLength, aeadkit.unwrap, bytes(16), b"")
+refused(aeadkit.WrapLength, aeadkit.wrap, bytes(16), bytes(8))
+refused(aeadkit.KeyLength, aeadkit.wrap, bytes(15), bytes(16))

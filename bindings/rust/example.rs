@@ -1,0 +1,40 @@
+//! Seals, opens, refuses, wraps and unwraps published vectors.
+
+use aeadkit::{Fault, Suite, TAG_BYTES, WRAP_BYTES, open, seal, unwrap, wrap};
+
+/// AES-128-GCM of sixteen zero bytes under a zero key and nonce: test case 2 of GCM's vectors.
+fn sealing() -> Result<(), Fault> {
+    let (key, nonce) = ([0; 16], [0; 12]);
+    let mut bytes = [0; 16 + TAG_BYTES];
+    seal(Suite::Aes128Gcm, &key, &nonce, &[], &mut bytes)?;
+    assert_eq!(bytes[..8], [0x03, 0x88, 0xda, 0xce, 0x60, 0xb6, 0xa3, 0x92]);
+    assert_eq!(bytes[24..], [0xf5, 0x3a, 0x67, 0xb2, 0x12, 0x57, 0xbd, 0xdf]);
+    let before = bytes;
+    assert_eq!(open(Suite::Aes128Gcm, &key, &[1; 12], &[], &mut bytes), Err(Fault::TagMismatch));
+    assert_eq!(open(Suite::Aes128Gcm, &key, &nonce, &[], &mut bytes[..3]), Err(Fault::TooShort));
+    assert_eq!(open(Suite::Aes256Gcm, &key, &[], &[], &mut bytes), Err(Fault::KeyLength));
+    assert_eq!(open(Suite::Aes128Gcm, &key, &[], &[], &mut bytes), Err(Fault::NonceLength));
+    assert_eq!(bytes, before);
+    assert_eq!(open(Suite::Aes128Gcm, &key, &nonce, &[], &mut bytes)?, &[0; 16]);
+    Ok(())
+}
+
+/// RFC 3394, 4.1.
+fn wrapping() -> Result<(), Fault> {
+    let key: [u8; 16] = std::array::from_fn(|i| i as u8);
+    let text: [u8; 16] = std::array::from_fn(|i| 0x11 * i as u8);
+    let mut room = [0; WRAP_BYTES + 16];
+    room[WRAP_BYTES..].copy_from_slice(&text);
+    wrap(&key, &mut room)?;
+    assert_eq!(room[..8], [0x1f, 0xa6, 0x8b, 0x0a, 0x81, 0x12, 0xb4, 0x47]);
+    assert_eq!(room[16..], [0x9d, 0x3e, 0x86, 0x23, 0x71, 0xd2, 0xcf, 0xe5]);
+    assert_eq!(unwrap(&key, &mut room)?, &text);
+    assert_eq!(unwrap(&key, &mut room), Err(Fault::WrapIntegrity));
+    assert_eq!(wrap(&key, &mut room[..20]), Err(Fault::WrapLength));
+    Ok(())
+}
+
+fn main() -> Result<(), Fault> {
+    sealing()?;
+    wrapping()
+}
