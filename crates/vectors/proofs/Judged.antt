@@ -5,14 +5,14 @@ use Rattle.vectors.specs.declared.fault.Cause.{Cause}
 use Rattle.vectors.specs.Grammar.{Record}
 use Rattle.vectors.specs.Code.Steps as steps
 use Rattle.vectors.specs.Code.Steps.{Place, step}
-use Rattle.vectors.specs.Faults.{IsFaultAt, IsCutOff, is_inside}
+use Rattle.vectors.specs.Faults.{IsFaultAt, IsCutOff, HasEnded, is_inside}
 use Rattle.vectors.specs.Agreement.{Agrees, IsSized}
 use Rattle.vectors.proofs.Sizes.{last_read_sized}
 use Rattle.vectors.specs.Reports.IsBad.{ends, agrees, disagrees}
 use Rattle.vectors.specs.declared.suite.Format.{Format}
 use Rattle.vectors.proofs.Places.{expected}
 use Rattle.vectors.specs.Reports.{IsBad, Judges, IsReport}
-use Rattle.vectors.proofs.Progress.{Progress, begins, goes_on, shift, same, fault, is_file, cut_off, count_is}
+use Rattle.vectors.proofs.Progress.{Progress, begins, goes_on, shift, same, fault, is_file, cut_off, count_is, ended}
 use Rattle.std.proofs.lemmas.List.{append-nil}
 
 -- n lines were read to this place, and this many records with these bad ones
@@ -93,9 +93,21 @@ at_cut lines other n p inside records bad h e none is =
 pub lines_read : (lines other : List (List ℕ)) (n : ℕ) (p : Place) (records : ℕ) (bad : List ℕ) → Judged lines other n p records bad → other ≡ [] → n ≡ length lines
 lines_read lines other n p records bad h e = sym (count_is lines n p h.entries (shift lines other [] n p h.entries h.progress e))
 
+-- records and one more are some
+snoc_some : (rs : List Record) (r : Record) → (rs ++ r ∷ []) ≢ []
+snoc_some [] r e = cc
+snoc_some (s ∷ rs) r e = cc
+
 -- a record that ends at a line has its suite's lengths
 pub sized_at_end : (lines other : List (List ℕ)) (l : List ℕ) (rest : List (List ℕ)) (n : ℕ) (p q : Place) (r : Record) (records : ℕ) (bad : List ℕ)
     → Judged lines other n p records bad → other ≡ l ∷ rest → step p l ≡ Ok (q, r ∷ []) → IsSized r
 sized_at_end lines other l rest n p q r records bad h e s =
     let after = goes_on lines l rest n p q h.entries (r ∷ []) (shift lines other (l ∷ rest) n p h.entries h.progress e) s in
     last_read_sized after.before q h.entries r after.read
+
+-- at a line that ends a record, one has ended
+pub ended_at : (lines other : List (List ℕ)) (l : List ℕ) (rest : List (List ℕ)) (n : ℕ) (p q : Place) (r : Record) (records : ℕ) (bad : List ℕ)
+    → Judged lines other n p records bad → other ≡ l ∷ rest → step p l ≡ Ok (q, r ∷ []) → HasEnded lines
+ended_at lines other l rest n p q r records bad h e s =
+    let after = goes_on lines l rest n p q h.entries (r ∷ []) (shift lines other (l ∷ rest) n p h.entries h.progress e) s in
+    ended lines rest (n + 1) q (h.entries ++ r ∷ []) after (snoc_some h.entries r)

@@ -1,5 +1,5 @@
 -- What lines that were read are, by the place behind them.
-use Rattle.std.proofs.Common.{◌≡◌, ℕ, Bool, true, false, cond, List, [], ◌∷◌, ◌++◌, Option, Some, Ok, refl, sym, ap, ◌∙◌, subst, append_assoc}
+use Rattle.std.proofs.Common.{◌≡◌, ◌≢◌, ℕ, Bool, true, false, cond, List, [], ◌∷◌, ◌++◌, Option, Some, Ok, refl, sym, ap, ◌∙◌, subst, append_assoc}
 use Rattle.std.specs.List.{list_all}
 use Rattle.std.proofs.lemmas.Bool.{and_parts}
 use Rattle.std.proofs.lemmas.List.{append-nil}
@@ -10,7 +10,7 @@ use Rattle.vectors.specs.Suites.{fields_of}
 use Rattle.vectors.specs.Grammar as grammar
 use Rattle.vectors.specs.Grammar.{Record, is_gap, IsFieldLine, IsFormatLine, IsSuiteLine, IsCutsLine, may_cut, unread, with_field, with_text, Fills, Ends, IsRecord, Formatted}
 use Rattle.vectors.specs.Faults as faults
-use Rattle.vectors.specs.Faults.{Expected, behind_fields, Begun, Expects}
+use Rattle.vectors.specs.Faults.{Expected, behind_fields, Begun, Expects, HasEnded}
 use Rattle.vectors.specs.Code.Steps as steps
 use Rattle.vectors.specs.Code.Steps.{◌>>=◌, Place, field_at, format_at, suite_at, end_at, text_at, step, run}
 use Rattle.vectors.proofs.FieldLemmas.{Next, Ended, by_text, by_cuts, bind_ok, ok_is, field_ok, format_ok, suite_ok, text_ok, end_ok}
@@ -209,3 +209,28 @@ at_expects (steps.text F r) ls rs h =
 -- behind lines that were read to a place, what the place says is expected
 pub expects : (ls : List (List ℕ)) (x : Next) → run steps.start ls ≡ Ok x → Expects ls (expected x.0)
 expects ls x e = at_expects x.0 ls x.1 (lines_at ls x e)
+
+-- the first of the lines before a place behind records are a file
+pub file_at : (p : Place) (ls : List (List ℕ)) (rs : List Record) → At p ls rs → rs ≢ [] → HasEnded ls
+file_at steps.start ls rs h some = absurd (some h.1)
+file_at (steps.between F) ls rs h some = record {
+  front = ls;
+  rest = [];
+  whole = sym (append-nil ls);
+  records = rs;
+  file = record { format = F; formatted = h; some = some };
+}
+file_at (steps.fields F left r) ls rs h some = record {
+  front = h.front;
+  rest = h.l ∷ h.ms;
+  whole = h.whole;
+  records = rs;
+  file = record { format = F; formatted = h.formatted; some = some };
+}
+file_at (steps.text F r) ls rs h some = record {
+  front = h.front;
+  rest = h.l ∷ (h.ms ++ h.c ∷ []);
+  whole = h.whole;
+  records = rs;
+  file = record { format = F; formatted = h.formatted; some = some };
+}

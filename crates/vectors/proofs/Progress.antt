@@ -8,7 +8,7 @@ use Rattle.vectors.specs.declared.place.Place as program
 use Rattle.vectors.specs.declared.place.Place.TheVariants.{Start, Between, Fields, Text}
 use Rattle.vectors.specs.Code.Views.{view}
 use Rattle.vectors.specs.Code.Steps.{Place, step, run}
-use Rattle.vectors.specs.Faults.{IsFaultAt, IsCutOff, IsFaultOf, is_inside}
+use Rattle.vectors.specs.Faults.{IsFaultAt, IsCutOff, HasEnded, IsFaultOf, is_inside}
 use Rattle.vectors.specs.Reports.{IsReported}
 use Rattle.vectors.specs.declared.fault.Cause.TheVariants as cause
 use Rattle.vectors.specs.declared.fault.VectorFault.{VectorFault}
@@ -21,7 +21,7 @@ use Rattle.vectors.specs.Faults as faults
 use Rattle.vectors.proofs.FieldLemmas.{ok_is}
 use Rattle.vectors.proofs.Runs.{Read, behind, run-empty, run-append, run-front, both, one, complete}
 use Rattle.vectors.proofs.Viable.{viable, viable_reads}
-use Rattle.vectors.proofs.Places.{expected, expects, lines_at}
+use Rattle.vectors.proofs.Places.{expected, expects, lines_at, file_at}
 use Rattle.vectors.proofs.OnlyExpected.{only_expected}
 use Rattle.vectors.proofs.RowLemmas.{wrong}
 
@@ -105,6 +105,13 @@ pair_is p q rs ss e =
     let same = ok_is (p, rs) (q, ss) e in
     (ap (λ (x : Place × List Record). x.0) same, ap (λ (x : Place × List Record). x.1) same)
 
+-- lines are a file of one list of records
+pub one_reading : (lines : List (List ℕ)) (rs ss : List Record) → IsFile lines rs → IsFile lines ss → rs ≡ ss
+one_reading lines rs ss f g =
+    let read = complete f.format lines rs f.formatted in
+    let again = complete g.format lines ss g.formatted in
+    (pair_is (steps.between f.format) (steps.between g.format) rs ss (sym read ∙ again)).1
+
 -- elsewhere they are cut off
 pub cut_off : (lines : List (List ℕ)) (n : ℕ) (p : Place) (rs : List Record) (inside : Bool) → Progress lines [] n p rs → ((F : Format) → p ≡ steps.between F → rs ≡ []) → is_inside (expected p) ≡ inside → IsCutOff lines inside
 cut_off lines n p rs inside h none is =
@@ -125,6 +132,18 @@ no_fault lines n c rs f file =
     ap (run steps.start) (append_assoc f.before (f.line ∷ []) f.after ∙ sym f.whole) ∙ complete file.format lines rs file.formatted in
     let front = run-front steps.start (f.before ++ f.line ∷ []) f.after (steps.between file.format, rs) whole in
     f.faulty (viable (f.before ++ f.line ∷ []) front.0 front.1)
+
+-- where a record was read, it has ended
+pub ended : (lines rest : List (List ℕ)) (n : ℕ) (p : Place) (rs : List Record) → Progress lines rest n p rs → rs ≢ [] → HasEnded lines
+ended lines rest n p rs h some =
+    let front = file_at p h.before rs (lines_at h.before (p, rs) h.read) some in
+    record {
+      front = front.front;
+      rest = front.rest ++ rest;
+      whole = h.whole ∙ ap (λ (ls : List (List ℕ)). ls ++ rest) front.whole ∙ append_assoc front.front front.rest rest;
+      records = front.records;
+      file = front.file;
+    }
 
 -- the same lines are left
 pub shift : (lines rest other : List (List ℕ)) (n : ℕ) (p : Place) (rs : List Record) → Progress lines rest n p rs → rest ≡ other → Progress lines other n p rs

@@ -152,7 +152,15 @@ pub record IsCutOff (lines : List Line) (begun : Bool) : Type 0 where
   pub only : (e : Expected) → Expects lines e → e ≡ expected
   pub is : is_inside expected ≡ begun
 
--- the fault is the first one of these lines; of want of memory nothing is said
+-- the first of these lines are a file: a record has ended
+pub record HasEnded (lines : List Line) : Type 0 where
+  pub front : List Line
+  pub rest : List Line
+  pub whole : lines ≡ front ++ rest
+  pub records : List Record
+  pub file : IsFile front records
+
+-- the fault is the first one of these lines; want of memory comes only where a record has ended
 abbrev pub IsFaultOf : List Line → VectorFault → Type 0
 IsFaultOf lines (BadFormat n) = IsFaultAt lines n cause.BadFormat
 IsFaultOf lines (BadLine n) = IsFaultAt lines n cause.BadLine
@@ -163,4 +171,4 @@ IsFaultOf lines (BadLength n) = IsFaultAt lines n cause.BadLength
 IsFaultOf lines (BadCuts n) = IsFaultAt lines n cause.BadCuts
 IsFaultOf lines (Unfinished n) = IsCutOff lines true × (n ≡ length lines)
 IsFaultOf lines NoRecords = IsCutOff lines false
-IsFaultOf lines OutOfMemory = Unit {0}
+IsFaultOf lines OutOfMemory = HasEnded lines

@@ -153,6 +153,10 @@ pub record IsFile (lines : List Line) (records : List Record) : Type 0 where
   pub formatted : Formatted format lines records
   pub some : records ≢ []
 
+-- lines are a file of one list of records alone
+abbrev pub HasOneReading : Type 0
+HasOneReading = (lines : List Line) (records others : List Record) → IsFile lines records → IsFile lines others → records ≡ others
+
 -- some lines after these, at most five, make a file
 pub record IsViable (lines : List Line) : Type 0 where
   pub more : List Line

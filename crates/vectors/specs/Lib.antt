@@ -3,6 +3,7 @@ pub mod Suites
 pub mod Cuts
 pub mod Grammar
 pub mod Faults
+pub mod Names
 pub mod Agreement
 pub mod Reports
 pub mod Code

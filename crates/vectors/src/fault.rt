@@ -1,43 +1,56 @@
 // Why a file has no report.
-ghost use Rattle.std.specs.Prelude.{◌≡◌};
-
-use thiserror::Error;
+use std::error::Error;
+use std::fmt;
 
 /// Why a file has no report. Lines are numbered from 1. `Display` writes the name, and ` at line N` where the fault has
 /// a line, as `BadHex at line 4`.
-#[derive(Clone, Copy, Debug, PartialEq, Eq, Drop, Error)]
+#[derive(Clone, Copy, Debug, PartialEq, Eq, Drop)]
 pub enum VectorFault {
     /// The format line is expected, and something else stands there.
-    #[error("BadFormat at line {0}")]
     BadFormat(u64),
     /// A line of a record is expected, and no value line stands there.
-    #[error("BadLine at line {0}")]
     BadLine(u64),
     /// A value line with another name than the expected one.
-    #[error("WrongName at line {0}")]
     WrongName(u64),
     /// The value is no suite.
-    #[error("UnknownSuite at line {0}")]
     UnknownSuite(u64),
     /// The value is not an even number of hexadecimal digits.
-    #[error("BadHex at line {0}")]
     BadHex(u64),
     /// A key or a nonce of another length than the suite's.
-    #[error("BadLength at line {0}")]
     BadLength(u64),
     /// The value is no list of cuts: numbers joined by commas that are at least 1, rise, and are at most the text's length.
-    #[error("BadCuts at line {0}")]
     BadCuts(u64),
     /// No line is at fault, and no record was begun.
-    #[error("NoRecords")]
     NoRecords,
     /// The file ends inside a record; the number is that of its last line.
-    #[error("Unfinished at line {0}")]
     Unfinished(u64),
     /// A growth was refused in this call.
-    #[error("OutOfMemory")]
     OutOfMemory,
 }
+
+impl fmt::Display for VectorFault {
+    ghost use Rattle.std.specs.Prelude.{Some};
+    ghost use Rattle.vectors.specs.Names.{fault_text};
+
+    ghost output = { λ fault. Some (fault_text fault) };
+
+    fn fmt<W: fmt::Write>(&self, f: &mut fmt::Formatter<W>) -> fmt::Result {
+        match self {
+            VectorFault::BadFormat(line) => write!(f, "BadFormat at line {line}"),
+            VectorFault::BadLine(line) => write!(f, "BadLine at line {line}"),
+            VectorFault::WrongName(line) => write!(f, "WrongName at line {line}"),
+            VectorFault::UnknownSuite(line) => write!(f, "UnknownSuite at line {line}"),
+            VectorFault::BadHex(line) => write!(f, "BadHex at line {line}"),
+            VectorFault::BadLength(line) => write!(f, "BadLength at line {line}"),
+            VectorFault::BadCuts(line) => write!(f, "BadCuts at line {line}"),
+            VectorFault::NoRecords => f.write_str("NoRecords"),
+            VectorFault::Unfinished(line) => write!(f, "Unfinished at line {line}"),
+            VectorFault::OutOfMemory => f.write_str("OutOfMemory"),
+        }
+    }
+}
+
+impl Error for VectorFault {}
 
 /// What is wrong with a line.
 #[derive(Clone, Copy, PartialEq, Eq)]

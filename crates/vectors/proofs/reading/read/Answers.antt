@@ -7,7 +7,7 @@ use Rattle.vectors.specs.Reports.{Judges}
 use Rattle.vectors.proofs.Places.{expected}
 use Rattle.vectors.proofs.LineLemmas.{lines_nil}
 use Rattle.vectors.proofs.Progress.{inside_is, not_between, not_start}
-use Rattle.vectors.proofs.Judged.{Judged, sized_at_end, start, after_line, after_record, at_fault, at_end, at_cut, lines_read}
+use Rattle.vectors.proofs.Judged.{Judged, sized_at_end, start, after_line, after_record, at_fault, at_end, at_cut, lines_read, ended_at}
 use Rattle.vectors.proofs.reading.read.Goals as goal
 
 pub loop-line-init : goal.loop-line-init
@@ -34,6 +34,14 @@ judge-requires-clause-sized g c =
     let made = entry_view c.in-Ok-default-Some.entry in
     let stepped : step (view c.loop-line.place) c.in-Some.line.now ≡ Ok (next, made ∷ []) = search rules in
     sized_at_end (lines_of c.args.file.now) (lines_of c.loop-line.rest.now) c.in-Some.line.now (lines_of c.in-Some.behind.now) c.loop-line.count (view c.loop-line.place) next made
+    c.loop-line.report.records c.loop-line.report.bad.items c.loop-line.invariant.so_far c.in-Some.ensures.line stepped
+
+pub returns-in_default-judge-clause-fault : goal.returns-in_default-judge-clause-fault
+returns-in_default-judge-clause-fault g c =
+    let next = view c.in-Ok-default-Some.next in
+    let made = entry_view c.in-Ok-default-Some.entry in
+    let stepped : step (view c.loop-line.place) c.in-Some.line.now ≡ Ok (next, made ∷ []) = search rules in
+    ended_at (lines_of c.args.file.now) (lines_of c.loop-line.rest.now) c.in-Some.line.now (lines_of c.in-Some.behind.now) c.loop-line.count (view c.loop-line.place) next made
     c.loop-line.report.records c.loop-line.report.bad.items c.loop-line.invariant.so_far c.in-Some.ensures.line stepped
 
 pub loop-line-preserved : goal.loop-line-preserved
