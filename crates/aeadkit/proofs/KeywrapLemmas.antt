@@ -1,25 +1,24 @@
 -- `wrap` and `unwrap` on the bytes that their values spell.
-use Rattle.std.proofs.Common.{◌≡◌, ℕ, List, length, refl}
+use Rattle.std.proofs.Common.{◌≡◌, ℕ, Bool, List, length, refl}
 use Rattle.octets.specs.declared.fault.Fault.{Fault}
 use Rattle.octets.specs.declared.fault.Fault.TheVariants.{KeyLength}
 use Rattle.aes.specs.Cipher.{IsKey, IsKeyLength}
-use Rattle.keywrap.specs.Wrapping.{Unwrapped}
 use Rattle.aeadkit.specs.declared.failure.Failure.TheVariants.{Fault as OfFault}
 use Rattle.aeadkit.specs.Hex.{Spells}
-use Rattle.aeadkit.specs.Keywrap.{IsWrapped, IsUnwrapped, WrapInputsRefused, WrapCallRefused}
+use Rattle.aeadkit.specs.Keywrap.{Wraps, IsWrapped, IsUnwrapped, WrapInputsRefused, WrapCallRefused}
 
 -- a wrapping of the bytes that are spelled
-pub wrapped_of : (key text k t k' t' w : List ℕ) → Spells key k → Spells text t → k' ≡ k → t' ≡ t
-    → Unwrapped k' w t' → IsWrapped key text w
-wrapped_of key text k t k' t' w key_is text_is at_key at_text h = record {
+pub wrapped_of : (pad : Bool) (key text k t k' t' w : List ℕ) → Spells key k → Spells text t → k' ≡ k → t' ≡ t
+    → Wraps pad k' w t' → IsWrapped pad key text w
+wrapped_of pad key text k t k' t' w key_is text_is at_key at_text h = record {
   spelled = record { key_bytes = k'; body_bytes = t'; key_is = rw at_key key_is; body_is = rw at_text text_is };
   is = h;
 }
 
 -- the text of a wrapping that is spelled
-pub unwrapped_of : (key sealed k w k' w' t : List ℕ) → Spells key k → Spells sealed w → k' ≡ k → w' ≡ w
-    → Unwrapped k' w' t → IsUnwrapped key sealed t
-unwrapped_of key sealed k w k' w' t key_is sealed_is at_key at_sealed h = record {
+pub unwrapped_of : (pad : Bool) (key sealed k w k' w' t : List ℕ) → Spells key k → Spells sealed w → k' ≡ k → w' ≡ w
+    → Wraps pad k' w' t → IsUnwrapped pad key sealed t
+unwrapped_of pad key sealed k w k' w' t key_is sealed_is at_key at_sealed h = record {
   spelled = record { key_bytes = k'; body_bytes = w'; key_is = rw at_key key_is; body_is = rw at_sealed sealed_is };
   is = h;
 }

@@ -1,2 +1,4 @@
 pub mod AeadLemmas
+pub mod FilesLemmas
 pub mod KeywrapLemmas
+pub mod NewFileLemmas

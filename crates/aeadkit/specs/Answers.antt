@@ -1,22 +1,22 @@
 -- What the program does for a request: what it prints, with which status, or why it stops.
-use Rattle.std.specs.Prelude.{◌≡◌, ℕ, ◌⊎◌, List, Ok, Err, MatchResult}
+use Rattle.std.specs.Prelude.{◌≡◌, ℕ, ◌⊎◌, List, [], Ok, Err, MatchResult}
 use Rattle.std.specs.declared.option.Option.{Option}
 use Rattle.std.specs.declared.result.Result.{Result}
-use Rattle.std.specs.Io.KnownBytes.{Appends}
-use Rattle.keywrap.specs.Refusals.{UnwrapRefused}
+use Rattle.std.specs.Io.KnownBytes.{Appends, append_known}
 use Rattle.octets.specs.declared.fault.Fault.TheVariants.{OutOfMemory, Write}
 use Rattle.aeadkit.specs.declared.failure.Failure.{Failure}
 use Rattle.aeadkit.specs.declared.failure.Failure.TheVariants.{Words as OfWords, Fault as OfFault}
 use Rattle.aeadkit.specs.declared.words.Request.{Request}
-use Rattle.aeadkit.specs.declared.words.Request.TheVariants.{Wrap, Unwrap, Seal, Open, Check}
+use Rattle.aeadkit.specs.declared.words.Request.TheVariants.{Wrap, Unwrap, Seal, Open, SealFile, OpenFile, Check}
 use Rattle.aeadkit.specs.declared.words.Refusal.{Refusal}
 use Rattle.aeadkit.specs.declared.words.Refusal.TheVariants.{Help, Words, OutOfMemory as NoMemory}
 use Rattle.aead.specs.Refusals.{WholeSealRefused, WholeOpenRefused}
 use Rattle.aeadkit.specs.Aead.{IsSealed, IsOpened, IsRefused}
+use Rattle.aeadkit.specs.Files.{Sealing, Opening, FileDone, FileStopped}
 use Rattle.aeadkit.specs.Hex.{hex_line}
 use Rattle.aeadkit.specs.Statuses.{failure_status}
 use Rattle.aeadkit.specs.Reports.{IsChecked, FileRefused}
-use Rattle.aeadkit.specs.Keywrap.{IsWrapped, IsUnwrapped, IsWrapRefused, WrapFault}
+use Rattle.aeadkit.specs.Keywrap.{IsWrapped, IsUnwrapped, IsWrapRefused, WrapFault, UnwrapFault}
 
 -- standard output failed, or memory was wanting
 abbrev pub IsOutputFailure : Failure → Type 0
@@ -29,21 +29,38 @@ pub record Printed (property : List ℕ → Type 0) (before after : Option (List
   pub line : Appends before after (hex_line bytes)
   pub done : status ≡ 0
 
--- a request was answered, over files with these bytes: standard output held before, and holds after
-abbrev pub Answered : (List ℕ → Option (List ℕ)) → Request → Option (List ℕ) → Option (List ℕ) → ℕ → Type 0
-Answered files (Seal inputs) before after status = Printed (IsSealed inputs) before after status
-Answered files (Open inputs) before after status = Printed (IsOpened inputs) before after status
-Answered files (Wrap key text) before after status = Printed (IsWrapped key.now text.now) before after status
-Answered files (Unwrap key sealed) before after status = Printed (IsUnwrapped key.now sealed.now) before after status
-Answered files (Check path) before after status = IsChecked (files path.now) before after status
+-- what surrounds a request
+pub record Surroundings : Type 0 where
+  -- the bytes that a file gives in a reading
+  pub files : List ℕ → ℕ → Option (List ℕ)
+  -- what standard output held before, and holds after
+  pub before : Option (List ℕ)
+  pub after : Option (List ℕ)
+  -- what the file that is written had taken before, and holds after
+  pub taken : Option (List ℕ)
+  pub held : Option (List ℕ)
+
+-- a request was answered
+abbrev pub Answered : Surroundings → Request → ℕ → Type 0
+Answered s (Seal inputs) status = Printed (IsSealed inputs) s.before s.after status
+Answered s (Open inputs) status = Printed (IsOpened inputs) s.before s.after status
+Answered s (Wrap key text pad) status = Printed (IsWrapped pad key.now text.now) s.before s.after status
+Answered s (Unwrap key sealed pad) status = Printed (IsUnwrapped pad key.now sealed.now) s.before s.after status
+Answered s (SealFile w) status =
+    FileDone (Sealing (s.files w.input.now)) w.inputs s.taken s.held × (s.after ≡ s.before) × (status ≡ 0)
+Answered s (OpenFile w) status =
+    FileDone (Opening (s.files w.input.now)) w.inputs s.taken s.held × (s.after ≡ s.before) × (status ≡ 0)
+Answered s (Check path) status = IsChecked (s.files path.now 0) s.before s.after status
 
 -- a request came to nothing: it is refused, or standard output failed
-abbrev pub Stopped : (List ℕ → Option (List ℕ)) → Request → Failure → Type 0
-Stopped files (Seal inputs) e = IsRefused WholeSealRefused inputs e ⊎ IsOutputFailure e
-Stopped files (Open inputs) e = IsRefused WholeOpenRefused inputs e ⊎ IsOutputFailure e
-Stopped files (Wrap key text) e = IsWrapRefused WrapFault key.now text.now e ⊎ IsOutputFailure e
-Stopped files (Unwrap key sealed) e = IsWrapRefused UnwrapRefused key.now sealed.now e ⊎ IsOutputFailure e
-Stopped files (Check path) e = FileRefused (files path.now) e ⊎ IsOutputFailure e
+abbrev pub Stopped : Surroundings → Request → Failure → Type 0
+Stopped s (Seal inputs) e = IsRefused WholeSealRefused inputs e ⊎ IsOutputFailure e
+Stopped s (Open inputs) e = IsRefused WholeOpenRefused inputs e ⊎ IsOutputFailure e
+Stopped s (Wrap key text pad) e = IsWrapRefused (WrapFault pad) key.now text.now e ⊎ IsOutputFailure e
+Stopped s (Unwrap key sealed pad) e = IsWrapRefused (UnwrapFault pad) key.now sealed.now e ⊎ IsOutputFailure e
+Stopped s (SealFile w) e = FileStopped (Sealing (s.files w.input.now)) w.inputs s.taken s.held e
+Stopped s (OpenFile w) e = FileStopped (Opening (s.files w.input.now)) w.inputs s.taken s.held e
+Stopped s (Check path) e = FileRefused (s.files path.now 0) e ⊎ IsOutputFailure e
 
 -- what becomes of words that are no request: help is printed, with status 0, and else they are refused
 abbrev pub IsRefusedAs : Refusal → Result ℕ Failure → Type 0
@@ -52,9 +69,9 @@ IsRefusedAs Words result = result ≡ Err OfWords
 IsRefusedAs NoMemory result = result ≡ Err (OfFault OutOfMemory)
 
 -- what a run comes to, whatever its words: some request was answered or came to nothing, or the words are no request
-abbrev pub HasOutcome : (List ℕ → Option (List ℕ)) → Option (List ℕ) → Option (List ℕ) → Result ℕ Failure → Type 0
-HasOutcome files before after outcome =
-    ((request : Request) × MatchResult outcome (Answered files request before after) (Stopped files request))
+abbrev pub HasOutcome : Surroundings → Result ℕ Failure → Type 0
+HasOutcome s outcome =
+    ((request : Request) × MatchResult outcome (Answered s request) (Stopped s request))
     ⊎ ((refusal : Refusal) × IsRefusedAs refusal outcome)
 
 -- the status of a run that comes to this
@@ -62,8 +79,11 @@ abbrev pub outcome_status : Result ℕ Failure → ℕ
 outcome_status (Ok status) = status
 outcome_status (Err failure) = failure_status failure
 
--- a run ends with this status
-pub record Ends (files : List ℕ → Option (List ℕ)) (before after : Option (List ℕ)) (status : ℕ) : Type 0 where
+-- a run ends with this status; a file that was made holds blank at first
+pub record Ends (files : List ℕ → ℕ → Option (List ℕ)) (before after blank : Option (List ℕ)) (status : ℕ) : Type 0 where
   pub outcome : Result ℕ Failure
-  pub right : HasOutcome files before after outcome
+  pub taken : Option (List ℕ)
+  pub held : Option (List ℕ)
+  pub fresh : taken ≡ append_known blank []
+  pub right : HasOutcome (record { files = files; before = before; after = after; taken = taken; held = held }) outcome
   pub status_is : status ≡ outcome_status outcome

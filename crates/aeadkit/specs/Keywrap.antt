@@ -1,9 +1,10 @@
 -- What `wrap` and `unwrap` answer on values given as digits.
-use Rattle.std.specs.Prelude.{◌≡◌, ℕ, ◌-◌, ◌^◌, ◌⊎◌, List, length, ⊤}
+use Rattle.std.specs.Prelude.{◌≡◌, ℕ, ◌-◌, ◌^◌, ◌⊎◌, Bool, true, false, List, length, ⊤}
 use Rattle.octets.specs.declared.fault.Fault.{Fault}
 use Rattle.octets.specs.declared.fault.Fault.TheVariants.{KeyLength, OutOfMemory}
 use Rattle.aes.specs.Cipher.{IsKey, IsKeyLength}
-use Rattle.keywrap.specs.Refusals.{WrapRefused}
+use Rattle.keywrap.specs.Padded.{UnwrappedPadded}
+use Rattle.keywrap.specs.Refusals.{WrapRefused, UnwrapRefused, PaddedWrapRefused, PaddedUnwrapRefused}
 use Rattle.keywrap.specs.Wrapping.{Unwrapped}
 use Rattle.aeadkit.specs.declared.failure.Failure.{Failure}
 use Rattle.aeadkit.specs.declared.failure.Failure.TheVariants.{BadHex, Fault as OfFault}
@@ -16,15 +17,20 @@ pub record Spelled (key body : List ℕ) : Type 0 where
   pub key_is : Spells key key_bytes
   pub body_is : Spells body body_bytes
 
+-- under a key, wrapped is the wrapping of a text, with padding (RFC 5649) or without (RFC 3394)
+abbrev pub Wraps : Bool → List ℕ → List ℕ → List ℕ → Type 0
+Wraps true key wrapped text = UnwrappedPadded key wrapped text
+Wraps false key wrapped text = Unwrapped key wrapped text
+
 -- wrapped is the wrapping of the text that is spelled, under the key that is spelled
-pub record IsWrapped (key text wrapped : List ℕ) : Type 0 where
+pub record IsWrapped (pad : Bool) (key text wrapped : List ℕ) : Type 0 where
   pub spelled : Spelled key text
-  pub is : Unwrapped spelled.key_bytes wrapped spelled.body_bytes
+  pub is : Wraps pad spelled.key_bytes wrapped spelled.body_bytes
 
 -- text is what the wrapping that is spelled wraps, under the key that is spelled
-pub record IsUnwrapped (key sealed text : List ℕ) : Type 0 where
+pub record IsUnwrapped (pad : Bool) (key sealed text : List ℕ) : Type 0 where
   pub spelled : Spelled key sealed
-  pub is : Unwrapped spelled.key_bytes spelled.body_bytes text
+  pub is : Wraps pad spelled.key_bytes spelled.body_bytes text
 
 -- why the values give no inputs of a call: one of them is no hex, or the key has no length of AES
 abbrev pub WrapInputsRefused : List ℕ → List ℕ → Failure → Type 0
@@ -46,5 +52,11 @@ abbrev pub IsWrapRefused : (List ℕ → List ℕ → Fault → Type 0) → List
 IsWrapRefused refused key body e = WrapInputsRefused key body e ⊎ WrapCallRefused refused key body e
 
 -- the rule of wrapping into a vector, under any key
-abbrev pub WrapFault : List ℕ → List ℕ → Fault → Type 0
-WrapFault key text fault = WrapRefused (2 ^ 64 - 1) text fault
+abbrev pub WrapFault : Bool → List ℕ → List ℕ → Fault → Type 0
+WrapFault true key text fault = PaddedWrapRefused text fault
+WrapFault false key text fault = WrapRefused (2 ^ 64 - 1) text fault
+
+-- the rule of unwrapping into a vector
+abbrev pub UnwrapFault : Bool → List ℕ → List ℕ → Fault → Type 0
+UnwrapFault true key wrapped fault = PaddedUnwrapRefused key wrapped fault
+UnwrapFault false key wrapped fault = UnwrapRefused key wrapped fault

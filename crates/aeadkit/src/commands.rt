@@ -1,12 +1,11 @@
 //! What the commands answer: bytes, for values given as hexadecimal.
 ghost use Rattle.std.specs.Prelude.{◌≡◌, ◌⊎◌, Ok, MatchResult, IfSome};
-ghost use Rattle.keywrap.specs.Refusals.{UnwrapRefused};
 ghost use Rattle.aead.specs.AnyCiphers.{keyed_of};
 ghost use Rattle.aead.specs.Refusals.{WholeSealRefused, WholeOpenRefused};
 ghost use Rattle.aeadkit.specs.Aead.{IsReady, IsSealed, IsOpened, InputsRefused, IsRefused};
 ghost use Rattle.aeadkit.specs.Hex.{Spells, IsBadHex};
 ghost use Rattle.aeadkit.specs.Reports.{IsReportOf, FileRefused};
-ghost use Rattle.aeadkit.specs.Keywrap.{IsWrapped, IsUnwrapped, IsWrapRefused, WrapFault};
+ghost use Rattle.aeadkit.specs.Keywrap.{Wraps, IsWrapped, IsUnwrapped, IsWrapRefused, WrapFault, UnwrapFault};
 ghost use Rattle.aeadkit.specs.declared.failure.Failure.TheVariants.{BadHex, Fault as OfFault};
 ghost use Rattle.octets.specs.declared.fault.Fault.TheVariants.{OutOfMemory, Read as OfRead};
 
@@ -32,50 +31,87 @@ fn decoded<A: Allocator>(alloc: A, digits: &str) -> Result<Vec<u8, A>, Failure>
     })
 }
 
-/// `wrap`: the wrapping of a text. In this order: `BadHex` for the key, then for the text, `KeyLength`, and the
+/// The wrapping of a text, with padding or without.
+fn wrapped<A: Allocator>(
+    alloc: A,
+    key: &AesKey,
+    text: &[u8],
+    pad: bool,
+) -> Result<Vec<u8, A>, Fault>
+    ensures { MatchResult result (λ v. Wraps pad key.now v.items text.now) (WrapFault pad key.now text.now) }
+{
+    if pad {
+        keywrap::wrap_padded(alloc, key, text)
+    } else {
+        keywrap::wrap(alloc, key, text)
+    }
+}
+
+/// The text of a wrapping, with padding or without.
+fn unwrapped<A: Allocator>(
+    alloc: A,
+    key: &AesKey,
+    sealed: &[u8],
+    pad: bool,
+) -> Result<Vec<u8, A>, Fault>
+    ensures { MatchResult result (λ v. Wraps pad key.now sealed.now v.items) (UnwrapFault pad key.now sealed.now) }
+{
+    if pad {
+        keywrap::unwrap_padded(alloc, key, sealed)
+    } else {
+        keywrap::unwrap(alloc, key, sealed)
+    }
+}
+
+/// `wrap`: the wrapping of a text, with padding or without. In this order: `BadHex` for the key, then for the text, `KeyLength`, and the
 /// refusals of the call.
 pub fn wrap<'a, A: Allocator>(
     alloc: &'a A,
     key: &str,
     text: &str,
+    pad: bool,
 ) -> Result<Vec<u8, &'a A>, Failure>
-    ensures { MatchResult result (λ v. IsWrapped key.now text.now v.items)
-        (IsWrapRefused WrapFault key.now text.now) }
+    ensures { MatchResult result (λ v. IsWrapped pad key.now text.now v.items)
+        (IsWrapRefused (WrapFault pad) key.now text.now) }
 {
     let key_bytes = decoded(alloc, key)?;
     let text_bytes = decoded(alloc, text)?;
     let key = AesKey::from_slice(&key_bytes)?;
-    Ok(keywrap::wrap(alloc, &key, &text_bytes)?)
+    Ok(wrapped(alloc, &key, &text_bytes, pad)?)
 }
 
-/// `unwrap`: the text of a wrapping. In this order: `BadHex` for the key, then for the wrapping, `KeyLength`, and the
+/// `unwrap`: the text of a wrapping, with padding or without. In this order: `BadHex` for the key, then for the wrapping, `KeyLength`, and the
 /// refusals of the call.
 pub fn unwrap<'a, A: Allocator>(
     alloc: &'a A,
     key: &str,
     sealed: &str,
+    pad: bool,
 ) -> Result<Vec<u8, &'a A>, Failure>
-    ensures { MatchResult result (λ v. IsUnwrapped key.now sealed.now v.items)
-        (IsWrapRefused UnwrapRefused key.now sealed.now) }
+    ensures { MatchResult result (λ v. IsUnwrapped pad key.now sealed.now v.items)
+        (IsWrapRefused (UnwrapFault pad) key.now sealed.now) }
 {
     let key_bytes = decoded(alloc, key)?;
     let sealed_bytes = decoded(alloc, sealed)?;
     let key = AesKey::from_slice(&key_bytes)?;
-    Ok(keywrap::unwrap(alloc, &key, &sealed_bytes)?)
+    Ok(unwrapped(alloc, &key, &sealed_bytes, pad)?)
 }
 
 /// The inputs of a call under a suite.
 #[derive(Drop)]
-struct Prepared<A: Allocator> {
-    cipher: AnyAead,
-    nonce: Nonce,
-    aad: Vec<u8, A>,
-    body: Vec<u8, A>,
+pub struct Prepared<A: Allocator> {
+    pub cipher: AnyAead,
+    pub nonce: Nonce,
+    pub aad: Vec<u8, A>,
+    pub body: Vec<u8, A>,
 }
 
 /// The inputs that the words give. In this order: `UnknownSuite`, `BadHex` for the key, the nonce, the associated data
 /// and the body, `KeyLength`, `NonceLength`.
-fn prepare<'a, A: Allocator>(alloc: &'a A, words: &Inputs<'_>) -> Result<Prepared<&'a A>, Failure>
+pub fn prepare<'a, A: Allocator>(
+    alloc: &'a A,
+    words: &Inputs<'_>,
+) -> Result<Prepared<&'a A>, Failure>
     ensures { MatchResult result
         (λ p. IsReady words.now (keyed_of p.cipher) p.nonce p.aad.items p.body.items)
         (InputsRefused words.now) }
@@ -128,10 +164,10 @@ fn file_bytes<'a, A: Allocator, F: Storage>(
     path: &str,
 ) -> Result<Vec<u8, &'a A>, Fault>
     ensures { MatchResult result
-        (λ v. IfSome (F.contents files.now path.now) (λ bytes. v.items ≡ bytes))
+        (λ v. IfSome (F.contents files.now path.now 0) (λ bytes. v.items ≡ bytes))
         (λ e. (e ≡ OutOfMemory) ⊎ (e ≡ OfRead)) }
 {
-    let mut file = match files.open(path) {
+    let mut file = match files.open(path, 0) {
         Ok(file) => file,
         Err(error) => return Err(fault_of(&error, Fault::Read)),
     };
@@ -149,8 +185,8 @@ pub fn check<'a, A: Allocator, F: Storage>(
     path: &str,
 ) -> Result<Report<&'a A>, Failure>
     ensures { MatchResult result
-        (λ r. IsReportOf (F.contents files.now path.now) r.records r.bad.items)
-        (FileRefused (F.contents files.now path.now)) }
+        (λ r. IsReportOf (F.contents files.now path.now 0) r.records r.bad.items)
+        (FileRefused (F.contents files.now path.now 0)) }
 {
     let file = file_bytes(alloc, files, path)?;
     Ok(vectors::check(alloc, &file)?)

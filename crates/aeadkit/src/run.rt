@@ -1,16 +1,18 @@
 //! The program, over a writer for each stream.
 ghost use Rattle.std.specs.Prelude.{◌≤◌, ◌≡◌, IfOk, MatchResult, string_bytes};
 ghost use Rattle.std.specs.Io.KnownBytes.{Appends};
-ghost use Rattle.aeadkit.specs.Answers.{Answered, Stopped, IsOutputFailure, IsRefusedAs, HasOutcome, Ends};
+ghost use Rattle.aeadkit.specs.Answers.{Surroundings, Answered, Stopped, IsOutputFailure, IsRefusedAs, HasOutcome, Ends};
 ghost use Rattle.aeadkit.specs.Hex.{hex_line};
+ghost use Rattle.aeadkit.specs.NewFiles.{held};
 ghost use Rattle.aeadkit.specs.Reports.{report_text};
 ghost use Rattle.aeadkit.specs.Statuses.{failure_status};
 
 use crate::failure::{Failure, fault_of};
+use crate::new_file::NewFile;
 use crate::storage::Storage;
 use crate::words::{Refusal, Request};
-use crate::{commands, words};
-use octets::Fault;
+use crate::{commands, files, words};
+use octets::{Fault, Outlet};
 use std::alloc::{AllocError, Allocator, Global};
 use std::convert::AsStr;
 use std::io::Write;
@@ -71,16 +73,22 @@ fn print_report<A: Allocator, W: Write>(
 
 /// Does what a request asks for: prints its answer, and answers the status, 0 or for a file with bad records 1. In this
 /// order: the refusals of its values, those of the call, `Write`; `OutOfMemory` wherever a growth is refused.
-pub fn perform<A: Allocator, F: Storage, W: Write>(
+pub fn perform<'a, A: Allocator, B: Allocator, F: Storage, W: Write>(
     alloc: &A,
     files: &F,
-    request: &Request<'_>,
+    request: &Request<'a>,
     out: &mut W,
+    file: &mut NewFile<'a, F, B>,
 ) -> Result<u8, Failure>
-    // At Ok the answer is right and was printed; else the failure is one that the request has.
-    ensures answer { MatchResult result
-        (Answered (F.contents files.now) request.now (W.contents out.old) (W.contents out.new))
-        (Stopped (F.contents files.now) request.now) }
+    // At Ok the answer is right and was printed or written; else the failure is one that the request has.
+    ensures answer { let s : Surroundings = record {
+      files = F.contents files.now;
+      before = W.contents out.old;
+      after = W.contents out.new;
+      taken = ⟦<NewFile<'a, F, B> as Outlet>⟧.taken file.old;
+      held = held (F.blank file.new.files.now) F.Output.contents file.new.file;
+    } in
+        MatchResult result (Answered s request.now) (Stopped s request.now) }
     ensures status { IfOk result (λ status. status ≤ 1) }
 {
     match request {
@@ -92,14 +100,16 @@ pub fn perform<A: Allocator, F: Storage, W: Write>(
             let opened = commands::open(alloc, inputs)?;
             print_bytes(alloc, out, &opened)
         }
-        Request::Wrap { key, text } => {
-            let wrapped = commands::wrap(alloc, key, text)?;
+        Request::Wrap { key, text, pad } => {
+            let wrapped = commands::wrap(alloc, key, text, *pad)?;
             print_bytes(alloc, out, &wrapped)
         }
-        Request::Unwrap { key, sealed } => {
-            let text = commands::unwrap(alloc, key, sealed)?;
+        Request::Unwrap { key, sealed, pad } => {
+            let text = commands::unwrap(alloc, key, sealed, *pad)?;
             print_bytes(alloc, out, &text)
         }
+        Request::SealFile(words) => files::seal_file(alloc, files, words, file),
+        Request::OpenFile(words) => files::open_file(alloc, files, words, file),
         Request::Check { path } => {
             let report = commands::check(alloc, files, path)?;
             let status = if report.yes() { 0 } else { 1 };
@@ -134,17 +144,24 @@ pub fn report<E: Write>(err: &mut E, failure: Failure) -> u8
 }
 
 /// What the words behind the program's name come to.
-fn answer<S: AsStr, F: Storage, W: Write>(
+fn answer<'a, S: AsStr, F: Storage, W: Write>(
     alloc: Global,
     files: &F,
-    words: &[S],
+    words: &'a [S],
     out: &mut W,
+    file: &mut NewFile<'a, F, Global>,
 ) -> Result<u8, Failure>
-    ensures outcome { HasOutcome (F.contents files.now) (W.contents out.old) (W.contents out.new) result }
+    ensures outcome { HasOutcome (record {
+      files = F.contents files.now;
+      before = W.contents out.old;
+      after = W.contents out.new;
+      taken = ⟦<NewFile<'a, F, Global> as Outlet>⟧.taken file.old;
+      held = held (F.blank file.new.files.now) F.Output.contents file.new.file;
+    }) result }
     ensures status { IfOk result (λ status. status ≤ 1) }
 {
     match words::read(alloc, words) {
-        Ok(request) => perform(&alloc, files, &request, out),
+        Ok(request) => perform(&alloc, files, &request, out, file),
         Err(refusal) => refuse(alloc, &refusal, out),
     }
 }
@@ -160,10 +177,11 @@ pub fn run<S: AsStr, F: Storage, W: Write, E: Write>(
     err: &mut E,
 ) -> u8
     // Whatever the words, it ends as some request does, or as help or a refusal of the words.
-    ensures ends { Ends (F.contents files.now) (W.contents out.old) (W.contents out.new) result }
+    ensures ends { Ends (F.contents files.now) (W.contents out.old) (W.contents out.new) (F.blank files.now) result }
     ensures bound { result ≤ 4 }
 {
-    match answer(alloc, files, words, out) {
+    let mut file = NewFile::new(alloc, files);
+    match answer(alloc, files, words, out, &mut file) {
         Ok(status) => status,
         Err(failure) => report(err, failure),
     }

@@ -1,4 +1,8 @@
 //! The command line.
+use crate::help::{
+    ABOUT_HEX, CHECK_MORE, OPEN_FILE_MORE, OPEN_MORE, SEAL_FILE_MORE, SEAL_MORE, SUITES,
+    UNWRAP_MORE, WRAP_KEY, WRAP_MORE,
+};
 use clap::error::ErrorKind;
 use clap::{Arg, ArgAction, ArgMatches, Command, Error};
 use std::alloc::{AllocError, Global};
@@ -11,6 +15,10 @@ const OPEN: &str = "open";
 const WRAP: &str = "wrap";
 
 const UNWRAP: &str = "unwrap";
+
+const SEAL_FILE: &str = "seal-file";
+
+const OPEN_FILE: &str = "open-file";
 
 const CHECK: &str = "check";
 
@@ -26,10 +34,13 @@ const TEXT: &str = "text";
 
 const SEALED: &str = "sealed";
 
-const FILE: &str = "file";
+const PAD: &str = "pad";
 
-const SUITES: &str =
-    "chacha20-poly1305, aes-128-gcm, aes-192-gcm, aes-256-gcm, aes-128-gcm-siv or aes-256-gcm-siv";
+const IN: &str = "in";
+
+const OUT: &str = "out";
+
+const FILE: &str = "file";
 
 /// A suite's name and the inputs of a call, each as it was written; the body is a text or sealed bytes.
 #[derive(Drop)]
@@ -41,6 +52,14 @@ pub struct Inputs<'a> {
     pub body: &'a str,
 }
 
+/// The inputs of a file command, without a body, and the paths of the file that is read and of the one that is written.
+#[derive(Drop)]
+pub struct FileWords<'a> {
+    pub inputs: Inputs<'a>,
+    pub input: &'a str,
+    pub output: &'a str,
+}
+
 /// What the words ask for, with each value as it was written.
 #[derive(Drop)]
 pub enum Request<'a> {
@@ -48,12 +67,26 @@ pub enum Request<'a> {
     Seal(Inputs<'a>),
     /// The text of sealed bytes.
     Open(Inputs<'a>),
-    /// The wrapping of a text.
-    Wrap { key: &'a str, text: &'a str },
-    /// The text of a wrapping.
-    Unwrap { key: &'a str, sealed: &'a str },
+    /// The wrapping of a text, with padding or without.
+    Wrap {
+        key: &'a str,
+        text: &'a str,
+        pad: bool,
+    },
+    /// The text of a wrapping, with padding or without.
+    Unwrap {
+        key: &'a str,
+        sealed: &'a str,
+        pad: bool,
+    },
+    /// The sealing of a file, into a file.
+    SealFile(FileWords<'a>),
+    /// The text of a sealed file, into a file.
+    OpenFile(FileWords<'a>),
     /// The report of a vector file.
-    Check { path: &'a str },
+    Check {
+        path: &'a str,
+    },
 }
 
 /// What the words come to when they are no request.
@@ -82,63 +115,106 @@ fn hex_option<'a>(alloc: Global, name: &'a str, help: &'a str) -> Arg<'a> {
     option(alloc, name, "HEX", help)
 }
 
+/// A subcommand: what it does, in a line, and what else its help says.
+fn subcommand<'a>(alloc: Global, name: &'a str, about: &'a str, more: &'a str) -> Command<'a> {
+    Command::new(alloc, name).about(about).after_help(more)
+}
+
 /// A subcommand with what all calls under a suite take.
 fn under_suite<'a>(
     alloc: Global,
     name: &'a str,
     about: &'a str,
+    more: &'a str,
 ) -> Result<Command<'a>, AllocError> {
-    Command::new(alloc, name)
-        .about(about)
+    subcommand(alloc, name, about, more)
         .arg(option(alloc, SUITE, "SUITE", SUITES))?
-        .arg(hex_option(
-            alloc,
-            KEY,
-            "The key: as many bytes as the suite's keys have",
-        ))?
+        .arg(hex_option(alloc, KEY, "The key, as long as the suite says"))?
         .arg(hex_option(alloc, NONCE, "The nonce: 12 bytes"))?
         .arg(hex_option(alloc, AAD, "The associated data").required(false))
 }
 
+/// A subcommand that reads a file and writes another.
+fn over_files<'a>(
+    alloc: Global,
+    name: &'a str,
+    about: &'a str,
+    more: &'a str,
+) -> Result<Command<'a>, AllocError> {
+    under_suite(alloc, name, about, more)?
+        .arg(option(alloc, IN, "PATH", "The file that is read"))?
+        .arg(option(alloc, OUT, "PATH", "The file that is written"))
+}
+
+/// A subcommand that wraps or unwraps a body.
+fn under_key<'a>(
+    alloc: Global,
+    name: &'a str,
+    about: &'a str,
+    more: &'a str,
+    body: Arg<'a>,
+) -> Result<Command<'a>, AllocError> {
+    let pad = Arg::new(alloc, PAD)
+        .long(PAD)
+        .help("With padding (RFC 5649)")
+        .action(ArgAction::SetTrue);
+    subcommand(alloc, name, about, more)
+        .arg(hex_option(alloc, KEY, WRAP_KEY))?
+        .arg(body)?
+        .arg(pad)
+}
+
 /// The program's command line, for clap.
 fn command<'a>(alloc: Global) -> Result<Command<'a>, AllocError> {
-    let seal = under_suite(alloc, SEAL, "Seals a text")?.arg(hex_option(
-        alloc, TEXT, "The text",
-    ).required(false))?;
-    let open = under_suite(alloc, OPEN, "Opens sealed bytes")?.arg(hex_option(
-        alloc,
-        SEALED,
-        "The ciphertext, then the tag",
-    ))?;
-    let wrap = Command::new(alloc, WRAP)
-        .about("Wraps a text by AES Key Wrap (RFC 3394)")
-        .arg(hex_option(alloc, KEY, "The key: 16, 24 or 32 bytes"))?
-        .arg(hex_option(alloc, TEXT, "The text: a multiple of 8 bytes, at least 16"))?;
-    let unwrap = Command::new(alloc, UNWRAP)
-        .about("Unwraps the bytes of a wrapping (RFC 3394)")
-        .arg(hex_option(alloc, KEY, "The key: 16, 24 or 32 bytes"))?
-        .arg(hex_option(
-            alloc,
-            SEALED,
-            "The wrapping: a multiple of 8 bytes, at least 24",
-        ))?;
+    let text = hex_option(alloc, TEXT, "The text").required(false);
+    let sealed = hex_option(alloc, SEALED, "The ciphertext, then the tag");
     let file = Arg::new(alloc, FILE)
         .value_name("FILE")
         .help("The vector file")
         .required(true)
         .action(ArgAction::Set);
-    let check = Command::new(alloc, CHECK)
-        .about("Checks each record of a vector file against its standard")
-        .arg(file)?;
+    let about = "Authenticated encryption and key wrapping by published standards";
     Command::new(alloc, "aeadkit")
-        .about("Authenticated encryption and key wrapping by published standards")
+        .bin_name("aeadkit")?
+        .about(about)
+        .after_help(ABOUT_HEX)
         .no_binary_name(true)
         .subcommand_required(true)
-        .subcommand(seal)?
-        .subcommand(open)?
-        .subcommand(wrap)?
-        .subcommand(unwrap)?
-        .subcommand(check)
+        .subcommand(under_suite(alloc, SEAL, "Seals a text", SEAL_MORE)?.arg(text)?)?
+        .subcommand(under_suite(alloc, OPEN, "Opens sealed bytes", OPEN_MORE)?.arg(sealed)?)?
+        .subcommand(under_key(
+            alloc,
+            WRAP,
+            "Wraps a text by AES Key Wrap",
+            WRAP_MORE,
+            hex_option(alloc, TEXT, "The text"),
+        )?)?
+        .subcommand(under_key(
+            alloc,
+            UNWRAP,
+            "Unwraps the bytes of a wrapping",
+            UNWRAP_MORE,
+            hex_option(alloc, SEALED, "The wrapping"),
+        )?)?
+        .subcommand(over_files(
+            alloc,
+            SEAL_FILE,
+            "Seals a file into another",
+            SEAL_FILE_MORE,
+        )?)?
+        .subcommand(over_files(
+            alloc,
+            OPEN_FILE,
+            "Opens a sealed file into another",
+            OPEN_FILE_MORE,
+        )?)?
+        .subcommand(subcommand(
+            alloc,
+            CHECK,
+            "Checks each record of a vector file against its standard",
+            CHECK_MORE,
+        )
+        .arg(file)?)
 }
 
 /// The value of an option, or no bytes where it is not given.
@@ -147,29 +223,47 @@ fn value<'a>(matches: &ArgMatches<'a>, name: &str) -> &'a str {
 }
 
 /// What all calls under a suite take, and a body.
-fn inputs_of<'a>(matches: &ArgMatches<'a>, body: &str) -> Inputs<'a> {
+fn inputs_of<'a>(matches: &ArgMatches<'a>, body: &'a str) -> Inputs<'a> {
     Inputs {
         suite: value(matches, SUITE),
         key: value(matches, KEY),
         nonce: value(matches, NONCE),
         aad: value(matches, AAD),
-        body: value(matches, body),
+        body,
     }
+}
+
+/// What the file commands take; `None` where both paths are the same text.
+fn file_words<'a>(matches: &ArgMatches<'a>) -> Option<FileWords<'a>> {
+    let input = value(matches, IN);
+    let output = value(matches, OUT);
+    if input == output {
+        return None;
+    }
+    Some(FileWords {
+        inputs: inputs_of(matches, ""),
+        input,
+        output,
+    })
 }
 
 /// What a subcommand's options ask for.
 fn request_of<'a>(name: &str, matches: &ArgMatches<'a>) -> Option<Request<'a>> {
     match name {
-        SEAL => Some(Request::Seal(inputs_of(matches, TEXT))),
-        OPEN => Some(Request::Open(inputs_of(matches, SEALED))),
+        SEAL => Some(Request::Seal(inputs_of(matches, value(matches, TEXT)))),
+        OPEN => Some(Request::Open(inputs_of(matches, value(matches, SEALED)))),
         WRAP => Some(Request::Wrap {
             key: value(matches, KEY),
             text: value(matches, TEXT),
+            pad: matches.get_flag(PAD),
         }),
         UNWRAP => Some(Request::Unwrap {
             key: value(matches, KEY),
             sealed: value(matches, SEALED),
+            pad: matches.get_flag(PAD),
         }),
+        SEAL_FILE => file_words(matches).map(Request::SealFile),
+        OPEN_FILE => file_words(matches).map(Request::OpenFile),
         CHECK => Some(Request::Check {
             path: value(matches, FILE),
         }),

@@ -13,10 +13,20 @@ pub struct OneFile<'a> {
 impl<'a> Storage for OneFile<'a> {
     type Input = &'a [u8];
 
-    ghost contents = { λ s _. Some s.file.now };
+    type Output = Narrow;
 
-    fn open(&self, _path: &str) -> io::Result<&'a [u8]> {
+    ghost contents = { λ s _ _. Some s.file.now };
+
+    fn open(&self, _path: &str, _reading: u8) -> io::Result<&'a [u8]> {
         Ok(self.file)
+    }
+
+    fn create(&self, _path: &str) -> io::Result<Narrow> {
+        Err(io::Error::from(io::ErrorKind::PermissionDenied))
+    }
+
+    fn sync(&self, _output: &Narrow) -> io::Result<()> {
+        Ok(())
     }
 }
 
@@ -27,8 +37,18 @@ pub struct NoFiles;
 impl Storage for NoFiles {
     type Input = BrokenFile;
 
-    fn open(&self, _path: &str) -> io::Result<BrokenFile> {
+    type Output = Narrow;
+
+    fn open(&self, _path: &str, _reading: u8) -> io::Result<BrokenFile> {
         Err(io::Error::from(io::ErrorKind::NotFound))
+    }
+
+    fn create(&self, _path: &str) -> io::Result<Narrow> {
+        Err(io::Error::from(io::ErrorKind::PermissionDenied))
+    }
+
+    fn sync(&self, _output: &Narrow) -> io::Result<()> {
+        Ok(())
     }
 }
 
@@ -42,11 +62,24 @@ pub struct BrokenFiles {
 impl Storage for BrokenFiles {
     type Input = BrokenFile;
 
-    fn open(&self, _path: &str) -> io::Result<BrokenFile> {
+    type Output = Narrow;
+
+    fn open(&self, _path: &str, _reading: u8) -> io::Result<BrokenFile> {
         Ok(BrokenFile {
             room: self.room,
             kind: self.kind,
         })
+    }
+
+    fn create(&self, _path: &str) -> io::Result<Narrow> {
+        Ok(Narrow {
+            room: self.room,
+            kind: self.kind,
+        })
+    }
+
+    fn sync(&self, _output: &Narrow) -> io::Result<()> {
+        Ok(())
     }
 }
 

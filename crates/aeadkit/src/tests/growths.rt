@@ -2,6 +2,7 @@
 use super::devices::{NoFiles, OneFile};
 use super::published::{CHACHA, GCM, GCM_SIV, Vector};
 use super::vector_files::TWO_RECORDS;
+use crate::new_file::NewFile;
 use crate::run::{perform, report, run};
 use crate::storage::Storage;
 use crate::words::{Inputs, Request};
@@ -44,7 +45,8 @@ fn performs<F: Storage>(
         leave(rt, &bump, room)?;
         let mut out: Vec<u8> = Vec::new(rt.alloc());
         let mut err: Vec<u8> = Vec::new(rt.alloc());
-        match perform(&bump, files, request, &mut out) {
+        let mut file = NewFile::new(&bump, files);
+        match perform(&bump, files, request, &mut out, &mut file) {
             Ok(status) => {
                 assert_eq!(rt; status, 0);
                 assert!(rt; out.as_slice().split_last() == Some((&b'\n', line.as_bytes())));
@@ -67,6 +69,7 @@ fn wrap(rt: HostRuntime) -> Result<(), Fail> {
     let request = Request::Wrap {
         key: KEY,
         text: TEXT,
+        pad: false,
     };
     performs(&rt, &NoFiles, &request, WRAPPED)
 }
@@ -76,6 +79,7 @@ fn unwrap(rt: HostRuntime) -> Result<(), Fail> {
     let request = Request::Unwrap {
         key: KEY,
         sealed: WRAPPED,
+        pad: false,
     };
     performs(&rt, &NoFiles, &request, TEXT)
 }

@@ -35,7 +35,6 @@ fn refused_words(rt: HostRuntime) {
     refused(&["check"]);
     refused(&["check", "a", "b"]);
     refused(&["seal-file"]);
-    refused(&["open-file", "--help"]);
     refused(&["help", "frob"]);
     refused(&["--version"]);
 }

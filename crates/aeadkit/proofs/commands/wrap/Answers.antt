@@ -11,14 +11,14 @@ returns-in_err-key g c =
     rw (p.1, p.2) (inl (key_refused _ _ _ _ _ _ c.in_ok-key_bytes.ensures c.in_ok-text_bytes.ensures c.deref.ensures.value
     c.in_err-key.ensures.0 c.in_err-key.ensures.1))
 
-pub returns-in_err-wrap : goal.returns-in_err-wrap
-returns-in_err-wrap g c =
-    let p = err_from_is_err_and c.from_residual-in_err-wrap.result c.from_residual-in_err-wrap.ensures.1 in
+pub returns-in_err-wrapped : goal.returns-in_err-wrapped
+returns-in_err-wrapped g c =
+    let p = err_from_is_err_and c.from_residual-in_err-wrapped.result c.from_residual-in_err-wrapped.ensures.1 in
     let is_key : IsKey c.in_ok-key.key = rw c.in_ok-key.ensures.0 c.in_ok-key.ensures.1 in
-    rw (p.1, p.2) (inr (call_refused WrapFault _ _ _ _ _ _ _ c.in_ok-key_bytes.ensures c.in_ok-text_bytes.ensures
-    (c.in_ok-key.ensures.0 ∙ c.deref.ensures.value) c.deref-2.ensures.value is_key c.in_err-wrap.ensures))
+    rw (p.1, p.2) (inr (call_refused (WrapFault c.args.pad) _ _ _ _ _ _ _ c.in_ok-key_bytes.ensures c.in_ok-text_bytes.ensures
+    (c.in_ok-key.ensures.0 ∙ c.deref.ensures.value) c.deref-2.ensures.value is_key c.in_err-wrapped.ensures))
 
 pub returns : goal.returns
 returns g c =
-    wrapped_of _ _ _ _ _ _ _ c.in_ok-key_bytes.ensures c.in_ok-text_bytes.ensures (c.in_ok-key.ensures.0 ∙ c.deref.ensures.value)
-    c.deref-2.ensures.value c.in_ok-wrap.ensures
+    wrapped_of c.args.pad _ _ _ _ _ _ _ c.in_ok-key_bytes.ensures c.in_ok-text_bytes.ensures (c.in_ok-key.ensures.0 ∙ c.deref.ensures.value)
+    c.deref-2.ensures.value c.in_ok-wrapped.ensures

@@ -1,0 +1,110 @@
+-- What the file commands answer, and what the file that they write holds.
+use Rattle.std.specs.Prelude.{◌≡◌, ℕ, ◌⊎◌, List, ◌++◌, Option, Some, Result, Ok, Err, MatchResult, IfSome}
+use Rattle.std.specs.Io.KnownBytes.{Appends}
+use Rattle.octets.specs.declared.fault.Fault.{Fault}
+use Rattle.octets.specs.declared.fault.Fault.TheVariants.{Read, Write, OutOfMemory}
+use Rattle.aead.specs.Sealing.{Setting}
+use Rattle.aead.specs.Ciphers.{Keyed, setting}
+use Rattle.aead.specs.SealStream.{SealsStream}
+use Rattle.aead.specs.SealSivStream.{SealsSivStream, SivCounts}
+use Rattle.aead.specs.Verdict.{OpensStream, FailureCounts, IsBeginning}
+use Rattle.aeadkit.specs.declared.failure.Failure.{Failure}
+use Rattle.aeadkit.specs.declared.failure.Failure.TheVariants.{Fault as OfFault}
+use Rattle.aeadkit.specs.declared.words.Inputs.{Inputs}
+use Rattle.aeadkit.specs.Aead.{IsReady, InputsRefused}
+
+-- an engine's answer, for what it gave
+abbrev pub Answer : Type 0
+Answer = Result (Unit {0}) Fault
+
+-- what a text gives whose tag is over the ciphertext, whatever the counts of failures
+pub record SealsOnce (s : Setting) (a given : List ℕ) (r : Answer) : Type 0 where
+  pub read : ℕ
+  pub read' : ℕ
+  pub wrote : ℕ
+  pub wrote' : ℕ
+  pub is : SealsStream s a given read read' wrote wrote' r
+
+-- what two readings of a text give by AES-GCM-SIV
+pub record SealsTwice (s : Setting) (a b given : List ℕ) (r : Answer) : Type 0 where
+  pub before : SivCounts
+  pub after : SivCounts
+  pub is : SealsSivStream s a b given before after r
+
+-- what three readings of sealed bytes give
+pub record OpensThrice (s : Setting) (m v w given : List ℕ) (r : Answer) : Type 0 where
+  pub before : FailureCounts
+  pub after : FailureCounts
+  pub is : OpensStream s m v w given before after r
+
+-- a relation between what is given and the answer, where something is told of what was given
+abbrev pub Giving : Type 1
+Giving = (List ℕ → Type 0) → Type 0
+
+-- sealing: where the readings tell their bytes
+abbrev pub Sealing : (ℕ → Option (List ℕ)) → Giving → Setting → Answer → Type 0
+Sealing readings giving s r = IfSome (readings 0) (λ a. IfSome (readings 1) (λ b.
+    giving (λ given. SealsOnce s a given r ⊎ SealsTwice s a b given r)))
+
+-- opening: where the readings tell their bytes
+abbrev pub Opening : (ℕ → Option (List ℕ)) → Giving → Setting → Answer → Type 0
+Opening readings giving s r = IfSome (readings 0) (λ m. IfSome (readings 1) (λ v. IfSome (readings 2) (λ w.
+    giving (λ given. OpensThrice s m v w given r))))
+
+-- the outlet took some bytes, with this property
+abbrev pub Took : Option (List ℕ) → Option (List ℕ) → Giving
+Took taken taken' P = IfSome taken (λ before. (given : List ℕ) × Appends (Some before) taken' given × P given)
+
+-- a file holds, behind what was taken before, all bytes that were given; they have this property
+abbrev pub HoldsAll : Option (List ℕ) → Option (List ℕ) → Giving
+HoldsAll taken held P = IfSome taken (λ before. (given : List ℕ) × (held ≡ Some (before ++ given)) × P given)
+
+-- a file holds a beginning of that
+abbrev pub HoldsStart : Option (List ℕ) → Option (List ℕ) → Giving
+HoldsStart taken held P =
+    IfSome taken (λ before. (given : List ℕ) × ((h : List ℕ) × (held ≡ Some h) × IsBeginning h (before ++ given)) × P given)
+
+-- the words give the inputs of a call, for which this holds
+pub record IsCalled (words : Inputs) (P : Setting → Type 0) : Type 0 where
+  pub keyed : Keyed
+  pub nonce : List ℕ
+  pub aad : List ℕ
+  pub body : List ℕ
+  pub ready : IsReady words keyed nonce aad body
+  pub is : P (setting keyed nonce aad)
+
+-- the call answered a fault
+pub record CallFailed (words : Inputs) (P : Setting → Fault → Type 0) (e : Failure) : Type 0 where
+  pub fault : Fault
+  pub is : e ≡ OfFault fault
+  pub call : IsCalled words (λ s. P s fault)
+
+-- no call was made: the words give no inputs, or a file was not opened
+abbrev pub NoCall : Inputs → Failure → Type 0
+NoCall words e = InputsRefused words e ⊎ ((e ≡ OfFault Read) ⊎ (e ≡ OfFault OutOfMemory))
+
+-- an engine answered, or a file was not opened and nothing was given
+abbrev pub EngineRan : (Giving → Setting → Answer → Type 0) → Setting → Option (List ℕ) → Option (List ℕ) → Answer → Type 0
+EngineRan engine s taken taken' r =
+    (((r ≡ Err Read) ⊎ (r ≡ Err OutOfMemory)) × (taken' ≡ taken)) ⊎ engine (Took taken taken') s r
+
+-- an engine ran over readings into an outlet, or there was no call and nothing was given
+abbrev pub Ran : (Giving → Setting → Answer → Type 0) → Inputs → Option (List ℕ) → Option (List ℕ) → Result (Unit {0}) Failure → Type 0
+Ran engine words taken taken' r = MatchResult r
+    (λ _. IsCalled words (λ s. engine (Took taken taken') s (Ok tt)))
+    (λ e. (NoCall words e × (taken' ≡ taken)) ⊎ CallFailed words (λ s f. engine (Took taken taken') s (Err f)) e)
+
+-- a file command is done: the file holds what the engine gave
+abbrev pub FileDone : (Giving → Setting → Answer → Type 0) → Inputs → Option (List ℕ) → Option (List ℕ) → Type 0
+FileDone engine words taken held = IsCalled words (λ s. engine (HoldsAll taken held) s (Ok tt))
+
+-- the file holds a beginning of what was taken before
+abbrev pub HoldsNothing : Option (List ℕ) → Option (List ℕ) → Type 0
+HoldsNothing taken held = IfSome taken (λ before. (h : List ℕ) × (held ≡ Some h) × IsBeginning h before)
+
+-- a file command came to nothing: the file holds a beginning of what the engine gave, which answered this fault, or was done
+-- where the last writing failed
+abbrev pub FileStopped : (Giving → Setting → Answer → Type 0) → Inputs → Option (List ℕ) → Option (List ℕ) → Failure → Type 0
+FileStopped engine words taken held e =
+    (NoCall words e × HoldsNothing taken held)
+    ⊎ CallFailed words (λ s f. engine (HoldsStart taken held) s (Err f) ⊎ ((f ≡ Write) × engine (HoldsStart taken held) s (Ok tt))) e

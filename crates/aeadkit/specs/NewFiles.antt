@@ -1,0 +1,7 @@
+-- What a file holds that is made when it is needed.
+use Rattle.std.specs.Prelude.{ℕ, List, Option, Some, None}
+
+-- before it is made what a file holds at first, and then what was written to it
+abbrev pub held : {O : Type 0} → Option (List ℕ) → (O → Option (List ℕ)) → Option O → Option (List ℕ)
+held blank contents None = blank
+held blank contents (Some output) = contents output

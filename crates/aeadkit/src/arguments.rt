@@ -1,0 +1,41 @@
+//! The words behind the program's name.
+ghost use Rattle.std.specs.Io.{WritesAtMost};
+
+use crate::failure::Failure;
+use octets::Fault;
+use std::alloc::Global;
+use std::env::FillError;
+use std::rt::Env;
+use std::{env, io};
+
+/// An environment without the program's name, which need not be text.
+#[derive(Drop)]
+struct Behind<'a, R: Env> {
+    runtime: &'a R,
+}
+
+impl<R: Env> Env for Behind<'_, R> {
+    fn arg(&self, i: usize, buf: &mut [u8]) -> Result<usize, FillError> {
+        match i.checked_add(1) {
+            Some(next) => self.runtime.arg(next, buf),
+            None => Err(FillError::NotPresent),
+        }
+    }
+
+    fn var(&self, name: &str, buf: &mut [u8]) -> Result<usize, FillError> {
+        self.runtime.var(name, buf)
+    }
+
+    fn var_at(&self, i: usize, buf: &mut [u8]) -> Result<usize, FillError> {
+        self.runtime.var_at(i, buf)
+    }
+}
+
+/// The words behind the program's name. `Words` where one is not UTF-8, `OutOfMemory` where a growth is refused.
+pub fn words_given<R: Env>(alloc: Global, runtime: &R) -> Result<Vec<String>, Failure> {
+    let words = env::args(&(Behind { runtime }, alloc)).map_err(|error| match error.kind() {
+        io::ErrorKind::OutOfMemory => Failure::Fault(Fault::OutOfMemory),
+        _ => Failure::Words,
+    })?;
+    Ok(words.collect(alloc)?)
+}

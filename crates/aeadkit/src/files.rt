@@ -1,0 +1,210 @@
+//! The file commands: a file is sealed or opened into another, in memory of a fixed size.
+ghost use Rattle.std.specs.Prelude.{◌≡◌, ◌⊎◌, Some, IfOk, IfSome, MatchResult};
+ghost use Rattle.octets.specs.declared.fault.Fault.TheVariants.{OutOfMemory, Read as OfRead};
+ghost use Rattle.aead.specs.Ciphers.{setting};
+ghost use Rattle.aead.specs.AnyCiphers.{one_pass_keyed, keyed_of};
+ghost use Rattle.aeadkit.specs.Files.{Sealing, Opening, EngineRan, Ran, FileDone, FileStopped};
+ghost use Rattle.aeadkit.specs.NewFiles.{held};
+
+use crate::commands::prepare;
+use crate::failure::{Failure, fault_of};
+use crate::new_file::NewFile;
+use crate::storage::Storage;
+use crate::words::FileWords;
+use aead::{AnyAead, AnyOnePass, GcmSiv, open_stream, seal_siv_stream, seal_stream};
+use octets::{Fault, FromRead, Intake, Nonce, Outlet};
+use std::alloc::Allocator;
+use std::io::BufReader;
+
+/// How many bytes a reading asks for at a time.
+const AHEAD: usize = 65536;
+
+/// Opens a file for a reading. `Read` where it can't be opened, `OutOfMemory` where a growth is refused.
+fn reading<'a, A: Allocator, F: Storage>(
+    alloc: &'a A,
+    files: &F,
+    path: &str,
+    reading: u8,
+) -> Result<FromRead<BufReader<F::Input, &'a A>>, Fault>
+    ensures { MatchResult result
+        (λ r. IfSome (F.contents files.now path.now reading)
+        (λ bytes. ⟦<FromRead<BufReader<F::Input, &'a A>> as Intake>⟧.left r ≡ Some bytes))
+        (λ e. (e ≡ OfRead) ⊎ (e ≡ OutOfMemory)) }
+{
+    let file = match files.open(path, reading) {
+        Ok(file) => file,
+        Err(error) => return Err(fault_of(&error, Fault::Read)),
+    };
+    match BufReader::with_capacity(alloc, AHEAD, file) {
+        Ok(reader) => Ok(FromRead::new(reader)),
+        Err(error) => Err(fault_of(&error, Fault::OutOfMemory)),
+    }
+}
+
+/// Seals a file into an outlet, in one reading.
+fn seal_once<A: Allocator, F: Storage, O: Outlet>(
+    alloc: &A,
+    files: &F,
+    path: &str,
+    cipher: &AnyOnePass,
+    nonce: &Nonce,
+    aad: &[u8],
+    out: &mut O,
+) -> Result<(), Fault>
+    ensures { EngineRan (Sealing (F.contents files.now path.now)) (setting (one_pass_keyed cipher.now) nonce.now aad.now)
+        (O.taken out.old) (O.taken out.new) result }
+{
+    let mut text = reading(alloc, files, path, 0)?;
+    seal_stream(cipher, nonce, aad, &mut text, out)
+}
+
+/// Seals a file into an outlet by AES-GCM-SIV, in two readings.
+fn seal_twice<A: Allocator, F: Storage, O: Outlet>(
+    alloc: &A,
+    files: &F,
+    path: &str,
+    cipher: &GcmSiv,
+    nonce: &Nonce,
+    aad: &[u8],
+    out: &mut O,
+) -> Result<(), Fault>
+    ensures { EngineRan (Sealing (F.contents files.now path.now)) (setting cipher.now nonce.now aad.now)
+        (O.taken out.old) (O.taken out.new) result }
+{
+    let mut first = reading(alloc, files, path, 0)?;
+    let mut second = reading(alloc, files, path, 1)?;
+    seal_siv_stream(cipher, nonce, aad, &mut first, &mut second, out)
+}
+
+/// Seals a file into an outlet under any cipher.
+fn seal_by<A: Allocator, F: Storage, O: Outlet>(
+    alloc: &A,
+    files: &F,
+    path: &str,
+    cipher: &AnyAead,
+    nonce: &Nonce,
+    aad: &[u8],
+    out: &mut O,
+) -> Result<(), Fault>
+    ensures { EngineRan (Sealing (F.contents files.now path.now)) (setting (keyed_of cipher.now) nonce.now aad.now)
+        (O.taken out.old) (O.taken out.new) result }
+{
+    match cipher {
+        AnyAead::OnePass(cipher) => seal_once(alloc, files, path, cipher, nonce, aad, out),
+        AnyAead::Siv(cipher) => seal_twice(alloc, files, path, cipher, nonce, aad, out),
+    }
+}
+
+/// Opens a file into an outlet, in three readings.
+fn open_by<A: Allocator, F: Storage, O: Outlet>(
+    alloc: &A,
+    files: &F,
+    path: &str,
+    cipher: &AnyAead,
+    nonce: &Nonce,
+    aad: &[u8],
+    out: &mut O,
+) -> Result<(), Fault>
+    ensures { EngineRan (Opening (F.contents files.now path.now)) (setting (keyed_of cipher.now) nonce.now aad.now)
+        (O.taken out.old) (O.taken out.new) result }
+{
+    let mut measure = reading(alloc, files, path, 0)?;
+    let mut verify = reading(alloc, files, path, 1)?;
+    let mut write = reading(alloc, files, path, 2)?;
+    open_stream(
+        cipher,
+        nonce,
+        aad,
+        &mut measure,
+        &mut verify,
+        &mut write,
+        out,
+    )
+}
+
+/// Seals a file into an outlet, for the inputs that the words give.
+fn seal<A: Allocator, F: Storage, O: Outlet>(
+    alloc: &A,
+    files: &F,
+    words: &FileWords<'_>,
+    out: &mut O,
+) -> Result<(), Failure>
+    ensures { Ran (Sealing (F.contents files.now words.now.input.now)) words.now.inputs (O.taken out.old) (O.taken out.new) result }
+{
+    let inputs = prepare(alloc, &words.inputs)?;
+    Ok(seal_by(
+        alloc,
+        files,
+        words.input,
+        &inputs.cipher,
+        &inputs.nonce,
+        &inputs.aad,
+        out,
+    )?)
+}
+
+/// Opens a file into an outlet, for the inputs that the words give.
+fn open<A: Allocator, F: Storage, O: Outlet>(
+    alloc: &A,
+    files: &F,
+    words: &FileWords<'_>,
+    out: &mut O,
+) -> Result<(), Failure>
+    ensures { Ran (Opening (F.contents files.now words.now.input.now)) words.now.inputs (O.taken out.old) (O.taken out.new) result }
+{
+    let inputs = prepare(alloc, &words.inputs)?;
+    Ok(open_by(
+        alloc,
+        files,
+        words.input,
+        &inputs.cipher,
+        &inputs.nonce,
+        &inputs.aad,
+        out,
+    )?)
+}
+
+/// `seal-file`: seals a file into another, and answers status 0. In this order: the refusals of the inputs, `Read` where the
+/// file can't be opened, `AadTooLong`, `TextTooLong` once more than the suite's limit was read, `Read`, `Write`, and for
+/// AES-GCM-SIV `SourceChanged`. Then the written file holds a beginning of what it should hold, or was not made.
+pub fn seal_file<'a, A: Allocator, B: Allocator, F: Storage>(
+    alloc: &A,
+    files: &F,
+    words: &FileWords<'a>,
+    file: &mut NewFile<'a, F, B>,
+) -> Result<u8, Failure>
+    ensures answer { MatchResult result
+        (λ _. FileDone (Sealing (F.contents files.now words.now.input.now)) words.now.inputs
+        (⟦<NewFile<'a, F, B> as Outlet>⟧.taken file.old) (held (F.blank file.new.files.now) F.Output.contents file.new.file))
+        (FileStopped (Sealing (F.contents files.now words.now.input.now)) words.now.inputs
+        (⟦<NewFile<'a, F, B> as Outlet>⟧.taken file.old) (held (F.blank file.new.files.now) F.Output.contents file.new.file)) }
+    ensures status { IfOk result (λ status. status ≡ 0) }
+{
+    file.name(words.output)?;
+    seal(alloc, files, words, file)?;
+    file.finish()?;
+    Ok(0)
+}
+
+/// `open-file`: opens a sealed file into another, and answers status 0. In this order: the refusals of the inputs, `Read` where
+/// the file can't be opened, `AadTooLong`, then those of its three readings. Nothing is written before a whole reading was
+/// found to be a sealing. After `SourceChanged`, `Read` and `Write` the written file holds a beginning of a text, which is to
+/// be thrown away, or was not made.
+pub fn open_file<'a, A: Allocator, B: Allocator, F: Storage>(
+    alloc: &A,
+    files: &F,
+    words: &FileWords<'a>,
+    file: &mut NewFile<'a, F, B>,
+) -> Result<u8, Failure>
+    ensures answer { MatchResult result
+        (λ _. FileDone (Opening (F.contents files.now words.now.input.now)) words.now.inputs
+        (⟦<NewFile<'a, F, B> as Outlet>⟧.taken file.old) (held (F.blank file.new.files.now) F.Output.contents file.new.file))
+        (FileStopped (Opening (F.contents files.now words.now.input.now)) words.now.inputs
+        (⟦<NewFile<'a, F, B> as Outlet>⟧.taken file.old) (held (F.blank file.new.files.now) F.Output.contents file.new.file)) }
+    ensures status { IfOk result (λ status. status ≡ 0) }
+{
+    file.name(words.output)?;
+    open(alloc, files, words, file)?;
+    file.finish()?;
+    Ok(0)
+}

@@ -1,0 +1,171 @@
+//! The file that a command writes.
+ghost use Rattle.std.specs.Prelude.{◌≡◌, ◌<◌, ◌≤◌, ◌-◌, [], true, is_some, ◌++◌, drop, length, vec_len, OnOk, OnErr, IfErr};
+ghost use Rattle.std.specs.Io.KnownBytes.{Keeps, WriteAppends, append_known};
+ghost use Rattle.octets.specs.Device.{GivesSome};
+ghost use Rattle.aeadkit.specs.NewFiles.{held};
+
+use crate::storage::Storage;
+use octets::{DeviceFault, Fault, Outlet};
+use std::alloc::{AllocError, Allocator};
+use std::io::Write;
+
+/// How many bytes are kept before they are written.
+const PENDING: usize = 65536;
+
+/// A file that is made, or cut to nothing, when its first byte is given, and at the end where none was. Bytes are
+/// written once many are pending. A failure of the system, an interrupted call too, is a failure of the device.
+#[derive(Drop)]
+pub struct NewFile<'a, F: Storage, A: Allocator> {
+    files: &'a F,
+    path: &'a str,
+    file: Option<F::Output>,
+    pending: Vec<u8, A>,
+    written: usize,
+    failed: u64,
+    ghost in_range: { written ≤ vec_len pending },
+}
+
+impl<'a, F: Storage, A: Allocator> NewFile<'a, F, A> {
+    /// No file is named, and none is made.
+    pub fn new(alloc: A, files: &'a F) -> Self
+        ensures taken { ⟦<NewFile<'a, F, A> as Outlet>⟧.taken result ≡ append_known (F.blank files.now) [] }
+    {
+        NewFile {
+            files,
+            path: "",
+            file: None,
+            pending: Vec::new(alloc),
+            written: 0,
+            failed: 0,
+        }
+    }
+
+    /// Names the file, and takes memory for what will be pending.
+    pub fn name(&mut self, path: &'a str) -> Result<(), AllocError>
+        ensures taken { ⟦<NewFile<'a, F, A> as Outlet>⟧.taken self.new ≡ ⟦<NewFile<'a, F, A> as Outlet>⟧.taken self.old }
+        ensures pending { self.new.pending.items ≡ self.old.pending.items }
+    {
+        self.path = path;
+        self.pending.reserve_exact(PENDING)
+    }
+
+    /// Makes the file where it is not made.
+    fn make(&mut self) -> Result<(), DeviceFault>
+        ensures made { OnOk result (is_some self.new.file ≡ true) }
+        ensures taken { Keeps (⟦<NewFile<'a, F, A> as Outlet>⟧.taken self.old) (⟦<NewFile<'a, F, A> as Outlet>⟧.taken self.new) }
+        ensures pending { self.new.pending ≡ self.old.pending }
+        ensures written { self.new.written ≡ self.old.written }
+        ensures failed { self.new.failed ≡ self.old.failed }
+    {
+        if self.file.is_none() {
+            match self.files.create(self.path) {
+                Ok(file) => self.file = Some(file),
+                Err(_) => return Err(DeviceFault),
+            }
+        }
+        Ok(())
+    }
+
+    /// Writes some of what is pending.
+    fn write_some(&mut self) -> Result<(), DeviceFault>
+        requires { self.old.written < vec_len self.old.pending }
+        ensures taken { Keeps (⟦<NewFile<'a, F, A> as Outlet>⟧.taken self.old) (⟦<NewFile<'a, F, A> as Outlet>⟧.taken self.new) }
+        ensures pending { self.new.pending ≡ self.old.pending }
+        ensures written { OnOk result (self.old.written < self.new.written) }
+        ensures failed { self.new.failed ≡ self.old.failed }
+    {
+        match &mut self.file {
+            Some(file) => match file.write(&self.pending[self.written..]) {
+                Ok(n) if 0 < n => {
+                    self.written += n;
+                    Ok(())
+                }
+                _ => Err(DeviceFault),
+            },
+            None => Err(DeviceFault),
+        }
+    }
+
+    /// Writes what is pending.
+    #[tactic(auto, using(crate::proofs::NewFileLemmas::none_pending, crate::proofs::NewFileLemmas::keeps_more))]
+    fn write_pending(&mut self) -> Result<(), DeviceFault>
+        ensures taken { Keeps (⟦<NewFile<'a, F, A> as Outlet>⟧.taken self.old) (⟦<NewFile<'a, F, A> as Outlet>⟧.taken self.new) }
+        ensures none_left { OnOk result (self.new.pending.items ≡ []) }
+        ensures empty { OnOk result (vec_len self.new.pending ≡ 0) }
+        ensures failed { self.new.failed ≡ self.old.failed }
+    {
+        while self.written < self.pending.len() {
+            self.write_some()?;
+        }
+        self.pending.clear();
+        self.written = 0;
+        Ok(())
+    }
+
+    /// Adds to what is pending.
+    fn add(&mut self, bytes: &[u8]) -> Result<(), DeviceFault>
+        ensures items { OnOk result (self.new.pending.items ≡ self.old.pending.items ++ bytes.now) }
+        ensures same { OnErr result (self.new.pending.items ≡ self.old.pending.items) }
+        ensures held { held (F.blank self.new.files.now) F.Output.contents self.new.file
+            ≡ held (F.blank self.old.files.now) F.Output.contents self.old.file }
+        ensures written { self.new.written ≡ self.old.written }
+        ensures failed { self.new.failed ≡ self.old.failed }
+    {
+        match self.pending.extend_from_slice(bytes) {
+            Ok(()) => Ok(()),
+            Err(_) => Err(DeviceFault),
+        }
+    }
+
+    /// Keeps the first bytes, as many as there is room for.
+    #[tactic(auto, using(crate::proofs::NewFileLemmas::pends, crate::proofs::NewFileLemmas::keeps_more))]
+    fn keep(&mut self, bytes: &[u8]) -> Result<usize, DeviceFault>
+        ensures bound { GivesSome result bytes.now }
+        ensures taken { WriteAppends (⟦<NewFile<'a, F, A> as Outlet>⟧.taken self.old) (⟦<NewFile<'a, F, A> as Outlet>⟧.taken self.new) result bytes.now }
+        ensures failed { self.new.failed ≡ self.old.failed }
+    {
+        if bytes.is_empty() {
+            return Ok(0);
+        }
+        self.make()?;
+        if PENDING <= self.pending.len() {
+            self.write_pending()?;
+        }
+        let room = bytes.len().min(PENDING - self.pending.len());
+        self.add(&bytes[..room])?;
+        Ok(room)
+    }
+
+    /// Makes the file where no byte was given, writes what is pending, and has the system take it. The only fault is `Write`.
+    #[tactic(auto, using(crate::proofs::NewFileLemmas::keeps_more))]
+    pub fn finish(&mut self) -> Result<(), Fault>
+        ensures taken { Keeps (⟦<NewFile<'a, F, A> as Outlet>⟧.taken self.old) (⟦<NewFile<'a, F, A> as Outlet>⟧.taken self.new) }
+        ensures made { OnOk result (is_some self.new.file ≡ true) }
+        ensures none_left { OnOk result (self.new.pending.items ≡ []) }
+        ensures fault { IfErr result (λ e. e ≡ Fault.Write) }
+    {
+        if self.make().is_err() || self.write_pending().is_err() {
+            return Err(Fault::Write);
+        }
+        match &self.file {
+            Some(file) => self.files.sync(file).map_err(|_| Fault::Write),
+            None => Err(Fault::Write),
+        }
+    }
+}
+
+impl<F: Storage, A: Allocator> Outlet for NewFile<'_, F, A> {
+    ghost taken = { λ s. append_known (held (F.blank s.files.now) F.Output.contents s.file) (drop s.written s.pending.items) };
+
+    ghost failures = { λ s. s.failed };
+
+    fn give(&mut self, bytes: &[u8]) -> Result<usize, DeviceFault> {
+        match self.keep(bytes) {
+            Ok(n) => Ok(n),
+            Err(_) => {
+                self.failed = self.failed.saturating_add(1);
+                Err(DeviceFault)
+            }
+        }
+    }
+}
