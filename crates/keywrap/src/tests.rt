@@ -1,55 +1,54 @@
 use super::*;
 use aes::AesKey;
-use bumpalo::Bump;
-use octets::Fault;
-use std::process::Abort;
+use octets::{Fault, RefusingMemory};
+use std::alloc::Allocator;
 use std::test::Fail;
 
 mod padded;
 
-/// A key of n bytes is the first n of these.
+// A key of n bytes is the first n of these.
 const KEY: [u8; 32] = [
     0x00, 0x01, 0x02, 0x03, 0x04, 0x05, 0x06, 0x07, 0x08, 0x09, 0x0a, 0x0b, 0x0c, 0x0d, 0x0e, 0x0f,
     0x10, 0x11, 0x12, 0x13, 0x14, 0x15, 0x16, 0x17, 0x18, 0x19, 0x1a, 0x1b, 0x1c, 0x1d, 0x1e, 0x1f,
 ];
 
-/// A text of n bytes is the first n of these.
+// A text of n bytes is the first n of these.
 const TEXT: [u8; 32] = [
     0x00, 0x11, 0x22, 0x33, 0x44, 0x55, 0x66, 0x77, 0x88, 0x99, 0xaa, 0xbb, 0xcc, 0xdd, 0xee, 0xff,
     0x00, 0x01, 0x02, 0x03, 0x04, 0x05, 0x06, 0x07, 0x08, 0x09, 0x0a, 0x0b, 0x0c, 0x0d, 0x0e, 0x0f,
 ];
 
-/// RFC 3394, 4.1.
+// RFC 3394, 4.1.
 const WRAPPED_1: [u8; 24] = [
     0x1f, 0xa6, 0x8b, 0x0a, 0x81, 0x12, 0xb4, 0x47, 0xae, 0xf3, 0x4b, 0xd8, 0xfb, 0x5a, 0x7b, 0x82,
     0x9d, 0x3e, 0x86, 0x23, 0x71, 0xd2, 0xcf, 0xe5,
 ];
 
-/// RFC 3394, 4.2.
+// RFC 3394, 4.2.
 const WRAPPED_2: [u8; 24] = [
     0x96, 0x77, 0x8b, 0x25, 0xae, 0x6c, 0xa4, 0x35, 0xf9, 0x2b, 0x5b, 0x97, 0xc0, 0x50, 0xae, 0xd2,
     0x46, 0x8a, 0xb8, 0xa1, 0x7a, 0xd8, 0x4e, 0x5d,
 ];
 
-/// RFC 3394, 4.3.
+// RFC 3394, 4.3.
 const WRAPPED_3: [u8; 24] = [
     0x64, 0xe8, 0xc3, 0xf9, 0xce, 0x0f, 0x5b, 0xa2, 0x63, 0xe9, 0x77, 0x79, 0x05, 0x81, 0x8a, 0x2a,
     0x93, 0xc8, 0x19, 0x1e, 0x7d, 0x6e, 0x8a, 0xe7,
 ];
 
-/// RFC 3394, 4.4.
+// RFC 3394, 4.4.
 const WRAPPED_4: [u8; 32] = [
     0x03, 0x1d, 0x33, 0x26, 0x4e, 0x15, 0xd3, 0x32, 0x68, 0xf2, 0x4e, 0xc2, 0x60, 0x74, 0x3e, 0xdc,
     0xe1, 0xc6, 0xc7, 0xdd, 0xee, 0x72, 0x5a, 0x93, 0x6b, 0xa8, 0x14, 0x91, 0x5c, 0x67, 0x62, 0xd2,
 ];
 
-/// RFC 3394, 4.5.
+// RFC 3394, 4.5.
 const WRAPPED_5: [u8; 32] = [
     0xa8, 0xf9, 0xbc, 0x16, 0x12, 0xc6, 0x8b, 0x3f, 0xf6, 0xe6, 0xf4, 0xfb, 0xe3, 0x0e, 0x71, 0xe4,
     0x76, 0x9c, 0x8b, 0x80, 0xa3, 0x2c, 0xb8, 0x95, 0x8c, 0xd5, 0xd1, 0x7d, 0x6b, 0x25, 0x4d, 0xa1,
 ];
 
-/// RFC 3394, 4.6.
+// RFC 3394, 4.6.
 const WRAPPED_6: [u8; 40] = [
     0x28, 0xc9, 0xf4, 0x04, 0xc4, 0xb8, 0x10, 0xf4, 0xcb, 0xcc, 0xb3, 0x5c, 0xfb, 0x87, 0xf8, 0x26,
     0x3f, 0x57, 0x86, 0xe2, 0xd8, 0x0e, 0xd3, 0x26, 0xcb, 0xc7, 0xf0, 0xe7, 0x1a, 0x99, 0xf4, 0x3b,
@@ -60,7 +59,7 @@ fn key_of(length: usize) -> Result<AesKey, Fault> {
     AesKey::from_slice(&KEY[..length.min(32)])
 }
 
-/// Each vector, both ways and in both forms.
+// Each vector, both ways and in both forms.
 #[test]
 fn published_vectors(rt: HostRuntime) -> Result<(), Fail> {
     for (key_length, length, wrapped) in [
@@ -89,7 +88,7 @@ fn published_vectors(rt: HostRuntime) -> Result<(), Fail> {
     Ok(())
 }
 
-/// A wrapping with any one bit changed is none.
+// A wrapping with any one bit changed is none.
 #[test]
 fn each_bit_changed(rt: HostRuntime) -> Result<(), Fail> {
     let key = key_of(16)?;
@@ -132,70 +131,52 @@ fn lengths(rt: HostRuntime) -> Result<(), Fail> {
     Ok(())
 }
 
-/// Fills an arena up to the room that is left in it, so that any further growth is refused.
-fn leave(rt: &impl Abort, bump: &Bump, room: usize) -> Result<(), Fail> {
-    let filler = [0u8; 2048];
-    bump.set_allocation_limit(Some(0));
-    let used = bump.chunk_capacity().saturating_sub(room);
-    assert!(rt; used <= 2048);
-    let _ = bump.try_alloc_slice_copy(&filler[..used])?;
-    Ok(())
-}
-
-/// Each growth of `wrap` is refused in turn: the room goes from nothing up to enough.
-#[test]
-fn refused_growths_of_wrap(rt: HostRuntime) -> Result<(), Fail> {
-    let key = key_of(16)?;
-    let mut refused = 0u32;
-    let mut done = 0u32;
-    for room in 0..64usize {
-        let bump = Bump::try_with_capacity(rt.alloc(), 256)?;
-        leave(&rt, &bump, room)?;
-        match wrap(&bump, &key, &TEXT[..16]) {
-            Ok(wrapped) => {
-                assert_eq!(rt; wrapped.as_slice(), WRAPPED_1.as_slice());
-                done = done.saturating_add(1);
-            }
-            Err(fault) => {
-                assert_eq!(rt; fault, Fault::OutOfMemory);
-                refused = refused.saturating_add(1);
-                // the length comes before memory
-                let short = wrap(&bump, &key, &TEXT[..8]);
-                assert!(rt; short.is_err_and(|e| e == Fault::WrapLength));
-            }
-        }
+// Whether a call's answer is right where no request for memory was refused, and want of memory where one was.
+fn is_due<A: Allocator + Drop>(
+    answer: Result<Vec<u8, A>, Fault>,
+    right: &[u8],
+    refused: bool,
+) -> bool {
+    match answer {
+        Ok(bytes) => !refused && bytes.as_slice() == right,
+        Err(fault) => refused && fault == Fault::OutOfMemory,
     }
-    assert!(rt; 0 < refused && 0 < done, "{refused} refused, {done} done");
+}
+
+// Each request for memory of each call is refused in turn; at last none is refused.
+#[test]
+fn each_growth_refused_in_turn(rt: HostRuntime) -> Result<(), Fail> {
+    let key = key_of(16)?;
+    let text = &TEXT[..16];
+    for passed in 0..6u64 {
+        let memory = RefusingMemory::after(passed, rt.alloc());
+        let answer = wrap(&memory, &key, text);
+        let refused = memory.has_refused();
+        assert!(rt; is_due(answer, &WRAPPED_1, refused), "wrap, {passed}");
+        assert!(rt; refused || 0 < passed, "wrap takes no memory");
+        let memory = RefusingMemory::after(passed, rt.alloc());
+        let answer = unwrap(&memory, &key, &WRAPPED_1);
+        let refused = memory.has_refused();
+        assert!(rt; is_due(answer, text, refused), "unwrap, {passed}");
+        assert!(rt; refused || 0 < passed, "unwrap takes no memory");
+        assert!(rt; !refused || passed < 5, "no end of requests");
+    }
     Ok(())
 }
 
-/// The same of `unwrap`.
+// Of the refusals the length comes before memory, and memory before integrity.
 #[test]
-fn refused_growths_of_unwrap(rt: HostRuntime) -> Result<(), Fail> {
+fn refusals_in_order(rt: HostRuntime) -> Result<(), Fail> {
     let key = key_of(16)?;
     let mut changed = WRAPPED_1;
     changed[23] = 0xe4;
-    let mut refused = 0u32;
-    let mut done = 0u32;
-    for room in 0..64usize {
-        let bump = Bump::try_with_capacity(rt.alloc(), 256)?;
-        leave(&rt, &bump, room)?;
-        match unwrap(&bump, &key, &WRAPPED_1) {
-            Ok(text) => {
-                assert_eq!(rt; text.as_slice(), &TEXT[..16]);
-                done = done.saturating_add(1);
-            }
-            Err(fault) => {
-                assert_eq!(rt; fault, Fault::OutOfMemory);
-                refused = refused.saturating_add(1);
-                // the length comes before memory, and memory before integrity
-                let short = unwrap(&bump, &key, &WRAPPED_1[..16]);
-                assert!(rt; short.is_err_and(|e| e == Fault::WrapLength));
-                let wrong = unwrap(&bump, &key, &changed);
-                assert!(rt; wrong.is_err_and(|e| e == Fault::OutOfMemory));
-            }
-        }
-    }
-    assert!(rt; 0 < refused && 0 < done, "{refused} refused, {done} done");
+    let memory = RefusingMemory::after(0, rt.alloc());
+    let short = wrap(&memory, &key, &TEXT[..8]);
+    assert!(rt; short.is_err_and(|e| e == Fault::WrapLength));
+    let short = unwrap(&memory, &key, &WRAPPED_1[..16]);
+    assert!(rt; short.is_err_and(|e| e == Fault::WrapLength));
+    assert!(rt; !memory.has_refused());
+    let wrong = unwrap(&memory, &key, &changed);
+    assert!(rt; wrong.is_err_and(|e| e == Fault::OutOfMemory));
     Ok(())
 }

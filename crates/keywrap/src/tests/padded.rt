@@ -2,7 +2,7 @@
 use super::*;
 use octets::Block;
 
-/// The key of RFC 5649, 6.
+// The key of RFC 5649, 6.
 const PADDED_KEY: [u8; 24] = [
     0x58, 0x40, 0xdf, 0x6e, 0x29, 0xb0, 0x2a, 0xf1, 0xab, 0x49, 0x3b, 0x70, 0x5b, 0xf1, 0x6e, 0xa1,
     0xae, 0x83, 0x38, 0xf4, 0xdc, 0xc1, 0x76, 0xa8,
@@ -24,13 +24,13 @@ const SEVEN_WRAPPED: [u8; 16] = [
     0xaf, 0xbe, 0xb0, 0xf0, 0x7d, 0xfb, 0xf5, 0x41, 0x92, 0x00, 0xf2, 0xcc, 0xb5, 0x0b, 0xb2, 0x4f,
 ];
 
-/// What `unwrap_padded` makes of the cipher of one block.
+// What `unwrap_padded` makes of the cipher of one block.
 fn of_block(rt: &HostRuntime, block: [u8; 16]) -> Result<Vec<u8>, Fault> {
     let key = AesKey::from_slice(&PADDED_KEY)?;
     unwrap_padded(rt.alloc(), &key, key.encrypt(&Block::new(block)).bytes())
 }
 
-/// The vectors of RFC 5649, 6, both ways.
+// The vectors of RFC 5649, 6, both ways.
 #[test]
 fn published_padded_vectors(rt: HostRuntime) -> Result<(), Fail> {
     let key = AesKey::from_slice(&PADDED_KEY)?;
@@ -46,7 +46,7 @@ fn published_padded_vectors(rt: HostRuntime) -> Result<(), Fail> {
     Ok(())
 }
 
-/// What the deciphered block says of the text: the constant, its length, and zeros past it.
+// What the deciphered block says of the text: the constant, its length, and zeros past it.
 #[test]
 fn padded_blocks(rt: HostRuntime) -> Result<(), Fail> {
     let mut block = [0xa6, 0x59, 0x59, 0xa6, 0, 0, 0, 8, 1, 2, 3, 4, 5, 6, 7, 8];
@@ -70,7 +70,7 @@ fn padded_blocks(rt: HostRuntime) -> Result<(), Fail> {
     Ok(())
 }
 
-/// A wrapping of one form is none of the other.
+// A wrapping of one form is none of the other.
 #[test]
 fn forms_are_apart(rt: HostRuntime) -> Result<(), Fail> {
     let refused = unwrap_padded(rt.alloc(), &key_of(16)?, &WRAPPED_1);
@@ -99,36 +99,141 @@ fn padded_lengths(rt: HostRuntime) -> Result<(), Fail> {
     Ok(())
 }
 
-/// Each growth of both calls is refused in turn: the room goes from nothing up to enough.
-#[test]
-fn refused_growths_with_padding(rt: HostRuntime) -> Result<(), Fail> {
-    let key = AesKey::from_slice(&PADDED_KEY)?;
-    let mut refused = 0u32;
-    let mut done = 0u32;
-    for room in 0..64usize {
-        let bump = Bump::try_with_capacity(rt.alloc(), 256)?;
-        leave(&rt, &bump, room)?;
-        match wrap_padded(&bump, &key, &TWENTY) {
-            Ok(wrapped) => {
-                assert_eq!(rt; wrapped.as_slice(), TWENTY_WRAPPED.as_slice());
-                done = done.saturating_add(1);
-            }
-            Err(fault) => {
-                assert_eq!(rt; fault, Fault::OutOfMemory);
-                refused = refused.saturating_add(1);
-            }
-        }
-        match unwrap_padded(&bump, &key, &TWENTY_WRAPPED) {
-            Ok(text) => {
-                assert_eq!(rt; text.as_slice(), TWENTY.as_slice());
-                done = done.saturating_add(1);
-            }
-            Err(fault) => {
-                assert_eq!(rt; fault, Fault::OutOfMemory);
-                refused = refused.saturating_add(1);
-            }
-        }
+// A text of n bytes, each of them the low byte of its place.
+fn text_of(rt: &HostRuntime, n: usize) -> Result<Vec<u8>, Fail> {
+    let mut text = Vec::with_capacity(rt.alloc(), n)?;
+    for i in 0..n {
+        text.push((i % 256) as u8)?;
     }
-    assert!(rt; 0 < refused && 0 < done, "{refused} refused, {done} done");
+    Ok(text)
+}
+
+// One bit of one byte the other way.
+fn flip(bytes: &mut [u8], place: usize, bit: u32) {
+    if let Some(byte) = bytes.get_mut(place) {
+        *byte ^= 1 << (bit % 8);
+    }
+}
+
+#[test]
+fn texts_of_many_lengths_there_and_back(rt: HostRuntime) -> Result<(), Fail> {
+    let key = key_of(32)?;
+    for i in 1..68usize {
+        let length = match i {
+            65 => 4095,
+            66 => 4096,
+            67 => 65535,
+            _ => i,
+        };
+        let text = text_of(&rt, length)?;
+        let mut wrapped = wrap_padded(rt.alloc(), &key, &text)?;
+        assert_eq!(rt; wrapped.len(), (length + 7) / 8 * 8 + 8);
+        let back = unwrap_padded(rt.alloc(), &key, &wrapped)?;
+        assert_eq!(rt; back.as_slice(), text.as_slice());
+        let answer = unwrap_padded_in_place(&key, &mut wrapped);
+        assert!(rt; answer.is_ok_and(|n| n == length), "{length}");
+        assert_eq!(rt; &wrapped[8..][..length], text.as_slice());
+    }
+    Ok(())
+}
+
+// A wrapping of each length up to 40 with any one bit changed is none.
+#[test]
+fn each_bit_of_padded_wrappings_changed(rt: HostRuntime) -> Result<(), Fail> {
+    let key = key_of(32)?;
+    for length in 1..41usize {
+        let text = text_of(&rt, length)?;
+        let mut changed = wrap_padded(rt.alloc(), &key, &text)?;
+        for place in 0..changed.len() {
+            for bit in 0..8u32 {
+                flip(&mut changed, place, bit);
+                let refused = unwrap_padded(rt.alloc(), &key, &changed);
+                assert!(rt;
+                    refused.is_err_and(|e| e == Fault::WrapIntegrity),
+                    "{length}, {place}, {bit}"
+                );
+                let refused = unwrap_padded_in_place(&key, &mut changed);
+                assert!(rt;
+                    refused.is_err_and(|e| e == Fault::WrapIntegrity),
+                    "{length}, {place}, {bit}"
+                );
+                flip(&mut changed, place, bit);
+            }
+        }
+        let back = unwrap_padded(rt.alloc(), &key, &changed)?;
+        assert_eq!(rt; back.as_slice(), text.as_slice());
+    }
+    Ok(())
+}
+
+// The published vectors in place, and the rooms that are refused.
+#[test]
+fn padded_vectors_in_place(rt: HostRuntime) -> Result<(), Fail> {
+    let key = AesKey::from_slice(&PADDED_KEY)?;
+    let mut room = [0x55; 32];
+    room[8..28].copy_from_slice(&TWENTY);
+    for (length, text_length) in [
+        (32usize, 0usize),
+        (32, 16),
+        (32, 25),
+        (24, 20),
+        (8, 0),
+        (31, 20),
+    ] {
+        let refused = wrap_padded_in_place(&key, &mut room[..length.min(32)], text_length);
+        assert!(rt;
+            refused.is_err_and(|e| e == Fault::WrapLength),
+            "{length}, {text_length}"
+        );
+    }
+    assert!(rt; wrap_padded_in_place(&key, &mut room, 20).is_ok());
+    assert_eq!(rt; room, TWENTY_WRAPPED);
+    let answer = unwrap_padded_in_place(&key, &mut room);
+    assert!(rt; answer.is_ok_and(|n| n == 20));
+    assert_eq!(rt; &room[8..28], TWENTY.as_slice());
+    let mut room = [0x55; 16];
+    room[8..15].copy_from_slice(&SEVEN);
+    assert!(rt; wrap_padded_in_place(&key, &mut room, 7).is_ok());
+    assert_eq!(rt; room, SEVEN_WRAPPED);
+    let answer = unwrap_padded_in_place(&key, &mut room);
+    assert!(rt; answer.is_ok_and(|n| n == 7));
+    assert_eq!(rt; &room[8..15], SEVEN.as_slice());
+    Ok(())
+}
+
+// Each request for memory of both calls is refused in turn; at last none is refused.
+#[test]
+fn each_growth_with_padding_refused_in_turn(rt: HostRuntime) -> Result<(), Fail> {
+    let key = AesKey::from_slice(&PADDED_KEY)?;
+    for passed in 0..6u64 {
+        let memory = RefusingMemory::after(passed, rt.alloc());
+        let answer = wrap_padded(&memory, &key, &TWENTY);
+        let refused = memory.has_refused();
+        assert!(rt; is_due(answer, &TWENTY_WRAPPED, refused), "wrap, {passed}");
+        assert!(rt; refused || 0 < passed, "wrap takes no memory");
+        let memory = RefusingMemory::after(passed, rt.alloc());
+        let answer = unwrap_padded(&memory, &key, &TWENTY_WRAPPED);
+        let refused = memory.has_refused();
+        assert!(rt; is_due(answer, &TWENTY, refused), "unwrap, {passed}");
+        assert!(rt; refused || 0 < passed, "unwrap takes no memory");
+        assert!(rt; !refused || passed < 5, "no end of requests");
+    }
+    Ok(())
+}
+
+// Of the refusals the length comes before memory, and memory before integrity.
+#[test]
+fn padded_refusals_in_order(rt: HostRuntime) -> Result<(), Fail> {
+    let key = AesKey::from_slice(&PADDED_KEY)?;
+    let mut changed = SEVEN_WRAPPED;
+    changed[15] ^= 1;
+    let memory = RefusingMemory::after(0, rt.alloc());
+    let short = wrap_padded(&memory, &key, &[]);
+    assert!(rt; short.is_err_and(|e| e == Fault::WrapLength));
+    let short = unwrap_padded(&memory, &key, &SEVEN_WRAPPED[..8]);
+    assert!(rt; short.is_err_and(|e| e == Fault::WrapLength));
+    assert!(rt; !memory.has_refused());
+    let wrong = unwrap_padded(&memory, &key, &changed);
+    assert!(rt; wrong.is_err_and(|e| e == Fault::OutOfMemory));
     Ok(())
 }
