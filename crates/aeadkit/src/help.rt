@@ -14,7 +14,7 @@ pub const WRAP_KEY: &str = "The AES key: 16, 24 or 32 bytes";
 /// Where help ends.
 pub const ABOUT_HEX: &str =
     "HEX is an even number of hex digits of either case; an empty word stands for no bytes.
-Words after these subcommands: aeadkit help SUBCOMMAND. All of it: docs/COMMAND.md.
+More on each subcommand: aeadkit help SUBCOMMAND. All of it: docs/COMMAND.md.
 
 Never use a nonce twice under one key.";
 
@@ -32,7 +32,7 @@ Status: 0 done; 2 words or a value of no use; 3 standard output failed; 4 want o
 To go on: aeadkit help open, aeadkit help seal-file, docs/COMMAND.md.";
 
 pub const OPEN_MORE: &str =
-    "It prints the text as one line of lower-case hex digits, and nothing where the bytes are no sealing.
+    "It prints the text as one line of lower-case hex digits; nothing where the bytes are no sealing.
 HEX is an even number of hex digits of either case. --aad, left out, is no bytes.
 
 Example:
@@ -57,7 +57,7 @@ Status: 0 done; 2 words or a value of no use; 3 standard output failed; 4 want o
 To go on: aeadkit help unwrap, docs/COMMAND.md.";
 
 pub const UNWRAP_MORE: &str =
-    "It prints the text as one line of lower-case hex digits, and nothing where the bytes are no wrapping.
+    "It prints the text as one line of lower-case hex digits; nothing where the bytes are no wrapping.
 HEX is an even number of hex digits of either case.
 The wrapping has a multiple of 8 bytes, at least 24 (RFC 3394), or with --pad at least 16 (RFC 5649).
 
@@ -71,8 +71,8 @@ Status: 0 done; 1 the bytes are no wrapping; 2 words or a value of no use; 3 sta
 To go on: aeadkit help wrap, docs/COMMAND.md.";
 
 pub const SEAL_FILE_MORE: &str =
-    "It prints nothing. The file OUT holds the ciphertext and then the tag of 16 bytes. It is made, or cut
-to nothing, when its first byte is given. After a status other than 0 it is to be thrown away.
+    "It prints nothing. The file OUT holds the ciphertext and then the tag of 16 bytes. It is made, or
+cut to nothing, when its first byte is given. After a status other than 0 it is to be thrown away.
 IN is read once, for AES-GCM-SIV twice.
 HEX is an even number of hex digits of either case. --aad, left out, is no bytes.
 Never use a nonce twice under one key.
@@ -85,8 +85,8 @@ Status: 0 done; 2 words or a value of no use; 3 a file failed or changed; 4 want
 To go on: aeadkit help open-file, docs/COMMAND.md.";
 
 pub const OPEN_FILE_MORE: &str =
-    "It prints nothing. The file OUT holds the text. It is made, or cut to nothing, when its first byte is
-given, which is after all of IN was found to be a sealing. After status 3 it is to be thrown away.
+    "It prints nothing. The file OUT holds the text. It is made, or cut to nothing, when its first byte
+is given, which is after all of IN was found to be a sealing. After status 3 it is to be thrown away.
 IN is read three times.
 HEX is an even number of hex digits of either case. --aad, left out, is no bytes.
 
