@@ -1,11 +1,15 @@
 use super::*;
-use bumpalo::Bump;
 use octets::{Fault, Nonce, Tag};
-use std::process::Abort;
 use std::test::Fail;
 
+mod cuts;
+mod devices;
+mod growths;
+mod opening;
+mod pieces;
 mod published;
-mod streams;
+mod samples;
+mod sealing;
 
 use published::*;
 
@@ -206,121 +210,5 @@ fn each_bit_of_gcm_changed(rt: HostRuntime) -> Result<(), Fail> {
         );
         assert_eq!(rt; &bytes[..], &changed[..60]);
     }
-    Ok(())
-}
-
-/// Fills an arena up to the room that is left in it, so that any further growth is refused.
-fn leave(rt: &impl Abort, bump: &Bump, room: usize) -> Result<(), Fail> {
-    let filler = [0u8; 2048];
-    bump.set_allocation_limit(Some(0));
-    let used = bump.chunk_capacity().saturating_sub(room);
-    assert!(rt; used <= 2048);
-    let _ = bump.try_alloc_slice_copy(&filler[..used])?;
-    Ok(())
-}
-
-/// Each growth of `seal` and `open` is refused in turn: the room goes from nothing up to enough.
-#[test]
-fn refused_growths(rt: HostRuntime) -> Result<(), Fail> {
-    let cipher = AnyAead::new(Suite::ChaCha20Poly1305, &CHACHA_KEY)?;
-    let nonce = Nonce::from_slice(&CHACHA_NONCE)?;
-    let mut refused = 0u32;
-    let mut done = 0u32;
-    for step in 0..50usize {
-        let bump = Bump::try_with_capacity(rt.alloc(), 512)?;
-        leave(&rt, &bump, 4 * step)?;
-        match seal(&bump, &cipher, &nonce, &CHACHA_AAD, CHACHA_TEXT) {
-            Ok(sealed) => {
-                assert_eq!(rt; sealed.as_slice(), CHACHA_SEALED.as_slice());
-                done = done.saturating_add(1);
-            }
-            Err(fault) => {
-                assert_eq!(rt; fault, Fault::OutOfMemory);
-                refused = refused.saturating_add(1);
-            }
-        }
-    }
-    assert!(rt; 0 < refused && 0 < done, "{refused} refused, {done} done");
-    refused = 0;
-    done = 0;
-    let mut changed = CHACHA_SEALED;
-    changed[129] = 0x90;
-    for step in 0..50usize {
-        let bump = Bump::try_with_capacity(rt.alloc(), 512)?;
-        leave(&rt, &bump, 4 * step)?;
-        match open(&bump, &cipher, &nonce, &CHACHA_AAD, &CHACHA_SEALED) {
-            Ok(text) => {
-                assert_eq!(rt; text.as_slice(), CHACHA_TEXT.as_slice());
-                done = done.saturating_add(1);
-            }
-            Err(fault) => {
-                assert_eq!(rt; fault, Fault::OutOfMemory);
-                refused = refused.saturating_add(1);
-                // the length comes before memory, and memory before the tag
-                let short = open(&bump, &cipher, &nonce, &CHACHA_AAD, &CHACHA_SEALED[..15]);
-                assert!(rt; short.is_err_and(|e| e == Fault::TooShort));
-                let wrong = open(&bump, &cipher, &nonce, &CHACHA_AAD, &changed);
-                assert!(rt; wrong.is_err_and(|e| e == Fault::OutOfMemory));
-            }
-        }
-    }
-    assert!(rt; 0 < refused && 0 < done, "{refused} refused, {done} done");
-    Ok(())
-}
-
-/// A sealing in pieces has the published bytes, and its pieces begin at the cuts.
-#[test]
-fn sealing_in_pieces(rt: HostRuntime) -> Result<(), Fail> {
-    let cipher = AnyAead::new(Suite::ChaCha20Poly1305, &CHACHA_KEY)?;
-    let nonce = Nonce::from_slice(&CHACHA_NONCE)?;
-    for (cuts, lengths) in [
-        ([].as_slice(), [114usize, 16].as_slice()),
-        ([1u64, 64, 65].as_slice(), [1, 63, 1, 49, 16].as_slice()),
-        ([114].as_slice(), [114, 0, 16].as_slice()),
-        ([114, 115, 200].as_slice(), [114, 0, 16].as_slice()),
-    ] {
-        let pieces = seal_cut(rt.alloc(), &cipher, &nonce, &CHACHA_AAD, CHACHA_TEXT, cuts)?;
-        let mut joined = Vec::new(rt.alloc());
-        for piece in pieces.iter() {
-            joined.extend_from_slice(piece)?;
-        }
-        assert_eq!(rt; joined.as_slice(), CHACHA_SEALED.as_slice());
-        assert_eq!(rt; pieces.len(), lengths.len());
-        for (piece, length) in pieces.iter().zip(lengths) {
-            assert_eq!(rt; piece.len(), *length);
-        }
-    }
-    Ok(())
-}
-
-/// Each growth of `seal_cut` is refused in turn.
-#[test]
-fn refused_growths_of_pieces(rt: HostRuntime) -> Result<(), Fail> {
-    let cipher = AnyAead::new(Suite::ChaCha20Poly1305, &CHACHA_KEY)?;
-    let nonce = Nonce::from_slice(&CHACHA_NONCE)?;
-    let mut refused = 0u32;
-    let mut done = 0u32;
-    for step in 0..100usize {
-        let bump = Bump::try_with_capacity(rt.alloc(), 1500)?;
-        leave(&rt, &bump, 10 * step)?;
-        match seal_cut(
-            &bump,
-            &cipher,
-            &nonce,
-            &CHACHA_AAD,
-            CHACHA_TEXT,
-            &[1, 64, 65],
-        ) {
-            Ok(pieces) => {
-                assert_eq!(rt; pieces.len(), 5);
-                done = done.saturating_add(1);
-            }
-            Err(fault) => {
-                assert_eq!(rt; fault, Fault::OutOfMemory);
-                refused = refused.saturating_add(1);
-            }
-        }
-    }
-    assert!(rt; 0 < refused && 0 < done, "{refused} refused, {done} done");
     Ok(())
 }
