@@ -1,9 +1,11 @@
 //! Rows of the program, as runs on words.
 mod checks;
 mod devices;
+mod files;
 mod growths;
 mod helps;
 mod published;
+mod scripted;
 mod seals;
 mod vector_files;
 mod wraps;

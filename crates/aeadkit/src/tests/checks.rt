@@ -1,7 +1,9 @@
 //! `check` on vector files.
 use super::devices::{BrokenFiles, Narrow, NoFiles, OneFile};
 use super::runs_over;
-use super::vector_files::{ODD_NONCE, TWO_BAD_RECORDS, TWO_RECORDS, one_of_eighteen_bad};
+use super::vector_files::{
+    ODD_NONCE, TWO_BAD_RECORDS, TWO_RECORDS, WRONG_CUTS, one_of_eighteen_bad,
+};
 use crate::run::run;
 use crate::storage::Disk;
 use std::test::Fail;
@@ -49,6 +51,7 @@ fn reports(rt: HostRuntime) {
             "",
             "aeadkit: Unfinished at line 2\n",
         ),
+        (WRONG_CUTS, 1, "", "aeadkit: BadCuts at line 7\n"),
     ] {
         let files = OneFile {
             file: file.as_bytes(),

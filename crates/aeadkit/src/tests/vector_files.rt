@@ -68,3 +68,14 @@ pub fn one_of_eighteen_bad(alloc: Global) -> Result<String, AllocError> {
     }
     Ok(file)
 }
+
+/// A record of format 2 whose cut is no place inside its text.
+pub const WRONG_CUTS: &str = "format = 2
+suite = aes-128-gcm-siv
+key = 01000000000000000000000000000000
+nonce = 030000000000000000000000
+aad =
+sealed = b5d839330ac7b786578782fff6013b815b287c22493a364c
+cuts = 9
+text = 0100000000000000
+";

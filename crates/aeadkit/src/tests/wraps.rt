@@ -47,6 +47,59 @@ fn refusals_in_order(rt: HostRuntime) {
     refuses(&rt, &["unwrap", "--key", KEY16, "--sealed", TEXT], 2, name);
 }
 
+const PADDED_KEY: &str = "5840df6e29b02af1ab493b705bf16ea1ae8338f4dcc176a8";
+
+/// RFC 5649, section 6, both ways.
+#[test]
+fn padded_vectors(rt: HostRuntime) {
+    for (text, wrapped) in [
+        (
+            "c37b7e6492584340bed12207808941155068f738",
+            "138bdeaa9b8fa7fc61f97742e72248ee5ae6ae5360d1ae6a5f54f373fa543b6a",
+        ),
+        ("466f7250617369", "afbeb0f07dfbf5419200f2ccb50bb24f"),
+    ] {
+        let words = ["wrap", "--pad", "--key", PADDED_KEY, "--text", text];
+        prints(&rt, &words, wrapped);
+        let words = ["unwrap", "--key", PADDED_KEY, "--sealed", wrapped, "--pad"];
+        prints(&rt, &words, text);
+    }
+}
+
+/// No text of no bytes is padded; a wrapping with padding has 16 bytes at least, in whole blocks. The two forms refuse one
+/// another's wrappings.
+#[test]
+fn padded_refusals(rt: HostRuntime) {
+    let length = "aeadkit: WrapLength\n";
+    let integrity = "aeadkit: WrapIntegrity\n";
+    refuses(
+        &rt,
+        &["wrap", "--pad", "--key", KEY16, "--text", ""],
+        2,
+        length,
+    );
+    for sealed in [
+        "0011223344556677",
+        "00112233445566778899aabbccddeeff00112233",
+    ] {
+        let words = ["unwrap", "--pad", "--key", KEY16, "--sealed", sealed];
+        refuses(&rt, &words, 2, length);
+    }
+    refuses(
+        &rt,
+        &["unwrap", "--pad", "--key", KEY16, "--sealed", WRAPPED],
+        1,
+        integrity,
+    );
+    let padded = "138bdeaa9b8fa7fc61f97742e72248ee5ae6ae5360d1ae6a5f54f373fa543b6a";
+    refuses(
+        &rt,
+        &["unwrap", "--key", PADDED_KEY, "--sealed", padded],
+        1,
+        integrity,
+    );
+}
+
 /// Changed bytes are no wrapping.
 #[test]
 fn changed_wrapping(rt: HostRuntime) {
