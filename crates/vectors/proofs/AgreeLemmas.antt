@@ -6,7 +6,8 @@ use Rattle.vectors.specs.Agreement.{Holds, Agrees, AgreesWith, IsOnly}
 use Rattle.vectors.specs.Reports.{Judges}
 
 -- a text is the one that was found exactly where the record agrees with it
-pub decided : (r : Record) (found text : Option (List ℕ)) → IsOnly (Holds r) found → (found ≡ text) ↔ AgreesWith r text
+pub decided : (r : Record) (found text : Option (List ℕ)) → IsOnly (Holds r) found
+    → (found ≡ text) ↔ AgreesWith r text
 decided r None None h = (λ e. λ text holds. nothing (h.only text holds), λ a. refl) where
   nothing : {u : List ℕ} → None ≡ Some u → ⊥
   nothing e = cc
@@ -17,7 +18,8 @@ decided r (Some v) (Some u) h = (λ e. subst (λ (x : List ℕ). Holds r x) (som
   some_is e = cc
 
 -- a record counted as it was judged
-pub judges : {E : Type 0} (result : Result (Unit {0}) E) (count more : ℕ) (bad worse : List ℕ) (r : Record) (b : Bool) → IsTrue b ↔ Agrees r
+pub judges : {E : Type 0} (result : Result (Unit {0}) E) (count more : ℕ) (bad worse : List ℕ) (r : Record) (b : Bool)
+    → IsTrue b ↔ Agrees r
     → OnOk result (more ≡ count + 1) → OnOk result (worse ≡ (if b then bad else bad ++ (count + 1) ∷ [])) → OnOk result (Judges count bad r more worse)
 judges (Err e) count more bad worse r b h m w = tt
 judges (Ok x) count more bad worse r true h m w = (m, inl (h.0 refl, w))

@@ -16,7 +16,8 @@ abbrev pub is_comma : ℕ → Bool
 is_comma b = eqb b 44
 
 -- what the first place says
-some_place : (bs : List ℕ) (i : ℕ) → Some i ≡ position is_comma bs → (position_or_len is_comma bs < length bs) × (i ≡ position_or_len is_comma bs)
+some_place : (bs : List ℕ) (i : ℕ) → Some i ≡ position is_comma bs
+    → (position_or_len is_comma bs < length bs) × (i ≡ position_or_len is_comma bs)
 some_place bs i e = grind (arith, common_steps)
 
 -- what no place says
@@ -28,7 +29,8 @@ behind : (bs : List ℕ) (k : ℕ) → take (length bs - k) (drop k bs) ≡ drop
 behind bs k = grind (arith, common_steps)
 
 -- the parts of a text with a comma at i
-pub parts_some : (bs : List ℕ) (i : ℕ) → Some i ≡ position is_comma bs → slice_split is_comma bs ≡ take i bs ∷ slice_split is_comma (take (length bs - (i + 1)) (drop (i + 1) bs))
+pub parts_some : (bs : List ℕ) (i : ℕ) → Some i ≡ position is_comma bs
+    → slice_split is_comma bs ≡ take i bs ∷ slice_split is_comma (take (length bs - (i + 1)) (drop (i + 1) bs))
 parts_some bs i e =
     let at = some_place bs i e in
     slice_split_first is_comma bs 0 at.0
@@ -46,7 +48,8 @@ abbrev digit : ℕ → ℕ
 digit b = b - 48
 
 -- one digit more
-pub value_more : (text : List ℕ) (i : ℕ) → i < length text → decimal_value (take (i + 1) text) ≡ decimal_value (take i text) * 10 + (get_or text i 0 - 48)
+pub value_more : (text : List ℕ) (i : ℕ) → i < length text
+    → decimal_value (take (i + 1) text) ≡ decimal_value (take i text) * 10 + (get_or text i 0 - 48)
 unfolding decimal_value
 value_more text i l =
     ap (number_from_digits 10) (sym (take-map digit (i + 1) text))
@@ -75,7 +78,8 @@ behind_test true b n h = rw h refl
 behind_test false b n h = refl
 
 -- a byte that is no digit
-pub none_digit : (text : List ℕ) (i : ℕ) → i < length text → is_digit (get_or text i 0) ≡ false → number_of text ≡ None
+pub none_digit : (text : List ℕ) (i : ℕ) → i < length text → is_digit (get_or text i 0) ≡ false
+    → number_of text ≡ None
 unfolding number_of
 none_digit text i l h =
     behind_test (has_no_leading_zero text) (list_all is_digit text && nat_lt (decimal_value text) (2 ^ 64)) (decimal_value text)
@@ -107,7 +111,8 @@ less : (m n : ℕ) → m < n → nat_lt m n ≡ true
 less m n h = grind arith
 
 -- all digits of a number
-pub some_number : (text : List ℕ) (i n : ℕ) → length text ≤ i → has_no_leading_zero text ≡ true → list_all is_digit (take i text) ≡ true → n ≡ decimal_value (take i text) → n < 2 ^ 64
+pub some_number : (text : List ℕ) (i n : ℕ) → length text ≤ i → has_no_leading_zero text ≡ true
+    → list_all is_digit (take i text) ≡ true → n ≡ decimal_value (take i text) → n < 2 ^ 64
     → Some n ≡ number_of text
 unfolding number_of
 some_number text i n l h d e small =

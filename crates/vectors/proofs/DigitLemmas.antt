@@ -1,12 +1,16 @@
 -- Digits and the bytes that they spell.
-use Rattle.std.proofs.Common.{◌≡◌, ℕ, [], ◌*◌, ◌%◌, ◌==◌, true, List, length, Result, Ok, refl, sym, ap, ◌∙◌, arith}
+use Rattle.std.proofs.Common.{◌≡◌, ℕ, zero, suc, [], ◌∷◌, ◌++◌, ◌+◌, ◌*◌, ◌%◌, ◌≤◌, ◌==◌, true, List, length, take, drop, Option, Some, None, Result, Ok, Err, refl, sym, ap, ap₂, ◌∙◌, arith}
 use Rattle.std.specs.List.{list_all}
 use Rattle.std.specs.Result.{result_unwrap_or}
 use Rattle.std.proofs.lemmas.Bool.{and_parts, eqb-true}
 use Rattle.std.proofs.lemmas.List.Sums.{AllPass-from_list_all, list_all-from_AllPass}
-use Rattle.hex.specs.Hex.{is_hex_digit, IsBytes}
+use Rattle.std.proofs.lemmas.List.{take-append-drop}
+use Rattle.std.proofs.lemmas.List.Folds.{list_all-append}
+use Rattle.std.proofs.lemmas.Grind.{common_steps}
+use Rattle.hex.specs.Hex as hex
+use Rattle.hex.specs.Hex.{is_hex_digit, IsBytes, hex_digit_value, digit_or_error, pair_value, ◌>>=◌, decode_pairs, decode_sized}
 use Rattle.hex.specs.declared.error.FromHexError.{FromHexError}
-use Rattle.hex.proofs.HexLemmas.{decode_of-digits, decode_of-ok}
+use Rattle.hex.proofs.HexLemmas.{decode_of-digits, decode_of-ok, decode_of-even, decode_sized-twice}
 use Rattle.vectors.specs.Grammar.{Spells}
 use Rattle.vectors.specs.Faults.{is_hex, bytes_of}
 
@@ -38,3 +42,126 @@ length-bytes_of digits h = (decode_of-ok digits (bytes_of digits) (spells digits
 -- each below 256
 pub bytes_of-small : (digits : List ℕ) → is_hex digits ≡ true → IsBytes (bytes_of digits)
 bytes_of-small digits h = (decode_of-ok digits (bytes_of digits) (spells digits h)).3
+
+-- ---- the digits of the first bytes
+
+-- what an Ok of two steps of decoding shows
+bind_ok : {A B : Type 0} (r : Result A FromHexError) (f : A → Result B FromHexError) (y : B)
+    → (r >>= f) ≡ Ok y
+    → (x : A) × (r ≡ Ok x) × (f x ≡ Ok y)
+bind_ok (Ok x) f y h = (x, refl, h)
+bind_ok (Err e) f y h = absurd cc
+
+-- the value of a digit, if it is one
+value_of : Option ℕ → ℕ
+value_of None = 0
+value_of (Some v) = v
+
+-- the value of a digit
+digit : ℕ → ℕ
+digit c = value_of (hex_digit_value c)
+
+-- what was read of a digit
+digit_is : (c i : ℕ) (o : Option ℕ) (v : ℕ) → digit_or_error c i o ≡ Ok v → value_of o ≡ v
+unfolding value_of
+digit_is c i None v e = absurd cc
+digit_is c i (Some w) v e = cc
+
+-- the bytes of pairs of digits
+pairs : List ℕ → List ℕ
+pairs [] = []
+pairs (c ∷ []) = []
+pairs (a ∷ b ∷ rest) = (digit a * 16 + digit b) ∷ pairs rest
+
+-- what decodes is the bytes of its pairs
+decoded : (i : ℕ) (s bytes : List ℕ) → decode_pairs i s ≡ Ok bytes → pairs s ≡ bytes
+unfolding decode_pairs pairs digit
+decoded i [] bytes e = cc
+decoded i (c ∷ []) bytes e = absurd cc
+decoded i (a ∷ b ∷ rest) bytes e =
+    let p = bind_ok (pair_value a b i) (λ byte. decode_pairs (i + 2) rest >>= λ bytes. Ok (byte ∷ bytes)) bytes e in
+    let high = bind_ok (hex.value_at a i) (λ h. hex.value_at b (i + 1) >>= λ l. Ok (h * 16 + l)) p.0 p.1 in
+    let low = bind_ok (hex.value_at b (i + 1)) (λ l. Ok (high.0 * 16 + l)) p.0 high.2 in
+    let others = bind_ok (decode_pairs (i + 2) rest) (λ bytes. Ok (p.0 ∷ bytes)) bytes p.2 in
+    let h : digit a ≡ high.0 = digit_is a i (hex_digit_value a) high.0 high.1 in
+    let l : digit b ≡ low.0 = digit_is b (i + 1) (hex_digit_value b) low.0 low.1 in
+    let byte : high.0 * 16 + low.0 ≡ p.0 = cc in
+    let whole : p.0 ∷ others.0 ≡ bytes = cc in
+    ap₂ (λ x y. (x * 16 + y) ∷ pairs rest) h l
+    ∙ ap₂ (λ (x : ℕ) (xs : List ℕ). x ∷ xs) byte (decoded (i + 2) rest others.0 others.1)
+    ∙ whole
+
+-- the bytes of digits are those of their pairs
+bytes_are : (digits : List ℕ) → is_hex digits ≡ true → bytes_of digits ≡ pairs digits
+unfolding is_hex
+bytes_are digits h =
+    let both = and_parts (length digits % 2 == 0) (list_all is_hex_digit digits) h in
+    let even = eqb-true (length digits % 2) 0 both.0 in
+    sym (decoded 0 digits (bytes_of digits) (sym (decode_of-even digits even) ∙ spells digits h))
+
+-- two for each
+twice : ℕ → ℕ
+twice zero = zero
+twice (suc k) = suc (suc (twice k))
+
+-- as a product
+twice_is : (k : ℕ) → twice k ≡ 2 * k
+unfolding twice
+twice_is zero = refl
+twice_is (suc k) = let h = twice_is k in omega (arith, h)
+
+-- the first pairs
+take-pairs : (k : ℕ) (s : List ℕ) → pairs (take (twice k) s) ≡ take k (pairs s)
+unfolding twice pairs
+take-pairs zero s = refl
+take-pairs (suc k) [] = refl
+take-pairs (suc k) (c ∷ []) = refl
+take-pairs (suc k) (a ∷ b ∷ rest) = ap (λ (xs : List ℕ). (digit a * 16 + digit b) ∷ xs) (take-pairs k rest)
+
+-- and the others
+drop-pairs : (k : ℕ) (s : List ℕ) → pairs (drop (twice k) s) ≡ drop k (pairs s)
+unfolding twice pairs
+drop-pairs zero s = refl
+drop-pairs (suc k) [] = refl
+drop-pairs (suc k) (c ∷ []) = refl
+drop-pairs (suc k) (a ∷ b ∷ rest) = drop-pairs k rest
+
+-- digits cut behind an even number are digits
+pub cut_hex : (digits : List ℕ) (k : ℕ) → is_hex digits ≡ true → 2 * k ≤ length digits
+    → (is_hex (take (2 * k) digits) ≡ true) × (is_hex (drop (2 * k) digits) ≡ true)
+unfolding is_hex
+cut_hex digits k h fits =
+    let both = and_parts (length digits % 2 == 0) (list_all is_hex_digit digits) h in
+    let even = eqb-true (length digits % 2) 0 both.0 in
+    let whole : list_all is_hex_digit (take (2 * k) digits ++ drop (2 * k) digits) ≡ true =
+    ap (list_all is_hex_digit) (take-append-drop (2 * k) digits) ∙ both.1 in
+    let parts = and_parts (list_all is_hex_digit (take (2 * k) digits)) (list_all is_hex_digit (drop (2 * k) digits))
+    (sym (list_all-append is_hex_digit (take (2 * k) digits) (drop (2 * k) digits)) ∙ whole) in
+    let front : (length (take (2 * k) digits) % 2 == 0) ≡ true = grind (arith, common_steps) in
+    let back : (length (drop (2 * k) digits) % 2 == 0) ≡ true = grind (arith, common_steps, even) in
+    (rw (front, parts.0) refl, rw (back, parts.1) refl)
+
+-- the digits of the first bytes
+pub front_bytes : (digits : List ℕ) (k : ℕ) → is_hex digits ≡ true → 2 * k ≤ length digits
+    → bytes_of (take (2 * k) digits) ≡ take k (bytes_of digits)
+front_bytes digits k h fits =
+    bytes_are (take (2 * k) digits) (cut_hex digits k h fits).0
+    ∙ ap (λ n. pairs (take n digits)) (sym (twice_is k))
+    ∙ take-pairs k digits
+    ∙ ap (take k) (sym (bytes_are digits h))
+
+-- and of the others
+pub back_bytes : (digits : List ℕ) (k : ℕ) → is_hex digits ≡ true → 2 * k ≤ length digits
+    → bytes_of (drop (2 * k) digits) ≡ drop k (bytes_of digits)
+back_bytes digits k h fits =
+    bytes_are (drop (2 * k) digits) (cut_hex digits k h fits).1
+    ∙ ap (λ n. pairs (drop n digits)) (sym (twice_is k))
+    ∙ drop-pairs k digits
+    ∙ ap (drop k) (sym (bytes_are digits h))
+
+-- digits decode into room for their bytes
+pub decodes_into : (digits : List ℕ) (n : ℕ) → is_hex digits ≡ true → n ≡ length (bytes_of digits)
+    → decode_sized digits n ≡ Ok (bytes_of digits)
+decodes_into digits n h e =
+    let twice = length-bytes_of digits h in
+    decode_sized-twice digits n (omega (arith, twice, e)) ∙ spells digits h

@@ -18,12 +18,14 @@ use Rattle.vectors.specs.Code.Steps as steps
 use Rattle.vectors.specs.Code.Steps.{◌>>=◌, Place, named_value, value_at, hex_at, field_at, ok_or, format_of, format_at, suite_at, text_at, cuts_at, end_at}
 
 -- what an Ok of two steps shows
-pub bind_ok : {A B : Type 0} (r : Result A Cause) (f : A → Result B Cause) (y : B) → (r >>= f) ≡ Ok y → (x : A) × (r ≡ Ok x) × (f x ≡ Ok y)
+pub bind_ok : {A B : Type 0} (r : Result A Cause) (f : A → Result B Cause) (y : B) → (r >>= f) ≡ Ok y
+    → (x : A) × (r ≡ Ok x) × (f x ≡ Ok y)
 bind_ok (Ok x) f y e = (x, refl, e)
 bind_ok (Err d) f y e = absurd cc
 
 -- a test that leads to Ok
-pub guard_ok : {A : Type 0} (b : Bool) (d : Cause) (x y : A) → cond b (Ok x) (Err d) ≡ Ok y → (b ≡ true) × (x ≡ y)
+pub guard_ok : {A : Type 0} (b : Bool) (d : Cause) (x y : A) → cond b (Ok x) (Err d) ≡ Ok y
+    → (b ≡ true) × (x ≡ y)
 guard_ok true d x y e = (refl, cc)
 guard_ok false d x y e = absurd cc
 
@@ -48,7 +50,8 @@ named_ok name v (Some f) e =
 pub no_gap : (line : List ℕ) (f : List ℕ × List ℕ) → value_line line ≡ Some f → is_gap line ≡ false
 unfolding value_line
 no_gap line f h = gap_cases (is_gap line) (field_of line) f h refl where
-  gap_cases : (b : Bool) (g : Option (List ℕ × List ℕ)) (f : List ℕ × List ℕ) → cond b None g ≡ Some f → is_gap line ≡ b → is_gap line ≡ false
+  gap_cases : (b : Bool) (g : Option (List ℕ × List ℕ)) (f : List ℕ × List ℕ) → cond b None g ≡ Some f
+      → is_gap line ≡ b → is_gap line ≡ false
   gap_cases true g f e is = absurd cc
   gap_cases false g f e is = is
 
@@ -88,15 +91,18 @@ field_ok s f line v e =
     }
 
 -- the line of a field is read
-pub field_again : (s : Suite) (f : Field) (line v : List ℕ) → IsFieldLine s f line v → field_at s f line ≡ Ok v
+pub field_again : (s : Suite) (f : Field) (line v : List ℕ) → IsFieldLine s f line v
+    → field_at s f line ≡ Ok v
 unfolding field_at
 field_again s f line v h = rw (hex_again (field_name f) line v h.hex, h.size) refl
 
 -- what a format that was read shows of its line
-format_found : (v : Option (List ℕ × List ℕ)) (F : Format) → format_of v ≡ Ok F → (name : List ℕ) × (v ≡ Some (codes "format", name)) × (format_named name ≡ Some F)
+format_found : (v : Option (List ℕ × List ℕ)) (F : Format) → format_of v ≡ Ok F
+    → (name : List ℕ) × (v ≡ Some (codes "format", name)) × (format_named name ≡ Some F)
 format_found None F e = absurd cc
 format_found (Some f) F e = by_name (bytes_eq f.0 (codes "format")) refl e where
-  by_name : (b : Bool) → bytes_eq f.0 (codes "format") ≡ b → cond b (ok_or BadFormat (format_named f.1)) (Err BadFormat) ≡ Ok F
+  by_name : (b : Bool) → bytes_eq f.0 (codes "format") ≡ b
+      → cond b (ok_or BadFormat (format_named f.1)) (Err BadFormat) ≡ Ok F
       → (name : List ℕ) × (Some f ≡ Some (codes "format", name)) × (format_named name ≡ Some F)
   by_name true is e = (f.1, ap (λ (x : List ℕ). Some (x, f.1)) ((bytes_eq-Decides f.0 (codes "format")).0 is), found_ok BadFormat (format_named f.1) F e)
   by_name false is e = absurd cc
@@ -138,12 +144,14 @@ text_ok F r line x e =
     (b.0, hex_ok (codes "text") line b.0 b.1, ok_is (steps.between F, with_text (Some b.0) r ∷ []) x b.2)
 
 -- a text line is read
-pub text_again : (F : Format) (r : Record) (line v : List ℕ) → IsHexField line (codes "text") v → text_at F r line ≡ Ok (steps.between F, with_text (Some v) r ∷ [])
+pub text_again : (F : Format) (r : Record) (line v : List ℕ) → IsHexField line (codes "text") v
+    → text_at F r line ≡ Ok (steps.between F, with_text (Some v) r ∷ [])
 unfolding text_at
 text_again F r line v h = rw (hex_again (codes "text") line v h) refl
 
 -- a line of cuts that was read
-pub cuts_ok : (F : Format) (r : Record) (line : List ℕ) (x : Next) → cuts_at F r line ≡ Ok x → IsCutsLine r line × (◌≡◌ {A = Next} (steps.text F r, []) x)
+pub cuts_ok : (F : Format) (r : Record) (line : List ℕ) (x : Next) → cuts_at F r line ≡ Ok x
+    → IsCutsLine r line × (◌≡◌ {A = Next} (steps.text F r, []) x)
 unfolding cuts_at
 cuts_ok F r line x e =
     let b = bind_ok (value_at (codes "cuts") line) (λ value. cond (are_cuts (most_cut r) value) (Ok (steps.text F r, [])) (Err BadCuts)) x e in
@@ -151,20 +159,24 @@ cuts_ok F r line x e =
     (record { value = b.0; field = value_ok (codes "cuts") line b.0 b.1; cuts = g.0 }, g.1)
 
 -- a line of cuts is read
-pub cuts_again : (F : Format) (r : Record) (line : List ℕ) → IsCutsLine r line → cuts_at F r line ≡ Ok (steps.text F r, [])
+pub cuts_again : (F : Format) (r : Record) (line : List ℕ) → IsCutsLine r line
+    → cuts_at F r line ≡ Ok (steps.text F r, [])
 unfolding cuts_at
 cuts_again F r line h = rw (value_again (codes "cuts") line h.value h.field, h.cuts) refl
 
 -- what the line behind all fields comes to
 pub data Ended (F : Format) (r : Record) (line : List ℕ) (x : Next) : Type 0 where
-  by_text : (text : Option (List ℕ)) → Ends F r (line ∷ []) text → ◌≡◌ {A = Next} (steps.between F, with_text text r ∷ []) x → Ended F r line x
-  by_cuts : may_cut F r.suite ≡ true → IsCutsLine r line → ◌≡◌ {A = Next} (steps.text F r, []) x → Ended F r line x
+  by_text : (text : Option (List ℕ)) → Ends F r (line ∷ []) text
+      → ◌≡◌ {A = Next} (steps.between F, with_text text r ∷ []) x → Ended F r line x
+  by_cuts : may_cut F r.suite ≡ true → IsCutsLine r line → ◌≡◌ {A = Next} (steps.text F r, []) x
+      → Ended F r line x
 
 -- the line behind all fields, as it was read
 pub end_ok : (F : Format) (r : Record) (line : List ℕ) (x : Next) → end_at F r line ≡ Ok x → Ended F r line x
 unfolding end_at
 end_ok F r line x e = by_word (bytes_eq line (codes "invalid")) refl e where
-  by_name : (b : Bool) → (may_cut F r.suite && is_named (codes "cuts") (value_line line)) ≡ b → cond b (cuts_at F r line) (text_at F r line) ≡ Ok x → Ended F r line x
+  by_name : (b : Bool) → (may_cut F r.suite && is_named (codes "cuts") (value_line line)) ≡ b
+      → cond b (cuts_at F r line) (text_at F r line) ≡ Ok x → Ended F r line x
   by_name true is e =
       let c = cuts_ok F r line x e in
       by_cuts (and_parts (may_cut F r.suite) (is_named (codes "cuts") (value_line line)) is).0 c.0 c.1
@@ -187,7 +199,8 @@ none_some : (x : List ℕ × List ℕ) → None ≡ Some x → ⊥
 none_some x e = cc
 
 -- a value line is not the word `invalid`
-pub differs : (line : List ℕ) (f : List ℕ × List ℕ) (b : Bool) → value_line line ≡ Some f → bytes_eq line (codes "invalid") ≡ b → b ≡ false
+pub differs : (line : List ℕ) (f : List ℕ × List ℕ) (b : Bool) → value_line line ≡ Some f
+    → bytes_eq line (codes "invalid") ≡ b → b ≡ false
 differs line f true h is =
     let same : line ≡ codes "invalid" = (bytes_eq-Decides line (codes "invalid")).0 is in
     absurd (none_some f (sym no_field ∙ ap value_line (sym same) ∙ h))
@@ -203,7 +216,8 @@ and_false true b e = e
 and_false false b e = refl
 
 -- a text line behind all fields is read
-pub end_text : (F : Format) (r : Record) (line v : List ℕ) → IsHexField line (codes "text") v → end_at F r line ≡ Ok (steps.between F, with_text (Some v) r ∷ [])
+pub end_text : (F : Format) (r : Record) (line v : List ℕ) → IsHexField line (codes "text") v
+    → end_at F r line ≡ Ok (steps.between F, with_text (Some v) r ∷ [])
 unfolding end_at
 end_text F r line v h =
     rw (
@@ -213,12 +227,14 @@ end_text F r line v h =
     (text_again F r line v h)
 
 -- the word `invalid` is read
-pub end_invalid : (F : Format) (r : Record) → end_at F r (codes "invalid") ≡ Ok (steps.between F, with_text None r ∷ [])
+pub end_invalid : (F : Format) (r : Record)
+    → end_at F r (codes "invalid") ≡ Ok (steps.between F, with_text None r ∷ [])
 unfolding end_at
 end_invalid F r = refl
 
 -- a line of cuts is read
-pub end_cuts : (F : Format) (r : Record) (line : List ℕ) → may_cut F r.suite ≡ true → IsCutsLine r line → end_at F r line ≡ Ok (steps.text F r, [])
+pub end_cuts : (F : Format) (r : Record) (line : List ℕ) → may_cut F r.suite ≡ true → IsCutsLine r line
+    → end_at F r line ≡ Ok (steps.text F r, [])
 unfolding end_at
 end_cuts F r line m h =
     rw (differs line (codes "cuts", h.value) (bytes_eq line (codes "invalid")) h.field refl, m, ap (is_named (codes "cuts")) h.field)

@@ -24,14 +24,16 @@ pub record Judged (lines rest : List (List ℕ)) (n : ℕ) (p : Place) (records 
   pub room : records ≤ n
 
 -- one more record at the end agrees
-bad_yes : (n : ℕ) (rs : List Record) (r : Record) (bad : List ℕ) → IsBad n rs bad → Agrees r → IsBad n (rs ++ r ∷ []) bad
+bad_yes : (n : ℕ) (rs : List Record) (r : Record) (bad : List ℕ) → IsBad n rs bad → Agrees r
+    → IsBad n (rs ++ r ∷ []) bad
 bad_yes n [] r [] ends a = agrees a ends
 bad_yes n [] r (_ ∷ bad) h a = elim h [ ]
 bad_yes n (s ∷ rs) r bad (agrees h t) a = agrees h (bad_yes (n + 1) rs r bad t a)
 bad_yes n (s ∷ rs) r (_ ∷ bad) (disagrees h t) a = disagrees h (bad_yes (n + 1) rs r bad t a)
 
 -- or doesn't
-bad_no : (n m : ℕ) (rs : List Record) (r : Record) (bad : List ℕ) → m ≡ n + length rs → IsBad n rs bad → ¬ Agrees r → IsBad n (rs ++ r ∷ []) (bad ++ m ∷ [])
+bad_no : (n m : ℕ) (rs : List Record) (r : Record) (bad : List ℕ) → m ≡ n + length rs → IsBad n rs bad
+    → ¬ Agrees r → IsBad n (rs ++ r ∷ []) (bad ++ m ∷ [])
 bad_no n m [] r [] e ends a =
     let number : n ≡ m = omega arith in
     subst (λ (k : ℕ). IsBad n (r ∷ []) (k ∷ [])) number (disagrees a ends)
@@ -40,7 +42,8 @@ bad_no n m (s ∷ rs) r bad e (agrees h t) a = agrees h (bad_no (n + 1) m rs r b
 bad_no n m (s ∷ rs) r (_ ∷ bad) e (disagrees h t) a = disagrees h (bad_no (n + 1) m rs r bad (omega arith) t a)
 
 -- one more record, as it was judged
-judged_more : (records more : ℕ) (rs : List Record) (r : Record) (bad worse : List ℕ) → records ≡ length rs → IsBad 1 rs bad → Judges records bad r more worse → IsBad 1 (rs ++ r ∷ []) worse
+judged_more : (records more : ℕ) (rs : List Record) (r : Record) (bad worse : List ℕ) → records ≡ length rs
+    → IsBad 1 rs bad → Judges records bad r more worse → IsBad 1 (rs ++ r ∷ []) worse
 judged_more records more rs r bad worse c h (m, inl j) = subst (λ (b : List ℕ). IsBad 1 (rs ++ r ∷ []) b) (sym j.1) (bad_yes 1 rs r bad h j.0)
 judged_more records more rs r bad worse c h (m, inr j) = subst (λ (b : List ℕ). IsBad 1 (rs ++ r ∷ []) b) (sym j.1) (bad_no 1 more rs r bad (omega arith) h j.0)
 
@@ -76,7 +79,9 @@ pub at_fault : (lines other : List (List ℕ)) (l : List ℕ) (rest : List (List
 at_fault lines other l rest n p c records bad h e s = fault lines l rest n p h.entries c (shift lines other (l ∷ rest) n p h.entries h.progress e) s
 
 -- the report at the end of a file
-pub at_end : (lines other : List (List ℕ)) (n records : ℕ) (bad : List ℕ) (F : Format) → Judged lines other n (steps.between F) records bad → other ≡ [] → records ≢ 0 → IsReport lines records bad
+pub at_end : (lines other : List (List ℕ)) (n records : ℕ) (bad : List ℕ) (F : Format)
+    → Judged lines other n (steps.between F) records bad → other ≡ [] → records ≢ 0
+    → IsReport lines records bad
 at_end lines other n records bad F h e some = record {
   records = h.entries;
   file = is_file lines n F h.entries (shift lines other [] n (steps.between F) h.entries h.progress e) (λ none. some (h.count ∙ ap length none));
@@ -85,12 +90,15 @@ at_end lines other n records bad F h e some = record {
 }
 
 -- the fault of a file that was cut
-pub at_cut : (lines other : List (List ℕ)) (n : ℕ) (p : Place) (inside : Bool) (records : ℕ) (bad : List ℕ) → Judged lines other n p records bad → other ≡ [] → ((F : Format) → p ≡ steps.between F → records ≡ 0) → is_inside (expected p) ≡ inside → IsCutOff lines inside
+pub at_cut : (lines other : List (List ℕ)) (n : ℕ) (p : Place) (inside : Bool) (records : ℕ) (bad : List ℕ)
+    → Judged lines other n p records bad → other ≡ [] → ((F : Format) → p ≡ steps.between F → records ≡ 0)
+    → is_inside (expected p) ≡ inside → IsCutOff lines inside
 at_cut lines other n p inside records bad h e none is =
     cut_off lines n p h.entries inside (shift lines other [] n p h.entries h.progress e) (λ F b. nil_from_length h.entries (sym h.count ∙ none F b)) is
 
 -- at the end all lines are counted
-pub lines_read : (lines other : List (List ℕ)) (n : ℕ) (p : Place) (records : ℕ) (bad : List ℕ) → Judged lines other n p records bad → other ≡ [] → n ≡ length lines
+pub lines_read : (lines other : List (List ℕ)) (n : ℕ) (p : Place) (records : ℕ) (bad : List ℕ)
+    → Judged lines other n p records bad → other ≡ [] → n ≡ length lines
 lines_read lines other n p records bad h e = sym (count_is lines n p h.entries (shift lines other [] n p h.entries h.progress e))
 
 -- records and one more are some

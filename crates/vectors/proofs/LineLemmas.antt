@@ -9,7 +9,8 @@ use Rattle.std.proofs.lemmas.List.Splits.{slice_split_first, slice_split_none, l
 use Rattle.vectors.specs.Lines.{before_trimmed, trim_end, lines_of}
 
 -- a space at the end is trimmed
-pub trim_last : (xs : List ℕ) (n : ℕ) → length xs ≡ suc n → get_or xs n 0 ≡ 32 → trim_end (take n xs) ≡ trim_end xs
+pub trim_last : (xs : List ℕ) (n : ℕ) → length xs ≡ suc n → get_or xs n 0 ≡ 32
+    → trim_end (take n xs) ≡ trim_end xs
 trim_last [] n e h = absurd cc
 trim_last (b ∷ []) zero e h = let is : b ≡ 32 = h in rw is refl
 trim_last (b ∷ []) (suc n) e h = absurd (omega arith)
@@ -29,12 +30,14 @@ abbrev pub is_lf : ℕ → Bool
 is_lf b = eqb b 10
 
 -- the first of several parts is a line
-parts_cons : (x : List ℕ) (parts : List (List ℕ)) → 0 < length parts → lines_of_parts (x ∷ parts) ≡ strip_carriage_return x ∷ lines_of_parts parts
+parts_cons : (x : List ℕ) (parts : List (List ℕ)) → 0 < length parts
+    → lines_of_parts (x ∷ parts) ≡ strip_carriage_return x ∷ lines_of_parts parts
 parts_cons x [] h = absurd (omega arith)
 parts_cons x (y ∷ more) h = refl
 
 -- where there is a line feed, the lines are the part before it and the lines of what is behind it
-pub lines_at : (bs : List ℕ) → position_or_len is_lf bs < length bs → lines bs ≡ strip_carriage_return (before_first is_lf bs) ∷ lines (after_first is_lf bs)
+pub lines_at : (bs : List ℕ) → position_or_len is_lf bs < length bs
+    → lines bs ≡ strip_carriage_return (before_first is_lf bs) ∷ lines (after_first is_lf bs)
 lines_at bs h =
     ap lines_of_parts (slice_split_first is_lf bs 0 h)
     ∙ parts_cons (before_first is_lf bs) (slice_split is_lf (after_first is_lf bs)) (omega (arith, length-slice_split is_lf (after_first is_lf bs)))
@@ -57,7 +60,8 @@ pub lines_none : (bs : List ℕ) → bs ≢ [] → length bs ≤ position_or_len
 lines_none bs h e = ap lines_of_parts (slice_split_none is_lf bs (none_passes bs e)) ∙ one_part bs h
 
 -- what the first place says
-some_place : (bs : List ℕ) (i : ℕ) → Some i ≡ position is_lf bs → (position_or_len is_lf bs < length bs) × (i ≡ position_or_len is_lf bs)
+some_place : (bs : List ℕ) (i : ℕ) → Some i ≡ position is_lf bs
+    → (position_or_len is_lf bs < length bs) × (i ≡ position_or_len is_lf bs)
 some_place bs i e = grind (arith, common_steps)
 
 -- what no place says
@@ -69,7 +73,8 @@ behind : (bs : List ℕ) (k : ℕ) → take (length bs - k) (drop k bs) ≡ drop
 behind bs k = grind (arith, common_steps)
 
 -- the lines of bytes with a line feed at i
-pub lines_some : (bs : List ℕ) (i : ℕ) → Some i ≡ position is_lf bs → lines bs ≡ strip_carriage_return (take i bs) ∷ lines (take (length bs - (i + 1)) (drop (i + 1) bs))
+pub lines_some : (bs : List ℕ) (i : ℕ) → Some i ≡ position is_lf bs
+    → lines bs ≡ strip_carriage_return (take i bs) ∷ lines (take (length bs - (i + 1)) (drop (i + 1) bs))
 lines_some bs i e =
     let at = some_place bs i e in
     lines_at bs at.0
@@ -83,12 +88,15 @@ no_lines bs = ap (λ (rest : List ℕ). lines rest) (behind bs (length bs) ∙ n
   nothing xs = grind (arith, common_steps)
 
 -- the first line of a file, and the others
-pub first_is : (bs : List ℕ) (i : ℕ) (line : List ℕ) → Some i ≡ position is_lf bs → line ≡ trim_end (strip_carriage_return (take i bs)) → lines_of bs ≡ line ∷ lines_of (take (length bs - (i + 1)) (drop (i + 1) bs))
+pub first_is : (bs : List ℕ) (i : ℕ) (line : List ℕ) → Some i ≡ position is_lf bs
+    → line ≡ trim_end (strip_carriage_return (take i bs))
+    → lines_of bs ≡ line ∷ lines_of (take (length bs - (i + 1)) (drop (i + 1) bs))
 unfolding lines_of
 first_is bs i line e is = ap (map trim_end) (lines_some bs i e) ∙ ap (λ (x : List ℕ). x ∷ map trim_end (lines (take (length bs - (i + 1)) (drop (i + 1) bs)))) (sym is)
 
 -- the only line of a file with no line feed
-pub only_is : (bs line : List ℕ) → bs ≢ [] → None ≡ position is_lf bs → line ≡ trim_end bs → lines_of bs ≡ line ∷ lines_of (take (length bs - length bs) (drop (length bs) bs))
+pub only_is : (bs line : List ℕ) → bs ≢ [] → None ≡ position is_lf bs → line ≡ trim_end bs
+    → lines_of bs ≡ line ∷ lines_of (take (length bs - length bs) (drop (length bs) bs))
 unfolding lines_of
 only_is bs line h e is =
     ap (map trim_end) (lines_none bs h (no_place bs e))

@@ -56,7 +56,8 @@ expects_read _ _ (faults.inside {F = F} {ls = ls} {ms = ms} {rs = rs} {e = e} h 
     }
 
 -- what is expected behind lines that were read is what their place says
-pub only_expected : (ls : List (List ℕ)) (x : Next) (e : Expected) → run steps.start ls ≡ Ok x → Expects ls e → e ≡ expected x.0
+pub only_expected : (ls : List (List ℕ)) (x : Next) (e : Expected) → run steps.start ls ≡ Ok x
+    → Expects ls e → e ≡ expected x.0
 only_expected ls x e h there =
     let r = expects_read ls e there in
     sym r.is ∙ ap (λ (y : Next). expected y.0) (ok_is (r.place, r.records) x (sym r.read ∙ h))

@@ -55,33 +55,39 @@ abbrev AtNext : List (List ℕ) → List Record → Next → Type 0
 AtNext ls rs x = At x.0 ls (rs ++ x.1)
 
 -- at a place behind no further record
-moved : (q : Place) (ls : List (List ℕ)) (rs : List Record) (x : Next) → ◌≡◌ {A = Next} (q, []) x → At q ls rs → AtNext ls rs x
+moved : (q : Place) (ls : List (List ℕ)) (rs : List Record) (x : Next) → ◌≡◌ {A = Next} (q, []) x
+    → At q ls rs → AtNext ls rs x
 moved q ls rs x e h = subst (λ (y : Next). AtNext ls rs y) e (subst (λ (ss : List Record). At q ls ss) (sym (append-nil rs)) h)
 
 -- one blank line or comment more
-all_snoc : (ls : List (List ℕ)) (l : List ℕ) → list_all is_gap ls ≡ true → is_gap l ≡ true → list_all is_gap (ls ++ l ∷ []) ≡ true
+all_snoc : (ls : List (List ℕ)) (l : List ℕ) → list_all is_gap ls ≡ true → is_gap l ≡ true
+    → list_all is_gap (ls ++ l ∷ []) ≡ true
 all_snoc [] l h g = rw g refl
 all_snoc (m ∷ ls) l h g =
     let two = and_parts (is_gap m) (list_all is_gap ls) h in
     rw (two.0, all_snoc ls l two.1 g) refl
 
 -- the line of one field more
-fills_more : (fs : List Field) (r s : Record) (ms : List (List ℕ)) (f : Field) (l v : List ℕ) → Fills fs r ms s → IsFieldLine s.suite f l v
+fills_more : (fs : List Field) (r s : Record) (ms : List (List ℕ)) (f : Field) (l v : List ℕ)
+    → Fills fs r ms s → IsFieldLine s.suite f l v
     → Fills (fs ++ f ∷ []) r (ms ++ l ∷ []) (with_field f v s)
 fills_more _ _ _ _ f l v (grammar.nothing {r = r}) h = grammar.field h grammar.nothing
 fills_more _ _ _ _ f l v (grammar.field {f = g} {fs = fs} {r = r} {s = s} {l = m} {ls = ms} {bytes = w} k t) h =
     grammar.field k (fills_more fs (with_field g w r) s ms f l v t h)
 
 -- where no field is left, all were read
-all_filled : (F : Format) (r : Record) (ls : List (List ℕ)) (rs : List Record) (h : InFields F [] r ls rs) → Fills (fields_of h.suite) (unread h.suite) h.ms r
+all_filled : (F : Format) (r : Record) (ls : List (List ℕ)) (rs : List Record) (h : InFields F [] r ls rs)
+    → Fills (fields_of h.suite) (unread h.suite) h.ms r
 all_filled F r ls rs h = subst (λ (fs : List Field). Fills fs (unread h.suite) h.ms r) (sym (h.order ∙ append-nil h.read)) h.fills
 
 -- a line more behind lines that end in others
-longer : (ls front ms : List (List ℕ)) (a l : List ℕ) → ls ≡ front ++ a ∷ ms → ls ++ l ∷ [] ≡ front ++ a ∷ (ms ++ l ∷ [])
+longer : (ls front ms : List (List ℕ)) (a l : List ℕ) → ls ≡ front ++ a ∷ ms
+    → ls ++ l ∷ [] ≡ front ++ a ∷ (ms ++ l ∷ [])
 longer ls front ms a l e = ap (λ (x : List (List ℕ)). x ++ l ∷ []) e ∙ append_assoc front (a ∷ ms) (l ∷ [])
 
 -- a line at the start
-from_start : (b : Bool) (l : List ℕ) (ls : List (List ℕ)) (rs : List Record) (x : Next) → is_gap l ≡ b → At steps.start ls rs
+from_start : (b : Bool) (l : List ℕ) (ls : List (List ℕ)) (rs : List Record) (x : Next) → is_gap l ≡ b
+    → At steps.start ls rs
     → cond b (Ok (steps.start, [])) (format_at l >>= λ F. Ok (steps.between F, [])) ≡ Ok x → AtNext (ls ++ l ∷ []) rs x
 from_start true l ls rs x g h e = moved steps.start (ls ++ l ∷ []) rs x (ok_is (steps.start, []) x e) (all_snoc ls l h.0 g, h.1)
 from_start false l ls rs x g h e =
@@ -90,7 +96,8 @@ from_start false l ls rs x g h e =
     (subst (λ (ss : List Record). Formatted F.0 (ls ++ l ∷ []) ss) (sym h.1) (grammar.starts ls h.0 (format_ok l F.0 F.1)))
 
 -- a line between records
-from_between : (b : Bool) (F : Format) (l : List ℕ) (ls : List (List ℕ)) (rs : List Record) (x : Next) → is_gap l ≡ b → Formatted F ls rs
+from_between : (b : Bool) (F : Format) (l : List ℕ) (ls : List (List ℕ)) (rs : List Record) (x : Next)
+    → is_gap l ≡ b → Formatted F ls rs
     → cond b (Ok (steps.between F, [])) (suite_at F l >>= λ s. Ok (steps.fields F (fields_of s) (unread s), [])) ≡ Ok x → AtNext (ls ++ l ∷ []) rs x
 from_between true F l ls rs x g h e = moved (steps.between F) (ls ++ l ∷ []) rs x (ok_is (steps.between F, []) x e) (grammar.gap l h g)
 from_between false F l ls rs x g h e =
@@ -109,7 +116,8 @@ from_between false F l ls rs x g h e =
     })
 
 -- the line of a field
-from_fields : (F : Format) (f : Field) (fs : List Field) (r : Record) (l : List ℕ) (ls : List (List ℕ)) (rs : List Record) (x : Next) → InFields F (f ∷ fs) r ls rs
+from_fields : (F : Format) (f : Field) (fs : List Field) (r : Record) (l : List ℕ) (ls : List (List ℕ)) (rs : List Record) (x : Next)
+    → InFields F (f ∷ fs) r ls rs
     → (field_at r.suite f l >>= λ v. Ok (steps.fields F fs (with_field f v r), [])) ≡ Ok x → AtNext (ls ++ l ∷ []) rs x
 from_fields F f fs r l ls rs x h e =
     let v = bind_ok (field_at r.suite f l) (λ v. Ok (steps.fields F fs (with_field f v r), [])) x e in
@@ -135,7 +143,8 @@ added F front ms es ls l s r t rs x h a f e whole same =
     (subst (λ (ks : List (List ℕ)). Formatted F ks (rs ++ with_text t r ∷ [])) (sym whole) (grammar.adds h (grammar.made a f e)))
 
 -- the line behind all fields
-from_end : (F : Format) (r : Record) (l : List ℕ) (ls : List (List ℕ)) (rs : List Record) (x : Next) → InFields F [] r ls rs → Ended F r l x → AtNext (ls ++ l ∷ []) rs x
+from_end : (F : Format) (r : Record) (l : List ℕ) (ls : List (List ℕ)) (rs : List Record) (x : Next)
+    → InFields F [] r ls rs → Ended F r l x → AtNext (ls ++ l ∷ []) rs x
 from_end F r l ls rs x h (by_text t e same) =
     added F h.front h.ms (l ∷ []) (ls ++ l ∷ []) h.l h.suite r t rs x h.formatted h.suite_line (all_filled F r ls rs h) e (longer ls h.front h.ms h.l l h.whole) same
 from_end F r l ls rs x h (by_cuts m k same) =
@@ -154,14 +163,16 @@ from_end F r l ls rs x h (by_cuts m k same) =
     })
 
 -- the line behind cuts
-from_text : (F : Format) (r : Record) (l : List ℕ) (ls : List (List ℕ)) (rs : List Record) (x : Next) → BehindCuts F r ls rs → text_at F r l ≡ Ok x → AtNext (ls ++ l ∷ []) rs x
+from_text : (F : Format) (r : Record) (l : List ℕ) (ls : List (List ℕ)) (rs : List Record) (x : Next)
+    → BehindCuts F r ls rs → text_at F r l ≡ Ok x → AtNext (ls ++ l ∷ []) rs x
 from_text F r l ls rs x h e =
     let t = text_ok F r l x e in
     added F h.front h.ms (h.c ∷ l ∷ []) (ls ++ l ∷ []) h.l h.suite r (Some t.0) rs x h.formatted h.suite_line h.fills (grammar.cuts h.may h.cuts t.1)
     (longer ls h.front (h.ms ++ h.c ∷ []) h.l l h.whole ∙ ap (λ (k : List (List ℕ)). h.front ++ h.l ∷ k) (append_assoc h.ms (h.c ∷ []) (l ∷ []))) t.2
 
 -- a step leads from what the lines are to what they are with one more
-step_at : (p : Place) (l : List ℕ) (ls : List (List ℕ)) (rs : List Record) (x : Next) → At p ls rs → step p l ≡ Ok x → AtNext (ls ++ l ∷ []) rs x
+step_at : (p : Place) (l : List ℕ) (ls : List (List ℕ)) (rs : List Record) (x : Next) → At p ls rs
+    → step p l ≡ Ok x → AtNext (ls ++ l ∷ []) rs x
 unfolding step
 step_at steps.start l ls rs x h e = from_start (is_gap l) l ls rs x refl h e
 step_at (steps.between F) l ls rs x h e = from_between (is_gap l) F l ls rs x refl h e
@@ -170,7 +181,8 @@ step_at (steps.fields F (f ∷ fs) r) l ls rs x h e = from_fields F f fs r l ls 
 step_at (steps.text F r) l ls rs x h e = from_text F r l ls rs x h e
 
 -- and many steps
-run_at : (ms : List (List ℕ)) (p : Place) (ls : List (List ℕ)) (rs : List Record) (x : Next) → At p ls rs → run p ms ≡ Ok x → At x.0 (ls ++ ms) (rs ++ x.1)
+run_at : (ms : List (List ℕ)) (p : Place) (ls : List (List ℕ)) (rs : List Record) (x : Next) → At p ls rs
+    → run p ms ≡ Ok x → At x.0 (ls ++ ms) (rs ++ x.1)
 run_at [] p ls rs x h e =
     subst (λ (y : Next). At y.0 (ls ++ []) (rs ++ y.1)) (run-nil p x e)
     (subst (λ (ks : List (List ℕ)). At p ks (rs ++ [])) (sym (append-nil ls)) (subst (λ (ss : List Record). At p ls ss) (sym (append-nil rs)) h))

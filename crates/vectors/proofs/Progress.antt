@@ -48,23 +48,27 @@ goes_on lines l rest n p q rs made h e =
     }
 
 -- a line at which the step fails
-run-err : (p : Place) (l : List ℕ) (ls : List (List ℕ)) (c : Cause) → step p l ≡ Err c → run p (l ∷ ls) ≡ Err c
+run-err : (p : Place) (l : List ℕ) (ls : List (List ℕ)) (c : Cause) → step p l ≡ Err c
+    → run p (l ∷ ls) ≡ Err c
 unfolding run
 run-err p l ls c e = rw e refl
 
 -- what failed was not read
-no_read : (rs : List Record) (read : Read) (c : Cause) (x : Place × List Record) → read ≡ Err c → behind rs read ≡ Ok x → ⊥
+no_read : (rs : List Record) (read : Read) (c : Cause) (x : Place × List Record) → read ≡ Err c
+    → behind rs read ≡ Ok x → ⊥
 no_read rs (Ok y) c x e h = cc
 no_read rs (Err d) c x e h = cc
 
 -- a line at which the step fails is no line of a viable front
-stuck : (before : List (List ℕ)) (l : List ℕ) (p : Place) (rs : List Record) (c : Cause) → run steps.start before ≡ Ok (p, rs) → step p l ≡ Err c → IsViable (before ++ l ∷ []) → ⊥
+stuck : (before : List (List ℕ)) (l : List ℕ) (p : Place) (rs : List Record) (c : Cause)
+    → run steps.start before ≡ Ok (p, rs) → step p l ≡ Err c → IsViable (before ++ l ∷ []) → ⊥
 stuck before l p rs c h e v =
     let r = viable_reads (before ++ l ∷ []) v in
     no_read rs (run p (l ∷ [])) c r.0 (run-err p l [] c e) (sym (run-append steps.start before (l ∷ []) (p, rs) h) ∙ r.1)
 
 -- each front of lines that were read is viable
-fronts : (ls : List (List ℕ)) (x : Place × List Record) → run steps.start ls ≡ Ok x → (front rest : List (List ℕ)) → ls ≡ front ++ rest → IsViable front
+fronts : (ls : List (List ℕ)) (x : Place × List Record) → run steps.start ls ≡ Ok x
+    → (front rest : List (List ℕ)) → ls ≡ front ++ rest → IsViable front
 fronts ls x h front rest e =
     let f = run-front steps.start front rest x (ap (run steps.start) (sym e) ∙ h) in
     viable front f.0 f.1
@@ -88,15 +92,18 @@ fault lines l rest n p rs c h e =
     }
 
 -- at the end all lines were read
-all_read : (lines : List (List ℕ)) (n : ℕ) (p : Place) (rs : List Record) → Progress lines [] n p rs → run steps.start lines ≡ Ok (p, rs)
+all_read : (lines : List (List ℕ)) (n : ℕ) (p : Place) (rs : List Record) → Progress lines [] n p rs
+    → run steps.start lines ≡ Ok (p, rs)
 all_read lines n p rs h = ap (run steps.start) (h.whole ∙ append-nil h.before) ∙ h.read
 
 -- and counted
-pub count_is : (lines : List (List ℕ)) (n : ℕ) (p : Place) (rs : List Record) → Progress lines [] n p rs → length lines ≡ n
+pub count_is : (lines : List (List ℕ)) (n : ℕ) (p : Place) (rs : List Record) → Progress lines [] n p rs
+    → length lines ≡ n
 count_is lines n p rs h = ap length (h.whole ∙ append-nil h.before) ∙ h.number
 
 -- between records, at least one, the lines are a file
-pub is_file : (lines : List (List ℕ)) (n : ℕ) (F : Format) (rs : List Record) → Progress lines [] n (steps.between F) rs → rs ≢ [] → IsFile lines rs
+pub is_file : (lines : List (List ℕ)) (n : ℕ) (F : Format) (rs : List Record)
+    → Progress lines [] n (steps.between F) rs → rs ≢ [] → IsFile lines rs
 is_file lines n F rs h some = record { format = F; formatted = lines_at lines (steps.between F, rs) (all_read lines n (steps.between F) rs h); some = some }
 
 -- equal readings have equal parts
@@ -113,7 +120,9 @@ one_reading lines rs ss f g =
     (pair_is (steps.between f.format) (steps.between g.format) rs ss (sym read ∙ again)).1
 
 -- elsewhere they are cut off
-pub cut_off : (lines : List (List ℕ)) (n : ℕ) (p : Place) (rs : List Record) (inside : Bool) → Progress lines [] n p rs → ((F : Format) → p ≡ steps.between F → rs ≡ []) → is_inside (expected p) ≡ inside → IsCutOff lines inside
+pub cut_off : (lines : List (List ℕ)) (n : ℕ) (p : Place) (rs : List Record) (inside : Bool)
+    → Progress lines [] n p rs → ((F : Format) → p ≡ steps.between F → rs ≡ [])
+    → is_inside (expected p) ≡ inside → IsCutOff lines inside
 cut_off lines n p rs inside h none is =
     let read = all_read lines n p rs h in
     record {
@@ -126,7 +135,8 @@ cut_off lines n p rs inside h none is =
     }
 
 -- a file has no fault
-pub no_fault : (lines : List (List ℕ)) (n : ℕ) (c : Cause) (rs : List Record) → IsFaultAt lines n c → IsFile lines rs → ⊥
+pub no_fault : (lines : List (List ℕ)) (n : ℕ) (c : Cause) (rs : List Record) → IsFaultAt lines n c
+    → IsFile lines rs → ⊥
 no_fault lines n c rs f file =
     let whole : run steps.start ((f.before ++ f.line ∷ []) ++ f.after) ≡ Ok (steps.between file.format, rs) =
     ap (run steps.start) (append_assoc f.before (f.line ∷ []) f.after ∙ sym f.whole) ∙ complete file.format lines rs file.formatted in
@@ -134,7 +144,8 @@ no_fault lines n c rs f file =
     f.faulty (viable (f.before ++ f.line ∷ []) front.0 front.1)
 
 -- where a record was read, it has ended
-pub ended : (lines rest : List (List ℕ)) (n : ℕ) (p : Place) (rs : List Record) → Progress lines rest n p rs → rs ≢ [] → HasEnded lines
+pub ended : (lines rest : List (List ℕ)) (n : ℕ) (p : Place) (rs : List Record) → Progress lines rest n p rs
+    → rs ≢ [] → HasEnded lines
 ended lines rest n p rs h some =
     let front = file_at p h.before rs (lines_at h.before (p, rs) h.read) some in
     record {
@@ -146,11 +157,13 @@ ended lines rest n p rs h some =
     }
 
 -- the same lines are left
-pub shift : (lines rest other : List (List ℕ)) (n : ℕ) (p : Place) (rs : List Record) → Progress lines rest n p rs → rest ≡ other → Progress lines other n p rs
+pub shift : (lines rest other : List (List ℕ)) (n : ℕ) (p : Place) (rs : List Record)
+    → Progress lines rest n p rs → rest ≡ other → Progress lines other n p rs
 shift lines rest other n p rs h e = subst (λ (x : List (List ℕ)). Progress lines x n p rs) e h
 
 -- the same records were read
-pub same : (lines rest : List (List ℕ)) (n : ℕ) (p : Place) (rs ss : List Record) → Progress lines rest n p rs → rs ≡ ss → Progress lines rest n p ss
+pub same : (lines rest : List (List ℕ)) (n : ℕ) (p : Place) (rs ss : List Record)
+    → Progress lines rest n p rs → rs ≡ ss → Progress lines rest n p ss
 same lines rest n p rs ss h e = subst (λ (x : List Record). Progress lines rest n p x) e h
 
 -- behind all fields is inside a record
@@ -159,12 +172,14 @@ inside_end true most = refl
 inside_end false most = refl
 
 -- and so is each field
-inside_fields : (F : Format) (left : List Field) (r : Record) → is_inside (expected (steps.fields F left r)) ≡ true
+inside_fields : (F : Format) (left : List Field) (r : Record)
+    → is_inside (expected (steps.fields F left r)) ≡ true
 inside_fields F [] r = inside_end (may_cut F r.suite) (most_cut r)
 inside_fields F (f ∷ fs) r = refl
 
 -- a place that is neither of the first two is inside a record
-pub inside_is : (p : program.Place) → p ≢ Start → ((F : Format) → p ≢ Between F) → is_inside (expected (view p)) ≡ true
+pub inside_is : (p : program.Place) → p ≢ Start → ((F : Format) → p ≢ Between F)
+    → is_inside (expected (view p)) ≡ true
 inside_is Start f b = absurd (f refl)
 inside_is (Between F) f b = absurd (b F refl)
 inside_is (Fields F left e) f b = inside_fields F left.now _
@@ -183,7 +198,8 @@ not_start p F f b = apart (sym f ∙ b) where
   apart h = cc
 
 -- a file has no first fault, so it is reported or memory was refused
-pub reported : {R : Type 0} (lines : List (List ℕ)) (records : List Record) (r : Result R VectorFault) → IsFile lines records → IfErr r (IsFaultOf lines) → IsReported r
+pub reported : {R : Type 0} (lines : List (List ℕ)) (records : List Record) (r : Result R VectorFault)
+    → IsFile lines records → IfErr r (IsFaultOf lines) → IsReported r
 reported lines records (Ok report) file h = tt
 reported lines records (Err (BadFormat n)) file h = absurd (no_fault lines n cause.BadFormat records h file)
 reported lines records (Err (BadLine n)) file h = absurd (no_fault lines n cause.BadLine records h file)

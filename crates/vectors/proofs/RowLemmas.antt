@@ -17,7 +17,8 @@ use Rattle.vectors.proofs.FieldLemmas.{Next}
 use Rattle.vectors.proofs.Places.{expected}
 
 -- a fault before a step that has none
-bind_err : {A B : Type 0} (r : Result A Cause) (f : A → B) (c : Cause) → (r >>= λ x. Ok (f x)) ≡ Err c → r ≡ Err c
+bind_err : {A B : Type 0} (r : Result A Cause) (f : A → B) (c : Cause) → (r >>= λ x. Ok (f x)) ≡ Err c
+    → r ≡ Err c
 bind_err (Ok x) f c e = absurd cc
 bind_err (Err d) f c e = cc
 
@@ -26,17 +27,21 @@ abbrev bytes_at : List ℕ → Result (List ℕ) Cause
 bytes_at digits = cond (is_hex digits) (Ok (bytes_of digits)) (Err BadHex)
 
 -- the row of the digits
-hex_row : (b : Bool) (bytes : List ℕ) (c : Cause) → cond b (Ok bytes) (Err BadHex) ≡ Err c → first_fitting ((not b, BadHex) ∷ []) ≡ Some c
+hex_row : (b : Bool) (bytes : List ℕ) (c : Cause) → cond b (Ok bytes) (Err BadHex) ≡ Err c
+    → first_fitting ((not b, BadHex) ∷ []) ≡ Some c
 hex_row true bytes c e = absurd cc
 hex_row false bytes c e = cc
 
 -- the rows of the name and the digits
-name_row : (b : Bool) (digits : List ℕ) (c : Cause) → (cond b (Ok digits) (Err WrongName) >>= bytes_at) ≡ Err c → first_fitting ((not b, WrongName) ∷ (not (is_hex digits), BadHex) ∷ []) ≡ Some c
+name_row : (b : Bool) (digits : List ℕ) (c : Cause)
+    → (cond b (Ok digits) (Err WrongName) >>= bytes_at) ≡ Err c
+    → first_fitting ((not b, WrongName) ∷ (not (is_hex digits), BadHex) ∷ []) ≡ Some c
 name_row true digits c e = hex_row (is_hex digits) (bytes_of digits) c e
 name_row false digits c e = cc
 
 -- all rows of a hexadecimal value
-hex_rows : (name : List ℕ) (f : Option (List ℕ × List ℕ)) (c : Cause) → (named_value name f >>= bytes_at) ≡ Err c → first_fitting (value_rows name f) ≡ Some c
+hex_rows : (name : List ℕ) (f : Option (List ℕ × List ℕ)) (c : Cause)
+    → (named_value name f >>= bytes_at) ≡ Err c → first_fitting (value_rows name f) ≡ Some c
 hex_rows name None c e = cc
 hex_rows name (Some f) c e = name_row (bytes_eq f.0 name) f.1 c e
 
@@ -45,40 +50,48 @@ abbrev sized : Option ℕ → List ℕ → Result (List ℕ) Cause
 sized n bytes = cond (has_length n bytes) (Ok bytes) (Err BadLength)
 
 -- the row of the length
-size_row : (b : Bool) (bytes : List ℕ) (c : Cause) → cond b (Ok bytes) (Err BadLength) ≡ Err c → first_fitting ((not b, BadLength) ∷ []) ≡ Some c
+size_row : (b : Bool) (bytes : List ℕ) (c : Cause) → cond b (Ok bytes) (Err BadLength) ≡ Err c
+    → first_fitting ((not b, BadLength) ∷ []) ≡ Some c
 size_row true bytes c e = absurd cc
 size_row false bytes c e = cc
 
 -- the rows of the digits and the length
-sized_hex_row : (n : Option ℕ) (b : Bool) (bytes : List ℕ) (c : Cause) → (cond b (Ok bytes) (Err BadHex) >>= sized n) ≡ Err c → first_fitting ((not b, BadHex) ∷ (not (has_length n bytes), BadLength) ∷ []) ≡ Some c
+sized_hex_row : (n : Option ℕ) (b : Bool) (bytes : List ℕ) (c : Cause)
+    → (cond b (Ok bytes) (Err BadHex) >>= sized n) ≡ Err c
+    → first_fitting ((not b, BadHex) ∷ (not (has_length n bytes), BadLength) ∷ []) ≡ Some c
 sized_hex_row n true bytes c e = size_row (has_length n bytes) bytes c e
 sized_hex_row n false bytes c e = cc
 
 -- the rows of the name, the digits and the length
-sized_name_row : (n : Option ℕ) (b : Bool) (digits : List ℕ) (c : Cause) → ((cond b (Ok digits) (Err WrongName) >>= bytes_at) >>= sized n) ≡ Err c
+sized_name_row : (n : Option ℕ) (b : Bool) (digits : List ℕ) (c : Cause)
+    → ((cond b (Ok digits) (Err WrongName) >>= bytes_at) >>= sized n) ≡ Err c
     → first_fitting ((not b, WrongName) ∷ (not (is_hex digits), BadHex) ∷ (not (has_length n (bytes_of digits)), BadLength) ∷ []) ≡ Some c
 sized_name_row n true digits c e = sized_hex_row n (is_hex digits) (bytes_of digits) c e
 sized_name_row n false digits c e = cc
 
 -- all rows of a field
-field_rows : (name : List ℕ) (n : Option ℕ) (f : Option (List ℕ × List ℕ)) (c : Cause) → ((named_value name f >>= bytes_at) >>= sized n) ≡ Err c
+field_rows : (name : List ℕ) (n : Option ℕ) (f : Option (List ℕ × List ℕ)) (c : Cause)
+    → ((named_value name f >>= bytes_at) >>= sized n) ≡ Err c
     → first_fitting ((is_none f, BadLine) ∷ (is_misnamed name f, WrongName) ∷ (value_fails is_hex f, BadHex) ∷ (value_fails (λ digits. has_length n (bytes_of digits)) f, BadLength) ∷ []) ≡ Some c
 field_rows name n None c e = cc
 field_rows name n (Some f) c e = sized_name_row n (bytes_eq f.0 name) f.1 c e
 
 -- the rows of a suite line
-known_row : (s : Option Suite) (c : Cause) → ok_or UnknownSuite s ≡ Err c → first_fitting ((not (is_some s), UnknownSuite) ∷ []) ≡ Some c
+known_row : (s : Option Suite) (c : Cause) → ok_or UnknownSuite s ≡ Err c
+    → first_fitting ((not (is_some s), UnknownSuite) ∷ []) ≡ Some c
 known_row None c e = cc
 known_row (Some s) c e = absurd cc
 
 -- the rows of the name and the suite
-suite_row : (F : Format) (b : Bool) (name : List ℕ) (c : Cause) → (cond b (Ok name) (Err WrongName) >>= λ x. ok_or UnknownSuite (suite_named F x)) ≡ Err c
+suite_row : (F : Format) (b : Bool) (name : List ℕ) (c : Cause)
+    → (cond b (Ok name) (Err WrongName) >>= λ x. ok_or UnknownSuite (suite_named F x)) ≡ Err c
     → first_fitting ((not b, WrongName) ∷ (not (is_some (suite_named F name)), UnknownSuite) ∷ []) ≡ Some c
 suite_row F true name c e = known_row (suite_named F name) c e
 suite_row F false name c e = cc
 
 -- all rows of a suite line
-suite_rows : (F : Format) (f : Option (List ℕ × List ℕ)) (c : Cause) → (named_value (codes "suite") f >>= λ x. ok_or UnknownSuite (suite_named F x)) ≡ Err c
+suite_rows : (F : Format) (f : Option (List ℕ × List ℕ)) (c : Cause)
+    → (named_value (codes "suite") f >>= λ x. ok_or UnknownSuite (suite_named F x)) ≡ Err c
     → first_fitting ((is_none f, BadLine) ∷ (is_misnamed (codes "suite") f, WrongName) ∷ (value_fails (λ name. is_some (suite_named F name)) f, UnknownSuite) ∷ []) ≡ Some c
 suite_rows F None c e = cc
 suite_rows F (Some f) c e = suite_row F (bytes_eq f.0 (codes "suite")) f.1 c e
@@ -92,13 +105,15 @@ between_rows F false f c e =
     suite_rows F f c (bind_err (named_value (codes "suite") f >>= λ x. ok_or UnknownSuite (suite_named F x)) (λ s. (steps.fields F (fields_of s) (unread s), [])) c e)
 
 -- the row of the format's name
-format_row : (b : Bool) (n : Option Format) (c : Cause) → cond b (ok_or BadFormat n) (Err BadFormat) ≡ Err c → first_fitting ((not (b && is_some n), BadFormat) ∷ []) ≡ Some c
+format_row : (b : Bool) (n : Option Format) (c : Cause) → cond b (ok_or BadFormat n) (Err BadFormat) ≡ Err c
+    → first_fitting ((not (b && is_some n), BadFormat) ∷ []) ≡ Some c
 format_row true None c e = cc
 format_row true (Some F) c e = absurd cc
 format_row false n c e = cc
 
 -- the row of the format line
-format_rows : (gap : Bool) (f : Option (List ℕ × List ℕ)) (c : Cause) → cond {A = Result Next Cause} gap (Ok (steps.start, [])) (format_of f >>= λ F. Ok (steps.between F, [])) ≡ Err c
+format_rows : (gap : Bool) (f : Option (List ℕ × List ℕ)) (c : Cause)
+    → cond {A = Result Next Cause} gap (Ok (steps.start, [])) (format_of f >>= λ F. Ok (steps.between F, [])) ≡ Err c
     → first_fitting ((not (gap || is_format f), BadFormat) ∷ []) ≡ Some c
 format_rows true f c e = absurd cc
 format_rows false None c e = cc
@@ -119,13 +134,15 @@ abbrev cuts_next : Format → Record → Option (List ℕ × List ℕ) → Resul
 cuts_next F r f = named_value (codes "cuts") f >>= λ value. cond (are_cuts (most_cut r) value) (Ok (steps.text F r, [])) (Err BadCuts)
 
 -- the rows where no cuts may stand
-end_rows : (F : Format) (r : Record) (invalid : Bool) (f : Option (List ℕ × List ℕ)) (c : Cause) → cond invalid (Ok (steps.between F, with_text None r ∷ [])) (text_next F r f) ≡ Err c
+end_rows : (F : Format) (r : Record) (invalid : Bool) (f : Option (List ℕ × List ℕ)) (c : Cause)
+    → cond invalid (Ok (steps.between F, with_text None r ∷ [])) (text_next F r f) ≡ Err c
     → first_fitting ((not invalid && is_none f, BadLine) ∷ (is_misnamed (codes "text") f, WrongName) ∷ (value_fails is_hex f, BadHex) ∷ []) ≡ Some c
 end_rows F r true f c e = absurd cc
 end_rows F r false f c e = hex_rows (codes "text") f c (bind_err (named_value (codes "text") f >>= bytes_at) (λ bytes. (steps.between F, with_text (Some bytes) r ∷ [])) c e)
 
 -- a line of cuts is no text line
-no_text : (name : List ℕ) (t : Bool) → bytes_eq name (codes "cuts") ≡ true → bytes_eq name (codes "text") ≡ t → t ≡ false
+no_text : (name : List ℕ) (t : Bool) → bytes_eq name (codes "cuts") ≡ true
+    → bytes_eq name (codes "text") ≡ t → t ≡ false
 no_text name t k e = sym e ∙ ap (λ (x : List ℕ). bytes_eq x (codes "text")) ((bytes_eq-Decides name (codes "cuts")).0 k)
 
 -- the rows of the names, the digits and the cuts
@@ -134,26 +151,32 @@ names_rows t k hex cuts c =
     first_fitting ((not t && not k, WrongName) ∷ (t && not hex, BadHex) ∷ (k && not cuts, BadCuts) ∷ []) ≡ Some c
 
 -- where the name is `cuts`
-cuts_row : (F : Format) (r : Record) (t hex cuts : Bool) (c : Cause) → t ≡ false → cond {A = Result Next Cause} cuts (Ok (steps.text F r, [])) (Err BadCuts) ≡ Err c → names_rows t true hex cuts c
+cuts_row : (F : Format) (r : Record) (t hex cuts : Bool) (c : Cause) → t ≡ false
+    → cond {A = Result Next Cause} cuts (Ok (steps.text F r, [])) (Err BadCuts) ≡ Err c
+    → names_rows t true hex cuts c
 unfolding names_rows
 cuts_row F r true hex cuts c is e = absurd cc
 cuts_row F r false hex true c is e = absurd cc
 cuts_row F r false hex false c is e = cc
 
 -- where it is `text`, the row of the digits
-digits_row : (F : Format) (r : Record) (hex cuts : Bool) (bytes : List ℕ) (c : Cause) → text_behind F r (cond hex (Ok bytes) (Err BadHex)) ≡ Err c → names_rows true false hex cuts c
+digits_row : (F : Format) (r : Record) (hex cuts : Bool) (bytes : List ℕ) (c : Cause)
+    → text_behind F r (cond hex (Ok bytes) (Err BadHex)) ≡ Err c → names_rows true false hex cuts c
 unfolding names_rows
 digits_row F r true cuts bytes c e = absurd cc
 digits_row F r false cuts bytes c e = cc
 
 -- where it is not `cuts`
-text_row : (F : Format) (r : Record) (t cuts : Bool) (digits : List ℕ) (c : Cause) → text_behind F r (cond t (Ok digits) (Err WrongName) >>= bytes_at) ≡ Err c → names_rows t false (is_hex digits) cuts c
+text_row : (F : Format) (r : Record) (t cuts : Bool) (digits : List ℕ) (c : Cause)
+    → text_behind F r (cond t (Ok digits) (Err WrongName) >>= bytes_at) ≡ Err c
+    → names_rows t false (is_hex digits) cuts c
 unfolding names_rows
 text_row F r true cuts digits c e = digits_row F r (is_hex digits) cuts (bytes_of digits) c e
 text_row F r false cuts digits c e = cc
 
 -- by the name
-by_name : (F : Format) (r : Record) (f : List ℕ × List ℕ) (k : Bool) (c : Cause) → bytes_eq f.0 (codes "cuts") ≡ k → cond k (cuts_next F r (Some f)) (text_next F r (Some f)) ≡ Err c
+by_name : (F : Format) (r : Record) (f : List ℕ × List ℕ) (k : Bool) (c : Cause)
+    → bytes_eq f.0 (codes "cuts") ≡ k → cond k (cuts_next F r (Some f)) (text_next F r (Some f)) ≡ Err c
     → names_rows (bytes_eq f.0 (codes "text")) k (is_hex f.1) (are_cuts (most_cut r) f.1) c
 by_name F r f true c is e =
     cuts_row F r (bytes_eq f.0 (codes "text")) (is_hex f.1) (are_cuts (most_cut r) f.1) c (no_text f.0 (bytes_eq f.0 (codes "text")) is refl)
@@ -183,7 +206,8 @@ behind_rows F r line c true e = cuts_rows F r (bytes_eq line (codes "invalid")) 
 behind_rows F r line c false e = end_rows F r (bytes_eq line (codes "invalid")) (value_line line) c e
 
 -- where a step fails, the fault is the first row that fits what is expected
-pub wrong : (p : Place) (line : List ℕ) (c : Cause) → step p line ≡ Err c → first_fitting (rows (expected p) line) ≡ Some c
+pub wrong : (p : Place) (line : List ℕ) (c : Cause) → step p line ≡ Err c
+    → first_fitting (rows (expected p) line) ≡ Some c
 unfolding step field_at hex_at value_at format_at suite_at end_at text_at cuts_at
 wrong steps.start line c e = format_rows (is_gap line) (value_line line) c e
 wrong (steps.between F) line c e = between_rows F (is_gap line) (value_line line) c e

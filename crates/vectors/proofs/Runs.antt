@@ -24,7 +24,8 @@ abbrev pub behind : List Record → Read → Read
 behind front read = read >>= λ x. Ok (x.0, front ++ x.1)
 
 -- what was read, behind some records
-pub behind-Ok : (front : List Record) (read : Read) (x : Next) → read ≡ Ok x → behind front read ≡ Ok (x.0, front ++ x.1)
+pub behind-Ok : (front : List Record) (read : Read) (x : Next) → read ≡ Ok x
+    → behind front read ≡ Ok (x.0, front ++ x.1)
 behind-Ok front read x e = rw e refl
 
 -- behind records and records
@@ -48,7 +49,8 @@ unfolding run
 run-nil p x e = ok_is (p, []) x e
 
 -- one more line
-pub run-cons : (p : Place) (l : List ℕ) (ls : List (List ℕ)) (x : Next) → step p l ≡ Ok x → run p (l ∷ ls) ≡ behind x.1 (run x.0 ls)
+pub run-cons : (p : Place) (l : List ℕ) (ls : List (List ℕ)) (x : Next) → step p l ≡ Ok x
+    → run p (l ∷ ls) ≡ behind x.1 (run x.0 ls)
 unfolding run
 run-cons p l ls x e = rw e refl
 
@@ -62,7 +64,8 @@ run-parts p l ls x e =
     (a.0, a.1, (b.0, b.1, ok_is (b.0.0, a.0.1 ++ b.0.1) x b.2))
 
 -- lines, and then others
-pub run-append : (p : Place) (ls ms : List (List ℕ)) (x : Next) → run p ls ≡ Ok x → run p (ls ++ ms) ≡ behind x.1 (run x.0 ms)
+pub run-append : (p : Place) (ls ms : List (List ℕ)) (x : Next) → run p ls ≡ Ok x
+    → run p (ls ++ ms) ≡ behind x.1 (run x.0 ms)
 run-append p [] ms x e = subst (λ (y : Next). run p ms ≡ behind y.1 (run y.0 ms)) (run-nil p x e) (sym (behind-nil (run p ms)))
 run-append p (l ∷ ls) ms x e =
     let r = run-parts p l ls x e in
@@ -72,7 +75,8 @@ run-append p (l ∷ ls) ms x e =
     subst (λ (y : Next). run p (l ∷ (ls ++ ms)) ≡ behind y.1 (run y.0 ms)) r.2.2 whole
 
 -- the front of lines that can be read can be read
-pub run-front : (p : Place) (ls ms : List (List ℕ)) (y : Next) → run p (ls ++ ms) ≡ Ok y → (x : Next) × (run p ls ≡ Ok x)
+pub run-front : (p : Place) (ls ms : List (List ℕ)) (y : Next) → run p (ls ++ ms) ≡ Ok y
+    → (x : Next) × (run p ls ≡ Ok x)
 unfolding run
 run-front p [] ms y e = ((p, []), refl)
 run-front p (l ∷ ls) ms y e =
@@ -81,7 +85,8 @@ run-front p (l ∷ ls) ms y e =
     ((f.0.0, r.0.1 ++ f.0.1), run-cons p l ls r.0 r.1 ∙ behind-Ok r.0.1 (run r.0.0 ls) f.0 f.1)
 
 -- lines that were read, and then others
-pub both : (p q : Place) (ls ms : List (List ℕ)) (x : Place) (rs ss : List Record) → run p ls ≡ Ok (q, rs) → run q ms ≡ Ok (x, ss) → run p (ls ++ ms) ≡ Ok (x, rs ++ ss)
+pub both : (p q : Place) (ls ms : List (List ℕ)) (x : Place) (rs ss : List Record) → run p ls ≡ Ok (q, rs)
+    → run q ms ≡ Ok (x, ss) → run p (ls ++ ms) ≡ Ok (x, rs ++ ss)
 both p q ls ms x rs ss e f = run-append p ls ms (q, rs) e ∙ behind-Ok rs (run q ms) (x, ss) f
 
 -- one line alone
@@ -89,7 +94,8 @@ pub one : (p q : Place) (l : List ℕ) (rs : List Record) → step p l ≡ Ok (q
 one p q l rs e = run-cons p l [] (q, rs) e ∙ behind-Ok rs (run q []) (q, []) (run-empty q) ∙ ap (λ (ss : List Record). Ok (q, ss)) (append-nil rs)
 
 -- a line that ends no record, and then others
-pub first : (p q : Place) (l : List ℕ) (ls : List (List ℕ)) (x : Place) (rs : List Record) → step p l ≡ Ok (q, []) → run q ls ≡ Ok (x, rs) → run p (l ∷ ls) ≡ Ok (x, rs)
+pub first : (p q : Place) (l : List ℕ) (ls : List (List ℕ)) (x : Place) (rs : List Record)
+    → step p l ≡ Ok (q, []) → run q ls ≡ Ok (x, rs) → run p (l ∷ ls) ≡ Ok (x, rs)
 first p q l ls x rs e f = run-cons p l ls (q, []) e ∙ behind-Ok [] (run q ls) (x, rs) f
 
 -- ---- what the grammar takes is read
@@ -105,29 +111,35 @@ unfolding step
 format-line F l h = rw (no_gap l (codes "format", h.name) h.field, format_again l F h) refl
 
 -- a blank line or a comment between records
-gap-between : (F : Format) (l : List ℕ) → is_gap l ≡ true → step (steps.between F) l ≡ Ok (steps.between F, [])
+gap-between : (F : Format) (l : List ℕ) → is_gap l ≡ true
+    → step (steps.between F) l ≡ Ok (steps.between F, [])
 unfolding step
 gap-between F l h = rw h refl
 
 -- a suite line
-pub suite-line : (F : Format) (l : List ℕ) (s : Suite) → IsSuiteLine F l s → step (steps.between F) l ≡ Ok (steps.fields F (fields_of s) (unread s), [])
+pub suite-line : (F : Format) (l : List ℕ) (s : Suite) → IsSuiteLine F l s
+    → step (steps.between F) l ≡ Ok (steps.fields F (fields_of s) (unread s), [])
 unfolding step
 suite-line F l s h = rw (no_gap l (codes "suite", h.name) h.field, suite_again F l s h) refl
 
 -- the line of a field
-pub field-line : (F : Format) (f : Field) (fs : List Field) (r : Record) (l v : List ℕ) → IsFieldLine r.suite f l v → step (steps.fields F (f ∷ fs) r) l ≡ Ok (steps.fields F fs (with_field f v r), [])
+pub field-line : (F : Format) (f : Field) (fs : List Field) (r : Record) (l v : List ℕ)
+    → IsFieldLine r.suite f l v
+    → step (steps.fields F (f ∷ fs) r) l ≡ Ok (steps.fields F fs (with_field f v r), [])
 unfolding step
 field-line F f fs r l v h = rw (field_again r.suite f l v h) refl
 
 -- the lines of some fields
-pub fills_read : (F : Format) (fs left : List Field) (r s : Record) (ms : List (List ℕ)) → Fills fs r ms s → run (steps.fields F (fs ++ left) r) ms ≡ Ok (steps.fields F left s, [])
+pub fills_read : (F : Format) (fs left : List Field) (r s : Record) (ms : List (List ℕ)) → Fills fs r ms s
+    → run (steps.fields F (fs ++ left) r) ms ≡ Ok (steps.fields F left s, [])
 fills_read F _ left _ _ _ (grammar.nothing {r = r}) = run-empty (steps.fields F left r)
 fills_read F _ left _ _ _ (grammar.field {f = f} {fs = fs} {r = r} {s = s} {l = l} {ls = ls} {bytes = v} h t) =
     first (steps.fields F (f ∷ (fs ++ left)) r) (steps.fields F (fs ++ left) (with_field f v r)) l ls (steps.fields F left s) [] (field-line F f (fs ++ left) r l v h)
     (fills_read F fs left (with_field f v r) s ls t)
 
 -- the lines of all fields
-pub all_read : (F : Format) (fs : List Field) (r s : Record) (ms : List (List ℕ)) → Fills fs r ms s → run (steps.fields F fs r) ms ≡ Ok (steps.fields F [] s, [])
+pub all_read : (F : Format) (fs : List Field) (r s : Record) (ms : List (List ℕ)) → Fills fs r ms s
+    → run (steps.fields F fs r) ms ≡ Ok (steps.fields F [] s, [])
 all_read F fs r s ms h = ap (λ (gs : List Field). run (steps.fields F gs r) ms) (sym (append-nil fs)) ∙ fills_read F fs [] r s ms h
 
 -- a line behind all fields
@@ -141,11 +153,13 @@ unfolding step
 text-line F r l = refl
 
 -- a line of cuts
-pub cuts-line : (F : Format) (r : Record) (l : List ℕ) → may_cut F r.suite ≡ true → IsCutsLine r l → step (steps.fields F [] r) l ≡ Ok (steps.text F r, [])
+pub cuts-line : (F : Format) (r : Record) (l : List ℕ) → may_cut F r.suite ≡ true → IsCutsLine r l
+    → step (steps.fields F [] r) l ≡ Ok (steps.text F r, [])
 cuts-line F r l m h = end-line F r l ∙ end_cuts F r l m h
 
 -- the last lines of a record
-ends_read : (F : Format) (r : Record) (es : List (List ℕ)) (t : Option (List ℕ)) → Ends F r es t → run (steps.fields F [] r) es ≡ Ok (steps.between F, with_text t r ∷ [])
+ends_read : (F : Format) (r : Record) (es : List (List ℕ)) (t : Option (List ℕ)) → Ends F r es t
+    → run (steps.fields F [] r) es ≡ Ok (steps.between F, with_text t r ∷ [])
 ends_read F r _ _ (grammar.text_line {l = l} {bytes = v} h) = one (steps.fields F [] r) (steps.between F) l _ (end-line F r l ∙ end_text F r l v h)
 ends_read F r _ _ grammar.invalid = one (steps.fields F [] r) (steps.between F) (codes "invalid") _ (end-line F r (codes "invalid") ∙ end_invalid F r)
 ends_read F r _ _ (grammar.cuts {c = c} {l = l} {bytes = v} m h t) =
@@ -153,7 +167,8 @@ ends_read F r _ _ (grammar.cuts {c = c} {l = l} {bytes = v} m h t) =
     (one (steps.text F r) (steps.between F) l _ (text-line F r l ∙ text_again F r l v t))
 
 -- the lines of a record
-record_read : (F : Format) (ms : List (List ℕ)) (r : Record) → IsRecord F ms r → run (steps.between F) ms ≡ Ok (steps.between F, r ∷ [])
+record_read : (F : Format) (ms : List (List ℕ)) (r : Record) → IsRecord F ms r
+    → run (steps.between F) ms ≡ Ok (steps.between F, r ∷ [])
 record_read F _ _ (grammar.made {suite = s} {l = l} {ms = ms} {es = es} {r = r} {text = t} a h e) =
     first (steps.between F) (steps.fields F (fields_of s) (unread s)) l (ms ++ es) (steps.between F) (with_text t r ∷ []) (suite-line F l s a)
     (both (steps.fields F (fields_of s) (unread s)) (steps.fields F [] r) ms es (steps.between F) [] (with_text t r ∷ []) (all_read F (fields_of s) (unread s) r ms h) (ends_read F r es t e))
@@ -166,7 +181,8 @@ gaps_read (l ∷ ls) h =
     first steps.start steps.start l ls steps.start [] (gap-start l two.0) (gaps_read ls two.1)
 
 -- the lines of a file
-pub complete : (F : Format) (ls : List (List ℕ)) (rs : List Record) → Formatted F ls rs → run steps.start ls ≡ Ok (steps.between F, rs)
+pub complete : (F : Format) (ls : List (List ℕ)) (rs : List Record) → Formatted F ls rs
+    → run steps.start ls ≡ Ok (steps.between F, rs)
 complete F _ _ (grammar.starts gaps {l = l} h a) =
     both steps.start steps.start gaps (l ∷ []) (steps.between F) [] [] (gaps_read gaps h) (one steps.start (steps.between F) l [] (format-line F l a))
 complete F _ _ (grammar.gap {ls = ls} l {rs = rs} h g) =

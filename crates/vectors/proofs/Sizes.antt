@@ -48,7 +48,8 @@ formatted_sized F _ _ (grammar.gap {ls = ls} l {rs = rs} h g) = formatted_sized 
 formatted_sized F _ _ (grammar.adds {ls = ls} {ms = ms} {rs = rs} {r = r} h m) = more_sized rs r (formatted_sized F ls rs h) (record_sized F ms r m)
 
 -- and the last one before a place
-at_sized : (p : Place) (ls : List (List ℕ)) (rs : List Record) (r : Record) → At p ls (rs ++ r ∷ []) → IsSized r
+at_sized : (p : Place) (ls : List (List ℕ)) (rs : List Record) (r : Record) → At p ls (rs ++ r ∷ [])
+    → IsSized r
 at_sized steps.start ls rs r h = absurd (some rs h.1) where
   some : (rs : List Record) → (rs ++ r ∷ []) ≡ [] → ⊥
   some [] e = cc
@@ -58,5 +59,6 @@ at_sized (steps.fields F left s) ls rs r h = last_sized rs r (formatted_sized F 
 at_sized (steps.text F s) ls rs r h = last_sized rs r (formatted_sized F h.front (rs ++ r ∷ []) h.formatted)
 
 -- the last record that was read
-pub last_read_sized : (ls : List (List ℕ)) (p : Place) (rs : List Record) (r : Record) → run steps.start ls ≡ Ok (p, rs ++ r ∷ []) → IsSized r
+pub last_read_sized : (ls : List (List ℕ)) (p : Place) (rs : List Record) (r : Record)
+    → run steps.start ls ≡ Ok (p, rs ++ r ∷ []) → IsSized r
 last_read_sized ls p rs r e = at_sized p ls rs r (lines_at ls (p, rs ++ r ∷ []) e)

@@ -44,16 +44,19 @@ longer p q n l e end = record {
 }
 
 -- a record that ends with a line
-last : (p : Place) (F : Format) (l : List ℕ) (r : Record) → step p l ≡ Ok (steps.between F, r ∷ []) → Ending p 1
+last : (p : Place) (F : Format) (l : List ℕ) (r : Record) → step p l ≡ Ok (steps.between F, r ∷ [])
+    → Ending p 1
 last p F l r e = record { format = F; more = l ∷ []; size = refl; records = r ∷ []; some = cons_some r []; read = one p (steps.between F) l (r ∷ []) e }
 
 -- the word `invalid` ends a record
-invalid-step : (F : Format) (r : Record) → step (steps.fields F [] r) (codes "invalid") ≡ Ok (steps.between F, with_text None r ∷ [])
+invalid-step : (F : Format) (r : Record)
+    → step (steps.fields F [] r) (codes "invalid") ≡ Ok (steps.between F, with_text None r ∷ [])
 unfolding step end_at
 invalid-step F r = refl
 
 -- a text line ends a record behind cuts
-text-step : (F : Format) (r : Record) → step (steps.text F r) (codes "text=") ≡ Ok (steps.between F, with_text (Some []) r ∷ [])
+text-step : (F : Format) (r : Record)
+    → step (steps.text F r) (codes "text=") ≡ Ok (steps.between F, with_text (Some []) r ∷ [])
 unfolding step text_at hex_at value_at value_line field_of is_hex bytes_of decode_pairs
 text-step F r = refl
 
@@ -92,7 +95,9 @@ line_of s Aad = record { l = codes "aad="; bytes = []; read = refl }
 line_of s Sealed = record { l = codes "sealed="; bytes = []; read = refl }
 
 -- the step of a field's line
-field-step : (F : Format) (f : Field) (fs : List Field) (r : Record) (l v : List ℕ) → field_at r.suite f l ≡ Ok v → step (steps.fields F (f ∷ fs) r) l ≡ Ok (steps.fields F fs (with_field f v r), [])
+field-step : (F : Format) (f : Field) (fs : List Field) (r : Record) (l v : List ℕ)
+    → field_at r.suite f l ≡ Ok v
+    → step (steps.fields F (f ∷ fs) r) l ≡ Ok (steps.fields F fs (with_field f v r), [])
 unfolding step
 field-step F f fs r l v e = rw e refl
 
@@ -104,7 +109,8 @@ of_fields F (f ∷ fs) r =
     longer (steps.fields F (f ∷ fs) r) (steps.fields F fs (with_field f h.bytes r)) (suc (length fs)) h.l (field-step F f fs r h.l h.bytes h.read) (of_fields F fs (with_field f h.bytes r))
 
 -- a wrap suite is read
-suite-step : (F : Format) → step (steps.between F) (codes "suite=aes-128-wrap") ≡ Ok (steps.fields F (Key ∷ Sealed ∷ []) (unread (Wrap Bits128)), [])
+suite-step : (F : Format)
+    → step (steps.between F) (codes "suite=aes-128-wrap") ≡ Ok (steps.fields F (Key ∷ Sealed ∷ []) (unread (Wrap Bits128)), [])
 unfolding step suite_at value_at value_line field_of suite_named
 suite-step One = refl
 suite-step Two = refl

@@ -2,3 +2,5 @@
 -- grammar.
 pub mod Steps
 pub mod Views
+pub mod Compared
+pub mod Told

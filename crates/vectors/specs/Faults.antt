@@ -47,7 +47,8 @@ pub data Begun (format : Format) : List Line → Expected → Type 0 where
 pub data Expects : List Line → Expected → Type 0 where
   unformatted : {ls : List Line} → list_all is_gap ls ≡ true → Expects ls format_line
   formatted : {F : Format} {ls : List Line} {rs : List Record} → Formatted F ls rs → Expects ls (suite_line F)
-  inside : {F : Format} {ls ms : List Line} {rs : List Record} {e : Expected} → Formatted F ls rs → Begun F ms e
+  inside : {F : Format} {ls ms : List Line} {rs : List Record} {e : Expected} → Formatted F ls rs
+      → Begun F ms e
       → Expects (ls ++ ms) e
 
 -- ---- what is wrong with a line, by what is expected there

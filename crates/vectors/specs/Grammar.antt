@@ -124,9 +124,11 @@ pub data Fills : List Field → Record → List Line → Record → Type 0 where
 
 -- the last lines of a record, and its text: a text line, or `invalid`, or a line of cuts and then a text line
 pub data Ends (format : Format) (r : Record) : List Line → Option (List ℕ) → Type 0 where
-  text_line : {l : Line} {bytes : List ℕ} → IsHexField l (codes "text") bytes → Ends format r (l ∷ []) (Some bytes)
+  text_line : {l : Line} {bytes : List ℕ} → IsHexField l (codes "text") bytes
+      → Ends format r (l ∷ []) (Some bytes)
   invalid : Ends format r (codes "invalid" ∷ []) None
-  cuts : {c l : Line} {bytes : List ℕ} → may_cut format r.suite ≡ true → IsCutsLine r c → IsHexField l (codes "text") bytes
+  cuts : {c l : Line} {bytes : List ℕ} → may_cut format r.suite ≡ true → IsCutsLine r c
+      → IsHexField l (codes "text") bytes
       → Ends format r (c ∷ l ∷ []) (Some bytes)
 
 -- the lines of a record: its suite, the fields of the suite, and its end

@@ -8,8 +8,10 @@ use Rattle.vectors.specs.Agreement.{Agrees}
 -- the numbers, from n on and rising, of the records that don't agree
 pub data IsBad : ℕ → List Record → List ℕ → Type 0 where
   ends : {n : ℕ} → IsBad n [] []
-  agrees : {n : ℕ} {r : Record} {rs : List Record} {bad : List ℕ} → Agrees r → IsBad (n + 1) rs bad → IsBad n (r ∷ rs) bad
-  disagrees : {n : ℕ} {r : Record} {rs : List Record} {bad : List ℕ} → ¬ Agrees r → IsBad (n + 1) rs bad → IsBad n (r ∷ rs) (n ∷ bad)
+  agrees : {n : ℕ} {r : Record} {rs : List Record} {bad : List ℕ} → Agrees r → IsBad (n + 1) rs bad
+      → IsBad n (r ∷ rs) bad
+  disagrees : {n : ℕ} {r : Record} {rs : List Record} {bad : List ℕ} → ¬ Agrees r → IsBad (n + 1) rs bad
+      → IsBad n (r ∷ rs) (n ∷ bad)
 
 -- the lines are a file of that many records, and these are the numbers of the bad ones
 pub record IsReport (lines : List (List ℕ)) (count : ℕ) (bad : List ℕ) : Type 0 where

@@ -14,7 +14,7 @@ pub(crate) struct Digits<'a> {
 }
 
 impl<'a> Digits<'a> {
-    ghost use Rattle.std.specs.Prelude.{length, [], IfOk, MatchOption, false};
+    ghost use Rattle.std.specs.Prelude.{length, [], IfOk, MatchOption, false, take, drop, ◌≤◌};
     ghost use Rattle.vectors.specs.Faults.{bytes_of};
     ghost use Rattle.vectors.specs.Code.Views.{bytes_in};
 
@@ -42,6 +42,26 @@ impl<'a> Digits<'a> {
         ensures { result ≡ length (bytes_in self.entry) }
     {
         self.text.len() / 2
+    }
+
+    /// The digits of so many bytes, and those of the bytes behind them.
+    pub fn split_at(self, count: usize) -> (Digits<'a>, Digits<'a>)
+        requires { count ≤ length (bytes_in self) }
+        ensures front { bytes_in result.0 ≡ take count (bytes_in self.entry) }
+        ensures back { bytes_in result.1 ≡ drop count (bytes_in self.entry) }
+    {
+        let (front, back) = self.text.split_at(2 * count);
+        (Digits { text: front }, Digits { text: back })
+    }
+
+    /// Writes the bytes that they spell.
+    pub fn write(self, room: &mut [u8])
+        requires { length room.old ≡ length (bytes_in self) }
+        ensures { room.new ≡ bytes_in self.entry }
+    {
+        let Ok(()) = hex::decode_to_slice(self.text, room) else {
+            unreachable!()
+        };
     }
 
     /// The bytes that they spell.

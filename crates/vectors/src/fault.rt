@@ -2,8 +2,8 @@
 use std::error::Error;
 use std::fmt;
 
-/// Why a file has no report. Lines are numbered from 1. `Display` writes the name, and ` at line N` where the fault has
-/// a line, as `BadHex at line 4`.
+/// Why a file has no report. Lines are numbered from 1. `Display` writes the name, and ` at line N` where the fault
+/// has a line, as `BadHex at line 4`.
 #[derive(Clone, Copy, Debug, PartialEq, Eq, Drop)]
 pub enum VectorFault {
     /// The format line is expected, and something else stands there.
@@ -18,7 +18,8 @@ pub enum VectorFault {
     BadHex(u64),
     /// A key or a nonce of another length than the suite's.
     BadLength(u64),
-    /// The value is no list of cuts: numbers joined by commas that are at least 1, rise, and are at most the text's length.
+    /// The value is no list of cuts: numbers joined by commas that are at least 1, rise, and are at most the
+    /// text's length.
     BadCuts(u64),
     /// No line is at fault, and no record was begun.
     NoRecords,

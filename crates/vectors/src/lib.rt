@@ -4,10 +4,12 @@
 ghost use Rattle.vectors.specs.Grammar.{HasOneReading};
 
 mod agree;
+mod comparison;
 mod cuts;
 mod digits;
 mod fault;
 mod field;
+mod intake;
 mod lines;
 mod place;
 mod reading;

@@ -169,7 +169,8 @@ fn may_cut(format: Format, suite: Suite) -> bool
 /// What is expected behind a text line, and the record that it ends.
 #[tactic(auto, unfolding(crate::specs::Code::Steps::text_at))]
 fn text_at<'a>(format: Format, entry: Entry<'a>, line: &'a [u8]) -> Result<Next<'a>, Cause>
-    ensures { Gives (λ r. (view r.0, made r.1)) result (text_at format (entry_view entry.entry) line.entry.now) }
+    ensures { Gives (λ r. (view r.0, made r.1)) result
+        (text_at format (entry_view entry.entry) line.entry.now) }
 {
     let text = Some(hex_at(b"text", line)?);
     Ok((Place::Between(format), Some(Entry { text, ..entry })))
@@ -178,7 +179,8 @@ fn text_at<'a>(format: Format, entry: Entry<'a>, line: &'a [u8]) -> Result<Next<
 /// What is expected behind a line of cuts.
 #[tactic(auto, unfolding(crate::specs::Code::Steps::cuts_at))]
 fn cuts_at<'a>(format: Format, entry: Entry<'a>, line: &'a [u8]) -> Result<Next<'a>, Cause>
-    ensures { Gives (λ r. (view r.0, made r.1)) result (cuts_at format (entry_view entry.entry) line.entry.now) }
+    ensures { Gives (λ r. (view r.0, made r.1)) result
+        (cuts_at format (entry_view entry.entry) line.entry.now) }
 {
     let value = value_at(b"cuts", line)?;
     if are_cuts(entry.sealed.byte_count().saturating_sub(16) as u64, value) {
@@ -191,7 +193,8 @@ fn cuts_at<'a>(format: Format, entry: Entry<'a>, line: &'a [u8]) -> Result<Next<
 /// What is expected behind the line behind all fields, and the record that it ends.
 #[tactic(auto, unfolding(crate::specs::Code::Steps::end_at))]
 fn end_at<'a>(format: Format, entry: Entry<'a>, line: &'a [u8]) -> Result<Next<'a>, Cause>
-    ensures { Gives (λ r. (view r.0, made r.1)) result (end_at format (entry_view entry.entry) line.entry.now) }
+    ensures { Gives (λ r. (view r.0, made r.1)) result
+        (end_at format (entry_view entry.entry) line.entry.now) }
 {
     if line == b"invalid".as_slice() {
         return Ok((
