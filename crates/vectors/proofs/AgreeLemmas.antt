@@ -2,7 +2,11 @@
 use Rattle.std.proofs.Common.{◌≡◌, ℕ, ◌+◌, Bool, true, false, inl, inr, List, [], ◌∷◌, ◌++◌, Option, Some, None, Result, Ok, Err, refl, sym, ap, ◌∙◌, subst}
 use Rattle.std.specs.Prelude.{◌↔◌, IsTrue, OnOk, if◌then◌else◌}
 use Rattle.vectors.specs.Grammar.{Record}
-use Rattle.vectors.specs.Agreement.{Holds, Agrees, AgreesWith, IsOnly}
+use Rattle.aead.specs.declared.suite.Suite as ciphers
+use Rattle.aead.specs.Sealing.{Setting, IsNoSealing}
+use Rattle.vectors.specs.declared.suite.Suite.{Suite}
+use Rattle.vectors.specs.declared.suite.Suite.TheVariants.{Aead}
+use Rattle.vectors.specs.Agreement.{Holds, HoldsBy, Agrees, AgreesWith, IsOnly}
 use Rattle.vectors.specs.Reports.{Judges}
 
 -- a text is the one that was found exactly where the record agrees with it
@@ -26,3 +30,14 @@ judges (Ok x) count more bad worse r true h m w = (m, inl (h.0 refl, w))
 judges (Ok x) count more bad worse r false h m w = (m, inr (λ agrees. no (h.1 agrees), w ∙ ap (λ (k : ℕ). bad ++ k ∷ []) (sym m))) where
   no : false ≡ true → ⊥
   no e = cc
+
+-- sealed bytes that are the sealing of no text agree with `invalid`
+pub nothing_agrees : (e : Record) (b : Bool) (suite : ciphers.Suite) (s : Setting) → IsTrue b ↔ IsNoSealing s e.sealed
+    → e.suite ≡ Aead suite → e.text ≡ None → s ≡ record { suite = suite; key = e.key; nonce = e.nonce; aad = e.aad }
+    → IsTrue b ↔ Agrees e
+nothing_agrees e b suite s h is none same =
+    let here : IsTrue b ↔ ((text : List ℕ) → ¬ HoldsBy (Aead suite) e text) =
+    subst (λ (t : Setting). IsTrue b ↔ IsNoSealing t e.sealed) same h in
+    let held : IsTrue b ↔ ((text : List ℕ) → ¬ HoldsBy e.suite e text) =
+    subst (λ (u : Suite). IsTrue b ↔ ((text : List ℕ) → ¬ HoldsBy u e text)) (sym is) here in
+    subst (λ (t : Option (List ℕ)). IsTrue b ↔ AgreesWith e t) (sym none) held

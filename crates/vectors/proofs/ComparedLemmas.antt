@@ -1,8 +1,8 @@
 -- What a comparison shows of the bytes that it was given.
 use Rattle.std.proofs.Common.{◌≡◌, ◌≢◌, ℕ, ◌+◌, ◌-◌, ◌^◌, ◌<◌, ◌≤◌, Bool, true, false, ◌==◌, List, [], ◌∷◌, ◌++◌, length, take, drop, get_or, Option, Some, None, Result, Ok, Err, refl, sym, ap, ap₂, ◌∙◌, subst, inl, inr, arith, append_assoc, take_all}
-use Rattle.std.specs.Prelude.{◌↔◌, ◌&&◌, IsTrue, is_none, is_ok, option_to_list}
+use Rattle.std.specs.Prelude.{◌↔◌, ◌&&◌, IsTrue, is_none, is_some, is_ok, option_to_list}
 use Rattle.std.proofs.lemmas.Bool.{eqb-true}
-use Rattle.std.proofs.lemmas.List.{append-nil, take-append-drop, append_cancel_left}
+use Rattle.std.proofs.lemmas.List.{append-nil, take-append-drop, append_cancel_left, length-drop}
 use Rattle.std.proofs.lemmas.Grind.{common_steps}
 use Rattle.std.proofs.Math.Seq.{take-append_seam, drop-append_seam, take-append-add}
 use Rattle.octets.specs.declared.device.DeviceFault.{DeviceFault}
@@ -136,3 +136,14 @@ is_other E same b h x is rest e =
 pub no_other : (E : List ℕ) (same : ℕ) (other : Option ℕ) → other ≡ None → IsOther E same other
 no_other E same None e x is = absurd cc
 no_other E same (Some b) e x is = absurd cc
+
+-- what is not some is none
+pub is_none_from : (o : Option ℕ) → is_some o ≡ false → o ≡ None
+is_none_from None e = refl
+is_none_from (Some b) e = absurd cc
+
+-- no more are equal than are left
+pub room_left : (E rest : List ℕ) (same n : ℕ) → same ≤ length E → rest ≡ drop same E → n ≤ length rest → same + n ≤ length E
+room_left E rest same n w e l =
+    let size : length rest ≡ length E - same = ap length e ∙ length-drop same E in
+    omega (arith, size, w, l)

@@ -1,5 +1,5 @@
 // Bytes that are compared as they come.
-ghost use Rattle.std.specs.Prelude.{◌≡◌, ◌≢◌, ◌↔◌, ◌<◌, ◌≤◌, ℕ, List, ◌∷◌, None, IsTrue, length, take, slice_index};
+ghost use Rattle.std.specs.Prelude.{◌≡◌, ◌≢◌, ◌↔◌, ◌<◌, ◌≤◌, ◌^◌, ℕ, List, ◌∷◌, None, IsTrue, length, take, slice_index};
 ghost use Rattle.vectors.specs.Code.Views.{bytes_in};
 ghost use Rattle.vectors.specs.Code.Compared.{IsOther};
 
@@ -15,6 +15,7 @@ pub(crate) struct Comparison<'a> {
     other: Option<u8>,
     failed: u64,
     ghost within: { same ≤ length (bytes_in expected) },
+    ghost room: { length (bytes_in expected) < 2 ^ 63 },
     ghost apart: { IsOther (bytes_in expected) same other },
     ghost fails: { other ≡ None → failed ≡ 0 },
 }

@@ -1,60 +1,18 @@
-// The published vectors as files, and the first fault of files with a damaged line.
+// The published vectors as files, in both formats, and the texts of faults.
 use crate::fault::VectorFault;
 use crate::reading::check;
 use crate::suite::{Format, Suite};
-use bumpalo::Bump;
+use files::with_lines;
 use published::PUBLISHED;
+use std::str::from_utf8;
 use std::test::Fail;
 
 mod cuts;
 mod damaged;
+mod files;
+mod growths;
 mod published;
-
-/// Two records: a published vector of GCM, and the same with another last byte.
-const TWO_RECORDS: &str = "# two records
-format = 1
-suite = aes-128-gcm
-key = 00000000000000000000000000000000
-nonce = 000000000000000000000000
-aad =
-sealed = 58e2fccefa7e3061367f1d57a4e7455a
-text =
-
-suite = aes-128-gcm
-key = 00000000000000000000000000000000
-nonce = 000000000000000000000000
-aad =
-sealed = 58e2fccefa7e3061367f1d57a4e7455b
-invalid
-";
-
-/// How many records a file has, and how many of them disagree.
-fn answer(rt: &HostRuntime, file: &[u8]) -> Result<(u64, usize), VectorFault> {
-    let report = check(rt.alloc(), file)?;
-    Ok((report.records, report.bad.len()))
-}
-
-/// The file with these lines in the place of one line.
-fn with_lines(
-    rt: &HostRuntime,
-    file: &str,
-    number: usize,
-    lines: &[&str],
-) -> Result<Vec<u8>, Fail> {
-    let mut out = Vec::new(rt.alloc());
-    for (i, old) in file.lines().enumerate() {
-        if i != number.saturating_sub(1) {
-            out.extend_from_slice(old.as_bytes())?;
-            out.push(b'\n')?;
-            continue;
-        }
-        for line in lines {
-            out.extend_from_slice(line.as_bytes())?;
-            out.push(b'\n')?;
-        }
-    }
-    Ok(out)
-}
+mod whole;
 
 /// The digit whose lowest bit is another.
 fn changed(digit: u8) -> u8 {
@@ -87,25 +45,8 @@ fn changed_vectors(rt: &HostRuntime) -> Result<Vec<u8>, Fail> {
     Ok(out)
 }
 
-#[test]
-fn published_vectors_agree(rt: HostRuntime) -> Result<(), Fail> {
-    let report = check(rt.alloc(), PUBLISHED.as_bytes())?;
-    assert_eq!(rt; report.records, 18);
-    assert_eq!(rt; report.bad.as_slice(), [].as_slice());
-    assert!(rt; report.yes());
-    Ok(())
-}
-
-#[test]
-fn changed_vectors_are_invalid(rt: HostRuntime) -> Result<(), Fail> {
-    let report = check(rt.alloc(), &changed_vectors(&rt)?)?;
-    assert_eq!(rt; report.records, 18);
-    assert!(rt; report.yes());
-    Ok(())
-}
-
-#[test]
-fn a_sealing_is_not_invalid(rt: HostRuntime) -> Result<(), Fail> {
+/// The published vectors with `invalid` in the fifth record.
+fn fifth_invalid(rt: &HostRuntime) -> Result<Vec<u8>, Fail> {
     let mut texts = 0u32;
     let mut number = 0usize;
     for line in PUBLISHED.lines() {
@@ -117,13 +58,48 @@ fn a_sealing_is_not_invalid(rt: HostRuntime) -> Result<(), Fail> {
             }
         }
     }
-    let report = check(
-        rt.alloc(),
-        &with_lines(&rt, PUBLISHED, number, &["invalid"])?,
-    )?;
-    assert_eq!(rt; report.records, 18);
-    assert_eq!(rt; report.bad.as_slice(), [5].as_slice());
-    assert!(rt; !report.yes());
+    with_lines(rt, PUBLISHED, number, &[b"invalid".as_slice()])
+}
+
+/// The same file as one of format 2.
+fn newer(rt: &HostRuntime, file: &[u8]) -> Result<Vec<u8>, Fail> {
+    with_lines(rt, from_utf8(file)?, 1, &[b"format = 2".as_slice()])
+}
+
+#[test]
+fn published_vectors_agree_in_both_formats(rt: HostRuntime) -> Result<(), Fail> {
+    let second = newer(&rt, PUBLISHED.as_bytes())?;
+    for file in [PUBLISHED.as_bytes(), second.as_slice()] {
+        let report = check(rt.alloc(), file)?;
+        assert_eq!(rt; report.records, 18);
+        assert_eq!(rt; report.bad.as_slice(), [].as_slice());
+        assert!(rt; report.yes());
+    }
+    Ok(())
+}
+
+#[test]
+fn changed_vectors_are_invalid_in_both_formats(rt: HostRuntime) -> Result<(), Fail> {
+    let first = changed_vectors(&rt)?;
+    let second = newer(&rt, &first)?;
+    for file in [first.as_slice(), second.as_slice()] {
+        let report = check(rt.alloc(), file)?;
+        assert_eq!(rt; report.records, 18);
+        assert!(rt; report.yes());
+    }
+    Ok(())
+}
+
+#[test]
+fn a_sealing_is_not_invalid_in_both_formats(rt: HostRuntime) -> Result<(), Fail> {
+    let first = fifth_invalid(&rt)?;
+    let second = newer(&rt, &first)?;
+    for file in [first.as_slice(), second.as_slice()] {
+        let report = check(rt.alloc(), file)?;
+        assert_eq!(rt; report.records, 18);
+        assert_eq!(rt; report.bad.as_slice(), [5].as_slice());
+        assert!(rt; !report.yes());
+    }
     Ok(())
 }
 
@@ -163,31 +139,5 @@ fn faults_print_their_names_and_lines(rt: HostRuntime) -> Result<(), Fail> {
     ] {
         assert_eq!(rt; format!(in rt.alloc(); "{fault}")?.as_str(), text);
     }
-    Ok(())
-}
-
-#[test]
-fn each_refused_growth_is_out_of_memory(rt: HostRuntime) -> Result<(), Fail> {
-    let filler = [0u8; 4096];
-    let mut refused = 0u32;
-    let mut done = 0u32;
-    for room in 0..600usize {
-        let bump = Bump::try_with_capacity(rt.alloc(), 1000)?;
-        bump.set_allocation_limit(Some(0));
-        let used = bump.chunk_capacity().saturating_sub(room);
-        assert!(rt; used <= 4096);
-        let _ = bump.try_alloc_slice_copy(&filler[..used])?;
-        match check(&bump, TWO_RECORDS.as_bytes()) {
-            Ok(report) => {
-                assert!(rt; report.records == 2 && report.yes());
-                done = done.saturating_add(1);
-            }
-            Err(fault) => {
-                assert_eq!(rt; fault, VectorFault::OutOfMemory);
-                refused = refused.saturating_add(1);
-            }
-        }
-    }
-    assert!(rt; 0 < refused && 0 < done, "{refused} refused, {done} done");
     Ok(())
 }

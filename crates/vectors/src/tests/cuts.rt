@@ -1,8 +1,10 @@
 // Format 2: cuts, and key wrapping with padding.
-use super::*;
+use super::files::*;
 use crate::fault::VectorFault::*;
+use std::str::from_utf8;
+use std::test::Fail;
 
-const FORMAT_2: &str = "format = 2
+pub const FORMAT_2: &str = "format = 2
 suite = aes-128-gcm-siv
 key = 01000000000000000000000000000000
 nonce = 030000000000000000000000
@@ -17,40 +19,48 @@ text = 466f7250617369
 ";
 
 /// The answer for that file with these lines in the place of one line.
-fn replaced(
-    rt: &HostRuntime,
-    number: usize,
-    lines: &[&str],
-) -> Result<Result<(u64, usize), VectorFault>, Fail> {
-    let file = with_lines(rt, FORMAT_2, number, lines)?;
-    Ok(answer(rt, &file))
+fn changed(rt: &HostRuntime, number: usize, lines: &[&[u8]]) -> Result<Answer, Fail> {
+    replaced(rt, FORMAT_2, number, lines)
 }
 
 #[test]
-fn format_2_is_known(rt: HostRuntime) -> Result<(), Fail> {
+fn a_file_of_format_2_agrees(rt: HostRuntime) {
     assert_eq!(rt; answer(&rt, FORMAT_2.as_bytes()), Ok((2, 0)));
-    assert_eq!(rt; replaced(&rt, 7, &[])?, Ok((2, 0)));
+}
+
+#[test]
+fn format_1_knows_no_cuts(rt: HostRuntime) -> Result<(), Fail> {
     assert_eq!(rt;
-        replaced(&rt, 12, &["text = 466f725061736900"])?,
-        Ok((2, 1))
+        changed(&rt, 1, &[b"format = 1".as_slice()])?,
+        Err(WrongName(7))
     );
-    assert_eq!(rt; replaced(&rt, 1, &["format = 3"])?, Err(BadFormat(1)));
     Ok(())
 }
 
 #[test]
-fn format_1_knows_neither(rt: HostRuntime) -> Result<(), Fail> {
-    assert_eq!(rt; replaced(&rt, 1, &["format = 1"])?, Err(WrongName(7)));
+fn format_1_knows_no_padding(rt: HostRuntime) -> Result<(), Fail> {
     let file = with_lines(&rt, FORMAT_2, 7, &[])?;
-    let older = with_lines(&rt, std::str::from_utf8(&file)?, 1, &["format = 1"])?;
-    assert_eq!(rt; answer(&rt, &older), Err(UnknownSuite(8)));
+    let line = b"format = 1".as_slice();
+    assert_eq!(rt;
+        replaced(&rt, from_utf8(&file)?, 1, &[line])?,
+        Err(UnknownSuite(8))
+    );
     Ok(())
 }
 
 #[test]
-fn bad_cuts(rt: HostRuntime) -> Result<(), Fail> {
+fn there_is_no_format_3(rt: HostRuntime) -> Result<(), Fail> {
+    assert_eq!(rt;
+        changed(&rt, 1, &[b"format = 3".as_slice()])?,
+        Err(BadFormat(1))
+    );
+    Ok(())
+}
+
+#[test]
+fn values_that_are_no_cuts(rt: HostRuntime) -> Result<(), Fail> {
     for value in [
-        "cuts =",
+        "cuts = ",
         "cuts = 0",
         "cuts = 03",
         "cuts = 3,3",
@@ -63,61 +73,110 @@ fn bad_cuts(rt: HostRuntime) -> Result<(), Fail> {
         "cuts = 18446744073709551616",
         "cuts = 18446744073709551619",
     ] {
-        assert_eq!(rt; replaced(&rt, 7, &[value])?, Err(BadCuts(7)), "{value}");
+        assert_eq!(rt;
+            changed(&rt, 7, &[value.as_bytes()])?,
+            Err(BadCuts(7)),
+            "{value}"
+        );
     }
+    Ok(())
+}
+
+#[test]
+fn values_that_are_cuts(rt: HostRuntime) -> Result<(), Fail> {
     for value in ["cuts = 8", "cuts=1,2,3,4,5,6,7,8", "cuts =   1"] {
-        assert_eq!(rt; replaced(&rt, 7, &[value])?, Ok((2, 0)), "{value}");
+        assert_eq!(rt;
+            changed(&rt, 7, &[value.as_bytes()])?,
+            Ok((2, 0)),
+            "{value}"
+        );
     }
     Ok(())
 }
 
 #[test]
-fn lines_about_cuts(rt: HostRuntime) -> Result<(), Fail> {
-    assert_eq!(rt; replaced(&rt, 8, &["cuts = 3"])?, Err(WrongName(8)));
-    assert_eq!(rt; replaced(&rt, 8, &["invalid"])?, Err(BadLine(8)));
-    assert_eq!(rt; replaced(&rt, 7, &["iv = 3"])?, Err(WrongName(7)));
-    assert_eq!(rt; replaced(&rt, 7, &["text = 0"])?, Err(BadHex(7)));
-    assert_eq!(rt; replaced(&rt, 12, &["cuts = 3"])?, Err(WrongName(12)));
-    assert_eq!(rt; replaced(&rt, 8, &[""])?, Err(BadLine(8)));
+fn invalid_behind_cuts(rt: HostRuntime) -> Result<(), Fail> {
+    assert_eq!(rt; changed(&rt, 8, &[b"invalid".as_slice()])?, Err(BadLine(8)));
     Ok(())
 }
 
 #[test]
-fn agreement_looks_at_no_cuts(rt: HostRuntime) -> Result<(), Fail> {
-    assert_eq!(rt; replaced(&rt, 8, &["text = 01000000000000"])?, Ok((2, 1)));
+fn cuts_behind_cuts(rt: HostRuntime) -> Result<(), Fail> {
+    let line = b"cuts = 3,8".as_slice();
+    assert_eq!(rt; changed(&rt, 7, &[line, line])?, Err(WrongName(8)));
+    Ok(())
+}
+
+#[test]
+fn another_text_behind_cuts_disagrees(rt: HostRuntime) -> Result<(), Fail> {
+    assert_eq!(rt;
+        changed(&rt, 8, &[b"text = 01000000000000".as_slice()])?,
+        Ok((2, 1))
+    );
+    Ok(())
+}
+
+#[test]
+fn a_sealing_is_not_invalid_without_cuts(rt: HostRuntime) -> Result<(), Fail> {
     let file = with_lines(&rt, FORMAT_2, 7, &[])?;
-    let invalid = with_lines(&rt, std::str::from_utf8(&file)?, 7, &["invalid"])?;
-    assert_eq!(rt; answer(&rt, &invalid), Ok((2, 1)));
-    let twice = replaced(&rt, 12, &["cuts = 1", "text = 466f7250617369"])?;
-    assert_eq!(rt; twice, Err(WrongName(12)));
+    let line = b"invalid".as_slice();
+    assert_eq!(rt; replaced(&rt, from_utf8(&file)?, 7, &[line])?, Ok((2, 1)));
     Ok(())
 }
 
 #[test]
-fn a_file_cut_behind_cuts_is_unfinished(rt: HostRuntime) -> Result<(), Fail> {
-    let mut file = Vec::new(rt.alloc());
-    for line in FORMAT_2.lines().take(7) {
-        file.extend_from_slice(line.as_bytes())?;
-        file.push(b'\n')?;
+fn cuts_in_a_record_of_key_wrapping(rt: HostRuntime) -> Result<(), Fail> {
+    let text = b"text = 466f7250617369".as_slice();
+    assert_eq!(rt;
+        changed(&rt, 12, &[b"cuts = 1".as_slice(), text])?,
+        Err(WrongName(12))
+    );
+    Ok(())
+}
+
+#[test]
+fn cut_behind_cuts_is_unfinished_there(rt: HostRuntime) -> Result<(), Fail> {
+    for feed in [true, false] {
+        assert_eq!(rt;
+            cut_behind(&rt, FORMAT_2, 7, feed)?,
+            Err(Unfinished(7)),
+            "{feed}"
+        );
     }
-    assert_eq!(rt; answer(&rt, &file), Err(Unfinished(7)));
     Ok(())
 }
 
 #[test]
 fn an_empty_text_has_no_cuts(rt: HostRuntime) -> Result<(), Fail> {
-    let sealed = "sealed = 58e2fccefa7e3061367f1d57a4e7455a";
-    let older = with_lines(&rt, TWO_RECORDS, 7, &[sealed, "cuts = 1"])?;
-    let file = with_lines(&rt, std::str::from_utf8(&older)?, 2, &["format = 2"])?;
-    assert_eq!(rt; answer(&rt, &file), Err(BadCuts(8)));
+    let older = with_lines(
+        &rt,
+        TWO_RECORDS,
+        8,
+        &[b"cuts = 1".as_slice(), b"text =".as_slice()],
+    )?;
+    let line = b"format = 2".as_slice();
+    assert_eq!(rt;
+        replaced(&rt, from_utf8(&older)?, 2, &[line])?,
+        Err(BadCuts(8))
+    );
     Ok(())
 }
 
 #[test]
-fn files_of_format_1_agree_in_format_2(rt: HostRuntime) -> Result<(), Fail> {
-    let file = with_lines(&rt, PUBLISHED, 1, &["format = 2"])?;
-    let report = check(rt.alloc(), &file)?;
-    assert_eq!(rt; report.records, 18);
-    assert!(rt; report.yes());
+fn other_lines_in_the_place_of_cuts(rt: HostRuntime) -> Result<(), Fail> {
+    assert_eq!(rt; changed(&rt, 7, &[])?, Ok((2, 0)));
+    assert_eq!(rt;
+        changed(&rt, 7, &[b"iv = 3".as_slice()])?,
+        Err(WrongName(7))
+    );
+    assert_eq!(rt; changed(&rt, 7, &[b"text = 0".as_slice()])?, Err(BadHex(7)));
+    assert_eq!(rt; changed(&rt, 8, &[b"".as_slice()])?, Err(BadLine(8)));
+    Ok(())
+}
+
+#[test]
+fn a_padding_is_part_of_no_text(rt: HostRuntime) -> Result<(), Fail> {
+    let line = b"text = 466f725061736900".as_slice();
+    assert_eq!(rt; changed(&rt, 12, &[line])?, Ok((2, 1)));
     Ok(())
 }

@@ -1,132 +1,240 @@
-// Files that break the grammar: each answer is the first fault at its line.
-use super::*;
+// The file of two records, damaged: each answer is the first fault, at its line.
+use super::files::*;
 use crate::fault::VectorFault::*;
-use std::str::from_utf8;
-
-/// What a file is expected to answer: how many records, and how many of them disagree, or the fault.
-type Answer = Result<(u64, usize), VectorFault>;
-
-const ODD_DIGITS: &str = "format = 1
-suite = aes-128-gcm
-key = 00000000000000000000000000000000
-nonce = 000
-";
+use std::test::Fail;
 
 /// The answer for the file of two records with these lines in the place of one line.
-fn replaced(rt: &HostRuntime, number: usize, lines: &[&str]) -> Result<Answer, Fail> {
-    let file = with_lines(rt, TWO_RECORDS, number, lines)?;
-    Ok(answer(rt, &file))
+fn changed(rt: &HostRuntime, number: usize, lines: &[&[u8]]) -> Result<Answer, Fail> {
+    replaced(rt, TWO_RECORDS, number, lines)
 }
 
 #[test]
-fn whole_files(rt: HostRuntime) -> Result<(), Fail> {
-    assert_eq!(rt; answer(&rt, b"format = 1\n"), Err(NoRecords));
-    assert_eq!(rt; answer(&rt, ODD_DIGITS.as_bytes()), Err(BadHex(4)));
-    assert_eq!(rt; answer(&rt, TWO_RECORDS.as_bytes()), Ok((2, 0)));
-    let text = with_lines(&rt, TWO_RECORDS, 15, &["text ="])?;
-    let exchanged = with_lines(&rt, from_utf8(&text)?, 8, &["invalid"])?;
-    let report = check(rt.alloc(), &exchanged)?;
-    assert_eq!(rt; report.records, 2);
-    assert_eq!(rt; report.bad.as_slice(), [1, 2].as_slice());
-    let shorter = with_lines(&rt, TWO_RECORDS, 9, &[])?;
-    let moved = with_lines(
-        &rt,
-        from_utf8(&shorter)?,
-        5,
-        &["nonce = 000000000000000000000000", ""],
-    )?;
-    assert_eq!(rt; answer(&rt, &moved), Err(BadLine(6)));
-    let mut returns = Vec::new(rt.alloc());
-    for line in TWO_RECORDS.lines() {
-        returns.extend_from_slice(line.as_bytes())?;
-        returns.extend_from_slice(b"\r\n")?;
+fn cut_before_the_first_record_has_no_records(rt: HostRuntime) -> Result<(), Fail> {
+    for count in [0usize, 1, 2] {
+        for feed in [true, false] {
+            let found = cut_behind(&rt, TWO_RECORDS, count, feed)?;
+            assert_eq!(rt; found, Err(NoRecords), "{count}, {feed}");
+        }
     }
-    assert_eq!(rt; answer(&rt, &returns), Ok((2, 0)));
     Ok(())
 }
 
-/// The answer where whole lines are left.
-fn after_line(line: u64) -> Answer {
-    match line {
-        0..=2 => Err(NoRecords),
-        3..=7 | 10..=14 => Err(Unfinished(line)),
-        8 | 9 => Ok((1, 0)),
-        _ => Ok((2, 0)),
-    }
-}
-
-/// The answer where a beginning of the last line is left.
-fn inside_line(line: u64, part: &[u8]) -> Answer {
-    let Some(equals) = part.iter().position(|b| *b == b'=') else {
-        return match line {
-            1 => Err(NoRecords),
-            2 => Err(BadFormat(2)),
-            _ => Err(BadLine(line)),
-        };
-    };
-    let digits = part.len().saturating_sub(equals.saturating_add(2));
-    match line {
-        2 => Err(BadFormat(2)),
-        3 | 10 => Err(UnknownSuite(line)),
-        _ if digits % 2 == 1 => Err(BadHex(line)),
-        4 | 5 | 11 | 12 => Err(BadLength(line)),
-        _ => Err(Unfinished(line)),
-    }
-}
-
 #[test]
-fn files_cut_at_each_byte(rt: HostRuntime) {
-    let file = TWO_RECORDS.as_bytes();
-    let mut number = 1u64;
-    let mut start = 0usize;
-    for end in 0..file.len() {
-        let expected = if file[end] == b'\n' {
-            after_line(number)
-        } else if end <= start {
-            after_line(number.saturating_sub(1))
-        } else {
-            inside_line(number, &file[start..end])
-        };
-        assert_eq!(rt; answer(&rt, &file[..end]), expected, "{number}, {end}");
-        if file[end] == b'\n' {
-            assert_eq!(rt; answer(&rt, &file[..end + 1]), expected, "{number}");
-            number = number.saturating_add(1);
-            start = end + 1;
+fn cut_behind_lines_3_to_7_is_unfinished_there(rt: HostRuntime) -> Result<(), Fail> {
+    for (count, line) in [(3usize, 3u64), (4, 4), (5, 5), (6, 6), (7, 7)] {
+        for feed in [true, false] {
+            let found = cut_behind(&rt, TWO_RECORDS, count, feed)?;
+            assert_eq!(rt; found, Err(Unfinished(line)), "{count}, {feed}");
         }
     }
+    Ok(())
 }
 
 #[test]
-fn replaced_lines(rt: HostRuntime) -> Result<(), Fail> {
-    for (number, line, fault) in [
-        (2usize, "format = 01", BadFormat(2)),
-        (2, "format = 1\r\r", BadFormat(2)),
-        (3, "suite = aes-128-ccm", UnknownSuite(3)),
-        (3, " suite = aes-128-gcm", WrongName(3)),
-        (4, "key = 0000000000000000000000000000000G", BadHex(4)),
-        (4, "# a = b", BadLine(4)),
-        (5, "iv = 000000000000000000000000", WrongName(5)),
-        (5, "iv = 000", WrongName(5)),
-        (5, "nonce = 00000000000000000000000000", BadLength(5)),
-        (6, "= 00", WrongName(6)),
-        (8, "text", BadLine(8)),
-        (15, "invalid =", WrongName(15)),
-    ] {
-        assert_eq!(rt; replaced(&rt, number, &[line])?, Err(fault), "{line}");
+fn cut_behind_lines_8_and_9_has_one_record(rt: HostRuntime) -> Result<(), Fail> {
+    for count in [8usize, 9] {
+        for feed in [true, false] {
+            let found = cut_behind(&rt, TWO_RECORDS, count, feed)?;
+            assert_eq!(rt; found, Ok((1, 0)), "{count}, {feed}");
+        }
     }
-    assert_eq!(rt; replaced(&rt, 2, &[])?, Err(BadFormat(2)));
-    for (number, line) in [
-        (1usize, "#"),
-        (3, "suite=aes-128-gcm   "),
-        (15, "invalid\r"),
-    ] {
-        assert_eq!(rt; replaced(&rt, number, &[line])?, Ok((2, 0)), "{line}");
+    Ok(())
+}
+
+#[test]
+fn cut_behind_lines_10_to_14_is_unfinished_there(rt: HostRuntime) -> Result<(), Fail> {
+    for (count, line) in [(10usize, 10u64), (11, 11), (12, 12), (13, 13), (14, 14)] {
+        for feed in [true, false] {
+            let found = cut_behind(&rt, TWO_RECORDS, count, feed)?;
+            assert_eq!(rt; found, Err(Unfinished(line)), "{count}, {feed}");
+        }
     }
-    let mut file = Vec::from_slice(rt.alloc(), b"#\x80\xff\n")?;
-    file.extend_from_slice(&with_lines(&rt, TWO_RECORDS, 1, &[])?)?;
-    assert_eq!(rt; answer(&rt, &file), Ok((2, 0)));
-    let mut file = with_lines(&rt, TWO_RECORDS, 15, &["invalid\r"])?;
-    assert_eq!(rt; file.pop(), Some(b'\n'));
-    assert_eq!(rt; answer(&rt, &file), Err(BadLine(15)));
+    Ok(())
+}
+
+#[test]
+fn cut_behind_line_15_has_two_records(rt: HostRuntime) -> Result<(), Fail> {
+    for feed in [true, false] {
+        assert_eq!(rt;
+            cut_behind(&rt, TWO_RECORDS, 15, feed)?,
+            Ok((2, 0)),
+            "{feed}"
+        );
+    }
+    Ok(())
+}
+
+#[test]
+fn cut_inside_the_comment_has_no_records(rt: HostRuntime) -> Result<(), Fail> {
+    let line = line_of(TWO_RECORDS, 1);
+    for kept in 1..line.len() {
+        let found = cut_inside(&rt, TWO_RECORDS, 1, &line[..kept])?;
+        assert_eq!(rt; found, Err(NoRecords), "{kept}");
+    }
+    Ok(())
+}
+
+#[test]
+fn cut_inside_the_format_line(rt: HostRuntime) -> Result<(), Fail> {
+    let line = line_of(TWO_RECORDS, 2);
+    for kept in 1..line.len() {
+        let found = cut_inside(&rt, TWO_RECORDS, 2, &line[..kept])?;
+        assert_eq!(rt; found, Err(BadFormat(2)), "{kept}");
+    }
+    Ok(())
+}
+
+#[test]
+fn cut_inside_a_suite(rt: HostRuntime) -> Result<(), Fail> {
+    for (number, at) in [(3usize, 3u64), (10, 10)] {
+        let line = line_of(TWO_RECORDS, number);
+        for kept in 1..line.len() {
+            let expected = match value_length(&line[..kept]) {
+                None => BadLine(at),
+                Some(_) => UnknownSuite(at),
+            };
+            let found = cut_inside(&rt, TWO_RECORDS, number, &line[..kept])?;
+            assert_eq!(rt; found, Err(expected), "{number}, {kept}");
+        }
+    }
+    Ok(())
+}
+
+#[test]
+fn cut_inside_a_key_or_a_nonce(rt: HostRuntime) -> Result<(), Fail> {
+    for (number, at) in [(4usize, 4u64), (5, 5), (11, 11), (12, 12)] {
+        let line = line_of(TWO_RECORDS, number);
+        for kept in 1..line.len() {
+            let expected = match value_length(&line[..kept]) {
+                None => BadLine(at),
+                Some(digits) if digits % 2 == 1 => BadHex(at),
+                Some(_) => BadLength(at),
+            };
+            let found = cut_inside(&rt, TWO_RECORDS, number, &line[..kept])?;
+            assert_eq!(rt; found, Err(expected), "{number}, {kept}");
+        }
+    }
+    Ok(())
+}
+
+#[test]
+fn cut_inside_a_line_without_a_value(rt: HostRuntime) -> Result<(), Fail> {
+    for (number, at) in [(6usize, 6u64), (8, 8), (13, 13), (15, 15)] {
+        let line = line_of(TWO_RECORDS, number);
+        for kept in 1..line.len() {
+            let found = cut_inside(&rt, TWO_RECORDS, number, &line[..kept])?;
+            assert_eq!(rt; found, Err(BadLine(at)), "{number}, {kept}");
+        }
+    }
+    Ok(())
+}
+
+#[test]
+fn cut_inside_sealed_bytes(rt: HostRuntime) -> Result<(), Fail> {
+    for (number, at) in [(7usize, 7u64), (14, 14)] {
+        let line = line_of(TWO_RECORDS, number);
+        for kept in 1..line.len() {
+            let expected = match value_length(&line[..kept]) {
+                None => BadLine(at),
+                Some(digits) if digits % 2 == 1 => BadHex(at),
+                Some(_) => Unfinished(at),
+            };
+            let found = cut_inside(&rt, TWO_RECORDS, number, &line[..kept])?;
+            assert_eq!(rt; found, Err(expected), "{number}, {kept}");
+        }
+    }
+    Ok(())
+}
+
+#[test]
+fn a_comment_holds_any_bytes(rt: HostRuntime) -> Result<(), Fail> {
+    assert_eq!(rt; changed(&rt, 1, &[b"#\x80\xff".as_slice()])?, Ok((2, 0)));
+    Ok(())
+}
+
+#[test]
+fn a_format_with_a_zero_before_it(rt: HostRuntime) -> Result<(), Fail> {
+    assert_eq!(rt;
+        changed(&rt, 2, &[b"format = 01".as_slice()])?,
+        Err(BadFormat(2))
+    );
+    Ok(())
+}
+
+#[test]
+fn one_carriage_return_alone_is_dropped(rt: HostRuntime) -> Result<(), Fail> {
+    assert_eq!(rt; changed(&rt, 2, &[b"format = 1\r".as_slice()])?, Ok((2, 0)));
+    assert_eq!(rt;
+        changed(&rt, 2, &[b"format = 1\r\r".as_slice()])?,
+        Err(BadFormat(2))
+    );
+    Ok(())
+}
+
+#[test]
+fn spaces_round_the_equals_sign_and_at_the_end(rt: HostRuntime) -> Result<(), Fail> {
+    assert_eq!(rt;
+        changed(&rt, 3, &[b"suite=aes-128-gcm   ".as_slice()])?,
+        Ok((2, 0))
+    );
+    Ok(())
+}
+
+#[test]
+fn a_space_before_a_name(rt: HostRuntime) -> Result<(), Fail> {
+    assert_eq!(rt;
+        changed(&rt, 3, &[b" suite = aes-128-gcm".as_slice()])?,
+        Err(WrongName(3))
+    );
+    Ok(())
+}
+
+#[test]
+fn a_letter_past_f(rt: HostRuntime) -> Result<(), Fail> {
+    let line = b"key = 0000000000000000000000000000000G".as_slice();
+    assert_eq!(rt; changed(&rt, 4, &[line])?, Err(BadHex(4)));
+    Ok(())
+}
+
+#[test]
+fn a_comment_inside_a_record(rt: HostRuntime) -> Result<(), Fail> {
+    assert_eq!(rt; changed(&rt, 4, &[b"# a = b".as_slice()])?, Err(BadLine(4)));
+    Ok(())
+}
+
+#[test]
+fn an_empty_name(rt: HostRuntime) -> Result<(), Fail> {
+    assert_eq!(rt; changed(&rt, 6, &[b"= 00".as_slice()])?, Err(WrongName(6)));
+    Ok(())
+}
+
+#[test]
+fn a_name_alone(rt: HostRuntime) -> Result<(), Fail> {
+    assert_eq!(rt; changed(&rt, 8, &[b"text".as_slice()])?, Err(BadLine(8)));
+    Ok(())
+}
+
+#[test]
+fn invalid_as_a_name(rt: HostRuntime) -> Result<(), Fail> {
+    assert_eq!(rt;
+        changed(&rt, 15, &[b"invalid =".as_slice()])?,
+        Err(WrongName(15))
+    );
+    Ok(())
+}
+
+#[test]
+fn a_carriage_return_without_a_line_feed(rt: HostRuntime) -> Result<(), Fail> {
+    let found = cut_inside(&rt, TWO_RECORDS, 15, b"invalid\r")?;
+    assert_eq!(rt; found, Err(BadLine(15)));
+    Ok(())
+}
+
+#[test]
+fn a_wrong_name_before_its_wrong_value(rt: HostRuntime) -> Result<(), Fail> {
+    assert_eq!(rt;
+        changed(&rt, 5, &[b"iv = 000".as_slice()])?,
+        Err(WrongName(5))
+    );
     Ok(())
 }

@@ -7,8 +7,8 @@ use Rattle.vectors.proofs.agree.are_spelled.Goals as goal
 
 pub returns : goal.returns
 returns c =
-    let out = c.give_all.new.outlet in
+    let out = c.give_all-done.new.outlet in
     let is = c.is_whole.ensures ∙ ap (λ b. b && is_whole out) c.is_ok.ensures.value in
     subst (λ b. IsTrue b ↔ (bytes_in c.args.digits ≡ c.args.bytes.now)) (sym is)
-    (spelled_told (bytes_in c.args.digits) c.args.bytes.now _ _ out c.give_all.result c.new.ensures.told c.new.ensures.failed
-    c.give_all.ensures.bytes c.give_all.ensures.count)
+    (spelled_told (bytes_in c.args.digits) c.args.bytes.now _ _ out c.give_all-done.result c.new-out.ensures.told c.new-out.ensures.failed
+    c.give_all-done.ensures.bytes c.give_all-done.ensures.count)

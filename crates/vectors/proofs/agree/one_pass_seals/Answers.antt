@@ -12,9 +12,9 @@ use Rattle.vectors.proofs.agree.one_pass_seals.Goals as goal
 pub returns : goal.returns
 returns c =
     let s = setting (one_pass_keyed c.args.cipher.now) c.args.nonce.now c.args.aad.now in
-    let out = c.seal_stream.new.out in
+    let out = c.seal_stream-done.new.out in
     let is = c.is_whole.ensures ∙ ap (λ b. b && is_whole out) c.is_ok.ensures.value in
     subst (λ b. IsTrue b ↔ Opened s (bytes_in c.args.sealed) (bytes_in c.args.text)) (sym is)
-    (one_pass_told s (bytes_in c.args.text) (bytes_in c.args.sealed) _ _ _ out c.seal_stream.result
-    c.new.ensures c.new-out.ensures.told c.new-out.ensures.failed
-    (bytes_of-small c.args.text.text.now c.args.text.valid) c.seal_stream.ensures.seals)
+    (one_pass_told s (bytes_in c.args.text) (bytes_in c.args.sealed) _ _ _ out c.seal_stream-done.result
+    c.new-reading.ensures c.new-out.ensures.told c.new-out.ensures.failed
+    (bytes_of-small c.args.text.text.now c.args.text.valid) c.seal_stream-done.ensures.seals)

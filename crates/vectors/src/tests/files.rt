@@ -1,0 +1,111 @@
+// Files made of others for tests, and their answers.
+use crate::fault::VectorFault;
+use crate::reading::check;
+use std::test::Fail;
+
+/// Two records: a published vector of GCM, and the same with another last byte.
+pub const TWO_RECORDS: &str = "# two records
+format = 1
+suite = aes-128-gcm
+key = 00000000000000000000000000000000
+nonce = 000000000000000000000000
+aad =
+sealed = 58e2fccefa7e3061367f1d57a4e7455a
+text =
+
+suite = aes-128-gcm
+key = 00000000000000000000000000000000
+nonce = 000000000000000000000000
+aad =
+sealed = 58e2fccefa7e3061367f1d57a4e7455b
+invalid
+";
+
+/// How many records a file has, and how many of them disagree, or its fault.
+pub type Answer = Result<(u64, usize), VectorFault>;
+
+/// The answer for a file.
+pub fn answer(rt: &HostRuntime, file: &[u8]) -> Answer {
+    let report = check(rt.alloc(), file)?;
+    Ok((report.records, report.bad.len()))
+}
+
+/// A file whose lines are these bytes, and a LF behind each.
+pub fn with_lines(
+    rt: &HostRuntime,
+    file: &str,
+    number: usize,
+    lines: &[&[u8]],
+) -> Result<Vec<u8>, Fail> {
+    let mut out = Vec::new(rt.alloc());
+    for (i, old) in file.lines().enumerate() {
+        if i != number.saturating_sub(1) {
+            out.extend_from_slice(old.as_bytes())?;
+            out.push(b'\n')?;
+            continue;
+        }
+        for line in lines {
+            out.extend_from_slice(*line)?;
+            out.push(b'\n')?;
+        }
+    }
+    Ok(out)
+}
+
+/// The answer for a file with these lines in the place of one line.
+pub fn replaced(
+    rt: &HostRuntime,
+    file: &str,
+    number: usize,
+    lines: &[&[u8]],
+) -> Result<Answer, Fail> {
+    let changed = with_lines(rt, file, number, lines)?;
+    Ok(answer(rt, &changed))
+}
+
+/// The first lines of a file, with their LFs.
+pub fn first_lines(rt: &HostRuntime, file: &str, count: usize) -> Result<Vec<u8>, Fail> {
+    let mut out = Vec::new(rt.alloc());
+    for line in file.lines().take(count) {
+        out.extend_from_slice(line.as_bytes())?;
+        out.push(b'\n')?;
+    }
+    Ok(out)
+}
+
+/// The answer for a file cut behind a line: with the line's LF, or without it.
+pub fn cut_behind(rt: &HostRuntime, file: &str, count: usize, feed: bool) -> Result<Answer, Fail> {
+    let mut kept = first_lines(rt, file, count)?;
+    if !feed {
+        let _ = kept.pop();
+    }
+    Ok(answer(rt, &kept))
+}
+
+/// A line of a file.
+pub fn line_of(file: &str, number: usize) -> &[u8] {
+    for (i, line) in file.lines().enumerate() {
+        if i.saturating_add(1) == number {
+            return line.as_bytes();
+        }
+    }
+    &[]
+}
+
+/// The answer for a file cut inside a line, of which these bytes are kept.
+pub fn cut_inside(
+    rt: &HostRuntime,
+    file: &str,
+    number: usize,
+    part: &[u8],
+) -> Result<Answer, Fail> {
+    let mut kept = first_lines(rt, file, number.saturating_sub(1))?;
+    kept.extend_from_slice(part)?;
+    Ok(answer(rt, &kept))
+}
+
+/// How many bytes stand behind the `= ` of a line, where its `=` is there.
+pub fn value_length(part: &[u8]) -> Option<usize> {
+    let at = part.iter().position(|b| *b == b'=')?;
+    Some(part.len().saturating_sub(at.saturating_add(2)))
+}
