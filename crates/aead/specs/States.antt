@@ -5,7 +5,7 @@ use Rattle.octets.specs.Masked.{masked}
 use Rattle.chacha.specs.declared.stream.ChaStream.{ChaStream}
 use Rattle.chacha.specs.States as chacha
 use Rattle.poly1305.specs.declared.poly.PolyBy.{PolyBy}
-use Rattle.poly1305.specs.declared.words.WordMul.{WordMul}
+use Rattle.poly1305.specs.declared.word_mul.WordMul.{WordMul}
 use Rattle.poly1305.specs.States as poly1305
 use Rattle.aes.specs.declared.counter.CtrBe.{CtrBe}
 use Rattle.aes.specs.declared.counter.CtrLe.{CtrLe}
