@@ -19,7 +19,10 @@ fn seal_refused(rt: &impl Abort, alloc: Global, sample: &Sample) -> Result<(), F
         );
         if !memory.has_refused() {
             assert!(rt; passed > 0);
-            assert_eq!(rt; answer?.as_slice(), sample.sealed);
+            match answer {
+                Ok(sealed) => assert_eq!(rt; sealed.as_slice(), sample.sealed),
+                Err(_) => assert!(rt; false, "memory was there"),
+            }
             return Ok(());
         }
         assert!(rt;
