@@ -7,7 +7,7 @@ use std::process::Abort;
 use std::test::Fail;
 
 /// Sealing with each request for memory refused in turn, until none is.
-fn seal_refused(rt: &impl Abort, alloc: Global, sample: &Sample) -> Result<(), Fail> {
+fn seal_refused(rt: &impl Abort, alloc: Global, sample: &Sample, want: &[u8]) -> Result<(), Fail> {
     for passed in 0..9u64 {
         let memory = RefusingMemory::after(passed, alloc);
         let answer = seal(
@@ -20,7 +20,7 @@ fn seal_refused(rt: &impl Abort, alloc: Global, sample: &Sample) -> Result<(), F
         if !memory.has_refused() {
             assert!(rt; passed > 0);
             match answer {
-                Ok(sealed) => assert_eq!(rt; sealed.as_slice(), sample.sealed),
+                Ok(sealed) => assert_eq!(rt; sealed.as_slice(), want),
                 Err(_) => assert!(rt; false, "memory was there"),
             }
             return Ok(());
@@ -37,10 +37,14 @@ fn seal_refused(rt: &impl Abort, alloc: Global, sample: &Sample) -> Result<(), F
 /// Each request for memory of sealing is refused in turn.
 #[test]
 fn refused_requests_of_seal(rt: HostRuntime) -> Result<(), Fail> {
-    seal_refused(&rt, rt.alloc(), &chacha()?)?;
-    seal_refused(&rt, rt.alloc(), &gcm_of_no_text()?)?;
-    seal_refused(&rt, rt.alloc(), &siv()?)?;
-    seal_refused(&rt, rt.alloc(), &siv_of_no_text()?)?;
+    let sample = chacha()?;
+    seal_refused(&rt, rt.alloc(), &sample, sample.sealed)?;
+    let sample = gcm_of_no_text()?;
+    seal_refused(&rt, rt.alloc(), &sample, sample.sealed)?;
+    let sample = siv()?;
+    seal_refused(&rt, rt.alloc(), &sample, sample.sealed)?;
+    let sample = siv_of_no_text()?;
+    seal_refused(&rt, rt.alloc(), &sample, sample.sealed)?;
     Ok(())
 }
 
@@ -99,7 +103,7 @@ fn want_of_memory_in_its_place(rt: HostRuntime) -> Result<(), Fail> {
         &sample.cipher,
         &sample.nonce,
         sample.aad,
-        &sample.sealed[..15],
+        &CHACHA_SEALED[..15],
     );
     assert!(rt; answer.is_err_and(|e| e == Fault::TooShort));
     assert!(rt; !memory.has_refused());

@@ -117,7 +117,7 @@ fn other_text() -> [u8; 114] {
 fn measure_readings_that_differ(rt: HostRuntime) -> Result<(), Fail> {
     let sample = chacha()?;
     let s = sample.sealed;
-    for measure in [&s[..0], &s[..15]] {
+    for measure in [&CHACHA_SEALED[..0], &CHACHA_SEALED[..15]] {
         let opening = Opening {
             measure,
             verify: s,
@@ -137,7 +137,7 @@ fn verify_readings_that_differ(rt: HostRuntime) -> Result<(), Fail> {
     let s = sample.sealed;
     for (verify, fault) in [
         (&longer()[..], Fault::SourceChanged),
-        (&s[..129], Fault::SourceChanged),
+        (&CHACHA_SEALED[..129], Fault::SourceChanged),
         (&other_tag()[..], Fault::SourceChanged),
         (&other_body()[..], Fault::TagMismatch),
     ] {
