@@ -14,6 +14,8 @@ mod polyval;
 mod table_mul;
 #[cfg(test)]
 mod tests;
+#[cfg(test)]
+mod uses;
 mod wide_mul;
 
 pub use bit_mul::BitMul;
