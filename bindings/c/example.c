@@ -67,9 +67,29 @@ static void wrapping(void) {
     is("no AES key", aeadkit_wrap(key, 15, room, 24) == AEADKIT_KEY_LENGTH);
 }
 
+/* RFC 5649, 6. */
+static void padded(void) {
+    const uint8_t key[24] = {0x58, 0x40, 0xdf, 0x6e, 0x29, 0xb0, 0x2a, 0xf1, 0xab, 0x49, 0x3b, 0x70,
+                             0x5b, 0xf1, 0x6e, 0xa1, 0xae, 0x83, 0x38, 0xf4, 0xdc, 0xc1, 0x76, 0xa8};
+    const uint8_t text[7] = {0x46, 0x6f, 0x72, 0x50, 0x61, 0x73, 0x69};
+    const uint8_t want[16] = {0xaf, 0xbe, 0xb0, 0xf0, 0x7d, 0xfb, 0xf5, 0x41, 0x92, 0x00, 0xf2, 0xcc, 0xb5, 0x0b, 0xb2, 0x4f};
+    uint8_t room[16];
+    size_t length = 0;
+    memset(room, 0x55, 16);
+    memcpy(room + 8, text, 7);
+    is("no text to pad", aeadkit_wrap_padded(key, 24, room, 16, 0) == AEADKIT_WRAP_LENGTH);
+    is("wrap with padding", aeadkit_wrap_padded(key, 24, room, 16, 7) == AEADKIT_DONE);
+    is("the padded wrapping", !memcmp(room, want, 16));
+    is("another key", aeadkit_unwrap_padded(key, 16, room, 16, &length) == AEADKIT_WRAP_INTEGRITY && length == 0);
+    is("unwrap it", aeadkit_unwrap_padded(key, 24, room, 16, &length) == AEADKIT_DONE && length == 7);
+    is("its text", !memcmp(room + 8, text, 7));
+    is("nothing to unwrap", aeadkit_unwrap_padded(key, 24, NULL, 0, &length) == AEADKIT_WRAP_LENGTH);
+}
+
 int main(void) {
     sealing();
     empty();
     wrapping();
+    padded();
     return wrong;
 }

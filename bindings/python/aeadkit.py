@@ -1,4 +1,4 @@
-"""Authenticated encryption (RFC 8439, SP 800-38D, RFC 8452) and key wrapping (RFC 3394), by libaeadkit.so.
+"""Authenticated encryption (RFC 8439, SP 800-38D, RFC 8452) and key wrapping (RFC 3394, RFC 5649), by libaeadkit.so.
 
 Keys, nonces, data and texts are bytes, or anything else that gives its bytes, as bytearray and memoryview. Each call
 copies its text once, into the bytearray that it answers, and nothing else that is of type bytes. A call that is refused
@@ -11,8 +11,8 @@ import ctypes
 import enum
 import os
 
-__all__ = ["Suite", "seal", "open", "wrap", "unwrap", "Refused", "KeyLength", "NonceLength", "TextTooLong", "AadTooLong",
-           "TooShort", "TagMismatch", "WrapLength", "WrapIntegrity", "UnknownSuite"]
+__all__ = ["Suite", "seal", "open", "wrap", "unwrap", "wrap_padded", "unwrap_padded", "Refused", "KeyLength", "NonceLength",
+           "TextTooLong", "AadTooLong", "TooShort", "TagMismatch", "WrapLength", "WrapIntegrity", "UnknownSuite"]
 
 _TAG_BYTES = 16
 _WRAP_BYTES = 8
@@ -86,6 +86,8 @@ _seal = _declared("aeadkit_seal", ctypes.c_uint32, *_given, *_given, *_given, *_
 _open = _declared("aeadkit_open", ctypes.c_uint32, *_given, *_given, *_given, *_room)
 _wrap = _declared("aeadkit_wrap", *_given, *_room)
 _unwrap = _declared("aeadkit_unwrap", *_given, *_room)
+_wrap_padded = _declared("aeadkit_wrap_padded", *_given, *_room, ctypes.c_size_t)
+_unwrap_padded = _declared("aeadkit_unwrap_padded", *_given, *_room, ctypes.POINTER(ctypes.c_size_t))
 
 
 def _bytes_of(data):
@@ -100,7 +102,7 @@ def _number_of(suite):
         raise UnknownSuite(repr(suite)) from None
 
 
-def _run(call, suite, words, before, text, after):
+def _run(call, suite, words, before, text, after, *more):
     """Calls on a fresh bytearray, which nothing else sees: the text with room around it."""
     with memoryview(text) as view:
         size = before + view.nbytes + after
@@ -110,7 +112,7 @@ def _run(call, suite, words, before, text, after):
     given = [it for word in map(_bytes_of, words) for it in (word, len(word))]
     # a place of its own where there are no bytes, since no pointer may be NULL
     place = (ctypes.c_ubyte * max(size, 1)).from_buffer(buffer if size else bytearray(1))
-    status = call(*suite, *given, ctypes.addressof(place), size)
+    status = call(*suite, *given, ctypes.addressof(place), size, *more)
     del place
     if status:
         raise _FAULTS[status]()
@@ -137,5 +139,21 @@ def wrap(key, text):
 def unwrap(key, wrapped):
     """The text that the bytes are the wrapping of."""
     text = _run(_unwrap, (), (key,), 0, wrapped, 0)
+    del text[:_WRAP_BYTES]
+    return text
+
+
+def wrap_padded(key, text):
+    """The wrapping with padding of a text of 1 to 2^32 - 1 bytes under an AES key."""
+    with memoryview(text) as view:
+        length = view.nbytes
+    return _run(_wrap_padded, (), (key,), _WRAP_BYTES, text, -length % 8, length)
+
+
+def unwrap_padded(key, wrapped):
+    """The text that the bytes are the wrapping with padding of."""
+    length = ctypes.c_size_t()
+    text = _run(_unwrap_padded, (), (key,), 0, wrapped, 0, ctypes.byref(length))
+    del text[_WRAP_BYTES + length.value :]
     del text[:_WRAP_BYTES]
     return text

@@ -52,3 +52,13 @@ refused(aeadkit.WrapIntegrity, aeadkit.unwrap, bytes(16), wrapped)
 refused(aeadkit.WrapLength, aeadkit.unwrap, bytes(16), b"")
 refused(aeadkit.WrapLength, aeadkit.wrap, bytes(16), bytes(8))
 refused(aeadkit.KeyLength, aeadkit.wrap, bytes(15), bytes(16))
+
+# RFC 5649, 6
+key = bytes.fromhex("5840df6e29b02af1ab493b705bf16ea1ae8338f4dcc176a8")
+wrapped = aeadkit.wrap_padded(key, bytes.fromhex("466f7250617369"))
+assert wrapped.hex() == "afbeb0f07dfbf5419200f2ccb50bb24f"
+assert aeadkit.unwrap_padded(key, wrapped).hex() == "466f7250617369"
+for n in (1, 8, 9, 20):
+    assert aeadkit.unwrap_padded(key, aeadkit.wrap_padded(key, bytes(n))) == bytes(n)
+refused(aeadkit.WrapLength, aeadkit.wrap_padded, key, b"")
+refused(aeadkit.WrapIntegrity, aeadkit.unwrap_padded, bytes(16), wrapped)

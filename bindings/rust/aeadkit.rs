@@ -1,4 +1,5 @@
-//! Authenticated encryption (RFC 8439, SP 800-38D, RFC 8452) and key wrapping (RFC 3394) in place, by libaeadkit.a.
+//! Authenticated encryption (RFC 8439, SP 800-38D, RFC 8452) and key wrapping (RFC 3394, RFC 5649) in place, by
+//! libaeadkit.a.
 //!
 //! Each call is safe to its callers: the library requires nothing of lengths, and `&[u8]` and `&mut [u8]` promise what it
 //! requires of memory. A call that answers a fault has changed no byte. None takes memory. Never seal two texts with one
@@ -16,6 +17,10 @@ unsafe extern "C" {
                     aad: *const u8, aad_length: usize, bytes: *mut u8, bytes_length: usize) -> u32;
     fn aeadkit_wrap(key: *const u8, key_length: usize, bytes: *mut u8, bytes_length: usize) -> u32;
     fn aeadkit_unwrap(key: *const u8, key_length: usize, bytes: *mut u8, bytes_length: usize) -> u32;
+    fn aeadkit_wrap_padded(key: *const u8, key_length: usize, bytes: *mut u8, bytes_length: usize,
+                           text_length: usize) -> u32;
+    fn aeadkit_unwrap_padded(key: *const u8, key_length: usize, bytes: *mut u8, bytes_length: usize,
+                             text_length: *mut usize) -> u32;
 }
 
 /// The bytes of a tag: a sealing is as much longer than its text.
@@ -115,4 +120,21 @@ pub fn unwrap<'a>(key: &[u8], bytes: &'a mut [u8]) -> Result<&'a mut [u8], Fault
     // SAFETY: as of `seal`.
     outcome(unsafe { aeadkit_unwrap(key.as_ptr(), key.len(), bytes.as_mut_ptr(), bytes.len()) })?;
     Ok(&mut bytes[WRAP_BYTES..])
+}
+
+/// `bytes` are room for 8 bytes, then a text of `text_length` bytes, then the fewest bytes that make the length a multiple
+/// of 8; they become its wrapping with padding. `WrapLength` for no text, and for more room or less.
+pub fn wrap_padded(key: &[u8], bytes: &mut [u8], text_length: usize) -> Result<(), Fault> {
+    // SAFETY: as of `seal`.
+    outcome(unsafe { aeadkit_wrap_padded(key.as_ptr(), key.len(), bytes.as_mut_ptr(), bytes.len(), text_length) })
+}
+
+/// `bytes` are a wrapping with padding; they become 8 bytes, then its text, which is answered, and its padding.
+pub fn unwrap_padded<'a>(key: &[u8], bytes: &'a mut [u8]) -> Result<&'a mut [u8], Fault> {
+    let mut length = 0;
+    // SAFETY: as of `seal`, and the length is a place of this call's own.
+    outcome(unsafe {
+        aeadkit_unwrap_padded(key.as_ptr(), key.len(), bytes.as_mut_ptr(), bytes.len(), &mut length)
+    })?;
+    Ok(&mut bytes[WRAP_BYTES..][..length])
 }

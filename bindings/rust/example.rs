@@ -1,6 +1,6 @@
 //! Seals, opens, refuses, wraps and unwraps published vectors.
 
-use aeadkit::{Fault, Suite, TAG_BYTES, WRAP_BYTES, open, seal, unwrap, wrap};
+use aeadkit::{Fault, Suite, TAG_BYTES, WRAP_BYTES, open, seal, unwrap, unwrap_padded, wrap, wrap_padded};
 
 /// AES-128-GCM of sixteen zero bytes under a zero key and nonce: test case 2 of GCM's vectors.
 fn sealing() -> Result<(), Fault> {
@@ -34,7 +34,25 @@ fn wrapping() -> Result<(), Fault> {
     Ok(())
 }
 
+/// RFC 5649, 6.
+fn padded() -> Result<(), Fault> {
+    let key = [
+        0x58, 0x40, 0xdf, 0x6e, 0x29, 0xb0, 0x2a, 0xf1, 0xab, 0x49, 0x3b, 0x70, 0x5b, 0xf1, 0x6e, 0xa1, 0xae, 0x83, 0x38,
+        0xf4, 0xdc, 0xc1, 0x76, 0xa8,
+    ];
+    let text = [0x46, 0x6f, 0x72, 0x50, 0x61, 0x73, 0x69];
+    let mut room = [0; WRAP_BYTES + 8];
+    room[WRAP_BYTES..WRAP_BYTES + 7].copy_from_slice(&text);
+    wrap_padded(&key, &mut room, 7)?;
+    assert_eq!(room[..8], [0xaf, 0xbe, 0xb0, 0xf0, 0x7d, 0xfb, 0xf5, 0x41]);
+    assert_eq!(unwrap_padded(&[0; 16], &mut room), Err(Fault::WrapIntegrity));
+    assert_eq!(unwrap_padded(&key, &mut room)?, &text);
+    assert_eq!(wrap_padded(&key, &mut room, 0), Err(Fault::WrapLength));
+    Ok(())
+}
+
 fn main() -> Result<(), Fault> {
     sealing()?;
-    wrapping()
+    wrapping()?;
+    padded()
 }

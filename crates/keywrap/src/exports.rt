@@ -3,10 +3,13 @@
 ghost use Rattle.std.specs.Prelude.{◌≡◌, ℕ, List, take, drop, MatchResult};
 ghost use Rattle.octets.specs.Numbers.{HasOutcome};
 ghost use Rattle.keywrap.specs.Wrapping.{Unwrapped, initial_value};
+ghost use Rattle.keywrap.specs.Padded.{UnwrappedPadded};
 ghost use Rattle.keywrap.specs.Refusals.{WrapInPlaceRefused, UnwrapInPlaceRefused};
+ghost use Rattle.keywrap.specs.Refusals.{PaddedWrapInPlaceRefused, PaddedUnwrapInPlaceRefused};
 ghost use Rattle.keywrap.specs.Exports.{KeyedRefused};
 
 use crate::in_place::{unwrap_in_place, wrap_in_place};
+use crate::padded_in_place::{unwrap_padded_in_place, wrap_padded_in_place};
 use aes::AesKey;
 use octets::{Fault, outcome_number};
 
@@ -50,6 +53,61 @@ pub extern "C" fn aeadkit_unwrap(key: &[u8], bytes: &mut [u8]) -> u32
     outcome_number(unwrap_bytes(key, bytes))
 }
 
+// `wrap_padded_in_place` under a key's bytes.
+fn wrap_padded_bytes(key: &[u8], bytes: &mut [u8], text_length: usize) -> Result<(), Fault>
+    ensures { MatchResult result (λ _. UnwrappedPadded key.now bytes.new (take text_length (drop 8 bytes.old)))
+        (λ e. (bytes.new ≡ bytes.old) × KeyedRefused key.now (PaddedWrapInPlaceRefused bytes.old text_length) e) }
+{
+    match AesKey::from_slice(key) {
+        Ok(key) => wrap_padded_in_place(&key, bytes, text_length),
+        Err(fault) => Err(fault),
+    }
+}
+
+// `unwrap_padded_in_place` under a key's bytes, which leaves the text's length.
+fn unwrap_padded_bytes(key: &[u8], bytes: &mut [u8], text_length: &mut usize) -> Result<(), Fault>
+    ensures { MatchResult result
+        (λ _. UnwrappedPadded key.now bytes.old (take text_length.new (drop 8 bytes.new)))
+        (λ e. (bytes.new ≡ bytes.old) × ((text_length.new ≡ text_length.old)
+        × KeyedRefused key.now (PaddedUnwrapInPlaceRefused key.now bytes.old) e)) }
+{
+    match AesKey::from_slice(key) {
+        Ok(key) => match unwrap_padded_in_place(&key, bytes) {
+            Ok(length) => {
+                *text_length = length;
+                Ok(())
+            }
+            Err(fault) => Err(fault),
+        },
+        Err(fault) => Err(fault),
+    }
+}
+
+/// Wraps with padding the text of `text_length` bytes that stands from place 8 on, as
+/// `wrap_padded_in_place`.
+#[unsafe(no_mangle)]
+pub extern "C" fn aeadkit_wrap_padded(key: &[u8], bytes: &mut [u8], text_length: usize) -> u32
+    ensures { HasOutcome result (UnwrappedPadded key.now bytes.new (take text_length (drop 8 bytes.old)))
+        (λ e. (bytes.new ≡ bytes.old) × KeyedRefused key.now (PaddedWrapInPlaceRefused bytes.old text_length) e) }
+{
+    outcome_number(wrap_padded_bytes(key, bytes, text_length))
+}
+
+/// Unwraps with padding, as `unwrap_padded_in_place`: the text then stands from place 8 on, and
+/// `text_length` is its length.
+#[unsafe(no_mangle)]
+pub extern "C" fn aeadkit_unwrap_padded(
+    key: &[u8],
+    bytes: &mut [u8],
+    text_length: &mut usize,
+) -> u32
+    ensures { HasOutcome result (UnwrappedPadded key.now bytes.old (take text_length.new (drop 8 bytes.new)))
+        (λ e. (bytes.new ≡ bytes.old) × ((text_length.new ≡ text_length.old)
+        × KeyedRefused key.now (PaddedUnwrapInPlaceRefused key.now bytes.old) e)) }
+{
+    outcome_number(unwrap_padded_bytes(key, bytes, text_length))
+}
+
 #[cfg(test)]
 mod tests {
     use super::*;
@@ -89,5 +147,34 @@ mod tests {
         assert_eq!(rt; aeadkit_unwrap(&KEY[..15], &mut bytes[..23]), 1);
         assert_eq!(rt; aeadkit_wrap(&KEY[..15], &mut bytes[..16]), 1);
         assert_eq!(rt; bytes, before);
+    }
+
+    /// The key of RFC 5649, 6.
+    const LONG_KEY: [u8; 24] = [
+        0x58, 0x40, 0xdf, 0x6e, 0x29, 0xb0, 0x2a, 0xf1, 0xab, 0x49, 0x3b, 0x70, 0x5b, 0xf1, 0x6e,
+        0xa1, 0xae, 0x83, 0x38, 0xf4, 0xdc, 0xc1, 0x76, 0xa8,
+    ];
+
+    #[test]
+    fn a_published_padded_wrapping_and_back(rt: HostRuntime) {
+        let text = [0x46, 0x6f, 0x72, 0x50, 0x61, 0x73, 0x69];
+        let wrapped = [
+            0xaf, 0xbe, 0xb0, 0xf0, 0x7d, 0xfb, 0xf5, 0x41, 0x92, 0x00, 0xf2, 0xcc, 0xb5, 0x0b,
+            0xb2, 0x4f,
+        ];
+        let mut bytes = [0x55; 16];
+        bytes[8..15].copy_from_slice(&text);
+        assert_eq!(rt; aeadkit_wrap_padded(&LONG_KEY, &mut bytes, 0), 7);
+        assert_eq!(rt; aeadkit_wrap_padded(&LONG_KEY, &mut bytes, 7), 0);
+        assert_eq!(rt; bytes, wrapped);
+        let mut length = 0;
+        assert_eq!(rt; aeadkit_unwrap_padded(&KEY, &mut bytes, &mut length), 8);
+        assert_eq!(rt; bytes, wrapped);
+        assert_eq!(rt;
+            aeadkit_unwrap_padded(&LONG_KEY, &mut bytes, &mut length),
+            0
+        );
+        assert_eq!(rt; length, 7);
+        assert_eq!(rt; &bytes[8..15], text.as_slice());
     }
 }
