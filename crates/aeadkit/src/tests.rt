@@ -5,7 +5,6 @@ mod files;
 mod growths;
 mod helps;
 mod published;
-mod scripted;
 mod seals;
 mod vector_files;
 mod wraps;
