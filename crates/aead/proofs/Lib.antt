@@ -6,6 +6,8 @@ pub mod Streams
 pub mod Found
 pub mod KeyStreamStart
 mod Vectors
+mod GcmVector
+mod GcmSivVector
 pub mod Pieces
 pub mod Maskings
 pub mod AnyMaskings

@@ -1,0 +1,52 @@
+// Seals, opens, refuses, wraps and unwraps published vectors: example.mjs FOLDER, which holds aead.wasm and keywrap.wasm.
+
+import assert from "node:assert";
+import { readFileSync } from "node:fs";
+import { Aead, KeyWrap, Refused, Suite } from "./aeadkit.mjs";
+
+const folder = process.argv[2];
+const aead = new Aead(readFileSync(`${folder}/aead.wasm`));
+const keywrap = new KeyWrap(readFileSync(`${folder}/keywrap.wasm`));
+
+const bytes = (hex) => Uint8Array.from(hex.match(/../g) ?? [], (digits) => parseInt(digits, 16));
+const hex = (array) => Array.from(array, (byte) => byte.toString(16).padStart(2, "0")).join("");
+const refuses = (fault, call) => assert.throws(call, (error) => error instanceof Refused && error.fault === fault);
+
+// AES-128-GCM of sixteen zero bytes under a zero key and nonce: test case 2 of GCM's vectors.
+const zero = new Uint8Array(16);
+const none = new Uint8Array(0);
+const nonce = new Uint8Array(12);
+const sealed = aead.seal(Suite.AES_128_GCM, zero, nonce, none, zero);
+assert.equal(hex(sealed), "0388dace60b6a392f328c2b971b2fe78ab6e47d42cec13bdf53a67b21257bddf");
+assert.deepEqual(aead.open(Suite.AES_128_GCM, zero, nonce, none, sealed), zero);
+sealed[3] ^= 1;
+refuses("TagMismatch", () => aead.open(Suite.AES_128_GCM, zero, nonce, none, sealed));
+refuses("TooShort", () => aead.open(Suite.AES_128_GCM, zero, nonce, none, none));
+refuses("NonceLength", () => aead.seal(Suite.AES_128_GCM, zero, zero, none, zero));
+refuses("KeyLength", () => aead.seal(Suite.AES_256_GCM, zero, nonce, none, zero));
+refuses("UnknownSuite", () => aead.seal(7, zero, nonce, none, zero));
+
+// RFC 8452, C.1, with associated data of one byte.
+const siv = aead.seal(Suite.AES_128_GCM_SIV, bytes("01".padEnd(32, "0")), bytes("03".padEnd(24, "0")), bytes("01"),
+    bytes("02".padEnd(16, "0")));
+assert.equal(hex(siv), "1e6daba35669f4273b0a1a2560969cdf790d99759abd1508");
+
+// A text that the memory has to grow for.
+const key = new Uint8Array(32);
+const long = new Uint8Array(4 << 20).fill(1);
+const longSealed = aead.seal(Suite.CHACHA20_POLY1305, key, nonce, none, long);
+assert.deepEqual(aead.open(Suite.CHACHA20_POLY1305, key, nonce, none, longSealed), long);
+
+// RFC 3394, 4.1.
+const wrapped = keywrap.wrap(bytes("000102030405060708090a0b0c0d0e0f"), bytes("00112233445566778899aabbccddeeff"));
+assert.equal(hex(wrapped), "1fa68b0a8112b447aef34bd8fb5a7b829d3e862371d2cfe5");
+assert.equal(hex(keywrap.unwrap(bytes("000102030405060708090a0b0c0d0e0f"), wrapped)), "00112233445566778899aabbccddeeff");
+wrapped[23] ^= 1;
+refuses("WrapIntegrity", () => keywrap.unwrap(bytes("000102030405060708090a0b0c0d0e0f"), wrapped));
+refuses("WrapLength", () => keywrap.wrap(zero, bytes("0011223344556677")));
+
+// RFC 5649, 6: a text of 7 bytes.
+const paddingKey = bytes("5840df6e29b02af1ab493b705bf16ea1ae8338f4dcc176a8");
+const padded = keywrap.wrapPadded(paddingKey, bytes("466f7250617369"));
+assert.equal(hex(padded), "afbeb0f07dfbf5419200f2ccb50bb24f");
+assert.equal(hex(keywrap.unwrapPadded(paddingKey, padded)), "466f7250617369");

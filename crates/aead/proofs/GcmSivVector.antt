@@ -1,0 +1,269 @@
+-- A sealing of AES-128-GCM-SIV with associated data, computed by the definitions (RFC 8452, C.1, the text of eight bytes
+-- with associated data of one byte).
+use Rattle.std.proofs.Common.{◌≡◌, ℕ, List, [], ◌∷◌, ◌++◌, take, get_or, refl, ap, ap₂, ◌∙◌, inl}
+use Rattle.octets.specs.Bits.{v, bytes_of_v}
+use Rattle.octets.specs.Bytes.{IsBlock, le, xor_bytes}
+use Rattle.octets.specs.Masked.{masked}
+use Rattle.octets.specs.Polynomial.{sum, product, residue}
+use Rattle.aes.specs.Schedule.{xor_word, rcon}
+use Rattle.aes.specs.Cipher.{shift_rows, add_round_key, cipher, IsKey}
+use Rattle.aes.specs.Counters.{up_le, counter_byte}
+use Rattle.aes.proofs.Small.{all_small}
+use Rattle.aes.proofs.Computed.{words_by_table, schedule_by_table, sub_by_table, mix_by_doubling, rounds_computed, cipher_computed, cipher_is_computed}
+use Rattle.gf128.specs.Polyval.{dot, polyval_sum, polyval}
+use Rattle.aead.specs.declared.suite.Suite.TheVariants.{Aes128GcmSiv}
+use Rattle.aead.specs.Suites.{ByGcmSiv}
+use Rattle.aead.specs.Sealing.{key_part, authentication_key, encryption_key, siv_authenticated, last_byte_by, tag_block, counter_block, mask_by, mask, tag_over_by, tag_by, tag_of, sealing}
+
+-- the key
+unfoldable key : List ℕ
+key =
+    0x01 ∷ 0x00 ∷ 0x00 ∷ 0x00 ∷ 0x00 ∷ 0x00 ∷ 0x00 ∷ 0x00 ∷ 0x00 ∷ 0x00 ∷ 0x00 ∷ 0x00 ∷ 0x00 ∷ 0x00 ∷ 0x00 ∷ 0x00 ∷ []
+
+-- the words of its schedule
+unfoldable key_words : List (List ℕ)
+key_words =
+    (0x01 ∷ 0x00 ∷ 0x00 ∷ 0x00 ∷ []) ∷ (0x00 ∷ 0x00 ∷ 0x00 ∷ 0x00 ∷ []) ∷
+    (0x00 ∷ 0x00 ∷ 0x00 ∷ 0x00 ∷ []) ∷ (0x00 ∷ 0x00 ∷ 0x00 ∷ 0x00 ∷ []) ∷
+    (0x63 ∷ 0x63 ∷ 0x63 ∷ 0x63 ∷ []) ∷ (0x63 ∷ 0x63 ∷ 0x63 ∷ 0x63 ∷ []) ∷
+    (0x63 ∷ 0x63 ∷ 0x63 ∷ 0x63 ∷ []) ∷ (0x63 ∷ 0x63 ∷ 0x63 ∷ 0x63 ∷ []) ∷
+    (0x9a ∷ 0x98 ∷ 0x98 ∷ 0x98 ∷ []) ∷ (0xf9 ∷ 0xfb ∷ 0xfb ∷ 0xfb ∷ []) ∷
+    (0x9a ∷ 0x98 ∷ 0x98 ∷ 0x98 ∷ []) ∷ (0xf9 ∷ 0xfb ∷ 0xfb ∷ 0xfb ∷ []) ∷
+    (0x91 ∷ 0x97 ∷ 0x97 ∷ 0x01 ∷ []) ∷ (0x68 ∷ 0x6c ∷ 0x6c ∷ 0xfa ∷ []) ∷
+    (0xf2 ∷ 0xf4 ∷ 0xf4 ∷ 0x62 ∷ []) ∷ (0x0b ∷ 0x0f ∷ 0x0f ∷ 0x99 ∷ []) ∷
+    (0xef ∷ 0xe1 ∷ 0x79 ∷ 0x2a ∷ []) ∷ (0x87 ∷ 0x8d ∷ 0x15 ∷ 0xd0 ∷ []) ∷
+    (0x75 ∷ 0x79 ∷ 0xe1 ∷ 0xb2 ∷ []) ∷ (0x7e ∷ 0x76 ∷ 0xee ∷ 0x2b ∷ []) ∷
+    (0xc7 ∷ 0xc9 ∷ 0x88 ∷ 0xd9 ∷ []) ∷ (0x40 ∷ 0x44 ∷ 0x9d ∷ 0x09 ∷ []) ∷
+    (0x35 ∷ 0x3d ∷ 0x7c ∷ 0xbb ∷ []) ∷ (0x4b ∷ 0x4b ∷ 0x92 ∷ 0x90 ∷ []) ∷
+    (0x54 ∷ 0x86 ∷ 0xe8 ∷ 0x6a ∷ []) ∷ (0x14 ∷ 0xc2 ∷ 0x75 ∷ 0x63 ∷ []) ∷
+    (0x21 ∷ 0xff ∷ 0x09 ∷ 0xd8 ∷ []) ∷ (0x6a ∷ 0xb4 ∷ 0x9b ∷ 0x48 ∷ []) ∷
+    (0x99 ∷ 0x92 ∷ 0xba ∷ 0x68 ∷ []) ∷ (0x8d ∷ 0x50 ∷ 0xcf ∷ 0x0b ∷ []) ∷
+    (0xac ∷ 0xaf ∷ 0xc6 ∷ 0xd3 ∷ []) ∷ (0xc6 ∷ 0x1b ∷ 0x5d ∷ 0x9b ∷ []) ∷
+    (0xb6 ∷ 0xde ∷ 0xae ∷ 0xdc ∷ []) ∷ (0x3b ∷ 0x8e ∷ 0x61 ∷ 0xd7 ∷ []) ∷
+    (0x97 ∷ 0x21 ∷ 0xa7 ∷ 0x04 ∷ []) ∷ (0x51 ∷ 0x3a ∷ 0xfa ∷ 0x9f ∷ []) ∷
+    (0x2d ∷ 0xf3 ∷ 0x75 ∷ 0x0d ∷ []) ∷ (0x16 ∷ 0x7d ∷ 0x14 ∷ 0xda ∷ []) ∷
+    (0x81 ∷ 0x5c ∷ 0xb3 ∷ 0xde ∷ []) ∷ (0xd0 ∷ 0x66 ∷ 0x49 ∷ 0x41 ∷ []) ∷
+    (0x28 ∷ 0xc8 ∷ 0xf6 ∷ 0x7d ∷ []) ∷ (0x3e ∷ 0xb5 ∷ 0xe2 ∷ 0xa7 ∷ []) ∷
+    (0xbf ∷ 0xe9 ∷ 0x51 ∷ 0x79 ∷ []) ∷ (0x6f ∷ 0x8f ∷ 0x18 ∷ 0x38 ∷ []) ∷ []
+
+-- as the definition makes them
+key_schedule : schedule_by_table key ≡ key_words
+unfolding key key_words words_by_table xor_word rcon residue
+key_schedule = refl
+
+-- it is a key
+key_is_key : IsKey key
+unfolding key
+key_is_key = record { length_is = inl refl; bytes = all_small key refl }
+
+-- the derived encryption key
+unfoldable derived : List ℕ
+derived =
+    0x40 ∷ 0x04 ∷ 0xa0 ∷ 0xdc ∷ 0xd8 ∷ 0x62 ∷ 0xf2 ∷ 0xa5 ∷ 0x73 ∷ 0x60 ∷ 0x21 ∷ 0x9d ∷ 0x2d ∷ 0x44 ∷ 0xef ∷ 0x6c ∷ []
+
+-- the words of its schedule
+unfoldable derived_words : List (List ℕ)
+derived_words =
+    (0x40 ∷ 0x04 ∷ 0xa0 ∷ 0xdc ∷ []) ∷ (0xd8 ∷ 0x62 ∷ 0xf2 ∷ 0xa5 ∷ []) ∷
+    (0x73 ∷ 0x60 ∷ 0x21 ∷ 0x9d ∷ []) ∷ (0x2d ∷ 0x44 ∷ 0xef ∷ 0x6c ∷ []) ∷
+    (0x5a ∷ 0xdb ∷ 0xf0 ∷ 0x04 ∷ []) ∷ (0x82 ∷ 0xb9 ∷ 0x02 ∷ 0xa1 ∷ []) ∷
+    (0xf1 ∷ 0xd9 ∷ 0x23 ∷ 0x3c ∷ []) ∷ (0xdc ∷ 0x9d ∷ 0xcc ∷ 0x50 ∷ []) ∷
+    (0x06 ∷ 0x90 ∷ 0xa3 ∷ 0x82 ∷ []) ∷ (0x84 ∷ 0x29 ∷ 0xa1 ∷ 0x23 ∷ []) ∷
+    (0x75 ∷ 0xf0 ∷ 0x82 ∷ 0x1f ∷ []) ∷ (0xa9 ∷ 0x6d ∷ 0x4e ∷ 0x4f ∷ []) ∷
+    (0x3e ∷ 0xbf ∷ 0x27 ∷ 0x51 ∷ []) ∷ (0xba ∷ 0x96 ∷ 0x86 ∷ 0x72 ∷ []) ∷
+    (0xcf ∷ 0x66 ∷ 0x04 ∷ 0x6d ∷ []) ∷ (0x66 ∷ 0x0b ∷ 0x4a ∷ 0x22 ∷ []) ∷
+    (0x1d ∷ 0x69 ∷ 0xb4 ∷ 0x62 ∷ []) ∷ (0xa7 ∷ 0xff ∷ 0x32 ∷ 0x10 ∷ []) ∷
+    (0x68 ∷ 0x99 ∷ 0x36 ∷ 0x7d ∷ []) ∷ (0x0e ∷ 0x92 ∷ 0x7c ∷ 0x5f ∷ []) ∷
+    (0x42 ∷ 0x79 ∷ 0x7b ∷ 0xc9 ∷ []) ∷ (0xe5 ∷ 0x86 ∷ 0x49 ∷ 0xd9 ∷ []) ∷
+    (0x8d ∷ 0x1f ∷ 0x7f ∷ 0xa4 ∷ []) ∷ (0x83 ∷ 0x8d ∷ 0x03 ∷ 0xfb ∷ []) ∷
+    (0x3f ∷ 0x02 ∷ 0x74 ∷ 0x25 ∷ []) ∷ (0xda ∷ 0x84 ∷ 0x3d ∷ 0xfc ∷ []) ∷
+    (0x57 ∷ 0x9b ∷ 0x42 ∷ 0x58 ∷ []) ∷ (0xd4 ∷ 0x16 ∷ 0x41 ∷ 0xa3 ∷ []) ∷
+    (0x38 ∷ 0x81 ∷ 0x7e ∷ 0x6d ∷ []) ∷ (0xe2 ∷ 0x05 ∷ 0x43 ∷ 0x91 ∷ []) ∷
+    (0xb5 ∷ 0x9e ∷ 0x01 ∷ 0xc9 ∷ []) ∷ (0x61 ∷ 0x88 ∷ 0x40 ∷ 0x6a ∷ []) ∷
+    (0x7c ∷ 0x88 ∷ 0x7c ∷ 0x82 ∷ []) ∷ (0x9e ∷ 0x8d ∷ 0x3f ∷ 0x13 ∷ []) ∷
+    (0x2b ∷ 0x13 ∷ 0x3e ∷ 0xda ∷ []) ∷ (0x4a ∷ 0x9b ∷ 0x7e ∷ 0xb0 ∷ []) ∷
+    (0x73 ∷ 0x7b ∷ 0x9b ∷ 0x54 ∷ []) ∷ (0xed ∷ 0xf6 ∷ 0xa4 ∷ 0x47 ∷ []) ∷
+    (0xc6 ∷ 0xe5 ∷ 0x9a ∷ 0x9d ∷ []) ∷ (0x8c ∷ 0x7e ∷ 0xe4 ∷ 0x2d ∷ []) ∷
+    (0xb6 ∷ 0x12 ∷ 0x43 ∷ 0x30 ∷ []) ∷ (0x5b ∷ 0xe4 ∷ 0xe7 ∷ 0x77 ∷ []) ∷
+    (0x9d ∷ 0x01 ∷ 0x7d ∷ 0xea ∷ []) ∷ (0x11 ∷ 0x7f ∷ 0x99 ∷ 0xc7 ∷ []) ∷ []
+
+-- as the definition makes them
+derived_schedule : schedule_by_table derived ≡ derived_words
+unfolding derived derived_words words_by_table xor_word rcon residue
+derived_schedule = refl
+
+-- it is a key
+derived_is_key : IsKey derived
+unfolding derived
+derived_is_key = record { length_is = inl refl; bytes = all_small derived refl }
+
+-- the nonce
+unfoldable nonce : List ℕ
+nonce = 0x03 ∷ 0x00 ∷ 0x00 ∷ 0x00 ∷ 0x00 ∷ 0x00 ∷ 0x00 ∷ 0x00 ∷ 0x00 ∷ 0x00 ∷ 0x00 ∷ 0x00 ∷ []
+
+-- the associated data
+unfoldable aad : List ℕ
+aad = 0x01 ∷ []
+
+-- the text
+unfoldable text : List ℕ
+text = 0x02 ∷ 0x00 ∷ 0x00 ∷ 0x00 ∷ 0x00 ∷ 0x00 ∷ 0x00 ∷ 0x00 ∷ []
+
+-- its ciphertext
+unfoldable ciphertext : List ℕ
+ciphertext = 0x1e ∷ 0x6d ∷ 0xab ∷ 0xa3 ∷ 0x56 ∷ 0x69 ∷ 0xf4 ∷ 0x27 ∷ []
+
+-- the tag
+unfoldable tag : List ℕ
+tag =
+    0x3b ∷ 0x0a ∷ 0x1a ∷ 0x25 ∷ 0x60 ∷ 0x96 ∷ 0x9c ∷ 0xdf ∷ 0x79 ∷ 0x0d ∷ 0x99 ∷ 0x75 ∷ 0x9a ∷ 0xbd ∷ 0x15 ∷ 0x08 ∷ []
+
+-- the derived authentication key
+unfoldable authentication : List ℕ
+authentication =
+    0xd9 ∷ 0xb3 ∷ 0x60 ∷ 0x27 ∷ 0x96 ∷ 0x94 ∷ 0x94 ∷ 0x1a ∷ 0xc5 ∷ 0xdb ∷ 0xc6 ∷ 0x98 ∷ 0x7a ∷ 0xda ∷ 0x73 ∷ 0x77 ∷ []
+
+-- the block of part 0 of the derived keys
+part0_block : List ℕ
+part0_block =
+    0x00 ∷ 0x00 ∷ 0x00 ∷ 0x00 ∷ 0x03 ∷ 0x00 ∷ 0x00 ∷ 0x00 ∷ 0x00 ∷ 0x00 ∷ 0x00 ∷ 0x00 ∷ 0x00 ∷ 0x00 ∷ 0x00 ∷ 0x00 ∷ []
+
+-- its cipher
+part0_ciphered : List ℕ
+part0_ciphered =
+    0xd9 ∷ 0xb3 ∷ 0x60 ∷ 0x27 ∷ 0x96 ∷ 0x94 ∷ 0x94 ∷ 0x1a ∷ 0x20 ∷ 0x10 ∷ 0xbe ∷ 0x79 ∷ 0x0f ∷ 0xf8 ∷ 0x19 ∷ 0x54 ∷ []
+
+-- as the definition makes it
+part0_is : cipher key part0_block ≡ part0_ciphered
+unfolding key key_words part0_block part0_ciphered cipher_computed rounds_computed add_round_key shift_rows sub_by_table mix_by_doubling
+part0_is =
+    let block : IsBlock part0_block = record { length_is = refl; bytes = all_small part0_block refl } in
+    cipher_is_computed key part0_block key_words key_is_key block key_schedule ∙ refl
+
+-- the block of part 1 of the derived keys
+part1_block : List ℕ
+part1_block =
+    0x01 ∷ 0x00 ∷ 0x00 ∷ 0x00 ∷ 0x03 ∷ 0x00 ∷ 0x00 ∷ 0x00 ∷ 0x00 ∷ 0x00 ∷ 0x00 ∷ 0x00 ∷ 0x00 ∷ 0x00 ∷ 0x00 ∷ 0x00 ∷ []
+
+-- its cipher
+part1_ciphered : List ℕ
+part1_ciphered =
+    0xc5 ∷ 0xdb ∷ 0xc6 ∷ 0x98 ∷ 0x7a ∷ 0xda ∷ 0x73 ∷ 0x77 ∷ 0x58 ∷ 0x56 ∷ 0x8e ∷ 0x35 ∷ 0x52 ∷ 0x05 ∷ 0x91 ∷ 0x32 ∷ []
+
+-- as the definition makes it
+part1_is : cipher key part1_block ≡ part1_ciphered
+unfolding key key_words part1_block part1_ciphered cipher_computed rounds_computed add_round_key shift_rows sub_by_table mix_by_doubling
+part1_is =
+    let block : IsBlock part1_block = record { length_is = refl; bytes = all_small part1_block refl } in
+    cipher_is_computed key part1_block key_words key_is_key block key_schedule ∙ refl
+
+-- the block of part 2 of the derived keys
+part2_block : List ℕ
+part2_block =
+    0x02 ∷ 0x00 ∷ 0x00 ∷ 0x00 ∷ 0x03 ∷ 0x00 ∷ 0x00 ∷ 0x00 ∷ 0x00 ∷ 0x00 ∷ 0x00 ∷ 0x00 ∷ 0x00 ∷ 0x00 ∷ 0x00 ∷ 0x00 ∷ []
+
+-- its cipher
+part2_ciphered : List ℕ
+part2_ciphered =
+    0x40 ∷ 0x04 ∷ 0xa0 ∷ 0xdc ∷ 0xd8 ∷ 0x62 ∷ 0xf2 ∷ 0xa5 ∷ 0xf5 ∷ 0x59 ∷ 0xf1 ∷ 0x16 ∷ 0xbe ∷ 0xe7 ∷ 0x23 ∷ 0x88 ∷ []
+
+-- as the definition makes it
+part2_is : cipher key part2_block ≡ part2_ciphered
+unfolding key key_words part2_block part2_ciphered cipher_computed rounds_computed add_round_key shift_rows sub_by_table mix_by_doubling
+part2_is =
+    let block : IsBlock part2_block = record { length_is = refl; bytes = all_small part2_block refl } in
+    cipher_is_computed key part2_block key_words key_is_key block key_schedule ∙ refl
+
+-- the block of part 3 of the derived keys
+part3_block : List ℕ
+part3_block =
+    0x03 ∷ 0x00 ∷ 0x00 ∷ 0x00 ∷ 0x03 ∷ 0x00 ∷ 0x00 ∷ 0x00 ∷ 0x00 ∷ 0x00 ∷ 0x00 ∷ 0x00 ∷ 0x00 ∷ 0x00 ∷ 0x00 ∷ 0x00 ∷ []
+
+-- its cipher
+part3_ciphered : List ℕ
+part3_ciphered =
+    0x73 ∷ 0x60 ∷ 0x21 ∷ 0x9d ∷ 0x2d ∷ 0x44 ∷ 0xef ∷ 0x6c ∷ 0x3d ∷ 0x19 ∷ 0x0c ∷ 0x79 ∷ 0x5f ∷ 0xe5 ∷ 0x4c ∷ 0x0c ∷ []
+
+-- as the definition makes it
+part3_is : cipher key part3_block ≡ part3_ciphered
+unfolding key key_words part3_block part3_ciphered cipher_computed rounds_computed add_round_key shift_rows sub_by_table mix_by_doubling
+part3_is =
+    let block : IsBlock part3_block = record { length_is = refl; bytes = all_small part3_block refl } in
+    cipher_is_computed key part3_block key_words key_is_key block key_schedule ∙ refl
+
+-- the block whose cipher is the tag
+last_block : List ℕ
+last_block =
+    0xb1 ∷ 0x67 ∷ 0x81 ∷ 0xe7 ∷ 0xe2 ∷ 0xc1 ∷ 0x37 ∷ 0x6f ∷ 0x96 ∷ 0xbe ∷ 0xc1 ∷ 0x95 ∷ 0xf3 ∷ 0x70 ∷ 0x9b ∷ 0x2a ∷ []
+
+-- its cipher
+last_ciphered : List ℕ
+last_ciphered =
+    0x3b ∷ 0x0a ∷ 0x1a ∷ 0x25 ∷ 0x60 ∷ 0x96 ∷ 0x9c ∷ 0xdf ∷ 0x79 ∷ 0x0d ∷ 0x99 ∷ 0x75 ∷ 0x9a ∷ 0xbd ∷ 0x15 ∷ 0x08 ∷ []
+
+-- as the definition makes it
+last_is : cipher derived last_block ≡ last_ciphered
+unfolding derived derived_words last_block last_ciphered cipher_computed rounds_computed add_round_key shift_rows sub_by_table mix_by_doubling
+last_is =
+    let block : IsBlock last_block = record { length_is = refl; bytes = all_small last_block refl } in
+    cipher_is_computed derived last_block derived_words derived_is_key block derived_schedule ∙ refl
+
+-- the first counter block
+first_counter_block : List ℕ
+first_counter_block =
+    0x3b ∷ 0x0a ∷ 0x1a ∷ 0x25 ∷ 0x60 ∷ 0x96 ∷ 0x9c ∷ 0xdf ∷ 0x79 ∷ 0x0d ∷ 0x99 ∷ 0x75 ∷ 0x9a ∷ 0xbd ∷ 0x15 ∷ 0x88 ∷ []
+
+-- its cipher
+counter_ciphered : List ℕ
+counter_ciphered =
+    0x1c ∷ 0x6d ∷ 0xab ∷ 0xa3 ∷ 0x56 ∷ 0x69 ∷ 0xf4 ∷ 0x27 ∷ 0x79 ∷ 0xc8 ∷ 0x62 ∷ 0x30 ∷ 0xee ∷ 0xca ∷ 0x6f ∷ 0xca ∷ []
+
+-- as the definition makes it
+counter_is : cipher derived first_counter_block ≡ counter_ciphered
+unfolding derived derived_words first_counter_block counter_ciphered cipher_computed rounds_computed add_round_key shift_rows sub_by_table mix_by_doubling
+counter_is =
+    let block : IsBlock first_counter_block = record { length_is = refl; bytes = all_small first_counter_block refl } in
+    cipher_is_computed derived first_counter_block derived_words derived_is_key block derived_schedule ∙ refl
+
+-- the derived authentication key is that of key and nonce
+authentication_is : authentication_key key nonce ≡ authentication
+unfolding authentication_key key_part nonce authentication part0_block part1_block part0_ciphered part1_ciphered
+authentication_is = ap₂ (λ a b. take 8 a ++ take 8 b) part0_is part1_is ∙ refl
+
+-- the derived encryption key is that of key and nonce
+encryption_is : encryption_key key nonce ≡ derived
+unfolding key encryption_key key_part nonce derived part2_block part3_block part2_ciphered part3_ciphered
+encryption_is = ap₂ (λ a b. take 8 a ++ (take 8 b ++ [])) part2_is part3_is ∙ refl
+
+-- the block that POLYVAL of what is authenticated gives
+last_is_of : tag_block (polyval authentication (siv_authenticated aad text)) nonce ≡ last_block
+unfolding authentication siv_authenticated aad text nonce last_block tag_block last_byte_by xor_bytes polyval polyval_sum dot residue product sum v bytes_of_v
+last_is_of = refl
+
+-- its cipher is the tag
+last_cipher : last_ciphered ≡ tag
+unfolding last_ciphered tag
+last_cipher = refl
+
+-- the tag is that of the text
+tag_is : tag_by ByGcmSiv key nonce aad text ≡ tag
+unfolding tag_by tag_over_by
+tag_is =
+    ap₂ (λ e a. cipher e (tag_block (polyval a (siv_authenticated aad text)) nonce)) encryption_is authentication_is
+    ∙ ap (cipher derived) last_is_of
+    ∙ last_is
+    ∙ last_cipher
+
+-- the ciphertext is that of the text under the tag
+ciphertext_is : masked (mask_by ByGcmSiv key nonce tag) 0 text ≡ ciphertext
+unfolding mask_by counter_byte up_le le counter_block last_byte_by masked tag text ciphertext first_counter_block counter_ciphered
+ciphertext_is =
+    ap (λ e. masked (counter_byte up_le e (counter_block tag)) 0 text) encryption_is
+    ∙ (ap (λ b. masked (λ i. get_or b i 0) 0 text) counter_is ∙ refl)
+
+-- the sealing
+one_sealing : sealing (record { suite = Aes128GcmSiv; key = key; nonce = nonce; aad = aad }) text ≡ ciphertext ++ tag
+unfolding sealing tag_of mask
+one_sealing =
+    ap (λ t. masked (mask_by ByGcmSiv key nonce t) 0 text ++ t) tag_is
+    ∙ ap (λ c. c ++ tag) ciphertext_is

@@ -1,0 +1,160 @@
+-- A sealing of AES-128-GCM with associated data, computed by the definitions (NIST's test vectors for SP 800-38D,
+-- 96 bits of nonce, 128 of text, of associated data and of tag, the first).
+use Rattle.std.proofs.Common.{◌≡◌, ℕ, List, [], ◌∷◌, ◌++◌, get_or, refl, ap, ap₂, ◌∙◌, inl}
+use Rattle.octets.specs.Bits.{g, bytes_of_g}
+use Rattle.octets.specs.Bytes.{IsBlock, be, xor_bytes}
+use Rattle.octets.specs.Masked.{masked}
+use Rattle.octets.specs.Polynomial.{product, power, sum_of_first, residue}
+use Rattle.aes.specs.Schedule.{xor_word, rcon}
+use Rattle.aes.specs.Cipher.{shift_rows, add_round_key, cipher, IsKey}
+use Rattle.aes.specs.Counters.{up_be, counter_byte}
+use Rattle.aes.proofs.Small.{all_small}
+use Rattle.aes.proofs.Computed.{words_by_table, schedule_by_table, sub_by_table, mix_by_doubling, rounds_computed, cipher_computed, cipher_is_computed}
+use Rattle.gf128.specs.Ghash.{ghash_sum, ghash}
+use Rattle.aead.specs.declared.suite.Suite.TheVariants.{Aes128Gcm}
+use Rattle.aead.specs.Suites.{ByGcm}
+use Rattle.aead.specs.Sealing.{hash_key, j0, gcm_authenticated, mask_by, mask, tag_over_by, tag_by, tag_of, sealing}
+
+-- the key
+unfoldable key : List ℕ
+key =
+    0xc9 ∷ 0x39 ∷ 0xcc ∷ 0x13 ∷ 0x39 ∷ 0x7c ∷ 0x1d ∷ 0x37 ∷ 0xde ∷ 0x6a ∷ 0xe0 ∷ 0xe1 ∷ 0xcb ∷ 0x7c ∷ 0x42 ∷ 0x3c ∷ []
+
+-- the words of its schedule
+unfoldable key_words : List (List ℕ)
+key_words =
+    (0xc9 ∷ 0x39 ∷ 0xcc ∷ 0x13 ∷ []) ∷ (0x39 ∷ 0x7c ∷ 0x1d ∷ 0x37 ∷ []) ∷
+    (0xde ∷ 0x6a ∷ 0xe0 ∷ 0xe1 ∷ []) ∷ (0xcb ∷ 0x7c ∷ 0x42 ∷ 0x3c ∷ []) ∷
+    (0xd8 ∷ 0x15 ∷ 0x27 ∷ 0x0c ∷ []) ∷ (0xe1 ∷ 0x69 ∷ 0x3a ∷ 0x3b ∷ []) ∷
+    (0x3f ∷ 0x03 ∷ 0xda ∷ 0xda ∷ []) ∷ (0xf4 ∷ 0x7f ∷ 0x98 ∷ 0xe6 ∷ []) ∷
+    (0x08 ∷ 0x53 ∷ 0xa9 ∷ 0xb3 ∷ []) ∷ (0xe9 ∷ 0x3a ∷ 0x93 ∷ 0x88 ∷ []) ∷
+    (0xd6 ∷ 0x39 ∷ 0x49 ∷ 0x52 ∷ []) ∷ (0x22 ∷ 0x46 ∷ 0xd1 ∷ 0xb4 ∷ []) ∷
+    (0x56 ∷ 0x6d ∷ 0x24 ∷ 0x20 ∷ []) ∷ (0xbf ∷ 0x57 ∷ 0xb7 ∷ 0xa8 ∷ []) ∷
+    (0x69 ∷ 0x6e ∷ 0xfe ∷ 0xfa ∷ []) ∷ (0x4b ∷ 0x28 ∷ 0x2f ∷ 0x4e ∷ []) ∷
+    (0x6a ∷ 0x78 ∷ 0x0b ∷ 0x93 ∷ []) ∷ (0xd5 ∷ 0x2f ∷ 0xbc ∷ 0x3b ∷ []) ∷
+    (0xbc ∷ 0x41 ∷ 0x42 ∷ 0xc1 ∷ []) ∷ (0xf7 ∷ 0x69 ∷ 0x6d ∷ 0x8f ∷ []) ∷
+    (0x83 ∷ 0x44 ∷ 0x78 ∷ 0xfb ∷ []) ∷ (0x56 ∷ 0x6b ∷ 0xc4 ∷ 0xc0 ∷ []) ∷
+    (0xea ∷ 0x2a ∷ 0x86 ∷ 0x01 ∷ []) ∷ (0x1d ∷ 0x43 ∷ 0xeb ∷ 0x8e ∷ []) ∷
+    (0xb9 ∷ 0xad ∷ 0x61 ∷ 0x5f ∷ []) ∷ (0xef ∷ 0xc6 ∷ 0xa5 ∷ 0x9f ∷ []) ∷
+    (0x05 ∷ 0xec ∷ 0x23 ∷ 0x9e ∷ []) ∷ (0x18 ∷ 0xaf ∷ 0xc8 ∷ 0x10 ∷ []) ∷
+    (0x80 ∷ 0x45 ∷ 0xab ∷ 0xf2 ∷ []) ∷ (0x6f ∷ 0x83 ∷ 0x0e ∷ 0x6d ∷ []) ∷
+    (0x6a ∷ 0x6f ∷ 0x2d ∷ 0xf3 ∷ []) ∷ (0x72 ∷ 0xc0 ∷ 0xe5 ∷ 0xe3 ∷ []) ∷
+    (0xba ∷ 0x9c ∷ 0xba ∷ 0xb2 ∷ []) ∷ (0xd5 ∷ 0x1f ∷ 0xb4 ∷ 0xdf ∷ []) ∷
+    (0xbf ∷ 0x70 ∷ 0x99 ∷ 0x2c ∷ []) ∷ (0xcd ∷ 0xb0 ∷ 0x7c ∷ 0xcf ∷ []) ∷
+    (0x46 ∷ 0x8c ∷ 0x30 ∷ 0x0f ∷ []) ∷ (0x93 ∷ 0x93 ∷ 0x84 ∷ 0xd0 ∷ []) ∷
+    (0x2c ∷ 0xe3 ∷ 0x1d ∷ 0xfc ∷ []) ∷ (0xe1 ∷ 0x53 ∷ 0x61 ∷ 0x33 ∷ []) ∷
+    (0x9d ∷ 0x63 ∷ 0xf3 ∷ 0xf7 ∷ []) ∷ (0x0e ∷ 0xf0 ∷ 0x77 ∷ 0x27 ∷ []) ∷
+    (0x22 ∷ 0x13 ∷ 0x6a ∷ 0xdb ∷ []) ∷ (0xc3 ∷ 0x40 ∷ 0x0b ∷ 0xe8 ∷ []) ∷ []
+
+-- as the definition makes them
+key_schedule : schedule_by_table key ≡ key_words
+unfolding key key_words words_by_table xor_word rcon residue
+key_schedule = refl
+
+-- it is a key
+key_is_key : IsKey key
+unfolding key
+key_is_key = record { length_is = inl refl; bytes = all_small key refl }
+
+-- the nonce
+unfoldable nonce : List ℕ
+nonce = 0xb3 ∷ 0xd8 ∷ 0xcc ∷ 0x01 ∷ 0x7c ∷ 0xbb ∷ 0x89 ∷ 0xb3 ∷ 0x9e ∷ 0x0f ∷ 0x67 ∷ 0xe2 ∷ []
+
+-- the associated data
+unfoldable aad : List ℕ
+aad =
+    0x24 ∷ 0x82 ∷ 0x56 ∷ 0x02 ∷ 0xbd ∷ 0x12 ∷ 0xa9 ∷ 0x84 ∷ 0xe0 ∷ 0x09 ∷ 0x2d ∷ 0x3e ∷ 0x44 ∷ 0x8e ∷ 0xda ∷ 0x5f ∷ []
+
+-- the text
+unfoldable text : List ℕ
+text =
+    0xc3 ∷ 0xb3 ∷ 0xc4 ∷ 0x1f ∷ 0x11 ∷ 0x3a ∷ 0x31 ∷ 0xb7 ∷ 0x3d ∷ 0x9a ∷ 0x5c ∷ 0xd4 ∷ 0x32 ∷ 0x10 ∷ 0x30 ∷ 0x69 ∷ []
+
+-- its ciphertext
+unfoldable ciphertext : List ℕ
+ciphertext =
+    0x93 ∷ 0xfe ∷ 0x7d ∷ 0x9e ∷ 0x9b ∷ 0xfd ∷ 0x10 ∷ 0x34 ∷ 0x8a ∷ 0x56 ∷ 0x06 ∷ 0xe5 ∷ 0xca ∷ 0xfa ∷ 0x73 ∷ 0x54 ∷ []
+
+-- the tag
+unfoldable tag : List ℕ
+tag =
+    0x00 ∷ 0x32 ∷ 0xa1 ∷ 0xdc ∷ 0x85 ∷ 0xf1 ∷ 0xc9 ∷ 0x78 ∷ 0x69 ∷ 0x25 ∷ 0xa2 ∷ 0xe7 ∷ 0x1d ∷ 0x82 ∷ 0x72 ∷ 0xdd ∷ []
+
+-- the block whose cipher is the key of GHASH
+zero_block : List ℕ
+zero_block =
+    0x00 ∷ 0x00 ∷ 0x00 ∷ 0x00 ∷ 0x00 ∷ 0x00 ∷ 0x00 ∷ 0x00 ∷ 0x00 ∷ 0x00 ∷ 0x00 ∷ 0x00 ∷ 0x00 ∷ 0x00 ∷ 0x00 ∷ 0x00 ∷ []
+
+-- its cipher
+zero_ciphered : List ℕ
+zero_ciphered =
+    0x30 ∷ 0x70 ∷ 0xd7 ∷ 0xac ∷ 0xed ∷ 0xe7 ∷ 0x8a ∷ 0x3f ∷ 0xb0 ∷ 0xe0 ∷ 0x21 ∷ 0x73 ∷ 0x93 ∷ 0xc5 ∷ 0xfb ∷ 0xc6 ∷ []
+
+-- as the definition makes it
+zero_is : cipher key zero_block ≡ zero_ciphered
+unfolding key key_words zero_block zero_ciphered cipher_computed rounds_computed add_round_key shift_rows sub_by_table mix_by_doubling
+zero_is =
+    let block : IsBlock zero_block = record { length_is = refl; bytes = all_small zero_block refl } in
+    cipher_is_computed key zero_block key_words key_is_key block key_schedule ∙ refl
+
+-- J0
+first_block : List ℕ
+first_block =
+    0xb3 ∷ 0xd8 ∷ 0xcc ∷ 0x01 ∷ 0x7c ∷ 0xbb ∷ 0x89 ∷ 0xb3 ∷ 0x9e ∷ 0x0f ∷ 0x67 ∷ 0xe2 ∷ 0x00 ∷ 0x00 ∷ 0x00 ∷ 0x01 ∷ []
+
+-- its cipher
+first_ciphered : List ℕ
+first_ciphered =
+    0x67 ∷ 0x7e ∷ 0xc2 ∷ 0x16 ∷ 0xa3 ∷ 0xa8 ∷ 0x29 ∷ 0x87 ∷ 0x14 ∷ 0xe6 ∷ 0xed ∷ 0xa6 ∷ 0x3f ∷ 0x80 ∷ 0xef ∷ 0xb9 ∷ []
+
+-- as the definition makes it
+first_is : cipher key first_block ≡ first_ciphered
+unfolding key key_words first_block first_ciphered cipher_computed rounds_computed add_round_key shift_rows sub_by_table mix_by_doubling
+first_is =
+    let block : IsBlock first_block = record { length_is = refl; bytes = all_small first_block refl } in
+    cipher_is_computed key first_block key_words key_is_key block key_schedule ∙ refl
+
+-- inc32(J0)
+second_block : List ℕ
+second_block =
+    0xb3 ∷ 0xd8 ∷ 0xcc ∷ 0x01 ∷ 0x7c ∷ 0xbb ∷ 0x89 ∷ 0xb3 ∷ 0x9e ∷ 0x0f ∷ 0x67 ∷ 0xe2 ∷ 0x00 ∷ 0x00 ∷ 0x00 ∷ 0x02 ∷ []
+
+-- its cipher
+second_ciphered : List ℕ
+second_ciphered =
+    0x50 ∷ 0x4d ∷ 0xb9 ∷ 0x81 ∷ 0x8a ∷ 0xc7 ∷ 0x21 ∷ 0x83 ∷ 0xb7 ∷ 0xcc ∷ 0x5a ∷ 0x31 ∷ 0xf8 ∷ 0xea ∷ 0x43 ∷ 0x3d ∷ []
+
+-- as the definition makes it
+second_is : cipher key second_block ≡ second_ciphered
+unfolding key key_words second_block second_ciphered cipher_computed rounds_computed add_round_key shift_rows sub_by_table mix_by_doubling
+second_is =
+    let block : IsBlock second_block = record { length_is = refl; bytes = all_small second_block refl } in
+    cipher_is_computed key second_block key_words key_is_key block key_schedule ∙ refl
+
+-- the ciphertext is that of the text
+ciphertext_is : masked (mask_by ByGcm key nonce []) 0 text ≡ ciphertext
+unfolding mask_by counter_byte up_be be j0 masked nonce text ciphertext second_block second_ciphered
+ciphertext_is = ap (λ b. masked (λ i. get_or b i 0) 0 text) second_is ∙ refl
+
+-- the key of GHASH
+hash_key_is : hash_key key ≡ zero_ciphered
+unfolding hash_key zero_block
+hash_key_is = zero_is
+
+-- GHASH under it of what is authenticated, XORed with the cipher of J0
+sum_is : xor_bytes first_ciphered (ghash zero_ciphered (gcm_authenticated aad ciphertext)) ≡ tag
+unfolding first_ciphered zero_ciphered gcm_authenticated aad ciphertext tag ghash ghash_sum sum_of_first residue product power g bytes_of_g xor_bytes
+sum_is = refl
+
+-- the tag is that of the text
+tag_is : tag_by ByGcm key nonce aad text ≡ tag
+unfolding tag_by tag_over_by j0 nonce first_block
+tag_is =
+    ap (tag_over_by ByGcm key nonce aad) ciphertext_is
+    ∙ ap₂ (λ e h. xor_bytes e (ghash h (gcm_authenticated aad ciphertext))) first_is hash_key_is
+    ∙ sum_is
+
+-- the sealing
+one_sealing : sealing (record { suite = Aes128Gcm; key = key; nonce = nonce; aad = aad }) text ≡ ciphertext ++ tag
+unfolding sealing tag_of mask mask_by
+one_sealing = ap₂ (λ c t. c ++ t) ciphertext_is tag_is
