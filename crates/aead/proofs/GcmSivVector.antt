@@ -1,4 +1,5 @@
--- A sealing of AES-128-GCM-SIV with associated data, computed by the definitions (RFC 8452, C.1, the text of eight bytes
+-- A sealing of AES-128-GCM-SIV with associated data, computed by the definitions (RFC 8452, C.1, the text of
+-- eight bytes
 -- with associated data of one byte).
 use Rattle.std.proofs.Common.{◌≡◌, ℕ, List, [], ◌∷◌, ◌++◌, take, get_or, refl, ap, ap₂, ◌∙◌, inl}
 use Rattle.octets.specs.Bits.{v, bytes_of_v}
@@ -9,16 +10,19 @@ use Rattle.aes.specs.Schedule.{xor_word, rcon}
 use Rattle.aes.specs.Cipher.{shift_rows, add_round_key, cipher, IsKey}
 use Rattle.aes.specs.Counters.{up_le, counter_byte}
 use Rattle.aes.proofs.Small.{all_small}
-use Rattle.aes.proofs.Computed.{words_by_table, schedule_by_table, sub_by_table, mix_by_doubling, rounds_computed, cipher_computed, cipher_is_computed}
+use Rattle.aes.proofs.Computed.{words_by_table, schedule_by_table, sub_by_table, mix_by_doubling}
+use Rattle.aes.proofs.Computed.{rounds_computed, cipher_computed, cipher_is_computed}
 use Rattle.gf128.specs.Polyval.{dot, polyval_sum, polyval}
 use Rattle.aead.specs.declared.suite.Suite.TheVariants.{Aes128GcmSiv}
 use Rattle.aead.specs.Suites.{ByGcmSiv}
-use Rattle.aead.specs.Sealing.{key_part, authentication_key, encryption_key, siv_authenticated, last_byte_by, tag_block, counter_block, mask_by, mask, tag_over_by, tag_by, tag_of, sealing}
+use Rattle.aead.specs.Sealing.{key_part, authentication_key, encryption_key, siv_authenticated, last_byte_by}
+use Rattle.aead.specs.Sealing.{tag_block, counter_block, mask_by, mask, tag_over_by, tag_by, tag_of, sealing}
 
 -- the key
 unfoldable key : List ℕ
 key =
-    0x01 ∷ 0x00 ∷ 0x00 ∷ 0x00 ∷ 0x00 ∷ 0x00 ∷ 0x00 ∷ 0x00 ∷ 0x00 ∷ 0x00 ∷ 0x00 ∷ 0x00 ∷ 0x00 ∷ 0x00 ∷ 0x00 ∷ 0x00 ∷ []
+    0x01 ∷ 0x00 ∷ 0x00 ∷ 0x00 ∷ 0x00 ∷ 0x00 ∷ 0x00 ∷ 0x00 ∷ 0x00 ∷ 0x00 ∷ 0x00 ∷ 0x00 ∷ 0x00 ∷ 0x00 ∷ 0x00
+    ∷ 0x00 ∷ []
 
 -- the words of its schedule
 unfoldable key_words : List (List ℕ)
@@ -59,7 +63,8 @@ key_is_key = record { length_is = inl refl; bytes = all_small key refl }
 -- the derived encryption key
 unfoldable derived : List ℕ
 derived =
-    0x40 ∷ 0x04 ∷ 0xa0 ∷ 0xdc ∷ 0xd8 ∷ 0x62 ∷ 0xf2 ∷ 0xa5 ∷ 0x73 ∷ 0x60 ∷ 0x21 ∷ 0x9d ∷ 0x2d ∷ 0x44 ∷ 0xef ∷ 0x6c ∷ []
+    0x40 ∷ 0x04 ∷ 0xa0 ∷ 0xdc ∷ 0xd8 ∷ 0x62 ∷ 0xf2 ∷ 0xa5 ∷ 0x73 ∷ 0x60 ∷ 0x21 ∷ 0x9d ∷ 0x2d ∷ 0x44 ∷ 0xef
+    ∷ 0x6c ∷ []
 
 -- the words of its schedule
 unfoldable derived_words : List (List ℕ)
@@ -116,26 +121,31 @@ ciphertext = 0x1e ∷ 0x6d ∷ 0xab ∷ 0xa3 ∷ 0x56 ∷ 0x69 ∷ 0xf4 ∷ 0x27
 -- the tag
 unfoldable tag : List ℕ
 tag =
-    0x3b ∷ 0x0a ∷ 0x1a ∷ 0x25 ∷ 0x60 ∷ 0x96 ∷ 0x9c ∷ 0xdf ∷ 0x79 ∷ 0x0d ∷ 0x99 ∷ 0x75 ∷ 0x9a ∷ 0xbd ∷ 0x15 ∷ 0x08 ∷ []
+    0x3b ∷ 0x0a ∷ 0x1a ∷ 0x25 ∷ 0x60 ∷ 0x96 ∷ 0x9c ∷ 0xdf ∷ 0x79 ∷ 0x0d ∷ 0x99 ∷ 0x75 ∷ 0x9a ∷ 0xbd ∷ 0x15
+    ∷ 0x08 ∷ []
 
 -- the derived authentication key
 unfoldable authentication : List ℕ
 authentication =
-    0xd9 ∷ 0xb3 ∷ 0x60 ∷ 0x27 ∷ 0x96 ∷ 0x94 ∷ 0x94 ∷ 0x1a ∷ 0xc5 ∷ 0xdb ∷ 0xc6 ∷ 0x98 ∷ 0x7a ∷ 0xda ∷ 0x73 ∷ 0x77 ∷ []
+    0xd9 ∷ 0xb3 ∷ 0x60 ∷ 0x27 ∷ 0x96 ∷ 0x94 ∷ 0x94 ∷ 0x1a ∷ 0xc5 ∷ 0xdb ∷ 0xc6 ∷ 0x98 ∷ 0x7a ∷ 0xda ∷ 0x73
+    ∷ 0x77 ∷ []
 
 -- the block of part 0 of the derived keys
 part0_block : List ℕ
 part0_block =
-    0x00 ∷ 0x00 ∷ 0x00 ∷ 0x00 ∷ 0x03 ∷ 0x00 ∷ 0x00 ∷ 0x00 ∷ 0x00 ∷ 0x00 ∷ 0x00 ∷ 0x00 ∷ 0x00 ∷ 0x00 ∷ 0x00 ∷ 0x00 ∷ []
+    0x00 ∷ 0x00 ∷ 0x00 ∷ 0x00 ∷ 0x03 ∷ 0x00 ∷ 0x00 ∷ 0x00 ∷ 0x00 ∷ 0x00 ∷ 0x00 ∷ 0x00 ∷ 0x00 ∷ 0x00 ∷ 0x00
+    ∷ 0x00 ∷ []
 
 -- its cipher
 part0_ciphered : List ℕ
 part0_ciphered =
-    0xd9 ∷ 0xb3 ∷ 0x60 ∷ 0x27 ∷ 0x96 ∷ 0x94 ∷ 0x94 ∷ 0x1a ∷ 0x20 ∷ 0x10 ∷ 0xbe ∷ 0x79 ∷ 0x0f ∷ 0xf8 ∷ 0x19 ∷ 0x54 ∷ []
+    0xd9 ∷ 0xb3 ∷ 0x60 ∷ 0x27 ∷ 0x96 ∷ 0x94 ∷ 0x94 ∷ 0x1a ∷ 0x20 ∷ 0x10 ∷ 0xbe ∷ 0x79 ∷ 0x0f ∷ 0xf8 ∷ 0x19
+    ∷ 0x54 ∷ []
 
 -- as the definition makes it
 part0_is : cipher key part0_block ≡ part0_ciphered
-unfolding key key_words part0_block part0_ciphered cipher_computed rounds_computed add_round_key shift_rows sub_by_table mix_by_doubling
+unfolding key key_words part0_block part0_ciphered cipher_computed rounds_computed add_round_key shift_rows
+    sub_by_table mix_by_doubling
 part0_is =
     let block : IsBlock part0_block = record { length_is = refl; bytes = all_small part0_block refl } in
     cipher_is_computed key part0_block key_words key_is_key block key_schedule ∙ refl
@@ -143,16 +153,19 @@ part0_is =
 -- the block of part 1 of the derived keys
 part1_block : List ℕ
 part1_block =
-    0x01 ∷ 0x00 ∷ 0x00 ∷ 0x00 ∷ 0x03 ∷ 0x00 ∷ 0x00 ∷ 0x00 ∷ 0x00 ∷ 0x00 ∷ 0x00 ∷ 0x00 ∷ 0x00 ∷ 0x00 ∷ 0x00 ∷ 0x00 ∷ []
+    0x01 ∷ 0x00 ∷ 0x00 ∷ 0x00 ∷ 0x03 ∷ 0x00 ∷ 0x00 ∷ 0x00 ∷ 0x00 ∷ 0x00 ∷ 0x00 ∷ 0x00 ∷ 0x00 ∷ 0x00 ∷ 0x00
+    ∷ 0x00 ∷ []
 
 -- its cipher
 part1_ciphered : List ℕ
 part1_ciphered =
-    0xc5 ∷ 0xdb ∷ 0xc6 ∷ 0x98 ∷ 0x7a ∷ 0xda ∷ 0x73 ∷ 0x77 ∷ 0x58 ∷ 0x56 ∷ 0x8e ∷ 0x35 ∷ 0x52 ∷ 0x05 ∷ 0x91 ∷ 0x32 ∷ []
+    0xc5 ∷ 0xdb ∷ 0xc6 ∷ 0x98 ∷ 0x7a ∷ 0xda ∷ 0x73 ∷ 0x77 ∷ 0x58 ∷ 0x56 ∷ 0x8e ∷ 0x35 ∷ 0x52 ∷ 0x05 ∷ 0x91
+    ∷ 0x32 ∷ []
 
 -- as the definition makes it
 part1_is : cipher key part1_block ≡ part1_ciphered
-unfolding key key_words part1_block part1_ciphered cipher_computed rounds_computed add_round_key shift_rows sub_by_table mix_by_doubling
+unfolding key key_words part1_block part1_ciphered cipher_computed rounds_computed add_round_key shift_rows
+    sub_by_table mix_by_doubling
 part1_is =
     let block : IsBlock part1_block = record { length_is = refl; bytes = all_small part1_block refl } in
     cipher_is_computed key part1_block key_words key_is_key block key_schedule ∙ refl
@@ -160,16 +173,19 @@ part1_is =
 -- the block of part 2 of the derived keys
 part2_block : List ℕ
 part2_block =
-    0x02 ∷ 0x00 ∷ 0x00 ∷ 0x00 ∷ 0x03 ∷ 0x00 ∷ 0x00 ∷ 0x00 ∷ 0x00 ∷ 0x00 ∷ 0x00 ∷ 0x00 ∷ 0x00 ∷ 0x00 ∷ 0x00 ∷ 0x00 ∷ []
+    0x02 ∷ 0x00 ∷ 0x00 ∷ 0x00 ∷ 0x03 ∷ 0x00 ∷ 0x00 ∷ 0x00 ∷ 0x00 ∷ 0x00 ∷ 0x00 ∷ 0x00 ∷ 0x00 ∷ 0x00 ∷ 0x00
+    ∷ 0x00 ∷ []
 
 -- its cipher
 part2_ciphered : List ℕ
 part2_ciphered =
-    0x40 ∷ 0x04 ∷ 0xa0 ∷ 0xdc ∷ 0xd8 ∷ 0x62 ∷ 0xf2 ∷ 0xa5 ∷ 0xf5 ∷ 0x59 ∷ 0xf1 ∷ 0x16 ∷ 0xbe ∷ 0xe7 ∷ 0x23 ∷ 0x88 ∷ []
+    0x40 ∷ 0x04 ∷ 0xa0 ∷ 0xdc ∷ 0xd8 ∷ 0x62 ∷ 0xf2 ∷ 0xa5 ∷ 0xf5 ∷ 0x59 ∷ 0xf1 ∷ 0x16 ∷ 0xbe ∷ 0xe7 ∷ 0x23
+    ∷ 0x88 ∷ []
 
 -- as the definition makes it
 part2_is : cipher key part2_block ≡ part2_ciphered
-unfolding key key_words part2_block part2_ciphered cipher_computed rounds_computed add_round_key shift_rows sub_by_table mix_by_doubling
+unfolding key key_words part2_block part2_ciphered cipher_computed rounds_computed add_round_key shift_rows
+    sub_by_table mix_by_doubling
 part2_is =
     let block : IsBlock part2_block = record { length_is = refl; bytes = all_small part2_block refl } in
     cipher_is_computed key part2_block key_words key_is_key block key_schedule ∙ refl
@@ -177,16 +193,19 @@ part2_is =
 -- the block of part 3 of the derived keys
 part3_block : List ℕ
 part3_block =
-    0x03 ∷ 0x00 ∷ 0x00 ∷ 0x00 ∷ 0x03 ∷ 0x00 ∷ 0x00 ∷ 0x00 ∷ 0x00 ∷ 0x00 ∷ 0x00 ∷ 0x00 ∷ 0x00 ∷ 0x00 ∷ 0x00 ∷ 0x00 ∷ []
+    0x03 ∷ 0x00 ∷ 0x00 ∷ 0x00 ∷ 0x03 ∷ 0x00 ∷ 0x00 ∷ 0x00 ∷ 0x00 ∷ 0x00 ∷ 0x00 ∷ 0x00 ∷ 0x00 ∷ 0x00 ∷ 0x00
+    ∷ 0x00 ∷ []
 
 -- its cipher
 part3_ciphered : List ℕ
 part3_ciphered =
-    0x73 ∷ 0x60 ∷ 0x21 ∷ 0x9d ∷ 0x2d ∷ 0x44 ∷ 0xef ∷ 0x6c ∷ 0x3d ∷ 0x19 ∷ 0x0c ∷ 0x79 ∷ 0x5f ∷ 0xe5 ∷ 0x4c ∷ 0x0c ∷ []
+    0x73 ∷ 0x60 ∷ 0x21 ∷ 0x9d ∷ 0x2d ∷ 0x44 ∷ 0xef ∷ 0x6c ∷ 0x3d ∷ 0x19 ∷ 0x0c ∷ 0x79 ∷ 0x5f ∷ 0xe5 ∷ 0x4c
+    ∷ 0x0c ∷ []
 
 -- as the definition makes it
 part3_is : cipher key part3_block ≡ part3_ciphered
-unfolding key key_words part3_block part3_ciphered cipher_computed rounds_computed add_round_key shift_rows sub_by_table mix_by_doubling
+unfolding key key_words part3_block part3_ciphered cipher_computed rounds_computed add_round_key shift_rows
+    sub_by_table mix_by_doubling
 part3_is =
     let block : IsBlock part3_block = record { length_is = refl; bytes = all_small part3_block refl } in
     cipher_is_computed key part3_block key_words key_is_key block key_schedule ∙ refl
@@ -194,16 +213,19 @@ part3_is =
 -- the block whose cipher is the tag
 last_block : List ℕ
 last_block =
-    0xb1 ∷ 0x67 ∷ 0x81 ∷ 0xe7 ∷ 0xe2 ∷ 0xc1 ∷ 0x37 ∷ 0x6f ∷ 0x96 ∷ 0xbe ∷ 0xc1 ∷ 0x95 ∷ 0xf3 ∷ 0x70 ∷ 0x9b ∷ 0x2a ∷ []
+    0xb1 ∷ 0x67 ∷ 0x81 ∷ 0xe7 ∷ 0xe2 ∷ 0xc1 ∷ 0x37 ∷ 0x6f ∷ 0x96 ∷ 0xbe ∷ 0xc1 ∷ 0x95 ∷ 0xf3 ∷ 0x70 ∷ 0x9b
+    ∷ 0x2a ∷ []
 
 -- its cipher
 last_ciphered : List ℕ
 last_ciphered =
-    0x3b ∷ 0x0a ∷ 0x1a ∷ 0x25 ∷ 0x60 ∷ 0x96 ∷ 0x9c ∷ 0xdf ∷ 0x79 ∷ 0x0d ∷ 0x99 ∷ 0x75 ∷ 0x9a ∷ 0xbd ∷ 0x15 ∷ 0x08 ∷ []
+    0x3b ∷ 0x0a ∷ 0x1a ∷ 0x25 ∷ 0x60 ∷ 0x96 ∷ 0x9c ∷ 0xdf ∷ 0x79 ∷ 0x0d ∷ 0x99 ∷ 0x75 ∷ 0x9a ∷ 0xbd ∷ 0x15
+    ∷ 0x08 ∷ []
 
 -- as the definition makes it
 last_is : cipher derived last_block ≡ last_ciphered
-unfolding derived derived_words last_block last_ciphered cipher_computed rounds_computed add_round_key shift_rows sub_by_table mix_by_doubling
+unfolding derived derived_words last_block last_ciphered cipher_computed rounds_computed add_round_key
+    shift_rows sub_by_table mix_by_doubling
 last_is =
     let block : IsBlock last_block = record { length_is = refl; bytes = all_small last_block refl } in
     cipher_is_computed derived last_block derived_words derived_is_key block derived_schedule ∙ refl
@@ -211,23 +233,28 @@ last_is =
 -- the first counter block
 first_counter_block : List ℕ
 first_counter_block =
-    0x3b ∷ 0x0a ∷ 0x1a ∷ 0x25 ∷ 0x60 ∷ 0x96 ∷ 0x9c ∷ 0xdf ∷ 0x79 ∷ 0x0d ∷ 0x99 ∷ 0x75 ∷ 0x9a ∷ 0xbd ∷ 0x15 ∷ 0x88 ∷ []
+    0x3b ∷ 0x0a ∷ 0x1a ∷ 0x25 ∷ 0x60 ∷ 0x96 ∷ 0x9c ∷ 0xdf ∷ 0x79 ∷ 0x0d ∷ 0x99 ∷ 0x75 ∷ 0x9a ∷ 0xbd ∷ 0x15
+    ∷ 0x88 ∷ []
 
 -- its cipher
 counter_ciphered : List ℕ
 counter_ciphered =
-    0x1c ∷ 0x6d ∷ 0xab ∷ 0xa3 ∷ 0x56 ∷ 0x69 ∷ 0xf4 ∷ 0x27 ∷ 0x79 ∷ 0xc8 ∷ 0x62 ∷ 0x30 ∷ 0xee ∷ 0xca ∷ 0x6f ∷ 0xca ∷ []
+    0x1c ∷ 0x6d ∷ 0xab ∷ 0xa3 ∷ 0x56 ∷ 0x69 ∷ 0xf4 ∷ 0x27 ∷ 0x79 ∷ 0xc8 ∷ 0x62 ∷ 0x30 ∷ 0xee ∷ 0xca ∷ 0x6f
+    ∷ 0xca ∷ []
 
 -- as the definition makes it
 counter_is : cipher derived first_counter_block ≡ counter_ciphered
-unfolding derived derived_words first_counter_block counter_ciphered cipher_computed rounds_computed add_round_key shift_rows sub_by_table mix_by_doubling
+unfolding derived derived_words first_counter_block counter_ciphered cipher_computed rounds_computed
+    add_round_key shift_rows sub_by_table mix_by_doubling
 counter_is =
-    let block : IsBlock first_counter_block = record { length_is = refl; bytes = all_small first_counter_block refl } in
+    let block : IsBlock first_counter_block =
+    record { length_is = refl; bytes = all_small first_counter_block refl } in
     cipher_is_computed derived first_counter_block derived_words derived_is_key block derived_schedule ∙ refl
 
 -- the derived authentication key is that of key and nonce
 authentication_is : authentication_key key nonce ≡ authentication
-unfolding authentication_key key_part nonce authentication part0_block part1_block part0_ciphered part1_ciphered
+unfolding authentication_key key_part nonce authentication part0_block part1_block part0_ciphered
+    part1_ciphered
 authentication_is = ap₂ (λ a b. take 8 a ++ take 8 b) part0_is part1_is ∙ refl
 
 -- the derived encryption key is that of key and nonce
@@ -235,9 +262,100 @@ encryption_is : encryption_key key nonce ≡ derived
 unfolding key encryption_key key_part nonce derived part2_block part3_block part2_ciphered part3_ciphered
 encryption_is = ap₂ (λ a b. take 8 a ++ (take 8 b ++ [])) part2_is part3_is ∙ refl
 
--- the block that POLYVAL of what is authenticated gives
-last_is_of : tag_block (polyval authentication (siv_authenticated aad text)) nonce ≡ last_block
-unfolding authentication siv_authenticated aad text nonce last_block tag_block last_byte_by xor_bytes polyval polyval_sum dot residue product sum v bytes_of_v
+-- what is authenticated
+unfoldable authenticated : List ℕ
+authenticated =
+    0x01 ∷ 0x00 ∷ 0x00 ∷ 0x00 ∷ 0x00 ∷ 0x00 ∷ 0x00 ∷ 0x00 ∷ 0x00 ∷ 0x00 ∷ 0x00 ∷ 0x00 ∷ 0x00 ∷ 0x00 ∷ 0x00
+    ∷ 0x00 ∷
+    0x02 ∷ 0x00 ∷ 0x00 ∷ 0x00 ∷ 0x00 ∷ 0x00 ∷ 0x00 ∷ 0x00 ∷ 0x00 ∷ 0x00 ∷ 0x00 ∷ 0x00 ∷ 0x00 ∷ 0x00 ∷ 0x00
+    ∷ 0x00 ∷
+    0x08 ∷ 0x00 ∷ 0x00 ∷ 0x00 ∷ 0x00 ∷ 0x00 ∷ 0x00 ∷ 0x00 ∷ 0x40 ∷ 0x00 ∷ 0x00 ∷ 0x00 ∷ 0x00 ∷ 0x00 ∷ 0x00
+    ∷ 0x00 ∷ []
+
+-- as the definition joins it
+authenticated_is : siv_authenticated aad text ≡ authenticated
+unfolding siv_authenticated aad text authenticated
+authenticated_is = refl
+
+-- S_1
+unfoldable sum1 : List ℕ
+sum1 =
+    0xa4 ∷ 0x07 ∷ 0x46 ∷ 0x91 ∷ 0xd1 ∷ 0xd2 ∷ 0x4e ∷ 0x5b ∷ 0x61 ∷ 0x8d ∷ 0xa5 ∷ 0x87 ∷ 0x6d ∷ 0x26 ∷ 0x9c
+    ∷ 0x06 ∷ []
+
+-- block 1
+unfoldable block1 : List ℕ
+block1 =
+    0x01 ∷ 0x00 ∷ 0x00 ∷ 0x00 ∷ 0x00 ∷ 0x00 ∷ 0x00 ∷ 0x00 ∷ 0x00 ∷ 0x00 ∷ 0x00 ∷ 0x00 ∷ 0x00 ∷ 0x00 ∷ 0x00
+    ∷ 0x00 ∷ []
+
+-- as the definition makes S_1
+step1 : dot (sum [] (v block1)) (v authentication) ≡ v sum1
+unfolding authentication block1 sum1 v dot sum product residue
+step1 = refl
+
+-- it is the sum over the blocks so far
+sum1_is : polyval_sum authentication authenticated 1 ≡ v sum1
+unfolding authenticated block1 polyval_sum
+sum1_is = step1
+
+-- S_2
+unfoldable sum2 : List ℕ
+sum2 =
+    0xe5 ∷ 0x6d ∷ 0x8d ∷ 0x67 ∷ 0x0c ∷ 0x59 ∷ 0xae ∷ 0x0e ∷ 0x5e ∷ 0xd9 ∷ 0x5a ∷ 0xf9 ∷ 0x63 ∷ 0xa4 ∷ 0x60
+    ∷ 0xa6 ∷ []
+
+-- block 2
+unfoldable block2 : List ℕ
+block2 =
+    0x02 ∷ 0x00 ∷ 0x00 ∷ 0x00 ∷ 0x00 ∷ 0x00 ∷ 0x00 ∷ 0x00 ∷ 0x00 ∷ 0x00 ∷ 0x00 ∷ 0x00 ∷ 0x00 ∷ 0x00 ∷ 0x00
+    ∷ 0x00 ∷ []
+
+-- as the definition makes S_2
+step2 : dot (sum (v sum1) (v block2)) (v authentication) ≡ v sum2
+unfolding authentication sum1 block2 sum2 v dot sum product residue
+step2 = refl
+
+-- it is the sum over the blocks so far
+sum2_is : polyval_sum authentication authenticated 2 ≡ v sum2
+unfolding authenticated block2 polyval_sum
+sum2_is = ap (λ s. dot (sum s (v block2)) (v authentication)) sum1_is ∙ step2
+
+-- S_3
+unfoldable sum3 : List ℕ
+sum3 =
+    0xb2 ∷ 0x67 ∷ 0x81 ∷ 0xe7 ∷ 0xe2 ∷ 0xc1 ∷ 0x37 ∷ 0x6f ∷ 0x96 ∷ 0xbe ∷ 0xc1 ∷ 0x95 ∷ 0xf3 ∷ 0x70 ∷ 0x9b
+    ∷ 0x2a ∷ []
+
+-- block 3
+unfoldable block3 : List ℕ
+block3 =
+    0x08 ∷ 0x00 ∷ 0x00 ∷ 0x00 ∷ 0x00 ∷ 0x00 ∷ 0x00 ∷ 0x00 ∷ 0x40 ∷ 0x00 ∷ 0x00 ∷ 0x00 ∷ 0x00 ∷ 0x00 ∷ 0x00
+    ∷ 0x00 ∷ []
+
+-- as the definition makes S_3
+step3 : dot (sum (v sum2) (v block3)) (v authentication) ≡ v sum3
+unfolding authentication sum2 block3 sum3 v dot sum product residue
+step3 = refl
+
+-- it is the sum over the blocks so far
+sum3_is : polyval_sum authentication authenticated 3 ≡ v sum3
+unfolding authenticated block3 polyval_sum
+sum3_is = ap (λ s. dot (sum s (v block3)) (v authentication)) sum2_is ∙ step3
+
+-- S_3 as bytes
+written : bytes_of_v 16 (v sum3) ≡ sum3
+unfolding sum3 v bytes_of_v
+written = refl
+
+-- POLYVAL of what is authenticated
+polyval_is : polyval authentication authenticated ≡ sum3
+unfolding authenticated polyval
+polyval_is = ap (bytes_of_v 16) sum3_is ∙ written
+
+-- the block that it gives
+last_is_of : tag_block sum3 nonce ≡ last_block
+unfolding sum3 nonce last_block tag_block last_byte_by xor_bytes
 last_is_of = refl
 
 -- its cipher is the tag
@@ -249,20 +367,25 @@ last_cipher = refl
 tag_is : tag_by ByGcmSiv key nonce aad text ≡ tag
 unfolding tag_by tag_over_by
 tag_is =
-    ap₂ (λ e a. cipher e (tag_block (polyval a (siv_authenticated aad text)) nonce)) encryption_is authentication_is
+    ap₂ (λ e a. cipher e (tag_block (polyval a (siv_authenticated aad text)) nonce)) encryption_is
+    authentication_is
+    ∙ ap (λ m. cipher derived (tag_block (polyval authentication m) nonce)) authenticated_is
+    ∙ ap (λ s. cipher derived (tag_block s nonce)) polyval_is
     ∙ ap (cipher derived) last_is_of
     ∙ last_is
     ∙ last_cipher
 
 -- the ciphertext is that of the text under the tag
 ciphertext_is : masked (mask_by ByGcmSiv key nonce tag) 0 text ≡ ciphertext
-unfolding mask_by counter_byte up_le le counter_block last_byte_by masked tag text ciphertext first_counter_block counter_ciphered
+unfolding mask_by counter_byte up_le le counter_block last_byte_by masked tag text ciphertext
+    first_counter_block counter_ciphered
 ciphertext_is =
     ap (λ e. masked (counter_byte up_le e (counter_block tag)) 0 text) encryption_is
     ∙ (ap (λ b. masked (λ i. get_or b i 0) 0 text) counter_is ∙ refl)
 
 -- the sealing
-one_sealing : sealing (record { suite = Aes128GcmSiv; key = key; nonce = nonce; aad = aad }) text ≡ ciphertext ++ tag
+one_sealing : sealing (record { suite = Aes128GcmSiv; key = key; nonce = nonce; aad = aad }) text
+    ≡ ciphertext ++ tag
 unfolding sealing tag_of mask
 one_sealing =
     ap (λ t. masked (mask_by ByGcmSiv key nonce t) 0 text ++ t) tag_is

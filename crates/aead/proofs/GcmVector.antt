@@ -1,24 +1,31 @@
--- A sealing of AES-128-GCM with associated data, computed by the definitions (NIST's test vectors for SP 800-38D,
+-- A sealing of AES-128-GCM with associated data, computed by the definitions (NIST's test vectors for SP
+-- 800-38D,
 -- 96 bits of nonce, 128 of text, of associated data and of tag, the first).
-use Rattle.std.proofs.Common.{◌≡◌, ℕ, List, [], ◌∷◌, ◌++◌, get_or, refl, ap, ap₂, ◌∙◌, inl}
-use Rattle.octets.specs.Bits.{g, bytes_of_g}
-use Rattle.octets.specs.Bytes.{IsBlock, be, xor_bytes}
+use Rattle.std.proofs.Common.{◌≡◌, ℕ, suc, Bool, List, [], ◌∷◌, ◌++◌, get_or, refl, sym, ap, ap₂, ◌∙◌, inl}
+use Rattle.octets.specs.Bits.{g}
+use Rattle.octets.specs.Bytes.{IsBlock, block_at, be, xor_bytes}
 use Rattle.octets.specs.Masked.{masked}
-use Rattle.octets.specs.Polynomial.{product, power, sum_of_first, residue}
+use Rattle.octets.specs.Polynomial.{coefficient, sum, product, sum_of_first, residue}
+use Rattle.octets.proofs.Sequence.{sum_of}
+use Rattle.octets.proofs.Horner.{sum_is, times_same}
 use Rattle.aes.specs.Schedule.{xor_word, rcon}
 use Rattle.aes.specs.Cipher.{shift_rows, add_round_key, cipher, IsKey}
 use Rattle.aes.specs.Counters.{up_be, counter_byte}
 use Rattle.aes.proofs.Small.{all_small}
-use Rattle.aes.proofs.Computed.{words_by_table, schedule_by_table, sub_by_table, mix_by_doubling, rounds_computed, cipher_computed, cipher_is_computed}
-use Rattle.gf128.specs.Ghash.{ghash_sum, ghash}
+use Rattle.aes.proofs.Computed.{words_by_table, schedule_by_table, sub_by_table, mix_by_doubling}
+use Rattle.aes.proofs.Computed.{rounds_computed, cipher_computed, cipher_is_computed}
+use Rattle.gf128.specs.Ghash.{ghash_modulus, ghash_sum, ghash, IsGhash}
+use Rattle.gf128.proofs.Sums.{ghash_step, ghash_is_the_only}
 use Rattle.aead.specs.declared.suite.Suite.TheVariants.{Aes128Gcm}
 use Rattle.aead.specs.Suites.{ByGcm}
-use Rattle.aead.specs.Sealing.{hash_key, j0, gcm_authenticated, mask_by, mask, tag_over_by, tag_by, tag_of, sealing}
+use Rattle.aead.specs.Sealing.{hash_key, j0, gcm_authenticated, mask_by, mask, tag_over_by, tag_by, tag_of}
+use Rattle.aead.specs.Sealing.{sealing}
 
 -- the key
 unfoldable key : List ℕ
 key =
-    0xc9 ∷ 0x39 ∷ 0xcc ∷ 0x13 ∷ 0x39 ∷ 0x7c ∷ 0x1d ∷ 0x37 ∷ 0xde ∷ 0x6a ∷ 0xe0 ∷ 0xe1 ∷ 0xcb ∷ 0x7c ∷ 0x42 ∷ 0x3c ∷ []
+    0xc9 ∷ 0x39 ∷ 0xcc ∷ 0x13 ∷ 0x39 ∷ 0x7c ∷ 0x1d ∷ 0x37 ∷ 0xde ∷ 0x6a ∷ 0xe0 ∷ 0xe1 ∷ 0xcb ∷ 0x7c ∷ 0x42
+    ∷ 0x3c ∷ []
 
 -- the words of its schedule
 unfoldable key_words : List (List ℕ)
@@ -63,36 +70,43 @@ nonce = 0xb3 ∷ 0xd8 ∷ 0xcc ∷ 0x01 ∷ 0x7c ∷ 0xbb ∷ 0x89 ∷ 0xb3 ∷ 
 -- the associated data
 unfoldable aad : List ℕ
 aad =
-    0x24 ∷ 0x82 ∷ 0x56 ∷ 0x02 ∷ 0xbd ∷ 0x12 ∷ 0xa9 ∷ 0x84 ∷ 0xe0 ∷ 0x09 ∷ 0x2d ∷ 0x3e ∷ 0x44 ∷ 0x8e ∷ 0xda ∷ 0x5f ∷ []
+    0x24 ∷ 0x82 ∷ 0x56 ∷ 0x02 ∷ 0xbd ∷ 0x12 ∷ 0xa9 ∷ 0x84 ∷ 0xe0 ∷ 0x09 ∷ 0x2d ∷ 0x3e ∷ 0x44 ∷ 0x8e ∷ 0xda
+    ∷ 0x5f ∷ []
 
 -- the text
 unfoldable text : List ℕ
 text =
-    0xc3 ∷ 0xb3 ∷ 0xc4 ∷ 0x1f ∷ 0x11 ∷ 0x3a ∷ 0x31 ∷ 0xb7 ∷ 0x3d ∷ 0x9a ∷ 0x5c ∷ 0xd4 ∷ 0x32 ∷ 0x10 ∷ 0x30 ∷ 0x69 ∷ []
+    0xc3 ∷ 0xb3 ∷ 0xc4 ∷ 0x1f ∷ 0x11 ∷ 0x3a ∷ 0x31 ∷ 0xb7 ∷ 0x3d ∷ 0x9a ∷ 0x5c ∷ 0xd4 ∷ 0x32 ∷ 0x10 ∷ 0x30
+    ∷ 0x69 ∷ []
 
 -- its ciphertext
 unfoldable ciphertext : List ℕ
 ciphertext =
-    0x93 ∷ 0xfe ∷ 0x7d ∷ 0x9e ∷ 0x9b ∷ 0xfd ∷ 0x10 ∷ 0x34 ∷ 0x8a ∷ 0x56 ∷ 0x06 ∷ 0xe5 ∷ 0xca ∷ 0xfa ∷ 0x73 ∷ 0x54 ∷ []
+    0x93 ∷ 0xfe ∷ 0x7d ∷ 0x9e ∷ 0x9b ∷ 0xfd ∷ 0x10 ∷ 0x34 ∷ 0x8a ∷ 0x56 ∷ 0x06 ∷ 0xe5 ∷ 0xca ∷ 0xfa ∷ 0x73
+    ∷ 0x54 ∷ []
 
 -- the tag
 unfoldable tag : List ℕ
 tag =
-    0x00 ∷ 0x32 ∷ 0xa1 ∷ 0xdc ∷ 0x85 ∷ 0xf1 ∷ 0xc9 ∷ 0x78 ∷ 0x69 ∷ 0x25 ∷ 0xa2 ∷ 0xe7 ∷ 0x1d ∷ 0x82 ∷ 0x72 ∷ 0xdd ∷ []
+    0x00 ∷ 0x32 ∷ 0xa1 ∷ 0xdc ∷ 0x85 ∷ 0xf1 ∷ 0xc9 ∷ 0x78 ∷ 0x69 ∷ 0x25 ∷ 0xa2 ∷ 0xe7 ∷ 0x1d ∷ 0x82 ∷ 0x72
+    ∷ 0xdd ∷ []
 
 -- the block whose cipher is the key of GHASH
 zero_block : List ℕ
 zero_block =
-    0x00 ∷ 0x00 ∷ 0x00 ∷ 0x00 ∷ 0x00 ∷ 0x00 ∷ 0x00 ∷ 0x00 ∷ 0x00 ∷ 0x00 ∷ 0x00 ∷ 0x00 ∷ 0x00 ∷ 0x00 ∷ 0x00 ∷ 0x00 ∷ []
+    0x00 ∷ 0x00 ∷ 0x00 ∷ 0x00 ∷ 0x00 ∷ 0x00 ∷ 0x00 ∷ 0x00 ∷ 0x00 ∷ 0x00 ∷ 0x00 ∷ 0x00 ∷ 0x00 ∷ 0x00 ∷ 0x00
+    ∷ 0x00 ∷ []
 
 -- its cipher
 zero_ciphered : List ℕ
 zero_ciphered =
-    0x30 ∷ 0x70 ∷ 0xd7 ∷ 0xac ∷ 0xed ∷ 0xe7 ∷ 0x8a ∷ 0x3f ∷ 0xb0 ∷ 0xe0 ∷ 0x21 ∷ 0x73 ∷ 0x93 ∷ 0xc5 ∷ 0xfb ∷ 0xc6 ∷ []
+    0x30 ∷ 0x70 ∷ 0xd7 ∷ 0xac ∷ 0xed ∷ 0xe7 ∷ 0x8a ∷ 0x3f ∷ 0xb0 ∷ 0xe0 ∷ 0x21 ∷ 0x73 ∷ 0x93 ∷ 0xc5 ∷ 0xfb
+    ∷ 0xc6 ∷ []
 
 -- as the definition makes it
 zero_is : cipher key zero_block ≡ zero_ciphered
-unfolding key key_words zero_block zero_ciphered cipher_computed rounds_computed add_round_key shift_rows sub_by_table mix_by_doubling
+unfolding key key_words zero_block zero_ciphered cipher_computed rounds_computed add_round_key shift_rows
+    sub_by_table mix_by_doubling
 zero_is =
     let block : IsBlock zero_block = record { length_is = refl; bytes = all_small zero_block refl } in
     cipher_is_computed key zero_block key_words key_is_key block key_schedule ∙ refl
@@ -100,16 +114,19 @@ zero_is =
 -- J0
 first_block : List ℕ
 first_block =
-    0xb3 ∷ 0xd8 ∷ 0xcc ∷ 0x01 ∷ 0x7c ∷ 0xbb ∷ 0x89 ∷ 0xb3 ∷ 0x9e ∷ 0x0f ∷ 0x67 ∷ 0xe2 ∷ 0x00 ∷ 0x00 ∷ 0x00 ∷ 0x01 ∷ []
+    0xb3 ∷ 0xd8 ∷ 0xcc ∷ 0x01 ∷ 0x7c ∷ 0xbb ∷ 0x89 ∷ 0xb3 ∷ 0x9e ∷ 0x0f ∷ 0x67 ∷ 0xe2 ∷ 0x00 ∷ 0x00 ∷ 0x00
+    ∷ 0x01 ∷ []
 
 -- its cipher
 first_ciphered : List ℕ
 first_ciphered =
-    0x67 ∷ 0x7e ∷ 0xc2 ∷ 0x16 ∷ 0xa3 ∷ 0xa8 ∷ 0x29 ∷ 0x87 ∷ 0x14 ∷ 0xe6 ∷ 0xed ∷ 0xa6 ∷ 0x3f ∷ 0x80 ∷ 0xef ∷ 0xb9 ∷ []
+    0x67 ∷ 0x7e ∷ 0xc2 ∷ 0x16 ∷ 0xa3 ∷ 0xa8 ∷ 0x29 ∷ 0x87 ∷ 0x14 ∷ 0xe6 ∷ 0xed ∷ 0xa6 ∷ 0x3f ∷ 0x80 ∷ 0xef
+    ∷ 0xb9 ∷ []
 
 -- as the definition makes it
 first_is : cipher key first_block ≡ first_ciphered
-unfolding key key_words first_block first_ciphered cipher_computed rounds_computed add_round_key shift_rows sub_by_table mix_by_doubling
+unfolding key key_words first_block first_ciphered cipher_computed rounds_computed add_round_key shift_rows
+    sub_by_table mix_by_doubling
 first_is =
     let block : IsBlock first_block = record { length_is = refl; bytes = all_small first_block refl } in
     cipher_is_computed key first_block key_words key_is_key block key_schedule ∙ refl
@@ -117,16 +134,19 @@ first_is =
 -- inc32(J0)
 second_block : List ℕ
 second_block =
-    0xb3 ∷ 0xd8 ∷ 0xcc ∷ 0x01 ∷ 0x7c ∷ 0xbb ∷ 0x89 ∷ 0xb3 ∷ 0x9e ∷ 0x0f ∷ 0x67 ∷ 0xe2 ∷ 0x00 ∷ 0x00 ∷ 0x00 ∷ 0x02 ∷ []
+    0xb3 ∷ 0xd8 ∷ 0xcc ∷ 0x01 ∷ 0x7c ∷ 0xbb ∷ 0x89 ∷ 0xb3 ∷ 0x9e ∷ 0x0f ∷ 0x67 ∷ 0xe2 ∷ 0x00 ∷ 0x00 ∷ 0x00
+    ∷ 0x02 ∷ []
 
 -- its cipher
 second_ciphered : List ℕ
 second_ciphered =
-    0x50 ∷ 0x4d ∷ 0xb9 ∷ 0x81 ∷ 0x8a ∷ 0xc7 ∷ 0x21 ∷ 0x83 ∷ 0xb7 ∷ 0xcc ∷ 0x5a ∷ 0x31 ∷ 0xf8 ∷ 0xea ∷ 0x43 ∷ 0x3d ∷ []
+    0x50 ∷ 0x4d ∷ 0xb9 ∷ 0x81 ∷ 0x8a ∷ 0xc7 ∷ 0x21 ∷ 0x83 ∷ 0xb7 ∷ 0xcc ∷ 0x5a ∷ 0x31 ∷ 0xf8 ∷ 0xea ∷ 0x43
+    ∷ 0x3d ∷ []
 
 -- as the definition makes it
 second_is : cipher key second_block ≡ second_ciphered
-unfolding key key_words second_block second_ciphered cipher_computed rounds_computed add_round_key shift_rows sub_by_table mix_by_doubling
+unfolding key key_words second_block second_ciphered cipher_computed rounds_computed add_round_key shift_rows
+    sub_by_table mix_by_doubling
 second_is =
     let block : IsBlock second_block = record { length_is = refl; bytes = all_small second_block refl } in
     cipher_is_computed key second_block key_words key_is_key block key_schedule ∙ refl
@@ -141,10 +161,113 @@ hash_key_is : hash_key key ≡ zero_ciphered
 unfolding hash_key zero_block
 hash_key_is = zero_is
 
--- GHASH under it of what is authenticated, XORed with the cipher of J0
-sum_is : xor_bytes first_ciphered (ghash zero_ciphered (gcm_authenticated aad ciphertext)) ≡ tag
-unfolding first_ciphered zero_ciphered gcm_authenticated aad ciphertext tag ghash ghash_sum sum_of_first residue product power g bytes_of_g xor_bytes
-sum_is = refl
+-- the sum over one block more, where the sum so far is s, the block x, and t their sum times the key
+ghash_next : (h m s x t : List ℕ) (n : ℕ) → coefficient (ghash_sum h m n) ≡ coefficient (g s)
+    → block_at m n ≡ x
+    → residue ghash_modulus (product (sum (g s) (g x)) (g h)) ≡ g t
+    → coefficient (ghash_sum h m (suc n)) ≡ coefficient (g t)
+ghash_next h m s x t n held is next =
+    let b : List Bool = g (block_at m n) in
+    ghash_step h m n
+    ∙ times_same ghash_modulus (sum (ghash_sum h m n) b) (sum (g s) b) (g h) refl
+    (sum_is (ghash_sum h m n) b ∙ ap (λ c. sum_of c (coefficient b)) held ∙ sym (sum_is (g s) b))
+    ∙ ap (λ y. coefficient (residue ghash_modulus (product (sum (g s) (g y)) (g h)))) is
+    ∙ ap coefficient next
+
+-- what is authenticated
+unfoldable authenticated : List ℕ
+authenticated =
+    0x24 ∷ 0x82 ∷ 0x56 ∷ 0x02 ∷ 0xbd ∷ 0x12 ∷ 0xa9 ∷ 0x84 ∷ 0xe0 ∷ 0x09 ∷ 0x2d ∷ 0x3e ∷ 0x44 ∷ 0x8e ∷ 0xda
+    ∷ 0x5f ∷
+    0x93 ∷ 0xfe ∷ 0x7d ∷ 0x9e ∷ 0x9b ∷ 0xfd ∷ 0x10 ∷ 0x34 ∷ 0x8a ∷ 0x56 ∷ 0x06 ∷ 0xe5 ∷ 0xca ∷ 0xfa ∷ 0x73
+    ∷ 0x54 ∷
+    0x00 ∷ 0x00 ∷ 0x00 ∷ 0x00 ∷ 0x00 ∷ 0x00 ∷ 0x00 ∷ 0x80 ∷ 0x00 ∷ 0x00 ∷ 0x00 ∷ 0x00 ∷ 0x00 ∷ 0x00 ∷ 0x00
+    ∷ 0x80 ∷ []
+
+-- as the definition joins it
+authenticated_is : gcm_authenticated aad ciphertext ≡ authenticated
+unfolding gcm_authenticated aad ciphertext authenticated
+authenticated_is = refl
+
+-- the sum over 1 block
+unfoldable sum1 : List ℕ
+sum1 =
+    0x0e ∷ 0x3d ∷ 0x45 ∷ 0x18 ∷ 0xe3 ∷ 0x65 ∷ 0x63 ∷ 0x7e ∷ 0xe2 ∷ 0x5b ∷ 0xf5 ∷ 0xa6 ∷ 0x33 ∷ 0x3a ∷ 0x92
+    ∷ 0xcd ∷ []
+
+-- block 1
+unfoldable block1 : List ℕ
+block1 =
+    0x24 ∷ 0x82 ∷ 0x56 ∷ 0x02 ∷ 0xbd ∷ 0x12 ∷ 0xa9 ∷ 0x84 ∷ 0xe0 ∷ 0x09 ∷ 0x2d ∷ 0x3e ∷ 0x44 ∷ 0x8e ∷ 0xda
+    ∷ 0x5f ∷ []
+
+-- times the key
+step1 : residue ghash_modulus (product (sum (g []) (g block1)) (g zero_ciphered)) ≡ g sum1
+unfolding zero_ciphered block1 sum1 g sum product residue
+step1 = refl
+
+-- so it is
+sum1_is : coefficient (ghash_sum zero_ciphered authenticated 1) ≡ coefficient (g sum1)
+unfolding authenticated block1 ghash_sum sum_of_first g
+sum1_is = ghash_next zero_ciphered authenticated [] block1 sum1 0 refl refl step1
+
+-- the sum over 2 blocks
+unfoldable sum2 : List ℕ
+sum2 =
+    0x0b ∷ 0x9f ∷ 0x6e ∷ 0xa7 ∷ 0x91 ∷ 0x3e ∷ 0x32 ∷ 0xfe ∷ 0x65 ∷ 0x72 ∷ 0x12 ∷ 0xde ∷ 0xab ∷ 0xb3 ∷ 0xd3
+    ∷ 0x83 ∷ []
+
+-- block 2
+unfoldable block2 : List ℕ
+block2 =
+    0x93 ∷ 0xfe ∷ 0x7d ∷ 0x9e ∷ 0x9b ∷ 0xfd ∷ 0x10 ∷ 0x34 ∷ 0x8a ∷ 0x56 ∷ 0x06 ∷ 0xe5 ∷ 0xca ∷ 0xfa ∷ 0x73
+    ∷ 0x54 ∷ []
+
+-- times the key
+step2 : residue ghash_modulus (product (sum (g sum1) (g block2)) (g zero_ciphered)) ≡ g sum2
+unfolding zero_ciphered sum1 block2 sum2 g sum product residue
+step2 = refl
+
+-- so it is
+sum2_is : coefficient (ghash_sum zero_ciphered authenticated 2) ≡ coefficient (g sum2)
+unfolding authenticated block2
+sum2_is = ghash_next zero_ciphered authenticated sum1 block2 sum2 1 sum1_is refl step2
+
+-- the sum over 3 blocks
+unfoldable sum3 : List ℕ
+sum3 =
+    0x67 ∷ 0x4c ∷ 0x63 ∷ 0xca ∷ 0x26 ∷ 0x59 ∷ 0xe0 ∷ 0xff ∷ 0x7d ∷ 0xc3 ∷ 0x4f ∷ 0x41 ∷ 0x22 ∷ 0x02 ∷ 0x9d
+    ∷ 0x64 ∷ []
+
+-- block 3
+unfoldable block3 : List ℕ
+block3 =
+    0x00 ∷ 0x00 ∷ 0x00 ∷ 0x00 ∷ 0x00 ∷ 0x00 ∷ 0x00 ∷ 0x80 ∷ 0x00 ∷ 0x00 ∷ 0x00 ∷ 0x00 ∷ 0x00 ∷ 0x00 ∷ 0x00
+    ∷ 0x80 ∷ []
+
+-- times the key
+step3 : residue ghash_modulus (product (sum (g sum2) (g block3)) (g zero_ciphered)) ≡ g sum3
+unfolding zero_ciphered sum2 block3 sum3 g sum product residue
+step3 = refl
+
+-- so it is
+sum3_is : coefficient (ghash_sum zero_ciphered authenticated 3) ≡ coefficient (g sum3)
+unfolding authenticated block3
+sum3_is = ghash_next zero_ciphered authenticated sum2 block3 sum3 2 sum2_is refl step3
+
+-- GHASH of what is authenticated
+ghash_is : ghash zero_ciphered authenticated ≡ sum3
+unfolding authenticated sum3
+ghash_is =
+    let block : IsBlock sum3 = record { length_is = refl; bytes = all_small sum3 refl } in
+    let same : IsGhash zero_ciphered authenticated sum3 =
+    record { is_block = block; sum_is = λ k. ap (λ f. f k) (sym sum3_is) } in
+    sym ((ghash_is_the_only zero_ciphered authenticated).1 sum3 same)
+
+-- XORed with the cipher of J0 it is the tag
+last_is : xor_bytes first_ciphered sum3 ≡ tag
+unfolding first_ciphered sum3 tag xor_bytes
+last_is = refl
 
 -- the tag is that of the text
 tag_is : tag_by ByGcm key nonce aad text ≡ tag
@@ -152,9 +275,12 @@ unfolding tag_by tag_over_by j0 nonce first_block
 tag_is =
     ap (tag_over_by ByGcm key nonce aad) ciphertext_is
     ∙ ap₂ (λ e h. xor_bytes e (ghash h (gcm_authenticated aad ciphertext))) first_is hash_key_is
-    ∙ sum_is
+    ∙ ap (λ m. xor_bytes first_ciphered (ghash zero_ciphered m)) authenticated_is
+    ∙ ap (xor_bytes first_ciphered) ghash_is
+    ∙ last_is
 
 -- the sealing
-one_sealing : sealing (record { suite = Aes128Gcm; key = key; nonce = nonce; aad = aad }) text ≡ ciphertext ++ tag
+one_sealing : sealing (record { suite = Aes128Gcm; key = key; nonce = nonce; aad = aad }) text
+    ≡ ciphertext ++ tag
 unfolding sealing tag_of mask mask_by
 one_sealing = ap₂ (λ c t. c ++ t) ciphertext_is tag_is
