@@ -156,9 +156,7 @@ pub fn wrap_padded<A: Allocator>(alloc: A, key: &AesKey, text: &[u8]) -> Result<
     if text.len() as u64 >= 1 << 32 {
         return Err(Fault::TextTooLong);
     }
-    let Ok(mut wrapped) = start(alloc, text) else {
-        return Err(Fault::OutOfMemory);
-    };
+    let mut wrapped = start(alloc, text)?;
     transform(key, &mut wrapped);
     Ok(wrapped)
 }
@@ -183,9 +181,7 @@ pub fn unwrap_padded<A: Allocator>(
         return Err(Fault::TextTooLong);
     }
     let mut first = first_eight(wrapped);
-    let Ok(mut text) = Vec::from_slice(alloc, &wrapped[8..]) else {
-        return Err(Fault::OutOfMemory);
-    };
+    let mut text = Vec::from_slice(alloc, &wrapped[8..])?;
     match unwrap_start(key, &mut first, &mut text) {
         Some(length) => {
             text.truncate(length);

@@ -20,14 +20,9 @@ pub fn wrap<A: Allocator>(alloc: A, key: &AesKey, text: &[u8]) -> Result<Vec<u8,
     if text.len() < 16 || text.len() % 8 != 0 {
         return Err(Fault::WrapLength);
     }
-    let Ok(mut wrapped) = Vec::with_capacity(alloc, text.len() + 8) else {
-        return Err(Fault::OutOfMemory);
-    };
-    if wrapped.extend_from_slice(&INITIAL_VALUE).is_err()
-        || wrapped.extend_from_slice(text).is_err()
-    {
-        return Err(Fault::OutOfMemory);
-    }
+    let mut wrapped = Vec::with_capacity(alloc, text.len() + 8)?;
+    wrapped.extend_from_slice(&INITIAL_VALUE)?;
+    wrapped.extend_from_slice(text)?;
     wrap_register(key, &mut wrapped);
     Ok(wrapped)
 }
@@ -45,9 +40,7 @@ pub fn unwrap<A: Allocator>(alloc: A, key: &AesKey, wrapped: &[u8]) -> Result<Ve
         return Err(Fault::WrapLength);
     }
     let mut first = first_eight(wrapped);
-    let Ok(mut text) = Vec::from_slice(alloc, &wrapped[8..]) else {
-        return Err(Fault::OutOfMemory);
-    };
+    let mut text = Vec::from_slice(alloc, &wrapped[8..])?;
     unwrap_blocks(key, &mut first, &mut text);
     if is_initial_value(&first) {
         Ok(text)

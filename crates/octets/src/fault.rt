@@ -1,6 +1,7 @@
 ghost use Rattle.std.specs.Prelude.{◌≡◌};
 ghost use Rattle.octets.specs.Numbers.{outcome_number};
 
+use std::alloc::AllocError;
 use std::error::Error;
 use std::fmt;
 
@@ -61,6 +62,17 @@ impl fmt::Display for Fault {
 }
 
 impl Error for Fault {}
+
+/// A refused growth.
+impl From<AllocError> for Fault {
+    ghost use Rattle.octets.specs.declared.fault.Fault.TheVariants.{OutOfMemory};
+
+    ghost from_gives = { λ _ fault. fault ≡ OutOfMemory };
+
+    fn from(_error: AllocError) -> Fault {
+        Fault::OutOfMemory
+    }
+}
 
 /// The number that an outcome has at C: 0 where the call was done, else the fault's place in `Fault`,
 /// counted from 1.

@@ -15,9 +15,9 @@ returns-then-wrapped-clause-found g c text u = absurd (omega (arith, (wrapped_lo
 pub returns-in-Some-clause-answer : goal.returns-in-Some-clause-answer
 returns-in-Some-clause-answer g c =
     let rest : List ℕ = c.unwrap_start.new.blocks in
-    let kept : take c.in-Ok.text.len (rest ++ drop (length rest) c.in-Ok.text.items) ≡ rest =
-    take_at rest (drop (length rest) c.in-Ok.text.items) c.in-Ok.text.len (omega (arith, c.deref_mut.ensures.len)) in
-    let whole = parts c.args.wrapped.now c.first_eight-first.result c.deref_mut.result.now c.first_eight-first.ensures (c.deref_mut.ensures.value ∙ c.in-Ok.ensures.items) in
+    let kept : take c.in_ok-text.text.len (rest ++ drop (length rest) c.in_ok-text.text.items) ≡ rest =
+    take_at rest (drop (length rest) c.in_ok-text.text.items) c.in_ok-text.text.len (omega (arith, c.deref_mut.ensures.len)) in
+    let whole = parts c.args.wrapped.now c.first_eight-first.result c.deref_mut.result.now c.first_eight-first.ensures (c.deref_mut.ensures.value ∙ c.in_ok-text.ensures.items) in
     subst (λ (xs : List ℕ). UnwrappedPadded c.args.key.now c.args.wrapped.now xs) (sym (c.truncate.ensures.items ∙ ap (take c.in-Some.length) kept))
     (subst (λ (xs : List ℕ). UnwrappedPadded c.args.key.now xs (take c.in-Some.length rest)) whole c.in-Some.ensures.found.1)
 
@@ -27,7 +27,7 @@ returns-in-Some-clause-found g c text u =
 
 pub returns-in-None-clause-answer : goal.returns-in-None-clause-answer
 returns-in-None-clause-answer g c =
-    let whole = parts c.args.wrapped.now c.first_eight-first.result c.deref_mut.result.now c.first_eight-first.ensures (c.deref_mut.ensures.value ∙ c.in-Ok.ensures.items) in (
+    let whole = parts c.args.wrapped.now c.first_eight-first.result c.deref_mut.result.now c.first_eight-first.ensures (c.deref_mut.ensures.value ∙ c.in_ok-text.ensures.items) in (
       c.if-not-has_blocks.ensures.0 refl,
       omega arith,
       subst (λ (xs : List ℕ). IsNoPaddedWrapping c.args.key.now xs) whole c.in-None.ensures.found,

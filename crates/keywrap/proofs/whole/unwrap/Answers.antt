@@ -13,11 +13,11 @@ returns-then-is_initial_value-clause-answer g c =
     let first : List ℕ = c.unwrap_blocks.new.first in
     let rest : List ℕ = c.unwrap_blocks.new.blocks in
     let lengths : HasWrappedLength wrapped = c.if-not-has_wrapped_length.ensures.answer.0 refl in
-    let blocks : c.deref_mut.result.now ≡ take (length wrapped - 8) (drop 8 wrapped) = c.deref_mut.ensures.value ∙ c.in-Ok.ensures.items in
+    let blocks : c.deref_mut.result.now ≡ take (length wrapped - 8) (drop 8 wrapped) = c.deref_mut.ensures.value ∙ c.in_ok-text.ensures.items in
     let long : length rest ≡ length wrapped - 8 =
     omega (arith, ap length blocks, length-take-le (length wrapped - 8) (drop 8 wrapped) (omega (arith, length-drop 8 wrapped))) in
-    let kept : take c.in-Ok.text.len (rest ++ drop (length rest) c.in-Ok.text.items) ≡ rest =
-    take_at rest (drop (length rest) c.in-Ok.text.items) c.in-Ok.text.len (omega (arith, c.deref_mut.ensures.len)) in
+    let kept : take c.in_ok-text.text.len (rest ++ drop (length rest) c.in_ok-text.text.items) ≡ rest =
+    take_at rest (drop (length rest) c.in_ok-text.text.items) c.in_ok-text.text.len (omega (arith, c.deref_mut.ensures.len)) in
     let bytes : AreBytes (length rest) rest = c.unwrap_blocks.ensures.rest in
     rw kept
     (unwrapped_by c.args.key.now wrapped (first ++ rest) rest lengths (bytes_resized (length rest) (length wrapped - 8) rest long bytes)
@@ -27,7 +27,7 @@ returns-then-is_initial_value-clause-answer g c =
 pub returns-then-is_initial_value-clause-found : goal.returns-then-is_initial_value-clause-found
 returns-then-is_initial_value-clause-found g c text u =
     sym ((one_text is_permutation c.args.key.now c.unwrap_blocks.ensures.key c.args.wrapped.now
-    (take c.in-Ok.text.len (c.unwrap_blocks.new.blocks ++ drop (length c.unwrap_blocks.new.blocks) c.in-Ok.text.items))
+    (take c.in_ok-text.text.len (c.unwrap_blocks.new.blocks ++ drop (length c.unwrap_blocks.new.blocks) c.in_ok-text.text.items))
     (returns-then-is_initial_value-clause-answer g c)).1 text u)
 
 pub returns-else-is_initial_value-clause-answer : goal.returns-else-is_initial_value-clause-answer
@@ -36,12 +36,12 @@ returns-else-is_initial_value-clause-answer g c =
     let first : List ℕ = c.unwrap_blocks.new.first in
     let rest : List ℕ = c.unwrap_blocks.new.blocks in
     let lengths : HasWrappedLength wrapped = c.if-not-has_wrapped_length.ensures.answer.0 refl in
-    let blocks : c.deref_mut.result.now ≡ take (length wrapped - 8) (drop 8 wrapped) = c.deref_mut.ensures.value ∙ c.in-Ok.ensures.items in
+    let blocks : c.deref_mut.result.now ≡ take (length wrapped - 8) (drop 8 wrapped) = c.deref_mut.ensures.value ∙ c.in_ok-text.ensures.items in
     let eight : length first ≡ 8 = omega arith in
     let long : length first + length rest ≡ length wrapped =
     omega (arith, ap length blocks, length-take-le (length wrapped - 8) (drop 8 wrapped) (omega (arith, length-drop 8 wrapped))) in
-    let kept : take c.in-Ok.text.len (rest ++ drop (length rest) c.in-Ok.text.items) ≡ rest =
-    take_at rest (drop (length rest) c.in-Ok.text.items) c.in-Ok.text.len (omega (arith, c.deref_mut.ensures.len)) in
+    let kept : take c.in_ok-text.text.len (rest ++ drop (length rest) c.in_ok-text.text.items) ≡ rest =
+    take_at rest (drop (length rest) c.in_ok-text.text.items) c.in_ok-text.text.len (omega (arith, c.deref_mut.ensures.len)) in
     let bytes : AreBytes (length rest) rest = c.unwrap_blocks.ensures.rest in (
       lengths,
       no_wrapping c.args.key.now wrapped (first ++ rest) is_permutation c.unwrap_blocks.ensures.key
