@@ -4,7 +4,7 @@ use Rattle.std.proofs.lemmas.List.FromFn.{get_or-map-range_with_len}
 use Rattle.std.proofs.lemmas.List.{length-map, get_or-map}
 use Rattle.aes.specs.Columns.{column_of, columns_of}
 use Rattle.aes.specs.Schedule.{round_count, schedule}
-use Rattle.aes.specs.ExpandedKey.{table, key_of, IsKeySize, IsExpanded}
+use Rattle.aes.specs.Code.ExpandedKey.{table, key_of, IsKeySize, IsExpanded}
 use Rattle.aes.specs.Cipher.{at, grid, sub_bytes, shift_rows, mix_columns, add_round_key, rounds, cipher, IsKey, IsKeyLength}
 use Rattle.aes.proofs.Words.{words_at, word_start, table_start, key_of_words}
 use Rattle.aes.proofs.Grids.{grid_is}

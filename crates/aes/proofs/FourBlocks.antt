@@ -7,7 +7,7 @@ use Rattle.std.proofs.lemmas.Simd.{Each1-from_get_or, length-zip2, get_or-zip2, 
 use lib.Lanes.{zip2, Each1}
 use Rattle.octets.specs.Polynomial.{product, residue}
 use Rattle.aes.specs.Field.{times}
-use Rattle.aes.specs.Lanes.{HasLanes, IsPlace, entry, row_source, row_below, row_above, in_basis, linear_sbox}
+use Rattle.aes.specs.Code.Lanes.{HasLanes, IsPlace, entry, row_source, row_below, row_above, in_basis, linear_sbox}
 use Rattle.aes.specs.declared.sbox.TheConstants.{SBOX}
 use Rattle.aes.specs.declared.lanes.TheConstants.{TO_LOW, TO_HIGH, INVERSE, SCALED, PLAIN_BY_FIRST, PLAIN_BY_SECOND, ONCE_BY_FIRST, ONCE_BY_SECOND, TWICE_BY_FIRST, TWICE_BY_SECOND, ROW_SOURCES, ROWS_BELOW, ROWS_ABOVE}
 use Rattle.aes.proofs.Tables.{all_below, all_below_at, sbox_at}

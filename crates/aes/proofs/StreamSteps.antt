@@ -10,7 +10,8 @@ use Rattle.octets.proofs.Masks.{masked-append, xor_bytes-masked}
 use Rattle.byteorder.specs.Endian.{big_number, big_bytes, little_number, little_bytes}
 use Rattle.octets.proofs.Orders.{big_number_is, little_number_is}
 use Rattle.aes.specs.Cipher.{cipher}
-use Rattle.aes.specs.Counters.{up_be, up_le, counter_byte, WrapsAround}
+use Rattle.aes.specs.Counters.{up_be, up_le, counter_byte}
+use Rattle.aes.specs.Code.Wraps.{WrapsAround}
 use Rattle.aes.specs.Streams.{Makes, Advances}
 use Rattle.aes.specs.declared.counter.Counter.{Counter}
 

@@ -4,7 +4,7 @@ use Rattle.std.proofs.lemmas.Bool.{cases_eq, cases_lt, and_parts, false_from_ne_
 use Rattle.std.proofs.lemmas.List.{get_or_append_left, get_or_push, get_or-append_right, get_or-replicate, length-replicate, length-append, ext_get_or, length_push, drop_more, flat_map_more, take_more, get_or-set_same, get_or-set_other, get_or-map, length-map, get_or_past}
 use Rattle.aes.specs.Columns.{column_of, columns_of}
 use Rattle.aes.specs.Schedule.{schedule, xor_word, key_words, changed, next_word, words, sub_word, rot_word, rcon, round_count, MeetsRecurrence}
-use Rattle.aes.specs.ExpandedKey.{table, key_of}
+use Rattle.aes.specs.Code.ExpandedKey.{table, key_of}
 
 -- the number of words
 pub length_words : (key : List ℕ) (n : ℕ) → length (words key n) ≡ n

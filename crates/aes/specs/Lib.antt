@@ -2,8 +2,6 @@ pub mod Field
 pub mod Columns
 pub mod Schedule
 pub mod Cipher
-pub mod Lanes
-pub mod ExpandedKey
-pub mod InverseKey
 pub mod Counters
 pub mod Streams
+pub mod Code

@@ -3,8 +3,8 @@
 ghost use Rattle.std.specs.Prelude.{◌≡◌, ℕ, ◌+◌, ◌%◌, ◌^◌, ◌<◌, ◌≤◌, List, ◌++◌, length};
 ghost use Rattle.octets.specs.Bytes.{block_at};
 ghost use Rattle.octets.specs.Masked.{masked};
-ghost use Rattle.aes.specs.Counters.{CountsOn, WrapsAround, counter_byte, up_be, up_le, up_be-wraps};
-ghost use Rattle.aes.specs.Counters.{up_le-wraps};
+ghost use Rattle.aes.specs.Counters.{CountsOn, counter_byte, up_be, up_le};
+ghost use Rattle.aes.specs.Code.Wraps.{WrapsAround, up_be-wraps, up_le-wraps};
 
 use crate::key::AesKey;
 use byteorder::{BigEndian, ByteOrder, LittleEndian};
@@ -103,7 +103,7 @@ struct Counter<C> {
 
 impl<C: Count> Counter<C> {
     ghost use Rattle.aes.specs.Streams.{Makes, Advances};
-    ghost use Rattle.aes.specs.Lanes.{IsReady};
+    ghost use Rattle.aes.specs.Code.Lanes.{IsReady};
 
     // The stream whose first block is the cipher of `first`.
     fn new(key: &AesKey, first: &Block) -> Counter<C>

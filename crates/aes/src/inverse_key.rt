@@ -18,7 +18,7 @@ pub struct InverseKey {
 }
 
 impl InverseKey {
-    ghost use Rattle.aes.specs.InverseKey.{IsInverse};
+    ghost use Rattle.aes.specs.Code.InverseKey.{IsInverse};
 
     // The key with these words.
     pub(crate) fn new(words: [u32; 60], size: usize) -> InverseKey

@@ -3,8 +3,8 @@
 ghost use Rattle.std.specs.Prelude.{◌≡◌, ℕ, ◌<◌, length, MatchResult};
 ghost use Rattle.octets.specs.Bytes.{IsBlock, block_at};
 ghost use Rattle.aes.specs.Cipher.{cipher, IsKey, IsKeyLength, IsPreimage};
-ghost use Rattle.aes.specs.InverseKey.{IsInverse};
-ghost use Rattle.aes.specs.Lanes.{IsReady};
+ghost use Rattle.aes.specs.Code.InverseKey.{IsInverse};
+ghost use Rattle.aes.specs.Code.Lanes.{IsReady};
 
 use crate::columns::{add_key, last_round, load, round, round_key, store};
 use crate::inverse::unmix_words;
@@ -29,7 +29,7 @@ impl Model for AesKey {
     ghost Value = { List ℕ };
 
     ghost use Rattle.aes.specs.Columns.{columns_of};
-    ghost use Rattle.aes.specs.ExpandedKey.{key_of, IsExpanded, fields_of, fields_of-key_of};
+    ghost use Rattle.aes.specs.Code.ExpandedKey.{key_of, IsExpanded, fields_of, fields_of-key_of};
 
     ghost view = { λ a. key_of (columns_of a.words) a.size };
 

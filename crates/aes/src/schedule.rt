@@ -3,7 +3,7 @@
 ghost use Rattle.std.specs.Prelude.{◌≡◌, ℕ, ◌*◌, ◌^◌, ◌≤◌, ◌/◌, ◌<◌, length, slice_index};
 ghost use Rattle.aes.specs.Columns.{column_of, columns_of};
 ghost use Rattle.aes.specs.Schedule.{xor_word, sub_word, rot_word, rcon, changed, MeetsRecurrence};
-ghost use Rattle.aes.specs.ExpandedKey.{table, IsKeySize};
+ghost use Rattle.aes.specs.Code.ExpandedKey.{table, IsKeySize};
 
 use crate::sbox::substitute;
 

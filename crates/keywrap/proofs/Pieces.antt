@@ -7,7 +7,7 @@ use Rattle.octets.specs.Bytes.{xor_bytes}
 use Rattle.octets.proofs.Xors.{length-xor_bytes}
 use Rattle.keywrap.specs.Wrapping.{step}
 use Rattle.keywrap.proofs.Bytes.{length_number, xor_twice}
-use Rattle.keywrap.specs.Places.{register}
+use Rattle.keywrap.specs.Code.Places.{register}
 use borrow.Rule.Slice.PartMut.{put_mid}
 
 -- a block written in two halves

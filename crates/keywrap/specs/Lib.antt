@@ -2,5 +2,5 @@ pub mod Wrapping
 pub mod Padded
 pub mod Blocks
 pub mod Refusals
-pub mod Places
 pub mod Exports
+pub mod Code

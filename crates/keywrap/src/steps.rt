@@ -6,9 +6,9 @@ ghost use Rattle.std.specs.Prelude.{length, IsTrue};
 ghost use Rattle.std.specs.Int.{bytes_high_first};
 ghost use Rattle.octets.specs.Bytes.{AreBytes, xor_bytes};
 ghost use Rattle.aes.specs.Cipher.{IsKey};
-ghost use Rattle.aes.specs.InverseKey.{IsInverse};
+ghost use Rattle.aes.specs.Code.InverseKey.{IsInverse};
 ghost use Rattle.keywrap.specs.Wrapping.{step, steps, initial_value, HasWrappedLength};
-ghost use Rattle.keywrap.specs.Places.{register};
+ghost use Rattle.keywrap.specs.Code.Places.{register};
 
 use aes::{AesKey, InverseKey};
 use octets::{Block, are_bytes, xor_into};

@@ -1,5 +1,5 @@
 use Rattle.std.proofs.Common.{bit_xor}
-use Rattle.aes.specs.Lanes.{in_basis, byte_of, key_byte}
+use Rattle.aes.specs.Code.Lanes.{in_basis, byte_of, key_byte}
 use Rattle.aes.proofs.FourBlocks.{via, via_two}
 use Rattle.aes.proofs.FourRounds.{first_lanes}
 use Rattle.aes.proofs.lanes.first_four.Goals as goal

@@ -1,5 +1,5 @@
 use Rattle.std.proofs.Common.{◌/◌, ◌%◌, ℕ, bit_xor}
-use Rattle.aes.specs.Lanes.{in_basis, linear_sbox, byte_of, key_byte, row_source}
+use Rattle.aes.specs.Code.Lanes.{in_basis, linear_sbox, byte_of, key_byte, row_source}
 use Rattle.aes.proofs.FourBlocks.{via_two}
 use Rattle.aes.proofs.FourRounds.{source_lanes, splat_lanes, last_lanes}
 use Rattle.aes.proofs.lanes.last_four.Goals as goal

@@ -1,6 +1,6 @@
 use Rattle.std.proofs.Common.{◌≡◌, ℕ, ◌<◌, [], get_or, length}
 use Rattle.aes.specs.Columns.{columns_of}
-use Rattle.aes.specs.Lanes.{ready_byte}
+use Rattle.aes.specs.Code.Lanes.{ready_byte}
 use Rattle.aes.proofs.lanes.ready_keys.Given as goal
 
 abbrev pub invariant-loop-n : goal.invariant-loop-n

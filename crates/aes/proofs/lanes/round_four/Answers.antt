@@ -1,6 +1,6 @@
 use Rattle.std.proofs.Common.{◌/◌, ◌%◌, ℕ, bit_xor}
 use Rattle.aes.specs.Field.{times}
-use Rattle.aes.specs.Lanes.{in_basis, linear_sbox, byte_of, row_source, row_below, row_above}
+use Rattle.aes.specs.Code.Lanes.{in_basis, linear_sbox, byte_of, row_source, row_below, row_above}
 use Rattle.aes.proofs.FourBlocks.{via_two}
 use Rattle.aes.proofs.FourRounds.{source_lanes, moved_lanes, lowered_lanes, ready_lanes, round_lanes}
 use Rattle.aes.proofs.lanes.round_four.Goals as goal

@@ -1,6 +1,6 @@
 use Rattle.std.proofs.Common.{◌≡◌, List, ℕ, length, get_or, refl, subst, rules, ◌∷◌, []}
 use Rattle.aes.specs.Columns.{columns_of}
-use Rattle.aes.specs.Lanes.{HasLanes, key_byte}
+use Rattle.aes.specs.Code.Lanes.{HasLanes, key_byte}
 use Rattle.aes.proofs.Steps.{quad}
 use Rattle.aes.proofs.FourRounds.{key_lanes}
 use Rattle.aes.proofs.lanes.spread.Goals as goal

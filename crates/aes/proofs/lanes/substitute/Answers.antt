@@ -1,5 +1,5 @@
 use Rattle.std.proofs.Common.{ℕ, ◌/◌, ◌%◌, get_or, bit_xor}
-use Rattle.aes.specs.Lanes.{HasLanes, entry}
+use Rattle.aes.specs.Code.Lanes.{HasLanes, entry}
 use Rattle.aes.specs.declared.lanes.TheConstants.{INVERSE, SCALED, PLAIN_BY_FIRST, PLAIN_BY_SECOND, ONCE_BY_FIRST, ONCE_BY_SECOND, TWICE_BY_FIRST, TWICE_BY_SECOND}
 use Rattle.aes.proofs.FourBlocks.{via, via_two, shown, scaled_at, both_at, first_at, second_at, u_at, t_at, by_parts, both_place, first_place, second_place, u_place, t_place, plain_lanes, once_lanes, twice_lanes}
 use Rattle.aes.proofs.lanes.substitute.Goals as goal

@@ -1,5 +1,5 @@
 use Rattle.std.proofs.Common.{◌/◌, ◌%◌, get_or, bit_xor}
-use Rattle.aes.specs.Lanes.{entry}
+use Rattle.aes.specs.Code.Lanes.{entry}
 use Rattle.aes.specs.declared.lanes.TheConstants.{TO_LOW, TO_HIGH}
 use Rattle.aes.proofs.FourBlocks.{via, via_two, basis_entries, same_lanes, lane_fits}
 use Rattle.aes.proofs.lanes.to_basis.Goals as goal

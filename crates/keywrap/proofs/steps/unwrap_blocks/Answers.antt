@@ -1,6 +1,6 @@
 use Rattle.std.proofs.Common.{◌≡◌, ℕ, List, ◌+◌, ◌-◌, ◌*◌, ◌/◌, ◌<◌, ◌≤◌, ◌++◌, length, arith, sym, ap, ◌∙◌}
 use Rattle.keywrap.specs.Wrapping.{steps}
-use Rattle.keywrap.specs.Places.{register}
+use Rattle.keywrap.specs.Code.Places.{register}
 use Rattle.keywrap.proofs.Pieces.{register_start, register_end}
 use Rattle.keywrap.proofs.Runs.{steps_none, leads_before, one_round_less}
 use Rattle.keywrap.proofs.steps.unwrap_blocks.Goals as goal

@@ -1,5 +1,5 @@
 use Rattle.std.proofs.Common.{◌+◌, ◌*◌, ◌++◌}
-use Rattle.keywrap.specs.Places.{register}
+use Rattle.keywrap.specs.Code.Places.{register}
 use Rattle.keywrap.proofs.Runs.{LeadsTo}
 use Rattle.keywrap.proofs.steps.unwrap_blocks.Given as goal
 

@@ -3,7 +3,7 @@ use Rattle.std.specs.Int.{bytes_high_first}
 use Rattle.aes.specs.Cipher.{cipher}
 use Rattle.octets.specs.Bytes.{xor_bytes}
 use Rattle.keywrap.specs.Wrapping.{step}
-use Rattle.keywrap.specs.Places.{register}
+use Rattle.keywrap.specs.Code.Places.{register}
 use Rattle.keywrap.proofs.Pieces.{unwrapped_at}
 use Rattle.keywrap.proofs.steps.unwrap_step.Goals as goal
 use borrow.Rule.Slice.PartMut.{put_mid}

@@ -1,6 +1,6 @@
 use Rattle.std.proofs.Common.{◌≡◌, ◌+◌, ◌*◌, ◌++◌}
 use Rattle.keywrap.specs.Wrapping.{steps}
-use Rattle.keywrap.specs.Places.{register}
+use Rattle.keywrap.specs.Code.Places.{register}
 use Rattle.keywrap.proofs.steps.wrap_blocks.Given as goal
 
 abbrev pub invariant-rounds : goal.invariant-rounds

@@ -2,7 +2,7 @@ use Rattle.std.proofs.Common.{◌≡◌, ◌+◌, ◌-◌, ◌++◌, List, ℕ, 
 use Rattle.std.specs.Int.{bytes_high_first}
 use Rattle.aes.specs.Cipher.{cipher}
 use Rattle.octets.specs.Bytes.{xor_bytes}
-use Rattle.keywrap.specs.Places.{register}
+use Rattle.keywrap.specs.Code.Places.{register}
 use Rattle.keywrap.proofs.Pieces.{wrapped_at}
 use Rattle.keywrap.proofs.steps.wrap_step.Goals as goal
 use borrow.Rule.Slice.PartMut.{put_mid}

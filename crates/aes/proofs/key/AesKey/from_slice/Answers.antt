@@ -1,5 +1,5 @@
 use Rattle.std.proofs.Common.{◌≡◌, ◌*◌, length, rules}
-use Rattle.aes.specs.ExpandedKey.{IsKeySize}
+use Rattle.aes.specs.Code.ExpandedKey.{IsKeySize}
 use Rattle.aes.proofs.Expanded.{spelled, expanded, key_length}
 use Rattle.aes.proofs.key.AesKey.from_slice.Goals as goal
 

@@ -1,0 +1,2 @@
+-- How the code keeps the register. Wrapping is defined without it.
+pub mod Places
