@@ -1,5 +1,7 @@
 -- The register as a list of blocks, and as one list of bytes.
-use Rattle.std.proofs.Common.{◌≡◌, ℕ, zero, suc, ◌+◌, ◌-◌, ◌*◌, ◌/◌, ◌%◌, ◌≤◌, List, [], ◌∷◌, ◌++◌, take, drop, get_or, length, bit_xor, refl, sym, ap, ap₂, ◌∙◌, arith, append_assoc, length-append, length-drop}
+use Rattle.std.proofs.Common.{◌≡◌, ℕ, zero, suc, ◌+◌, ◌-◌, ◌*◌, ◌/◌, ◌%◌, ◌≤◌, List, [], ◌∷◌, ◌++◌, take}
+use Rattle.std.proofs.Common.{drop, get_or, length, bit_xor, refl, sym, ap, ap₂, ◌∙◌, arith, append_assoc}
+use Rattle.std.proofs.Common.{length-append, length-drop}
 use Rattle.std.proofs.lemmas.List.{append-nil, length-take-le}
 use Rattle.std.proofs.lemmas.List.FromFn.{length-map-range_with_len}
 use Rattle.std.specs.Int.{bytes_high_first}
@@ -16,13 +18,15 @@ use Rattle.keywrap.proofs.Pieces.{step_at}
 length_added : (ws : List (List ℕ)) (n : ℕ) (s : List ℕ) → length (add_round_key ws n s) ≡ 16
 unfolding add_round_key
 length_added ws n s =
-    length-map-range_with_len (λ i. bit_xor (at s (i % 4) (i / 4)) (get_or (get_or ws (4 * n + i / 4) []) (i % 4) 0)) 0 16
+    length-map-range_with_len (λ i. bit_xor (at s (i % 4) (i / 4))
+    (get_or (get_or ws (4 * n + i / 4) []) (i % 4) 0)) 0 16
 
 -- the cipher makes a block, whatever the key
 pub length_cipher : (key b : List ℕ) → length (cipher key b) ≡ 16
 unfolding cipher
 length_cipher key b =
-    length_added (schedule key) (round_count key) (shift_rows (sub_bytes (rounds (schedule key) (round_count key - 1) b)))
+    length_added (schedule key) (round_count key)
+    (shift_rows (sub_bytes (rounds (schedule key) (round_count key - 1) b)))
 
 -- one block more at the end
 joined_push : (rs : List (List ℕ)) (h : List ℕ) → joined_blocks (rs ++ h ∷ []) ≡ joined_blocks rs ++ h
@@ -37,7 +41,8 @@ blocks_push (r ∷ rs) h b l = (b.0, blocks_push rs h b.1 l)
 -- blocks joined are eight times as long
 joined_length : (rs : List (List ℕ)) → AreBlocks rs → length (joined_blocks rs) ≡ 8 * length rs
 joined_length [] b = refl
-joined_length (r ∷ rs) b = length-append r (joined_blocks rs) ∙ ap₂ (λ m n. m + n) b.0 (joined_length rs b.1) ∙ omega arith
+joined_length (r ∷ rs) b = length-append r (joined_blocks rs) ∙ ap₂ (λ m n. m + n) b.0 (joined_length rs b.1)
+    ∙ omega arith
 
 -- a register of blocks, and the same as one list
 record IsLike (s : List ℕ) (first : List ℕ) (blocks : List (List ℕ)) : Type 0 where
@@ -71,7 +76,8 @@ like_steps : (key s : List ℕ) (u : Register) (t : ℕ) → IsLike s u.first u.
 unfolding steps block_steps
 like_steps key s u zero like = like
 like_steps key s u (suc t) like =
-    like_step key (steps key t s) (block_steps key t u).first (block_steps key t u).blocks (suc t) (like_steps key s u t like)
+    like_step key (steps key t s) (block_steps key t u).first (block_steps key t u).blocks (suc t)
+    (like_steps key s u t like)
 
 -- the wrapping, by blocks
 pub wraps_by_blocks : WrapsByBlocks

@@ -1,20 +1,26 @@
 -- Texts to pad, what their wrappings begin with, and what is made of it.
-use Rattle.std.proofs.Common.{◌≡◌, ◌≢◌, ℕ, zero, suc, ◌+◌, ◌-◌, ◌*◌, ◌/◌, ◌%◌, ◌^◌, ◌<◌, ◌≤◌, ◌==◌, Bool, true, false, eqb, List, [], ◌∷◌, ◌++◌, take, drop, length, replicate, refl, sym, ap, ap₂, ◌∙◌, arith, length-append, length-drop, append_assoc}
+use Rattle.std.proofs.Common.{◌≡◌, ◌≢◌, ℕ, zero, suc, ◌+◌, ◌-◌, ◌*◌, ◌/◌, ◌%◌, ◌^◌, ◌<◌, ◌≤◌, ◌==◌, Bool}
+use Rattle.std.proofs.Common.{true, false, eqb, List, [], ◌∷◌, ◌++◌, take, drop, length, replicate, refl}
+use Rattle.std.proofs.Common.{sym, ap, ap₂, ◌∙◌, arith, length-append, length-drop, append_assoc}
 use Rattle.std.specs.Prelude.{Option, Some, None, MatchOption, IfSome}
 use Rattle.std.specs.List.{list_all}
 use Rattle.std.specs.Int.{bytes_high_first, from_be_bytes, w32}
 use Rattle.std.proofs.lemmas.Nat.{from_be_bytes-to_be_bytes_4}
 use Rattle.std.proofs.lemmas.Bool.{and_parts, eqb-true}
-use Rattle.std.proofs.lemmas.List.{take_at, drop_at, drop_all, append-nil, take-append-drop, take_all, length-replicate, length-take-le}
+use Rattle.std.proofs.lemmas.List.{take_at, drop_at, drop_all, append-nil, take-append-drop, take_all}
+use Rattle.std.proofs.lemmas.List.{length-replicate, length-take-le}
 use Rattle.std.proofs.Math.Seq.{take-add}
 use Rattle.octets.specs.Bytes.{AreBytes}
 use Rattle.aes.specs.Cipher.{cipher, IsKey, IsPermutation}
 use Rattle.keywrap.specs.Wrapping.{steps}
-use Rattle.keywrap.specs.Padded.{constant, alternative_value, padded, transformed, HasPaddableLength, HasBlocks, HasPaddedRoom, IsStartOf, UnwrappedPadded, IsNoPaddedWrapping, HasOnePaddedText}
+use Rattle.keywrap.specs.Padded.{constant, alternative_value, padded, transformed, HasPaddableLength}
+use Rattle.keywrap.specs.Padded.{HasBlocks, HasPaddedRoom, IsStartOf, UnwrappedPadded, IsNoPaddedWrapping}
+use Rattle.keywrap.specs.Padded.{HasOnePaddedText}
 use borrow.Rule.Slice.PartMut.{put_mid}
 use Rattle.keywrap.proofs.Blocks.{length_cipher}
 use Rattle.keywrap.proofs.Texts.{steps_length}
-use Rattle.keywrap.proofs.Bytes.{bytes_append, bytes_resized, bytes_take, bytes_drop, bytes_replicate, bytes_number, same_front, same_back, steps_bytes, steps_one_to_one}
+use Rattle.keywrap.proofs.Bytes.{bytes_append, bytes_resized, bytes_take, bytes_drop, bytes_replicate}
+use Rattle.keywrap.proofs.Bytes.{bytes_number, same_front, same_back, steps_bytes, steps_one_to_one}
 
 -- a list of sixteen bytes is its own front
 front_16 : (s : List ℕ) → length s ≡ 16 → take 16 s ≡ s
@@ -30,7 +36,8 @@ differs : (m n : ℕ) → m ≢ n → eqb m n ≡ false
 differs m n d = grind arith
 
 -- more blocks than one
-pub transformed_more : (key s : List ℕ) → length s ≢ 16 → transformed key s ≡ steps key (6 * ((length s - 8) / 8)) s
+pub transformed_more : (key s : List ℕ) → length s ≢ 16
+    → transformed key s ≡ steps key (6 * ((length s - 8) / 8)) s
 unfolding transformed
 transformed_more key s d = rw (differs (length s) 16 d) refl
 
@@ -39,17 +46,20 @@ fails : eqb 16 16 ≡ false → ⊥
 fails e = cc
 
 -- what is made of bytes is as many bytes
-made_bytes : (b : Bool) (key s : List ℕ) (n : ℕ) → eqb n 16 ≡ b → IsPermutation → IsKey key → AreBytes n s → 16 ≤ n → AreBytes n (transformed key s)
+made_bytes : (b : Bool) (key s : List ℕ) (n : ℕ) → eqb n 16 ≡ b → IsPermutation → IsKey key → AreBytes n s
+    → 16 ≤ n → AreBytes n (transformed key s)
 made_bytes true key s n e law k h l =
     let long : n ≡ 16 = eqb-true n 16 e in
     let block : AreBytes 16 s = bytes_resized n 16 s long h in
-    rw (transformed_one key s block.length_is) (bytes_resized 16 n (cipher key s) (sym long) ((law key k).0 s block))
+    rw (transformed_one key s block.length_is)
+    (bytes_resized 16 n (cipher key s) (sym long) ((law key k).0 s block))
 made_bytes false key s n e law k h l =
     let d : length s ≢ 16 = λ is. fails (sym (ap (λ m. eqb m 16) (sym h.length_is ∙ is)) ∙ e) in
     rw (transformed_more key s d) (steps_bytes key s (6 * ((length s - 8) / 8)) n law k h l)
 
 -- and nothing else has the same made of it
-made_one_to_one : (b : Bool) (key s r : List ℕ) (n : ℕ) → eqb n 16 ≡ b → IsPermutation → IsKey key → AreBytes n s → AreBytes n r → 16 ≤ n
+made_one_to_one : (b : Bool) (key s r : List ℕ) (n : ℕ) → eqb n 16 ≡ b → IsPermutation → IsKey key
+    → AreBytes n s → AreBytes n r → 16 ≤ n
     → transformed key s ≡ transformed key r → s ≡ r
 made_one_to_one true key s r n e law k h i l same =
     let long : n ≡ 16 = eqb-true n 16 e in
@@ -62,13 +72,16 @@ made_one_to_one false key s r n e law k h i l same =
     let dr : length r ≢ 16 = λ is. none (sym i.length_is ∙ is) in
     let count : length s ≡ length r = h.length_is ∙ sym i.length_is in
     steps_one_to_one key s r (6 * ((length r - 8) / 8)) n law k h i l
-    (ap (λ m. steps key (6 * ((m - 8) / 8)) s) (sym count) ∙ sym (transformed_more key s ds) ∙ same ∙ transformed_more key r dr)
+    (ap (λ m. steps key (6 * ((m - 8) / 8)) s) (sym count) ∙ sym (transformed_more key s ds) ∙ same
+    ∙ transformed_more key r dr)
 
 -- a padded text has whole blocks, and no block more than it needs
-pub padded_long : (text : List ℕ) → (length (padded text) % 8 ≡ 0) × (length text ≤ length (padded text)) × (length (padded text) < length text + 8)
+pub padded_long : (text : List ℕ) → (length (padded text) % 8 ≡ 0) × (length text ≤ length (padded text))
+    × (length (padded text) < length text + 8)
 padded_long text =
     let all : length (padded text) ≡ length text + (8 - length text % 8) % 8 =
-    length-append text (replicate ((8 - length text % 8) % 8) 0) ∙ ap (λ n. length text + n) (length-replicate ((8 - length text % 8) % 8) 0) in
+    length-append text (replicate ((8 - length text % 8) % 8) 0)
+    ∙ ap (λ n. length text + n) (length-replicate ((8 - length text % 8) % 8) 0) in
     (omega arith, omega arith, omega arith)
 
 -- what the wrapping of a text begins with
@@ -76,48 +89,60 @@ abbrev pub start : List ℕ → List ℕ
 start text = alternative_value (length text) ++ padded text
 
 -- it is bytes
-pub start_bytes : (text : List ℕ) → AreBytes (length text) text → AreBytes (8 + length (padded text)) (start text)
+pub start_bytes : (text : List ℕ) → AreBytes (length text) text
+    → AreBytes (8 + length (padded text)) (start text)
 start_bytes text b =
     let zeros : ℕ = (8 - length text % 8) % 8 in
     let long : length text + zeros ≡ length (padded text) =
     sym (length-append text (replicate zeros 0) ∙ ap (λ n. length text + n) (length-replicate zeros 0)) in
     bytes_append 8 (length (padded text)) (alternative_value (length text)) (padded text)
-    (bytes_append 4 4 constant (bytes_high_first 4 (length text)) (bytes_number 4 0xa65959a6) (bytes_number 4 (length text)))
-    (bytes_resized (length text + zeros) (length (padded text)) (padded text) long (bytes_append (length text) zeros text (replicate zeros 0) b (bytes_replicate zeros 0 (omega arith))))
+    (bytes_append 4 4 constant (bytes_high_first 4 (length text)) (bytes_number 4 0xa65959a6)
+    (bytes_number 4 (length text)))
+    (bytes_resized (length text + zeros) (length (padded text)) (padded text) long
+    (bytes_append (length text) zeros text (replicate zeros 0) b (bytes_replicate zeros 0 (omega arith))))
 
 -- the same alternative initial value tells the same length
 pub one_length : (m n : ℕ) → m < 2 ^ 32 → n < 2 ^ 32 → alternative_value m ≡ alternative_value n → m ≡ n
 one_length m n lm ln e =
     sym (from_be_bytes-to_be_bytes_4 m lm)
-    ∙ ap (from_be_bytes w32) (same_back constant constant (bytes_high_first 4 m) (bytes_high_first 4 n) refl e)
+    ∙ ap (from_be_bytes w32) (same_back constant constant (bytes_high_first 4 m) (bytes_high_first 4 n) refl
+    e)
     ∙ from_be_bytes-to_be_bytes_4 n ln
 
 -- texts of one length whose wrappings begin alike are the same
-pub one_start : (text other : List ℕ) → HasPaddableLength text → HasPaddableLength other → start text ≡ start other → text ≡ other
+pub one_start : (text other : List ℕ) → HasPaddableLength text → HasPaddableLength other
+    → start text ≡ start other → text ≡ other
 one_start text other h i e =
     let fronts : alternative_value (length text) ≡ alternative_value (length other) =
-    same_front (alternative_value (length text)) (alternative_value (length other)) (padded text) (padded other) refl e in
+    same_front (alternative_value (length text)) (alternative_value (length other)) (padded text)
+    (padded other) refl e in
     let backs : padded text ≡ padded other =
-    same_back (alternative_value (length text)) (alternative_value (length other)) (padded text) (padded other) refl e in
+    same_back (alternative_value (length text)) (alternative_value (length other)) (padded text)
+    (padded other) refl e in
     let long : length text ≡ length other = one_length (length text) (length other) h.most i.most fronts in
-    same_front text other (replicate ((8 - length text % 8) % 8) 0) (replicate ((8 - length other % 8) % 8) 0) long backs
+    same_front text other (replicate ((8 - length text % 8) % 8) 0)
+    (replicate ((8 - length other % 8) % 8) 0) long backs
 
 -- the register of a text has whole blocks, and at least one
 pub start_long : (text : List ℕ) → 1 ≤ length text → 16 ≤ 8 + length (padded text)
 start_long text h = omega (arith, (padded_long text).0, (padded_long text).1)
 
 -- a wrapping with padding has the length of the register
-pub wrapped_bytes : (key wrapped text : List ℕ) → IsPermutation → IsKey key → UnwrappedPadded key wrapped text → AreBytes (8 + length (padded text)) wrapped
+pub wrapped_bytes : (key wrapped text : List ℕ) → IsPermutation → IsKey key
+    → UnwrappedPadded key wrapped text → AreBytes (8 + length (padded text)) wrapped
 wrapped_bytes key wrapped text law k u =
-    rw u.is (made_bytes (eqb (8 + length (padded text)) 16) key (start text) (8 + length (padded text)) refl law k (start_bytes text u.bytes) (start_long text u.length_is.least))
+    rw u.is (made_bytes (eqb (8 + length (padded text)) 16) key (start text) (8 + length (padded text)) refl
+    law k (start_bytes text u.bytes) (start_long text u.length_is.least))
 
 -- a register of which a wrapping of the text is made is the one that the text begins with
-pub only_start : (key wrapped text s : List ℕ) → IsPermutation → IsKey key → AreBytes (length wrapped) s → transformed key s ≡ wrapped
+pub only_start : (key wrapped text s : List ℕ) → IsPermutation → IsKey key → AreBytes (length wrapped) s
+    → transformed key s ≡ wrapped
     → UnwrappedPadded key wrapped text → s ≡ start text
 only_start key wrapped text s law k b e u =
     let n : ℕ = 8 + length (padded text) in
     let long : length wrapped ≡ n = (wrapped_bytes key wrapped text law k u).length_is in
-    made_one_to_one (eqb n 16) key s (start text) n refl law k (bytes_resized (length wrapped) n s long b) (start_bytes text u.bytes)
+    made_one_to_one (eqb n 16) key s (start text) n refl law k (bytes_resized (length wrapped) n s long b)
+    (start_bytes text u.bytes)
     (start_long text u.length_is.least) (e ∙ u.is)
 
 -- a wrapping with padding has one text
@@ -125,9 +150,12 @@ pub one_text : IsPermutation → HasOnePaddedText
 one_text law key k wrapped text u = (
   (wrapped_bytes key wrapped text law k u).length_is ∙ omega arith,
   λ other v.
-      let long : 8 + length (padded other) ≡ length wrapped = sym (wrapped_bytes key wrapped other law k v).length_is in
+      let long : 8 + length (padded other) ≡ length wrapped =
+      sym (wrapped_bytes key wrapped other law k v).length_is in
       one_start other text v.length_is u.length_is
-      (only_start key wrapped text (start other) law k (bytes_resized (8 + length (padded other)) (length wrapped) (start other) long (start_bytes other v.bytes)) (sym v.is) u),
+      (only_start key wrapped text (start other) law k
+      (bytes_resized (8 + length (padded other)) (length wrapped) (start other) long
+      (start_bytes other v.bytes)) (sym v.is) u),
 )
 
 -- zero bytes are as many zeros
@@ -143,15 +171,19 @@ are_zeros zero = refl
 are_zeros (suc n) = are_zeros n
 
 -- blocks whose bytes past the text are the fewest zeros
-pub padded_by : (n : ℕ) (blocks : List ℕ) → length blocks % 8 ≡ 0 → n ≤ length blocks → length blocks < n + 8 → list_all (λ b. b == 0) (drop n blocks) ≡ true
+pub padded_by : (n : ℕ) (blocks : List ℕ) → length blocks % 8 ≡ 0 → n ≤ length blocks → length blocks < n + 8
+    → list_all (λ b. b == 0) (drop n blocks) ≡ true
     → blocks ≡ padded (take n blocks)
 padded_by n blocks whole least few h =
     let long : length (take n blocks) ≡ n = length-take-le n blocks least in
-    let rest : length (drop n blocks) ≡ (8 - length (take n blocks) % 8) % 8 = length-drop n blocks ∙ omega arith in
-    sym (take-append-drop n blocks) ∙ ap (λ z. take n blocks ++ z) (zeros (drop n blocks) h ∙ ap (λ m. replicate m 0) rest)
+    let rest : length (drop n blocks) ≡ (8 - length (take n blocks) % 8) % 8 =
+    length-drop n blocks ∙ omega arith in
+    sym (take-append-drop n blocks) ∙ ap (λ z. take n blocks ++ z)
+    (zeros (drop n blocks) h ∙ ap (λ m. replicate m 0) rest)
 
 -- what is made of a register of blocks is as long, whatever the key
-made_length : (b : Bool) (key s : List ℕ) → eqb (length s) 16 ≡ b → 16 ≤ length s → length (transformed key s) ≡ length s
+made_length : (b : Bool) (key s : List ℕ) → eqb (length s) 16 ≡ b → 16 ≤ length s
+    → length (transformed key s) ≡ length s
 made_length true key s e l =
     let long : length s ≡ 16 = eqb-true (length s) 16 e in
     ap length (transformed_one key s long) ∙ length_cipher key s ∙ sym long
@@ -160,32 +192,47 @@ made_length false key s e l =
     ap length (transformed_more key s d) ∙ steps_length key s (6 * ((length s - 8) / 8)) l
 
 -- the lengths of a wrapping with padding
-pub wrapped_long : (key wrapped text : List ℕ) → UnwrappedPadded key wrapped text → HasBlocks wrapped × (length wrapped ≤ 2 ^ 32 + 8)
+pub wrapped_long : (key wrapped text : List ℕ) → UnwrappedPadded key wrapped text
+    → HasBlocks wrapped × (length wrapped ≤ 2 ^ 32 + 8)
 wrapped_long key wrapped text u =
     let s : List ℕ = start text in
     let fits = padded_long text in
-    let begins : length s ≡ 8 + length (padded text) = length-append (alternative_value (length text)) (padded text) in
+    let begins : length s ≡ 8 + length (padded text) =
+    length-append (alternative_value (length text)) (padded text) in
     let long : length wrapped ≡ 8 + length (padded text) =
-    ap length u.is ∙ made_length (eqb (length s) 16) key s refl (omega (arith, begins, start_long text u.length_is.least)) ∙ begins in
-    (record { least = omega (arith, long, fits.0, fits.1, u.length_is.least); whole = omega (arith, long, fits.0) }, omega (arith, long, fits.0, fits.2, u.length_is.most))
+    ap length u.is ∙ made_length (eqb (length s) 16) key s refl
+    (omega (arith, begins, start_long text u.length_is.least)) ∙ begins in (
+      record {
+        least = omega (arith, long, fits.0, fits.1, u.length_is.least);
+        whole =
+            omega (arith, long, fits.0);
+      },
+      omega (arith, long, fits.0, fits.2, u.length_is.most),
+    )
 
 -- A and the blocks of a wrapping, taken apart
-pub parts : (wrapped a blocks : List ℕ) → a ≡ take 8 wrapped → blocks ≡ take (length wrapped - 8) (drop 8 wrapped) → a ++ blocks ≡ wrapped
+pub parts : (wrapped a blocks : List ℕ) → a ≡ take 8 wrapped
+    → blocks ≡ take (length wrapped - 8) (drop 8 wrapped) → a ++ blocks ≡ wrapped
 parts wrapped a blocks e f =
-    ap₂ (λ x y. x ++ y) e (f ∙ take_all (length wrapped - 8) (drop 8 wrapped) (omega (arith, length-drop 8 wrapped))) ∙ take-append-drop 8 wrapped
+    ap₂ (λ x y. x ++ y) e (f ∙ take_all (length wrapped - 8) (drop 8 wrapped)
+    (omega (arith, length-drop 8 wrapped))) ∙ take-append-drop 8 wrapped
 
 -- the text whose start was found
-pub unwrapped_by : (key wrapped first rest : List ℕ) (n : ℕ) → n ≤ length rest → AreBytes (length rest) rest → IsStartOf (take n rest) first rest
+pub unwrapped_by : (key wrapped first rest : List ℕ) (n : ℕ) → n ≤ length rest → AreBytes (length rest) rest
+    → IsStartOf (take n rest) first rest
     → transformed key (first ++ rest) ≡ wrapped → UnwrappedPadded key wrapped (take n rest)
 unwrapped_by key wrapped first rest n l b s e = record {
   length_is = s.length_is;
-  bytes = bytes_resized n (length (take n rest)) (take n rest) (sym (length-take-le n rest l)) (bytes_take n (length rest) rest l b);
+  bytes = bytes_resized n (length (take n rest)) (take n rest) (sym (length-take-le n rest l))
+      (bytes_take n (length rest) rest l b);
   is = sym e ∙ ap (transformed key) (ap₂ (λ x y. x ++ y) s.first_is s.blocks_are);
 }
 
 -- where none was found, there is none
-pub no_wrapping : (key wrapped first rest : List ℕ) → IsPermutation → IsKey key → AreBytes (length wrapped) (first ++ rest) → length first ≡ 8
-    → transformed key (first ++ rest) ≡ wrapped → ((text : List ℕ) → IsStartOf text first rest → ⊥) → IsNoPaddedWrapping key wrapped
+pub no_wrapping : (key wrapped first rest : List ℕ) → IsPermutation → IsKey key
+    → AreBytes (length wrapped) (first ++ rest) → length first ≡ 8
+    → transformed key (first ++ rest) ≡ wrapped → ((text : List ℕ) → IsStartOf text first rest → ⊥)
+    → IsNoPaddedWrapping key wrapped
 no_wrapping key wrapped first rest law k b long e none text u =
     let same : first ++ rest ≡ start text = only_start key wrapped text (first ++ rest) law k b e u in
     none text (record {
@@ -195,7 +242,8 @@ no_wrapping key wrapped first rest law k b long e none text u =
     })
 
 -- blocks that a text begins with have zeros past it
-pub zeros_past : (text blocks : List ℕ) (n : ℕ) → n ≡ length text → blocks ≡ padded text → list_all (λ b. b == 0) (take (length blocks - n) (drop n blocks)) ≡ true
+pub zeros_past : (text blocks : List ℕ) (n : ℕ) → n ≡ length text → blocks ≡ padded text
+    → list_all (λ b. b == 0) (take (length blocks - n) (drop n blocks)) ≡ true
 zeros_past text blocks n e is =
     let past : take (length blocks - n) (drop n blocks) ≡ replicate ((8 - length text % 8) % 8) 0 =
     take_all (length blocks - n) (drop n blocks) (omega (arith, length-drop n blocks))
@@ -211,22 +259,29 @@ few_zeros n l = take_zeros 8 n l where
   take_zeros (suc m) (suc n) l = ap (λ (xs : List ℕ). 0 ∷ xs) (take_zeros m n (omega arith))
 
 -- the alternative initial value, in its two parts
-pub value_of : (n : ℕ) (count first second value : List ℕ) → count ≡ bytes_high_first 4 n → first ≡ constant → second ≡ count
+pub value_of : (n : ℕ) (count first second value : List ℕ) → count ≡ bytes_high_first 4 n → first ≡ constant
+    → second ≡ count
     → value ≡ first ++ second → value ≡ alternative_value n
 value_of n count first second value e f h k = k ∙ ap₂ (λ x y. x ++ y) f (h ∙ e)
 
 -- a start that was put together part by part
-pub started : (text value first second last : List ℕ) → value ≡ alternative_value (length text) → first ≡ value → second ≡ first ++ text
-    → last ≡ second ++ take {A = ℕ} ((8 - length text % 8) % 8) (0 ∷ 0 ∷ 0 ∷ 0 ∷ 0 ∷ 0 ∷ 0 ∷ 0 ∷ []) → last ≡ start text
+pub started : (text value first second last : List ℕ) → value ≡ alternative_value (length text)
+    → first ≡ value → second ≡ first ++ text
+    → last ≡ second ++ take {A = ℕ} ((8 - length text % 8) % 8) (0 ∷ 0 ∷ 0 ∷ 0 ∷ 0 ∷ 0 ∷ 0 ∷ 0 ∷ [])
+    → last ≡ start text
 started text value first second last a b e f =
     let z : List ℕ = replicate ((8 - length text % 8) % 8) 0 in
-    f ∙ ap₂ (λ x y. x ++ y) (e ∙ ap (λ x. x ++ text) (b ∙ a)) (few_zeros ((8 - length text % 8) % 8) (omega arith))
+    f ∙ ap₂ (λ x y. x ++ y) (e ∙ ap (λ x. x ++ text) (b ∙ a))
+    (few_zeros ((8 - length text % 8) % 8) (omega arith))
     ∙ append_assoc (alternative_value (length text)) text z
 
 -- the text in its room, with A written in front and zeros past it
-pub wrapped_in_room : (key bytes value zeros wrapped : List ℕ) (n : ℕ) → HasPaddedRoom bytes n → n < 2 ^ 32 → AreBytes (length bytes) bytes
-    → value ≡ alternative_value n → zeros ≡ take {A = ℕ} (length bytes - 8 - n) (0 ∷ 0 ∷ 0 ∷ 0 ∷ 0 ∷ 0 ∷ 0 ∷ 0 ∷ [])
-    → wrapped ≡ transformed key (put_mid (8 + n) (length (value ++ drop 8 bytes) - (8 + n)) (value ++ drop 8 bytes) zeros)
+pub wrapped_in_room : (key bytes value zeros wrapped : List ℕ) (n : ℕ) → HasPaddedRoom bytes n → n < 2 ^ 32
+    → AreBytes (length bytes) bytes
+    → value ≡ alternative_value n → zeros
+    ≡ take {A = ℕ} (length bytes - 8 - n) (0 ∷ 0 ∷ 0 ∷ 0 ∷ 0 ∷ 0 ∷ 0 ∷ 0 ∷ [])
+    → wrapped ≡ transformed key (put_mid (8 + n) (length (value ++ drop 8 bytes) - (8 + n))
+    (value ++ drop 8 bytes) zeros)
     → UnwrappedPadded key wrapped (take n (drop 8 bytes))
 wrapped_in_room key bytes value zeros wrapped n room most b v z e =
     let text : List ℕ = take n (drop 8 bytes) in
@@ -237,33 +292,44 @@ wrapped_in_room key bytes value zeros wrapped n room most b v z e =
     let eight : length value ≡ 8 = ap length v in
     let count : length bytes - 8 - n ≡ (8 - n % 8) % 8 = omega arith in
     let front : take (8 + n) (value ++ drop 8 bytes) ≡ value ++ text =
-    take-add 8 n (value ++ drop 8 bytes) ∙ ap₂ (λ x y. x ++ take n y) (take_at value (drop 8 bytes) 8 eight) (drop_at value (drop 8 bytes) 8 eight) in
+    take-add 8 n (value ++ drop 8 bytes) ∙ ap₂ (λ x y. x ++ take n y) (take_at value (drop 8 bytes) 8 eight)
+    (drop_at value (drop 8 bytes) 8 eight) in
     let all : List ℕ = value ++ drop 8 bytes in
     let none : drop (length all - (8 + n)) (drop (8 + n) all) ≡ [] =
     drop_all (length all - (8 + n)) (drop (8 + n) all) (omega (arith, length-drop (8 + n) all)) in
     let past : zeros ≡ replicate ((8 - n % 8) % 8) 0 =
-    z ∙ ap (λ m. take {A = ℕ} m (0 ∷ 0 ∷ 0 ∷ 0 ∷ 0 ∷ 0 ∷ 0 ∷ 0 ∷ [])) count ∙ few_zeros ((8 - n % 8) % 8) (omega arith) in
+    z ∙ ap (λ m. take {A = ℕ} m (0 ∷ 0 ∷ 0 ∷ 0 ∷ 0 ∷ 0 ∷ 0 ∷ 0 ∷ [])) count
+    ∙ few_zeros ((8 - n % 8) % 8) (omega arith) in
     record {
       length_is = record { least = omega arith; most = omega arith };
-      bytes = bytes_resized n (length text) text (sym long) (bytes_take n (length bytes - 8) (drop 8 bytes) (omega arith) (bytes_drop 8 (length bytes) bytes b));
-      is = e ∙ ap (transformed key) (ap₂ (λ x y. x ++ y) front (ap (λ y. zeros ++ y) none ∙ append-nil zeros ∙ past) ∙ append_assoc value text (replicate ((8 - n % 8) % 8) 0)
-          ∙ ap₂ (λ x m. x ++ (text ++ replicate ((8 - m % 8) % 8) 0)) (v ∙ ap alternative_value (sym long)) (sym long));
+      bytes = bytes_resized n (length text) text (sym long)
+          (bytes_take n (length bytes - 8) (drop 8 bytes) (omega arith) (bytes_drop 8 (length bytes) bytes b));
+      is = e ∙ ap (transformed key) (ap₂ (λ x y. x ++ y) front
+          (ap (λ y. zeros ++ y) none ∙ append-nil zeros ∙ past)
+          ∙ append_assoc value text (replicate ((8 - n % 8) % 8) 0)
+          ∙ ap₂ (λ x m. x ++ (text ++ replicate ((8 - m % 8) % 8) 0)) (v ∙ ap alternative_value (sym long))
+          (sym long));
     }
 
 -- where a length was found, the text of that length is what the register begins with
 pub start_found : (first rest : List ℕ) (found : Option ℕ)
-    → MatchOption found ((text : List ℕ) → ¬ IsStartOf text first rest) (λ n. (n ≤ length rest) × IsStartOf (take n rest) first rest)
+    → MatchOption found ((text : List ℕ) → ¬ IsStartOf text first rest)
+    (λ n. (n ≤ length rest) × IsStartOf (take n rest) first rest)
     → IfSome found (λ n. IsStartOf (take n rest) first rest)
 start_found first rest None h = tt
 start_found first rest (Some n) h = h.1
 
 -- the length that was found is that of the text of a wrapping, and where none was found, there is no text
-pub found_by : (key wrapped first rest : List ℕ) (found : Option ℕ) → IsPermutation → IsKey key → AreBytes (length wrapped) (first ++ rest) → length first ≡ 8
+pub found_by : (key wrapped first rest : List ℕ) (found : Option ℕ) → IsPermutation → IsKey key
+    → AreBytes (length wrapped) (first ++ rest) → length first ≡ 8
     → AreBytes (length rest) rest → transformed key (first ++ rest) ≡ wrapped
-    → MatchOption found ((text : List ℕ) → ¬ IsStartOf text first rest) (λ n. (n ≤ length rest) × IsStartOf (take n rest) first rest)
-    → MatchOption found (IsNoPaddedWrapping key wrapped) (λ n. (n ≤ length rest) × UnwrappedPadded key wrapped (take n rest))
+    → MatchOption found ((text : List ℕ) → ¬ IsStartOf text first rest)
+    (λ n. (n ≤ length rest) × IsStartOf (take n rest) first rest)
+    → MatchOption found (IsNoPaddedWrapping key wrapped)
+    (λ n. (n ≤ length rest) × UnwrappedPadded key wrapped (take n rest))
 found_by key wrapped first rest None law k b long r e h = no_wrapping key wrapped first rest law k b long e h
-found_by key wrapped first rest (Some n) law k b long r e h = (h.0, unwrapped_by key wrapped first rest n h.0 r h.1 e)
+found_by key wrapped first rest (Some n) law k b long r e h =
+    (h.0, unwrapped_by key wrapped first rest n h.0 r h.1 e)
 
 -- the blocks of a register of which A was written again
 pub rest_in_place : (x xs ys : List ℕ) → length x ≡ 8 → 16 ≤ length xs → length ys ≡ length xs - 8

@@ -1,5 +1,6 @@
 -- Parts of a register.
-use Rattle.std.proofs.Common.{◌≡◌, ℕ, ◌+◌, ◌≤◌, List, ◌++◌, take, drop, length, sym, ap, ap₂, ◌∙◌, arith, append_assoc, length-append, length-drop, take_all}
+use Rattle.std.proofs.Common.{◌≡◌, ℕ, ◌+◌, ◌≤◌, List, ◌++◌, take, drop, length, sym, ap, ap₂, ◌∙◌, arith}
+use Rattle.std.proofs.Common.{append_assoc, length-append, length-drop, take_all}
 use Rattle.std.proofs.lemmas.List.{take_at, drop_at, drop_all, append-nil, take-append-drop, length-take-le}
 use Rattle.std.specs.Int.{bytes_high_first}
 use Rattle.aes.specs.Cipher.{cipher}
@@ -11,10 +12,12 @@ use Rattle.keywrap.specs.Code.Places.{register}
 use borrow.Rule.Slice.PartMut.{put_mid}
 
 -- a block written in two halves
-pub halves : (x z y a b : List ℕ) → x ≡ a → y ≡ b → length a ≡ 8 → length z ≡ 8 → put_mid 8 8 (x ++ z) y ≡ a ++ b
+pub halves : (x z y a b : List ℕ) → x ≡ a → y ≡ b → length a ≡ 8 → length z ≡ 8
+    → put_mid 8 8 (x ++ z) y ≡ a ++ b
 halves x z y a b e f long rest =
     let l : length x ≡ 8 = ap length e ∙ long in
-    ap₂ (λ u v. u ++ (y ++ v)) (take_at x z 8 l ∙ e) (ap (drop 8) (drop_at x z 8 l) ∙ drop_all 8 z (omega arith))
+    ap₂ (λ u v. u ++ (y ++ v)) (take_at x z 8 l ∙ e)
+    (ap (drop 8) (drop_at x z 8 l) ∙ drop_all 8 z (omega arith))
     ∙ ap (λ v. a ++ v) (append-nil y ∙ f)
 
 -- a list cut before and after eight places
@@ -23,21 +26,24 @@ cut p s = sym (ap (λ v. take p s ++ v) (take-append-drop 8 (drop p s)) ∙ take
 
 -- a step where the first two blocks are known
 pub step_at : (key : List ℕ) (t : ℕ) (a r z : List ℕ) → length a ≡ 8 → length r ≡ 8
-    → step key t (a ++ (r ++ z)) ≡ xor_bytes (take 8 (cipher key (a ++ r))) (bytes_high_first 8 t) ++ (z ++ drop 8 (cipher key (a ++ r)))
+    → step key t (a ++ (r ++ z)) ≡ xor_bytes (take 8 (cipher key (a ++ r))) (bytes_high_first 8 t)
+    ++ (z ++ drop 8 (cipher key (a ++ r)))
 unfolding step
 step_at key t a r z la lr =
     let l : length (a ++ r) ≡ 16 = length-append a r ∙ ap₂ (λ m n. m + n) la lr in
     let s : a ++ (r ++ z) ≡ (a ++ r) ++ z = sym (append_assoc a r z) in
     let front : take 16 (a ++ (r ++ z)) ≡ a ++ r = ap (take 16) s ∙ take_at (a ++ r) z 16 l in
     let back : drop 16 (a ++ (r ++ z)) ≡ z = ap (drop 16) s ∙ drop_at (a ++ r) z 16 l in
-    ap₂ (λ f d. xor_bytes (take 8 (cipher key f)) (bytes_high_first 8 t) ++ (d ++ drop 8 (cipher key f))) front back
+    ap₂ (λ f d. xor_bytes (take 8 (cipher key f)) (bytes_high_first 8 t) ++ (d ++ drop 8 (cipher key f)))
+    front back
 
 -- the register before its next block r is taken
 pub register_before : (place : ℕ) (a m r e : List ℕ) → length m ≡ place
     → register place a (m ++ (r ++ e)) ≡ a ++ (r ++ (e ++ m))
 unfolding register
 register_before place a m r e lm =
-    ap (λ v. a ++ v) (ap₂ (λ d t. d ++ t) (drop_at m (r ++ e) place lm) (take_at m (r ++ e) place lm) ∙ append_assoc r e m)
+    ap (λ v. a ++ v) (ap₂ (λ d t. d ++ t) (drop_at m (r ++ e) place lm) (take_at m (r ++ e) place lm)
+    ∙ append_assoc r e m)
 
 -- and after
 pub register_after : (place : ℕ) (a m r e : List ℕ) → length m ≡ place → length r ≡ 8
@@ -47,7 +53,8 @@ register_after place a m r e lm lr =
     let l : length (m ++ r) ≡ place + 8 = length-append m r ∙ ap₂ (λ i j. i + j) lm lr in
     let s : m ++ (r ++ e) ≡ (m ++ r) ++ e = sym (append_assoc m r e) in
     ap (λ v. a ++ v)
-    (ap₂ (λ d t. d ++ t) (ap (drop (place + 8)) s ∙ drop_at (m ++ r) e (place + 8) l) (ap (take (place + 8)) s ∙ take_at (m ++ r) e (place + 8) l)
+    (ap₂ (λ d t. d ++ t) (ap (drop (place + 8)) s ∙ drop_at (m ++ r) e (place + 8) l)
+    (ap (take (place + 8)) s ∙ take_at (m ++ r) e (place + 8) l)
     ∙ sym (append_assoc e m r))
 
 -- a round starts at place 0
@@ -62,9 +69,11 @@ register_end place a s l =
     ap (λ v. a ++ v) (ap₂ (λ d t. d ++ t) (drop_all place s l) (take_all place s l))
 
 -- one step forwards on the block at a place
-pub wrapped_at : (key : List ℕ) (t p k : ℕ) (a s b h : List ℕ) → k ≡ 8 → length a ≡ 8 → p + 8 ≤ length s → length b ≡ 16
+pub wrapped_at : (key : List ℕ) (t p k : ℕ) (a s b h : List ℕ) → k ≡ 8 → length a ≡ 8 → p + 8 ≤ length s
+    → length b ≡ 16
     → b ≡ cipher key (a ++ take k (drop p s)) → h ≡ drop 8 b
-    → register (p + 8) (xor_bytes (take 8 b) (bytes_high_first 8 t)) (put_mid p k s h) ≡ step key t (register p a s)
+    → register (p + 8) (xor_bytes (take 8 b) (bytes_high_first 8 t)) (put_mid p k s h)
+    ≡ step key t (register p a s)
 wrapped_at key t p k a s b h k8 la room lb e f =
     let m : List ℕ = take p s in
     let r : List ℕ = take 8 (drop p s) in
@@ -80,7 +89,8 @@ wrapped_at key t p k a s b h k8 la room lb e f =
     ∙ step_at key t a r (z ++ m) la lr)
 
 -- one step backwards on the block at a place, where the cipher takes d to the block found there
-pub unwrapped_at : (key : List ℕ) (t p k : ℕ) (a s d h : List ℕ) → k ≡ 8 → length a ≡ 8 → p + 8 ≤ length s → length d ≡ 16
+pub unwrapped_at : (key : List ℕ) (t p k : ℕ) (a s d h : List ℕ) → k ≡ 8 → length a ≡ 8 → p + 8 ≤ length s
+    → length d ≡ 16
     → cipher key d ≡ xor_bytes a (bytes_high_first 8 t) ++ take k (drop p s) → h ≡ drop 8 d
     → step key t (register p (take 8 d) (put_mid p k s h)) ≡ register (p + 8) a s
 unwrapped_at key t p k a s d h k8 la room ld e f =
@@ -100,6 +110,7 @@ unwrapped_at key t p k a s d h k8 la room ld e f =
     ∙ ap (step key t) (register_before p (take 8 d) m h z lm ∙ ap (λ x. take 8 d ++ (x ++ (z ++ m))) f)
     ∙ step_at key t (take 8 d) (drop 8 d) (z ++ m) ld8 ldr
     ∙ ap (λ b. xor_bytes (take 8 b) n ++ ((z ++ m) ++ drop 8 b)) whole
-    ∙ ap₂ (λ x y. xor_bytes x n ++ ((z ++ m) ++ y)) (take_at (xor_bytes a n) r 8 lsum) (drop_at (xor_bytes a n) r 8 lsum)
+    ∙ ap₂ (λ x y. xor_bytes x n ++ ((z ++ m) ++ y)) (take_at (xor_bytes a n) r 8 lsum)
+    (drop_at (xor_bytes a n) r 8 lsum)
     ∙ ap (λ x. x ++ ((z ++ m) ++ r)) (xor_twice a n ln)
     ∙ sym (ap (register (p + 8) a) (cut p s) ∙ register_after p a m r z lm lr)

@@ -17,9 +17,11 @@ abbrev pub LeadsTo : List ℕ → ℕ → List ℕ → ℕ → List ℕ → Type
 LeadsTo key n last t now = (s : List ℕ) → steps key t s ≡ now → steps key n s ≡ last
 
 -- what a step takes to a register on the way is on the way too
-pub leads_before : (key : List ℕ) (n t : ℕ) (last after before : List ℕ) → LeadsTo key n last (t + 1) after → step key (t + 1) before ≡ after
+pub leads_before : (key : List ℕ) (n t : ℕ) (last after before : List ℕ) → LeadsTo key n last (t + 1) after
+    → step key (t + 1) before ≡ after
     → LeadsTo key n last t before
-leads_before key n t last after before leads e s h = leads s (sym (steps_more key s t) ∙ ap (step key (t + 1)) h ∙ e)
+leads_before key n t last after before leads e s h =
+    leads s (sym (steps_more key s t) ∙ ap (step key (t + 1)) h ∙ e)
 
 -- the steps before the last of some rounds
 pub one_round_less : (n r : ℕ) → 0 < r → n * r ≡ n * (r - 1) + n

@@ -1,5 +1,6 @@
 -- Published vectors, computed by the definitions.
-use Rattle.std.proofs.Common.{◌≡◌, ℕ, List, [], ◌∷◌, ◌++◌, take, drop, length, refl, sym, ap, ◌∙◌, inl, inr, lit≤, lit<}
+use Rattle.std.proofs.Common.{◌≡◌, ℕ, List, [], ◌∷◌, ◌++◌, take, drop, length, refl, sym, ap, ◌∙◌, inl, inr}
+use Rattle.std.proofs.Common.{lit≤, lit<}
 use Rattle.std.specs.Int.{bytes_high_first}
 use Rattle.octets.specs.Polynomial.{residue}
 use Rattle.octets.specs.Bytes.{IsBlock, xor_bytes}
@@ -7,7 +8,8 @@ use Rattle.aes.specs.Schedule.{xor_word, rcon}
 use Rattle.aes.specs.Cipher.{shift_rows, add_round_key, cipher, IsKey}
 use Rattle.aes.proofs.Small.{all_small}
 use Rattle.aes.proofs.Vectors.{key128, words128, schedule128, is_key128, text}
-use Rattle.aes.proofs.Computed.{words_by_table, schedule_by_table, sub_by_table, mix_by_doubling, rounds_computed, cipher_computed, cipher_is_computed}
+use Rattle.aes.proofs.Computed.{words_by_table, schedule_by_table, sub_by_table, mix_by_doubling}
+use Rattle.aes.proofs.Computed.{rounds_computed, cipher_computed, cipher_is_computed}
 use Rattle.keywrap.specs.Wrapping.{step, steps, Unwrapped}
 use Rattle.keywrap.specs.Padded.{alternative_value, padded, transformed, UnwrappedPadded}
 use Rattle.keywrap.proofs.PaddedTexts.{transformed_one}
@@ -15,18 +17,21 @@ use Rattle.keywrap.proofs.PaddedTexts.{transformed_one}
 -- ---- RFC 3394, 4.1: the register at its beginning
 s0 : List ℕ
 s0 =
-    0xa6 ∷ 0xa6 ∷ 0xa6 ∷ 0xa6 ∷ 0xa6 ∷ 0xa6 ∷ 0xa6 ∷ 0xa6 ∷ 0x00 ∷ 0x11 ∷ 0x22 ∷ 0x33 ∷ 0x44 ∷ 0x55 ∷ 0x66 ∷ 0x77 ∷
+    0xa6 ∷ 0xa6 ∷ 0xa6 ∷ 0xa6 ∷ 0xa6 ∷ 0xa6 ∷ 0xa6 ∷ 0xa6 ∷ 0x00 ∷ 0x11 ∷ 0x22 ∷ 0x33 ∷ 0x44 ∷ 0x55 ∷ 0x66
+    ∷ 0x77 ∷
     0x88 ∷ 0x99 ∷ 0xaa ∷ 0xbb ∷ 0xcc ∷ 0xdd ∷ 0xee ∷ 0xff ∷ []
 
 -- the register after step 1
 s1 : List ℕ
 s1 =
-    0xf4 ∷ 0x74 ∷ 0x00 ∷ 0x52 ∷ 0xe8 ∷ 0x2a ∷ 0x22 ∷ 0x50 ∷ 0x88 ∷ 0x99 ∷ 0xaa ∷ 0xbb ∷ 0xcc ∷ 0xdd ∷ 0xee ∷ 0xff ∷
+    0xf4 ∷ 0x74 ∷ 0x00 ∷ 0x52 ∷ 0xe8 ∷ 0x2a ∷ 0x22 ∷ 0x50 ∷ 0x88 ∷ 0x99 ∷ 0xaa ∷ 0xbb ∷ 0xcc ∷ 0xdd ∷ 0xee
+    ∷ 0xff ∷
     0x74 ∷ 0xce ∷ 0x86 ∷ 0xfb ∷ 0xd7 ∷ 0xb8 ∷ 0x05 ∷ 0xe7 ∷ []
 
 -- the step leads there
 step1 : step key128 1 s0 ≡ s1
-unfolding key128 words128 cipher_computed rounds_computed add_round_key shift_rows sub_by_table mix_by_doubling s0 s1 step xor_bytes
+unfolding key128 words128 cipher_computed rounds_computed add_round_key shift_rows sub_by_table
+    mix_by_doubling s0 s1 step xor_bytes
 step1 =
     let block : IsBlock (take 16 s0) = record { length_is = refl; bytes = all_small (take 16 s0) refl } in
     ap (λ b. xor_bytes (take 8 b) (bytes_high_first 8 1) ++ (drop 16 s0 ++ drop 8 b))
@@ -35,12 +40,14 @@ step1 =
 -- the register after step 2
 s2 : List ℕ
 s2 =
-    0x06 ∷ 0xba ∷ 0x4e ∷ 0xbd ∷ 0xe7 ∷ 0x76 ∷ 0x8d ∷ 0x09 ∷ 0x74 ∷ 0xce ∷ 0x86 ∷ 0xfb ∷ 0xd7 ∷ 0xb8 ∷ 0x05 ∷ 0xe7 ∷
+    0x06 ∷ 0xba ∷ 0x4e ∷ 0xbd ∷ 0xe7 ∷ 0x76 ∷ 0x8d ∷ 0x09 ∷ 0x74 ∷ 0xce ∷ 0x86 ∷ 0xfb ∷ 0xd7 ∷ 0xb8 ∷ 0x05
+    ∷ 0xe7 ∷
     0xd1 ∷ 0x32 ∷ 0xee ∷ 0x38 ∷ 0x14 ∷ 0x7e ∷ 0x76 ∷ 0xf8 ∷ []
 
 -- the step leads there
 step2 : step key128 2 s1 ≡ s2
-unfolding key128 words128 cipher_computed rounds_computed add_round_key shift_rows sub_by_table mix_by_doubling s1 s2 step xor_bytes
+unfolding key128 words128 cipher_computed rounds_computed add_round_key shift_rows sub_by_table
+    mix_by_doubling s1 s2 step xor_bytes
 step2 =
     let block : IsBlock (take 16 s1) = record { length_is = refl; bytes = all_small (take 16 s1) refl } in
     ap (λ b. xor_bytes (take 8 b) (bytes_high_first 8 2) ++ (drop 16 s1 ++ drop 8 b))
@@ -49,12 +56,14 @@ step2 =
 -- the register after step 3
 s3 : List ℕ
 s3 =
-    0xfc ∷ 0x96 ∷ 0x76 ∷ 0x27 ∷ 0xbe ∷ 0x93 ∷ 0x72 ∷ 0x0b ∷ 0xd1 ∷ 0x32 ∷ 0xee ∷ 0x38 ∷ 0x14 ∷ 0x7e ∷ 0x76 ∷ 0xf8 ∷
+    0xfc ∷ 0x96 ∷ 0x76 ∷ 0x27 ∷ 0xbe ∷ 0x93 ∷ 0x72 ∷ 0x0b ∷ 0xd1 ∷ 0x32 ∷ 0xee ∷ 0x38 ∷ 0x14 ∷ 0x7e ∷ 0x76
+    ∷ 0xf8 ∷
     0xfe ∷ 0x6e ∷ 0x8d ∷ 0x67 ∷ 0x9c ∷ 0x5d ∷ 0x34 ∷ 0x60 ∷ []
 
 -- the step leads there
 step3 : step key128 3 s2 ≡ s3
-unfolding key128 words128 cipher_computed rounds_computed add_round_key shift_rows sub_by_table mix_by_doubling s2 s3 step xor_bytes
+unfolding key128 words128 cipher_computed rounds_computed add_round_key shift_rows sub_by_table
+    mix_by_doubling s2 s3 step xor_bytes
 step3 =
     let block : IsBlock (take 16 s2) = record { length_is = refl; bytes = all_small (take 16 s2) refl } in
     ap (λ b. xor_bytes (take 8 b) (bytes_high_first 8 3) ++ (drop 16 s2 ++ drop 8 b))
@@ -63,12 +72,14 @@ step3 =
 -- the register after step 4
 s4 : List ℕ
 s4 =
-    0x58 ∷ 0x96 ∷ 0xea ∷ 0x90 ∷ 0x28 ∷ 0xee ∷ 0x20 ∷ 0x3f ∷ 0xfe ∷ 0x6e ∷ 0x8d ∷ 0x67 ∷ 0x9c ∷ 0x5d ∷ 0x34 ∷ 0x60 ∷
+    0x58 ∷ 0x96 ∷ 0xea ∷ 0x90 ∷ 0x28 ∷ 0xee ∷ 0x20 ∷ 0x3f ∷ 0xfe ∷ 0x6e ∷ 0x8d ∷ 0x67 ∷ 0x9c ∷ 0x5d ∷ 0x34
+    ∷ 0x60 ∷
     0x07 ∷ 0xb2 ∷ 0xbd ∷ 0x97 ∷ 0x3e ∷ 0x36 ∷ 0xa6 ∷ 0xfc ∷ []
 
 -- the step leads there
 step4 : step key128 4 s3 ≡ s4
-unfolding key128 words128 cipher_computed rounds_computed add_round_key shift_rows sub_by_table mix_by_doubling s3 s4 step xor_bytes
+unfolding key128 words128 cipher_computed rounds_computed add_round_key shift_rows sub_by_table
+    mix_by_doubling s3 s4 step xor_bytes
 step4 =
     let block : IsBlock (take 16 s3) = record { length_is = refl; bytes = all_small (take 16 s3) refl } in
     ap (λ b. xor_bytes (take 8 b) (bytes_high_first 8 4) ++ (drop 16 s3 ++ drop 8 b))
@@ -77,12 +88,14 @@ step4 =
 -- the register after step 5
 s5 : List ℕ
 s5 =
-    0x93 ∷ 0xae ∷ 0xa7 ∷ 0x1b ∷ 0x25 ∷ 0x8d ∷ 0x90 ∷ 0xc6 ∷ 0x07 ∷ 0xb2 ∷ 0xbd ∷ 0x97 ∷ 0x3e ∷ 0x36 ∷ 0xa6 ∷ 0xfc ∷
+    0x93 ∷ 0xae ∷ 0xa7 ∷ 0x1b ∷ 0x25 ∷ 0x8d ∷ 0x90 ∷ 0xc6 ∷ 0x07 ∷ 0xb2 ∷ 0xbd ∷ 0x97 ∷ 0x3e ∷ 0x36 ∷ 0xa6
+    ∷ 0xfc ∷
     0x25 ∷ 0xf5 ∷ 0xa3 ∷ 0xad ∷ 0xc2 ∷ 0x19 ∷ 0x54 ∷ 0x01 ∷ []
 
 -- the step leads there
 step5 : step key128 5 s4 ≡ s5
-unfolding key128 words128 cipher_computed rounds_computed add_round_key shift_rows sub_by_table mix_by_doubling s4 s5 step xor_bytes
+unfolding key128 words128 cipher_computed rounds_computed add_round_key shift_rows sub_by_table
+    mix_by_doubling s4 s5 step xor_bytes
 step5 =
     let block : IsBlock (take 16 s4) = record { length_is = refl; bytes = all_small (take 16 s4) refl } in
     ap (λ b. xor_bytes (take 8 b) (bytes_high_first 8 5) ++ (drop 16 s4 ++ drop 8 b))
@@ -91,12 +104,14 @@ step5 =
 -- the register after step 6
 s6 : List ℕ
 s6 =
-    0xe3 ∷ 0xee ∷ 0x98 ∷ 0x63 ∷ 0x44 ∷ 0xd8 ∷ 0x78 ∷ 0xf1 ∷ 0x25 ∷ 0xf5 ∷ 0xa3 ∷ 0xad ∷ 0xc2 ∷ 0x19 ∷ 0x54 ∷ 0x01 ∷
+    0xe3 ∷ 0xee ∷ 0x98 ∷ 0x63 ∷ 0x44 ∷ 0xd8 ∷ 0x78 ∷ 0xf1 ∷ 0x25 ∷ 0xf5 ∷ 0xa3 ∷ 0xad ∷ 0xc2 ∷ 0x19 ∷ 0x54
+    ∷ 0x01 ∷
     0xf1 ∷ 0x48 ∷ 0x63 ∷ 0xbb ∷ 0x1e ∷ 0x9c ∷ 0xa9 ∷ 0x0a ∷ []
 
 -- the step leads there
 step6 : step key128 6 s5 ≡ s6
-unfolding key128 words128 cipher_computed rounds_computed add_round_key shift_rows sub_by_table mix_by_doubling s5 s6 step xor_bytes
+unfolding key128 words128 cipher_computed rounds_computed add_round_key shift_rows sub_by_table
+    mix_by_doubling s5 s6 step xor_bytes
 step6 =
     let block : IsBlock (take 16 s5) = record { length_is = refl; bytes = all_small (take 16 s5) refl } in
     ap (λ b. xor_bytes (take 8 b) (bytes_high_first 8 6) ++ (drop 16 s5 ++ drop 8 b))
@@ -105,12 +120,14 @@ step6 =
 -- the register after step 7
 s7 : List ℕ
 s7 =
-    0x2b ∷ 0xfc ∷ 0x21 ∷ 0xb2 ∷ 0xc2 ∷ 0x0e ∷ 0x40 ∷ 0x01 ∷ 0xf1 ∷ 0x48 ∷ 0x63 ∷ 0xbb ∷ 0x1e ∷ 0x9c ∷ 0xa9 ∷ 0x0a ∷
+    0x2b ∷ 0xfc ∷ 0x21 ∷ 0xb2 ∷ 0xc2 ∷ 0x0e ∷ 0x40 ∷ 0x01 ∷ 0xf1 ∷ 0x48 ∷ 0x63 ∷ 0xbb ∷ 0x1e ∷ 0x9c ∷ 0xa9
+    ∷ 0x0a ∷
     0xb5 ∷ 0x56 ∷ 0xd3 ∷ 0x5e ∷ 0xd8 ∷ 0xce ∷ 0xf0 ∷ 0x52 ∷ []
 
 -- the step leads there
 step7 : step key128 7 s6 ≡ s7
-unfolding key128 words128 cipher_computed rounds_computed add_round_key shift_rows sub_by_table mix_by_doubling s6 s7 step xor_bytes
+unfolding key128 words128 cipher_computed rounds_computed add_round_key shift_rows sub_by_table
+    mix_by_doubling s6 s7 step xor_bytes
 step7 =
     let block : IsBlock (take 16 s6) = record { length_is = refl; bytes = all_small (take 16 s6) refl } in
     ap (λ b. xor_bytes (take 8 b) (bytes_high_first 8 7) ++ (drop 16 s6 ++ drop 8 b))
@@ -119,12 +136,14 @@ step7 =
 -- the register after step 8
 s8 : List ℕ
 s8 =
-    0x4b ∷ 0xe8 ∷ 0xce ∷ 0x99 ∷ 0xc0 ∷ 0xa4 ∷ 0x3a ∷ 0x75 ∷ 0xb5 ∷ 0x56 ∷ 0xd3 ∷ 0x5e ∷ 0xd8 ∷ 0xce ∷ 0xf0 ∷ 0x52 ∷
+    0x4b ∷ 0xe8 ∷ 0xce ∷ 0x99 ∷ 0xc0 ∷ 0xa4 ∷ 0x3a ∷ 0x75 ∷ 0xb5 ∷ 0x56 ∷ 0xd3 ∷ 0x5e ∷ 0xd8 ∷ 0xce ∷ 0xf0
+    ∷ 0x52 ∷
     0x64 ∷ 0xba ∷ 0xe5 ∷ 0x81 ∷ 0x8d ∷ 0x05 ∷ 0x70 ∷ 0xbb ∷ []
 
 -- the step leads there
 step8 : step key128 8 s7 ≡ s8
-unfolding key128 words128 cipher_computed rounds_computed add_round_key shift_rows sub_by_table mix_by_doubling s7 s8 step xor_bytes
+unfolding key128 words128 cipher_computed rounds_computed add_round_key shift_rows sub_by_table
+    mix_by_doubling s7 s8 step xor_bytes
 step8 =
     let block : IsBlock (take 16 s7) = record { length_is = refl; bytes = all_small (take 16 s7) refl } in
     ap (λ b. xor_bytes (take 8 b) (bytes_high_first 8 8) ++ (drop 16 s7 ++ drop 8 b))
@@ -133,12 +152,14 @@ step8 =
 -- the register after step 9
 s9 : List ℕ
 s9 =
-    0xeb ∷ 0xe1 ∷ 0xce ∷ 0x91 ∷ 0x06 ∷ 0x70 ∷ 0x24 ∷ 0xfa ∷ 0x64 ∷ 0xba ∷ 0xe5 ∷ 0x81 ∷ 0x8d ∷ 0x05 ∷ 0x70 ∷ 0xbb ∷
+    0xeb ∷ 0xe1 ∷ 0xce ∷ 0x91 ∷ 0x06 ∷ 0x70 ∷ 0x24 ∷ 0xfa ∷ 0x64 ∷ 0xba ∷ 0xe5 ∷ 0x81 ∷ 0x8d ∷ 0x05 ∷ 0x70
+    ∷ 0xbb ∷
     0xbe ∷ 0x11 ∷ 0x4b ∷ 0x34 ∷ 0x3e ∷ 0xb0 ∷ 0x09 ∷ 0x81 ∷ []
 
 -- the step leads there
 step9 : step key128 9 s8 ≡ s9
-unfolding key128 words128 cipher_computed rounds_computed add_round_key shift_rows sub_by_table mix_by_doubling s8 s9 step xor_bytes
+unfolding key128 words128 cipher_computed rounds_computed add_round_key shift_rows sub_by_table
+    mix_by_doubling s8 s9 step xor_bytes
 step9 =
     let block : IsBlock (take 16 s8) = record { length_is = refl; bytes = all_small (take 16 s8) refl } in
     ap (λ b. xor_bytes (take 8 b) (bytes_high_first 8 9) ++ (drop 16 s8 ++ drop 8 b))
@@ -147,12 +168,14 @@ step9 =
 -- the register after step 10
 s10 : List ℕ
 s10 =
-    0x5a ∷ 0x9c ∷ 0x7b ∷ 0x1f ∷ 0x5b ∷ 0x1c ∷ 0x3b ∷ 0x4c ∷ 0xbe ∷ 0x11 ∷ 0x4b ∷ 0x34 ∷ 0x3e ∷ 0xb0 ∷ 0x09 ∷ 0x81 ∷
+    0x5a ∷ 0x9c ∷ 0x7b ∷ 0x1f ∷ 0x5b ∷ 0x1c ∷ 0x3b ∷ 0x4c ∷ 0xbe ∷ 0x11 ∷ 0x4b ∷ 0x34 ∷ 0x3e ∷ 0xb0 ∷ 0x09
+    ∷ 0x81 ∷
     0x4f ∷ 0xd3 ∷ 0xd2 ∷ 0xb7 ∷ 0xd7 ∷ 0x4f ∷ 0xbb ∷ 0x42 ∷ []
 
 -- the step leads there
 step10 : step key128 10 s9 ≡ s10
-unfolding key128 words128 cipher_computed rounds_computed add_round_key shift_rows sub_by_table mix_by_doubling s9 s10 step xor_bytes
+unfolding key128 words128 cipher_computed rounds_computed add_round_key shift_rows sub_by_table
+    mix_by_doubling s9 s10 step xor_bytes
 step10 =
     let block : IsBlock (take 16 s9) = record { length_is = refl; bytes = all_small (take 16 s9) refl } in
     ap (λ b. xor_bytes (take 8 b) (bytes_high_first 8 10) ++ (drop 16 s9 ++ drop 8 b))
@@ -161,12 +184,14 @@ step10 =
 -- the register after step 11
 s11 : List ℕ
 s11 =
-    0x93 ∷ 0xb7 ∷ 0x19 ∷ 0x67 ∷ 0xee ∷ 0xd4 ∷ 0x1f ∷ 0xf7 ∷ 0x4f ∷ 0xd3 ∷ 0xd2 ∷ 0xb7 ∷ 0xd7 ∷ 0x4f ∷ 0xbb ∷ 0x42 ∷
+    0x93 ∷ 0xb7 ∷ 0x19 ∷ 0x67 ∷ 0xee ∷ 0xd4 ∷ 0x1f ∷ 0xf7 ∷ 0x4f ∷ 0xd3 ∷ 0xd2 ∷ 0xb7 ∷ 0xd7 ∷ 0x4f ∷ 0xbb
+    ∷ 0x42 ∷
     0xae ∷ 0xf3 ∷ 0x4b ∷ 0xd8 ∷ 0xfb ∷ 0x5a ∷ 0x7b ∷ 0x82 ∷ []
 
 -- the step leads there
 step11 : step key128 11 s10 ≡ s11
-unfolding key128 words128 cipher_computed rounds_computed add_round_key shift_rows sub_by_table mix_by_doubling s10 s11 step xor_bytes
+unfolding key128 words128 cipher_computed rounds_computed add_round_key shift_rows sub_by_table
+    mix_by_doubling s10 s11 step xor_bytes
 step11 =
     let block : IsBlock (take 16 s10) = record { length_is = refl; bytes = all_small (take 16 s10) refl } in
     ap (λ b. xor_bytes (take 8 b) (bytes_high_first 8 11) ++ (drop 16 s10 ++ drop 8 b))
@@ -175,12 +200,14 @@ step11 =
 -- the register after step 12
 s12 : List ℕ
 s12 =
-    0x1f ∷ 0xa6 ∷ 0x8b ∷ 0x0a ∷ 0x81 ∷ 0x12 ∷ 0xb4 ∷ 0x47 ∷ 0xae ∷ 0xf3 ∷ 0x4b ∷ 0xd8 ∷ 0xfb ∷ 0x5a ∷ 0x7b ∷ 0x82 ∷
+    0x1f ∷ 0xa6 ∷ 0x8b ∷ 0x0a ∷ 0x81 ∷ 0x12 ∷ 0xb4 ∷ 0x47 ∷ 0xae ∷ 0xf3 ∷ 0x4b ∷ 0xd8 ∷ 0xfb ∷ 0x5a ∷ 0x7b
+    ∷ 0x82 ∷
     0x9d ∷ 0x3e ∷ 0x86 ∷ 0x23 ∷ 0x71 ∷ 0xd2 ∷ 0xcf ∷ 0xe5 ∷ []
 
 -- the step leads there
 step12 : step key128 12 s11 ≡ s12
-unfolding key128 words128 cipher_computed rounds_computed add_round_key shift_rows sub_by_table mix_by_doubling s11 s12 step xor_bytes
+unfolding key128 words128 cipher_computed rounds_computed add_round_key shift_rows sub_by_table
+    mix_by_doubling s11 s12 step xor_bytes
 step12 =
     let block : IsBlock (take 16 s11) = record { length_is = refl; bytes = all_small (take 16 s11) refl } in
     ap (λ b. xor_bytes (take 8 b) (bytes_high_first 8 12) ++ (drop 16 s11 ++ drop 8 b))
@@ -259,7 +286,8 @@ wrapped = record {
 -- the key of RFC 5649, 6
 key192 : List ℕ
 key192 =
-    0x58 ∷ 0x40 ∷ 0xdf ∷ 0x6e ∷ 0x29 ∷ 0xb0 ∷ 0x2a ∷ 0xf1 ∷ 0xab ∷ 0x49 ∷ 0x3b ∷ 0x70 ∷ 0x5b ∷ 0xf1 ∷ 0x6e ∷ 0xa1 ∷
+    0x58 ∷ 0x40 ∷ 0xdf ∷ 0x6e ∷ 0x29 ∷ 0xb0 ∷ 0x2a ∷ 0xf1 ∷ 0xab ∷ 0x49 ∷ 0x3b ∷ 0x70 ∷ 0x5b ∷ 0xf1 ∷ 0x6e
+    ∷ 0xa1 ∷
     0xae ∷ 0x83 ∷ 0x38 ∷ 0xf4 ∷ 0xdc ∷ 0xc1 ∷ 0x76 ∷ 0xa8 ∷ []
 
 -- the words of its schedule
@@ -309,12 +337,14 @@ seven = 0x46 ∷ 0x6f ∷ 0x72 ∷ 0x50 ∷ 0x61 ∷ 0x73 ∷ 0x69 ∷ []
 -- its wrapping, as published
 seven_wrapped : List ℕ
 seven_wrapped =
-    0xaf ∷ 0xbe ∷ 0xb0 ∷ 0xf0 ∷ 0x7d ∷ 0xfb ∷ 0xf5 ∷ 0x41 ∷ 0x92 ∷ 0x00 ∷ 0xf2 ∷ 0xcc ∷ 0xb5 ∷ 0x0b ∷ 0xb2 ∷ 0x4f ∷ []
+    0xaf ∷ 0xbe ∷ 0xb0 ∷ 0xf0 ∷ 0x7d ∷ 0xfb ∷ 0xf5 ∷ 0x41 ∷ 0x92 ∷ 0x00 ∷ 0xf2 ∷ 0xcc ∷ 0xb5 ∷ 0x0b ∷ 0xb2
+    ∷ 0x4f ∷ []
 
 -- the block that is enciphered
 seven_block : List ℕ
 seven_block =
-    0xa6 ∷ 0x59 ∷ 0x59 ∷ 0xa6 ∷ 0x00 ∷ 0x00 ∷ 0x00 ∷ 0x07 ∷ 0x46 ∷ 0x6f ∷ 0x72 ∷ 0x50 ∷ 0x61 ∷ 0x73 ∷ 0x69 ∷ 0x00 ∷ []
+    0xa6 ∷ 0x59 ∷ 0x59 ∷ 0xa6 ∷ 0x00 ∷ 0x00 ∷ 0x00 ∷ 0x07 ∷ 0x46 ∷ 0x6f ∷ 0x72 ∷ 0x50 ∷ 0x61 ∷ 0x73 ∷ 0x69
+    ∷ 0x00 ∷ []
 
 -- its alternative initial value, the text and one zero byte
 seven_start : alternative_value (length seven) ++ padded seven ≡ seven_block
@@ -328,7 +358,8 @@ seven_is_block = record { length_is = refl; bytes = all_small seven_block refl }
 
 -- its cipher is the wrapping
 seven_cipher : cipher key192 seven_block ≡ seven_wrapped
-unfolding key192 words192 seven_block seven_wrapped cipher_computed rounds_computed add_round_key shift_rows sub_by_table mix_by_doubling
+unfolding key192 words192 seven_block seven_wrapped cipher_computed rounds_computed add_round_key shift_rows
+    sub_by_table mix_by_doubling
 seven_cipher = cipher_is_computed key192 seven_block words192 is_key192 seven_is_block schedule192 ∙ refl
 
 -- and its wrapping
@@ -337,5 +368,6 @@ unfolding seven
 wrapped_padded = record {
   length_is = record { least = lit≤ tt; most = lit< tt };
   bytes = record { length_is = refl; bytes = all_small seven refl };
-  is = sym (ap (transformed key192) seven_start ∙ transformed_one key192 seven_block seven_is_block.length_is ∙ seven_cipher);
+  is = sym (ap (transformed key192) seven_start ∙ transformed_one key192 seven_block seven_is_block.length_is
+      ∙ seven_cipher);
 }

@@ -62,4 +62,5 @@ IsNoPaddedWrapping key wrapped = (text : List ℕ) → ¬ UnwrappedPadded key wr
 -- a wrapping with padding has one text, and is eight bytes longer than the padded text
 abbrev pub HasOnePaddedText : Type 0
 HasOnePaddedText = (key : List ℕ) → IsKey key → (wrapped text : List ℕ) → UnwrappedPadded key wrapped text
-    → (length wrapped ≡ length (padded text) + 8) × ((other : List ℕ) → UnwrappedPadded key wrapped other → other ≡ text)
+    → (length wrapped ≡ length (padded text) + 8)
+    × ((other : List ℕ) → UnwrappedPadded key wrapped other → other ≡ text)

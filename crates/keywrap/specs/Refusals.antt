@@ -42,7 +42,8 @@ abbrev pub PaddedUnwrapRefused : List ℕ → List ℕ → Fault → Type 0
 PaddedUnwrapRefused key wrapped WrapLength = ¬ HasBlocks wrapped
 PaddedUnwrapRefused key wrapped TextTooLong = HasBlocks wrapped × (2 ^ 32 + 8 < length wrapped)
 PaddedUnwrapRefused key wrapped OutOfMemory = HasBlocks wrapped × (length wrapped ≤ 2 ^ 32 + 8)
-PaddedUnwrapRefused key wrapped WrapIntegrity = HasBlocks wrapped × (length wrapped ≤ 2 ^ 32 + 8) × IsNoPaddedWrapping key wrapped
+PaddedUnwrapRefused key wrapped WrapIntegrity =
+    HasBlocks wrapped × (length wrapped ≤ 2 ^ 32 + 8) × IsNoPaddedWrapping key wrapped
 PaddedUnwrapRefused key wrapped _ = ⊥
 
 -- why bytes, room for the wrapping of a text of n bytes, are not wrapped with padding in place
@@ -55,5 +56,6 @@ PaddedWrapInPlaceRefused bytes n _ = ⊥
 abbrev pub PaddedUnwrapInPlaceRefused : List ℕ → List ℕ → Fault → Type 0
 PaddedUnwrapInPlaceRefused key wrapped WrapLength = ¬ HasBlocks wrapped
 PaddedUnwrapInPlaceRefused key wrapped TextTooLong = HasBlocks wrapped × (2 ^ 32 + 8 < length wrapped)
-PaddedUnwrapInPlaceRefused key wrapped WrapIntegrity = HasBlocks wrapped × (length wrapped ≤ 2 ^ 32 + 8) × IsNoPaddedWrapping key wrapped
+PaddedUnwrapInPlaceRefused key wrapped WrapIntegrity =
+    HasBlocks wrapped × (length wrapped ≤ 2 ^ 32 + 8) × IsNoPaddedWrapping key wrapped
 PaddedUnwrapInPlaceRefused key wrapped _ = ⊥

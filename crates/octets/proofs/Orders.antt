@@ -1,5 +1,6 @@
 -- The numbers that byteorder's reads answer are those that `le` and `be` say.
-use Rattle.std.proofs.Common.{◌≡◌, ℕ, zero, suc, ◌+◌, ◌*◌, ◌^◌, ◌≤◌, List, [], ◌∷◌, length, take, refl, ap, ◌∙◌, sym, arith}
+use Rattle.std.proofs.Common.{◌≡◌, ℕ, zero, suc, ◌+◌, ◌*◌, ◌^◌, ◌≤◌, List, [], ◌∷◌, length, take, refl, ap}
+use Rattle.std.proofs.Common.{◌∙◌, sym, arith}
 use Rattle.std.proofs.Math.Nat.{pow-suc, pow-zero, add-mul, mul_assoc, mul_comm}
 use Rattle.std.specs.Int.Digits.{number_from_digits_after}
 use Rattle.byteorder.specs.Endian.{little_number, big_from, big_number}

@@ -1,6 +1,8 @@
 -- A text that comes in pieces, as it grows.
-use Rattle.std.proofs.Common.{◌≡◌, ℕ, ◌+◌, ◌*◌, ◌/◌, ◌%◌, ◌<◌, List, ◌++◌, length, take, drop, sym, ap, ◌∙◌, arith}
-use Rattle.std.proofs.lemmas.List.{length-append, length-take-le, take-append-le, drop-append-le, take-append-drop, take_all, drop_all, append_assoc}
+use Rattle.std.proofs.Common.{◌≡◌, ℕ, ◌+◌, ◌*◌, ◌/◌, ◌%◌, ◌<◌, List, ◌++◌, length, take, drop, sym, ap, ◌∙◌}
+use Rattle.std.proofs.Common.{arith}
+use Rattle.std.proofs.lemmas.List.{length-append, length-take-le, take-append-le, drop-append-le}
+use Rattle.std.proofs.lemmas.List.{take-append-drop, take_all, drop_all, append_assoc}
 use Rattle.octets.specs.Pieces.{HoldsPieces}
 use Rattle.octets.specs.declared.pieces.Pieces.{Pieces}
 

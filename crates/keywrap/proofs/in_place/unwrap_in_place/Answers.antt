@@ -1,4 +1,5 @@
-use Rattle.std.proofs.Common.{◌≡◌, ℕ, List, ◌-◌, ◌*◌, ◌/◌, ◌++◌, drop, length, arith, refl, true≢false, sym, ap, ◌∙◌}
+use Rattle.std.proofs.Common.{◌≡◌, ℕ, List, ◌-◌, ◌*◌, ◌/◌, ◌++◌, drop, length, arith, refl, true≢false, sym}
+use Rattle.std.proofs.Common.{ap, ◌∙◌}
 use Rattle.std.proofs.lemmas.List.{take-append-drop}
 use Rattle.keywrap.specs.Wrapping.{HasWrappedLength, steps}
 use Rattle.keywrap.proofs.Bytes.{bytes_drop, bytes_resized}
@@ -7,7 +8,8 @@ use Rattle.keywrap.proofs.Texts.{one_text, wrapped_length, unwrapped_by, no_wrap
 use Rattle.keywrap.proofs.in_place.unwrap_in_place.Goals as goal
 
 pub returns-then-is_initial_value-clause-begins : goal.returns-then-is_initial_value-clause-begins
-returns-then-is_initial_value-clause-begins c = sym c.first_eight.ensures ∙ c.if-is_initial_value.ensures.0 refl
+returns-then-is_initial_value-clause-begins c =
+    sym c.first_eight.ensures ∙ c.if-is_initial_value.ensures.0 refl
 
 pub returns-then-is_initial_value-clause-answer : goal.returns-then-is_initial_value-clause-answer
 returns-then-is_initial_value-clause-answer c =
@@ -15,8 +17,10 @@ returns-then-is_initial_value-clause-answer c =
     let new : List ℕ = c.unwrap_register.new.bytes in
     let lengths : HasWrappedLength old = c.if-not-has_wrapped_length.ensures.answer.0 refl in
     unwrapped_by c.args.key.now old new (drop 8 new) lengths
-    (bytes_resized (length new - 8) (length old - 8) (drop 8 new) (omega arith) (bytes_drop 8 (length new) new c.unwrap_register.ensures.bytes))
-    (sym (take-append-drop 8 new) ∙ ap (λ x. x ++ drop 8 new) (returns-then-is_initial_value-clause-begins c)) c.unwrap_register.ensures.undone
+    (bytes_resized (length new - 8) (length old - 8) (drop 8 new) (omega arith)
+    (bytes_drop 8 (length new) new c.unwrap_register.ensures.bytes))
+    (sym (take-append-drop 8 new) ∙ ap (λ x. x ++ drop 8 new)
+    (returns-then-is_initial_value-clause-begins c)) c.unwrap_register.ensures.undone
 
 pub returns-clause-answer : goal.returns-clause-answer
 returns-clause-answer c =
@@ -25,14 +29,16 @@ returns-clause-answer c =
     let lengths : HasWrappedLength old = c.if-not-has_wrapped_length.ensures.answer.0 refl in (
       lengths,
       no_wrapping c.args.key.now old new is_permutation c.unwrap_register.ensures.key
-          (bytes_resized (length new) (length old) new (omega arith) c.unwrap_register.ensures.bytes) c.unwrap_register.ensures.undone
+          (bytes_resized (length new) (length old) new (omega arith) c.unwrap_register.ensures.bytes)
+          c.unwrap_register.ensures.undone
           (λ e. true≢false (sym (c.if-is_initial_value.ensures.1 (c.first_eight.ensures ∙ e)))),
     )
 
 pub returns-then-is_initial_value-clause-found : goal.returns-then-is_initial_value-clause-found
 returns-then-is_initial_value-clause-found c text u = (
   refl,
-  sym ((one_text is_permutation c.args.key.now c.unwrap_register.ensures.key c.args.bytes.now (drop 8 c.unwrap_register.new.bytes)
+  sym ((one_text is_permutation c.args.key.now c.unwrap_register.ensures.key c.args.bytes.now
+      (drop 8 c.unwrap_register.new.bytes)
       (returns-then-is_initial_value-clause-answer c)).1 text u),
 )
 
@@ -43,8 +49,10 @@ pub returns-clause-kept : goal.returns-clause-kept
 returns-clause-kept c =
     let new : List ℕ = c.unwrap_register.new.bytes in
     let same : length new ≡ length c.args.bytes.now = omega arith in
-    c.wrap_register.ensures ∙ ap (λ n. steps c.args.key.now (6 * ((n - 8) / 8)) new) same ∙ c.unwrap_register.ensures.undone
+    c.wrap_register.ensures ∙ ap (λ n. steps c.args.key.now (6 * ((n - 8) / 8)) new) same
+    ∙ c.unwrap_register.ensures.undone
 
 pub returns-then-not-has_wrapped_length-clause-found : goal.returns-then-not-has_wrapped_length-clause-found
 returns-then-not-has_wrapped_length-clause-found c text u =
-    absurd (true≢false (sym (c.if-not-has_wrapped_length.ensures.answer.1 (wrapped_length c.args.key.now c.args.bytes.now text u))))
+    absurd (true≢false (sym (c.if-not-has_wrapped_length.ensures.answer.1
+    (wrapped_length c.args.key.now c.args.bytes.now text u))))

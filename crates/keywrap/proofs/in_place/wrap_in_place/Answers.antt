@@ -10,8 +10,10 @@ returns-then-has_wrapped_length-clause-answer c =
     let text : List ℕ = drop 8 c.args.bytes.now in
     let cut : length text ≡ length c.args.bytes.now - 8 = length-drop 8 c.args.bytes.now in
     let bytes : AreBytes (length text) text =
-    bytes_resized (length c.args.bytes.now - 8) (length text) text (sym cut) (bytes_drop 8 (length c.args.bytes.now) c.args.bytes.now c.if-has_wrapped_length.ensures.bytes) in
+    bytes_resized (length c.args.bytes.now - 8) (length text) text (sym cut)
+    (bytes_drop 8 (length c.args.bytes.now) c.args.bytes.now c.if-has_wrapped_length.ensures.bytes) in
     let long : HasWrappedLength c.args.bytes.now = c.if-has_wrapped_length.ensures.answer.0 refl in
     let lengths : HasTextLength text = record { least = omega arith; whole = omega arith } in
-    wrapping_by c.args.key.now c.wrap_register.new.bytes (c.copy_from_slice.new.self ++ text) text bytes lengths
+    wrapping_by c.args.key.now c.wrap_register.new.bytes (c.copy_from_slice.new.self ++ text) text bytes
+    lengths
     (ap (λ x. x ++ text) c.copy_from_slice.ensures.after) c.wrap_register.ensures

@@ -5,8 +5,10 @@ use Rattle.keywrap.proofs.padded.transform.Goals as goal
 
 pub returns-then-bytes-eq16 : goal.returns-then-bytes-eq16
 returns-then-bytes-eq16 c =
-    c.copy_from_slice.ensures.after ∙ c.bytes.ensures.value ∙ c.encrypt.ensures.value ∙ ap (cipher c.args.key.now) c.only_block.ensures
+    c.copy_from_slice.ensures.after ∙ c.bytes.ensures.value ∙ c.encrypt.ensures.value
+    ∙ ap (cipher c.args.key.now) c.only_block.ensures
     ∙ sym (transformed_one c.args.key.now c.args.bytes.now c.if-bytes-eq16.true)
 
 pub returns-else-bytes-eq16 : goal.returns-else-bytes-eq16
-returns-else-bytes-eq16 c = c.wrap_register.ensures ∙ sym (transformed_more c.args.key.now c.args.bytes.now c.if-bytes-eq16.false)
+returns-else-bytes-eq16 c = c.wrap_register.ensures
+    ∙ sym (transformed_more c.args.key.now c.args.bytes.now c.if-bytes-eq16.false)

@@ -10,10 +10,14 @@ returns-clause-found c =
     let rest : List ℕ = c.untransform.new.blocks in
     let wrapped : List ℕ = c.args.first.now ++ c.args.blocks.now in
     let eight : length first ≡ 8 = omega arith in
-    let long : length first + length rest ≡ length wrapped = omega (arith, length-append c.args.first.now c.args.blocks.now) in
+    let long : length first + length rest ≡ length wrapped =
+    omega (arith, length-append c.args.first.now c.args.blocks.now) in
     found_by c.args.key.now wrapped first rest c.text_length.result is_permutation c.untransform.ensures.key
-    (bytes_resized (length first + length rest) (length wrapped) (first ++ rest) long (bytes_append (length first) (length rest) first rest c.untransform.ensures.first c.untransform.ensures.rest))
+    (bytes_resized (length first + length rest) (length wrapped) (first ++ rest) long
+    (bytes_append (length first) (length rest) first rest c.untransform.ensures.first
+    c.untransform.ensures.rest))
     eight c.untransform.ensures.rest c.untransform.ensures.undone c.text_length.ensures
 
 pub returns-clause-start : goal.returns-clause-start
-returns-clause-start c = start_found c.untransform.new.first c.untransform.new.blocks c.text_length.result c.text_length.ensures
+returns-clause-start c = start_found c.untransform.new.first c.untransform.new.blocks c.text_length.result
+    c.text_length.ensures

@@ -4,6 +4,8 @@ use Rattle.keywrap.proofs.padded_in_place.wrap_padded_in_place.Goals as goal
 
 pub returns-clause-answer : goal.returns-clause-answer
 returns-clause-answer c =
-    wrapped_in_room c.args.key.now c.args.bytes.now c.copy_from_slice.new.self c.copy_from_slice-2.new.self c.transform.new.bytes c.args.text_length
+    wrapped_in_room c.args.key.now c.args.bytes.now c.copy_from_slice.new.self c.copy_from_slice-2.new.self
+    c.transform.new.bytes c.args.text_length
     (c.if-not-has_padded_room.ensures.answer.0 refl) (omega arith) c.if-not-has_padded_room.ensures.bytes
-    (c.copy_from_slice.ensures.after ∙ c.alternative_value.ensures) c.copy_from_slice-2.ensures.after c.transform.ensures
+    (c.copy_from_slice.ensures.after ∙ c.alternative_value.ensures) c.copy_from_slice-2.ensures.after
+    c.transform.ensures

@@ -11,7 +11,8 @@ places-init c s h =
     let some : 0 < c.rounds.round = omega arith in
     let long : length c.rounds.blocks ≤ 8 * n = omega arith in
     c.rounds.invariant s
-    (ap (λ t. steps c.args.key.now t s) (one_round_less n c.rounds.round some) ∙ h ∙ register_end (8 * n) c.rounds.first c.rounds.blocks long)
+    (ap (λ t. steps c.args.key.now t s) (one_round_less n c.rounds.round some) ∙ h
+    ∙ register_end (8 * n) c.rounds.first c.rounds.blocks long)
 
 pub places-preserved : goal.places-preserved
 places-preserved c =
@@ -24,7 +25,8 @@ places-preserved c =
     leads_before key (n * 6) t (c.args.first.now ++ c.args.blocks.now)
     (register (8 * (c.places.i - 1) + 8) c.places.first c.places.blocks)
     (register (8 * (c.places.i - 1)) c.unwrap_step.new.first c.unwrap_step.new.blocks)
-    (λ s h. c.places.invariant s (ap (λ u. steps key u s) count ∙ h ∙ ap (λ p. register p c.places.first c.places.blocks) place))
+    (λ s h. c.places.invariant s (ap (λ u. steps key u s) count ∙ h
+    ∙ ap (λ p. register p c.places.first c.places.blocks) place))
     (c.unwrap_step.ensures key c.inverse-ready.ensures)
 
 pub rounds-preserved : goal.rounds-preserved

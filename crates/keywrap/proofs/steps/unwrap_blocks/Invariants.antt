@@ -4,7 +4,9 @@ use Rattle.keywrap.proofs.Runs.{LeadsTo}
 use Rattle.keywrap.proofs.steps.unwrap_blocks.Given as goal
 
 abbrev pub invariant-rounds : goal.invariant-rounds
-invariant-rounds l = LeadsTo l.key (l.count * 6) (l.fn.first ++ l.fn.blocks) (l.count * l.round) (l.first ++ l.blocks)
+invariant-rounds l = LeadsTo l.key (l.count * 6) (l.fn.first ++ l.fn.blocks) (l.count * l.round)
+    (l.first ++ l.blocks)
 
 abbrev pub invariant-places : goal.invariant-places
-invariant-places l = LeadsTo l.key (l.count * 6) (l.fn.first ++ l.fn.blocks) (l.count * l.round + l.i) (register (8 * l.i) l.first l.blocks)
+invariant-places l = LeadsTo l.key (l.count * 6) (l.fn.first ++ l.fn.blocks) (l.count * l.round + l.i)
+    (register (8 * l.i) l.first l.blocks)

@@ -16,8 +16,11 @@ returns c = λ key x.
     let s : List ℕ = c.args.blocks.now in
     let eight : p + 8 - p ≡ 8 = omega arith in
     let taken : cipher key d ≡ xor_bytes a (bytes_high_first 8 c.args.t) ++ take (p + 8 - p) (drop p s) =
-    ap (cipher key) c.bytes.ensures.value ∙ (c.decrypt.ensures.value key x).taken ∙ c.new.ensures.value ∙ c.joined-block.ensures
+    ap (cipher key) c.bytes.ensures.value ∙ (c.decrypt.ensures.value key x).taken ∙ c.new.ensures.value
+    ∙ c.joined-block.ensures
     ∙ ap (λ y. y ++ take (p + 8 - p) (drop p s)) c.numbered.ensures in
-    ap (λ y. step key c.args.t (register p y (put_mid p (p + 8 - p) s c.copy_from_slice.new.self))) c.halves.ensures.first
+    ap (λ y. step key c.args.t (register p y (put_mid p (p + 8 - p) s c.copy_from_slice.new.self)))
+    c.halves.ensures.first
     ∙ unwrapped_at key c.args.t p (p + 8 - p) a s d c.copy_from_slice.new.self
-    eight c.told-first c.requires c.halves.ensures.long taken (c.copy_from_slice.ensures.after ∙ c.halves.ensures.second)
+    eight c.told-first c.requires c.halves.ensures.long taken
+    (c.copy_from_slice.ensures.after ∙ c.halves.ensures.second)

@@ -6,7 +6,8 @@ use Rattle.keywrap.proofs.Runs.{steps_none, steps_more}
 use Rattle.keywrap.proofs.steps.wrap_blocks.Goals as goal
 
 pub rounds-init : goal.rounds-init
-rounds-init c = steps_none c.args.key.now (c.args.first.now ++ c.args.blocks.now) (length c.args.blocks.now / 8 * 0) (omega arith)
+rounds-init c = steps_none c.args.key.now (c.args.first.now ++ c.args.blocks.now)
+    (length c.args.blocks.now / 8 * 0) (omega arith)
 
 pub places-init : goal.places-init
 places-init c =
@@ -24,7 +25,8 @@ places-preserved c =
     let place : 8 * (c.places.i + 1) ≡ 8 * c.places.i + 8 = omega arith in
     let more : t + 1 ≡ n * c.rounds.round + (c.places.i + 1) = omega arith in
     ap (λ p. register p c.wrap_step.new.first c.wrap_step.new.blocks) place
-    ∙ c.wrap_step.ensures ∙ ap (step key (t + 1)) c.places.invariant ∙ steps_more key start t ∙ ap (λ i. steps key i start) more
+    ∙ c.wrap_step.ensures ∙ ap (step key (t + 1)) c.places.invariant ∙ steps_more key start t
+    ∙ ap (λ i. steps key i start) more
 
 pub rounds-preserved : goal.rounds-preserved
 rounds-preserved c =

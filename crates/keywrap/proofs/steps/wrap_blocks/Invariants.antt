@@ -7,4 +7,5 @@ abbrev pub invariant-rounds : goal.invariant-rounds
 invariant-rounds l = l.first ++ l.blocks ≡ steps l.key (l.count * l.round) (l.fn.first ++ l.fn.blocks)
 
 abbrev pub invariant-places : goal.invariant-places
-invariant-places l = register (8 * l.i) l.first l.blocks ≡ steps l.key (l.count * l.round + l.i) (l.fn.first ++ l.fn.blocks)
+invariant-places l = register (8 * l.i) l.first l.blocks
+    ≡ steps l.key (l.count * l.round + l.i) (l.fn.first ++ l.fn.blocks)
