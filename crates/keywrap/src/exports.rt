@@ -26,7 +26,8 @@ fn wrap_bytes(key: &[u8], bytes: &mut [u8]) -> Result<(), Fault>
 
 // `unwrap_in_place` under a key's bytes.
 fn unwrap_bytes(key: &[u8], bytes: &mut [u8]) -> Result<(), Fault>
-    ensures answer { MatchResult result (λ _. Unwrapped key.now bytes.old (drop 8 bytes.new) × (take 8 bytes.new ≡ initial_value))
+    ensures answer { MatchResult result
+        (λ _. Unwrapped key.now bytes.old (drop 8 bytes.new) × (take 8 bytes.new ≡ initial_value))
         (λ e. (bytes.new ≡ bytes.old) × KeyedRefused key.now (UnwrapInPlaceRefused key.now bytes.old) e) }
 {
     match AesKey::from_slice(key) {
@@ -47,7 +48,8 @@ pub extern "C" fn aeadkit_wrap(key: &[u8], bytes: &mut [u8]) -> u32
 /// Unwraps, as `unwrap_in_place`: the text then stands from place 8 on.
 #[unsafe(no_mangle)]
 pub extern "C" fn aeadkit_unwrap(key: &[u8], bytes: &mut [u8]) -> u32
-    ensures { HasOutcome result (Unwrapped key.now bytes.old (drop 8 bytes.new) × (take 8 bytes.new ≡ initial_value))
+    ensures { HasOutcome result
+        (Unwrapped key.now bytes.old (drop 8 bytes.new) × (take 8 bytes.new ≡ initial_value))
         (λ e. (bytes.new ≡ bytes.old) × KeyedRefused key.now (UnwrapInPlaceRefused key.now bytes.old) e) }
 {
     outcome_number(unwrap_bytes(key, bytes))
@@ -55,8 +57,10 @@ pub extern "C" fn aeadkit_unwrap(key: &[u8], bytes: &mut [u8]) -> u32
 
 // `wrap_padded_in_place` under a key's bytes.
 fn wrap_padded_bytes(key: &[u8], bytes: &mut [u8], text_length: usize) -> Result<(), Fault>
-    ensures { MatchResult result (λ _. UnwrappedPadded key.now bytes.new (take text_length (drop 8 bytes.old)))
-        (λ e. (bytes.new ≡ bytes.old) × KeyedRefused key.now (PaddedWrapInPlaceRefused bytes.old text_length) e) }
+    ensures { MatchResult result
+        (λ _. UnwrappedPadded key.now bytes.new (take text_length (drop 8 bytes.old)))
+        (λ e. (bytes.new ≡ bytes.old)
+        × KeyedRefused key.now (PaddedWrapInPlaceRefused bytes.old text_length) e) }
 {
     match AesKey::from_slice(key) {
         Ok(key) => wrap_padded_in_place(&key, bytes, text_length),
@@ -88,7 +92,8 @@ fn unwrap_padded_bytes(key: &[u8], bytes: &mut [u8], text_length: &mut usize) ->
 #[unsafe(no_mangle)]
 pub extern "C" fn aeadkit_wrap_padded(key: &[u8], bytes: &mut [u8], text_length: usize) -> u32
     ensures { HasOutcome result (UnwrappedPadded key.now bytes.new (take text_length (drop 8 bytes.old)))
-        (λ e. (bytes.new ≡ bytes.old) × KeyedRefused key.now (PaddedWrapInPlaceRefused bytes.old text_length) e) }
+        (λ e. (bytes.new ≡ bytes.old)
+        × KeyedRefused key.now (PaddedWrapInPlaceRefused bytes.old text_length) e) }
 {
     outcome_number(wrap_padded_bytes(key, bytes, text_length))
 }

@@ -3,8 +3,8 @@
 use std::alloc::{AllocError, Allocator};
 use std::cell::Cell;
 
-/// An allocator that passes requests for memory on to another one, and refuses a single one of them. A `&` to it is the
-/// allocator of a call; so each request of the call can be refused in turn.
+/// An allocator that passes requests for memory on to another one, and refuses a single one of them. A
+/// `&` to it is the allocator of a call; so each request of the call can be refused in turn.
 pub struct RefusingMemory<A: Allocator> {
     inner: A,
     // How many requests come before the refused one; `None` once it came.
