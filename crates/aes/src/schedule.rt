@@ -1,11 +1,12 @@
 // The key schedule (FIPS 197, 5.2). A word is a number of 32 bits, its first byte the least significant one.
 
-ghost use Rattle.std.specs.Prelude.{◌≡◌, ℕ, ◌*◌, ◌^◌, ◌≤◌, ◌/◌, ◌<◌, length, slice_index};
+ghost use Rattle.std.specs.Prelude.{◌≡◌, ℕ, ◌+◌, ◌*◌, ◌^◌, ◌≤◌, ◌/◌, ◌<◌, length, take, drop, slice_index};
 ghost use Rattle.aes.specs.Columns.{column_of, columns_of};
 ghost use Rattle.aes.specs.Schedule.{xor_word, sub_word, rot_word, rcon, changed, MeetsRecurrence};
 ghost use Rattle.aes.specs.Code.ExpandedKey.{table, IsKeySize};
 
 use crate::sbox::substitute;
+use byteorder::{ByteOrder, LittleEndian};
 
 // SubWord: the S-box at each byte.
 #[inline(always)]
@@ -55,6 +56,15 @@ fn next_word(nk: usize, i: usize, back: u32, previous: u32) -> u32
     }
 }
 
+// Word i of a key.
+#[inline(always)]
+fn key_word(key: &[u8], i: usize) -> u32
+    requires { 4 * i + 4 ≤ length key.now }
+    ensures { column_of result ≡ take 4 (drop (4 * i) key.now) }
+{
+    LittleEndian::read_u32(&key[4 * i..])
+}
+
 // The schedule of a key of nk words, and zero words after it. Where nk is a constant of the caller, nothing
 // is divided.
 #[inline(always)]
@@ -66,7 +76,7 @@ fn expand_by(key: &[u8], nk: usize) -> [u32; 60]
 {
     let mut words = [0; 60];
     'start: for i in 0..nk {
-        words[i] = u32::from_le_bytes([key[4 * i], key[4 * i + 1], key[4 * i + 2], key[4 * i + 3]]);
+        words[i] = key_word(key, i);
     }
     'rest: for i in nk..4 * (nk + 7) {
         words[i] = next_word(nk, i, words[i - nk], words[i - 1]);

@@ -1,8 +1,7 @@
 use Rattle.std.proofs.Common.{◌≡◌, ℕ, ◌+◌, ◌-◌, ◌*◌, ◌<◌, List, get_or, sym, ap₂, ◌∙◌, arith, rules}
 use Rattle.std.proofs.lemmas.List.{get_or-replicate}
 use Rattle.aes.specs.Schedule.{xor_word, key_words, changed}
-use Rattle.aes.proofs.Words.{word, word_start, word_rest, take_four, one_more_word, others_stay, small_words, zero_words, is_table}
-use Rattle.aes.proofs.ColumnWords.{column_back}
+use Rattle.aes.proofs.Words.{word, word_start, word_rest, one_more_word, others_stay, small_words, zero_words, is_table}
 use Rattle.aes.proofs.schedule.expand_by.Goals as goal
 
 pub start-init : goal.start-init
@@ -18,15 +17,12 @@ start-preserved c =
     let key = c.args.key.now in
     let i = c.start.i in
     let size : key_words key ≡ c.args.nk = omega arith in
-    let small : (k : ℕ) → get_or key k 0 < 256 = λ k. (c.type_inv.key k).fits in
     record {
       size = search rules;
-      made = one_more_word (word key) c.start.words i c.from_le_bytes.result (omega arith) c.start.invariant.made
-          (column_back (get_or key (4 * i) 0) (get_or key (4 * i + 1) 0) (get_or key (4 * i + 2) 0) (get_or key (4 * i + 3) 0) c.from_le_bytes.result
-          (small (4 * i)) (small (4 * i + 1)) (small (4 * i + 2)) (small (4 * i + 3)) c.from_le_bytes.ensures
-          ∙ sym (word_start key i (omega arith) ∙ take_four key (4 * i) (omega arith)));
-      after = others_stay c.start.words i c.from_le_bytes.result c.start.invariant.after;
-      small = small_words c.start.words i c.from_le_bytes.result c.from_le_bytes.type_inv c.start.invariant.small;
+      made = one_more_word (word key) c.start.words i c.key_word.result (omega arith) c.start.invariant.made
+          (c.key_word.ensures ∙ sym (word_start key i (omega arith)));
+      after = others_stay c.start.words i c.key_word.result c.start.invariant.after;
+      small = small_words c.start.words i c.key_word.result c.key_word.type_inv c.start.invariant.small;
     }
 
 pub rest-preserved : goal.rest-preserved
