@@ -30,19 +30,10 @@ fn seal_by<A: Allocator, C: Aead>(
     if text.len() as u64 > suite.text_limit() {
         return Err(Fault::TextTooLong);
     }
-    let Ok(mut sealed) = Vec::with_capacity(alloc, text.len() + 16) else {
-        return Err(Fault::OutOfMemory);
-    };
-    if sealed.extend_from_slice(text).is_err() {
-        return Err(Fault::OutOfMemory);
-    }
-    let tag = match cipher.seal_in_place(nonce, aad, &mut sealed) {
-        Ok(tag) => tag,
-        Err(fault) => return Err(fault),
-    };
-    if sealed.extend_from_slice(tag.bytes()).is_err() {
-        return Err(Fault::OutOfMemory);
-    }
+    let mut sealed = Vec::with_capacity(alloc, text.len() + 16)?;
+    sealed.extend_from_slice(text)?;
+    let tag = cipher.seal_in_place(nonce, aad, &mut sealed)?;
+    sealed.extend_from_slice(tag.bytes())?;
     Ok(sealed)
 }
 
@@ -61,22 +52,15 @@ fn open_by<A: Allocator, C: Aead>(
     if aad.len() as u64 > suite.aad_limit() {
         return Err(Fault::AadTooLong);
     }
-    if sealed.len() < 16 {
+    let Some((body, tag)) = sealed.split_last_chunk() else {
         return Err(Fault::TooShort);
-    }
-    let (body, last) = sealed.split_at(sealed.len() - 16);
+    };
     if body.len() as u64 > suite.text_limit() {
         return Err(Fault::TextTooLong);
     }
-    let mut tag = [0; 16];
-    tag.copy_from_slice(last);
-    let Ok(mut text) = Vec::from_slice(alloc, body) else {
-        return Err(Fault::OutOfMemory);
-    };
-    match cipher.open_in_place(nonce, aad, &mut text, &Tag::new(tag)) {
-        Ok(()) => Ok(text),
-        Err(fault) => Err(fault),
-    }
+    let mut text = Vec::from_slice(alloc, body)?;
+    cipher.open_in_place(nonce, aad, &mut text, &Tag::new(*tag))?;
+    Ok(text)
 }
 
 /// The sealing of a text under a nonce with associated data: the ciphertext, of the text's length, and the tag of 16
