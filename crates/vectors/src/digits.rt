@@ -14,7 +14,7 @@ pub(crate) struct Digits<'a> {
 }
 
 impl<'a> Digits<'a> {
-    ghost use Rattle.std.specs.Prelude.{length, [], IfOk, MatchOption, false, take, drop, ◌≤◌};
+    ghost use Rattle.std.specs.Prelude.{length, [], IfOk, MatchOption, false, take, drop, ◌≤◌, ◌+◌};
     ghost use Rattle.vectors.specs.Faults.{bytes_of};
     ghost use Rattle.vectors.specs.Code.Views.{bytes_in};
 
@@ -62,6 +62,28 @@ impl<'a> Digits<'a> {
         let Ok(()) = hex::decode_to_slice(self.text, room) else {
             unreachable!()
         };
+    }
+
+    /// Writes the bytes that they spell behind the first eight bytes.
+    fn write_behind(self, room: &mut [u8])
+        requires { 8 + length (bytes_in self) ≤ length room.old }
+        ensures { take (length (bytes_in self.entry)) (drop 8 room.new) ≡ bytes_in self.entry }
+    {
+        let count = self.byte_count();
+        self.write(&mut room[8..8 + count]);
+    }
+
+    /// The bytes that they spell, behind eight bytes of room and before so many zeros.
+    pub fn with_room<A: Allocator>(self, alloc: A, zeros: usize) -> Result<Vec<u8, A>, AllocError>
+        requires { zeros ≤ 8 }
+        ensures bytes { IfOk result
+            (λ v. take (length (bytes_in self.entry)) (drop 8 v.items) ≡ bytes_in self.entry) }
+        ensures length { IfOk result (λ v. length v.items ≡ 8 + (length (bytes_in self.entry) + zeros)) }
+    {
+        let count = self.byte_count();
+        let mut bytes = vec![in alloc; 0u8; 8 + count + zeros]?;
+        self.write_behind(&mut bytes);
+        Ok(bytes)
     }
 
     /// The bytes that they spell.
