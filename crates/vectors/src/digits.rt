@@ -1,10 +1,19 @@
 // Hexadecimal values.
-ghost use Rattle.std.specs.Prelude.{◌≡◌, true};
+ghost use Rattle.std.specs.Prelude.{◌≡◌, ◌<◌, true, Some, IsTrue};
+ghost use Rattle.hex.specs.Hex.{is_hex_digit, hex_digit_value};
 ghost use Rattle.vectors.specs.Faults.{is_hex};
 
 use crate::field::is_hex;
 use hex::FromHexError;
 use std::alloc::{AllocError, Allocator};
+
+/// The value of a hexadecimal digit, told from its bits.
+fn digit_value(digit: u8) -> u8
+    ensures value { IsTrue (is_hex_digit digit) → hex_digit_value digit ≡ Some result }
+    ensures small { IsTrue (is_hex_digit digit) → result < 16 }
+{
+    (digit & 15) + 9 * (digit >> 6)
+}
 
 /// An even number of hexadecimal digits of either case.
 #[derive(Clone, Copy)]
@@ -59,9 +68,9 @@ impl<'a> Digits<'a> {
         requires { length room.old ≡ length (bytes_in self) }
         ensures { room.new ≡ bytes_in self.entry }
     {
-        let Ok(()) = hex::decode_to_slice(self.text, room) else {
-            unreachable!()
-        };
+        'bytes: for i in 0..room.len() {
+            room[i] = digit_value(self.text[2 * i]) * 16 + digit_value(self.text[2 * i + 1]);
+        }
     }
 
     /// Writes the bytes that they spell behind the first eight bytes.
