@@ -188,8 +188,8 @@ byte_at digits k a b h l high low =
     let first : digit (get_or digits (twice k) 0) ≡ a = ap (λ i. digit (get_or digits i 0)) (twice_is k) ∙ ap value_of high in
     let second : digit (get_or digits (suc (twice k)) 0) ≡ b = ap (λ i. digit (get_or digits i 0)) (next k) ∙ ap value_of low in
     sym (ap (λ (bs : List ℕ). get_or bs k 0) is ∙ found ∙ ap₂ (λ x y. x * 16 + y) first second) where
-  next : (k : ℕ) → suc (twice k) ≡ 2 * k + 1
-  next k = let e = twice_is k in omega (arith, e)
+      next : (k : ℕ) → suc (twice k) ≡ 2 * k + 1
+      next k = let e = twice_is k in omega (arith, e)
 
 -- one more byte was written
 pub written_more : (bytes room : List ℕ) (i v : ℕ) → i < length room → v ≡ get_or bytes i 0

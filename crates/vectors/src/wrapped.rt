@@ -12,9 +12,7 @@ use crate::digits::Digits;
 use crate::place::Entry;
 use crate::suite::Aes;
 use aes::AesKey;
-use keywrap::{
-    unwrap_in_place, unwrap_padded_in_place, wrap_in_place, wrap_padded_in_place,
-};
+use keywrap::{unwrap_in_place, unwrap_padded_in_place, wrap_in_place, wrap_padded_in_place};
 use std::alloc::{AllocError, Allocator};
 
 /// The key that digits spell.

@@ -62,9 +62,7 @@ fn is_due<A: Allocator + Drop>(
     refused: bool,
 ) -> bool {
     match answer {
-        Ok(report) => {
-            !refused && report.records == records && report.bad.as_slice() == bad
-        }
+        Ok(report) => { !refused && report.records == records && report.bad.as_slice() == bad }
         Err(fault) => refused && fault == VectorFault::OutOfMemory,
     }
 }
