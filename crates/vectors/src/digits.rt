@@ -4,7 +4,6 @@ ghost use Rattle.hex.specs.Hex.{is_hex_digit, hex_digit_value};
 ghost use Rattle.vectors.specs.Faults.{is_hex};
 
 use crate::field::is_hex;
-use hex::FromHexError;
 use std::alloc::{AllocError, Allocator};
 
 /// The value of a hexadecimal digit, told from its bits.
@@ -99,12 +98,8 @@ impl<'a> Digits<'a> {
     pub fn bytes<A: Allocator>(self, alloc: A) -> Result<Vec<u8, A>, AllocError>
         ensures { IfOk result (λ bytes. bytes.items ≡ bytes_in self.entry) }
     {
-        match hex::decode(alloc, self.text) {
-            Ok(bytes) => Ok(bytes),
-            Err(fault) => match fault {
-                FromHexError::OutOfMemory => Err(AllocError),
-                _ => unreachable!(),
-            },
-        }
+        let mut bytes = vec![in alloc; 0u8; self.byte_count()]?;
+        self.write(&mut bytes);
+        Ok(bytes)
     }
 }

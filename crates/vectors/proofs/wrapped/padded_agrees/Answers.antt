@@ -1,4 +1,4 @@
-use Rattle.std.proofs.Common.{◌≡◌, List, ℕ, ap, subst}
+use Rattle.std.proofs.Common.{List, ℕ, ap, subst}
 use Rattle.std.specs.Prelude.{◌↔◌, IfOk, IsTrue}
 use Rattle.keywrap.specs.Padded.{UnwrappedPadded, IsNoPaddedWrapping}
 use Rattle.vectors.specs.declared.suite.Suite.TheVariants.{WrapPad}

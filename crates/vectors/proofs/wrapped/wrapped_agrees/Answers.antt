@@ -1,4 +1,4 @@
-use Rattle.std.proofs.Common.{◌≡◌, List, ℕ, ap, subst}
+use Rattle.std.proofs.Common.{List, ℕ, ap, subst}
 use Rattle.std.specs.Prelude.{◌↔◌, IfOk, IsTrue}
 use Rattle.keywrap.specs.Wrapping.{Unwrapped, IsNoWrapping}
 use Rattle.vectors.specs.declared.suite.Suite.TheVariants.{Wrap}

@@ -1,4 +1,4 @@
-use Rattle.std.proofs.Common.{◌≡◌, ◌+◌, ◌*◌, ◌<◌, length, arith, ◌∙◌}
+use Rattle.std.proofs.Common.{◌+◌, ◌*◌, ◌<◌, length, arith, ◌∙◌}
 use Rattle.std.proofs.lemmas.Grind.{common_steps, same_number_lists}
 use Rattle.vectors.specs.Faults.{bytes_of}
 use Rattle.vectors.specs.Code.Views.{bytes_in}
