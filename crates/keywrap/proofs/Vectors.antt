@@ -284,7 +284,7 @@ wrapped = record {
 
 -- ---- RFC 5649, 6: the text of seven bytes
 -- the key of RFC 5649, 6
-key192 : List ℕ
+unfoldable pub key192 : List ℕ
 key192 =
     0x58 ∷ 0x40 ∷ 0xdf ∷ 0x6e ∷ 0x29 ∷ 0xb0 ∷ 0x2a ∷ 0xf1 ∷ 0xab ∷ 0x49 ∷ 0x3b ∷ 0x70 ∷ 0x5b ∷ 0xf1 ∷ 0x6e
     ∷ 0xa1 ∷
@@ -331,11 +331,11 @@ unfolding key192
 is_key192 = record { length_is = inr (inl refl); bytes = all_small key192 refl }
 
 -- the text
-seven : List ℕ
+unfoldable pub seven : List ℕ
 seven = 0x46 ∷ 0x6f ∷ 0x72 ∷ 0x50 ∷ 0x61 ∷ 0x73 ∷ 0x69 ∷ []
 
 -- its wrapping, as published
-seven_wrapped : List ℕ
+unfoldable pub seven_wrapped : List ℕ
 seven_wrapped =
     0xaf ∷ 0xbe ∷ 0xb0 ∷ 0xf0 ∷ 0x7d ∷ 0xfb ∷ 0xf5 ∷ 0x41 ∷ 0x92 ∷ 0x00 ∷ 0xf2 ∷ 0xcc ∷ 0xb5 ∷ 0x0b ∷ 0xb2
     ∷ 0x4f ∷ []
@@ -363,7 +363,7 @@ unfolding key192 words192 seven_block seven_wrapped cipher_computed rounds_compu
 seven_cipher = cipher_is_computed key192 seven_block words192 is_key192 seven_is_block schedule192 ∙ refl
 
 -- and its wrapping
-wrapped_padded : UnwrappedPadded key192 seven_wrapped seven
+pub wrapped_padded : UnwrappedPadded key192 seven_wrapped seven
 unfolding seven
 wrapped_padded = record {
   length_is = record { least = lit≤ tt; most = lit< tt };

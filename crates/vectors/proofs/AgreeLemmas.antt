@@ -1,25 +1,13 @@
--- A record agrees exactly where its text is the one that was found.
+-- What was found of the sealed bytes decides whether a record agrees.
 use Rattle.std.proofs.Common.{◌≡◌, ℕ, ◌+◌, Bool, true, false, inl, inr, List, [], ◌∷◌, ◌++◌, Option, Some, None, Result, Ok, Err, refl, sym, ap, ◌∙◌, subst}
-use Rattle.std.specs.Prelude.{◌↔◌, IsTrue, OnOk, if◌then◌else◌}
+use Rattle.std.specs.Prelude.{◌↔◌, IsTrue, IfOk, OnOk, if◌then◌else◌}
 use Rattle.vectors.specs.Grammar.{Record}
 use Rattle.aead.specs.declared.suite.Suite as ciphers
 use Rattle.aead.specs.Sealing.{Setting, IsNoSealing}
 use Rattle.vectors.specs.declared.suite.Suite.{Suite}
 use Rattle.vectors.specs.declared.suite.Suite.TheVariants.{Aead}
-use Rattle.vectors.specs.Agreement.{Holds, HoldsBy, Agrees, AgreesWith, IsOnly}
+use Rattle.vectors.specs.Agreement.{HoldsBy, Agrees, AgreesWith}
 use Rattle.vectors.specs.Reports.{Judges}
-
--- a text is the one that was found exactly where the record agrees with it
-pub decided : (r : Record) (found text : Option (List ℕ)) → IsOnly (Holds r) found
-    → (found ≡ text) ↔ AgreesWith r text
-decided r None None h = (λ e. λ text holds. nothing (h.only text holds), λ a. refl) where
-  nothing : {u : List ℕ} → None ≡ Some u → ⊥
-  nothing e = cc
-decided r None (Some u) h = (λ e. absurd cc, λ a. h.only u a)
-decided r (Some v) None h = (λ e. absurd cc, λ a. absurd (a v h.holds))
-decided r (Some v) (Some u) h = (λ e. subst (λ (x : List ℕ). Holds r x) (some_is e) h.holds, λ a. h.only u a) where
-  some_is : Some v ≡ Some u → v ≡ u
-  some_is e = cc
 
 -- a record counted as it was judged
 pub judges : {E : Type 0} (result : Result (Unit {0}) E) (count more : ℕ) (bad worse : List ℕ) (r : Record) (b : Bool)
@@ -41,3 +29,17 @@ nothing_agrees e b suite s h is none same =
     let held : IsTrue b ↔ ((text : List ℕ) → ¬ HoldsBy e.suite e text) =
     subst (λ (u : Suite). IsTrue b ↔ ((text : List ℕ) → ¬ HoldsBy u e text)) (sym is) here in
     subst (λ (t : Option (List ℕ)). IsTrue b ↔ AgreesWith e t) (sym none) held
+
+-- sealed bytes that hold the record's text agree with it
+pub text_agrees : {E : Type 0} (e : Record) (b : Result Bool E) (suite : Suite) (text : List ℕ) → e.suite ≡ suite → e.text ≡ Some text
+    → IfOk b (λ b. IsTrue b ↔ HoldsBy suite e text) → IfOk b (λ b. IsTrue b ↔ Agrees e)
+text_agrees e b suite text is some h =
+    let held = subst (λ (u : Suite). IfOk b (λ b. IsTrue b ↔ HoldsBy u e text)) (sym is) h in
+    subst (λ (t : Option (List ℕ)). IfOk b (λ b. IsTrue b ↔ AgreesWith e t)) (sym some) held
+
+-- sealed bytes that hold no text agree with `invalid`
+pub no_text_agrees : {E : Type 0} (e : Record) (b : Result Bool E) (suite : Suite) → e.suite ≡ suite → e.text ≡ None
+    → IfOk b (λ b. IsTrue b ↔ ((text : List ℕ) → ¬ HoldsBy suite e text)) → IfOk b (λ b. IsTrue b ↔ Agrees e)
+no_text_agrees e b suite is none h =
+    let held = subst (λ (u : Suite). IfOk b (λ b. IsTrue b ↔ ((text : List ℕ) → ¬ HoldsBy u e text))) (sym is) h in
+    subst (λ (t : Option (List ℕ)). IfOk b (λ b. IsTrue b ↔ AgreesWith e t)) (sym none) held

@@ -1,16 +1,16 @@
 -- Digits and the bytes that they spell.
-use Rattle.std.proofs.Common.{◌≡◌, ℕ, zero, suc, [], ◌∷◌, ◌++◌, ◌+◌, ◌*◌, ◌%◌, ◌≤◌, ◌==◌, true, List, length, take, drop, Option, Some, None, Result, Ok, Err, refl, sym, ap, ap₂, ◌∙◌, arith}
+use Rattle.std.proofs.Common.{◌≡◌, ℕ, ◌<◌, get_or, set, inl, inr, subst, zero, suc, [], ◌∷◌, ◌++◌, ◌+◌, ◌*◌, ◌%◌, ◌≤◌, ◌==◌, true, List, length, take, drop, Option, Some, None, Result, Ok, Err, refl, sym, ap, ap₂, ◌∙◌, arith}
 use Rattle.std.specs.List.{list_all}
 use Rattle.std.specs.Result.{result_unwrap_or}
-use Rattle.std.proofs.lemmas.Bool.{and_parts, eqb-true}
+use Rattle.std.proofs.lemmas.Bool.{and_parts, eqb-true, cases_Bool, cases_eq}
 use Rattle.std.proofs.lemmas.List.Sums.{AllPass-from_list_all, list_all-from_AllPass}
 use Rattle.std.proofs.lemmas.List.{take-append-drop}
-use Rattle.std.proofs.lemmas.List.Folds.{list_all-append}
-use Rattle.std.proofs.lemmas.Grind.{common_steps}
+use Rattle.std.proofs.lemmas.List.Folds.{list_all-append, list_all_at}
+use Rattle.std.proofs.lemmas.Grind.{common_steps, get_or-set_at}
 use Rattle.hex.specs.Hex as hex
-use Rattle.hex.specs.Hex.{is_hex_digit, IsBytes, hex_digit_value, digit_or_error, pair_value, ◌>>=◌, decode_pairs, decode_sized}
+use Rattle.hex.specs.Hex.{is_hex_digit, IsBytes, hex_digit_value, digit_or_error, pair_value, ◌>>=◌, decode_pairs}
 use Rattle.hex.specs.declared.error.FromHexError.{FromHexError}
-use Rattle.hex.proofs.HexLemmas.{decode_of-digits, decode_of-ok, decode_of-even, decode_sized-twice}
+use Rattle.hex.proofs.HexLemmas.{decode_of-digits, decode_of-ok, decode_of-even}
 use Rattle.vectors.specs.Grammar.{Spells}
 use Rattle.vectors.specs.Faults.{is_hex, bytes_of}
 
@@ -159,9 +159,44 @@ back_bytes digits k h fits =
     ∙ drop-pairs k digits
     ∙ ap (drop k) (sym (bytes_are digits h))
 
--- digits decode into room for their bytes
-pub decodes_into : (digits : List ℕ) (n : ℕ) → is_hex digits ≡ true → n ≡ length (bytes_of digits)
-    → decode_sized digits n ≡ Ok (bytes_of digits)
-decodes_into digits n h e =
-    let twice = length-bytes_of digits h in
-    decode_sized-twice digits n (omega (arith, twice, e)) ∙ spells digits h
+-- each digit is one
+pub digit_at : (digits : List ℕ) (i : ℕ) → is_hex digits ≡ true → i < length digits → is_hex_digit (get_or digits i 0) ≡ true
+unfolding is_hex
+digit_at digits i h l =
+    elim (cases_Bool (is_hex_digit (get_or digits i 0))) [
+      | inl is ↦ is
+      | inr other ↦ cc (sym (and_parts (length digits % 2 == 0) (list_all is_hex_digit digits) h).1 ∙ list_all_at is_hex_digit digits i 0 l other)
+    ]
+
+-- the byte of a pair of digits
+pair_at : (s : List ℕ) (k : ℕ) → k < length (pairs s)
+    → get_or (pairs s) k 0 ≡ digit (get_or s (twice k) 0) * 16 + digit (get_or s (suc (twice k)) 0)
+unfolding pairs twice
+pair_at [] k l = absurd (omega arith)
+pair_at (c ∷ []) k l = absurd (omega arith)
+pair_at (a ∷ b ∷ rest) zero l = refl
+pair_at (a ∷ b ∷ rest) (suc k) l = pair_at rest k (omega arith)
+
+-- a byte, of the values of its two digits
+pub byte_at : (digits : List ℕ) (k a b : ℕ) → is_hex digits ≡ true → k < length (bytes_of digits)
+    → hex_digit_value (get_or digits (2 * k) 0) ≡ Some a → hex_digit_value (get_or digits (2 * k + 1) 0) ≡ Some b
+    → a * 16 + b ≡ get_or (bytes_of digits) k 0
+unfolding digit value_of
+byte_at digits k a b h l high low =
+    let is = bytes_are digits h in
+    let found = pair_at digits k (subst (λ (bs : List ℕ). k < length bs) is l) in
+    let first : digit (get_or digits (twice k) 0) ≡ a = ap (λ i. digit (get_or digits i 0)) (twice_is k) ∙ ap value_of high in
+    let second : digit (get_or digits (suc (twice k)) 0) ≡ b = ap (λ i. digit (get_or digits i 0)) (next k) ∙ ap value_of low in
+    sym (ap (λ (bs : List ℕ). get_or bs k 0) is ∙ found ∙ ap₂ (λ x y. x * 16 + y) first second) where
+      next : (k : ℕ) → suc (twice k) ≡ 2 * k + 1
+      next k = let e = twice_is k in omega (arith, e)
+
+-- one more byte was written
+pub written_more : (bytes room : List ℕ) (i v : ℕ) → i < length room → v ≡ get_or bytes i 0
+    → ((k : ℕ) → k < i → get_or room k 0 ≡ get_or bytes k 0)
+    → (k : ℕ) → k < i + 1 → get_or (set room i v) k 0 ≡ get_or bytes k 0
+written_more bytes room i v within is done k l =
+    elim (cases_eq k i) [
+      | inl here ↦ get_or-set_at room i k v 0 here within ∙ is ∙ ap (λ j. get_or bytes j 0) (sym here)
+      | inr before ↦ grind (arith, common_steps, done k (omega (arith, before, l)), before)
+    ]

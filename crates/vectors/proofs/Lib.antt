@@ -13,3 +13,4 @@ pub mod RowLemmas
 pub mod Sizes
 pub mod Progress
 pub mod Judged
+mod Vectors

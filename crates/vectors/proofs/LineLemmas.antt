@@ -1,10 +1,11 @@
 -- Laws of the trims, and of the first line.
-use Rattle.std.proofs.Common.{◌≡◌, ◌≢◌, ℕ, zero, suc, ◌+◌, ◌-◌, ◌<◌, ◌≤◌, Bool, false, eqb, List, [], ◌∷◌, length, take, drop, get_or, refl, sym, ap, ◌∙◌, arith, map}
+use Rattle.std.proofs.Common.{◌≡◌, ◌≢◌, ℕ, zero, suc, ◌+◌, ◌-◌, ◌<◌, ◌≤◌, Bool, true, false, eqb, nat_lt, List, [], ◌∷◌, length, take, drop, get_or, refl, sym, ap, ◌∙◌, arith, map}
 use Rattle.std.proofs.lemmas.Grind.{common_steps}
 use Rattle.std.specs.List.{slice_split, position_or_len, before_first, after_first, All}
-use Rattle.std.specs.Prelude.{position, Some, None}
+use Rattle.std.specs.Prelude.{position, Option, Some, None}
 use Rattle.std.specs.Str.Lines.{lines, lines_of_parts, strip_carriage_return}
-use Rattle.std.proofs.lemmas.List.Sums.{fails_before_first}
+use Rattle.std.proofs.lemmas.List.Sums.{fails_before_first, position_or_len_is}
+use Rattle.memchr.specs.Find.{IsFirstByte, is_byte}
 use Rattle.std.proofs.lemmas.List.Splits.{slice_split_first, slice_split_none, length-slice_split}
 use Rattle.vectors.specs.Lines.{before_trimmed, trim_end, lines_of}
 
@@ -28,6 +29,22 @@ trim_none (b ∷ c ∷ cs) (suc n) e h = ap (before_trimmed b) (trim_none (c ∷
 -- whether a byte is a line feed
 abbrev pub is_lf : ℕ → Bool
 is_lf b = eqb b 10
+
+-- what isn't true is false
+not_true : (b : Bool) → (b ≡ true → ⊥) → b ≡ false
+not_true true h = absurd (h refl)
+not_true false h = refl
+
+-- the first byte that is a line feed
+pub first_byte : (bytes : List ℕ) (r : Option ℕ) → IsFirstByte (is_byte 10) bytes r → r ≡ position is_lf bytes
+first_byte bytes None h =
+    let at = position_or_len_is is_lf bytes (length bytes) 0 (omega arith) (λ k l. not_true (is_lf (get_or bytes k 0)) (h k (omega arith) l)) (λ l. absurd (omega (arith, l))) in
+    let past : nat_lt (position_or_len is_lf bytes) (length bytes) ≡ false = grind (arith, common_steps, at) in
+    rw past refl
+first_byte bytes (Some n) h =
+    let at = position_or_len_is is_lf bytes n 0 (omega (arith, h.0.high)) (λ k l. not_true (is_lf (get_or bytes k 0)) (h.0.before k (omega arith) l)) (λ l. h.1) in
+    let within : nat_lt (position_or_len is_lf bytes) (length bytes) ≡ true = grind (arith, common_steps, at, h.0.high) in
+    rw (within, at) refl
 
 -- the first of several parts is a line
 parts_cons : (x : List ℕ) (parts : List (List ℕ)) → 0 < length parts

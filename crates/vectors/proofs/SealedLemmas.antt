@@ -1,11 +1,11 @@
 -- What the engines of `aead` show of sealed bytes that are compared as they come.
-use Rattle.std.proofs.Common.{◌≡◌, ◌≢◌, ℕ, ◌+◌, ◌<◌, ◌≤◌, ◌⊎◌, Bool, true, false, not, List, [], ◌∷◌, ◌++◌, length, take, get_or, Option, Some, None, Result, Ok, Err, refl, sym, ap, ◌∙◌, subst, inl, inr, arith, take_all}
+use Rattle.std.proofs.Common.{◌≡◌, ◌≢◌, ℕ, ◌<◌, ◌⊎◌, Bool, true, false, not, List, [], ◌∷◌, ◌++◌, length, take, get_or, Option, Some, None, Result, Ok, Err, refl, sym, ap, ◌∙◌, subst, inl, inr, arith, take_all}
 use Rattle.std.specs.Prelude.{◌↔◌, ◌&&◌, ◌||◌, IsTrue, is_ok, is_some, nat_le, option_to_list}
 use Rattle.octets.specs.declared.fault.Fault.{Fault}
 use Rattle.octets.specs.declared.fault.Fault.TheVariants.{KeyLength, NonceLength, TextTooLong, AadTooLong, TooShort, TagMismatch, WrapLength, WrapIntegrity, OutOfMemory, StreamEnd, Read, Write, SourceChanged}
 use Rattle.octets.specs.Device.{Failed}
 use Rattle.octets.specs.Masked.{masked}
-use Rattle.aead.specs.Suites.{text_limit, aad_limit}
+use Rattle.aead.specs.Suites.{text_limit}
 use Rattle.aead.specs.Sealing.{Setting, Fits, Opened, IsSealing, IsNoSealing, HasOneText, mask_of, tag_of, sealing}
 use Rattle.aead.specs.Refusals.{SealRefused}
 use Rattle.aead.specs.SealStream.{may_seal, SealVerdict, SealsStream, WhereTextTold}

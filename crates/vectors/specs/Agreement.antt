@@ -1,5 +1,5 @@
 -- Whether a record agrees with its standard.
-use Rattle.std.specs.Prelude.{◌≡◌, ℕ, List, length, true, Option, Some, None, IfSome}
+use Rattle.std.specs.Prelude.{◌≡◌, ℕ, List, length, true, Option, Some, None}
 use Rattle.aead.specs.Sealing.{Opened}
 use Rattle.keywrap.specs.Wrapping.{Unwrapped}
 use Rattle.keywrap.specs.Padded.{UnwrappedPadded}
@@ -31,8 +31,3 @@ Agrees r = AgreesWith r r.text
 pub record IsSized (r : Record) : Type 0 where
   pub key : length r.key ≡ suite_key_length r.suite
   pub nonce : is_aead r.suite ≡ true → length r.nonce ≡ 12
-
--- what was found is a text of which the fact holds, and the only one; or it holds of none
-pub record IsOnly (P : List ℕ → Type 0) (found : Option (List ℕ)) : Type 0 where
-  pub holds : IfSome found P
-  pub only : (text : List ℕ) → P text → found ≡ Some text

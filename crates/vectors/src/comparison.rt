@@ -4,7 +4,7 @@ ghost use Rattle.vectors.specs.Code.Views.{bytes_in};
 ghost use Rattle.vectors.specs.Code.Compared.{IsOther};
 
 use crate::digits::Digits;
-use octets::{DeviceFault, Outlet};
+use octets::{DeviceFault, Outlet, give_all};
 
 /// Compares the bytes that it is given with those that digits spell. It keeps none of them but the first that
 /// differs, and fails from then on.
@@ -108,4 +108,13 @@ impl<'a> Outlet for Comparison<'a> {
         self.same += n;
         Ok(n)
     }
+}
+
+/// Whether digits spell these bytes.
+pub(crate) fn are_spelled(bytes: &[u8], digits: Digits<'_>) -> bool
+    ensures { IsTrue result ↔ (bytes_in digits.entry ≡ bytes.now) }
+{
+    let mut out = Comparison::new(digits);
+    let done = give_all(&mut out, bytes);
+    out.is_whole(done.is_ok())
 }

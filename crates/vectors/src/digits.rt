@@ -1,10 +1,18 @@
 // Hexadecimal values.
-ghost use Rattle.std.specs.Prelude.{◌≡◌, true};
+ghost use Rattle.std.specs.Prelude.{◌≡◌, ◌<◌, true, Some, IsTrue};
+ghost use Rattle.hex.specs.Hex.{is_hex_digit, hex_digit_value};
 ghost use Rattle.vectors.specs.Faults.{is_hex};
 
 use crate::field::is_hex;
-use hex::FromHexError;
 use std::alloc::{AllocError, Allocator};
+
+/// The value of a hexadecimal digit, told from its bits.
+fn digit_value(digit: u8) -> u8
+    ensures value { IsTrue (is_hex_digit digit) → hex_digit_value digit ≡ Some result }
+    ensures small { IsTrue (is_hex_digit digit) → result < 16 }
+{
+    (digit & 15) + 9 * (digit >> 6)
+}
 
 /// An even number of hexadecimal digits of either case.
 #[derive(Clone, Copy)]
@@ -14,7 +22,7 @@ pub(crate) struct Digits<'a> {
 }
 
 impl<'a> Digits<'a> {
-    ghost use Rattle.std.specs.Prelude.{length, [], IfOk, MatchOption, false, take, drop, ◌≤◌};
+    ghost use Rattle.std.specs.Prelude.{length, [], IfOk, MatchOption, false, take, drop, ◌≤◌, ◌+◌};
     ghost use Rattle.vectors.specs.Faults.{bytes_of};
     ghost use Rattle.vectors.specs.Code.Views.{bytes_in};
 
@@ -59,21 +67,39 @@ impl<'a> Digits<'a> {
         requires { length room.old ≡ length (bytes_in self) }
         ensures { room.new ≡ bytes_in self.entry }
     {
-        let Ok(()) = hex::decode_to_slice(self.text, room) else {
-            unreachable!()
-        };
+        'bytes: for i in 0..room.len() {
+            room[i] = digit_value(self.text[2 * i]) * 16 + digit_value(self.text[2 * i + 1]);
+        }
+    }
+
+    /// Writes the bytes that they spell behind the first eight bytes.
+    fn write_behind(self, room: &mut [u8])
+        requires { 8 + length (bytes_in self) ≤ length room.old }
+        ensures { take (length (bytes_in self.entry)) (drop 8 room.new) ≡ bytes_in self.entry }
+    {
+        let count = self.byte_count();
+        self.write(&mut room[8..8 + count]);
+    }
+
+    /// The bytes that they spell, behind eight bytes of room and before so many zeros.
+    pub fn with_room<A: Allocator>(self, alloc: A, zeros: usize) -> Result<Vec<u8, A>, AllocError>
+        requires { zeros ≤ 8 }
+        ensures bytes { IfOk result
+            (λ v. take (length (bytes_in self.entry)) (drop 8 v.items) ≡ bytes_in self.entry) }
+        ensures length { IfOk result (λ v. length v.items ≡ 8 + (length (bytes_in self.entry) + zeros)) }
+    {
+        let count = self.byte_count();
+        let mut bytes = vec![in alloc; 0u8; 8 + count + zeros]?;
+        self.write_behind(&mut bytes);
+        Ok(bytes)
     }
 
     /// The bytes that they spell.
     pub fn bytes<A: Allocator>(self, alloc: A) -> Result<Vec<u8, A>, AllocError>
         ensures { IfOk result (λ bytes. bytes.items ≡ bytes_in self.entry) }
     {
-        match hex::decode(alloc, self.text) {
-            Ok(bytes) => Ok(bytes),
-            Err(fault) => match fault {
-                FromHexError::OutOfMemory => Err(AllocError),
-                _ => unreachable!(),
-            },
-        }
+        let mut bytes = vec![in alloc; 0u8; self.byte_count()]?;
+        self.write(&mut bytes);
+        Ok(bytes)
     }
 }

@@ -42,16 +42,22 @@ pub(crate) fn value_line(line: &[u8]) -> Option<(&[u8], &[u8])>
     field_of(line)
 }
 
+/// Whether a byte is a hexadecimal digit.
 fn is_digit(byte: u8) -> bool
     ensures { result ≡ is_hex_digit byte }
 {
     matches!(byte, b'0'..=b'9' | b'a'..=b'f' | b'A'..=b'F')
 }
 
+/// Whether all bytes are hexadecimal digits. None is skipped, so that many are looked at together.
 fn are_digits(text: &[u8]) -> bool
     ensures { result ≡ list_all is_hex_digit text.now }
 {
-    text.iter().all(|b| is_digit(*b))
+    let mut all = true;
+    for byte in text {
+        all &= is_digit(*byte);
+    }
+    all
 }
 
 /// Whether a value is an even number of hexadecimal digits.

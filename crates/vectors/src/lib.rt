@@ -19,6 +19,7 @@ mod suite;
 mod tests;
 #[cfg(test)]
 mod uses;
+mod wrapped;
 
 pub use fault::VectorFault;
 pub use reading::check;

@@ -3,6 +3,8 @@ ghost use Rattle.std.specs.Prelude.{◌≡◌, ◌↔◌, ◌∷◌, ◌<◌, []
 ghost use Rattle.std.specs.Str.Lines.{strip_carriage_return};
 ghost use Rattle.vectors.specs.Lines.{lines_of, trim_end, trim_start};
 
+use memchr::memchr;
+
 /// A line without the spaces at its end.
 pub(crate) fn without_end_spaces(line: &[u8]) -> &[u8]
     ensures { result.now ≡ trim_end line.now }
@@ -39,7 +41,7 @@ fn without_carriage_return(line: &[u8]) -> &[u8]
 fn line_end(bytes: &[u8]) -> Option<usize>
     ensures { result ≡ position (λ b. b == 10) bytes.now }
 {
-    bytes.iter().position(|b| *b == b'\n')
+    memchr(b'\n', bytes)
 }
 
 /// The first line, and the bytes behind it.

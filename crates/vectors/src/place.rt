@@ -3,7 +3,8 @@ ghost use Rattle.std.specs.Prelude.{◌≡◌, ◌≤◌};
 ghost use Rattle.vectors.specs.Grammar.{value_line, may_cut, unread, with_field};
 ghost use Rattle.vectors.specs.Faults.{is_named};
 ghost use Rattle.vectors.specs.Code.Steps.{value_at, hex_at, field_at, format_at, suite_at, text_at, cuts_at, end_at, step};
-ghost use Rattle.vectors.specs.Code.Views.{view, made, bytes_in, entry_view, Gives};
+ghost use Rattle.vectors.specs.declared.place.Place.TheVariants as places;
+ghost use Rattle.vectors.specs.Code.Views.{view, bytes_in, entry_view, next_view, Gives};
 
 use crate::cuts::are_cuts;
 use crate::digits::Digits;
@@ -64,14 +65,47 @@ pub(crate) enum Place<'a> {
     Start,
     /// The first line of a record, or a line between records.
     Between(Format),
-    /// The first of these fields, or the end where none is left.
-    Fields(Format, &'static [Field], Entry<'a>),
+    /// The first of the fields that are left, or the end where none is.
+    Fields {
+        format: Format,
+        left: &'static [Field],
+        entry: Entry<'a>,
+    },
     /// The text line behind cuts.
-    Text(Format, Entry<'a>),
+    Text {
+        format: Format,
+        entry: Entry<'a>,
+    },
 }
 
-/// A place, and the record that ended before it.
-type Next<'a> = (Place<'a>, Option<Entry<'a>>);
+/// What a line leads to.
+pub(crate) struct Next<'a> {
+    /// Which line is expected behind it.
+    pub place: Place<'a>,
+    /// The record that it ends.
+    pub ended: Option<Entry<'a>>,
+}
+
+impl<'a> Next<'a> {
+    ghost use Rattle.std.specs.Prelude.{[], ◌∷◌};
+
+    /// A place behind a line that ends no record.
+    fn at(place: Place<'a>) -> Next<'a>
+        ensures { next_view result ≡ (view place.entry, []) }
+    {
+        Next { place, ended: None }
+    }
+
+    /// What is behind the last line of a record.
+    fn behind(format: Format, entry: Entry<'a>) -> Next<'a>
+        ensures { next_view result ≡ (view (places.Between format), entry_view entry.entry ∷ []) }
+    {
+        Next {
+            place: Place::Between(format),
+            ended: Some(entry),
+        }
+    }
+}
 
 /// The value of a line with this name.
 #[tactic(auto, unfolding(crate::specs::Code::Steps::value_at))]
@@ -169,22 +203,22 @@ fn may_cut(format: Format, suite: Suite) -> bool
 /// What is expected behind a text line, and the record that it ends.
 #[tactic(auto, unfolding(crate::specs::Code::Steps::text_at))]
 fn text_at<'a>(format: Format, entry: Entry<'a>, line: &'a [u8]) -> Result<Next<'a>, Cause>
-    ensures { Gives (λ r. (view r.0, made r.1)) result
+    ensures { Gives next_view result
         (text_at format (entry_view entry.entry) line.entry.now) }
 {
     let text = Some(hex_at(b"text", line)?);
-    Ok((Place::Between(format), Some(Entry { text, ..entry })))
+    Ok(Next::behind(format, Entry { text, ..entry }))
 }
 
 /// What is expected behind a line of cuts.
 #[tactic(auto, unfolding(crate::specs::Code::Steps::cuts_at))]
 fn cuts_at<'a>(format: Format, entry: Entry<'a>, line: &'a [u8]) -> Result<Next<'a>, Cause>
-    ensures { Gives (λ r. (view r.0, made r.1)) result
+    ensures { Gives next_view result
         (cuts_at format (entry_view entry.entry) line.entry.now) }
 {
     let value = value_at(b"cuts", line)?;
     if are_cuts(entry.sealed.byte_count().saturating_sub(16) as u64, value) {
-        Ok((Place::Text(format, entry), None))
+        Ok(Next::at(Place::Text { format, entry }))
     } else {
         Err(Cause::BadCuts)
     }
@@ -193,16 +227,16 @@ fn cuts_at<'a>(format: Format, entry: Entry<'a>, line: &'a [u8]) -> Result<Next<
 /// What is expected behind the line behind all fields, and the record that it ends.
 #[tactic(auto, unfolding(crate::specs::Code::Steps::end_at))]
 fn end_at<'a>(format: Format, entry: Entry<'a>, line: &'a [u8]) -> Result<Next<'a>, Cause>
-    ensures { Gives (λ r. (view r.0, made r.1)) result
+    ensures { Gives next_view result
         (end_at format (entry_view entry.entry) line.entry.now) }
 {
     if line == b"invalid".as_slice() {
-        return Ok((
-            Place::Between(format),
-            Some(Entry {
+        return Ok(Next::behind(
+            format,
+            Entry {
                 text: None,
                 ..entry
-            }),
+            },
         ));
     }
     if may_cut(format, entry.suite) && is_named(b"cuts", line) {
@@ -214,37 +248,43 @@ fn end_at<'a>(format: Format, entry: Entry<'a>, line: &'a [u8]) -> Result<Next<'
 /// What is expected behind a line, and the record that it ends.
 #[tactic(auto, unfolding(crate::specs::Code::Steps::step))]
 pub(crate) fn step<'a>(place: Place<'a>, line: &'a [u8]) -> Result<Next<'a>, Cause>
-    ensures { Gives (λ r. (view r.0, made r.1)) result (step (view place.entry) line.entry.now) }
+    ensures { Gives next_view result (step (view place.entry) line.entry.now) }
 {
     match place {
         Place::Start => {
             if is_gap(line) {
-                Ok((Place::Start, None))
+                Ok(Next::at(Place::Start))
             } else {
-                Ok((Place::Between(format_at(line)?), None))
+                Ok(Next::at(Place::Between(format_at(line)?)))
             }
         }
         Place::Between(format) => {
             if is_gap(line) {
-                Ok((Place::Between(format), None))
+                Ok(Next::at(Place::Between(format)))
             } else {
                 let suite = suite_at(format, line)?;
-                Ok((
-                    Place::Fields(format, suite.fields(), Entry::unread(suite)),
-                    None,
-                ))
+                Ok(Next::at(Place::Fields {
+                    format,
+                    left: suite.fields(),
+                    entry: Entry::unread(suite),
+                }))
             }
         }
-        Place::Fields(format, left, entry) => match left {
+        Place::Fields {
+            format,
+            left,
+            entry,
+        } => match left {
             [] => end_at(format, entry, line),
             [field, others @ ..] => {
                 let value = field_at(entry.suite, *field, line)?;
-                Ok((
-                    Place::Fields(format, others, entry.with_field(*field, value)),
-                    None,
-                ))
+                Ok(Next::at(Place::Fields {
+                    format,
+                    left: others,
+                    entry: entry.with_field(*field, value),
+                }))
             }
         },
-        Place::Text(format, entry) => text_at(format, entry, line),
+        Place::Text { format, entry } => text_at(format, entry, line),
     }
 }

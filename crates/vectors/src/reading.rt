@@ -8,7 +8,7 @@ ghost use Rattle.vectors.specs.Reports.{IsReport, IsReported};
 
 use crate::fault::{Cause, VectorFault};
 use crate::lines::first_line;
-use crate::place::{Place, step};
+use crate::place::{Next, Place, step};
 use crate::report::Report;
 use std::alloc::Allocator;
 
@@ -44,8 +44,18 @@ fn read<A: Allocator>(alloc: A, file: &[u8]) -> Result<Report<A>, VectorFault>
         rest = behind;
         match step(place, line) {
             Err(cause) => return Err(fault_at(cause, count)),
-            Ok((next, None)) => place = next,
-            Ok((next, Some(entry))) => {
+            Ok(
+                Next {
+                    place: next,
+                    ended: None,
+                },
+            ) => place = next,
+            Ok(
+                Next {
+                    place: next,
+                    ended: Some(entry),
+                },
+            ) => {
                 let Ok(()) = report.judge(&entry) else {
                     return Err(VectorFault::OutOfMemory);
                 };

@@ -2,6 +2,7 @@
 use Rattle.std.specs.Prelude.{◌≡◌, ℕ, List, [], ◌∷◌, Option, Some, None, Result, Ok, Err}
 use Rattle.vectors.specs.declared.digits.Digits.{Digits}
 use Rattle.vectors.specs.declared.place.Entry.{Entry}
+use Rattle.vectors.specs.declared.place.Next.{Next}
 use Rattle.vectors.specs.declared.place.Place.{Place}
 use Rattle.vectors.specs.declared.place.Place.TheVariants.{Start, Between, Fields, Text}
 use Rattle.vectors.specs.declared.fault.Cause.{Cause}
@@ -36,6 +37,9 @@ view (Text format e) = steps.text format (entry_view e)
 abbrev pub made : Option Entry → List Record
 made None = []
 made (Some e) = entry_view e ∷ []
+
+abbrev pub next_view : Next → steps.Place × List Record
+next_view n = (view n.place, made n.ended)
 
 -- what a call returned, seen by f, is what reading gives
 abbrev pub Gives : {X Y : Type 0} → (X → Y) → Result X Cause → Result Y Cause → Type 0

@@ -1,9 +1,13 @@
-// Each growth is refused in turn, and the answer is `OutOfMemory` each time.
+// Each request for memory is refused in turn, and the answer is `OutOfMemory` each time.
 use super::files::TWO_RECORDS;
 use crate::fault::VectorFault;
 use crate::reading::check;
-use bumpalo::Bump;
-use std::alloc::Global;
+use crate::report::Report;
+use aead::{AnyAead, seal};
+use aes::AesKey;
+use keywrap::wrap_padded;
+use octets::{Nonce, RefusingMemory};
+use std::alloc::{Allocator, Global};
 use std::process::Abort;
 use std::test::Fail;
 
@@ -33,57 +37,126 @@ sealed = 58e2fccefa7e3061367f1d57a4e7455a
 invalid
 ";
 
-/// The bytes of the arenas.
-const ROOM: usize = 4096;
+/// Wrappings with padding: the published ones, one of them with another last digit and `invalid`, and one that says
+/// `invalid` and is a wrapping.
+const PADDED: &str = "format = 2
+suite = aes-192-wrap-pad
+key = 5840df6e29b02af1ab493b705bf16ea1ae8338f4dcc176a8
+sealed = 138bdeaa9b8fa7fc61f97742e72248ee5ae6ae5360d1ae6a5f54f373fa543b6a
+text = c37b7e6492584340bed12207808941155068f738
+suite = aes-192-wrap-pad
+key = 5840df6e29b02af1ab493b705bf16ea1ae8338f4dcc176a8
+sealed = afbeb0f07dfbf5419200f2ccb50bb24e
+invalid
+suite = aes-192-wrap-pad
+key = 5840df6e29b02af1ab493b705bf16ea1ae8338f4dcc176a8
+sealed = afbeb0f07dfbf5419200f2ccb50bb24f
+invalid
+";
 
-/// Fills an arena up to the room that is left in it, so that any further growth is refused.
-fn leave(rt: &impl Abort, bump: &Bump, room: usize) -> Result<(), Fail> {
-    let filler = [0u8; 2 * ROOM];
-    bump.set_allocation_limit(Some(0));
-    let used = bump.chunk_capacity().saturating_sub(room);
-    assert!(rt; used <= filler.len());
-    let _ = bump.try_alloc_slice_copy(&filler[..used])?;
-    Ok(())
-}
-
-/// With room from nothing up, each growth of `check` is refused in turn: the answer is `OutOfMemory`, and never
-/// another, until there is room for all, and from then on it is the report. How many rooms were too small.
-fn refused_rooms(
-    rt: &(impl Abort + Alloc<A = Global>),
-    file: &str,
+/// Whether an answer is the one that is due: `OutOfMemory` where a request was refused, and else the report.
+fn is_due<A: Allocator + Drop>(
+    answer: Result<Report<A>, VectorFault>,
     records: u64,
     bad: &[u64],
-) -> Result<u32, Fail> {
-    let mut refused = 0u32;
-    let mut done = 0u32;
-    for room in 0..ROOM {
-        let bump = Bump::try_with_capacity(rt.alloc(), ROOM)?;
-        leave(rt, &bump, room)?;
-        match check(&bump, file.as_bytes()) {
-            Ok(report) => {
-                assert_eq!(rt; report.records, records);
-                assert_eq!(rt; report.bad.as_slice(), bad);
-                done = done.saturating_add(1);
-            }
-            Err(fault) => {
-                assert_eq!(rt; fault, VectorFault::OutOfMemory, "{room}");
-                assert_eq!(rt; done, 0, "{room}");
-                refused = refused.saturating_add(1);
-            }
+    refused: bool,
+) -> bool {
+    match answer {
+        Ok(report) => { !refused && report.records == records && report.bad.as_slice() == bad }
+        Err(fault) => refused && fault == VectorFault::OutOfMemory,
+    }
+}
+
+/// How many requests for memory `check` makes of a file. Each is refused in turn; at last none is refused.
+fn requests(
+    rt: &(impl Abort + Alloc<A = Global>),
+    file: &[u8],
+    records: u64,
+    bad: &[u64],
+) -> Option<u64> {
+    for passed in 0..99u64 {
+        let memory = RefusingMemory::after(passed, rt.alloc());
+        let answer = check(&memory, file);
+        let refused = memory.has_refused();
+        assert!(rt; is_due(answer, records, bad, refused), "request {passed}");
+        if !refused {
+            return Some(passed);
         }
     }
-    assert!(rt; 0 < done, "{refused} refused");
-    Ok(refused)
+    None
+}
+
+/// A file of two large records with a text of so many bytes: a sealing of it, with as much associated data, and its
+/// wrapping with padding.
+fn large_file(alloc: Global, length: usize) -> Result<Vec<u8>, Fail> {
+    let key = [7u8; 16];
+    let nonce = Nonce::from_slice(&[3; 12])?;
+    let text = vec![in alloc; 5u8; length]?;
+    let suite = aead::Suite::Aes128GcmSiv;
+    let sealed = seal(alloc, &AnyAead::new(suite, &key)?, &nonce, &text, &text)?;
+    let wrapped = wrap_padded(alloc, &AesKey::from_slice(&key)?, &text)?;
+    let digits = hex::encode(alloc, &text)?;
+    let mut file = Vec::new(alloc);
+    for (name, value) in [
+        ("format", "2"),
+        ("suite", suite.name()),
+        ("key", hex::encode(alloc, &key)?.as_str()),
+        ("nonce", hex::encode(alloc, nonce.bytes())?.as_str()),
+        ("aad", digits.as_str()),
+        ("sealed", hex::encode(alloc, &sealed)?.as_str()),
+        ("text", digits.as_str()),
+        ("suite", "aes-128-wrap-pad"),
+        ("key", hex::encode(alloc, &key)?.as_str()),
+        ("sealed", hex::encode(alloc, &wrapped)?.as_str()),
+        ("text", digits.as_str()),
+    ] {
+        file.extend_from_slice(name.as_bytes())?;
+        file.extend_from_slice(b" = ")?;
+        file.extend_from_slice(value.as_bytes())?;
+        file.push(b'\n')?;
+    }
+    Ok(file)
 }
 
 #[test]
 fn each_refused_growth_is_out_of_memory(rt: HostRuntime) -> Result<(), Fail> {
-    assert!(rt; 0 < refused_rooms(&rt, GROWING, 4, &[4])?);
+    assert_eq!(rt; requests(&rt, GROWING.as_bytes(), 4, &[4]), Some(4));
     Ok(())
 }
 
 #[test]
-fn records_without_associated_data_take_no_memory(rt: HostRuntime) -> Result<(), Fail> {
-    assert_eq!(rt; refused_rooms(&rt, TWO_RECORDS, 2, &[])?, 0);
+fn refused_growths_at_wrappings_with_padding(rt: HostRuntime) -> Result<(), Fail> {
+    assert_eq!(rt; requests(&rt, PADDED.as_bytes(), 3, &[3]), Some(4));
+    Ok(())
+}
+
+#[test]
+fn a_large_record_makes_no_more_requests(rt: HostRuntime) -> Result<(), Fail> {
+    let file = large_file(rt.alloc(), 70_000)?;
+    assert_eq!(rt; requests(&rt, &file, 2, &[]), Some(2));
+    Ok(())
+}
+
+#[test]
+fn records_without_associated_data_take_no_memory(rt: HostRuntime) {
+    assert_eq!(rt; requests(&rt, TWO_RECORDS.as_bytes(), 2, &[]), Some(0));
+}
+
+/// A check that gives up where memory was there.
+fn given_up<A: Allocator + Drop>(_alloc: A) -> Result<Report<A>, VectorFault> {
+    Err(VectorFault::OutOfMemory)
+}
+
+#[test]
+fn a_check_that_always_gives_up_is_caught(rt: HostRuntime) {
+    assert!(rt; !is_due(given_up(rt.alloc()), 2, &[], false));
+}
+
+#[test]
+fn a_bad_record_for_a_want_of_memory_is_caught(rt: HostRuntime) -> Result<(), Fail> {
+    let mut bad = Vec::new(rt.alloc());
+    bad.push(1)?;
+    let answer = Ok(Report { records: 2, bad });
+    assert!(rt; !is_due(answer, 2, &[], true));
     Ok(())
 }

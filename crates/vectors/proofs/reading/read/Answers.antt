@@ -18,9 +18,9 @@ returns-in-Err-clause-fault g c =
     c.fault_at.ensures (lines_of c.args.file.now) (at_fault (lines_of c.args.file.now) (lines_of c.loop-line.rest.now) c.in-Some.line.now (lines_of c.in-Some.behind.now) c.loop-line.count (view c.loop-line.place) c.in-Err.cause
     c.loop-line.report.records c.loop-line.report.bad.items c.loop-line.invariant.so_far c.in-Some.ensures.line c.in-Err.ensures)
 
-pub loop-line-preserved-in-Ok-default-None : goal.loop-line-preserved-in-Ok-default-None
-loop-line-preserved-in-Ok-default-None g c =
-    let next = view c.in-Ok-default-None.next in
+pub loop-line-preserved-in-Ok-None : goal.loop-line-preserved-in-Ok-None
+loop-line-preserved-in-Ok-None g c =
+    let next = view c.in-Ok-None.field-0.place in
     let stepped : step (view c.loop-line.place) c.in-Some.line.now ≡ Ok (next, []) = search rules in
     record {
       so_far = after_line (lines_of c.args.file.now) (lines_of c.loop-line.rest.now) c.in-Some.line.now (lines_of c.in-Some.behind.now) c.loop-line.count (view c.loop-line.place) next
@@ -30,24 +30,24 @@ loop-line-preserved-in-Ok-default-None g c =
 
 pub judge-requires-clause-sized : goal.judge-requires-clause-sized
 judge-requires-clause-sized g c =
-    let next = view c.in-Ok-default-Some.next in
-    let made = entry_view c.in-Ok-default-Some.entry in
+    let next = view c.in-Ok-Some.field-0.place in
+    let made = entry_view c.in-Ok-Some.entry in
     let stepped : step (view c.loop-line.place) c.in-Some.line.now ≡ Ok (next, made ∷ []) = search rules in
     sized_at_end (lines_of c.args.file.now) (lines_of c.loop-line.rest.now) c.in-Some.line.now (lines_of c.in-Some.behind.now) c.loop-line.count (view c.loop-line.place) next made
     c.loop-line.report.records c.loop-line.report.bad.items c.loop-line.invariant.so_far c.in-Some.ensures.line stepped
 
 pub returns-in_default-judge-clause-fault : goal.returns-in_default-judge-clause-fault
 returns-in_default-judge-clause-fault g c =
-    let next = view c.in-Ok-default-Some.next in
-    let made = entry_view c.in-Ok-default-Some.entry in
+    let next = view c.in-Ok-Some.field-0.place in
+    let made = entry_view c.in-Ok-Some.entry in
     let stepped : step (view c.loop-line.place) c.in-Some.line.now ≡ Ok (next, made ∷ []) = search rules in
     ended_at (lines_of c.args.file.now) (lines_of c.loop-line.rest.now) c.in-Some.line.now (lines_of c.in-Some.behind.now) c.loop-line.count (view c.loop-line.place) next made
     c.loop-line.report.records c.loop-line.report.bad.items c.loop-line.invariant.so_far c.in-Some.ensures.line stepped
 
 pub loop-line-preserved : goal.loop-line-preserved
 loop-line-preserved g c =
-    let next = view c.in-Ok-default-Some.next in
-    let made = entry_view c.in-Ok-default-Some.entry in
+    let next = view c.in-Ok-Some.field-0.place in
+    let made = entry_view c.in-Ok-Some.entry in
     let report = c.loop-line.report in
     let after = c.judge.new.self in
     let stepped : step (view c.loop-line.place) c.in-Some.line.now ≡ Ok (next, made ∷ []) = search rules in

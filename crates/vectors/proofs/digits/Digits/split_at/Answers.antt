@@ -1,6 +1,5 @@
-use Rattle.std.proofs.Common.{◌≡◌, ◌*◌, ◌≤◌, length, take, drop, true, arith, ap, ◌∙◌}
+use Rattle.std.proofs.Common.{arith, ap, ◌∙◌}
 use Rattle.vectors.specs.Faults.{is_hex, bytes_of}
-use Rattle.vectors.specs.Code.Views.{bytes_in}
 use Rattle.vectors.proofs.DigitLemmas.{length-bytes_of, cut_hex, front_bytes, back_bytes}
 use Rattle.vectors.proofs.digits.Digits.split_at.Goals as goal
 

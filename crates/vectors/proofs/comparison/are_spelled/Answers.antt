@@ -3,7 +3,7 @@ use Rattle.std.specs.Prelude.{◌↔◌, ◌&&◌, IsTrue}
 use Rattle.vectors.specs.Code.Views.{bytes_in}
 use Rattle.vectors.specs.Code.Told.{is_whole}
 use Rattle.vectors.proofs.ComparedLemmas.{spelled_told}
-use Rattle.vectors.proofs.agree.are_spelled.Goals as goal
+use Rattle.vectors.proofs.comparison.are_spelled.Goals as goal
 
 pub returns : goal.returns
 returns c =
