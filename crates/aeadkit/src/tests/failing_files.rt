@@ -7,16 +7,6 @@ use crate::run::run;
 use std::alloc::Global;
 use std::process::Abort;
 
-/// The status is 0, and the written file holds these bytes.
-fn is_done(rt: &impl Abort, log: &Log, status: u8, to: &[u8]) {
-    assert_eq!(rt; status, 0);
-    assert!(rt; log.made.get());
-    match log.written.try_borrow() {
-        Ok(held) => assert!(rt; held.as_slice() == to),
-        Err(_) => assert!(rt; false, "the file is in use"),
-    }
-}
-
 /// The failure is of the side that went wrong, and the written file holds a beginning of what it should; none was made
 /// where a reading before the last one went wrong.
 fn is_stopped(rt: &impl Abort, log: &Log, err: &[u8], to: &[u8], last: u8) {
@@ -28,10 +18,7 @@ fn is_stopped(rt: &impl Abort, log: &Log, err: &[u8], to: &[u8], last: u8) {
         None => "aeadkit: Write\n",
     };
     assert_eq!(rt; err, complaint.as_bytes());
-    match log.written.try_borrow() {
-        Ok(held) => assert!(rt; to.starts_with(held.as_slice())),
-        Err(_) => assert!(rt; false, "the file is in use"),
-    }
+    assert!(rt; log.begins(to));
 }
 
 /// Runs a file command with one call that goes wrong, and answers whether it was done before that call.
@@ -64,7 +51,8 @@ fn goes(
     let is_over = log.calls.get() < at;
     if is_over || wrong == Wrong::IsShort {
         assert!(rt; err.is_empty());
-        is_done(rt, &log, status, to);
+        assert_eq!(rt; status, 0);
+        assert!(rt; log.holds(to));
     } else {
         assert_eq!(rt; status, 3);
         is_stopped(rt, &log, err.as_slice(), to, last);
@@ -145,12 +133,7 @@ fn opens(
 ) {
     let (first, second, third) = readings;
     let log = Log::new(rt.alloc());
-    let script = Script {
-        at: 0,
-        wrong: Wrong::Fails,
-        trickle: false,
-        log: &log,
-    };
+    let script = Script::of_none(&log);
     let files = Scripted {
         first,
         second,

@@ -40,6 +40,22 @@ impl Log {
             written: RefCell::new(Vec::new(alloc)),
         }
     }
+
+    /// Whether the written file was made, and holds these bytes.
+    pub fn holds(&self, bytes: &[u8]) -> bool {
+        match self.written.try_borrow() {
+            Ok(held) => self.made.get() && held.as_slice() == bytes,
+            Err(_) => false,
+        }
+    }
+
+    /// Whether the written file holds a beginning of these bytes.
+    pub fn begins(&self, bytes: &[u8]) -> bool {
+        match self.written.try_borrow() {
+            Ok(held) => bytes.starts_with(held.as_slice()),
+            Err(_) => false,
+        }
+    }
 }
 
 /// The call that goes wrong, by its number from 1 on, and how; 0 is none. With `trickle` each call moves one byte.
@@ -51,7 +67,17 @@ pub struct Script<'a> {
     pub log: &'a Log,
 }
 
-impl Script<'_> {
+impl<'a> Script<'a> {
+    /// No call goes wrong.
+    pub fn of_none(log: &'a Log) -> Script<'a> {
+        Script {
+            at: 0,
+            wrong: Wrong::Fails,
+            trickle: false,
+            log,
+        }
+    }
+
     /// Counts a call, and answers how many bytes it may move, or its failure.
     fn step(&self, reading: Option<u8>, wanted: usize) -> io::Result<usize>
         ensures { IfOk result (λ n. n ≤ wanted) }
