@@ -124,9 +124,9 @@ fn calls_that_fail_after_single_bytes(rt: HostRuntime) {
 
 /// Runs `open-file` over three readings of a file, and compares the status and standard error. Answers the written file,
 /// if it was made.
-fn opens(
+fn opens<'b>(
     rt: &(impl Abort + Alloc<A = Global>),
-    readings: (&[u8], &[u8], &[u8]),
+    readings: (&'b [u8], &'b [u8], &'b [u8]),
     status: u8,
     complaint: &str,
     made: bool,

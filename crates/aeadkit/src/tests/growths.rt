@@ -17,10 +17,10 @@ use std::process::Abort;
 
 /// Performs a request with one request for memory refused after the first `passed` ones, and answers whether it came to
 /// that one: then nothing is printed, and else the line is.
-fn is_refused<F: Storage>(
+fn is_refused<'x, F: Storage>(
     rt: &(impl Abort + Alloc<A = Global>),
-    files: &F,
-    request: &Request<'_>,
+    files: &'x F,
+    request: &Request<'x>,
     line: &str,
     passed: u64,
 ) -> bool {
@@ -45,10 +45,10 @@ fn is_refused<F: Storage>(
 }
 
 /// Performs a request with each of its requests for memory refused in turn, until none is. At least one is.
-fn each_is_refused<F: Storage>(
+fn each_is_refused<'x, F: Storage>(
     rt: &(impl Abort + Alloc<A = Global>),
-    files: &F,
-    request: &Request<'_>,
+    files: &'x F,
+    request: &Request<'x>,
     line: &str,
 ) {
     for passed in 0..100u64 {
@@ -80,7 +80,7 @@ fn seal_and_open(rt: &(impl Abort + Alloc<A = Global>), vector: &Vector<'_>) {
 }
 
 #[test]
-fn seal_and_open_where_memory_wants(rt: HostRuntime) {
+fn seal_and_open_want_memory_only_where_refused(rt: HostRuntime) {
     seal_and_open(&rt, &CHACHA);
     seal_and_open(&rt, &GCM);
     seal_and_open(&rt, &GCM_SIV);
@@ -100,7 +100,7 @@ fn wrap_and_unwrap(
 
 /// RFC 3394, 4.1, and RFC 5649, 6.
 #[test]
-fn wrap_and_unwrap_where_memory_wants(rt: HostRuntime) {
+fn wrap_and_unwrap_want_memory_only_where_refused(rt: HostRuntime) {
     wrap_and_unwrap(
         &rt,
         "000102030405060708090a0b0c0d0e0f",
@@ -117,19 +117,25 @@ fn wrap_and_unwrap_where_memory_wants(rt: HostRuntime) {
     );
 }
 
+/// What asks for the report of a file among these.
+fn checking<'x>(_files: &'x OneFile<'_>) -> Request<'x> {
+    Request::Check { path: "" }
+}
+
 #[test]
-fn check_where_memory_wants(rt: HostRuntime) {
+fn check_wants_memory_only_where_refused(rt: HostRuntime) {
     let files = OneFile {
         file: TWO_RECORDS.as_bytes(),
     };
-    each_is_refused(&rt, &files, &Request::Check { path: "" }, "records 2");
+    let request = checking(&files);
+    each_is_refused(&rt, &files, &request, "records 2");
 }
 
 /// Files in memory that ask for memory: each opening does, and the making of the file that is written.
 #[derive(Drop)]
-struct Asking<'a, A: Allocator> {
-    files: Scripted<'a>,
-    memory: &'a A,
+struct Asking<'b, 'l, 'm, A: Allocator> {
+    files: Scripted<'b, 'l>,
+    memory: &'m A,
     /// Whether the making was refused.
     unmade: Cell<bool>,
 }
@@ -142,24 +148,24 @@ fn ask<A: Allocator>(memory: &A) -> io::Result<()> {
     }
 }
 
-impl<'a, A: Allocator> Storage for Asking<'a, A> {
-    type Input = Source<'a>;
+impl<'b, 'l, A: Allocator> Storage for Asking<'b, 'l, '_, A> {
+    type Input = Source<'b, 'l>;
 
-    type Output = Sink<'a>;
+    type Output = Sink<'l>;
 
-    fn open(&self, path: &str, reading: u8) -> io::Result<Source<'a>> {
+    fn open(&self, path: &str, reading: u8) -> io::Result<Source<'b, 'l>> {
         ask(self.memory)?;
         self.files.open(path, reading)
     }
 
-    fn create(&self, path: &str) -> io::Result<Sink<'a>> {
+    fn create(&self, path: &str) -> io::Result<Sink<'l>> {
         self.unmade.set(true);
         ask(self.memory)?;
         self.unmade.set(false);
         self.files.create(path)
     }
 
-    fn sync(&self, output: &Sink<'a>) -> io::Result<()> {
+    fn sync(&self, output: &Sink<'l>) -> io::Result<()> {
         self.files.sync(output)
     }
 }
@@ -167,23 +173,24 @@ impl<'a, A: Allocator> Storage for Asking<'a, A> {
 /// Performs a file command with one request for memory refused after the first `passed` ones, and answers the status: 4 where
 /// it came to that one, or 3 where the making of the file asked for it, and then no file is made; and else 0, and it holds
 /// these bytes.
-fn file_status(
+fn file_status<'x>(
     rt: &(impl Abort + Alloc<A = Global>),
-    request: &Request<'_>,
-    from: &[u8],
+    request: &Request<'x>,
+    from: &'x [u8],
     to: &[u8],
     passed: u64,
 ) -> u8 {
     let memory = RefusingMemory::after(passed, rt.alloc());
     let log = Log::new(rt.alloc());
     let script = Script::of_none(&log);
+    let scripted = Scripted {
+        first: from,
+        second: from,
+        third: from,
+        script,
+    };
     let files = Asking {
-        files: Scripted {
-            first: from,
-            second: from,
-            third: from,
-            script,
-        },
+        files: scripted,
         memory: &memory,
         unmade: Cell::new(false),
     };
@@ -216,10 +223,10 @@ fn file_status(
 
 /// Performs a file command with each of its requests for memory refused in turn, until none is. The making of the file asks
 /// last.
-fn each_file_status(
+fn each_file_status<'x>(
     rt: &(impl Abort + Alloc<A = Global>),
-    request: &Request<'_>,
-    from: &[u8],
+    request: &Request<'x>,
+    from: &'x [u8],
     to: &[u8],
 ) {
     let mut before = 0u8;
@@ -253,7 +260,7 @@ fn seal_and_open_files(rt: &(impl Abort + Alloc<A = Global>), vector: &Vector<'_
 }
 
 #[test]
-fn files_where_memory_wants(rt: HostRuntime) {
+fn files_want_memory_only_where_refused(rt: HostRuntime) {
     seal_and_open_files(&rt, &CHACHA);
     seal_and_open_files(&rt, &GCM);
     seal_and_open_files(&rt, &GCM_SIV);

@@ -102,33 +102,33 @@ impl<'a> Script<'a> {
 
 /// Three readings, the same at every path, and one file that is written.
 #[derive(Drop)]
-pub struct Scripted<'a> {
-    pub first: &'a [u8],
-    pub second: &'a [u8],
-    pub third: &'a [u8],
-    pub script: Script<'a>,
+pub struct Scripted<'b, 'l> {
+    pub first: &'b [u8],
+    pub second: &'b [u8],
+    pub third: &'b [u8],
+    pub script: Script<'l>,
 }
 
 /// What is left of a reading.
 #[derive(Drop)]
-pub struct Source<'a> {
+pub struct Source<'b, 'l> {
     reading: u8,
-    rest: &'a [u8],
-    script: Script<'a>,
+    rest: &'b [u8],
+    script: Script<'l>,
 }
 
 /// The file that is written.
 #[derive(Drop)]
-pub struct Sink<'a> {
-    script: Script<'a>,
+pub struct Sink<'l> {
+    script: Script<'l>,
 }
 
-impl<'a> Storage for Scripted<'a> {
-    type Input = Source<'a>;
+impl<'b, 'l> Storage for Scripted<'b, 'l> {
+    type Input = Source<'b, 'l>;
 
-    type Output = Sink<'a>;
+    type Output = Sink<'l>;
 
-    fn open(&self, _path: &str, reading: u8) -> io::Result<Source<'a>> {
+    fn open(&self, _path: &str, reading: u8) -> io::Result<Source<'b, 'l>> {
         let _ = self.script.step(Some(reading), 0)?;
         let script = self.script;
         let rest = match reading {
@@ -143,7 +143,7 @@ impl<'a> Storage for Scripted<'a> {
         })
     }
 
-    fn create(&self, _path: &str) -> io::Result<Sink<'a>> {
+    fn create(&self, _path: &str) -> io::Result<Sink<'l>> {
         let _ = self.script.step(None, 0)?;
         self.script.log.made.set(true);
         Ok(Sink {
@@ -151,13 +151,13 @@ impl<'a> Storage for Scripted<'a> {
         })
     }
 
-    fn sync(&self, _output: &Sink<'a>) -> io::Result<()> {
+    fn sync(&self, _output: &Sink<'l>) -> io::Result<()> {
         let _ = self.script.step(None, 0)?;
         Ok(())
     }
 }
 
-impl io::Read for Source<'_> {
+impl io::Read for Source<'_, '_> {
     fn read(&mut self, buf: &mut [u8]) -> io::Result<usize> {
         let wanted = buf.len().min(self.rest.len());
         let n = self.script.step(Some(self.reading), wanted)?;

@@ -12,7 +12,8 @@ returns-in_err-open_by g c =
     let keyed : Keyed = keyed_of c.in_ok-inputs.inputs.cipher in
     let ready : IsReady c.args.words.now.inputs keyed c.in_ok-inputs.inputs.nonce c.deref.result.now c.in_ok-inputs.inputs.body.items
     = rw c.deref.ensures.value c.in_ok-inputs.ensures in
-    rw (p.1, p.2) (ran_err (Opening (g.F.Storage.contents c.args.files.now c.args.words.now.input.now)) c.args.words.now.inputs keyed
+    rw (p.1, p.2) (ran_err (Opening (g.F.Storage.contents c.args.files.now c.args.words.now.input.now))
+    c.args.words.now.inputs keyed
     c.in_ok-inputs.inputs.nonce c.deref.result.now c.in_ok-inputs.inputs.body.items (g.O.Outlet.taken c.args.out.now) (g.O.Outlet.taken c.open_by.new.out)
     c.in_err-open_by.field-0.0 ready c.in_err-open_by.ensures)
 
