@@ -7,8 +7,8 @@ use crate::run::run;
 use std::alloc::Global;
 use std::process::Abort;
 
-/// The failure is of the side that went wrong, and the written file holds a beginning of what it should; none was made
-/// where a reading before the last one went wrong.
+/// The failure is of the side that went wrong, and the written file holds a beginning of what it should;
+/// none was made where a reading before the last one went wrong.
 fn is_stopped(rt: &impl Abort, log: &Log, err: &[u8], to: &[u8], last: u8) {
     let complaint = match log.reading.get() {
         Some(reading) => {
@@ -60,7 +60,8 @@ fn goes(
     is_over
 }
 
-/// Runs a file command with each of its calls going wrong in turn, until a run is done before the call that would.
+/// Runs a file command with each of its calls going wrong in turn, until a run is done before the call that
+/// would.
 fn each_call_goes(
     rt: &(impl Abort + Alloc<A = Global>),
     words: &[&str],
@@ -122,8 +123,8 @@ fn calls_that_fail_after_single_bytes(rt: HostRuntime) {
     each_call_of(&rt, &GCM_SIV, 1, (Wrong::Fails, true));
 }
 
-/// Runs `open-file` over three readings of a file, and compares the status and standard error. Answers the written file,
-/// if it was made.
+/// Runs `open-file` over three readings of a file, and compares the status and standard error. Answers the
+/// written file, if it was made.
 fn opens<'b>(
     rt: &(impl Abort + Alloc<A = Global>),
     readings: (&'b [u8], &'b [u8], &'b [u8]),
@@ -172,7 +173,8 @@ fn third_reading_differs(rt: HostRuntime) {
     );
 }
 
-/// A second reading of another length is `SourceChanged`, and one that is no sealing `TagMismatch`; no file is made.
+/// A second reading of another length is `SourceChanged`, and one that is no sealing `TagMismatch`; no file
+/// is made.
 #[test]
 fn second_reading_differs(rt: HostRuntime) {
     let whole = bytes(&rt, CHACHA.sealed);

@@ -1,5 +1,5 @@
-//! Each request for memory of a command is refused in turn, until a run takes all that it asks for. The answer to a refused
-//! one is `OutOfMemory`, wherever it stands, and else it is the right one.
+//! Each request for memory of a command is refused in turn, until a run takes all that it asks for. The
+//! answer to a refused one is `OutOfMemory`, wherever it stands, and else it is the right one.
 use super::devices::{NoFiles, OneFile};
 use super::files::bytes;
 use super::published::{CHACHA, GCM, GCM_SIV, Vector};
@@ -15,8 +15,8 @@ use std::cell::Cell;
 use std::io;
 use std::process::Abort;
 
-/// Performs a request with one request for memory refused after the first `passed` ones, and answers whether it came to
-/// that one: then nothing is printed, and else the line is.
+/// Performs a request with one request for memory refused after the first `passed` ones, and answers whether
+/// it came to that one: then nothing is printed, and else the line is.
 fn is_refused<'x, F: Storage>(
     rt: &(impl Abort + Alloc<A = Global>),
     files: &'x F,
@@ -170,9 +170,9 @@ impl<'b, 'l, A: Allocator> Storage for Asking<'b, 'l, '_, A> {
     }
 }
 
-/// Performs a file command with one request for memory refused after the first `passed` ones, and answers the status: 4 where
-/// it came to that one, or 3 where the making of the file asked for it, and then no file is made; and else 0, and it holds
-/// these bytes.
+/// Performs a file command with one request for memory refused after the first `passed` ones, and answers
+/// the status: 4 where it came to that one, or 3 where the making of the file asked for it, and then no file
+/// is made; and else 0, and it holds these bytes.
 fn file_status<'x>(
     rt: &(impl Abort + Alloc<A = Global>),
     request: &Request<'x>,
@@ -221,8 +221,8 @@ fn file_status<'x>(
     status
 }
 
-/// Performs a file command with each of its requests for memory refused in turn, until none is. The making of the file asks
-/// last.
+/// Performs a file command with each of its requests for memory refused in turn, until none is. The making
+/// of the file asks last.
 fn each_file_status<'x>(
     rt: &(impl Abort + Alloc<A = Global>),
     request: &Request<'x>,

@@ -58,7 +58,8 @@ impl Log {
     }
 }
 
-/// The call that goes wrong, by its number from 1 on, and how; 0 is none. With `trickle` each call moves one byte.
+/// The call that goes wrong, by its number from 1 on, and how; 0 is none. With `trickle` each call moves one
+/// byte.
 #[derive(Clone, Copy, Drop)]
 pub struct Script<'a> {
     pub at: u32,
