@@ -9,8 +9,9 @@ use Rattle.aeadkit.specs.declared.words.Inputs.{Inputs}
 use Rattle.aeadkit.specs.Aead.{IsSpelled, InputsRefused}
 
 -- a key of another length than the suite's is refused
-pub wrong_key : (words : Inputs) (keyed : Keyed) (nonce aad body : List ℕ) (f : Fault) → IsSpelled words keyed nonce aad body
-    → length keyed.key ≢ key_length keyed.suite → f ≡ KeyLength → InputsRefused words (OfFault f)
+pub wrong_key : (words : Inputs) (keyed : Keyed) (nonce aad body : List ℕ) (f : Fault)
+    → IsSpelled words keyed nonce aad body → length keyed.key ≢ key_length keyed.suite → f ≡ KeyLength
+    → InputsRefused words (OfFault f)
 wrong_key words keyed nonce aad body f spelled long at_fault = rw at_fault (record {
   keyed = keyed;
   nonce = nonce;

@@ -1,5 +1,31 @@
 -- What the file commands make of the engines' answers.
-use Rattle.std.proofs.Common.{◌≡◌, ℕ, ◌⊎◌, inl, inr, List, [], ◌++◌, ◌==◌, Option, Some, None, Ok, Err, IfSome, refl, subst, sym, ◌∙◌, ap, arith, take, drop, length, if◌then◌else◌}
+use Rattle.std.proofs.Common.{
+  ◌≡◌,
+  ℕ,
+  ◌⊎◌,
+  inl,
+  inr,
+  List,
+  [],
+  ◌++◌,
+  ◌==◌,
+  Option,
+  Some,
+  None,
+  Ok,
+  Err,
+  IfSome,
+  refl,
+  subst,
+  sym,
+  ◌∙◌,
+  ap,
+  arith,
+  take,
+  drop,
+  length,
+  if◌then◌else◌,
+}
 use Rattle.std.proofs.lemmas.List.{append-nil, drop_all}
 use Rattle.std.proofs.Math.Seq.{take-append_seam}
 use Rattle.std.specs.Io.KnownBytes.{Keeps, append_known, prepend_known}
@@ -14,7 +40,26 @@ use Rattle.aeadkit.specs.declared.failure.Failure.{Failure}
 use Rattle.aeadkit.specs.declared.failure.Failure.TheVariants.{Fault as OfFault}
 use Rattle.aeadkit.specs.declared.words.Inputs.{Inputs}
 use Rattle.aeadkit.specs.Aead.{IsReady}
-use Rattle.aeadkit.specs.Files.{Answer, Giving, SealsOnce, SealsTwice, OpensThrice, Sealing, Opening, Took, HoldsAll, HoldsStart, HoldsNothing, IsCalled, CallFailed, NoCall, EngineRan, Ran, FileDone, FileStopped}
+use Rattle.aeadkit.specs.Files.{
+  Answer,
+  Giving,
+  SealsOnce,
+  SealsTwice,
+  OpensThrice,
+  Sealing,
+  Opening,
+  Took,
+  HoldsAll,
+  HoldsStart,
+  HoldsNothing,
+  IsCalled,
+  CallFailed,
+  NoCall,
+  EngineRan,
+  Ran,
+  FileDone,
+  FileStopped,
+}
 
 -- a reader that was just made has left what its file has
 pub just_opened : (contents rest left : Option (List ℕ)) (capacity : ℕ) (ahead : List ℕ)
@@ -28,43 +73,51 @@ just_opened (Some x) rest left capacity ahead e c a h =
     subst R h (subst Q a (subst P c e))
 
 -- one reading of a text
-pub sealed_once : (a b left taken taken' : Option (List ℕ)) (s : Setting) (read read' wrote wrote' : ℕ) (r : Answer)
-    → IfSome a (λ x. left ≡ Some x)
+pub sealed_once : (a b left taken taken' : Option (List ℕ)) (s : Setting) (read read' wrote wrote' : ℕ)
+    (r : Answer) → IfSome a (λ x. left ≡ Some x)
     → WhereTextTold left taken taken' (λ x given. SealsStream s x given read read' wrote wrote' r)
-    → IfSome a (λ x. IfSome b (λ y. Took taken taken' (λ given. SealsOnce s x given r ⊎ SealsTwice s x y given r)))
+    → IfSome a (λ x. IfSome b
+    (λ y. Took taken taken' (λ given. SealsOnce s x given r ⊎ SealsTwice s x y given r)))
 sealed_once None b left taken taken' s read read' wrote wrote' r e h = tt
 sealed_once (Some x) None left taken taken' s read read' wrote wrote' r e h = tt
 sealed_once (Some x) (Some y) left None taken' s read read' wrote wrote' r e h = tt
 sealed_once (Some x) (Some y) left (Some t) taken' s read read' wrote wrote' r e h =
-    let P : Option (List ℕ) → Type 0 = λ l. WhereTextTold l (Some t) taken' (λ x given. SealsStream s x given read read' wrote wrote' r) in
+    let P : Option (List ℕ) → Type 0 = λ l. WhereTextTold l (Some t) taken'
+    (λ x given. SealsStream s x given read read' wrote wrote' r) in
     let k = subst P e h in
     (k.0, k.1, inl (record { read = read; read' = read'; wrote = wrote; wrote' = wrote'; is = k.2 }))
 
 -- two readings of a text
-pub sealed_twice : (a b left right taken taken' : Option (List ℕ)) (s : Setting) (before after : SivCounts) (r : Answer)
-    → IfSome a (λ x. left ≡ Some x) → IfSome b (λ y. right ≡ Some y)
+pub sealed_twice : (a b left right taken taken' : Option (List ℕ)) (s : Setting) (before after : SivCounts)
+    (r : Answer) → IfSome a (λ x. left ≡ Some x) → IfSome b (λ y. right ≡ Some y)
     → WhereBothTold left right taken taken' (λ x y given. SealsSivStream s x y given before after r)
-    → IfSome a (λ x. IfSome b (λ y. Took taken taken' (λ given. SealsOnce s x given r ⊎ SealsTwice s x y given r)))
+    → IfSome a (λ x. IfSome b
+    (λ y. Took taken taken' (λ given. SealsOnce s x given r ⊎ SealsTwice s x y given r)))
 sealed_twice None b left right taken taken' s before after r e f h = tt
 sealed_twice (Some x) None left right taken taken' s before after r e f h = tt
 sealed_twice (Some x) (Some y) left right None taken' s before after r e f h = tt
 sealed_twice (Some x) (Some y) left right (Some t) taken' s before after r e f h =
-    let P : Option (List ℕ) → Type 0 = λ l. WhereBothTold l right (Some t) taken' (λ x y given. SealsSivStream s x y given before after r) in
-    let Q : Option (List ℕ) → Type 0 = λ l. WhereBothTold (Some x) l (Some t) taken' (λ x y given. SealsSivStream s x y given before after r) in
+    let P : Option (List ℕ) → Type 0 = λ l. WhereBothTold l right (Some t) taken'
+    (λ x y given. SealsSivStream s x y given before after r) in
+    let Q : Option (List ℕ) → Type 0 = λ l. WhereBothTold (Some x) l (Some t) taken'
+    (λ x y given. SealsSivStream s x y given before after r) in
     let k = subst Q f (subst P e h) in
     (k.0, k.1, inr (record { before = before; after = after; is = k.2 }))
 
 -- three readings of sealed bytes
-pub opened_thrice : (a b c measure verify write taken taken' : Option (List ℕ)) (s : Setting) (before after : FailureCounts) (r : Answer)
-    → IfSome a (λ x. measure ≡ Some x) → IfSome b (λ y. verify ≡ Some y) → IfSome c (λ z. write ≡ Some z)
+pub opened_thrice : (a b c measure verify write taken taken' : Option (List ℕ)) (s : Setting)
+    (before after : FailureCounts) (r : Answer) → IfSome a (λ x. measure ≡ Some x)
+    → IfSome b (λ y. verify ≡ Some y) → IfSome c (λ z. write ≡ Some z)
     → WhereTold measure verify write taken taken' (λ m v w given. OpensStream s m v w given before after r)
-    → IfSome a (λ m. IfSome b (λ v. IfSome c (λ w. Took taken taken' (λ given. OpensThrice s m v w given r))))
+    → IfSome a (λ m. IfSome b
+    (λ v. IfSome c (λ w. Took taken taken' (λ given. OpensThrice s m v w given r))))
 opened_thrice None b c measure verify write taken taken' s before after r d e f h = tt
 opened_thrice (Some x) None c measure verify write taken taken' s before after r d e f h = tt
 opened_thrice (Some x) (Some y) None measure verify write taken taken' s before after r d e f h = tt
 opened_thrice (Some x) (Some y) (Some z) measure verify write None taken' s before after r d e f h = tt
 opened_thrice (Some x) (Some y) (Some z) measure verify write (Some t) taken' s before after r d e f h =
-    let T : List ℕ → List ℕ → List ℕ → List ℕ → Type 0 = λ m v w given. OpensStream s m v w given before after r in
+    let T : List ℕ → List ℕ → List ℕ → List ℕ → Type 0 = λ m v w given. OpensStream s m v w given before
+    after r in
     let P : Option (List ℕ) → Type 0 = λ l. WhereTold l verify write (Some t) taken' T in
     let Q : Option (List ℕ) → Type 0 = λ l. WhereTold (Some x) l write (Some t) taken' T in
     let R : Option (List ℕ) → Type 0 = λ l. WhereTold (Some x) (Some y) l (Some t) taken' T in
@@ -82,8 +135,8 @@ keeps_same (Some x) None e = absurd (cc)
 keeps_same (Some x) (Some y) e = (cc)
 
 -- a file holds all that was given, once nothing is pending
-pub holds_all : (P : List ℕ → Type 0) (taken taken' held : Option (List ℕ)) (pending : List ℕ) → Took taken taken' P
-    → Keeps taken' (append_known held pending) → pending ≡ [] → HoldsAll taken held P
+pub holds_all : (P : List ℕ → Type 0) (taken taken' held : Option (List ℕ)) (pending : List ℕ)
+    → Took taken taken' P → Keeps taken' (append_known held pending) → pending ≡ [] → HoldsAll taken held P
 holds_all P None taken' held pending t k e = tt
 holds_all P (Some x) None held pending t k e = absurd t.1
 holds_all P (Some x) (Some y) None pending t k e = absurd k
@@ -91,16 +144,20 @@ holds_all P (Some x) (Some y) (Some h) pending t k e =
     (t.0, ap Some (sym (append-nil h) ∙ ap (λ l. h ++ l) (sym e) ∙ k ∙ t.1), t.2)
 
 -- a file holds a beginning of what was given
-pub holds_start : (P : List ℕ → Type 0) (taken taken' held : Option (List ℕ)) (pending : List ℕ) → Took taken taken' P
-    → Keeps taken' (append_known held pending) → HoldsStart taken held P
+pub holds_start : (P : List ℕ → Type 0) (taken taken' held : Option (List ℕ)) (pending : List ℕ)
+    → Took taken taken' P → Keeps taken' (append_known held pending) → HoldsStart taken held P
 holds_start P None taken' held pending t k = tt
 holds_start P (Some x) None held pending t k = absurd t.1
 holds_start P (Some x) (Some y) None pending t k = absurd k
-holds_start P (Some x) (Some y) (Some h) pending t k =
-    (t.0, (h, refl, (length h, sym (take-append_seam h pending) ∙ ap (λ l. take (length h) l) (k ∙ t.1))), t.2)
+holds_start P (Some x) (Some y) (Some h) pending t k = (
+  t.0,
+  (h, refl, (length h, sym (take-append_seam h pending) ∙ ap (λ l. take (length h) l) (k ∙ t.1))),
+  t.2,
+)
 
 -- a file holds a beginning of what was taken before
-pub holds_nothing : (taken held : Option (List ℕ)) (pending : List ℕ) → Keeps taken (append_known held pending) → HoldsNothing taken held
+pub holds_nothing : (taken held : Option (List ℕ)) (pending : List ℕ)
+    → Keeps taken (append_known held pending) → HoldsNothing taken held
 holds_nothing None held pending k = tt
 holds_nothing (Some x) None pending k = absurd k
 holds_nothing (Some x) (Some h) pending k =
@@ -114,8 +171,9 @@ map_two (Some x) None X Y f h = tt
 map_two (Some x) (Some y) X Y f h = f x y h
 
 -- over three
-map_three : (a b c : Option (List ℕ)) (X Y : List ℕ → List ℕ → List ℕ → Type 0) → ((x y z : List ℕ) → X x y z → Y x y z)
-    → IfSome a (λ x. IfSome b (λ y. IfSome c (λ z. X x y z))) → IfSome a (λ x. IfSome b (λ y. IfSome c (λ z. Y x y z)))
+map_three : (a b c : Option (List ℕ)) (X Y : List ℕ → List ℕ → List ℕ → Type 0)
+    → ((x y z : List ℕ) → X x y z → Y x y z) → IfSome a (λ x. IfSome b (λ y. IfSome c (λ z. X x y z)))
+    → IfSome a (λ x. IfSome b (λ y. IfSome c (λ z. Y x y z)))
 map_three None b c X Y f h = tt
 map_three (Some x) None c X Y f h = tt
 map_three (Some x) (Some y) None X Y f h = tt
@@ -123,7 +181,8 @@ map_three (Some x) (Some y) (Some z) X Y f h = f x y z h
 
 -- what holds of a way of giving holds of a weaker one
 abbrev pub Weakens : (Giving → Setting → Answer → Type 0) → Type 1
-Weakens engine = (G H : Giving) → ((P : List ℕ → Type 0) → G P → H P) → (s : Setting) (r : Answer) → engine G s r → engine H s r
+Weakens engine = (G H : Giving) → ((P : List ℕ → Type 0) → G P → H P) → (s : Setting) (r : Answer)
+    → engine G s r → engine H s r
 
 -- of sealing
 pub sealing_weakens : (readings : ℕ → Option (List ℕ)) → Weakens (Sealing readings)
@@ -139,18 +198,20 @@ opening_weakens readings G H f s r h =
     (λ m v w. H (λ given. OpensThrice s m v w given r)) (λ m v w. f (λ given. OpensThrice s m v w given r)) h
 
 -- an engine that is done opened its files
-pub ran_ok : (engine : Giving → Setting → Answer → Type 0) (s : Setting) (taken taken' : Option (List ℕ)) (u : Unit {0})
-    → EngineRan engine s taken taken' (Ok u) → engine (Took taken taken') s (Ok u)
+pub ran_ok : (engine : Giving → Setting → Answer → Type 0) (s : Setting) (taken taken' : Option (List ℕ))
+    (u : Unit {0}) → EngineRan engine s taken taken' (Ok u) → engine (Took taken taken') s (Ok u)
 ran_ok engine s taken taken' u (inl h) = let no : ⊥ = elim h.0 [ inl e ↦ (cc) | inr e ↦ (cc) ] in absurd no
 ran_ok engine s taken taken' u (inr h) = h
 
 -- an engine's fault, under inputs that are ready
-pub ran_err : (engine : Giving → Setting → Answer → Type 0) (words : Inputs) (keyed : Keyed) (nonce aad body : List ℕ)
-    (taken taken' : Option (List ℕ)) (f : Fault) → IsReady words keyed nonce aad body
-    → EngineRan engine (setting keyed nonce aad) taken taken' (Err f)
-    → (NoCall words (OfFault f) × (taken' ≡ taken)) ⊎ CallFailed words (λ s e. engine (Took taken taken') s (Err e)) (OfFault f)
+pub ran_err : (engine : Giving → Setting → Answer → Type 0) (words : Inputs) (keyed : Keyed)
+    (nonce aad body : List ℕ) (taken taken' : Option (List ℕ)) (f : Fault)
+    → IsReady words keyed nonce aad body → EngineRan engine (setting keyed nonce aad) taken taken' (Err f)
+    → (NoCall words (OfFault f) × (taken' ≡ taken)) ⊎ CallFailed words
+    (λ s e. engine (Took taken taken') s (Err e)) (OfFault f)
 ran_err engine words keyed nonce aad body taken taken' f ready (inl h) =
-    let why : (OfFault f ≡ OfFault Read) ⊎ (OfFault f ≡ OfFault OutOfMemory) = elim h.0 [ inl e ↦ inl (cc) | inr e ↦ inr (cc) ] in
+    let why : (OfFault f ≡ OfFault Read) ⊎ (OfFault f ≡ OfFault OutOfMemory) = elim h.0
+    [ inl e ↦ inl (cc) | inr e ↦ inr (cc) ] in
     inl (inr why, h.1)
 ran_err engine words keyed nonce aad body taken taken' f ready (inr h) = inr (record {
   fault = f;
@@ -159,18 +220,21 @@ ran_err engine words keyed nonce aad body taken taken' f ready (inr h) = inr (re
 })
 
 -- a file command whose file is not named
-pub exit_name : (engine : Giving → Setting → Answer → Type 0) (words : Inputs) (taken held : Option (List ℕ)) (pending : List ℕ)
-    → append_known held pending ≡ taken → FileStopped engine words taken held (OfFault OutOfMemory)
-exit_name engine words taken held pending e = inl (inr (inr refl), holds_nothing taken held pending (keeps_same _ _ e))
+pub exit_name : (engine : Giving → Setting → Answer → Type 0) (words : Inputs) (taken held : Option (List ℕ))
+    (pending : List ℕ) → append_known held pending ≡ taken
+    → FileStopped engine words taken held (OfFault OutOfMemory)
+exit_name engine words taken held pending e = inl
+    (inr (inr refl), holds_nothing taken held pending (keeps_same _ _ e))
 
 -- one whose engine did not run, or answered a fault
-pub exit_err : (engine : Giving → Setting → Answer → Type 0) → Weakens engine → (words : Inputs) (taken named held : Option (List ℕ))
-    (pending : List ℕ) (e : Failure) → named ≡ taken → Ran engine words named (append_known held pending) (Err e)
-    → FileStopped engine words taken held e
+pub exit_err : (engine : Giving → Setting → Answer → Type 0) → Weakens engine
+    → (words : Inputs) (taken named held : Option (List ℕ)) (pending : List ℕ) (e : Failure) → named ≡ taken
+    → Ran engine words named (append_known held pending) (Err e) → FileStopped engine words taken held e
 exit_err engine weakens words taken named held pending e same (inl h) =
     inl (h.0, holds_nothing taken held pending (keeps_same _ _ (h.1 ∙ same)))
 exit_err engine weakens words taken named held pending e same (inr h) =
-    let P : Option (List ℕ) → Type 0 = λ t. engine (Took t (append_known held pending)) (setting h.call.keyed h.call.nonce h.call.aad) (Err h.fault) in
+    let P : Option (List ℕ) → Type 0 = λ t. engine (Took t (append_known held pending))
+    (setting h.call.keyed h.call.nonce h.call.aad) (Err h.fault) in
     inr (record {
       fault = h.fault;
       is = h.is;
@@ -182,13 +246,15 @@ exit_err engine weakens words taken named held pending e same (inr h) =
         ready = h.call.ready;
         is = inl (weakens (Took taken (append_known held pending)) (HoldsStart taken held)
             (λ Q t. holds_start Q taken (append_known held pending) held pending t
-            (keeps_same (append_known held pending) (append_known held pending) refl)) _ _ (subst P same h.call.is));
+            (keeps_same (append_known held pending) (append_known held pending) refl)) _ _
+            (subst P same h.call.is));
       };
     })
 
 -- one whose last writing failed
-pub exit_write : (engine : Giving → Setting → Answer → Type 0) → Weakens engine → (words : Inputs) (taken named given held : Option (List ℕ))
-    (pending : List ℕ) → named ≡ taken → IsCalled words (λ s. engine (Took named given) s (Ok tt)) → Keeps given (append_known held pending)
+pub exit_write : (engine : Giving → Setting → Answer → Type 0) → Weakens engine
+    → (words : Inputs) (taken named given held : Option (List ℕ)) (pending : List ℕ) → named ≡ taken
+    → IsCalled words (λ s. engine (Took named given) s (Ok tt)) → Keeps given (append_known held pending)
     → FileStopped engine words taken held (OfFault Write)
 exit_write engine weakens words taken named given held pending same h k =
     let P : Option (List ℕ) → Type 0 = λ t. engine (Took t given) (setting h.keyed h.nonce h.aad) (Ok tt) in
@@ -201,13 +267,18 @@ exit_write engine weakens words taken named given held pending same h k =
         aad = h.aad;
         body = h.body;
         ready = h.ready;
-        is = inr (refl, weakens (Took taken given) (HoldsStart taken held) (λ Q t. holds_start Q taken given held pending t k) _ _ (subst P same h.is));
+        is = inr (
+          refl,
+          weakens (Took taken given) (HoldsStart taken held)
+              (λ Q t. holds_start Q taken given held pending t k) _ _ (subst P same h.is),
+        );
       };
     })
 
 -- one that is done
-pub exit_done : (engine : Giving → Setting → Answer → Type 0) → Weakens engine → (words : Inputs) (taken named given held : Option (List ℕ))
-    (w : ℕ) (pending : List ℕ) → named ≡ taken → IsCalled words (λ s. engine (Took named given) s (Ok tt))
+pub exit_done : (engine : Giving → Setting → Answer → Type 0) → Weakens engine
+    → (words : Inputs) (taken named given held : Option (List ℕ)) (w : ℕ) (pending : List ℕ) → named ≡ taken
+    → IsCalled words (λ s. engine (Took named given) s (Ok tt))
     → Keeps given (append_known held (drop w pending)) → pending ≡ [] → FileDone engine words taken held
 exit_done engine weakens words taken named given held w pending same h k e =
     let P : Option (List ℕ) → Type 0 = λ t. engine (Took t given) (setting h.keyed h.nonce h.aad) (Ok tt) in
@@ -217,6 +288,7 @@ exit_done engine weakens words taken named given held w pending same h k e =
       aad = h.aad;
       body = h.body;
       ready = h.ready;
-      is = weakens (Took taken given) (HoldsAll taken held) (λ Q t. holds_all Q taken given held (drop w pending) t k (none_left w pending e)) _ _
+      is = weakens (Took taken given) (HoldsAll taken held)
+          (λ Q t. holds_all Q taken given held (drop w pending) t k (none_left w pending e)) _ _
           (subst P same h.is);
     }

@@ -1,11 +1,32 @@
 -- Bytes that are pending before they are written.
-use Rattle.std.proofs.Common.{◌≡◌, ℕ, List, [], ◌++◌, ◌+◌, ◌-◌, ◌≤◌, length, take, drop, ap, ◌∙◌, sym, append_assoc, Option, Some, None, subst}
+use Rattle.std.proofs.Common.{
+  ◌≡◌,
+  ℕ,
+  List,
+  [],
+  ◌++◌,
+  ◌+◌,
+  ◌-◌,
+  ◌≤◌,
+  length,
+  take,
+  drop,
+  ap,
+  ◌∙◌,
+  sym,
+  append_assoc,
+  Option,
+  Some,
+  None,
+  subst,
+}
 use Rattle.std.proofs.lemmas.List.{drop_all, drop-append-le, take_rest, take-append-drop}
 use Rattle.std.proofs.Math.Seq.{drop-drop}
 use Rattle.std.specs.Io.KnownBytes.{Appends, Keeps, append_known}
 
 -- of what is pending some were written
-pub wrote : (old new : Option (List ℕ)) (p q : List ℕ) (w n : ℕ) → q ≡ p → Appends old new (take n (take (length q - w) (drop w q)))
+pub wrote : (old new : Option (List ℕ)) (p q : List ℕ) (w n : ℕ) → q ≡ p
+    → Appends old new (take n (take (length q - w) (drop w q)))
     → Keeps (append_known old (drop w p)) (append_known new (drop (w + n) p))
 wrote None new p q w n e h = tt
 wrote (Some x) None p q w n e h = h
@@ -18,8 +39,8 @@ wrote (Some x) (Some y) p q w n e h =
     ∙ ap (λ l. x ++ l) (take-append-drop n (drop w p))
 
 -- all that was pending is written
-pub none_pending : (old new : Option (List ℕ)) (p : List ℕ) (w : ℕ) → length p ≤ w → Keeps old (append_known new (drop w p))
-    → Keeps old (append_known new [])
+pub none_pending : (old new : Option (List ℕ)) (p : List ℕ) (w : ℕ) → length p ≤ w
+    → Keeps old (append_known new (drop w p)) → Keeps old (append_known new [])
 none_pending old new p w h k = rw (← drop_all w p h) k
 
 -- one after another
@@ -30,8 +51,8 @@ keeps_more (Some x) (Some y) None p q = absurd q
 keeps_more (Some x) (Some y) (Some z) p q = q ∙ p
 
 -- more bytes are pending
-pub pends : (old held : Option (List ℕ)) (p x : List ℕ) (w : ℕ) → w ≤ length p → Keeps old (append_known held (drop w p))
-    → Appends old (append_known held (drop w (p ++ x))) x
+pub pends : (old held : Option (List ℕ)) (p x : List ℕ) (w : ℕ) → w ≤ length p
+    → Keeps old (append_known held (drop w p)) → Appends old (append_known held (drop w (p ++ x))) x
 pends None held p x w h k = tt
 pends (Some u) None p x w h k = absurd k
 pends (Some u) (Some v) p x w h k =

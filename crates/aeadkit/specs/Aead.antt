@@ -16,7 +16,8 @@ pub record IsSuite (word : List ℕ) : Type 0 where
   pub suite : Suite
   pub is : word ≡ suite_name suite
 
--- the words name a suite and spell a key, whatever its length, a nonce, associated data, and a text or sealed bytes
+-- the words name a suite and spell a key, whatever its length, a nonce, associated data, and a text or
+-- sealed bytes
 pub record IsSpelled (words : Inputs) (keyed : Keyed) (nonce aad body : List ℕ) : Type 0 where
   pub suite_is : words.suite.now ≡ suite_name keyed.suite
   pub key_is : Spells words.key.now keyed.key
@@ -69,7 +70,8 @@ pub record HasWrongNonce (words : Inputs) : Type 0 where
 
 -- some value is no hex
 abbrev pub HasBadHex : Inputs → Type 0
-HasBadHex words = IsBadHex words.key.now ⊎ (IsBadHex words.nonce.now ⊎ (IsBadHex words.aad.now ⊎ IsBadHex words.body.now))
+HasBadHex words = IsBadHex words.key.now
+    ⊎ (IsBadHex words.nonce.now ⊎ (IsBadHex words.aad.now ⊎ IsBadHex words.body.now))
 
 -- why the words give no inputs of a call
 abbrev pub InputsRefused : Inputs → Failure → Type 0
@@ -81,15 +83,16 @@ InputsRefused words (OfFault OutOfMemory) = ⊤
 InputsRefused words _ = ⊥
 
 -- the call is refused for the inputs that the words give, by its own rule
-pub record CallRefused (refused : Setting → List ℕ → Fault → Type 0) (words : Inputs) (e : Failure) : Type 0 where
-  pub keyed : Keyed
-  pub nonce : List ℕ
-  pub aad : List ℕ
-  pub body : List ℕ
-  pub ready : IsReady words keyed nonce aad body
-  pub fault : Fault
-  pub is : e ≡ OfFault fault
-  pub why : refused (setting keyed nonce aad) body fault
+pub record CallRefused (refused : Setting → List ℕ → Fault → Type 0) (words : Inputs) (e : Failure) : Type 0
+  where
+    pub keyed : Keyed
+    pub nonce : List ℕ
+    pub aad : List ℕ
+    pub body : List ℕ
+    pub ready : IsReady words keyed nonce aad body
+    pub fault : Fault
+    pub is : e ≡ OfFault fault
+    pub why : refused (setting keyed nonce aad) body fault
 
 -- why the words have no answer
 abbrev pub IsRefused : (Setting → List ℕ → Fault → Type 0) → Inputs → Failure → Type 0

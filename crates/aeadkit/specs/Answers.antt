@@ -7,7 +7,15 @@ use Rattle.octets.specs.declared.fault.Fault.TheVariants.{OutOfMemory, Write}
 use Rattle.aeadkit.specs.declared.failure.Failure.{Failure}
 use Rattle.aeadkit.specs.declared.failure.Failure.TheVariants.{Words as OfWords, Fault as OfFault}
 use Rattle.aeadkit.specs.declared.words.Request.{Request}
-use Rattle.aeadkit.specs.declared.words.Request.TheVariants.{Wrap, Unwrap, Seal, Open, SealFile, OpenFile, Check}
+use Rattle.aeadkit.specs.declared.words.Request.TheVariants.{
+  Wrap,
+  Unwrap,
+  Seal,
+  Open,
+  SealFile,
+  OpenFile,
+  Check,
+}
 use Rattle.aeadkit.specs.declared.words.Refusal.{Refusal}
 use Rattle.aeadkit.specs.declared.words.Refusal.TheVariants.{Help, Words, OutOfMemory as NoMemory}
 use Rattle.aead.specs.Refusals.{WholeSealRefused, WholeOpenRefused}
@@ -45,7 +53,8 @@ abbrev pub Answered : Surroundings → Request → ℕ → Type 0
 Answered s (Seal inputs) status = Printed (IsSealed inputs) s.before s.after status
 Answered s (Open inputs) status = Printed (IsOpened inputs) s.before s.after status
 Answered s (Wrap key text pad) status = Printed (IsWrapped pad key.now text.now) s.before s.after status
-Answered s (Unwrap key sealed pad) status = Printed (IsUnwrapped pad key.now sealed.now) s.before s.after status
+Answered s (Unwrap key sealed pad) status =
+    Printed (IsUnwrapped pad key.now sealed.now) s.before s.after status
 Answered s (SealFile w) status =
     FileDone (Sealing (s.files w.input.now)) w.inputs s.taken s.held × (s.after ≡ s.before) × (status ≡ 0)
 Answered s (OpenFile w) status =
@@ -57,7 +66,8 @@ abbrev pub Stopped : Surroundings → Request → Failure → Type 0
 Stopped s (Seal inputs) e = IsRefused WholeSealRefused inputs e ⊎ IsOutputFailure e
 Stopped s (Open inputs) e = IsRefused WholeOpenRefused inputs e ⊎ IsOutputFailure e
 Stopped s (Wrap key text pad) e = IsWrapRefused (WrapFault pad) key.now text.now e ⊎ IsOutputFailure e
-Stopped s (Unwrap key sealed pad) e = IsWrapRefused (UnwrapFault pad) key.now sealed.now e ⊎ IsOutputFailure e
+Stopped s (Unwrap key sealed pad) e =
+    IsWrapRefused (UnwrapFault pad) key.now sealed.now e ⊎ IsOutputFailure e
 Stopped s (SealFile w) e = FileStopped (Sealing (s.files w.input.now)) w.inputs s.taken s.held e
 Stopped s (OpenFile w) e = FileStopped (Opening (s.files w.input.now)) w.inputs s.taken s.held e
 Stopped s (Check path) e = FileRefused (s.files path.now 0) e ⊎ IsOutputFailure e
@@ -68,7 +78,8 @@ IsRefusedAs (Help text) result = MatchResult result (λ status. status ≡ 0) Is
 IsRefusedAs Words result = result ≡ Err OfWords
 IsRefusedAs NoMemory result = result ≡ Err (OfFault OutOfMemory)
 
--- what a run comes to, whatever its words: some request was answered or came to nothing, or the words are no request
+-- what a run comes to, whatever its words: some request was answered or came to nothing, or the words are no
+-- request
 abbrev pub HasOutcome : Surroundings → Result ℕ Failure → Type 0
 HasOutcome s outcome =
     ((request : Request) × MatchResult outcome (Answered s request) (Stopped s request))
@@ -80,10 +91,12 @@ outcome_status (Ok status) = status
 outcome_status (Err failure) = failure_status failure
 
 -- a run ends with this status; a file that was made holds blank at first
-pub record Ends (files : List ℕ → ℕ → Option (List ℕ)) (before after blank : Option (List ℕ)) (status : ℕ) : Type 0 where
+pub record Ends (files : List ℕ → ℕ → Option (List ℕ)) (before after blank : Option (List ℕ)) (status : ℕ)
+    : Type 0 where
   pub outcome : Result ℕ Failure
   pub taken : Option (List ℕ)
   pub held : Option (List ℕ)
   pub fresh : taken ≡ append_known blank []
-  pub right : HasOutcome (record { files = files; before = before; after = after; taken = taken; held = held }) outcome
+  pub right : HasOutcome
+      (record { files = files; before = before; after = after; taken = taken; held = held }) outcome
   pub status_is : status ≡ outcome_status outcome

@@ -53,7 +53,8 @@ Opening readings giving s r = IfSome (readings 0) (λ m. IfSome (readings 1) (λ
 
 -- the outlet took some bytes, with this property
 abbrev pub Took : Option (List ℕ) → Option (List ℕ) → Giving
-Took taken taken' P = IfSome taken (λ before. (given : List ℕ) × Appends (Some before) taken' given × P given)
+Took taken taken' P =
+    IfSome taken (λ before. (given : List ℕ) × Appends (Some before) taken' given × P given)
 
 -- a file holds, behind what was taken before, all bytes that were given; they have this property
 abbrev pub HoldsAll : Option (List ℕ) → Option (List ℕ) → Giving
@@ -62,7 +63,8 @@ HoldsAll taken held P = IfSome taken (λ before. (given : List ℕ) × (held ≡
 -- a file holds a beginning of that
 abbrev pub HoldsStart : Option (List ℕ) → Option (List ℕ) → Giving
 HoldsStart taken held P =
-    IfSome taken (λ before. (given : List ℕ) × ((h : List ℕ) × (held ≡ Some h) × IsBeginning h (before ++ given)) × P given)
+    IfSome taken (λ before. (given : List ℕ)
+    × ((h : List ℕ) × (held ≡ Some h) × IsBeginning h (before ++ given)) × P given)
 
 -- the words give the inputs of a call, for which this holds
 pub record IsCalled (words : Inputs) (P : Setting → Type 0) : Type 0 where
@@ -84,27 +86,34 @@ abbrev pub NoCall : Inputs → Failure → Type 0
 NoCall words e = InputsRefused words e ⊎ ((e ≡ OfFault Read) ⊎ (e ≡ OfFault OutOfMemory))
 
 -- an engine answered, or a file was not opened and nothing was given
-abbrev pub EngineRan : (Giving → Setting → Answer → Type 0) → Setting → Option (List ℕ) → Option (List ℕ) → Answer → Type 0
+abbrev pub EngineRan : (Giving → Setting → Answer → Type 0) → Setting → Option (List ℕ) → Option (List ℕ)
+    → Answer → Type 0
 EngineRan engine s taken taken' r =
     (((r ≡ Err Read) ⊎ (r ≡ Err OutOfMemory)) × (taken' ≡ taken)) ⊎ engine (Took taken taken') s r
 
 -- an engine ran over readings into an outlet, or there was no call and nothing was given
-abbrev pub Ran : (Giving → Setting → Answer → Type 0) → Inputs → Option (List ℕ) → Option (List ℕ) → Result (Unit {0}) Failure → Type 0
+abbrev pub Ran : (Giving → Setting → Answer → Type 0) → Inputs → Option (List ℕ) → Option (List ℕ)
+    → Result (Unit {0}) Failure → Type 0
 Ran engine words taken taken' r = MatchResult r
     (λ _. IsCalled words (λ s. engine (Took taken taken') s (Ok tt)))
-    (λ e. (NoCall words e × (taken' ≡ taken)) ⊎ CallFailed words (λ s f. engine (Took taken taken') s (Err f)) e)
+    (λ e. (NoCall words e × (taken' ≡ taken))
+    ⊎ CallFailed words (λ s f. engine (Took taken taken') s (Err f)) e)
 
 -- a file command is done: the file holds what the engine gave
-abbrev pub FileDone : (Giving → Setting → Answer → Type 0) → Inputs → Option (List ℕ) → Option (List ℕ) → Type 0
+abbrev pub FileDone : (Giving → Setting → Answer → Type 0) → Inputs → Option (List ℕ) → Option (List ℕ)
+    → Type 0
 FileDone engine words taken held = IsCalled words (λ s. engine (HoldsAll taken held) s (Ok tt))
 
 -- the file holds a beginning of what was taken before
 abbrev pub HoldsNothing : Option (List ℕ) → Option (List ℕ) → Type 0
 HoldsNothing taken held = IfSome taken (λ before. (h : List ℕ) × (held ≡ Some h) × IsBeginning h before)
 
--- a file command came to nothing: the file holds a beginning of what the engine gave, which answered this fault, or was done
+-- a file command came to nothing: the file holds a beginning of what the engine gave, which answered this
+-- fault, or was done
 -- where the last writing failed
-abbrev pub FileStopped : (Giving → Setting → Answer → Type 0) → Inputs → Option (List ℕ) → Option (List ℕ) → Failure → Type 0
+abbrev pub FileStopped : (Giving → Setting → Answer → Type 0) → Inputs → Option (List ℕ) → Option (List ℕ)
+    → Failure → Type 0
 FileStopped engine words taken held e =
     (NoCall words e × HoldsNothing taken held)
-    ⊎ CallFailed words (λ s f. engine (HoldsStart taken held) s (Err f) ⊎ ((f ≡ Write) × engine (HoldsStart taken held) s (Ok tt))) e
+    ⊎ CallFailed words (λ s f.
+    engine (HoldsStart taken held) s (Err f) ⊎ ((f ≡ Write) × engine (HoldsStart taken held) s (Ok tt))) e

@@ -40,7 +40,8 @@ WrapInputsRefused key body (OfFault OutOfMemory) = ⊤
 WrapInputsRefused key body _ = ⊥
 
 -- the call is refused for the bytes that are spelled, by its own rule
-pub record WrapCallRefused (refused : List ℕ → List ℕ → Fault → Type 0) (key body : List ℕ) (e : Failure) : Type 0 where
+pub record WrapCallRefused (refused : List ℕ → List ℕ → Fault → Type 0) (key body : List ℕ) (e : Failure)
+    : Type 0 where
   pub spelled : Spelled key body
   pub is_key : IsKey spelled.key_bytes
   pub fault : Fault

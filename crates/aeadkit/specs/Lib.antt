@@ -3,6 +3,7 @@ pub mod Answers
 pub mod Files
 pub mod Hex
 pub mod Keywrap
+pub mod Names
 pub mod NewFiles
 pub mod Reports
 pub mod Statuses

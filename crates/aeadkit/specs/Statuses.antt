@@ -5,9 +5,16 @@ use Rattle.octets.specs.declared.fault.Fault.TheVariants as fault
 use Rattle.vectors.specs.declared.fault.VectorFault.{VectorFault}
 use Rattle.vectors.specs.declared.fault.VectorFault.TheVariants as vector
 use Rattle.aeadkit.specs.declared.failure.Failure.{Failure}
-use Rattle.aeadkit.specs.declared.failure.Failure.TheVariants.{Words, UnknownSuite, BadHex, Fault as OfFault, Vector as OfVector}
+use Rattle.aeadkit.specs.declared.failure.Failure.TheVariants.{
+  Words,
+  UnknownSuite,
+  BadHex,
+  Fault as OfFault,
+  Vector as OfVector,
+}
 
--- 1: the bytes are no sealing or wrapping; 2: an input is of no use; 3: a reading or a writing failed; 4: want of memory
+-- 1: the bytes are no sealing or wrapping; 2: an input is of no use; 3: a reading or a writing failed;
+-- 4: want of memory
 abbrev pub fault_status : Fault → ℕ
 fault_status fault.TooShort = 1
 fault_status fault.TagMismatch = 1
@@ -28,7 +35,8 @@ abbrev pub vector_status : VectorFault → ℕ
 vector_status vector.OutOfMemory = 4
 vector_status _ = 1
 
--- the status of a failure: a call's fault has its own, and words, names and digits of no use are an input of no use
+-- the status of a failure: a call's fault has its own, and words, names and digits of no use are an input of
+-- no use
 abbrev pub failure_status : Failure → ℕ
 failure_status Words = 2
 failure_status UnknownSuite = 2

@@ -31,7 +31,8 @@ impl<R: Env> Env for Behind<'_, R> {
     }
 }
 
-/// The words behind the program's name. `Words` where one is not UTF-8, `OutOfMemory` where a growth is refused.
+/// The words behind the program's name. `Words` where one is not UTF-8, `OutOfMemory` where a growth is
+/// refused.
 pub fn words_given<R: Env>(alloc: Global, runtime: &R) -> Result<Vec<String>, Failure> {
     let words = env::args(&(Behind { runtime }, alloc)).map_err(|error| match error.kind() {
         io::ErrorKind::OutOfMemory => Failure::Fault(Fault::OutOfMemory),

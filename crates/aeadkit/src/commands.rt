@@ -5,7 +5,8 @@ ghost use Rattle.aead.specs.Refusals.{WholeSealRefused, WholeOpenRefused};
 ghost use Rattle.aeadkit.specs.Aead.{IsReady, IsSealed, IsOpened, InputsRefused, IsRefused};
 ghost use Rattle.aeadkit.specs.Hex.{Spells, IsBadHex};
 ghost use Rattle.aeadkit.specs.Reports.{IsReportOf, FileRefused};
-ghost use Rattle.aeadkit.specs.Keywrap.{Wraps, IsWrapped, IsUnwrapped, IsWrapRefused, WrapFault, UnwrapFault};
+ghost use Rattle.aeadkit.specs.Keywrap.{Wraps, IsWrapped, IsUnwrapped, IsWrapRefused, WrapFault};
+ghost use Rattle.aeadkit.specs.Keywrap.{UnwrapFault};
 ghost use Rattle.aeadkit.specs.declared.failure.Failure.TheVariants.{BadHex, Fault as OfFault};
 ghost use Rattle.octets.specs.declared.fault.Fault.TheVariants.{OutOfMemory, Read as OfRead};
 
@@ -20,7 +21,8 @@ use std::alloc::Allocator;
 use std::io::Read;
 use vectors::Report;
 
-/// The bytes that a value given for hexadecimal spells. `BadHex` where it is not an even number of hex digits.
+/// The bytes that a value given for hexadecimal spells. `BadHex` where it is not an even number of hex
+/// digits.
 fn decoded<A: Allocator>(alloc: A, digits: &str) -> Result<Vec<u8, A>, Failure>
     ensures { MatchResult result (λ v. Spells digits.now v.items)
         (λ e. (e ≡ OfFault OutOfMemory) ⊎ ((e ≡ BadHex) × IsBadHex digits.now)) }
@@ -54,7 +56,8 @@ fn unwrapped<A: Allocator>(
     sealed: &[u8],
     pad: bool,
 ) -> Result<Vec<u8, A>, Fault>
-    ensures { MatchResult result (λ v. Wraps pad key.now sealed.now v.items) (UnwrapFault pad key.now sealed.now) }
+    ensures { MatchResult result (λ v. Wraps pad key.now sealed.now v.items)
+        (UnwrapFault pad key.now sealed.now) }
 {
     if pad {
         keywrap::unwrap_padded(alloc, key, sealed)
@@ -63,8 +66,8 @@ fn unwrapped<A: Allocator>(
     }
 }
 
-/// `wrap`: the wrapping of a text, with padding or without. In this order: `BadHex` for the key, then for the text, `KeyLength`, and the
-/// refusals of the call.
+/// `wrap`: the wrapping of a text, with padding or without. In this order: `BadHex` for the key, then for
+/// the text, `KeyLength`, and the refusals of the call.
 pub fn wrap<'a, A: Allocator>(
     alloc: &'a A,
     key: &str,
@@ -80,8 +83,8 @@ pub fn wrap<'a, A: Allocator>(
     Ok(wrapped(alloc, &key, &text_bytes, pad)?)
 }
 
-/// `unwrap`: the text of a wrapping, with padding or without. In this order: `BadHex` for the key, then for the wrapping, `KeyLength`, and the
-/// refusals of the call.
+/// `unwrap`: the text of a wrapping, with padding or without. In this order: `BadHex` for the key, then for
+/// the wrapping, `KeyLength`, and the refusals of the call.
 pub fn unwrap<'a, A: Allocator>(
     alloc: &'a A,
     key: &str,
@@ -106,8 +109,8 @@ pub struct Prepared<A: Allocator> {
     pub body: Vec<u8, A>,
 }
 
-/// The inputs that the words give. In this order: `UnknownSuite`, `BadHex` for the key, the nonce, the associated data
-/// and the body, `KeyLength`, `NonceLength`.
+/// The inputs that the words give. In this order: `UnknownSuite`, `BadHex` for the key, the nonce, the
+/// associated data and the body, `KeyLength`, `NonceLength`.
 pub fn prepare<'a, A: Allocator>(
     alloc: &'a A,
     words: &Inputs<'_>,

@@ -7,29 +7,42 @@ ghost use Rattle.octets.specs.declared.fault.Fault.TheVariants.{OutOfMemory};
 
 use octets::Fault;
 use std::alloc::AllocError;
-use std::io;
 use std::io::ErrorKind;
+use std::{fmt, io};
 use thiserror::Error;
 use vectors::VectorFault;
 
-/// Why the program stops. `Display` is what stands behind `aeadkit: ` on standard error.
+/// Why the program stops. `Display` writes what stands behind `aeadkit: ` on standard error: a name, or the
+/// text of a fault.
 #[derive(Clone, Copy, Debug, PartialEq, Eq, Drop, Error)]
 pub enum Failure {
     /// The words are no command line of the program.
-    #[error("Words")]
     Words,
     /// The name is no suite's.
-    #[error("UnknownSuite")]
     UnknownSuite,
     /// A value given for hexadecimal is not an even number of hex digits.
-    #[error("BadHex")]
     BadHex,
     /// A call refused, a reading or a writing failed, or memory was wanting.
-    #[error(transparent)]
     Fault(Fault),
     /// A file has no report.
-    #[error(transparent)]
     Vector(VectorFault),
+}
+
+impl fmt::Display for Failure {
+    ghost use Rattle.std.specs.Prelude.{Some};
+    ghost use Rattle.aeadkit.specs.Names.{failure_text};
+
+    ghost output = { λ failure. Some (failure_text failure) };
+
+    fn fmt<W: fmt::Write>(&self, f: &mut fmt::Formatter<W>) -> fmt::Result {
+        match self {
+            Failure::Words => f.write_str("Words"),
+            Failure::UnknownSuite => f.write_str("UnknownSuite"),
+            Failure::BadHex => f.write_str("BadHex"),
+            Failure::Fault(fault) => write!(f, "{fault}"),
+            Failure::Vector(fault) => write!(f, "{fault}"),
+        }
+    }
 }
 
 impl Failure {
@@ -97,7 +110,8 @@ impl From<AllocError> for Failure {
     }
 }
 
-/// What a failed reading or writing comes to: want of memory where that is its kind, and else the given fault.
+/// What a failed reading or writing comes to: want of memory where that is its kind, and else the given
+/// fault.
 pub fn fault_of(error: &io::Error, otherwise: Fault) -> Fault
     ensures memory { error_kind error.now ≡ ErrorKind.OutOfMemory → result ≡ Fault.OutOfMemory }
     ensures either { (result ≡ Fault.OutOfMemory) ⊎ (result ≡ otherwise) }

@@ -51,7 +51,8 @@ fn seal_once<A: Allocator, F: Storage, O: Outlet>(
     aad: &[u8],
     out: &mut O,
 ) -> Result<(), Fault>
-    ensures { EngineRan (Sealing (F.contents files.now path.now)) (setting (one_pass_keyed cipher.now) nonce.now aad.now)
+    ensures { EngineRan (Sealing (F.contents files.now path.now))
+        (setting (one_pass_keyed cipher.now) nonce.now aad.now)
         (O.taken out.old) (O.taken out.new) result }
 {
     let mut text = reading(alloc, files, path, 0)?;
@@ -86,7 +87,8 @@ fn seal_by<A: Allocator, F: Storage, O: Outlet>(
     aad: &[u8],
     out: &mut O,
 ) -> Result<(), Fault>
-    ensures { EngineRan (Sealing (F.contents files.now path.now)) (setting (keyed_of cipher.now) nonce.now aad.now)
+    ensures { EngineRan (Sealing (F.contents files.now path.now))
+        (setting (keyed_of cipher.now) nonce.now aad.now)
         (O.taken out.old) (O.taken out.new) result }
 {
     match cipher {
@@ -105,7 +107,8 @@ fn open_by<A: Allocator, F: Storage, O: Outlet>(
     aad: &[u8],
     out: &mut O,
 ) -> Result<(), Fault>
-    ensures { EngineRan (Opening (F.contents files.now path.now)) (setting (keyed_of cipher.now) nonce.now aad.now)
+    ensures { EngineRan (Opening (F.contents files.now path.now))
+        (setting (keyed_of cipher.now) nonce.now aad.now)
         (O.taken out.old) (O.taken out.new) result }
 {
     let mut measure = reading(alloc, files, path, 0)?;
@@ -129,7 +132,8 @@ fn seal<A: Allocator, F: Storage, O: Outlet>(
     words: &FileWords<'_>,
     out: &mut O,
 ) -> Result<(), Failure>
-    ensures { Ran (Sealing (F.contents files.now words.now.input.now)) words.now.inputs (O.taken out.old) (O.taken out.new) result }
+    ensures { Ran (Sealing (F.contents files.now words.now.input.now)) words.now.inputs (O.taken out.old)
+        (O.taken out.new) result }
 {
     let inputs = prepare(alloc, &words.inputs)?;
     Ok(seal_by(
@@ -150,7 +154,8 @@ fn open<A: Allocator, F: Storage, O: Outlet>(
     words: &FileWords<'_>,
     out: &mut O,
 ) -> Result<(), Failure>
-    ensures { Ran (Opening (F.contents files.now words.now.input.now)) words.now.inputs (O.taken out.old) (O.taken out.new) result }
+    ensures { Ran (Opening (F.contents files.now words.now.input.now)) words.now.inputs (O.taken out.old)
+        (O.taken out.new) result }
 {
     let inputs = prepare(alloc, &words.inputs)?;
     Ok(open_by(
@@ -164,9 +169,10 @@ fn open<A: Allocator, F: Storage, O: Outlet>(
     )?)
 }
 
-/// `seal-file`: seals a file into another, and answers status 0. In this order: the refusals of the inputs, `Read` where the
-/// file can't be opened, `AadTooLong`, `TextTooLong` once more than the suite's limit was read, `Read`, `Write`, and for
-/// AES-GCM-SIV `SourceChanged`. Then the written file holds a beginning of what it should hold, or was not made.
+/// `seal-file`: seals a file into another, and answers status 0. In this order: the refusals of the inputs,
+/// `Read` where the file can't be opened, `AadTooLong`, `TextTooLong` once more than the suite's limit was
+/// read, `Read`, `Write`, and for AES-GCM-SIV `SourceChanged`. Then the written file holds a beginning of
+/// what it should hold, or was not made.
 pub fn seal_file<'a, A: Allocator, B: Allocator, F: Storage>(
     alloc: &A,
     files: &F,
@@ -175,9 +181,11 @@ pub fn seal_file<'a, A: Allocator, B: Allocator, F: Storage>(
 ) -> Result<u8, Failure>
     ensures answer { MatchResult result
         (λ _. FileDone (Sealing (F.contents files.now words.now.input.now)) words.now.inputs
-        (⟦<NewFile<'a, F, B> as Outlet>⟧.taken file.old) (held (F.blank file.new.files.now) F.Output.contents file.new.file))
+        (⟦<NewFile<'a, F, B> as Outlet>⟧.taken file.old)
+        (held (F.blank file.new.files.now) F.Output.contents file.new.file))
         (FileStopped (Sealing (F.contents files.now words.now.input.now)) words.now.inputs
-        (⟦<NewFile<'a, F, B> as Outlet>⟧.taken file.old) (held (F.blank file.new.files.now) F.Output.contents file.new.file)) }
+        (⟦<NewFile<'a, F, B> as Outlet>⟧.taken file.old)
+        (held (F.blank file.new.files.now) F.Output.contents file.new.file)) }
     ensures status { IfOk result (λ status. status ≡ 0) }
 {
     file.name(words.output)?;
@@ -186,10 +194,10 @@ pub fn seal_file<'a, A: Allocator, B: Allocator, F: Storage>(
     Ok(0)
 }
 
-/// `open-file`: opens a sealed file into another, and answers status 0. In this order: the refusals of the inputs, `Read` where
-/// the file can't be opened, `AadTooLong`, then those of its three readings. Nothing is written before a whole reading was
-/// found to be a sealing. After `SourceChanged`, `Read` and `Write` the written file holds a beginning of a text, which is to
-/// be thrown away, or was not made.
+/// `open-file`: opens a sealed file into another, and answers status 0. In this order: the refusals of the
+/// inputs, `Read` where the file can't be opened, `AadTooLong`, then those of its three readings. Nothing is
+/// written before a whole reading was found to be a sealing. After `SourceChanged`, `Read` and `Write` the
+/// written file holds a beginning of a text, which is to be thrown away, or was not made.
 pub fn open_file<'a, A: Allocator, B: Allocator, F: Storage>(
     alloc: &A,
     files: &F,
@@ -198,9 +206,11 @@ pub fn open_file<'a, A: Allocator, B: Allocator, F: Storage>(
 ) -> Result<u8, Failure>
     ensures answer { MatchResult result
         (λ _. FileDone (Opening (F.contents files.now words.now.input.now)) words.now.inputs
-        (⟦<NewFile<'a, F, B> as Outlet>⟧.taken file.old) (held (F.blank file.new.files.now) F.Output.contents file.new.file))
+        (⟦<NewFile<'a, F, B> as Outlet>⟧.taken file.old)
+        (held (F.blank file.new.files.now) F.Output.contents file.new.file))
         (FileStopped (Opening (F.contents files.now words.now.input.now)) words.now.inputs
-        (⟦<NewFile<'a, F, B> as Outlet>⟧.taken file.old) (held (F.blank file.new.files.now) F.Output.contents file.new.file)) }
+        (⟦<NewFile<'a, F, B> as Outlet>⟧.taken file.old)
+        (held (F.blank file.new.files.now) F.Output.contents file.new.file)) }
     ensures status { IfOk result (λ status. status ≡ 0) }
 {
     file.name(words.output)?;

@@ -1,5 +1,6 @@
 //! The file that a command writes.
-ghost use Rattle.std.specs.Prelude.{◌≡◌, ◌<◌, ◌≤◌, ◌-◌, [], true, is_some, ◌++◌, drop, length, vec_len, OnOk, OnErr, IfErr};
+ghost use Rattle.std.specs.Prelude.{◌≡◌, ◌<◌, ◌≤◌, ◌-◌, [], true, is_some, ◌++◌, drop, length, vec_len};
+ghost use Rattle.std.specs.Prelude.{OnOk, OnErr, IfErr};
 ghost use Rattle.std.specs.Io.KnownBytes.{Keeps, WriteAppends, append_known};
 ghost use Rattle.octets.specs.Device.{GivesSome};
 ghost use Rattle.aeadkit.specs.NewFiles.{held};
@@ -12,8 +13,9 @@ use std::io::Write;
 /// How many bytes are kept before they are written.
 const PENDING: usize = 65536;
 
-/// A file that is made, or cut to nothing, when its first byte is given, and at the end where none was. Bytes are
-/// written once many are pending. A failure of the system, an interrupted call too, is a failure of the device.
+/// A file that is made, or cut to nothing, when its first byte is given, and at the end where none was.
+/// Bytes are written once many are pending. A failure of the system, an interrupted call too, is a failure
+/// of the device.
 #[derive(Drop)]
 pub struct NewFile<'a, F: Storage, A: Allocator> {
     files: &'a F,
@@ -42,7 +44,8 @@ impl<'a, F: Storage, A: Allocator> NewFile<'a, F, A> {
 
     /// Names the file, and takes memory for what will be pending.
     pub fn name(&mut self, path: &'a str) -> Result<(), AllocError>
-        ensures taken { ⟦<NewFile<'a, F, A> as Outlet>⟧.taken self.new ≡ ⟦<NewFile<'a, F, A> as Outlet>⟧.taken self.old }
+        ensures taken { ⟦<NewFile<'a, F, A> as Outlet>⟧.taken self.new
+            ≡ ⟦<NewFile<'a, F, A> as Outlet>⟧.taken self.old }
         ensures pending { self.new.pending.items ≡ self.old.pending.items }
     {
         self.path = path;
@@ -52,7 +55,8 @@ impl<'a, F: Storage, A: Allocator> NewFile<'a, F, A> {
     /// Makes the file where it is not made.
     fn make(&mut self) -> Result<(), DeviceFault>
         ensures made { OnOk result (is_some self.new.file ≡ true) }
-        ensures taken { Keeps (⟦<NewFile<'a, F, A> as Outlet>⟧.taken self.old) (⟦<NewFile<'a, F, A> as Outlet>⟧.taken self.new) }
+        ensures taken { Keeps (⟦<NewFile<'a, F, A> as Outlet>⟧.taken self.old)
+            (⟦<NewFile<'a, F, A> as Outlet>⟧.taken self.new) }
         ensures pending { self.new.pending ≡ self.old.pending }
         ensures written { self.new.written ≡ self.old.written }
         ensures failed { self.new.failed ≡ self.old.failed }
@@ -69,7 +73,8 @@ impl<'a, F: Storage, A: Allocator> NewFile<'a, F, A> {
     /// Writes some of what is pending.
     fn write_some(&mut self) -> Result<(), DeviceFault>
         requires { self.old.written < vec_len self.old.pending }
-        ensures taken { Keeps (⟦<NewFile<'a, F, A> as Outlet>⟧.taken self.old) (⟦<NewFile<'a, F, A> as Outlet>⟧.taken self.new) }
+        ensures taken { Keeps (⟦<NewFile<'a, F, A> as Outlet>⟧.taken self.old)
+            (⟦<NewFile<'a, F, A> as Outlet>⟧.taken self.new) }
         ensures pending { self.new.pending ≡ self.old.pending }
         ensures written { OnOk result (self.old.written < self.new.written) }
         ensures failed { self.new.failed ≡ self.old.failed }
@@ -89,7 +94,8 @@ impl<'a, F: Storage, A: Allocator> NewFile<'a, F, A> {
     /// Writes what is pending.
     #[tactic(auto, using(crate::proofs::NewFileLemmas::none_pending, crate::proofs::NewFileLemmas::keeps_more))]
     fn write_pending(&mut self) -> Result<(), DeviceFault>
-        ensures taken { Keeps (⟦<NewFile<'a, F, A> as Outlet>⟧.taken self.old) (⟦<NewFile<'a, F, A> as Outlet>⟧.taken self.new) }
+        ensures taken { Keeps (⟦<NewFile<'a, F, A> as Outlet>⟧.taken self.old)
+            (⟦<NewFile<'a, F, A> as Outlet>⟧.taken self.new) }
         ensures none_left { OnOk result (self.new.pending.items ≡ []) }
         ensures empty { OnOk result (vec_len self.new.pending ≡ 0) }
         ensures failed { self.new.failed ≡ self.old.failed }
@@ -121,7 +127,8 @@ impl<'a, F: Storage, A: Allocator> NewFile<'a, F, A> {
     #[tactic(auto, using(crate::proofs::NewFileLemmas::pends, crate::proofs::NewFileLemmas::keeps_more))]
     fn keep(&mut self, bytes: &[u8]) -> Result<usize, DeviceFault>
         ensures bound { GivesSome result bytes.now }
-        ensures taken { WriteAppends (⟦<NewFile<'a, F, A> as Outlet>⟧.taken self.old) (⟦<NewFile<'a, F, A> as Outlet>⟧.taken self.new) result bytes.now }
+        ensures taken { WriteAppends (⟦<NewFile<'a, F, A> as Outlet>⟧.taken self.old)
+            (⟦<NewFile<'a, F, A> as Outlet>⟧.taken self.new) result bytes.now }
         ensures failed { self.new.failed ≡ self.old.failed }
     {
         if bytes.is_empty() {
@@ -136,10 +143,12 @@ impl<'a, F: Storage, A: Allocator> NewFile<'a, F, A> {
         Ok(room)
     }
 
-    /// Makes the file where no byte was given, writes what is pending, and has the system take it. The only fault is `Write`.
+    /// Makes the file where no byte was given, writes what is pending, and has the system take it. The only
+    /// fault is `Write`.
     #[tactic(auto, using(crate::proofs::NewFileLemmas::keeps_more))]
     pub fn finish(&mut self) -> Result<(), Fault>
-        ensures taken { Keeps (⟦<NewFile<'a, F, A> as Outlet>⟧.taken self.old) (⟦<NewFile<'a, F, A> as Outlet>⟧.taken self.new) }
+        ensures taken { Keeps (⟦<NewFile<'a, F, A> as Outlet>⟧.taken self.old)
+            (⟦<NewFile<'a, F, A> as Outlet>⟧.taken self.new) }
         ensures made { OnOk result (is_some self.new.file ≡ true) }
         ensures none_left { OnOk result (self.new.pending.items ≡ []) }
         ensures fault { IfErr result (λ e. e ≡ Fault.Write) }
@@ -155,7 +164,8 @@ impl<'a, F: Storage, A: Allocator> NewFile<'a, F, A> {
 }
 
 impl<F: Storage, A: Allocator> Outlet for NewFile<'_, F, A> {
-    ghost taken = { λ s. append_known (held (F.blank s.files.now) F.Output.contents s.file) (drop s.written s.pending.items) };
+    ghost taken = { λ s. append_known (held (F.blank s.files.now) F.Output.contents s.file)
+        (drop s.written s.pending.items) };
 
     ghost failures = { λ s. s.failed };
 

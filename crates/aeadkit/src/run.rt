@@ -1,7 +1,8 @@
 //! The program, over a writer for each stream.
 ghost use Rattle.std.specs.Prelude.{◌≤◌, ◌≡◌, IfOk, MatchResult, string_bytes};
 ghost use Rattle.std.specs.Io.KnownBytes.{Appends};
-ghost use Rattle.aeadkit.specs.Answers.{Surroundings, Answered, Stopped, IsOutputFailure, IsRefusedAs, HasOutcome, Ends};
+ghost use Rattle.aeadkit.specs.Answers.{Surroundings, Answered, Stopped, IsOutputFailure, IsRefusedAs};
+ghost use Rattle.aeadkit.specs.Answers.{HasOutcome, Ends};
 ghost use Rattle.aeadkit.specs.Hex.{hex_line};
 ghost use Rattle.aeadkit.specs.NewFiles.{held};
 ghost use Rattle.aeadkit.specs.Reports.{report_text};
@@ -64,15 +65,17 @@ fn print_report<A: Allocator, W: Write>(
     bad: &[u64],
 ) -> Result<u8, Failure>
     ensures { MatchResult result
-        (λ status. (status ≡ 0) × Appends (W.contents out.old) (W.contents out.new) (report_text records bad.now))
+        (λ status. (status ≡ 0) × Appends (W.contents out.old) (W.contents out.new)
+        (report_text records bad.now))
         IsOutputFailure }
 {
     let text = report_text(alloc, records, bad)?;
     print(out, &text)
 }
 
-/// Does what a request asks for: prints its answer, and answers the status, 0 or for a file with bad records 1. In this
-/// order: the refusals of its values, those of the call, `Write`; `OutOfMemory` wherever a growth is refused.
+/// Does what a request asks for: prints its answer, and answers the status, 0, or 1 for a file with bad
+/// records. In this order: the refusals of its values, those of the call, `Write`; `OutOfMemory` wherever a
+/// growth is refused.
 pub fn perform<'a, A: Allocator, B: Allocator, F: Storage, W: Write>(
     alloc: &A,
     files: &F,
@@ -134,7 +137,8 @@ fn refuse<W: Write>(alloc: Global, refusal: &Refusal, out: &mut W) -> Result<u8,
     }
 }
 
-/// Says on standard error why the program stops, and answers the status. A failing standard error changes nothing.
+/// Says on standard error why the program stops, and answers the status. A failing standard error changes
+/// nothing.
 pub fn report<E: Write>(err: &mut E, failure: Failure) -> u8
     ensures value { result ≡ failure_status failure }
     ensures bound { result ≤ 4 }
@@ -166,9 +170,10 @@ fn answer<'a, S: AsStr, F: Storage, W: Write>(
     }
 }
 
-/// Runs the program on the words behind its name, and answers its status: 0 where it is done, 1 where bytes are no
-/// sealing or wrapping, or a vector file has a fault or a bad record, 2 where the words or a value are of no use, 3 where
-/// a reading or a writing failed, 4 for want of memory. A failing standard error changes no status.
+/// Runs the program on the words behind its name, and answers its status: 0 where it is done, 1 where bytes
+/// are no sealing or wrapping, or a vector file has a fault or a bad record, 2 where the words or a value
+/// are of no use, 3 where a reading or a writing failed, 4 for want of memory. A failing standard error
+/// changes no status.
 pub fn run<S: AsStr, F: Storage, W: Write, E: Write>(
     alloc: Global,
     files: &F,
@@ -177,7 +182,8 @@ pub fn run<S: AsStr, F: Storage, W: Write, E: Write>(
     err: &mut E,
 ) -> u8
     // Whatever the words, it ends as some request does, or as help or a refusal of the words.
-    ensures ends { Ends (F.contents files.now) (W.contents out.old) (W.contents out.new) (F.blank files.now) result }
+    ensures ends { Ends (F.contents files.now) (W.contents out.old) (W.contents out.new) (F.blank files.now)
+        result }
     ensures bound { result ≤ 4 }
 {
     let mut file = NewFile::new(alloc, files);

@@ -16,7 +16,8 @@ pub trait Storage {
     /// A file that is open for writing.
     type Output: Write + Drop;
 
-    // The bytes that a file gives in a reading, where they are told. A request's readings are counted from 0.
+    // The bytes that a file gives in a reading, where they are told. A request's readings are counted from
+    // 0.
     ghost contents: { Self → List ℕ → ℕ → Option (List ℕ) } = { λ _ _ _. None };
 
     // What a file holds once it was made, where that is told.
@@ -25,7 +26,8 @@ pub trait Storage {
     /// Opens a file for a reading, at its beginning.
     fn open(&self, path: &str, reading: u8) -> io::Result<Self::Input>
         ensures { IfOk result (λ input.
-            IfSome (contents self.now path.now reading) (λ bytes. Self.Input.remaining input ≡ Some bytes)) };
+            IfSome (contents self.now path.now reading)
+            (λ bytes. Self.Input.remaining input ≡ Some bytes)) };
 
     /// Makes a file, or cuts it to nothing.
     fn create(&self, path: &str) -> io::Result<Self::Output>

@@ -1,10 +1,12 @@
 //! Rows of the program, as runs on words.
 mod checks;
 mod devices;
+mod failing_files;
 mod files;
 mod growths;
 mod helps;
 mod published;
+mod scripted;
 mod seals;
 mod vector_files;
 mod wraps;

@@ -52,7 +52,8 @@ pub struct Inputs<'a> {
     pub body: &'a str,
 }
 
-/// The inputs of a file command, without a body, and the paths of the file that is read and of the one that is written.
+/// The inputs of a file command, without a body, and the paths of the file that is read and of the one that
+/// is written.
 #[derive(Drop)]
 pub struct FileWords<'a> {
     pub inputs: Inputs<'a>,

@@ -1,14 +1,15 @@
-//! `seal-file` and `open-file`.
+//! `seal-file` and `open-file` on the system's files, each test in a folder of its own.
 use super::published::{CHACHA, GCM, Vector};
-use super::runs_over;
+use super::{refuses, runs_over};
 use crate::storage::Disk;
 use std::alloc::Global;
 use std::fs;
 use std::process::Abort;
+use std::rt::Files;
 use std::test::Fail;
 
 /// The words of a file command under a vector's inputs.
-fn file_words<'a>(
+pub fn file_words<'a>(
     name: &'a str,
     vector: &Vector<'a>,
     input: &'a str,
@@ -32,99 +33,108 @@ fn file_words<'a>(
 }
 
 /// The bytes that hex digits spell.
-fn bytes(rt: &(impl Abort + Alloc<A = Global>), digits: &str) -> Vec<u8> {
+pub fn bytes(rt: &(impl Abort + Alloc<A = Global>), digits: &str) -> Vec<u8> {
     hex::decode(rt.alloc(), digits).expect(rt, "digits")
 }
 
-/// Sealing a file and opening the result gives the text; the same text for both paths is `Words`; bytes that are no sealing
-/// make no file; an empty text makes an empty one.
-#[test]
-fn system_files(rt: HostRuntime) -> Result<(), Fail> {
-    let files = Disk::new(&rt);
-    let _ = fs::remove_dir_all(&rt, "aeadkit_files");
-    fs::create_dir(&rt, "aeadkit_files")?;
-    let text = "aeadkit_files/text";
-    let sealed = "aeadkit_files/sealed";
-    let opened = "aeadkit_files/opened";
-    fs::write(&rt, text, bytes(&rt, CHACHA.text).as_slice())?;
-    runs_over(
-        &rt,
-        &files,
-        &file_words("seal-file", &CHACHA, text, sealed),
-        0,
-        "",
-        "",
-    );
-    let mut kept = fs::read(&rt, sealed)?;
-    assert!(rt; kept.as_slice() == bytes(&rt, CHACHA.sealed).as_slice());
-    runs_over(
-        &rt,
-        &files,
-        &file_words("open-file", &CHACHA, sealed, opened),
-        0,
-        "",
-        "",
-    );
-    assert!(rt; fs::read(&rt, opened)?.as_slice() == bytes(&rt, CHACHA.text).as_slice());
+/// Makes a folder, without what an earlier run left in it.
+fn make_folder(rt: &HostRuntime, folder: &str) -> Result<(), Fail> {
+    let _ = fs::remove_dir_all(rt, folder);
+    Ok(fs::create_dir(rt, folder)?)
+}
 
-    fs::remove_file(&rt, opened)?;
-    if let Some(last) = kept.last_mut() {
+/// Runs a file command under a vector's inputs, and compares the status and standard error.
+fn runs(
+    rt: &(impl Abort + Files + Alloc<A = Global>),
+    name: &str,
+    vector: &Vector<'_>,
+    paths: (&str, &str),
+    status: u8,
+    complaint: &str,
+) {
+    let (input, output) = paths;
+    let words = file_words(name, vector, input, output);
+    runs_over(rt, &Disk::new(rt), &words, status, "", complaint);
+}
+
+/// A file holds the bytes that digits spell.
+fn holds(
+    rt: &(impl Abort + Files + Alloc<A = Global>),
+    path: &str,
+    digits: &str,
+) -> Result<(), Fail> {
+    let held = fs::read(rt, path)?;
+    assert!(rt; held.as_slice() == bytes(rt, digits).as_slice());
+    Ok(())
+}
+
+/// Sealing a file and opening the result gives the text.
+#[test]
+fn file_sealed_and_opened(rt: HostRuntime) -> Result<(), Fail> {
+    make_folder(&rt, "aeadkit_both")?;
+    let text = "aeadkit_both/text";
+    let sealed = "aeadkit_both/sealed";
+    let opened = "aeadkit_both/opened";
+    fs::write(&rt, text, bytes(&rt, CHACHA.text).as_slice())?;
+    runs(&rt, "seal-file", &CHACHA, (text, sealed), 0, "");
+    holds(&rt, sealed, CHACHA.sealed)?;
+    runs(&rt, "open-file", &CHACHA, (sealed, opened), 0, "");
+    holds(&rt, opened, CHACHA.text)?;
+    fs::remove_dir_all(&rt, "aeadkit_both")?;
+    Ok(())
+}
+
+/// Bytes that are no sealing make no file.
+#[test]
+fn no_sealing_makes_no_file(rt: HostRuntime) -> Result<(), Fail> {
+    make_folder(&rt, "aeadkit_wrong")?;
+    let sealed = "aeadkit_wrong/sealed";
+    let opened = "aeadkit_wrong/opened";
+    let mut changed = bytes(&rt, CHACHA.sealed);
+    if let Some(last) = changed.last_mut() {
         *last = 0x90;
     }
-    fs::write(&rt, sealed, kept.as_slice())?;
+    fs::write(&rt, sealed, changed.as_slice())?;
     let complaint = "aeadkit: TagMismatch\n";
-    runs_over(
-        &rt,
-        &files,
-        &file_words("open-file", &CHACHA, sealed, opened),
-        1,
-        "",
-        complaint,
-    );
+    runs(&rt, "open-file", &CHACHA, (sealed, opened), 1, complaint);
     assert!(rt; !fs::exists(&rt, opened)?);
-
-    let complaint = "aeadkit: Words\n";
-    for name in ["seal-file", "open-file"] {
-        runs_over(
-            &rt,
-            &files,
-            &file_words(name, &CHACHA, sealed, sealed),
-            2,
-            "",
-            complaint,
-        );
-    }
-
-    fs::write(&rt, sealed, bytes(&rt, GCM.sealed).as_slice())?;
-    runs_over(
-        &rt,
-        &files,
-        &file_words("open-file", &GCM, sealed, opened),
-        0,
-        "",
-        "",
-    );
-    assert!(rt; fs::read(&rt, opened)?.is_empty());
-
-    let nowhere = "aeadkit_files/none/file";
-    let complaint = "aeadkit: Read\n";
-    runs_over(
-        &rt,
-        &files,
-        &file_words("seal-file", &CHACHA, nowhere, opened),
-        3,
-        "",
-        complaint,
-    );
-    let complaint = "aeadkit: Write\n";
-    runs_over(
-        &rt,
-        &files,
-        &file_words("seal-file", &CHACHA, text, nowhere),
-        3,
-        "",
-        complaint,
-    );
-    fs::remove_dir_all(&rt, "aeadkit_files")?;
+    fs::remove_dir_all(&rt, "aeadkit_wrong")?;
     Ok(())
+}
+
+/// An empty text makes an empty file.
+#[test]
+fn empty_text_makes_an_empty_file(rt: HostRuntime) -> Result<(), Fail> {
+    make_folder(&rt, "aeadkit_empty")?;
+    let sealed = "aeadkit_empty/sealed";
+    let opened = "aeadkit_empty/opened";
+    fs::write(&rt, sealed, bytes(&rt, GCM.sealed).as_slice())?;
+    runs(&rt, "open-file", &GCM, (sealed, opened), 0, "");
+    holds(&rt, opened, "")?;
+    fs::remove_dir_all(&rt, "aeadkit_empty")?;
+    Ok(())
+}
+
+/// A path that leads nowhere is `Read` for the file that is read, and `Write` for the one that is written.
+#[test]
+fn paths_that_lead_nowhere(rt: HostRuntime) -> Result<(), Fail> {
+    make_folder(&rt, "aeadkit_paths")?;
+    let text = "aeadkit_paths/text";
+    let nowhere = "aeadkit_paths/none/file";
+    fs::write(&rt, text, bytes(&rt, CHACHA.text).as_slice())?;
+    let complaint = "aeadkit: Read\n";
+    runs(&rt, "seal-file", &CHACHA, (nowhere, text), 3, complaint);
+    let complaint = "aeadkit: Write\n";
+    runs(&rt, "seal-file", &CHACHA, (text, nowhere), 3, complaint);
+    fs::remove_dir_all(&rt, "aeadkit_paths")?;
+    Ok(())
+}
+
+/// The same text for both paths is `Words`.
+#[test]
+fn one_path_for_both(rt: HostRuntime) {
+    for name in ["seal-file", "open-file"] {
+        let words = file_words(name, &CHACHA, "a", "a");
+        refuses(&rt, &words, 2, "aeadkit: Words\n");
+    }
 }

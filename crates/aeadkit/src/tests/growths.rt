@@ -1,87 +1,63 @@
-//! Each growth is refused in turn, and the answer is `OutOfMemory` each time.
+//! Each request for memory of a command is refused in turn, until a run takes all that it asks for. The
+//! answer to a refused one is `OutOfMemory`, wherever it stands, and else it is the right one.
 use super::devices::{NoFiles, OneFile};
+use super::files::bytes;
 use super::published::{CHACHA, GCM, GCM_SIV, Vector};
+use super::scripted::{Log, Script, Scripted, Sink, Source};
 use super::vector_files::TWO_RECORDS;
 use crate::new_file::NewFile;
-use crate::run::{perform, report, run};
+use crate::run::{perform, report};
 use crate::storage::Storage;
-use crate::words::{Inputs, Request};
-use bumpalo::Bump;
-use std::alloc::Global;
+use crate::words::{FileWords, Inputs, Request};
+use octets::RefusingMemory;
+use std::alloc::{Allocator, Global};
+use std::cell::Cell;
+use std::io;
 use std::process::Abort;
-use std::test::Fail;
 
-const KEY: &str = "000102030405060708090a0b0c0d0e0f";
-
-const TEXT: &str = "00112233445566778899aabbccddeeff";
-
-const WRAPPED: &str = "1fa68b0a8112b447aef34bd8fb5a7b829d3e862371d2cfe5";
-
-/// The bytes of the arenas.
-const ROOM: usize = 2048;
-
-/// Fills an arena up to the room that is left in it, so that any further growth is refused.
-fn leave(rt: &impl Abort, bump: &Bump, room: usize) -> Result<(), Fail> {
-    let filler = [0u8; 2 * ROOM];
-    bump.set_allocation_limit(Some(0));
-    let used = bump.chunk_capacity().saturating_sub(room);
-    assert!(rt; used <= filler.len());
-    let _ = bump.try_alloc_slice_copy(&filler[..used])?;
-    Ok(())
-}
-
-/// Performs a request with room from nothing up to enough: where a growth was refused, nothing is printed, and else
-/// the line is.
-fn performs<F: Storage>(
+/// Performs a request with one request for memory refused after the first `passed` ones, and answers whether
+/// it came to that one: then nothing is printed, and else the line is.
+fn is_refused<'x, F: Storage>(
     rt: &(impl Abort + Alloc<A = Global>),
-    files: &F,
-    request: &Request<'_>,
+    files: &'x F,
+    request: &Request<'x>,
     line: &str,
-) -> Result<(), Fail> {
-    let mut refused = 0u32;
-    let mut done = 0u32;
-    for room in 0..ROOM {
-        let bump = Bump::try_with_capacity(rt.alloc(), ROOM)?;
-        leave(rt, &bump, room)?;
-        let mut out: Vec<u8> = Vec::new(rt.alloc());
-        let mut err: Vec<u8> = Vec::new(rt.alloc());
-        let mut file = NewFile::new(&bump, files);
-        match perform(&bump, files, request, &mut out, &mut file) {
-            Ok(status) => {
-                assert_eq!(rt; status, 0);
-                assert!(rt; out.as_slice().split_last() == Some((&b'\n', line.as_bytes())));
-                done = done.saturating_add(1);
-            }
-            Err(failure) => {
-                assert_eq!(rt; report(&mut err, failure), 4);
-                assert_eq!(rt; err.as_slice(), b"aeadkit: OutOfMemory\n".as_slice());
-                assert!(rt; out.is_empty());
-                refused = refused.saturating_add(1);
-            }
+    passed: u64,
+) -> bool {
+    let memory = RefusingMemory::after(passed, rt.alloc());
+    let mut out: Vec<u8> = Vec::new(rt.alloc());
+    let mut err: Vec<u8> = Vec::new(rt.alloc());
+    let mut file = NewFile::new(&memory, files);
+    let answer = perform(&memory, files, request, &mut out, &mut file);
+    match answer {
+        Ok(status) => {
+            assert_eq!(rt; status, 0);
+            assert!(rt; out.as_slice().split_last() == Some((&b'\n', line.as_bytes())));
+        }
+        Err(failure) => {
+            assert_eq!(rt; report(&mut err, failure), 4, "request {passed}");
+            assert_eq!(rt; err.as_slice(), b"aeadkit: OutOfMemory\n".as_slice());
+            assert!(rt; out.is_empty());
         }
     }
-    assert!(rt; 0 < refused && 0 < done, "{refused} refused, {done} done");
-    Ok(())
+    assert_eq!(rt; memory.has_refused(), answer.is_err(), "request {passed}");
+    memory.has_refused()
 }
 
-#[test]
-fn wrap(rt: HostRuntime) -> Result<(), Fail> {
-    let request = Request::Wrap {
-        key: KEY,
-        text: TEXT,
-        pad: false,
-    };
-    performs(&rt, &NoFiles, &request, WRAPPED)
-}
-
-#[test]
-fn unwrap(rt: HostRuntime) -> Result<(), Fail> {
-    let request = Request::Unwrap {
-        key: KEY,
-        sealed: WRAPPED,
-        pad: false,
-    };
-    performs(&rt, &NoFiles, &request, TEXT)
+/// Performs a request with each of its requests for memory refused in turn, until none is. At least one is.
+fn each_is_refused<'x, F: Storage>(
+    rt: &(impl Abort + Alloc<A = Global>),
+    files: &'x F,
+    request: &Request<'x>,
+    line: &str,
+) {
+    for passed in 0..100u64 {
+        if !is_refused(rt, files, request, line, passed) {
+            assert!(rt; 0 < passed, "no request for memory");
+            return;
+        }
+    }
+    assert!(rt; false, "requests without end");
 }
 
 /// The inputs of a vector, with a body.
@@ -95,49 +71,197 @@ fn inputs<'a>(vector: &Vector<'a>, body: &'a str) -> Inputs<'a> {
     }
 }
 
-#[test]
-fn seal(rt: HostRuntime) -> Result<(), Fail> {
-    for vector in [CHACHA, GCM, GCM_SIV] {
-        let request = Request::Seal(inputs(&vector, vector.text));
-        performs(&rt, &NoFiles, &request, vector.sealed)?;
-    }
-    Ok(())
+/// Sealing a vector's text, and opening the sealed bytes.
+fn seal_and_open(rt: &(impl Abort + Alloc<A = Global>), vector: &Vector<'_>) {
+    let request = Request::Seal(inputs(vector, vector.text));
+    each_is_refused(rt, &NoFiles, &request, vector.sealed);
+    let request = Request::Open(inputs(vector, vector.sealed));
+    each_is_refused(rt, &NoFiles, &request, vector.text);
 }
 
 #[test]
-fn open(rt: HostRuntime) -> Result<(), Fail> {
-    for vector in [CHACHA, GCM, GCM_SIV] {
-        let request = Request::Open(inputs(&vector, vector.sealed));
-        performs(&rt, &NoFiles, &request, vector.text)?;
-    }
-    Ok(())
+fn seal_and_open_want_memory_only_where_refused(rt: HostRuntime) {
+    seal_and_open(&rt, &CHACHA);
+    seal_and_open(&rt, &GCM);
+    seal_and_open(&rt, &GCM_SIV);
+}
+
+/// Wrapping a text, and unwrapping the wrapping.
+fn wrap_and_unwrap(
+    rt: &(impl Abort + Alloc<A = Global>),
+    key: &str,
+    text: &str,
+    sealed: &str,
+    pad: bool,
+) {
+    each_is_refused(rt, &NoFiles, &Request::Wrap { key, text, pad }, sealed);
+    each_is_refused(rt, &NoFiles, &Request::Unwrap { key, sealed, pad }, text);
+}
+
+/// RFC 3394, 4.1, and RFC 5649, 6.
+#[test]
+fn wrap_and_unwrap_want_memory_only_where_refused(rt: HostRuntime) {
+    wrap_and_unwrap(
+        &rt,
+        "000102030405060708090a0b0c0d0e0f",
+        "00112233445566778899aabbccddeeff",
+        "1fa68b0a8112b447aef34bd8fb5a7b829d3e862371d2cfe5",
+        false,
+    );
+    wrap_and_unwrap(
+        &rt,
+        "5840df6e29b02af1ab493b705bf16ea1ae8338f4dcc176a8",
+        "c37b7e6492584340bed12207808941155068f738",
+        "138bdeaa9b8fa7fc61f97742e72248ee5ae6ae5360d1ae6a5f54f373fa543b6a",
+        true,
+    );
+}
+
+/// What asks for the report of a file among these.
+fn checking<'x>(_files: &'x OneFile<'_>) -> Request<'x> {
+    Request::Check { path: "" }
 }
 
 #[test]
-fn check(rt: HostRuntime) -> Result<(), Fail> {
+fn check_wants_memory_only_where_refused(rt: HostRuntime) {
     let files = OneFile {
         file: TWO_RECORDS.as_bytes(),
     };
-    let request = Request::Check { path: "" };
-    performs(&rt, &files, &request, "records 2")
+    let request = checking(&files);
+    each_is_refused(&rt, &files, &request, "records 2");
 }
 
-/// With any one growth refused in the whole run, the command line's own included, the answer is `OutOfMemory`.
-#[test]
-fn whole_run(rt: HostRuntime) {
-    let mut printed = [0u8; 64];
-    let mut complaint = [0u8; 64];
-    let words = ["wrap", "--key", KEY, "--text", TEXT];
-    let mut out = printed.as_mut_slice();
-    let mut err = complaint.as_mut_slice();
-    let status = run(rt.alloc(), &NoFiles, &words, &mut out, &mut err);
-    if status == 0 {
-        assert_eq!(rt; out.len(), 63 - WRAPPED.len());
-        assert_eq!(rt; err.len(), 64);
-        assert!(rt; printed.starts_with(WRAPPED.as_bytes()));
-    } else {
-        assert_eq!(rt; status, 4);
-        assert_eq!(rt; out.len(), 64);
-        assert!(rt; complaint.starts_with(b"aeadkit: OutOfMemory\n"));
+/// Files in memory that ask for memory: each opening does, and the making of the file that is written.
+#[derive(Drop)]
+struct Asking<'b, 'l, 'm, A: Allocator> {
+    files: Scripted<'b, 'l>,
+    memory: &'m A,
+    /// Whether the making was refused.
+    unmade: Cell<bool>,
+}
+
+/// Asks for memory, and gives it back.
+fn ask<A: Allocator>(memory: &A) -> io::Result<()> {
+    match Vec::<u8, &A>::with_capacity(memory, 1) {
+        Ok(_) => Ok(()),
+        Err(_) => Err(io::Error::from(io::ErrorKind::OutOfMemory)),
     }
+}
+
+impl<'b, 'l, A: Allocator> Storage for Asking<'b, 'l, '_, A> {
+    type Input = Source<'b, 'l>;
+
+    type Output = Sink<'l>;
+
+    fn open(&self, path: &str, reading: u8) -> io::Result<Source<'b, 'l>> {
+        ask(self.memory)?;
+        self.files.open(path, reading)
+    }
+
+    fn create(&self, path: &str) -> io::Result<Sink<'l>> {
+        self.unmade.set(true);
+        ask(self.memory)?;
+        self.unmade.set(false);
+        self.files.create(path)
+    }
+
+    fn sync(&self, output: &Sink<'l>) -> io::Result<()> {
+        self.files.sync(output)
+    }
+}
+
+/// Performs a file command with one request for memory refused after the first `passed` ones, and answers
+/// the status: 4 where it came to that one, or 3 where the making of the file asked for it, and then no file
+/// is made; and else 0, and it holds these bytes.
+fn file_status<'x>(
+    rt: &(impl Abort + Alloc<A = Global>),
+    request: &Request<'x>,
+    from: &'x [u8],
+    to: &[u8],
+    passed: u64,
+) -> u8 {
+    let memory = RefusingMemory::after(passed, rt.alloc());
+    let log = Log::new(rt.alloc());
+    let script = Script::of_none(&log);
+    let scripted = Scripted {
+        first: from,
+        second: from,
+        third: from,
+        script,
+    };
+    let files = Asking {
+        files: scripted,
+        memory: &memory,
+        unmade: Cell::new(false),
+    };
+    let mut out: Vec<u8> = Vec::new(rt.alloc());
+    let mut err: Vec<u8> = Vec::new(rt.alloc());
+    let mut file = NewFile::new(&memory, &files);
+    let status = match perform(&memory, &files, request, &mut out, &mut file) {
+        Ok(status) => status,
+        Err(failure) => report(&mut err, failure),
+    };
+    let (due, complaint) = if files.unmade.get() {
+        (3, "aeadkit: Write\n")
+    } else if memory.has_refused() {
+        (4, "aeadkit: OutOfMemory\n")
+    } else {
+        (0, "")
+    };
+    assert_eq!(rt; status, due, "request {passed}");
+    assert_eq!(rt; err.as_slice(), complaint.as_bytes());
+    assert!(rt; out.is_empty());
+    assert!(rt;
+        if status == 0 {
+            log.holds(to)
+        } else {
+            !log.made.get()
+        }
+    );
+    status
+}
+
+/// Performs a file command with each of its requests for memory refused in turn, until none is. The making
+/// of the file asks last.
+fn each_file_status<'x>(
+    rt: &(impl Abort + Alloc<A = Global>),
+    request: &Request<'x>,
+    from: &'x [u8],
+    to: &[u8],
+) {
+    let mut before = 0u8;
+    for passed in 0..100u64 {
+        let status = file_status(rt, request, from, to, passed);
+        if status == 0 {
+            assert_eq!(rt; before, 3);
+            assert!(rt; 1 < passed, "only the making asks for memory");
+            return;
+        }
+        before = status;
+    }
+    assert!(rt; false, "requests without end");
+}
+
+/// The inputs of a vector, for a file command.
+fn file_inputs<'a>(vector: &Vector<'a>) -> FileWords<'a> {
+    FileWords {
+        inputs: inputs(vector, ""),
+        input: "a",
+        output: "b",
+    }
+}
+
+/// Sealing a file of a vector's text, and opening one of the sealed bytes.
+fn seal_and_open_files(rt: &(impl Abort + Alloc<A = Global>), vector: &Vector<'_>) {
+    let text = bytes(rt, vector.text);
+    let sealed = bytes(rt, vector.sealed);
+    each_file_status(rt, &Request::SealFile(file_inputs(vector)), &text, &sealed);
+    each_file_status(rt, &Request::OpenFile(file_inputs(vector)), &sealed, &text);
+}
+
+#[test]
+fn files_want_memory_only_where_refused(rt: HostRuntime) {
+    seal_and_open_files(&rt, &CHACHA);
+    seal_and_open_files(&rt, &GCM);
+    seal_and_open_files(&rt, &GCM_SIV);
 }

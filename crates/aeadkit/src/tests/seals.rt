@@ -79,8 +79,8 @@ fn wrong_bytes(rt: HostRuntime) {
     }
 }
 
-/// The suite's name comes first, then the hex of key, nonce, associated data and body, then the key's length, then the
-/// nonce's.
+/// The suite's name comes first, then the hex of key, nonce, associated data and body, then the key's
+/// length, then the nonce's.
 #[test]
 fn refusals_in_order(rt: HostRuntime) {
     for (suite, key, nonce, aad, body, name) in [

@@ -66,8 +66,8 @@ fn padded_vectors(rt: HostRuntime) {
     }
 }
 
-/// No text of no bytes is padded; a wrapping with padding has 16 bytes at least, in whole blocks. The two forms refuse one
-/// another's wrappings.
+/// No text of no bytes is padded; a wrapping with padding has 16 bytes at least, in whole blocks. The two
+/// forms refuse one another's wrappings.
 #[test]
 fn padded_refusals(rt: HostRuntime) {
     let length = "aeadkit: WrapLength\n";

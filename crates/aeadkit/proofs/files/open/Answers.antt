@@ -8,19 +8,22 @@ use Rattle.aeadkit.proofs.files.open.Goals as goal
 
 pub returns-in_err-open_by : goal.returns-in_err-open_by
 returns-in_err-open_by g c =
-    let p = err_from_is_err_and c.from_residual-in_err-open_by.result c.from_residual-in_err-open_by.ensures.1 in
+    let p = err_from_is_err_and c.from_residual-in_err-open_by.result
+    c.from_residual-in_err-open_by.ensures.1 in
     let keyed : Keyed = keyed_of c.in_ok-inputs.inputs.cipher in
-    let ready : IsReady c.args.words.now.inputs keyed c.in_ok-inputs.inputs.nonce c.deref.result.now c.in_ok-inputs.inputs.body.items
-    = rw c.deref.ensures.value c.in_ok-inputs.ensures in
-    rw (p.1, p.2) (ran_err (Opening (g.F.Storage.contents c.args.files.now c.args.words.now.input.now)) c.args.words.now.inputs keyed
-    c.in_ok-inputs.inputs.nonce c.deref.result.now c.in_ok-inputs.inputs.body.items (g.O.Outlet.taken c.args.out.now) (g.O.Outlet.taken c.open_by.new.out)
-    c.in_err-open_by.field-0.0 ready c.in_err-open_by.ensures)
+    let ready : IsReady c.args.words.now.inputs keyed c.in_ok-inputs.inputs.nonce c.deref.result.now
+    c.in_ok-inputs.inputs.body.items = rw c.deref.ensures.value c.in_ok-inputs.ensures in
+    rw (p.1, p.2) (ran_err (Opening (g.F.Storage.contents c.args.files.now c.args.words.now.input.now))
+    c.args.words.now.inputs keyed
+    c.in_ok-inputs.inputs.nonce c.deref.result.now c.in_ok-inputs.inputs.body.items
+    (g.O.Outlet.taken c.args.out.now) (g.O.Outlet.taken c.open_by.new.out) c.in_err-open_by.field-0.0 ready
+    c.in_err-open_by.ensures)
 
 pub returns : goal.returns
 returns g c =
     let keyed : Keyed = keyed_of c.in_ok-inputs.inputs.cipher in
-    let ready : IsReady c.args.words.now.inputs keyed c.in_ok-inputs.inputs.nonce c.deref.result.now c.in_ok-inputs.inputs.body.items
-    = rw c.deref.ensures.value c.in_ok-inputs.ensures in
+    let ready : IsReady c.args.words.now.inputs keyed c.in_ok-inputs.inputs.nonce c.deref.result.now
+    c.in_ok-inputs.inputs.body.items = rw c.deref.ensures.value c.in_ok-inputs.ensures in
     record {
       keyed = keyed;
       nonce = c.in_ok-inputs.inputs.nonce;

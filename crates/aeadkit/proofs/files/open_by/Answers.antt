@@ -20,9 +20,12 @@ returns g c =
       write = c.open_stream.new.write.failed;
       outlet = g.O.Outlet.failures c.open_stream.new.out;
     } in
-    inr (opened_thrice (g.F.Storage.contents c.args.files.now c.args.path.now 0) (g.F.Storage.contents c.args.files.now c.args.path.now 1)
-    (g.F.Storage.contents c.args.files.now c.args.path.now 2) (reader_remaining g.F.Input.Read.remaining c.in_ok-measure.measure.reader)
-    (reader_remaining g.F.Input.Read.remaining c.in_ok-verify.verify.reader) (reader_remaining g.F.Input.Read.remaining c.in_ok-write.write.reader)
-    (g.O.Outlet.taken c.args.out.now) (g.O.Outlet.taken c.open_stream.new.out)
-    (setting (keyed_of c.args.cipher.now) c.args.nonce.now c.args.aad.now) before after c.open_stream.result c.in_ok-measure.ensures
-    c.in_ok-verify.ensures c.in_ok-write.ensures c.open_stream.ensures.opens)
+    inr (opened_thrice (g.F.Storage.contents c.args.files.now c.args.path.now 0)
+    (g.F.Storage.contents c.args.files.now c.args.path.now 1)
+    (g.F.Storage.contents c.args.files.now c.args.path.now 2)
+    (reader_remaining g.F.Input.Read.remaining c.in_ok-measure.measure.reader)
+    (reader_remaining g.F.Input.Read.remaining c.in_ok-verify.verify.reader)
+    (reader_remaining g.F.Input.Read.remaining c.in_ok-write.write.reader) (g.O.Outlet.taken c.args.out.now)
+    (g.O.Outlet.taken c.open_stream.new.out)
+    (setting (keyed_of c.args.cipher.now) c.args.nonce.now c.args.aad.now) before after c.open_stream.result
+    c.in_ok-measure.ensures c.in_ok-verify.ensures c.in_ok-write.ensures c.open_stream.ensures.opens)

@@ -8,31 +8,39 @@ use Rattle.aeadkit.proofs.files.open_file.Goals as goal
 pub returns-in_err-name-clause-answer : goal.returns-in_err-name-clause-answer
 returns-in_err-name-clause-answer g c =
     let p = err_from_is_err_and c.from_residual.result c.from_residual.ensures.1 in
-    let h : Option (List ℕ) = held (g.F.Storage.blank c.name.new.self.files.now) g.F.Output.Write.contents c.name.new.self.file in
-    rw (p.1, p.2) (exit_name (Opening (g.F.Storage.contents c.args.files.now c.args.words.now.input.now)) c.args.words.now.inputs _ h
-    (drop c.name.new.self.written c.name.new.self.pending.items) c.name.ensures.taken)
+    let h : Option (List ℕ) = held (g.F.Storage.blank c.name.new.self.files.now) g.F.Output.Write.contents
+    c.name.new.self.file in
+    rw (p.1, p.2) (exit_name (Opening (g.F.Storage.contents c.args.files.now c.args.words.now.input.now))
+    c.args.words.now.inputs _ h (drop c.name.new.self.written c.name.new.self.pending.items)
+    c.name.ensures.taken)
 
 pub returns-in_err-open-clause-answer : goal.returns-in_err-open-clause-answer
 returns-in_err-open-clause-answer g c =
     let p = err_from_is_err_and c.from_residual-in_err-open.result c.from_residual-in_err-open.ensures.1 in
-    let h : Option (List ℕ) = held (g.F.Storage.blank c.open.new.out.files.now) g.F.Output.Write.contents c.open.new.out.file in
+    let h : Option (List ℕ) = held (g.F.Storage.blank c.open.new.out.files.now) g.F.Output.Write.contents
+    c.open.new.out.file in
     let e = opening_weakens (g.F.Storage.contents c.args.files.now c.args.words.now.input.now) in
-    rw (p.1, p.2) (exit_err (Opening (g.F.Storage.contents c.args.files.now c.args.words.now.input.now)) e c.args.words.now.inputs _ _ h
-    (drop c.open.new.out.written c.open.new.out.pending.items) c.in_err-open.field-0.0 c.name.ensures.taken c.in_err-open.ensures)
+    rw (p.1, p.2) (exit_err (Opening (g.F.Storage.contents c.args.files.now c.args.words.now.input.now)) e
+    c.args.words.now.inputs _ _ h (drop c.open.new.out.written c.open.new.out.pending.items)
+    c.in_err-open.field-0.0 c.name.ensures.taken c.in_err-open.ensures)
 
 pub returns-in_err-finish-clause-answer : goal.returns-in_err-finish-clause-answer
 returns-in_err-finish-clause-answer g c =
-    let p = err_from_is_err_and c.from_residual-in_err-finish.result c.from_residual-in_err-finish.ensures.1 in
-    let h : Option (List ℕ) = held (g.F.Storage.blank c.finish.new.self.files.now) g.F.Output.Write.contents c.finish.new.self.file in
+    let p = err_from_is_err_and c.from_residual-in_err-finish.result
+    c.from_residual-in_err-finish.ensures.1 in
+    let h : Option (List ℕ) = held (g.F.Storage.blank c.finish.new.self.files.now) g.F.Output.Write.contents
+    c.finish.new.self.file in
     let e = opening_weakens (g.F.Storage.contents c.args.files.now c.args.words.now.input.now) in
-    rw (p.1, p.2, c.in_err-finish.ensures.fault) (exit_write (Opening (g.F.Storage.contents c.args.files.now c.args.words.now.input.now)) e
-    c.args.words.now.inputs _ _ _ h (drop c.finish.new.self.written c.finish.new.self.pending.items) c.name.ensures.taken
-    c.in_ok-open.ensures c.in_err-finish.ensures.taken)
+    rw (p.1, p.2, c.in_err-finish.ensures.fault)
+    (exit_write (Opening (g.F.Storage.contents c.args.files.now c.args.words.now.input.now)) e
+    c.args.words.now.inputs _ _ _ h (drop c.finish.new.self.written c.finish.new.self.pending.items)
+    c.name.ensures.taken c.in_ok-open.ensures c.in_err-finish.ensures.taken)
 
 pub returns-clause-answer : goal.returns-clause-answer
 returns-clause-answer g c =
-    let h : Option (List ℕ) = held (g.F.Storage.blank c.finish.new.self.files.now) g.F.Output.Write.contents c.finish.new.self.file in
+    let h : Option (List ℕ) = held (g.F.Storage.blank c.finish.new.self.files.now) g.F.Output.Write.contents
+    c.finish.new.self.file in
     let e = opening_weakens (g.F.Storage.contents c.args.files.now c.args.words.now.input.now) in
-    exit_done (Opening (g.F.Storage.contents c.args.files.now c.args.words.now.input.now)) e c.args.words.now.inputs _ _ _ h
-    c.finish.new.self.written c.finish.new.self.pending.items c.name.ensures.taken c.in_ok-open.ensures
-    c.in_ok-finish.ensures.taken c.in_ok-finish.ensures.none_left
+    exit_done (Opening (g.F.Storage.contents c.args.files.now c.args.words.now.input.now)) e
+    c.args.words.now.inputs _ _ _ h c.finish.new.self.written c.finish.new.self.pending.items
+    c.name.ensures.taken c.in_ok-open.ensures c.in_ok-finish.ensures.taken c.in_ok-finish.ensures.none_left

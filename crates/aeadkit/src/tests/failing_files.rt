@@ -1,0 +1,205 @@
+//! The file commands, where a call of their files goes wrong or a later reading gives other bytes.
+use super::files::{bytes, file_words};
+use super::published::{CHACHA, GCM_SIV, Vector};
+use super::runs_over;
+use super::scripted::{Log, Script, Scripted, Wrong};
+use crate::run::run;
+use std::alloc::Global;
+use std::process::Abort;
+
+/// The failure is of the side that went wrong, and the written file holds a beginning of what it should;
+/// none was made where a reading before the last one went wrong.
+fn is_stopped(rt: &impl Abort, log: &Log, err: &[u8], to: &[u8], last: u8) {
+    let complaint = match log.reading.get() {
+        Some(reading) => {
+            assert!(rt; last <= reading || !log.made.get());
+            "aeadkit: Read\n"
+        }
+        None => "aeadkit: Write\n",
+    };
+    assert_eq!(rt; err, complaint.as_bytes());
+    assert!(rt; log.begins(to));
+}
+
+/// Runs a file command with one call that goes wrong, and answers whether it was done before that call.
+fn goes(
+    rt: &(impl Abort + Alloc<A = Global>),
+    words: &[&str],
+    from: &[u8],
+    to: &[u8],
+    last: u8,
+    wrong_call: (u32, Wrong, bool),
+) -> bool {
+    let (at, wrong, trickle) = wrong_call;
+    let log = Log::new(rt.alloc());
+    let script = Script {
+        at,
+        wrong,
+        trickle,
+        log: &log,
+    };
+    let files = Scripted {
+        first: from,
+        second: from,
+        third: from,
+        script,
+    };
+    let mut out: Vec<u8> = Vec::new(rt.alloc());
+    let mut err: Vec<u8> = Vec::new(rt.alloc());
+    let status = run(rt.alloc(), &files, words, &mut out, &mut err);
+    assert!(rt; out.is_empty());
+    let is_over = log.calls.get() < at;
+    if is_over || wrong == Wrong::IsShort {
+        assert!(rt; err.is_empty());
+        assert_eq!(rt; status, 0);
+        assert!(rt; log.holds(to));
+    } else {
+        assert_eq!(rt; status, 3);
+        is_stopped(rt, &log, err.as_slice(), to, last);
+    }
+    is_over
+}
+
+/// Runs a file command with each of its calls going wrong in turn, until a run is done before the call that
+/// would.
+fn each_call_goes(
+    rt: &(impl Abort + Alloc<A = Global>),
+    words: &[&str],
+    from: &[u8],
+    to: &[u8],
+    last: u8,
+    how: (Wrong, bool),
+) {
+    let (wrong, trickle) = how;
+    for at in 1..1000u32 {
+        if goes(rt, words, from, to, last, (at, wrong, trickle)) {
+            assert!(rt; 4 < at, "{at} calls");
+            return;
+        }
+    }
+    assert!(rt; false, "calls without end");
+}
+
+/// Seals and opens a vector's text with each call going wrong in turn; sealing ends with the given reading.
+fn each_call_of(
+    rt: &(impl Abort + Alloc<A = Global>),
+    vector: &Vector<'_>,
+    last: u8,
+    how: (Wrong, bool),
+) {
+    let text = bytes(rt, vector.text);
+    let sealed = bytes(rt, vector.sealed);
+    let words = file_words("seal-file", vector, "a", "b");
+    each_call_goes(rt, &words, &text, &sealed, last, how);
+    let words = file_words("open-file", vector, "a", "b");
+    each_call_goes(rt, &words, &sealed, &text, 2, how);
+}
+
+/// Each opening, read, making, write and sync fails in turn.
+#[test]
+fn calls_that_fail(rt: HostRuntime) {
+    each_call_of(&rt, &CHACHA, 0, (Wrong::Fails, false));
+    each_call_of(&rt, &GCM_SIV, 1, (Wrong::Fails, false));
+}
+
+/// Each call is interrupted in turn, which is a failure.
+#[test]
+fn calls_that_are_interrupted(rt: HostRuntime) {
+    each_call_of(&rt, &CHACHA, 0, (Wrong::IsInterrupted, false));
+    each_call_of(&rt, &GCM_SIV, 1, (Wrong::IsInterrupted, false));
+}
+
+/// Each call moves one byte alone in turn, which changes nothing.
+#[test]
+fn calls_that_are_short(rt: HostRuntime) {
+    each_call_of(&rt, &CHACHA, 0, (Wrong::IsShort, false));
+    each_call_of(&rt, &GCM_SIV, 1, (Wrong::IsShort, false));
+}
+
+/// Each call moves one byte, and each of them fails in turn.
+#[test]
+fn calls_that_fail_after_single_bytes(rt: HostRuntime) {
+    each_call_of(&rt, &CHACHA, 0, (Wrong::Fails, true));
+    each_call_of(&rt, &GCM_SIV, 1, (Wrong::Fails, true));
+}
+
+/// Runs `open-file` over three readings of a file, and compares the status and standard error. Answers the
+/// written file, if it was made.
+fn opens<'b>(
+    rt: &(impl Abort + Alloc<A = Global>),
+    readings: (&'b [u8], &'b [u8], &'b [u8]),
+    status: u8,
+    complaint: &str,
+    made: bool,
+) {
+    let (first, second, third) = readings;
+    let log = Log::new(rt.alloc());
+    let script = Script::of_none(&log);
+    let files = Scripted {
+        first,
+        second,
+        third,
+        script,
+    };
+    let words = file_words("open-file", &CHACHA, "a", "b");
+    runs_over(rt, &files, &words, status, "", complaint);
+    assert_eq!(rt; log.made.get(), made);
+}
+
+/// A sealing with one bit of its body changed.
+fn changed(rt: &(impl Abort + Alloc<A = Global>)) -> Vec<u8> {
+    let mut other = bytes(rt, CHACHA.sealed);
+    if let Some(byte) = other.get_mut(100) {
+        *byte ^= 1;
+    }
+    other
+}
+
+/// The first fifteen bytes of a sealing.
+const START: &str = "d31a8d34648e60db7b86afbc53ef7e";
+
+/// A third reading that differs from the second is `SourceChanged`, after the file was made.
+#[test]
+fn third_reading_differs(rt: HostRuntime) {
+    let whole = bytes(&rt, CHACHA.sealed);
+    let complaint = "aeadkit: SourceChanged\n";
+    opens(&rt, (&whole, &whole, &changed(&rt)), 3, complaint, true);
+    opens(
+        &rt,
+        (&whole, &whole, &bytes(&rt, START)),
+        3,
+        complaint,
+        true,
+    );
+}
+
+/// A second reading of another length is `SourceChanged`, and one that is no sealing `TagMismatch`; no file
+/// is made.
+#[test]
+fn second_reading_differs(rt: HostRuntime) {
+    let whole = bytes(&rt, CHACHA.sealed);
+    let complaint = "aeadkit: SourceChanged\n";
+    opens(
+        &rt,
+        (&whole, &bytes(&rt, START), &whole),
+        3,
+        complaint,
+        false,
+    );
+    let complaint = "aeadkit: TagMismatch\n";
+    opens(&rt, (&whole, &changed(&rt), &whole), 1, complaint, false);
+}
+
+/// A first reading that is too short is `TooShort`; no file is made.
+#[test]
+fn first_reading_is_short(rt: HostRuntime) {
+    let whole = bytes(&rt, CHACHA.sealed);
+    let complaint = "aeadkit: TooShort\n";
+    opens(
+        &rt,
+        (&bytes(&rt, START), &whole, &whole),
+        1,
+        complaint,
+        false,
+    );
+}

@@ -1,0 +1,187 @@
+//! Files in memory, of which one call goes wrong.
+ghost use Rattle.std.specs.Prelude.{◌≤◌, IfOk};
+
+use crate::storage::Storage;
+use std::alloc::Global;
+use std::cell::{Cell, RefCell};
+use std::io;
+
+/// What goes wrong.
+#[derive(Clone, Copy, PartialEq, Eq, Debug, Drop)]
+pub enum Wrong {
+    /// The call fails.
+    Fails,
+    /// The call is interrupted.
+    IsInterrupted,
+    /// The call moves one byte.
+    IsShort,
+}
+
+/// What is kept of a run.
+#[derive(Drop)]
+pub struct Log {
+    /// How many calls were made: openings, reads, makings, writes and syncs.
+    pub calls: Cell<u32>,
+    /// Which reading the call was for that went wrong, if it was for one.
+    pub reading: Cell<Option<u8>>,
+    /// Whether the written file was made.
+    pub made: Cell<bool>,
+    /// What the written file holds.
+    pub written: RefCell<Vec<u8>>,
+}
+
+impl Log {
+    /// Nothing was called.
+    pub fn new(alloc: Global) -> Log {
+        Log {
+            calls: Cell::new(0),
+            reading: Cell::new(None),
+            made: Cell::new(false),
+            written: RefCell::new(Vec::new(alloc)),
+        }
+    }
+
+    /// Whether the written file was made, and holds these bytes.
+    pub fn holds(&self, bytes: &[u8]) -> bool {
+        match self.written.try_borrow() {
+            Ok(held) => self.made.get() && held.as_slice() == bytes,
+            Err(_) => false,
+        }
+    }
+
+    /// Whether the written file holds a beginning of these bytes.
+    pub fn begins(&self, bytes: &[u8]) -> bool {
+        match self.written.try_borrow() {
+            Ok(held) => bytes.starts_with(held.as_slice()),
+            Err(_) => false,
+        }
+    }
+}
+
+/// The call that goes wrong, by its number from 1 on, and how; 0 is none. With `trickle` each call moves one
+/// byte.
+#[derive(Clone, Copy, Drop)]
+pub struct Script<'a> {
+    pub at: u32,
+    pub wrong: Wrong,
+    pub trickle: bool,
+    pub log: &'a Log,
+}
+
+impl<'a> Script<'a> {
+    /// No call goes wrong.
+    pub fn of_none(log: &'a Log) -> Script<'a> {
+        Script {
+            at: 0,
+            wrong: Wrong::Fails,
+            trickle: false,
+            log,
+        }
+    }
+
+    /// Counts a call, and answers how many bytes it may move, or its failure.
+    fn step(&self, reading: Option<u8>, wanted: usize) -> io::Result<usize>
+        ensures { IfOk result (λ n. n ≤ wanted) }
+    {
+        let call = self.log.calls.get().saturating_add(1);
+        self.log.calls.set(call);
+        if call == self.at {
+            self.log.reading.set(reading);
+            match self.wrong {
+                Wrong::Fails => return Err(io::Error::from(io::ErrorKind::Other)),
+                Wrong::IsInterrupted => return Err(io::Error::from(io::ErrorKind::Interrupted)),
+                Wrong::IsShort => return Ok(wanted.min(1)),
+            }
+        }
+        if self.trickle {
+            Ok(wanted.min(1))
+        } else {
+            Ok(wanted)
+        }
+    }
+}
+
+/// Three readings, the same at every path, and one file that is written.
+#[derive(Drop)]
+pub struct Scripted<'b, 'l> {
+    pub first: &'b [u8],
+    pub second: &'b [u8],
+    pub third: &'b [u8],
+    pub script: Script<'l>,
+}
+
+/// What is left of a reading.
+#[derive(Drop)]
+pub struct Source<'b, 'l> {
+    reading: u8,
+    rest: &'b [u8],
+    script: Script<'l>,
+}
+
+/// The file that is written.
+#[derive(Drop)]
+pub struct Sink<'l> {
+    script: Script<'l>,
+}
+
+impl<'b, 'l> Storage for Scripted<'b, 'l> {
+    type Input = Source<'b, 'l>;
+
+    type Output = Sink<'l>;
+
+    fn open(&self, _path: &str, reading: u8) -> io::Result<Source<'b, 'l>> {
+        let _ = self.script.step(Some(reading), 0)?;
+        let script = self.script;
+        let rest = match reading {
+            0 => self.first,
+            1 => self.second,
+            _ => self.third,
+        };
+        Ok(Source {
+            reading,
+            rest,
+            script,
+        })
+    }
+
+    fn create(&self, _path: &str) -> io::Result<Sink<'l>> {
+        let _ = self.script.step(None, 0)?;
+        self.script.log.made.set(true);
+        Ok(Sink {
+            script: self.script,
+        })
+    }
+
+    fn sync(&self, _output: &Sink<'l>) -> io::Result<()> {
+        let _ = self.script.step(None, 0)?;
+        Ok(())
+    }
+}
+
+impl io::Read for Source<'_, '_> {
+    fn read(&mut self, buf: &mut [u8]) -> io::Result<usize> {
+        let wanted = buf.len().min(self.rest.len());
+        let n = self.script.step(Some(self.reading), wanted)?;
+        let (front, back) = self.rest.split_at(n);
+        buf[..n].copy_from_slice(front);
+        self.rest = back;
+        Ok(n)
+    }
+}
+
+impl io::Write for Sink<'_> {
+    fn write(&mut self, buf: &[u8]) -> io::Result<usize> {
+        let n = self.script.step(None, buf.len())?;
+        let Ok(mut held) = self.script.log.written.try_borrow_mut() else {
+            return Err(io::Error::from(io::ErrorKind::Other));
+        };
+        match held.extend_from_slice(&buf[..n]) {
+            Ok(()) => Ok(n),
+            Err(_) => Err(io::Error::from(io::ErrorKind::OutOfMemory)),
+        }
+    }
+
+    fn flush(&mut self) -> io::Result<()> {
+        Ok(())
+    }
+}
