@@ -43,7 +43,7 @@ pub use suite::Suite;
 pub use whole::{open, seal};
 
 /// A sealing has one text, and is sixteen bytes longer: for every suite, key, nonce and associated data.
-pub fn has_one_text()
+pub fn sealing_has_one_text()
     ensures { HasOneText }
 {}
 

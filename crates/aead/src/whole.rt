@@ -8,7 +8,7 @@ ghost use Rattle.aead.specs.Refusals.{WholeSealRefused, WholeOpenRefused};
 
 use crate::aead::Aead;
 use crate::any::AnyAead;
-use crate::has_one_text;
+use crate::sealing_has_one_text;
 use octets::{Fault, Nonce, Tag};
 use std::alloc::Allocator;
 
@@ -94,6 +94,6 @@ pub fn open<A: Allocator>(
     ensures found { let s = setting (keyed_of cipher.now) nonce.now aad.now in
         (text : List ℕ) → Opened s sealed.now text → MatchResult result (λ v. v.items ≡ text) (λ e. e ≡ Fault.OutOfMemory) }
 {
-    has_one_text();
+    sealing_has_one_text();
     open_by(alloc, cipher, nonce, aad, sealed)
 }

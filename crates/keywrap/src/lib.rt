@@ -25,13 +25,13 @@ pub use whole::{unwrap, wrap};
 
 /// The law of wrapping (RFC 3394): a wrapping has one text, and is eight bytes longer. The call does
 /// nothing; its contract is the law.
-pub fn has_one_text()
+pub fn wrapping_has_one_text()
     ensures { HasOneText }
 {}
 
 /// The law of wrapping with padding (RFC 5649): a wrapping has one text, and is eight bytes longer than the
 /// padded text. The call does nothing; its contract is the law.
-pub fn has_one_padded_text()
+pub fn padded_wrapping_has_one_text()
     ensures { HasOnePaddedText }
 {}
 

@@ -13,7 +13,7 @@ use crate::intake::DigitIntake;
 use crate::place::Entry;
 use crate::suite::Suite;
 use crate::wrapped::{padded_agrees, wrapped_agrees};
-use aead::{AnyAead, AnyOnePass, GcmSiv, has_one_text, open_stream, seal_siv_stream, seal_stream};
+use aead::{AnyAead, AnyOnePass, GcmSiv, sealing_has_one_text, open_stream, seal_siv_stream, seal_stream};
 use octets::Nonce;
 use std::alloc::{AllocError, Allocator};
 
@@ -70,7 +70,7 @@ fn seals_nothing(cipher: &AnyAead, nonce: &Nonce, aad: &[u8], sealed: Digits<'_>
     ensures { IsTrue result
         ↔ IsNoSealing (setting (keyed_of cipher.now) nonce.now aad.now) (bytes_in sealed.entry) }
 {
-    has_one_text();
+    sealing_has_one_text();
     let mut measure = DigitIntake::new(sealed);
     let mut verify = DigitIntake::new(sealed);
     let mut write = DigitIntake::new(sealed);
