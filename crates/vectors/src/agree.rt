@@ -13,7 +13,9 @@ use crate::intake::DigitIntake;
 use crate::place::Entry;
 use crate::suite::Suite;
 use crate::wrapped::{padded_agrees, wrapped_agrees};
-use aead::{AnyAead, AnyOnePass, GcmSiv, sealing_has_one_text, open_stream, seal_siv_stream, seal_stream};
+use aead::{
+    AnyAead, AnyOnePass, GcmSiv, open_stream, seal_siv_stream, seal_stream, sealing_has_one_text,
+};
 use octets::Nonce;
 use std::alloc::{AllocError, Allocator};
 
