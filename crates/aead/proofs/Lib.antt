@@ -5,7 +5,7 @@ pub mod DerivedKeys
 pub mod Streams
 pub mod Found
 pub mod KeyStreamStart
-mod Vectors
+pub mod Vectors
 pub mod Pieces
 pub mod Maskings
 pub mod AnyMaskings
