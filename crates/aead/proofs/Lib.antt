@@ -5,7 +5,7 @@ pub mod DerivedKeys
 pub mod Streams
 pub mod Found
 pub mod KeyStreamStart
-mod Vectors
+pub mod Vectors
 mod GcmVector
 mod GcmSivVector
 pub mod Pieces

@@ -10,7 +10,7 @@ use Rattle.poly1305.specs.Poly1305.{block_sum, poly1305}
 use Rattle.aead.specs.declared.suite.Suite.TheVariants.{ChaCha20Poly1305}
 use Rattle.aead.specs.Sealing.{poly_key, chacha_authenticated, mask_by, mask, tag_over_by, tag_by, tag_of, sealing}
 
-one_sealing : sealing (record { suite = ChaCha20Poly1305; key = range_with_len 128 32; nonce = (7 ∷ 0 ∷ 0 ∷ 0 ∷ 64 ∷ 65 ∷ 66 ∷ 67 ∷ 68 ∷ 69 ∷ 70 ∷ 71 ∷ []); aad = (80 ∷ 81 ∷ 82 ∷ 83 ∷ 192 ∷ 193 ∷ 194 ∷ 195 ∷ 196 ∷ 197 ∷ 198 ∷ 199 ∷ []) })
+pub one_sealing : sealing (record { suite = ChaCha20Poly1305; key = range_with_len 128 32; nonce = (7 ∷ 0 ∷ 0 ∷ 0 ∷ 64 ∷ 65 ∷ 66 ∷ 67 ∷ 68 ∷ 69 ∷ 70 ∷ 71 ∷ []); aad = (80 ∷ 81 ∷ 82 ∷ 83 ∷ 192 ∷ 193 ∷ 194 ∷ 195 ∷ 196 ∷ 197 ∷ 198 ∷ 199 ∷ []) })
     (codes "Ladies and Gentlemen of the class of '99: If I could offer you only one tip for the future, sunscreen would be it.")
     ≡
     (211 ∷ 26 ∷ 141 ∷ 52 ∷ 100 ∷ 142 ∷ 96 ∷ 219 ∷ 123 ∷ 134 ∷ 175 ∷ 188 ∷ 83 ∷ 239 ∷ 126 ∷ 194 ∷

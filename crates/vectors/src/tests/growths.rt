@@ -7,7 +7,7 @@ use aead::{AnyAead, seal};
 use aes::AesKey;
 use keywrap::wrap_padded;
 use octets::{Nonce, RefusingMemory};
-use std::alloc::{Allocator, Global};
+use std::alloc::{AllocError, Allocator, Global};
 use std::process::Abort;
 use std::test::Fail;
 
@@ -86,35 +86,47 @@ fn requests(
     None
 }
 
+/// Adds a value line.
+fn add_line(file: &mut Vec<u8>, name: &str, value: &str) -> Result<(), AllocError> {
+    file.extend_from_slice(name.as_bytes())?;
+    file.extend_from_slice(b" = ")?;
+    file.extend_from_slice(value.as_bytes())?;
+    file.push(b'\n')?;
+    Ok(())
+}
+
+/// Adds a value line with the digits of some bytes.
+fn add_digits(
+    file: &mut Vec<u8>,
+    alloc: Global,
+    name: &str,
+    bytes: &[u8],
+) -> Result<(), AllocError> {
+    let digits = hex::encode(alloc, bytes)?;
+    add_line(file, name, &digits)
+}
+
 /// A file of two large records with a text of so many bytes: a sealing of it, with as much associated data, and its
 /// wrapping with padding.
 fn large_file(alloc: Global, length: usize) -> Result<Vec<u8>, Fail> {
     let key = [7u8; 16];
     let nonce = Nonce::from_slice(&[3; 12])?;
     let text = vec![in alloc; 5u8; length]?;
-    let suite = aead::Suite::Aes128GcmSiv;
-    let sealed = seal(alloc, &AnyAead::new(suite, &key)?, &nonce, &text, &text)?;
+    let cipher = AnyAead::new(aead::Suite::Aes128GcmSiv, &key)?;
+    let sealed = seal(alloc, &cipher, &nonce, &text, &text)?;
     let wrapped = wrap_padded(alloc, &AesKey::from_slice(&key)?, &text)?;
-    let digits = hex::encode(alloc, &text)?;
     let mut file = Vec::new(alloc);
-    for (name, value) in [
-        ("format", "2"),
-        ("suite", suite.name()),
-        ("key", hex::encode(alloc, &key)?.as_str()),
-        ("nonce", hex::encode(alloc, nonce.bytes())?.as_str()),
-        ("aad", digits.as_str()),
-        ("sealed", hex::encode(alloc, &sealed)?.as_str()),
-        ("text", digits.as_str()),
-        ("suite", "aes-128-wrap-pad"),
-        ("key", hex::encode(alloc, &key)?.as_str()),
-        ("sealed", hex::encode(alloc, &wrapped)?.as_str()),
-        ("text", digits.as_str()),
-    ] {
-        file.extend_from_slice(name.as_bytes())?;
-        file.extend_from_slice(b" = ")?;
-        file.extend_from_slice(value.as_bytes())?;
-        file.push(b'\n')?;
-    }
+    add_line(&mut file, "format", "2")?;
+    add_line(&mut file, "suite", "aes-128-gcm-siv")?;
+    add_digits(&mut file, alloc, "key", &key)?;
+    add_digits(&mut file, alloc, "nonce", &[3; 12])?;
+    add_digits(&mut file, alloc, "aad", &text)?;
+    add_digits(&mut file, alloc, "sealed", &sealed)?;
+    add_digits(&mut file, alloc, "text", &text)?;
+    add_line(&mut file, "suite", "aes-128-wrap-pad")?;
+    add_digits(&mut file, alloc, "key", &key)?;
+    add_digits(&mut file, alloc, "sealed", &wrapped)?;
+    add_digits(&mut file, alloc, "text", &text)?;
     Ok(file)
 }
 
