@@ -14,7 +14,7 @@ use gf128::reversed_mul_x;
 use octets::{Block, Nonce};
 
 // Two halves of a block.
-fn joined(first: &[u8; 8], second: &[u8; 8]) -> [u8; 16]
+pub(crate) fn joined(first: &[u8; 8], second: &[u8; 8]) -> [u8; 16]
     ensures { result ≡ first.now ++ second.now }
 {
     let mut both = [0; 16];
