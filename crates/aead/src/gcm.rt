@@ -20,7 +20,7 @@ use std::marker::Model;
 const SHORT: usize = 128;
 
 // From so many bytes on, those of four powers of the hash key are.
-const LONG: usize = 4096;
+const LONG: usize = 1536;
 
 /// AES-GCM under a key of 16, 24 or 32 bytes (SP 800-38D). Opening in place authenticates before it changes a byte.
 /// Contracts see its suite and key. `AnyAead::new` makes it.
@@ -29,8 +29,6 @@ pub struct Gcm {
     suite: Suite,
     key: AesKey,
     ghash_key: Block,
-    // The few multiples that a short text takes: what is kept is small, since it moves with the key.
-    multiplier: TableMul,
 }
 
 impl Model for Gcm {
@@ -38,12 +36,12 @@ impl Model for Gcm {
 
     ghost view = { λ c. record { suite = c.suite; key = c.key } };
 
-    ghost invariant = { λ c. (construction_of c.suite ≡ ByGcm) × (c.ghash_key ≡ hash_key c.key)
-        × (⟦<TableMul as Multiply>⟧.key_bytes c.multiplier ≡ hash_key c.key) };
+    ghost invariant = { λ c. (construction_of c.suite ≡ ByGcm) × (c.ghash_key ≡ hash_key c.key) };
 }
 
 impl Gcm {
     // The cipher of one of the three suites under a key.
+    #[inline(always)]
     pub(crate) fn new(suite: Suite, key: AesKey) -> Gcm
         requires { construction_of suite ≡ ByGcm }
         ensures { result ≡ record { suite = suite; key = key } }
@@ -53,7 +51,6 @@ impl Gcm {
             suite,
             key,
             ghash_key,
-            multiplier: TableMul::of(&ghash_key),
         }
     }
 
@@ -73,13 +70,6 @@ impl Gcm {
             nonce,
             multiplier,
         }
-    }
-
-    // The multiples of its hash key that are kept.
-    fn multiplier(&self) -> &TableMul
-        ensures { ⟦<TableMul as Multiply>⟧.key_bytes result.now ≡ hash_key self.now.key }
-    {
-        &self.multiplier
     }
 
     // A multiplier of its hash key.
@@ -175,7 +165,7 @@ impl Aead for Gcm {
     fn seal_in_place(&self, nonce: &Nonce, aad: &[u8], text: &mut [u8]) -> Result<Tag, Fault> {
         let length = aad.len() + text.len();
         if length < SHORT {
-            seal_whole(&self.nonced(nonce, self.multiplier()), aad, text)
+            self.seal_by::<TableMul>(nonce, aad, text)
         } else if length < LONG {
             self.seal_by::<PlacedMul>(nonce, aad, text)
         } else {
@@ -192,7 +182,7 @@ impl Aead for Gcm {
     ) -> Result<(), Fault> {
         let length = aad.len() + body.len();
         if length < SHORT {
-            open_whole(&self.nonced(nonce, self.multiplier()), aad, body, tag)
+            self.open_by::<TableMul>(nonce, aad, body, tag)
         } else if length < LONG {
             self.open_by::<PlacedMul>(nonce, aad, body, tag)
         } else {
