@@ -19,14 +19,13 @@ pad16_after a b whole =
     let same : (16 - length (a ++ b) % 16) % 16 ≡ (16 - length b % 16) % 16 = omega (arith, length-append a b) in
     ap (λ n. (a ++ b) ++ replicate n 0) same ∙ append_assoc a b (padding b)
 
--- two padded parts and two more
-pub fed : (a b x y : List ℕ) → (pad16 (pad16 a ++ b) ++ x) ++ y ≡ pad16 a ++ (pad16 b ++ (x ++ y))
-fed a b x y =
-    ap (λ l. (l ++ x) ++ y) (pad16_after (pad16 a) b (whole_padded a))
-    ∙ append_assoc (pad16 a ++ pad16 b) x y
-    ∙ append_assoc (pad16 a) (pad16 b) (x ++ y)
+-- two padded parts and more
+pub fed : (a b z : List ℕ) → pad16 (pad16 a ++ b) ++ z ≡ pad16 a ++ (pad16 b ++ z)
+fed a b z =
+    ap (λ l. l ++ z) (pad16_after (pad16 a) b (whole_padded a))
+    ∙ append_assoc (pad16 a) (pad16 b) z
 
--- and they are whole blocks where the last two are one
+-- and two parts of 8 bytes after them make whole blocks
 pub whole_fed : (a b x y : List ℕ) → length x ≡ 8 → length y ≡ 8 → length (pad16 a ++ (pad16 b ++ (x ++ y))) % 16 ≡ 0
 whole_fed a b x y l m =
     omega (

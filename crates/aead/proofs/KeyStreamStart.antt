@@ -4,7 +4,7 @@ use Rattle.std.proofs.lemmas.List.{ext_get_or, get_or-take, length-take-le}
 use Rattle.chacha.specs.Block.{block}
 use Rattle.chacha.specs.Stream.{key_stream_byte}
 use Rattle.chacha.proofs.Lengths.{length-block}
-use Rattle.chacha.proofs.Masking.{block_bytes, four_blocks_bytes}
+use Rattle.chacha.proofs.Masking.{block_bytes, two_blocks_bytes, four_blocks_bytes}
 use Rattle.aead.specs.Sealing.{poly_key}
 
 -- its first 32 bytes are the key of the authenticator
@@ -38,6 +38,20 @@ start_of_four key nonce blocks start are is_start size =
       whole = omega (arith, size, four);
       start_is = λ i l. ap (λ s. get_or s i 0) (is_start ∙ ap (λ bs. flat_map (λ (b : List ℕ). b) bs) are)
           ∙ four_blocks_bytes key nonce 0 i (omega (arith, l, size, four));
+    }
+
+-- two blocks, one after the other, are its start
+pub start_of_two : (key nonce : List ℕ) (blocks : List (List ℕ)) (start : List ℕ)
+    → blocks ≡ block key 0 nonce ∷ block key 1 nonce ∷ [] → start ≡ flat_map (λ b. b) blocks
+    → length start ≡ length blocks * 64 → IsStart key nonce start
+start_of_two key nonce blocks start are is_start size =
+    let two : length blocks ≡ 2 = ap length are in
+    record {
+      has_a_block = omega (arith, size, two);
+      short = omega (arith, size, two);
+      whole = omega (arith, size, two);
+      start_is = λ i l. ap (λ s. get_or s i 0) (is_start ∙ ap (λ bs. flat_map (λ (b : List ℕ). b) bs) are)
+          ∙ two_blocks_bytes key nonce 0 i (omega (arith, l, size, two));
     }
 
 -- the first block is its start

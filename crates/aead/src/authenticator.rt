@@ -19,6 +19,7 @@ pub(crate) struct Authenticator<H> {
 
 impl<H: TagHash> Authenticator<H> {
     // Takes in the associated data.
+    #[inline(always)]
     pub(crate) fn new(mut hash: H, aad: &[u8]) -> Authenticator<H>
         ensures holds { (s : Setting) → s.aad ≡ aad.now → length aad.now ≤ aad_limit s.suite → H.held hash s []
             → HoldsAuthenticator H.held result s [] }
@@ -34,6 +35,7 @@ impl<H: TagHash> Authenticator<H> {
     }
 
     // Takes in the next bytes.
+    #[inline(always)]
     pub(crate) fn update(&mut self, bytes: &[u8])
         requires { self.old.length + length bytes.now < 2 ^ 64 }
         ensures holds { (s : Setting) (m : List ℕ) → HoldsAuthenticator H.held self.old s m → length m + length bytes.now ≤ text_limit s.suite
@@ -45,6 +47,7 @@ impl<H: TagHash> Authenticator<H> {
     }
 
     // The tag of what was taken in.
+    #[inline(always)]
     pub(crate) fn finish(self) -> Tag
         ensures { (s : Setting) (m : List ℕ) → HoldsAuthenticator H.held self s m → result ≡ tag_over s.suite s.key s.nonce s.aad m }
     {

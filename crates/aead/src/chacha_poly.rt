@@ -11,7 +11,7 @@ use crate::aead::Aead;
 use crate::begun_stream::BegunStream;
 use crate::nonced::{Nonced, open_whole, seal_whole};
 use crate::suite::Suite;
-use chacha::{ChaStream, block, four_blocks};
+use chacha::{ChaStream, block, four_blocks, two_blocks};
 use octets::{Fault, Key32, Nonce, Tag};
 use poly1305::Poly;
 use std::marker::Model;
@@ -123,8 +123,11 @@ impl<'a> Nonced for BegunChaCha<'a> {
     }
 }
 
-// How many bytes of text the blocks with the counters 1 to 3 mask.
-const SHORT: usize = 192;
+// How many bytes of text the block with counter 1 masks.
+const ONE_BLOCK: usize = 64;
+
+// How many the blocks with the counters 1 to 3 do.
+const THREE_BLOCKS: usize = 192;
 
 impl Aead for ChaChaPoly {
     ghost keyed = { λ c. c };
@@ -136,7 +139,11 @@ impl Aead for ChaChaPoly {
 
     fn seal_in_place(&self, nonce: &Nonce, aad: &[u8], text: &mut [u8]) -> Result<Tag, Fault> {
         let key = &self.key;
-        if text.len() <= SHORT {
+        if text.len() <= ONE_BLOCK {
+            let blocks = two_blocks(key, 0, nonce);
+            let start = blocks.as_flattened();
+            seal_whole(&BegunChaCha { key, nonce, start }, aad, text)
+        } else if text.len() <= THREE_BLOCKS {
             let blocks = four_blocks(key, 0, nonce);
             let start = blocks.as_flattened();
             seal_whole(&BegunChaCha { key, nonce, start }, aad, text)
@@ -154,7 +161,11 @@ impl Aead for ChaChaPoly {
         tag: &Tag,
     ) -> Result<(), Fault> {
         let key = &self.key;
-        if body.len() <= SHORT {
+        if body.len() <= ONE_BLOCK {
+            let blocks = two_blocks(key, 0, nonce);
+            let start = blocks.as_flattened();
+            open_whole(&BegunChaCha { key, nonce, start }, aad, body, tag)
+        } else if body.len() <= THREE_BLOCKS {
             let blocks = four_blocks(key, 0, nonce);
             let start = blocks.as_flattened();
             open_whole(&BegunChaCha { key, nonce, start }, aad, body, tag)

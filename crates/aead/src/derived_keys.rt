@@ -1,8 +1,8 @@
 // The keys of a message of AES-GCM-SIV (RFC 8452, 4).
 
-ghost use Rattle.std.specs.Prelude.{◌≡◌, ◌++◌, length, take};
+ghost use Rattle.std.specs.Prelude.{◌≡◌, ℕ, ◌<◌, ◌++◌, length, take};
 ghost use Rattle.std.specs.Int.{w32, to_le_bytes};
-ghost use Rattle.octets.specs.Bytes.{IsBlock};
+ghost use Rattle.octets.specs.Bytes.{IsBlock, block_at};
 ghost use Rattle.aes.specs.Cipher.{IsKeyLength};
 ghost use Rattle.gf128.specs.Polyval.{IsReversedMulX};
 ghost use Rattle.aead.specs.Suites.{construction_of, key_length, ByGcmSiv};
@@ -14,7 +14,7 @@ use gf128::reversed_mul_x;
 use octets::{Block, Nonce};
 
 // Two halves of a block.
-fn joined(first: &[u8; 8], second: &[u8; 8]) -> [u8; 16]
+pub(crate) fn joined(first: &[u8; 8], second: &[u8; 8]) -> [u8; 16]
     ensures { result ≡ first.now ++ second.now }
 {
     let mut both = [0; 16];
@@ -30,6 +30,16 @@ fn joined_blocks(first: &[u8; 16], second: &[u8; 16]) -> [u8; 32]
     let mut both = [0; 32];
     both[..16].copy_from_slice(first);
     both[16..].copy_from_slice(second);
+    both
+}
+
+// Four blocks.
+fn joined_halves(first: &[u8; 32], second: &[u8; 32]) -> [u8; 64]
+    ensures { result ≡ first.now ++ second.now }
+{
+    let mut both = [0; 64];
+    both[..32].copy_from_slice(first);
+    both[32..].copy_from_slice(second);
     both
 }
 
@@ -52,6 +62,56 @@ fn numbered(i: u32, nonce: &[u8; 12]) -> [u8; 16]
     block
 }
 
+// The blocks with the numbers 0 to 3.
+fn first_numbered(nonce: &[u8; 12]) -> [u8; 64]
+    ensures { (q : ℕ) → q < 4 → block_at result q ≡ to_le_bytes w32 q ++ nonce.now }
+{
+    let front = joined_blocks(&numbered(0, nonce), &numbered(1, nonce));
+    let back = joined_blocks(&numbered(2, nonce), &numbered(3, nonce));
+    joined_halves(&front, &back)
+}
+
+// The first half of one of four blocks.
+fn half_of(blocks: &[u8; 64], q: usize) -> [u8; 8]
+    requires { q < 4 }
+    ensures { result ≡ take 8 (block_at blocks.now q) }
+{
+    let mut half = [0; 8];
+    half.copy_from_slice(&blocks[16 * q..16 * q + 8]);
+    half
+}
+
+// Parts 0 to 3 of the derived keys, each the first half of a block (RFC 8452, 4): four blocks are encrypted at once.
+#[derive(Drop)]
+struct Parts<'a> {
+    key: &'a AesKey,
+    nonce: &'a Nonce,
+    blocks: [u8; 64],
+    ghost parts: { (q : ℕ) → q < 4 → take 8 (block_at blocks q) ≡ key_part key.now nonce.now q },
+}
+
+impl<'a> Parts<'a> {
+    // The parts under a key with a nonce.
+    fn new(key: &'a AesKey, nonce: &'a Nonce) -> Parts<'a>
+        ensures key { result.key.now ≡ key.now }
+        ensures nonce { result.nonce.now ≡ nonce.now }
+    {
+        Parts {
+            key,
+            nonce,
+            blocks: key.encrypt_four(&first_numbered(nonce.bytes())),
+        }
+    }
+
+    // Part `i`: 8 bytes.
+    fn at(&self, i: usize) -> [u8; 8]
+        requires { i < 4 }
+        ensures { result ≡ key_part self.now.key.now self.now.nonce.now i }
+    {
+        half_of(&self.blocks, i)
+    }
+}
+
 // Part `i` of the derived keys: 8 bytes (RFC 8452, 4).
 fn key_part(key: &AesKey, nonce: &Nonce, i: u32) -> [u8; 8]
     ensures { result ≡ key_part key.now nonce.now i }
@@ -61,27 +121,30 @@ fn key_part(key: &AesKey, nonce: &Nonce, i: u32) -> [u8; 8]
 }
 
 // The key of POLYVAL: parts 0 and 1 (RFC 8452, 4).
-fn authentication_key(key: &AesKey, nonce: &Nonce) -> Block
-    ensures { result ≡ authentication_key key.now nonce.now }
+fn authentication_key(parts: &Parts) -> Block
+    ensures { result ≡ authentication_key parts.now.key.now parts.now.nonce.now }
 {
-    Block::new(joined(&key_part(key, nonce, 0), &key_part(key, nonce, 1)))
+    Block::new(joined(&parts.at(0), &parts.at(1)))
 }
 
 // The key of the cipher, where it has 16 bytes: parts 2 and 3 (RFC 8452, 4).
-fn short_encryption_key(key: &AesKey, nonce: &Nonce) -> [u8; 16]
-    requires { length key.now ≡ 16 }
-    ensures { result ≡ encryption_key key.now nonce.now }
+fn short_encryption_key(parts: &Parts) -> [u8; 16]
+    requires { length parts.now.key.now ≡ 16 }
+    ensures { result ≡ encryption_key parts.now.key.now parts.now.nonce.now }
 {
-    joined(&key_part(key, nonce, 2), &key_part(key, nonce, 3))
+    joined(&parts.at(2), &parts.at(3))
 }
 
 // The same, where it has 32 bytes: parts 2 to 5.
-fn long_encryption_key(key: &AesKey, nonce: &Nonce) -> [u8; 32]
-    requires { length key.now ≡ 32 }
-    ensures { result ≡ encryption_key key.now nonce.now }
+fn long_encryption_key(parts: &Parts) -> [u8; 32]
+    requires { length parts.now.key.now ≡ 32 }
+    ensures { result ≡ encryption_key parts.now.key.now parts.now.nonce.now }
 {
-    let first = joined(&key_part(key, nonce, 2), &key_part(key, nonce, 3));
-    let second = joined(&key_part(key, nonce, 4), &key_part(key, nonce, 5));
+    let first = joined(&parts.at(2), &parts.at(3));
+    let second = joined(
+        &key_part(parts.key, parts.nonce, 4),
+        &key_part(parts.key, parts.nonce, 5),
+    );
     joined_blocks(&first, &second)
 }
 
@@ -94,11 +157,11 @@ fn expanded(bytes: &[u8]) -> AesKey
 }
 
 // The key of POLYVAL's multiplier in GHASH's field (RFC 8452, appendix A).
-fn hash_key(key: &AesKey, nonce: &Nonce) -> Block
-    ensures value { IsReversedMulX (authentication_key key.now nonce.now) result }
-    ensures of_block { IsBlock (authentication_key key.now nonce.now) }
+fn hash_key(parts: &Parts) -> Block
+    ensures value { IsReversedMulX (authentication_key parts.now.key.now parts.now.nonce.now) result }
+    ensures of_block { IsBlock (authentication_key parts.now.key.now parts.now.nonce.now) }
 {
-    reversed_mul_x(&authentication_key(key, nonce))
+    reversed_mul_x(&authentication_key(parts))
 }
 
 // The keys of one message.
@@ -118,10 +181,11 @@ impl DerivedKeys {
         ensures hash_key { IsReversedMulX (authentication_key key.now nonce.now) result.hash_key }
         ensures encryption { result.encryption ≡ encryption_key key.now nonce.now }
     {
-        let hash_key = hash_key(key, nonce);
+        let parts = Parts::new(key, nonce);
+        let hash_key = hash_key(&parts);
         let encryption = match suite {
-            Suite::Aes128GcmSiv => expanded(&short_encryption_key(key, nonce)),
-            _ => expanded(&long_encryption_key(key, nonce)),
+            Suite::Aes128GcmSiv => expanded(&short_encryption_key(&parts)),
+            _ => expanded(&long_encryption_key(&parts)),
         };
         DerivedKeys {
             hash_key,

@@ -2,7 +2,6 @@
 
 ghost use Rattle.std.specs.Prelude.{◌≡◌, ◌++◌, ◌∷◌, ℕ, List, [], length, MatchResult};
 ghost use Rattle.aes.specs.Cipher.{cipher};
-ghost use Rattle.gf128.specs.States.{key_of};
 ghost use Rattle.aead.specs.Suites.{construction_of, ByGcm};
 ghost use Rattle.aead.specs.Sealing.{hash_key, j0, Opened};
 ghost use Rattle.aead.specs.Ciphers.{Keyed, setting};
@@ -13,12 +12,15 @@ use crate::hashes::GhashTag;
 use crate::nonced::{Nonced, open_whole, seal_whole};
 use crate::suite::Suite;
 use aes::{AesKey, CtrBe};
-use gf128::{Ghash, HashKey, Keyed128, Multiply, PlacedMul, WideMul};
+use gf128::{Ghash, Keyed128, Multiply, PlacedMul, TableMul, WideMul};
 use octets::{Block, Fault, Nonce, Tag};
 use std::marker::Model;
 
-// From so many bytes on, a larger multiplier is worth its making.
-const LONG: usize = 4096;
+// From so many bytes on, multiples at eight places are worth their making.
+const SHORT: usize = 128;
+
+// From so many bytes on, those of four powers of the hash key are.
+const LONG: usize = 1536;
 
 /// AES-GCM under a key of 16, 24 or 32 bytes (SP 800-38D). Opening in place authenticates before it changes a byte.
 /// Contracts see its suite and key. `AnyAead::new` makes it.
@@ -26,7 +28,7 @@ const LONG: usize = 4096;
 pub struct Gcm {
     suite: Suite,
     key: AesKey,
-    ghash_key: HashKey,
+    ghash_key: Block,
 }
 
 impl Model for Gcm {
@@ -39,11 +41,12 @@ impl Model for Gcm {
 
 impl Gcm {
     // The cipher of one of the three suites under a key.
+    #[inline(always)]
     pub(crate) fn new(suite: Suite, key: AesKey) -> Gcm
         requires { construction_of suite ≡ ByGcm }
         ensures { result ≡ record { suite = suite; key = key } }
     {
-        let ghash_key = HashKey::new(&key.encrypt(&Block::new([0; 16])));
+        let ghash_key = key.encrypt(&Block::new([0; 16]));
         Gcm {
             suite,
             key,
@@ -69,40 +72,39 @@ impl Gcm {
         }
     }
 
-    // The multiples of its hash key that are kept.
-    pub(crate) fn multiplier(&self) -> &PlacedMul
-        ensures { key_of result.now ≡ hash_key self.now.key }
+    // A multiplier of its hash key.
+    pub(crate) fn multiplier_of<M: Keyed128>(&self) -> M
+        ensures { M.key_bytes result ≡ hash_key self.now.key }
     {
-        self.ghash_key.multiplier()
+        M::of(&self.ghash_key)
     }
 
-    // A larger multiplier of its hash key, for a long text.
-    fn wide_multiplier(&self) -> WideMul
-        ensures { ⟦<WideMul as Multiply>⟧.key_bytes result ≡ hash_key self.now.key }
-    {
-        WideMul::of(self.ghash_key.key())
-    }
-
-    // Seals a long text.
+    // Seals by a multiplier of the type `M`.
     #[inline(never)]
-    fn seal_long(&self, nonce: &Nonce, aad: &[u8], text: &mut [u8]) -> Result<Tag, Fault>
+    fn seal_by<M: Keyed128>(&self, nonce: &Nonce, aad: &[u8], text: &mut [u8]) -> Result<Tag, Fault>
         ensures { let s = setting self.now nonce.now aad.now in
             MatchResult result (λ tag. Opened s (text.new ++ tag) text.old) (λ e. SealRefused s text.old e × (text.new ≡ text.old)) }
     {
-        let wide = self.wide_multiplier();
-        seal_whole(&self.nonced(nonce, &wide), aad, text)
+        let made = self.multiplier_of::<M>();
+        seal_whole(&self.nonced(nonce, &made), aad, text)
     }
 
-    // Opens a long ciphertext.
+    // Opens by a multiplier of the type `M`.
     #[inline(never)]
-    fn open_long(&self, nonce: &Nonce, aad: &[u8], body: &mut [u8], tag: &Tag) -> Result<(), Fault>
+    fn open_by<M: Keyed128>(
+        &self,
+        nonce: &Nonce,
+        aad: &[u8],
+        body: &mut [u8],
+        tag: &Tag,
+    ) -> Result<(), Fault>
         ensures answer { let s = setting self.now nonce.now aad.now in
             MatchResult result (λ _. Opened s (body.old ++ tag.now) body.new) (λ e. OpenRefused s body.old tag.now e × (body.new ≡ body.old)) }
         ensures found { let s = setting self.now nonce.now aad.now in
             (text : List ℕ) → Opened s (body.old ++ tag.now) text → MatchResult result (λ _. body.new ≡ text) (λ _. ⊥) }
     {
-        let wide = self.wide_multiplier();
-        open_whole(&self.nonced(nonce, &wide), aad, body, tag)
+        let made = self.multiplier_of::<M>();
+        open_whole(&self.nonced(nonce, &made), aad, body, tag)
     }
 }
 
@@ -161,10 +163,13 @@ impl Aead for Gcm {
     }
 
     fn seal_in_place(&self, nonce: &Nonce, aad: &[u8], text: &mut [u8]) -> Result<Tag, Fault> {
-        if aad.len() + text.len() < LONG {
-            seal_whole(&self.nonced(nonce, self.multiplier()), aad, text)
+        let length = aad.len() + text.len();
+        if length < SHORT {
+            self.seal_by::<TableMul>(nonce, aad, text)
+        } else if length < LONG {
+            self.seal_by::<PlacedMul>(nonce, aad, text)
         } else {
-            self.seal_long(nonce, aad, text)
+            self.seal_by::<WideMul>(nonce, aad, text)
         }
     }
 
@@ -175,10 +180,13 @@ impl Aead for Gcm {
         body: &mut [u8],
         tag: &Tag,
     ) -> Result<(), Fault> {
-        if aad.len() + body.len() < LONG {
-            open_whole(&self.nonced(nonce, self.multiplier()), aad, body, tag)
+        let length = aad.len() + body.len();
+        if length < SHORT {
+            self.open_by::<TableMul>(nonce, aad, body, tag)
+        } else if length < LONG {
+            self.open_by::<PlacedMul>(nonce, aad, body, tag)
         } else {
-            self.open_long(nonce, aad, body, tag)
+            self.open_by::<WideMul>(nonce, aad, body, tag)
         }
     }
 }

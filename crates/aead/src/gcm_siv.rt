@@ -44,6 +44,7 @@ impl Model for GcmSiv {
 
 impl GcmSiv {
     // The cipher of one of the two suites under a key of its length.
+    #[inline(always)]
     pub(crate) fn new(suite: Suite, key: AesKey) -> GcmSiv
         requires by_gcm_siv { construction_of suite ≡ ByGcmSiv }
         requires long { length key ≡ key_length suite }

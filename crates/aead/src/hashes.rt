@@ -5,6 +5,7 @@ ghost use Rattle.octets.specs.Bytes.{pad16};
 ghost use Rattle.aead.specs.Sealing.{Setting, Fits, tag_block, tag_over};
 ghost use Rattle.aead.specs.States.{HeldByPoly, HeldByGhash, HeldByPolyval};
 
+use crate::derived_keys::joined;
 use aes::AesKey;
 use gf128::{Ghash, Multiply, Polyval};
 use octets::{Block, Nonce, Tag, xor_into, xored};
@@ -50,8 +51,7 @@ impl TagHash for Poly {
 
     fn tag(self, aad_length: u64, bytes_length: u64) -> Tag {
         let mut hash = self;
-        hash.update(&aad_length.to_le_bytes());
-        hash.update(&bytes_length.to_le_bytes());
+        hash.update(&joined(&aad_length.to_le_bytes(), &bytes_length.to_le_bytes()));
         hash.finish()
     }
 }
@@ -76,8 +76,8 @@ impl<M: Multiply> TagHash for GhashTag<M> {
 
     fn tag(self, aad_length: u64, bytes_length: u64) -> Tag {
         let GhashTag { mut hash, mask } = self;
-        hash.update(&bits(aad_length).to_be_bytes());
-        hash.update(&bits(bytes_length).to_be_bytes());
+        let (first, second) = (bits(aad_length), bits(bytes_length));
+        hash.update(&joined(&first.to_be_bytes(), &second.to_be_bytes()));
         Tag::new(xored(mask.bytes(), hash.finish().bytes()))
     }
 }
@@ -117,8 +117,8 @@ impl<M: Multiply> TagHash for PolyvalTag<M> {
             key,
             nonce,
         } = self;
-        hash.update(&bits(aad_length).to_le_bytes());
-        hash.update(&bits(bytes_length).to_le_bytes());
+        let (first, second) = (bits(aad_length), bits(bytes_length));
+        hash.update(&joined(&first.to_le_bytes(), &second.to_le_bytes()));
         let block = tag_block(hash.finish().bytes(), nonce.bytes());
         Tag::new(*key.encrypt(&Block::new(block)).bytes())
     }

@@ -28,6 +28,7 @@ impl<S: MaskStream, H: TagHash> Masking<S, H> {
     ghost use Rattle.aead.specs.Maskings.{Task, HoldsMasking, task_mask};
 
     // No piece yet.
+    #[inline(always)]
     pub(crate) fn new(
         mask: S,
         authenticator: Authenticator<H>,
@@ -56,6 +57,7 @@ impl<S: MaskStream, H: TagHash> Masking<S, H> {
     }
 
     // Masks the next piece.
+    #[inline(always)]
     pub(crate) fn update(&mut self, piece: &mut [u8])
         requires { self.old.authenticator.length + length piece.old ≤ self.old.limit }
         ensures masked { (t : Task) (fed : List ℕ) → HoldsMasking S.made H.held self.old t fed
@@ -73,6 +75,7 @@ impl<S: MaskStream, H: TagHash> Masking<S, H> {
     }
 
     // The tag of all pieces.
+    #[inline(always)]
     pub(crate) fn finish(self) -> Tag
         ensures { (t : Task) (fed : List ℕ) → HoldsMasking S.made H.held self t fed
             → result ≡ tag_over t.setting.suite t.setting.key t.setting.nonce t.setting.aad (authenticated t.over_input t.setting t.tag fed) }

@@ -40,6 +40,7 @@ pub(crate) trait Nonced {
 }
 
 // The authenticator that has taken in associated data.
+#[inline(always)]
 pub(crate) fn authenticator<N: Nonced>(nonced: &N, aad: &[u8]) -> Authenticator<N::Hash>
     requires { length aad.now ≤ aad_limit (N.keyed nonced.now).suite }
     ensures holds { HoldsAuthenticator N.Hash.held result (setting (N.keyed nonced.now) (N.nonce nonced.now) aad.now) [] }
@@ -49,6 +50,7 @@ pub(crate) fn authenticator<N: Nonced>(nonced: &N, aad: &[u8]) -> Authenticator<
 }
 
 // The state that masks under a tag, and authenticates the pieces as they come or as they leave.
+#[inline(always)]
 pub(crate) fn masking<N: Nonced>(
     nonced: &N,
     aad: &[u8],

@@ -14,6 +14,7 @@ use crate::aead::Aead;
 use crate::any::AnyOnePass;
 use crate::any_masking::AnyMasking;
 use crate::nonced::masking;
+use gf128::PlacedMul;
 use octets::{Fault, Nonce, Tag};
 
 /// A text that is sealed piece by piece in one reading.
@@ -35,7 +36,7 @@ fn sealing(cipher: &AnyOnePass, nonce: &Nonce, aad: &[u8]) -> AnyMasking
             AnyMasking::ByChaCha(masking(&cipher.nonced(nonce), aad, &tag, false))
         }
         AnyOnePass::Gcm(cipher) => {
-            let nonced = cipher.nonced(nonce, *cipher.multiplier());
+            let nonced = cipher.nonced(nonce, cipher.multiplier_of::<PlacedMul>());
             AnyMasking::ByGcm(masking(&nonced, aad, &tag, false))
         }
     }

@@ -106,6 +106,7 @@ impl<C: Count> Counter<C> {
     ghost use Rattle.aes.specs.Code.Lanes.{IsReady};
 
     // The stream whose first block is the cipher of `first`.
+    #[inline(always)]
     fn new(key: &AesKey, first: &Block) -> Counter<C>
         ensures { Makes C.up result key.now first.now 0 }
     {
@@ -231,6 +232,7 @@ impl CtrBe {
     ghost use Rattle.aes.specs.Streams.{HoldsBe};
 
     /// The stream whose first block is the cipher of `first`.
+    #[inline(always)]
     pub fn new(key: &AesKey, first: &Block) -> CtrBe
         ensures { HoldsBe result key.now first.now 0 }
     {
@@ -261,6 +263,7 @@ impl CtrLe {
     ghost use Rattle.aes.specs.Streams.{HoldsLe};
 
     /// The stream whose first block is the cipher of `first`.
+    #[inline(always)]
     pub fn new(key: &AesKey, first: &Block) -> CtrLe
         ensures { HoldsLe result key.now first.now 0 }
     {

@@ -3,3 +3,4 @@ pub mod Words
 pub mod Masking
 pub mod SideBySide
 pub mod Lengths
+pub mod ByRows

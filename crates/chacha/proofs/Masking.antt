@@ -93,6 +93,27 @@ four_blocks_bytes key nonce c i below =
     (omega arith) (omega arith)
     ∙ ap (λ (b : List ℕ). get_or b (i % 64) 0) (block_of_four key nonce c (i / 64) (omega arith))
 
+-- one of two blocks
+block_of_two : (key nonce : List ℕ) (c q : ℕ) → q < 2
+    → get_or (block key c nonce ∷ block key (c + 1) nonce ∷ []) q [] ≡ block key (c + q) nonce
+block_of_two key nonce c zero h =
+    let same : c ≡ c + 0 = omega arith in ap (λ (n : ℕ). block key n nonce) same
+block_of_two key nonce c (suc zero) h = refl
+block_of_two key nonce c (suc (suc q)) h = absurd (omega arith)
+
+-- two blocks are the first bytes of the key stream from their counter on
+pub two_blocks_bytes : (key nonce : List ℕ) (c i : ℕ) → i < 128
+    → get_or (flat_map (λ (b : List ℕ). b) (block key c nonce ∷ block key (c + 1) nonce ∷ [])) i 0
+    ≡ key_stream_byte key nonce c i
+unfolding key_stream_byte
+two_blocks_bytes key nonce c i below =
+    let bs = block key c nonce ∷ block key (c + 1) nonce ∷ [] in
+    let whole : i ≡ 64 * (i / 64) + i % 64 = omega arith in
+    ap (λ (n : ℕ). get_or (flat_map (λ (b : List ℕ). b) bs) n 0) whole
+    ∙ byte_of_blocks bs (i / 64) (i % 64) (length-block key c nonce, (length-block key (c + 1) nonce, tt {0}))
+    (omega arith) (omega arith)
+    ∙ ap (λ (b : List ℕ). get_or b (i % 64) 0) (block_of_two key nonce c (i / 64) (omega arith))
+
 -- a zero becomes the byte of the stream
 masked_zero : (f : ℕ → ℕ) (at i k : ℕ) (xs : List ℕ) → i < length xs → get_or xs i 0 ≡ 0 → k ≡ at + i
     → get_or (masked f at xs) i 0 ≡ f k

@@ -1,2 +1,3 @@
 -- How the code makes several blocks at once. The key stream is defined without it.
 pub mod Lanes
+pub mod Rows

@@ -16,7 +16,7 @@ use std::simd::{Simd, u32x4, u32x8};
 
 // The sums of the words, lane by lane.
 #[inline(always)]
-fn sum<const N: usize>(x: Simd<u32, N>, y: Simd<u32, N>) -> Simd<u32, N>
+pub(crate) fn sum<const N: usize>(x: Simd<u32, N>, y: Simd<u32, N>) -> Simd<u32, N>
     ensures { (j : ℕ) → j < N
         → slice_index result j ≡ (slice_index x.entry j + slice_index y.entry j) % 2 ^ 32 }
 {
@@ -36,8 +36,14 @@ fn xor_rotated<const N: usize>(x: Simd<u32, N>, y: Simd<u32, N>, n: u32) -> Simd
 
 // a += b; d ^= a; d <<<= n, in each lane.
 #[inline(always)]
-fn add_xor_rotate<const N: usize>(x: &mut [Simd<u32, N>; 16], a: usize, b: usize, d: usize, n: u32)
-    requires places { (a < 16) × (b < 16) × (d < 16) }
+fn add_xor_rotate<const N: usize, const K: usize>(
+    x: &mut [Simd<u32, N>; K],
+    a: usize,
+    b: usize,
+    d: usize,
+    n: u32,
+)
+    requires places { (a < K) × (b < K) × (d < K) }
     requires turn { (0 < n) × (n < 32) }
     ensures { (j : ℕ) → j < N → lane j x.new ≡ add_xor_rotate a b d n (lane j x.old) }
 {
@@ -49,8 +55,14 @@ fn add_xor_rotate<const N: usize>(x: &mut [Simd<u32, N>; 16], a: usize, b: usize
 
 // The quarter round in each lane.
 #[inline(always)]
-fn quarter_round<const N: usize>(x: &mut [Simd<u32, N>; 16], a: usize, b: usize, c: usize, d: usize)
-    requires { (a < 16) × (b < 16) × (c < 16) × (d < 16) }
+pub(crate) fn quarter_round<const N: usize, const K: usize>(
+    x: &mut [Simd<u32, N>; K],
+    a: usize,
+    b: usize,
+    c: usize,
+    d: usize,
+)
+    requires { (a < K) × (b < K) × (c < K) × (d < K) }
     ensures { (j : ℕ) → j < N → lane j x.new ≡ quarter_round a b c d (lane j x.old) }
 {
     add_xor_rotate(x, a, b, d, 16);
@@ -202,7 +214,7 @@ fn transposed(a: u32x4, b: u32x4, c: u32x4, d: u32x4) -> (u32x4, u32x4, u32x4, u
 
 // The words of the lanes, each with its lowest byte first.
 #[inline(always)]
-fn bytes_of(lanes: u32x4) -> [u8; 16]
+pub(crate) fn bytes_of(lanes: u32x4) -> [u8; 16]
     ensures { result ≡ serialized lanes }
 {
     lanes.to_le_bytes().to_array()

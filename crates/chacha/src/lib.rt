@@ -1,7 +1,8 @@
-//! ChaCha20 (RFC 8439, 2.1 to 2.4): the block, four blocks at once, and the key stream in pieces.
+//! ChaCha20 (RFC 8439, 2.1 to 2.4): the block, two and four blocks at once, and the key stream in pieces.
 #![tactic(auto)]
 
 mod lanes;
+mod rows;
 mod single;
 mod state;
 mod stream;
@@ -11,5 +12,6 @@ mod tests;
 mod uses;
 
 pub use lanes::{four_blocks, xor_four_blocks};
+pub use rows::two_blocks;
 pub use single::block;
 pub use stream::ChaStream;

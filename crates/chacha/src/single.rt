@@ -70,7 +70,7 @@ fn add(s: &mut [u32; 16], start: &[u32; 16])
 
 // Puts bytes into a part of `out`, from place `at` on.
 #[inline(always)]
-fn put(out: &mut [u8], at: usize, bytes: &[u8])
+pub(crate) fn put(out: &mut [u8], at: usize, bytes: &[u8])
     requires { at + length bytes.now ≤ length out.old }
     ensures { out.new ≡ take at out.old ++ bytes.now ++ drop (at + length bytes.now) out.old }
 {

@@ -129,6 +129,23 @@ fn four_blocks_are_single_blocks(rt: HostRuntime) -> Result<(), Fail> {
     Ok(())
 }
 
+// Whether two blocks at once are those that are made one by one.
+fn two_agree(first: u32) -> Result<bool, Fault>
+    requires { first + 1 < 2 ^ 32 }
+{
+    let key = Key32::from_slice(&KEY)?;
+    let nonce = Nonce::from_slice(&[7; 12])?;
+    let expected = ten_blocks(&key, &nonce, first);
+    Ok(expected.starts_with(two_blocks(&key, first, &nonce).as_flattened()))
+}
+
+#[test]
+fn two_blocks_are_single_blocks(rt: HostRuntime) -> Result<(), Fail> {
+    assert!(rt; two_agree(0)?);
+    assert!(rt; two_agree(u32::MAX - 1)?);
+    Ok(())
+}
+
 #[test]
 fn every_length(rt: HostRuntime) -> Result<(), Fail> {
     let key = Key32::from_slice(&KEY)?;

@@ -69,8 +69,14 @@ impl<A: Absorb> Pieces<A> {
             → HoldsPieces A.absorbed self.new k (m ++ bytes.now) }
     {
         let whole = bytes.len() / 16 * 16;
+        if whole == 0 {
+            self.keep(bytes);
+            return;
+        }
         self.core.absorb(&bytes[..whole]);
-        self.keep(&bytes[whole..]);
+        if whole < bytes.len() {
+            self.keep(&bytes[whole..]);
+        }
     }
 
     /// Adds `piece`, of any length, to the end of the text.
@@ -94,8 +100,10 @@ impl<A: Absorb> Pieces<A> {
         ensures { (k m : List ℕ) → HoldsPieces A.absorbed self.old k m
             → HoldsPieces A.absorbed self.new k (pad16 m) }
     {
-        let zeros = [0u8; 16];
-        let missing = (16 - self.used) % 16;
-        self.update(&zeros[..missing]);
+        if self.used > 0 {
+            let zeros = [0u8; 16];
+            let missing = 16 - self.used;
+            self.fill(&zeros[..missing]);
+        }
     }
 }

@@ -33,7 +33,7 @@ pub(crate) fn opening(cipher: &AnyAead, nonce: &Nonce, aad: &[u8], tag: &Tag) ->
             AnyMasking::ByChaCha(opening_over(&cipher.nonced(nonce), aad, tag))
         }
         AnyAead::OnePass(AnyOnePass::Gcm(cipher)) => {
-            let nonced = cipher.nonced(nonce, *cipher.multiplier());
+            let nonced = cipher.nonced(nonce, cipher.multiplier_of::<PlacedMul>());
             AnyMasking::ByGcm(opening_over(&nonced, aad, tag))
         }
         AnyAead::Siv(cipher) => {

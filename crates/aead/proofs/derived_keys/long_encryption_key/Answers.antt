@@ -6,6 +6,6 @@ pub returns : goal.returns
 returns c =
     c.joined_blocks.ensures
     ∙ ap₂ (λ a b. a ++ b)
-    (c.joined-first.ensures ∙ ap₂ (λ a b. a ++ b) c.key_part.ensures c.key_part-2.ensures)
-    (c.joined-second.ensures ∙ ap₂ (λ a b. a ++ b) c.key_part-3.ensures c.key_part-4.ensures)
-    ∙ sym (long_key c.args.key.now c.args.nonce.now c.requires)
+    (c.joined-first.ensures ∙ ap₂ (λ a b. a ++ b) c.at.ensures c.at-2.ensures)
+    (c.joined-second.ensures ∙ ap₂ (λ a b. a ++ b) c.key_part.ensures c.key_part-2.ensures)
+    ∙ sym (long_key c.args.parts.now.key.now c.args.parts.now.nonce.now c.requires)

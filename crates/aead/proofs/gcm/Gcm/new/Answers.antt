@@ -5,4 +5,4 @@ use Rattle.aead.proofs.gcm.Gcm.new.Goals as goal
 
 pub invariant_of-result : goal.invariant_of-result
 unfolding hash_key
-invariant_of-result c = (c.requires, c.new-ghash_key.ensures ∙ c.encrypt.ensures.value ∙ ap (cipher c.args.key) c.new.ensures.value)
+invariant_of-result c = (c.requires, c.encrypt-ghash_key.ensures.value ∙ ap (cipher c.args.key) c.new.ensures.value)

@@ -18,7 +18,7 @@ returns g c = λ s m h fits is_aad is_bytes.
     by_ghash s m _ _ _ _ h.0 h.2 is_aad is_bytes
     (c.new.ensures.value ∙ c.xored.ensures
     ∙ ap₂ xor_bytes c.bytes.ensures.value
-    (c.bytes-2.ensures.value ∙ c.finish.ensures.value k _ (c.update-2.ensures k _ (c.update.ensures k fed h.1))
-    ∙ ap₂ (λ x y. ghash k (pad16 ((fed ++ x) ++ y)))
-    (c.to_be_bytes.ensures ∙ ap (to_be_bytes w64) (c.bits.ensures aad_small))
-    (c.to_be_bytes-2.ensures ∙ ap (to_be_bytes w64) (c.bits-2.ensures small))))
+    (c.bytes-2.ensures.value ∙ c.finish.ensures.value k _ (c.update.ensures k fed h.1)
+    ∙ ap (λ z. ghash k (pad16 (fed ++ z))) (c.joined.ensures ∙ ap₂ (λ x y. x ++ y)
+    (c.to_be_bytes.ensures ∙ ap (to_be_bytes w64) (c.bits-first.ensures aad_small))
+    (c.to_be_bytes-2.ensures ∙ ap (to_be_bytes w64) (c.bits-second.ensures small)))))

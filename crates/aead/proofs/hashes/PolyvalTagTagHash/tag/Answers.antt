@@ -24,8 +24,8 @@ returns g c = λ s m h fits is_aad is_bytes.
     ∙ ap (cipher c.args.self.key)
     (c.new.ensures.value ∙ c.tag_block-block.ensures
     ∙ ap₂ tag_block
-    (c.bytes.ensures.value ∙ c.finish.ensures.value k _ (c.update-2.ensures k _ (c.update.ensures k fed held))
-    ∙ ap₂ (λ x y. polyval k (pad16 ((fed ++ x) ++ y)))
-    (c.to_le_bytes.ensures ∙ ap (to_le_bytes w64) (c.bits.ensures aad_small))
-    (c.to_le_bytes-2.ensures ∙ ap (to_le_bytes w64) (c.bits-2.ensures small)))
+    (c.bytes.ensures.value ∙ c.finish.ensures.value k _ (c.update.ensures k fed held)
+    ∙ ap (λ z. polyval k (pad16 (fed ++ z))) (c.joined.ensures ∙ ap₂ (λ x y. x ++ y)
+    (c.to_le_bytes.ensures ∙ ap (to_le_bytes w64) (c.bits-first.ensures aad_small))
+    (c.to_le_bytes-2.ensures ∙ ap (to_le_bytes w64) (c.bits-second.ensures small))))
     c.bytes-2.ensures.value)))
