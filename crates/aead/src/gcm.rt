@@ -29,6 +29,8 @@ pub struct Gcm {
     suite: Suite,
     key: AesKey,
     ghash_key: Block,
+    // The few multiples that a short text takes: what is kept is small, since it moves with the key.
+    multiplier: TableMul,
 }
 
 impl Model for Gcm {
@@ -36,7 +38,8 @@ impl Model for Gcm {
 
     ghost view = { λ c. record { suite = c.suite; key = c.key } };
 
-    ghost invariant = { λ c. (construction_of c.suite ≡ ByGcm) × (c.ghash_key ≡ hash_key c.key) };
+    ghost invariant = { λ c. (construction_of c.suite ≡ ByGcm) × (c.ghash_key ≡ hash_key c.key)
+        × (⟦<TableMul as Multiply>⟧.key_bytes c.multiplier ≡ hash_key c.key) };
 }
 
 impl Gcm {
@@ -51,6 +54,7 @@ impl Gcm {
             suite,
             key,
             ghash_key,
+            multiplier: TableMul::of(&ghash_key),
         }
     }
 
@@ -70,6 +74,13 @@ impl Gcm {
             nonce,
             multiplier,
         }
+    }
+
+    // The multiples of its hash key that are kept.
+    fn multiplier(&self) -> &TableMul
+        ensures { ⟦<TableMul as Multiply>⟧.key_bytes result.now ≡ hash_key self.now.key }
+    {
+        &self.multiplier
     }
 
     // A multiplier of its hash key.
@@ -165,7 +176,7 @@ impl Aead for Gcm {
     fn seal_in_place(&self, nonce: &Nonce, aad: &[u8], text: &mut [u8]) -> Result<Tag, Fault> {
         let length = aad.len() + text.len();
         if length < SHORT {
-            self.seal_by::<TableMul>(nonce, aad, text)
+            seal_whole(&self.nonced(nonce, self.multiplier()), aad, text)
         } else if length < LONG {
             self.seal_by::<PlacedMul>(nonce, aad, text)
         } else {
@@ -182,7 +193,7 @@ impl Aead for Gcm {
     ) -> Result<(), Fault> {
         let length = aad.len() + body.len();
         if length < SHORT {
-            self.open_by::<TableMul>(nonce, aad, body, tag)
+            open_whole(&self.nonced(nonce, self.multiplier()), aad, body, tag)
         } else if length < LONG {
             self.open_by::<PlacedMul>(nonce, aad, body, tag)
         } else {
