@@ -1,5 +1,7 @@
 -- Columns as words: sums, moves and bytes.
-use Rattle.std.proofs.Common.{◌≡◌, ℕ, ◌+◌, ◌*◌, ◌/◌, ◌%◌, ◌^◌, ◌<◌, ◌≤◌, true, ◌==◌, ◌&&◌, ltb, ltb-true, List, [], ◌∷◌, ◌++◌, map, get_or, length, zero, suc, refl, sym, ap, ap₂, ◌∙◌, arith, bit_or, bit_xor, w32}
+use Rattle.std.proofs.Common.{◌≡◌, ℕ, ◌+◌, ◌*◌, ◌/◌, ◌%◌, ◌^◌, ◌<◌, ◌≤◌, true, ◌==◌, ◌&&◌, ltb, ltb-true}
+use Rattle.std.proofs.Common.{List, [], ◌∷◌, ◌++◌, map, get_or, length, zero, suc, refl, sym, ap, ap₂, ◌∙◌}
+use Rattle.std.proofs.Common.{arith, bit_or, bit_xor, w32}
 use Rattle.std.specs.Int.{bytes_low_first, rotate_left, from_le_bytes}
 use Rattle.std.proofs.lemmas.Nat.{xor_shr, xor_mod, or_shifted}
 use Rattle.std.proofs.lemmas.Bool.{and_parts, eqb-true}
@@ -11,7 +13,9 @@ use Rattle.aes.specs.Schedule.{xor_word}
 use Rattle.aes.specs.Cipher.{dot, sub_bytes, shift_rows, mix_column, mix_columns, add_round_key}
 use Rattle.aes.specs.Columns.{column_of, columns_of, state_of}
 use Rattle.aes.specs.declared.sbox.TheConstants.{SBOX}
-use Rattle.aes.specs.declared.round_tables.TheConstants.{TABLE, TABLE_ROW1, TABLE_ROW2, TABLE_ROW3, INVERSE_TABLE, INVERSE_ROW1, INVERSE_ROW2, INVERSE_ROW3}
+use Rattle.aes.specs.declared.round_tables.TheConstants.{TABLE, TABLE_ROW1, TABLE_ROW2, TABLE_ROW3}
+use Rattle.aes.specs.declared.round_tables.TheConstants.{INVERSE_TABLE, INVERSE_ROW1, INVERSE_ROW2}
+use Rattle.aes.specs.declared.round_tables.TheConstants.{INVERSE_ROW3}
 use Rattle.aes.proofs.Tables.{all_below, all_below_at, sbox_at}
 use Rattle.aes.proofs.Multiples.{single_is}
 use Rattle.aes.proofs.Rows.{four, dot_is}
@@ -29,46 +33,58 @@ column_xor x y = four (xor_mod x y 8) (xor_byte x y 8) (xor_byte x y 16) (xor_by
 
 -- a word moved down by one row, around the end
 pub moved_one : (x : ℕ) → x < 2 ^ 32
-    → column_of (rotate_left w32 x 8) ≡ get_or (column_of x) 3 0 ∷ get_or (column_of x) 0 0 ∷ get_or (column_of x) 1 0 ∷ get_or (column_of x) 2 0 ∷ []
+    → column_of (rotate_left w32 x 8)
+    ≡ get_or (column_of x) 3 0 ∷ get_or (column_of x) 0 0 ∷ get_or (column_of x) 1 0
+    ∷ get_or (column_of x) 2 0 ∷ []
 unfolding column_of
 moved_one x h =
     let rest : x * 2 ^ 8 % 2 ^ 32 ≡ x % 2 ^ 24 * 2 ^ 8 = omega arith in
     let top : x / 2 ^ 24 < 2 ^ 8 = omega arith in
-    let sum : rotate_left w32 x 8 ≡ x % 2 ^ 24 * 2 ^ 8 + x / 2 ^ 24 = ap (λ (z : ℕ). bit_or z (x / 2 ^ 24)) rest ∙ or_shifted (x % 2 ^ 24) 8 (x / 2 ^ 24) top in
+    let sum : rotate_left w32 x 8 ≡ x % 2 ^ 24 * 2 ^ 8 + x / 2 ^ 24 =
+    ap (λ (z : ℕ). bit_or z (x / 2 ^ 24)) rest ∙ or_shifted (x % 2 ^ 24) 8 (x / 2 ^ 24) top in
     four (omega arith) (omega arith) (omega arith) (omega arith)
 
 -- by two rows
 pub moved_two : (x : ℕ) → x < 2 ^ 32
-    → column_of (rotate_left w32 x 16) ≡ get_or (column_of x) 2 0 ∷ get_or (column_of x) 3 0 ∷ get_or (column_of x) 0 0 ∷ get_or (column_of x) 1 0 ∷ []
+    → column_of (rotate_left w32 x 16)
+    ≡ get_or (column_of x) 2 0 ∷ get_or (column_of x) 3 0 ∷ get_or (column_of x) 0 0
+    ∷ get_or (column_of x) 1 0 ∷ []
 unfolding column_of
 moved_two x h =
     let rest : x * 2 ^ 16 % 2 ^ 32 ≡ x % 2 ^ 16 * 2 ^ 16 = omega arith in
     let top : x / 2 ^ 16 < 2 ^ 16 = omega arith in
-    let sum : rotate_left w32 x 16 ≡ x % 2 ^ 16 * 2 ^ 16 + x / 2 ^ 16 = ap (λ (z : ℕ). bit_or z (x / 2 ^ 16)) rest ∙ or_shifted (x % 2 ^ 16) 16 (x / 2 ^ 16) top in
+    let sum : rotate_left w32 x 16 ≡ x % 2 ^ 16 * 2 ^ 16 + x / 2 ^ 16 =
+    ap (λ (z : ℕ). bit_or z (x / 2 ^ 16)) rest ∙ or_shifted (x % 2 ^ 16) 16 (x / 2 ^ 16) top in
     four (omega arith) (omega arith) (omega arith) (omega arith)
 
 -- by three rows
 pub moved_three : (x : ℕ) → x < 2 ^ 32
-    → column_of (rotate_left w32 x 24) ≡ get_or (column_of x) 1 0 ∷ get_or (column_of x) 2 0 ∷ get_or (column_of x) 3 0 ∷ get_or (column_of x) 0 0 ∷ []
+    → column_of (rotate_left w32 x 24)
+    ≡ get_or (column_of x) 1 0 ∷ get_or (column_of x) 2 0 ∷ get_or (column_of x) 3 0
+    ∷ get_or (column_of x) 0 0 ∷ []
 unfolding column_of
 moved_three x h =
     let rest : x * 2 ^ 24 % 2 ^ 32 ≡ x % 2 ^ 8 * 2 ^ 24 = omega arith in
     let top : x / 2 ^ 8 < 2 ^ 24 = omega arith in
-    let sum : rotate_left w32 x 24 ≡ x % 2 ^ 8 * 2 ^ 24 + x / 2 ^ 8 = ap (λ (z : ℕ). bit_or z (x / 2 ^ 8)) rest ∙ or_shifted (x % 2 ^ 8) 24 (x / 2 ^ 8) top in
+    let sum : rotate_left w32 x 24 ≡ x % 2 ^ 8 * 2 ^ 24 + x / 2 ^ 8 =
+    ap (λ (z : ℕ). bit_or z (x / 2 ^ 8)) rest ∙ or_shifted (x % 2 ^ 8) 24 (x / 2 ^ 8) top in
     four (omega arith) (omega arith) (omega arith) (omega arith)
 
 -- a word that four bytes spell has them as its column
-pub column_back : (a b c d n : ℕ) → a < 256 → b < 256 → c < 256 → d < 256 → n ≡ from_le_bytes w32 (a ∷ b ∷ c ∷ d ∷ []) → column_of n ≡ a ∷ b ∷ c ∷ d ∷ []
+pub column_back : (a b c d n : ℕ) → a < 256 → b < 256 → c < 256 → d < 256
+    → n ≡ from_le_bytes w32 (a ∷ b ∷ c ∷ d ∷ []) → column_of n ≡ a ∷ b ∷ c ∷ d ∷ []
 unfolding column_of
 column_back a b c d n ha hb hc hd e = four (omega arith) (omega arith) (omega arith) (omega arith)
 
 -- a byte of a column, as `to_le_bytes` gives it
-pub column_row : (w k : ℕ) (bs : List ℕ) → bs ≡ bytes_low_first 0 4 w → get_or bs k 0 ≡ get_or (column_of w) k 0
+pub column_row : (w k : ℕ) (bs : List ℕ) → bs ≡ bytes_low_first 0 4 w
+    → get_or bs k 0 ≡ get_or (column_of w) k 0
 unfolding column_of
 column_row w k bs e = ap (λ l. get_or l k 0) e
 
 -- the four of them
-pub column_rows : (w : ℕ) (bs : List ℕ) → bs ≡ bytes_low_first 0 4 w → get_or bs 0 0 ∷ get_or bs 1 0 ∷ get_or bs 2 0 ∷ get_or bs 3 0 ∷ [] ≡ column_of w
+pub column_rows : (w : ℕ) (bs : List ℕ) → bs ≡ bytes_low_first 0 4 w
+    → get_or bs 0 0 ∷ get_or bs 1 0 ∷ get_or bs 2 0 ∷ get_or bs 3 0 ∷ [] ≡ column_of w
 unfolding column_of
 column_rows w bs e = ap (λ l. get_or l 0 0 ∷ get_or l 1 0 ∷ get_or l 2 0 ∷ get_or l 3 0 ∷ []) e
 
@@ -83,23 +99,34 @@ column_small w (suc (suc (suc (suc k)))) = omega arith
 
 -- ---- the table
 -- the table, tested at each entry
-table_computed : all_below (λ x. get_or TABLE x 0 == from_le_bytes w32 (times 2 (get_or SBOX x 0) ∷ get_or SBOX x 0 ∷ get_or SBOX x 0 ∷ times 3 (get_or SBOX x 0) ∷ [])) 256 ≡ true
+table_computed : all_below
+    (λ x. get_or TABLE x 0 == from_le_bytes w32
+    (times 2 (get_or SBOX x 0) ∷ get_or SBOX x 0 ∷ get_or SBOX x 0 ∷ times 3 (get_or SBOX x 0) ∷ [])) 256
+    ≡ true
 unfolding times product residue
 table_computed = refl
 
 -- an entry as a column
-pub table_at : (x : ℕ) → x < 256 → column_of (get_or TABLE x 0) ≡ times 2 (sbox x) ∷ sbox x ∷ sbox x ∷ times 3 (sbox x) ∷ []
+pub table_at : (x : ℕ) → x < 256
+    → column_of (get_or TABLE x 0) ≡ times 2 (sbox x) ∷ sbox x ∷ sbox x ∷ times 3 (sbox x) ∷ []
 table_at x h =
     let s : ℕ = sbox x in
-    column_back (times 2 s) s s (times 3 s) (get_or TABLE x 0) (times_small 2 s) (sbox_small x h) (sbox_small x h) (times_small 3 s)
-    (eqb-true (get_or TABLE x 0) (from_le_bytes w32 (times 2 (get_or SBOX x 0) ∷ get_or SBOX x 0 ∷ get_or SBOX x 0 ∷ times 3 (get_or SBOX x 0) ∷ []))
-    (all_below_at (λ x. get_or TABLE x 0 == from_le_bytes w32 (times 2 (get_or SBOX x 0) ∷ get_or SBOX x 0 ∷ get_or SBOX x 0 ∷ times 3 (get_or SBOX x 0) ∷ [])) 256 x table_computed h)
+    column_back (times 2 s) s s (times 3 s) (get_or TABLE x 0) (times_small 2 s) (sbox_small x h)
+    (sbox_small x h) (times_small 3 s)
+    (eqb-true (get_or TABLE x 0)
+    (from_le_bytes w32 (times 2 (get_or SBOX x 0) ∷ get_or SBOX x 0 ∷ get_or SBOX x 0
+    ∷ times 3 (get_or SBOX x 0) ∷ []))
+    (all_below_at (λ x. get_or TABLE x 0 == from_le_bytes w32
+    (times 2 (get_or SBOX x 0) ∷ get_or SBOX x 0 ∷ get_or SBOX x 0 ∷ times 3 (get_or SBOX x 0) ∷ [])) 256 x
+    table_computed h)
     ∙ ap (λ y. from_le_bytes w32 (times 2 y ∷ y ∷ y ∷ times 3 y ∷ [])) (sbox_at x h))
 
 -- ---- tables whose columns are those of another, moved down
 -- the entries of one table are those of another moved by some bits, and below 2^32
 abbrev IsMoved : List ℕ → List ℕ → ℕ → Type 0
-IsMoved moved table n = all_below (λ x. (get_or moved x 0 == rotate_left w32 (get_or table x 0) n) && ltb (get_or table x 0) (2 ^ 32)) 256 ≡ true
+IsMoved moved table n = all_below
+    (λ x. (get_or moved x 0 == rotate_left w32 (get_or table x 0) n) && ltb (get_or table x 0) (2 ^ 32)) 256
+    ≡ true
 
 -- an entry of such a table
 moved_at : (moved table : List ℕ) (n x : ℕ) → IsMoved moved table n → x < 256
@@ -107,7 +134,8 @@ moved_at : (moved table : List ℕ) (n x : ℕ) → IsMoved moved table n → x 
 moved_at moved table n x h l =
     let t : ℕ = get_or table x 0 in
     let both = and_parts (get_or moved x 0 == rotate_left w32 t n) (ltb t (2 ^ 32))
-    (all_below_at (λ x. (get_or moved x 0 == rotate_left w32 (get_or table x 0) n) && ltb (get_or table x 0) (2 ^ 32)) 256 x h l) in
+    (all_below_at (λ x. (get_or moved x 0 == rotate_left w32 (get_or table x 0) n) && ltb (get_or table x 0)
+    (2 ^ 32)) 256 x h l) in
     (eqb-true (get_or moved x 0) (rotate_left w32 t n) both.0, ltb-true t (2 ^ 32) both.1)
 
 -- moved by one row
@@ -115,21 +143,24 @@ moved_once : (moved table : List ℕ) (x a b c d : ℕ) → IsMoved moved table 
     → column_of (get_or table x 0) ≡ a ∷ b ∷ c ∷ d ∷ [] → column_of (get_or moved x 0) ≡ d ∷ a ∷ b ∷ c ∷ []
 moved_once moved table x a b c d h l e =
     let at = moved_at moved table 8 x h l in
-    ap column_of at.0 ∙ moved_one (get_or table x 0) at.1 ∙ ap (λ l. get_or l 3 0 ∷ get_or l 0 0 ∷ get_or l 1 0 ∷ get_or l 2 0 ∷ []) e
+    ap column_of at.0 ∙ moved_one (get_or table x 0) at.1
+    ∙ ap (λ l. get_or l 3 0 ∷ get_or l 0 0 ∷ get_or l 1 0 ∷ get_or l 2 0 ∷ []) e
 
 -- by two
 moved_twice : (moved table : List ℕ) (x a b c d : ℕ) → IsMoved moved table 16 → x < 256
     → column_of (get_or table x 0) ≡ a ∷ b ∷ c ∷ d ∷ [] → column_of (get_or moved x 0) ≡ c ∷ d ∷ a ∷ b ∷ []
 moved_twice moved table x a b c d h l e =
     let at = moved_at moved table 16 x h l in
-    ap column_of at.0 ∙ moved_two (get_or table x 0) at.1 ∙ ap (λ l. get_or l 2 0 ∷ get_or l 3 0 ∷ get_or l 0 0 ∷ get_or l 1 0 ∷ []) e
+    ap column_of at.0 ∙ moved_two (get_or table x 0) at.1
+    ∙ ap (λ l. get_or l 2 0 ∷ get_or l 3 0 ∷ get_or l 0 0 ∷ get_or l 1 0 ∷ []) e
 
 -- by three
 moved_thrice : (moved table : List ℕ) (x a b c d : ℕ) → IsMoved moved table 24 → x < 256
     → column_of (get_or table x 0) ≡ a ∷ b ∷ c ∷ d ∷ [] → column_of (get_or moved x 0) ≡ b ∷ c ∷ d ∷ a ∷ []
 moved_thrice moved table x a b c d h l e =
     let at = moved_at moved table 24 x h l in
-    ap column_of at.0 ∙ moved_three (get_or table x 0) at.1 ∙ ap (λ l. get_or l 1 0 ∷ get_or l 2 0 ∷ get_or l 3 0 ∷ get_or l 0 0 ∷ []) e
+    ap column_of at.0 ∙ moved_three (get_or table x 0) at.1
+    ∙ ap (λ l. get_or l 1 0 ∷ get_or l 2 0 ∷ get_or l 3 0 ∷ get_or l 0 0 ∷ []) e
 
 -- the table of row 1, tested at each entry
 table_row1 : IsMoved TABLE_ROW1 TABLE 8
@@ -144,22 +175,29 @@ table_row3 : IsMoved TABLE_ROW3 TABLE 24
 table_row3 = refl
 
 -- an entry of the table of row 1 as a column
-pub table_row1_at : (x : ℕ) → x < 256 → column_of (get_or TABLE_ROW1 x 0) ≡ times 3 (sbox x) ∷ times 2 (sbox x) ∷ sbox x ∷ sbox x ∷ []
-table_row1_at x h = moved_once TABLE_ROW1 TABLE x (times 2 (sbox x)) (sbox x) (sbox x) (times 3 (sbox x)) table_row1 h (table_at x h)
+pub table_row1_at : (x : ℕ) → x < 256
+    → column_of (get_or TABLE_ROW1 x 0) ≡ times 3 (sbox x) ∷ times 2 (sbox x) ∷ sbox x ∷ sbox x ∷ []
+table_row1_at x h = moved_once TABLE_ROW1 TABLE x (times 2 (sbox x)) (sbox x) (sbox x) (times 3 (sbox x))
+    table_row1 h (table_at x h)
 
 -- of row 2
-pub table_row2_at : (x : ℕ) → x < 256 → column_of (get_or TABLE_ROW2 x 0) ≡ sbox x ∷ times 3 (sbox x) ∷ times 2 (sbox x) ∷ sbox x ∷ []
-table_row2_at x h = moved_twice TABLE_ROW2 TABLE x (times 2 (sbox x)) (sbox x) (sbox x) (times 3 (sbox x)) table_row2 h (table_at x h)
+pub table_row2_at : (x : ℕ) → x < 256
+    → column_of (get_or TABLE_ROW2 x 0) ≡ sbox x ∷ times 3 (sbox x) ∷ times 2 (sbox x) ∷ sbox x ∷ []
+table_row2_at x h = moved_twice TABLE_ROW2 TABLE x (times 2 (sbox x)) (sbox x) (sbox x) (times 3 (sbox x))
+    table_row2 h (table_at x h)
 
 -- of row 3
-pub table_row3_at : (x : ℕ) → x < 256 → column_of (get_or TABLE_ROW3 x 0) ≡ sbox x ∷ sbox x ∷ times 3 (sbox x) ∷ times 2 (sbox x) ∷ []
-table_row3_at x h = moved_thrice TABLE_ROW3 TABLE x (times 2 (sbox x)) (sbox x) (sbox x) (times 3 (sbox x)) table_row3 h (table_at x h)
+pub table_row3_at : (x : ℕ) → x < 256
+    → column_of (get_or TABLE_ROW3 x 0) ≡ sbox x ∷ sbox x ∷ times 3 (sbox x) ∷ times 2 (sbox x) ∷ []
+table_row3_at x h = moved_thrice TABLE_ROW3 TABLE x (times 2 (sbox x)) (sbox x) (sbox x) (times 3 (sbox x))
+    table_row3 h (table_at x h)
 
 -- ---- a column of the next state: the entries of its rows, and the key
 pub mixed_is : (a b c d key s t u v : ℕ) → a < 256 → b < 256 → c < 256 → d < 256
     → column_of s ≡ times 2 a ∷ a ∷ a ∷ times 3 a ∷ [] → column_of t ≡ times 3 b ∷ times 2 b ∷ b ∷ b ∷ []
     → column_of u ≡ c ∷ times 3 c ∷ times 2 c ∷ c ∷ [] → column_of v ≡ d ∷ d ∷ times 3 d ∷ times 2 d ∷ []
-    → column_of (bit_xor (bit_xor s (bit_xor t (bit_xor u v))) key) ≡ xor_word (mix_column (a ∷ b ∷ c ∷ d ∷ [])) (column_of key)
+    → column_of (bit_xor (bit_xor s (bit_xor t (bit_xor u v))) key)
+    ≡ xor_word (mix_column (a ∷ b ∷ c ∷ d ∷ [])) (column_of key)
 unfolding mix_column xor_word
 mixed_is a b c d key s t u v ha hb hc hd es et eu ev =
     let a1 : a ≡ times 1 a = sym (single_is a ha) in
@@ -178,41 +216,54 @@ mixed_is a b c d key s t u v ha hb hc hd es et eu ev =
 
 -- ---- four columns
 -- four columns, each equal to another
-pub joined : {p q r s a b c d : List ℕ} → p ≡ a → q ≡ b → r ≡ c → s ≡ d → p ++ (q ++ (r ++ (s ++ []))) ≡ a ++ (b ++ (c ++ (d ++ [])))
+pub joined : {p q r s a b c d : List ℕ} → p ≡ a → q ≡ b → r ≡ c → s ≡ d
+    → p ++ (q ++ (r ++ (s ++ []))) ≡ a ++ (b ++ (c ++ (d ++ [])))
 joined e f g h = ap₂ (λ x y. x ++ y) e (ap₂ (λ x y. x ++ y) f (ap₂ (λ x y. x ++ y) g (ap (λ x. x ++ []) h)))
 
 -- the S-box at row 0 of the first column, row 1 of the second, row 2 of the third and row 3 of the fourth
 abbrev pub subbed : ℕ → ℕ → ℕ → ℕ → List ℕ
-subbed a b c d = sbox (get_or (column_of a) 0 0) ∷ sbox (get_or (column_of b) 1 0) ∷ sbox (get_or (column_of c) 2 0) ∷ sbox (get_or (column_of d) 3 0) ∷ []
+subbed a b c d = sbox (get_or (column_of a) 0 0) ∷ sbox (get_or (column_of b) 1 0)
+    ∷ sbox (get_or (column_of c) 2 0) ∷ sbox (get_or (column_of d) 3 0) ∷ []
 
 -- a round by its columns
 pub round_is : (a b c d k l m n p q r s : ℕ)
-    → column_of p ≡ xor_word (mix_column (subbed a b c d)) (column_of k) → column_of q ≡ xor_word (mix_column (subbed b c d a)) (column_of l)
-    → column_of r ≡ xor_word (mix_column (subbed c d a b)) (column_of m) → column_of s ≡ xor_word (mix_column (subbed d a b c)) (column_of n)
-    → state_of (p ∷ q ∷ r ∷ s ∷ []) ≡ add_round_key (columns_of (k ∷ l ∷ m ∷ n ∷ [])) 0 (mix_columns (shift_rows (sub_bytes (state_of (a ∷ b ∷ c ∷ d ∷ [])))))
+    → column_of p ≡ xor_word (mix_column (subbed a b c d)) (column_of k)
+    → column_of q ≡ xor_word (mix_column (subbed b c d a)) (column_of l)
+    → column_of r ≡ xor_word (mix_column (subbed c d a b)) (column_of m)
+    → column_of s ≡ xor_word (mix_column (subbed d a b c)) (column_of n)
+    → state_of (p ∷ q ∷ r ∷ s ∷ [])
+    ≡ add_round_key (columns_of (k ∷ l ∷ m ∷ n ∷ [])) 0
+    (mix_columns (shift_rows (sub_bytes (state_of (a ∷ b ∷ c ∷ d ∷ [])))))
 unfolding column_of xor_word mix_column sub_bytes shift_rows mix_columns add_round_key
 round_is a b c d k l m n p q r s e f g h = joined e f g h
 
 -- the last round by its columns
 pub last_is : (a b c d k l m n p q r s : ℕ)
-    → column_of p ≡ xor_word (subbed a b c d) (column_of k) → column_of q ≡ xor_word (subbed b c d a) (column_of l)
-    → column_of r ≡ xor_word (subbed c d a b) (column_of m) → column_of s ≡ xor_word (subbed d a b c) (column_of n)
-    → state_of (p ∷ q ∷ r ∷ s ∷ []) ≡ add_round_key (columns_of (k ∷ l ∷ m ∷ n ∷ [])) 0 (shift_rows (sub_bytes (state_of (a ∷ b ∷ c ∷ d ∷ []))))
+    → column_of p ≡ xor_word (subbed a b c d) (column_of k)
+    → column_of q ≡ xor_word (subbed b c d a) (column_of l)
+    → column_of r ≡ xor_word (subbed c d a b) (column_of m)
+    → column_of s ≡ xor_word (subbed d a b c) (column_of n)
+    → state_of (p ∷ q ∷ r ∷ s ∷ [])
+    ≡ add_round_key (columns_of (k ∷ l ∷ m ∷ n ∷ [])) 0
+    (shift_rows (sub_bytes (state_of (a ∷ b ∷ c ∷ d ∷ []))))
 unfolding column_of xor_word sub_bytes shift_rows add_round_key
 last_is a b c d k l m n p q r s e f g h = joined e f g h
 
 -- AddRoundKey by its columns
 pub added_is : (a b c d k l m n : ℕ)
-    → state_of (bit_xor a k ∷ bit_xor b l ∷ bit_xor c m ∷ bit_xor d n ∷ []) ≡ add_round_key (columns_of (k ∷ l ∷ m ∷ n ∷ [])) 0 (state_of (a ∷ b ∷ c ∷ d ∷ []))
+    → state_of (bit_xor a k ∷ bit_xor b l ∷ bit_xor c m ∷ bit_xor d n ∷ [])
+    ≡ add_round_key (columns_of (k ∷ l ∷ m ∷ n ∷ [])) 0 (state_of (a ∷ b ∷ c ∷ d ∷ []))
 unfolding column_of xor_word add_round_key
 added_is a b c d k l m n = joined (column_xor a k) (column_xor b l) (column_xor c m) (column_xor d n)
 
 -- the columns of the words of a round
 pub key_columns : (ws : List ℕ) (n c : ℕ) → 4 * n + 4 ≤ length ws → c < 4
-    → get_or (columns_of (get_or ws (4 * n) 0 ∷ get_or ws (4 * n + 1) 0 ∷ get_or ws (4 * n + 2) 0 ∷ get_or ws (4 * n + 3) 0 ∷ [])) c [] ≡ get_or (columns_of ws) (4 * n + c) []
+    → get_or (columns_of (get_or ws (4 * n) 0 ∷ get_or ws (4 * n + 1) 0 ∷ get_or ws (4 * n + 2) 0
+    ∷ get_or ws (4 * n + 3) 0 ∷ [])) c [] ≡ get_or (columns_of ws) (4 * n + c) []
 key_columns ws n zero h l =
     let e : 4 * n + 0 ≡ 4 * n = omega arith in
-    ap (λ (i : ℕ). column_of (get_or ws i 0)) (sym e) ∙ sym (get_or-map column_of ws (4 * n + 0) 0 [] (omega arith))
+    ap (λ (i : ℕ). column_of (get_or ws i 0)) (sym e)
+    ∙ sym (get_or-map column_of ws (4 * n + 0) 0 [] (omega arith))
 key_columns ws n (suc zero) h l = sym (get_or-map column_of ws (4 * n + 1) 0 [] (omega arith))
 key_columns ws n (suc (suc zero)) h l = sym (get_or-map column_of ws (4 * n + 2) 0 [] (omega arith))
 key_columns ws n (suc (suc (suc zero))) h l = sym (get_or-map column_of ws (4 * n + 3) 0 [] (omega arith))
@@ -228,12 +279,15 @@ unfolding times product residue
 inverse_computed = refl
 
 -- an entry of the inverse table as a column
-pub inverse_at : (x y : ℕ) → y < 256 → sbox y ≡ x → column_of (get_or INVERSE_TABLE x 0) ≡ times 14 y ∷ times 9 y ∷ times 13 y ∷ times 11 y ∷ []
+pub inverse_at : (x y : ℕ) → y < 256 → sbox y ≡ x
+    → column_of (get_or INVERSE_TABLE x 0) ≡ times 14 y ∷ times 9 y ∷ times 13 y ∷ times 11 y ∷ []
 inverse_at x y h e =
-    column_back (times 14 y) (times 9 y) (times 13 y) (times 11 y) (get_or INVERSE_TABLE x 0) (times_small 14 y) (times_small 9 y) (times_small 13 y) (times_small 11 y)
+    column_back (times 14 y) (times 9 y) (times 13 y) (times 11 y) (get_or INVERSE_TABLE x 0)
+    (times_small 14 y) (times_small 9 y) (times_small 13 y) (times_small 11 y)
     (ap (λ i. get_or INVERSE_TABLE i 0) (sym (sbox_at y h ∙ e))
     ∙ eqb-true (get_or INVERSE_TABLE (get_or SBOX y 0) 0) (unmixed_entry y)
-    (all_below_at (λ y. get_or INVERSE_TABLE (get_or SBOX y 0) 0 == unmixed_entry y) 256 y inverse_computed h))
+    (all_below_at (λ y. get_or INVERSE_TABLE (get_or SBOX y 0) 0 == unmixed_entry y) 256 y inverse_computed
+    h))
 
 -- the inverse table of row 1, tested at each entry
 inverse_row1 : IsMoved INVERSE_ROW1 INVERSE_TABLE 8
@@ -248,21 +302,32 @@ inverse_row3 : IsMoved INVERSE_ROW3 INVERSE_TABLE 24
 inverse_row3 = refl
 
 -- an entry of the inverse table of row 1 as a column
-pub inverse_row1_at : (x y : ℕ) → x < 256 → y < 256 → sbox y ≡ x → column_of (get_or INVERSE_ROW1 x 0) ≡ times 11 y ∷ times 14 y ∷ times 9 y ∷ times 13 y ∷ []
-inverse_row1_at x y l h e = moved_once INVERSE_ROW1 INVERSE_TABLE x (times 14 y) (times 9 y) (times 13 y) (times 11 y) inverse_row1 l (inverse_at x y h e)
+pub inverse_row1_at : (x y : ℕ) → x < 256 → y < 256 → sbox y ≡ x
+    → column_of (get_or INVERSE_ROW1 x 0) ≡ times 11 y ∷ times 14 y ∷ times 9 y ∷ times 13 y ∷ []
+inverse_row1_at x y l h e =
+    moved_once INVERSE_ROW1 INVERSE_TABLE x (times 14 y) (times 9 y) (times 13 y) (times 11 y) inverse_row1 l
+    (inverse_at x y h e)
 
 -- of row 2
-pub inverse_row2_at : (x y : ℕ) → x < 256 → y < 256 → sbox y ≡ x → column_of (get_or INVERSE_ROW2 x 0) ≡ times 13 y ∷ times 11 y ∷ times 14 y ∷ times 9 y ∷ []
-inverse_row2_at x y l h e = moved_twice INVERSE_ROW2 INVERSE_TABLE x (times 14 y) (times 9 y) (times 13 y) (times 11 y) inverse_row2 l (inverse_at x y h e)
+pub inverse_row2_at : (x y : ℕ) → x < 256 → y < 256 → sbox y ≡ x
+    → column_of (get_or INVERSE_ROW2 x 0) ≡ times 13 y ∷ times 11 y ∷ times 14 y ∷ times 9 y ∷ []
+inverse_row2_at x y l h e =
+    moved_twice INVERSE_ROW2 INVERSE_TABLE x (times 14 y) (times 9 y) (times 13 y) (times 11 y) inverse_row2
+    l (inverse_at x y h e)
 
 -- of row 3
-pub inverse_row3_at : (x y : ℕ) → x < 256 → y < 256 → sbox y ≡ x → column_of (get_or INVERSE_ROW3 x 0) ≡ times 9 y ∷ times 13 y ∷ times 11 y ∷ times 14 y ∷ []
-inverse_row3_at x y l h e = moved_thrice INVERSE_ROW3 INVERSE_TABLE x (times 14 y) (times 9 y) (times 13 y) (times 11 y) inverse_row3 l (inverse_at x y h e)
+pub inverse_row3_at : (x y : ℕ) → x < 256 → y < 256 → sbox y ≡ x
+    → column_of (get_or INVERSE_ROW3 x 0) ≡ times 9 y ∷ times 13 y ∷ times 11 y ∷ times 14 y ∷ []
+inverse_row3_at x y l h e =
+    moved_thrice INVERSE_ROW3 INVERSE_TABLE x (times 14 y) (times 9 y) (times 13 y) (times 11 y) inverse_row3
+    l (inverse_at x y h e)
 
 -- a column and the inverse matrix: the entries of its rows
 pub unmixed_is : (a b c d s t u v : ℕ) → a < 256 → b < 256 → c < 256 → d < 256
-    → column_of s ≡ times 14 a ∷ times 9 a ∷ times 13 a ∷ times 11 a ∷ [] → column_of t ≡ times 11 b ∷ times 14 b ∷ times 9 b ∷ times 13 b ∷ []
-    → column_of u ≡ times 13 c ∷ times 11 c ∷ times 14 c ∷ times 9 c ∷ [] → column_of v ≡ times 9 d ∷ times 13 d ∷ times 11 d ∷ times 14 d ∷ []
+    → column_of s ≡ times 14 a ∷ times 9 a ∷ times 13 a ∷ times 11 a ∷ []
+    → column_of t ≡ times 11 b ∷ times 14 b ∷ times 9 b ∷ times 13 b ∷ []
+    → column_of u ≡ times 13 c ∷ times 11 c ∷ times 14 c ∷ times 9 c ∷ []
+    → column_of v ≡ times 9 d ∷ times 13 d ∷ times 11 d ∷ times 14 d ∷ []
     → mix_column (column_of (bit_xor s (bit_xor t (bit_xor u v)))) ≡ a ∷ b ∷ c ∷ d ∷ []
 unfolding xor_word
 unmixed_is a b c d s t u v ha hb hc hd es et eu ev =
@@ -284,37 +349,52 @@ row_xor k l m n a b c d p q r s =
     let last : bit_xor (times n (bit_xor d s)) 0 ≡ bit_xor (bit_xor (times n d) 0) (bit_xor (times n s) 0) =
     ap (λ (x : ℕ). bit_xor x 0) (times_xor n d s) ∙ xor_exchange (times n d) (times n s) 0 0 in
     ap₂ bit_xor (times_xor k a p) (
-    ap₂ bit_xor (times_xor l b q) (ap₂ bit_xor (times_xor m c r) last ∙ xor_exchange (times m c) (times m r) (bit_xor (times n d) 0) (bit_xor (times n s) 0))
-    ∙ xor_exchange (times l b) (times l q) (bit_xor (times m c) (bit_xor (times n d) 0)) (bit_xor (times m r) (bit_xor (times n s) 0)))
-    ∙ xor_exchange (times k a) (times k p) (bit_xor (times l b) (bit_xor (times m c) (bit_xor (times n d) 0))) (bit_xor (times l q) (bit_xor (times m r) (bit_xor (times n s) 0)))
+    ap₂ bit_xor (times_xor l b q)
+    (ap₂ bit_xor (times_xor m c r) last
+    ∙ xor_exchange (times m c) (times m r) (bit_xor (times n d) 0) (bit_xor (times n s) 0))
+    ∙ xor_exchange (times l b) (times l q) (bit_xor (times m c) (bit_xor (times n d) 0))
+    (bit_xor (times m r) (bit_xor (times n s) 0)))
+    ∙ xor_exchange (times k a) (times k p)
+    (bit_xor (times l b) (bit_xor (times m c) (bit_xor (times n d) 0)))
+    (bit_xor (times l q) (bit_xor (times m r) (bit_xor (times n s) 0)))
 
 -- MixColumns keeps sums
-pub mix_xor : (v w : ℕ) → mix_column (column_of (bit_xor v w)) ≡ xor_word (mix_column (column_of v)) (mix_column (column_of w))
+pub mix_xor : (v w : ℕ) → mix_column (column_of (bit_xor v w))
+    ≡ xor_word (mix_column (column_of v)) (mix_column (column_of w))
 unfolding column_of mix_column xor_word
 mix_xor v w =
     let a : ℕ → ℕ = λ i. get_or (column_of v) i 0 in
     let p : ℕ → ℕ = λ i. get_or (column_of w) i 0 in
     ap mix_column (column_xor v w)
-    ∙ four (row_xor 2 3 1 1 (a 0) (a 1) (a 2) (a 3) (p 0) (p 1) (p 2) (p 3)) (row_xor 1 2 3 1 (a 0) (a 1) (a 2) (a 3) (p 0) (p 1) (p 2) (p 3))
-    (row_xor 1 1 2 3 (a 0) (a 1) (a 2) (a 3) (p 0) (p 1) (p 2) (p 3)) (row_xor 3 1 1 2 (a 0) (a 1) (a 2) (a 3) (p 0) (p 1) (p 2) (p 3))
+    ∙ four (row_xor 2 3 1 1 (a 0) (a 1) (a 2) (a 3) (p 0) (p 1) (p 2) (p 3))
+    (row_xor 1 2 3 1 (a 0) (a 1) (a 2) (a 3) (p 0) (p 1) (p 2) (p 3))
+    (row_xor 1 1 2 3 (a 0) (a 1) (a 2) (a 3) (p 0) (p 1) (p 2) (p 3))
+    (row_xor 3 1 1 2 (a 0) (a 1) (a 2) (a 3) (p 0) (p 1) (p 2) (p 3))
 
 -- the rows of a column, one from each of four words
 abbrev pub rows_of : ℕ → ℕ → ℕ → ℕ → List ℕ
-rows_of a b c d = get_or (column_of a) 0 0 ∷ get_or (column_of b) 1 0 ∷ get_or (column_of c) 2 0 ∷ get_or (column_of d) 3 0 ∷ []
+rows_of a b c d = get_or (column_of a) 0 0 ∷ get_or (column_of b) 1 0 ∷ get_or (column_of c) 2 0
+    ∷ get_or (column_of d) 3 0 ∷ []
 
 -- the S-box at four bytes of a block
 abbrev pub sub_of : List ℕ → ℕ → List ℕ
-sub_of s i = sbox (get_or s i 0) ∷ sbox (get_or s (i + 1) 0) ∷ sbox (get_or s (i + 2) 0) ∷ sbox (get_or s (i + 3) 0) ∷ []
+sub_of s i = sbox (get_or s i 0) ∷ sbox (get_or s (i + 1) 0) ∷ sbox (get_or s (i + 2) 0)
+    ∷ sbox (get_or s (i + 3) 0) ∷ []
 
 -- the bytes of a block before SubBytes and ShiftRows, column by column
 pub before_rows : (a b c d : ℕ) (s : List ℕ) → shift_rows (sub_bytes s) ≡ state_of (a ∷ b ∷ c ∷ d ∷ [])
-    → (sub_of s 0 ≡ rows_of a d c b) × (sub_of s 4 ≡ rows_of b a d c) × (sub_of s 8 ≡ rows_of c b a d) × (sub_of s 12 ≡ rows_of d c b a)
+    → (sub_of s 0 ≡ rows_of a d c b) × (sub_of s 4 ≡ rows_of b a d c) × (sub_of s 8 ≡ rows_of c b a d)
+    × (sub_of s 12 ≡ rows_of d c b a)
 unfolding column_of sub_bytes shift_rows
 before_rows a b c d s e = (
-  four (ap (λ l. get_or l 0 0) e) (ap (λ l. get_or l 13 0) e) (ap (λ l. get_or l 10 0) e) (ap (λ l. get_or l 7 0) e),
-  four (ap (λ l. get_or l 4 0) e) (ap (λ l. get_or l 1 0) e) (ap (λ l. get_or l 14 0) e) (ap (λ l. get_or l 11 0) e),
-  four (ap (λ l. get_or l 8 0) e) (ap (λ l. get_or l 5 0) e) (ap (λ l. get_or l 2 0) e) (ap (λ l. get_or l 15 0) e),
-  four (ap (λ l. get_or l 12 0) e) (ap (λ l. get_or l 9 0) e) (ap (λ l. get_or l 6 0) e) (ap (λ l. get_or l 3 0) e),
+  four (ap (λ l. get_or l 0 0) e) (ap (λ l. get_or l 13 0) e) (ap (λ l. get_or l 10 0) e)
+      (ap (λ l. get_or l 7 0) e),
+  four (ap (λ l. get_or l 4 0) e) (ap (λ l. get_or l 1 0) e) (ap (λ l. get_or l 14 0) e)
+      (ap (λ l. get_or l 11 0) e),
+  four (ap (λ l. get_or l 8 0) e) (ap (λ l. get_or l 5 0) e) (ap (λ l. get_or l 2 0) e)
+      (ap (λ l. get_or l 15 0) e),
+  four (ap (λ l. get_or l 12 0) e) (ap (λ l. get_or l 9 0) e) (ap (λ l. get_or l 6 0) e)
+      (ap (λ l. get_or l 3 0) e),
 )
 
 -- four bytes of a block
@@ -323,26 +403,36 @@ quad_at s i = get_or s i 0 ∷ get_or s (i + 1) 0 ∷ get_or s (i + 2) 0 ∷ get
 
 -- a round of the inverse by its columns
 pub inverse_state : (k l m n p q r t : ℕ) (s : List ℕ)
-    → mix_column (column_of p) ≡ xor_word (quad_at s 0) (mix_column (column_of k)) → mix_column (column_of q) ≡ xor_word (quad_at s 4) (mix_column (column_of l))
-    → mix_column (column_of r) ≡ xor_word (quad_at s 8) (mix_column (column_of m)) → mix_column (column_of t) ≡ xor_word (quad_at s 12) (mix_column (column_of n))
-    → mix_columns (state_of (p ∷ q ∷ r ∷ t ∷ [])) ≡ add_round_key (map mix_column (columns_of (k ∷ l ∷ m ∷ n ∷ []))) 0 s
+    → mix_column (column_of p) ≡ xor_word (quad_at s 0) (mix_column (column_of k))
+    → mix_column (column_of q) ≡ xor_word (quad_at s 4) (mix_column (column_of l))
+    → mix_column (column_of r) ≡ xor_word (quad_at s 8) (mix_column (column_of m))
+    → mix_column (column_of t) ≡ xor_word (quad_at s 12) (mix_column (column_of n))
+    → mix_columns (state_of (p ∷ q ∷ r ∷ t ∷ []))
+    ≡ add_round_key (map mix_column (columns_of (k ∷ l ∷ m ∷ n ∷ []))) 0 s
 unfolding column_of mix_column mix_columns xor_word add_round_key
 inverse_state k l m n p q r t s e f g h = joined e f g h
 
 -- a state by its columns before SubBytes and ShiftRows
-pub unsubbed_state : (a b c d p q r s : ℕ) → map sbox (column_of p) ≡ rows_of a d c b → map sbox (column_of q) ≡ rows_of b a d c
+pub unsubbed_state : (a b c d p q r s : ℕ) → map sbox (column_of p) ≡ rows_of a d c b
+    → map sbox (column_of q) ≡ rows_of b a d c
     → map sbox (column_of r) ≡ rows_of c b a d → map sbox (column_of s) ≡ rows_of d c b a
     → shift_rows (sub_bytes (state_of (p ∷ q ∷ r ∷ s ∷ []))) ≡ state_of (a ∷ b ∷ c ∷ d ∷ [])
 unfolding column_of sub_bytes shift_rows
 unsubbed_state a b c d p q r s e f g h =
     joined
-    (four (ap (λ l. get_or l 0 0) e) (ap (λ l. get_or l 1 0) f) (ap (λ l. get_or l 2 0) g) (ap (λ l. get_or l 3 0) h))
-    (four (ap (λ l. get_or l 0 0) f) (ap (λ l. get_or l 1 0) g) (ap (λ l. get_or l 2 0) h) (ap (λ l. get_or l 3 0) e))
-    (four (ap (λ l. get_or l 0 0) g) (ap (λ l. get_or l 1 0) h) (ap (λ l. get_or l 2 0) e) (ap (λ l. get_or l 3 0) f))
-    (four (ap (λ l. get_or l 0 0) h) (ap (λ l. get_or l 1 0) e) (ap (λ l. get_or l 2 0) f) (ap (λ l. get_or l 3 0) g))
+    (four (ap (λ l. get_or l 0 0) e) (ap (λ l. get_or l 1 0) f) (ap (λ l. get_or l 2 0) g)
+    (ap (λ l. get_or l 3 0) h))
+    (four (ap (λ l. get_or l 0 0) f) (ap (λ l. get_or l 1 0) g) (ap (λ l. get_or l 2 0) h)
+    (ap (λ l. get_or l 3 0) e))
+    (four (ap (λ l. get_or l 0 0) g) (ap (λ l. get_or l 1 0) h) (ap (λ l. get_or l 2 0) e)
+    (ap (λ l. get_or l 3 0) f))
+    (four (ap (λ l. get_or l 0 0) h) (ap (λ l. get_or l 1 0) e) (ap (λ l. get_or l 2 0) f)
+    (ap (λ l. get_or l 3 0) g))
 
 -- the S-box at the rows of a column
-pub sub_column : (w : ℕ) → sbox (get_or (column_of w) 0 0) ∷ sbox (get_or (column_of w) 1 0) ∷ sbox (get_or (column_of w) 2 0) ∷ sbox (get_or (column_of w) 3 0) ∷ [] ≡ map sbox (column_of w)
+pub sub_column : (w : ℕ)
+    → sbox (get_or (column_of w) 0 0) ∷ sbox (get_or (column_of w) 1 0) ∷ sbox (get_or (column_of w) 2 0)
+    ∷ sbox (get_or (column_of w) 3 0) ∷ [] ≡ map sbox (column_of w)
 unfolding column_of
 sub_column w = refl
 

@@ -1,12 +1,16 @@
 -- The cipher computed: the S-box through its table, and the products with 2 and 3 by doubling.
-use Rattle.std.proofs.Common.{◌≡◌, ℕ, zero, suc, ◌+◌, ◌-◌, ◌*◌, ◌/◌, ◌%◌, ◌<◌, true, cond, ◌&&◌, ◌==◌, nat_lt, List, [], ◌∷◌, ◌++◌, map, take, drop, get_or, refl, sym, ap, ap₂, ◌∙◌, bit_xor}
+use Rattle.std.proofs.Common.{◌≡◌, ℕ, zero, suc, ◌+◌, ◌-◌, ◌*◌, ◌/◌, ◌%◌, ◌<◌, true, cond, ◌&&◌, ◌==◌}
+use Rattle.std.proofs.Common.{nat_lt, List, [], ◌∷◌, ◌++◌, map, take, drop, get_or, refl, sym, ap, ap₂, ◌∙◌}
+use Rattle.std.proofs.Common.{bit_xor}
 use Rattle.std.proofs.lemmas.Bool.{eqb-true}
 use mathlib.Core.Path.{fun_ext}
 use Rattle.octets.specs.Bytes.{IsBlock}
 use Rattle.octets.specs.Polynomial.{product, residue}
 use Rattle.aes.specs.Field.{times}
-use Rattle.aes.specs.Schedule.{xor_word, sub_word, rot_word, rcon, key_words, round_count, changed, next_word, words, schedule}
-use Rattle.aes.specs.Cipher.{at, grid, sub_bytes, shift_rows, mix_column, mix_columns, add_round_key, rounds, cipher, IsKey}
+use Rattle.aes.specs.Schedule.{xor_word, sub_word, rot_word, rcon, key_words, round_count, changed}
+use Rattle.aes.specs.Schedule.{next_word, words, schedule}
+use Rattle.aes.specs.Cipher.{at, grid, sub_bytes, shift_rows, mix_column, mix_columns, add_round_key, rounds}
+use Rattle.aes.specs.Cipher.{cipher, IsKey}
 use Rattle.aes.specs.declared.sbox.TheConstants.{SBOX}
 use Rattle.aes.proofs.Tables.{all_below, all_below_at, sbox_at}
 use Rattle.aes.proofs.Multiples.{single_is, triple_is}
@@ -29,7 +33,8 @@ double_computed = refl
 
 -- the product with 2
 double_is : (x : ℕ) → x < 256 → times 2 x ≡ double x
-double_is x h = eqb-true (times 2 x) (double x) (all_below_at (λ x. times 2 x == double x) 256 x double_computed h)
+double_is x h = eqb-true (times 2 x) (double x)
+    (all_below_at (λ x. times 2 x == double x) 256 x double_computed h)
 
 -- three times a byte
 abbrev triple : ℕ → ℕ
@@ -68,16 +73,19 @@ next_by_table key ws i =
     (xor_word (get_or ws (i - key_words key) []) (changed_by_table (key_words key) i (get_or ws (i - 1) [])))
 
 -- it is the same
-next_is : (key : List ℕ) (ws : List (List ℕ)) (i : ℕ) → AreWords ws → next_word key ws i ≡ next_by_table key ws i
+next_is : (key : List ℕ) (ws : List (List ℕ)) (i : ℕ) → AreWords ws
+    → next_word key ws i ≡ next_by_table key ws i
 unfolding next_word
 next_is key ws i h =
-    ap (λ w. cond (nat_lt i (key_words key)) (take 4 (drop (4 * i) key)) (xor_word (get_or ws (i - key_words key) []) w))
+    ap (λ w. cond (nat_lt i (key_words key)) (take 4 (drop (4 * i) key))
+    (xor_word (get_or ws (i - key_words key) []) w))
     (changed_is (key_words key) i (get_or ws (i - 1) []) (h (i - 1)))
 
 -- the first n words by the table
 unfoldable pub words_by_table : List ℕ → ℕ → List (List ℕ)
 words_by_table key zero = []
-words_by_table key (suc n) = let ws : List (List ℕ) = words_by_table key n in ws ++ next_by_table key ws n ∷ []
+words_by_table key (suc n) = let ws : List (List ℕ) = words_by_table key n in
+    ws ++ next_by_table key ws n ∷ []
 
 -- they are the same
 words_is : (key : List ℕ) (n : ℕ) → Small key → words key n ≡ words_by_table key n
@@ -107,18 +115,25 @@ sub_is s h = ap grid (fun_ext (λ r. fun_ext (λ c. sym (sbox_at (at s r c) (h (
 -- the product of the matrix and a column, by doubling
 abbrev mixed : ℕ → ℕ → ℕ → ℕ → List ℕ
 mixed a b c d =
-    bit_xor (double a) (bit_xor (triple b) (bit_xor c d)) ∷ bit_xor a (bit_xor (double b) (bit_xor (triple c) d)) ∷
-    bit_xor a (bit_xor b (bit_xor (double c) (triple d))) ∷ bit_xor (triple a) (bit_xor b (bit_xor c (double d))) ∷ []
+    bit_xor (double a) (bit_xor (triple b) (bit_xor c d))
+    ∷ bit_xor a (bit_xor (double b) (bit_xor (triple c) d)) ∷
+    bit_xor a (bit_xor b (bit_xor (double c) (triple d)))
+    ∷ bit_xor (triple a) (bit_xor b (bit_xor c (double d))) ∷ []
 
 -- it is the product
-mixed_is : (a b c d : ℕ) → a < 256 → b < 256 → c < 256 → d < 256 → mix_column (a ∷ b ∷ c ∷ d ∷ []) ≡ mixed a b c d
+mixed_is : (a b c d : ℕ) → a < 256 → b < 256 → c < 256 → d < 256
+    → mix_column (a ∷ b ∷ c ∷ d ∷ []) ≡ mixed a b c d
 unfolding mix_column
 mixed_is a b c d ha hb hc hd =
     four
-    (sym (dot_is 2 3 1 1 a b c d (double a) (triple b) c d (sym (double_is a ha)) (sym (triple_by b hb)) (sym (single_is c hc)) (sym (single_is d hd))))
-    (sym (dot_is 1 2 3 1 a b c d a (double b) (triple c) d (sym (single_is a ha)) (sym (double_is b hb)) (sym (triple_by c hc)) (sym (single_is d hd))))
-    (sym (dot_is 1 1 2 3 a b c d a b (double c) (triple d) (sym (single_is a ha)) (sym (single_is b hb)) (sym (double_is c hc)) (sym (triple_by d hd))))
-    (sym (dot_is 3 1 1 2 a b c d (triple a) b c (double d) (sym (triple_by a ha)) (sym (single_is b hb)) (sym (single_is c hc)) (sym (double_is d hd))))
+    (sym (dot_is 2 3 1 1 a b c d (double a) (triple b) c d (sym (double_is a ha)) (sym (triple_by b hb))
+    (sym (single_is c hc)) (sym (single_is d hd))))
+    (sym (dot_is 1 2 3 1 a b c d a (double b) (triple c) d (sym (single_is a ha)) (sym (double_is b hb))
+    (sym (triple_by c hc)) (sym (single_is d hd))))
+    (sym (dot_is 1 1 2 3 a b c d a b (double c) (triple d) (sym (single_is a ha)) (sym (single_is b hb))
+    (sym (double_is c hc)) (sym (triple_by d hd))))
+    (sym (dot_is 3 1 1 2 a b c d (triple a) b c (double d) (sym (triple_by a ha)) (sym (single_is b hb))
+    (sym (single_is c hc)) (sym (double_is d hd))))
 
 -- MixColumns by doubling
 unfoldable pub mix_by_doubling : List ℕ → List ℕ
@@ -128,15 +143,20 @@ mix_by_doubling s = grid (λ r c. get_or (mixed (at s 0 c) (at s 1 c) (at s 2 c)
 mix_is : (s : List ℕ) → Small s → mix_columns s ≡ mix_by_doubling s
 unfolding mix_columns mix_by_doubling
 mix_is s h =
-    ap grid (fun_ext (λ r. fun_ext (λ c. ap (λ v. get_or v r 0) (mixed_is (at s 0 c) (at s 1 c) (at s 2 c) (at s 3 c) (h (0 + 4 * c)) (h (1 + 4 * c)) (h (2 + 4 * c)) (h (3 + 4 * c))))))
+    ap grid (fun_ext (λ r. fun_ext
+    (λ c. ap (λ v. get_or v r 0)
+    (mixed_is (at s 0 c) (at s 1 c) (at s 2 c) (at s 3 c) (h (0 + 4 * c)) (h (1 + 4 * c)) (h (2 + 4 * c))
+    (h (3 + 4 * c))))))
 
 -- the state after n rounds, computed
 unfoldable pub rounds_computed : List (List ℕ) → ℕ → List ℕ → List ℕ
 rounds_computed ws zero s = add_round_key ws 0 s
-rounds_computed ws (suc n) s = add_round_key ws (suc n) (mix_by_doubling (shift_rows (sub_by_table (rounds_computed ws n s))))
+rounds_computed ws (suc n) s =
+    add_round_key ws (suc n) (mix_by_doubling (shift_rows (sub_by_table (rounds_computed ws n s))))
 
 -- it is the same
-rounds_is : (ws : List (List ℕ)) (n : ℕ) (s : List ℕ) → AreWords ws → IsBlock s → rounds ws n s ≡ rounds_computed ws n s
+rounds_is : (ws : List (List ℕ)) (n : ℕ) (s : List ℕ) → AreWords ws → IsBlock s
+    → rounds ws n s ≡ rounds_computed ws n s
 unfolding rounds rounds_computed
 rounds_is ws zero s hw h = refl
 rounds_is ws (suc n) s hw h =
@@ -151,7 +171,8 @@ unfoldable pub cipher_computed : List (List ℕ) → ℕ → List ℕ → List �
 cipher_computed ws n s = add_round_key ws n (shift_rows (sub_by_table (rounds_computed ws (n - 1) s)))
 
 -- it is the cipher, where ws is the schedule as it was computed
-pub cipher_is_computed : (key s : List ℕ) (ws : List (List ℕ)) → IsKey key → IsBlock s → schedule_by_table key ≡ ws
+pub cipher_is_computed : (key s : List ℕ) (ws : List (List ℕ)) → IsKey key → IsBlock s
+    → schedule_by_table key ≡ ws
     → cipher key s ≡ cipher_computed ws (round_count key) s
 unfolding cipher cipher_computed
 cipher_is_computed key s ws k h e =
@@ -159,5 +180,7 @@ cipher_is_computed key s ws k h e =
     let t : List ℕ = rounds (schedule key) n s in
     let hw : AreWords (schedule key) = words_are key (4 * (round_count key + 1)) k.bytes in
     let b : IsBlock t = rounds_block (schedule key) n s hw h in
-    ap (λ x. add_round_key (schedule key) (round_count key) (shift_rows x)) (sub_is t b.bytes ∙ ap sub_by_table (rounds_is (schedule key) n s hw h))
-    ∙ ap (λ v. add_round_key v (round_count key) (shift_rows (sub_by_table (rounds_computed v n s)))) (schedule_is key k ∙ e)
+    ap (λ x. add_round_key (schedule key) (round_count key) (shift_rows x))
+    (sub_is t b.bytes ∙ ap sub_by_table (rounds_is (schedule key) n s hw h))
+    ∙ ap (λ v. add_round_key v (round_count key) (shift_rows (sub_by_table (rounds_computed v n s))))
+    (schedule_is key k ∙ e)

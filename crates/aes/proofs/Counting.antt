@@ -1,9 +1,12 @@
 -- Blocks that count.
-use Rattle.std.proofs.Common.{◌≡◌, ℕ, ◌+◌, ◌*◌, ◌%◌, ◌^◌, ◌<◌, ◌≤◌, List, ◌++◌, length, take, drop, get_or, zero, suc, add-one, inl, inr, refl, sym, ap, ap₂, ◌∙◌, arith}
-use Rattle.std.proofs.lemmas.List.{take_at, drop_at, take-append-drop, length-take-le, length-drop, length-take, take_all, take_more, get_or-take, get_or-drop, get_or_past}
+use Rattle.std.proofs.Common.{◌≡◌, ℕ, ◌+◌, ◌*◌, ◌%◌, ◌^◌, ◌<◌, ◌≤◌, List, ◌++◌, length, take, drop, get_or}
+use Rattle.std.proofs.Common.{zero, suc, add-one, inl, inr, refl, sym, ap, ap₂, ◌∙◌, arith}
+use Rattle.std.proofs.lemmas.List.{take_at, drop_at, take-append-drop, length-take-le, length-drop}
+use Rattle.std.proofs.lemmas.List.{length-take, take_all, take_more, get_or-take, get_or-drop, get_or_past}
 use Rattle.std.proofs.lemmas.Bool.{cases_lt}
 use Rattle.std.proofs.Math.Nat.{pow-suc, pow-zero}
-use Rattle.std.proofs.lemmas.Nat.{from_be_bytes-to_be_bytes_4, from_le_bytes-to_le_bytes_4, be_bytes_4, le_bytes_4}
+use Rattle.std.proofs.lemmas.Nat.{from_be_bytes-to_be_bytes_4, from_le_bytes-to_le_bytes_4, be_bytes_4}
+use Rattle.std.proofs.lemmas.Nat.{le_bytes_4}
 use Rattle.std.specs.Int.{bytes_high_first, bytes_low_first, w32}
 use Rattle.octets.specs.Bytes.{IsBlock, le, be}
 use Rattle.octets.proofs.Numbers.{be_is, be_push, le_is, le_small}
@@ -35,9 +38,11 @@ up_be-up_be b i j long =
     let n : ℕ = be (drop 12 b) in
     let four : List ℕ = bytes_high_first 4 ((n + i) % 2 ^ 32) in
     let size : length front ≡ 12 = length-take-le 12 b (omega arith) in
-    let number : be (drop 12 (front ++ four)) ≡ (n + i) % 2 ^ 32 = ap be (drop_at front four 12 size) ∙ be_number ((n + i) % 2 ^ 32) (omega arith) in
+    let number : be (drop 12 (front ++ four)) ≡ (n + i) % 2 ^ 32 =
+    ap be (drop_at front four 12 size) ∙ be_number ((n + i) % 2 ^ 32) (omega arith) in
     let sum : ((n + i) % 2 ^ 32 + j) % 2 ^ 32 ≡ (n + (i + j)) % 2 ^ 32 = omega arith in
-    ap₂ (λ (x y : List ℕ). x ++ y) (take_at front four 12 size) (ap (λ (x : ℕ). bytes_high_first 4 ((x + j) % 2 ^ 32)) number ∙ ap (bytes_high_first 4) sum)
+    ap₂ (λ (x y : List ℕ). x ++ y) (take_at front four 12 size)
+    (ap (λ (x : ℕ). bytes_high_first 4 ((x + j) % 2 ^ 32)) number ∙ ap (bytes_high_first 4) sum)
 
 -- i steps and then j, in the first four bytes
 up_le-up_le : (b : List ℕ) (i j : ℕ) → length b ≡ 16 → up_le (up_le b i) j ≡ up_le b (i + j)
@@ -45,9 +50,12 @@ unfolding up_le
 up_le-up_le b i j long =
     let n : ℕ = le (take 4 b) in
     let four : List ℕ = bytes_low_first 0 4 ((n + i) % 2 ^ 32) in
-    let number : le (take 4 (four ++ drop 4 b)) ≡ (n + i) % 2 ^ 32 = ap le (take_at four (drop 4 b) 4 refl) ∙ le_number ((n + i) % 2 ^ 32) (omega arith) in
+    let number : le (take 4 (four ++ drop 4 b)) ≡ (n + i) % 2 ^ 32 =
+    ap le (take_at four (drop 4 b) 4 refl) ∙ le_number ((n + i) % 2 ^ 32) (omega arith) in
     let sum : ((n + i) % 2 ^ 32 + j) % 2 ^ 32 ≡ (n + (i + j)) % 2 ^ 32 = omega arith in
-    ap₂ (λ (x y : List ℕ). x ++ y) (ap (λ (x : ℕ). bytes_low_first 0 4 ((x + j) % 2 ^ 32)) number ∙ ap (bytes_low_first 0 4) sum) (drop_at four (drop 4 b) 4 refl)
+    ap₂ (λ (x y : List ℕ). x ++ y)
+    (ap (λ (x : ℕ). bytes_low_first 0 4 ((x + j) % 2 ^ 32)) number ∙ ap (bytes_low_first 0 4) sum)
+    (drop_at four (drop 4 b) 4 refl)
 
 -- what a list spells is less than its length allows
 be_small : (bs : List ℕ) (n : ℕ) → n ≤ length bs → ((i : ℕ) → get_or bs i 0 < 256) → be (take n bs) < 256 ^ n
@@ -58,7 +66,8 @@ be_small bs (suc n) h small =
     let last : get_or bs n 0 < 256 = small n in
     let power : 256 ^ suc n ≡ 256 ^ n * 256 = pow-suc 256 n in
     let next : be (take (suc n) bs) ≡ be (take n bs) * 256 + get_or bs n 0 =
-    ap (λ i. be (take i bs)) (sym (add-one n)) ∙ ap be (take_more bs n 0 (omega arith)) ∙ be_push (take n bs) (get_or bs n 0) in
+    ap (λ i. be (take i bs)) (sym (add-one n)) ∙ ap be (take_more bs n 0 (omega arith))
+    ∙ be_push (take n bs) (get_or bs n 0) in
     omega arith
 
 -- no step
@@ -73,7 +82,8 @@ up_be-zero b x =
     let bound : be (take 4 last) < 256 ^ 4 = be_small last 4 (omega arith) small in
     let same : be (take 4 last) ≡ be last = ap be whole in
     let number : (be last + 0) % 2 ^ 32 ≡ be last = omega arith in
-    ap (λ y. take 12 b ++ y) (be_bytes_4 last ((be last + 0) % 2 ^ 32) size small (number ∙ be_is w32 last (omega arith) size))
+    ap (λ y. take 12 b ++ y)
+    (be_bytes_4 last ((be last + 0) % 2 ^ 32) size small (number ∙ be_is w32 last (omega arith) size))
     ∙ take-append-drop 12 b
 
 -- no step, in the first four bytes
@@ -87,7 +97,8 @@ up_le-zero b x =
     let bound : le first < 256 ^ length first = le_small first small in
     let bound_4 : le first < 256 ^ 4 = rw size at bound in
     let number : (le first + 0) % 2 ^ 32 ≡ le first = omega arith in
-    ap (λ y. y ++ drop 4 b) (le_bytes_4 first ((le first + 0) % 2 ^ 32) size small (number ∙ le_is w32 first (omega arith) size))
+    ap (λ y. y ++ drop 4 b) (le_bytes_4 first ((le first + 0) % 2 ^ 32) size small
+    (number ∙ le_is w32 first (omega arith) size))
     ∙ take-append-drop 4 b
 
 -- the two ways of counting

@@ -1,11 +1,13 @@
 -- An expanded key, and the rounds with its words.
-use Rattle.std.proofs.Common.{◌≡◌, ℕ, suc, ◌+◌, ◌-◌, ◌*◌, ◌/◌, ◌%◌, ◌^◌, ◌<◌, ◌≤◌, List, [], get_or, length, refl, sym, ap, ap₂, ◌∙◌, arith, inl, inr, take_all, zero-add, bit_xor, add-one}
+use Rattle.std.proofs.Common.{◌≡◌, ℕ, suc, ◌+◌, ◌-◌, ◌*◌, ◌/◌, ◌%◌, ◌^◌, ◌<◌, ◌≤◌, List, [], get_or, length}
+use Rattle.std.proofs.Common.{refl, sym, ap, ap₂, ◌∙◌, arith, inl, inr, take_all, zero-add, bit_xor, add-one}
 use Rattle.std.proofs.lemmas.List.FromFn.{get_or-map-range_with_len}
 use Rattle.std.proofs.lemmas.List.{length-map, get_or-map}
 use Rattle.aes.specs.Columns.{column_of, columns_of}
 use Rattle.aes.specs.Schedule.{round_count, schedule}
 use Rattle.aes.specs.Code.ExpandedKey.{table, key_of, IsKeySize, IsExpanded}
-use Rattle.aes.specs.Cipher.{at, grid, sub_bytes, shift_rows, mix_columns, add_round_key, rounds, cipher, IsKey, IsKeyLength}
+use Rattle.aes.specs.Cipher.{at, grid, sub_bytes, shift_rows, mix_columns, add_round_key, rounds, cipher}
+use Rattle.aes.specs.Cipher.{IsKey, IsKeyLength}
 use Rattle.aes.proofs.Words.{words_at, word_start, table_start, key_of_words}
 use Rattle.aes.proofs.Grids.{grid_is}
 use Rattle.aes.proofs.Steps.{add_twice}
@@ -19,26 +21,38 @@ table_has : (ws : List (List ℕ)) (key : List ℕ) → ws ≡ table key → Has
 table_has ws key e k h = ap (λ v. get_or v k []) e ∙ table_start key k h
 
 -- the first words of an expanded key spell it
-pub spelled : (ws key : List ℕ) (n : ℕ) → length ws ≡ 60 → IsKeySize n → length key ≡ 4 * n → columns_of ws ≡ table key → key_of (columns_of ws) n ≡ key
+pub spelled : (ws key : List ℕ) (n : ℕ) → length ws ≡ 60 → IsKeySize n → length key ≡ 4 * n
+    → columns_of ws ≡ table key → key_of (columns_of ws) n ≡ key
 spelled ws key n long size len e =
     let columns : length (columns_of ws) ≡ 60 = length-map ws column_of ∙ long in
     key_of_words (columns_of ws) key n (omega arith)
-    (λ k h. table_has (columns_of ws) key e k (omega arith) ∙ words_at key (4 * (round_count key + 1)) k (omega arith) ∙ word_start key k (omega arith))
+    (λ k h. table_has (columns_of ws) key e k (omega arith)
+    ∙ words_at key (4 * (round_count key + 1)) k (omega arith) ∙ word_start key k (omega arith))
     ∙ take_all (4 * n) key (omega arith)
 
 -- the fields of a new expanded key
-pub expanded : (ws key : List ℕ) (n : ℕ) → ((i : ℕ) → get_or key i 0 < 256) → length ws ≡ 60 → IsKeySize n → length key ≡ 4 * n
+pub expanded : (ws key : List ℕ) (n : ℕ) → ((i : ℕ) → get_or key i 0 < 256) → length ws ≡ 60 → IsKeySize n
+    → length key ≡ 4 * n
     → columns_of ws ≡ table key → ((i : ℕ) → get_or ws i 0 < 2 ^ 32) → IsExpanded ws n
 expanded ws key n small long size len e words =
     let k : key_of (columns_of ws) n ≡ key = spelled ws key n long size len e in
-    record { size = size; length_is = ap length k ∙ len; bytes = λ i. rw k (small i); columns_are = e ∙ ap table (sym k); words = words }
+    record {
+      size = size;
+      length_is = ap length k ∙ len;
+      bytes = λ i. rw k (small i);
+      columns_are =
+          e ∙ ap table (sym k);
+      words = words;
+    }
 
 -- an expanded key begins with the schedule of the key that it is seen as
-pub has_schedule : (ws : List ℕ) (n : ℕ) (key : List ℕ) → IsExpanded ws n → key_of (columns_of ws) n ≡ key → HasSchedule (columns_of ws) key
+pub has_schedule : (ws : List ℕ) (n : ℕ) (key : List ℕ) → IsExpanded ws n → key_of (columns_of ws) n ≡ key
+    → HasSchedule (columns_of ws) key
 has_schedule ws n key x e = table_has (columns_of ws) key (x.columns_are ∙ ap table e)
 
 -- a word of it as a number
-pub has_word : (ws key : List ℕ) (k : ℕ) → length ws ≡ 60 → HasSchedule (columns_of ws) key → k < 4 * (round_count key + 1) × (k < 60) → column_of (get_or ws k 0) ≡ get_or (schedule key) k []
+pub has_word : (ws key : List ℕ) (k : ℕ) → length ws ≡ 60 → HasSchedule (columns_of ws) key
+    → k < 4 * (round_count key + 1) × (k < 60) → column_of (get_or ws k 0) ≡ get_or (schedule key) k []
 has_word ws key k long has h =
     let within : k < 4 * (round_count key + 1) = h.0 in
     let below : k < 60 = h.1 in
@@ -47,14 +61,17 @@ has_word ws key k long has h =
 -- grids that agree at their sixteen places
 grid_same : (f h : ℕ → ℕ → ℕ) → ((k : ℕ) → k < 16 → f (k % 4) (k / 4) ≡ h (k % 4) (k / 4)) → grid f ≡ grid h
 grid_same f h same =
-    grid_is h (grid f) refl (λ k l. get_or-map-range_with_len (λ i. f (i % 4) (i / 4)) 0 16 k k 0 l (zero-add k) ∙ same k l)
+    grid_is h (grid f) refl (λ k l.
+    get_or-map-range_with_len (λ i. f (i % 4) (i / 4)) 0 16 k k 0 l (zero-add k) ∙ same k l)
 
 -- AddRoundKey with the four words of a round
-pub round_key_is : (vs ws : List (List ℕ)) (key : List ℕ) (n : ℕ) (s : List ℕ) → ((c : ℕ) → c < 4 → get_or vs c [] ≡ get_or ws (4 * n + c) [])
+pub round_key_is : (vs ws : List (List ℕ)) (key : List ℕ) (n : ℕ) (s : List ℕ)
+    → ((c : ℕ) → c < 4 → get_or vs c [] ≡ get_or ws (4 * n + c) [])
     → HasSchedule ws key → n ≤ round_count key → add_round_key vs 0 s ≡ add_round_key (schedule key) n s
 unfolding add_round_key
 round_key_is vs ws key n s four has within =
-    grid_same (λ r c. bit_xor (at s r c) (get_or (get_or vs (4 * 0 + c) []) r 0)) (λ r c. bit_xor (at s r c) (get_or (get_or (schedule key) (4 * n + c) []) r 0))
+    grid_same (λ r c. bit_xor (at s r c) (get_or (get_or vs (4 * 0 + c) []) r 0))
+    (λ r c. bit_xor (at s r c) (get_or (get_or (schedule key) (4 * n + c) []) r 0))
     (λ k h.
     let first : 4 * 0 + k / 4 ≡ k / 4 = omega arith in
     ap (λ w. bit_xor (at s (k % 4) (k / 4)) (get_or w (k % 4) 0))
@@ -73,7 +90,8 @@ rounds_more ws n s = rw add-one refl
 
 -- the cipher by its rounds
 pub cipher_is : (key s : List ℕ) → cipher key s
-    ≡ add_round_key (schedule key) (round_count key) (shift_rows (sub_bytes (rounds (schedule key) (round_count key - 1) s)))
+    ≡ add_round_key (schedule key) (round_count key)
+    (shift_rows (sub_bytes (rounds (schedule key) (round_count key - 1) s)))
 unfolding cipher
 cipher_is key s = refl
 
@@ -84,13 +102,16 @@ unfolding rounds
 rounds_suc ws n s = refl
 
 -- ---- a state by its words, where vs are those of a round
-pub first_state : (vs ws : List (List ℕ)) (key b s t : List ℕ) → HasSchedule ws key → ((c : ℕ) → c < 4 → get_or vs c [] ≡ get_or ws (4 * 0 + c) [])
+pub first_state : (vs ws : List (List ℕ)) (key b s t : List ℕ) → HasSchedule ws key
+    → ((c : ℕ) → c < 4 → get_or vs c [] ≡ get_or ws (4 * 0 + c) [])
     → s ≡ b → t ≡ add_round_key vs 0 s → t ≡ rounds (schedule key) 0 b
 first_state vs ws key b s t has four e f =
-    f ∙ ap (add_round_key vs 0) e ∙ round_key_is vs ws key 0 b four has (omega arith) ∙ sym (rounds_start (schedule key) b)
+    f ∙ ap (add_round_key vs 0) e ∙ round_key_is vs ws key 0 b four has (omega arith)
+    ∙ sym (rounds_start (schedule key) b)
 
 -- after one round more
-pub next_state : (vs ws : List (List ℕ)) (key : List ℕ) (n : ℕ) (b s t : List ℕ) → HasSchedule ws key → n + 1 ≤ round_count key
+pub next_state : (vs ws : List (List ℕ)) (key : List ℕ) (n : ℕ) (b s t : List ℕ) → HasSchedule ws key
+    → n + 1 ≤ round_count key
     → ((c : ℕ) → c < 4 → get_or vs c [] ≡ get_or ws (4 * (n + 1) + c) []) → s ≡ rounds (schedule key) n b
     → t ≡ add_round_key vs 0 (mix_columns (shift_rows (sub_bytes s))) → t ≡ rounds (schedule key) (n + 1) b
 next_state vs ws key n b s t has within four e f =
@@ -99,12 +120,14 @@ next_state vs ws key n b s t has within four e f =
     ∙ sym (rounds_more (schedule key) n b)
 
 -- after the last round
-pub last_state : (vs ws : List (List ℕ)) (key : List ℕ) (n m : ℕ) (b s t : List ℕ) → HasSchedule ws key → m ≡ round_count key → n ≡ round_count key - 1
+pub last_state : (vs ws : List (List ℕ)) (key : List ℕ) (n m : ℕ) (b s t : List ℕ) → HasSchedule ws key
+    → m ≡ round_count key → n ≡ round_count key - 1
     → ((c : ℕ) → c < 4 → get_or vs c [] ≡ get_or ws (4 * m + c) []) → s ≡ rounds (schedule key) n b
     → t ≡ add_round_key vs 0 (shift_rows (sub_bytes s)) → t ≡ cipher key b
 last_state vs ws key n m b s t has count last four e f =
     f ∙ round_key_is vs ws key m (shift_rows (sub_bytes s)) four has (omega arith)
-    ∙ ap₂ (add_round_key (schedule key)) count (ap shift_rows (ap sub_bytes (e ∙ ap (λ (i : ℕ). rounds (schedule key) i b) last)))
+    ∙ ap₂ (add_round_key (schedule key)) count
+    (ap shift_rows (ap sub_bytes (e ∙ ap (λ (i : ℕ). rounds (schedule key) i b) last)))
     ∙ sym (cipher_is key b)
 
 -- a key of 4, 6 or 8 words has 16, 24 or 32 bytes
@@ -113,7 +136,8 @@ key_length key n (inl e) h = inl (omega arith)
 key_length key n (inr (inl e)) h = inr (inl (omega arith))
 key_length key n (inr (inr e)) h = inr (inr (omega arith))
 
--- ---- backwards: where the state after the last rounds but one is s, and s is what comes before the last round of c
+-- ---- backwards: where the state after the last rounds but one is s, and s is what comes before the last
+-- round of c
 pub last_back : (key c s l b : List ℕ) → length c ≡ 16 → add_round_key (schedule key) (round_count key) c ≡ l
     → shift_rows (sub_bytes s) ≡ l → rounds (schedule key) (round_count key - 1) b ≡ s → cipher key b ≡ c
 last_back key c s l b long e f h =
@@ -122,18 +146,26 @@ last_back key c s l b long e f h =
     ∙ add_twice (schedule key) (round_count key) c long
 
 -- one round back
-pub round_back : (key s t m b : List ℕ) (n k : ℕ) → suc k ≡ n → length s ≡ 16 → add_round_key (schedule key) n s ≡ m
-    → mix_columns (shift_rows (sub_bytes t)) ≡ m → rounds (schedule key) k b ≡ t → rounds (schedule key) n b ≡ s
+pub round_back : (key s t m b : List ℕ) (n k : ℕ) → suc k ≡ n → length s ≡ 16
+    → add_round_key (schedule key) n s ≡ m
+    → mix_columns (shift_rows (sub_bytes t)) ≡ m → rounds (schedule key) k b ≡ t
+    → rounds (schedule key) n b ≡ s
 round_back key s t m b n k i long e f h =
     ap (λ j. rounds (schedule key) j b) (sym i) ∙ rounds_suc (schedule key) k b
     ∙ ap₂ (add_round_key (schedule key)) i (ap mix_columns (ap shift_rows (ap sub_bytes h)) ∙ f ∙ sym e)
     ∙ add_twice (schedule key) n s long
 
 -- where no round is left, AddRoundKey alone is undone
-pub first_back : (key s f : List ℕ) (n : ℕ) → n ≡ 0 → length s ≡ 16 → add_round_key (schedule key) 0 s ≡ f → rounds (schedule key) n f ≡ s
+pub first_back : (key s f : List ℕ) (n : ℕ) → n ≡ 0 → length s ≡ 16 → add_round_key (schedule key) 0 s ≡ f
+    → rounds (schedule key) n f ≡ s
 first_back key s f n i long e =
-    ap (λ j. rounds (schedule key) j f) i ∙ rounds_start (schedule key) f ∙ ap (add_round_key (schedule key) 0) (sym e) ∙ add_twice (schedule key) 0 s long
+    ap (λ j. rounds (schedule key) j f) i ∙ rounds_start (schedule key) f
+    ∙ ap (add_round_key (schedule key) 0) (sym e) ∙ add_twice (schedule key) 0 s long
 
 -- the fields spell a key
 pub is_key : (ws : List ℕ) (n : ℕ) → IsExpanded ws n → IsKey (key_of (columns_of ws) n)
-is_key ws n x = record { length_is = key_length (key_of (columns_of ws) n) n x.size x.length_is; bytes = x.bytes }
+is_key ws n x = record {
+  length_is = key_length (key_of (columns_of ws) n) n x.size x.length_is;
+  bytes =
+      x.bytes;
+}

@@ -12,19 +12,23 @@ use Rattle.aes.specs.Field.{modulus, times}
 -- the bits of a product
 pub bits_times : (x y : ℕ) → Agree (bits (times x y)) (residue modulus (product (bits x) (bits y)))
 unfolding times
-bits_times x y = bits_number (residue modulus (product (bits x) (bits y))) (λ i h. residue_lower modulus (product (bits x) (bits y)) i h)
+bits_times x y = bits_number (residue modulus (product (bits x) (bits y)))
+    (λ i h. residue_lower modulus (product (bits x) (bits y)) i h)
 
 -- products agree where their second factors do
 product_agree : (p q r : List Bool) → Agree q r → Agree (product p q) (product p r)
 product_agree p q r same k =
-    ap (λ h. h k) (product_is p q) ∙ ap (λ h. mult p h k) (fun_ext same) ∙ sym (ap (λ h. h k) (product_is p r))
+    ap (λ h. h k) (product_is p q) ∙ ap (λ h. mult p h k) (fun_ext same)
+    ∙ sym (ap (λ h. h k) (product_is p r))
 
 -- a product of three bytes is that of their polynomials
-pub times_through : (z x y : ℕ) → times z (times x y) ≡ number (residue modulus (product (bits z) (product (bits x) (bits y))))
+pub times_through : (z x y : ℕ)
+    → times z (times x y) ≡ number (residue modulus (product (bits z) (product (bits x) (bits y))))
 unfolding times
 times_through z x y =
     let xy : List Bool = product (bits x) (bits y) in
-    number_agree (residue modulus (product (bits z) (bits (times x y)))) (residue modulus (product (bits z) xy))
+    number_agree (residue modulus (product (bits z) (bits (times x y))))
+    (residue modulus (product (bits z) xy))
     (λ k.
     residue_agree modulus (product (bits z) (bits (times x y))) (product (bits z) (residue modulus xy)) refl
     (product_agree (bits z) (bits (times x y)) (residue modulus xy) (bits_times x y)) k
@@ -36,7 +40,8 @@ unfolding times
 times_comm x y =
     number_agree (residue modulus (product (bits x) (bits y))) (residue modulus (product (bits y) (bits x)))
     (residue_agree modulus (product (bits x) (bits y)) (product (bits y) (bits x)) refl
-    (λ k. ap (λ h. h k) (product_is (bits x) (bits y)) ∙ ap (λ h. h k) (mult_comm (bits x) (bits y)) ∙ sym (ap (λ h. h k) (product_is (bits y) (bits x)))))
+    (λ k. ap (λ h. h k) (product_is (bits x) (bits y)) ∙ ap (λ h. h k) (mult_comm (bits x) (bits y))
+    ∙ sym (ap (λ h. h k) (product_is (bits y) (bits x)))))
 
 -- z * (x * y) = y * (x * z)
 pub times_swap : (z x y : ℕ) → times z (times x y) ≡ times y (times x z)

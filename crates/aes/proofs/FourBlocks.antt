@@ -1,15 +1,22 @@
 -- Four blocks in a vector: lanes, look-ups and the basis.
-use Rattle.std.proofs.Common.{◌≡◌, ℕ, zero, suc, ◌+◌, ◌*◌, ◌/◌, ◌%◌, ◌<◌, Bool, true, false, cond, ◌&&◌, ◌||◌, ◌==◌, T, ltb, leb, List, [], ◌∷◌, ◌++◌, map, get_or, length, replicate, refl, sym, ap, ap₂, subst, ◌∙◌, arith, bit_and, bit_xor, w8, Fits, ltb-true}
+use Rattle.std.proofs.Common.{◌≡◌, ℕ, zero, suc, ◌+◌, ◌*◌, ◌/◌, ◌%◌, ◌<◌, Bool, true, false, cond, ◌&&◌}
+use Rattle.std.proofs.Common.{◌||◌, ◌==◌, T, ltb, leb, List, [], ◌∷◌, ◌++◌, map, get_or, length, replicate}
+use Rattle.std.proofs.Common.{refl, sym, ap, ap₂, subst, ◌∙◌, arith, bit_and, bit_xor, w8, Fits, ltb-true}
 use Rattle.std.proofs.lemmas.Nat.{xor_shr, xor_mod, and_mask}
 use Rattle.std.proofs.lemmas.Bool.{and_parts, eqb-true, lt-leb}
 use Rattle.std.proofs.lemmas.List.{get_or-map, get_or_append_left, get_or-replicate, length-replicate}
-use Rattle.std.proofs.lemmas.Simd.{Each1-from_get_or, length-zip2, get_or-zip2, swz_l, SwzOk, SwzOk-from_Each1, length-swz_l, get_or-swz_l}
+use Rattle.std.proofs.lemmas.Simd.{Each1-from_get_or, length-zip2, get_or-zip2, swz_l, SwzOk}
+use Rattle.std.proofs.lemmas.Simd.{SwzOk-from_Each1, length-swz_l, get_or-swz_l}
 use lib.Lanes.{zip2, Each1}
 use Rattle.octets.specs.Polynomial.{product, residue}
 use Rattle.aes.specs.Field.{times}
-use Rattle.aes.specs.Code.Lanes.{HasLanes, IsPlace, entry, row_source, row_below, row_above, in_basis, linear_sbox}
+use Rattle.aes.specs.Code.Lanes.{HasLanes, IsPlace, entry, row_source, row_below, row_above, in_basis}
+use Rattle.aes.specs.Code.Lanes.{linear_sbox}
 use Rattle.aes.specs.declared.sbox.TheConstants.{SBOX}
-use Rattle.aes.specs.declared.lanes.TheConstants.{TO_LOW, TO_HIGH, INVERSE, SCALED, PLAIN_BY_FIRST, PLAIN_BY_SECOND, ONCE_BY_FIRST, ONCE_BY_SECOND, TWICE_BY_FIRST, TWICE_BY_SECOND, ROW_SOURCES, ROWS_BELOW, ROWS_ABOVE}
+use Rattle.aes.specs.declared.lanes.TheConstants.{TO_LOW, TO_HIGH, INVERSE, SCALED, PLAIN_BY_FIRST}
+use Rattle.aes.specs.declared.lanes.TheConstants.{PLAIN_BY_SECOND, ONCE_BY_FIRST, ONCE_BY_SECOND}
+use Rattle.aes.specs.declared.lanes.TheConstants.{TWICE_BY_FIRST, TWICE_BY_SECOND, ROW_SOURCES, ROWS_BELOW}
+use Rattle.aes.specs.declared.lanes.TheConstants.{ROWS_ABOVE}
 use Rattle.aes.proofs.Tables.{all_below, all_below_at, sbox_at}
 use Rattle.aes.proofs.Linear.{xor_exchange}
 
@@ -24,14 +31,16 @@ lane_fits (x ∷ xs) zero h = h.0.fits
 lane_fits (x ∷ xs) (suc i) h = lane_fits xs i h.1
 
 -- an operator on two vectors
-pub lanes-zip2 : (g : ℕ → ℕ → ℕ) (x y : List ℕ) → length x ≡ 64 → length y ≡ 64 → HasLanes (zip2 g x y) (λ k. g (get_or x k 0) (get_or y k 0))
+pub lanes-zip2 : (g : ℕ → ℕ → ℕ) (x y : List ℕ) → length x ≡ 64 → length y ≡ 64
+    → HasLanes (zip2 g x y) (λ k. g (get_or x k 0) (get_or y k 0))
 lanes-zip2 g x y hx hy = record {
   long = length-zip2 g x y (hx ∙ sym hy) ∙ hx;
   each = λ k l. get_or-zip2 g x y k 0 0 0 (omega arith) (omega arith);
 }
 
 -- an operator on a vector and a number in each lane
-pub lanes-splat : (g : ℕ → ℕ → ℕ) (x : List ℕ) (n : ℕ) → length x ≡ 64 → HasLanes (zip2 g x (replicate 64 n)) (λ k. g (get_or x k 0) n)
+pub lanes-splat : (g : ℕ → ℕ → ℕ) (x : List ℕ) (n : ℕ) → length x ≡ 64
+    → HasLanes (zip2 g x (replicate 64 n)) (λ k. g (get_or x k 0) n)
 lanes-splat g x n hx =
     same_lanes (zip2 g x (replicate 64 n)) (lanes-zip2 g x (replicate 64 n) hx (length-replicate 64 n))
     (λ k l. ap (g (get_or x k 0)) (get_or-replicate {A = ℕ} 64 k n 0 l))
@@ -46,13 +55,16 @@ true_T : (b : Bool) → b ≡ true → T b
 true_T b e = subst T (sym e) tt
 
 -- places that a look-up may have
-pub places_ok : (at : List ℕ) → length at ≡ 64 → ((k : ℕ) → k < 64 → IsPlace (get_or at k 0)) → SwzOk w8 16 64 0 at
+pub places_ok : (at : List ℕ) → length at ≡ 64 → ((k : ℕ) → k < 64 → IsPlace (get_or at k 0))
+    → SwzOk w8 16 64 0 at
 places_ok at long ok =
     SwzOk-from_Each1 w8 16 4 64 0 at refl (omega arith)
-    (Each1-from_get_or (λ j. T (leb 128 j || ltb j 16)) at 0 (λ i h. true_T (leb 128 (get_or at i 0) || ltb (get_or at i 0) 16) (ok i (omega arith))))
+    (Each1-from_get_or (λ j. T (leb 128 j || ltb j 16)) at 0
+    (λ i h. true_T (leb 128 (get_or at i 0) || ltb (get_or at i 0) 16) (ok i (omega arith))))
 
 -- a place in the block of lane k
-entry_at : (t four : List ℕ) (k j : ℕ) → HasLanes four (λ i. get_or t (i % 16) 0) → k < 64 → (b : Bool) → leb 128 j ≡ b → (b || ltb j 16) ≡ true
+entry_at : (t four : List ℕ) (k j : ℕ) → HasLanes four (λ i. get_or t (i % 16) 0) → k < 64 → (b : Bool)
+    → leb 128 j ≡ b → (b || ltb j 16) ≡ true
     → cond b 0 (get_or four (16 * ((0 + k) / 16) + j) 0) ≡ cond b 0 (get_or t j 0)
 entry_at t four k j h l true e ok = refl
 entry_at t four k j h l false e ok =
@@ -62,7 +74,8 @@ entry_at t four k j h l false e ok =
     h.each (16 * ((0 + k) / 16) + j) place ∙ ap (λ i. get_or t i 0) same
 
 -- four copies of a table, read at places
-pub looked_up : (t four at : List ℕ) → HasLanes four (λ i. get_or t (i % 16) 0) → length at ≡ 64 → ((k : ℕ) → k < 64 → IsPlace (get_or at k 0))
+pub looked_up : (t four at : List ℕ) → HasLanes four (λ i. get_or t (i % 16) 0) → length at ≡ 64
+    → ((k : ℕ) → k < 64 → IsPlace (get_or at k 0))
     → HasLanes (swz_l w8 16 four 0 at) (λ k. entry t (get_or at k 0))
 looked_up t four at h long ok = record {
   long = length-swz_l w8 16 four 0 at ∙ long;
@@ -77,58 +90,76 @@ low_is x = and_mask x 4
 
 -- ---- places of rows
 -- the sources of ShiftRows, tested at each place
-sources_computed : all_below (λ i. (get_or ROW_SOURCES i 0 == row_source i) && ltb (get_or ROW_SOURCES i 0) 64) 64 ≡ true
+sources_computed : all_below
+    (λ i. (get_or ROW_SOURCES i 0 == row_source i) && ltb (get_or ROW_SOURCES i 0) 64) 64 ≡ true
 sources_computed = refl
 
 -- the rows below, tested at each place
-below_computed : all_below (λ i. (get_or ROWS_BELOW i 0 == row_below i) && ltb (get_or ROWS_BELOW i 0) 64) 64 ≡ true
+below_computed : all_below (λ i. (get_or ROWS_BELOW i 0 == row_below i) && ltb (get_or ROWS_BELOW i 0) 64) 64
+    ≡ true
 below_computed = refl
 
 -- the rows above, tested at each place
-above_computed : all_below (λ i. (get_or ROWS_ABOVE i 0 == row_above i) && ltb (get_or ROWS_ABOVE i 0) 64) 64 ≡ true
+above_computed : all_below (λ i. (get_or ROWS_ABOVE i 0 == row_above i) && ltb (get_or ROWS_ABOVE i 0) 64) 64
+    ≡ true
 above_computed = refl
 
 -- a vector's lanes at places
-pub picked : (x ps : List ℕ) (f : ℕ → ℕ) (k : ℕ) → length x ≡ 64 → length ps ≡ 64 → k < 64 → all_below (λ i. (get_or ps i 0 == f i) && ltb (get_or ps i 0) 64) 64 ≡ true
+pub picked : (x ps : List ℕ) (f : ℕ → ℕ) (k : ℕ) → length x ≡ 64 → length ps ≡ 64 → k < 64
+    → all_below (λ i. (get_or ps i 0 == f i) && ltb (get_or ps i 0) 64) 64 ≡ true
     → get_or (map (λ p. get_or (x ++ x) p 0) ps) k 0 ≡ get_or x (f k) 0
 picked x ps f k hx hp l test =
-    let both = and_parts (get_or ps k 0 == f k) (ltb (get_or ps k 0) 64) (all_below_at (λ i. (get_or ps i 0 == f i) && ltb (get_or ps i 0) 64) 64 k test l) in
+    let both = and_parts (get_or ps k 0 == f k) (ltb (get_or ps k 0) 64)
+    (all_below_at (λ i. (get_or ps i 0 == f i) && ltb (get_or ps i 0) 64) 64 k test l) in
     let small : get_or ps k 0 < 64 = ltb-true (get_or ps k 0) 64 both.1 in
     get_or-map (λ p. get_or (x ++ x) p 0) ps k 0 0 (omega arith)
-    ∙ get_or_append_left x x 0 (get_or ps k 0) (omega arith) ∙ ap (λ p. get_or x p 0) (eqb-true (get_or ps k 0) (f k) both.0)
+    ∙ get_or_append_left x x 0 (get_or ps k 0) (omega arith)
+    ∙ ap (λ p. get_or x p 0) (eqb-true (get_or ps k 0) (f k) both.0)
 
 -- lanes brought by ShiftRows
-pub sources : (x : List ℕ) (k : ℕ) → length x ≡ 64 → k < 64 → get_or (map (λ p. get_or (x ++ x) p 0) ROW_SOURCES) k 0 ≡ get_or x (row_source k) 0
+pub sources : (x : List ℕ) (k : ℕ) → length x ≡ 64 → k < 64
+    → get_or (map (λ p. get_or (x ++ x) p 0) ROW_SOURCES) k 0 ≡ get_or x (row_source k) 0
 sources x k hx l = picked x ROW_SOURCES row_source k hx refl l sources_computed
 
 -- lanes moved up by one row
-pub belows : (x : List ℕ) (k : ℕ) → length x ≡ 64 → k < 64 → get_or (map (λ p. get_or (x ++ x) p 0) ROWS_BELOW) k 0 ≡ get_or x (row_below k) 0
+pub belows : (x : List ℕ) (k : ℕ) → length x ≡ 64 → k < 64
+    → get_or (map (λ p. get_or (x ++ x) p 0) ROWS_BELOW) k 0 ≡ get_or x (row_below k) 0
 belows x k hx l = picked x ROWS_BELOW row_below k hx refl l below_computed
 
 -- lanes moved down by one row
-pub aboves : (x : List ℕ) (k : ℕ) → length x ≡ 64 → k < 64 → get_or (map (λ p. get_or (x ++ x) p 0) ROWS_ABOVE) k 0 ≡ get_or x (row_above k) 0
+pub aboves : (x : List ℕ) (k : ℕ) → length x ≡ 64 → k < 64
+    → get_or (map (λ p. get_or (x ++ x) p 0) ROWS_ABOVE) k 0 ≡ get_or x (row_above k) 0
 aboves x k hx l = picked x ROWS_ABOVE row_above k hx refl l above_computed
 
 -- ---- lanes made of lanes
 -- lanes made of those of one vector
-pub via : (F g : ℕ → ℕ) (v a : List ℕ) → HasLanes v (λ k. F (get_or a k 0)) → HasLanes a g → HasLanes v (λ k. F (g k))
+pub via : (F g : ℕ → ℕ) (v a : List ℕ) → HasLanes v (λ k. F (get_or a k 0)) → HasLanes a g
+    → HasLanes v (λ k. F (g k))
 via F g v a h e = same_lanes v h (λ k l. ap F (e.each k l))
 
 -- made of those of two
-pub via_two : (F : ℕ → ℕ → ℕ) (g h : ℕ → ℕ) (v a b : List ℕ) → HasLanes v (λ k. F (get_or a k 0) (get_or b k 0)) → HasLanes a g → HasLanes b h → HasLanes v (λ k. F (g k) (h k))
+pub via_two : (F : ℕ → ℕ → ℕ) (g h : ℕ → ℕ) (v a b : List ℕ)
+    → HasLanes v (λ k. F (get_or a k 0) (get_or b k 0)) → HasLanes a g → HasLanes b h
+    → HasLanes v (λ k. F (g k) (h k))
 via_two F g h v a b e x y = same_lanes v e (λ k l. ap₂ F (x.each k l) (y.each k l))
 
 -- ---- the basis
 -- the low table keeps sums, tested at each pair of nibbles
-low_linear : all_below (λ k. get_or TO_LOW (bit_xor (k / 16) (k % 16)) 0 == bit_xor (get_or TO_LOW (k / 16) 0) (get_or TO_LOW (k % 16) 0)) 256 ≡ true
+low_linear : all_below (λ k.
+    get_or TO_LOW (bit_xor (k / 16) (k % 16)) 0 == bit_xor (get_or TO_LOW (k / 16) 0)
+    (get_or TO_LOW (k % 16) 0)) 256 ≡ true
 low_linear = refl
 
 -- the high table keeps sums, tested at each pair of nibbles
-high_linear : all_below (λ k. get_or TO_HIGH (bit_xor (k / 16) (k % 16)) 0 == bit_xor (get_or TO_HIGH (k / 16) 0) (get_or TO_HIGH (k % 16) 0)) 256 ≡ true
+high_linear : all_below (λ k.
+    get_or TO_HIGH (bit_xor (k / 16) (k % 16)) 0 == bit_xor (get_or TO_HIGH (k / 16) 0)
+    (get_or TO_HIGH (k % 16) 0)) 256 ≡ true
 high_linear = refl
 
 -- a table of nibbles that is linear wherever the test says so
-linear_at : (t : List ℕ) (a b : ℕ) → a < 16 → b < 16 → all_below (λ k. get_or t (bit_xor (k / 16) (k % 16)) 0 == bit_xor (get_or t (k / 16) 0) (get_or t (k % 16) 0)) 256 ≡ true
+linear_at : (t : List ℕ) (a b : ℕ) → a < 16 → b < 16
+    → all_below (λ k. get_or t (bit_xor (k / 16) (k % 16)) 0 == bit_xor (get_or t (k / 16) 0)
+    (get_or t (k % 16) 0)) 256 ≡ true
     → get_or t (bit_xor a b) 0 ≡ bit_xor (get_or t a 0) (get_or t b 0)
 linear_at t a b ha hb test =
     let k : ℕ = a * 16 + b in
@@ -136,17 +167,22 @@ linear_at t a b ha hb test =
     let second : k % 16 ≡ b = omega arith in
     let at_k : get_or t (bit_xor (k / 16) (k % 16)) 0 ≡ bit_xor (get_or t (k / 16) 0) (get_or t (k % 16) 0) =
     eqb-true (get_or t (bit_xor (k / 16) (k % 16)) 0) (bit_xor (get_or t (k / 16) 0) (get_or t (k % 16) 0))
-    (all_below_at (λ k. get_or t (bit_xor (k / 16) (k % 16)) 0 == bit_xor (get_or t (k / 16) 0) (get_or t (k % 16) 0)) 256 k test (omega arith)) in
-    sym (ap₂ (λ (x y : ℕ). get_or t (bit_xor x y) 0) first second) ∙ at_k ∙ ap₂ (λ (x y : ℕ). bit_xor (get_or t x 0) (get_or t y 0)) first second
+    (all_below_at (λ k. get_or t (bit_xor (k / 16) (k % 16)) 0 == bit_xor (get_or t (k / 16) 0)
+    (get_or t (k % 16) 0)) 256 k test (omega arith)) in
+    sym (ap₂ (λ (x y : ℕ). get_or t (bit_xor x y) 0) first second) ∙ at_k
+    ∙ ap₂ (λ (x y : ℕ). bit_xor (get_or t x 0) (get_or t y 0)) first second
 
 -- the basis keeps sums
 pub in_basis_xor : (x y : ℕ) → x < 256 → y < 256 → bit_xor (in_basis x) (in_basis y) ≡ in_basis (bit_xor x y)
 unfolding in_basis
 in_basis_xor x y hx hy =
-    xor_exchange (get_or TO_LOW (x % 16) 0) (get_or TO_HIGH (x / 16) 0) (get_or TO_LOW (y % 16) 0) (get_or TO_HIGH (y / 16) 0)
+    xor_exchange (get_or TO_LOW (x % 16) 0) (get_or TO_HIGH (x / 16) 0) (get_or TO_LOW (y % 16) 0)
+    (get_or TO_HIGH (y / 16) 0)
     ∙ ap₂ bit_xor
-    (sym (linear_at TO_LOW (x % 16) (y % 16) (omega arith) (omega arith) low_linear) ∙ ap (λ i. get_or TO_LOW i 0) (sym (xor_mod x y 4)))
-    (sym (linear_at TO_HIGH (x / 16) (y / 16) (omega arith) (omega arith) high_linear) ∙ ap (λ i. get_or TO_HIGH i 0) (sym (xor_shr x y 4)))
+    (sym (linear_at TO_LOW (x % 16) (y % 16) (omega arith) (omega arith) low_linear)
+    ∙ ap (λ i. get_or TO_LOW i 0) (sym (xor_mod x y 4)))
+    (sym (linear_at TO_HIGH (x / 16) (y / 16) (omega arith) (omega arith) high_linear)
+    ∙ ap (λ i. get_or TO_HIGH i 0) (sym (xor_shr x y 4)))
 
 -- the two look-ups of the basis
 pub basis_entries : (x : ℕ) → x < 256 → bit_xor (entry TO_LOW (x % 16)) (entry TO_HIGH (x / 16)) ≡ in_basis x
@@ -154,7 +190,8 @@ unfolding in_basis
 basis_entries x h =
     let low : x % 16 < 128 = omega arith in
     let high : x / 16 < 128 = omega arith in
-    ap₂ bit_xor (ap (λ b. cond b 0 (get_or TO_LOW (x % 16) 0)) (lt-leb 128 (x % 16) low)) (ap (λ b. cond b 0 (get_or TO_HIGH (x / 16) 0)) (lt-leb 128 (x / 16) high))
+    ap₂ bit_xor (ap (λ b. cond b 0 (get_or TO_LOW (x % 16) 0)) (lt-leb 128 (x % 16) low))
+    (ap (λ b. cond b 0 (get_or TO_HIGH (x / 16) 0)) (lt-leb 128 (x / 16) high))
 
 -- ---- the S-box by nibbles of a byte in the basis
 -- the scaled inverse of the low nibble
@@ -182,21 +219,31 @@ abbrev pub t_at : ℕ → ℕ
 t_at y = bit_xor (entry INVERSE (second_at y)) (y / 16)
 
 -- each is a place of a look-up, tested at each byte
-places_computed : all_below (λ y. is_place (both_at y) && (is_place (first_at y) && (is_place (second_at y) && (is_place (u_at y) && is_place (t_at y))))) 256 ≡ true
+places_computed : all_below
+    (λ y. is_place (both_at y) &&
+    (is_place (first_at y) && (is_place (second_at y) && (is_place (u_at y) && is_place (t_at y))))) 256
+    ≡ true
 places_computed = refl
 
 -- at a byte
-places_at : (y : ℕ) → y < 256 → IsPlace (both_at y) × IsPlace (first_at y) × IsPlace (second_at y) × IsPlace (u_at y) × IsPlace (t_at y)
+places_at : (y : ℕ) → y < 256
+    → IsPlace (both_at y) × IsPlace (first_at y) × IsPlace (second_at y) × IsPlace (u_at y)
+    × IsPlace (t_at y)
 places_at y h =
-    let a = and_parts (is_place (both_at y)) (is_place (first_at y) && (is_place (second_at y) && (is_place (u_at y) && is_place (t_at y))))
-    (all_below_at (λ y. is_place (both_at y) && (is_place (first_at y) && (is_place (second_at y) && (is_place (u_at y) && is_place (t_at y))))) 256 y places_computed h) in
-    let b = and_parts (is_place (first_at y)) (is_place (second_at y) && (is_place (u_at y) && is_place (t_at y))) a.1 in
+    let a = and_parts (is_place (both_at y))
+    (is_place (first_at y) && (is_place (second_at y) && (is_place (u_at y) && is_place (t_at y))))
+    (all_below_at (λ y. is_place (both_at y) &&
+    (is_place (first_at y) && (is_place (second_at y) && (is_place (u_at y) && is_place (t_at y))))) 256 y
+    places_computed h) in
+    let b = and_parts (is_place (first_at y))
+    (is_place (second_at y) && (is_place (u_at y) && is_place (t_at y))) a.1 in
     let c = and_parts (is_place (second_at y)) (is_place (u_at y) && is_place (t_at y)) b.1 in
     let d = and_parts (is_place (u_at y)) (is_place (t_at y)) c.1 in
     (a.0, b.0, c.0, d.0, d.1)
 
 -- what the places of a look-up are, by the lanes from which they were made
-pub shown : (g : ℕ → ℕ) (v x : List ℕ) → Each1 (Fits w8) x → HasLanes v (λ k. g (get_or x k 0)) → ((y : ℕ) → y < 256 → IsPlace (g y)) → (k : ℕ) → k < 64 → IsPlace (get_or v k 0)
+pub shown : (g : ℕ → ℕ) (v x : List ℕ) → Each1 (Fits w8) x → HasLanes v (λ k. g (get_or x k 0))
+    → ((y : ℕ) → y < 256 → IsPlace (g y)) → (k : ℕ) → k < 64 → IsPlace (get_or v k 0)
 shown g v x fits h ok k l = subst IsPlace (sym (h.each k l)) (ok (get_or x k 0) (lane_fits x k fits))
 
 -- the sum of the nibbles is a place
@@ -224,41 +271,62 @@ abbrev pub by_parts : List ℕ → List ℕ → ℕ → ℕ
 by_parts p q y = bit_xor (entry p (u_at y)) (entry q (t_at y))
 
 -- the S-box without its constant, tested at each byte
-plain_computed : all_below (λ b. by_parts PLAIN_BY_FIRST PLAIN_BY_SECOND (in_basis b) == bit_xor (get_or SBOX b 0) 0x63) 256 ≡ true
+plain_computed : all_below
+    (λ b. by_parts PLAIN_BY_FIRST PLAIN_BY_SECOND (in_basis b) == bit_xor (get_or SBOX b 0) 0x63) 256 ≡ true
 unfolding in_basis
 plain_computed = refl
 
 -- the same in the basis, tested at each byte
-once_computed : all_below (λ b. by_parts ONCE_BY_FIRST ONCE_BY_SECOND (in_basis b) == in_basis (bit_xor (get_or SBOX b 0) 0x63)) 256 ≡ true
+once_computed : all_below
+    (λ b. by_parts ONCE_BY_FIRST ONCE_BY_SECOND (in_basis b) == in_basis (bit_xor (get_or SBOX b 0) 0x63))
+    256 ≡ true
 unfolding in_basis
 once_computed = refl
 
 -- twice it in the basis, tested at each byte
-twice_computed : all_below (λ b. by_parts TWICE_BY_FIRST TWICE_BY_SECOND (in_basis b) == in_basis (times 2 (bit_xor (get_or SBOX b 0) 0x63))) 256 ≡ true
+twice_computed : all_below
+    (λ b. by_parts TWICE_BY_FIRST TWICE_BY_SECOND (in_basis b) == in_basis
+    (times 2 (bit_xor (get_or SBOX b 0) 0x63))) 256 ≡ true
 unfolding in_basis times product residue
 twice_computed = refl
 
 -- a function of the table's entry is that of the S-box
-by_sbox : (g h : ℕ → ℕ) (b : ℕ) → b < 256 → all_below (λ b. g b == h (bit_xor (get_or SBOX b 0) 0x63)) 256 ≡ true → g b ≡ h (linear_sbox b)
+by_sbox : (g h : ℕ → ℕ) (b : ℕ) → b < 256
+    → all_below (λ b. g b == h (bit_xor (get_or SBOX b 0) 0x63)) 256 ≡ true → g b ≡ h (linear_sbox b)
 unfolding linear_sbox
 by_sbox g h b l test =
-    eqb-true (g b) (h (bit_xor (get_or SBOX b 0) 0x63)) (all_below_at (λ b. g b == h (bit_xor (get_or SBOX b 0) 0x63)) 256 b test l)
+    eqb-true (g b) (h (bit_xor (get_or SBOX b 0) 0x63))
+    (all_below_at (λ b. g b == h (bit_xor (get_or SBOX b 0) 0x63)) 256 b test l)
     ∙ ap (λ (s : ℕ). h (bit_xor s 0x63)) (sbox_at b l)
 
 -- lanes by parts of bytes in the basis
-substituted : (p q v x : List ℕ) (s h : ℕ → ℕ) → HasLanes v (λ k. by_parts p q (get_or x k 0)) → ((k : ℕ) → k < 64 → s k < 256) → HasLanes x (λ k. in_basis (s k))
-    → all_below (λ b. by_parts p q (in_basis b) == h (bit_xor (get_or SBOX b 0) 0x63)) 256 ≡ true → HasLanes v (λ k. h (linear_sbox (s k)))
+substituted : (p q v x : List ℕ) (s h : ℕ → ℕ) → HasLanes v (λ k. by_parts p q (get_or x k 0))
+    → ((k : ℕ) → k < 64 → s k < 256) → HasLanes x (λ k. in_basis (s k))
+    → all_below (λ b. by_parts p q (in_basis b) == h (bit_xor (get_or SBOX b 0) 0x63)) 256 ≡ true
+    → HasLanes v (λ k. h (linear_sbox (s k)))
 substituted p q v x s h made small held test =
-    same_lanes v made (λ k l. ap (by_parts p q) (held.each k l) ∙ by_sbox (λ b. by_parts p q (in_basis b)) h (s k) (small k l) test)
+    same_lanes v made (λ k l. ap (by_parts p q) (held.each k l)
+    ∙ by_sbox (λ b. by_parts p q (in_basis b)) h (s k) (small k l) test)
 
 -- lanes of the S-box without its constant
-pub plain_lanes : (v x : List ℕ) (s : ℕ → ℕ) → HasLanes v (λ k. by_parts PLAIN_BY_FIRST PLAIN_BY_SECOND (get_or x k 0)) → ((k : ℕ) → k < 64 → s k < 256) → HasLanes x (λ k. in_basis (s k)) → HasLanes v (λ k. linear_sbox (s k))
-plain_lanes v x s made small held = substituted PLAIN_BY_FIRST PLAIN_BY_SECOND v x s (λ y. y) made small held plain_computed
+pub plain_lanes : (v x : List ℕ) (s : ℕ → ℕ)
+    → HasLanes v (λ k. by_parts PLAIN_BY_FIRST PLAIN_BY_SECOND (get_or x k 0))
+    → ((k : ℕ) → k < 64 → s k < 256) → HasLanes x (λ k. in_basis (s k)) → HasLanes v (λ k. linear_sbox (s k))
+plain_lanes v x s made small held =
+    substituted PLAIN_BY_FIRST PLAIN_BY_SECOND v x s (λ y. y) made small held plain_computed
 
 -- the same in the basis
-pub once_lanes : (v x : List ℕ) (s : ℕ → ℕ) → HasLanes v (λ k. by_parts ONCE_BY_FIRST ONCE_BY_SECOND (get_or x k 0)) → ((k : ℕ) → k < 64 → s k < 256) → HasLanes x (λ k. in_basis (s k)) → HasLanes v (λ k. in_basis (linear_sbox (s k)))
-once_lanes v x s made small held = substituted ONCE_BY_FIRST ONCE_BY_SECOND v x s in_basis made small held once_computed
+pub once_lanes : (v x : List ℕ) (s : ℕ → ℕ)
+    → HasLanes v (λ k. by_parts ONCE_BY_FIRST ONCE_BY_SECOND (get_or x k 0)) → ((k : ℕ) → k < 64 → s k < 256)
+    → HasLanes x (λ k. in_basis (s k)) → HasLanes v (λ k. in_basis (linear_sbox (s k)))
+once_lanes v x s made small held =
+    substituted ONCE_BY_FIRST ONCE_BY_SECOND v x s in_basis made small held once_computed
 
 -- twice it in the basis
-pub twice_lanes : (v x : List ℕ) (s : ℕ → ℕ) → HasLanes v (λ k. by_parts TWICE_BY_FIRST TWICE_BY_SECOND (get_or x k 0)) → ((k : ℕ) → k < 64 → s k < 256) → HasLanes x (λ k. in_basis (s k)) → HasLanes v (λ k. in_basis (times 2 (linear_sbox (s k))))
-twice_lanes v x s made small held = substituted TWICE_BY_FIRST TWICE_BY_SECOND v x s (λ y. in_basis (times 2 y)) made small held twice_computed
+pub twice_lanes : (v x : List ℕ) (s : ℕ → ℕ)
+    → HasLanes v (λ k. by_parts TWICE_BY_FIRST TWICE_BY_SECOND (get_or x k 0))
+    → ((k : ℕ) → k < 64 → s k < 256) → HasLanes x (λ k. in_basis (s k))
+    → HasLanes v (λ k. in_basis (times 2 (linear_sbox (s k))))
+twice_lanes v x s made small held =
+    substituted TWICE_BY_FIRST TWICE_BY_SECOND v x s (λ y. in_basis (times 2 y)) made small held
+    twice_computed

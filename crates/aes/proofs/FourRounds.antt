@@ -1,9 +1,12 @@
 -- Rounds of four blocks, byte by byte.
-use Rattle.std.proofs.Common.{◌≡◌, ℕ, zero, suc, ◌+◌, ◌*◌, ◌/◌, ◌%◌, ◌^◌, ◌<◌, ◌≤◌, true, ◌&&◌, ◌==◌, List, [], ◌∷◌, get_or, length, replicate, refl, sym, ap, ap₂, ◌∙◌, arith, bit_xor, zero-add, take, drop, inl, inr}
+use Rattle.std.proofs.Common.{◌≡◌, ℕ, zero, suc, ◌+◌, ◌*◌, ◌/◌, ◌%◌, ◌^◌, ◌<◌, ◌≤◌, true, ◌&&◌, ◌==◌, List}
+use Rattle.std.proofs.Common.{[], ◌∷◌, get_or, length, replicate, refl, sym, ap, ap₂, ◌∙◌, arith, bit_xor}
+use Rattle.std.proofs.Common.{zero-add, take, drop, inl, inr}
 use Rattle.std.specs.Int.Bits.{xor_zero_r, xor_comm, xor_assoc}
 use Rattle.std.proofs.lemmas.Nat.{xor_of_8}
 use Rattle.std.proofs.lemmas.Bool.{and_parts, eqb-true, cases_lt}
-use Rattle.std.proofs.lemmas.List.{get_or-replicate, length-replicate, get_or-map, get_or-take, get_or-drop, get_or_past, length-take, length-take-le, length-drop, ext_get_or}
+use Rattle.std.proofs.lemmas.List.{get_or-replicate, length-replicate, get_or-map, get_or-take, get_or-drop}
+use Rattle.std.proofs.lemmas.List.{get_or_past, length-take, length-take-le, length-drop, ext_get_or}
 use Rattle.std.proofs.lemmas.List.FromFn.{get_or-map-range_with_len}
 use Rattle.std.proofs.lemmas.Simd.{get_or_narrower}
 use lib.Lanes.{Each1, number_l, digits_l}
@@ -12,7 +15,8 @@ use Rattle.octets.specs.Polynomial.{product, residue}
 use Rattle.aes.specs.Field.{times, sbox}
 use Rattle.aes.specs.Cipher.{at, grid, column, mix_column, sub_bytes, shift_rows, mix_columns, add_round_key}
 use Rattle.aes.specs.Columns.{column_of, columns_of}
-use Rattle.aes.specs.Code.Lanes.{HasLanes, HoldsBlocks, HoldsInBasis, byte_of, key_byte, ready_byte, row_source, row_below, row_above, in_basis, linear_sbox}
+use Rattle.aes.specs.Code.Lanes.{HasLanes, HoldsBlocks, HoldsInBasis, byte_of, key_byte, ready_byte}
+use Rattle.aes.specs.Code.Lanes.{row_source, row_below, row_above, in_basis, linear_sbox}
 use Rattle.aes.specs.Schedule.{round_count, schedule}
 use Rattle.aes.proofs.Expanded.{HasSchedule}
 use Rattle.aes.proofs.Tables.{all_below, all_below_at}
@@ -32,7 +36,8 @@ at_byte : (s : List ℕ) (p : ℕ) → at s (p % 4) (p / 4) ≡ get_or s p 0
 at_byte s p = ap (λ i. get_or s i 0) (omega arith)
 
 -- a byte after AddRoundKey
-pub added_byte : (ws : List (List ℕ)) (s : List ℕ) (p : ℕ) → p < 16 → get_or (add_round_key ws 0 s) p 0 ≡ bit_xor (get_or s p 0) (get_or (get_or ws (p / 4) []) (p % 4) 0)
+pub added_byte : (ws : List (List ℕ)) (s : List ℕ) (p : ℕ) → p < 16
+    → get_or (add_round_key ws 0 s) p 0 ≡ bit_xor (get_or s p 0) (get_or (get_or ws (p / 4) []) (p % 4) 0)
 unfolding add_round_key
 added_byte ws s p h =
     let first : 4 * 0 + p / 4 ≡ p / 4 = omega arith in
@@ -42,16 +47,19 @@ added_byte ws s p h =
 -- the place from which ShiftRows brings a byte
 source_row : (p : ℕ) → p < 16 → p % 4 + 4 * ((p / 4 + p % 4) % 4) ≡ row_source p
 source_row p h =
-    eqb-true (p % 4 + 4 * ((p / 4 + p % 4) % 4)) (row_source p) (all_below_at (λ p. p % 4 + 4 * ((p / 4 + p % 4) % 4) == row_source p) 16 p refl h)
+    eqb-true (p % 4 + 4 * ((p / 4 + p % 4) % 4)) (row_source p)
+    (all_below_at (λ p. p % 4 + 4 * ((p / 4 + p % 4) % 4) == row_source p) 16 p refl h)
 
 -- a byte after SubBytes and ShiftRows
-pub shifted_byte : (s : List ℕ) (p : ℕ) → p < 16 → get_or (shift_rows (sub_bytes s)) p 0 ≡ sbox (get_or s (row_source p) 0)
+pub shifted_byte : (s : List ℕ) (p : ℕ) → p < 16
+    → get_or (shift_rows (sub_bytes s)) p 0 ≡ sbox (get_or s (row_source p) 0)
 unfolding shift_rows sub_bytes
 shifted_byte s p h =
     let place : p % 4 + 4 * ((p / 4 + p % 4) % 4) < 16 = omega arith in
     let q : ℕ = p % 4 + 4 * ((p / 4 + p % 4) % 4) in
     byte_grid (λ r c. at (grid (λ r c. sbox (at s r c))) r ((c + r) % 4)) p h
-    ∙ byte_grid (λ r c. sbox (at s r c)) q place ∙ ap sbox (at_byte s q ∙ ap (λ i. get_or s i 0) (source_row p h))
+    ∙ byte_grid (λ r c. sbox (at s r c)) q place
+    ∙ ap sbox (at_byte s q ∙ ap (λ i. get_or s i 0) (source_row p h))
 
 -- a row of MixColumns from its own row down, around the end
 abbrev pub mixed : ℕ → ℕ → ℕ → ℕ → ℕ
@@ -59,39 +67,63 @@ mixed a b c d = bit_xor (times 2 a) (bit_xor (times 3 b) (bit_xor c d))
 
 -- a row of a column after MixColumns
 mixed_row : (g : ℕ → ℕ) (r : ℕ) → r < 4 → ((i : ℕ) → g i < 256)
-    → get_or (mix_column (g 0 ∷ g 1 ∷ g 2 ∷ g 3 ∷ [])) r 0 ≡ mixed (g r) (g ((r + 1) % 4)) (g ((r + 2) % 4)) (g ((r + 3) % 4))
+    → get_or (mix_column (g 0 ∷ g 1 ∷ g 2 ∷ g 3 ∷ [])) r 0
+    ≡ mixed (g r) (g ((r + 1) % 4)) (g ((r + 2) % 4)) (g ((r + 3) % 4))
 unfolding mix_column
 mixed_row g zero h small =
-    sym (dot_is 2 3 1 1 (g 0) (g 1) (g 2) (g 3) (times 2 (g 0)) (times 3 (g 1)) (g 2) (g 3) refl refl (sym (single_is (g 2) (small 2))) (sym (single_is (g 3) (small 3))))
+    sym (dot_is 2 3 1 1 (g 0) (g 1) (g 2) (g 3) (times 2 (g 0)) (times 3 (g 1)) (g 2) (g 3) refl refl
+    (sym (single_is (g 2) (small 2))) (sym (single_is (g 3) (small 3))))
 mixed_row g (suc zero) h small =
-    sym (dot_is 1 2 3 1 (g 0) (g 1) (g 2) (g 3) (g 0) (times 2 (g 1)) (times 3 (g 2)) (g 3) (sym (single_is (g 0) (small 0))) refl refl (sym (single_is (g 3) (small 3))))
+    sym (dot_is 1 2 3 1 (g 0) (g 1) (g 2) (g 3) (g 0) (times 2 (g 1)) (times 3 (g 2)) (g 3)
+    (sym (single_is (g 0) (small 0))) refl refl (sym (single_is (g 3) (small 3))))
     ∙ xor_comm (g 0) (bit_xor (times 2 (g 1)) (bit_xor (times 3 (g 2)) (g 3)))
-    ∙ xor_assoc (times 2 (g 1)) (bit_xor (times 3 (g 2)) (g 3)) (g 0) ∙ ap (bit_xor (times 2 (g 1))) (xor_assoc (times 3 (g 2)) (g 3) (g 0))
+    ∙ xor_assoc (times 2 (g 1)) (bit_xor (times 3 (g 2)) (g 3)) (g 0)
+    ∙ ap (bit_xor (times 2 (g 1))) (xor_assoc (times 3 (g 2)) (g 3) (g 0))
 mixed_row g (suc (suc zero)) h small =
-    sym (dot_is 1 1 2 3 (g 0) (g 1) (g 2) (g 3) (g 0) (g 1) (times 2 (g 2)) (times 3 (g 3)) (sym (single_is (g 0) (small 0))) (sym (single_is (g 1) (small 1))) refl refl)
-    ∙ sym (xor_assoc (g 0) (g 1) (bit_xor (times 2 (g 2)) (times 3 (g 3)))) ∙ xor_comm (bit_xor (g 0) (g 1)) (bit_xor (times 2 (g 2)) (times 3 (g 3)))
+    sym (dot_is 1 1 2 3 (g 0) (g 1) (g 2) (g 3) (g 0) (g 1) (times 2 (g 2)) (times 3 (g 3))
+    (sym (single_is (g 0) (small 0))) (sym (single_is (g 1) (small 1))) refl refl)
+    ∙ sym (xor_assoc (g 0) (g 1) (bit_xor (times 2 (g 2)) (times 3 (g 3))))
+    ∙ xor_comm (bit_xor (g 0) (g 1)) (bit_xor (times 2 (g 2)) (times 3 (g 3)))
     ∙ xor_assoc (times 2 (g 2)) (times 3 (g 3)) (bit_xor (g 0) (g 1))
 mixed_row g (suc (suc (suc zero))) h small =
-    sym (dot_is 3 1 1 2 (g 0) (g 1) (g 2) (g 3) (times 3 (g 0)) (g 1) (g 2) (times 2 (g 3)) refl (sym (single_is (g 1) (small 1))) (sym (single_is (g 2) (small 2))) refl)
-    ∙ ap (bit_xor (times 3 (g 0))) (sym (xor_assoc (g 1) (g 2) (times 2 (g 3)))) ∙ sym (xor_assoc (times 3 (g 0)) (bit_xor (g 1) (g 2)) (times 2 (g 3)))
+    sym (dot_is 3 1 1 2 (g 0) (g 1) (g 2) (g 3) (times 3 (g 0)) (g 1) (g 2) (times 2 (g 3)) refl
+    (sym (single_is (g 1) (small 1))) (sym (single_is (g 2) (small 2))) refl)
+    ∙ ap (bit_xor (times 3 (g 0))) (sym (xor_assoc (g 1) (g 2) (times 2 (g 3))))
+    ∙ sym (xor_assoc (times 3 (g 0)) (bit_xor (g 1) (g 2)) (times 2 (g 3)))
     ∙ xor_comm (bit_xor (times 3 (g 0)) (bit_xor (g 1) (g 2))) (times 2 (g 3))
 mixed_row g (suc (suc (suc (suc r)))) h small = absurd (omega arith)
 
 -- the rows below a byte
-rows_computed : all_below (λ p. ((p % 4 + 1) % 4 + 4 * (p / 4) == row_below p) && (((p % 4 + 2) % 4 + 4 * (p / 4) == row_below (row_below p)) && ((p % 4 + 3) % 4 + 4 * (p / 4) == row_below (row_below (row_below p))))) 16 ≡ true
+rows_computed : all_below
+    (λ p. ((p % 4 + 1) % 4 + 4 * (p / 4) == row_below p) &&
+    (((p % 4 + 2) % 4 + 4 * (p / 4) == row_below (row_below p)) &&
+    ((p % 4 + 3) % 4 + 4 * (p / 4) == row_below (row_below (row_below p))))) 16 ≡ true
 rows_computed = refl
 
 -- the rows below a byte of a block
-rows_at : (p : ℕ) → p < 16 → ((p % 4 + 1) % 4 + 4 * (p / 4) ≡ row_below p) × ((p % 4 + 2) % 4 + 4 * (p / 4) ≡ row_below (row_below p)) × ((p % 4 + 3) % 4 + 4 * (p / 4) ≡ row_below (row_below (row_below p)))
+rows_at : (p : ℕ) → p < 16
+    → ((p % 4 + 1) % 4 + 4 * (p / 4) ≡ row_below p)
+    × ((p % 4 + 2) % 4 + 4 * (p / 4) ≡ row_below (row_below p))
+    × ((p % 4 + 3) % 4 + 4 * (p / 4) ≡ row_below (row_below (row_below p)))
 rows_at p h =
-    let a = and_parts ((p % 4 + 1) % 4 + 4 * (p / 4) == row_below p) (((p % 4 + 2) % 4 + 4 * (p / 4) == row_below (row_below p)) && ((p % 4 + 3) % 4 + 4 * (p / 4) == row_below (row_below (row_below p))))
-    (all_below_at (λ p. ((p % 4 + 1) % 4 + 4 * (p / 4) == row_below p) && (((p % 4 + 2) % 4 + 4 * (p / 4) == row_below (row_below p)) && ((p % 4 + 3) % 4 + 4 * (p / 4) == row_below (row_below (row_below p))))) 16 p rows_computed h) in
-    let b = and_parts ((p % 4 + 2) % 4 + 4 * (p / 4) == row_below (row_below p)) ((p % 4 + 3) % 4 + 4 * (p / 4) == row_below (row_below (row_below p))) a.1 in
-    (eqb-true ((p % 4 + 1) % 4 + 4 * (p / 4)) (row_below p) a.0, eqb-true ((p % 4 + 2) % 4 + 4 * (p / 4)) (row_below (row_below p)) b.0, eqb-true ((p % 4 + 3) % 4 + 4 * (p / 4)) (row_below (row_below (row_below p))) b.1)
+    let a = and_parts ((p % 4 + 1) % 4 + 4 * (p / 4) == row_below p)
+    (((p % 4 + 2) % 4 + 4 * (p / 4) == row_below (row_below p)) &&
+    ((p % 4 + 3) % 4 + 4 * (p / 4) == row_below (row_below (row_below p))))
+    (all_below_at (λ p. ((p % 4 + 1) % 4 + 4 * (p / 4) == row_below p) &&
+    (((p % 4 + 2) % 4 + 4 * (p / 4) == row_below (row_below p)) &&
+    ((p % 4 + 3) % 4 + 4 * (p / 4) == row_below (row_below (row_below p))))) 16 p rows_computed h) in
+    let b = and_parts ((p % 4 + 2) % 4 + 4 * (p / 4) == row_below (row_below p))
+    ((p % 4 + 3) % 4 + 4 * (p / 4) == row_below (row_below (row_below p))) a.1 in (
+      eqb-true ((p % 4 + 1) % 4 + 4 * (p / 4)) (row_below p) a.0,
+      eqb-true ((p % 4 + 2) % 4 + 4 * (p / 4)) (row_below (row_below p)) b.0,
+      eqb-true ((p % 4 + 3) % 4 + 4 * (p / 4)) (row_below (row_below (row_below p))) b.1,
+    )
 
 -- a byte after MixColumns
 mixed_byte : (s : List ℕ) (p : ℕ) → ((i : ℕ) → get_or s i 0 < 256) → p < 16
-    → get_or (mix_columns s) p 0 ≡ mixed (get_or s p 0) (get_or s (row_below p) 0) (get_or s (row_below (row_below p)) 0) (get_or s (row_below (row_below (row_below p))) 0)
+    → get_or (mix_columns s) p 0
+    ≡ mixed (get_or s p 0) (get_or s (row_below p) 0) (get_or s (row_below (row_below p)) 0)
+    (get_or s (row_below (row_below (row_below p))) 0)
 unfolding mix_columns
 mixed_byte s p small h =
     let rows = rows_at p h in
@@ -109,17 +141,21 @@ linear_small x h = xor_of_8 (sbox x) 0x63 (sbox_small x h) (omega arith)
 
 -- the constants cancel: x and y are twice the first two rows, z, c and d the last three rows
 constants_out : (x y z c d k : ℕ)
-    → bit_xor (bit_xor (bit_xor (bit_xor x 0xc6) (bit_xor z 0x63)) (bit_xor (bit_xor (bit_xor y 0xc6) (bit_xor c 0x63)) (bit_xor d 0x63))) (bit_xor k 0x63)
+    → bit_xor (bit_xor (bit_xor (bit_xor x 0xc6) (bit_xor z 0x63))
+    (bit_xor (bit_xor (bit_xor y 0xc6) (bit_xor c 0x63)) (bit_xor d 0x63))) (bit_xor k 0x63)
     ≡ bit_xor (bit_xor x (bit_xor (bit_xor y z) (bit_xor c d))) k
 constants_out x y z c d k =
     ap (λ (m : ℕ). bit_xor m (bit_xor k 0x63)) (
-    ap₂ bit_xor (xor_exchange x 0xc6 z 0x63) (ap (λ (m : ℕ). bit_xor m (bit_xor d 0x63)) (xor_exchange y 0xc6 c 0x63) ∙ xor_exchange (bit_xor y c) 0xa5 d 0x63)
+    ap₂ bit_xor (xor_exchange x 0xc6 z 0x63)
+    (ap (λ (m : ℕ). bit_xor m (bit_xor d 0x63)) (xor_exchange y 0xc6 c 0x63)
+    ∙ xor_exchange (bit_xor y c) 0xa5 d 0x63)
     ∙ xor_exchange (bit_xor x z) 0xa5 (bit_xor (bit_xor y c) d) 0xc6)
     ∙ xor_exchange (bit_xor (bit_xor x z) (bit_xor (bit_xor y c) d)) 0x63 k 0x63
     ∙ xor_zero_r (bit_xor (bit_xor (bit_xor x z) (bit_xor (bit_xor y c) d)) k)
     ∙ ap (λ (m : ℕ). bit_xor m k) (
     xor_assoc x z (bit_xor (bit_xor y c) d)
-    ∙ ap (bit_xor x) (ap (bit_xor z) (xor_assoc y c d) ∙ sym (xor_assoc z y (bit_xor c d)) ∙ ap (λ (m : ℕ). bit_xor m (bit_xor c d)) (xor_comm z y)))
+    ∙ ap (bit_xor x) (ap (bit_xor z) (xor_assoc y c d) ∙ sym (xor_assoc z y (bit_xor c d))
+    ∙ ap (λ (m : ℕ). bit_xor m (bit_xor c d)) (xor_comm z y)))
 
 -- twice the constant of the S-box
 twice_constant : times 2 0x63 ≡ 0xc6
@@ -140,7 +176,8 @@ constant_in_basis = refl
 lane_mixed : (a b c d k : ℕ) → a < 256 → b < 256 → c < 256 → d < 256 → k < 256
     → bit_xor
     (bit_xor (bit_xor (in_basis (times 2 (linear_sbox a))) (in_basis (linear_sbox b)))
-    (bit_xor (bit_xor (in_basis (times 2 (linear_sbox b))) (in_basis (linear_sbox c))) (in_basis (linear_sbox d))))
+    (bit_xor (bit_xor (in_basis (times 2 (linear_sbox b))) (in_basis (linear_sbox c)))
+    (in_basis (linear_sbox d))))
     (bit_xor (in_basis k) 0x7c)
     ≡ in_basis (bit_xor (mixed (sbox a) (sbox b) (sbox c) (sbox d)) k)
 unfolding linear_sbox
@@ -160,14 +197,19 @@ lane_mixed a b c d k ha hb hc hd hk =
     let h_upper : upper < 256 = xor_of_8 x p hx hp in
     let h_lower : lower < 256 = xor_of_8 (bit_xor y q) r (xor_of_8 y q hy hq) hr in
     ap₂ bit_xor
-    (ap₂ bit_xor (in_basis_xor x p hx hp) (ap (λ (m : ℕ). bit_xor m (in_basis r)) (in_basis_xor y q hy hq) ∙ in_basis_xor (bit_xor y q) r (xor_of_8 y q hy hq) hr)
+    (ap₂ bit_xor (in_basis_xor x p hx hp)
+    (ap (λ (m : ℕ). bit_xor m (in_basis r)) (in_basis_xor y q hy hq)
+    ∙ in_basis_xor (bit_xor y q) r (xor_of_8 y q hy hq) hr)
     ∙ in_basis_xor upper lower h_upper h_lower)
     (ap (bit_xor (in_basis k)) (sym constant_in_basis) ∙ in_basis_xor k 0x63 hk (omega arith))
-    ∙ in_basis_xor (bit_xor upper lower) (bit_xor k 0x63) (xor_of_8 upper lower h_upper h_lower) (xor_of_8 k 0x63 hk (omega arith))
+    ∙ in_basis_xor (bit_xor upper lower) (bit_xor k 0x63) (xor_of_8 upper lower h_upper h_lower)
+    (xor_of_8 k 0x63 hk (omega arith))
     ∙ ap in_basis (
-    ap₂ (λ (u v : ℕ). bit_xor (bit_xor (bit_xor u p) (bit_xor (bit_xor v q) r)) (bit_xor k 0x63)) (twice_linear a) (twice_linear b)
+    ap₂ (λ (u v : ℕ). bit_xor (bit_xor (bit_xor u p) (bit_xor (bit_xor v q) r)) (bit_xor k 0x63))
+    (twice_linear a) (twice_linear b)
     ∙ constants_out (times 2 (sbox a)) (times 2 (sbox b)) (sbox b) (sbox c) (sbox d) k
-    ∙ ap (λ (u : ℕ). bit_xor (bit_xor (times 2 (sbox a)) (bit_xor u (bit_xor (sbox c) (sbox d)))) k) (sym (triple_is (sbox b) (sbox_small b hb))))
+    ∙ ap (λ (u : ℕ). bit_xor (bit_xor (times 2 (sbox a)) (bit_xor u (bit_xor (sbox c) (sbox d)))) k)
+    (sym (triple_is (sbox b) (sbox_small b hb))))
 
 -- what a lane of the last round holds
 lane_last : (a k : ℕ) → bit_xor (linear_sbox a) (bit_xor k 0x63) ≡ bit_xor (sbox a) k
@@ -176,26 +218,38 @@ lane_last a k = xor_exchange (sbox a) 0x63 k 0x63 ∙ xor_zero_r (bit_xor (sbox 
 
 -- ---- from a lane to its block
 -- ShiftRows stays in the block of a lane, tested at each lane
-own_computed : all_below (λ i. (row_source i / 16 == i / 16) && (row_source i % 16 == row_source (i % 16))) 64 ≡ true
+own_computed : all_below (λ i. (row_source i / 16 == i / 16) && (row_source i % 16 == row_source (i % 16)))
+    64 ≡ true
 own_computed = refl
 
 -- the same from one row below
-one_computed : all_below (λ i. (row_source (row_below i) / 16 == i / 16) && (row_source (row_below i) % 16 == row_source (row_below (i % 16)))) 64 ≡ true
+one_computed : all_below
+    (λ i. (row_source (row_below i) / 16 == i / 16) &&
+    (row_source (row_below i) % 16 == row_source (row_below (i % 16)))) 64 ≡ true
 one_computed = refl
 
 -- the same from two rows below
-two_computed : all_below (λ i. (row_source (row_below (row_below i)) / 16 == i / 16) && (row_source (row_below (row_below i)) % 16 == row_source (row_below (row_below (i % 16))))) 64 ≡ true
+two_computed : all_below
+    (λ i. (row_source (row_below (row_below i)) / 16 == i / 16) &&
+    (row_source (row_below (row_below i)) % 16 == row_source (row_below (row_below (i % 16))))) 64 ≡ true
 two_computed = refl
 
 -- the same from three rows below
-three_computed : all_below (λ i. (row_source (row_below (row_below (row_below i))) / 16 == i / 16) && (row_source (row_below (row_below (row_below i))) % 16 == row_source (row_below (row_below (row_below (i % 16)))))) 64 ≡ true
+three_computed : all_below
+    (λ i. (row_source (row_below (row_below (row_below i))) / 16 == i / 16) &&
+    (row_source (row_below (row_below (row_below i))) % 16 == row_source
+    (row_below (row_below (row_below (i % 16)))))) 64 ≡ true
 three_computed = refl
 
 -- a byte of a block, where two places of lanes lie in one block
-same_byte : (f : ℕ → List ℕ) (g h : ℕ → ℕ) (i : ℕ) → i < 64 → all_below (λ i. (g i / 16 == i / 16) && (g i % 16 == h i)) 64 ≡ true → byte_of f (g i) ≡ get_or (f (i / 16)) (h i) 0
+same_byte : (f : ℕ → List ℕ) (g h : ℕ → ℕ) (i : ℕ) → i < 64
+    → all_below (λ i. (g i / 16 == i / 16) && (g i % 16 == h i)) 64 ≡ true
+    → byte_of f (g i) ≡ get_or (f (i / 16)) (h i) 0
 same_byte f g h i l test =
-    let both = and_parts (g i / 16 == i / 16) (g i % 16 == h i) (all_below_at (λ i. (g i / 16 == i / 16) && (g i % 16 == h i)) 64 i test l) in
-    ap₂ (λ (q p : ℕ). get_or (f q) p 0) (eqb-true (g i / 16) (i / 16) both.0) (eqb-true (g i % 16) (h i) both.1)
+    let both = and_parts (g i / 16 == i / 16) (g i % 16 == h i)
+    (all_below_at (λ i. (g i / 16 == i / 16) && (g i % 16 == h i)) 64 i test l) in
+    ap₂ (λ (q p : ℕ). get_or (f q) p 0) (eqb-true (g i / 16) (i / 16) both.0)
+    (eqb-true (g i % 16) (h i) both.1)
 
 -- the row above is three rows below
 above_computed : all_below (λ i. row_above i == row_below (row_below (row_below i))) 64 ≡ true
@@ -203,18 +257,22 @@ above_computed = refl
 
 -- the row above is three rows below
 above_at : (i : ℕ) → i < 64 → row_above i ≡ row_below (row_below (row_below i))
-above_at i l = eqb-true (row_above i) (row_below (row_below (row_below i))) (all_below_at (λ i. row_above i == row_below (row_below (row_below i))) 64 i above_computed l)
+above_at i l = eqb-true (row_above i) (row_below (row_below (row_below i)))
+    (all_below_at (λ i. row_above i == row_below (row_below (row_below i))) 64 i above_computed l)
 
 -- lanes moved down by one row
-pub lowered_lanes : (g : ℕ → ℕ) (v a : List ℕ) → HasLanes v (λ i. get_or a (row_above i) 0) → HasLanes a g → HasLanes v (λ i. g (row_above i))
+pub lowered_lanes : (g : ℕ → ℕ) (v a : List ℕ) → HasLanes v (λ i. get_or a (row_above i) 0) → HasLanes a g
+    → HasLanes v (λ i. g (row_above i))
 lowered_lanes g v a h e = same_lanes v h (λ i l. e.each (row_above i) (omega arith))
 
 -- lanes moved up by one row
-pub moved_lanes : (g : ℕ → ℕ) (v a : List ℕ) → HasLanes v (λ i. get_or a (row_below i) 0) → HasLanes a g → HasLanes v (λ i. g (row_below i))
+pub moved_lanes : (g : ℕ → ℕ) (v a : List ℕ) → HasLanes v (λ i. get_or a (row_below i) 0) → HasLanes a g
+    → HasLanes v (λ i. g (row_below i))
 moved_lanes g v a h e = same_lanes v h (λ i l. e.each (row_below i) (omega arith))
 
 -- lanes brought by ShiftRows
-pub source_lanes : (g : ℕ → ℕ) (v a : List ℕ) → HasLanes v (λ i. get_or a (row_source i) 0) → HasLanes a g → HasLanes v (λ i. g (row_source i))
+pub source_lanes : (g : ℕ → ℕ) (v a : List ℕ) → HasLanes v (λ i. get_or a (row_source i) 0) → HasLanes a g
+    → HasLanes v (λ i. g (row_source i))
 source_lanes g v a h e = same_lanes v h (λ i l. e.each (row_source i) (omega arith))
 
 -- one number in each lane
@@ -224,7 +282,8 @@ splat_lanes n = record { long = length-replicate 64 n; each = λ k l. get_or-rep
 -- the byte of a round in lane i, by the bytes from which it comes
 round_byte : (f : ℕ → List ℕ) (ws : List (List ℕ)) (i : ℕ) → ((q : ℕ) → IsBlock (f q)) → i < 64
     → byte_of (λ q. add_round_key ws 0 (mix_columns (shift_rows (sub_bytes (f q))))) i
-    ≡ bit_xor (mixed (sbox (byte_of f (row_source i))) (sbox (byte_of f (row_source (row_below i)))) (sbox (byte_of f (row_source (row_below (row_below i)))))
+    ≡ bit_xor (mixed (sbox (byte_of f (row_source i))) (sbox (byte_of f (row_source (row_below i))))
+    (sbox (byte_of f (row_source (row_below (row_below i)))))
     (sbox (byte_of f (row_source (row_below (row_below (row_below i))))))) (key_byte ws i)
 round_byte f ws i blocks l =
     let b : List ℕ = f (i / 16) in
@@ -234,45 +293,67 @@ round_byte f ws i blocks l =
     let h1 : row_below p < 16 = omega arith in
     let h2 : row_below (row_below p) < 16 = omega arith in
     let h3 : row_below (row_below (row_below p)) < 16 = omega arith in
-    let small : (k : ℕ) → get_or s k 0 < 256 = (shift_block (sub_bytes b) (sub_block b (blocks (i / 16)))).bytes in
+    let small : (k : ℕ) → get_or s k 0 < 256 =
+    (shift_block (sub_bytes b) (sub_block b (blocks (i / 16)))).bytes in
     added_byte ws (mix_columns s) p hp
     ∙ ap (λ (x : ℕ). bit_xor x (key_byte ws i)) (
     mixed_byte s p small hp
-    ∙ ap₂ bit_xor (ap (times 2) (shifted_byte b p hp ∙ ap sbox (sym (same_byte f row_source (λ i. row_source (i % 16)) i l own_computed)))) (
-    ap₂ bit_xor (ap (times 3) (shifted_byte b (row_below p) h1 ∙ ap sbox (sym (same_byte f (λ i. row_source (row_below i)) (λ i. row_source (row_below (i % 16))) i l one_computed))))
+    ∙ ap₂ bit_xor (ap (times 2)
+    (shifted_byte b p hp ∙ ap sbox
+    (sym (same_byte f row_source (λ i. row_source (i % 16)) i l own_computed)))) (
+    ap₂ bit_xor (ap (times 3)
+    (shifted_byte b (row_below p) h1
+    ∙ ap sbox (sym (same_byte f (λ i. row_source (row_below i)) (λ i. row_source (row_below (i % 16))) i l
+    one_computed))))
     (ap₂ bit_xor
-    (shifted_byte b (row_below (row_below p)) h2 ∙ ap sbox (sym (same_byte f (λ i. row_source (row_below (row_below i))) (λ i. row_source (row_below (row_below (i % 16)))) i l two_computed)))
-    (shifted_byte b (row_below (row_below (row_below p))) h3 ∙ ap sbox (sym (same_byte f (λ i. row_source (row_below (row_below (row_below i)))) (λ i. row_source (row_below (row_below (row_below (i % 16))))) i l three_computed))))))
+    (shifted_byte b (row_below (row_below p)) h2
+    ∙ ap sbox (sym (same_byte f (λ i. row_source (row_below (row_below i)))
+    (λ i. row_source (row_below (row_below (i % 16)))) i l two_computed)))
+    (shifted_byte b (row_below (row_below (row_below p))) h3
+    ∙ ap sbox (sym (same_byte f (λ i. row_source (row_below (row_below (row_below i))))
+    (λ i. row_source (row_below (row_below (row_below (i % 16))))) i l three_computed))))))
 
 -- a round of four blocks in the basis
-pub round_lanes : (v : List ℕ) (f : ℕ → List ℕ) (ws : List (List ℕ)) → ((q : ℕ) → IsBlock (f q)) → ((i : ℕ) → i < 64 → key_byte ws i < 256)
+pub round_lanes : (v : List ℕ) (f : ℕ → List ℕ) (ws : List (List ℕ)) → ((q : ℕ) → IsBlock (f q))
+    → ((i : ℕ) → i < 64 → key_byte ws i < 256)
     → HasLanes v (λ i.
     bit_xor
-    (bit_xor (bit_xor (in_basis (times 2 (linear_sbox (byte_of f (row_source i))))) (in_basis (linear_sbox (byte_of f (row_source (row_below i))))))
-    (bit_xor (bit_xor (in_basis (times 2 (linear_sbox (byte_of f (row_source (row_below i)))))) (in_basis (linear_sbox (byte_of f (row_source (row_below (row_below i)))))))
+    (bit_xor (bit_xor (in_basis (times 2 (linear_sbox (byte_of f (row_source i)))))
+    (in_basis (linear_sbox (byte_of f (row_source (row_below i))))))
+    (bit_xor (bit_xor (in_basis (times 2 (linear_sbox (byte_of f (row_source (row_below i))))))
+    (in_basis (linear_sbox (byte_of f (row_source (row_below (row_below i)))))))
     (in_basis (linear_sbox (byte_of f (row_source (row_above i)))))))
     (bit_xor (in_basis (key_byte ws i)) 0x7c))
     → HoldsInBasis v (λ q. add_round_key ws 0 (mix_columns (shift_rows (sub_bytes (f q)))))
 round_lanes v f ws blocks keys made =
     let small : (i : ℕ) → byte_of f i < 256 = λ i. (blocks (i / 16)).bytes (i % 16) in
     same_lanes v made (λ i l.
-    lane_mixed (byte_of f (row_source i)) (byte_of f (row_source (row_below i))) (byte_of f (row_source (row_below (row_below i)))) (byte_of f (row_source (row_above i)))
-    (key_byte ws i) (small (row_source i)) (small (row_source (row_below i))) (small (row_source (row_below (row_below i)))) (small (row_source (row_above i))) (keys i l)
-    ∙ ap in_basis (ap (λ (p : ℕ). bit_xor (mixed (sbox (byte_of f (row_source i))) (sbox (byte_of f (row_source (row_below i)))) (sbox (byte_of f (row_source (row_below (row_below i))))) (sbox (byte_of f (row_source p)))) (key_byte ws i)) (above_at i l)
+    lane_mixed (byte_of f (row_source i)) (byte_of f (row_source (row_below i)))
+    (byte_of f (row_source (row_below (row_below i)))) (byte_of f (row_source (row_above i)))
+    (key_byte ws i) (small (row_source i)) (small (row_source (row_below i)))
+    (small (row_source (row_below (row_below i)))) (small (row_source (row_above i))) (keys i l)
+    ∙ ap in_basis (ap (λ (p : ℕ).
+    bit_xor (mixed (sbox (byte_of f (row_source i))) (sbox (byte_of f (row_source (row_below i))))
+    (sbox (byte_of f (row_source (row_below (row_below i))))) (sbox (byte_of f (row_source p))))
+    (key_byte ws i)) (above_at i l)
     ∙ sym (round_byte f ws i blocks l)))
 
 -- the last round of four blocks
-pub last_lanes : (v : List ℕ) (f : ℕ → List ℕ) (ws : List (List ℕ)) → HasLanes v (λ i. bit_xor (linear_sbox (byte_of f (row_source i))) (bit_xor (key_byte ws i) 0x63))
+pub last_lanes : (v : List ℕ) (f : ℕ → List ℕ) (ws : List (List ℕ))
+    → HasLanes v (λ i. bit_xor (linear_sbox (byte_of f (row_source i))) (bit_xor (key_byte ws i) 0x63))
     → HoldsBlocks v (λ q. add_round_key ws 0 (shift_rows (sub_bytes (f q))))
 last_lanes v f ws made =
     same_lanes v made (λ i l.
     let hp : i % 16 < 16 = omega arith in
     lane_last (byte_of f (row_source i)) (key_byte ws i)
     ∙ sym (added_byte ws (shift_rows (sub_bytes (f (i / 16)))) (i % 16) hp
-    ∙ ap (λ (x : ℕ). bit_xor x (key_byte ws i)) (shifted_byte (f (i / 16)) (i % 16) hp ∙ ap sbox (sym (same_byte f row_source (λ i. row_source (i % 16)) i l own_computed)))))
+    ∙ ap (λ (x : ℕ). bit_xor x (key_byte ws i))
+    (shifted_byte (f (i / 16)) (i % 16) hp
+    ∙ ap sbox (sym (same_byte f row_source (λ i. row_source (i % 16)) i l own_computed)))))
 
 -- AddRoundKey of four blocks in the basis
-pub first_lanes : (v : List ℕ) (f : ℕ → List ℕ) (ws : List (List ℕ)) → HasLanes v (λ i. in_basis (bit_xor (byte_of f i) (key_byte ws i)))
+pub first_lanes : (v : List ℕ) (f : ℕ → List ℕ) (ws : List (List ℕ))
+    → HasLanes v (λ i. in_basis (bit_xor (byte_of f i) (key_byte ws i)))
     → HoldsInBasis v (λ q. add_round_key ws 0 (f q))
 first_lanes v f ws made =
     same_lanes v made (λ i l. ap in_basis (sym (added_byte ws (f (i / 16)) (i % 16) (omega arith))))
@@ -288,7 +369,9 @@ column_byte w (suc (suc (suc zero))) h = refl
 column_byte w (suc (suc (suc (suc i)))) h = absurd (omega arith)
 
 -- the bytes of four words
-pub key_lanes : (v ws : List ℕ) → length ws ≡ 4 → Each1 (λ x. x < 2 ^ 32) ws → HasLanes v (λ i. get_or (digits_l 256 16 (number_l (2 ^ 32) ws)) (i % 16) 0) → HasLanes v (key_byte (columns_of ws))
+pub key_lanes : (v ws : List ℕ) → length ws ≡ 4 → Each1 (λ x. x < 2 ^ 32) ws
+    → HasLanes v (λ i. get_or (digits_l 256 16 (number_l (2 ^ 32) ws)) (i % 16) 0)
+    → HasLanes v (key_byte (columns_of ws))
 key_lanes v ws long small made =
     same_lanes v made (λ i l.
     let j : ℕ = i % 16 / 4 in
@@ -306,55 +389,67 @@ holds_self m long = record {
   each = λ k l.
       let q : k / 16 % 4 ≡ k / 16 = omega arith in
       let place : k ≡ k / 16 * 16 + k % 16 = omega arith in
-      ap (λ i. get_or m i 0) place ∙ sym (get_or-drop (k / 16 * 16) m (k % 16) 0) ∙ sym (get_or-take 16 (drop (k / 16 * 16) m) (k % 16) 0 (omega arith))
+      ap (λ i. get_or m i 0) place ∙ sym (get_or-drop (k / 16 * 16) m (k % 16) 0)
+      ∙ sym (get_or-take 16 (drop (k / 16 * 16) m) (k % 16) 0 (omega arith))
       ∙ ap (λ i. get_or (block_at m i) (k % 16) 0) (sym q);
 }
 
 -- each is a block
-pub block_at_is : (m : List ℕ) (q : ℕ) → length m ≡ 64 → ((i : ℕ) → get_or m i 0 < 256) → IsBlock (block_at m (q % 4))
+pub block_at_is : (m : List ℕ) (q : ℕ) → length m ≡ 64 → ((i : ℕ) → get_or m i 0 < 256)
+    → IsBlock (block_at m (q % 4))
 block_at_is m q long small = record {
   length_is = length-take-le 16 (drop (q % 4 * 16) m) (omega (arith, length-drop (q % 4 * 16) m));
   bytes = λ i. elim (cases_lt i 16) [
-    | inl l ↦ rw (get_or-take 16 (drop (q % 4 * 16) m) i 0 l, get_or-drop (q % 4 * 16) m i 0) (small (q % 4 * 16 + i))
-    | inr g ↦ rw (get_or_past (take 16 (drop (q % 4 * 16) m)) i 0 (omega (arith, length-take 16 (drop (q % 4 * 16) m)))) (omega arith)
+    | inl l ↦ rw (get_or-take 16 (drop (q % 4 * 16) m) i 0 l, get_or-drop (q % 4 * 16) m i 0)
+        (small (q % 4 * 16 + i))
+    | inr g ↦ rw (get_or_past (take 16 (drop (q % 4 * 16) m)) i 0
+        (omega (arith, length-take 16 (drop (q % 4 * 16) m)))) (omega arith)
   ];
 }
 
 -- a block of a vector that holds blocks
-pub block_held : (v : List ℕ) (f : ℕ → List ℕ) (q : ℕ) → HoldsBlocks v f → q < 4 → length (f q) ≡ 16 → block_at v q ≡ f q
+pub block_held : (v : List ℕ) (f : ℕ → List ℕ) (q : ℕ) → HoldsBlocks v f → q < 4 → length (f q) ≡ 16
+    → block_at v q ≡ f q
 block_held v f q held h long =
     let all : length v ≡ 64 = held.long in
-    ext_get_or 0 (block_at v q) (f q) (length-take-le 16 (drop (q * 16) v) (omega (arith, length-drop (q * 16) v)) ∙ sym long) (λ k l.
+    ext_get_or 0 (block_at v q) (f q)
+    (length-take-le 16 (drop (q * 16) v) (omega (arith, length-drop (q * 16) v)) ∙ sym long) (λ k l.
     let within : k < 16 = omega (arith, length-take 16 (drop (q * 16) v)) in
     let block : (q * 16 + k) / 16 ≡ q = omega arith in
     let byte : (q * 16 + k) % 16 ≡ k = omega arith in
-    get_or-take 16 (drop (q * 16) v) k 0 within ∙ get_or-drop (q * 16) v k 0 ∙ held.each (q * 16 + k) (omega arith)
+    get_or-take 16 (drop (q * 16) v) k 0 within ∙ get_or-drop (q * 16) v k 0
+    ∙ held.each (q * 16 + k) (omega arith)
     ∙ ap₂ (λ (i j : ℕ). get_or (f i) j 0) block byte)
 
 -- the same blocks by another name
 pub basis_same : (v : List ℕ) (f g : ℕ → List ℕ) → ((q : ℕ) → f q ≡ g q) → HoldsInBasis v f → HoldsInBasis v g
-basis_same v f g same held = same_lanes v held (λ k l. ap (λ b. in_basis (get_or b (k % 16) 0)) (same (k / 16)))
+basis_same v f g same held =
+    same_lanes v held (λ k l. ap (λ b. in_basis (get_or b (k % 16) 0)) (same (k / 16)))
 
 -- out of the basis
 pub blocks_same : (v : List ℕ) (f g : ℕ → List ℕ) → ((q : ℕ) → f q ≡ g q) → HoldsBlocks v f → HoldsBlocks v g
 blocks_same v f g same held = same_lanes v held (λ k l. ap (λ b. get_or b (k % 16) 0) (same (k / 16)))
 
 -- ---- keys made ready
-pub ready_lanes : (v k : List ℕ) (ws : List (List ℕ)) → HasLanes v (λ i. get_or k (i % 16) 0) → ((i : ℕ) → i < 16 → get_or k i 0 ≡ ready_byte ws 0 i)
+pub ready_lanes : (v k : List ℕ) (ws : List (List ℕ)) → HasLanes v (λ i. get_or k (i % 16) 0)
+    → ((i : ℕ) → i < 16 → get_or k i 0 ≡ ready_byte ws 0 i)
     → HasLanes v (λ i. bit_xor (in_basis (key_byte ws i)) 0x7c)
 ready_lanes v k ws held is =
     same_lanes v held (λ i l.
     let first : 4 * 0 + i % 16 / 4 ≡ i % 16 / 4 = omega arith in
-    is (i % 16) (omega arith) ∙ ap (λ (j : ℕ). bit_xor (in_basis (get_or (get_or ws j []) (i % 16 % 4) 0)) 0x7c) first)
+    is (i % 16) (omega arith)
+    ∙ ap (λ (j : ℕ). bit_xor (in_basis (get_or (get_or ws j []) (i % 16 % 4) 0)) 0x7c) first)
 
 -- the words of round n, as those of the first round of what is left
 pub ready_first : (ws : List (List ℕ)) (n i : ℕ) → ready_byte ws n i ≡ ready_byte (drop (4 * n) ws) 0 i
 ready_first ws n i =
     let first : 4 * 0 + i / 4 ≡ i / 4 = omega arith in
-    ap (λ w. bit_xor (in_basis (get_or w (i % 4) 0)) 0x7c) (sym (get_or-drop (4 * n) ws (i / 4) []) ∙ ap (λ (j : ℕ). get_or (drop (4 * n) ws) j []) (sym first))
+    ap (λ w. bit_xor (in_basis (get_or w (i % 4) 0)) 0x7c)
+    (sym (get_or-drop (4 * n) ws (i / 4) []) ∙ ap (λ (j : ℕ). get_or (drop (4 * n) ws) j []) (sym first))
 
 -- a byte of four words made ready
-pub ready_of : (k ws : List (List ℕ)) (n i : ℕ) → i < 16 → ((c : ℕ) → c < 4 → get_or k c [] ≡ get_or ws (4 * n + c) [])
+pub ready_of : (k ws : List (List ℕ)) (n i : ℕ) → i < 16
+    → ((c : ℕ) → c < 4 → get_or k c [] ≡ get_or ws (4 * n + c) [])
     → bit_xor (in_basis (key_byte k i)) 0x7c ≡ ready_byte ws n i
 ready_of k ws n i l same =
     let place : i % 16 ≡ i = omega arith in
@@ -362,5 +457,7 @@ ready_of k ws n i l same =
     ∙ ap (λ w. bit_xor (in_basis (get_or w (i % 4) 0)) 0x7c) (same (i / 4) (omega arith))
 
 -- words that begin with the schedule make it ready
-pub ready_same : (ws : List (List ℕ)) (key : List ℕ) (n i : ℕ) → HasSchedule ws key → n ≤ round_count key → i < 16 → ready_byte ws n i ≡ ready_byte (schedule key) n i
-ready_same ws key n i has h l = ap (λ w. bit_xor (in_basis (get_or w (i % 4) 0)) 0x7c) (has (4 * n + i / 4) (omega arith))
+pub ready_same : (ws : List (List ℕ)) (key : List ℕ) (n i : ℕ) → HasSchedule ws key → n ≤ round_count key
+    → i < 16 → ready_byte ws n i ≡ ready_byte (schedule key) n i
+ready_same ws key n i has h l =
+    ap (λ w. bit_xor (in_basis (get_or w (i % 4) 0)) 0x7c) (has (4 * n + i / 4) (omega arith))

@@ -19,7 +19,9 @@ unfolding times
 bit_times x y i = bit_number (residue modulus (product (bits x) (bits y))) i
 
 -- the product with a sum, as polynomials
-product_xor : (x y z : ℕ) → Agree (product (bits x) (bits (bit_xor y z))) (sum (product (bits x) (bits y)) (product (bits x) (bits z)))
+product_xor : (x y z : ℕ)
+    → Agree (product (bits x) (bits (bit_xor y z)))
+    (sum (product (bits x) (bits y)) (product (bits x) (bits z)))
 product_xor x y z k =
     let p : List Bool = bits x in
     coefficient_product p (bits (bit_xor y z)) k
@@ -35,7 +37,8 @@ times_xor x y z =
     same_bits (times x (bit_xor y z)) (bit_xor (times x y) (times x z))
     (λ i.
     bit_times x (bit_xor y z) i
-    ∙ residue_agree modulus (product p (bits (bit_xor y z))) (sum (product p (bits y)) (product p (bits z))) refl (product_xor x y z) i
+    ∙ residue_agree modulus (product p (bits (bit_xor y z))) (sum (product p (bits y)) (product p (bits z)))
+    refl (product_xor x y z) i
     ∙ residue_sum modulus (product p (bits y)) (product p (bits z)) refl i
     ∙ coefficient_sum (residue modulus (product p (bits y))) (residue modulus (product p (bits z))) i
     ∙ sym (bit_of_xor (times x y) (times x z) i ∙ ap₂ plus (bit_times x y i) (bit_times x z i)))
@@ -81,7 +84,8 @@ dot_add (x ∷ u) (y ∷ w) (z ∷ v) =
 dot_times : (x : ℕ) (w v : List ℕ) → times x (dot w v) ≡ dot (map (times x) w) v
 dot_times x [] v = times_zero x
 dot_times x (y ∷ w) [] = times_zero x
-dot_times x (y ∷ w) (z ∷ v) = times_xor x (times y z) (dot w v) ∙ ap₂ bit_xor (times_assoc x y z) (dot_times x w v)
+dot_times x (y ∷ w) (z ∷ v) =
+    times_xor x (times y z) (dot w v) ∙ ap₂ bit_xor (times_assoc x y z) (dot_times x w v)
 
 -- a row times a matrix
 abbrev combined : List ℕ → List (List ℕ) → List ℕ
@@ -90,7 +94,8 @@ combined (x ∷ u) [] = []
 combined (x ∷ u) (w ∷ ws) = add_rows (map (times x) w) (combined u ws)
 
 -- a row times a product of a matrix and a column is the combined row times the column
-dot_map : (u : List ℕ) (ws : List (List ℕ)) (v : List ℕ) → dot u (map (λ w. dot w v) ws) ≡ dot (combined u ws) v
+dot_map : (u : List ℕ) (ws : List (List ℕ)) (v : List ℕ)
+    → dot u (map (λ w. dot w v) ws) ≡ dot (combined u ws) v
 dot_map [] ws v = refl
 dot_map (x ∷ u) [] v = refl
 dot_map (x ∷ u) (w ∷ ws) v =
@@ -125,44 +130,55 @@ inverse_left = refl
 -- the identity leaves four bytes alone
 row_first : (a b c d : ℕ) → a < 256 → dot (1 ∷ 0 ∷ 0 ∷ 0 ∷ []) (a ∷ b ∷ c ∷ d ∷ []) ≡ a
 row_first a b c d h =
-    ap₂ bit_xor (single_is a h) (ap₂ bit_xor (zero_times b) (ap₂ bit_xor (zero_times c) (ap (λ x. bit_xor x 0) (zero_times d)))) ∙ xor_zero_r a
+    ap₂ bit_xor (single_is a h)
+    (ap₂ bit_xor (zero_times b) (ap₂ bit_xor (zero_times c) (ap (λ x. bit_xor x 0) (zero_times d))))
+    ∙ xor_zero_r a
 
 -- the second row of the identity
 row_second : (a b c d : ℕ) → b < 256 → dot (0 ∷ 1 ∷ 0 ∷ 0 ∷ []) (a ∷ b ∷ c ∷ d ∷ []) ≡ b
 row_second a b c d h =
-    ap₂ bit_xor (zero_times a) (ap₂ bit_xor (single_is b h) (ap₂ bit_xor (zero_times c) (ap (λ x. bit_xor x 0) (zero_times d)))) ∙ xor_zero_l (bit_xor b 0) ∙ xor_zero_r b
+    ap₂ bit_xor (zero_times a)
+    (ap₂ bit_xor (single_is b h) (ap₂ bit_xor (zero_times c) (ap (λ x. bit_xor x 0) (zero_times d))))
+    ∙ xor_zero_l (bit_xor b 0) ∙ xor_zero_r b
 
 -- the third row of the identity
 row_third : (a b c d : ℕ) → c < 256 → dot (0 ∷ 0 ∷ 1 ∷ 0 ∷ []) (a ∷ b ∷ c ∷ d ∷ []) ≡ c
 row_third a b c d h =
-    ap₂ bit_xor (zero_times a) (ap₂ bit_xor (zero_times b) (ap₂ bit_xor (single_is c h) (ap (λ x. bit_xor x 0) (zero_times d))))
+    ap₂ bit_xor (zero_times a)
+    (ap₂ bit_xor (zero_times b) (ap₂ bit_xor (single_is c h) (ap (λ x. bit_xor x 0) (zero_times d))))
     ∙ xor_zero_l (bit_xor 0 (bit_xor c 0)) ∙ xor_zero_l (bit_xor c 0) ∙ xor_zero_r c
 
 -- the fourth row of the identity
 row_fourth : (a b c d : ℕ) → d < 256 → dot (0 ∷ 0 ∷ 0 ∷ 1 ∷ []) (a ∷ b ∷ c ∷ d ∷ []) ≡ d
 row_fourth a b c d h =
-    ap₂ bit_xor (zero_times a) (ap₂ bit_xor (zero_times b) (ap₂ bit_xor (zero_times c) (ap (λ x. bit_xor x 0) (single_is d h))))
-    ∙ xor_zero_l (bit_xor 0 (bit_xor 0 (bit_xor d 0))) ∙ xor_zero_l (bit_xor 0 (bit_xor d 0)) ∙ xor_zero_l (bit_xor d 0) ∙ xor_zero_r d
+    ap₂ bit_xor (zero_times a)
+    (ap₂ bit_xor (zero_times b) (ap₂ bit_xor (zero_times c) (ap (λ x. bit_xor x 0) (single_is d h))))
+    ∙ xor_zero_l (bit_xor 0 (bit_xor 0 (bit_xor d 0))) ∙ xor_zero_l (bit_xor 0 (bit_xor d 0))
+    ∙ xor_zero_l (bit_xor d 0) ∙ xor_zero_r d
 
 -- the identity matrix leaves a column as it is
 identity_is : (a b c d : ℕ) → a < 256 → b < 256 → c < 256 → d < 256
     → map (λ u. dot u (a ∷ b ∷ c ∷ d ∷ [])) identity ≡ a ∷ b ∷ c ∷ d ∷ []
-identity_is a b c d ha hb hc hd = four (row_first a b c d ha) (row_second a b c d hb) (row_third a b c d hc) (row_fourth a b c d hd)
+identity_is a b c d ha hb hc hd =
+    four (row_first a b c d ha) (row_second a b c d hb) (row_third a b c d hc) (row_fourth a b c d hd)
 
 -- two matrices after one another are their product
-rows_of : (us ws : List (List ℕ)) (v : List ℕ) → map (λ u. dot u (map (λ w. dot w v) ws)) us ≡ map (λ u. dot u v) (map (λ u. combined u ws) us)
+rows_of : (us ws : List (List ℕ)) (v : List ℕ)
+    → map (λ u. dot u (map (λ w. dot w v) ws)) us ≡ map (λ u. dot u v) (map (λ u. combined u ws) us)
 rows_of [] ws v = refl
 rows_of (u ∷ us) ws v = ap₂ (λ x y. x ∷ y) (dot_map u ws v) (rows_of us ws v)
 
 -- the matrix undoes its inverse
-pub mix_unmix : (a b c d : ℕ) → a < 256 → b < 256 → c < 256 → d < 256 → mix_column (unmix_column (a ∷ b ∷ c ∷ d ∷ [])) ≡ a ∷ b ∷ c ∷ d ∷ []
+pub mix_unmix : (a b c d : ℕ) → a < 256 → b < 256 → c < 256 → d < 256
+    → mix_column (unmix_column (a ∷ b ∷ c ∷ d ∷ [])) ≡ a ∷ b ∷ c ∷ d ∷ []
 unfolding mix_column unmix_column
 mix_unmix a b c d ha hb hc hd =
     rows_of matrix inverse_matrix (a ∷ b ∷ c ∷ d ∷ [])
     ∙ ap (map (λ u. dot u (a ∷ b ∷ c ∷ d ∷ []))) inverse_right ∙ identity_is a b c d ha hb hc hd
 
 -- the inverse undoes the matrix
-pub unmix_mix : (a b c d : ℕ) → a < 256 → b < 256 → c < 256 → d < 256 → unmix_column (mix_column (a ∷ b ∷ c ∷ d ∷ [])) ≡ a ∷ b ∷ c ∷ d ∷ []
+pub unmix_mix : (a b c d : ℕ) → a < 256 → b < 256 → c < 256 → d < 256
+    → unmix_column (mix_column (a ∷ b ∷ c ∷ d ∷ [])) ≡ a ∷ b ∷ c ∷ d ∷ []
 unfolding mix_column unmix_column
 unmix_mix a b c d ha hb hc hd =
     rows_of inverse_matrix matrix (a ∷ b ∷ c ∷ d ∷ [])
@@ -175,11 +191,13 @@ unmix_column_is v = refl
 
 -- the inverse map at a whole column
 pub unmix_column_whole : (v : List ℕ)
-    → get_or (unmix_column v) 0 0 ∷ get_or (unmix_column v) 1 0 ∷ get_or (unmix_column v) 2 0 ∷ get_or (unmix_column v) 3 0 ∷ [] ≡ unmix_column v
+    → get_or (unmix_column v) 0 0 ∷ get_or (unmix_column v) 1 0 ∷ get_or (unmix_column v) 2 0
+    ∷ get_or (unmix_column v) 3 0 ∷ [] ≡ unmix_column v
 unfolding unmix_column
 unmix_column_whole v = refl
 
 -- the product with the inverse matrix, written out
 pub unmix_written : (a b c d : ℕ) → a < 256 → b < 256 → c < 256 → d < 256
     → mix_column (map (λ u. dot u (a ∷ b ∷ c ∷ d ∷ [])) inverse_matrix) ≡ a ∷ b ∷ c ∷ d ∷ []
-unmix_written a b c d ha hb hc hd = ap mix_column (sym (unmix_column_is (a ∷ b ∷ c ∷ d ∷ []))) ∙ mix_unmix a b c d ha hb hc hd
+unmix_written a b c d ha hb hc hd =
+    ap mix_column (sym (unmix_column_is (a ∷ b ∷ c ∷ d ∷ []))) ∙ mix_unmix a b c d ha hb hc hd

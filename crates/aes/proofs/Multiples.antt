@@ -17,7 +17,8 @@ single_computed = refl
 
 -- the product with 3
 pub triple_is : (x : ℕ) → x < 256 → times 3 x ≡ bit_xor (times 2 x) x
-triple_is x h = eqb-true (times 3 x) (bit_xor (times 2 x) x) (all_below_at (λ x. times 3 x == bit_xor (times 2 x) x) 256 x triple_computed h)
+triple_is x h = eqb-true (times 3 x) (bit_xor (times 2 x) x)
+    (all_below_at (λ x. times 3 x == bit_xor (times 2 x) x) 256 x triple_computed h)
 
 -- the product with 1
 pub single_is : (x : ℕ) → x < 256 → times 1 x ≡ x

@@ -1,5 +1,8 @@
 -- Under every key the cipher is one to one and onto.
-use Rattle.std.proofs.Common.{◌≡◌, ℕ, zero, suc, ◌+◌, ◌-◌, ◌*◌, ◌/◌, ◌%◌, ◌<◌, ◌≤◌, Bool, true, false, cond, ◌&&◌, ◌==◌, nat_lt, List, [], ◌∷◌, ◌++◌, take, drop, get_or, length, inl, inr, sym, ap, ◌∙◌, arith, bit_xor, lt_of_lt_of_le, pow_mono, get_or-drop, length-take}
+use Rattle.std.proofs.Common.{◌≡◌, ℕ, zero, suc, ◌+◌, ◌-◌, ◌*◌, ◌/◌, ◌%◌, ◌<◌, ◌≤◌, Bool, true, false, cond}
+use Rattle.std.proofs.Common.{◌&&◌, ◌==◌, nat_lt, List, [], ◌∷◌, ◌++◌, take, drop, get_or, length, inl, inr}
+use Rattle.std.proofs.Common.{sym, ap, ◌∙◌, arith, bit_xor, lt_of_lt_of_le, pow_mono, get_or-drop}
+use Rattle.std.proofs.Common.{length-take}
 use Rattle.std.proofs.lemmas.Bool.{cases_lt}
 use Rattle.std.proofs.lemmas.Nat.{xor_of_8}
 use Rattle.std.proofs.lemmas.List.{get_or_past, get_or-take}
@@ -8,10 +11,14 @@ use Rattle.octets.specs.Polynomial.{residue}
 use Rattle.octets.proofs.Residue.{length_residue}
 use Rattle.octets.proofs.BitFacts.{number_lt}
 use Rattle.aes.specs.Field.{modulus}
-use Rattle.aes.specs.Schedule.{xor_word, sub_word, rot_word, rcon, x_power, changed, next_word, words, schedule, key_words, round_count}
+use Rattle.aes.specs.Schedule.{xor_word, sub_word, rot_word, rcon, x_power, changed, next_word, words}
+use Rattle.aes.specs.Schedule.{schedule, key_words, round_count}
 use Rattle.octets.specs.Bytes.{IsBlock}
-use Rattle.aes.specs.Cipher.{sub_bytes, shift_rows, mix_columns, add_round_key, rounds, cipher, IsKey, IsPermutation}
-use Rattle.aes.proofs.Steps.{AreWords, sbox_small, sub_block, unsub, unsub_block, sub_unsub, unsub_sub, shift_block, unshift, unshift_block, shift_unshift, unshift_shift, unmix, mix_block, unmix_block, mix_unmix_block, unmix_mix_block, add_twice, add_block}
+use Rattle.aes.specs.Cipher.{sub_bytes, shift_rows, mix_columns, add_round_key, rounds, cipher, IsKey}
+use Rattle.aes.specs.Cipher.{IsPermutation}
+use Rattle.aes.proofs.Steps.{AreWords, sbox_small, sub_block, unsub, unsub_block, sub_unsub, unsub_sub}
+use Rattle.aes.proofs.Steps.{shift_block, unshift, unshift_block, shift_unshift, unshift_shift, unmix}
+use Rattle.aes.proofs.Steps.{mix_block, unmix_block, mix_unmix_block, unmix_mix_block, add_twice, add_block}
 
 -- ---- the words of a schedule have bytes
 abbrev IsWord : List ℕ → Type 0
@@ -33,9 +40,12 @@ four_word a b c d ha hb hc hd (suc (suc (suc (suc r)))) = omega arith
 xor_word_is : (v w : List ℕ) → IsWord v → IsWord w → IsWord (xor_word v w)
 unfolding xor_word
 xor_word_is v w hv hw =
-    four_word (bit_xor (get_or v 0 0) (get_or w 0 0)) (bit_xor (get_or v 1 0) (get_or w 1 0)) (bit_xor (get_or v 2 0) (get_or w 2 0)) (bit_xor (get_or v 3 0) (get_or w 3 0))
-    (xor_of_8 (get_or v 0 0) (get_or w 0 0) (hv 0) (hw 0)) (xor_of_8 (get_or v 1 0) (get_or w 1 0) (hv 1) (hw 1))
-    (xor_of_8 (get_or v 2 0) (get_or w 2 0) (hv 2) (hw 2)) (xor_of_8 (get_or v 3 0) (get_or w 3 0) (hv 3) (hw 3))
+    four_word (bit_xor (get_or v 0 0) (get_or w 0 0)) (bit_xor (get_or v 1 0) (get_or w 1 0))
+    (bit_xor (get_or v 2 0) (get_or w 2 0)) (bit_xor (get_or v 3 0) (get_or w 3 0))
+    (xor_of_8 (get_or v 0 0) (get_or w 0 0) (hv 0) (hw 0))
+    (xor_of_8 (get_or v 1 0) (get_or w 1 0) (hv 1) (hw 1))
+    (xor_of_8 (get_or v 2 0) (get_or w 2 0) (hv 2) (hw 2))
+    (xor_of_8 (get_or v 3 0) (get_or w 3 0) (hv 3) (hw 3))
 
 -- the S-box at each byte of a word
 sub_word_is : (w : List ℕ) → IsWord w → IsWord (sub_word w)
@@ -45,7 +55,8 @@ sub_word_is (x ∷ w) h (suc r) = sub_word_is w (λ i. h (suc i)) r
 
 -- a rotated word
 pub rot_word_is : (w : List ℕ) → IsWord w → IsWord (rot_word w)
-rot_word_is w h = four_word (get_or w 1 0) (get_or w 2 0) (get_or w 3 0) (get_or w 0 0) (h 1) (h 2) (h 3) (h 0)
+rot_word_is w h = four_word (get_or w 1 0) (get_or w 2 0) (get_or w 3 0) (get_or w 0 0) (h 1) (h 2) (h 3)
+    (h 0)
 
 -- a round constant
 rcon_is_word : (j : ℕ) → IsWord (rcon j)
@@ -53,7 +64,8 @@ unfolding rcon
 rcon_is_word j =
     let p : List Bool = residue modulus (x_power (j - 1)) in
     let short : length p ≤ 8 = length_residue modulus (x_power (j - 1)) in
-    four_word (number p) 0 0 0 (lt_of_lt_of_le (number_lt p) (pow_mono short)) (omega arith) (omega arith) (omega arith)
+    four_word (number p) 0 0 0 (lt_of_lt_of_le (number_lt p) (pow_mono short)) (omega arith) (omega arith)
+    (omega arith)
 
 -- one word of two
 cond_word : (b : Bool) (v w : List ℕ) → IsWord v → IsWord w → IsWord (cond b v w)
@@ -67,7 +79,8 @@ changed_is nk i t h =
     let first : List ℕ = xor_word (sub_word (rot_word t)) (rcon (i / nk)) in
     let rest : List ℕ = cond ((nk == 8) && (i % 8 == 4)) (sub_word t) t in
     cond_word (i % nk == 0) first rest
-    (xor_word_is (sub_word (rot_word t)) (rcon (i / nk)) (sub_word_is (rot_word t) (rot_word_is t h)) (rcon_is_word (i / nk)))
+    (xor_word_is (sub_word (rot_word t)) (rcon (i / nk)) (sub_word_is (rot_word t) (rot_word_is t h))
+    (rcon_is_word (i / nk)))
     (cond_word ((nk == 8) && (i % 8 == 4)) (sub_word t) t (sub_word_is t h) h)
 
 -- past the fourth byte of a word
@@ -87,9 +100,11 @@ next_is : (key : List ℕ) (ws : List (List ℕ)) (i : ℕ) → IsWord key → A
 unfolding next_word
 next_is key ws i hk hw =
     let first : List ℕ = take 4 (drop (4 * i) key) in
-    let rest : List ℕ = xor_word (get_or ws (i - key_words key) []) (changed (key_words key) i (get_or ws (i - 1) [])) in
+    let rest : List ℕ = xor_word (get_or ws (i - key_words key) [])
+    (changed (key_words key) i (get_or ws (i - 1) [])) in
     cond_word (nat_lt i (key_words key)) first rest (key_part_is key (4 * i) hk)
-    (xor_word_is (get_or ws (i - key_words key) []) (changed (key_words key) i (get_or ws (i - 1) [])) (hw (i - key_words key))
+    (xor_word_is (get_or ws (i - key_words key) []) (changed (key_words key) i (get_or ws (i - 1) []))
+    (hw (i - key_words key))
     (changed_is (key_words key) i (get_or ws (i - 1) []) (hw (i - 1))))
 
 -- one word more
@@ -103,27 +118,36 @@ push_words (v ∷ ws) w h hw (suc k) = push_words ws w (λ i. h (suc i)) hw k
 pub words_are : (key : List ℕ) (n : ℕ) → IsWord key → AreWords (words key n)
 unfolding words
 words_are key zero h k = nil_word
-words_are key (suc n) h k = push_words (words key n) (next_word key (words key n) n) (words_are key n h) (next_is key (words key n) n h (words_are key n h)) k
+words_are key (suc n) h k =
+    push_words (words key n) (next_word key (words key n) n) (words_are key n h)
+    (next_is key (words key n) n h (words_are key n h)) k
 
 -- ---- rounds
-pub rounds_block : (ws : List (List ℕ)) (n : ℕ) (b : List ℕ) → AreWords ws → IsBlock b → IsBlock (rounds ws n b)
+pub rounds_block : (ws : List (List ℕ)) (n : ℕ) (b : List ℕ) → AreWords ws → IsBlock b
+    → IsBlock (rounds ws n b)
 unfolding rounds
 rounds_block ws zero b hw h = add_block ws 0 b hw h
 rounds_block ws (suc n) b hw h =
-    add_block ws (suc n) (mix_columns (shift_rows (sub_bytes (rounds ws n b)))) hw (mix_block (shift_rows (sub_bytes (rounds ws n b))))
+    add_block ws (suc n) (mix_columns (shift_rows (sub_bytes (rounds ws n b)))) hw
+    (mix_block (shift_rows (sub_bytes (rounds ws n b))))
 
 -- from the state after SubBytes and ShiftRows back
-same_before_shift : (s t : List ℕ) → IsBlock s → IsBlock t → shift_rows (sub_bytes s) ≡ shift_rows (sub_bytes t) → s ≡ t
+same_before_shift : (s t : List ℕ) → IsBlock s → IsBlock t
+    → shift_rows (sub_bytes s) ≡ shift_rows (sub_bytes t) → s ≡ t
 same_before_shift s t hs ht e =
-    sym (unsub_sub s hs) ∙ ap unsub (sym (unshift_shift (sub_bytes s) (sub_block s hs)) ∙ ap unshift e ∙ unshift_shift (sub_bytes t) (sub_block t ht))
+    sym (unsub_sub s hs) ∙ ap unsub
+    (sym (unshift_shift (sub_bytes s) (sub_block s hs)) ∙ ap unshift e
+    ∙ unshift_shift (sub_bytes t) (sub_block t ht))
     ∙ unsub_sub t ht
 
 -- AddRoundKey is one to one
-same_before_add : (ws : List (List ℕ)) (n : ℕ) (s t : List ℕ) → length s ≡ 16 → length t ≡ 16 → add_round_key ws n s ≡ add_round_key ws n t → s ≡ t
+same_before_add : (ws : List (List ℕ)) (n : ℕ) (s t : List ℕ) → length s ≡ 16 → length t ≡ 16
+    → add_round_key ws n s ≡ add_round_key ws n t → s ≡ t
 same_before_add ws n s t hs ht e = sym (add_twice ws n s hs) ∙ ap (add_round_key ws n) e ∙ add_twice ws n t ht
 
 -- the rounds are one to one
-pub rounds_same : (ws : List (List ℕ)) (n : ℕ) (b d : List ℕ) → AreWords ws → IsBlock b → IsBlock d → rounds ws n b ≡ rounds ws n d → b ≡ d
+pub rounds_same : (ws : List (List ℕ)) (n : ℕ) (b d : List ℕ) → AreWords ws → IsBlock b → IsBlock d
+    → rounds ws n b ≡ rounds ws n d → b ≡ d
 unfolding rounds
 rounds_same ws zero b d hw hb hd e = same_before_add ws 0 b d hb.length_is hd.length_is e
 rounds_same ws (suc n) b d hw hb hd e =
@@ -135,7 +159,8 @@ rounds_same ws (suc n) b d hw hb hd e =
     let t2 : List ℕ = shift_rows (sub_bytes t) in
     let sb2 : IsBlock s2 = shift_block (sub_bytes s) (sub_block s sb) in
     let tb2 : IsBlock t2 = shift_block (sub_bytes t) (sub_block t tb) in
-    let mixed = same_before_add ws (suc n) (mix_columns s2) (mix_columns t2) (mix_block s2).length_is (mix_block t2).length_is e in
+    let mixed = same_before_add ws (suc n) (mix_columns s2) (mix_columns t2) (mix_block s2).length_is
+    (mix_block t2).length_is e in
     rounds_same ws n b d hw hb hd
     (same_before_shift s t sb tb (sym (unmix_mix_block s2 sb2) ∙ ap unmix mixed ∙ unmix_mix_block t2 tb2))
 
@@ -145,15 +170,18 @@ unrounds ws zero c = add_round_key ws 0 c
 unrounds ws (suc n) c = unrounds ws n (unsub (unshift (unmix (add_round_key ws (suc n) c))))
 
 -- the rounds undone give a block
-unrounds_block : (ws : List (List ℕ)) (n : ℕ) (c : List ℕ) → AreWords ws → IsBlock c → IsBlock (unrounds ws n c)
+unrounds_block : (ws : List (List ℕ)) (n : ℕ) (c : List ℕ) → AreWords ws → IsBlock c
+    → IsBlock (unrounds ws n c)
 unfolding unrounds
 unrounds_block ws zero c hw h = add_block ws 0 c hw h
 unrounds_block ws (suc n) c hw h =
     let m : List ℕ = unmix (add_round_key ws (suc n) c) in
-    unrounds_block ws n (unsub (unshift m)) hw (unsub_block (unshift m) (unshift_block m (unmix_block (add_round_key ws (suc n) c))))
+    unrounds_block ws n (unsub (unshift m)) hw
+    (unsub_block (unshift m) (unshift_block m (unmix_block (add_round_key ws (suc n) c))))
 
 -- the rounds undo the rounds undone
-rounds_unrounds : (ws : List (List ℕ)) (n : ℕ) (c : List ℕ) → AreWords ws → IsBlock c → rounds ws n (unrounds ws n c) ≡ c
+rounds_unrounds : (ws : List (List ℕ)) (n : ℕ) (c : List ℕ) → AreWords ws → IsBlock c
+    → rounds ws n (unrounds ws n c) ≡ c
 unfolding rounds unrounds
 rounds_unrounds ws zero c hw h = add_twice ws 0 c h.length_is
 rounds_unrounds ws (suc n) c hw h =
@@ -164,7 +192,9 @@ rounds_unrounds ws (suc n) c hw h =
     let u : List ℕ = unshift m in
     let ub : IsBlock u = unshift_block m mb in
     ap (add_round_key ws (suc n)) (
-    ap mix_columns (ap shift_rows (ap sub_bytes (rounds_unrounds ws n (unsub u) hw (unsub_block u ub)) ∙ sub_unsub u ub) ∙ shift_unshift m mb)
+    ap mix_columns (ap shift_rows
+    (ap sub_bytes (rounds_unrounds ws n (unsub u) hw (unsub_block u ub)) ∙ sub_unsub u ub)
+    ∙ shift_unshift m mb)
     ∙ mix_unmix_block a ab)
     ∙ add_twice ws (suc n) c h.length_is
 
@@ -192,7 +222,8 @@ cipher_same key b d k hb hd e =
     rounds_same ws n b d hw hb hd
     (same_before_shift s t sb tb
     (same_before_add ws (round_count key) (shift_rows (sub_bytes s)) (shift_rows (sub_bytes t))
-    (shift_block (sub_bytes s) (sub_block s sb)).length_is (shift_block (sub_bytes t) (sub_block t tb)).length_is e))
+    (shift_block (sub_bytes s) (sub_block s sb)).length_is
+    (shift_block (sub_bytes t) (sub_block t tb)).length_is e))
 
 -- the cipher is onto
 pub cipher_onto : (key c : List ℕ) → IsKey key → IsBlock c → (b : List ℕ) × IsBlock b × (cipher key b ≡ c)
@@ -209,10 +240,16 @@ cipher_onto key c k h =
     let sb : IsBlock s = unsub_block u ub in (
       unrounds ws n s,
       unrounds_block ws n s hw sb,
-      ap (add_round_key ws (round_count key)) (ap shift_rows (ap sub_bytes (rounds_unrounds ws n s hw sb) ∙ sub_unsub u ub) ∙ shift_unshift a ab)
+      ap (add_round_key ws (round_count key))
+          (ap shift_rows (ap sub_bytes (rounds_unrounds ws n s hw sb) ∙ sub_unsub u ub) ∙ shift_unshift a ab)
           ∙ add_twice ws (round_count key) c h.length_is,
     )
 
 -- the cipher is one to one and onto
 pub is_permutation : IsPermutation
-is_permutation key k = (λ b h. cipher_block key b k h, λ b d hb hd e. cipher_same key b d k hb hd e, λ c h. cipher_onto key c k h)
+is_permutation key k = (
+  λ b h. cipher_block key b k h,
+  λ b d hb hd e. cipher_same key b d k hb hd e,
+  λ c h.
+      cipher_onto key c k h,
+)

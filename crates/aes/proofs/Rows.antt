@@ -1,5 +1,6 @@
 -- The rows of MixColumns as the code adds them, and the round constants.
-use Rattle.std.proofs.Common.{◌≡◌, ℕ, ◌+◌, ◌-◌, ◌<◌, true, ◌==◌, List, [], ◌∷◌, get_or, refl, sym, ap, ap₂, ◌∙◌, arith, bit_xor, ltb, ltb-true}
+use Rattle.std.proofs.Common.{◌≡◌, ℕ, ◌+◌, ◌-◌, ◌<◌, true, ◌==◌, List, [], ◌∷◌, get_or, refl, sym, ap, ap₂}
+use Rattle.std.proofs.Common.{◌∙◌, arith, bit_xor, ltb, ltb-true}
 use Rattle.std.specs.Int.Bits.{xor_zero_r}
 use Rattle.std.proofs.lemmas.Bool.{eqb-true}
 use Rattle.octets.specs.Bits.{number}
@@ -16,7 +17,8 @@ dot_is k l m n a b c d p q r s e f g h =
     ap₂ bit_xor e (ap₂ bit_xor f (ap₂ bit_xor g (h ∙ sym (xor_zero_r (times n d)))))
 
 -- four equal items
-pub four : {a b c d p q r s : ℕ} → a ≡ p → b ≡ q → c ≡ r → d ≡ s → ◌≡◌ {A = List ℕ} (a ∷ b ∷ c ∷ d ∷ []) (p ∷ q ∷ r ∷ s ∷ [])
+pub four : {a b c d p q r s : ℕ} → a ≡ p → b ≡ q → c ≡ r → d ≡ s
+    → ◌≡◌ {A = List ℕ} (a ∷ b ∷ c ∷ d ∷ []) (p ∷ q ∷ r ∷ s ∷ [])
 four e f g h = ap₂ (λ x y. x ∷ y) e (ap₂ (λ x y. x ∷ y) f (ap₂ (λ x y. x ∷ y) g (ap (λ x. x ∷ []) h)))
 
 -- the first bytes of the round constants
@@ -29,10 +31,12 @@ constants_small = refl
 
 -- a constant is a byte
 pub constant_small : (j : ℕ) → j < 11 → get_or constants j 0 < 256
-constant_small j h = ltb-true (get_or constants j 0) 256 (all_below_at (λ j. ltb (get_or constants j 0) 256) 11 j constants_small h)
+constant_small j h = ltb-true (get_or constants j 0) 256
+    (all_below_at (λ j. ltb (get_or constants j 0) 256) 11 j constants_small h)
 
 -- the round constants, tested at each number
-constants_computed : all_below (λ j. get_or constants (j + 1) 0 == number (residue modulus (x_power j))) 10 ≡ true
+constants_computed : all_below (λ j. get_or constants (j + 1) 0 == number (residue modulus (x_power j))) 10
+    ≡ true
 unfolding residue
 constants_computed = refl
 
@@ -40,7 +44,8 @@ constants_computed = refl
 constant_at : (j : ℕ) → j < 10 → get_or constants (j + 1) 0 ≡ number (residue modulus (x_power j))
 constant_at j h =
     eqb-true (get_or constants (j + 1) 0) (number (residue modulus (x_power j)))
-    (all_below_at (λ j. get_or constants (j + 1) 0 == number (residue modulus (x_power j))) 10 j constants_computed h)
+    (all_below_at (λ j. get_or constants (j + 1) 0 == number (residue modulus (x_power j))) 10 j
+    constants_computed h)
 
 -- a round constant as a word
 pub rcon_is : (j : ℕ) → 0 < j → j < 11 → ◌≡◌ {A = List ℕ} (get_or constants j 0 ∷ 0 ∷ 0 ∷ 0 ∷ []) (rcon j)

@@ -1,5 +1,7 @@
 -- Each step of a round takes blocks to blocks and has an inverse.
-use Rattle.std.proofs.Common.{◌≡◌, ℕ, zero, suc, ◌+◌, ◌-◌, ◌*◌, ◌/◌, ◌%◌, ◌<◌, ◌≤◌, Bool, true, ◌&&◌, ◌==◌, List, [], ◌∷◌, map, get_or, length, inl, inr, refl, sym, ap, ap₂, ◌∙◌, arith, bit_xor, ltb, ltb-true, zero-add, pow_mono, lt_of_lt_of_le}
+use Rattle.std.proofs.Common.{◌≡◌, ℕ, zero, suc, ◌+◌, ◌-◌, ◌*◌, ◌/◌, ◌%◌, ◌<◌, ◌≤◌, Bool, true, ◌&&◌, ◌==◌}
+use Rattle.std.proofs.Common.{List, [], ◌∷◌, map, get_or, length, inl, inr, refl, sym, ap, ap₂, ◌∙◌, arith}
+use Rattle.std.proofs.Common.{bit_xor, ltb, ltb-true, zero-add, pow_mono, lt_of_lt_of_le}
 use Rattle.std.specs.Int.Bits.{xor_zero_r, xor_assoc, xor_self}
 use Rattle.std.proofs.lemmas.Bool.{cases_lt, and_parts, eqb-true}
 use Rattle.std.proofs.lemmas.Nat.{xor_of_8}
@@ -12,18 +14,21 @@ use Rattle.octets.proofs.BitFacts.{number_lt}
 use Rattle.aes.specs.declared.sbox.TheConstants.{SBOX, INVERSE_SBOX}
 use Rattle.aes.specs.Field.{modulus, times, sbox}
 use Rattle.octets.specs.Bytes.{IsBlock}
-use Rattle.aes.specs.Cipher.{at, grid, dot, matrix, column, mix_column, sub_bytes, shift_rows, mix_columns, add_round_key}
+use Rattle.aes.specs.Cipher.{at, grid, dot, matrix, column, mix_column, sub_bytes, shift_rows, mix_columns}
+use Rattle.aes.specs.Cipher.{add_round_key}
 use Rattle.aes.proofs.Tables.{all_below, all_below_at, sbox_at}
 use Rattle.aes.proofs.Grids.{grid_is}
 use Rattle.aes.proofs.Rows.{four}
-use Rattle.aes.proofs.Linear.{unmix_column, inverse_matrix, mix_unmix, unmix_mix, unmix_column_is, unmix_column_whole}
+use Rattle.aes.proofs.Linear.{unmix_column, inverse_matrix, mix_unmix, unmix_mix, unmix_column_is}
+use Rattle.aes.proofs.Linear.{unmix_column_whole}
 
 -- ---- grids
 pub at_grid : (f : ℕ → ℕ → ℕ) (r c : ℕ) → r < 4 → c < 4 → at (grid f) r c ≡ f r c
 at_grid f r c hr hc =
     let row : (r + 4 * c) % 4 ≡ r = omega arith in
     let col : (r + 4 * c) / 4 ≡ c = omega arith in
-    get_or-map-range_with_len (λ i. f (i % 4) (i / 4)) 0 16 (r + 4 * c) (r + 4 * c) 0 (omega arith) (zero-add (r + 4 * c))
+    get_or-map-range_with_len (λ i. f (i % 4) (i / 4)) 0 16 (r + 4 * c) (r + 4 * c) 0 (omega arith)
+    (zero-add (r + 4 * c))
     ∙ ap₂ f row col
 
 -- a grid of bytes is a block
@@ -39,18 +44,21 @@ grid_block f small = record {
 }
 
 -- a block is the grid with its bytes
-pub grid_of : (f : ℕ → ℕ → ℕ) (s : List ℕ) → length s ≡ 16 → ((r c : ℕ) → r < 4 → c < 4 → f r c ≡ at s r c) → grid f ≡ s
+pub grid_of : (f : ℕ → ℕ → ℕ) (s : List ℕ) → length s ≡ 16 → ((r c : ℕ) → r < 4 → c < 4 → f r c ≡ at s r c)
+    → grid f ≡ s
 grid_of f s long same =
     sym (grid_is f s long (λ k h.
     let place : k ≡ k % 4 + 4 * (k / 4) = omega arith in
     ap (λ i. get_or s i 0) place ∙ sym (same (k % 4) (k / 4) (omega arith) (omega arith))))
 
 -- ---- the S-box
-onto_computed : all_below (λ y. (get_or SBOX (get_or INVERSE_SBOX y 0) 0 == y) && ltb (get_or INVERSE_SBOX y 0) 256) 256 ≡ true
+onto_computed : all_below
+    (λ y. (get_or SBOX (get_or INVERSE_SBOX y 0) 0 == y) && ltb (get_or INVERSE_SBOX y 0) 256) 256 ≡ true
 onto_computed = refl
 
 -- the inverse table undoes the S-box, tested at each byte
-back_computed : all_below (λ x. (get_or INVERSE_SBOX (get_or SBOX x 0) 0 == x) && ltb (get_or SBOX x 0) 256) 256 ≡ true
+back_computed : all_below (λ x. (get_or INVERSE_SBOX (get_or SBOX x 0) 0 == x) && ltb (get_or SBOX x 0) 256)
+    256 ≡ true
 back_computed = refl
 
 -- the inverse of the S-box
@@ -65,22 +73,27 @@ unsbox_is y = refl
 -- it gives bytes
 pub unsbox_small : (y : ℕ) → y < 256 → unsbox y < 256
 unfolding unsbox
-unsbox_small y h = ltb-true (get_or INVERSE_SBOX y 0) 256 (and_parts (get_or SBOX (get_or INVERSE_SBOX y 0) 0 == y) (ltb (get_or INVERSE_SBOX y 0) 256)
-    (all_below_at (λ y. (get_or SBOX (get_or INVERSE_SBOX y 0) 0 == y) && ltb (get_or INVERSE_SBOX y 0) 256) 256 y onto_computed h)).1
+unsbox_small y h = ltb-true (get_or INVERSE_SBOX y 0) 256
+    (and_parts (get_or SBOX (get_or INVERSE_SBOX y 0) 0 == y) (ltb (get_or INVERSE_SBOX y 0) 256)
+    (all_below_at (λ y. (get_or SBOX (get_or INVERSE_SBOX y 0) 0 == y) && ltb (get_or INVERSE_SBOX y 0) 256)
+    256 y onto_computed h)).1
 
 -- the S-box undoes it
 pub sbox_unsbox : (y : ℕ) → y < 256 → sbox (unsbox y) ≡ y
 unfolding unsbox
 sbox_unsbox y h =
     sym (sbox_at (get_or INVERSE_SBOX y 0) (rw (← (unsbox_is y)) (unsbox_small y h)))
-    ∙ eqb-true (get_or SBOX (get_or INVERSE_SBOX y 0) 0) y (and_parts (get_or SBOX (get_or INVERSE_SBOX y 0) 0 == y) (ltb (get_or INVERSE_SBOX y 0) 256)
-    (all_below_at (λ y. (get_or SBOX (get_or INVERSE_SBOX y 0) 0 == y) && ltb (get_or INVERSE_SBOX y 0) 256) 256 y onto_computed h)).0
+    ∙ eqb-true (get_or SBOX (get_or INVERSE_SBOX y 0) 0) y
+    (and_parts (get_or SBOX (get_or INVERSE_SBOX y 0) 0 == y) (ltb (get_or INVERSE_SBOX y 0) 256)
+    (all_below_at (λ y. (get_or SBOX (get_or INVERSE_SBOX y 0) 0 == y) && ltb (get_or INVERSE_SBOX y 0) 256)
+    256 y onto_computed h)).0
 
 -- the inverse table at an entry of the S-box
 back_parts : (x : ℕ) → x < 256 → (get_or INVERSE_SBOX (get_or SBOX x 0) 0 ≡ x) × (get_or SBOX x 0 < 256)
 back_parts x h =
     let both = and_parts (get_or INVERSE_SBOX (get_or SBOX x 0) 0 == x) (ltb (get_or SBOX x 0) 256)
-    (all_below_at (λ x. (get_or INVERSE_SBOX (get_or SBOX x 0) 0 == x) && ltb (get_or SBOX x 0) 256) 256 x back_computed h) in
+    (all_below_at (λ x. (get_or INVERSE_SBOX (get_or SBOX x 0) 0 == x) && ltb (get_or SBOX x 0) 256) 256 x
+    back_computed h) in
     (eqb-true (get_or INVERSE_SBOX (get_or SBOX x 0) 0) x both.0, ltb-true (get_or SBOX x 0) 256 both.1)
 
 -- the S-box gives bytes
@@ -104,21 +117,24 @@ sub_block s b = grid_block (λ r c. sbox (at s r c)) (λ r c hr hc. sbox_small (
 -- SubBytes undone gives a block
 pub unsub_block : (s : List ℕ) → IsBlock s → IsBlock (unsub s)
 unfolding unsub
-unsub_block s b = grid_block (λ r c. unsbox (at s r c)) (λ r c hr hc. unsbox_small (at s r c) (b.bytes (r + 4 * c)))
+unsub_block s b = grid_block (λ r c. unsbox (at s r c))
+    (λ r c hr hc. unsbox_small (at s r c) (b.bytes (r + 4 * c)))
 
 -- SubBytes after SubBytes undone
 pub sub_unsub : (s : List ℕ) → IsBlock s → sub_bytes (unsub s) ≡ s
 unfolding sub_bytes unsub
 sub_unsub s b =
     grid_of (λ r c. sbox (at (unsub s) r c)) s b.length_is
-    (λ r c hr hc. ap sbox (at_grid (λ r c. unsbox (at s r c)) r c hr hc) ∙ sbox_unsbox (at s r c) (b.bytes (r + 4 * c)))
+    (λ r c hr hc. ap sbox (at_grid (λ r c. unsbox (at s r c)) r c hr hc)
+    ∙ sbox_unsbox (at s r c) (b.bytes (r + 4 * c)))
 
 -- SubBytes undone after SubBytes
 pub unsub_sub : (s : List ℕ) → IsBlock s → unsub (sub_bytes s) ≡ s
 unfolding sub_bytes unsub
 unsub_sub s b =
     grid_of (λ r c. unsbox (at (sub_bytes s) r c)) s b.length_is
-    (λ r c hr hc. ap unsbox (at_grid (λ r c. sbox (at s r c)) r c hr hc) ∙ unsbox_sbox (at s r c) (b.bytes (r + 4 * c)))
+    (λ r c hr hc. ap unsbox (at_grid (λ r c. sbox (at s r c)) r c hr hc)
+    ∙ unsbox_sbox (at s r c) (b.bytes (r + 4 * c)))
 
 -- ---- ShiftRows
 pub unshift : List ℕ → List ℕ
@@ -132,7 +148,8 @@ shift_block s b = grid_block (λ r c. at s r ((c + r) % 4)) (λ r c hr hc. b.byt
 -- ShiftRows undone gives a block
 pub unshift_block : (s : List ℕ) → IsBlock s → IsBlock (unshift s)
 unfolding unshift
-unshift_block s b = grid_block (λ r c. at s r ((c + (4 - r)) % 4)) (λ r c hr hc. b.bytes (r + 4 * ((c + (4 - r)) % 4)))
+unshift_block s b = grid_block (λ r c. at s r ((c + (4 - r)) % 4))
+    (λ r c hr hc. b.bytes (r + 4 * ((c + (4 - r)) % 4)))
 
 -- ShiftRows after ShiftRows undone
 pub shift_unshift : (s : List ℕ) → IsBlock s → shift_rows (unshift s) ≡ s
@@ -187,7 +204,8 @@ unmix s = grid (λ r c. get_or (unmix_column (column s c)) r 0)
 -- MixColumns gives a block
 pub mix_block : (s : List ℕ) → IsBlock (mix_columns s)
 unfolding mix_columns mix_column
-mix_block s = grid_block (λ r c. get_or (mix_column (column s c)) r 0) (λ r c hr hc. row_small matrix (column s c) r)
+mix_block s = grid_block (λ r c. get_or (mix_column (column s c)) r 0)
+    (λ r c hr hc. row_small matrix (column s c) r)
 
 -- the rows of the inverse product are bytes
 inverse_row_small : (v : List ℕ) (r : ℕ) → get_or (unmix_column v) r 0 < 256
@@ -196,12 +214,14 @@ inverse_row_small v r = rw (unmix_column_is v) (row_small inverse_matrix v r)
 -- MixColumns undone gives a block
 pub unmix_block : (s : List ℕ) → IsBlock (unmix s)
 unfolding unmix
-unmix_block s = grid_block (λ r c. get_or (unmix_column (column s c)) r 0) (λ r c hr hc. inverse_row_small (column s c) r)
+unmix_block s = grid_block (λ r c. get_or (unmix_column (column s c)) r 0)
+    (λ r c hr hc. inverse_row_small (column s c) r)
 
 -- the column of a grid
 column_grid : (f : ℕ → ℕ → ℕ) (c : ℕ) → c < 4 → column (grid f) c ≡ f 0 c ∷ f 1 c ∷ f 2 c ∷ f 3 c ∷ []
 column_grid f c h =
-    four (at_grid f 0 c (omega arith) h) (at_grid f 1 c (omega arith) h) (at_grid f 2 c (omega arith) h) (at_grid f 3 c (omega arith) h)
+    four (at_grid f 0 c (omega arith) h) (at_grid f 1 c (omega arith) h) (at_grid f 2 c (omega arith) h)
+    (at_grid f 3 c (omega arith) h)
 
 -- a column after MixColumns
 column_mix : (s : List ℕ) (c : ℕ) → c < 4 → column (mix_columns s) c ≡ mix_column (column s c)
@@ -221,7 +241,9 @@ mix_unmix_block s b =
     grid_of (λ r c. get_or (mix_column (column (unmix s) c)) r 0) s b.length_is
     (λ r c hr hc.
     ap (λ v. get_or (mix_column v) r 0) (column_unmix s c hc)
-    ∙ ap (λ v. get_or v r 0) (mix_unmix (at s 0 c) (at s 1 c) (at s 2 c) (at s 3 c) (b.bytes (0 + 4 * c)) (b.bytes (1 + 4 * c)) (b.bytes (2 + 4 * c)) (b.bytes (3 + 4 * c)))
+    ∙ ap (λ v. get_or v r 0)
+    (mix_unmix (at s 0 c) (at s 1 c) (at s 2 c) (at s 3 c) (b.bytes (0 + 4 * c)) (b.bytes (1 + 4 * c))
+    (b.bytes (2 + 4 * c)) (b.bytes (3 + 4 * c)))
     ∙ column_at s r c hr)
 
 -- MixColumns undone after MixColumns
@@ -231,29 +253,35 @@ unmix_mix_block s b =
     grid_of (λ r c. get_or (unmix_column (column (mix_columns s) c)) r 0) s b.length_is
     (λ r c hr hc.
     ap (λ v. get_or (unmix_column v) r 0) (column_mix s c hc)
-    ∙ ap (λ v. get_or v r 0) (unmix_mix (at s 0 c) (at s 1 c) (at s 2 c) (at s 3 c) (b.bytes (0 + 4 * c)) (b.bytes (1 + 4 * c)) (b.bytes (2 + 4 * c)) (b.bytes (3 + 4 * c)))
+    ∙ ap (λ v. get_or v r 0)
+    (unmix_mix (at s 0 c) (at s 1 c) (at s 2 c) (at s 3 c) (b.bytes (0 + 4 * c)) (b.bytes (1 + 4 * c))
+    (b.bytes (2 + 4 * c)) (b.bytes (3 + 4 * c)))
     ∙ column_at s r c hr)
 
 -- ---- AddRoundKey
-pub add_twice : (ws : List (List ℕ)) (n : ℕ) (s : List ℕ) → length s ≡ 16 → add_round_key ws n (add_round_key ws n s) ≡ s
+pub add_twice : (ws : List (List ℕ)) (n : ℕ) (s : List ℕ) → length s ≡ 16
+    → add_round_key ws n (add_round_key ws n s) ≡ s
 unfolding add_round_key
 add_twice ws n s long =
     let w : ℕ → ℕ → ℕ = λ r c. get_or (get_or ws (4 * n + c) []) r 0 in
     grid_of (λ r c. bit_xor (at (add_round_key ws n s) r c) (w r c)) s long
     (λ r c hr hc.
     ap (λ x. bit_xor x (w r c)) (at_grid (λ r c. bit_xor (at s r c) (w r c)) r c hr hc)
-    ∙ xor_assoc (at s r c) (w r c) (w r c) ∙ ap (bit_xor (at s r c)) (xor_self (w r c)) ∙ xor_zero_r (at s r c))
+    ∙ xor_assoc (at s r c) (w r c) (w r c) ∙ ap (bit_xor (at s r c)) (xor_self (w r c))
+    ∙ xor_zero_r (at s r c))
 
 -- every byte of the words is below 256
 abbrev pub AreWords : List (List ℕ) → Type 0
 AreWords ws = (k r : ℕ) → get_or (get_or ws k []) r 0 < 256
 
 -- AddRoundKey gives a block
-pub add_block : (ws : List (List ℕ)) (n : ℕ) (s : List ℕ) → AreWords ws → IsBlock s → IsBlock (add_round_key ws n s)
+pub add_block : (ws : List (List ℕ)) (n : ℕ) (s : List ℕ) → AreWords ws → IsBlock s
+    → IsBlock (add_round_key ws n s)
 unfolding add_round_key
 add_block ws n s small b =
     grid_block (λ r c. bit_xor (at s r c) (get_or (get_or ws (4 * n + c) []) r 0))
-    (λ r c hr hc. xor_of_8 (at s r c) (get_or (get_or ws (4 * n + c) []) r 0) (b.bytes (r + 4 * c)) (small (4 * n + c) r))
+    (λ r c hr hc. xor_of_8 (at s r c) (get_or (get_or ws (4 * n + c) []) r 0) (b.bytes (r + 4 * c))
+    (small (4 * n + c) r))
 
 -- sixteen places of a block, written out
 pub sixteen : (s : List ℕ) → length s ≡ 16 → grid (at s) ≡ s

@@ -1,16 +1,25 @@
 -- The words of a schedule.
-use Rattle.std.proofs.Common.{◌≡◌, ℕ, zero, suc, ◌+◌, ◌-◌, ◌*◌, ◌/◌, ◌%◌, ◌^◌, ◌<◌, ◌≤◌, cond, ◌==◌, ◌&&◌, List, [], ◌∷◌, ◌++◌, take, drop, get_or, length, flat_map, replicate, set, inl, inr, refl, sym, ap, ap₂, ◌∙◌, arith, lt-ltb, le-ltb, take-add, add-one}
-use Rattle.std.proofs.lemmas.Bool.{cases_eq, cases_lt, and_parts, false_from_ne_true, eq-eqb, ne_eqb, eqb-true}
-use Rattle.std.proofs.lemmas.List.{get_or_append_left, get_or_push, get_or-append_right, get_or-replicate, length-replicate, length-append, ext_get_or, length_push, drop_more, flat_map_more, take_more, get_or-set_same, get_or-set_other, get_or-map, length-map, get_or_past}
+use Rattle.std.proofs.Common.{◌≡◌, ℕ, zero, suc, ◌+◌, ◌-◌, ◌*◌, ◌/◌, ◌%◌, ◌^◌, ◌<◌, ◌≤◌, cond, ◌==◌, ◌&&◌}
+use Rattle.std.proofs.Common.{List, [], ◌∷◌, ◌++◌, take, drop, get_or, length, flat_map, replicate, set, inl}
+use Rattle.std.proofs.Common.{inr, refl, sym, ap, ap₂, ◌∙◌, arith, lt-ltb, le-ltb, take-add, add-one}
+use Rattle.std.proofs.lemmas.Bool.{cases_eq, cases_lt, and_parts, false_from_ne_true, eq-eqb, ne_eqb}
+use Rattle.std.proofs.lemmas.Bool.{eqb-true}
+use Rattle.std.proofs.lemmas.List.{get_or_append_left, get_or_push, get_or-append_right, get_or-replicate}
+use Rattle.std.proofs.lemmas.List.{length-replicate, length-append, ext_get_or, length_push, drop_more}
+use Rattle.std.proofs.lemmas.List.{flat_map_more, take_more, get_or-set_same, get_or-set_other, get_or-map}
+use Rattle.std.proofs.lemmas.List.{length-map, get_or_past}
 use Rattle.aes.specs.Columns.{column_of, columns_of}
-use Rattle.aes.specs.Schedule.{schedule, xor_word, key_words, changed, next_word, words, sub_word, rot_word, rcon, round_count, MeetsRecurrence}
+use Rattle.aes.specs.Schedule.{schedule, xor_word, key_words, changed, next_word, words, sub_word, rot_word}
+use Rattle.aes.specs.Schedule.{rcon, round_count, MeetsRecurrence}
 use Rattle.aes.specs.Code.ExpandedKey.{table, key_of}
 
 -- the number of words
 pub length_words : (key : List ℕ) (n : ℕ) → length (words key n) ≡ n
 unfolding words
 length_words key zero = refl
-length_words key (suc n) = length_push (words key n) (next_word key (words key n) n) ∙ ap (λ x. x + 1) (length_words key n) ∙ add-one n
+length_words key (suc n) =
+    length_push (words key n) (next_word key (words key n) n) ∙ ap (λ x. x + 1) (length_words key n)
+    ∙ add-one n
 
 -- word k of the schedule
 abbrev pub word : List ℕ → ℕ → List ℕ
@@ -34,7 +43,9 @@ words_at key (suc n) k h =
 pub word_start : (key : List ℕ) (k : ℕ) → k < key_words key → word key k ≡ take 4 (drop (4 * k) key)
 unfolding next_word
 word_start key k h =
-    ap (λ b. cond b (take 4 (drop (4 * k) key)) (xor_word (get_or (words key k) (k - key_words key) []) (changed (key_words key) k (get_or (words key k) (k - 1) []))))
+    ap (λ b. cond b (take 4 (drop (4 * k) key))
+    (xor_word (get_or (words key k) (k - key_words key) [])
+    (changed (key_words key) k (get_or (words key k) (k - 1) []))))
     (lt-ltb k (key_words key) h)
 
 -- a word from Nk on, by the recurrence
@@ -42,17 +53,22 @@ pub word_rest : (key : List ℕ) (k : ℕ) → key_words key ≤ k → 0 < key_w
     → word key k ≡ xor_word (word key (k - key_words key)) (changed (key_words key) k (word key (k - 1)))
 unfolding next_word
 word_rest key k h some =
-    ap (λ b. cond b (take 4 (drop (4 * k) key)) (xor_word (get_or (words key k) (k - key_words key) []) (changed (key_words key) k (get_or (words key k) (k - 1) []))))
+    ap (λ b. cond b (take 4 (drop (4 * k) key))
+    (xor_word (get_or (words key k) (k - key_words key) [])
+    (changed (key_words key) k (get_or (words key k) (k - 1) []))))
     (le-ltb k (key_words key) h)
-    ∙ ap₂ (λ v w. xor_word v (changed (key_words key) k w)) (words_at key k (k - key_words key) (omega arith)) (words_at key k (k - 1) (omega arith))
+    ∙ ap₂ (λ v w. xor_word v (changed (key_words key) k w))
+    (words_at key k (k - key_words key) (omega arith)) (words_at key k (k - 1) (omega arith))
 
 -- what is added, in the three cases
-pub changed_first : (nk i : ℕ) (t : List ℕ) → i % nk ≡ 0 → xor_word (sub_word (rot_word t)) (rcon (i / nk)) ≡ changed nk i t
+pub changed_first : (nk i : ℕ) (t : List ℕ) → i % nk ≡ 0
+    → xor_word (sub_word (rot_word t)) (rcon (i / nk)) ≡ changed nk i t
 unfolding changed
 changed_first nk i t h = rw (eq-eqb (i % nk) 0 h) refl
 
 -- at i mod 8 = 4 where Nk is 8
-pub changed_fourth : (nk i : ℕ) (t : List ℕ) → (i % nk ≡ 0 → ⊥) → nk ≡ 8 → i % 8 ≡ 4 → sub_word t ≡ changed nk i t
+pub changed_fourth : (nk i : ℕ) (t : List ℕ) → (i % nk ≡ 0 → ⊥) → nk ≡ 8 → i % 8 ≡ 4
+    → sub_word t ≡ changed nk i t
 unfolding changed
 changed_fourth nk i t h e f = rw (ne_eqb (i % nk) 0 h, eq-eqb nk 8 e, eq-eqb (i % 8) 4 f) refl
 
@@ -63,7 +79,8 @@ changed_other nk i t h no_fourth =
     rw (
       ne_eqb (i % nk) 0 h,
       false_from_ne_true ((nk == 8) && (i % 8 == 4))
-          (λ e. let p = and_parts (nk == 8) (i % 8 == 4) e in no_fourth (eqb-true nk 8 p.0) (eqb-true (i % 8) 4 p.1)),
+          (λ e. let p = and_parts (nk == 8) (i % 8 == 4) e in
+          no_fourth (eqb-true nk 8 p.0) (eqb-true (i % 8) 4 p.1)),
     ) refl
 
 -- four places of a list
@@ -81,7 +98,8 @@ take_four s n h =
 
 -- one more word written, each of which spells the column that f says
 pub one_more_word : (f : ℕ → List ℕ) (ws : List ℕ) (i v : ℕ) → i < length ws
-    → ((k : ℕ) → k < i → column_of (get_or ws k 0) ≡ f k) → column_of v ≡ f i → (k : ℕ) → k < i + 1 → column_of (get_or (set ws i v) k 0) ≡ f k
+    → ((k : ℕ) → k < i → column_of (get_or ws k 0) ≡ f k) → column_of v ≡ f i → (k : ℕ) → k < i + 1
+    → column_of (get_or (set ws i v) k 0) ≡ f k
 one_more_word f ws i v h before e k l =
     elim (cases_eq k i) [
       | inl g ↦ rw g (ap column_of (get_or-set_same ws i v 0 h) ∙ e)
@@ -90,13 +108,15 @@ one_more_word f ws i v h before e k l =
 
 -- and the words after it as they were
 pub others_stay : (ws : List ℕ) (i v : ℕ)
-    → ((k : ℕ) → i ≤ k → k < 60 → get_or ws k 0 ≡ 0) → (k : ℕ) → i + 1 ≤ k → k < 60 → get_or (set ws i v) k 0 ≡ 0
+    → ((k : ℕ) → i ≤ k → k < 60 → get_or ws k 0 ≡ 0) → (k : ℕ) → i + 1 ≤ k → k < 60
+    → get_or (set ws i v) k 0 ≡ 0
 others_stay ws i v after k h l =
     let other : k ≡ i → ⊥ = λ e. omega arith in
     get_or-set_other ws i k v 0 other ∙ after k (omega arith) l
 
 -- words of 32 bits, one of them written
-pub small_words : (ws : List ℕ) (i v : ℕ) → v < 2 ^ 32 → ((k : ℕ) → get_or ws k 0 < 2 ^ 32) → (k : ℕ) → get_or (set ws i v) k 0 < 2 ^ 32
+pub small_words : (ws : List ℕ) (i v : ℕ) → v < 2 ^ 32 → ((k : ℕ) → get_or ws k 0 < 2 ^ 32) → (k : ℕ)
+    → get_or (set ws i v) k 0 < 2 ^ 32
 small_words [] i v h small k = small k
 small_words (w ∷ ws) zero v h small zero = h
 small_words (w ∷ ws) zero v h small (suc k) = small (suc k)
@@ -112,7 +132,8 @@ zero_words k =
     ]
 
 -- the words of a table
-pub table_start : (key : List ℕ) (k : ℕ) → k < 4 * (round_count key + 1) → get_or (table key) k [] ≡ get_or (schedule key) k []
+pub table_start : (key : List ℕ) (k : ℕ) → k < 4 * (round_count key + 1)
+    → get_or (table key) k [] ≡ get_or (schedule key) k []
 unfolding table
 table_start key k h =
     get_or_append_left (schedule key) (replicate (60 - length (schedule key)) (replicate 4 0)) [] k
@@ -136,9 +157,12 @@ is_table ws key long short start after =
     get_or-map column_of ws k 0 [] (omega arith)
     ∙ elim (cases_lt k n) [
       | inl g ↦
-          start k g ∙ sym (words_at key n k g) ∙ sym (get_or_append_left (schedule key) zeros [] k (omega arith))
+          start k g ∙ sym (words_at key n k g)
+          ∙ sym (get_or_append_left (schedule key) zeros [] k (omega arith))
       | inr g ↦
-          ap column_of (after k g (omega arith)) ∙ sym (get_or-append_right (schedule key) zeros n k [] size g ∙ get_or-replicate m (k - n) (replicate 4 0) [] (omega arith))
+          ap column_of (after k g (omega arith))
+          ∙ sym (get_or-append_right (schedule key) zeros n k [] size g
+          ∙ get_or-replicate m (k - n) (replicate 4 0) [] (omega arith))
     ])
 
 -- the first words spell the key
@@ -150,7 +174,8 @@ key_of_words ws key (suc n) h same =
     ap (λ i. flat_map (λ w. w) (take i ws)) (sym (add-one n))
     ∙ ap (flat_map (λ w. w)) (take_more ws n [] (omega arith))
     ∙ sym (flat_map_more (λ w. w) [] (take n ws) (get_or ws n []))
-    ∙ ap₂ (λ x y. x ++ y) (key_of_words ws key n (omega arith) (λ k l. same k (omega arith))) (same n (omega arith))
+    ∙ ap₂ (λ x y. x ++ y) (key_of_words ws key n (omega arith) (λ k l. same k (omega arith)))
+    (same n (omega arith))
     ∙ sym (ap (λ i. take i key) four_more ∙ take-add (4 * n) 4 key)
 
 -- the words of the schedule itself

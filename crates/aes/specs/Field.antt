@@ -28,7 +28,9 @@ IsInverse x y = ((x ≡ 0) × (y ≡ 0))
 unfoldable pub affine : ℕ → ℕ
 affine y =
     let b : ℕ → Bool = λ i. bit y (i % 8) in
-    number (map (λ i. plus (b i) (plus (b (i + 4)) (plus (b (i + 5)) (plus (b (i + 6)) (plus (b (i + 7)) (bit 0x63 i)))))) (range_with_len 0 8))
+    number (map (λ i. plus (b i)
+    (plus (b (i + 4)) (plus (b (i + 5)) (plus (b (i + 6)) (plus (b (i + 7)) (bit 0x63 i))))))
+    (range_with_len 0 8))
 
 -- the S-box (5.1.1)
 unfoldable pub sbox : ℕ → ℕ

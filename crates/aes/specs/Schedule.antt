@@ -65,4 +65,5 @@ word key i = get_or (schedule key) i []
 abbrev pub MeetsRecurrence : Type 0
 MeetsRecurrence = (key : List ℕ) (i : ℕ) → 0 < key_words key → i < 4 * (round_count key + 1)
     → (i < key_words key → word key i ≡ take 4 (drop (4 * i) key))
-    × (key_words key ≤ i → word key i ≡ xor_word (word key (i - key_words key)) (changed (key_words key) i (word key (i - 1))))
+    × (key_words key ≤ i → word key i
+    ≡ xor_word (word key (i - key_words key)) (changed (key_words key) i (word key (i - 1))))

@@ -9,7 +9,8 @@ use Rattle.aes.specs.declared.counter.CtrLe.{CtrLe}
 
 -- s has made this many bytes of the stream from the first block on: it has begun their blocks, counted
 -- modulo 2^32, and where the last one is not used up it keeps its cipher
-pub record Makes {C : Type 0} (up : List ℕ → ℕ → List ℕ) (s : Counter C) (key : List ℕ) (first : List ℕ) (made : ℕ) : Type 0 where
+pub record Makes {C : Type 0} (up : List ℕ → ℕ → List ℕ) (s : Counter C) (key : List ℕ) (first : List ℕ)
+    (made : ℕ) : Type 0 where
   pub key_is : s.key ≡ key
   pub first_is : s.first ≡ first
   pub begun_is : s.begun ≡ (made + 15) / 16 % 2 ^ 32

@@ -11,8 +11,9 @@ use byteorder::{BigEndian, ByteOrder, LittleEndian};
 use octets::{Block, xor_into};
 use std::marker::PhantomData;
 
-/// The law of counting blocks (SP 800-38D, 6.2; RFC 8452, 4): 0 steps lead from a block of 16 bytes to itself,
-/// and j + 1 steps to the block one step after the j-th. The call does nothing; its contract is the law.
+/// The law of counting blocks (SP 800-38D, 6.2; RFC 8452, 4): 0 steps lead from a block of 16 bytes to
+/// itself, and j + 1 steps to the block one step after the j-th. The call does nothing; its contract is
+/// the law.
 pub fn blocks_count_on()
     ensures big_endian { CountsOn up_be }
     ensures little_endian { CountsOn up_le }

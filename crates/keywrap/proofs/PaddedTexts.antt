@@ -303,7 +303,8 @@ wrapped_in_room key bytes value zeros wrapped n room most b v z e =
     record {
       length_is = record { least = omega arith; most = omega arith };
       bytes = bytes_resized n (length text) text (sym long)
-          (bytes_take n (length bytes - 8) (drop 8 bytes) (omega arith) (bytes_drop 8 (length bytes) bytes b));
+          (bytes_take n (length bytes - 8) (drop 8 bytes) (omega arith)
+          (bytes_drop 8 (length bytes) bytes b));
       is = e ∙ ap (transformed key) (ap₂ (λ x y. x ++ y) front
           (ap (λ y. zeros ++ y) none ∙ append-nil zeros ∙ past)
           ∙ append_assoc value text (replicate ((8 - n % 8) % 8) 0)

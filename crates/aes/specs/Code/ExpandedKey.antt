@@ -43,11 +43,14 @@ le_column_of w h = le_is w32 (column_of w) (lit≤ tt) refl ∙ from_le_bytes-to
 -- the same of a list of words
 le_columns_of : (ws : List ℕ) → ((i : ℕ) → get_or ws i 0 < 2 ^ 32) → map le (columns_of ws) ≡ ws
 le_columns_of [] h = refl
-le_columns_of (w ∷ ws) h = ap₂ (λ (x : ℕ) (xs : List ℕ). x ∷ xs) (le_column_of w (h 0)) (le_columns_of ws (λ i. h (suc i)))
+le_columns_of (w ∷ ws) h =
+    ap₂ (λ (x : ℕ) (xs : List ℕ). x ∷ xs) (le_column_of w (h 0)) (le_columns_of ws (λ i. h (suc i)))
 
 -- the fields are those that the key determines
-pub fields_of-key_of : (a : Inside) → IsExpanded a.words a.size → fields_of (key_of (columns_of a.words) a.size) ≡ a
+pub fields_of-key_of : (a : Inside) → IsExpanded a.words a.size
+    → fields_of (key_of (columns_of a.words) a.size) ≡ a
 fields_of-key_of a x =
-    let size : length (key_of (columns_of a.words) a.size) / 4 ≡ a.size = ap (λ n. n / 4) x.length_is ∙ mul-div_cancel_left a.size (lit< tt) in
+    let size : length (key_of (columns_of a.words) a.size) / 4 ≡ a.size =
+    ap (λ n. n / 4) x.length_is ∙ mul-div_cancel_left a.size (lit< tt) in
     let fields : List ℕ → ℕ → Inside = λ words size. record { words = words; size = size } in
     ap₂ fields (ap (map le) (sym x.columns_are) ∙ le_columns_of a.words x.words) size

@@ -12,5 +12,7 @@ pub record IsInverse (s : InverseKey) (key : List ℕ) : Type 0 where
   pub size_is : length key ≡ 4 * s.size
   pub long : length s.words ≡ 60
   pub first : (k : ℕ) → k < 4 → column_of (slice_index s.words k) ≡ word key k
-  pub middle : (k : ℕ) → 4 ≤ k → k < 4 * (s.size + 6) → mix_column (column_of (slice_index s.words k)) ≡ word key k
-  pub last : (k : ℕ) → 4 * (s.size + 6) ≤ k → k < 4 * (s.size + 7) → column_of (slice_index s.words k) ≡ word key k
+  pub middle : (k : ℕ) → 4 ≤ k → k < 4 * (s.size + 6)
+      → mix_column (column_of (slice_index s.words k)) ≡ word key k
+  pub last : (k : ℕ) → 4 * (s.size + 6) ≤ k → k < 4 * (s.size + 7)
+      → column_of (slice_index s.words k) ≡ word key k

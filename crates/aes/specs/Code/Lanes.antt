@@ -48,7 +48,8 @@ ready_byte ws n i = bit_xor (in_basis (slice_index (slice_index_or ws (4 * n + i
 
 -- the keys are those of the rounds of a cipher, so made ready
 pub record IsReady (keys : List (List ℕ)) (key : List ℕ) : Type 0 where
-  pub each : (n i : ℕ) → n ≤ round_count key → i < 16 → slice_index (slice_index_or keys n []) i ≡ ready_byte (schedule key) n i
+  pub each : (n i : ℕ) → n ≤ round_count key → i < 16
+      → slice_index (slice_index_or keys n []) i ≡ ready_byte (schedule key) n i
 
 -- the S-box without its constant
 unfoldable pub linear_sbox : ℕ → ℕ

@@ -8,4 +8,6 @@ four_of row = slice_index row 0 ∷ slice_index row 1 ∷ slice_index row 2 ∷ 
 -- the words of four rows, one row after the other
 unfoldable pub read_by_rows : List (List ℕ) → List ℕ
 read_by_rows x =
-    four_of (slice_index_or x 0 []) ++ (four_of (slice_index_or x 1 []) ++ (four_of (slice_index_or x 2 []) ++ four_of (slice_index_or x 3 [])))
+    four_of (slice_index_or x 0 [])
+    ++ (four_of (slice_index_or x 1 [])
+    ++ (four_of (slice_index_or x 2 []) ++ four_of (slice_index_or x 3 [])))

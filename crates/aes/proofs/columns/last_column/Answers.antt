@@ -14,6 +14,9 @@ returns t =
     let d = column_row t.args.d 3 t.to_le_bytes-4.result t.to_le_bytes-4.ensures in
     column_xor t.from_le_bytes-column.result t.args.key
     ∙ ap (λ (v : List ℕ). xor_word v (column_of t.args.key)) (
-    column_back t.substitute.result t.substitute-2.result t.substitute-3.result t.substitute-4.result t.from_le_bytes-column.result
-    t.substitute.type_inv t.substitute-2.type_inv t.substitute-3.type_inv t.substitute-4.type_inv t.from_le_bytes-column.ensures
-    ∙ four (t.substitute.ensures ∙ ap sbox a) (t.substitute-2.ensures ∙ ap sbox b) (t.substitute-3.ensures ∙ ap sbox c) (t.substitute-4.ensures ∙ ap sbox d))
+    column_back t.substitute.result t.substitute-2.result t.substitute-3.result t.substitute-4.result
+    t.from_le_bytes-column.result
+    t.substitute.type_inv t.substitute-2.type_inv t.substitute-3.type_inv t.substitute-4.type_inv
+    t.from_le_bytes-column.ensures
+    ∙ four (t.substitute.ensures ∙ ap sbox a) (t.substitute-2.ensures ∙ ap sbox b)
+    (t.substitute-3.ensures ∙ ap sbox c) (t.substitute-4.ensures ∙ ap sbox d))

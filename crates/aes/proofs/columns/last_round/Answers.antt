@@ -11,7 +11,9 @@ returns c =
     let k = c.args.key in
     let state_long : length t ≡ 4 = search rules in
     let key_long : length k ≡ 4 = search rules in
-    last_is (get_or t 0 0) (get_or t 1 0) (get_or t 2 0) (get_or t 3 0) (get_or k 0 0) (get_or k 1 0) (get_or k 2 0) (get_or k 3 0)
+    last_is (get_or t 0 0) (get_or t 1 0) (get_or t 2 0) (get_or t 3 0) (get_or k 0 0) (get_or k 1 0)
+    (get_or k 2 0) (get_or k 3 0)
     c.last_column.result c.last_column-2.result c.last_column-3.result c.last_column-4.result
     c.last_column.ensures c.last_column-2.ensures c.last_column-3.ensures c.last_column-4.ensures
-    ∙ ap₂ (λ (k s : List ℕ). add_round_key (columns_of k) 0 (shift_rows (sub_bytes (state_of s)))) (quad k key_long) (quad t state_long)
+    ∙ ap₂ (λ (k s : List ℕ). add_round_key (columns_of k) 0 (shift_rows (sub_bytes (state_of s))))
+    (quad k key_long) (quad t state_long)

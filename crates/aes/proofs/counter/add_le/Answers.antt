@@ -4,4 +4,5 @@ use Rattle.aes.proofs.counter.add_le.Goals as goal
 
 pub returns : goal.returns
 returns c =
-    c.write_u32.ensures ∙ up_le_written c.args.first.now c.read_u32-number.result c.args.steps c.told-first c.read_u32-number.ensures
+    c.write_u32.ensures ∙ up_le_written c.args.first.now c.read_u32-number.result c.args.steps c.told-first
+    c.read_u32-number.ensures

@@ -11,5 +11,6 @@ returns t =
     t.inverse_sum.ensures (row 0) (row 1) (row 2) (row 3)
     (rw (column_row w 0 bytes e) (column_small w 0)) (rw (column_row w 1 bytes e) (column_small w 1))
     (rw (column_row w 2 bytes e) (column_small w 2)) (rw (column_row w 3 bytes e) (column_small w 3))
-    (sym t.substitute.ensures) (sym t.substitute-2.ensures) (sym t.substitute-3.ensures) (sym t.substitute-4.ensures)
+    (sym t.substitute.ensures) (sym t.substitute-2.ensures) (sym t.substitute-3.ensures)
+    (sym t.substitute-4.ensures)
     ∙ column_rows w bytes e

@@ -8,6 +8,7 @@ pub returns : goal.returns
 returns c =
     let t = c.args.state in
     let long : length t ≡ 4 = search rules in
-    unsubbed_state (get_or t 0 0) (get_or t 1 0) (get_or t 2 0) (get_or t 3 0) c.unsub_column.result c.unsub_column-2.result c.unsub_column-3.result c.unsub_column-4.result
+    unsubbed_state (get_or t 0 0) (get_or t 1 0) (get_or t 2 0) (get_or t 3 0) c.unsub_column.result
+    c.unsub_column-2.result c.unsub_column-3.result c.unsub_column-4.result
     c.unsub_column.ensures c.unsub_column-2.ensures c.unsub_column-3.ensures c.unsub_column-4.ensures
     ∙ ap state_of (quad t long)

@@ -6,4 +6,5 @@ use Rattle.aes.proofs.lanes.first_sixteen.Goals as goal
 pub returns : goal.returns
 returns c = λ i l.
     let x = c.args.x in
-    get_or-map-range_with_len (λ j. get_or (x ++ x) j 0) 0 16 i i 0 l (omega arith) ∙ get_or_append_left x x 0 i (omega (arith, c.fits-x.0))
+    get_or-map-range_with_len (λ j. get_or (x ++ x) j 0) 0 16 i i 0 l (omega arith)
+    ∙ get_or_append_left x x 0 i (omega (arith, c.fits-x.0))

@@ -11,4 +11,5 @@ returns c =
     let long : length k ≡ 4 = search rules in
     subst (λ (ws : List ℕ). HasLanes c.four_times.result (key_byte (columns_of ws))) (quad k long)
     (key_lanes c.four_times.result (get_or k 0 0 ∷ get_or k 1 0 ∷ get_or k 2 0 ∷ get_or k 3 0 ∷ []) refl
-    (c.element_fits.fits, (c.element_fits2.fits, (c.element_fits3.fits, (c.element_fits4.fits, tt)))) c.four_times.ensures)
+    (c.element_fits.fits, (c.element_fits2.fits, (c.element_fits3.fits, (c.element_fits4.fits, tt))))
+    c.four_times.ensures)

@@ -1,7 +1,8 @@
 use Rattle.std.proofs.Common.{◌≡◌, ℕ, ◌+◌, ◌-◌, ◌*◌, ◌<◌, List, get_or, sym, ap₂, ◌∙◌, arith, rules}
 use Rattle.std.proofs.lemmas.List.{get_or-replicate}
 use Rattle.aes.specs.Schedule.{xor_word, key_words, changed}
-use Rattle.aes.proofs.Words.{word, word_start, word_rest, one_more_word, others_stay, small_words, zero_words, is_table}
+use Rattle.aes.proofs.Words.{word, word_start, word_rest, one_more_word, others_stay, small_words}
+use Rattle.aes.proofs.Words.{zero_words, is_table}
 use Rattle.aes.proofs.schedule.expand_by.Goals as goal
 
 pub start-init : goal.start-init
@@ -37,7 +38,8 @@ rest-preserved c =
       size = search rules;
       made = one_more_word (word key) c.rest.words i c.next_word.result (omega arith) c.rest.invariant.made
           (c.next_word.ensures
-          ∙ ap₂ (λ (v w : List ℕ). xor_word v (changed nk i w)) (c.rest.invariant.made (i - nk) (omega arith)) (c.rest.invariant.made (i - 1) (omega arith))
+          ∙ ap₂ (λ (v w : List ℕ). xor_word v (changed nk i w))
+          (c.rest.invariant.made (i - nk) (omega arith)) (c.rest.invariant.made (i - 1) (omega arith))
           ∙ sym step);
       after = others_stay c.rest.words i c.next_word.result c.rest.invariant.after;
       small = small_words c.rest.words i c.next_word.result c.next_word.type_inv c.rest.invariant.small;

@@ -1,4 +1,5 @@
-use Rattle.std.proofs.Common.{◌≡◌, ℕ, ◌+◌, ◌-◌, ◌*◌, ◌<◌, List, ◌∷◌, [], get_or, ◌∙◌, sym, ap, length, take, drop, length-drop, arith, refl}
+use Rattle.std.proofs.Common.{◌≡◌, ℕ, ◌+◌, ◌-◌, ◌*◌, ◌<◌, List, ◌∷◌, [], get_or, ◌∙◌, sym, ap, length, take}
+use Rattle.std.proofs.Common.{drop, length-drop, arith, refl}
 use Rattle.std.proofs.Common.{lit≤, w32}
 use Rattle.std.proofs.lemmas.List.{take_all}
 use Rattle.octets.specs.Bytes.{le}

@@ -4,13 +4,15 @@ use Rattle.aes.specs.Columns.{column_of}
 use Rattle.aes.proofs.Words.{changed_first, changed_fourth, changed_other}
 use Rattle.aes.proofs.ColumnWords.{column_xor}
 use Rattle.aes.proofs.schedule.next_word.Goals as goal
-use Rattle.aes.proofs.schedule.next_word.Goals.{else-nk-eq8-via-then-nk-eq8+else-i-eq4, else-nk-eq8-via-else-nk-eq8}
+use Rattle.aes.proofs.schedule.next_word.Goals.{else-nk-eq8-via-then-nk-eq8+else-i-eq4}
+use Rattle.aes.proofs.schedule.next_word.Goals.{else-nk-eq8-via-else-nk-eq8}
 
 pub returns-then-i-nk-eq0 : goal.returns-then-i-nk-eq0
 returns-then-i-nk-eq0 c =
     column_xor c.args.back _
     ∙ ap (xor_word (column_of c.args.back))
-    (column_xor c.sub_word.result c.rcon.result ∙ ap₂ xor_word (c.sub_word.ensures ∙ ap sub_word c.rot_word.ensures) c.rcon.ensures
+    (column_xor c.sub_word.result c.rcon.result
+    ∙ ap₂ xor_word (c.sub_word.ensures ∙ ap sub_word c.rot_word.ensures) c.rcon.ensures
     ∙ changed_first c.args.nk c.args.i (column_of c.args.previous) c.if-i-nk-eq0.true)
 
 pub returns-then-i-eq4 : goal.returns-then-i-eq4
@@ -18,7 +20,8 @@ returns-then-i-eq4 c =
     column_xor c.args.back _
     ∙ ap (xor_word (column_of c.args.back))
     (c.sub_word-then-i-eq4.ensures
-    ∙ changed_fourth c.args.nk c.args.i (column_of c.args.previous) c.if-i-nk-eq0.false c.if-nk-eq8.true c.if-i-eq4.true)
+    ∙ changed_fourth c.args.nk c.args.i (column_of c.args.previous) c.if-i-nk-eq0.false c.if-nk-eq8.true
+    c.if-i-eq4.true)
 
 pub returns-else-nk-eq8 : goal.returns-else-nk-eq8
 returns-else-nk-eq8 c =

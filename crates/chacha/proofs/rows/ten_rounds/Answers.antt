@@ -10,8 +10,10 @@ rounds-init c = (refl, refl)
 pub rounds-preserved : goal.rounds-preserved
 unfolding double_rounds
 rounds-preserved c = (
-  rw add-one (c.diagonal_round.ensures ∙ ap diagonal_round (c.column_round.ensures ∙ ap column_round c.rounds.invariant.0)),
-  rw add-one (c.diagonal_round-in-rounds.ensures ∙ ap diagonal_round (c.column_round-in-rounds.ensures ∙ ap column_round c.rounds.invariant.1)),
+  rw add-one (c.diagonal_round.ensures
+      ∙ ap diagonal_round (c.column_round.ensures ∙ ap column_round c.rounds.invariant.0)),
+  rw add-one (c.diagonal_round-in-rounds.ensures
+      ∙ ap diagonal_round (c.column_round-in-rounds.ensures ∙ ap column_round c.rounds.invariant.1)),
 )
 
 pub returns-clause-first : goal.returns-clause-first

@@ -7,4 +7,5 @@ unfolding added
 returns c =
     c.written_row.ensures
     ∙ ap serialized
-    (λ k. c.sum.ensures 0 (omega arith) k ∷ c.sum.ensures 1 (omega arith) k ∷ c.sum.ensures 2 (omega arith) k ∷ c.sum.ensures 3 (omega arith) k ∷ [])
+    (λ k. c.sum.ensures 0 (omega arith) k ∷ c.sum.ensures 1 (omega arith) k ∷ c.sum.ensures 2 (omega arith) k
+    ∷ c.sum.ensures 3 (omega arith) k ∷ [])

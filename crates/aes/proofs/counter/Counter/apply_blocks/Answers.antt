@@ -24,9 +24,11 @@ whole-preserved g c =
     let mid = c.whole.bytes in
     let ys = c.begin.new.bytes in
     let room : a + k ≤ length mid = omega (arith, c.whole-test.true, c.whole.invariant.within) in
-    let part : length (take k (drop a mid)) ≡ k = length-take-le k (drop a mid) (omega (arith, length-drop a mid)) in
+    let part : length (take k (drop a mid)) ≡ k =
+    length-take-le k (drop a mid) (omega (arith, length-drop a mid)) in
     let size : length ys ≡ k = c.begin.auto.bytes ∙ part in
-    let more = advances_more g.C.Count.up c.args.self.now c.whole.self c.begin.new.self c.args.bytes.now mid ys a k (a + 16)
+    let more = advances_more g.C.Count.up c.args.self.now c.whole.self c.begin.new.self c.args.bytes.now mid
+    ys a k (a + 16)
     room (omega arith) size c.whole.invariant.left c.whole.invariant.so_far c.begin.ensures.advances in
     record {
       within = omega (arith, room, length-put_mid a k mid ys room size);
@@ -41,19 +43,29 @@ returns-then-done-bytes g c =
     let mid = c.whole.bytes in
     let k : ℕ = length mid - a in
     let ys = c.begin-then-done-bytes.new.bytes in
-    let same : length mid ≡ length c.args.bytes.now = c.whole.auto.bytes ∙ length-begun c.args.bytes.now c.apply_fours.new.bytes (length c.args.bytes.now / 64 * 64)
-    (c.apply_fours.auto.bytes ∙ length-take-le (length c.args.bytes.now / 64 * 64) c.args.bytes.now (omega arith)) (omega arith) in
+    let same : length mid ≡ length c.args.bytes.now =
+    c.whole.auto.bytes ∙ length-begun c.args.bytes.now c.apply_fours.new.bytes
+    (length c.args.bytes.now / 64 * 64)
+    (c.apply_fours.auto.bytes
+    ∙ length-take-le (length c.args.bytes.now / 64 * 64) c.args.bytes.now (omega arith)) (omega arith) in
     let room : a + k ≤ length mid = omega (arith, c.whole.invariant.within) in
-    let part : length (take k (drop a mid)) ≡ k = length-take-le k (drop a mid) (omega (arith, length-drop a mid)) in
+    let part : length (take k (drop a mid)) ≡ k =
+    length-take-le k (drop a mid) (omega (arith, length-drop a mid)) in
     let size : length ys ≡ k = c.begin-then-done-bytes.auto.bytes ∙ part in
-    let more = advances_more g.C.Count.up c.args.self.now c.whole.self c.begin-then-done-bytes.new.self c.args.bytes.now mid ys a k (length mid)
-    room (omega (arith, c.whole.invariant.within)) size c.whole.invariant.left c.whole.invariant.so_far c.begin-then-done-bytes.ensures.advances in
-    advances_all g.C.Count.up c.args.self.now c.begin-then-done-bytes.new.self c.args.bytes.now (put_mid a k mid ys) (length mid) (omega arith)
+    let more = advances_more g.C.Count.up c.args.self.now c.whole.self c.begin-then-done-bytes.new.self
+    c.args.bytes.now mid ys a k (length mid)
+    room (omega (arith, c.whole.invariant.within)) size c.whole.invariant.left c.whole.invariant.so_far
+    c.begin-then-done-bytes.ensures.advances in
+    advances_all g.C.Count.up c.args.self.now c.begin-then-done-bytes.new.self c.args.bytes.now
+    (put_mid a k mid ys) (length mid) (omega arith)
     (omega (arith, length-put_mid a k mid ys room size)) more.0
 
 pub returns-else-done-bytes : goal.returns-else-done-bytes
 returns-else-done-bytes g c =
-    let same : length c.whole.bytes ≡ length c.args.bytes.now = c.whole.auto.bytes ∙ length-begun c.args.bytes.now c.apply_fours.new.bytes (length c.args.bytes.now / 64 * 64)
-    (c.apply_fours.auto.bytes ∙ length-take-le (length c.args.bytes.now / 64 * 64) c.args.bytes.now (omega arith)) (omega arith) in
+    let same : length c.whole.bytes ≡ length c.args.bytes.now =
+    c.whole.auto.bytes ∙ length-begun c.args.bytes.now c.apply_fours.new.bytes
+    (length c.args.bytes.now / 64 * 64)
+    (c.apply_fours.auto.bytes
+    ∙ length-take-le (length c.args.bytes.now / 64 * 64) c.args.bytes.now (omega arith)) (omega arith) in
     advances_all g.C.Count.up c.args.self.now c.whole.self c.args.bytes.now c.whole.bytes c.whole.done
     (omega (arith, c.if-done-bytes.false)) (omega (arith, c.if-done-bytes.false)) c.whole.invariant.so_far

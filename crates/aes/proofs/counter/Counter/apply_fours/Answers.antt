@@ -4,7 +4,15 @@ use Rattle.aes.proofs.StreamSteps.{advances_empty, length-put_mid, advances-nil,
 use Rattle.aes.proofs.counter.Counter.apply_fours.Goals as goal
 
 pub fours-init : goal.fours-init
-fours-init g c = record { within = omega arith; none = c.requires.none; key = refl; whole = refl; left = refl; so_far = advances-nil g.C.Count.up c.args.self.now }
+fours-init g c = record {
+  within = omega arith;
+  none = c.requires.none;
+  key = refl;
+  whole = refl;
+  left =
+      refl;
+  so_far = advances-nil g.C.Count.up c.args.self.now;
+}
 
 pub fours-preserved : goal.fours-preserved
 fours-preserved g c =
@@ -13,9 +21,11 @@ fours-preserved g c =
     let mid = c.fours.bytes in
     let ys = c.begin_four.new.bytes in
     let room : a + k ≤ length mid = omega (arith, c.fours-test.true, c.fours.invariant.within) in
-    let part : length (take k (drop a mid)) ≡ k = length-take-le k (drop a mid) (omega (arith, length-drop a mid)) in
+    let part : length (take k (drop a mid)) ≡ k =
+    length-take-le k (drop a mid) (omega (arith, length-drop a mid)) in
     let size : length ys ≡ k = c.begin_four.auto.bytes ∙ part in
-    let more = advances_more g.C.Count.up c.args.self.now c.fours.self c.begin_four.new.self c.args.bytes.now mid ys a k (a + 64)
+    let more = advances_more g.C.Count.up c.args.self.now c.fours.self c.begin_four.new.self c.args.bytes.now
+    mid ys a k (a + 64)
     room (omega arith) size c.fours.invariant.left c.fours.invariant.so_far c.begin_four.ensures.advances in
     record {
       within = omega (arith, room, length-put_mid a k mid ys room size);
@@ -27,7 +37,8 @@ fours-preserved g c =
     }
 
 pub returns-then-bytes-lt64-clause-advances : goal.returns-then-bytes-lt64-clause-advances
-returns-then-bytes-lt64-clause-advances g c = advances_empty g.C.Count.up c.args.self.now c.args.bytes.now (omega arith)
+returns-then-bytes-lt64-clause-advances g c =
+    advances_empty g.C.Count.up c.args.self.now c.args.bytes.now (omega arith)
 
 pub returns-clause-advances : goal.returns-clause-advances
 returns-clause-advances g c =

@@ -13,8 +13,10 @@ pub loop-done-init : goal.loop-done-init
 loop-done-init c = (
   search rules,
   λ key x b h.
-      last_added key c.args.self.now x c.args.block.now c.round_key.result (state_of c.add_key-state.result) b c.bytes.ensures.is_block.length_is (search rules)
-      c.round_key.ensures (c.add_key-state.ensures ∙ ap (add_round_key (columns_of c.round_key.result) 0) (c.load.ensures ∙ c.bytes.ensures.value)) h,
+      last_added key c.args.self.now x c.args.block.now c.round_key.result (state_of c.add_key-state.result)
+      b c.bytes.ensures.is_block.length_is (search rules)
+      c.round_key.ensures (c.add_key-state.ensures
+      ∙ ap (add_round_key (columns_of c.round_key.result) 0) (c.load.ensures ∙ c.bytes.ensures.value)) h,
 )
 
 pub loop-done-preserved : goal.loop-done-preserved
@@ -25,9 +27,11 @@ loop-done-preserved c = (
       let tb : IsBlock t = state_block c.loop-done.state c.loop-done.invariant.0 in
       let s : List ℕ = unsub (unshift t) in
       let sb : IsBlock s = unsub_block (unshift t) (unshift_block t tb) in
-      let back : shift_rows (sub_bytes s) ≡ t = ap shift_rows (sub_unsub (unshift t) (unshift_block t tb)) ∙ shift_unshift t tb in
+      let back : shift_rows (sub_bytes s) ≡ t =
+      ap shift_rows (sub_unsub (unshift t) (unshift_block t tb)) ∙ shift_unshift t tb in
       c.loop-done.invariant.1 key x b
-      (one_back key c.args.self.now x c.round_key-in-loop-done.result s t (state_of c.inverse_round-next.result) b c.loop-done.done sb.length_is (search rules) (omega arith)
+      (one_back key c.args.self.now x c.round_key-in-loop-done.result s t
+      (state_of c.inverse_round-next.result) b c.loop-done.done sb.length_is (search rules) (omega arith)
       c.round_key-in-loop-done.ensures back (c.inverse_round-next.ensures s sb back) h),
 )
 
@@ -38,8 +42,10 @@ returns-clause-value c = λ key x.
     let last : round_count key - 1 - c.loop-done.done ≡ 0 = omega arith in
     let taken : cipher key first ≡ c.args.block.now =
     c.loop-done.invariant.1 key x first
-    (first_added key c.args.self.now x c.round_key-2.result (state_of c.unsub_rows.result) first (state_of c.loop-done.state) (round_count key - 1 - c.loop-done.done) last
-    (state_long c.unsub_rows.result (search rules)) (search rules) c.round_key-2.ensures c.add_key-first.ensures c.unsub_rows.ensures) in
+    (first_added key c.args.self.now x c.round_key-2.result (state_of c.unsub_rows.result) first
+    (state_of c.loop-done.state) (round_count key - 1 - c.loop-done.done) last
+    (state_long c.unsub_rows.result (search rules)) (search rules) c.round_key-2.ensures
+    c.add_key-first.ensures c.unsub_rows.ensures) in
     let is = c.new.ensures.value ∙ c.store.ensures in
     let block : IsBlock first = rw is at c.new.ensures.is_block in
     rw is (record {

@@ -5,7 +5,10 @@ use Rattle.aes.specs.Columns.{state_of}
 use Rattle.aes.specs.Code.InverseKey.{IsInverse}
 use Rattle.aes.proofs.inverse_key.InverseKey.decrypt.Given as goal
 
--- a block whose state after the rounds that are left comes by SubBytes and ShiftRows to the state at hand is taken to the given one
+-- a block whose state after the rounds that are left comes by SubBytes and ShiftRows to the state at hand
+-- is taken to the given one
 abbrev pub invariant-loop-done : goal.invariant-loop-done
 invariant-loop-done l = (length l.state ≡ 4)
-    × ((key : List ℕ) → IsInverse l.self key → (b : List ℕ) → shift_rows (sub_bytes (rounds (schedule key) (round_count key - 1 - l.done) b)) ≡ state_of l.state → cipher key b ≡ l.block)
+    × ((key : List ℕ) → IsInverse l.self key → (b : List ℕ)
+    → shift_rows (sub_bytes (rounds (schedule key) (round_count key - 1 - l.done) b)) ≡ state_of l.state
+    → cipher key b ≡ l.block)

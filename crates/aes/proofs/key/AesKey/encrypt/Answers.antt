@@ -7,21 +7,26 @@ pub loop-done-init : goal.loop-done-init
 loop-done-init c =
     let key = c.args.self.now in
     let has = has_schedule c.self.inside.words c.self.inside.size key c.self.invariant c.self.view_is in
-    first_state (columns_of c.round_key.result) _ key _ _ _ has c.round_key.ensures (c.load.ensures ∙ c.bytes.ensures.value) c.add_key-state.ensures
+    first_state (columns_of c.round_key.result) _ key _ _ _ has c.round_key.ensures
+    (c.load.ensures ∙ c.bytes.ensures.value) c.add_key-state.ensures
 
 pub loop-done-preserved : goal.loop-done-preserved
 loop-done-preserved c =
     let key = c.args.self.now in
     let has = has_schedule c.self.inside.words c.self.inside.size key c.self.invariant c.self.view_is in
-    let long : length key ≡ 4 * c.self.inside.size = sym (ap length c.self.view_is) ∙ c.self.invariant.length_is in
-    next_state (columns_of c.round_key-in-loop-done.result) _ key c.loop-done.done _ _ _ has (omega arith) c.round_key-in-loop-done.ensures
+    let long : length key ≡ 4 * c.self.inside.size =
+    sym (ap length c.self.view_is) ∙ c.self.invariant.length_is in
+    next_state (columns_of c.round_key-in-loop-done.result) _ key c.loop-done.done _ _ _ has (omega arith)
+    c.round_key-in-loop-done.ensures
     c.loop-done.invariant c.round-next.ensures
 
 pub returns-clause-value : goal.returns-clause-value
 returns-clause-value c =
     let key = c.args.self.now in
     let has = has_schedule c.self.inside.words c.self.inside.size key c.self.invariant c.self.view_is in
-    let long : length key ≡ 4 * c.self.inside.size = sym (ap length c.self.view_is) ∙ c.self.invariant.length_is in
+    let long : length key ≡ 4 * c.self.inside.size =
+    sym (ap length c.self.view_is) ∙ c.self.invariant.length_is in
     c.new.ensures.value ∙ c.store.ensures
-    ∙ last_state (columns_of c.round_key-2.result) _ key c.loop-done.done (c.self.inside.size + 6) _ _ _ has (omega arith) (omega arith)
+    ∙ last_state (columns_of c.round_key-2.result) _ key c.loop-done.done (c.self.inside.size + 6) _ _ _ has
+    (omega arith) (omega arith)
     c.round_key-2.ensures c.loop-done.invariant c.last_round.ensures

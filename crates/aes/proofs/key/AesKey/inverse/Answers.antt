@@ -14,13 +14,16 @@ returns c =
     let long : length key ≡ 4 * nk = sym (ap length c.self.view_is) ∙ c.self.invariant.length_is in
     let has = has_schedule ws nk key c.self.invariant c.self.view_is in
     let size : c.new.result.size ≡ nk = c.new.ensures.size in
-    let is : (k : ℕ) → k < 4 * (nk + 7) → column_of (get_or ws k 0) ≡ word key k = λ k l. has_word ws key k c.self.told has (omega arith) in
-    let made : (k : ℕ) → get_or out k 0 ≡ get_or c.unmix_words.result k 0 = λ k. ap (λ l. get_or l k 0) c.new.ensures.words in
+    let is : (k : ℕ) → k < 4 * (nk + 7) → column_of (get_or ws k 0) ≡ word key k =
+    λ k l. has_word ws key k c.self.told has (omega arith) in
+    let made : (k : ℕ) → get_or out k 0 ≡ get_or c.unmix_words.result k 0 =
+    λ k. ap (λ l. get_or l k 0) c.new.ensures.words in
     record {
       is_key = subst IsKey c.self.view_is (is_key ws nk c.self.invariant);
       size_is = omega arith;
       long = ap length c.new.ensures.words ∙ search rules;
       first = λ k l. ap column_of (made k ∙ c.unmix_words.ensures.first k l) ∙ is k (omega arith);
-      middle = λ k g l. ap (λ (x : ℕ). mix_column (column_of x)) (made k) ∙ c.unmix_words.ensures.middle k g (omega arith) ∙ is k (omega arith);
+      middle = λ k g l. ap (λ (x : ℕ). mix_column (column_of x)) (made k)
+          ∙ c.unmix_words.ensures.middle k g (omega arith) ∙ is k (omega arith);
       last = λ k g l. ap column_of (made k ∙ c.unmix_words.ensures.last k (omega arith)) ∙ is k (omega arith);
     }
