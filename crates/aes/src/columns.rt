@@ -7,7 +7,7 @@ ghost use Rattle.aes.specs.Schedule.{xor_word};
 ghost use Rattle.aes.specs.Cipher.{mix_column, sub_bytes, shift_rows, mix_columns, add_round_key};
 ghost use Rattle.aes.specs.Columns.{column_of, columns_of, state_of};
 
-use crate::round_tables::{TABLE, TABLE_ROW1, TABLE_ROW2, TABLE_ROW3};
+use crate::round_tables::TABLES;
 use crate::sbox::substitute;
 
 // What the byte x in row 0 adds to its column after SubBytes and MixColumns.
@@ -15,7 +15,7 @@ use crate::sbox::substitute;
 fn entry(x: u8) -> u32
     ensures { column_of result ≡ times 2 (sbox x) ∷ sbox x ∷ sbox x ∷ times 3 (sbox x) ∷ [] }
 {
-    TABLE[x as usize]
+    TABLES[0][x as usize]
 }
 
 // What it adds in row 1.
@@ -23,7 +23,7 @@ fn entry(x: u8) -> u32
 fn entry_row1(x: u8) -> u32
     ensures { column_of result ≡ times 3 (sbox x) ∷ times 2 (sbox x) ∷ sbox x ∷ sbox x ∷ [] }
 {
-    TABLE_ROW1[x as usize]
+    TABLES[1][x as usize]
 }
 
 // What it adds in row 2.
@@ -31,7 +31,7 @@ fn entry_row1(x: u8) -> u32
 fn entry_row2(x: u8) -> u32
     ensures { column_of result ≡ sbox x ∷ times 3 (sbox x) ∷ times 2 (sbox x) ∷ sbox x ∷ [] }
 {
-    TABLE_ROW2[x as usize]
+    TABLES[2][x as usize]
 }
 
 // What it adds in row 3.
@@ -39,7 +39,7 @@ fn entry_row2(x: u8) -> u32
 fn entry_row3(x: u8) -> u32
     ensures { column_of result ≡ sbox x ∷ sbox x ∷ times 3 (sbox x) ∷ times 2 (sbox x) ∷ [] }
 {
-    TABLE_ROW3[x as usize]
+    TABLES[3][x as usize]
 }
 
 // A column of the next state, by the words that hold its rows 0 to 3 before SubBytes.

@@ -8,7 +8,7 @@ ghost use Rattle.aes.specs.Field.{times, sbox};
 ghost use Rattle.aes.specs.Cipher.{mix_column, sub_bytes, shift_rows, mix_columns, add_round_key};
 ghost use Rattle.aes.specs.Columns.{column_of, columns_of, state_of};
 
-use crate::round_tables::{INVERSE_ROW1, INVERSE_ROW2, INVERSE_ROW3, INVERSE_TABLE};
+use crate::round_tables::INVERSE_TABLES;
 use crate::sbox::{substitute, unsubstitute};
 
 // What the byte y in row 0 adds to the product of its column and the inverse matrix, by x = S(y).
@@ -17,7 +17,7 @@ fn inverse_entry(x: u8) -> u32
     ensures { (y : ℕ) → y < 256 → sbox y ≡ x
         → column_of result ≡ times 14 y ∷ times 9 y ∷ times 13 y ∷ times 11 y ∷ [] }
 {
-    INVERSE_TABLE[x as usize]
+    INVERSE_TABLES[0][x as usize]
 }
 
 // What it adds in row 1.
@@ -26,7 +26,7 @@ fn inverse_entry_row1(x: u8) -> u32
     ensures { (y : ℕ) → y < 256 → sbox y ≡ x
         → column_of result ≡ times 11 y ∷ times 14 y ∷ times 9 y ∷ times 13 y ∷ [] }
 {
-    INVERSE_ROW1[x as usize]
+    INVERSE_TABLES[1][x as usize]
 }
 
 // What it adds in row 2.
@@ -35,7 +35,7 @@ fn inverse_entry_row2(x: u8) -> u32
     ensures { (y : ℕ) → y < 256 → sbox y ≡ x
         → column_of result ≡ times 13 y ∷ times 11 y ∷ times 14 y ∷ times 9 y ∷ [] }
 {
-    INVERSE_ROW2[x as usize]
+    INVERSE_TABLES[2][x as usize]
 }
 
 // What it adds in row 3.
@@ -44,7 +44,7 @@ fn inverse_entry_row3(x: u8) -> u32
     ensures { (y : ℕ) → y < 256 → sbox y ≡ x
         → column_of result ≡ times 9 y ∷ times 13 y ∷ times 11 y ∷ times 14 y ∷ [] }
 {
-    INVERSE_ROW3[x as usize]
+    INVERSE_TABLES[3][x as usize]
 }
 
 // The sum of four entries, each of its row.

@@ -2,7 +2,7 @@
 
 // Entry x is the column 02 S(x), S(x), S(x), 03 S(x): what the byte x in row 0 adds to its column after
 // SubBytes and MixColumns.
-pub(crate) const TABLE: [u32; 256] = [
+const TABLE: [u32; 256] = [
     0xa56363c6, 0x847c7cf8, 0x997777ee, 0x8d7b7bf6, 0x0df2f2ff, 0xbd6b6bd6, 0xb16f6fde, 0x54c5c591,
     0x50303060, 0x03010102, 0xa96767ce, 0x7d2b2b56, 0x19fefee7, 0x62d7d7b5, 0xe6abab4d, 0x9a7676ec,
     0x45caca8f, 0x9d82821f, 0x40c9c989, 0x877d7dfa, 0x15fafaef, 0xeb5959b2, 0xc947478e, 0x0bf0f0fb,
@@ -38,7 +38,7 @@ pub(crate) const TABLE: [u32; 256] = [
 ];
 
 // The same for row 1: each column is moved down by one row, around the end.
-pub(crate) const TABLE_ROW1: [u32; 256] = [
+const TABLE_ROW1: [u32; 256] = [
     0x6363c6a5, 0x7c7cf884, 0x7777ee99, 0x7b7bf68d, 0xf2f2ff0d, 0x6b6bd6bd, 0x6f6fdeb1, 0xc5c59154,
     0x30306050, 0x01010203, 0x6767cea9, 0x2b2b567d, 0xfefee719, 0xd7d7b562, 0xabab4de6, 0x7676ec9a,
     0xcaca8f45, 0x82821f9d, 0xc9c98940, 0x7d7dfa87, 0xfafaef15, 0x5959b2eb, 0x47478ec9, 0xf0f0fb0b,
@@ -74,7 +74,7 @@ pub(crate) const TABLE_ROW1: [u32; 256] = [
 ];
 
 // The same for row 2: each column is moved down by two rows, around the end.
-pub(crate) const TABLE_ROW2: [u32; 256] = [
+const TABLE_ROW2: [u32; 256] = [
     0x63c6a563, 0x7cf8847c, 0x77ee9977, 0x7bf68d7b, 0xf2ff0df2, 0x6bd6bd6b, 0x6fdeb16f, 0xc59154c5,
     0x30605030, 0x01020301, 0x67cea967, 0x2b567d2b, 0xfee719fe, 0xd7b562d7, 0xab4de6ab, 0x76ec9a76,
     0xca8f45ca, 0x821f9d82, 0xc98940c9, 0x7dfa877d, 0xfaef15fa, 0x59b2eb59, 0x478ec947, 0xf0fb0bf0,
@@ -110,7 +110,7 @@ pub(crate) const TABLE_ROW2: [u32; 256] = [
 ];
 
 // The same for row 3: each column is moved down by three rows, around the end.
-pub(crate) const TABLE_ROW3: [u32; 256] = [
+const TABLE_ROW3: [u32; 256] = [
     0xc6a56363, 0xf8847c7c, 0xee997777, 0xf68d7b7b, 0xff0df2f2, 0xd6bd6b6b, 0xdeb16f6f, 0x9154c5c5,
     0x60503030, 0x02030101, 0xcea96767, 0x567d2b2b, 0xe719fefe, 0xb562d7d7, 0x4de6abab, 0xec9a7676,
     0x8f45caca, 0x1f9d8282, 0x8940c9c9, 0xfa877d7d, 0xef15fafa, 0xb2eb5959, 0x8ec94747, 0xfb0bf0f0,
@@ -145,9 +145,12 @@ pub(crate) const TABLE_ROW3: [u32; 256] = [
     0x82c34141, 0x29b09999, 0x5a772d2d, 0x1e110f0f, 0x7bcbb0b0, 0xa8fc5454, 0x6dd6bbbb, 0x2c3a1616,
 ];
 
+// The four of them, one after the other: one address reaches each entry.
+pub(crate) const TABLES: [[u32; 256]; 4] = [TABLE, TABLE_ROW1, TABLE_ROW2, TABLE_ROW3];
+
 // Entry S(y) is the column 0e y, 09 y, 0d y, 0b y: what the byte y in row 0 adds to the product of its
 // column and the inverse matrix.
-pub(crate) const INVERSE_TABLE: [u32; 256] = [
+const INVERSE_TABLE: [u32; 256] = [
     0x50a7f451, 0x5365417e, 0xc3a4171a, 0x965e273a, 0xcb6bab3b, 0xf1459d1f, 0xab58faac, 0x9303e34b,
     0x55fa3020, 0xf66d76ad, 0x9176cc88, 0x254c02f5, 0xfcd7e54f, 0xd7cb2ac5, 0x80443526, 0x8fa362b5,
     0x495ab1de, 0x671bba25, 0x980eea45, 0xe1c0fe5d, 0x02752fc3, 0x12f04c81, 0xa397468d, 0xc6f9d36b,
@@ -183,7 +186,7 @@ pub(crate) const INVERSE_TABLE: [u32; 256] = [
 ];
 
 // The same for row 1: each column is moved down by one row, around the end.
-pub(crate) const INVERSE_ROW1: [u32; 256] = [
+const INVERSE_ROW1: [u32; 256] = [
     0xa7f45150, 0x65417e53, 0xa4171ac3, 0x5e273a96, 0x6bab3bcb, 0x459d1ff1, 0x58faacab, 0x03e34b93,
     0xfa302055, 0x6d76adf6, 0x76cc8891, 0x4c02f525, 0xd7e54ffc, 0xcb2ac5d7, 0x44352680, 0xa362b58f,
     0x5ab1de49, 0x1bba2567, 0x0eea4598, 0xc0fe5de1, 0x752fc302, 0xf04c8112, 0x97468da3, 0xf9d36bc6,
@@ -219,7 +222,7 @@ pub(crate) const INVERSE_ROW1: [u32; 256] = [
 ];
 
 // The same for row 2: each column is moved down by two rows, around the end.
-pub(crate) const INVERSE_ROW2: [u32; 256] = [
+const INVERSE_ROW2: [u32; 256] = [
     0xf45150a7, 0x417e5365, 0x171ac3a4, 0x273a965e, 0xab3bcb6b, 0x9d1ff145, 0xfaacab58, 0xe34b9303,
     0x302055fa, 0x76adf66d, 0xcc889176, 0x02f5254c, 0xe54ffcd7, 0x2ac5d7cb, 0x35268044, 0x62b58fa3,
     0xb1de495a, 0xba25671b, 0xea45980e, 0xfe5de1c0, 0x2fc30275, 0x4c8112f0, 0x468da397, 0xd36bc6f9,
@@ -255,7 +258,7 @@ pub(crate) const INVERSE_ROW2: [u32; 256] = [
 ];
 
 // The same for row 3: each column is moved down by three rows, around the end.
-pub(crate) const INVERSE_ROW3: [u32; 256] = [
+const INVERSE_ROW3: [u32; 256] = [
     0x5150a7f4, 0x7e536541, 0x1ac3a417, 0x3a965e27, 0x3bcb6bab, 0x1ff1459d, 0xacab58fa, 0x4b9303e3,
     0x2055fa30, 0xadf66d76, 0x889176cc, 0xf5254c02, 0x4ffcd7e5, 0xc5d7cb2a, 0x26804435, 0xb58fa362,
     0xde495ab1, 0x25671bba, 0x45980eea, 0x5de1c0fe, 0xc302752f, 0x8112f04c, 0x8da39746, 0x6bc6f9d3,
@@ -288,4 +291,12 @@ pub(crate) const INVERSE_ROW3: [u32; 256] = [
     0x9c59dfd2, 0x553f73f2, 0x1879ce14, 0x73bf37c7, 0x53eacdf7, 0x5f5baafd, 0xdf146f3d, 0x7886db44,
     0xca81f3af, 0xb93ec468, 0x382c3424, 0xc25f40a3, 0x1672c31d, 0xbc0c25e2, 0x288b493c, 0xff41950d,
     0x397101a8, 0x08deb30c, 0xd89ce4b4, 0x6490c156, 0x7b6184cb, 0xd570b632, 0x48745c6c, 0xd04257b8,
+];
+
+// The four of the inverse, one after the other.
+pub(crate) const INVERSE_TABLES: [[u32; 256]; 4] = [
+    INVERSE_TABLE,
+    INVERSE_ROW1,
+    INVERSE_ROW2,
+    INVERSE_ROW3,
 ];
