@@ -1,31 +1,6 @@
 -- What the file commands make of the engines' answers.
-use Rattle.std.proofs.Common.{
-  ◌≡◌,
-  ℕ,
-  ◌⊎◌,
-  inl,
-  inr,
-  List,
-  [],
-  ◌++◌,
-  ◌==◌,
-  Option,
-  Some,
-  None,
-  Ok,
-  Err,
-  IfSome,
-  refl,
-  subst,
-  sym,
-  ◌∙◌,
-  ap,
-  arith,
-  take,
-  drop,
-  length,
-  if◌then◌else◌,
-}
+use Rattle.std.proofs.Common.{◌≡◌, ℕ, ◌⊎◌, inl, inr, List, [], ◌++◌, ◌==◌, Option, Some, None, Ok, Err}
+use Rattle.std.proofs.Common.{IfSome, refl, subst, sym, ◌∙◌, ap, arith, take, drop, length, if◌then◌else◌}
 use Rattle.std.proofs.lemmas.List.{append-nil, drop_all}
 use Rattle.std.proofs.Math.Seq.{take-append_seam}
 use Rattle.std.specs.Io.KnownBytes.{Keeps, append_known, prepend_known}
@@ -40,26 +15,9 @@ use Rattle.aeadkit.specs.declared.failure.Failure.{Failure}
 use Rattle.aeadkit.specs.declared.failure.Failure.TheVariants.{Fault as OfFault}
 use Rattle.aeadkit.specs.declared.words.Inputs.{Inputs}
 use Rattle.aeadkit.specs.Aead.{IsReady}
-use Rattle.aeadkit.specs.Files.{
-  Answer,
-  Giving,
-  SealsOnce,
-  SealsTwice,
-  OpensThrice,
-  Sealing,
-  Opening,
-  Took,
-  HoldsAll,
-  HoldsStart,
-  HoldsNothing,
-  IsCalled,
-  CallFailed,
-  NoCall,
-  EngineRan,
-  Ran,
-  FileDone,
-  FileStopped,
-}
+use Rattle.aeadkit.specs.Files.{Answer, Giving, SealsOnce, SealsTwice, OpensThrice, Sealing, Opening, Took}
+use Rattle.aeadkit.specs.Files.{HoldsAll, HoldsStart, HoldsNothing, IsCalled, CallFailed, NoCall, EngineRan}
+use Rattle.aeadkit.specs.Files.{Ran, FileDone, FileStopped}
 
 -- a reader that was just made has left what its file has
 pub just_opened : (contents rest left : Option (List ℕ)) (capacity : ℕ) (ahead : List ℕ)

@@ -1,25 +1,6 @@
 -- Bytes that are pending before they are written.
-use Rattle.std.proofs.Common.{
-  ◌≡◌,
-  ℕ,
-  List,
-  [],
-  ◌++◌,
-  ◌+◌,
-  ◌-◌,
-  ◌≤◌,
-  length,
-  take,
-  drop,
-  ap,
-  ◌∙◌,
-  sym,
-  append_assoc,
-  Option,
-  Some,
-  None,
-  subst,
-}
+use Rattle.std.proofs.Common.{◌≡◌, ℕ, List, [], ◌++◌, ◌+◌, ◌-◌, ◌≤◌, length, take, drop, ap, ◌∙◌, sym}
+use Rattle.std.proofs.Common.{append_assoc, Option, Some, None, subst}
 use Rattle.std.proofs.lemmas.List.{drop_all, drop-append-le, take_rest, take-append-drop}
 use Rattle.std.proofs.Math.Seq.{drop-drop}
 use Rattle.std.specs.Io.KnownBytes.{Appends, Keeps, append_known}

@@ -7,15 +7,8 @@ use Rattle.octets.specs.declared.fault.Fault.TheVariants.{OutOfMemory, Write}
 use Rattle.aeadkit.specs.declared.failure.Failure.{Failure}
 use Rattle.aeadkit.specs.declared.failure.Failure.TheVariants.{Words as OfWords, Fault as OfFault}
 use Rattle.aeadkit.specs.declared.words.Request.{Request}
-use Rattle.aeadkit.specs.declared.words.Request.TheVariants.{
-  Wrap,
-  Unwrap,
-  Seal,
-  Open,
-  SealFile,
-  OpenFile,
-  Check,
-}
+use Rattle.aeadkit.specs.declared.words.Request.TheVariants.{Wrap, Unwrap, Seal, Open, SealFile, OpenFile}
+use Rattle.aeadkit.specs.declared.words.Request.TheVariants.{Check}
 use Rattle.aeadkit.specs.declared.words.Refusal.{Refusal}
 use Rattle.aeadkit.specs.declared.words.Refusal.TheVariants.{Help, Words, OutOfMemory as NoMemory}
 use Rattle.aead.specs.Refusals.{WholeSealRefused, WholeOpenRefused}

@@ -3,13 +3,8 @@ use Rattle.std.specs.Prelude.{ℕ, List, codes}
 use Rattle.octets.specs.Names.{fault_name}
 use Rattle.vectors.specs.Names.{fault_text}
 use Rattle.aeadkit.specs.declared.failure.Failure.{Failure}
-use Rattle.aeadkit.specs.declared.failure.Failure.TheVariants.{
-  Words,
-  UnknownSuite,
-  BadHex,
-  Fault as OfFault,
-  Vector as OfVector,
-}
+use Rattle.aeadkit.specs.declared.failure.Failure.TheVariants.{Words, UnknownSuite, BadHex, Fault as OfFault}
+use Rattle.aeadkit.specs.declared.failure.Failure.TheVariants.{Vector as OfVector}
 
 -- the bytes of a failure's text
 abbrev pub failure_text : Failure → List ℕ

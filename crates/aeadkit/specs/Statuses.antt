@@ -5,13 +5,8 @@ use Rattle.octets.specs.declared.fault.Fault.TheVariants as fault
 use Rattle.vectors.specs.declared.fault.VectorFault.{VectorFault}
 use Rattle.vectors.specs.declared.fault.VectorFault.TheVariants as vector
 use Rattle.aeadkit.specs.declared.failure.Failure.{Failure}
-use Rattle.aeadkit.specs.declared.failure.Failure.TheVariants.{
-  Words,
-  UnknownSuite,
-  BadHex,
-  Fault as OfFault,
-  Vector as OfVector,
-}
+use Rattle.aeadkit.specs.declared.failure.Failure.TheVariants.{Words, UnknownSuite, BadHex, Fault as OfFault}
+use Rattle.aeadkit.specs.declared.failure.Failure.TheVariants.{Vector as OfVector}
 
 -- 1: the bytes are no sealing or wrapping; 2: an input is of no use; 3: a reading or a writing failed;
 -- 4: want of memory

@@ -123,8 +123,8 @@ fn calls_that_fail_after_single_bytes(rt: HostRuntime) {
     each_call_of(&rt, &GCM_SIV, 1, (Wrong::Fails, true));
 }
 
-/// Runs `open-file` over three readings of a file, and compares the status and standard error. Answers the
-/// written file, if it was made.
+/// Runs `open-file` over three readings of a file, and compares the status, standard error, and whether the
+/// file was made.
 fn opens<'b>(
     rt: &(impl Abort + Alloc<A = Global>),
     readings: (&'b [u8], &'b [u8], &'b [u8]),

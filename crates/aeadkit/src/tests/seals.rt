@@ -79,54 +79,66 @@ fn wrong_bytes(rt: HostRuntime) {
     }
 }
 
+/// A suite, a key, a nonce, associated data and a body, and the fault that they have.
+type Row = (
+    &'static str,
+    &'static str,
+    &'static str,
+    &'static str,
+    &'static str,
+    &'static str,
+);
+
+const REFUSED: [Row; 12] = [
+    ("des", "0", "07", "0", "0", "aeadkit: UnknownSuite\n"),
+    ("AES-128-GCM", "", "", "", "", "aeadkit: UnknownSuite\n"),
+    ("", "0", "07", "", "", "aeadkit: UnknownSuite\n"),
+    ("aes-128-gcm", "0", "00", "", "", "aeadkit: BadHex\n"),
+    ("aes-128-gcm", "00", "0", "", "", "aeadkit: BadHex\n"),
+    ("aes-128-gcm", "00", "00", "0", "", "aeadkit: BadHex\n"),
+    ("aes-128-gcm", "00", "00", "", "zz", "aeadkit: BadHex\n"),
+    ("aes-128-gcm", "00", "00", "", "", "aeadkit: KeyLength\n"),
+    ("aes-256-gcm", ZERO16, "00", "", "", "aeadkit: KeyLength\n"),
+    (
+        "aes-256-gcm-siv",
+        ZERO24,
+        "00",
+        "",
+        "",
+        "aeadkit: KeyLength\n",
+    ),
+    (
+        "aes-128-gcm",
+        ZERO16,
+        "00",
+        "",
+        "",
+        "aeadkit: NonceLength\n",
+    ),
+    ("aes-128-gcm", ZERO16, "", "", "", "aeadkit: NonceLength\n"),
+];
+
+/// Inputs are refused by sealing and by opening.
+fn are_refused(rt: &(impl Abort + Alloc<A = Global>), row: &Row) {
+    let (suite, key, nonce, aad, body, line) = *row;
+    let words = [
+        "seal", "--suite", suite, "--key", key, "--nonce", nonce, "--aad", aad, "--text", body,
+    ];
+    refuses(rt, &words, 2, line);
+    let words = [
+        "open", "--suite", suite, "--key", key, "--nonce", nonce, "--aad", aad, "--sealed", body,
+    ];
+    refuses(rt, &words, 2, line);
+}
+
 /// The suite's name comes first, then the hex of key, nonce, associated data and body, then the key's
 /// length, then the nonce's.
 #[test]
 fn refusals_in_order(rt: HostRuntime) {
-    for (suite, key, nonce, aad, body, name) in [
-        ("des", "0", "07", "0", "0", "aeadkit: UnknownSuite\n"),
-        ("AES-128-GCM", "", "", "", "", "aeadkit: UnknownSuite\n"),
-        ("", "0", "07", "", "", "aeadkit: UnknownSuite\n"),
-        ("aes-128-gcm", "0", "00", "", "", "aeadkit: BadHex\n"),
-        ("aes-128-gcm", "00", "0", "", "", "aeadkit: BadHex\n"),
-        ("aes-128-gcm", "00", "00", "0", "", "aeadkit: BadHex\n"),
-        ("aes-128-gcm", "00", "00", "", "zz", "aeadkit: BadHex\n"),
-        ("aes-128-gcm", "00", "00", "", "", "aeadkit: KeyLength\n"),
-        ("aes-256-gcm", ZERO16, "00", "", "", "aeadkit: KeyLength\n"),
-        (
-            "aes-256-gcm-siv",
-            ZERO24,
-            "00",
-            "",
-            "",
-            "aeadkit: KeyLength\n",
-        ),
-        (
-            "aes-128-gcm",
-            ZERO16,
-            "00",
-            "",
-            "",
-            "aeadkit: NonceLength\n",
-        ),
-        ("aes-128-gcm", ZERO16, "", "", "", "aeadkit: NonceLength\n"),
-        (
-            "chacha20-poly1305",
-            CHACHA.key,
-            "07",
-            CHACHA.aad,
-            CHACHA.text,
-            "aeadkit: NonceLength\n",
-        ),
-    ] {
-        let words = [
-            "seal", "--suite", suite, "--key", key, "--nonce", nonce, "--aad", aad, "--text", body,
-        ];
-        refuses(&rt, &words, 2, name);
-        let words = [
-            "open", "--suite", suite, "--key", key, "--nonce", nonce, "--aad", aad, "--sealed",
-            body,
-        ];
-        refuses(&rt, &words, 2, name);
+    for row in &REFUSED {
+        are_refused(&rt, row);
     }
+    let Vector { key, aad, text, .. } = CHACHA;
+    let line = "aeadkit: NonceLength\n";
+    are_refused(&rt, &("chacha20-poly1305", key, "07", aad, text, line));
 }
