@@ -4,9 +4,9 @@ use Rattle.gf128.specs.States.{key_of}
 use Rattle.aead.specs.declared.any_masking.AnyMasking.{AnyMasking}
 use Rattle.aead.specs.declared.any_masking.AnyMasking.TheVariants.{ByChaCha, ByGcm, ByGcmSiv}
 use Rattle.aead.specs.Suites.{text_limit, aad_limit}
-use Rattle.aead.specs.States.{MadeByChaCha, MadeByGcm, MadeByGcmSiv, HeldByPoly, HeldByGhash, HeldByPolyval}
-use Rattle.aead.specs.Maskings.{Task}
-use Rattle.aead.specs.AnyMaskings.{HoldsAnyMasking, count_of, limit_of}
+use Rattle.aead.specs.Code.States.{MadeByChaCha, MadeByGcm, MadeByGcmSiv, HeldByPoly, HeldByGhash, HeldByPolyval}
+use Rattle.aead.specs.Code.Maskings.{Task}
+use Rattle.aead.specs.Code.AnyMaskings.{HoldsAnyMasking, count_of, limit_of}
 use Rattle.aead.proofs.Maskings.{length_fed}
 
 -- how long they are

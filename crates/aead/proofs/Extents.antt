@@ -6,10 +6,10 @@ use Rattle.octets.specs.Masked.{masked}
 use Rattle.octets.proofs.Devices.{consumes_more}
 use Rattle.octets.proofs.Masks.{take-masked}
 use Rattle.aead.specs.declared.any_masking.AnyMasking.{AnyMasking}
-use Rattle.aead.specs.Maskings.{Task, task_mask}
-use Rattle.aead.specs.AnyMaskings.{HoldsAnyMasking}
-use Rattle.aead.specs.Passes.{WentFar, Stopped}
-use Rattle.aead.specs.Extents.{IsExtent, WentAll, More}
+use Rattle.aead.specs.Code.Maskings.{Task, task_mask}
+use Rattle.aead.specs.Code.AnyMaskings.{HoldsAnyMasking}
+use Rattle.aead.specs.Code.Passes.{WentFar, Stopped}
+use Rattle.aead.specs.Code.Extents.{IsExtent, WentAll, More}
 use Rattle.aead.proofs.Findings.{front_of}
 
 -- the reading ended before the length

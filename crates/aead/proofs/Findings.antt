@@ -13,11 +13,11 @@ use Rattle.aead.specs.declared.engine.passes.Finding.{Finding}
 use Rattle.aead.specs.declared.engine.passes.Finding.TheVariants.{Differs, Unsealed, Sealed}
 use Rattle.aead.specs.Suites.{construction_of, is_one_pass}
 use Rattle.aead.specs.Sealing.{Setting, Fits, Opened, IsNoSealing, mask_of, tag_of, tag_over}
-use Rattle.aead.specs.States.{authenticated}
-use Rattle.aead.specs.AnyMaskings.{HoldsAnyMasking}
-use Rattle.aead.specs.Maskings.{opening_task}
-use Rattle.aead.specs.Passes.{WentFar, Stopped}
-use Rattle.aead.specs.Findings.{IsFinding, WentWhole, Tail}
+use Rattle.aead.specs.Code.States.{authenticated}
+use Rattle.aead.specs.Code.AnyMaskings.{HoldsAnyMasking}
+use Rattle.aead.specs.Code.Maskings.{opening_task}
+use Rattle.aead.specs.Code.Passes.{WentFar, Stopped}
+use Rattle.aead.specs.Code.Findings.{IsFinding, WentWhole, Tail}
 use Rattle.aead.proofs.AnyMaskings.{fed_within}
 use Rattle.aead.proofs.Opens.{unmasked, no_sealing, opened_as, body_tag, two_pass_tag}
 

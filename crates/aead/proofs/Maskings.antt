@@ -6,8 +6,8 @@ use Rattle.aead.specs.declared.authenticator.Authenticator.{Authenticator}
 use Rattle.aead.specs.declared.masking.Masking.{Masking}
 use Rattle.aead.specs.Suites.{text_limit}
 use Rattle.aead.specs.Sealing.{Setting, mask_of}
-use Rattle.aead.specs.States.{HoldsAuthenticator, authenticated}
-use Rattle.aead.specs.Maskings.{Task, task_mask, HoldsMasking}
+use Rattle.aead.specs.Code.States.{HoldsAuthenticator, authenticated}
+use Rattle.aead.specs.Code.Maskings.{Task, task_mask, HoldsMasking}
 
 -- what is authenticated is as long as the pieces
 pub length-authenticated : (over_input : Bool) (s : Setting) (tag fed : List ℕ) → length (authenticated over_input s tag fed) ≡ length fed

@@ -7,9 +7,9 @@ use Rattle.octets.specs.Masked.{masked}
 use Rattle.octets.proofs.Devices.{consumes_none, consumes_more, appends_none, appends_more}
 use Rattle.octets.proofs.Masks.{length-masked, masked-append}
 use Rattle.aead.specs.declared.any_masking.AnyMasking.{AnyMasking}
-use Rattle.aead.specs.Maskings.{Task, task_mask}
-use Rattle.aead.specs.AnyMaskings.{HoldsAnyMasking}
-use Rattle.aead.specs.Passes.{Went, WentFar, Stopped}
+use Rattle.aead.specs.Code.Maskings.{Task, task_mask}
+use Rattle.aead.specs.Code.AnyMaskings.{HoldsAnyMasking}
+use Rattle.aead.specs.Code.Passes.{Went, WentFar, Stopped}
 
 -- what holds of the places of two lists holds of both joined
 small-append : (x y : List ℕ) → ((i : ℕ) → get_or x i 0 < 256) → ((i : ℕ) → get_or y i 0 < 256) → (i : ℕ) → get_or (x ++ y) i 0 < 256

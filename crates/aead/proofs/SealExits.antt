@@ -15,11 +15,11 @@ use Rattle.aead.specs.declared.any_masking.AnyMasking.{AnyMasking}
 use Rattle.aead.specs.declared.sealer.Sealer.{Sealer}
 use Rattle.aead.specs.Suites.{construction_of, is_one_pass, text_limit, aad_limit}
 use Rattle.aead.specs.Sealing.{Setting, mask_of, tag_of, sealing}
-use Rattle.aead.specs.AnyMaskings.{HoldsAnyMasking}
+use Rattle.aead.specs.Code.AnyMaskings.{HoldsAnyMasking}
 use Rattle.aead.specs.Pieces.{HoldsSealer}
-use Rattle.aead.specs.Maskings.{sealing_task}
-use Rattle.aead.specs.Passes.{Stopped}
-use Rattle.aead.specs.Extents.{WentAll}
+use Rattle.aead.specs.Code.Maskings.{sealing_task}
+use Rattle.aead.specs.Code.Passes.{Stopped}
+use Rattle.aead.specs.Code.Extents.{WentAll}
 use Rattle.aead.specs.SealStream.{may_seal, SealVerdict, SealsStream, WhereTextTold}
 use Rattle.aead.proofs.Opens.{same_mask}
 use Rattle.aead.proofs.Extents.{all_told, all_stopped_told}

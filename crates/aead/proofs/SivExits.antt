@@ -15,11 +15,11 @@ use Rattle.aead.specs.declared.siv.SivWriter.{SivWriter}
 use Rattle.aead.specs.Suites.{text_limit, aad_limit}
 use Rattle.aead.specs.Sealing.{Setting, Fits, mask_of, tag_of}
 use Rattle.aead.specs.Refusals.{SealRefused}
-use Rattle.aead.specs.AnyMaskings.{HoldsAnyMasking}
+use Rattle.aead.specs.Code.AnyMaskings.{HoldsAnyMasking}
 use Rattle.aead.specs.Pieces.{HoldsAbsorb, HoldsWriter, Repeats}
-use Rattle.aead.specs.Maskings.{repeating_task}
-use Rattle.aead.specs.Passes.{Stopped}
-use Rattle.aead.specs.Extents.{WentAll}
+use Rattle.aead.specs.Code.Maskings.{repeating_task}
+use Rattle.aead.specs.Code.Passes.{Stopped}
+use Rattle.aead.specs.Code.Extents.{WentAll}
 use Rattle.aead.specs.SealSivStream.{AbsorbedAll, again, WritesAgain, SivVerdict, SivCounts, SealsSivStream, WhereBothTold}
 use Rattle.aead.proofs.Extents.{all_told, all_stopped_told}
 use Rattle.aead.proofs.SealExits.{told}

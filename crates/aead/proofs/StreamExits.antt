@@ -15,8 +15,8 @@ use Rattle.aead.specs.Suites.{text_limit, aad_limit}
 use Rattle.aead.specs.Sealing.{Setting, Opened, IsSealing, mask_of}
 use Rattle.aead.specs.Refusals.{FitsSealed}
 use Rattle.aead.specs.Measure.{last_16}
-use Rattle.aead.specs.Findings.{IsFinding}
-use Rattle.aead.specs.Told.{MeasureTold, VerifyTold, WriteTold, verify_answer, write_answer}
+use Rattle.aead.specs.Code.Findings.{IsFinding}
+use Rattle.aead.specs.Code.Told.{MeasureTold, VerifyTold, WriteTold, verify_answer, write_answer}
 use Rattle.aead.specs.Verdict.{Agrees, OnlyWriteDiffers, Verdict, shown, FailureCounts, OpensStream, WhereTold}
 
 -- ---- agreeing, as it is tested

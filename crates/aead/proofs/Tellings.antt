@@ -5,10 +5,10 @@ use Rattle.octets.specs.declared.fault.Fault.TheVariants.{Read, Write}
 use Rattle.octets.specs.Device.{Failed}
 use Rattle.aead.specs.declared.engine.passes.Finding.{Finding}
 use Rattle.aead.specs.Sealing.{Setting}
-use Rattle.aead.specs.Maskings.{opening_task}
-use Rattle.aead.specs.Passes.{Stopped}
-use Rattle.aead.specs.Findings.{WentWhole}
-use Rattle.aead.specs.Told.{VerifyTold, WriteTold, verify_answer, write_answer}
+use Rattle.aead.specs.Code.Maskings.{opening_task}
+use Rattle.aead.specs.Code.Passes.{Stopped}
+use Rattle.aead.specs.Code.Findings.{WentWhole}
+use Rattle.aead.specs.Code.Told.{VerifyTold, WriteTold, verify_answer, write_answer}
 use Rattle.aead.proofs.Findings.{whole_found, whole_given, stopped_given}
 
 pub verify_told : (s : Setting) (tag : List ℕ) (len : ℕ) (l l' o o' : Option (List ℕ)) (f : Finding) (read read' : ℕ) (r : Result (Unit {0}) Fault) → length tag ≡ 16 → 16 ≤ len →

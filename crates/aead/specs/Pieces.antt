@@ -6,9 +6,9 @@ use Rattle.aead.specs.declared.siv.SivAbsorb.{SivAbsorb}
 use Rattle.aead.specs.declared.siv.SivWriter.{SivWriter}
 use Rattle.aead.specs.Suites.{ByGcmSiv, construction_of, is_one_pass, text_limit}
 use Rattle.aead.specs.Sealing.{Setting, encryption_key, tag_of}
-use Rattle.aead.specs.States.{HeldByPolyval, HoldsAuthenticator}
-use Rattle.aead.specs.Maskings.{sealing_task, repeating_task}
-use Rattle.aead.specs.AnyMaskings.{HoldsAnyMasking}
+use Rattle.aead.specs.Code.States.{HeldByPolyval, HoldsAuthenticator}
+use Rattle.aead.specs.Code.Maskings.{sealing_task, repeating_task}
+use Rattle.aead.specs.Code.AnyMaskings.{HoldsAnyMasking}
 
 -- a sealer was fed this text: its mask looks at no tag
 pub record HoldsSealer (sealer : Sealer) (s : Setting) (text : List ℕ) : Type 0 where

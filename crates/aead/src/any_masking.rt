@@ -3,9 +3,9 @@
 ghost use Rattle.std.specs.Prelude.{◌≡◌, ◌+◌, ◌≤◌, ◌++◌, ℕ, List, [], length};
 ghost use Rattle.octets.specs.Masked.{masked};
 ghost use Rattle.aead.specs.Sealing.{tag_over};
-ghost use Rattle.aead.specs.States.{authenticated};
-ghost use Rattle.aead.specs.Maskings.{Task, task_mask};
-ghost use Rattle.aead.specs.AnyMaskings.{HoldsAnyMasking, count_of, limit_of};
+ghost use Rattle.aead.specs.Code.States.{authenticated};
+ghost use Rattle.aead.specs.Code.Maskings.{Task, task_mask};
+ghost use Rattle.aead.specs.Code.AnyMaskings.{HoldsAnyMasking, count_of, limit_of};
 
 use crate::hashes::{GhashTag, PolyvalTag};
 use crate::masking::Masking;

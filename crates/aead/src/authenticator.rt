@@ -3,7 +3,7 @@
 ghost use Rattle.std.specs.Prelude.{◌≡◌, ◌+◌, ◌<◌, ◌≤◌, ◌^◌, ◌++◌, ℕ, List, [], length};
 ghost use Rattle.aead.specs.Suites.{text_limit, aad_limit};
 ghost use Rattle.aead.specs.Sealing.{Setting, tag_over};
-ghost use Rattle.aead.specs.States.{HoldsAuthenticator};
+ghost use Rattle.aead.specs.Code.States.{HoldsAuthenticator};
 
 use crate::hashes::TagHash;
 use octets::Tag;

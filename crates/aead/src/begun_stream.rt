@@ -20,7 +20,7 @@ pub(crate) struct BegunStream<'a> {
 }
 
 impl<'a> BegunStream<'a> {
-    ghost use Rattle.aead.specs.Begun.{IsBegun};
+    ghost use Rattle.aead.specs.Code.Begun.{IsBegun};
 
     // No byte is made yet.
     pub(crate) fn new(key: &Key32, nonce: &Nonce, start: &'a [u8]) -> BegunStream<'a>
@@ -39,7 +39,7 @@ impl<'a> BegunStream<'a> {
 }
 
 impl<'a> MaskStream for BegunStream<'a> {
-    ghost use Rattle.aead.specs.Begun.{MadeByBegun};
+    ghost use Rattle.aead.specs.Code.Begun.{MadeByBegun};
 
     ghost made = { MadeByBegun };
 

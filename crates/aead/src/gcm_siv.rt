@@ -8,7 +8,7 @@ ghost use Rattle.aead.specs.Suites.{construction_of, key_length, ByGcmSiv};
 ghost use Rattle.aead.specs.Sealing.{Setting, authentication_key, encryption_key, counter_block, Opened};
 ghost use Rattle.aead.specs.Ciphers.{Keyed, setting};
 ghost use Rattle.aead.specs.Refusals.{SealRefused, OpenRefused};
-ghost use Rattle.aead.specs.States.{MadeByGcmSiv};
+ghost use Rattle.aead.specs.Code.States.{MadeByGcmSiv};
 
 use crate::aead::Aead;
 use crate::derived_keys::DerivedKeys;

@@ -3,7 +3,7 @@
 ghost use Rattle.std.specs.Prelude.{◌≡◌, ◌<◌, ◌*◌, ◌^◌, ◌++◌, ℕ, List, length};
 ghost use Rattle.octets.specs.Bytes.{pad16};
 ghost use Rattle.aead.specs.Sealing.{Setting, Fits, tag_block, tag_over};
-ghost use Rattle.aead.specs.States.{HeldByPoly, HeldByGhash, HeldByPolyval};
+ghost use Rattle.aead.specs.Code.States.{HeldByPoly, HeldByGhash, HeldByPolyval};
 
 use crate::derived_keys::joined;
 use aes::AesKey;

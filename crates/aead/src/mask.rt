@@ -4,7 +4,7 @@ ghost use Rattle.std.specs.Prelude.{◌≡◌, ◌+◌, ◌≤◌, ℕ, List, le
 ghost use Rattle.octets.specs.Masked.{masked};
 ghost use Rattle.aead.specs.Suites.{text_limit};
 ghost use Rattle.aead.specs.Sealing.{Setting, mask_of};
-ghost use Rattle.aead.specs.States.{MadeByChaCha, MadeByGcm, MadeByGcmSiv};
+ghost use Rattle.aead.specs.Code.States.{MadeByChaCha, MadeByGcm, MadeByGcmSiv};
 
 use aes::{CtrBe, CtrLe};
 use chacha::ChaStream;

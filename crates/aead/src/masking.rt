@@ -24,8 +24,8 @@ pub(crate) struct Masking<S, H> {
 }
 
 impl<S: MaskStream, H: TagHash> Masking<S, H> {
-    ghost use Rattle.aead.specs.States.{HoldsAuthenticator, authenticated};
-    ghost use Rattle.aead.specs.Maskings.{Task, HoldsMasking, task_mask};
+    ghost use Rattle.aead.specs.Code.States.{HoldsAuthenticator, authenticated};
+    ghost use Rattle.aead.specs.Code.Maskings.{Task, HoldsMasking, task_mask};
 
     // No piece yet.
     #[inline(always)]

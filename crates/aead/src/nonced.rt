@@ -5,8 +5,8 @@ ghost use Rattle.aead.specs.Suites.{construction_of, is_one_pass, text_limit, aa
 ghost use Rattle.aead.specs.Sealing.{Opened};
 ghost use Rattle.aead.specs.Ciphers.{Keyed, setting};
 ghost use Rattle.aead.specs.Refusals.{SealRefused, OpenRefused};
-ghost use Rattle.aead.specs.States.{HoldsAuthenticator};
-ghost use Rattle.aead.specs.Maskings.{HoldsMasking};
+ghost use Rattle.aead.specs.Code.States.{HoldsAuthenticator};
+ghost use Rattle.aead.specs.Code.Maskings.{HoldsMasking};
 
 use crate::authenticator::Authenticator;
 use crate::hashes::TagHash;

@@ -7,8 +7,8 @@ ghost use Rattle.aead.specs.Sealing.{Setting, mask_of, tag_of};
 ghost use Rattle.aead.specs.Ciphers.{setting};
 ghost use Rattle.aead.specs.AnyCiphers.{one_pass_keyed};
 ghost use Rattle.aead.specs.Refusals.{SealRefused};
-ghost use Rattle.aead.specs.Maskings.{sealing_task};
-ghost use Rattle.aead.specs.AnyMaskings.{HoldsAnyMasking};
+ghost use Rattle.aead.specs.Code.Maskings.{sealing_task};
+ghost use Rattle.aead.specs.Code.AnyMaskings.{HoldsAnyMasking};
 
 use crate::aead::Aead;
 use crate::any::AnyOnePass;

@@ -6,7 +6,7 @@ ghost use Rattle.aead.specs.Ciphers.{setting};
 ghost use Rattle.aead.specs.AnyCiphers.{keyed_of};
 ghost use Rattle.aead.specs.Verdict.{WhereTold, OpensStream, BlamesRightly};
 ghost use Rattle.aead.specs.SealStream.{GiveBlames};
-ghost use Rattle.aead.specs.Told.{MeasureTold, VerifyTold, WriteTold, StepBlames, verify_answer, write_answer};
+ghost use Rattle.aead.specs.Code.Told.{MeasureTold, VerifyTold, WriteTold, StepBlames, verify_answer, write_answer};
 
 use crate::aead::Aead;
 use crate::any::AnyAead;

@@ -4,8 +4,8 @@ ghost use Rattle.std.specs.Prelude.{◌≤◌, [], length};
 ghost use Rattle.aead.specs.Suites.{aad_limit};
 ghost use Rattle.aead.specs.Ciphers.{setting};
 ghost use Rattle.aead.specs.AnyCiphers.{keyed_of};
-ghost use Rattle.aead.specs.Maskings.{HoldsMasking, opening_task};
-ghost use Rattle.aead.specs.AnyMaskings.{HoldsAnyMasking};
+ghost use Rattle.aead.specs.Code.Maskings.{HoldsMasking, opening_task};
+ghost use Rattle.aead.specs.Code.AnyMaskings.{HoldsAnyMasking};
 
 use crate::any::{AnyAead, AnyOnePass};
 use crate::any_masking::AnyMasking;

@@ -3,9 +3,9 @@
 ghost use Rattle.std.specs.Prelude.{◌≡◌, ℕ, ◌+◌, ◌≤◌, List, [], length, IfOk};
 ghost use Rattle.aead.specs.Suites.{text_limit};
 ghost use Rattle.aead.specs.Sealing.{Setting};
-ghost use Rattle.aead.specs.Maskings.{Task, opening_task};
-ghost use Rattle.aead.specs.AnyMaskings.{HoldsAnyMasking, count_of, limit_of};
-ghost use Rattle.aead.specs.Passes.{Passed, Blames, BlamesReading};
+ghost use Rattle.aead.specs.Code.Maskings.{Task, opening_task};
+ghost use Rattle.aead.specs.Code.AnyMaskings.{HoldsAnyMasking, count_of, limit_of};
+ghost use Rattle.aead.specs.Code.Passes.{Passed, Blames, BlamesReading};
 
 use crate::any_masking::AnyMasking;
 use crate::engine::measure::Measured;
@@ -22,8 +22,8 @@ pub(crate) enum Finding {
     Sealed,
 }
 
-ghost use Rattle.aead.specs.Findings.{PassedWhole, Ends};
-ghost use Rattle.aead.specs.Extents.{PassedAll, HasMore};
+ghost use Rattle.aead.specs.Code.Findings.{PassedWhole, Ends};
+ghost use Rattle.aead.specs.Code.Extents.{PassedAll, HasMore};
 
 // One piece: at most what the buffer holds.
 fn pass_piece<I: Intake, O: Outlet>(

@@ -4,7 +4,7 @@ ghost use Rattle.std.specs.Prelude.{◌≡◌, ◌+◌, ◌≤◌, ℕ, List, []
 ghost use Rattle.aead.specs.Sealing.{Setting, tag_of};
 ghost use Rattle.aead.specs.Ciphers.{setting};
 ghost use Rattle.aead.specs.Pieces.{HoldsAbsorb, HoldsWriter};
-ghost use Rattle.aead.specs.Passes.{BlamesReading};
+ghost use Rattle.aead.specs.Code.Passes.{BlamesReading};
 ghost use Rattle.aead.specs.SealStream.{GiveBlames};
 ghost use Rattle.aead.specs.SealSivStream.{TookPiece, TakenIn, WritesAgain, SealsSivStream, SivBlames, WhereBothTold};
 

@@ -4,7 +4,7 @@ use Rattle.octets.proofs.Masks.{length-masked, masked_twice}
 use Rattle.aead.specs.Suites.{construction_of, is_one_pass, text_limit, aad_limit}
 use Rattle.aead.specs.Sealing.{Setting, mask, tag_of}
 use Rattle.aead.specs.Ciphers.{setting}
-use Rattle.aead.specs.Maskings.{sealing_task}
+use Rattle.aead.specs.Code.Maskings.{sealing_task}
 use Rattle.aead.proofs.Opens.{unmasked, no_sealing, opened_as, body_tag, two_pass_tag}
 use Rattle.aead.proofs.nonced.open_checked.Goals as goal
 

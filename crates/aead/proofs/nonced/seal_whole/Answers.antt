@@ -2,7 +2,7 @@ use Rattle.std.proofs.Common.{◌≡◌, ◌∙◌, ◌≤◌, true, false, [], 
 use Rattle.aead.specs.Suites.{construction_of, is_one_pass, text_limit, aad_limit}
 use Rattle.aead.specs.Sealing.{Setting, Fits, tag_over}
 use Rattle.aead.specs.Ciphers.{setting}
-use Rattle.aead.specs.Maskings.{sealing_task}
+use Rattle.aead.specs.Code.Maskings.{sealing_task}
 use Rattle.aead.proofs.Opens.{seals_one_pass, seals_two_pass}
 use Rattle.aead.proofs.nonced.seal_whole.Goals as goal
 

@@ -3,7 +3,7 @@ use Rattle.octets.specs.declared.fault.Fault.{Fault}
 use Rattle.aead.specs.declared.suite.Suite.{Suite}
 use Rattle.aead.specs.declared.engine.measure.Measured.{Measured}
 use Rattle.aead.specs.Suites.{aad_limit, text_limit}
-use Rattle.aead.specs.Told.{MeasureTold}
+use Rattle.aead.specs.Code.Told.{MeasureTold}
 use Rattle.aead.specs.Sealing.{Setting}
 use Rattle.aead.specs.Ciphers.{setting}
 use Rattle.aead.specs.AnyCiphers.{keyed_of}

@@ -2,7 +2,7 @@ use Rattle.std.proofs.Common.{◌≡◌, ◌∙◌, [], Bool, ap, subst}
 use Rattle.aead.specs.Suites.{construction_of, is_one_pass, text_limit}
 use Rattle.aead.specs.Sealing.{Setting}
 use Rattle.aead.specs.Ciphers.{setting}
-use Rattle.aead.specs.Maskings.{HoldsMasking}
+use Rattle.aead.specs.Code.Maskings.{HoldsMasking}
 use Rattle.aead.proofs.engine.opening.opening_over.Goals as goal
 
 pub returns : goal.returns

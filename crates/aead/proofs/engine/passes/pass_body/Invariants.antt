@@ -1,7 +1,7 @@
 use Rattle.std.proofs.Common.{◌+◌, ◌-◌, ◌≡◌, ℕ, ◌≤◌, List, [], length}
-use Rattle.aead.specs.Maskings.{Task}
-use Rattle.aead.specs.AnyMaskings.{HoldsAnyMasking, count_of, limit_of}
-use Rattle.aead.specs.Passes.{Went}
+use Rattle.aead.specs.Code.Maskings.{Task}
+use Rattle.aead.specs.Code.AnyMaskings.{HoldsAnyMasking, count_of, limit_of}
+use Rattle.aead.specs.Code.Passes.{Went}
 use Rattle.aead.proofs.engine.passes.pass_body.Given as goal
 
 abbrev pub invariant-loop-done : goal.invariant-loop-done

@@ -6,7 +6,7 @@ use Rattle.aead.specs.Suites.{text_limit}
 use Rattle.aead.specs.Sealing.{Setting}
 use Rattle.aead.specs.Ciphers.{setting}
 use Rattle.aead.specs.AnyCiphers.{one_pass_keyed}
-use Rattle.aead.specs.Maskings.{sealing_task}
+use Rattle.aead.specs.Code.Maskings.{sealing_task}
 use Rattle.aead.proofs.AnyMaskings.{fed_length, limit_is, fed_within}
 use Rattle.aead.proofs.SealExits.{exit_stopped, exit_long, exit_tag}
 use Rattle.aead.proofs.engine.seal.seal_stream.Goals as goal

@@ -2,9 +2,9 @@ use Rattle.std.proofs.Common.{◌≡◌, ℕ, List, [], length, take, refl, arit
 use Rattle.std.proofs.lemmas.List.{take_all}
 use Rattle.std.specs.Io.KnownBytes.{Appends}
 use Rattle.octets.specs.Device.{Failed}
-use Rattle.aead.specs.Maskings.{repeating_task}
-use Rattle.aead.specs.Passes.{Stopped}
-use Rattle.aead.specs.Extents.{WentAll}
+use Rattle.aead.specs.Code.Maskings.{repeating_task}
+use Rattle.aead.specs.Code.Passes.{Stopped}
+use Rattle.aead.specs.Code.Extents.{WentAll}
 use Rattle.aead.proofs.AnyMaskings.{fed_length, limit_is}
 use Rattle.aead.proofs.SealExits.{told, where_told}
 use Rattle.aead.proofs.SivExits.{again_stopped, again_long, again_differs, again_tag}

@@ -1,5 +1,5 @@
 use Rattle.std.proofs.Common.{ℕ, List, refl, sym, subst, arith}
-use Rattle.aead.specs.States.{HoldsAuthenticator}
+use Rattle.aead.specs.Code.States.{HoldsAuthenticator}
 use Rattle.aead.proofs.Maskings.{none_authenticated}
 use Rattle.aead.proofs.masking.Masking.new.Goals as goal
 

@@ -1,7 +1,7 @@
 use Rattle.std.proofs.Common.{◌≡◌, ◌∙◌, ◌≤◌, ℕ, List, [], subst, sym, ap, arith}
 use Rattle.aead.specs.Suites.{is_one_pass, text_limit}
 use Rattle.aead.specs.Sealing.{tag_of}
-use Rattle.aead.specs.States.{MadeByGcmSiv}
+use Rattle.aead.specs.Code.States.{MadeByGcmSiv}
 use Rattle.aead.proofs.Maskings.{at_limit}
 use Rattle.aead.proofs.Opens.{two_pass_tag}
 use Rattle.aead.proofs.siv.SivAbsorb.finish.Goals as goal

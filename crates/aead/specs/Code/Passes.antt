@@ -1,4 +1,4 @@
--- Internal words: what a pass over a reading leaves.
+-- What a pass over a reading leaves.
 use Rattle.std.specs.Prelude.{◌≡◌, ℕ, ◌≤◌, ◌<◌, ◌⊎◌, List, ◌++◌, length, take, get_or, Option, Result, MatchResult}
 use Rattle.std.specs.Io.KnownBytes.{Consumes, Appends, IsAtEnd}
 use Rattle.octets.specs.declared.fault.Fault.{Fault}
@@ -6,8 +6,8 @@ use Rattle.octets.specs.declared.fault.Fault.TheVariants.{Read, Write}
 use Rattle.octets.specs.Device.{Failed}
 use Rattle.octets.specs.Masked.{masked}
 use Rattle.aead.specs.declared.any_masking.AnyMasking.{AnyMasking}
-use Rattle.aead.specs.Maskings.{Task, task_mask}
-use Rattle.aead.specs.AnyMaskings.{HoldsAnyMasking}
+use Rattle.aead.specs.Code.Maskings.{Task, task_mask}
+use Rattle.aead.specs.Code.AnyMaskings.{HoldsAnyMasking}
 
 -- after these bytes, more were taken, fed and, masked, given
 pub record Went (t : Task) (fed : List ℕ) (left left' taken taken' : Option (List ℕ)) (after : AnyMasking) (bytes : List ℕ) : Type 0 where

@@ -1,9 +1,9 @@
--- Internal words: what the state of a message in pieces was fed.
+-- What the state of a message in pieces was fed.
 use Rattle.std.specs.Prelude.{◌≡◌, ℕ, ◌≤◌, Bool, true, false, List, length}
 use Rattle.aead.specs.declared.masking.Masking.{Masking}
 use Rattle.aead.specs.Suites.{construction_of, is_one_pass, text_limit}
 use Rattle.aead.specs.Sealing.{Setting, mask_of, tag_of}
-use Rattle.aead.specs.States.{HoldsAuthenticator, authenticated}
+use Rattle.aead.specs.Code.States.{HoldsAuthenticator, authenticated}
 
 -- what pieces are masked for
 pub record Task : Type 0 where

@@ -1,10 +1,10 @@
--- Internal words: what the state of a message in pieces was fed, whatever its construction.
+-- What the state of a message in pieces was fed, whatever its construction.
 use Rattle.std.specs.Prelude.{ℕ, List}
 use Rattle.gf128.specs.States.{key_of}
 use Rattle.aead.specs.declared.any_masking.AnyMasking.{AnyMasking}
 use Rattle.aead.specs.declared.any_masking.AnyMasking.TheVariants.{ByChaCha, ByGcm, ByGcmSiv}
-use Rattle.aead.specs.States.{MadeByChaCha, MadeByGcm, MadeByGcmSiv, HeldByPoly, HeldByGhash, HeldByPolyval}
-use Rattle.aead.specs.Maskings.{Task, HoldsMasking}
+use Rattle.aead.specs.Code.States.{MadeByChaCha, MadeByGcm, MadeByGcmSiv, HeldByPoly, HeldByGhash, HeldByPolyval}
+use Rattle.aead.specs.Code.Maskings.{Task, HoldsMasking}
 
 -- m was made for this task and was fed these pieces
 abbrev pub HoldsAnyMasking : AnyMasking → Task → List ℕ → Type 0

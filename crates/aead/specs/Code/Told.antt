@@ -1,4 +1,4 @@
--- Internal words: what each step of the stream opener answers, where its reading tells its bytes.
+-- What each step of the stream opener answers, where its reading tells its bytes.
 use Rattle.std.specs.Prelude.{◌≡◌, ◌≢◌, ℕ, ◌+◌, ◌-◌, ◌≤◌, ◌<◌, ◌⊎◌, List, length, take, Option, Result, Ok, Err, MatchResult}
 use Rattle.std.specs.Io.KnownBytes.{Appends}
 use Rattle.octets.specs.declared.fault.Fault.{Fault}
@@ -10,7 +10,7 @@ use Rattle.aead.specs.declared.engine.passes.Finding.{Finding}
 use Rattle.aead.specs.declared.engine.passes.Finding.TheVariants.{Differs, Unsealed, Sealed}
 use Rattle.aead.specs.Sealing.{Setting, mask_of}
 use Rattle.aead.specs.Measure.{last_16}
-use Rattle.aead.specs.Findings.{IsFinding}
+use Rattle.aead.specs.Code.Findings.{IsFinding}
 
 abbrev pub MeasureTold : ℕ → List ℕ → ℕ → ℕ → Result Measured Fault → Type 0
 MeasureTold limit m read read' r =

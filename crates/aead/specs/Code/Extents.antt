@@ -1,12 +1,12 @@
--- Internal words: a reading to its end, but for what it has past a length.
+-- A reading to its end, but for what it has past a length.
 use Rattle.std.specs.Prelude.{◌≡◌, ℕ, ◌≤◌, ◌<◌, List, [], Bool, true, false, length, take, Option, Some, None, Result, MatchResult}
 use Rattle.std.specs.Io.KnownBytes.{Consumes, Appends, IsAtEnd}
 use Rattle.octets.specs.declared.fault.Fault.{Fault}
 use Rattle.octets.specs.Masked.{masked}
 use Rattle.aead.specs.declared.any_masking.AnyMasking.{AnyMasking}
-use Rattle.aead.specs.Maskings.{Task, task_mask}
-use Rattle.aead.specs.AnyMaskings.{HoldsAnyMasking}
-use Rattle.aead.specs.Passes.{Stopped}
+use Rattle.aead.specs.Code.Maskings.{Task, task_mask}
+use Rattle.aead.specs.Code.AnyMaskings.{HoldsAnyMasking}
+use Rattle.aead.specs.Code.Passes.{Stopped}
 
 -- how many bytes x has, or that it has more than a length
 abbrev pub IsExtent : ℕ → List ℕ → Option ℕ → Type 0

@@ -1,4 +1,4 @@
--- Internal words: what the parts of a message's state hold.
+-- What the parts of a message's state hold.
 use Rattle.std.specs.Prelude.{◌≡◌, ℕ, Bool, List, ◌++◌, length, if◌then◌else◌}
 use Rattle.octets.specs.Bytes.{pad16}
 use Rattle.octets.specs.Masked.{masked}

@@ -1,4 +1,4 @@
--- Internal words: how a reading compares with the measured length and tag.
+-- How a reading compares with the measured length and tag.
 use Rattle.std.specs.Prelude.{◌≡◌, ℕ, ◌-◌, ◌≤◌, ◌<◌, List, [], Bool, length, take, drop, Option, Result, MatchResult}
 use Rattle.std.specs.Io.KnownBytes.{Consumes, Appends, IsAtEnd}
 use Rattle.std.specs.Str.{bytes_eq}
@@ -7,8 +7,8 @@ use Rattle.octets.specs.Masked.{masked}
 use Rattle.aead.specs.declared.engine.passes.Finding.{Finding}
 use Rattle.aead.specs.declared.engine.passes.Finding.TheVariants.{Differs, Unsealed, Sealed}
 use Rattle.aead.specs.Sealing.{Setting, Opened, IsNoSealing, mask_of}
-use Rattle.aead.specs.Maskings.{opening_task}
-use Rattle.aead.specs.Passes.{Stopped}
+use Rattle.aead.specs.Code.Maskings.{opening_task}
+use Rattle.aead.specs.Code.Passes.{Stopped}
 
 -- x has this length and ends in this tag, and is a sealing or none; or it has another length or ends otherwise
 abbrev pub IsFinding : Setting → List ℕ → ℕ → List ℕ → Finding → Type 0
