@@ -4,13 +4,15 @@ use Rattle.gf128.specs.States.{key_of}
 use Rattle.aead.specs.declared.any_masking.AnyMasking.{AnyMasking}
 use Rattle.aead.specs.declared.any_masking.AnyMasking.TheVariants.{ByChaCha, ByGcm, ByGcmSiv}
 use Rattle.aead.specs.Suites.{text_limit, aad_limit}
-use Rattle.aead.specs.Code.States.{MadeByChaCha, MadeByGcm, MadeByGcmSiv, HeldByPoly, HeldByGhash, HeldByPolyval}
+use Rattle.aead.specs.Code.States.{MadeByChaCha, MadeByGcm, MadeByGcmSiv, HeldByPoly, HeldByGhash}
+use Rattle.aead.specs.Code.States.{HeldByPolyval}
 use Rattle.aead.specs.Code.Maskings.{Task}
 use Rattle.aead.specs.Code.AnyMaskings.{HoldsAnyMasking, count_of, limit_of}
 use Rattle.aead.proofs.Maskings.{length_fed}
 
 -- how long they are
-pub fed_length : (k : AnyMasking) (t : Task) (fed : List ℕ) → HoldsAnyMasking k t fed → count_of k ≡ length fed
+pub fed_length : (k : AnyMasking) (t : Task) (fed : List ℕ) → HoldsAnyMasking k t fed
+    → count_of k ≡ length fed
 fed_length (ByChaCha k) t fed h = length_fed MadeByChaCha HeldByPoly k t fed h
 fed_length (ByGcm k) t fed h = length_fed MadeByGcm (HeldByGhash key_of) k t fed h
 fed_length (ByGcmSiv k) t fed h = length_fed MadeByGcmSiv (HeldByPolyval key_of) k t fed h
@@ -28,6 +30,9 @@ pub record Within (t : Task) (fed : List ℕ) : Type 0 where
   pub limit_fits : t.limit ≤ text_limit t.setting.suite
 
 pub fed_within : (k : AnyMasking) (t : Task) (fed : List ℕ) → HoldsAnyMasking k t fed → Within t fed
-fed_within (ByChaCha k) t fed h = record { aad_fits = h.taken.fits.aad_fits; within = h.within; limit_fits = h.limit_fits }
-fed_within (ByGcm k) t fed h = record { aad_fits = h.taken.fits.aad_fits; within = h.within; limit_fits = h.limit_fits }
-fed_within (ByGcmSiv k) t fed h = record { aad_fits = h.taken.fits.aad_fits; within = h.within; limit_fits = h.limit_fits }
+fed_within (ByChaCha k) t fed h =
+    record { aad_fits = h.taken.fits.aad_fits; within = h.within; limit_fits = h.limit_fits }
+fed_within (ByGcm k) t fed h =
+    record { aad_fits = h.taken.fits.aad_fits; within = h.within; limit_fits = h.limit_fits }
+fed_within (ByGcmSiv k) t fed h =
+    record { aad_fits = h.taken.fits.aad_fits; within = h.within; limit_fits = h.limit_fits }

@@ -1,7 +1,9 @@
 -- ChaCha20's mask whose first bytes are there.
-use Rattle.std.proofs.Common.{◌≡◌, ℕ, suc, ◌+◌, ◌-◌, ◌*◌, ◌<◌, inl, inr, List, [], ◌∷◌, ◌++◌, length, take, drop, get_or, min, max, bit_xor, refl, sym, ap, ap₂, ◌∙◌, arith}
+use Rattle.std.proofs.Common.{◌≡◌, ℕ, suc, ◌+◌, ◌-◌, ◌*◌, ◌<◌, inl, inr, List, [], ◌∷◌, ◌++◌, length, take}
+use Rattle.std.proofs.Common.{drop, get_or, min, max, bit_xor, refl, sym, ap, ap₂, ◌∙◌, arith}
 use Rattle.std.proofs.lemmas.Bool.{cases_lt}
-use Rattle.std.proofs.lemmas.List.{get_or-take, get_or-drop, length-take-le, length-drop, take-append-drop, drop_all}
+use Rattle.std.proofs.lemmas.List.{get_or-take, get_or-drop, length-take-le, length-drop, take-append-drop}
+use Rattle.std.proofs.lemmas.List.{drop_all}
 use Rattle.octets.specs.Bytes.{xor_bytes}
 use Rattle.octets.specs.Masked.{masked}
 use Rattle.octets.proofs.Masks.{xor_bytes-masked, masked-append}
@@ -9,7 +11,8 @@ use Rattle.chacha.specs.Stream.{key_stream_byte}
 use Rattle.chacha.proofs.Masking.{key_stream_byte-first}
 
 -- a mask and another that goes on alike
-shifted : (f h : ℕ → ℕ) (a b : ℕ) (xs : List ℕ) → ((i : ℕ) → f (a + i) ≡ h (b + i)) → masked f a xs ≡ masked h b xs
+shifted : (f h : ℕ → ℕ) (a b : ℕ) (xs : List ℕ) → ((i : ℕ) → f (a + i) ≡ h (b + i))
+    → masked f a xs ≡ masked h b xs
 unfolding masked
 shifted f h a b [] e = refl
 shifted f h a b (x ∷ xs) e =
@@ -22,7 +25,8 @@ shifted f h a b (x ∷ xs) e =
     ap f next_a ∙ e (suc i) ∙ ap h next_b))
 
 -- the key stream from counter 1 on is that from counter 0 on, 64 bytes later
-from_one : (key nonce : List ℕ) (n p : ℕ) (xs : List ℕ) → p ≡ 64 + n → masked (key_stream_byte key nonce 0) p xs ≡ masked (key_stream_byte key nonce 1) n xs
+from_one : (key nonce : List ℕ) (n p : ℕ) (xs : List ℕ) → p ≡ 64 + n
+    → masked (key_stream_byte key nonce 0) p xs ≡ masked (key_stream_byte key nonce 1) n xs
 from_one key nonce n p xs e =
     shifted (key_stream_byte key nonce 0) (key_stream_byte key nonce 1) p n xs (λ i.
     let place : p + i ≡ 1 * 64 + n + i = omega arith in
@@ -31,17 +35,21 @@ from_one key nonce n p xs e =
 -- a piece whose first bytes are masked by those that are there, and the others by the rest of the key stream
 pub begun_masked : (key nonce start piece first last : List ℕ) (n used count rest : ℕ)
     → ((i : ℕ) → i < length start → get_or start i 0 ≡ key_stream_byte key nonce 0 i)
-    → used ≡ min (64 + n) (length start) → count ≡ min (length piece) (length start - used) → rest ≡ max (64 + n) (length start)
-    → first ≡ xor_bytes (take count piece) (take count (drop used start)) → last ≡ masked (key_stream_byte key nonce 0) rest (drop count piece)
+    → used ≡ min (64 + n) (length start) → count ≡ min (length piece) (length start - used)
+    → rest ≡ max (64 + n) (length start)
+    → first ≡ xor_bytes (take count piece) (take count (drop used start))
+    → last ≡ masked (key_stream_byte key nonce 0) rest (drop count piece)
     → first ++ last ≡ masked (key_stream_byte key nonce 1) n piece
 unfolding masked
-begun_masked key nonce start piece first last n used count rest same is_used is_count is_rest is_first is_last =
+begun_masked key nonce start piece first last n used count rest same is_used is_count is_rest is_first
+    is_last =
     let f : ℕ → ℕ = key_stream_byte key nonce 0 in
     let h : ℕ → ℕ = key_stream_byte key nonce 1 in
     let xs : List ℕ = take count piece in
     let ys : List ℕ = take count (drop used start) in
     let long : length xs ≡ count = length-take-le count piece (omega (arith, is_count)) in
-    let size : length ys ≡ count = length-take-le count (drop used start) (omega (arith, is_count, length-drop used start)) in
+    let size : length ys ≡ count =
+    length-take-le count (drop used start) (omega (arith, is_count, length-drop used start)) in
     let in_front : 0 < count → used ≡ 64 + n = λ some. omega (arith, is_used, is_count, some) in
     let front : first ≡ masked h n xs =
     is_first ∙ xor_bytes-masked h n xs ys (size ∙ sym long) (λ i l.
@@ -53,9 +61,11 @@ begun_masked key nonce start piece first last n used count rest same is_used is_
     ∙ ap f place ∙ key_stream_byte-first key nonce 1 n i) in
     let back : last ≡ masked h (n + length xs) (drop count piece) =
     is_last ∙ elim (cases_lt count (length piece)) [
-      | inl less ↦ from_one key nonce (n + length xs) rest (drop count piece) (omega (arith, less, is_used, is_count, is_rest, long))
+      | inl less ↦ from_one key nonce (n + length xs) rest (drop count piece)
+          (omega (arith, less, is_used, is_count, is_rest, long))
       | inr all ↦
           let none : drop count piece ≡ [] = drop_all count piece all in
           ap (masked f rest) none ∙ sym (ap (masked h (n + length xs)) none)
     ] in
-    ap₂ (λ a b. a ++ b) front back ∙ sym (masked-append h n xs (drop count piece)) ∙ ap (masked h n) (take-append-drop count piece)
+    ap₂ (λ a b. a ++ b) front back ∙ sym (masked-append h n xs (drop count piece))
+    ∙ ap (masked h n) (take-append-drop count piece)

@@ -1,19 +1,23 @@
 -- The encryption keys of GCM-SIV, part by part.
-use Rattle.std.proofs.Common.{◌≡◌, ℕ, ◌+◌, ◌/◌, List, ◌++◌, drop, length, flat_map, sym, ap, ap₂, ◌∙◌, arith, append_assoc}
+use Rattle.std.proofs.Common.{◌≡◌, ℕ, ◌+◌, ◌/◌, List, ◌++◌, drop, length, flat_map, sym, ap, ap₂, ◌∙◌, arith}
+use Rattle.std.proofs.Common.{append_assoc}
 use Rattle.std.proofs.lemmas.List.{take_at, drop_at, drop_all, append-nil}
 use Rattle.std.specs.List.{range_with_len}
 use Rattle.aead.specs.Sealing.{key_part, encryption_key}
 use borrow.Rule.Slice.PartMut.{put_mid}
 
 -- a run of bytes written in two parts of one length
-pub two_parts : (n : ℕ) (x z y a b : List ℕ) → x ≡ a → y ≡ b → length a ≡ n → length z ≡ n → put_mid n n (x ++ z) y ≡ a ++ b
+pub two_parts : (n : ℕ) (x z y a b : List ℕ) → x ≡ a → y ≡ b → length a ≡ n → length z ≡ n
+    → put_mid n n (x ++ z) y ≡ a ++ b
 two_parts n x z y a b e f long rest =
     let l : length x ≡ n = ap length e ∙ long in
-    ap₂ (λ u v. u ++ (y ++ v)) (take_at x z n l ∙ e) (ap (drop n) (drop_at x z n l) ∙ drop_all n z (omega arith))
+    ap₂ (λ u v. u ++ (y ++ v)) (take_at x z n l ∙ e)
+    (ap (drop n) (drop_at x z n l) ∙ drop_all n z (omega arith))
     ∙ ap (λ v. a ++ v) (append-nil y ∙ f)
 
 -- for a key of 16 bytes
-pub short_key : (key nonce : List ℕ) → length key ≡ 16 → encryption_key key nonce ≡ key_part key nonce 2 ++ key_part key nonce 3
+pub short_key : (key nonce : List ℕ) → length key ≡ 16
+    → encryption_key key nonce ≡ key_part key nonce 2 ++ key_part key nonce 3
 unfolding encryption_key
 short_key key nonce h =
     ap (λ n. flat_map (λ i. key_part key nonce (2 + i)) (range_with_len 0 (n / 8))) h
@@ -21,9 +25,12 @@ short_key key nonce h =
 
 -- for a key of 32 bytes
 pub long_key : (key nonce : List ℕ) → length key ≡ 32
-    → encryption_key key nonce ≡ (key_part key nonce 2 ++ key_part key nonce 3) ++ (key_part key nonce 4 ++ key_part key nonce 5)
+    → encryption_key key nonce
+    ≡ (key_part key nonce 2 ++ key_part key nonce 3) ++ (key_part key nonce 4 ++ key_part key nonce 5)
 unfolding encryption_key
 long_key key nonce h =
     ap (λ n. flat_map (λ i. key_part key nonce (2 + i)) (range_with_len 0 (n / 8))) h
-    ∙ ap (λ l. key_part key nonce 2 ++ (key_part key nonce 3 ++ (key_part key nonce 4 ++ l))) (append-nil (key_part key nonce 5))
-    ∙ sym (append_assoc (key_part key nonce 2) (key_part key nonce 3) (key_part key nonce 4 ++ key_part key nonce 5))
+    ∙ ap (λ l. key_part key nonce 2 ++ (key_part key nonce 3 ++ (key_part key nonce 4 ++ l)))
+    (append-nil (key_part key nonce 5))
+    ∙ sym (append_assoc (key_part key nonce 2) (key_part key nonce 3)
+    (key_part key nonce 4 ++ key_part key nonce 5))

@@ -1,5 +1,6 @@
 -- What a reading to its end finds.
-use Rattle.std.proofs.Common.{◌≡◌, ℕ, List, [], ◌++◌, ◌≤◌, ◌<◌, inl, inr, Bool, false, length, take, refl, ap, ◌∙◌, sym, arith, Option, Some, None, subst, length-append}
+use Rattle.std.proofs.Common.{◌≡◌, ℕ, List, [], ◌++◌, ◌≤◌, ◌<◌, inl, inr, Bool, false, length, take, refl}
+use Rattle.std.proofs.Common.{ap, ◌∙◌, sym, arith, Option, Some, None, subst, length-append}
 use Rattle.std.specs.Io.KnownBytes.{Consumes, Appends}
 use Rattle.std.proofs.lemmas.List.{take_all, take_at, take-append-le}
 use Rattle.octets.specs.Masked.{masked}
@@ -13,7 +14,8 @@ use Rattle.aead.specs.Code.Extents.{IsExtent, WentAll, More}
 use Rattle.aead.proofs.Findings.{front_of}
 
 -- the reading ended before the length
-pub all_short : (t : Task) (len n : ℕ) (l l' o o' : Option (List ℕ)) (k : AnyMasking) → WentFar t [] len l l' o o' k n → n < len → WentAll t len l l' o o' k (Some n)
+pub all_short : (t : Task) (len n : ℕ) (l l' o o' : Option (List ℕ)) (k : AnyMasking)
+    → WentFar t [] len l l' o o' k n → n < len → WentAll t len l l' o o' k (Some n)
 all_short t len n l l' o o' k q less =
     let P : List ℕ → Type 0 = λ b. Appends o o' (masked (task_mask t) 0 b) in
     let Q : List ℕ → Type 0 = λ b. HoldsAnyMasking k t b in
@@ -28,8 +30,11 @@ all_short t len n l l' o o' k q less =
     }
 
 -- it came to the length, and then there was more or not
-pub all_more : (t : Task) (len n : ℕ) (l l' l'' o o' : Option (List ℕ)) (k : AnyMasking) (extent : Option ℕ) (b : Bool) → (q : WentFar t [] len l l' o o' k n) → len ≤ n →
-    (more : More l' l'' b) → (length q.bytes ≡ len → IsExtent len (q.bytes ++ more.bytes) extent × (length (q.bytes ++ more.bytes) ≤ len → b ≡ false)) →
+pub all_more : (t : Task) (len n : ℕ) (l l' l'' o o' : Option (List ℕ)) (k : AnyMasking) (extent : Option ℕ)
+    (b : Bool) → (q : WentFar t [] len l l' o o' k n) → len ≤ n →
+    (more : More l' l'' b) →
+    (length q.bytes ≡ len → IsExtent len (q.bytes ++ more.bytes) extent
+    × (length (q.bytes ++ more.bytes) ≤ len → b ≡ false)) →
     WentAll t len l l'' o o' k extent
 all_more t len n l l' l'' o o' k extent b q full more found =
     let P : List ℕ → Type 0 = λ b. Appends o o' (masked (task_mask t) 0 b) in
@@ -50,8 +55,10 @@ pub all_stopped : (t : Task) (len n : ℕ) (l l' l'' o o' : Option (List ℕ)) (
     WentFar t [] len l l' o o' k n → Consumes l' l'' y → Stopped t [] len l l'' o o'
 all_stopped t len n l l' l'' o o' k y q more =
     let P : List ℕ → Type 0 = λ b. Appends o o' b in
-    let same : take (length q.bytes) (masked (task_mask t) 0 (q.bytes ++ y)) ≡ masked (task_mask t) 0 q.bytes =
-    take-masked (task_mask t) (length q.bytes) 0 (q.bytes ++ y) ∙ ap (λ b. masked (task_mask t) 0 b) (take_at q.bytes y (length q.bytes) refl) in
+    let same : take (length q.bytes) (masked (task_mask t) 0 (q.bytes ++ y))
+    ≡ masked (task_mask t) 0 q.bytes =
+    take-masked (task_mask t) (length q.bytes) 0 (q.bytes ++ y)
+    ∙ ap (λ b. masked (task_mask t) 0 b) (take_at q.bytes y (length q.bytes) refl) in
     record {
       bytes = q.bytes ++ y;
       shown = length q.bytes;
@@ -64,12 +71,14 @@ all_stopped t len n l l' l'' o o' k y q more =
 -- ---- where the reading tells its bytes
 
 -- the same extent by a longer list
-extent_of : (len : ℕ) (x y : List ℕ) (e : Option ℕ) → len < length x → len < length y → IsExtent len x e → IsExtent len y e
+extent_of : (len : ℕ) (x y : List ℕ) (e : Option ℕ) → len < length x → len < length y → IsExtent len x e
+    → IsExtent len y e
 extent_of len x y None p q h = q
 extent_of len x y (Some n) p q h = absurd (omega (arith, p, h.0, h.1))
 
 -- what was given and is held, in the reading's own bytes
-pub all_told : (t : Task) (len : ℕ) (x : List ℕ) (l' o o' : Option (List ℕ)) (k : AnyMasking) (e : Option ℕ) → WentAll t len (Some x) l' o o' k e →
+pub all_told : (t : Task) (len : ℕ) (x : List ℕ) (l' o o' : Option (List ℕ)) (k : AnyMasking) (e : Option ℕ)
+    → WentAll t len (Some x) l' o o' k e →
     Appends o o' (masked (task_mask t) 0 (take len x)) × HoldsAnyMasking k t (take len x) × IsExtent len x e
 all_told t len x None o o' k e w = absurd w.consumed
 all_told t len x (Some rest) o o' k e w =
@@ -78,20 +87,28 @@ all_told t len x (Some rest) o o' k e w =
     let R : List ℕ → Type 0 = λ b. IsExtent len b e in
     elim (front_of x w.bytes rest len w.consumed w.end) [
       | inl same ↦
-          let e = ap (λ b. take len b) (sym same) in (subst P e w.given, subst Q e w.held, subst R (sym same) w.is)
+          let e = ap (λ b. take len b) (sym same) in
+          (subst P e w.given, subst Q e w.held, subst R (sym same) w.is)
       | inr long ↦
-          let e : take len w.bytes ≡ take len x = sym (ap (λ b. take len b) w.consumed ∙ take-append-le len w.bytes rest (omega (arith, long.0))) in
+          let e : take len w.bytes ≡ take len x =
+          sym (ap (λ b. take len b) w.consumed ∙ take-append-le len w.bytes rest (omega (arith, long.0))) in
           (subst P e w.given, subst Q e w.held, extent_of len w.bytes x _ long.0 long.1 w.is)
     ]
 
 -- what a device's failure leaves given, in the reading's own bytes
-pub all_stopped_told : (t : Task) (len : ℕ) (x : List ℕ) (l' o o' : Option (List ℕ)) → Stopped t [] len (Some x) l' o o' →
+pub all_stopped_told : (t : Task) (len : ℕ) (x : List ℕ) (l' o o' : Option (List ℕ))
+    → Stopped t [] len (Some x) l' o o' →
     (k : ℕ) × (k ≤ length x) × (k ≤ len) × Appends o o' (take k (masked (task_mask t) 0 x))
 all_stopped_told t len x None o o' w = absurd w.consumed
 all_stopped_told t len x (Some rest) o o' w =
     let P : List ℕ → Type 0 = λ b. Appends o o' b in
     let same : take w.shown (masked (task_mask t) 0 x) ≡ take w.shown (masked (task_mask t) 0 w.bytes) =
     take-masked (task_mask t) w.shown 0 x
-    ∙ ap (λ b. masked (task_mask t) 0 b) (ap (λ b. take w.shown b) w.consumed ∙ take-append-le w.shown w.bytes rest w.within)
-    ∙ sym (take-masked (task_mask t) w.shown 0 w.bytes) in
-    (w.shown, omega (arith, ap length w.consumed, length-append w.bytes rest, w.within), w.short, subst P (sym same) w.given)
+    ∙ ap (λ b. masked (task_mask t) 0 b)
+    (ap (λ b. take w.shown b) w.consumed ∙ take-append-le w.shown w.bytes rest w.within)
+    ∙ sym (take-masked (task_mask t) w.shown 0 w.bytes) in (
+      w.shown,
+      omega (arith, ap length w.consumed, length-append w.bytes rest, w.within),
+      w.short,
+      subst P (sym same) w.given,
+    )

@@ -1,11 +1,16 @@
 -- A text fed part by part to an authenticator, each part padded to whole blocks.
-use Rattle.std.proofs.Common.{◌≡◌, ℕ, ◌-◌, ◌%◌, List, ◌++◌, length, replicate, ap, ◌∙◌, arith, append_assoc, length-append}
+use Rattle.std.proofs.Common.{◌≡◌, ℕ, ◌-◌, ◌%◌, List, ◌++◌, length, replicate, ap, ◌∙◌, arith, append_assoc}
+use Rattle.std.proofs.Common.{length-append}
 use Rattle.std.proofs.lemmas.List.{length-replicate, append-nil}
 use Rattle.octets.specs.Bytes.{padding, pad16}
 
 -- the padding makes whole blocks
 pub whole_padded : (m : List ℕ) → length (pad16 m) % 16 ≡ 0
-whole_padded m = omega (arith, length-append m (padding m), length-replicate {A = ℕ} ((16 - length m % 16) % 16) 0)
+whole_padded m = omega (
+  arith,
+  length-append m (padding m),
+  length-replicate {A = ℕ} ((16 - length m % 16) % 16) 0,
+)
 
 -- whole blocks are not padded
 pub pad16_whole : (m : List ℕ) → length m % 16 ≡ 0 → pad16 m ≡ m
@@ -16,7 +21,8 @@ pad16_whole m whole =
 -- after whole blocks, the padding is that of what follows
 pub pad16_after : (a b : List ℕ) → length a % 16 ≡ 0 → pad16 (a ++ b) ≡ a ++ pad16 b
 pad16_after a b whole =
-    let same : (16 - length (a ++ b) % 16) % 16 ≡ (16 - length b % 16) % 16 = omega (arith, length-append a b) in
+    let same : (16 - length (a ++ b) % 16) % 16 ≡ (16 - length b % 16) % 16 =
+    omega (arith, length-append a b) in
     ap (λ n. (a ++ b) ++ replicate n 0) same ∙ append_assoc a b (padding b)
 
 -- two padded parts and more
@@ -26,7 +32,8 @@ fed a b z =
     ∙ append_assoc (pad16 a) (pad16 b) z
 
 -- and two parts of 8 bytes after them make whole blocks
-pub whole_fed : (a b x y : List ℕ) → length x ≡ 8 → length y ≡ 8 → length (pad16 a ++ (pad16 b ++ (x ++ y))) % 16 ≡ 0
+pub whole_fed : (a b x y : List ℕ) → length x ≡ 8 → length y ≡ 8
+    → length (pad16 a ++ (pad16 b ++ (x ++ y))) % 16 ≡ 0
 whole_fed a b x y l m =
     omega (
       arith,

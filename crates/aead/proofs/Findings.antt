@@ -1,9 +1,12 @@
 -- What a whole pass finds.
-use Rattle.std.proofs.Common.{◌≡◌, ℕ, List, [], ◌++◌, ◌≤◌, ◌<◌, ◌-◌, ◌⊎◌, inl, inr, Bool, true, false, length, take, drop, get_or, refl, ap, ◌∙◌, sym, arith, true≢false, Option, Some, None, subst, length-append}
+use Rattle.std.proofs.Common.{◌≡◌, ℕ, List, [], ◌++◌, ◌≤◌, ◌<◌, ◌-◌, ◌⊎◌, inl, inr, Bool, true, false}
+use Rattle.std.proofs.Common.{length, take, drop, get_or, refl, ap, ◌∙◌, sym, arith, true≢false, Option}
+use Rattle.std.proofs.Common.{Some, None, subst, length-append}
 use Rattle.std.specs.Str.{bytes_eq}
 use Rattle.std.specs.Io.KnownBytes.{Consumes, Appends}
 use Rattle.std.proofs.lemmas.Bool.{cases_Bool, cases_lt}
-use Rattle.std.proofs.lemmas.List.{append-nil, take_all, drop_all, take_at, drop_at, length-drop, take-append-le, take-take}
+use Rattle.std.proofs.lemmas.List.{append-nil, take_all, drop_all, take_at, drop_at, length-drop}
+use Rattle.std.proofs.lemmas.List.{take-append-le, take-take}
 use Rattle.std.proofs.lemmas.Slice.Eq.{bytes_eq-Decides}
 use Rattle.octets.specs.Masked.{masked}
 use Rattle.octets.proofs.Devices.{consumes_more}
@@ -23,34 +26,44 @@ use Rattle.aead.proofs.Opens.{unmasked, no_sealing, opened_as, body_tag, two_pas
 
 -- the tag that an opening makes is that of what the body would open to
 pub opening_tag : (s : Setting) (tag body : List ℕ)
-    → tag_over s.suite s.key s.nonce s.aad (authenticated (is_one_pass (construction_of s.suite)) s tag body) ≡ tag_of s (unmasked s tag body)
+    → tag_over s.suite s.key s.nonce s.aad (authenticated (is_one_pass (construction_of s.suite)) s tag body)
+    ≡ tag_of s (unmasked s tag body)
 opening_tag s tag body =
     elim (cases_Bool (is_one_pass (construction_of s.suite))) [
-      | inl one ↦ ap (λ b. tag_over s.suite s.key s.nonce s.aad (authenticated b s tag body)) one ∙ sym (body_tag s tag body one)
-      | inr two ↦ ap (λ b. tag_over s.suite s.key s.nonce s.aad (authenticated b s tag body)) two ∙ sym (two_pass_tag s (unmasked s tag body) two)
+      | inl one ↦ ap (λ b. tag_over s.suite s.key s.nonce s.aad (authenticated b s tag body)) one
+          ∙ sym (body_tag s tag body one)
+      | inr two ↦ ap (λ b. tag_over s.suite s.key s.nonce s.aad (authenticated b s tag body)) two
+          ∙ sym (two_pass_tag s (unmasked s tag body) two)
     ]
 
 -- the lengths that an opening was fed are allowed
-pub opening_fits : (k : AnyMasking) (s : Setting) (tag body : List ℕ) → HoldsAnyMasking k (opening_task s tag) body → Fits s body
-opening_fits k s tag body h = let w = fed_within _ _ _ h in record { aad_fits = w.aad_fits; text_fits = omega (arith, w.within, w.limit_fits) }
+pub opening_fits : (k : AnyMasking) (s : Setting) (tag body : List ℕ)
+    → HoldsAnyMasking k (opening_task s tag) body → Fits s body
+opening_fits k s tag body h = let w = fed_within _ _ _ h in
+    record { aad_fits = w.aad_fits; text_fits = omega (arith, w.within, w.limit_fits) }
 
 -- ---- what was found of a body and what came after it
 
-pub differs_found : (s : Setting) (tag body y : List ℕ) (len : ℕ) → length body ≡ len - 16 → bytes_eq y tag ≡ false → IsFinding s tag len (body ++ y) Differs
+pub differs_found : (s : Setting) (tag body y : List ℕ) (len : ℕ) → length body ≡ len - 16
+    → bytes_eq y tag ≡ false → IsFinding s tag len (body ++ y) Differs
 differs_found s tag body y len size other = λ e.
     true≢false (sym ((bytes_eq-Decides y tag).1 (sym (drop_at body y (len - 16) size) ∙ e)) ∙ other)
 
-pub sealed_found : (s : Setting) (tag body y : List ℕ) (len : ℕ) → length body ≡ len - 16 → bytes_eq y tag ≡ true
-    → Fits s body → ((i : ℕ) → get_or (unmasked s tag body) i 0 < 256) → tag_of s (unmasked s tag body) ≡ tag → IsFinding s tag len (body ++ y) Sealed
+pub sealed_found : (s : Setting) (tag body y : List ℕ) (len : ℕ) → length body ≡ len - 16
+    → bytes_eq y tag ≡ true
+    → Fits s body → ((i : ℕ) → get_or (unmasked s tag body) i 0 < 256) → tag_of s (unmasked s tag body) ≡ tag
+    → IsFinding s tag len (body ++ y) Sealed
 sealed_found s tag body y len size equal fits small same =
     let e : y ≡ tag = (bytes_eq-Decides y tag).0 equal in
     let P : List ℕ → Type 0 = λ z. Opened s (body ++ z) (unmasked s tag body) in
     let Q : List ℕ → Type 0 = λ z. Opened s (body ++ y) (masked (mask_of s tag) 0 z) in (
       drop_at body y (len - 16) size ∙ e,
-      subst Q (sym (take_at body y (len - 16) size)) (subst P (sym e) (opened_as s body tag (unmasked s tag body) fits small refl same)),
+      subst Q (sym (take_at body y (len - 16) size))
+          (subst P (sym e) (opened_as s body tag (unmasked s tag body) fits small refl same)),
     )
 
-pub unsealed_found : (s : Setting) (tag body y : List ℕ) (len : ℕ) → length tag ≡ 16 → length body ≡ len - 16 → bytes_eq y tag ≡ true
+pub unsealed_found : (s : Setting) (tag body y : List ℕ) (len : ℕ) → length tag ≡ 16 → length body ≡ len - 16
+    → bytes_eq y tag ≡ true
     → (tag_of s (unmasked s tag body) ≡ tag → ⊥) → IsFinding s tag len (body ++ y) Unsealed
 unsealed_found s tag body y len long size equal other =
     let e : y ≡ tag = (bytes_eq-Decides y tag).0 equal in
@@ -62,8 +75,10 @@ unsealed_found s tag body y len long size equal other =
 -- ---- a whole pass
 
 -- the reading ended within the body
-pub whole_short : (s : Setting) (tag : List ℕ) (len n : ℕ) (l l' o o' : Option (List ℕ)) (k : AnyMasking) → length tag ≡ 16 →
-    WentFar (opening_task s tag) [] (len - 16) l l' o o' k n → n < len - 16 → WentWhole s tag len l l' o o' Differs
+pub whole_short : (s : Setting) (tag : List ℕ) (len n : ℕ) (l l' o o' : Option (List ℕ)) (k : AnyMasking)
+    → length tag ≡ 16 →
+    WentFar (opening_task s tag) [] (len - 16) l l' o o' k n → n < len - 16
+    → WentWhole s tag len l l' o o' Differs
 whole_short s tag len n l l' o o' k size q less =
     let P : List ℕ → Type 0 = λ b. Appends o o' (masked (mask_of s tag) 0 b) in
     let all : length q.bytes ≤ len - 16 = omega (arith, q.count, less) in
@@ -77,9 +92,12 @@ whole_short s tag len n l l' o o' k size q less =
     }
 
 -- the body came whole, and then a tail
-pub whole_tail : (s : Setting) (tag : List ℕ) (len n : ℕ) (l l' l'' o o' : Option (List ℕ)) (k : AnyMasking) (b : Bool) (f : Finding) → 16 ≤ len →
-    (q : WentFar (opening_task s tag) [] (len - 16) l l' o o' k n) → len - 16 ≤ n → (tail : Tail tag l' l'' b) →
-    (length q.bytes ≡ len - 16 → IsFinding s tag len (q.bytes ++ tail.bytes) f) → WentWhole s tag len l l'' o o' f
+pub whole_tail : (s : Setting) (tag : List ℕ) (len n : ℕ) (l l' l'' o o' : Option (List ℕ)) (k : AnyMasking)
+    (b : Bool) (f : Finding) → 16 ≤ len →
+    (q : WentFar (opening_task s tag) [] (len - 16) l l' o o' k n) → len - 16 ≤ n
+    → (tail : Tail tag l' l'' b) →
+    (length q.bytes ≡ len - 16 → IsFinding s tag len (q.bytes ++ tail.bytes) f)
+    → WentWhole s tag len l l'' o o' f
 whole_tail s tag len n l l' l'' o o' k b f low q full tail found =
     let P : List ℕ → Type 0 = λ b. Appends o o' (masked (mask_of s tag) 0 b) in
     let size : length q.bytes ≡ len - 16 = omega (arith, q.count, q.short, full) in
@@ -92,12 +110,16 @@ whole_tail s tag len n l l' l'' o o' k b f low q full tail found =
     }
 
 -- the body came whole, and then a device failed
-pub stopped_tail : (s : Setting) (tag : List ℕ) (len n : ℕ) (l l' l'' o o' : Option (List ℕ)) (k : AnyMasking) (y : List ℕ) →
-    WentFar (opening_task s tag) [] (len - 16) l l' o o' k n → Consumes l' l'' y → Stopped (opening_task s tag) [] (len - 16) l l'' o o'
+pub stopped_tail : (s : Setting) (tag : List ℕ) (len n : ℕ) (l l' l'' o o' : Option (List ℕ))
+    (k : AnyMasking) (y : List ℕ) →
+    WentFar (opening_task s tag) [] (len - 16) l l' o o' k n → Consumes l' l'' y
+    → Stopped (opening_task s tag) [] (len - 16) l l'' o o'
 stopped_tail s tag len n l l' l'' o o' k y q more =
     let P : List ℕ → Type 0 = λ b. Appends o o' b in
-    let same : take (length q.bytes) (masked (mask_of s tag) 0 (q.bytes ++ y)) ≡ masked (mask_of s tag) 0 q.bytes =
-    take-masked (mask_of s tag) (length q.bytes) 0 (q.bytes ++ y) ∙ ap (λ b. masked (mask_of s tag) 0 b) (take_at q.bytes y (length q.bytes) refl) in
+    let same : take (length q.bytes) (masked (mask_of s tag) 0 (q.bytes ++ y))
+    ≡ masked (mask_of s tag) 0 q.bytes =
+    take-masked (mask_of s tag) (length q.bytes) 0 (q.bytes ++ y)
+    ∙ ap (λ b. masked (mask_of s tag) 0 b) (take_at q.bytes y (length q.bytes) refl) in
     record {
       bytes = q.bytes ++ y;
       shown = length q.bytes;
@@ -110,7 +132,8 @@ stopped_tail s tag len n l l' l'' o o' k y q more =
 -- ---- where the reading tells its bytes
 
 -- the reading is what was taken, or both are longer than the measure
-pub front_of : (v x rest : List ℕ) (len : ℕ) → v ≡ x ++ rest → (length x ≤ len → rest ≡ []) → (v ≡ x) ⊎ ((len < length x) × (len < length v))
+pub front_of : (v x rest : List ℕ) (len : ℕ) → v ≡ x ++ rest → (length x ≤ len → rest ≡ [])
+    → (v ≡ x) ⊎ ((len < length x) × (len < length v))
 front_of v x rest len e end =
     elim (cases_lt len (length x)) [
       | inl more ↦ inr (more, omega (arith, more, ap length e, length-append x rest))
@@ -118,17 +141,20 @@ front_of v x rest len e end =
     ]
 
 -- what is longer than the measure ends otherwise
-too_long : (tag x : List ℕ) (len : ℕ) → length tag ≡ 16 → 16 ≤ len → len < length x → drop (len - 16) x ≡ tag → ⊥
+too_long : (tag x : List ℕ) (len : ℕ) → length tag ≡ 16 → 16 ≤ len → len < length x → drop (len - 16) x ≡ tag
+    → ⊥
 too_long tag x len size low more e = omega (arith, ap length e, length-drop (len - 16) x, size, low, more)
 
 -- so it is found alike
-long_found : (s : Setting) (tag x y : List ℕ) (len : ℕ) (f : Finding) → length tag ≡ 16 → 16 ≤ len → len < length x → len < length y
+long_found : (s : Setting) (tag x y : List ℕ) (len : ℕ) (f : Finding) → length tag ≡ 16 → 16 ≤ len
+    → len < length x → len < length y
     → IsFinding s tag len x f → IsFinding s tag len y f
 long_found s tag x y len Differs size low p q h = too_long tag y len size low q
 long_found s tag x y len Unsealed size low p q h = absurd (too_long tag x len size low p h.0)
 long_found s tag x y len Sealed size low p q h = absurd (too_long tag x len size low p h.0)
 
-pub whole_found : (s : Setting) (tag : List ℕ) (len : ℕ) (v : List ℕ) (l' o o' : Option (List ℕ)) (f : Finding) → length tag ≡ 16 → 16 ≤ len →
+pub whole_found : (s : Setting) (tag : List ℕ) (len : ℕ) (v : List ℕ) (l' o o' : Option (List ℕ))
+    (f : Finding) → length tag ≡ 16 → 16 ≤ len →
     WentWhole s tag len (Some v) l' o o' f → IsFinding s tag len v f
 whole_found s tag len v None o o' f size low w = absurd w.consumed
 whole_found s tag len v (Some rest) o o' f size low w =
@@ -138,23 +164,30 @@ whole_found s tag len v (Some rest) o o' f size low w =
       | inr long ↦ long_found s tag w.bytes v len f size low long.0 long.1 w.found
     ]
 
-pub whole_given : (s : Setting) (tag : List ℕ) (len : ℕ) (v : List ℕ) (l' o o' : Option (List ℕ)) (f : Finding) →
+pub whole_given : (s : Setting) (tag : List ℕ) (len : ℕ) (v : List ℕ) (l' o o' : Option (List ℕ))
+    (f : Finding) →
     WentWhole s tag len (Some v) l' o o' f → Appends o o' (masked (mask_of s tag) 0 (take (len - 16) v))
 whole_given s tag len v None o o' f w = absurd w.consumed
 whole_given s tag len v (Some rest) o o' f w =
     let P : List ℕ → Type 0 = λ b. Appends o o' (masked (mask_of s tag) 0 b) in
     elim (front_of v w.bytes rest len w.consumed w.end) [
       | inl same ↦ subst P (ap (λ b. take (len - 16) b) (sym same)) w.given
-      | inr long ↦ subst P (sym (ap (λ b. take (len - 16) b) w.consumed ∙ take-append-le (len - 16) w.bytes rest (omega (arith, long.0)))) w.given
+      | inr long ↦ subst P (sym
+          (ap (λ b. take (len - 16) b) w.consumed
+          ∙ take-append-le (len - 16) w.bytes rest (omega (arith, long.0)))) w.given
     ]
 
 pub stopped_given : (s : Setting) (tag : List ℕ) (n : ℕ) (v : List ℕ) (l' o o' : Option (List ℕ)) →
-    Stopped (opening_task s tag) [] n (Some v) l' o o' → (k : ℕ) × Appends o o' (take k (masked (mask_of s tag) 0 (take n v)))
+    Stopped (opening_task s tag) [] n (Some v) l' o o'
+    → (k : ℕ) × Appends o o' (take k (masked (mask_of s tag) 0 (take n v)))
 stopped_given s tag n v None o o' w = absurd w.consumed
 stopped_given s tag n v (Some rest) o o' w =
     let P : List ℕ → Type 0 = λ b. Appends o o' b in
-    let same : take w.shown (masked (mask_of s tag) 0 (take n v)) ≡ take w.shown (masked (mask_of s tag) 0 w.bytes) =
+    let same : take w.shown (masked (mask_of s tag) 0 (take n v))
+    ≡ take w.shown (masked (mask_of s tag) 0 w.bytes) =
     take-masked (mask_of s tag) w.shown 0 (take n v)
-    ∙ ap (λ b. masked (mask_of s tag) 0 b) (take-take w.shown n v w.short ∙ ap (λ b. take w.shown b) w.consumed ∙ take-append-le w.shown w.bytes rest w.within)
+    ∙ ap (λ b. masked (mask_of s tag) 0 b)
+    (take-take w.shown n v w.short ∙ ap (λ b. take w.shown b) w.consumed
+    ∙ take-append-le w.shown w.bytes rest w.within)
     ∙ sym (take-masked (mask_of s tag) w.shown 0 w.bytes) in
     (w.shown, subst P (sym same) w.given)

@@ -1,16 +1,22 @@
 -- A sealing is refused only for want of memory.
-use Rattle.std.proofs.Common.{◌≡◌, ℕ, List, ◌++◌, length, refl, arith, length-append, Result, Ok, Err, MatchResult}
+use Rattle.std.proofs.Common.{◌≡◌, ℕ, List, ◌++◌, length, refl, arith, length-append, Result, Ok, Err}
+use Rattle.std.proofs.Common.{MatchResult}
 use Rattle.octets.specs.declared.fault.Fault.{Fault}
-use Rattle.octets.specs.declared.fault.Fault.TheVariants.{KeyLength, NonceLength, TextTooLong, AadTooLong, TooShort, TagMismatch, WrapLength, WrapIntegrity, OutOfMemory, StreamEnd, Read, Write, SourceChanged}
+use Rattle.octets.specs.declared.fault.Fault.TheVariants.{KeyLength, NonceLength, TextTooLong, AadTooLong}
+use Rattle.octets.specs.declared.fault.Fault.TheVariants.{TooShort, TagMismatch, WrapLength, WrapIntegrity}
+use Rattle.octets.specs.declared.fault.Fault.TheVariants.{OutOfMemory, StreamEnd, Read, Write, SourceChanged}
 use Rattle.aead.specs.Sealing.{Setting, Opened, HasOneText}
 use Rattle.aead.specs.Refusals.{OpenRefused, WholeOpenRefused}
 
 -- no other refusal fits a sealing
-refused_only : HasOneText → (s : Setting) (sealed text : List ℕ) → Opened s sealed text → (e : Fault) → WholeOpenRefused s sealed e → e ≡ OutOfMemory
+refused_only : HasOneText → (s : Setting) (sealed text : List ℕ) → Opened s sealed text → (e : Fault)
+    → WholeOpenRefused s sealed e → e ≡ OutOfMemory
 refused_only law s sealed text o AadTooLong h = let fits = o.fits.aad_fits in absurd (omega arith)
-refused_only law s sealed text o TooShort h = let long = (law s sealed text o).0 in let short = h.1 in absurd (omega arith)
+refused_only law s sealed text o TooShort h = let long = (law s sealed text o).0 in let short = h.1 in
+    absurd (omega arith)
 refused_only law s sealed text o TextTooLong h =
-    let long = (law s sealed text o).0 in let past = h.1 in let fits = o.fits.text_fits in absurd (omega arith)
+    let long = (law s sealed text o).0 in let past = h.1 in let fits = o.fits.text_fits in
+    absurd (omega arith)
 refused_only law s sealed text o TagMismatch h = absurd (h.1 text o)
 refused_only law s sealed text o OutOfMemory h = refl
 refused_only law s sealed text o KeyLength h = absurd h
@@ -23,17 +29,20 @@ refused_only law s sealed text o Write h = absurd h
 refused_only law s sealed text o SourceChanged h = absurd h
 
 -- so where a text was sealed, it is answered, or memory was refused
-pub found : {T : Type 0} (items : T → List ℕ) → HasOneText → (s : Setting) (sealed : List ℕ) (r : Result T Fault)
+pub found : {T : Type 0} (items : T → List ℕ) → HasOneText
+    → (s : Setting) (sealed : List ℕ) (r : Result T Fault)
     → MatchResult r (λ v. Opened s sealed (items v)) (λ e. WholeOpenRefused s sealed e)
     → (text : List ℕ) → Opened s sealed text → MatchResult r (λ v. items v ≡ text) (λ e. e ≡ OutOfMemory)
 found items law s sealed (Ok v) m text o = (law s sealed text o).1 (items v) m
 found items law s sealed (Err e) m text o = refused_only law s sealed text o e m
 
 -- no refusal of opening in place fits a sealing
-never_refused : HasOneText → (s : Setting) (body tag text : List ℕ) → length tag ≡ 16 → Opened s (body ++ tag) text → (e : Fault) → OpenRefused s body tag e → ⊥
+never_refused : HasOneText → (s : Setting) (body tag text : List ℕ) → length tag ≡ 16
+    → Opened s (body ++ tag) text → (e : Fault) → OpenRefused s body tag e → ⊥
 never_refused law s body tag text long o AadTooLong h = let fits = o.fits.aad_fits in omega (arith, h, fits)
 never_refused law s body tag text long o TextTooLong h =
-    let size = (law s (body ++ tag) text o).0 in omega (arith, size, length-append body tag, long, h.1, o.fits.text_fits)
+    let size = (law s (body ++ tag) text o).0 in
+    omega (arith, size, length-append body tag, long, h.1, o.fits.text_fits)
 never_refused law s body tag text long o TagMismatch h = h.1 text o
 never_refused law s body tag text long o TooShort h = h
 never_refused law s body tag text long o OutOfMemory h = h
@@ -47,7 +56,8 @@ never_refused law s body tag text long o Write h = h
 never_refused law s body tag text long o SourceChanged h = h
 
 -- so a sealing is opened in place, to its text
-pub found_in_place : HasOneText → (s : Setting) (body tag opened : List ℕ) (r : Result (Unit {0}) Fault) → length tag ≡ 16
+pub found_in_place : HasOneText → (s : Setting) (body tag opened : List ℕ) (r : Result (Unit {0}) Fault)
+    → length tag ≡ 16
     → MatchResult r (λ _. Opened s (body ++ tag) opened) (λ e. OpenRefused s body tag e × (opened ≡ body))
     → (text : List ℕ) → Opened s (body ++ tag) text → MatchResult r (λ _. opened ≡ text) (λ _. ⊥)
 found_in_place law s body tag opened (Ok v) long m text o = (law s (body ++ tag) text o).1 opened m

@@ -1,5 +1,6 @@
 -- The start of the ChaCha20 key stream from counter 0 on: the key of the authenticator, and the mask.
-use Rattle.std.proofs.Common.{◌≡◌, ℕ, ◌*◌, ◌%◌, ◌<◌, ◌≤◌, List, [], ◌∷◌, length, take, get_or, flat_map, sym, ap, ◌∙◌, arith}
+use Rattle.std.proofs.Common.{◌≡◌, ℕ, ◌*◌, ◌%◌, ◌<◌, ◌≤◌, List, [], ◌∷◌, length, take, get_or, flat_map, sym}
+use Rattle.std.proofs.Common.{ap, ◌∙◌, arith}
 use Rattle.std.proofs.lemmas.List.{ext_get_or, get_or-take, length-take-le}
 use Rattle.chacha.specs.Block.{block}
 use Rattle.chacha.specs.Stream.{key_stream_byte}
@@ -9,15 +10,18 @@ use Rattle.aead.specs.Sealing.{poly_key}
 
 -- its first 32 bytes are the key of the authenticator
 pub poly_key_first : (key nonce start : List ℕ) → 64 ≤ length start
-    → ((i : ℕ) → i < length start → get_or start i 0 ≡ key_stream_byte key nonce 0 i) → take 32 start ≡ poly_key key nonce
+    → ((i : ℕ) → i < length start → get_or start i 0 ≡ key_stream_byte key nonce 0 i)
+    → take 32 start ≡ poly_key key nonce
 unfolding poly_key
 poly_key_first key nonce start long same =
     let bytes = block key 0 nonce in
     let size : length (take 32 start) ≡ 32 = length-take-le 32 start (omega arith) in
-    let other : length (take 32 bytes) ≡ 32 = length-take-le 32 bytes (omega (arith, length-block key 0 nonce)) in
+    let other : length (take 32 bytes) ≡ 32 =
+    length-take-le 32 bytes (omega (arith, length-block key 0 nonce)) in
     ext_get_or 0 (take 32 start) (take 32 bytes) (size ∙ sym other) (λ i l.
     let below : i < 32 = omega (arith, l, size) in
-    get_or-take 32 start i 0 below ∙ same i (omega arith) ∙ sym (block_bytes key nonce 0 i (omega arith)) ∙ sym (get_or-take 32 bytes i 0 below))
+    get_or-take 32 start i 0 below ∙ same i (omega arith) ∙ sym (block_bytes key nonce 0 i (omega arith))
+    ∙ sym (get_or-take 32 bytes i 0 below))
 
 -- what such a start is: one to four whole blocks
 pub record IsStart (key nonce start : List ℕ) : Type 0 where
@@ -28,7 +32,8 @@ pub record IsStart (key nonce start : List ℕ) : Type 0 where
 
 -- four blocks, one after the other, are its start
 pub start_of_four : (key nonce : List ℕ) (blocks : List (List ℕ)) (start : List ℕ)
-    → blocks ≡ block key 0 nonce ∷ block key 1 nonce ∷ block key 2 nonce ∷ block key 3 nonce ∷ [] → start ≡ flat_map (λ b. b) blocks
+    → blocks ≡ block key 0 nonce ∷ block key 1 nonce ∷ block key 2 nonce ∷ block key 3 nonce ∷ []
+    → start ≡ flat_map (λ b. b) blocks
     → length start ≡ length blocks * 64 → IsStart key nonce start
 start_of_four key nonce blocks start are is_start size =
     let four : length blocks ≡ 4 = ap length are in

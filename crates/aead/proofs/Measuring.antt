@@ -1,10 +1,12 @@
 -- The last 16 bytes of what came so far.
-use Rattle.std.proofs.Common.{◌≡◌, ℕ, List, ◌++◌, ◌≤◌, ◌+◌, ◌-◌, length, drop, ap, ◌∙◌, sym, arith, append_assoc, length-append}
+use Rattle.std.proofs.Common.{◌≡◌, ℕ, List, ◌++◌, ◌≤◌, ◌+◌, ◌-◌, length, drop, ap, ◌∙◌, sym, arith}
+use Rattle.std.proofs.Common.{append_assoc, length-append}
 use Rattle.std.proofs.lemmas.List.{drop-append-le, drop-drop}
 use Rattle.std.proofs.Math.Seq.{drop-append-add}
 
 -- one piece more
-pub last_more : (z x y last new : List ℕ) → last ≡ drop (length x) (z ++ x) → new ≡ drop (length y) (last ++ y) → new ≡ drop (length (x ++ y)) (z ++ (x ++ y))
+pub last_more : (z x y last new : List ℕ) → last ≡ drop (length x) (z ++ x)
+    → new ≡ drop (length y) (last ++ y) → new ≡ drop (length (x ++ y)) (z ++ (x ++ y))
 last_more z x y last new p q =
     let fits : length x ≤ length (z ++ x) = omega (arith, length-append z x) in
     q ∙ ap (λ l. drop (length y) (l ++ y)) p
@@ -14,7 +16,8 @@ last_more z x y last new p q =
     ∙ ap (λ l. drop (length (x ++ y)) l) (append_assoc z x y)
 
 -- once as many bytes came as there were at first, those are gone
-pub last_whole : (z x : List ℕ) → length z ≤ length x → drop (length x) (z ++ x) ≡ drop (length x - length z) x
+pub last_whole : (z x : List ℕ) → length z ≤ length x
+    → drop (length x) (z ++ x) ≡ drop (length x - length z) x
 last_whole z x h =
     let e : length x ≡ length z + (length x - length z) = omega arith in
     ap (λ n. drop n (z ++ x)) e ∙ drop-append-add z x (length x - length z)

@@ -1,5 +1,6 @@
 -- A sealing has one text.
-use Rattle.std.proofs.Common.{◌≡◌, ℕ, ◌+◌, ◌-◌, ◌*◌, ◌%◌, ◌/◌, false, List, [], ◌++◌, take, drop, get_or, length, map, bit_xor, refl, sym, ap, ap₂, ◌∙◌, arith, length-append}
+use Rattle.std.proofs.Common.{◌≡◌, ℕ, ◌+◌, ◌-◌, ◌*◌, ◌%◌, ◌/◌, false, List, [], ◌++◌, take, drop, get_or}
+use Rattle.std.proofs.Common.{length, map, bit_xor, refl, sym, ap, ap₂, ◌∙◌, arith, length-append}
 use Rattle.std.specs.List.{range_with_len}
 use Rattle.std.proofs.lemmas.List.{take_at, drop_at}
 use Rattle.std.proofs.lemmas.List.FromFn.{length-map-range_with_len}
@@ -12,7 +13,9 @@ use Rattle.aes.specs.Cipher.{cipher, add_round_key, shift_rows, sub_bytes, round
 use Rattle.poly1305.specs.Poly1305.{poly1305}
 use Rattle.gf128.specs.Ghash.{ghash, ghash_sum}
 use Rattle.aead.specs.Suites.{Construction, ByChaCha, ByGcm, ByGcmSiv, construction_of}
-use Rattle.aead.specs.Sealing.{Setting, poly_key, chacha_authenticated, hash_key, j0, gcm_authenticated, encryption_key, mask, mask_by, tag_over_by, tag_by, tag_of, sealing, HasOneText}
+use Rattle.aead.specs.Sealing.{Setting, poly_key, chacha_authenticated, hash_key, j0, gcm_authenticated}
+use Rattle.aead.specs.Sealing.{encryption_key, mask, mask_by, tag_over_by, tag_by, tag_of, sealing}
+use Rattle.aead.specs.Sealing.{HasOneText}
 
 -- ---- a tag has 16 bytes
 
@@ -20,13 +23,15 @@ use Rattle.aead.specs.Sealing.{Setting, poly_key, chacha_authenticated, hash_key
 length-add_round_key : (ws : List (List ℕ)) (n : ℕ) (s : List ℕ) → length (add_round_key ws n s) ≡ 16
 unfolding add_round_key
 length-add_round_key ws n s =
-    length-map-range_with_len (λ i. bit_xor (at s (i % 4) (i / 4)) (get_or (get_or ws (4 * n + i / 4) []) (i % 4) 0)) 0 16
+    length-map-range_with_len
+    (λ i. bit_xor (at s (i % 4) (i / 4)) (get_or (get_or ws (4 * n + i / 4) []) (i % 4) 0)) 0 16
 
 -- a block of the cipher
 pub length-cipher : (key b : List ℕ) → length (cipher key b) ≡ 16
 unfolding cipher
 length-cipher key b =
-    length-add_round_key (schedule key) (round_count key) (shift_rows (sub_bytes (rounds (schedule key) (round_count key - 1) b)))
+    length-add_round_key (schedule key) (round_count key)
+    (shift_rows (sub_bytes (rounds (schedule key) (round_count key - 1) b)))
 
 -- a tag of Poly1305
 length-poly1305 : (key m : List ℕ) → length (poly1305 key m) ≡ 16
@@ -37,12 +42,16 @@ length-poly1305 key m = refl
 length-ghash : (h m : List ℕ) → length (ghash h m) ≡ 16
 unfolding ghash bytes_of_g
 length-ghash h m =
-    length-map-range_with_len (λ i. number (map (λ j. get_or (ghash_sum h m (length m / 16)) (8 * i + (7 - j)) false) (range_with_len 0 8))) 0 16
+    length-map-range_with_len
+    (λ i. number (map (λ j. get_or (ghash_sum h m (length m / 16)) (8 * i + (7 - j)) false)
+    (range_with_len 0 8))) 0 16
 
 -- the tag of what is authenticated
-length-tag_over_by : (by : Construction) (key nonce aad c : List ℕ) → length (tag_over_by by key nonce aad c) ≡ 16
+length-tag_over_by : (by : Construction) (key nonce aad c : List ℕ)
+    → length (tag_over_by by key nonce aad c) ≡ 16
 unfolding tag_over_by
-length-tag_over_by ByChaCha key nonce aad c = length-poly1305 (poly_key key nonce) (chacha_authenticated aad c)
+length-tag_over_by ByChaCha key nonce aad c =
+    length-poly1305 (poly_key key nonce) (chacha_authenticated aad c)
 length-tag_over_by ByGcm key nonce aad c =
     length-xor_bytes (cipher key (j0 nonce)) (ghash (hash_key key) (gcm_authenticated aad c))
     (length-cipher key (j0 nonce) ∙ sym (length-ghash (hash_key key) (gcm_authenticated aad c)))
@@ -52,8 +61,10 @@ length-tag_over_by ByGcmSiv key nonce aad c = length-cipher (encryption_key key 
 -- the tag of a text, by construction
 length-tag_by : (by : Construction) (key nonce aad text : List ℕ) → length (tag_by by key nonce aad text) ≡ 16
 unfolding tag_by
-length-tag_by ByChaCha key nonce aad text = length-tag_over_by ByChaCha key nonce aad (masked (mask_by ByChaCha key nonce []) 0 text)
-length-tag_by ByGcm key nonce aad text = length-tag_over_by ByGcm key nonce aad (masked (mask_by ByGcm key nonce []) 0 text)
+length-tag_by ByChaCha key nonce aad text =
+    length-tag_over_by ByChaCha key nonce aad (masked (mask_by ByChaCha key nonce []) 0 text)
+length-tag_by ByGcm key nonce aad text =
+    length-tag_over_by ByGcm key nonce aad (masked (mask_by ByGcm key nonce []) 0 text)
 length-tag_by ByGcmSiv key nonce aad text = length-tag_over_by ByGcmSiv key nonce aad text
 
 -- and by suite
@@ -78,7 +89,8 @@ pub length-sealing : (s : Setting) (text : List ℕ) → length (sealing s text)
 unfolding sealing
 length-sealing s text =
     length-append (masked (mask s.suite s.key s.nonce (tag_of s text)) 0 text) (tag_of s text)
-    ∙ ap₂ (λ i j. i + j) (length-masked (mask s.suite s.key s.nonce (tag_of s text)) 0 text) (length-tag_of s text)
+    ∙ ap₂ (λ i j. i + j) (length-masked (mask s.suite s.key s.nonce (tag_of s text)) 0 text)
+    (length-tag_of s text)
 
 -- texts with one sealing are equal
 pub sealing_one_to_one : (s : Setting) (text other : List ℕ) → sealing s text ≡ sealing s other → text ≡ other
@@ -86,11 +98,14 @@ unfolding sealing
 sealing_one_to_one s text other e =
     let f : ℕ → ℕ = mask s.suite s.key s.nonce (tag_of s text) in
     let h : ℕ → ℕ = mask s.suite s.key s.nonce (tag_of s other) in
-    let whole : length text + 16 ≡ length other + 16 = sym (length-sealing s text) ∙ ap length e ∙ length-sealing s other in
+    let whole : length text + 16 ≡ length other + 16 =
+    sym (length-sealing s text) ∙ ap length e ∙ length-sealing s other in
     let long : length (masked f 0 text) ≡ length (masked h 0 other) =
     length-masked f 0 text ∙ omega arith ∙ sym (length-masked h 0 other) in
-    let front : masked f 0 text ≡ masked h 0 other = same_front (masked f 0 text) (masked h 0 other) (tag_of s text) (tag_of s other) long e in
-    let tags : tag_of s text ≡ tag_of s other = same_back (masked f 0 text) (masked h 0 other) (tag_of s text) (tag_of s other) long e in
+    let front : masked f 0 text ≡ masked h 0 other =
+    same_front (masked f 0 text) (masked h 0 other) (tag_of s text) (tag_of s other) long e in
+    let tags : tag_of s text ≡ tag_of s other =
+    same_back (masked f 0 text) (masked h 0 other) (tag_of s text) (tag_of s other) long e in
     sym (masked_twice f 0 text) ∙ ap (masked f 0) front
     ∙ ap (λ t. masked (mask s.suite s.key s.nonce t) 0 (masked h 0 other)) tags
     ∙ masked_twice h 0 other

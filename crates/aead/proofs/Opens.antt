@@ -1,9 +1,11 @@
 -- What is sealed and opened by the parts of a cipher.
-use Rattle.std.proofs.Common.{◌≡◌, ℕ, ◌+◌, ◌<◌, true, false, List, ◌++◌, get_or, length, refl, sym, ap, ap₂, ◌∙◌, arith, true≢false, length-append}
+use Rattle.std.proofs.Common.{◌≡◌, ℕ, ◌+◌, ◌<◌, true, false, List, ◌++◌, get_or, length, refl, sym, ap, ap₂}
+use Rattle.std.proofs.Common.{◌∙◌, arith, true≢false, length-append}
 use Rattle.octets.specs.Masked.{masked}
 use Rattle.octets.proofs.Masks.{length-masked, masked_twice}
 use Rattle.aead.specs.Suites.{Construction, ByChaCha, ByGcm, ByGcmSiv, construction_of, is_one_pass}
-use Rattle.aead.specs.Sealing.{Setting, mask_by, mask, tag_over_by, tag_over, tag_by, tag_of, sealing, Fits, Opened, IsNoSealing}
+use Rattle.aead.specs.Sealing.{Setting, mask_by, mask, tag_over_by, tag_over, tag_by, tag_of, sealing, Fits}
+use Rattle.aead.specs.Sealing.{Opened, IsNoSealing}
 use Rattle.aead.proofs.OneText.{length-sealing, same_front, same_back}
 
 -- what a body and a tag would open to
@@ -11,7 +13,8 @@ abbrev pub unmasked : Setting → List ℕ → List ℕ → List ℕ
 unmasked s tag body = masked (mask s.suite s.key s.nonce tag) 0 body
 
 -- they are a sealing where that has the tag
-pub sealed_if : (s : Setting) (body tag : List ℕ) → tag_of s (unmasked s tag body) ≡ tag → body ++ tag ≡ sealing s (unmasked s tag body)
+pub sealed_if : (s : Setting) (body tag : List ℕ) → tag_of s (unmasked s tag body) ≡ tag
+    → body ++ tag ≡ sealing s (unmasked s tag body)
 unfolding sealing
 sealed_if s body tag e =
     ap₂ (λ b t. b ++ t)
@@ -26,7 +29,8 @@ unfolding sealing
 sealed_only_if s body tag text long e =
     let f : ℕ → ℕ = mask s.suite s.key s.nonce (tag_of s text) in
     let whole : length body + 16 ≡ length text + 16 =
-    ap (λ n. length body + n) (sym long) ∙ sym (length-append body tag) ∙ ap length e ∙ length-sealing s text in
+    ap (λ n. length body + n) (sym long) ∙ sym (length-append body tag) ∙ ap length e
+    ∙ length-sealing s text in
     let same : length body ≡ length (masked f 0 text) = omega (arith, length-masked f 0 text) in
     let front : body ≡ masked f 0 text = same_front body (masked f 0 text) tag (tag_of s text) same e in
     let tags : tag ≡ tag_of s text = same_back body (masked f 0 text) tag (tag_of s text) same e in
@@ -37,7 +41,8 @@ sealed_only_if s body tag text long e =
 -- ---- by construction
 
 -- where the tag is over the ciphertext, the mask looks at no tag
-same_mask_by : (by : Construction) (key nonce tag other : List ℕ) → is_one_pass by ≡ true → mask_by by key nonce tag ≡ mask_by by key nonce other
+same_mask_by : (by : Construction) (key nonce tag other : List ℕ) → is_one_pass by ≡ true
+    → mask_by by key nonce tag ≡ mask_by by key nonce other
 unfolding mask_by
 same_mask_by ByChaCha key nonce tag other h = refl
 same_mask_by ByGcm key nonce tag other h = refl
@@ -93,7 +98,8 @@ pub seals_one_pass : (s : Setting) (some text out tag : List ℕ) → is_one_pas
     → Opened s (out ++ tag) text
 unfolding sealing
 seals_one_pass s some text out tag one fits bytes e f =
-    let tag_is : tag ≡ tag_of s text = f ∙ ap (tag_over s.suite s.key s.nonce s.aad) e ∙ sym (one_pass_tag s some text one) in
+    let tag_is : tag ≡ tag_of s text =
+    f ∙ ap (tag_over s.suite s.key s.nonce s.aad) e ∙ sym (one_pass_tag s some text one) in
     record {
       fits = fits;
       bytes = bytes;
@@ -115,14 +121,20 @@ seals_two_pass s text out tag two fits bytes f e =
     }
 
 -- a body whose text has another tag
-pub no_sealing : (s : Setting) (body tag : List ℕ) → length tag ≡ 16 → (tag_of s (unmasked s tag body) ≡ tag → ⊥) → IsNoSealing s (body ++ tag)
+pub no_sealing : (s : Setting) (body tag : List ℕ) → length tag ≡ 16
+    → (tag_of s (unmasked s tag body) ≡ tag → ⊥) → IsNoSealing s (body ++ tag)
 no_sealing s body tag long other text o = other (sealed_only_if s body tag text long o.is).0
 
 -- a body whose text has the tag
 pub opened_as : (s : Setting) (body tag text : List ℕ) → Fits s body
-    → ((i : ℕ) → get_or text i 0 < 256) → text ≡ unmasked s tag body → tag_of s (unmasked s tag body) ≡ tag → Opened s (body ++ tag) text
+    → ((i : ℕ) → get_or text i 0 < 256) → text ≡ unmasked s tag body → tag_of s (unmasked s tag body) ≡ tag
+    → Opened s (body ++ tag) text
 opened_as s body tag text fits bytes e same = record {
-  fits = record { aad_fits = fits.aad_fits; text_fits = rw (e, length-masked (mask s.suite s.key s.nonce tag) 0 body) fits.text_fits };
+  fits = record {
+    aad_fits = fits.aad_fits;
+    text_fits =
+        rw (e, length-masked (mask s.suite s.key s.nonce tag) 0 body) fits.text_fits;
+  };
   bytes = bytes;
   is = sealed_if s body tag same ∙ ap (sealing s) (sym e);
 }

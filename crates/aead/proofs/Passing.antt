@@ -1,5 +1,6 @@
 -- Pieces of a pass, one after another.
-use Rattle.std.proofs.Common.{◌≡◌, ℕ, zero, suc, List, [], ◌∷◌, ◌++◌, ◌≤◌, ◌<◌, ◌+◌, length, take, get_or, ap, ◌∙◌, sym, arith, append_assoc, Option, subst, length-append}
+use Rattle.std.proofs.Common.{◌≡◌, ℕ, zero, suc, List, [], ◌∷◌, ◌++◌, ◌≤◌, ◌<◌, ◌+◌, length, take, get_or}
+use Rattle.std.proofs.Common.{ap, ◌∙◌, sym, arith, append_assoc, Option, subst, length-append}
 use Rattle.std.proofs.lemmas.List.{append-nil}
 use Rattle.std.proofs.Math.Seq.{take-append-add}
 use Rattle.std.specs.Io.KnownBytes.{Consumes, Appends}
@@ -12,22 +13,32 @@ use Rattle.aead.specs.Code.AnyMaskings.{HoldsAnyMasking}
 use Rattle.aead.specs.Code.Passes.{Went, WentFar, Stopped}
 
 -- what holds of the places of two lists holds of both joined
-small-append : (x y : List ℕ) → ((i : ℕ) → get_or x i 0 < 256) → ((i : ℕ) → get_or y i 0 < 256) → (i : ℕ) → get_or (x ++ y) i 0 < 256
+small-append : (x y : List ℕ) → ((i : ℕ) → get_or x i 0 < 256) → ((i : ℕ) → get_or y i 0 < 256) → (i : ℕ)
+    → get_or (x ++ y) i 0 < 256
 small-append [] y p q i = q i
 small-append (b ∷ x) y p q zero = p 0
 small-append (b ∷ x) y p q (suc i) = small-append x y (λ j. p (suc j)) q i
 
 -- nothing yet
-pub went_none : (t : Task) (fed : List ℕ) (l o : Option (List ℕ)) (k : AnyMasking) → HoldsAnyMasking k t fed → Went t fed l l o o k []
+pub went_none : (t : Task) (fed : List ℕ) (l o : Option (List ℕ)) (k : AnyMasking) → HoldsAnyMasking k t fed
+    → Went t fed l l o o k []
 unfolding masked
 went_none t fed l o k h =
     let P : List ℕ → Type 0 = λ b. HoldsAnyMasking k t b in
-    record { consumed = consumes_none l; given = appends_none o; held = subst P (sym (append-nil fed)) h; small = λ i. omega arith }
+    record {
+      consumed = consumes_none l;
+      given = appends_none o;
+      held = subst P (sym (append-nil fed)) h;
+      small = λ i. omega arith;
+    }
 
 -- the masked x, and then that of y
-two_masked : (t : Task) (fed x y : List ℕ) → masked (task_mask t) (length fed) (x ++ y) ≡ masked (task_mask t) (length fed) x ++ masked (task_mask t) (length (fed ++ x)) y
+two_masked : (t : Task) (fed x y : List ℕ)
+    → masked (task_mask t) (length fed) (x ++ y)
+    ≡ masked (task_mask t) (length fed) x ++ masked (task_mask t) (length (fed ++ x)) y
 two_masked t fed x y =
-    masked-append (task_mask t) (length fed) x y ∙ ap (λ i. masked (task_mask t) (length fed) x ++ masked (task_mask t) i y) (sym (length-append fed x))
+    masked-append (task_mask t) (length fed) x y
+    ∙ ap (λ i. masked (task_mask t) (length fed) x ++ masked (task_mask t) i y) (sym (length-append fed x))
 
 pub went_more : (t : Task) (fed x y : List ℕ) (l l' l'' o o' o'' : Option (List ℕ)) (k k' : AnyMasking) →
     Went t fed l l' o o' k x → Went t (fed ++ x) l' l'' o' o'' k' y → Went t fed l l'' o o'' k' (x ++ y)
@@ -42,13 +53,19 @@ went_more t fed x y l l' l'' o o' o'' k k' p q =
       small = subst R (sym (two_masked t fed x y)) (small-append _ _ p.small q.small);
     }
 
-pub stopped_more : (t : Task) (fed x : List ℕ) (room room' : ℕ) (l l' l'' o o' o'' : Option (List ℕ)) (k : AnyMasking) →
-    Went t fed l l' o o' k x → Stopped t (fed ++ x) room l' l'' o' o'' → length x + room ≤ room' → Stopped t fed room' l l'' o o''
+pub stopped_more : (t : Task) (fed x : List ℕ) (room room' : ℕ) (l l' l'' o o' o'' : Option (List ℕ))
+    (k : AnyMasking) →
+    Went t fed l l' o o' k x → Stopped t (fed ++ x) room l' l'' o' o'' → length x + room ≤ room'
+    → Stopped t fed room' l l'' o o''
 stopped_more t fed x room room' l l' l'' o o' o'' k p q fits =
     let Q : List ℕ → Type 0 = λ b. Appends o o'' b in
-    let texts : take (length x + q.shown) (masked (task_mask t) (length fed) (x ++ q.bytes)) ≡ masked (task_mask t) (length fed) x ++ take q.shown (masked (task_mask t) (length (fed ++ x)) q.bytes) =
+    let texts : take (length x + q.shown) (masked (task_mask t) (length fed) (x ++ q.bytes))
+    ≡ masked (task_mask t) (length fed) x
+    ++ take q.shown (masked (task_mask t) (length (fed ++ x)) q.bytes) =
     ap (λ l. take (length x + q.shown) l) (two_masked t fed x q.bytes)
-    ∙ ap (λ n. take (n + q.shown) (masked (task_mask t) (length fed) x ++ masked (task_mask t) (length (fed ++ x)) q.bytes)) (sym (length-masked (task_mask t) (length fed) x))
+    ∙ ap (λ n. take (n + q.shown)
+    (masked (task_mask t) (length fed) x ++ masked (task_mask t) (length (fed ++ x)) q.bytes))
+    (sym (length-masked (task_mask t) (length fed) x))
     ∙ take-append-add (masked (task_mask t) (length fed) x) _ q.shown in
     record {
       bytes = x ++ q.bytes;
@@ -60,8 +77,10 @@ stopped_more t fed x room room' l l' l'' o o' o'' k p q fits =
     }
 
 -- a piece that was the last
-pub far_more : (t : Task) (x : List ℕ) (room room' n done : ℕ) (l l' l'' o o' o'' : Option (List ℕ)) (k k' : AnyMasking) →
-    Went t [] l l' o o' k x → length x ≡ done → WentFar t x room l' l'' o' o'' k' n → n < room → done + room ≤ room' →
+pub far_more : (t : Task) (x : List ℕ) (room room' n done : ℕ) (l l' l'' o o' o'' : Option (List ℕ))
+    (k k' : AnyMasking) →
+    Went t [] l l' o o' k x → length x ≡ done → WentFar t x room l' l'' o' o'' k' n → n < room
+    → done + room ≤ room' →
     WentFar t [] room' l l'' o o'' k' (done + n)
 far_more t x room room' n done l l' l'' o o' o'' k k' p size q less fits =
     record {
@@ -73,9 +92,18 @@ far_more t x room room' n done l l' l'' o o' o'' k k' p size q less fits =
     }
 
 -- a give that stopped
-pub stopped : (t : Task) (fed bytes out : List ℕ) (room n : ℕ) (l l' o o' : Option (List ℕ)) → Consumes l l' bytes → length bytes ≤ room →
-    out ≡ masked (task_mask t) (length fed) bytes → n ≤ length out → Appends o o' (take n out) → Stopped t fed room l l' o o'
+pub stopped : (t : Task) (fed bytes out : List ℕ) (room n : ℕ) (l l' o o' : Option (List ℕ))
+    → Consumes l l' bytes → length bytes ≤ room →
+    out ≡ masked (task_mask t) (length fed) bytes → n ≤ length out → Appends o o' (take n out)
+    → Stopped t fed room l l' o o'
 stopped t fed bytes out room n l l' o o' consumed fits is within given =
     let P : List ℕ → Type 0 = λ b. Appends o o' (take n b) in
     let size : length out ≡ length bytes = ap length is ∙ length-masked (task_mask t) (length fed) bytes in
-    record { bytes = bytes; shown = n; consumed = consumed; within = omega arith; short = omega arith; given = subst P is given }
+    record {
+      bytes = bytes;
+      shown = n;
+      consumed = consumed;
+      within = omega arith;
+      short = omega arith;
+      given = subst P is given;
+    }

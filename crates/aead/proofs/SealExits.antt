@@ -1,5 +1,6 @@
 -- The exits of the engine that seals in one reading.
-use Rattle.std.proofs.Common.{◌≡◌, ℕ, List, [], ◌++◌, ◌≤◌, ◌<◌, ◌+◌, ◌⊎◌, inl, inr, true, length, take, refl, ap, ◌∙◌, sym, arith, Option, Some, None, Result, Ok, Err, subst, IfSome}
+use Rattle.std.proofs.Common.{◌≡◌, ℕ, List, [], ◌++◌, ◌≤◌, ◌<◌, ◌+◌, ◌⊎◌, inl, inr, true, length, take, refl}
+use Rattle.std.proofs.Common.{ap, ◌∙◌, sym, arith, Option, Some, None, Result, Ok, Err, subst, IfSome}
 use Rattle.std.proofs.lemmas.Bool.{le-leb, lt-leb}
 use Rattle.std.proofs.lemmas.Bool.{cases_lt}
 use Rattle.std.proofs.lemmas.List.{take_all, take-append-le, take-take}
@@ -27,14 +28,17 @@ use Rattle.aead.proofs.Extents.{all_told, all_stopped_told}
 -- ---- what may be given
 
 -- of a text within the limit, the ciphertext and the tag
-pub may_seal_is : (s : Setting) (x : List ℕ) → is_one_pass (construction_of s.suite) ≡ true → length x ≤ text_limit s.suite
+pub may_seal_is : (s : Setting) (x : List ℕ) → is_one_pass (construction_of s.suite) ≡ true
+    → length x ≤ text_limit s.suite
     → may_seal s x ≡ masked (mask_of s []) 0 x ++ tag_of s x
 unfolding may_seal sealing
 may_seal_is s x one fits =
-    rw (le-leb (length x) (text_limit s.suite) fits) (ap (λ f. masked f 0 x ++ tag_of s x) (same_mask s (tag_of s x) [] one))
+    rw (le-leb (length x) (text_limit s.suite) fits)
+    (ap (λ f. masked f 0 x ++ tag_of s x) (same_mask s (tag_of s x) [] one))
 
 -- of a longer one, the ciphertext of its beginning
-pub may_seal_long : (s : Setting) (x : List ℕ) → text_limit s.suite < length x → may_seal s x ≡ masked (mask_of s []) 0 (take (text_limit s.suite) x)
+pub may_seal_long : (s : Setting) (x : List ℕ) → text_limit s.suite < length x
+    → may_seal s x ≡ masked (mask_of s []) 0 (take (text_limit s.suite) x)
 unfolding may_seal
 may_seal_long s x past = rw (lt-leb (length x) (text_limit s.suite) past) refl
 
@@ -43,7 +47,8 @@ unfolding may_seal
 may_seal_sealing s x fits = rw (le-leb (length x) (text_limit s.suite) fits) refl
 
 -- a beginning of the ciphertext is one of it
-pub begun : (s : Setting) (x : List ℕ) (k : ℕ) → is_one_pass (construction_of s.suite) ≡ true → k ≤ length x → k ≤ text_limit s.suite
+pub begun : (s : Setting) (x : List ℕ) (k : ℕ) → is_one_pass (construction_of s.suite) ≡ true → k ≤ length x
+    → k ≤ text_limit s.suite
     → take k (masked (mask_of s []) 0 x) ≡ take k (may_seal s x)
 begun s x k one within short =
     elim (cases_lt (text_limit s.suite) (length x)) [
@@ -53,7 +58,8 @@ begun s x k one within short =
           ∙ sym (take-masked (mask_of s []) k 0 (take (text_limit s.suite) x))
           ∙ sym (ap (take k) (may_seal_long s x past))
       | inr fits ↦
-          sym (take-append-le k (masked (mask_of s []) 0 x) (tag_of s x) (omega (arith, within, length-masked (mask_of s []) 0 x)))
+          sym (take-append-le k (masked (mask_of s []) 0 x) (tag_of s x)
+          (omega (arith, within, length-masked (mask_of s []) 0 x)))
           ∙ sym (ap (take k) (may_seal_is s x one fits))
     ]
 
@@ -72,15 +78,18 @@ told None P p = tt
 told (Some x) P p = p
 
 -- and what follows from it
-pub where_told : (l : Option (List ℕ)) (A B : List ℕ → Type 0) → IfSome l A → ((x : List ℕ) → A x → B x) → IfSome l B
+pub where_told : (l : Option (List ℕ)) (A B : List ℕ → Type 0) → IfSome l A → ((x : List ℕ) → A x → B x)
+    → IfSome l B
 where_told None A B a f = tt
 where_told (Some x) A B a f = f x a
 
 -- a device failed before the tag
-pub exit_stopped : (l l' o o' : Option (List ℕ)) (s : Setting) (limit read read' wrote wrote' : ℕ) (f : Fault) → limit ≡ text_limit s.suite
+pub exit_stopped : (l l' o o' : Option (List ℕ)) (s : Setting) (limit read read' wrote wrote' : ℕ)
+    (f : Fault) → limit ≡ text_limit s.suite
     → is_one_pass (construction_of s.suite) ≡ true → length s.aad ≤ aad_limit s.suite
     → Stopped (sealing_task s []) [] limit l l' o o'
-    → ((f ≡ Read) × Failed read read' × (wrote' ≡ wrote)) ⊎ ((f ≡ Write) × (read' ≡ read) × Failed wrote wrote')
+    → ((f ≡ Read) × Failed read read' × (wrote' ≡ wrote))
+    ⊎ ((f ≡ Write) × (read' ≡ read) × Failed wrote wrote')
     → WhereTextTold l o o' (λ x given. SealsStream s x given read read' wrote wrote' (Err f))
 exit_stopped l l' o o' s limit read read' wrote wrote' f same one fits stop blame =
     where_text_told l o o' _ _ (told l (λ m. Stopped (sealing_task s []) [] limit m l' o o') stop) (λ x st.
@@ -96,7 +105,8 @@ exit_stopped l l' o o' s limit read read' wrote wrote' f same one fits stop blam
     ))
 
 -- the text is too long
-pub exit_long : (l l' o o' : Option (List ℕ)) (s : Setting) (k : AnyMasking) (limit read read' wrote wrote' : ℕ) → limit ≡ text_limit s.suite
+pub exit_long : (l l' o o' : Option (List ℕ)) (s : Setting) (k : AnyMasking)
+    (limit read read' wrote wrote' : ℕ) → limit ≡ text_limit s.suite
     → length s.aad ≤ aad_limit s.suite
     → WentAll (sealing_task s []) limit l l' o o' k None → (read' ≡ read) × (wrote' ≡ wrote)
     → WhereTextTold l o o' (λ x given. SealsStream s x given read read' wrote wrote' (Err TextTooLong))
@@ -105,38 +115,53 @@ exit_long l l' o o' s k limit read read' wrote wrote' same fits went kept =
     let t = all_told (sealing_task s []) limit x l' o o' k None w in
     let past : text_limit s.suite < length x = omega (arith, t.2, same) in
     let given : List ℕ = masked (mask_of s []) 0 (take limit x) in
-    let all : given ≡ may_seal s x = ap (λ n. masked (mask_of s []) 0 (take n x)) same ∙ sym (may_seal_long s x past) in (
+    let all : given ≡ may_seal s x =
+    ap (λ n. masked (mask_of s []) 0 (take n x)) same ∙ sym (may_seal_long s x past) in (
       given,
       t.0,
       record {
         early = λ p. absurd (omega (arith, p, fits));
-        beginning = (length given, sym (take_all (length given) given (omega arith)) ∙ ap (take (length given)) all);
+        beginning = (
+          length given,
+          sym (take_all (length given) given (omega arith))
+              ∙ ap (take (length given)) all,
+        );
         whole = λ e. absurd (cc);
         answer = inl ((fits, past), kept.0, kept.1);
       },
     ))
 
 -- the sealer holds the whole text
-pub holds_all : (before after : Sealer) (s : Setting) (limit n : ℕ) (x : List ℕ) (l' o o' : Option (List ℕ)) → limit ≡ text_limit s.suite → HoldsSealer before s []
+pub holds_all : (before after : Sealer) (s : Setting) (limit n : ℕ) (x : List ℕ) (l' o o' : Option (List ℕ))
+    → limit ≡ text_limit s.suite → HoldsSealer before s []
     → ((tag : List ℕ) → WentAll (sealing_task s tag) limit (Some x) l' o o' after.masking (Some n))
     → HoldsSealer after s x × (length x ≤ text_limit s.suite)
 holds_all before after s limit n x l' o o' same h went =
-    let t : (tag : List ℕ) → Appends o o' (masked (mask_of s tag) 0 (take limit x)) × HoldsAnyMasking after.masking (sealing_task s tag) (take limit x) × (length x ≡ n) × (n ≤ limit) =
-    λ tag. let a = all_told (sealing_task s tag) limit x l' o o' after.masking (Some n) (went tag) in (a.0, a.1, a.2.0, a.2.1) in
+    let t : (tag : List ℕ) → Appends o o' (masked (mask_of s tag) 0 (take limit x))
+    × HoldsAnyMasking after.masking (sealing_task s tag) (take limit x) × (length x ≡ n) × (n ≤ limit) =
+    λ tag. let a = all_told (sealing_task s tag) limit x l' o o' after.masking (Some n) (went tag) in
+    (a.0, a.1, a.2.0, a.2.1) in
     let all : take limit x ≡ x = take_all limit x (omega (arith, (t []).2, (t []).3)) in
-    let P : List ℕ → List ℕ → Type 0 = λ tag y. HoldsAnyMasking after.masking (sealing_task s tag) y in
-    (record { one_pass = h.one_pass; masking = λ tag. subst (P tag) all (t tag).1 }, omega (arith, (t []).2, (t []).3, same))
+    let P : List ℕ → List ℕ → Type 0 = λ tag y. HoldsAnyMasking after.masking (sealing_task s tag) y in (
+      record { one_pass = h.one_pass; masking = λ tag. subst (P tag) all (t tag).1 },
+      omega (arith, (t []).2, (t []).3, same),
+    )
 
 -- the tag was given, or begun
-pub exit_tag : (l l' o o' o'' : Option (List ℕ)) (s : Setting) (before after : Sealer) (tag : List ℕ) (limit n k read read' wrote wrote' : ℕ) (r : Result (Unit {0}) Fault) → limit ≡ text_limit s.suite
+pub exit_tag : (l l' o o' o'' : Option (List ℕ)) (s : Setting) (before after : Sealer) (tag : List ℕ)
+    (limit n k read read' wrote wrote' : ℕ) (r : Result (Unit {0}) Fault) → limit ≡ text_limit s.suite
     → HoldsSealer before s [] → length s.aad ≤ aad_limit s.suite
     → ((tag : List ℕ) → WentAll (sealing_task s tag) limit l l' o o' after.masking (Some n))
     → ((s : Setting) (text : List ℕ) → HoldsSealer after s text → tag ≡ tag_of s text)
     → Appends o' o'' (take k tag)
-    → ((r ≡ Ok tt) × (length tag ≤ k) × (read' ≡ read) × (wrote' ≡ wrote)) ⊎ ((r ≡ Err Write) × Failed wrote wrote')
+    → ((r ≡ Ok tt) × (length tag ≤ k) × (read' ≡ read) × (wrote' ≡ wrote))
+    ⊎ ((r ≡ Err Write) × Failed wrote wrote')
     → WhereTextTold l o o'' (λ x given. SealsStream s x given read read' wrote wrote' r)
-exit_tag l l' o o' o'' s before after tag limit n k read read' wrote wrote' r same h fits went tag_is more end =
-    where_text_told l o o'' _ _ (told l (λ m. (tag : List ℕ) → WentAll (sealing_task s tag) limit m l' o o' after.masking (Some n)) went) (λ x w.
+exit_tag l l' o o' o'' s before after tag limit n k read read' wrote wrote' r same h fits went tag_is more
+    end =
+    where_text_told l o o'' _ _
+    (told l (λ m. (tag : List ℕ) → WentAll (sealing_task s tag) limit m l' o o' after.masking (Some n)) went)
+    (λ x w.
     let held = holds_all before after s limit n x l' o o' same h w in
     let t = all_told (sealing_task s []) limit x l' o o' after.masking (Some n) (w []) in
     let is : tag ≡ tag_of s x = tag_is s x held.0 in
@@ -144,7 +169,8 @@ exit_tag l l' o o' o'' s before after tag limit n k read read' wrote wrote' r sa
     let P : List ℕ → Type 0 = λ y. Appends o o' (masked (mask_of s []) 0 y) in
     let body : List ℕ = masked (mask_of s []) 0 x in
     let given : List ℕ = body ++ take k tag in
-    let all : may_seal s x ≡ body ++ tag = may_seal_is s x h.one_pass held.1 ∙ ap (λ z. body ++ z) (sym is) in (
+    let all : may_seal s x ≡ body ++ tag =
+    may_seal_is s x h.one_pass held.1 ∙ ap (λ z. body ++ z) (sym is) in (
       given,
       appends_more o o' o'' body (take k tag) (subst P whole t.0) more,
       record {

@@ -1,10 +1,15 @@
 -- The exits of the engine that seals in two readings.
-use Rattle.std.proofs.Common.{◌≡◌, ℕ, List, [], ◌++◌, ◌≤◌, ◌<◌, ◌+◌, ◌⊎◌, inl, inr, Bool, true, false, length, take, refl, ap, ◌∙◌, sym, arith, Option, Some, None, Result, Ok, Err, subst, IfSome, length-append}
+use Rattle.std.proofs.Common.{◌≡◌, ℕ, List, [], ◌++◌, ◌≤◌, ◌<◌, ◌+◌, ◌⊎◌, inl, inr, Bool, true, false}
+use Rattle.std.proofs.Common.{length, take, refl, ap, ◌∙◌, sym, arith, Option, Some, None, Result, Ok, Err}
+use Rattle.std.proofs.Common.{subst, IfSome, length-append}
 use Rattle.std.proofs.lemmas.List.{take_all, take-take, append-nil}
 use Rattle.std.proofs.Math.Seq.{take-append-add}
 use Rattle.std.specs.Io.KnownBytes.{Appends}
 use Rattle.octets.specs.declared.fault.Fault.{Fault}
-use Rattle.octets.specs.declared.fault.Fault.TheVariants.{Read, Write, KeyLength, NonceLength, TextTooLong, AadTooLong, TooShort, TagMismatch, WrapLength, WrapIntegrity, OutOfMemory, StreamEnd, SourceChanged}
+use Rattle.octets.specs.declared.fault.Fault.TheVariants.{Read, Write, KeyLength, NonceLength, TextTooLong}
+use Rattle.octets.specs.declared.fault.Fault.TheVariants.{AadTooLong, TooShort, TagMismatch, WrapLength}
+use Rattle.octets.specs.declared.fault.Fault.TheVariants.{WrapIntegrity, OutOfMemory, StreamEnd}
+use Rattle.octets.specs.declared.fault.Fault.TheVariants.{SourceChanged}
 use Rattle.octets.specs.Device.{Failed}
 use Rattle.octets.specs.Masked.{masked}
 use Rattle.octets.proofs.Devices.{appends_none, appends_more}
@@ -20,15 +25,18 @@ use Rattle.aead.specs.Pieces.{HoldsAbsorb, HoldsWriter, Repeats}
 use Rattle.aead.specs.Code.Maskings.{repeating_task}
 use Rattle.aead.specs.Code.Passes.{Stopped}
 use Rattle.aead.specs.Code.Extents.{WentAll}
-use Rattle.aead.specs.SealSivStream.{AbsorbedAll, again, WritesAgain, SivVerdict, SivCounts, SealsSivStream, WhereBothTold}
+use Rattle.aead.specs.SealSivStream.{AbsorbedAll, again, WritesAgain, SivVerdict, SivCounts, SealsSivStream}
+use Rattle.aead.specs.SealSivStream.{WhereBothTold}
 use Rattle.aead.proofs.Extents.{all_told, all_stopped_told}
 use Rattle.aead.proofs.SealExits.{told}
 
 -- ---- the second reading
 
 -- what was given and is held of it
-again_told : (s : Setting) (a b : List ℕ) (len : ℕ) (l' o o' : Option (List ℕ)) (k : AnyMasking) (e : Option ℕ) → len ≡ length a
-    → WentAll (repeating_task s a) len (Some b) l' o o' k e → Appends o o' (again s a b) × HoldsAnyMasking k (repeating_task s a) (take (length a) b)
+again_told : (s : Setting) (a b : List ℕ) (len : ℕ) (l' o o' : Option (List ℕ)) (k : AnyMasking)
+    (e : Option ℕ) → len ≡ length a
+    → WentAll (repeating_task s a) len (Some b) l' o o' k e
+    → Appends o o' (again s a b) × HoldsAnyMasking k (repeating_task s a) (take (length a) b)
 again_told s a b len l' o o' k e same w =
     let t = all_told (repeating_task s a) len b l' o o' k e w in
     let P : ℕ → Type 0 = λ n. Appends o o' (masked (mask_of s (tag_of s a)) 0 (take n b)) in
@@ -36,57 +44,83 @@ again_told s a b len l' o o' k e same w =
     (subst P same t.0, subst Q same t.1)
 
 -- where its length is within the first one's, it is held whole
-whole_again : (s : Setting) (a b : List ℕ) (len n : ℕ) (l' o o' : Option (List ℕ)) (k : AnyMasking) → len ≡ length a
+whole_again : (s : Setting) (a b : List ℕ) (len n : ℕ) (l' o o' : Option (List ℕ)) (k : AnyMasking)
+    → len ≡ length a
     → WentAll (repeating_task s a) len (Some b) l' o o' k (Some n) → take (length a) b ≡ b
 whole_again s a b len n l' o o' k same w =
     let t = all_told (repeating_task s a) len b l' o o' k (Some n) w in
     take_all (length a) b (omega (arith, t.2.0, t.2.1, same))
 
 -- a device failed before the tag
-pub again_stopped : (s : Setting) (a b : List ℕ) (len read read' wrote wrote' : ℕ) (l' o o' : Option (List ℕ)) (f : Fault) → len ≡ length a
+pub again_stopped : (s : Setting) (a b : List ℕ) (len read read' wrote wrote' : ℕ)
+    (l' o o' : Option (List ℕ)) (f : Fault) → len ≡ length a
     → Stopped (repeating_task s a) [] len (Some b) l' o o'
-    → ((f ≡ Read) × Failed read read' × (wrote' ≡ wrote)) ⊎ ((f ≡ Write) × (read' ≡ read) × Failed wrote wrote')
+    → ((f ≡ Read) × Failed read read' × (wrote' ≡ wrote))
+    ⊎ ((f ≡ Write) × (read' ≡ read) × Failed wrote wrote')
     → WritesAgain s a b o o' read read' wrote wrote' (Err f)
 again_stopped s a b len read read' wrote wrote' l' o o' f same stop blame =
     let m : ℕ → ℕ = mask_of s (tag_of s a) in
     let k = all_stopped_told (repeating_task s a) len b l' o o' stop in
     let P : List ℕ → Type 0 = λ x. Appends o o' x in
     let front : take k.0 (masked m 0 b) ≡ take k.0 (again s a b) =
-    take-masked m k.0 0 b ∙ ap (λ x. masked m 0 x) (sym (take-take k.0 (length a) b (omega (arith, k.2, same)))) ∙ sym (take-masked m k.0 0 (take (length a) b)) in
-    inr (inr (inl (k.0, subst P front k.3, elim blame [ inl x ↦ inl (ap Err x.0, x.1) | inr x ↦ inr (ap Err x.0, x.2) ])))
+    take-masked m k.0 0 b ∙ ap (λ x. masked m 0 x)
+    (sym (take-take k.0 (length a) b (omega (arith, k.2, same))))
+    ∙ sym (take-masked m k.0 0 (take (length a) b)) in
+    inr (inr (inl (
+      k.0,
+      subst P front k.3,
+      elim blame [ inl x ↦ inl (ap Err x.0, x.1) | inr x ↦ inr (ap Err x.0, x.2) ],
+    )))
 
 -- it is longer than the first one
-pub again_long : (s : Setting) (a b : List ℕ) (len read read' wrote wrote' : ℕ) (l' o o' : Option (List ℕ)) (k : AnyMasking) → len ≡ length a
+pub again_long : (s : Setting) (a b : List ℕ) (len read read' wrote wrote' : ℕ) (l' o o' : Option (List ℕ))
+    (k : AnyMasking) → len ≡ length a
     → WentAll (repeating_task s a) len (Some b) l' o o' k None → (read' ≡ read) × (wrote' ≡ wrote)
     → WritesAgain s a b o o' read read' wrote wrote' (Err SourceChanged)
 again_long s a b len read read' wrote wrote' l' o o' k same w kept =
     let t = all_told (repeating_task s a) len b l' o o' k None w in
-    inr (inl (refl, λ r. omega (arith, r.0, t.2, same), (again_told s a b len l' o o' k None same w).0, kept.0, kept.1))
+    inr (inl (
+      refl,
+      λ r. omega (arith, r.0, t.2, same),
+      (again_told s a b len l' o o' k None same w).0,
+      kept.0,
+      kept.1,
+    ))
 
 -- it does not repeat the first one
-pub again_differs : (s : Setting) (a b : List ℕ) (len n read read' wrote wrote' : ℕ) (l' o o' : Option (List ℕ)) (before after : SivWriter) (f : Fault) → len ≡ length a
-    → HoldsWriter before s a [] → after.tag ≡ before.tag → WentAll (repeating_task s a) len (Some b) l' o o' after.masking (Some n) → (read' ≡ read) × (wrote' ≡ wrote)
-    → ((s : Setting) (first text : List ℕ) → HoldsWriter after s first text → (f ≡ SourceChanged) × ¬ (Repeats s first text))
+pub again_differs : (s : Setting) (a b : List ℕ) (len n read read' wrote wrote' : ℕ)
+    (l' o o' : Option (List ℕ)) (before after : SivWriter) (f : Fault) → len ≡ length a
+    → HoldsWriter before s a [] → after.tag ≡ before.tag
+    → WentAll (repeating_task s a) len (Some b) l' o o' after.masking (Some n)
+    → (read' ≡ read) × (wrote' ≡ wrote)
+    → ((s : Setting) (first text : List ℕ) → HoldsWriter after s first text
+    → (f ≡ SourceChanged) × ¬ (Repeats s first text))
     → WritesAgain s a b o o' read read' wrote wrote' (Err f)
 again_differs s a b len n read read' wrote wrote' l' o o' before after f same h tag w kept finish =
     let t = again_told s a b len l' o o' after.masking (Some n) same w in
     let e = whole_again s a b len n l' o o' after.masking same w in
     let P : List ℕ → Type 0 = λ x. ¬ (Repeats s a x) in
-    let found = finish s a (take (length a) b) (record { by_gcm_siv = h.by_gcm_siv; tag_is = tag ∙ h.tag_is; masking = t.1 }) in
+    let found = finish s a (take (length a) b)
+    (record { by_gcm_siv = h.by_gcm_siv; tag_is = tag ∙ h.tag_is; masking = t.1 }) in
     inr (inl (ap Err found.0, subst P e found.1, t.0, kept.0, kept.1))
 
 -- it repeats the first one, and the tag was given, or begun
-pub again_tag : (s : Setting) (a b tag : List ℕ) (len n k read read' wrote wrote' : ℕ) (l' o o' o'' : Option (List ℕ)) (before after : SivWriter) (r : Result (Unit {0}) Fault) → len ≡ length a
-    → HoldsWriter before s a [] → after.tag ≡ before.tag → WentAll (repeating_task s a) len (Some b) l' o o' after.masking (Some n)
+pub again_tag : (s : Setting) (a b tag : List ℕ) (len n k read read' wrote wrote' : ℕ)
+    (l' o o' o'' : Option (List ℕ)) (before after : SivWriter) (r : Result (Unit {0}) Fault) → len ≡ length a
+    → HoldsWriter before s a [] → after.tag ≡ before.tag
+    → WentAll (repeating_task s a) len (Some b) l' o o' after.masking (Some n)
     → ((s : Setting) (first text : List ℕ) → HoldsWriter after s first text → Repeats s first text)
     → tag ≡ tag_of s a → Appends o' o'' (take k tag)
-    → ((r ≡ Ok tt) × (length tag ≤ k) × (read' ≡ read) × (wrote' ≡ wrote)) ⊎ ((r ≡ Err Write) × Failed wrote wrote')
+    → ((r ≡ Ok tt) × (length tag ≤ k) × (read' ≡ read) × (wrote' ≡ wrote))
+    ⊎ ((r ≡ Err Write) × Failed wrote wrote')
     → WritesAgain s a b o o'' read read' wrote wrote' r
-again_tag s a b tag len n k read read' wrote wrote' l' o o' o'' before after r same h kept_tag w finish tag_is more end =
+again_tag s a b tag len n k read read' wrote wrote' l' o o' o'' before after r same h kept_tag w finish
+    tag_is more end =
     let t = again_told s a b len l' o o' after.masking (Some n) same w in
     let e = whole_again s a b len n l' o o' after.masking same w in
     let P : List ℕ → Type 0 = λ x. Repeats s a x in
-    let repeats = subst P e (finish s a (take (length a) b) (record { by_gcm_siv = h.by_gcm_siv; tag_is = kept_tag ∙ h.tag_is; masking = t.1 })) in
+    let repeats = subst P e (finish s a (take (length a) b)
+    (record { by_gcm_siv = h.by_gcm_siv; tag_is = kept_tag ∙ h.tag_is; masking = t.1 })) in
     let Q : List ℕ → Type 0 = λ x. Appends o o'' (again s a b ++ x) in
     let given = appends_more o o' o'' (again s a b) (take k tag) t.0 more in
     elim end [
@@ -97,8 +131,10 @@ again_tag s a b tag len n k read read' wrote wrote' l' o o' o'' before after r s
 -- ---- both readings
 
 -- where all three tell their bytes
-where_both_told : (la lb o o' : Option (List ℕ)) (A B : List ℕ → Type 0) (Q : List ℕ → List ℕ → List ℕ → Type 0) → IfSome la A → IfSome lb B
-    → ((a b : List ℕ) → A a → B b → (given : List ℕ) × Appends o o' given × Q a b given) → WhereBothTold la lb o o' Q
+where_both_told : (la lb o o' : Option (List ℕ)) (A B : List ℕ → Type 0)
+    (Q : List ℕ → List ℕ → List ℕ → Type 0) → IfSome la A → IfSome lb B
+    → ((a b : List ℕ) → A a → B b → (given : List ℕ) × Appends o o' given × Q a b given)
+    → WhereBothTold la lb o o' Q
 where_both_told None lb o o' A B Q p q f = tt
 where_both_told (Some a) None o o' A B Q p q f = tt
 where_both_told (Some a) (Some b) None o' A B Q p q f = tt
@@ -110,17 +146,20 @@ any_bytes None = tt
 any_bytes (Some x) = tt
 
 -- the first reading, where it tells its bytes
-absorbed_told : (s : Setting) (room : ℕ) (a : List ℕ) (l' : Option (List ℕ)) (after : SivAbsorb) (all : Bool) → AbsorbedAll s room (Some a) l' after all
+absorbed_told : (s : Setting) (room : ℕ) (a : List ℕ) (l' : Option (List ℕ)) (after : SivAbsorb) (all : Bool)
+    → AbsorbedAll s room (Some a) l' after all
     → (all ≡ true → HoldsAbsorb after s a) × (all ≡ false → room < length a)
 absorbed_told s room a None after all w = absurd w.consumed
 absorbed_told s room a (Some rest) after all w =
     let P : List ℕ → Type 0 = λ x. HoldsAbsorb after s x in (
-      λ e. let h = w.held e in subst P (sym (w.consumed ∙ ap (λ y. w.bytes ++ y) h.1 ∙ append-nil w.bytes)) h.0,
+      λ e. let h = w.held e in
+          subst P (sym (w.consumed ∙ ap (λ y. w.bytes ++ y) h.1 ∙ append-nil w.bytes)) h.0,
       λ e. omega (arith, w.long e, ap length w.consumed, length-append w.bytes rest),
     )
 
 -- the refusal of the beginning is one of any text
-refused_at_all : (s : Setting) (a b : List ℕ) (f : Fault) → SealRefused s [] f → SivVerdict s a b (Err f) × (f ≡ AadTooLong)
+refused_at_all : (s : Setting) (a b : List ℕ) (f : Fault) → SealRefused s [] f
+    → SivVerdict s a b (Err f) × (f ≡ AadTooLong)
 refused_at_all s a b AadTooLong h = (h, refl)
 refused_at_all s a b TextTooLong h = absurd (omega (arith, h.1))
 refused_at_all s a b KeyLength h = absurd h
@@ -137,7 +176,8 @@ refused_at_all s a b SourceChanged h = absurd h
 
 -- nothing was given
 nothing : (s : Setting) (a b : List ℕ) (before after : SivCounts) (f : Fault) →
-    (SivVerdict s a b (Err f) × (after ≡ before)) ⊎ ((f ≡ Read) × (Failed before.first after.first ⊎ Failed before.second after.second))
+    (SivVerdict s a b (Err f) × (after ≡ before))
+    ⊎ ((f ≡ Read) × (Failed before.first after.first ⊎ Failed before.second after.second))
     → SealsSivStream s a b [] before after (Err f)
 nothing s a b before after f answer =
     record {
@@ -147,31 +187,56 @@ nothing s a b before after f answer =
       answer = elim answer [ inl v ↦ inl v | inr v ↦ inr (inl (ap Err v.0, v.1)) ];
     }
 
-pub exit_refused : (la lb o : Option (List ℕ)) (s : Setting) (before : SivCounts) (f : Fault) → SealRefused s [] f
+pub exit_refused : (la lb o : Option (List ℕ)) (s : Setting) (before : SivCounts) (f : Fault)
+    → SealRefused s [] f
     → WhereBothTold la lb o o (λ a b given. SealsSivStream s a b given before before (Err f))
 exit_refused la lb o s before f h =
     where_both_told la lb o o (λ _. Unit {0}) (λ _. Unit {0}) _ (any_bytes la) (any_bytes lb)
-    (λ a b _ _. ([], appends_none o, nothing s a b before before f (inl ((refused_at_all s a b f h).0, refl))))
+    (λ a b _ _. (
+      [],
+      appends_none o,
+      nothing s a b before before f (inl ((refused_at_all s a b f h).0, refl)),
+    ))
 
-pub exit_first : (la lb o : Option (List ℕ)) (s : Setting) (x x' y z : ℕ) (f : Fault) → (f ≡ Read) × Failed x x'
-    → WhereBothTold la lb o o (λ a b given. SealsSivStream s a b given (record { first = x; second = y; outlet = z }) (record { first = x'; second = y; outlet = z }) (Err f))
+pub exit_first : (la lb o : Option (List ℕ)) (s : Setting) (x x' y z : ℕ) (f : Fault)
+    → (f ≡ Read) × Failed x x'
+    → WhereBothTold la lb o o
+    (λ a b given. SealsSivStream s a b given (record { first = x; second = y; outlet = z })
+    (record { first = x'; second = y; outlet = z }) (Err f))
 exit_first la lb o s x x' y z f failed =
     where_both_told la lb o o (λ _. Unit {0}) (λ _. Unit {0}) _ (any_bytes la) (any_bytes lb)
-    (λ a b _ _. ([], appends_none o, nothing s a b (record { first = x; second = y; outlet = z }) (record { first = x'; second = y; outlet = z }) f (inr (failed.0, inl failed.1))))
+    (λ a b _ _. (
+      [],
+      appends_none o,
+      nothing s a b (record { first = x; second = y; outlet = z })
+          (record { first = x'; second = y; outlet = z }) f (inr (failed.0, inl failed.1)),
+    ))
 
-pub exit_long : (la lb o l' : Option (List ℕ)) (s : Setting) (after : SivAbsorb) (room x x' y z : ℕ) → room ≡ text_limit s.suite → length s.aad ≤ aad_limit s.suite
+pub exit_long : (la lb o l' : Option (List ℕ)) (s : Setting) (after : SivAbsorb) (room x x' y z : ℕ)
+    → room ≡ text_limit s.suite → length s.aad ≤ aad_limit s.suite
     → x' ≡ x → AbsorbedAll s room la l' after false
-    → WhereBothTold la lb o o (λ a b given. SealsSivStream s a b given (record { first = x; second = y; outlet = z }) (record { first = x'; second = y; outlet = z }) (Err TextTooLong))
+    → WhereBothTold la lb o o
+    (λ a b given. SealsSivStream s a b given (record { first = x; second = y; outlet = z })
+    (record { first = x'; second = y; outlet = z }) (Err TextTooLong))
 exit_long la lb o l' s after room x x' y z same fits kept w =
     let counts : ℕ → SivCounts = λ n. record { first = n; second = y; outlet = z } in
-    where_both_told la lb o o _ (λ _. Unit {0}) _ (told la (λ m. AbsorbedAll s room m l' after false) w) (any_bytes lb)
+    where_both_told la lb o o _ (λ _. Unit {0}) _ (told la (λ m. AbsorbedAll s room m l' after false) w)
+    (any_bytes lb)
     (λ a b t _.
-    let past : text_limit s.suite < length a = omega (arith, (absorbed_told s room a l' after false t).1 refl, same) in
-    ([], appends_none o, nothing s a b (counts x) (counts x') TextTooLong (inl ((fits, past), ap counts kept))))
+    let past : text_limit s.suite < length a =
+    omega (arith, (absorbed_told s room a l' after false t).1 refl, same) in (
+      [],
+      appends_none o,
+      nothing s a b (counts x) (counts x') TextTooLong
+          (inl ((fits, past), ap counts kept)),
+    ))
 
 -- the second reading was begun
-wrote : (s : Setting) (a b : List ℕ) (o o' : Option (List ℕ)) (x x' y y' z z' : ℕ) (r : Result (Unit {0}) Fault) → Fits s a → x' ≡ x → WritesAgain s a b o o' y y' z z' r
-    → (given : List ℕ) × Appends o o' given × SealsSivStream s a b given (record { first = x; second = y; outlet = z }) (record { first = x'; second = y'; outlet = z' }) r
+wrote : (s : Setting) (a b : List ℕ) (o o' : Option (List ℕ)) (x x' y y' z z' : ℕ)
+    (r : Result (Unit {0}) Fault) → Fits s a → x' ≡ x → WritesAgain s a b o o' y y' z z' r
+    → (given : List ℕ) × Appends o o' given
+    × SealsSivStream s a b given (record { first = x; second = y; outlet = z })
+    (record { first = x'; second = y'; outlet = z' }) r
 wrote s a b o o' x x' y y' z z' r fits kept w =
     let text : List ℕ = again s a b in
     let tag : List ℕ = tag_of s a in
@@ -184,7 +249,13 @@ wrote s a b o o' x x' y y' z z' r fits kept w =
         d.2,
         record {
           early = λ p. absurd (not_early p);
-          beginning = inr (d.1, (length (text ++ tag), sym (take_all (length (text ++ tag)) (text ++ tag) (omega arith))));
+          beginning = inr (
+            d.1,
+            (
+              length (text ++ tag),
+              sym (take_all (length (text ++ tag)) (text ++ tag) (omega arith)),
+            ),
+          );
           whole = λ _. (d.1, refl);
           answer = inl (subst P (sym d.0) (fits, d.1), cc (kept, d.3, d.4));
         },
@@ -225,14 +296,20 @@ wrote s a b o o' x x' y y' z z' r fits kept w =
       ]
     ]
 
-pub exit_second : (la lb o o' l' : Option (List ℕ)) (s : Setting) (after : SivAbsorb) (room x x' y y' z z' : ℕ) (r : Result (Unit {0}) Fault)
+pub exit_second : (la lb o o' l' : Option (List ℕ)) (s : Setting) (after : SivAbsorb)
+    (room x x' y y' z z' : ℕ) (r : Result (Unit {0}) Fault)
     → x' ≡ x → AbsorbedAll s room la l' after true
     → ((a : List ℕ) → HoldsAbsorb after s a → IfSome lb (λ b. WritesAgain s a b o o' y y' z z' r))
-    → WhereBothTold la lb o o' (λ a b given. SealsSivStream s a b given (record { first = x; second = y; outlet = z }) (record { first = x'; second = y'; outlet = z' }) r)
+    → WhereBothTold la lb o o'
+    (λ a b given. SealsSivStream s a b given (record { first = x; second = y; outlet = z })
+    (record { first = x'; second = y'; outlet = z' }) r)
 exit_second None lb o o' l' s after room x x' y y' z z' r kept w f = tt
 exit_second (Some a) lb o o' l' s after room x x' y y' z z' r kept w f =
     let h = (absorbed_told s room a l' after true w).0 refl in
     where_both_told (Some a) lb o o' (λ m. m ≡ a) (λ b. WritesAgain s a b o o' y y' z z' r) _ refl (f a h)
     (λ m b e t.
-    let P : List ℕ → Type 0 = λ q. (given : List ℕ) × Appends o o' given × SealsSivStream s q b given (record { first = x; second = y; outlet = z }) (record { first = x'; second = y'; outlet = z' }) r in
+    let P : List ℕ → Type 0 =
+    λ q. (given : List ℕ) × Appends o o' given
+    × SealsSivStream s q b given (record { first = x; second = y; outlet = z })
+    (record { first = x'; second = y'; outlet = z' }) r in
     subst P (sym e) (wrote s a b o o' x x' y y' z z' r h.taken.fits kept t))

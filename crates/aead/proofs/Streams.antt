@@ -1,5 +1,6 @@
 -- The masks of the constructions, as their streams make them.
-use Rattle.std.proofs.Common.{◌≡◌, ℕ, ◌+◌, ◌^◌, ◌%◌, List, [], ◌∷◌, ◌++◌, length, ap, ap₂, refl, Result, Ok, Err, MatchResult}
+use Rattle.std.proofs.Common.{◌≡◌, ℕ, ◌+◌, ◌^◌, ◌%◌, List, [], ◌∷◌, ◌++◌, length, ap, ap₂, refl, Result, Ok}
+use Rattle.std.proofs.Common.{Err, MatchResult}
 use Rattle.std.specs.Result.{IsOk}
 use Rattle.std.proofs.lemmas.List.{take_at, drop_at}
 use Rattle.std.specs.Int.{bytes_high_first}
@@ -10,12 +11,14 @@ use Rattle.aead.specs.Suites.{ByChaCha, ByGcm, ByGcmSiv, construction_of}
 use Rattle.aead.specs.Sealing.{Setting, j0, encryption_key, counter_block, mask, mask_by, mask_of}
 
 -- a result with no fault that fits is Ok
-pub surely_ok : {T E : Type 0} (r : Result T E) (P : Type 0) (Q : E → Type 0) → MatchResult r (λ _. P) Q → ((e : E) → Q e → ⊥) → IsOk r × P
+pub surely_ok : {T E : Type 0} (r : Result T E) (P : Type 0) (Q : E → Type 0) → MatchResult r (λ _. P) Q
+    → ((e : E) → Q e → ⊥) → IsOk r × P
 surely_ok (Ok v) P Q m none = (refl, m)
 surely_ok (Err e) P Q m none = absurd (none e m)
 
 -- what holds of a result that is Ok
-pub where_ok : {T E : Type 0} (r : Result T E) (P : Type 0) (Q : E → Type 0) → IsOk r → MatchResult r (λ _. P) Q → P
+pub where_ok : {T E : Type 0} (r : Result T E) (P : Type 0) (Q : E → Type 0) → IsOk r
+    → MatchResult r (λ _. P) Q → P
 where_ok (Ok v) P Q ok m = m
 where_ok (Err e) P Q ok m = absurd (cc)
 
@@ -27,7 +30,8 @@ first_block nonce h =
     (take_at nonce (0 ∷ 0 ∷ 0 ∷ 1 ∷ []) 12 h) (drop_at nonce (0 ∷ 0 ∷ 0 ∷ 1 ∷ []) 12 h)
 
 -- the mask of each construction
-pub chacha_mask : (s : Setting) (tag : List ℕ) → construction_of s.suite ≡ ByChaCha → mask_of s tag ≡ key_stream_byte s.key s.nonce 1
+pub chacha_mask : (s : Setting) (tag : List ℕ) → construction_of s.suite ≡ ByChaCha
+    → mask_of s tag ≡ key_stream_byte s.key s.nonce 1
 unfolding mask mask_by
 chacha_mask s tag e = ap (λ by. mask_by by s.key s.nonce tag) e
 

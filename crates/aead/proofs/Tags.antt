@@ -7,24 +7,32 @@ use Rattle.aes.specs.Cipher.{cipher}
 use Rattle.gf128.specs.Ghash.{ghash}
 use Rattle.gf128.specs.Polyval.{polyval}
 use Rattle.aead.specs.Suites.{ByChaCha, ByGcm, ByGcmSiv, construction_of}
-use Rattle.aead.specs.Sealing.{Setting, poly_key, chacha_authenticated, hash_key, j0, gcm_authenticated, authentication_key, encryption_key, siv_authenticated, tag_block, tag_over_by, tag_over}
+use Rattle.aead.specs.Sealing.{Setting, poly_key, chacha_authenticated, hash_key, j0, gcm_authenticated}
+use Rattle.aead.specs.Sealing.{authentication_key, encryption_key, siv_authenticated, tag_block, tag_over_by}
+use Rattle.aead.specs.Sealing.{tag_over}
 use Rattle.aead.proofs.Fed.{fed, pad16_whole, whole_fed}
 
 -- Poly1305 of what was taken in and the lengths
-pub by_poly1305 : (s : Setting) (m result : List ℕ) (a n : ℕ) → construction_of s.suite ≡ ByChaCha → a ≡ length s.aad → n ≡ length m
-    → result ≡ poly1305 (poly_key s.key s.nonce) (pad16 (pad16 s.aad ++ m) ++ (to_le_bytes w64 a ++ to_le_bytes w64 n))
+pub by_poly1305 : (s : Setting) (m result : List ℕ) (a n : ℕ) → construction_of s.suite ≡ ByChaCha
+    → a ≡ length s.aad → n ≡ length m
+    → result ≡ poly1305 (poly_key s.key s.nonce)
+    (pad16 (pad16 s.aad ++ m) ++ (to_le_bytes w64 a ++ to_le_bytes w64 n))
     → result ≡ tag_over s.suite s.key s.nonce s.aad m
 unfolding tag_over tag_over_by chacha_authenticated
 by_poly1305 s m result a n by e f h =
     h
     ∙ ap (poly1305 (poly_key s.key s.nonce)) (fed s.aad m (to_le_bytes w64 a ++ to_le_bytes w64 n))
-    ∙ ap₂ (λ i j. poly1305 (poly_key s.key s.nonce) (pad16 s.aad ++ (pad16 m ++ (to_le_bytes w64 i ++ to_le_bytes w64 j)))) e f
+    ∙ ap₂ (λ i j. poly1305 (poly_key s.key s.nonce)
+    (pad16 s.aad ++ (pad16 m ++ (to_le_bytes w64 i ++ to_le_bytes w64 j)))) e f
     ∙ sym (ap (λ c. tag_over_by c s.key s.nonce s.aad m) by)
 
 -- GHASH of the same
-pub by_ghash : (s : Setting) (m mask result : List ℕ) (a n : ℕ) → construction_of s.suite ≡ ByGcm → mask ≡ cipher s.key (j0 s.nonce)
+pub by_ghash : (s : Setting) (m mask result : List ℕ) (a n : ℕ) → construction_of s.suite ≡ ByGcm
+    → mask ≡ cipher s.key (j0 s.nonce)
     → a ≡ length s.aad → n ≡ length m
-    → result ≡ xor_bytes mask (ghash (hash_key s.key) (pad16 (pad16 (pad16 s.aad ++ m) ++ (to_be_bytes w64 (8 * a) ++ to_be_bytes w64 (8 * n)))))
+    → result ≡ xor_bytes mask
+    (ghash (hash_key s.key) (pad16
+    (pad16 (pad16 s.aad ++ m) ++ (to_be_bytes w64 (8 * a) ++ to_be_bytes w64 (8 * n)))))
     → result ≡ tag_over s.suite s.key s.nonce s.aad m
 unfolding tag_over tag_over_by gcm_authenticated
 by_ghash s m mask result a n by under e f h =
@@ -32,14 +40,19 @@ by_ghash s m mask result a n by under e f h =
     let y : List ℕ = to_be_bytes w64 (8 * n) in
     h
     ∙ ap₂ (λ k z. xor_bytes k (ghash (hash_key s.key) z)) under
-    (ap pad16 (fed s.aad m (x ++ y)) ∙ pad16_whole (pad16 s.aad ++ (pad16 m ++ (x ++ y))) (whole_fed s.aad m x y refl refl))
-    ∙ ap₂ (λ i j. xor_bytes (cipher s.key (j0 s.nonce)) (ghash (hash_key s.key) (pad16 s.aad ++ (pad16 m ++ (to_be_bytes w64 (8 * i) ++ to_be_bytes w64 (8 * j)))))) e f
+    (ap pad16 (fed s.aad m (x ++ y))
+    ∙ pad16_whole (pad16 s.aad ++ (pad16 m ++ (x ++ y))) (whole_fed s.aad m x y refl refl))
+    ∙ ap₂ (λ i j. xor_bytes (cipher s.key (j0 s.nonce))
+    (ghash (hash_key s.key) (pad16 s.aad
+    ++ (pad16 m ++ (to_be_bytes w64 (8 * i) ++ to_be_bytes w64 (8 * j)))))) e f
     ∙ sym (ap (λ c. tag_over_by c s.key s.nonce s.aad m) by)
 
 -- POLYVAL of the same
 pub by_polyval : (s : Setting) (m key nonce result : List ℕ) (a n : ℕ) → construction_of s.suite ≡ ByGcmSiv
     → key ≡ encryption_key s.key s.nonce → nonce ≡ s.nonce → a ≡ length s.aad → n ≡ length m
-    → result ≡ cipher key (tag_block (polyval (authentication_key s.key s.nonce) (pad16 (pad16 (pad16 s.aad ++ m) ++ (to_le_bytes w64 (8 * a) ++ to_le_bytes w64 (8 * n))))) nonce)
+    → result ≡ cipher key (tag_block
+    (polyval (authentication_key s.key s.nonce)
+    (pad16 (pad16 (pad16 s.aad ++ m) ++ (to_le_bytes w64 (8 * a) ++ to_le_bytes w64 (8 * n))))) nonce)
     → result ≡ tag_over s.suite s.key s.nonce s.aad m
 unfolding tag_over tag_over_by siv_authenticated
 by_polyval s m key nonce result a n by under same e f h =
@@ -48,7 +61,11 @@ by_polyval s m key nonce result a n by under same e f h =
     let hash : List ℕ → List ℕ = polyval (authentication_key s.key s.nonce) in
     h
     ∙ ap₂ (λ k z. cipher k (tag_block (hash z) nonce)) under
-    (ap pad16 (fed s.aad m (x ++ y)) ∙ pad16_whole (pad16 s.aad ++ (pad16 m ++ (x ++ y))) (whole_fed s.aad m x y refl refl))
-    ∙ ap (λ z. cipher (encryption_key s.key s.nonce) (tag_block (hash (pad16 s.aad ++ (pad16 m ++ (x ++ y)))) z)) same
-    ∙ ap₂ (λ i j. cipher (encryption_key s.key s.nonce) (tag_block (hash (pad16 s.aad ++ (pad16 m ++ (to_le_bytes w64 (8 * i) ++ to_le_bytes w64 (8 * j))))) s.nonce)) e f
+    (ap pad16 (fed s.aad m (x ++ y))
+    ∙ pad16_whole (pad16 s.aad ++ (pad16 m ++ (x ++ y))) (whole_fed s.aad m x y refl refl))
+    ∙ ap (λ z. cipher (encryption_key s.key s.nonce)
+    (tag_block (hash (pad16 s.aad ++ (pad16 m ++ (x ++ y)))) z)) same
+    ∙ ap₂ (λ i j. cipher (encryption_key s.key s.nonce)
+    (tag_block (hash (pad16 s.aad ++ (pad16 m ++ (to_le_bytes w64 (8 * i) ++ to_le_bytes w64 (8 * j)))))
+    s.nonce)) e f
     ∙ sym (ap (λ c. tag_over_by c s.key s.nonce s.aad m) by)

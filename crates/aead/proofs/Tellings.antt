@@ -1,5 +1,6 @@
 -- What the steps of the stream opener say where the reading tells its bytes.
-use Rattle.std.proofs.Common.{◌≡◌, ℕ, List, [], ◌≤◌, ◌-◌, ◌⊎◌, inl, inr, length, ap, Option, Some, None, Result, Err, IfSome}
+use Rattle.std.proofs.Common.{◌≡◌, ℕ, List, [], ◌≤◌, ◌-◌, ◌⊎◌, inl, inr, length, ap, Option, Some, None}
+use Rattle.std.proofs.Common.{Result, Err, IfSome}
 use Rattle.octets.specs.declared.fault.Fault.{Fault}
 use Rattle.octets.specs.declared.fault.Fault.TheVariants.{Read, Write}
 use Rattle.octets.specs.Device.{Failed}
@@ -11,20 +12,30 @@ use Rattle.aead.specs.Code.Findings.{WentWhole}
 use Rattle.aead.specs.Code.Told.{VerifyTold, WriteTold, verify_answer, write_answer}
 use Rattle.aead.proofs.Findings.{whole_found, whole_given, stopped_given}
 
-pub verify_told : (s : Setting) (tag : List ℕ) (len : ℕ) (l l' o o' : Option (List ℕ)) (f : Finding) (read read' : ℕ) (r : Result (Unit {0}) Fault) → length tag ≡ 16 → 16 ≤ len →
-    WentWhole s tag len l l' o o' f → r ≡ verify_answer f → read' ≡ read → IfSome l (λ v. VerifyTold s tag len v read read' r)
+pub verify_told : (s : Setting) (tag : List ℕ) (len : ℕ) (l l' o o' : Option (List ℕ)) (f : Finding)
+    (read read' : ℕ) (r : Result (Unit {0}) Fault) → length tag ≡ 16 → 16 ≤ len →
+    WentWhole s tag len l l' o o' f → r ≡ verify_answer f → read' ≡ read
+    → IfSome l (λ v. VerifyTold s tag len v read read' r)
 verify_told s tag len None l' o o' f read read' r size low w e kept = tt
 verify_told s tag len (Some v) l' o o' f read read' r size low w e kept =
     inl (f, e, whole_found s tag len v l' o o' f size low w, kept)
 
-pub write_told : (s : Setting) (tag : List ℕ) (len : ℕ) (l l' o o' : Option (List ℕ)) (f : Finding) (read read' wrote wrote' : ℕ) (r : Result (Unit {0}) Fault) → length tag ≡ 16 → 16 ≤ len →
-    WentWhole s tag len l l' o o' f → r ≡ write_answer f → read' ≡ read → wrote' ≡ wrote → IfSome l (λ w. WriteTold s tag len w o o' read read' wrote wrote' r)
+pub write_told : (s : Setting) (tag : List ℕ) (len : ℕ) (l l' o o' : Option (List ℕ)) (f : Finding)
+    (read read' wrote wrote' : ℕ) (r : Result (Unit {0}) Fault) → length tag ≡ 16 → 16 ≤ len →
+    WentWhole s tag len l l' o o' f → r ≡ write_answer f → read' ≡ read → wrote' ≡ wrote
+    → IfSome l (λ w. WriteTold s tag len w o o' read read' wrote wrote' r)
 write_told s tag len None l' o o' f read read' wrote wrote' r size low w e kept kept' = tt
 write_told s tag len (Some v) l' o o' f read read' wrote wrote' r size low w e kept kept' =
-    inl (whole_given s tag len v l' o o' f w, (f, e, whole_found s tag len v l' o o' f size low w, kept, kept'))
+    inl (
+      whole_given s tag len v l' o o' f w,
+      (f, e, whole_found s tag len v l' o o' f size low w, kept, kept'),
+    )
 
-pub write_stopped : (s : Setting) (tag : List ℕ) (len : ℕ) (l l' o o' : Option (List ℕ)) (read read' wrote wrote' : ℕ) (f : Fault) →
-    Stopped (opening_task s tag) [] (len - 16) l l' o o' → ((f ≡ Read) × Failed read read' × (wrote' ≡ wrote)) ⊎ ((f ≡ Write) × (read' ≡ read) × Failed wrote wrote') →
+pub write_stopped : (s : Setting) (tag : List ℕ) (len : ℕ) (l l' o o' : Option (List ℕ))
+    (read read' wrote wrote' : ℕ) (f : Fault) →
+    Stopped (opening_task s tag) [] (len - 16) l l' o o'
+    → ((f ≡ Read) × Failed read read' × (wrote' ≡ wrote))
+    ⊎ ((f ≡ Write) × (read' ≡ read) × Failed wrote wrote') →
     IfSome l (λ w. WriteTold s tag len w o o' read read' wrote wrote' (Err f))
 write_stopped s tag len None l' o o' read read' wrote wrote' f w blame = tt
 write_stopped s tag len (Some v) l' o o' read read' wrote wrote' f w blame =

@@ -11,12 +11,15 @@ abbrev pub Rise : ℕ → List ℕ → Type 0
 Rise place [] = Unit {0}
 Rise place (cut ∷ cuts) = (place < cut) × Rise cut cuts
 
--- the lengths of the pieces of n bytes from a place on: one begins at the place, and one at each cut that is at most n
+-- the lengths of the pieces of n bytes from a place on: one begins at the place, and one at each cut that
+-- is at most n
 abbrev pub piece_lengths : ℕ → ℕ → List ℕ → List ℕ
 piece_lengths n place [] = (n - place) ∷ []
-piece_lengths n place (cut ∷ cuts) = if nat_le cut n then (cut - place) ∷ piece_lengths n cut cuts else piece_lengths n place cuts
+piece_lengths n place (cut ∷ cuts) =
+    if nat_le cut n then (cut - place) ∷ piece_lengths n cut cuts else piece_lengths n place cuts
 
--- the pieces are those that the cuts fix of the ciphertext, and then the tag; joined they are the sealing of the text
+-- the pieces are those that the cuts fix of the ciphertext, and then the tag; joined they are the sealing
+-- of the text
 pub record IsCutSealing (s : Setting) (text cuts : List ℕ) (pieces : List (List ℕ)) : Type 0 where
   pub joined : Opened s (concat pieces) text
   pub lengths : map length pieces ≡ piece_lengths (length text) 0 cuts ++ 16 ∷ []

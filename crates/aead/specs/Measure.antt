@@ -1,5 +1,6 @@
 -- What the measured reading shows.
-use Rattle.std.specs.Prelude.{◌≡◌, ℕ, ◌+◌, ◌-◌, ◌≤◌, ◌<◌, ◌⊎◌, List, length, drop, Option, Result, MatchResult}
+use Rattle.std.specs.Prelude.{◌≡◌, ℕ, ◌+◌, ◌-◌, ◌≤◌, ◌<◌, ◌⊎◌, List, length, drop, Option, Result}
+use Rattle.std.specs.Prelude.{MatchResult}
 use Rattle.std.specs.Io.KnownBytes.{Consumes, IsAtEnd}
 use Rattle.octets.specs.declared.fault.Fault.{Fault}
 use Rattle.octets.specs.declared.fault.Fault.TheVariants.{Read, TextTooLong, TooShort}
@@ -30,4 +31,5 @@ pub record HasNoMeasure (limit : ℕ) (left left' : Option (List ℕ)) (read rea
 
 abbrev pub Measures : ℕ → Option (List ℕ) → Option (List ℕ) → ℕ → ℕ → Result Measured Fault → Type 0
 Measures limit left left' read read' r =
-    MatchResult r (λ m. IsMeasure limit left left' m × (read' ≡ read)) (λ f. HasNoMeasure limit left left' read read' f)
+    MatchResult r (λ m. IsMeasure limit left left' m × (read' ≡ read))
+    (λ f. HasNoMeasure limit left left' read read' f)

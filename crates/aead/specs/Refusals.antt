@@ -1,7 +1,8 @@
 -- Why a call is refused: one case for each fault that it answers, in the order in which they are tried.
 use Rattle.std.specs.Prelude.{ℕ, ◌+◌, ◌<◌, ◌≤◌, List, ◌++◌, length}
 use Rattle.octets.specs.declared.fault.Fault.{Fault}
-use Rattle.octets.specs.declared.fault.Fault.TheVariants.{TextTooLong, AadTooLong, TooShort, TagMismatch, OutOfMemory}
+use Rattle.octets.specs.declared.fault.Fault.TheVariants.{TextTooLong, AadTooLong, TooShort, TagMismatch}
+use Rattle.octets.specs.declared.fault.Fault.TheVariants.{OutOfMemory}
 use Rattle.aead.specs.Suites.{text_limit, aad_limit}
 use Rattle.aead.specs.Sealing.{Setting, Fits, IsNoSealing}
 
@@ -35,7 +36,8 @@ pub record FitsSealed (s : Setting) (sealed : List ℕ) : Type 0 where
 abbrev pub WholeOpenRefused : Setting → List ℕ → Fault → Type 0
 WholeOpenRefused s sealed AadTooLong = aad_limit s.suite < length s.aad
 WholeOpenRefused s sealed TooShort = (length s.aad ≤ aad_limit s.suite) × (length sealed < 16)
-WholeOpenRefused s sealed TextTooLong = (length s.aad ≤ aad_limit s.suite) × (text_limit s.suite + 16 < length sealed)
+WholeOpenRefused s sealed TextTooLong =
+    (length s.aad ≤ aad_limit s.suite) × (text_limit s.suite + 16 < length sealed)
 WholeOpenRefused s sealed OutOfMemory = FitsSealed s sealed
 WholeOpenRefused s sealed TagMismatch = FitsSealed s sealed × IsNoSealing s sealed
 WholeOpenRefused s sealed _ = ⊥

@@ -1,5 +1,6 @@
 -- What the engine that seals in two readings answers, and what it gives.
-use Rattle.std.specs.Prelude.{◌≡◌, ℕ, ◌<◌, ◌⊎◌, List, [], ◌++◌, Bool, true, false, length, take, Option, Some, Result, Ok, Err, MatchResult, IfSome}
+use Rattle.std.specs.Prelude.{◌≡◌, ℕ, ◌<◌, ◌⊎◌, List, [], ◌++◌, Bool, true, false, length, take, Option}
+use Rattle.std.specs.Prelude.{Some, Result, Ok, Err, MatchResult, IfSome}
 use Rattle.std.specs.Io.KnownBytes.{Consumes, Appends, IsAtEnd}
 use Rattle.octets.specs.declared.fault.Fault.{Fault}
 use Rattle.octets.specs.declared.fault.Fault.TheVariants.{Read, Write, SourceChanged}
@@ -13,14 +14,17 @@ use Rattle.aead.specs.Pieces.{HoldsAbsorb, Repeats}
 use Rattle.aead.specs.Verdict.{IsBeginning}
 
 -- after this text, a piece was taken in, of the room's length but at the end
-abbrev pub TookPiece : Setting → List ℕ → ℕ → Option (List ℕ) → Option (List ℕ) → SivAbsorb → Result ℕ Fault → Type 0
+abbrev pub TookPiece : Setting → List ℕ → ℕ → Option (List ℕ) → Option (List ℕ) → SivAbsorb → Result ℕ Fault
+    → Type 0
 TookPiece s text room left left' after r =
     MatchResult r
-    (λ n. (bytes : List ℕ) × Consumes left left' bytes × HoldsAbsorb after s (text ++ bytes) × (length bytes ≡ n) × (n < room → IsAtEnd left'))
+    (λ n. (bytes : List ℕ) × Consumes left left' bytes × HoldsAbsorb after s (text ++ bytes)
+    × (length bytes ≡ n) × (n < room → IsAtEnd left'))
     (λ _. (bytes : List ℕ) × Consumes left left' bytes)
 
 -- a first reading was taken in to its end, or is longer than the room
-pub record AbsorbedAll (s : Setting) (room : ℕ) (left left' : Option (List ℕ)) (after : SivAbsorb) (all : Bool) : Type 0 where
+pub record AbsorbedAll (s : Setting) (room : ℕ) (left left' : Option (List ℕ)) (after : SivAbsorb)
+    (all : Bool) : Type 0 where
   pub bytes : List ℕ
   pub consumed : Consumes left left' bytes
   pub held : all ≡ true → HoldsAbsorb after s bytes × IsAtEnd left'
@@ -28,19 +32,26 @@ pub record AbsorbedAll (s : Setting) (room : ℕ) (left left' : Option (List ℕ
 
 abbrev pub TakenIn : Setting → ℕ → Option (List ℕ) → Option (List ℕ) → SivAbsorb → Result Bool Fault → Type 0
 TakenIn s room left left' after r =
-    MatchResult r (λ all. AbsorbedAll s room left left' after all) (λ _. (bytes : List ℕ) × Consumes left left' bytes)
+    MatchResult r (λ all. AbsorbedAll s room left left' after all)
+    (λ _. (bytes : List ℕ) × Consumes left left' bytes)
 
 -- the ciphertext of a second reading, as far as the first one went
 abbrev pub again : Setting → List ℕ → List ℕ → List ℕ
 again s a b = masked (mask_of s (tag_of s a)) 0 (take (length a) b)
 
--- what the second reading b gives after the first one a: all and the tag, all where it differs, or a beginning where a device failed
-abbrev pub WritesAgain : Setting → List ℕ → List ℕ → Option (List ℕ) → Option (List ℕ) → ℕ → ℕ → ℕ → ℕ → Result (Unit {0}) Fault → Type 0
+-- what the second reading b gives after the first one a: all and the tag, all where it differs, or a
+-- beginning where a device failed
+abbrev pub WritesAgain : Setting → List ℕ → List ℕ → Option (List ℕ) → Option (List ℕ) → ℕ → ℕ → ℕ → ℕ
+    → Result (Unit {0}) Fault → Type 0
 WritesAgain s a b taken taken' read read' wrote wrote' r =
-    ((r ≡ Ok tt) × Repeats s a b × Appends taken taken' (again s a b ++ tag_of s a) × (read' ≡ read) × (wrote' ≡ wrote))
-    ⊎ ((r ≡ Err SourceChanged) × ¬ (Repeats s a b) × Appends taken taken' (again s a b) × (read' ≡ read) × (wrote' ≡ wrote))
-    ⊎ ((k : ℕ) × Appends taken taken' (take k (again s a b)) × (((r ≡ Err Read) × Failed read read') ⊎ ((r ≡ Err Write) × Failed wrote wrote')))
-    ⊎ ((k : ℕ) × Appends taken taken' (again s a b ++ take k (tag_of s a)) × Repeats s a b × (r ≡ Err Write) × Failed wrote wrote')
+    ((r ≡ Ok tt) × Repeats s a b × Appends taken taken' (again s a b ++ tag_of s a) × (read' ≡ read)
+    × (wrote' ≡ wrote))
+    ⊎ ((r ≡ Err SourceChanged) × ¬ (Repeats s a b) × Appends taken taken' (again s a b) × (read' ≡ read)
+    × (wrote' ≡ wrote))
+    ⊎ ((k : ℕ) × Appends taken taken' (take k (again s a b))
+    × (((r ≡ Err Read) × Failed read read') ⊎ ((r ≡ Err Write) × Failed wrote wrote')))
+    ⊎ ((k : ℕ) × Appends taken taken' (again s a b ++ take k (tag_of s a)) × Repeats s a b × (r ≡ Err Write)
+    × Failed wrote wrote')
 
 -- the answer that the two readings fix
 abbrev pub SivVerdict : Setting → List ℕ → List ℕ → Result (Unit {0}) Fault → Type 0
@@ -58,14 +69,18 @@ pub record SivCounts : Type 0 where
 abbrev pub SivBlames : SivCounts → SivCounts → Result (Unit {0}) Fault → Type 0
 SivBlames before after r =
     MatchResult r (λ _. after ≡ before)
-    (λ f. (f ≡ Read → Failed before.first after.first ⊎ Failed before.second after.second) × (f ≡ Write → Failed before.outlet after.outlet))
+    (λ f. (f ≡ Read → Failed before.first after.first ⊎ Failed before.second after.second)
+    × (f ≡ Write → Failed before.outlet after.outlet))
 
 -- what was given of the second reading b after the first one a, and the answer
-pub record SealsSivStream (s : Setting) (a b given : List ℕ) (before after : SivCounts) (r : Result (Unit {0}) Fault) : Type 0 where
+pub record SealsSivStream (s : Setting) (a b given : List ℕ) (before after : SivCounts)
+    (r : Result (Unit {0}) Fault) : Type 0 where
   -- nothing is given where the associated data or the first reading is past its limit
   pub early : (aad_limit s.suite < length s.aad) ⊎ (text_limit s.suite < length a) → given ≡ []
-  -- what was given is a beginning of the ciphertext, and of the tag after it only where the second reading repeats the first
-  pub beginning : IsBeginning given (again s a b) ⊎ (Repeats s a b × IsBeginning given (again s a b ++ tag_of s a))
+  -- what was given is a beginning of the ciphertext, and of the tag after it only where the second
+  -- reading repeats the first
+  pub beginning : IsBeginning given (again s a b)
+      ⊎ (Repeats s a b × IsBeginning given (again s a b ++ tag_of s a))
   -- at Ok it is all of both
   pub whole : r ≡ Ok tt → Repeats s a b × (given ≡ again s a b ++ tag_of s a)
   -- the answer is the verdict, and no device failed, or it names a device that failed
@@ -74,6 +89,8 @@ pub record SealsSivStream (s : Setting) (a b given : List ℕ) (before after : S
       ⊎ ((r ≡ Err Write) × Failed before.outlet after.outlet)
 
 -- where both readings and the outlet tell their bytes: P of these and of what was given
-abbrev pub WhereBothTold : Option (List ℕ) → Option (List ℕ) → Option (List ℕ) → Option (List ℕ) → (List ℕ → List ℕ → List ℕ → Type 0) → Type 0
+abbrev pub WhereBothTold : Option (List ℕ) → Option (List ℕ) → Option (List ℕ) → Option (List ℕ)
+    → (List ℕ → List ℕ → List ℕ → Type 0) → Type 0
 WhereBothTold first second taken taken' P =
-    IfSome first (λ a. IfSome second (λ b. IfSome taken (λ before. (given : List ℕ) × Appends (Some before) taken' given × P a b given)))
+    IfSome first (λ a. IfSome second
+    (λ b. IfSome taken (λ before. (given : List ℕ) × Appends (Some before) taken' given × P a b given)))

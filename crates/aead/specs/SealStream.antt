@@ -1,5 +1,6 @@
 -- What the sealing engines answer, and what they give.
-use Rattle.std.specs.Prelude.{◌≡◌, ◌≢◌, ℕ, ◌<◌, ◌⊎◌, nat_le, List, [], length, take, Option, Some, Result, Ok, Err, MatchResult, IfSome, if◌then◌else◌}
+use Rattle.std.specs.Prelude.{◌≡◌, ◌≢◌, ℕ, ◌<◌, ◌⊎◌, nat_le, List, [], length, take, Option, Some, Result}
+use Rattle.std.specs.Prelude.{Ok, Err, MatchResult, IfSome, if◌then◌else◌}
 use Rattle.std.specs.Io.KnownBytes.{Appends}
 use Rattle.octets.specs.declared.fault.Fault.{Fault}
 use Rattle.octets.specs.declared.fault.Fault.TheVariants.{Read, Write}
@@ -10,8 +11,8 @@ use Rattle.aead.specs.Sealing.{Setting, Fits, mask_of, sealing}
 use Rattle.aead.specs.Refusals.{SealRefused}
 use Rattle.aead.specs.Verdict.{IsBeginning}
 
--- what may be given of a text whose tag is over the ciphertext: its sealing, or where it is past the limit, the ciphertext of
--- its first bytes up to the limit; the mask looks at no tag
+-- what may be given of a text whose tag is over the ciphertext: its sealing, or where it is past the
+-- limit, the ciphertext of its first bytes up to the limit; the mask looks at no tag
 unfoldable pub may_seal : Setting → List ℕ → List ℕ
 may_seal s x =
     if nat_le (length x) (text_limit s.suite)
@@ -23,7 +24,8 @@ abbrev pub SealVerdict : Setting → List ℕ → Result (Unit {0}) Fault → Ty
 SealVerdict s x r = MatchResult r (λ _. Fits s x) (λ e. SealRefused s x e)
 
 -- what was given of a text, and the answer
-pub record SealsStream (s : Setting) (x given : List ℕ) (read read' wrote wrote' : ℕ) (r : Result (Unit {0}) Fault) : Type 0 where
+pub record SealsStream (s : Setting) (x given : List ℕ) (read read' wrote wrote' : ℕ)
+    (r : Result (Unit {0}) Fault) : Type 0 where
   -- nothing is given where the associated data is past its limit
   pub early : aad_limit s.suite < length s.aad → given ≡ []
   -- what was given is a beginning of what may be given
@@ -31,15 +33,19 @@ pub record SealsStream (s : Setting) (x given : List ℕ) (read read' wrote wrot
   -- at Ok it is the sealing
   pub whole : r ≡ Ok tt → given ≡ sealing s x
   -- the answer is the verdict, and no device failed, or it names the device that failed
-  pub answer : (SealVerdict s x r × (read' ≡ read) × (wrote' ≡ wrote)) ⊎ ((r ≡ Err Read) × Failed read read') ⊎ ((r ≡ Err Write) × Failed wrote wrote')
+  pub answer : (SealVerdict s x r × (read' ≡ read) × (wrote' ≡ wrote)) ⊎ ((r ≡ Err Read) × Failed read read')
+      ⊎ ((r ≡ Err Write) × Failed wrote wrote')
 
 -- where the reading and the outlet tell their bytes: P of these and of what was given
-abbrev pub WhereTextTold : Option (List ℕ) → Option (List ℕ) → Option (List ℕ) → (List ℕ → List ℕ → Type 0) → Type 0
+abbrev pub WhereTextTold : Option (List ℕ) → Option (List ℕ) → Option (List ℕ) → (List ℕ → List ℕ → Type 0)
+    → Type 0
 WhereTextTold text taken taken' P =
-    IfSome text (λ x. IfSome taken (λ before. (given : List ℕ) × Appends (Some before) taken' given × P x given))
+    IfSome text (λ x. IfSome taken
+    (λ before. (given : List ℕ) × Appends (Some before) taken' given × P x given))
 
 -- a call's fault is the reading's or the outlet's, which failed, or the call's own
 abbrev pub GiveBlames : {T : Type 0} → ℕ → ℕ → ℕ → ℕ → Result T Fault → Type 0
 GiveBlames read read' wrote wrote' r =
     MatchResult r (λ _. (read' ≡ read) × (wrote' ≡ wrote))
-    (λ f. ((f ≡ Read) × Failed read read') ⊎ ((f ≡ Write) × Failed wrote wrote') ⊎ ((f ≢ Read) × (f ≢ Write) × (read' ≡ read) × (wrote' ≡ wrote)))
+    (λ f. ((f ≡ Read) × Failed read read') ⊎ ((f ≡ Write) × Failed wrote wrote')
+    ⊎ ((f ≢ Read) × (f ≢ Write) × (read' ≡ read) × (wrote' ≡ wrote)))

@@ -1,5 +1,6 @@
 -- What is sealed, and what it opens to (RFC 8439, 2.8; SP 800-38D, 7; RFC 8452, 4 and 5).
-use Rattle.std.specs.Prelude.{◌≡◌, ℕ, ◌+◌, ◌*◌, ◌/◌, ◌<◌, ◌≤◌, List, [], ◌∷◌, ◌++◌, take, drop, get_or, slice_set, length, replicate, flat_map, bit_and, bit_or}
+use Rattle.std.specs.Prelude.{◌≡◌, ℕ, ◌+◌, ◌*◌, ◌/◌, ◌<◌, ◌≤◌, List, [], ◌∷◌, ◌++◌, take, drop, get_or}
+use Rattle.std.specs.Prelude.{slice_set, length, replicate, flat_map, bit_and, bit_or}
 use Rattle.std.specs.List.{range_with_len}
 use Rattle.std.specs.Int.{w32, w64, to_le_bytes, to_be_bytes}
 use Rattle.octets.specs.Bytes.{xor_bytes, pad16}
@@ -22,7 +23,8 @@ poly_key key nonce = take 32 (block key 0 nonce)
 
 -- what is authenticated: the padded data, the padded ciphertext, and their lengths in bytes
 unfoldable pub chacha_authenticated : List ℕ → List ℕ → List ℕ
-chacha_authenticated aad c = pad16 aad ++ (pad16 c ++ (to_le_bytes w64 (length aad) ++ to_le_bytes w64 (length c)))
+chacha_authenticated aad c =
+    pad16 aad ++ (pad16 c ++ (to_le_bytes w64 (length aad) ++ to_le_bytes w64 (length c)))
 
 -- ---- GCM (SP 800-38D, 7)
 
@@ -62,7 +64,8 @@ siv_authenticated aad text =
 unfoldable pub last_byte_by : (ℕ → ℕ) → List ℕ → List ℕ
 last_byte_by f b = slice_set b 15 (f (get_or b 15 0))
 
--- the block whose cipher is the tag: s with the nonce XORed into its first 12 bytes, and the top bit of its last byte cleared
+-- the block whose cipher is the tag: s with the nonce XORed into its first 12 bytes, and the top bit of
+-- its last byte cleared
 unfoldable pub tag_block : List ℕ → List ℕ → List ℕ
 tag_block s nonce = last_byte_by (λ x. bit_and x 0x7f) (xor_bytes (take 12 s) nonce ++ drop 12 s)
 
@@ -85,9 +88,11 @@ mask suite = mask_by (construction_of suite)
 -- the tag of what is authenticated: the ciphertext, or for GCM-SIV the text
 unfoldable pub tag_over_by : Construction → List ℕ → List ℕ → List ℕ → List ℕ → List ℕ
 tag_over_by ByChaCha key nonce aad c = poly1305 (poly_key key nonce) (chacha_authenticated aad c)
-tag_over_by ByGcm key nonce aad c = xor_bytes (cipher key (j0 nonce)) (ghash (hash_key key) (gcm_authenticated aad c))
+tag_over_by ByGcm key nonce aad c =
+    xor_bytes (cipher key (j0 nonce)) (ghash (hash_key key) (gcm_authenticated aad c))
 tag_over_by ByGcmSiv key nonce aad text =
-    cipher (encryption_key key nonce) (tag_block (polyval (authentication_key key nonce) (siv_authenticated aad text)) nonce)
+    cipher (encryption_key key nonce)
+    (tag_block (polyval (authentication_key key nonce) (siv_authenticated aad text)) nonce)
 
 -- the same by suite
 unfoldable pub tag_over : Suite → List ℕ → List ℕ → List ℕ → List ℕ → List ℕ
@@ -95,7 +100,8 @@ tag_over suite = tag_over_by (construction_of suite)
 
 -- the tag of a text: where the tag is over the ciphertext, the mask looks at no tag
 unfoldable pub tag_by : Construction → List ℕ → List ℕ → List ℕ → List ℕ → List ℕ
-tag_by ByChaCha key nonce aad text = tag_over_by ByChaCha key nonce aad (masked (mask_by ByChaCha key nonce []) 0 text)
+tag_by ByChaCha key nonce aad text =
+    tag_over_by ByChaCha key nonce aad (masked (mask_by ByChaCha key nonce []) 0 text)
 tag_by ByGcm key nonce aad text = tag_over_by ByGcm key nonce aad (masked (mask_by ByGcm key nonce []) 0 text)
 tag_by ByGcmSiv key nonce aad text = tag_over_by ByGcmSiv key nonce aad text
 

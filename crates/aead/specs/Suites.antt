@@ -1,7 +1,8 @@
 -- The suites: their names, key lengths and limits (RFC 8439, 2.8; SP 800-38D, 5.2.1.1; RFC 8452, 6).
 use Rattle.std.specs.Prelude.{ℕ, ◌-◌, ◌^◌, Bool, true, false, List, codes}
 use Rattle.aead.specs.declared.suite.Suite.{Suite}
-use Rattle.aead.specs.declared.suite.Suite.TheVariants.{ChaCha20Poly1305, Aes128Gcm, Aes192Gcm, Aes256Gcm, Aes128GcmSiv, Aes256GcmSiv}
+use Rattle.aead.specs.declared.suite.Suite.TheVariants.{ChaCha20Poly1305, Aes128Gcm, Aes192Gcm, Aes256Gcm}
+use Rattle.aead.specs.declared.suite.Suite.TheVariants.{Aes128GcmSiv, Aes256GcmSiv}
 
 -- the constructions: a suite is one of them with a key length
 pub data Construction : Type 0 where

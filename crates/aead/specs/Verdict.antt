@@ -1,8 +1,10 @@
 -- The answer of the stream opener, and what it gives.
-use Rattle.std.specs.Prelude.{◌≡◌, ◌≢◌, ℕ, ◌+◌, ◌-◌, ◌<◌, ◌≤◌, ◌⊎◌, nat_le, List, [], length, take, Option, Some, Result, Ok, Err, MatchResult, IfSome, slice_index, if◌then◌else◌}
+use Rattle.std.specs.Prelude.{◌≡◌, ◌≢◌, ℕ, ◌+◌, ◌-◌, ◌<◌, ◌≤◌, ◌⊎◌, nat_le, List, [], length, take, Option}
+use Rattle.std.specs.Prelude.{Some, Result, Ok, Err, MatchResult, IfSome, slice_index, if◌then◌else◌}
 use Rattle.std.specs.Io.KnownBytes.{Appends}
 use Rattle.octets.specs.declared.fault.Fault.{Fault}
-use Rattle.octets.specs.declared.fault.Fault.TheVariants.{Read, Write, AadTooLong, TextTooLong, TooShort, TagMismatch, SourceChanged}
+use Rattle.octets.specs.declared.fault.Fault.TheVariants.{Read, Write, AadTooLong, TextTooLong, TooShort}
+use Rattle.octets.specs.declared.fault.Fault.TheVariants.{TagMismatch, SourceChanged}
 use Rattle.octets.specs.Device.{Failed}
 use Rattle.octets.specs.Masked.{masked}
 use Rattle.aead.specs.Suites.{text_limit, aad_limit}
@@ -18,7 +20,8 @@ Agrees m x = (length x ≡ length m) × (last_16 x ≡ last_16 m)
 abbrev pub OnlyWriteDiffers : Setting → List ℕ → List ℕ → List ℕ → Type 0
 OnlyWriteDiffers s m v w = Agrees m v × IsSealing s v × ¬ (Agrees m w × IsSealing s w)
 
--- what the measure, verify and write readings m, v and w fix as the answer: each fault with its case, in this order
+-- what the measure, verify and write readings m, v and w fix as the answer: each fault with its case, in
+-- this order
 abbrev pub Verdict : Setting → List ℕ → List ℕ → List ℕ → Result (Unit {0}) Fault → Type 0
 Verdict s m v w (Err AadTooLong) = aad_limit s.suite < length s.aad
 Verdict s m v w (Err TextTooLong) = (length s.aad ≤ aad_limit s.suite) × (text_limit s.suite + 16 < length m)
@@ -50,13 +53,16 @@ pub record FailureCounts : Type 0 where
 abbrev pub BlamesRightly : FailureCounts → FailureCounts → Result (Unit {0}) Fault → Type 0
 BlamesRightly before after r =
     MatchResult r (λ _. after ≡ before)
-    (λ f. (f ≡ Read → Failed before.measure after.measure ⊎ Failed before.verify after.verify ⊎ Failed before.write after.write)
+    (λ f. (f ≡ Read → Failed before.measure after.measure ⊎ Failed before.verify after.verify
+    ⊎ Failed before.write after.write)
     × (f ≡ Write → Failed before.outlet after.outlet))
 
 -- what was given, and the answer, where three readings and an outlet tell their bytes
-pub record OpensStream (s : Setting) (m v w given : List ℕ) (before after : FailureCounts) (r : Result (Unit {0}) Fault) : Type 0 where
+pub record OpensStream (s : Setting) (m v w given : List ℕ) (before after : FailureCounts)
+    (r : Result (Unit {0}) Fault) : Type 0 where
   -- nothing is given before the verify reading was found to be a sealing that agrees with the measured one
-  pub early : given ≢ [] → Agrees m v × IsSealing s v × (after.measure ≡ before.measure) × (after.verify ≡ before.verify)
+  pub early : given ≢ [] → Agrees m v × IsSealing s v × (after.measure ≡ before.measure)
+      × (after.verify ≡ before.verify)
   -- what was given is a beginning of what may be given
   pub beginning : IsBeginning given (shown s m w)
   -- and all of it at Ok, and where only the write reading differs
@@ -65,17 +71,20 @@ pub record OpensStream (s : Setting) (m v w given : List ℕ) (before after : Fa
   pub text : r ≡ Ok tt → Opened s w given
   -- the answer is the verdict, and no device failed, or it names a device that failed
   pub answer : (Verdict s m v w r × (after ≡ before))
-      ⊎ ((r ≡ Err Read) × (Failed before.measure after.measure ⊎ Failed before.verify after.verify ⊎ Failed before.write after.write))
+      ⊎ ((r ≡ Err Read) × (Failed before.measure after.measure ⊎ Failed before.verify after.verify
+      ⊎ Failed before.write after.write))
       ⊎ ((r ≡ Err Write) × Failed before.outlet after.outlet)
 
 -- where the readings and the outlet tell their bytes: P of these and of what was given
-abbrev pub WhereTold : Option (List ℕ) → Option (List ℕ) → Option (List ℕ) → Option (List ℕ) → Option (List ℕ) → (List ℕ → List ℕ → List ℕ → List ℕ → Type 0) → Type 0
+abbrev pub WhereTold : Option (List ℕ) → Option (List ℕ) → Option (List ℕ) → Option (List ℕ)
+    → Option (List ℕ) → (List ℕ → List ℕ → List ℕ → List ℕ → Type 0) → Type 0
 WhereTold measure verify write taken taken' P =
     IfSome measure (λ m. IfSome verify (λ v. IfSome write (λ w. IfSome taken (λ before.
     (given : List ℕ) × Appends (Some before) taken' given × P m v w given))))
 
--- where the verify reading is a sealing that agrees, and the write reading repeats a byte of its body, what may be given repeats
--- that byte of the text
+-- where the verify reading is a sealing that agrees, and the write reading repeats a byte of its body,
+-- what may be given repeats that byte of the text
 abbrev pub ShownRepeatsTheText : Type 0
-ShownRepeatsTheText = (s : Setting) (m v w text : List ℕ) (i : ℕ) → Agrees m v → Opened s v text → i < length m - 16
+ShownRepeatsTheText = (s : Setting) (m v w text : List ℕ) (i : ℕ) → Agrees m v → Opened s v text
+    → i < length m - 16
     → i < length w → slice_index w i ≡ slice_index v i → slice_index (shown s m w) i ≡ slice_index text i

@@ -34,11 +34,13 @@ pub enum AnyAead {
 }
 
 impl AnyAead {
-    /// The cipher of a suite under a key: 32 bytes for ChaCha20-Poly1305 and the suites of AES-256, 24 for AES-192 and
-    /// 16 for AES-128. Any other length is `KeyLength`, the only fault.
+    /// The cipher of a suite under a key: 32 bytes for ChaCha20-Poly1305 and the suites of AES-256, 24
+    /// for AES-192 and 16 for AES-128. Any other length is `KeyLength`, the only fault.
     #[inline(always)]
     pub fn new(suite: Suite, key: &[u8]) -> Result<AnyAead, Fault>
-        ensures { MatchResult result (λ c. (keyed_of c ≡ record { suite = suite; key = key.now }) × (length key.now ≡ key_length suite))
+        ensures { MatchResult result
+            (λ c. (keyed_of c ≡ record { suite = suite; key = key.now })
+            × (length key.now ≡ key_length suite))
             (λ e. (e ≡ Fault.KeyLength) × (length key.now ≢ key_length suite)) }
     {
         if key.len() != suite.key_length() {

@@ -42,7 +42,8 @@ impl AnyMasking {
     pub(crate) fn update(&mut self, piece: &mut [u8])
         requires { count_of self.old + length piece.old ≤ limit_of self.old }
         ensures masked { (t : Task) (fed : List ℕ) → HoldsAnyMasking self.old t fed
-            → HoldsAnyMasking self.new t (fed ++ piece.old) × (piece.new ≡ masked (task_mask t) (length fed) piece.old) }
+            → HoldsAnyMasking self.new t (fed ++ piece.old)
+            × (piece.new ≡ masked (task_mask t) (length fed) piece.old) }
         ensures length { count_of self.new ≡ count_of self.old + length piece.old }
         ensures limit { limit_of self.new ≡ limit_of self.old }
     {
@@ -56,7 +57,8 @@ impl AnyMasking {
     // The tag of all pieces.
     pub(crate) fn finish(self) -> Tag
         ensures { (t : Task) (fed : List ℕ) → HoldsAnyMasking self t fed
-            → result ≡ tag_over t.setting.suite t.setting.key t.setting.nonce t.setting.aad (authenticated t.over_input t.setting t.tag fed) }
+            → result ≡ tag_over t.setting.suite t.setting.key t.setting.nonce t.setting.aad
+            (authenticated t.over_input t.setting t.tag fed) }
     {
         match self {
             AnyMasking::ByChaCha(masking) => masking.finish(),

@@ -21,7 +21,8 @@ impl<H: TagHash> Authenticator<H> {
     // Takes in the associated data.
     #[inline(always)]
     pub(crate) fn new(mut hash: H, aad: &[u8]) -> Authenticator<H>
-        ensures holds { (s : Setting) → s.aad ≡ aad.now → length aad.now ≤ aad_limit s.suite → H.held hash s []
+        ensures holds { (s : Setting) → s.aad ≡ aad.now → length aad.now ≤ aad_limit s.suite
+            → H.held hash s []
             → HoldsAuthenticator H.held result s [] }
         ensures none { result.length ≡ 0 }
     {
@@ -38,7 +39,8 @@ impl<H: TagHash> Authenticator<H> {
     #[inline(always)]
     pub(crate) fn update(&mut self, bytes: &[u8])
         requires { self.old.length + length bytes.now < 2 ^ 64 }
-        ensures holds { (s : Setting) (m : List ℕ) → HoldsAuthenticator H.held self.old s m → length m + length bytes.now ≤ text_limit s.suite
+        ensures holds { (s : Setting) (m : List ℕ) → HoldsAuthenticator H.held self.old s m
+            → length m + length bytes.now ≤ text_limit s.suite
             → HoldsAuthenticator H.held self.new s (m ++ bytes.now) }
         ensures length { self.new.length ≡ self.old.length + length bytes.now }
     {
@@ -49,7 +51,8 @@ impl<H: TagHash> Authenticator<H> {
     // The tag of what was taken in.
     #[inline(always)]
     pub(crate) fn finish(self) -> Tag
-        ensures { (s : Setting) (m : List ℕ) → HoldsAuthenticator H.held self s m → result ≡ tag_over s.suite s.key s.nonce s.aad m }
+        ensures { (s : Setting) (m : List ℕ) → HoldsAuthenticator H.held self s m
+            → result ≡ tag_over s.suite s.key s.nonce s.aad m }
     {
         let Authenticator {
             mut hash,

@@ -27,7 +27,8 @@ impl<'a> BegunStream<'a> {
         requires has_a_block { 64 ≤ length start.now }
         requires short { length start.now ≤ 256 }
         requires whole { length start.now % 64 ≡ 0 }
-        requires start_is { (i : ℕ) → i < length start.now → slice_index start.now i ≡ key_stream_byte key.now nonce.now 0 i }
+        requires start_is { (i : ℕ) → i < length start.now
+            → slice_index start.now i ≡ key_stream_byte key.now nonce.now 0 i }
         ensures { IsBegun result key.now nonce.now 0 }
     {
         BegunStream {

@@ -16,8 +16,8 @@ use octets::{Fault, Key32, Nonce, Tag};
 use poly1305::Poly;
 use std::marker::Model;
 
-/// ChaCha20-Poly1305 under a key of 32 bytes (RFC 8439, 2.8). Opening in place authenticates before it changes a byte.
-/// Contracts see its suite and key. `AnyAead::new` makes it.
+/// ChaCha20-Poly1305 under a key of 32 bytes (RFC 8439, 2.8). Opening in place authenticates before it
+/// changes a byte. Contracts see its suite and key. `AnyAead::new` makes it.
 #[derive(Drop)]
 pub struct ChaChaPoly {
     key: Key32,
@@ -98,7 +98,8 @@ struct BegunChaCha<'a> {
     ghost has_a_block: { 64 ≤ length start.now },
     ghost short: { length start.now ≤ 256 },
     ghost whole: { length start.now % 64 ≡ 0 },
-    ghost start_is: { (i : ℕ) → i < length start.now → slice_index start.now i ≡ key_stream_byte key.now nonce.now 0 i },
+    ghost start_is: { (i : ℕ) → i < length start.now
+        → slice_index start.now i ≡ key_stream_byte key.now nonce.now 0 i },
 }
 
 impl<'a> Nonced for BegunChaCha<'a> {

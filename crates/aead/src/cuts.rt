@@ -67,8 +67,10 @@ impl Cutting {
 
     // Leaves the ciphertext of the next piece in its place.
     fn update(&mut self, piece: &mut [u8]) -> Result<(), Fault>
-        ensures { (s : Setting) (text done : List ℕ) → Encrypted self.old s text done → length done + length piece.old ≤ length text →
-            MatchResult result (λ _. Encrypted self.new s text (done ++ piece.old) × (piece.new ≡ masked (mask_of s (tag_of s text)) (length done) piece.old))
+        ensures { (s : Setting) (text done : List ℕ) → Encrypted self.old s text done
+            → length done + length piece.old ≤ length text →
+            MatchResult result (λ _. Encrypted self.new s text (done ++ piece.old)
+            × (piece.new ≡ masked (mask_of s (tag_of s text)) (length done) piece.old))
             (λ e. SealRefused s (done ++ piece.old) e) }
     {
         match self {
@@ -95,9 +97,12 @@ impl Cutting {
         pieces: &mut Vec<Vec<u8, A>, A>,
         piece: &[u8],
     ) -> Result<(), Fault>
-        ensures { (s : Setting) (text done : List ℕ) → Encrypts self.old s text done → length done + length piece.now ≤ length text →
-            MatchResult result (λ _. Encrypts self.new s text (done ++ piece.now) × (map (λ v. v.items) pieces.new.items
-            ≡ map (λ v. v.items) pieces.old.items ++ masked (mask_of s (tag_of s text)) (length done) piece.now ∷ []))
+        ensures { (s : Setting) (text done : List ℕ) → Encrypts self.old s text done
+            → length done + length piece.now ≤ length text →
+            MatchResult result (λ _. Encrypts self.new s text (done ++ piece.now)
+            × (map (λ v. v.items) pieces.new.items
+            ≡ map (λ v. v.items) pieces.old.items
+            ++ masked (mask_of s (tag_of s text)) (length done) piece.now ∷ []))
             (λ e. WholeSealRefused s text e) }
     {
         let Ok(mut bytes) = Vec::from_slice(alloc, piece) else {
@@ -119,16 +124,18 @@ fn add<A: Allocator + Copy>(
     pieces: &mut Vec<Vec<u8, A>, A>,
     piece: &[u8],
 ) -> Result<(), AllocError>
-    ensures { OnOk result (map (λ v. v.items) pieces.new.items ≡ map (λ v. v.items) pieces.old.items ++ piece.now ∷ []) }
+    ensures { OnOk result (map (λ v. v.items) pieces.new.items
+        ≡ map (λ v. v.items) pieces.old.items ++ piece.now ∷ []) }
 {
     let bytes = Vec::from_slice(alloc, piece)?;
     pieces.push(bytes)?;
     Ok(())
 }
 
-/// The sealing of a text in pieces: the ciphertext in pieces that begin at place 0 and at each cut that is at most the
-/// text's length, and then the tag as one more. The caller shows that the cuts rise strictly and are at least 1.
-/// `AadTooLong`, then `TextTooLong`, where a length in bytes is past the suite's limit, then `OutOfMemory`.
+/// The sealing of a text in pieces: the ciphertext in pieces that begin at place 0 and at each cut that
+/// is at most the text's length, and then the tag as one more. The caller shows that the cuts rise
+/// strictly and are at least 1. `AadTooLong`, then `TextTooLong`, where a length in bytes is past the
+/// suite's limit, then `OutOfMemory`.
 pub fn seal_cut<A: Allocator + Copy>(
     alloc: A,
     cipher: &AnyAead,

@@ -81,7 +81,8 @@ fn half_of(blocks: &[u8; 64], q: usize) -> [u8; 8]
     half
 }
 
-// Parts 0 to 3 of the derived keys, each the first half of a block (RFC 8452, 4): four blocks are encrypted at once.
+// Parts 0 to 3 of the derived keys, each the first half of a block (RFC 8452, 4): four blocks are
+// encrypted at once.
 #[derive(Drop)]
 struct Parts<'a> {
     key: &'a AesKey,

@@ -3,7 +3,8 @@
 ghost use Rattle.std.specs.Prelude.{◌≡◌, ◌≢◌, ◌↔◌, MatchResult};
 ghost use Rattle.octets.specs.Numbers.{HasOutcome};
 ghost use Rattle.aead.specs.declared.suite.Suite.{Suite};
-ghost use Rattle.aead.specs.Exports.{suite_number, setting_of, WasSealed, WasNotSealed, WasOpened, WasNotOpened};
+ghost use Rattle.aead.specs.Exports.{suite_number, setting_of, WasSealed, WasNotSealed, WasOpened};
+ghost use Rattle.aead.specs.Exports.{WasNotOpened};
 
 use crate::aead::Aead;
 use crate::any::AnyAead;
@@ -91,9 +92,11 @@ pub extern "C" fn aeadkit_seal(
     aad: &[u8],
     bytes: &mut [u8],
 ) -> u32
-    ensures known { (named : Suite) → suite ≡ suite_number named → let s = setting_of named key.now nonce.now aad.now in
+    ensures known { (named : Suite) → suite ≡ suite_number named → let s =
+        setting_of named key.now nonce.now aad.now in
         HasOutcome result (WasSealed s bytes.old bytes.new) (WasNotSealed s bytes.old bytes.new) }
-    ensures unknown { ((named : Suite) → suite ≢ suite_number named) → (result ≡ UNKNOWN_SUITE) × (bytes.new ≡ bytes.old) }
+    ensures unknown { ((named : Suite) → suite ≢ suite_number named)
+        → (result ≡ UNKNOWN_SUITE) × (bytes.new ≡ bytes.old) }
 {
     match suite_numbered(suite) {
         Some(suite) => outcome_number(seal_bytes(suite, key, nonce, aad, bytes)),
@@ -110,9 +113,11 @@ pub extern "C" fn aeadkit_open(
     aad: &[u8],
     bytes: &mut [u8],
 ) -> u32
-    ensures known { (named : Suite) → suite ≡ suite_number named → let s = setting_of named key.now nonce.now aad.now in
+    ensures known { (named : Suite) → suite ≡ suite_number named → let s =
+        setting_of named key.now nonce.now aad.now in
         HasOutcome result (WasOpened s bytes.old bytes.new) (WasNotOpened s bytes.old bytes.new) }
-    ensures unknown { ((named : Suite) → suite ≢ suite_number named) → (result ≡ UNKNOWN_SUITE) × (bytes.new ≡ bytes.old) }
+    ensures unknown { ((named : Suite) → suite ≢ suite_number named)
+        → (result ≡ UNKNOWN_SUITE) × (bytes.new ≡ bytes.old) }
 {
     match suite_numbered(suite) {
         Some(suite) => outcome_number(open_bytes(suite, key, nonce, aad, bytes)),
@@ -124,7 +129,8 @@ pub extern "C" fn aeadkit_open(
 mod tests {
     use super::*;
 
-    /// The sealing of sixteen zero bytes under AES-128-GCM with a zero key and nonce: test case 2 of GCM's vectors.
+    /// The sealing of sixteen zero bytes under AES-128-GCM with a zero key and nonce: test case 2 of
+    /// GCM's vectors.
     const SEALED: [u8; 32] = [
         0x03, 0x88, 0xda, 0xce, 0x60, 0xb6, 0xa3, 0x92, 0xf3, 0x28, 0xc2, 0xb9, 0x71, 0xb2, 0xfe,
         0x78, 0xab, 0x6e, 0x47, 0xd4, 0x2c, 0xec, 0x13, 0xbd, 0xf5, 0x3a, 0x67, 0xb2, 0x12, 0x57,

@@ -22,8 +22,8 @@ const SHORT: usize = 128;
 // From so many bytes on, those of four powers of the hash key are.
 const LONG: usize = 1536;
 
-/// AES-GCM under a key of 16, 24 or 32 bytes (SP 800-38D). Opening in place authenticates before it changes a byte.
-/// Contracts see its suite and key. `AnyAead::new` makes it.
+/// AES-GCM under a key of 16, 24 or 32 bytes (SP 800-38D). Opening in place authenticates before it
+/// changes a byte. Contracts see its suite and key. `AnyAead::new` makes it.
 #[derive(Drop)]
 pub struct Gcm {
     suite: Suite,
@@ -94,7 +94,8 @@ impl Gcm {
     #[inline(never)]
     fn seal_by<M: Keyed128>(&self, nonce: &Nonce, aad: &[u8], text: &mut [u8]) -> Result<Tag, Fault>
         ensures { let s = setting self.now nonce.now aad.now in
-            MatchResult result (λ tag. Opened s (text.new ++ tag) text.old) (λ e. SealRefused s text.old e × (text.new ≡ text.old)) }
+            MatchResult result (λ tag. Opened s (text.new ++ tag) text.old)
+            (λ e. SealRefused s text.old e × (text.new ≡ text.old)) }
     {
         let made = self.multiplier_of::<M>();
         seal_whole(&self.nonced(nonce, &made), aad, text)
@@ -110,9 +111,11 @@ impl Gcm {
         tag: &Tag,
     ) -> Result<(), Fault>
         ensures answer { let s = setting self.now nonce.now aad.now in
-            MatchResult result (λ _. Opened s (body.old ++ tag.now) body.new) (λ e. OpenRefused s body.old tag.now e × (body.new ≡ body.old)) }
+            MatchResult result (λ _. Opened s (body.old ++ tag.now) body.new)
+            (λ e. OpenRefused s body.old tag.now e × (body.new ≡ body.old)) }
         ensures found { let s = setting self.now nonce.now aad.now in
-            (text : List ℕ) → Opened s (body.old ++ tag.now) text → MatchResult result (λ _. body.new ≡ text) (λ _. ⊥) }
+            (text : List ℕ) → Opened s (body.old ++ tag.now) text
+            → MatchResult result (λ _. body.new ≡ text) (λ _. ⊥) }
     {
         let made = self.multiplier_of::<M>();
         open_whole(&self.nonced(nonce, &made), aad, body, tag)

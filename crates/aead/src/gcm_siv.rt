@@ -26,8 +26,9 @@ const SHORT: usize = 128;
 // From so many bytes on, those of four powers of the key are.
 const LONG: usize = 1536;
 
-/// AES-GCM-SIV under a key of 16 or 32 bytes (RFC 8452). Opening in place decrypts before it can authenticate, and
-/// encrypts again after `TagMismatch`. Contracts see its suite and key. `AnyAead::new` makes it.
+/// AES-GCM-SIV under a key of 16 or 32 bytes (RFC 8452). Opening in place decrypts before it can
+/// authenticate, and encrypts again after `TagMismatch`. Contracts see its suite and key. `AnyAead::new`
+/// makes it.
 #[derive(Drop)]
 pub struct GcmSiv {
     suite: Suite,
@@ -71,7 +72,8 @@ impl GcmSiv {
     ) -> NoncedGcmSiv<'a, M>
         requires encryption { encryption.now ≡ encryption_key self.now.key nonce.now }
         requires block { IsBlock (authentication_key self.now.key nonce.now) }
-        requires multiplier { IsReversedMulX (authentication_key self.now.key nonce.now) (M.key_bytes multiplier) }
+        requires multiplier { IsReversedMulX (authentication_key self.now.key nonce.now)
+            (M.key_bytes multiplier) }
         ensures keyed { ⟦<NoncedGcmSiv<'a, M> as Nonced>⟧.keyed result ≡ self.now }
         ensures nonce { ⟦<NoncedGcmSiv<'a, M> as Nonced>⟧.nonce result ≡ nonce.now }
     {
@@ -88,7 +90,8 @@ impl GcmSiv {
     #[inline(never)]
     fn seal_by<M: Keyed128>(&self, nonce: &Nonce, aad: &[u8], text: &mut [u8]) -> Result<Tag, Fault>
         ensures { let s = setting self.now nonce.now aad.now in
-            MatchResult result (λ tag. Opened s (text.new ++ tag) text.old) (λ e. SealRefused s text.old e × (text.new ≡ text.old)) }
+            MatchResult result (λ tag. Opened s (text.new ++ tag) text.old)
+            (λ e. SealRefused s text.old e × (text.new ≡ text.old)) }
     {
         let keys = self.derive(nonce);
         let multiplier = M::of(&keys.hash_key);
@@ -109,9 +112,11 @@ impl GcmSiv {
         tag: &Tag,
     ) -> Result<(), Fault>
         ensures answer { let s = setting self.now nonce.now aad.now in
-            MatchResult result (λ _. Opened s (body.old ++ tag.now) body.new) (λ e. OpenRefused s body.old tag.now e × (body.new ≡ body.old)) }
+            MatchResult result (λ _. Opened s (body.old ++ tag.now) body.new)
+            (λ e. OpenRefused s body.old tag.now e × (body.new ≡ body.old)) }
         ensures found { let s = setting self.now nonce.now aad.now in
-            (text : List ℕ) → Opened s (body.old ++ tag.now) text → MatchResult result (λ _. body.new ≡ text) (λ _. ⊥) }
+            (text : List ℕ) → Opened s (body.old ++ tag.now) text
+            → MatchResult result (λ _. body.new ≡ text) (λ _. ⊥) }
     {
         let keys = self.derive(nonce);
         let multiplier = M::of(&keys.hash_key);
@@ -135,7 +140,8 @@ fn counter_block(tag: &[u8; 16]) -> [u8; 16]
 
 // The mask under a tag (RFC 8452, 4).
 pub(crate) fn tag_mask(encryption: &AesKey, tag: &Tag) -> CtrLe
-    ensures { (s : Setting) → construction_of s.suite ≡ ByGcmSiv → encryption.now ≡ encryption_key s.key s.nonce
+    ensures { (s : Setting) → construction_of s.suite ≡ ByGcmSiv
+        → encryption.now ≡ encryption_key s.key s.nonce
         → MadeByGcmSiv result s tag.now 0 }
 {
     CtrLe::new(encryption, &Block::new(counter_block(tag.bytes())))
@@ -152,7 +158,8 @@ pub(crate) struct NoncedGcmSiv<'a, M: Multiply> {
     ghost by_gcm_siv: { construction_of suite ≡ ByGcmSiv },
     ghost encryption_is: { encryption.now ≡ encryption_key key.now nonce.now },
     ghost block: { IsBlock (authentication_key key.now nonce.now) },
-    ghost multiplier_is: { ∥ IsReversedMulX (authentication_key key.now nonce.now) (M.key_bytes multiplier) ∥₁ },
+    ghost multiplier_is: { ∥ IsReversedMulX (authentication_key key.now nonce.now) (M.key_bytes multiplier)
+        ∥₁ },
 }
 
 impl<'a, M: Multiply + Copy> Nonced for NoncedGcmSiv<'a, M> {

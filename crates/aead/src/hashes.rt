@@ -26,7 +26,8 @@ pub(crate) trait TagHash: Drop {
 
     // The tag of padded associated data and the bytes after it, padded: their lengths are taken in last.
     fn tag(self, aad_length: u64, bytes_length: u64) -> Tag
-        ensures { (s : Setting) (m : List ℕ) → held self s (pad16 (pad16 s.aad ++ m)) → Fits s m → aad_length ≡ length s.aad
+        ensures { (s : Setting) (m : List ℕ) → held self s (pad16 (pad16 s.aad ++ m)) → Fits s m
+            → aad_length ≡ length s.aad
             → bytes_length ≡ length m → result ≡ tag_over s.suite s.key s.nonce s.aad m };
 }
 

@@ -1,5 +1,5 @@
-//! Authenticated encryption with associated data: ChaCha20-Poly1305 (RFC 8439), AES-GCM (SP 800-38D) and AES-GCM-SIV
-//! (RFC 8452), with nonces of 12 bytes and tags of 16 bytes.
+//! Authenticated encryption with associated data: ChaCha20-Poly1305 (RFC 8439), AES-GCM (SP 800-38D) and
+//! AES-GCM-SIV (RFC 8452), with nonces of 12 bytes and tags of 16 bytes.
 #![tactic(auto)]
 
 ghost use Rattle.aead.specs.Sealing.{HasOneText};
@@ -47,8 +47,8 @@ pub fn sealing_has_one_text()
     ensures { HasOneText }
 {}
 
-/// Where the verify reading of the stream opener is a sealing of the measured length and last 16 bytes, each byte that the
-/// write reading repeats of its body is given as that byte of the text.
+/// Where the verify reading of the stream opener is a sealing of the measured length and last 16 bytes,
+/// each byte that the write reading repeats of its body is given as that byte of the text.
 pub fn shown_repeats_the_text()
     ensures { ShownRepeatsTheText }
 {}

@@ -16,7 +16,8 @@ pub(crate) trait MaskStream: Drop {
 
     // XORs the next bytes of the mask into a piece.
     fn apply_to(&mut self, piece: &mut [u8])
-        ensures { (s : Setting) (tag : List ℕ) (n : ℕ) → made self.old s tag n → n + length piece.old ≤ text_limit s.suite
+        ensures { (s : Setting) (tag : List ℕ) (n : ℕ) → made self.old s tag n
+            → n + length piece.old ≤ text_limit s.suite
             → made self.new s tag (n + length piece.old) × (piece.new ≡ masked (mask_of s tag) n piece.old) };
 }
 

@@ -36,8 +36,10 @@ impl<S: MaskStream, H: TagHash> Masking<S, H> {
         limit: u64,
     ) -> Masking<S, H>
         requires { authenticator.length ≡ 0 }
-        ensures holds { (s : Setting) (tag : List ℕ) → S.made mask s tag 0 → HoldsAuthenticator H.held authenticator s [] → limit ≤ text_limit s.suite
-            → HoldsMasking S.made H.held result (record { over_input = over_input; limit = limit; setting = s; tag = tag }) [] }
+        ensures holds { (s : Setting) (tag : List ℕ) → S.made mask s tag 0
+            → HoldsAuthenticator H.held authenticator s [] → limit ≤ text_limit s.suite
+            → HoldsMasking S.made H.held result
+            (record { over_input = over_input; limit = limit; setting = s; tag = tag }) [] }
         ensures none { result.authenticator.length ≡ 0 }
         ensures limit { result.limit ≡ limit }
     {
@@ -61,7 +63,8 @@ impl<S: MaskStream, H: TagHash> Masking<S, H> {
     pub(crate) fn update(&mut self, piece: &mut [u8])
         requires { self.old.authenticator.length + length piece.old ≤ self.old.limit }
         ensures masked { (t : Task) (fed : List ℕ) → HoldsMasking S.made H.held self.old t fed
-            → HoldsMasking S.made H.held self.new t (fed ++ piece.old) × (piece.new ≡ masked (task_mask t) (length fed) piece.old) }
+            → HoldsMasking S.made H.held self.new t (fed ++ piece.old)
+            × (piece.new ≡ masked (task_mask t) (length fed) piece.old) }
         ensures length { self.new.authenticator.length ≡ self.old.authenticator.length + length piece.old }
         ensures limit { self.new.limit ≡ self.old.limit }
     {
@@ -78,7 +81,8 @@ impl<S: MaskStream, H: TagHash> Masking<S, H> {
     #[inline(always)]
     pub(crate) fn finish(self) -> Tag
         ensures { (t : Task) (fed : List ℕ) → HoldsMasking S.made H.held self t fed
-            → result ≡ tag_over t.setting.suite t.setting.key t.setting.nonce t.setting.aad (authenticated t.over_input t.setting t.tag fed) }
+            → result ≡ tag_over t.setting.suite t.setting.key t.setting.nonce t.setting.aad
+            (authenticated t.over_input t.setting t.tag fed) }
     {
         self.authenticator.finish()
     }

@@ -30,9 +30,11 @@ pub(crate) trait Nonced {
 
     // The mask under a tag; where the tag is over the ciphertext, it is the mask under any.
     fn mask(&self, tag: &Tag) -> Self::Stream
-        ensures made { (aad : List ℕ) → Self.Stream.made result (setting (keyed self.now) (nonce self.now) aad) tag.now 0 }
+        ensures made { (aad : List ℕ)
+            → Self.Stream.made result (setting (keyed self.now) (nonce self.now) aad) tag.now 0 }
         ensures any_tag { is_one_pass (construction_of (keyed self.now).suite) ≡ true
-            → (aad other : List ℕ) → Self.Stream.made result (setting (keyed self.now) (nonce self.now) aad) other 0 };
+            → (aad other : List ℕ)
+            → Self.Stream.made result (setting (keyed self.now) (nonce self.now) aad) other 0 };
 
     // The hash of what is authenticated.
     fn hash(&self) -> Self::Hash
@@ -43,7 +45,8 @@ pub(crate) trait Nonced {
 #[inline(always)]
 pub(crate) fn authenticator<N: Nonced>(nonced: &N, aad: &[u8]) -> Authenticator<N::Hash>
     requires { length aad.now ≤ aad_limit (N.keyed nonced.now).suite }
-    ensures holds { HoldsAuthenticator N.Hash.held result (setting (N.keyed nonced.now) (N.nonce nonced.now) aad.now) [] }
+    ensures holds { HoldsAuthenticator N.Hash.held result
+        (setting (N.keyed nonced.now) (N.nonce nonced.now) aad.now) [] }
     ensures none { result.length ≡ 0 }
 {
     Authenticator::new(nonced.hash(), aad)
@@ -62,7 +65,8 @@ pub(crate) fn masking<N: Nonced>(
         HoldsMasking N.Stream.made N.Hash.held result
         (record { over_input = over_input; limit = text_limit s.suite; setting = s; tag = tag.now }) [] }
     ensures any_tag { let s = setting (N.keyed nonced.now) (N.nonce nonced.now) aad.now in
-        is_one_pass (construction_of s.suite) ≡ true → (other : List ℕ) → HoldsMasking N.Stream.made N.Hash.held result
+        is_one_pass (construction_of s.suite) ≡ true → (other : List ℕ)
+        → HoldsMasking N.Stream.made N.Hash.held result
         (record { over_input = over_input; limit = text_limit s.suite; setting = s; tag = other }) [] }
     ensures none { result.authenticator.length ≡ 0 }
     ensures limit { result.limit ≡ text_limit (N.keyed nonced.now).suite }
@@ -79,7 +83,8 @@ pub(crate) fn masking<N: Nonced>(
 // Turns a text into its ciphertext, and answers its tag.
 pub(crate) fn seal_whole<N: Nonced>(nonced: &N, aad: &[u8], text: &mut [u8]) -> Result<Tag, Fault>
     ensures { let s = setting (N.keyed nonced.now) (N.nonce nonced.now) aad.now in
-        MatchResult result (λ tag. Opened s (text.new ++ tag) text.old) (λ e. SealRefused s text.old e × (text.new ≡ text.old)) }
+        MatchResult result (λ tag. Opened s (text.new ++ tag) text.old)
+        (λ e. SealRefused s text.old e × (text.new ≡ text.old)) }
 {
     let suite = nonced.suite();
     if aad.len() as u64 > suite.aad_limit() {
@@ -105,7 +110,8 @@ pub(crate) fn seal_whole<N: Nonced>(nonced: &N, aad: &[u8], text: &mut [u8]) -> 
 fn open_checked<N: Nonced>(nonced: &N, aad: &[u8], body: &mut [u8], tag: &Tag) -> Result<(), Fault>
     ensures tag_length { length tag.now ≡ 16 }
     ensures answer { let s = setting (N.keyed nonced.now) (N.nonce nonced.now) aad.now in
-        MatchResult result (λ _. Opened s (body.old ++ tag.now) body.new) (λ e. OpenRefused s body.old tag.now e × (body.new ≡ body.old)) }
+        MatchResult result (λ _. Opened s (body.old ++ tag.now) body.new)
+        (λ e. OpenRefused s body.old tag.now e × (body.new ≡ body.old)) }
 {
     let given = tag.bytes();
     let suite = nonced.suite();
@@ -143,9 +149,11 @@ pub(crate) fn open_whole<N: Nonced>(
     tag: &Tag,
 ) -> Result<(), Fault>
     ensures answer { let s = setting (N.keyed nonced.now) (N.nonce nonced.now) aad.now in
-        MatchResult result (λ _. Opened s (body.old ++ tag.now) body.new) (λ e. OpenRefused s body.old tag.now e × (body.new ≡ body.old)) }
+        MatchResult result (λ _. Opened s (body.old ++ tag.now) body.new)
+        (λ e. OpenRefused s body.old tag.now e × (body.new ≡ body.old)) }
     ensures found { let s = setting (N.keyed nonced.now) (N.nonce nonced.now) aad.now in
-        (text : List ℕ) → Opened s (body.old ++ tag.now) text → MatchResult result (λ _. body.new ≡ text) (λ _. ⊥) }
+        (text : List ℕ) → Opened s (body.old ++ tag.now) text
+        → MatchResult result (λ _. body.new ≡ text) (λ _. ⊥) }
 {
     open_checked(nonced, aad, body, tag)
 }

@@ -45,8 +45,8 @@ fn sealing(cipher: &AnyOnePass, nonce: &Nonce, aad: &[u8]) -> AnyMasking
 impl Sealer {
     ghost use Rattle.aead.specs.Pieces.{HoldsSealer};
 
-    /// A state that holds the empty text, under a nonce with associated data. `AadTooLong` where the data is past the
-    /// suite's limit.
+    /// A state that holds the empty text, under a nonce with associated data. `AadTooLong` where the data
+    /// is past the suite's limit.
     pub fn new(cipher: &AnyOnePass, nonce: &Nonce, aad: &[u8]) -> Result<Sealer, Fault>
         ensures { let s = setting (one_pass_keyed cipher.now) nonce.now aad.now in
             MatchResult result (λ sealer. HoldsSealer sealer s []) (λ e. SealRefused s [] e) }
@@ -59,11 +59,12 @@ impl Sealer {
         })
     }
 
-    /// Adds `piece`, of any length, to the text, and leaves its ciphertext in its place. `TextTooLong` where the text would
-    /// be past its limit: state and piece are then as they were.
+    /// Adds `piece`, of any length, to the text, and leaves its ciphertext in its place. `TextTooLong`
+    /// where the text would be past its limit: state and piece are then as they were.
     pub fn update(&mut self, piece: &mut [u8]) -> Result<(), Fault>
         ensures { (s : Setting) (text : List ℕ) → HoldsSealer self.old s text → MatchResult result
-            (λ _. HoldsSealer self.new s (text ++ piece.old) × ((tag : List ℕ) → piece.new ≡ masked (mask_of s tag) (length text) piece.old))
+            (λ _. HoldsSealer self.new s (text ++ piece.old)
+            × ((tag : List ℕ) → piece.new ≡ masked (mask_of s tag) (length text) piece.old))
             (λ e. SealRefused s (text ++ piece.old) e × (self.new ≡ self.old) × (piece.new ≡ piece.old)) }
     {
         if piece.len() as u64 > self.masking.room() {

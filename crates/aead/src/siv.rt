@@ -33,8 +33,8 @@ pub struct SivAbsorb {
 impl SivAbsorb {
     ghost use Rattle.aead.specs.Pieces.{HoldsAbsorb, HoldsWriter};
 
-    /// A state that holds the empty text, under a nonce with associated data. `AadTooLong` where the data is past the
-    /// suite's limit.
+    /// A state that holds the empty text, under a nonce with associated data. `AadTooLong` where the data
+    /// is past the suite's limit.
     pub fn new(cipher: &GcmSiv, nonce: &Nonce, aad: &[u8]) -> Result<SivAbsorb, Fault>
         ensures { let s = setting cipher.now nonce.now aad.now in
             MatchResult result (λ absorb. HoldsAbsorb absorb s []) (λ e. SealRefused s [] e) }
@@ -64,15 +64,16 @@ impl SivAbsorb {
     // Adds a piece that is within the limit.
     pub(crate) fn extend(&mut self, piece: &[u8])
         requires { self.old.authenticator.length + length piece.now ≤ self.old.limit }
-        ensures holds { (s : Setting) (text : List ℕ) → HoldsAbsorb self.old s text → HoldsAbsorb self.new s (text ++ piece.now) }
+        ensures holds { (s : Setting) (text : List ℕ) → HoldsAbsorb self.old s text
+            → HoldsAbsorb self.new s (text ++ piece.now) }
         ensures length { self.new.authenticator.length ≡ self.old.authenticator.length + length piece.now }
         ensures limit { self.new.limit ≡ self.old.limit }
     {
         self.authenticator.update(piece);
     }
 
-    /// Adds `piece`, of any length, to the text. `TextTooLong` where the text would be past its limit: the state is then as
-    /// it was.
+    /// Adds `piece`, of any length, to the text. `TextTooLong` where the text would be past its limit:
+    /// the state is then as it was.
     pub fn update(&mut self, piece: &[u8]) -> Result<(), Fault>
         ensures { (s : Setting) (text : List ℕ) → HoldsAbsorb self.old s text → MatchResult result
             (λ _. HoldsAbsorb self.new s (text ++ piece.now))
@@ -87,7 +88,8 @@ impl SivAbsorb {
 
     /// The tag of the text, 16 bytes, and what encrypts the second reading. It spends the state.
     pub fn finish(self) -> (Tag, SivWriter)
-        ensures { (s : Setting) (text : List ℕ) → HoldsAbsorb self s text → (result.0 ≡ tag_of s text) × HoldsWriter result.1 s text [] }
+        ensures { (s : Setting) (text : List ℕ) → HoldsAbsorb self s text
+            → (result.0 ≡ tag_of s text) × HoldsWriter result.1 s text [] }
     {
         let length = self.authenticator.length;
         let tag = self.authenticator.finish();
@@ -107,12 +109,15 @@ pub struct SivWriter {
 impl SivWriter {
     ghost use Rattle.aead.specs.Pieces.{HoldsWriter, Repeats};
 
-    /// Adds `piece`, of any length, to the second text, and leaves its ciphertext in its place. `SourceChanged` where that
-    /// text would be longer than the first: state and piece are then as they were.
+    /// Adds `piece`, of any length, to the second text, and leaves its ciphertext in its place.
+    /// `SourceChanged` where that text would be longer than the first: state and piece are then as they
+    /// were.
     pub fn update(&mut self, piece: &mut [u8]) -> Result<(), Fault>
         ensures { (s : Setting) (first text : List ℕ) → HoldsWriter self.old s first text → MatchResult result
-            (λ _. HoldsWriter self.new s first (text ++ piece.old) × (piece.new ≡ masked (mask_of s (tag_of s first)) (length text) piece.old))
-            (λ e. (e ≡ Fault.SourceChanged) × (length first < length text + length piece.old) × (self.new ≡ self.old) × (piece.new ≡ piece.old)) }
+            (λ _. HoldsWriter self.new s first (text ++ piece.old)
+            × (piece.new ≡ masked (mask_of s (tag_of s first)) (length text) piece.old))
+            (λ e. (e ≡ Fault.SourceChanged) × (length first < length text + length piece.old)
+            × (self.new ≡ self.old) × (piece.new ≡ piece.old)) }
     {
         if piece.len() as u64 > self.masking.room() {
             return Err(Fault::SourceChanged);
@@ -121,11 +126,13 @@ impl SivWriter {
         Ok(())
     }
 
-    /// Whether the second text has the length and the tag of the first; else `SourceChanged`. It spends the state.
+    /// Whether the second text has the length and the tag of the first; else `SourceChanged`. It spends
+    /// the state.
     pub fn finish(self) -> Result<(), Fault>
         ensures fault { MatchResult result (λ _. Unit {0}) (λ e. e ≡ Fault.SourceChanged) }
         ensures answer { (s : Setting) (first text : List ℕ) → HoldsWriter self s first text
-            → MatchResult result (λ _. Repeats s first text) (λ e. (e ≡ Fault.SourceChanged) × ¬ (Repeats s first text)) }
+            → MatchResult result (λ _. Repeats s first text)
+            (λ e. (e ≡ Fault.SourceChanged) × ¬ (Repeats s first text)) }
     {
         let missing = self.masking.room();
         let tag = self.tag;

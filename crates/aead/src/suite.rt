@@ -2,7 +2,8 @@
 
 ghost use Rattle.std.specs.Prelude.{◌≡◌, ◌↔◌};
 ghost use Rattle.aead.specs.declared.suite.Suite.{Suite};
-ghost use Rattle.aead.specs.Suites.{suite_name, key_length, text_limit, aad_limit, construction_of, is_one_pass};
+ghost use Rattle.aead.specs.Suites.{suite_name, key_length, text_limit, aad_limit, construction_of};
+ghost use Rattle.aead.specs.Suites.{is_one_pass};
 
 /// A way of authenticated encryption with its key length.
 #[derive(Clone, Copy, Debug, PartialEq, Eq, Drop)]
@@ -28,8 +29,8 @@ impl Suite {
     /// The bytes of a tag, in each suite: so many more than its text has a sealing.
     pub const TAG_LENGTH: usize = 16;
 
-    /// The suite of a name: `chacha20-poly1305`, `aes-128-gcm`, `aes-192-gcm`, `aes-256-gcm`, `aes-128-gcm-siv` or
-    /// `aes-256-gcm-siv`. No other text names one.
+    /// The suite of a name: `chacha20-poly1305`, `aes-128-gcm`, `aes-192-gcm`, `aes-256-gcm`,
+    /// `aes-128-gcm-siv` or `aes-256-gcm-siv`. No other text names one.
     pub fn named(name: &str) -> Option<Suite>
         ensures { (suite : Suite) → (result ≡ Some suite) ↔ (name.now ≡ suite_name suite) }
     {
@@ -80,8 +81,8 @@ impl Suite {
         }
     }
 
-    /// The most bytes of a text: 2^38 - 64 (RFC 8439, 2.8), 2^36 - 32 (SP 800-38D, 5.2.1.1) or 2^36 (RFC 8452, 6). A longer one
-    /// is refused as `TextTooLong`.
+    /// The most bytes of a text: 2^38 - 64 (RFC 8439, 2.8), 2^36 - 32 (SP 800-38D, 5.2.1.1) or 2^36 (RFC
+    /// 8452, 6). A longer one is refused as `TextTooLong`.
     pub fn text_limit(self) -> u64
         ensures { result ≡ text_limit self }
     {
@@ -92,8 +93,8 @@ impl Suite {
         }
     }
 
-    /// The most bytes of associated data: 2^64 - 1 (RFC 8439, 2.8), 2^61 - 1 (SP 800-38D, 5.2.1.1, which counts bits) or 2^36
-    /// (RFC 8452, 6). A longer one is refused as `AadTooLong`.
+    /// The most bytes of associated data: 2^64 - 1 (RFC 8439, 2.8), 2^61 - 1 (SP 800-38D, 5.2.1.1, which
+    /// counts bits) or 2^36 (RFC 8452, 6). A longer one is refused as `AadTooLong`.
     pub fn aad_limit(self) -> u64
         ensures { result ≡ aad_limit self }
     {

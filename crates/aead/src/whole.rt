@@ -63,9 +63,9 @@ fn open_by<A: Allocator, C: Aead>(
     Ok(text)
 }
 
-/// The sealing of a text under a nonce with associated data: the ciphertext, of the text's length, and the tag of 16
-/// bytes. `AadTooLong`, then `TextTooLong`, where a length in bytes is past the suite's limit, then `OutOfMemory`. The
-/// limits are low enough that any sealing's length is a `usize`.
+/// The sealing of a text under a nonce with associated data: the ciphertext, of the text's length, and
+/// the tag of 16 bytes. `AadTooLong`, then `TextTooLong`, where a length in bytes is past the suite's
+/// limit, then `OutOfMemory`. The limits are low enough that any sealing's length is a `usize`.
 pub fn seal<A: Allocator>(
     alloc: A,
     cipher: &AnyAead,
@@ -79,9 +79,10 @@ pub fn seal<A: Allocator>(
     seal_by(alloc, cipher, nonce, aad, text)
 }
 
-/// The text of a sealing under a nonce with associated data. `AadTooLong` where the data is past the suite's limit, then
-/// `TooShort` for fewer than 16 bytes, then `TextTooLong` where there are more than 16 bytes past the suite's limit of a
-/// text, then `OutOfMemory`, then `TagMismatch` where the bytes are no sealing.
+/// The text of a sealing under a nonce with associated data. `AadTooLong` where the data is past the
+/// suite's limit, then `TooShort` for fewer than 16 bytes, then `TextTooLong` where there are more than
+/// 16 bytes past the suite's limit of a text, then `OutOfMemory`, then `TagMismatch` where the bytes are
+/// no sealing.
 pub fn open<A: Allocator>(
     alloc: A,
     cipher: &AnyAead,
@@ -92,7 +93,8 @@ pub fn open<A: Allocator>(
     ensures answer { let s = setting (keyed_of cipher.now) nonce.now aad.now in
         MatchResult result (λ v. Opened s sealed.now v.items) (λ e. WholeOpenRefused s sealed.now e) }
     ensures found { let s = setting (keyed_of cipher.now) nonce.now aad.now in
-        (text : List ℕ) → Opened s sealed.now text → MatchResult result (λ v. v.items ≡ text) (λ e. e ≡ Fault.OutOfMemory) }
+        (text : List ℕ) → Opened s sealed.now text
+        → MatchResult result (λ v. v.items ≡ text) (λ e. e ≡ Fault.OutOfMemory) }
 {
     sealing_has_one_text();
     open_by(alloc, cipher, nonce, aad, sealed)

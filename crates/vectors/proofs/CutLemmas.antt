@@ -1,5 +1,7 @@
 -- Numbers that digits spell, and the parts between commas.
-use Rattle.std.proofs.Common.{◌≡◌, ℕ, ◌+◌, ◌-◌, ◌*◌, ◌^◌, ◌<◌, ◌≤◌, Bool, true, false, cond, eqb, nat_lt, List, [], ◌∷◌, ◌++◌, length, take, drop, get_or, map, Option, Some, None, refl, sym, ap, ap₂, ◌∙◌, arith, take_all}
+use Rattle.std.proofs.Common.{◌≡◌, ℕ, ◌+◌, ◌-◌, ◌*◌, ◌^◌, ◌<◌, ◌≤◌, Bool, true, false, cond, eqb, nat_lt}
+use Rattle.std.proofs.Common.{List, [], ◌∷◌, ◌++◌, length, take, drop, get_or, map, Option, Some, None, refl}
+use Rattle.std.proofs.Common.{sym, ap, ap₂, ◌∙◌, arith, take_all}
 use Rattle.std.specs.Prelude.{position, ◌&&◌}
 use Rattle.std.specs.List.{slice_split, position_or_len, list_all}
 use Rattle.std.specs.Int.Digits.{number_from_digits, number_from_digits_after}
@@ -30,7 +32,8 @@ behind bs k = grind (arith, common_steps)
 
 -- the parts of a text with a comma at i
 pub parts_some : (bs : List ℕ) (i : ℕ) → Some i ≡ position is_comma bs
-    → slice_split is_comma bs ≡ take i bs ∷ slice_split is_comma (take (length bs - (i + 1)) (drop (i + 1) bs))
+    → slice_split is_comma bs
+    ≡ take i bs ∷ slice_split is_comma (take (length bs - (i + 1)) (drop (i + 1) bs))
 parts_some bs i e =
     let at = some_place bs i e in
     slice_split_first is_comma bs 0 at.0
@@ -39,7 +42,8 @@ parts_some bs i e =
 
 -- with no comma the text is the one part
 pub parts_none : (bs : List ℕ) → None ≡ position is_comma bs → slice_split is_comma bs ≡ bs ∷ []
-parts_none bs e = slice_split_none is_comma bs (λ k d lt. fails_before_first is_comma bs k d (let l = no_place bs e in omega (arith, l)))
+parts_none bs e = slice_split_none is_comma bs
+    (λ k d lt. fails_before_first is_comma bs k d (let l = no_place bs e in omega (arith, l)))
 
 -- ---- numbers
 
@@ -54,7 +58,8 @@ unfolding decimal_value
 value_more text i l =
     ap (number_from_digits 10) (sym (take-map digit (i + 1) text))
     ∙ number_more 10 (map digit text) i (omega (arith, length-map text digit))
-    ∙ ap₂ (λ a b. a * 10 + b) (ap (number_from_digits 10) (take-map digit i text)) (get_or-map digit text i 0 0 l)
+    ∙ ap₂ (λ a b. a * 10 + b) (ap (number_from_digits 10) (take-map digit i text))
+    (get_or-map digit text i 0 0 l)
 
 -- more digits are no less
 pub value_grows : (text : List ℕ) (i : ℕ) → decimal_value (take i text) ≤ decimal_value text
@@ -62,8 +67,10 @@ unfolding decimal_value
 value_grows text i =
     let front : List ℕ = map digit (take i text) in
     let back : List ℕ = map digit (drop i text) in
-    let whole : front ++ back ≡ map digit text = sym (map-append digit (take i text) (drop i text)) ∙ ap (map digit) (take-append-drop i text) in
-    let sum : number_from_digits_after 10 (number_from_digits_after 10 0 front) back ≡ number_from_digits_after 10 0 (map digit text) =
+    let whole : front ++ back ≡ map digit text =
+    sym (map-append digit (take i text) (drop i text)) ∙ ap (map digit) (take-append-drop i text) in
+    let sum : number_from_digits_after 10 (number_from_digits_after 10 0 front) back
+    ≡ number_from_digits_after 10 0 (map digit text) =
     sym (number_after_append 10 0 front back) ∙ ap (number_from_digits_after 10 0) whole in
     omega (arith, number_after_ge 10 (number_from_digits_after 10 0 front) back (omega arith), sum)
 
@@ -82,7 +89,8 @@ pub none_digit : (text : List ℕ) (i : ℕ) → i < length text → is_digit (g
     → number_of text ≡ None
 unfolding number_of
 none_digit text i l h =
-    behind_test (has_no_leading_zero text) (list_all is_digit text && nat_lt (decimal_value text) (2 ^ 64)) (decimal_value text)
+    behind_test (has_no_leading_zero text) (list_all is_digit text && nat_lt (decimal_value text) (2 ^ 64))
+    (decimal_value text)
     (rw (list_all_at is_digit text i 0 l h) refl)
 
 -- a failing test on the right
@@ -103,8 +111,10 @@ no_less m n h = grind arith
 pub none_large : (text : List ℕ) (i : ℕ) → 2 ^ 64 ≤ decimal_value (take i text) → number_of text ≡ None
 unfolding number_of
 none_large text i h =
-    behind_test (has_no_leading_zero text) (list_all is_digit text && nat_lt (decimal_value text) (2 ^ 64)) (decimal_value text)
-    (both_fail (list_all is_digit text) (nat_lt (decimal_value text) (2 ^ 64)) (no_less (decimal_value text) (2 ^ 64) (omega (arith, h, value_grows text i))))
+    behind_test (has_no_leading_zero text) (list_all is_digit text && nat_lt (decimal_value text) (2 ^ 64))
+    (decimal_value text)
+    (both_fail (list_all is_digit text) (nat_lt (decimal_value text) (2 ^ 64))
+    (no_less (decimal_value text) (2 ^ 64) (omega (arith, h, value_grows text i))))
 
 -- a number that is less
 less : (m n : ℕ) → m < n → nat_lt m n ≡ true
@@ -118,4 +128,9 @@ unfolding number_of
 some_number text i n l h d e small =
     let all : take i text ≡ text = take_all i text l in
     let value : n ≡ decimal_value text = e ∙ ap decimal_value all in
-    rw (h, sym (ap (list_all is_digit) all) ∙ d, less (decimal_value text) (2 ^ 64) (omega (arith, value, small))) (ap (λ m. Some m) value)
+    rw (
+      h,
+      sym (ap (list_all is_digit) all)
+          ∙ d,
+      less (decimal_value text) (2 ^ 64) (omega (arith, value, small)),
+    ) (ap (λ m. Some m) value)

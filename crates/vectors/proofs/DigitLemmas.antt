@@ -1,5 +1,7 @@
 -- Digits and the bytes that they spell.
-use Rattle.std.proofs.Common.{◌≡◌, ℕ, ◌<◌, get_or, set, inl, inr, subst, zero, suc, [], ◌∷◌, ◌++◌, ◌+◌, ◌*◌, ◌%◌, ◌≤◌, ◌==◌, true, List, length, take, drop, Option, Some, None, Result, Ok, Err, refl, sym, ap, ap₂, ◌∙◌, arith}
+use Rattle.std.proofs.Common.{◌≡◌, ℕ, ◌<◌, get_or, set, inl, inr, subst, zero, suc, [], ◌∷◌, ◌++◌, ◌+◌, ◌*◌}
+use Rattle.std.proofs.Common.{◌%◌, ◌≤◌, ◌==◌, true, List, length, take, drop, Option, Some, None, Result, Ok}
+use Rattle.std.proofs.Common.{Err, refl, sym, ap, ap₂, ◌∙◌, arith}
 use Rattle.std.specs.List.{list_all}
 use Rattle.std.specs.Result.{result_unwrap_or}
 use Rattle.std.proofs.lemmas.Bool.{and_parts, eqb-true, cases_Bool, cases_eq}
@@ -8,7 +10,8 @@ use Rattle.std.proofs.lemmas.List.{take-append-drop}
 use Rattle.std.proofs.lemmas.List.Folds.{list_all-append, list_all_at}
 use Rattle.std.proofs.lemmas.Grind.{common_steps, get_or-set_at}
 use Rattle.hex.specs.Hex as hex
-use Rattle.hex.specs.Hex.{is_hex_digit, IsBytes, hex_digit_value, digit_or_error, pair_value, ◌>>=◌, decode_pairs}
+use Rattle.hex.specs.Hex.{is_hex_digit, IsBytes, hex_digit_value, digit_or_error, pair_value, ◌>>=◌}
+use Rattle.hex.specs.Hex.{decode_pairs}
 use Rattle.hex.specs.declared.error.FromHexError.{FromHexError}
 use Rattle.hex.proofs.HexLemmas.{decode_of-digits, decode_of-ok, decode_of-even}
 use Rattle.vectors.specs.Grammar.{Spells}
@@ -19,7 +22,8 @@ pub spells : (digits : List ℕ) → is_hex digits ≡ true → Spells digits (b
 unfolding is_hex bytes_of
 spells digits h =
     let both = and_parts (length digits % 2 == 0) (list_all is_hex_digit digits) h in
-    let decoded = decode_of-digits digits (eqb-true (length digits % 2) 0 both.0) (AllPass-from_list_all is_hex_digit digits both.1) in
+    let decoded = decode_of-digits digits (eqb-true (length digits % 2) 0 both.0)
+    (AllPass-from_list_all is_hex_digit digits both.1) in
     decoded.1 ∙ ap Ok (sym (ap (λ (r : Result (List ℕ) FromHexError). result_unwrap_or r []) decoded.1))
 
 -- and only those
@@ -79,7 +83,8 @@ unfolding decode_pairs pairs digit
 decoded i [] bytes e = cc
 decoded i (c ∷ []) bytes e = absurd cc
 decoded i (a ∷ b ∷ rest) bytes e =
-    let p = bind_ok (pair_value a b i) (λ byte. decode_pairs (i + 2) rest >>= λ bytes. Ok (byte ∷ bytes)) bytes e in
+    let p = bind_ok (pair_value a b i) (λ byte. decode_pairs (i + 2) rest >>= λ bytes. Ok (byte ∷ bytes))
+    bytes e in
     let high = bind_ok (hex.value_at a i) (λ h. hex.value_at b (i + 1) >>= λ l. Ok (h * 16 + l)) p.0 p.1 in
     let low = bind_ok (hex.value_at b (i + 1)) (λ l. Ok (high.0 * 16 + l)) p.0 high.2 in
     let others = bind_ok (decode_pairs (i + 2) rest) (λ bytes. Ok (p.0 ∷ bytes)) bytes p.2 in
@@ -135,7 +140,8 @@ cut_hex digits k h fits =
     let even = eqb-true (length digits % 2) 0 both.0 in
     let whole : list_all is_hex_digit (take (2 * k) digits ++ drop (2 * k) digits) ≡ true =
     ap (list_all is_hex_digit) (take-append-drop (2 * k) digits) ∙ both.1 in
-    let parts = and_parts (list_all is_hex_digit (take (2 * k) digits)) (list_all is_hex_digit (drop (2 * k) digits))
+    let parts = and_parts (list_all is_hex_digit (take (2 * k) digits))
+    (list_all is_hex_digit (drop (2 * k) digits))
     (sym (list_all-append is_hex_digit (take (2 * k) digits) (drop (2 * k) digits)) ∙ whole) in
     let front : (length (take (2 * k) digits) % 2 == 0) ≡ true = grind (arith, common_steps) in
     let back : (length (drop (2 * k) digits) % 2 == 0) ≡ true = grind (arith, common_steps, even) in
@@ -160,12 +166,14 @@ back_bytes digits k h fits =
     ∙ ap (drop k) (sym (bytes_are digits h))
 
 -- each digit is one
-pub digit_at : (digits : List ℕ) (i : ℕ) → is_hex digits ≡ true → i < length digits → is_hex_digit (get_or digits i 0) ≡ true
+pub digit_at : (digits : List ℕ) (i : ℕ) → is_hex digits ≡ true → i < length digits
+    → is_hex_digit (get_or digits i 0) ≡ true
 unfolding is_hex
 digit_at digits i h l =
     elim (cases_Bool (is_hex_digit (get_or digits i 0))) [
       | inl is ↦ is
-      | inr other ↦ cc (sym (and_parts (length digits % 2 == 0) (list_all is_hex_digit digits) h).1 ∙ list_all_at is_hex_digit digits i 0 l other)
+      | inr other ↦ cc (sym (and_parts (length digits % 2 == 0) (list_all is_hex_digit digits) h).1
+          ∙ list_all_at is_hex_digit digits i 0 l other)
     ]
 
 -- the byte of a pair of digits
@@ -179,14 +187,17 @@ pair_at (a ∷ b ∷ rest) (suc k) l = pair_at rest k (omega arith)
 
 -- a byte, of the values of its two digits
 pub byte_at : (digits : List ℕ) (k a b : ℕ) → is_hex digits ≡ true → k < length (bytes_of digits)
-    → hex_digit_value (get_or digits (2 * k) 0) ≡ Some a → hex_digit_value (get_or digits (2 * k + 1) 0) ≡ Some b
+    → hex_digit_value (get_or digits (2 * k) 0) ≡ Some a
+    → hex_digit_value (get_or digits (2 * k + 1) 0) ≡ Some b
     → a * 16 + b ≡ get_or (bytes_of digits) k 0
 unfolding digit value_of
 byte_at digits k a b h l high low =
     let is = bytes_are digits h in
     let found = pair_at digits k (subst (λ (bs : List ℕ). k < length bs) is l) in
-    let first : digit (get_or digits (twice k) 0) ≡ a = ap (λ i. digit (get_or digits i 0)) (twice_is k) ∙ ap value_of high in
-    let second : digit (get_or digits (suc (twice k)) 0) ≡ b = ap (λ i. digit (get_or digits i 0)) (next k) ∙ ap value_of low in
+    let first : digit (get_or digits (twice k) 0) ≡ a =
+    ap (λ i. digit (get_or digits i 0)) (twice_is k) ∙ ap value_of high in
+    let second : digit (get_or digits (suc (twice k)) 0) ≡ b =
+    ap (λ i. digit (get_or digits i 0)) (next k) ∙ ap value_of low in
     sym (ap (λ (bs : List ℕ). get_or bs k 0) is ∙ found ∙ ap₂ (λ x y. x * 16 + y) first second) where
       next : (k : ℕ) → suc (twice k) ≡ 2 * k + 1
       next k = let e = twice_is k in omega (arith, e)

@@ -1,21 +1,26 @@
 -- A line is what the grammar says exactly where reading it gives that.
-use Rattle.std.proofs.Common.{◌≡◌, ℕ, Bool, true, false, cond, List, [], ◌∷◌, Option, Some, None, Result, Ok, Err, refl, sym, ap, ◌∙◌, subst}
+use Rattle.std.proofs.Common.{◌≡◌, ℕ, Bool, true, false, cond, List, [], ◌∷◌, Option, Some, None, Result, Ok}
+use Rattle.std.proofs.Common.{Err, refl, sym, ap, ◌∙◌, subst}
 use Rattle.std.specs.Prelude.{codes, ◌&&◌}
 use Rattle.std.specs.Str.{bytes_eq}
 use Rattle.std.proofs.lemmas.Bool.{and_parts}
 use Rattle.std.proofs.lemmas.Slice.Eq.{bytes_eq-Decides}
 use Rattle.vectors.specs.declared.fault.Cause.{Cause}
-use Rattle.vectors.specs.declared.fault.Cause.TheVariants.{BadFormat, WrongName, UnknownSuite, BadHex, BadLength, BadCuts}
+use Rattle.vectors.specs.declared.fault.Cause.TheVariants.{BadFormat, WrongName, UnknownSuite, BadHex}
+use Rattle.vectors.specs.declared.fault.Cause.TheVariants.{BadLength, BadCuts}
 use Rattle.vectors.specs.declared.suite.Format.{Format}
 use Rattle.vectors.specs.declared.suite.Suite.{Suite}
 use Rattle.vectors.specs.declared.suite.Field.{Field}
 use Rattle.vectors.specs.Suites.{format_named, suite_named, field_name, field_length}
 use Rattle.vectors.specs.Cuts.{are_cuts}
-use Rattle.vectors.specs.Grammar.{Record, is_gap, field_of, value_line, has_length, IsField, IsHexField, IsFieldLine, IsFormatLine, IsSuiteLine, IsCutsLine, Ends, may_cut, most_cut, with_text}
+use Rattle.vectors.specs.Grammar.{Record, is_gap, field_of, value_line, has_length, IsField, IsHexField}
+use Rattle.vectors.specs.Grammar.{IsFieldLine, IsFormatLine, IsSuiteLine, IsCutsLine, Ends, may_cut}
+use Rattle.vectors.specs.Grammar.{most_cut, with_text}
 use Rattle.vectors.specs.Faults.{is_hex, bytes_of, is_named}
 use Rattle.vectors.proofs.DigitLemmas.{spells, spelled-bytes, spelled-digits}
 use Rattle.vectors.specs.Code.Steps as steps
-use Rattle.vectors.specs.Code.Steps.{◌>>=◌, Place, named_value, value_at, hex_at, field_at, ok_or, format_of, format_at, suite_at, text_at, cuts_at, end_at}
+use Rattle.vectors.specs.Code.Steps.{◌>>=◌, Place, named_value, value_at, hex_at, field_at, ok_or, format_of}
+use Rattle.vectors.specs.Code.Steps.{format_at, suite_at, text_at, cuts_at, end_at}
 
 -- what an Ok of two steps shows
 pub bind_ok : {A B : Type 0} (r : Result A Cause) (f : A → Result B Cause) (y : B) → (r >>= f) ≡ Ok y
@@ -63,13 +68,15 @@ value_ok name line v e = named_ok name v (value_line line) e
 -- a value line is read
 pub value_again : (name line v : List ℕ) → IsField line name v → value_at name line ≡ Ok v
 unfolding value_at
-value_again name line v h = rw h (ap (λ (b : Bool). cond b (Ok v) (Err WrongName)) ((bytes_eq-Decides name name).1 refl))
+value_again name line v h =
+    rw h (ap (λ (b : Bool). cond b (Ok v) (Err WrongName)) ((bytes_eq-Decides name name).1 refl))
 
 -- and so are its bytes
 pub hex_ok : (name line v : List ℕ) → hex_at name line ≡ Ok v → IsHexField line name v
 unfolding hex_at
 hex_ok name line v e =
-    let b = bind_ok (value_at name line) (λ digits. cond (is_hex digits) (Ok (bytes_of digits)) (Err BadHex)) v e in
+    let b = bind_ok (value_at name line) (λ digits. cond (is_hex digits) (Ok (bytes_of digits)) (Err BadHex))
+    v e in
     let g = guard_ok (is_hex b.0) BadHex (bytes_of b.0) v b.2 in
     record { digits = b.0; field = value_ok name line b.0 b.1; spelled = spells b.0 g.0 ∙ ap Ok g.1 }
 
@@ -77,13 +84,15 @@ hex_ok name line v e =
 pub hex_again : (name line v : List ℕ) → IsHexField line name v → hex_at name line ≡ Ok v
 unfolding hex_at
 hex_again name line v h =
-    rw (value_again name line h.digits h.field, spelled-digits h.digits v h.spelled) (ap Ok (spelled-bytes h.digits v h.spelled))
+    rw (value_again name line h.digits h.field, spelled-digits h.digits v h.spelled)
+    (ap Ok (spelled-bytes h.digits v h.spelled))
 
 -- a field that was read stands on its line
 pub field_ok : (s : Suite) (f : Field) (line v : List ℕ) → field_at s f line ≡ Ok v → IsFieldLine s f line v
 unfolding field_at
 field_ok s f line v e =
-    let b = bind_ok (hex_at (field_name f) line) (λ bytes. cond (has_length (field_length s f) bytes) (Ok bytes) (Err BadLength)) v e in
+    let b = bind_ok (hex_at (field_name f) line)
+    (λ bytes. cond (has_length (field_length s f) bytes) (Ok bytes) (Err BadLength)) v e in
     let g = guard_ok (has_length (field_length s f) b.0) BadLength b.0 v b.2 in
     record {
       hex = subst (λ (x : List ℕ). IsHexField line (field_name f) x) g.1 (hex_ok (field_name f) line b.0 b.1);
@@ -104,13 +113,18 @@ format_found (Some f) F e = by_name (bytes_eq f.0 (codes "format")) refl e where
   by_name : (b : Bool) → bytes_eq f.0 (codes "format") ≡ b
       → cond b (ok_or BadFormat (format_named f.1)) (Err BadFormat) ≡ Ok F
       → (name : List ℕ) × (Some f ≡ Some (codes "format", name)) × (format_named name ≡ Some F)
-  by_name true is e = (f.1, ap (λ (x : List ℕ). Some (x, f.1)) ((bytes_eq-Decides f.0 (codes "format")).0 is), found_ok BadFormat (format_named f.1) F e)
+  by_name true is e = (
+    f.1,
+    ap (λ (x : List ℕ). Some (x, f.1)) ((bytes_eq-Decides f.0 (codes "format")).0 is),
+    found_ok BadFormat (format_named f.1) F e,
+  )
   by_name false is e = absurd cc
 
 -- a format that was read stands on a format line
 pub format_ok : (line : List ℕ) (F : Format) → format_at line ≡ Ok F → IsFormatLine line F
 unfolding format_at
-format_ok line F e = let h = format_found (value_line line) F e in record { name = h.0; field = h.1; known = h.2 }
+format_ok line F e = let h = format_found (value_line line) F e in
+    record { name = h.0; field = h.1; known = h.2 }
 
 -- a format line is read
 pub format_again : (line : List ℕ) (F : Format) → IsFormatLine line F → format_at line ≡ Ok F
@@ -122,7 +136,12 @@ pub suite_ok : (F : Format) (line : List ℕ) (s : Suite) → suite_at F line �
 unfolding suite_at
 suite_ok F line s e =
     let b = bind_ok (value_at (codes "suite") line) (λ name. ok_or UnknownSuite (suite_named F name)) s e in
-    record { name = b.0; field = value_ok (codes "suite") line b.0 b.1; known = found_ok UnknownSuite (suite_named F b.0) s b.2 }
+    record {
+      name = b.0;
+      field = value_ok (codes "suite") line b.0 b.1;
+      known =
+          found_ok UnknownSuite (suite_named F b.0) s b.2;
+    }
 
 -- a suite line is read
 pub suite_again : (F : Format) (line : List ℕ) (s : Suite) → IsSuiteLine F line s → suite_at F line ≡ Ok s
@@ -137,10 +156,12 @@ Next = Place × List Record
 
 -- a text line that was read
 pub text_ok : (F : Format) (r : Record) (line : List ℕ) (x : Next) → text_at F r line ≡ Ok x
-    → (v : List ℕ) × IsHexField line (codes "text") v × (◌≡◌ {A = Next} (steps.between F, with_text (Some v) r ∷ []) x)
+    → (v : List ℕ) × IsHexField line (codes "text") v
+    × (◌≡◌ {A = Next} (steps.between F, with_text (Some v) r ∷ []) x)
 unfolding text_at
 text_ok F r line x e =
-    let b = bind_ok (hex_at (codes "text") line) (λ bytes. Ok (steps.between F, with_text (Some bytes) r ∷ [])) x e in
+    let b = bind_ok (hex_at (codes "text") line)
+    (λ bytes. Ok (steps.between F, with_text (Some bytes) r ∷ [])) x e in
     (b.0, hex_ok (codes "text") line b.0 b.1, ok_is (steps.between F, with_text (Some b.0) r ∷ []) x b.2)
 
 -- a text line is read
@@ -154,7 +175,8 @@ pub cuts_ok : (F : Format) (r : Record) (line : List ℕ) (x : Next) → cuts_at
     → IsCutsLine r line × (◌≡◌ {A = Next} (steps.text F r, []) x)
 unfolding cuts_at
 cuts_ok F r line x e =
-    let b = bind_ok (value_at (codes "cuts") line) (λ value. cond (are_cuts (most_cut r) value) (Ok (steps.text F r, [])) (Err BadCuts)) x e in
+    let b = bind_ok (value_at (codes "cuts") line)
+    (λ value. cond (are_cuts (most_cut r) value) (Ok (steps.text F r, [])) (Err BadCuts)) x e in
     let g = guard_ok {A = Next} (are_cuts (most_cut r) b.0) BadCuts (steps.text F r, []) x b.2 in
     (record { value = b.0; field = value_ok (codes "cuts") line b.0 b.1; cuts = g.0 }, g.1)
 
@@ -183,9 +205,12 @@ end_ok F r line x e = by_word (bytes_eq line (codes "invalid")) refl e where
   by_name false is e = let t = text_ok F r line x e in by_text (Some t.0) (Ends.text_line t.1) t.2
 
   by_word : (b : Bool) → bytes_eq line (codes "invalid") ≡ b
-      → cond b (Ok (steps.between F, with_text None r ∷ [])) (cond (may_cut F r.suite && is_named (codes "cuts") (value_line line)) (cuts_at F r line) (text_at F r line)) ≡ Ok x → Ended F r line x
+      → cond b (Ok (steps.between F, with_text None r ∷ []))
+      (cond (may_cut F r.suite && is_named (codes "cuts") (value_line line)) (cuts_at F r line)
+      (text_at F r line)) ≡ Ok x → Ended F r line x
   by_word true is e =
-      by_text None (subst (λ (l : List ℕ). Ends F r (l ∷ []) None) (sym ((bytes_eq-Decides line (codes "invalid")).0 is)) Ends.invalid)
+      by_text None (subst (λ (l : List ℕ). Ends F r (l ∷ []) None)
+      (sym ((bytes_eq-Decides line (codes "invalid")).0 is)) Ends.invalid)
       (ok_is (steps.between F, with_text None r ∷ []) x e)
   by_word false is e = by_name (may_cut F r.suite && is_named (codes "cuts") (value_line line)) refl e
 
@@ -222,7 +247,8 @@ unfolding end_at
 end_text F r line v h =
     rw (
       differs line (codes "text", h.digits) (bytes_eq line (codes "invalid")) h.field refl,
-      and_false (may_cut F r.suite) (is_named (codes "cuts") (value_line line)) (ap (is_named (codes "cuts")) h.field),
+      and_false (may_cut F r.suite) (is_named (codes "cuts") (value_line line))
+          (ap (is_named (codes "cuts")) h.field),
     )
     (text_again F r line v h)
 
@@ -237,5 +263,9 @@ pub end_cuts : (F : Format) (r : Record) (line : List ℕ) → may_cut F r.suite
     → end_at F r line ≡ Ok (steps.text F r, [])
 unfolding end_at
 end_cuts F r line m h =
-    rw (differs line (codes "cuts", h.value) (bytes_eq line (codes "invalid")) h.field refl, m, ap (is_named (codes "cuts")) h.field)
+    rw (
+      differs line (codes "cuts", h.value) (bytes_eq line (codes "invalid")) h.field refl,
+      m,
+      ap (is_named (codes "cuts")) h.field,
+    )
     (cuts_again F r line h)

@@ -1,5 +1,6 @@
 -- Records judged so far, in a loop.
-use Rattle.std.proofs.Common.{◌≡◌, ◌≢◌, ℕ, ◌+◌, ◌≤◌, Bool, List, [], ◌∷◌, ◌++◌, length, Ok, Err, refl, sym, ap, ◌∙◌, subst, inl, inr, arith, length-append}
+use Rattle.std.proofs.Common.{◌≡◌, ◌≢◌, ℕ, ◌+◌, ◌≤◌, Bool, List, [], ◌∷◌, ◌++◌, length, Ok, Err, refl, sym}
+use Rattle.std.proofs.Common.{ap, ◌∙◌, subst, inl, inr, arith, length-append}
 use Rattle.std.proofs.lemmas.List.{nil_from_length}
 use Rattle.vectors.specs.declared.fault.Cause.{Cause}
 use Rattle.vectors.specs.Grammar.{Record}
@@ -12,7 +13,8 @@ use Rattle.vectors.specs.Reports.IsBad.{ends, agrees, disagrees}
 use Rattle.vectors.specs.declared.suite.Format.{Format}
 use Rattle.vectors.proofs.Places.{expected}
 use Rattle.vectors.specs.Reports.{IsBad, Judges, IsReport}
-use Rattle.vectors.proofs.Progress.{Progress, begins, goes_on, shift, same, fault, is_file, cut_off, count_is, ended}
+use Rattle.vectors.proofs.Progress.{Progress, begins, goes_on, shift, same, fault, is_file, cut_off}
+use Rattle.vectors.proofs.Progress.{count_is, ended}
 use Rattle.std.proofs.lemmas.List.{append-nil}
 
 -- n lines were read to this place, and this many records with these bad ones
@@ -39,44 +41,63 @@ bad_no n m [] r [] e ends a =
     subst (λ (k : ℕ). IsBad n (r ∷ []) (k ∷ [])) number (disagrees a ends)
 bad_no n m [] r (_ ∷ bad) e h a = elim h [ ]
 bad_no n m (s ∷ rs) r bad e (agrees h t) a = agrees h (bad_no (n + 1) m rs r bad (omega arith) t a)
-bad_no n m (s ∷ rs) r (_ ∷ bad) e (disagrees h t) a = disagrees h (bad_no (n + 1) m rs r bad (omega arith) t a)
+bad_no n m (s ∷ rs) r (_ ∷ bad) e (disagrees h t) a =
+    disagrees h (bad_no (n + 1) m rs r bad (omega arith) t a)
 
 -- one more record, as it was judged
 judged_more : (records more : ℕ) (rs : List Record) (r : Record) (bad worse : List ℕ) → records ≡ length rs
     → IsBad 1 rs bad → Judges records bad r more worse → IsBad 1 (rs ++ r ∷ []) worse
-judged_more records more rs r bad worse c h (m, inl j) = subst (λ (b : List ℕ). IsBad 1 (rs ++ r ∷ []) b) (sym j.1) (bad_yes 1 rs r bad h j.0)
-judged_more records more rs r bad worse c h (m, inr j) = subst (λ (b : List ℕ). IsBad 1 (rs ++ r ∷ []) b) (sym j.1) (bad_no 1 more rs r bad (omega arith) h j.0)
+judged_more records more rs r bad worse c h (m, inl j) =
+    subst (λ (b : List ℕ). IsBad 1 (rs ++ r ∷ []) b) (sym j.1) (bad_yes 1 rs r bad h j.0)
+judged_more records more rs r bad worse c h (m, inr j) =
+    subst (λ (b : List ℕ). IsBad 1 (rs ++ r ∷ []) b) (sym j.1) (bad_no 1 more rs r bad (omega arith) h j.0)
 
 -- no line was read
 pub start : (lines : List (List ℕ)) (bad : List ℕ) → bad ≡ [] → Judged lines lines 0 steps.start 0 bad
-start lines bad e = record { entries = []; progress = begins lines; count = refl; judged = subst (λ (b : List ℕ). IsBad 1 [] b) (sym e) ends; room = omega arith }
+start lines bad e = record {
+  entries = [];
+  progress = begins lines;
+  count = refl;
+  judged =
+      subst (λ (b : List ℕ). IsBad 1 [] b) (sym e) ends;
+  room = omega arith;
+}
 
 -- a line that ends no record
-pub after_line : (lines other : List (List ℕ)) (l : List ℕ) (rest : List (List ℕ)) (n : ℕ) (p q : Place) (records : ℕ) (bad : List ℕ)
-    → Judged lines other n p records bad → other ≡ l ∷ rest → step p l ≡ Ok (q, []) → Judged lines rest (n + 1) q records bad
+pub after_line : (lines other : List (List ℕ)) (l : List ℕ) (rest : List (List ℕ)) (n : ℕ) (p q : Place)
+    (records : ℕ) (bad : List ℕ)
+    → Judged lines other n p records bad → other ≡ l ∷ rest → step p l ≡ Ok (q, [])
+    → Judged lines rest (n + 1) q records bad
 after_line lines other l rest n p q records bad h e s = record {
   entries = h.entries;
-  progress = same lines rest (n + 1) q (h.entries ++ []) h.entries (goes_on lines l rest n p q h.entries [] (shift lines other (l ∷ rest) n p h.entries h.progress e) s) (append-nil h.entries);
+  progress = same lines rest (n + 1) q (h.entries ++ []) h.entries
+      (goes_on lines l rest n p q h.entries [] (shift lines other (l ∷ rest) n p h.entries h.progress e) s)
+      (append-nil h.entries);
   count = h.count;
   judged = h.judged;
   room = omega (arith, h.room);
 }
 
 -- a line that ends a record
-pub after_record : (lines other : List (List ℕ)) (l : List ℕ) (rest : List (List ℕ)) (n : ℕ) (p q : Place) (r : Record) (records more : ℕ) (bad worse : List ℕ)
-    → Judged lines other n p records bad → other ≡ l ∷ rest → step p l ≡ Ok (q, r ∷ []) → Judges records bad r more worse → Judged lines rest (n + 1) q more worse
+pub after_record : (lines other : List (List ℕ)) (l : List ℕ) (rest : List (List ℕ)) (n : ℕ) (p q : Place)
+    (r : Record) (records more : ℕ) (bad worse : List ℕ)
+    → Judged lines other n p records bad → other ≡ l ∷ rest → step p l ≡ Ok (q, r ∷ [])
+    → Judges records bad r more worse → Judged lines rest (n + 1) q more worse
 after_record lines other l rest n p q r records more bad worse h e s j = record {
   entries = h.entries ++ r ∷ [];
-  progress = goes_on lines l rest n p q h.entries (r ∷ []) (shift lines other (l ∷ rest) n p h.entries h.progress e) s;
+  progress = goes_on lines l rest n p q h.entries (r ∷ [])
+      (shift lines other (l ∷ rest) n p h.entries h.progress e) s;
   count = omega (arith, h.count, j.0, length-append h.entries (r ∷ []));
   judged = judged_more records more h.entries r bad worse h.count h.judged j;
   room = omega (arith, h.room, j.0);
 }
 
 -- the fault at a line
-pub at_fault : (lines other : List (List ℕ)) (l : List ℕ) (rest : List (List ℕ)) (n : ℕ) (p : Place) (c : Cause) (records : ℕ) (bad : List ℕ)
+pub at_fault : (lines other : List (List ℕ)) (l : List ℕ) (rest : List (List ℕ)) (n : ℕ) (p : Place)
+    (c : Cause) (records : ℕ) (bad : List ℕ)
     → Judged lines other n p records bad → other ≡ l ∷ rest → step p l ≡ Err c → IsFaultAt lines (n + 1) c
-at_fault lines other l rest n p c records bad h e s = fault lines l rest n p h.entries c (shift lines other (l ∷ rest) n p h.entries h.progress e) s
+at_fault lines other l rest n p c records bad h e s =
+    fault lines l rest n p h.entries c (shift lines other (l ∷ rest) n p h.entries h.progress e) s
 
 -- the report at the end of a file
 pub at_end : (lines other : List (List ℕ)) (n records : ℕ) (bad : List ℕ) (F : Format)
@@ -84,7 +105,8 @@ pub at_end : (lines other : List (List ℕ)) (n records : ℕ) (bad : List ℕ) 
     → IsReport lines records bad
 at_end lines other n records bad F h e some = record {
   records = h.entries;
-  file = is_file lines n F h.entries (shift lines other [] n (steps.between F) h.entries h.progress e) (λ none. some (h.count ∙ ap length none));
+  file = is_file lines n F h.entries (shift lines other [] n (steps.between F) h.entries h.progress e)
+      (λ none. some (h.count ∙ ap length none));
   count_is = h.count;
   judged = h.judged;
 }
@@ -94,12 +116,14 @@ pub at_cut : (lines other : List (List ℕ)) (n : ℕ) (p : Place) (inside : Boo
     → Judged lines other n p records bad → other ≡ [] → ((F : Format) → p ≡ steps.between F → records ≡ 0)
     → is_inside (expected p) ≡ inside → IsCutOff lines inside
 at_cut lines other n p inside records bad h e none is =
-    cut_off lines n p h.entries inside (shift lines other [] n p h.entries h.progress e) (λ F b. nil_from_length h.entries (sym h.count ∙ none F b)) is
+    cut_off lines n p h.entries inside (shift lines other [] n p h.entries h.progress e)
+    (λ F b. nil_from_length h.entries (sym h.count ∙ none F b)) is
 
 -- at the end all lines are counted
 pub lines_read : (lines other : List (List ℕ)) (n : ℕ) (p : Place) (records : ℕ) (bad : List ℕ)
     → Judged lines other n p records bad → other ≡ [] → n ≡ length lines
-lines_read lines other n p records bad h e = sym (count_is lines n p h.entries (shift lines other [] n p h.entries h.progress e))
+lines_read lines other n p records bad h e =
+    sym (count_is lines n p h.entries (shift lines other [] n p h.entries h.progress e))
 
 -- records and one more are some
 snoc_some : (rs : List Record) (r : Record) → (rs ++ r ∷ []) ≢ []
@@ -107,15 +131,19 @@ snoc_some [] r e = cc
 snoc_some (s ∷ rs) r e = cc
 
 -- a record that ends at a line has its suite's lengths
-pub sized_at_end : (lines other : List (List ℕ)) (l : List ℕ) (rest : List (List ℕ)) (n : ℕ) (p q : Place) (r : Record) (records : ℕ) (bad : List ℕ)
+pub sized_at_end : (lines other : List (List ℕ)) (l : List ℕ) (rest : List (List ℕ)) (n : ℕ) (p q : Place)
+    (r : Record) (records : ℕ) (bad : List ℕ)
     → Judged lines other n p records bad → other ≡ l ∷ rest → step p l ≡ Ok (q, r ∷ []) → IsSized r
 sized_at_end lines other l rest n p q r records bad h e s =
-    let after = goes_on lines l rest n p q h.entries (r ∷ []) (shift lines other (l ∷ rest) n p h.entries h.progress e) s in
+    let after = goes_on lines l rest n p q h.entries (r ∷ [])
+    (shift lines other (l ∷ rest) n p h.entries h.progress e) s in
     last_read_sized after.before q h.entries r after.read
 
 -- at a line that ends a record, one has ended
-pub ended_at : (lines other : List (List ℕ)) (l : List ℕ) (rest : List (List ℕ)) (n : ℕ) (p q : Place) (r : Record) (records : ℕ) (bad : List ℕ)
+pub ended_at : (lines other : List (List ℕ)) (l : List ℕ) (rest : List (List ℕ)) (n : ℕ) (p q : Place)
+    (r : Record) (records : ℕ) (bad : List ℕ)
     → Judged lines other n p records bad → other ≡ l ∷ rest → step p l ≡ Ok (q, r ∷ []) → HasEnded lines
 ended_at lines other l rest n p q r records bad h e s =
-    let after = goes_on lines l rest n p q h.entries (r ∷ []) (shift lines other (l ∷ rest) n p h.entries h.progress e) s in
+    let after = goes_on lines l rest n p q h.entries (r ∷ [])
+    (shift lines other (l ∷ rest) n p h.entries h.progress e) s in
     ended lines rest (n + 1) q (h.entries ++ r ∷ []) after (snoc_some h.entries r)

@@ -1,5 +1,6 @@
 -- Laws of the trims, and of the first line.
-use Rattle.std.proofs.Common.{◌≡◌, ◌≢◌, ℕ, zero, suc, ◌+◌, ◌-◌, ◌<◌, ◌≤◌, Bool, true, false, eqb, nat_lt, List, [], ◌∷◌, length, take, drop, get_or, refl, sym, ap, ◌∙◌, arith, map}
+use Rattle.std.proofs.Common.{◌≡◌, ◌≢◌, ℕ, zero, suc, ◌+◌, ◌-◌, ◌<◌, ◌≤◌, Bool, true, false, eqb, nat_lt}
+use Rattle.std.proofs.Common.{List, [], ◌∷◌, length, take, drop, get_or, refl, sym, ap, ◌∙◌, arith, map}
 use Rattle.std.proofs.lemmas.Grind.{common_steps}
 use Rattle.std.specs.List.{slice_split, position_or_len, before_first, after_first, All}
 use Rattle.std.specs.Prelude.{position, Option, Some, None}
@@ -38,12 +39,16 @@ not_true false h = refl
 -- the first byte that is a line feed
 pub first_byte : (bytes : List ℕ) (r : Option ℕ) → IsFirstByte (is_byte 10) bytes r → r ≡ position is_lf bytes
 first_byte bytes None h =
-    let at = position_or_len_is is_lf bytes (length bytes) 0 (omega arith) (λ k l. not_true (is_lf (get_or bytes k 0)) (h k (omega arith) l)) (λ l. absurd (omega (arith, l))) in
-    let past : nat_lt (position_or_len is_lf bytes) (length bytes) ≡ false = grind (arith, common_steps, at) in
+    let at = position_or_len_is is_lf bytes (length bytes) 0 (omega arith)
+    (λ k l. not_true (is_lf (get_or bytes k 0)) (h k (omega arith) l)) (λ l. absurd (omega (arith, l))) in
+    let past : nat_lt (position_or_len is_lf bytes) (length bytes) ≡ false =
+    grind (arith, common_steps, at) in
     rw past refl
 first_byte bytes (Some n) h =
-    let at = position_or_len_is is_lf bytes n 0 (omega (arith, h.0.high)) (λ k l. not_true (is_lf (get_or bytes k 0)) (h.0.before k (omega arith) l)) (λ l. h.1) in
-    let within : nat_lt (position_or_len is_lf bytes) (length bytes) ≡ true = grind (arith, common_steps, at, h.0.high) in
+    let at = position_or_len_is is_lf bytes n 0 (omega (arith, h.0.high))
+    (λ k l. not_true (is_lf (get_or bytes k 0)) (h.0.before k (omega arith) l)) (λ l. h.1) in
+    let within : nat_lt (position_or_len is_lf bytes) (length bytes) ≡ true =
+    grind (arith, common_steps, at, h.0.high) in
     rw (within, at) refl
 
 -- the first of several parts is a line
@@ -57,7 +62,8 @@ pub lines_at : (bs : List ℕ) → position_or_len is_lf bs < length bs
     → lines bs ≡ strip_carriage_return (before_first is_lf bs) ∷ lines (after_first is_lf bs)
 lines_at bs h =
     ap lines_of_parts (slice_split_first is_lf bs 0 h)
-    ∙ parts_cons (before_first is_lf bs) (slice_split is_lf (after_first is_lf bs)) (omega (arith, length-slice_split is_lf (after_first is_lf bs)))
+    ∙ parts_cons (before_first is_lf bs) (slice_split is_lf (after_first is_lf bs))
+    (omega (arith, length-slice_split is_lf (after_first is_lf bs)))
 
 -- where there is none, the one line is all the bytes
 none_passes : (bs : List ℕ) → length bs ≤ position_or_len is_lf bs → All (λ b. is_lf b ≡ false) bs
@@ -109,7 +115,9 @@ pub first_is : (bs : List ℕ) (i : ℕ) (line : List ℕ) → Some i ≡ positi
     → line ≡ trim_end (strip_carriage_return (take i bs))
     → lines_of bs ≡ line ∷ lines_of (take (length bs - (i + 1)) (drop (i + 1) bs))
 unfolding lines_of
-first_is bs i line e is = ap (map trim_end) (lines_some bs i e) ∙ ap (λ (x : List ℕ). x ∷ map trim_end (lines (take (length bs - (i + 1)) (drop (i + 1) bs)))) (sym is)
+first_is bs i line e is =
+    ap (map trim_end) (lines_some bs i e)
+    ∙ ap (λ (x : List ℕ). x ∷ map trim_end (lines (take (length bs - (i + 1)) (drop (i + 1) bs)))) (sym is)
 
 -- the only line of a file with no line feed
 pub only_is : (bs line : List ℕ) → bs ≢ [] → None ≡ position is_lf bs → line ≡ trim_end bs

@@ -1,5 +1,6 @@
 -- Lines read so far, in a loop.
-use Rattle.std.proofs.Common.{◌≡◌, ◌≢◌, ℕ, ◌+◌, Bool, true, false, cond, List, [], ◌∷◌, ◌++◌, length, Ok, Err, refl, sym, ap, ◌∙◌, subst, arith, append_assoc, length-append}
+use Rattle.std.proofs.Common.{◌≡◌, ◌≢◌, ℕ, ◌+◌, Bool, true, false, cond, List, [], ◌∷◌, ◌++◌, length, Ok}
+use Rattle.std.proofs.Common.{Err, refl, sym, ap, ◌∙◌, subst, arith, append_assoc, length-append}
 use Rattle.std.proofs.lemmas.List.{append-nil}
 use Rattle.vectors.specs.declared.fault.Cause.{Cause}
 use Rattle.vectors.specs.Grammar.{Record, IsFile, IsViable}
@@ -12,7 +13,9 @@ use Rattle.vectors.specs.Faults.{IsFaultAt, IsCutOff, HasEnded, IsFaultOf, is_in
 use Rattle.vectors.specs.Reports.{IsReported}
 use Rattle.vectors.specs.declared.fault.Cause.TheVariants as cause
 use Rattle.vectors.specs.declared.fault.VectorFault.{VectorFault}
-use Rattle.vectors.specs.declared.fault.VectorFault.TheVariants.{BadFormat, BadLine, WrongName, UnknownSuite, BadHex, BadLength, BadCuts, NoRecords, Unfinished, OutOfMemory}
+use Rattle.vectors.specs.declared.fault.VectorFault.TheVariants.{BadFormat, BadLine, WrongName, UnknownSuite}
+use Rattle.vectors.specs.declared.fault.VectorFault.TheVariants.{BadHex, BadLength, BadCuts, NoRecords}
+use Rattle.vectors.specs.declared.fault.VectorFault.TheVariants.{Unfinished, OutOfMemory}
 use Rattle.std.specs.Prelude.{Result, IfErr}
 use Rattle.vectors.specs.declared.suite.Format.{Format}
 use Rattle.vectors.specs.declared.suite.Field.{Field}
@@ -37,7 +40,8 @@ pub begins : (lines : List (List ℕ)) → Progress lines lines 0 steps.start []
 begins lines = record { before = []; whole = refl; number = refl; read = run-empty steps.start }
 
 -- one more line
-pub goes_on : (lines : List (List ℕ)) (l : List ℕ) (rest : List (List ℕ)) (n : ℕ) (p q : Place) (rs made : List Record)
+pub goes_on : (lines : List (List ℕ)) (l : List ℕ) (rest : List (List ℕ)) (n : ℕ) (p q : Place)
+    (rs made : List Record)
     → Progress lines (l ∷ rest) n p rs → step p l ≡ Ok (q, made) → Progress lines rest (n + 1) q (rs ++ made)
 goes_on lines l rest n p q rs made h e =
     record {
@@ -64,7 +68,8 @@ stuck : (before : List (List ℕ)) (l : List ℕ) (p : Place) (rs : List Record)
     → run steps.start before ≡ Ok (p, rs) → step p l ≡ Err c → IsViable (before ++ l ∷ []) → ⊥
 stuck before l p rs c h e v =
     let r = viable_reads (before ++ l ∷ []) v in
-    no_read rs (run p (l ∷ [])) c r.0 (run-err p l [] c e) (sym (run-append steps.start before (l ∷ []) (p, rs) h) ∙ r.1)
+    no_read rs (run p (l ∷ [])) c r.0 (run-err p l [] c e)
+    (sym (run-append steps.start before (l ∷ []) (p, rs) h) ∙ r.1)
 
 -- each front of lines that were read is viable
 fronts : (ls : List (List ℕ)) (x : Place × List Record) → run steps.start ls ≡ Ok x
@@ -74,7 +79,8 @@ fronts ls x h front rest e =
     viable front f.0 f.1
 
 -- the fault at the line at which the step fails
-pub fault : (lines : List (List ℕ)) (l : List ℕ) (rest : List (List ℕ)) (n : ℕ) (p : Place) (rs : List Record) (c : Cause)
+pub fault : (lines : List (List ℕ)) (l : List ℕ) (rest : List (List ℕ)) (n : ℕ) (p : Place)
+    (rs : List Record) (c : Cause)
     → Progress lines (l ∷ rest) n p rs → step p l ≡ Err c → IsFaultAt lines (n + 1) c
 fault lines l rest n p rs c h e =
     record {
@@ -104,7 +110,13 @@ count_is lines n p rs h = ap length (h.whole ∙ append-nil h.before) ∙ h.numb
 -- between records, at least one, the lines are a file
 pub is_file : (lines : List (List ℕ)) (n : ℕ) (F : Format) (rs : List Record)
     → Progress lines [] n (steps.between F) rs → rs ≢ [] → IsFile lines rs
-is_file lines n F rs h some = record { format = F; formatted = lines_at lines (steps.between F, rs) (all_read lines n (steps.between F) rs h); some = some }
+is_file lines n F rs h some =
+    record {
+      format = F;
+      formatted =
+          lines_at lines (steps.between F, rs) (all_read lines n (steps.between F) rs h);
+      some = some;
+    }
 
 -- equal readings have equal parts
 pair_is : (p q : Place) (rs ss : List Record) → ◌≡◌ {A = Read} (Ok (p, rs)) (Ok (q, ss)) → (p ≡ q) × (rs ≡ ss)
@@ -127,7 +139,9 @@ cut_off lines n p rs inside h none is =
     let read = all_read lines n p rs h in
     record {
       viable = fronts lines (p, rs) read;
-      no_file = λ ss file. let same = pair_is p (steps.between file.format) rs ss (sym read ∙ complete file.format lines ss file.formatted) in file.some (sym same.1 ∙ none file.format same.0);
+      no_file = λ ss file. let same =
+          pair_is p (steps.between file.format) rs ss (sym read ∙ complete file.format lines ss file.formatted)
+          in file.some (sym same.1 ∙ none file.format same.0);
       expected = expected p;
       expects = expects lines (p, rs) read;
       only = λ e. only_expected lines (p, rs) e read;
@@ -139,8 +153,10 @@ pub no_fault : (lines : List (List ℕ)) (n : ℕ) (c : Cause) (rs : List Record
     → IsFile lines rs → ⊥
 no_fault lines n c rs f file =
     let whole : run steps.start ((f.before ++ f.line ∷ []) ++ f.after) ≡ Ok (steps.between file.format, rs) =
-    ap (run steps.start) (append_assoc f.before (f.line ∷ []) f.after ∙ sym f.whole) ∙ complete file.format lines rs file.formatted in
-    let front = run-front steps.start (f.before ++ f.line ∷ []) f.after (steps.between file.format, rs) whole in
+    ap (run steps.start) (append_assoc f.before (f.line ∷ []) f.after ∙ sym f.whole)
+    ∙ complete file.format lines rs file.formatted in
+    let front = run-front steps.start (f.before ++ f.line ∷ []) f.after (steps.between file.format, rs) whole
+    in
     f.faulty (viable (f.before ++ f.line ∷ []) front.0 front.1)
 
 -- where a record was read, it has ended
@@ -151,7 +167,8 @@ ended lines rest n p rs h some =
     record {
       front = front.front;
       rest = front.rest ++ rest;
-      whole = h.whole ∙ ap (λ (ls : List (List ℕ)). ls ++ rest) front.whole ∙ append_assoc front.front front.rest rest;
+      whole = h.whole ∙ ap (λ (ls : List (List ℕ)). ls ++ rest) front.whole
+          ∙ append_assoc front.front front.rest rest;
       records = front.records;
       file = front.file;
     }
@@ -204,7 +221,8 @@ reported lines records (Ok report) file h = tt
 reported lines records (Err (BadFormat n)) file h = absurd (no_fault lines n cause.BadFormat records h file)
 reported lines records (Err (BadLine n)) file h = absurd (no_fault lines n cause.BadLine records h file)
 reported lines records (Err (WrongName n)) file h = absurd (no_fault lines n cause.WrongName records h file)
-reported lines records (Err (UnknownSuite n)) file h = absurd (no_fault lines n cause.UnknownSuite records h file)
+reported lines records (Err (UnknownSuite n)) file h =
+    absurd (no_fault lines n cause.UnknownSuite records h file)
 reported lines records (Err (BadHex n)) file h = absurd (no_fault lines n cause.BadHex records h file)
 reported lines records (Err (BadLength n)) file h = absurd (no_fault lines n cause.BadLength records h file)
 reported lines records (Err (BadCuts n)) file h = absurd (no_fault lines n cause.BadCuts records h file)

@@ -1,17 +1,22 @@
 -- A line that can't be read is at fault by the table.
-use Rattle.std.proofs.Common.{◌≡◌, ℕ, Bool, true, false, cond, not, List, [], ◌∷◌, Option, Some, None, Result, Ok, Err, refl, sym, ap, ◌∙◌, subst}
+use Rattle.std.proofs.Common.{◌≡◌, ℕ, Bool, true, false, cond, not, List, [], ◌∷◌, Option, Some, None}
+use Rattle.std.proofs.Common.{Result, Ok, Err, refl, sym, ap, ◌∙◌, subst}
 use Rattle.std.specs.Prelude.{codes, is_none, is_some, ◌&&◌, ◌||◌}
 use Rattle.std.specs.Str.{bytes_eq}
 use Rattle.vectors.specs.declared.fault.Cause.{Cause}
-use Rattle.vectors.specs.declared.fault.Cause.TheVariants.{BadFormat, BadLine, WrongName, UnknownSuite, BadHex, BadLength, BadCuts}
+use Rattle.vectors.specs.declared.fault.Cause.TheVariants.{BadFormat, BadLine, WrongName, UnknownSuite}
+use Rattle.vectors.specs.declared.fault.Cause.TheVariants.{BadHex, BadLength, BadCuts}
 use Rattle.vectors.specs.declared.suite.Format.{Format}
 use Rattle.vectors.specs.declared.suite.Suite.{Suite}
 use Rattle.vectors.specs.Suites.{format_named, suite_named, fields_of, field_name, field_length}
 use Rattle.vectors.specs.Cuts.{are_cuts}
-use Rattle.vectors.specs.Grammar.{Record, is_gap, value_line, has_length, may_cut, most_cut, unread, with_field, with_text}
-use Rattle.vectors.specs.Faults.{cuts_or_end, end_line, is_hex, bytes_of, is_format, first_fitting, value_rows, is_named, is_misnamed, value_fails, rows}
+use Rattle.vectors.specs.Grammar.{Record, is_gap, value_line, has_length, may_cut, most_cut, unread}
+use Rattle.vectors.specs.Grammar.{with_field, with_text}
+use Rattle.vectors.specs.Faults.{cuts_or_end, end_line, is_hex, bytes_of, is_format, first_fitting}
+use Rattle.vectors.specs.Faults.{value_rows, is_named, is_misnamed, value_fails, rows}
 use Rattle.vectors.specs.Code.Steps as steps
-use Rattle.vectors.specs.Code.Steps.{◌>>=◌, Place, named_value, value_at, hex_at, field_at, ok_or, format_of, format_at, suite_at, text_at, cuts_at, end_at, step}
+use Rattle.vectors.specs.Code.Steps.{◌>>=◌, Place, named_value, value_at, hex_at, field_at, ok_or, format_of}
+use Rattle.vectors.specs.Code.Steps.{format_at, suite_at, text_at, cuts_at, end_at, step}
 use Rattle.std.proofs.lemmas.Slice.Eq.{bytes_eq-Decides}
 use Rattle.vectors.proofs.FieldLemmas.{Next}
 use Rattle.vectors.proofs.Places.{expected}
@@ -65,14 +70,16 @@ sized_hex_row n false bytes c e = cc
 -- the rows of the name, the digits and the length
 sized_name_row : (n : Option ℕ) (b : Bool) (digits : List ℕ) (c : Cause)
     → ((cond b (Ok digits) (Err WrongName) >>= bytes_at) >>= sized n) ≡ Err c
-    → first_fitting ((not b, WrongName) ∷ (not (is_hex digits), BadHex) ∷ (not (has_length n (bytes_of digits)), BadLength) ∷ []) ≡ Some c
+    → first_fitting ((not b, WrongName) ∷ (not (is_hex digits), BadHex)
+    ∷ (not (has_length n (bytes_of digits)), BadLength) ∷ []) ≡ Some c
 sized_name_row n true digits c e = sized_hex_row n (is_hex digits) (bytes_of digits) c e
 sized_name_row n false digits c e = cc
 
 -- all rows of a field
 field_rows : (name : List ℕ) (n : Option ℕ) (f : Option (List ℕ × List ℕ)) (c : Cause)
     → ((named_value name f >>= bytes_at) >>= sized n) ≡ Err c
-    → first_fitting ((is_none f, BadLine) ∷ (is_misnamed name f, WrongName) ∷ (value_fails is_hex f, BadHex) ∷ (value_fails (λ digits. has_length n (bytes_of digits)) f, BadLength) ∷ []) ≡ Some c
+    → first_fitting ((is_none f, BadLine) ∷ (is_misnamed name f, WrongName) ∷ (value_fails is_hex f, BadHex)
+    ∷ (value_fails (λ digits. has_length n (bytes_of digits)) f, BadLength) ∷ []) ≡ Some c
 field_rows name n None c e = cc
 field_rows name n (Some f) c e = sized_name_row n (bytes_eq f.0 name) f.1 c e
 
@@ -92,17 +99,22 @@ suite_row F false name c e = cc
 -- all rows of a suite line
 suite_rows : (F : Format) (f : Option (List ℕ × List ℕ)) (c : Cause)
     → (named_value (codes "suite") f >>= λ x. ok_or UnknownSuite (suite_named F x)) ≡ Err c
-    → first_fitting ((is_none f, BadLine) ∷ (is_misnamed (codes "suite") f, WrongName) ∷ (value_fails (λ name. is_some (suite_named F name)) f, UnknownSuite) ∷ []) ≡ Some c
+    → first_fitting ((is_none f, BadLine) ∷ (is_misnamed (codes "suite") f, WrongName)
+    ∷ (value_fails (λ name. is_some (suite_named F name)) f, UnknownSuite) ∷ []) ≡ Some c
 suite_rows F None c e = cc
 suite_rows F (Some f) c e = suite_row F (bytes_eq f.0 (codes "suite")) f.1 c e
 
 -- the same where a blank line or a comment may stand
 between_rows : (F : Format) (gap : Bool) (f : Option (List ℕ × List ℕ)) (c : Cause)
-    → cond {A = Result Next Cause} gap (Ok (steps.between F, [])) ((named_value (codes "suite") f >>= λ x. ok_or UnknownSuite (suite_named F x)) >>= λ s. Ok (steps.fields F (fields_of s) (unread s), [])) ≡ Err c
-    → first_fitting ((not gap && is_none f, BadLine) ∷ (is_misnamed (codes "suite") f, WrongName) ∷ (value_fails (λ name. is_some (suite_named F name)) f, UnknownSuite) ∷ []) ≡ Some c
+    → cond {A = Result Next Cause} gap (Ok (steps.between F, []))
+    ((named_value (codes "suite") f >>= λ x. ok_or UnknownSuite (suite_named F x)) >>= λ s.
+    Ok (steps.fields F (fields_of s) (unread s), [])) ≡ Err c
+    → first_fitting ((not gap && is_none f, BadLine) ∷ (is_misnamed (codes "suite") f, WrongName)
+    ∷ (value_fails (λ name. is_some (suite_named F name)) f, UnknownSuite) ∷ []) ≡ Some c
 between_rows F true f c e = absurd cc
 between_rows F false f c e =
-    suite_rows F f c (bind_err (named_value (codes "suite") f >>= λ x. ok_or UnknownSuite (suite_named F x)) (λ s. (steps.fields F (fields_of s) (unread s), [])) c e)
+    suite_rows F f c (bind_err (named_value (codes "suite") f >>= λ x. ok_or UnknownSuite (suite_named F x))
+    (λ s. (steps.fields F (fields_of s) (unread s), [])) c e)
 
 -- the row of the format's name
 format_row : (b : Bool) (n : Option Format) (c : Cause) → cond b (ok_or BadFormat n) (Err BadFormat) ≡ Err c
@@ -113,11 +125,14 @@ format_row false n c e = cc
 
 -- the row of the format line
 format_rows : (gap : Bool) (f : Option (List ℕ × List ℕ)) (c : Cause)
-    → cond {A = Result Next Cause} gap (Ok (steps.start, [])) (format_of f >>= λ F. Ok (steps.between F, [])) ≡ Err c
+    → cond {A = Result Next Cause} gap (Ok (steps.start, [])) (format_of f >>= λ F. Ok (steps.between F, []))
+    ≡ Err c
     → first_fitting ((not (gap || is_format f), BadFormat) ∷ []) ≡ Some c
 format_rows true f c e = absurd cc
 format_rows false None c e = cc
-format_rows false (Some f) c e = format_row (bytes_eq f.0 (codes "format")) (format_named f.1) c (bind_err (format_of (Some f)) (λ F. (steps.between F, [])) c e)
+format_rows false (Some f) c e =
+    format_row (bytes_eq f.0 (codes "format")) (format_named f.1) c
+    (bind_err (format_of (Some f)) (λ F. (steps.between F, [])) c e)
 
 -- ---- the line behind all fields
 
@@ -131,24 +146,31 @@ text_next F r f = text_behind F r (named_value (codes "text") f >>= bytes_at)
 
 -- and a line of cuts
 abbrev cuts_next : Format → Record → Option (List ℕ × List ℕ) → Result Next Cause
-cuts_next F r f = named_value (codes "cuts") f >>= λ value. cond (are_cuts (most_cut r) value) (Ok (steps.text F r, [])) (Err BadCuts)
+cuts_next F r f = named_value (codes "cuts") f >>= λ value.
+    cond (are_cuts (most_cut r) value) (Ok (steps.text F r, [])) (Err BadCuts)
 
 -- the rows where no cuts may stand
 end_rows : (F : Format) (r : Record) (invalid : Bool) (f : Option (List ℕ × List ℕ)) (c : Cause)
     → cond invalid (Ok (steps.between F, with_text None r ∷ [])) (text_next F r f) ≡ Err c
-    → first_fitting ((not invalid && is_none f, BadLine) ∷ (is_misnamed (codes "text") f, WrongName) ∷ (value_fails is_hex f, BadHex) ∷ []) ≡ Some c
+    → first_fitting ((not invalid && is_none f, BadLine) ∷ (is_misnamed (codes "text") f, WrongName)
+    ∷ (value_fails is_hex f, BadHex) ∷ []) ≡ Some c
 end_rows F r true f c e = absurd cc
-end_rows F r false f c e = hex_rows (codes "text") f c (bind_err (named_value (codes "text") f >>= bytes_at) (λ bytes. (steps.between F, with_text (Some bytes) r ∷ [])) c e)
+end_rows F r false f c e =
+    hex_rows (codes "text") f c
+    (bind_err (named_value (codes "text") f >>= bytes_at)
+    (λ bytes. (steps.between F, with_text (Some bytes) r ∷ [])) c e)
 
 -- a line of cuts is no text line
 no_text : (name : List ℕ) (t : Bool) → bytes_eq name (codes "cuts") ≡ true
     → bytes_eq name (codes "text") ≡ t → t ≡ false
-no_text name t k e = sym e ∙ ap (λ (x : List ℕ). bytes_eq x (codes "text")) ((bytes_eq-Decides name (codes "cuts")).0 k)
+no_text name t k e = sym e
+    ∙ ap (λ (x : List ℕ). bytes_eq x (codes "text")) ((bytes_eq-Decides name (codes "cuts")).0 k)
 
 -- the rows of the names, the digits and the cuts
 names_rows : (t k hex cuts : Bool) (c : Cause) → Type 0
 names_rows t k hex cuts c =
-    first_fitting ((not t && not k, WrongName) ∷ (t && not hex, BadHex) ∷ (k && not cuts, BadCuts) ∷ []) ≡ Some c
+    first_fitting ((not t && not k, WrongName) ∷ (t && not hex, BadHex) ∷ (k && not cuts, BadCuts) ∷ [])
+    ≡ Some c
 
 -- where the name is `cuts`
 cuts_row : (F : Format) (r : Record) (t hex cuts : Bool) (c : Cause) → t ≡ false
@@ -179,13 +201,17 @@ by_name : (F : Format) (r : Record) (f : List ℕ × List ℕ) (k : Bool) (c : C
     → bytes_eq f.0 (codes "cuts") ≡ k → cond k (cuts_next F r (Some f)) (text_next F r (Some f)) ≡ Err c
     → names_rows (bytes_eq f.0 (codes "text")) k (is_hex f.1) (are_cuts (most_cut r) f.1) c
 by_name F r f true c is e =
-    cuts_row F r (bytes_eq f.0 (codes "text")) (is_hex f.1) (are_cuts (most_cut r) f.1) c (no_text f.0 (bytes_eq f.0 (codes "text")) is refl)
-    (subst (λ (b : Bool). (cond b (Ok f.1) (Err WrongName) >>= λ value. cond {A = Result Next Cause} (are_cuts (most_cut r) value) (Ok (steps.text F r, [])) (Err BadCuts)) ≡ Err c) is e)
+    cuts_row F r (bytes_eq f.0 (codes "text")) (is_hex f.1) (are_cuts (most_cut r) f.1) c
+    (no_text f.0 (bytes_eq f.0 (codes "text")) is refl)
+    (subst (λ (b : Bool). (cond b (Ok f.1) (Err WrongName) >>= λ value.
+    cond {A = Result Next Cause} (are_cuts (most_cut r) value) (Ok (steps.text F r, [])) (Err BadCuts))
+    ≡ Err c) is e)
 by_name F r f false c is e = text_row F r (bytes_eq f.0 (codes "text")) (are_cuts (most_cut r) f.1) f.1 c e
 
 -- the rows where cuts may stand
 cuts_rows : (F : Format) (r : Record) (invalid : Bool) (f : Option (List ℕ × List ℕ)) (c : Cause)
-    → cond invalid (Ok (steps.between F, with_text None r ∷ [])) (cond (is_named (codes "cuts") f) (cuts_next F r f) (text_next F r f)) ≡ Err c
+    → cond invalid (Ok (steps.between F, with_text None r ∷ []))
+    (cond (is_named (codes "cuts") f) (cuts_next F r f) (text_next F r f)) ≡ Err c
     → first_fitting (
     (not invalid && is_none f, BadLine)
     ∷ (is_misnamed (codes "text") f && is_misnamed (codes "cuts") f, WrongName)
@@ -200,7 +226,8 @@ cuts_rows F r false (Some f) c e = by_name F r f (bytes_eq f.0 (codes "cuts")) c
 -- the line behind all fields
 behind_rows : (F : Format) (r : Record) (line : List ℕ) (c : Cause) (m : Bool)
     → cond (bytes_eq line (codes "invalid")) (Ok (steps.between F, with_text None r ∷ []))
-    (cond (m && is_named (codes "cuts") (value_line line)) (cuts_next F r (value_line line)) (text_next F r (value_line line))) ≡ Err c
+    (cond (m && is_named (codes "cuts") (value_line line)) (cuts_next F r (value_line line))
+    (text_next F r (value_line line))) ≡ Err c
     → first_fitting (rows (cond m (cuts_or_end (most_cut r)) end_line) line) ≡ Some c
 behind_rows F r line c true e = cuts_rows F r (bytes_eq line (codes "invalid")) (value_line line) c e
 behind_rows F r line c false e = end_rows F r (bytes_eq line (codes "invalid")) (value_line line) c e
@@ -214,6 +241,9 @@ wrong (steps.between F) line c e = between_rows F (is_gap line) (value_line line
 wrong (steps.fields F [] r) line c e = behind_rows F r line c (may_cut F r.suite) e
 wrong (steps.fields F (f ∷ fs) r) line c e =
     field_rows (field_name f) (field_length r.suite f) (value_line line) c
-    (bind_err ((named_value (field_name f) (value_line line) >>= bytes_at) >>= sized (field_length r.suite f)) (λ v. (steps.fields F fs (with_field f v r), [])) c e)
+    (bind_err ((named_value (field_name f) (value_line line) >>= bytes_at) >>= sized
+    (field_length r.suite f)) (λ v. (steps.fields F fs (with_field f v r), [])) c e)
 wrong (steps.text F r) line c e =
-    hex_rows (codes "text") (value_line line) c (bind_err (named_value (codes "text") (value_line line) >>= bytes_at) (λ bytes. (steps.between F, with_text (Some bytes) r ∷ [])) c e)
+    hex_rows (codes "text") (value_line line) c
+    (bind_err (named_value (codes "text") (value_line line) >>= bytes_at)
+    (λ bytes. (steps.between F, with_text (Some bytes) r ∷ [])) c e)

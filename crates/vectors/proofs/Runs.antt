@@ -1,5 +1,6 @@
 -- Reading lines one after the other, and the grammar.
-use Rattle.std.proofs.Common.{◌≡◌, ℕ, true, List, [], ◌∷◌, ◌++◌, Option, Result, Ok, Err, refl, sym, ap, ◌∙◌, subst, append_assoc}
+use Rattle.std.proofs.Common.{◌≡◌, ℕ, true, List, [], ◌∷◌, ◌++◌, Option, Result, Ok, Err, refl, sym, ap, ◌∙◌}
+use Rattle.std.proofs.Common.{subst, append_assoc}
 use Rattle.std.specs.Prelude.{codes}
 use Rattle.std.specs.List.{list_all}
 use Rattle.std.proofs.lemmas.Bool.{and_parts}
@@ -10,10 +11,12 @@ use Rattle.vectors.specs.declared.suite.Suite.{Suite}
 use Rattle.vectors.specs.declared.suite.Field.{Field}
 use Rattle.vectors.specs.Suites.{fields_of}
 use Rattle.vectors.specs.Grammar as grammar
-use Rattle.vectors.specs.Grammar.{Record, is_gap, IsFieldLine, IsFormatLine, IsSuiteLine, IsCutsLine, may_cut, unread, with_field, with_text, Fills, Ends, IsRecord, Formatted}
+use Rattle.vectors.specs.Grammar.{Record, is_gap, IsFieldLine, IsFormatLine, IsSuiteLine, IsCutsLine}
+use Rattle.vectors.specs.Grammar.{may_cut, unread, with_field, with_text, Fills, Ends, IsRecord, Formatted}
 use Rattle.vectors.specs.Code.Steps as steps
 use Rattle.vectors.specs.Code.Steps.{◌>>=◌, Place, field_at, format_at, suite_at, step, run}
-use Rattle.vectors.proofs.FieldLemmas.{Next, bind_ok, ok_is, no_gap, field_again, format_again, suite_again, text_again, end_text, end_invalid, end_cuts}
+use Rattle.vectors.proofs.FieldLemmas.{Next, bind_ok, ok_is, no_gap, field_again, format_again, suite_again}
+use Rattle.vectors.proofs.FieldLemmas.{text_again, end_text, end_invalid, end_cuts}
 
 -- a place, and the records behind which it comes, or why there is none
 abbrev pub Read : Type 0
@@ -59,19 +62,23 @@ pub run-parts : (p : Place) (l : List ℕ) (ls : List (List ℕ)) (x : Next) →
     → (a : Next) × (step p l ≡ Ok a) × ((b : Next) × (run a.0 ls ≡ Ok b) × ((b.0, a.1 ++ b.1) ≡ x))
 unfolding run
 run-parts p l ls x e =
-    let a = bind_ok (step p l) (λ first. run first.0 ls >>= λ others. Ok (others.0, first.1 ++ others.1)) x e in
+    let a = bind_ok (step p l) (λ first. run first.0 ls >>= λ others. Ok (others.0, first.1 ++ others.1)) x e
+    in
     let b = bind_ok (run a.0.0 ls) (λ others. Ok (others.0, a.0.1 ++ others.1)) x a.2 in
     (a.0, a.1, (b.0, b.1, ok_is (b.0.0, a.0.1 ++ b.0.1) x b.2))
 
 -- lines, and then others
 pub run-append : (p : Place) (ls ms : List (List ℕ)) (x : Next) → run p ls ≡ Ok x
     → run p (ls ++ ms) ≡ behind x.1 (run x.0 ms)
-run-append p [] ms x e = subst (λ (y : Next). run p ms ≡ behind y.1 (run y.0 ms)) (run-nil p x e) (sym (behind-nil (run p ms)))
+run-append p [] ms x e =
+    subst (λ (y : Next). run p ms ≡ behind y.1 (run y.0 ms)) (run-nil p x e) (sym (behind-nil (run p ms)))
 run-append p (l ∷ ls) ms x e =
     let r = run-parts p l ls x e in
     let a = r.0 in
     let b = r.2.0 in
-    let whole : run p (l ∷ (ls ++ ms)) ≡ behind (a.1 ++ b.1) (run b.0 ms) = run-cons p l (ls ++ ms) a r.1 ∙ ap (behind a.1) (run-append a.0 ls ms b r.2.1) ∙ behind-behind a.1 b.1 (run b.0 ms) in
+    let whole : run p (l ∷ (ls ++ ms)) ≡ behind (a.1 ++ b.1) (run b.0 ms) =
+    run-cons p l (ls ++ ms) a r.1 ∙ ap (behind a.1) (run-append a.0 ls ms b r.2.1)
+    ∙ behind-behind a.1 b.1 (run b.0 ms) in
     subst (λ (y : Next). run p (l ∷ (ls ++ ms)) ≡ behind y.1 (run y.0 ms)) r.2.2 whole
 
 -- the front of lines that can be read can be read
@@ -91,7 +98,8 @@ both p q ls ms x rs ss e f = run-append p ls ms (q, rs) e ∙ behind-Ok rs (run 
 
 -- one line alone
 pub one : (p q : Place) (l : List ℕ) (rs : List Record) → step p l ≡ Ok (q, rs) → run p (l ∷ []) ≡ Ok (q, rs)
-one p q l rs e = run-cons p l [] (q, rs) e ∙ behind-Ok rs (run q []) (q, []) (run-empty q) ∙ ap (λ (ss : List Record). Ok (q, ss)) (append-nil rs)
+one p q l rs e = run-cons p l [] (q, rs) e ∙ behind-Ok rs (run q []) (q, []) (run-empty q)
+    ∙ ap (λ (ss : List Record). Ok (q, ss)) (append-nil rs)
 
 -- a line that ends no record, and then others
 pub first : (p q : Place) (l : List ℕ) (ls : List (List ℕ)) (x : Place) (rs : List Record)
@@ -133,14 +141,18 @@ field-line F f fs r l v h = rw (field_again r.suite f l v h) refl
 pub fills_read : (F : Format) (fs left : List Field) (r s : Record) (ms : List (List ℕ)) → Fills fs r ms s
     → run (steps.fields F (fs ++ left) r) ms ≡ Ok (steps.fields F left s, [])
 fills_read F _ left _ _ _ (grammar.nothing {r = r}) = run-empty (steps.fields F left r)
-fills_read F _ left _ _ _ (grammar.field {f = f} {fs = fs} {r = r} {s = s} {l = l} {ls = ls} {bytes = v} h t) =
-    first (steps.fields F (f ∷ (fs ++ left)) r) (steps.fields F (fs ++ left) (with_field f v r)) l ls (steps.fields F left s) [] (field-line F f (fs ++ left) r l v h)
+fills_read F _ left _ _ _ (grammar.field {f = f} {fs = fs} {r = r} {s = s} {l = l} {ls = ls} {bytes = v} h t)
+    =
+    first (steps.fields F (f ∷ (fs ++ left)) r) (steps.fields F (fs ++ left) (with_field f v r)) l ls
+    (steps.fields F left s) [] (field-line F f (fs ++ left) r l v h)
     (fills_read F fs left (with_field f v r) s ls t)
 
 -- the lines of all fields
 pub all_read : (F : Format) (fs : List Field) (r s : Record) (ms : List (List ℕ)) → Fills fs r ms s
     → run (steps.fields F fs r) ms ≡ Ok (steps.fields F [] s, [])
-all_read F fs r s ms h = ap (λ (gs : List Field). run (steps.fields F gs r) ms) (sym (append-nil fs)) ∙ fills_read F fs [] r s ms h
+all_read F fs r s ms h =
+    ap (λ (gs : List Field). run (steps.fields F gs r) ms) (sym (append-nil fs))
+    ∙ fills_read F fs [] r s ms h
 
 -- a line behind all fields
 end-line : (F : Format) (r : Record) (l : List ℕ) → step (steps.fields F [] r) l ≡ steps.end_at F r l
@@ -160,8 +172,11 @@ cuts-line F r l m h = end-line F r l ∙ end_cuts F r l m h
 -- the last lines of a record
 ends_read : (F : Format) (r : Record) (es : List (List ℕ)) (t : Option (List ℕ)) → Ends F r es t
     → run (steps.fields F [] r) es ≡ Ok (steps.between F, with_text t r ∷ [])
-ends_read F r _ _ (grammar.text_line {l = l} {bytes = v} h) = one (steps.fields F [] r) (steps.between F) l _ (end-line F r l ∙ end_text F r l v h)
-ends_read F r _ _ grammar.invalid = one (steps.fields F [] r) (steps.between F) (codes "invalid") _ (end-line F r (codes "invalid") ∙ end_invalid F r)
+ends_read F r _ _ (grammar.text_line {l = l} {bytes = v} h) =
+    one (steps.fields F [] r) (steps.between F) l _ (end-line F r l ∙ end_text F r l v h)
+ends_read F r _ _ grammar.invalid =
+    one (steps.fields F [] r) (steps.between F) (codes "invalid") _
+    (end-line F r (codes "invalid") ∙ end_invalid F r)
 ends_read F r _ _ (grammar.cuts {c = c} {l = l} {bytes = v} m h t) =
     first (steps.fields F [] r) (steps.text F r) c (l ∷ []) (steps.between F) _ (cuts-line F r c m h)
     (one (steps.text F r) (steps.between F) l _ (text-line F r l ∙ text_again F r l v t))
@@ -170,8 +185,10 @@ ends_read F r _ _ (grammar.cuts {c = c} {l = l} {bytes = v} m h t) =
 record_read : (F : Format) (ms : List (List ℕ)) (r : Record) → IsRecord F ms r
     → run (steps.between F) ms ≡ Ok (steps.between F, r ∷ [])
 record_read F _ _ (grammar.made {suite = s} {l = l} {ms = ms} {es = es} {r = r} {text = t} a h e) =
-    first (steps.between F) (steps.fields F (fields_of s) (unread s)) l (ms ++ es) (steps.between F) (with_text t r ∷ []) (suite-line F l s a)
-    (both (steps.fields F (fields_of s) (unread s)) (steps.fields F [] r) ms es (steps.between F) [] (with_text t r ∷ []) (all_read F (fields_of s) (unread s) r ms h) (ends_read F r es t e))
+    first (steps.between F) (steps.fields F (fields_of s) (unread s)) l (ms ++ es) (steps.between F)
+    (with_text t r ∷ []) (suite-line F l s a)
+    (both (steps.fields F (fields_of s) (unread s)) (steps.fields F [] r) ms es (steps.between F) []
+    (with_text t r ∷ []) (all_read F (fields_of s) (unread s) r ms h) (ends_read F r es t e))
 
 -- blank lines and comments before the format line
 pub gaps_read : (ls : List (List ℕ)) → list_all is_gap ls ≡ true → run steps.start ls ≡ Ok (steps.start, [])
@@ -184,9 +201,12 @@ gaps_read (l ∷ ls) h =
 pub complete : (F : Format) (ls : List (List ℕ)) (rs : List Record) → Formatted F ls rs
     → run steps.start ls ≡ Ok (steps.between F, rs)
 complete F _ _ (grammar.starts gaps {l = l} h a) =
-    both steps.start steps.start gaps (l ∷ []) (steps.between F) [] [] (gaps_read gaps h) (one steps.start (steps.between F) l [] (format-line F l a))
+    both steps.start steps.start gaps (l ∷ []) (steps.between F) [] [] (gaps_read gaps h)
+    (one steps.start (steps.between F) l [] (format-line F l a))
 complete F _ _ (grammar.gap {ls = ls} l {rs = rs} h g) =
-    both steps.start (steps.between F) ls (l ∷ []) (steps.between F) rs [] (complete F ls rs h) (one (steps.between F) (steps.between F) l [] (gap-between F l g))
+    both steps.start (steps.between F) ls (l ∷ []) (steps.between F) rs [] (complete F ls rs h)
+    (one (steps.between F) (steps.between F) l [] (gap-between F l g))
     ∙ ap (λ (ss : List Record). Ok (steps.between F, ss)) (append-nil rs)
 complete F _ _ (grammar.adds {ls = ls} {ms = ms} {rs = rs} {r = r} h m) =
-    both steps.start (steps.between F) ls ms (steps.between F) rs (r ∷ []) (complete F ls rs h) (record_read F ms r m)
+    both steps.start (steps.between F) ls ms (steps.between F) rs (r ∷ []) (complete F ls rs h)
+    (record_read F ms r m)

@@ -14,10 +14,13 @@ use Rattle.vectors.proofs.Places.{At, lines_at}
 
 -- so do those whose fields were filled
 filled_sized : (s : Suite) (ms : List (List ℕ)) (r : Record) → Fills (fields_of s) (unread s) ms r → IsSized r
-filled_sized (Aead s) _ _ (grammar.field h (grammar.field k (grammar.field a (grammar.field x grammar.nothing)))) =
+filled_sized (Aead s) _ _
+    (grammar.field h (grammar.field k (grammar.field a (grammar.field x grammar.nothing)))) =
     record { key = eqb-true _ _ h.size; nonce = λ _. eqb-true _ _ k.size }
-filled_sized (Wrap s) _ _ (grammar.field h (grammar.field x grammar.nothing)) = record { key = eqb-true _ _ h.size; nonce = λ e. absurd cc }
-filled_sized (WrapPad s) _ _ (grammar.field h (grammar.field x grammar.nothing)) = record { key = eqb-true _ _ h.size; nonce = λ e. absurd cc }
+filled_sized (Wrap s) _ _ (grammar.field h (grammar.field x grammar.nothing)) =
+    record { key = eqb-true _ _ h.size; nonce = λ e. absurd cc }
+filled_sized (WrapPad s) _ _ (grammar.field h (grammar.field x grammar.nothing)) =
+    record { key = eqb-true _ _ h.size; nonce = λ e. absurd cc }
 
 -- each of them does
 AreSized : List Record → Type 0
@@ -38,14 +41,16 @@ last_sized (s ∷ rs) r h = last_sized rs r h.1
 
 -- a record does
 record_sized : (F : Format) (ms : List (List ℕ)) (r : Record) → IsRecord F ms r → IsSized r
-record_sized F _ _ (grammar.made {suite = s} {ms = ms} {r = r} a h e) = let k = filled_sized s ms r h in record { key = k.key; nonce = k.nonce }
+record_sized F _ _ (grammar.made {suite = s} {ms = ms} {r = r} a h e) = let k = filled_sized s ms r h in
+    record { key = k.key; nonce = k.nonce }
 
 -- and those behind a format line
 formatted_sized : (F : Format) (ls : List (List ℕ)) (rs : List Record) → Formatted F ls rs → AreSized rs
 unfolding AreSized
 formatted_sized F _ _ (grammar.starts gaps h a) = tt
 formatted_sized F _ _ (grammar.gap {ls = ls} l {rs = rs} h g) = formatted_sized F ls rs h
-formatted_sized F _ _ (grammar.adds {ls = ls} {ms = ms} {rs = rs} {r = r} h m) = more_sized rs r (formatted_sized F ls rs h) (record_sized F ms r m)
+formatted_sized F _ _ (grammar.adds {ls = ls} {ms = ms} {rs = rs} {r = r} h m) =
+    more_sized rs r (formatted_sized F ls rs h) (record_sized F ms r m)
 
 -- and the last one before a place
 at_sized : (p : Place) (ls : List (List ℕ)) (rs : List Record) (r : Record) → At p ls (rs ++ r ∷ [])
@@ -55,7 +60,8 @@ at_sized steps.start ls rs r h = absurd (some rs h.1) where
   some [] e = cc
   some (s ∷ ss) e = cc
 at_sized (steps.between F) ls rs r h = last_sized rs r (formatted_sized F ls (rs ++ r ∷ []) h)
-at_sized (steps.fields F left s) ls rs r h = last_sized rs r (formatted_sized F h.front (rs ++ r ∷ []) h.formatted)
+at_sized (steps.fields F left s) ls rs r h =
+    last_sized rs r (formatted_sized F h.front (rs ++ r ∷ []) h.formatted)
 at_sized (steps.text F s) ls rs r h = last_sized rs r (formatted_sized F h.front (rs ++ r ∷ []) h.formatted)
 
 -- the last record that was read

@@ -1,7 +1,9 @@
 -- Lines that were read can be ended, and no others.
-use Rattle.std.proofs.Common.{◌≡◌, ◌≢◌, ℕ, suc, ◌*◌, ◌≤◌, List, [], ◌∷◌, ◌++◌, length, replicate, None, Some, Ok, refl, ap, arith, length-append}
+use Rattle.std.proofs.Common.{◌≡◌, ◌≢◌, ℕ, suc, ◌*◌, ◌≤◌, List, [], ◌∷◌, ◌++◌, length, replicate, None, Some}
+use Rattle.std.proofs.Common.{Ok, refl, ap, arith, length-append}
 use Rattle.std.specs.Prelude.{codes}
-use Rattle.aead.specs.declared.suite.Suite.TheVariants.{ChaCha20Poly1305, Aes128Gcm, Aes192Gcm, Aes256Gcm, Aes128GcmSiv, Aes256GcmSiv}
+use Rattle.aead.specs.declared.suite.Suite.TheVariants.{ChaCha20Poly1305, Aes128Gcm, Aes192Gcm, Aes256Gcm}
+use Rattle.aead.specs.declared.suite.Suite.TheVariants.{Aes128GcmSiv, Aes256GcmSiv}
 use Rattle.vectors.specs.declared.suite.Format.{Format}
 use Rattle.vectors.specs.declared.suite.Format.TheVariants.{One, Two}
 use Rattle.vectors.specs.declared.suite.Aes.TheVariants.{Bits128, Bits192, Bits256}
@@ -14,7 +16,8 @@ use Rattle.vectors.specs.Grammar.{Record, field_of, value_line, with_field, with
 use Rattle.vectors.specs.Faults.{is_hex, bytes_of}
 use Rattle.hex.specs.Hex.{decode_pairs}
 use Rattle.vectors.specs.Code.Steps as steps
-use Rattle.vectors.specs.Code.Steps.{Place, value_at, hex_at, field_at, format_at, suite_at, end_at, text_at, step, run}
+use Rattle.vectors.specs.Code.Steps.{Place, value_at, hex_at, field_at, format_at, suite_at, end_at, text_at}
+use Rattle.vectors.specs.Code.Steps.{step, run}
 use Rattle.vectors.proofs.FieldLemmas.{Next}
 use Rattle.vectors.proofs.Runs.{both, one, first, run-front, complete}
 use Rattle.vectors.proofs.Places.{At, lines_at}
@@ -46,7 +49,14 @@ longer p q n l e end = record {
 -- a record that ends with a line
 last : (p : Place) (F : Format) (l : List ℕ) (r : Record) → step p l ≡ Ok (steps.between F, r ∷ [])
     → Ending p 1
-last p F l r e = record { format = F; more = l ∷ []; size = refl; records = r ∷ []; some = cons_some r []; read = one p (steps.between F) l (r ∷ []) e }
+last p F l r e = record {
+  format = F;
+  more = l ∷ [];
+  size = refl;
+  records = r ∷ [];
+  some = cons_some r [];
+  read = one p (steps.between F) l (r ∷ []) e;
+}
 
 -- the word `invalid` ends a record
 invalid-step : (F : Format) (r : Record)
@@ -106,18 +116,21 @@ of_fields : (F : Format) (left : List Field) (r : Record) → Ending (steps.fiel
 of_fields F [] r = last (steps.fields F [] r) F (codes "invalid") (with_text None r) (invalid-step F r)
 of_fields F (f ∷ fs) r =
     let h = line_of r.suite f in
-    longer (steps.fields F (f ∷ fs) r) (steps.fields F fs (with_field f h.bytes r)) (suc (length fs)) h.l (field-step F f fs r h.l h.bytes h.read) (of_fields F fs (with_field f h.bytes r))
+    longer (steps.fields F (f ∷ fs) r) (steps.fields F fs (with_field f h.bytes r)) (suc (length fs)) h.l
+    (field-step F f fs r h.l h.bytes h.read) (of_fields F fs (with_field f h.bytes r))
 
 -- a wrap suite is read
 suite-step : (F : Format)
-    → step (steps.between F) (codes "suite=aes-128-wrap") ≡ Ok (steps.fields F (Key ∷ Sealed ∷ []) (unread (Wrap Bits128)), [])
+    → step (steps.between F) (codes "suite=aes-128-wrap")
+    ≡ Ok (steps.fields F (Key ∷ Sealed ∷ []) (unread (Wrap Bits128)), [])
 unfolding step suite_at value_at value_line field_of suite_named
 suite-step One = refl
 suite-step Two = refl
 
 -- four lines from between records on
 of_between : (F : Format) → Ending (steps.between F) 4
-of_between F = longer (steps.between F) _ 3 (codes "suite=aes-128-wrap") (suite-step F) (of_fields F (Key ∷ Sealed ∷ []) (unread (Wrap Bits128)))
+of_between F = longer (steps.between F) _ 3 (codes "suite=aes-128-wrap") (suite-step F)
+    (of_fields F (Key ∷ Sealed ∷ []) (unread (Wrap Bits128)))
 
 -- a format line is read
 format-step : step steps.start (codes "format=1") ≡ Ok (steps.between One, [])
@@ -138,14 +151,26 @@ four (WrapPad aes) = omega arith
 
 -- each place behind lines can be ended
 endable : (p : Place) (ls : List (List ℕ)) (rs : List Record) → At p ls rs → Endable p
-endable steps.start ls rs h = record { n = 5; few = omega arith; ending = longer steps.start (steps.between One) 4 (codes "format=1") format-step (of_between One) }
+endable steps.start ls rs h =
+    record {
+      n = 5;
+      few = omega arith;
+      ending =
+          longer steps.start (steps.between One) 4 (codes "format=1") format-step (of_between One);
+    }
 endable (steps.between F) ls rs h = record { n = 4; few = omega arith; ending = of_between F }
 endable (steps.fields F left r) ls rs h = record {
   n = suc (length left);
   few = omega (arith, four h.suite, ap length h.order, length-append h.read left);
   ending = of_fields F left r;
 }
-endable (steps.text F r) ls rs h = record { n = 1; few = omega arith; ending = last (steps.text F r) F (codes "text=") (with_text (Some []) r) (text-step F r) }
+endable (steps.text F r) ls rs h =
+    record {
+      n = 1;
+      few = omega arith;
+      ending =
+          last (steps.text F r) F (codes "text=") (with_text (Some []) r) (text-step F r);
+    }
 
 -- records and some are some
 append_some : (rs ss : List Record) → ss ≢ [] → (rs ++ ss) ≢ []
@@ -172,4 +197,5 @@ viable ls x e =
 
 -- and viable lines are read
 pub viable_reads : (ls : List (List ℕ)) → IsViable ls → (x : Next) × (run steps.start ls ≡ Ok x)
-viable_reads ls v = run-front steps.start ls v.more (steps.between v.file.format, v.records) (complete v.file.format (ls ++ v.more) v.records v.file.formatted)
+viable_reads ls v = run-front steps.start ls v.more (steps.between v.file.format, v.records)
+    (complete v.file.format (ls ++ v.more) v.records v.file.formatted)

@@ -8,10 +8,11 @@ use Rattle.vectors.specs.declared.suite.Suite.TheVariants.{Aead, Wrap, WrapPad}
 use Rattle.vectors.specs.Suites.{suite_key_length, is_aead}
 use Rattle.vectors.specs.Grammar.{Record}
 
--- the sealed bytes are the sealing or the wrapping of the text by a suite, and the record's key, nonce and associated
--- data
+-- the sealed bytes are the sealing or the wrapping of the text by a suite, and the record's key, nonce
+-- and associated data
 abbrev pub HoldsBy : Suite → Record → List ℕ → Type 0
-HoldsBy (Aead suite) r text = Opened (record { suite = suite; key = r.key; nonce = r.nonce; aad = r.aad }) r.sealed text
+HoldsBy (Aead suite) r text =
+    Opened (record { suite = suite; key = r.key; nonce = r.nonce; aad = r.aad }) r.sealed text
 HoldsBy (Wrap aes) r text = Unwrapped r.key r.sealed text
 HoldsBy (WrapPad aes) r text = UnwrappedPadded r.key r.sealed text
 

@@ -1,5 +1,6 @@
 -- The first fault of a file: at which line it is, and which.
-use Rattle.std.specs.Prelude.{◌≡◌, ℕ, ◌+◌, ◌%◌, List, [], ◌∷◌, ◌++◌, length, Bool, true, false, not, ◌&&◌, ◌||◌, ◌==◌, Option, Some, None, is_none, is_some, if◌then◌else◌, codes}
+use Rattle.std.specs.Prelude.{◌≡◌, ℕ, ◌+◌, ◌%◌, List, [], ◌∷◌, ◌++◌, length, Bool, true, false, not, ◌&&◌}
+use Rattle.std.specs.Prelude.{◌||◌, ◌==◌, Option, Some, None, is_none, is_some, if◌then◌else◌, codes}
 use Rattle.std.specs.List.{list_all}
 use Rattle.std.specs.Str.{bytes_eq}
 use Rattle.std.specs.Result.{result_unwrap_or}
@@ -7,18 +8,21 @@ use Rattle.hex.specs.Hex.{is_hex_digit, decode_of}
 use Rattle.vectors.specs.declared.fault.Cause.{Cause}
 use Rattle.vectors.specs.declared.fault.Cause.TheVariants as cause
 use Rattle.vectors.specs.declared.fault.VectorFault.{VectorFault}
-use Rattle.vectors.specs.declared.fault.VectorFault.TheVariants.{BadFormat, BadLine, WrongName, UnknownSuite, BadHex, BadLength, BadCuts, NoRecords, Unfinished, OutOfMemory}
+use Rattle.vectors.specs.declared.fault.VectorFault.TheVariants.{BadFormat, BadLine, WrongName, UnknownSuite}
+use Rattle.vectors.specs.declared.fault.VectorFault.TheVariants.{BadHex, BadLength, BadCuts, NoRecords}
+use Rattle.vectors.specs.declared.fault.VectorFault.TheVariants.{Unfinished, OutOfMemory}
 use Rattle.vectors.specs.declared.suite.Suite.{Suite}
 use Rattle.vectors.specs.declared.suite.Format.{Format}
 use Rattle.vectors.specs.declared.suite.Field.{Field}
 use Rattle.vectors.specs.Suites.{format_named, suite_named, fields_of, field_name, field_length}
 use Rattle.vectors.specs.Cuts.{are_cuts}
-use Rattle.vectors.specs.Grammar.{Line, Record, is_gap, value_line, has_length, may_cut, most_cut, IsSuiteLine, IsCutsLine, unread, Fills, Formatted, IsFile, IsViable}
+use Rattle.vectors.specs.Grammar.{Line, Record, is_gap, value_line, has_length, may_cut, most_cut}
+use Rattle.vectors.specs.Grammar.{IsSuiteLine, IsCutsLine, unread, Fills, Formatted, IsFile, IsViable}
 
 -- ---- what is expected on a line
 
--- the format line, the first line of a record, or one of a record that was begun: a field, the end, the end or a line
--- of cuts up to some number, or the text line behind cuts
+-- the format line, the first line of a record, or one of a record that was begun: a field, the end, the
+-- end or a line of cuts up to some number, or the text line behind cuts
 pub data Expected : Type 0 where
   format_line : Expected
   suite_line : Format → Expected
@@ -33,14 +37,16 @@ behind_fields format r = if may_cut format r.suite then cuts_or_end (most_cut r)
 
 -- the first lines of a record that isn't ended, and what is expected behind them
 pub data Begun (format : Format) : List Line → Expected → Type 0 where
-  some_fields : {suite : Suite} {l : Line} {ms : List Line} {r : Record} {f : Field} {fs : List Field} (gs : List Field)
+  some_fields : {suite : Suite} {l : Line} {ms : List Line} {r : Record} {f : Field} {fs : List Field}
+      (gs : List Field)
       → IsSuiteLine format l suite → fields_of suite ≡ fs ++ f ∷ gs → Fills fs (unread suite) ms r
       → Begun format (l ∷ ms) (field_line r.suite f)
   all_fields : {suite : Suite} {l : Line} {ms : List Line} {r : Record}
       → IsSuiteLine format l suite → Fills (fields_of suite) (unread suite) ms r
       → Begun format (l ∷ ms) (behind_fields format r)
   cuts : {suite : Suite} {l c : Line} {ms : List Line} {r : Record}
-      → IsSuiteLine format l suite → Fills (fields_of suite) (unread suite) ms r → may_cut format r.suite ≡ true → IsCutsLine r c
+      → IsSuiteLine format l suite → Fills (fields_of suite) (unread suite) ms r
+      → may_cut format r.suite ≡ true → IsCutsLine r c
       → Begun format (l ∷ (ms ++ c ∷ [])) text_line
 
 -- behind these lines, this is expected
@@ -104,7 +110,10 @@ rows (suite_line F) line =
     ∷ []
 rows (field_line s f) line =
     value_rows (field_name f) (value_line line)
-    ++ (value_fails (λ digits. has_length (field_length s f) (bytes_of digits)) (value_line line), cause.BadLength)
+    ++ (
+      value_fails (λ digits. has_length (field_length s f) (bytes_of digits)) (value_line line),
+      cause.BadLength,
+    )
     ∷ []
 rows end_line line =
     (not (bytes_eq line (codes "invalid")) && is_none (value_line line), cause.BadLine)
@@ -113,9 +122,15 @@ rows end_line line =
     ∷ []
 rows (cuts_or_end most) line =
     (not (bytes_eq line (codes "invalid")) && is_none (value_line line), cause.BadLine)
-    ∷ (is_misnamed (codes "text") (value_line line) && is_misnamed (codes "cuts") (value_line line), cause.WrongName)
+    ∷ (
+      is_misnamed (codes "text") (value_line line) && is_misnamed (codes "cuts") (value_line line),
+      cause.WrongName,
+    )
     ∷ (is_named (codes "text") (value_line line) && value_fails is_hex (value_line line), cause.BadHex)
-    ∷ (is_named (codes "cuts") (value_line line) && value_fails (are_cuts most) (value_line line), cause.BadCuts)
+    ∷ (
+      is_named (codes "cuts") (value_line line) && value_fails (are_cuts most) (value_line line),
+      cause.BadCuts,
+    )
     ∷ []
 rows text_line line = value_rows (codes "text") (value_line line)
 

@@ -1,5 +1,6 @@
 -- The grammar of a vector file: which lines make which records.
-use Rattle.std.specs.Prelude.{◌≡◌, ◌≢◌, ℕ, ◌-◌, ◌≤◌, List, [], ◌∷◌, ◌++◌, length, Bool, true, false, Option, Some, None, Ok, if◌then◌else◌, nat_lt, ◌==◌, codes}
+use Rattle.std.specs.Prelude.{◌≡◌, ◌≢◌, ℕ, ◌-◌, ◌≤◌, List, [], ◌∷◌, ◌++◌, length, Bool, true, false, Option}
+use Rattle.std.specs.Prelude.{Some, None, Ok, if◌then◌else◌, nat_lt, ◌==◌, codes}
 use Rattle.std.specs.List.{list_all, position_or_len, before_first, after_first}
 use Rattle.hex.specs.Hex.{decode_of}
 use Rattle.vectors.specs.declared.suite.Format.{Format}
@@ -11,7 +12,8 @@ use Rattle.vectors.specs.Suites.{format_named, suite_named, is_aead, fields_of, 
 use Rattle.vectors.specs.Lines.{trim_end, trim_start}
 use Rattle.vectors.specs.Cuts.{are_cuts}
 
--- a record of the file; key wrapping has no nonce and no associated data, and a record that says `invalid` has no text
+-- a record of the file; key wrapping has no nonce and no associated data, and a record that says
+-- `invalid` has no text
 pub record Record : Type 0 where
   pub suite : Suite
   pub key : List ℕ
@@ -34,8 +36,8 @@ is_gap (b ∷ bs) = b == 35
 abbrev pub is_equals : ℕ → Bool
 is_equals b = b == 61
 
--- What stands before the first `=` of a line, without the spaces at its end, and what stands after it, without the
--- spaces at its beginning.
+-- What stands before the first `=` of a line, without the spaces at its end, and what stands after it,
+-- without the spaces at its beginning.
 unfoldable pub field_of : Line → Option (List ℕ × List ℕ)
 field_of line =
     if nat_lt (position_or_len is_equals line) (length line)
@@ -50,7 +52,8 @@ value_line line = if is_gap line then None else field_of line
 abbrev pub IsField : Line → List ℕ → List ℕ → Type 0
 IsField line name value = value_line line ≡ Some (name, value)
 
--- The link from digits to bytes: the text has two hexadecimal digits, of either case, for each of these bytes.
+-- The link from digits to bytes: the text has two hexadecimal digits, of either case, for each of these
+-- bytes.
 abbrev pub Spells : List ℕ → List ℕ → Type 0
 Spells digits bytes = decode_of digits ≡ Ok bytes
 
@@ -139,8 +142,8 @@ pub data IsRecord (format : Format) : List Line → Record → Type 0 where
 
 -- ---- the file
 
--- the format line, with blank lines and comments before it; and then, one after the other, records and further blank
--- lines and comments
+-- the format line, with blank lines and comments before it; and then, one after the other, records and
+-- further blank lines and comments
 pub data Formatted (format : Format) : List Line → List Record → Type 0 where
   starts : (gaps : List Line) {l : Line} → list_all is_gap gaps ≡ true → IsFormatLine l format
       → Formatted format (gaps ++ l ∷ []) []
@@ -157,7 +160,8 @@ pub record IsFile (lines : List Line) (records : List Record) : Type 0 where
 
 -- lines are a file of one list of records alone
 abbrev pub HasOneReading : Type 0
-HasOneReading = (lines : List Line) (records others : List Record) → IsFile lines records → IsFile lines others → records ≡ others
+HasOneReading = (lines : List Line) (records others : List Record) → IsFile lines records
+    → IsFile lines others → records ≡ others
 
 -- some lines after these, at most five, make a file
 pub record IsViable (lines : List Line) : Type 0 where

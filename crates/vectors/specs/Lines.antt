@@ -17,7 +17,8 @@ abbrev pub trim_start : List ℕ → List ℕ
 trim_start [] = []
 trim_start (b ∷ bs) = if b == 32 then trim_start bs else b ∷ bs
 
--- The lines of a file. The file is cut at each LF, and what stands after the last LF is a line where it isn't empty;
--- one CR directly before a LF is dropped (`lines` does both), then all spaces at the line's end.
+-- The lines of a file. The file is cut at each LF, and what stands after the last LF is a line where it
+-- isn't empty; one CR directly before a LF is dropped (`lines` does both), then all spaces at the line's
+-- end.
 unfoldable pub lines_of : List ℕ → List (List ℕ)
 lines_of file = map trim_end (lines file)

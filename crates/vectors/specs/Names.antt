@@ -2,7 +2,9 @@
 use Rattle.std.specs.Prelude.{ℕ, List, ◌++◌, codes}
 use Rattle.std.specs.Fmt.{decimal}
 use Rattle.vectors.specs.declared.fault.VectorFault.{VectorFault}
-use Rattle.vectors.specs.declared.fault.VectorFault.TheVariants.{BadFormat, BadLine, WrongName, UnknownSuite, BadHex, BadLength, BadCuts, NoRecords, Unfinished, OutOfMemory}
+use Rattle.vectors.specs.declared.fault.VectorFault.TheVariants.{BadFormat, BadLine, WrongName, UnknownSuite}
+use Rattle.vectors.specs.declared.fault.VectorFault.TheVariants.{BadHex, BadLength, BadCuts, NoRecords}
+use Rattle.vectors.specs.declared.fault.VectorFault.TheVariants.{Unfinished, OutOfMemory}
 
 -- a name, and the number of a line
 abbrev pub at_line : List ℕ → ℕ → List ℕ

@@ -22,7 +22,8 @@ pub record IsReport (lines : List (List ℕ)) (count : ℕ) (bad : List ℕ) : T
 
 -- the report of one more record
 abbrev pub Judges : ℕ → List ℕ → Record → ℕ → List ℕ → Type 0
-Judges count bad r more worse = (more ≡ count + 1) × ((Agrees r × (worse ≡ bad)) ⊎ ((¬ Agrees r) × (worse ≡ bad ++ more ∷ [])))
+Judges count bad r more worse =
+    (more ≡ count + 1) × ((Agrees r × (worse ≡ bad)) ⊎ ((¬ Agrees r) × (worse ≡ bad ++ more ∷ [])))
 
 -- a report, or no memory
 abbrev pub IsReported : {R : Type 0} → Result R VectorFault → Type 0

@@ -1,8 +1,10 @@
 -- The formats, their suites, and the fields of a suite's records.
-use Rattle.std.specs.Prelude.{ℕ, List, [], ◌∷◌, ◌++◌, Bool, true, false, Option, Some, None, if◌then◌else◌, codes}
+use Rattle.std.specs.Prelude.{ℕ, List, [], ◌∷◌, ◌++◌, Bool, true, false, Option, Some, None, if◌then◌else◌}
+use Rattle.std.specs.Prelude.{codes}
 use Rattle.std.specs.List.{find}
 use Rattle.std.specs.Str.{bytes_eq}
-use Rattle.aead.specs.declared.suite.Suite.TheVariants.{ChaCha20Poly1305, Aes128Gcm, Aes192Gcm, Aes256Gcm, Aes128GcmSiv, Aes256GcmSiv}
+use Rattle.aead.specs.declared.suite.Suite.TheVariants.{ChaCha20Poly1305, Aes128Gcm, Aes192Gcm, Aes256Gcm}
+use Rattle.aead.specs.declared.suite.Suite.TheVariants.{Aes128GcmSiv, Aes256GcmSiv}
 use Rattle.aead.specs.Suites as ciphers
 use Rattle.vectors.specs.declared.suite.Format.{Format}
 use Rattle.vectors.specs.declared.suite.Format.TheVariants.{One, Two}
@@ -15,7 +17,8 @@ use Rattle.vectors.specs.declared.suite.Field.TheVariants.{Key, Nonce, Aad, Seal
 
 -- the format that a format line names
 abbrev pub format_named : List ℕ → Option Format
-format_named name = if bytes_eq name (codes "1") then Some One else if bytes_eq name (codes "2") then Some Two else None
+format_named name = if bytes_eq name (codes "1") then Some One else if bytes_eq name (codes "2") then Some
+    Two else None
 
 -- ---- suites
 
@@ -32,7 +35,8 @@ suite_name (WrapPad Bits256) = codes "aes-256-wrap-pad"
 -- the suites of both formats
 abbrev pub common_suites : List Suite
 common_suites =
-    Aead ChaCha20Poly1305 ∷ Aead Aes128Gcm ∷ Aead Aes192Gcm ∷ Aead Aes256Gcm ∷ Aead Aes128GcmSiv ∷ Aead Aes256GcmSiv
+    Aead ChaCha20Poly1305 ∷ Aead Aes128Gcm ∷ Aead Aes192Gcm ∷ Aead Aes256Gcm ∷ Aead Aes128GcmSiv
+    ∷ Aead Aes256GcmSiv
     ∷ Wrap Bits128 ∷ Wrap Bits192 ∷ Wrap Bits256 ∷ []
 
 -- the suites of key wrapping with padding

@@ -67,7 +67,8 @@ fn seals(cipher: &AnyAead, nonce: &Nonce, aad: &[u8], sealed: Digits<'_>, text: 
     }
 }
 
-/// Whether the sealed bytes are the sealing of no text: their opening is refused, and gave not one byte of a text.
+/// Whether the sealed bytes are the sealing of no text: their opening is refused, and gave not one byte
+/// of a text.
 fn seals_nothing(cipher: &AnyAead, nonce: &Nonce, aad: &[u8], sealed: Digits<'_>) -> bool
     ensures { IsTrue result
         ↔ IsNoSealing (setting (keyed_of cipher.now) nonce.now aad.now) (bytes_in sealed.entry) }
@@ -117,7 +118,8 @@ fn sealed_agrees<A: Allocator>(
     }
 }
 
-/// Whether a record agrees with its standard: its sealed bytes hold its text, or none where it says `invalid`.
+/// Whether a record agrees with its standard: its sealed bytes hold its text, or none where it says
+/// `invalid`.
 pub(crate) fn agrees<A: Allocator>(alloc: &A, entry: &Entry<'_>) -> Result<bool, AllocError>
     requires { IsSized (entry_view entry.now) }
     ensures { IfOk result (λ b. IsTrue b ↔ Agrees (entry_view entry.now)) }

@@ -1,5 +1,6 @@
 // Bytes that are compared as they come.
-ghost use Rattle.std.specs.Prelude.{◌≡◌, ◌≢◌, ◌↔◌, ◌<◌, ◌≤◌, ◌^◌, ℕ, List, ◌∷◌, None, IsTrue, length, take, slice_index};
+ghost use Rattle.std.specs.Prelude.{◌≡◌, ◌≢◌, ◌↔◌, ◌<◌, ◌≤◌, ◌^◌, ℕ, List, ◌∷◌, None, IsTrue, length, take};
+ghost use Rattle.std.specs.Prelude.{slice_index};
 ghost use Rattle.vectors.specs.Code.Views.{bytes_in};
 ghost use Rattle.vectors.specs.Code.Compared.{IsOther};
 
@@ -27,8 +28,8 @@ fn are_same(left: &[u8], right: &[u8]) -> bool
     left == right
 }
 
-/// How many of the first bytes are those that digits spell: as many as are looked at where all of these are, else one
-/// or none.
+/// How many of the first bytes are those that digits spell: as many as are looked at where all of these
+/// are, else one or none.
 fn equal_bytes(digits: Digits<'_>, bytes: &[u8]) -> usize
     ensures bytes { result ≤ length bytes.now }
     ensures digits { result ≤ length (bytes_in digits.entry) }

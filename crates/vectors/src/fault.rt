@@ -2,8 +2,8 @@
 use std::error::Error;
 use std::fmt;
 
-/// Why a file has no report. Lines are numbered from 1. `Display` writes the name, and ` at line N` where the fault
-/// has a line, as `BadHex at line 4`.
+/// Why a file has no report. Lines are numbered from 1. `Display` writes the name, and ` at line N` where
+/// the fault has a line, as `BadHex at line 4`.
 #[derive(Clone, Copy, Debug, PartialEq, Eq, Drop)]
 pub enum VectorFault {
     /// The format line is expected, and something else stands there.

@@ -2,7 +2,8 @@
 ghost use Rattle.std.specs.Prelude.{◌≡◌, ◌≤◌};
 ghost use Rattle.vectors.specs.Grammar.{value_line, may_cut, unread, with_field};
 ghost use Rattle.vectors.specs.Faults.{is_named};
-ghost use Rattle.vectors.specs.Code.Steps.{value_at, hex_at, field_at, format_at, suite_at, text_at, cuts_at, end_at, step};
+ghost use Rattle.vectors.specs.Code.Steps.{value_at, hex_at, field_at, format_at, suite_at, text_at};
+ghost use Rattle.vectors.specs.Code.Steps.{cuts_at, end_at, step};
 ghost use Rattle.vectors.specs.declared.place.Place.TheVariants as places;
 ghost use Rattle.vectors.specs.Code.Views.{view, bytes_in, entry_view, next_view, Gives};
 

@@ -76,11 +76,12 @@ fn read<A: Allocator>(alloc: A, file: &[u8]) -> Result<Report<A>, VectorFault>
     }
 }
 
-/// The report of a vector file of format 1 or 2: how many records it has, and which of them disagree with their
-/// standard. The file is any bytes, and is read once. Where it is not in the grammar the answer is its first fault:
-/// the number of a line is the least one such that the lines up to it can't begin a file. `OutOfMemory` comes only
-/// where a record has ended, and a growth was refused in this call: memory is taken for a record's associated data,
-/// for a wrapping, and for the numbers in the report. Sealed bytes and texts take none.
+/// The report of a vector file of format 1 or 2: how many records it has, and which of them disagree with
+/// their standard. The file is any bytes, and is read once. Where it is not in the grammar the answer is
+/// its first fault: the number of a line is the least one such that the lines up to it can't begin a
+/// file. `OutOfMemory` comes only where a record has ended, and a growth was refused in this call: memory
+/// is taken for a record's associated data, for a wrapping, and for the numbers in the report. Sealed
+/// bytes and texts take none.
 pub fn check<A: Allocator>(alloc: A, file: &[u8]) -> Result<Report<A>, VectorFault>
     // A report is that of the records which the file's lines make.
     ensures report { IfOk result (λ report. IsReport (lines_of file.now) report.records report.bad.items) }

@@ -8,8 +8,8 @@ use crate::agree::agrees;
 use crate::place::Entry;
 use std::alloc::{AllocError, Allocator};
 
-/// What a vector file lists: how many records, and the numbers, from 1 and rising, of those that disagree with
-/// their standard.
+/// What a vector file lists: how many records, and the numbers, from 1 and rising, of those that disagree
+/// with their standard.
 #[derive(Debug, Drop)]
 pub struct Report<A: Allocator> {
     /// The number of records.

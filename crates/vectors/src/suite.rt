@@ -2,7 +2,8 @@
 ghost use Rattle.std.specs.Prelude.{◌≡◌, ◌≤◌};
 ghost use Rattle.std.specs.List.{find};
 ghost use Rattle.std.specs.Str.{bytes_eq};
-ghost use Rattle.vectors.specs.Suites.{format_named, suite_name, suites, suite_named, aes_key_length, suite_key_length, is_aead, fields_of, field_name, field_length};
+ghost use Rattle.vectors.specs.Suites.{format_named, suite_name, suites, suite_named, aes_key_length};
+ghost use Rattle.vectors.specs.Suites.{suite_key_length, is_aead, fields_of, field_name, field_length};
 
 /// The format of a vector file.
 #[derive(Clone, Copy, Debug, PartialEq, Eq)]

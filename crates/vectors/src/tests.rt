@@ -27,7 +27,8 @@ fn changed(digit: u8) -> u8 {
     }
 }
 
-/// The published vectors with the lowest bit of each record's sealed bytes changed, and `invalid` for its text.
+/// The published vectors with the lowest bit of each record's sealed bytes changed, and `invalid` for its
+/// text.
 fn changed_vectors(rt: &HostRuntime) -> Result<Vec<u8>, Fail> {
     let mut out = Vec::new(rt.alloc());
     for line in PUBLISHED.lines() {

@@ -6,7 +6,8 @@ use Rattle.aead.specs.declared.begun_stream.BegunStream.{BegunStream}
 use Rattle.aead.specs.Suites.{ByChaCha, construction_of}
 use Rattle.aead.specs.Sealing.{Setting}
 
--- m has made n bytes of the key stream from counter 1 on: used as many of those that are there, and made the others
+-- m has made n bytes of the key stream from counter 1 on: used as many of those that are there, and made
+-- the others
 pub record IsBegun (m : BegunStream) (key nonce : List ℕ) (n : ℕ) : Type 0 where
   pub start_is : (i : ℕ) → i < length m.start.now → slice_index m.start.now i ≡ key_stream_byte key nonce 0 i
   pub used_is : m.used ≡ min (64 + n) (length m.start.now)

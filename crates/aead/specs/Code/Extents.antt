@@ -1,5 +1,6 @@
 -- A reading to its end, but for what it has past a length.
-use Rattle.std.specs.Prelude.{◌≡◌, ℕ, ◌≤◌, ◌<◌, List, [], Bool, true, false, length, take, Option, Some, None, Result, MatchResult}
+use Rattle.std.specs.Prelude.{◌≡◌, ℕ, ◌≤◌, ◌<◌, List, [], Bool, true, false, length, take, Option, Some}
+use Rattle.std.specs.Prelude.{None, Result, MatchResult}
 use Rattle.std.specs.Io.KnownBytes.{Consumes, Appends, IsAtEnd}
 use Rattle.octets.specs.declared.fault.Fault.{Fault}
 use Rattle.octets.specs.Masked.{masked}
@@ -14,7 +15,8 @@ IsExtent len x None = len < length x
 IsExtent len x (Some n) = (length x ≡ n) × (n ≤ len)
 
 -- all was taken, or more than the length
-pub record WentAll (t : Task) (len : ℕ) (left left' taken taken' : Option (List ℕ)) (after : AnyMasking) (extent : Option ℕ) : Type 0 where
+pub record WentAll (t : Task) (len : ℕ) (left left' taken taken' : Option (List ℕ)) (after : AnyMasking)
+    (extent : Option ℕ) : Type 0 where
   pub bytes : List ℕ
   pub consumed : Consumes left left' bytes
   pub given : Appends taken taken' (masked (task_mask t) 0 (take len bytes))
@@ -22,9 +24,11 @@ pub record WentAll (t : Task) (len : ℕ) (left left' taken taken' : Option (Lis
   pub is : IsExtent len bytes extent
   pub end : length bytes ≤ len → IsAtEnd left'
 
-abbrev pub PassedAll : Task → ℕ → Option (List ℕ) → Option (List ℕ) → Option (List ℕ) → Option (List ℕ) → AnyMasking → Result (Option ℕ) Fault → Type 0
+abbrev pub PassedAll : Task → ℕ → Option (List ℕ) → Option (List ℕ) → Option (List ℕ) → Option (List ℕ)
+    → AnyMasking → Result (Option ℕ) Fault → Type 0
 PassedAll t len left left' taken taken' after r =
-    MatchResult r (λ e. WentAll t len left left' taken taken' after e) (λ _. Stopped t [] len left left' taken taken')
+    MatchResult r (λ e. WentAll t len left left' taken taken' after e)
+    (λ _. Stopped t [] len left left' taken taken')
 
 -- some byte came, or the reading is at its end
 pub record More (left left' : Option (List ℕ)) (b : Bool) : Type 0 where
@@ -34,4 +38,5 @@ pub record More (left left' : Option (List ℕ)) (b : Bool) : Type 0 where
   pub none : b ≡ false → (bytes ≡ []) × IsAtEnd left'
 
 abbrev pub HasMore : Option (List ℕ) → Option (List ℕ) → Result Bool Fault → Type 0
-HasMore left left' r = MatchResult r (λ b. More left left' b) (λ _. (bytes : List ℕ) × Consumes left left' bytes)
+HasMore left left' r = MatchResult r (λ b. More left left' b)
+    (λ _. (bytes : List ℕ) × Consumes left left' bytes)

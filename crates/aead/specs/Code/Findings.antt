@@ -1,5 +1,6 @@
 -- How a reading compares with the measured length and tag.
-use Rattle.std.specs.Prelude.{◌≡◌, ℕ, ◌-◌, ◌≤◌, ◌<◌, List, [], Bool, length, take, drop, Option, Result, MatchResult}
+use Rattle.std.specs.Prelude.{◌≡◌, ℕ, ◌-◌, ◌≤◌, ◌<◌, List, [], Bool, length, take, drop, Option, Result}
+use Rattle.std.specs.Prelude.{MatchResult}
 use Rattle.std.specs.Io.KnownBytes.{Consumes, Appends, IsAtEnd}
 use Rattle.std.specs.Str.{bytes_eq}
 use Rattle.octets.specs.declared.fault.Fault.{Fault}
@@ -10,23 +11,28 @@ use Rattle.aead.specs.Sealing.{Setting, Opened, IsNoSealing, mask_of}
 use Rattle.aead.specs.Code.Maskings.{opening_task}
 use Rattle.aead.specs.Code.Passes.{Stopped}
 
--- x has this length and ends in this tag, and is a sealing or none; or it has another length or ends otherwise
+-- x has this length and ends in this tag, and is a sealing or none; or it has another length or ends
+-- otherwise
 abbrev pub IsFinding : Setting → List ℕ → ℕ → List ℕ → Finding → Type 0
 IsFinding s tag len x Differs = ¬ (drop (len - 16) x ≡ tag)
 IsFinding s tag len x Unsealed = (drop (len - 16) x ≡ tag) × IsNoSealing s x
-IsFinding s tag len x Sealed = (drop (len - 16) x ≡ tag) × Opened s x (masked (mask_of s tag) 0 (take (len - 16) x))
+IsFinding s tag len x Sealed =
+    (drop (len - 16) x ≡ tag) × Opened s x (masked (mask_of s tag) 0 (take (len - 16) x))
 
 -- a whole reading was taken, as far as it can matter
-pub record WentWhole (s : Setting) (tag : List ℕ) (len : ℕ) (left left' taken taken' : Option (List ℕ)) (f : Finding) : Type 0 where
+pub record WentWhole (s : Setting) (tag : List ℕ) (len : ℕ) (left left' taken taken' : Option (List ℕ))
+    (f : Finding) : Type 0 where
   pub bytes : List ℕ
   pub consumed : Consumes left left' bytes
   pub given : Appends taken taken' (masked (mask_of s tag) 0 (take (len - 16) bytes))
   pub found : IsFinding s tag len bytes f
   pub end : length bytes ≤ len → IsAtEnd left'
 
-abbrev pub PassedWhole : Setting → List ℕ → ℕ → Option (List ℕ) → Option (List ℕ) → Option (List ℕ) → Option (List ℕ) → Result Finding Fault → Type 0
+abbrev pub PassedWhole : Setting → List ℕ → ℕ → Option (List ℕ) → Option (List ℕ) → Option (List ℕ)
+    → Option (List ℕ) → Result Finding Fault → Type 0
 PassedWhole s tag len left left' taken taken' r =
-    MatchResult r (λ f. WentWhole s tag len left left' taken taken' f) (λ _. Stopped (opening_task s tag) [] (len - 16) left left' taken taken')
+    MatchResult r (λ f. WentWhole s tag len left left' taken taken' f)
+    (λ _. Stopped (opening_task s tag) [] (len - 16) left left' taken taken')
 
 -- what came was this tag and nothing more, or not
 pub record Tail (tag : List ℕ) (left left' : Option (List ℕ)) (b : Bool) : Type 0 where
@@ -36,4 +42,5 @@ pub record Tail (tag : List ℕ) (left left' : Option (List ℕ)) (b : Bool) : T
   pub end : length bytes < 17 → IsAtEnd left'
 
 abbrev pub Ends : List ℕ → Option (List ℕ) → Option (List ℕ) → Result Bool Fault → Type 0
-Ends tag left left' r = MatchResult r (λ b. Tail tag left left' b) (λ _. (bytes : List ℕ) × Consumes left left' bytes)
+Ends tag left left' r = MatchResult r (λ b. Tail tag left left' b)
+    (λ _. (bytes : List ℕ) × Consumes left left' bytes)

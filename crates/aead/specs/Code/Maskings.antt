@@ -19,12 +19,14 @@ abbrev pub task_mask : Task → ℕ → ℕ
 task_mask t = mask_of t.setting t.tag
 
 -- m was made for this task and was fed these pieces, by a mask and a hash of which `made` and `held` speak
-pub record HoldsMasking {S H : Type 0} (made : S → Setting → List ℕ → ℕ → Type 0) (held : H → Setting → List ℕ → Type 0)
+pub record HoldsMasking {S H : Type 0} (made : S → Setting → List ℕ → ℕ → Type 0)
+    (held : H → Setting → List ℕ → Type 0)
     (m : Masking S H) (t : Task) (fed : List ℕ) : Type 0 where
   pub over_input_is : m.over_input ≡ t.over_input
   pub limit_is : m.limit ≡ t.limit
   pub mask_is : made m.mask t.setting t.tag (length fed)
-  pub taken : HoldsAuthenticator held m.authenticator t.setting (authenticated t.over_input t.setting t.tag fed)
+  pub taken : HoldsAuthenticator held m.authenticator t.setting
+      (authenticated t.over_input t.setting t.tag fed)
   pub within : length fed ≤ t.limit
   pub limit_fits : t.limit ≤ text_limit t.setting.suite
 
@@ -34,7 +36,13 @@ sealing_task s tag = record { over_input = false; limit = text_limit s.suite; se
 
 -- the task of opening a body under this tag
 abbrev pub opening_task : Setting → List ℕ → Task
-opening_task s tag = record { over_input = is_one_pass (construction_of s.suite); limit = text_limit s.suite; setting = s; tag = tag }
+opening_task s tag = record {
+  over_input = is_one_pass (construction_of s.suite);
+  limit = text_limit s.suite;
+  setting = s;
+  tag =
+      tag;
+}
 
 -- the task of encrypting a text again whose tag is known
 abbrev pub repeating_task : Setting → List ℕ → Task

@@ -1,5 +1,6 @@
 -- What a pass over a reading leaves.
-use Rattle.std.specs.Prelude.{◌≡◌, ℕ, ◌≤◌, ◌<◌, ◌⊎◌, List, ◌++◌, length, take, get_or, Option, Result, MatchResult}
+use Rattle.std.specs.Prelude.{◌≡◌, ℕ, ◌≤◌, ◌<◌, ◌⊎◌, List, ◌++◌, length, take, get_or, Option, Result}
+use Rattle.std.specs.Prelude.{MatchResult}
 use Rattle.std.specs.Io.KnownBytes.{Consumes, Appends, IsAtEnd}
 use Rattle.octets.specs.declared.fault.Fault.{Fault}
 use Rattle.octets.specs.declared.fault.Fault.TheVariants.{Read, Write}
@@ -10,38 +11,44 @@ use Rattle.aead.specs.Code.Maskings.{Task, task_mask}
 use Rattle.aead.specs.Code.AnyMaskings.{HoldsAnyMasking}
 
 -- after these bytes, more were taken, fed and, masked, given
-pub record Went (t : Task) (fed : List ℕ) (left left' taken taken' : Option (List ℕ)) (after : AnyMasking) (bytes : List ℕ) : Type 0 where
+pub record Went (t : Task) (fed : List ℕ) (left left' taken taken' : Option (List ℕ)) (after : AnyMasking)
+    (bytes : List ℕ) : Type 0 where
   pub consumed : Consumes left left' bytes
   pub given : Appends taken taken' (masked (task_mask t) (length fed) bytes)
   pub held : HoldsAnyMasking after t (fed ++ bytes)
   pub small : (i : ℕ) → get_or (masked (task_mask t) (length fed) bytes) i 0 < 256
 
 -- after these bytes, a device failed: more were taken, and the first of them, masked, were given
-pub record Stopped (t : Task) (fed : List ℕ) (room : ℕ) (left left' taken taken' : Option (List ℕ)) : Type 0 where
-  pub bytes : List ℕ
-  pub shown : ℕ
-  pub consumed : Consumes left left' bytes
-  pub within : shown ≤ length bytes
-  pub short : shown ≤ room
-  pub given : Appends taken taken' (take shown (masked (task_mask t) (length fed) bytes))
+pub record Stopped (t : Task) (fed : List ℕ) (room : ℕ) (left left' taken taken' : Option (List ℕ)) : Type 0
+  where
+    pub bytes : List ℕ
+    pub shown : ℕ
+    pub consumed : Consumes left left' bytes
+    pub within : shown ≤ length bytes
+    pub short : shown ≤ room
+    pub given : Appends taken taken' (take shown (masked (task_mask t) (length fed) bytes))
 
 -- all of the room, or all that was left
-pub record WentFar (t : Task) (fed : List ℕ) (room : ℕ) (left left' taken taken' : Option (List ℕ)) (after : AnyMasking) (n : ℕ) : Type 0 where
+pub record WentFar (t : Task) (fed : List ℕ) (room : ℕ) (left left' taken taken' : Option (List ℕ))
+    (after : AnyMasking) (n : ℕ) : Type 0 where
   pub bytes : List ℕ
   pub went : Went t fed left left' taken taken' after bytes
   pub count : length bytes ≡ n
   pub short : n ≤ room
   pub end : n < room → IsAtEnd left'
 
-abbrev pub Passed : Task → List ℕ → ℕ → Option (List ℕ) → Option (List ℕ) → Option (List ℕ) → Option (List ℕ) → AnyMasking → Result ℕ Fault → Type 0
+abbrev pub Passed : Task → List ℕ → ℕ → Option (List ℕ) → Option (List ℕ) → Option (List ℕ) → Option (List ℕ)
+    → AnyMasking → Result ℕ Fault → Type 0
 Passed t fed room left left' taken taken' after r =
-    MatchResult r (λ n. WentFar t fed room left left' taken taken' after n) (λ _. Stopped t fed room left left' taken taken')
+    MatchResult r (λ n. WentFar t fed room left left' taken taken' after n)
+    (λ _. Stopped t fed room left left' taken taken')
 
 -- the fault names the one device that failed
 abbrev pub Blames : {T : Type 0} → ℕ → ℕ → ℕ → ℕ → Result T Fault → Type 0
 Blames read read' wrote wrote' r =
     MatchResult r (λ _. (read' ≡ read) × (wrote' ≡ wrote))
-    (λ f. ((f ≡ Read) × Failed read read' × (wrote' ≡ wrote)) ⊎ ((f ≡ Write) × (read' ≡ read) × Failed wrote wrote'))
+    (λ f. ((f ≡ Read) × Failed read read' × (wrote' ≡ wrote))
+    ⊎ ((f ≡ Write) × (read' ≡ read) × Failed wrote wrote'))
 
 -- the fault is the reading's
 abbrev pub BlamesReading : {T : Type 0} → ℕ → ℕ → Result T Fault → Type 0

@@ -17,7 +17,8 @@ use Rattle.aead.specs.declared.hashes.GhashTag.{GhashTag}
 use Rattle.aead.specs.declared.hashes.PolyvalTag.{PolyvalTag}
 use Rattle.aead.specs.declared.authenticator.Authenticator.{Authenticator}
 use Rattle.aead.specs.Suites.{ByChaCha, ByGcm, ByGcmSiv, construction_of}
-use Rattle.aead.specs.Sealing.{Setting, Fits, mask_of, poly_key, hash_key, j0, authentication_key, encryption_key, counter_block}
+use Rattle.aead.specs.Sealing.{Setting, Fits, mask_of, poly_key, hash_key, j0, authentication_key}
+use Rattle.aead.specs.Sealing.{encryption_key, counter_block}
 
 -- ---- m has made n bytes of the mask of a message under this tag
 
@@ -31,7 +32,8 @@ MadeByGcm m s tag n = (construction_of s.suite ≡ ByGcm) × HoldsBe m s.key (up
 
 -- of GCM-SIV
 abbrev pub MadeByGcmSiv : CtrLe → Setting → List ℕ → ℕ → Type 0
-MadeByGcmSiv m s tag n = (construction_of s.suite ≡ ByGcmSiv) × HoldsLe m (encryption_key s.key s.nonce) (counter_block tag) n
+MadeByGcmSiv m s tag n =
+    (construction_of s.suite ≡ ByGcmSiv) × HoldsLe m (encryption_key s.key s.nonce) (counter_block tag) n
 
 -- ---- h holds the text m under the keys of a message
 
@@ -42,18 +44,21 @@ HeldByPoly h s m = (construction_of s.suite ≡ ByChaCha) × poly1305.Holds h (p
 -- GHASH, with the cipher of J0
 abbrev pub HeldByGhash : {M : Type 0} → (M → List ℕ) → GhashTag M → Setting → List ℕ → Type 0
 HeldByGhash key_bytes h s m =
-    (construction_of s.suite ≡ ByGcm) × gf128.Holds key_bytes h.hash (hash_key s.key) m × (h.mask ≡ cipher s.key (j0 s.nonce))
+    (construction_of s.suite ≡ ByGcm) × gf128.Holds key_bytes h.hash (hash_key s.key) m
+    × (h.mask ≡ cipher s.key (j0 s.nonce))
 
 -- POLYVAL, with the encryption key and the nonce; what it holds is told as a fact alone
 abbrev pub HeldByPolyval : {M : Type 0} → (M → List ℕ) → PolyvalTag M → Setting → List ℕ → Type 0
 HeldByPolyval key_bytes h s m =
-    (construction_of s.suite ≡ ByGcmSiv) × ∥ gf128.PolyvalHolds key_bytes h.hash (authentication_key s.key s.nonce) m ∥₁
+    (construction_of s.suite ≡ ByGcmSiv)
+    × ∥ gf128.PolyvalHolds key_bytes h.hash (authentication_key s.key s.nonce) m ∥₁
     × (h.key ≡ encryption_key s.key s.nonce) × (h.nonce ≡ s.nonce)
 
 -- ---- whole parts
 
 -- a has taken in the associated data and these bytes after it, by a hash of which `held` speaks
-pub record HoldsAuthenticator {H : Type 0} (held : H → Setting → List ℕ → Type 0) (a : Authenticator H) (s : Setting) (bytes : List ℕ) : Type 0 where
+pub record HoldsAuthenticator {H : Type 0} (held : H → Setting → List ℕ → Type 0) (a : Authenticator H)
+    (s : Setting) (bytes : List ℕ) : Type 0 where
   pub hashed : held a.hash s (pad16 s.aad ++ bytes)
   pub aad_length_is : a.aad_length ≡ length s.aad
   pub length_is : a.length ≡ length bytes

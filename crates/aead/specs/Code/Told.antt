@@ -1,8 +1,10 @@
 -- What each step of the stream opener answers, where its reading tells its bytes.
-use Rattle.std.specs.Prelude.{◌≡◌, ◌≢◌, ℕ, ◌+◌, ◌-◌, ◌≤◌, ◌<◌, ◌⊎◌, List, length, take, Option, Result, Ok, Err, MatchResult}
+use Rattle.std.specs.Prelude.{◌≡◌, ◌≢◌, ℕ, ◌+◌, ◌-◌, ◌≤◌, ◌<◌, ◌⊎◌, List, length, take, Option, Result, Ok}
+use Rattle.std.specs.Prelude.{Err, MatchResult}
 use Rattle.std.specs.Io.KnownBytes.{Appends}
 use Rattle.octets.specs.declared.fault.Fault.{Fault}
-use Rattle.octets.specs.declared.fault.Fault.TheVariants.{Read, Write, TextTooLong, TooShort, TagMismatch, SourceChanged}
+use Rattle.octets.specs.declared.fault.Fault.TheVariants.{Read, Write, TextTooLong, TooShort, TagMismatch}
+use Rattle.octets.specs.declared.fault.Fault.TheVariants.{SourceChanged}
 use Rattle.octets.specs.Device.{Failed}
 use Rattle.octets.specs.Masked.{masked}
 use Rattle.aead.specs.declared.engine.measure.Measured.{Measured}
@@ -14,7 +16,8 @@ use Rattle.aead.specs.Code.Findings.{IsFinding}
 
 abbrev pub MeasureTold : ℕ → List ℕ → ℕ → ℕ → Result Measured Fault → Type 0
 MeasureTold limit m read read' r =
-    MatchResult r (λ a. (a.length ≡ length m) × (a.tag ≡ last_16 m) × (16 ≤ length m) × (length m ≤ limit + 16) × (read' ≡ read))
+    MatchResult r (λ a. (a.length ≡ length m) × (a.tag ≡ last_16 m) × (16 ≤ length m)
+    × (length m ≤ limit + 16) × (read' ≡ read))
     (λ f. ((f ≡ TextTooLong) × (limit + 16 < length m) × (read' ≡ read))
     ⊎ ((f ≡ TooShort) × (length m < 16) × (read' ≡ read))
     ⊎ ((f ≡ Read) × Failed read read'))
@@ -33,9 +36,11 @@ write_answer Differs = Err SourceChanged
 
 abbrev pub VerifyTold : Setting → List ℕ → ℕ → List ℕ → ℕ → ℕ → Result (Unit {0}) Fault → Type 0
 VerifyTold s tag len v read read' r =
-    ((f : Finding) × (r ≡ verify_answer f) × IsFinding s tag len v f × (read' ≡ read)) ⊎ ((r ≡ Err Read) × Failed read read')
+    ((f : Finding) × (r ≡ verify_answer f) × IsFinding s tag len v f × (read' ≡ read))
+    ⊎ ((r ≡ Err Read) × Failed read read')
 
-abbrev pub WriteTold : Setting → List ℕ → ℕ → List ℕ → Option (List ℕ) → Option (List ℕ) → ℕ → ℕ → ℕ → ℕ → Result (Unit {0}) Fault → Type 0
+abbrev pub WriteTold : Setting → List ℕ → ℕ → List ℕ → Option (List ℕ) → Option (List ℕ) → ℕ → ℕ → ℕ → ℕ
+    → Result (Unit {0}) Fault → Type 0
 WriteTold s tag len w taken taken' read read' wrote wrote' r =
     (Appends taken taken' (masked (mask_of s tag) 0 (take (len - 16) w))
     × ((f : Finding) × (r ≡ write_answer f) × IsFinding s tag len w f × (read' ≡ read) × (wrote' ≡ wrote)))
@@ -45,4 +50,5 @@ WriteTold s tag len w taken taken' read read' wrote wrote' r =
 -- a step's fault is the reading's, which failed, or the call's own
 abbrev pub StepBlames : {T : Type 0} → ℕ → ℕ → Result T Fault → Type 0
 StepBlames read read' r =
-    MatchResult r (λ _. read' ≡ read) (λ f. ((f ≡ Read) × Failed read read') ⊎ ((f ≢ Read) × (f ≢ Write) × (read' ≡ read)))
+    MatchResult r (λ _. read' ≡ read)
+    (λ f. ((f ≡ Read) × Failed read read') ⊎ ((f ≢ Read) × (f ≢ Write) × (read' ≡ read)))

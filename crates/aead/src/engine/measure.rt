@@ -30,10 +30,12 @@ fn slide(last: &mut [u8; 16], piece: &[u8])
 impl Measured {
     ghost use Rattle.aead.specs.Measure.{Measures};
 
-    // Reads to the end: `TextTooLong` once more than `limit` and 16 bytes were taken, `TooShort` where they are fewer than 16.
+    // Reads to the end: `TextTooLong` once more than `limit` and 16 bytes were taken, `TooShort` where
+    // they are fewer than 16.
     pub(crate) fn of<I: Intake>(intake: &mut I, limit: u64) -> Result<Measured, Fault>
         requires { limit < 2 ^ 39 }
-        ensures { Measures limit (I.left intake.old) (I.left intake.new) (I.failures intake.old) (I.failures intake.new) result }
+        ensures { Measures limit (I.left intake.old) (I.left intake.new) (I.failures intake.old)
+            (I.failures intake.new) result }
     {
         let mut buf = [0; 4096];
         let mut length = 0;

@@ -6,7 +6,8 @@ ghost use Rattle.aead.specs.Ciphers.{setting};
 ghost use Rattle.aead.specs.AnyCiphers.{keyed_of};
 ghost use Rattle.aead.specs.Verdict.{WhereTold, OpensStream, BlamesRightly};
 ghost use Rattle.aead.specs.SealStream.{GiveBlames};
-ghost use Rattle.aead.specs.Code.Told.{MeasureTold, VerifyTold, WriteTold, StepBlames, verify_answer, write_answer};
+ghost use Rattle.aead.specs.Code.Told.{MeasureTold, VerifyTold, WriteTold, StepBlames, verify_answer};
+ghost use Rattle.aead.specs.Code.Told.{write_answer};
 
 use crate::aead::Aead;
 use crate::any::AnyAead;
@@ -34,7 +35,8 @@ impl Outlet for Discard {
 fn measure_step<I: Intake>(suite: Suite, intake: &mut I) -> Result<Measured, Fault>
     ensures high { IfOk result (λ m. m.length ≤ text_limit suite + 16) }
     ensures blame { StepBlames (I.failures intake.old) (I.failures intake.new) result }
-    ensures told { IfSome (I.left intake.old) (λ m. MeasureTold (text_limit suite) m (I.failures intake.old) (I.failures intake.new) result) }
+    ensures told { IfSome (I.left intake.old)
+        (λ m. MeasureTold (text_limit suite) m (I.failures intake.old) (I.failures intake.new) result) }
 {
     Measured::of(intake, suite.text_limit())
 }
@@ -71,7 +73,8 @@ fn verify_step<I: Intake>(
     requires aad_fits { length aad.now ≤ aad_limit (keyed_of cipher.now).suite }
     requires high { measured.now.length ≤ text_limit (keyed_of cipher.now).suite + 16 }
     ensures blame { StepBlames (I.failures intake.old) (I.failures intake.new) result }
-    ensures told { IfSome (I.left intake.old) (λ v. VerifyTold (setting (keyed_of cipher.now) nonce.now aad.now)
+    ensures told { IfSome (I.left intake.old)
+        (λ v. VerifyTold (setting (keyed_of cipher.now) nonce.now aad.now)
         measured.now.tag measured.now.length v (I.failures intake.old) (I.failures intake.new) result) }
 {
     let opening = opening(cipher, nonce, aad, &measured.tag);
@@ -92,9 +95,12 @@ fn write_step<I: Intake, O: Outlet>(
 ) -> Result<(), Fault>
     requires aad_fits { length aad.now ≤ aad_limit (keyed_of cipher.now).suite }
     requires high { measured.now.length ≤ text_limit (keyed_of cipher.now).suite + 16 }
-    ensures blame { GiveBlames (I.failures intake.old) (I.failures intake.new) (O.failures outlet.old) (O.failures outlet.new) result }
-    ensures told { IfSome (I.left intake.old) (λ w. WriteTold (setting (keyed_of cipher.now) nonce.now aad.now)
-        measured.now.tag measured.now.length w (O.taken outlet.old) (O.taken outlet.new) (I.failures intake.old) (I.failures intake.new)
+    ensures blame { GiveBlames (I.failures intake.old) (I.failures intake.new) (O.failures outlet.old)
+        (O.failures outlet.new) result }
+    ensures told { IfSome (I.left intake.old)
+        (λ w. WriteTold (setting (keyed_of cipher.now) nonce.now aad.now)
+        measured.now.tag measured.now.length w (O.taken outlet.old) (O.taken outlet.new)
+        (I.failures intake.old) (I.failures intake.new)
         (O.failures outlet.old) (O.failures outlet.new) result) }
 {
     let opening = opening(cipher, nonce, aad, &measured.tag);
@@ -104,14 +110,16 @@ fn write_step<I: Intake, O: Outlet>(
     }
 }
 
-/// Opens a sealed stream that is read three times: measured, verified as a sealing, and then written, each piece being
-/// decrypted and given before the next one is taken. It takes no memory, and holds buffers of a fixed size.
+/// Opens a sealed stream that is read three times: measured, verified as a sealing, and then written,
+/// each piece being decrypted and given before the next one is taken. It takes no memory, and holds
+/// buffers of a fixed size.
 ///
-/// `AadTooLong` comes before any reading. `TextTooLong` comes once the measure reading gave more than 16 bytes past the
-/// suite's limit of a text, `TooShort` where it has fewer than 16. `SourceChanged` comes where the verify reading has another
-/// length or other last 16 bytes, then `TagMismatch` where it is no sealing: nothing is given up to here. `SourceChanged` comes
-/// then where the write reading has another length or other last 16 bytes, or is no sealing: what was given is to be thrown
-/// away, as after `Read`, where a reading failed, and `Write`, where the outlet did.
+/// `AadTooLong` comes before any reading. `TextTooLong` comes once the measure reading gave more than 16
+/// bytes past the suite's limit of a text, `TooShort` where it has fewer than 16. `SourceChanged` comes
+/// where the verify reading has another length or other last 16 bytes, then `TagMismatch` where it is no
+/// sealing: nothing is given up to here. `SourceChanged` comes then where the write reading has another
+/// length or other last 16 bytes, or is no sealing: what was given is to be thrown away, as after `Read`,
+/// where a reading failed, and `Write`, where the outlet did.
 pub fn open_stream<I: Intake, J: Intake, K: Intake, O: Outlet>(
     cipher: &AnyAead,
     nonce: &Nonce,
@@ -122,13 +130,38 @@ pub fn open_stream<I: Intake, J: Intake, K: Intake, O: Outlet>(
     out: &mut O,
 ) -> Result<(), Fault>
     ensures blame { BlamesRightly
-        (record { measure = I.failures measure.old; verify = J.failures verify.old; write = K.failures write.old; outlet = O.failures out.old })
-        (record { measure = I.failures measure.new; verify = J.failures verify.new; write = K.failures write.new; outlet = O.failures out.new })
+        (record {
+          measure = I.failures measure.old;
+          verify = J.failures verify.old;
+          write =
+              K.failures write.old;
+          outlet = O.failures out.old;
+        })
+        (record {
+          measure = I.failures measure.new;
+          verify = J.failures verify.new;
+          write =
+              K.failures write.new;
+          outlet = O.failures out.new;
+        })
         result }
-    ensures opens { WhereTold (I.left measure.old) (J.left verify.old) (K.left write.old) (O.taken out.old) (O.taken out.new)
+    ensures opens { WhereTold (I.left measure.old) (J.left verify.old) (K.left write.old) (O.taken out.old)
+        (O.taken out.new)
         (λ m v w given. OpensStream (setting (keyed_of cipher.now) nonce.now aad.now) m v w given
-        (record { measure = I.failures measure.old; verify = J.failures verify.old; write = K.failures write.old; outlet = O.failures out.old })
-        (record { measure = I.failures measure.new; verify = J.failures verify.new; write = K.failures write.new; outlet = O.failures out.new })
+        (record {
+          measure = I.failures measure.old;
+          verify = J.failures verify.old;
+          write =
+              K.failures write.old;
+          outlet = O.failures out.old;
+        })
+        (record {
+          measure = I.failures measure.new;
+          verify = J.failures verify.new;
+          write =
+              K.failures write.new;
+          outlet = O.failures out.new;
+        })
         result) }
 {
     let suite = cipher.suite();

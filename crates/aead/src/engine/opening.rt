@@ -26,7 +26,8 @@ fn opening_over<N: Nonced>(nonced: &N, aad: &[u8], tag: &Tag) -> Masking<N::Stre
 // The same of a cipher of any suite.
 pub(crate) fn opening(cipher: &AnyAead, nonce: &Nonce, aad: &[u8], tag: &Tag) -> AnyMasking
     requires { length aad.now ≤ aad_limit (keyed_of cipher.now).suite }
-    ensures { HoldsAnyMasking result (opening_task (setting (keyed_of cipher.now) nonce.now aad.now) tag.now) [] }
+    ensures { HoldsAnyMasking result (opening_task (setting (keyed_of cipher.now) nonce.now aad.now) tag.now)
+        [] }
 {
     match cipher {
         AnyAead::OnePass(AnyOnePass::ChaCha(cipher)) => {

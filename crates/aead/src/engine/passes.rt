@@ -35,8 +35,10 @@ fn pass_piece<I: Intake, O: Outlet>(
     requires { count_of masking.old + length buf.old ≤ limit_of masking.old }
     ensures bound { IfOk result (λ n. n ≤ length buf.old) }
     ensures passed { (t : Task) (fed : List ℕ) → HoldsAnyMasking masking.old t fed →
-        Passed t fed (length buf.old) (I.left intake.old) (I.left intake.new) (O.taken outlet.old) (O.taken outlet.new) masking.new result }
-    ensures blame { Blames (I.failures intake.old) (I.failures intake.new) (O.failures outlet.old) (O.failures outlet.new) result }
+        Passed t fed (length buf.old) (I.left intake.old) (I.left intake.new) (O.taken outlet.old)
+        (O.taken outlet.new) masking.new result }
+    ensures blame { Blames (I.failures intake.old) (I.failures intake.new) (O.failures outlet.old)
+        (O.failures outlet.new) result }
     ensures length { IfOk result (λ n. count_of masking.new ≡ count_of masking.old + n) }
     ensures limit { limit_of masking.new ≡ limit_of masking.old }
 {
@@ -62,8 +64,10 @@ pub(crate) fn pass_body<I: Intake, O: Outlet>(
 ) -> Result<u64, Fault>
     requires { count_of masking.old + length ≤ limit_of masking.old }
     ensures passed { (t : Task) → HoldsAnyMasking masking.old t [] →
-        Passed t [] length (I.left intake.old) (I.left intake.new) (O.taken outlet.old) (O.taken outlet.new) masking.new result }
-    ensures blame { Blames (I.failures intake.old) (I.failures intake.new) (O.failures outlet.old) (O.failures outlet.new) result }
+        Passed t [] length (I.left intake.old) (I.left intake.new) (O.taken outlet.old) (O.taken outlet.new)
+        masking.new result }
+    ensures blame { Blames (I.failures intake.old) (I.failures intake.new) (O.failures outlet.old)
+        (O.failures outlet.new) result }
 {
     let mut buf = [0; 4096];
     let mut done = 0;
@@ -99,8 +103,10 @@ pub(crate) fn pass<I: Intake, O: Outlet>(
 ) -> Result<Finding, Fault>
     requires { count_of opening + measured.now.length ≤ limit_of opening + 16 }
     ensures passed { (s : Setting) → HoldsAnyMasking opening (opening_task s measured.now.tag) [] →
-        PassedWhole s measured.now.tag measured.now.length (I.left intake.old) (I.left intake.new) (O.taken outlet.old) (O.taken outlet.new) result }
-    ensures blame { Blames (I.failures intake.old) (I.failures intake.new) (O.failures outlet.old) (O.failures outlet.new) result }
+        PassedWhole s measured.now.tag measured.now.length (I.left intake.old) (I.left intake.new)
+        (O.taken outlet.old) (O.taken outlet.new) result }
+    ensures blame { Blames (I.failures intake.old) (I.failures intake.new) (O.failures outlet.old)
+        (O.failures outlet.new) result }
 {
     let body = measured.length - 16;
     let n = match pass_body(intake, &mut opening, body, outlet) {
@@ -144,8 +150,10 @@ pub(crate) fn pass_all<I: Intake, O: Outlet>(
 ) -> Result<Option<u64>, Fault>
     requires { count_of masking.old + length ≤ limit_of masking.old }
     ensures passed { (t : Task) → HoldsAnyMasking masking.old t [] →
-        PassedAll t length (I.left intake.old) (I.left intake.new) (O.taken outlet.old) (O.taken outlet.new) masking.new result }
-    ensures blame { Blames (I.failures intake.old) (I.failures intake.new) (O.failures outlet.old) (O.failures outlet.new) result }
+        PassedAll t length (I.left intake.old) (I.left intake.new) (O.taken outlet.old) (O.taken outlet.new)
+        masking.new result }
+    ensures blame { Blames (I.failures intake.old) (I.failures intake.new) (O.failures outlet.old)
+        (O.failures outlet.new) result }
 {
     let n = match pass_body(intake, masking, length, outlet) {
         Ok(n) => n,

@@ -6,7 +6,8 @@ ghost use Rattle.aead.specs.Ciphers.{setting};
 ghost use Rattle.aead.specs.Pieces.{HoldsAbsorb, HoldsWriter};
 ghost use Rattle.aead.specs.Code.Passes.{BlamesReading};
 ghost use Rattle.aead.specs.SealStream.{GiveBlames};
-ghost use Rattle.aead.specs.SealSivStream.{TookPiece, TakenIn, WritesAgain, SealsSivStream, SivBlames, WhereBothTold};
+ghost use Rattle.aead.specs.SealSivStream.{TookPiece, TakenIn, WritesAgain, SealsSivStream, SivBlames};
+ghost use Rattle.aead.specs.SealSivStream.{WhereBothTold};
 
 use crate::engine::passes::{has_more, pass_all};
 use crate::gcm_siv::GcmSiv;
@@ -69,10 +70,13 @@ fn write_again<J: Intake, O: Outlet>(
     tag: &Tag,
     outlet: &mut O,
 ) -> Result<(), Fault>
-    ensures written { (s : Setting) (first : List ℕ) → HoldsWriter writer s first [] → tag.now ≡ tag_of s first →
+    ensures written { (s : Setting) (first : List ℕ) → HoldsWriter writer s first []
+        → tag.now ≡ tag_of s first →
         IfSome (J.left intake.old) (λ b. WritesAgain s first b (O.taken outlet.old) (O.taken outlet.new)
-        (J.failures intake.old) (J.failures intake.new) (O.failures outlet.old) (O.failures outlet.new) result) }
-    ensures blame { GiveBlames (J.failures intake.old) (J.failures intake.new) (O.failures outlet.old) (O.failures outlet.new) result }
+        (J.failures intake.old) (J.failures intake.new) (O.failures outlet.old) (O.failures outlet.new)
+        result) }
+    ensures blame { GiveBlames (J.failures intake.old) (J.failures intake.new) (O.failures outlet.old)
+        (O.failures outlet.new) result }
 {
     let length = writer.masking.room();
     match pass_all(intake, &mut writer.masking, length, outlet) {
@@ -88,13 +92,14 @@ fn write_again<J: Intake, O: Outlet>(
     }
 }
 
-/// Seals a stream in two readings by AES-GCM-SIV: the first is authenticated, and of the second each piece is encrypted and
-/// given before the next one is taken; the tag is given last, after the second reading was found to have the length and the
-/// tag of the first. It takes no memory, and holds buffers of a fixed size.
+/// Seals a stream in two readings by AES-GCM-SIV: the first is authenticated, and of the second each
+/// piece is encrypted and given before the next one is taken; the tag is given last, after the second
+/// reading was found to have the length and the tag of the first. It takes no memory, and holds buffers
+/// of a fixed size.
 ///
-/// `AadTooLong` comes before any reading, `TextTooLong` once more than the suite's limit of a text was taken: nothing is given
-/// up to here. `SourceChanged` comes where the second reading has another length or tag. `Read` comes where a reading failed,
-/// `Write` where the outlet did.
+/// `AadTooLong` comes before any reading, `TextTooLong` once more than the suite's limit of a text was
+/// taken: nothing is given up to here. `SourceChanged` comes where the second reading has another length
+/// or tag. `Read` comes where a reading failed, `Write` where the outlet did.
 pub fn seal_siv_stream<I: Intake, J: Intake, O: Outlet>(
     cipher: &GcmSiv,
     nonce: &Nonce,

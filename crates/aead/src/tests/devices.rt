@@ -110,8 +110,9 @@ fn steps_of(alloc: Global, fails: bool, call: usize) -> Result<Vec<Step>, AllocE
     Ok(steps)
 }
 
-/// Each call of each device of the opener fails in turn, until a run ends well: the fault is the device's, what was given is
-/// a beginning of the text, and nothing where the measure or the verify reading failed.
+/// Each call of each device of the opener fails in turn, until a run ends well: the fault is the
+/// device's, what was given is a beginning of the text, and nothing where the measure or the verify
+/// reading failed.
 #[test]
 fn each_call_of_opening_fails(rt: HostRuntime) -> Result<(), Fail> {
     let alloc = rt.alloc();
@@ -189,8 +190,8 @@ fn sealed_twice(
     Ok((answer, out))
 }
 
-/// Each call of each device of sealing in one reading fails in turn, until a run ends well: what was given is a beginning of
-/// the sealing.
+/// Each call of each device of sealing in one reading fails in turn, until a run ends well: what was
+/// given is a beginning of the sealing.
 #[test]
 fn each_call_of_sealing_once_fails(rt: HostRuntime) -> Result<(), Fail> {
     let alloc = rt.alloc();

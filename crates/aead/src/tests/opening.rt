@@ -130,7 +130,8 @@ fn measure_readings_that_differ(rt: HostRuntime) -> Result<(), Fail> {
     Ok(())
 }
 
-/// Nothing is given where the verify reading has another length or tag than the measured one, or is no sealing.
+/// Nothing is given where the verify reading has another length or tag than the measured one, or is no
+/// sealing.
 #[test]
 fn verify_readings_that_differ(rt: HostRuntime) -> Result<(), Fail> {
     let sample = chacha()?;

@@ -70,7 +70,8 @@ fn absorbed(cipher: &GcmSiv, nonce: &Nonce) -> Result<(Tag, SivWriter), Fault> {
     Ok(absorb.finish())
 }
 
-/// The tag after a second reading in pieces of 3, 0 and the rest, and whether it agreed with the first; the bytes are encrypted.
+/// The tag after a second reading in pieces of 3, 0 and the rest, and whether it agreed with the first;
+/// the bytes are encrypted.
 fn written(cipher: &GcmSiv, nonce: &Nonce, bytes: &mut [u8]) -> Result<(Tag, bool), Fault> {
     let (tag, mut writer) = match absorbed(cipher, nonce) {
         Ok(both) => both,

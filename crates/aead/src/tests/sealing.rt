@@ -19,7 +19,8 @@ fn a_stream_has_the_sealing_of_its_text(rt: HostRuntime) -> Result<(), Fail> {
     Ok(())
 }
 
-/// The answer for a second reading of the published text of eight bytes, with what was given: a beginning of `most`.
+/// The answer for a second reading of the published text of eight bytes, with what was given: a beginning
+/// of `most`.
 fn sealed_again(
     rt: &impl Abort,
     alloc: Global,

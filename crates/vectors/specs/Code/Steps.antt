@@ -1,14 +1,17 @@
 -- Reading line by line.
-use Rattle.std.specs.Prelude.{ℕ, List, [], ◌∷◌, ◌++◌, Option, Some, None, Result, Ok, Err, if◌then◌else◌, ◌&&◌, codes}
+use Rattle.std.specs.Prelude.{ℕ, List, [], ◌∷◌, ◌++◌, Option, Some, None, Result, Ok, Err, if◌then◌else◌}
+use Rattle.std.specs.Prelude.{◌&&◌, codes}
 use Rattle.std.specs.Str.{bytes_eq}
 use Rattle.vectors.specs.declared.fault.Cause.{Cause}
-use Rattle.vectors.specs.declared.fault.Cause.TheVariants.{BadFormat, BadLine, WrongName, UnknownSuite, BadHex, BadLength, BadCuts}
+use Rattle.vectors.specs.declared.fault.Cause.TheVariants.{BadFormat, BadLine, WrongName, UnknownSuite}
+use Rattle.vectors.specs.declared.fault.Cause.TheVariants.{BadHex, BadLength, BadCuts}
 use Rattle.vectors.specs.declared.suite.Format.{Format}
 use Rattle.vectors.specs.declared.suite.Suite.{Suite}
 use Rattle.vectors.specs.declared.suite.Field.{Field}
 use Rattle.vectors.specs.Suites.{format_named, suite_named, fields_of, field_name, field_length}
 use Rattle.vectors.specs.Cuts.{are_cuts}
-use Rattle.vectors.specs.Grammar.{Record, is_gap, value_line, has_length, may_cut, most_cut, unread, with_field, with_text}
+use Rattle.vectors.specs.Grammar.{Record, is_gap, value_line, has_length, may_cut, most_cut, unread}
+use Rattle.vectors.specs.Grammar.{with_field, with_text}
 use Rattle.vectors.specs.Faults.{is_hex, bytes_of, is_named}
 
 infixl 10 ◌>>=◌
@@ -44,7 +47,8 @@ ok_or cause (Some x) = Ok x
 -- the format, where the name is `format` and the value names one
 abbrev pub format_of : Option (List ℕ × List ℕ) → Result Format Cause
 format_of None = Err BadFormat
-format_of (Some f) = if bytes_eq f.0 (codes "format") then ok_or BadFormat (format_named f.1) else Err BadFormat
+format_of (Some f) = if bytes_eq f.0 (codes "format") then ok_or BadFormat (format_named f.1) else Err
+    BadFormat
 
 unfoldable pub format_at : List ℕ → Result Format Cause
 format_at line = format_of (value_line line)
@@ -80,11 +84,14 @@ end_at format r line =
 
 -- what is expected behind a line, and the record that it ends
 unfoldable pub step : Place → List ℕ → Result (Place × List Record) Cause
-step start line = if is_gap line then Ok (start, []) else (format_at line >>= λ format. Ok (between format, []))
+step start line = if is_gap line then Ok (start, []) else
+    (format_at line >>= λ format. Ok (between format, []))
 step (between format) line =
-    if is_gap line then Ok (between format, []) else (suite_at format line >>= λ s. Ok (fields format (fields_of s) (unread s), []))
+    if is_gap line then Ok (between format, []) else
+    (suite_at format line >>= λ s. Ok (fields format (fields_of s) (unread s), []))
 step (fields format [] r) line = end_at format r line
-step (fields format (f ∷ fs) r) line = field_at r.suite f line >>= λ bytes. Ok (fields format fs (with_field f bytes r), [])
+step (fields format (f ∷ fs) r) line =
+    field_at r.suite f line >>= λ bytes. Ok (fields format fs (with_field f bytes r), [])
 step (text format r) line = text_at format r line
 
 -- all lines, one after the other

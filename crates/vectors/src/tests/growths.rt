@@ -37,8 +37,8 @@ sealed = 58e2fccefa7e3061367f1d57a4e7455a
 invalid
 ";
 
-/// Wrappings with padding: the published ones, one of them with another last digit and `invalid`, and one that says
-/// `invalid` and is a wrapping.
+/// Wrappings with padding: the published ones, one of them with another last digit and `invalid`, and one
+/// that says `invalid` and is a wrapping.
 const PADDED: &str = "format = 2
 suite = aes-192-wrap-pad
 key = 5840df6e29b02af1ab493b705bf16ea1ae8338f4dcc176a8
@@ -106,8 +106,8 @@ fn add_digits(
     add_line(file, name, &digits)
 }
 
-/// A file of two large records with a text of so many bytes: a sealing of it, with as much associated data, and its
-/// wrapping with padding.
+/// A file of two large records with a text of so many bytes: a sealing of it, with as much associated
+/// data, and its wrapping with padding.
 fn large_file(alloc: Global, length: usize) -> Result<Vec<u8>, Fail> {
     let key = [7u8; 16];
     let nonce = Nonce::from_slice(&[3; 12])?;

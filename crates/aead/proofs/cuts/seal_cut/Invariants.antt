@@ -6,4 +6,5 @@ use Rattle.aead.proofs.cuts.seal_cut.Given as goal
 
 abbrev pub invariant-loop-cut : goal.invariant-loop-cut
 invariant-loop-cut g l =
-    Encrypting l.cutting (setting (keyed_of l.cipher) l.nonce l.aad) l.text l.cuts l.cut-index l.place (map (λ v. v.items) l.pieces.items)
+    Encrypting l.cutting (setting (keyed_of l.cipher) l.nonce l.aad) l.text l.cuts l.cut-index l.place
+    (map (λ v. v.items) l.pieces.items)

@@ -10,19 +10,25 @@ use Rattle.aead.proofs.nonced.open_checked.Goals as goal
 
 pub returns-then-not-same-clause-answer : goal.returns-then-not-same-clause-answer
 returns-then-not-same-clause-answer g c =
-    let s : Setting = setting (g.N.Nonced.keyed c.args.nonced.now) (g.N.Nonced.nonce c.args.nonced.now) c.args.aad.now in
-    let aad_fits : length c.args.aad.now ≤ aad_limit s.suite = omega (arith, c.aad_limit.ensures, ap aad_limit c.suite-suite.ensures) in
-    let text_fits : length c.args.body.now ≤ text_limit s.suite = omega (arith, c.text_limit.ensures, ap text_limit c.suite-suite.ensures) in
+    let s : Setting = setting (g.N.Nonced.keyed c.args.nonced.now) (g.N.Nonced.nonce c.args.nonced.now)
+    c.args.aad.now in
+    let aad_fits : length c.args.aad.now ≤ aad_limit s.suite =
+    omega (arith, c.aad_limit.ensures, ap aad_limit c.suite-suite.ensures) in
+    let text_fits : length c.args.body.now ≤ text_limit s.suite =
+    omega (arith, c.text_limit.ensures, ap text_limit c.suite-suite.ensures) in
     let one : is_one_pass (construction_of s.suite) ≡ true =
-    ap (λ x. is_one_pass (construction_of x)) (sym c.suite-suite.ensures) ∙ sym c.is_one_pass.ensures ∙ c.if-is_one_pass.true in
-    let made = c.finish.ensures s c.args.body.now (c.update.ensures.holds s [] c.authenticator-authenticator.ensures.holds (omega (arith, text_fits))) in (
+    ap (λ x. is_one_pass (construction_of x)) (sym c.suite-suite.ensures) ∙ sym c.is_one_pass.ensures
+    ∙ c.if-is_one_pass.true in
+    let made = c.finish.ensures s c.args.body.now
+    (c.update.ensures.holds s [] c.authenticator-authenticator.ensures.holds (omega (arith, text_fits))) in (
       (
         record { aad_fits = aad_fits; text_fits = text_fits },
         no_sealing s c.args.body.now c.args.tag.now c.bytes-given.ensures.is_block.length_is
             (λ e.
             let is : c.bytes.result.now ≡ tag_of s (unmasked s c.args.tag.now c.args.body.now) =
             c.bytes.ensures.value ∙ (made ∙ sym (body_tag s c.args.tag.now c.args.body.now one)) in
-            let equal : c.bytes.result.now ≡ c.bytes-given.result.now = is ∙ (e ∙ sym c.bytes-given.ensures.value) in
+            let equal : c.bytes.result.now ≡ c.bytes-given.result.now =
+            is ∙ (e ∙ sym c.bytes-given.ensures.value) in
             true≢false (sym (c.same.ensures.1 equal) ∙ c.if-not-same.true)),
       ),
       refl,
@@ -30,51 +36,74 @@ returns-then-not-same-clause-answer g c =
 
 pub returns-then-is_one_pass-clause-answer : goal.returns-then-is_one_pass-clause-answer
 returns-then-is_one_pass-clause-answer g c =
-    let s : Setting = setting (g.N.Nonced.keyed c.args.nonced.now) (g.N.Nonced.nonce c.args.nonced.now) c.args.aad.now in
-    let aad_fits : length c.args.aad.now ≤ aad_limit s.suite = omega (arith, c.aad_limit.ensures, ap aad_limit c.suite-suite.ensures) in
-    let text_fits : length c.args.body.now ≤ text_limit s.suite = omega (arith, c.text_limit.ensures, ap text_limit c.suite-suite.ensures) in
+    let s : Setting = setting (g.N.Nonced.keyed c.args.nonced.now) (g.N.Nonced.nonce c.args.nonced.now)
+    c.args.aad.now in
+    let aad_fits : length c.args.aad.now ≤ aad_limit s.suite =
+    omega (arith, c.aad_limit.ensures, ap aad_limit c.suite-suite.ensures) in
+    let text_fits : length c.args.body.now ≤ text_limit s.suite =
+    omega (arith, c.text_limit.ensures, ap text_limit c.suite-suite.ensures) in
     let one : is_one_pass (construction_of s.suite) ≡ true =
-    ap (λ x. is_one_pass (construction_of x)) (sym c.suite-suite.ensures) ∙ sym c.is_one_pass.ensures ∙ c.if-is_one_pass.true in
-    let made = c.finish.ensures s c.args.body.now (c.update.ensures.holds s [] c.authenticator-authenticator.ensures.holds (omega (arith, text_fits))) in
-    opened_as s c.args.body.now c.args.tag.now c.apply_to.new.piece (record { aad_fits = aad_fits; text_fits = text_fits })
-    c.are_bytes.ensures.bytes (c.apply_to.ensures s c.args.tag.now 0 (c.mask.ensures.made c.args.aad.now) (omega (arith, text_fits))).1
-    (body_tag s c.args.tag.now c.args.body.now one ∙ sym made ∙ sym c.bytes.ensures.value ∙ c.same.ensures.0 c.if-not-same.false
+    ap (λ x. is_one_pass (construction_of x)) (sym c.suite-suite.ensures) ∙ sym c.is_one_pass.ensures
+    ∙ c.if-is_one_pass.true in
+    let made = c.finish.ensures s c.args.body.now
+    (c.update.ensures.holds s [] c.authenticator-authenticator.ensures.holds (omega (arith, text_fits))) in
+    opened_as s c.args.body.now c.args.tag.now c.apply_to.new.piece
+    (record { aad_fits = aad_fits; text_fits = text_fits })
+    c.are_bytes.ensures.bytes
+    (c.apply_to.ensures s c.args.tag.now 0 (c.mask.ensures.made c.args.aad.now) (omega (arith, text_fits))).1
+    (body_tag s c.args.tag.now c.args.body.now one ∙ sym made ∙ sym c.bytes.ensures.value
+    ∙ c.same.ensures.0 c.if-not-same.false
     ∙ c.bytes-given.ensures.value)
 
 pub returns-then-same-clause-answer : goal.returns-then-same-clause-answer
 returns-then-same-clause-answer g c =
-    let s : Setting = setting (g.N.Nonced.keyed c.args.nonced.now) (g.N.Nonced.nonce c.args.nonced.now) c.args.aad.now in
-    let aad_fits : length c.args.aad.now ≤ aad_limit s.suite = omega (arith, c.aad_limit.ensures, ap aad_limit c.suite-suite.ensures) in
-    let text_fits : length c.args.body.now ≤ text_limit s.suite = omega (arith, c.text_limit.ensures, ap text_limit c.suite-suite.ensures) in
+    let s : Setting = setting (g.N.Nonced.keyed c.args.nonced.now) (g.N.Nonced.nonce c.args.nonced.now)
+    c.args.aad.now in
+    let aad_fits : length c.args.aad.now ≤ aad_limit s.suite =
+    omega (arith, c.aad_limit.ensures, ap aad_limit c.suite-suite.ensures) in
+    let text_fits : length c.args.body.now ≤ text_limit s.suite =
+    omega (arith, c.text_limit.ensures, ap text_limit c.suite-suite.ensures) in
     let two : is_one_pass (construction_of s.suite) ≡ false =
-    ap (λ x. is_one_pass (construction_of x)) (sym c.suite-suite.ensures) ∙ sym c.is_one_pass.ensures ∙ c.if-is_one_pass.false in
+    ap (λ x. is_one_pass (construction_of x)) (sym c.suite-suite.ensures) ∙ sym c.is_one_pass.ensures
+    ∙ c.if-is_one_pass.false in
     let t = sealing_task s c.args.tag.now in
     let fed = c.update-2.ensures.masked t [] c.masking-opening.ensures.holds in
     let tag_is : tag_of s (unmasked s c.args.tag.now c.args.body.now) ≡ c.finish-2.result =
-    two_pass_tag s (unmasked s c.args.tag.now c.args.body.now) two ∙ sym (c.finish-2.ensures t c.args.body.now fed.0) in
-    opened_as s c.args.body.now c.args.tag.now c.update-2.new.piece (record { aad_fits = aad_fits; text_fits = text_fits })
+    two_pass_tag s (unmasked s c.args.tag.now c.args.body.now) two
+    ∙ sym (c.finish-2.ensures t c.args.body.now fed.0) in
+    opened_as s c.args.body.now c.args.tag.now c.update-2.new.piece
+    (record { aad_fits = aad_fits; text_fits = text_fits })
     c.are_bytes-2.ensures.bytes fed.1
     (tag_is ∙ sym c.bytes-2.ensures.value ∙ c.same-2.ensures.0 c.if-same.true ∙ c.bytes-given.ensures.value)
 
 pub returns-clause-answer : goal.returns-clause-answer
 returns-clause-answer g c =
-    let s : Setting = setting (g.N.Nonced.keyed c.args.nonced.now) (g.N.Nonced.nonce c.args.nonced.now) c.args.aad.now in
-    let aad_fits : length c.args.aad.now ≤ aad_limit s.suite = omega (arith, c.aad_limit.ensures, ap aad_limit c.suite-suite.ensures) in
-    let text_fits : length c.args.body.now ≤ text_limit s.suite = omega (arith, c.text_limit.ensures, ap text_limit c.suite-suite.ensures) in
+    let s : Setting = setting (g.N.Nonced.keyed c.args.nonced.now) (g.N.Nonced.nonce c.args.nonced.now)
+    c.args.aad.now in
+    let aad_fits : length c.args.aad.now ≤ aad_limit s.suite =
+    omega (arith, c.aad_limit.ensures, ap aad_limit c.suite-suite.ensures) in
+    let text_fits : length c.args.body.now ≤ text_limit s.suite =
+    omega (arith, c.text_limit.ensures, ap text_limit c.suite-suite.ensures) in
     let two : is_one_pass (construction_of s.suite) ≡ false =
-    ap (λ x. is_one_pass (construction_of x)) (sym c.suite-suite.ensures) ∙ sym c.is_one_pass.ensures ∙ c.if-is_one_pass.false in
+    ap (λ x. is_one_pass (construction_of x)) (sym c.suite-suite.ensures) ∙ sym c.is_one_pass.ensures
+    ∙ c.if-is_one_pass.false in
     let t = sealing_task s c.args.tag.now in
     let f : ℕ → ℕ = mask s.suite s.key s.nonce c.args.tag.now in
     let fed = c.update-2.ensures.masked t [] c.masking-opening.ensures.holds in
     let tag_is : tag_of s (unmasked s c.args.tag.now c.args.body.now) ≡ c.finish-2.result =
-    two_pass_tag s (unmasked s c.args.tag.now c.args.body.now) two ∙ sym (c.finish-2.ensures t c.args.body.now fed.0) in
-    let long : length c.update-2.new.piece ≤ text_limit s.suite = omega (arith, ap length fed.1, length-masked f 0 c.args.body.now, text_fits) in (
+    two_pass_tag s (unmasked s c.args.tag.now c.args.body.now) two
+    ∙ sym (c.finish-2.ensures t c.args.body.now fed.0) in
+    let long : length c.update-2.new.piece ≤ text_limit s.suite =
+    omega (arith, ap length fed.1, length-masked f 0 c.args.body.now, text_fits) in (
       (
         record { aad_fits = aad_fits; text_fits = text_fits },
         no_sealing s c.args.body.now c.args.tag.now c.bytes-given.ensures.is_block.length_is
             (λ e. true≢false
-            (sym (c.same-2.ensures.1 (c.bytes-2.ensures.value ∙ sym tag_is ∙ e ∙ sym c.bytes-given.ensures.value)) ∙ c.if-same.false)),
+            (sym (c.same-2.ensures.1
+            (c.bytes-2.ensures.value ∙ sym tag_is ∙ e ∙ sym c.bytes-given.ensures.value))
+            ∙ c.if-same.false)),
       ),
-      (c.apply_to-2.ensures s c.args.tag.now 0 (c.mask-2.ensures.made c.args.aad.now) (omega (arith, long))).1 ∙ ap (masked f 0) fed.1
+      (c.apply_to-2.ensures s c.args.tag.now 0 (c.mask-2.ensures.made c.args.aad.now)
+          (omega (arith, long))).1 ∙ ap (masked f 0) fed.1
           ∙ masked_twice f 0 c.args.body.now,
     )

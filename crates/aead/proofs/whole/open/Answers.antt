@@ -5,5 +5,6 @@ use Rattle.aead.proofs.whole.open.Goals as goal
 
 pub returns-clause-found : goal.returns-clause-found
 returns-clause-found g c =
-    found (λ v. v.items) c.sealing_has_one_text.ensures (setting (keyed_of c.args.cipher.now) c.args.nonce.now c.args.aad.now) c.args.sealed.now
+    found (λ v. v.items) c.sealing_has_one_text.ensures
+    (setting (keyed_of c.args.cipher.now) c.args.nonce.now c.args.aad.now) c.args.sealed.now
     c.open_by.result c.open_by.ensures

@@ -10,4 +10,5 @@ returns g c =
     let e = entry_view c.args.entry.now in
     let same : setting (keyed_of c.in-Ok.cipher) c.in-Ok-from_slice.nonce c.deref-in-None.result.now
     ≡ record { suite = c.args.suite; key = e.key; nonce = e.nonce; aad = e.aad } = search rules in
-    nothing_agrees e c.seals_nothing.result c.args.suite _ c.seals_nothing.ensures c.requires.suite (ap text_view c.in-None.is) same
+    nothing_agrees e c.seals_nothing.result c.args.suite _ c.seals_nothing.ensures c.requires.suite
+    (ap text_view c.in-None.is) same

@@ -15,5 +15,8 @@ returns c =
     let is = c.is_refused.ensures ∙ ap (λ b. not (b || is_some out.other)) c.is_ok.ensures.value in
     subst (λ b. IsTrue b ↔ IsNoSealing s (bytes_in c.args.sealed)) (sym is)
     (no_sealing _ s (bytes_in c.args.sealed)
-    (opening_told s (bytes_in c.args.sealed) _ _ _ _ _ out c.open_stream-done.result c.sealing_has_one_text.ensures
-    c.new-measure.ensures c.new-verify.ensures c.new-write.ensures (c.new-out.ensures.told ∙ ap (λ (xs : List ℕ). Some (framed xs [])) c.none.ensures) c.new-out.ensures.failed c.open_stream-done.ensures.opens))
+    (opening_told s (bytes_in c.args.sealed) _ _ _ _ _ out c.open_stream-done.result
+    c.sealing_has_one_text.ensures
+    c.new-measure.ensures c.new-verify.ensures c.new-write.ensures
+    (c.new-out.ensures.told ∙ ap (λ (xs : List ℕ). Some (framed xs [])) c.none.ensures)
+    c.new-out.ensures.failed c.open_stream-done.ensures.opens))

@@ -6,7 +6,8 @@ use Rattle.vectors.proofs.reading.read.Given as goal
 
 abbrev pub invariant-loop-line : goal.invariant-loop-line
 invariant-loop-line g l = record {
-  so_far : Judged (lines_of l.fn.file) (lines_of l.rest) l.count (view l.place) l.report.records l.report.bad.items;
+  so_far : Judged (lines_of l.fn.file) (lines_of l.rest) l.count (view l.place) l.report.records
+      l.report.bad.items;
   room : l.count + length l.rest ≤ length l.fn.file;
 }
 

@@ -10,11 +10,15 @@ pub returns-in-Some : goal.returns-in-Some
 returns-in-Some g c =
     let e = entry_view c.args.entry.now in
     let text = bytes_in c.in-Some.text in
-    text_agrees e c.is_padded_wrapping.result (WrapPad c.args.aes) text c.requires.suite (ap text_view c.in-Some.is)
-    (subst (λ (k : List ℕ). IfOk c.is_padded_wrapping.result (λ b. IsTrue b ↔ UnwrappedPadded k e.sealed text)) c.aes_key-key.ensures c.is_padded_wrapping.ensures)
+    text_agrees e c.is_padded_wrapping.result (WrapPad c.args.aes) text c.requires.suite
+    (ap text_view c.in-Some.is)
+    (subst (λ (k : List ℕ). IfOk c.is_padded_wrapping.result
+    (λ b. IsTrue b ↔ UnwrappedPadded k e.sealed text)) c.aes_key-key.ensures c.is_padded_wrapping.ensures)
 
 pub returns-in-None : goal.returns-in-None
 returns-in-None g c =
     let e = entry_view c.args.entry.now in
-    no_text_agrees e c.is_no_padded_wrapping.result (WrapPad c.args.aes) c.requires.suite (ap text_view c.in-None.is)
-    (subst (λ (k : List ℕ). IfOk c.is_no_padded_wrapping.result (λ b. IsTrue b ↔ IsNoPaddedWrapping k e.sealed)) c.aes_key-key.ensures c.is_no_padded_wrapping.ensures)
+    no_text_agrees e c.is_no_padded_wrapping.result (WrapPad c.args.aes) c.requires.suite
+    (ap text_view c.in-None.is)
+    (subst (λ (k : List ℕ). IfOk c.is_no_padded_wrapping.result
+    (λ b. IsTrue b ↔ IsNoPaddedWrapping k e.sealed)) c.aes_key-key.ensures c.is_no_padded_wrapping.ensures)

@@ -11,10 +11,12 @@ returns-in-Some g c =
     let e = entry_view c.args.entry.now in
     let text = bytes_in c.in-Some.text in
     text_agrees e c.is_wrapping.result (Wrap c.args.aes) text c.requires.suite (ap text_view c.in-Some.is)
-    (subst (λ (k : List ℕ). IfOk c.is_wrapping.result (λ b. IsTrue b ↔ Unwrapped k e.sealed text)) c.aes_key-key.ensures c.is_wrapping.ensures)
+    (subst (λ (k : List ℕ). IfOk c.is_wrapping.result (λ b. IsTrue b ↔ Unwrapped k e.sealed text))
+    c.aes_key-key.ensures c.is_wrapping.ensures)
 
 pub returns-in-None : goal.returns-in-None
 returns-in-None g c =
     let e = entry_view c.args.entry.now in
     no_text_agrees e c.is_no_wrapping.result (Wrap c.args.aes) c.requires.suite (ap text_view c.in-None.is)
-    (subst (λ (k : List ℕ). IfOk c.is_no_wrapping.result (λ b. IsTrue b ↔ IsNoWrapping k e.sealed)) c.aes_key-key.ensures c.is_no_wrapping.ensures)
+    (subst (λ (k : List ℕ). IfOk c.is_no_wrapping.result (λ b. IsTrue b ↔ IsNoWrapping k e.sealed))
+    c.aes_key-key.ensures c.is_no_wrapping.ensures)

@@ -8,5 +8,6 @@ pub invariant_of-result : goal.invariant_of-result
 unfolding key_part
 invariant_of-result c = record {
   parts = λ q l. ap (take 8) (c.encrypt_four.ensures q l
-      ∙ ap (cipher c.args.key.now) (c.first_numbered.ensures q l ∙ ap (λ n. to_le_bytes w32 q ++ n) c.bytes.ensures.value));
+      ∙ ap (cipher c.args.key.now)
+      (c.first_numbered.ensures q l ∙ ap (λ n. to_le_bytes w32 q ++ n) c.bytes.ensures.value));
 }

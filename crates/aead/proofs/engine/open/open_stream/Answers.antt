@@ -1,4 +1,5 @@
-use Rattle.std.proofs.Common.{◌≡◌, ◌≤◌, ◌<◌, ℕ, List, length, arith, ap, subst, Option, Result, Ok, Err, IfSome}
+use Rattle.std.proofs.Common.{◌≡◌, ◌≤◌, ◌<◌, ℕ, List, length, arith, ap, subst, Option, Result, Ok, Err}
+use Rattle.std.proofs.Common.{IfSome}
 use Rattle.octets.specs.declared.fault.Fault.{Fault}
 use Rattle.aead.specs.declared.suite.Suite.{Suite}
 use Rattle.aead.specs.declared.engine.measure.Measured.{Measured}
@@ -13,45 +14,70 @@ use Rattle.aead.proofs.engine.open.open_stream.Goals as goal
 pub returns-then-aad-aad_limit-clause-opens : goal.returns-then-aad-aad_limit-clause-opens
 returns-then-aad-aad_limit-clause-opens g c =
     let s : Setting = setting (keyed_of c.args.cipher.now) c.args.nonce.now c.args.aad.now in
-    let long : aad_limit s.suite < length s.aad = omega (arith, c.aad_limit.ensures, ap aad_limit c.suite-suite.ensures) in
-    exit_aad (g.I.Intake.left c.args.measure.now) (g.J.Intake.left c.args.verify.now) (g.K.Intake.left c.args.write.now) (g.O.Outlet.taken c.args.out.now) s
-    (record { measure = g.I.Intake.failures c.args.measure.now; verify = g.J.Intake.failures c.args.verify.now; write = g.K.Intake.failures c.args.write.now; outlet = g.O.Outlet.failures c.args.out.now })
+    let long : aad_limit s.suite < length s.aad =
+    omega (arith, c.aad_limit.ensures, ap aad_limit c.suite-suite.ensures) in
+    exit_aad (g.I.Intake.left c.args.measure.now) (g.J.Intake.left c.args.verify.now)
+    (g.K.Intake.left c.args.write.now) (g.O.Outlet.taken c.args.out.now) s
+    (record {
+      measure = g.I.Intake.failures c.args.measure.now;
+      verify =
+          g.J.Intake.failures c.args.verify.now;
+      write = g.K.Intake.failures c.args.write.now;
+      outlet =
+          g.O.Outlet.failures c.args.out.now;
+    })
     long
 
 -- the same answer of the measure reading by the suite's other name
 told_at : (x y : Suite) (lm : Option (List ℕ)) (before after : ℕ) (r : Result Measured Fault) → x ≡ y
-    → IfSome lm (λ m. MeasureTold (text_limit x) m before after r) → IfSome lm (λ m. MeasureTold (text_limit y) m before after r)
-told_at x y lm before after r e told = let P : Suite → Type 0 = λ z. IfSome lm (λ m. MeasureTold (text_limit z) m before after r) in subst P e told
+    → IfSome lm (λ m. MeasureTold (text_limit x) m before after r)
+    → IfSome lm (λ m. MeasureTold (text_limit y) m before after r)
+told_at x y lm before after r e told = let P : Suite → Type 0 =
+    λ z. IfSome lm (λ m. MeasureTold (text_limit z) m before after r) in subst P e told
 
 pub returns-in-Err-clause-opens : goal.returns-in-Err-clause-opens
 returns-in-Err-clause-opens g c =
     let s : Setting = setting (keyed_of c.args.cipher.now) c.args.nonce.now c.args.aad.now in
-    let fits : length s.aad ≤ aad_limit s.suite = omega (arith, c.aad_limit.ensures, ap aad_limit c.suite-suite.ensures) in
-    exit_measure (g.I.Intake.left c.args.measure.now) (g.J.Intake.left c.args.verify.now) (g.K.Intake.left c.args.write.now) (g.O.Outlet.taken c.args.out.now) s
-    (g.I.Intake.failures c.args.measure.now) (g.I.Intake.failures c.measure_step.new.intake) (g.J.Intake.failures c.args.verify.now)
+    let fits : length s.aad ≤ aad_limit s.suite =
+    omega (arith, c.aad_limit.ensures, ap aad_limit c.suite-suite.ensures) in
+    exit_measure (g.I.Intake.left c.args.measure.now) (g.J.Intake.left c.args.verify.now)
+    (g.K.Intake.left c.args.write.now) (g.O.Outlet.taken c.args.out.now) s
+    (g.I.Intake.failures c.args.measure.now) (g.I.Intake.failures c.measure_step.new.intake)
+    (g.J.Intake.failures c.args.verify.now)
     (g.K.Intake.failures c.args.write.now) (g.O.Outlet.failures c.args.out.now) c.in-Err.fault
-    fits (told_at c.suite-suite.result s.suite (g.I.Intake.left c.args.measure.now) (g.I.Intake.failures c.args.measure.now) (g.I.Intake.failures c.measure_step.new.intake) (Err c.in-Err.fault) c.suite-suite.ensures c.in-Err.ensures.told)
+    fits (told_at c.suite-suite.result s.suite (g.I.Intake.left c.args.measure.now)
+    (g.I.Intake.failures c.args.measure.now) (g.I.Intake.failures c.measure_step.new.intake)
+    (Err c.in-Err.fault) c.suite-suite.ensures c.in-Err.ensures.told)
 
 pub returns-in-Err-verify_step-clause-opens : goal.returns-in-Err-verify_step-clause-opens
 returns-in-Err-verify_step-clause-opens g c =
     let s : Setting = setting (keyed_of c.args.cipher.now) c.args.nonce.now c.args.aad.now in
-    let fits : length s.aad ≤ aad_limit s.suite = omega (arith, c.aad_limit.ensures, ap aad_limit c.suite-suite.ensures) in
-    exit_verify (g.I.Intake.left c.args.measure.now) (g.J.Intake.left c.args.verify.now) (g.K.Intake.left c.args.write.now) (g.O.Outlet.taken c.args.out.now) s
+    let fits : length s.aad ≤ aad_limit s.suite =
+    omega (arith, c.aad_limit.ensures, ap aad_limit c.suite-suite.ensures) in
+    exit_verify (g.I.Intake.left c.args.measure.now) (g.J.Intake.left c.args.verify.now)
+    (g.K.Intake.left c.args.write.now) (g.O.Outlet.taken c.args.out.now) s
     c.in-Ok.measured
     (g.I.Intake.failures c.args.measure.now) (g.I.Intake.failures c.measure_step.new.intake)
     (g.J.Intake.failures c.args.verify.now) (g.J.Intake.failures c.verify_step.new.intake)
     (g.K.Intake.failures c.args.write.now) (g.O.Outlet.failures c.args.out.now) c.in-Err-verify_step.fault
-    fits (told_at c.suite-suite.result s.suite (g.I.Intake.left c.args.measure.now) (g.I.Intake.failures c.args.measure.now) (g.I.Intake.failures c.measure_step.new.intake) (Ok c.in-Ok.measured) c.suite-suite.ensures c.in-Ok.ensures.told) c.in-Err-verify_step.ensures.told
+    fits (told_at c.suite-suite.result s.suite (g.I.Intake.left c.args.measure.now)
+    (g.I.Intake.failures c.args.measure.now) (g.I.Intake.failures c.measure_step.new.intake)
+    (Ok c.in-Ok.measured) c.suite-suite.ensures c.in-Ok.ensures.told) c.in-Err-verify_step.ensures.told
 
 pub returns-in-Ok-verify_step-clause-opens : goal.returns-in-Ok-verify_step-clause-opens
 returns-in-Ok-verify_step-clause-opens g c =
     let s : Setting = setting (keyed_of c.args.cipher.now) c.args.nonce.now c.args.aad.now in
-    let fits : length s.aad ≤ aad_limit s.suite = omega (arith, c.aad_limit.ensures, ap aad_limit c.suite-suite.ensures) in
-    exit_write (g.I.Intake.left c.args.measure.now) (g.J.Intake.left c.args.verify.now) (g.K.Intake.left c.args.write.now)
+    let fits : length s.aad ≤ aad_limit s.suite =
+    omega (arith, c.aad_limit.ensures, ap aad_limit c.suite-suite.ensures) in
+    exit_write (g.I.Intake.left c.args.measure.now) (g.J.Intake.left c.args.verify.now)
+    (g.K.Intake.left c.args.write.now)
     (g.O.Outlet.taken c.args.out.now) (g.O.Outlet.taken c.write_step.new.outlet) s
     c.in-Ok.measured
     (g.I.Intake.failures c.args.measure.now) (g.I.Intake.failures c.measure_step.new.intake)
     (g.J.Intake.failures c.args.verify.now) (g.J.Intake.failures c.verify_step.new.intake)
     (g.K.Intake.failures c.args.write.now) (g.K.Intake.failures c.write_step.new.intake)
     (g.O.Outlet.failures c.args.out.now) (g.O.Outlet.failures c.write_step.new.outlet) c.write_step.result
-    fits (told_at c.suite-suite.result s.suite (g.I.Intake.left c.args.measure.now) (g.I.Intake.failures c.args.measure.now) (g.I.Intake.failures c.measure_step.new.intake) (Ok c.in-Ok.measured) c.suite-suite.ensures c.in-Ok.ensures.told) c.in-Ok-verify_step.ensures.told c.write_step.ensures.told
+    fits (told_at c.suite-suite.result s.suite (g.I.Intake.left c.args.measure.now)
+    (g.I.Intake.failures c.args.measure.now) (g.I.Intake.failures c.measure_step.new.intake)
+    (Ok c.in-Ok.measured) c.suite-suite.ensures c.in-Ok.ensures.told) c.in-Ok-verify_step.ensures.told
+    c.write_step.ensures.told

@@ -14,7 +14,11 @@ returns-in-Ok-true-clause-passed g c = λ t h.
     let more = c.in-Ok-true.ensures.more in
     let some = more.some c.in-Ok-true.field-0-test in
     all_more t _ _ _ _ _ _ _ _ _ _ q full more
-    (λ size. (omega (arith, size, some, length-append q.bytes more.bytes), λ fits. absurd (omega (arith, size, some, fits, length-append q.bytes more.bytes))))
+    (λ size. (
+      omega (arith, size, some, length-append q.bytes more.bytes),
+      λ fits.
+          absurd (omega (arith, size, some, fits, length-append q.bytes more.bytes)),
+    ))
 
 pub returns-in-Ok-false-clause-passed : goal.returns-in-Ok-false-clause-passed
 returns-in-Ok-false-clause-passed g c = λ t h.
@@ -23,7 +27,11 @@ returns-in-Ok-false-clause-passed g c = λ t h.
     let more = c.in-Ok-false.ensures.more in
     let none = more.none c.in-Ok-false.field-0-test in
     all_more t _ _ _ _ _ _ _ _ _ _ q full more
-    (λ size. ((omega (arith, q.count, ap length none.0, length-append q.bytes more.bytes), q.short), λ _. c.in-Ok-false.field-0-test))
+    (λ size. (
+      (omega (arith, q.count, ap length none.0, length-append q.bytes more.bytes), q.short),
+      λ _.
+          c.in-Ok-false.field-0-test,
+    ))
 
 pub returns-in-Err-has_more-clause-passed : goal.returns-in-Err-has_more-clause-passed
 returns-in-Err-has_more-clause-passed g c = λ t h.

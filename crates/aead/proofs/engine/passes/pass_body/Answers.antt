@@ -18,8 +18,10 @@ pub returns-in_err-n-clause-passed : goal.returns-in_err-n-clause-passed
 returns-in_err-n-clause-passed g c = λ t h.
     let w = c.loop-done.invariant.went t h in
     let q = c.in_err-n.ensures.passed t w.0 w.1.held in
-    let room : length (take c.min-want.result c.loop-done.buf) ≤ c.args.length - c.loop-done.done = grind (arith, common_steps) in
-    let fits : length w.0 + length (take c.min-want.result c.loop-done.buf) ≤ c.args.length = omega (arith, w.2, room) in
+    let room : length (take c.min-want.result c.loop-done.buf) ≤ c.args.length - c.loop-done.done =
+    grind (arith, common_steps) in
+    let fits : length w.0 + length (take c.min-want.result c.loop-done.buf) ≤ c.args.length =
+    omega (arith, w.2, room) in
     let p = err_from_is_err_and c.from_residual.result c.from_residual.ensures.1 in
     rw p.1 (stopped_more t [] w.0 _ _ _ _ _ _ _ _ _ w.1 q fits)
 
@@ -28,7 +30,8 @@ returns-then-n-want-clause-passed g c = λ t h.
     let w = c.loop-done.invariant.went t h in
     let q = c.in_ok-n.ensures.passed t w.0 w.1.held in
     let less : c.in_ok-n.n < length (take c.min-want.result c.loop-done.buf) = grind (arith, common_steps) in
-    let room : c.loop-done.done + length (take c.min-want.result c.loop-done.buf) ≤ c.args.length = grind (arith, common_steps) in
+    let room : c.loop-done.done + length (take c.min-want.result c.loop-done.buf) ≤ c.args.length =
+    grind (arith, common_steps) in
     far_more t w.0 _ _ _ _ _ _ _ _ _ _ _ _ w.1 w.2 q less room
 
 pub loop-done-preserved : goal.loop-done-preserved
@@ -38,8 +41,11 @@ loop-done-preserved g c = record {
   same_limit = c.pass_piece.ensures.limit ∙ c.loop-done.invariant.same_limit;
   went = λ t h.
       let w = c.loop-done.invariant.went t h in
-      let q = c.in_ok-n.ensures.passed t w.0 w.1.held in
-      (w.0 ++ q.bytes, went_more t [] w.0 q.bytes _ _ _ _ _ _ _ _ w.1 q.went, omega (arith, length-append w.0 q.bytes, q.count, w.2));
+      let q = c.in_ok-n.ensures.passed t w.0 w.1.held in (
+        w.0 ++ q.bytes,
+        went_more t [] w.0 q.bytes _ _ _ _ _ _ _ _ w.1 q.went,
+        omega (arith, length-append w.0 q.bytes, q.count, w.2),
+      );
   read = c.in_ok-n.ensures.blame.0 ∙ c.loop-done.invariant.read;
   wrote = c.in_ok-n.ensures.blame.1 ∙ c.loop-done.invariant.wrote;
 }

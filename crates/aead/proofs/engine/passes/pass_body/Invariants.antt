@@ -11,7 +11,8 @@ invariant-loop-done g l = record {
   same_limit : limit_of l.masking ≡ limit_of l.initial.masking;
   went : (t : Task) → HoldsAnyMasking l.initial.masking t [] →
       (bytes : List ℕ) × Went t [] (g.I.Intake.left l.initial.intake) (g.I.Intake.left l.intake)
-      (g.O.Outlet.taken l.initial.outlet) (g.O.Outlet.taken l.outlet) l.masking bytes × (length bytes ≡ l.done);
+      (g.O.Outlet.taken l.initial.outlet) (g.O.Outlet.taken l.outlet) l.masking bytes
+      × (length bytes ≡ l.done);
   read : g.I.Intake.failures l.intake ≡ g.I.Intake.failures l.initial.intake;
   wrote : g.O.Outlet.failures l.outlet ≡ g.O.Outlet.failures l.initial.outlet;
 }

@@ -1,4 +1,5 @@
-use Rattle.std.proofs.Common.{◌<◌, ℕ, List, [], ◌++◌, length, take, arith, refl, ◌∙◌, ap, subst, true≢false, length-append, sym}
+use Rattle.std.proofs.Common.{◌<◌, ℕ, List, [], ◌++◌, length, take, arith, refl, ◌∙◌, ap, subst, true≢false}
+use Rattle.std.proofs.Common.{length-append, sym}
 use Rattle.std.proofs.lemmas.List.{append-nil}
 use Rattle.std.proofs.lemmas.Grind.{common_steps}
 use Rattle.octets.proofs.Devices.{consumes_none, consumes_more}
@@ -53,7 +54,14 @@ returns-in-Ok-true-clause-taken g c = λ s h.
       bytes = w.0 ++ more.bytes;
       consumed = consumes_more _ _ _ w.0 more.bytes w.1 more.consumed;
       held = λ b. absurd (true≢false (sym b));
-      long = λ _. omega (arith, h.taken.length_is, c.room-room.ensures, length-append w.0 more.bytes, w.3, some);
+      long = λ _. omega (
+        arith,
+        h.taken.length_is,
+        c.room-room.ensures,
+        length-append w.0 more.bytes,
+        w.3,
+        some,
+      );
     }
 
 pub returns-in-Ok-false-clause-taken : goal.returns-in-Ok-false-clause-taken

@@ -10,7 +10,8 @@ invariant-loop-done g l = record {
   fed : l.absorb.authenticator.length ≡ l.initial.absorb.authenticator.length + l.done;
   same_limit : l.absorb.limit ≡ l.initial.absorb.limit;
   went : (s : Setting) → HoldsAbsorb l.initial.absorb s [] →
-      (bytes : List ℕ) × Consumes (g.I.Intake.left l.initial.intake) (g.I.Intake.left l.intake) bytes × HoldsAbsorb l.absorb s bytes × (length bytes ≡ l.done);
+      (bytes : List ℕ) × Consumes (g.I.Intake.left l.initial.intake) (g.I.Intake.left l.intake) bytes
+      × HoldsAbsorb l.absorb s bytes × (length bytes ≡ l.done);
   read : g.I.Intake.failures l.intake ≡ g.I.Intake.failures l.initial.intake;
 }
 

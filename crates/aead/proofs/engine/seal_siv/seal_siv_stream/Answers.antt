@@ -6,15 +6,22 @@ use Rattle.aead.proofs.engine.seal_siv.seal_siv_stream.Goals as goal
 pub returns-in-Err-clause-seals : goal.returns-in-Err-clause-seals
 returns-in-Err-clause-seals g c =
     let s : Setting = setting c.args.cipher.now c.args.nonce.now c.args.aad.now in
-    exit_refused (g.I.Intake.left c.args.first.now) (g.J.Intake.left c.args.second.now) (g.O.Outlet.taken c.args.out.now) s
-    (record { first = g.I.Intake.failures c.args.first.now; second = g.J.Intake.failures c.args.second.now; outlet = g.O.Outlet.failures c.args.out.now })
+    exit_refused (g.I.Intake.left c.args.first.now) (g.J.Intake.left c.args.second.now)
+    (g.O.Outlet.taken c.args.out.now) s
+    (record {
+      first = g.I.Intake.failures c.args.first.now;
+      second = g.J.Intake.failures c.args.second.now;
+      outlet = g.O.Outlet.failures c.args.out.now;
+    })
     c.in-Err.fault c.in-Err.ensures
 
 pub returns-in-Err-absorb_all-clause-seals : goal.returns-in-Err-absorb_all-clause-seals
 returns-in-Err-absorb_all-clause-seals g c =
     let s : Setting = setting c.args.cipher.now c.args.nonce.now c.args.aad.now in
-    exit_first (g.I.Intake.left c.args.first.now) (g.J.Intake.left c.args.second.now) (g.O.Outlet.taken c.args.out.now) s
-    (g.I.Intake.failures c.args.first.now) (g.I.Intake.failures c.absorb_all.new.intake) (g.J.Intake.failures c.args.second.now) (g.O.Outlet.failures c.args.out.now)
+    exit_first (g.I.Intake.left c.args.first.now) (g.J.Intake.left c.args.second.now)
+    (g.O.Outlet.taken c.args.out.now) s
+    (g.I.Intake.failures c.args.first.now) (g.I.Intake.failures c.absorb_all.new.intake)
+    (g.J.Intake.failures c.args.second.now) (g.O.Outlet.failures c.args.out.now)
     c.in-Err-absorb_all.fault c.in-Err-absorb_all.ensures.blame
 
 pub returns-in-Ok-false-clause-seals : goal.returns-in-Ok-false-clause-seals

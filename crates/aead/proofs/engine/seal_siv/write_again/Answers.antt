@@ -1,4 +1,5 @@
-use Rattle.std.proofs.Common.{◌≡◌, ℕ, List, [], length, take, refl, arith, inl, inr, sym, ◌∙◌, subst, Some, None, Option}
+use Rattle.std.proofs.Common.{◌≡◌, ℕ, List, [], length, take, refl, arith, inl, inr, sym, ◌∙◌, subst, Some}
+use Rattle.std.proofs.Common.{None, Option}
 use Rattle.std.proofs.lemmas.List.{take_all}
 use Rattle.std.specs.Io.KnownBytes.{Appends}
 use Rattle.octets.specs.Device.{Failed}
@@ -13,62 +14,94 @@ use Rattle.aead.proofs.engine.seal_siv.write_again.Goals as goal
 pub returns-in-Err-clause-written : goal.returns-in-Err-clause-written
 returns-in-Err-clause-written g c = λ s first h e.
     let none = fed_length _ _ _ h.masking in
-    let len : c.room-length.result ≡ length first = omega (arith, none, c.room-length.ensures, limit_is _ _ _ h.masking) in
+    let len : c.room-length.result ≡ length first =
+    omega (arith, none, c.room-length.ensures, limit_is _ _ _ h.masking) in
     let l : Option (List ℕ) = g.J.Intake.left c.args.intake.now in
     where_told l _ _
-    (told l (λ m. Stopped (repeating_task s first) [] c.room-length.result m (g.J.Intake.left c.pass_all.new.intake) (g.O.Outlet.taken c.args.outlet.now) (g.O.Outlet.taken c.pass_all.new.outlet))
+    (told l (λ m. Stopped (repeating_task s first) [] c.room-length.result m
+    (g.J.Intake.left c.pass_all.new.intake) (g.O.Outlet.taken c.args.outlet.now)
+    (g.O.Outlet.taken c.pass_all.new.outlet))
     (c.in-Err.ensures.passed (repeating_task s first) h.masking))
     (λ b w. again_stopped s first b c.room-length.result _ _ _ _ _ _ _ _ len w c.in-Err.ensures.blame)
 
 pub returns-in-Ok-None-clause-written : goal.returns-in-Ok-None-clause-written
 returns-in-Ok-None-clause-written g c = λ s first h e.
     let none = fed_length _ _ _ h.masking in
-    let len : c.room-length.result ≡ length first = omega (arith, none, c.room-length.ensures, limit_is _ _ _ h.masking) in
+    let len : c.room-length.result ≡ length first =
+    omega (arith, none, c.room-length.ensures, limit_is _ _ _ h.masking) in
     let l : Option (List ℕ) = g.J.Intake.left c.args.intake.now in
-    let went = rw c.in-Ok-None.field-0-is at (c.in-Ok-None.ensures.passed (repeating_task s first) h.masking) in
+    let went = rw c.in-Ok-None.field-0-is at (c.in-Ok-None.ensures.passed (repeating_task s first) h.masking)
+    in
     where_told l _ _
-    (told l (λ m. WentAll (repeating_task s first) c.room-length.result m (g.J.Intake.left c.pass_all.new.intake) (g.O.Outlet.taken c.args.outlet.now) (g.O.Outlet.taken c.pass_all.new.outlet) c.pass_all.new.masking None) went)
+    (told l (λ m. WentAll (repeating_task s first) c.room-length.result m
+    (g.J.Intake.left c.pass_all.new.intake) (g.O.Outlet.taken c.args.outlet.now)
+    (g.O.Outlet.taken c.pass_all.new.outlet) c.pass_all.new.masking None) went)
     (λ b w. again_long s first b c.room-length.result _ _ _ _ _ _ _ _ len w c.in-Ok-None.ensures.blame)
 
 pub returns-in-Err-finish-clause-written : goal.returns-in-Err-finish-clause-written
 returns-in-Err-finish-clause-written g c = λ s first h e.
     let none = fed_length _ _ _ h.masking in
-    let len : c.room-length.result ≡ length first = omega (arith, none, c.room-length.ensures, limit_is _ _ _ h.masking) in
+    let len : c.room-length.result ≡ length first =
+    omega (arith, none, c.room-length.ensures, limit_is _ _ _ h.masking) in
     let l : Option (List ℕ) = g.J.Intake.left c.args.intake.now in
-    let went = rw c.in-Ok-Some.field-0-is at (c.in-Ok-Some.ensures.passed (repeating_task s first) h.masking) in
+    let went = rw c.in-Ok-Some.field-0-is at (c.in-Ok-Some.ensures.passed (repeating_task s first) h.masking)
+    in
     where_told l _ _
-    (told l (λ m. WentAll (repeating_task s first) c.room-length.result m (g.J.Intake.left c.pass_all.new.intake) (g.O.Outlet.taken c.args.outlet.now) (g.O.Outlet.taken c.pass_all.new.outlet) c.pass_all.new.masking (Some c.in-Ok-Some.field-0-0)) went)
+    (told l (λ m. WentAll (repeating_task s first) c.room-length.result m
+    (g.J.Intake.left c.pass_all.new.intake) (g.O.Outlet.taken c.args.outlet.now)
+    (g.O.Outlet.taken c.pass_all.new.outlet) c.pass_all.new.masking (Some c.in-Ok-Some.field-0-0)) went)
     (λ b w. again_differs s first b c.room-length.result _ _ _ _ _ _ _ _ c.args.writer
-    (record { masking = c.pass_all.new.masking; tag = c.args.writer.tag }) _ len h refl w c.in-Ok-Some.ensures.blame
+    (record { masking = c.pass_all.new.masking; tag = c.args.writer.tag }) _ len h refl w
+    c.in-Ok-Some.ensures.blame
     (λ s' a t held. (refl, (c.in-Err-finish.ensures.answer s' a t held).1)))
 
 pub returns-in-Ok-give_all-clause-written : goal.returns-in-Ok-give_all-clause-written
 returns-in-Ok-give_all-clause-written g c = λ s first h e.
     let none = fed_length _ _ _ h.masking in
-    let len : c.room-length.result ≡ length first = omega (arith, none, c.room-length.ensures, limit_is _ _ _ h.masking) in
+    let len : c.room-length.result ≡ length first =
+    omega (arith, none, c.room-length.ensures, limit_is _ _ _ h.masking) in
     let l : Option (List ℕ) = g.J.Intake.left c.args.intake.now in
-    let went = rw c.in-Ok-Some.field-0-is at (c.in-Ok-Some.ensures.passed (repeating_task s first) h.masking) in
+    let went = rw c.in-Ok-Some.field-0-is at (c.in-Ok-Some.ensures.passed (repeating_task s first) h.masking)
+    in
     let size : length c.args.tag.now ≡ 16 = c.bytes.ensures.is_block.length_is in
-    let R : List ℕ → Type 0 = λ x. Appends (g.O.Outlet.taken c.pass_all.new.outlet) (g.O.Outlet.taken c.give_all.new.outlet) x in
+    let R : List ℕ → Type 0 =
+    λ x. Appends (g.O.Outlet.taken c.pass_all.new.outlet) (g.O.Outlet.taken c.give_all.new.outlet) x in
     where_told l _ _
-    (told l (λ m. WentAll (repeating_task s first) c.room-length.result m (g.J.Intake.left c.pass_all.new.intake) (g.O.Outlet.taken c.args.outlet.now) (g.O.Outlet.taken c.pass_all.new.outlet) c.pass_all.new.masking (Some c.in-Ok-Some.field-0-0)) went)
+    (told l (λ m. WentAll (repeating_task s first) c.room-length.result m
+    (g.J.Intake.left c.pass_all.new.intake) (g.O.Outlet.taken c.args.outlet.now)
+    (g.O.Outlet.taken c.pass_all.new.outlet) c.pass_all.new.masking (Some c.in-Ok-Some.field-0-0)) went)
     (λ b w. again_tag s first b c.args.tag.now c.room-length.result _ 16 _ _ _ _ _ _ _ _ c.args.writer
-    (record { masking = c.pass_all.new.masking; tag = c.args.writer.tag }) _ len h refl w c.in-Ok.ensures.answer e
-    (subst R (c.bytes.ensures.value ∙ sym (take_all 16 c.args.tag.now (omega (arith, size)))) c.in-Ok-give_all.ensures.bytes)
-    (inl (refl, omega (arith, size), c.in-Ok-Some.ensures.blame.0, c.in-Ok-give_all.ensures.count ∙ c.in-Ok-Some.ensures.blame.1)))
+    (record { masking = c.pass_all.new.masking; tag = c.args.writer.tag }) _ len h refl w
+    c.in-Ok.ensures.answer e
+    (subst R (c.bytes.ensures.value ∙ sym (take_all 16 c.args.tag.now (omega (arith, size))))
+    c.in-Ok-give_all.ensures.bytes)
+    (inl (
+      refl,
+      omega (arith, size),
+      c.in-Ok-Some.ensures.blame.0,
+      c.in-Ok-give_all.ensures.count
+          ∙ c.in-Ok-Some.ensures.blame.1,
+    )))
 
 pub returns-in-Err-give_all-clause-written : goal.returns-in-Err-give_all-clause-written
 returns-in-Err-give_all-clause-written g c = λ s first h e.
     let none = fed_length _ _ _ h.masking in
-    let len : c.room-length.result ≡ length first = omega (arith, none, c.room-length.ensures, limit_is _ _ _ h.masking) in
+    let len : c.room-length.result ≡ length first =
+    omega (arith, none, c.room-length.ensures, limit_is _ _ _ h.masking) in
     let l : Option (List ℕ) = g.J.Intake.left c.args.intake.now in
-    let went = rw c.in-Ok-Some.field-0-is at (c.in-Ok-Some.ensures.passed (repeating_task s first) h.masking) in
+    let went = rw c.in-Ok-Some.field-0-is at (c.in-Ok-Some.ensures.passed (repeating_task s first) h.masking)
+    in
     let given = c.in-Err-give_all.ensures.bytes in
-    let R : List ℕ → Type 0 = λ x. Appends (g.O.Outlet.taken c.pass_all.new.outlet) (g.O.Outlet.taken c.give_all.new.outlet) (take given.0 x) in
+    let R : List ℕ → Type 0 =
+    λ x. Appends (g.O.Outlet.taken c.pass_all.new.outlet) (g.O.Outlet.taken c.give_all.new.outlet)
+    (take given.0 x) in
     let F : ℕ → Type 0 = λ n. Failed n (g.O.Outlet.failures c.give_all.new.outlet) in
     where_told l _ _
-    (told l (λ m. WentAll (repeating_task s first) c.room-length.result m (g.J.Intake.left c.pass_all.new.intake) (g.O.Outlet.taken c.args.outlet.now) (g.O.Outlet.taken c.pass_all.new.outlet) c.pass_all.new.masking (Some c.in-Ok-Some.field-0-0)) went)
+    (told l (λ m. WentAll (repeating_task s first) c.room-length.result m
+    (g.J.Intake.left c.pass_all.new.intake) (g.O.Outlet.taken c.args.outlet.now)
+    (g.O.Outlet.taken c.pass_all.new.outlet) c.pass_all.new.masking (Some c.in-Ok-Some.field-0-0)) went)
     (λ b w. again_tag s first b c.args.tag.now c.room-length.result _ given.0 _ _ _ _ _ _ _ _ c.args.writer
-    (record { masking = c.pass_all.new.masking; tag = c.args.writer.tag }) _ len h refl w c.in-Ok.ensures.answer e
+    (record { masking = c.pass_all.new.masking; tag = c.args.writer.tag }) _ len h refl w
+    c.in-Ok.ensures.answer e
     (subst R c.bytes.ensures.value given.2)
     (inr (refl, subst F c.in-Ok-Some.ensures.blame.1 c.in-Err-give_all.ensures.count)))

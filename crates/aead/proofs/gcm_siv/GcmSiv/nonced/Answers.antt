@@ -7,5 +7,7 @@ use Rattle.aead.proofs.gcm_siv.GcmSiv.nonced.Goals as goal
 
 pub invariant_of-result-clause-multiplier_is : goal.invariant_of-result-clause-multiplier_is
 invariant_of-result-clause-multiplier_is g c =
-    let P : Keyed → Type 0 = λ k. IsReversedMulX (authentication_key k.key c.args.nonce.now) (g.M.Multiply.key_bytes c.args.multiplier) in
+    let P : Keyed → Type 0 =
+    λ k. IsReversedMulX (authentication_key k.key c.args.nonce.now)
+    (g.M.Multiply.key_bytes c.args.multiplier) in
     merely (subst P (sym c.self.view_is) c.requires.multiplier)

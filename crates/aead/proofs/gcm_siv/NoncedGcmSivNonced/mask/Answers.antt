@@ -4,4 +4,5 @@ use Rattle.aead.proofs.gcm_siv.NoncedGcmSivNonced.mask.Goals as goal
 pub returns-clause-made : goal.returns-clause-made
 returns-clause-made g c = λ aad.
     let m = c.args.self.now in
-    c.tag_mask.ensures (setting (record { suite = m.suite; key = m.key.now }) m.nonce.now aad) m.by_gcm_siv m.encryption_is
+    c.tag_mask.ensures (setting (record { suite = m.suite; key = m.key.now }) m.nonce.now aad) m.by_gcm_siv
+    m.encryption_is

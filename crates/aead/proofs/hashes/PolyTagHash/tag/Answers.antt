@@ -11,4 +11,5 @@ returns c = λ s m h fits is_aad is_bytes.
     let fed : List ℕ = pad16 (pad16 s.aad ++ m) in
     by_poly1305 s m _ _ _ h.0 is_aad is_bytes
     (c.finish.ensures.value k _ (c.update.ensures k fed h.1)
-    ∙ ap (λ z. poly1305 k (fed ++ z)) (c.joined.ensures ∙ ap₂ (λ x y. x ++ y) c.to_le_bytes.ensures c.to_le_bytes-2.ensures))
+    ∙ ap (λ z. poly1305 k (fed ++ z))
+    (c.joined.ensures ∙ ap₂ (λ x y. x ++ y) c.to_le_bytes.ensures c.to_le_bytes-2.ensures))

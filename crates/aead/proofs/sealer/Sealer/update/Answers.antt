@@ -6,7 +6,10 @@ pub returns-then-piece-room : goal.returns-then-piece-room
 returns-then-piece-room c = λ s text h.
     let m = h.masking [] in
     let long = fed_length _ _ text m in (
-      ((fed_within _ _ text m).aad_fits, omega (arith, length-append text c.args.piece.now, limit_is _ _ text m, long, c.room.ensures)),
+      (
+        (fed_within _ _ text m).aad_fits,
+        omega (arith, length-append text c.args.piece.now, limit_is _ _ text m, long, c.room.ensures),
+      ),
       refl,
       refl,
     )

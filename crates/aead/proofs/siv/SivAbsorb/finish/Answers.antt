@@ -8,14 +8,17 @@ use Rattle.aead.proofs.siv.SivAbsorb.finish.Goals as goal
 
 pub returns : goal.returns
 returns c = λ s text h.
-    let tag_is : c.finish-tag.result ≡ tag_of s text = c.finish-tag.ensures s text h.taken ∙ sym (two_pass_tag s text (ap is_one_pass h.by_gcm_siv)) in
+    let tag_is : c.finish-tag.result ≡ tag_of s text =
+    c.finish-tag.ensures s text h.taken ∙ sym (two_pass_tag s text (ap is_one_pass h.by_gcm_siv)) in
     let P : List ℕ → Type 0 = λ t. MadeByGcmSiv c.tag_mask-mask.result s t 0 in
     let made = subst P tag_is (c.tag_mask-mask.ensures s h.by_gcm_siv h.encryption_is) in
-    let fits : c.args.self.authenticator.length ≤ text_limit s.suite = omega (arith, h.taken.length_is, h.taken.fits.text_fits) in (
+    let fits : c.args.self.authenticator.length ≤ text_limit s.suite =
+    omega (arith, h.taken.length_is, h.taken.fits.text_fits) in (
       tag_is,
       record {
         by_gcm_siv = h.by_gcm_siv;
         tag_is = tag_is;
-        masking = at_limit _ _ _ _ _ _ s _ [] h.taken.length_is (c.new.ensures.holds s (tag_of s text) made h.begun fits);
+        masking = at_limit _ _ _ _ _ _ s _ [] h.taken.length_is
+            (c.new.ensures.holds s (tag_of s text) made h.begun fits);
       },
     )

@@ -6,7 +6,8 @@ use Rattle.vectors.proofs.comparison.ComparisonOutlet.give.Goals as goal
 pub overflow_add-self : goal.overflow_add-self
 overflow_add-self c =
     let old = c.args.self.now in
-    let fits = room_left (bytes_in old.expected) (bytes_in c.split_at.result.1) old.same c.equal_bytes-n.result old.within
+    let fits = room_left (bytes_in old.expected) (bytes_in c.split_at.result.1) old.same
+    c.equal_bytes-n.result old.within
     c.split_at.ensures.back c.equal_bytes-n.ensures.digits in
     let room = old.room in
     omega (arith, fits, room)

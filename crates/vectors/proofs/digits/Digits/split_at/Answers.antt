@@ -10,7 +10,8 @@ overflow_mul-count c =
     omega (arith, digits, range, c.requires)
 
 pub split_at-requires : goal.split_at-requires
-split_at-requires c = let digits = length-bytes_of c.args.self.text.now c.args.self.valid in omega (arith, digits, c.requires)
+split_at-requires c = let digits = length-bytes_of c.args.self.text.now c.args.self.valid in
+    omega (arith, digits, c.requires)
 
 pub invariant_of-result : goal.invariant_of-result
 invariant_of-result c =
@@ -30,10 +31,12 @@ pub returns-clause-front : goal.returns-clause-front
 returns-clause-front c =
     let text = c.args.self.text.now in
     let digits = length-bytes_of text c.args.self.valid in
-    ap bytes_of c.split_at.ensures.front ∙ front_bytes text c.args.count c.args.self.valid (omega (arith, digits, c.requires))
+    ap bytes_of c.split_at.ensures.front
+    ∙ front_bytes text c.args.count c.args.self.valid (omega (arith, digits, c.requires))
 
 pub returns-clause-back : goal.returns-clause-back
 returns-clause-back c =
     let text = c.args.self.text.now in
     let digits = length-bytes_of text c.args.self.valid in
-    ap bytes_of c.split_at.ensures.back ∙ back_bytes text c.args.count c.args.self.valid (omega (arith, digits, c.requires))
+    ap bytes_of c.split_at.ensures.back
+    ∙ back_bytes text c.args.count c.args.self.valid (omega (arith, digits, c.requires))

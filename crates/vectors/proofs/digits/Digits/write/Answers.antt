@@ -19,7 +19,8 @@ pub overflow_mul-room : goal.overflow_mul-room
 overflow_mul-room c =
     let text = c.args.self.text.now in
     let digits = length-bytes_of text c.args.self.valid in
-    let high = digit_at text (2 * c.bytes.i) c.args.self.valid (omega (arith, digits, c.requires, c.bytes.invariant.length_is, c.bytes-test.true)) in
+    let high = digit_at text (2 * c.bytes.i) c.args.self.valid
+    (omega (arith, digits, c.requires, c.bytes.invariant.length_is, c.bytes-test.true)) in
     let small = c.digit_value.ensures.small high in
     omega (arith, small)
 
@@ -27,8 +28,10 @@ pub overflow_add-room : goal.overflow_add-room
 overflow_add-room c =
     let text = c.args.self.text.now in
     let digits = length-bytes_of text c.args.self.valid in
-    let high = digit_at text (2 * c.bytes.i) c.args.self.valid (omega (arith, digits, c.requires, c.bytes.invariant.length_is, c.bytes-test.true)) in
-    let low = digit_at text (2 * c.bytes.i + 1) c.args.self.valid (omega (arith, digits, c.requires, c.bytes.invariant.length_is, c.bytes-test.true)) in
+    let high = digit_at text (2 * c.bytes.i) c.args.self.valid
+    (omega (arith, digits, c.requires, c.bytes.invariant.length_is, c.bytes-test.true)) in
+    let low = digit_at text (2 * c.bytes.i + 1) c.args.self.valid
+    (omega (arith, digits, c.requires, c.bytes.invariant.length_is, c.bytes-test.true)) in
     let small = c.digit_value.ensures.small high in
     let smaller = c.digit_value-in-bytes.ensures.small low in
     omega (arith, small, smaller)
@@ -41,12 +44,18 @@ bytes-preserved c =
     let within : c.bytes.i < length (bytes_of text) = omega (arith, c.requires, size, c.bytes-test.true) in
     let high = digit_at text (2 * c.bytes.i) c.args.self.valid (omega (arith, digits, within)) in
     let low = digit_at text (2 * c.bytes.i + 1) c.args.self.valid (omega (arith, digits, within)) in
-    let byte = byte_at text c.bytes.i c.digit_value.result c.digit_value-in-bytes.result c.args.self.valid within
+    let byte = byte_at text c.bytes.i c.digit_value.result c.digit_value-in-bytes.result c.args.self.valid
+    within
     (c.digit_value.ensures.value high) (c.digit_value-in-bytes.ensures.value low) in
     let written : c.bytes.i < length c.bytes.room = omega (arith, c.bytes-test.true, size) in
-    record { length_is = grind (arith, common_steps, size); done = written_more (bytes_of text) c.bytes.room c.bytes.i _ written byte c.bytes.invariant.done }
+    record {
+      length_is = grind (arith, common_steps, size);
+      done =
+          written_more (bytes_of text) c.bytes.room c.bytes.i _ written byte c.bytes.invariant.done;
+    }
 
 pub returns : goal.returns
 returns c =
     let size = c.bytes.invariant.length_is in
-    same_number_lists c.bytes.room (bytes_in c.args.self) (size ∙ c.requires) (λ k l. c.bytes.invariant.done k (omega (arith, size, l, c.bytes-test.false)))
+    same_number_lists c.bytes.room (bytes_in c.args.self) (size ∙ c.requires)
+    (λ k l. c.bytes.invariant.done k (omega (arith, size, l, c.bytes-test.false)))

@@ -1,4 +1,5 @@
-use Rattle.std.proofs.Common.{◌≡◌, ◌++◌, take, length, ℕ, ◌+◌, arith, inl, inr, refl, ◌∙◌, length-append, replicate, subst}
+use Rattle.std.proofs.Common.{◌≡◌, ◌++◌, take, length, ℕ, ◌+◌, arith, inl, inr, refl, ◌∙◌, length-append}
+use Rattle.std.proofs.Common.{replicate, subst}
 use Rattle.std.proofs.lemmas.Grind.{common_steps}
 use Rattle.octets.specs.Device.{Failed}
 use Rattle.std.proofs.lemmas.List.{length-take}
@@ -21,30 +22,44 @@ pub returns-then-length-limit : goal.returns-then-length-limit
 returns-then-length-limit g c =
     let i = c.loop-n.invariant in
     let x = take c.in-Ok.n c.fill.new.buf in
-    let size : length x ≡ c.in-Ok.n = omega (arith, length-take c.in-Ok.n c.fill.new.buf, c.in-Ok.ensures.bound) in
+    let size : length x ≡ c.in-Ok.n =
+    omega (arith, length-take c.in-Ok.n c.fill.new.buf, c.in-Ok.ensures.bound) in
     record {
       bytes = i.bytes ++ x;
       consumed = consumes_more _ _ _ i.bytes x i.consumed c.in-Ok.ensures.bytes.0;
-      cause = inl (refl, omega (arith, length-append i.bytes x, size, i.count), c.in-Ok.ensures.count ∙ i.read);
+      cause = inl (
+        refl,
+        omega (arith, length-append i.bytes x, size, i.count),
+        c.in-Ok.ensures.count
+            ∙ i.read,
+      );
     }
 
 pub returns-then-length-lt16 : goal.returns-then-length-lt16
 returns-then-length-lt16 g c =
     let i = c.loop-n.invariant in
     let x = take c.in-Ok.n c.fill.new.buf in
-    let size : length x ≡ c.in-Ok.n = omega (arith, length-take c.in-Ok.n c.fill.new.buf, c.in-Ok.ensures.bound) in
+    let size : length x ≡ c.in-Ok.n =
+    omega (arith, length-take c.in-Ok.n c.fill.new.buf, c.in-Ok.ensures.bound) in
     record {
       bytes = i.bytes ++ x;
       consumed = consumes_more _ _ _ i.bytes x i.consumed c.in-Ok.ensures.bytes.0;
-      cause = inr (inl (refl, omega (arith, length-append i.bytes x, size, i.count), c.in-Ok.ensures.bytes.1 (grind (arith, common_steps)), c.in-Ok.ensures.count ∙ i.read));
+      cause = inr (inl (
+        refl,
+        omega (arith, length-append i.bytes x, size, i.count),
+        c.in-Ok.ensures.bytes.1 (grind (arith, common_steps)),
+        c.in-Ok.ensures.count ∙ i.read,
+      ));
     }
 
 pub returns-then-n-lt4096 : goal.returns-then-n-lt4096
 returns-then-n-lt4096 g c =
     let i = c.loop-n.invariant in
     let x = take c.in-Ok.n c.fill.new.buf in
-    let size : length x ≡ c.in-Ok.n = omega (arith, length-take c.in-Ok.n c.fill.new.buf, c.in-Ok.ensures.bound) in
-    let all : length (i.bytes ++ x) ≡ c.loop-n.length + c.in-Ok.n = omega (arith, length-append i.bytes x, size, i.count) in (
+    let size : length x ≡ c.in-Ok.n =
+    omega (arith, length-take c.in-Ok.n c.fill.new.buf, c.in-Ok.ensures.bound) in
+    let all : length (i.bytes ++ x) ≡ c.loop-n.length + c.in-Ok.n =
+    omega (arith, length-append i.bytes x, size, i.count) in (
       record {
         bytes = i.bytes ++ x;
         consumed = consumes_more _ _ _ i.bytes x i.consumed c.in-Ok.ensures.bytes.0;
@@ -52,7 +67,8 @@ returns-then-n-lt4096 g c =
         low = omega (arith, all);
         high = omega (arith, all);
         count = omega (arith, all);
-        last = c.new.ensures.value ∙ last_more (replicate 16 0) i.bytes x _ _ i.last c.slide.ensures ∙ last_whole (replicate 16 0) (i.bytes ++ x) (omega (arith, all));
+        last = c.new.ensures.value ∙ last_more (replicate 16 0) i.bytes x _ _ i.last c.slide.ensures
+            ∙ last_whole (replicate 16 0) (i.bytes ++ x) (omega (arith, all));
       },
       c.in-Ok.ensures.count ∙ i.read,
     )
@@ -61,7 +77,8 @@ pub loop-n-preserved : goal.loop-n-preserved
 loop-n-preserved g c =
     let i = c.loop-n.invariant in
     let x = take c.in-Ok.n c.fill.new.buf in
-    let size : length x ≡ c.in-Ok.n = omega (arith, length-take c.in-Ok.n c.fill.new.buf, c.in-Ok.ensures.bound) in
+    let size : length x ≡ c.in-Ok.n =
+    omega (arith, length-take c.in-Ok.n c.fill.new.buf, c.in-Ok.ensures.bound) in
     record {
       in_range = omega arith;
       bytes = i.bytes ++ x;
