@@ -1,0 +1,67 @@
+#!/bin/sh
+# Refuses each request for memory of the built program in turn, those of its reading of the words too: refuse.sh PROGRAM
+# The answer has to be 'aeadkit: OutOfMemory' with status 4, and OUT not made, until a run asks for no more than is given;
+# then it is the right one. It prints a line for each command, how many requests were refused, and wants cc.
+set -eu
+program=$(realpath "$1")
+cd "$(dirname "$0")"
+room=$(mktemp -d)
+trap 'rm -rf "$room"' EXIT
+cc -O2 -Wall -Wextra -shared -fPIC -o "$room/refuse.so" refuse.c -ldl
+printf 'hello' > "$room/in"
+key=000102030405060708090a0b0c0d0e0f
+nonce=000102030405060708090a0b
+"$program" seal-file --suite aes-128-gcm --key $key --nonce $nonce --in "$room/in" --out "$room/sealed"
+cat > "$room/vectors" <<END
+format = 1
+suite = aes-128-wrap
+key = $key
+sealed = 1fa68b0a8112b447aef34bd8fb5a7b829d3e862371d2cfe5
+text = 00112233445566778899aabbccddeeff
+END
+
+# What a run answers with request number $1 refused: its status, its two outputs, and whether OUT was made.
+answer() {
+    rm -f "$room/out"
+    number=$1
+    shift
+    status=0
+    REFUSE=$number LD_PRELOAD="$room/refuse.so" "$program" "$@" > "$room/answer" 2> "$room/fault" || status=$?
+    echo "status $status"
+    cat "$room/answer" "$room/fault"
+    [ ! -e "$room/out" ] || echo "OUT was made"
+}
+
+tried() {
+    right=$(answer 0 "$@")
+    refused=0
+    number=1
+    same=0
+    # After twenty requests more than were ever made, no request is left.
+    while [ $same -lt 20 ]; do
+        found=$(answer $number "$@")
+        if [ "$found" = "$right" ]; then
+            same=$((same + 1))
+        elif [ "$found" = "$(printf 'status 4\naeadkit: OutOfMemory')" ]; then
+            refused=$((refused + 1))
+            same=0
+        else
+            echo "aeadkit $*: with request $number refused it answers: $found" >&2
+            exit 1
+        fi
+        number=$((number + 1))
+    done
+    [ $refused -gt 0 ] || { echo "aeadkit $*: no request was refused" >&2; exit 1; }
+    echo "ok: aeadkit ${1:-} ($refused requests)"
+}
+tried
+tried help seal
+tried wrap --key $key --text 00112233445566778899aabbccddeeff
+tried unwrap --key $key --sealed 1fa68b0a8112b447aef34bd8fb5a7b829d3e862371d2cfe5
+tried wrap --key $key --text 0011223344 --pad
+tried seal --suite aes-128-gcm-siv --key $key --nonce $nonce --text 00 --aad 01
+tried open --suite aes-128-gcm --key 00000000000000000000000000000000 --nonce 000000000000000000000000 \
+    --sealed 58e2fccefa7e3061367f1d57a4e7455a
+tried seal-file --suite aes-128-gcm --key $key --nonce $nonce --in "$room/in" --out "$room/out"
+tried open-file --suite aes-128-gcm --key $key --nonce $nonce --in "$room/sealed" --out "$room/out"
+tried check "$room/vectors"
