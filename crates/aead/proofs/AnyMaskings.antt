@@ -2,10 +2,9 @@
 use Rattle.std.proofs.Common.{◌≡◌, ℕ, ◌≤◌, List, length}
 use Rattle.gf128.specs.States.{key_of}
 use Rattle.aead.specs.declared.any_masking.AnyMasking.{AnyMasking}
-use Rattle.aead.specs.declared.any_masking.AnyMasking.TheVariants.{ByChaCha, ByGcm, ByGcmSiv}
+use Rattle.aead.specs.declared.any_masking.AnyMasking.TheVariants.{ByChaCha, ByGcm}
 use Rattle.aead.specs.Suites.{text_limit, aad_limit}
-use Rattle.aead.specs.Code.States.{MadeByChaCha, MadeByGcm, MadeByGcmSiv, HeldByPoly, HeldByGhash}
-use Rattle.aead.specs.Code.States.{HeldByPolyval}
+use Rattle.aead.specs.Code.States.{MadeByChaCha, MadeByGcm, HeldByPoly, HeldByGhash}
 use Rattle.aead.specs.Code.Maskings.{Task}
 use Rattle.aead.specs.Code.AnyMaskings.{HoldsAnyMasking, count_of, limit_of}
 use Rattle.aead.proofs.Maskings.{length_fed}
@@ -15,13 +14,11 @@ pub fed_length : (k : AnyMasking) (t : Task) (fed : List ℕ) → HoldsAnyMaskin
     → count_of k ≡ length fed
 fed_length (ByChaCha k) t fed h = length_fed MadeByChaCha HeldByPoly k t fed h
 fed_length (ByGcm k) t fed h = length_fed MadeByGcm (HeldByGhash key_of) k t fed h
-fed_length (ByGcmSiv k) t fed h = length_fed MadeByGcmSiv (HeldByPolyval key_of) k t fed h
 
 -- their limit
 pub limit_is : (k : AnyMasking) (t : Task) (fed : List ℕ) → HoldsAnyMasking k t fed → limit_of k ≡ t.limit
 limit_is (ByChaCha k) t fed h = h.limit_is
 limit_is (ByGcm k) t fed h = h.limit_is
-limit_is (ByGcmSiv k) t fed h = h.limit_is
 
 -- they and their associated data are within the limits
 pub record Within (t : Task) (fed : List ℕ) : Type 0 where
@@ -33,6 +30,4 @@ pub fed_within : (k : AnyMasking) (t : Task) (fed : List ℕ) → HoldsAnyMaskin
 fed_within (ByChaCha k) t fed h =
     record { aad_fits = h.taken.fits.aad_fits; within = h.within; limit_fits = h.limit_fits }
 fed_within (ByGcm k) t fed h =
-    record { aad_fits = h.taken.fits.aad_fits; within = h.within; limit_fits = h.limit_fits }
-fed_within (ByGcmSiv k) t fed h =
     record { aad_fits = h.taken.fits.aad_fits; within = h.within; limit_fits = h.limit_fits }

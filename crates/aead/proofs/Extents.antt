@@ -6,19 +6,18 @@ use Rattle.std.proofs.lemmas.List.{take_all, take_at, take-append-le}
 use Rattle.octets.specs.Masked.{masked}
 use Rattle.octets.proofs.Devices.{consumes_more}
 use Rattle.octets.proofs.Masks.{take-masked}
-use Rattle.aead.specs.declared.any_masking.AnyMasking.{AnyMasking}
 use Rattle.aead.specs.Code.Maskings.{Task, task_mask}
-use Rattle.aead.specs.Code.AnyMaskings.{HoldsAnyMasking}
 use Rattle.aead.specs.Code.Passes.{WentFar, Stopped}
 use Rattle.aead.specs.Code.Extents.{IsExtent, WentAll, More}
 use Rattle.aead.proofs.Findings.{front_of}
 
 -- the reading ended before the length
-pub all_short : (t : Task) (len n : ℕ) (l l' o o' : Option (List ℕ)) (k : AnyMasking)
-    → WentFar t [] len l l' o o' k n → n < len → WentAll t len l l' o o' k (Some n)
-all_short t len n l l' o o' k q less =
+pub all_short : {M : Type 0} (holds : M → Task → List ℕ → Type 0) (t : Task) (len n : ℕ)
+    (l l' o o' : Option (List ℕ)) (k : M)
+    → WentFar holds t [] len l l' o o' k n → n < len → WentAll holds t len l l' o o' k (Some n)
+all_short holds t len n l l' o o' k q less =
     let P : List ℕ → Type 0 = λ b. Appends o o' (masked (task_mask t) 0 b) in
-    let Q : List ℕ → Type 0 = λ b. HoldsAnyMasking k t b in
+    let Q : List ℕ → Type 0 = λ b. holds k t b in
     let all : take len q.bytes ≡ q.bytes = take_all len q.bytes (omega (arith, q.count, less)) in
     record {
       bytes = q.bytes;
@@ -30,15 +29,16 @@ all_short t len n l l' o o' k q less =
     }
 
 -- it came to the length, and then there was more or not
-pub all_more : (t : Task) (len n : ℕ) (l l' l'' o o' : Option (List ℕ)) (k : AnyMasking) (extent : Option ℕ)
-    (b : Bool) → (q : WentFar t [] len l l' o o' k n) → len ≤ n →
+pub all_more : {M : Type 0} (holds : M → Task → List ℕ → Type 0) (t : Task) (len n : ℕ)
+    (l l' l'' o o' : Option (List ℕ)) (k : M) (extent : Option ℕ) (b : Bool)
+    → (q : WentFar holds t [] len l l' o o' k n) → len ≤ n →
     (more : More l' l'' b) →
     (length q.bytes ≡ len → IsExtent len (q.bytes ++ more.bytes) extent
     × (length (q.bytes ++ more.bytes) ≤ len → b ≡ false)) →
-    WentAll t len l l'' o o' k extent
-all_more t len n l l' l'' o o' k extent b q full more found =
+    WentAll holds t len l l'' o o' k extent
+all_more holds t len n l l' l'' o o' k extent b q full more found =
     let P : List ℕ → Type 0 = λ b. Appends o o' (masked (task_mask t) 0 b) in
-    let Q : List ℕ → Type 0 = λ b. HoldsAnyMasking k t b in
+    let Q : List ℕ → Type 0 = λ b. holds k t b in
     let size : length q.bytes ≡ len = omega (arith, q.count, q.short, full) in
     let front : take len (q.bytes ++ more.bytes) ≡ q.bytes = take_at q.bytes more.bytes len size in
     record {
@@ -51,9 +51,9 @@ all_more t len n l l' l'' o o' k extent b q full more found =
     }
 
 -- a device failed as it was asked for more
-pub all_stopped : (t : Task) (len n : ℕ) (l l' l'' o o' : Option (List ℕ)) (k : AnyMasking) (y : List ℕ) →
-    WentFar t [] len l l' o o' k n → Consumes l' l'' y → Stopped t [] len l l'' o o'
-all_stopped t len n l l' l'' o o' k y q more =
+pub all_stopped : {M : Type 0} (holds : M → Task → List ℕ → Type 0) (t : Task) (len n : ℕ)
+    (l l' l'' o o' : Option (List ℕ)) (k : M) (y : List ℕ) → WentFar holds t [] len l l' o o' k n → Consumes l' l'' y → Stopped t [] len l l'' o o'
+all_stopped holds t len n l l' l'' o o' k y q more =
     let P : List ℕ → Type 0 = λ b. Appends o o' b in
     let same : take (length q.bytes) (masked (task_mask t) 0 (q.bytes ++ y))
     ≡ masked (task_mask t) 0 q.bytes =
@@ -77,13 +77,13 @@ extent_of len x y None p q h = q
 extent_of len x y (Some n) p q h = absurd (omega (arith, p, h.0, h.1))
 
 -- what was given and is held, in the reading's own bytes
-pub all_told : (t : Task) (len : ℕ) (x : List ℕ) (l' o o' : Option (List ℕ)) (k : AnyMasking) (e : Option ℕ)
-    → WentAll t len (Some x) l' o o' k e →
-    Appends o o' (masked (task_mask t) 0 (take len x)) × HoldsAnyMasking k t (take len x) × IsExtent len x e
-all_told t len x None o o' k e w = absurd w.consumed
-all_told t len x (Some rest) o o' k e w =
+pub all_told : {M : Type 0} (holds : M → Task → List ℕ → Type 0) (t : Task) (len : ℕ) (x : List ℕ)
+    (l' o o' : Option (List ℕ)) (k : M) (e : Option ℕ) → WentAll holds t len (Some x) l' o o' k e →
+    Appends o o' (masked (task_mask t) 0 (take len x)) × holds k t (take len x) × IsExtent len x e
+all_told holds t len x None o o' k e w = absurd w.consumed
+all_told holds t len x (Some rest) o o' k e w =
     let P : List ℕ → Type 0 = λ b. Appends o o' (masked (task_mask t) 0 b) in
-    let Q : List ℕ → Type 0 = λ b. HoldsAnyMasking k t b in
+    let Q : List ℕ → Type 0 = λ b. holds k t b in
     let R : List ℕ → Type 0 = λ b. IsExtent len b e in
     elim (front_of x w.bytes rest len w.consumed w.end) [
       | inl same ↦

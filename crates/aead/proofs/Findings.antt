@@ -11,17 +11,15 @@ use Rattle.std.proofs.lemmas.Slice.Eq.{bytes_eq-Decides}
 use Rattle.octets.specs.Masked.{masked}
 use Rattle.octets.proofs.Devices.{consumes_more}
 use Rattle.octets.proofs.Masks.{take-masked}
-use Rattle.aead.specs.declared.any_masking.AnyMasking.{AnyMasking}
+use Rattle.aead.specs.declared.masking.Masking.{Masking}
 use Rattle.aead.specs.declared.engine.passes.Finding.{Finding}
 use Rattle.aead.specs.declared.engine.passes.Finding.TheVariants.{Differs, Unsealed, Sealed}
 use Rattle.aead.specs.Suites.{construction_of, is_one_pass}
 use Rattle.aead.specs.Sealing.{Setting, Fits, Opened, IsNoSealing, mask_of, tag_of, tag_over}
 use Rattle.aead.specs.Code.States.{authenticated}
-use Rattle.aead.specs.Code.AnyMaskings.{HoldsAnyMasking}
-use Rattle.aead.specs.Code.Maskings.{opening_task}
+use Rattle.aead.specs.Code.Maskings.{Task, HoldsMasking, opening_task}
 use Rattle.aead.specs.Code.Passes.{WentFar, Stopped}
 use Rattle.aead.specs.Code.Findings.{IsFinding, WentWhole, Tail}
-use Rattle.aead.proofs.AnyMaskings.{fed_within}
 use Rattle.aead.proofs.Opens.{unmasked, no_sealing, opened_as, body_tag, two_pass_tag}
 
 -- the tag that an opening makes is that of what the body would open to
@@ -37,10 +35,12 @@ opening_tag s tag body =
     ]
 
 -- the lengths that an opening was fed are allowed
-pub opening_fits : (k : AnyMasking) (s : Setting) (tag body : List ℕ)
-    → HoldsAnyMasking k (opening_task s tag) body → Fits s body
-opening_fits k s tag body h = let w = fed_within _ _ _ h in
-    record { aad_fits = w.aad_fits; text_fits = omega (arith, w.within, w.limit_fits) }
+pub opening_fits : {S H : Type 0} (made : S → Setting → List ℕ → ℕ → Type 0)
+    (held : H → Setting → List ℕ → Type 0)
+    (k : Masking S H) (s : Setting) (tag body : List ℕ)
+    → HoldsMasking made held k (opening_task s tag) body → Fits s body
+opening_fits made held k s tag body h =
+    record { aad_fits = h.taken.fits.aad_fits; text_fits = omega (arith, h.within, h.limit_fits) }
 
 -- ---- what was found of a body and what came after it
 
@@ -75,11 +75,12 @@ unsealed_found s tag body y len long size equal other =
 -- ---- a whole pass
 
 -- the reading ended within the body
-pub whole_short : (s : Setting) (tag : List ℕ) (len n : ℕ) (l l' o o' : Option (List ℕ)) (k : AnyMasking)
+pub whole_short : {M : Type 0} (holds : M → Task → List ℕ → Type 0) (s : Setting) (tag : List ℕ)
+    (len n : ℕ) (l l' o o' : Option (List ℕ)) (k : M)
     → length tag ≡ 16 →
-    WentFar (opening_task s tag) [] (len - 16) l l' o o' k n → n < len - 16
+    WentFar holds (opening_task s tag) [] (len - 16) l l' o o' k n → n < len - 16
     → WentWhole s tag len l l' o o' Differs
-whole_short s tag len n l l' o o' k size q less =
+whole_short holds s tag len n l l' o o' k size q less =
     let P : List ℕ → Type 0 = λ b. Appends o o' (masked (mask_of s tag) 0 b) in
     let all : length q.bytes ≤ len - 16 = omega (arith, q.count, less) in
     let no_tail : drop (len - 16) q.bytes ≡ [] = drop_all (len - 16) q.bytes all in
@@ -92,13 +93,13 @@ whole_short s tag len n l l' o o' k size q less =
     }
 
 -- the body came whole, and then a tail
-pub whole_tail : (s : Setting) (tag : List ℕ) (len n : ℕ) (l l' l'' o o' : Option (List ℕ)) (k : AnyMasking)
-    (b : Bool) (f : Finding) → 16 ≤ len →
-    (q : WentFar (opening_task s tag) [] (len - 16) l l' o o' k n) → len - 16 ≤ n
+pub whole_tail : {M : Type 0} (holds : M → Task → List ℕ → Type 0) (s : Setting) (tag : List ℕ)
+    (len n : ℕ) (l l' l'' o o' : Option (List ℕ)) (k : M) (b : Bool) (f : Finding) → 16 ≤ len →
+    (q : WentFar holds (opening_task s tag) [] (len - 16) l l' o o' k n) → len - 16 ≤ n
     → (tail : Tail tag l' l'' b) →
     (length q.bytes ≡ len - 16 → IsFinding s tag len (q.bytes ++ tail.bytes) f)
     → WentWhole s tag len l l'' o o' f
-whole_tail s tag len n l l' l'' o o' k b f low q full tail found =
+whole_tail holds s tag len n l l' l'' o o' k b f low q full tail found =
     let P : List ℕ → Type 0 = λ b. Appends o o' (masked (mask_of s tag) 0 b) in
     let size : length q.bytes ≡ len - 16 = omega (arith, q.count, q.short, full) in
     record {
@@ -110,11 +111,11 @@ whole_tail s tag len n l l' l'' o o' k b f low q full tail found =
     }
 
 -- the body came whole, and then a device failed
-pub stopped_tail : (s : Setting) (tag : List ℕ) (len n : ℕ) (l l' l'' o o' : Option (List ℕ))
-    (k : AnyMasking) (y : List ℕ) →
-    WentFar (opening_task s tag) [] (len - 16) l l' o o' k n → Consumes l' l'' y
+pub stopped_tail : {M : Type 0} (holds : M → Task → List ℕ → Type 0) (s : Setting) (tag : List ℕ)
+    (len n : ℕ) (l l' l'' o o' : Option (List ℕ)) (k : M) (y : List ℕ) →
+    WentFar holds (opening_task s tag) [] (len - 16) l l' o o' k n → Consumes l' l'' y
     → Stopped (opening_task s tag) [] (len - 16) l l'' o o'
-stopped_tail s tag len n l l' l'' o o' k y q more =
+stopped_tail holds s tag len n l l' l'' o o' k y q more =
     let P : List ℕ → Type 0 = λ b. Appends o o' b in
     let same : take (length q.bytes) (masked (mask_of s tag) 0 (q.bytes ++ y))
     ≡ masked (mask_of s tag) 0 q.bytes =

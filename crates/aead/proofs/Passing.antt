@@ -7,9 +7,7 @@ use Rattle.std.specs.Io.KnownBytes.{Consumes, Appends}
 use Rattle.octets.specs.Masked.{masked}
 use Rattle.octets.proofs.Devices.{consumes_none, consumes_more, appends_none, appends_more}
 use Rattle.octets.proofs.Masks.{length-masked, masked-append}
-use Rattle.aead.specs.declared.any_masking.AnyMasking.{AnyMasking}
 use Rattle.aead.specs.Code.Maskings.{Task, task_mask}
-use Rattle.aead.specs.Code.AnyMaskings.{HoldsAnyMasking}
 use Rattle.aead.specs.Code.Passes.{Went, WentFar, Stopped}
 
 -- what holds of the places of two lists holds of both joined
@@ -20,11 +18,11 @@ small-append (b ∷ x) y p q zero = p 0
 small-append (b ∷ x) y p q (suc i) = small-append x y (λ j. p (suc j)) q i
 
 -- nothing yet
-pub went_none : (t : Task) (fed : List ℕ) (l o : Option (List ℕ)) (k : AnyMasking) → HoldsAnyMasking k t fed
-    → Went t fed l l o o k []
+pub went_none : {M : Type 0} (holds : M → Task → List ℕ → Type 0) (t : Task) (fed : List ℕ)
+    (l o : Option (List ℕ)) (k : M) → holds k t fed → Went holds t fed l l o o k []
 unfolding masked
-went_none t fed l o k h =
-    let P : List ℕ → Type 0 = λ b. HoldsAnyMasking k t b in
+went_none holds t fed l o k h =
+    let P : List ℕ → Type 0 = λ b. holds k t b in
     record {
       consumed = consumes_none l;
       given = appends_none o;
@@ -40,10 +38,12 @@ two_masked t fed x y =
     masked-append (task_mask t) (length fed) x y
     ∙ ap (λ i. masked (task_mask t) (length fed) x ++ masked (task_mask t) i y) (sym (length-append fed x))
 
-pub went_more : (t : Task) (fed x y : List ℕ) (l l' l'' o o' o'' : Option (List ℕ)) (k k' : AnyMasking) →
-    Went t fed l l' o o' k x → Went t (fed ++ x) l' l'' o' o'' k' y → Went t fed l l'' o o'' k' (x ++ y)
-went_more t fed x y l l' l'' o o' o'' k k' p q =
-    let P : List ℕ → Type 0 = λ b. HoldsAnyMasking k' t b in
+pub went_more : {M N : Type 0} (first : M → Task → List ℕ → Type 0) (second : N → Task → List ℕ → Type 0)
+    (t : Task) (fed x y : List ℕ) (l l' l'' o o' o'' : Option (List ℕ)) (k : M) (k' : N) →
+    Went first t fed l l' o o' k x → Went second t (fed ++ x) l' l'' o' o'' k' y
+    → Went second t fed l l'' o o'' k' (x ++ y)
+went_more first second t fed x y l l' l'' o o' o'' k k' p q =
+    let P : List ℕ → Type 0 = λ b. second k' t b in
     let Q : List ℕ → Type 0 = λ b. Appends o o'' b in
     let R : List ℕ → Type 0 = λ b. (i : ℕ) → get_or b i 0 < 256 in
     record {
@@ -53,11 +53,11 @@ went_more t fed x y l l' l'' o o' o'' k k' p q =
       small = subst R (sym (two_masked t fed x y)) (small-append _ _ p.small q.small);
     }
 
-pub stopped_more : (t : Task) (fed x : List ℕ) (room room' : ℕ) (l l' l'' o o' o'' : Option (List ℕ))
-    (k : AnyMasking) →
-    Went t fed l l' o o' k x → Stopped t (fed ++ x) room l' l'' o' o'' → length x + room ≤ room'
+pub stopped_more : {M : Type 0} (holds : M → Task → List ℕ → Type 0) (t : Task) (fed x : List ℕ)
+    (room room' : ℕ) (l l' l'' o o' o'' : Option (List ℕ)) (k : M) →
+    Went holds t fed l l' o o' k x → Stopped t (fed ++ x) room l' l'' o' o'' → length x + room ≤ room'
     → Stopped t fed room' l l'' o o''
-stopped_more t fed x room room' l l' l'' o o' o'' k p q fits =
+stopped_more holds t fed x room room' l l' l'' o o' o'' k p q fits =
     let Q : List ℕ → Type 0 = λ b. Appends o o'' b in
     let texts : take (length x + q.shown) (masked (task_mask t) (length fed) (x ++ q.bytes))
     ≡ masked (task_mask t) (length fed) x
@@ -77,15 +77,15 @@ stopped_more t fed x room room' l l' l'' o o' o'' k p q fits =
     }
 
 -- a piece that was the last
-pub far_more : (t : Task) (x : List ℕ) (room room' n done : ℕ) (l l' l'' o o' o'' : Option (List ℕ))
-    (k k' : AnyMasking) →
-    Went t [] l l' o o' k x → length x ≡ done → WentFar t x room l' l'' o' o'' k' n → n < room
+pub far_more : {M : Type 0} (holds : M → Task → List ℕ → Type 0) (t : Task) (x : List ℕ)
+    (room room' n done : ℕ) (l l' l'' o o' o'' : Option (List ℕ)) (k k' : M) →
+    Went holds t [] l l' o o' k x → length x ≡ done → WentFar holds t x room l' l'' o' o'' k' n → n < room
     → done + room ≤ room' →
-    WentFar t [] room' l l'' o o'' k' (done + n)
-far_more t x room room' n done l l' l'' o o' o'' k k' p size q less fits =
+    WentFar holds t [] room' l l'' o o'' k' (done + n)
+far_more holds t x room room' n done l l' l'' o o' o'' k k' p size q less fits =
     record {
       bytes = x ++ q.bytes;
-      went = went_more t [] x q.bytes l l' l'' o o' o'' k k' p q.went;
+      went = went_more holds holds t [] x q.bytes l l' l'' o o' o'' k k' p q.went;
       count = omega (arith, length-append x q.bytes, q.count, size);
       short = omega (arith, q.short, fits);
       end = λ _. q.end less;

@@ -12,13 +12,9 @@ use Rattle.octets.specs.Device.{Failed}
 use Rattle.octets.specs.Masked.{masked}
 use Rattle.octets.proofs.Devices.{appends_more}
 use Rattle.octets.proofs.Masks.{length-masked, take-masked}
-use Rattle.aead.specs.declared.any_masking.AnyMasking.{AnyMasking}
-use Rattle.aead.specs.declared.sealer.Sealer.{Sealer}
 use Rattle.aead.specs.Suites.{construction_of, is_one_pass, text_limit, aad_limit}
 use Rattle.aead.specs.Sealing.{Setting, mask_of, tag_of, sealing}
-use Rattle.aead.specs.Code.AnyMaskings.{HoldsAnyMasking}
-use Rattle.aead.specs.Pieces.{HoldsSealer}
-use Rattle.aead.specs.Code.Maskings.{sealing_task}
+use Rattle.aead.specs.Code.Maskings.{Task, sealing_task}
 use Rattle.aead.specs.Code.Passes.{Stopped}
 use Rattle.aead.specs.Code.Extents.{WentAll}
 use Rattle.aead.specs.SealStream.{may_seal, SealVerdict, SealsStream, WhereTextTold}
@@ -105,14 +101,14 @@ exit_stopped l l' o o' s limit read read' wrote wrote' f same one fits stop blam
     ))
 
 -- the text is too long
-pub exit_long : (l l' o o' : Option (List ℕ)) (s : Setting) (k : AnyMasking)
-    (limit read read' wrote wrote' : ℕ) → limit ≡ text_limit s.suite
+pub exit_long : {M : Type 0} (holds : M → Task → List ℕ → Type 0) (l l' o o' : Option (List ℕ))
+    (s : Setting) (k : M) (limit read read' wrote wrote' : ℕ) → limit ≡ text_limit s.suite
     → length s.aad ≤ aad_limit s.suite
-    → WentAll (sealing_task s []) limit l l' o o' k None → (read' ≡ read) × (wrote' ≡ wrote)
+    → WentAll holds (sealing_task s []) limit l l' o o' k None → (read' ≡ read) × (wrote' ≡ wrote)
     → WhereTextTold l o o' (λ x given. SealsStream s x given read read' wrote wrote' (Err TextTooLong))
-exit_long l l' o o' s k limit read read' wrote wrote' same fits went kept =
-    where_text_told l o o' _ _ (told l (λ m. WentAll (sealing_task s []) limit m l' o o' k None) went) (λ x w.
-    let t = all_told (sealing_task s []) limit x l' o o' k None w in
+exit_long holds l l' o o' s k limit read read' wrote wrote' same fits went kept =
+    where_text_told l o o' _ _ (told l (λ m. WentAll holds (sealing_task s []) limit m l' o o' k None) went) (λ x w.
+    let t = all_told holds (sealing_task s []) limit x l' o o' k None w in
     let past : text_limit s.suite < length x = omega (arith, t.2, same) in
     let given : List ℕ = masked (mask_of s []) 0 (take limit x) in
     let all : given ≡ may_seal s x =
@@ -131,53 +127,48 @@ exit_long l l' o o' s k limit read read' wrote wrote' same fits went kept =
       },
     ))
 
--- the sealer holds the whole text
-pub holds_all : (before after : Sealer) (s : Setting) (limit n : ℕ) (x : List ℕ) (l' o o' : Option (List ℕ))
-    → limit ≡ text_limit s.suite → HoldsSealer before s []
-    → ((tag : List ℕ) → WentAll (sealing_task s tag) limit (Some x) l' o o' after.masking (Some n))
-    → HoldsSealer after s x × (length x ≤ text_limit s.suite)
-holds_all before after s limit n x l' o o' same h went =
-    let t : (tag : List ℕ) → Appends o o' (masked (mask_of s tag) 0 (take limit x))
-    × HoldsAnyMasking after.masking (sealing_task s tag) (take limit x) × (length x ≡ n) × (n ≤ limit) =
-    λ tag. let a = all_told (sealing_task s tag) limit x l' o o' after.masking (Some n) (went tag) in
-    (a.0, a.1, a.2.0, a.2.1) in
-    let all : take limit x ≡ x = take_all limit x (omega (arith, (t []).2, (t []).3)) in
-    let P : List ℕ → List ℕ → Type 0 = λ tag y. HoldsAnyMasking after.masking (sealing_task s tag) y in (
-      record { one_pass = h.one_pass; masking = λ tag. subst (P tag) all (t tag).1 },
-      omega (arith, (t []).2, (t []).3, same),
-    )
+-- the whole text is held
+pub holds_all : {M : Type 0} (holds : M → Task → List ℕ → Type 0) (k : M) (s : Setting) (limit n : ℕ)
+    (x : List ℕ) (l' o o' : Option (List ℕ)) → limit ≡ text_limit s.suite
+    → WentAll holds (sealing_task s []) limit (Some x) l' o o' k (Some n)
+    → holds k (sealing_task s []) x × (length x ≤ text_limit s.suite)
+holds_all holds k s limit n x l' o o' same went =
+    let t = all_told holds (sealing_task s []) limit x l' o o' k (Some n) went in
+    let all : take limit x ≡ x = take_all limit x (omega (arith, t.2.0, t.2.1)) in
+    let P : List ℕ → Type 0 = λ y. holds k (sealing_task s []) y in
+    (subst P all t.1, omega (arith, t.2.0, t.2.1, same))
 
 -- the tag was given, or begun
-pub exit_tag : (l l' o o' o'' : Option (List ℕ)) (s : Setting) (before after : Sealer) (tag : List ℕ)
-    (limit n k read read' wrote wrote' : ℕ) (r : Result (Unit {0}) Fault) → limit ≡ text_limit s.suite
-    → HoldsSealer before s [] → length s.aad ≤ aad_limit s.suite
-    → ((tag : List ℕ) → WentAll (sealing_task s tag) limit l l' o o' after.masking (Some n))
-    → ((s : Setting) (text : List ℕ) → HoldsSealer after s text → tag ≡ tag_of s text)
-    → Appends o' o'' (take k tag)
-    → ((r ≡ Ok tt) × (length tag ≤ k) × (read' ≡ read) × (wrote' ≡ wrote))
+pub exit_tag : {M : Type 0} (holds : M → Task → List ℕ → Type 0) (l l' o o' o'' : Option (List ℕ))
+    (s : Setting) (k : M) (tag : List ℕ) (limit n i read read' wrote wrote' : ℕ)
+    (r : Result (Unit {0}) Fault) → limit ≡ text_limit s.suite
+    → is_one_pass (construction_of s.suite) ≡ true → length s.aad ≤ aad_limit s.suite
+    → WentAll holds (sealing_task s []) limit l l' o o' k (Some n)
+    → ((text : List ℕ) → holds k (sealing_task s []) text → tag ≡ tag_of s text)
+    → Appends o' o'' (take i tag)
+    → ((r ≡ Ok tt) × (length tag ≤ i) × (read' ≡ read) × (wrote' ≡ wrote))
     ⊎ ((r ≡ Err Write) × Failed wrote wrote')
     → WhereTextTold l o o'' (λ x given. SealsStream s x given read read' wrote wrote' r)
-exit_tag l l' o o' o'' s before after tag limit n k read read' wrote wrote' r same h fits went tag_is more
-    end =
+exit_tag holds l l' o o' o'' s k tag limit n i read read' wrote wrote' r same one fits went tag_is more end =
     where_text_told l o o'' _ _
-    (told l (λ m. (tag : List ℕ) → WentAll (sealing_task s tag) limit m l' o o' after.masking (Some n)) went)
+    (told l (λ m. WentAll holds (sealing_task s []) limit m l' o o' k (Some n)) went)
     (λ x w.
-    let held = holds_all before after s limit n x l' o o' same h w in
-    let t = all_told (sealing_task s []) limit x l' o o' after.masking (Some n) (w []) in
-    let is : tag ≡ tag_of s x = tag_is s x held.0 in
+    let held = holds_all holds k s limit n x l' o o' same w in
+    let t = all_told holds (sealing_task s []) limit x l' o o' k (Some n) w in
+    let is : tag ≡ tag_of s x = tag_is x held.0 in
     let whole : take limit x ≡ x = take_all limit x (omega (arith, held.1, same)) in
     let P : List ℕ → Type 0 = λ y. Appends o o' (masked (mask_of s []) 0 y) in
     let body : List ℕ = masked (mask_of s []) 0 x in
-    let given : List ℕ = body ++ take k tag in
+    let given : List ℕ = body ++ take i tag in
     let all : may_seal s x ≡ body ++ tag =
-    may_seal_is s x h.one_pass held.1 ∙ ap (λ z. body ++ z) (sym is) in (
+    may_seal_is s x one held.1 ∙ ap (λ z. body ++ z) (sym is) in (
       given,
-      appends_more o o' o'' body (take k tag) (subst P whole t.0) more,
+      appends_more o o' o'' body (take i tag) (subst P whole t.0) more,
       record {
         early = λ p. absurd (omega (arith, p, fits));
-        beginning = (length body + k, sym (ap (take (length body + k)) all ∙ take-append-add body tag k));
+        beginning = (length body + i, sym (ap (take (length body + i)) all ∙ take-append-add body tag i));
         whole = λ e. elim end [
-          | inl d ↦ ap (λ z. body ++ z) (take_all k tag d.1) ∙ sym all ∙ may_seal_sealing s x held.1
+          | inl d ↦ ap (λ z. body ++ z) (take_all i tag d.1) ∙ sym all ∙ may_seal_sealing s x held.1
           | inr b ↦ absurd (cc (b.0))
         ];
         answer = elim end [

@@ -14,18 +14,17 @@ use Rattle.octets.specs.Device.{Failed}
 use Rattle.octets.specs.Masked.{masked}
 use Rattle.octets.proofs.Devices.{appends_none, appends_more}
 use Rattle.octets.proofs.Masks.{take-masked}
-use Rattle.aead.specs.declared.any_masking.AnyMasking.{AnyMasking}
-use Rattle.aead.specs.declared.siv.SivAbsorb.{SivAbsorb}
-use Rattle.aead.specs.declared.siv.SivWriter.{SivWriter}
+use Rattle.aead.specs.declared.authenticator.Authenticator.{Authenticator}
 use Rattle.aead.specs.Suites.{text_limit, aad_limit}
 use Rattle.aead.specs.Sealing.{Setting, Fits, mask_of, tag_of}
 use Rattle.aead.specs.Refusals.{SealRefused}
-use Rattle.aead.specs.Code.AnyMaskings.{HoldsAnyMasking}
-use Rattle.aead.specs.Pieces.{HoldsAbsorb, HoldsWriter, Repeats}
-use Rattle.aead.specs.Code.Maskings.{repeating_task}
+use Rattle.aead.specs.Pieces.{Repeats}
+use Rattle.aead.specs.Code.States.{HoldsAuthenticator}
+use Rattle.aead.specs.Code.Maskings.{Task, repeating_task}
+use Rattle.aead.specs.Code.Absorbed.{AbsorbedAll}
 use Rattle.aead.specs.Code.Passes.{Stopped}
 use Rattle.aead.specs.Code.Extents.{WentAll}
-use Rattle.aead.specs.SealSivStream.{AbsorbedAll, again, WritesAgain, SivVerdict, SivCounts, SealsSivStream}
+use Rattle.aead.specs.SealSivStream.{again, WritesAgain, SivVerdict, SivCounts, SealsSivStream}
 use Rattle.aead.specs.SealSivStream.{WhereBothTold}
 use Rattle.aead.proofs.Extents.{all_told, all_stopped_told}
 use Rattle.aead.proofs.SealExits.{told}
@@ -33,22 +32,22 @@ use Rattle.aead.proofs.SealExits.{told}
 -- ---- the second reading
 
 -- what was given and is held of it
-again_told : (s : Setting) (a b : List ℕ) (len : ℕ) (l' o o' : Option (List ℕ)) (k : AnyMasking)
-    (e : Option ℕ) → len ≡ length a
-    → WentAll (repeating_task s a) len (Some b) l' o o' k e
-    → Appends o o' (again s a b) × HoldsAnyMasking k (repeating_task s a) (take (length a) b)
-again_told s a b len l' o o' k e same w =
-    let t = all_told (repeating_task s a) len b l' o o' k e w in
+again_told : {M : Type 0} (holds : M → Task → List ℕ → Type 0) (s : Setting) (a b : List ℕ) (len : ℕ)
+    (l' o o' : Option (List ℕ)) (k : M) (e : Option ℕ) → len ≡ length a
+    → WentAll holds (repeating_task s a) len (Some b) l' o o' k e
+    → Appends o o' (again s a b) × holds k (repeating_task s a) (take (length a) b)
+again_told holds s a b len l' o o' k e same w =
+    let t = all_told holds (repeating_task s a) len b l' o o' k e w in
     let P : ℕ → Type 0 = λ n. Appends o o' (masked (mask_of s (tag_of s a)) 0 (take n b)) in
-    let Q : ℕ → Type 0 = λ n. HoldsAnyMasking k (repeating_task s a) (take n b) in
+    let Q : ℕ → Type 0 = λ n. holds k (repeating_task s a) (take n b) in
     (subst P same t.0, subst Q same t.1)
 
 -- where its length is within the first one's, it is held whole
-whole_again : (s : Setting) (a b : List ℕ) (len n : ℕ) (l' o o' : Option (List ℕ)) (k : AnyMasking)
-    → len ≡ length a
-    → WentAll (repeating_task s a) len (Some b) l' o o' k (Some n) → take (length a) b ≡ b
-whole_again s a b len n l' o o' k same w =
-    let t = all_told (repeating_task s a) len b l' o o' k (Some n) w in
+whole_again : {M : Type 0} (holds : M → Task → List ℕ → Type 0) (s : Setting) (a b : List ℕ)
+    (len n : ℕ) (l' o o' : Option (List ℕ)) (k : M) → len ≡ length a
+    → WentAll holds (repeating_task s a) len (Some b) l' o o' k (Some n) → take (length a) b ≡ b
+whole_again holds s a b len n l' o o' k same w =
+    let t = all_told holds (repeating_task s a) len b l' o o' k (Some n) w in
     take_all (length a) b (omega (arith, t.2.0, t.2.1, same))
 
 -- a device failed before the tag
@@ -73,59 +72,52 @@ again_stopped s a b len read read' wrote wrote' l' o o' f same stop blame =
     )))
 
 -- it is longer than the first one
-pub again_long : (s : Setting) (a b : List ℕ) (len read read' wrote wrote' : ℕ) (l' o o' : Option (List ℕ))
-    (k : AnyMasking) → len ≡ length a
-    → WentAll (repeating_task s a) len (Some b) l' o o' k None → (read' ≡ read) × (wrote' ≡ wrote)
+pub again_long : {M : Type 0} (holds : M → Task → List ℕ → Type 0) (s : Setting) (a b : List ℕ)
+    (len read read' wrote wrote' : ℕ) (l' o o' : Option (List ℕ)) (k : M) → len ≡ length a
+    → WentAll holds (repeating_task s a) len (Some b) l' o o' k None → (read' ≡ read) × (wrote' ≡ wrote)
     → WritesAgain s a b o o' read read' wrote wrote' (Err SourceChanged)
-again_long s a b len read read' wrote wrote' l' o o' k same w kept =
-    let t = all_told (repeating_task s a) len b l' o o' k None w in
+again_long holds s a b len read read' wrote wrote' l' o o' k same w kept =
+    let t = all_told holds (repeating_task s a) len b l' o o' k None w in
     inr (inl (
       refl,
       λ r. omega (arith, r.0, t.2, same),
-      (again_told s a b len l' o o' k None same w).0,
+      (again_told holds s a b len l' o o' k None same w).0,
       kept.0,
       kept.1,
     ))
 
 -- it does not repeat the first one
-pub again_differs : (s : Setting) (a b : List ℕ) (len n read read' wrote wrote' : ℕ)
-    (l' o o' : Option (List ℕ)) (before after : SivWriter) (f : Fault) → len ≡ length a
-    → HoldsWriter before s a [] → after.tag ≡ before.tag
-    → WentAll (repeating_task s a) len (Some b) l' o o' after.masking (Some n)
-    → (read' ≡ read) × (wrote' ≡ wrote)
-    → ((s : Setting) (first text : List ℕ) → HoldsWriter after s first text
-    → (f ≡ SourceChanged) × ¬ (Repeats s first text))
-    → WritesAgain s a b o o' read read' wrote wrote' (Err f)
-again_differs s a b len n read read' wrote wrote' l' o o' before after f same h tag w kept finish =
-    let t = again_told s a b len l' o o' after.masking (Some n) same w in
-    let e = whole_again s a b len n l' o o' after.masking same w in
+pub again_differs : {M : Type 0} (holds : M → Task → List ℕ → Type 0) (s : Setting) (a b : List ℕ)
+    (len n read read' wrote wrote' : ℕ) (l' o o' : Option (List ℕ)) (k : M) → len ≡ length a
+    → WentAll holds (repeating_task s a) len (Some b) l' o o' k (Some n) → (read' ≡ read) × (wrote' ≡ wrote)
+    → ((text : List ℕ) → holds k (repeating_task s a) text → ¬ (Repeats s a text))
+    → WritesAgain s a b o o' read read' wrote wrote' (Err SourceChanged)
+again_differs holds s a b len n read read' wrote wrote' l' o o' k same w kept other =
+    let t = again_told holds s a b len l' o o' k (Some n) same w in
+    let e = whole_again holds s a b len n l' o o' k same w in
     let P : List ℕ → Type 0 = λ x. ¬ (Repeats s a x) in
-    let found = finish s a (take (length a) b)
-    (record { by_gcm_siv = h.by_gcm_siv; tag_is = tag ∙ h.tag_is; masking = t.1 }) in
-    inr (inl (ap Err found.0, subst P e found.1, t.0, kept.0, kept.1))
+    inr (inl (refl, subst P e (other (take (length a) b) t.1), t.0, kept.0, kept.1))
 
 -- it repeats the first one, and the tag was given, or begun
-pub again_tag : (s : Setting) (a b tag : List ℕ) (len n k read read' wrote wrote' : ℕ)
-    (l' o o' o'' : Option (List ℕ)) (before after : SivWriter) (r : Result (Unit {0}) Fault) → len ≡ length a
-    → HoldsWriter before s a [] → after.tag ≡ before.tag
-    → WentAll (repeating_task s a) len (Some b) l' o o' after.masking (Some n)
-    → ((s : Setting) (first text : List ℕ) → HoldsWriter after s first text → Repeats s first text)
-    → tag ≡ tag_of s a → Appends o' o'' (take k tag)
-    → ((r ≡ Ok tt) × (length tag ≤ k) × (read' ≡ read) × (wrote' ≡ wrote))
+pub again_tag : {M : Type 0} (holds : M → Task → List ℕ → Type 0) (s : Setting) (a b tag : List ℕ)
+    (len n i read read' wrote wrote' : ℕ) (l' o o' o'' : Option (List ℕ)) (k : M)
+    (r : Result (Unit {0}) Fault) → len ≡ length a
+    → WentAll holds (repeating_task s a) len (Some b) l' o o' k (Some n)
+    → ((text : List ℕ) → holds k (repeating_task s a) text → Repeats s a text)
+    → tag ≡ tag_of s a → Appends o' o'' (take i tag)
+    → ((r ≡ Ok tt) × (length tag ≤ i) × (read' ≡ read) × (wrote' ≡ wrote))
     ⊎ ((r ≡ Err Write) × Failed wrote wrote')
     → WritesAgain s a b o o'' read read' wrote wrote' r
-again_tag s a b tag len n k read read' wrote wrote' l' o o' o'' before after r same h kept_tag w finish
-    tag_is more end =
-    let t = again_told s a b len l' o o' after.masking (Some n) same w in
-    let e = whole_again s a b len n l' o o' after.masking same w in
+again_tag holds s a b tag len n i read read' wrote wrote' l' o o' o'' k r same w found tag_is more end =
+    let t = again_told holds s a b len l' o o' k (Some n) same w in
+    let e = whole_again holds s a b len n l' o o' k same w in
     let P : List ℕ → Type 0 = λ x. Repeats s a x in
-    let repeats = subst P e (finish s a (take (length a) b)
-    (record { by_gcm_siv = h.by_gcm_siv; tag_is = kept_tag ∙ h.tag_is; masking = t.1 })) in
+    let repeats = subst P e (found (take (length a) b) t.1) in
     let Q : List ℕ → Type 0 = λ x. Appends o o'' (again s a b ++ x) in
-    let given = appends_more o o' o'' (again s a b) (take k tag) t.0 more in
+    let given = appends_more o o' o'' (again s a b) (take i tag) t.0 more in
     elim end [
-      | inl d ↦ inl (d.0, repeats, subst Q (take_all k tag d.1 ∙ tag_is) given, d.2, d.3)
-      | inr d ↦ inr (inr (inr (k, subst Q (ap (take k) tag_is) given, repeats, d.0, d.1)))
+      | inl d ↦ inl (d.0, repeats, subst Q (take_all i tag d.1 ∙ tag_is) given, d.2, d.3)
+      | inr d ↦ inr (inr (inr (i, subst Q (ap (take i) tag_is) given, repeats, d.0, d.1)))
     ]
 
 -- ---- both readings
@@ -146,13 +138,14 @@ any_bytes None = tt
 any_bytes (Some x) = tt
 
 -- the first reading, where it tells its bytes
-absorbed_told : (s : Setting) (room : ℕ) (a : List ℕ) (l' : Option (List ℕ)) (after : SivAbsorb) (all : Bool)
-    → AbsorbedAll s room (Some a) l' after all
-    → (all ≡ true → HoldsAbsorb after s a) × (all ≡ false → room < length a)
-absorbed_told s room a None after all w = absurd w.consumed
-absorbed_told s room a (Some rest) after all w =
-    let P : List ℕ → Type 0 = λ x. HoldsAbsorb after s x in (
-      λ e. let h = w.held e in
+absorbed_told : {H : Type 0} (held : H → Setting → List ℕ → Type 0) (s : Setting) (room : ℕ) (a : List ℕ)
+    (l' : Option (List ℕ)) (after : Authenticator H) (all : Bool)
+    → AbsorbedAll held s room (Some a) l' after all
+    → (all ≡ true → HoldsAuthenticator held after s a) × (all ≡ false → room < length a)
+absorbed_told held s room a None after all w = absurd w.consumed
+absorbed_told held s room a (Some rest) after all w =
+    let P : List ℕ → Type 0 = λ x. HoldsAuthenticator held after s x in (
+      λ e. let h = w.held_all e in
           subst P (sym (w.consumed ∙ ap (λ y. w.bytes ++ y) h.1 ∙ append-nil w.bytes)) h.0,
       λ e. omega (arith, w.long e, ap length w.consumed, length-append w.bytes rest),
     )
@@ -212,19 +205,20 @@ exit_first la lb o s x x' y z f failed =
           (record { first = x'; second = y; outlet = z }) f (inr (failed.0, inl failed.1)),
     ))
 
-pub exit_long : (la lb o l' : Option (List ℕ)) (s : Setting) (after : SivAbsorb) (room x x' y z : ℕ)
+pub exit_long : {H : Type 0} (held : H → Setting → List ℕ → Type 0) (la lb o l' : Option (List ℕ))
+    (s : Setting) (after : Authenticator H) (room x x' y z : ℕ)
     → room ≡ text_limit s.suite → length s.aad ≤ aad_limit s.suite
-    → x' ≡ x → AbsorbedAll s room la l' after false
+    → x' ≡ x → AbsorbedAll held s room la l' after false
     → WhereBothTold la lb o o
     (λ a b given. SealsSivStream s a b given (record { first = x; second = y; outlet = z })
     (record { first = x'; second = y; outlet = z }) (Err TextTooLong))
-exit_long la lb o l' s after room x x' y z same fits kept w =
+exit_long held la lb o l' s after room x x' y z same fits kept w =
     let counts : ℕ → SivCounts = λ n. record { first = n; second = y; outlet = z } in
-    where_both_told la lb o o _ (λ _. Unit {0}) _ (told la (λ m. AbsorbedAll s room m l' after false) w)
+    where_both_told la lb o o _ (λ _. Unit {0}) _ (told la (λ m. AbsorbedAll held s room m l' after false) w)
     (any_bytes lb)
     (λ a b t _.
     let past : text_limit s.suite < length a =
-    omega (arith, (absorbed_told s room a l' after false t).1 refl, same) in (
+    omega (arith, (absorbed_told held s room a l' after false t).1 refl, same) in (
       [],
       appends_none o,
       nothing s a b (counts x) (counts x') TextTooLong
@@ -296,20 +290,20 @@ wrote s a b o o' x x' y y' z z' r fits kept w =
       ]
     ]
 
-pub exit_second : (la lb o o' l' : Option (List ℕ)) (s : Setting) (after : SivAbsorb)
-    (room x x' y y' z z' : ℕ) (r : Result (Unit {0}) Fault)
-    → x' ≡ x → AbsorbedAll s room la l' after true
-    → ((a : List ℕ) → HoldsAbsorb after s a → IfSome lb (λ b. WritesAgain s a b o o' y y' z z' r))
+pub exit_second : {H : Type 0} (held : H → Setting → List ℕ → Type 0) (la lb o o' l' : Option (List ℕ))
+    (s : Setting) (after : Authenticator H) (room x x' y y' z z' : ℕ) (r : Result (Unit {0}) Fault)
+    → x' ≡ x → AbsorbedAll held s room la l' after true
+    → ((a : List ℕ) → HoldsAuthenticator held after s a → IfSome lb (λ b. WritesAgain s a b o o' y y' z z' r))
     → WhereBothTold la lb o o'
     (λ a b given. SealsSivStream s a b given (record { first = x; second = y; outlet = z })
     (record { first = x'; second = y'; outlet = z' }) r)
-exit_second None lb o o' l' s after room x x' y y' z z' r kept w f = tt
-exit_second (Some a) lb o o' l' s after room x x' y y' z z' r kept w f =
-    let h = (absorbed_told s room a l' after true w).0 refl in
+exit_second held None lb o o' l' s after room x x' y y' z z' r kept w f = tt
+exit_second held (Some a) lb o o' l' s after room x x' y y' z z' r kept w f =
+    let h = (absorbed_told held s room a l' after true w).0 refl in
     where_both_told (Some a) lb o o' (λ m. m ≡ a) (λ b. WritesAgain s a b o o' y y' z z' r) _ refl (f a h)
     (λ m b e t.
     let P : List ℕ → Type 0 =
     λ q. (given : List ℕ) × Appends o o' given
     × SealsSivStream s q b given (record { first = x; second = y; outlet = z })
     (record { first = x'; second = y'; outlet = z' }) r in
-    subst P (sym e) (wrote s a b o o' x x' y y' z z' r h.taken.fits kept t))
+    subst P (sym e) (wrote s a b o o' x x' y y' z z' r h.fits kept t))

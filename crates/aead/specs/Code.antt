@@ -3,6 +3,7 @@
 pub mod States
 pub mod Maskings
 pub mod AnyMaskings
+pub mod Absorbed
 pub mod Begun
 pub mod Extents
 pub mod Findings

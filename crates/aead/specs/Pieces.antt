@@ -6,8 +6,8 @@ use Rattle.aead.specs.declared.siv.SivAbsorb.{SivAbsorb}
 use Rattle.aead.specs.declared.siv.SivWriter.{SivWriter}
 use Rattle.aead.specs.Suites.{ByGcmSiv, construction_of, is_one_pass, text_limit}
 use Rattle.aead.specs.Sealing.{Setting, encryption_key, tag_of}
-use Rattle.aead.specs.Code.States.{HeldByPolyval, HoldsAuthenticator}
-use Rattle.aead.specs.Code.Maskings.{sealing_task, repeating_task}
+use Rattle.aead.specs.Code.States.{MadeByGcmSiv, HeldByPolyval, HoldsAuthenticator}
+use Rattle.aead.specs.Code.Maskings.{HoldsMasking, sealing_task, repeating_task}
 use Rattle.aead.specs.Code.AnyMaskings.{HoldsAnyMasking}
 
 -- a sealer was fed this text: its mask looks at no tag
@@ -27,7 +27,7 @@ pub record HoldsAbsorb (a : SivAbsorb) (s : Setting) (text : List ℕ) : Type 0 
 pub record HoldsWriter (w : SivWriter) (s : Setting) (first text : List ℕ) : Type 0 where
   pub by_gcm_siv : construction_of s.suite ≡ ByGcmSiv
   pub tag_is : w.tag ≡ tag_of s first
-  pub masking : HoldsAnyMasking w.masking (repeating_task s first) text
+  pub masking : HoldsMasking MadeByGcmSiv (HeldByPolyval key_of) w.masking (repeating_task s first) text
 
 -- a text has the length and the tag of the first one
 abbrev pub Repeats : Setting → List ℕ → List ℕ → Type 0

@@ -1,39 +1,16 @@
 -- What the engine that seals in two readings answers, and what it gives.
-use Rattle.std.specs.Prelude.{◌≡◌, ℕ, ◌<◌, ◌⊎◌, List, [], ◌++◌, Bool, true, false, length, take, Option}
-use Rattle.std.specs.Prelude.{Some, Result, Ok, Err, MatchResult, IfSome}
-use Rattle.std.specs.Io.KnownBytes.{Consumes, Appends, IsAtEnd}
+use Rattle.std.specs.Prelude.{◌≡◌, ℕ, ◌<◌, ◌⊎◌, List, [], ◌++◌, length, take, Option, Some, Result, Ok, Err}
+use Rattle.std.specs.Prelude.{MatchResult, IfSome}
+use Rattle.std.specs.Io.KnownBytes.{Appends}
 use Rattle.octets.specs.declared.fault.Fault.{Fault}
 use Rattle.octets.specs.declared.fault.Fault.TheVariants.{Read, Write, SourceChanged}
 use Rattle.octets.specs.Device.{Failed}
 use Rattle.octets.specs.Masked.{masked}
-use Rattle.aead.specs.declared.siv.SivAbsorb.{SivAbsorb}
 use Rattle.aead.specs.Suites.{text_limit, aad_limit}
 use Rattle.aead.specs.Sealing.{Setting, Fits, mask_of, tag_of}
 use Rattle.aead.specs.Refusals.{SealRefused}
-use Rattle.aead.specs.Pieces.{HoldsAbsorb, Repeats}
+use Rattle.aead.specs.Pieces.{Repeats}
 use Rattle.aead.specs.Verdict.{IsBeginning}
-
--- after this text, a piece was taken in, of the room's length but at the end
-abbrev pub TookPiece : Setting → List ℕ → ℕ → Option (List ℕ) → Option (List ℕ) → SivAbsorb → Result ℕ Fault
-    → Type 0
-TookPiece s text room left left' after r =
-    MatchResult r
-    (λ n. (bytes : List ℕ) × Consumes left left' bytes × HoldsAbsorb after s (text ++ bytes)
-    × (length bytes ≡ n) × (n < room → IsAtEnd left'))
-    (λ _. (bytes : List ℕ) × Consumes left left' bytes)
-
--- a first reading was taken in to its end, or is longer than the room
-pub record AbsorbedAll (s : Setting) (room : ℕ) (left left' : Option (List ℕ)) (after : SivAbsorb)
-    (all : Bool) : Type 0 where
-  pub bytes : List ℕ
-  pub consumed : Consumes left left' bytes
-  pub held : all ≡ true → HoldsAbsorb after s bytes × IsAtEnd left'
-  pub long : all ≡ false → room < length bytes
-
-abbrev pub TakenIn : Setting → ℕ → Option (List ℕ) → Option (List ℕ) → SivAbsorb → Result Bool Fault → Type 0
-TakenIn s room left left' after r =
-    MatchResult r (λ all. AbsorbedAll s room left left' after all)
-    (λ _. (bytes : List ℕ) × Consumes left left' bytes)
 
 -- the ciphertext of a second reading, as far as the first one went
 abbrev pub again : Setting → List ℕ → List ℕ → List ℕ

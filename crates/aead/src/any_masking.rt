@@ -1,4 +1,4 @@
-// A message of any construction, masked piece by piece.
+// A message masked piece by piece, whose tag is over the ciphertext.
 
 ghost use Rattle.std.specs.Prelude.{◌≡◌, ◌+◌, ◌≤◌, ◌++◌, ℕ, List, [], length};
 ghost use Rattle.octets.specs.Masked.{masked};
@@ -7,9 +7,9 @@ ghost use Rattle.aead.specs.Code.States.{authenticated};
 ghost use Rattle.aead.specs.Code.Maskings.{Task, task_mask};
 ghost use Rattle.aead.specs.Code.AnyMaskings.{HoldsAnyMasking, count_of, limit_of};
 
-use crate::hashes::{GhashTag, PolyvalTag};
+use crate::hashes::GhashTag;
 use crate::masking::Masking;
-use aes::{CtrBe, CtrLe};
+use aes::CtrBe;
 use chacha::ChaStream;
 use gf128::PlacedMul;
 use octets::Tag;
@@ -22,8 +22,6 @@ pub(crate) enum AnyMasking {
     ByChaCha(Masking<ChaStream, Poly>),
     // AES-GCM.
     ByGcm(Masking<CtrBe, GhashTag<PlacedMul>>),
-    // AES-GCM-SIV.
-    ByGcmSiv(Masking<CtrLe, PolyvalTag<PlacedMul>>),
 }
 
 impl AnyMasking {
@@ -34,7 +32,6 @@ impl AnyMasking {
         match self {
             AnyMasking::ByChaCha(masking) => masking.room(),
             AnyMasking::ByGcm(masking) => masking.room(),
-            AnyMasking::ByGcmSiv(masking) => masking.room(),
         }
     }
 
@@ -50,7 +47,6 @@ impl AnyMasking {
         match self {
             AnyMasking::ByChaCha(masking) => masking.update(piece),
             AnyMasking::ByGcm(masking) => masking.update(piece),
-            AnyMasking::ByGcmSiv(masking) => masking.update(piece),
         }
     }
 
@@ -63,7 +59,6 @@ impl AnyMasking {
         match self {
             AnyMasking::ByChaCha(masking) => masking.finish(),
             AnyMasking::ByGcm(masking) => masking.finish(),
-            AnyMasking::ByGcmSiv(masking) => masking.finish(),
         }
     }
 }

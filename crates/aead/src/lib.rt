@@ -22,6 +22,7 @@ mod mask;
 mod masking;
 mod nonced;
 mod sealer;
+mod second_reading;
 mod siv;
 mod suite;
 #[cfg(test)]

@@ -7,15 +7,15 @@ ghost use Rattle.aead.specs.Ciphers.{setting};
 ghost use Rattle.aead.specs.Refusals.{SealRefused};
 
 use crate::aead::Aead;
-use crate::any_masking::AnyMasking;
 use crate::authenticator::Authenticator;
 use crate::gcm_siv::{GcmSiv, tag_mask};
 use crate::hashes::PolyvalTag;
 use crate::masking::Masking;
 use crate::nonced::authenticator;
-use aes::AesKey;
+use crate::second_reading::repeats;
+use aes::{AesKey, CtrLe};
 use gf128::{Keyed128, PlacedMul};
-use octets::{Fault, Nonce, Tag, same};
+use octets::{Fault, Nonce, Tag};
 
 /// The first reading of a text that is sealed by AES-GCM-SIV.
 #[derive(Drop)]
@@ -94,7 +94,7 @@ impl SivAbsorb {
         let length = self.authenticator.length;
         let tag = self.authenticator.finish();
         let mask = tag_mask(&self.encryption, &tag);
-        let masking = AnyMasking::ByGcmSiv(Masking::new(mask, self.again, true, length));
+        let masking = Masking::new(mask, self.again, true, length);
         (tag, SivWriter { masking, tag })
     }
 }
@@ -102,7 +102,7 @@ impl SivAbsorb {
 /// The second reading of a text that is sealed by AES-GCM-SIV.
 #[derive(Drop)]
 pub struct SivWriter {
-    pub(crate) masking: AnyMasking,
+    masking: Masking<CtrLe, PolyvalTag<PlacedMul>>,
     tag: Tag,
 }
 
@@ -134,9 +134,8 @@ impl SivWriter {
             → MatchResult result (λ _. Repeats s first text)
             (λ e. (e ≡ Fault.SourceChanged) × ¬ (Repeats s first text)) }
     {
-        let missing = self.masking.room();
         let tag = self.tag;
-        if missing == 0 && same(self.masking.finish().bytes(), tag.bytes()) {
+        if repeats(self.masking, &tag) {
             Ok(())
         } else {
             Err(Fault::SourceChanged)

@@ -1,26 +1,22 @@
--- What the state of a message in pieces was fed, whatever its construction.
+-- What the state of a message in pieces was fed, whichever construction of one pass it is.
 use Rattle.std.specs.Prelude.{ℕ, List}
 use Rattle.gf128.specs.States.{key_of}
 use Rattle.aead.specs.declared.any_masking.AnyMasking.{AnyMasking}
-use Rattle.aead.specs.declared.any_masking.AnyMasking.TheVariants.{ByChaCha, ByGcm, ByGcmSiv}
-use Rattle.aead.specs.Code.States.{MadeByChaCha, MadeByGcm, MadeByGcmSiv, HeldByPoly, HeldByGhash}
-use Rattle.aead.specs.Code.States.{HeldByPolyval}
+use Rattle.aead.specs.declared.any_masking.AnyMasking.TheVariants.{ByChaCha, ByGcm}
+use Rattle.aead.specs.Code.States.{MadeByChaCha, MadeByGcm, HeldByPoly, HeldByGhash}
 use Rattle.aead.specs.Code.Maskings.{Task, HoldsMasking}
 
 -- m was made for this task and was fed these pieces
 abbrev pub HoldsAnyMasking : AnyMasking → Task → List ℕ → Type 0
 HoldsAnyMasking (ByChaCha m) t fed = HoldsMasking MadeByChaCha HeldByPoly m t fed
 HoldsAnyMasking (ByGcm m) t fed = HoldsMasking MadeByGcm (HeldByGhash key_of) m t fed
-HoldsAnyMasking (ByGcmSiv m) t fed = HoldsMasking MadeByGcmSiv (HeldByPolyval key_of) m t fed
 
 -- how many bytes it was fed
 abbrev pub count_of : AnyMasking → ℕ
 count_of (ByChaCha m) = m.authenticator.length
 count_of (ByGcm m) = m.authenticator.length
-count_of (ByGcmSiv m) = m.authenticator.length
 
 -- the most bytes that it may be fed
 abbrev pub limit_of : AnyMasking → ℕ
 limit_of (ByChaCha m) = m.limit
 limit_of (ByGcm m) = m.limit
-limit_of (ByGcmSiv m) = m.limit

@@ -4,9 +4,7 @@ use Rattle.std.specs.Prelude.{None, Result, MatchResult}
 use Rattle.std.specs.Io.KnownBytes.{Consumes, Appends, IsAtEnd}
 use Rattle.octets.specs.declared.fault.Fault.{Fault}
 use Rattle.octets.specs.Masked.{masked}
-use Rattle.aead.specs.declared.any_masking.AnyMasking.{AnyMasking}
 use Rattle.aead.specs.Code.Maskings.{Task, task_mask}
-use Rattle.aead.specs.Code.AnyMaskings.{HoldsAnyMasking}
 use Rattle.aead.specs.Code.Passes.{Stopped}
 
 -- how many bytes x has, or that it has more than a length
@@ -14,20 +12,20 @@ abbrev pub IsExtent : ℕ → List ℕ → Option ℕ → Type 0
 IsExtent len x None = len < length x
 IsExtent len x (Some n) = (length x ≡ n) × (n ≤ len)
 
--- all was taken, or more than the length
-pub record WentAll (t : Task) (len : ℕ) (left left' taken taken' : Option (List ℕ)) (after : AnyMasking)
-    (extent : Option ℕ) : Type 0 where
+-- all was taken, or more than the length; the state is one of which `holds` speaks
+pub record WentAll {M : Type 0} (holds : M → Task → List ℕ → Type 0) (t : Task) (len : ℕ)
+    (left left' taken taken' : Option (List ℕ)) (after : M) (extent : Option ℕ) : Type 0 where
   pub bytes : List ℕ
   pub consumed : Consumes left left' bytes
   pub given : Appends taken taken' (masked (task_mask t) 0 (take len bytes))
-  pub held : HoldsAnyMasking after t (take len bytes)
+  pub held : holds after t (take len bytes)
   pub is : IsExtent len bytes extent
   pub end : length bytes ≤ len → IsAtEnd left'
 
-abbrev pub PassedAll : Task → ℕ → Option (List ℕ) → Option (List ℕ) → Option (List ℕ) → Option (List ℕ)
-    → AnyMasking → Result (Option ℕ) Fault → Type 0
-PassedAll t len left left' taken taken' after r =
-    MatchResult r (λ e. WentAll t len left left' taken taken' after e)
+abbrev pub PassedAll : {M : Type 0} → (M → Task → List ℕ → Type 0) → Task → ℕ → Option (List ℕ)
+    → Option (List ℕ) → Option (List ℕ) → Option (List ℕ) → M → Result (Option ℕ) Fault → Type 0
+PassedAll holds t len left left' taken taken' after r =
+    MatchResult r (λ e. WentAll holds t len left left' taken taken' after e)
     (λ _. Stopped t [] len left left' taken taken')
 
 -- some byte came, or the reading is at its end

@@ -6,16 +6,14 @@ use Rattle.octets.specs.declared.fault.Fault.{Fault}
 use Rattle.octets.specs.declared.fault.Fault.TheVariants.{Read, Write}
 use Rattle.octets.specs.Device.{Failed}
 use Rattle.octets.specs.Masked.{masked}
-use Rattle.aead.specs.declared.any_masking.AnyMasking.{AnyMasking}
 use Rattle.aead.specs.Code.Maskings.{Task, task_mask}
-use Rattle.aead.specs.Code.AnyMaskings.{HoldsAnyMasking}
 
--- after these bytes, more were taken, fed and, masked, given
-pub record Went (t : Task) (fed : List ℕ) (left left' taken taken' : Option (List ℕ)) (after : AnyMasking)
-    (bytes : List ℕ) : Type 0 where
+-- after these bytes, more were taken, fed to a state of which `holds` speaks and, masked, given
+pub record Went {M : Type 0} (holds : M → Task → List ℕ → Type 0) (t : Task) (fed : List ℕ)
+    (left left' taken taken' : Option (List ℕ)) (after : M) (bytes : List ℕ) : Type 0 where
   pub consumed : Consumes left left' bytes
   pub given : Appends taken taken' (masked (task_mask t) (length fed) bytes)
-  pub held : HoldsAnyMasking after t (fed ++ bytes)
+  pub held : holds after t (fed ++ bytes)
   pub small : (i : ℕ) → get_or (masked (task_mask t) (length fed) bytes) i 0 < 256
 
 -- after these bytes, a device failed: more were taken, and the first of them, masked, were given
@@ -29,18 +27,18 @@ pub record Stopped (t : Task) (fed : List ℕ) (room : ℕ) (left left' taken ta
     pub given : Appends taken taken' (take shown (masked (task_mask t) (length fed) bytes))
 
 -- all of the room, or all that was left
-pub record WentFar (t : Task) (fed : List ℕ) (room : ℕ) (left left' taken taken' : Option (List ℕ))
-    (after : AnyMasking) (n : ℕ) : Type 0 where
+pub record WentFar {M : Type 0} (holds : M → Task → List ℕ → Type 0) (t : Task) (fed : List ℕ) (room : ℕ)
+    (left left' taken taken' : Option (List ℕ)) (after : M) (n : ℕ) : Type 0 where
   pub bytes : List ℕ
-  pub went : Went t fed left left' taken taken' after bytes
+  pub went : Went holds t fed left left' taken taken' after bytes
   pub count : length bytes ≡ n
   pub short : n ≤ room
   pub end : n < room → IsAtEnd left'
 
-abbrev pub Passed : Task → List ℕ → ℕ → Option (List ℕ) → Option (List ℕ) → Option (List ℕ) → Option (List ℕ)
-    → AnyMasking → Result ℕ Fault → Type 0
-Passed t fed room left left' taken taken' after r =
-    MatchResult r (λ n. WentFar t fed room left left' taken taken' after n)
+abbrev pub Passed : {M : Type 0} → (M → Task → List ℕ → Type 0) → Task → List ℕ → ℕ → Option (List ℕ)
+    → Option (List ℕ) → Option (List ℕ) → Option (List ℕ) → M → Result ℕ Fault → Type 0
+Passed holds t fed room left left' taken taken' after r =
+    MatchResult r (λ n. WentFar holds t fed room left left' taken taken' after n)
     (λ _. Stopped t fed room left left' taken taken')
 
 -- the fault names the one device that failed

@@ -12,8 +12,8 @@ ghost use Rattle.aead.specs.Code.Told.{write_answer};
 use crate::aead::Aead;
 use crate::any::AnyAead;
 use crate::engine::measure::Measured;
-use crate::engine::opening::opening;
-use crate::engine::passes::{Finding, pass};
+use crate::engine::opening::pass_opening;
+use crate::engine::passes::Finding;
 use crate::suite::Suite;
 use octets::{DeviceFault, Fault, Intake, Nonce, Outlet};
 
@@ -77,8 +77,7 @@ fn verify_step<I: Intake>(
         (λ v. VerifyTold (setting (keyed_of cipher.now) nonce.now aad.now)
         measured.now.tag measured.now.length v (I.failures intake.old) (I.failures intake.new) result) }
 {
-    let opening = opening(cipher, nonce, aad, &measured.tag);
-    match pass(intake, opening, measured, &mut Discard) {
+    match pass_opening(cipher, nonce, aad, intake, measured, &mut Discard) {
         Ok(finding) => answer_verify(finding),
         Err(_) => Err(Fault::Read),
     }
@@ -103,8 +102,7 @@ fn write_step<I: Intake, O: Outlet>(
         (I.failures intake.old) (I.failures intake.new)
         (O.failures outlet.old) (O.failures outlet.new) result) }
 {
-    let opening = opening(cipher, nonce, aad, &measured.tag);
-    match pass(intake, opening, measured, outlet) {
+    match pass_opening(cipher, nonce, aad, intake, measured, outlet) {
         Ok(finding) => answer_write(finding),
         Err(fault) => Err(fault),
     }

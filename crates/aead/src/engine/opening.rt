@@ -1,47 +1,133 @@
-// A sealing that is opened piece by piece.
+// A whole reading, opened as it goes.
 
-ghost use Rattle.std.specs.Prelude.{◌≤◌, [], length};
-ghost use Rattle.aead.specs.Suites.{aad_limit};
+ghost use Rattle.std.specs.Prelude.{◌≡◌, ◌+◌, ◌≤◌, [], length};
+ghost use Rattle.aead.specs.Suites.{construction_of, text_limit, aad_limit};
 ghost use Rattle.aead.specs.Ciphers.{setting};
 ghost use Rattle.aead.specs.AnyCiphers.{keyed_of};
 ghost use Rattle.aead.specs.Code.Maskings.{HoldsMasking, opening_task};
-ghost use Rattle.aead.specs.Code.AnyMaskings.{HoldsAnyMasking};
+ghost use Rattle.aead.specs.Code.Passes.{Blames};
+ghost use Rattle.aead.specs.Code.Findings.{PassedWhole};
 
 use crate::any::{AnyAead, AnyOnePass};
-use crate::any_masking::AnyMasking;
+use crate::engine::measure::Measured;
+use crate::engine::passes::{Finding, pass};
+use crate::gcm::{Gcm, LONG};
+use crate::gcm_siv::GcmSiv;
 use crate::masking::Masking;
 use crate::nonced::{Nonced, masking};
-use gf128::{Keyed128, PlacedMul};
-use octets::{Nonce, Tag};
+use gf128::{Keyed128, PlacedMul, WideMul};
+use octets::{Fault, Intake, Nonce, Outlet, Tag};
 
 // A state that decrypts under a tag, and makes the tag of what it decrypted.
 fn opening_over<N: Nonced>(nonced: &N, aad: &[u8], tag: &Tag) -> Masking<N::Stream, N::Hash>
     requires { length aad.now ≤ aad_limit (N.keyed nonced.now).suite }
-    ensures { HoldsMasking N.Stream.made N.Hash.held result
+    ensures holds { HoldsMasking N.Stream.made N.Hash.held result
         (opening_task (setting (N.keyed nonced.now) (N.nonce nonced.now) aad.now) tag.now) [] }
+    ensures none { result.authenticator.length ≡ 0 }
+    ensures limit { result.limit ≡ text_limit (N.keyed nonced.now).suite }
 {
     masking(nonced, aad, tag, nonced.suite().is_one_pass())
 }
 
-// The same of a cipher of any suite.
-pub(crate) fn opening(cipher: &AnyAead, nonce: &Nonce, aad: &[u8], tag: &Tag) -> AnyMasking
-    requires { length aad.now ≤ aad_limit (keyed_of cipher.now).suite }
-    ensures { HoldsAnyMasking result (opening_task (setting (keyed_of cipher.now) nonce.now aad.now) tag.now)
-        [] }
+// A whole reading, by a cipher with a nonce.
+fn pass_over<N: Nonced, I: Intake, O: Outlet>(
+    nonced: &N,
+    aad: &[u8],
+    intake: &mut I,
+    measured: &Measured,
+    outlet: &mut O,
+) -> Result<Finding, Fault>
+    requires aad_fits { length aad.now ≤ aad_limit (N.keyed nonced.now).suite }
+    requires high { measured.now.length ≤ text_limit (N.keyed nonced.now).suite + 16 }
+    ensures passed { PassedWhole (setting (N.keyed nonced.now) (N.nonce nonced.now) aad.now)
+        measured.now.tag measured.now.length (I.left intake.old) (I.left intake.new)
+        (O.taken outlet.old) (O.taken outlet.new) result }
+    ensures blame { Blames (I.failures intake.old) (I.failures intake.new) (O.failures outlet.old)
+        (O.failures outlet.new) result }
 {
+    let opening = opening_over(nonced, aad, &measured.tag);
+    pass(intake, opening, measured, outlet)
+}
+
+// The same by AES-GCM, with a multiplier of the type `M`.
+fn pass_gcm<M: Keyed128, I: Intake, O: Outlet>(
+    cipher: &Gcm,
+    nonce: &Nonce,
+    aad: &[u8],
+    intake: &mut I,
+    measured: &Measured,
+    outlet: &mut O,
+) -> Result<Finding, Fault>
+    requires aad_fits { length aad.now ≤ aad_limit cipher.now.suite }
+    requires high { measured.now.length ≤ text_limit cipher.now.suite + 16 }
+    ensures passed { PassedWhole (setting cipher.now nonce.now aad.now)
+        measured.now.tag measured.now.length (I.left intake.old) (I.left intake.new)
+        (O.taken outlet.old) (O.taken outlet.new) result }
+    ensures blame { Blames (I.failures intake.old) (I.failures intake.new) (O.failures outlet.old)
+        (O.failures outlet.new) result }
+{
+    let made = cipher.multiplier_of::<M>();
+    pass_over(&cipher.nonced(nonce, &made), aad, intake, measured, outlet)
+}
+
+// The same by AES-GCM-SIV.
+fn pass_siv<M: Keyed128, I: Intake, O: Outlet>(
+    cipher: &GcmSiv,
+    nonce: &Nonce,
+    aad: &[u8],
+    intake: &mut I,
+    measured: &Measured,
+    outlet: &mut O,
+) -> Result<Finding, Fault>
+    requires aad_fits { length aad.now ≤ aad_limit cipher.now.suite }
+    requires high { measured.now.length ≤ text_limit cipher.now.suite + 16 }
+    ensures passed { PassedWhole (setting cipher.now nonce.now aad.now)
+        measured.now.tag measured.now.length (I.left intake.old) (I.left intake.new)
+        (O.taken outlet.old) (O.taken outlet.new) result }
+    ensures blame { Blames (I.failures intake.old) (I.failures intake.new) (O.failures outlet.old)
+        (O.failures outlet.new) result }
+{
+    let keys = cipher.derive(nonce);
+    let made = M::of(&keys.hash_key);
+    let nonced = cipher.nonced(nonce, &keys.encryption, &made);
+    pass_over(&nonced, aad, intake, measured, outlet)
+}
+
+// The same by a cipher of any suite.
+pub(crate) fn pass_opening<I: Intake, O: Outlet>(
+    cipher: &AnyAead,
+    nonce: &Nonce,
+    aad: &[u8],
+    intake: &mut I,
+    measured: &Measured,
+    outlet: &mut O,
+) -> Result<Finding, Fault>
+    requires aad_fits { length aad.now ≤ aad_limit (keyed_of cipher.now).suite }
+    requires high { measured.now.length ≤ text_limit (keyed_of cipher.now).suite + 16 }
+    ensures passed { PassedWhole (setting (keyed_of cipher.now) nonce.now aad.now)
+        measured.now.tag measured.now.length (I.left intake.old) (I.left intake.new)
+        (O.taken outlet.old) (O.taken outlet.new) result }
+    ensures blame { Blames (I.failures intake.old) (I.failures intake.new) (O.failures outlet.old)
+        (O.failures outlet.new) result }
+{
+    let is_long = measured.length >= LONG as u64;
     match cipher {
         AnyAead::OnePass(AnyOnePass::ChaCha(cipher)) => {
-            AnyMasking::ByChaCha(opening_over(&cipher.nonced(nonce), aad, tag))
+            pass_over(&cipher.nonced(nonce), aad, intake, measured, outlet)
         }
         AnyAead::OnePass(AnyOnePass::Gcm(cipher)) => {
-            let nonced = cipher.nonced(nonce, cipher.multiplier_of::<PlacedMul>());
-            AnyMasking::ByGcm(opening_over(&nonced, aad, tag))
+            if is_long {
+                pass_gcm::<WideMul, I, O>(cipher, nonce, aad, intake, measured, outlet)
+            } else {
+                pass_gcm::<PlacedMul, I, O>(cipher, nonce, aad, intake, measured, outlet)
+            }
         }
         AnyAead::Siv(cipher) => {
-            let keys = cipher.derive(nonce);
-            let multiplier = PlacedMul::of(&keys.hash_key);
-            let nonced = cipher.nonced(nonce, &keys.encryption, multiplier);
-            AnyMasking::ByGcmSiv(opening_over(&nonced, aad, tag))
+            if is_long {
+                pass_siv::<WideMul, I, O>(cipher, nonce, aad, intake, measured, outlet)
+            } else {
+                pass_siv::<PlacedMul, I, O>(cipher, nonce, aad, intake, measured, outlet)
+            }
         }
     }
 }

@@ -3,12 +3,13 @@
 ghost use Rattle.std.specs.Prelude.{◌≡◌, ℕ, ◌+◌, ◌≤◌, List, [], length, IfOk};
 ghost use Rattle.aead.specs.Suites.{text_limit};
 ghost use Rattle.aead.specs.Sealing.{Setting};
-ghost use Rattle.aead.specs.Code.Maskings.{Task, opening_task};
-ghost use Rattle.aead.specs.Code.AnyMaskings.{HoldsAnyMasking, count_of, limit_of};
+ghost use Rattle.aead.specs.Code.Maskings.{Task, HoldsMasking, opening_task};
 ghost use Rattle.aead.specs.Code.Passes.{Passed, Blames, BlamesReading};
 
-use crate::any_masking::AnyMasking;
 use crate::engine::measure::Measured;
+use crate::hashes::TagHash;
+use crate::mask::MaskStream;
+use crate::masking::Masking;
 use octets::{Fault, Intake, Outlet, Tag, are_bytes, fill, give_all, same};
 
 // How a reading compares with the measured one.
@@ -26,21 +27,21 @@ ghost use Rattle.aead.specs.Code.Findings.{PassedWhole, Ends};
 ghost use Rattle.aead.specs.Code.Extents.{PassedAll, HasMore};
 
 // One piece: at most what the buffer holds.
-fn pass_piece<I: Intake, O: Outlet>(
+fn pass_piece<I: Intake, O: Outlet, S: MaskStream, H: TagHash>(
     intake: &mut I,
-    masking: &mut AnyMasking,
+    masking: &mut Masking<S, H>,
     buf: &mut [u8],
     outlet: &mut O,
 ) -> Result<usize, Fault>
-    requires { count_of masking.old + length buf.old ≤ limit_of masking.old }
+    requires { masking.old.authenticator.length + length buf.old ≤ masking.old.limit }
     ensures bound { IfOk result (λ n. n ≤ length buf.old) }
-    ensures passed { (t : Task) (fed : List ℕ) → HoldsAnyMasking masking.old t fed →
-        Passed t fed (length buf.old) (I.left intake.old) (I.left intake.new) (O.taken outlet.old)
+    ensures passed { (t : Task) (fed : List ℕ) → HoldsMasking S.made H.held masking.old t fed →
+        Passed (HoldsMasking S.made H.held) t fed (length buf.old) (I.left intake.old) (I.left intake.new) (O.taken outlet.old)
         (O.taken outlet.new) masking.new result }
     ensures blame { Blames (I.failures intake.old) (I.failures intake.new) (O.failures outlet.old)
         (O.failures outlet.new) result }
-    ensures length { IfOk result (λ n. count_of masking.new ≡ count_of masking.old + n) }
-    ensures limit { limit_of masking.new ≡ limit_of masking.old }
+    ensures length { IfOk result (λ n. masking.new.authenticator.length ≡ masking.old.authenticator.length + n) }
+    ensures limit { masking.new.limit ≡ masking.old.limit }
 {
     let n = match fill(intake, buf) {
         Ok(n) => n,
@@ -56,15 +57,15 @@ fn pass_piece<I: Intake, O: Outlet>(
 }
 
 // At most `length` bytes.
-pub(crate) fn pass_body<I: Intake, O: Outlet>(
+pub(crate) fn pass_body<I: Intake, O: Outlet, S: MaskStream, H: TagHash>(
     intake: &mut I,
-    masking: &mut AnyMasking,
+    masking: &mut Masking<S, H>,
     length: u64,
     outlet: &mut O,
 ) -> Result<u64, Fault>
-    requires { count_of masking.old + length ≤ limit_of masking.old }
-    ensures passed { (t : Task) → HoldsAnyMasking masking.old t [] →
-        Passed t [] length (I.left intake.old) (I.left intake.new) (O.taken outlet.old) (O.taken outlet.new)
+    requires { masking.old.authenticator.length + length ≤ masking.old.limit }
+    ensures passed { (t : Task) → HoldsMasking S.made H.held masking.old t [] →
+        Passed (HoldsMasking S.made H.held) t [] length (I.left intake.old) (I.left intake.new) (O.taken outlet.old) (O.taken outlet.new)
         masking.new result }
     ensures blame { Blames (I.failures intake.old) (I.failures intake.new) (O.failures outlet.old)
         (O.failures outlet.new) result }
@@ -95,14 +96,14 @@ fn ends_with<I: Intake>(intake: &mut I, tag: &Tag) -> Result<bool, Fault>
 }
 
 // A whole reading: the body of the measured length, the measured tag, the end.
-pub(crate) fn pass<I: Intake, O: Outlet>(
+pub(crate) fn pass<I: Intake, O: Outlet, S: MaskStream, H: TagHash>(
     intake: &mut I,
-    mut opening: AnyMasking,
+    mut opening: Masking<S, H>,
     measured: &Measured,
     outlet: &mut O,
 ) -> Result<Finding, Fault>
-    requires { count_of opening + measured.now.length ≤ limit_of opening + 16 }
-    ensures passed { (s : Setting) → HoldsAnyMasking opening (opening_task s measured.now.tag) [] →
+    requires { opening.authenticator.length + measured.now.length ≤ opening.limit + 16 }
+    ensures passed { (s : Setting) → HoldsMasking S.made H.held opening (opening_task s measured.now.tag) [] →
         PassedWhole s measured.now.tag measured.now.length (I.left intake.old) (I.left intake.new)
         (O.taken outlet.old) (O.taken outlet.new) result }
     ensures blame { Blames (I.failures intake.old) (I.failures intake.new) (O.failures outlet.old)
@@ -142,15 +143,15 @@ pub(crate) fn has_more<I: Intake>(intake: &mut I) -> Result<bool, Fault>
 }
 
 // A reading to its end, and how many bytes it has; of more than `length` the first ones, and `None`.
-pub(crate) fn pass_all<I: Intake, O: Outlet>(
+pub(crate) fn pass_all<I: Intake, O: Outlet, S: MaskStream, H: TagHash>(
     intake: &mut I,
-    masking: &mut AnyMasking,
+    masking: &mut Masking<S, H>,
     length: u64,
     outlet: &mut O,
 ) -> Result<Option<u64>, Fault>
-    requires { count_of masking.old + length ≤ limit_of masking.old }
-    ensures passed { (t : Task) → HoldsAnyMasking masking.old t [] →
-        PassedAll t length (I.left intake.old) (I.left intake.new) (O.taken outlet.old) (O.taken outlet.new)
+    requires { masking.old.authenticator.length + length ≤ masking.old.limit }
+    ensures passed { (t : Task) → HoldsMasking S.made H.held masking.old t [] →
+        PassedAll (HoldsMasking S.made H.held) t length (I.left intake.old) (I.left intake.new) (O.taken outlet.old) (O.taken outlet.new)
         masking.new result }
     ensures blame { Blames (I.failures intake.old) (I.failures intake.new) (O.failures outlet.old)
         (O.failures outlet.new) result }

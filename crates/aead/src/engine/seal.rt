@@ -1,13 +1,44 @@
 // The engine that seals in one reading.
 
+ghost use Rattle.std.specs.Prelude.{◌≡◌, ◌≤◌, true, length};
+ghost use Rattle.aead.specs.Suites.{construction_of, is_one_pass, aad_limit};
 ghost use Rattle.aead.specs.Ciphers.{setting};
 ghost use Rattle.aead.specs.AnyCiphers.{one_pass_keyed};
 ghost use Rattle.aead.specs.SealStream.{GiveBlames, SealsStream, WhereTextTold};
 
+use crate::aead::Aead;
 use crate::any::AnyOnePass;
 use crate::engine::passes::pass_all;
-use crate::sealer::Sealer;
-use octets::{Fault, Intake, Nonce, Outlet, give_all};
+use crate::nonced::{Nonced, masking};
+use gf128::WideMul;
+use octets::{Fault, Intake, Nonce, Outlet, Tag, give_all};
+
+// Seals a stream by a cipher with a nonce, whose mask looks at no tag.
+fn seal_over<N: Nonced, I: Intake, O: Outlet>(
+    nonced: &N,
+    aad: &[u8],
+    text: &mut I,
+    out: &mut O,
+) -> Result<(), Fault>
+    requires one_pass { is_one_pass (construction_of (N.keyed nonced.now).suite) ≡ true }
+    requires aad_fits { length aad.now ≤ aad_limit (N.keyed nonced.now).suite }
+    ensures blame { GiveBlames (I.failures text.old) (I.failures text.new) (O.failures out.old)
+        (O.failures out.new) result }
+    ensures seals { WhereTextTold (I.left text.old) (O.taken out.old) (O.taken out.new)
+        (λ x given. SealsStream (setting (N.keyed nonced.now) (N.nonce nonced.now) aad.now) x given
+        (I.failures text.old) (I.failures text.new) (O.failures out.old) (O.failures out.new) result) }
+{
+    let mut sealing = masking(nonced, aad, &Tag::new([0; 16]), false);
+    let limit = sealing.limit;
+    match pass_all(text, &mut sealing, limit, out) {
+        Ok(Some(_)) => match give_all(out, sealing.finish().bytes()) {
+            Ok(()) => Ok(()),
+            Err(_) => Err(Fault::Write),
+        },
+        Ok(None) => Err(Fault::TextTooLong),
+        Err(fault) => Err(fault),
+    }
+}
 
 /// Seals a stream in one reading: each piece is encrypted and given before the next one is taken, and the
 /// tag is given last. It takes no memory, and holds a buffer of a fixed size.
@@ -28,17 +59,14 @@ pub fn seal_stream<I: Intake, O: Outlet>(
         (λ x given. SealsStream (setting (one_pass_keyed cipher.now) nonce.now aad.now) x given
         (I.failures text.old) (I.failures text.new) (O.failures out.old) (O.failures out.new) result) }
 {
-    let mut sealer = match Sealer::new(cipher, nonce, aad) {
-        Ok(sealer) => sealer,
-        Err(fault) => return Err(fault),
-    };
-    let limit = sealer.masking.room();
-    match pass_all(text, &mut sealer.masking, limit, out) {
-        Ok(Some(_)) => match give_all(out, sealer.finish().bytes()) {
-            Ok(()) => Ok(()),
-            Err(_) => Err(Fault::Write),
-        },
-        Ok(None) => Err(Fault::TextTooLong),
-        Err(fault) => Err(fault),
+    if aad.len() as u64 > cipher.suite().aad_limit() {
+        return Err(Fault::AadTooLong);
+    }
+    match cipher {
+        AnyOnePass::ChaCha(cipher) => seal_over(&cipher.nonced(nonce), aad, text, out),
+        AnyOnePass::Gcm(cipher) => {
+            let multiplier = cipher.multiplier_of::<WideMul>();
+            seal_over(&cipher.nonced(nonce, &multiplier), aad, text, out)
+        }
     }
 }

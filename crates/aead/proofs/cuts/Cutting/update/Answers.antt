@@ -1,4 +1,4 @@
-use Rattle.std.proofs.Common.{subst}
+use Rattle.std.proofs.Common.{subst, arith}
 use Rattle.aead.specs.declared.cuts.Cutting.{Cutting}
 use Rattle.aead.specs.Sealing.{tag_of}
 use Rattle.aead.specs.Cuts.{Encrypted}
@@ -10,3 +10,10 @@ returns-in-OnePass c = λ s text done h l.
     let P : Cutting → Type 0 = λ u. Encrypted u s text done in
     each_case c.update.result _ _ _ _ (λ x u. (u.0, u.1 (tag_of s text))) (λ e u. u.0)
     (c.update.ensures s done (subst P c.in-OnePass.is h))
+
+pub returns-in-Siv : goal.returns-in-Siv
+returns-in-Siv c = λ s text done h l.
+    let P : Cutting → Type 0 = λ u. Encrypted u s text done in
+    let held = subst P c.in-Siv.is h in
+    each_case c.update-in-Siv.result _ _ _ _ (λ x u. ((u.0, held.1), u.1)) (λ e u. absurd (omega (arith, u.1, l)))
+    (c.update-in-Siv.ensures s text done held.0)

@@ -1,19 +1,12 @@
-use Rattle.std.proofs.Common.{arith}
 use Rattle.aead.specs.Sealing.{Setting}
 use Rattle.aead.specs.Ciphers.{setting}
 use Rattle.aead.specs.AnyCiphers.{keyed_of}
-use Rattle.aead.proofs.AnyMaskings.{fed_length, limit_is}
 use Rattle.aead.proofs.Tellings.{verify_told}
 use Rattle.aead.proofs.engine.open.verify_step.Goals as goal
-
-pub pass-requires : goal.pass-requires
-pass-requires g c =
-    let none = fed_length _ _ _ c.opening-opening.ensures in
-    omega (arith, none, limit_is _ _ _ c.opening-opening.ensures, c.requires.high)
 
 pub returns-in-Ok-clause-told : goal.returns-in-Ok-clause-told
 returns-in-Ok-clause-told g c =
     let s : Setting = setting (keyed_of c.args.cipher.now) c.args.nonce.now c.args.aad.now in
     let a = c.args.measured.now in
     verify_told s _ _ _ _ _ _ _ _ _ _ a.tag_is.length_is a.low
-    (c.in-Ok.ensures.passed s c.opening-opening.ensures) c.answer_verify.ensures c.in-Ok.ensures.blame.0
+    c.in-Ok.ensures.passed c.answer_verify.ensures c.in-Ok.ensures.blame.0

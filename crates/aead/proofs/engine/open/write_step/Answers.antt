@@ -1,26 +1,17 @@
-use Rattle.std.proofs.Common.{arith}
 use Rattle.aead.specs.Sealing.{Setting}
 use Rattle.aead.specs.Ciphers.{setting}
 use Rattle.aead.specs.AnyCiphers.{keyed_of}
-use Rattle.aead.proofs.AnyMaskings.{fed_length, limit_is}
 use Rattle.aead.proofs.Tellings.{write_told, write_stopped}
 use Rattle.aead.proofs.engine.open.write_step.Goals as goal
-
-pub pass-requires : goal.pass-requires
-pass-requires g c =
-    let none = fed_length _ _ _ c.opening-opening.ensures in
-    omega (arith, none, limit_is _ _ _ c.opening-opening.ensures, c.requires.high)
 
 pub returns-in-Ok-clause-told : goal.returns-in-Ok-clause-told
 returns-in-Ok-clause-told g c =
     let s : Setting = setting (keyed_of c.args.cipher.now) c.args.nonce.now c.args.aad.now in
     let a = c.args.measured.now in
     write_told s _ _ _ _ _ _ _ _ _ _ _ _ a.tag_is.length_is a.low
-    (c.in-Ok.ensures.passed s c.opening-opening.ensures) c.answer_write.ensures c.in-Ok.ensures.blame.0
-    c.in-Ok.ensures.blame.1
+    c.in-Ok.ensures.passed c.answer_write.ensures c.in-Ok.ensures.blame.0 c.in-Ok.ensures.blame.1
 
 pub returns-in-Err-clause-told : goal.returns-in-Err-clause-told
 returns-in-Err-clause-told g c =
     let s : Setting = setting (keyed_of c.args.cipher.now) c.args.nonce.now c.args.aad.now in
-    write_stopped s _ _ _ _ _ _ _ _ _ _ _ (c.in-Err.ensures.passed s c.opening-opening.ensures)
-    c.in-Err.ensures.blame
+    write_stopped s _ _ _ _ _ _ _ _ _ _ _ c.in-Err.ensures.passed c.in-Err.ensures.blame

@@ -5,8 +5,8 @@ use Rattle.aead.specs.Ciphers.{setting}
 use Rattle.aead.specs.Code.Maskings.{HoldsMasking}
 use Rattle.aead.proofs.engine.opening.opening_over.Goals as goal
 
-pub returns : goal.returns
-returns g c =
+pub returns-clause-holds : goal.returns-clause-holds
+returns-clause-holds g c =
     let s : Setting = setting (g.N.Nonced.keyed c.args.nonced.now) (g.N.Nonced.nonce c.args.nonced.now)
     c.args.aad.now in
     let way : c.is_one_pass.result ≡ is_one_pass (construction_of s.suite) =

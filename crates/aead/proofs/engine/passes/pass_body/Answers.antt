@@ -9,7 +9,7 @@ loop-done-init g c = record {
   in_range = omega arith;
   fed = omega arith;
   same_limit = refl;
-  went = λ t h. ([], went_none t [] _ _ _ h, refl);
+  went = λ t h. ([], went_none _ t [] _ _ _ h, refl);
   read = refl;
   wrote = refl;
 }
@@ -23,7 +23,7 @@ returns-in_err-n-clause-passed g c = λ t h.
     let fits : length w.0 + length (take c.min-want.result c.loop-done.buf) ≤ c.args.length =
     omega (arith, w.2, room) in
     let p = err_from_is_err_and c.from_residual.result c.from_residual.ensures.1 in
-    rw p.1 (stopped_more t [] w.0 _ _ _ _ _ _ _ _ _ w.1 q fits)
+    rw p.1 (stopped_more _ t [] w.0 _ _ _ _ _ _ _ _ _ w.1 q fits)
 
 pub returns-then-n-want-clause-passed : goal.returns-then-n-want-clause-passed
 returns-then-n-want-clause-passed g c = λ t h.
@@ -32,7 +32,7 @@ returns-then-n-want-clause-passed g c = λ t h.
     let less : c.in_ok-n.n < length (take c.min-want.result c.loop-done.buf) = grind (arith, common_steps) in
     let room : c.loop-done.done + length (take c.min-want.result c.loop-done.buf) ≤ c.args.length =
     grind (arith, common_steps) in
-    far_more t w.0 _ _ _ _ _ _ _ _ _ _ _ _ w.1 w.2 q less room
+    far_more _ t w.0 _ _ _ _ _ _ _ _ _ _ _ _ w.1 w.2 q less room
 
 pub loop-done-preserved : goal.loop-done-preserved
 loop-done-preserved g c = record {
@@ -43,7 +43,7 @@ loop-done-preserved g c = record {
       let w = c.loop-done.invariant.went t h in
       let q = c.in_ok-n.ensures.passed t w.0 w.1.held in (
         w.0 ++ q.bytes,
-        went_more t [] w.0 q.bytes _ _ _ _ _ _ _ _ w.1 q.went,
+        went_more _ _ t [] w.0 q.bytes _ _ _ _ _ _ _ _ w.1 q.went,
         omega (arith, length-append w.0 q.bytes, q.count, w.2),
       );
   read = c.in_ok-n.ensures.blame.0 ∙ c.loop-done.invariant.read;

@@ -1,16 +1,15 @@
 use Rattle.std.proofs.Common.{◌+◌, ◌-◌, ◌≡◌, ℕ, ◌≤◌, List, [], length}
-use Rattle.aead.specs.Code.Maskings.{Task}
-use Rattle.aead.specs.Code.AnyMaskings.{HoldsAnyMasking, count_of, limit_of}
+use Rattle.aead.specs.Code.Maskings.{Task, HoldsMasking}
 use Rattle.aead.specs.Code.Passes.{Went}
 use Rattle.aead.proofs.engine.passes.pass_body.Given as goal
 
 abbrev pub invariant-loop-done : goal.invariant-loop-done
 invariant-loop-done g l = record {
   in_range : l.done ≤ l.length;
-  fed : count_of l.masking ≡ count_of l.initial.masking + l.done;
-  same_limit : limit_of l.masking ≡ limit_of l.initial.masking;
-  went : (t : Task) → HoldsAnyMasking l.initial.masking t [] →
-      (bytes : List ℕ) × Went t [] (g.I.Intake.left l.initial.intake) (g.I.Intake.left l.intake)
+  fed : l.masking.authenticator.length ≡ l.initial.masking.authenticator.length + l.done;
+  same_limit : l.masking.limit ≡ l.initial.masking.limit;
+  went : (t : Task) → HoldsMasking g.S.MaskStream.made g.H.TagHash.held l.initial.masking t [] →
+      (bytes : List ℕ) × Went (HoldsMasking g.S.MaskStream.made g.H.TagHash.held) t [] (g.I.Intake.left l.initial.intake) (g.I.Intake.left l.intake)
       (g.O.Outlet.taken l.initial.outlet) (g.O.Outlet.taken l.outlet) l.masking bytes
       × (length bytes ≡ l.done);
   read : g.I.Intake.failures l.intake ≡ g.I.Intake.failures l.initial.intake;

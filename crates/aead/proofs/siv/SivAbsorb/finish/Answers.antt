@@ -19,6 +19,6 @@ returns c = λ s text h.
         by_gcm_siv = h.by_gcm_siv;
         tag_is = tag_is;
         masking = at_limit _ _ _ _ _ _ s _ [] h.taken.length_is
-            (c.new.ensures.holds s (tag_of s text) made h.begun fits);
+            (c.new-masking.ensures.holds s (tag_of s text) made h.begun fits);
       },
     )

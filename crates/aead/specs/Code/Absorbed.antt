@@ -1,0 +1,30 @@
+-- What the first of two readings leaves.
+use Rattle.std.specs.Prelude.{◌≡◌, ℕ, ◌<◌, List, ◌++◌, Bool, true, false, length, Option, Result, MatchResult}
+use Rattle.std.specs.Io.KnownBytes.{Consumes, IsAtEnd}
+use Rattle.octets.specs.declared.fault.Fault.{Fault}
+use Rattle.aead.specs.declared.authenticator.Authenticator.{Authenticator}
+use Rattle.aead.specs.Sealing.{Setting}
+use Rattle.aead.specs.Code.States.{HoldsAuthenticator}
+
+-- after this text, a piece was taken in by a hash of which `held` speaks, of the room's length but at the end
+abbrev pub TookPiece : {H : Type 0} → (H → Setting → List ℕ → Type 0) → Setting → List ℕ → ℕ
+    → Option (List ℕ) → Option (List ℕ) → Authenticator H → Result ℕ Fault → Type 0
+TookPiece held s text room left left' after r =
+    MatchResult r
+    (λ n. (bytes : List ℕ) × Consumes left left' bytes × HoldsAuthenticator held after s (text ++ bytes)
+    × (length bytes ≡ n) × (n < room → IsAtEnd left'))
+    (λ _. (bytes : List ℕ) × Consumes left left' bytes)
+
+-- a first reading was taken in to its end, or is longer than the room
+pub record AbsorbedAll {H : Type 0} (held : H → Setting → List ℕ → Type 0) (s : Setting) (room : ℕ)
+    (left left' : Option (List ℕ)) (after : Authenticator H) (all : Bool) : Type 0 where
+  pub bytes : List ℕ
+  pub consumed : Consumes left left' bytes
+  pub held_all : all ≡ true → HoldsAuthenticator held after s bytes × IsAtEnd left'
+  pub long : all ≡ false → room < length bytes
+
+abbrev pub TakenIn : {H : Type 0} → (H → Setting → List ℕ → Type 0) → Setting → ℕ → Option (List ℕ)
+    → Option (List ℕ) → Authenticator H → Result Bool Fault → Type 0
+TakenIn held s room left left' after r =
+    MatchResult r (λ all. AbsorbedAll held s room left left' after all)
+    (λ _. (bytes : List ℕ) × Consumes left left' bytes)
