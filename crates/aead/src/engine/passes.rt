@@ -10,7 +10,7 @@ use crate::engine::measure::Measured;
 use crate::hashes::TagHash;
 use crate::mask::MaskStream;
 use crate::masking::Masking;
-use octets::{Fault, Intake, Outlet, Tag, are_bytes, fill, give_all, same};
+use octets::{Fault, Intake, Outlet, Tag, fill, give_all, same};
 
 // How a reading compares with the measured one.
 #[derive(Drop)]
@@ -49,7 +49,6 @@ fn pass_piece<I: Intake, O: Outlet, S: MaskStream, H: TagHash>(
     };
     let piece = &mut buf[..n];
     masking.update(piece);
-    are_bytes(piece);
     match give_all(outlet, piece) {
         Ok(()) => Ok(n),
         Err(_) => Err(Fault::Write),
