@@ -110,31 +110,6 @@ impl AesKey {
         Block::new(store(last_round(state, round_key(&self.words, count))))
     }
 
-    /// The ciphers of two blocks (FIPS 197, 5.1): in less time than one after the other.
-    pub fn encrypt_two(&self, first: &Block, second: &Block) -> (Block, Block)
-        ensures first { result.0 ≡ cipher self.now first.now }
-        ensures second { result.1 ≡ cipher self.now second.now }
-        ensures first_is_block { IsBlock result.0 }
-        ensures second_is_block { IsBlock result.1 }
-    {
-        let count = self.size + 6;
-        let start = round_key(&self.words, 0);
-        let mut a = add_key(load(first.bytes()), start);
-        let mut b = add_key(load(second.bytes()), start);
-        for done in 0..count - 1 {
-            let key = round_key(&self.words, done + 1);
-            let next_a = round(a, key);
-            let next_b = round(b, key);
-            a = next_a;
-            b = next_b;
-        }
-        let last = round_key(&self.words, count);
-        (
-            Block::new(store(last_round(a, last))),
-            Block::new(store(last_round(b, last))),
-        )
-    }
-
     // The words of its rounds made ready for `encrypt_ready`.
     pub(crate) fn ready(&self) -> [[u8; 16]; 15]
         ensures { IsReady result self.now }

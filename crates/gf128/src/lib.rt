@@ -5,7 +5,6 @@
 mod bit_mul;
 mod chain;
 mod ghash;
-mod hash_key;
 mod keyed;
 mod multiples;
 mod placed_mul;
@@ -20,7 +19,6 @@ mod wide_mul;
 
 pub use bit_mul::BitMul;
 pub use ghash::{Ghash, ghash_is_the_only};
-pub use hash_key::HashKey;
 pub use keyed::{Keyed128, Multiply};
 pub use placed_mul::PlacedMul;
 pub use polyval::{
