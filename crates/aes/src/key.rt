@@ -11,7 +11,7 @@ use crate::inverse::unmix_words;
 use crate::inverse_key::InverseKey;
 use crate::lanes::{first_four, last_four, ready_keys, round_four, spread};
 use crate::schedule::expand;
-use octets::{Block, Fault, Key16, Key24, Key32, are_bytes};
+use octets::{Block, Fault, Key16, Key24, Key32};
 use std::marker::Model;
 use std::simd::prelude::*;
 use std::simd::u8x64;
@@ -82,7 +82,6 @@ impl AesKey {
             32 => 8,
             _ => return Err(Fault::KeyLength),
         };
-        are_bytes(key);
         Ok(AesKey {
             words: expand(key, size),
             size,

@@ -6,7 +6,7 @@ ghost use Rattle.chacha.specs.Block.{add_xor_rotate, quarter_round, column_round
 ghost use Rattle.chacha.specs.Block.{added, serialized, block_from, block};
 
 use crate::state::initial_state;
-use octets::{Key32, Nonce, are_bytes};
+use octets::{Key32, Nonce};
 
 // a += b; d ^= a; d <<<= n (RFC 8439, 2.1).
 #[tactic(auto, unfolding(crate::specs::Block::add_xor_rotate))]
@@ -108,7 +108,5 @@ pub fn block(key: &Key32, counter: u32, nonce: &Nonce) -> [u8; 64]
     ensures value { result ≡ block key.now counter nonce.now }
     ensures are_bytes { AreBytes 64 result }
 {
-    let block = block_from(&initial_state(key, counter, nonce));
-    are_bytes(&block);
-    block
+    block_from(&initial_state(key, counter, nonce))
 }

@@ -7,7 +7,7 @@ pub invariant_of-result : goal.invariant_of-result
 invariant_of-result c =
     let size : IsKeySize c.match-key.size = search rules in
     let long : length c.args.key.now ≡ 4 * c.match-key.size = search rules in
-    expanded c.expand.result c.args.key.now c.match-key.size c.are_bytes.ensures.bytes (search rules) size
+    expanded c.expand.result c.args.key.now c.match-key.size (search rules) (search rules) size
     long c.expand.ensures.table c.expand.ensures.words
 
 pub returns : goal.returns
@@ -18,6 +18,6 @@ returns c =
       record {
         length_is = key_length c.args.key.now c.match-key.size size long;
         bytes =
-            c.are_bytes.ensures.bytes;
+            (search rules);
       },
     )
