@@ -8,7 +8,6 @@ ghost use Rattle.aes.specs.Cipher.{mix_column, sub_bytes, shift_rows, mix_column
 ghost use Rattle.aes.specs.Columns.{column_of, columns_of, state_of};
 
 use crate::round_tables::TABLES;
-use crate::sbox::substitute;
 
 // What the byte x in row 0 adds to its column after SubBytes and MixColumns.
 #[inline(always)]
@@ -83,13 +82,11 @@ fn last_column(a: u32, b: u32, c: u32, d: u32, key: u32) -> u32
     let [_, row1, _, _] = b.to_le_bytes();
     let [_, _, row2, _] = c.to_le_bytes();
     let [_, _, _, row3] = d.to_le_bytes();
-    let column = u32::from_le_bytes([
-        substitute(row0),
-        substitute(row1),
-        substitute(row2),
-        substitute(row3),
-    ]);
-    column ^ key
+    let [at0, _, _, _] = entry_row2(row0).to_le_bytes();
+    let [_, at1, _, _] = entry_row3(row1).to_le_bytes();
+    let [_, _, at2, _] = entry(row2).to_le_bytes();
+    let [_, _, _, at3] = entry_row1(row3).to_le_bytes();
+    u32::from_le_bytes([at0, at1, at2, at3]) ^ key
 }
 
 // The last round: it has no MixColumns.

@@ -141,9 +141,10 @@ impl<C: Count> Counter<C> {
         ensures advances { Advances C.up self.old self.new bytes.old bytes.new }
         ensures used { self.new.used ≡ length bytes.old % 16 }
     {
-        self.mask = self.key.encrypt(&C::block(&self.first, self.begun));
+        let mask = self.key.encrypt(&C::block(&self.first, self.begun));
+        self.mask = mask;
         self.begun = self.begun.wrapping_add(1);
-        xor_into(bytes, &self.mask.bytes()[..bytes.len()]);
+        xor_into(bytes, &mask.bytes()[..bytes.len()]);
         self.used = bytes.len() % 16;
     }
 

@@ -1,4 +1,4 @@
-use Rattle.std.proofs.Common.{◌≡◌, ℕ, ◌+◌, ◌-◌, ◌*◌, ◌<◌, List, ◌∷◌, [], get_or, ◌∙◌, sym, ap, length, take}
+use Rattle.std.proofs.Common.{◌≡◌, ℕ, ◌+◌, ◌-◌, ◌*◌, ◌<◌, ◌∷◌, [], get_or, ◌∙◌, sym, ap, length, take}
 use Rattle.std.proofs.Common.{drop, length-drop, arith, refl}
 use Rattle.std.proofs.Common.{lit≤, w32}
 use Rattle.std.proofs.lemmas.List.{take_all}
