@@ -10,6 +10,7 @@ pub mod Steps
 pub mod ColumnWords
 pub mod InverseRounds
 pub mod FourBlocks
+pub mod Substitution
 pub mod FourRounds
 pub mod Permutation
 pub mod Counting
