@@ -12,7 +12,7 @@ use crate::aead::Aead;
 use crate::any::AnyAead;
 use crate::sealer::Sealer;
 use crate::siv::{SivAbsorb, SivWriter};
-use octets::{Fault, Nonce, Tag, are_bytes};
+use octets::{Fault, Nonce, Tag};
 use std::alloc::{AllocError, Allocator};
 
 // What encrypts a text piece by piece.
@@ -33,12 +33,8 @@ impl Cutting {
             MatchResult result (λ c. Encrypts c s text.now []) (λ e. SealRefused s text.now e) }
     {
         let suite = cipher.suite();
-        if aad.len() as u64 > suite.aad_limit() {
-            return Err(Fault::AadTooLong);
-        }
-        if text.len() as u64 > suite.text_limit() {
-            return Err(Fault::TextTooLong);
-        }
+        suite.check_aad(aad)?;
+        suite.check_text(text)?;
         match cipher {
             AnyAead::OnePass(cipher) => match Sealer::new(cipher, nonce, aad) {
                 Ok(sealer) => Ok(Cutting::OnePass(sealer)),
@@ -149,7 +145,6 @@ pub fn seal_cut<A: Allocator + Copy>(
         MatchResult result (λ pieces. IsCutSealing s text.now cuts.now (map (λ v. v.items) pieces.items))
         (λ e. WholeSealRefused s text.now e) }
 {
-    are_bytes(text);
     let mut cutting = match Cutting::new(cipher, nonce, aad, text) {
         Ok(cutting) => cutting,
         Err(fault) => return Err(fault),

@@ -42,9 +42,7 @@ fn seal_bytes(
 {
     let cipher = AnyAead::new(suite, key)?;
     let nonce = Nonce::from_slice(nonce)?;
-    if aad.len() as u64 > suite.aad_limit() {
-        return Err(Fault::AadTooLong);
-    }
+    suite.check_aad(aad)?;
     if bytes.len() < 16 {
         return Err(Fault::TooShort);
     }
@@ -71,9 +69,7 @@ fn open_bytes(
 {
     let cipher = AnyAead::new(suite, key)?;
     let nonce = Nonce::from_slice(nonce)?;
-    if aad.len() as u64 > suite.aad_limit() {
-        return Err(Fault::AadTooLong);
-    }
+    suite.check_aad(aad)?;
     if bytes.len() < 16 {
         return Err(Fault::TooShort);
     }

@@ -13,7 +13,7 @@ use crate::hashes::TagHash;
 use crate::mask::MaskStream;
 use crate::masking::Masking;
 use crate::suite::Suite;
-use octets::{Fault, Tag, are_bytes, same};
+use octets::{Fault, Tag, same};
 
 // A cipher under a key with a nonce: how it begins a mask and a hash.
 pub(crate) trait Nonced {
@@ -87,13 +87,8 @@ pub(crate) fn seal_whole<N: Nonced>(nonced: &N, aad: &[u8], text: &mut [u8]) -> 
         (λ e. SealRefused s text.old e × (text.new ≡ text.old)) }
 {
     let suite = nonced.suite();
-    if aad.len() as u64 > suite.aad_limit() {
-        return Err(Fault::AadTooLong);
-    }
-    if text.len() as u64 > suite.text_limit() {
-        return Err(Fault::TextTooLong);
-    }
-    are_bytes(text);
+    suite.check_aad(aad)?;
+    suite.check_text(text)?;
     if suite.is_one_pass() {
         let mut sealing = masking(nonced, aad, &Tag::new([0; 16]), false);
         sealing.update(text);
@@ -115,12 +110,8 @@ fn open_checked<N: Nonced>(nonced: &N, aad: &[u8], body: &mut [u8], tag: &Tag) -
 {
     let given = tag.bytes();
     let suite = nonced.suite();
-    if aad.len() as u64 > suite.aad_limit() {
-        return Err(Fault::AadTooLong);
-    }
-    if body.len() as u64 > suite.text_limit() {
-        return Err(Fault::TextTooLong);
-    }
+    suite.check_aad(aad)?;
+    suite.check_text(body)?;
     if suite.is_one_pass() {
         let mut authenticator = authenticator(nonced, aad);
         authenticator.update(body);
@@ -128,12 +119,10 @@ fn open_checked<N: Nonced>(nonced: &N, aad: &[u8], body: &mut [u8], tag: &Tag) -
             return Err(Fault::TagMismatch);
         }
         nonced.mask(tag).apply_to(body);
-        are_bytes(body);
         return Ok(());
     }
     let mut opening = masking(nonced, aad, tag, false);
     opening.update(body);
-    are_bytes(body);
     if same(opening.finish().bytes(), given) {
         return Ok(());
     }

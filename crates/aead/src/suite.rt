@@ -1,9 +1,11 @@
 // The suites: their names and limits.
 
-ghost use Rattle.std.specs.Prelude.{◌≡◌, ◌↔◌};
+ghost use Rattle.std.specs.Prelude.{◌≡◌, ◌↔◌, ◌<◌, ◌≤◌, ℕ, get_or, length, MatchResult};
 ghost use Rattle.aead.specs.declared.suite.Suite.{Suite};
 ghost use Rattle.aead.specs.Suites.{suite_name, key_length, text_limit, aad_limit, construction_of};
 ghost use Rattle.aead.specs.Suites.{is_one_pass};
+
+use octets::Fault;
 
 /// A way of authenticated encryption with its key length.
 #[derive(Clone, Copy, Debug, PartialEq, Eq, Drop)]
@@ -103,5 +105,28 @@ impl Suite {
             Suite::Aes128Gcm | Suite::Aes192Gcm | Suite::Aes256Gcm => (1 << 61) - 1,
             Suite::Aes128GcmSiv | Suite::Aes256GcmSiv => 1 << 36,
         }
+    }
+
+    // Refuses a text past the limit.
+    pub(crate) fn check_text(self, text: &[u8]) -> Result<(), Fault>
+        ensures answer { MatchResult result (λ _. length text.now ≤ text_limit self)
+            (λ e. (e ≡ Fault.TextTooLong) × (text_limit self < length text.now)) }
+        ensures bytes { (i : ℕ) → get_or text.now i 0 < 256 }
+    {
+        if text.len() as u64 > self.text_limit() {
+            return Err(Fault::TextTooLong);
+        }
+        Ok(())
+    }
+
+    // Refuses associated data past the limit.
+    pub(crate) fn check_aad(self, aad: &[u8]) -> Result<(), Fault>
+        ensures { MatchResult result (λ _. length aad.now ≤ aad_limit self)
+            (λ e. (e ≡ Fault.AadTooLong) × (aad_limit self < length aad.now)) }
+    {
+        if aad.len() as u64 > self.aad_limit() {
+            return Err(Fault::AadTooLong);
+        }
+        Ok(())
     }
 }

@@ -24,12 +24,8 @@ fn seal_by<A: Allocator, C: Aead>(
         MatchResult result (λ v. Opened s v.items text.now) (λ e. WholeSealRefused s text.now e) }
 {
     let suite = cipher.suite();
-    if aad.len() as u64 > suite.aad_limit() {
-        return Err(Fault::AadTooLong);
-    }
-    if text.len() as u64 > suite.text_limit() {
-        return Err(Fault::TextTooLong);
-    }
+    suite.check_aad(aad)?;
+    suite.check_text(text)?;
     let mut sealed = Vec::with_capacity(alloc, text.len() + 16)?;
     sealed.extend_from_slice(text)?;
     let tag = cipher.seal_in_place(nonce, aad, &mut sealed)?;
@@ -49,15 +45,11 @@ fn open_by<A: Allocator, C: Aead>(
         MatchResult result (λ v. Opened s sealed.now v.items) (λ e. WholeOpenRefused s sealed.now e) }
 {
     let suite = cipher.suite();
-    if aad.len() as u64 > suite.aad_limit() {
-        return Err(Fault::AadTooLong);
-    }
+    suite.check_aad(aad)?;
     let Some((body, tag)) = sealed.split_last_chunk() else {
         return Err(Fault::TooShort);
     };
-    if body.len() as u64 > suite.text_limit() {
-        return Err(Fault::TextTooLong);
-    }
+    suite.check_text(body)?;
     let mut text = Vec::from_slice(alloc, body)?;
     cipher.open_in_place(nonce, aad, &mut text, &Tag::new(*tag))?;
     Ok(text)

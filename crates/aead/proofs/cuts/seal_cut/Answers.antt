@@ -48,4 +48,4 @@ returns-in-Ok-add-3 g c =
     (encrypted_all s text cuts c.add-2.new.self place pieces more added).encrypted in
     cut_sealing s text cuts c.loop-cut.cutting c.add-2.new.self c.loop-cut.cut-index place c.bytes.result.now
     pieces more all c.loop-cut-test.false
-    c.are_bytes.ensures.bytes c.loop-cut.invariant added tag_is c.in-Ok-add-3.ensures
+    (λ i. (c.type_inv.text i).fits) c.loop-cut.invariant added tag_is c.in-Ok-add-3.ensures
