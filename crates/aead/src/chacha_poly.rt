@@ -16,6 +16,19 @@ use octets::{Fault, Key32, Nonce, Tag};
 use poly1305::Poly;
 use std::marker::Model;
 
+// A key whose suite is this one.
+trait ChaChaKey {
+    // The suite.
+    fn suite(&self) -> Suite
+        ensures { result ≡ ChaCha20Poly1305 };
+}
+
+impl ChaChaKey for Key32 {
+    fn suite(&self) -> Suite {
+        Suite::ChaCha20Poly1305
+    }
+}
+
 /// ChaCha20-Poly1305 under a key of 32 bytes (RFC 8439, 2.8). Opening in place authenticates before it
 /// changes a byte. Contracts see its suite and key. `AnyAead::new` makes it.
 #[derive(Drop)]
@@ -76,7 +89,7 @@ impl<'a> Nonced for NoncedChaCha<'a> {
     ghost nonce = { λ m. m.nonce.now };
 
     fn suite(&self) -> Suite {
-        Suite::ChaCha20Poly1305
+        self.key.suite()
     }
 
     fn mask(&self, _tag: &Tag) -> ChaStream {
@@ -112,7 +125,7 @@ impl<'a> Nonced for BegunChaCha<'a> {
     ghost nonce = { λ m. m.nonce.now };
 
     fn suite(&self) -> Suite {
-        Suite::ChaCha20Poly1305
+        self.key.suite()
     }
 
     fn mask(&self, _tag: &Tag) -> BegunStream<'a> {
@@ -134,8 +147,7 @@ impl Aead for ChaChaPoly {
     ghost keyed = { λ c. c };
 
     fn suite(&self) -> Suite {
-        let _key = &self.key;
-        Suite::ChaCha20Poly1305
+        self.key.suite()
     }
 
     fn seal_in_place(&self, nonce: &Nonce, aad: &[u8], text: &mut [u8]) -> Result<Tag, Fault> {
