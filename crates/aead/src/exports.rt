@@ -3,8 +3,10 @@
 ghost use Rattle.std.specs.Prelude.{◌≡◌, ◌≢◌, ◌↔◌, MatchResult};
 ghost use Rattle.octets.specs.Numbers.{HasOutcome};
 ghost use Rattle.aead.specs.declared.suite.Suite.{Suite};
-ghost use Rattle.aead.specs.Exports.{suite_number, setting_of, WasSealed, WasNotSealed, WasOpened};
-ghost use Rattle.aead.specs.Exports.{WasNotOpened};
+ghost use Rattle.aead.specs.Ciphers.{setting};
+ghost use Rattle.aead.specs.AnyCiphers.{keyed_of};
+ghost use Rattle.aead.specs.Exports.{suite_number, setting_of, HasLengths, WasSealed, WasNotSealed};
+ghost use Rattle.aead.specs.Exports.{WasOpened, WasNotOpened};
 
 use crate::aead::Aead;
 use crate::any::AnyAead;
@@ -30,6 +32,20 @@ fn suite_numbered(number: u32) -> Option<Suite>
 }
 
 // Seals the bytes before the last sixteen, where the tag goes.
+fn seal_room(cipher: &AnyAead, nonce: &Nonce, aad: &[u8], bytes: &mut [u8]) -> Result<(), Fault>
+    ensures { let s = setting (keyed_of cipher.now) nonce.now aad.now in HasLengths s →
+        MatchResult result (λ _. WasSealed s bytes.old bytes.new) (WasNotSealed s bytes.old bytes.new) }
+{
+    cipher.suite().check_aad(aad)?;
+    let Some((body, last)) = bytes.split_last_chunk_mut() else {
+        return Err(Fault::TooShort);
+    };
+    let tag = cipher.seal_in_place(nonce, aad, body)?;
+    *last = *tag.bytes();
+    Ok(())
+}
+
+// The same under the bytes of a key and of a nonce.
 fn seal_bytes(
     suite: Suite,
     key: &[u8],
@@ -42,21 +58,22 @@ fn seal_bytes(
 {
     let cipher = AnyAead::new(suite, key)?;
     let nonce = Nonce::from_slice(nonce)?;
-    suite.check_aad(aad)?;
-    if bytes.len() < 16 {
-        return Err(Fault::TooShort);
-    }
-    let (body, last) = bytes.split_at_mut(bytes.len() - 16);
-    match cipher.seal_in_place(&nonce, aad, body) {
-        Ok(tag) => {
-            last.copy_from_slice(tag.bytes());
-            Ok(())
-        }
-        Err(fault) => Err(fault),
-    }
+    seal_room(&cipher, &nonce, aad, bytes)
 }
 
 // Opens the bytes before the last sixteen, which are the tag.
+fn open_room(cipher: &AnyAead, nonce: &Nonce, aad: &[u8], bytes: &mut [u8]) -> Result<(), Fault>
+    ensures { let s = setting (keyed_of cipher.now) nonce.now aad.now in HasLengths s →
+        MatchResult result (λ _. WasOpened s bytes.old bytes.new) (WasNotOpened s bytes.old bytes.new) }
+{
+    cipher.suite().check_aad(aad)?;
+    let Some((body, last)) = bytes.split_last_chunk_mut() else {
+        return Err(Fault::TooShort);
+    };
+    cipher.open_in_place(nonce, aad, body, &Tag::new(*last))
+}
+
+// The same under the bytes of a key and of a nonce.
 fn open_bytes(
     suite: Suite,
     key: &[u8],
@@ -69,14 +86,7 @@ fn open_bytes(
 {
     let cipher = AnyAead::new(suite, key)?;
     let nonce = Nonce::from_slice(nonce)?;
-    suite.check_aad(aad)?;
-    if bytes.len() < 16 {
-        return Err(Fault::TooShort);
-    }
-    let (body, last) = bytes.split_at_mut(bytes.len() - 16);
-    let mut tag = [0; 16];
-    tag.copy_from_slice(last);
-    cipher.open_in_place(&nonce, aad, body, &Tag::new(tag))
+    open_room(&cipher, &nonce, aad, bytes)
 }
 
 /// Seals in place: the bytes are a text and room for a tag of 16 bytes, and become the sealing.
