@@ -84,6 +84,12 @@ padded_long text =
     ∙ ap (λ n. length text + n) (length-replicate ((8 - length text % 8) % 8) 0) in
     (omega arith, omega arith, omega arith)
 
+-- whole blocks are padded by nothing
+pub padded_whole : (text : List ℕ) → length text % 8 ≡ 0 → padded text ≡ text
+padded_whole text whole =
+    let none : (8 - length text % 8) % 8 ≡ 0 = omega (arith, whole) in
+    ap (λ n. text ++ replicate n 0) none ∙ append-nil text
+
 -- what the wrapping of a text begins with
 abbrev pub start : List ℕ → List ℕ
 start text = alternative_value (length text) ++ padded text
@@ -191,17 +197,22 @@ made_length false key s e l =
     let d : length s ≢ 16 = λ is. fails (sym (ap (λ m. eqb m 16) is) ∙ e) in
     ap length (transformed_more key s d) ∙ steps_length key s (6 * ((length s - 8) / 8)) l
 
+-- a wrapping with padding is eight bytes longer than the padded text, whatever the key
+pub wrapped_longer : (key wrapped text : List ℕ) → UnwrappedPadded key wrapped text
+    → length wrapped ≡ 8 + length (padded text)
+wrapped_longer key wrapped text u =
+    let s : List ℕ = start text in
+    let begins : length s ≡ 8 + length (padded text) =
+    length-append (alternative_value (length text)) (padded text) in
+    ap length u.is ∙ made_length (eqb (length s) 16) key s refl
+    (omega (arith, begins, start_long text u.length_is.least)) ∙ begins
+
 -- the lengths of a wrapping with padding
 pub wrapped_long : (key wrapped text : List ℕ) → UnwrappedPadded key wrapped text
     → HasBlocks wrapped × (length wrapped ≤ 2 ^ 32 + 8)
 wrapped_long key wrapped text u =
-    let s : List ℕ = start text in
     let fits = padded_long text in
-    let begins : length s ≡ 8 + length (padded text) =
-    length-append (alternative_value (length text)) (padded text) in
-    let long : length wrapped ≡ 8 + length (padded text) =
-    ap length u.is ∙ made_length (eqb (length s) 16) key s refl
-    (omega (arith, begins, start_long text u.length_is.least)) ∙ begins in (
+    let long : length wrapped ≡ 8 + length (padded text) = wrapped_longer key wrapped text u in (
       record {
         least = omega (arith, long, fits.0, fits.1, u.length_is.least);
         whole =

@@ -1,5 +1,6 @@
 pub mod Wrapping
 pub mod Padded
+pub mod Semiblocks
 pub mod Blocks
 pub mod Refusals
 pub mod Exports

@@ -9,8 +9,12 @@ ghost use Rattle.keywrap.specs.Blocks.{WrapsByBlocks};
 
 mod exports;
 mod in_place;
+mod judged;
 mod padded;
 mod padded_in_place;
+mod passes;
+mod passes_back;
+mod semiblocks;
 mod steps;
 #[cfg(test)]
 mod tests;
@@ -19,8 +23,10 @@ mod uses;
 mod whole;
 
 pub use in_place::{unwrap_in_place, wrap_in_place};
+pub use judged::{is_no_padded_wrapping, is_no_wrapping, is_padded_wrapping, is_wrapping};
 pub use padded::{unwrap_padded, wrap_padded};
 pub use padded_in_place::{unwrap_padded_in_place, wrap_padded_in_place};
+pub use semiblocks::Semiblocks;
 pub use whole::{unwrap, wrap};
 
 /// The law of wrapping (RFC 3394): a wrapping has one text, and is eight bytes longer. The call does

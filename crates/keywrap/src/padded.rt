@@ -60,7 +60,7 @@ fn untransform(key: &AesKey, first: &mut [u8; 8], blocks: &mut [u8])
 }
 
 // The length that an alternative initial value tells.
-fn told_length(first: &[u8; 8]) -> Option<u32>
+pub(crate) fn told_length(first: &[u8; 8]) -> Option<u32>
     ensures { MatchOption result ((n : ℕ) → n < 2 ^ 32 → first.now ≢ alternative_value n)
         (λ n. (n < 2 ^ 32) × (first.now ≡ alternative_value n)) }
 {
@@ -76,7 +76,7 @@ fn told_length(first: &[u8; 8]) -> Option<u32>
 }
 
 // Whether all bytes are zero.
-fn are_zero(bytes: &[u8]) -> bool
+pub(crate) fn are_zero(bytes: &[u8]) -> bool
     ensures { result ≡ list_all (λ b. b == 0) bytes.now }
 {
     bytes.iter().all(|b| *b == 0)

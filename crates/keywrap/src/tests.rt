@@ -4,6 +4,7 @@ use octets::{Fault, RefusingMemory};
 use std::alloc::Allocator;
 use std::test::Fail;
 
+mod judged;
 mod padded;
 
 // A key of n bytes is the first n of these.
