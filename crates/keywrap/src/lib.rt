@@ -1,6 +1,7 @@
 //! AES Key Wrap, with the default initial value (RFC 3394; SP 800-38F, 6.1 and 6.2) and with padding (RFC
 //! 5649). `wrap`, `unwrap`, `wrap_padded` and `unwrap_padded` make a new vector; their forms `_in_place`
-//! work in the caller's bytes and take no memory.
+//! work in the caller's bytes and take no memory. `is_wrapping`, `is_no_wrapping` and their forms with
+//! padding tell of bytes that are read by `Semiblocks` whether they are a wrapping, and take none either.
 #![tactic(auto)]
 
 ghost use Rattle.keywrap.specs.Wrapping.{HasOneText};
