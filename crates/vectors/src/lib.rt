@@ -14,6 +14,7 @@ mod lines;
 mod place;
 mod reading;
 mod report;
+mod semiblocks;
 mod suite;
 #[cfg(test)]
 mod tests;

@@ -11,6 +11,7 @@ mod cuts;
 mod damaged;
 mod files;
 mod growths;
+mod large;
 mod published;
 mod whole;
 

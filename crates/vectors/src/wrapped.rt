@@ -29,8 +29,12 @@ fn aes_key(digits: Digits<'_>) -> AesKey
     key
 }
 
+/// Up to how many bytes a text or a wrapping is judged in a room of its own. More are read by semiblocks,
+/// again for each round, which takes three and a half times as long but no memory.
+const MOST_IN_ROOM: usize = 1 << 14;
+
 /// Whether the sealed bytes are the wrapping of the text, which is wrapped and compared with them.
-fn is_wrapping<A: Allocator>(
+fn is_wrapping_in_room<A: Allocator>(
     alloc: A,
     key: &AesKey,
     sealed: Digits<'_>,
@@ -44,8 +48,26 @@ fn is_wrapping<A: Allocator>(
     Ok(done.is_ok() && are_spelled(&bytes, sealed))
 }
 
-/// The same with padding.
-fn is_padded_wrapping<A: Allocator>(
+/// Whether the sealed bytes are the wrapping of the text. Another length than its wrapping's needs no room.
+fn is_wrapping<A: Allocator>(
+    alloc: A,
+    key: &AesKey,
+    sealed: Digits<'_>,
+    text: Digits<'_>,
+) -> Result<bool, AllocError>
+    ensures { IfOk result
+        (λ b. IsTrue b ↔ Unwrapped key.now (bytes_in sealed.entry) (bytes_in text.entry)) }
+{
+    let count = text.byte_count();
+    if count > MOST_IN_ROOM || sealed.byte_count() != 8 + count {
+        return Ok(keywrap::is_wrapping(key, &text, &sealed));
+    }
+    is_wrapping_in_room(alloc, key, sealed, text)
+}
+
+/// Whether the sealed bytes are the wrapping of the text with padding, which is wrapped and compared with
+/// them.
+fn is_padded_wrapping_in_room<A: Allocator>(
     alloc: A,
     key: &AesKey,
     sealed: Digits<'_>,
@@ -60,7 +82,26 @@ fn is_padded_wrapping<A: Allocator>(
     Ok(done.is_ok() && are_spelled(&bytes, sealed))
 }
 
-/// Whether the sealed bytes are the wrapping of no text: they can't be unwrapped in their place.
+/// Whether the sealed bytes are the wrapping of the text with padding. Another length than its wrapping's
+/// needs no room.
+fn is_padded_wrapping<A: Allocator>(
+    alloc: A,
+    key: &AesKey,
+    sealed: Digits<'_>,
+    text: Digits<'_>,
+) -> Result<bool, AllocError>
+    ensures { IfOk result
+        (λ b. IsTrue b ↔ UnwrappedPadded key.now (bytes_in sealed.entry) (bytes_in text.entry)) }
+{
+    let count = text.byte_count();
+    if count > MOST_IN_ROOM || sealed.byte_count() != 8 + count + (8 - count % 8) % 8 {
+        return Ok(keywrap::is_padded_wrapping(key, &text, &sealed));
+    }
+    is_padded_wrapping_in_room(alloc, key, sealed, text)
+}
+
+/// Whether the sealed bytes are the wrapping of no text: where there is room for them, they can't be
+/// unwrapped in their place.
 fn is_no_wrapping<A: Allocator>(
     alloc: A,
     key: &AesKey,
@@ -68,6 +109,9 @@ fn is_no_wrapping<A: Allocator>(
 ) -> Result<bool, AllocError>
     ensures { IfOk result (λ b. IsTrue b ↔ IsNoWrapping key.now (bytes_in sealed.entry)) }
 {
+    if sealed.byte_count() > MOST_IN_ROOM {
+        return Ok(keywrap::is_no_wrapping(key, &sealed));
+    }
     let mut bytes = sealed.bytes(alloc)?;
     Ok(unwrap_in_place(key, &mut bytes).is_err())
 }
@@ -80,6 +124,9 @@ fn is_no_padded_wrapping<A: Allocator>(
 ) -> Result<bool, AllocError>
     ensures { IfOk result (λ b. IsTrue b ↔ IsNoPaddedWrapping key.now (bytes_in sealed.entry)) }
 {
+    if sealed.byte_count() > MOST_IN_ROOM {
+        return Ok(keywrap::is_no_padded_wrapping(key, &sealed));
+    }
     let mut bytes = sealed.bytes(alloc)?;
     Ok(unwrap_padded_in_place(key, &mut bytes).is_err())
 }

@@ -145,7 +145,7 @@ fn refused_growths_at_wrappings_with_padding(rt: HostRuntime) -> Result<(), Fail
 #[test]
 fn a_large_record_makes_no_more_requests(rt: HostRuntime) -> Result<(), Fail> {
     let file = large_file(rt.alloc(), 70_000)?;
-    assert_eq!(rt; requests(&rt, &file, 2, &[]), Some(2));
+    assert_eq!(rt; requests(&rt, &file, 2, &[]), Some(1));
     Ok(())
 }
 
