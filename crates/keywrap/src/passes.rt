@@ -112,7 +112,7 @@ pub(crate) fn steps_make<T: Semiblocks, W: Semiblocks>(
 {
     let count = wrapped.byte_count() / 8 - 1;
     let mut firsts = starts(key, first, text, count);
-    'places: for i in 0..count {
+    'compared: for i in 0..count {
         let block = through_rounds(key, count, i, 6, text.semiblock(i), &mut firsts);
         if !are_equal(block, wrapped.semiblock(i + 1)) {
             return false;

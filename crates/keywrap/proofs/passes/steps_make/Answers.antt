@@ -64,8 +64,8 @@ all_come_out key first text wrapped n a l eight is same =
           ∙ sym zero_is,
     )
 
-pub places-preserved : goal.places-preserved
-places-preserved g c =
+pub compared-preserved : goal.compared-preserved
+compared-preserved g c =
     let text : List ℕ = g.T.Semiblocks.bytes c.args.text.now in
     let wrapped : List ℕ = g.W.Semiblocks.bytes c.args.wrapped.now in
     let s : List ℕ = c.args.first.now ++ padded text in
@@ -73,16 +73,16 @@ places-preserved g c =
     let l : AreLong n text wrapped = are_long c.byte_count.result text wrapped c.requires.some
     c.requires.length c.byte_count.ensures.count in
     let long : length s ≡ 8 + 8 * n = begins_long n c.args.first.now text wrapped l c.told-first in
-    let block : c.semiblock.result ≡ next_after c.args.key.now s c.places.i = c.semiblock.ensures
-    ∙ sym (next_at_first c.args.key.now c.args.first.now (padded text) n c.places.i c.told-first l.text_long
-    c.places-test.true) in
+    let block : c.semiblock.result ≡ next_after c.args.key.now s c.compared.i = c.semiblock.ensures
+    ∙ sym (next_at_first c.args.key.now c.args.first.now (padded text) n c.compared.i c.told-first l.text_long
+    c.compared-test.true) in
     record {
-      firsts = c.through_rounds-block.ensures.firsts s long block c.places.invariant.firsts;
+      firsts = c.through_rounds-block.ensures.firsts s long block c.compared.invariant.firsts;
       same = below_more (λ (k : ℕ). next_after c.args.key.now s (n * 6 + k) ≡ semiblock wrapped (k + 1))
-          c.places.i c.places.invariant.same
-          (sym (c.through_rounds-block.ensures.block s long block c.places.invariant.firsts)
-          ∙ c.are_equal.ensures.0 c.if-not-are_equal.false ∙ c.semiblock-in-places.ensures
-          ∙ ap (λ w. semiblock w (c.places.i + 1)) (padded_whole wrapped l.whole));
+          c.compared.i c.compared.invariant.same
+          (sym (c.through_rounds-block.ensures.block s long block c.compared.invariant.firsts)
+          ∙ c.are_equal.ensures.0 c.if-not-are_equal.false ∙ c.semiblock-in-compared.ensures
+          ∙ ap (λ w. semiblock w (c.compared.i + 1)) (padded_whole wrapped l.whole));
     }
 
 pub returns-then-not-are_equal : goal.returns-then-not-are_equal
@@ -94,15 +94,15 @@ returns-then-not-are_equal g c =
     let l : AreLong n text wrapped = are_long c.byte_count.result text wrapped c.requires.some
     c.requires.length c.byte_count.ensures.count in
     let long : length s ≡ 8 + 8 * n = begins_long n c.args.first.now text wrapped l c.told-first in
-    let block : c.semiblock.result ≡ next_after c.args.key.now s c.places.i = c.semiblock.ensures
-    ∙ sym (next_at_first c.args.key.now c.args.first.now (padded text) n c.places.i c.told-first l.text_long
-    c.places-test.true) in (
+    let block : c.semiblock.result ≡ next_after c.args.key.now s c.compared.i = c.semiblock.ensures
+    ∙ sym (next_at_first c.args.key.now c.args.first.now (padded text) n c.compared.i c.told-first l.text_long
+    c.compared-test.true) in (
       λ t. absurd cc,
       λ e. absurd (true≢false (sym (c.are_equal.ensures.1
-          (c.through_rounds-block.ensures.block s long block c.places.invariant.firsts
-          ∙ comes_out c.args.key.now c.args.first.now text wrapped n c.places.i l c.told-first
-          c.places-test.true e
-          ∙ sym c.semiblock-in-places.ensures)) ∙ c.if-not-are_equal.true)),
+          (c.through_rounds-block.ensures.block s long block c.compared.invariant.firsts
+          ∙ comes_out c.args.key.now c.args.first.now text wrapped n c.compared.i l c.told-first
+          c.compared-test.true e
+          ∙ sym c.semiblock-in-compared.ensures)) ∙ c.if-not-are_equal.true)),
     )
 
 pub returns : goal.returns
@@ -113,13 +113,13 @@ returns g c =
     let n : ℕ = c.byte_count.result / 8 - 1 in
     let l : AreLong n text wrapped = are_long c.byte_count.result text wrapped c.requires.some
     c.requires.length c.byte_count.ensures.count in
-    let all : c.places.i ≡ n = omega arith in
-    let last : n * 5 + c.places.i ≡ n * 6 = omega (arith, all) in
-    let both = all_come_out c.args.key.now c.args.first.now text wrapped n (get_or c.places.firsts 5 []) l
+    let all : c.compared.i ≡ n = omega arith in
+    let last : n * 5 + c.compared.i ≡ n * 6 = omega (arith, all) in
+    let both = all_come_out c.args.key.now c.args.first.now text wrapped n (get_or c.compared.firsts 5 []) l
     c.told-first
-    (c.places.invariant.firsts 5 (omega arith) (omega arith)
+    (c.compared.invariant.firsts 5 (omega arith) (omega arith)
     ∙ ap (first_after c.args.key.now s) last)
-    (λ k less. c.places.invariant.same k (omega (arith, all, less))) in (
+    (λ k less. c.compared.invariant.same k (omega (arith, all, less))) in (
       λ t. both.0 (c.are_equal-2.ensures.0 t ∙ c.semiblock-2.ensures),
       λ e. c.are_equal-2.ensures.1 (both.1 e ∙ sym c.semiblock-2.ensures),
     )
