@@ -10,11 +10,4 @@ here=$(cd "$(dirname "$0")" && pwd)
 room=$(mktemp -d)
 trap 'rm -rf "$room"' EXIT
 copy "$repository" "$room" staticlib
-for name in keywrap aead; do
-    build "$room" "$name" "$@"
-    (cd "$room" && ar x "crates/$name/out/lib$name.a")
-done
-rm -f "$out/libaeadkit.a"
-ar rcs "$out/libaeadkit.a" "$room/aead.o" "$room/keywrap.o"
-cc -shared -o "$out/libaeadkit.so" -Wl,--whole-archive "$out/libaeadkit.a" -Wl,--no-whole-archive \
-    -Wl,--no-undefined-version -Wl,--version-script="$here/exports.map"
+archive "$room" "$out" "$here/exports.map" "$@"

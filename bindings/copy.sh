@@ -1,7 +1,8 @@
-# Functions of the scripts beside it, which read it.
+# Functions of the scripts beside it and of .ci/run, which read it.
 
 # Copies what the library is made of to a folder outside the repository, in which crates.txt names aead and keywrap as
 # libraries of a kind and leaves out what depends on them: copy REPOSITORY ROOM KIND
+# What earlier checks kept of the crates is copied too, so that it is not proved anew.
 copy() {
     mkdir "$2/crates"
     grep -Ev '^(vectors|aeadkit):' "$1/crates.txt" | sed -E "s/^(aead|keywrap):/\\1 $3:/" > "$2/crates.txt"
@@ -21,4 +22,20 @@ build() {
         exit 1
     }
     grep '^logic=' "$log" | tail -n 1
+}
+
+# Builds OUT/libaeadkit.a and OUT/libaeadkit.so of the copy: archive ROOM OUT EXPORTS [rattle's flags]
+archive() {
+    room=$1
+    out=$2
+    exports=$3
+    shift 3
+    for name in keywrap aead; do
+        build "$room" "$name" "$@"
+        (cd "$room" && ar x "crates/$name/out/lib$name.a")
+    done
+    rm -f "$out/libaeadkit.a"
+    ar rcs "$out/libaeadkit.a" "$room/aead.o" "$room/keywrap.o"
+    cc -shared -o "$out/libaeadkit.so" -Wl,--whole-archive "$out/libaeadkit.a" -Wl,--no-whole-archive \
+        -Wl,--no-undefined-version -Wl,--version-script="$exports"
 }
