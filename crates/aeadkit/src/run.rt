@@ -1,17 +1,20 @@
 //! The program, over a writer for each stream.
-ghost use Rattle.std.specs.Prelude.{◌≤◌, ◌≡◌, IfOk, MatchResult, string_bytes};
+ghost use Rattle.std.specs.Prelude.{◌≤◌, ◌≡◌, ◌⊎◌, IfOk, MatchResult, string_bytes};
 ghost use Rattle.std.specs.Io.KnownBytes.{Appends};
-ghost use Rattle.aeadkit.specs.Answers.{Surroundings, Answered, Stopped, IsOutputFailure, IsRefusedAs};
-ghost use Rattle.aeadkit.specs.Answers.{HasOutcome, Ends};
+ghost use Rattle.aead.specs.Refusals.{WholeSealRefused, WholeOpenRefused};
+ghost use Rattle.aeadkit.specs.Aead.{IsSealed, IsOpened, IsRefused};
+ghost use Rattle.aeadkit.specs.Answers.{Surroundings, Printed, Answered, Stopped, IsOutputFailure};
+ghost use Rattle.aeadkit.specs.Answers.{IsRefusedAs, HasOutcome, Ends};
 ghost use Rattle.aeadkit.specs.Hex.{hex_line};
+ghost use Rattle.aeadkit.specs.Keywrap.{IsWrapped, IsUnwrapped, IsWrapRefused, WrapFault, UnwrapFault};
 ghost use Rattle.aeadkit.specs.NewFiles.{held};
-ghost use Rattle.aeadkit.specs.Reports.{report_text};
+ghost use Rattle.aeadkit.specs.Reports.{report_text, IsChecked, FileRefused};
 ghost use Rattle.aeadkit.specs.Statuses.{failure_status};
 
 use crate::failure::{Failure, fault_of};
 use crate::new_file::NewFile;
 use crate::storage::Storage;
-use crate::words::{Refusal, Request};
+use crate::words::{Inputs, Refusal, Request};
 use crate::{commands, files, words};
 use octets::{Fault, Outlet};
 use std::alloc::{AllocError, Allocator, Global};
@@ -73,6 +76,84 @@ fn print_report<A: Allocator, W: Write>(
     print(out, &text)
 }
 
+/// Prints the sealing of a text.
+fn print_sealing<A: Allocator, W: Write>(
+    alloc: &A,
+    inputs: &Inputs<'_>,
+    out: &mut W,
+) -> Result<u8, Failure>
+    ensures { MatchResult result
+        (Printed (IsSealed inputs.now) (W.contents out.old) (W.contents out.new))
+        (λ e. IsRefused WholeSealRefused inputs.now e ⊎ IsOutputFailure e) }
+{
+    let sealed = commands::seal(alloc, inputs)?;
+    print_bytes(alloc, out, &sealed)
+}
+
+/// Prints the text of sealed bytes.
+fn print_opening<A: Allocator, W: Write>(
+    alloc: &A,
+    inputs: &Inputs<'_>,
+    out: &mut W,
+) -> Result<u8, Failure>
+    ensures { MatchResult result
+        (Printed (IsOpened inputs.now) (W.contents out.old) (W.contents out.new))
+        (λ e. IsRefused WholeOpenRefused inputs.now e ⊎ IsOutputFailure e) }
+{
+    let opened = commands::open(alloc, inputs)?;
+    print_bytes(alloc, out, &opened)
+}
+
+/// Prints the wrapping of a text.
+fn print_wrapping<A: Allocator, W: Write>(
+    alloc: &A,
+    key: &str,
+    text: &str,
+    pad: bool,
+    out: &mut W,
+) -> Result<u8, Failure>
+    ensures { MatchResult result
+        (Printed (IsWrapped pad key.now text.now) (W.contents out.old) (W.contents out.new))
+        (λ e. IsWrapRefused (WrapFault pad) key.now text.now e ⊎ IsOutputFailure e) }
+{
+    let wrapped = commands::wrap(alloc, key, text, pad)?;
+    print_bytes(alloc, out, &wrapped)
+}
+
+/// Prints the text of a wrapping.
+fn print_unwrapping<A: Allocator, W: Write>(
+    alloc: &A,
+    key: &str,
+    sealed: &str,
+    pad: bool,
+    out: &mut W,
+) -> Result<u8, Failure>
+    ensures { MatchResult result
+        (Printed (IsUnwrapped pad key.now sealed.now) (W.contents out.old) (W.contents out.new))
+        (λ e. IsWrapRefused (UnwrapFault pad) key.now sealed.now e ⊎ IsOutputFailure e) }
+{
+    let text = commands::unwrap(alloc, key, sealed, pad)?;
+    print_bytes(alloc, out, &text)
+}
+
+/// Prints the report of a vector file, and answers status 0, or 1 where a record is bad or none is there.
+fn print_checking<A: Allocator, F: Storage, W: Write>(
+    alloc: &A,
+    files: &F,
+    path: &str,
+    out: &mut W,
+) -> Result<u8, Failure>
+    ensures answer { MatchResult result
+        (IsChecked (F.contents files.now path.now 0) (W.contents out.old) (W.contents out.new))
+        (λ e. FileRefused (F.contents files.now path.now 0) e ⊎ IsOutputFailure e) }
+    ensures status { IfOk result (λ status. status ≤ 1) }
+{
+    let report = commands::check(alloc, files, path)?;
+    let status = if report.yes() { 0 } else { 1 };
+    print_report(alloc, out, report.records, &report.bad)?;
+    Ok(status)
+}
+
 /// Does what a request asks for: prints its answer, and answers the status, 0, or 1 for a file with bad
 /// records. In this order: the refusals of its values, those of the call, `Write`; `OutOfMemory` wherever a
 /// growth is refused.
@@ -95,30 +176,13 @@ pub fn perform<'a, A: Allocator, B: Allocator, F: Storage, W: Write>(
     ensures status { IfOk result (λ status. status ≤ 1) }
 {
     match request {
-        Request::Seal(inputs) => {
-            let sealed = commands::seal(alloc, inputs)?;
-            print_bytes(alloc, out, &sealed)
-        }
-        Request::Open(inputs) => {
-            let opened = commands::open(alloc, inputs)?;
-            print_bytes(alloc, out, &opened)
-        }
-        Request::Wrap { key, text, pad } => {
-            let wrapped = commands::wrap(alloc, key, text, *pad)?;
-            print_bytes(alloc, out, &wrapped)
-        }
-        Request::Unwrap { key, sealed, pad } => {
-            let text = commands::unwrap(alloc, key, sealed, *pad)?;
-            print_bytes(alloc, out, &text)
-        }
+        Request::Seal(inputs) => print_sealing(alloc, inputs, out),
+        Request::Open(inputs) => print_opening(alloc, inputs, out),
+        Request::Wrap { key, text, pad } => print_wrapping(alloc, key, text, *pad, out),
+        Request::Unwrap { key, sealed, pad } => print_unwrapping(alloc, key, sealed, *pad, out),
         Request::SealFile(words) => files::seal_file(alloc, files, words, file),
         Request::OpenFile(words) => files::open_file(alloc, files, words, file),
-        Request::Check { path } => {
-            let report = commands::check(alloc, files, path)?;
-            let status = if report.yes() { 0 } else { 1 };
-            print_report(alloc, out, report.records, &report.bad)?;
-            Ok(status)
-        }
+        Request::Check { path } => print_checking(alloc, files, path, out),
     }
 }
 

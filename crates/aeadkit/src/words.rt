@@ -147,6 +147,14 @@ fn over_files<'a>(
         .arg(option(alloc, OUT, "PATH", "The file that is written"))
 }
 
+/// The option of padding, which has no value.
+fn padding<'a>(alloc: Global) -> Arg<'a> {
+    Arg::new(alloc, PAD)
+        .long(PAD)
+        .help("With padding (RFC 5649)")
+        .action(ArgAction::SetTrue)
+}
+
 /// A subcommand that wraps or unwraps a body.
 fn under_key<'a>(
     alloc: Global,
@@ -155,67 +163,91 @@ fn under_key<'a>(
     more: &'a str,
     body: Arg<'a>,
 ) -> Result<Command<'a>, AllocError> {
-    let pad = Arg::new(alloc, PAD)
-        .long(PAD)
-        .help("With padding (RFC 5649)")
-        .action(ArgAction::SetTrue);
     subcommand(alloc, name, about, more)
         .arg(hex_option(alloc, KEY, WRAP_KEY))?
         .arg(body)?
-        .arg(pad)
+        .arg(padding(alloc))
 }
 
-/// The program's command line, for clap.
-fn command<'a>(alloc: Global) -> Result<Command<'a>, AllocError> {
+/// `seal`, for clap.
+fn sealing<'a>(alloc: Global) -> Result<Command<'a>, AllocError> {
     let text = hex_option(alloc, TEXT, "The text").required(false);
+    under_suite(alloc, SEAL, "Seals a text", SEAL_MORE)?.arg(text)
+}
+
+/// `open`, for clap.
+fn opening<'a>(alloc: Global) -> Result<Command<'a>, AllocError> {
     let sealed = hex_option(alloc, SEALED, "The ciphertext, then the tag");
+    under_suite(alloc, OPEN, "Opens sealed bytes", OPEN_MORE)?.arg(sealed)
+}
+
+/// `wrap`, for clap.
+fn wrapping<'a>(alloc: Global) -> Result<Command<'a>, AllocError> {
+    let text = hex_option(alloc, TEXT, "The text");
+    under_key(alloc, WRAP, "Wraps a text by AES Key Wrap", WRAP_MORE, text)
+}
+
+/// `unwrap`, for clap.
+fn unwrapping<'a>(alloc: Global) -> Result<Command<'a>, AllocError> {
+    let sealed = hex_option(alloc, SEALED, "The wrapping");
+    let about = "Unwraps the bytes of a wrapping";
+    under_key(alloc, UNWRAP, about, UNWRAP_MORE, sealed)
+}
+
+/// `seal-file`, for clap.
+fn file_sealing<'a>(alloc: Global) -> Result<Command<'a>, AllocError> {
+    over_files(
+        alloc,
+        SEAL_FILE,
+        "Seals a file into another",
+        SEAL_FILE_MORE,
+    )
+}
+
+/// `open-file`, for clap.
+fn file_opening<'a>(alloc: Global) -> Result<Command<'a>, AllocError> {
+    let about = "Opens a sealed file into another";
+    over_files(alloc, OPEN_FILE, about, OPEN_FILE_MORE)
+}
+
+/// `check`, for clap.
+fn checking<'a>(alloc: Global) -> Result<Command<'a>, AllocError> {
     let file = Arg::new(alloc, FILE)
         .value_name("FILE")
         .help("The vector file")
         .required(true)
         .action(ArgAction::Set);
+    let about = "Checks each record of a vector file against its standard";
+    subcommand(alloc, CHECK, about, CHECK_MORE).arg(file)
+}
+
+/// The program's command line without its subcommands, for clap.
+fn bare<'a>(alloc: Global) -> Result<Command<'a>, AllocError> {
     let about = "Authenticated encryption and key wrapping by published standards";
-    Command::new(alloc, "aeadkit")
-        .bin_name("aeadkit")?
-        .about(about)
-        .after_help(ABOUT_HEX)
-        .no_binary_name(true)
-        .subcommand_required(true)
-        .subcommand(under_suite(alloc, SEAL, "Seals a text", SEAL_MORE)?.arg(text)?)?
-        .subcommand(under_suite(alloc, OPEN, "Opens sealed bytes", OPEN_MORE)?.arg(sealed)?)?
-        .subcommand(under_key(
-            alloc,
-            WRAP,
-            "Wraps a text by AES Key Wrap",
-            WRAP_MORE,
-            hex_option(alloc, TEXT, "The text"),
-        )?)?
-        .subcommand(under_key(
-            alloc,
-            UNWRAP,
-            "Unwraps the bytes of a wrapping",
-            UNWRAP_MORE,
-            hex_option(alloc, SEALED, "The wrapping"),
-        )?)?
-        .subcommand(over_files(
-            alloc,
-            SEAL_FILE,
-            "Seals a file into another",
-            SEAL_FILE_MORE,
-        )?)?
-        .subcommand(over_files(
-            alloc,
-            OPEN_FILE,
-            "Opens a sealed file into another",
-            OPEN_FILE_MORE,
-        )?)?
-        .subcommand(subcommand(
-            alloc,
-            CHECK,
-            "Checks each record of a vector file against its standard",
-            CHECK_MORE,
-        )
-        .arg(file)?)
+    Ok(
+        Command::new(alloc, "aeadkit")
+            .about(about)
+            .after_help(ABOUT_HEX)
+            .no_binary_name(true)
+            .subcommand_required(true)
+            .bin_name("aeadkit")?,
+    )
+}
+
+/// A command line with a subcommand more, where memory was there for both.
+fn with<'a>(
+    command: Result<Command<'a>, AllocError>,
+    subcommand: Result<Command<'a>, AllocError>,
+) -> Result<Command<'a>, AllocError> {
+    command?.subcommand(subcommand?)
+}
+
+/// The program's command line, for clap.
+fn command<'a>(alloc: Global) -> Result<Command<'a>, AllocError> {
+    let values = with(with(bare(alloc), sealing(alloc)), opening(alloc));
+    let wraps = with(with(values, wrapping(alloc)), unwrapping(alloc));
+    let files = with(with(wraps, file_sealing(alloc)), file_opening(alloc));
+    with(files, checking(alloc))
 }
 
 /// The value of an option, or no bytes where it is not given.
