@@ -1,5 +1,6 @@
 #!/bin/sh
-# Proves the library crates and builds libaeadkit.a and libaeadkit.so: build.sh REPOSITORY OUT [rattle's flags, as --cpu=x86-64-v3]
+# Proves the library crates and builds libaeadkit.a and libaeadkit.so:
+# build.sh REPOSITORY OUT [rattle's flags, as --cpu=x86-64-v3]
 set -eu
 repository=$(cd "$1" && pwd)
 mkdir -p "$2"

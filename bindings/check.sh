@@ -1,6 +1,7 @@
 #!/bin/sh
 # Builds and runs the examples over OUT, which build.sh made, and looks at the library's names: check.sh OUT
-# It prints a line for each language, 'ok: ..', or 'left out: ..' where its compiler or interpreter is not there.
+# It prints a line for each language, 'ok: ..', or 'left out: ..' where its compiler or interpreter is not
+# there.
 set -eu
 out=$(cd "$1" && pwd)
 cd "$(dirname "$0")"
@@ -54,8 +55,9 @@ else
     echo "left out: Python, no python3 with ctypes"
 fi
 if makes "$room/probe.rs" rustc --edition 2024; then
-    rustc --edition 2024 -O -D warnings --crate-type rlib --crate-name aeadkit -L "$out" rust/aeadkit.rs --out-dir "$room"
-    rustc --edition 2024 -O -D warnings --extern aeadkit="$room/libaeadkit.rlib" rust/example.rs -o "$room/rust"
+    strict="--edition 2024 -O -D warnings"
+    rustc $strict --crate-type rlib --crate-name aeadkit -L "$out" rust/aeadkit.rs --out-dir "$room"
+    rustc $strict --extern aeadkit="$room/libaeadkit.rlib" rust/example.rs -o "$room/rust"
     "$room/rust"
     echo "ok: Rust"
 else

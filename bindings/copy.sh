@@ -1,7 +1,7 @@
 # Functions of the scripts beside it and of .ci/run, which read it.
 
-# Copies what the library is made of to a folder outside the repository, in which crates.txt names aead and keywrap as
-# libraries of a kind and leaves out what depends on them: copy REPOSITORY ROOM KIND
+# Copies what the library is made of to a folder outside the repository, in which crates.txt names aead and
+# keywrap as libraries of a kind and leaves out what depends on them: copy REPOSITORY ROOM KIND
 # What earlier checks kept of the crates is copied too, so that it is not proved anew.
 copy() {
     mkdir "$2/crates"

@@ -1,6 +1,6 @@
 #!/bin/sh
-# Proves the library crates, builds OUT/aead.wasm and OUT/keywrap.wasm, and runs their example where node is there:
-# wasm.sh REPOSITORY OUT. The modules import nothing; they want a host with 64-bit memories.
+# Proves the library crates, builds OUT/aead.wasm and OUT/keywrap.wasm, and runs their example where node is
+# there: wasm.sh REPOSITORY OUT. The modules import nothing; they want a host with 64-bit memories.
 set -eu
 repository=$(cd "$1" && pwd)
 mkdir -p "$2"
