@@ -38,9 +38,28 @@ pub fn bytes(rt: &(impl Abort + Alloc<A = Global>), digits: &str) -> Vec<u8> {
 }
 
 /// Makes a folder, without what an earlier run left in it.
-fn make_folder(rt: &HostRuntime, folder: &str) -> Result<(), Fail> {
+fn make_folder(rt: &(impl Abort + Files + Alloc), folder: &str) {
     let _ = fs::remove_dir_all(rt, folder);
-    Ok(fs::create_dir(rt, folder)?)
+    assert!(rt; fs::create_dir(rt, folder).is_ok());
+}
+
+/// Removes a folder, with what is in it.
+fn remove_folder(rt: &(impl Abort + Files + Alloc), folder: &str) {
+    assert!(rt; fs::remove_dir_all(rt, folder).is_ok());
+}
+
+/// Makes a file that holds these bytes.
+fn make_file(rt: &(impl Abort + Files), path: &str, held: &[u8]) {
+    assert!(rt; fs::write(rt, path, held).is_ok());
+}
+
+/// A sealing with another last byte.
+fn forged(rt: &(impl Abort + Alloc<A = Global>)) -> Vec<u8> {
+    let mut other = bytes(rt, CHACHA.sealed);
+    if let Some(last) = other.last_mut() {
+        *last = 0x90;
+    }
+    other
 }
 
 /// Runs a file command under a vector's inputs, and compares the status and standard error.
@@ -58,76 +77,64 @@ fn runs(
 }
 
 /// A file holds the bytes that digits spell.
-fn holds(
-    rt: &(impl Abort + Files + Alloc<A = Global>),
-    path: &str,
-    digits: &str,
-) -> Result<(), Fail> {
-    let held = fs::read(rt, path)?;
+fn holds(rt: &(impl Abort + Files + Alloc<A = Global>), path: &str, digits: &str) {
+    let held = fs::read(rt, path).expect(rt, "a file");
     assert!(rt; held.as_slice() == bytes(rt, digits).as_slice());
-    Ok(())
 }
 
 /// Sealing a file and opening the result gives the text.
 #[test]
-fn file_sealed_and_opened(rt: HostRuntime) -> Result<(), Fail> {
-    make_folder(&rt, "aeadkit_both")?;
+fn file_sealed_and_opened(rt: HostRuntime) {
+    make_folder(&rt, "aeadkit_both");
     let text = "aeadkit_both/text";
     let sealed = "aeadkit_both/sealed";
     let opened = "aeadkit_both/opened";
-    fs::write(&rt, text, bytes(&rt, CHACHA.text).as_slice())?;
+    make_file(&rt, text, &bytes(&rt, CHACHA.text));
     runs(&rt, "seal-file", &CHACHA, (text, sealed), 0, "");
-    holds(&rt, sealed, CHACHA.sealed)?;
+    holds(&rt, sealed, CHACHA.sealed);
     runs(&rt, "open-file", &CHACHA, (sealed, opened), 0, "");
-    holds(&rt, opened, CHACHA.text)?;
-    fs::remove_dir_all(&rt, "aeadkit_both")?;
-    Ok(())
+    holds(&rt, opened, CHACHA.text);
+    remove_folder(&rt, "aeadkit_both");
 }
 
 /// Bytes that are no sealing make no file.
 #[test]
 fn no_sealing_makes_no_file(rt: HostRuntime) -> Result<(), Fail> {
-    make_folder(&rt, "aeadkit_wrong")?;
+    make_folder(&rt, "aeadkit_wrong");
     let sealed = "aeadkit_wrong/sealed";
     let opened = "aeadkit_wrong/opened";
-    let mut changed = bytes(&rt, CHACHA.sealed);
-    if let Some(last) = changed.last_mut() {
-        *last = 0x90;
-    }
-    fs::write(&rt, sealed, changed.as_slice())?;
+    make_file(&rt, sealed, &forged(&rt));
     let complaint = "aeadkit: TagMismatch\n";
     runs(&rt, "open-file", &CHACHA, (sealed, opened), 1, complaint);
     assert!(rt; !fs::exists(&rt, opened)?);
-    fs::remove_dir_all(&rt, "aeadkit_wrong")?;
+    remove_folder(&rt, "aeadkit_wrong");
     Ok(())
 }
 
 /// An empty text makes an empty file.
 #[test]
-fn empty_text_makes_an_empty_file(rt: HostRuntime) -> Result<(), Fail> {
-    make_folder(&rt, "aeadkit_empty")?;
+fn empty_text_makes_an_empty_file(rt: HostRuntime) {
+    make_folder(&rt, "aeadkit_empty");
     let sealed = "aeadkit_empty/sealed";
     let opened = "aeadkit_empty/opened";
-    fs::write(&rt, sealed, bytes(&rt, GCM.sealed).as_slice())?;
+    make_file(&rt, sealed, &bytes(&rt, GCM.sealed));
     runs(&rt, "open-file", &GCM, (sealed, opened), 0, "");
-    holds(&rt, opened, "")?;
-    fs::remove_dir_all(&rt, "aeadkit_empty")?;
-    Ok(())
+    holds(&rt, opened, "");
+    remove_folder(&rt, "aeadkit_empty");
 }
 
 /// A path that leads nowhere is `Read` for the file that is read, and `Write` for the one that is written.
 #[test]
-fn paths_that_lead_nowhere(rt: HostRuntime) -> Result<(), Fail> {
-    make_folder(&rt, "aeadkit_paths")?;
+fn paths_that_lead_nowhere(rt: HostRuntime) {
+    make_folder(&rt, "aeadkit_paths");
     let text = "aeadkit_paths/text";
     let nowhere = "aeadkit_paths/none/file";
-    fs::write(&rt, text, bytes(&rt, CHACHA.text).as_slice())?;
+    make_file(&rt, text, &bytes(&rt, CHACHA.text));
     let complaint = "aeadkit: Read\n";
     runs(&rt, "seal-file", &CHACHA, (nowhere, text), 3, complaint);
     let complaint = "aeadkit: Write\n";
     runs(&rt, "seal-file", &CHACHA, (text, nowhere), 3, complaint);
-    fs::remove_dir_all(&rt, "aeadkit_paths")?;
-    Ok(())
+    remove_folder(&rt, "aeadkit_paths");
 }
 
 /// The same text for both paths is `Words`.

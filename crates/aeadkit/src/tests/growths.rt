@@ -5,6 +5,7 @@ use super::files::bytes;
 use super::published::{CHACHA, GCM, GCM_SIV, Vector};
 use super::scripted::{Log, Script, Scripted, Sink, Source};
 use super::vector_files::TWO_RECORDS;
+use crate::failure::Failure;
 use crate::new_file::NewFile;
 use crate::run::{perform, report};
 use crate::storage::Storage;
@@ -14,6 +15,32 @@ use std::alloc::{Allocator, Global};
 use std::cell::Cell;
 use std::io;
 use std::process::Abort;
+
+/// The failure is want of memory, with its status and its text.
+fn wants_memory(rt: &(impl Abort + Alloc<A = Global>), failure: Failure) {
+    let mut err: Vec<u8> = Vec::new(rt.alloc());
+    assert_eq!(rt; report(&mut err, failure), 4);
+    assert_eq!(rt; err.as_slice(), b"aeadkit: OutOfMemory\n".as_slice());
+}
+
+/// A refused request prints nothing, and any other the line, with status 0.
+fn is_right(
+    rt: &(impl Abort + Alloc<A = Global>),
+    answer: Result<u8, Failure>,
+    printed: &[u8],
+    line: &str,
+) {
+    match answer {
+        Ok(status) => {
+            assert_eq!(rt; status, 0);
+            assert!(rt; printed.split_last() == Some((&b'\n', line.as_bytes())));
+        }
+        Err(failure) => {
+            wants_memory(rt, failure);
+            assert!(rt; printed.is_empty());
+        }
+    }
+}
 
 /// Performs a request with one request for memory refused after the first `passed` ones, and answers whether
 /// it came to that one: then nothing is printed, and else the line is.
@@ -26,20 +53,9 @@ fn is_refused<'x, F: Storage>(
 ) -> bool {
     let memory = RefusingMemory::after(passed, rt.alloc());
     let mut out: Vec<u8> = Vec::new(rt.alloc());
-    let mut err: Vec<u8> = Vec::new(rt.alloc());
     let mut file = NewFile::new(&memory, files);
     let answer = perform(&memory, files, request, &mut out, &mut file);
-    match answer {
-        Ok(status) => {
-            assert_eq!(rt; status, 0);
-            assert!(rt; out.as_slice().split_last() == Some((&b'\n', line.as_bytes())));
-        }
-        Err(failure) => {
-            assert_eq!(rt; report(&mut err, failure), 4, "request {passed}");
-            assert_eq!(rt; err.as_slice(), b"aeadkit: OutOfMemory\n".as_slice());
-            assert!(rt; out.is_empty());
-        }
-    }
+    is_right(rt, answer, &out, line);
     assert_eq!(rt; memory.has_refused(), answer.is_err(), "request {passed}");
     memory.has_refused()
 }

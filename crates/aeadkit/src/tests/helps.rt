@@ -2,7 +2,9 @@
 use super::devices::{Narrow, NoFiles};
 use super::refuses;
 use crate::run::run;
+use std::alloc::Global;
 use std::io;
+use std::process::Abort;
 
 const KEY: &str = "000102030405060708090a0b0c0d0e0f";
 
@@ -39,6 +41,15 @@ fn refused_words(rt: HostRuntime) {
     refused(&["--version"]);
 }
 
+/// The words print help, with status 0, and nothing to standard error.
+fn helps(rt: &(impl Abort + Alloc<A = Global>), words: &[&str]) {
+    let mut out: Vec<u8> = Vec::new(rt.alloc());
+    let mut err: Vec<u8> = Vec::new(rt.alloc());
+    let status = run(rt.alloc(), &NoFiles, words, &mut out, &mut err);
+    assert_eq!(rt; status, 0, "{words:?}");
+    assert!(rt; !out.is_empty() && err.is_empty(), "{words:?}");
+}
+
 /// Help goes to standard output, with status 0.
 #[test]
 fn help_asked_for(rt: HostRuntime) {
@@ -52,12 +63,7 @@ fn help_asked_for(rt: HostRuntime) {
         ["unwrap", "--help"].as_slice(),
         ["wrap", "--key", "0", "-h"].as_slice(),
     ] {
-        let mut out: Vec<u8> = Vec::new(rt.alloc());
-        let mut err: Vec<u8> = Vec::new(rt.alloc());
-        let status = run(rt.alloc(), &NoFiles, words, &mut out, &mut err);
-        assert_eq!(rt; status, 0, "{words:?}");
-        assert!(rt; !out.is_empty(), "{words:?}");
-        assert!(rt; err.is_empty(), "{words:?}");
+        helps(&rt, words);
     }
 }
 

@@ -1,5 +1,5 @@
 //! Vector files.
-use super::published::{VECTORS, WRAPPINGS};
+use super::published::{VECTORS, Vector, WRAPPINGS, Wrapping};
 use std::alloc::{AllocError, Global};
 
 /// Two records: a published vector of GCM, and its sealed bytes with another last byte.
@@ -45,26 +45,49 @@ key = 00000000000000000000000000000000
 nonce = 000
 ";
 
+/// Adds a record of a vector's sealed bytes to a file, whose text stands in it or is denied.
+fn add_vector(file: &mut String, vector: &Vector<'_>, is_denied: bool) -> Result<(), AllocError> {
+    let Vector {
+        suite,
+        key,
+        nonce,
+        aad,
+        text,
+        sealed,
+    } = *vector;
+    write!(
+        file,
+        "\nsuite = {suite}\nkey = {key}\nnonce = {nonce}\naad = {aad}\nsealed = {sealed}\n"
+    )?;
+    if is_denied {
+        write!(file, "invalid\n")
+    } else {
+        write!(file, "text = {text}\n")
+    }
+}
+
+/// Adds a record of a wrapping to a file.
+fn add_wrapping(file: &mut String, wrapping: &Wrapping<'_>) -> Result<(), AllocError> {
+    let Wrapping {
+        suite,
+        key,
+        text,
+        wrapped,
+    } = *wrapping;
+    write!(
+        file,
+        "\nsuite = {suite}\nkey = {key}\nsealed = {wrapped}\ntext = {text}\n"
+    )
+}
+
 /// The published vectors as a vector file of 18 records, where the text of record 5 is denied.
 pub fn one_of_eighteen_bad(alloc: Global) -> Result<String, AllocError> {
     let mut file = String::from_str(alloc, "format = 1\n")?;
     for (i, vector) in VECTORS.iter().enumerate() {
-        writeln!(file, "\nsuite = {}", vector.suite)?;
-        writeln!(file, "key = {}", vector.key)?;
-        writeln!(file, "nonce = {}", vector.nonce)?;
-        writeln!(file, "aad = {}", vector.aad)?;
-        writeln!(file, "sealed = {}", vector.sealed)?;
-        if i == 4 {
-            writeln!(file, "invalid")?;
-        } else {
-            writeln!(file, "text = {}", vector.text)?;
-        }
+        add_vector(&mut file, vector, i == 4)?;
     }
     for wrapping in &WRAPPINGS {
-        writeln!(file, "\nsuite = {}", wrapping.suite)?;
-        writeln!(file, "key = {}", wrapping.key)?;
-        writeln!(file, "sealed = {}", wrapping.wrapped)?;
-        writeln!(file, "text = {}", wrapping.text)?;
+        add_wrapping(&mut file, wrapping)?;
     }
     Ok(file)
 }

@@ -3,7 +3,9 @@ use super::devices::{Narrow, NoFiles};
 use super::published::{WRAPPINGS, Wrapping};
 use super::{prints, refuses};
 use crate::run::run;
+use std::alloc::Global;
 use std::io;
+use std::process::Abort;
 
 const KEY16: &str = "000102030405060708090a0b0c0d0e0f";
 
@@ -11,18 +13,30 @@ const TEXT: &str = "00112233445566778899aabbccddeeff";
 
 const WRAPPED: &str = "1fa68b0a8112b447aef34bd8fb5a7b829d3e862371d2cfe5";
 
-/// RFC 3394, sections 4.1 to 4.6, both ways.
-#[test]
-fn standard_vectors(rt: HostRuntime) {
-    for Wrapping {
+/// A text wraps, and its wrapping unwraps.
+fn wraps_and_unwraps(rt: &(impl Abort + Alloc<A = Global>), wrapping: &Wrapping<'_>) {
+    let Wrapping {
         key,
         text,
         wrapped,
         ..
-    } in WRAPPINGS {
-        prints(&rt, &["wrap", "--key", key, "--text", text], wrapped);
-        prints(&rt, &["unwrap", "--key", key, "--sealed", wrapped], text);
+    } = *wrapping;
+    prints(rt, &["wrap", "--key", key, "--text", text], wrapped);
+    prints(rt, &["unwrap", "--key", key, "--sealed", wrapped], text);
+}
+
+/// RFC 3394, sections 4.1 to 4.6, both ways.
+#[test]
+fn standard_vectors(rt: HostRuntime) {
+    for wrapping in &WRAPPINGS {
+        wraps_and_unwraps(&rt, wrapping);
     }
+}
+
+/// A key and a text for wrapping, or a wrapping, are refused with status 2.
+fn are_refused(rt: &(impl Abort + Alloc<A = Global>), key: &str, body: &str, line: &str) {
+    refuses(rt, &["wrap", "--key", key, "--text", body], 2, line);
+    refuses(rt, &["unwrap", "--key", key, "--sealed", body], 2, line);
 }
 
 /// The hex of the key comes first, then that of the text, then the key's length, then the text's.
@@ -38,8 +52,7 @@ fn refusals_in_order(rt: HostRuntime) {
         (KEY16, "", "aeadkit: WrapLength\n"),
         (KEY16, "0011223344556677", "aeadkit: WrapLength\n"),
     ] {
-        refuses(&rt, &["wrap", "--key", key, "--text", body], 2, name);
-        refuses(&rt, &["unwrap", "--key", key, "--sealed", body], 2, name);
+        are_refused(&rt, key, body, name);
     }
     let twenty = "00112233445566778899aabbccddeeff00112233";
     let name = "aeadkit: WrapLength\n";
