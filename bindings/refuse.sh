@@ -2,7 +2,8 @@
 # Refuses each request for memory of the built program in turn, those of its reading of the words too:
 # refuse.sh PROGRAM
 # The answer has to be 'aeadkit: OutOfMemory' with status 4, and OUT not made, until a run asks for no more than
-# is given; then it is the right one. It prints a line for each command, how many requests were refused, and wants cc.
+# is given; then it is the right one. It prints a line for each command, how many requests were refused, and
+# wants cc.
 set -eu
 program=$(realpath "$1")
 cd "$(dirname "$0")"
