@@ -7,10 +7,10 @@ use Rattle.std.proofs.lemmas.List.{take_all, take-append-le, take-take}
 use Rattle.std.proofs.Math.Seq.{take-append-add}
 use Rattle.std.specs.Io.KnownBytes.{Appends}
 use Rattle.octets.specs.declared.fault.Fault.{Fault}
-use Rattle.octets.specs.declared.fault.Fault.TheVariants.{Read, Write, TextTooLong}
+use Rattle.octets.specs.declared.fault.Fault.TheVariants.{Read, Write, TextTooLong, AadTooLong}
 use Rattle.octets.specs.Device.{Failed}
 use Rattle.octets.specs.Masked.{masked}
-use Rattle.octets.proofs.Devices.{appends_more}
+use Rattle.octets.proofs.Devices.{appends_none, appends_more}
 use Rattle.octets.proofs.Masks.{length-masked, take-masked}
 use Rattle.aead.specs.Suites.{construction_of, is_one_pass, text_limit, aad_limit}
 use Rattle.aead.specs.Sealing.{Setting, mask_of, tag_of, sealing}
@@ -78,6 +78,26 @@ pub where_told : (l : Option (List ℕ)) (A B : List ℕ → Type 0) → IfSome 
     → IfSome l B
 where_told None A B a f = tt
 where_told (Some x) A B a f = f x a
+
+-- nothing is asked of a text
+any_text : (l : Option (List ℕ)) → IfSome l (λ _. Unit {0})
+any_text None = tt
+any_text (Some x) = tt
+
+-- the associated data are too long
+pub exit_aad : (l o : Option (List ℕ)) (s : Setting) (read wrote : ℕ) → aad_limit s.suite < length s.aad
+    → WhereTextTold l o o (λ x given. SealsStream s x given read read wrote wrote (Err AadTooLong))
+exit_aad l o s read wrote past =
+    where_text_told l o o (λ _. Unit {0}) _ (any_text l) (λ x _. (
+      [],
+      appends_none o,
+      record {
+        early = λ _. refl;
+        beginning = (0, refl);
+        whole = λ e. absurd (cc);
+        answer = inl (past, refl, refl);
+      },
+    ))
 
 -- a device failed before the tag
 pub exit_stopped : (l l' o o' : Option (List ℕ)) (s : Setting) (limit read read' wrote wrote' : ℕ)

@@ -51,9 +51,7 @@ impl Sealer {
         ensures { let s = setting (one_pass_keyed cipher.now) nonce.now aad.now in
             MatchResult result (λ sealer. HoldsSealer sealer s []) (λ e. SealRefused s [] e) }
     {
-        if aad.len() as u64 > cipher.suite().aad_limit() {
-            return Err(Fault::AadTooLong);
-        }
+        cipher.suite().check_aad(aad)?;
         Ok(Sealer {
             masking: sealing(cipher, nonce, aad),
         })

@@ -40,9 +40,7 @@ impl SivAbsorb {
             MatchResult result (λ absorb. HoldsAbsorb absorb s []) (λ e. SealRefused s [] e) }
     {
         let suite = cipher.suite();
-        if aad.len() as u64 > suite.aad_limit() {
-            return Err(Fault::AadTooLong);
-        }
+        suite.check_aad(aad)?;
         let keys = cipher.derive(nonce);
         let multiplier = PlacedMul::of(&keys.hash_key);
         let nonced = cipher.nonced(nonce, &keys.encryption, multiplier);

@@ -163,9 +163,7 @@ pub fn open_stream<I: Intake, J: Intake, K: Intake, O: Outlet>(
         result) }
 {
     let suite = cipher.suite();
-    if aad.len() as u64 > suite.aad_limit() {
-        return Err(Fault::AadTooLong);
-    }
+    suite.check_aad(aad)?;
     let measured = match measure_step(suite, measure) {
         Ok(measured) => measured,
         Err(fault) => return Err(fault),

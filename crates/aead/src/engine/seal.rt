@@ -59,9 +59,7 @@ pub fn seal_stream<I: Intake, O: Outlet>(
         (λ x given. SealsStream (setting (one_pass_keyed cipher.now) nonce.now aad.now) x given
         (I.failures text.old) (I.failures text.new) (O.failures out.old) (O.failures out.new) result) }
 {
-    if aad.len() as u64 > cipher.suite().aad_limit() {
-        return Err(Fault::AadTooLong);
-    }
+    cipher.suite().check_aad(aad)?;
     match cipher {
         AnyOnePass::ChaCha(cipher) => seal_over(&cipher.nonced(nonce), aad, text, out),
         AnyOnePass::Gcm(cipher) => {

@@ -194,8 +194,6 @@ pub fn seal_siv_stream<I: Intake, J: Intake, O: Outlet>(
         (record { first = I.failures first.new; second = J.failures second.new; outlet = O.failures out.new })
         result) }
 {
-    if aad.len() as u64 > cipher.suite().aad_limit() {
-        return Err(Fault::AadTooLong);
-    }
+    cipher.suite().check_aad(aad)?;
     seal_by::<WideMul, I, J, O>(cipher, nonce, aad, first, second, out)
 }
