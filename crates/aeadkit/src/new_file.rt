@@ -47,6 +47,7 @@ impl<'a, F: Storage, A: Allocator> NewFile<'a, F, A> {
         ensures taken { ⟦<NewFile<'a, F, A> as Outlet>⟧.taken self.new
             ≡ ⟦<NewFile<'a, F, A> as Outlet>⟧.taken self.old }
         ensures pending { self.new.pending.items ≡ self.old.pending.items }
+        ensures path { self.new.path.now ≡ path.now }
     {
         self.path = path;
         self.pending.reserve_exact(PENDING)
@@ -151,6 +152,7 @@ impl<'a, F: Storage, A: Allocator> NewFile<'a, F, A> {
             (⟦<NewFile<'a, F, A> as Outlet>⟧.taken self.new) }
         ensures made { OnOk result (is_some self.new.file ≡ true) }
         ensures none_left { OnOk result (self.new.pending.items ≡ []) }
+        ensures failed { self.new.failed ≡ self.old.failed }
         ensures fault { IfErr result (λ e. e ≡ Fault.Write) }
     {
         if self.make().is_err() || self.write_pending().is_err() {

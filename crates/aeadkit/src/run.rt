@@ -1,5 +1,5 @@
 //! The program, over a writer for each stream.
-ghost use Rattle.std.specs.Prelude.{◌≤◌, ◌≡◌, ◌⊎◌, IfOk, MatchResult, string_bytes};
+ghost use Rattle.std.specs.Prelude.{◌≤◌, ◌≡◌, ◌↔◌, ◌⊎◌, [], IfOk, MatchResult, string_bytes};
 ghost use Rattle.std.specs.Io.KnownBytes.{Appends};
 ghost use Rattle.aead.specs.Refusals.{WholeSealRefused, WholeOpenRefused};
 ghost use Rattle.aeadkit.specs.Aead.{IsSealed, IsOpened, IsRefused};
@@ -20,6 +20,7 @@ use octets::{Fault, Outlet};
 use std::alloc::{AllocError, Allocator, Global};
 use std::convert::AsStr;
 use std::io::Write;
+use vectors::Report;
 
 /// Writes text to standard output, and answers status 0. The only faults are `Write` and `OutOfMemory`.
 fn print<W: Write>(out: &mut W, text: &str) -> Result<u8, Failure>
@@ -136,6 +137,14 @@ fn print_unwrapping<A: Allocator, W: Write>(
     print_bytes(alloc, out, &text)
 }
 
+/// The status of a report: 0 where there are records and none is bad, else 1.
+fn report_status<A: Allocator>(report: &Report<A>) -> u8
+    ensures yes { (result ≡ 0) ↔ ((1 ≤ report.now.records) × (report.now.bad.items ≡ [])) }
+    ensures bound { result ≤ 1 }
+{
+    if report.yes() { 0 } else { 1 }
+}
+
 /// Prints the report of a vector file, and answers status 0, or 1 where a record is bad or none is there.
 fn print_checking<A: Allocator, F: Storage, W: Write>(
     alloc: &A,
@@ -149,9 +158,8 @@ fn print_checking<A: Allocator, F: Storage, W: Write>(
     ensures status { IfOk result (λ status. status ≤ 1) }
 {
     let report = commands::check(alloc, files, path)?;
-    let status = if report.yes() { 0 } else { 1 };
     print_report(alloc, out, report.records, &report.bad)?;
-    Ok(status)
+    Ok(report_status(&report))
 }
 
 /// Does what a request asks for: prints its answer, and answers the status, 0, or 1 for a file with bad
