@@ -2,7 +2,6 @@
 
 ghost use Rattle.std.specs.Prelude.{◌≡◌, ℕ, ◌+◌, ◌≤◌, ◌++◌, ◌↔◌, List, length, take, drop, IsTrue, IfOk};
 ghost use Rattle.std.specs.Prelude.{MatchResult, OnErr};
-ghost use Rattle.octets.specs.Bytes.{AreBytes};
 ghost use Rattle.keywrap.specs.Padded.{alternative_value, padded, HasPaddedRoom, UnwrappedPadded};
 ghost use Rattle.keywrap.specs.Refusals.{PaddedWrapInPlaceRefused, PaddedUnwrapInPlaceRefused};
 
@@ -13,8 +12,7 @@ use octets::Fault;
 
 // Whether the bytes are room for A and for a text of this length with its padding.
 fn has_padded_room(bytes: &[u8], text_length: usize) -> bool
-    ensures answer { IsTrue result ↔ HasPaddedRoom bytes.now text_length }
-    ensures bytes { AreBytes (length bytes.now) bytes.now }
+    ensures { IsTrue result ↔ HasPaddedRoom bytes.now text_length }
 {
     bytes.len() >= 16
         && bytes.len() % 8 == 0

@@ -11,15 +11,14 @@ ghost use Rattle.keywrap.specs.Wrapping.{step, steps, initial_value, HasWrappedL
 ghost use Rattle.keywrap.specs.Code.Places.{register};
 
 use aes::{AesKey, InverseKey};
-use octets::{Block, are_bytes, xor_into};
+use octets::{Block, xor_into};
 
 // The default initial value (RFC 3394, 2.2.3.1).
 pub(crate) const INITIAL_VALUE: [u8; 8] = [0xa6; 8];
 
 // Whether the length is that of a wrapping.
 pub(crate) fn has_wrapped_length(bytes: &[u8]) -> bool
-    ensures answer { IsTrue result ↔ HasWrappedLength bytes.now }
-    ensures bytes { AreBytes (length bytes.now) bytes.now }
+    ensures { IsTrue result ↔ HasWrappedLength bytes.now }
 {
     bytes.len() >= 24 && bytes.len() % 8 == 0
 }
@@ -89,8 +88,10 @@ fn wrap_step(key: &AesKey, t: u64, place: usize, first: &mut [u8; 8], blocks: &m
 // Step t undone, on the block at a place.
 fn unwrap_step(inverse: &InverseKey, t: u64, place: usize, first: &mut [u8; 8], blocks: &mut [u8])
     requires { place + 8 ≤ length blocks.old }
-    ensures { (key : List ℕ) → IsInverse inverse.now key
+    ensures step { (key : List ℕ) → IsInverse inverse.now key
         → step key t (register place first.new blocks.new) ≡ register (place + 8) first.old blocks.old }
+    ensures first { AreBytes (length first.new) first.new }
+    ensures rest { AreBytes (length blocks.new) blocks.new }
 {
     let block = joined(&numbered(first, t), &blocks[place..place + 8]);
     let (half, second) = halves(inverse.decrypt(&Block::new(block)).bytes());
@@ -128,8 +129,6 @@ pub(crate) fn unwrap_blocks(key: &AesKey, first: &mut [u8; 8], blocks: &mut [u8]
             unwrap_step(&ready, (count * round + i + 1) as u64, 8 * i, first, blocks);
         }
     }
-    are_bytes(first);
-    are_bytes(blocks);
 }
 
 // The steps on one run of bytes, A first.

@@ -15,7 +15,7 @@ pub returns-then-is_initial_value-clause-answer : goal.returns-then-is_initial_v
 returns-then-is_initial_value-clause-answer c =
     let old : List ℕ = c.args.bytes.now in
     let new : List ℕ = c.unwrap_register.new.bytes in
-    let lengths : HasWrappedLength old = c.if-not-has_wrapped_length.ensures.answer.0 refl in
+    let lengths : HasWrappedLength old = c.if-not-has_wrapped_length.ensures.0 refl in
     unwrapped_by c.args.key.now old new (drop 8 new) lengths
     (bytes_resized (length new - 8) (length old - 8) (drop 8 new) (omega arith)
     (bytes_drop 8 (length new) new c.unwrap_register.ensures.bytes))
@@ -26,7 +26,7 @@ pub returns-clause-answer : goal.returns-clause-answer
 returns-clause-answer c =
     let old : List ℕ = c.args.bytes.now in
     let new : List ℕ = c.unwrap_register.new.bytes in
-    let lengths : HasWrappedLength old = c.if-not-has_wrapped_length.ensures.answer.0 refl in (
+    let lengths : HasWrappedLength old = c.if-not-has_wrapped_length.ensures.0 refl in (
       lengths,
       no_wrapping c.args.key.now old new is_permutation c.unwrap_register.ensures.key
           (bytes_resized (length new) (length old) new (omega arith) c.unwrap_register.ensures.bytes)
@@ -54,5 +54,5 @@ returns-clause-kept c =
 
 pub returns-then-not-has_wrapped_length-clause-found : goal.returns-then-not-has_wrapped_length-clause-found
 returns-then-not-has_wrapped_length-clause-found c text u =
-    absurd (true≢false (sym (c.if-not-has_wrapped_length.ensures.answer.1
+    absurd (true≢false (sym (c.if-not-has_wrapped_length.ensures.1
     (wrapped_length c.args.key.now c.args.bytes.now text u))))

@@ -6,13 +6,18 @@ use Rattle.keywrap.proofs.Runs.{steps_none, leads_before, one_round_less}
 use Rattle.keywrap.proofs.steps.unwrap_blocks.Goals as goal
 
 pub places-init : goal.places-init
-places-init c s h =
+places-init c =
     let n : ℕ = length c.args.blocks.now / 8 in
     let some : 0 < c.rounds.round = omega arith in
     let long : length c.rounds.blocks ≤ 8 * n = omega arith in
-    c.rounds.invariant s
-    (ap (λ t. steps c.args.key.now t s) (one_round_less n c.rounds.round some) ∙ h
-    ∙ register_end (8 * n) c.rounds.first c.rounds.blocks long)
+    record {
+      leads = λ s h.
+          c.rounds.invariant.leads s
+          (ap (λ t. steps c.args.key.now t s) (one_round_less n c.rounds.round some) ∙ h
+          ∙ register_end (8 * n) c.rounds.first c.rounds.blocks long);
+      first = c.rounds.invariant.first;
+      rest = c.rounds.invariant.rest;
+    }
 
 pub places-preserved : goal.places-preserved
 places-preserved c =
@@ -22,22 +27,32 @@ places-preserved c =
     let some : 0 < c.places.i = omega arith in
     let count : n * (c.rounds.round - 1) + c.places.i ≡ t + 1 = omega arith in
     let place : 8 * (c.places.i - 1) + 8 ≡ 8 * c.places.i = omega arith in
-    leads_before key (n * 6) t (c.args.first.now ++ c.args.blocks.now)
-    (register (8 * (c.places.i - 1) + 8) c.places.first c.places.blocks)
-    (register (8 * (c.places.i - 1)) c.unwrap_step.new.first c.unwrap_step.new.blocks)
-    (λ s h. c.places.invariant s (ap (λ u. steps key u s) count ∙ h
-    ∙ ap (λ p. register p c.places.first c.places.blocks) place))
-    (c.unwrap_step.ensures key c.inverse-ready.ensures)
+    record {
+      leads = leads_before key (n * 6) t (c.args.first.now ++ c.args.blocks.now)
+          (register (8 * (c.places.i - 1) + 8) c.places.first c.places.blocks)
+          (register (8 * (c.places.i - 1)) c.unwrap_step.new.first c.unwrap_step.new.blocks)
+          (λ s h. c.places.invariant.leads s (ap (λ u. steps key u s) count ∙ h
+          ∙ ap (λ p. register p c.places.first c.places.blocks) place))
+          (c.unwrap_step.ensures.step key c.inverse-ready.ensures);
+      first = c.unwrap_step.ensures.first;
+      rest = c.unwrap_step.ensures.rest;
+    }
 
 pub rounds-preserved : goal.rounds-preserved
-rounds-preserved c s h =
+rounds-preserved c =
     let n : ℕ = length c.args.blocks.now / 8 in
     let none : c.places.i ≡ 0 = omega arith in
     let count : n * (c.rounds.round - 1) + c.places.i ≡ n * (c.rounds.round - 1) = omega arith in
     let place : 0 ≡ 8 * c.places.i = omega arith in
-    c.places.invariant s
-    (ap (λ t. steps c.args.key.now t s) count ∙ h ∙ sym (register_start c.places.first c.places.blocks)
-    ∙ ap (λ p. register p c.places.first c.places.blocks) place)
+    record {
+      leads = λ s h.
+          c.places.invariant.leads s
+          (ap (λ t. steps c.args.key.now t s) count ∙ h
+          ∙ sym (register_start c.places.first c.places.blocks)
+          ∙ ap (λ p. register p c.places.first c.places.blocks) place);
+      first = c.places.invariant.first;
+      rest = c.places.invariant.rest;
+    }
 
 pub returns-clause-undone : goal.returns-clause-undone
 returns-clause-undone c =
@@ -47,7 +62,7 @@ returns-clause-undone c =
     let none : n * c.rounds.round ≡ 0 = ap (λ r. n * r) last ∙ omega arith in
     let turned : 6 * n ≡ n * 6 = omega arith in
     ap (λ t. steps c.args.key.now t start) turned
-    ∙ c.rounds.invariant start (sym (steps_none c.args.key.now start (n * c.rounds.round) none))
+    ∙ c.rounds.invariant.leads start (sym (steps_none c.args.key.now start (n * c.rounds.round) none))
 
 pub returns-clause-key : goal.returns-clause-key
 returns-clause-key c = c.inverse-ready.ensures.is_key

@@ -1,12 +1,20 @@
-use Rattle.std.proofs.Common.{◌+◌, ◌*◌, ◌++◌}
+use Rattle.std.proofs.Common.{◌+◌, ◌*◌, ◌++◌, length}
+use Rattle.octets.specs.Bytes.{AreBytes}
 use Rattle.keywrap.specs.Code.Places.{register}
 use Rattle.keywrap.proofs.Runs.{LeadsTo}
 use Rattle.keywrap.proofs.steps.unwrap_blocks.Given as goal
 
 abbrev pub invariant-rounds : goal.invariant-rounds
-invariant-rounds l = LeadsTo l.key (l.count * 6) (l.fn.first ++ l.fn.blocks) (l.count * l.round)
-    (l.first ++ l.blocks)
+invariant-rounds l = record {
+  leads : LeadsTo l.key (l.count * 6) (l.fn.first ++ l.fn.blocks) (l.count * l.round) (l.first ++ l.blocks);
+  first : AreBytes (length l.first) l.first;
+  rest : AreBytes (length l.blocks) l.blocks;
+}
 
 abbrev pub invariant-places : goal.invariant-places
-invariant-places l = LeadsTo l.key (l.count * 6) (l.fn.first ++ l.fn.blocks) (l.count * l.round + l.i)
-    (register (8 * l.i) l.first l.blocks)
+invariant-places l = record {
+  leads : LeadsTo l.key (l.count * 6) (l.fn.first ++ l.fn.blocks) (l.count * l.round + l.i)
+      (register (8 * l.i) l.first l.blocks);
+  first : AreBytes (length l.first) l.first;
+  rest : AreBytes (length l.blocks) l.blocks;
+}

@@ -8,8 +8,8 @@ use Rattle.keywrap.proofs.Pieces.{unwrapped_at}
 use Rattle.keywrap.proofs.steps.unwrap_step.Goals as goal
 use borrow.Rule.Slice.PartMut.{put_mid}
 
-pub returns : goal.returns
-returns c = λ key x.
+pub returns-clause-step : goal.returns-clause-step
+returns-clause-step c = λ key x.
     let d : List ℕ = c.bytes.result.now in
     let p : ℕ = c.args.place in
     let a : List ℕ = c.args.first.now in

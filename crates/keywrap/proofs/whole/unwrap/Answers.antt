@@ -13,7 +13,7 @@ returns-then-is_initial_value-clause-answer g c =
     let wrapped : List ℕ = c.args.wrapped.now in
     let first : List ℕ = c.unwrap_blocks.new.first in
     let rest : List ℕ = c.unwrap_blocks.new.blocks in
-    let lengths : HasWrappedLength wrapped = c.if-not-has_wrapped_length.ensures.answer.0 refl in
+    let lengths : HasWrappedLength wrapped = c.if-not-has_wrapped_length.ensures.0 refl in
     let blocks : c.deref_mut.result.now ≡ take (length wrapped - 8) (drop 8 wrapped) =
     c.deref_mut.ensures.value ∙ c.in_ok-text.ensures.items in
     let long : length rest ≡ length wrapped - 8 =
@@ -46,7 +46,7 @@ returns-else-is_initial_value-clause-answer g c =
     let wrapped : List ℕ = c.args.wrapped.now in
     let first : List ℕ = c.unwrap_blocks.new.first in
     let rest : List ℕ = c.unwrap_blocks.new.blocks in
-    let lengths : HasWrappedLength wrapped = c.if-not-has_wrapped_length.ensures.answer.0 refl in
+    let lengths : HasWrappedLength wrapped = c.if-not-has_wrapped_length.ensures.0 refl in
     let blocks : c.deref_mut.result.now ≡ take (length wrapped - 8) (drop 8 wrapped) =
     c.deref_mut.ensures.value ∙ c.in_ok-text.ensures.items in
     let eight : length first ≡ 8 = omega arith in
@@ -76,5 +76,5 @@ returns-else-is_initial_value-clause-found g c text u =
 
 pub returns-then-not-has_wrapped_length-clause-found : goal.returns-then-not-has_wrapped_length-clause-found
 returns-then-not-has_wrapped_length-clause-found g c text u =
-    absurd (true≢false (sym (c.if-not-has_wrapped_length.ensures.answer.1
+    absurd (true≢false (sym (c.if-not-has_wrapped_length.ensures.1
     (wrapped_length c.args.key.now c.args.wrapped.now text u))))
