@@ -18,7 +18,8 @@ use Rattle.gf128.specs.Ghash.{ghash_modulus, ghash_sum, ghash, IsGhash}
 use Rattle.gf128.proofs.Sums.{ghash_step, ghash_is_the_only}
 use Rattle.aead.specs.declared.suite.Suite.TheVariants.{Aes128Gcm}
 use Rattle.aead.specs.Suites.{ByGcm}
-use Rattle.aead.specs.Sealing.{hash_key, j0, gcm_authenticated, mask_by, mask, tag_over_by, tag_by, tag_of}
+use Rattle.aead.specs.Sealing.{hash_key, j0, gcm_authenticated, mask_by, gcm_mask, mask, tag_over_by}
+use Rattle.aead.specs.Sealing.{tag_by, tag_of}
 use Rattle.aead.specs.Sealing.{sealing}
 
 -- the key
@@ -152,8 +153,8 @@ second_is =
     cipher_is_computed key second_block key_words key_is_key block key_schedule ∙ refl
 
 -- the ciphertext is that of the text
-ciphertext_is : masked (mask_by ByGcm key nonce []) 0 text ≡ ciphertext
-unfolding mask_by counter_byte up_be be j0 masked nonce text ciphertext second_block second_ciphered
+ciphertext_is : masked (gcm_mask key nonce) 0 text ≡ ciphertext
+unfolding counter_byte up_be be j0 masked nonce text ciphertext second_block second_ciphered
 ciphertext_is = ap (λ b. masked (λ i. get_or b i 0) 0 text) second_is ∙ refl
 
 -- the key of GHASH

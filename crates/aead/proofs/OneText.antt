@@ -14,7 +14,8 @@ use Rattle.poly1305.specs.Poly1305.{poly1305}
 use Rattle.gf128.specs.Ghash.{ghash, ghash_sum}
 use Rattle.aead.specs.Suites.{Construction, ByChaCha, ByGcm, ByGcmSiv, construction_of}
 use Rattle.aead.specs.Sealing.{Setting, poly_key, chacha_authenticated, hash_key, j0, gcm_authenticated}
-use Rattle.aead.specs.Sealing.{encryption_key, mask, mask_by, tag_over_by, tag_by, tag_of, sealing}
+use Rattle.aead.specs.Sealing.{encryption_key, mask, mask_by, chacha_mask, gcm_mask, tag_over_by, tag_by}
+use Rattle.aead.specs.Sealing.{tag_of, sealing}
 use Rattle.aead.specs.Sealing.{HasOneText}
 
 -- ---- a tag has 16 bytes
@@ -62,9 +63,9 @@ length-tag_over_by ByGcmSiv key nonce aad c = length-cipher (encryption_key key 
 length-tag_by : (by : Construction) (key nonce aad text : List ℕ) → length (tag_by by key nonce aad text) ≡ 16
 unfolding tag_by
 length-tag_by ByChaCha key nonce aad text =
-    length-tag_over_by ByChaCha key nonce aad (masked (mask_by ByChaCha key nonce []) 0 text)
+    length-tag_over_by ByChaCha key nonce aad (masked (chacha_mask key nonce) 0 text)
 length-tag_by ByGcm key nonce aad text =
-    length-tag_over_by ByGcm key nonce aad (masked (mask_by ByGcm key nonce []) 0 text)
+    length-tag_over_by ByGcm key nonce aad (masked (gcm_mask key nonce) 0 text)
 length-tag_by ByGcmSiv key nonce aad text = length-tag_over_by ByGcmSiv key nonce aad text
 
 -- and by suite

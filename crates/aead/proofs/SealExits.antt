@@ -33,10 +33,13 @@ may_seal_is s x one fits =
     (ap (λ f. masked f 0 x ++ tag_of s x) (same_mask s (tag_of s x) [] one))
 
 -- of a longer one, the ciphertext of its beginning
-pub may_seal_long : (s : Setting) (x : List ℕ) → text_limit s.suite < length x
+pub may_seal_long : (s : Setting) (x : List ℕ) → is_one_pass (construction_of s.suite) ≡ true
+    → text_limit s.suite < length x
     → may_seal s x ≡ masked (mask_of s []) 0 (take (text_limit s.suite) x)
 unfolding may_seal
-may_seal_long s x past = rw (lt-leb (length x) (text_limit s.suite) past) refl
+may_seal_long s x one past =
+    rw (lt-leb (length x) (text_limit s.suite) past)
+    (ap (λ f. masked f 0 (take (text_limit s.suite) x)) (same_mask s (tag_of s x) [] one))
 
 pub may_seal_sealing : (s : Setting) (x : List ℕ) → length x ≤ text_limit s.suite → may_seal s x ≡ sealing s x
 unfolding may_seal
@@ -52,7 +55,7 @@ begun s x k one within short =
           take-masked (mask_of s []) k 0 x
           ∙ ap (λ l. masked (mask_of s []) 0 l) (sym (take-take k (text_limit s.suite) x short))
           ∙ sym (take-masked (mask_of s []) k 0 (take (text_limit s.suite) x))
-          ∙ sym (ap (take k) (may_seal_long s x past))
+          ∙ sym (ap (take k) (may_seal_long s x one past))
       | inr fits ↦
           sym (take-append-le k (masked (mask_of s []) 0 x) (tag_of s x)
           (omega (arith, within, length-masked (mask_of s []) 0 x)))
@@ -123,16 +126,16 @@ exit_stopped l l' o o' s limit read read' wrote wrote' f same one fits stop blam
 -- the text is too long
 pub exit_long : {M : Type 0} (holds : M → Task → List ℕ → Type 0) (l l' o o' : Option (List ℕ))
     (s : Setting) (k : M) (limit read read' wrote wrote' : ℕ) → limit ≡ text_limit s.suite
-    → length s.aad ≤ aad_limit s.suite
+    → is_one_pass (construction_of s.suite) ≡ true → length s.aad ≤ aad_limit s.suite
     → WentAll holds (sealing_task s []) limit l l' o o' k None → (read' ≡ read) × (wrote' ≡ wrote)
     → WhereTextTold l o o' (λ x given. SealsStream s x given read read' wrote wrote' (Err TextTooLong))
-exit_long holds l l' o o' s k limit read read' wrote wrote' same fits went kept =
+exit_long holds l l' o o' s k limit read read' wrote wrote' same one fits went kept =
     where_text_told l o o' _ _ (told l (λ m. WentAll holds (sealing_task s []) limit m l' o o' k None) went) (λ x w.
     let t = all_told holds (sealing_task s []) limit x l' o o' k None w in
     let past : text_limit s.suite < length x = omega (arith, t.2, same) in
     let given : List ℕ = masked (mask_of s []) 0 (take limit x) in
     let all : given ≡ may_seal s x =
-    ap (λ n. masked (mask_of s []) 0 (take n x)) same ∙ sym (may_seal_long s x past) in (
+    ap (λ n. masked (mask_of s []) 0 (take n x)) same ∙ sym (may_seal_long s x one past) in (
       given,
       t.0,
       record {

@@ -7,17 +7,17 @@ use Rattle.octets.specs.declared.fault.Fault.TheVariants.{Read, Write}
 use Rattle.octets.specs.Device.{Failed}
 use Rattle.octets.specs.Masked.{masked}
 use Rattle.aead.specs.Suites.{text_limit, aad_limit}
-use Rattle.aead.specs.Sealing.{Setting, Fits, mask_of, sealing}
+use Rattle.aead.specs.Sealing.{Setting, Fits, mask_of, tag_of, sealing}
 use Rattle.aead.specs.Refusals.{SealRefused}
 use Rattle.aead.specs.Verdict.{IsBeginning}
 
 -- what may be given of a text whose tag is over the ciphertext: its sealing, or where it is past the
--- limit, the ciphertext of its first bytes up to the limit; the mask looks at no tag
+-- limit, the ciphertext of its first bytes up to the limit
 unfoldable pub may_seal : Setting → List ℕ → List ℕ
 may_seal s x =
     if nat_le (length x) (text_limit s.suite)
     then sealing s x
-    else masked (mask_of s []) 0 (take (text_limit s.suite) x)
+    else masked (mask_of s (tag_of s x)) 0 (take (text_limit s.suite) x)
 
 -- the answer that a text fixes
 abbrev pub SealVerdict : Setting → List ℕ → Result (Unit {0}) Fault → Type 0

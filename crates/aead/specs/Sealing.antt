@@ -75,10 +75,18 @@ counter_block tag = last_byte_by (λ x. bit_or x 0x80) tag
 
 -- ---- all suites
 
+-- byte i of the mask of ChaCha20-Poly1305, whatever the tag: the key stream from counter 1 on
+abbrev pub chacha_mask : List ℕ → List ℕ → ℕ → ℕ
+chacha_mask key nonce = key_stream_byte key nonce 1
+
+-- byte i of the mask of GCM, whatever the tag: the counter stream from inc32(J0) on
+abbrev pub gcm_mask : List ℕ → List ℕ → ℕ → ℕ
+gcm_mask key nonce = counter_byte up_be key (up_be (j0 nonce) 1)
+
 -- byte i of the mask: what the text is XORed with. Only GCM-SIV looks at the tag.
 unfoldable pub mask_by : Construction → List ℕ → List ℕ → List ℕ → ℕ → ℕ
-mask_by ByChaCha key nonce tag = key_stream_byte key nonce 1
-mask_by ByGcm key nonce tag = counter_byte up_be key (up_be (j0 nonce) 1)
+mask_by ByChaCha key nonce tag = chacha_mask key nonce
+mask_by ByGcm key nonce tag = gcm_mask key nonce
 mask_by ByGcmSiv key nonce tag = counter_byte up_le (encryption_key key nonce) (counter_block tag)
 
 -- the mask of a suite under a key, a nonce and a tag
@@ -98,11 +106,10 @@ tag_over_by ByGcmSiv key nonce aad text =
 unfoldable pub tag_over : Suite → List ℕ → List ℕ → List ℕ → List ℕ → List ℕ
 tag_over suite = tag_over_by (construction_of suite)
 
--- the tag of a text: where the tag is over the ciphertext, the mask looks at no tag
+-- the tag of a text
 unfoldable pub tag_by : Construction → List ℕ → List ℕ → List ℕ → List ℕ → List ℕ
-tag_by ByChaCha key nonce aad text =
-    tag_over_by ByChaCha key nonce aad (masked (mask_by ByChaCha key nonce []) 0 text)
-tag_by ByGcm key nonce aad text = tag_over_by ByGcm key nonce aad (masked (mask_by ByGcm key nonce []) 0 text)
+tag_by ByChaCha key nonce aad text = tag_over_by ByChaCha key nonce aad (masked (chacha_mask key nonce) 0 text)
+tag_by ByGcm key nonce aad text = tag_over_by ByGcm key nonce aad (masked (gcm_mask key nonce) 0 text)
 tag_by ByGcmSiv key nonce aad text = tag_over_by ByGcmSiv key nonce aad text
 
 -- what all messages under one key, nonce and associated data share
