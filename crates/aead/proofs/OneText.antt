@@ -14,7 +14,7 @@ use Rattle.poly1305.specs.Poly1305.{poly1305}
 use Rattle.gf128.specs.Ghash.{ghash, ghash_sum}
 use Rattle.aead.specs.Suites.{Construction, ByChaCha, ByGcm, ByGcmSiv, construction_of}
 use Rattle.aead.specs.Sealing.{Setting, poly_key, chacha_authenticated, hash_key, j0, gcm_authenticated}
-use Rattle.aead.specs.Sealing.{encryption_key, mask, mask_by, chacha_mask, gcm_mask, tag_over_by, tag_by}
+use Rattle.aead.specs.Sealing.{encryption_key, mask, chacha_mask, gcm_mask, tag_over_by, tag_by}
 use Rattle.aead.specs.Sealing.{tag_of, sealing}
 use Rattle.aead.specs.Sealing.{HasOneText}
 
