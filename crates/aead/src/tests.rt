@@ -1,6 +1,7 @@
 use super::*;
 use octets::{Fault, Nonce, Tag};
-use std::test::Fail;
+use std::alloc::Global;
+use std::process::Abort;
 
 mod cuts;
 mod devices;
@@ -12,203 +13,206 @@ mod samples;
 mod sealing;
 
 use published::*;
+use samples::*;
 
-// Suite, key, nonce, associated data, text, sealing.
-type Vector<'a> = (&'a str, &'a [u8], &'a [u8], &'a [u8], &'a [u8], &'a [u8]);
+/// A text is sealed and opened as a vector.
+fn is_sealed_and_opened(rt: &(impl Abort + Alloc<A = Global>), sample: &Sample) {
+    let Sample {
+        cipher,
+        nonce,
+        aad,
+        text,
+        sealed,
+    } = sample;
+    let made = seal(rt.alloc(), cipher, nonce, aad, text).expect(rt, "a sealing");
+    assert_eq!(rt; made.as_slice(), *sealed);
+    let back = open(rt.alloc(), cipher, nonce, aad, sealed).expect(rt, "a text");
+    assert_eq!(rt; back.as_slice(), *text);
+}
 
-/// Each published vector, both ways and in both forms.
+/// A text is sealed and opened where it stands.
+fn is_sealed_and_opened_in_place(rt: &(impl Abort + Alloc<A = Global>), sample: &Sample) {
+    let Sample {
+        cipher,
+        nonce,
+        aad,
+        text,
+        sealed,
+    } = sample;
+    let (body, last) = sealed.split_at(sealed.len().saturating_sub(16));
+    let mut bytes = Vec::from_slice(rt.alloc(), text).expect(rt, "memory");
+    let tag = cipher
+        .seal_in_place(nonce, aad, &mut bytes)
+        .expect(rt, "a tag");
+    assert_eq!(rt; bytes.as_slice(), body);
+    assert_eq!(rt; tag.bytes().as_slice(), last);
+    assert!(rt; cipher.open_in_place(nonce, aad, &mut bytes, &tag).is_ok());
+    assert_eq!(rt; bytes.as_slice(), *text);
+}
+
+/// A published vector, both ways and in both forms.
+fn agrees(
+    rt: &(impl Abort + Alloc<A = Global>),
+    name: &str,
+    key: &[u8],
+    nonce: &[u8],
+    aad: &'static [u8],
+    text: &'static [u8],
+    sealed: &'static [u8],
+) {
+    let suite = Suite::named(name).expect(rt, "a suite's name");
+    let sample = Sample {
+        cipher: cipher(rt, suite, key),
+        nonce: Nonce::from_slice(nonce).expect(rt, "a nonce"),
+        aad,
+        text,
+        sealed,
+    };
+    assert!(rt; sample.cipher.suite() == suite);
+    is_sealed_and_opened(rt, &sample);
+    is_sealed_and_opened_in_place(rt, &sample);
+}
+
+/// A vector of zero bytes, with no associated data.
+fn agrees_of_zeros(
+    rt: &(impl Abort + Alloc<A = Global>),
+    name: &str,
+    key: &[u8],
+    text: &'static [u8],
+    sealed: &'static [u8],
+) {
+    agrees(rt, name, key, &ZEROS[..12], &[], text, sealed);
+}
+
+/// A vector of AES-GCM-SIV, with no associated data.
+fn agrees_of_siv(
+    rt: &(impl Abort + Alloc<A = Global>),
+    name: &str,
+    key: &[u8],
+    text: &'static [u8],
+    sealed: &'static [u8],
+) {
+    agrees(rt, name, key, &SIV_NONCE, &[], text, sealed);
+}
+
+/// Those of ChaCha20-Poly1305, and of AES-GCM with associated data.
 #[test]
-fn published_vectors(rt: HostRuntime) -> Result<(), Fail> {
-    let vectors: [Vector; 12] = [
-        (
-            "chacha20-poly1305",
-            &CHACHA_KEY,
-            &CHACHA_NONCE,
-            &CHACHA_AAD,
-            CHACHA_TEXT,
-            &CHACHA_SEALED,
-        ),
-        ("aes-128-gcm", &ZEROS[..16], &ZEROS[..12], &[], &[], &GCM_1),
-        (
-            "aes-128-gcm",
-            &ZEROS[..16],
-            &ZEROS[..12],
-            &[],
-            &ZEROS[..16],
-            &GCM_2,
-        ),
-        (
-            "aes-128-gcm",
-            &GCM_KEY,
-            &GCM_NONCE,
-            &GCM_AAD,
-            &GCM_TEXT,
-            &GCM_4,
-        ),
-        ("aes-192-gcm", &ZEROS[..24], &ZEROS[..12], &[], &[], &GCM_7),
-        (
-            "aes-192-gcm",
-            &ZEROS[..24],
-            &ZEROS[..12],
-            &[],
-            &ZEROS[..16],
-            &GCM_8,
-        ),
-        ("aes-256-gcm", &ZEROS, &ZEROS[..12], &[], &[], &GCM_13),
-        (
-            "aes-256-gcm",
-            &ZEROS,
-            &ZEROS[..12],
-            &[],
-            &ZEROS[..16],
-            &GCM_14,
-        ),
-        (
-            "aes-128-gcm-siv",
-            &SIV_KEY[..16],
-            &SIV_NONCE,
-            &[],
-            &[],
-            &SIV_128_EMPTY,
-        ),
-        (
-            "aes-128-gcm-siv",
-            &SIV_KEY[..16],
-            &SIV_NONCE,
-            &[],
-            &SIV_TEXT,
-            &SIV_128,
-        ),
-        (
-            "aes-256-gcm-siv",
-            &SIV_KEY,
-            &SIV_NONCE,
-            &[],
-            &[],
-            &SIV_256_EMPTY,
-        ),
-        (
-            "aes-256-gcm-siv",
-            &SIV_KEY,
-            &SIV_NONCE,
-            &[],
-            &SIV_TEXT,
-            &SIV_256,
-        ),
-    ];
-    for (name, key, nonce, aad, text, sealed) in vectors {
-        let suite = Suite::named(name).expect(&rt, "a suite's name");
-        let cipher = AnyAead::new(suite, key)?;
-        let nonce = Nonce::from_slice(nonce)?;
-        assert!(rt; cipher.suite() == suite);
-        let made = seal(rt.alloc(), &cipher, &nonce, aad, text)?;
-        assert_eq!(rt; made.as_slice(), sealed);
-        let back = open(rt.alloc(), &cipher, &nonce, aad, sealed)?;
-        assert_eq!(rt; back.as_slice(), text);
-        let (body, last) = sealed.split_at(sealed.len().saturating_sub(16));
-        let mut bytes = Vec::from_slice(rt.alloc(), text)?;
-        let tag = cipher.seal_in_place(&nonce, aad, &mut bytes)?;
-        assert_eq!(rt; bytes.as_slice(), body);
-        assert_eq!(rt; tag.bytes().as_slice(), last);
-        cipher.open_in_place(&nonce, aad, &mut bytes, &tag)?;
-        assert_eq!(rt; bytes.as_slice(), text);
-    }
-    Ok(())
+fn published_vectors(rt: HostRuntime) {
+    let (key, nonce) = (&CHACHA_KEY, &CHACHA_NONCE);
+    let name = "chacha20-poly1305";
+    agrees(
+        &rt,
+        name,
+        key,
+        nonce,
+        &CHACHA_AAD,
+        CHACHA_TEXT,
+        &CHACHA_SEALED,
+    );
+    let name = "aes-128-gcm";
+    agrees(&rt, name, &GCM_KEY, &GCM_NONCE, &GCM_AAD, &GCM_TEXT, &GCM_4);
+}
+
+/// Those of AES-GCM without associated data.
+#[test]
+fn published_vectors_of_zeros(rt: HostRuntime) {
+    let block = &ZEROS[..16];
+    agrees_of_zeros(&rt, "aes-128-gcm", &ZEROS[..16], &[], &GCM_1);
+    agrees_of_zeros(&rt, "aes-128-gcm", &ZEROS[..16], block, &GCM_2);
+    agrees_of_zeros(&rt, "aes-192-gcm", &ZEROS[..24], &[], &GCM_7);
+    agrees_of_zeros(&rt, "aes-192-gcm", &ZEROS[..24], block, &GCM_8);
+    agrees_of_zeros(&rt, "aes-256-gcm", &ZEROS, &[], &GCM_13);
+    agrees_of_zeros(&rt, "aes-256-gcm", &ZEROS, block, &GCM_14);
+}
+
+/// Those of AES-GCM-SIV.
+#[test]
+fn published_vectors_of_gcm_siv(rt: HostRuntime) {
+    let name = "aes-128-gcm-siv";
+    agrees_of_siv(&rt, name, &SIV_KEY[..16], &[], &SIV_128_EMPTY);
+    agrees_of_siv(&rt, name, &SIV_KEY[..16], &SIV_TEXT, &SIV_128);
+    let name = "aes-256-gcm-siv";
+    agrees_of_siv(&rt, name, &SIV_KEY, &[], &SIV_256_EMPTY);
+    agrees_of_siv(&rt, name, &SIV_KEY, &SIV_TEXT, &SIV_256);
+}
+
+/// Opening these bytes as a vector is refused so.
+fn is_refused(
+    rt: &(impl Abort + Alloc<A = Global>),
+    sample: &Sample,
+    aad: &[u8],
+    sealed: &[u8],
+    fault: Fault,
+) {
+    let answer = open(rt.alloc(), &sample.cipher, &sample.nonce, aad, sealed);
+    assert!(rt; answer.err() == Some(fault), "{sealed:?}");
+}
+
+/// These bytes are no sealing where they stand either, and stay.
+fn is_refused_in_place(
+    rt: &(impl Abort + Alloc<A = Global>),
+    sample: &Sample,
+    aad: &[u8],
+    sealed: &[u8],
+) {
+    let (body, last) = sealed.split_last_chunk::<16>().expect(rt, "a tag");
+    let tag = Tag::new(*last);
+    let mut bytes = Vec::from_slice(rt.alloc(), body).expect(rt, "memory");
+    let answer = sample
+        .cipher
+        .open_in_place(&sample.nonce, aad, &mut bytes, &tag);
+    assert!(rt; answer == Err(Fault::TagMismatch), "{sealed:?}");
+    assert_eq!(rt; bytes.as_slice(), body);
 }
 
 /// Other associated data makes another sealing.
 #[test]
-fn other_associated_data(rt: HostRuntime) -> Result<(), Fail> {
-    let cipher = AnyAead::new(Suite::ChaCha20Poly1305, &CHACHA_KEY)?;
-    let nonce = Nonce::from_slice(&CHACHA_NONCE)?;
+fn other_associated_data(rt: HostRuntime) {
+    let sample = chacha(&rt);
     let mut aad = CHACHA_AAD;
     aad[0] = 0x51;
-    let refused = open(rt.alloc(), &cipher, &nonce, &aad, &CHACHA_SEALED);
-    assert!(rt; refused.is_err_and(|e| e == Fault::TagMismatch));
-    let mut bytes = [0; 114];
-    bytes.copy_from_slice(&CHACHA_SEALED[..114]);
-    let mut last = [0; 16];
-    last.copy_from_slice(&CHACHA_SEALED[114..]);
-    let refused = cipher.open_in_place(&nonce, &aad, &mut bytes, &Tag::new(last));
-    assert!(rt; refused.is_err_and(|e| e == Fault::TagMismatch));
-    assert_eq!(rt; &bytes[..], &CHACHA_SEALED[..114]);
-    Ok(())
+    is_refused(&rt, &sample, &aad, sample.sealed, Fault::TagMismatch);
+    is_refused_in_place(&rt, &sample, &aad, sample.sealed);
 }
 
 /// The beginnings of a sealing are none.
+fn beginnings_are_refused(rt: &(impl Abort + Alloc<A = Global>), sample: &Sample) {
+    for length in 0..sample.sealed.len() {
+        let fault = if length < 16 {
+            Fault::TooShort
+        } else {
+            Fault::TagMismatch
+        };
+        is_refused(rt, sample, sample.aad, &sample.sealed[..length], fault);
+    }
+}
+
+/// Those of 130 and of 76 bytes.
 #[test]
-fn cut_sealings(rt: HostRuntime) -> Result<(), Fail> {
-    let chacha = AnyAead::new(Suite::ChaCha20Poly1305, &CHACHA_KEY)?;
-    let chacha_nonce = Nonce::from_slice(&CHACHA_NONCE)?;
-    for length in 0..130usize {
-        let want = if length < 16 {
-            Fault::TooShort
-        } else {
-            Fault::TagMismatch
-        };
-        let cut = &CHACHA_SEALED[..length];
-        let refused = open(rt.alloc(), &chacha, &chacha_nonce, &CHACHA_AAD, cut);
-        assert!(rt; refused.is_err_and(|e| e == want), "{length}");
-    }
-    let gcm = AnyAead::new(Suite::Aes128Gcm, &GCM_KEY)?;
-    let gcm_nonce = Nonce::from_slice(&GCM_NONCE)?;
-    for length in 0..76usize {
-        let want = if length < 16 {
-            Fault::TooShort
-        } else {
-            Fault::TagMismatch
-        };
-        let refused = open(rt.alloc(), &gcm, &gcm_nonce, &GCM_AAD, &GCM_4[..length]);
-        assert!(rt; refused.is_err_and(|e| e == want), "{length}");
-    }
-    Ok(())
+fn cut_sealings(rt: HostRuntime) {
+    beginnings_are_refused(&rt, &chacha(&rt));
+    beginnings_are_refused(&rt, &gcm(&rt));
 }
 
 /// A sealing with any one bit changed is none, and what was to be opened stays.
 #[test]
-fn each_bit_changed(rt: HostRuntime) -> Result<(), Fail> {
-    let cipher = AnyAead::new(Suite::Aes128GcmSiv, &SIV_KEY[..16])?;
-    let nonce = Nonce::from_slice(&SIV_NONCE)?;
+fn each_bit_changed(rt: HostRuntime) {
+    let sample = siv(&rt);
     for bit in 0..192usize {
         let mut changed = SIV_128;
         changed[bit / 8] ^= 1 << (bit % 8);
-        let refused = open(rt.alloc(), &cipher, &nonce, &[], &changed);
-        assert!(rt;
-            refused.is_err_and(|e| e == Fault::TagMismatch),
-            "bit {bit}"
-        );
-        let mut bytes = [0; 8];
-        bytes.copy_from_slice(&changed[..8]);
-        let mut last = [0; 16];
-        last.copy_from_slice(&changed[8..]);
-        let refused = cipher.open_in_place(&nonce, &[], &mut bytes, &Tag::new(last));
-        assert!(rt;
-            refused.is_err_and(|e| e == Fault::TagMismatch),
-            "bit {bit}"
-        );
-        assert_eq!(rt; &bytes[..], &changed[..8]);
+        is_refused(&rt, &sample, &[], &changed, Fault::TagMismatch);
+        is_refused_in_place(&rt, &sample, &[], &changed);
     }
-    Ok(())
 }
 
 /// The same of AES-GCM.
 #[test]
-fn each_bit_of_gcm_changed(rt: HostRuntime) -> Result<(), Fail> {
-    let cipher = AnyAead::new(Suite::Aes128Gcm, &GCM_KEY)?;
-    let nonce = Nonce::from_slice(&GCM_NONCE)?;
+fn each_bit_of_gcm_changed(rt: HostRuntime) {
+    let sample = gcm(&rt);
     for bit in 0..608usize {
         let mut changed = GCM_4;
         changed[bit / 8] ^= 1 << (bit % 8);
-        let mut bytes = [0; 60];
-        bytes.copy_from_slice(&changed[..60]);
-        let mut last = [0; 16];
-        last.copy_from_slice(&changed[60..]);
-        let refused = cipher.open_in_place(&nonce, &GCM_AAD, &mut bytes, &Tag::new(last));
-        assert!(rt;
-            refused.is_err_and(|e| e == Fault::TagMismatch),
-            "bit {bit}"
-        );
-        assert_eq!(rt; &bytes[..], &changed[..60]);
+        is_refused_in_place(&rt, &sample, sample.aad, &changed);
     }
-    Ok(())
 }

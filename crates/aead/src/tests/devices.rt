@@ -2,261 +2,269 @@ use super::published::*;
 use super::samples::*;
 use crate::*;
 use octets::{Fault, ScriptIntake, ScriptOutlet, Step};
-use std::alloc::{AllocError, Global};
+use std::alloc::Global;
 use std::process::Abort;
-use std::test::Fail;
 
-/// So many steps of seven bytes, and then a failure; where there are none before it, that is the first call.
-fn failing_after(alloc: Global, calls: usize) -> Result<Vec<Step>, AllocError> {
-    let mut steps = Vec::new(alloc);
+/// What a device does: so many calls of seven bytes each before a failure, or three bytes and then a
+/// failure, or calls of seven bytes and no failure, or calls of any number of bytes and none.
+#[derive(Clone, Copy, PartialEq, Eq, Debug, Drop)]
+enum Course {
+    FailsAfter(usize),
+    FailsAfterThree,
+    NeverFails,
+    IsWhole,
+}
+
+/// The steps of a device.
+fn steps(rt: &(impl Abort + Alloc<A = Global>), course: Course) -> Vec<Step> {
+    let (first, calls, fails) = match course {
+        Course::FailsAfter(calls) => (7, calls, true),
+        Course::FailsAfterThree => (3, 1, true),
+        Course::NeverFails => (7, 80, false),
+        Course::IsWhole => (7, 0, false),
+    };
+    let mut steps = Vec::new(rt.alloc());
     for _ in 0..calls {
-        steps.push(Step::Give(7))?;
+        steps.push(Step::Give(first)).expect(rt, "memory");
     }
-    steps.push(Step::Fail)?;
-    Ok(steps)
+    if fails {
+        steps.push(Step::Fail).expect(rt, "memory");
+    }
+    steps
 }
 
-/// A reading of these bytes that follows these steps.
+/// A reading of these bytes.
 fn reading(
-    alloc: Global,
+    rt: &(impl Abort + Alloc<A = Global>),
     bytes: &[u8],
-    steps: Vec<Step>,
-) -> Result<ScriptIntake<Global>, AllocError> {
-    Ok(ScriptIntake::new(Vec::from_slice(alloc, bytes)?, steps))
+    course: Course,
+) -> ScriptIntake<Global> {
+    let bytes = Vec::from_slice(rt.alloc(), bytes).expect(rt, "memory");
+    ScriptIntake::new(bytes, steps(rt, course))
 }
 
-/// Opening the published sealing of 130 bytes by scripts: the answer, and what was given.
+/// What takes bytes.
+fn outlet(rt: &(impl Abort + Alloc<A = Global>), course: Course) -> ScriptOutlet<Global> {
+    ScriptOutlet::new(rt.alloc(), steps(rt, course))
+}
+
+/// Opening the published sealing of 130 bytes: the measure, the verify and the write reading, and what was
+/// given.
 fn opened(
-    alloc: Global,
-    measure: Vec<Step>,
-    verify: Vec<Step>,
-    write: Vec<Step>,
-    outlet: Vec<Step>,
-) -> Result<(Result<(), Fault>, ScriptOutlet<Global>), Fail> {
-    let sample = chacha()?;
-    let mut out = ScriptOutlet::new(alloc, outlet);
-    let answer = open_stream(
+    rt: &(impl Abort + Alloc<A = Global>),
+    measure: Course,
+    verify: Course,
+    write: Course,
+    out: &mut ScriptOutlet<Global>,
+) -> Result<(), Fault> {
+    let sample = chacha(rt);
+    let mut measure = reading(rt, sample.sealed, measure);
+    let mut verify = reading(rt, sample.sealed, verify);
+    let mut write = reading(rt, sample.sealed, write);
+    open_stream(
         &sample.cipher,
         &sample.nonce,
         sample.aad,
-        &mut reading(alloc, sample.sealed, measure)?,
-        &mut reading(alloc, sample.sealed, verify)?,
-        &mut reading(alloc, sample.sealed, write)?,
-        &mut out,
-    );
-    Ok((answer, out))
+        &mut measure,
+        &mut verify,
+        &mut write,
+        out,
+    )
+}
+
+/// Opening with a device that fails is answered by its fault; what was given is a beginning of these bytes,
+/// and its length is answered.
+fn fails(
+    rt: &(impl Abort + Alloc<A = Global>),
+    courses: (Course, Course, Course, Course),
+    fault: Fault,
+    most: &[u8],
+) -> usize {
+    let (measure, verify, write, taking) = courses;
+    let mut out = outlet(rt, taking);
+    let answer = opened(rt, measure, verify, write, &mut out);
+    assert!(rt; answer == Err(fault));
+    assert!(rt; most.starts_with(out.bytes()));
+    out.bytes().len()
 }
 
 /// Nothing is given where the measure reading fails at its first take, or the verify reading at its second.
 #[test]
-fn failing_readings_before_any_byte(rt: HostRuntime) -> Result<(), Fail> {
-    let none = || Vec::new(rt.alloc());
-    let (answer, out) = opened(
-        rt.alloc(),
-        failing_after(rt.alloc(), 0)?,
-        none(),
-        none(),
-        none(),
-    )?;
-    assert!(rt; answer == Err(Fault::Read));
-    assert!(rt; out.bytes().is_empty());
-    let (answer, out) = opened(
-        rt.alloc(),
-        none(),
-        failing_after(rt.alloc(), 1)?,
-        none(),
-        none(),
-    )?;
-    assert!(rt; answer == Err(Fault::Read));
-    assert!(rt; out.bytes().is_empty());
-    Ok(())
+fn failing_readings_before_any_byte(rt: HostRuntime) {
+    let (first, second) = (Course::FailsAfter(0), Course::FailsAfter(1));
+    let whole = Course::IsWhole;
+    let _ = fails(&rt, (first, whole, whole, whole), Fault::Read, &[]);
+    let _ = fails(&rt, (whole, second, whole, whole), Fault::Read, &[]);
 }
 
 /// Where the write reading fails after three bytes, no more than these were given.
 #[test]
-fn a_write_reading_that_fails(rt: HostRuntime) -> Result<(), Fail> {
-    let none = || Vec::new(rt.alloc());
-    let steps = vec![in rt.alloc(); Step::Give(3), Step::Fail]?;
-    let (answer, out) = opened(rt.alloc(), none(), none(), steps, none())?;
-    assert!(rt; answer == Err(Fault::Read));
-    assert!(rt; CHACHA_TEXT[..3].starts_with(out.bytes()));
-    Ok(())
+fn a_write_reading_that_fails(rt: HostRuntime) {
+    let whole = Course::IsWhole;
+    let courses = (whole, whole, Course::FailsAfterThree, whole);
+    let _ = fails(&rt, courses, Fault::Read, &CHACHA_TEXT[..3]);
 }
 
 /// An outlet that fails at once was given nothing, and one that takes three bytes was given these.
 #[test]
-fn failing_outlets(rt: HostRuntime) -> Result<(), Fail> {
-    let none = || Vec::new(rt.alloc());
-    let steps = failing_after(rt.alloc(), 0)?;
-    let (answer, out) = opened(rt.alloc(), none(), none(), none(), steps)?;
-    assert!(rt; answer == Err(Fault::Write));
-    assert!(rt; out.bytes().is_empty());
-    let steps = vec![in rt.alloc(); Step::Give(3), Step::Fail]?;
-    let (answer, out) = opened(rt.alloc(), none(), none(), none(), steps)?;
-    assert!(rt; answer == Err(Fault::Write));
-    assert_eq!(rt; out.bytes(), &CHACHA_TEXT[..3]);
-    Ok(())
+fn failing_outlets(rt: HostRuntime) {
+    let whole = Course::IsWhole;
+    let courses = (whole, whole, whole, Course::FailsAfter(0));
+    let _ = fails(&rt, courses, Fault::Write, &[]);
+    let courses = (whole, whole, whole, Course::FailsAfterThree);
+    assert_eq!(rt; fails(&rt, courses, Fault::Write, &CHACHA_TEXT[..3]), 3);
 }
 
-/// The steps of the device that fails at this call, and steps of seven bytes of each other one.
-fn steps_of(alloc: Global, fails: bool, call: usize) -> Result<Vec<Step>, AllocError> {
+/// The course of the device that fails at this call, and that of each other one.
+fn course_of(fails: bool, call: usize) -> Course {
     if fails {
-        return failing_after(alloc, call);
+        Course::FailsAfter(call)
+    } else {
+        Course::NeverFails
     }
-    let mut steps = Vec::new(alloc);
-    for _ in 0..80u32 {
-        steps.push(Step::Give(7))?;
-    }
-    Ok(steps)
 }
 
-/// Each call of each device of the opener fails in turn, until a run ends well: the fault is the
-/// device's, what was given is a beginning of the text, and nothing where the measure or the verify
-/// reading failed.
+/// The fault of a reading or of the outlet.
+fn fault_of(is_outlet: bool) -> Fault {
+    if is_outlet { Fault::Write } else { Fault::Read }
+}
+
+/// Whether a run ended well, and all was given; else the fault is the device's, and what was given is a
+/// beginning.
+fn is_done(
+    rt: &impl Abort,
+    answer: Result<(), Fault>,
+    fault: Fault,
+    given: &[u8],
+    whole: &[u8],
+) -> bool {
+    match answer {
+        Ok(()) => assert_eq!(rt; given, whole),
+        Err(found) => {
+            assert!(rt; found == fault, "{given:?}");
+            assert!(rt; whole.starts_with(given));
+        }
+    }
+    answer.is_ok()
+}
+
+/// Opening with one call of one device failing: whether it ended well. Nothing was given where the measure
+/// or the verify reading failed.
+fn is_opened(rt: &(impl Abort + Alloc<A = Global>), device: usize, call: usize) -> bool {
+    let mut out = outlet(rt, course_of(device == 3, call));
+    let answer = opened(
+        rt,
+        course_of(device == 0, call),
+        course_of(device == 1, call),
+        course_of(device == 2, call),
+        &mut out,
+    );
+    let given = out.bytes();
+    assert!(rt; device > 1 || answer.is_ok() || given.is_empty());
+    is_done(
+        rt,
+        answer,
+        fault_of(device == 3),
+        given,
+        CHACHA_TEXT.as_slice(),
+    )
+}
+
+/// Opening with each call of one device failing in turn, until a run ends well.
+fn each_call_fails(rt: &(impl Abort + Alloc<A = Global>), device: usize) {
+    for call in 0..60usize {
+        if is_opened(rt, device, call) {
+            assert!(rt; call > 10, "device {device}");
+            return;
+        }
+    }
+    assert!(rt; false, "device {device}");
+}
+
+/// Each call of each device of the opener fails in turn.
 #[test]
-fn each_call_of_opening_fails(rt: HostRuntime) -> Result<(), Fail> {
-    let alloc = rt.alloc();
+fn each_call_of_opening_fails(rt: HostRuntime) {
     for device in 0..4usize {
-        let mut ended = false;
-        for call in 0..60usize {
-            let (answer, out) = opened(
-                alloc,
-                steps_of(alloc, device == 0, call)?,
-                steps_of(alloc, device == 1, call)?,
-                steps_of(alloc, device == 2, call)?,
-                steps_of(alloc, device == 3, call)?,
-            )?;
-            if answer == Ok(()) {
-                assert!(rt; call > 10);
-                assert_eq!(rt; out.bytes(), CHACHA_TEXT.as_slice());
-                ended = true;
-                break;
-            }
-            let fault = if device == 3 {
-                Fault::Write
-            } else {
-                Fault::Read
-            };
-            assert!(rt; answer == Err(fault), "device {device}, call {call}");
-            assert!(rt;
-                CHACHA_TEXT.starts_with(out.bytes()),
-                "device {device}, call {call}"
-            );
-            assert!(rt;
-                device > 1 || out.bytes().is_empty(),
-                "device {device}, call {call}"
-            );
-        }
-        assert!(rt; ended, "device {device}");
+        each_call_fails(&rt, device);
     }
-    Ok(())
 }
 
-/// Sealing in one reading by scripts: the answer, and what was given.
-fn sealed_once(
-    alloc: Global,
-    text: Vec<Step>,
-    outlet: Vec<Step>,
-) -> Result<(Result<(), Fault>, ScriptOutlet<Global>), Fail> {
-    let sample = chacha()?;
-    let mut out = ScriptOutlet::new(alloc, outlet);
-    let answer = seal_stream(
-        one_pass(&sample.cipher)?,
-        &sample.nonce,
-        sample.aad,
-        &mut reading(alloc, sample.text, text)?,
-        &mut out,
-    );
-    Ok((answer, out))
+/// Sealing in one reading with one call of one device failing: whether it ended well.
+fn is_sealed_once(rt: &(impl Abort + Alloc<A = Global>), device: usize, call: usize) -> bool {
+    let sample = chacha(rt);
+    let cipher = one_pass(&sample.cipher).expect(rt, "one reading");
+    let mut text = reading(rt, sample.text, course_of(device == 0, call));
+    let mut out = outlet(rt, course_of(device == 1, call));
+    let answer = seal_stream(cipher, &sample.nonce, sample.aad, &mut text, &mut out);
+    is_done(
+        rt,
+        answer,
+        fault_of(device == 1),
+        out.bytes(),
+        sample.sealed,
+    )
 }
 
-/// Sealing in two readings by scripts: the answer, and what was given.
-fn sealed_twice(
-    alloc: Global,
-    first: Vec<Step>,
-    second: Vec<Step>,
-    outlet: Vec<Step>,
-) -> Result<(Result<(), Fault>, ScriptOutlet<Global>), Fail> {
-    let sample = siv()?;
-    let mut out = ScriptOutlet::new(alloc, outlet);
-    let answer = seal_siv_stream(
-        two_pass(&sample.cipher)?,
-        &sample.nonce,
-        sample.aad,
-        &mut reading(alloc, sample.text, first)?,
-        &mut reading(alloc, sample.text, second)?,
-        &mut out,
-    );
-    Ok((answer, out))
+/// The same with each call of one device failing in turn, until a run ends well.
+fn each_call_fails_once(rt: &(impl Abort + Alloc<A = Global>), device: usize) {
+    for call in 0..60usize {
+        if is_sealed_once(rt, device, call) {
+            assert!(rt; call > 10, "device {device}");
+            return;
+        }
+    }
+    assert!(rt; false, "device {device}");
 }
 
-/// Each call of each device of sealing in one reading fails in turn, until a run ends well: what was
-/// given is a beginning of the sealing.
+/// Each call of each device of sealing in one reading fails in turn.
 #[test]
-fn each_call_of_sealing_once_fails(rt: HostRuntime) -> Result<(), Fail> {
-    let alloc = rt.alloc();
+fn each_call_of_sealing_once_fails(rt: HostRuntime) {
     for device in 0..2usize {
-        let mut ended = false;
-        for call in 0..60usize {
-            let text = steps_of(alloc, device == 0, call)?;
-            let (answer, out) = sealed_once(alloc, text, steps_of(alloc, device == 1, call)?)?;
-            if answer == Ok(()) {
-                assert!(rt; call > 10);
-                assert_eq!(rt; out.bytes(), CHACHA_SEALED.as_slice());
-                ended = true;
-                break;
-            }
-            let fault = if device == 1 {
-                Fault::Write
-            } else {
-                Fault::Read
-            };
-            assert!(rt; answer == Err(fault), "device {device}, call {call}");
-            assert!(rt;
-                CHACHA_SEALED.starts_with(out.bytes()),
-                "device {device}, call {call}"
-            );
-        }
-        assert!(rt; ended, "device {device}");
+        each_call_fails_once(&rt, device);
     }
-    Ok(())
 }
 
-/// The same of sealing in two readings; where the first one failed, nothing was given.
-#[test]
-fn each_call_of_sealing_twice_fails(rt: HostRuntime) -> Result<(), Fail> {
-    let alloc = rt.alloc();
-    for device in 0..3usize {
-        let mut ended = false;
-        for call in 0..60usize {
-            let (answer, out) = sealed_twice(
-                alloc,
-                steps_of(alloc, device == 0, call)?,
-                steps_of(alloc, device == 1, call)?,
-                steps_of(alloc, device == 2, call)?,
-            )?;
-            if answer == Ok(()) {
-                assert!(rt; call > 1);
-                assert_eq!(rt; out.bytes(), SIV_128.as_slice());
-                ended = true;
-                break;
-            }
-            let fault = if device == 2 {
-                Fault::Write
-            } else {
-                Fault::Read
-            };
-            assert!(rt; answer == Err(fault), "device {device}, call {call}");
-            assert!(rt;
-                SIV_128.starts_with(out.bytes()),
-                "device {device}, call {call}"
-            );
-            assert!(rt;
-                device > 0 || out.bytes().is_empty(),
-                "device {device}, call {call}"
-            );
+/// Sealing in two readings with one call of one device failing: whether it ended well. Nothing was given
+/// where the first reading failed.
+fn is_sealed_twice(rt: &(impl Abort + Alloc<A = Global>), device: usize, call: usize) -> bool {
+    let sample = siv(rt);
+    let cipher = two_pass(&sample.cipher).expect(rt, "two readings");
+    let mut first = reading(rt, sample.text, course_of(device == 0, call));
+    let mut second = reading(rt, sample.text, course_of(device == 1, call));
+    let mut out = outlet(rt, course_of(device == 2, call));
+    let answer = seal_siv_stream(
+        cipher,
+        &sample.nonce,
+        sample.aad,
+        &mut first,
+        &mut second,
+        &mut out,
+    );
+    assert!(rt; device > 0 || answer.is_ok() || out.bytes().is_empty());
+    is_done(
+        rt,
+        answer,
+        fault_of(device == 2),
+        out.bytes(),
+        sample.sealed,
+    )
+}
+
+/// The same with each call of one device failing in turn, until a run ends well.
+fn each_call_fails_twice(rt: &(impl Abort + Alloc<A = Global>), device: usize) {
+    for call in 0..60usize {
+        if is_sealed_twice(rt, device, call) {
+            assert!(rt; call > 1, "device {device}");
+            return;
         }
-        assert!(rt; ended, "device {device}");
     }
-    Ok(())
+    assert!(rt; false, "device {device}");
+}
+
+/// Each call of each device of sealing in two readings fails in turn.
+#[test]
+fn each_call_of_sealing_twice_fails(rt: HostRuntime) {
+    for device in 0..3usize {
+        each_call_fails_twice(&rt, device);
+    }
 }

@@ -4,154 +4,159 @@ use crate::*;
 use octets::{Fault, RefusingMemory};
 use std::alloc::{Allocator, Global};
 use std::process::Abort;
-use std::test::Fail;
 
-/// Sealing with each request for memory refused in turn, until none is.
-fn seal_refused(rt: &impl Abort, alloc: Global, sample: &Sample, want: &[u8]) -> Result<(), Fail> {
-    for passed in 0..9u64 {
-        let memory = RefusingMemory::after(passed, alloc);
-        let answer = seal(
-            &memory,
-            &sample.cipher,
-            &sample.nonce,
-            sample.aad,
-            sample.text,
-        );
-        if !memory.has_refused() {
-            assert!(rt; passed > 0);
-            match answer {
-                Ok(sealed) => assert_eq!(rt; sealed.as_slice(), want),
-                Err(_) => assert!(rt; false, "memory was there"),
-            }
-            return Ok(());
-        }
-        assert!(rt;
-            answer.is_err_and(|e| e == Fault::OutOfMemory),
-            "request {passed}"
-        );
-    }
-    assert!(rt; false, "requests without end");
-    Ok(())
-}
-
-/// Each request for memory of sealing is refused in turn.
-#[test]
-fn refused_requests_of_seal(rt: HostRuntime) -> Result<(), Fail> {
-    let sample = chacha()?;
-    seal_refused(&rt, rt.alloc(), &sample, sample.sealed)?;
-    let sample = gcm_of_no_text()?;
-    seal_refused(&rt, rt.alloc(), &sample, sample.sealed)?;
-    let sample = siv()?;
-    seal_refused(&rt, rt.alloc(), &sample, sample.sealed)?;
-    let sample = siv_of_no_text()?;
-    seal_refused(&rt, rt.alloc(), &sample, sample.sealed)?;
-    Ok(())
-}
-
-/// Opening with each request for memory refused in turn, until none is. A body of no bytes asks for none.
-fn open_refused(
-    rt: &impl Abort,
-    alloc: Global,
-    sample: &Sample,
-    sealed: &[u8],
+/// Whether an answer is right: want of memory where a request was refused, and else what is wanted.
+fn is_due<A: Allocator + Drop>(
+    answer: Result<Vec<u8, A>, Fault>,
     want: Result<&[u8], Fault>,
-) -> Result<(), Fail> {
-    for passed in 0..9u64 {
-        let memory = RefusingMemory::after(passed, alloc);
-        let answer = open(&memory, &sample.cipher, &sample.nonce, sample.aad, sealed);
-        if !memory.has_refused() {
-            assert!(rt; passed > 0 || sealed.len() <= 16);
-            match want {
-                Ok(text) => assert_eq!(rt; answer?.as_slice(), text),
-                Err(fault) => assert!(rt; answer.is_err_and(|e| e == fault)),
-            }
-            return Ok(());
-        }
-        assert!(rt;
-            answer.is_err_and(|e| e == Fault::OutOfMemory),
-            "request {passed}"
-        );
+    refused: bool,
+) -> bool {
+    let due = if refused {
+        Err(Fault::OutOfMemory)
+    } else {
+        want
+    };
+    match answer {
+        Ok(bytes) => due == Ok(bytes.as_slice()),
+        Err(fault) => due == Err(fault),
     }
-    assert!(rt; false, "requests without end");
-    Ok(())
 }
 
-/// Each request for memory of opening is refused in turn.
-#[test]
-fn refused_requests_of_open(rt: HostRuntime) -> Result<(), Fail> {
-    let sample = chacha()?;
-    open_refused(&rt, rt.alloc(), &sample, sample.sealed, Ok(sample.text))?;
-    let sample = gcm_of_no_text()?;
-    open_refused(&rt, rt.alloc(), &sample, sample.sealed, Ok(sample.text))?;
-    let sample = siv()?;
-    open_refused(&rt, rt.alloc(), &sample, sample.sealed, Ok(sample.text))?;
-    let sample = siv_of_no_text()?;
-    open_refused(&rt, rt.alloc(), &sample, sample.sealed, Ok(sample.text))?;
-    Ok(())
-}
-
-/// Want of memory comes before the tag is looked at, and after the length.
-#[test]
-fn want_of_memory_in_its_place(rt: HostRuntime) -> Result<(), Fail> {
-    let sample = chacha()?;
-    let mut changed = CHACHA_SEALED;
-    changed[129] = 0x90;
-    open_refused(&rt, rt.alloc(), &sample, &changed, Err(Fault::TagMismatch))?;
-    let memory = RefusingMemory::after(0, rt.alloc());
-    let answer = open(
+/// Sealing with one request for memory refused after the first `passed` ones: whether it came to that one.
+fn is_seal_refused(rt: &(impl Abort + Alloc<A = Global>), sample: &Sample, passed: u64) -> bool {
+    let memory = RefusingMemory::after(passed, rt.alloc());
+    let answer = seal(
         &memory,
         &sample.cipher,
         &sample.nonce,
         sample.aad,
-        &CHACHA_SEALED[..15],
+        sample.text,
     );
-    assert!(rt; answer.is_err_and(|e| e == Fault::TooShort));
-    assert!(rt; !memory.has_refused());
-    Ok(())
+    let refused = memory.has_refused();
+    assert!(rt;
+        is_due(answer, Ok(sample.sealed), refused),
+        "request {passed}"
+    );
+    refused
 }
 
-/// The bytes of all pieces.
-fn joined<A: Allocator>(alloc: Global, pieces: &[Vec<u8, A>]) -> Result<Vec<u8>, Fail> {
-    let mut bytes = Vec::new(alloc);
-    for piece in pieces {
-        bytes.extend_from_slice(piece)?;
+/// Sealing with each request for memory refused in turn, until none is.
+fn seal_refused(rt: &(impl Abort + Alloc<A = Global>), sample: &Sample) {
+    for passed in 0..9u64 {
+        if !is_seal_refused(rt, sample, passed) {
+            assert!(rt; passed > 0);
+            return;
+        }
     }
-    Ok(bytes)
+    assert!(rt; false, "requests without end");
+}
+
+/// Each request for memory of sealing is refused in turn.
+#[test]
+fn refused_requests_of_seal(rt: HostRuntime) {
+    seal_refused(&rt, &chacha(&rt));
+    seal_refused(&rt, &gcm_of_no_text(&rt));
+    seal_refused(&rt, &siv(&rt));
+    seal_refused(&rt, &siv_of_no_text(&rt));
+}
+
+/// Opening with one request for memory refused after the first `passed` ones: whether it came to that one.
+fn is_open_refused(
+    rt: &(impl Abort + Alloc<A = Global>),
+    sample: &Sample,
+    sealed: &[u8],
+    want: Result<&[u8], Fault>,
+    passed: u64,
+) -> bool {
+    let memory = RefusingMemory::after(passed, rt.alloc());
+    let answer = open(&memory, &sample.cipher, &sample.nonce, sample.aad, sealed);
+    let refused = memory.has_refused();
+    assert!(rt; is_due(answer, want, refused), "request {passed}");
+    refused
+}
+
+/// Opening with each request for memory refused in turn, until none is. A body of no bytes asks for none.
+fn open_refused(
+    rt: &(impl Abort + Alloc<A = Global>),
+    sample: &Sample,
+    sealed: &[u8],
+    want: Result<&[u8], Fault>,
+) {
+    for passed in 0..9u64 {
+        if !is_open_refused(rt, sample, sealed, want, passed) {
+            assert!(rt; passed > 0 || sealed.len() <= 16);
+            return;
+        }
+    }
+    assert!(rt; false, "requests without end");
+}
+
+/// The same of a published sealing.
+fn opening_refused(rt: &(impl Abort + Alloc<A = Global>), sample: &Sample) {
+    open_refused(rt, sample, sample.sealed, Ok(sample.text));
+}
+
+/// Each request for memory of opening is refused in turn.
+#[test]
+fn refused_requests_of_open(rt: HostRuntime) {
+    opening_refused(&rt, &chacha(&rt));
+    opening_refused(&rt, &gcm_of_no_text(&rt));
+    opening_refused(&rt, &siv(&rt));
+    opening_refused(&rt, &siv_of_no_text(&rt));
+}
+
+/// Want of memory comes before the tag is looked at, and after the length.
+#[test]
+fn want_of_memory_in_its_place(rt: HostRuntime) {
+    let sample = chacha(&rt);
+    let mut changed = CHACHA_SEALED;
+    changed[129] = 0x90;
+    open_refused(&rt, &sample, &changed, Err(Fault::TagMismatch));
+    let short = &CHACHA_SEALED[..15];
+    assert!(rt; !is_open_refused(&rt, &sample, short, Err(Fault::TooShort), 0));
+}
+
+/// Sealing in three pieces with one request for memory refused after the first `passed` ones: whether it came
+/// to that one.
+fn is_seal_cut_refused(
+    rt: &(impl Abort + Alloc<A = Global>),
+    sample: &Sample,
+    passed: u64,
+) -> bool {
+    let memory = RefusingMemory::after(passed, rt.alloc());
+    let answer = seal_cut(
+        &memory,
+        &sample.cipher,
+        &sample.nonce,
+        sample.aad,
+        sample.text,
+        &[3, 8],
+    );
+    let refused = memory.has_refused();
+    let is_right = match answer {
+        Ok(pieces) => !refused && are_joined(&pieces, sample.sealed),
+        Err(fault) => refused && fault == Fault::OutOfMemory,
+    };
+    assert!(rt; is_right, "request {passed}");
+    refused
 }
 
 /// Sealing in three pieces with each request for memory refused in turn, until none is.
-fn seal_cut_refused(rt: &impl Abort, alloc: Global, sample: &Sample) -> Result<(), Fail> {
+fn seal_cut_refused(rt: &(impl Abort + Alloc<A = Global>), sample: &Sample) {
     for passed in 0..30u64 {
-        let memory = RefusingMemory::after(passed, alloc);
-        let answer = seal_cut(
-            &memory,
-            &sample.cipher,
-            &sample.nonce,
-            sample.aad,
-            sample.text,
-            &[3, 8],
-        );
-        if !memory.has_refused() {
+        if !is_seal_cut_refused(rt, sample, passed) {
             assert!(rt; passed > 0);
-            let bytes = joined(alloc, &answer?)?;
-            assert_eq!(rt; bytes.as_slice(), sample.sealed);
-            return Ok(());
+            return;
         }
-        assert!(rt;
-            answer.is_err_and(|e| e == Fault::OutOfMemory),
-            "request {passed}"
-        );
     }
     assert!(rt; false, "requests without end");
-    Ok(())
 }
 
 /// Each request for memory of sealing in pieces is refused in turn.
 #[test]
-fn refused_requests_of_seal_cut(rt: HostRuntime) -> Result<(), Fail> {
-    seal_cut_refused(&rt, rt.alloc(), &chacha()?)?;
-    seal_cut_refused(&rt, rt.alloc(), &gcm_of_no_text()?)?;
-    seal_cut_refused(&rt, rt.alloc(), &siv()?)?;
-    seal_cut_refused(&rt, rt.alloc(), &siv_of_no_text()?)?;
-    Ok(())
+fn refused_requests_of_seal_cut(rt: HostRuntime) {
+    seal_cut_refused(&rt, &chacha(&rt));
+    seal_cut_refused(&rt, &gcm_of_no_text(&rt));
+    seal_cut_refused(&rt, &siv(&rt));
+    seal_cut_refused(&rt, &siv_of_no_text(&rt));
 }

@@ -2,9 +2,8 @@ use super::published::*;
 use super::samples::*;
 use crate::*;
 use octets::{Fault, ScriptIntake, SliceIntake, Step, VecOutlet};
-use std::alloc::{AllocError, Global};
+use std::alloc::Global;
 use std::process::Abort;
-use std::test::Fail;
 
 /// The readings of one opening, its answer, and what it gives.
 #[derive(Drop)]
@@ -17,71 +16,82 @@ struct Opening<'a> {
 }
 
 /// Opening these readings ends so.
-fn opens(rt: &impl Abort, alloc: Global, sample: &Sample, opening: Opening) -> Result<(), Fail> {
-    let mut out = VecOutlet::new(alloc);
+fn opens(rt: &(impl Abort + Alloc<A = Global>), sample: &Sample, opening: &Opening) {
+    let mut measure = SliceIntake::new(opening.measure);
+    let mut verify = SliceIntake::new(opening.verify);
+    let mut write = SliceIntake::new(opening.write);
+    let mut out = VecOutlet::new(rt.alloc());
     let answer = open_stream(
         &sample.cipher,
         &sample.nonce,
         sample.aad,
-        &mut SliceIntake::new(opening.measure),
-        &mut SliceIntake::new(opening.verify),
-        &mut SliceIntake::new(opening.write),
+        &mut measure,
+        &mut verify,
+        &mut write,
         &mut out,
     );
     assert!(rt; answer == opening.answer);
     assert_eq!(rt; out.bytes(), opening.given);
-    Ok(())
 }
 
-/// Three readings of a published sealing give its text; of the sealing of no text they give nothing.
+/// Three readings of a published sealing give its text.
+fn is_opened(rt: &(impl Abort + Alloc<A = Global>), sample: &Sample) {
+    let opening = Opening {
+        measure: sample.sealed,
+        verify: sample.sealed,
+        write: sample.sealed,
+        answer: Ok(()),
+        given: sample.text,
+    };
+    opens(rt, sample, &opening);
+}
+
+/// Of the sealing of no text they give nothing.
 #[test]
-fn equal_readings(rt: HostRuntime) -> Result<(), Fail> {
-    for sample in [
-        chacha()?,
-        gcm_of_no_text()?,
-        gcm()?,
-        siv_of_no_text()?,
-        siv()?,
-    ] {
-        let opening = Opening {
-            measure: sample.sealed,
-            verify: sample.sealed,
-            write: sample.sealed,
-            answer: Ok(()),
-            given: sample.text,
-        };
-        opens(&rt, rt.alloc(), &sample, opening)?;
-    }
-    Ok(())
+fn equal_readings(rt: HostRuntime) {
+    is_opened(&rt, &chacha(&rt));
+    is_opened(&rt, &gcm_of_no_text(&rt));
+    is_opened(&rt, &gcm(&rt));
+    is_opened(&rt, &siv_of_no_text(&rt));
+    is_opened(&rt, &siv(&rt));
 }
 
 /// A reading of the published sealing of 130 bytes, in takes of one size.
-fn in_takes_of(alloc: Global, size: usize) -> Result<ScriptIntake<Global>, AllocError> {
-    let mut steps = Vec::new(alloc);
+fn in_takes_of(rt: &(impl Abort + Alloc<A = Global>), size: usize) -> ScriptIntake<Global> {
+    let mut steps = Vec::new(rt.alloc());
     for _ in 0..200u32 {
-        steps.push(Step::Give(size))?;
+        steps.push(Step::Give(size)).expect(rt, "memory");
     }
-    Ok(ScriptIntake::new(Vec::from_slice(alloc, &CHACHA_SEALED)?, steps))
+    let bytes = Vec::from_slice(rt.alloc(), &CHACHA_SEALED).expect(rt, "memory");
+    ScriptIntake::new(bytes, steps)
+}
+
+/// Three readings in takes of one size give the text.
+fn is_opened_in_takes(rt: &(impl Abort + Alloc<A = Global>), size: usize) {
+    let sample = chacha(rt);
+    let mut measure = in_takes_of(rt, size);
+    let mut verify = in_takes_of(rt, size);
+    let mut write = in_takes_of(rt, size);
+    let mut out = VecOutlet::new(rt.alloc());
+    let answer = open_stream(
+        &sample.cipher,
+        &sample.nonce,
+        sample.aad,
+        &mut measure,
+        &mut verify,
+        &mut write,
+        &mut out,
+    );
+    assert!(rt; answer.is_ok());
+    assert_eq!(rt; out.bytes(), sample.text);
 }
 
 /// Takes of any size make no difference.
 #[test]
-fn takes_of_each_size(rt: HostRuntime) -> Result<(), Fail> {
-    let sample = chacha()?;
-    for size in [1usize, 15, 17] {
-        let mut out = VecOutlet::new(rt.alloc());
-        open_stream(
-            &sample.cipher,
-            &sample.nonce,
-            sample.aad,
-            &mut in_takes_of(rt.alloc(), size)?,
-            &mut in_takes_of(rt.alloc(), size)?,
-            &mut in_takes_of(rt.alloc(), size)?,
-            &mut out,
-        )?;
-        assert_eq!(rt; out.bytes(), sample.text);
-    }
-    Ok(())
+fn takes_of_each_size(rt: HostRuntime) {
+    is_opened_in_takes(&rt, 1);
+    is_opened_in_takes(&rt, 15);
+    is_opened_in_takes(&rt, 17);
 }
 
 /// The published sealing with its last byte 90 in place of 91.
@@ -112,64 +122,65 @@ fn other_text() -> [u8; 114] {
     text
 }
 
+/// The published sealing of 130 bytes is refused where the measure reading is these bytes: nothing is given.
+fn is_refused_measuring(rt: &(impl Abort + Alloc<A = Global>), measure: &[u8]) {
+    let sample = chacha(rt);
+    let opening = Opening {
+        measure,
+        verify: sample.sealed,
+        write: sample.sealed,
+        answer: Err(Fault::TooShort),
+        given: &[],
+    };
+    opens(rt, &sample, &opening);
+}
+
 /// Nothing is given where the measure reading is too short to be a sealing.
 #[test]
-fn measure_readings_that_differ(rt: HostRuntime) -> Result<(), Fail> {
-    let sample = chacha()?;
-    let s = sample.sealed;
-    for measure in [&CHACHA_SEALED[..0], &CHACHA_SEALED[..15]] {
-        let opening = Opening {
-            measure,
-            verify: s,
-            write: s,
-            answer: Err(Fault::TooShort),
-            given: &[],
-        };
-        opens(&rt, rt.alloc(), &sample, opening)?;
-    }
-    Ok(())
+fn measure_readings_that_differ(rt: HostRuntime) {
+    is_refused_measuring(&rt, &CHACHA_SEALED[..0]);
+    is_refused_measuring(&rt, &CHACHA_SEALED[..15]);
+}
+
+/// It is refused where the verify reading is these bytes: nothing is given.
+fn is_refused_verifying(rt: &(impl Abort + Alloc<A = Global>), verify: &[u8], fault: Fault) {
+    let sample = chacha(rt);
+    let opening = Opening {
+        measure: sample.sealed,
+        verify,
+        write: sample.sealed,
+        answer: Err(fault),
+        given: &[],
+    };
+    opens(rt, &sample, &opening);
 }
 
 /// Nothing is given where the verify reading has another length or tag than the measured one, or is no
 /// sealing.
 #[test]
-fn verify_readings_that_differ(rt: HostRuntime) -> Result<(), Fail> {
-    let sample = chacha()?;
-    let s = sample.sealed;
-    for (verify, fault) in [
-        (&longer()[..], Fault::SourceChanged),
-        (&CHACHA_SEALED[..129], Fault::SourceChanged),
-        (&other_tag()[..], Fault::SourceChanged),
-        (&other_body()[..], Fault::TagMismatch),
-    ] {
-        let opening = Opening {
-            measure: s,
-            verify,
-            write: s,
-            answer: Err(fault),
-            given: &[],
-        };
-        opens(&rt, rt.alloc(), &sample, opening)?;
-    }
-    Ok(())
+fn verify_readings_that_differ(rt: HostRuntime) {
+    is_refused_verifying(&rt, &longer(), Fault::SourceChanged);
+    is_refused_verifying(&rt, &CHACHA_SEALED[..129], Fault::SourceChanged);
+    is_refused_verifying(&rt, &other_tag(), Fault::SourceChanged);
+    is_refused_verifying(&rt, &other_body(), Fault::TagMismatch);
 }
 
 /// Three equal readings of what is no sealing give nothing.
 #[test]
-fn equal_readings_of_no_sealing(rt: HostRuntime) -> Result<(), Fail> {
+fn equal_readings_of_no_sealing(rt: HostRuntime) {
+    let sealed = other_tag();
     let opening = Opening {
-        measure: &other_tag(),
-        verify: &other_tag(),
-        write: &other_tag(),
+        measure: &sealed,
+        verify: &sealed,
+        write: &sealed,
         answer: Err(Fault::TagMismatch),
         given: &[],
     };
-    opens(&rt, rt.alloc(), &chacha()?, opening)
+    opens(&rt, &chacha(&rt), &opening);
 }
 
 /// Opening with another write reading gives these bytes, and is refused then.
-fn gives(rt: &impl Abort, alloc: Global, write: &[u8], given: &[u8]) -> Result<(), Fail> {
-    let sample = chacha()?;
+fn gives(rt: &(impl Abort + Alloc<A = Global>), sample: &Sample, write: &[u8], given: &[u8]) {
     let opening = Opening {
         measure: sample.sealed,
         verify: sample.sealed,
@@ -177,32 +188,24 @@ fn gives(rt: &impl Abort, alloc: Global, write: &[u8], given: &[u8]) -> Result<(
         answer: Err(Fault::SourceChanged),
         given,
     };
-    opens(rt, alloc, &sample, opening)
+    opens(rt, sample, &opening);
 }
 
 /// A write reading that differs is found after its bytes were given.
 #[test]
-fn write_readings_that_differ(rt: HostRuntime) -> Result<(), Fail> {
-    let alloc = rt.alloc();
-    gives(&rt, alloc, &other_body(), &other_text())?;
-    gives(&rt, alloc, &other_tag(), CHACHA_TEXT)?;
-    gives(&rt, alloc, &longer(), CHACHA_TEXT)?;
-    gives(&rt, alloc, &CHACHA_SEALED[..50], &CHACHA_TEXT[..50])?;
-    gives(&rt, alloc, &[], &[])
+fn write_readings_that_differ(rt: HostRuntime) {
+    let sample = chacha(&rt);
+    gives(&rt, &sample, &other_body(), &other_text());
+    gives(&rt, &sample, &other_tag(), CHACHA_TEXT);
+    gives(&rt, &sample, &longer(), CHACHA_TEXT);
+    gives(&rt, &sample, &CHACHA_SEALED[..50], &CHACHA_TEXT[..50]);
+    gives(&rt, &sample, &[], &[]);
 }
 
 /// The same where the tag is over the text.
 #[test]
-fn another_write_reading_of_gcm_siv(rt: HostRuntime) -> Result<(), Fail> {
-    let sample = siv()?;
+fn another_write_reading_of_gcm_siv(rt: HostRuntime) {
     let mut write = SIV_128;
     write[0] ^= 1;
-    let opening = Opening {
-        measure: sample.sealed,
-        verify: sample.sealed,
-        write: &write,
-        answer: Err(Fault::SourceChanged),
-        given: &[0; 8],
-    };
-    opens(&rt, rt.alloc(), &sample, opening)
+    gives(&rt, &siv(&rt), &write, &[0; 8]);
 }

@@ -1,149 +1,110 @@
 use super::published::*;
 use super::samples::*;
 use crate::*;
-use octets::{Fault, Nonce, Tag};
-use std::test::Fail;
+use octets::{Fault, Tag};
+use std::alloc::Global;
+use std::process::Abort;
 
 /// The tag of a text that is sealed in pieces of these lengths.
-fn sealed_in_pieces(
-    cipher: &AnyOnePass,
-    nonce: &Nonce,
-    aad: &[u8],
-    bytes: &mut [u8],
-    lengths: &[usize],
-) -> Result<Tag, Fault> {
-    let mut sealer = match Sealer::new(cipher, nonce, aad) {
-        Ok(sealer) => sealer,
-        Err(fault) => return Err(fault),
-    };
+fn sealed_in_pieces(rt: &impl Abort, sample: &Sample, bytes: &mut [u8], lengths: &[usize]) -> Tag {
+    let cipher = one_pass(&sample.cipher).expect(rt, "one reading");
+    let mut sealer = Sealer::new(cipher, &sample.nonce, sample.aad).expect(rt, "a sealer");
     let mut at = 0usize;
     for length in lengths {
         let end = at.saturating_add(*length).min(bytes.len());
-        match sealer.update(&mut bytes[at.min(end)..end]) {
-            Ok(()) => at = end,
-            Err(fault) => return Err(fault),
-        }
+        let answer = sealer.update(&mut bytes[at.min(end)..end]);
+        assert!(rt; answer.is_ok());
+        at = end;
     }
-    Ok(sealer.finish())
+    sealer.finish()
+}
+
+/// Sealed in pieces of these lengths, a text has its sealing.
+fn is_sealed_in_pieces(rt: &(impl Abort + Alloc<A = Global>), sample: &Sample, lengths: &[usize]) {
+    let (body, last) = sample
+        .sealed
+        .split_at(sample.sealed.len().saturating_sub(16));
+    let mut bytes = Vec::from_slice(rt.alloc(), sample.text).expect(rt, "memory");
+    let tag = sealed_in_pieces(rt, sample, &mut bytes, lengths);
+    assert_eq!(rt; bytes.as_slice(), body);
+    assert_eq!(rt; tag.bytes().as_slice(), last);
 }
 
 /// Cut in two at any place, a text has one sealing.
 #[test]
-fn sealer_takes_any_cut(rt: HostRuntime) -> Result<(), Fail> {
-    let sample = chacha()?;
-    let cipher = one_pass(&sample.cipher)?;
+fn sealer_takes_any_cut(rt: HostRuntime) {
+    let sample = chacha(&rt);
     for cut in 0..115usize {
-        let mut bytes = *CHACHA_TEXT;
-        let lengths = [cut, 114 - cut];
-        let tag = sealed_in_pieces(cipher, &sample.nonce, sample.aad, &mut bytes, &lengths)?;
-        assert_eq!(rt; &bytes[..], &CHACHA_SEALED[..114]);
-        assert_eq!(rt; tag.bytes().as_slice(), &CHACHA_SEALED[114..]);
+        is_sealed_in_pieces(&rt, &sample, &[cut, 114 - cut]);
     }
-    Ok(())
 }
 
 /// Pieces that end before, at and behind a block, and an empty one, make the published sealing.
 #[test]
-fn sealer_takes_uneven_pieces(rt: HostRuntime) -> Result<(), Fail> {
-    let sample = gcm()?;
-    let cipher = one_pass(&sample.cipher)?;
-    let mut bytes = GCM_TEXT;
-    let lengths = [1, 15, 0, 17, 27];
-    let tag = sealed_in_pieces(cipher, &sample.nonce, sample.aad, &mut bytes, &lengths)?;
-    assert_eq!(rt; &bytes[..], &GCM_4[..60]);
-    assert_eq!(rt; tag.bytes().as_slice(), &GCM_4[60..]);
-    Ok(())
+fn sealer_takes_uneven_pieces(rt: HostRuntime) {
+    is_sealed_in_pieces(&rt, &gcm(&rt), &[1, 15, 0, 17, 27]);
 }
 
 /// The tag of the published text of eight bytes in pieces of 3, 0 and 5, and what encrypts a second reading.
-fn absorbed(cipher: &GcmSiv, nonce: &Nonce) -> Result<(Tag, SivWriter), Fault> {
-    let mut absorb = match SivAbsorb::new(cipher, nonce, &[]) {
-        Ok(absorb) => absorb,
-        Err(fault) => return Err(fault),
-    };
+fn absorbed(rt: &impl Abort) -> (Tag, SivWriter) {
+    let sample = siv(rt);
+    let cipher = two_pass(&sample.cipher).expect(rt, "two readings");
+    let mut absorb = SivAbsorb::new(cipher, &sample.nonce, &[]).expect(rt, "a state");
     for (from, to) in [(0usize, 3usize), (3, 3), (3, 8)] {
-        match absorb.update(&SIV_TEXT[from.min(to).min(8)..to.min(8)]) {
-            Ok(()) => {}
-            Err(fault) => return Err(fault),
-        }
+        let answer = absorb.update(&SIV_TEXT[from.min(to).min(8)..to.min(8)]);
+        assert!(rt; answer.is_ok());
     }
-    Ok(absorb.finish())
+    absorb.finish()
 }
 
 /// The tag after a second reading in pieces of 3, 0 and the rest, and whether it agreed with the first;
 /// the bytes are encrypted.
-fn written(cipher: &GcmSiv, nonce: &Nonce, bytes: &mut [u8]) -> Result<(Tag, bool), Fault> {
-    let (tag, mut writer) = match absorbed(cipher, nonce) {
-        Ok(both) => both,
-        Err(fault) => return Err(fault),
-    };
+fn written(rt: &impl Abort, bytes: &mut [u8]) -> (Tag, bool) {
+    let (tag, mut writer) = absorbed(rt);
     let n = bytes.len();
     let cut = n.min(3);
     for (from, to) in [(0, cut), (cut, cut), (cut, n)] {
-        match writer.update(&mut bytes[from.min(to).min(n)..to.min(n)]) {
-            Ok(()) => {}
-            Err(fault) => return Err(fault),
-        }
+        let answer = writer.update(&mut bytes[from.min(to).min(n)..to.min(n)]);
+        assert!(rt; answer.is_ok());
     }
-    Ok((tag, writer.finish().is_ok()))
+    (tag, writer.finish().is_ok())
 }
 
 /// Two readings in pieces make the published sealing.
 #[test]
-fn two_equal_readings(rt: HostRuntime) -> Result<(), Fail> {
-    let sample = siv()?;
+fn two_equal_readings(rt: HostRuntime) {
     let mut bytes = SIV_TEXT;
-    let (tag, agrees) = written(two_pass(&sample.cipher)?, &sample.nonce, &mut bytes)?;
+    let (tag, agrees) = written(&rt, &mut bytes);
     assert_eq!(rt; &bytes[..], &SIV_128[..8]);
     assert_eq!(rt; tag.bytes().as_slice(), &SIV_128[8..]);
     assert!(rt; agrees);
-    Ok(())
 }
 
 /// A second reading of another text is found.
 #[test]
-fn another_second_text(rt: HostRuntime) -> Result<(), Fail> {
-    let sample = siv()?;
+fn another_second_text(rt: HostRuntime) {
     let mut bytes = SIV_TEXT;
     bytes[7] = 1;
-    let (_, agrees) = written(two_pass(&sample.cipher)?, &sample.nonce, &mut bytes)?;
+    let (_, agrees) = written(&rt, &mut bytes);
     assert!(rt; !agrees);
-    Ok(())
 }
 
 /// A second reading of seven bytes in place of eight is found.
 #[test]
-fn a_shorter_second_text(rt: HostRuntime) -> Result<(), Fail> {
-    let sample = siv()?;
+fn a_shorter_second_text(rt: HostRuntime) {
     let mut bytes = [1, 0, 0, 0, 0, 0, 0];
-    let (_, agrees) = written(two_pass(&sample.cipher)?, &sample.nonce, &mut bytes)?;
+    let (_, agrees) = written(&rt, &mut bytes);
     assert!(rt; !agrees);
-    Ok(())
-}
-
-/// What a ninth byte after eight is answered by, the byte after it, and whether the reading then agrees.
-fn with_a_ninth_byte(cipher: &GcmSiv, nonce: &Nonce) -> Result<(Option<Fault>, u8, bool), Fault> {
-    let (_, mut writer) = match absorbed(cipher, nonce) {
-        Ok(both) => both,
-        Err(fault) => return Err(fault),
-    };
-    let mut bytes = SIV_TEXT;
-    match writer.update(&mut bytes) {
-        Ok(()) => {}
-        Err(fault) => return Err(fault),
-    }
-    let mut more = [7u8];
-    let refused = writer.update(&mut more).err();
-    Ok((refused, more[0], writer.finish().is_ok()))
 }
 
 /// A byte past the first text is refused and stays, and the second reading agrees as if it had not come.
 #[test]
-fn a_longer_second_text(rt: HostRuntime) -> Result<(), Fail> {
-    let sample = siv()?;
-    let (refused, byte, agrees) = with_a_ninth_byte(two_pass(&sample.cipher)?, &sample.nonce)?;
-    assert!(rt; refused == Some(Fault::SourceChanged));
-    assert_eq!(rt; byte, 7);
-    assert!(rt; agrees);
-    Ok(())
+fn a_longer_second_text(rt: HostRuntime) {
+    let (_, mut writer) = absorbed(&rt);
+    let mut bytes = SIV_TEXT;
+    assert!(rt; writer.update(&mut bytes).is_ok());
+    let mut more = [7u8];
+    assert!(rt; writer.update(&mut more) == Err(Fault::SourceChanged));
+    assert_eq!(rt; more[0], 7);
+    assert!(rt; writer.finish().is_ok());
 }
