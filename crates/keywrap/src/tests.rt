@@ -1,8 +1,8 @@
 use super::*;
 use aes::AesKey;
 use octets::{Fault, RefusingMemory};
-use std::alloc::Allocator;
-use std::test::Fail;
+use std::alloc::{Allocator, Global};
+use std::process::Abort;
 
 mod judged;
 mod padded;
@@ -56,80 +56,96 @@ const WRAPPED_6: [u8; 40] = [
     0xfb, 0x98, 0x8b, 0x9b, 0x7a, 0x02, 0xdd, 0x21,
 ];
 
-fn key_of(length: usize) -> Result<AesKey, Fault> {
-    AesKey::from_slice(&KEY[..length.min(32)])
+// The key of n bytes.
+fn key_of(rt: &impl Abort, length: usize) -> AesKey {
+    AesKey::from_slice(&KEY[..length.min(32)]).expect(rt, "a key")
 }
 
-// Each vector, both ways and in both forms.
-#[test]
-fn published_vectors(rt: HostRuntime) -> Result<(), Fail> {
-    for (key_length, length, wrapped) in [
-        (16usize, 16usize, WRAPPED_1.as_slice()),
-        (24, 16, WRAPPED_2.as_slice()),
-        (32, 16, WRAPPED_3.as_slice()),
-        (24, 24, WRAPPED_4.as_slice()),
-        (32, 24, WRAPPED_5.as_slice()),
-        (32, 32, WRAPPED_6.as_slice()),
-    ] {
-        let key = key_of(key_length)?;
-        let text = &TEXT[..length.min(32)];
-        let made = wrap(rt.alloc(), &key, text);
-        assert!(rt; made.is_ok_and(|v| v.as_slice() == wrapped));
-        let back = unwrap(rt.alloc(), &key, wrapped);
-        assert!(rt; back.is_ok_and(|v| v.as_slice() == text));
-        let mut room = [0x55; 40];
-        room[8..].copy_from_slice(&TEXT);
-        let bytes = &mut room[..text.len() + 8];
-        assert!(rt; wrap_in_place(&key, bytes).is_ok());
-        assert_eq!(rt; &*bytes, wrapped);
-        assert!(rt; unwrap_in_place(&key, bytes).is_ok());
-        assert_eq!(rt; &bytes[..8], [0xa6; 8].as_slice());
-        assert_eq!(rt; &bytes[8..], text);
+// Whether a call's answer is these bytes.
+fn is_made<A: Allocator + Drop>(answer: Result<Vec<u8, A>, Fault>, bytes: &[u8]) -> bool {
+    match answer {
+        Ok(made) => made.as_slice() == bytes,
+        Err(_) => false,
     }
-    Ok(())
+}
+
+// Whether a call's answer is this fault.
+fn is_refused<A: Allocator + Drop>(answer: Result<Vec<u8, A>, Fault>, fault: Fault) -> bool {
+    match answer {
+        Ok(_) => false,
+        Err(found) => found == fault,
+    }
+}
+
+// A text is wrapped and unwrapped where it stands.
+fn is_wrapped_in_place(rt: &impl Abort, key: &AesKey, text: &[u8], wrapped: &[u8]) {
+    let mut room = [0x55; 40];
+    room[8..].copy_from_slice(&TEXT);
+    let bytes = &mut room[..wrapped.len().min(40)];
+    assert!(rt; wrap_in_place(key, bytes).is_ok());
+    assert_eq!(rt; &*bytes, wrapped);
+    assert!(rt; unwrap_in_place(key, bytes).is_ok());
+    assert!(rt; bytes.strip_prefix(&[0xa6; 8]) == Some(text));
+}
+
+// A vector, both ways and in both forms.
+fn agrees(rt: &(impl Abort + Alloc<A = Global>), key_length: usize, length: usize, wrapped: &[u8]) {
+    let key = key_of(rt, key_length);
+    let text = &TEXT[..length.min(32)];
+    assert!(rt; is_made(wrap(rt.alloc(), &key, text), wrapped));
+    assert!(rt; is_made(unwrap(rt.alloc(), &key, wrapped), text));
+    is_wrapped_in_place(rt, &key, text, wrapped);
+}
+
+// Each vector.
+#[test]
+fn published_vectors(rt: HostRuntime) {
+    agrees(&rt, 16, 16, &WRAPPED_1);
+    agrees(&rt, 24, 16, &WRAPPED_2);
+    agrees(&rt, 32, 16, &WRAPPED_3);
+    agrees(&rt, 24, 24, &WRAPPED_4);
+    agrees(&rt, 32, 24, &WRAPPED_5);
+    agrees(&rt, 32, 32, &WRAPPED_6);
 }
 
 // A wrapping with any one bit changed is none.
 #[test]
-fn each_bit_changed(rt: HostRuntime) -> Result<(), Fail> {
-    let key = key_of(16)?;
+fn each_bit_changed(rt: HostRuntime) {
+    let key = key_of(&rt, 16);
     for bit in 0..192usize {
         let mut changed = WRAPPED_1;
         changed[bit / 8] ^= 1 << (bit % 8);
         let before = changed;
-        let refused = unwrap(rt.alloc(), &key, &changed);
-        assert!(rt;
-            refused.is_err_and(|e| e == Fault::WrapIntegrity),
-            "bit {bit}"
-        );
-        let refused = unwrap_in_place(&key, &mut changed);
-        assert!(rt;
-            refused.is_err_and(|e| e == Fault::WrapIntegrity),
-            "bit {bit}"
-        );
+        let answer = unwrap(rt.alloc(), &key, &changed);
+        assert!(rt; is_refused(answer, Fault::WrapIntegrity), "bit {bit}");
+        let answer = unwrap_in_place(&key, &mut changed);
+        assert!(rt; answer == Err(Fault::WrapIntegrity), "bit {bit}");
         assert_eq!(rt; changed, before);
     }
-    Ok(())
+}
+
+// The calls in place refuse a length, and leave the bytes.
+fn is_no_length_in_place(rt: &impl Abort, key: &AesKey, length: usize) {
+    let mut bytes = WRAPPED_1;
+    let answer = unwrap_in_place(key, &mut bytes[..length.min(24)]);
+    assert!(rt; answer == Err(Fault::WrapLength), "{length}");
+    let answer = wrap_in_place(key, &mut bytes[..length.min(24)]);
+    assert!(rt; answer == Err(Fault::WrapLength), "{length}");
+    assert_eq!(rt; bytes, WRAPPED_1);
 }
 
 #[test]
-fn lengths(rt: HostRuntime) -> Result<(), Fail> {
-    let key = key_of(16)?;
+fn lengths(rt: HostRuntime) {
+    let key = key_of(&rt, 16);
     for length in [0usize, 8, 15, 20, 31] {
-        let refused = wrap(rt.alloc(), &key, &TEXT[..length]);
-        assert!(rt; refused.is_err_and(|e| e == Fault::WrapLength), "{length}");
+        let answer = wrap(rt.alloc(), &key, &TEXT[..length]);
+        assert!(rt; is_refused(answer, Fault::WrapLength), "{length}");
     }
-    let mut bytes = WRAPPED_1;
     for length in 0..24usize {
-        let refused = unwrap(rt.alloc(), &key, &WRAPPED_1[..length]);
-        assert!(rt; refused.is_err_and(|e| e == Fault::WrapLength), "{length}");
-        let refused = unwrap_in_place(&key, &mut bytes[..length]);
-        assert!(rt; refused.is_err_and(|e| e == Fault::WrapLength), "{length}");
-        let refused = wrap_in_place(&key, &mut bytes[..length]);
-        assert!(rt; refused.is_err_and(|e| e == Fault::WrapLength), "{length}");
-        assert_eq!(rt; bytes, WRAPPED_1);
+        let answer = unwrap(rt.alloc(), &key, &WRAPPED_1[..length]);
+        assert!(rt; is_refused(answer, Fault::WrapLength), "{length}");
+        is_no_length_in_place(&rt, &key, length);
     }
-    Ok(())
 }
 
 // Whether a call's answer is right where no request for memory was refused, and want of memory where one was.
@@ -146,8 +162,8 @@ fn is_due<A: Allocator + Drop>(
 
 // Each request for memory of each call is refused in turn; at last none is refused.
 #[test]
-fn each_growth_refused_in_turn(rt: HostRuntime) -> Result<(), Fail> {
-    let key = key_of(16)?;
+fn each_growth_refused_in_turn(rt: HostRuntime) {
+    let key = key_of(&rt, 16);
     let text = &TEXT[..16];
     for passed in 0..6u64 {
         let memory = RefusingMemory::after(passed, rt.alloc());
@@ -162,22 +178,20 @@ fn each_growth_refused_in_turn(rt: HostRuntime) -> Result<(), Fail> {
         assert!(rt; refused || 0 < passed, "unwrap takes no memory");
         assert!(rt; !refused || passed < 5, "no end of requests");
     }
-    Ok(())
 }
 
 // Of the refusals the length comes before memory, and memory before integrity.
 #[test]
-fn refusals_in_order(rt: HostRuntime) -> Result<(), Fail> {
-    let key = key_of(16)?;
+fn refusals_in_order(rt: HostRuntime) {
+    let key = key_of(&rt, 16);
     let mut changed = WRAPPED_1;
     changed[23] = 0xe4;
     let memory = RefusingMemory::after(0, rt.alloc());
     let short = wrap(&memory, &key, &TEXT[..8]);
-    assert!(rt; short.is_err_and(|e| e == Fault::WrapLength));
+    assert!(rt; is_refused(short, Fault::WrapLength));
     let short = unwrap(&memory, &key, &WRAPPED_1[..16]);
-    assert!(rt; short.is_err_and(|e| e == Fault::WrapLength));
+    assert!(rt; is_refused(short, Fault::WrapLength));
     assert!(rt; !memory.has_refused());
     let wrong = unwrap(&memory, &key, &changed);
-    assert!(rt; wrong.is_err_and(|e| e == Fault::OutOfMemory));
-    Ok(())
+    assert!(rt; is_refused(wrong, Fault::OutOfMemory));
 }

@@ -20,42 +20,40 @@ fn change(bytes: &mut [u8], place: usize) {
 
 // Texts of 2, 3, 4 and 17 blocks.
 #[test]
-fn wrappings_are_told(rt: HostRuntime) -> Result<(), Fail> {
-    let key = key_of(16)?;
+fn wrappings_are_told(rt: HostRuntime) {
+    let key = key_of(&rt, 16);
     let mut room = [0; 136];
     for length in [16usize, 24, 32, 136] {
         let text = text_of(&mut room, length);
-        let made = wrap(rt.alloc(), &key, text)?;
+        let made = wrap(rt.alloc(), &key, text).expect(&rt, "a wrapping");
         let wrapped = made.as_slice();
         assert!(rt; is_wrapping(&key, &text, &wrapped), "{length}");
         assert!(rt; !is_no_wrapping(&key, &wrapped), "{length}");
     }
-    Ok(())
 }
 
 // Texts of 1 to 40 bytes, with padding.
 #[test]
-fn padded_wrappings_are_told(rt: HostRuntime) -> Result<(), Fail> {
-    let key = key_of(32)?;
+fn padded_wrappings_are_told(rt: HostRuntime) {
+    let key = key_of(&rt, 32);
     let mut room = [0; 136];
     for length in 1usize..41 {
         let text = text_of(&mut room, length);
-        let made = wrap_padded(rt.alloc(), &key, text)?;
+        let made = wrap_padded(rt.alloc(), &key, text).expect(&rt, "a wrapping");
         let wrapped = made.as_slice();
         assert!(rt; is_padded_wrapping(&key, &text, &wrapped), "{length}");
         assert!(rt; !is_no_padded_wrapping(&key, &wrapped), "{length}");
     }
-    Ok(())
 }
 
 // One bit changed at each place of a wrapping of three blocks.
 #[test]
-fn changed_wrappings_are_none(rt: HostRuntime) -> Result<(), Fail> {
-    let key = key_of(24)?;
+fn changed_wrappings_are_none(rt: HostRuntime) {
+    let key = key_of(&rt, 24);
     let mut room = [0; 136];
     let text = text_of(&mut room, 24);
-    let mut made = wrap(rt.alloc(), &key, text)?;
-    let mut padded = wrap_padded(rt.alloc(), &key, text)?;
+    let mut made = wrap(rt.alloc(), &key, text).expect(&rt, "a wrapping");
+    let mut padded = wrap_padded(rt.alloc(), &key, text).expect(&rt, "a wrapping");
     for i in 0..32usize {
         change(&mut made, i);
         change(&mut padded, i);
@@ -68,13 +66,12 @@ fn changed_wrappings_are_none(rt: HostRuntime) -> Result<(), Fail> {
         change(&mut made, i);
         change(&mut padded, i);
     }
-    Ok(())
 }
 
 // Bytes of a length that no wrapping of the text has, or of a text that has none.
 #[test]
-fn other_lengths_are_no_wrappings(rt: HostRuntime) -> Result<(), Fail> {
-    let key = key_of(16)?;
+fn other_lengths_are_no_wrappings(rt: HostRuntime) {
+    let key = key_of(&rt, 16);
     let text = &TEXT[..16];
     let short = &TEXT[..8];
     for length in [0usize, 7, 8, 16, 20, 23] {
@@ -86,5 +83,4 @@ fn other_lengths_are_no_wrappings(rt: HostRuntime) -> Result<(), Fail> {
     }
     assert!(rt; !is_wrapping(&key, &short, &&WRAPPED_1[..16]));
     assert!(rt; !is_padded_wrapping(&key, &&TEXT[..0], &&WRAPPED_1[..16]));
-    Ok(())
 }

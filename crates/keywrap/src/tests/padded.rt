@@ -24,88 +24,87 @@ const SEVEN_WRAPPED: [u8; 16] = [
     0xaf, 0xbe, 0xb0, 0xf0, 0x7d, 0xfb, 0xf5, 0x41, 0x92, 0x00, 0xf2, 0xcc, 0xb5, 0x0b, 0xb2, 0x4f,
 ];
 
-// What `unwrap_padded` makes of the cipher of one block.
-fn of_block(rt: &HostRuntime, block: [u8; 16]) -> Result<Vec<u8>, Fault> {
-    let key = AesKey::from_slice(&PADDED_KEY)?;
-    unwrap_padded(rt.alloc(), &key, key.encrypt(&Block::new(block)).bytes())
+// The key of RFC 5649, 6, as a state.
+fn padded_key(rt: &impl Abort) -> AesKey {
+    AesKey::from_slice(&PADDED_KEY).expect(rt, "a key")
 }
 
-// The vectors of RFC 5649, 6, both ways.
+// A text and its wrapping, both ways.
+fn agrees_with_padding(rt: &(impl Abort + Alloc<A = Global>), text: &[u8], wrapped: &[u8]) {
+    let key = padded_key(rt);
+    assert!(rt; is_made(wrap_padded(rt.alloc(), &key, text), wrapped));
+    assert!(rt; is_made(unwrap_padded(rt.alloc(), &key, wrapped), text));
+}
+
+// The vectors of RFC 5649, 6.
 #[test]
-fn published_padded_vectors(rt: HostRuntime) -> Result<(), Fail> {
-    let key = AesKey::from_slice(&PADDED_KEY)?;
-    for (text, wrapped) in [
-        (TWENTY.as_slice(), TWENTY_WRAPPED.as_slice()),
-        (SEVEN.as_slice(), SEVEN_WRAPPED.as_slice()),
-    ] {
-        let made = wrap_padded(rt.alloc(), &key, text)?;
-        assert_eq!(rt; made.as_slice(), wrapped);
-        let back = unwrap_padded(rt.alloc(), &key, wrapped)?;
-        assert_eq!(rt; back.as_slice(), text);
-    }
-    Ok(())
+fn published_padded_vectors(rt: HostRuntime) {
+    agrees_with_padding(&rt, &TWENTY, &TWENTY_WRAPPED);
+    agrees_with_padding(&rt, &SEVEN, &SEVEN_WRAPPED);
+}
+
+// What `unwrap_padded` makes of the cipher of one block.
+fn of_block(rt: &(impl Abort + Alloc<A = Global>), block: [u8; 16]) -> Result<Vec<u8>, Fault> {
+    let key = padded_key(rt);
+    let wrapped = key.encrypt(&Block::new(block));
+    unwrap_padded(rt.alloc(), &key, wrapped.bytes())
 }
 
 // What the deciphered block says of the text: the constant, its length, and zeros past it.
 #[test]
-fn padded_blocks(rt: HostRuntime) -> Result<(), Fail> {
+fn padded_blocks(rt: HostRuntime) {
     let mut block = [0xa6, 0x59, 0x59, 0xa6, 0, 0, 0, 8, 1, 2, 3, 4, 5, 6, 7, 8];
-    let text = of_block(&rt, block)?;
-    assert_eq!(rt; text.as_slice(), &block[8..]);
+    assert!(rt; is_made(of_block(&rt, block), &block[8..]));
     for length in [0u8, 7, 9] {
         block[7] = length;
-        let refused = of_block(&rt, block);
-        assert!(rt;
-            refused.is_err_and(|e| e == Fault::WrapIntegrity),
-            "{length}"
-        );
+        let answer = of_block(&rt, block);
+        assert!(rt; is_refused(answer, Fault::WrapIntegrity), "{length}");
     }
     block[7] = 7;
     block[15] = 0;
-    let text = of_block(&rt, block)?;
-    assert_eq!(rt; text.as_slice(), &block[8..15]);
+    assert!(rt; is_made(of_block(&rt, block), &block[8..15]));
     block[3] = 0xa7;
-    let refused = of_block(&rt, block);
-    assert!(rt; refused.is_err_and(|e| e == Fault::WrapIntegrity));
-    Ok(())
+    assert!(rt; is_refused(of_block(&rt, block), Fault::WrapIntegrity));
 }
 
 // A wrapping of one form is none of the other.
 #[test]
-fn forms_are_apart(rt: HostRuntime) -> Result<(), Fail> {
-    let refused = unwrap_padded(rt.alloc(), &key_of(16)?, &WRAPPED_1);
-    assert!(rt; refused.is_err_and(|e| e == Fault::WrapIntegrity));
-    let key = AesKey::from_slice(&PADDED_KEY)?;
-    let refused = unwrap(rt.alloc(), &key, &TWENTY_WRAPPED);
-    assert!(rt; refused.is_err_and(|e| e == Fault::WrapIntegrity));
-    let refused = unwrap(rt.alloc(), &key, &SEVEN_WRAPPED);
-    assert!(rt; refused.is_err_and(|e| e == Fault::WrapLength));
-    Ok(())
+fn forms_are_apart(rt: HostRuntime) {
+    let answer = unwrap_padded(rt.alloc(), &key_of(&rt, 16), &WRAPPED_1);
+    assert!(rt; is_refused(answer, Fault::WrapIntegrity));
+    let key = padded_key(&rt);
+    let answer = unwrap(rt.alloc(), &key, &TWENTY_WRAPPED);
+    assert!(rt; is_refused(answer, Fault::WrapIntegrity));
+    let answer = unwrap(rt.alloc(), &key, &SEVEN_WRAPPED);
+    assert!(rt; is_refused(answer, Fault::WrapLength));
+}
+
+// The wrapping of a text of this many bytes has so many.
+fn has_length(rt: &(impl Abort + Alloc<A = Global>), key: &AesKey, length: usize, wrapped: usize) {
+    let made = wrap_padded(rt.alloc(), key, &TEXT[..length.min(32)]).expect(rt, "a wrapping");
+    assert_eq!(rt; made.len(), wrapped);
 }
 
 #[test]
-fn padded_lengths(rt: HostRuntime) -> Result<(), Fail> {
-    let key = key_of(16)?;
+fn padded_lengths(rt: HostRuntime) {
+    let key = key_of(&rt, 16);
     for (length, wrapped) in [(1usize, 16usize), (8, 16), (9, 24), (16, 24), (17, 32)] {
-        let made = wrap_padded(rt.alloc(), &key, &TEXT[..length.min(32)])?;
-        assert_eq!(rt; made.len(), wrapped);
+        has_length(&rt, &key, length, wrapped);
     }
-    let refused = wrap_padded(rt.alloc(), &key, &[]);
-    assert!(rt; refused.is_err_and(|e| e == Fault::WrapLength));
+    assert!(rt; is_refused(wrap_padded(rt.alloc(), &key, &[]), Fault::WrapLength));
     for length in [0usize, 8, 15, 20, 31] {
-        let refused = unwrap_padded(rt.alloc(), &key, &TWENTY_WRAPPED[..length]);
-        assert!(rt; refused.is_err_and(|e| e == Fault::WrapLength), "{length}");
+        let answer = unwrap_padded(rt.alloc(), &key, &TWENTY_WRAPPED[..length]);
+        assert!(rt; is_refused(answer, Fault::WrapLength), "{length}");
     }
-    Ok(())
 }
 
 // A text of n bytes, each of them the low byte of its place.
-fn text_of(rt: &HostRuntime, n: usize) -> Result<Vec<u8>, Fail> {
-    let mut text = Vec::with_capacity(rt.alloc(), n)?;
+fn text_of(rt: &(impl Abort + Alloc<A = Global>), n: usize) -> Vec<u8> {
+    let mut text = Vec::new(rt.alloc());
     for i in 0..n {
-        text.push((i % 256) as u8)?;
+        text.push((i % 256) as u8).expect(rt, "memory");
     }
-    Ok(text)
+    text
 }
 
 // One bit of one byte the other way.
@@ -115,63 +114,68 @@ fn flip(bytes: &mut [u8], place: usize, bit: u32) {
     }
 }
 
+// A text of this many bytes is wrapped, and unwrapped by both calls.
+fn goes_there_and_back(rt: &(impl Abort + Alloc<A = Global>), key: &AesKey, length: usize) {
+    let text = text_of(rt, length);
+    let mut wrapped = wrap_padded(rt.alloc(), key, &text).expect(rt, "a wrapping");
+    assert_eq!(rt;
+        wrapped.len(),
+        length.div_ceil(8).saturating_mul(8).saturating_add(8)
+    );
+    assert!(rt; is_made(unwrap_padded(rt.alloc(), key, &wrapped), &text));
+    assert!(rt;
+        unwrap_padded_in_place(key, &mut wrapped) == Ok(length),
+        "{length}"
+    );
+    assert!(rt;
+        wrapped.get(8..length.saturating_add(8)) == Some(text.as_slice()),
+        "{length}"
+    );
+}
+
 #[test]
-fn texts_of_many_lengths_there_and_back(rt: HostRuntime) -> Result<(), Fail> {
-    let key = key_of(32)?;
-    for i in 1..68usize {
-        let length = match i {
-            65 => 4095,
-            66 => 4096,
-            67 => 65535,
-            _ => i,
-        };
-        let text = text_of(&rt, length)?;
-        let mut wrapped = wrap_padded(rt.alloc(), &key, &text)?;
-        assert_eq!(rt; wrapped.len(), (length + 7) / 8 * 8 + 8);
-        let back = unwrap_padded(rt.alloc(), &key, &wrapped)?;
-        assert_eq!(rt; back.as_slice(), text.as_slice());
-        let answer = unwrap_padded_in_place(&key, &mut wrapped);
-        assert!(rt; answer.is_ok_and(|n| n == length), "{length}");
-        assert_eq!(rt; &wrapped[8..][..length], text.as_slice());
+fn texts_of_many_lengths_there_and_back(rt: HostRuntime) {
+    let key = key_of(&rt, 32);
+    for length in 1..65usize {
+        goes_there_and_back(&rt, &key, length);
     }
-    Ok(())
+    for length in [4095usize, 4096, 65535] {
+        goes_there_and_back(&rt, &key, length);
+    }
+}
+
+// Changed bytes are no wrapping, of either call.
+fn is_no_wrapping_with_padding(
+    rt: &(impl Abort + Alloc<A = Global>),
+    key: &AesKey,
+    changed: &mut [u8],
+) {
+    let answer = unwrap_padded(rt.alloc(), key, changed);
+    assert!(rt; is_refused(answer, Fault::WrapIntegrity), "{changed:?}");
+    let answer = unwrap_padded_in_place(key, changed);
+    assert!(rt; answer == Err(Fault::WrapIntegrity), "{changed:?}");
 }
 
 // A wrapping of each length up to 40 with any one bit changed is none.
 #[test]
-fn each_bit_of_padded_wrappings_changed(rt: HostRuntime) -> Result<(), Fail> {
-    let key = key_of(32)?;
+fn each_bit_of_padded_wrappings_changed(rt: HostRuntime) {
+    let key = key_of(&rt, 32);
     for length in 1..41usize {
-        let text = text_of(&rt, length)?;
-        let mut changed = wrap_padded(rt.alloc(), &key, &text)?;
+        let text = text_of(&rt, length);
+        let mut changed = wrap_padded(rt.alloc(), &key, &text).expect(&rt, "a wrapping");
         for place in 0..changed.len() {
             for bit in 0..8u32 {
                 flip(&mut changed, place, bit);
-                let refused = unwrap_padded(rt.alloc(), &key, &changed);
-                assert!(rt;
-                    refused.is_err_and(|e| e == Fault::WrapIntegrity),
-                    "{length}, {place}, {bit}"
-                );
-                let refused = unwrap_padded_in_place(&key, &mut changed);
-                assert!(rt;
-                    refused.is_err_and(|e| e == Fault::WrapIntegrity),
-                    "{length}, {place}, {bit}"
-                );
+                is_no_wrapping_with_padding(&rt, &key, &mut changed);
                 flip(&mut changed, place, bit);
             }
         }
-        let back = unwrap_padded(rt.alloc(), &key, &changed)?;
-        assert_eq!(rt; back.as_slice(), text.as_slice());
+        assert!(rt; is_made(unwrap_padded(rt.alloc(), &key, &changed), &text));
     }
-    Ok(())
 }
 
-// The published vectors in place, and the rooms that are refused.
-#[test]
-fn padded_vectors_in_place(rt: HostRuntime) -> Result<(), Fail> {
-    let key = AesKey::from_slice(&PADDED_KEY)?;
-    let mut room = [0x55; 32];
-    room[8..28].copy_from_slice(&TWENTY);
+// The rooms that are refused.
+fn rooms_are_refused(rt: &impl Abort, key: &AesKey, room: &mut [u8; 32]) {
     for (length, text_length) in [
         (32usize, 0usize),
         (32, 16),
@@ -180,31 +184,42 @@ fn padded_vectors_in_place(rt: HostRuntime) -> Result<(), Fail> {
         (8, 0),
         (31, 20),
     ] {
-        let refused = wrap_padded_in_place(&key, &mut room[..length.min(32)], text_length);
-        assert!(rt;
-            refused.is_err_and(|e| e == Fault::WrapLength),
-            "{length}, {text_length}"
-        );
+        let answer = wrap_padded_in_place(key, &mut room[..length.min(32)], text_length);
+        assert!(rt; answer == Err(Fault::WrapLength), "{length}, {text_length}");
     }
-    assert!(rt; wrap_padded_in_place(&key, &mut room, 20).is_ok());
-    assert_eq!(rt; room, TWENTY_WRAPPED);
-    let answer = unwrap_padded_in_place(&key, &mut room);
-    assert!(rt; answer.is_ok_and(|n| n == 20));
-    assert_eq!(rt; &room[8..28], TWENTY.as_slice());
+}
+
+// A text of so many bytes from place 8 on is wrapped and unwrapped where it stands.
+fn is_wrapped_with_padding(
+    rt: &impl Abort,
+    key: &AesKey,
+    room: &mut [u8],
+    text: &[u8],
+    wrapped: &[u8],
+) {
+    assert!(rt; wrap_padded_in_place(key, room, text.len()).is_ok());
+    assert_eq!(rt; &*room, wrapped);
+    assert!(rt; unwrap_padded_in_place(key, room) == Ok(text.len()));
+    assert!(rt; room.get(8..text.len().saturating_add(8)) == Some(text));
+}
+
+// The published vectors in place.
+#[test]
+fn padded_vectors_in_place(rt: HostRuntime) {
+    let key = padded_key(&rt);
+    let mut room = [0x55; 32];
+    room[8..28].copy_from_slice(&TWENTY);
+    rooms_are_refused(&rt, &key, &mut room);
+    is_wrapped_with_padding(&rt, &key, &mut room, &TWENTY, &TWENTY_WRAPPED);
     let mut room = [0x55; 16];
     room[8..15].copy_from_slice(&SEVEN);
-    assert!(rt; wrap_padded_in_place(&key, &mut room, 7).is_ok());
-    assert_eq!(rt; room, SEVEN_WRAPPED);
-    let answer = unwrap_padded_in_place(&key, &mut room);
-    assert!(rt; answer.is_ok_and(|n| n == 7));
-    assert_eq!(rt; &room[8..15], SEVEN.as_slice());
-    Ok(())
+    is_wrapped_with_padding(&rt, &key, &mut room, &SEVEN, &SEVEN_WRAPPED);
 }
 
 // Each request for memory of both calls is refused in turn; at last none is refused.
 #[test]
-fn each_growth_with_padding_refused_in_turn(rt: HostRuntime) -> Result<(), Fail> {
-    let key = AesKey::from_slice(&PADDED_KEY)?;
+fn each_growth_with_padding_refused_in_turn(rt: HostRuntime) {
+    let key = padded_key(&rt);
     for passed in 0..6u64 {
         let memory = RefusingMemory::after(passed, rt.alloc());
         let answer = wrap_padded(&memory, &key, &TWENTY);
@@ -218,22 +233,20 @@ fn each_growth_with_padding_refused_in_turn(rt: HostRuntime) -> Result<(), Fail>
         assert!(rt; refused || 0 < passed, "unwrap takes no memory");
         assert!(rt; !refused || passed < 5, "no end of requests");
     }
-    Ok(())
 }
 
 // Of the refusals the length comes before memory, and memory before integrity.
 #[test]
-fn padded_refusals_in_order(rt: HostRuntime) -> Result<(), Fail> {
-    let key = AesKey::from_slice(&PADDED_KEY)?;
+fn padded_refusals_in_order(rt: HostRuntime) {
+    let key = padded_key(&rt);
     let mut changed = SEVEN_WRAPPED;
     changed[15] ^= 1;
     let memory = RefusingMemory::after(0, rt.alloc());
     let short = wrap_padded(&memory, &key, &[]);
-    assert!(rt; short.is_err_and(|e| e == Fault::WrapLength));
+    assert!(rt; is_refused(short, Fault::WrapLength));
     let short = unwrap_padded(&memory, &key, &SEVEN_WRAPPED[..8]);
-    assert!(rt; short.is_err_and(|e| e == Fault::WrapLength));
+    assert!(rt; is_refused(short, Fault::WrapLength));
     assert!(rt; !memory.has_refused());
     let wrong = unwrap_padded(&memory, &key, &changed);
-    assert!(rt; wrong.is_err_and(|e| e == Fault::OutOfMemory));
-    Ok(())
+    assert!(rt; is_refused(wrong, Fault::OutOfMemory));
 }
