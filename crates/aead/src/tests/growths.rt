@@ -116,8 +116,8 @@ fn want_of_memory_in_its_place(rt: HostRuntime) {
     assert!(rt; !is_open_refused(&rt, &sample, short, Err(Fault::TooShort), 0));
 }
 
-/// Sealing in three pieces with one request for memory refused after the first `passed` ones: whether it came
-/// to that one.
+/// Sealing in three pieces with one request for memory refused after the first `passed` ones: whether it
+/// came to that one.
 fn is_seal_cut_refused(
     rt: &(impl Abort + Alloc<A = Global>),
     sample: &Sample,
