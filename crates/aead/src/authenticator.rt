@@ -27,10 +27,21 @@ impl<H: TagHash> Authenticator<H> {
         ensures none { result.length ≡ 0 }
     {
         hash.take_in(aad);
-        hash.pad();
+        Authenticator::after(hash, aad.len() as u64)
+    }
+
+    // Pads so many bytes of associated data that a hash has taken in.
+    #[inline(always)]
+    pub(crate) fn after(mut taken: H, aad_length: u64) -> Authenticator<H>
+        ensures holds { (s : Setting) → aad_length ≡ length s.aad → length s.aad ≤ aad_limit s.suite
+            → H.held taken s s.aad
+            → HoldsAuthenticator H.held result s [] }
+        ensures none { result.length ≡ 0 }
+    {
+        taken.pad();
         Authenticator {
-            hash,
-            aad_length: aad.len() as u64,
+            hash: taken,
+            aad_length,
             length: 0,
         }
     }

@@ -3,6 +3,7 @@ use octets::{Fault, Nonce, Tag};
 use std::alloc::Global;
 use std::process::Abort;
 
+mod associated_data;
 mod cuts;
 mod devices;
 mod growths;

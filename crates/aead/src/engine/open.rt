@@ -11,6 +11,7 @@ ghost use Rattle.aead.specs.Code.Told.{write_answer};
 
 use crate::aead::Aead;
 use crate::any::AnyAead;
+use crate::associated_data::AssociatedData;
 use crate::engine::measure::Measured;
 use crate::engine::opening::pass_opening;
 use crate::engine::passes::Finding;
@@ -63,18 +64,18 @@ fn answer_write(finding: Finding) -> Result<(), Fault>
 }
 
 // The second step: whether the reading is a sealing of the measured length and tag.
-fn verify_step<I: Intake>(
+fn verify_step<A: AssociatedData, I: Intake>(
     cipher: &AnyAead,
     nonce: &Nonce,
-    aad: &[u8],
+    aad: &A,
     measured: &Measured,
     intake: &mut I,
 ) -> Result<(), Fault>
-    requires aad_fits { length aad.now ≤ aad_limit (keyed_of cipher.now).suite }
+    requires aad_fits { length (A.bytes aad.now) ≤ aad_limit (keyed_of cipher.now).suite }
     requires high { measured.now.length ≤ text_limit (keyed_of cipher.now).suite + 16 }
     ensures blame { StepBlames (I.failures intake.old) (I.failures intake.new) result }
     ensures told { IfSome (I.left intake.old)
-        (λ v. VerifyTold (setting (keyed_of cipher.now) nonce.now aad.now)
+        (λ v. VerifyTold (setting (keyed_of cipher.now) nonce.now (A.bytes aad.now))
         measured.now.tag measured.now.length v (I.failures intake.old) (I.failures intake.new) result) }
 {
     match pass_opening(cipher, nonce, aad, intake, measured, &mut Discard) {
@@ -84,20 +85,20 @@ fn verify_step<I: Intake>(
 }
 
 // The third step: each piece is authenticated again, decrypted and given.
-fn write_step<I: Intake, O: Outlet>(
+fn write_step<A: AssociatedData, I: Intake, O: Outlet>(
     cipher: &AnyAead,
     nonce: &Nonce,
-    aad: &[u8],
+    aad: &A,
     measured: &Measured,
     intake: &mut I,
     outlet: &mut O,
 ) -> Result<(), Fault>
-    requires aad_fits { length aad.now ≤ aad_limit (keyed_of cipher.now).suite }
+    requires aad_fits { length (A.bytes aad.now) ≤ aad_limit (keyed_of cipher.now).suite }
     requires high { measured.now.length ≤ text_limit (keyed_of cipher.now).suite + 16 }
     ensures blame { GiveBlames (I.failures intake.old) (I.failures intake.new) (O.failures outlet.old)
         (O.failures outlet.new) result }
     ensures told { IfSome (I.left intake.old)
-        (λ w. WriteTold (setting (keyed_of cipher.now) nonce.now aad.now)
+        (λ w. WriteTold (setting (keyed_of cipher.now) nonce.now (A.bytes aad.now))
         measured.now.tag measured.now.length w (O.taken outlet.old) (O.taken outlet.new)
         (I.failures intake.old) (I.failures intake.new)
         (O.failures outlet.old) (O.failures outlet.new) result) }
@@ -162,8 +163,58 @@ pub fn open_stream<I: Intake, J: Intake, K: Intake, O: Outlet>(
         })
         result) }
 {
+    open_stream_placed(cipher, nonce, &aad, measure, verify, write, out)
+}
+
+/// `open_stream` with associated data that is read by place, once for the verify reading and once for the
+/// write reading, in pieces of at most 256 bytes, and need not stand in memory. None of it is read before
+/// `AadTooLong`.
+pub fn open_stream_placed<A: AssociatedData, I: Intake, J: Intake, K: Intake, O: Outlet>(
+    cipher: &AnyAead,
+    nonce: &Nonce,
+    aad: &A,
+    measure: &mut I,
+    verify: &mut J,
+    write: &mut K,
+    out: &mut O,
+) -> Result<(), Fault>
+    ensures blame { BlamesRightly
+        (record {
+          measure = I.failures measure.old;
+          verify = J.failures verify.old;
+          write =
+              K.failures write.old;
+          outlet = O.failures out.old;
+        })
+        (record {
+          measure = I.failures measure.new;
+          verify = J.failures verify.new;
+          write =
+              K.failures write.new;
+          outlet = O.failures out.new;
+        })
+        result }
+    ensures opens { WhereTold (I.left measure.old) (J.left verify.old) (K.left write.old) (O.taken out.old)
+        (O.taken out.new)
+        (λ m v w given. OpensStream (setting (keyed_of cipher.now) nonce.now (A.bytes aad.now)) m v w given
+        (record {
+          measure = I.failures measure.old;
+          verify = J.failures verify.old;
+          write =
+              K.failures write.old;
+          outlet = O.failures out.old;
+        })
+        (record {
+          measure = I.failures measure.new;
+          verify = J.failures verify.new;
+          write =
+              K.failures write.new;
+          outlet = O.failures out.new;
+        })
+        result) }
+{
     let suite = cipher.suite();
-    suite.check_aad(aad)?;
+    suite.check_aad_count(aad.byte_count())?;
     let measured = match measure_step(suite, measure) {
         Ok(measured) => measured,
         Err(fault) => return Err(fault),

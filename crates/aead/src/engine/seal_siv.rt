@@ -12,13 +12,15 @@ ghost use Rattle.aead.specs.SealStream.{GiveBlames};
 ghost use Rattle.aead.specs.SealSivStream.{WritesAgain, SealsSivStream, SivBlames, WhereBothTold};
 
 use crate::aead::Aead;
+use crate::associated_data::AssociatedData;
 use crate::authenticator::Authenticator;
 use crate::engine::passes::{has_more, pass_all};
+use crate::engine::placed::authenticator_placed;
 use crate::gcm_siv::GcmSiv;
 use crate::hashes::TagHash;
 use crate::mask::MaskStream;
 use crate::masking::Masking;
-use crate::nonced::{Nonced, authenticator};
+use crate::nonced::Nonced;
 use crate::second_reading::repeats;
 use gf128::{Keyed128, WideMul};
 use octets::{Fault, Intake, Nonce, Outlet, Tag, fill, give_all};
@@ -110,31 +112,36 @@ fn write_again<J: Intake, O: Outlet, S: MaskStream, H: TagHash>(
 }
 
 // Seals a stream in two readings by a cipher with a nonce.
-fn seal_over<N: Nonced, I: Intake, J: Intake, O: Outlet>(
+fn seal_over<N: Nonced, A: AssociatedData, I: Intake, J: Intake, O: Outlet>(
     nonced: &N,
-    aad: &[u8],
+    aad: &A,
     first: &mut I,
     second: &mut J,
     out: &mut O,
 ) -> Result<(), Fault>
     requires by_gcm_siv { construction_of (N.keyed nonced.now).suite ≡ ByGcmSiv }
-    requires aad_fits { length aad.now ≤ aad_limit (N.keyed nonced.now).suite }
+    requires aad_fits { length (A.bytes aad.now) ≤ aad_limit (N.keyed nonced.now).suite }
     ensures blame { SivBlames
         (record { first = I.failures first.old; second = J.failures second.old; outlet = O.failures out.old })
         (record { first = I.failures first.new; second = J.failures second.new; outlet = O.failures out.new })
         result }
     ensures seals { WhereBothTold (I.left first.old) (J.left second.old) (O.taken out.old) (O.taken out.new)
-        (λ a b given. SealsSivStream (setting (N.keyed nonced.now) (N.nonce nonced.now) aad.now) a b given
+        (λ a b given. SealsSivStream (setting (N.keyed nonced.now) (N.nonce nonced.now) (A.bytes aad.now)) a b given
         (record { first = I.failures first.old; second = J.failures second.old; outlet = O.failures out.old })
         (record { first = I.failures first.new; second = J.failures second.new; outlet = O.failures out.new })
         result) }
 {
-    let mut reading = authenticator(nonced, aad);
+    let mut reading = authenticator_placed(nonced, aad);
     match absorb_all(first, &mut reading, nonced.suite().text_limit()) {
         Ok(true) => {
             let length = reading.length;
             let tag = reading.finish();
-            let again = Masking::new(nonced.mask(&tag), authenticator(nonced, aad), true, length);
+            let again = Masking::new(
+                nonced.mask(&tag),
+                authenticator_placed(nonced, aad),
+                true,
+                length,
+            );
             write_again(second, again, &tag, out)
         }
         Ok(false) => Err(Fault::TextTooLong),
@@ -143,21 +150,21 @@ fn seal_over<N: Nonced, I: Intake, J: Intake, O: Outlet>(
 }
 
 // The same with a multiplier of the type `M`.
-fn seal_by<M: Keyed128, I: Intake, J: Intake, O: Outlet>(
+fn seal_by<M: Keyed128, A: AssociatedData, I: Intake, J: Intake, O: Outlet>(
     cipher: &GcmSiv,
     nonce: &Nonce,
-    aad: &[u8],
+    aad: &A,
     first: &mut I,
     second: &mut J,
     out: &mut O,
 ) -> Result<(), Fault>
-    requires { length aad.now ≤ aad_limit cipher.now.suite }
+    requires { length (A.bytes aad.now) ≤ aad_limit cipher.now.suite }
     ensures blame { SivBlames
         (record { first = I.failures first.old; second = J.failures second.old; outlet = O.failures out.old })
         (record { first = I.failures first.new; second = J.failures second.new; outlet = O.failures out.new })
         result }
     ensures seals { WhereBothTold (I.left first.old) (J.left second.old) (O.taken out.old) (O.taken out.new)
-        (λ a b given. SealsSivStream (setting cipher.now nonce.now aad.now) a b given
+        (λ a b given. SealsSivStream (setting cipher.now nonce.now (A.bytes aad.now)) a b given
         (record { first = I.failures first.old; second = J.failures second.old; outlet = O.failures out.old })
         (record { first = I.failures first.new; second = J.failures second.new; outlet = O.failures out.new })
         result) }
@@ -194,6 +201,29 @@ pub fn seal_siv_stream<I: Intake, J: Intake, O: Outlet>(
         (record { first = I.failures first.new; second = J.failures second.new; outlet = O.failures out.new })
         result) }
 {
-    cipher.suite().check_aad(aad)?;
-    seal_by::<WideMul, I, J, O>(cipher, nonce, aad, first, second, out)
+    seal_siv_stream_placed(cipher, nonce, &aad, first, second, out)
+}
+
+/// `seal_siv_stream` with associated data that is read by place, once for each reading, in pieces of at most
+/// 256 bytes, and need not stand in memory. None of it is read before `AadTooLong`.
+pub fn seal_siv_stream_placed<A: AssociatedData, I: Intake, J: Intake, O: Outlet>(
+    cipher: &GcmSiv,
+    nonce: &Nonce,
+    aad: &A,
+    first: &mut I,
+    second: &mut J,
+    out: &mut O,
+) -> Result<(), Fault>
+    ensures blame { SivBlames
+        (record { first = I.failures first.old; second = J.failures second.old; outlet = O.failures out.old })
+        (record { first = I.failures first.new; second = J.failures second.new; outlet = O.failures out.new })
+        result }
+    ensures seals { WhereBothTold (I.left first.old) (J.left second.old) (O.taken out.old) (O.taken out.new)
+        (λ a b given. SealsSivStream (setting cipher.now nonce.now (A.bytes aad.now)) a b given
+        (record { first = I.failures first.old; second = J.failures second.old; outlet = O.failures out.old })
+        (record { first = I.failures first.new; second = J.failures second.new; outlet = O.failures out.new })
+        result) }
+{
+    cipher.suite().check_aad_count(aad.byte_count())?;
+    seal_by::<WideMul, A, I, J, O>(cipher, nonce, aad, first, second, out)
 }

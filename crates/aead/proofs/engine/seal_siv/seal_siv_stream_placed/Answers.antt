@@ -5,13 +5,13 @@ use Rattle.aead.specs.Suites.{aad_limit}
 use Rattle.aead.specs.Sealing.{Setting}
 use Rattle.aead.specs.Ciphers.{setting}
 use Rattle.aead.proofs.SivExits.{exit_refused}
-use Rattle.aead.proofs.engine.seal_siv.seal_siv_stream.Goals as goal
+use Rattle.aead.proofs.engine.seal_siv.seal_siv_stream_placed.Goals as goal
 
-pub returns-in_err-check_aad-clause-seals : goal.returns-in_err-check_aad-clause-seals
-returns-in_err-check_aad-clause-seals g c =
-    let s : Setting = setting c.args.cipher.now c.args.nonce.now c.args.aad.now in
+pub returns-in_err-check_aad_count-clause-seals : goal.returns-in_err-check_aad_count-clause-seals
+returns-in_err-check_aad_count-clause-seals g c =
+    let s : Setting = setting c.args.cipher.now c.args.nonce.now (g.A.AssociatedData.bytes c.args.aad.now) in
     let p = err_from_is_err_and c.from_residual.result c.from_residual.ensures.1 in
-    let e : c.from_residual.result ≡ Err AadTooLong = p.1 ∙ ap Err (p.2 ∙ c.in_err-check_aad.ensures.0) in
+    let e : c.from_residual.result ≡ Err AadTooLong = p.1 ∙ ap Err (p.2 ∙ c.in_err-check_aad_count.ensures.0) in
     rw e (exit_refused (g.I.Intake.left c.args.first.now) (g.J.Intake.left c.args.second.now)
     (g.O.Outlet.taken c.args.out.now) s
     (record {
@@ -19,4 +19,4 @@ returns-in_err-check_aad-clause-seals g c =
       second = g.J.Intake.failures c.args.second.now;
       outlet = g.O.Outlet.failures c.args.out.now;
     })
-    AadTooLong (omega (arith, c.in_err-check_aad.ensures.1, ap aad_limit c.suite.ensures)))
+    AadTooLong (omega (arith, c.in_err-check_aad_count.ensures.1, ap aad_limit c.suite.ensures)))
