@@ -126,7 +126,8 @@ fn seal_over<N: Nonced, A: AssociatedData, I: Intake, J: Intake, O: Outlet>(
         (record { first = I.failures first.new; second = J.failures second.new; outlet = O.failures out.new })
         result }
     ensures seals { WhereBothTold (I.left first.old) (J.left second.old) (O.taken out.old) (O.taken out.new)
-        (λ a b given. SealsSivStream (setting (N.keyed nonced.now) (N.nonce nonced.now) (A.bytes aad.now)) a b given
+        (λ a b given. SealsSivStream (setting (N.keyed nonced.now) (N.nonce nonced.now) (A.bytes aad.now))
+        a b given
         (record { first = I.failures first.old; second = J.failures second.old; outlet = O.failures out.old })
         (record { first = I.failures first.new; second = J.failures second.new; outlet = O.failures out.new })
         result) }

@@ -8,13 +8,13 @@ use std::test::Fail;
 /// Up to a room, and past one: the last is of several rooms, and no multiple of one.
 const LENGTHS: [usize; 6] = [0, 1, 255, 256, 257, 1000];
 
-/// Bytes of which no two pieces are the same: 0 to 250 over and over.
+/// Bytes of which no two pieces of a room are the same: 1 to 250 over and over.
 fn counted(alloc: Global, length: usize) -> Result<Vec<u8>, Fail> {
     let mut bytes = vec![in alloc; 0u8; length]?;
-    let mut next = 0u8;
+    let mut next = 1u8;
     for byte in bytes.iter_mut() {
         *byte = next;
-        next = (next + 1) % 251;
+        next = next % 250 + 1;
     }
     Ok(bytes)
 }

@@ -15,11 +15,13 @@ use Rattle.aead.proofs.engine.open.open_stream_placed.Goals as goal
 
 pub returns-in_err-check_aad_count-clause-opens : goal.returns-in_err-check_aad_count-clause-opens
 returns-in_err-check_aad_count-clause-opens g c =
-    let s : Setting = setting (keyed_of c.args.cipher.now) c.args.nonce.now (g.A.AssociatedData.bytes c.args.aad.now) in
+    let s : Setting = setting (keyed_of c.args.cipher.now) c.args.nonce.now
+    (g.A.AssociatedData.bytes c.args.aad.now) in
     let long : aad_limit s.suite < length s.aad =
     omega (arith, c.in_err-check_aad_count.ensures.1, ap aad_limit c.suite-suite.ensures) in
     let p = err_from_is_err_and c.from_residual.result c.from_residual.ensures.1 in
-    let e : c.from_residual.result ≡ Err AadTooLong = p.1 ∙ ap Err (p.2 ∙ c.in_err-check_aad_count.ensures.0) in
+    let e : c.from_residual.result ≡ Err AadTooLong =
+    p.1 ∙ ap Err (p.2 ∙ c.in_err-check_aad_count.ensures.0) in
     rw e (exit_aad (g.I.Intake.left c.args.measure.now) (g.J.Intake.left c.args.verify.now)
     (g.K.Intake.left c.args.write.now) (g.O.Outlet.taken c.args.out.now) s
     (record {
@@ -41,7 +43,8 @@ told_at x y lm before after r e told = let P : Suite → Type 0 =
 
 pub returns-in-Err-clause-opens : goal.returns-in-Err-clause-opens
 returns-in-Err-clause-opens g c =
-    let s : Setting = setting (keyed_of c.args.cipher.now) c.args.nonce.now (g.A.AssociatedData.bytes c.args.aad.now) in
+    let s : Setting = setting (keyed_of c.args.cipher.now) c.args.nonce.now
+    (g.A.AssociatedData.bytes c.args.aad.now) in
     let fits : length s.aad ≤ aad_limit s.suite =
     omega (arith, c.in_ok-check_aad_count.ensures, ap aad_limit c.suite-suite.ensures) in
     exit_measure (g.I.Intake.left c.args.measure.now) (g.J.Intake.left c.args.verify.now)
@@ -55,7 +58,8 @@ returns-in-Err-clause-opens g c =
 
 pub returns-in-Err-verify_step-clause-opens : goal.returns-in-Err-verify_step-clause-opens
 returns-in-Err-verify_step-clause-opens g c =
-    let s : Setting = setting (keyed_of c.args.cipher.now) c.args.nonce.now (g.A.AssociatedData.bytes c.args.aad.now) in
+    let s : Setting = setting (keyed_of c.args.cipher.now) c.args.nonce.now
+    (g.A.AssociatedData.bytes c.args.aad.now) in
     let fits : length s.aad ≤ aad_limit s.suite =
     omega (arith, c.in_ok-check_aad_count.ensures, ap aad_limit c.suite-suite.ensures) in
     exit_verify (g.I.Intake.left c.args.measure.now) (g.J.Intake.left c.args.verify.now)
@@ -70,7 +74,8 @@ returns-in-Err-verify_step-clause-opens g c =
 
 pub returns-in-Ok-verify_step-clause-opens : goal.returns-in-Ok-verify_step-clause-opens
 returns-in-Ok-verify_step-clause-opens g c =
-    let s : Setting = setting (keyed_of c.args.cipher.now) c.args.nonce.now (g.A.AssociatedData.bytes c.args.aad.now) in
+    let s : Setting = setting (keyed_of c.args.cipher.now) c.args.nonce.now
+    (g.A.AssociatedData.bytes c.args.aad.now) in
     let fits : length s.aad ≤ aad_limit s.suite =
     omega (arith, c.in_ok-check_aad_count.ensures, ap aad_limit c.suite-suite.ensures) in
     exit_write (g.I.Intake.left c.args.measure.now) (g.J.Intake.left c.args.verify.now)

@@ -10,9 +10,11 @@ use Rattle.aead.proofs.engine.seal.seal_stream_placed.Goals as goal
 
 pub returns-in_err-check_aad_count-clause-seals : goal.returns-in_err-check_aad_count-clause-seals
 returns-in_err-check_aad_count-clause-seals g c =
-    let s : Setting = setting (one_pass_keyed c.args.cipher.now) c.args.nonce.now (g.A.AssociatedData.bytes c.args.aad.now) in
+    let s : Setting = setting (one_pass_keyed c.args.cipher.now) c.args.nonce.now
+    (g.A.AssociatedData.bytes c.args.aad.now) in
     let p = err_from_is_err_and c.from_residual.result c.from_residual.ensures.1 in
-    let e : c.from_residual.result ≡ Err AadTooLong = p.1 ∙ ap Err (p.2 ∙ c.in_err-check_aad_count.ensures.0) in
+    let e : c.from_residual.result ≡ Err AadTooLong =
+    p.1 ∙ ap Err (p.2 ∙ c.in_err-check_aad_count.ensures.0) in
     rw e (exit_aad (g.I.Intake.left c.args.text.now) (g.O.Outlet.taken c.args.out.now) s
     (g.I.Intake.failures c.args.text.now) (g.O.Outlet.failures c.args.out.now)
     (omega (arith, c.in_err-check_aad_count.ensures.1, ap aad_limit c.suite.ensures)))

@@ -45,4 +45,5 @@ returns-in-Ok-true-clause-seals g c =
     omega (arith, held.length_is, held.fits.text_fits) in
     c.write_again.ensures.written s a c.requires.by_gcm_siv tag_is
     (at_limit _ _ _ _ _ _ s _ [] held.length_is
-    (c.new-again.ensures.holds s (tag_of s a) (subst P tag_is made) c.authenticator_placed.ensures.holds fits)))
+    (c.new-again.ensures.holds s (tag_of s a) (subst P tag_is made)
+    c.authenticator_placed.ensures.holds fits)))

@@ -11,7 +11,8 @@ pub returns-in_err-check_aad_count-clause-seals : goal.returns-in_err-check_aad_
 returns-in_err-check_aad_count-clause-seals g c =
     let s : Setting = setting c.args.cipher.now c.args.nonce.now (g.A.AssociatedData.bytes c.args.aad.now) in
     let p = err_from_is_err_and c.from_residual.result c.from_residual.ensures.1 in
-    let e : c.from_residual.result ≡ Err AadTooLong = p.1 ∙ ap Err (p.2 ∙ c.in_err-check_aad_count.ensures.0) in
+    let e : c.from_residual.result ≡ Err AadTooLong =
+    p.1 ∙ ap Err (p.2 ∙ c.in_err-check_aad_count.ensures.0) in
     rw e (exit_refused (g.I.Intake.left c.args.first.now) (g.J.Intake.left c.args.second.now)
     (g.O.Outlet.taken c.args.out.now) s
     (record {
