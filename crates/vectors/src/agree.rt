@@ -14,7 +14,8 @@ use crate::place::Entry;
 use crate::suite::Suite;
 use crate::wrapped::{padded_agrees, wrapped_agrees};
 use aead::{
-    AnyAead, AnyOnePass, GcmSiv, open_stream, seal_siv_stream, seal_stream, sealing_has_one_text,
+    AnyAead, AnyOnePass, GcmSiv, open_stream_placed, seal_siv_stream_placed, seal_stream_placed,
+    sealing_has_one_text,
 };
 use octets::Nonce;
 use std::alloc::{AllocError, Allocator};
@@ -23,17 +24,17 @@ use std::alloc::{AllocError, Allocator};
 fn one_pass_seals(
     cipher: &AnyOnePass,
     nonce: &Nonce,
-    aad: &[u8],
+    aad: Digits<'_>,
     sealed: Digits<'_>,
     text: Digits<'_>,
 ) -> bool
     ensures { IsTrue result
-        ↔ Opened (setting (one_pass_keyed cipher.now) nonce.now aad.now) (bytes_in sealed.entry)
+        ↔ Opened (setting (one_pass_keyed cipher.now) nonce.now (bytes_in aad.entry)) (bytes_in sealed.entry)
         (bytes_in text.entry) }
 {
     let mut reading = DigitIntake::new(text);
     let mut out = Comparison::new(sealed);
-    let done = seal_stream(cipher, nonce, aad, &mut reading, &mut out);
+    let done = seal_stream_placed(cipher, nonce, &aad, &mut reading, &mut out);
     out.is_whole(done.is_ok())
 }
 
@@ -41,24 +42,31 @@ fn one_pass_seals(
 fn siv_seals(
     cipher: &GcmSiv,
     nonce: &Nonce,
-    aad: &[u8],
+    aad: Digits<'_>,
     sealed: Digits<'_>,
     text: Digits<'_>,
 ) -> bool
     ensures { IsTrue result
-        ↔ Opened (setting cipher.now nonce.now aad.now) (bytes_in sealed.entry) (bytes_in text.entry) }
+        ↔ Opened (setting cipher.now nonce.now (bytes_in aad.entry)) (bytes_in sealed.entry)
+        (bytes_in text.entry) }
 {
     let mut first = DigitIntake::new(text);
     let mut second = DigitIntake::new(text);
     let mut out = Comparison::new(sealed);
-    let done = seal_siv_stream(cipher, nonce, aad, &mut first, &mut second, &mut out);
+    let done = seal_siv_stream_placed(cipher, nonce, &aad, &mut first, &mut second, &mut out);
     out.is_whole(done.is_ok())
 }
 
 /// Whether the sealed bytes are the sealing of the text.
-fn seals(cipher: &AnyAead, nonce: &Nonce, aad: &[u8], sealed: Digits<'_>, text: Digits<'_>) -> bool
+fn seals(
+    cipher: &AnyAead,
+    nonce: &Nonce,
+    aad: Digits<'_>,
+    sealed: Digits<'_>,
+    text: Digits<'_>,
+) -> bool
     ensures { IsTrue result
-        ↔ Opened (setting (keyed_of cipher.now) nonce.now aad.now) (bytes_in sealed.entry)
+        ↔ Opened (setting (keyed_of cipher.now) nonce.now (bytes_in aad.entry)) (bytes_in sealed.entry)
         (bytes_in text.entry) }
 {
     match cipher {
@@ -69,19 +77,19 @@ fn seals(cipher: &AnyAead, nonce: &Nonce, aad: &[u8], sealed: Digits<'_>, text: 
 
 /// Whether the sealed bytes are the sealing of no text: their opening is refused, and gave not one byte
 /// of a text.
-fn seals_nothing(cipher: &AnyAead, nonce: &Nonce, aad: &[u8], sealed: Digits<'_>) -> bool
+fn seals_nothing(cipher: &AnyAead, nonce: &Nonce, aad: Digits<'_>, sealed: Digits<'_>) -> bool
     ensures { IsTrue result
-        ↔ IsNoSealing (setting (keyed_of cipher.now) nonce.now aad.now) (bytes_in sealed.entry) }
+        ↔ IsNoSealing (setting (keyed_of cipher.now) nonce.now (bytes_in aad.entry)) (bytes_in sealed.entry) }
 {
     sealing_has_one_text();
     let mut measure = DigitIntake::new(sealed);
     let mut verify = DigitIntake::new(sealed);
     let mut write = DigitIntake::new(sealed);
     let mut out = Comparison::new(Digits::none());
-    let done = open_stream(
+    let done = open_stream_placed(
         cipher,
         nonce,
-        aad,
+        &aad,
         &mut measure,
         &mut verify,
         &mut write,
@@ -91,14 +99,10 @@ fn seals_nothing(cipher: &AnyAead, nonce: &Nonce, aad: &[u8], sealed: Digits<'_>
 }
 
 /// Whether a record of authenticated encryption agrees.
-fn sealed_agrees<A: Allocator>(
-    alloc: &A,
-    suite: aead::Suite,
-    entry: &Entry<'_>,
-) -> Result<bool, AllocError>
+fn sealed_agrees(suite: aead::Suite, entry: &Entry<'_>) -> bool
     requires sized { IsSized (entry_view entry.now) }
     requires suite { entry.now.suite ≡ suites.Aead suite }
-    ensures { IfOk result (λ b. IsTrue b ↔ Agrees (entry_view entry.now)) }
+    ensures { IsTrue result ↔ Agrees (entry_view entry.now) }
 {
     let mut key = [0; 32];
     let key = &mut key[..entry.key.byte_count()];
@@ -111,10 +115,9 @@ fn sealed_agrees<A: Allocator>(
     let Ok(nonce) = Nonce::from_slice(&nonce) else {
         unreachable!()
     };
-    let aad = entry.aad.bytes(alloc)?;
     match entry.text {
-        Some(text) => Ok(seals(&cipher, &nonce, &aad, entry.sealed, text)),
-        None => Ok(seals_nothing(&cipher, &nonce, &aad, entry.sealed)),
+        Some(text) => seals(&cipher, &nonce, entry.aad, entry.sealed, text),
+        None => seals_nothing(&cipher, &nonce, entry.aad, entry.sealed),
     }
 }
 
@@ -125,7 +128,7 @@ pub(crate) fn agrees<A: Allocator>(alloc: &A, entry: &Entry<'_>) -> Result<bool,
     ensures { IfOk result (λ b. IsTrue b ↔ Agrees (entry_view entry.now)) }
 {
     match entry.suite {
-        Suite::Aead(suite) => sealed_agrees(alloc, suite, entry),
+        Suite::Aead(suite) => Ok(sealed_agrees(suite, entry)),
         Suite::Wrap(aes) => wrapped_agrees(alloc, aes, entry),
         Suite::WrapPad(aes) => padded_agrees(alloc, aes, entry),
     }

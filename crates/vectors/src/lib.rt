@@ -4,6 +4,7 @@
 ghost use Rattle.vectors.specs.Grammar.{HasOneReading};
 
 mod agree;
+mod associated_data;
 mod comparison;
 mod cuts;
 mod digits;

@@ -80,8 +80,8 @@ fn read<A: Allocator>(alloc: A, file: &[u8]) -> Result<Report<A>, VectorFault>
 /// their standard. The file is any bytes, and is read once. Where it is not in the grammar the answer is
 /// its first fault: the number of a line is the least one such that the lines up to it can't begin a
 /// file. `OutOfMemory` comes only where a record has ended, and a growth was refused in this call: memory
-/// is taken for a record's associated data, for a wrapping, and for the numbers in the report. Sealed
-/// bytes and texts take none.
+/// is taken for a wrapping, and for the numbers in the report. Sealed bytes, texts and associated data take
+/// none.
 pub fn check<A: Allocator>(alloc: A, file: &[u8]) -> Result<Report<A>, VectorFault>
     // A report is that of the records which the file's lines make.
     ensures report { IfOk result (λ report. IsReport (lines_of file.now) report.records report.bad.items) }

@@ -7,6 +7,7 @@ use published::PUBLISHED;
 use std::str::from_utf8;
 use std::test::Fail;
 
+mod associated_data;
 mod cuts;
 mod damaged;
 mod files;

@@ -11,10 +11,11 @@ use Rattle.vectors.proofs.agree.one_pass_seals.Goals as goal
 
 pub returns : goal.returns
 returns c =
-    let s = setting (one_pass_keyed c.args.cipher.now) c.args.nonce.now c.args.aad.now in
-    let out = c.seal_stream-done.new.out in
+    let s = setting (one_pass_keyed c.args.cipher.now) c.args.nonce.now (bytes_in c.args.aad) in
+    let out = c.seal_stream_placed-done.new.out in
     let is = c.is_whole.ensures ∙ ap (λ b. b && is_whole out) c.is_ok.ensures.value in
     subst (λ b. IsTrue b ↔ Opened s (bytes_in c.args.sealed) (bytes_in c.args.text)) (sym is)
-    (one_pass_told s (bytes_in c.args.text) (bytes_in c.args.sealed) _ _ _ out c.seal_stream-done.result
+    (one_pass_told s (bytes_in c.args.text) (bytes_in c.args.sealed) _ _ _ out
+    c.seal_stream_placed-done.result
     c.new-reading.ensures c.new-out.ensures.told c.new-out.ensures.failed
-    (bytes_of-small c.args.text.text.now c.args.text.valid) c.seal_stream-done.ensures.seals)
+    (bytes_of-small c.args.text.text.now c.args.text.valid) c.seal_stream_placed-done.ensures.seals)
