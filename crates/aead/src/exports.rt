@@ -1,17 +1,20 @@
 // What C calls: a slice crosses as a pointer and a length, a suite and an outcome as their numbers.
 
-ghost use Rattle.std.specs.Prelude.{◌≡◌, ◌≢◌, ◌↔◌, MatchResult};
+ghost use Rattle.std.specs.Prelude.{◌≡◌, ◌≢◌, ◌↔◌, length, MatchResult};
 ghost use Rattle.octets.specs.Numbers.{HasOutcome};
 ghost use Rattle.aead.specs.declared.suite.Suite.{Suite};
+ghost use Rattle.aead.specs.Suites.{key_length};
 ghost use Rattle.aead.specs.Ciphers.{setting};
-ghost use Rattle.aead.specs.AnyCiphers.{keyed_of};
 ghost use Rattle.aead.specs.Exports.{suite_number, setting_of, HasLengths, WasSealed, WasNotSealed};
 ghost use Rattle.aead.specs.Exports.{WasOpened, WasNotOpened};
 
 use crate::aead::Aead;
-use crate::any::AnyAead;
+use crate::chacha_poly::ChaChaPoly;
+use crate::gcm::Gcm;
+use crate::gcm_siv::GcmSiv;
 use crate::suite::Suite;
-use octets::{Fault, Nonce, Tag, outcome_number};
+use aes::AesKey;
+use octets::{Fault, Key32, Nonce, Tag, outcome_number};
 
 /// The answer at C where the number of a suite is none.
 const UNKNOWN_SUITE: u32 = 14;
@@ -32,8 +35,8 @@ fn suite_numbered(number: u32) -> Option<Suite>
 }
 
 // Seals the bytes before the last sixteen, where the tag goes.
-fn seal_room(cipher: &AnyAead, nonce: &Nonce, aad: &[u8], bytes: &mut [u8]) -> Result<(), Fault>
-    ensures { let s = setting (keyed_of cipher.now) nonce.now aad.now in HasLengths s →
+fn seal_room<C: Aead>(cipher: &C, nonce: &Nonce, aad: &[u8], bytes: &mut [u8]) -> Result<(), Fault>
+    ensures { let s = setting (C.keyed cipher.now) nonce.now aad.now in HasLengths s →
         MatchResult result (λ _. WasSealed s bytes.old bytes.new) (WasNotSealed s bytes.old bytes.new) }
 {
     cipher.suite().check_aad(aad)?;
@@ -45,7 +48,17 @@ fn seal_room(cipher: &AnyAead, nonce: &Nonce, aad: &[u8], bytes: &mut [u8]) -> R
     Ok(())
 }
 
-// The same under the bytes of a key and of a nonce.
+// The same under the bytes of a nonce.
+fn seal_under<C: Aead>(cipher: &C, nonce: &[u8], aad: &[u8], bytes: &mut [u8]) -> Result<(), Fault>
+    requires { length (C.keyed cipher.now).key ≡ key_length (C.keyed cipher.now).suite }
+    ensures { let s = setting (C.keyed cipher.now) nonce.now aad.now in
+        MatchResult result (λ _. WasSealed s bytes.old bytes.new) (WasNotSealed s bytes.old bytes.new) }
+{
+    let nonce = Nonce::from_slice(nonce)?;
+    seal_room(cipher, &nonce, aad, bytes)
+}
+
+// The same under the bytes of a key and of a nonce. A cipher of its own suite is smaller than one of any.
 fn seal_bytes(
     suite: Suite,
     key: &[u8],
@@ -56,14 +69,28 @@ fn seal_bytes(
     ensures { let s = setting_of suite key.now nonce.now aad.now in
         MatchResult result (λ _. WasSealed s bytes.old bytes.new) (WasNotSealed s bytes.old bytes.new) }
 {
-    let cipher = AnyAead::new(suite, key)?;
-    let nonce = Nonce::from_slice(nonce)?;
-    seal_room(&cipher, &nonce, aad, bytes)
+    if key.len() != suite.key_length() {
+        return Err(Fault::KeyLength);
+    }
+    match suite {
+        Suite::ChaCha20Poly1305 => match Key32::from_slice(key) {
+            Ok(key) => seal_under(&ChaChaPoly::new(&key), nonce, aad, bytes),
+            Err(fault) => Err(fault),
+        },
+        Suite::Aes128Gcm | Suite::Aes192Gcm | Suite::Aes256Gcm => match AesKey::from_slice(key) {
+            Ok(key) => seal_under(&Gcm::new(suite, key), nonce, aad, bytes),
+            Err(fault) => Err(fault),
+        },
+        Suite::Aes128GcmSiv | Suite::Aes256GcmSiv => match AesKey::from_slice(key) {
+            Ok(key) => seal_under(&GcmSiv::new(suite, key), nonce, aad, bytes),
+            Err(fault) => Err(fault),
+        },
+    }
 }
 
 // Opens the bytes before the last sixteen, which are the tag.
-fn open_room(cipher: &AnyAead, nonce: &Nonce, aad: &[u8], bytes: &mut [u8]) -> Result<(), Fault>
-    ensures { let s = setting (keyed_of cipher.now) nonce.now aad.now in HasLengths s →
+fn open_room<C: Aead>(cipher: &C, nonce: &Nonce, aad: &[u8], bytes: &mut [u8]) -> Result<(), Fault>
+    ensures { let s = setting (C.keyed cipher.now) nonce.now aad.now in HasLengths s →
         MatchResult result (λ _. WasOpened s bytes.old bytes.new) (WasNotOpened s bytes.old bytes.new) }
 {
     cipher.suite().check_aad(aad)?;
@@ -73,7 +100,17 @@ fn open_room(cipher: &AnyAead, nonce: &Nonce, aad: &[u8], bytes: &mut [u8]) -> R
     cipher.open_in_place(nonce, aad, body, &Tag::new(*last))
 }
 
-// The same under the bytes of a key and of a nonce.
+// The same under the bytes of a nonce.
+fn open_under<C: Aead>(cipher: &C, nonce: &[u8], aad: &[u8], bytes: &mut [u8]) -> Result<(), Fault>
+    requires { length (C.keyed cipher.now).key ≡ key_length (C.keyed cipher.now).suite }
+    ensures { let s = setting (C.keyed cipher.now) nonce.now aad.now in
+        MatchResult result (λ _. WasOpened s bytes.old bytes.new) (WasNotOpened s bytes.old bytes.new) }
+{
+    let nonce = Nonce::from_slice(nonce)?;
+    open_room(cipher, &nonce, aad, bytes)
+}
+
+// The same under the bytes of a key and of a nonce. A cipher of its own suite is smaller than one of any.
 fn open_bytes(
     suite: Suite,
     key: &[u8],
@@ -84,9 +121,23 @@ fn open_bytes(
     ensures { let s = setting_of suite key.now nonce.now aad.now in
         MatchResult result (λ _. WasOpened s bytes.old bytes.new) (WasNotOpened s bytes.old bytes.new) }
 {
-    let cipher = AnyAead::new(suite, key)?;
-    let nonce = Nonce::from_slice(nonce)?;
-    open_room(&cipher, &nonce, aad, bytes)
+    if key.len() != suite.key_length() {
+        return Err(Fault::KeyLength);
+    }
+    match suite {
+        Suite::ChaCha20Poly1305 => match Key32::from_slice(key) {
+            Ok(key) => open_under(&ChaChaPoly::new(&key), nonce, aad, bytes),
+            Err(fault) => Err(fault),
+        },
+        Suite::Aes128Gcm | Suite::Aes192Gcm | Suite::Aes256Gcm => match AesKey::from_slice(key) {
+            Ok(key) => open_under(&Gcm::new(suite, key), nonce, aad, bytes),
+            Err(fault) => Err(fault),
+        },
+        Suite::Aes128GcmSiv | Suite::Aes256GcmSiv => match AesKey::from_slice(key) {
+            Ok(key) => open_under(&GcmSiv::new(suite, key), nonce, aad, bytes),
+            Err(fault) => Err(fault),
+        },
+    }
 }
 
 /// Seals in place: the bytes are a text and room for a tag of 16 bytes, and become the sealing.

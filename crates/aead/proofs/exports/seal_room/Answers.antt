@@ -1,12 +1,11 @@
 use Rattle.std.proofs.Common.{◌≡◌, ◌+◌, ◌++◌, length, subst, sym, arith}
 use Rattle.aead.specs.Sealing.{Setting, Opened}
 use Rattle.aead.specs.Ciphers.{setting}
-use Rattle.aead.specs.AnyCiphers.{keyed_of}
 use Rattle.aead.proofs.exports.seal_room.Goals as goal
 
 pub returns : goal.returns
-returns c = λ h.
-    let s : Setting = setting (keyed_of c.args.cipher.now) c.args.nonce.now c.args.aad.now in
+returns g c = λ h.
+    let s : Setting = setting (g.C.Aead.keyed c.args.cipher.now) c.args.nonce.now c.args.aad.now in
     let o = c.in_ok-tag.ensures in
     let whole : length c.in-Some.body.now + 16 ≡ length c.args.bytes.now = c.in-Some.ensures.cases.2 in (
       record {
