@@ -6,7 +6,7 @@ use Rattle.aead.specs.declared.siv.SivAbsorb.{SivAbsorb}
 use Rattle.aead.specs.declared.siv.SivWriter.{SivWriter}
 use Rattle.aead.specs.Suites.{ByGcmSiv, construction_of, is_one_pass, text_limit}
 use Rattle.aead.specs.Sealing.{Setting, encryption_key, tag_of}
-use Rattle.aead.specs.Code.States.{MadeByGcmSiv, HeldByPolyval, HoldsAuthenticator}
+use Rattle.aead.specs.Code.States.{MadeByGcmSiv, HeldByPolyval, HoldsAuthenticator, own_key}
 use Rattle.aead.specs.Code.Maskings.{HoldsMasking, sealing_task, repeating_task}
 use Rattle.aead.specs.Code.AnyMaskings.{HoldsAnyMasking}
 
@@ -18,8 +18,8 @@ pub record HoldsSealer (sealer : Sealer) (s : Setting) (text : List ℕ) : Type 
 -- the first reading was fed this text, and what the second one begins with has its associated data
 pub record HoldsAbsorb (a : SivAbsorb) (s : Setting) (text : List ℕ) : Type 0 where
   pub by_gcm_siv : construction_of s.suite ≡ ByGcmSiv
-  pub taken : HoldsAuthenticator (HeldByPolyval key_of) a.authenticator s text
-  pub begun : HoldsAuthenticator (HeldByPolyval key_of) a.again s []
+  pub taken : HoldsAuthenticator (HeldByPolyval key_of own_key) a.authenticator s text
+  pub begun : HoldsAuthenticator (HeldByPolyval key_of own_key) a.again s []
   pub encryption_is : a.encryption ≡ encryption_key s.key s.nonce
   pub limit_is : a.limit ≡ text_limit s.suite
 
@@ -27,7 +27,7 @@ pub record HoldsAbsorb (a : SivAbsorb) (s : Setting) (text : List ℕ) : Type 0 
 pub record HoldsWriter (w : SivWriter) (s : Setting) (first text : List ℕ) : Type 0 where
   pub by_gcm_siv : construction_of s.suite ≡ ByGcmSiv
   pub tag_is : w.tag ≡ tag_of s first
-  pub masking : HoldsMasking MadeByGcmSiv (HeldByPolyval key_of) w.masking (repeating_task s first) text
+  pub masking : HoldsMasking MadeByGcmSiv (HeldByPolyval key_of own_key) w.masking (repeating_task s first) text
 
 -- a text has the length and the tag of the first one
 abbrev pub Repeats : Setting → List ℕ → List ℕ → Type 0

@@ -12,7 +12,7 @@ ghost use Rattle.aead.specs.Code.States.{MadeByGcmSiv};
 
 use crate::aead::Aead;
 use crate::derived_keys::DerivedKeys;
-use crate::hashes::PolyvalTag;
+use crate::hashes::{KeptKey, PolyvalTag};
 use crate::nonced::{Nonced, open_whole, seal_whole};
 use crate::suite::Suite;
 use aes::{AesKey, CtrLe};
@@ -64,18 +64,18 @@ impl GcmSiv {
     }
 
     // The cipher with a nonce, its encryption key, and a multiplier of its authentication key.
-    pub(crate) fn nonced<'a, M: Multiply + Copy>(
+    pub(crate) fn nonced<'a, M: Multiply + Copy, K: KeptKey + Copy>(
         &'a self,
         nonce: &'a Nonce,
-        encryption: &'a AesKey,
+        encryption: K,
         multiplier: M,
-    ) -> NoncedGcmSiv<'a, M>
-        requires encryption { encryption.now ≡ encryption_key self.now.key nonce.now }
+    ) -> NoncedGcmSiv<'a, M, K>
+        requires encryption { K.bytes encryption ≡ encryption_key self.now.key nonce.now }
         requires block { IsBlock (authentication_key self.now.key nonce.now) }
         requires multiplier { IsReversedMulX (authentication_key self.now.key nonce.now)
             (M.key_bytes multiplier) }
-        ensures keyed { ⟦<NoncedGcmSiv<'a, M> as Nonced>⟧.keyed result ≡ self.now }
-        ensures nonce { ⟦<NoncedGcmSiv<'a, M> as Nonced>⟧.nonce result ≡ nonce.now }
+        ensures keyed { ⟦<NoncedGcmSiv<'a, M, K> as Nonced>⟧.keyed result ≡ self.now }
+        ensures nonce { ⟦<NoncedGcmSiv<'a, M, K> as Nonced>⟧.nonce result ≡ nonce.now }
     {
         NoncedGcmSiv {
             suite: self.suite,
@@ -149,23 +149,23 @@ pub(crate) fn tag_mask(encryption: &AesKey, tag: &Tag) -> CtrLe
 
 // The cipher with a nonce, its encryption key, and a multiplier of its authentication key.
 #[derive(Drop)]
-pub(crate) struct NoncedGcmSiv<'a, M: Multiply> {
+pub(crate) struct NoncedGcmSiv<'a, M: Multiply, K: KeptKey> {
     suite: Suite,
     key: &'a AesKey,
     nonce: &'a Nonce,
-    encryption: &'a AesKey,
+    encryption: K,
     multiplier: M,
     ghost by_gcm_siv: { construction_of suite ≡ ByGcmSiv },
-    ghost encryption_is: { encryption.now ≡ encryption_key key.now nonce.now },
+    ghost encryption_is: { K.bytes encryption ≡ encryption_key key.now nonce.now },
     ghost block: { IsBlock (authentication_key key.now nonce.now) },
     ghost multiplier_is: { ∥ IsReversedMulX (authentication_key key.now nonce.now) (M.key_bytes multiplier)
         ∥₁ },
 }
 
-impl<'a, M: Multiply + Copy> Nonced for NoncedGcmSiv<'a, M> {
+impl<'a, M: Multiply + Copy, K: KeptKey + Copy> Nonced for NoncedGcmSiv<'a, M, K> {
     type Stream = CtrLe;
 
-    type Hash = PolyvalTag<M>;
+    type Hash = PolyvalTag<M, K>;
 
     ghost keyed = { λ m. record { suite = m.suite; key = m.key.now } };
 
@@ -176,13 +176,13 @@ impl<'a, M: Multiply + Copy> Nonced for NoncedGcmSiv<'a, M> {
     }
 
     fn mask(&self, tag: &Tag) -> CtrLe {
-        tag_mask(self.encryption, tag)
+        tag_mask(self.encryption.kept(), tag)
     }
 
-    fn hash(&self) -> PolyvalTag<M> {
+    fn hash(&self) -> PolyvalTag<M, K> {
         PolyvalTag {
             hash: Polyval::with(self.multiplier),
-            key: *self.encryption,
+            key: self.encryption,
             nonce: *self.nonce,
         }
     }

@@ -3,7 +3,7 @@
 ghost use Rattle.std.specs.Prelude.{◌≡◌, ◌<◌, ◌*◌, ◌^◌, ◌++◌, ℕ, List, length};
 ghost use Rattle.octets.specs.Bytes.{pad16};
 ghost use Rattle.aead.specs.Sealing.{Setting, Fits, tag_block, tag_over};
-ghost use Rattle.aead.specs.Code.States.{HeldByPoly, HeldByGhash, HeldByPolyval};
+ghost use Rattle.aead.specs.Code.States.{HeldByPoly, HeldByGhash, HeldByPolyval, own_key};
 
 use crate::derived_keys::joined;
 use aes::AesKey;
@@ -93,16 +93,43 @@ fn tag_block(hash: &[u8; 16], nonce: &[u8; 12]) -> [u8; 16]
     block
 }
 
+// A key of AES, or a reference to one that is kept elsewhere: a message that is sealed whole copies none.
+pub(crate) trait KeptKey: Drop {
+    // The key's bytes.
+    ghost bytes: { Self → List ℕ };
+
+    fn kept(&self) -> &AesKey
+        ensures { result.now ≡ bytes self.now };
+}
+
+impl KeptKey for AesKey {
+    ghost bytes = { own_key };
+
+    #[inline(always)]
+    fn kept(&self) -> &AesKey {
+        self
+    }
+}
+
+impl KeptKey for &AesKey {
+    ghost bytes = { λ k. k.now };
+
+    #[inline(always)]
+    fn kept(&self) -> &AesKey {
+        *self
+    }
+}
+
 // POLYVAL, the encryption key and the nonce; the lengths are in bits (RFC 8452, 4).
 #[derive(Drop)]
-pub(crate) struct PolyvalTag<M> {
+pub(crate) struct PolyvalTag<M, K> {
     pub(crate) hash: Polyval<M>,
-    pub(crate) key: AesKey,
+    pub(crate) key: K,
     pub(crate) nonce: Nonce,
 }
 
-impl<M: Multiply> TagHash for PolyvalTag<M> {
-    ghost held = { HeldByPolyval M.key_bytes };
+impl<M: Multiply, K: KeptKey> TagHash for PolyvalTag<M, K> {
+    ghost held = { HeldByPolyval M.key_bytes K.bytes };
 
     fn take_in(&mut self, bytes: &[u8]) {
         self.hash.update(bytes);
@@ -121,6 +148,6 @@ impl<M: Multiply> TagHash for PolyvalTag<M> {
         let (first, second) = (bits(aad_length), bits(bytes_length));
         hash.update(&joined(&first.to_le_bytes(), &second.to_le_bytes()));
         let block = tag_block(hash.finish().bytes(), nonce.bytes());
-        Tag::new(*key.encrypt(&Block::new(block)).bytes())
+        Tag::new(*key.kept().encrypt(&Block::new(block)).bytes())
     }
 }

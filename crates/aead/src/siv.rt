@@ -20,9 +20,9 @@ use octets::{Fault, Nonce, Tag};
 /// The first reading of a text that is sealed by AES-GCM-SIV.
 #[derive(Drop)]
 pub struct SivAbsorb {
-    authenticator: Authenticator<PolyvalTag<PlacedMul>>,
+    authenticator: Authenticator<PolyvalTag<PlacedMul, AesKey>>,
     // What the second reading begins with.
-    again: Authenticator<PolyvalTag<PlacedMul>>,
+    again: Authenticator<PolyvalTag<PlacedMul, AesKey>>,
     encryption: AesKey,
     limit: u64,
     ghost within: { authenticator.length ≤ limit },
@@ -43,7 +43,7 @@ impl SivAbsorb {
         suite.check_aad(aad)?;
         let keys = cipher.derive(nonce);
         let multiplier = PlacedMul::of(&keys.hash_key);
-        let nonced = cipher.nonced(nonce, &keys.encryption, multiplier);
+        let nonced = cipher.nonced(nonce, keys.encryption, multiplier);
         Ok(SivAbsorb {
             authenticator: authenticator(&nonced, aad),
             again: authenticator(&nonced, aad),
@@ -100,7 +100,7 @@ impl SivAbsorb {
 /// The second reading of a text that is sealed by AES-GCM-SIV.
 #[derive(Drop)]
 pub struct SivWriter {
-    masking: Masking<CtrLe, PolyvalTag<PlacedMul>>,
+    masking: Masking<CtrLe, PolyvalTag<PlacedMul, AesKey>>,
     tag: Tag,
 }
 

@@ -47,12 +47,17 @@ HeldByGhash key_bytes h s m =
     (construction_of s.suite ≡ ByGcm) × gf128.Holds key_bytes h.hash (hash_key s.key) m
     × (h.mask ≡ cipher s.key (j0 s.nonce))
 
+-- the bytes of a key that is no reference
+abbrev pub own_key : List ℕ → List ℕ
+own_key key = key
+
 -- POLYVAL, with the encryption key and the nonce; what it holds is told as a fact alone
-abbrev pub HeldByPolyval : {M : Type 0} → (M → List ℕ) → PolyvalTag M → Setting → List ℕ → Type 0
-HeldByPolyval key_bytes h s m =
+abbrev pub HeldByPolyval : {M K : Type 0} → (M → List ℕ) → (K → List ℕ) → PolyvalTag M K → Setting → List ℕ
+    → Type 0
+HeldByPolyval key_bytes kept h s m =
     (construction_of s.suite ≡ ByGcmSiv)
     × ∥ gf128.PolyvalHolds key_bytes h.hash (authentication_key s.key s.nonce) m ∥₁
-    × (h.key ≡ encryption_key s.key s.nonce) × (h.nonce ≡ s.nonce)
+    × (kept h.key ≡ encryption_key s.key s.nonce) × (h.nonce ≡ s.nonce)
 
 -- ---- whole parts
 

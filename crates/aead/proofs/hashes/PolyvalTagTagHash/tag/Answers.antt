@@ -21,7 +21,7 @@ returns g c = λ s m h fits is_aad is_bytes.
     ∥∥₁_elim h.1 (hlevel props) (λ held.
     by_polyval s m _ _ _ _ _ h.0 h.2 h.3 is_aad is_bytes
     (c.new-2.ensures.value ∙ c.bytes-3.ensures.value ∙ c.encrypt.ensures.value
-    ∙ ap (cipher c.args.self.key)
+    ∙ ap₂ cipher c.kept.ensures
     (c.new.ensures.value ∙ c.tag_block-block.ensures
     ∙ ap₂ tag_block
     (c.bytes.ensures.value ∙ c.finish.ensures.value k _ (c.update.ensures k fed held)
