@@ -148,7 +148,8 @@ fn lengths(rt: HostRuntime) {
     }
 }
 
-// Whether a call's answer is right where no request for memory was refused, and want of memory where one was.
+// Whether a call's answer is right where no request for memory was refused, and want of memory where one
+// was.
 fn is_due<A: Allocator + Drop>(
     answer: Result<Vec<u8, A>, Fault>,
     right: &[u8],
