@@ -2,10 +2,11 @@
 use crate::fault::VectorFault;
 use crate::reading::check;
 use crate::suite::{Format, Suite};
-use files::with_lines;
+use files::{add, with_lines};
 use published::PUBLISHED;
+use std::alloc::Global;
+use std::process::Abort;
 use std::str::from_utf8;
-use std::test::Fail;
 
 mod associated_data;
 mod cuts;
@@ -31,25 +32,24 @@ fn changed(digit: u8) -> u8 {
 
 /// The published vectors with the lowest bit of each record's sealed bytes changed, and `invalid` for its
 /// text.
-fn changed_vectors(rt: &HostRuntime) -> Result<Vec<u8>, Fail> {
+fn changed_vectors(rt: &(impl Abort + Alloc<A = Global>)) -> Vec<u8> {
     let mut out = Vec::new(rt.alloc());
     for line in PUBLISHED.lines() {
         match line.as_bytes() {
-            [b't', b'e', b'x', b't', ..] => out.extend_from_slice(b"invalid")?,
+            [b't', b'e', b'x', b't', ..] => add(rt, &mut out, b"invalid"),
             [b's', b'e', middle @ .., last] => {
-                out.extend_from_slice(b"se")?;
-                out.extend_from_slice(middle)?;
-                out.push(changed(*last))?;
+                out.extend_from_slice(b"se").expect(rt, "memory");
+                out.extend_from_slice(middle).expect(rt, "memory");
+                add(rt, &mut out, &[changed(*last)]);
             }
-            other => out.extend_from_slice(other)?,
+            other => add(rt, &mut out, other),
         }
-        out.push(b'\n')?;
     }
-    Ok(out)
+    out
 }
 
 /// The published vectors with `invalid` in the fifth record.
-fn fifth_invalid(rt: &HostRuntime) -> Result<Vec<u8>, Fail> {
+fn fifth_invalid(rt: &(impl Abort + Alloc<A = Global>)) -> Vec<u8> {
     let mut texts = 0u32;
     let mut number = 0usize;
     for line in PUBLISHED.lines() {
@@ -65,45 +65,42 @@ fn fifth_invalid(rt: &HostRuntime) -> Result<Vec<u8>, Fail> {
 }
 
 /// The same file as one of format 2.
-fn newer(rt: &HostRuntime, file: &[u8]) -> Result<Vec<u8>, Fail> {
-    with_lines(rt, from_utf8(file)?, 1, &[b"format = 2".as_slice()])
+fn newer(rt: &(impl Abort + Alloc<A = Global>), file: &[u8]) -> Vec<u8> {
+    with_lines(
+        rt,
+        from_utf8(file).expect(rt, "text"),
+        1,
+        &[b"format = 2".as_slice()],
+    )
+}
+
+/// A file has 18 records, of which these disagree.
+fn has_18_records(rt: &(impl Abort + Alloc<A = Global>), file: &[u8], bad: &[u64]) {
+    let report = check(rt.alloc(), file).expect(rt, "a report");
+    assert_eq!(rt; report.records, 18);
+    assert_eq!(rt; report.bad.as_slice(), bad);
+    assert_eq!(rt; report.yes(), bad.is_empty());
 }
 
 #[test]
-fn published_vectors_agree_in_both_formats(rt: HostRuntime) -> Result<(), Fail> {
-    let second = newer(&rt, PUBLISHED.as_bytes())?;
-    for file in [PUBLISHED.as_bytes(), second.as_slice()] {
-        let report = check(rt.alloc(), file)?;
-        assert_eq!(rt; report.records, 18);
-        assert_eq!(rt; report.bad.as_slice(), [].as_slice());
-        assert!(rt; report.yes());
-    }
-    Ok(())
+fn published_vectors_agree_in_both_formats(rt: HostRuntime) {
+    let file = PUBLISHED.as_bytes();
+    has_18_records(&rt, file, &[]);
+    has_18_records(&rt, &newer(&rt, file), &[]);
 }
 
 #[test]
-fn changed_vectors_are_invalid_in_both_formats(rt: HostRuntime) -> Result<(), Fail> {
-    let first = changed_vectors(&rt)?;
-    let second = newer(&rt, &first)?;
-    for file in [first.as_slice(), second.as_slice()] {
-        let report = check(rt.alloc(), file)?;
-        assert_eq!(rt; report.records, 18);
-        assert!(rt; report.yes());
-    }
-    Ok(())
+fn changed_vectors_are_invalid_in_both_formats(rt: HostRuntime) {
+    let file = changed_vectors(&rt);
+    has_18_records(&rt, &file, &[]);
+    has_18_records(&rt, &newer(&rt, &file), &[]);
 }
 
 #[test]
-fn a_sealing_is_not_invalid_in_both_formats(rt: HostRuntime) -> Result<(), Fail> {
-    let first = fifth_invalid(&rt)?;
-    let second = newer(&rt, &first)?;
-    for file in [first.as_slice(), second.as_slice()] {
-        let report = check(rt.alloc(), file)?;
-        assert_eq!(rt; report.records, 18);
-        assert_eq!(rt; report.bad.as_slice(), [5].as_slice());
-        assert!(rt; !report.yes());
-    }
-    Ok(())
+fn a_sealing_is_not_invalid_in_both_formats(rt: HostRuntime) {
+    let file = fifth_invalid(&rt);
+    has_18_records(&rt, &file, &[5]);
+    has_18_records(&rt, &newer(&rt, &file), &[5]);
 }
 
 #[test]
@@ -127,7 +124,7 @@ fn suites_have_the_names_of_the_ciphers(rt: HostRuntime) {
 }
 
 #[test]
-fn faults_print_their_names_and_lines(rt: HostRuntime) -> Result<(), Fail> {
+fn faults_print_their_names_and_lines(rt: HostRuntime) {
     for (fault, text) in [
         (VectorFault::BadFormat(2), "BadFormat at line 2"),
         (VectorFault::BadLine(4), "BadLine at line 4"),
@@ -140,7 +137,7 @@ fn faults_print_their_names_and_lines(rt: HostRuntime) -> Result<(), Fail> {
         (VectorFault::Unfinished(13), "Unfinished at line 13"),
         (VectorFault::OutOfMemory, "OutOfMemory"),
     ] {
-        assert_eq!(rt; format!(in rt.alloc(); "{fault}")?.as_str(), text);
+        let printed = format!(in rt.alloc(); "{fault}").expect(&rt, "memory");
+        assert_eq!(rt; printed.as_str(), text);
     }
-    Ok(())
 }

@@ -1,8 +1,9 @@
 // Format 2: cuts, and key wrapping with padding.
 use super::files::*;
 use crate::fault::VectorFault::*;
+use std::alloc::Global;
+use std::process::Abort;
 use std::str::from_utf8;
-use std::test::Fail;
 
 pub const FORMAT_2: &str = "format = 2
 suite = aes-128-gcm-siv
@@ -19,7 +20,7 @@ text = 466f7250617369
 ";
 
 /// The answer for that file with these lines in the place of one line.
-fn changed(rt: &HostRuntime, number: usize, lines: &[&[u8]]) -> Result<Answer, Fail> {
+fn changed(rt: &(impl Abort + Alloc<A = Global>), number: usize, lines: &[&[u8]]) -> Answer {
     replaced(rt, FORMAT_2, number, lines)
 }
 
@@ -29,36 +30,33 @@ fn a_file_of_format_2_agrees(rt: HostRuntime) {
 }
 
 #[test]
-fn format_1_knows_no_cuts(rt: HostRuntime) -> Result<(), Fail> {
+fn format_1_knows_no_cuts(rt: HostRuntime) {
     assert_eq!(rt;
-        changed(&rt, 1, &[b"format = 1".as_slice()])?,
+        changed(&rt, 1, &[b"format = 1".as_slice()]),
         Err(WrongName(7))
     );
-    Ok(())
 }
 
 #[test]
-fn format_1_knows_no_padding(rt: HostRuntime) -> Result<(), Fail> {
-    let file = with_lines(&rt, FORMAT_2, 7, &[])?;
+fn format_1_knows_no_padding(rt: HostRuntime) {
+    let file = with_lines(&rt, FORMAT_2, 7, &[]);
     let line = b"format = 1".as_slice();
     assert_eq!(rt;
-        replaced(&rt, from_utf8(&file)?, 1, &[line])?,
+        replaced(&rt, from_utf8(&file).expect(&rt, "text"), 1, &[line]),
         Err(UnknownSuite(8))
     );
-    Ok(())
 }
 
 #[test]
-fn there_is_no_format_3(rt: HostRuntime) -> Result<(), Fail> {
+fn there_is_no_format_3(rt: HostRuntime) {
     assert_eq!(rt;
-        changed(&rt, 1, &[b"format = 3".as_slice()])?,
+        changed(&rt, 1, &[b"format = 3".as_slice()]),
         Err(BadFormat(1))
     );
-    Ok(())
 }
 
 #[test]
-fn values_that_are_no_cuts(rt: HostRuntime) -> Result<(), Fail> {
+fn values_that_are_no_cuts(rt: HostRuntime) {
     for value in [
         "cuts = ",
         "cuts = 0",
@@ -74,109 +72,94 @@ fn values_that_are_no_cuts(rt: HostRuntime) -> Result<(), Fail> {
         "cuts = 18446744073709551619",
     ] {
         assert_eq!(rt;
-            changed(&rt, 7, &[value.as_bytes()])?,
+            changed(&rt, 7, &[value.as_bytes()]),
             Err(BadCuts(7)),
             "{value}"
         );
     }
-    Ok(())
 }
 
 #[test]
-fn values_that_are_cuts(rt: HostRuntime) -> Result<(), Fail> {
+fn values_that_are_cuts(rt: HostRuntime) {
     for value in ["cuts = 8", "cuts=1,2,3,4,5,6,7,8", "cuts =   1"] {
-        assert_eq!(rt;
-            changed(&rt, 7, &[value.as_bytes()])?,
-            Ok((2, 0)),
-            "{value}"
-        );
+        assert_eq!(rt; changed(&rt, 7, &[value.as_bytes()]), Ok((2, 0)), "{value}");
     }
-    Ok(())
 }
 
 #[test]
-fn invalid_behind_cuts(rt: HostRuntime) -> Result<(), Fail> {
-    assert_eq!(rt; changed(&rt, 8, &[b"invalid".as_slice()])?, Err(BadLine(8)));
-    Ok(())
+fn invalid_behind_cuts(rt: HostRuntime) {
+    assert_eq!(rt; changed(&rt, 8, &[b"invalid".as_slice()]), Err(BadLine(8)));
 }
 
 #[test]
-fn cuts_behind_cuts(rt: HostRuntime) -> Result<(), Fail> {
+fn cuts_behind_cuts(rt: HostRuntime) {
     let line = b"cuts = 3,8".as_slice();
-    assert_eq!(rt; changed(&rt, 7, &[line, line])?, Err(WrongName(8)));
-    Ok(())
+    assert_eq!(rt; changed(&rt, 7, &[line, line]), Err(WrongName(8)));
 }
 
 #[test]
-fn another_text_behind_cuts_disagrees(rt: HostRuntime) -> Result<(), Fail> {
+fn another_text_behind_cuts_disagrees(rt: HostRuntime) {
     assert_eq!(rt;
-        changed(&rt, 8, &[b"text = 01000000000000".as_slice()])?,
+        changed(&rt, 8, &[b"text = 01000000000000".as_slice()]),
         Ok((2, 1))
     );
-    Ok(())
 }
 
 #[test]
-fn a_sealing_is_not_invalid_without_cuts(rt: HostRuntime) -> Result<(), Fail> {
-    let file = with_lines(&rt, FORMAT_2, 7, &[])?;
+fn a_sealing_is_not_invalid_without_cuts(rt: HostRuntime) {
+    let file = with_lines(&rt, FORMAT_2, 7, &[]);
     let line = b"invalid".as_slice();
-    assert_eq!(rt; replaced(&rt, from_utf8(&file)?, 7, &[line])?, Ok((2, 1)));
-    Ok(())
+    assert_eq!(rt;
+        replaced(&rt, from_utf8(&file).expect(&rt, "text"), 7, &[line]),
+        Ok((2, 1))
+    );
 }
 
 #[test]
-fn cuts_in_a_record_of_key_wrapping(rt: HostRuntime) -> Result<(), Fail> {
+fn cuts_in_a_record_of_key_wrapping(rt: HostRuntime) {
     let text = b"text = 466f7250617369".as_slice();
     assert_eq!(rt;
-        changed(&rt, 12, &[b"cuts = 1".as_slice(), text])?,
+        changed(&rt, 12, &[b"cuts = 1".as_slice(), text]),
         Err(WrongName(12))
     );
-    Ok(())
 }
 
 #[test]
-fn cut_behind_cuts_is_unfinished_there(rt: HostRuntime) -> Result<(), Fail> {
+fn cut_behind_cuts_is_unfinished_there(rt: HostRuntime) {
     for feed in [true, false] {
         assert_eq!(rt;
-            cut_behind(&rt, FORMAT_2, 7, feed)?,
+            cut_behind(&rt, FORMAT_2, 7, feed),
             Err(Unfinished(7)),
             "{feed}"
         );
     }
-    Ok(())
 }
 
 #[test]
-fn an_empty_text_has_no_cuts(rt: HostRuntime) -> Result<(), Fail> {
+fn an_empty_text_has_no_cuts(rt: HostRuntime) {
     let older = with_lines(
         &rt,
         TWO_RECORDS,
         8,
         &[b"cuts = 1".as_slice(), b"text =".as_slice()],
-    )?;
+    );
     let line = b"format = 2".as_slice();
     assert_eq!(rt;
-        replaced(&rt, from_utf8(&older)?, 2, &[line])?,
+        replaced(&rt, from_utf8(&older).expect(&rt, "text"), 2, &[line]),
         Err(BadCuts(8))
     );
-    Ok(())
 }
 
 #[test]
-fn other_lines_in_the_place_of_cuts(rt: HostRuntime) -> Result<(), Fail> {
-    assert_eq!(rt; changed(&rt, 7, &[])?, Ok((2, 0)));
-    assert_eq!(rt;
-        changed(&rt, 7, &[b"iv = 3".as_slice()])?,
-        Err(WrongName(7))
-    );
-    assert_eq!(rt; changed(&rt, 7, &[b"text = 0".as_slice()])?, Err(BadHex(7)));
-    assert_eq!(rt; changed(&rt, 8, &[b"".as_slice()])?, Err(BadLine(8)));
-    Ok(())
+fn other_lines_in_the_place_of_cuts(rt: HostRuntime) {
+    assert_eq!(rt; changed(&rt, 7, &[]), Ok((2, 0)));
+    assert_eq!(rt; changed(&rt, 7, &[b"iv = 3".as_slice()]), Err(WrongName(7)));
+    assert_eq!(rt; changed(&rt, 7, &[b"text = 0".as_slice()]), Err(BadHex(7)));
+    assert_eq!(rt; changed(&rt, 8, &[b"".as_slice()]), Err(BadLine(8)));
 }
 
 #[test]
-fn a_padding_is_part_of_no_text(rt: HostRuntime) -> Result<(), Fail> {
+fn a_padding_is_part_of_no_text(rt: HostRuntime) {
     let line = b"text = 466f725061736900".as_slice();
-    assert_eq!(rt; changed(&rt, 12, &[line])?, Ok((2, 1)));
-    Ok(())
+    assert_eq!(rt; changed(&rt, 12, &[line]), Ok((2, 1)));
 }

@@ -1,7 +1,8 @@
 // Files made of others for tests, and their answers.
 use crate::fault::VectorFault;
 use crate::reading::check;
-use std::test::Fail;
+use std::alloc::Global;
+use std::process::Abort;
 
 /// Two records: a published vector of GCM, and the same with another last byte.
 pub const TWO_RECORDS: &str = "# two records
@@ -25,61 +26,71 @@ invalid
 pub type Answer = Result<(u64, usize), VectorFault>;
 
 /// The answer for a file.
-pub fn answer(rt: &HostRuntime, file: &[u8]) -> Answer {
-    let report = check(rt.alloc(), file)?;
-    Ok((report.records, report.bad.len()))
+pub fn answer(rt: &(impl Abort + Alloc<A = Global>), file: &[u8]) -> Answer {
+    match check(rt.alloc(), file) {
+        Ok(report) => Ok((report.records, report.bad.len())),
+        Err(fault) => Err(fault),
+    }
+}
+
+/// Adds a line and its LF.
+pub fn add(rt: &(impl Abort + Alloc<A = Global>), file: &mut Vec<u8>, line: &[u8]) {
+    file.extend_from_slice(line).expect(rt, "memory");
+    file.push(b'\n').expect(rt, "memory");
 }
 
 /// A file whose lines are these bytes, and a LF behind each.
 pub fn with_lines(
-    rt: &HostRuntime,
+    rt: &(impl Abort + Alloc<A = Global>),
     file: &str,
     number: usize,
     lines: &[&[u8]],
-) -> Result<Vec<u8>, Fail> {
+) -> Vec<u8> {
     let mut out = Vec::new(rt.alloc());
     for (i, old) in file.lines().enumerate() {
         if i != number.saturating_sub(1) {
-            out.extend_from_slice(old.as_bytes())?;
-            out.push(b'\n')?;
+            add(rt, &mut out, old.as_bytes());
             continue;
         }
         for line in lines {
-            out.extend_from_slice(*line)?;
-            out.push(b'\n')?;
+            add(rt, &mut out, line);
         }
     }
-    Ok(out)
+    out
 }
 
 /// The answer for a file with these lines in the place of one line.
 pub fn replaced(
-    rt: &HostRuntime,
+    rt: &(impl Abort + Alloc<A = Global>),
     file: &str,
     number: usize,
     lines: &[&[u8]],
-) -> Result<Answer, Fail> {
-    let changed = with_lines(rt, file, number, lines)?;
-    Ok(answer(rt, &changed))
+) -> Answer {
+    let changed = with_lines(rt, file, number, lines);
+    answer(rt, &changed)
 }
 
 /// The first lines of a file, with their LFs.
-pub fn first_lines(rt: &HostRuntime, file: &str, count: usize) -> Result<Vec<u8>, Fail> {
+pub fn first_lines(rt: &(impl Abort + Alloc<A = Global>), file: &str, count: usize) -> Vec<u8> {
     let mut out = Vec::new(rt.alloc());
     for line in file.lines().take(count) {
-        out.extend_from_slice(line.as_bytes())?;
-        out.push(b'\n')?;
+        add(rt, &mut out, line.as_bytes());
     }
-    Ok(out)
+    out
 }
 
 /// The answer for a file cut behind a line: with the line's LF, or without it.
-pub fn cut_behind(rt: &HostRuntime, file: &str, count: usize, feed: bool) -> Result<Answer, Fail> {
-    let mut kept = first_lines(rt, file, count)?;
+pub fn cut_behind(
+    rt: &(impl Abort + Alloc<A = Global>),
+    file: &str,
+    count: usize,
+    feed: bool,
+) -> Answer {
+    let mut kept = first_lines(rt, file, count);
     if !feed {
         let _ = kept.pop();
     }
-    Ok(answer(rt, &kept))
+    answer(rt, &kept)
 }
 
 /// A line of a file.
@@ -94,14 +105,14 @@ pub fn line_of(file: &str, number: usize) -> &[u8] {
 
 /// The answer for a file cut inside a line, of which these bytes are kept.
 pub fn cut_inside(
-    rt: &HostRuntime,
+    rt: &(impl Abort + Alloc<A = Global>),
     file: &str,
     number: usize,
     part: &[u8],
-) -> Result<Answer, Fail> {
-    let mut kept = first_lines(rt, file, number.saturating_sub(1))?;
-    kept.extend_from_slice(part)?;
-    Ok(answer(rt, &kept))
+) -> Answer {
+    let mut kept = first_lines(rt, file, number.saturating_sub(1));
+    kept.extend_from_slice(part).expect(rt, "memory");
+    answer(rt, &kept)
 }
 
 /// How many bytes stand behind the `= ` of a line, where its `=` is there.

@@ -1,5 +1,5 @@
 // Each request for memory is refused in turn, and the answer is `OutOfMemory` each time.
-use super::files::TWO_RECORDS;
+use super::files::{TWO_RECORDS, add};
 use crate::fault::VectorFault;
 use crate::reading::check;
 use crate::report::Report;
@@ -7,9 +7,8 @@ use aead::{AnyAead, seal};
 use aes::AesKey;
 use keywrap::wrap_padded;
 use octets::{Nonce, RefusingMemory};
-use std::alloc::{AllocError, Allocator, Global};
+use std::alloc::{Allocator, Global};
 use std::process::Abort;
-use std::test::Fail;
 
 /// A record with associated data, one of each kind of key wrapping, and one that disagrees.
 const GROWING: &str = "format = 2
@@ -87,66 +86,67 @@ fn requests(
 }
 
 /// Adds a value line.
-fn add_line(file: &mut Vec<u8>, name: &str, value: &str) -> Result<(), AllocError> {
-    file.extend_from_slice(name.as_bytes())?;
-    file.extend_from_slice(b" = ")?;
-    file.extend_from_slice(value.as_bytes())?;
-    file.push(b'\n')?;
-    Ok(())
+fn add_line(rt: &(impl Abort + Alloc<A = Global>), file: &mut Vec<u8>, name: &str, value: &str) {
+    file.extend_from_slice(name.as_bytes()).expect(rt, "memory");
+    file.extend_from_slice(b" = ").expect(rt, "memory");
+    add(rt, file, value.as_bytes());
 }
 
 /// Adds a value line with the digits of some bytes.
-fn add_digits(
-    file: &mut Vec<u8>,
-    alloc: Global,
-    name: &str,
-    bytes: &[u8],
-) -> Result<(), AllocError> {
-    let digits = hex::encode(alloc, bytes)?;
-    add_line(file, name, &digits)
+fn add_digits(rt: &(impl Abort + Alloc<A = Global>), file: &mut Vec<u8>, name: &str, bytes: &[u8]) {
+    let digits = hex::encode(rt.alloc(), bytes).expect(rt, "memory");
+    add_line(rt, file, name, &digits);
 }
 
-/// A file of two large records with a text of so many bytes: a sealing of it, with as much associated
-/// data, and its wrapping with padding.
-fn large_file(alloc: Global, length: usize) -> Result<Vec<u8>, Fail> {
+/// Adds a record of a sealing of a text, with as much associated data.
+fn add_sealing(rt: &(impl Abort + Alloc<A = Global>), file: &mut Vec<u8>, text: &[u8]) {
     let key = [7u8; 16];
-    let nonce = Nonce::from_slice(&[3; 12])?;
-    let text = vec![in alloc; 5u8; length]?;
-    let cipher = AnyAead::new(aead::Suite::Aes128GcmSiv, &key)?;
-    let sealed = seal(alloc, &cipher, &nonce, &text, &text)?;
-    let wrapped = wrap_padded(alloc, &AesKey::from_slice(&key)?, &text)?;
-    let mut file = Vec::new(alloc);
-    add_line(&mut file, "format", "2")?;
-    add_line(&mut file, "suite", "aes-128-gcm-siv")?;
-    add_digits(&mut file, alloc, "key", &key)?;
-    add_digits(&mut file, alloc, "nonce", &[3; 12])?;
-    add_digits(&mut file, alloc, "aad", &text)?;
-    add_digits(&mut file, alloc, "sealed", &sealed)?;
-    add_digits(&mut file, alloc, "text", &text)?;
-    add_line(&mut file, "suite", "aes-128-wrap-pad")?;
-    add_digits(&mut file, alloc, "key", &key)?;
-    add_digits(&mut file, alloc, "sealed", &wrapped)?;
-    add_digits(&mut file, alloc, "text", &text)?;
-    Ok(file)
+    let nonce = Nonce::from_slice(&[3; 12]).expect(rt, "a nonce");
+    let cipher = AnyAead::new(aead::Suite::Aes128GcmSiv, &key).expect(rt, "a key");
+    let sealed = seal(rt.alloc(), &cipher, &nonce, text, text).expect(rt, "a sealing");
+    add_line(rt, file, "suite", "aes-128-gcm-siv");
+    add_digits(rt, file, "key", &key);
+    add_digits(rt, file, "nonce", &[3; 12]);
+    add_digits(rt, file, "aad", text);
+    add_digits(rt, file, "sealed", &sealed);
+    add_digits(rt, file, "text", text);
+}
+
+/// Adds a record of the wrapping of a text with padding.
+fn add_wrapping(rt: &(impl Abort + Alloc<A = Global>), file: &mut Vec<u8>, text: &[u8]) {
+    let bytes = [7u8; 16];
+    let key = AesKey::from_slice(&bytes).expect(rt, "a key");
+    let wrapped = wrap_padded(rt.alloc(), &key, text).expect(rt, "a wrapping");
+    add_line(rt, file, "suite", "aes-128-wrap-pad");
+    add_digits(rt, file, "key", &bytes);
+    add_digits(rt, file, "sealed", &wrapped);
+    add_digits(rt, file, "text", text);
+}
+
+/// A file of two large records with a text of so many bytes.
+fn large_file(rt: &(impl Abort + Alloc<A = Global>), length: usize) -> Vec<u8> {
+    let text = vec![in rt.alloc(); 5u8; length].expect(rt, "memory");
+    let mut file = Vec::new(rt.alloc());
+    add_line(rt, &mut file, "format", "2");
+    add_sealing(rt, &mut file, &text);
+    add_wrapping(rt, &mut file, &text);
+    file
 }
 
 #[test]
-fn each_refused_growth_is_out_of_memory(rt: HostRuntime) -> Result<(), Fail> {
+fn each_refused_growth_is_out_of_memory(rt: HostRuntime) {
     assert_eq!(rt; requests(&rt, GROWING.as_bytes(), 4, &[4]), Some(3));
-    Ok(())
 }
 
 #[test]
-fn refused_growths_at_wrappings_with_padding(rt: HostRuntime) -> Result<(), Fail> {
+fn refused_growths_at_wrappings_with_padding(rt: HostRuntime) {
     assert_eq!(rt; requests(&rt, PADDED.as_bytes(), 3, &[3]), Some(4));
-    Ok(())
 }
 
 #[test]
-fn large_records_take_no_memory(rt: HostRuntime) -> Result<(), Fail> {
-    let file = large_file(rt.alloc(), 70_000)?;
+fn large_records_take_no_memory(rt: HostRuntime) {
+    let file = large_file(&rt, 70_000);
     assert_eq!(rt; requests(&rt, &file, 2, &[]), Some(0));
-    Ok(())
 }
 
 #[test]
@@ -165,10 +165,9 @@ fn a_check_that_always_gives_up_is_caught(rt: HostRuntime) {
 }
 
 #[test]
-fn a_bad_record_for_a_want_of_memory_is_caught(rt: HostRuntime) -> Result<(), Fail> {
+fn a_bad_record_for_a_want_of_memory_is_caught(rt: HostRuntime) {
     let mut bad = Vec::new(rt.alloc());
-    bad.push(1)?;
+    bad.push(1).expect(&rt, "memory");
     let answer = Ok(Report { records: 2, bad });
     assert!(rt; !is_due(answer, 2, &[], true));
-    Ok(())
 }

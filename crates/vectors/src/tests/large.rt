@@ -1,34 +1,41 @@
 // Records of key wrapping that are too large for a room: they are judged by semiblocks.
+use super::files::add;
 use crate::reading::check;
 use aes::AesKey;
 use keywrap::{wrap, wrap_padded};
-use std::alloc::{AllocError, Global};
-use std::test::Fail;
+use std::alloc::Global;
+use std::process::Abort;
 
 /// More bytes than are judged in a room, and whole semiblocks.
 const LENGTH: usize = 16_400;
 
+/// Adds some text and the digits of some bytes.
+fn add_digits(
+    rt: &(impl Abort + Alloc<A = Global>),
+    file: &mut Vec<u8>,
+    name: &[u8],
+    bytes: &[u8],
+) {
+    let digits = hex::encode(rt.alloc(), bytes).expect(rt, "memory");
+    file.extend_from_slice(name).expect(rt, "memory");
+    add(rt, file, digits.as_bytes());
+}
+
 /// Adds a record of key wrapping under a key of zeros: with a text, or `invalid`.
 fn add_record(
+    rt: &(impl Abort + Alloc<A = Global>),
     file: &mut Vec<u8>,
-    alloc: Global,
-    suite: &str,
+    suite: &[u8],
     sealed: &[u8],
     text: Option<&[u8]>,
-) -> Result<(), AllocError> {
-    file.extend_from_slice(b"suite = ")?;
-    file.extend_from_slice(suite.as_bytes())?;
-    file.extend_from_slice(b"\nkey = 00000000000000000000000000000000\nsealed = ")?;
-    file.extend_from_slice(hex::encode(alloc, sealed)?.as_bytes())?;
+) {
+    add(rt, file, suite);
+    add(rt, file, b"key = 00000000000000000000000000000000");
+    add_digits(rt, file, b"sealed = ", sealed);
     match text {
-        Some(text) => {
-            file.extend_from_slice(b"\ntext = ")?;
-            file.extend_from_slice(hex::encode(alloc, text)?.as_bytes())?;
-        }
-        None => file.extend_from_slice(b"\ninvalid")?,
+        Some(text) => add_digits(rt, file, b"text = ", text),
+        None => add(rt, file, b"invalid"),
     }
-    file.push(b'\n')?;
-    Ok(())
 }
 
 /// Changes a bit of the byte at a place.
@@ -38,44 +45,39 @@ fn change(bytes: &mut [u8], place: usize) {
     }
 }
 
-/// The numbers of the records that disagree: of a wrapping with its text, the same as `invalid`, the same
-/// with a changed text, and changed bytes as `invalid`.
-fn four(
-    rt: &HostRuntime,
-    suite: &str,
+/// Of a wrapping with its text, the same as `invalid`, the same with a changed text, and changed bytes as
+/// `invalid`, the second and the third disagree.
+fn second_and_third_disagree(
+    rt: &(impl Abort + Alloc<A = Global>),
+    suite: &[u8],
     wrapped: &mut [u8],
     text: &mut [u8],
-) -> Result<(u64, Vec<u64>), Fail> {
+) {
     let mut file = Vec::new(rt.alloc());
-    file.extend_from_slice(b"format = 2\n")?;
-    add_record(&mut file, rt.alloc(), suite, wrapped, Some(text))?;
-    add_record(&mut file, rt.alloc(), suite, wrapped, None)?;
+    add(rt, &mut file, b"format = 2");
+    add_record(rt, &mut file, suite, wrapped, Some(text));
+    add_record(rt, &mut file, suite, wrapped, None);
     change(text, 9_000);
-    add_record(&mut file, rt.alloc(), suite, wrapped, Some(text))?;
+    add_record(rt, &mut file, suite, wrapped, Some(text));
     change(wrapped, 12_000);
-    add_record(&mut file, rt.alloc(), suite, wrapped, None)?;
-    let report = check(rt.alloc(), &file)?;
-    Ok((report.records, report.bad))
+    add_record(rt, &mut file, suite, wrapped, None);
+    let report = check(rt.alloc(), &file).expect(rt, "a report");
+    assert_eq!(rt; report.records, 4);
+    assert_eq!(rt; report.bad.as_slice(), [2, 3].as_slice());
 }
 
 #[test]
-fn large_wrappings(rt: HostRuntime) -> Result<(), Fail> {
-    let key = AesKey::from_slice(&[0; 16])?;
-    let mut text = vec![in rt.alloc(); 7u8; LENGTH]?;
-    let mut wrapped = wrap(rt.alloc(), &key, &text)?;
-    let (records, bad) = four(&rt, "aes-128-wrap", &mut wrapped, &mut text)?;
-    assert_eq!(rt; records, 4);
-    assert_eq!(rt; bad.as_slice(), [2, 3].as_slice());
-    Ok(())
+fn large_wrappings(rt: HostRuntime) {
+    let key = AesKey::from_slice(&[0; 16]).expect(&rt, "a key");
+    let mut text = vec![in rt.alloc(); 7u8; LENGTH].expect(&rt, "memory");
+    let mut wrapped = wrap(rt.alloc(), &key, &text).expect(&rt, "a wrapping");
+    second_and_third_disagree(&rt, b"suite = aes-128-wrap", &mut wrapped, &mut text);
 }
 
 #[test]
-fn large_wrappings_with_padding(rt: HostRuntime) -> Result<(), Fail> {
-    let key = AesKey::from_slice(&[0; 16])?;
-    let mut text = vec![in rt.alloc(); 7u8; LENGTH + 3]?;
-    let mut wrapped = wrap_padded(rt.alloc(), &key, &text)?;
-    let (records, bad) = four(&rt, "aes-128-wrap-pad", &mut wrapped, &mut text)?;
-    assert_eq!(rt; records, 4);
-    assert_eq!(rt; bad.as_slice(), [2, 3].as_slice());
-    Ok(())
+fn large_wrappings_with_padding(rt: HostRuntime) {
+    let key = AesKey::from_slice(&[0; 16]).expect(&rt, "a key");
+    let mut text = vec![in rt.alloc(); 7u8; LENGTH + 3].expect(&rt, "memory");
+    let mut wrapped = wrap_padded(rt.alloc(), &key, &text).expect(&rt, "a wrapping");
+    second_and_third_disagree(&rt, b"suite = aes-128-wrap-pad", &mut wrapped, &mut text);
 }

@@ -3,7 +3,6 @@ use super::files::*;
 use crate::fault::VectorFault::*;
 use crate::reading::check;
 use std::str::from_utf8;
-use std::test::Fail;
 
 const ODD_DIGITS: &str = "format = 1
 suite = aes-128-gcm
@@ -27,71 +26,75 @@ fn two_records_agree(rt: HostRuntime) {
 }
 
 #[test]
-fn exchanged_ends_disagree(rt: HostRuntime) -> Result<(), Fail> {
-    let text = with_lines(&rt, TWO_RECORDS, 15, &[b"text =".as_slice()])?;
-    let exchanged = with_lines(&rt, from_utf8(&text)?, 8, &[b"invalid".as_slice()])?;
-    let report = check(rt.alloc(), &exchanged)?;
+fn exchanged_ends_disagree(rt: HostRuntime) {
+    let text = with_lines(&rt, TWO_RECORDS, 15, &[b"text =".as_slice()]);
+    let exchanged = with_lines(
+        &rt,
+        from_utf8(&text).expect(&rt, "text"),
+        8,
+        &[b"invalid".as_slice()],
+    );
+    let report = check(rt.alloc(), &exchanged).expect(&rt, "a report");
     assert_eq!(rt; report.records, 2);
     assert_eq!(rt; report.bad.as_slice(), [1, 2].as_slice());
     assert!(rt; !report.yes());
-    Ok(())
 }
 
 #[test]
-fn a_blank_line_inside_a_record(rt: HostRuntime) -> Result<(), Fail> {
-    let shorter = with_lines(&rt, TWO_RECORDS, 9, &[])?;
+fn a_blank_line_inside_a_record(rt: HostRuntime) {
+    let shorter = with_lines(&rt, TWO_RECORDS, 9, &[]);
     let nonce = b"nonce = 000000000000000000000000".as_slice();
     assert_eq!(rt;
-        replaced(&rt, from_utf8(&shorter)?, 5, &[nonce, b"".as_slice()])?,
+        replaced(
+            &rt,
+            from_utf8(&shorter).expect(&rt, "text"),
+            5,
+            &[nonce, b"".as_slice()]
+        ),
         Err(BadLine(6))
     );
-    Ok(())
 }
 
 #[test]
-fn a_suite_of_no_format(rt: HostRuntime) -> Result<(), Fail> {
+fn a_suite_of_no_format(rt: HostRuntime) {
     let line = b"suite = aes-128-ccm".as_slice();
     assert_eq!(rt;
-        replaced(&rt, TWO_RECORDS, 3, &[line])?,
+        replaced(&rt, TWO_RECORDS, 3, &[line]),
         Err(UnknownSuite(3))
     );
-    Ok(())
 }
 
 #[test]
-fn another_name_for_the_nonce(rt: HostRuntime) -> Result<(), Fail> {
+fn another_name_for_the_nonce(rt: HostRuntime) {
     let line = b"iv = 000000000000000000000000".as_slice();
-    assert_eq!(rt; replaced(&rt, TWO_RECORDS, 5, &[line])?, Err(WrongName(5)));
-    Ok(())
+    assert_eq!(rt; replaced(&rt, TWO_RECORDS, 5, &[line]), Err(WrongName(5)));
 }
 
 #[test]
-fn a_nonce_of_13_bytes(rt: HostRuntime) -> Result<(), Fail> {
+fn a_nonce_of_13_bytes(rt: HostRuntime) {
     let line = b"nonce = 00000000000000000000000000".as_slice();
-    assert_eq!(rt; replaced(&rt, TWO_RECORDS, 5, &[line])?, Err(BadLength(5)));
-    Ok(())
+    assert_eq!(rt; replaced(&rt, TWO_RECORDS, 5, &[line]), Err(BadLength(5)));
 }
 
 #[test]
-fn no_format_line(rt: HostRuntime) -> Result<(), Fail> {
-    assert_eq!(rt; replaced(&rt, TWO_RECORDS, 2, &[])?, Err(BadFormat(2)));
-    Ok(())
+fn no_format_line(rt: HostRuntime) {
+    assert_eq!(rt; replaced(&rt, TWO_RECORDS, 2, &[]), Err(BadFormat(2)));
 }
 
 #[test]
-fn carriage_returns_at_each_end(rt: HostRuntime) -> Result<(), Fail> {
+fn carriage_returns_at_each_end(rt: HostRuntime) {
     let mut returns = Vec::new(rt.alloc());
     for line in TWO_RECORDS.lines() {
-        returns.extend_from_slice(line.as_bytes())?;
-        returns.extend_from_slice(b"\r\n")?;
+        returns
+            .extend_from_slice(line.as_bytes())
+            .expect(&rt, "memory");
+        returns.extend_from_slice(b"\r\n").expect(&rt, "memory");
     }
     assert_eq!(rt; answer(&rt, &returns), Ok((2, 0)));
-    Ok(())
 }
 
 #[test]
-fn no_line_feed_at_the_end(rt: HostRuntime) -> Result<(), Fail> {
-    let found = cut_inside(&rt, TWO_RECORDS, 15, b"invalid")?;
+fn no_line_feed_at_the_end(rt: HostRuntime) {
+    let found = cut_inside(&rt, TWO_RECORDS, 15, b"invalid");
     assert_eq!(rt; found, Ok((2, 0)));
-    Ok(())
 }
