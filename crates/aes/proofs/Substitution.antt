@@ -23,7 +23,8 @@ looked {g = g} {h = h} table v look places other is_look is_sum p o =
 
 -- the sum of the nibbles
 pub sum_is : (x : List ℕ) {low high both : List ℕ} → HasLanes low (λ k. get_or x k 0 % 16)
-    → HasLanes high (λ k. get_or x k 0 / 16) → IsSum both low high → HasLanes both (λ k. both_at (get_or x k 0))
+    → HasLanes high (λ k. get_or x k 0 / 16) → IsSum both low high
+    → HasLanes both (λ k. both_at (get_or x k 0))
 sum_is x {low = low} {high = high} {both = both} l h s =
     via_two bit_xor (λ k. get_or x k 0 % 16) (λ k. get_or x k 0 / 16) both low high s l h
 

@@ -1,7 +1,8 @@
 -- Whether bytes are a wrapping, by what the passes tell.
 use Rattle.std.proofs.Common.{◌≡◌, ◌≢◌, ℕ, zero, suc, ◌+◌, ◌-◌, ◌*◌, ◌/◌, ◌%◌, ◌^◌, ◌<◌, ◌≤◌, ◌⊎◌, Bool, true}
-use Rattle.std.proofs.Common.{false, not, List, [], ◌∷◌, ◌++◌, take, drop, length, replicate, refl, sym, ap, ap₂}
-use Rattle.std.proofs.Common.{◌∙◌, subst, arith, inl, inr, length-append, length-drop, take_all, true≢false, min}
+use Rattle.std.proofs.Common.{false, not, List, [], ◌∷◌, ◌++◌, take, drop, length, replicate, refl, sym, ap}
+use Rattle.std.proofs.Common.{ap₂, ◌∙◌, subst, arith, inl, inr, length-append, length-drop, take_all}
+use Rattle.std.proofs.Common.{true≢false, min}
 use Rattle.std.specs.Prelude.{◌↔◌, ◌==◌, IsTrue}
 use Rattle.std.specs.List.{list_all}
 use Rattle.std.proofs.lemmas.List.{take-append-drop, take-append-le, drop-append-le, append-nil, drop-drop}
@@ -41,7 +42,8 @@ pub is_longer : (key wrapped text : List ℕ) → Unwrapped key wrapped text →
 is_longer key wrapped text u =
     let start : length (initial_value ++ text) ≡ 8 + length text = length-append initial_value text in
     let least = u.length_is.least in
-    ap length u.is ∙ steps_length key (initial_value ++ text) (6 * (length text / 8)) (omega (arith, start, least))
+    ap length u.is
+    ∙ steps_length key (initial_value ++ text) (6 * (length text / 8)) (omega (arith, start, least))
     ∙ start
 
 -- the wrapped bytes hold no text exactly where another A stands before the first step

@@ -15,13 +15,15 @@ use Rattle.keywrap.proofs.Texts.{steps_length}
 use Rattle.keywrap.proofs.Windows.{first_made, next_made, taken, length_first, window, same_semiblocks}
 
 -- a block of the text was taken through the rounds before one: what it is now, and A of the rounds
-pub record Through (key s : List ℕ) (n rounds round i : ℕ) (firsts : List (List ℕ)) (made : List ℕ) : Type 0 where
+pub record Through (key s : List ℕ) (n rounds round i : ℕ) (firsts : List (List ℕ))
+    (made : List ℕ) : Type 0 where
   pub earlier : AreFirsts key s n 0 round (i + 1) firsts
   pub later : AreFirsts key s n round rounds i firsts
   pub made_is : made ≡ next_after key s (n * round + i)
 
 -- a wrapped block was taken back through the rounds from one on
-pub record Back (key s : List ℕ) (n least round i : ℕ) (firsts : List (List ℕ)) (block : List ℕ) : Type 0 where
+pub record Back (key s : List ℕ) (n least round i : ℕ) (firsts : List (List ℕ))
+    (block : List ℕ) : Type 0 where
   pub earlier : AreFirsts key s n least round (i + 1) firsts
   pub later : AreFirsts key s n round 6 i firsts
   pub block_is : block ≡ next_after key s (n * round + i)
@@ -54,7 +56,8 @@ one_before key s n q to i firsts h e r f l = by (eq-or-lt_of_le {n = q} {m = r} 
 pub through_more : (key s : List ℕ) (n rounds q i : ℕ) (firsts : List (List ℕ)) (made first next : List ℕ)
     → length s ≡ 8 + 8 * n → i < n → q < rounds → q < length firsts
     → Through key s n rounds q i firsts made
-    → first ≡ xor_bytes (take 8 (cipher key (get_or firsts q [] ++ made))) (bytes_high_first 8 (n * q + i + 1))
+    → first
+    ≡ xor_bytes (take 8 (cipher key (get_or firsts q [] ++ made))) (bytes_high_first 8 (n * q + i + 1))
     → next ≡ drop 8 (cipher key (get_or firsts q [] ++ made))
     → Through key s n rounds (q + 1) i (set firsts q first) next
 through_more key s n rounds q i firsts made first next long place less room h e f =
@@ -69,7 +72,8 @@ through_more key s n rounds q i firsts made first next long place less room h e 
     ∙ sym (first_made key s t) ∙ ap (first_after key s) more in
     record {
       earlier = one_behind key s n 0 q (i + 1) (set firsts q first)
-          (others key s n 0 q (i + 1) q firsts first h.earlier (λ r z l is. absurd (omega (arith, l, is)))) here;
+          (others key s n 0 q (i + 1) q firsts first h.earlier (λ r z l is. absurd (omega (arith, l, is))))
+          here;
       later = others key s n (q + 1) rounds i q firsts first
           (λ r z l. h.later r (omega (arith, z)) l) (λ r z l is. absurd (omega (arith, z, is)));
       made_is = f ∙ ap (λ b. drop 8 (cipher key b)) block
@@ -104,7 +108,8 @@ pub back_more : (key s : List ℕ) (n least q i : ℕ) (firsts : List (List ℕ)
     → IsPermutation → IsKey key
     → AreBytes (8 + 8 * n) s → i < n → least ≤ q → q < length firsts
     → Back key s n least (q + 1) i firsts block
-    → cipher key (first ++ next) ≡ xor_bytes (get_or firsts q []) (bytes_high_first 8 (n * q + i + 1)) ++ block
+    → cipher key (first ++ next)
+    ≡ xor_bytes (get_or firsts q []) (bytes_high_first 8 (n * q + i + 1)) ++ block
     → IsBlock (first ++ next) → length first ≡ 8
     → Back key s n least q i (set firsts q first) next
 back_more key s n least q i firsts block first next law k b place from room h c bytes eight =
@@ -125,7 +130,8 @@ back_more key s n least q i firsts block first next law k b place from room h c 
       earlier = others key s n least q (i + 1) q firsts first
           (λ r z l. h.earlier r z (omega (arith, l))) (λ r z l is. absurd (omega (arith, l, is)));
       later = one_before key s n q 6 i (set firsts q first)
-          (others key s n (q + 1) 6 i q firsts first h.later (λ r z l is. absurd (omega (arith, z, is)))) here;
+          (others key s n (q + 1) 6 i q firsts first h.later (λ r z l is. absurd (omega (arith, z, is))))
+          here;
       block_is = same_back first (first_after key s t) next (next_after key s t) long both;
     }
 

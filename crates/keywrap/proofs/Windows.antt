@@ -150,7 +150,8 @@ unfolding first_after next_after
 taken key s t = front_two (steps key t s)
 
 -- A after one step more
-first_more : (key s : List ℕ) (t : ℕ) → first_after key s (t + 1) ≡ semiblock (step key (t + 1) (steps key t s)) 0
+first_more : (key s : List ℕ) (t : ℕ)
+    → first_after key s (t + 1) ≡ semiblock (step key (t + 1) (steps key t s)) 0
 unfolding first_after
 first_more key s t = ap (λ r. semiblock r 0) (sym (steps_more key s t))
 
@@ -176,7 +177,8 @@ next_made key s n t l some =
     ∙ ap (λ b. drop 8 (cipher key b)) (taken key s t)
 
 -- A has eight bytes
-pub length_first : (key s : List ℕ) (n t : ℕ) → length s ≡ 8 + 8 * n → 0 < n → length (first_after key s t) ≡ 8
+pub length_first : (key s : List ℕ) (n t : ℕ) → length s ≡ 8 + 8 * n → 0 < n
+    → length (first_after key s t) ≡ 8
 unfolding first_after
 length_first key s n t l some =
     length_semiblock (steps key t s) 0 (omega (arith, steps_length key s t (omega (arith, l, some)), l))

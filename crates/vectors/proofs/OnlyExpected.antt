@@ -25,7 +25,8 @@ begun_read F _ _ (faults.some_fields {suite = s} {l = l} {ms = ms} {r = r} {f = 
     record {
       place = steps.fields F (f ∷ gs) r;
       records = [];
-      read = first (steps.between F) (steps.fields F (fs ++ f ∷ gs) (unread s)) l ms (steps.fields F (f ∷ gs) r)
+      read =
+          first (steps.between F) (steps.fields F (fs ++ f ∷ gs) (unread s)) l ms (steps.fields F (f ∷ gs) r)
           []
           (suite-line F l s a ∙ ap (λ hs. Ok (steps.fields F hs (unread s), [])) order)
           (fills_read F fs (f ∷ gs) (unread s) r ms h);

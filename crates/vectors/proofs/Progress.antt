@@ -140,7 +140,8 @@ cut_off lines n p rs inside h none is =
     record {
       viable = fronts lines (p, rs) read;
       no_file = λ ss file. let same =
-          pair_is p (steps.between file.format) rs ss (sym read ∙ complete file.format lines ss file.formatted)
+          pair_is p (steps.between file.format) rs ss
+          (sym read ∙ complete file.format lines ss file.formatted)
           in file.some (sym same.1 ∙ none file.format same.0);
       expected = expected p;
       expects = expects lines (p, rs) read;

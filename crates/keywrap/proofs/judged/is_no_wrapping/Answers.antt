@@ -10,7 +10,8 @@ returns-then-not-is_wrapped_length g c = (
       let count = c.byte_count.ensures.count in
       let long = wrapped_length c.args.key.now (g.W.Semiblocks.bytes c.args.wrapped.now) text u in
       true≢false (sym (c.is_wrapped_length.ensures.1
-      (omega (arith, count, long.least), omega (arith, count, long.whole))) ∙ c.if-not-is_wrapped_length.true),
+      (omega (arith, count, long.least), omega (arith, count, long.whole)))
+      ∙ c.if-not-is_wrapped_length.true),
   λ none. refl,
 )
 

@@ -15,7 +15,8 @@ returns-then-byte_count-eq16 g c =
     let eight : length (padded text) ≡ 8 = omega (arith, long, c.requires.length) in
     let made : c.transform.new.bytes ≡ transformed c.args.key.now start =
     c.transform.ensures ∙ ap (transformed c.args.key.now) (c.joined-made.ensures
-    ∙ ap₂ (λ x y. x ++ y) (c.alternative_value-first.ensures ∙ ap alternative_value c.byte_count.ensures.count)
+    ∙ ap₂ (λ x y. x ++ y)
+    (c.alternative_value-first.ensures ∙ ap alternative_value c.byte_count.ensures.count)
     (c.semiblock.ensures ∙ one_whole (padded text) eight)) in
     let two : c.joined.result ≡ wrapped =
     c.joined.ensures ∙ ap₂ (λ x y. x ++ y) c.semiblock-then-byte_count-eq16.ensures

@@ -35,14 +35,16 @@ are_long count text wrapped some long is =
 -- the register at the beginning
 begins_long : (n : ℕ) (first text wrapped : List ℕ) → AreLong n text wrapped → length first ≡ 8
     → length (first ++ padded text) ≡ 8 + 8 * n
-begins_long n first text wrapped l eight = length-append first (padded text) ∙ omega (arith, l.text_long, eight)
+begins_long n first text wrapped l eight =
+    length-append first (padded text) ∙ omega (arith, l.text_long, eight)
 
 -- a wrapped block is the one that comes out
 comes_out : (key first text wrapped : List ℕ) (n i : ℕ) → AreLong n text wrapped → length first ≡ 8 → i < n
     → wrapped ≡ steps key (6 * (length (padded text) / 8)) (first ++ padded text)
     → next_after key (first ++ padded text) (n * 6 + i) ≡ semiblock (padded wrapped) (i + 1)
 comes_out key first text wrapped n i l eight less e =
-    next_at_last key (first ++ padded text) wrapped n (n * 6) i (begins_long n first text wrapped l eight) less
+    next_at_last key (first ++ padded text) wrapped n (n * 6) i (begins_long n first text wrapped l eight)
+    less
     (sym (e ∙ ap (λ t. steps key t (first ++ padded text)) l.rounds))
     ∙ ap (λ w. semiblock w (i + 1)) (sym (padded_whole wrapped l.whole))
 

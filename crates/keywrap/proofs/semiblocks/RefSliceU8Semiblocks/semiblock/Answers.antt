@@ -1,4 +1,5 @@
-use Rattle.std.proofs.Common.{◌≡◌, ◌-◌, ◌*◌, ℕ, List, length, take, drop, ap, ◌∙◌, arith, length-drop, take_all, min}
+use Rattle.std.proofs.Common.{◌≡◌, ◌-◌, ◌*◌, ℕ, List, length, take, drop, ap, ◌∙◌, arith, length-drop}
+use Rattle.std.proofs.Common.{take_all, min}
 use Rattle.keywrap.proofs.Judging.{filled}
 use Rattle.keywrap.proofs.semiblocks.RefSliceU8Semiblocks.semiblock.Goals as goal
 
