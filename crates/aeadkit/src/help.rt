@@ -47,7 +47,7 @@ To go on: aeadkit help open-file, docs/COMMAND.md.";
 
 pub const WRAP_MORE: &str = "It prints the wrapping as one line of lower-case hex digits.
 HEX is an even number of hex digits of either case.
-The text has a multiple of 8 bytes, at least 16 (RFC 3394), or with --pad any bytes (RFC 5649).
+The text has a multiple of 8 bytes, at least 16 (RFC 3394), or with --pad at least 1 (RFC 5649).
 
 Example:
   aeadkit wrap --key 000102030405060708090a0b0c0d0e0f --text 00112233445566778899aabbccddeeff
@@ -72,7 +72,7 @@ To go on: aeadkit help wrap, docs/COMMAND.md.";
 
 pub const SEAL_FILE_MORE: &str =
     "It prints nothing. The file OUT holds the ciphertext and then the tag of 16 bytes. It is made, or
-cut to nothing, when its first byte is given. After a status other than 0 it is to be thrown away.
+cut to nothing, when its first byte is given. If the status is then not 0, it is to be thrown away.
 IN is read once, for AES-GCM-SIV twice.
 HEX is an even number of hex digits of either case. --aad, left out, is no bytes.
 Never use a nonce twice under one key.
@@ -86,8 +86,8 @@ To go on: aeadkit help open-file, docs/COMMAND.md.";
 
 pub const OPEN_FILE_MORE: &str =
     "It prints nothing. The file OUT holds the text. It is made, or cut to nothing, when its first byte
-is given, which is after all of IN was found to be a sealing. After status 3 it is to be thrown away.
-IN is read three times.
+is given, which is after all of IN was found to be a sealing. If the status is then not 0, it is to
+be thrown away. IN is read three times.
 HEX is an even number of hex digits of either case. --aad, left out, is no bytes.
 
 Example:
