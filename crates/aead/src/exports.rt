@@ -16,7 +16,7 @@ use crate::suite::Suite;
 use aes::AesKey;
 use octets::{Fault, Key32, Nonce, Tag, outcome_number};
 
-/// The answer at C where the number of a suite is none.
+// The answer at C where the number of a suite is none.
 const UNKNOWN_SUITE: u32 = 14;
 
 // The suite of a number.
@@ -186,8 +186,8 @@ pub extern "C" fn aeadkit_open(
 mod tests {
     use super::*;
 
-    /// The sealing of sixteen zero bytes under AES-128-GCM with a zero key and nonce: test case 2 of
-    /// GCM's vectors.
+    // The sealing of sixteen zero bytes under AES-128-GCM with a zero key and nonce: test case 2 of
+    // GCM's vectors.
     const SEALED: [u8; 32] = [
         0x03, 0x88, 0xda, 0xce, 0x60, 0xb6, 0xa3, 0x92, 0xf3, 0x28, 0xc2, 0xb9, 0x71, 0xb2, 0xfe,
         0x78, 0xab, 0x6e, 0x47, 0xd4, 0x2c, 0xec, 0x13, 0xbd, 0xf5, 0x3a, 0x67, 0xb2, 0x12, 0x57,

@@ -16,7 +16,7 @@ mod sealing;
 use published::*;
 use samples::*;
 
-/// A text is sealed and opened as a vector.
+// A text is sealed and opened as a vector.
 fn is_sealed_and_opened(rt: &(impl Abort + Alloc<A = Global>), sample: &Sample) {
     let Sample {
         cipher,
@@ -31,7 +31,7 @@ fn is_sealed_and_opened(rt: &(impl Abort + Alloc<A = Global>), sample: &Sample) 
     assert_eq!(rt; back.as_slice(), *text);
 }
 
-/// A text is sealed and opened where it stands.
+// A text is sealed and opened where it stands.
 fn is_sealed_and_opened_in_place(rt: &(impl Abort + Alloc<A = Global>), sample: &Sample) {
     let Sample {
         cipher,
@@ -51,7 +51,7 @@ fn is_sealed_and_opened_in_place(rt: &(impl Abort + Alloc<A = Global>), sample: 
     assert_eq!(rt; bytes.as_slice(), *text);
 }
 
-/// A published vector, both ways and in both forms.
+// A published vector, both ways and in both forms.
 fn agrees(
     rt: &(impl Abort + Alloc<A = Global>),
     name: &str,
@@ -74,7 +74,7 @@ fn agrees(
     is_sealed_and_opened_in_place(rt, &sample);
 }
 
-/// A vector of zero bytes, with no associated data.
+// A vector of zero bytes, with no associated data.
 fn agrees_of_zeros(
     rt: &(impl Abort + Alloc<A = Global>),
     name: &str,
@@ -85,7 +85,7 @@ fn agrees_of_zeros(
     agrees(rt, name, key, &ZEROS[..12], &[], text, sealed);
 }
 
-/// A vector of AES-GCM-SIV, with no associated data.
+// A vector of AES-GCM-SIV, with no associated data.
 fn agrees_of_siv(
     rt: &(impl Abort + Alloc<A = Global>),
     name: &str,
@@ -96,7 +96,7 @@ fn agrees_of_siv(
     agrees(rt, name, key, &SIV_NONCE, &[], text, sealed);
 }
 
-/// Those of ChaCha20-Poly1305, and of AES-GCM with associated data.
+// Those of ChaCha20-Poly1305, and of AES-GCM with associated data.
 #[test]
 fn published_vectors(rt: HostRuntime) {
     let (key, nonce) = (&CHACHA_KEY, &CHACHA_NONCE);
@@ -114,7 +114,7 @@ fn published_vectors(rt: HostRuntime) {
     agrees(&rt, name, &GCM_KEY, &GCM_NONCE, &GCM_AAD, &GCM_TEXT, &GCM_4);
 }
 
-/// Those of AES-GCM without associated data.
+// Those of AES-GCM without associated data.
 #[test]
 fn published_vectors_of_zeros(rt: HostRuntime) {
     let block = &ZEROS[..16];
@@ -126,7 +126,7 @@ fn published_vectors_of_zeros(rt: HostRuntime) {
     agrees_of_zeros(&rt, "aes-256-gcm", &ZEROS, block, &GCM_14);
 }
 
-/// Those of AES-GCM-SIV.
+// Those of AES-GCM-SIV.
 #[test]
 fn published_vectors_of_gcm_siv(rt: HostRuntime) {
     let name = "aes-128-gcm-siv";
@@ -137,7 +137,7 @@ fn published_vectors_of_gcm_siv(rt: HostRuntime) {
     agrees_of_siv(&rt, name, &SIV_KEY, &SIV_TEXT, &SIV_256);
 }
 
-/// Opening these bytes as a vector is refused so.
+// Opening these bytes as a vector is refused so.
 fn is_refused(
     rt: &(impl Abort + Alloc<A = Global>),
     sample: &Sample,
@@ -149,7 +149,7 @@ fn is_refused(
     assert!(rt; answer.err() == Some(fault), "{sealed:?}");
 }
 
-/// These bytes are no sealing where they stand either, and stay.
+// These bytes are no sealing where they stand either, and stay.
 fn is_refused_in_place(
     rt: &(impl Abort + Alloc<A = Global>),
     sample: &Sample,
@@ -166,7 +166,7 @@ fn is_refused_in_place(
     assert_eq!(rt; bytes.as_slice(), body);
 }
 
-/// Other associated data makes another sealing.
+// Other associated data makes another sealing.
 #[test]
 fn other_associated_data(rt: HostRuntime) {
     let sample = chacha(&rt);
@@ -176,7 +176,7 @@ fn other_associated_data(rt: HostRuntime) {
     is_refused_in_place(&rt, &sample, &aad, sample.sealed);
 }
 
-/// The beginnings of a sealing are none.
+// The beginnings of a sealing are none.
 fn beginnings_are_refused(rt: &(impl Abort + Alloc<A = Global>), sample: &Sample) {
     for length in 0..sample.sealed.len() {
         let fault = if length < 16 {
@@ -188,14 +188,14 @@ fn beginnings_are_refused(rt: &(impl Abort + Alloc<A = Global>), sample: &Sample
     }
 }
 
-/// Those of 130 and of 76 bytes.
+// Those of 130 and of 76 bytes.
 #[test]
 fn cut_sealings(rt: HostRuntime) {
     beginnings_are_refused(&rt, &chacha(&rt));
     beginnings_are_refused(&rt, &gcm(&rt));
 }
 
-/// A sealing with any one bit changed is none, and what was to be opened stays.
+// A sealing with any one bit changed is none, and what was to be opened stays.
 #[test]
 fn each_bit_changed(rt: HostRuntime) {
     let sample = siv(&rt);
@@ -207,7 +207,7 @@ fn each_bit_changed(rt: HostRuntime) {
     }
 }
 
-/// The same of AES-GCM.
+// The same of AES-GCM.
 #[test]
 fn each_bit_of_gcm_changed(rt: HostRuntime) {
     let sample = gcm(&rt);

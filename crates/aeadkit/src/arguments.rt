@@ -8,7 +8,7 @@ use std::env::FillError;
 use std::rt::Env;
 use std::{env, io};
 
-/// An environment without the program's name, which need not be text.
+// An environment without the program's name, which need not be text.
 #[derive(Drop)]
 struct Behind<'a, R: Env> {
     runtime: &'a R,

@@ -21,8 +21,8 @@ use std::alloc::Allocator;
 use std::io::Read;
 use vectors::Report;
 
-/// The bytes that a value given for hexadecimal spells. `BadHex` where it is not an even number of hex
-/// digits.
+// The bytes that a value given for hexadecimal spells. `BadHex` where it is not an even number of hex
+// digits.
 fn decoded<A: Allocator>(alloc: A, digits: &str) -> Result<Vec<u8, A>, Failure>
     ensures { MatchResult result (λ v. Spells digits.now v.items)
         (λ e. (e ≡ OfFault OutOfMemory) ⊎ ((e ≡ BadHex) × IsBadHex digits.now)) }
@@ -33,7 +33,7 @@ fn decoded<A: Allocator>(alloc: A, digits: &str) -> Result<Vec<u8, A>, Failure>
     })
 }
 
-/// The wrapping of a text, with padding or without.
+// The wrapping of a text, with padding or without.
 fn wrapped<A: Allocator>(
     alloc: A,
     key: &AesKey,
@@ -49,7 +49,7 @@ fn wrapped<A: Allocator>(
     }
 }
 
-/// The text of a wrapping, with padding or without.
+// The text of a wrapping, with padding or without.
 fn unwrapped<A: Allocator>(
     alloc: A,
     key: &AesKey,
@@ -160,7 +160,7 @@ pub fn open<'a, A: Allocator>(alloc: &'a A, words: &Inputs<'_>) -> Result<Vec<u8
     Ok(aead::open(alloc, &cipher, &nonce, &aad, &body)?)
 }
 
-/// The bytes of a file. `Read` where it can't be opened or read, `OutOfMemory` where a growth is refused.
+// The bytes of a file. `Read` where it can't be opened or read, `OutOfMemory` where a growth is refused.
 fn file_bytes<'a, A: Allocator, F: Storage>(
     alloc: &'a A,
     files: &F,

@@ -59,7 +59,7 @@ impl Failure {
     }
 }
 
-/// The status of a fault.
+// The status of a fault.
 fn fault_status(fault: Fault) -> u8
     ensures { result ≡ fault_status fault }
 {
@@ -76,7 +76,7 @@ fn fault_status(fault: Fault) -> u8
     }
 }
 
-/// The status of a fault of a vector file.
+// The status of a fault of a vector file.
 fn vector_status(fault: VectorFault) -> u8
     ensures { result ≡ vector_status fault }
 {

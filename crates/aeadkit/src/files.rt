@@ -16,10 +16,10 @@ use octets::{Fault, FromRead, Intake, Nonce, Outlet};
 use std::alloc::Allocator;
 use std::io::BufReader;
 
-/// How many bytes a reading asks for at a time.
+// How many bytes a reading asks for at a time.
 const AHEAD: usize = 65536;
 
-/// Opens a file for a reading. `Read` where it can't be opened, `OutOfMemory` where a growth is refused.
+// Opens a file for a reading. `Read` where it can't be opened, `OutOfMemory` where a growth is refused.
 fn reading<'a, A: Allocator, F: Storage>(
     alloc: &'a A,
     files: &F,
@@ -41,7 +41,7 @@ fn reading<'a, A: Allocator, F: Storage>(
     }
 }
 
-/// Seals a file into an outlet, in one reading.
+// Seals a file into an outlet, in one reading.
 fn seal_once<A: Allocator, F: Storage, O: Outlet>(
     alloc: &A,
     files: &F,
@@ -59,7 +59,7 @@ fn seal_once<A: Allocator, F: Storage, O: Outlet>(
     seal_stream(cipher, nonce, aad, &mut text, out)
 }
 
-/// Seals a file into an outlet by AES-GCM-SIV, in two readings.
+// Seals a file into an outlet by AES-GCM-SIV, in two readings.
 fn seal_twice<A: Allocator, F: Storage, O: Outlet>(
     alloc: &A,
     files: &F,
@@ -77,7 +77,7 @@ fn seal_twice<A: Allocator, F: Storage, O: Outlet>(
     seal_siv_stream(cipher, nonce, aad, &mut first, &mut second, out)
 }
 
-/// Seals a file into an outlet under any cipher.
+// Seals a file into an outlet under any cipher.
 fn seal_by<A: Allocator, F: Storage, O: Outlet>(
     alloc: &A,
     files: &F,
@@ -97,7 +97,7 @@ fn seal_by<A: Allocator, F: Storage, O: Outlet>(
     }
 }
 
-/// Opens a file into an outlet, in three readings.
+// Opens a file into an outlet, in three readings.
 fn open_by<A: Allocator, F: Storage, O: Outlet>(
     alloc: &A,
     files: &F,
@@ -125,7 +125,7 @@ fn open_by<A: Allocator, F: Storage, O: Outlet>(
     )
 }
 
-/// Seals a file into an outlet, for the inputs that the words give.
+// Seals a file into an outlet, for the inputs that the words give.
 fn seal<A: Allocator, F: Storage, O: Outlet>(
     alloc: &A,
     files: &F,
@@ -147,7 +147,7 @@ fn seal<A: Allocator, F: Storage, O: Outlet>(
     )?)
 }
 
-/// Opens a file into an outlet, for the inputs that the words give.
+// Opens a file into an outlet, for the inputs that the words give.
 fn open<A: Allocator, F: Storage, O: Outlet>(
     alloc: &A,
     files: &F,

@@ -10,7 +10,7 @@ use octets::{DeviceFault, Fault, Outlet};
 use std::alloc::{AllocError, Allocator};
 use std::io::Write;
 
-/// How many bytes are kept before they are written.
+// How many bytes are kept before they are written.
 const PENDING: usize = 65536;
 
 /// A file that is made, or cut to nothing, when its first byte is given, and at the end where none was.
@@ -53,7 +53,7 @@ impl<'a, F: Storage, A: Allocator> NewFile<'a, F, A> {
         self.pending.reserve_exact(PENDING)
     }
 
-    /// Makes the file where it is not made.
+    // Makes the file where it is not made.
     fn make(&mut self) -> Result<(), DeviceFault>
         ensures made { OnOk result (is_some self.new.file ≡ true) }
         ensures taken { Keeps (⟦<NewFile<'a, F, A> as Outlet>⟧.taken self.old)
@@ -71,7 +71,7 @@ impl<'a, F: Storage, A: Allocator> NewFile<'a, F, A> {
         Ok(())
     }
 
-    /// Writes some of what is pending.
+    // Writes some of what is pending.
     fn write_some(&mut self) -> Result<(), DeviceFault>
         requires { self.old.written < vec_len self.old.pending }
         ensures taken { Keeps (⟦<NewFile<'a, F, A> as Outlet>⟧.taken self.old)
@@ -92,7 +92,7 @@ impl<'a, F: Storage, A: Allocator> NewFile<'a, F, A> {
         }
     }
 
-    /// Writes what is pending.
+    // Writes what is pending.
     #[tactic(auto, using(crate::proofs::NewFileLemmas::none_pending, crate::proofs::NewFileLemmas::keeps_more))]
     fn write_pending(&mut self) -> Result<(), DeviceFault>
         ensures taken { Keeps (⟦<NewFile<'a, F, A> as Outlet>⟧.taken self.old)
@@ -109,7 +109,7 @@ impl<'a, F: Storage, A: Allocator> NewFile<'a, F, A> {
         Ok(())
     }
 
-    /// Adds to what is pending.
+    // Adds to what is pending.
     fn add(&mut self, bytes: &[u8]) -> Result<(), DeviceFault>
         ensures items { OnOk result (self.new.pending.items ≡ self.old.pending.items ++ bytes.now) }
         ensures same { OnErr result (self.new.pending.items ≡ self.old.pending.items) }
@@ -124,7 +124,7 @@ impl<'a, F: Storage, A: Allocator> NewFile<'a, F, A> {
         }
     }
 
-    /// Keeps the first bytes, as many as there is room for.
+    // Keeps the first bytes, as many as there is room for.
     #[tactic(auto, using(crate::proofs::NewFileLemmas::pends, crate::proofs::NewFileLemmas::keeps_more))]
     fn keep(&mut self, bytes: &[u8]) -> Result<usize, DeviceFault>
         ensures bound { GivesSome result bytes.now }

@@ -22,7 +22,7 @@ use std::convert::AsStr;
 use std::io::Write;
 use vectors::Report;
 
-/// Writes text to standard output, and answers status 0. The only faults are `Write` and `OutOfMemory`.
+// Writes text to standard output, and answers status 0. The only faults are `Write` and `OutOfMemory`.
 fn print<W: Write>(out: &mut W, text: &str) -> Result<u8, Failure>
     ensures { MatchResult result
         (λ status. (status ≡ 0) × Appends (W.contents out.old) (W.contents out.new) text.now)
@@ -37,8 +37,8 @@ fn print<W: Write>(out: &mut W, text: &str) -> Result<u8, Failure>
     Ok(0)
 }
 
-/// Prints bytes as one line of lower-case hexadecimal, and answers status 0. The only faults are `Write` and
-/// `OutOfMemory`.
+// Prints bytes as one line of lower-case hexadecimal, and answers status 0. The only faults are `Write` and
+// `OutOfMemory`.
 fn print_bytes<A: Allocator, W: Write>(alloc: A, out: &mut W, bytes: &[u8]) -> Result<u8, Failure>
     ensures { MatchResult result
         (λ status. (status ≡ 0) × Appends (W.contents out.old) (W.contents out.new) (hex_line bytes.now))
@@ -49,7 +49,7 @@ fn print_bytes<A: Allocator, W: Write>(alloc: A, out: &mut W, bytes: &[u8]) -> R
     print(out, &line)
 }
 
-/// The text of a report: the number of records, then a line for each bad one.
+// The text of a report: the number of records, then a line for each bad one.
 fn report_text<A: Allocator>(alloc: A, records: u64, bad: &[u64]) -> Result<String<A>, AllocError>
     ensures { IfOk result (λ text. string_bytes text ≡ report_text records bad.now) }
 {
@@ -61,7 +61,7 @@ fn report_text<A: Allocator>(alloc: A, records: u64, bad: &[u64]) -> Result<Stri
     Ok(text)
 }
 
-/// Prints a report. The only faults are `Write` and `OutOfMemory`.
+// Prints a report. The only faults are `Write` and `OutOfMemory`.
 fn print_report<A: Allocator, W: Write>(
     alloc: A,
     out: &mut W,
@@ -77,7 +77,7 @@ fn print_report<A: Allocator, W: Write>(
     print(out, &text)
 }
 
-/// Prints the sealing of a text.
+// Prints the sealing of a text.
 fn print_sealing<A: Allocator, W: Write>(
     alloc: &A,
     inputs: &Inputs<'_>,
@@ -91,7 +91,7 @@ fn print_sealing<A: Allocator, W: Write>(
     print_bytes(alloc, out, &sealed)
 }
 
-/// Prints the text of sealed bytes.
+// Prints the text of sealed bytes.
 fn print_opening<A: Allocator, W: Write>(
     alloc: &A,
     inputs: &Inputs<'_>,
@@ -105,7 +105,7 @@ fn print_opening<A: Allocator, W: Write>(
     print_bytes(alloc, out, &opened)
 }
 
-/// Prints the wrapping of a text.
+// Prints the wrapping of a text.
 fn print_wrapping<A: Allocator, W: Write>(
     alloc: &A,
     key: &str,
@@ -121,7 +121,7 @@ fn print_wrapping<A: Allocator, W: Write>(
     print_bytes(alloc, out, &wrapped)
 }
 
-/// Prints the text of a wrapping.
+// Prints the text of a wrapping.
 fn print_unwrapping<A: Allocator, W: Write>(
     alloc: &A,
     key: &str,
@@ -137,7 +137,7 @@ fn print_unwrapping<A: Allocator, W: Write>(
     print_bytes(alloc, out, &text)
 }
 
-/// The status of a report: 0 where there are records and none is bad, else 1.
+// The status of a report: 0 where there are records and none is bad, else 1.
 fn report_status<A: Allocator>(report: &Report<A>) -> u8
     ensures yes { (result ≡ 0) ↔ ((1 ≤ report.now.records) × (report.now.bad.items ≡ [])) }
     ensures bound { result ≤ 1 }
@@ -145,7 +145,7 @@ fn report_status<A: Allocator>(report: &Report<A>) -> u8
     if report.yes() { 0 } else { 1 }
 }
 
-/// Prints the report of a vector file, and answers status 0, or 1 where a record is bad or none is there.
+// Prints the report of a vector file, and answers status 0, or 1 where a record is bad or none is there.
 fn print_checking<A: Allocator, F: Storage, W: Write>(
     alloc: &A,
     files: &F,
@@ -194,7 +194,7 @@ pub fn perform<'a, A: Allocator, B: Allocator, F: Storage, W: Write>(
     }
 }
 
-/// Prints the help that was asked for, or says why the words are no request.
+// Prints the help that was asked for, or says why the words are no request.
 fn refuse<W: Write>(alloc: Global, refusal: &Refusal, out: &mut W) -> Result<u8, Failure>
     ensures answer { IsRefusedAs refusal.now result }
     ensures status { IfOk result (λ status. status ≤ 1) }
@@ -219,7 +219,7 @@ pub fn report<E: Write>(err: &mut E, failure: Failure) -> u8
     failure.status()
 }
 
-/// What the words behind the program's name come to.
+// What the words behind the program's name come to.
 fn answer<'a, S: AsStr, F: Storage, W: Write>(
     alloc: Global,
     files: &F,

@@ -63,7 +63,7 @@ impl<R: Files> Storage for Disk<'_, R> {
         fs::create(self.runtime, path)
     }
 
-    /// What can't be synced, as a pipe or a terminal, is no fault.
+    // What can't be synced, as a pipe or a terminal, is no fault.
     fn sync(&self, output: &R::File) -> io::Result<()> {
         match output.sync_all() {
             Err(error) if error.kind() == ErrorKind::InvalidInput => Ok(()),

@@ -17,12 +17,12 @@ use devices::NoFiles;
 use std::alloc::Global;
 use std::process::Abort;
 
-/// What was written is this.
+// What was written is this.
 fn is_written(rt: &impl Abort, words: &[&str], written: &[u8], wanted: &str) {
     assert_eq!(rt; written, wanted.as_bytes(), "{words:?}");
 }
 
-/// Runs the words over files, and compares the status and both streams.
+// Runs the words over files, and compares the status and both streams.
 fn runs_over<F: Storage>(
     rt: &(impl Abort + Alloc<A = Global>),
     files: &F,
@@ -39,7 +39,7 @@ fn runs_over<F: Storage>(
     assert_eq!(rt; answer, status, "{words:?}");
 }
 
-/// The words print one line, with status 0, and nothing to standard error.
+// The words print one line, with status 0, and nothing to standard error.
 fn prints(rt: &(impl Abort + Alloc<A = Global>), words: &[&str], line: &str) {
     let mut out: Vec<u8> = Vec::new(rt.alloc());
     let mut err: Vec<u8> = Vec::new(rt.alloc());
@@ -52,7 +52,7 @@ fn prints(rt: &(impl Abort + Alloc<A = Global>), words: &[&str], line: &str) {
     );
 }
 
-/// The words are refused with a status and a line on standard error, and print nothing.
+// The words are refused with a status and a line on standard error, and print nothing.
 fn refuses(rt: &(impl Abort + Alloc<A = Global>), words: &[&str], status: u8, complaint: &str) {
     runs_over(rt, &NoFiles, words, status, "", complaint);
 }

@@ -101,7 +101,7 @@ pub enum Refusal {
     OutOfMemory,
 }
 
-/// An option that has to be given, with a value.
+// An option that has to be given, with a value.
 fn option<'a>(alloc: Global, name: &'a str, value: &'a str, help: &'a str) -> Arg<'a> {
     Arg::new(alloc, name)
         .long(name)
@@ -111,17 +111,17 @@ fn option<'a>(alloc: Global, name: &'a str, value: &'a str, help: &'a str) -> Ar
         .action(ArgAction::Set)
 }
 
-/// An option whose value is hexadecimal.
+// An option whose value is hexadecimal.
 fn hex_option<'a>(alloc: Global, name: &'a str, help: &'a str) -> Arg<'a> {
     option(alloc, name, "HEX", help)
 }
 
-/// A subcommand: what it does, in a line, and what else its help says.
+// A subcommand: what it does, in a line, and what else its help says.
 fn subcommand<'a>(alloc: Global, name: &'a str, about: &'a str, more: &'a str) -> Command<'a> {
     Command::new(alloc, name).about(about).after_help(more)
 }
 
-/// A subcommand with what all calls under a suite take.
+// A subcommand with what all calls under a suite take.
 fn under_suite<'a>(
     alloc: Global,
     name: &'a str,
@@ -135,7 +135,7 @@ fn under_suite<'a>(
         .arg(hex_option(alloc, AAD, "The associated data").required(false))
 }
 
-/// A subcommand that reads a file and writes another.
+// A subcommand that reads a file and writes another.
 fn over_files<'a>(
     alloc: Global,
     name: &'a str,
@@ -147,7 +147,7 @@ fn over_files<'a>(
         .arg(option(alloc, OUT, "PATH", "The file that is written"))
 }
 
-/// The option of padding, which has no value.
+// The option of padding, which has no value.
 fn padding<'a>(alloc: Global) -> Arg<'a> {
     Arg::new(alloc, PAD)
         .long(PAD)
@@ -155,7 +155,7 @@ fn padding<'a>(alloc: Global) -> Arg<'a> {
         .action(ArgAction::SetTrue)
 }
 
-/// A subcommand that wraps or unwraps a body.
+// A subcommand that wraps or unwraps a body.
 fn under_key<'a>(
     alloc: Global,
     name: &'a str,
@@ -169,32 +169,32 @@ fn under_key<'a>(
         .arg(padding(alloc))
 }
 
-/// `seal`, for clap.
+// `seal`, for clap.
 fn sealing<'a>(alloc: Global) -> Result<Command<'a>, AllocError> {
     let text = hex_option(alloc, TEXT, "The text").required(false);
     under_suite(alloc, SEAL, "Seals a text", SEAL_MORE)?.arg(text)
 }
 
-/// `open`, for clap.
+// `open`, for clap.
 fn opening<'a>(alloc: Global) -> Result<Command<'a>, AllocError> {
     let sealed = hex_option(alloc, SEALED, "The ciphertext, then the tag");
     under_suite(alloc, OPEN, "Opens sealed bytes", OPEN_MORE)?.arg(sealed)
 }
 
-/// `wrap`, for clap.
+// `wrap`, for clap.
 fn wrapping<'a>(alloc: Global) -> Result<Command<'a>, AllocError> {
     let text = hex_option(alloc, TEXT, "The text");
     under_key(alloc, WRAP, "Wraps a text by AES Key Wrap", WRAP_MORE, text)
 }
 
-/// `unwrap`, for clap.
+// `unwrap`, for clap.
 fn unwrapping<'a>(alloc: Global) -> Result<Command<'a>, AllocError> {
     let sealed = hex_option(alloc, SEALED, "The wrapping");
     let about = "Unwraps the bytes of a wrapping";
     under_key(alloc, UNWRAP, about, UNWRAP_MORE, sealed)
 }
 
-/// `seal-file`, for clap.
+// `seal-file`, for clap.
 fn file_sealing<'a>(alloc: Global) -> Result<Command<'a>, AllocError> {
     over_files(
         alloc,
@@ -204,13 +204,13 @@ fn file_sealing<'a>(alloc: Global) -> Result<Command<'a>, AllocError> {
     )
 }
 
-/// `open-file`, for clap.
+// `open-file`, for clap.
 fn file_opening<'a>(alloc: Global) -> Result<Command<'a>, AllocError> {
     let about = "Opens a sealed file into another";
     over_files(alloc, OPEN_FILE, about, OPEN_FILE_MORE)
 }
 
-/// `check`, for clap.
+// `check`, for clap.
 fn checking<'a>(alloc: Global) -> Result<Command<'a>, AllocError> {
     let file = Arg::new(alloc, FILE)
         .value_name("FILE")
@@ -221,7 +221,7 @@ fn checking<'a>(alloc: Global) -> Result<Command<'a>, AllocError> {
     subcommand(alloc, CHECK, about, CHECK_MORE).arg(file)
 }
 
-/// The program's command line without its subcommands, for clap.
+// The program's command line without its subcommands, for clap.
 fn bare<'a>(alloc: Global) -> Result<Command<'a>, AllocError> {
     let about = "Authenticated encryption and key wrapping by published standards";
     Ok(
@@ -234,7 +234,7 @@ fn bare<'a>(alloc: Global) -> Result<Command<'a>, AllocError> {
     )
 }
 
-/// A command line with a subcommand more, where memory was there for both.
+// A command line with a subcommand more, where memory was there for both.
 fn with<'a>(
     command: Result<Command<'a>, AllocError>,
     subcommand: Result<Command<'a>, AllocError>,
@@ -242,7 +242,7 @@ fn with<'a>(
     command?.subcommand(subcommand?)
 }
 
-/// The program's command line, for clap.
+// The program's command line, for clap.
 fn command<'a>(alloc: Global) -> Result<Command<'a>, AllocError> {
     let values = with(with(bare(alloc), sealing(alloc)), opening(alloc));
     let wraps = with(with(values, wrapping(alloc)), unwrapping(alloc));
@@ -250,12 +250,12 @@ fn command<'a>(alloc: Global) -> Result<Command<'a>, AllocError> {
     with(files, checking(alloc))
 }
 
-/// The value of an option, or no bytes where it is not given.
+// The value of an option, or no bytes where it is not given.
 fn value<'a>(matches: &ArgMatches<'a>, name: &str) -> &'a str {
     matches.get_str(name).unwrap_or("")
 }
 
-/// What all calls under a suite take, and a body.
+// What all calls under a suite take, and a body.
 fn inputs_of<'a>(matches: &ArgMatches<'a>, body: &'a str) -> Inputs<'a> {
     Inputs {
         suite: value(matches, SUITE),
@@ -266,7 +266,7 @@ fn inputs_of<'a>(matches: &ArgMatches<'a>, body: &'a str) -> Inputs<'a> {
     }
 }
 
-/// What the file commands take; `None` where both paths are the same text.
+// What the file commands take; `None` where both paths are the same text.
 fn file_words<'a>(matches: &ArgMatches<'a>) -> Option<FileWords<'a>> {
     let input = value(matches, IN);
     let output = value(matches, OUT);
@@ -280,7 +280,7 @@ fn file_words<'a>(matches: &ArgMatches<'a>) -> Option<FileWords<'a>> {
     })
 }
 
-/// What a subcommand's options ask for.
+// What a subcommand's options ask for.
 fn request_of<'a>(name: &str, matches: &ArgMatches<'a>) -> Option<Request<'a>> {
     match name {
         SEAL => Some(Request::Seal(inputs_of(matches, value(matches, TEXT)))),

@@ -20,7 +20,7 @@ use aead::{
 use octets::Nonce;
 use std::alloc::{AllocError, Allocator};
 
-/// Whether the sealed bytes are the sealing of the text, by a cipher that reads it once.
+// Whether the sealed bytes are the sealing of the text, by a cipher that reads it once.
 fn one_pass_seals(
     cipher: &AnyOnePass,
     nonce: &Nonce,
@@ -38,7 +38,7 @@ fn one_pass_seals(
     out.is_whole(done.is_ok())
 }
 
-/// Whether the sealed bytes are the sealing of the text, by AES-GCM-SIV, which reads it twice.
+// Whether the sealed bytes are the sealing of the text, by AES-GCM-SIV, which reads it twice.
 fn siv_seals(
     cipher: &GcmSiv,
     nonce: &Nonce,
@@ -57,7 +57,7 @@ fn siv_seals(
     out.is_whole(done.is_ok())
 }
 
-/// Whether the sealed bytes are the sealing of the text.
+// Whether the sealed bytes are the sealing of the text.
 fn seals(
     cipher: &AnyAead,
     nonce: &Nonce,
@@ -75,8 +75,8 @@ fn seals(
     }
 }
 
-/// Whether the sealed bytes are the sealing of no text: their opening is refused, and gave not one byte
-/// of a text.
+// Whether the sealed bytes are the sealing of no text: their opening is refused, and gave not one byte
+// of a text.
 fn seals_nothing(cipher: &AnyAead, nonce: &Nonce, aad: Digits<'_>, sealed: Digits<'_>) -> bool
     ensures { IsTrue result
         ↔ IsNoSealing (setting (keyed_of cipher.now) nonce.now (bytes_in aad.entry)) (bytes_in sealed.entry) }
@@ -98,7 +98,7 @@ fn seals_nothing(cipher: &AnyAead, nonce: &Nonce, aad: Digits<'_>, sealed: Digit
     out.is_refused(done.is_ok())
 }
 
-/// Whether a record of authenticated encryption agrees.
+// Whether a record of authenticated encryption agrees.
 fn sealed_agrees(suite: aead::Suite, entry: &Entry<'_>) -> bool
     requires sized { IsSized (entry_view entry.now) }
     requires suite { entry.now.suite ≡ suites.Aead suite }
@@ -121,8 +121,8 @@ fn sealed_agrees(suite: aead::Suite, entry: &Entry<'_>) -> bool
     }
 }
 
-/// Whether a record agrees with its standard: its sealed bytes hold its text, or none where it says
-/// `invalid`.
+// Whether a record agrees with its standard: its sealed bytes hold its text, or none where it says
+// `invalid`.
 pub(crate) fn agrees<A: Allocator>(alloc: &A, entry: &Entry<'_>) -> Result<bool, AllocError>
     requires { IsSized (entry_view entry.now) }
     ensures { IfOk result (λ b. IsTrue b ↔ Agrees (entry_view entry.now)) }

@@ -7,8 +7,8 @@ ghost use Rattle.vectors.specs.Code.Compared.{IsOther};
 use crate::digits::Digits;
 use octets::{DeviceFault, Outlet, give_all};
 
-/// Compares the bytes that it is given with those that digits spell. It keeps none of them but the first that
-/// differs, and fails from then on.
+// Compares the bytes that it is given with those that digits spell. It keeps none of them but the first that
+// differs, and fails from then on.
 #[derive(Drop)]
 pub(crate) struct Comparison<'a> {
     expected: Digits<'a>,
@@ -21,15 +21,15 @@ pub(crate) struct Comparison<'a> {
     ghost fails: { other ≡ None → failed ≡ 0 },
 }
 
-/// Whether two slices hold the same bytes.
+// Whether two slices hold the same bytes.
 fn are_same(left: &[u8], right: &[u8]) -> bool
     ensures { IsTrue result ↔ (left.now ≡ right.now) }
 {
     left == right
 }
 
-/// How many of the first bytes are those that digits spell: as many as are looked at where all of these
-/// are, else one or none.
+// How many of the first bytes are those that digits spell: as many as are looked at where all of these
+// are, else one or none.
 fn equal_bytes(digits: Digits<'_>, bytes: &[u8]) -> usize
     ensures bytes { result ≤ length bytes.now }
     ensures digits { result ≤ length (bytes_in digits.entry) }
@@ -111,7 +111,7 @@ impl<'a> Outlet for Comparison<'a> {
     }
 }
 
-/// Whether digits spell these bytes.
+// Whether digits spell these bytes.
 pub(crate) fn are_spelled(bytes: &[u8], digits: Digits<'_>) -> bool
     ensures { IsTrue result ↔ (bytes_in digits.entry ≡ bytes.now) }
 {

@@ -4,14 +4,14 @@ ghost use Rattle.std.specs.Option.{option_map_or};
 ghost use Rattle.std.specs.List.{slice_split};
 ghost use Rattle.vectors.specs.Cuts.{is_digit, has_no_leading_zero, number_of, rise, are_cuts};
 
-/// Where the first comma stands.
+// Where the first comma stands.
 fn comma(text: &[u8]) -> Option<usize>
     ensures { result ≡ position (λ b. b == 44) text.now }
 {
     text.iter().position(|b| *b == b',')
 }
 
-/// The text before the first comma, and what stands behind it.
+// The text before the first comma, and what stands behind it.
 fn first_part(text: &[u8]) -> (&[u8], Option<&[u8]>)
     ensures parts { slice_split (λ b. b == 44) text.now
         ≡ result.0.now ∷ option_map_or (λ rest. slice_split (λ b. b == 44) rest.now) result.1 [] }
@@ -23,21 +23,21 @@ fn first_part(text: &[u8]) -> (&[u8], Option<&[u8]>)
     }
 }
 
-/// Whether a byte is a decimal digit.
+// Whether a byte is a decimal digit.
 fn is_digit(byte: u8) -> bool
     ensures { result ≡ is_digit byte }
 {
     matches!(byte, b'0'..=b'9')
 }
 
-/// Whether a text begins with a byte other than a zero.
+// Whether a text begins with a byte other than a zero.
 fn has_no_leading_zero(text: &[u8]) -> bool
     ensures { result ≡ has_no_leading_zero text.now }
 {
     !matches!(text, [] | [b'0', ..])
 }
 
-/// The number that a text spells.
+// The number that a text spells.
 fn number_of(text: &[u8]) -> Option<u64>
     ensures { result ≡ number_of text.now }
 {
@@ -60,7 +60,7 @@ fn number_of(text: &[u8]) -> Option<u64>
     Some(number)
 }
 
-/// Whether a value is numbers, joined by single commas, that are at least 1, rise, and are at most this one.
+// Whether a value is numbers, joined by single commas, that are at least 1, rise, and are at most this one.
 pub(crate) fn are_cuts(most: u64, value: &[u8]) -> bool
     ensures { result ≡ are_cuts most value.now }
 {

@@ -6,7 +6,7 @@ ghost use Rattle.vectors.specs.Faults.{is_hex};
 use crate::field::is_hex;
 use std::alloc::{AllocError, Allocator};
 
-/// The value of a hexadecimal digit, told from its bits.
+// The value of a hexadecimal digit, told from its bits.
 fn digit_value(digit: u8) -> u8
     ensures value { IsTrue (is_hex_digit digit) → hex_digit_value digit ≡ Some result }
     ensures small { IsTrue (is_hex_digit digit) → result < 16 }
@@ -14,7 +14,7 @@ fn digit_value(digit: u8) -> u8
     (digit & 15) + 9 * (digit >> 6)
 }
 
-/// An even number of hexadecimal digits of either case.
+// An even number of hexadecimal digits of either case.
 #[derive(Clone, Copy)]
 pub(crate) struct Digits<'a> {
     text: &'a [u8],
@@ -72,7 +72,7 @@ impl<'a> Digits<'a> {
         }
     }
 
-    /// Writes the bytes that they spell behind the first eight bytes.
+    // Writes the bytes that they spell behind the first eight bytes.
     fn write_behind(self, room: &mut [u8])
         requires { 8 + length (bytes_in self) ≤ length room.old }
         ensures { take (length (bytes_in self.entry)) (drop 8 room.new) ≡ bytes_in self.entry }

@@ -53,7 +53,7 @@ impl fmt::Display for VectorFault {
 
 impl Error for VectorFault {}
 
-/// What is wrong with a line.
+// What is wrong with a line.
 #[derive(Clone, Copy, PartialEq, Eq)]
 pub(crate) enum Cause {
     BadFormat,

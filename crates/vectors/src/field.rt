@@ -7,7 +7,7 @@ ghost use Rattle.vectors.specs.Faults.{is_hex};
 
 use crate::lines::{without_end_spaces, without_start_spaces};
 
-/// Whether a line is blank or a comment.
+// Whether a line is blank or a comment.
 pub(crate) fn is_gap(line: &[u8]) -> bool
     ensures { result ≡ is_gap line.now }
 {
@@ -20,7 +20,7 @@ fn equals_sign(line: &[u8]) -> Option<usize>
     line.iter().position(|b| *b == b'=')
 }
 
-/// The parts of a line before and after its first `=`.
+// The parts of a line before and after its first `=`.
 #[tactic(auto, unfolding(crate::specs::Grammar::field_of))]
 fn field_of(line: &[u8]) -> Option<(&[u8], &[u8])>
     ensures { option_map (λ f. (f.0.now, f.1.now)) result ≡ field_of line.now }
@@ -31,7 +31,7 @@ fn field_of(line: &[u8]) -> Option<(&[u8], &[u8])>
     Some((name, value))
 }
 
-/// The name and the value of a value line.
+// The name and the value of a value line.
 #[tactic(auto, unfolding(crate::specs::Grammar::value_line))]
 pub(crate) fn value_line(line: &[u8]) -> Option<(&[u8], &[u8])>
     ensures { option_map (λ f. (f.0.now, f.1.now)) result ≡ value_line line.now }
@@ -42,14 +42,14 @@ pub(crate) fn value_line(line: &[u8]) -> Option<(&[u8], &[u8])>
     field_of(line)
 }
 
-/// Whether a byte is a hexadecimal digit.
+// Whether a byte is a hexadecimal digit.
 fn is_digit(byte: u8) -> bool
     ensures { result ≡ is_hex_digit byte }
 {
     matches!(byte, b'0'..=b'9' | b'a'..=b'f' | b'A'..=b'F')
 }
 
-/// Whether all bytes are hexadecimal digits. None is skipped, so that many are looked at together.
+// Whether all bytes are hexadecimal digits. None is skipped, so that many are looked at together.
 fn are_digits(text: &[u8]) -> bool
     ensures { result ≡ list_all is_hex_digit text.now }
 {
@@ -60,7 +60,7 @@ fn are_digits(text: &[u8]) -> bool
     all
 }
 
-/// Whether a value is an even number of hexadecimal digits.
+// Whether a value is an even number of hexadecimal digits.
 #[tactic(auto, unfolding(crate::specs::Faults::is_hex))]
 pub(crate) fn is_hex(text: &[u8]) -> bool
     ensures { result ≡ is_hex text.now }

@@ -5,7 +5,7 @@ ghost use Rattle.vectors.specs.Code.Views.{bytes_in};
 use crate::digits::Digits;
 use octets::{DeviceFault, Intake};
 
-/// Gives the bytes that digits spell. It never fails.
+// Gives the bytes that digits spell. It never fails.
 #[derive(Drop)]
 pub(crate) struct DigitIntake<'a> {
     rest: Digits<'a>,

@@ -5,7 +5,7 @@ ghost use Rattle.vectors.specs.Lines.{lines_of, trim_end, trim_start};
 
 use memchr::memchr;
 
-/// A line without the spaces at its end.
+// A line without the spaces at its end.
 pub(crate) fn without_end_spaces(line: &[u8]) -> &[u8]
     ensures { result.now ≡ trim_end line.now }
 {
@@ -16,7 +16,7 @@ pub(crate) fn without_end_spaces(line: &[u8]) -> &[u8]
     rest
 }
 
-/// A value without the spaces at its beginning.
+// A value without the spaces at its beginning.
 pub(crate) fn without_start_spaces(value: &[u8]) -> &[u8]
     ensures { result.now ≡ trim_start value.now }
 {
@@ -27,7 +27,7 @@ pub(crate) fn without_start_spaces(value: &[u8]) -> &[u8]
     rest
 }
 
-/// A line without the one carriage return at its end.
+// A line without the one carriage return at its end.
 fn without_carriage_return(line: &[u8]) -> &[u8]
     ensures { result.now ≡ strip_carriage_return line.now }
 {
@@ -37,14 +37,14 @@ fn without_carriage_return(line: &[u8]) -> &[u8]
     }
 }
 
-/// Where the first line ends.
+// Where the first line ends.
 fn line_end(bytes: &[u8]) -> Option<usize>
     ensures { result ≡ position (λ b. b == 10) bytes.now }
 {
     memchr(b'\n', bytes)
 }
 
-/// The first line, and the bytes behind it.
+// The first line, and the bytes behind it.
 pub(crate) fn first_line(bytes: &[u8]) -> Option<(&[u8], &[u8])>
     ensures none { IsNone result ↔ (bytes.now ≡ []) }
     ensures line { IfSome result (λ r. lines_of bytes.now ≡ r.0.now ∷ lines_of r.1.now) }

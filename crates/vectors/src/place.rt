@@ -13,7 +13,7 @@ use crate::fault::Cause;
 use crate::field::{is_gap, value_line};
 use crate::suite::{Field, Format, Suite};
 
-/// A record as the file writes it, or what was read of it.
+// A record as the file writes it, or what was read of it.
 #[derive(Clone, Copy)]
 pub(crate) struct Entry<'a> {
     pub suite: Suite,
@@ -25,7 +25,7 @@ pub(crate) struct Entry<'a> {
 }
 
 impl<'a> Entry<'a> {
-    /// A record of which the suite alone was read.
+    // A record of which the suite alone was read.
     fn unread(suite: Suite) -> Entry<'a>
         ensures { entry_view result ≡ unread suite }
     {
@@ -40,7 +40,7 @@ impl<'a> Entry<'a> {
         }
     }
 
-    /// The record with the value of a field.
+    // The record with the value of a field.
     fn with_field(self, field: Field, value: Digits<'a>) -> Entry<'a>
         ensures { entry_view result ≡ with_field field (bytes_in value.entry) (entry_view self.entry) }
     {
@@ -59,27 +59,27 @@ impl<'a> Entry<'a> {
     }
 }
 
-/// Which line is expected, with what was read of the record.
+// Which line is expected, with what was read of the record.
 #[derive(Clone, Copy)]
 pub(crate) enum Place<'a> {
-    /// The format line, or a line before it.
+    // The format line, or a line before it.
     Start,
-    /// The first line of a record, or a line between records.
+    // The first line of a record, or a line between records.
     Between(Format),
-    /// The first of the fields that are left, or the end where none is.
+    // The first of the fields that are left, or the end where none is.
     Fields {
         format: Format,
         left: &'static [Field],
         entry: Entry<'a>,
     },
-    /// The text line behind cuts.
+    // The text line behind cuts.
     Text {
         format: Format,
         entry: Entry<'a>,
     },
 }
 
-/// What a line leads to.
+// What a line leads to.
 pub(crate) struct Next<'a> {
     /// Which line is expected behind it.
     pub place: Place<'a>,
@@ -90,14 +90,14 @@ pub(crate) struct Next<'a> {
 impl<'a> Next<'a> {
     ghost use Rattle.std.specs.Prelude.{[], ◌∷◌};
 
-    /// A place behind a line that ends no record.
+    // A place behind a line that ends no record.
     fn at(place: Place<'a>) -> Next<'a>
         ensures { next_view result ≡ (view place.entry, []) }
     {
         Next { place, ended: None }
     }
 
-    /// What is behind the last line of a record.
+    // What is behind the last line of a record.
     fn behind(format: Format, entry: Entry<'a>) -> Next<'a>
         ensures { next_view result ≡ (view (places.Between format), entry_view entry.entry ∷ []) }
     {
@@ -108,7 +108,7 @@ impl<'a> Next<'a> {
     }
 }
 
-/// The value of a line with this name.
+// The value of a line with this name.
 #[tactic(auto, unfolding(crate::specs::Code::Steps::value_at))]
 fn value_at<'a>(name: &[u8], line: &'a [u8]) -> Result<&'a [u8], Cause>
     ensures { Gives (λ v. v.now) result (value_at name.now line.entry.now) }
@@ -125,7 +125,7 @@ fn value_at<'a>(name: &[u8], line: &'a [u8]) -> Result<&'a [u8], Cause>
     }
 }
 
-/// The digits of a line with this name.
+// The digits of a line with this name.
 #[tactic(auto, unfolding(crate::specs::Code::Steps::hex_at))]
 fn hex_at<'a>(name: &[u8], line: &'a [u8]) -> Result<Digits<'a>, Cause>
     ensures { Gives bytes_in result (hex_at name.now line.entry.now) }
@@ -137,7 +137,7 @@ fn hex_at<'a>(name: &[u8], line: &'a [u8]) -> Result<Digits<'a>, Cause>
     }
 }
 
-/// The digits of a field.
+// The digits of a field.
 #[tactic(auto, unfolding(crate::specs::Code::Steps::field_at))]
 fn field_at<'a>(suite: Suite, field: Field, line: &'a [u8]) -> Result<Digits<'a>, Cause>
     ensures { Gives bytes_in result (field_at suite field line.entry.now) }
@@ -155,7 +155,7 @@ fn field_at<'a>(suite: Suite, field: Field, line: &'a [u8]) -> Result<Digits<'a>
     }
 }
 
-/// The format that a line names.
+// The format that a line names.
 #[tactic(auto, unfolding(crate::specs::Code::Steps::format_at))]
 fn format_at(line: &[u8]) -> Result<Format, Cause>
     ensures { Gives (λ f. f) result (format_at line.now) }
@@ -172,7 +172,7 @@ fn format_at(line: &[u8]) -> Result<Format, Cause>
     }
 }
 
-/// The suite that a line names.
+// The suite that a line names.
 #[tactic(auto, unfolding(crate::specs::Code::Steps::suite_at))]
 fn suite_at(format: Format, line: &[u8]) -> Result<Suite, Cause>
     ensures { Gives (λ s. s) result (suite_at format line.now) }
@@ -181,7 +181,7 @@ fn suite_at(format: Format, line: &[u8]) -> Result<Suite, Cause>
     Suite::named(format, name).ok_or(Cause::UnknownSuite)
 }
 
-/// Whether a value line has this name.
+// Whether a value line has this name.
 fn is_named(name: &[u8], line: &[u8]) -> bool
     ensures { result ≡ is_named name.now (value_line line.now) }
 {
@@ -191,7 +191,7 @@ fn is_named(name: &[u8], line: &[u8]) -> bool
     }
 }
 
-/// Whether a record may have a line of cuts.
+// Whether a record may have a line of cuts.
 fn may_cut(format: Format, suite: Suite) -> bool
     ensures { result ≡ may_cut format suite }
 {
@@ -201,7 +201,7 @@ fn may_cut(format: Format, suite: Suite) -> bool
     }
 }
 
-/// What is expected behind a text line, and the record that it ends.
+// What is expected behind a text line, and the record that it ends.
 #[tactic(auto, unfolding(crate::specs::Code::Steps::text_at))]
 fn text_at<'a>(format: Format, entry: Entry<'a>, line: &'a [u8]) -> Result<Next<'a>, Cause>
     ensures { Gives next_view result
@@ -211,7 +211,7 @@ fn text_at<'a>(format: Format, entry: Entry<'a>, line: &'a [u8]) -> Result<Next<
     Ok(Next::behind(format, Entry { text, ..entry }))
 }
 
-/// What is expected behind a line of cuts.
+// What is expected behind a line of cuts.
 #[tactic(auto, unfolding(crate::specs::Code::Steps::cuts_at))]
 fn cuts_at<'a>(format: Format, entry: Entry<'a>, line: &'a [u8]) -> Result<Next<'a>, Cause>
     ensures { Gives next_view result
@@ -225,7 +225,7 @@ fn cuts_at<'a>(format: Format, entry: Entry<'a>, line: &'a [u8]) -> Result<Next<
     }
 }
 
-/// What is expected behind the line behind all fields, and the record that it ends.
+// What is expected behind the line behind all fields, and the record that it ends.
 #[tactic(auto, unfolding(crate::specs::Code::Steps::end_at))]
 fn end_at<'a>(format: Format, entry: Entry<'a>, line: &'a [u8]) -> Result<Next<'a>, Cause>
     ensures { Gives next_view result
@@ -246,7 +246,7 @@ fn end_at<'a>(format: Format, entry: Entry<'a>, line: &'a [u8]) -> Result<Next<'
     text_at(format, entry, line)
 }
 
-/// What is expected behind a line, and the record that it ends.
+// What is expected behind a line, and the record that it ends.
 #[tactic(auto, unfolding(crate::specs::Code::Steps::step))]
 pub(crate) fn step<'a>(place: Place<'a>, line: &'a [u8]) -> Result<Next<'a>, Cause>
     ensures { Gives next_view result (step (view place.entry) line.entry.now) }

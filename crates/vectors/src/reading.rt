@@ -12,7 +12,7 @@ use crate::place::{Next, Place, step};
 use crate::report::Report;
 use std::alloc::Allocator;
 
-/// The fault at a line.
+// The fault at a line.
 fn fault_at(cause: Cause, line: u64) -> VectorFault
     ensures { (lines : List (List ℕ)) → IsFaultAt lines line cause → IsFaultOf lines result }
 {
@@ -27,7 +27,7 @@ fn fault_at(cause: Cause, line: u64) -> VectorFault
     }
 }
 
-/// Reads a vector file and judges each record as it ends.
+// Reads a vector file and judges each record as it ends.
 fn read<A: Allocator>(alloc: A, file: &[u8]) -> Result<Report<A>, VectorFault>
     ensures report { IfOk result (λ report. IsReport (lines_of file.now) report.records report.bad.items) }
     ensures fault { IfErr result (IsFaultOf (lines_of file.now)) }

@@ -19,7 +19,7 @@ pub struct Report<A: Allocator> {
 }
 
 impl<A: Allocator> Report<A> {
-    /// Counts one more record, and notes its number where it disagrees.
+    // Counts one more record, and notes its number where it disagrees.
     pub(crate) fn judge(&mut self, entry: &Entry<'_>) -> Result<(), AllocError>
         requires room { self.old.records + 1 < 2 ^ 64 }
         requires sized { IsSized (entry_view entry.now) }
@@ -30,7 +30,7 @@ impl<A: Allocator> Report<A> {
         self.count(agrees)
     }
 
-    /// Counts one more record, which agrees or disagrees.
+    // Counts one more record, which agrees or disagrees.
     fn count(&mut self, agrees: bool) -> Result<(), AllocError>
         requires { self.old.records + 1 < 2 ^ 64 }
         ensures records { OnOk result (self.new.records ≡ self.old.records + 1) }

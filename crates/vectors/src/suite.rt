@@ -5,15 +5,15 @@ ghost use Rattle.std.specs.Str.{bytes_eq};
 ghost use Rattle.vectors.specs.Suites.{format_named, suite_name, suites, suite_named, aes_key_length};
 ghost use Rattle.vectors.specs.Suites.{suite_key_length, is_aead, fields_of, field_name, field_length};
 
-/// The format of a vector file.
+// The format of a vector file.
 #[derive(Clone, Copy, Debug, PartialEq, Eq)]
 pub(crate) enum Format {
     One,
-    /// It knows key wrapping with padding, and cuts.
+    // It knows key wrapping with padding, and cuts.
     Two,
 }
 
-/// The length of a key of AES.
+// The length of a key of AES.
 #[derive(Clone, Copy, Debug, PartialEq, Eq)]
 pub(crate) enum Aes {
     Bits128,
@@ -21,17 +21,17 @@ pub(crate) enum Aes {
     Bits256,
 }
 
-/// What a record's bytes are sealed or wrapped by.
+// What a record's bytes are sealed or wrapped by.
 #[derive(Clone, Copy, Debug, PartialEq, Eq)]
 pub(crate) enum Suite {
     Aead(aead::Suite),
-    /// Key wrapping.
+    // Key wrapping.
     Wrap(Aes),
-    /// Key wrapping with padding.
+    // Key wrapping with padding.
     WrapPad(Aes),
 }
 
-/// A line of a record between its suite and its end.
+// A line of a record between its suite and its end.
 #[derive(Clone, Copy, Debug, PartialEq, Eq)]
 pub(crate) enum Field {
     Key,
@@ -44,7 +44,7 @@ const AEAD_FIELDS: [Field; 4] = [Field::Key, Field::Nonce, Field::Aad, Field::Se
 
 const WRAP_FIELDS: [Field; 2] = [Field::Key, Field::Sealed];
 
-/// The suites of both formats, and then those of format 2.
+// The suites of both formats, and then those of format 2.
 const SUITES: [Suite; 12] = [
     Suite::Aead(aead::Suite::ChaCha20Poly1305),
     Suite::Aead(aead::Suite::Aes128Gcm),
@@ -61,7 +61,7 @@ const SUITES: [Suite; 12] = [
 ];
 
 impl Format {
-    /// The suites of the format.
+    // The suites of the format.
     fn suites(self) -> &'static [Suite]
         ensures { result.now ≡ suites self }
     {
@@ -100,7 +100,7 @@ impl Field {
 }
 
 impl Aes {
-    /// The number of bytes in a key.
+    // The number of bytes in a key.
     fn key_length(self) -> usize
         ensures { result ≡ aes_key_length self }
     {
@@ -112,7 +112,7 @@ impl Aes {
     }
 }
 
-/// The first of some suites that has that name.
+// The first of some suites that has that name.
 fn first_named(suites: &[Suite], name: &[u8]) -> Option<Suite>
     ensures { result ≡ find (λ s. bytes_eq name.now (suite_name s)) suites.now }
 {
@@ -128,14 +128,14 @@ impl Suite {
         first_named(format.suites(), name)
     }
 
-    /// Whether that is its name.
+    // Whether that is its name.
     fn is_named(self, name: &[u8]) -> bool
         ensures { result ≡ bytes_eq name.now (suite_name self) }
     {
         name == self.name()
     }
 
-    /// The name of a suite.
+    // The name of a suite.
     fn name(self) -> &'static [u8]
         ensures { result.now ≡ suite_name self }
     {
@@ -150,7 +150,7 @@ impl Suite {
         }
     }
 
-    /// The number of bytes in a key.
+    // The number of bytes in a key.
     fn key_length(self) -> usize
         ensures { result ≡ suite_key_length self }
     {

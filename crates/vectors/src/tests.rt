@@ -17,7 +17,7 @@ mod large;
 mod published;
 mod whole;
 
-/// The digit whose lowest bit is another.
+// The digit whose lowest bit is another.
 fn changed(digit: u8) -> u8 {
     match digit {
         b'a' => b'b',
@@ -30,8 +30,8 @@ fn changed(digit: u8) -> u8 {
     }
 }
 
-/// The published vectors with the lowest bit of each record's sealed bytes changed, and `invalid` for its
-/// text.
+// The published vectors with the lowest bit of each record's sealed bytes changed, and `invalid` for its
+// text.
 fn changed_vectors(rt: &(impl Abort + Alloc<A = Global>)) -> Vec<u8> {
     let mut out = Vec::new(rt.alloc());
     for line in PUBLISHED.lines() {
@@ -48,7 +48,7 @@ fn changed_vectors(rt: &(impl Abort + Alloc<A = Global>)) -> Vec<u8> {
     out
 }
 
-/// The published vectors with `invalid` in the fifth record.
+// The published vectors with `invalid` in the fifth record.
 fn fifth_invalid(rt: &(impl Abort + Alloc<A = Global>)) -> Vec<u8> {
     let mut texts = 0u32;
     let mut number = 0usize;
@@ -64,7 +64,7 @@ fn fifth_invalid(rt: &(impl Abort + Alloc<A = Global>)) -> Vec<u8> {
     with_lines(rt, PUBLISHED, number, &[b"invalid".as_slice()])
 }
 
-/// The same file as one of format 2.
+// The same file as one of format 2.
 fn newer(rt: &(impl Abort + Alloc<A = Global>), file: &[u8]) -> Vec<u8> {
     with_lines(
         rt,
@@ -74,7 +74,7 @@ fn newer(rt: &(impl Abort + Alloc<A = Global>), file: &[u8]) -> Vec<u8> {
     )
 }
 
-/// A file has 18 records, of which these disagree.
+// A file has 18 records, of which these disagree.
 fn has_18_records(rt: &(impl Abort + Alloc<A = Global>), file: &[u8], bad: &[u64]) {
     let report = check(rt.alloc(), file).expect(rt, "a report");
     assert_eq!(rt; report.records, 18);

@@ -15,7 +15,7 @@ use aes::AesKey;
 use keywrap::{unwrap_in_place, unwrap_padded_in_place, wrap_in_place, wrap_padded_in_place};
 use std::alloc::{AllocError, Allocator};
 
-/// The key that digits spell.
+// The key that digits spell.
 fn aes_key(digits: Digits<'_>) -> AesKey
     requires { IsKeyLength (length (bytes_in digits)) }
     ensures { result ≡ bytes_in digits.entry }
@@ -29,11 +29,11 @@ fn aes_key(digits: Digits<'_>) -> AesKey
     key
 }
 
-/// Up to how many bytes a text or a wrapping is judged in a room of its own. More are read by semiblocks,
-/// again for each round, which takes three and a half times as long but no memory.
+// Up to how many bytes a text or a wrapping is judged in a room of its own. More are read by semiblocks,
+// again for each round, which takes three and a half times as long but no memory.
 const MOST_IN_ROOM: usize = 1 << 14;
 
-/// Whether the sealed bytes are the wrapping of the text, which is wrapped and compared with them.
+// Whether the sealed bytes are the wrapping of the text, which is wrapped and compared with them.
 fn is_wrapping_in_room<A: Allocator>(
     alloc: A,
     key: &AesKey,
@@ -48,7 +48,7 @@ fn is_wrapping_in_room<A: Allocator>(
     Ok(done.is_ok() && are_spelled(&bytes, sealed))
 }
 
-/// Whether the sealed bytes are the wrapping of the text. Another length than its wrapping's needs no room.
+// Whether the sealed bytes are the wrapping of the text. Another length than its wrapping's needs no room.
 fn is_wrapping<A: Allocator>(
     alloc: A,
     key: &AesKey,
@@ -65,8 +65,8 @@ fn is_wrapping<A: Allocator>(
     is_wrapping_in_room(alloc, key, sealed, text)
 }
 
-/// Whether the sealed bytes are the wrapping of the text with padding, which is wrapped and compared with
-/// them.
+// Whether the sealed bytes are the wrapping of the text with padding, which is wrapped and compared with
+// them.
 fn is_padded_wrapping_in_room<A: Allocator>(
     alloc: A,
     key: &AesKey,
@@ -82,8 +82,8 @@ fn is_padded_wrapping_in_room<A: Allocator>(
     Ok(done.is_ok() && are_spelled(&bytes, sealed))
 }
 
-/// Whether the sealed bytes are the wrapping of the text with padding. Another length than its wrapping's
-/// needs no room.
+// Whether the sealed bytes are the wrapping of the text with padding. Another length than its wrapping's
+// needs no room.
 fn is_padded_wrapping<A: Allocator>(
     alloc: A,
     key: &AesKey,
@@ -100,8 +100,8 @@ fn is_padded_wrapping<A: Allocator>(
     is_padded_wrapping_in_room(alloc, key, sealed, text)
 }
 
-/// Whether the sealed bytes are the wrapping of no text: where there is room for them, they can't be
-/// unwrapped in their place.
+// Whether the sealed bytes are the wrapping of no text: where there is room for them, they can't be
+// unwrapped in their place.
 fn is_no_wrapping<A: Allocator>(
     alloc: A,
     key: &AesKey,
@@ -116,7 +116,7 @@ fn is_no_wrapping<A: Allocator>(
     Ok(unwrap_in_place(key, &mut bytes).is_err())
 }
 
-/// The same with padding.
+// The same with padding.
 fn is_no_padded_wrapping<A: Allocator>(
     alloc: A,
     key: &AesKey,
@@ -131,7 +131,7 @@ fn is_no_padded_wrapping<A: Allocator>(
     Ok(unwrap_padded_in_place(key, &mut bytes).is_err())
 }
 
-/// Whether a record of key wrapping agrees.
+// Whether a record of key wrapping agrees.
 pub(crate) fn wrapped_agrees<A: Allocator>(
     alloc: &A,
     aes: Aes,
@@ -148,7 +148,7 @@ pub(crate) fn wrapped_agrees<A: Allocator>(
     }
 }
 
-/// Whether a record of key wrapping with padding agrees.
+// Whether a record of key wrapping with padding agrees.
 pub(crate) fn padded_agrees<A: Allocator>(
     alloc: &A,
     aes: Aes,

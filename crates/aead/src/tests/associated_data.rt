@@ -5,10 +5,10 @@ use std::alloc::Global;
 use std::process::Abort;
 use std::test::Fail;
 
-/// Up to a room, and past one: the last is of several rooms, and no multiple of one.
+// Up to a room, and past one: the last is of several rooms, and no multiple of one.
 const LENGTHS: [usize; 6] = [0, 1, 255, 256, 257, 1000];
 
-/// Bytes of which no two pieces of a room are the same: 1 to 250 over and over.
+// Bytes of which no two pieces of a room are the same: 1 to 250 over and over.
 fn counted(alloc: Global, length: usize) -> Result<Vec<u8>, Fail> {
     let mut bytes = vec![in alloc; 0u8; length]?;
     let mut next = 1u8;
@@ -19,7 +19,7 @@ fn counted(alloc: Global, length: usize) -> Result<Vec<u8>, Fail> {
     Ok(bytes)
 }
 
-/// The sealing of a text as a stream.
+// The sealing of a text as a stream.
 fn sealed_as_a_stream(
     alloc: Global,
     cipher: &AnyAead,
@@ -41,7 +41,7 @@ fn sealed_as_a_stream(
     Ok(out)
 }
 
-/// Whether a stream is sealed as its text is, and opened again, with associated data of each length.
+// Whether a stream is sealed as its text is, and opened again, with associated data of each length.
 fn is_whole_call(rt: &impl Abort, alloc: Global, suite: Suite, key: &[u8]) -> Result<(), Fail> {
     let cipher = AnyAead::new(suite, key)?;
     let nonce = Nonce::from_slice(&[9; 12])?;

@@ -5,7 +5,7 @@ use crate::*;
 use std::alloc::{Allocator, Global};
 use std::process::Abort;
 
-/// Whether pieces have these lengths.
+// Whether pieces have these lengths.
 fn have_lengths<A: Allocator>(pieces: &[Vec<u8, A>], lengths: &[usize]) -> bool {
     for (piece, length) in pieces.iter().zip(lengths) {
         if piece.len() != *length {
@@ -15,7 +15,7 @@ fn have_lengths<A: Allocator>(pieces: &[Vec<u8, A>], lengths: &[usize]) -> bool 
     pieces.len() == lengths.len()
 }
 
-/// Sealed with these cuts, a text has pieces of these lengths, which joined are its sealing.
+// Sealed with these cuts, a text has pieces of these lengths, which joined are its sealing.
 fn has_pieces(
     rt: &(impl Abort + Alloc<A = Global>),
     sample: &Sample,
@@ -37,7 +37,7 @@ fn has_pieces(
     assert!(rt; have_lengths(&pieces, lengths), "{cuts:?}");
 }
 
-/// Pieces begin at the cuts that are at most the text's length.
+// Pieces begin at the cuts that are at most the text's length.
 #[test]
 fn pieces_begin_at_the_cuts(rt: HostRuntime) {
     let sample = chacha(&rt);
@@ -48,7 +48,7 @@ fn pieces_begin_at_the_cuts(rt: HostRuntime) {
     has_pieces(&rt, &sample, &[114, 115, 200], &[114, 0, 16]);
 }
 
-/// Cut at any one place, a text has one sealing.
+// Cut at any one place, a text has one sealing.
 #[test]
 fn each_single_cut(rt: HostRuntime) {
     let sample = chacha(&rt);
@@ -58,7 +58,7 @@ fn each_single_cut(rt: HostRuntime) {
     }
 }
 
-/// A text that is read twice is cut as one that is read once.
+// A text that is read twice is cut as one that is read once.
 #[test]
 fn pieces_of_two_readings(rt: HostRuntime) {
     has_pieces(&rt, &siv(&rt), &[3, 8], &[3, 5, 0, 16]);

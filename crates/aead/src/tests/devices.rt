@@ -5,8 +5,8 @@ use octets::{Fault, ScriptIntake, ScriptOutlet, Step};
 use std::alloc::Global;
 use std::process::Abort;
 
-/// What a device does: so many calls of seven bytes each before a failure, or three bytes and then a
-/// failure, or calls of seven bytes and no failure, or calls of any number of bytes and none.
+// What a device does: so many calls of seven bytes each before a failure, or three bytes and then a
+// failure, or calls of seven bytes and no failure, or calls of any number of bytes and none.
 #[derive(Clone, Copy, PartialEq, Eq, Debug, Drop)]
 enum Course {
     FailsAfter(usize),
@@ -15,7 +15,7 @@ enum Course {
     IsWhole,
 }
 
-/// The steps of a device.
+// The steps of a device.
 fn steps(rt: &(impl Abort + Alloc<A = Global>), course: Course) -> Vec<Step> {
     let (first, calls, fails) = match course {
         Course::FailsAfter(calls) => (7, calls, true),
@@ -33,7 +33,7 @@ fn steps(rt: &(impl Abort + Alloc<A = Global>), course: Course) -> Vec<Step> {
     steps
 }
 
-/// A reading of these bytes.
+// A reading of these bytes.
 fn reading(
     rt: &(impl Abort + Alloc<A = Global>),
     bytes: &[u8],
@@ -43,13 +43,13 @@ fn reading(
     ScriptIntake::new(bytes, steps(rt, course))
 }
 
-/// What takes bytes.
+// What takes bytes.
 fn outlet(rt: &(impl Abort + Alloc<A = Global>), course: Course) -> ScriptOutlet<Global> {
     ScriptOutlet::new(rt.alloc(), steps(rt, course))
 }
 
-/// Opening the published sealing of 130 bytes: the measure, the verify and the write reading, and what was
-/// given.
+// Opening the published sealing of 130 bytes: the measure, the verify and the write reading, and what was
+// given.
 fn opened(
     rt: &(impl Abort + Alloc<A = Global>),
     measure: Course,
@@ -72,8 +72,8 @@ fn opened(
     )
 }
 
-/// Opening with a device that fails is answered by its fault; what was given is a beginning of these bytes,
-/// and its length is answered.
+// Opening with a device that fails is answered by its fault; what was given is a beginning of these bytes,
+// and its length is answered.
 fn fails(
     rt: &(impl Abort + Alloc<A = Global>),
     courses: (Course, Course, Course, Course),
@@ -88,7 +88,7 @@ fn fails(
     out.bytes().len()
 }
 
-/// Nothing is given where the measure reading fails at its first take, or the verify reading at its second.
+// Nothing is given where the measure reading fails at its first take, or the verify reading at its second.
 #[test]
 fn failing_readings_before_any_byte(rt: HostRuntime) {
     let (first, second) = (Course::FailsAfter(0), Course::FailsAfter(1));
@@ -97,7 +97,7 @@ fn failing_readings_before_any_byte(rt: HostRuntime) {
     let _ = fails(&rt, (whole, second, whole, whole), Fault::Read, &[]);
 }
 
-/// Where the write reading fails after three bytes, no more than these were given.
+// Where the write reading fails after three bytes, no more than these were given.
 #[test]
 fn a_write_reading_that_fails(rt: HostRuntime) {
     let whole = Course::IsWhole;
@@ -105,7 +105,7 @@ fn a_write_reading_that_fails(rt: HostRuntime) {
     let _ = fails(&rt, courses, Fault::Read, &CHACHA_TEXT[..3]);
 }
 
-/// An outlet that fails at once was given nothing, and one that takes three bytes was given these.
+// An outlet that fails at once was given nothing, and one that takes three bytes was given these.
 #[test]
 fn failing_outlets(rt: HostRuntime) {
     let whole = Course::IsWhole;
@@ -115,7 +115,7 @@ fn failing_outlets(rt: HostRuntime) {
     assert_eq!(rt; fails(&rt, courses, Fault::Write, &CHACHA_TEXT[..3]), 3);
 }
 
-/// The course of the device that fails at this call, and that of each other one.
+// The course of the device that fails at this call, and that of each other one.
 fn course_of(fails: bool, call: usize) -> Course {
     if fails {
         Course::FailsAfter(call)
@@ -124,13 +124,13 @@ fn course_of(fails: bool, call: usize) -> Course {
     }
 }
 
-/// The fault of a reading or of the outlet.
+// The fault of a reading or of the outlet.
 fn fault_of(is_outlet: bool) -> Fault {
     if is_outlet { Fault::Write } else { Fault::Read }
 }
 
-/// Whether a run ended well, and all was given; else the fault is the device's, and what was given is a
-/// beginning.
+// Whether a run ended well, and all was given; else the fault is the device's, and what was given is a
+// beginning.
 fn is_done(
     rt: &impl Abort,
     answer: Result<(), Fault>,
@@ -148,8 +148,8 @@ fn is_done(
     answer.is_ok()
 }
 
-/// Opening with one call of one device failing: whether it ended well. Nothing was given where the measure
-/// or the verify reading failed.
+// Opening with one call of one device failing: whether it ended well. Nothing was given where the measure
+// or the verify reading failed.
 fn is_opened(rt: &(impl Abort + Alloc<A = Global>), device: usize, call: usize) -> bool {
     let mut out = outlet(rt, course_of(device == 3, call));
     let answer = opened(
@@ -170,7 +170,7 @@ fn is_opened(rt: &(impl Abort + Alloc<A = Global>), device: usize, call: usize) 
     )
 }
 
-/// Opening with each call of one device failing in turn, until a run ends well.
+// Opening with each call of one device failing in turn, until a run ends well.
 fn each_call_fails(rt: &(impl Abort + Alloc<A = Global>), device: usize) {
     for call in 0..60usize {
         if is_opened(rt, device, call) {
@@ -181,7 +181,7 @@ fn each_call_fails(rt: &(impl Abort + Alloc<A = Global>), device: usize) {
     assert!(rt; false, "device {device}");
 }
 
-/// Each call of each device of the opener fails in turn.
+// Each call of each device of the opener fails in turn.
 #[test]
 fn each_call_of_opening_fails(rt: HostRuntime) {
     for device in 0..4usize {
@@ -189,7 +189,7 @@ fn each_call_of_opening_fails(rt: HostRuntime) {
     }
 }
 
-/// Sealing in one reading with one call of one device failing: whether it ended well.
+// Sealing in one reading with one call of one device failing: whether it ended well.
 fn is_sealed_once(rt: &(impl Abort + Alloc<A = Global>), device: usize, call: usize) -> bool {
     let sample = chacha(rt);
     let cipher = one_pass(&sample.cipher).expect(rt, "one reading");
@@ -205,7 +205,7 @@ fn is_sealed_once(rt: &(impl Abort + Alloc<A = Global>), device: usize, call: us
     )
 }
 
-/// The same with each call of one device failing in turn, until a run ends well.
+// The same with each call of one device failing in turn, until a run ends well.
 fn each_call_fails_once(rt: &(impl Abort + Alloc<A = Global>), device: usize) {
     for call in 0..60usize {
         if is_sealed_once(rt, device, call) {
@@ -216,7 +216,7 @@ fn each_call_fails_once(rt: &(impl Abort + Alloc<A = Global>), device: usize) {
     assert!(rt; false, "device {device}");
 }
 
-/// Each call of each device of sealing in one reading fails in turn.
+// Each call of each device of sealing in one reading fails in turn.
 #[test]
 fn each_call_of_sealing_once_fails(rt: HostRuntime) {
     for device in 0..2usize {
@@ -224,8 +224,8 @@ fn each_call_of_sealing_once_fails(rt: HostRuntime) {
     }
 }
 
-/// Sealing in two readings with one call of one device failing: whether it ended well. Nothing was given
-/// where the first reading failed.
+// Sealing in two readings with one call of one device failing: whether it ended well. Nothing was given
+// where the first reading failed.
 fn is_sealed_twice(rt: &(impl Abort + Alloc<A = Global>), device: usize, call: usize) -> bool {
     let sample = siv(rt);
     let cipher = two_pass(&sample.cipher).expect(rt, "two readings");
@@ -250,7 +250,7 @@ fn is_sealed_twice(rt: &(impl Abort + Alloc<A = Global>), device: usize, call: u
     )
 }
 
-/// The same with each call of one device failing in turn, until a run ends well.
+// The same with each call of one device failing in turn, until a run ends well.
 fn each_call_fails_twice(rt: &(impl Abort + Alloc<A = Global>), device: usize) {
     for call in 0..60usize {
         if is_sealed_twice(rt, device, call) {
@@ -261,7 +261,7 @@ fn each_call_fails_twice(rt: &(impl Abort + Alloc<A = Global>), device: usize) {
     assert!(rt; false, "device {device}");
 }
 
-/// Each call of each device of sealing in two readings fails in turn.
+// Each call of each device of sealing in two readings fails in turn.
 #[test]
 fn each_call_of_sealing_twice_fails(rt: HostRuntime) {
     for device in 0..3usize {

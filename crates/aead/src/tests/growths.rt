@@ -5,7 +5,7 @@ use octets::{Fault, RefusingMemory};
 use std::alloc::{Allocator, Global};
 use std::process::Abort;
 
-/// Whether an answer is right: want of memory where a request was refused, and else what is wanted.
+// Whether an answer is right: want of memory where a request was refused, and else what is wanted.
 fn is_due<A: Allocator + Drop>(
     answer: Result<Vec<u8, A>, Fault>,
     want: Result<&[u8], Fault>,
@@ -22,7 +22,7 @@ fn is_due<A: Allocator + Drop>(
     }
 }
 
-/// Sealing with one request for memory refused after the first `passed` ones: whether it came to that one.
+// Sealing with one request for memory refused after the first `passed` ones: whether it came to that one.
 fn is_seal_refused(rt: &(impl Abort + Alloc<A = Global>), sample: &Sample, passed: u64) -> bool {
     let memory = RefusingMemory::after(passed, rt.alloc());
     let answer = seal(
@@ -40,7 +40,7 @@ fn is_seal_refused(rt: &(impl Abort + Alloc<A = Global>), sample: &Sample, passe
     refused
 }
 
-/// Sealing with each request for memory refused in turn, until none is.
+// Sealing with each request for memory refused in turn, until none is.
 fn seal_refused(rt: &(impl Abort + Alloc<A = Global>), sample: &Sample) {
     for passed in 0..9u64 {
         if !is_seal_refused(rt, sample, passed) {
@@ -51,7 +51,7 @@ fn seal_refused(rt: &(impl Abort + Alloc<A = Global>), sample: &Sample) {
     assert!(rt; false, "requests without end");
 }
 
-/// Each request for memory of sealing is refused in turn.
+// Each request for memory of sealing is refused in turn.
 #[test]
 fn refused_requests_of_seal(rt: HostRuntime) {
     seal_refused(&rt, &chacha(&rt));
@@ -60,7 +60,7 @@ fn refused_requests_of_seal(rt: HostRuntime) {
     seal_refused(&rt, &siv_of_no_text(&rt));
 }
 
-/// Opening with one request for memory refused after the first `passed` ones: whether it came to that one.
+// Opening with one request for memory refused after the first `passed` ones: whether it came to that one.
 fn is_open_refused(
     rt: &(impl Abort + Alloc<A = Global>),
     sample: &Sample,
@@ -75,7 +75,7 @@ fn is_open_refused(
     refused
 }
 
-/// Opening with each request for memory refused in turn, until none is. A body of no bytes asks for none.
+// Opening with each request for memory refused in turn, until none is. A body of no bytes asks for none.
 fn open_refused(
     rt: &(impl Abort + Alloc<A = Global>),
     sample: &Sample,
@@ -91,12 +91,12 @@ fn open_refused(
     assert!(rt; false, "requests without end");
 }
 
-/// The same of a published sealing.
+// The same of a published sealing.
 fn opening_refused(rt: &(impl Abort + Alloc<A = Global>), sample: &Sample) {
     open_refused(rt, sample, sample.sealed, Ok(sample.text));
 }
 
-/// Each request for memory of opening is refused in turn.
+// Each request for memory of opening is refused in turn.
 #[test]
 fn refused_requests_of_open(rt: HostRuntime) {
     opening_refused(&rt, &chacha(&rt));
@@ -105,7 +105,7 @@ fn refused_requests_of_open(rt: HostRuntime) {
     opening_refused(&rt, &siv_of_no_text(&rt));
 }
 
-/// Want of memory comes before the tag is looked at, and after the length.
+// Want of memory comes before the tag is looked at, and after the length.
 #[test]
 fn want_of_memory_in_its_place(rt: HostRuntime) {
     let sample = chacha(&rt);
@@ -116,8 +116,8 @@ fn want_of_memory_in_its_place(rt: HostRuntime) {
     assert!(rt; !is_open_refused(&rt, &sample, short, Err(Fault::TooShort), 0));
 }
 
-/// Sealing in three pieces with one request for memory refused after the first `passed` ones: whether it
-/// came to that one.
+// Sealing in three pieces with one request for memory refused after the first `passed` ones: whether it
+// came to that one.
 fn is_seal_cut_refused(
     rt: &(impl Abort + Alloc<A = Global>),
     sample: &Sample,
@@ -141,7 +141,7 @@ fn is_seal_cut_refused(
     refused
 }
 
-/// Sealing in three pieces with each request for memory refused in turn, until none is.
+// Sealing in three pieces with each request for memory refused in turn, until none is.
 fn seal_cut_refused(rt: &(impl Abort + Alloc<A = Global>), sample: &Sample) {
     for passed in 0..30u64 {
         if !is_seal_cut_refused(rt, sample, passed) {
@@ -152,7 +152,7 @@ fn seal_cut_refused(rt: &(impl Abort + Alloc<A = Global>), sample: &Sample) {
     assert!(rt; false, "requests without end");
 }
 
-/// Each request for memory of sealing in pieces is refused in turn.
+// Each request for memory of sealing in pieces is refused in turn.
 #[test]
 fn refused_requests_of_seal_cut(rt: HostRuntime) {
     seal_cut_refused(&rt, &chacha(&rt));

@@ -5,7 +5,7 @@ use octets::{Fault, ScriptIntake, SliceIntake, Step, VecOutlet};
 use std::alloc::Global;
 use std::process::Abort;
 
-/// The readings of one opening, its answer, and what it gives.
+// The readings of one opening, its answer, and what it gives.
 #[derive(Drop)]
 struct Opening<'a> {
     measure: &'a [u8],
@@ -15,7 +15,7 @@ struct Opening<'a> {
     given: &'a [u8],
 }
 
-/// Opening these readings ends so.
+// Opening these readings ends so.
 fn opens(rt: &(impl Abort + Alloc<A = Global>), sample: &Sample, opening: &Opening) {
     let mut measure = SliceIntake::new(opening.measure);
     let mut verify = SliceIntake::new(opening.verify);
@@ -34,7 +34,7 @@ fn opens(rt: &(impl Abort + Alloc<A = Global>), sample: &Sample, opening: &Openi
     assert_eq!(rt; out.bytes(), opening.given);
 }
 
-/// Three readings of a published sealing give its text.
+// Three readings of a published sealing give its text.
 fn is_opened(rt: &(impl Abort + Alloc<A = Global>), sample: &Sample) {
     let opening = Opening {
         measure: sample.sealed,
@@ -46,7 +46,7 @@ fn is_opened(rt: &(impl Abort + Alloc<A = Global>), sample: &Sample) {
     opens(rt, sample, &opening);
 }
 
-/// Of the sealing of no text they give nothing.
+// Of the sealing of no text they give nothing.
 #[test]
 fn equal_readings(rt: HostRuntime) {
     is_opened(&rt, &chacha(&rt));
@@ -56,7 +56,7 @@ fn equal_readings(rt: HostRuntime) {
     is_opened(&rt, &siv(&rt));
 }
 
-/// A reading of the published sealing of 130 bytes, in takes of one size.
+// A reading of the published sealing of 130 bytes, in takes of one size.
 fn in_takes_of(rt: &(impl Abort + Alloc<A = Global>), size: usize) -> ScriptIntake<Global> {
     let mut steps = Vec::new(rt.alloc());
     for _ in 0..200u32 {
@@ -66,7 +66,7 @@ fn in_takes_of(rt: &(impl Abort + Alloc<A = Global>), size: usize) -> ScriptInta
     ScriptIntake::new(bytes, steps)
 }
 
-/// Three readings in takes of one size give the text.
+// Three readings in takes of one size give the text.
 fn is_opened_in_takes(rt: &(impl Abort + Alloc<A = Global>), size: usize) {
     let sample = chacha(rt);
     let mut measure = in_takes_of(rt, size);
@@ -86,7 +86,7 @@ fn is_opened_in_takes(rt: &(impl Abort + Alloc<A = Global>), size: usize) {
     assert_eq!(rt; out.bytes(), sample.text);
 }
 
-/// Takes of any size make no difference.
+// Takes of any size make no difference.
 #[test]
 fn takes_of_each_size(rt: HostRuntime) {
     is_opened_in_takes(&rt, 1);
@@ -94,35 +94,35 @@ fn takes_of_each_size(rt: HostRuntime) {
     is_opened_in_takes(&rt, 17);
 }
 
-/// The published sealing with its last byte 90 in place of 91.
+// The published sealing with its last byte 90 in place of 91.
 fn other_tag() -> [u8; 130] {
     let mut sealed = CHACHA_SEALED;
     sealed[129] = 0x90;
     sealed
 }
 
-/// The published sealing with byte 100 XORed with 1.
+// The published sealing with byte 100 XORed with 1.
 fn other_body() -> [u8; 130] {
     let mut sealed = CHACHA_SEALED;
     sealed[100] ^= 1;
     sealed
 }
 
-/// The published sealing with a byte after it.
+// The published sealing with a byte after it.
 fn longer() -> [u8; 131] {
     let mut sealed = [0; 131];
     sealed[..130].copy_from_slice(&CHACHA_SEALED);
     sealed
 }
 
-/// The published text with byte 100 XORed with 1.
+// The published text with byte 100 XORed with 1.
 fn other_text() -> [u8; 114] {
     let mut text = *CHACHA_TEXT;
     text[100] ^= 1;
     text
 }
 
-/// The published sealing of 130 bytes is refused where the measure reading is these bytes: nothing is given.
+// The published sealing of 130 bytes is refused where the measure reading is these bytes: nothing is given.
 fn is_refused_measuring(rt: &(impl Abort + Alloc<A = Global>), measure: &[u8]) {
     let sample = chacha(rt);
     let opening = Opening {
@@ -135,14 +135,14 @@ fn is_refused_measuring(rt: &(impl Abort + Alloc<A = Global>), measure: &[u8]) {
     opens(rt, &sample, &opening);
 }
 
-/// Nothing is given where the measure reading is too short to be a sealing.
+// Nothing is given where the measure reading is too short to be a sealing.
 #[test]
 fn measure_readings_that_differ(rt: HostRuntime) {
     is_refused_measuring(&rt, &CHACHA_SEALED[..0]);
     is_refused_measuring(&rt, &CHACHA_SEALED[..15]);
 }
 
-/// It is refused where the verify reading is these bytes: nothing is given.
+// It is refused where the verify reading is these bytes: nothing is given.
 fn is_refused_verifying(rt: &(impl Abort + Alloc<A = Global>), verify: &[u8], fault: Fault) {
     let sample = chacha(rt);
     let opening = Opening {
@@ -155,8 +155,8 @@ fn is_refused_verifying(rt: &(impl Abort + Alloc<A = Global>), verify: &[u8], fa
     opens(rt, &sample, &opening);
 }
 
-/// Nothing is given where the verify reading has another length or tag than the measured one, or is no
-/// sealing.
+// Nothing is given where the verify reading has another length or tag than the measured one, or is no
+// sealing.
 #[test]
 fn verify_readings_that_differ(rt: HostRuntime) {
     is_refused_verifying(&rt, &longer(), Fault::SourceChanged);
@@ -165,7 +165,7 @@ fn verify_readings_that_differ(rt: HostRuntime) {
     is_refused_verifying(&rt, &other_body(), Fault::TagMismatch);
 }
 
-/// Three equal readings of what is no sealing give nothing.
+// Three equal readings of what is no sealing give nothing.
 #[test]
 fn equal_readings_of_no_sealing(rt: HostRuntime) {
     let sealed = other_tag();
@@ -179,7 +179,7 @@ fn equal_readings_of_no_sealing(rt: HostRuntime) {
     opens(&rt, &chacha(&rt), &opening);
 }
 
-/// Opening with another write reading gives these bytes, and is refused then.
+// Opening with another write reading gives these bytes, and is refused then.
 fn gives(rt: &(impl Abort + Alloc<A = Global>), sample: &Sample, write: &[u8], given: &[u8]) {
     let opening = Opening {
         measure: sample.sealed,
@@ -191,7 +191,7 @@ fn gives(rt: &(impl Abort + Alloc<A = Global>), sample: &Sample, write: &[u8], g
     opens(rt, sample, &opening);
 }
 
-/// A write reading that differs is found after its bytes were given.
+// A write reading that differs is found after its bytes were given.
 #[test]
 fn write_readings_that_differ(rt: HostRuntime) {
     let sample = chacha(&rt);
@@ -202,7 +202,7 @@ fn write_readings_that_differ(rt: HostRuntime) {
     gives(&rt, &sample, &[], &[]);
 }
 
-/// The same where the tag is over the text.
+// The same where the tag is over the text.
 #[test]
 fn another_write_reading_of_gcm_siv(rt: HostRuntime) {
     let mut write = SIV_128;

@@ -5,7 +5,7 @@ use octets::{Fault, Tag};
 use std::alloc::Global;
 use std::process::Abort;
 
-/// The tag of a text that is sealed in pieces of these lengths.
+// The tag of a text that is sealed in pieces of these lengths.
 fn sealed_in_pieces(rt: &impl Abort, sample: &Sample, bytes: &mut [u8], lengths: &[usize]) -> Tag {
     let cipher = one_pass(&sample.cipher).expect(rt, "one reading");
     let mut sealer = Sealer::new(cipher, &sample.nonce, sample.aad).expect(rt, "a sealer");
@@ -19,7 +19,7 @@ fn sealed_in_pieces(rt: &impl Abort, sample: &Sample, bytes: &mut [u8], lengths:
     sealer.finish()
 }
 
-/// Sealed in pieces of these lengths, a text has its sealing.
+// Sealed in pieces of these lengths, a text has its sealing.
 fn is_sealed_in_pieces(rt: &(impl Abort + Alloc<A = Global>), sample: &Sample, lengths: &[usize]) {
     let (body, last) = sample
         .sealed
@@ -30,7 +30,7 @@ fn is_sealed_in_pieces(rt: &(impl Abort + Alloc<A = Global>), sample: &Sample, l
     assert_eq!(rt; tag.bytes().as_slice(), last);
 }
 
-/// Cut in two at any place, a text has one sealing.
+// Cut in two at any place, a text has one sealing.
 #[test]
 fn sealer_takes_any_cut(rt: HostRuntime) {
     let sample = chacha(&rt);
@@ -39,13 +39,13 @@ fn sealer_takes_any_cut(rt: HostRuntime) {
     }
 }
 
-/// Pieces that end before, at and behind a block, and an empty one, make the published sealing.
+// Pieces that end before, at and behind a block, and an empty one, make the published sealing.
 #[test]
 fn sealer_takes_uneven_pieces(rt: HostRuntime) {
     is_sealed_in_pieces(&rt, &gcm(&rt), &[1, 15, 0, 17, 27]);
 }
 
-/// The tag of the published text of eight bytes in pieces of 3, 0 and 5, and what encrypts a second reading.
+// The tag of the published text of eight bytes in pieces of 3, 0 and 5, and what encrypts a second reading.
 fn absorbed(rt: &impl Abort) -> (Tag, SivWriter) {
     let sample = siv(rt);
     let cipher = two_pass(&sample.cipher).expect(rt, "two readings");
@@ -57,8 +57,8 @@ fn absorbed(rt: &impl Abort) -> (Tag, SivWriter) {
     absorb.finish()
 }
 
-/// The tag after a second reading in pieces of 3, 0 and the rest, and whether it agreed with the first;
-/// the bytes are encrypted.
+// The tag after a second reading in pieces of 3, 0 and the rest, and whether it agreed with the first;
+// the bytes are encrypted.
 fn written(rt: &impl Abort, bytes: &mut [u8]) -> (Tag, bool) {
     let (tag, mut writer) = absorbed(rt);
     let n = bytes.len();
@@ -70,7 +70,7 @@ fn written(rt: &impl Abort, bytes: &mut [u8]) -> (Tag, bool) {
     (tag, writer.finish().is_ok())
 }
 
-/// Two readings in pieces make the published sealing.
+// Two readings in pieces make the published sealing.
 #[test]
 fn two_equal_readings(rt: HostRuntime) {
     let mut bytes = SIV_TEXT;
@@ -80,7 +80,7 @@ fn two_equal_readings(rt: HostRuntime) {
     assert!(rt; agrees);
 }
 
-/// A second reading of another text is found.
+// A second reading of another text is found.
 #[test]
 fn another_second_text(rt: HostRuntime) {
     let mut bytes = SIV_TEXT;
@@ -89,7 +89,7 @@ fn another_second_text(rt: HostRuntime) {
     assert!(rt; !agrees);
 }
 
-/// A second reading of seven bytes in place of eight is found.
+// A second reading of seven bytes in place of eight is found.
 #[test]
 fn a_shorter_second_text(rt: HostRuntime) {
     let mut bytes = [1, 0, 0, 0, 0, 0, 0];
@@ -97,7 +97,7 @@ fn a_shorter_second_text(rt: HostRuntime) {
     assert!(rt; !agrees);
 }
 
-/// A byte past the first text is refused and stays, and the second reading agrees as if it had not come.
+// A byte past the first text is refused and stays, and the second reading agrees as if it had not come.
 #[test]
 fn a_longer_second_text(rt: HostRuntime) {
     let (_, mut writer) = absorbed(&rt);

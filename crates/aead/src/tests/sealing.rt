@@ -5,7 +5,7 @@ use octets::{Fault, SliceIntake, VecOutlet};
 use std::alloc::Global;
 use std::process::Abort;
 
-/// The text of a sample, as a stream, has its sealing.
+// The text of a sample, as a stream, has its sealing.
 fn is_sealed(rt: &(impl Abort + Alloc<A = Global>), sample: &Sample) {
     let cipher = one_pass(&sample.cipher).expect(rt, "one reading");
     let mut out = VecOutlet::new(rt.alloc());
@@ -15,7 +15,7 @@ fn is_sealed(rt: &(impl Abort + Alloc<A = Global>), sample: &Sample) {
     assert_eq!(rt; out.bytes(), sample.sealed);
 }
 
-/// A stream that is read once is sealed as its text is.
+// A stream that is read once is sealed as its text is.
 #[test]
 fn a_stream_has_the_sealing_of_its_text(rt: HostRuntime) {
     is_sealed(&rt, &chacha(&rt));
@@ -23,8 +23,8 @@ fn a_stream_has_the_sealing_of_its_text(rt: HostRuntime) {
     is_sealed(&rt, &gcm(&rt));
 }
 
-/// The answer for a second reading of the published text of eight bytes, with what was given: a beginning
-/// of `most`.
+// The answer for a second reading of the published text of eight bytes, with what was given: a beginning
+// of `most`.
 fn sealed_again(
     rt: &(impl Abort + Alloc<A = Global>),
     second: &[u8],
@@ -49,13 +49,13 @@ fn sealed_again(
     assert!(rt; want.is_err() || out.bytes().len() == most.len());
 }
 
-/// A stream that is read twice is sealed as its text is.
+// A stream that is read twice is sealed as its text is.
 #[test]
 fn a_stream_read_twice(rt: HostRuntime) {
     sealed_again(&rt, &SIV_TEXT, Ok(()), &SIV_128);
 }
 
-/// The tag is not given after a second reading of another text.
+// The tag is not given after a second reading of another text.
 #[test]
 fn a_stream_of_another_second_text(rt: HostRuntime) {
     let second = [1, 0, 0, 0, 0, 0, 0, 1];
@@ -63,7 +63,7 @@ fn a_stream_of_another_second_text(rt: HostRuntime) {
     sealed_again(&rt, &second, Err(Fault::SourceChanged), &most);
 }
 
-/// Nor after a shorter one.
+// Nor after a shorter one.
 #[test]
 fn a_stream_of_a_shorter_second_text(rt: HostRuntime) {
     let most = [0xb5, 0xd8, 0x39];

@@ -11,7 +11,7 @@ use std::{fs, io};
 
 const WORDS: [&str; 2] = ["check", "vectors.txt"];
 
-/// The report of a file, or its first fault.
+// The report of a file, or its first fault.
 #[test]
 fn reports(rt: HostRuntime) {
     for (file, status, printed, complaint) in [
@@ -60,7 +60,7 @@ fn reports(rt: HostRuntime) {
     }
 }
 
-/// The published vectors agree, but for one whose text is denied.
+// The published vectors agree, but for one whose text is denied.
 #[test]
 fn published_vectors(rt: HostRuntime) -> Result<(), Fail> {
     let file = one_of_eighteen_bad(rt.alloc())?;
@@ -71,7 +71,7 @@ fn published_vectors(rt: HostRuntime) -> Result<(), Fail> {
     Ok(())
 }
 
-/// A file that can't be opened or read is `Read`, and want of memory is `OutOfMemory`.
+// A file that can't be opened or read is `Read`, and want of memory is `OutOfMemory`.
 #[test]
 fn unreadable_files(rt: HostRuntime) {
     runs_over(&rt, &NoFiles, &WORDS, 3, "", "aeadkit: Read\n");
@@ -85,7 +85,7 @@ fn unreadable_files(rt: HostRuntime) {
     runs_over(&rt, &files, &WORDS, 4, "", "aeadkit: OutOfMemory\n");
 }
 
-/// A report that can't be printed is `Write`.
+// A report that can't be printed is `Write`.
 #[test]
 fn failing_output(rt: HostRuntime) {
     let files = OneFile {
@@ -99,7 +99,7 @@ fn failing_output(rt: HostRuntime) {
     assert_eq!(rt; err.as_slice(), b"aeadkit: Write\n".as_slice());
 }
 
-/// The same over the system's files, in a folder of the test's own.
+// The same over the system's files, in a folder of the test's own.
 #[test]
 fn system_files(rt: HostRuntime) -> Result<(), Fail> {
     let folder = "aeadkit_checks";

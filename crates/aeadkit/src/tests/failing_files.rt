@@ -7,8 +7,8 @@ use crate::run::run;
 use std::alloc::Global;
 use std::process::Abort;
 
-/// The failure is of the side that went wrong, and the written file holds a beginning of what it should;
-/// none was made where a reading before the last one went wrong.
+// The failure is of the side that went wrong, and the written file holds a beginning of what it should;
+// none was made where a reading before the last one went wrong.
 fn is_stopped(rt: &impl Abort, log: &Log, err: &[u8], to: &[u8], last: u8) {
     let complaint = match log.reading.get() {
         Some(reading) => {
@@ -21,7 +21,7 @@ fn is_stopped(rt: &impl Abort, log: &Log, err: &[u8], to: &[u8], last: u8) {
     assert!(rt; log.begins(to));
 }
 
-/// Runs a file command with one call that goes wrong, and answers whether it was done before that call.
+// Runs a file command with one call that goes wrong, and answers whether it was done before that call.
 fn goes(
     rt: &(impl Abort + Alloc<A = Global>),
     words: &[&str],
@@ -60,8 +60,8 @@ fn goes(
     is_over
 }
 
-/// Runs a file command with each of its calls going wrong in turn, until a run is done before the call that
-/// would.
+// Runs a file command with each of its calls going wrong in turn, until a run is done before the call that
+// would.
 fn each_call_goes(
     rt: &(impl Abort + Alloc<A = Global>),
     words: &[&str],
@@ -80,7 +80,7 @@ fn each_call_goes(
     assert!(rt; false, "calls without end");
 }
 
-/// Seals and opens a vector's text with each call going wrong in turn; sealing ends with the given reading.
+// Seals and opens a vector's text with each call going wrong in turn; sealing ends with the given reading.
 fn each_call_of(
     rt: &(impl Abort + Alloc<A = Global>),
     vector: &Vector<'_>,
@@ -95,36 +95,36 @@ fn each_call_of(
     each_call_goes(rt, &words, &sealed, &text, 2, how);
 }
 
-/// Each opening, read, making, write and sync fails in turn.
+// Each opening, read, making, write and sync fails in turn.
 #[test]
 fn calls_that_fail(rt: HostRuntime) {
     each_call_of(&rt, &CHACHA, 0, (Wrong::Fails, false));
     each_call_of(&rt, &GCM_SIV, 1, (Wrong::Fails, false));
 }
 
-/// Each call is interrupted in turn, which is a failure.
+// Each call is interrupted in turn, which is a failure.
 #[test]
 fn calls_that_are_interrupted(rt: HostRuntime) {
     each_call_of(&rt, &CHACHA, 0, (Wrong::IsInterrupted, false));
     each_call_of(&rt, &GCM_SIV, 1, (Wrong::IsInterrupted, false));
 }
 
-/// Each call moves one byte alone in turn, which changes nothing.
+// Each call moves one byte alone in turn, which changes nothing.
 #[test]
 fn calls_that_are_short(rt: HostRuntime) {
     each_call_of(&rt, &CHACHA, 0, (Wrong::IsShort, false));
     each_call_of(&rt, &GCM_SIV, 1, (Wrong::IsShort, false));
 }
 
-/// Each call moves one byte, and each of them fails in turn.
+// Each call moves one byte, and each of them fails in turn.
 #[test]
 fn calls_that_fail_after_single_bytes(rt: HostRuntime) {
     each_call_of(&rt, &CHACHA, 0, (Wrong::Fails, true));
     each_call_of(&rt, &GCM_SIV, 1, (Wrong::Fails, true));
 }
 
-/// Runs `open-file` over three readings of a file, and compares the status, standard error, and whether the
-/// file was made.
+// Runs `open-file` over three readings of a file, and compares the status, standard error, and whether the
+// file was made.
 fn opens<'b>(
     rt: &(impl Abort + Alloc<A = Global>),
     readings: (&'b [u8], &'b [u8], &'b [u8]),
@@ -146,7 +146,7 @@ fn opens<'b>(
     assert_eq!(rt; log.made.get(), made);
 }
 
-/// A sealing with one bit of its body changed.
+// A sealing with one bit of its body changed.
 fn changed(rt: &(impl Abort + Alloc<A = Global>)) -> Vec<u8> {
     let mut other = bytes(rt, CHACHA.sealed);
     if let Some(byte) = other.get_mut(100) {
@@ -155,10 +155,10 @@ fn changed(rt: &(impl Abort + Alloc<A = Global>)) -> Vec<u8> {
     other
 }
 
-/// The first fifteen bytes of a sealing.
+// The first fifteen bytes of a sealing.
 const START: &str = "d31a8d34648e60db7b86afbc53ef7e";
 
-/// A third reading that differs from the second is `SourceChanged`, after the file was made.
+// A third reading that differs from the second is `SourceChanged`, after the file was made.
 #[test]
 fn third_reading_differs(rt: HostRuntime) {
     let whole = bytes(&rt, CHACHA.sealed);
@@ -173,8 +173,8 @@ fn third_reading_differs(rt: HostRuntime) {
     );
 }
 
-/// A second reading of another length is `SourceChanged`, and one that is no sealing `TagMismatch`; no file
-/// is made.
+// A second reading of another length is `SourceChanged`, and one that is no sealing `TagMismatch`; no file
+// is made.
 #[test]
 fn second_reading_differs(rt: HostRuntime) {
     let whole = bytes(&rt, CHACHA.sealed);
@@ -190,7 +190,7 @@ fn second_reading_differs(rt: HostRuntime) {
     opens(&rt, (&whole, &changed(&rt), &whole), 1, complaint, false);
 }
 
-/// A first reading that is too short is `TooShort`; no file is made.
+// A first reading that is too short is `TooShort`; no file is made.
 #[test]
 fn first_reading_is_short(rt: HostRuntime) {
     let whole = bytes(&rt, CHACHA.sealed);

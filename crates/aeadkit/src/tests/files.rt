@@ -37,23 +37,23 @@ pub fn bytes(rt: &(impl Abort + Alloc<A = Global>), digits: &str) -> Vec<u8> {
     hex::decode(rt.alloc(), digits).expect(rt, "digits")
 }
 
-/// Makes a folder, without what an earlier run left in it.
+// Makes a folder, without what an earlier run left in it.
 fn make_folder(rt: &(impl Abort + Files + Alloc), folder: &str) {
     let _ = fs::remove_dir_all(rt, folder);
     assert!(rt; fs::create_dir(rt, folder).is_ok());
 }
 
-/// Removes a folder, with what is in it.
+// Removes a folder, with what is in it.
 fn remove_folder(rt: &(impl Abort + Files + Alloc), folder: &str) {
     assert!(rt; fs::remove_dir_all(rt, folder).is_ok());
 }
 
-/// Makes a file that holds these bytes.
+// Makes a file that holds these bytes.
 fn make_file(rt: &(impl Abort + Files), path: &str, held: &[u8]) {
     assert!(rt; fs::write(rt, path, held).is_ok());
 }
 
-/// A sealing with another last byte.
+// A sealing with another last byte.
 fn forged(rt: &(impl Abort + Alloc<A = Global>)) -> Vec<u8> {
     let mut other = bytes(rt, CHACHA.sealed);
     if let Some(last) = other.last_mut() {
@@ -62,7 +62,7 @@ fn forged(rt: &(impl Abort + Alloc<A = Global>)) -> Vec<u8> {
     other
 }
 
-/// Runs a file command under a vector's inputs, and compares the status and standard error.
+// Runs a file command under a vector's inputs, and compares the status and standard error.
 fn runs(
     rt: &(impl Abort + Files + Alloc<A = Global>),
     name: &str,
@@ -76,13 +76,13 @@ fn runs(
     runs_over(rt, &Disk::new(rt), &words, status, "", complaint);
 }
 
-/// A file holds the bytes that digits spell.
+// A file holds the bytes that digits spell.
 fn holds(rt: &(impl Abort + Files + Alloc<A = Global>), path: &str, digits: &str) {
     let held = fs::read(rt, path).expect(rt, "a file");
     assert!(rt; held.as_slice() == bytes(rt, digits).as_slice());
 }
 
-/// Sealing a file and opening the result gives the text.
+// Sealing a file and opening the result gives the text.
 #[test]
 fn file_sealed_and_opened(rt: HostRuntime) {
     make_folder(&rt, "aeadkit_both");
@@ -97,7 +97,7 @@ fn file_sealed_and_opened(rt: HostRuntime) {
     remove_folder(&rt, "aeadkit_both");
 }
 
-/// Bytes that are no sealing make no file.
+// Bytes that are no sealing make no file.
 #[test]
 fn no_sealing_makes_no_file(rt: HostRuntime) -> Result<(), Fail> {
     make_folder(&rt, "aeadkit_wrong");
@@ -111,7 +111,7 @@ fn no_sealing_makes_no_file(rt: HostRuntime) -> Result<(), Fail> {
     Ok(())
 }
 
-/// An empty text makes an empty file.
+// An empty text makes an empty file.
 #[test]
 fn empty_text_makes_an_empty_file(rt: HostRuntime) {
     make_folder(&rt, "aeadkit_empty");
@@ -123,7 +123,7 @@ fn empty_text_makes_an_empty_file(rt: HostRuntime) {
     remove_folder(&rt, "aeadkit_empty");
 }
 
-/// A path that leads nowhere is `Read` for the file that is read, and `Write` for the one that is written.
+// A path that leads nowhere is `Read` for the file that is read, and `Write` for the one that is written.
 #[test]
 fn paths_that_lead_nowhere(rt: HostRuntime) {
     make_folder(&rt, "aeadkit_paths");
@@ -137,7 +137,7 @@ fn paths_that_lead_nowhere(rt: HostRuntime) {
     remove_folder(&rt, "aeadkit_paths");
 }
 
-/// The same text for both paths is `Words`.
+// The same text for both paths is `Words`.
 #[test]
 fn one_path_for_both(rt: HostRuntime) {
     for name in ["seal-file", "open-file"] {

@@ -16,14 +16,14 @@ use std::cell::Cell;
 use std::io;
 use std::process::Abort;
 
-/// The failure is want of memory, with its status and its text.
+// The failure is want of memory, with its status and its text.
 fn wants_memory(rt: &(impl Abort + Alloc<A = Global>), failure: Failure) {
     let mut err: Vec<u8> = Vec::new(rt.alloc());
     assert_eq!(rt; report(&mut err, failure), 4);
     assert_eq!(rt; err.as_slice(), b"aeadkit: OutOfMemory\n".as_slice());
 }
 
-/// A refused request prints nothing, and any other the line, with status 0.
+// A refused request prints nothing, and any other the line, with status 0.
 fn is_right(
     rt: &(impl Abort + Alloc<A = Global>),
     answer: Result<u8, Failure>,
@@ -42,8 +42,8 @@ fn is_right(
     }
 }
 
-/// Performs a request with one request for memory refused after the first `passed` ones, and answers whether
-/// it came to that one: then nothing is printed, and else the line is.
+// Performs a request with one request for memory refused after the first `passed` ones, and answers whether
+// it came to that one: then nothing is printed, and else the line is.
 fn is_refused<'x, F: Storage>(
     rt: &(impl Abort + Alloc<A = Global>),
     files: &'x F,
@@ -60,7 +60,7 @@ fn is_refused<'x, F: Storage>(
     memory.has_refused()
 }
 
-/// Performs a request with each of its requests for memory refused in turn, until none is. At least one is.
+// Performs a request with each of its requests for memory refused in turn, until none is. At least one is.
 fn each_is_refused<'x, F: Storage>(
     rt: &(impl Abort + Alloc<A = Global>),
     files: &'x F,
@@ -76,7 +76,7 @@ fn each_is_refused<'x, F: Storage>(
     assert!(rt; false, "requests without end");
 }
 
-/// The inputs of a vector, with a body.
+// The inputs of a vector, with a body.
 fn inputs<'a>(vector: &Vector<'a>, body: &'a str) -> Inputs<'a> {
     Inputs {
         suite: vector.suite,
@@ -87,7 +87,7 @@ fn inputs<'a>(vector: &Vector<'a>, body: &'a str) -> Inputs<'a> {
     }
 }
 
-/// Sealing a vector's text, and opening the sealed bytes.
+// Sealing a vector's text, and opening the sealed bytes.
 fn seal_and_open(rt: &(impl Abort + Alloc<A = Global>), vector: &Vector<'_>) {
     let request = Request::Seal(inputs(vector, vector.text));
     each_is_refused(rt, &NoFiles, &request, vector.sealed);
@@ -102,7 +102,7 @@ fn seal_and_open_want_memory_only_where_refused(rt: HostRuntime) {
     seal_and_open(&rt, &GCM_SIV);
 }
 
-/// Wrapping a text, and unwrapping the wrapping.
+// Wrapping a text, and unwrapping the wrapping.
 fn wrap_and_unwrap(
     rt: &(impl Abort + Alloc<A = Global>),
     key: &str,
@@ -114,7 +114,7 @@ fn wrap_and_unwrap(
     each_is_refused(rt, &NoFiles, &Request::Unwrap { key, sealed, pad }, text);
 }
 
-/// RFC 3394, 4.1, and RFC 5649, 6.
+// RFC 3394, 4.1, and RFC 5649, 6.
 #[test]
 fn wrap_and_unwrap_want_memory_only_where_refused(rt: HostRuntime) {
     wrap_and_unwrap(
@@ -133,7 +133,7 @@ fn wrap_and_unwrap_want_memory_only_where_refused(rt: HostRuntime) {
     );
 }
 
-/// What asks for the report of a file among these.
+// What asks for the report of a file among these.
 fn checking<'x>(_files: &'x OneFile<'_>) -> Request<'x> {
     Request::Check { path: "" }
 }
@@ -147,16 +147,16 @@ fn check_wants_memory_only_where_refused(rt: HostRuntime) {
     each_is_refused(&rt, &files, &request, "records 2");
 }
 
-/// Files in memory that ask for memory: each opening does, and the making of the file that is written.
+// Files in memory that ask for memory: each opening does, and the making of the file that is written.
 #[derive(Drop)]
 struct Asking<'b, 'l, 'm, A: Allocator> {
     files: Scripted<'b, 'l>,
     memory: &'m A,
-    /// Whether the making was refused.
+    // Whether the making was refused.
     unmade: Cell<bool>,
 }
 
-/// Asks for memory, and gives it back.
+// Asks for memory, and gives it back.
 fn ask<A: Allocator>(memory: &A) -> io::Result<()> {
     match Vec::<u8, &A>::with_capacity(memory, 1) {
         Ok(_) => Ok(()),
@@ -186,9 +186,9 @@ impl<'b, 'l, A: Allocator> Storage for Asking<'b, 'l, '_, A> {
     }
 }
 
-/// Performs a file command with one request for memory refused after the first `passed` ones, and answers
-/// the status: 4 where it came to that one, or 3 where the making of the file asked for it, and then no file
-/// is made; and else 0, and it holds these bytes.
+// Performs a file command with one request for memory refused after the first `passed` ones, and answers
+// the status: 4 where it came to that one, or 3 where the making of the file asked for it, and then no file
+// is made; and else 0, and it holds these bytes.
 fn file_status<'x>(
     rt: &(impl Abort + Alloc<A = Global>),
     request: &Request<'x>,
@@ -237,8 +237,8 @@ fn file_status<'x>(
     status
 }
 
-/// Performs a file command with each of its requests for memory refused in turn, until none is. The making
-/// of the file asks last.
+// Performs a file command with each of its requests for memory refused in turn, until none is. The making
+// of the file asks last.
 fn each_file_status<'x>(
     rt: &(impl Abort + Alloc<A = Global>),
     request: &Request<'x>,
@@ -258,7 +258,7 @@ fn each_file_status<'x>(
     assert!(rt; false, "requests without end");
 }
 
-/// The inputs of a vector, for a file command.
+// The inputs of a vector, for a file command.
 fn file_inputs<'a>(vector: &Vector<'a>) -> FileWords<'a> {
     FileWords {
         inputs: inputs(vector, ""),
@@ -267,7 +267,7 @@ fn file_inputs<'a>(vector: &Vector<'a>) -> FileWords<'a> {
     }
 }
 
-/// Sealing a file of a vector's text, and opening one of the sealed bytes.
+// Sealing a file of a vector's text, and opening one of the sealed bytes.
 fn seal_and_open_files(rt: &(impl Abort + Alloc<A = Global>), vector: &Vector<'_>) {
     let text = bytes(rt, vector.text);
     let sealed = bytes(rt, vector.sealed);

@@ -10,7 +10,7 @@ const KEY: &str = "000102030405060708090a0b0c0d0e0f";
 
 const TEXT: &str = "00112233445566778899aabbccddeeff";
 
-/// What is no command line is refused as `Words`.
+// What is no command line is refused as `Words`.
 #[test]
 fn refused_words(rt: HostRuntime) {
     let refused = |words: &[&str]| refuses(&rt, words, 2, "aeadkit: Words\n");
@@ -41,7 +41,7 @@ fn refused_words(rt: HostRuntime) {
     refused(&["--version"]);
 }
 
-/// The words print help, with status 0, and nothing to standard error.
+// The words print help, with status 0, and nothing to standard error.
 fn helps(rt: &(impl Abort + Alloc<A = Global>), words: &[&str]) {
     let mut out: Vec<u8> = Vec::new(rt.alloc());
     let mut err: Vec<u8> = Vec::new(rt.alloc());
@@ -50,7 +50,7 @@ fn helps(rt: &(impl Abort + Alloc<A = Global>), words: &[&str]) {
     assert!(rt; !out.is_empty() && err.is_empty(), "{words:?}");
 }
 
-/// Help goes to standard output, with status 0.
+// Help goes to standard output, with status 0.
 #[test]
 fn help_asked_for(rt: HostRuntime) {
     for words in [
@@ -67,7 +67,7 @@ fn help_asked_for(rt: HostRuntime) {
     }
 }
 
-/// Help that can't be written is `Write`.
+// Help that can't be written is `Write`.
 #[test]
 fn failing_help(rt: HostRuntime) {
     let kind = io::ErrorKind::BrokenPipe;

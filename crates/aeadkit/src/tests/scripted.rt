@@ -79,7 +79,7 @@ impl<'a> Script<'a> {
         }
     }
 
-    /// Counts a call, and answers how many bytes it may move, or its failure.
+    // Counts a call, and answers how many bytes it may move, or its failure.
     fn step(&self, reading: Option<u8>, wanted: usize) -> io::Result<usize>
         ensures { IfOk result (λ n. n ≤ wanted) }
     {

@@ -8,7 +8,7 @@ const ZERO16: &str = "00000000000000000000000000000000";
 
 const ZERO24: &str = "000000000000000000000000000000000000000000000000";
 
-/// A vector seals and opens.
+// A vector seals and opens.
 fn seals_and_opens(rt: &(impl Abort + Alloc<A = Global>), vector: &Vector<'_>) {
     let Vector {
         suite,
@@ -35,7 +35,7 @@ fn standard_vectors(rt: HostRuntime) {
     }
 }
 
-/// Options that are not given stand for no bytes.
+// Options that are not given stand for no bytes.
 #[test]
 fn options_left_out(rt: HostRuntime) {
     let Vector {
@@ -53,7 +53,7 @@ fn options_left_out(rt: HostRuntime) {
     prints(&rt, &words, "");
 }
 
-/// Bytes that are no sealing.
+// Bytes that are no sealing.
 #[test]
 fn wrong_bytes(rt: HostRuntime) {
     let Vector {
@@ -79,7 +79,7 @@ fn wrong_bytes(rt: HostRuntime) {
     }
 }
 
-/// A suite, a key, a nonce, associated data and a body, and the fault that they have.
+// A suite, a key, a nonce, associated data and a body, and the fault that they have.
 type Row = (
     &'static str,
     &'static str,
@@ -118,7 +118,7 @@ const REFUSED: [Row; 12] = [
     ("aes-128-gcm", ZERO16, "", "", "", "aeadkit: NonceLength\n"),
 ];
 
-/// Inputs are refused by sealing and by opening.
+// Inputs are refused by sealing and by opening.
 fn are_refused(rt: &(impl Abort + Alloc<A = Global>), row: &Row) {
     let (suite, key, nonce, aad, body, line) = *row;
     let words = [
@@ -131,8 +131,8 @@ fn are_refused(rt: &(impl Abort + Alloc<A = Global>), row: &Row) {
     refuses(rt, &words, 2, line);
 }
 
-/// The suite's name comes first, then the hex of key, nonce, associated data and body, then the key's
-/// length, then the nonce's.
+// The suite's name comes first, then the hex of key, nonce, associated data and body, then the key's
+// length, then the nonce's.
 #[test]
 fn refusals_in_order(rt: HostRuntime) {
     for row in &REFUSED {

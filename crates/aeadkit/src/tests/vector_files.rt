@@ -45,7 +45,7 @@ key = 00000000000000000000000000000000
 nonce = 000
 ";
 
-/// Adds a record of a vector's sealed bytes to a file, whose text stands in it or is denied.
+// Adds a record of a vector's sealed bytes to a file, whose text stands in it or is denied.
 fn add_vector(file: &mut String, vector: &Vector<'_>, is_denied: bool) -> Result<(), AllocError> {
     let Vector {
         suite,
@@ -66,7 +66,7 @@ fn add_vector(file: &mut String, vector: &Vector<'_>, is_denied: bool) -> Result
     }
 }
 
-/// Adds a record of a wrapping to a file.
+// Adds a record of a wrapping to a file.
 fn add_wrapping(file: &mut String, wrapping: &Wrapping<'_>) -> Result<(), AllocError> {
     let Wrapping {
         suite,

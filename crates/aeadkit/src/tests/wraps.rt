@@ -13,7 +13,7 @@ const TEXT: &str = "00112233445566778899aabbccddeeff";
 
 const WRAPPED: &str = "1fa68b0a8112b447aef34bd8fb5a7b829d3e862371d2cfe5";
 
-/// A text wraps, and its wrapping unwraps.
+// A text wraps, and its wrapping unwraps.
 fn wraps_and_unwraps(rt: &(impl Abort + Alloc<A = Global>), wrapping: &Wrapping<'_>) {
     let Wrapping {
         key,
@@ -25,7 +25,7 @@ fn wraps_and_unwraps(rt: &(impl Abort + Alloc<A = Global>), wrapping: &Wrapping<
     prints(rt, &["unwrap", "--key", key, "--sealed", wrapped], text);
 }
 
-/// RFC 3394, sections 4.1 to 4.6, both ways.
+// RFC 3394, sections 4.1 to 4.6, both ways.
 #[test]
 fn standard_vectors(rt: HostRuntime) {
     for wrapping in &WRAPPINGS {
@@ -33,13 +33,13 @@ fn standard_vectors(rt: HostRuntime) {
     }
 }
 
-/// A key and a text for wrapping, or a wrapping, are refused with status 2.
+// A key and a text for wrapping, or a wrapping, are refused with status 2.
 fn are_refused(rt: &(impl Abort + Alloc<A = Global>), key: &str, body: &str, line: &str) {
     refuses(rt, &["wrap", "--key", key, "--text", body], 2, line);
     refuses(rt, &["unwrap", "--key", key, "--sealed", body], 2, line);
 }
 
-/// The hex of the key comes first, then that of the text, then the key's length, then the text's.
+// The hex of the key comes first, then that of the text, then the key's length, then the text's.
 #[test]
 fn refusals_in_order(rt: HostRuntime) {
     for (key, body, name) in [
@@ -62,7 +62,7 @@ fn refusals_in_order(rt: HostRuntime) {
 
 const PADDED_KEY: &str = "5840df6e29b02af1ab493b705bf16ea1ae8338f4dcc176a8";
 
-/// RFC 5649, section 6, both ways.
+// RFC 5649, section 6, both ways.
 #[test]
 fn padded_vectors(rt: HostRuntime) {
     for (text, wrapped) in [
@@ -79,8 +79,8 @@ fn padded_vectors(rt: HostRuntime) {
     }
 }
 
-/// No text of no bytes is padded; a wrapping with padding has 16 bytes at least, in whole blocks. The two
-/// forms refuse one another's wrappings.
+// No text of no bytes is padded; a wrapping with padding has 16 bytes at least, in whole blocks. The two
+// forms refuse one another's wrappings.
 #[test]
 fn padded_refusals(rt: HostRuntime) {
     let length = "aeadkit: WrapLength\n";
@@ -113,7 +113,7 @@ fn padded_refusals(rt: HostRuntime) {
     );
 }
 
-/// Changed bytes are no wrapping.
+// Changed bytes are no wrapping.
 #[test]
 fn changed_wrapping(rt: HostRuntime) {
     let changed = "1fa68b0a8112b447aef34bd8fb5a7b829d3e862371d2cfe4";
@@ -121,7 +121,7 @@ fn changed_wrapping(rt: HostRuntime) {
     refuses(&rt, &words, 1, "aeadkit: WrapIntegrity\n");
 }
 
-/// Hex digits may be of either case, and a value may stand behind `=`.
+// Hex digits may be of either case, and a value may stand behind `=`.
 #[test]
 fn other_spellings(rt: HostRuntime) {
     prints(
@@ -135,7 +135,7 @@ fn other_spellings(rt: HostRuntime) {
     );
 }
 
-/// A failing standard output is `Write`, and one that wants memory is `OutOfMemory`.
+// A failing standard output is `Write`, and one that wants memory is `OutOfMemory`.
 #[test]
 fn failing_output(rt: HostRuntime) {
     let words = ["wrap", "--key", KEY16, "--text", TEXT];
@@ -153,7 +153,7 @@ fn failing_output(rt: HostRuntime) {
     }
 }
 
-/// A failing standard error changes no status.
+// A failing standard error changes no status.
 #[test]
 fn failing_error(rt: HostRuntime) {
     for (words, status) in [

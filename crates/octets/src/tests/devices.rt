@@ -7,7 +7,7 @@ use std::test::Fail;
 
 const BYTES: [u8; 10] = [0, 1, 2, 3, 4, 5, 6, 7, 8, 9];
 
-/// A call gives these bytes, which fill the room's beginning, or fails, and leaves the rest of the room.
+// A call gives these bytes, which fill the room's beginning, or fails, and leaves the rest of the room.
 fn takes<A: Allocator>(
     rt: &impl Abort,
     intake: &mut ScriptIntake<A>,
@@ -19,7 +19,7 @@ fn takes<A: Allocator>(
     assert!(rt; buf == room);
 }
 
-/// 0 counts as 1, no call gives more than fits, and behind the last step come as many as are left.
+// 0 counts as 1, no call gives more than fits, and behind the last step come as many as are left.
 #[test]
 fn a_script_intake_follows_its_steps(rt: HostRuntime) -> Result<(), Fail> {
     let steps = vec![in rt.alloc(); Step::Give(3), Step::Give(0), Step::Fail, Step::Give(100)]?;
@@ -33,7 +33,7 @@ fn a_script_intake_follows_its_steps(rt: HostRuntime) -> Result<(), Fail> {
     Ok(())
 }
 
-/// A call takes so many of these bytes, or fails, and then so many are there.
+// A call takes so many of these bytes, or fails, and then so many are there.
 fn is_given<A: Allocator>(
     rt: &impl Abort,
     outlet: &mut ScriptOutlet<A>,
@@ -45,7 +45,7 @@ fn is_given<A: Allocator>(
     assert!(rt; BYTES.starts_with(outlet.bytes()) && outlet.bytes().len() == count);
 }
 
-/// 0 counts as 1, no call takes more than there are, and behind the last step it takes all.
+// 0 counts as 1, no call takes more than there are, and behind the last step it takes all.
 #[test]
 fn a_script_outlet_follows_its_steps(rt: HostRuntime) -> Result<(), Fail> {
     let steps = vec![in rt.alloc(); Step::Give(3), Step::Fail, Step::Give(0), Step::Give(100)]?;
@@ -58,7 +58,7 @@ fn a_script_outlet_follows_its_steps(rt: HostRuntime) -> Result<(), Fail> {
     Ok(())
 }
 
-/// Gives a piece, and where it is refused a second time, and answers whether it was.
+// Gives a piece, and where it is refused a second time, and answers whether it was.
 fn is_refused<O: Outlet>(rt: &impl Abort, outlet: &mut O, piece: &[u8]) -> bool {
     let refused = outlet.give(piece).is_err();
     if refused {
@@ -67,7 +67,7 @@ fn is_refused<O: Outlet>(rt: &impl Abort, outlet: &mut O, piece: &[u8]) -> bool 
     refused
 }
 
-/// Gives pieces of three lengths, each refused one a second time, and answers how many were refused.
+// Gives pieces of three lengths, each refused one a second time, and answers how many were refused.
 fn gives<O: Outlet>(rt: &impl Abort, outlet: &mut O) -> u32 {
     let first = is_refused(rt, outlet, &BYTES[..1]);
     let second = is_refused(rt, outlet, &BYTES[..9]);
@@ -75,10 +75,10 @@ fn gives<O: Outlet>(rt: &impl Abort, outlet: &mut O) -> u32 {
     u32::from(first) + u32::from(second) + u32::from(third)
 }
 
-/// The pieces, joined.
+// The pieces, joined.
 const JOINED: [u8; 20] = [0, 0, 1, 2, 3, 4, 5, 6, 7, 8, 0, 1, 2, 3, 4, 5, 6, 7, 8, 9];
 
-/// A refused give appended nothing, nothing else failed, and memory was asked for.
+// A refused give appended nothing, nothing else failed, and memory was asked for.
 fn is_whole(rt: &impl Abort, bytes: &[u8], refused: u32, has_refused: bool, passed: u64) {
     assert!(rt; bytes == JOINED.as_slice(), "request {passed}");
     assert!(rt; refused == u32::from(has_refused), "request {passed}");

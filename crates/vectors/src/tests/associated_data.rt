@@ -5,10 +5,10 @@ use octets::Nonce;
 use std::alloc::{AllocError, Global};
 use std::test::Fail;
 
-/// Three rooms of 256 bytes and a part of one.
+// Three rooms of 256 bytes and a part of one.
 const LENGTH: usize = 1000;
 
-/// Adds a record under a key of sixteen zeros and a nonce of zeros: with a text, or `invalid`.
+// Adds a record under a key of sixteen zeros and a nonce of zeros: with a text, or `invalid`.
 fn add_record(
     file: &mut Vec<u8>,
     alloc: Global,
@@ -35,8 +35,8 @@ fn add_record(
     Ok(())
 }
 
-/// The numbers of the records that disagree: a sealing with its text, the same as `invalid`, and both with
-/// a byte of the associated data changed.
+// The numbers of the records that disagree: a sealing with its text, the same as `invalid`, and both with
+// a byte of the associated data changed.
 fn four(rt: &HostRuntime, suite: Suite) -> Result<(u64, Vec<u64>), Fail> {
     let cipher = AnyAead::new(suite, &[0; 16])?;
     let nonce = Nonce::from_slice(&[0; 12])?;

@@ -19,7 +19,7 @@ sealed = afbeb0f07dfbf5419200f2ccb50bb24f
 text = 466f7250617369
 ";
 
-/// The answer for that file with these lines in the place of one line.
+// The answer for that file with these lines in the place of one line.
 fn changed(rt: &(impl Abort + Alloc<A = Global>), number: usize, lines: &[&[u8]]) -> Answer {
     replaced(rt, FORMAT_2, number, lines)
 }

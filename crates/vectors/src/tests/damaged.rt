@@ -4,7 +4,7 @@ use crate::fault::VectorFault::*;
 use std::alloc::Global;
 use std::process::Abort;
 
-/// The answer for the file of two records with these lines in the place of one line.
+// The answer for the file of two records with these lines in the place of one line.
 fn changed(rt: &(impl Abort + Alloc<A = Global>), number: usize, lines: &[&[u8]]) -> Answer {
     replaced(rt, TWO_RECORDS, number, lines)
 }

@@ -10,7 +10,7 @@ use octets::{Nonce, RefusingMemory};
 use std::alloc::{Allocator, Global};
 use std::process::Abort;
 
-/// A record with associated data, one of each kind of key wrapping, and one that disagrees.
+// A record with associated data, one of each kind of key wrapping, and one that disagrees.
 const GROWING: &str = "format = 2
 suite = aes-128-gcm
 key = feffe9928665731c6d6a8f9467308308
@@ -36,8 +36,8 @@ sealed = 58e2fccefa7e3061367f1d57a4e7455a
 invalid
 ";
 
-/// Wrappings with padding: the published ones, one of them with another last digit and `invalid`, and one
-/// that says `invalid` and is a wrapping.
+// Wrappings with padding: the published ones, one of them with another last digit and `invalid`, and one
+// that says `invalid` and is a wrapping.
 const PADDED: &str = "format = 2
 suite = aes-192-wrap-pad
 key = 5840df6e29b02af1ab493b705bf16ea1ae8338f4dcc176a8
@@ -53,7 +53,7 @@ sealed = afbeb0f07dfbf5419200f2ccb50bb24f
 invalid
 ";
 
-/// Whether an answer is the one that is due: `OutOfMemory` where a request was refused, and else the report.
+// Whether an answer is the one that is due: `OutOfMemory` where a request was refused, and else the report.
 fn is_due<A: Allocator + Drop>(
     answer: Result<Report<A>, VectorFault>,
     records: u64,
@@ -66,7 +66,7 @@ fn is_due<A: Allocator + Drop>(
     }
 }
 
-/// How many requests for memory `check` makes of a file. Each is refused in turn; at last none is refused.
+// How many requests for memory `check` makes of a file. Each is refused in turn; at last none is refused.
 fn requests(
     rt: &(impl Abort + Alloc<A = Global>),
     file: &[u8],
@@ -85,20 +85,20 @@ fn requests(
     None
 }
 
-/// Adds a value line.
+// Adds a value line.
 fn add_line(rt: &(impl Abort + Alloc<A = Global>), file: &mut Vec<u8>, name: &str, value: &str) {
     file.extend_from_slice(name.as_bytes()).expect(rt, "memory");
     file.extend_from_slice(b" = ").expect(rt, "memory");
     add(rt, file, value.as_bytes());
 }
 
-/// Adds a value line with the digits of some bytes.
+// Adds a value line with the digits of some bytes.
 fn add_digits(rt: &(impl Abort + Alloc<A = Global>), file: &mut Vec<u8>, name: &str, bytes: &[u8]) {
     let digits = hex::encode(rt.alloc(), bytes).expect(rt, "memory");
     add_line(rt, file, name, &digits);
 }
 
-/// Adds a record of a sealing of a text, with as much associated data.
+// Adds a record of a sealing of a text, with as much associated data.
 fn add_sealing(rt: &(impl Abort + Alloc<A = Global>), file: &mut Vec<u8>, text: &[u8]) {
     let key = [7u8; 16];
     let nonce = Nonce::from_slice(&[3; 12]).expect(rt, "a nonce");
@@ -112,7 +112,7 @@ fn add_sealing(rt: &(impl Abort + Alloc<A = Global>), file: &mut Vec<u8>, text: 
     add_digits(rt, file, "text", text);
 }
 
-/// Adds a record of the wrapping of a text with padding.
+// Adds a record of the wrapping of a text with padding.
 fn add_wrapping(rt: &(impl Abort + Alloc<A = Global>), file: &mut Vec<u8>, text: &[u8]) {
     let bytes = [7u8; 16];
     let key = AesKey::from_slice(&bytes).expect(rt, "a key");
@@ -123,7 +123,7 @@ fn add_wrapping(rt: &(impl Abort + Alloc<A = Global>), file: &mut Vec<u8>, text:
     add_digits(rt, file, "text", text);
 }
 
-/// A file of two large records with a text of so many bytes.
+// A file of two large records with a text of so many bytes.
 fn large_file(rt: &(impl Abort + Alloc<A = Global>), length: usize) -> Vec<u8> {
     let text = vec![in rt.alloc(); 5u8; length].expect(rt, "memory");
     let mut file = Vec::new(rt.alloc());
@@ -154,7 +154,7 @@ fn small_sealings_take_no_memory(rt: HostRuntime) {
     assert_eq!(rt; requests(&rt, TWO_RECORDS.as_bytes(), 2, &[]), Some(0));
 }
 
-/// A check that gives up where memory was there.
+// A check that gives up where memory was there.
 fn given_up<A: Allocator + Drop>(_alloc: A) -> Result<Report<A>, VectorFault> {
     Err(VectorFault::OutOfMemory)
 }

@@ -6,10 +6,10 @@ use keywrap::{wrap, wrap_padded};
 use std::alloc::Global;
 use std::process::Abort;
 
-/// More bytes than are judged in a room, and whole semiblocks.
+// More bytes than are judged in a room, and whole semiblocks.
 const LENGTH: usize = 16_400;
 
-/// Adds some text and the digits of some bytes.
+// Adds some text and the digits of some bytes.
 fn add_digits(
     rt: &(impl Abort + Alloc<A = Global>),
     file: &mut Vec<u8>,
@@ -21,7 +21,7 @@ fn add_digits(
     add(rt, file, digits.as_bytes());
 }
 
-/// Adds a record of key wrapping under a key of zeros: with a text, or `invalid`.
+// Adds a record of key wrapping under a key of zeros: with a text, or `invalid`.
 fn add_record(
     rt: &(impl Abort + Alloc<A = Global>),
     file: &mut Vec<u8>,
@@ -38,15 +38,15 @@ fn add_record(
     }
 }
 
-/// Changes a bit of the byte at a place.
+// Changes a bit of the byte at a place.
 fn change(bytes: &mut [u8], place: usize) {
     if let Some(byte) = bytes.get_mut(place) {
         *byte ^= 1;
     }
 }
 
-/// Of a wrapping with its text, the same as `invalid`, the same with a changed text, and changed bytes as
-/// `invalid`, the second and the third disagree.
+// Of a wrapping with its text, the same as `invalid`, the same with a changed text, and changed bytes as
+// `invalid`, the second and the third disagree.
 fn second_and_third_disagree(
     rt: &(impl Abort + Alloc<A = Global>),
     suite: &[u8],
