@@ -50,9 +50,10 @@ pub struct VecOutlet<A: Allocator> {
 }
 
 impl<A: Allocator> VecOutlet<A> {
-    /// Nothing is taken yet.
+    /// Nothing is taken yet, and nothing failed.
     pub fn new(alloc: A) -> Self
-        ensures { ⟦<VecOutlet<A> as Outlet>⟧.taken result ≡ Some [] }
+        ensures taken { ⟦<VecOutlet<A> as Outlet>⟧.taken result ≡ Some [] }
+        ensures failed { ⟦<VecOutlet<A> as Outlet>⟧.failures result ≡ 0 }
     {
         VecOutlet {
             kept: Vec::new(alloc),

@@ -27,9 +27,10 @@ pub struct ScriptIntake<A: Allocator> {
 }
 
 impl<A: Allocator> ScriptIntake<A> {
-    /// All bytes are left, and no step is made.
+    /// All bytes are left, no step is made, and nothing failed yet.
     pub fn new(bytes: Vec<u8, A>, steps: Vec<Step, A>) -> Self
-        ensures { ⟦<ScriptIntake<A> as Intake>⟧.left result ≡ Some bytes.items }
+        ensures left { ⟦<ScriptIntake<A> as Intake>⟧.left result ≡ Some bytes.items }
+        ensures failed { ⟦<ScriptIntake<A> as Intake>⟧.failures result ≡ 0 }
     {
         ScriptIntake {
             bytes,
@@ -89,9 +90,10 @@ pub struct ScriptOutlet<A: Allocator> {
 }
 
 impl<A: Allocator> ScriptOutlet<A> {
-    /// Nothing is taken yet, and no step is made.
+    /// Nothing is taken yet, no step is made, and nothing failed.
     pub fn new(alloc: A, steps: Vec<Step, A>) -> Self
-        ensures { ⟦<ScriptOutlet<A> as Outlet>⟧.taken result ≡ Some [] }
+        ensures taken { ⟦<ScriptOutlet<A> as Outlet>⟧.taken result ≡ Some [] }
+        ensures failed { ⟦<ScriptOutlet<A> as Outlet>⟧.failures result ≡ 0 }
     {
         ScriptOutlet {
             kept: VecOutlet::new(alloc),

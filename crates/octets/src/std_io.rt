@@ -14,9 +14,10 @@ pub struct FromRead<R> {
 }
 
 impl<R: Read> FromRead<R> {
-    /// What the reader has left is left.
+    /// What the reader has left is left, and nothing failed yet.
     pub fn new(reader: R) -> Self
-        ensures { ⟦<FromRead<R> as Intake>⟧.left result ≡ R.remaining reader }
+        ensures left { ⟦<FromRead<R> as Intake>⟧.left result ≡ R.remaining reader }
+        ensures failed { ⟦<FromRead<R> as Intake>⟧.failures result ≡ 0 }
     {
         FromRead { reader, failed: 0 }
     }
@@ -47,9 +48,10 @@ pub struct ToWrite<W> {
 }
 
 impl<W: Write> ToWrite<W> {
-    /// What the writer holds is taken.
+    /// What the writer holds is taken, and nothing failed yet.
     pub fn new(writer: W) -> Self
-        ensures { ⟦<ToWrite<W> as Outlet>⟧.taken result ≡ W.contents writer }
+        ensures taken { ⟦<ToWrite<W> as Outlet>⟧.taken result ≡ W.contents writer }
+        ensures failed { ⟦<ToWrite<W> as Outlet>⟧.failures result ≡ 0 }
     {
         ToWrite { writer, failed: 0 }
     }
