@@ -46,7 +46,7 @@ pub(crate) fn value_line(line: &[u8]) -> Option<(&[u8], &[u8])>
 fn is_digit(byte: u8) -> bool
     ensures { result ≡ is_hex_digit byte }
 {
-    matches!(byte, b'0'..=b'9' | b'a'..=b'f' | b'A'..=b'F')
+    byte.is_ascii_hexdigit()
 }
 
 // Whether all bytes are hexadecimal digits. None is skipped, so that many are looked at together.

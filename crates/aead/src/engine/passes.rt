@@ -36,11 +36,12 @@ fn pass_piece<I: Intake, O: Outlet, S: MaskStream, H: TagHash>(
     requires { masking.old.authenticator.length + length buf.old ≤ masking.old.limit }
     ensures bound { IfOk result (λ n. n ≤ length buf.old) }
     ensures passed { (t : Task) (fed : List ℕ) → HoldsMasking S.made H.held masking.old t fed →
-        Passed (HoldsMasking S.made H.held) t fed (length buf.old) (I.left intake.old) (I.left intake.new) (O.taken outlet.old)
-        (O.taken outlet.new) masking.new result }
+        Passed (HoldsMasking S.made H.held) t fed (length buf.old)
+        (I.left intake.old) (I.left intake.new) (O.taken outlet.old) (O.taken outlet.new) masking.new result }
     ensures blame { Blames (I.failures intake.old) (I.failures intake.new) (O.failures outlet.old)
         (O.failures outlet.new) result }
-    ensures length { IfOk result (λ n. masking.new.authenticator.length ≡ masking.old.authenticator.length + n) }
+    ensures length { IfOk result
+        (λ n. masking.new.authenticator.length ≡ masking.old.authenticator.length + n) }
     ensures limit { masking.new.limit ≡ masking.old.limit }
 {
     let n = match fill(intake, buf) {
@@ -64,8 +65,8 @@ pub(crate) fn pass_body<I: Intake, O: Outlet, S: MaskStream, H: TagHash>(
 ) -> Result<u64, Fault>
     requires { masking.old.authenticator.length + length ≤ masking.old.limit }
     ensures passed { (t : Task) → HoldsMasking S.made H.held masking.old t [] →
-        Passed (HoldsMasking S.made H.held) t [] length (I.left intake.old) (I.left intake.new) (O.taken outlet.old) (O.taken outlet.new)
-        masking.new result }
+        Passed (HoldsMasking S.made H.held) t [] length
+        (I.left intake.old) (I.left intake.new) (O.taken outlet.old) (O.taken outlet.new) masking.new result }
     ensures blame { Blames (I.failures intake.old) (I.failures intake.new) (O.failures outlet.old)
         (O.failures outlet.new) result }
 {
@@ -150,8 +151,8 @@ pub(crate) fn pass_all<I: Intake, O: Outlet, S: MaskStream, H: TagHash>(
 ) -> Result<Option<u64>, Fault>
     requires { masking.old.authenticator.length + length ≤ masking.old.limit }
     ensures passed { (t : Task) → HoldsMasking S.made H.held masking.old t [] →
-        PassedAll (HoldsMasking S.made H.held) t length (I.left intake.old) (I.left intake.new) (O.taken outlet.old) (O.taken outlet.new)
-        masking.new result }
+        PassedAll (HoldsMasking S.made H.held) t length
+        (I.left intake.old) (I.left intake.new) (O.taken outlet.old) (O.taken outlet.new) masking.new result }
     ensures blame { Blames (I.failures intake.old) (I.failures intake.new) (O.failures outlet.old)
         (O.failures outlet.new) result }
 {
