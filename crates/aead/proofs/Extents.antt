@@ -52,7 +52,8 @@ all_more holds t len n l l' l'' o o' k extent b q full more found =
 
 -- a device failed as it was asked for more
 pub all_stopped : {M : Type 0} (holds : M → Task → List ℕ → Type 0) (t : Task) (len n : ℕ)
-    (l l' l'' o o' : Option (List ℕ)) (k : M) (y : List ℕ) → WentFar holds t [] len l l' o o' k n → Consumes l' l'' y → Stopped t [] len l l'' o o'
+    (l l' l'' o o' : Option (List ℕ)) (k : M) (y : List ℕ)
+    → WentFar holds t [] len l l' o o' k n → Consumes l' l'' y → Stopped t [] len l l'' o o'
 all_stopped holds t len n l l' l'' o o' k y q more =
     let P : List ℕ → Type 0 = λ b. Appends o o' b in
     let same : take (length q.bytes) (masked (task_mask t) 0 (q.bytes ++ y))

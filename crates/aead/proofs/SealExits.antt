@@ -130,7 +130,8 @@ pub exit_long : {M : Type 0} (holds : M → Task → List ℕ → Type 0) (l l' 
     → WentAll holds (sealing_task s []) limit l l' o o' k None → (read' ≡ read) × (wrote' ≡ wrote)
     → WhereTextTold l o o' (λ x given. SealsStream s x given read read' wrote wrote' (Err TextTooLong))
 exit_long holds l l' o o' s k limit read read' wrote wrote' same one fits went kept =
-    where_text_told l o o' _ _ (told l (λ m. WentAll holds (sealing_task s []) limit m l' o o' k None) went) (λ x w.
+    where_text_told l o o' _ _
+    (told l (λ m. WentAll holds (sealing_task s []) limit m l' o o' k None) went) (λ x w.
     let t = all_told holds (sealing_task s []) limit x l' o o' k None w in
     let past : text_limit s.suite < length x = omega (arith, t.2, same) in
     let given : List ℕ = masked (mask_of s []) 0 (take limit x) in

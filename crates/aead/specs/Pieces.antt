@@ -27,7 +27,8 @@ pub record HoldsAbsorb (a : SivAbsorb) (s : Setting) (text : List ℕ) : Type 0 
 pub record HoldsWriter (w : SivWriter) (s : Setting) (first text : List ℕ) : Type 0 where
   pub by_gcm_siv : construction_of s.suite ≡ ByGcmSiv
   pub tag_is : w.tag ≡ tag_of s first
-  pub masking : HoldsMasking MadeByGcmSiv (HeldByPolyval key_of own_key) w.masking (repeating_task s first) text
+  pub masking :
+      HoldsMasking MadeByGcmSiv (HeldByPolyval key_of own_key) w.masking (repeating_task s first) text
 
 -- a text has the length and the tag of the first one
 abbrev pub Repeats : Setting → List ℕ → List ℕ → Type 0

@@ -108,7 +108,8 @@ tag_over suite = tag_over_by (construction_of suite)
 
 -- the tag of a text
 unfoldable pub tag_by : Construction → List ℕ → List ℕ → List ℕ → List ℕ → List ℕ
-tag_by ByChaCha key nonce aad text = tag_over_by ByChaCha key nonce aad (masked (chacha_mask key nonce) 0 text)
+tag_by ByChaCha key nonce aad text =
+    tag_over_by ByChaCha key nonce aad (masked (chacha_mask key nonce) 0 text)
 tag_by ByGcm key nonce aad text = tag_over_by ByGcm key nonce aad (masked (gcm_mask key nonce) 0 text)
 tag_by ByGcmSiv key nonce aad text = tag_over_by ByGcmSiv key nonce aad text
 

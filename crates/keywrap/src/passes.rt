@@ -3,7 +3,8 @@
 // block through its steps of the first rounds, one after another, where A at the start of each of these
 // rounds is known; at the pass's end A at the start of the next round is known too.
 
-ghost use Rattle.std.specs.Prelude.{◌≡◌, ℕ, ◌+◌, ◌*◌, ◌/◌, ◌<◌, ◌≤◌, ◌++◌, ◌↔◌, List, length, take, drop, IsTrue};
+ghost use Rattle.std.specs.Prelude.{◌≡◌, ℕ, ◌+◌, ◌*◌, ◌/◌, ◌<◌, ◌≤◌, ◌++◌, ◌↔◌, List, length, take};
+ghost use Rattle.std.specs.Prelude.{drop, IsTrue};
 ghost use Rattle.std.specs.Int.{bytes_high_first};
 ghost use Rattle.octets.specs.Bytes.{xor_bytes};
 ghost use Rattle.aes.specs.Cipher.{cipher};

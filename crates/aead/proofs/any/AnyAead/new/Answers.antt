@@ -5,7 +5,8 @@ use Rattle.aead.proofs.any.AnyAead.new.Goals as goal
 pub returns-in-Ok : goal.returns-in-Ok
 returns-in-Ok c = (
   c.new.ensures
-      ∙ ap₂ {C = Keyed} (λ s k. record { suite = s; key = k }) (sym c.in-ChaCha20Poly1305.is) c.in-Ok.ensures.0,
+      ∙ ap₂ {C = Keyed} (λ s k. record { suite = s; key = k }) (sym c.in-ChaCha20Poly1305.is)
+      c.in-Ok.ensures.0,
   c.if-key-key_length.false ∙ c.key_length.ensures,
 )
 

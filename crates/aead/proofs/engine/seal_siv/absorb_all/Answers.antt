@@ -1,4 +1,5 @@
-use Rattle.std.proofs.Common.{◌<◌, ◌≤◌, ◌+◌, ℕ, List, [], ◌++◌, length, take, arith, refl, ◌∙◌, ap, subst, true≢false}
+use Rattle.std.proofs.Common.{◌<◌, ◌≤◌, ◌+◌, ℕ, List, [], ◌++◌, length, take, arith, refl, ◌∙◌, ap}
+use Rattle.std.proofs.Common.{subst, true≢false}
 use Rattle.std.proofs.Common.{length-append, sym}
 use Rattle.std.proofs.lemmas.List.{append-nil}
 use Rattle.std.proofs.lemmas.Grind.{common_steps}
