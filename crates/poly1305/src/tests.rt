@@ -1,7 +1,6 @@
 ghost use Rattle.std.specs.Prelude.{◌<◌};
 
 use super::*;
-use std::process::Abort;
 
 // A key of r, which is below 256, and of s, whose bytes are all one.
 fn small_key(r: u8, s: u8) -> [u8; 32] {
@@ -20,14 +19,19 @@ fn block(first: u8, others: u8) -> [u8; 16] {
     bytes
 }
 
-fn tag_of<M: Multiplier>(key: &[u8; 32], pieces: &[&[u8]]) -> [u8; 16] {
+// The tag of pieces, padded so often.
+fn tag_of<M: Multiplier>(key: &[u8; 32], pieces: &[&[u8]], pads: usize) -> [u8; 16] {
     let mut poly: PolyBy<M> = PolyBy::new(key);
     for piece in pieces {
         poly.update(piece);
     }
+    for _pad in 0..pads {
+        poly.pad16();
+    }
     *poly.finish().bytes()
 }
 
+// The tag of a message cut into pieces of a size.
 fn tag_in_pieces<M: Multiplier>(key: &[u8; 32], message: &[u8], size: usize) -> [u8; 16]
     requires { 0 < size }
 {
@@ -38,24 +42,20 @@ fn tag_in_pieces<M: Multiplier>(key: &[u8; 32], message: &[u8], size: usize) -> 
     *poly.finish().bytes()
 }
 
-fn has_tag(rt: &impl Abort, key: &[u8; 32], pieces: &[&[u8]], tag: &[u8; 16]) {
-    assert_eq!(rt; tag_of::<WordMul>(key, pieces).as_slice(), tag.as_slice());
-    assert_eq!(rt; tag_of::<NibbleMul>(key, pieces).as_slice(), tag.as_slice());
+// By each multiplier.
+fn has_tag(key: &[u8; 32], pieces: &[&[u8]], tag: &[u8; 16]) -> bool {
+    tag_of::<WordMul>(key, pieces, 0) == *tag && tag_of::<NibbleMul>(key, pieces, 0) == *tag
 }
 
 #[test]
 fn sums_at_the_modulus_are_reduced(rt: HostRuntime) {
     // 2 * (2^129 - 1) is 3 past the modulus.
-    has_tag(&rt, &small_key(2, 0), &[&[0xff; 16]], &block(3, 0));
+    let key = small_key(2, 0);
+    assert!(rt; has_tag(&key, &[&[0xff; 16]], &block(3, 0)));
     // 2^130 - 6 is the greatest residue.
-    has_tag(
-        &rt,
-        &small_key(2, 0),
-        &[&block(0xfd, 0xff)],
-        &block(0xfa, 0xff),
-    );
+    assert!(rt; has_tag(&key, &[&block(0xfd, 0xff)], &block(0xfa, 0xff)));
     // What s carries past bit 128 is dropped.
-    has_tag(&rt, &small_key(2, 0xff), &[&block(2, 0)], &block(3, 0));
+    assert!(rt; has_tag(&small_key(2, 0xff), &[&block(2, 0)], &block(3, 0)));
 }
 
 // RFC 8439, 2.5.2.
@@ -72,22 +72,12 @@ const TAG: [u8; 16] = [
 
 #[test]
 fn published_tag(rt: HostRuntime) {
-    has_tag(&rt, &KEY, &[&MESSAGE], &TAG);
-    has_tag(
-        &rt,
-        &KEY,
-        &[&MESSAGE[..1], &MESSAGE[1..17], &MESSAGE[17..]],
-        &TAG,
-    );
+    assert!(rt; has_tag(&KEY, &[&MESSAGE], &TAG));
+    let pieces: [&[u8]; 3] = [&MESSAGE[..1], &MESSAGE[1..17], &MESSAGE[17..]];
+    assert!(rt; has_tag(&KEY, &pieces, &TAG));
     for size in [1, 16, 17usize] {
-        assert_eq!(rt;
-            tag_in_pieces::<WordMul>(&KEY, &MESSAGE, size).as_slice(),
-            TAG.as_slice()
-        );
-        assert_eq!(rt;
-            tag_in_pieces::<NibbleMul>(&KEY, &MESSAGE, size).as_slice(),
-            TAG.as_slice()
-        );
+        assert!(rt; tag_in_pieces::<WordMul>(&KEY, &MESSAGE, size) == TAG);
+        assert!(rt; tag_in_pieces::<NibbleMul>(&KEY, &MESSAGE, size) == TAG);
     }
 }
 
@@ -95,19 +85,14 @@ fn published_tag(rt: HostRuntime) {
 fn empty_message_has_the_tag_s(rt: HostRuntime) {
     let mut s = [0; 16];
     s.copy_from_slice(&KEY[16..]);
-    has_tag(&rt, &KEY, &[], &s);
-    has_tag(&rt, &KEY, &[&[]], &s);
+    assert!(rt; has_tag(&KEY, &[], &s));
+    assert!(rt; has_tag(&KEY, &[&[]], &s));
 }
 
-fn padded_tag<M: Multiplier>(pieces: &[&[u8]], times: usize) -> [u8; 16] {
-    let mut poly: PolyBy<M> = PolyBy::new(&small_key(1, 0));
-    for piece in pieces {
-        poly.update(piece);
-    }
-    for _time in 0..times {
-        poly.pad16();
-    }
-    *poly.finish().bytes()
+// The same, with r = 1 and s = 0, and padded.
+fn has_padded_tag(pieces: &[&[u8]], pads: usize, tag: &[u8; 16]) -> bool {
+    let key = small_key(1, 0);
+    tag_of::<WordMul>(&key, pieces, pads) == *tag && tag_of::<NibbleMul>(&key, pieces, pads) == *tag
 }
 
 #[test]
@@ -115,22 +100,8 @@ fn padding_is_part_of_the_text(rt: HostRuntime) {
     let mut counted = [0; 16];
     counted[1] = 1;
     let zero: [&[u8]; 1] = [&[0]];
-    for (times, tag) in [(0, counted), (1, [0; 16]), (2, [0; 16])] {
-        assert_eq!(rt;
-            padded_tag::<WordMul>(&zero, times).as_slice(),
-            tag.as_slice()
-        );
-        assert_eq!(rt;
-            padded_tag::<NibbleMul>(&zero, times).as_slice(),
-            tag.as_slice()
-        );
-    }
-    assert_eq!(rt;
-        padded_tag::<WordMul>(&[], 1).as_slice(),
-        [0; 16].as_slice()
-    );
-    assert_eq!(rt;
-        padded_tag::<NibbleMul>(&[], 1).as_slice(),
-        [0; 16].as_slice()
-    );
+    assert!(rt; has_padded_tag(&zero, 0, &counted));
+    assert!(rt; has_padded_tag(&zero, 1, &[0; 16]));
+    assert!(rt; has_padded_tag(&zero, 2, &[0; 16]));
+    assert!(rt; has_padded_tag(&[], 1, &[0; 16]));
 }
