@@ -2,71 +2,69 @@
 
 use super::*;
 use octets::Block;
-use std::process::Abort;
 
 const ANY: [u8; 16] = [
     0x12, 0x34, 0x56, 0x78, 0x9a, 0xbc, 0xde, 0xf0, 0x01, 0x02, 0x03, 0x04, 0x05, 0x06, 0x07, 0x88,
 ];
 
+// GHASH by a multiplier that is made for the text.
 fn ghash_of<M: Keyed128>(key: &[u8; 16], text: &[u8]) -> [u8; 16] {
     let mut state = Ghash::<M>::new(&Block::new(*key));
     state.update(text);
     *state.finish().bytes()
 }
 
-fn ghash_kept<M: Multiply>(multiplier: M, pieces: &[&[u8]]) -> [u8; 16] {
+// GHASH by a multiplier that is kept, of a text in two pieces with an empty one between them.
+fn ghash_kept<M: Multiply>(multiplier: M, text: &[u8]) -> [u8; 16] {
+    let (front, back) = text.split_at(text.len() / 3);
     let mut state = Ghash::with(multiplier);
-    for piece in pieces {
-        state.update(piece);
-    }
+    state.update(front);
+    state.update(&[]);
+    state.update(back);
     *state.finish().bytes()
 }
 
 // By each multiplier, made for the text and kept, and whole and in two pieces.
-fn has_ghash(rt: &impl Abort, key: &[u8; 16], text: &[u8], want: &[u8; 16]) {
-    assert_eq!(rt; ghash_of::<BitMul>(key, text).as_slice(), want.as_slice());
-    assert_eq!(rt; ghash_of::<TableMul>(key, text).as_slice(), want.as_slice());
-    assert_eq!(rt;
-        ghash_of::<PlacedMul>(key, text).as_slice(),
-        want.as_slice()
-    );
-    assert_eq!(rt; ghash_of::<WideMul>(key, text).as_slice(), want.as_slice());
-    let (front, back) = text.split_at(text.len() / 3);
-    let pieces: [&[u8]; 3] = [front, &[], back];
-    let placed = PlacedMul::of(&Block::new(*key));
-    assert_eq!(rt; ghash_kept(&placed, &pieces).as_slice(), want.as_slice());
-    let wide = WideMul::of(&Block::new(*key));
-    assert_eq!(rt; ghash_kept(&wide, &pieces).as_slice(), want.as_slice());
+fn has_ghash(key: &[u8; 16], text: &[u8], want: &[u8; 16]) -> bool {
+    let block = Block::new(*key);
+    ghash_of::<BitMul>(key, text) == *want
+        && ghash_of::<TableMul>(key, text) == *want
+        && ghash_of::<PlacedMul>(key, text) == *want
+        && ghash_of::<WideMul>(key, text) == *want
+        && ghash_kept(&PlacedMul::of(&block), text) == *want
+        && ghash_kept(&WideMul::of(&block), text) == *want
 }
 
+// POLYVAL by a multiplier that is made for the text.
 fn polyval_of<M: Keyed128>(key: &[u8; 16], text: &[u8]) -> [u8; 16] {
     let mut state = Polyval::<M>::new(&Block::new(*key));
     state.update(text);
     *state.finish().bytes()
 }
 
-// The same for POLYVAL.
-fn has_polyval(rt: &impl Abort, key: &[u8; 16], text: &[u8], want: &[u8; 16]) {
-    assert_eq!(rt; polyval_of::<BitMul>(key, text).as_slice(), want.as_slice());
-    assert_eq!(rt;
-        polyval_of::<TableMul>(key, text).as_slice(),
-        want.as_slice()
-    );
-    assert_eq!(rt;
-        polyval_of::<PlacedMul>(key, text).as_slice(),
-        want.as_slice()
-    );
-    assert_eq!(rt;
-        polyval_of::<WideMul>(key, text).as_slice(),
-        want.as_slice()
-    );
-    let kept = PlacedMul::of(&reversed_mul_x(&Block::new(*key)));
-    let mut state = Polyval::with(&kept);
+// POLYVAL by a multiplier that is kept, of a text in two pieces, then padded.
+fn polyval_kept<M: Multiply>(multiplier: M, text: &[u8]) -> [u8; 16] {
     let (front, back) = text.split_at(text.len() / 3);
+    let mut state = Polyval::with(multiplier);
     state.update(front);
     state.update(back);
     state.pad16();
-    assert_eq!(rt; state.finish().bytes().as_slice(), want.as_slice());
+    *state.finish().bytes()
+}
+
+// The same for POLYVAL.
+fn has_polyval(key: &[u8; 16], text: &[u8], want: &[u8; 16]) -> bool {
+    let block = reversed_mul_x(&Block::new(*key));
+    polyval_of::<BitMul>(key, text) == *want
+        && polyval_of::<TableMul>(key, text) == *want
+        && polyval_of::<PlacedMul>(key, text) == *want
+        && polyval_of::<WideMul>(key, text) == *want
+        && polyval_kept(&PlacedMul::of(&block), text) == *want
+}
+
+// A product of two blocks.
+fn product<M: Keyed128>(key: &[u8; 16], x: &[u8; 16]) -> [u8; 16] {
+    *M::of(&Block::new(*key)).times(&Block::new(*x)).bytes()
 }
 
 // The polynomial 1 as a key gives each block back.
@@ -74,7 +72,7 @@ fn has_polyval(rt: &impl Abort, key: &[u8; 16], text: &[u8], want: &[u8; 16]) {
 fn ghash_under_one_is_the_block(rt: HostRuntime) {
     let mut one = [0u8; 16];
     one[0] = 0x80;
-    has_ghash(&rt, &one, &ANY, &ANY);
+    assert!(rt; has_ghash(&one, &ANY, &ANY));
 }
 
 // x * x^127 is x^7+x^2+x+1.
@@ -86,16 +84,11 @@ fn x_times_the_highest_power_is_reduced(rt: HostRuntime) {
     highest[15] = 0x01;
     let mut want = [0u8; 16];
     want[0] = 0xe1;
-    has_ghash(&rt, &x, &highest, &want);
-    let block = Block::new(highest);
-    let product = BitMul::of(&Block::new(x)).times(&block);
-    assert_eq!(rt; product.bytes().as_slice(), want.as_slice());
-    let product = Mul::of(&Block::new(x)).times(&block);
-    assert_eq!(rt; product.bytes().as_slice(), want.as_slice());
-    let product = PlacedMul::of(&Block::new(x)).times(&block);
-    assert_eq!(rt; product.bytes().as_slice(), want.as_slice());
-    let product = WideMul::of(&Block::new(x)).times(&block);
-    assert_eq!(rt; product.bytes().as_slice(), want.as_slice());
+    assert!(rt; has_ghash(&x, &highest, &want));
+    assert!(rt; product::<BitMul>(&x, &highest) == want);
+    assert!(rt; product::<Mul>(&x, &highest) == want);
+    assert!(rt; product::<PlacedMul>(&x, &highest) == want);
+    assert!(rt; product::<WideMul>(&x, &highest) == want);
 }
 
 // A multiplier that gives no more than `times` has the methods on words through it.
@@ -104,7 +97,7 @@ fn words_are_multiplied_as_blocks(rt: HostRuntime) {
     let plain = BitMul::of(&Block::new(ANY));
     let table = TableMul::of(&Block::new(ANY));
     let word = u128::from_be_bytes(HASH_KEY);
-    assert_eq!(rt; plain.times_word(word), table.times_word(word));
+    assert!(rt; plain.times_word(word) == table.times_word(word));
 }
 
 // The block of ciphertext and the block of lengths of the GCM specification's test case 2.
@@ -123,7 +116,7 @@ const HASH: [u8; 16] = [
 
 #[test]
 fn ghash_of_the_published_blocks(rt: HostRuntime) {
-    has_ghash(&rt, &HASH_KEY, &HASHED, &HASH);
+    assert!(rt; has_ghash(&HASH_KEY, &HASHED, &HASH));
 }
 
 #[test]
@@ -133,7 +126,7 @@ fn padding_of_whole_blocks_adds_nothing(rt: HostRuntime) {
     state.update(&HASHED[1..16]);
     state.pad16();
     state.update(&HASHED[16..]);
-    assert_eq!(rt; state.finish().bytes().as_slice(), HASH.as_slice());
+    assert!(rt; *state.finish().bytes() == HASH);
 }
 
 // The four blocks of ciphertext and the block of lengths of test case 3.
@@ -155,13 +148,13 @@ const LONGER_HASH: [u8; 16] = [
 
 #[test]
 fn ghash_of_more_than_four_blocks(rt: HostRuntime) {
-    has_ghash(&rt, &LONGER_KEY, &LONGER, &LONGER_HASH);
+    assert!(rt; has_ghash(&LONGER_KEY, &LONGER, &LONGER_HASH));
 }
 
 #[test]
 fn polyval_of_more_than_four_blocks(rt: HostRuntime) {
     let plain = polyval_of::<BitMul>(&LONGER_KEY, &LONGER);
-    has_polyval(&rt, &LONGER_KEY, &LONGER, &plain);
+    assert!(rt; has_polyval(&LONGER_KEY, &LONGER, &plain));
 }
 
 // A short last block counts as one filled with zeros.
@@ -171,24 +164,16 @@ fn a_short_block_is_padded(rt: HostRuntime) {
     filled[13] = 0;
     filled[14] = 0;
     filled[15] = 0;
-    has_ghash(
-        &rt,
-        &HASH_KEY,
-        &ANY[..13],
-        &ghash_of::<BitMul>(&HASH_KEY, &filled),
-    );
-    has_polyval(
-        &rt,
-        &HASH_KEY,
-        &ANY[..13],
-        &polyval_of::<BitMul>(&HASH_KEY, &filled),
-    );
+    let ghash = ghash_of::<BitMul>(&HASH_KEY, &filled);
+    assert!(rt; has_ghash(&HASH_KEY, &ANY[..13], &ghash));
+    let polyval = polyval_of::<BitMul>(&HASH_KEY, &filled);
+    assert!(rt; has_polyval(&HASH_KEY, &ANY[..13], &polyval));
 }
 
 #[test]
 fn no_text_has_the_hash_of_zeros(rt: HostRuntime) {
-    has_ghash(&rt, &HASH_KEY, &[], &[0; 16]);
-    has_polyval(&rt, &HASH_KEY, &[], &[0; 16]);
+    assert!(rt; has_ghash(&HASH_KEY, &[], &[0; 16]));
+    assert!(rt; has_polyval(&HASH_KEY, &[], &[0; 16]));
 }
 
 // x^128 as a key gives each block back.
@@ -197,7 +182,7 @@ fn polyval_under_x_to_128_is_the_block(rt: HostRuntime) {
     let mut key = [0u8; 16];
     key[0] = 0x01;
     key[15] = 0xc2;
-    has_polyval(&rt, &key, &ANY, &ANY);
+    assert!(rt; has_polyval(&key, &ANY, &ANY));
 }
 
 // RFC 8452, appendix A.
@@ -216,7 +201,7 @@ const POLYVAL: [u8; 16] = [
 
 #[test]
 fn polyval_of_the_published_blocks(rt: HostRuntime) {
-    has_polyval(&rt, &POLYVAL_KEY, &POLYVAL_TEXT, &POLYVAL);
+    assert!(rt; has_polyval(&POLYVAL_KEY, &POLYVAL_TEXT, &POLYVAL));
 }
 
 #[test]
