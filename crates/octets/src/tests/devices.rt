@@ -1,22 +1,19 @@
 //! What no contract says of a device: which steps a script makes, and that a device fails only where
 //! something failed.
+
+ghost use Rattle.std.specs.Prelude.{◌≤◌};
+
 use super::super::*;
 use std::alloc::Allocator;
-use std::process::Abort;
 use std::test::Fail;
 
 const BYTES: [u8; 10] = [0, 1, 2, 3, 4, 5, 6, 7, 8, 9];
 
-// A call gives these bytes, which fill the room's beginning, or fails, and leaves the rest of the room.
-fn takes<A: Allocator>(
-    rt: &impl Abort,
-    intake: &mut ScriptIntake<A>,
-    answer: Result<usize, DeviceFault>,
-    room: [u8; 5],
-) {
-    let mut buf = [0xff; 5];
-    assert!(rt; intake.take(&mut buf) == answer);
-    assert!(rt; buf == room);
+// What a call answers, and the room with the bytes that it gives.
+fn taken<A: Allocator>(intake: &mut ScriptIntake<A>) -> (Result<usize, DeviceFault>, [u8; 5]) {
+    let mut room = [0xff; 5];
+    let answer = intake.take(&mut room);
+    (answer, room)
 }
 
 // 0 counts as 1, no call gives more than fits, and behind the last step come as many as are left.
@@ -24,25 +21,23 @@ fn takes<A: Allocator>(
 fn a_script_intake_follows_its_steps(rt: HostRuntime) -> Result<(), Fail> {
     let steps = vec![in rt.alloc(); Step::Give(3), Step::Give(0), Step::Fail, Step::Give(100)]?;
     let mut intake = ScriptIntake::new(Vec::from_slice(rt.alloc(), &BYTES)?, steps);
-    takes(&rt, &mut intake, Ok(3), [0, 1, 2, 0xff, 0xff]);
-    takes(&rt, &mut intake, Ok(1), [3, 0xff, 0xff, 0xff, 0xff]);
-    takes(&rt, &mut intake, Err(DeviceFault), [0xff; 5]);
-    takes(&rt, &mut intake, Ok(5), [4, 5, 6, 7, 8]);
-    takes(&rt, &mut intake, Ok(1), [9, 0xff, 0xff, 0xff, 0xff]);
-    takes(&rt, &mut intake, Ok(0), [0xff; 5]);
+    assert!(rt; taken(&mut intake) == (Ok(3), [0, 1, 2, 0xff, 0xff]));
+    assert!(rt; taken(&mut intake) == (Ok(1), [3, 0xff, 0xff, 0xff, 0xff]));
+    assert!(rt; taken(&mut intake) == (Err(DeviceFault), [0xff; 5]));
+    assert!(rt; taken(&mut intake) == (Ok(5), [4, 5, 6, 7, 8]));
+    assert!(rt; taken(&mut intake) == (Ok(1), [9, 0xff, 0xff, 0xff, 0xff]));
+    assert!(rt; taken(&mut intake) == (Ok(0), [0xff; 5]));
     Ok(())
 }
 
-// A call takes so many of these bytes, or fails, and then so many are there.
-fn is_given<A: Allocator>(
-    rt: &impl Abort,
+// What a call answers, how many bytes are then there, and whether they are the first of `BYTES`.
+fn given<A: Allocator>(
     outlet: &mut ScriptOutlet<A>,
     bytes: &[u8],
-    answer: Result<usize, DeviceFault>,
-    count: usize,
-) {
-    assert!(rt; outlet.give(bytes) == answer);
-    assert!(rt; BYTES.starts_with(outlet.bytes()) && outlet.bytes().len() == count);
+) -> (Result<usize, DeviceFault>, usize, bool) {
+    let answer = outlet.give(bytes);
+    let kept = outlet.bytes();
+    (answer, kept.len(), BYTES.starts_with(kept))
 }
 
 // 0 counts as 1, no call takes more than there are, and behind the last step it takes all.
@@ -50,39 +45,43 @@ fn is_given<A: Allocator>(
 fn a_script_outlet_follows_its_steps(rt: HostRuntime) -> Result<(), Fail> {
     let steps = vec![in rt.alloc(); Step::Give(3), Step::Fail, Step::Give(0), Step::Give(100)]?;
     let mut outlet = ScriptOutlet::new(rt.alloc(), steps);
-    is_given(&rt, &mut outlet, &BYTES, Ok(3), 3);
-    is_given(&rt, &mut outlet, &BYTES[3..], Err(DeviceFault), 3);
-    is_given(&rt, &mut outlet, &BYTES[3..], Ok(1), 4);
-    is_given(&rt, &mut outlet, &BYTES[4..6], Ok(2), 6);
-    is_given(&rt, &mut outlet, &BYTES[6..], Ok(4), 10);
+    assert!(rt; given(&mut outlet, &BYTES) == (Ok(3), 3, true));
+    assert!(rt; given(&mut outlet, &BYTES[3..]) == (Err(DeviceFault), 3, true));
+    assert!(rt; given(&mut outlet, &BYTES[3..]) == (Ok(1), 4, true));
+    assert!(rt; given(&mut outlet, &BYTES[4..6]) == (Ok(2), 6, true));
+    assert!(rt; given(&mut outlet, &BYTES[6..]) == (Ok(4), 10, true));
     Ok(())
 }
 
-// Gives a piece, and where it is refused a second time, and answers whether it was.
-fn is_refused<O: Outlet>(rt: &impl Abort, outlet: &mut O, piece: &[u8]) -> bool {
-    let refused = outlet.give(piece).is_err();
-    if refused {
-        assert!(rt; outlet.give(piece) == Ok(piece.len()));
-    }
-    refused
+// Gives a piece, and answers whether it was taken whole.
+fn is_given<O: Outlet>(outlet: &mut O, piece: &[u8]) -> bool {
+    matches!(outlet.give(piece), Ok(n) if n == piece.len())
 }
 
-// Gives pieces of three lengths, each refused one a second time, and answers how many were refused.
-fn gives<O: Outlet>(rt: &impl Abort, outlet: &mut O) -> u32 {
-    let first = is_refused(rt, outlet, &BYTES[..1]);
-    let second = is_refused(rt, outlet, &BYTES[..9]);
-    let third = is_refused(rt, outlet, &BYTES);
-    u32::from(first) + u32::from(second) + u32::from(third)
+// Gives a piece, where it is refused a second time, and answers how often it was refused.
+fn refusals<O: Outlet>(outlet: &mut O, piece: &[u8]) -> u32
+    ensures { result ≤ 2 }
+{
+    if is_given(outlet, piece) {
+        0
+    } else if is_given(outlet, piece) {
+        1
+    } else {
+        2
+    }
+}
+
+// Gives pieces of three lengths, each refused one a second time, and answers how often one was refused.
+fn gives<O: Outlet>(outlet: &mut O) -> u32 {
+    refusals(outlet, &BYTES[..1]) + refusals(outlet, &BYTES[..9]) + refusals(outlet, &BYTES)
 }
 
 // The pieces, joined.
 const JOINED: [u8; 20] = [0, 0, 1, 2, 3, 4, 5, 6, 7, 8, 0, 1, 2, 3, 4, 5, 6, 7, 8, 9];
 
-// A refused give appended nothing, nothing else failed, and memory was asked for.
-fn is_whole(rt: &impl Abort, bytes: &[u8], refused: u32, has_refused: bool, passed: u64) {
-    assert!(rt; bytes == JOINED.as_slice(), "request {passed}");
-    assert!(rt; refused == u32::from(has_refused), "request {passed}");
-    assert!(rt; refused == 1 || 0 < passed, "no request for memory");
+// Whether a refused give appended nothing, nothing else failed, and memory was asked for.
+fn is_whole(bytes: &[u8], refused: u32, has_refused: bool, passed: u64) -> bool {
+    bytes == JOINED.as_slice() && refused == u32::from(has_refused) && (has_refused || 0 < passed)
 }
 
 #[test]
@@ -91,8 +90,9 @@ fn each_growth_of_a_vec_outlet_refused(rt: HostRuntime) {
     for passed in 0..9u64 {
         let memory = RefusingMemory::after(passed, rt.alloc());
         let mut outlet = VecOutlet::new(&memory);
-        refused = gives(&rt, &mut outlet);
-        is_whole(&rt, outlet.bytes(), refused, memory.has_refused(), passed);
+        refused = gives(&mut outlet);
+        let whole = is_whole(outlet.bytes(), refused, memory.has_refused(), passed);
+        assert!(rt; whole, "request {passed}");
     }
     assert!(rt; refused == 0);
 }
@@ -103,8 +103,9 @@ fn each_growth_of_a_script_outlet_refused(rt: HostRuntime) {
     for passed in 0..9u64 {
         let memory = RefusingMemory::after(passed, rt.alloc());
         let mut outlet = ScriptOutlet::new(&memory, Vec::new(&memory));
-        refused = gives(&rt, &mut outlet);
-        is_whole(&rt, outlet.bytes(), refused, memory.has_refused(), passed);
+        refused = gives(&mut outlet);
+        let whole = is_whole(outlet.bytes(), refused, memory.has_refused(), passed);
+        assert!(rt; whole, "request {passed}");
     }
     assert!(rt; refused == 0);
 }
