@@ -1,4 +1,4 @@
-ghost use Rattle.std.specs.Prelude.{◌<◌, ◌+◌, ◌^◌};
+ghost use Rattle.std.specs.Prelude.{◌<◌, ◌+◌, ◌^◌, ◌≤◌};
 
 use super::*;
 use octets::{Fault, Key32, Nonce};
@@ -21,27 +21,12 @@ fn quarter_round_of_the_standard(rt: HostRuntime) {
     state[8] = 0x9b8d_6f43;
     state[13] = 0x0123_4567;
     single::quarter_round(&mut state, 2, 7, 8, 13);
-    assert_eq!(rt;
-        state,
-        [
-            0,
-            0,
-            0xea2a_92f4,
-            0,
-            0,
-            0,
-            0,
-            0xcb1c_f8ce,
-            0x4581_472e,
-            0,
-            0,
-            0,
-            0,
-            0x5881_c4bb,
-            0,
-            0,
-        ]
-    );
+    let mut wanted = [0; 16];
+    wanted[2] = 0xea2a_92f4;
+    wanted[7] = 0xcb1c_f8ce;
+    wanted[8] = 0x4581_472e;
+    wanted[13] = 0x5881_c4bb;
+    assert!(rt; state == wanted);
 }
 
 #[test]
@@ -49,16 +34,14 @@ fn block_of_the_standard(rt: HostRuntime) -> Result<(), Fail> {
     // RFC 8439, 2.3.2
     let key = Key32::from_slice(&KEY)?;
     let nonce = Nonce::from_slice(&[0, 0, 0, 0x09, 0, 0, 0, 0x4a, 0, 0, 0, 0])?;
-    assert_eq!(rt;
-        block(&key, 1, &nonce),
-        [
-            0x10, 0xf1, 0xe7, 0xe4, 0xd1, 0x3b, 0x59, 0x15, 0x50, 0x0f, 0xdd, 0x1f, 0xa3, 0x20,
-            0x71, 0xc4, 0xc7, 0xd1, 0xf4, 0xc7, 0x33, 0xc0, 0x68, 0x03, 0x04, 0x22, 0xaa, 0x9a,
-            0xc3, 0xd4, 0x6c, 0x4e, 0xd2, 0x82, 0x64, 0x46, 0x07, 0x9f, 0xaa, 0x09, 0x14, 0xc2,
-            0xd7, 0x05, 0xd9, 0x8b, 0x02, 0xa2, 0xb5, 0x12, 0x9c, 0xd1, 0xde, 0x16, 0x4e, 0xb9,
-            0xcb, 0xd0, 0x83, 0xe8, 0xa2, 0x50, 0x3c, 0x4e,
-        ]
-    );
+    let wanted = [
+        0x10, 0xf1, 0xe7, 0xe4, 0xd1, 0x3b, 0x59, 0x15, 0x50, 0x0f, 0xdd, 0x1f, 0xa3, 0x20, 0x71,
+        0xc4, 0xc7, 0xd1, 0xf4, 0xc7, 0x33, 0xc0, 0x68, 0x03, 0x04, 0x22, 0xaa, 0x9a, 0xc3, 0xd4,
+        0x6c, 0x4e, 0xd2, 0x82, 0x64, 0x46, 0x07, 0x9f, 0xaa, 0x09, 0x14, 0xc2, 0xd7, 0x05, 0xd9,
+        0x8b, 0x02, 0xa2, 0xb5, 0x12, 0x9c, 0xd1, 0xde, 0x16, 0x4e, 0xb9, 0xcb, 0xd0, 0x83, 0xe8,
+        0xa2, 0x50, 0x3c, 0x4e,
+    ];
+    assert!(rt; block(&key, 1, &nonce) == wanted);
     Ok(())
 }
 
@@ -67,17 +50,25 @@ fn block_of_zeros(rt: HostRuntime) -> Result<(), Fail> {
     // RFC 8439, A.1, vector 1
     let key = Key32::from_slice(&[0; 32])?;
     let nonce = Nonce::from_slice(&[0; 12])?;
-    assert_eq!(rt;
-        block(&key, 0, &nonce),
-        [
-            0x76, 0xb8, 0xe0, 0xad, 0xa0, 0xf1, 0x3d, 0x90, 0x40, 0x5d, 0x6a, 0xe5, 0x53, 0x86,
-            0xbd, 0x28, 0xbd, 0xd2, 0x19, 0xb8, 0xa0, 0x8d, 0xed, 0x1a, 0xa8, 0x36, 0xef, 0xcc,
-            0x8b, 0x77, 0x0d, 0xc7, 0xda, 0x41, 0x59, 0x7c, 0x51, 0x57, 0x48, 0x8d, 0x77, 0x24,
-            0xe0, 0x3f, 0xb8, 0xd8, 0x4a, 0x37, 0x6a, 0x43, 0xb8, 0xf4, 0x15, 0x18, 0xa1, 0x1c,
-            0xc3, 0x87, 0xb6, 0x69, 0xb2, 0xee, 0x65, 0x86,
-        ]
-    );
+    let wanted = [
+        0x76, 0xb8, 0xe0, 0xad, 0xa0, 0xf1, 0x3d, 0x90, 0x40, 0x5d, 0x6a, 0xe5, 0x53, 0x86, 0xbd,
+        0x28, 0xbd, 0xd2, 0x19, 0xb8, 0xa0, 0x8d, 0xed, 0x1a, 0xa8, 0x36, 0xef, 0xcc, 0x8b, 0x77,
+        0x0d, 0xc7, 0xda, 0x41, 0x59, 0x7c, 0x51, 0x57, 0x48, 0x8d, 0x77, 0x24, 0xe0, 0x3f, 0xb8,
+        0xd8, 0x4a, 0x37, 0x6a, 0x43, 0xb8, 0xf4, 0x15, 0x18, 0xa1, 0x1c, 0xc3, 0x87, 0xb6, 0x69,
+        0xb2, 0xee, 0x65, 0x86,
+    ];
+    assert!(rt; block(&key, 0, &nonce) == wanted);
     Ok(())
+}
+
+// Whether the words of another implementation from a block on are these bytes.
+fn are_words(other: &mut ChaCha20Rng, counter: u32, block: &[u8; 64]) -> bool {
+    other.set_word_pos(16 * counter as u128);
+    let mut agree = true;
+    for word in block.chunks(4) {
+        agree &= word == other.next_u32().to_le_bytes().as_slice();
+    }
+    agree
 }
 
 #[test]
@@ -87,184 +78,177 @@ fn blocks_of_another_implementation(rt: HostRuntime) -> Result<(), Fail> {
     let mut other = ChaCha20Rng::from_seed(KEY);
     other.set_stream(0x0706_0504_0302_0100);
     for counter in [0, 1, u32::MAX] {
-        other.set_word_pos(16 * counter as u128);
-        for word in block(&key, counter, &nonce).chunks(4) {
-            assert_eq!(rt;
-                word,
-                other.next_u32().to_le_bytes().as_slice(),
-                "counter {counter}"
-            );
-        }
+        let agree = are_words(&mut other, counter, &block(&key, counter, &nonce));
+        assert!(rt; agree, "counter {counter}");
     }
     Ok(())
 }
 
-// The first 640 bytes of the key stream from a counter on, by single blocks.
-fn ten_blocks(key: &Key32, nonce: &Nonce, first: u32) -> [u8; 640] {
-    let mut bytes = [0; 640];
-    for i in 0..10 {
-        let block = block(key, first.wrapping_add(i as u32), nonce);
-        bytes[64 * i..64 * i + 64].copy_from_slice(&block);
+// The key and the nonce of the tests below.
+fn key_and_nonce() -> Result<(Key32, Nonce), Fault> {
+    let nonce = Nonce::from_slice(&[7; 12])?;
+    Ok((Key32::from_slice(&KEY)?, nonce))
+}
+
+// Ten blocks from a counter on, each made by itself.
+fn ten_blocks(key: &Key32, nonce: &Nonce, first: u32) -> [[u8; 64]; 10] {
+    let mut blocks = [[0; 64]; 10];
+    for i in 0..10usize {
+        blocks[i] = block(key, first.wrapping_add(i as u32), nonce);
     }
-    bytes
+    blocks
 }
 
 // Whether four blocks at once are those that are made one by one.
 fn four_agree(first: u32) -> Result<bool, Fault>
     requires { first + 3 < 2 ^ 32 }
 {
-    let key = Key32::from_slice(&KEY)?;
-    let nonce = Nonce::from_slice(&[7; 12])?;
+    let (key, nonce) = key_and_nonce()?;
     let expected = ten_blocks(&key, &nonce, first);
     let blocks = four_blocks(&key, first, &nonce);
     let mut bytes = [0; 256];
     xor_four_blocks(&key, first, &nonce, &mut bytes);
-    Ok(expected.starts_with(blocks.as_flattened()) && expected.starts_with(&bytes))
+    Ok(expected.starts_with(&blocks) && expected.as_flattened().starts_with(&bytes))
 }
 
 #[test]
-fn four_blocks_are_single_blocks(rt: HostRuntime) -> Result<(), Fail> {
-    assert!(rt; four_agree(0)?);
-    assert!(rt; four_agree(u32::MAX - 3)?);
-    Ok(())
+fn four_blocks_are_single_blocks(rt: HostRuntime) {
+    assert!(rt; four_agree(0) == Ok(true));
+    assert!(rt; four_agree(u32::MAX - 3) == Ok(true));
 }
 
 // Whether two blocks at once are those that are made one by one.
 fn two_agree(first: u32) -> Result<bool, Fault>
     requires { first + 1 < 2 ^ 32 }
 {
-    let key = Key32::from_slice(&KEY)?;
-    let nonce = Nonce::from_slice(&[7; 12])?;
+    let (key, nonce) = key_and_nonce()?;
     let expected = ten_blocks(&key, &nonce, first);
-    Ok(expected.starts_with(two_blocks(&key, first, &nonce).as_flattened()))
+    Ok(expected.starts_with(&two_blocks(&key, first, &nonce)))
 }
 
 #[test]
-fn two_blocks_are_single_blocks(rt: HostRuntime) -> Result<(), Fail> {
-    assert!(rt; two_agree(0)?);
-    assert!(rt; two_agree(u32::MAX - 1)?);
-    Ok(())
+fn two_blocks_are_single_blocks(rt: HostRuntime) {
+    assert!(rt; two_agree(0) == Ok(true));
+    assert!(rt; two_agree(u32::MAX - 1) == Ok(true));
+}
+
+// A key stream, and its first ten blocks.
+fn stream_and_blocks(first: u32) -> Result<(ChaStream, [[u8; 64]; 10]), Fault> {
+    let (key, nonce) = key_and_nonce()?;
+    let stream = ChaStream::new(&key, &nonce, first);
+    Ok((stream, ten_blocks(&key, &nonce, first)))
+}
+
+// Whether a stream gives so many bytes of these blocks at once, and changes none behind them.
+fn gives_first(stream: &ChaStream, blocks: &[[u8; 64]; 10], length: usize) -> bool
+    requires { length ≤ 640 }
+{
+    let mut stream = *stream;
+    let mut bytes = [0; 640];
+    let (front, back) = bytes.split_at_mut(length);
+    stream.apply(front).is_ok()
+        && blocks.as_flattened().starts_with(front)
+        && [0; 640].starts_with(back)
 }
 
 #[test]
 fn every_length(rt: HostRuntime) -> Result<(), Fail> {
-    let key = Key32::from_slice(&KEY)?;
-    let nonce = Nonce::from_slice(&[7; 12])?;
-    let expected = ten_blocks(&key, &nonce, 0);
-    for n in 0..601 {
-        let mut bytes = [0; 640];
-        ChaStream::new(&key, &nonce, 0).apply(&mut bytes[..n])?;
-        assert_eq!(rt; &bytes[..n], &expected[..n]);
-        assert!(rt; bytes[n..] == [0; 640][n..], "length {n}");
+    let (stream, blocks) = stream_and_blocks(0)?;
+    for length in 0..601usize {
+        let agree = gives_first(&stream, &blocks, length);
+        assert!(rt; agree, "length {length}");
     }
     Ok(())
 }
 
+// Whether pieces of a size, joined, are the single blocks.
 fn pieces(size: usize) -> Result<bool, Fault>
     requires { 0 < size }
 {
-    let key = Key32::from_slice(&KEY)?;
-    let nonce = Nonce::from_slice(&[7; 12])?;
-    let mut stream = ChaStream::new(&key, &nonce, 0);
+    let (mut stream, blocks) = stream_and_blocks(0)?;
     let mut bytes = [0; 640];
     for piece in bytes.chunks_mut(size) {
         stream.apply(piece)?;
     }
-    Ok(bytes == ten_blocks(&key, &nonce, 0))
+    Ok(blocks.as_flattened() == bytes.as_slice())
 }
 
 #[test]
-fn every_cut(rt: HostRuntime) -> Result<(), Fail> {
-    assert!(rt; pieces(1)?);
-    assert!(rt; pieces(63)?);
-    assert!(rt; pieces(64)?);
-    assert!(rt; pieces(65)?);
-    assert!(rt; pieces(255)?);
-    assert!(rt; pieces(256)?);
-    assert!(rt; pieces(257)?);
-    assert!(rt; pieces(300)?);
-    assert!(rt; pieces(511)?);
-    Ok(())
+fn every_cut(rt: HostRuntime) {
+    assert!(rt; pieces(1) == Ok(true));
+    assert!(rt; pieces(63) == Ok(true));
+    assert!(rt; pieces(64) == Ok(true));
+    assert!(rt; pieces(65) == Ok(true));
+    assert!(rt; pieces(255) == Ok(true));
+    assert!(rt; pieces(256) == Ok(true));
+    assert!(rt; pieces(257) == Ok(true));
+    assert!(rt; pieces(300) == Ok(true));
+    assert!(rt; pieces(511) == Ok(true));
+}
+
+// Whether a stream gives these bytes next, all at once.
+fn gives<const N: usize>(stream: &mut ChaStream, expected: &[u8]) -> bool
+    requires { N ≤ 640 }
+{
+    let mut bytes = [0; N];
+    stream.apply(&mut bytes).is_ok() && bytes.as_slice() == expected
+}
+
+// Whether a stream refuses so many bytes, and leaves them.
+fn refuses<const N: usize>(stream: &mut ChaStream) -> bool
+    requires { N ≤ 640 }
+{
+    let mut bytes = [9; N];
+    stream.apply(&mut bytes) == Err(Fault::StreamEnd) && bytes == [9; N]
 }
 
 #[test]
 fn last_block_at_once(rt: HostRuntime) -> Result<(), Fail> {
-    let key = Key32::from_slice(&KEY)?;
-    let nonce = Nonce::from_slice(&[7; 12])?;
-    let mut stream = ChaStream::new(&key, &nonce, u32::MAX);
-    let mut bytes = [0; 64];
-    stream.apply(&mut bytes)?;
-    assert_eq!(rt; bytes, block(&key, u32::MAX, &nonce));
-    let mut more = [9];
-    assert_eq!(rt; stream.apply(&mut more), Err(Fault::StreamEnd));
-    assert_eq!(rt; more, [9]);
+    let (mut stream, blocks) = stream_and_blocks(u32::MAX)?;
+    assert!(rt; gives::<64>(&mut stream, &blocks[0]));
+    assert!(rt; refuses::<1>(&mut stream));
     Ok(())
 }
 
 #[test]
 fn last_block_in_pieces(rt: HostRuntime) -> Result<(), Fail> {
-    let key = Key32::from_slice(&KEY)?;
-    let nonce = Nonce::from_slice(&[7; 12])?;
-    let mut stream = ChaStream::new(&key, &nonce, u32::MAX);
-    let mut bytes = [0; 64];
-    let (front, last) = bytes.split_at_mut(63);
-    stream.apply(front)?;
-    stream.apply(last)?;
-    stream.apply(&mut [])?;
-    assert_eq!(rt; bytes, block(&key, u32::MAX, &nonce));
-    let mut more = [9];
-    assert_eq!(rt; stream.apply(&mut more), Err(Fault::StreamEnd));
-    assert_eq!(rt; more, [9]);
-    stream.apply(&mut [])?;
+    let (mut stream, blocks) = stream_and_blocks(u32::MAX)?;
+    let (front, back) = blocks[0].split_at(63);
+    assert!(rt; gives::<63>(&mut stream, front));
+    assert!(rt; gives::<1>(&mut stream, back));
+    assert!(rt; gives::<0>(&mut stream, &[]));
+    assert!(rt; refuses::<1>(&mut stream));
+    assert!(rt; gives::<0>(&mut stream, &[]));
     Ok(())
 }
 
 #[test]
 fn past_the_last_block(rt: HostRuntime) -> Result<(), Fail> {
-    let key = Key32::from_slice(&KEY)?;
-    let nonce = Nonce::from_slice(&[7; 12])?;
-    let mut stream = ChaStream::new(&key, &nonce, u32::MAX);
-    let mut long = [9; 65];
-    assert_eq!(rt; stream.apply(&mut long), Err(Fault::StreamEnd));
-    assert_eq!(rt; long, [9; 65]);
-    let mut bytes = [0; 64];
-    stream.apply(&mut bytes)?;
-    assert_eq!(rt; bytes, block(&key, u32::MAX, &nonce));
+    let (mut stream, blocks) = stream_and_blocks(u32::MAX)?;
+    assert!(rt; refuses::<65>(&mut stream));
+    assert!(rt; gives::<64>(&mut stream, &blocks[0]));
     Ok(())
 }
 
 #[test]
 fn last_three_blocks(rt: HostRuntime) -> Result<(), Fail> {
-    let key = Key32::from_slice(&KEY)?;
-    let nonce = Nonce::from_slice(&[7; 12])?;
-    let mut bytes = [0; 192];
-    ChaStream::new(&key, &nonce, u32::MAX - 2).apply(&mut bytes)?;
-    let expected = ten_blocks(&key, &nonce, u32::MAX - 2);
-    assert!(rt; expected.starts_with(&bytes));
+    let (mut stream, blocks) = stream_and_blocks(u32::MAX - 2)?;
+    assert!(rt; gives::<192>(&mut stream, blocks[..3].as_flattened()));
     Ok(())
 }
 
 #[test]
 fn past_the_last_three_blocks(rt: HostRuntime) -> Result<(), Fail> {
-    let key = Key32::from_slice(&KEY)?;
-    let nonce = Nonce::from_slice(&[7; 12])?;
-    let mut stream = ChaStream::new(&key, &nonce, u32::MAX - 2);
-    let mut bytes = [9; 193];
-    assert_eq!(rt; stream.apply(&mut bytes), Err(Fault::StreamEnd));
-    assert_eq!(rt; bytes, [9; 193]);
+    let (mut stream, _) = stream_and_blocks(u32::MAX - 2)?;
+    assert!(rt; refuses::<193>(&mut stream));
     Ok(())
 }
 
 #[test]
 fn last_eight_blocks(rt: HostRuntime) -> Result<(), Fail> {
-    let key = Key32::from_slice(&KEY)?;
-    let nonce = Nonce::from_slice(&[7; 12])?;
-    let expected = ten_blocks(&key, &nonce, u32::MAX - 7);
-    let mut bytes = [0; 512];
-    ChaStream::new(&key, &nonce, u32::MAX - 7).apply(&mut bytes)?;
-    assert!(rt; expected.starts_with(&bytes));
-    let mut fewer = [0; 448];
-    ChaStream::new(&key, &nonce, u32::MAX - 6).apply(&mut fewer)?;
-    assert!(rt; expected[64..].starts_with(&fewer));
+    let (mut stream, blocks) = stream_and_blocks(u32::MAX - 7)?;
+    assert!(rt; gives::<512>(&mut stream, blocks[..8].as_flattened()));
+    let (mut stream, blocks) = stream_and_blocks(u32::MAX - 6)?;
+    assert!(rt; gives::<448>(&mut stream, blocks[..7].as_flattened()));
     Ok(())
 }
