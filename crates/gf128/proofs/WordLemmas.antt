@@ -57,7 +57,7 @@ byte_lt zero n = mod-lt n (omega arith)
 byte_lt (suc i) n = mod-lt (n / 256 ^ suc i) (omega arith)
 
 -- a word has 16 bytes
-to_be_block : (n : ℕ) → IsBlock (to_be_bytes w128 n)
+pub to_be_block : (n : ℕ) → IsBlock (to_be_bytes w128 n)
 to_be_block n = record {
   length_is = refl;
   bytes = λ i. elim (cases_lt i 16) [
