@@ -6,12 +6,12 @@ use std::alloc::Global;
 use std::process::Abort;
 
 // What a device does: so many calls of seven bytes each before a failure, or three bytes and then a
-// failure, or calls of seven bytes and no failure, or calls of any number of bytes and none.
+// failure, or calls of so many bytes and no failure, or calls of any number of bytes and none.
 #[derive(Clone, Copy, PartialEq, Eq, Debug, Drop)]
 enum Course {
     FailsAfter(usize),
     FailsAfterThree,
-    NeverFails,
+    NeverFails(usize),
     IsWhole,
 }
 
@@ -20,7 +20,7 @@ fn steps(rt: &(impl Abort + Alloc<A = Global>), course: Course) -> Vec<Step> {
     let (first, calls, fails) = match course {
         Course::FailsAfter(calls) => (7, calls, true),
         Course::FailsAfterThree => (3, 1, true),
-        Course::NeverFails => (7, 80, false),
+        Course::NeverFails(size) => (size, 200, false),
         Course::IsWhole => (7, 0, false),
     };
     let mut steps = Vec::new(rt.alloc());
@@ -72,6 +72,18 @@ fn opened(
     )
 }
 
+// Takes of any size make no difference.
+#[test]
+fn takes_of_each_size(rt: HostRuntime) {
+    for size in [1, 15, 17] {
+        let takes = Course::NeverFails(size);
+        let mut out = outlet(&rt, Course::IsWhole);
+        let answer = opened(&rt, takes, takes, takes, &mut out);
+        assert!(rt; answer.is_ok());
+        assert_eq!(rt; out.bytes(), CHACHA_TEXT.as_slice());
+    }
+}
+
 // Opening with a device that fails is answered by its fault; what was given is a beginning of these bytes,
 // and its length is answered.
 fn fails(
@@ -120,7 +132,7 @@ fn course_of(fails: bool, call: usize) -> Course {
     if fails {
         Course::FailsAfter(call)
     } else {
-        Course::NeverFails
+        Course::NeverFails(7)
     }
 }
 
@@ -170,25 +182,6 @@ fn is_opened(rt: &(impl Abort + Alloc<A = Global>), device: usize, call: usize) 
     )
 }
 
-// Opening with each call of one device failing in turn, until a run ends well.
-fn each_call_fails(rt: &(impl Abort + Alloc<A = Global>), device: usize) {
-    for call in 0..60usize {
-        if is_opened(rt, device, call) {
-            assert!(rt; call > 10, "device {device}");
-            return;
-        }
-    }
-    assert!(rt; false, "device {device}");
-}
-
-// Each call of each device of the opener fails in turn.
-#[test]
-fn each_call_of_opening_fails(rt: HostRuntime) {
-    for device in 0..4usize {
-        each_call_fails(&rt, device);
-    }
-}
-
 // Sealing in one reading with one call of one device failing: whether it ended well.
 fn is_sealed_once(rt: &(impl Abort + Alloc<A = Global>), device: usize, call: usize) -> bool {
     let sample = chacha(rt);
@@ -203,25 +196,6 @@ fn is_sealed_once(rt: &(impl Abort + Alloc<A = Global>), device: usize, call: us
         out.bytes(),
         sample.sealed,
     )
-}
-
-// The same with each call of one device failing in turn, until a run ends well.
-fn each_call_fails_once(rt: &(impl Abort + Alloc<A = Global>), device: usize) {
-    for call in 0..60usize {
-        if is_sealed_once(rt, device, call) {
-            assert!(rt; call > 10, "device {device}");
-            return;
-        }
-    }
-    assert!(rt; false, "device {device}");
-}
-
-// Each call of each device of sealing in one reading fails in turn.
-#[test]
-fn each_call_of_sealing_once_fails(rt: HostRuntime) {
-    for device in 0..2usize {
-        each_call_fails_once(&rt, device);
-    }
 }
 
 // Sealing in two readings with one call of one device failing: whether it ended well. Nothing was given
@@ -250,21 +224,64 @@ fn is_sealed_twice(rt: &(impl Abort + Alloc<A = Global>), device: usize, call: u
     )
 }
 
-// The same with each call of one device failing in turn, until a run ends well.
-fn each_call_fails_twice(rt: &(impl Abort + Alloc<A = Global>), device: usize) {
+// What is run with a device that fails.
+#[derive(Clone, Copy, Drop)]
+enum Engine {
+    Opening,
+    SealingOnce,
+    SealingTwice,
+}
+
+// A run with one call of one device failing: whether it ended well.
+fn ends_well(
+    rt: &(impl Abort + Alloc<A = Global>),
+    engine: Engine,
+    device: usize,
+    call: usize,
+) -> bool {
+    match engine {
+        Engine::Opening => is_opened(rt, device, call),
+        Engine::SealingOnce => is_sealed_once(rt, device, call),
+        Engine::SealingTwice => is_sealed_twice(rt, device, call),
+    }
+}
+
+// Runs with each call of one device failing in turn, until one ends well: after more than `least` calls.
+fn each_call_fails(
+    rt: &(impl Abort + Alloc<A = Global>),
+    engine: Engine,
+    device: usize,
+    least: usize,
+) {
     for call in 0..60usize {
-        if is_sealed_twice(rt, device, call) {
-            assert!(rt; call > 1, "device {device}");
+        if ends_well(rt, engine, device, call) {
+            assert!(rt; call > least, "device {device}");
             return;
         }
     }
     assert!(rt; false, "device {device}");
 }
 
+// Each call of each device of the opener fails in turn.
+#[test]
+fn each_call_of_opening_fails(rt: HostRuntime) {
+    for device in 0..4usize {
+        each_call_fails(&rt, Engine::Opening, device, 10);
+    }
+}
+
+// Each call of each device of sealing in one reading fails in turn.
+#[test]
+fn each_call_of_sealing_once_fails(rt: HostRuntime) {
+    for device in 0..2usize {
+        each_call_fails(&rt, Engine::SealingOnce, device, 10);
+    }
+}
+
 // Each call of each device of sealing in two readings fails in turn.
 #[test]
 fn each_call_of_sealing_twice_fails(rt: HostRuntime) {
     for device in 0..3usize {
-        each_call_fails_twice(&rt, device);
+        each_call_fails(&rt, Engine::SealingTwice, device, 1);
     }
 }

@@ -1,7 +1,7 @@
 use super::published::*;
 use super::samples::*;
 use crate::*;
-use octets::{Fault, ScriptIntake, SliceIntake, Step, VecOutlet};
+use octets::{Fault, SliceIntake, VecOutlet};
 use std::alloc::Global;
 use std::process::Abort;
 
@@ -54,44 +54,6 @@ fn equal_readings(rt: HostRuntime) {
     is_opened(&rt, &gcm(&rt));
     is_opened(&rt, &siv_of_no_text(&rt));
     is_opened(&rt, &siv(&rt));
-}
-
-// A reading of the published sealing of 130 bytes, in takes of one size.
-fn in_takes_of(rt: &(impl Abort + Alloc<A = Global>), size: usize) -> ScriptIntake<Global> {
-    let mut steps = Vec::new(rt.alloc());
-    for _ in 0..200u32 {
-        steps.push(Step::Give(size)).expect(rt, "memory");
-    }
-    let bytes = Vec::from_slice(rt.alloc(), &CHACHA_SEALED).expect(rt, "memory");
-    ScriptIntake::new(bytes, steps)
-}
-
-// Three readings in takes of one size give the text.
-fn is_opened_in_takes(rt: &(impl Abort + Alloc<A = Global>), size: usize) {
-    let sample = chacha(rt);
-    let mut measure = in_takes_of(rt, size);
-    let mut verify = in_takes_of(rt, size);
-    let mut write = in_takes_of(rt, size);
-    let mut out = VecOutlet::new(rt.alloc());
-    let answer = open_stream(
-        &sample.cipher,
-        &sample.nonce,
-        sample.aad,
-        &mut measure,
-        &mut verify,
-        &mut write,
-        &mut out,
-    );
-    assert!(rt; answer.is_ok());
-    assert_eq!(rt; out.bytes(), sample.text);
-}
-
-// Takes of any size make no difference.
-#[test]
-fn takes_of_each_size(rt: HostRuntime) {
-    is_opened_in_takes(&rt, 1);
-    is_opened_in_takes(&rt, 15);
-    is_opened_in_takes(&rt, 17);
 }
 
 // The published sealing with its last byte 90 in place of 91.
