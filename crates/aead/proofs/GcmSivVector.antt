@@ -1,11 +1,13 @@
 -- A sealing of AES-128-GCM-SIV with associated data, computed by the definitions (RFC 8452, C.1, the text of
 -- eight bytes
 -- with associated data of one byte).
-use Rattle.std.proofs.Common.{◌≡◌, ℕ, List, [], ◌∷◌, ◌++◌, take, get_or, refl, ap, ap₂, ◌∙◌, inl}
-use Rattle.octets.specs.Bits.{v, bytes_of_v}
+use Rattle.std.proofs.Common.{◌≡◌, ℕ, ◌+◌, ◌*◌, Bool, List, [], ◌∷◌, ◌++◌, take, map, get_or, refl, ap, ap₂}
+use Rattle.std.proofs.Common.{◌∙◌, inl, arith}
+use Rattle.std.specs.List.{range_with_len}
+use Rattle.octets.specs.Bits.{v, bytes_of_v, number}
 use Rattle.octets.specs.Bytes.{IsBlock, le, xor_bytes}
 use Rattle.octets.specs.Masked.{masked}
-use Rattle.octets.specs.Polynomial.{sum, product, residue}
+use Rattle.octets.specs.Polynomial.{coefficient, sum, residue}
 use Rattle.aes.specs.Schedule.{xor_word, rcon}
 use Rattle.aes.specs.Cipher.{shift_rows, add_round_key, cipher, IsKey}
 use Rattle.aes.specs.Counters.{up_le, counter_byte}
@@ -17,6 +19,7 @@ use Rattle.aead.specs.declared.suite.Suite.TheVariants.{Aes128GcmSiv}
 use Rattle.aead.specs.Suites.{ByGcmSiv}
 use Rattle.aead.specs.Sealing.{key_part, authentication_key, encryption_key, siv_authenticated, last_byte_by}
 use Rattle.aead.specs.Sealing.{tag_block, counter_block, mask_by, mask, tag_over_by, tag_by, tag_of, sealing}
+use Rattle.aead.proofs.Computed.{dot_computed, dot_same}
 
 -- the key
 unfoldable key : List ℕ
@@ -290,12 +293,13 @@ block1 =
     ∷ 0x00 ∷ []
 
 -- as the definition makes S_1
-step1 : dot (sum [] (v block1)) (v authentication) ≡ v sum1
-unfolding authentication block1 sum1 v dot sum product residue
-step1 = refl
+step1 : coefficient (dot (sum [] (v block1)) (v authentication)) ≡ coefficient (v sum1)
+unfolding authentication block1 sum1 v sum
+step1 =
+    dot_computed (sum [] (v block1)) (v authentication) (v sum1) (omega arith) (omega arith) refl
 
 -- it is the sum over the blocks so far
-sum1_is : polyval_sum authentication authenticated 1 ≡ v sum1
+sum1_is : coefficient (polyval_sum authentication authenticated 1) ≡ coefficient (v sum1)
 unfolding authenticated block1 polyval_sum
 sum1_is = step1
 
@@ -312,14 +316,18 @@ block2 =
     ∷ 0x00 ∷ []
 
 -- as the definition makes S_2
-step2 : dot (sum (v sum1) (v block2)) (v authentication) ≡ v sum2
-unfolding authentication sum1 block2 sum2 v dot sum product residue
-step2 = refl
+step2 : coefficient (dot (sum (v sum1) (v block2)) (v authentication)) ≡ coefficient (v sum2)
+unfolding authentication sum1 block2 sum2 v sum
+step2 =
+    dot_computed (sum (v sum1) (v block2)) (v authentication) (v sum2) (omega arith) (omega arith) refl
 
 -- it is the sum over the blocks so far
-sum2_is : polyval_sum authentication authenticated 2 ≡ v sum2
+sum2_is : coefficient (polyval_sum authentication authenticated 2) ≡ coefficient (v sum2)
 unfolding authenticated block2 polyval_sum
-sum2_is = ap (λ s. dot (sum s (v block2)) (v authentication)) sum1_is ∙ step2
+sum2_is =
+    dot_same (polyval_sum authentication authenticated 1) (v sum1) (v block2) (v authentication)
+    sum1_is
+    ∙ step2
 
 -- S_3
 unfoldable sum3 : List ℕ
@@ -334,14 +342,18 @@ block3 =
     ∷ 0x00 ∷ []
 
 -- as the definition makes S_3
-step3 : dot (sum (v sum2) (v block3)) (v authentication) ≡ v sum3
-unfolding authentication sum2 block3 sum3 v dot sum product residue
-step3 = refl
+step3 : coefficient (dot (sum (v sum2) (v block3)) (v authentication)) ≡ coefficient (v sum3)
+unfolding authentication sum2 block3 sum3 v sum
+step3 =
+    dot_computed (sum (v sum2) (v block3)) (v authentication) (v sum3) (omega arith) (omega arith) refl
 
 -- it is the sum over the blocks so far
-sum3_is : polyval_sum authentication authenticated 3 ≡ v sum3
+sum3_is : coefficient (polyval_sum authentication authenticated 3) ≡ coefficient (v sum3)
 unfolding authenticated block3 polyval_sum
-sum3_is = ap (λ s. dot (sum s (v block3)) (v authentication)) sum2_is ∙ step3
+sum3_is =
+    dot_same (polyval_sum authentication authenticated 2) (v sum2) (v block3) (v authentication)
+    sum2_is
+    ∙ step3
 
 -- S_3 as bytes
 written : bytes_of_v 16 (v sum3) ≡ sum3
@@ -350,8 +362,11 @@ written = refl
 
 -- POLYVAL of what is authenticated
 polyval_is : polyval authentication authenticated ≡ sum3
-unfolding authenticated polyval
-polyval_is = ap (bytes_of_v 16) sum3_is ∙ written
+unfolding authenticated polyval bytes_of_v
+polyval_is =
+    ap (λ (f : ℕ → Bool). map (λ i. number (map (λ j. f (8 * i + j)) (range_with_len 0 8)))
+    (range_with_len 0 16)) sum3_is
+    ∙ written
 
 -- the block that it gives
 last_is_of : tag_block sum3 nonce ≡ last_block

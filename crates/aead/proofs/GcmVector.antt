@@ -2,6 +2,7 @@
 -- 800-38D,
 -- 96 bits of nonce, 128 of text, of associated data and of tag, the first).
 use Rattle.std.proofs.Common.{◌≡◌, ℕ, suc, Bool, List, [], ◌∷◌, ◌++◌, get_or, refl, sym, ap, ap₂, ◌∙◌, inl}
+use Rattle.std.proofs.Common.{arith}
 use Rattle.octets.specs.Bits.{g}
 use Rattle.octets.specs.Bytes.{IsBlock, block_at, be, xor_bytes}
 use Rattle.octets.specs.Masked.{masked}
@@ -21,6 +22,7 @@ use Rattle.aead.specs.Suites.{ByGcm}
 use Rattle.aead.specs.Sealing.{hash_key, j0, gcm_authenticated, mask_by, gcm_mask, mask, tag_over_by}
 use Rattle.aead.specs.Sealing.{tag_by, tag_of}
 use Rattle.aead.specs.Sealing.{sealing}
+use Rattle.aead.proofs.Computed.{computed}
 
 -- the key
 unfoldable key : List ℕ
@@ -165,7 +167,7 @@ hash_key_is = zero_is
 -- the sum over one block more, where the sum so far is s, the block x, and t their sum times the key
 ghash_next : (h m s x t : List ℕ) (n : ℕ) → coefficient (ghash_sum h m n) ≡ coefficient (g s)
     → block_at m n ≡ x
-    → residue ghash_modulus (product (sum (g s) (g x)) (g h)) ≡ g t
+    → coefficient (residue ghash_modulus (product (sum (g s) (g x)) (g h))) ≡ coefficient (g t)
     → coefficient (ghash_sum h m (suc n)) ≡ coefficient (g t)
 ghash_next h m s x t n held is next =
     let b : List Bool = g (block_at m n) in
@@ -173,7 +175,7 @@ ghash_next h m s x t n held is next =
     ∙ times_same ghash_modulus (sum (ghash_sum h m n) b) (sum (g s) b) (g h) refl
     (sum_is (ghash_sum h m n) b ∙ ap (λ c. sum_of c (coefficient b)) held ∙ sym (sum_is (g s) b))
     ∙ ap (λ y. coefficient (residue ghash_modulus (product (sum (g s) (g y)) (g h)))) is
-    ∙ ap coefficient next
+    ∙ next
 
 -- what is authenticated
 unfoldable authenticated : List ℕ
@@ -203,9 +205,12 @@ block1 =
     ∷ 0x5f ∷ []
 
 -- times the key
-step1 : residue ghash_modulus (product (sum (g []) (g block1)) (g zero_ciphered)) ≡ g sum1
-unfolding zero_ciphered block1 sum1 g sum product residue
-step1 = refl
+step1 : coefficient (residue ghash_modulus (product (sum (g []) (g block1)) (g zero_ciphered)))
+    ≡ coefficient (g sum1)
+unfolding zero_ciphered block1 sum1 g sum
+step1 =
+    computed ghash_modulus 128 (sum (g []) (g block1)) (g zero_ciphered) (g sum1) refl refl
+    (omega arith) (omega arith) refl
 
 -- so it is
 sum1_is : coefficient (ghash_sum zero_ciphered authenticated 1) ≡ coefficient (g sum1)
@@ -225,9 +230,12 @@ block2 =
     ∷ 0x54 ∷ []
 
 -- times the key
-step2 : residue ghash_modulus (product (sum (g sum1) (g block2)) (g zero_ciphered)) ≡ g sum2
-unfolding zero_ciphered sum1 block2 sum2 g sum product residue
-step2 = refl
+step2 : coefficient (residue ghash_modulus (product (sum (g sum1) (g block2)) (g zero_ciphered)))
+    ≡ coefficient (g sum2)
+unfolding zero_ciphered sum1 block2 sum2 g sum
+step2 =
+    computed ghash_modulus 128 (sum (g sum1) (g block2)) (g zero_ciphered) (g sum2) refl refl
+    (omega arith) (omega arith) refl
 
 -- so it is
 sum2_is : coefficient (ghash_sum zero_ciphered authenticated 2) ≡ coefficient (g sum2)
@@ -247,9 +255,12 @@ block3 =
     ∷ 0x80 ∷ []
 
 -- times the key
-step3 : residue ghash_modulus (product (sum (g sum2) (g block3)) (g zero_ciphered)) ≡ g sum3
-unfolding zero_ciphered sum2 block3 sum3 g sum product residue
-step3 = refl
+step3 : coefficient (residue ghash_modulus (product (sum (g sum2) (g block3)) (g zero_ciphered)))
+    ≡ coefficient (g sum3)
+unfolding zero_ciphered sum2 block3 sum3 g sum
+step3 =
+    computed ghash_modulus 128 (sum (g sum2) (g block3)) (g zero_ciphered) (g sum3) refl refl
+    (omega arith) (omega arith) refl
 
 -- so it is
 sum3_is : coefficient (ghash_sum zero_ciphered authenticated 3) ≡ coefficient (g sum3)

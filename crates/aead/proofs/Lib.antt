@@ -6,6 +6,7 @@ pub mod Streams
 pub mod Found
 pub mod KeyStreamStart
 pub mod Vectors
+mod Computed
 mod GcmVector
 mod GcmSivVector
 pub mod Pieces
