@@ -194,37 +194,52 @@ mod tests {
         0xbd, 0xdf,
     ];
 
+    // Its text, followed by the tag.
+    const OPENED: [u8; 32] = [
+        0, 0, 0, 0, 0, 0, 0, 0, 0, 0, 0, 0, 0, 0, 0, 0, 0xab, 0x6e, 0x47, 0xd4, 0x2c, 0xec, 0x13,
+        0xbd, 0xf5, 0x3a, 0x67, 0xb2, 0x12, 0x57, 0xbd, 0xdf,
+    ];
+
+    // A key and a nonce of n bytes are the first n of these.
+    const ZEROS: [u8; 16] = [0; 16];
+
     #[test]
     fn a_published_sealing_by_its_number(rt: HostRuntime) {
         let mut bytes = [0; 32];
-        assert_eq!(rt; aeadkit_seal(2, &[0; 16], &[0; 12], &[], &mut bytes), 0);
-        assert_eq!(rt; bytes, SEALED);
-        assert_eq!(rt; aeadkit_open(2, &[0; 16], &[0; 12], &[], &mut bytes), 0);
-        assert_eq!(rt; &bytes[..16], [0; 16].as_slice());
-        assert_eq!(rt; &bytes[16..], &SEALED[16..]);
+        let sealed = aeadkit_seal(2, &ZEROS, &ZEROS[..12], &[], &mut bytes);
+        assert!(rt; sealed == 0 && bytes == SEALED);
+        let opened = aeadkit_open(2, &ZEROS, &ZEROS[..12], &[], &mut bytes);
+        assert!(rt; opened == 0 && bytes == OPENED);
+    }
+
+    // Whether opening the first bytes of the sealing is answered by a number, and they stay.
+    fn is_not_opened(suite: u32, key: &[u8], nonce: &[u8], most: usize, number: u32) -> bool {
+        let mut bytes = SEALED;
+        let answer = aeadkit_open(suite, key, nonce, &[], &mut bytes[..most.min(32)]);
+        answer == number && bytes == SEALED
+    }
+
+    // The same of sealing.
+    fn is_not_sealed(suite: u32, key: &[u8], nonce: &[u8], most: usize, number: u32) -> bool {
+        let mut bytes = SEALED;
+        let answer = aeadkit_seal(suite, key, nonce, &[], &mut bytes[..most.min(32)]);
+        answer == number && bytes == SEALED
+    }
+
+    // Of both.
+    fn is_refused(suite: u32, key: &[u8], nonce: &[u8], most: usize, number: u32) -> bool {
+        is_not_opened(suite, key, nonce, most, number)
+            && is_not_sealed(suite, key, nonce, most, number)
     }
 
     #[test]
     fn the_numbers_of_refusals(rt: HostRuntime) {
-        let mut bytes = SEALED;
-        for (suite, key, nonce, most, number) in [
-            (0, 0usize, 0usize, 0usize, 14),
-            (7, 16, 12, 32, 14),
-            (2, 15, 0, 0, 1),
-            (2, 16, 11, 0, 2),
-            (2, 16, 12, 15, 5),
-            (2, 16, 12, 31, 6),
-        ] {
-            let key = &[0; 16][..key];
-            let nonce = &[0; 12][..nonce];
-            let made = aeadkit_open(suite, key, nonce, &[], &mut bytes[..most]);
-            assert_eq!(rt; made, number);
-            assert_eq!(rt; bytes, SEALED);
-            if number != 6 {
-                let made = aeadkit_seal(suite, key, nonce, &[], &mut bytes[..most]);
-                assert_eq!(rt; made, number);
-                assert_eq!(rt; bytes, SEALED);
-            }
-        }
+        let nonce = &ZEROS[..12];
+        assert!(rt; is_refused(0, &[], &[], 0, 14));
+        assert!(rt; is_refused(7, &ZEROS, nonce, 32, 14));
+        assert!(rt; is_refused(2, &ZEROS[..15], &[], 0, 1));
+        assert!(rt; is_refused(2, &ZEROS, &ZEROS[..11], 0, 2));
+        assert!(rt; is_refused(2, &ZEROS, nonce, 15, 5));
+        assert!(rt; is_not_opened(2, &ZEROS, nonce, 31, 6));
     }
 }

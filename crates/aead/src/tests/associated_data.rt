@@ -39,8 +39,7 @@ fn is_sealed(
             seal_siv_stream_placed(cipher, nonce, &aad, &mut first, &mut second, &mut out)
         }
     };
-    assert!(rt; answer.is_ok());
-    assert_eq!(rt; out.bytes(), sealed);
+    assert!(rt; answer.is_ok() && out.bytes() == sealed);
 }
 
 // Opened as a stream, this sealing gives the text.
@@ -61,8 +60,7 @@ fn is_opened(
         &mut SliceIntake::new(sealed),
         &mut out,
     );
-    assert!(rt; answer.is_ok());
-    assert_eq!(rt; out.bytes(), TEXT.as_slice());
+    assert!(rt; answer.is_ok() && out.bytes() == TEXT.as_slice());
 }
 
 // With associated data of each length, a stream is sealed as its text is, and opened again.
