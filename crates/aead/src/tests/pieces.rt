@@ -21,12 +21,9 @@ fn sealed_in_pieces(rt: &impl Abort, sample: &Sample, bytes: &mut [u8], lengths:
 
 // Sealed in pieces of these lengths, a text has its sealing.
 fn is_sealed_in_pieces(rt: &(impl Abort + Alloc<A = Global>), sample: &Sample, lengths: &[usize]) {
-    let (body, last) = sample
-        .sealed
-        .split_at(sample.sealed.len().saturating_sub(16));
     let mut bytes = Vec::from_slice(rt.alloc(), sample.text).expect(rt, "memory");
     let tag = sealed_in_pieces(rt, sample, &mut bytes, lengths);
-    assert!(rt; bytes.as_slice() == body && tag.bytes().as_slice() == last);
+    assert!(rt; are_sealed(&bytes, &tag, sample.sealed));
 }
 
 // Cut in two at any place, a text has one sealing.
@@ -74,8 +71,7 @@ fn written(rt: &impl Abort, bytes: &mut [u8]) -> (Tag, bool) {
 fn two_equal_readings(rt: HostRuntime) {
     let mut bytes = SIV_TEXT;
     let (tag, agrees) = written(&rt, &mut bytes);
-    let (body, last) = SIV_128.split_at(8);
-    assert!(rt; agrees && bytes.as_slice() == body && tag.bytes().as_slice() == last);
+    assert!(rt; agrees && are_sealed(&bytes, &tag, &SIV_128));
 }
 
 // A second reading of another text is found.

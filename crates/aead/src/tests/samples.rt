@@ -2,7 +2,7 @@
 
 use super::published::*;
 use crate::*;
-use octets::Nonce;
+use octets::{Nonce, Tag};
 use std::alloc::Allocator;
 use std::process::Abort;
 
@@ -89,6 +89,14 @@ pub fn two_pass(cipher: &AnyAead) -> Option<&GcmSiv> {
     match cipher {
         AnyAead::OnePass(_) => None,
         AnyAead::Siv(cipher) => Some(cipher),
+    }
+}
+
+/// Whether a ciphertext and its tag, joined, are these bytes.
+pub fn are_sealed(body: &[u8], tag: &Tag, sealed: &[u8]) -> bool {
+    match sealed.strip_prefix(body) {
+        Some(last) => last == tag.bytes().as_slice(),
+        None => false,
     }
 }
 
