@@ -1,13 +1,12 @@
 -- Columns as words: sums, moves and bytes.
 use Rattle.std.proofs.Common.{◌≡◌, ℕ, ◌+◌, ◌*◌, ◌/◌, ◌%◌, ◌^◌, ◌<◌, ◌≤◌, true, ◌==◌, ◌&&◌, ltb, ltb-true}
 use Rattle.std.proofs.Common.{List, [], ◌∷◌, ◌++◌, map, get_or, length, zero, suc, refl, sym, ap, ap₂, ◌∙◌}
-use Rattle.std.proofs.Common.{arith, bit_or, bit_xor, w32}
+use Rattle.std.proofs.Common.{arith, bit_or, bit_xor, w32, lit<}
 use Rattle.std.specs.Int.{bytes_low_first, rotate_left, from_le_bytes}
 use Rattle.std.proofs.lemmas.Nat.{xor_shr, xor_mod, or_shifted}
 use Rattle.std.proofs.lemmas.Bool.{and_parts, eqb-true}
 use Rattle.std.proofs.lemmas.List.{get_or-map}
 use Rattle.octets.specs.Bytes.{IsBlock}
-use Rattle.octets.specs.Polynomial.{product, residue}
 use Rattle.aes.specs.Field.{times, sbox}
 use Rattle.aes.specs.Schedule.{xor_word}
 use Rattle.aes.specs.Cipher.{dot, sub_bytes, shift_rows, mix_column, mix_columns, add_round_key}
@@ -16,10 +15,13 @@ use Rattle.aes.specs.declared.sbox.TheConstants.{SBOX}
 use Rattle.aes.specs.declared.round_tables.TheConstants.{TABLE, TABLE_ROW1, TABLE_ROW2, TABLE_ROW3}
 use Rattle.aes.specs.declared.round_tables.TheConstants.{INVERSE_TABLE, INVERSE_ROW1, INVERSE_ROW2}
 use Rattle.aes.specs.declared.round_tables.TheConstants.{INVERSE_ROW3}
-use Rattle.aes.proofs.Tables.{all_below, all_below_at, sbox_at}
-use Rattle.aes.proofs.Multiples.{single_is}
+use Rattle.aes.proofs.FieldFacts.{times_comm}
+use Rattle.aes.proofs.Tested.{all_below, all_below_at}
+use Rattle.aes.proofs.Multiples.{single_is, double, double_is, triple, triple_by, product_of, times_is}
+use Rattle.aes.proofs.Tables.{sbox_at}
 use Rattle.aes.proofs.Rows.{four, dot_is}
-use Rattle.aes.proofs.Linear.{unmix_written, times_xor, xor_exchange}
+use Rattle.aes.proofs.Sums.{times_xor, xor_exchange}
+use Rattle.aes.proofs.Linear.{unmix_written}
 use Rattle.aes.proofs.Steps.{sbox_small, times_small, quad}
 
 -- byte k of a sum
@@ -98,12 +100,12 @@ column_small w (suc (suc (suc zero))) = omega arith
 column_small w (suc (suc (suc (suc k)))) = omega arith
 
 -- ---- the table
+-- the word of an entry
+abbrev mixed_entry : ℕ → ℕ
+mixed_entry s = from_le_bytes w32 (double s ∷ s ∷ s ∷ triple s ∷ [])
+
 -- the table, tested at each entry
-table_computed : all_below
-    (λ x. get_or TABLE x 0 == from_le_bytes w32
-    (times 2 (get_or SBOX x 0) ∷ get_or SBOX x 0 ∷ get_or SBOX x 0 ∷ times 3 (get_or SBOX x 0) ∷ [])) 256
-    ≡ true
-unfolding times product residue
+table_computed : all_below (λ x. get_or TABLE x 0 == mixed_entry (get_or SBOX x 0)) 256 ≡ true
 table_computed = refl
 
 -- an entry as a column
@@ -111,15 +113,12 @@ pub table_at : (x : ℕ) → x < 256
     → column_of (get_or TABLE x 0) ≡ times 2 (sbox x) ∷ sbox x ∷ sbox x ∷ times 3 (sbox x) ∷ []
 table_at x h =
     let s : ℕ = sbox x in
-    column_back (times 2 s) s s (times 3 s) (get_or TABLE x 0) (times_small 2 s) (sbox_small x h)
-    (sbox_small x h) (times_small 3 s)
-    (eqb-true (get_or TABLE x 0)
-    (from_le_bytes w32 (times 2 (get_or SBOX x 0) ∷ get_or SBOX x 0 ∷ get_or SBOX x 0
-    ∷ times 3 (get_or SBOX x 0) ∷ []))
-    (all_below_at (λ x. get_or TABLE x 0 == from_le_bytes w32
-    (times 2 (get_or SBOX x 0) ∷ get_or SBOX x 0 ∷ get_or SBOX x 0 ∷ times 3 (get_or SBOX x 0) ∷ [])) 256 x
-    table_computed h)
-    ∙ ap (λ y. from_le_bytes w32 (times 2 y ∷ y ∷ y ∷ times 3 y ∷ [])) (sbox_at x h))
+    let small : s < 256 = sbox_small x h in
+    column_back (times 2 s) s s (times 3 s) (get_or TABLE x 0) (times_small 2 s) small small (times_small 3 s)
+    (eqb-true (get_or TABLE x 0) (mixed_entry (get_or SBOX x 0))
+    (all_below_at (λ x. get_or TABLE x 0 == mixed_entry (get_or SBOX x 0)) 256 x table_computed h)
+    ∙ ap mixed_entry (sbox_at x h)
+    ∙ ap (from_le_bytes w32) (four (sym (double_is s small)) refl refl (sym (triple_by s small))))
 
 -- ---- tables whose columns are those of another, moved down
 -- the entries of one table are those of another moved by some bits, and below 2^32
@@ -271,12 +270,17 @@ key_columns ws n (suc (suc (suc (suc c)))) h l = absurd (omega arith)
 
 -- ---- backwards
 abbrev unmixed_entry : ℕ → ℕ
-unmixed_entry y = from_le_bytes w32 (times 14 y ∷ times 9 y ∷ times 13 y ∷ times 11 y ∷ [])
+unmixed_entry y = from_le_bytes w32
+    (product_of 4 y 14 ∷ product_of 4 y 9 ∷ product_of 4 y 13 ∷ product_of 4 y 11 ∷ [])
 
 -- the inverse table, tested at each byte
 inverse_computed : all_below (λ y. get_or INVERSE_TABLE (get_or SBOX y 0) 0 == unmixed_entry y) 256 ≡ true
-unfolding times product residue
+unfolding product_of
 inverse_computed = refl
+
+-- a product with a number of four bits
+times_by : (k y : ℕ) → y < 256 → k < 16 → times k y ≡ product_of 4 y k
+times_by k y h l = times_comm k y ∙ times_is 4 y k h (omega (arith, l)) l
 
 -- an entry of the inverse table as a column
 pub inverse_at : (x y : ℕ) → y < 256 → sbox y ≡ x
@@ -287,7 +291,10 @@ inverse_at x y h e =
     (ap (λ i. get_or INVERSE_TABLE i 0) (sym (sbox_at y h ∙ e))
     ∙ eqb-true (get_or INVERSE_TABLE (get_or SBOX y 0) 0) (unmixed_entry y)
     (all_below_at (λ y. get_or INVERSE_TABLE (get_or SBOX y 0) 0 == unmixed_entry y) 256 y inverse_computed
-    h))
+    h)
+    ∙ ap (from_le_bytes w32)
+    (four (sym (times_by 14 y h (lit< tt))) (sym (times_by 9 y h (lit< tt))) (sym (times_by 13 y h (lit< tt)))
+    (sym (times_by 11 y h (lit< tt)))))
 
 -- the inverse table of row 1, tested at each entry
 inverse_row1 : IsMoved INVERSE_ROW1 INVERSE_TABLE 8

@@ -1,19 +1,16 @@
 -- The cipher computed: the S-box through its table, and the products with 2 and 3 by doubling.
-use Rattle.std.proofs.Common.{◌≡◌, ℕ, zero, suc, ◌+◌, ◌-◌, ◌*◌, ◌/◌, ◌%◌, ◌<◌, true, cond, ◌&&◌, ◌==◌}
+use Rattle.std.proofs.Common.{◌≡◌, ℕ, zero, suc, ◌+◌, ◌-◌, ◌*◌, ◌/◌, ◌%◌, ◌<◌, cond, ◌&&◌, ◌==◌}
 use Rattle.std.proofs.Common.{nat_lt, List, [], ◌∷◌, ◌++◌, map, take, drop, get_or, refl, sym, ap, ap₂, ◌∙◌}
 use Rattle.std.proofs.Common.{bit_xor}
-use Rattle.std.proofs.lemmas.Bool.{eqb-true}
 use mathlib.Core.Path.{fun_ext}
 use Rattle.octets.specs.Bytes.{IsBlock}
-use Rattle.octets.specs.Polynomial.{product, residue}
-use Rattle.aes.specs.Field.{times}
 use Rattle.aes.specs.Schedule.{xor_word, sub_word, rot_word, rcon, key_words, round_count, changed}
 use Rattle.aes.specs.Schedule.{next_word, words, schedule}
 use Rattle.aes.specs.Cipher.{at, grid, sub_bytes, shift_rows, mix_column, mix_columns, add_round_key, rounds}
 use Rattle.aes.specs.Cipher.{cipher, IsKey}
 use Rattle.aes.specs.declared.sbox.TheConstants.{SBOX}
-use Rattle.aes.proofs.Tables.{all_below, all_below_at, sbox_at}
-use Rattle.aes.proofs.Multiples.{single_is, triple_is}
+use Rattle.aes.proofs.Tables.{sbox_at}
+use Rattle.aes.proofs.Multiples.{single_is, double, double_is, triple, triple_by}
 use Rattle.aes.proofs.Rows.{dot_is, four}
 use Rattle.aes.proofs.Steps.{AreWords, sub_block, shift_block}
 use Rattle.aes.proofs.Permutation.{rot_word_is, words_are, rounds_block}
@@ -21,28 +18,6 @@ use Rattle.aes.proofs.Permutation.{rot_word_is, words_are, rounds_block}
 -- each item is below 256
 abbrev Small : List ℕ → Type 0
 Small s = (i : ℕ) → get_or s i 0 < 256
-
--- ---- the bytes
-abbrev double : ℕ → ℕ
-double x = cond (nat_lt x 128) (2 * x) (bit_xor (2 * x - 256) 0x1b)
-
--- the product with 2, tested at each byte
-double_computed : all_below (λ x. times 2 x == double x) 256 ≡ true
-unfolding times product residue
-double_computed = refl
-
--- the product with 2
-double_is : (x : ℕ) → x < 256 → times 2 x ≡ double x
-double_is x h = eqb-true (times 2 x) (double x)
-    (all_below_at (λ x. times 2 x == double x) 256 x double_computed h)
-
--- three times a byte
-abbrev triple : ℕ → ℕ
-triple x = bit_xor (double x) x
-
--- it is the product with 3
-triple_by : (x : ℕ) → x < 256 → times 3 x ≡ triple x
-triple_by x h = triple_is x h ∙ ap (λ y. bit_xor y x) (double_is x h)
 
 -- ---- the schedule
 abbrev sub_word_by_table : List ℕ → List ℕ

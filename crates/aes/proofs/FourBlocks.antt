@@ -17,8 +17,9 @@ use Rattle.aes.specs.declared.lanes.TheConstants.{TO_LOW, TO_HIGH, INVERSE, SCAL
 use Rattle.aes.specs.declared.lanes.TheConstants.{PLAIN_BY_SECOND, ONCE_BY_FIRST, ONCE_BY_SECOND}
 use Rattle.aes.specs.declared.lanes.TheConstants.{TWICE_BY_FIRST, TWICE_BY_SECOND, ROW_SOURCES, ROWS_BELOW}
 use Rattle.aes.specs.declared.lanes.TheConstants.{ROWS_ABOVE}
-use Rattle.aes.proofs.Tables.{all_below, all_below_at, sbox_at}
-use Rattle.aes.proofs.Linear.{xor_exchange}
+use Rattle.aes.proofs.Tested.{all_below, all_below_at}
+use Rattle.aes.proofs.Tables.{sbox_at}
+use Rattle.aes.proofs.Sums.{xor_exchange}
 
 -- the same lanes by another name
 pub same_lanes : {f g : ℕ → ℕ} (v : List ℕ) → HasLanes v f → ((k : ℕ) → k < 64 → f k ≡ g k) → HasLanes v g

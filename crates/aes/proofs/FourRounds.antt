@@ -19,10 +19,10 @@ use Rattle.aes.specs.Code.Lanes.{HasLanes, HoldsBlocks, HoldsInBasis, byte_of, k
 use Rattle.aes.specs.Code.Lanes.{row_source, row_below, row_above, in_basis, linear_sbox}
 use Rattle.aes.specs.Schedule.{round_count, schedule}
 use Rattle.aes.proofs.Expanded.{HasSchedule}
-use Rattle.aes.proofs.Tables.{all_below, all_below_at}
+use Rattle.aes.proofs.Tested.{all_below, all_below_at}
 use Rattle.aes.proofs.Multiples.{single_is, triple_is}
 use Rattle.aes.proofs.Rows.{dot_is}
-use Rattle.aes.proofs.Linear.{times_xor, xor_exchange}
+use Rattle.aes.proofs.Sums.{times_xor, xor_exchange}
 use Rattle.aes.proofs.Steps.{sbox_small, times_small, sub_block, shift_block}
 use Rattle.aes.proofs.FourBlocks.{same_lanes, in_basis_xor}
 

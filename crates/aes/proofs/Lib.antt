@@ -1,6 +1,8 @@
-pub mod Tables
+pub mod Tested
 pub mod FieldFacts
+pub mod Sums
 pub mod Multiples
+pub mod Tables
 pub mod Grids
 pub mod Rows
 pub mod Words

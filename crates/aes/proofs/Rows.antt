@@ -8,7 +8,7 @@ use Rattle.octets.specs.Polynomial.{residue}
 use Rattle.aes.specs.Field.{times, modulus}
 use Rattle.aes.specs.Schedule.{x_power, rcon}
 use Rattle.aes.specs.Cipher.{dot}
-use Rattle.aes.proofs.Tables.{all_below, all_below_at}
+use Rattle.aes.proofs.Tested.{all_below, all_below_at}
 
 -- a dot product of four terms
 pub dot_is : (k l m n a b c d p q r s : ℕ) → p ≡ times k a → q ≡ times l b → r ≡ times m c → s ≡ times n d

@@ -16,7 +16,8 @@ use Rattle.aes.specs.Field.{modulus, times, sbox}
 use Rattle.octets.specs.Bytes.{IsBlock}
 use Rattle.aes.specs.Cipher.{at, grid, dot, matrix, column, mix_column, sub_bytes, shift_rows, mix_columns}
 use Rattle.aes.specs.Cipher.{add_round_key}
-use Rattle.aes.proofs.Tables.{all_below, all_below_at, sbox_at}
+use Rattle.aes.proofs.Tested.{all_below, all_below_at}
+use Rattle.aes.proofs.Tables.{sbox_at}
 use Rattle.aes.proofs.Grids.{grid_is}
 use Rattle.aes.proofs.Rows.{four}
 use Rattle.aes.proofs.Linear.{unmix_column, inverse_matrix, mix_unmix, unmix_mix, unmix_column_is}

@@ -2,13 +2,16 @@
 use Rattle.std.proofs.Common.{◌≡◌, ℕ, zero, suc, ◌+◌, ◌<◌, Bool, true, ◌&&◌, ◌==◌, cond, List, [], ◌∷◌}
 use Rattle.std.proofs.Common.{get_or, inl, inr, refl, sym, ap, ◌∙◌, arith, position, unwrap_or, ltb, nat_lt}
 use Rattle.std.proofs.Common.{Some, None, ne_of_lt, lt-ltb, ltb-true, add-one, zero-add}
+use mathlib.Core.Path.{fun_ext}
 use Rattle.std.specs.List.{range_with_len, position_or_len}
-use Rattle.std.proofs.lemmas.Bool.{and_parts, eqb-true, cases_Bool, cases_eq}
+use Rattle.std.proofs.lemmas.Bool.{and_parts, eqb-true, cases_Bool}
 use Rattle.std.proofs.lemmas.List.Sums.{position_or_len_is}
 use Rattle.std.proofs.lemmas.List.FromFn.{get_or-range_with_len}
-use Rattle.octets.specs.Polynomial.{product, residue}
 use Rattle.aes.specs.Field.{times, inverse, affine, sbox, IsInverse}
+use Rattle.aes.proofs.Tested.{all_below, all_below_at}
 use Rattle.aes.proofs.FieldFacts.{times_swap}
+use Rattle.aes.proofs.Sums.{zero_times}
+use Rattle.aes.proofs.Multiples.{times_one, product_of, times_is}
 use Rattle.aes.specs.declared.sbox.TheConstants.{SBOX}
 
 -- the inverses
@@ -47,31 +50,12 @@ inverses =
     0x5b ∷ 0x23 ∷ 0x38 ∷ 0x34 ∷ 0x68 ∷ 0x46 ∷ 0x03 ∷ 0x8c ∷ 0xdd ∷ 0x9c ∷ 0x7d ∷ 0xa0 ∷ 0xcd ∷ 0x1a ∷ 0x41
     ∷ 0x1c ∷ []
 
--- whether every number below n passes
-abbrev pub all_below : (ℕ → Bool) → ℕ → Bool
-all_below t zero = true
-all_below t (suc n) = t n && all_below t n
-
--- a test passed below n is passed at each k below n
-pub all_below_at : (t : ℕ → Bool) (n k : ℕ) → all_below t n ≡ true → k < n → t k ≡ true
-all_below_at t zero k h l = absurd (omega arith)
-all_below_at t (suc n) k h l =
-    elim (cases_eq k n) [
-      | inl e ↦ ap t e ∙ (and_parts (t n) (all_below t n) h).0
-      | inr e ↦ all_below_at t n k (and_parts (t n) (all_below t n) h).1 (omega arith)
-    ]
-
 -- ---- computed
 inverses_computed : all_below
-    (λ x. (times (x + 1) (get_or inverses (x + 1) 0) == 1) && (ltb (get_or inverses (x + 1) 0) 256)) 255
+    (λ x. (product_of 8 (x + 1) (get_or inverses (x + 1) 0) == 1) && ltb (get_or inverses (x + 1) 0) 256) 255
     ≡ true
-unfolding times product residue
+unfolding product_of
 inverses_computed = refl
-
--- the product with 1, tested at each byte
-one_computed : all_below (λ x. times x 1 == x) 256 ≡ true
-unfolding times product residue
-one_computed = refl
 
 -- the S-box is the affine map of the table of inverses, tested at each byte
 affine_computed : all_below (λ x. get_or SBOX x 0 == affine (get_or inverses x 0)) 256 ≡ true
@@ -79,9 +63,6 @@ unfolding affine
 affine_computed = refl
 
 -- ---- at each entry
-times_one : (x : ℕ) → x < 256 → times x 1 ≡ x
-times_one x h = eqb-true (times x 1) x (all_below_at (λ x. times x 1 == x) 256 x one_computed h)
-
 -- no two bytes invert one
 pub inverse_unique : (x y z : ℕ) → y < 256 → z < 256 → times x y ≡ 1 → times x z ≡ 1 → z ≡ y
 inverse_unique x y z hy hz ey ez =
@@ -105,13 +86,14 @@ inverse_at : (x : ℕ) → x < 255
 unfolding inverse
 inverse_at x h =
     let y : ℕ = get_or inverses (suc x) 0 in
-    let both = and_parts (times (suc x) y == 1) (ltb y 256)
+    let both = and_parts (product_of 8 (suc x) y == 1) (ltb y 256)
     (rw add-one at (all_below_at
-    (λ x. (times (x + 1) (get_or inverses (x + 1) 0) == 1) && (ltb (get_or inverses (x + 1) 0) 256)) 255 x
-    inverses_computed h)) in
+    (λ x. (product_of 8 (x + 1) (get_or inverses (x + 1) 0) == 1) && ltb (get_or inverses (x + 1) 0) 256) 255
+    x inverses_computed h)) in
     let small : y < 256 = ltb-true y 256 both.1 in
-    let is_one : times (suc x) y ≡ 1 = eqb-true (times (suc x) y) 1 both.0 in (
-      ap (λ o. unwrap_or o 0) (position_only (λ z. times (suc x) z == 1) y small both.0
+    let is_one : times (suc x) y ≡ 1 =
+    times_is 8 (suc x) y (omega arith) small small ∙ eqb-true (product_of 8 (suc x) y) 1 both.0 in (
+      ap (λ o. unwrap_or o 0) (position_only (λ z. times (suc x) z == 1) y small (ap (λ n. n == 1) is_one)
           (λ z l e. inverse_unique (suc x) y z small l is_one (eqb-true (times (suc x) z) 1 e))),
       small,
       is_one,
@@ -119,8 +101,9 @@ inverse_at x h =
 
 -- the inverse of 0
 inverse_zero : inverse 0 ≡ 0
-unfolding inverse times product residue
-inverse_zero = refl
+unfolding inverse
+inverse_zero =
+    ap (λ t. unwrap_or (position t (range_with_len 0 256)) 0) (fun_ext (λ y. ap (λ n. n == 1) (zero_times y)))
 
 -- the inverse is the table of inverses
 pub inverse_is : (x : ℕ) → x < 256 → inverse x ≡ get_or inverses x 0
