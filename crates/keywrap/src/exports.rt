@@ -117,10 +117,10 @@ pub extern "C" fn aeadkit_unwrap_padded(
 mod tests {
     use super::*;
 
-    // RFC 3394, 4.1, under the key 00 to 0f.
-    const TEXT: [u8; 16] = [
-        0x00, 0x11, 0x22, 0x33, 0x44, 0x55, 0x66, 0x77, 0x88, 0x99, 0xaa, 0xbb, 0xcc, 0xdd, 0xee,
-        0xff,
+    // RFC 3394, 4.1, under the key 00 to 0f: eight bytes of room and the text.
+    const ROOM: [u8; 24] = [
+        0x55, 0x55, 0x55, 0x55, 0x55, 0x55, 0x55, 0x55, 0x00, 0x11, 0x22, 0x33, 0x44, 0x55, 0x66,
+        0x77, 0x88, 0x99, 0xaa, 0xbb, 0xcc, 0xdd, 0xee, 0xff,
     ];
 
     const WRAPPED: [u8; 24] = [
@@ -128,30 +128,57 @@ mod tests {
         0x82, 0x9d, 0x3e, 0x86, 0x23, 0x71, 0xd2, 0xcf, 0xe5,
     ];
 
+    // The initial value and the text.
+    const UNWRAPPED: [u8; 24] = [
+        0xa6, 0xa6, 0xa6, 0xa6, 0xa6, 0xa6, 0xa6, 0xa6, 0x00, 0x11, 0x22, 0x33, 0x44, 0x55, 0x66,
+        0x77, 0x88, 0x99, 0xaa, 0xbb, 0xcc, 0xdd, 0xee, 0xff,
+    ];
+
+    // The last byte of the wrapping changed.
+    const CHANGED: [u8; 24] = [
+        0x1f, 0xa6, 0x8b, 0x0a, 0x81, 0x12, 0xb4, 0x47, 0xae, 0xf3, 0x4b, 0xd8, 0xfb, 0x5a, 0x7b,
+        0x82, 0x9d, 0x3e, 0x86, 0x23, 0x71, 0xd2, 0xcf, 0xe4,
+    ];
+
     const KEY: [u8; 16] = [0, 1, 2, 3, 4, 5, 6, 7, 8, 9, 10, 11, 12, 13, 14, 15];
+
+    // Whether wrapping so many of the bytes answers a number and leaves these.
+    fn wraps(
+        key: &[u8],
+        mut bytes: [u8; 24],
+        length: usize,
+        number: u32,
+        after: &[u8; 24],
+    ) -> bool {
+        let answer = aeadkit_wrap(key, &mut bytes[..length.min(24)]);
+        answer == number && bytes == *after
+    }
+
+    // The same of unwrapping.
+    fn unwraps(
+        key: &[u8],
+        mut bytes: [u8; 24],
+        length: usize,
+        number: u32,
+        after: &[u8; 24],
+    ) -> bool {
+        let answer = aeadkit_unwrap(key, &mut bytes[..length.min(24)]);
+        answer == number && bytes == *after
+    }
 
     #[test]
     fn a_published_wrapping_and_back(rt: HostRuntime) {
-        let mut bytes = [0x55; 24];
-        bytes[8..].copy_from_slice(&TEXT);
-        assert_eq!(rt; aeadkit_wrap(&KEY, &mut bytes), 0);
-        assert_eq!(rt; bytes, WRAPPED);
-        assert_eq!(rt; aeadkit_unwrap(&KEY, &mut bytes), 0);
-        assert_eq!(rt; &bytes[..8], [0xa6; 8].as_slice());
-        assert_eq!(rt; &bytes[8..], TEXT.as_slice());
+        assert!(rt; wraps(&KEY, ROOM, 24, 0, &WRAPPED));
+        assert!(rt; unwraps(&KEY, WRAPPED, 24, 0, &UNWRAPPED));
     }
 
     #[test]
     fn the_numbers_of_refusals(rt: HostRuntime) {
-        let mut bytes = WRAPPED;
-        bytes[23] = 0xe4;
-        let before = bytes;
-        assert_eq!(rt; aeadkit_unwrap(&KEY, &mut bytes), 8);
-        assert_eq!(rt; aeadkit_unwrap(&KEY, &mut bytes[..23]), 7);
-        assert_eq!(rt; aeadkit_wrap(&KEY, &mut bytes[..16]), 7);
-        assert_eq!(rt; aeadkit_unwrap(&KEY[..15], &mut bytes[..23]), 1);
-        assert_eq!(rt; aeadkit_wrap(&KEY[..15], &mut bytes[..16]), 1);
-        assert_eq!(rt; bytes, before);
+        assert!(rt; unwraps(&KEY, CHANGED, 24, 8, &CHANGED));
+        assert!(rt; unwraps(&KEY, CHANGED, 23, 7, &CHANGED));
+        assert!(rt; wraps(&KEY, CHANGED, 16, 7, &CHANGED));
+        assert!(rt; unwraps(&KEY[..15], CHANGED, 23, 1, &CHANGED));
+        assert!(rt; wraps(&KEY[..15], CHANGED, 16, 1, &CHANGED));
     }
 
     // The key of RFC 5649, 6.
@@ -160,26 +187,43 @@ mod tests {
         0xa1, 0xae, 0x83, 0x38, 0xf4, 0xdc, 0xc1, 0x76, 0xa8,
     ];
 
+    // Its text of seven bytes between room.
+    const SHORT_ROOM: [u8; 16] = [
+        0x55, 0x55, 0x55, 0x55, 0x55, 0x55, 0x55, 0x55, 0x46, 0x6f, 0x72, 0x50, 0x61, 0x73, 0x69,
+        0x55,
+    ];
+
+    const SHORT_WRAPPED: [u8; 16] = [
+        0xaf, 0xbe, 0xb0, 0xf0, 0x7d, 0xfb, 0xf5, 0x41, 0x92, 0x00, 0xf2, 0xcc, 0xb5, 0x0b, 0xb2,
+        0x4f,
+    ];
+
+    // The alternative initial value and the padded text.
+    const SHORT_UNWRAPPED: [u8; 16] = [
+        0xa6, 0x59, 0x59, 0xa6, 0x00, 0x00, 0x00, 0x07, 0x46, 0x6f, 0x72, 0x50, 0x61, 0x73, 0x69,
+        0x00,
+    ];
+
+    // Whether wrapping a text of this length with padding answers a number and leaves these bytes.
+    fn wraps_padded(text_length: usize, number: u32, after: &[u8; 16]) -> bool {
+        let mut bytes = SHORT_ROOM;
+        let answer = aeadkit_wrap_padded(&LONG_KEY, &mut bytes, text_length);
+        answer == number && bytes == *after
+    }
+
+    // Whether unwrapping answers a number and a length, and leaves these bytes.
+    fn unwraps_padded(key: &[u8], number: u32, text_length: usize, after: &[u8; 16]) -> bool {
+        let mut bytes = SHORT_WRAPPED;
+        let mut length = 0;
+        let answer = aeadkit_unwrap_padded(key, &mut bytes, &mut length);
+        answer == number && length == text_length && bytes == *after
+    }
+
     #[test]
     fn a_published_padded_wrapping_and_back(rt: HostRuntime) {
-        let text = [0x46, 0x6f, 0x72, 0x50, 0x61, 0x73, 0x69];
-        let wrapped = [
-            0xaf, 0xbe, 0xb0, 0xf0, 0x7d, 0xfb, 0xf5, 0x41, 0x92, 0x00, 0xf2, 0xcc, 0xb5, 0x0b,
-            0xb2, 0x4f,
-        ];
-        let mut bytes = [0x55; 16];
-        bytes[8..15].copy_from_slice(&text);
-        assert_eq!(rt; aeadkit_wrap_padded(&LONG_KEY, &mut bytes, 0), 7);
-        assert_eq!(rt; aeadkit_wrap_padded(&LONG_KEY, &mut bytes, 7), 0);
-        assert_eq!(rt; bytes, wrapped);
-        let mut length = 0;
-        assert_eq!(rt; aeadkit_unwrap_padded(&KEY, &mut bytes, &mut length), 8);
-        assert_eq!(rt; bytes, wrapped);
-        assert_eq!(rt;
-            aeadkit_unwrap_padded(&LONG_KEY, &mut bytes, &mut length),
-            0
-        );
-        assert_eq!(rt; length, 7);
-        assert_eq!(rt; &bytes[8..15], text.as_slice());
+        assert!(rt; wraps_padded(0, 7, &SHORT_ROOM));
+        assert!(rt; wraps_padded(7, 0, &SHORT_WRAPPED));
+        assert!(rt; unwraps_padded(&KEY, 8, 0, &SHORT_WRAPPED));
+        assert!(rt; unwraps_padded(&LONG_KEY, 0, 7, &SHORT_UNWRAPPED));
     }
 }

@@ -77,15 +77,14 @@ fn is_refused<A: Allocator + Drop>(answer: Result<Vec<u8, A>, Fault>, fault: Fau
     }
 }
 
-// A text is wrapped and unwrapped where it stands.
-fn is_wrapped_in_place(rt: &impl Abort, key: &AesKey, text: &[u8], wrapped: &[u8]) {
+// Whether a text is wrapped and unwrapped where it stands.
+fn is_wrapped_in_place(key: &AesKey, text: &[u8], wrapped: &[u8]) -> bool {
     let mut room = [0x55; 40];
     room[8..].copy_from_slice(&TEXT);
     let bytes = &mut room[..wrapped.len().min(40)];
-    assert!(rt; wrap_in_place(key, bytes).is_ok());
-    assert_eq!(rt; &*bytes, wrapped);
-    assert!(rt; unwrap_in_place(key, bytes).is_ok());
-    assert!(rt; bytes.strip_prefix(&[0xa6; 8]) == Some(text));
+    let made = wrap_in_place(key, bytes).is_ok() && &*bytes == wrapped;
+    let back = unwrap_in_place(key, bytes).is_ok();
+    made && back && bytes.strip_prefix(&[0xa6; 8]) == Some(text)
 }
 
 // A vector, both ways and in both forms.
@@ -94,7 +93,7 @@ fn agrees(rt: &(impl Abort + Alloc<A = Global>), key_length: usize, length: usiz
     let text = &TEXT[..length.min(32)];
     assert!(rt; is_made(wrap(rt.alloc(), &key, text), wrapped));
     assert!(rt; is_made(unwrap(rt.alloc(), &key, wrapped), text));
-    is_wrapped_in_place(rt, &key, text, wrapped);
+    assert!(rt; is_wrapped_in_place(&key, text, wrapped));
 }
 
 // Each vector.
@@ -124,14 +123,13 @@ fn each_bit_changed(rt: HostRuntime) {
     }
 }
 
-// The calls in place refuse a length, and leave the bytes.
-fn is_no_length_in_place(rt: &impl Abort, key: &AesKey, length: usize) {
+// Whether both calls in place refuse a length, and leave the bytes.
+fn is_no_length_in_place(key: &AesKey, length: usize) -> bool {
     let mut bytes = WRAPPED_1;
-    let answer = unwrap_in_place(key, &mut bytes[..length.min(24)]);
-    assert!(rt; answer == Err(Fault::WrapLength), "{length}");
-    let answer = wrap_in_place(key, &mut bytes[..length.min(24)]);
-    assert!(rt; answer == Err(Fault::WrapLength), "{length}");
-    assert_eq!(rt; bytes, WRAPPED_1);
+    let part = &mut bytes[..length.min(24)];
+    let unwrapped = unwrap_in_place(key, part);
+    let wrapped = wrap_in_place(key, part);
+    unwrapped == Err(Fault::WrapLength) && wrapped == Err(Fault::WrapLength) && bytes == WRAPPED_1
 }
 
 #[test]
@@ -144,7 +142,7 @@ fn lengths(rt: HostRuntime) {
     for length in 0..24usize {
         let answer = unwrap(rt.alloc(), &key, &WRAPPED_1[..length]);
         assert!(rt; is_refused(answer, Fault::WrapLength), "{length}");
-        is_no_length_in_place(&rt, &key, length);
+        assert!(rt; is_no_length_in_place(&key, length), "{length}");
     }
 }
 
@@ -155,9 +153,10 @@ fn is_due<A: Allocator + Drop>(
     right: &[u8],
     refused: bool,
 ) -> bool {
-    match answer {
-        Ok(bytes) => !refused && bytes.as_slice() == right,
-        Err(fault) => refused && fault == Fault::OutOfMemory,
+    if refused {
+        is_refused(answer, Fault::OutOfMemory)
+    } else {
+        is_made(answer, right)
     }
 }
 
