@@ -2,14 +2,13 @@
 use Rattle.std.proofs.Common.{◌≡◌, ℕ, zero, suc, ◌+◌, ◌*◌, ◌/◌, ◌%◌, ◌<◌, Bool, true, false, cond, ◌&&◌}
 use Rattle.std.proofs.Common.{◌||◌, ◌==◌, T, ltb, leb, List, [], ◌∷◌, ◌++◌, map, get_or, length, replicate}
 use Rattle.std.proofs.Common.{refl, sym, ap, ap₂, subst, ◌∙◌, arith, bit_and, bit_xor, w8, Fits, ltb-true}
-use Rattle.std.proofs.lemmas.Nat.{xor_shr, xor_mod, and_mask}
+use Rattle.std.proofs.lemmas.Nat.{xor_shr, xor_mod, xor_of_8, and_mask}
 use Rattle.std.proofs.lemmas.Bool.{and_parts, eqb-true, lt-leb}
 use Rattle.std.proofs.lemmas.List.{get_or-map, get_or_append_left, get_or-replicate, length-replicate}
 use Rattle.std.proofs.lemmas.Simd.{Each1-from_get_or, length-zip2, get_or-zip2, swz_l, SwzOk}
 use Rattle.std.proofs.lemmas.Simd.{SwzOk-from_Each1, length-swz_l, get_or-swz_l}
 use lib.Lanes.{zip2, Each1}
-use Rattle.octets.specs.Polynomial.{product, residue}
-use Rattle.aes.specs.Field.{times}
+use Rattle.aes.specs.Field.{times, sbox}
 use Rattle.aes.specs.Code.Lanes.{HasLanes, IsPlace, entry, row_source, row_below, row_above, in_basis}
 use Rattle.aes.specs.Code.Lanes.{linear_sbox}
 use Rattle.aes.specs.declared.sbox.TheConstants.{SBOX}
@@ -20,6 +19,8 @@ use Rattle.aes.specs.declared.lanes.TheConstants.{ROWS_ABOVE}
 use Rattle.aes.proofs.Tested.{all_below, all_below_at}
 use Rattle.aes.proofs.Tables.{sbox_at}
 use Rattle.aes.proofs.Sums.{xor_exchange}
+use Rattle.aes.proofs.Multiples.{double, double_is}
+use Rattle.aes.proofs.Steps.{sbox_small}
 
 -- the same lanes by another name
 pub same_lanes : {f g : ℕ → ℕ} (v : List ℕ) → HasLanes v f → ((k : ℕ) → k < 64 → f k ≡ g k) → HasLanes v g
@@ -287,9 +288,14 @@ once_computed = refl
 -- twice it in the basis, tested at each byte
 twice_computed : all_below
     (λ b. by_parts TWICE_BY_FIRST TWICE_BY_SECOND (in_basis b) == in_basis
-    (times 2 (bit_xor (get_or SBOX b 0) 0x63))) 256 ≡ true
-unfolding in_basis times product residue
+    (double (bit_xor (get_or SBOX b 0) 0x63))) 256 ≡ true
+unfolding in_basis
 twice_computed = refl
+
+-- the S-box without its constant is a byte
+pub linear_small : (x : ℕ) → x < 256 → linear_sbox x < 256
+unfolding linear_sbox
+linear_small x h = xor_of_8 (sbox x) 0x63 (sbox_small x h) (omega arith)
 
 -- a function of the table's entry is that of the S-box
 by_sbox : (g h : ℕ → ℕ) (b : ℕ) → b < 256
@@ -329,5 +335,6 @@ pub twice_lanes : (v x : List ℕ) (s : ℕ → ℕ)
     → ((k : ℕ) → k < 64 → s k < 256) → HasLanes x (λ k. in_basis (s k))
     → HasLanes v (λ k. in_basis (times 2 (linear_sbox (s k))))
 twice_lanes v x s made small held =
-    substituted TWICE_BY_FIRST TWICE_BY_SECOND v x s (λ y. in_basis (times 2 y)) made small held
-    twice_computed
+    same_lanes v
+    (substituted TWICE_BY_FIRST TWICE_BY_SECOND v x s (λ y. in_basis (double y)) made small held twice_computed)
+    (λ k l. ap in_basis (sym (double_is (linear_sbox (s k)) (linear_small (s k) (small k l)))))

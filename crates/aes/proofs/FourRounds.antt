@@ -24,7 +24,7 @@ use Rattle.aes.proofs.Multiples.{single_is, triple_is}
 use Rattle.aes.proofs.Rows.{dot_is}
 use Rattle.aes.proofs.Sums.{times_xor, xor_exchange}
 use Rattle.aes.proofs.Steps.{sbox_small, times_small, sub_block, shift_block}
-use Rattle.aes.proofs.FourBlocks.{same_lanes, in_basis_xor}
+use Rattle.aes.proofs.FourBlocks.{same_lanes, in_basis_xor, linear_small}
 
 -- ---- bytes of the steps
 -- a byte of a grid
@@ -134,11 +134,6 @@ mixed_byte s p small h =
     (ap₂ bit_xor (ap (λ i. get_or s i 0) rows.1) (ap (λ i. get_or s i 0) rows.2)))
 
 -- ---- a lane of a round
--- the S-box without its constant gives bytes
-linear_small : (x : ℕ) → x < 256 → linear_sbox x < 256
-unfolding linear_sbox
-linear_small x h = xor_of_8 (sbox x) 0x63 (sbox_small x h) (omega arith)
-
 -- the constants cancel: x and y are twice the first two rows, z, c and d the last three rows
 constants_out : (x y z c d k : ℕ)
     → bit_xor (bit_xor (bit_xor (bit_xor x 0xc6) (bit_xor z 0x63))
