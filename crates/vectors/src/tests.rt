@@ -77,9 +77,9 @@ fn newer(rt: &(impl Abort + Alloc<A = Global>), file: &[u8]) -> Vec<u8> {
 // A file has 18 records, of which these disagree.
 fn has_18_records(rt: &(impl Abort + Alloc<A = Global>), file: &[u8], bad: &[u64]) {
     let report = check(rt.alloc(), file).expect(rt, "a report");
-    assert_eq!(rt; report.records, 18);
-    assert_eq!(rt; report.bad.as_slice(), bad);
-    assert_eq!(rt; report.yes(), bad.is_empty());
+    assert!(rt; report.records == 18);
+    assert!(rt; report.bad.as_slice() == bad);
+    assert!(rt; report.yes() == bad.is_empty());
 }
 
 #[test]
@@ -115,9 +115,8 @@ fn suites_have_the_names_of_the_ciphers(rt: HostRuntime) {
     ] {
         let suite = Suite::named(Format::One, name.as_bytes());
         assert!(rt; suite.is_some(), "{name}");
-        assert_eq!(rt;
-            suite,
-            aead::Suite::named(name).map(|s| Suite::Aead(s)),
+        assert!(rt;
+            suite == aead::Suite::named(name).map(|s| Suite::Aead(s)),
             "{name}"
         );
     }
@@ -138,6 +137,6 @@ fn faults_print_their_names_and_lines(rt: HostRuntime) {
         (VectorFault::OutOfMemory, "OutOfMemory"),
     ] {
         let printed = format!(in rt.alloc(); "{fault}").expect(&rt, "memory");
-        assert_eq!(rt; printed.as_str(), text);
+        assert!(rt; printed.as_str() == text);
     }
 }
