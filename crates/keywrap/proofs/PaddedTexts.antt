@@ -343,12 +343,17 @@ found_by key wrapped first rest None law k b long r e h = no_wrapping key wrappe
 found_by key wrapped first rest (Some n) law k b long r e h =
     (h.0, unwrapped_by key wrapped first rest n h.0 r h.1 e)
 
+-- the blocks of a register after they were written
+pub blocks_in_place : (xs ys : List ℕ) → 16 ≤ length xs → length ys ≡ length xs - 8
+    → drop 8 (put_mid 8 (length xs - 8) xs ys) ≡ ys
+blocks_in_place xs ys l ly =
+    let z : List ℕ = drop (length xs - 8) (drop 8 xs) in
+    drop_at (take 8 xs) (ys ++ z) 8 (length-take-le 8 xs (omega arith))
+    ∙ ap (λ v. ys ++ v) (drop_all (length xs - 8) (drop 8 xs) (omega (arith, length-drop 8 xs)))
+    ∙ append-nil ys
+
 -- the blocks of a register of which A was written again
 pub rest_in_place : (x xs ys : List ℕ) → length x ≡ 8 → 16 ≤ length xs → length ys ≡ length xs - 8
     → drop 8 (x ++ drop 8 (put_mid 8 (length xs - 8) xs ys)) ≡ ys
 rest_in_place x xs ys lx l ly =
-    let z : List ℕ = drop (length xs - 8) (drop 8 xs) in
-    drop_at x (drop 8 (put_mid 8 (length xs - 8) xs ys)) 8 lx
-    ∙ drop_at (take 8 xs) (ys ++ z) 8 (length-take-le 8 xs (omega arith))
-    ∙ ap (λ v. ys ++ v) (drop_all (length xs - 8) (drop 8 xs) (omega (arith, length-drop 8 xs)))
-    ∙ append-nil ys
+    drop_at x (drop 8 (put_mid 8 (length xs - 8) xs ys)) 8 lx ∙ blocks_in_place xs ys l ly
