@@ -336,5 +336,6 @@ pub twice_lanes : (v x : List ℕ) (s : ℕ → ℕ)
     → HasLanes v (λ k. in_basis (times 2 (linear_sbox (s k))))
 twice_lanes v x s made small held =
     same_lanes v
-    (substituted TWICE_BY_FIRST TWICE_BY_SECOND v x s (λ y. in_basis (double y)) made small held twice_computed)
+    (substituted TWICE_BY_FIRST TWICE_BY_SECOND v x s (λ y. in_basis (double y)) made small held
+    twice_computed)
     (λ k l. ap in_basis (sym (double_is (linear_sbox (s k)) (linear_small (s k) (small k l)))))
