@@ -9,6 +9,7 @@ mod help;
 mod new_file;
 mod run;
 mod storage;
+mod subcommands;
 #[cfg(test)]
 mod tests;
 mod words;
