@@ -15,11 +15,22 @@ use crate::run::run;
 use crate::storage::Storage;
 use devices::NoFiles;
 use std::alloc::Global;
+use std::io::Write;
 use std::process::Abort;
 
-// What was written is this.
-fn is_written(rt: &impl Abort, words: &[&str], written: &[u8], wanted: &str) {
-    assert_eq!(rt; written, wanted.as_bytes(), "{words:?}");
+// Runs the words over files and into a writer, and compares the status and standard error.
+fn runs_into<F: Storage, W: Write>(
+    rt: &(impl Abort + Alloc<A = Global>),
+    files: &F,
+    words: &[&str],
+    out: &mut W,
+    status: u8,
+    complaint: &str,
+) {
+    let mut err: Vec<u8> = Vec::new(rt.alloc());
+    let answer = run(rt.alloc(), files, words, out, &mut err);
+    let is_right = answer == status && err.as_slice() == complaint.as_bytes();
+    assert!(rt; is_right, "{answer} of {words:?}");
 }
 
 // Runs the words over files, and compares the status and both streams.
@@ -32,24 +43,16 @@ fn runs_over<F: Storage>(
     complaint: &str,
 ) {
     let mut out: Vec<u8> = Vec::new(rt.alloc());
-    let mut err: Vec<u8> = Vec::new(rt.alloc());
-    let answer = run(rt.alloc(), files, words, &mut out, &mut err);
-    is_written(rt, words, &out, printed);
-    is_written(rt, words, &err, complaint);
-    assert_eq!(rt; answer, status, "{words:?}");
+    runs_into(rt, files, words, &mut out, status, complaint);
+    assert!(rt; out.as_slice() == printed.as_bytes(), "{words:?}");
 }
 
 // The words print one line, with status 0, and nothing to standard error.
 fn prints(rt: &(impl Abort + Alloc<A = Global>), words: &[&str], line: &str) {
     let mut out: Vec<u8> = Vec::new(rt.alloc());
-    let mut err: Vec<u8> = Vec::new(rt.alloc());
-    let status = run(rt.alloc(), &NoFiles, words, &mut out, &mut err);
-    is_written(rt, words, &err, "");
-    assert_eq!(rt; status, 0, "{words:?}");
-    assert!(rt;
-        out.as_slice().split_last() == Some((&b'\n', line.as_bytes())),
-        "{words:?}"
-    );
+    runs_into(rt, &NoFiles, words, &mut out, 0, "");
+    let printed = out.as_slice().split_last();
+    assert!(rt; printed == Some((&b'\n', line.as_bytes())), "{words:?}");
 }
 
 // The words are refused with a status and a line on standard error, and print nothing.

@@ -1,10 +1,9 @@
 //! `check` on vector files.
 use super::devices::{BrokenFiles, Narrow, NoFiles, OneFile};
-use super::runs_over;
 use super::vector_files::{
     ODD_NONCE, TWO_BAD_RECORDS, TWO_RECORDS, WRONG_CUTS, one_of_eighteen_bad,
 };
-use crate::run::run;
+use super::{runs_into, runs_over};
 use crate::storage::Disk;
 use std::test::Fail;
 use std::{fs, io};
@@ -93,10 +92,7 @@ fn failing_output(rt: HostRuntime) {
     };
     let kind = io::ErrorKind::StorageFull;
     let mut out = Narrow { room: 8, kind };
-    let mut err: Vec<u8> = Vec::new(rt.alloc());
-    let status = run(rt.alloc(), &files, &WORDS, &mut out, &mut err);
-    assert_eq!(rt; status, 3);
-    assert_eq!(rt; err.as_slice(), b"aeadkit: Write\n".as_slice());
+    runs_into(&rt, &files, &WORDS, &mut out, 3, "aeadkit: Write\n");
 }
 
 // The same over the system's files, in a folder of the test's own.

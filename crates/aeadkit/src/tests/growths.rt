@@ -16,29 +16,18 @@ use std::cell::Cell;
 use std::io;
 use std::process::Abort;
 
-// The failure is want of memory, with its status and its text.
-fn wants_memory(rt: &(impl Abort + Alloc<A = Global>), failure: Failure) {
-    let mut err: Vec<u8> = Vec::new(rt.alloc());
-    assert_eq!(rt; report(&mut err, failure), 4);
-    assert_eq!(rt; err.as_slice(), b"aeadkit: OutOfMemory\n".as_slice());
+// Whether the failure is want of memory, with its status and its text.
+fn wants_memory(alloc: Global, failure: Failure) -> bool {
+    let mut err: Vec<u8> = Vec::new(alloc);
+    let status = report(&mut err, failure);
+    status == 4 && err.as_slice() == b"aeadkit: OutOfMemory\n".as_slice()
 }
 
-// A refused request prints nothing, and any other the line, with status 0.
-fn is_right(
-    rt: &(impl Abort + Alloc<A = Global>),
-    answer: Result<u8, Failure>,
-    printed: &[u8],
-    line: &str,
-) {
+// Whether a refused request printed nothing, and any other the line, with status 0.
+fn is_right(alloc: Global, answer: Result<u8, Failure>, printed: &[u8], line: &str) -> bool {
     match answer {
-        Ok(status) => {
-            assert_eq!(rt; status, 0);
-            assert!(rt; printed.split_last() == Some((&b'\n', line.as_bytes())));
-        }
-        Err(failure) => {
-            wants_memory(rt, failure);
-            assert!(rt; printed.is_empty());
-        }
+        Ok(status) => status == 0 && printed.split_last() == Some((&b'\n', line.as_bytes())),
+        Err(failure) => printed.is_empty() && wants_memory(alloc, failure),
     }
 }
 
@@ -55,8 +44,11 @@ fn is_refused<'x, F: Storage>(
     let mut out: Vec<u8> = Vec::new(rt.alloc());
     let mut file = NewFile::new(&memory, files);
     let answer = perform(&memory, files, request, &mut out, &mut file);
-    is_right(rt, answer, &out, line);
-    assert_eq!(rt; memory.has_refused(), answer.is_err(), "request {passed}");
+    let is_due = memory.has_refused() == answer.is_err();
+    assert!(rt;
+        is_due && is_right(rt.alloc(), answer, &out, line),
+        "request {passed}"
+    );
     memory.has_refused()
 }
 
@@ -224,16 +216,13 @@ fn file_status<'x>(
     } else {
         (0, "")
     };
-    assert_eq!(rt; status, due, "request {passed}");
-    assert_eq!(rt; err.as_slice(), complaint.as_bytes());
-    assert!(rt; out.is_empty());
-    assert!(rt;
-        if status == 0 {
-            log.holds(to)
-        } else {
-            !log.made.get()
-        }
-    );
+    let is_right = status == due && err.as_slice() == complaint.as_bytes() && out.is_empty();
+    let is_held = if status == 0 {
+        log.holds(to)
+    } else {
+        !log.made.get()
+    };
+    assert!(rt; is_right && is_held, "request {passed}");
     status
 }
 

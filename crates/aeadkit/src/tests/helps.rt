@@ -1,7 +1,6 @@
 //! Words that are no request.
 use super::devices::{Narrow, NoFiles};
-use super::refuses;
-use crate::run::run;
+use super::{refuses, runs_into};
 use std::alloc::Global;
 use std::io;
 use std::process::Abort;
@@ -44,10 +43,8 @@ fn refused_words(rt: HostRuntime) {
 // The words print help, with status 0, and nothing to standard error.
 fn helps(rt: &(impl Abort + Alloc<A = Global>), words: &[&str]) {
     let mut out: Vec<u8> = Vec::new(rt.alloc());
-    let mut err: Vec<u8> = Vec::new(rt.alloc());
-    let status = run(rt.alloc(), &NoFiles, words, &mut out, &mut err);
-    assert_eq!(rt; status, 0, "{words:?}");
-    assert!(rt; !out.is_empty() && err.is_empty(), "{words:?}");
+    runs_into(rt, &NoFiles, words, &mut out, 0, "");
+    assert!(rt; !out.is_empty(), "{words:?}");
 }
 
 // Help goes to standard output, with status 0.
@@ -72,8 +69,5 @@ fn help_asked_for(rt: HostRuntime) {
 fn failing_help(rt: HostRuntime) {
     let kind = io::ErrorKind::BrokenPipe;
     let mut out = Narrow { room: 3, kind };
-    let mut err: Vec<u8> = Vec::new(rt.alloc());
-    let status = run(rt.alloc(), &NoFiles, &["--help"], &mut out, &mut err);
-    assert_eq!(rt; status, 3);
-    assert_eq!(rt; err.as_slice(), b"aeadkit: Write\n".as_slice());
+    runs_into(&rt, &NoFiles, &["--help"], &mut out, 3, "aeadkit: Write\n");
 }

@@ -55,15 +55,15 @@ fn add_vector(file: &mut String, vector: &Vector<'_>, is_denied: bool) -> Result
         text,
         sealed,
     } = *vector;
+    let (ending, text) = if is_denied {
+        ("invalid", "")
+    } else {
+        ("text = ", text)
+    };
     write!(
         file,
-        "\nsuite = {suite}\nkey = {key}\nnonce = {nonce}\naad = {aad}\nsealed = {sealed}\n"
-    )?;
-    if is_denied {
-        write!(file, "invalid\n")
-    } else {
-        write!(file, "text = {text}\n")
-    }
+        "\nsuite = {suite}\nkey = {key}\nnonce = {nonce}\naad = {aad}\nsealed = {sealed}\n{ending}{text}\n"
+    )
 }
 
 // Adds a record of a wrapping to a file.
@@ -80,15 +80,21 @@ fn add_wrapping(file: &mut String, wrapping: &Wrapping<'_>) -> Result<(), AllocE
     )
 }
 
+// Adds a record of each published vector, where the text of record 5 is denied.
+fn add_published(file: &mut String) -> Result<(), AllocError> {
+    for (i, vector) in VECTORS.iter().enumerate() {
+        add_vector(file, vector, i == 4)?;
+    }
+    for wrapping in &WRAPPINGS {
+        add_wrapping(file, wrapping)?;
+    }
+    Ok(())
+}
+
 /// The published vectors as a vector file of 18 records, where the text of record 5 is denied.
 pub fn one_of_eighteen_bad(alloc: Global) -> Result<String, AllocError> {
     let mut file = String::from_str(alloc, "format = 1\n")?;
-    for (i, vector) in VECTORS.iter().enumerate() {
-        add_vector(&mut file, vector, i == 4)?;
-    }
-    for wrapping in &WRAPPINGS {
-        add_wrapping(&mut file, wrapping)?;
-    }
+    add_published(&mut file)?;
     Ok(file)
 }
 

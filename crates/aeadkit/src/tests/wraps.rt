@@ -1,7 +1,7 @@
 //! `wrap` and `unwrap` (RFC 3394, section 4).
 use super::devices::{Narrow, NoFiles};
 use super::published::{WRAPPINGS, Wrapping};
-use super::{prints, refuses};
+use super::{prints, refuses, runs_into};
 use crate::run::run;
 use std::alloc::Global;
 use std::io;
@@ -144,12 +144,7 @@ fn failing_output(rt: HostRuntime) {
         (io::ErrorKind::OutOfMemory, 4, "aeadkit: OutOfMemory\n"),
     ] {
         let mut out = Narrow { room: 5, kind };
-        let mut err: Vec<u8> = Vec::new(rt.alloc());
-        assert_eq!(rt;
-            run(rt.alloc(), &NoFiles, &words, &mut out, &mut err),
-            status
-        );
-        assert_eq!(rt; err.as_slice(), name.as_bytes());
+        runs_into(&rt, &NoFiles, &words, &mut out, status, name);
     }
 }
 
