@@ -1,12 +1,13 @@
 //! `check` on vector files.
 use super::devices::{BrokenFiles, Narrow, NoFiles, OneFile};
+use super::files::{make_file, make_folder, remove_folder};
 use super::vector_files::{
     ODD_NONCE, TWO_BAD_RECORDS, TWO_RECORDS, WRONG_CUTS, one_of_eighteen_bad,
 };
 use super::{runs_into, runs_over};
 use crate::storage::Disk;
+use std::io;
 use std::test::Fail;
-use std::{fs, io};
 
 const WORDS: [&str; 2] = ["check", "vectors.txt"];
 
@@ -97,12 +98,11 @@ fn failing_output(rt: HostRuntime) {
 
 // The same over the system's files, in a folder of the test's own.
 #[test]
-fn system_files(rt: HostRuntime) -> Result<(), Fail> {
+fn system_files(rt: HostRuntime) {
     let folder = "aeadkit_checks";
     let path = "aeadkit_checks/vectors.txt";
-    let _ = fs::remove_dir_all(&rt, folder);
-    fs::create_dir(&rt, folder)?;
-    fs::write(&rt, path, TWO_BAD_RECORDS)?;
+    make_folder(&rt, folder);
+    make_file(&rt, path, TWO_BAD_RECORDS.as_bytes());
     let files = Disk::new(&rt);
     let printed = "records 2\nbad 1\nbad 2\n";
     runs_over(&rt, &files, &["check", path], 1, printed, "");
@@ -110,6 +110,5 @@ fn system_files(rt: HostRuntime) -> Result<(), Fail> {
         let words = ["check", unreadable];
         runs_over(&rt, &files, &words, 3, "", "aeadkit: Read\n");
     }
-    fs::remove_dir_all(&rt, folder)?;
-    Ok(())
+    remove_folder(&rt, folder);
 }

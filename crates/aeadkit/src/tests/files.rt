@@ -6,7 +6,6 @@ use std::alloc::Global;
 use std::fs;
 use std::process::Abort;
 use std::rt::Files;
-use std::test::Fail;
 
 /// The words of a file command under a vector's inputs.
 pub fn file_words<'a>(
@@ -37,19 +36,19 @@ pub fn bytes(rt: &(impl Abort + Alloc<A = Global>), digits: &str) -> Vec<u8> {
     hex::decode(rt.alloc(), digits).expect(rt, "digits")
 }
 
-// Makes a folder, without what an earlier run left in it.
-fn make_folder(rt: &(impl Abort + Files + Alloc), folder: &str) {
+/// Makes a folder, without what an earlier run left in it.
+pub fn make_folder(rt: &(impl Abort + Files + Alloc), folder: &str) {
     let _ = fs::remove_dir_all(rt, folder);
     assert!(rt; fs::create_dir(rt, folder).is_ok());
 }
 
-// Removes a folder, with what is in it.
-fn remove_folder(rt: &(impl Abort + Files + Alloc), folder: &str) {
+/// Removes a folder, with what is in it.
+pub fn remove_folder(rt: &(impl Abort + Files + Alloc), folder: &str) {
     assert!(rt; fs::remove_dir_all(rt, folder).is_ok());
 }
 
-// Makes a file that holds these bytes.
-fn make_file(rt: &(impl Abort + Files), path: &str, held: &[u8]) {
+/// Makes a file that holds these bytes.
+pub fn make_file(rt: &(impl Abort + Files), path: &str, held: &[u8]) {
     assert!(rt; fs::write(rt, path, held).is_ok());
 }
 
@@ -97,30 +96,33 @@ fn file_sealed_and_opened(rt: HostRuntime) {
     remove_folder(&rt, "aeadkit_both");
 }
 
-// Bytes that are no sealing make no file.
-#[test]
-fn no_sealing_makes_no_file(rt: HostRuntime) -> Result<(), Fail> {
-    make_folder(&rt, "aeadkit_wrong");
-    let sealed = "aeadkit_wrong/sealed";
-    let opened = "aeadkit_wrong/opened";
-    make_file(&rt, sealed, &forged(&rt));
-    let complaint = "aeadkit: TagMismatch\n";
-    runs(&rt, "open-file", &CHACHA, (sealed, opened), 1, complaint);
-    assert!(rt; !fs::exists(&rt, opened)?);
-    remove_folder(&rt, "aeadkit_wrong");
-    Ok(())
+// Opens a sealed file in a folder of its own, and compares what is written; `None` where no file is made.
+fn opens(
+    rt: &(impl Abort + Files + Alloc<A = Global>),
+    vector: &Vector<'_>,
+    held: &[u8],
+    status: u8,
+    complaint: &str,
+    written: Option<&str>,
+) {
+    let sealed = "aeadkit_opens/sealed";
+    let opened = "aeadkit_opens/opened";
+    make_folder(rt, "aeadkit_opens");
+    make_file(rt, sealed, held);
+    runs(rt, "open-file", vector, (sealed, opened), status, complaint);
+    match written {
+        Some(digits) => holds(rt, opened, digits),
+        None => assert!(rt; matches!(fs::exists(rt, opened), Ok(false))),
+    }
+    remove_folder(rt, "aeadkit_opens");
 }
 
-// An empty text makes an empty file.
+// Bytes that are no sealing make no file, and an empty text makes an empty file.
 #[test]
-fn empty_text_makes_an_empty_file(rt: HostRuntime) {
-    make_folder(&rt, "aeadkit_empty");
-    let sealed = "aeadkit_empty/sealed";
-    let opened = "aeadkit_empty/opened";
-    make_file(&rt, sealed, &bytes(&rt, GCM.sealed));
-    runs(&rt, "open-file", &GCM, (sealed, opened), 0, "");
-    holds(&rt, opened, "");
-    remove_folder(&rt, "aeadkit_empty");
+fn no_sealing_and_empty_text(rt: HostRuntime) {
+    let complaint = "aeadkit: TagMismatch\n";
+    opens(&rt, &CHACHA, &forged(&rt), 1, complaint, None);
+    opens(&rt, &GCM, &bytes(&rt, GCM.sealed), 0, "", Some(""));
 }
 
 // A path that leads nowhere is `Read` for the file that is read, and `Write` for the one that is written.
