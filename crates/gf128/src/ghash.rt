@@ -91,7 +91,7 @@ impl<M: Multiply> Ghash<M> {
         ensures is_block { IsBlock result }
     {
         self.pad16();
-        block_of(self.pieces.core.sum)
+        block_of(self.pieces.core().sum)
     }
 }
 

@@ -105,7 +105,7 @@ impl<M: Multiply> Polyval<M> {
         ensures is_block { IsBlock result }
     {
         self.pad16();
-        reversed_block_of(self.pieces.core.sum)
+        reversed_block_of(self.pieces.core().sum)
     }
 }
 

@@ -1,6 +1,6 @@
 // A text that comes in pieces, taken in by whole blocks of 16 bytes.
 
-ghost use Rattle.std.specs.Prelude.{◌≡◌, ℕ, ◌+◌, ◌<◌, ◌%◌, ◌++◌, List, [], length};
+ghost use Rattle.std.specs.Prelude.{◌≡◌, ℕ, ◌+◌, ◌*◌, ◌/◌, ◌%◌, ◌<◌, ◌++◌, List, [], length, take, drop};
 
 /// What takes in whole blocks of 16 bytes, and keeps nothing of how they were cut.
 pub trait Absorb {
@@ -18,9 +18,9 @@ pub trait Absorb {
 /// after them. Whole blocks are handed on many at a time; only the ends of a piece are copied.
 #[derive(Drop)]
 pub struct Pieces<A> {
-    pub core: A,
-    pub buffer: [u8; 16],
-    pub used: usize,
+    core: A,
+    buffer: [u8; 16],
+    used: usize,
     ghost in_range: { used < 16 },
 }
 
@@ -37,6 +37,23 @@ impl<A: Absorb> Pieces<A> {
             buffer: [0; 16],
             used: 0,
         }
+    }
+
+    /// What took in the whole blocks of the text.
+    pub fn core(&self) -> &A
+        ensures { (k m : List ℕ) → HoldsPieces A.absorbed self.now k m
+            → A.absorbed result.now k (take (length m / 16 * 16) m) }
+    {
+        &self.core
+    }
+
+    /// The bytes of the text after its last whole block: fewer than 16.
+    pub fn rest(&self) -> &[u8]
+        ensures value { (k m : List ℕ) → HoldsPieces A.absorbed self.now k m
+            → result.now ≡ drop (length m / 16 * 16) m }
+        ensures short { length result.now < 16 }
+    {
+        &self.buffer[..self.used]
     }
 
     // Adds bytes that end no block.

@@ -7,7 +7,7 @@ use Rattle.std.proofs.lemmas.Nat.{mul-mod_first, and_mod, and_shr, and_le_r}
 use Rattle.std.proofs.lemmas.List.{take_all, length-take-le, length-drop, take-append-drop, drop-replicate}
 use Rattle.std.proofs.lemmas.List.{set_at, length-append, length-replicate}
 use Rattle.std.specs.Simd.{first_chunks}
-use borrow.Rule.Slice.PartMut.{put_mid, mid_of}
+use borrow.Rule.Slice.PartMut.{put_mid}
 use Rattle.std.specs.Int.{w128, from_le_bytes}
 use Rattle.octets.specs.Bytes.{le, block_at, block_count}
 use Rattle.octets.proofs.Sums.{sum_below_same, powers_more}
@@ -15,8 +15,8 @@ use Rattle.octets.proofs.Blocks.{block_at-append, next_block, chunk_at}
 use Rattle.octets.proofs.Numbers.{le_ended, le_word, power_of_bytes}
 use Rattle.poly1305.specs.Poly1305.{prime, block_number, block_sum, r_of}
 use Rattle.poly1305.specs.Code.Residue.{pair, IsClamped}
-use Rattle.poly1305.specs.States.{HoldsBy}
-use Rattle.poly1305.specs.declared.poly.PolyBy.{PolyBy}
+use Rattle.poly1305.specs.States.{PolySumHolds}
+use Rattle.poly1305.specs.declared.poly.PolySum.{PolySum}
 
 -- the sum over one block more
 block_sum_more : (r : ℕ) (m : List ℕ) (k : ℕ)
@@ -79,14 +79,15 @@ whole_block_read m x chunks i w whole room ec ew =
     ∙ ap block_number (sym (next_block m x i whole))
 
 -- a short block with one bit more, as `short_block_number` writes it
-pub ended_block : (buffer ys : List ℕ) (u : ℕ) → u < 16 → length buffer ≡ 16 → ys ≡ mid_of 0 u buffer
-    → set (put_mid 0 u (replicate 16 0) ys) u 1 ≡ take u buffer ++ 1 ∷ replicate (15 - u) 0
-ended_block buffer ys u h len e =
-    let n : length (take u buffer) ≡ u = length-take-le u buffer (omega arith) in
+pub ended_block : (bytes ys : List ℕ) → length bytes < 16 → ys ≡ bytes
+    → set (put_mid 0 (length bytes) (replicate 16 0) ys) (length bytes) 1
+    ≡ bytes ++ 1 ∷ replicate (15 - length bytes) 0
+ended_block bytes ys h e =
+    let u : ℕ = length bytes in
     let s : 16 - u ≡ suc (15 - u) = omega arith in
     let tail : drop u (replicate {A = ℕ} 16 0) ≡ 0 ∷ replicate (15 - u) 0 = drop-replicate u 16 0
     ∙ rw s refl in
-    rw (e, tail) (set_at (take u buffer) 0 (replicate (15 - u) 0) 1 u n)
+    rw (e, tail) (set_at bytes 0 (replicate (15 - u) 0) 1 u refl)
 
 -- the word that it spells is what the block counts
 pub ended_number : (front block : List ℕ) (u : ℕ) → u < 16 → length front ≡ u
@@ -117,31 +118,30 @@ clamped x =
     )
 
 -- at the end the state's sum is that over all blocks, where the last one is whole
-pub holds_whole : {M : Type 0} (factor : M → ℕ) (p : PolyBy M) (k m : List ℕ) → HoldsBy factor p k m
-    → p.pieces.used ≡ 0
-    → pair p.pieces.core.sum.low p.pieces.core.sum.high ≡ block_sum (r_of k) m (block_count m) % prime
-holds_whole factor p k m h e =
-    let used : p.pieces.used ≡ length m % 16 = h.rest.used_is in
-    let q : block_count m ≡ length m / 16 = omega arith in
-    let all : take (length m / 16 * 16) m ≡ m = take_all (length m / 16 * 16) m (omega arith) in
-    rw q (rw all at h.taken.sum_is)
+pub holds_whole : {M : Type 0} (factor : M → ℕ) (c : PolySum M) (k m : List ℕ)
+    → PolySumHolds factor c k (take (length m / 16 * 16) m)
+    → length (drop (length m / 16 * 16) m) ≡ 0
+    → pair c.sum.low c.sum.high ≡ block_sum (r_of k) m (block_count m) % prime
+holds_whole factor c k m h e =
+    let none : length m ≡ length m / 16 * 16 = omega (arith, e, length-drop (length m / 16 * 16) m) in
+    let q : block_count m ≡ length m / 16 = omega (arith, none) in
+    let all : take (length m / 16 * 16) m ≡ m = take_all (length m / 16 * 16) m (omega (arith, none)) in
+    rw q (rw all at h.sum_is)
 
 -- and one step makes it that where the last block is short
-pub holds_partial : {M : Type 0} (factor : M → ℕ) (p : PolyBy M) (k m : List ℕ) (start last v : ℕ)
-    → HoldsBy factor p k m
-    → 0 < p.pieces.used → p.pieces.used < 16 → length p.pieces.buffer ≡ 16
-    → last ≡ block_number (take p.pieces.used p.pieces.buffer)
-    → start ≡ pair p.pieces.core.sum.low p.pieces.core.sum.high
-    → v % prime ≡ (start + last + 0 * 2 ^ 128) * factor p.pieces.core.multiplier % prime
+pub holds_partial : {M : Type 0} (factor : M → ℕ) (c : PolySum M) (k m : List ℕ) (start last v : ℕ)
+    → PolySumHolds factor c k (take (length m / 16 * 16) m)
+    → 0 < length (drop (length m / 16 * 16) m)
+    → last ≡ block_number (drop (length m / 16 * 16) m)
+    → start ≡ pair c.sum.low c.sum.high
+    → v % prime ≡ (start + last + 0 * 2 ^ 128) * factor c.multiplier % prime
     → v % prime ≡ block_sum (r_of k) m (block_count m) % prime
-holds_partial factor p k m start last v h some small len el es ev =
-    let u : ℕ = p.pieces.used in
+holds_partial factor c k m start last v h some el es ev =
     let q : ℕ = length m / 16 in
-    let s : ℕ = pair p.pieces.core.sum.low p.pieces.core.sum.high in
-    let used : u ≡ length m % 16 = h.rest.used_is in
-    let count : block_count m ≡ q + 1 = omega arith in
-    let tail : block_at m q ≡ take u p.pieces.buffer =
-    take_all 16 (drop (q * 16) m) (omega (arith, length-drop (q * 16) m)) ∙ sym h.rest.kept in
+    let s : ℕ = pair c.sum.low c.sum.high in
+    let count : block_count m ≡ q + 1 = omega (arith, some, length-drop (q * 16) m) in
+    let tail : block_at m q ≡ drop (q * 16) m =
+    take_all 16 (drop (q * 16) m) (omega (arith, length-drop (q * 16) m)) in
     let number : last ≡ block_number (block_at m q) = el ∙ ap block_number (sym tail) in
     let split : take (q * 16) m ++ drop (q * 16) m ≡ m = take-append-drop (q * 16) m in
     let lt : length (take (q * 16) m) ≡ q * 16 = length-take-le (q * 16) m (omega arith) in
@@ -150,11 +150,11 @@ holds_partial factor p k m start last v h some small len el es ev =
     ap (λ (x : List ℕ). block_sum (r_of k) x q) (sym split) ∙ block_sum-append (r_of k) (take (q * 16) m)
     (drop (q * 16) m) q (omega arith) in
     let before : s % prime ≡ block_sum (r_of k) m q % prime =
-    ap (λ (x : ℕ). x % prime) (h.taken.sum_is
+    ap (λ (x : ℕ). x % prime) (h.sum_is
     ∙ ap (λ (x : ℕ). block_sum (r_of k) (take (q * 16) m) x % prime) lq)
     ∙ mod-mod (block_sum (r_of k) (take (q * 16) m) q) prime ∙ ap (λ (x : ℕ). x % prime) (sym same) in
     let sums : start + last + 0 * 2 ^ 128 ≡ s + last = omega arith in
     block_taken (r_of k) m q s last v before number
-    (ev ∙ ap (λ (x : ℕ). x * factor p.pieces.core.multiplier % prime) sums
-    ∙ ap (λ (x : ℕ). (s + last) * x % prime) h.taken.factor_is)
+    (ev ∙ ap (λ (x : ℕ). x * factor c.multiplier % prime) sums
+    ∙ ap (λ (x : ℕ). (s + last) * x % prime) h.factor_is)
     ∙ ap (λ (x : ℕ). block_sum (r_of k) m x % prime) (sym count)

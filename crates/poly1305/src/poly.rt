@@ -1,6 +1,6 @@
 // The authenticator over a text that comes in pieces.
 
-ghost use Rattle.std.specs.Prelude.{◌≡◌, ℕ, ◌<◌, ◌++◌, List, [], take};
+ghost use Rattle.std.specs.Prelude.{◌≡◌, ℕ, ◌<◌, ◌++◌, List, [], length};
 ghost use Rattle.poly1305.specs.Poly1305.{block_number};
 
 use crate::Multiplier;
@@ -35,13 +35,13 @@ impl<M: Multiplier> Absorb for PolySum<M> {
 }
 
 // What a block of fewer than 16 bytes counts: its bytes, then one bit more.
-fn short_block_number(buffer: &[u8; 16], used: usize) -> u128
-    requires { used < 16 }
-    ensures { result ≡ block_number (take used buffer.now) }
+fn short_block_number(bytes: &[u8]) -> u128
+    requires { length bytes.now < 16 }
+    ensures { result ≡ block_number bytes.now }
 {
     let mut block = [0u8; 16];
-    block[..used].copy_from_slice(&buffer[..used]);
-    block[used] = 1;
+    block[..bytes.len()].copy_from_slice(bytes);
+    block[bytes.len()] = 1;
     u128::from_le_bytes(block)
 }
 
@@ -93,11 +93,11 @@ impl<M: Multiplier> PolyBy<M> {
         ensures value { (k m : List ℕ) → HoldsBy M.factor self k m → result ≡ poly1305 k m }
         ensures is_block { IsBlock result }
     {
-        let core = &self.pieces.core;
-        let used = self.pieces.used;
+        let core = self.pieces.core();
+        let rest = self.pieces.rest();
         let mut sum = core.sum;
-        if used > 0 {
-            let last = short_block_number(&self.pieces.buffer, used);
+        if rest.len() > 0 {
+            let last = short_block_number(rest);
             sum = core.multiplier.step(sum.sum(), last, 0).residue();
         }
         Tag::new(sum.low.wrapping_add(core.addend).to_le_bytes())

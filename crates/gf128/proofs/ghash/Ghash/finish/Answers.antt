@@ -7,9 +7,8 @@ use Rattle.gf128.proofs.ghash.Ghash.finish.Goals as goal
 
 pub returns-clause-value : goal.returns-clause-value
 returns-clause-value x c = λ h m held.
-    let core = c.pad16.new.self.pieces.core in
-    let sum : GhashSumHolds x.M.Multiply.key_bytes core h (pad16 m) =
-    rw (padded_whole m) at (c.pad16.ensures h m held).taken in
+    let sum : GhashSumHolds x.M.Multiply.key_bytes c.core.result.now h (pad16 m) =
+    rw (padded_whole m) at (c.core.ensures h (pad16 m) (c.pad16.ensures h m held)) in
     let is : IsGhash h (pad16 m) c.block_of.result =
     record {
       is_block = c.block_of.ensures.is_block;
