@@ -6,8 +6,8 @@ ghost use Rattle.octets.specs.Bytes.{AreBytes, IsBlock};
 use crate::fault::Fault;
 use std::marker::Model;
 
-/// Does nothing: a caller learns that each byte of a slice is below 256.
-pub fn are_bytes(bytes: &[u8])
+// Does nothing: a caller learns that each byte of a slice is below 256.
+fn tells_bytes(bytes: &[u8])
     ensures { AreBytes (length bytes.now) bytes.now }
 {}
 
@@ -43,7 +43,7 @@ impl Key16 {
         ensures are_bytes { AreBytes 16 self.now }
     {
         let Key16 { bytes } = self;
-        are_bytes(bytes);
+        tells_bytes(bytes);
         bytes
     }
 }
@@ -80,7 +80,7 @@ impl Key24 {
         ensures are_bytes { AreBytes 24 self.now }
     {
         let Key24 { bytes } = self;
-        are_bytes(bytes);
+        tells_bytes(bytes);
         bytes
     }
 }
@@ -117,7 +117,7 @@ impl Key32 {
         ensures are_bytes { AreBytes 32 self.now }
     {
         let Key32 { bytes } = self;
-        are_bytes(bytes);
+        tells_bytes(bytes);
         bytes
     }
 }
@@ -154,7 +154,7 @@ impl Nonce {
         ensures are_bytes { AreBytes 12 self.now }
     {
         let Nonce { bytes } = self;
-        are_bytes(bytes);
+        tells_bytes(bytes);
         bytes
     }
 }
@@ -179,7 +179,7 @@ impl Block {
         ensures value { result ≡ bytes }
         ensures is_block { IsBlock result }
     {
-        are_bytes(&bytes);
+        tells_bytes(&bytes);
         Block { bytes }
     }
 
@@ -189,7 +189,7 @@ impl Block {
         ensures is_block { IsBlock self.now }
     {
         let Block { bytes } = self;
-        are_bytes(bytes);
+        tells_bytes(bytes);
         bytes
     }
 }
@@ -214,7 +214,7 @@ impl Tag {
         ensures value { result ≡ bytes }
         ensures is_block { IsBlock result }
     {
-        are_bytes(&bytes);
+        tells_bytes(&bytes);
         Tag { bytes }
     }
 
@@ -224,7 +224,7 @@ impl Tag {
         ensures is_block { IsBlock self.now }
     {
         let Tag { bytes } = self;
-        are_bytes(bytes);
+        tells_bytes(bytes);
         bytes
     }
 }

@@ -19,7 +19,7 @@ mod transfer;
 #[cfg(test)]
 mod uses;
 
-pub use bytes::{Block, Key16, Key24, Key32, Nonce, Tag, are_bytes};
+pub use bytes::{Block, Key16, Key24, Key32, Nonce, Tag};
 pub use compare::{same, xor_into, xored};
 pub use device::{DeviceFault, Intake, Outlet};
 pub use fault::{Fault, outcome_number};
