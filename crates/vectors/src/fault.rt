@@ -1,4 +1,7 @@
 // Why a file has no report.
+ghost use Rattle.std.specs.Prelude.{◌≡◌};
+
+use std::alloc::AllocError;
 use std::error::Error;
 use std::fmt;
 
@@ -52,6 +55,16 @@ impl fmt::Display for VectorFault {
 }
 
 impl Error for VectorFault {}
+
+impl From<AllocError> for VectorFault {
+    ghost use Rattle.vectors.specs.declared.fault.VectorFault.TheVariants.{OutOfMemory};
+
+    ghost from_gives = { λ _ fault. fault ≡ OutOfMemory };
+
+    fn from(_error: AllocError) -> VectorFault {
+        VectorFault::OutOfMemory
+    }
+}
 
 // What is wrong with a line.
 #[derive(Clone, Copy, PartialEq, Eq)]

@@ -56,9 +56,7 @@ fn read<A: Allocator>(alloc: A, file: &[u8]) -> Result<Report<A>, VectorFault>
                     ended: Some(entry),
                 },
             ) => {
-                let Ok(()) = report.judge(&entry) else {
-                    return Err(VectorFault::OutOfMemory);
-                };
+                report.judge(&entry)?;
                 place = next;
             }
         }

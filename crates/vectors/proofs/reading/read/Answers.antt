@@ -1,4 +1,5 @@
-use Rattle.std.proofs.Common.{rules, ap, ◌∙◌, subst, ◌≡◌, ◌∷◌, [], Ok, true, false, arith}
+use Rattle.std.proofs.Common.{rules, ap, ◌∙◌, subst, ◌≡◌, ◌∷◌, [], Ok, Err, true, false, arith}
+use Rattle.std.proofs.lemmas.Result.{err_from_is_err_and}
 use Rattle.vectors.specs.Lines.{lines_of}
 use Rattle.vectors.specs.Code.Steps.{Place, step}
 use Rattle.vectors.specs.Faults.{is_inside}
@@ -45,15 +46,16 @@ judge-requires-clause-sized g c =
     c.loop-line.report.records c.loop-line.report.bad.items c.loop-line.invariant.so_far
     c.in-Some.ensures.line stepped
 
-pub returns-in_default-judge-clause-fault : goal.returns-in_default-judge-clause-fault
-returns-in_default-judge-clause-fault g c =
+pub returns-in_err-judge-in-Ok-Some-clause-fault : goal.returns-in_err-judge-in-Ok-Some-clause-fault
+returns-in_err-judge-in-Ok-Some-clause-fault g c =
     let next = view c.in-Ok-Some.field-0.place in
     let made = entry_view c.in-Ok-Some.entry in
     let stepped : step (view c.loop-line.place) c.in-Some.line.now ≡ Ok (next, made ∷ []) = search rules in
-    ended_at (lines_of c.args.file.now) (lines_of c.loop-line.rest.now) c.in-Some.line.now
-    (lines_of c.in-Some.behind.now) c.loop-line.count (view c.loop-line.place) next made
+    let p = err_from_is_err_and c.from_residual.result c.from_residual.ensures.1 in
+    rw (p.1 ∙ ap Err p.2) (ended_at (lines_of c.args.file.now) (lines_of c.loop-line.rest.now)
+    c.in-Some.line.now (lines_of c.in-Some.behind.now) c.loop-line.count (view c.loop-line.place) next made
     c.loop-line.report.records c.loop-line.report.bad.items c.loop-line.invariant.so_far
-    c.in-Some.ensures.line stepped
+    c.in-Some.ensures.line stepped)
 
 pub loop-line-preserved : goal.loop-line-preserved
 loop-line-preserved g c =
@@ -63,7 +65,7 @@ loop-line-preserved g c =
     let after = c.judge.new.self in
     let stepped : step (view c.loop-line.place) c.in-Some.line.now ≡ Ok (next, made ∷ []) = search rules in
     let judged : Judges report.records report.bad.items made after.records after.bad.items =
-    c.in-Ok.ensures in
+    c.in_ok-judge-in-Ok-Some.ensures in
     record {
       so_far = after_record (lines_of c.args.file.now) (lines_of c.loop-line.rest.now) c.in-Some.line.now
           (lines_of c.in-Some.behind.now) c.loop-line.count (view c.loop-line.place) next made
