@@ -49,6 +49,10 @@ pub record FailureCounts : Type 0 where
   pub write : ℕ
   pub outlet : ℕ
 
+-- those of a measure, a verify and a write reading, and of an outlet
+abbrev pub counted : ℕ → ℕ → ℕ → ℕ → FailureCounts
+counted m v w o = record { measure = m; verify = v; write = w; outlet = o }
+
 -- `Read` comes only where a reading failed, and `Write` only where the outlet did
 abbrev pub BlamesRightly : FailureCounts → FailureCounts → Result (Unit {0}) Fault → Type 0
 BlamesRightly before after r =

@@ -101,15 +101,11 @@ impl Cutting {
             ++ masked (mask_of s (tag_of s text)) (length done) piece.now ∷ []))
             (λ e. WholeSealRefused s text e) }
     {
-        let Ok(mut bytes) = Vec::from_slice(alloc, piece) else {
-            return Err(Fault::OutOfMemory);
-        };
-        match self.update(&mut bytes) {
-            Ok(()) => match pieces.push(bytes) {
-                Ok(()) => Ok(()),
-                Err(_) => Err(Fault::OutOfMemory),
-            },
-            Err(fault) => Err(fault),
+        let mut bytes = Vec::from_slice(alloc, piece)?;
+        self.update(&mut bytes)?;
+        match pieces.push(bytes) {
+            Ok(()) => Ok(()),
+            Err(_) => Err(Fault::OutOfMemory),
         }
     }
 }

@@ -84,20 +84,20 @@ fn half_of(blocks: &[u8; 64], q: usize) -> [u8; 8]
 // Parts 0 to 3 of the derived keys, each the first half of a block (RFC 8452, 4): four blocks are
 // encrypted at once.
 #[derive(Drop)]
-struct Parts<'a> {
+struct KeyParts<'a> {
     key: &'a AesKey,
     nonce: &'a Nonce,
     blocks: [u8; 64],
     ghost parts: { (q : ℕ) → q < 4 → take 8 (block_at blocks q) ≡ key_part key.now nonce.now q },
 }
 
-impl<'a> Parts<'a> {
+impl<'a> KeyParts<'a> {
     // The parts under a key with a nonce.
-    fn new(key: &'a AesKey, nonce: &'a Nonce) -> Parts<'a>
+    fn new(key: &'a AesKey, nonce: &'a Nonce) -> KeyParts<'a>
         ensures key { result.key.now ≡ key.now }
         ensures nonce { result.nonce.now ≡ nonce.now }
     {
-        Parts {
+        KeyParts {
             key,
             nonce,
             blocks: key.encrypt_four(&first_numbered(nonce.bytes())),
@@ -122,14 +122,14 @@ fn key_part(key: &AesKey, nonce: &Nonce, i: u32) -> [u8; 8]
 }
 
 // The key of POLYVAL: parts 0 and 1 (RFC 8452, 4).
-fn authentication_key(parts: &Parts) -> Block
+fn authentication_key(parts: &KeyParts) -> Block
     ensures { result ≡ authentication_key parts.now.key.now parts.now.nonce.now }
 {
     Block::new(joined(&parts.at(0), &parts.at(1)))
 }
 
 // The key of the cipher, where it has 16 bytes: parts 2 and 3 (RFC 8452, 4).
-fn short_encryption_key(parts: &Parts) -> [u8; 16]
+fn short_encryption_key(parts: &KeyParts) -> [u8; 16]
     requires { length parts.now.key.now ≡ 16 }
     ensures { result ≡ encryption_key parts.now.key.now parts.now.nonce.now }
 {
@@ -137,7 +137,7 @@ fn short_encryption_key(parts: &Parts) -> [u8; 16]
 }
 
 // The same, where it has 32 bytes: parts 2 to 5.
-fn long_encryption_key(parts: &Parts) -> [u8; 32]
+fn long_encryption_key(parts: &KeyParts) -> [u8; 32]
     requires { length parts.now.key.now ≡ 32 }
     ensures { result ≡ encryption_key parts.now.key.now parts.now.nonce.now }
 {
@@ -158,7 +158,7 @@ fn expanded(bytes: &[u8]) -> AesKey
 }
 
 // The key of POLYVAL's multiplier in GHASH's field (RFC 8452, appendix A).
-fn hash_key(parts: &Parts) -> Block
+fn hash_key(parts: &KeyParts) -> Block
     ensures value { IsReversedMulX (authentication_key parts.now.key.now parts.now.nonce.now) result }
     ensures of_block { IsBlock (authentication_key parts.now.key.now parts.now.nonce.now) }
 {
@@ -182,7 +182,7 @@ impl DerivedKeys {
         ensures hash_key { IsReversedMulX (authentication_key key.now nonce.now) result.hash_key }
         ensures encryption { result.encryption ≡ encryption_key key.now nonce.now }
     {
-        let parts = Parts::new(key, nonce);
+        let parts = KeyParts::new(key, nonce);
         let hash_key = hash_key(&parts);
         let encryption = match suite {
             Suite::Aes128GcmSiv => expanded(&short_encryption_key(&parts)),

@@ -4,7 +4,7 @@ ghost use Rattle.std.specs.Prelude.{◌≡◌, ℕ, ◌+◌, ◌≤◌, length, 
 ghost use Rattle.aead.specs.Suites.{text_limit, aad_limit};
 ghost use Rattle.aead.specs.Ciphers.{setting};
 ghost use Rattle.aead.specs.AnyCiphers.{keyed_of};
-ghost use Rattle.aead.specs.Verdict.{WhereTold, OpensStream, BlamesRightly};
+ghost use Rattle.aead.specs.Verdict.{WhereTold, OpensStream, BlamesRightly, counted};
 ghost use Rattle.aead.specs.SealStream.{GiveBlames};
 ghost use Rattle.aead.specs.Code.Told.{MeasureTold, VerifyTold, WriteTold, StepBlames, verify_answer};
 ghost use Rattle.aead.specs.Code.Told.{write_answer};
@@ -129,38 +129,14 @@ pub fn open_stream<I: Intake, J: Intake, K: Intake, O: Outlet>(
     out: &mut O,
 ) -> Result<(), Fault>
     ensures blame { BlamesRightly
-        (record {
-          measure = I.failures measure.old;
-          verify = J.failures verify.old;
-          write =
-              K.failures write.old;
-          outlet = O.failures out.old;
-        })
-        (record {
-          measure = I.failures measure.new;
-          verify = J.failures verify.new;
-          write =
-              K.failures write.new;
-          outlet = O.failures out.new;
-        })
+        (counted (I.failures measure.old) (J.failures verify.old) (K.failures write.old) (O.failures out.old))
+        (counted (I.failures measure.new) (J.failures verify.new) (K.failures write.new) (O.failures out.new))
         result }
     ensures opens { WhereTold (I.left measure.old) (J.left verify.old) (K.left write.old) (O.taken out.old)
         (O.taken out.new)
         (λ m v w given. OpensStream (setting (keyed_of cipher.now) nonce.now aad.now) m v w given
-        (record {
-          measure = I.failures measure.old;
-          verify = J.failures verify.old;
-          write =
-              K.failures write.old;
-          outlet = O.failures out.old;
-        })
-        (record {
-          measure = I.failures measure.new;
-          verify = J.failures verify.new;
-          write =
-              K.failures write.new;
-          outlet = O.failures out.new;
-        })
+        (counted (I.failures measure.old) (J.failures verify.old) (K.failures write.old) (O.failures out.old))
+        (counted (I.failures measure.new) (J.failures verify.new) (K.failures write.new) (O.failures out.new))
         result) }
 {
     open_stream_placed(cipher, nonce, &aad, measure, verify, write, out)
@@ -179,38 +155,14 @@ pub fn open_stream_placed<A: AssociatedData, I: Intake, J: Intake, K: Intake, O:
     out: &mut O,
 ) -> Result<(), Fault>
     ensures blame { BlamesRightly
-        (record {
-          measure = I.failures measure.old;
-          verify = J.failures verify.old;
-          write =
-              K.failures write.old;
-          outlet = O.failures out.old;
-        })
-        (record {
-          measure = I.failures measure.new;
-          verify = J.failures verify.new;
-          write =
-              K.failures write.new;
-          outlet = O.failures out.new;
-        })
+        (counted (I.failures measure.old) (J.failures verify.old) (K.failures write.old) (O.failures out.old))
+        (counted (I.failures measure.new) (J.failures verify.new) (K.failures write.new) (O.failures out.new))
         result }
     ensures opens { WhereTold (I.left measure.old) (J.left verify.old) (K.left write.old) (O.taken out.old)
         (O.taken out.new)
         (λ m v w given. OpensStream (setting (keyed_of cipher.now) nonce.now (A.bytes aad.now)) m v w given
-        (record {
-          measure = I.failures measure.old;
-          verify = J.failures verify.old;
-          write =
-              K.failures write.old;
-          outlet = O.failures out.old;
-        })
-        (record {
-          measure = I.failures measure.new;
-          verify = J.failures verify.new;
-          write =
-              K.failures write.new;
-          outlet = O.failures out.new;
-        })
+        (counted (I.failures measure.old) (J.failures verify.old) (K.failures write.old) (O.failures out.old))
+        (counted (I.failures measure.new) (J.failures verify.new) (K.failures write.new) (O.failures out.new))
         result) }
 {
     let suite = cipher.suite();

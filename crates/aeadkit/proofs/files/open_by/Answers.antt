@@ -2,24 +2,18 @@ use Rattle.std.proofs.Common.{inr}
 use Rattle.std.specs.Io.Buffered.{reader_remaining}
 use Rattle.aead.specs.Ciphers.{setting}
 use Rattle.aead.specs.AnyCiphers.{keyed_of}
-use Rattle.aead.specs.Verdict.{FailureCounts}
+use Rattle.aead.specs.Verdict.{FailureCounts, counted}
 use Rattle.aeadkit.proofs.FilesLemmas.{opened_thrice}
 use Rattle.aeadkit.proofs.files.open_by.Goals as goal
 
 pub returns : goal.returns
 returns g c =
-    let before : FailureCounts = record {
-      measure = c.in_ok-measure.measure.failed;
-      verify = c.in_ok-verify.verify.failed;
-      write = c.in_ok-write.write.failed;
-      outlet = g.O.Outlet.failures c.args.out.now;
-    } in
-    let after : FailureCounts = record {
-      measure = c.open_stream.new.measure.failed;
-      verify = c.open_stream.new.verify.failed;
-      write = c.open_stream.new.write.failed;
-      outlet = g.O.Outlet.failures c.open_stream.new.out;
-    } in
+    let before : FailureCounts =
+    counted c.in_ok-measure.measure.failed c.in_ok-verify.verify.failed c.in_ok-write.write.failed
+    (g.O.Outlet.failures c.args.out.now) in
+    let after : FailureCounts =
+    counted c.open_stream.new.measure.failed c.open_stream.new.verify.failed c.open_stream.new.write.failed
+    (g.O.Outlet.failures c.open_stream.new.out) in
     inr (opened_thrice (g.F.Storage.contents c.args.files.now c.args.path.now 0)
     (g.F.Storage.contents c.args.files.now c.args.path.now 1)
     (g.F.Storage.contents c.args.files.now c.args.path.now 2)

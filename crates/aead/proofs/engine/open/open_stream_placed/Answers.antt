@@ -10,6 +10,7 @@ use Rattle.aead.specs.Code.Told.{MeasureTold}
 use Rattle.aead.specs.Sealing.{Setting}
 use Rattle.aead.specs.Ciphers.{setting}
 use Rattle.aead.specs.AnyCiphers.{keyed_of}
+use Rattle.aead.specs.Verdict.{counted}
 use Rattle.aead.proofs.StreamExits.{exit_aad, exit_measure, exit_verify, exit_write}
 use Rattle.aead.proofs.engine.open.open_stream_placed.Goals as goal
 
@@ -24,14 +25,8 @@ returns-in_err-check_aad_count-clause-opens g c =
     p.1 ∙ ap Err (p.2 ∙ c.in_err-check_aad_count.ensures.0) in
     rw e (exit_aad (g.I.Intake.left c.args.measure.now) (g.J.Intake.left c.args.verify.now)
     (g.K.Intake.left c.args.write.now) (g.O.Outlet.taken c.args.out.now) s
-    (record {
-      measure = g.I.Intake.failures c.args.measure.now;
-      verify =
-          g.J.Intake.failures c.args.verify.now;
-      write = g.K.Intake.failures c.args.write.now;
-      outlet =
-          g.O.Outlet.failures c.args.out.now;
-    })
+    (counted (g.I.Intake.failures c.args.measure.now) (g.J.Intake.failures c.args.verify.now)
+    (g.K.Intake.failures c.args.write.now) (g.O.Outlet.failures c.args.out.now))
     long)
 
 -- the same answer of the measure reading by the suite's other name

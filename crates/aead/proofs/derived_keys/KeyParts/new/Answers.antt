@@ -2,7 +2,7 @@ use Rattle.std.proofs.Common.{◌++◌, take, ap, ◌∙◌}
 use Rattle.std.specs.Int.{w32, to_le_bytes}
 use Rattle.aes.specs.Cipher.{cipher}
 use Rattle.aead.specs.Sealing.{key_part}
-use Rattle.aead.proofs.derived_keys.Parts.new.Goals as goal
+use Rattle.aead.proofs.derived_keys.KeyParts.new.Goals as goal
 
 pub invariant_of-result : goal.invariant_of-result
 unfolding key_part
