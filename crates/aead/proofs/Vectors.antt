@@ -27,8 +27,8 @@ aad = 80 ∷ 81 ∷ 82 ∷ 83 ∷ 192 ∷ 193 ∷ 194 ∷ 195 ∷ 196 ∷ 197 �
 
 -- the text
 unfoldable text : List ℕ
-text = codes
-    "Ladies and Gentlemen of the class of '99: If I could offer you only one tip for the future, sunscreen would be it."
+text = codes "Ladies and Gentlemen of the class of '99: If I could offer you only one tip for "
+    ++ codes "the future, sunscreen would be it."
 
 -- its ciphertext
 unfoldable ciphertext : List ℕ
@@ -112,8 +112,8 @@ pub one_sealing : sealing
       aad =
           (80 ∷ 81 ∷ 82 ∷ 83 ∷ 192 ∷ 193 ∷ 194 ∷ 195 ∷ 196 ∷ 197 ∷ 198 ∷ 199 ∷ []);
     })
-    (codes
-    "Ladies and Gentlemen of the class of '99: If I could offer you only one tip for the future, sunscreen would be it.")
+    (codes "Ladies and Gentlemen of the class of '99: If I could offer you only one tip for "
+    ++ codes "the future, sunscreen would be it.")
     ≡
     (211 ∷ 26 ∷ 141 ∷ 52 ∷ 100 ∷ 142 ∷ 96 ∷ 219 ∷ 123 ∷ 134 ∷ 175 ∷ 188 ∷ 83 ∷ 239 ∷ 126 ∷ 194 ∷
     164 ∷ 173 ∷ 237 ∷ 81 ∷ 41 ∷ 110 ∷ 8 ∷ 254 ∷ 169 ∷ 226 ∷ 181 ∷ 167 ∷ 54 ∷ 238 ∷ 98 ∷ 214 ∷

@@ -14,6 +14,7 @@ pub(crate) fn is_gap(line: &[u8]) -> bool
     matches!(line, [] | [b'#', ..])
 }
 
+// The place of the first `=` of a line.
 fn equals_sign(line: &[u8]) -> Option<usize>
     ensures { result ≡ position is_equals line.now }
 {

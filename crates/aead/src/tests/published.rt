@@ -15,7 +15,8 @@ pub const CHACHA_AAD: [u8; 12] = [
 ];
 
 pub const CHACHA_TEXT: &[u8; 114] =
-    b"Ladies and Gentlemen of the class of '99: If I could offer you only one tip for the future, sunscreen would be it.";
+    b"Ladies and Gentlemen of the class of '99: If I could offer you only one tip for \
+      the future, sunscreen would be it.";
 
 pub const CHACHA_SEALED: [u8; 130] = [
     0xd3, 0x1a, 0x8d, 0x34, 0x64, 0x8e, 0x60, 0xdb, 0x7b, 0x86, 0xaf, 0xbc, 0x53, 0xef, 0x7e, 0xc2,

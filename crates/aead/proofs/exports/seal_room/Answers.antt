@@ -15,5 +15,6 @@ returns g c = λ h.
         text_fits = omega (arith, whole, o.fits.text_fits);
       },
       subst (λ b. Opened s (c.seal_in_place.new.text ++ c.bytes.result.now) b) c.in-Some.ensures.cases.0
-          (subst (λ t. Opened s (c.seal_in_place.new.text ++ t) c.in-Some.body.now) (sym c.bytes.ensures.value) o),
+          (subst (λ t. Opened s (c.seal_in_place.new.text ++ t) c.in-Some.body.now)
+          (sym c.bytes.ensures.value) o),
     )

@@ -19,7 +19,8 @@ returns-then-not-same-clause-answer g c =
     ap (λ x. is_one_pass (construction_of x)) (sym c.suite-suite.ensures) ∙ sym c.is_one_pass.ensures
     ∙ c.if-is_one_pass.true in
     let made = c.finish.ensures s c.args.body.now
-    (c.update.ensures.holds s [] c.authenticator-authenticator.ensures.holds (omega (arith, fits.text_fits))) in (
+    (c.update.ensures.holds s [] c.authenticator-authenticator.ensures.holds
+    (omega (arith, fits.text_fits))) in (
       (
         fits,
         no_sealing s c.args.body.now c.args.tag.now c.bytes-given.ensures.is_block.length_is
@@ -44,11 +45,13 @@ returns-then-is_one_pass-clause-answer g c =
     ap (λ x. is_one_pass (construction_of x)) (sym c.suite-suite.ensures) ∙ sym c.is_one_pass.ensures
     ∙ c.if-is_one_pass.true in
     let made = c.finish.ensures s c.args.body.now
-    (c.update.ensures.holds s [] c.authenticator-authenticator.ensures.holds (omega (arith, fits.text_fits))) in
+    (c.update.ensures.holds s [] c.authenticator-authenticator.ensures.holds
+    (omega (arith, fits.text_fits))) in
     opened_as s c.args.body.now c.args.tag.now c.apply_to.new.piece
     fits
     (λ i. (c.type_inv.body i).fits)
-    (c.apply_to.ensures s c.args.tag.now 0 (c.mask.ensures.made c.args.aad.now) (omega (arith, fits.text_fits))).1
+    (c.apply_to.ensures s c.args.tag.now 0 (c.mask.ensures.made c.args.aad.now)
+    (omega (arith, fits.text_fits))).1
     (body_tag s c.args.tag.now c.args.body.now one ∙ sym made ∙ sym c.bytes.ensures.value
     ∙ c.same.ensures.0 c.if-not-same.false
     ∙ c.bytes-given.ensures.value)

@@ -15,5 +15,6 @@ pub returns-in-Siv : goal.returns-in-Siv
 returns-in-Siv c = λ s text done h l.
     let P : Cutting → Type 0 = λ u. Encrypted u s text done in
     let held = subst P c.in-Siv.is h in
-    each_case c.update-in-Siv.result _ _ _ _ (λ x u. ((u.0, held.1), u.1)) (λ e u. absurd (omega (arith, u.1, l)))
+    each_case c.update-in-Siv.result _ _ _ _ (λ x u. ((u.0, held.1), u.1))
+    (λ e u. absurd (omega (arith, u.1, l)))
     (c.update-in-Siv.ensures s text done held.0)

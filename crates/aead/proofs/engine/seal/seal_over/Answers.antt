@@ -31,7 +31,8 @@ returns-in-Ok-None-clause-seals g c =
     let limit : c.masking_placed-sealing.result.limit ≡ text_limit s.suite =
     c.masking_placed-sealing.ensures.limit in
     let went = rw c.in-Ok-None.field-0-is at (c.in-Ok-None.ensures.passed (sealing_task s []) h) in
-    exit_long _ _ _ _ _ s _ _ _ _ _ _ limit c.requires.one_pass c.requires.aad_fits went c.in-Ok-None.ensures.blame
+    exit_long _ _ _ _ _ s _ _ _ _ _ _ limit c.requires.one_pass c.requires.aad_fits went
+    c.in-Ok-None.ensures.blame
 
 pub returns-in-Ok-clause-seals : goal.returns-in-Ok-clause-seals
 returns-in-Ok-clause-seals g c =
