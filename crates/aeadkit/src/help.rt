@@ -59,15 +59,16 @@ To go on: aeadkit help unwrap, docs/COMMAND.md.";
 pub const UNWRAP_MORE: &str =
     "It prints the text as one line of lower-case hex digits; nothing where the bytes are no wrapping.
 HEX is an even number of hex digits of either case.
-The wrapping has a multiple of 8 bytes, at least 24 (RFC 3394), or with --pad at least 16 (RFC 5649).
+The wrapping has a multiple of 8 bytes, at least 24 (RFC 3394),
+or with --pad at least 16 (RFC 5649).
 
 Example:
   aeadkit unwrap --key 000102030405060708090a0b0c0d0e0f \\
     --sealed 1fa68b0a8112b447aef34bd8fb5a7b829d3e862371d2cfe5
 prints 00112233445566778899aabbccddeeff
 
-Status: 0 done; 1 the bytes are no wrapping; 2 words or a value of no use; 3 standard output failed;
-4 want of memory.
+Status: 0 done; 1 the bytes are no wrapping; 2 words or a value of no use; 3 standard output
+failed; 4 want of memory.
 To go on: aeadkit help wrap, docs/COMMAND.md.";
 
 pub const SEAL_FILE_MORE: &str =
@@ -94,8 +95,8 @@ Example:
   aeadkit open-file --suite aes-128-gcm --key 00000000000000000000000000000000 \\
     --nonce 000000000000000000000000 --in letter.sealed --out letter.txt
 
-Status: 0 done; 1 the bytes are no sealing; 2 words or a value of no use; 3 a file failed or changed;
-4 want of memory.
+Status: 0 done; 1 the bytes are no sealing; 2 words or a value of no use; 3 a file failed or
+changed; 4 want of memory.
 To go on: docs/COMMAND.md.";
 
 pub const CHECK_MORE: &str =
@@ -108,6 +109,6 @@ Example:
   aeadkit check one.txt
 prints records 1
 
-Status: 0 all agree; 1 a record is bad, or the file is no vector file; 2 words of no use; 3 a file or
-standard output failed; 4 want of memory.
+Status: 0 all agree; 1 a record is bad, or the file is no vector file; 2 words of no use; 3 a file
+or standard output failed; 4 want of memory.
 To go on: docs/VECTOR-FILES.md.";

@@ -108,7 +108,7 @@ const SEALED_TAKEN: Taken = Taken {
 
 const IN_TAKEN: Taken = Taken {
     name: IN,
-    value: "PATH",
+    value: "IN",
     help: "The file that is read",
     is_option: true,
     is_required: true,
@@ -117,7 +117,7 @@ const IN_TAKEN: Taken = Taken {
 
 const OUT_TAKEN: Taken = Taken {
     name: OUT,
-    value: "PATH",
+    value: "OUT",
     help: "The file that is written",
     is_option: true,
     is_required: true,
