@@ -1,6 +1,6 @@
 //! The file that a command writes.
-ghost use Rattle.std.specs.Prelude.{◌≡◌, ◌<◌, ◌≤◌, ◌-◌, [], true, is_some, ◌++◌, drop, length, vec_len};
-ghost use Rattle.std.specs.Prelude.{OnOk, OnErr, IfErr};
+ghost use Rattle.std.specs.Prelude.{◌≡◌, ◌<◌, ◌≤◌, ◌+◌, ◌-◌, [], true, is_some, ◌++◌, drop, length, vec_len};
+ghost use Rattle.std.specs.Prelude.{vec_capacity, OnOk, OnErr, IfErr};
 ghost use Rattle.std.specs.Io.KnownBytes.{Keeps, WriteAppends, append_known};
 ghost use Rattle.octets.specs.Device.{GivesSome};
 ghost use Rattle.aeadkit.specs.NewFiles.{held};
@@ -48,6 +48,8 @@ impl<'a, F: Storage, A: Allocator> NewFile<'a, F, A> {
             ≡ ⟦<NewFile<'a, F, A> as Outlet>⟧.taken self.old }
         ensures pending { self.new.pending.items ≡ self.old.pending.items }
         ensures path { self.new.path.now ≡ path.now }
+        ensures failed { self.new.failed ≡ self.old.failed }
+        ensures room { OnOk result (vec_len self.new.pending + 65536 ≤ vec_capacity self.new.pending) }
     {
         self.path = path;
         self.pending.reserve_exact(PENDING)
