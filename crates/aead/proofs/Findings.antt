@@ -3,23 +3,26 @@ use Rattle.std.proofs.Common.{◌≡◌, ℕ, List, [], ◌++◌, ◌≤◌, ◌
 use Rattle.std.proofs.Common.{length, take, drop, get_or, refl, ap, ◌∙◌, sym, arith, true≢false, Option}
 use Rattle.std.proofs.Common.{Some, None, subst, length-append}
 use Rattle.std.specs.Str.{bytes_eq}
-use Rattle.std.specs.Io.KnownBytes.{Consumes, Appends}
+use Rattle.std.specs.Io.KnownBytes.{Consumes, Appends, IsAtEnd}
 use Rattle.std.proofs.lemmas.Bool.{cases_Bool, cases_lt}
 use Rattle.std.proofs.lemmas.List.{append-nil, take_all, drop_all, take_at, drop_at, length-drop}
 use Rattle.std.proofs.lemmas.List.{take-append-le, take-take}
 use Rattle.std.proofs.lemmas.Slice.Eq.{bytes_eq-Decides}
 use Rattle.octets.specs.Masked.{masked}
+use Rattle.aes.specs.Cipher.{IsKey}
 use Rattle.octets.proofs.Devices.{consumes_more}
 use Rattle.octets.proofs.Masks.{take-masked}
 use Rattle.aead.specs.declared.masking.Masking.{Masking}
+use Rattle.aead.specs.declared.authenticator.Authenticator.{Authenticator}
 use Rattle.aead.specs.declared.engine.passes.Finding.{Finding}
 use Rattle.aead.specs.declared.engine.passes.Finding.TheVariants.{Differs, Unsealed, Sealed}
-use Rattle.aead.specs.Suites.{construction_of, is_one_pass}
+use Rattle.aead.specs.Suites.{construction_of, is_one_pass, ByGcm}
 use Rattle.aead.specs.Sealing.{Setting, Fits, Opened, IsNoSealing, mask_of, tag_of, tag_over}
-use Rattle.aead.specs.Code.States.{authenticated}
-use Rattle.aead.specs.Code.Maskings.{Task, HoldsMasking, opening_task}
+use Rattle.aead.specs.Code.States.{HoldsAuthenticator, authenticated}
+use Rattle.aead.specs.Code.Maskings.{HoldsMasking, opening_task}
 use Rattle.aead.specs.Code.Passes.{WentFar, Stopped}
-use Rattle.aead.specs.Code.Findings.{IsFinding, WentWhole, Tail}
+use Rattle.aead.specs.Code.Findings.{IsFinding, MakesTag, TookBody, WentWhole, Tail}
+use Rattle.aead.proofs.ByteMasks.{masked_small, mask_small}
 use Rattle.aead.proofs.Opens.{unmasked, no_sealing, opened_as, body_tag, two_pass_tag}
 
 -- the tag that an opening makes is that of what the body would open to
@@ -50,16 +53,15 @@ differs_found s tag body y len size other = λ e.
     true≢false (sym ((bytes_eq-Decides y tag).1 (sym (drop_at body y (len - 16) size) ∙ e)) ∙ other)
 
 pub sealed_found : (s : Setting) (tag body y : List ℕ) (len : ℕ) → length body ≡ len - 16
-    → bytes_eq y tag ≡ true
-    → Fits s body → ((i : ℕ) → get_or (unmasked s tag body) i 0 < 256) → tag_of s (unmasked s tag body) ≡ tag
-    → IsFinding s tag len (body ++ y) Sealed
-sealed_found s tag body y len size equal fits small same =
+    → bytes_eq y tag ≡ true → MakesTag tag (opening_task s tag) body
+    → ((i : ℕ) → get_or (unmasked s tag body) i 0 < 256) → IsFinding s tag len (body ++ y) Sealed
+sealed_found s tag body y len size equal makes small =
     let e : y ≡ tag = (bytes_eq-Decides y tag).0 equal in
     let P : List ℕ → Type 0 = λ z. Opened s (body ++ z) (unmasked s tag body) in
     let Q : List ℕ → Type 0 = λ z. Opened s (body ++ y) (masked (mask_of s tag) 0 z) in (
       drop_at body y (len - 16) size ∙ e,
       subst Q (sym (take_at body y (len - 16) size))
-          (subst P (sym e) (opened_as s body tag (unmasked s tag body) fits small refl same)),
+          (subst P (sym e) (opened_as s body tag (unmasked s tag body) makes.0 small refl (sym makes.1))),
     )
 
 pub unsealed_found : (s : Setting) (tag body y : List ℕ) (len : ℕ) → length tag ≡ 16 → length body ≡ len - 16
@@ -74,13 +76,51 @@ unsealed_found s tag body y len long size equal other =
 
 -- ---- a whole pass
 
+-- a body that was decrypted
+pub took_masked : {S H : Type 0} (made : S → Setting → List ℕ → ℕ → Type 0)
+    (held : H → Setting → List ℕ → Type 0) (s : Setting) (tag : List ℕ) (len n : ℕ)
+    (l l' o o' : Option (List ℕ)) (k : Masking S H) (t : List ℕ)
+    → (q : WentFar (HoldsMasking made held) (opening_task s tag) [] (len - 16) l l' o o' k n)
+    → t ≡ tag_over s.suite s.key s.nonce s.aad
+    (authenticated (is_one_pass (construction_of s.suite)) s tag q.bytes)
+    → TookBody s tag len l l' o o' n t
+took_masked made held s tag len n l l' o o' k t q is = record {
+  bytes = q.bytes;
+  went = record {
+    consumed = q.went.consumed;
+    given = q.went.given;
+    held = (opening_fits made held k s tag q.bytes q.went.held, is ∙ opening_tag s tag q.bytes);
+    small = q.went.small;
+  };
+  count = q.count;
+  short = q.short;
+  end = q.end;
+}
+
+-- a body that was authenticated, and not decrypted
+pub took_read : {H : Type 0} (held : H → Setting → List ℕ → Type 0) (s : Setting) (tag : List ℕ) (len n : ℕ)
+    (l l' : Option (List ℕ)) (k : Authenticator H) (t : List ℕ) → is_one_pass (construction_of s.suite) ≡ true
+    → (construction_of s.suite ≡ ByGcm → IsKey s.key) → n ≤ len - 16
+    → (w : (bytes : List ℕ) × Consumes l l' bytes × HoldsAuthenticator held k s bytes × (length bytes ≡ n)
+    × (n < len - 16 → IsAtEnd l') × ((i : ℕ) → get_or bytes i 0 < 256))
+    → t ≡ tag_over s.suite s.key s.nonce s.aad w.0 → TookBody s tag len l l' None None n t
+took_read held s tag len n l l' k t one key short w is = record {
+  bytes = w.0;
+  went = record {
+    consumed = w.1;
+    given = tt;
+    held = (w.2.fits, is ∙ sym (body_tag s tag w.0 one));
+    small = masked_small (mask_of s tag) 0 w.0 w.5 (mask_small s tag one key);
+  };
+  count = w.3;
+  short = short;
+  end = w.4;
+}
+
 -- the reading ended within the body
-pub whole_short : {M : Type 0} (holds : M → Task → List ℕ → Type 0) (s : Setting) (tag : List ℕ)
-    (len n : ℕ) (l l' o o' : Option (List ℕ)) (k : M)
-    → length tag ≡ 16 →
-    WentFar holds (opening_task s tag) [] (len - 16) l l' o o' k n → n < len - 16
-    → WentWhole s tag len l l' o o' Differs
-whole_short holds s tag len n l l' o o' k size q less =
+pub whole_short : (s : Setting) (tag : List ℕ) (len n : ℕ) (l l' o o' : Option (List ℕ)) (t : List ℕ)
+    → length tag ≡ 16 → TookBody s tag len l l' o o' n t → n < len - 16 → WentWhole s tag len l l' o o' Differs
+whole_short s tag len n l l' o o' t size q less =
     let P : List ℕ → Type 0 = λ b. Appends o o' (masked (mask_of s tag) 0 b) in
     let all : length q.bytes ≤ len - 16 = omega (arith, q.count, less) in
     let no_tail : drop (len - 16) q.bytes ≡ [] = drop_all (len - 16) q.bytes all in
@@ -92,14 +132,25 @@ whole_short holds s tag len n l l' o o' k size q less =
       end = λ _. q.end less;
     }
 
+-- or a reading of it failed
+pub stopped_read : (s : Setting) (tag : List ℕ) (room : ℕ) (l l' : Option (List ℕ)) (bytes : List ℕ)
+    → Consumes l l' bytes → Stopped (opening_task s tag) [] room l l' None None
+stopped_read s tag room l l' bytes consumed = record {
+  bytes = bytes;
+  shown = 0;
+  consumed = consumed;
+  within = omega arith;
+  short = omega arith;
+  given = tt;
+}
+
 -- the body came whole, and then a tail
-pub whole_tail : {M : Type 0} (holds : M → Task → List ℕ → Type 0) (s : Setting) (tag : List ℕ)
-    (len n : ℕ) (l l' l'' o o' : Option (List ℕ)) (k : M) (b : Bool) (f : Finding) → 16 ≤ len →
-    (q : WentFar holds (opening_task s tag) [] (len - 16) l l' o o' k n) → len - 16 ≤ n
-    → (tail : Tail tag l' l'' b) →
+pub whole_tail : (s : Setting) (tag : List ℕ) (len n : ℕ) (l l' l'' o o' : Option (List ℕ)) (t : List ℕ)
+    (b : Bool) (f : Finding) → 16 ≤ len →
+    (q : TookBody s tag len l l' o o' n t) → len - 16 ≤ n → (tail : Tail tag l' l'' b) →
     (length q.bytes ≡ len - 16 → IsFinding s tag len (q.bytes ++ tail.bytes) f)
     → WentWhole s tag len l l'' o o' f
-whole_tail holds s tag len n l l' l'' o o' k b f low q full tail found =
+whole_tail s tag len n l l' l'' o o' t b f low q full tail found =
     let P : List ℕ → Type 0 = λ b. Appends o o' (masked (mask_of s tag) 0 b) in
     let size : length q.bytes ≡ len - 16 = omega (arith, q.count, q.short, full) in
     record {
@@ -111,11 +162,10 @@ whole_tail holds s tag len n l l' l'' o o' k b f low q full tail found =
     }
 
 -- the body came whole, and then a device failed
-pub stopped_tail : {M : Type 0} (holds : M → Task → List ℕ → Type 0) (s : Setting) (tag : List ℕ)
-    (len n : ℕ) (l l' l'' o o' : Option (List ℕ)) (k : M) (y : List ℕ) →
-    WentFar holds (opening_task s tag) [] (len - 16) l l' o o' k n → Consumes l' l'' y
+pub stopped_tail : (s : Setting) (tag : List ℕ) (len n : ℕ) (l l' l'' o o' : Option (List ℕ)) (t y : List ℕ)
+    → TookBody s tag len l l' o o' n t → Consumes l' l'' y
     → Stopped (opening_task s tag) [] (len - 16) l l'' o o'
-stopped_tail holds s tag len n l l' l'' o o' k y q more =
+stopped_tail s tag len n l l' l'' o o' t y q more =
     let P : List ℕ → Type 0 = λ b. Appends o o' b in
     let same : take (length q.bytes) (masked (mask_of s tag) 0 (q.bytes ++ y))
     ≡ masked (mask_of s tag) 0 q.bytes =

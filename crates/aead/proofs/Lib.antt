@@ -23,3 +23,5 @@ pub mod Repeats
 pub mod Extents
 pub mod SealExits
 pub mod SivExits
+pub mod Parts
+pub mod ByteMasks

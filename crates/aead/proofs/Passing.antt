@@ -11,7 +11,7 @@ use Rattle.aead.specs.Code.Maskings.{Task, task_mask}
 use Rattle.aead.specs.Code.Passes.{Went, WentFar, Stopped}
 
 -- what holds of the places of two lists holds of both joined
-small-append : (x y : List ℕ) → ((i : ℕ) → get_or x i 0 < 256) → ((i : ℕ) → get_or y i 0 < 256) → (i : ℕ)
+pub small-append : (x y : List ℕ) → ((i : ℕ) → get_or x i 0 < 256) → ((i : ℕ) → get_or y i 0 < 256) → (i : ℕ)
     → get_or (x ++ y) i 0 < 256
 small-append [] y p q i = q i
 small-append (b ∷ x) y p q zero = p 0

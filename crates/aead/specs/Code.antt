@@ -4,6 +4,7 @@ pub mod States
 pub mod Maskings
 pub mod AnyMaskings
 pub mod Absorbed
+pub mod Masks
 pub mod Begun
 pub mod Extents
 pub mod Findings

@@ -30,6 +30,10 @@ suite_number Aes256Gcm = 4
 suite_number Aes128GcmSiv = 5
 suite_number Aes256GcmSiv = 6
 
+-- the number of an outcome where no suite has the given number
+abbrev pub unknown_suite : ℕ
+unknown_suite = 14
+
 -- a suite with the bytes that are handed in
 abbrev pub setting_of : Suite → List ℕ → List ℕ → List ℕ → Setting
 setting_of suite key nonce aad = record { suite = suite; key = key; nonce = nonce; aad = aad }

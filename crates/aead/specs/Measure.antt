@@ -21,11 +21,11 @@ pub record IsMeasure (limit : ℕ) (left left' : Option (List ℕ)) (m : Measure
   pub count : m.length ≡ length bytes
   pub last : m.tag ≡ last_16 bytes
 
--- a reading that has no measure
+-- a reading that has no measure: one that is too long is taken a byte too far and no further
 pub record HasNoMeasure (limit : ℕ) (left left' : Option (List ℕ)) (read read' : ℕ) (f : Fault) : Type 0 where
   pub bytes : List ℕ
   pub consumed : Consumes left left' bytes
-  pub cause : ((f ≡ TextTooLong) × (limit + 16 < length bytes) × (read' ≡ read))
+  pub cause : ((f ≡ TextTooLong) × (length bytes ≡ limit + 17) × (read' ≡ read))
       ⊎ ((f ≡ TooShort) × (length bytes < 16) × IsAtEnd left' × (read' ≡ read))
       ⊎ ((f ≡ Read) × Failed read read')
 

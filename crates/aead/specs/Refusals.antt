@@ -1,8 +1,8 @@
 -- Why a call is refused: one case for each fault that it answers, in the order in which they are tried.
-use Rattle.std.specs.Prelude.{ℕ, ◌+◌, ◌<◌, ◌≤◌, List, ◌++◌, length}
+use Rattle.std.specs.Prelude.{◌≡◌, ℕ, ◌+◌, ◌<◌, ◌≤◌, ◌⊎◌, List, [], ◌∷◌, ◌++◌, length, Result, MatchResult}
 use Rattle.octets.specs.declared.fault.Fault.{Fault}
 use Rattle.octets.specs.declared.fault.Fault.TheVariants.{TextTooLong, AadTooLong, TooShort, TagMismatch}
-use Rattle.octets.specs.declared.fault.Fault.TheVariants.{OutOfMemory}
+use Rattle.octets.specs.declared.fault.Fault.TheVariants.{OutOfMemory, Read, Write}
 use Rattle.aead.specs.Suites.{text_limit, aad_limit}
 use Rattle.aead.specs.Sealing.{Setting, Fits, IsNoSealing}
 
@@ -41,3 +41,15 @@ WholeOpenRefused s sealed TextTooLong =
 WholeOpenRefused s sealed OutOfMemory = FitsSealed s sealed
 WholeOpenRefused s sealed TagMismatch = FitsSealed s sealed × IsNoSealing s sealed
 WholeOpenRefused s sealed _ = ⊥
+
+-- the fault is one of these
+abbrev pub IsOneOf : List Fault → Fault → Type 0
+IsOneOf [] f = ⊥
+IsOneOf (g ∷ gs) f = (f ≡ g) ⊎ IsOneOf gs f
+
+-- why a call over devices returns what it does: at `Ok` and at a fault of its own no device failed, at `Read`
+-- a reading did, and at `Write` the outlet did
+abbrev pub DueTo : {T : Type 0} (own : List Fault) (none reading outlet : Type 0) → Result T Fault → Type 0
+DueTo own none reading outlet r =
+    MatchResult r (λ _. none)
+    (λ f. (IsOneOf own f × none) ⊎ ((f ≡ Read) × reading) ⊎ ((f ≡ Write) × outlet))

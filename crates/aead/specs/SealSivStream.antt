@@ -1,6 +1,6 @@
 -- What the engine that seals in two readings answers, and what it gives.
 use Rattle.std.specs.Prelude.{◌≡◌, ℕ, ◌<◌, ◌⊎◌, List, [], ◌++◌, length, take, Option, Some, Result, Ok, Err}
-use Rattle.std.specs.Prelude.{MatchResult, IfSome}
+use Rattle.std.specs.Prelude.{IfSome}
 use Rattle.std.specs.Io.KnownBytes.{Appends}
 use Rattle.octets.specs.declared.fault.Fault.{Fault}
 use Rattle.octets.specs.declared.fault.Fault.TheVariants.{Read, Write, SourceChanged}
@@ -8,7 +8,7 @@ use Rattle.octets.specs.Device.{Failed}
 use Rattle.octets.specs.Masked.{masked}
 use Rattle.aead.specs.Suites.{text_limit, aad_limit}
 use Rattle.aead.specs.Sealing.{Setting, Fits, mask_of, tag_of}
-use Rattle.aead.specs.Refusals.{SealRefused}
+use Rattle.aead.specs.Refusals.{SealRefused, DueTo}
 use Rattle.aead.specs.Pieces.{Repeats}
 use Rattle.aead.specs.Verdict.{IsBeginning}
 
@@ -42,12 +42,12 @@ pub record SivCounts : Type 0 where
   pub second : ℕ
   pub outlet : ℕ
 
--- `Read` comes only where a reading failed, and `Write` only where the outlet did
-abbrev pub SivBlames : SivCounts → SivCounts → Result (Unit {0}) Fault → Type 0
-SivBlames before after r =
-    MatchResult r (λ _. after ≡ before)
-    (λ f. (f ≡ Read → Failed before.first after.first ⊎ Failed before.second after.second)
-    × (f ≡ Write → Failed before.outlet after.outlet))
+-- `Read` comes only where a reading failed, `Write` only where the outlet did, and no fault but these and the
+-- call's own
+abbrev pub SivBlames : List Fault → SivCounts → SivCounts → Result (Unit {0}) Fault → Type 0
+SivBlames own before after r =
+    DueTo own (after ≡ before) (Failed before.first after.first ⊎ Failed before.second after.second)
+    (Failed before.outlet after.outlet) r
 
 -- what was given of the second reading b after the first one a, and the answer
 pub record SealsSivStream (s : Setting) (a b given : List ℕ) (before after : SivCounts)

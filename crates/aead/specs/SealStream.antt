@@ -1,5 +1,5 @@
 -- What the sealing engines answer, and what they give.
-use Rattle.std.specs.Prelude.{◌≡◌, ◌≢◌, ℕ, ◌<◌, ◌⊎◌, nat_le, List, [], length, take, Option, Some, Result}
+use Rattle.std.specs.Prelude.{◌≡◌, ℕ, ◌<◌, ◌⊎◌, nat_le, List, [], length, take, Option, Some, Result}
 use Rattle.std.specs.Prelude.{Ok, Err, MatchResult, IfSome, if◌then◌else◌}
 use Rattle.std.specs.Io.KnownBytes.{Appends}
 use Rattle.octets.specs.declared.fault.Fault.{Fault}
@@ -8,7 +8,7 @@ use Rattle.octets.specs.Device.{Failed}
 use Rattle.octets.specs.Masked.{masked}
 use Rattle.aead.specs.Suites.{text_limit, aad_limit}
 use Rattle.aead.specs.Sealing.{Setting, Fits, mask_of, tag_of, sealing}
-use Rattle.aead.specs.Refusals.{SealRefused}
+use Rattle.aead.specs.Refusals.{SealRefused, DueTo}
 use Rattle.aead.specs.Verdict.{IsBeginning}
 
 -- what may be given of a text whose tag is over the ciphertext: its sealing, or where it is past the
@@ -43,9 +43,7 @@ WhereTextTold text taken taken' P =
     IfSome text (λ x. IfSome taken
     (λ before. (given : List ℕ) × Appends (Some before) taken' given × P x given))
 
--- a call's fault is the reading's or the outlet's, which failed, or the call's own
-abbrev pub GiveBlames : {T : Type 0} → ℕ → ℕ → ℕ → ℕ → Result T Fault → Type 0
-GiveBlames read read' wrote wrote' r =
-    MatchResult r (λ _. (read' ≡ read) × (wrote' ≡ wrote))
-    (λ f. ((f ≡ Read) × Failed read read') ⊎ ((f ≡ Write) × Failed wrote wrote')
-    ⊎ ((f ≢ Read) × (f ≢ Write) × (read' ≡ read) × (wrote' ≡ wrote)))
+-- a call's fault is the reading's or the outlet's, which failed, or one of its own
+abbrev pub GiveBlames : {T : Type 0} → List Fault → ℕ → ℕ → ℕ → ℕ → Result T Fault → Type 0
+GiveBlames own read read' wrote wrote' r =
+    DueTo own ((read' ≡ read) × (wrote' ≡ wrote)) (Failed read read') (Failed wrote wrote') r

@@ -1,6 +1,6 @@
 -- The answer of the stream opener, and what it gives.
-use Rattle.std.specs.Prelude.{◌≡◌, ◌≢◌, ℕ, ◌+◌, ◌-◌, ◌<◌, ◌≤◌, ◌⊎◌, nat_le, List, [], length, take, Option}
-use Rattle.std.specs.Prelude.{Some, Result, Ok, Err, MatchResult, IfSome, slice_index, if◌then◌else◌}
+use Rattle.std.specs.Prelude.{◌≡◌, ◌≢◌, ℕ, ◌+◌, ◌-◌, ◌<◌, ◌≤◌, ◌⊎◌, nat_le, List, [], ◌∷◌, length, take}
+use Rattle.std.specs.Prelude.{Option, Some, Result, Ok, Err, IfSome, slice_index, if◌then◌else◌}
 use Rattle.std.specs.Io.KnownBytes.{Appends}
 use Rattle.octets.specs.declared.fault.Fault.{Fault}
 use Rattle.octets.specs.declared.fault.Fault.TheVariants.{Read, Write, AadTooLong, TextTooLong, TooShort}
@@ -9,7 +9,7 @@ use Rattle.octets.specs.Device.{Failed}
 use Rattle.octets.specs.Masked.{masked}
 use Rattle.aead.specs.Suites.{text_limit, aad_limit}
 use Rattle.aead.specs.Sealing.{Setting, Opened, IsSealing, IsNoSealing, mask_of}
-use Rattle.aead.specs.Refusals.{FitsSealed}
+use Rattle.aead.specs.Refusals.{FitsSealed, DueTo}
 use Rattle.aead.specs.Measure.{last_16}
 
 -- a reading has the length and the last 16 bytes of the measured one
@@ -53,13 +53,14 @@ pub record FailureCounts : Type 0 where
 abbrev pub counted : ℕ → ℕ → ℕ → ℕ → FailureCounts
 counted m v w o = record { measure = m; verify = v; write = w; outlet = o }
 
--- `Read` comes only where a reading failed, and `Write` only where the outlet did
+-- `Read` comes only where a reading failed, `Write` only where the outlet did, and no fault but these and the
+-- verdict's
 abbrev pub BlamesRightly : FailureCounts → FailureCounts → Result (Unit {0}) Fault → Type 0
 BlamesRightly before after r =
-    MatchResult r (λ _. after ≡ before)
-    (λ f. (f ≡ Read → Failed before.measure after.measure ⊎ Failed before.verify after.verify
+    DueTo (AadTooLong ∷ TextTooLong ∷ TooShort ∷ TagMismatch ∷ SourceChanged ∷ []) (after ≡ before)
+    (Failed before.measure after.measure ⊎ Failed before.verify after.verify
     ⊎ Failed before.write after.write)
-    × (f ≡ Write → Failed before.outlet after.outlet))
+    (Failed before.outlet after.outlet) r
 
 -- what was given, and the answer, where three readings and an outlet tell their bytes
 pub record OpensStream (s : Setting) (m v w given : List ℕ) (before after : FailureCounts)

@@ -6,7 +6,7 @@ ghost use Rattle.aead.specs.Sealing.{Setting, tag_over};
 ghost use Rattle.aead.specs.Code.States.{HoldsAuthenticator};
 
 use crate::hashes::TagHash;
-use octets::Tag;
+use octets::{Stream, Tag};
 
 // Associated data and the bytes after it: the ciphertext, or for GCM-SIV the text.
 #[derive(Drop)]
@@ -27,21 +27,10 @@ impl<H: TagHash> Authenticator<H> {
         ensures none { result.length ≡ 0 }
     {
         hash.take_in(aad);
-        Authenticator::after(hash, aad.len() as u64)
-    }
-
-    // Pads so many bytes of associated data that a hash has taken in.
-    #[inline(always)]
-    pub(crate) fn after(mut taken: H, aad_length: u64) -> Authenticator<H>
-        ensures holds { (s : Setting) → aad_length ≡ length s.aad → length s.aad ≤ aad_limit s.suite
-            → H.held taken s s.aad
-            → HoldsAuthenticator H.held result s [] }
-        ensures none { result.length ≡ 0 }
-    {
-        taken.pad();
+        hash.pad();
         Authenticator {
-            hash: taken,
-            aad_length,
+            hash,
+            aad_length: aad.len() as u64,
             length: 0,
         }
     }
@@ -56,6 +45,25 @@ impl<H: TagHash> Authenticator<H> {
         ensures length { self.new.length ≡ self.old.length + length bytes.now }
     {
         self.hash.take_in(bytes);
+        self.length += bytes.len() as u64;
+    }
+
+    // The same, while `stream` XORs its next bytes into `piece`.
+    #[inline(always)]
+    pub(crate) fn update_beside<S: Stream>(
+        &mut self,
+        bytes: &[u8],
+        stream: &mut S,
+        piece: &mut [u8],
+    )
+        requires { self.old.length + length bytes.now < 2 ^ 64 }
+        ensures holds { (s : Setting) (m : List ℕ) → HoldsAuthenticator H.held self.old s m
+            → length m + length bytes.now ≤ text_limit s.suite
+            → HoldsAuthenticator H.held self.new s (m ++ bytes.now) }
+        ensures length { self.new.length ≡ self.old.length + length bytes.now }
+        ensures did { S.did stream.old stream.new piece.old piece.new }
+    {
+        self.hash.take_in_beside(bytes, stream, piece);
         self.length += bytes.len() as u64;
     }
 

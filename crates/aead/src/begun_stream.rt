@@ -3,9 +3,9 @@
 ghost use Rattle.std.specs.Prelude.{◌≡◌, ◌+◌, ◌*◌, ◌%◌, ◌<◌, ◌≤◌, ℕ, List, length, min, slice_index};
 ghost use Rattle.chacha.specs.Stream.{key_stream_byte};
 
-use crate::mask::MaskStream;
+use crate::mask::{CHACHA_PART, MaskStream};
 use chacha::ChaStream;
-use octets::{Key32, Nonce, xor_into};
+use octets::{Key32, Nonce, Stream, Work, xor_into};
 
 // The key stream from counter 1 on: of the blocks that are there, and then of those after them.
 #[derive(Drop)]
@@ -39,17 +39,29 @@ impl<'a> BegunStream<'a> {
     }
 }
 
-impl<'a> MaskStream for BegunStream<'a> {
-    ghost use Rattle.aead.specs.Code.Begun.{MadeByBegun};
+impl<'a> Stream for BegunStream<'a> {
+    ghost use Rattle.aead.specs.Code.Begun.{DidBegun};
 
-    ghost made = { MadeByBegun };
+    ghost did = { DidBegun };
 
-    fn apply_to(&mut self, piece: &mut [u8]) {
-        let n = piece.len().min(self.start.len() - self.used);
-        let (first, last) = piece.split_at_mut(n);
+    fn apply_beside<W: Work>(&mut self, bytes: &mut [u8], work: &mut W) {
+        let n = bytes.len().min(self.start.len() - self.used);
+        let (first, last) = bytes.split_at_mut(n);
         xor_into(first, &self.start[self.used..self.used + n]);
         self.used += n;
         // Within the limit of a text the key stream does not end.
-        let _ = self.rest.apply(last);
+        let _ = self.rest.apply_with(last, work);
     }
+}
+
+impl<'a> MaskStream for BegunStream<'a> {
+    ghost use Rattle.aead.specs.Code.Begun.{MadeByBegun, begun_masks};
+
+    ghost made = { MadeByBegun };
+
+    fn part(&self, length: usize) -> usize {
+        length.min(CHACHA_PART)
+    }
+
+    ghost masks = { begun_masks };
 }

@@ -4,10 +4,10 @@ mod measure;
 mod open;
 mod opening;
 mod passes;
-mod placed;
 mod seal;
 mod seal_siv;
+mod verifying;
 
-pub use open::{open_stream, open_stream_placed};
-pub use seal::{seal_stream, seal_stream_placed};
-pub use seal_siv::{seal_siv_stream, seal_siv_stream_placed};
+pub use open::open_stream;
+pub use seal::seal_stream;
+pub use seal_siv::seal_siv_stream;

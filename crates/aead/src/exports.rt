@@ -5,8 +5,8 @@ ghost use Rattle.octets.specs.Numbers.{HasOutcome};
 ghost use Rattle.aead.specs.declared.suite.Suite.{Suite};
 ghost use Rattle.aead.specs.Suites.{key_length};
 ghost use Rattle.aead.specs.Ciphers.{setting};
-ghost use Rattle.aead.specs.Exports.{suite_number, setting_of, HasLengths, WasSealed, WasNotSealed};
-ghost use Rattle.aead.specs.Exports.{WasOpened, WasNotOpened};
+ghost use Rattle.aead.specs.Exports.{suite_number, unknown_suite, setting_of, HasLengths};
+ghost use Rattle.aead.specs.Exports.{WasSealed, WasNotSealed, WasOpened, WasNotOpened};
 
 use crate::aead::Aead;
 use crate::chacha_poly::ChaChaPoly;
@@ -153,7 +153,7 @@ pub extern "C" fn aeadkit_seal(
         setting_of named key.now nonce.now aad.now in
         HasOutcome result (WasSealed s bytes.old bytes.new) (WasNotSealed s bytes.old bytes.new) }
     ensures unknown { ((named : Suite) → suite ≢ suite_number named)
-        → (result ≡ UNKNOWN_SUITE) × (bytes.new ≡ bytes.old) }
+        → (result ≡ unknown_suite) × (bytes.new ≡ bytes.old) }
 {
     match suite_numbered(suite) {
         Some(suite) => outcome_number(seal_bytes(suite, key, nonce, aad, bytes)),
@@ -174,7 +174,7 @@ pub extern "C" fn aeadkit_open(
         setting_of named key.now nonce.now aad.now in
         HasOutcome result (WasOpened s bytes.old bytes.new) (WasNotOpened s bytes.old bytes.new) }
     ensures unknown { ((named : Suite) → suite ≢ suite_number named)
-        → (result ≡ UNKNOWN_SUITE) × (bytes.new ≡ bytes.old) }
+        → (result ≡ unknown_suite) × (bytes.new ≡ bytes.old) }
 {
     match suite_numbered(suite) {
         Some(suite) => outcome_number(open_bytes(suite, key, nonce, aad, bytes)),

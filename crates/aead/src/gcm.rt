@@ -1,7 +1,7 @@
 // AES-GCM (SP 800-38D).
 
 ghost use Rattle.std.specs.Prelude.{◌≡◌, ◌++◌, ◌∷◌, ℕ, List, [], length, MatchResult};
-ghost use Rattle.aes.specs.Cipher.{cipher};
+ghost use Rattle.aes.specs.Cipher.{cipher, IsKey};
 ghost use Rattle.aead.specs.Suites.{construction_of, ByGcm};
 ghost use Rattle.aead.specs.Sealing.{hash_key, j0, Opened};
 ghost use Rattle.aead.specs.Ciphers.{Keyed, setting};
@@ -39,7 +39,7 @@ impl Model for Gcm {
     ghost view = { λ c. record { suite = c.suite; key = c.key } };
 
     ghost invariant = { λ c. (construction_of c.suite ≡ ByGcm) × (c.ghash_key ≡ hash_key c.key)
-        × (⟦<TableMul as Multiply>⟧.key_bytes c.multiplier ≡ hash_key c.key) };
+        × (⟦<TableMul as Multiply>⟧.key_bytes c.multiplier ≡ hash_key c.key) × IsKey c.key };
 }
 
 impl Gcm {
@@ -49,6 +49,7 @@ impl Gcm {
         requires { construction_of suite ≡ ByGcm }
         ensures { result ≡ record { suite = suite; key = key } }
     {
+        key.is_key();
         let ghash_key = key.encrypt(&Block::new([0; 16]));
         Gcm {
             suite,
@@ -65,6 +66,7 @@ impl Gcm {
         multiplier: M,
     ) -> NoncedGcm<'a, M>
         requires { M.key_bytes multiplier ≡ hash_key self.now.key }
+        ensures key { IsKey self.now.key }
         ensures keyed { ⟦<NoncedGcm<'a, M> as Nonced>⟧.keyed result ≡ self.now }
         ensures nonce { ⟦<NoncedGcm<'a, M> as Nonced>⟧.nonce result ≡ nonce.now }
     {

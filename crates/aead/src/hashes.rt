@@ -8,7 +8,7 @@ ghost use Rattle.aead.specs.Code.States.{HeldByPoly, HeldByGhash, HeldByPolyval,
 use crate::derived_keys::joined;
 use aes::AesKey;
 use gf128::{Ghash, Multiply, Polyval};
-use octets::{Block, Nonce, Tag, xor_into, xored};
+use octets::{Block, Idle, Nonce, Stream, Tag, xor_into, xored};
 use poly1305::Poly;
 
 // The hash of a construction under the keys of a message, and the tag that it ends in.
@@ -19,6 +19,15 @@ pub(crate) trait TagHash: Drop {
     // Takes in the next bytes.
     fn take_in(&mut self, bytes: &[u8])
         ensures { (s : Setting) (m : List ℕ) → held self.old s m → held self.new s (m ++ bytes.now) };
+
+    // The same, while `stream` XORs its next bytes into `piece`.
+    fn take_in_beside<S: Stream>(&mut self, bytes: &[u8], stream: &mut S, piece: &mut [u8])
+        ensures held { (s : Setting) (m : List ℕ) → held self.old s m → held self.new s (m ++ bytes.now) }
+        ensures did { S.did stream.old stream.new piece.old piece.new }
+    {
+        stream.apply_beside(piece, &mut Idle);
+        self.take_in(bytes);
+    }
 
     // Takes in zeros up to whole blocks.
     fn pad(&mut self)
@@ -44,6 +53,10 @@ impl TagHash for Poly {
 
     fn take_in(&mut self, bytes: &[u8]) {
         self.update(bytes);
+    }
+
+    fn take_in_beside<S: Stream>(&mut self, bytes: &[u8], stream: &mut S, piece: &mut [u8]) {
+        self.update_beside(bytes, stream, piece);
     }
 
     fn pad(&mut self) {

@@ -8,9 +8,9 @@ ghost use Rattle.aead.specs.Verdict.{ShownRepeatsTheText};
 mod aead;
 mod any;
 mod any_masking;
-mod associated_data;
 mod authenticator;
 mod begun_stream;
+mod beside;
 mod chacha_poly;
 mod cuts;
 mod derived_keys;
@@ -34,13 +34,9 @@ mod whole;
 
 pub use aead::Aead;
 pub use any::{AnyAead, AnyOnePass};
-pub use associated_data::AssociatedData;
 pub use chacha_poly::ChaChaPoly;
 pub use cuts::seal_cut;
-pub use engine::{
-    open_stream, open_stream_placed, seal_siv_stream, seal_siv_stream_placed, seal_stream,
-    seal_stream_placed,
-};
+pub use engine::{open_stream, seal_siv_stream, seal_stream};
 pub use gcm::Gcm;
 pub use gcm_siv::GcmSiv;
 pub use sealer::Sealer;

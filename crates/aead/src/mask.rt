@@ -1,50 +1,71 @@
 // The masks of the constructions, made piece by piece.
 
-ghost use Rattle.std.specs.Prelude.{◌≡◌, ◌+◌, ◌≤◌, ℕ, List, length};
+ghost use Rattle.std.specs.Prelude.{◌≡◌, ◌+◌, ◌<◌, ◌≤◌, ℕ, List, length};
 ghost use Rattle.octets.specs.Masked.{masked};
 ghost use Rattle.aead.specs.Suites.{text_limit};
 ghost use Rattle.aead.specs.Sealing.{Setting, mask_of};
 ghost use Rattle.aead.specs.Code.States.{MadeByChaCha, MadeByGcm, MadeByGcmSiv};
+ghost use Rattle.aead.specs.Code.Masks.{Masks, chacha_masks, gcm_masks, siv_masks};
 
 use aes::{CtrBe, CtrLe};
 use chacha::ChaStream;
+use octets::{Idle, Stream};
 
 // A mask of which some bytes were made.
-pub(crate) trait MaskStream: Drop {
+pub(crate) trait MaskStream: Stream + Drop {
     // It has made so many bytes of the mask of a message under a tag.
     ghost made: { Self → Setting → List ℕ → ℕ → Type 0 };
+
+    // How many of so many bytes are masked at once, while a hash takes in others.
+    fn part(&self, length: usize) -> usize
+        ensures some { 0 < length → 0 < result }
+        ensures within { result ≤ length };
 
     // XORs the next bytes of the mask into a piece.
     fn apply_to(&mut self, piece: &mut [u8])
         ensures { (s : Setting) (tag : List ℕ) (n : ℕ) → made self.old s tag n
             → n + length piece.old ≤ text_limit s.suite
-            → made self.new s tag (n + length piece.old) × (piece.new ≡ masked (mask_of s tag) n piece.old) };
+            → made self.new s tag (n + length piece.old) × (piece.new ≡ masked (mask_of s tag) n piece.old) }
+    {
+        self.apply_beside(piece, &mut Idle);
+    }
+
+    // What a call beside other work does is that.
+    ghost masks: { (a b : Self) (was now : List ℕ) → Self.did a b was now → Masks made a b was now };
 }
+
+// What eight blocks of ChaCha20 mask, which it makes beside the hash of as many bytes.
+pub(crate) const CHACHA_PART: usize = 512;
 
 // The key stream from counter 1 on (RFC 8439, 2.8).
 impl MaskStream for ChaStream {
     ghost made = { MadeByChaCha };
 
-    fn apply_to(&mut self, piece: &mut [u8]) {
-        // Within the limit of a text the key stream does not end.
-        let _ = self.apply(piece);
+    fn part(&self, length: usize) -> usize {
+        length.min(CHACHA_PART)
     }
+
+    ghost masks = { chacha_masks };
 }
 
 // The counter stream from inc32(J0) on (SP 800-38D, 7.1).
 impl MaskStream for CtrBe {
     ghost made = { MadeByGcm };
 
-    fn apply_to(&mut self, piece: &mut [u8]) {
-        self.apply(piece);
+    fn part(&self, length: usize) -> usize {
+        length
     }
+
+    ghost masks = { gcm_masks };
 }
 
 // The counter stream that the tag begins (RFC 8452, 4).
 impl MaskStream for CtrLe {
     ghost made = { MadeByGcmSiv };
 
-    fn apply_to(&mut self, piece: &mut [u8]) {
-        self.apply(piece);
+    fn part(&self, length: usize) -> usize {
+        length
     }
+
+    ghost masks = { siv_masks };
 }

@@ -6,6 +6,7 @@ ghost use Rattle.aead.specs.Suites.{text_limit};
 ghost use Rattle.aead.specs.Sealing.{Setting, tag_over};
 
 use crate::authenticator::Authenticator;
+use crate::beside::{mask_then_take, take_then_mask};
 use crate::hashes::TagHash;
 use crate::mask::MaskStream;
 use octets::Tag;
@@ -69,11 +70,9 @@ impl<S: MaskStream, H: TagHash> Masking<S, H> {
         ensures limit { self.new.limit ≡ self.old.limit }
     {
         if self.over_input {
-            self.authenticator.update(piece);
-            self.mask.apply_to(piece);
+            take_then_mask(&mut self.mask, &mut self.authenticator, piece);
         } else {
-            self.mask.apply_to(piece);
-            self.authenticator.update(piece);
+            mask_then_take(&mut self.mask, &mut self.authenticator, piece);
         }
     }
 

@@ -1,6 +1,6 @@
 // A cipher with a nonce, and sealing and opening by it.
 
-ghost use Rattle.std.specs.Prelude.{◌≡◌, ◌≤◌, ◌++◌, ℕ, List, [], Bool, true, length, MatchResult};
+ghost use Rattle.std.specs.Prelude.{◌≡◌, ◌<◌, ◌≤◌, ◌++◌, ℕ, List, [], Bool, true, length, MatchResult};
 ghost use Rattle.aead.specs.Suites.{construction_of, is_one_pass, text_limit, aad_limit};
 ghost use Rattle.aead.specs.Sealing.{Opened};
 ghost use Rattle.aead.specs.Ciphers.{Keyed, setting};
@@ -71,30 +71,13 @@ pub(crate) fn masking<N: Nonced>(
     ensures none { result.authenticator.length ≡ 0 }
     ensures limit { result.limit ≡ text_limit (N.keyed nonced.now).suite }
 {
-    masking_after(nonced, authenticator(nonced, aad), tag, over_input)
-}
-
-// The same state, by an authenticator that has taken in associated data.
-#[inline(always)]
-pub(crate) fn masking_after<N: Nonced>(
-    nonced: &N,
-    authenticator: Authenticator<N::Hash>,
-    tag: &Tag,
-    over_input: bool,
-) -> Masking<N::Stream, N::Hash>
-    requires { authenticator.length ≡ 0 }
-    ensures holds { (aad : List ℕ) → let s = setting (N.keyed nonced.now) (N.nonce nonced.now) aad in
-        HoldsAuthenticator N.Hash.held authenticator s [] → HoldsMasking N.Stream.made N.Hash.held result
-        (record { over_input = over_input; limit = text_limit s.suite; setting = s; tag = tag.now }) [] }
-    ensures any_tag { (aad : List ℕ) → let s = setting (N.keyed nonced.now) (N.nonce nonced.now) aad in
-        HoldsAuthenticator N.Hash.held authenticator s [] → is_one_pass (construction_of s.suite) ≡ true
-        → (other : List ℕ) → HoldsMasking N.Stream.made N.Hash.held result
-        (record { over_input = over_input; limit = text_limit s.suite; setting = s; tag = other }) [] }
-    ensures none { result.authenticator.length ≡ 0 }
-    ensures limit { result.limit ≡ text_limit (N.keyed nonced.now).suite }
-{
     let limit = nonced.suite().text_limit();
-    Masking::new(nonced.mask(tag), authenticator, over_input, limit)
+    Masking::new(
+        nonced.mask(tag),
+        authenticator(nonced, aad),
+        over_input,
+        limit,
+    )
 }
 
 // Turns a text into its ciphertext, and answers its tag.

@@ -1,6 +1,6 @@
 // Sealing piece by piece, where the tag is over the ciphertext.
 
-ghost use Rattle.std.specs.Prelude.{◌≡◌, ◌≤◌, ◌++◌, ℕ, List, [], length, true, MatchResult};
+ghost use Rattle.std.specs.Prelude.{◌≡◌, ◌≤◌, ◌++◌, ℕ, List, [], length, true, MatchResult, OnErr};
 ghost use Rattle.octets.specs.Masked.{masked};
 ghost use Rattle.aead.specs.Suites.{construction_of, is_one_pass, aad_limit};
 ghost use Rattle.aead.specs.Sealing.{Setting, mask_of, tag_of};
@@ -60,10 +60,11 @@ impl Sealer {
     /// Adds `piece`, of any length, to the text, and leaves its ciphertext in its place. `TextTooLong`
     /// where the text would be past its limit: state and piece are then as they were.
     pub fn update(&mut self, piece: &mut [u8]) -> Result<(), Fault>
-        ensures { (s : Setting) (text : List ℕ) → HoldsSealer self.old s text → MatchResult result
+        ensures answer { (s : Setting) (text : List ℕ) → HoldsSealer self.old s text → MatchResult result
             (λ _. HoldsSealer self.new s (text ++ piece.old)
             × ((tag : List ℕ) → piece.new ≡ masked (mask_of s tag) (length text) piece.old))
-            (λ e. SealRefused s (text ++ piece.old) e × (self.new ≡ self.old) × (piece.new ≡ piece.old)) }
+            (λ e. SealRefused s (text ++ piece.old) e) }
+        ensures kept { OnErr result ((self.new ≡ self.old) × (piece.new ≡ piece.old)) }
     {
         if piece.len() as u64 > self.masking.room() {
             return Err(Fault::TextTooLong);

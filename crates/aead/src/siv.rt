@@ -1,6 +1,6 @@
 // Sealing piece by piece in two readings, where the tag is over the text (RFC 8452).
 
-ghost use Rattle.std.specs.Prelude.{◌≡◌, ◌++◌, ◌+◌, ◌<◌, ◌≤◌, ◌^◌, ℕ, List, [], length, MatchResult};
+ghost use Rattle.std.specs.Prelude.{◌≡◌, ◌++◌, ◌+◌, ◌<◌, ◌≤◌, ◌^◌, ℕ, List, [], length, MatchResult, OnErr};
 ghost use Rattle.octets.specs.Masked.{masked};
 ghost use Rattle.aead.specs.Sealing.{Setting, mask_of, tag_of};
 ghost use Rattle.aead.specs.Ciphers.{setting};
@@ -73,9 +73,9 @@ impl SivAbsorb {
     /// Adds `piece`, of any length, to the text. `TextTooLong` where the text would be past its limit:
     /// the state is then as it was.
     pub fn update(&mut self, piece: &[u8]) -> Result<(), Fault>
-        ensures { (s : Setting) (text : List ℕ) → HoldsAbsorb self.old s text → MatchResult result
-            (λ _. HoldsAbsorb self.new s (text ++ piece.now))
-            (λ e. SealRefused s (text ++ piece.now) e × (self.new ≡ self.old)) }
+        ensures answer { (s : Setting) (text : List ℕ) → HoldsAbsorb self.old s text → MatchResult result
+            (λ _. HoldsAbsorb self.new s (text ++ piece.now)) (λ e. SealRefused s (text ++ piece.now) e) }
+        ensures kept { OnErr result (self.new ≡ self.old) }
     {
         if piece.len() as u64 > self.room() {
             return Err(Fault::TextTooLong);
@@ -111,11 +111,11 @@ impl SivWriter {
     /// `SourceChanged` where that text would be longer than the first: state and piece are then as they
     /// were.
     pub fn update(&mut self, piece: &mut [u8]) -> Result<(), Fault>
-        ensures { (s : Setting) (first text : List ℕ) → HoldsWriter self.old s first text → MatchResult result
-            (λ _. HoldsWriter self.new s first (text ++ piece.old)
+        ensures answer { (s : Setting) (first text : List ℕ) → HoldsWriter self.old s first text →
+            MatchResult result (λ _. HoldsWriter self.new s first (text ++ piece.old)
             × (piece.new ≡ masked (mask_of s (tag_of s first)) (length text) piece.old))
-            (λ e. (e ≡ Fault.SourceChanged) × (length first < length text + length piece.old)
-            × (self.new ≡ self.old) × (piece.new ≡ piece.old)) }
+            (λ e. (e ≡ Fault.SourceChanged) × (length first < length text + length piece.old)) }
+        ensures kept { OnErr result ((self.new ≡ self.old) × (piece.new ≡ piece.old)) }
     {
         if piece.len() as u64 > self.masking.room() {
             return Err(Fault::SourceChanged);

@@ -124,15 +124,7 @@ impl Suite {
         ensures { MatchResult result (λ _. length aad.now ≤ aad_limit self)
             (λ e. (e ≡ Fault.AadTooLong) × (aad_limit self < length aad.now)) }
     {
-        self.check_aad_count(aad.len())
-    }
-
-    // Refuses so many bytes of associated data where they are past the limit.
-    pub(crate) fn check_aad_count(self, count: usize) -> Result<(), Fault>
-        ensures { MatchResult result (λ _. count ≤ aad_limit self)
-            (λ e. (e ≡ Fault.AadTooLong) × (aad_limit self < count)) }
-    {
-        if count as u64 > self.aad_limit() {
+        if aad.len() as u64 > self.aad_limit() {
             return Err(Fault::AadTooLong);
         }
         Ok(())

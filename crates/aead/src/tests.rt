@@ -3,10 +3,10 @@ use octets::{Fault, Nonce, Tag};
 use std::alloc::Global;
 use std::process::Abort;
 
-mod associated_data;
 mod cuts;
 mod devices;
 mod growths;
+mod long;
 mod opening;
 mod pieces;
 mod published;

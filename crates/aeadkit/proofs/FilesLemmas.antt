@@ -1,11 +1,13 @@
 -- What the file commands make of the engines' answers.
-use Rattle.std.proofs.Common.{◌≡◌, ℕ, ◌⊎◌, inl, inr, List, [], ◌++◌, ◌==◌, Option, Some, None, Ok, Err}
-use Rattle.std.proofs.Common.{IfSome, refl, subst, sym, ◌∙◌, ap, arith, take, drop, length, if◌then◌else◌}
+use Rattle.std.proofs.Common.{◌≡◌, ℕ, ◌⊎◌, inl, inr, Bool, true, false, List, [], ◌++◌, ◌==◌}
+use Rattle.std.proofs.Common.{Option, Some, None, Ok, Err, IfSome, refl, subst, sym, ◌∙◌, ap, arith, take}
+use Rattle.std.proofs.Common.{drop, length, if◌then◌else◌}
 use Rattle.std.proofs.lemmas.List.{append-nil, drop_all}
 use Rattle.std.proofs.Math.Seq.{take-append_seam}
 use Rattle.std.specs.Io.KnownBytes.{Keeps, append_known, prepend_known}
 use Rattle.octets.specs.declared.fault.Fault.{Fault}
 use Rattle.octets.specs.declared.fault.Fault.TheVariants.{Read, Write, OutOfMemory}
+use Rattle.aead.specs.Suites.{construction_of, is_one_pass}
 use Rattle.aead.specs.Sealing.{Setting}
 use Rattle.aead.specs.Ciphers.{Keyed, setting}
 use Rattle.aead.specs.SealStream.{SealsStream, WhereTextTold}
@@ -15,9 +17,9 @@ use Rattle.aeadkit.specs.declared.failure.Failure.{Failure}
 use Rattle.aeadkit.specs.declared.failure.Failure.TheVariants.{Fault as OfFault}
 use Rattle.aeadkit.specs.declared.words.Inputs.{Inputs}
 use Rattle.aeadkit.specs.Aead.{IsReady}
-use Rattle.aeadkit.specs.Files.{Answer, Giving, SealsOnce, SealsTwice, OpensThrice, Sealing, Opening, Took}
-use Rattle.aeadkit.specs.Files.{HoldsAll, HoldsStart, HoldsNothing, IsCalled, CallFailed, NoCall, EngineRan}
-use Rattle.aeadkit.specs.Files.{Ran, FileDone, FileStopped}
+use Rattle.aeadkit.specs.Files.{Answer, Giving, SealsOnce, SealsTwice, OpensThrice, SealingBy, Sealing}
+use Rattle.aeadkit.specs.Files.{Opening, Took, HoldsAll, HoldsStart, HoldsNothing, IsCalled, CallFailed}
+use Rattle.aeadkit.specs.Files.{NoCall, EngineRan, Ran, FileDone, FileStopped}
 
 -- a reader that was just made has left what its file has
 pub just_opened : (contents rest left : Option (List ℕ)) (capacity : ℕ) (ahead : List ℕ)
@@ -31,26 +33,23 @@ just_opened (Some x) rest left capacity ahead e c a h =
     subst R h (subst Q a (subst P c e))
 
 -- one reading of a text
-pub sealed_once : (a b left taken taken' : Option (List ℕ)) (s : Setting) (read read' wrote wrote' : ℕ)
+pub sealed_once : (a left taken taken' : Option (List ℕ)) (s : Setting) (read read' wrote wrote' : ℕ)
     (r : Answer) → IfSome a (λ x. left ≡ Some x)
     → WhereTextTold left taken taken' (λ x given. SealsStream s x given read read' wrote wrote' r)
-    → IfSome a (λ x. IfSome b
-    (λ y. Took taken taken' (λ given. SealsOnce s x given r ⊎ SealsTwice s x y given r)))
-sealed_once None b left taken taken' s read read' wrote wrote' r e h = tt
-sealed_once (Some x) None left taken taken' s read read' wrote wrote' r e h = tt
-sealed_once (Some x) (Some y) left None taken' s read read' wrote wrote' r e h = tt
-sealed_once (Some x) (Some y) left (Some t) taken' s read read' wrote wrote' r e h =
+    → IfSome a (λ x. Took taken taken' (λ given. SealsOnce s x given r))
+sealed_once None left taken taken' s read read' wrote wrote' r e h = tt
+sealed_once (Some x) left None taken' s read read' wrote wrote' r e h = tt
+sealed_once (Some x) left (Some t) taken' s read read' wrote wrote' r e h =
     let P : Option (List ℕ) → Type 0 = λ l. WhereTextTold l (Some t) taken'
     (λ x given. SealsStream s x given read read' wrote wrote' r) in
     let k = subst P e h in
-    (k.0, k.1, inl (record { read = read; read' = read'; wrote = wrote; wrote' = wrote'; is = k.2 }))
+    (k.0, k.1, record { read = read; read' = read'; wrote = wrote; wrote' = wrote'; is = k.2 })
 
 -- two readings of a text
 pub sealed_twice : (a b left right taken taken' : Option (List ℕ)) (s : Setting) (before after : SivCounts)
     (r : Answer) → IfSome a (λ x. left ≡ Some x) → IfSome b (λ y. right ≡ Some y)
     → WhereBothTold left right taken taken' (λ x y given. SealsSivStream s x y given before after r)
-    → IfSome a (λ x. IfSome b
-    (λ y. Took taken taken' (λ given. SealsOnce s x given r ⊎ SealsTwice s x y given r)))
+    → IfSome a (λ x. IfSome b (λ y. Took taken taken' (λ given. SealsTwice s x y given r)))
 sealed_twice None b left right taken taken' s before after r e f h = tt
 sealed_twice (Some x) None left right taken taken' s before after r e f h = tt
 sealed_twice (Some x) (Some y) left right None taken' s before after r e f h = tt
@@ -60,7 +59,7 @@ sealed_twice (Some x) (Some y) left right (Some t) taken' s before after r e f h
     let Q : Option (List ℕ) → Type 0 = λ l. WhereBothTold (Some x) l (Some t) taken'
     (λ x y given. SealsSivStream s x y given before after r) in
     let k = subst Q f (subst P e h) in
-    (k.0, k.1, inr (record { before = before; after = after; is = k.2 }))
+    (k.0, k.1, record { before = before; after = after; is = k.2 })
 
 -- three readings of sealed bytes
 pub opened_thrice : (a b c measure verify write taken taken' : Option (List ℕ)) (s : Setting)
@@ -121,7 +120,13 @@ holds_nothing (Some x) None pending k = absurd k
 holds_nothing (Some x) (Some h) pending k =
     (h, refl, (length h, sym (take-append_seam h pending) ∙ ap (λ l. take (length h) l) k))
 
--- an engine's answer over two readings, for what is given in another way
+-- an engine's answer over one reading, for what is given in another way
+map_one : (a : Option (List ℕ)) (X Y : List ℕ → Type 0) → ((x : List ℕ) → X x → Y x)
+    → IfSome a (λ x. X x) → IfSome a (λ x. Y x)
+map_one None X Y f h = tt
+map_one (Some x) X Y f h = f x h
+
+-- over two
 map_two : (a b : Option (List ℕ)) (X Y : List ℕ → List ℕ → Type 0) → ((x y : List ℕ) → X x y → Y x y)
     → IfSome a (λ x. IfSome b (λ y. X x y)) → IfSome a (λ x. IfSome b (λ y. Y x y))
 map_two None b X Y f h = tt
@@ -142,12 +147,19 @@ abbrev pub Weakens : (Giving → Setting → Answer → Type 0) → Type 1
 Weakens engine = (G H : Giving) → ((P : List ℕ → Type 0) → G P → H P) → (s : Setting) (r : Answer)
     → engine G s r → engine H s r
 
--- of sealing
+-- of sealing in one reading, or in two
+sealing_by_weakens : (one : Bool) (readings : ℕ → Option (List ℕ)) → Weakens (SealingBy one readings)
+sealing_by_weakens true readings G H f s r h =
+    map_one (readings 0) (λ a. G (λ given. SealsOnce s a given r)) (λ a. H (λ given. SealsOnce s a given r))
+    (λ a. f (λ given. SealsOnce s a given r)) h
+sealing_by_weakens false readings G H f s r h =
+    map_two (readings 0) (readings 1) (λ a b. G (λ given. SealsTwice s a b given r))
+    (λ a b. H (λ given. SealsTwice s a b given r)) (λ a b. f (λ given. SealsTwice s a b given r)) h
+
+-- of sealing in as many readings as the suite takes
 pub sealing_weakens : (readings : ℕ → Option (List ℕ)) → Weakens (Sealing readings)
 sealing_weakens readings G H f s r h =
-    map_two (readings 0) (readings 1) (λ a b. G (λ given. SealsOnce s a given r ⊎ SealsTwice s a b given r))
-    (λ a b. H (λ given. SealsOnce s a given r ⊎ SealsTwice s a b given r))
-    (λ a b. f (λ given. SealsOnce s a given r ⊎ SealsTwice s a b given r)) h
+    sealing_by_weakens (is_one_pass (construction_of s.suite)) readings G H f s r h
 
 -- of opening
 pub opening_weakens : (readings : ℕ → Option (List ℕ)) → Weakens (Opening readings)

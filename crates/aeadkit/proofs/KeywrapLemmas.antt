@@ -9,8 +9,8 @@ use Rattle.aeadkit.specs.Keywrap.{Wraps, IsWrapped, IsUnwrapped, WrapInputsRefus
 
 -- a wrapping of the bytes that are spelled
 pub wrapped_of : (pad : Bool) (key text k t k' t' w : List ℕ) → Spells key k → Spells text t → k' ≡ k
-    → t' ≡ t → Wraps pad k' w t' → IsWrapped pad key text w
-wrapped_of pad key text k t k' t' w key_is text_is at_key at_text h = record {
+    → t' ≡ t → IsKey k' → Wraps pad k' w t' → IsWrapped pad key text w
+wrapped_of pad key text k t k' t' w key_is text_is at_key at_text is_key h = record {
   spelled = record {
     key_bytes = k';
     body_bytes = t';
@@ -18,13 +18,14 @@ wrapped_of pad key text k t k' t' w key_is text_is at_key at_text h = record {
     body_is = rw at_text
         text_is;
   };
+  is_key = is_key;
   is = h;
 }
 
 -- the text of a wrapping that is spelled
 pub unwrapped_of : (pad : Bool) (key sealed k w k' w' t : List ℕ) → Spells key k → Spells sealed w → k' ≡ k
-    → w' ≡ w → Wraps pad k' w' t → IsUnwrapped pad key sealed t
-unwrapped_of pad key sealed k w k' w' t key_is sealed_is at_key at_sealed h = record {
+    → w' ≡ w → IsKey k' → Wraps pad k' w' t → IsUnwrapped pad key sealed t
+unwrapped_of pad key sealed k w k' w' t key_is sealed_is at_key at_sealed is_key h = record {
   spelled = record {
     key_bytes = k';
     body_bytes = w';
@@ -32,6 +33,7 @@ unwrapped_of pad key sealed k w k' w' t key_is sealed_is at_key at_sealed h = re
     body_is = rw at_sealed
         sealed_is;
   };
+  is_key = is_key;
   is = h;
 }
 

@@ -1,8 +1,8 @@
 -- What the program does for a request: what it prints, with which status, or why it stops.
-use Rattle.std.specs.Prelude.{◌≡◌, ℕ, ◌⊎◌, List, [], Ok, Err, MatchResult}
+use Rattle.std.specs.Prelude.{◌≡◌, ℕ, ◌⊎◌, List, Err, MatchResult}
 use Rattle.std.specs.declared.option.Option.{Option}
 use Rattle.std.specs.declared.result.Result.{Result}
-use Rattle.std.specs.Io.KnownBytes.{Appends, append_known}
+use Rattle.std.specs.Io.KnownBytes.{Appends}
 use Rattle.octets.specs.declared.fault.Fault.TheVariants.{OutOfMemory, Write}
 use Rattle.aeadkit.specs.declared.failure.Failure.{Failure}
 use Rattle.aeadkit.specs.declared.failure.Failure.TheVariants.{Words as OfWords, Fault as OfFault}
@@ -15,7 +15,6 @@ use Rattle.aead.specs.Refusals.{WholeSealRefused, WholeOpenRefused}
 use Rattle.aeadkit.specs.Aead.{IsSealed, IsOpened, IsRefused}
 use Rattle.aeadkit.specs.Files.{Sealing, Opening, FileDone, FileStopped}
 use Rattle.aeadkit.specs.Hex.{hex_line}
-use Rattle.aeadkit.specs.Statuses.{failure_status}
 use Rattle.aeadkit.specs.Reports.{IsChecked, FileRefused}
 use Rattle.aeadkit.specs.Keywrap.{IsWrapped, IsUnwrapped, IsWrapRefused, WrapFault, UnwrapFault}
 
@@ -70,26 +69,3 @@ abbrev pub IsRefusedAs : Refusal → Result ℕ Failure → Type 0
 IsRefusedAs (Help text) result = MatchResult result (λ status. status ≡ 0) IsOutputFailure
 IsRefusedAs Words result = result ≡ Err OfWords
 IsRefusedAs NoMemory result = result ≡ Err (OfFault OutOfMemory)
-
--- what a run comes to, whatever its words: some request was answered or came to nothing, or the words are no
--- request
-abbrev pub HasOutcome : Surroundings → Result ℕ Failure → Type 0
-HasOutcome s outcome =
-    ((request : Request) × MatchResult outcome (Answered s request) (Stopped s request))
-    ⊎ ((refusal : Refusal) × IsRefusedAs refusal outcome)
-
--- the status of a run that comes to this
-abbrev pub outcome_status : Result ℕ Failure → ℕ
-outcome_status (Ok status) = status
-outcome_status (Err failure) = failure_status failure
-
--- a run ends with this status; a file that was made holds blank at first
-pub record Ends (files : List ℕ → ℕ → Option (List ℕ)) (before after blank : Option (List ℕ)) (status : ℕ)
-    : Type 0 where
-  pub outcome : Result ℕ Failure
-  pub taken : Option (List ℕ)
-  pub held : Option (List ℕ)
-  pub fresh : taken ≡ append_known blank []
-  pub right : HasOutcome
-      (record { files = files; before = before; after = after; taken = taken; held = held }) outcome
-  pub status_is : status ≡ outcome_status outcome

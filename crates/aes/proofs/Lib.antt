@@ -20,3 +20,10 @@ pub mod StreamSteps
 pub mod Computed
 pub mod Small
 pub mod Vectors
+pub mod Circuit
+pub mod BitPlanes
+pub mod Exchanges
+pub mod SixteenBlocks
+pub mod KeyPlanes
+pub mod Loads
+pub mod Fours

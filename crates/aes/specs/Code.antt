@@ -3,4 +3,5 @@
 pub mod ExpandedKey
 pub mod InverseKey
 pub mod Lanes
+pub mod Planes
 pub mod Wraps

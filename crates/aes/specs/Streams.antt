@@ -27,6 +27,16 @@ Advances up s t was now = (key first : List ℕ) (made : ℕ) → Makes up s key
 pub record HoldsBe (s : CtrBe) (key : List ℕ) (first : List ℕ) (made : ℕ) : Type 0 where
   pub makes : Makes up_be s.counter key first made
 
--- the same by `up_le`
+-- s has made this many bytes of the stream that counts by `up_le` from the first block on
 pub record HoldsLe (s : CtrLe) (key : List ℕ) (first : List ℕ) (made : ℕ) : Type 0 where
   pub makes : Makes up_le s.counter key first made
+
+-- what a call beside other work does to the stream that counts by `up_be`: it XORs in the next bytes
+abbrev pub DidBe : CtrBe → CtrBe → List ℕ → List ℕ → Type 0
+DidBe s t was now = (key first : List ℕ) (made : ℕ) → HoldsBe s key first made
+    → HoldsBe t key first (made + length was) × (now ≡ masked (counter_byte up_be key first) made was)
+
+-- what a call beside other work does to the stream that counts by `up_le`: it XORs in the next bytes
+abbrev pub DidLe : CtrLe → CtrLe → List ℕ → List ℕ → Type 0
+DidLe s t was now = (key first : List ℕ) (made : ℕ) → HoldsLe s key first made
+    → HoldsLe t key first (made + length was) × (now ≡ masked (counter_byte up_le key first) made was)

@@ -1,14 +1,15 @@
 // Streams of bytes from a block that counts (SP 800-38D, 6.5; RFC 8452, 4).
 
-ghost use Rattle.std.specs.Prelude.{◌≡◌, ℕ, ◌+◌, ◌%◌, ◌^◌, ◌<◌, ◌≤◌, List, ◌++◌, length};
+ghost use Rattle.std.specs.Prelude.{◌≡◌, ℕ, ◌+◌, ◌%◌, ◌^◌, ◌<◌, ◌≤◌, List, ◌++◌, length, take, drop};
 ghost use Rattle.octets.specs.Bytes.{block_at};
 ghost use Rattle.octets.specs.Masked.{masked};
 ghost use Rattle.aes.specs.Counters.{CountsOn, counter_byte, up_be, up_le};
 ghost use Rattle.aes.specs.Code.Wraps.{WrapsAround, up_be-wraps, up_le-wraps};
 
 use crate::key::AesKey;
+use crate::planes::Planes;
 use byteorder::{BigEndian, ByteOrder, LittleEndian};
-use octets::{Block, xor_into};
+use octets::{Block, Stream, Work, xor_into};
 use std::marker::PhantomData;
 
 /// The law of counting blocks (SP 800-38D, 6.2; RFC 8452, 4): 0 steps lead from a block of 16 bytes to
@@ -105,6 +106,8 @@ struct Counter<C> {
 impl<C: Count> Counter<C> {
     ghost use Rattle.aes.specs.Streams.{Makes, Advances};
     ghost use Rattle.aes.specs.Code.Lanes.{IsReady};
+    ghost use Rattle.aes.specs.Code.Planes.{AreReady, AreMasks};
+    ghost use Rattle.aes.specs.Schedule.{schedule, round_count};
 
     // The stream whose first block is the cipher of `first`.
     #[inline(always)]
@@ -148,18 +151,72 @@ impl<C: Count> Counter<C> {
         self.used = bytes.len() % 16;
     }
 
-    // The next four blocks that count.
-    fn four(&self) -> [u8; 64]
-        ensures { (q : ℕ) → q < 4 → block_at result q ≡ C.up self.now.first ((self.now.begun + q) % 2 ^ 32) }
+    // The four blocks with the numbers from `begun` on, modulo 2^32.
+    #[inline(always)]
+    fn four(&self, begun: u32) -> [u8; 64]
+        ensures { (q : ℕ) → q < 4 → block_at result q ≡ C.up self.now.first ((begun + q) % 2 ^ 32) }
     {
-        let first = C::block(&self.first, self.begun);
-        let second = C::block(&self.first, self.begun.wrapping_add(1));
-        let third = C::block(&self.first, self.begun.wrapping_add(2));
-        let fourth = C::block(&self.first, self.begun.wrapping_add(3));
+        let first = C::block(&self.first, begun);
+        let second = C::block(&self.first, begun.wrapping_add(1));
+        let third = C::block(&self.first, begun.wrapping_add(2));
+        let fourth = C::block(&self.first, begun.wrapping_add(3));
         joined(first.bytes(), second.bytes(), third.bytes(), fourth.bytes())
     }
 
-    // XORs in the next four blocks, where none is begun.
+    // XORs in the next four blocks, whose ciphers are given, where no block is begun.
+    #[inline(always)]
+    fn take_four(&mut self, masks: &[u8; 64], bytes: &mut [u8])
+        requires masks { AreMasks C.up self.old.key self.old.first self.old.begun masks.now }
+        requires none { self.old.used ≡ 0 }
+        requires long { length bytes.old ≡ 64 }
+        ensures advances { Advances C.up self.old self.new bytes.old bytes.new }
+        ensures used { self.new.used ≡ 0 }
+        ensures key { self.new.key ≡ self.old.key }
+        ensures first { self.new.first ≡ self.old.first }
+        ensures begun { self.new.begun ≡ (self.old.begun + 4) % 2 ^ 32 }
+    {
+        self.begun = self.begun.wrapping_add(4);
+        xor_into(bytes, masks);
+    }
+
+    // XORs in the next eight blocks, whose ciphers are given, where no block is begun.
+    #[inline(always)]
+    fn take_eight(&mut self, a: &[u8; 64], b: &[u8; 64], bytes: &mut [u8])
+        requires first { AreMasks C.up self.old.key self.old.first self.old.begun a.now }
+        requires second { AreMasks C.up self.old.key self.old.first ((self.old.begun + 4) % 2 ^ 32) b.now }
+        requires none { self.old.used ≡ 0 }
+        requires long { length bytes.old ≡ 128 }
+        ensures advances { Advances C.up self.old self.new bytes.old bytes.new }
+        ensures used { self.new.used ≡ 0 }
+        ensures key { self.new.key ≡ self.old.key }
+        ensures first { self.new.first ≡ self.old.first }
+        ensures begun { self.new.begun ≡ (self.old.begun + 8) % 2 ^ 32 }
+    {
+        self.take_four(a, &mut bytes[..64]);
+        self.take_four(b, &mut bytes[64..]);
+    }
+
+    // XORs in the next sixteen blocks, where no block is begun.
+    fn begin_sixteen(&mut self, keys: &[Planes; 15], bytes: &mut [u8])
+        requires ready { AreReady keys.now (schedule self.old.key) (round_count self.old.key) }
+        requires none { self.old.used ≡ 0 }
+        requires long { length bytes.old ≡ 256 }
+        ensures advances { Advances C.up self.old self.new bytes.old bytes.new }
+        ensures used { self.new.used ≡ 0 }
+        ensures key { self.new.key ≡ self.old.key }
+    {
+        let (a, b, c, d) = self.key.encrypt_sixteen(
+            keys,
+            &self.four(self.begun),
+            &self.four(self.begun.wrapping_add(4)),
+            &self.four(self.begun.wrapping_add(8)),
+            &self.four(self.begun.wrapping_add(12)),
+        );
+        self.take_eight(&a, &b, &mut bytes[..128]);
+        self.take_eight(&c, &d, &mut bytes[128..]);
+    }
+
+    // XORs in the next four blocks, where no block is begun.
     fn begin_four(&mut self, keys: &[[u8; 16]; 15], bytes: &mut [u8])
         requires ready { IsReady keys.now self.old.key }
         requires none { self.old.used ≡ 0 }
@@ -168,12 +225,36 @@ impl<C: Count> Counter<C> {
         ensures used { self.new.used ≡ 0 }
         ensures key { self.new.key ≡ self.old.key }
     {
-        let masks = self.key.encrypt_ready(keys, &self.four());
-        self.begun = self.begun.wrapping_add(4);
-        xor_into(bytes, &masks);
+        let masks = self.key.encrypt_ready(keys, &self.four(self.begun));
+        self.take_four(&masks, bytes);
     }
 
-    // XORs in runs of four blocks, where none is begun.
+    // XORs in runs of sixteen blocks, where no block is begun, and returns how many bytes they are: none of
+    // fewer than 512, for which making the planes of the key costs more than it wins. A function of its own,
+    // since its frame would slow down short messages.
+    #[inline(never)]
+    fn apply_sixteens(&mut self, bytes: &mut [u8]) -> usize
+        requires { self.old.used ≡ 0 }
+        ensures within { result ≤ length bytes.old }
+        ensures whole { result % 64 ≡ 0 }
+        ensures left { drop result bytes.new ≡ drop result bytes.old }
+        ensures advances { Advances C.up self.old self.new (take result bytes.old) (take result bytes.new) }
+        ensures used { self.new.used ≡ 0 }
+        ensures key { self.new.key ≡ self.old.key }
+    {
+        if bytes.len() < 512 {
+            return 0;
+        }
+        let keys = self.key.planes();
+        let mut done = 0;
+        'sixteens: while bytes.len() - done >= 256 {
+            self.begin_sixteen(&keys, &mut bytes[done..done + 256]);
+            done += 256;
+        }
+        done
+    }
+
+    // XORs in whole runs of four blocks, those of sixteen first, where no block is begun.
     fn apply_fours(&mut self, bytes: &mut [u8])
         requires none { self.old.used ≡ 0 }
         requires whole { length bytes.old % 64 ≡ 0 }
@@ -183,15 +264,18 @@ impl<C: Count> Counter<C> {
         if bytes.len() < 64 {
             return;
         }
+        let mut done = self.apply_sixteens(bytes);
+        if bytes.len() - done < 64 {
+            return;
+        }
         let keys = self.key.ready();
-        let mut done = 0;
         'fours: while bytes.len() - done >= 64 {
             self.begin_four(&keys, &mut bytes[done..done + 64]);
             done += 64;
         }
     }
 
-    // XORs in blocks, the last one perhaps in part, where none is begun.
+    // XORs in blocks, the last one perhaps in part, where no block is begun.
     fn apply_blocks(&mut self, bytes: &mut [u8])
         requires { self.old.used ≡ 0 }
         ensures { Advances C.up self.old self.new bytes.old bytes.new }
@@ -282,5 +366,27 @@ impl CtrLe {
             × (bytes.new ≡ masked (counter_byte up_le key first) made bytes.old) }
     {
         self.counter.apply(bytes);
+    }
+}
+
+/// The stream does no step of the work: its rounds leave no room for one.
+impl Stream for CtrBe {
+    ghost use Rattle.aes.specs.Streams.{DidBe};
+
+    ghost did = { DidBe };
+
+    fn apply_beside<W: Work>(&mut self, bytes: &mut [u8], _work: &mut W) {
+        self.apply(bytes);
+    }
+}
+
+/// The stream does no step of the work: its rounds leave no room for one.
+impl Stream for CtrLe {
+    ghost use Rattle.aes.specs.Streams.{DidLe};
+
+    ghost did = { DidLe };
+
+    fn apply_beside<W: Work>(&mut self, bytes: &mut [u8], _work: &mut W) {
+        self.apply(bytes);
     }
 }

@@ -1,15 +1,21 @@
 // An expanded key, and the cipher under it.
 
-ghost use Rattle.std.specs.Prelude.{◌≡◌, ℕ, ◌<◌, length, MatchResult};
+ghost use Rattle.std.specs.Prelude.{◌≡◌, ℕ, ◌<◌, ◌+◌, ◌*◌, ◌/◌, ◌%◌, length, slice_index, List, MatchResult};
 ghost use Rattle.octets.specs.Bytes.{IsBlock, block_at};
 ghost use Rattle.aes.specs.Cipher.{cipher, IsKey, IsKeyLength, IsPreimage};
 ghost use Rattle.aes.specs.Code.InverseKey.{IsInverse};
 ghost use Rattle.aes.specs.Code.Lanes.{IsReady};
+ghost use Rattle.aes.specs.Code.Planes.{AreReady, HoldsBits, HoldsSixteen};
+ghost use Rattle.aes.specs.Schedule.{schedule, round_count};
 
 use crate::columns::{add_key, last_round, load, round, round_key, store};
 use crate::inverse::unmix_words;
 use crate::inverse_key::InverseKey;
 use crate::lanes::{first_four, last_four, ready_keys, round_four, spread};
+use crate::planes::{
+    Planes, add, last_sixteen, load as load_planes, ready_planes, round_sixteen,
+    store as store_planes,
+};
 use crate::schedule::expand;
 use octets::{Block, Fault, Key16, Key24, Key32};
 use std::marker::Model;
@@ -140,7 +146,62 @@ impl AesKey {
         self.encrypt_ready(&self.ready(), blocks)
     }
 
-    /// The same key made ready for `InverseKey::decrypt` (FIPS 197, 5.3.5).
+    // The words of its rounds in planes of bits.
+    pub(crate) fn planes(&self) -> [Planes; 15]
+        ensures { AreReady result (schedule self.now) (round_count self.now) }
+    {
+        ready_planes(&self.words, self.size + 6)
+    }
+
+    // The ciphers of sixteen blocks in planes, by the words of the rounds in planes.
+    #[inline(always)]
+    pub(crate) fn encrypt_planes(&self, keys: &[Planes; 15], start: Planes) -> Planes
+        requires { AreReady keys.now (schedule self.now) (round_count self.now) }
+        ensures { (f : ℕ → List ℕ) → ((q : ℕ) → IsBlock (f q)) → HoldsSixteen start f
+            → HoldsBits result (λ l k. slice_index (cipher self.now (f (l / 16 * 8 + k))) (l % 16)) }
+    {
+        let count = self.size + 6;
+        let mut state = add(start, keys[0]);
+        for done in 0..count - 1 {
+            let next = round_sixteen(state, keys[done + 1]);
+            state = next;
+        }
+        last_sixteen(state, keys[count])
+    }
+
+    // The ciphers of sixteen blocks, four in each array, by the words of the rounds in planes.
+    #[inline(always)]
+    pub(crate) fn encrypt_sixteen(
+        &self,
+        keys: &[Planes; 15],
+        a: &[u8; 64],
+        b: &[u8; 64],
+        c: &[u8; 64],
+        d: &[u8; 64],
+    ) -> ([u8; 64], [u8; 64], [u8; 64], [u8; 64])
+        requires { AreReady keys.now (schedule self.now) (round_count self.now) }
+        ensures first { (q : ℕ) → q < 4 → block_at result.0 q ≡ cipher self.now (block_at a.now q) }
+        ensures second { (q : ℕ) → q < 4 → block_at result.1 q ≡ cipher self.now (block_at b.now q) }
+        ensures third { (q : ℕ) → q < 4 → block_at result.2 q ≡ cipher self.now (block_at c.now q) }
+        ensures fourth { (q : ℕ) → q < 4 → block_at result.3 q ≡ cipher self.now (block_at d.now q) }
+    {
+        self.is_key();
+        let start = load_planes(
+            u8x64::from_array(*a),
+            u8x64::from_array(*b),
+            u8x64::from_array(*c),
+            u8x64::from_array(*d),
+        );
+        let (first, second, third, fourth) = store_planes(self.encrypt_planes(keys, start));
+        (
+            first.to_array(),
+            second.to_array(),
+            third.to_array(),
+            fourth.to_array(),
+        )
+    }
+
+    /// This key made ready for `InverseKey::decrypt` (FIPS 197, 5.3.5).
     pub fn inverse(&self) -> InverseKey
         ensures { IsInverse result self.now }
     {

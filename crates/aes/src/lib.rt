@@ -9,6 +9,7 @@ mod inverse;
 mod inverse_key;
 mod key;
 mod lanes;
+mod planes;
 mod round_tables;
 mod sbox;
 mod schedule;

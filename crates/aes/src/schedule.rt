@@ -84,7 +84,7 @@ fn expand_by(key: &[u8], nk: usize) -> [u32; 60]
     words
 }
 
-// The same, with code of its own for each size.
+// The schedule of a key, with code of its own for each size of key.
 pub(crate) fn expand(key: &[u8], nk: usize) -> [u32; 60]
     requires size { IsKeySize nk }
     requires long { length key.now ≡ 4 * nk }

@@ -1,3 +1,5 @@
+ghost use Rattle.std.specs.Prelude.{◌<◌};
+
 use super::*;
 use octets::{Block, Fault, Key16, Key24, Key32};
 use std::process::Abort;
@@ -50,7 +52,7 @@ fn ciphers_with_three_key_lengths(rt: HostRuntime) {
     assert!(rt; agrees(&long, &CIPHER_256));
 }
 
-// The same by the call for any length.
+// Each key made by the call for any length has the cipher of its size.
 #[test]
 fn ciphers_with_keys_of_slices(rt: HostRuntime) {
     assert!(rt; agrees(&key_of(&rt, 16), &CIPHER_128));
@@ -142,7 +144,7 @@ fn big_endian_counter_wraps_around(rt: HostRuntime) {
     }
 }
 
-// The same of the other stream.
+// The first 32 bytes of the little-endian stream, as one piece of so many bytes and one of the rest.
 fn little_endian_in_two(key: &AesKey, first: [u8; 16], cut: usize) -> [u8; 32] {
     let mut bytes = [0; 32];
     let (front, back) = bytes.split_at_mut(cut.min(32));
@@ -171,5 +173,80 @@ fn little_endian_counter_wraps_around(rt: HostRuntime) {
             little_endian_in_two(&key, LAST_LITTLE, cut) == due,
             "{cut}"
         );
+    }
+}
+
+// The first `length` bytes of the big-endian stream, in calls of at most `size` bytes.
+fn big_endian_in_calls(key: &AesKey, first: [u8; 16], length: usize, size: usize) -> [u8; 1100]
+    requires { 0 < size }
+{
+    let mut bytes = [0; 1100];
+    let mut stream = CtrBe::new(key, &Block::new(first));
+    for piece in bytes[..length.min(1100)].chunks_mut(size) {
+        stream.apply(piece);
+    }
+    bytes
+}
+
+// The first `length` bytes of the little-endian stream, in calls of at most `size` bytes.
+fn little_endian_in_calls(key: &AesKey, first: [u8; 16], length: usize, size: usize) -> [u8; 1100]
+    requires { 0 < size }
+{
+    let mut bytes = [0; 1100];
+    let mut stream = CtrLe::new(key, &Block::new(first));
+    for piece in bytes[..length.min(1100)].chunks_mut(size) {
+        stream.apply(piece);
+    }
+    bytes
+}
+
+// Lengths about whole runs of sixteen blocks, of four and of one.
+const LENGTHS: [usize; 16] = [
+    511, 512, 513, 527, 528, 575, 576, 577, 767, 768, 769, 831, 1023, 1024, 1025, 1100,
+];
+
+// A block that counts in its last four bytes, `steps` steps below 2^32.
+fn big_endian_below_end(steps: u8) -> [u8; 16] {
+    let mut first = TEXT;
+    first[12..].copy_from_slice(&[0xff, 0xff, 0xff, 0u8.wrapping_sub(steps)]);
+    first
+}
+
+// A block that counts in its first four bytes, `steps` steps below 2^32.
+fn little_endian_below_end(steps: u8) -> [u8; 16] {
+    let mut first = TEXT;
+    first[..4].copy_from_slice(&[0u8.wrapping_sub(steps), 0xff, 0xff, 0xff]);
+    first
+}
+
+// Blocks made sixteen at a time equal those made one by one, also if the count passes 2^32 at the first block
+// of a run, within it, at its last block or after it.
+#[test]
+fn big_endian_runs_of_sixteen(rt: HostRuntime) {
+    for key in keys(&rt) {
+        for steps in [1u8, 3, 4, 8, 12, 15, 16, 20, 37, 100] {
+            let first = big_endian_below_end(steps);
+            for length in LENGTHS {
+                let single = big_endian_in_calls(&key, first, length, 16);
+                let whole = big_endian_in_calls(&key, first, length, 1100);
+                let uneven = big_endian_in_calls(&key, first, length, 537);
+                assert!(rt; whole == single && uneven == single, "{steps} {length}");
+            }
+        }
+    }
+}
+
+#[test]
+fn little_endian_runs_of_sixteen(rt: HostRuntime) {
+    for key in keys(&rt) {
+        for steps in [1u8, 3, 4, 8, 12, 15, 16, 20, 37, 100] {
+            let first = little_endian_below_end(steps);
+            for length in LENGTHS {
+                let single = little_endian_in_calls(&key, first, length, 16);
+                let whole = little_endian_in_calls(&key, first, length, 1100);
+                let uneven = little_endian_in_calls(&key, first, length, 537);
+                assert!(rt; whole == single && uneven == single, "{steps} {length}");
+            }
+        }
     }
 }

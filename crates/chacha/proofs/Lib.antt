@@ -4,3 +4,4 @@ pub mod Masking
 pub mod SideBySide
 pub mod Lengths
 pub mod ByRows
+pub mod Refusals

@@ -28,3 +28,9 @@ pub record Refused (fault : Fault) (before after : ChaStream) (first made : ℕ)
     pub past_end : 2 ^ 38 < first * 64 + made + length was
     pub stream_unchanged : after ≡ before
     pub bytes_unchanged : now ≡ was
+
+-- what a call beside other work does: it XORs in the next bytes of the key stream, if there are as many
+abbrev pub Did : ChaStream → ChaStream → List ℕ → List ℕ → Type 0
+Did before after was now =
+    (key nonce : List ℕ) (first made : ℕ) → Holds before key nonce first made
+    → first * 64 + made + length was ≤ 2 ^ 38 → Applied after key nonce first made was now

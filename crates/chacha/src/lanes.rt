@@ -11,7 +11,7 @@ ghost use Rattle.chacha.specs.Code.Lanes.{lane, HasBlocks};
 ghost use Rattle.chacha.specs.Stream.{key_stream_byte};
 
 use crate::state::initial_state;
-use octets::{Key32, Nonce, xor_into};
+use octets::{Idle, Key32, Nonce, Work, xor_into};
 use std::simd::{Simd, u32x4, u32x8};
 
 // The sums of the words, lane by lane.
@@ -93,15 +93,22 @@ fn diagonal_round<const N: usize>(x: &mut [Simd<u32, N>; 16])
     quarter_round(x, 3, 4, 9, 14);
 }
 
-// Ten double rounds.
+// Ten double rounds, with three steps of other work in each. The steps are done on a copy: it stays in
+// registers, where a reference would not.
 #[inline(always)]
-fn ten_rounds<const N: usize>(x: &mut [Simd<u32, N>; 16])
-    ensures { (j : ℕ) → j < N → lane j x.new ≡ double_rounds 10 (lane j x.old) }
+fn ten_rounds<const N: usize, W: Work>(x: &mut [Simd<u32, N>; 16], work: &mut W)
+    ensures lanes { (j : ℕ) → j < N → lane j x.new ≡ double_rounds 10 (lane j x.old) }
+    ensures work { (k m : List ℕ) → W.comes_to work.old k m → W.comes_to work.new k m }
 {
+    let mut own = *work;
     'rounds: for _round in 0..10u32 {
         column_round(x);
+        own.step();
         diagonal_round(x);
+        own.step();
+        own.step();
     }
+    *work = own;
 }
 
 // Adds the words of `start`.
@@ -127,18 +134,20 @@ fn set_starts<const N: usize>(x: &mut [Simd<u32, N>; 16], state: &[u32; 16], cou
 
 // Each lane gets the words of the block of its counter.
 #[inline(always)]
-fn set_blocks<const N: usize>(
+fn set_blocks<const N: usize, W: Work>(
     x: &mut [Simd<u32, N>; 16],
     key: &Key32,
     counters: Simd<u32, N>,
     nonce: &Nonce,
+    work: &mut W,
 )
-    ensures { (j : ℕ) → j < N
+    ensures blocks { (j : ℕ) → j < N
         → serialized (lane j x.new) ≡ block key.now (slice_index counters.entry j) nonce.now }
+    ensures work { (k m : List ℕ) → W.comes_to work.old k m → W.comes_to work.new k m }
 {
     set_starts(x, &initial_state(key, 0, nonce), counters);
     let start = *x;
-    ten_rounds(x);
+    ten_rounds(x, work);
     add(x, &start);
 }
 
@@ -150,15 +159,16 @@ fn four_lanes(key: &Key32, counter: u32, nonce: &Nonce) -> [u32x4; 16]
 {
     let counters = u32x4::from_array([counter, counter + 1, counter + 2, counter + 3]);
     let mut x = [u32x4::splat(0); 16];
-    set_blocks(&mut x, key, counters, nonce);
+    set_blocks(&mut x, key, counters, nonce, &mut Idle);
     x
 }
 
 // The words of the eight blocks, one block in each lane.
 #[inline(always)]
-fn eight_lanes(key: &Key32, counter: u32, nonce: &Nonce) -> [u32x8; 16]
+fn eight_lanes<W: Work>(key: &Key32, counter: u32, nonce: &Nonce, work: &mut W) -> [u32x8; 16]
     requires { counter + 7 < 2 ^ 32 }
-    ensures { HasBlocks 8 result key.now counter nonce.now }
+    ensures blocks { HasBlocks 8 result key.now counter nonce.now }
+    ensures work { (k m : List ℕ) → W.comes_to work.old k m → W.comes_to work.new k m }
 {
     let counters = u32x8::from_array([
         counter,
@@ -171,7 +181,7 @@ fn eight_lanes(key: &Key32, counter: u32, nonce: &Nonce) -> [u32x8; 16]
         counter + 7,
     ]);
     let mut x = [u32x8::splat(0); 16];
-    set_blocks(&mut x, key, counters, nonce);
+    set_blocks(&mut x, key, counters, nonce, work);
     x
 }
 
@@ -294,13 +304,20 @@ pub fn xor_four_blocks(key: &Key32, counter: u32, nonce: &Nonce, bytes: &mut [u8
     xor_written(&four_lanes(key, counter, nonce), bytes);
 }
 
-// XORs the first 512 bytes of the key stream from a counter on.
-pub(crate) fn xor_eight_blocks(key: &Key32, counter: u32, nonce: &Nonce, bytes: &mut [u8])
+// XORs the first 512 bytes of the key stream from a counter on, and does thirty steps of other work.
+pub(crate) fn xor_eight_blocks<W: Work>(
+    key: &Key32,
+    counter: u32,
+    nonce: &Nonce,
+    bytes: &mut [u8],
+    work: &mut W,
+)
     requires counters { counter + 7 < 2 ^ 32 }
     requires size { length bytes.old ≡ 512 }
-    ensures { bytes.new ≡ masked (key_stream_byte key.now nonce.now counter) 0 bytes.old }
+    ensures masked { bytes.new ≡ masked (key_stream_byte key.now nonce.now counter) 0 bytes.old }
+    ensures work { (k m : List ℕ) → W.comes_to work.old k m → W.comes_to work.new k m }
 {
-    let x = eight_lanes(key, counter, nonce);
+    let x = eight_lanes(key, counter, nonce, work);
     let mut first = [u32x4::splat(0); 16];
     let mut last = [u32x4::splat(0); 16];
     part(&x, &mut first, &mut last);

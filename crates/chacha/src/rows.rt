@@ -18,7 +18,7 @@ fn moved_by_one(row: u32x4) -> u32x4
     row.swizzle([1, 2, 3, 0])
 }
 
-// The same, two lanes.
+// The row with its words moved two lanes down.
 #[inline(always)]
 fn moved_by_two(row: u32x4) -> u32x4
     ensures { result ≡ slice_index row 2 ∷ slice_index row 3 ∷ slice_index row 0 ∷ slice_index row 1 ∷ [] }
@@ -26,7 +26,7 @@ fn moved_by_two(row: u32x4) -> u32x4
     row.swizzle([2, 3, 0, 1])
 }
 
-// The same, three lanes.
+// The row with its words moved three lanes down.
 #[inline(always)]
 fn moved_by_three(row: u32x4) -> u32x4
     ensures { result ≡ slice_index row 3 ∷ slice_index row 0 ∷ slice_index row 1 ∷ slice_index row 2 ∷ [] }

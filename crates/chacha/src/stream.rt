@@ -7,7 +7,7 @@ ghost use Rattle.octets.specs.Masked.{masked};
 ghost use Rattle.chacha.specs.Stream.{key_stream_byte};
 
 use crate::{lanes, single};
-use octets::{Fault, Key32, Nonce, xor_into};
+use octets::{Fault, Idle, Key32, Nonce, Stream, Work, xor_into};
 
 // The end of the key stream from counter 0 on: 2^32 blocks of 64 bytes.
 const END: u64 = 0x40_0000_0000;
@@ -46,45 +46,72 @@ impl ChaStream {
             → MatchResult result (λ _. Applied self.new key nonce first made bytes.old bytes.new)
             (λ fault. Refused fault self.old self.new first made bytes.old bytes.new) }
     {
+        self.apply_with(bytes, &mut Idle)
+    }
+
+    /// XORs the next bytes of the key stream into `bytes`, of any length, as `apply` does, and does steps of
+    /// `work` meanwhile.
+    ///
+    /// `StreamEnd` comes exactly where `apply` returns it. It leaves the stream, the bytes and the work as
+    /// they were.
+    pub fn apply_with<W: Work>(&mut self, bytes: &mut [u8], work: &mut W) -> Result<(), Fault>
+        ensures applied { (key nonce : List ℕ) (first made : ℕ) → Holds self.old key nonce first made
+            → MatchResult result (λ _. Applied self.new key nonce first made bytes.old bytes.new)
+            (λ fault. Refused fault self.old self.new first made bytes.old bytes.new) }
+        ensures work { (k m : List ℕ) → W.comes_to work.old k m → W.comes_to work.new k m }
+    {
         if bytes.len() as u64 > END - self.place {
             return Err(Fault::StreamEnd);
         }
-        xor_stream(&self.key, &self.nonce, self.place, bytes);
+        xor_stream(&self.key, &self.nonce, self.place, bytes, work);
         self.place += bytes.len() as u64;
         Ok(())
     }
 }
 
-// XORs the key stream from a place of the key stream from counter 0 on.
-fn xor_stream(key: &Key32, nonce: &Nonce, place: u64, bytes: &mut [u8])
-    requires { place + length bytes.old ≤ 2 ^ 38 }
-    ensures { bytes.new ≡ masked (key_stream_byte key.now nonce.now 0) place bytes.old }
-{
-    let mut done = 0;
-    'runs: while done < bytes.len() {
-        done += xor_run(key, nonce, place + done as u64, &mut bytes[done..]);
+impl Stream for ChaStream {
+    ghost use Rattle.chacha.specs.States.{Did};
+
+    ghost did = { Did };
+
+    fn apply_beside<W: Work>(&mut self, bytes: &mut [u8], work: &mut W) {
+        let _ = self.apply_with(bytes, work);
     }
 }
 
-// XORs the same into the first bytes, by the widest form that fits, and answers how many they are.
-fn xor_run(key: &Key32, nonce: &Nonce, place: u64, bytes: &mut [u8]) -> usize
+// XORs the key stream into the bytes, from a place of the stream that begins at counter 0.
+fn xor_stream<W: Work>(key: &Key32, nonce: &Nonce, place: u64, bytes: &mut [u8], work: &mut W)
+    requires { place + length bytes.old ≤ 2 ^ 38 }
+    ensures masked { bytes.new ≡ masked (key_stream_byte key.now nonce.now 0) place bytes.old }
+    ensures work { (k m : List ℕ) → W.comes_to work.old k m → W.comes_to work.new k m }
+{
+    let mut done = 0;
+    'runs: while done < bytes.len() {
+        done += xor_run(key, nonce, place + done as u64, &mut bytes[done..], work);
+    }
+}
+
+// XORs the key stream from a place on into the first bytes, by the widest form that fits, and returns how
+// many they are.
+fn xor_run<W: Work>(key: &Key32, nonce: &Nonce, place: u64, bytes: &mut [u8], work: &mut W) -> usize
     requires some { 0 < length bytes.old }
     requires within { place + length bytes.old ≤ 2 ^ 38 }
     ensures progress { 0 < result }
     ensures in_range { result ≤ length bytes.old }
     ensures masked { bytes.new ≡ masked (key_stream_byte key.now nonce.now 0) place (take result bytes.old)
         ++ drop result bytes.old }
+    ensures work { (k m : List ℕ) → W.comes_to work.old k m → W.comes_to work.new k m }
 {
     let counter = (place / 64) as u32;
     let skip = (place % 64) as usize;
     if skip == 0 && bytes.len() >= 512 {
-        lanes::xor_eight_blocks(key, counter, nonce, &mut bytes[..512]);
+        lanes::xor_eight_blocks(key, counter, nonce, &mut bytes[..512], work);
         return 512;
     }
     // Up to five blocks are made faster as four and one.
     if skip + bytes.len() > 320 && counter <= u32::MAX - 7 {
         let mut stream = [0; 512];
-        lanes::xor_eight_blocks(key, counter, nonce, &mut stream);
+        lanes::xor_eight_blocks(key, counter, nonce, &mut stream, work);
         return xor_part(&stream, skip, bytes);
     }
     if skip + bytes.len() > 64 && counter <= u32::MAX - 3 {
@@ -95,7 +122,7 @@ fn xor_run(key: &Key32, nonce: &Nonce, place: u64, bytes: &mut [u8]) -> usize
     xor_part(&single::block(key, counter, nonce), skip, bytes)
 }
 
-// XORs the bytes of `stream` from place `skip` on into the first bytes, and answers how many they are.
+// XORs the bytes of `stream` from place `skip` on into the first bytes, and returns how many they are.
 #[inline(always)]
 fn xor_part(stream: &[u8], skip: usize, bytes: &mut [u8]) -> usize
     requires { skip ≤ length stream.now }

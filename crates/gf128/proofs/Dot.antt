@@ -18,10 +18,6 @@ use Rattle.octets.proofs.Reversal.{times_power, coefficient_end, vanishes_from, 
 use Rattle.gf128.specs.Ghash.{ghash_modulus}
 use Rattle.gf128.specs.Polyval.{polyval_modulus, x_to_128, IsDot, IsMulX}
 
--- the two moduli are each other's reverse
-moduli : reverse ghash_modulus ≡ polyval_modulus
-moduli = refl
-
 -- a term of a sum of bits that is 0
 swapped : (a b c : Bool) → a ≡ plus b c → c ≡ false → a ≡ false → b ≡ false
 swapped a b c e none nil = sym (plus_false b) ∙ ap (plus b) (sym none) ∙ sym e ∙ nil

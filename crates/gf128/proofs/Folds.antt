@@ -5,7 +5,6 @@ use Rattle.std.proofs.Common.{arith}
 use mathlib.Core.Path.{fun_ext}
 use Rattle.std.proofs.lemmas.Bool.{cases_lt}
 use Rattle.std.proofs.lemmas.List.{get_or_append_left, get_or-append_right}
-use Rattle.std.proofs.lemmas.Nat.{xor_lt}
 use Rattle.octets.specs.Bits.{bit}
 use Rattle.octets.specs.Polynomial.{coefficient, plus, residue}
 use Rattle.octets.proofs.BitFacts.{bit_of_zero}
@@ -40,10 +39,6 @@ wide_low z s k h = get_or_append_left (of_word z) (of_bits 64 s) false k (omega 
 -- those from x^128 on
 pub wide_high : (z s k : ℕ) → 128 ≤ k → coefficient (wide z s) k ≡ coefficient (of_bits 64 s) (k - 128)
 wide_high z s k h = get_or-append_right (of_word z) (of_bits 64 s) 128 k false (length-of_word z) h
-
--- none from x^192 on
-wide_past : (z s k : ℕ) → 192 ≤ k → coefficient (wide z s) k ≡ false
-wide_past z s k h = wide_high z s k (omega arith) ∙ of_bits_past 64 s (k - 128) (omega arith)
 
 -- a word and the half word 0
 pub wide_alone : (n k : ℕ) → coefficient (wide n 0) k ≡ coefficient (of_word n) k
@@ -211,13 +206,3 @@ folded_at z s lz ls =
     ] in
     sym (residue_by m (wide z s) (of_word (folded z s)) (of_bits 64 s) refl by
     ∙ fun_ext (residue_of_lower m (of_word (folded z s)) refl (λ i h. of_word_past (folded z s) i h)))
-
--- what is folded is a word
-pub folded_lt : (z s : ℕ) → z < 2 ^ 128 → s < 2 ^ 64 → folded z s < 2 ^ 128
-folded_lt z s lz ls =
-    let f : ℕ = s * 2 ^ 64 in
-    let lf : f < 2 ^ 128 = omega arith in
-    xor_lt 128 z (bit_xor f (bit_xor (f / 2 ^ 1) (bit_xor (f / 2 ^ 2) (f / 2 ^ 7)))) lz
-    (xor_lt 128 f (bit_xor (f / 2 ^ 1) (bit_xor (f / 2 ^ 2) (f / 2 ^ 7))) lf
-    (xor_lt 128 (f / 2 ^ 1) (bit_xor (f / 2 ^ 2) (f / 2 ^ 7)) (omega arith)
-    (xor_lt 128 (f / 2 ^ 2) (f / 2 ^ 7) (omega arith) (omega arith))))

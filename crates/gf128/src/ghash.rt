@@ -85,7 +85,7 @@ impl<M: Multiply> Ghash<M> {
         self.pieces.pad16();
     }
 
-    /// GHASH of the text fed, padded by zeros to whole blocks: 16 bytes. It spends the state.
+    /// Returns GHASH of the text fed, padded by zeros to whole blocks: 16 bytes. Consumes the state.
     pub fn finish(mut self) -> Block
         ensures value { (h m : List ℕ) → Holds M.key_bytes self h m → result ≡ ghash h (pad16 m) }
         ensures is_block { IsBlock result }

@@ -99,7 +99,7 @@ impl<M: Multiply> Polyval<M> {
         self.pieces.pad16();
     }
 
-    /// POLYVAL of the text fed, padded by zeros to whole blocks: 16 bytes. It spends the state.
+    /// Returns POLYVAL of the text fed, padded by zeros to whole blocks: 16 bytes. Consumes the state.
     pub fn finish(mut self) -> Block
         ensures value { (h m : List ℕ) → PolyvalHolds M.key_bytes self h m → result ≡ polyval h (pad16 m) }
         ensures is_block { IsBlock result }

@@ -52,7 +52,7 @@ fn polyval_kept<M: Multiply>(multiplier: M, text: &[u8]) -> [u8; 16] {
     *state.finish().bytes()
 }
 
-// The same for POLYVAL.
+// Whether POLYVAL of the text is `want`, by each multiplier.
 fn has_polyval(key: &[u8; 16], text: &[u8], want: &[u8; 16]) -> bool {
     let block = reversed_mul_x(&Block::new(*key));
     polyval_of::<BitMul>(key, text) == *want

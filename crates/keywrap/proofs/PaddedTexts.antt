@@ -22,10 +22,6 @@ use Rattle.keywrap.proofs.Texts.{steps_length}
 use Rattle.keywrap.proofs.Bytes.{bytes_append, bytes_resized, bytes_take, bytes_drop, bytes_replicate}
 use Rattle.keywrap.proofs.Bytes.{bytes_number, same_front, same_back, steps_bytes, steps_one_to_one}
 
--- a list of sixteen bytes is its own front
-front_16 : (s : List ℕ) → length s ≡ 16 → take 16 s ≡ s
-front_16 s e = take_all 16 s (omega arith)
-
 -- one block
 pub transformed_one : (key s : List ℕ) → length s ≡ 16 → transformed key s ≡ cipher key s
 unfolding transformed
@@ -83,12 +79,6 @@ padded_long text =
     length-append text (replicate ((8 - length text % 8) % 8) 0)
     ∙ ap (λ n. length text + n) (length-replicate ((8 - length text % 8) % 8) 0) in
     (omega arith, omega arith, omega arith)
-
--- whole blocks are padded by nothing
-pub padded_whole : (text : List ℕ) → length text % 8 ≡ 0 → padded text ≡ text
-padded_whole text whole =
-    let none : (8 - length text % 8) % 8 ≡ 0 = omega (arith, whole) in
-    ap (λ n. text ++ replicate n 0) none ∙ append-nil text
 
 -- what the wrapping of a text begins with
 abbrev pub start : List ℕ → List ℕ
@@ -268,12 +258,6 @@ few_zeros n l = take_zeros 8 n l where
   take_zeros m zero l = refl
   take_zeros zero (suc n) l = absurd (omega arith)
   take_zeros (suc m) (suc n) l = ap (λ (xs : List ℕ). 0 ∷ xs) (take_zeros m n (omega arith))
-
--- the alternative initial value, in its two parts
-pub value_of : (n : ℕ) (count first second value : List ℕ) → count ≡ bytes_high_first 4 n → first ≡ constant
-    → second ≡ count
-    → value ≡ first ++ second → value ≡ alternative_value n
-value_of n count first second value e f h k = k ∙ ap₂ (λ x y. x ++ y) f (h ∙ e)
 
 -- a start that was put together part by part
 pub started : (text value first second last : List ℕ) → value ≡ alternative_value (length text)

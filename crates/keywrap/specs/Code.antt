@@ -1,3 +1,2 @@
 -- How the code keeps the register. Wrapping is defined without it.
 pub mod Places
-pub mod Rounds

@@ -1,6 +1,5 @@
 pub mod Wrapping
 pub mod Padded
-pub mod Semiblocks
 pub mod Blocks
 pub mod Refusals
 pub mod Exports

@@ -1,6 +1,6 @@
 -- AES Key Wrap with Padding (RFC 5649, 3 and 4; SP 800-38F, 6.3). The register is that of RFC 3394.
 use Rattle.std.specs.Prelude.{◌≡◌, ℕ, ◌+◌, ◌-◌, ◌*◌, ◌/◌, ◌%◌, ◌^◌, ◌<◌, ◌≤◌, List, [], ◌∷◌, ◌++◌, length}
-use Rattle.std.specs.Prelude.{replicate, ◌==◌, if◌then◌else◌}
+use Rattle.std.specs.Prelude.{take, drop, replicate, ◌==◌, if◌then◌else◌}
 use Rattle.std.specs.Int.{bytes_high_first}
 use Rattle.octets.specs.Bytes.{AreBytes}
 use Rattle.aes.specs.Cipher.{cipher, IsKey}
@@ -54,6 +54,19 @@ pub record UnwrappedPadded (key : List ℕ) (wrapped : List ℕ) (text : List �
   pub length_is : HasPaddableLength text
   pub bytes : AreBytes (length text) text
   pub is : wrapped ≡ padded_wrapping key text
+
+-- bytes that were room for A and for a text of n bytes, which started at offset 8, are its wrapping with
+-- padding
+abbrev pub WrappedPaddedInPlace : List ℕ → List ℕ → ℕ → List ℕ → Type 0
+WrappedPaddedInPlace key room n bytes =
+    HasPaddedRoom room n × UnwrappedPadded key bytes (take n (drop 8 room))
+
+-- bytes that were a wrapping with padding are the alternative initial value for n, its text of n bytes, and
+-- the zeros behind it
+abbrev pub UnwrappedPaddedInPlace : List ℕ → List ℕ → ℕ → List ℕ → Type 0
+UnwrappedPaddedInPlace key wrapped n bytes = (8 + n ≤ length bytes)
+    × UnwrappedPadded key wrapped (take n (drop 8 bytes))
+    × (bytes ≡ alternative_value n ++ padded (take n (drop 8 bytes)))
 
 -- wrapped is the wrapping of no text with padding
 abbrev pub IsNoPaddedWrapping : List ℕ → List ℕ → Type 0

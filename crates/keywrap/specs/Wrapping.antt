@@ -47,6 +47,10 @@ pub record Unwrapped (key : List ℕ) (wrapped : List ℕ) (text : List ℕ) : T
   pub bytes : AreBytes (length text) text
   pub is : wrapped ≡ wrapping key text
 
+-- bytes that were a wrapping are the default initial value and its text
+abbrev pub UnwrappedInPlace : List ℕ → List ℕ → List ℕ → Type 0
+UnwrappedInPlace key wrapped bytes = Unwrapped key wrapped (drop 8 bytes) × (take 8 bytes ≡ initial_value)
+
 -- wrapped is the wrapping of no text
 abbrev pub IsNoWrapping : List ℕ → List ℕ → Type 0
 IsNoWrapping key wrapped = (text : List ℕ) → ¬ Unwrapped key wrapped text

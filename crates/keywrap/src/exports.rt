@@ -1,9 +1,11 @@
-// What C calls: a slice crosses as a pointer and a length, and an outcome as its number.
+// What C calls: a slice crosses as a pointer and a length. Each call returns 0, or a fault's number:
+// `KeyLength` if the key is not 16, 24 or 32 bytes long, then as the call in place. It then changes nothing.
 
-ghost use Rattle.std.specs.Prelude.{◌≡◌, ℕ, List, take, drop, MatchResult};
+ghost use Rattle.std.specs.Prelude.{◌≡◌, ℕ, List, drop, MatchResult};
 ghost use Rattle.octets.specs.Numbers.{HasOutcome};
-ghost use Rattle.keywrap.specs.Wrapping.{Unwrapped, initial_value};
-ghost use Rattle.keywrap.specs.Padded.{UnwrappedPadded};
+ghost use Rattle.aes.specs.Cipher.{IsKey};
+ghost use Rattle.keywrap.specs.Wrapping.{Unwrapped, UnwrappedInPlace};
+ghost use Rattle.keywrap.specs.Padded.{WrappedPaddedInPlace, UnwrappedPaddedInPlace};
 ghost use Rattle.keywrap.specs.Refusals.{WrapInPlaceRefused, UnwrapInPlaceRefused};
 ghost use Rattle.keywrap.specs.Refusals.{PaddedWrapInPlaceRefused, PaddedUnwrapInPlaceRefused};
 ghost use Rattle.keywrap.specs.Exports.{KeyedRefused};
@@ -15,7 +17,7 @@ use octets::{Fault, outcome_number};
 
 // `wrap_in_place` under a key's bytes.
 fn wrap_bytes(key: &[u8], bytes: &mut [u8]) -> Result<(), Fault>
-    ensures { MatchResult result (λ _. Unwrapped key.now bytes.new (drop 8 bytes.old))
+    ensures { MatchResult result (λ _. IsKey key.now × Unwrapped key.now bytes.new (drop 8 bytes.old))
         (λ e. (bytes.new ≡ bytes.old) × KeyedRefused key.now (WrapInPlaceRefused bytes.old) e) }
 {
     match AesKey::from_slice(key) {
@@ -27,7 +29,7 @@ fn wrap_bytes(key: &[u8], bytes: &mut [u8]) -> Result<(), Fault>
 // `unwrap_in_place` under a key's bytes.
 fn unwrap_bytes(key: &[u8], bytes: &mut [u8]) -> Result<(), Fault>
     ensures answer { MatchResult result
-        (λ _. Unwrapped key.now bytes.old (drop 8 bytes.new) × (take 8 bytes.new ≡ initial_value))
+        (λ _. IsKey key.now × UnwrappedInPlace key.now bytes.old bytes.new)
         (λ e. (bytes.new ≡ bytes.old) × KeyedRefused key.now (UnwrapInPlaceRefused key.now bytes.old) e) }
 {
     match AesKey::from_slice(key) {
@@ -36,20 +38,19 @@ fn unwrap_bytes(key: &[u8], bytes: &mut [u8]) -> Result<(), Fault>
     }
 }
 
-/// Wraps the text that stands from place 8 on, as `wrap_in_place`.
+/// Wraps as `wrap_in_place`: `bytes` are eight bytes of room and a text, and become its wrapping.
 #[unsafe(no_mangle)]
 pub extern "C" fn aeadkit_wrap(key: &[u8], bytes: &mut [u8]) -> u32
-    ensures { HasOutcome result (Unwrapped key.now bytes.new (drop 8 bytes.old))
+    ensures { HasOutcome result (IsKey key.now × Unwrapped key.now bytes.new (drop 8 bytes.old))
         (λ e. (bytes.new ≡ bytes.old) × KeyedRefused key.now (WrapInPlaceRefused bytes.old) e) }
 {
     outcome_number(wrap_bytes(key, bytes))
 }
 
-/// Unwraps, as `unwrap_in_place`: the text then stands from place 8 on.
+/// Unwraps as `unwrap_in_place`: `bytes` are a wrapping, and become a6 eight times and its text.
 #[unsafe(no_mangle)]
 pub extern "C" fn aeadkit_unwrap(key: &[u8], bytes: &mut [u8]) -> u32
-    ensures { HasOutcome result
-        (Unwrapped key.now bytes.old (drop 8 bytes.new) × (take 8 bytes.new ≡ initial_value))
+    ensures { HasOutcome result (IsKey key.now × UnwrappedInPlace key.now bytes.old bytes.new)
         (λ e. (bytes.new ≡ bytes.old) × KeyedRefused key.now (UnwrapInPlaceRefused key.now bytes.old) e) }
 {
     outcome_number(unwrap_bytes(key, bytes))
@@ -58,7 +59,7 @@ pub extern "C" fn aeadkit_unwrap(key: &[u8], bytes: &mut [u8]) -> u32
 // `wrap_padded_in_place` under a key's bytes.
 fn wrap_padded_bytes(key: &[u8], bytes: &mut [u8], text_length: usize) -> Result<(), Fault>
     ensures { MatchResult result
-        (λ _. UnwrappedPadded key.now bytes.new (take text_length (drop 8 bytes.old)))
+        (λ _. IsKey key.now × WrappedPaddedInPlace key.now bytes.old text_length bytes.new)
         (λ e. (bytes.new ≡ bytes.old)
         × KeyedRefused key.now (PaddedWrapInPlaceRefused bytes.old text_length) e) }
 {
@@ -68,10 +69,10 @@ fn wrap_padded_bytes(key: &[u8], bytes: &mut [u8], text_length: usize) -> Result
     }
 }
 
-// `unwrap_padded_in_place` under a key's bytes, which leaves the text's length.
+// `unwrap_padded_in_place` under a key's bytes, which writes the text's length.
 fn unwrap_padded_bytes(key: &[u8], bytes: &mut [u8], text_length: &mut usize) -> Result<(), Fault>
     ensures { MatchResult result
-        (λ _. UnwrappedPadded key.now bytes.old (take text_length.new (drop 8 bytes.new)))
+        (λ _. IsKey key.now × UnwrappedPaddedInPlace key.now bytes.old text_length.new bytes.new)
         (λ e. (bytes.new ≡ bytes.old) × ((text_length.new ≡ text_length.old)
         × KeyedRefused key.now (PaddedUnwrapInPlaceRefused key.now bytes.old) e)) }
 {
@@ -87,26 +88,28 @@ fn unwrap_padded_bytes(key: &[u8], bytes: &mut [u8], text_length: &mut usize) ->
     }
 }
 
-/// Wraps with padding the text of `text_length` bytes that stands from place 8 on, as
-/// `wrap_padded_in_place`.
+/// Wraps as `wrap_padded_in_place`: `bytes` are eight bytes of room, a text of `text_length` bytes and room
+/// for its padding, and become its wrapping.
 #[unsafe(no_mangle)]
 pub extern "C" fn aeadkit_wrap_padded(key: &[u8], bytes: &mut [u8], text_length: usize) -> u32
-    ensures { HasOutcome result (UnwrappedPadded key.now bytes.new (take text_length (drop 8 bytes.old)))
+    ensures { HasOutcome result
+        (IsKey key.now × WrappedPaddedInPlace key.now bytes.old text_length bytes.new)
         (λ e. (bytes.new ≡ bytes.old)
         × KeyedRefused key.now (PaddedWrapInPlaceRefused bytes.old text_length) e) }
 {
     outcome_number(wrap_padded_bytes(key, bytes, text_length))
 }
 
-/// Unwraps with padding, as `unwrap_padded_in_place`: the text then stands from place 8 on, and
-/// `text_length` is its length.
+/// Unwraps as `unwrap_padded_in_place`: `bytes` are a wrapping, and become the alternative initial value, its
+/// text and zeros; `text_length` becomes the text's length.
 #[unsafe(no_mangle)]
 pub extern "C" fn aeadkit_unwrap_padded(
     key: &[u8],
     bytes: &mut [u8],
     text_length: &mut usize,
 ) -> u32
-    ensures { HasOutcome result (UnwrappedPadded key.now bytes.old (take text_length.new (drop 8 bytes.new)))
+    ensures { HasOutcome result
+        (IsKey key.now × UnwrappedPaddedInPlace key.now bytes.old text_length.new bytes.new)
         (λ e. (bytes.new ≡ bytes.old) × ((text_length.new ≡ text_length.old)
         × KeyedRefused key.now (PaddedUnwrapInPlaceRefused key.now bytes.old) e)) }
 {
@@ -154,7 +157,7 @@ mod tests {
         answer == number && bytes == *after
     }
 
-    // The same of unwrapping.
+    // Whether unwrapping so many of the bytes answers a number and leaves these.
     fn unwraps(
         key: &[u8],
         mut bytes: [u8; 24],

@@ -1,7 +1,7 @@
-// Wrapping and unwrapping in the caller's bytes. No memory is taken.
+// Wrapping and unwrapping in the caller's bytes. Nothing is allocated.
 
-ghost use Rattle.std.specs.Prelude.{◌≡◌, ℕ, List, take, drop, MatchResult, IsOk, OnOk, OnErr};
-ghost use Rattle.keywrap.specs.Wrapping.{Unwrapped, initial_value};
+ghost use Rattle.std.specs.Prelude.{◌≡◌, ℕ, List, drop, MatchResult, IsOk, OnErr};
+ghost use Rattle.keywrap.specs.Wrapping.{Unwrapped, UnwrappedInPlace};
 ghost use Rattle.keywrap.specs.Refusals.{WrapInPlaceRefused, UnwrapInPlaceRefused};
 
 use crate::steps::{
@@ -11,9 +11,8 @@ use crate::steps::{
 use aes::AesKey;
 use octets::Fault;
 
-/// Wraps the text that stands from place 8 on; whatever the first eight bytes are, they are room for A, and
-/// at the end all the bytes are the wrapping (RFC 3394, 2.2.1). `WrapLength` where the length is under 24
-/// or no multiple of 8; then every byte is as before.
+/// Wraps (RFC 3394, 2.2.1). `bytes` are eight bytes of room for A and the text, and become its wrapping.
+/// `WrapLength` if the length is under 24 or no multiple of 8. A refusal changes no byte.
 pub fn wrap_in_place(key: &AesKey, bytes: &mut [u8]) -> Result<(), Fault>
     ensures answer { MatchResult result (λ _. Unwrapped key.now bytes.new (drop 8 bytes.old))
         (WrapInPlaceRefused bytes.old) }
@@ -28,16 +27,15 @@ pub fn wrap_in_place(key: &AesKey, bytes: &mut [u8]) -> Result<(), Fault>
     }
 }
 
-/// Unwraps: at the end the default initial value, a6 eight times, stands in the first eight bytes, and the
-/// text from place 8 on (RFC 3394, 2.2.2). `WrapLength` where the length is under 24 or no multiple of 8,
-/// then `WrapIntegrity` where the bytes are the wrapping of no text under this key; then every byte is as
-/// before.
+/// Unwraps (RFC 3394, 2.2.2). `bytes` are a wrapping; they become the default initial value, a6 eight times,
+/// and the text, which starts at offset 8. In this order: `WrapLength` if the length is under 24 or no
+/// multiple of 8, `WrapIntegrity` if the bytes are the wrapping of no text under this key. A refusal changes
+/// no byte.
 pub fn unwrap_in_place(key: &AesKey, bytes: &mut [u8]) -> Result<(), Fault>
-    ensures answer { MatchResult result (λ _. Unwrapped key.now bytes.old (drop 8 bytes.new))
+    ensures answer { MatchResult result (λ _. UnwrappedInPlace key.now bytes.old bytes.new)
         (UnwrapInPlaceRefused key.now bytes.old) }
     ensures found { (text : List ℕ) → Unwrapped key.now bytes.old text
         → IsOk result × (drop 8 bytes.new ≡ text) }
-    ensures begins { OnOk result (take 8 bytes.new ≡ initial_value) }
     ensures kept { OnErr result (bytes.new ≡ bytes.old) }
 {
     if !has_wrapped_length(bytes) {

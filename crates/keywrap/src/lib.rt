@@ -1,7 +1,6 @@
 //! AES Key Wrap, with the default initial value (RFC 3394; SP 800-38F, 6.1 and 6.2) and with padding (RFC
 //! 5649). `wrap`, `unwrap`, `wrap_padded` and `unwrap_padded` make a new vector; their forms `_in_place`
-//! work in the caller's bytes and take no memory. `is_wrapping`, `is_no_wrapping` and their forms with
-//! padding tell of bytes that are read by `Semiblocks` whether they are a wrapping, and take none either.
+//! work in the caller's bytes and allocate nothing.
 #![tactic(auto)]
 
 ghost use Rattle.keywrap.specs.Wrapping.{HasOneText};
@@ -10,12 +9,8 @@ ghost use Rattle.keywrap.specs.Blocks.{WrapsByBlocks};
 
 mod exports;
 mod in_place;
-mod judged;
 mod padded;
 mod padded_in_place;
-mod passes;
-mod passes_back;
-mod semiblocks;
 mod steps;
 #[cfg(test)]
 mod tests;
@@ -24,10 +19,8 @@ mod uses;
 mod whole;
 
 pub use in_place::{unwrap_in_place, wrap_in_place};
-pub use judged::{is_no_padded_wrapping, is_no_wrapping, is_padded_wrapping, is_wrapping};
 pub use padded::{unwrap_padded, wrap_padded};
 pub use padded_in_place::{unwrap_padded_in_place, wrap_padded_in_place};
-pub use semiblocks::Semiblocks;
 pub use whole::{unwrap, wrap};
 
 /// The law of wrapping (RFC 3394): a wrapping has one text, and is eight bytes longer. The call does

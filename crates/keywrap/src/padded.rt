@@ -40,7 +40,7 @@ pub(crate) fn transform(key: &AesKey, bytes: &mut [u8])
     }
 }
 
-// The same undone, on A and the blocks.
+// Undoes `transform` on A and the blocks.
 fn untransform(key: &AesKey, first: &mut [u8; 8], blocks: &mut [u8])
     requires least { 8 ≤ length blocks.old }
     requires whole { length blocks.old % 8 ≡ 0 }
@@ -60,7 +60,7 @@ fn untransform(key: &AesKey, first: &mut [u8; 8], blocks: &mut [u8])
 }
 
 // The length that an alternative initial value tells.
-pub(crate) fn told_length(first: &[u8; 8]) -> Option<u32>
+fn told_length(first: &[u8; 8]) -> Option<u32>
     ensures { MatchOption result ((n : ℕ) → n < 2 ^ 32 → first.now ≢ alternative_value n)
         (λ n. (n < 2 ^ 32) × (first.now ≡ alternative_value n)) }
 {
@@ -76,7 +76,7 @@ pub(crate) fn told_length(first: &[u8; 8]) -> Option<u32>
 }
 
 // Whether all bytes are zero.
-pub(crate) fn are_zero(bytes: &[u8]) -> bool
+fn are_zero(bytes: &[u8]) -> bool
     ensures { result ≡ list_all (λ b. b == 0) bytes.now }
 {
     bytes.iter().all(|b| *b == 0)

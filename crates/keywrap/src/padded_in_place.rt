@@ -1,8 +1,8 @@
-// Wrapping and unwrapping with padding in the caller's bytes. No memory is taken.
+// Wrapping and unwrapping with padding in the caller's bytes. Nothing is allocated.
 
-ghost use Rattle.std.specs.Prelude.{◌≡◌, ℕ, ◌+◌, ◌≤◌, ◌++◌, ◌↔◌, List, length, take, drop, IsTrue, IfOk};
-ghost use Rattle.std.specs.Prelude.{MatchResult, OnErr};
-ghost use Rattle.keywrap.specs.Padded.{alternative_value, padded, HasPaddedRoom, UnwrappedPadded};
+ghost use Rattle.std.specs.Prelude.{◌≡◌, ℕ, ◌↔◌, List, take, drop, IsTrue, MatchResult, OnErr};
+ghost use Rattle.keywrap.specs.Padded.{HasPaddedRoom, UnwrappedPadded};
+ghost use Rattle.keywrap.specs.Padded.{WrappedPaddedInPlace, UnwrappedPaddedInPlace};
 ghost use Rattle.keywrap.specs.Refusals.{PaddedWrapInPlaceRefused, PaddedUnwrapInPlaceRefused};
 
 use crate::padded::{alternative_value, has_blocks, transform, unwrap_start};
@@ -21,14 +21,13 @@ fn has_padded_room(bytes: &[u8], text_length: usize) -> bool
         && bytes.len() - 8 - text_length < 8
 }
 
-/// Wraps with padding the text of `text_length` bytes that stands from place 8 on. What stands before it
-/// and past it is room: eight bytes for A, and the fewest bytes that fill the text's last block of eight.
-/// At the end all the bytes are the wrapping (RFC 5649, 4.1). In this order: `WrapLength` where the text is
-/// empty or the room is more or less, `TextTooLong` past 2^32 - 1 bytes of text; then every byte is as
-/// before.
+/// Wraps with padding (RFC 5649, 4.1). `bytes` are eight bytes of room for A, the text of `text_length`
+/// bytes, and as few bytes of room as make the length a multiple of 8; they become the wrapping. In this
+/// order: `WrapLength` if the text is empty or the room is more or less, `TextTooLong` if the text is longer
+/// than 2^32 - 1 bytes. A refusal changes no byte.
 pub fn wrap_padded_in_place(key: &AesKey, bytes: &mut [u8], text_length: usize) -> Result<(), Fault>
     ensures answer { MatchResult result
-        (λ _. UnwrappedPadded key.now bytes.new (take text_length (drop 8 bytes.old)))
+        (λ _. WrappedPaddedInPlace key.now bytes.old text_length bytes.new)
         (PaddedWrapInPlaceRefused bytes.old text_length) }
     ensures kept { OnErr result (bytes.new ≡ bytes.old) }
 {
@@ -45,17 +44,16 @@ pub fn wrap_padded_in_place(key: &AesKey, bytes: &mut [u8], text_length: usize) 
     Ok(())
 }
 
-/// Unwraps, and answers the text's length: at the end the alternative initial value stands in the first
-/// eight bytes, and the text from place 8 on, with its padding (RFC 5649, 4.2). In this order: `WrapLength`
-/// where the length is under 16 or no multiple of 8, `TextTooLong` past 2^32 + 8 bytes, `WrapIntegrity`
-/// where the bytes are the wrapping of no text with padding under this key; then every byte is as before.
+/// Unwraps with padding (RFC 5649, 4.2), and returns the text's length. `bytes` are a wrapping; they become
+/// the alternative initial value, the text, which starts at offset 8, and the zeros of its padding. In this
+/// order: `WrapLength` if the length is under 16 or no multiple of 8, `TextTooLong` if it is more than
+/// 2^32 + 8, `WrapIntegrity` if the bytes are the wrapping of no text with padding under this key. A refusal
+/// changes no byte.
 pub fn unwrap_padded_in_place(key: &AesKey, bytes: &mut [u8]) -> Result<usize, Fault>
-    ensures answer { MatchResult result (λ n. (8 + n ≤ length bytes.new)
-        × UnwrappedPadded key.now bytes.old (take n (drop 8 bytes.new)))
+    ensures answer { MatchResult result (λ n. UnwrappedPaddedInPlace key.now bytes.old n bytes.new)
         (PaddedUnwrapInPlaceRefused key.now bytes.old) }
     ensures found { (text : List ℕ) → UnwrappedPadded key.now bytes.old text
         → MatchResult result (λ n. take n (drop 8 bytes.new) ≡ text) (λ _. ⊥) }
-    ensures whole { IfOk result (λ n. bytes.new ≡ alternative_value n ++ padded (take n (drop 8 bytes.new))) }
     ensures kept { OnErr result (bytes.new ≡ bytes.old) }
 {
     if !has_blocks(bytes) {

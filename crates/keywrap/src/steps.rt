@@ -41,7 +41,7 @@ pub(crate) fn first_eight(bytes: &[u8]) -> [u8; 8]
 }
 
 // The XOR of half a block with the number of a step.
-pub(crate) fn numbered(half: &[u8; 8], t: u64) -> [u8; 8]
+fn numbered(half: &[u8; 8], t: u64) -> [u8; 8]
     ensures { result ≡ xor_bytes half.now (bytes_high_first 8 t) }
 {
     let mut sum = *half;

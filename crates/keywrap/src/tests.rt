@@ -4,7 +4,6 @@ use octets::{Fault, RefusingMemory};
 use std::alloc::{Allocator, Global};
 use std::process::Abort;
 
-mod judged;
 mod padded;
 
 // A key of n bytes is the first n of these.

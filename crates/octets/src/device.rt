@@ -17,7 +17,7 @@ pub trait Intake {
     // How many takes have failed, up to 2^64 - 1.
     ghost failures: { Self → ℕ };
 
-    /// Takes the next bytes into the beginning of `buf`, and answers how many they are: none only at the end,
+    /// Takes the next bytes into the beginning of `buf`, and returns how many they are: none only at the end,
     /// or for an empty `buf`. What stands past them is open. After a fault the bytes left are as they were.
     fn take(&mut self, buf: &mut [u8]) -> Result<usize, DeviceFault>
         ensures bound { ReadsAtMost result buf.new }
@@ -33,7 +33,7 @@ pub trait Outlet {
     // How many gives have failed, up to 2^64 - 1.
     ghost failures: { Self → ℕ };
 
-    /// Gives the first of `bytes`, and answers how many they are: none only for no bytes. A fault gives
+    /// Gives the first of `bytes`, and returns how many they are: none only for no bytes. A fault gives
     /// nothing.
     fn give(&mut self, bytes: &[u8]) -> Result<usize, DeviceFault>
         ensures bound { GivesSome result bytes.now }

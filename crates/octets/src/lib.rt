@@ -18,6 +18,7 @@ mod tests;
 mod transfer;
 #[cfg(test)]
 mod uses;
+mod work;
 
 pub use bytes::{Block, Key16, Key24, Key32, Nonce, Tag};
 pub use compare::{same, xor_into, xored};
@@ -29,6 +30,7 @@ pub use refusing::RefusingMemory;
 pub use script::{ScriptIntake, ScriptOutlet, Step};
 pub use std_io::{FromRead, ToWrite};
 pub use transfer::{fill, give_all};
+pub use work::{Idle, Stream, Work};
 
 /// Every polynomial has exactly one residue modulo a polynomial of degree at least 1.
 pub fn each_has_one_residue()

@@ -2,6 +2,8 @@
 
 ghost use Rattle.std.specs.Prelude.{◌≡◌, ℕ, ◌+◌, ◌*◌, ◌/◌, ◌%◌, ◌<◌, ◌++◌, List, [], length, take, drop};
 
+use crate::work::{Idle, Stream};
+
 /// What takes in whole blocks of 16 bytes, and keeps nothing of how they were cut.
 pub trait Absorb {
     // a value has taken in this text of whole blocks, under this key
@@ -12,6 +14,18 @@ pub trait Absorb {
         requires { length blocks.now % 16 ≡ 0 }
         ensures { (k m : List ℕ) → length m % 16 ≡ 0 → absorbed self.old k m
             → absorbed self.new k (m ++ blocks.now) };
+
+    /// Takes in any number of whole blocks, while `stream` XORs its next bytes into `bytes`, of any length.
+    /// The default masks first and takes in the blocks afterwards.
+    fn absorb_beside<S: Stream>(&mut self, blocks: &[u8], stream: &mut S, bytes: &mut [u8])
+        requires { length blocks.now % 16 ≡ 0 }
+        ensures absorbed { (k m : List ℕ) → length m % 16 ≡ 0 → absorbed self.old k m
+            → absorbed self.new k (m ++ blocks.now) }
+        ensures did { S.did stream.old stream.new bytes.old bytes.new }
+    {
+        stream.apply_beside(bytes, &mut Idle);
+        self.absorb(blocks);
+    }
 }
 
 /// A text that comes in pieces of any length: what took in its whole blocks of 16 bytes, and the bytes
@@ -109,6 +123,21 @@ impl<A: Absorb> Pieces<A> {
             let room = 16 - self.used;
             self.fill(&piece[..room]);
             self.update_whole(&piece[room..]);
+        }
+    }
+
+    /// Adds `piece` to the end of the text, while `stream` XORs its next bytes into `bytes`, both of any
+    /// length. The piece runs beside the stream only if it consists of whole blocks and no block is begun.
+    pub fn update_beside<S: Stream>(&mut self, piece: &[u8], stream: &mut S, bytes: &mut [u8])
+        ensures holds { (k m : List ℕ) → HoldsPieces A.absorbed self.old k m
+            → HoldsPieces A.absorbed self.new k (m ++ piece.now) }
+        ensures did { S.did stream.old stream.new bytes.old bytes.new }
+    {
+        if self.used == 0 && piece.len() % 16 == 0 {
+            self.core.absorb_beside(piece, stream, bytes);
+        } else {
+            stream.apply_beside(bytes, &mut Idle);
+            self.update(piece);
         }
     }
 

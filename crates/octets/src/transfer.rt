@@ -5,7 +5,7 @@ ghost use Rattle.octets.specs.Device.{Counts, Fills, GivesAll};
 
 use crate::device::{DeviceFault, Intake, Outlet};
 
-/// Takes until the buffer is full or the device is at its end, and answers how many bytes came.
+/// Takes until the buffer is full or the device is at its end, and returns how many bytes came.
 pub fn fill<I: Intake>(intake: &mut I, buf: &mut [u8]) -> Result<usize, DeviceFault>
     ensures bound { IfOk result (λ n. n ≤ length buf.new) }
     ensures bytes { Fills (I.left intake.old) (I.left intake.new) result buf.new }

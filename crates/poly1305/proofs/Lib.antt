@@ -1,3 +1,4 @@
 pub mod Products
 pub mod Texts
 pub mod Vectors
+pub mod PartialSums

@@ -61,7 +61,7 @@ whole_block_taken r f m q i s w v before number same step =
     ∙ ap (λ (x : ℕ). block_sum r m x % prime) next
 
 -- a whole block's number
-whole_number : (b : List ℕ) → length b ≡ 16 → block_number b ≡ from_le_bytes w128 b + 1 * 2 ^ 128
+pub whole_number : (b : List ℕ) → length b ≡ 16 → block_number b ≡ from_le_bytes w128 b + 1 * 2 ^ 128
 whole_number b len = rw (len, le_word b len) refl
 
 -- the word read from chunk i of whole blocks x that follow whole blocks m is what the block counts, but for

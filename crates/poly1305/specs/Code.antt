@@ -1,2 +1,3 @@
 -- How the code holds numbers modulo 2^130 - 5. The tag is defined without it.
 pub mod Residue
+pub mod PartialSums

@@ -23,6 +23,6 @@ HoldsBy factor p key m = HoldsPieces (PolySumHolds factor) p.pieces key m
 abbrev pub factor_of : WordMul → ℕ
 factor_of s = s.low + s.high * 2 ^ 64
 
--- the same for the multiplier in use: p holds the text m under the key
+-- p holds the text m under the key, by the multiplier in use
 abbrev pub Holds : PolyBy WordMul → List ℕ → List ℕ → Type 0
 Holds p key m = HoldsBy factor_of p key m

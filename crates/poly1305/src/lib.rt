@@ -3,6 +3,7 @@
 #![tactic(auto)]
 
 mod nibble_mul;
+mod partial_sum;
 mod poly;
 mod residue;
 #[cfg(test)]

@@ -4,8 +4,9 @@ ghost use Rattle.std.specs.Prelude.{◌≡◌, ℕ, ◌<◌, ◌++◌, List, [],
 ghost use Rattle.poly1305.specs.Poly1305.{block_number};
 
 use crate::Multiplier;
+use crate::partial_sum::PartialSum;
 use crate::residue::Residue;
-use octets::{Absorb, Pieces, Tag};
+use octets::{Absorb, Pieces, Stream, Tag};
 
 // The bits of r that the clamping keeps (RFC 8439, 2.5).
 const R_MASK: u128 = 0x0ffffffc0ffffffc0ffffffc0fffffff;
@@ -31,6 +32,14 @@ impl<M: Multiplier> Absorb for PolySum<M> {
             sum = self.multiplier.step(sum, u128::from_le_bytes(*block), 1);
         }
         self.sum = sum.residue();
+    }
+
+    fn absorb_beside<S: Stream>(&mut self, blocks: &[u8], stream: &mut S, bytes: &mut [u8]) {
+        let mut partial = PartialSum::new(&self.multiplier, self.sum.sum(), blocks);
+        stream.apply_beside(bytes, &mut partial);
+        let PartialSum { sum, left, .. } = partial;
+        self.sum = sum.residue();
+        self.absorb(left);
     }
 }
 
@@ -81,6 +90,16 @@ impl<M: Multiplier> PolyBy<M> {
         self.pieces.update(piece);
     }
 
+    /// Adds `piece`, of any length, to the text, while `stream` XORs its next bytes into `bytes`, of any
+    /// length. A piece runs beside the stream only if it consists of whole blocks and no block is begun.
+    pub fn update_beside<S: Stream>(&mut self, piece: &[u8], stream: &mut S, bytes: &mut [u8])
+        ensures holds { (k m : List ℕ) → HoldsBy M.factor self.old k m
+            → HoldsBy M.factor self.new k (m ++ piece.now) }
+        ensures did { S.did stream.old stream.new bytes.old bytes.new }
+    {
+        self.pieces.update_beside(piece, stream, bytes);
+    }
+
     /// Adds the fewest zero bytes that make the text's length a multiple of 16 bytes (RFC 8439, 2.8.1).
     pub fn pad16(&mut self)
         ensures { (k m : List ℕ) → HoldsBy M.factor self.old k m → HoldsBy M.factor self.new k (pad16 m) }
@@ -88,7 +107,7 @@ impl<M: Multiplier> PolyBy<M> {
         self.pieces.pad16();
     }
 
-    /// The tag of the text (RFC 8439, 2.5): 16 bytes. It spends the state.
+    /// Returns the tag of the text (RFC 8439, 2.5). Consumes the state.
     pub fn finish(self) -> Tag
         ensures value { (k m : List ℕ) → HoldsBy M.factor self k m → result ≡ poly1305 k m }
         ensures is_block { IsBlock result }

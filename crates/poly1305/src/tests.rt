@@ -89,7 +89,7 @@ fn empty_message_has_the_tag_s(rt: HostRuntime) {
     assert!(rt; has_tag(&KEY, &[&[]], &s));
 }
 
-// The same, with r = 1 and s = 0, and padded.
+// Whether each multiplier gives this tag under r = 1 and s = 0 to the pieces, padded so often.
 fn has_padded_tag(pieces: &[&[u8]], pads: usize, tag: &[u8; 16]) -> bool {
     let key = small_key(1, 0);
     tag_of::<WordMul>(&key, pieces, pads) == *tag && tag_of::<NibbleMul>(&key, pieces, pads) == *tag

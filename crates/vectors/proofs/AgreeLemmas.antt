@@ -1,16 +1,15 @@
--- What was found of the sealed bytes decides whether a record agrees.
+-- From what the sealed bytes hold to whether a record agrees.
 use Rattle.std.proofs.Common.{◌≡◌, ℕ, ◌+◌, Bool, true, false, inl, inr, List, [], ◌∷◌, ◌++◌, Option, Some}
 use Rattle.std.proofs.Common.{None, Result, Ok, Err, refl, sym, ap, ◌∙◌, subst}
-use Rattle.std.specs.Prelude.{◌↔◌, IsTrue, IfOk, OnOk, if◌then◌else◌}
+use Rattle.std.specs.Prelude.{◌↔◌, IsTrue, IfOk, OnOk, if◌then◌else◌, is_some, not}
 use Rattle.vectors.specs.Grammar.{Record}
-use Rattle.aead.specs.declared.suite.Suite as ciphers
-use Rattle.aead.specs.Sealing.{Setting, IsNoSealing}
+use Rattle.vectors.specs.Agreement.{HoldsBy, Agrees, TextIs}
 use Rattle.vectors.specs.declared.suite.Suite.{Suite}
-use Rattle.vectors.specs.declared.suite.Suite.TheVariants.{Aead}
-use Rattle.vectors.specs.Agreement.{HoldsBy, Agrees, AgreesWith}
+use Rattle.vectors.specs.declared.digits.Digits.{Digits}
+use Rattle.vectors.specs.Code.Views.{bytes_in, text_view}
 use Rattle.vectors.specs.Reports.{Judges}
 
--- a record counted as it was judged
+-- a record that was judged and counted makes the report of one more record
 pub judges : {E : Type 0} (result : Result (Unit {0}) E) (count more : ℕ) (bad worse : List ℕ) (r : Record)
     (b : Bool)
     → IsTrue b ↔ Agrees r
@@ -23,32 +22,16 @@ judges (Ok x) count more bad worse r false h m w =
       no : false ≡ true → ⊥
       no e = cc
 
--- sealed bytes that are the sealing of no text agree with `invalid`
-pub nothing_agrees : (e : Record) (b : Bool) (suite : ciphers.Suite) (s : Setting)
-    → IsTrue b ↔ IsNoSealing s e.sealed
-    → e.suite ≡ Aead suite → e.text ≡ None
-    → s ≡ record { suite = suite; key = e.key; nonce = e.nonce; aad = e.aad }
-    → IsTrue b ↔ Agrees e
-nothing_agrees e b suite s h is none same =
-    let here : IsTrue b ↔ ((text : List ℕ) → ¬ HoldsBy (Aead suite) e text) =
-    subst (λ (t : Setting). IsTrue b ↔ IsNoSealing t e.sealed) same h in
-    let held : IsTrue b ↔ ((text : List ℕ) → ¬ HoldsBy e.suite e text) =
-    subst (λ (u : Suite). IsTrue b ↔ ((text : List ℕ) → ¬ HoldsBy u e text)) (sym is) here in
-    subst (λ (t : Option (List ℕ)). IsTrue b ↔ AgreesWith e t) (sym none) held
+-- if a fact holds of no text, a record without a text has this fact, and one with a text has not
+pub none_is : (P : List ℕ → Type 0) (text : Option Digits) (b : Bool)
+    → ((x : List ℕ) → ¬ P x) → is_some text ≡ not b → IsTrue b ↔ TextIs P (text_view text)
+none_is P (Some d) true nothing e = absurd cc
+none_is P (Some d) false nothing e = (λ t. absurd cc, λ p. absurd (nothing (bytes_in d) p))
+none_is P None true nothing e = (λ t. nothing, λ p. refl)
+none_is P None false nothing e = absurd cc
 
--- sealed bytes that hold the record's text agree with it
-pub text_agrees : {E : Type 0} (e : Record) (b : Result Bool E) (suite : Suite) (text : List ℕ)
-    → e.suite ≡ suite → e.text ≡ Some text
-    → IfOk b (λ b. IsTrue b ↔ HoldsBy suite e text) → IfOk b (λ b. IsTrue b ↔ Agrees e)
-text_agrees e b suite text is some h =
-    let held = subst (λ (u : Suite). IfOk b (λ b. IsTrue b ↔ HoldsBy u e text)) (sym is) h in
-    subst (λ (t : Option (List ℕ)). IfOk b (λ b. IsTrue b ↔ AgreesWith e t)) (sym some) held
-
--- sealed bytes that hold no text agree with `invalid`
-pub no_text_agrees : {E : Type 0} (e : Record) (b : Result Bool E) (suite : Suite) → e.suite ≡ suite
-    → e.text ≡ None
-    → IfOk b (λ b. IsTrue b ↔ ((text : List ℕ) → ¬ HoldsBy suite e text)) → IfOk b (λ b. IsTrue b ↔ Agrees e)
-no_text_agrees e b suite is none h =
-    let held = subst (λ (u : Suite). IfOk b (λ b. IsTrue b ↔ ((text : List ℕ) → ¬ HoldsBy u e text)))
-    (sym is) h in
-    subst (λ (t : Option (List ℕ)). IfOk b (λ b. IsTrue b ↔ AgreesWith e t)) (sym none) held
+-- what is decided under the record's own suite is whether the record agrees
+pub held_agrees : {E : Type 0} (e : Record) (b : Result Bool E) (suite : Suite) → e.suite ≡ suite
+    → IfOk b (λ b. IsTrue b ↔ TextIs (HoldsBy suite e) e.text) → IfOk b (λ b. IsTrue b ↔ Agrees e)
+held_agrees e b suite is h =
+    subst (λ (u : Suite). IfOk b (λ b. IsTrue b ↔ TextIs (HoldsBy u e) e.text)) (sym is) h

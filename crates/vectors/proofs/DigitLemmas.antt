@@ -10,7 +10,7 @@ use Rattle.std.proofs.lemmas.List.{take-append-drop}
 use Rattle.std.proofs.lemmas.List.Folds.{list_all-append, list_all_at}
 use Rattle.std.proofs.lemmas.Grind.{common_steps, get_or-set_at}
 use Rattle.hex.specs.Hex as hex
-use Rattle.hex.specs.Hex.{is_hex_digit, IsBytes, hex_digit_value, digit_or_error, pair_value, ◌>>=◌}
+use Rattle.hex.specs.Hex.{is_hex_digit, hex_digit_value, digit_or_error, pair_value, ◌>>=◌}
 use Rattle.hex.specs.Hex.{decode_pairs}
 use Rattle.hex.specs.declared.error.FromHexError.{FromHexError}
 use Rattle.hex.proofs.HexLemmas.{decode_of-digits, decode_of-ok, decode_of-even}
@@ -42,10 +42,6 @@ spelled-digits digits bytes h =
 -- there are two digits for each byte
 pub length-bytes_of : (digits : List ℕ) → is_hex digits ≡ true → length digits ≡ 2 * length (bytes_of digits)
 length-bytes_of digits h = (decode_of-ok digits (bytes_of digits) (spells digits h)).2
-
--- each below 256
-pub bytes_of-small : (digits : List ℕ) → is_hex digits ≡ true → IsBytes (bytes_of digits)
-bytes_of-small digits h = (decode_of-ok digits (bytes_of digits) (spells digits h)).3
 
 -- ---- the digits of the first bytes
 

@@ -231,10 +231,6 @@ differs line f true h is =
     absurd (none_some f (sym no_field ∙ ap value_line (sym same) ∙ h))
 differs line f false h is = refl
 
--- `text` is not the name `cuts`
-text_is_no_cuts : bytes_eq (codes "text") (codes "cuts") ≡ false
-text_is_no_cuts = refl
-
 -- and nothing
 and_false : (a b : Bool) → b ≡ false → (a && b) ≡ false
 and_false true b e = e

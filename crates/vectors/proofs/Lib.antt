@@ -2,8 +2,6 @@ pub mod LineLemmas
 pub mod DigitLemmas
 pub mod FieldLemmas
 pub mod CutLemmas
-pub mod ComparedLemmas
-pub mod SealedLemmas
 pub mod AgreeLemmas
 pub mod Runs
 pub mod Places

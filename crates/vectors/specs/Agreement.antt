@@ -8,25 +8,22 @@ use Rattle.vectors.specs.declared.suite.Suite.TheVariants.{Aead, Wrap, WrapPad}
 use Rattle.vectors.specs.Suites.{suite_key_length, is_aead}
 use Rattle.vectors.specs.Grammar.{Record}
 
--- the sealed bytes are the sealing or the wrapping of the text by a suite, and the record's key, nonce
--- and associated data
+-- the record's sealed bytes are the sealing or the wrapping of the text under a suite, by the record's
+-- key, nonce and associated data
 abbrev pub HoldsBy : Suite → Record → List ℕ → Type 0
 HoldsBy (Aead suite) r text =
     Opened (record { suite = suite; key = r.key; nonce = r.nonce; aad = r.aad }) r.sealed text
 HoldsBy (Wrap aes) r text = Unwrapped r.key r.sealed text
 HoldsBy (WrapPad aes) r text = UnwrappedPadded r.key r.sealed text
 
--- the same by the record's suite
-abbrev pub Holds : Record → List ℕ → Type 0
-Holds r text = HoldsBy r.suite r text
+-- a fact holds of the text, or, if there is none, of no text
+abbrev pub TextIs : (List ℕ → Type 0) → Option (List ℕ) → Type 0
+TextIs P (Some text) = P text
+TextIs P None = (text : List ℕ) → ¬ P text
 
--- with a text, the sealed bytes hold it; with `invalid`, they hold no text
-abbrev pub AgreesWith : Record → Option (List ℕ) → Type 0
-AgreesWith r (Some text) = Holds r text
-AgreesWith r None = (text : List ℕ) → ¬ Holds r text
-
+-- the sealed bytes hold the record's text, or no text if the record says `invalid`
 abbrev pub Agrees : Record → Type 0
-Agrees r = AgreesWith r r.text
+Agrees r = TextIs (HoldsBy r.suite r) r.text
 
 -- the key and the nonce of a record have the lengths of its suite
 pub record IsSized (r : Record) : Type 0 where

@@ -2,5 +2,3 @@
 -- proved to be the grammar.
 pub mod Steps
 pub mod Views
-pub mod Compared
-pub mod Told

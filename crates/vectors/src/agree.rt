@@ -1,108 +1,70 @@
-// Whether a record agrees with its standard.
-ghost use Rattle.std.specs.Prelude.{◌≡◌, ◌↔◌, IfOk, IsTrue};
-ghost use Rattle.aead.specs.AnyCiphers.{one_pass_keyed, keyed_of};
+// Whether a record agrees with its standard: what its sealed bytes hold is compared with its text.
+ghost use Rattle.std.specs.Prelude.{◌≡◌, ◌↔◌, Some, IfOk, IsTrue, length};
+ghost use Rattle.aes.specs.Cipher.{IsKeyLength};
+ghost use Rattle.aead.specs.AnyCiphers.{keyed_of};
 ghost use Rattle.aead.specs.Ciphers.{setting};
-ghost use Rattle.aead.specs.Sealing.{Opened, IsNoSealing};
+ghost use Rattle.aead.specs.Sealing.{Opened};
+ghost use Rattle.keywrap.specs.Wrapping.{Unwrapped};
+ghost use Rattle.keywrap.specs.Padded.{UnwrappedPadded};
 ghost use Rattle.vectors.specs.declared.suite.Suite.TheVariants as suites;
-ghost use Rattle.vectors.specs.Code.Views.{bytes_in, entry_view};
-ghost use Rattle.vectors.specs.Agreement.{Agrees, IsSized};
+ghost use Rattle.vectors.specs.Code.Views.{bytes_in, entry_view, text_view};
+ghost use Rattle.vectors.specs.Agreement.{Agrees, IsSized, TextIs};
 
-use crate::comparison::Comparison;
 use crate::digits::Digits;
-use crate::intake::DigitIntake;
 use crate::place::Entry;
 use crate::suite::Suite;
-use crate::wrapped::{padded_agrees, wrapped_agrees};
-use aead::{
-    AnyAead, AnyOnePass, GcmSiv, open_stream_placed, seal_siv_stream_placed, seal_stream_placed,
-    sealing_has_one_text,
-};
-use octets::Nonce;
+use aead::{Aead, AnyAead, sealing_has_one_text};
+use aes::AesKey;
+use keywrap::{unwrap_in_place, unwrap_padded_in_place};
+use octets::{Nonce, Tag};
 use std::alloc::{AllocError, Allocator};
 
-// Whether the sealed bytes are the sealing of the text, by a cipher that reads it once.
-fn one_pass_seals(
-    cipher: &AnyOnePass,
-    nonce: &Nonce,
-    aad: Digits<'_>,
-    sealed: Digits<'_>,
-    text: Digits<'_>,
-) -> bool
-    ensures { IsTrue result
-        ↔ Opened (setting (one_pass_keyed cipher.now) nonce.now (bytes_in aad.entry)) (bytes_in sealed.entry)
-        (bytes_in text.entry) }
+// Whether a record's text is these bytes. A record that says `invalid` has no text.
+fn is_text(text: Option<Digits<'_>>, bytes: &[u8]) -> bool
+    ensures { IsTrue result ↔ (text_view text.entry ≡ Some bytes.now) }
 {
-    let mut reading = DigitIntake::new(text);
-    let mut out = Comparison::new(sealed);
-    let done = seal_stream_placed(cipher, nonce, &aad, &mut reading, &mut out);
-    out.is_whole(done.is_ok())
-}
-
-// Whether the sealed bytes are the sealing of the text, by AES-GCM-SIV, which reads it twice.
-fn siv_seals(
-    cipher: &GcmSiv,
-    nonce: &Nonce,
-    aad: Digits<'_>,
-    sealed: Digits<'_>,
-    text: Digits<'_>,
-) -> bool
-    ensures { IsTrue result
-        ↔ Opened (setting cipher.now nonce.now (bytes_in aad.entry)) (bytes_in sealed.entry)
-        (bytes_in text.entry) }
-{
-    let mut first = DigitIntake::new(text);
-    let mut second = DigitIntake::new(text);
-    let mut out = Comparison::new(sealed);
-    let done = seal_siv_stream_placed(cipher, nonce, &aad, &mut first, &mut second, &mut out);
-    out.is_whole(done.is_ok())
-}
-
-// Whether the sealed bytes are the sealing of the text.
-fn seals(
-    cipher: &AnyAead,
-    nonce: &Nonce,
-    aad: Digits<'_>,
-    sealed: Digits<'_>,
-    text: Digits<'_>,
-) -> bool
-    ensures { IsTrue result
-        ↔ Opened (setting (keyed_of cipher.now) nonce.now (bytes_in aad.entry)) (bytes_in sealed.entry)
-        (bytes_in text.entry) }
-{
-    match cipher {
-        AnyAead::OnePass(cipher) => one_pass_seals(cipher, nonce, aad, sealed, text),
-        AnyAead::Siv(cipher) => siv_seals(cipher, nonce, aad, sealed, text),
+    match text {
+        Some(digits) => digits.spell(bytes),
+        None => false,
     }
 }
 
-// Whether the sealed bytes are the sealing of no text: their opening is refused, and gave not one byte
-// of a text.
-fn seals_nothing(cipher: &AnyAead, nonce: &Nonce, aad: Digits<'_>, sealed: Digits<'_>) -> bool
-    ensures { IsTrue result
-        ↔ IsNoSealing (setting (keyed_of cipher.now) nonce.now (bytes_in aad.entry)) (bytes_in sealed.entry) }
+// Whether the sealed bytes are the sealing of the text, or of no text for `invalid`.
+fn sealing_agrees<A: Allocator>(
+    alloc: &A,
+    cipher: &AnyAead,
+    nonce: &Nonce,
+    aad: &[u8],
+    sealed: Digits<'_>,
+    text: Option<Digits<'_>>,
+) -> Result<bool, AllocError>
+    ensures { let s = setting (keyed_of cipher.now) nonce.now aad.now in IfOk result
+        (λ b. IsTrue b ↔ TextIs (Opened s (bytes_in sealed.entry)) (text_view text.entry)) }
 {
     sealing_has_one_text();
-    let mut measure = DigitIntake::new(sealed);
-    let mut verify = DigitIntake::new(sealed);
-    let mut write = DigitIntake::new(sealed);
-    let mut out = Comparison::new(Digits::none());
-    let done = open_stream_placed(
-        cipher,
-        nonce,
-        &aad,
-        &mut measure,
-        &mut verify,
-        &mut write,
-        &mut out,
-    );
-    out.is_refused(done.is_ok())
+    let count = sealed.byte_count();
+    if count < 16 {
+        return Ok(text.is_none());
+    }
+    let (front, back) = sealed.split_at(count - 16);
+    let mut tag = [0; 16];
+    back.write(&mut tag);
+    let mut body = front.bytes(alloc)?;
+    match cipher.open_in_place(nonce, aad, &mut body, &Tag::new(tag)) {
+        Ok(()) => Ok(is_text(text, &body)),
+        Err(_) => Ok(text.is_none()),
+    }
 }
 
 // Whether a record of authenticated encryption agrees.
-fn sealed_agrees(suite: aead::Suite, entry: &Entry<'_>) -> bool
+fn aead_agrees<A: Allocator>(
+    alloc: &A,
+    suite: aead::Suite,
+    entry: &Entry<'_>,
+) -> Result<bool, AllocError>
     requires sized { IsSized (entry_view entry.now) }
     requires suite { entry.now.suite ≡ suites.Aead suite }
-    ensures { IsTrue result ↔ Agrees (entry_view entry.now) }
+    ensures { IfOk result (λ b. IsTrue b ↔ Agrees (entry_view entry.now)) }
 {
     let mut key = [0; 32];
     let key = &mut key[..entry.key.byte_count()];
@@ -115,21 +77,68 @@ fn sealed_agrees(suite: aead::Suite, entry: &Entry<'_>) -> bool
     let Ok(nonce) = Nonce::from_slice(&nonce) else {
         unreachable!()
     };
-    match entry.text {
-        Some(text) => seals(&cipher, &nonce, entry.aad, entry.sealed, text),
-        None => seals_nothing(&cipher, &nonce, entry.aad, entry.sealed),
+    let aad = entry.aad.bytes(alloc)?;
+    sealing_agrees(alloc, &cipher, &nonce, &aad, entry.sealed, entry.text)
+}
+
+// The AES key that the digits spell.
+fn aes_key(digits: Digits<'_>) -> AesKey
+    requires { IsKeyLength (length (bytes_in digits)) }
+    ensures { result ≡ bytes_in digits.entry }
+{
+    let mut room = [0; 32];
+    let bytes = &mut room[..digits.byte_count()];
+    digits.write(bytes);
+    let Ok(key) = AesKey::from_slice(bytes) else {
+        unreachable!()
+    };
+    key
+}
+
+// Whether the sealed bytes are the wrapping of the text, or of no text for `invalid` (RFC 3394).
+fn wrapping_agrees<A: Allocator>(
+    alloc: &A,
+    key: &AesKey,
+    sealed: Digits<'_>,
+    text: Option<Digits<'_>>,
+) -> Result<bool, AllocError>
+    ensures { IfOk result
+        (λ b. IsTrue b ↔ TextIs (Unwrapped key.now (bytes_in sealed.entry)) (text_view text.entry)) }
+{
+    let mut bytes = sealed.bytes(alloc)?;
+    match unwrap_in_place(key, &mut bytes) {
+        Ok(()) => Ok(is_text(text, &bytes[8..])),
+        Err(_) => Ok(text.is_none()),
     }
 }
 
-// Whether a record agrees with its standard: its sealed bytes hold its text, or none where it says
-// `invalid`.
+// Whether the sealed bytes are the padded wrapping of the text, or of no text for `invalid` (RFC 5649).
+fn padded_wrapping_agrees<A: Allocator>(
+    alloc: &A,
+    key: &AesKey,
+    sealed: Digits<'_>,
+    text: Option<Digits<'_>>,
+) -> Result<bool, AllocError>
+    ensures { IfOk result
+        (λ b. IsTrue b ↔ TextIs (UnwrappedPadded key.now (bytes_in sealed.entry)) (text_view text.entry)) }
+{
+    let mut bytes = sealed.bytes(alloc)?;
+    match unwrap_padded_in_place(key, &mut bytes) {
+        Ok(count) => Ok(is_text(text, &bytes[8..8 + count])),
+        Err(_) => Ok(text.is_none()),
+    }
+}
+
+// Whether a record agrees: its sealed bytes hold its text, or no text if it says `invalid`.
 pub(crate) fn agrees<A: Allocator>(alloc: &A, entry: &Entry<'_>) -> Result<bool, AllocError>
     requires { IsSized (entry_view entry.now) }
     ensures { IfOk result (λ b. IsTrue b ↔ Agrees (entry_view entry.now)) }
 {
     match entry.suite {
-        Suite::Aead(suite) => Ok(sealed_agrees(suite, entry)),
-        Suite::Wrap(aes) => wrapped_agrees(alloc, aes, entry),
-        Suite::WrapPad(aes) => padded_agrees(alloc, aes, entry),
+        Suite::Aead(suite) => aead_agrees(alloc, suite, entry),
+        Suite::Wrap(_) => wrapping_agrees(alloc, &aes_key(entry.key), entry.sealed, entry.text),
+        Suite::WrapPad(_) => {
+            padded_wrapping_agrees(alloc, &aes_key(entry.key), entry.sealed, entry.text)
+        }
     }
 }

@@ -4,24 +4,19 @@
 ghost use Rattle.vectors.specs.Grammar.{HasOneReading};
 
 mod agree;
-mod associated_data;
-mod comparison;
 mod cuts;
 mod digits;
 mod fault;
 mod field;
-mod intake;
 mod lines;
 mod place;
 mod reading;
 mod report;
-mod semiblocks;
 mod suite;
 #[cfg(test)]
 mod tests;
 #[cfg(test)]
 mod uses;
-mod wrapped;
 
 pub use fault::VectorFault;
 pub use reading::check;

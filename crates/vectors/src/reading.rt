@@ -74,12 +74,12 @@ fn read<A: Allocator>(alloc: A, file: &[u8]) -> Result<Report<A>, VectorFault>
     }
 }
 
-/// The report of a vector file of format 1 or 2: how many records it has, and which of them disagree with
-/// their standard. The file is any bytes, and is read once. Where it is not in the grammar the answer is
-/// its first fault: the number of a line is the least one such that the lines up to it can't begin a
-/// file. `OutOfMemory` comes only where a record has ended, and a growth was refused in this call: memory
-/// is taken for a wrapping, and for the numbers in the report. Sealed bytes, texts and associated data take
-/// none.
+/// Returns the report of a vector file of format 1 or 2: how many records it has, and which of them disagree
+/// with their standard. The file is any bytes, and is read once. If it is not in the grammar, returns its
+/// first fault: the number of a line is the least one such that the lines up to it cannot begin a file.
+/// `OutOfMemory` comes only if a record has ended and an allocation failed in this call. Memory is allocated
+/// for the sealed bytes and the associated data of one record at a time, while it is judged, and for the
+/// numbers in the report.
 pub fn check<A: Allocator>(alloc: A, file: &[u8]) -> Result<Report<A>, VectorFault>
     // A report is that of the records which the file's lines make.
     ensures report { IfOk result (λ report. IsReport (lines_of file.now) report.records report.bad.items) }

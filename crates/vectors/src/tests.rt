@@ -8,7 +8,6 @@ use std::alloc::Global;
 use std::process::Abort;
 use std::str::from_utf8;
 
-mod associated_data;
 mod cuts;
 mod damaged;
 mod files;
@@ -64,7 +63,7 @@ fn fifth_invalid(rt: &(impl Abort + Alloc<A = Global>)) -> Vec<u8> {
     with_lines(rt, PUBLISHED, number, &[b"invalid".as_slice()])
 }
 
-// The same file as one of format 2.
+// A file of format 1, made one of format 2.
 fn newer(rt: &(impl Abort + Alloc<A = Global>), file: &[u8]) -> Vec<u8> {
     with_lines(
         rt,

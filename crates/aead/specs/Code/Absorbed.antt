@@ -1,5 +1,5 @@
 -- What the first of two readings leaves.
-use Rattle.std.specs.Prelude.{◌≡◌, ℕ, ◌<◌, List, ◌++◌, Bool, true, false, length, Option, Result, MatchResult}
+use Rattle.std.specs.Prelude.{◌≡◌, ℕ, ◌<◌, List, ◌++◌, Bool, true, false, length, get_or, Option, Result, MatchResult}
 use Rattle.std.specs.Io.KnownBytes.{Consumes, IsAtEnd}
 use Rattle.octets.specs.declared.fault.Fault.{Fault}
 use Rattle.aead.specs.declared.authenticator.Authenticator.{Authenticator}
@@ -12,7 +12,7 @@ abbrev pub TookPiece : {H : Type 0} → (H → Setting → List ℕ → Type 0) 
 TookPiece held s text room left left' after r =
     MatchResult r
     (λ n. (bytes : List ℕ) × Consumes left left' bytes × HoldsAuthenticator held after s (text ++ bytes)
-    × (length bytes ≡ n) × (n < room → IsAtEnd left'))
+    × (length bytes ≡ n) × (n < room → IsAtEnd left') × ((i : ℕ) → get_or bytes i 0 < 256))
     (λ _. (bytes : List ℕ) × Consumes left left' bytes)
 
 -- a first reading was taken in to its end, or is longer than the room

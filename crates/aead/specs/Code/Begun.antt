@@ -5,6 +5,7 @@ use Rattle.chacha.specs.States as chacha
 use Rattle.aead.specs.declared.begun_stream.BegunStream.{BegunStream}
 use Rattle.aead.specs.Suites.{ByChaCha, construction_of}
 use Rattle.aead.specs.Sealing.{Setting}
+use Rattle.aead.specs.Code.Masks.{Masks}
 
 -- m has made n bytes of the key stream from counter 1 on: used as many of those that are there, and made
 -- the others
@@ -16,3 +17,10 @@ pub record IsBegun (m : BegunStream) (key nonce : List ℕ) (n : ℕ) : Type 0 w
 -- and that is the mask of a message
 abbrev pub MadeByBegun : BegunStream → Setting → List ℕ → ℕ → Type 0
 MadeByBegun m s tag n = (construction_of s.suite ≡ ByChaCha) × IsBegun m s.key s.nonce n
+
+-- a call masks the next bytes
+abbrev pub DidBegun : BegunStream → BegunStream → List ℕ → List ℕ → Type 0
+DidBegun a b was now = Masks MadeByBegun a b was now
+
+pub begun_masks : (a b : BegunStream) (was now : List ℕ) → DidBegun a b was now → Masks MadeByBegun a b was now
+begun_masks a b was now d = d

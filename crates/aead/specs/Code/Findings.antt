@@ -7,9 +7,9 @@ use Rattle.octets.specs.declared.fault.Fault.{Fault}
 use Rattle.octets.specs.Masked.{masked}
 use Rattle.aead.specs.declared.engine.passes.Finding.{Finding}
 use Rattle.aead.specs.declared.engine.passes.Finding.TheVariants.{Differs, Unsealed, Sealed}
-use Rattle.aead.specs.Sealing.{Setting, Opened, IsNoSealing, mask_of}
-use Rattle.aead.specs.Code.Maskings.{opening_task}
-use Rattle.aead.specs.Code.Passes.{Stopped}
+use Rattle.aead.specs.Sealing.{Setting, Fits, Opened, IsNoSealing, mask_of, tag_of}
+use Rattle.aead.specs.Code.Maskings.{Task, task_mask, opening_task}
+use Rattle.aead.specs.Code.Passes.{Stopped, WentFar}
 
 -- x has this length and ends in this tag, and is a sealing or none; or it has another length or ends
 -- otherwise
@@ -33,6 +33,16 @@ abbrev pub PassedWhole : Setting → List ℕ → ℕ → Option (List ℕ) → 
 PassedWhole s tag len left left' taken taken' r =
     MatchResult r (λ f. WentWhole s tag len left left' taken taken' f)
     (λ _. Stopped (opening_task s tag) [] (len - 16) left left' taken taken')
+
+-- what a body of an allowed length would open to has this tag
+abbrev pub MakesTag : List ℕ → Task → List ℕ → Type 0
+MakesTag made t body = Fits t.setting body × (made ≡ tag_of t.setting (masked (task_mask t) 0 body))
+
+-- as far as its body, so many bytes of a reading were taken, which make this tag
+abbrev pub TookBody : Setting → List ℕ → ℕ → Option (List ℕ) → Option (List ℕ) → Option (List ℕ)
+    → Option (List ℕ) → ℕ → List ℕ → Type 0
+TookBody s tag len left left' taken taken' n made =
+    WentFar MakesTag (opening_task s tag) [] (len - 16) left left' taken taken' made n
 
 -- what came was this tag and nothing more, or not
 pub record Tail (tag : List ℕ) (left left' : Option (List ℕ)) (b : Bool) : Type 0 where

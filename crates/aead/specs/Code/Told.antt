@@ -1,5 +1,5 @@
 -- What each step of the stream opener answers, where its reading tells its bytes.
-use Rattle.std.specs.Prelude.{◌≡◌, ◌≢◌, ℕ, ◌+◌, ◌-◌, ◌≤◌, ◌<◌, ◌⊎◌, List, length, take, Option, Result, Ok}
+use Rattle.std.specs.Prelude.{◌≡◌, ℕ, ◌+◌, ◌-◌, ◌≤◌, ◌<◌, ◌⊎◌, List, length, take, Option, Result, Ok}
 use Rattle.std.specs.Prelude.{Err, MatchResult}
 use Rattle.std.specs.Io.KnownBytes.{Appends}
 use Rattle.octets.specs.declared.fault.Fault.{Fault}
@@ -12,6 +12,7 @@ use Rattle.aead.specs.declared.engine.passes.Finding.{Finding}
 use Rattle.aead.specs.declared.engine.passes.Finding.TheVariants.{Differs, Unsealed, Sealed}
 use Rattle.aead.specs.Sealing.{Setting, mask_of}
 use Rattle.aead.specs.Measure.{last_16}
+use Rattle.aead.specs.Refusals.{DueTo}
 use Rattle.aead.specs.Code.Findings.{IsFinding}
 
 abbrev pub MeasureTold : ℕ → List ℕ → ℕ → ℕ → Result Measured Fault → Type 0
@@ -47,8 +48,6 @@ WriteTold s tag len w taken taken' read read' wrote wrote' r =
     ⊎ ((k : ℕ) × Appends taken taken' (take k (masked (mask_of s tag) 0 (take (len - 16) w)))
     × (((r ≡ Err Read) × Failed read read') ⊎ ((r ≡ Err Write) × Failed wrote wrote')))
 
--- a step's fault is the reading's, which failed, or the call's own
-abbrev pub StepBlames : {T : Type 0} → ℕ → ℕ → Result T Fault → Type 0
-StepBlames read read' r =
-    MatchResult r (λ _. read' ≡ read)
-    (λ f. ((f ≡ Read) × Failed read read') ⊎ ((f ≢ Read) × (f ≢ Write) × (read' ≡ read)))
+-- a step's fault is the reading's, which failed, or one of the step's own
+abbrev pub StepBlames : {T : Type 0} → List Fault → ℕ → ℕ → Result T Fault → Type 0
+StepBlames own read read' r = DueTo own (read' ≡ read) (Failed read read') ⊥ r

@@ -30,8 +30,8 @@ fn slide(last: &mut [u8; 16], piece: &[u8])
 impl Measured {
     ghost use Rattle.aead.specs.Measure.{Measures};
 
-    // Reads to the end: `TextTooLong` once more than `limit` and 16 bytes were taken, `TooShort` where
-    // they are fewer than 16.
+    // Reads to the end: `TextTooLong` as soon as a byte more than `limit` and 16 was taken, and none is taken
+    // after it; `TooShort` where they are fewer than 16.
     pub(crate) fn of<I: Intake>(intake: &mut I, limit: u64) -> Result<Measured, Fault>
         requires { limit < 2 ^ 39 }
         ensures { Measures limit (I.left intake.old) (I.left intake.new) (I.failures intake.old)
@@ -41,16 +41,18 @@ impl Measured {
         let mut length = 0;
         let mut last = [0; 16];
         loop {
-            let n = match fill(intake, &mut buf) {
+            let want = (limit + 17 - length).min(4096) as usize;
+            let room = &mut buf[..want];
+            let n = match fill(intake, room) {
                 Ok(n) => n,
                 Err(_) => return Err(Fault::Read),
             };
-            slide(&mut last, &buf[..n]);
+            slide(&mut last, &room[..n]);
             length += n as u64;
             if length > limit + 16 {
                 return Err(Fault::TextTooLong);
             }
-            if n < 4096 {
+            if n < want {
                 if length < 16 {
                     return Err(Fault::TooShort);
                 }

@@ -1,6 +1,6 @@
 // The stream opener.
 
-ghost use Rattle.std.specs.Prelude.{◌≡◌, ℕ, ◌+◌, ◌≤◌, length, None, IfSome, IfOk};
+ghost use Rattle.std.specs.Prelude.{◌≡◌, ◌↔◌, ℕ, ◌+◌, ◌<◌, ◌≤◌, ◌∷◌, [], length, None, IfSome, IfOk};
 ghost use Rattle.aead.specs.Suites.{text_limit, aad_limit};
 ghost use Rattle.aead.specs.Ciphers.{setting};
 ghost use Rattle.aead.specs.AnyCiphers.{keyed_of};
@@ -8,13 +8,15 @@ ghost use Rattle.aead.specs.Verdict.{WhereTold, OpensStream, BlamesRightly, coun
 ghost use Rattle.aead.specs.SealStream.{GiveBlames};
 ghost use Rattle.aead.specs.Code.Told.{MeasureTold, VerifyTold, WriteTold, StepBlames, verify_answer};
 ghost use Rattle.aead.specs.Code.Told.{write_answer};
+ghost use Rattle.aead.specs.Code.Passes.{BlamesReading};
+ghost use Rattle.aead.specs.Code.Findings.{PassedWhole};
 
 use crate::aead::Aead;
 use crate::any::AnyAead;
-use crate::associated_data::AssociatedData;
 use crate::engine::measure::Measured;
 use crate::engine::opening::pass_opening;
 use crate::engine::passes::Finding;
+use crate::engine::verifying::verify_one_pass;
 use crate::suite::Suite;
 use octets::{DeviceFault, Fault, Intake, Nonce, Outlet};
 
@@ -35,7 +37,8 @@ impl Outlet for Discard {
 // The first step: the measured length and tag.
 fn measure_step<I: Intake>(suite: Suite, intake: &mut I) -> Result<Measured, Fault>
     ensures high { IfOk result (λ m. m.length ≤ text_limit suite + 16) }
-    ensures blame { StepBlames (I.failures intake.old) (I.failures intake.new) result }
+    ensures blame { StepBlames (Fault.TextTooLong ∷ Fault.TooShort ∷ []) (I.failures intake.old)
+        (I.failures intake.new) result }
     ensures told { IfSome (I.left intake.old)
         (λ m. MeasureTold (text_limit suite) m (I.failures intake.old) (I.failures intake.new) result) }
 {
@@ -63,42 +66,68 @@ fn answer_write(finding: Finding) -> Result<(), Fault>
     }
 }
 
-// The second step: whether the reading is a sealing of the measured length and tag.
-fn verify_step<A: AssociatedData, I: Intake>(
+// A whole reading, of which nothing is given: it is decrypted only where the tag is over the text.
+fn verify_reading<I: Intake>(
     cipher: &AnyAead,
     nonce: &Nonce,
-    aad: &A,
+    aad: &[u8],
+    measured: &Measured,
+    intake: &mut I,
+) -> Result<Finding, Fault>
+    requires aad_fits { length aad.now ≤ aad_limit (keyed_of cipher.now).suite }
+    requires high { measured.now.length ≤ text_limit (keyed_of cipher.now).suite + 16 }
+    ensures passed { PassedWhole (setting (keyed_of cipher.now) nonce.now aad.now)
+        measured.now.tag measured.now.length (I.left intake.old) (I.left intake.new) None None result }
+    ensures blame { BlamesReading (I.failures intake.old) (I.failures intake.new) result }
+{
+    match cipher {
+        AnyAead::OnePass(cipher) => verify_one_pass(cipher, nonce, aad, intake, measured),
+        AnyAead::Siv(_) => {
+            match pass_opening(cipher, nonce, aad, intake, measured, &mut Discard) {
+                Ok(finding) => Ok(finding),
+                Err(_) => Err(Fault::Read),
+            }
+        }
+    }
+}
+
+// The second step: whether the reading is a sealing of the measured length and tag.
+fn verify_step<I: Intake>(
+    cipher: &AnyAead,
+    nonce: &Nonce,
+    aad: &[u8],
     measured: &Measured,
     intake: &mut I,
 ) -> Result<(), Fault>
-    requires aad_fits { length (A.bytes aad.now) ≤ aad_limit (keyed_of cipher.now).suite }
+    requires aad_fits { length aad.now ≤ aad_limit (keyed_of cipher.now).suite }
     requires high { measured.now.length ≤ text_limit (keyed_of cipher.now).suite + 16 }
-    ensures blame { StepBlames (I.failures intake.old) (I.failures intake.new) result }
+    ensures blame { StepBlames (Fault.TagMismatch ∷ Fault.SourceChanged ∷ []) (I.failures intake.old)
+        (I.failures intake.new) result }
     ensures told { IfSome (I.left intake.old)
-        (λ v. VerifyTold (setting (keyed_of cipher.now) nonce.now (A.bytes aad.now))
+        (λ v. VerifyTold (setting (keyed_of cipher.now) nonce.now aad.now)
         measured.now.tag measured.now.length v (I.failures intake.old) (I.failures intake.new) result) }
 {
-    match pass_opening(cipher, nonce, aad, intake, measured, &mut Discard) {
+    match verify_reading(cipher, nonce, aad, measured, intake) {
         Ok(finding) => answer_verify(finding),
-        Err(_) => Err(Fault::Read),
+        Err(fault) => Err(fault),
     }
 }
 
 // The third step: each piece is authenticated again, decrypted and given.
-fn write_step<A: AssociatedData, I: Intake, O: Outlet>(
+fn write_step<I: Intake, O: Outlet>(
     cipher: &AnyAead,
     nonce: &Nonce,
-    aad: &A,
+    aad: &[u8],
     measured: &Measured,
     intake: &mut I,
     outlet: &mut O,
 ) -> Result<(), Fault>
-    requires aad_fits { length (A.bytes aad.now) ≤ aad_limit (keyed_of cipher.now).suite }
+    requires aad_fits { length aad.now ≤ aad_limit (keyed_of cipher.now).suite }
     requires high { measured.now.length ≤ text_limit (keyed_of cipher.now).suite + 16 }
-    ensures blame { GiveBlames (I.failures intake.old) (I.failures intake.new) (O.failures outlet.old)
-        (O.failures outlet.new) result }
+    ensures blame { GiveBlames (Fault.SourceChanged ∷ []) (I.failures intake.old) (I.failures intake.new)
+        (O.failures outlet.old) (O.failures outlet.new) result }
     ensures told { IfSome (I.left intake.old)
-        (λ w. WriteTold (setting (keyed_of cipher.now) nonce.now (A.bytes aad.now))
+        (λ w. WriteTold (setting (keyed_of cipher.now) nonce.now aad.now)
         measured.now.tag measured.now.length w (O.taken outlet.old) (O.taken outlet.new)
         (I.failures intake.old) (I.failures intake.new)
         (O.failures outlet.old) (O.failures outlet.new) result) }
@@ -113,8 +142,8 @@ fn write_step<A: AssociatedData, I: Intake, O: Outlet>(
 /// each piece being decrypted and given before the next one is taken. It takes no memory, and holds
 /// buffers of a fixed size.
 ///
-/// `AadTooLong` comes before any reading. `TextTooLong` comes once the measure reading gave more than 16
-/// bytes past the suite's limit of a text, `TooShort` where it has fewer than 16. `SourceChanged` comes
+/// `AadTooLong` comes before any reading. `TextTooLong` comes as soon as the measure reading has given 17
+/// bytes more than the suite's limit of a text, `TooShort` where it has fewer than 16. `SourceChanged` comes
 /// where the verify reading has another length or other last 16 bytes, then `TagMismatch` where it is no
 /// sealing: nothing is given up to here. `SourceChanged` comes then where the write reading has another
 /// length or other last 16 bytes, or is no sealing: what was given is to be thrown away, as after `Read`,
@@ -128,6 +157,7 @@ pub fn open_stream<I: Intake, J: Intake, K: Intake, O: Outlet>(
     write: &mut K,
     out: &mut O,
 ) -> Result<(), Fault>
+    ensures aad { (result ≡ Err Fault.AadTooLong) ↔ (aad_limit (keyed_of cipher.now).suite < length aad.now) }
     ensures blame { BlamesRightly
         (counted (I.failures measure.old) (J.failures verify.old) (K.failures write.old) (O.failures out.old))
         (counted (I.failures measure.new) (J.failures verify.new) (K.failures write.new) (O.failures out.new))
@@ -139,34 +169,8 @@ pub fn open_stream<I: Intake, J: Intake, K: Intake, O: Outlet>(
         (counted (I.failures measure.new) (J.failures verify.new) (K.failures write.new) (O.failures out.new))
         result) }
 {
-    open_stream_placed(cipher, nonce, &aad, measure, verify, write, out)
-}
-
-/// `open_stream` with associated data that is read by place, once for the verify reading and once for the
-/// write reading, in pieces of at most 256 bytes, and need not stand in memory. None of it is read before
-/// `AadTooLong`.
-pub fn open_stream_placed<A: AssociatedData, I: Intake, J: Intake, K: Intake, O: Outlet>(
-    cipher: &AnyAead,
-    nonce: &Nonce,
-    aad: &A,
-    measure: &mut I,
-    verify: &mut J,
-    write: &mut K,
-    out: &mut O,
-) -> Result<(), Fault>
-    ensures blame { BlamesRightly
-        (counted (I.failures measure.old) (J.failures verify.old) (K.failures write.old) (O.failures out.old))
-        (counted (I.failures measure.new) (J.failures verify.new) (K.failures write.new) (O.failures out.new))
-        result }
-    ensures opens { WhereTold (I.left measure.old) (J.left verify.old) (K.left write.old) (O.taken out.old)
-        (O.taken out.new)
-        (λ m v w given. OpensStream (setting (keyed_of cipher.now) nonce.now (A.bytes aad.now)) m v w given
-        (counted (I.failures measure.old) (J.failures verify.old) (K.failures write.old) (O.failures out.old))
-        (counted (I.failures measure.new) (J.failures verify.new) (K.failures write.new) (O.failures out.new))
-        result) }
-{
     let suite = cipher.suite();
-    suite.check_aad_count(aad.byte_count())?;
+    suite.check_aad(aad)?;
     let measured = match measure_step(suite, measure) {
         Ok(measured) => measured,
         Err(fault) => return Err(fault),

@@ -9,43 +9,37 @@ ghost use Rattle.aead.specs.Code.Passes.{Blames};
 ghost use Rattle.aead.specs.Code.Findings.{PassedWhole};
 
 use crate::any::{AnyAead, AnyOnePass};
-use crate::associated_data::AssociatedData;
 use crate::engine::measure::Measured;
 use crate::engine::passes::{Finding, pass};
-use crate::engine::placed::masking_placed;
 use crate::gcm::{Gcm, LONG};
 use crate::gcm_siv::GcmSiv;
 use crate::masking::Masking;
-use crate::nonced::Nonced;
+use crate::nonced::{Nonced, masking};
 use gf128::{Keyed128, PlacedMul, WideMul};
 use octets::{Fault, Intake, Nonce, Outlet, Tag};
 
 // A state that decrypts under a tag, and makes the tag of what it decrypted.
-fn opening_over<N: Nonced, A: AssociatedData>(
-    nonced: &N,
-    aad: &A,
-    tag: &Tag,
-) -> Masking<N::Stream, N::Hash>
-    requires { length (A.bytes aad.now) ≤ aad_limit (N.keyed nonced.now).suite }
+fn opening_over<N: Nonced>(nonced: &N, aad: &[u8], tag: &Tag) -> Masking<N::Stream, N::Hash>
+    requires { length aad.now ≤ aad_limit (N.keyed nonced.now).suite }
     ensures holds { HoldsMasking N.Stream.made N.Hash.held result
-        (opening_task (setting (N.keyed nonced.now) (N.nonce nonced.now) (A.bytes aad.now)) tag.now) [] }
+        (opening_task (setting (N.keyed nonced.now) (N.nonce nonced.now) aad.now) tag.now) [] }
     ensures none { result.authenticator.length ≡ 0 }
     ensures limit { result.limit ≡ text_limit (N.keyed nonced.now).suite }
 {
-    masking_placed(nonced, aad, tag, nonced.suite().is_one_pass())
+    masking(nonced, aad, tag, nonced.suite().is_one_pass())
 }
 
 // A whole reading, by a cipher with a nonce.
-fn pass_over<N: Nonced, A: AssociatedData, I: Intake, O: Outlet>(
+fn pass_over<N: Nonced, I: Intake, O: Outlet>(
     nonced: &N,
-    aad: &A,
+    aad: &[u8],
     intake: &mut I,
     measured: &Measured,
     outlet: &mut O,
 ) -> Result<Finding, Fault>
-    requires aad_fits { length (A.bytes aad.now) ≤ aad_limit (N.keyed nonced.now).suite }
+    requires aad_fits { length aad.now ≤ aad_limit (N.keyed nonced.now).suite }
     requires high { measured.now.length ≤ text_limit (N.keyed nonced.now).suite + 16 }
-    ensures passed { PassedWhole (setting (N.keyed nonced.now) (N.nonce nonced.now) (A.bytes aad.now))
+    ensures passed { PassedWhole (setting (N.keyed nonced.now) (N.nonce nonced.now) aad.now)
         measured.now.tag measured.now.length (I.left intake.old) (I.left intake.new)
         (O.taken outlet.old) (O.taken outlet.new) result }
     ensures blame { Blames (I.failures intake.old) (I.failures intake.new) (O.failures outlet.old)
@@ -56,17 +50,17 @@ fn pass_over<N: Nonced, A: AssociatedData, I: Intake, O: Outlet>(
 }
 
 // The same by AES-GCM, with a multiplier of the type `M`.
-fn pass_gcm<M: Keyed128, A: AssociatedData, I: Intake, O: Outlet>(
+fn pass_gcm<M: Keyed128, I: Intake, O: Outlet>(
     cipher: &Gcm,
     nonce: &Nonce,
-    aad: &A,
+    aad: &[u8],
     intake: &mut I,
     measured: &Measured,
     outlet: &mut O,
 ) -> Result<Finding, Fault>
-    requires aad_fits { length (A.bytes aad.now) ≤ aad_limit cipher.now.suite }
+    requires aad_fits { length aad.now ≤ aad_limit cipher.now.suite }
     requires high { measured.now.length ≤ text_limit cipher.now.suite + 16 }
-    ensures passed { PassedWhole (setting cipher.now nonce.now (A.bytes aad.now))
+    ensures passed { PassedWhole (setting cipher.now nonce.now aad.now)
         measured.now.tag measured.now.length (I.left intake.old) (I.left intake.new)
         (O.taken outlet.old) (O.taken outlet.new) result }
     ensures blame { Blames (I.failures intake.old) (I.failures intake.new) (O.failures outlet.old)
@@ -77,17 +71,17 @@ fn pass_gcm<M: Keyed128, A: AssociatedData, I: Intake, O: Outlet>(
 }
 
 // The same by AES-GCM-SIV.
-fn pass_siv<M: Keyed128, A: AssociatedData, I: Intake, O: Outlet>(
+fn pass_siv<M: Keyed128, I: Intake, O: Outlet>(
     cipher: &GcmSiv,
     nonce: &Nonce,
-    aad: &A,
+    aad: &[u8],
     intake: &mut I,
     measured: &Measured,
     outlet: &mut O,
 ) -> Result<Finding, Fault>
-    requires aad_fits { length (A.bytes aad.now) ≤ aad_limit cipher.now.suite }
+    requires aad_fits { length aad.now ≤ aad_limit cipher.now.suite }
     requires high { measured.now.length ≤ text_limit cipher.now.suite + 16 }
-    ensures passed { PassedWhole (setting cipher.now nonce.now (A.bytes aad.now))
+    ensures passed { PassedWhole (setting cipher.now nonce.now aad.now)
         measured.now.tag measured.now.length (I.left intake.old) (I.left intake.new)
         (O.taken outlet.old) (O.taken outlet.new) result }
     ensures blame { Blames (I.failures intake.old) (I.failures intake.new) (O.failures outlet.old)
@@ -100,17 +94,17 @@ fn pass_siv<M: Keyed128, A: AssociatedData, I: Intake, O: Outlet>(
 }
 
 // The same by a cipher of any suite.
-pub(crate) fn pass_opening<A: AssociatedData, I: Intake, O: Outlet>(
+pub(crate) fn pass_opening<I: Intake, O: Outlet>(
     cipher: &AnyAead,
     nonce: &Nonce,
-    aad: &A,
+    aad: &[u8],
     intake: &mut I,
     measured: &Measured,
     outlet: &mut O,
 ) -> Result<Finding, Fault>
-    requires aad_fits { length (A.bytes aad.now) ≤ aad_limit (keyed_of cipher.now).suite }
+    requires aad_fits { length aad.now ≤ aad_limit (keyed_of cipher.now).suite }
     requires high { measured.now.length ≤ text_limit (keyed_of cipher.now).suite + 16 }
-    ensures passed { PassedWhole (setting (keyed_of cipher.now) nonce.now (A.bytes aad.now))
+    ensures passed { PassedWhole (setting (keyed_of cipher.now) nonce.now aad.now)
         measured.now.tag measured.now.length (I.left intake.old) (I.left intake.new)
         (O.taken outlet.old) (O.taken outlet.new) result }
     ensures blame { Blames (I.failures intake.old) (I.failures intake.new) (O.failures outlet.old)
@@ -123,16 +117,16 @@ pub(crate) fn pass_opening<A: AssociatedData, I: Intake, O: Outlet>(
         }
         AnyAead::OnePass(AnyOnePass::Gcm(cipher)) => {
             if is_long {
-                pass_gcm::<WideMul, A, I, O>(cipher, nonce, aad, intake, measured, outlet)
+                pass_gcm::<WideMul, I, O>(cipher, nonce, aad, intake, measured, outlet)
             } else {
-                pass_gcm::<PlacedMul, A, I, O>(cipher, nonce, aad, intake, measured, outlet)
+                pass_gcm::<PlacedMul, I, O>(cipher, nonce, aad, intake, measured, outlet)
             }
         }
         AnyAead::Siv(cipher) => {
             if is_long {
-                pass_siv::<WideMul, A, I, O>(cipher, nonce, aad, intake, measured, outlet)
+                pass_siv::<WideMul, I, O>(cipher, nonce, aad, intake, measured, outlet)
             } else {
-                pass_siv::<PlacedMul, A, I, O>(cipher, nonce, aad, intake, measured, outlet)
+                pass_siv::<PlacedMul, I, O>(cipher, nonce, aad, intake, measured, outlet)
             }
         }
     }

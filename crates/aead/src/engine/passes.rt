@@ -1,6 +1,6 @@
 // One pass over a reading: each piece is masked, authenticated and given.
 
-ghost use Rattle.std.specs.Prelude.{◌≡◌, ℕ, ◌+◌, ◌≤◌, List, [], length, IfOk};
+ghost use Rattle.std.specs.Prelude.{◌≡◌, ℕ, ◌+◌, ◌≤◌, List, [], length, Option, IfOk};
 ghost use Rattle.aead.specs.Suites.{text_limit};
 ghost use Rattle.aead.specs.Sealing.{Setting};
 ghost use Rattle.aead.specs.Code.Maskings.{Task, HoldsMasking, opening_task};
@@ -23,7 +23,7 @@ pub(crate) enum Finding {
     Sealed,
 }
 
-ghost use Rattle.aead.specs.Code.Findings.{PassedWhole, Ends};
+ghost use Rattle.aead.specs.Code.Findings.{PassedWhole, TookBody, Ends};
 ghost use Rattle.aead.specs.Code.Extents.{PassedAll, HasMore};
 
 // One piece: at most what the buffer holds.
@@ -95,6 +95,35 @@ fn ends_with<I: Intake>(intake: &mut I, tag: &Tag) -> Result<bool, Fault>
     }
 }
 
+// How a reading compares with the measured one. So many bytes of its body came, and they make this tag: what
+// is left has to be the measured tag and nothing more.
+pub(crate) fn finding_of<I: Intake>(
+    intake: &mut I,
+    measured: &Measured,
+    came: u64,
+    made: Tag,
+) -> Result<Finding, Fault>
+    ensures found { (s : Setting) (left taken taken' : Option (List ℕ)) →
+        TookBody s measured.now.tag measured.now.length left (I.left intake.old) taken taken' came made →
+        PassedWhole s measured.now.tag measured.now.length left (I.left intake.new) taken taken' result }
+    ensures blame { BlamesReading (I.failures intake.old) (I.failures intake.new) result }
+{
+    if came < measured.length - 16 {
+        return Ok(Finding::Differs);
+    }
+    match ends_with(intake, &measured.tag) {
+        Ok(true) => {
+            if same(made.bytes(), measured.tag.bytes()) {
+                Ok(Finding::Sealed)
+            } else {
+                Ok(Finding::Unsealed)
+            }
+        }
+        Ok(false) => Ok(Finding::Differs),
+        Err(fault) => Err(fault),
+    }
+}
+
 // A whole reading: the body of the measured length, the measured tag, the end.
 pub(crate) fn pass<I: Intake, O: Outlet, S: MaskStream, H: TagHash>(
     intake: &mut I,
@@ -109,23 +138,8 @@ pub(crate) fn pass<I: Intake, O: Outlet, S: MaskStream, H: TagHash>(
     ensures blame { Blames (I.failures intake.old) (I.failures intake.new) (O.failures outlet.old)
         (O.failures outlet.new) result }
 {
-    let body = measured.length - 16;
-    let n = match pass_body(intake, &mut opening, body, outlet) {
-        Ok(n) => n,
-        Err(fault) => return Err(fault),
-    };
-    if n < body {
-        return Ok(Finding::Differs);
-    }
-    match ends_with(intake, &measured.tag) {
-        Ok(true) => {
-            if same(opening.finish().bytes(), measured.tag.bytes()) {
-                Ok(Finding::Sealed)
-            } else {
-                Ok(Finding::Unsealed)
-            }
-        }
-        Ok(false) => Ok(Finding::Differs),
+    match pass_body(intake, &mut opening, measured.length - 16, outlet) {
+        Ok(n) => finding_of(intake, measured, n, opening.finish()),
         Err(fault) => Err(fault),
     }
 }

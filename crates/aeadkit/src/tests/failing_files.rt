@@ -116,10 +116,11 @@ fn calls_that_fail_after_single_bytes(rt: HostRuntime) {
     each_call_of(&rt, &GCM_SIV, 1, (Wrong::Fails, true));
 }
 
-// Runs `open-file` over three readings of a file, and compares the status, standard error, and whether the
-// file was made.
-fn opens<'b>(
+// Runs a file command over three readings of a file, and compares the status, standard error, and whether
+// the file was made.
+fn runs_on<'b>(
     rt: &(impl Abort + Alloc<A = Global>),
+    words: &[&str],
     readings: (&'b [u8], &'b [u8], &'b [u8]),
     status: u8,
     complaint: &str,
@@ -134,9 +135,20 @@ fn opens<'b>(
         third,
         script,
     };
-    let words = file_words("open-file", &CHACHA, "a", "b");
-    runs_over(rt, &files, &words, status, "", complaint);
+    runs_over(rt, &files, words, status, "", complaint);
     assert_eq!(rt; log.made.get(), made);
+}
+
+// Runs `open-file` over three readings of a file.
+fn opens<'b>(
+    rt: &(impl Abort + Alloc<A = Global>),
+    readings: (&'b [u8], &'b [u8], &'b [u8]),
+    status: u8,
+    complaint: &str,
+    made: bool,
+) {
+    let words = file_words("open-file", &CHACHA, "a", "b");
+    runs_on(rt, &words, readings, status, complaint, made);
 }
 
 // A sealing with one bit of its body changed.
@@ -195,4 +207,21 @@ fn first_reading_is_short(rt: HostRuntime) {
         complaint,
         false,
     );
+}
+
+// By AES-GCM-SIV a second reading of a text that differs from the first, in a byte or in its length, is
+// `SourceChanged`, after the file was made.
+#[test]
+fn second_reading_of_a_text_differs(rt: HostRuntime) {
+    let text = bytes(&rt, GCM_SIV.text);
+    let mut other = bytes(&rt, GCM_SIV.text);
+    if let Some(byte) = other.get_mut(0) {
+        *byte ^= 1;
+    }
+    let longer = bytes(&rt, GCM_SIV.sealed);
+    let words = file_words("seal-file", &GCM_SIV, "a", "b");
+    let complaint = "aeadkit: SourceChanged\n";
+    for second in [other.as_slice(), longer.as_slice()] {
+        runs_on(&rt, &words, (&text, second, second), 3, complaint, true);
+    }
 }

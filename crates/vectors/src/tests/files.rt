@@ -39,18 +39,6 @@ pub fn add(rt: &(impl Abort + Alloc<A = Global>), file: &mut Vec<u8>, line: &[u8
     file.push(b'\n').expect(rt, "memory");
 }
 
-/// Adds some text and the digits of some bytes, as a line.
-pub fn add_digits(
-    rt: &(impl Abort + Alloc<A = Global>),
-    file: &mut Vec<u8>,
-    start: &[u8],
-    bytes: &[u8],
-) {
-    let digits = hex::encode(rt.alloc(), bytes).expect(rt, "memory");
-    file.extend_from_slice(start).expect(rt, "memory");
-    add(rt, file, digits.as_bytes());
-}
-
 /// A file whose lines are these bytes, and a LF behind each.
 pub fn with_lines(
     rt: &(impl Abort + Alloc<A = Global>),

@@ -1,16 +1,14 @@
 // Each request for memory is refused in turn, and the answer is `OutOfMemory` each time.
-use super::files::{TWO_RECORDS, add, add_digits};
+use super::files::first_lines;
 use crate::fault::VectorFault;
 use crate::reading::check;
 use crate::report::Report;
-use aead::{AnyAead, seal};
-use aes::AesKey;
-use keywrap::wrap_padded;
-use octets::{Nonce, RefusingMemory};
+use octets::RefusingMemory;
 use std::alloc::{Allocator, Global};
 use std::process::Abort;
 
-// A record with associated data, one of each kind of key wrapping, and one that disagrees.
+// A record with associated data, one of each kind of key wrapping, and two that say `invalid`: a wrapping
+// with padding, which disagrees, and a sealing with another last digit.
 const GROWING: &str = "format = 2
 suite = aes-128-gcm
 key = feffe9928665731c6d6a8f9467308308
@@ -28,32 +26,19 @@ suite = aes-192-wrap-pad
 key = 5840df6e29b02af1ab493b705bf16ea1ae8338f4dcc176a8
 sealed = afbeb0f07dfbf5419200f2ccb50bb24f
 text = 466f7250617369
-suite = aes-128-gcm
-key = 00000000000000000000000000000000
-nonce = 000000000000000000000000
-aad =
-sealed = 58e2fccefa7e3061367f1d57a4e7455a
-invalid
-";
-
-// Wrappings with padding: the published ones, one of them with another last digit and `invalid`, and one
-// that says `invalid` and is a wrapping.
-const PADDED: &str = "format = 2
-suite = aes-192-wrap-pad
-key = 5840df6e29b02af1ab493b705bf16ea1ae8338f4dcc176a8
-sealed = 138bdeaa9b8fa7fc61f97742e72248ee5ae6ae5360d1ae6a5f54f373fa543b6a
-text = c37b7e6492584340bed12207808941155068f738
-suite = aes-192-wrap-pad
-key = 5840df6e29b02af1ab493b705bf16ea1ae8338f4dcc176a8
-sealed = afbeb0f07dfbf5419200f2ccb50bb24e
-invalid
 suite = aes-192-wrap-pad
 key = 5840df6e29b02af1ab493b705bf16ea1ae8338f4dcc176a8
 sealed = afbeb0f07dfbf5419200f2ccb50bb24f
 invalid
+suite = aes-128-gcm
+key = 00000000000000000000000000000000
+nonce = 000000000000000000000000
+aad =
+sealed = 0388dace60b6a392f328c2b971b2fe78ab6e47d42cec13bdf53a67b21257bdde
+invalid
 ";
 
-// Whether an answer is the one that is due: `OutOfMemory` where a request was refused, and else the report.
+// Whether an answer is the one that is due: `OutOfMemory` if a request was refused, else the report.
 fn is_due<A: Allocator + Drop>(
     answer: Result<Report<A>, VectorFault>,
     records: u64,
@@ -69,7 +54,15 @@ fn is_due<A: Allocator + Drop>(
     }
 }
 
-// How many requests for memory `check` makes of a file. Each is refused in turn; at last none is refused.
+// Whether an answer is this fault.
+fn is_fault<A: Allocator + Drop>(answer: Result<Report<A>, VectorFault>, due: VectorFault) -> bool {
+    match answer {
+        Ok(_) => false,
+        Err(fault) => fault == due,
+    }
+}
+
+// The number of requests for memory that `check` makes for a file. Each is refused in turn, until none is.
 fn requests(
     rt: &(impl Abort + Alloc<A = Global>),
     file: &[u8],
@@ -88,60 +81,25 @@ fn requests(
     None
 }
 
-// Adds a record of a sealing of a text, with as much associated data.
-fn add_sealing(rt: &(impl Abort + Alloc<A = Global>), file: &mut Vec<u8>, text: &[u8]) {
-    let key = [7u8; 16];
-    let nonce = Nonce::from_slice(&[3; 12]).expect(rt, "a nonce");
-    let cipher = AnyAead::new(aead::Suite::Aes128GcmSiv, &key).expect(rt, "a key");
-    let sealed = seal(rt.alloc(), &cipher, &nonce, text, text).expect(rt, "a sealing");
-    add(rt, file, b"suite = aes-128-gcm-siv");
-    add_digits(rt, file, b"key = ", &key);
-    add_digits(rt, file, b"nonce = ", &[3; 12]);
-    add_digits(rt, file, b"aad = ", text);
-    add_digits(rt, file, b"sealed = ", &sealed);
-    add_digits(rt, file, b"text = ", text);
-}
-
-// Adds a record of the wrapping of a text with padding.
-fn add_wrapping(rt: &(impl Abort + Alloc<A = Global>), file: &mut Vec<u8>, text: &[u8]) {
-    let bytes = [7u8; 16];
-    let key = AesKey::from_slice(&bytes).expect(rt, "a key");
-    let wrapped = wrap_padded(rt.alloc(), &key, text).expect(rt, "a wrapping");
-    add(rt, file, b"suite = aes-128-wrap-pad");
-    add_digits(rt, file, b"key = ", &bytes);
-    add_digits(rt, file, b"sealed = ", &wrapped);
-    add_digits(rt, file, b"text = ", text);
-}
-
-// A file of two large records with a text of so many bytes.
-fn large_file(rt: &(impl Abort + Alloc<A = Global>), length: usize) -> Vec<u8> {
-    let text = vec![in rt.alloc(); 5u8; length].expect(rt, "memory");
-    let mut file = Vec::new(rt.alloc());
-    add(rt, &mut file, b"format = 2");
-    add_sealing(rt, &mut file, &text);
-    add_wrapping(rt, &mut file, &text);
-    file
-}
-
+// Two for the first record, its sealed bytes and its associated data, one for each further record, and one
+// for the number of the record that disagrees.
 #[test]
 fn each_refused_growth_is_out_of_memory(rt: HostRuntime) {
-    assert!(rt; requests(&rt, GROWING.as_bytes(), 4, &[4]) == Some(3));
+    assert!(rt; requests(&rt, GROWING.as_bytes(), 5, &[4]) == Some(7));
 }
 
+// Cut behind the format line, and before the last line of the first record.
 #[test]
-fn refused_growths_at_wrappings_with_padding(rt: HostRuntime) {
-    assert!(rt; requests(&rt, PADDED.as_bytes(), 3, &[3]) == Some(4));
-}
-
-#[test]
-fn large_records_take_no_memory(rt: HostRuntime) {
-    let file = large_file(&rt, 70_000);
-    assert!(rt; requests(&rt, &file, 2, &[]) == Some(0));
-}
-
-#[test]
-fn small_sealings_take_no_memory(rt: HostRuntime) {
-    assert!(rt; requests(&rt, TWO_RECORDS.as_bytes(), 2, &[]) == Some(0));
+fn no_request_before_a_record_has_ended(rt: HostRuntime) {
+    for (count, due) in [
+        (1usize, VectorFault::NoRecords),
+        (6, VectorFault::Unfinished(6)),
+    ] {
+        let file = first_lines(&rt, GROWING, count);
+        let memory = RefusingMemory::after(0, rt.alloc());
+        assert!(rt; is_fault(check(&memory, &file), due), "{count}");
+        assert!(rt; !memory.has_refused(), "{count}");
+    }
 }
 
 // A check that gives up where memory was there.
@@ -155,7 +113,7 @@ fn a_check_that_always_gives_up_is_caught(rt: HostRuntime) {
 }
 
 #[test]
-fn a_bad_record_for_a_want_of_memory_is_caught(rt: HostRuntime) {
+fn a_bad_record_for_an_allocation_failure_is_caught(rt: HostRuntime) {
     let mut bad = Vec::new(rt.alloc());
     bad.push(1).expect(&rt, "memory");
     let answer = Ok(Report { records: 2, bad });

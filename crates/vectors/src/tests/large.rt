@@ -1,71 +1,62 @@
-// Records of key wrapping that are too large for a room: they are judged by semiblocks.
-use super::files::{add, add_digits};
-use crate::reading::check;
+// Large records, each the only one of a file whose last line is its text.
+use super::changed;
+use super::files::{add, answer};
+use aead::{AnyAead, Suite, seal};
 use aes::AesKey;
-use keywrap::{wrap, wrap_padded};
+use keywrap::wrap_padded;
+use octets::Nonce;
 use std::alloc::Global;
 use std::process::Abort;
 
-// More bytes than are judged in a room, and whole semiblocks.
-const LENGTH: usize = 16_400;
-
-// Adds a record of key wrapping under a key of zeros: with a text, or `invalid`.
-fn add_record(
+// Adds a line: some text, and the digits of some bytes.
+fn add_digits(
     rt: &(impl Abort + Alloc<A = Global>),
     file: &mut Vec<u8>,
-    suite: &[u8],
-    sealed: &[u8],
-    text: Option<&[u8]>,
+    start: &[u8],
+    bytes: &[u8],
 ) {
-    add(rt, file, suite);
-    add(rt, file, b"key = 00000000000000000000000000000000");
-    add_digits(rt, file, b"sealed = ", sealed);
-    match text {
-        Some(text) => add_digits(rt, file, b"text = ", text),
-        None => add(rt, file, b"invalid"),
-    }
+    let digits = hex::encode(rt.alloc(), bytes).expect(rt, "memory");
+    file.extend_from_slice(start).expect(rt, "memory");
+    add(rt, file, digits.as_bytes());
 }
 
-// Changes a bit of the byte at a place.
-fn change(bytes: &mut [u8], place: usize) {
-    if let Some(byte) = bytes.get_mut(place) {
-        *byte ^= 1;
-    }
-}
-
-// Of a wrapping with its text, the same as `invalid`, the same with a changed text, and changed bytes as
-// `invalid`, the second and the third disagree.
-fn second_and_third_disagree(
+// A file of lines, and two more for the sealed bytes and the text of its record.
+fn file_of(
     rt: &(impl Abort + Alloc<A = Global>),
-    suite: &[u8],
-    wrapped: &mut [u8],
-    text: &mut [u8],
-) {
+    lines: &[u8],
+    sealed: &[u8],
+    text: &[u8],
+) -> Vec<u8> {
     let mut file = Vec::new(rt.alloc());
-    add(rt, &mut file, b"format = 2");
-    add_record(rt, &mut file, suite, wrapped, Some(text));
-    add_record(rt, &mut file, suite, wrapped, None);
-    change(text, 9_000);
-    add_record(rt, &mut file, suite, wrapped, Some(text));
-    change(wrapped, 12_000);
-    add_record(rt, &mut file, suite, wrapped, None);
-    let report = check(rt.alloc(), &file).expect(rt, "a report");
-    assert!(rt; report.records == 4);
-    assert!(rt; report.bad.as_slice() == [2, 3].as_slice());
+    add(rt, &mut file, lines);
+    add_digits(rt, &mut file, b"sealed = ", sealed);
+    add_digits(rt, &mut file, b"text = ", text);
+    file
+}
+
+// The record agrees, and disagrees once the last digit of its text is another one.
+fn last_digit_counts(rt: &(impl Abort + Alloc<A = Global>), mut file: Vec<u8>) {
+    assert!(rt; answer(rt, &file) == Ok((1, 0)));
+    let last = file.len().saturating_sub(2);
+    if let Some(digit) = file.get_mut(last) {
+        *digit = changed(*digit);
+    }
+    assert!(rt; answer(rt, &file) == Ok((1, 1)));
 }
 
 #[test]
-fn large_wrappings(rt: HostRuntime) {
+fn large_records(rt: HostRuntime) {
+    let text = vec![in rt.alloc(); 7u8; 300 * 1024].expect(&rt, "memory");
+    let cipher = AnyAead::new(Suite::ChaCha20Poly1305, &[0; 32]).expect(&rt, "a key");
+    let nonce = Nonce::from_slice(&[0; 12]).expect(&rt, "a nonce");
+    let sealed = seal(rt.alloc(), &cipher, &nonce, &[], &text).expect(&rt, "a sealing");
+    let lines = b"format = 1\nsuite = chacha20-poly1305\n\
+key = 0000000000000000000000000000000000000000000000000000000000000000\n\
+nonce = 000000000000000000000000\naad =";
+    last_digit_counts(&rt, file_of(&rt, lines, &sealed, &text));
+    let short = vec![in rt.alloc(); 7u8; 5 * 1024 - 3].expect(&rt, "memory");
     let key = AesKey::from_slice(&[0; 16]).expect(&rt, "a key");
-    let mut text = vec![in rt.alloc(); 7u8; LENGTH].expect(&rt, "memory");
-    let mut wrapped = wrap(rt.alloc(), &key, &text).expect(&rt, "a wrapping");
-    second_and_third_disagree(&rt, b"suite = aes-128-wrap", &mut wrapped, &mut text);
-}
-
-#[test]
-fn large_wrappings_with_padding(rt: HostRuntime) {
-    let key = AesKey::from_slice(&[0; 16]).expect(&rt, "a key");
-    let mut text = vec![in rt.alloc(); 7u8; LENGTH + 3].expect(&rt, "memory");
-    let mut wrapped = wrap_padded(rt.alloc(), &key, &text).expect(&rt, "a wrapping");
-    second_and_third_disagree(&rt, b"suite = aes-128-wrap-pad", &mut wrapped, &mut text);
+    let wrapped = wrap_padded(rt.alloc(), &key, &short).expect(&rt, "a wrapping");
+    let lines = b"format = 2\nsuite = aes-128-wrap-pad\nkey = 00000000000000000000000000000000";
+    last_digit_counts(&rt, file_of(&rt, lines, &wrapped, &short));
 }

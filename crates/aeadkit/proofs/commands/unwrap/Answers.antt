@@ -22,5 +22,7 @@ returns-in_err-unwrapped g c =
 
 pub returns : goal.returns
 returns g c =
+    let is_key : IsKey c.in_ok-key.key = rw c.in_ok-key.ensures.0 c.in_ok-key.ensures.1 in
     unwrapped_of c.args.pad _ _ _ _ _ _ _ c.in_ok-key_bytes.ensures c.in_ok-sealed_bytes.ensures
-    (c.in_ok-key.ensures.0 ∙ c.deref.ensures.value) c.deref-2.ensures.value c.in_ok-unwrapped.ensures
+    (c.in_ok-key.ensures.0 ∙ c.deref.ensures.value) c.deref-2.ensures.value is_key
+    c.in_ok-unwrapped.ensures

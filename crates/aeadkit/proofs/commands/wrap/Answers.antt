@@ -22,5 +22,7 @@ returns-in_err-wrapped g c =
 
 pub returns : goal.returns
 returns g c =
+    let is_key : IsKey c.in_ok-key.key = rw c.in_ok-key.ensures.0 c.in_ok-key.ensures.1 in
     wrapped_of c.args.pad _ _ _ _ _ _ _ c.in_ok-key_bytes.ensures c.in_ok-text_bytes.ensures
-    (c.in_ok-key.ensures.0 ∙ c.deref.ensures.value) c.deref-2.ensures.value c.in_ok-wrapped.ensures
+    (c.in_ok-key.ensures.0 ∙ c.deref.ensures.value) c.deref-2.ensures.value is_key
+    c.in_ok-wrapped.ensures

@@ -8,7 +8,6 @@ use Rattle.aeadkit.proofs.files.seal_once.Goals as goal
 pub returns : goal.returns
 returns g c =
     inr (sealed_once (g.F.Storage.contents c.args.files.now c.args.path.now 0)
-    (g.F.Storage.contents c.args.files.now c.args.path.now 1)
     (reader_remaining g.F.Input.Read.remaining c.in_ok-text.text.reader) (g.O.Outlet.taken c.args.out.now)
     (g.O.Outlet.taken c.seal_stream.new.out) (setting (one_pass_keyed c.args.cipher.now) c.args.nonce.now
     c.args.aad.now) c.in_ok-text.text.failed c.seal_stream.new.text.failed

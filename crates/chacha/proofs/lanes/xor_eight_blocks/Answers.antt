@@ -6,12 +6,12 @@ use Rattle.chacha.specs.Stream.{key_stream_byte}
 use Rattle.chacha.proofs.Masking.{four_later}
 use Rattle.chacha.proofs.lanes.xor_eight_blocks.Goals as goal
 
-pub returns : goal.returns
-returns c =
+pub returns-clause-masked : goal.returns-clause-masked
+returns-clause-masked g c =
     let key = c.args.key.now in
     let nonce = c.args.nonce.now in
     let n : ℕ = c.args.counter in
-    let has = c.eight_lanes-x.ensures in
+    let has = c.eight_lanes-x.ensures.blocks in
     let halves = c.split_at_mut-front.ensures in
     let f = key_stream_byte key nonce n in
     let front = c.split_at_mut-front.result.0.now in

@@ -3,27 +3,27 @@ use Rattle.chacha.proofs.Masking.{whole_blocks, run_of_zeros, run_of_block}
 use Rattle.chacha.proofs.stream.xor_run.Goals as goal
 
 pub returns-then-bytes-ge512-clause-masked : goal.returns-then-bytes-ge512-clause-masked
-returns-then-bytes-ge512-clause-masked c =
+returns-then-bytes-ge512-clause-masked g c =
     ap (λ l. l ++ drop 512 c.args.bytes.now)
-    (c.xor_eight_blocks.ensures
+    (c.xor_eight_blocks.ensures.masked
     ∙ whole_blocks c.args.key.now c.args.nonce.now c.args.place (take 512 c.args.bytes.now) (omega arith))
 
 pub returns-then-counter-clause-masked : goal.returns-then-counter-clause-masked
-returns-then-counter-clause-masked c =
+returns-then-counter-clause-masked g c =
     run_of_zeros c.args.key.now c.args.nonce.now c.args.place 512 c.xor_part.result c.args.bytes.now
     c.xor_eight_blocks-then-counter.new.bytes _
-    c.xor_eight_blocks-then-counter.ensures c.xor_eight_blocks-then-counter.auto.bytes
+    c.xor_eight_blocks-then-counter.ensures.masked c.xor_eight_blocks-then-counter.auto.bytes
     c.xor_part.ensures.count c.xor_part.ensures.xored
 
 pub returns-then-counter-2-clause-masked : goal.returns-then-counter-2-clause-masked
-returns-then-counter-2-clause-masked c =
+returns-then-counter-2-clause-masked g c =
     run_of_zeros c.args.key.now c.args.nonce.now c.args.place 256 c.xor_part-then-counter-2.result
     c.args.bytes.now c.xor_four_blocks.new.bytes _
     c.xor_four_blocks.ensures c.xor_four_blocks.auto.bytes c.xor_part-then-counter-2.ensures.count
     c.xor_part-then-counter-2.ensures.xored
 
 pub returns-clause-masked : goal.returns-clause-masked
-returns-clause-masked c =
+returns-clause-masked g c =
     run_of_block c.args.key.now c.args.nonce.now c.args.place c.xor_part-2.result c.args.bytes.now
     c.block.result _
     c.block.ensures.value c.xor_part-2.ensures.count c.xor_part-2.ensures.xored

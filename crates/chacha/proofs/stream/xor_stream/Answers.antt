@@ -5,14 +5,15 @@ use Rattle.chacha.proofs.Masking.{no_run, run_more, all_runs}
 use Rattle.chacha.proofs.stream.xor_stream.Goals as goal
 
 pub runs-init : goal.runs-init
-runs-init c = (
+runs-init g c = (
   omega arith,
   no_run (key_stream_byte c.args.key.now c.args.nonce.now 0) c.args.place
       c.args.bytes.now,
+  λ k m h. h,
 )
 
 pub runs-preserved : goal.runs-preserved
-runs-preserved c =
+runs-preserved g c =
     let was = c.args.bytes.now in
     let mid = c.runs.bytes in
     let a : ℕ = c.runs.done in
@@ -26,10 +27,14 @@ runs-preserved c =
       run_more (key_stream_byte c.args.key.now c.args.nonce.now 0) c.args.place a k r was mid
           c.xor_run-done.new.bytes
           (omega (arith, same, c.runs.invariant.0)) room c.runs.invariant.1 c.xor_run-done.ensures.masked,
+      λ x y h. c.xor_run-done.ensures.work x y (c.runs.invariant.2 x y h),
     )
 
-pub returns : goal.returns
-returns c =
+pub returns-clause-masked : goal.returns-clause-masked
+returns-clause-masked g c =
     c.runs.invariant.1
     ∙ all_runs (key_stream_byte c.args.key.now c.args.nonce.now 0) c.args.place c.runs.done c.args.bytes.now
     (omega (arith, c.runs.auto.bytes, c.runs-test.false))
+
+pub returns-clause-work : goal.returns-clause-work
+returns-clause-work g c = c.runs.invariant.2

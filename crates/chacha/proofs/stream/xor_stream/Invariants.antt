@@ -1,12 +1,13 @@
-use Rattle.std.proofs.Common.{◌≡◌, ◌-◌, ◌≤◌, ◌++◌, length, take, drop}
+use Rattle.std.proofs.Common.{◌≡◌, ℕ, ◌-◌, ◌≤◌, List, ◌++◌, length, take, drop}
 use Rattle.octets.specs.Masked.{masked}
 use Rattle.chacha.specs.Stream.{key_stream_byte}
 use Rattle.chacha.proofs.stream.xor_stream.Given as goal
 
 abbrev pub invariant-runs : goal.invariant-runs
-invariant-runs l = (l.done ≤ length l.fn.bytes)
+invariant-runs g l = (l.done ≤ length l.fn.bytes)
     × (l.bytes ≡ masked (key_stream_byte l.key l.nonce 0) l.place (take l.done l.fn.bytes)
     ++ drop l.done l.fn.bytes)
+    × ((k m : List ℕ) → g.W.Work.comes_to l.initial.work k m → g.W.Work.comes_to l.work k m)
 
 abbrev pub decreases-runs : goal.decreases-runs
-decreases-runs l = length l.initial.bytes - l.done
+decreases-runs g l = length l.initial.bytes - l.done

@@ -22,7 +22,8 @@ returns-in-Some-clause-answer c =
     let key : List ℕ = c.args.key.now in
     let wrapped : List ℕ = c.args.bytes.now in
     let rest : List ℕ = c.unwrap_start-found.new.blocks in
-    let found : List ℕ = take c.in-Some.length rest in
+    let n : ℕ = c.in-Some.length in
+    let found : List ℕ = take n rest in
     let new : List ℕ = c.copy_from_slice.new.self ++ drop 8 (put_mid 8 (length wrapped - 8) wrapped rest) in
     let blocks : HasBlocks wrapped = c.if-not-has_blocks.ensures.0 refl in
     let rest_long : length rest ≡ length wrapped - 8 =
@@ -35,10 +36,16 @@ returns-in-Some-clause-answer c =
     let long : length new - 8 ≡ length rest = sym (length-drop 8 new) ∙ ap length same in
     let whole = parts wrapped c.first_eight-first.result (take (length wrapped - 8) (drop 8 wrapped))
     c.first_eight-first.ensures refl in
+    let start = c.in-Some.ensures.start in
     let is : UnwrappedPadded key wrapped found =
     subst (λ (xs : List ℕ). UnwrappedPadded key xs found) whole c.in-Some.ensures.found.1 in (
       omega (arith, long, rest_long, blocks.least, c.in-Some.ensures.found.0),
-      subst (λ (xs : List ℕ). UnwrappedPadded key wrapped (take c.in-Some.length xs)) (sym same) is,
+      subst (λ (xs : List ℕ). UnwrappedPadded key wrapped (take n xs)) (sym same) is,
+      ap₂ (λ x y. x ++ y)
+          (c.copy_from_slice.ensures.after ∙ start.first_is
+          ∙ ap alternative_value (length-take-le n rest c.in-Some.ensures.found.0))
+          (blocks_in_place wrapped rest blocks.least rest_long ∙ start.blocks_are
+          ∙ ap (λ (xs : List ℕ). padded (take n xs)) (sym same)),
     )
 
 pub returns-in-Some-clause-found : goal.returns-in-Some-clause-found
@@ -47,27 +54,6 @@ returns-in-Some-clause-found c text u =
     (take c.in-Some.length (drop 8 (c.copy_from_slice.new.self
     ++ drop 8 (put_mid 8 (length c.args.bytes.now - 8) c.args.bytes.now c.unwrap_start-found.new.blocks))))
     (returns-in-Some-clause-answer c).1).1 text u)
-
-pub returns-in-Some-clause-whole : goal.returns-in-Some-clause-whole
-returns-in-Some-clause-whole c =
-    let wrapped : List ℕ = c.args.bytes.now in
-    let rest : List ℕ = c.unwrap_start-found.new.blocks in
-    let n : ℕ = c.in-Some.length in
-    let new : List ℕ = c.copy_from_slice.new.self ++ drop 8 (put_mid 8 (length wrapped - 8) wrapped rest) in
-    let blocks : HasBlocks wrapped = c.if-not-has_blocks.ensures.0 refl in
-    let rest_long : length rest ≡ length wrapped - 8 =
-    c.unwrap_start-found.auto.blocks ∙ length-take-le (length wrapped - 8) (drop 8 wrapped)
-    (omega (arith, length-drop 8 wrapped)) in
-    let first_long : length c.unwrap_start-found.new.first ≡ 8 = omega arith in
-    let same : drop 8 new ≡ rest =
-    rest_in_place c.copy_from_slice.new.self wrapped rest
-    (ap length c.copy_from_slice.ensures.after ∙ first_long) blocks.least rest_long in
-    let start = c.in-Some.ensures.start in
-    ap₂ (λ x y. x ++ y)
-    (c.copy_from_slice.ensures.after ∙ start.first_is
-    ∙ ap alternative_value (length-take-le n rest c.in-Some.ensures.found.0))
-    (blocks_in_place wrapped rest blocks.least rest_long ∙ start.blocks_are
-    ∙ ap (λ (xs : List ℕ). padded (take n xs)) (sym same))
 
 pub returns-in-None-clause-answer : goal.returns-in-None-clause-answer
 returns-in-None-clause-answer c =

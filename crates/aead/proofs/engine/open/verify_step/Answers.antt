@@ -7,7 +7,7 @@ use Rattle.aead.proofs.engine.open.verify_step.Goals as goal
 pub returns-in-Ok-clause-told : goal.returns-in-Ok-clause-told
 returns-in-Ok-clause-told g c =
     let s : Setting = setting (keyed_of c.args.cipher.now) c.args.nonce.now
-    (g.A.AssociatedData.bytes c.args.aad.now) in
+    c.args.aad.now in
     let a = c.args.measured.now in
     verify_told s _ _ _ _ _ _ _ _ _ _ a.tag_is.length_is a.low
-    c.in-Ok.ensures.passed c.answer_verify.ensures c.in-Ok.ensures.blame.0
+    c.in-Ok.ensures.passed c.answer_verify.ensures c.in-Ok.ensures.blame

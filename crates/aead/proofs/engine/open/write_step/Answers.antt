@@ -7,7 +7,7 @@ use Rattle.aead.proofs.engine.open.write_step.Goals as goal
 pub returns-in-Ok-clause-told : goal.returns-in-Ok-clause-told
 returns-in-Ok-clause-told g c =
     let s : Setting = setting (keyed_of c.args.cipher.now) c.args.nonce.now
-    (g.A.AssociatedData.bytes c.args.aad.now) in
+    c.args.aad.now in
     let a = c.args.measured.now in
     write_told s _ _ _ _ _ _ _ _ _ _ _ _ a.tag_is.length_is a.low
     c.in-Ok.ensures.passed c.answer_write.ensures c.in-Ok.ensures.blame.0 c.in-Ok.ensures.blame.1
@@ -15,5 +15,5 @@ returns-in-Ok-clause-told g c =
 pub returns-in-Err-clause-told : goal.returns-in-Err-clause-told
 returns-in-Err-clause-told g c =
     let s : Setting = setting (keyed_of c.args.cipher.now) c.args.nonce.now
-    (g.A.AssociatedData.bytes c.args.aad.now) in
+    c.args.aad.now in
     write_stopped s _ _ _ _ _ _ _ _ _ _ _ c.in-Err.ensures.passed c.in-Err.ensures.blame

@@ -11,25 +11,25 @@ use Rattle.aead.proofs.SealExits.{exit_stopped, exit_long, exit_tag}
 use Rattle.aead.proofs.engine.seal.seal_over.Goals as goal
 
 pub pass_all-requires : goal.pass_all-requires
-pass_all-requires g c = omega (arith, c.masking_placed-sealing.ensures.none)
+pass_all-requires g c = omega (arith, c.masking-sealing.ensures.none)
 
 pub returns-in-Err-clause-seals : goal.returns-in-Err-clause-seals
 returns-in-Err-clause-seals g c =
     let s : Setting = setting (g.N.Nonced.keyed c.args.nonced.now) (g.N.Nonced.nonce c.args.nonced.now)
-    (g.A.AssociatedData.bytes c.args.aad.now) in
-    let h = c.masking_placed-sealing.ensures.any_tag c.requires.one_pass [] in
-    let limit : c.masking_placed-sealing.result.limit ≡ text_limit s.suite =
-    c.masking_placed-sealing.ensures.limit in
+    c.args.aad.now in
+    let h = c.masking-sealing.ensures.any_tag c.requires.one_pass [] in
+    let limit : c.masking-sealing.result.limit ≡ text_limit s.suite =
+    c.masking-sealing.ensures.limit in
     exit_stopped _ _ _ _ s _ _ _ _ _ _ limit c.requires.one_pass c.requires.aad_fits
     (c.in-Err.ensures.passed (sealing_task s []) h) c.in-Err.ensures.blame
 
 pub returns-in-Ok-None-clause-seals : goal.returns-in-Ok-None-clause-seals
 returns-in-Ok-None-clause-seals g c =
     let s : Setting = setting (g.N.Nonced.keyed c.args.nonced.now) (g.N.Nonced.nonce c.args.nonced.now)
-    (g.A.AssociatedData.bytes c.args.aad.now) in
-    let h = c.masking_placed-sealing.ensures.any_tag c.requires.one_pass [] in
-    let limit : c.masking_placed-sealing.result.limit ≡ text_limit s.suite =
-    c.masking_placed-sealing.ensures.limit in
+    c.args.aad.now in
+    let h = c.masking-sealing.ensures.any_tag c.requires.one_pass [] in
+    let limit : c.masking-sealing.result.limit ≡ text_limit s.suite =
+    c.masking-sealing.ensures.limit in
     let went = rw c.in-Ok-None.field-0-is at (c.in-Ok-None.ensures.passed (sealing_task s []) h) in
     exit_long _ _ _ _ _ s _ _ _ _ _ _ limit c.requires.one_pass c.requires.aad_fits went
     c.in-Ok-None.ensures.blame
@@ -37,10 +37,10 @@ returns-in-Ok-None-clause-seals g c =
 pub returns-in-Ok-clause-seals : goal.returns-in-Ok-clause-seals
 returns-in-Ok-clause-seals g c =
     let s : Setting = setting (g.N.Nonced.keyed c.args.nonced.now) (g.N.Nonced.nonce c.args.nonced.now)
-    (g.A.AssociatedData.bytes c.args.aad.now) in
-    let h = c.masking_placed-sealing.ensures.any_tag c.requires.one_pass [] in
-    let limit : c.masking_placed-sealing.result.limit ≡ text_limit s.suite =
-    c.masking_placed-sealing.ensures.limit in
+    c.args.aad.now in
+    let h = c.masking-sealing.ensures.any_tag c.requires.one_pass [] in
+    let limit : c.masking-sealing.result.limit ≡ text_limit s.suite =
+    c.masking-sealing.ensures.limit in
     let tag : List ℕ = c.finish.result in
     let size : length tag ≡ 16 = c.bytes.ensures.is_block.length_is in
     let R : List ℕ → Type 0 =
@@ -61,10 +61,10 @@ returns-in-Ok-clause-seals g c =
 pub returns-in-Err-give_all-clause-seals : goal.returns-in-Err-give_all-clause-seals
 returns-in-Err-give_all-clause-seals g c =
     let s : Setting = setting (g.N.Nonced.keyed c.args.nonced.now) (g.N.Nonced.nonce c.args.nonced.now)
-    (g.A.AssociatedData.bytes c.args.aad.now) in
-    let h = c.masking_placed-sealing.ensures.any_tag c.requires.one_pass [] in
-    let limit : c.masking_placed-sealing.result.limit ≡ text_limit s.suite =
-    c.masking_placed-sealing.ensures.limit in
+    c.args.aad.now in
+    let h = c.masking-sealing.ensures.any_tag c.requires.one_pass [] in
+    let limit : c.masking-sealing.result.limit ≡ text_limit s.suite =
+    c.masking-sealing.ensures.limit in
     let given = c.in-Err-give_all.ensures.bytes in
     let R : List ℕ → Type 0 =
     λ b. Appends (g.O.Outlet.taken c.pass_all.new.outlet) (g.O.Outlet.taken c.give_all.new.outlet)

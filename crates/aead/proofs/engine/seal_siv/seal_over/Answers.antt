@@ -10,7 +10,7 @@ use Rattle.aead.proofs.engine.seal_siv.seal_over.Goals as goal
 pub returns-in-Err-clause-seals : goal.returns-in-Err-clause-seals
 returns-in-Err-clause-seals g c =
     let s : Setting = setting (g.N.Nonced.keyed c.args.nonced.now) (g.N.Nonced.nonce c.args.nonced.now)
-    (g.A.AssociatedData.bytes c.args.aad.now) in
+    c.args.aad.now in
     exit_first (g.I.Intake.left c.args.first.now) (g.J.Intake.left c.args.second.now)
     (g.O.Outlet.taken c.args.out.now) s
     (g.I.Intake.failures c.args.first.now) (g.I.Intake.failures c.absorb_all.new.intake)
@@ -20,8 +20,8 @@ returns-in-Err-clause-seals g c =
 pub returns-in-Ok-false-clause-seals : goal.returns-in-Ok-false-clause-seals
 returns-in-Ok-false-clause-seals g c =
     let s : Setting = setting (g.N.Nonced.keyed c.args.nonced.now) (g.N.Nonced.nonce c.args.nonced.now)
-    (g.A.AssociatedData.bytes c.args.aad.now) in
-    let h = c.authenticator_placed-reading.ensures.holds in
+    c.args.aad.now in
+    let h = c.authenticator-reading.ensures.holds in
     let limit : c.text_limit.result ≡ text_limit s.suite =
     c.text_limit.ensures ∙ ap text_limit c.suite.ensures in
     let went = rw c.in-Ok-false.field-0-test at (c.in-Ok-false.ensures.taken s h (omega (arith, limit))) in
@@ -30,8 +30,8 @@ returns-in-Ok-false-clause-seals g c =
 pub returns-in-Ok-true-clause-seals : goal.returns-in-Ok-true-clause-seals
 returns-in-Ok-true-clause-seals g c =
     let s : Setting = setting (g.N.Nonced.keyed c.args.nonced.now) (g.N.Nonced.nonce c.args.nonced.now)
-    (g.A.AssociatedData.bytes c.args.aad.now) in
-    let h = c.authenticator_placed-reading.ensures.holds in
+    c.args.aad.now in
+    let h = c.authenticator-reading.ensures.holds in
     let limit : c.text_limit.result ≡ text_limit s.suite =
     c.text_limit.ensures ∙ ap text_limit c.suite.ensures in
     let went = rw c.in-Ok-true.field-0-test at (c.in-Ok-true.ensures.taken s h (omega (arith, limit))) in
@@ -39,11 +39,11 @@ returns-in-Ok-true-clause-seals g c =
     (λ a held.
     let tag_is : c.finish-tag.result ≡ tag_of s a =
     c.finish-tag.ensures s a held ∙ sym (two_pass_tag s a (ap is_one_pass c.requires.by_gcm_siv)) in
-    let made = c.mask.ensures.made (g.A.AssociatedData.bytes c.args.aad.now) in
+    let made = c.mask.ensures.made c.args.aad.now in
     let P : List ℕ → Type 0 = λ t. g.N.Stream.MaskStream.made c.mask.result s t 0 in
     let fits : c.absorb_all.new.reading.length ≤ text_limit s.suite =
     omega (arith, held.length_is, held.fits.text_fits) in
     c.write_again.ensures.written s a c.requires.by_gcm_siv tag_is
     (at_limit _ _ _ _ _ _ s _ [] held.length_is
     (c.new-again.ensures.holds s (tag_of s a) (subst P tag_is made)
-    c.authenticator_placed.ensures.holds fits)))
+    c.authenticator.ensures.holds fits)))

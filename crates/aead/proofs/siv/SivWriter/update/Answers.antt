@@ -1,7 +1,7 @@
 use Rattle.aead.proofs.siv.SivWriter.update.Goals as goal
 
-pub returns : goal.returns
-returns c = λ s first text h.
+pub returns-clause-answer : goal.returns-clause-answer
+returns-clause-answer c = λ s first text h.
     let u = c.update.ensures.masked _ text h.masking in (
       record { by_gcm_siv = h.by_gcm_siv; tag_is = h.tag_is; masking = u.0 },
       u.1,

@@ -1,18 +1,19 @@
-use Rattle.std.proofs.Common.{◌≡◌, ℕ, ◌+◌, ◌-◌, ◌≤◌, ◌∙◌, length, take, drop, refl, arith}
+use Rattle.std.proofs.Common.{◌≡◌, ℕ, ◌+◌, ◌-◌, ◌≤◌, ◌∙◌, length, take, drop, arith}
 use Rattle.std.proofs.lemmas.List.{length-take-le, length-drop}
-use Rattle.aes.proofs.StreamSteps.{advances_empty, length-put_mid, advances-nil, advances_more, advances_all}
+use Rattle.aes.proofs.StreamSteps.{advances_empty, length-put_mid, advances_more, advances_all}
 use Rattle.aes.proofs.counter.Counter.apply_fours.Goals as goal
 
 pub fours-init : goal.fours-init
-fours-init g c = record {
-  within = omega arith;
-  none = c.requires.none;
-  key = refl;
-  whole = refl;
-  left =
-      refl;
-  so_far = advances-nil g.C.Count.up c.args.self.now;
-}
+fours-init g c =
+    let begun = c.apply_sixteens-done.ensures in
+    record {
+      within = omega (arith, begun.within, c.apply_sixteens-done.auto.bytes);
+      none = begun.used;
+      key = begun.key;
+      whole = begun.whole;
+      left = begun.left;
+      so_far = begun.advances;
+    }
 
 pub fours-preserved : goal.fours-preserved
 fours-preserved g c =
@@ -36,12 +37,22 @@ fours-preserved g c =
       so_far = more.0;
     }
 
-pub returns-then-bytes-lt64-clause-advances : goal.returns-then-bytes-lt64-clause-advances
-returns-then-bytes-lt64-clause-advances g c =
-    advances_empty g.C.Count.up c.args.self.now c.args.bytes.now (omega arith)
+pub returns-then-bytes-done-lt64-clause-advances : goal.returns-then-bytes-done-lt64-clause-advances
+returns-then-bytes-done-lt64-clause-advances g c =
+    let begun = c.apply_sixteens-done.ensures in
+    let now = c.apply_sixteens-done.new.bytes in
+    let same : length now ≡ length c.args.bytes.now = c.apply_sixteens-done.auto.bytes in
+    advances_all g.C.Count.up c.args.self.now c.apply_sixteens-done.new.self c.args.bytes.now now
+    c.apply_sixteens-done.result (omega (arith, begun.within, begun.whole, c.requires.whole))
+    (omega (arith, begun.within, begun.whole, c.requires.whole)) begun.advances
 
 pub returns-clause-advances : goal.returns-clause-advances
 returns-clause-advances g c =
-    let same : length c.fours.bytes ≡ length c.args.bytes.now = c.fours.auto.bytes in
+    let same : length c.fours.bytes ≡ length c.args.bytes.now =
+    c.fours.auto.bytes ∙ c.apply_sixteens-done.auto.bytes in
     advances_all g.C.Count.up c.args.self.now c.fours.self c.args.bytes.now c.fours.bytes c.fours.done
     (omega arith) (omega arith) c.fours.invariant.so_far
+
+pub returns-then-bytes-lt64-clause-advances : goal.returns-then-bytes-lt64-clause-advances
+returns-then-bytes-lt64-clause-advances g c =
+    advances_empty g.C.Count.up c.args.self.now c.args.bytes.now (omega arith)

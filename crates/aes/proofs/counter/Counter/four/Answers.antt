@@ -5,7 +5,7 @@ use Rattle.aes.proofs.counter.Counter.four.Goals as goal
 pub returns : goal.returns
 returns g c =
     let first = c.args.self.now.first in
-    let begun = c.args.self.now.begun in
+    let begun = c.args.begun in
     let up : List ℕ → ℕ → List ℕ = g.C.Count.up in
     joined_blocks c.bytes.result.now c.bytes-2.result.now c.bytes-3.result.now c.bytes-4.result.now
     c.joined.result (λ q. up first ((begun + q) % 2 ^ 32))

@@ -1,4 +1,4 @@
-use Rattle.std.proofs.Common.{◌≡◌, ◌++◌, take, length, ℕ, ◌+◌, arith, inl, inr, refl, ◌∙◌, length-append}
+use Rattle.std.proofs.Common.{◌≡◌, ◌≤◌, ◌++◌, take, length, ℕ, ◌+◌, arith, inl, inr, refl, ◌∙◌, length-append}
 use Rattle.std.proofs.Common.{replicate, subst}
 use Rattle.std.proofs.lemmas.Grind.{common_steps}
 use Rattle.octets.specs.Device.{Failed}
@@ -22,6 +22,7 @@ pub returns-then-length-limit : goal.returns-then-length-limit
 returns-then-length-limit g c =
     let i = c.loop-n.invariant in
     let x = take c.in-Ok.n c.fill.new.buf in
+    let room : c.loop-n.length + c.in-Ok.n ≤ c.args.limit + 17 = grind (arith, common_steps) in
     let size : length x ≡ c.in-Ok.n =
     omega (arith, length-take c.in-Ok.n c.fill.new.buf, c.in-Ok.ensures.bound) in
     record {
@@ -29,7 +30,7 @@ returns-then-length-limit g c =
       consumed = consumes_more _ _ _ i.bytes x i.consumed c.in-Ok.ensures.bytes.0;
       cause = inl (
         refl,
-        omega (arith, length-append i.bytes x, size, i.count),
+        omega (arith, length-append i.bytes x, size, i.count, room),
         c.in-Ok.ensures.count
             ∙ i.read,
       );
@@ -52,8 +53,8 @@ returns-then-length-lt16 g c =
       ));
     }
 
-pub returns-then-n-lt4096 : goal.returns-then-n-lt4096
-returns-then-n-lt4096 g c =
+pub returns-then-n-want : goal.returns-then-n-want
+returns-then-n-want g c =
     let i = c.loop-n.invariant in
     let x = take c.in-Ok.n c.fill.new.buf in
     let size : length x ≡ c.in-Ok.n =

@@ -13,4 +13,4 @@ invariant-loop-n g l = record {
 }
 
 abbrev pub decreases-loop-n : goal.decreases-loop-n
-decreases-loop-n g l = l.limit + 5000 - l.length
+decreases-loop-n g l = l.limit + 17 - l.length

@@ -1,0 +1,77 @@
+-- A mask and a hash beside each other, part by part.
+use Rattle.std.proofs.Common.{◌≡◌, ℕ, ◌+◌, ◌-◌, ◌≤◌, List, [], ◌++◌, length, take, drop, refl, sym, ap, ap₂, subst, ◌∙◌}
+use Rattle.std.proofs.Common.{arith, length-append}
+use Rattle.std.proofs.Math.Seq.{drop-append-add, drop-append_seam, take-append-add, take-append_seam, drop-drop, take-add}
+use Rattle.std.proofs.lemmas.List.{append_assoc, append-nil, length-take-le, length-drop, drop_all}
+use borrow.Rule.Slice.PartMut.{put_mid}
+use Rattle.octets.specs.Masked.{masked}
+use Rattle.octets.proofs.Masks.{masked-append}
+use Rattle.aead.specs.Sealing.{Setting, mask_of}
+use Rattle.aead.specs.Code.States.{HoldsAuthenticator}
+use Rattle.aead.specs.Code.Masks.{Masks, Takes}
+use Rattle.aead.specs.declared.authenticator.Authenticator.{Authenticator}
+
+-- no bytes are masked
+pub no_masks : {S : Type 0} (made : S → Setting → List ℕ → ℕ → Type 0) (a : S) → Masks made a a [] []
+unfolding masked
+no_masks made a = λ s tag n h room.
+    let same : n ≡ n + 0 = omega arith in
+    (subst (made a s tag) same h, refl)
+
+-- two parts, one after the other
+pub more_masks : {S : Type 0} (made : S → Setting → List ℕ → ℕ → Type 0) (a b c : S) (x p y q : List ℕ)
+    → Masks made a b x p → Masks made b c y q → Masks made a c (x ++ y) (p ++ q)
+more_masks made a b c x p y q f g = λ s tag n h room.
+    let sum : length (x ++ y) ≡ length x + length y = length-append x y in
+    let first = f s tag n h (omega (arith, room, sum)) in
+    let second = g s tag (n + length x) first.0 (omega (arith, room, sum)) in
+    let place : n + length x + length y ≡ n + length (x ++ y) = omega (arith, sum) in (
+      subst (made c s tag) place second.0,
+      ap₂ (λ (u v : List ℕ). u ++ v) first.1 second.1 ∙ sym (masked-append (mask_of s tag) n x y),
+    )
+
+-- no bytes are taken in
+pub no_takes : {H : Type 0} (held : H → Setting → List ℕ → Type 0) (a : Authenticator H) → Takes held a a []
+no_takes held a = λ s m h room. subst (HoldsAuthenticator held a s) (sym (append-nil m)) h
+
+-- two parts, one after the other
+pub more_takes : {H : Type 0} (held : H → Setting → List ℕ → Type 0) (a b c : Authenticator H) (x y : List ℕ)
+    → Takes held a b x → Takes held b c y → Takes held a c (x ++ y)
+more_takes held a b c x y f g = λ s m h room.
+    let sum : length (x ++ y) ≡ length x + length y = length-append x y in
+    let first = f s m h (omega (arith, room, sum)) in
+    let second = g s (m ++ x) first (omega (arith, room, sum, length-append m x)) in
+    subst (HoldsAuthenticator held c s) (append_assoc m x y) second
+
+-- what is left after a part of a piece was overwritten
+pub part_left : (b a new was : List ℕ) (d k : ℕ) → length b ≡ d → length new ≡ k → a ≡ drop d was
+    → drop (d + k) (b ++ (new ++ drop k a)) ≡ drop (d + k) was
+part_left b a new was d k eb en e =
+    ap (λ (n : ℕ). drop (n + k) (b ++ (new ++ drop k a))) (sym eb) ∙ drop-append-add b (new ++ drop k a) k
+    ∙ ap (λ (n : ℕ). drop n (new ++ drop k a)) (sym en) ∙ drop-append_seam new (drop k a) ∙ ap (drop k) e
+    ∙ drop-drop k d was
+
+-- and what stands up to its end
+pub part_front : (b a new : List ℕ) (d k : ℕ) → length b ≡ d → length new ≡ k
+    → take (d + k) (b ++ (new ++ drop k a)) ≡ b ++ new
+part_front b a new d k eb en =
+    ap (λ (n : ℕ). take (n + k) (b ++ (new ++ drop k a))) (sym eb) ∙ take-append-add b (new ++ drop k a) k
+    ∙ ap (λ (n : ℕ). b ++ take n (new ++ drop k a)) (sym en)
+    ∙ ap (λ (z : List ℕ). b ++ z) (take-append_seam new (drop k a))
+
+-- the bytes of a front from a place on
+pub front_part : (p was b : List ℕ) (d t : ℕ) → b ≡ take t p → d ≤ t → t ≤ length p → drop d p ≡ drop d was
+    → drop d b ≡ take (t - d) (drop d was)
+front_part p was b d t e le room same =
+    let sum : d + (t - d) ≡ t = omega (arith, le) in
+    let long : length (take d p) ≡ d = length-take-le d p (omega (arith, le, room)) in
+    ap (drop d) (e ∙ ap (λ (n : ℕ). take n p) (sym sum) ∙ take-add d (t - d) p)
+    ∙ ap (λ (n : ℕ). drop n (take d p ++ take (t - d) (drop d p))) (sym long)
+    ∙ drop-append_seam (take d p) (take (t - d) (drop d p)) ∙ ap (take (t - d)) same
+
+-- a front whose bytes from a place on were overwritten
+pub front_whole : (b new : List ℕ) (d : ℕ) → d ≤ length b
+    → put_mid d (length b - d) b new ≡ take d b ++ new
+front_whole b new d le =
+    ap (λ (z : List ℕ). take d b ++ (new ++ z)) (drop_all (length b - d) (drop d b) (omega (arith, length-drop d b)))
+    ∙ ap (λ (z : List ℕ). take d b ++ z) (append-nil new)

@@ -1,0 +1,20 @@
+use Rattle.std.proofs.Common.{◌≡◌, ◌∙◌, ap, arith, Err}
+use Rattle.std.proofs.lemmas.Result.{err_from_is_err_and}
+use Rattle.octets.specs.declared.fault.Fault.TheVariants.{AadTooLong}
+use Rattle.aead.specs.Suites.{aad_limit}
+use Rattle.aead.specs.Sealing.{Setting}
+use Rattle.aead.specs.Ciphers.{setting}
+use Rattle.aead.specs.AnyCiphers.{one_pass_keyed}
+use Rattle.aead.proofs.SealExits.{exit_aad}
+use Rattle.aead.proofs.engine.seal.seal_stream.Goals as goal
+
+pub returns-in_err-check_aad-clause-seals : goal.returns-in_err-check_aad-clause-seals
+returns-in_err-check_aad-clause-seals g c =
+    let s : Setting = setting (one_pass_keyed c.args.cipher.now) c.args.nonce.now
+    c.args.aad.now in
+    let p = err_from_is_err_and c.from_residual.result c.from_residual.ensures.1 in
+    let e : c.from_residual.result ≡ Err AadTooLong =
+    p.1 ∙ ap Err (p.2 ∙ c.in_err-check_aad.ensures.0) in
+    rw e (exit_aad (g.I.Intake.left c.args.text.now) (g.O.Outlet.taken c.args.out.now) s
+    (g.I.Intake.failures c.args.text.now) (g.O.Outlet.failures c.args.out.now)
+    (omega (arith, c.in_err-check_aad.ensures.1, ap aad_limit c.suite.ensures)))

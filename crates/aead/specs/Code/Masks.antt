@@ -1,0 +1,64 @@
+-- What masks do to the bytes that come next.
+use Rattle.std.specs.Prelude.{◌≡◌, ℕ, ◌+◌, ◌-◌, ◌^◌, ◌≤◌, List, ◌++◌, length}
+use Rattle.std.proofs.Common.{◌∙◌, sym, ap, arith}
+use Rattle.octets.specs.Masked.{masked}
+use Rattle.chacha.specs.declared.stream.ChaStream.{ChaStream}
+use Rattle.chacha.specs.States as chacha
+use Rattle.aes.specs.declared.counter.CtrBe.{CtrBe}
+use Rattle.aes.specs.declared.counter.CtrLe.{CtrLe}
+use Rattle.aes.specs.Streams.{DidBe, DidLe}
+use Rattle.aead.specs.Suites.{text_limit, text_limit_by}
+use Rattle.aead.specs.Suites.{ByChaCha, ByGcm, ByGcmSiv, construction_of}
+use Rattle.aead.specs.Sealing.{Setting, j0, encryption_key, counter_block, mask, mask_by, mask_of}
+use Rattle.aead.specs.Code.States.{MadeByChaCha, MadeByGcm, MadeByGcmSiv, HoldsAuthenticator}
+use Rattle.aead.specs.declared.authenticator.Authenticator.{Authenticator}
+use Rattle.chacha.specs.Stream.{key_stream_byte}
+use Rattle.aes.specs.Counters.{up_be, up_le, counter_byte}
+
+-- a becomes b, and was becomes now: the next bytes of the mask are XORed in, within the limit of a text
+abbrev pub Masks : {S : Type 0} (made : S → Setting → List ℕ → ℕ → Type 0) (a b : S) (was now : List ℕ) → Type 0
+Masks made a b was now =
+    (s : Setting) (tag : List ℕ) (n : ℕ) → made a s tag n → n + length was ≤ text_limit s.suite
+    → made b s tag (n + length was) × (now ≡ masked (mask_of s tag) n was)
+
+-- a becomes b: it takes in these bytes, within the limit of a text
+abbrev pub Takes : {H : Type 0} (held : H → Setting → List ℕ → Type 0) (a b : Authenticator H) (bytes : List ℕ)
+    → Type 0
+Takes held a b bytes =
+    (s : Setting) (m : List ℕ) → HoldsAuthenticator held a s m → length m + length bytes ≤ text_limit s.suite
+    → HoldsAuthenticator held b s (m ++ bytes)
+
+-- the mask of each construction
+pub chacha_mask : (s : Setting) (tag : List ℕ) → construction_of s.suite ≡ ByChaCha
+    → mask_of s tag ≡ key_stream_byte s.key s.nonce 1
+unfolding mask mask_by
+chacha_mask s tag e = ap (λ by. mask_by by s.key s.nonce tag) e
+
+gcm_mask : (s : Setting) (tag : List ℕ) → construction_of s.suite ≡ ByGcm
+    → mask_of s tag ≡ counter_byte up_be s.key (up_be (j0 s.nonce) 1)
+unfolding mask mask_by
+gcm_mask s tag e = ap (λ by. mask_by by s.key s.nonce tag) e
+
+siv_mask : (s : Setting) (tag : List ℕ) → construction_of s.suite ≡ ByGcmSiv
+    → mask_of s tag ≡ counter_byte up_le (encryption_key s.key s.nonce) (counter_block tag)
+unfolding mask mask_by
+siv_mask s tag e = ap (λ by. mask_by by s.key s.nonce tag) e
+
+-- so do those of the constructions
+pub chacha_masks : (a b : ChaStream) (was now : List ℕ) → chacha.Did a b was now → Masks MadeByChaCha a b was now
+chacha_masks a b was now did = λ s tag n h room.
+    let limit : text_limit s.suite ≡ 2 ^ 38 - 64 = ap text_limit_by h.0 in
+    let applied = did s.key s.nonce 1 n h.1 (omega (arith, room, limit)) in (
+      (h.0, applied.holds),
+      applied.masked_is ∙ sym (ap (λ f. masked f n was) (chacha_mask s tag h.0)),
+    )
+
+pub gcm_masks : (a b : CtrBe) (was now : List ℕ) → DidBe a b was now → Masks MadeByGcm a b was now
+gcm_masks a b was now did = λ s tag n h room.
+    let applied = did _ _ n h.1 in
+    ((h.0, applied.0), applied.1 ∙ sym (ap (λ f. masked f n was) (gcm_mask s tag h.0)))
+
+pub siv_masks : (a b : CtrLe) (was now : List ℕ) → DidLe a b was now → Masks MadeByGcmSiv a b was now
+siv_masks a b was now did = λ s tag n h room.
+    let applied = did _ _ n h.1 in
+    ((h.0, applied.0), applied.1 ∙ sym (ap (λ f. masked f n was) (siv_mask s tag h.0)))

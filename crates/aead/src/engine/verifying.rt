@@ -1,0 +1,139 @@
+// A whole reading authenticated, and not decrypted: its tag is over the ciphertext.
+
+ghost use Rattle.std.specs.Prelude.{◌≡◌, ◌+◌, ◌≤◌, ◌<◌, ◌^◌, ℕ, List, [], true, None, length, IfOk};
+ghost use Rattle.aes.specs.Cipher.{IsKey};
+ghost use Rattle.aead.specs.Suites.{ByGcm, construction_of, is_one_pass, text_limit, aad_limit};
+ghost use Rattle.aead.specs.Sealing.{Setting};
+ghost use Rattle.aead.specs.Ciphers.{setting};
+ghost use Rattle.aead.specs.AnyCiphers.{one_pass_keyed};
+ghost use Rattle.aead.specs.Code.States.{HoldsAuthenticator};
+ghost use Rattle.aead.specs.Code.Absorbed.{TookPiece};
+ghost use Rattle.aead.specs.Code.Passes.{BlamesReading};
+ghost use Rattle.aead.specs.Code.Findings.{PassedWhole};
+
+use crate::any::AnyOnePass;
+use crate::authenticator::Authenticator;
+use crate::engine::measure::Measured;
+use crate::engine::passes::{Finding, finding_of};
+use crate::gcm::{Gcm, LONG};
+use crate::hashes::TagHash;
+use crate::nonced::{Nonced, authenticator};
+use gf128::{Keyed128, PlacedMul, WideMul};
+use octets::{Fault, Intake, Nonce, fill};
+
+// Takes in one piece: at most what the buffer holds.
+fn absorb_piece<I: Intake, H: TagHash>(
+    intake: &mut I,
+    reading: &mut Authenticator<H>,
+    buf: &mut [u8],
+) -> Result<usize, Fault>
+    requires { reading.old.length + length buf.old < 2 ^ 64 }
+    ensures bound { IfOk result (λ n. n ≤ length buf.old) }
+    ensures taken { (s : Setting) (text : List ℕ) → HoldsAuthenticator H.held reading.old s text
+        → length text + length buf.old ≤ text_limit s.suite →
+        TookPiece H.held s text (length buf.old) (I.left intake.old) (I.left intake.new) reading.new result }
+    ensures blame { BlamesReading (I.failures intake.old) (I.failures intake.new) result }
+    ensures length { IfOk result (λ n. reading.new.length ≡ reading.old.length + n) }
+{
+    let n = match fill(intake, buf) {
+        Ok(n) => n,
+        Err(_) => return Err(Fault::Read),
+    };
+    reading.update(&buf[..n]);
+    Ok(n)
+}
+
+// Takes in at most `length` bytes.
+pub(crate) fn absorb_body<I: Intake, H: TagHash>(
+    intake: &mut I,
+    reading: &mut Authenticator<H>,
+    length: u64,
+) -> Result<u64, Fault>
+    requires { reading.old.length ≡ 0 }
+    ensures bound { IfOk result (λ n. n ≤ length) }
+    ensures taken { (s : Setting) → HoldsAuthenticator H.held reading.old s [] → length ≤ text_limit s.suite →
+        TookPiece H.held s [] length (I.left intake.old) (I.left intake.new) reading.new result }
+    ensures blame { BlamesReading (I.failures intake.old) (I.failures intake.new) result }
+    ensures length { IfOk result (λ n. reading.new.length ≡ n) }
+{
+    let mut buf = [0; 4096];
+    let mut done = 0;
+    while done < length {
+        let want = (length - done).min(4096) as usize;
+        let n = match absorb_piece(intake, reading, &mut buf[..want]) {
+            Ok(n) => n,
+            Err(fault) => return Err(fault),
+        };
+        done += n as u64;
+        if n < want {
+            return Ok(done);
+        }
+    }
+    Ok(done)
+}
+
+// A whole reading, by a cipher with a nonce whose mask looks at no tag.
+fn verify_over<N: Nonced, I: Intake>(
+    nonced: &N,
+    aad: &[u8],
+    intake: &mut I,
+    measured: &Measured,
+) -> Result<Finding, Fault>
+    requires one_pass { is_one_pass (construction_of (N.keyed nonced.now).suite) ≡ true }
+    requires key { construction_of (N.keyed nonced.now).suite ≡ ByGcm → IsKey (N.keyed nonced.now).key }
+    requires aad_fits { length aad.now ≤ aad_limit (N.keyed nonced.now).suite }
+    requires high { measured.now.length ≤ text_limit (N.keyed nonced.now).suite + 16 }
+    ensures passed { PassedWhole (setting (N.keyed nonced.now) (N.nonce nonced.now) aad.now)
+        measured.now.tag measured.now.length (I.left intake.old) (I.left intake.new) None None result }
+    ensures blame { BlamesReading (I.failures intake.old) (I.failures intake.new) result }
+{
+    let mut reading = authenticator(nonced, aad);
+    match absorb_body(intake, &mut reading, measured.length - 16) {
+        Ok(n) => finding_of(intake, measured, n, reading.finish()),
+        Err(fault) => Err(fault),
+    }
+}
+
+// A whole reading by AES-GCM, with a multiplier of the type `M`.
+fn verify_gcm<M: Keyed128, I: Intake>(
+    cipher: &Gcm,
+    nonce: &Nonce,
+    aad: &[u8],
+    intake: &mut I,
+    measured: &Measured,
+) -> Result<Finding, Fault>
+    requires aad_fits { length aad.now ≤ aad_limit cipher.now.suite }
+    requires high { measured.now.length ≤ text_limit cipher.now.suite + 16 }
+    ensures passed { PassedWhole (setting cipher.now nonce.now aad.now)
+        measured.now.tag measured.now.length (I.left intake.old) (I.left intake.new) None None result }
+    ensures blame { BlamesReading (I.failures intake.old) (I.failures intake.new) result }
+{
+    let made = cipher.multiplier_of::<M>();
+    verify_over(&cipher.nonced(nonce, &made), aad, intake, measured)
+}
+
+// A whole reading by a cipher of any suite whose tag is over the ciphertext.
+pub(crate) fn verify_one_pass<I: Intake>(
+    cipher: &AnyOnePass,
+    nonce: &Nonce,
+    aad: &[u8],
+    intake: &mut I,
+    measured: &Measured,
+) -> Result<Finding, Fault>
+    requires aad_fits { length aad.now ≤ aad_limit (one_pass_keyed cipher.now).suite }
+    requires high { measured.now.length ≤ text_limit (one_pass_keyed cipher.now).suite + 16 }
+    ensures passed { PassedWhole (setting (one_pass_keyed cipher.now) nonce.now aad.now)
+        measured.now.tag measured.now.length (I.left intake.old) (I.left intake.new) None None result }
+    ensures blame { BlamesReading (I.failures intake.old) (I.failures intake.new) result }
+{
+    match cipher {
+        AnyOnePass::ChaCha(cipher) => verify_over(&cipher.nonced(nonce), aad, intake, measured),
+        AnyOnePass::Gcm(cipher) => {
+            if measured.length >= LONG as u64 {
+                verify_gcm::<WideMul, I>(cipher, nonce, aad, intake, measured)
+            } else {
+                verify_gcm::<PlacedMul, I>(cipher, nonce, aad, intake, measured)
+            }
+        }
+    }
+}

@@ -1,0 +1,147 @@
+-- Eight planes of bits: sums, doubles and moves.
+use Rattle.std.proofs.Common.{◌≡◌, ℕ, zero, suc, ◌<◌, true, ltb, List, []}
+use Rattle.std.proofs.Common.{◌∷◌, ◌++◌, map, get_or, length, bit_xor, refl, sym, ap, ap₂, ◌∙◌, arith, ltb-true}
+use Rattle.std.specs.Int.{bit_at}
+use Rattle.std.proofs.lemmas.Nat.Bits.{bit_at_xor}
+use Rattle.std.proofs.lemmas.List.{get_or-map, get_or_append_left, length-map}
+use Rattle.std.proofs.lemmas.Simd.{length-zip2}
+use lib.Lanes.{zip2}
+use Rattle.aes.specs.Field.{times}
+use Rattle.aes.specs.Code.Planes.{HoldsBits}
+use Rattle.aes.proofs.Tested.{all_below, all_below_at}
+use Rattle.aes.proofs.Multiples.{double, double_is}
+use Rattle.aes.proofs.Circuit.{eight, at, at_sum, plus2, bits8, bits_at, same_list, same_at}
+
+-- an operation on each of eight planes
+each_of : (F : List ℕ → List ℕ) (p : List (List ℕ)) (j : ℕ) → j < 8
+    → get_or (map F (eight p)) j [] ≡ F (get_or p j [])
+each_of F p zero h = refl
+each_of F p (suc zero) h = refl
+each_of F p (suc (suc zero)) h = refl
+each_of F p (suc (suc (suc zero))) h = refl
+each_of F p (suc (suc (suc (suc zero)))) h = refl
+each_of F p (suc (suc (suc (suc (suc zero))))) h = refl
+each_of F p (suc (suc (suc (suc (suc (suc zero)))))) h = refl
+each_of F p (suc (suc (suc (suc (suc (suc (suc zero))))))) h = refl
+each_of F p (suc (suc (suc (suc (suc (suc (suc (suc j)))))))) h = absurd (omega arith)
+
+-- an operation on each two of sixteen planes
+each_two : (F : List ℕ → List ℕ → List ℕ) (p q : List (List ℕ)) (j : ℕ) → j < 8
+    → get_or (zip2 F (eight p) (eight q)) j [] ≡ F (get_or p j []) (get_or q j [])
+each_two F p q zero h = refl
+each_two F p q (suc zero) h = refl
+each_two F p q (suc (suc zero)) h = refl
+each_two F p q (suc (suc (suc zero))) h = refl
+each_two F p q (suc (suc (suc (suc zero)))) h = refl
+each_two F p q (suc (suc (suc (suc (suc zero))))) h = refl
+each_two F p q (suc (suc (suc (suc (suc (suc zero)))))) h = refl
+each_two F p q (suc (suc (suc (suc (suc (suc (suc zero))))))) h = refl
+each_two F p q (suc (suc (suc (suc (suc (suc (suc (suc j)))))))) h = absurd (omega arith)
+
+-- lanes brought from places
+pub moved : (ps : List ℕ) → length ps ≡ 32 → all_below (λ i. ltb (get_or ps i 0) 32) 32 ≡ true
+    → (p : List (List ℕ)) (g : ℕ → ℕ → ℕ) → HoldsBits p g
+    → HoldsBits (map (λ v. map (λ i. get_or (v ++ v) i 0) ps) (eight p)) (λ l k. g (get_or ps l 0) k)
+moved ps long test p g h = record {
+  count = refl;
+  long = λ j hj. ap length (each_of (λ v. map (λ i. get_or (v ++ v) i 0) ps) p j hj) ∙ length-map ps (λ i. get_or (get_or p j [] ++ get_or p j []) i 0) ∙ long;
+  each = λ j l k hj hl hk.
+      let small : get_or ps l 0 < 32 = ltb-true (get_or ps l 0) 32 (all_below_at (λ i. ltb (get_or ps i 0) 32) 32 l test hl) in
+      let wide = h.long j hj in
+      ap (λ v. at l k v) (each_of (λ v. map (λ i. get_or (v ++ v) i 0) ps) p j hj)
+      ∙ ap (λ n. bit_at n k) (get_or-map (λ i. get_or (get_or p j [] ++ get_or p j []) i 0) ps l 0 0 (omega arith)
+      ∙ get_or_append_left (get_or p j []) (get_or p j []) 0 (get_or ps l 0) (omega arith))
+      ∙ h.each j (get_or ps l 0) k hj small hk;
+}
+
+-- the sums of bytes
+pub added : (p q : List (List ℕ)) (g h : ℕ → ℕ → ℕ) → HoldsBits p g → HoldsBits q h
+    → HoldsBits (zip2 (zip2 bit_xor) (eight p) (eight q)) (λ l k. bit_xor (g l k) (h l k))
+added p q g h hp hq = record {
+  count = refl;
+  long = λ j hj. ap length (each_two (zip2 bit_xor) p q j hj)
+      ∙ length-zip2 bit_xor (get_or p j []) (get_or q j []) (hp.long j hj ∙ sym (hq.long j hj)) ∙ hp.long j hj;
+  each = λ j l k hj hl hk.
+      ap (at l k) (each_two (zip2 bit_xor) p q j hj)
+      ∙ at_sum l k (get_or p j []) (get_or q j []) (hp.long j hj) (hq.long j hj) hl
+      ∙ ap₂ plus2 (hp.each j l k hj hl hk) (hq.each j l k hj hl hk)
+      ∙ sym (bit_at_xor (g l k) (h l k) j);
+}
+
+-- ---- doubles
+-- the bits of twice a byte
+abbrev doubled_bits : List ℕ → List ℕ
+doubled_bits b =
+    get_or b 7 0 ∷ plus2 (get_or b 0 0) (get_or b 7 0) ∷ get_or b 1 0 ∷ plus2 (get_or b 2 0) (get_or b 7 0) ∷
+    plus2 (get_or b 3 0) (get_or b 7 0) ∷ get_or b 4 0 ∷ get_or b 5 0 ∷ get_or b 6 0 ∷ []
+
+doubles_computed : all_below (λ x. same_list (doubled_bits (bits8 x)) (bits8 (double x))) 256 ≡ true
+doubles_computed = refl
+
+-- a bit of twice a byte
+doubled_bit : (x j : ℕ) → x < 256 → j < 8 → get_or (doubled_bits (bits8 x)) j 0 ≡ bit_at (times 2 x) j
+doubled_bit x j hx hj =
+    same_at (doubled_bits (bits8 x)) (bits8 (double x)) j
+    (all_below_at (λ x. same_list (doubled_bits (bits8 x)) (bits8 (double x))) 256 x doubles_computed hx)
+    ∙ bits_at (double x) j hj ∙ ap (λ n. bit_at n j) (sym (double_is x hx))
+
+-- the planes of doubles
+abbrev pub doubled_planes : List (List ℕ) → List (List ℕ)
+doubled_planes p =
+    get_or p 7 [] ∷ zip2 bit_xor (get_or p 0 []) (get_or p 7 []) ∷ get_or p 1 [] ∷
+    zip2 bit_xor (get_or p 2 []) (get_or p 7 []) ∷ zip2 bit_xor (get_or p 3 []) (get_or p 7 []) ∷ get_or p 4 [] ∷
+    get_or p 5 [] ∷ get_or p 6 [] ∷ []
+
+-- a sum with the last plane
+with_last : (p : List (List ℕ)) (g : ℕ → ℕ → ℕ) → HoldsBits p g → (i l k : ℕ) → i < 8 → l < 32 → k < 8
+    → at l k (zip2 bit_xor (get_or p i []) (get_or p 7 [])) ≡ plus2 (bit_at (g l k) i) (bit_at (g l k) 7)
+with_last p g h i l k hi hl hk =
+    at_sum l k (get_or p i []) (get_or p 7 []) (h.long i hi) (h.long 7 (omega arith)) hl
+    ∙ ap₂ plus2 (h.each i l k hi hl hk) (h.each 7 l k (omega arith) hl hk)
+
+-- a plane of doubles
+plane_doubled : (p : List (List ℕ)) (g : ℕ → ℕ → ℕ) → HoldsBits p g → (j l k : ℕ) → j < 8 → l < 32 → k < 8
+    → at l k (get_or (doubled_planes p) j []) ≡ get_or (doubled_bits (bits8 (g l k))) j 0
+plane_doubled p g h zero l k hj hl hk = h.each 7 l k (omega arith) hl hk
+plane_doubled p g h (suc zero) l k hj hl hk = with_last p g h 0 l k (omega arith) hl hk
+plane_doubled p g h (suc (suc zero)) l k hj hl hk = h.each 1 l k (omega arith) hl hk
+plane_doubled p g h (suc (suc (suc zero))) l k hj hl hk = with_last p g h 2 l k (omega arith) hl hk
+plane_doubled p g h (suc (suc (suc (suc zero)))) l k hj hl hk = with_last p g h 3 l k (omega arith) hl hk
+plane_doubled p g h (suc (suc (suc (suc (suc zero))))) l k hj hl hk = h.each 4 l k (omega arith) hl hk
+plane_doubled p g h (suc (suc (suc (suc (suc (suc zero)))))) l k hj hl hk = h.each 5 l k (omega arith) hl hk
+plane_doubled p g h (suc (suc (suc (suc (suc (suc (suc zero))))))) l k hj hl hk = h.each 6 l k (omega arith) hl hk
+plane_doubled p g h (suc (suc (suc (suc (suc (suc (suc (suc j)))))))) l k hj hl hk = absurd (omega arith)
+
+-- its length
+long_doubled : (p : List (List ℕ)) → ((j : ℕ) → j < 8 → length (get_or p j []) ≡ 32) → (j : ℕ) → j < 8
+    → length (get_or (doubled_planes p) j []) ≡ 32
+long_doubled p h zero hj = h 7 (omega arith)
+long_doubled p h (suc zero) hj = length-zip2 bit_xor (get_or p 0 []) (get_or p 7 []) (h 0 (omega arith) ∙ sym (h 7 (omega arith))) ∙ h 0 (omega arith)
+long_doubled p h (suc (suc zero)) hj = h 1 (omega arith)
+long_doubled p h (suc (suc (suc zero))) hj = length-zip2 bit_xor (get_or p 2 []) (get_or p 7 []) (h 2 (omega arith) ∙ sym (h 7 (omega arith))) ∙ h 2 (omega arith)
+long_doubled p h (suc (suc (suc (suc zero)))) hj = length-zip2 bit_xor (get_or p 3 []) (get_or p 7 []) (h 3 (omega arith) ∙ sym (h 7 (omega arith))) ∙ h 3 (omega arith)
+long_doubled p h (suc (suc (suc (suc (suc zero))))) hj = h 4 (omega arith)
+long_doubled p h (suc (suc (suc (suc (suc (suc zero)))))) hj = h 5 (omega arith)
+long_doubled p h (suc (suc (suc (suc (suc (suc (suc zero))))))) hj = h 6 (omega arith)
+long_doubled p h (suc (suc (suc (suc (suc (suc (suc (suc j)))))))) hj = absurd (omega arith)
+
+-- twice each byte
+pub twice : (p : List (List ℕ)) (g : ℕ → ℕ → ℕ) → ((l k : ℕ) → g l k < 256) → HoldsBits p g
+    → HoldsBits (doubled_planes p) (λ l k. times 2 (g l k))
+twice p g small h = record {
+  count = refl;
+  long = λ j hj. long_doubled p h.long j hj;
+  each = λ j l k hj hl hk. plane_doubled p g h j l k hj hl hk ∙ doubled_bit (g l k) j (small l k) hj;
+}
+
+-- what holds of eight numbers holds below eight
+pub eight_cases : (P : ℕ → Type 0) → P 0 → P 1 → P 2 → P 3 → P 4 → P 5 → P 6 → P 7 → (j : ℕ) → j < 8 → P j
+eight_cases P a b c d e f g h zero l = a
+eight_cases P a b c d e f g h (suc zero) l = b
+eight_cases P a b c d e f g h (suc (suc zero)) l = c
+eight_cases P a b c d e f g h (suc (suc (suc zero))) l = d
+eight_cases P a b c d e f g h (suc (suc (suc (suc zero)))) l = e
+eight_cases P a b c d e f g h (suc (suc (suc (suc (suc zero))))) l = f
+eight_cases P a b c d e f g h (suc (suc (suc (suc (suc (suc zero)))))) l = g
+eight_cases P a b c d e f g h (suc (suc (suc (suc (suc (suc (suc zero))))))) l = h
+eight_cases P a b c d e f g h (suc (suc (suc (suc (suc (suc (suc (suc j)))))))) l = absurd (omega arith)

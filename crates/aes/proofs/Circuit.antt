@@ -1,0 +1,235 @@
+-- The circuit of the S-box, over any values that have sums and products.
+use Rattle.std.proofs.Common.{◌≡◌, ℕ, zero, suc, ◌+◌, ◌%◌, ◌<◌, Bool, true, false, cond, ◌&&◌, ◌==◌, List, []}
+use Rattle.std.proofs.Common.{rules}
+use Rattle.std.proofs.Common.{◌∷◌, map, get_or, length, min, bit_and, bit_xor, refl, sym, ap, ap₂, ◌∙◌, arith, replicate}
+use Rattle.std.specs.Int.{bit_at}
+use Rattle.std.proofs.lemmas.Nat.Bits.{bit_at_xor, bit_at_and, bit_at-zero}
+use Rattle.std.proofs.lemmas.Bool.{and_parts, eqb-true}
+use Rattle.std.proofs.lemmas.List.{get_or-map, get_or-replicate, length-replicate}
+use Rattle.std.proofs.lemmas.Simd.{length-zip2, get_or-zip2}
+use lib.Lanes.{zip2}
+use Rattle.aes.specs.Code.Planes.{HoldsBits}
+use Rattle.aes.specs.Code.Lanes.{linear_sbox}
+use Rattle.aes.proofs.Tables.{sbox_at}
+use Rattle.aes.specs.declared.sbox.TheConstants.{SBOX}
+use Rattle.aes.proofs.Tested.{all_below, all_below_at}
+
+-- a gate: whether it is a product, and how far back its operands were made
+abbrev pub Gate : Type 0
+Gate = Bool × ℕ × ℕ
+
+-- what a gate makes
+abbrev pub made : {A : Type 0} → (A → A → A) → (A → A → A) → A → Gate → List A → A
+made mul add d g env = cond g.0 (mul (get_or env g.1 d) (get_or env g.2 d)) (add (get_or env g.1 d) (get_or env g.2 d))
+
+-- every value made, the last one first
+abbrev pub run : {A : Type 0} → (A → A → A) → (A → A → A) → A → List Gate → List A → List A
+run mul add d [] env = env
+run mul add d (g ∷ gs) env = run mul add d gs (made mul add d g env ∷ env)
+
+-- the gates
+abbrev pub gates : List Gate
+gates =
+    (false, 5, 6) ∷ (false, 2, 8) ∷ (false, 1, 2) ∷ (false, 7, 5) ∷ (false, 5, 1) ∷ (false, 2, 9) ∷
+    (false, 2, 4) ∷ (false, 0, 10) ∷ (false, 15, 12) ∷ (false, 15, 1) ∷ (false, 17, 12) ∷ (true, 11, 5) ∷
+    (false, 3, 2) ∷ (false, 5, 15) ∷ (false, 9, 3) ∷ (true, 6, 2) ∷ (true, 2, 9) ∷ (false, 16, 3) ∷
+    (true, 0, 7) ∷ (false, 8, 1) ∷ (false, 2, 7) ∷ (false, 21, 7) ∷ (true, 0, 7) ∷ (true, 2, 19) ∷
+    (false, 11, 23) ∷ (false, 32, 22) ∷ (false, 14, 9) ∷ (true, 22, 24) ∷ (false, 28, 15) ∷
+    (false, 10, 13) ∷ (false, 14, 6) ∷ (false, 8, 14) ∷ (false, 30, 7) ∷ (true, 4, 7) ∷ (false, 4, 7) ∷
+    (true, 10, 33) ∷ (false, 0, 2) ∷ (false, 9, 1) ∷ (false, 3, 18) ∷ (false, 2, 9) ∷ (false, 2, 9) ∷
+    (false, 10, 9) ∷ (false, 17, 49) ∷ (false, 3, 0) ∷ (false, 2, 34) ∷ (false, 4, 12) ∷ (false, 2, 0) ∷
+    (true, 1, 2) ∷ (false, 9, 0) ∷ (false, 4, 10) ∷ (true, 1, 3) ∷ (false, 0, 7) ∷ (true, 46, 0) ∷
+    (false, 9, 5) ∷ (false, 8, 2) ∷ (true, 1, 5) ∷ (false, 2, 4) ∷ (true, 13, 0) ∷ (false, 0, 4) ∷
+    (false, 3, 20) ∷ (true, 8, 60) ∷ (true, 1, 2) ∷ (false, 2, 10) ∷ (false, 13, 1) ∷ (false, 6, 9) ∷
+    (false, 1, 0) ∷ (false, 6, 2) ∷ (true, 0, 42) ∷ (false, 5, 2) ∷ (false, 4, 17) ∷ (true, 6, 67) ∷
+    (true, 57, 1) ∷ (false, 4, 0) ∷ (true, 66, 3) ∷ (true, 5, 53) ∷ (true, 8, 73) ∷ (true, 13, 63) ∷
+    (false, 0, 2) ∷ (false, 17, 2) ∷ (true, 68, 13) ∷ (true, 15, 65) ∷ (false, 8, 2) ∷ (true, 13, 78) ∷
+    (false, 5, 15) ∷ (false, 3, 10) ∷ (true, 20, 63) ∷ (true, 23, 77) ∷ (true, 21, 69) ∷ (false, 1, 5) ∷
+    (false, 1, 14) ∷ (false, 19, 1) ∷ (false, 0, 6) ∷ (true, 63, 32) ∷ (true, 67, 33) ∷ (false, 12, 0) ∷
+    (true, 90, 31) ∷ (false, 6, 5) ∷ (false, 8, 15) ∷ (false, 1, 3) ∷ (false, 38, 6) ∷ (false, 16, 29) ∷
+    (false, 2, 0) ∷ (false, 21, 49) ∷ (false, 20, 23) ∷ (false, 18, 12) ∷ (false, 32, 0) ∷
+    (false, 13, 10) ∷ (false, 0, 9) ∷ (false, 4, 6) ∷ (false, 2, 33) ∷ (false, 0, 13) ∷ (false, 10, 5) ∷
+    (false, 28, 20) ∷ (false, 14, 10) ∷ (false, 14, 9) ∷ []
+
+-- where the eight bits stand at the end
+abbrev pub places : List ℕ
+places = 7 ∷ 4 ∷ 1 ∷ 0 ∷ 9 ∷ 6 ∷ 3 ∷ 2 ∷ []
+
+-- the eight values at the end
+abbrev pub outcome : {A : Type 0} → (A → A → A) → (A → A → A) → A → List A → List A
+outcome mul add d env = map (λ i. get_or (run mul add d gates env) i d) places
+
+-- the sum of two bits
+abbrev pub plus2 : ℕ → ℕ → ℕ
+plus2 a b = (a + b) % 2
+
+-- the bits of a number
+abbrev pub bits8 : ℕ → List ℕ
+bits8 x = map (bit_at x) (0 ∷ 1 ∷ 2 ∷ 3 ∷ 4 ∷ 5 ∷ 6 ∷ 7 ∷ [])
+
+abbrev pub same_list : List ℕ → List ℕ → Bool
+same_list [] [] = true
+same_list [] (y ∷ ys) = false
+same_list (x ∷ xs) [] = false
+same_list (x ∷ xs) (y ∷ ys) = (x == y) && same_list xs ys
+
+-- the circuit is the S-box without its constant, at each byte
+computed : all_below (λ x. same_list (outcome min plus2 0 (bits8 x)) (bits8 (bit_xor (get_or SBOX x 0) 0x63))) 256 ≡ true
+computed = refl
+
+-- two lists that are tested equal have the same members
+pub same_at : (xs ys : List ℕ) (i : ℕ) → same_list xs ys ≡ true → get_or xs i 0 ≡ get_or ys i 0
+same_at [] [] i h = refl
+same_at [] (y ∷ ys) i h = search rules
+same_at (x ∷ xs) [] i h = search rules
+same_at (x ∷ xs) (y ∷ ys) zero h = eqb-true x y (and_parts (x == y) (same_list xs ys) h).0
+same_at (x ∷ xs) (y ∷ ys) (suc i) h = same_at xs ys i (and_parts (x == y) (same_list xs ys) h).1
+
+-- a bit of a number
+pub bits_at : (x j : ℕ) → j < 8 → get_or (bits8 x) j 0 ≡ bit_at x j
+bits_at x zero h = refl
+bits_at x (suc zero) h = refl
+bits_at x (suc (suc zero)) h = refl
+bits_at x (suc (suc (suc zero))) h = refl
+bits_at x (suc (suc (suc (suc zero)))) h = refl
+bits_at x (suc (suc (suc (suc (suc zero))))) h = refl
+bits_at x (suc (suc (suc (suc (suc (suc zero)))))) h = refl
+bits_at x (suc (suc (suc (suc (suc (suc (suc zero))))))) h = refl
+bits_at x (suc (suc (suc (suc (suc (suc (suc (suc j)))))))) h = absurd (omega arith)
+
+-- ---- bits of planes
+-- a plane of no bits
+abbrev pub none : List ℕ
+none = replicate 32 0
+
+-- bit k of lane l
+abbrev pub at : ℕ → ℕ → List ℕ → ℕ
+at l k v = bit_at (get_or v l 0) k
+
+-- each plane has 32 lanes
+abbrev pub Long : List (List ℕ) → Type 0
+Long env = (i : ℕ) → length (get_or env i none) ≡ 32
+
+-- a member of a mapped list, whatever its place
+mapped : {A B : Type 0} (h : A → B) (d : A) (e : B) → h d ≡ e → (xs : List A) (i : ℕ)
+    → get_or (map h xs) i e ≡ h (get_or xs i d)
+mapped h d e same [] i = sym same
+mapped h d e same (x ∷ xs) zero = refl
+mapped h d e same (x ∷ xs) (suc i) = mapped h d e same xs i
+
+-- a bit of no bits
+at_none : (l k : ℕ) → l < 32 → at l k none ≡ 0
+at_none l k h = ap (λ n. bit_at n k) (get_or-replicate {A = ℕ} 32 l 0 0 h) ∙ bit_at-zero k
+
+pub at_sum : (l k : ℕ) (x y : List ℕ) → length x ≡ 32 → length y ≡ 32 → l < 32
+    → at l k (zip2 bit_xor x y) ≡ plus2 (at l k x) (at l k y)
+at_sum l k x y hx hy h =
+    ap (λ n. bit_at n k) (get_or-zip2 bit_xor x y l 0 0 0 (omega arith) (omega arith))
+    ∙ bit_at_xor (get_or x l 0) (get_or y l 0) k
+
+at_product : (l k : ℕ) (x y : List ℕ) → length x ≡ 32 → length y ≡ 32 → l < 32
+    → at l k (zip2 bit_and x y) ≡ min (at l k x) (at l k y)
+at_product l k x y hx hy h =
+    ap (λ n. bit_at n k) (get_or-zip2 bit_and x y l 0 0 0 (omega arith) (omega arith))
+    ∙ bit_at_and (get_or x l 0) (get_or y l 0) k
+
+-- what a gate makes of planes is long
+made_long : (b : Bool) (i j : ℕ) (env : List (List ℕ)) → Long env
+    → length (made (zip2 bit_and) (zip2 bit_xor) none (b, i, j) env) ≡ 32
+made_long true i j env h =
+    length-zip2 bit_and (get_or env i none) (get_or env j none) (h i ∙ sym (h j)) ∙ h i
+made_long false i j env h =
+    length-zip2 bit_xor (get_or env i none) (get_or env j none) (h i ∙ sym (h j)) ∙ h i
+
+-- the bits of what it makes
+made_bits : (l k : ℕ) → l < 32 → (b : Bool) (i j : ℕ) (env : List (List ℕ)) → Long env
+    → at l k (made (zip2 bit_and) (zip2 bit_xor) none (b, i, j) env) ≡ made min plus2 0 (b, i, j) (map (at l k) env)
+made_bits l k h true i j env long =
+    at_product l k (get_or env i none) (get_or env j none) (long i) (long j) h
+    ∙ sym (ap₂ min (mapped (at l k) none 0 (at_none l k h) env i) (mapped (at l k) none 0 (at_none l k h) env j))
+made_bits l k h false i j env long =
+    at_sum l k (get_or env i none) (get_or env j none) (long i) (long j) h
+    ∙ sym (ap₂ plus2 (mapped (at l k) none 0 (at_none l k h) env i) (mapped (at l k) none 0 (at_none l k h) env j))
+
+-- one plane more
+longer : (v : List ℕ) (env : List (List ℕ)) → length v ≡ 32 → Long env → Long (v ∷ env)
+longer v env h long zero = h
+longer v env h long (suc i) = long i
+
+-- every plane made is long
+run_long : (gs : List Gate) (env : List (List ℕ)) → Long env → Long (run (zip2 bit_and) (zip2 bit_xor) none gs env)
+run_long [] env h = h
+run_long ((b, i, j) ∷ gs) env h =
+    run_long gs (made (zip2 bit_and) (zip2 bit_xor) none (b, i, j) env ∷ env)
+    (longer (made (zip2 bit_and) (zip2 bit_xor) none (b, i, j) env) env (made_long b i j env h) h)
+
+-- the bits of all that is made
+run_bits : (l k : ℕ) → l < 32 → (gs : List Gate) (env : List (List ℕ)) → Long env
+    → map (at l k) (run (zip2 bit_and) (zip2 bit_xor) none gs env) ≡ run min plus2 0 gs (map (at l k) env)
+run_bits l k h [] env long = refl
+run_bits l k h ((b, i, j) ∷ gs) env long =
+    run_bits l k h gs (made (zip2 bit_and) (zip2 bit_xor) none (b, i, j) env ∷ env)
+    (longer (made (zip2 bit_and) (zip2 bit_xor) none (b, i, j) env) env (made_long b i j env long) long)
+    ∙ ap (λ n. run min plus2 0 gs (n ∷ map (at l k) env)) (made_bits l k h b i j env long)
+
+-- eight planes
+abbrev pub eight : List (List ℕ) → List (List ℕ)
+eight p =
+    get_or p 0 [] ∷ get_or p 1 [] ∷ get_or p 2 [] ∷ get_or p 3 [] ∷ get_or p 4 [] ∷ get_or p 5 [] ∷
+    get_or p 6 [] ∷ get_or p 7 [] ∷ []
+
+eight_long : (p : List (List ℕ)) → ((j : ℕ) → j < 8 → length (get_or p j []) ≡ 32) → Long (eight p)
+eight_long p h zero = h 0 (omega arith)
+eight_long p h (suc zero) = h 1 (omega arith)
+eight_long p h (suc (suc zero)) = h 2 (omega arith)
+eight_long p h (suc (suc (suc zero))) = h 3 (omega arith)
+eight_long p h (suc (suc (suc (suc zero)))) = h 4 (omega arith)
+eight_long p h (suc (suc (suc (suc (suc zero))))) = h 5 (omega arith)
+eight_long p h (suc (suc (suc (suc (suc (suc zero)))))) = h 6 (omega arith)
+eight_long p h (suc (suc (suc (suc (suc (suc (suc zero))))))) = h 7 (omega arith)
+eight_long p h (suc (suc (suc (suc (suc (suc (suc (suc i)))))))) = length-replicate {A = ℕ} 32 0
+
+-- the bits of eight planes are those of a byte
+eight_bits : (p : List (List ℕ)) (g : ℕ → ℕ → ℕ) (l k : ℕ) → HoldsBits p g → l < 32 → k < 8
+    → map (at l k) (eight p) ≡ bits8 (g l k)
+eight_bits p g l k h hl hk =
+    ap₂ ◌∷◌ (h.each 0 l k (omega arith) hl hk) (
+    ap₂ ◌∷◌ (h.each 1 l k (omega arith) hl hk) (
+    ap₂ ◌∷◌ (h.each 2 l k (omega arith) hl hk) (
+    ap₂ ◌∷◌ (h.each 3 l k (omega arith) hl hk) (
+    ap₂ ◌∷◌ (h.each 4 l k (omega arith) hl hk) (
+    ap₂ ◌∷◌ (h.each 5 l k (omega arith) hl hk) (
+    ap₂ ◌∷◌ (h.each 6 l k (omega arith) hl hk) (
+    ap₂ ◌∷◌ (h.each 7 l k (omega arith) hl hk) refl)))))))
+
+-- the planes that the circuit makes
+abbrev pub planes_out : List (List ℕ) → List (List ℕ)
+planes_out p = outcome (zip2 bit_and) (zip2 bit_xor) none (eight p)
+
+-- a plane that it makes
+plane_out : (p : List (List ℕ)) (j : ℕ) → j < 8
+    → get_or (planes_out p) j [] ≡ get_or (run (zip2 bit_and) (zip2 bit_xor) none gates (eight p)) (get_or places j 0) none
+plane_out p j h =
+    get_or-map (λ i. get_or (run (zip2 bit_and) (zip2 bit_xor) none gates (eight p)) i none) places j 0 [] (omega arith)
+
+-- the S-box at each byte
+pub substituted : (p : List (List ℕ)) (g : ℕ → ℕ → ℕ) → ((l k : ℕ) → g l k < 256) → HoldsBits p g
+    → HoldsBits (planes_out p) (λ l k. linear_sbox (g l k))
+unfolding linear_sbox
+substituted p g small h = record {
+  count = refl;
+  long = λ j hj. ap length (plane_out p j hj)
+      ∙ run_long gates (eight p) (eight_long p h.long) (get_or places j 0);
+  each = λ j l k hj hl hk.
+      ap (at l k) (plane_out p j hj)
+      ∙ sym (mapped (at l k) none 0 (at_none l k hl) (run (zip2 bit_and) (zip2 bit_xor) none gates (eight p)) (get_or places j 0))
+      ∙ ap (λ e. get_or e (get_or places j 0) 0)
+      (run_bits l k hl gates (eight p) (eight_long p h.long)
+      ∙ ap (run min plus2 0 gates) (eight_bits p g l k h hl hk))
+      ∙ sym (get_or-map (λ i. get_or (run min plus2 0 gates (bits8 (g l k))) i 0) places j 0 0 (omega arith))
+      ∙ same_at (outcome min plus2 0 (bits8 (g l k))) (bits8 (bit_xor (get_or SBOX (g l k) 0) 0x63)) j
+      (all_below_at (λ x. same_list (outcome min plus2 0 (bits8 x)) (bits8 (bit_xor (get_or SBOX x 0) 0x63))) 256
+      (g l k) computed (small l k))
+      ∙ bits_at (bit_xor (get_or SBOX (g l k) 0) 0x63) j hj
+      ∙ ap (λ n. bit_at (bit_xor n 0x63) j) (sbox_at (g l k) (small l k));
+}

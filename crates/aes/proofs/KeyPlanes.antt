@@ -1,0 +1,139 @@
+-- Keys in planes of bits.
+use Rattle.std.proofs.Common.{◌≡◌, ℕ, zero, suc, ◌+◌, ◌-◌, ◌*◌, ◌/◌, ◌%◌, ◌^◌, ◌<◌, true, ◌&&◌, ◌==◌, ltb, List, []}
+use Rattle.std.proofs.Common.{◌∷◌, ◌++◌, map, get_or, length, replicate, refl, sym, ap, ◌∙◌, arith, bit_and, bit_xor}
+use Rattle.std.proofs.Common.{ltb-true}
+use Rattle.std.specs.Int.{bit_at}
+use Rattle.std.proofs.lemmas.Nat.Bits.{bit_at-zero, bit_at_ones, bit_at-lt, shr_and_one}
+use Rattle.std.proofs.lemmas.Bool.{and_parts, eqb-true}
+use Rattle.std.proofs.lemmas.List.{get_or-map, get_or-replicate, length-replicate, get_or_append_left}
+use Rattle.std.proofs.lemmas.Simd.{length-zip2, get_or-zip2}
+use lib.Lanes.{zip2}
+use Rattle.aes.specs.Code.Lanes.{key_byte}
+use Rattle.aes.specs.Code.Planes.{spot, word_byte}
+use Rattle.aes.specs.Code.Planes.{HoldsBits, masked_byte}
+use Rattle.aes.proofs.SixteenBlocks.{same_bytes}
+use Rattle.aes.proofs.Tested.{all_below, all_below_at}
+
+-- an operator on sixteen lanes and a number in each
+pub number_lane : (f : ℕ → ℕ → ℕ) (x : List ℕ) (n i : ℕ) → length x ≡ 16 → i < 16
+    → get_or (zip2 f x (replicate 16 n)) i 0 ≡ f (get_or x i 0) n
+number_lane f x n i hx h =
+    let long = length-replicate {A = ℕ} 16 n in
+    get_or-zip2 f x (replicate 16 n) i 0 0 0 (omega arith) (omega arith)
+    ∙ ap (f (get_or x i 0)) (get_or-replicate {A = ℕ} 16 i n 0 h)
+
+long_number : (f : ℕ → ℕ → ℕ) (x : List ℕ) (n : ℕ) → length x ≡ 16 → length (zip2 f x (replicate 16 n)) ≡ 16
+long_number f x n hx = length-zip2 f x (replicate 16 n) (hx ∙ sym (length-replicate {A = ℕ} 16 n)) ∙ hx
+
+-- lanes of sixteen at places
+picked : (x ps : List ℕ) (f : ℕ → ℕ) (n l : ℕ) → length x ≡ 16 → length ps ≡ n → l < n
+    → all_below (λ i. (get_or ps i 0 == f i) && ltb (get_or ps i 0) 16) n ≡ true
+    → get_or (map (λ p. get_or (x ++ x) p 0) ps) l 0 ≡ get_or x (f l) 0
+picked x ps f n l hx hp h test =
+    let both = and_parts (get_or ps l 0 == f l) (ltb (get_or ps l 0) 16)
+    (all_below_at (λ i. (get_or ps i 0 == f i) && ltb (get_or ps i 0) 16) n l test h) in
+    let small : get_or ps l 0 < 16 = ltb-true (get_or ps l 0) 16 both.1 in
+    get_or-map (λ p. get_or (x ++ x) p 0) ps l 0 0 (omega arith)
+    ∙ get_or_append_left x x 0 (get_or ps l 0) (omega arith)
+    ∙ ap (λ p. get_or x p 0) (eqb-true (get_or ps l 0) (f l) both.0)
+
+-- sixteen places twice
+abbrev twice_places : List ℕ
+twice_places =
+    0 ∷ 1 ∷ 2 ∷ 3 ∷ 4 ∷ 5 ∷ 6 ∷ 7 ∷ 8 ∷ 9 ∷ 10 ∷ 11 ∷ 12 ∷ 13 ∷ 14 ∷ 15 ∷
+    0 ∷ 1 ∷ 2 ∷ 3 ∷ 4 ∷ 5 ∷ 6 ∷ 7 ∷ 8 ∷ 9 ∷ 10 ∷ 11 ∷ 12 ∷ 13 ∷ 14 ∷ 15 ∷ []
+
+-- the places of rows
+abbrev row_places : List ℕ
+row_places = 0 ∷ 4 ∷ 8 ∷ 12 ∷ 1 ∷ 5 ∷ 9 ∷ 13 ∷ 2 ∷ 6 ∷ 10 ∷ 14 ∷ 3 ∷ 7 ∷ 11 ∷ 15 ∷ []
+
+twice_computed : all_below (λ i. (get_or twice_places i 0 == i % 16) && ltb (get_or twice_places i 0) 16) 32 ≡ true
+twice_computed = refl
+
+rows_computed : all_below (λ i. (get_or row_places i 0 == spot i) && ltb (get_or row_places i 0) 16) 16 ≡ true
+rows_computed = refl
+
+-- the bytes of a key by rows
+pub rows_lane : (x : List ℕ) (l : ℕ) → length x ≡ 16 → l < 16
+    → get_or (map (λ p. get_or (x ++ x) p 0) row_places) l 0 ≡ get_or x (spot l) 0
+rows_lane x l hx h = picked x row_places spot 16 l hx refl h rows_computed
+
+-- a bit through a whole byte
+full_bit : (b k : ℕ) → b < 2 → k < 8 → bit_at ((0 + (2 ^ 8 - b)) % 2 ^ 8) k ≡ b
+full_bit zero k hb hk = bit_at-zero k
+full_bit (suc zero) k hb hk = bit_at_ones 8 k hk
+full_bit (suc (suc b)) k hb hk = absurd (omega arith)
+
+-- a bit of each byte through its lane
+abbrev pub full : List ℕ → ℕ → List ℕ
+full x j =
+    zip2 (λ a b. (a + (2 ^ 8 - b)) % 2 ^ 8) (replicate 16 0)
+    (zip2 bit_and (zip2 (λ a b. a / 2 ^ b) x (replicate 16 j)) (replicate 16 1))
+
+full_long : (x : List ℕ) (j : ℕ) → length x ≡ 16 → length (full x j) ≡ 16
+full_long x j hx =
+    let low = zip2 bit_and (zip2 (λ (a b : ℕ). a / 2 ^ b) x (replicate 16 j)) (replicate 16 1) in
+    let long : length low ≡ 16 = long_number bit_and (zip2 (λ a b. a / 2 ^ b) x (replicate 16 j)) 1
+    (long_number (λ a b. a / 2 ^ b) x j hx) in
+    length-zip2 (λ a b. (a + (2 ^ 8 - b)) % 2 ^ 8) (replicate 16 0) low (length-replicate {A = ℕ} 16 0 ∙ sym long)
+    ∙ length-replicate {A = ℕ} 16 0
+
+full_at : (x : List ℕ) (j i : ℕ) → length x ≡ 16 → i < 16
+    → get_or (full x j) i 0 ≡ (0 + (2 ^ 8 - bit_at (get_or x i 0) j)) % 2 ^ 8
+full_at x j i hx h =
+    let down = zip2 (λ (a b : ℕ). a / 2 ^ b) x (replicate 16 j) in
+    let low = zip2 bit_and down (replicate 16 1) in
+    let down_long : length down ≡ 16 = long_number (λ a b. a / 2 ^ b) x j hx in
+    let long : length low ≡ 16 = long_number bit_and down 1 down_long in
+    let none = length-replicate {A = ℕ} 16 0 in
+    get_or-zip2 (λ a b. (a + (2 ^ 8 - b)) % 2 ^ 8) (replicate 16 0) low i 0 0 0 (omega arith) (omega arith)
+    ∙ ap (λ a. (a + (2 ^ 8 - get_or low i 0)) % 2 ^ 8) (get_or-replicate {A = ℕ} 16 i 0 0 h)
+    ∙ ap (λ b. (0 + (2 ^ 8 - b)) % 2 ^ 8) (number_lane bit_and down 1 i down_long h
+    ∙ ap (λ a. bit_and a 1) (number_lane (λ a b. a / 2 ^ b) x j i hx h) ∙ shr_and_one (get_or x i 0) j)
+
+pub plane_bits : (x : List ℕ) (j : ℕ) → length x ≡ 16 → (l k : ℕ) → l < 32 → k < 8
+    → bit_at (get_or (map (λ p. get_or (full x j ++ full x j) p 0) twice_places) l 0) k
+    ≡ bit_at (get_or x (l % 16) 0) j
+plane_bits x j hx l k hl hk =
+    ap (λ n. bit_at n k) (picked (full x j) twice_places (λ i. i % 16) 32 l (full_long x j hx) refl hl twice_computed
+    ∙ full_at x j (l % 16) hx (omega arith))
+    ∙ full_bit (bit_at (get_or x (l % 16) 0) j) k (bit_at-lt (get_or x (l % 16) 0) j) hk
+
+-- a byte of four words
+pub word_of : (k ws : List (List ℕ)) (n i : ℕ) → i < 16
+    → ((c : ℕ) → c < 4 → get_or k c [] ≡ get_or ws (4 * n + c) []) → key_byte k i ≡ word_byte ws n i
+word_of k ws n i l same =
+    let place : i % 16 ≡ i = omega arith in
+    ap (λ (p : ℕ). get_or (get_or k (p / 4) []) (p % 4) 0) place
+    ∙ ap (λ w. get_or w (i % 4) 0) (same (i / 4) (omega arith))
+
+-- the place of a lane is that of the lane in its half
+spot_half : (l : ℕ) → spot (l % 16) ≡ spot l
+spot_half l = omega arith
+
+-- planes of a key by rows
+pub first_key : (v : List (List ℕ)) (key bytes : List ℕ) (ws : List (List ℕ))
+    → HoldsBits v (λ l k. get_or key (l % 16) 0)
+    → ((l : ℕ) → l < 16 → get_or key l 0 ≡ get_or bytes (spot l) 0)
+    → ((i : ℕ) → i < 16 → get_or bytes i 0 ≡ word_byte ws 0 i) → HoldsBits v (λ l k. word_byte ws 0 (spot l))
+first_key v key bytes ws held rows words =
+    same_bytes v held (λ l k hl hk.
+    rows (l % 16) (omega arith) ∙ words (spot (l % 16)) (omega arith) ∙ ap (word_byte ws 0) (spot_half l))
+
+pub middle_key : (v : List (List ℕ)) (key masked bytes : List ℕ) (ws : List (List ℕ)) (n : ℕ)
+    → HoldsBits v (λ l k. get_or key (l % 16) 0)
+    → ((l : ℕ) → l < 16 → get_or key l 0 ≡ get_or masked (spot l) 0)
+    → ((i : ℕ) → i < 16 → get_or masked i 0 ≡ bit_xor (get_or bytes i 0) 0x63)
+    → ((i : ℕ) → i < 16 → get_or bytes i 0 ≡ word_byte ws n i) → HoldsBits v (λ l k. masked_byte ws n (spot l))
+middle_key v key masked bytes ws n held rows mask words =
+    same_bytes v held (λ l k hl hk.
+    rows (l % 16) (omega arith) ∙ mask (spot (l % 16)) (omega arith)
+    ∙ ap (λ b. bit_xor b 0x63) (words (spot (l % 16)) (omega arith)) ∙ ap (masked_byte ws n) (spot_half l))
+
+pub last_key : (v : List (List ℕ)) (masked bytes : List ℕ) (ws : List (List ℕ)) (n : ℕ)
+    → HoldsBits v (λ l k. get_or masked (l % 16) 0)
+    → ((i : ℕ) → i < 16 → get_or masked i 0 ≡ bit_xor (get_or bytes i 0) 0x63)
+    → ((i : ℕ) → i < 16 → get_or bytes i 0 ≡ word_byte ws n i) → HoldsBits v (λ l k. masked_byte ws n (l % 16))
+last_key v masked bytes ws n held mask words =
+    same_bytes v held (λ l k hl hk.
+    mask (l % 16) (omega arith) ∙ ap (λ b. bit_xor b 0x63) (words (l % 16) (omega arith)))

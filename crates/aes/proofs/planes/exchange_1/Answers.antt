@@ -1,0 +1,14 @@
+use Rattle.aes.proofs.Exchanges.{long_first, long_second, first_1, second_1}
+use Rattle.aes.proofs.planes.exchange_1.Goals as goal
+
+pub returns : goal.returns
+returns c =
+    let x = c.args.x in
+    let y = c.args.y in
+    let hx = c.fits-x.0 in
+    let hy = c.fits-y.0 in
+    record {
+      long = (long_first 1 85 x y hx hy, long_second 1 85 x y hx hy);
+      first = λ l k hl hk. first_1 x y l k hx hy hl hk;
+      second = λ l k hl hk. second_1 x y l k hx hy hl hk;
+    }

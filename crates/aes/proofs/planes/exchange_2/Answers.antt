@@ -1,0 +1,14 @@
+use Rattle.aes.proofs.Exchanges.{long_first, long_second, first_2, second_2}
+use Rattle.aes.proofs.planes.exchange_2.Goals as goal
+
+pub returns : goal.returns
+returns c =
+    let x = c.args.x in
+    let y = c.args.y in
+    let hx = c.fits-x.0 in
+    let hy = c.fits-y.0 in
+    record {
+      long = (long_first 2 51 x y hx hy, long_second 2 51 x y hx hy);
+      first = λ l k hl hk. first_2 x y l k hx hy hl hk;
+      second = λ l k hl hk. second_2 x y l k hx hy hl hk;
+    }

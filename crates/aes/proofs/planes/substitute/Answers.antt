@@ -1,0 +1,5 @@
+use Rattle.aes.proofs.Circuit.{substituted}
+use Rattle.aes.proofs.planes.substitute.Goals as goal
+
+pub returns : goal.returns
+returns c = λ g small held. substituted c.args.p g small held

@@ -1,0 +1,560 @@
+// Sixteen blocks at once in eight planes of bits: bit j of the byte in row r and column c of block q is in
+// plane j, in lane 16 (q / 8) + 4 r + c, at bit q mod 8.
+
+ghost use Rattle.std.specs.Prelude.{◌≡◌, ℕ, ◌<◌, ◌+◌, ◌-◌, ◌*◌, ◌/◌, ◌%◌, ◌==◌, ◌≤◌, if◌then◌else◌, slice_index, slice_index_or, bit_xor, length, []};
+ghost use Rattle.std.specs.Int.{bit_at};
+ghost use Rattle.aes.specs.Field.{times};
+ghost use Rattle.std.specs.Prelude.{List};
+ghost use Rattle.octets.specs.Bytes.{IsBlock};
+ghost use Rattle.aes.specs.Columns.{columns_of};
+ghost use Rattle.aes.specs.Cipher.{sub_bytes, shift_rows, mix_columns, add_round_key};
+ghost use Rattle.aes.specs.Code.Lanes.{linear_sbox, key_byte, HoldsBlocks};
+ghost use Rattle.aes.specs.Code.Planes.{HoldsBits, HoldsSixteen, spot, word_byte, masked_byte, AreReady, HasByteBits};
+
+use crate::columns::round_key;
+use crate::lanes::{first_sixteen, spread as spread_four};
+use std::simd::prelude::*;
+use std::simd::{u8x16, u8x32, u8x64};
+
+pub(crate) type Planes = [u8x32; 8];
+
+// The lane from which ShiftRows brings each lane.
+const SHIFTED: [usize; 32] = [
+    0, 1, 2, 3, 5, 6, 7, 4, 10, 11, 8, 9, 15, 12, 13, 14, 16, 17, 18, 19, 21, 22, 23, 20, 26, 27,
+    24, 25, 31, 28, 29, 30,
+];
+
+// The lane from which ShiftRows brings each lane, the new lanes in the order of the bytes of a block.
+const SHIFTED_OUT: [usize; 32] = [
+    0, 5, 10, 15, 1, 6, 11, 12, 2, 7, 8, 13, 3, 4, 9, 14, 16, 21, 26, 31, 17, 22, 27, 28, 18, 23,
+    24, 29, 19, 20, 25, 30,
+];
+
+// The lane one row down in the same column, around the end.
+const BELOW: [usize; 32] = [
+    4, 5, 6, 7, 8, 9, 10, 11, 12, 13, 14, 15, 0, 1, 2, 3, 20, 21, 22, 23, 24, 25, 26, 27, 28, 29,
+    30, 31, 16, 17, 18, 19,
+];
+
+// The lane two rows down in the same column, around the end.
+const TWO_BELOW: [usize; 32] = [
+    8, 9, 10, 11, 12, 13, 14, 15, 0, 1, 2, 3, 4, 5, 6, 7, 24, 25, 26, 27, 28, 29, 30, 31, 16, 17,
+    18, 19, 20, 21, 22, 23,
+];
+
+// The S-box without its constant, on each byte: the circuit of Boyar and Peralta (2012), with its gates in an
+// order that keeps few values alive.
+#[inline(always)]
+pub(crate) fn substitute(p: Planes) -> Planes
+    ensures { (g : ℕ → ℕ → ℕ) → ((l k : ℕ) → g l k < 256) → HoldsBits p g
+        → HoldsBits result (λ l k. linear_sbox (g l k)) }
+{
+    let x0 = p[7];
+    let x1 = p[6];
+    let x2 = p[5];
+    let x3 = p[4];
+    let x4 = p[3];
+    let x5 = p[2];
+    let x6 = p[1];
+    let x7 = p[0];
+    let t0 = x2 ^ x1;
+    let y13 = x6 ^ x0;
+    let y1 = t0 ^ x7;
+    let y14 = x3 ^ x5;
+    let y5 = x6 ^ y1;
+    let y4 = y1 ^ x3;
+    let y12 = y14 ^ y13;
+    let t1 = y12 ^ x4;
+    let y9 = x0 ^ x3;
+    let y20 = x1 ^ t1;
+    let y8 = x0 ^ x5;
+    let t5 = x7 & y4;
+    let y11 = y9 ^ y20;
+    let y15 = t1 ^ x5;
+    let y3 = y5 ^ y8;
+    let t12 = y9 & y11;
+    let t2 = y15 & y12;
+    let y10 = t0 ^ y15;
+    let t15 = y10 & y8;
+    let y19 = y8 ^ y10;
+    let y17 = y10 ^ y11;
+    let y6 = x7 ^ y15;
+    let t3 = y6 & y3;
+    let t13 = y17 & y14;
+    let y16 = y11 ^ t0;
+    let y2 = x0 ^ y1;
+    let t6 = t5 ^ t2;
+    let t8 = y5 & y1;
+    let y7 = x7 ^ y11;
+    let t16 = t15 ^ t12;
+    let t14 = t12 ^ t13;
+    let t4 = t3 ^ t2;
+    let y21 = y13 ^ y16;
+    let t10 = y7 & y2;
+    let t18 = t16 ^ t6;
+    let t7 = y16 & y13;
+    let t11 = t7 ^ t10;
+    let t9 = t8 ^ t7;
+    let t22 = t18 ^ y19;
+    let t20 = t11 ^ t16;
+    let t19 = t9 ^ t14;
+    let t17 = t14 ^ t4;
+    let y18 = y16 ^ x0;
+    let t24 = t20 ^ y18;
+    let t21 = t17 ^ y20;
+    let t23 = t19 ^ y21;
+    let t30 = t24 ^ t23;
+    let t26 = t23 & t21;
+    let t31 = t22 ^ t26;
+    let t25 = t21 ^ t22;
+    let t32 = t31 & t30;
+    let t33 = t32 ^ t24;
+    let z11 = y4 & t33;
+    let t27 = t24 ^ t26;
+    let t34 = t23 ^ t33;
+    let t28 = t27 & t25;
+    let t35 = t27 ^ t33;
+    let t36 = t24 & t35;
+    let t38 = t36 ^ t27;
+    let t29 = t28 ^ t22;
+    let z2 = t33 & x7;
+    let t39 = t29 & t38;
+    let t42 = t29 ^ t33;
+    let t40 = t25 ^ t39;
+    let t37 = t36 ^ t34;
+    let t41 = t40 ^ t37;
+    let t43 = t29 ^ t40;
+    let z3 = t43 & y16;
+    let t45 = t42 ^ t41;
+    let t44 = t37 ^ t33;
+    let z4 = t40 & y1;
+    let z0 = y15 & t44;
+    let t53 = z3 ^ z0;
+    let z9 = y12 & t44;
+    let z7 = t45 & y17;
+    let z12 = t43 & y13;
+    let z6 = t42 & y11;
+    let t54 = z6 ^ z7;
+    let t50 = z2 ^ z12;
+    let z17 = y8 & t41;
+    let z10 = t37 & y3;
+    let t57 = t53 ^ t50;
+    let z16 = t45 & y14;
+    let t59 = t54 ^ z3;
+    let t49 = z10 ^ z9;
+    let z1 = t37 & y6;
+    let z15 = t42 & y9;
+    let z8 = t41 & y10;
+    let t46 = z15 ^ z16;
+    let t52 = z8 ^ z7;
+    let t58 = z4 ^ t46;
+    let t63 = t58 ^ t49;
+    let z5 = y7 & t29;
+    let z14 = y2 & t29;
+    let t61 = t57 ^ z14;
+    let z13 = y5 & t40;
+    let t62 = t52 ^ t58;
+    let t60 = t46 ^ t57;
+    let t65 = t62 ^ t61;
+    let t51 = z2 ^ z5;
+    let t64 = t59 ^ z4;
+    let t67 = t65 ^ t64;
+    let t47 = z10 ^ z11;
+    let t55 = z16 ^ z17;
+    let t66 = z1 ^ t63;
+    let s3 = t53 ^ t66;
+    let t48 = z5 ^ z13;
+    let s7 = t48 ^ t60;
+    let s2 = t55 ^ t67;
+    let t56 = t48 ^ z12;
+    let s6 = t56 ^ t62;
+    let s1 = t64 ^ s3;
+    let s0 = t59 ^ t63;
+    let s5 = t65 ^ t47;
+    let s4 = t51 ^ t66;
+    [s7, s6, s5, s4, s3, s2, s1, s0]
+}
+
+// The sums of the bytes.
+#[inline(always)]
+pub(crate) fn add(p: Planes, q: Planes) -> Planes
+    ensures { (g h : ℕ → ℕ → ℕ) → HoldsBits p g → HoldsBits q h
+        → HoldsBits result (λ l k. bit_xor (g l k) (h l k)) }
+{
+    [
+        p[0] ^ q[0],
+        p[1] ^ q[1],
+        p[2] ^ q[2],
+        p[3] ^ q[3],
+        p[4] ^ q[4],
+        p[5] ^ q[5],
+        p[6] ^ q[6],
+        p[7] ^ q[7],
+    ]
+}
+
+// Twice each byte.
+#[inline(always)]
+fn doubled(p: Planes) -> Planes
+    ensures { (g : ℕ → ℕ → ℕ) → ((l k : ℕ) → g l k < 256) → HoldsBits p g
+        → HoldsBits result (λ l k. times 2 (g l k)) }
+{
+    [
+        p[7],
+        p[0] ^ p[7],
+        p[1],
+        p[2] ^ p[7],
+        p[3] ^ p[7],
+        p[4],
+        p[5],
+        p[6],
+    ]
+}
+
+// ShiftRows.
+#[inline(always)]
+fn shift_rows(p: Planes) -> Planes
+    ensures { (g : ℕ → ℕ → ℕ) → HoldsBits p g → HoldsBits result (λ l k. g (slice_index SHIFTED l) k) }
+{
+    [
+        p[0].swizzle(SHIFTED),
+        p[1].swizzle(SHIFTED),
+        p[2].swizzle(SHIFTED),
+        p[3].swizzle(SHIFTED),
+        p[4].swizzle(SHIFTED),
+        p[5].swizzle(SHIFTED),
+        p[6].swizzle(SHIFTED),
+        p[7].swizzle(SHIFTED),
+    ]
+}
+
+// ShiftRows, to lanes in the order of the bytes of a block.
+#[inline(always)]
+fn shift_out(p: Planes) -> Planes
+    ensures { (g : ℕ → ℕ → ℕ) → HoldsBits p g → HoldsBits result (λ l k. g (slice_index SHIFTED_OUT l) k) }
+{
+    [
+        p[0].swizzle(SHIFTED_OUT),
+        p[1].swizzle(SHIFTED_OUT),
+        p[2].swizzle(SHIFTED_OUT),
+        p[3].swizzle(SHIFTED_OUT),
+        p[4].swizzle(SHIFTED_OUT),
+        p[5].swizzle(SHIFTED_OUT),
+        p[6].swizzle(SHIFTED_OUT),
+        p[7].swizzle(SHIFTED_OUT),
+    ]
+}
+
+// Each row becomes the row below it.
+#[inline(always)]
+fn below(p: Planes) -> Planes
+    ensures { (g : ℕ → ℕ → ℕ) → HoldsBits p g → HoldsBits result (λ l k. g (slice_index BELOW l) k) }
+{
+    [
+        p[0].swizzle(BELOW),
+        p[1].swizzle(BELOW),
+        p[2].swizzle(BELOW),
+        p[3].swizzle(BELOW),
+        p[4].swizzle(BELOW),
+        p[5].swizzle(BELOW),
+        p[6].swizzle(BELOW),
+        p[7].swizzle(BELOW),
+    ]
+}
+
+// Each row becomes the row two below it.
+#[inline(always)]
+fn two_below(p: Planes) -> Planes
+    ensures { (g : ℕ → ℕ → ℕ) → HoldsBits p g → HoldsBits result (λ l k. g (slice_index TWO_BELOW l) k) }
+{
+    [
+        p[0].swizzle(TWO_BELOW),
+        p[1].swizzle(TWO_BELOW),
+        p[2].swizzle(TWO_BELOW),
+        p[3].swizzle(TWO_BELOW),
+        p[4].swizzle(TWO_BELOW),
+        p[5].swizzle(TWO_BELOW),
+        p[6].swizzle(TWO_BELOW),
+        p[7].swizzle(TWO_BELOW),
+    ]
+}
+
+// MixColumns.
+#[inline(always)]
+fn mix(p: Planes) -> Planes
+    ensures { (g : ℕ → ℕ → ℕ) → ((l k : ℕ) → g l k < 256) → HoldsBits p g
+        → HoldsBits result (λ l k. bit_xor
+        (bit_xor (g (slice_index BELOW l) k)
+        (bit_xor (g (slice_index TWO_BELOW l) k) (g (slice_index BELOW (slice_index TWO_BELOW l)) k)))
+        (times 2 (bit_xor (g l k) (g (slice_index BELOW l) k)))) }
+{
+    let next = below(p);
+    let both = add(p, next);
+    add(add(next, two_below(both)), doubled(both))
+}
+
+// Exchanges bits between two planes whose numbers differ by 1: the bits of x at places with the digit of
+// weight 1 go down into y by 1, and those of y at places without it go up into x by 1.
+#[inline(always)]
+fn exchange_1(x: u8x32, y: u8x32) -> (u8x32, u8x32)
+    ensures long { (length result.0 ≡ 32) × (length result.1 ≡ 32) }
+    ensures first { (l k : ℕ) → l < 32 → k < 8 → bit_at (slice_index result.0 l) k
+        ≡ bit_at (slice_index (if k / 1 % 2 == 0 then x else y) l) (k - k / 1 % 2 * 1) }
+    ensures second { (l k : ℕ) → l < 32 → k < 8 → bit_at (slice_index result.1 l) k
+        ≡ bit_at (slice_index (if k / 1 % 2 == 0 then x else y) l) (k + 1 - k / 1 % 2 * 1) }
+{
+    let moved = ((x >> u8x32::splat(1)) ^ y) & u8x32::splat(0x55);
+    (x ^ (moved << u8x32::splat(1)), y ^ moved)
+}
+
+// Exchanges bits between two planes whose numbers differ by 2: the bits of x at places with the digit of
+// weight 2 go down into y by 2, and those of y at places without it go up into x by 2.
+#[inline(always)]
+fn exchange_2(x: u8x32, y: u8x32) -> (u8x32, u8x32)
+    ensures long { (length result.0 ≡ 32) × (length result.1 ≡ 32) }
+    ensures first { (l k : ℕ) → l < 32 → k < 8 → bit_at (slice_index result.0 l) k
+        ≡ bit_at (slice_index (if k / 2 % 2 == 0 then x else y) l) (k - k / 2 % 2 * 2) }
+    ensures second { (l k : ℕ) → l < 32 → k < 8 → bit_at (slice_index result.1 l) k
+        ≡ bit_at (slice_index (if k / 2 % 2 == 0 then x else y) l) (k + 2 - k / 2 % 2 * 2) }
+{
+    let moved = ((x >> u8x32::splat(2)) ^ y) & u8x32::splat(0x33);
+    (x ^ (moved << u8x32::splat(2)), y ^ moved)
+}
+
+// Exchanges bits between two planes whose numbers differ by 4: the bits of x at places with the digit of
+// weight 4 go down into y by 4, and those of y at places without it go up into x by 4.
+#[inline(always)]
+fn exchange_4(x: u8x32, y: u8x32) -> (u8x32, u8x32)
+    ensures long { (length result.0 ≡ 32) × (length result.1 ≡ 32) }
+    ensures first { (l k : ℕ) → l < 32 → k < 8 → bit_at (slice_index result.0 l) k
+        ≡ bit_at (slice_index (if k / 4 % 2 == 0 then x else y) l) (k - k / 4 % 2 * 4) }
+    ensures second { (l k : ℕ) → l < 32 → k < 8 → bit_at (slice_index result.1 l) k
+        ≡ bit_at (slice_index (if k / 4 % 2 == 0 then x else y) l) (k + 4 - k / 4 % 2 * 4) }
+{
+    let moved = ((x >> u8x32::splat(4)) ^ y) & u8x32::splat(0x0f);
+    (x ^ (moved << u8x32::splat(4)), y ^ moved)
+}
+
+// The transpose of the bits of each lane: bit k of plane j becomes bit j of plane k.
+#[inline(always)]
+fn transpose(p: Planes) -> Planes
+    ensures { HoldsBits result (λ l k. slice_index (slice_index_or p k []) l) }
+{
+    let (a0, a1) = exchange_1(p[0], p[1]);
+    let (a2, a3) = exchange_1(p[2], p[3]);
+    let (a4, a5) = exchange_1(p[4], p[5]);
+    let (a6, a7) = exchange_1(p[6], p[7]);
+    let (b0, b2) = exchange_2(a0, a2);
+    let (b1, b3) = exchange_2(a1, a3);
+    let (b4, b6) = exchange_2(a4, a6);
+    let (b5, b7) = exchange_2(a5, a7);
+    let (c0, c4) = exchange_4(b0, b4);
+    let (c1, c5) = exchange_4(b1, b5);
+    let (c2, c6) = exchange_4(b2, b6);
+    let (c3, c7) = exchange_4(b3, b7);
+    [c0, c1, c2, c3, c4, c5, c6, c7]
+}
+
+// Bit j of each of 16 bytes of key, in all eight bits of its lane, for both halves of a plane.
+#[inline(always)]
+fn plane(key: u8x16, j: u8) -> u8x32
+    requires { j < 8 }
+    ensures long { length result ≡ 32 }
+    ensures bits { (l k : ℕ) → l < 32 → k < 8
+        → bit_at (slice_index result l) k ≡ bit_at (slice_index key (l % 16)) j }
+{
+    let full = u8x16::splat(0) - ((key >> u8x16::splat(j)) & u8x16::splat(1));
+    full.swizzle([
+        0, 1, 2, 3, 4, 5, 6, 7, 8, 9, 10, 11, 12, 13, 14, 15, 0, 1, 2, 3, 4, 5, 6, 7, 8, 9, 10, 11,
+        12, 13, 14, 15,
+    ])
+}
+
+// The planes that have 16 bytes of key for each block.
+#[inline(always)]
+fn spread(key: u8x16) -> Planes
+    ensures { HoldsBits result (λ l k. slice_index key (l % 16)) }
+{
+    [
+        plane(key, 0),
+        plane(key, 1),
+        plane(key, 2),
+        plane(key, 3),
+        plane(key, 4),
+        plane(key, 5),
+        plane(key, 6),
+        plane(key, 7),
+    ]
+}
+
+// A round before the last (FIPS 197, 5.1). The constant of the S-box is in the key.
+#[inline(always)]
+pub(crate) fn round_sixteen(x: Planes, key: Planes) -> Planes
+    ensures { (f : ℕ → List ℕ) (ws : List (List ℕ)) → ((q : ℕ) → IsBlock (f q)) → HoldsSixteen x f
+        → HoldsBits key (λ l k. bit_xor (key_byte ws (spot l)) 0x63)
+        → HoldsSixteen result (λ q. add_round_key ws 0 (mix_columns (shift_rows (sub_bytes (f q))))) }
+{
+    add(mix(substitute(shift_rows(x))), key)
+}
+
+// The last round (FIPS 197, 5.1), to lanes in the order of the bytes of a block.
+#[inline(always)]
+pub(crate) fn last_sixteen(x: Planes, key: Planes) -> Planes
+    ensures { (f : ℕ → List ℕ) (ws : List (List ℕ)) → ((q : ℕ) → IsBlock (f q)) → HoldsSixteen x f
+        → HoldsBits key (λ l k. bit_xor (key_byte ws (l % 16)) 0x63)
+        → HoldsBits result (λ l k. slice_index (add_round_key ws 0 (shift_rows (sub_bytes (f (l / 16 * 8 + k))))) (l % 16)) }
+{
+    add(substitute(shift_out(x)), key)
+}
+
+// The 16 bytes of the words of a round.
+#[inline(always)]
+fn key_bytes(words: &[u32; 60], round: usize) -> u8x16
+    requires { round < 15 }
+    ensures long { length result ≡ 16 }
+    ensures bytes { (i : ℕ) → i < 16 → slice_index result i ≡ word_byte (columns_of words.now) round i }
+{
+    u8x16::from_array(first_sixteen(spread_four(round_key(words, round))))
+}
+
+// Each byte plus the constant of the S-box.
+#[inline(always)]
+fn masked(key: u8x16) -> u8x16
+    ensures { (i : ℕ) → i < 16 → slice_index result i ≡ bit_xor (slice_index key i) 0x63 }
+{
+    key ^ u8x16::splat(0x63)
+}
+
+// Bytes in the order of a block, put in the order of lanes.
+#[inline(always)]
+fn rows(key: u8x16) -> u8x16
+    ensures { (l : ℕ) → l < 16 → slice_index result l ≡ slice_index key (spot l) }
+{
+    key.swizzle([0, 4, 8, 12, 1, 5, 9, 13, 2, 6, 10, 14, 3, 7, 11, 15])
+}
+
+// The words of each round up to the last one, in planes: from the second round key on plus the constant of
+// the S-box, and those of the last round in the order of the bytes of a block.
+pub(crate) fn ready_planes(words: &[u32; 60], last: usize) -> [Planes; 15]
+    requires { (0 < last) × (last < 15) }
+    ensures { AreReady result (columns_of words.now) last }
+{
+    let mut keys = [[u8x32::splat(0); 8]; 15];
+    keys[0] = spread(rows(key_bytes(words, 0)));
+    for n in 1..last {
+        keys[n] = spread(rows(masked(key_bytes(words, n))));
+    }
+    keys[last] = spread(masked(key_bytes(words, last)));
+    keys
+}
+
+// Block 0 of each of two runs of four blocks, in the order of lanes.
+const FIRST: [usize; 32] = [
+    0, 4, 8, 12, 1, 5, 9, 13, 2, 6, 10, 14, 3, 7, 11, 15, 64, 68, 72, 76, 65, 69, 73, 77, 66, 70,
+    74, 78, 67, 71, 75, 79,
+];
+
+// Block 1 of each of two runs of four blocks, in the order of lanes.
+const SECOND: [usize; 32] = [
+    16, 20, 24, 28, 17, 21, 25, 29, 18, 22, 26, 30, 19, 23, 27, 31, 80, 84, 88, 92, 81, 85, 89, 93,
+    82, 86, 90, 94, 83, 87, 91, 95,
+];
+
+// Block 2 of each of two runs of four blocks, in the order of lanes.
+const THIRD: [usize; 32] = [
+    32, 36, 40, 44, 33, 37, 41, 45, 34, 38, 42, 46, 35, 39, 43, 47, 96, 100, 104, 108, 97, 101,
+    105, 109, 98, 102, 106, 110, 99, 103, 107, 111,
+];
+
+// Block 3 of each of two runs of four blocks, in the order of lanes.
+const FOURTH: [usize; 32] = [
+    48, 52, 56, 60, 49, 53, 57, 61, 50, 54, 58, 62, 51, 55, 59, 63, 112, 116, 120, 124, 113, 117,
+    121, 125, 114, 118, 122, 126, 115, 119, 123, 127,
+];
+
+// Four runs of four blocks, in planes.
+#[inline(always)]
+pub(crate) fn load(a: u8x64, b: u8x64, c: u8x64, d: u8x64) -> Planes
+    ensures { (f : ℕ → List ℕ) → HoldsBlocks a f → HoldsBlocks b (λ q. f (4 + q))
+        → HoldsBlocks c (λ q. f (8 + q)) → HoldsBlocks d (λ q. f (12 + q)) → HoldsSixteen result f }
+{
+    transpose([
+        a.shuffle(c, FIRST),
+        a.shuffle(c, SECOND),
+        a.shuffle(c, THIRD),
+        a.shuffle(c, FOURTH),
+        b.shuffle(d, FIRST),
+        b.shuffle(d, SECOND),
+        b.shuffle(d, THIRD),
+        b.shuffle(d, FOURTH),
+    ])
+}
+
+// The first halves of four planes after one another, and the second halves.
+#[inline(always)]
+fn halves(a: u8x32, b: u8x32, c: u8x32, d: u8x32) -> (u8x64, u8x64)
+    ensures { (f : ℕ → List ℕ) → ((q : ℕ) → IsBlock (f q)) → HasByteBits a f 0 → HasByteBits b f 1
+        → HasByteBits c f 2 → HasByteBits d f 3
+        → HoldsBlocks result.0 f × HoldsBlocks result.1 (λ q. f (8 + q)) }
+{
+    let first = a.shuffle(
+        b,
+        [
+            0, 1, 2, 3, 4, 5, 6, 7, 8, 9, 10, 11, 12, 13, 14, 15, 32, 33, 34, 35, 36, 37, 38, 39,
+            40, 41, 42, 43, 44, 45, 46, 47,
+        ],
+    );
+    let second = c.shuffle(
+        d,
+        [
+            0, 1, 2, 3, 4, 5, 6, 7, 8, 9, 10, 11, 12, 13, 14, 15, 32, 33, 34, 35, 36, 37, 38, 39,
+            40, 41, 42, 43, 44, 45, 46, 47,
+        ],
+    );
+    let third = a.shuffle(
+        b,
+        [
+            16, 17, 18, 19, 20, 21, 22, 23, 24, 25, 26, 27, 28, 29, 30, 31, 48, 49, 50, 51, 52, 53,
+            54, 55, 56, 57, 58, 59, 60, 61, 62, 63,
+        ],
+    );
+    let fourth = c.shuffle(
+        d,
+        [
+            16, 17, 18, 19, 20, 21, 22, 23, 24, 25, 26, 27, 28, 29, 30, 31, 48, 49, 50, 51, 52, 53,
+            54, 55, 56, 57, 58, 59, 60, 61, 62, 63,
+        ],
+    );
+    (
+        first.shuffle(
+            second,
+            [
+                0, 1, 2, 3, 4, 5, 6, 7, 8, 9, 10, 11, 12, 13, 14, 15, 16, 17, 18, 19, 20, 21, 22,
+                23, 24, 25, 26, 27, 28, 29, 30, 31, 32, 33, 34, 35, 36, 37, 38, 39, 40, 41, 42, 43,
+                44, 45, 46, 47, 48, 49, 50, 51, 52, 53, 54, 55, 56, 57, 58, 59, 60, 61, 62, 63,
+            ],
+        ),
+        third.shuffle(
+            fourth,
+            [
+                0, 1, 2, 3, 4, 5, 6, 7, 8, 9, 10, 11, 12, 13, 14, 15, 16, 17, 18, 19, 20, 21, 22,
+                23, 24, 25, 26, 27, 28, 29, 30, 31, 32, 33, 34, 35, 36, 37, 38, 39, 40, 41, 42, 43,
+                44, 45, 46, 47, 48, 49, 50, 51, 52, 53, 54, 55, 56, 57, 58, 59, 60, 61, 62, 63,
+            ],
+        ),
+    )
+}
+
+// Four runs of four blocks, from planes whose lanes are in the order of the bytes of a block.
+#[inline(always)]
+pub(crate) fn store(p: Planes) -> (u8x64, u8x64, u8x64, u8x64)
+    ensures { (f : ℕ → List ℕ) → ((q : ℕ) → IsBlock (f q))
+        → HoldsBits p (λ l k. slice_index (f (l / 16 * 8 + k)) (l % 16))
+        → HoldsBlocks result.0 f × HoldsBlocks result.1 (λ q. f (4 + q))
+        × HoldsBlocks result.2 (λ q. f (8 + q)) × HoldsBlocks result.3 (λ q. f (12 + q)) }
+{
+    let made = transpose(p);
+    let (first, third) = halves(made[0], made[1], made[2], made[3]);
+    let (second, fourth) = halves(made[4], made[5], made[6], made[7]);
+    (first, second, third, fourth)
+}

@@ -1,0 +1,8 @@
+-- Calls that are refused nothing.
+use Rattle.std.proofs.Common.{Result, Ok, Err, MatchResult}
+
+-- what holds of a result where no fault fits
+pub never_refused : {T E : Type 0} (r : Result T E) (P : Type 0) (Q : E → Type 0) → MatchResult r (λ _. P) Q
+    → ((e : E) → Q e → ⊥) → P
+never_refused (Ok v) P Q m none = m
+never_refused (Err e) P Q m none = absurd (none e m)

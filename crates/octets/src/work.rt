@@ -1,0 +1,38 @@
+// Work in steps, and the streams that do its steps while they mask bytes.
+
+ghost use Rattle.std.specs.Prelude.{⊤, ℕ, List};
+
+/// Work in small steps, which other code does wherever the processor has room for one. It is `Copy` so that a
+/// loop can step a local copy, which stays in registers.
+pub trait Work: Copy {
+    // Once all its steps are done, the work has taken in this text under this key.
+    ghost comes_to: { Self → List ℕ → List ℕ → Type 0 };
+
+    /// Does one step, if any is left. What the work comes to stays as it was, so no contract counts steps:
+    /// whoever owns the work does those that are left.
+    fn step(&mut self)
+        ensures { (k m : List ℕ) → comes_to self.old k m → comes_to self.new k m };
+}
+
+/// Work without steps.
+#[derive(Clone, Copy)]
+pub struct Idle;
+
+impl Work for Idle {
+    ghost comes_to = { λ w k m. ⊤ };
+
+    #[inline(always)]
+    fn step(&mut self) {}
+}
+
+/// A stream of bytes that is XORed into pieces of any length, and may do steps of other work meanwhile.
+pub trait Stream {
+    // What a call does: the stream before and after it, and the bytes before and after it.
+    ghost did: { Self → Self → List ℕ → List ℕ → Type 0 };
+
+    /// XORs the next bytes of the stream into `bytes`, and does any number of the steps of `work`, none
+    /// included.
+    fn apply_beside<W: Work>(&mut self, bytes: &mut [u8], work: &mut W)
+        ensures did { did self.old self.new bytes.old bytes.new }
+        ensures work { (k m : List ℕ) → W.comes_to work.old k m → W.comes_to work.new k m };
+}
