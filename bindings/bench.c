@@ -1,252 +1,204 @@
-/* How fast the library is beside OpenSSL's libcrypto on this machine: each suite, and the wrapping of
-   keys, at 16 bytes, 1 KiB and 16 KiB. Every message has a new key and a new nonce, as each call of the
-   library takes its key.
+/* How fast the library is on this machine, beside the peers of peers.h. bench.sh builds and runs it.
 
-       bindings/build.sh . OUT
-       cc -O2 -Ibindings/include bindings/bench.c OUT/libaeadkit.a -lcrypto -o OUT/bench && OUT/bench
+   Each message has a new key and nonce, as each call of the library takes its key, and is sealed and opened
+   in place. A peer keeps its context from message to message, and makes its key anew. Library and peers take
+   turns in one process, and each figure is the best of many short rounds. Before a row is measured, each peer
+   has to give the library's bytes. Status 1 if it does not; 2 if the program cannot run. */
+#include "peers.h"
 
-   It prints nanoseconds for a message, and behind each figure of libcrypto how many times as fast the
-   library is:
-   - aeadkit: the library;
-   - plain: libcrypto without AES instructions, carry-less products and vectors past 128 bits, which the
-     library does not use either;
-   - instructions: libcrypto with all that this processor has.
-
-   The three take turns, round by round, and each figure is the best of many short rounds. libcrypto
-   reads once, as it is loaded, what it may use, from OPENSSL_ia32cap: so the program starts itself a
-   second time with that variable set, and this second process does its rounds when asked to. Before a
-   row is measured, all three have to give the same bytes; where libcrypto has no such suite, '-' stands
-   (it has AES-GCM-SIV from version 3.2 on).
-
-   Status 0; 1 where bytes differ; 2 where the program cannot run. For Linux on x86-64, and libcrypto
-   from 3.0 on. */
-#define _GNU_SOURCE
-#include "aeadkit.h"
-
-#include <openssl/evp.h>
-#include <sched.h>
-#include <stdint.h>
-#include <stdio.h>
-#include <stdlib.h>
-#include <string.h>
-#include <sys/wait.h>
 #include <time.h>
-#include <unistd.h>
 
-enum { ROUNDS = 101, MOST = 16384, WRAPPING = 7 };
+enum { LARGEST = 16384, LONGEST_RANDOM = 8192, MOST = 128, ROUNDS = 31 };
 
-/* Leaf 1 without AES, PCLMULQDQ, AVX, FMA and XOP; nothing of leaf 7. */
-static const char RESTRAINED[] = "~0x1200180200000000:0";
+static uint8_t store[2 * LARGEST], wanted[LARGEST + 16], plain[LARGEST], data[LONGEST_RANDOM];
+static struct message messages[MOST];
 
-struct kind {
-    const char *name, *in_libcrypto;
-    size_t key_length;
-};
-
-/* By the numbers of the suites, and then the wrapping. */
-static const struct kind kinds[] = {
-    {0},
-    {"ChaCha20-Poly1305", "ChaCha20-Poly1305", 32},
-    {"AES-128-GCM", "AES-128-GCM", 16},
-    {"AES-192-GCM", "AES-192-GCM", 24},
-    {"AES-256-GCM", "AES-256-GCM", 32},
-    {"AES-128-GCM-SIV", "AES-128-GCM-SIV", 16},
-    {"AES-256-GCM-SIV", "AES-256-GCM-SIV", 32},
-    {"AES-128 key wrap", "AES-128-WRAP", 16},
-};
-static const size_t sizes[] = {16, 1024, MOST};
-
-/* What a process is asked for: a row, and how many messages; 0: the mark of what one message becomes. */
-struct task {
-    uint32_t kind;
-    uint32_t size;
-    uint64_t count;
-};
-
-struct answer {
-    int has;
-    double nanoseconds;
-    uint64_t mark;
-};
-
-static uint8_t key[32], nonce[12], bytes[MOST + 16];
-static EVP_CIPHER *cipher;
-static EVP_CIPHER_CTX *context;
-static uint32_t ready_for;
-
-/* Nanoseconds since some time. */
-static double now(void) {
-    struct timespec t;
-    clock_gettime(CLOCK_MONOTONIC, &t);
-    return t.tv_sec * 1e9 + t.tv_nsec;
+/* A number of a fixed sequence (xorshift64). */
+static uint64_t draw(void) {
+    static uint64_t state = 0x9e3779b97f4a7c15;
+    state ^= state << 13;
+    state ^= state >> 7;
+    return state ^= state << 17;
 }
 
-/* The library: one message. */
-static int by_aeadkit(const struct task *task) {
-    size_t key_length = kinds[task->kind].key_length;
-    size_t size = task->size;
-    if (task->kind == WRAPPING) return aeadkit_wrap(key, key_length, bytes, size + 8) == AEADKIT_DONE;
-    return aeadkit_seal(task->kind, key, key_length, nonce, 12, nonce, 0, bytes, size + 16) == AEADKIT_DONE;
+static void fill(uint8_t *bytes, size_t length) {
+    for (size_t i = 0; i < length; i++) bytes[i] = (uint8_t)(draw() >> 32);
 }
 
-/* libcrypto: one message, in place as well. */
-static int by_libcrypto(const struct task *task) {
-    int length, rest, size = (int)task->size;
-    if (task->kind == WRAPPING)
-        return EVP_EncryptInit_ex(context, NULL, NULL, key, NULL) == 1
-            && EVP_EncryptUpdate(context, bytes, &length, bytes + 8, size) == 1 && length == size + 8;
-    return EVP_EncryptInit_ex(context, NULL, NULL, key, nonce) == 1
-        && EVP_EncryptUpdate(context, bytes, &length, bytes, size) == 1
-        && EVP_EncryptFinal_ex(context, bytes + length, &rest) == 1
-        && EVP_CIPHER_CTX_ctrl(context, EVP_CTRL_AEAD_GET_TAG, 16, bytes + size) == 1;
-}
-
-/* Takes up libcrypto's cipher of a row; 0 where there is none. */
-static int prepare(uint32_t kind) {
-    if (ready_for == kind) return cipher != NULL;
-    ready_for = kind;
-    EVP_CIPHER_free(cipher);
-    EVP_CIPHER_CTX_reset(context);
-    cipher = EVP_CIPHER_fetch(NULL, kinds[kind].in_libcrypto, NULL);
-    if (!cipher) return 0;
-    EVP_CIPHER_CTX_set_flags(context, EVP_CIPHER_CTX_FLAG_WRAP_ALLOW);
-    return EVP_EncryptInit_ex(context, cipher, NULL, NULL, NULL) == 1;
-}
-
-/* A number that tells bytes apart (FNV-1a). */
-static uint64_t mark_of(size_t length) {
-    uint64_t sum = 0xcbf29ce484222325;
-    for (size_t i = 0; i < length; i++) sum = (sum ^ bytes[i]) * 0x100000001b3;
-    return sum;
-}
-
-/* Does a task by one of the two. */
-static struct answer perform(const struct task *task, int (*message)(const struct task *)) {
-    struct answer answer = {0};
-    if (message == by_libcrypto && !prepare(task->kind)) return answer;
-    if (task->count == 0) {
-        memset(key, 9, sizeof key);
-        memset(nonce, 5, sizeof nonce);
-        for (size_t i = 0; i < sizeof bytes; i++) bytes[i] = (uint8_t)(i * 7 + (i >> 8));
-        answer.has = message(task);
-        answer.mark = mark_of(task->size + (task->kind == WRAPPING ? 8 : 16));
-        return answer;
+/* Makes messages of one length, 16 KiB in all but no more than `most`; returns their number. */
+static size_t make(size_t length, size_t most) {
+    size_t count = length < LARGEST / 2 ? LARGEST / (length + 32) : 1;
+    if (count > most) count = most;
+    for (size_t i = 0; i < count; i++) {
+        struct message *m = &messages[i];
+        *m = (struct message){.aad = data, .bytes = store + i * ((length + 31) / 16 * 16), .length = length};
+        fill(m->key, sizeof m->key);
+        fill(m->nonce, sizeof m->nonce);
+        fill(m->bytes, length + 16);
     }
-    double start = now();
-    answer.has = 1;
-    for (uint64_t i = 0; i < task->count; i++) {
-        key[0] = nonce[0] = (uint8_t)i;
-        answer.has &= message(task);
-    }
-    answer.nanoseconds = (now() - start) / (double)task->count;
-    return answer;
+    return count;
 }
 
-/* The second process: answers each task by libcrypto. */
-static void serve(void) {
-    struct task task;
-    while (read(0, &task, sizeof task) == sizeof task) {
-        struct answer answer = perform(&task, by_libcrypto);
-        if (write(1, &answer, sizeof answer) != sizeof answer) return;
+static void differs(const struct party *party, const struct kind *kind, const struct message *m) {
+    printf("\n%s differs: %s, %zu bytes, %zu of associated data\n", party->name, kind->name, m->length,
+           m->aad_length);
+    exit(1);
+}
+
+/* Ends the program unless each party that has the kind seals the message to the library's bytes and opens
+   them, and the library refuses them with a bit changed. Leaves the text in place; returns how many peers. */
+static int agree(const struct kind *kind, const struct message *m) {
+    size_t n = whole(kind, m), place = draw() % n;
+    uint8_t *text = text_of(kind, m);
+    int peers = -1;
+    memcpy(plain, text, m->length);
+    for (const struct party *party = parties; party < parties + PARTIES; party++) {
+        if (!party->has(kind)) continue;
+        peers++;
+        int sealed = party->act(kind, m, SEALING);
+        if (party == parties) memcpy(wanted, m->bytes, n);
+        int same = memcmp(m->bytes, wanted, n) == 0;
+        int opened = party->act(kind, m, OPENING);
+        if (!sealed || !same || !opened || memcmp(text, plain, m->length) != 0) differs(party, kind, m);
+    }
+    memcpy(m->bytes, wanted, n);
+    m->bytes[place] = wanted[place] ^= 1;
+    if (by_aeadkit(kind, m, OPENING) || memcmp(m->bytes, wanted, n) != 0) differs(parties, kind, m);
+    memcpy(text, plain, m->length);
+    return peers;
+}
+
+/* Seals `count` messages and opens them, and lowers `best` to the nanoseconds of a message. It does so four
+   times, since the first one finds cold caches and wide vectors that sleep. */
+static void pass(const struct party *party, const struct kind *kind, size_t count, double best[2]) {
+    for (int turn = 0; turn < 8; turn++) {
+        enum direction direction = turn % 2 == 0 ? SEALING : OPENING;
+        struct timespec start, end;
+        int able = 1;
+        clock_gettime(CLOCK_MONOTONIC, &start);
+        for (size_t i = 0; i < count; i++) able &= party->act(kind, &messages[i], direction);
+        clock_gettime(CLOCK_MONOTONIC, &end);
+        double took = ((end.tv_sec - start.tv_sec) * 1e9 + (end.tv_nsec - start.tv_nsec)) / count;
+        if (!able) differs(party, kind, messages);
+        if (best[direction] == 0 || took < best[direction]) best[direction] = took;
     }
 }
 
-static int to_second, from_second;
+static const char *const directions[] = {"sealing", "opening"};
 
-/* Starts this program again, with libcrypto restrained. */
-static int start_second(void) {
-    int to[2], from[2];
-    if (pipe(to) || pipe(from)) return 0;
-    pid_t pid = fork();
-    if (pid < 0) return 0;
-    if (pid == 0) {
-        dup2(to[0], 0);
-        dup2(from[1], 1);
-        close(to[1]);
-        close(from[0]);
-        setenv("OPENSSL_ia32cap", RESTRAINED, 1);
-        execl("/proc/self/exe", "bench", "--second", (char *)NULL);
-        _exit(2);
+static void tables(int runs) {
+    static const size_t lengths[] = {16, 64, 256, 1024, 4096, LARGEST};
+    enum { LENGTHS = sizeof lengths / sizeof *lengths };
+    static double best[KINDS][LENGTHS][PARTIES][2];
+    for (int step = 0; step < runs * KINDS * LENGTHS; step++) {
+        int k = step / LENGTHS % KINDS, l = step % LENGTHS;
+        size_t count = make(lengths[l], kinds[k].form == WRAP ? 8 : MOST);
+        for (size_t i = 0; i < count; i++) agree(&kinds[k], &messages[i]);
+        for (int turn = 0; turn < ROUNDS * PARTIES; turn++)
+            if (parties[turn % PARTIES].has(&kinds[k]))
+                pass(&parties[turn % PARTIES], &kinds[k], count, best[k][l][turn % PARTIES]);
     }
-    close(to[0]);
-    close(from[1]);
-    to_second = to[1];
-    from_second = from[0];
-    return 1;
-}
-
-/* The three. */
-enum { OURS, PLAIN, INSTRUCTIONS, ALL };
-
-/* One of the three does a task. */
-static struct answer by(int who, const struct task *task) {
-    struct answer answer = {0};
-    if (who == OURS) return perform(task, by_aeadkit);
-    if (who == INSTRUCTIONS) return perform(task, by_libcrypto);
-    if (write(to_second, task, sizeof *task) != sizeof *task) exit(2);
-    if (read(from_second, &answer, sizeof answer) != sizeof answer) exit(2);
-    return answer;
-}
-
-/* How many messages take about 100 microseconds. */
-static uint64_t count_for(int who, struct task task) {
-    for (task.count = 1; task.count < 1 << 20; task.count *= 2) {
-        double all = by(who, &task).nanoseconds * (double)task.count;
-        if (all > 5e4) return (uint64_t)((double)task.count * 1e5 / all) + 1;
-    }
-    return task.count;
-}
-
-/* Measures a row and prints it; 0 where the bytes differ. */
-static int measure(uint32_t kind, size_t size) {
-    struct task task = {kind, (uint32_t)size, 0};
-    struct answer first[ALL];
-    double best[ALL];
-    uint64_t count[ALL];
-    for (int who = OURS; who < ALL; who++) {
-        task.count = 0;
-        first[who] = by(who, &task);
-        if (who != OURS && first[who].has && first[who].mark != first[OURS].mark) {
-            printf("%s, %zu bytes: libcrypto gives other bytes\n", kinds[kind].name, size);
-            return 0;
+    printf("Nanoseconds for a message, and how many times as fast as the best peer; best of %d runs of %d "
+           "rounds.\n\n| | |", runs, ROUNDS);
+    for (int l = 0; l < LENGTHS; l++) printf(" %zu B |", lengths[l]);
+    printf("\n|---|---|---|---|---|---|---|---|\n");
+    for (int row = 0; row < 2 * KINDS; row++) {
+        printf("| %s | %s |", kinds[row / 2].name, directions[row % 2]);
+        for (int l = 0; l < LENGTHS; l++) {
+            double (*of)[2] = best[row / 2][l];
+            int first = 0;
+            for (int p = 1; p < PARTIES; p++)
+                if (of[p][row % 2] != 0 && (!first || of[p][row % 2] < of[first][row % 2])) first = p;
+            printf(" %.0f", of[0][row % 2]);
+            if (first) printf(", %.2f %s", of[first][row % 2] / of[0][row % 2], parties[first].name);
+            printf(" |");
         }
-        best[who] = 1e30;
-        if (first[who].has) count[who] = count_for(who, task);
+        printf("\n");
     }
-    for (int round = 0; round < ROUNDS; round++)
-        for (int who = OURS; who < ALL; who++) {
-            if (!first[who].has) continue;
-            task.count = count[who];
-            double took = by(who, &task).nanoseconds;
-            if (took < best[who]) best[who] = took;
+}
+
+/* The library at 1 byte and at the multiples of 16 up to 4 KiB, at one less and at one more: first each
+   length that some shorter ones exceed by more than 5 %, then all figures. */
+static void scan(int passes) {
+    enum { LENGTHS = 3 * 256 };
+    static double best[SUITES][2][LENGTHS];
+    size_t lengths[LENGTHS] = {1};
+    for (int l = 1; l < LENGTHS; l++) lengths[l] = (size_t)(16 * ((l + 2) / 3) + (l + 2) % 3 - 1);
+    for (int step = 0; step < passes * LENGTHS; step++) {
+        int l = step % LENGTHS;
+        size_t count = make(lengths[l], 8);
+        for (int k = 0; k < SUITES; k++) {
+            double took[2] = {best[k][SEALING][l], best[k][OPENING][l]};
+            pass(parties, &kinds[k], count, took);
+            best[k][SEALING][l] = took[SEALING];
+            best[k][OPENING][l] = took[OPENING];
         }
-    printf("%-18s %6zu %10.0f", kinds[kind].name, size, best[OURS]);
-    for (int who = PLAIN; who < ALL; who++)
-        if (first[who].has) printf(" %12.0f %6.2f", best[who], best[who] / best[OURS]);
-        else printf(" %12s %6s", "-", "-");
-    putchar('\n');
-    fflush(stdout);
-    return 1;
+    }
+    printf("Nanoseconds for a message, best of %d passes.\n\n| | bytes | ns | shorter and slower "
+           "| the slowest | ns | ratio |\n|---|---|---|---|---|---|---|\n", passes);
+    for (int row = 0; row < 2 * SUITES; row++) {
+        const double *of = best[row / 2][row % 2];
+        int found = 0;
+        for (int l = LENGTHS - 1, s; l >= 0; l = s) {
+            int slow = 0, slowest = l;
+            for (s = l - 1; s >= 0 && of[s] >= of[l]; s--) {
+                slow += of[s] > 1.05 * of[l];
+                if (of[s] > of[slowest]) slowest = s;
+            }
+            found += slow > 0;
+            if (slow)
+                printf("| %s, %s | %zu | %.0f | %d | %zu | %.0f | %.2f |\n", kinds[row / 2].name,
+                       directions[row % 2], lengths[l], of[l], slow, lengths[slowest], of[slowest],
+                       of[slowest] / of[l]);
+        }
+        if (!found) printf("| %s, %s | none | | | | | |\n", kinds[row / 2].name, directions[row % 2]);
+    }
+    printf("\n| bytes |");
+    for (int k = 0; k < SUITES; k++) printf(" %s | opening |", kinds[k].name);
+    printf("\n|---|---|---|---|---|---|---|---|---|---|---|---|---|\n");
+    for (int l = 0; l < LENGTHS; l++) {
+        printf("| %zu |", lengths[l]);
+        for (int k = 0; k < SUITES; k++) printf(" %.0f | %.0f |", best[k][SEALING][l], best[k][OPENING][l]);
+        printf("\n");
+    }
+}
+
+/* Random messages at any address; their lengths go through all up to 8 KiB. */
+static void try_random(int number) {
+    int count[KINDS] = {0}, peers[KINDS] = {0};
+    struct message *m = messages;
+    for (int i = 0; i < number; i++) {
+        make(0, 1);
+        m->bytes = store + draw() % 32;
+        m->length = (size_t)i % (LONGEST_RANDOM + 1);
+        m->aad_length = draw() % (i % 8 == 0 ? LONGEST_RANDOM : 80);
+        m->aad = data + draw() % (sizeof data - m->aad_length);
+        fill(data, sizeof data);
+        fill(m->bytes, m->length + 16);
+        for (int k = 0; k < KINDS; k++) {
+            if (kinds[k].form == WRAP && (m->length < 16 || m->length % 8 != 0)) continue;
+            peers[k] = agree(&kinds[k], m);
+            count[k]++;
+        }
+    }
+    printf("Sealed to the bytes of each peer, opened, and refused with a bit changed:\n\n"
+           "| | messages | peers |\n|---|---|---|\n");
+    for (int k = 0; k < KINDS; k++) printf("| %s | %d | %d |\n", kinds[k].name, count[k], peers[k]);
 }
 
 int main(int argc, char **argv) {
-    context = EVP_CIPHER_CTX_new();
-    if (!context) return 2;
-    if (argc > 1 && strcmp(argv[1], "--second") == 0) {
-        serve();
-        return 0;
+    char **word = argv + 1;
+    void (*mode)(int) = tables;
+    if (*word && strcmp(*word, "--avx2") == 0) capability = AVX2, word++;
+    else if (*word && strcmp(*word, "--all") == 0) capability = ALL, word++;
+    if (*word && strcmp(*word, "scan") == 0) mode = scan, word++;
+    else if (*word && strcmp(*word, "random") == 0) mode = try_random, word++;
+    int number = *word ? atoi(*word++) : mode == tables ? 10 : mode == scan ? 50 : 100000;
+    if (number < 1 || word != argv + argc) {
+        fputs("bench: no such words; bench.sh alone prints them\n", stderr);
+        return 2;
     }
-    cpu_set_t one;
-    CPU_ZERO(&one);
-    CPU_SET(sched_getcpu(), &one);
-    sched_setaffinity(0, sizeof one, &one);
-    if (!start_second()) return 2;
-    printf("%s, best of %d rounds, ns for a message\n", OpenSSL_version(OPENSSL_VERSION), ROUNDS);
-    printf("%-18s %6s %10s %12s %6s %12s %6s\n", "", "bytes", "aeadkit", "plain", "", "instructions", "");
-    int same = 1;
-    for (uint32_t kind = 1; kind <= WRAPPING; kind++)
-        for (size_t i = 0; i < sizeof sizes / sizeof *sizes; i++) same &= measure(kind, sizes[i]);
-    close(to_second);
-    wait(NULL);
-    return same ? 0 : 1;
+    prepare(argv);
+    mode(number);
+    return 0;
 }

@@ -56,7 +56,7 @@ pub enum Fault {
     TooShort,
     /// The bytes are the sealing of no text.
     TagMismatch,
-    /// The length is under 24, or no multiple of 8.
+    /// The length is none of a text to wrap, or of a wrapping: each call says which it takes.
     WrapLength,
     /// The bytes are the wrapping of no text.
     WrapIntegrity,
@@ -109,13 +109,15 @@ pub fn open<'a>(
     Ok(&mut bytes[..length - TAG_BYTES])
 }
 
-/// `bytes` are room for 8 bytes and then a text; they become its wrapping. The key has 16, 24 or 32 bytes.
+/// `bytes` are room for 8 bytes and then a text; they become its wrapping. The key has 16, 24 or 32 bytes. `WrapLength`
+/// under 24 bytes, and for no multiple of 8.
 pub fn wrap(key: &[u8], bytes: &mut [u8]) -> Result<(), Fault> {
     // SAFETY: as of `seal`.
     outcome(unsafe { aeadkit_wrap(key.as_ptr(), key.len(), bytes.as_mut_ptr(), bytes.len()) })
 }
 
-/// `bytes` are a wrapping; they become a6 eight times, and then its text, which is answered.
+/// `bytes` are a wrapping; they become a6 eight times, and then its text, which is returned. `WrapLength` under 24 bytes,
+/// and for no multiple of 8.
 pub fn unwrap<'a>(key: &[u8], bytes: &'a mut [u8]) -> Result<&'a mut [u8], Fault> {
     // SAFETY: as of `seal`.
     outcome(unsafe { aeadkit_unwrap(key.as_ptr(), key.len(), bytes.as_mut_ptr(), bytes.len()) })?;
@@ -129,7 +131,8 @@ pub fn wrap_padded(key: &[u8], bytes: &mut [u8], text_length: usize) -> Result<(
     outcome(unsafe { aeadkit_wrap_padded(key.as_ptr(), key.len(), bytes.as_mut_ptr(), bytes.len(), text_length) })
 }
 
-/// `bytes` are a wrapping with padding; they become 8 bytes, then its text, which is answered, and its padding.
+/// `bytes` are a wrapping with padding; they become 8 bytes, then its text, which is returned, and its padding.
+/// `WrapLength` under 16 bytes, and for no multiple of 8.
 pub fn unwrap_padded<'a>(key: &[u8], bytes: &'a mut [u8]) -> Result<&'a mut [u8], Fault> {
     let mut length = 0;
     // SAFETY: as of `seal`, and the length is a place of this call's own.
