@@ -1,4 +1,4 @@
-// What every cipher here does.
+// The trait of all ciphers.
 
 ghost use Rattle.std.specs.Prelude.{◌≡◌, ◌++◌, ℕ, List, MatchResult};
 ghost use Rattle.aead.specs.Sealing.{Opened};
@@ -8,8 +8,8 @@ ghost use Rattle.aead.specs.Refusals.{SealRefused, OpenRefused};
 use crate::suite::Suite;
 use octets::{Fault, Nonce, Tag};
 
-/// A cipher under a key: authenticated encryption where the text stands. A sealing is the ciphertext, of
-/// the text's length, and a tag of 16 bytes.
+/// A cipher under a key, which seals and opens a text in place. A sealing is the ciphertext, as long as the
+/// text, and a tag of 16 bytes.
 pub trait Aead {
     // The suite and the key.
     ghost keyed: { Self → Keyed };
@@ -18,18 +18,18 @@ pub trait Aead {
     fn suite(&self) -> Suite
         ensures { result ≡ (keyed self.now).suite };
 
-    /// Seals `text` under a nonce with associated data: the ciphertext is left in its place, and the tag
-    /// is answered. `AadTooLong`, then `TextTooLong`, where a length in bytes is past the suite's limit.
-    /// A refusal leaves every byte as it was. It takes no memory.
+    /// Seals `text` under a nonce with associated data: leaves the ciphertext in its place and returns the
+    /// tag. Faults: `AadTooLong`, then `TextTooLong`, if a length in bytes is past the suite's limit. A
+    /// refusal leaves every byte as it was. Does not allocate.
     fn seal_in_place(&self, nonce: &Nonce, aad: &[u8], text: &mut [u8]) -> Result<Tag, Fault>
         ensures { let s = setting (keyed self.now) nonce.now aad.now in
             MatchResult result (λ tag. Opened s (text.new ++ tag) text.old)
             (λ e. SealRefused s text.old e × (text.new ≡ text.old)) };
 
-    /// Opens a ciphertext and its tag under a nonce with associated data: the text is left in the
-    /// ciphertext's place. `AadTooLong`, then `TextTooLong`, where a length in bytes is past the suite's
-    /// limit, then `TagMismatch` where ciphertext and tag are no sealing. A refusal leaves every byte as
-    /// it was. What is a sealing of a text is opened, to that text. It takes no memory.
+    /// Opens a ciphertext and its tag under a nonce with associated data: leaves the text in the
+    /// ciphertext's place. Faults: `AadTooLong`, then `TextTooLong`, if a length in bytes is past the
+    /// suite's limit, then `TagMismatch` if ciphertext and tag are not a sealing. A refusal leaves every
+    /// byte as it was. A sealing of a text is always opened, to that text. Does not allocate.
     fn open_in_place(
         &self,
         nonce: &Nonce,

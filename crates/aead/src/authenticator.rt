@@ -1,4 +1,4 @@
-// What authenticates a message, taken in piece by piece.
+// The authenticator of a message, which takes it in piece by piece.
 
 ghost use Rattle.std.specs.Prelude.{◌≡◌, ◌+◌, ◌<◌, ◌≤◌, ◌^◌, ◌++◌, ℕ, List, [], length};
 ghost use Rattle.aead.specs.Suites.{text_limit, aad_limit};
@@ -48,7 +48,7 @@ impl<H: TagHash> Authenticator<H> {
         self.length += bytes.len() as u64;
     }
 
-    // The same, while `stream` XORs its next bytes into `piece`.
+    // Takes in bytes while `stream` XORs its next ones into `piece`.
     #[inline(always)]
     pub(crate) fn update_beside<S: Stream>(
         &mut self,

@@ -102,7 +102,7 @@ impl<'a> Nonced for NoncedChaCha<'a> {
     }
 }
 
-// The same with the first blocks of its key stream from counter 0 on, for a whole text.
+// A cipher with a nonce and the first blocks of its key stream from counter 0 on, for a whole text.
 #[derive(Drop)]
 struct BegunChaCha<'a> {
     key: &'a Key32,

@@ -15,7 +15,7 @@ use crate::siv::{SivAbsorb, SivWriter};
 use octets::{Fault, Nonce, Tag};
 use std::alloc::{AllocError, Allocator};
 
-// What encrypts a text piece by piece.
+// The state that encrypts a text piece by piece.
 #[derive(Drop)]
 enum Cutting {
     // The tag is over the ciphertext.
@@ -124,9 +124,9 @@ fn add<A: Allocator + Copy>(
     Ok(())
 }
 
-/// The sealing of a text in pieces: the ciphertext in pieces that begin at place 0 and at each cut that
-/// is at most the text's length, and then the tag as one more. The caller shows that the cuts rise
-/// strictly and are at least 1. `AadTooLong`, then `TextTooLong`, where a length in bytes is past the
+/// Returns the sealing of a text in pieces: the ciphertext in pieces that begin at offset 0 and at each cut
+/// that is at most the text's length, and then the tag as one more. The caller shows that the cuts rise
+/// strictly and are at least 1. Faults: `AadTooLong`, then `TextTooLong`, if a length in bytes is past the
 /// suite's limit, then `OutOfMemory`.
 pub fn seal_cut<A: Allocator + Copy>(
     alloc: A,

@@ -128,7 +128,7 @@ fn authentication_key(parts: &KeyParts) -> Block
     Block::new(joined(&parts.at(0), &parts.at(1)))
 }
 
-// The key of the cipher, where it has 16 bytes: parts 2 and 3 (RFC 8452, 4).
+// The encryption key of 16 bytes: parts 2 and 3 (RFC 8452, 4).
 fn short_encryption_key(parts: &KeyParts) -> [u8; 16]
     requires { length parts.now.key.now ≡ 16 }
     ensures { result ≡ encryption_key parts.now.key.now parts.now.nonce.now }
@@ -136,7 +136,7 @@ fn short_encryption_key(parts: &KeyParts) -> [u8; 16]
     joined(&parts.at(2), &parts.at(3))
 }
 
-// The same, where it has 32 bytes: parts 2 to 5.
+// The encryption key of 32 bytes: parts 2 to 5.
 fn long_encryption_key(parts: &KeyParts) -> [u8; 32]
     requires { length parts.now.key.now ≡ 32 }
     ensures { result ≡ encryption_key parts.now.key.now parts.now.nonce.now }

@@ -1,4 +1,4 @@
-// What C calls: a slice crosses as a pointer and a length, a suite and an outcome as their numbers.
+// The calls for C: a slice crosses as a pointer and a length, a suite and an outcome as their numbers.
 
 ghost use Rattle.std.specs.Prelude.{◌≡◌, ◌≢◌, ◌↔◌, length, MatchResult};
 ghost use Rattle.octets.specs.Numbers.{HasOutcome};
@@ -16,7 +16,7 @@ use crate::suite::Suite;
 use aes::AesKey;
 use octets::{Fault, Key32, Nonce, Tag, outcome_number};
 
-// The answer at C where the number of a suite is none.
+// The status of a call at C whose suite number is unknown.
 const UNKNOWN_SUITE: u32 = 14;
 
 // The suite of a number.
@@ -34,7 +34,7 @@ fn suite_numbered(number: u32) -> Option<Suite>
     }
 }
 
-// Seals the bytes before the last sixteen, where the tag goes.
+// Seals the bytes before the last sixteen, which become the tag.
 fn seal_room<C: Aead>(cipher: &C, nonce: &Nonce, aad: &[u8], bytes: &mut [u8]) -> Result<(), Fault>
     ensures { let s = setting (C.keyed cipher.now) nonce.now aad.now in HasLengths s →
         MatchResult result (λ _. WasSealed s bytes.old bytes.new) (WasNotSealed s bytes.old bytes.new) }
@@ -48,7 +48,7 @@ fn seal_room<C: Aead>(cipher: &C, nonce: &Nonce, aad: &[u8], bytes: &mut [u8]) -
     Ok(())
 }
 
-// The same under the bytes of a nonce.
+// Seals under the bytes of a nonce.
 fn seal_under<C: Aead>(cipher: &C, nonce: &[u8], aad: &[u8], bytes: &mut [u8]) -> Result<(), Fault>
     requires { length (C.keyed cipher.now).key ≡ key_length (C.keyed cipher.now).suite }
     ensures { let s = setting (C.keyed cipher.now) nonce.now aad.now in
@@ -58,7 +58,7 @@ fn seal_under<C: Aead>(cipher: &C, nonce: &[u8], aad: &[u8], bytes: &mut [u8]) -
     seal_room(cipher, &nonce, aad, bytes)
 }
 
-// The same under the bytes of a key and of a nonce. A cipher of its own suite is smaller than one of any.
+// Seals under the bytes of a key and a nonce. A cipher of its own suite is smaller than one of any suite.
 fn seal_bytes(
     suite: Suite,
     key: &[u8],
@@ -100,7 +100,7 @@ fn open_room<C: Aead>(cipher: &C, nonce: &Nonce, aad: &[u8], bytes: &mut [u8]) -
     cipher.open_in_place(nonce, aad, body, &Tag::new(*last))
 }
 
-// The same under the bytes of a nonce.
+// Opens under the bytes of a nonce.
 fn open_under<C: Aead>(cipher: &C, nonce: &[u8], aad: &[u8], bytes: &mut [u8]) -> Result<(), Fault>
     requires { length (C.keyed cipher.now).key ≡ key_length (C.keyed cipher.now).suite }
     ensures { let s = setting (C.keyed cipher.now) nonce.now aad.now in
@@ -110,7 +110,7 @@ fn open_under<C: Aead>(cipher: &C, nonce: &[u8], aad: &[u8], bytes: &mut [u8]) -
     open_room(cipher, &nonce, aad, bytes)
 }
 
-// The same under the bytes of a key and of a nonce. A cipher of its own suite is smaller than one of any.
+// Opens under the bytes of a key and a nonce. A cipher of its own suite is smaller than one of any suite.
 fn open_bytes(
     suite: Suite,
     key: &[u8],
@@ -212,21 +212,21 @@ mod tests {
         assert!(rt; opened == 0 && bytes == OPENED);
     }
 
-    // Whether opening the first bytes of the sealing is answered by a number, and they stay.
+    // Whether opening the first bytes of the sealing returns a number, and leaves them.
     fn is_not_opened(suite: u32, key: &[u8], nonce: &[u8], most: usize, number: u32) -> bool {
         let mut bytes = SEALED;
         let answer = aeadkit_open(suite, key, nonce, &[], &mut bytes[..most.min(32)]);
         answer == number && bytes == SEALED
     }
 
-    // The same of sealing.
+    // Whether sealing in the first bytes returns a number, and leaves them.
     fn is_not_sealed(suite: u32, key: &[u8], nonce: &[u8], most: usize, number: u32) -> bool {
         let mut bytes = SEALED;
         let answer = aeadkit_seal(suite, key, nonce, &[], &mut bytes[..most.min(32)]);
         answer == number && bytes == SEALED
     }
 
-    // Of both.
+    // Whether opening and sealing both return a number, and leave the bytes.
     fn is_refused(suite: u32, key: &[u8], nonce: &[u8], most: usize, number: u32) -> bool {
         is_not_opened(suite, key, nonce, most, number)
             && is_not_sealed(suite, key, nonce, most, number)

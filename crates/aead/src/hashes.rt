@@ -20,7 +20,7 @@ pub(crate) trait TagHash: Drop {
     fn take_in(&mut self, bytes: &[u8])
         ensures { (s : Setting) (m : List ℕ) → held self.old s m → held self.new s (m ++ bytes.now) };
 
-    // The same, while `stream` XORs its next bytes into `piece`.
+    // Takes in bytes while `stream` XORs its next ones into `piece`.
     fn take_in_beside<S: Stream>(&mut self, bytes: &[u8], stream: &mut S, piece: &mut [u8])
         ensures held { (s : Setting) (m : List ℕ) → held self.old s m → held self.new s (m ++ bytes.now) }
         ensures did { S.did stream.old stream.new piece.old piece.new }

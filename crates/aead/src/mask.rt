@@ -30,11 +30,11 @@ pub(crate) trait MaskStream: Stream + Drop {
         self.apply_beside(piece, &mut Idle);
     }
 
-    // What a call beside other work does is that.
+    // A call beside other work masks as one without it.
     ghost masks: { (a b : Self) (was now : List ℕ) → Self.did a b was now → Masks made a b was now };
 }
 
-// What eight blocks of ChaCha20 mask, which it makes beside the hash of as many bytes.
+// The bytes that eight blocks of ChaCha20 mask, made beside the hash of as many bytes.
 pub(crate) const CHACHA_PART: usize = 512;
 
 // The key stream from counter 1 on (RFC 8439, 2.8).

@@ -11,7 +11,7 @@ use crate::hashes::TagHash;
 use crate::mask::MaskStream;
 use octets::Tag;
 
-// Pieces are masked where they stand, and authenticated as they come or as they leave.
+// Pieces are masked in place, and authenticated as they come or as they leave.
 #[derive(Drop)]
 pub(crate) struct Masking<S, H> {
     mask: S,

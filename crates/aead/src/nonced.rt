@@ -28,7 +28,7 @@ pub(crate) trait Nonced {
     fn suite(&self) -> Suite
         ensures { result ≡ (keyed self.now).suite };
 
-    // The mask under a tag; where the tag is over the ciphertext, it is the mask under any.
+    // The mask under a tag; if the tag is over the ciphertext, it is the mask under any.
     fn mask(&self, tag: &Tag) -> Self::Stream
         ensures made { (aad : List ℕ)
             → Self.Stream.made result (setting (keyed self.now) (nonce self.now) aad) tag.now 0 }
@@ -80,7 +80,7 @@ pub(crate) fn masking<N: Nonced>(
     )
 }
 
-// Turns a text into its ciphertext, and answers its tag.
+// Turns a text into its ciphertext, and returns its tag.
 pub(crate) fn seal_whole<N: Nonced>(nonced: &N, aad: &[u8], text: &mut [u8]) -> Result<Tag, Fault>
     ensures { let s = setting (N.keyed nonced.now) (N.nonce nonced.now) aad.now in
         MatchResult result (λ tag. Opened s (text.new ++ tag) text.old)
@@ -101,7 +101,7 @@ pub(crate) fn seal_whole<N: Nonced>(nonced: &N, aad: &[u8], text: &mut [u8]) -> 
     Ok(tag)
 }
 
-// Turns a ciphertext into its text where the tag is its own, and else leaves every byte as it was.
+// Turns a ciphertext into its text if the tag is its own, and else leaves every byte as it was.
 fn open_checked<N: Nonced>(nonced: &N, aad: &[u8], body: &mut [u8], tag: &Tag) -> Result<(), Fault>
     ensures tag_length { length tag.now ≡ 16 }
     ensures answer { let s = setting (N.keyed nonced.now) (N.nonce nonced.now) aad.now in
@@ -130,7 +130,7 @@ fn open_checked<N: Nonced>(nonced: &N, aad: &[u8], body: &mut [u8], tag: &Tag) -
     Err(Fault::TagMismatch)
 }
 
-// The same; it refuses no sealing within the limits.
+// Opens a ciphertext and its tag, whatever their lengths; it refuses no sealing within the limits.
 pub(crate) fn open_whole<N: Nonced>(
     nonced: &N,
     aad: &[u8],

@@ -1,4 +1,4 @@
-// Sealing piece by piece, where the tag is over the ciphertext.
+// Sealing piece by piece under the suites whose tag is over the ciphertext.
 
 ghost use Rattle.std.specs.Prelude.{◌≡◌, ◌≤◌, ◌++◌, ℕ, List, [], length, true, MatchResult, OnErr};
 ghost use Rattle.octets.specs.Masked.{masked};
@@ -45,8 +45,8 @@ fn sealing(cipher: &AnyOnePass, nonce: &Nonce, aad: &[u8]) -> AnyMasking
 impl Sealer {
     ghost use Rattle.aead.specs.Pieces.{HoldsSealer};
 
-    /// A state that holds the empty text, under a nonce with associated data. `AadTooLong` where the data
-    /// is past the suite's limit.
+    /// Returns a state that holds the empty text, under a nonce with associated data. `AadTooLong` if the
+    /// data is past the suite's limit.
     pub fn new(cipher: &AnyOnePass, nonce: &Nonce, aad: &[u8]) -> Result<Sealer, Fault>
         ensures { let s = setting (one_pass_keyed cipher.now) nonce.now aad.now in
             MatchResult result (λ sealer. HoldsSealer sealer s []) (λ e. SealRefused s [] e) }
@@ -57,8 +57,8 @@ impl Sealer {
         })
     }
 
-    /// Adds `piece`, of any length, to the text, and leaves its ciphertext in its place. `TextTooLong`
-    /// where the text would be past its limit: state and piece are then as they were.
+    /// Adds `piece`, of any length, to the text, and leaves its ciphertext in its place. `TextTooLong` if the
+    /// text would be past its limit: state and piece are then as they were.
     pub fn update(&mut self, piece: &mut [u8]) -> Result<(), Fault>
         ensures answer { (s : Setting) (text : List ℕ) → HoldsSealer self.old s text → MatchResult result
             (λ _. HoldsSealer self.new s (text ++ piece.old)
@@ -73,7 +73,7 @@ impl Sealer {
         Ok(())
     }
 
-    /// The tag of the text: 16 bytes. It spends the state.
+    /// Returns the tag of the text, 16 bytes. Consumes the state.
     pub fn finish(self) -> Tag
         ensures { (s : Setting) (text : List ℕ) → HoldsSealer self s text → result ≡ tag_of s text }
     {

@@ -1,4 +1,4 @@
-// Sealing piece by piece in two readings, where the tag is over the text (RFC 8452).
+// Sealing piece by piece by two readings under AES-GCM-SIV, whose tag is over the text (RFC 8452).
 
 ghost use Rattle.std.specs.Prelude.{◌≡◌, ◌++◌, ◌+◌, ◌<◌, ◌≤◌, ◌^◌, ℕ, List, [], length, MatchResult, OnErr};
 ghost use Rattle.octets.specs.Masked.{masked};
@@ -21,7 +21,7 @@ use octets::{Fault, Nonce, Tag};
 #[derive(Drop)]
 pub struct SivAbsorb {
     authenticator: Authenticator<PolyvalTag<PlacedMul, AesKey>>,
-    // What the second reading begins with.
+    // The authenticator that the second reading begins with.
     again: Authenticator<PolyvalTag<PlacedMul, AesKey>>,
     encryption: AesKey,
     limit: u64,
@@ -33,8 +33,8 @@ pub struct SivAbsorb {
 impl SivAbsorb {
     ghost use Rattle.aead.specs.Pieces.{HoldsAbsorb, HoldsWriter};
 
-    /// A state that holds the empty text, under a nonce with associated data. `AadTooLong` where the data
-    /// is past the suite's limit.
+    /// Returns a state that holds the empty text, under a nonce with associated data. `AadTooLong` if the
+    /// data is past the suite's limit.
     pub fn new(cipher: &GcmSiv, nonce: &Nonce, aad: &[u8]) -> Result<SivAbsorb, Fault>
         ensures { let s = setting cipher.now nonce.now aad.now in
             MatchResult result (λ absorb. HoldsAbsorb absorb s []) (λ e. SealRefused s [] e) }
@@ -70,8 +70,8 @@ impl SivAbsorb {
         self.authenticator.update(piece);
     }
 
-    /// Adds `piece`, of any length, to the text. `TextTooLong` where the text would be past its limit:
-    /// the state is then as it was.
+    /// Adds `piece`, of any length, to the text. `TextTooLong` if the text would be past its limit: the
+    /// state is then as it was.
     pub fn update(&mut self, piece: &[u8]) -> Result<(), Fault>
         ensures answer { (s : Setting) (text : List ℕ) → HoldsAbsorb self.old s text → MatchResult result
             (λ _. HoldsAbsorb self.new s (text ++ piece.now)) (λ e. SealRefused s (text ++ piece.now) e) }
@@ -84,7 +84,8 @@ impl SivAbsorb {
         Ok(())
     }
 
-    /// The tag of the text, 16 bytes, and what encrypts the second reading. It spends the state.
+    /// Returns the tag of the text, 16 bytes, and the state that encrypts the second reading. Consumes this
+    /// one.
     pub fn finish(self) -> (Tag, SivWriter)
         ensures { (s : Setting) (text : List ℕ) → HoldsAbsorb self s text
             → (result.0 ≡ tag_of s text) × HoldsWriter result.1 s text [] }
@@ -108,8 +109,7 @@ impl SivWriter {
     ghost use Rattle.aead.specs.Pieces.{HoldsWriter, Repeats};
 
     /// Adds `piece`, of any length, to the second text, and leaves its ciphertext in its place.
-    /// `SourceChanged` where that text would be longer than the first: state and piece are then as they
-    /// were.
+    /// `SourceChanged` if that text would be longer than the first: state and piece are then as they were.
     pub fn update(&mut self, piece: &mut [u8]) -> Result<(), Fault>
         ensures answer { (s : Setting) (first text : List ℕ) → HoldsWriter self.old s first text →
             MatchResult result (λ _. HoldsWriter self.new s first (text ++ piece.old)
@@ -124,8 +124,8 @@ impl SivWriter {
         Ok(())
     }
 
-    /// Whether the second text has the length and the tag of the first; else `SourceChanged`. It spends
-    /// the state.
+    /// Returns `Ok` if the second text has the length and the tag of the first, else `SourceChanged`.
+    /// Consumes the state.
     pub fn finish(self) -> Result<(), Fault>
         ensures fault { MatchResult result (λ _. Unit {0}) (λ e. e ≡ Fault.SourceChanged) }
         ensures answer { (s : Setting) (first text : List ℕ) → HoldsWriter self s first text

@@ -55,9 +55,9 @@ fn open_by<A: Allocator, C: Aead>(
     Ok(text)
 }
 
-/// The sealing of a text under a nonce with associated data: the ciphertext, of the text's length, and
-/// the tag of 16 bytes. `AadTooLong`, then `TextTooLong`, where a length in bytes is past the suite's
-/// limit, then `OutOfMemory`. The limits are low enough that any sealing's length is a `usize`.
+/// Returns the sealing of a text under a nonce with associated data: the ciphertext, as long as the text,
+/// and the tag of 16 bytes. Faults: `AadTooLong`, then `TextTooLong`, if a length in bytes is past the
+/// suite's limit, then `OutOfMemory`. The limits are low enough that any sealing's length is a `usize`.
 pub fn seal<A: Allocator>(
     alloc: A,
     cipher: &AnyAead,
@@ -71,10 +71,10 @@ pub fn seal<A: Allocator>(
     seal_by(alloc, cipher, nonce, aad, text)
 }
 
-/// The text of a sealing under a nonce with associated data. `AadTooLong` where the data is past the
-/// suite's limit, then `TooShort` for fewer than 16 bytes, then `TextTooLong` where there are more than
-/// 16 bytes past the suite's limit of a text, then `OutOfMemory`, then `TagMismatch` where the bytes are
-/// no sealing.
+/// Returns the text of a sealing under a nonce with associated data. Faults, in this order: `AadTooLong` if
+/// the data is past the suite's limit, `TooShort` for fewer than 16 bytes, `TextTooLong` if there are more
+/// than 16 bytes past the suite's limit of a text, `OutOfMemory`, `TagMismatch` if the bytes are not a
+/// sealing.
 pub fn open<A: Allocator>(
     alloc: A,
     cipher: &AnyAead,

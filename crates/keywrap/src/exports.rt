@@ -1,4 +1,4 @@
-// What C calls: a slice crosses as a pointer and a length. Each call returns 0, or a fault's number:
+// The calls for C: a slice crosses as a pointer and a length. Each call returns 0, or a fault's number:
 // `KeyLength` if the key is not 16, 24 or 32 bytes long, then as the call in place. It then changes nothing.
 
 ghost use Rattle.std.specs.Prelude.{◌≡◌, ℕ, List, drop, MatchResult};
@@ -145,7 +145,7 @@ mod tests {
 
     const KEY: [u8; 16] = [0, 1, 2, 3, 4, 5, 6, 7, 8, 9, 10, 11, 12, 13, 14, 15];
 
-    // Whether wrapping so many of the bytes answers a number and leaves these.
+    // Whether wrapping this many of the bytes returns a number and leaves these.
     fn wraps(
         key: &[u8],
         mut bytes: [u8; 24],
@@ -157,7 +157,7 @@ mod tests {
         answer == number && bytes == *after
     }
 
-    // Whether unwrapping so many of the bytes answers a number and leaves these.
+    // Whether unwrapping this many of the bytes returns a number and leaves these.
     fn unwraps(
         key: &[u8],
         mut bytes: [u8; 24],
@@ -207,14 +207,14 @@ mod tests {
         0x00,
     ];
 
-    // Whether wrapping a text of this length with padding answers a number and leaves these bytes.
+    // Whether wrapping a text of this length with padding returns a number and leaves these bytes.
     fn wraps_padded(text_length: usize, number: u32, after: &[u8; 16]) -> bool {
         let mut bytes = SHORT_ROOM;
         let answer = aeadkit_wrap_padded(&LONG_KEY, &mut bytes, text_length);
         answer == number && bytes == *after
     }
 
-    // Whether unwrapping answers a number and a length, and leaves these bytes.
+    // Whether unwrapping returns a number and a length, and leaves these bytes.
     fn unwraps_padded(key: &[u8], number: u32, text_length: usize, after: &[u8; 16]) -> bool {
         let mut bytes = SHORT_WRAPPED;
         let mut length = 0;

@@ -97,8 +97,8 @@ fn text_length(first: &[u8; 8], blocks: &[u8]) -> Option<usize>
     }
 }
 
-// Undoes the wrapping of A and the blocks. Where they are the wrapping of a text, it answers the text's
-// length, and the text is at the front of the blocks.
+// Undoes the wrapping of A and the blocks. If they are the wrapping of a text, returns the text's length, and
+// the text is at the front of the blocks.
 pub(crate) fn unwrap_start(key: &AesKey, first: &mut [u8; 8], blocks: &mut [u8]) -> Option<usize>
     requires least { 8 ≤ length blocks.old }
     requires whole { length blocks.old % 8 ≡ 0 }
@@ -123,7 +123,7 @@ pub(crate) fn alternative_value(n: u32) -> [u8; 8]
     value
 }
 
-// What the wrapping of a text begins with: A and the padded text.
+// The register that the wrapping of a text begins with: A and the padded text.
 fn start<A: Allocator>(alloc: A, text: &[u8]) -> Result<Vec<u8, A>, AllocError>
     requires { length text.now < 2 ^ 32 }
     ensures { IfOk result (λ v. v.items ≡ alternative_value (length text.now) ++ padded text.now) }
@@ -143,9 +143,9 @@ pub(crate) fn has_blocks(bytes: &[u8]) -> bool
     bytes.len() >= 16 && bytes.len() % 8 == 0
 }
 
-/// The wrapping of a text with padding: eight bytes more than the padded text (RFC 5649, 4.1). In this
-/// order: `WrapLength` for an empty text, `TextTooLong` past 2^32 - 1 bytes, `OutOfMemory` where `alloc`
-/// refuses the result.
+/// Returns the wrapping of a text with padding, eight bytes longer than the padded text (RFC 5649, 4.1).
+/// Faults, in this order: `WrapLength` for an empty text, `TextTooLong` past 2^32 - 1 bytes, `OutOfMemory`
+/// if `alloc` refuses the result.
 pub fn wrap_padded<A: Allocator>(alloc: A, key: &AesKey, text: &[u8]) -> Result<Vec<u8, A>, Fault>
     ensures { MatchResult result
         (λ v. UnwrappedPadded key.now v.items text.now) (PaddedWrapRefused text.now) }
@@ -161,9 +161,10 @@ pub fn wrap_padded<A: Allocator>(alloc: A, key: &AesKey, text: &[u8]) -> Result<
     Ok(wrapped)
 }
 
-/// The text of a wrapping with padding (RFC 5649, 4.2). In this order: `WrapLength` where the length is
-/// under 16 or no multiple of 8, `TextTooLong` past 2^32 + 8 bytes, `OutOfMemory` where `alloc` refuses as
-/// many bytes, `WrapIntegrity` where the bytes are the wrapping of no text with padding under this key.
+/// Returns the text of a wrapping with padding (RFC 5649, 4.2). Faults, in this order: `WrapLength` if the
+/// length is under 16 or no multiple of 8, `TextTooLong` past 2^32 + 8 bytes, `OutOfMemory` if `alloc`
+/// refuses that many bytes, `WrapIntegrity` if the bytes are the wrapping of no text with padding under this
+/// key.
 pub fn unwrap_padded<A: Allocator>(
     alloc: A,
     key: &AesKey,

@@ -11,9 +11,9 @@ use aes::AesKey;
 use octets::Fault;
 use std::alloc::Allocator;
 
-/// The wrapping of a text: its bytes and eight more (RFC 3394, 2.2.1). A text has whole blocks of eight
-/// bytes, and at least two. In this order: `WrapLength` where it has not, `OutOfMemory` where `alloc`
-/// refuses the result. A result that no vector could hold would be `TextTooLong`; no slice is so long.
+/// Returns the wrapping of a text, eight bytes longer than it (RFC 3394, 2.2.1). Faults, in this order:
+/// `WrapLength` if the text is not at least two whole blocks of eight bytes, `OutOfMemory` if `alloc` refuses
+/// the result. A result that no vector could hold would be `TextTooLong`; no slice is so long.
 pub fn wrap<A: Allocator>(alloc: A, key: &AesKey, text: &[u8]) -> Result<Vec<u8, A>, Fault>
     ensures { MatchResult result (λ v. Unwrapped key.now v.items text.now) (WrapRefused usize.MAX text.now) }
 {
@@ -27,9 +27,9 @@ pub fn wrap<A: Allocator>(alloc: A, key: &AesKey, text: &[u8]) -> Result<Vec<u8,
     Ok(wrapped)
 }
 
-/// The text of a wrapping: its bytes but eight (RFC 3394, 2.2.2). In this order: `WrapLength` where the
-/// length is under 24 or no multiple of 8, `OutOfMemory` where `alloc` refuses the text, `WrapIntegrity`
-/// where the bytes are the wrapping of no text under this key.
+/// Returns the text of a wrapping, eight bytes shorter than it (RFC 3394, 2.2.2). Faults, in this order:
+/// `WrapLength` if the length is under 24 or no multiple of 8, `OutOfMemory` if `alloc` refuses the text,
+/// `WrapIntegrity` if the bytes are the wrapping of no text under this key.
 pub fn unwrap<A: Allocator>(alloc: A, key: &AesKey, wrapped: &[u8]) -> Result<Vec<u8, A>, Fault>
     ensures answer { MatchResult result (λ v. Unwrapped key.now wrapped.now v.items)
         (UnwrapRefused key.now wrapped.now) }

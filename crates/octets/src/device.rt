@@ -1,4 +1,4 @@
-// What gives bytes and what takes them.
+// Devices that give bytes, and devices that take them.
 
 ghost use Rattle.std.specs.Prelude.{ℕ, List, Option};
 ghost use Rattle.std.specs.Io.{ReadsAtMost};
@@ -9,25 +9,28 @@ ghost use Rattle.octets.specs.Device.{Counts, GivesSome};
 #[derive(Clone, Copy, Debug, PartialEq, Eq, Drop)]
 pub struct DeviceFault;
 
-/// A device that gives bytes. Contracts see its count of failures and, where it tells them, the bytes left.
+/// A device that gives bytes. Contracts see its count of failures and, if the device tells them, the bytes
+/// left.
 pub trait Intake {
-    // The bytes left, where the device tells them.
+    // The bytes left, if the device tells them.
     ghost left: { Self → Option (List ℕ) };
 
     // How many takes have failed, up to 2^64 - 1.
     ghost failures: { Self → ℕ };
 
-    /// Takes the next bytes into the beginning of `buf`, and returns how many they are: none only at the end,
-    /// or for an empty `buf`. What stands past them is open. After a fault the bytes left are as they were.
+    /// Takes the next bytes into the beginning of `buf` and returns their number, which is 0 only at the end
+    /// or for an empty `buf`. The rest of `buf` may hold anything. After a fault the bytes left are as
+    /// before.
     fn take(&mut self, buf: &mut [u8]) -> Result<usize, DeviceFault>
         ensures bound { ReadsAtMost result buf.new }
         ensures bytes { ReadConsumes (left self.old) (left self.new) result buf.new }
         ensures count { Counts (failures self.old) (failures self.new) result };
 }
 
-/// A device that takes bytes. Contracts see its count of failures and, where it tells them, the bytes taken.
+/// A device that takes bytes. Contracts see its count of failures and, if the device tells them, the bytes
+/// taken.
 pub trait Outlet {
-    // The bytes taken, where the device tells them.
+    // The bytes taken, if the device tells them.
     ghost taken: { Self → Option (List ℕ) };
 
     // How many gives have failed, up to 2^64 - 1.

@@ -10,7 +10,7 @@ use std::fmt;
 pub enum Fault {
     /// The key has no length of this cipher.
     KeyLength,
-    /// The nonce has not 12 bytes.
+    /// The nonce is not 12 bytes long.
     NonceLength,
     /// The text is past its limit.
     TextTooLong,
@@ -20,7 +20,7 @@ pub enum Fault {
     TooShort,
     /// The bytes are no sealing.
     TagMismatch,
-    /// The length is none of a text to wrap, or of a wrapping.
+    /// The length is not that of a text to wrap, or not that of a wrapping.
     WrapLength,
     /// The bytes are no wrapping.
     WrapIntegrity,
@@ -63,7 +63,7 @@ impl fmt::Display for Fault {
 
 impl Error for Fault {}
 
-/// A refused growth.
+/// An allocation failed.
 impl From<AllocError> for Fault {
     ghost use Rattle.octets.specs.declared.fault.Fault.TheVariants.{OutOfMemory};
 
@@ -74,8 +74,8 @@ impl From<AllocError> for Fault {
     }
 }
 
-/// The number that an outcome has at C: 0 where the call was done, else the fault's place in `Fault`,
-/// counted from 1.
+/// Returns the number of an outcome at C: 0 if the call was done, else the fault's place in `Fault`, counted
+/// from 1.
 pub fn outcome_number(outcome: Result<(), Fault>) -> u32
     ensures { result ≡ outcome_number outcome }
 {

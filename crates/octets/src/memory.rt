@@ -42,7 +42,7 @@ impl<'a> Intake for SliceIntake<'a> {
     }
 }
 
-/// Keeps the bytes that it is given. A refused growth is its failure.
+/// Keeps the bytes that it is given. It fails if an allocation fails.
 #[derive(Drop)]
 pub struct VecOutlet<A: Allocator> {
     kept: Vec<u8, A>,
@@ -61,7 +61,7 @@ impl<A: Allocator> VecOutlet<A> {
         }
     }
 
-    /// What it took.
+    /// Returns the bytes taken so far.
     pub fn bytes(&self) -> &[u8]
         ensures { ⟦<VecOutlet<A> as Outlet>⟧.taken self.now ≡ Some result.now }
     {

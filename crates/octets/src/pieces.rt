@@ -4,7 +4,7 @@ ghost use Rattle.std.specs.Prelude.{◌≡◌, ℕ, ◌+◌, ◌*◌, ◌/◌, �
 
 use crate::work::{Idle, Stream};
 
-/// What takes in whole blocks of 16 bytes, and keeps nothing of how they were cut.
+/// A state that takes in whole blocks of 16 bytes; how they were split into calls makes no difference to it.
 pub trait Absorb {
     // a value has taken in this text of whole blocks, under this key
     ghost absorbed: { Self → List ℕ → List ℕ → Type 0 };
@@ -53,7 +53,7 @@ impl<A: Absorb> Pieces<A> {
         }
     }
 
-    /// What took in the whole blocks of the text.
+    /// The state that took in the whole blocks of the text.
     pub fn core(&self) -> &A
         ensures { (k m : List ℕ) → HoldsPieces A.absorbed self.now k m
             → A.absorbed result.now k (take (length m / 16 * 16) m) }
@@ -93,7 +93,7 @@ impl<A: Absorb> Pieces<A> {
         self.used = 0;
     }
 
-    // Adds bytes where no block is begun.
+    // Adds bytes if no block is begun.
     fn update_whole(&mut self, bytes: &[u8])
         requires { self.old.used ≡ 0 }
         ensures { (k m : List ℕ) → HoldsPieces A.absorbed self.old k m
@@ -141,7 +141,7 @@ impl<A: Absorb> Pieces<A> {
         }
     }
 
-    /// Adds the fewest zero bytes that make the length of the text a multiple of 16: none where it is one.
+    /// Adds the fewest zero bytes that make the length of the text a multiple of 16: none if it is one.
     pub fn pad16(&mut self)
         ensures { (k m : List ℕ) → HoldsPieces A.absorbed self.old k m
             → HoldsPieces A.absorbed self.new k (pad16 m) }

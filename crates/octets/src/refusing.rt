@@ -35,7 +35,7 @@ impl<A: Allocator> Drop for RefusingMemory<A> {
     }
 }
 
-// Counts a request, and answers whether it is the refused one.
+// Counts a request, and returns whether it is the one to refuse.
 fn is_due(before: &Cell<Option<u64>>) -> bool {
     match before.get() {
         Some(0) => {

@@ -6,7 +6,7 @@ use crate::device::{DeviceFault, Intake, Outlet};
 use crate::memory::VecOutlet;
 use std::alloc::Allocator;
 
-/// What one call does.
+/// One call of a device by a script.
 #[derive(Clone, Copy, PartialEq, Eq, Debug, Drop)]
 pub enum Step {
     /// At most so many bytes; 0 counts as 1.
@@ -103,7 +103,7 @@ impl<A: Allocator> ScriptOutlet<A> {
         }
     }
 
-    /// What it took.
+    /// Returns the bytes taken so far.
     pub fn bytes(&self) -> &[u8]
         ensures { ⟦<ScriptOutlet<A> as Outlet>⟧.taken self.now ≡ Some result.now }
     {

@@ -5,8 +5,8 @@ ghost use Rattle.std.specs.Prelude.{◌≡◌};
 use crate::device::{DeviceFault, Intake, Outlet};
 use std::io::{Read, Write};
 
-/// Takes from a reader, and counts its failures; an interrupted read is one. It tells its bytes where the
-/// reader does.
+/// Takes from a reader, and counts its failures; an interrupted read is one. It tells its bytes if the reader
+/// does.
 #[derive(Drop)]
 pub struct FromRead<R> {
     reader: R,
@@ -14,7 +14,7 @@ pub struct FromRead<R> {
 }
 
 impl<R: Read> FromRead<R> {
-    /// What the reader has left is left, and nothing failed yet.
+    /// A device with the bytes that the reader has left, and no failures yet.
     pub fn new(reader: R) -> Self
         ensures left { ⟦<FromRead<R> as Intake>⟧.left result ≡ R.remaining reader }
         ensures failed { ⟦<FromRead<R> as Intake>⟧.failures result ≡ 0 }
@@ -40,7 +40,7 @@ impl<R: Read> Intake for FromRead<R> {
 }
 
 /// Gives to a writer, and counts its failures; an interrupted write is one, and a write of nothing from a
-/// slice that is not empty. It tells its bytes where the writer does.
+/// slice that is not empty. It tells its bytes if the writer does.
 #[derive(Drop)]
 pub struct ToWrite<W> {
     writer: W,
@@ -48,7 +48,7 @@ pub struct ToWrite<W> {
 }
 
 impl<W: Write> ToWrite<W> {
-    /// What the writer holds is taken, and nothing failed yet.
+    /// A device that took the bytes that the writer holds, with no failures yet.
     pub fn new(writer: W) -> Self
         ensures taken { ⟦<ToWrite<W> as Outlet>⟧.taken result ≡ W.contents writer }
         ensures failed { ⟦<ToWrite<W> as Outlet>⟧.failures result ≡ 0 }

@@ -27,7 +27,7 @@ impl Work for Idle {
 
 /// A stream of bytes that is XORed into pieces of any length, and may do steps of other work meanwhile.
 pub trait Stream {
-    // What a call does: the stream before and after it, and the bytes before and after it.
+    // The effect of a call, as a relation: the stream before and after it, the bytes before and after it.
     ghost did: { Self → Self → List ℕ → List ℕ → Type 0 };
 
     /// XORs the next bytes of the stream into `bytes`, and does any number of the steps of `work`, none

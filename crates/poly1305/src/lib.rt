@@ -31,8 +31,8 @@ pub trait Multiplier: Drop {
         requires { IsClamped r }
         ensures { factor result ≡ r };
 
-    /// The sum with one block more, times the factor. `mark` is 1 for a whole block, whose added bit stands
-    /// past its 16 bytes, and 0 for a shorter one, which has that bit within `block`.
+    /// Returns the sum with one block more, times the factor. `mark` is 1 for a whole block, whose added bit
+    /// is past its 16 bytes, and 0 for a shorter one, which has that bit within `block`.
     fn step(&self, sum: Sum, block: u128, mark: u64) -> Sum
         requires { mark ≤ 1 }
         ensures { pair result.low result.high % prime

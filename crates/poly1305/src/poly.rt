@@ -43,7 +43,7 @@ impl<M: Multiplier> Absorb for PolySum<M> {
     }
 }
 
-// What a block of fewer than 16 bytes counts: its bytes, then one bit more.
+// The number of a block of fewer than 16 bytes: its bytes, then one bit more.
 fn short_block_number(bytes: &[u8]) -> u128
     requires { length bytes.now < 16 }
     ensures { result ≡ block_number bytes.now }

@@ -4,14 +4,14 @@ ghost use Rattle.std.specs.Option.{option_map_or};
 ghost use Rattle.std.specs.List.{slice_split};
 ghost use Rattle.vectors.specs.Cuts.{is_digit, has_no_leading_zero, number_of, rise, are_cuts};
 
-// Where the first comma stands.
+// The place of the first comma.
 fn comma(text: &[u8]) -> Option<usize>
     ensures { result ≡ position (λ b. b == 44) text.now }
 {
     text.iter().position(|b| *b == b',')
 }
 
-// The text before the first comma, and what stands behind it.
+// The text before the first comma, and the text after it.
 fn first_part(text: &[u8]) -> (&[u8], Option<&[u8]>)
     ensures parts { slice_split (λ b. b == 44) text.now
         ≡ result.0.now ∷ option_map_or (λ rest. slice_split (λ b. b == 44) rest.now) result.1 [] }

@@ -5,13 +5,13 @@ use std::alloc::AllocError;
 use std::error::Error;
 use std::fmt;
 
-/// Why a file has no report. Lines are numbered from 1. `Display` writes the name, and ` at line N` where
-/// the fault has a line, as `BadHex at line 4`.
+/// Why a file has no report. Lines are numbered from 1. `Display` writes the name, and ` at line N` if the
+/// fault has a line, as `BadHex at line 4`.
 #[derive(Clone, Copy, Debug, PartialEq, Eq, Drop)]
 pub enum VectorFault {
-    /// The format line is expected, and something else stands there.
+    /// The format line is expected, and the line is something else.
     BadFormat(u64),
-    /// A line of a record is expected, and no value line stands there.
+    /// A line of a record is expected, and the line is no value line.
     BadLine(u64),
     /// A value line with another name than the expected one.
     WrongName(u64),
@@ -66,7 +66,7 @@ impl From<AllocError> for VectorFault {
     }
 }
 
-// What is wrong with a line.
+// The reason why a line is refused.
 #[derive(Clone, Copy, PartialEq, Eq)]
 pub(crate) enum Cause {
     BadFormat,

@@ -1,4 +1,4 @@
-// What may stand on the next line.
+// A place in the file: which line may come next.
 ghost use Rattle.std.specs.Prelude.{◌≡◌, ◌≤◌};
 ghost use Rattle.vectors.specs.Grammar.{value_line, may_cut, unread, with_field};
 ghost use Rattle.vectors.specs.Faults.{is_named};
@@ -66,7 +66,7 @@ pub(crate) enum Place<'a> {
     Start,
     // The first line of a record, or a line between records.
     Between(Format),
-    // The first of the fields that are left, or the end where none is.
+    // The first of the fields that are left, or the end if there are none.
     Fields {
         format: Format,
         left: &'static [Field],
@@ -79,7 +79,7 @@ pub(crate) enum Place<'a> {
     },
 }
 
-// What a line leads to.
+// The place after a line, and the record that it ends.
 pub(crate) struct Next<'a> {
     /// Which line is expected behind it.
     pub place: Place<'a>,
@@ -97,7 +97,7 @@ impl<'a> Next<'a> {
         Next { place, ended: None }
     }
 
-    // What is behind the last line of a record.
+    // The place after the last line of a record.
     fn behind(format: Format, entry: Entry<'a>) -> Next<'a>
         ensures { next_view result ≡ (view (places.Between format), entry_view entry.entry ∷ []) }
     {
@@ -201,7 +201,7 @@ fn may_cut(format: Format, suite: Suite) -> bool
     }
 }
 
-// What is expected behind a text line, and the record that it ends.
+// The place after a text line, and the record that it ends.
 #[tactic(auto, unfolding(crate::specs::Code::Steps::text_at))]
 fn text_at<'a>(format: Format, entry: Entry<'a>, line: &'a [u8]) -> Result<Next<'a>, Cause>
     ensures { Gives next_view result
@@ -211,7 +211,7 @@ fn text_at<'a>(format: Format, entry: Entry<'a>, line: &'a [u8]) -> Result<Next<
     Ok(Next::behind(format, Entry { text, ..entry }))
 }
 
-// What is expected behind a line of cuts.
+// The place after a line of cuts.
 #[tactic(auto, unfolding(crate::specs::Code::Steps::cuts_at))]
 fn cuts_at<'a>(format: Format, entry: Entry<'a>, line: &'a [u8]) -> Result<Next<'a>, Cause>
     ensures { Gives next_view result
@@ -225,7 +225,7 @@ fn cuts_at<'a>(format: Format, entry: Entry<'a>, line: &'a [u8]) -> Result<Next<
     }
 }
 
-// What is expected behind the line behind all fields, and the record that it ends.
+// The place after the line that follows all fields, and the record that it ends.
 #[tactic(auto, unfolding(crate::specs::Code::Steps::end_at))]
 fn end_at<'a>(format: Format, entry: Entry<'a>, line: &'a [u8]) -> Result<Next<'a>, Cause>
     ensures { Gives next_view result
@@ -246,7 +246,7 @@ fn end_at<'a>(format: Format, entry: Entry<'a>, line: &'a [u8]) -> Result<Next<'
     text_at(format, entry, line)
 }
 
-// What is expected behind a line, and the record that it ends.
+// The place after any line, and the record that it ends.
 #[tactic(auto, unfolding(crate::specs::Code::Steps::step))]
 pub(crate) fn step<'a>(place: Place<'a>, line: &'a [u8]) -> Result<Next<'a>, Cause>
     ensures { Gives next_view result (step (view place.entry) line.entry.now) }

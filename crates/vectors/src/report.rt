@@ -8,8 +8,8 @@ use crate::agree::agrees;
 use crate::place::Entry;
 use std::alloc::{AllocError, Allocator};
 
-/// What a vector file lists: how many records, and the numbers, from 1 and rising, of those that disagree
-/// with their standard.
+/// The report of a vector file: how many records it has, and the numbers, from 1 and rising, of those that
+/// disagree with their standard.
 #[derive(Debug, Drop)]
 pub struct Report<A: Allocator> {
     /// The number of records.
@@ -19,7 +19,7 @@ pub struct Report<A: Allocator> {
 }
 
 impl<A: Allocator> Report<A> {
-    // Counts one more record, and notes its number where it disagrees.
+    // Counts one more record, and notes its number if it disagrees.
     pub(crate) fn judge(&mut self, entry: &Entry<'_>) -> Result<(), AllocError>
         requires room { self.old.records + 1 < 2 ^ 64 }
         requires sized { IsSized (entry_view entry.now) }

@@ -21,7 +21,7 @@ pub(crate) enum Aes {
     Bits256,
 }
 
-// What a record's bytes are sealed or wrapped by.
+// The algorithm that a record's bytes are sealed or wrapped by.
 #[derive(Clone, Copy, Debug, PartialEq, Eq)]
 pub(crate) enum Suite {
     Aead(aead::Suite),
@@ -177,7 +177,7 @@ impl Suite {
         }
     }
 
-    /// How many bytes a field has, where the format says so.
+    /// Returns how many bytes a field has, if the format says so.
     pub fn field_length(self, field: Field) -> Option<usize>
         ensures { result ≡ field_length self field }
     {

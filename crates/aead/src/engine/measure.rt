@@ -30,8 +30,8 @@ fn slide(last: &mut [u8; 16], piece: &[u8])
 impl Measured {
     ghost use Rattle.aead.specs.Measure.{Measures};
 
-    // Reads to the end: `TextTooLong` as soon as a byte more than `limit` and 16 was taken, and none is taken
-    // after it; `TooShort` where they are fewer than 16.
+    // Reads to the end. Faults: `TextTooLong` as soon as a byte more than `limit` and 16 was taken, and none
+    // is taken after it; `TooShort` if there are fewer than 16.
     pub(crate) fn of<I: Intake>(intake: &mut I, limit: u64) -> Result<Measured, Fault>
         requires { limit < 2 ^ 39 }
         ensures { Measures limit (I.left intake.old) (I.left intake.new) (I.failures intake.old)

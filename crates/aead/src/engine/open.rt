@@ -45,7 +45,7 @@ fn measure_step<I: Intake>(suite: Suite, intake: &mut I) -> Result<Measured, Fau
     Measured::of(intake, suite.text_limit())
 }
 
-// The answer to what the verify reading showed.
+// The result for what the verify reading showed.
 fn answer_verify(finding: Finding) -> Result<(), Fault>
     ensures { result ≡ verify_answer finding }
 {
@@ -56,7 +56,7 @@ fn answer_verify(finding: Finding) -> Result<(), Fault>
     }
 }
 
-// The answer to what the write reading showed.
+// The result for what the write reading showed.
 fn answer_write(finding: Finding) -> Result<(), Fault>
     ensures { result ≡ write_answer finding }
 {
@@ -66,7 +66,7 @@ fn answer_write(finding: Finding) -> Result<(), Fault>
     }
 }
 
-// A whole reading, of which nothing is given: it is decrypted only where the tag is over the text.
+// Verifies a whole reading and gives nothing: it is decrypted only if the tag is over the text.
 fn verify_reading<I: Intake>(
     cipher: &AnyAead,
     nonce: &Nonce,
@@ -138,16 +138,15 @@ fn write_step<I: Intake, O: Outlet>(
     }
 }
 
-/// Opens a sealed stream that is read three times: measured, verified as a sealing, and then written,
-/// each piece being decrypted and given before the next one is taken. It takes no memory, and holds
-/// buffers of a fixed size.
+/// Opens a sealed stream by three readings: it is measured, verified as a sealing, and then decrypted, each
+/// piece being given before the next one is taken. Does not allocate, and holds buffers of a fixed size.
 ///
-/// `AadTooLong` comes before any reading. `TextTooLong` comes as soon as the measure reading has given 17
-/// bytes more than the suite's limit of a text, `TooShort` where it has fewer than 16. `SourceChanged` comes
-/// where the verify reading has another length or other last 16 bytes, then `TagMismatch` where it is no
-/// sealing: nothing is given up to here. `SourceChanged` comes then where the write reading has another
-/// length or other last 16 bytes, or is no sealing: what was given is to be thrown away, as after `Read`,
-/// where a reading failed, and `Write`, where the outlet did.
+/// Faults: `AadTooLong` before any reading; `TextTooLong` as soon as the first reading has given 17 bytes
+/// more than the suite's limit of a text; `TooShort` if it has fewer than 16. `SourceChanged` if the second
+/// reading has another length or other last 16 bytes, then `TagMismatch` if it is not a sealing; nothing is
+/// given up to here. Then `SourceChanged` if the third reading has another length or other last 16 bytes, or
+/// is not a sealing. `Read` if a reading failed, `Write` if the outlet did. After `SourceChanged`, `Read`
+/// and `Write` what was given is to be thrown away.
 pub fn open_stream<I: Intake, J: Intake, K: Intake, O: Outlet>(
     cipher: &AnyAead,
     nonce: &Nonce,

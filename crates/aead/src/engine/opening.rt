@@ -49,7 +49,7 @@ fn pass_over<N: Nonced, I: Intake, O: Outlet>(
     pass(intake, opening, measured, outlet)
 }
 
-// The same by AES-GCM, with a multiplier of the type `M`.
+// Opens a whole reading by AES-GCM, with a multiplier of the type `M`.
 fn pass_gcm<M: Keyed128, I: Intake, O: Outlet>(
     cipher: &Gcm,
     nonce: &Nonce,
@@ -70,7 +70,7 @@ fn pass_gcm<M: Keyed128, I: Intake, O: Outlet>(
     pass_over(&cipher.nonced(nonce, &made), aad, intake, measured, outlet)
 }
 
-// The same by AES-GCM-SIV.
+// Opens a whole reading by AES-GCM-SIV.
 fn pass_siv<M: Keyed128, I: Intake, O: Outlet>(
     cipher: &GcmSiv,
     nonce: &Nonce,
@@ -93,7 +93,7 @@ fn pass_siv<M: Keyed128, I: Intake, O: Outlet>(
     pass_over(&nonced, aad, intake, measured, outlet)
 }
 
-// The same by a cipher of any suite.
+// Opens a whole reading by a cipher of any suite.
 pub(crate) fn pass_opening<I: Intake, O: Outlet>(
     cipher: &AnyAead,
     nonce: &Nonce,

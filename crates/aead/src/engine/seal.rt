@@ -40,12 +40,12 @@ fn seal_over<N: Nonced, I: Intake, O: Outlet>(
     }
 }
 
-/// Seals a stream in one reading: each piece is encrypted and given before the next one is taken, and the
-/// tag is given last. It takes no memory, and holds a buffer of a fixed size.
+/// Seals a stream by one reading: each piece is encrypted and given before the next one is taken, and the
+/// tag is given last. Does not allocate, and holds a buffer of a fixed size.
 ///
-/// `AadTooLong` comes before any reading, `TextTooLong` once more than the suite's limit of a text was
-/// taken. `Read` comes where the reading failed, `Write` where the outlet did. What was given at a
-/// refusal is a beginning of ciphertext and tag.
+/// Faults: `AadTooLong` before any reading, `TextTooLong` once more than the suite's limit of a text was
+/// taken, `Read` if the reading failed, `Write` if the outlet did. What was given at a refusal is a
+/// beginning of ciphertext and tag.
 pub fn seal_stream<I: Intake, O: Outlet>(
     cipher: &AnyOnePass,
     nonce: &Nonce,

@@ -24,7 +24,7 @@ use crate::second_reading::repeats;
 use gf128::{Keyed128, WideMul};
 use octets::{Fault, Intake, Nonce, Outlet, Tag, give_all};
 
-// Takes in a reading to its end, and answers whether that was within a limit.
+// Takes in a reading to its end, and returns whether that was within a limit.
 fn absorb_all<I: Intake, H: TagHash>(
     intake: &mut I,
     reading: &mut Authenticator<H>,
@@ -49,7 +49,7 @@ fn absorb_all<I: Intake, H: TagHash>(
     }
 }
 
-// Encrypts and gives a second reading, and then the tag where it repeats the first one.
+// Encrypts and gives a second reading, and then the tag if it repeats the first one.
 fn write_again<J: Intake, O: Outlet, S: MaskStream, H: TagHash>(
     intake: &mut J,
     mut again: Masking<S, H>,
@@ -116,7 +116,7 @@ fn seal_over<N: Nonced, I: Intake, J: Intake, O: Outlet>(
     }
 }
 
-// The same with a multiplier of the type `M`.
+// Seals a stream by two readings, with a multiplier of the type `M`.
 fn seal_by<M: Keyed128, I: Intake, J: Intake, O: Outlet>(
     cipher: &GcmSiv,
     nonce: &Nonce,
@@ -142,14 +142,14 @@ fn seal_by<M: Keyed128, I: Intake, J: Intake, O: Outlet>(
     seal_over(&nonced, aad, first, second, out)
 }
 
-/// Seals a stream in two readings by AES-GCM-SIV: the first is authenticated, and of the second each
+/// Seals a stream by two readings under AES-GCM-SIV: the first is authenticated, and of the second each
 /// piece is encrypted and given before the next one is taken; the tag is given last, after the second
-/// reading was found to have the length and the tag of the first. It takes no memory, and holds buffers
-/// of a fixed size.
+/// reading was found to have the length and the tag of the first. Does not allocate, and holds buffers of a
+/// fixed size.
 ///
-/// `AadTooLong` comes before any reading, `TextTooLong` once more than the suite's limit of a text was
-/// taken: nothing is given up to here. `SourceChanged` comes where the second reading has another length
-/// or tag. `Read` comes where a reading failed, `Write` where the outlet did.
+/// Faults: `AadTooLong` before any reading, `TextTooLong` once more than the suite's limit of a text was
+/// taken; nothing is given up to here. `SourceChanged` if the second reading has another length or tag,
+/// `Read` if a reading failed, `Write` if the outlet did.
 pub fn seal_siv_stream<I: Intake, J: Intake, O: Outlet>(
     cipher: &GcmSiv,
     nonce: &Nonce,
