@@ -130,7 +130,7 @@ fn open_checked<N: Nonced>(nonced: &N, aad: &[u8], body: &mut [u8], tag: &Tag) -
     Err(Fault::TagMismatch)
 }
 
-// Opens a ciphertext and its tag, whatever their lengths; it refuses no sealing within the limits.
+// Opens a ciphertext and its tag in place. A sealing of a text is never refused.
 pub(crate) fn open_whole<N: Nonced>(
     nonced: &N,
     aad: &[u8],
