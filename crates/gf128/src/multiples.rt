@@ -114,20 +114,29 @@ pub(crate) struct Multiples256 {
     ghost filled: { (j : ℕ) → j < 256 → IsBitsProduct 8 j word (slice_index entries j) },
 }
 
+// Makes a table the multiples of a word by eight bits, of those by four bits. It stays where it is: a table
+// of 4 KiB takes longer to move than to fill.
+fn fill(entries: &mut [u128; 256], word: u128)
+    ensures { (k : ℕ) → k < 256 → IsBitsProduct 8 k word (slice_index entries.new k) }
+{
+    let high = Multiples16::of(word);
+    let low = Multiples16::of(times_x4(word));
+    'rows: for i in 0..16usize {
+        'entries: for j in 0..16usize {
+            let place = 16 * i + j;
+            entries[place] = by_eight_bits(&high, &low, place as u64);
+        }
+    }
+}
+
 impl Multiples256 {
-    // The multiples of a word, made of those by four bits.
+    // The multiples of a word.
+    #[inline(always)]
     pub(crate) fn of(word: u128) -> Multiples256
         ensures { result.word ≡ word }
     {
-        let high = Multiples16::of(word);
-        let low = Multiples16::of(times_x4(word));
         let mut entries = [0u128; 256];
-        'rows: for i in 0..16usize {
-            'entries: for j in 0..16usize {
-                let place = 16 * i + j;
-                entries[place] = by_eight_bits(&high, &low, place as u64);
-            }
-        }
+        fill(&mut entries, word);
         Multiples256 { word, entries }
     }
 

@@ -1,6 +1,6 @@
 use Rattle.std.proofs.Common.{◌≡◌, ℕ, ◌+◌, ◌*◌, ◌<◌, length, get_or}
 use Rattle.gf128.specs.Code.Words.{IsBitsProduct}
-use Rattle.gf128.proofs.multiples.Multiples256.of.Given as goal
+use Rattle.gf128.proofs.multiples.fill.Given as goal
 
 abbrev pub invariant-rows : goal.invariant-rows
 invariant-rows l = (length l.entries ≡ 256) × ((k : ℕ) → k < 16 * l.i
