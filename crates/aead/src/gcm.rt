@@ -20,7 +20,7 @@ use std::marker::Model;
 const SHORT: usize = 128;
 
 // From so many bytes on, those of four powers of the hash key are.
-pub(crate) const LONG: usize = 1536;
+pub(crate) const LONG: usize = 2304;
 
 /// AES-GCM under a key of 16, 24 or 32 bytes (SP 800-38D). Opening in place authenticates before it
 /// changes a byte. Contracts see its suite and key. `AnyAead::new` makes it.

@@ -24,7 +24,7 @@ use std::marker::Model;
 const SHORT: usize = 128;
 
 // From so many bytes on, those of four powers of the key are.
-const LONG: usize = 1536;
+const LONG: usize = 2304;
 
 /// AES-GCM-SIV under a key of 16 or 32 bytes (RFC 8452). Opening in place decrypts before it can
 /// authenticate, and encrypts again after `TagMismatch`. Contracts see its suite and key. `AnyAead::new`
