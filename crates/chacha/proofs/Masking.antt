@@ -216,6 +216,19 @@ run_of_zeros key nonce p size n bytes stream now is_stream long =
     (omega (arith, l, length-replicate {A = ℕ} size 0))
     (get_or-replicate size i 0 0 l) (omega arith))
 
+-- where it is two blocks, one after the other
+pub run_of_two : (key nonce : List ℕ) (p n : ℕ) (blocks : List (List ℕ)) (bytes stream now : List ℕ)
+    → blocks ≡ block key (p / 64) nonce ∷ block key (p / 64 + 1) nonce ∷ []
+    → stream ≡ flat_map (λ b. b) blocks → length stream ≡ length blocks * 64
+    → n ≡ min (length stream - p % 64) (length bytes)
+    → now ≡ xor_bytes (take n bytes) (take n (drop (p % 64) stream)) ++ drop n bytes
+    → now ≡ masked (key_stream_byte key nonce 0) p (take n bytes) ++ drop n bytes
+run_of_two key nonce p n blocks bytes stream now are is_stream long =
+    let two : length blocks ≡ 2 = ap length are in
+    run_of_stream key nonce p 128 n bytes stream now (omega (arith, long, two)) (λ i l.
+    ap (λ s. get_or s i 0) (is_stream ∙ ap (λ bs. flat_map (λ (b : List ℕ). b) bs) are)
+    ∙ two_blocks_bytes key nonce (p / 64) i l)
+
 -- where it is a block
 pub run_of_block : (key nonce : List ℕ) (p n : ℕ) (bytes stream now : List ℕ)
     → stream ≡ block key (p / 64) nonce

@@ -6,7 +6,7 @@ ghost use Rattle.octets.specs.Bytes.{xor_bytes};
 ghost use Rattle.octets.specs.Masked.{masked};
 ghost use Rattle.chacha.specs.Stream.{key_stream_byte};
 
-use crate::{lanes, single};
+use crate::{lanes, rows, single};
 use octets::{Fault, Idle, Key32, Nonce, Stream, Work, xor_into};
 
 // The end of the key stream from counter 0 on: 2^32 blocks of 64 bytes.
@@ -108,16 +108,21 @@ fn xor_run<W: Work>(key: &Key32, nonce: &Nonce, place: u64, bytes: &mut [u8], wo
         lanes::xor_eight_blocks(key, counter, nonce, &mut bytes[..512], work);
         return 512;
     }
-    // Up to five blocks are made faster as four and one.
+    // Up to five blocks are made faster as four and the rest.
     if skip + bytes.len() > 320 && counter <= u32::MAX - 7 {
         let mut stream = [0; 512];
         lanes::xor_eight_blocks(key, counter, nonce, &mut stream, work);
         return xor_part(&stream, skip, bytes);
     }
-    if skip + bytes.len() > 64 && counter <= u32::MAX - 3 {
+    if skip + bytes.len() > 128 && counter <= u32::MAX - 3 {
         let mut stream = [0; 256];
         lanes::xor_four_blocks(key, counter, nonce, &mut stream);
         return xor_part(&stream, skip, bytes);
+    }
+    // Two blocks by rows take no longer than one.
+    if counter <= u32::MAX - 1 {
+        let blocks = rows::two_blocks(key, counter, nonce);
+        return xor_part(blocks.as_flattened(), skip, bytes);
     }
     xor_part(&single::block(key, counter, nonce), skip, bytes)
 }

@@ -1,5 +1,5 @@
 use Rattle.std.proofs.Common.{◌++◌, ◌∙◌, ap, arith, take, drop}
-use Rattle.chacha.proofs.Masking.{whole_blocks, run_of_zeros, run_of_block}
+use Rattle.chacha.proofs.Masking.{whole_blocks, run_of_zeros, run_of_two, run_of_block}
 use Rattle.chacha.proofs.stream.xor_run.Goals as goal
 
 pub returns-then-bytes-ge512-clause-masked : goal.returns-then-bytes-ge512-clause-masked
@@ -21,6 +21,13 @@ returns-then-counter-2-clause-masked g c =
     c.args.bytes.now c.xor_four_blocks.new.bytes _
     c.xor_four_blocks.ensures c.xor_four_blocks.auto.bytes c.xor_part-then-counter-2.ensures.count
     c.xor_part-then-counter-2.ensures.xored
+
+pub returns-then-counter-3-clause-masked : goal.returns-then-counter-3-clause-masked
+returns-then-counter-3-clause-masked g c =
+    run_of_two c.args.key.now c.args.nonce.now c.args.place c.xor_part-then-counter-3.result
+    c.two_blocks-blocks.result c.args.bytes.now c.as_flattened.result.now _
+    c.two_blocks-blocks.ensures c.as_flattened.ensures.value c.as_flattened.ensures.len
+    c.xor_part-then-counter-3.ensures.count c.xor_part-then-counter-3.ensures.xored
 
 pub returns-clause-masked : goal.returns-clause-masked
 returns-clause-masked g c =
