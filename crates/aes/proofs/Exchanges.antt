@@ -1,13 +1,17 @@
 -- Bits that change places between two planes.
-use Rattle.std.proofs.Common.{◌≡◌, ℕ, zero, suc, ◌+◌, ◌-◌, ◌*◌, ◌/◌, ◌%◌, ◌^◌, ◌<◌, ◌≤◌, Bool, true, false, cond, ◌==◌}
-use Rattle.std.proofs.Common.{List, get_or, length, replicate, min, bit_and, bit_xor, refl, sym, ap, ◌∙◌, arith}
+use Rattle.std.proofs.Common.{◌≡◌, ℕ, zero, suc, ◌+◌, ◌-◌, ◌*◌, ◌/◌, ◌%◌, ◌^◌, ◌<◌, Bool, true, false, cond, ◌==◌}
+use Rattle.std.proofs.Common.{◌&&◌, List, get_or, length, replicate, min, bit_and, bit_xor, refl, sym, ap, ap₂, ◌∙◌}
+use Rattle.std.proofs.Common.{arith, inl, inr}
 use Rattle.std.specs.Int.{bit_at}
-use Rattle.std.proofs.lemmas.Nat.{and_le_r}
-use Rattle.std.proofs.lemmas.Nat.Bits.{bit_at_xor, bit_at_and, bit_at-suc, bit_at-lt}
+use Rattle.std.proofs.Math.Nat.{mul_comm, div-add-mod, mod-lt}
+use Rattle.std.proofs.lemmas.Bool.{and_parts, eqb-true, cases_lt}
+use Rattle.std.proofs.lemmas.Nat.{pow_pos}
+use Rattle.std.proofs.lemmas.Nat.Bits.{bit_at_xor, bit_at_and, bit_at-zero, bit_at-lt, bit_at_cat_low, bit_at_cat_high}
 use Rattle.std.proofs.lemmas.List.{get_or-replicate, length-replicate}
 use Rattle.std.proofs.lemmas.Simd.{length-zip2, get_or-zip2}
 use lib.Lanes.{zip2}
 use Rattle.aes.proofs.Circuit.{plus2}
+use Rattle.aes.proofs.Tested.{all_below, all_below_at}
 
 -- ---- bits
 keep : (a v : ℕ) → a < 2 → v ≡ 0 → plus2 a v ≡ a
@@ -16,20 +20,31 @@ keep a v ha e = omega arith
 swap : (a b v : ℕ) → a < 2 → b < 2 → v ≡ plus2 a b → plus2 a v ≡ b
 swap a b v ha hb e = omega arith
 
-plus2_lt : (a b : ℕ) → plus2 a b < 2
-plus2_lt a b = omega arith
-
 plus2_comm : (a b : ℕ) → plus2 a b ≡ plus2 b a
 plus2_comm a b = omega arith
 
-min_none : (u : ℕ) → min u 0 ≡ 0
-min_none zero = refl
-min_none (suc u) = omega arith
+min_none : (u v : ℕ) → v ≡ 0 → min u v ≡ 0
+min_none u v e = omega arith
 
-min_one : (u : ℕ) → u < 2 → min u 1 ≡ u
-min_one zero h = refl
-min_one (suc zero) h = refl
-min_one (suc (suc u)) h = absurd (omega arith)
+min_one : (u v : ℕ) → u < 2 → v ≡ 1 → min u v ≡ u
+min_one u v h e = omega arith
+
+-- a bit of a number moved down
+down : (x n k : ℕ) → bit_at (x / 2 ^ n) k ≡ bit_at x (k + n)
+down x n k =
+    let whole : x / 2 ^ n * 2 ^ n + x % 2 ^ n ≡ x =
+    ap (λ (v : ℕ). v + x % 2 ^ n) (mul_comm (x / 2 ^ n) (2 ^ n)) ∙ div-add-mod x (2 ^ n) in
+    let back : k + n - n ≡ k = omega arith in
+    sym (ap (λ (v : ℕ). bit_at v (k + n)) (sym whole)
+    ∙ bit_at_cat_high (x / 2 ^ n) n (x % 2 ^ n) (k + n) (mod-lt x (pow_pos n)) (omega arith)
+    ∙ ap (bit_at (x / 2 ^ n)) back)
+
+-- a bit of a number moved up in eight bits
+up : (x n k : ℕ) → k < 8 → bit_at (x * 2 ^ n % 2 ^ 8) k ≡ bit_at (x * 2 ^ n + 0) k
+up x n k h =
+    let v : ℕ = x * 2 ^ n in
+    let whole : v / 2 ^ 8 * 2 ^ 8 + v % 2 ^ 8 ≡ v + 0 = omega arith in
+    sym (bit_at_cat_low (v / 2 ^ 8) 8 (v % 2 ^ 8) k h) ∙ ap (λ (w : ℕ). bit_at w k) whole
 
 -- ---- lanes
 -- an operator on a plane and a number in each lane
@@ -110,346 +125,93 @@ chosen : (b : Bool) (x y : List ℕ) (l i : ℕ)
 chosen true x y l i = refl
 chosen false x y l i = refl
 
--- ---- by 1
-down_1 : (x k : ℕ) → bit_at (x / 2) k ≡ bit_at x (k + 1)
-down_1 x k =
-    let same : x / 2 ≡ x / 2 = omega arith in
-    let more : suc (k) ≡ k + 1 = omega arith in
-    ap (λ v. bit_at v k) same ∙ sym (bit_at-suc x k) ∙ ap (bit_at x) more
-
+-- ---- a byte
 -- a bit that goes over
-over_bit_1 : (x y k : ℕ) → bit_at (over_byte 1 85 x y) k ≡ min (plus2 (bit_at x (k + 1)) (bit_at y k)) (bit_at 85 k)
-over_bit_1 x y k =
-    bit_at_and (bit_xor (x / 2) y) 85 k
-    ∙ ap (λ u. min u (bit_at 85 k)) (bit_at_xor (x / 2) y k ∙ ap (λ u. plus2 u (bit_at y k)) (down_1 x k))
+over_bit : (n m x y k : ℕ) → bit_at (over_byte n m x y) k ≡ min (plus2 (bit_at x (k + n)) (bit_at y k)) (bit_at m k)
+over_bit n m x y k =
+    bit_at_and (bit_xor (x / 2 ^ n) y) m k
+    ∙ ap (λ u. min u (bit_at m k)) (bit_at_xor (x / 2 ^ n) y k ∙ ap (λ u. plus2 u (bit_at y k)) (down x n k))
 
-first_bit_1 : (x y k : ℕ) → k < 8 → bit_at (bit_xor x (over_byte 1 85 x y * 2 ^ 1 % 2 ^ 8)) k
-    ≡ cond (k / 1 % 2 == 0) (bit_at x (k - k / 1 % 2 * 1)) (bit_at y (k - k / 1 % 2 * 1))
-first_bit_1 x y zero h =
-    let t = over_byte 1 85 x y in
-    let low : t ≤ 85 = and_le_r (bit_xor (x / 2) y) 85 in
-    let none : bit_at (t * 2 % 256) 0 ≡ 0 = omega arith in
-    bit_at_xor x (t * 2 % 256) 0 ∙ keep (bit_at x 0) (bit_at (t * 2 % 256) 0) (bit_at-lt x 0) none
-first_bit_1 x y (suc zero) h =
-    let t = over_byte 1 85 x y in
-    let low : t ≤ 85 = and_le_r (bit_xor (x / 2) y) 85 in
-    let up : bit_at (t * 2 % 256) 1 ≡ bit_at t 0 = omega arith in
-    bit_at_xor x (t * 2 % 256) 1 ∙ swap (bit_at x 1) (bit_at y 0) (bit_at (t * 2 % 256) 1) (bit_at-lt x 1) (bit_at-lt y 0)
-    (up ∙ over_bit_1 x y 0 ∙ min_one (plus2 (bit_at x 1) (bit_at y 0)) (plus2_lt (bit_at x 1) (bit_at y 0)))
-first_bit_1 x y (suc (suc zero)) h =
-    let t = over_byte 1 85 x y in
-    let low : t ≤ 85 = and_le_r (bit_xor (x / 2) y) 85 in
-    let up : bit_at (t * 2 % 256) 2 ≡ bit_at t 1 = omega arith in
-    bit_at_xor x (t * 2 % 256) 2 ∙ keep (bit_at x 2) (bit_at (t * 2 % 256) 2) (bit_at-lt x 2)
-    (up ∙ over_bit_1 x y 1 ∙ min_none (plus2 (bit_at x 2) (bit_at y 1)))
-first_bit_1 x y (suc (suc (suc zero))) h =
-    let t = over_byte 1 85 x y in
-    let low : t ≤ 85 = and_le_r (bit_xor (x / 2) y) 85 in
-    let up : bit_at (t * 2 % 256) 3 ≡ bit_at t 2 = omega arith in
-    bit_at_xor x (t * 2 % 256) 3 ∙ swap (bit_at x 3) (bit_at y 2) (bit_at (t * 2 % 256) 3) (bit_at-lt x 3) (bit_at-lt y 2)
-    (up ∙ over_bit_1 x y 2 ∙ min_one (plus2 (bit_at x 3) (bit_at y 2)) (plus2_lt (bit_at x 3) (bit_at y 2)))
-first_bit_1 x y (suc (suc (suc (suc zero)))) h =
-    let t = over_byte 1 85 x y in
-    let low : t ≤ 85 = and_le_r (bit_xor (x / 2) y) 85 in
-    let up : bit_at (t * 2 % 256) 4 ≡ bit_at t 3 = omega arith in
-    bit_at_xor x (t * 2 % 256) 4 ∙ keep (bit_at x 4) (bit_at (t * 2 % 256) 4) (bit_at-lt x 4)
-    (up ∙ over_bit_1 x y 3 ∙ min_none (plus2 (bit_at x 4) (bit_at y 3)))
-first_bit_1 x y (suc (suc (suc (suc (suc zero))))) h =
-    let t = over_byte 1 85 x y in
-    let low : t ≤ 85 = and_le_r (bit_xor (x / 2) y) 85 in
-    let up : bit_at (t * 2 % 256) 5 ≡ bit_at t 4 = omega arith in
-    bit_at_xor x (t * 2 % 256) 5 ∙ swap (bit_at x 5) (bit_at y 4) (bit_at (t * 2 % 256) 5) (bit_at-lt x 5) (bit_at-lt y 4)
-    (up ∙ over_bit_1 x y 4 ∙ min_one (plus2 (bit_at x 5) (bit_at y 4)) (plus2_lt (bit_at x 5) (bit_at y 4)))
-first_bit_1 x y (suc (suc (suc (suc (suc (suc zero)))))) h =
-    let t = over_byte 1 85 x y in
-    let low : t ≤ 85 = and_le_r (bit_xor (x / 2) y) 85 in
-    let up : bit_at (t * 2 % 256) 6 ≡ bit_at t 5 = omega arith in
-    bit_at_xor x (t * 2 % 256) 6 ∙ keep (bit_at x 6) (bit_at (t * 2 % 256) 6) (bit_at-lt x 6)
-    (up ∙ over_bit_1 x y 5 ∙ min_none (plus2 (bit_at x 6) (bit_at y 5)))
-first_bit_1 x y (suc (suc (suc (suc (suc (suc (suc zero))))))) h =
-    let t = over_byte 1 85 x y in
-    let low : t ≤ 85 = and_le_r (bit_xor (x / 2) y) 85 in
-    let up : bit_at (t * 2 % 256) 7 ≡ bit_at t 6 = omega arith in
-    bit_at_xor x (t * 2 % 256) 7 ∙ swap (bit_at x 7) (bit_at y 6) (bit_at (t * 2 % 256) 7) (bit_at-lt x 7) (bit_at-lt y 6)
-    (up ∙ over_bit_1 x y 6 ∙ min_one (plus2 (bit_at x 7) (bit_at y 6)) (plus2_lt (bit_at x 7) (bit_at y 6)))
-first_bit_1 x y (suc (suc (suc (suc (suc (suc (suc (suc k)))))))) h = absurd (omega arith)
+-- the same, moved up
+back_bit : (n m x y k : ℕ) → k < 8 → bit_at (over_byte n m x y * 2 ^ n % 2 ^ 8) k
+    ≡ min (plus2 (bit_at x k) (bit_at y (k - n))) (bit_at (m * 2 ^ n % 2 ^ 8) k)
+back_bit n m x y k h =
+    let t : ℕ = over_byte n m x y in
+    up t n k h ∙ elim (cases_lt k n) [
+      | inl low ↦ bit_at_cat_low t n 0 k low ∙ bit_at-zero k
+          ∙ sym (min_none (plus2 (bit_at x k) (bit_at y (k - n))) (bit_at (m * 2 ^ n % 2 ^ 8) k)
+          (up m n k h ∙ bit_at_cat_low m n 0 k low ∙ bit_at-zero k))
+      | inr high ↦
+          let place : k - n + n ≡ k = omega arith in
+          bit_at_cat_high t n 0 k (pow_pos n) high ∙ over_bit n m x y (k - n)
+          ∙ ap₂ (λ (i b : ℕ). min (plus2 (bit_at x i) (bit_at y (k - n))) b) place
+          (sym (up m n k h ∙ bit_at_cat_high m n 0 k (pow_pos n) high))
+    ]
 
-second_bit_1 : (x y k : ℕ) → k < 8 → bit_at (bit_xor y (over_byte 1 85 x y)) k
-    ≡ cond (k / 1 % 2 == 0) (bit_at x (k + 1 - k / 1 % 2 * 1)) (bit_at y (k + 1 - k / 1 % 2 * 1))
-second_bit_1 x y zero h =
-    bit_at_xor y (over_byte 1 85 x y) 0
-    ∙ swap (bit_at y 0) (bit_at x 1) (bit_at (over_byte 1 85 x y) 0) (bit_at-lt y 0) (bit_at-lt x 1)
-    (over_bit_1 x y 0 ∙ min_one (plus2 (bit_at x 1) (bit_at y 0)) (plus2_lt (bit_at x 1) (bit_at y 0))
-    ∙ plus2_comm (bit_at x 1) (bit_at y 0))
-second_bit_1 x y (suc zero) h =
-    bit_at_xor y (over_byte 1 85 x y) 1
-    ∙ keep (bit_at y 1) (bit_at (over_byte 1 85 x y) 1) (bit_at-lt y 1)
-    (over_bit_1 x y 1 ∙ min_none (plus2 (bit_at x 2) (bit_at y 1)))
-second_bit_1 x y (suc (suc zero)) h =
-    bit_at_xor y (over_byte 1 85 x y) 2
-    ∙ swap (bit_at y 2) (bit_at x 3) (bit_at (over_byte 1 85 x y) 2) (bit_at-lt y 2) (bit_at-lt x 3)
-    (over_bit_1 x y 2 ∙ min_one (plus2 (bit_at x 3) (bit_at y 2)) (plus2_lt (bit_at x 3) (bit_at y 2))
-    ∙ plus2_comm (bit_at x 3) (bit_at y 2))
-second_bit_1 x y (suc (suc (suc zero))) h =
-    bit_at_xor y (over_byte 1 85 x y) 3
-    ∙ keep (bit_at y 3) (bit_at (over_byte 1 85 x y) 3) (bit_at-lt y 3)
-    (over_bit_1 x y 3 ∙ min_none (plus2 (bit_at x 4) (bit_at y 3)))
-second_bit_1 x y (suc (suc (suc (suc zero)))) h =
-    bit_at_xor y (over_byte 1 85 x y) 4
-    ∙ swap (bit_at y 4) (bit_at x 5) (bit_at (over_byte 1 85 x y) 4) (bit_at-lt y 4) (bit_at-lt x 5)
-    (over_bit_1 x y 4 ∙ min_one (plus2 (bit_at x 5) (bit_at y 4)) (plus2_lt (bit_at x 5) (bit_at y 4))
-    ∙ plus2_comm (bit_at x 5) (bit_at y 4))
-second_bit_1 x y (suc (suc (suc (suc (suc zero))))) h =
-    bit_at_xor y (over_byte 1 85 x y) 5
-    ∙ keep (bit_at y 5) (bit_at (over_byte 1 85 x y) 5) (bit_at-lt y 5)
-    (over_bit_1 x y 5 ∙ min_none (plus2 (bit_at x 6) (bit_at y 5)))
-second_bit_1 x y (suc (suc (suc (suc (suc (suc zero)))))) h =
-    bit_at_xor y (over_byte 1 85 x y) 6
-    ∙ swap (bit_at y 6) (bit_at x 7) (bit_at (over_byte 1 85 x y) 6) (bit_at-lt y 6) (bit_at-lt x 7)
-    (over_bit_1 x y 6 ∙ min_one (plus2 (bit_at x 7) (bit_at y 6)) (plus2_lt (bit_at x 7) (bit_at y 6))
-    ∙ plus2_comm (bit_at x 7) (bit_at y 6))
-second_bit_1 x y (suc (suc (suc (suc (suc (suc (suc zero))))))) h =
-    bit_at_xor y (over_byte 1 85 x y) 7
-    ∙ keep (bit_at y 7) (bit_at (over_byte 1 85 x y) 7) (bit_at-lt y 7)
-    (over_bit_1 x y 7 ∙ min_none (plus2 (bit_at x 8) (bit_at y 7)))
-second_bit_1 x y (suc (suc (suc (suc (suc (suc (suc (suc k)))))))) h = absurd (omega arith)
+-- a bit of what x becomes, whose place has the digit d of weight n
+first_bit : (n m x y k d : ℕ) → k < 8 → bit_at (m * 2 ^ n % 2 ^ 8) k ≡ d
+    → bit_at (bit_xor x (over_byte n m x y * 2 ^ n % 2 ^ 8)) k ≡ cond (d == 0) (bit_at x (k - d * n)) (bit_at y (k - d * n))
+first_bit n m x y k zero h e =
+    let t : ℕ = over_byte n m x y * 2 ^ n % 2 ^ 8 in
+    let place : k ≡ k - 0 * n = omega arith in
+    bit_at_xor x t k ∙ keep (bit_at x k) (bit_at t k) (bit_at-lt x k)
+    (back_bit n m x y k h ∙ min_none (plus2 (bit_at x k) (bit_at y (k - n))) (bit_at (m * 2 ^ n % 2 ^ 8) k) e)
+    ∙ ap (bit_at x) place
+first_bit n m x y k (suc zero) h e =
+    let t : ℕ = over_byte n m x y * 2 ^ n % 2 ^ 8 in
+    let place : k - n ≡ k - 1 * n = omega arith in
+    let sum : plus2 (bit_at x k) (bit_at y (k - n)) < 2 = omega arith in
+    bit_at_xor x t k ∙ swap (bit_at x k) (bit_at y (k - n)) (bit_at t k) (bit_at-lt x k) (bit_at-lt y (k - n))
+    (back_bit n m x y k h ∙ min_one (plus2 (bit_at x k) (bit_at y (k - n))) (bit_at (m * 2 ^ n % 2 ^ 8) k) sum e)
+    ∙ ap (bit_at y) place
+first_bit n m x y k (suc (suc d)) h e = absurd (omega (arith, bit_at-lt (m * 2 ^ n % 2 ^ 8) k))
 
-pub first_1 : (x y : List ℕ) (l k : ℕ) → length x ≡ 32 → length y ≡ 32 → l < 32 → k < 8
-    → bit_at (get_or (first_of 1 85 x y) l 0) k ≡ bit_at (get_or (cond (k / 1 % 2 == 0) x y) l 0) (k - k / 1 % 2 * 1)
-first_1 x y l k hx hy hl hk =
-    ap (λ v. bit_at v k) (first_at 1 85 x y l hx hy hl)
-    ∙ first_bit_1 (get_or x l 0) (get_or y l 0) k hk ∙ chosen (k / 1 % 2 == 0) x y l (k - k / 1 % 2 * 1)
+-- a bit of what y becomes
+second_bit : (n m x y k d : ℕ) → d < 2 → bit_at m k ≡ 1 - d
+    → bit_at (bit_xor y (over_byte n m x y)) k ≡ cond (d == 0) (bit_at x (k + n - d * n)) (bit_at y (k + n - d * n))
+second_bit n m x y k zero h e =
+    let t : ℕ = over_byte n m x y in
+    let place : k + n ≡ k + n - 0 * n = omega arith in
+    let sum : plus2 (bit_at x (k + n)) (bit_at y k) < 2 = omega arith in
+    bit_at_xor y t k ∙ swap (bit_at y k) (bit_at x (k + n)) (bit_at t k) (bit_at-lt y k) (bit_at-lt x (k + n))
+    (over_bit n m x y k ∙ min_one (plus2 (bit_at x (k + n)) (bit_at y k)) (bit_at m k) sum e
+    ∙ plus2_comm (bit_at x (k + n)) (bit_at y k))
+    ∙ ap (bit_at x) place
+second_bit n m x y k (suc zero) h e =
+    let t : ℕ = over_byte n m x y in
+    let place : k ≡ k + n - 1 * n = omega arith in
+    bit_at_xor y t k ∙ keep (bit_at y k) (bit_at t k) (bit_at-lt y k)
+    (over_bit n m x y k ∙ min_none (plus2 (bit_at x (k + n)) (bit_at y k)) (bit_at m k) e)
+    ∙ ap (bit_at y) place
+second_bit n m x y k (suc (suc d)) h e = absurd (omega arith)
 
-pub second_1 : (x y : List ℕ) (l k : ℕ) → length x ≡ 32 → length y ≡ 32 → l < 32 → k < 8
-    → bit_at (get_or (second_of 1 85 x y) l 0) k ≡ bit_at (get_or (cond (k / 1 % 2 == 0) x y) l 0) (k + 1 - k / 1 % 2 * 1)
-second_1 x y l k hx hy hl hk =
-    ap (λ v. bit_at v k) (second_at 1 85 x y l hx hy hl)
-    ∙ second_bit_1 (get_or x l 0) (get_or y l 0) k hk ∙ chosen (k / 1 % 2 == 0) x y l (k + 1 - k / 1 % 2 * 1)
+-- ---- planes
+-- whether m marks the places below 8 without the digit of weight n, and, moved up by n, those with it
+abbrev pub is_mask : ℕ → ℕ → Bool
+is_mask n m = all_below (λ k. (bit_at (m * 2 ^ n % 2 ^ 8) k == k / n % 2) && (bit_at m k == 1 - k / n % 2)) 8
 
--- ---- by 2
-down_2 : (x k : ℕ) → bit_at (x / 4) k ≡ bit_at x (k + 2)
-down_2 x k =
-    let same : x / 4 ≡ x / 2 / 2 = omega arith in
-    let more : suc (suc (k)) ≡ k + 2 = omega arith in
-    ap (λ v. bit_at v k) same ∙ sym (bit_at-suc x (suc k) ∙ bit_at-suc (x / 2) k) ∙ ap (bit_at x) more
+-- what it says of a place
+mask_at : (n m k : ℕ) → is_mask n m ≡ true → k < 8
+    → (bit_at (m * 2 ^ n % 2 ^ 8) k ≡ k / n % 2) × (bit_at m k ≡ 1 - k / n % 2)
+mask_at n m k test h =
+    let both = and_parts (bit_at (m * 2 ^ n % 2 ^ 8) k == k / n % 2) (bit_at m k == 1 - k / n % 2)
+    (all_below_at (λ k. (bit_at (m * 2 ^ n % 2 ^ 8) k == k / n % 2) && (bit_at m k == 1 - k / n % 2)) 8 k test h) in
+    (eqb-true (bit_at (m * 2 ^ n % 2 ^ 8) k) (k / n % 2) both.0, eqb-true (bit_at m k) (1 - k / n % 2) both.1)
 
--- a bit that goes over
-over_bit_2 : (x y k : ℕ) → bit_at (over_byte 2 51 x y) k ≡ min (plus2 (bit_at x (k + 2)) (bit_at y k)) (bit_at 51 k)
-over_bit_2 x y k =
-    bit_at_and (bit_xor (x / 4) y) 51 k
-    ∙ ap (λ u. min u (bit_at 51 k)) (bit_at_xor (x / 4) y k ∙ ap (λ u. plus2 u (bit_at y k)) (down_2 x k))
+-- a bit of the first plane
+pub first : (n m : ℕ) → is_mask n m ≡ true → (x y : List ℕ) (l k : ℕ) → length x ≡ 32 → length y ≡ 32 → l < 32 → k < 8
+    → bit_at (get_or (first_of n m x y) l 0) k ≡ bit_at (get_or (cond (k / n % 2 == 0) x y) l 0) (k - k / n % 2 * n)
+first n m test x y l k hx hy hl hk =
+    ap (λ v. bit_at v k) (first_at n m x y l hx hy hl)
+    ∙ first_bit n m (get_or x l 0) (get_or y l 0) k (k / n % 2) hk (mask_at n m k test hk).0
+    ∙ chosen (k / n % 2 == 0) x y l (k - k / n % 2 * n)
 
-first_bit_2 : (x y k : ℕ) → k < 8 → bit_at (bit_xor x (over_byte 2 51 x y * 2 ^ 2 % 2 ^ 8)) k
-    ≡ cond (k / 2 % 2 == 0) (bit_at x (k - k / 2 % 2 * 2)) (bit_at y (k - k / 2 % 2 * 2))
-first_bit_2 x y zero h =
-    let t = over_byte 2 51 x y in
-    let low : t ≤ 51 = and_le_r (bit_xor (x / 4) y) 51 in
-    let none : bit_at (t * 4 % 256) 0 ≡ 0 = omega arith in
-    bit_at_xor x (t * 4 % 256) 0 ∙ keep (bit_at x 0) (bit_at (t * 4 % 256) 0) (bit_at-lt x 0) none
-first_bit_2 x y (suc zero) h =
-    let t = over_byte 2 51 x y in
-    let low : t ≤ 51 = and_le_r (bit_xor (x / 4) y) 51 in
-    let none : bit_at (t * 4 % 256) 1 ≡ 0 = omega arith in
-    bit_at_xor x (t * 4 % 256) 1 ∙ keep (bit_at x 1) (bit_at (t * 4 % 256) 1) (bit_at-lt x 1) none
-first_bit_2 x y (suc (suc zero)) h =
-    let t = over_byte 2 51 x y in
-    let low : t ≤ 51 = and_le_r (bit_xor (x / 4) y) 51 in
-    let up : bit_at (t * 4 % 256) 2 ≡ bit_at t 0 = omega arith in
-    bit_at_xor x (t * 4 % 256) 2 ∙ swap (bit_at x 2) (bit_at y 0) (bit_at (t * 4 % 256) 2) (bit_at-lt x 2) (bit_at-lt y 0)
-    (up ∙ over_bit_2 x y 0 ∙ min_one (plus2 (bit_at x 2) (bit_at y 0)) (plus2_lt (bit_at x 2) (bit_at y 0)))
-first_bit_2 x y (suc (suc (suc zero))) h =
-    let t = over_byte 2 51 x y in
-    let low : t ≤ 51 = and_le_r (bit_xor (x / 4) y) 51 in
-    let up : bit_at (t * 4 % 256) 3 ≡ bit_at t 1 = omega arith in
-    bit_at_xor x (t * 4 % 256) 3 ∙ swap (bit_at x 3) (bit_at y 1) (bit_at (t * 4 % 256) 3) (bit_at-lt x 3) (bit_at-lt y 1)
-    (up ∙ over_bit_2 x y 1 ∙ min_one (plus2 (bit_at x 3) (bit_at y 1)) (plus2_lt (bit_at x 3) (bit_at y 1)))
-first_bit_2 x y (suc (suc (suc (suc zero)))) h =
-    let t = over_byte 2 51 x y in
-    let low : t ≤ 51 = and_le_r (bit_xor (x / 4) y) 51 in
-    let up : bit_at (t * 4 % 256) 4 ≡ bit_at t 2 = omega arith in
-    bit_at_xor x (t * 4 % 256) 4 ∙ keep (bit_at x 4) (bit_at (t * 4 % 256) 4) (bit_at-lt x 4)
-    (up ∙ over_bit_2 x y 2 ∙ min_none (plus2 (bit_at x 4) (bit_at y 2)))
-first_bit_2 x y (suc (suc (suc (suc (suc zero))))) h =
-    let t = over_byte 2 51 x y in
-    let low : t ≤ 51 = and_le_r (bit_xor (x / 4) y) 51 in
-    let up : bit_at (t * 4 % 256) 5 ≡ bit_at t 3 = omega arith in
-    bit_at_xor x (t * 4 % 256) 5 ∙ keep (bit_at x 5) (bit_at (t * 4 % 256) 5) (bit_at-lt x 5)
-    (up ∙ over_bit_2 x y 3 ∙ min_none (plus2 (bit_at x 5) (bit_at y 3)))
-first_bit_2 x y (suc (suc (suc (suc (suc (suc zero)))))) h =
-    let t = over_byte 2 51 x y in
-    let low : t ≤ 51 = and_le_r (bit_xor (x / 4) y) 51 in
-    let up : bit_at (t * 4 % 256) 6 ≡ bit_at t 4 = omega arith in
-    bit_at_xor x (t * 4 % 256) 6 ∙ swap (bit_at x 6) (bit_at y 4) (bit_at (t * 4 % 256) 6) (bit_at-lt x 6) (bit_at-lt y 4)
-    (up ∙ over_bit_2 x y 4 ∙ min_one (plus2 (bit_at x 6) (bit_at y 4)) (plus2_lt (bit_at x 6) (bit_at y 4)))
-first_bit_2 x y (suc (suc (suc (suc (suc (suc (suc zero))))))) h =
-    let t = over_byte 2 51 x y in
-    let low : t ≤ 51 = and_le_r (bit_xor (x / 4) y) 51 in
-    let up : bit_at (t * 4 % 256) 7 ≡ bit_at t 5 = omega arith in
-    bit_at_xor x (t * 4 % 256) 7 ∙ swap (bit_at x 7) (bit_at y 5) (bit_at (t * 4 % 256) 7) (bit_at-lt x 7) (bit_at-lt y 5)
-    (up ∙ over_bit_2 x y 5 ∙ min_one (plus2 (bit_at x 7) (bit_at y 5)) (plus2_lt (bit_at x 7) (bit_at y 5)))
-first_bit_2 x y (suc (suc (suc (suc (suc (suc (suc (suc k)))))))) h = absurd (omega arith)
-
-second_bit_2 : (x y k : ℕ) → k < 8 → bit_at (bit_xor y (over_byte 2 51 x y)) k
-    ≡ cond (k / 2 % 2 == 0) (bit_at x (k + 2 - k / 2 % 2 * 2)) (bit_at y (k + 2 - k / 2 % 2 * 2))
-second_bit_2 x y zero h =
-    bit_at_xor y (over_byte 2 51 x y) 0
-    ∙ swap (bit_at y 0) (bit_at x 2) (bit_at (over_byte 2 51 x y) 0) (bit_at-lt y 0) (bit_at-lt x 2)
-    (over_bit_2 x y 0 ∙ min_one (plus2 (bit_at x 2) (bit_at y 0)) (plus2_lt (bit_at x 2) (bit_at y 0))
-    ∙ plus2_comm (bit_at x 2) (bit_at y 0))
-second_bit_2 x y (suc zero) h =
-    bit_at_xor y (over_byte 2 51 x y) 1
-    ∙ swap (bit_at y 1) (bit_at x 3) (bit_at (over_byte 2 51 x y) 1) (bit_at-lt y 1) (bit_at-lt x 3)
-    (over_bit_2 x y 1 ∙ min_one (plus2 (bit_at x 3) (bit_at y 1)) (plus2_lt (bit_at x 3) (bit_at y 1))
-    ∙ plus2_comm (bit_at x 3) (bit_at y 1))
-second_bit_2 x y (suc (suc zero)) h =
-    bit_at_xor y (over_byte 2 51 x y) 2
-    ∙ keep (bit_at y 2) (bit_at (over_byte 2 51 x y) 2) (bit_at-lt y 2)
-    (over_bit_2 x y 2 ∙ min_none (plus2 (bit_at x 4) (bit_at y 2)))
-second_bit_2 x y (suc (suc (suc zero))) h =
-    bit_at_xor y (over_byte 2 51 x y) 3
-    ∙ keep (bit_at y 3) (bit_at (over_byte 2 51 x y) 3) (bit_at-lt y 3)
-    (over_bit_2 x y 3 ∙ min_none (plus2 (bit_at x 5) (bit_at y 3)))
-second_bit_2 x y (suc (suc (suc (suc zero)))) h =
-    bit_at_xor y (over_byte 2 51 x y) 4
-    ∙ swap (bit_at y 4) (bit_at x 6) (bit_at (over_byte 2 51 x y) 4) (bit_at-lt y 4) (bit_at-lt x 6)
-    (over_bit_2 x y 4 ∙ min_one (plus2 (bit_at x 6) (bit_at y 4)) (plus2_lt (bit_at x 6) (bit_at y 4))
-    ∙ plus2_comm (bit_at x 6) (bit_at y 4))
-second_bit_2 x y (suc (suc (suc (suc (suc zero))))) h =
-    bit_at_xor y (over_byte 2 51 x y) 5
-    ∙ swap (bit_at y 5) (bit_at x 7) (bit_at (over_byte 2 51 x y) 5) (bit_at-lt y 5) (bit_at-lt x 7)
-    (over_bit_2 x y 5 ∙ min_one (plus2 (bit_at x 7) (bit_at y 5)) (plus2_lt (bit_at x 7) (bit_at y 5))
-    ∙ plus2_comm (bit_at x 7) (bit_at y 5))
-second_bit_2 x y (suc (suc (suc (suc (suc (suc zero)))))) h =
-    bit_at_xor y (over_byte 2 51 x y) 6
-    ∙ keep (bit_at y 6) (bit_at (over_byte 2 51 x y) 6) (bit_at-lt y 6)
-    (over_bit_2 x y 6 ∙ min_none (plus2 (bit_at x 8) (bit_at y 6)))
-second_bit_2 x y (suc (suc (suc (suc (suc (suc (suc zero))))))) h =
-    bit_at_xor y (over_byte 2 51 x y) 7
-    ∙ keep (bit_at y 7) (bit_at (over_byte 2 51 x y) 7) (bit_at-lt y 7)
-    (over_bit_2 x y 7 ∙ min_none (plus2 (bit_at x 9) (bit_at y 7)))
-second_bit_2 x y (suc (suc (suc (suc (suc (suc (suc (suc k)))))))) h = absurd (omega arith)
-
-pub first_2 : (x y : List ℕ) (l k : ℕ) → length x ≡ 32 → length y ≡ 32 → l < 32 → k < 8
-    → bit_at (get_or (first_of 2 51 x y) l 0) k ≡ bit_at (get_or (cond (k / 2 % 2 == 0) x y) l 0) (k - k / 2 % 2 * 2)
-first_2 x y l k hx hy hl hk =
-    ap (λ v. bit_at v k) (first_at 2 51 x y l hx hy hl)
-    ∙ first_bit_2 (get_or x l 0) (get_or y l 0) k hk ∙ chosen (k / 2 % 2 == 0) x y l (k - k / 2 % 2 * 2)
-
-pub second_2 : (x y : List ℕ) (l k : ℕ) → length x ≡ 32 → length y ≡ 32 → l < 32 → k < 8
-    → bit_at (get_or (second_of 2 51 x y) l 0) k ≡ bit_at (get_or (cond (k / 2 % 2 == 0) x y) l 0) (k + 2 - k / 2 % 2 * 2)
-second_2 x y l k hx hy hl hk =
-    ap (λ v. bit_at v k) (second_at 2 51 x y l hx hy hl)
-    ∙ second_bit_2 (get_or x l 0) (get_or y l 0) k hk ∙ chosen (k / 2 % 2 == 0) x y l (k + 2 - k / 2 % 2 * 2)
-
--- ---- by 4
-down_4 : (x k : ℕ) → bit_at (x / 16) k ≡ bit_at x (k + 4)
-down_4 x k =
-    let same : x / 16 ≡ x / 2 / 2 / 2 / 2 = omega arith in
-    let more : suc (suc (suc (suc (k)))) ≡ k + 4 = omega arith in
-    ap (λ v. bit_at v k) same ∙ sym (bit_at-suc x (suc (suc (suc k))) ∙ bit_at-suc (x / 2) (suc (suc k)) ∙ bit_at-suc (x / 2 / 2) (suc k) ∙ bit_at-suc (x / 2 / 2 / 2) k) ∙ ap (bit_at x) more
-
--- a bit that goes over
-over_bit_4 : (x y k : ℕ) → bit_at (over_byte 4 15 x y) k ≡ min (plus2 (bit_at x (k + 4)) (bit_at y k)) (bit_at 15 k)
-over_bit_4 x y k =
-    bit_at_and (bit_xor (x / 16) y) 15 k
-    ∙ ap (λ u. min u (bit_at 15 k)) (bit_at_xor (x / 16) y k ∙ ap (λ u. plus2 u (bit_at y k)) (down_4 x k))
-
-first_bit_4 : (x y k : ℕ) → k < 8 → bit_at (bit_xor x (over_byte 4 15 x y * 2 ^ 4 % 2 ^ 8)) k
-    ≡ cond (k / 4 % 2 == 0) (bit_at x (k - k / 4 % 2 * 4)) (bit_at y (k - k / 4 % 2 * 4))
-first_bit_4 x y zero h =
-    let t = over_byte 4 15 x y in
-    let low : t ≤ 15 = and_le_r (bit_xor (x / 16) y) 15 in
-    let none : bit_at (t * 16 % 256) 0 ≡ 0 = omega arith in
-    bit_at_xor x (t * 16 % 256) 0 ∙ keep (bit_at x 0) (bit_at (t * 16 % 256) 0) (bit_at-lt x 0) none
-first_bit_4 x y (suc zero) h =
-    let t = over_byte 4 15 x y in
-    let low : t ≤ 15 = and_le_r (bit_xor (x / 16) y) 15 in
-    let none : bit_at (t * 16 % 256) 1 ≡ 0 = omega arith in
-    bit_at_xor x (t * 16 % 256) 1 ∙ keep (bit_at x 1) (bit_at (t * 16 % 256) 1) (bit_at-lt x 1) none
-first_bit_4 x y (suc (suc zero)) h =
-    let t = over_byte 4 15 x y in
-    let low : t ≤ 15 = and_le_r (bit_xor (x / 16) y) 15 in
-    let none : bit_at (t * 16 % 256) 2 ≡ 0 = omega arith in
-    bit_at_xor x (t * 16 % 256) 2 ∙ keep (bit_at x 2) (bit_at (t * 16 % 256) 2) (bit_at-lt x 2) none
-first_bit_4 x y (suc (suc (suc zero))) h =
-    let t = over_byte 4 15 x y in
-    let low : t ≤ 15 = and_le_r (bit_xor (x / 16) y) 15 in
-    let none : bit_at (t * 16 % 256) 3 ≡ 0 = omega arith in
-    bit_at_xor x (t * 16 % 256) 3 ∙ keep (bit_at x 3) (bit_at (t * 16 % 256) 3) (bit_at-lt x 3) none
-first_bit_4 x y (suc (suc (suc (suc zero)))) h =
-    let t = over_byte 4 15 x y in
-    let low : t ≤ 15 = and_le_r (bit_xor (x / 16) y) 15 in
-    let up : bit_at (t * 16 % 256) 4 ≡ bit_at t 0 = omega arith in
-    bit_at_xor x (t * 16 % 256) 4 ∙ swap (bit_at x 4) (bit_at y 0) (bit_at (t * 16 % 256) 4) (bit_at-lt x 4) (bit_at-lt y 0)
-    (up ∙ over_bit_4 x y 0 ∙ min_one (plus2 (bit_at x 4) (bit_at y 0)) (plus2_lt (bit_at x 4) (bit_at y 0)))
-first_bit_4 x y (suc (suc (suc (suc (suc zero))))) h =
-    let t = over_byte 4 15 x y in
-    let low : t ≤ 15 = and_le_r (bit_xor (x / 16) y) 15 in
-    let up : bit_at (t * 16 % 256) 5 ≡ bit_at t 1 = omega arith in
-    bit_at_xor x (t * 16 % 256) 5 ∙ swap (bit_at x 5) (bit_at y 1) (bit_at (t * 16 % 256) 5) (bit_at-lt x 5) (bit_at-lt y 1)
-    (up ∙ over_bit_4 x y 1 ∙ min_one (plus2 (bit_at x 5) (bit_at y 1)) (plus2_lt (bit_at x 5) (bit_at y 1)))
-first_bit_4 x y (suc (suc (suc (suc (suc (suc zero)))))) h =
-    let t = over_byte 4 15 x y in
-    let low : t ≤ 15 = and_le_r (bit_xor (x / 16) y) 15 in
-    let up : bit_at (t * 16 % 256) 6 ≡ bit_at t 2 = omega arith in
-    bit_at_xor x (t * 16 % 256) 6 ∙ swap (bit_at x 6) (bit_at y 2) (bit_at (t * 16 % 256) 6) (bit_at-lt x 6) (bit_at-lt y 2)
-    (up ∙ over_bit_4 x y 2 ∙ min_one (plus2 (bit_at x 6) (bit_at y 2)) (plus2_lt (bit_at x 6) (bit_at y 2)))
-first_bit_4 x y (suc (suc (suc (suc (suc (suc (suc zero))))))) h =
-    let t = over_byte 4 15 x y in
-    let low : t ≤ 15 = and_le_r (bit_xor (x / 16) y) 15 in
-    let up : bit_at (t * 16 % 256) 7 ≡ bit_at t 3 = omega arith in
-    bit_at_xor x (t * 16 % 256) 7 ∙ swap (bit_at x 7) (bit_at y 3) (bit_at (t * 16 % 256) 7) (bit_at-lt x 7) (bit_at-lt y 3)
-    (up ∙ over_bit_4 x y 3 ∙ min_one (plus2 (bit_at x 7) (bit_at y 3)) (plus2_lt (bit_at x 7) (bit_at y 3)))
-first_bit_4 x y (suc (suc (suc (suc (suc (suc (suc (suc k)))))))) h = absurd (omega arith)
-
-second_bit_4 : (x y k : ℕ) → k < 8 → bit_at (bit_xor y (over_byte 4 15 x y)) k
-    ≡ cond (k / 4 % 2 == 0) (bit_at x (k + 4 - k / 4 % 2 * 4)) (bit_at y (k + 4 - k / 4 % 2 * 4))
-second_bit_4 x y zero h =
-    bit_at_xor y (over_byte 4 15 x y) 0
-    ∙ swap (bit_at y 0) (bit_at x 4) (bit_at (over_byte 4 15 x y) 0) (bit_at-lt y 0) (bit_at-lt x 4)
-    (over_bit_4 x y 0 ∙ min_one (plus2 (bit_at x 4) (bit_at y 0)) (plus2_lt (bit_at x 4) (bit_at y 0))
-    ∙ plus2_comm (bit_at x 4) (bit_at y 0))
-second_bit_4 x y (suc zero) h =
-    bit_at_xor y (over_byte 4 15 x y) 1
-    ∙ swap (bit_at y 1) (bit_at x 5) (bit_at (over_byte 4 15 x y) 1) (bit_at-lt y 1) (bit_at-lt x 5)
-    (over_bit_4 x y 1 ∙ min_one (plus2 (bit_at x 5) (bit_at y 1)) (plus2_lt (bit_at x 5) (bit_at y 1))
-    ∙ plus2_comm (bit_at x 5) (bit_at y 1))
-second_bit_4 x y (suc (suc zero)) h =
-    bit_at_xor y (over_byte 4 15 x y) 2
-    ∙ swap (bit_at y 2) (bit_at x 6) (bit_at (over_byte 4 15 x y) 2) (bit_at-lt y 2) (bit_at-lt x 6)
-    (over_bit_4 x y 2 ∙ min_one (plus2 (bit_at x 6) (bit_at y 2)) (plus2_lt (bit_at x 6) (bit_at y 2))
-    ∙ plus2_comm (bit_at x 6) (bit_at y 2))
-second_bit_4 x y (suc (suc (suc zero))) h =
-    bit_at_xor y (over_byte 4 15 x y) 3
-    ∙ swap (bit_at y 3) (bit_at x 7) (bit_at (over_byte 4 15 x y) 3) (bit_at-lt y 3) (bit_at-lt x 7)
-    (over_bit_4 x y 3 ∙ min_one (plus2 (bit_at x 7) (bit_at y 3)) (plus2_lt (bit_at x 7) (bit_at y 3))
-    ∙ plus2_comm (bit_at x 7) (bit_at y 3))
-second_bit_4 x y (suc (suc (suc (suc zero)))) h =
-    bit_at_xor y (over_byte 4 15 x y) 4
-    ∙ keep (bit_at y 4) (bit_at (over_byte 4 15 x y) 4) (bit_at-lt y 4)
-    (over_bit_4 x y 4 ∙ min_none (plus2 (bit_at x 8) (bit_at y 4)))
-second_bit_4 x y (suc (suc (suc (suc (suc zero))))) h =
-    bit_at_xor y (over_byte 4 15 x y) 5
-    ∙ keep (bit_at y 5) (bit_at (over_byte 4 15 x y) 5) (bit_at-lt y 5)
-    (over_bit_4 x y 5 ∙ min_none (plus2 (bit_at x 9) (bit_at y 5)))
-second_bit_4 x y (suc (suc (suc (suc (suc (suc zero)))))) h =
-    bit_at_xor y (over_byte 4 15 x y) 6
-    ∙ keep (bit_at y 6) (bit_at (over_byte 4 15 x y) 6) (bit_at-lt y 6)
-    (over_bit_4 x y 6 ∙ min_none (plus2 (bit_at x 10) (bit_at y 6)))
-second_bit_4 x y (suc (suc (suc (suc (suc (suc (suc zero))))))) h =
-    bit_at_xor y (over_byte 4 15 x y) 7
-    ∙ keep (bit_at y 7) (bit_at (over_byte 4 15 x y) 7) (bit_at-lt y 7)
-    (over_bit_4 x y 7 ∙ min_none (plus2 (bit_at x 11) (bit_at y 7)))
-second_bit_4 x y (suc (suc (suc (suc (suc (suc (suc (suc k)))))))) h = absurd (omega arith)
-
-pub first_4 : (x y : List ℕ) (l k : ℕ) → length x ≡ 32 → length y ≡ 32 → l < 32 → k < 8
-    → bit_at (get_or (first_of 4 15 x y) l 0) k ≡ bit_at (get_or (cond (k / 4 % 2 == 0) x y) l 0) (k - k / 4 % 2 * 4)
-first_4 x y l k hx hy hl hk =
-    ap (λ v. bit_at v k) (first_at 4 15 x y l hx hy hl)
-    ∙ first_bit_4 (get_or x l 0) (get_or y l 0) k hk ∙ chosen (k / 4 % 2 == 0) x y l (k - k / 4 % 2 * 4)
-
-pub second_4 : (x y : List ℕ) (l k : ℕ) → length x ≡ 32 → length y ≡ 32 → l < 32 → k < 8
-    → bit_at (get_or (second_of 4 15 x y) l 0) k ≡ bit_at (get_or (cond (k / 4 % 2 == 0) x y) l 0) (k + 4 - k / 4 % 2 * 4)
-second_4 x y l k hx hy hl hk =
-    ap (λ v. bit_at v k) (second_at 4 15 x y l hx hy hl)
-    ∙ second_bit_4 (get_or x l 0) (get_or y l 0) k hk ∙ chosen (k / 4 % 2 == 0) x y l (k + 4 - k / 4 % 2 * 4)
+-- a bit of the second plane
+pub second : (n m : ℕ) → is_mask n m ≡ true → (x y : List ℕ) (l k : ℕ) → length x ≡ 32 → length y ≡ 32 → l < 32 → k < 8
+    → bit_at (get_or (second_of n m x y) l 0) k
+    ≡ bit_at (get_or (cond (k / n % 2 == 0) x y) l 0) (k + n - k / n % 2 * n)
+second n m test x y l k hx hy hl hk =
+    let digit : k / n % 2 < 2 = omega arith in
+    ap (λ v. bit_at v k) (second_at n m x y l hx hy hl)
+    ∙ second_bit n m (get_or x l 0) (get_or y l 0) k (k / n % 2) digit (mask_at n m k test hk).1
+    ∙ chosen (k / n % 2 == 0) x y l (k + n - k / n % 2 * n)

@@ -1,4 +1,5 @@
-use Rattle.aes.proofs.Exchanges.{long_first, long_second, first_1, second_1}
+use Rattle.std.proofs.Common.{refl}
+use Rattle.aes.proofs.Exchanges.{long_first, long_second, first, second}
 use Rattle.aes.proofs.planes.exchange_1.Goals as goal
 
 pub returns : goal.returns
@@ -9,6 +10,6 @@ returns c =
     let hy = c.fits-y.0 in
     record {
       long = (long_first 1 85 x y hx hy, long_second 1 85 x y hx hy);
-      first = λ l k hl hk. first_1 x y l k hx hy hl hk;
-      second = λ l k hl hk. second_1 x y l k hx hy hl hk;
+      first = λ l k hl hk. first 1 85 refl x y l k hx hy hl hk;
+      second = λ l k hl hk. second 1 85 refl x y l k hx hy hl hk;
     }
