@@ -1,5 +1,5 @@
 -- Eight planes of bits: sums, doubles and moves.
-use Rattle.std.proofs.Common.{◌≡◌, ℕ, zero, suc, ◌<◌, true, ltb, List, []}
+use Rattle.std.proofs.Common.{◌≡◌, ℕ, ◌<◌, true, ltb, List, []}
 use Rattle.std.proofs.Common.{◌∷◌, ◌++◌, map, get_or, length, bit_xor, refl, sym, ap, ap₂, ◌∙◌, arith, ltb-true}
 use Rattle.std.specs.Int.{bit_at}
 use Rattle.std.proofs.lemmas.Nat.Bits.{bit_at_xor}
@@ -8,35 +8,21 @@ use Rattle.std.proofs.lemmas.Simd.{length-zip2}
 use lib.Lanes.{zip2}
 use Rattle.aes.specs.Field.{times}
 use Rattle.aes.specs.Code.Planes.{HoldsBits}
-use Rattle.aes.proofs.Tested.{all_below, all_below_at}
+use Rattle.aes.proofs.Tested.{all_below, all_below_at, eight_cases}
 use Rattle.aes.proofs.Multiples.{double, double_is}
 use Rattle.aes.proofs.Circuit.{eight, at, at_sum, plus2, bits8, bits_at, same_list, same_at}
 
 -- an operation on each of eight planes
-each_of : (F : List ℕ → List ℕ) (p : List (List ℕ)) (j : ℕ) → j < 8
+pub each_of : (F : List ℕ → List ℕ) (p : List (List ℕ)) (j : ℕ) → j < 8
     → get_or (map F (eight p)) j [] ≡ F (get_or p j [])
-each_of F p zero h = refl
-each_of F p (suc zero) h = refl
-each_of F p (suc (suc zero)) h = refl
-each_of F p (suc (suc (suc zero))) h = refl
-each_of F p (suc (suc (suc (suc zero)))) h = refl
-each_of F p (suc (suc (suc (suc (suc zero))))) h = refl
-each_of F p (suc (suc (suc (suc (suc (suc zero)))))) h = refl
-each_of F p (suc (suc (suc (suc (suc (suc (suc zero))))))) h = refl
-each_of F p (suc (suc (suc (suc (suc (suc (suc (suc j)))))))) h = absurd (omega arith)
+each_of F p = eight_cases (λ j. get_or (map F (eight p)) j [] ≡ F (get_or p j [])) refl refl refl refl refl refl refl refl
 
 -- an operation on each two of sixteen planes
 each_two : (F : List ℕ → List ℕ → List ℕ) (p q : List (List ℕ)) (j : ℕ) → j < 8
     → get_or (zip2 F (eight p) (eight q)) j [] ≡ F (get_or p j []) (get_or q j [])
-each_two F p q zero h = refl
-each_two F p q (suc zero) h = refl
-each_two F p q (suc (suc zero)) h = refl
-each_two F p q (suc (suc (suc zero))) h = refl
-each_two F p q (suc (suc (suc (suc zero)))) h = refl
-each_two F p q (suc (suc (suc (suc (suc zero))))) h = refl
-each_two F p q (suc (suc (suc (suc (suc (suc zero)))))) h = refl
-each_two F p q (suc (suc (suc (suc (suc (suc (suc zero))))))) h = refl
-each_two F p q (suc (suc (suc (suc (suc (suc (suc (suc j)))))))) h = absurd (omega arith)
+each_two F p q =
+    eight_cases (λ j. get_or (zip2 F (eight p) (eight q)) j [] ≡ F (get_or p j []) (get_or q j []))
+    refl refl refl refl refl refl refl refl
 
 -- lanes brought from places
 pub moved : (ps : List ℕ) → length ps ≡ 32 → all_below (λ i. ltb (get_or ps i 0) 32) 32 ≡ true
@@ -102,28 +88,21 @@ with_last p g h i l k hi hl hk =
 -- a plane of doubles
 plane_doubled : (p : List (List ℕ)) (g : ℕ → ℕ → ℕ) → HoldsBits p g → (j l k : ℕ) → j < 8 → l < 32 → k < 8
     → at l k (get_or (doubled_planes p) j []) ≡ get_or (doubled_bits (bits8 (g l k))) j 0
-plane_doubled p g h zero l k hj hl hk = h.each 7 l k (omega arith) hl hk
-plane_doubled p g h (suc zero) l k hj hl hk = with_last p g h 0 l k (omega arith) hl hk
-plane_doubled p g h (suc (suc zero)) l k hj hl hk = h.each 1 l k (omega arith) hl hk
-plane_doubled p g h (suc (suc (suc zero))) l k hj hl hk = with_last p g h 2 l k (omega arith) hl hk
-plane_doubled p g h (suc (suc (suc (suc zero)))) l k hj hl hk = with_last p g h 3 l k (omega arith) hl hk
-plane_doubled p g h (suc (suc (suc (suc (suc zero))))) l k hj hl hk = h.each 4 l k (omega arith) hl hk
-plane_doubled p g h (suc (suc (suc (suc (suc (suc zero)))))) l k hj hl hk = h.each 5 l k (omega arith) hl hk
-plane_doubled p g h (suc (suc (suc (suc (suc (suc (suc zero))))))) l k hj hl hk = h.each 6 l k (omega arith) hl hk
-plane_doubled p g h (suc (suc (suc (suc (suc (suc (suc (suc j)))))))) l k hj hl hk = absurd (omega arith)
+plane_doubled p g h j l k hj hl hk =
+    eight_cases (λ j. at l k (get_or (doubled_planes p) j []) ≡ get_or (doubled_bits (bits8 (g l k))) j 0)
+    (h.each 7 l k (omega arith) hl hk) (with_last p g h 0 l k (omega arith) hl hk) (h.each 1 l k (omega arith) hl hk)
+    (with_last p g h 2 l k (omega arith) hl hk) (with_last p g h 3 l k (omega arith) hl hk)
+    (h.each 4 l k (omega arith) hl hk) (h.each 5 l k (omega arith) hl hk) (h.each 6 l k (omega arith) hl hk) j hj
 
 -- its length
 long_doubled : (p : List (List ℕ)) → ((j : ℕ) → j < 8 → length (get_or p j []) ≡ 32) → (j : ℕ) → j < 8
     → length (get_or (doubled_planes p) j []) ≡ 32
-long_doubled p h zero hj = h 7 (omega arith)
-long_doubled p h (suc zero) hj = length-zip2 bit_xor (get_or p 0 []) (get_or p 7 []) (h 0 (omega arith) ∙ sym (h 7 (omega arith))) ∙ h 0 (omega arith)
-long_doubled p h (suc (suc zero)) hj = h 1 (omega arith)
-long_doubled p h (suc (suc (suc zero))) hj = length-zip2 bit_xor (get_or p 2 []) (get_or p 7 []) (h 2 (omega arith) ∙ sym (h 7 (omega arith))) ∙ h 2 (omega arith)
-long_doubled p h (suc (suc (suc (suc zero)))) hj = length-zip2 bit_xor (get_or p 3 []) (get_or p 7 []) (h 3 (omega arith) ∙ sym (h 7 (omega arith))) ∙ h 3 (omega arith)
-long_doubled p h (suc (suc (suc (suc (suc zero))))) hj = h 4 (omega arith)
-long_doubled p h (suc (suc (suc (suc (suc (suc zero)))))) hj = h 5 (omega arith)
-long_doubled p h (suc (suc (suc (suc (suc (suc (suc zero))))))) hj = h 6 (omega arith)
-long_doubled p h (suc (suc (suc (suc (suc (suc (suc (suc j)))))))) hj = absurd (omega arith)
+long_doubled p h =
+    let with_last : (i : ℕ) → i < 8 → length (zip2 bit_xor (get_or p i []) (get_or p 7 [])) ≡ 32 = λ i hi.
+    length-zip2 bit_xor (get_or p i []) (get_or p 7 []) (h i hi ∙ sym (h 7 (omega arith))) ∙ h i hi in
+    eight_cases (λ j. length (get_or (doubled_planes p) j []) ≡ 32) (h 7 (omega arith)) (with_last 0 (omega arith))
+    (h 1 (omega arith)) (with_last 2 (omega arith)) (with_last 3 (omega arith)) (h 4 (omega arith)) (h 5 (omega arith))
+    (h 6 (omega arith))
 
 -- twice each byte
 pub twice : (p : List (List ℕ)) (g : ℕ → ℕ → ℕ) → ((l k : ℕ) → g l k < 256) → HoldsBits p g
@@ -133,15 +112,3 @@ twice p g small h = record {
   long = λ j hj. long_doubled p h.long j hj;
   each = λ j l k hj hl hk. plane_doubled p g h j l k hj hl hk ∙ doubled_bit (g l k) j (small l k) hj;
 }
-
--- what holds of eight numbers holds below eight
-pub eight_cases : (P : ℕ → Type 0) → P 0 → P 1 → P 2 → P 3 → P 4 → P 5 → P 6 → P 7 → (j : ℕ) → j < 8 → P j
-eight_cases P a b c d e f g h zero l = a
-eight_cases P a b c d e f g h (suc zero) l = b
-eight_cases P a b c d e f g h (suc (suc zero)) l = c
-eight_cases P a b c d e f g h (suc (suc (suc zero))) l = d
-eight_cases P a b c d e f g h (suc (suc (suc (suc zero)))) l = e
-eight_cases P a b c d e f g h (suc (suc (suc (suc (suc zero))))) l = f
-eight_cases P a b c d e f g h (suc (suc (suc (suc (suc (suc zero)))))) l = g
-eight_cases P a b c d e f g h (suc (suc (suc (suc (suc (suc (suc zero))))))) l = h
-eight_cases P a b c d e f g h (suc (suc (suc (suc (suc (suc (suc (suc j)))))))) l = absurd (omega arith)

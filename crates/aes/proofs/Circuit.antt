@@ -12,7 +12,7 @@ use Rattle.aes.specs.Code.Planes.{HoldsBits}
 use Rattle.aes.specs.Code.Lanes.{linear_sbox}
 use Rattle.aes.proofs.Tables.{sbox_at}
 use Rattle.aes.specs.declared.sbox.TheConstants.{SBOX}
-use Rattle.aes.proofs.Tested.{all_below, all_below_at}
+use Rattle.aes.proofs.Tested.{all_below, all_below_at, eight_cases}
 
 -- a gate: whether it is a product, and how far back its operands were made
 abbrev pub Gate : Type 0
@@ -87,15 +87,7 @@ same_at (x ∷ xs) (y ∷ ys) (suc i) h = same_at xs ys i (and_parts (x == y) (s
 
 -- a bit of a number
 pub bits_at : (x j : ℕ) → j < 8 → get_or (bits8 x) j 0 ≡ bit_at x j
-bits_at x zero h = refl
-bits_at x (suc zero) h = refl
-bits_at x (suc (suc zero)) h = refl
-bits_at x (suc (suc (suc zero))) h = refl
-bits_at x (suc (suc (suc (suc zero)))) h = refl
-bits_at x (suc (suc (suc (suc (suc zero))))) h = refl
-bits_at x (suc (suc (suc (suc (suc (suc zero)))))) h = refl
-bits_at x (suc (suc (suc (suc (suc (suc (suc zero))))))) h = refl
-bits_at x (suc (suc (suc (suc (suc (suc (suc (suc j)))))))) h = absurd (omega arith)
+bits_at x = eight_cases (λ j. get_or (bits8 x) j 0 ≡ bit_at x j) refl refl refl refl refl refl refl refl
 
 -- ---- bits of planes
 -- a plane of no bits
@@ -118,7 +110,7 @@ mapped h d e same (x ∷ xs) zero = refl
 mapped h d e same (x ∷ xs) (suc i) = mapped h d e same xs i
 
 -- a bit of no bits
-at_none : (l k : ℕ) → l < 32 → at l k none ≡ 0
+pub at_none : (l k : ℕ) → l < 32 → at l k none ≡ 0
 at_none l k h = ap (λ n. bit_at n k) (get_or-replicate {A = ℕ} 32 l 0 0 h) ∙ bit_at-zero k
 
 pub at_sum : (l k : ℕ) (x y : List ℕ) → length x ≡ 32 → length y ≡ 32 → l < 32
@@ -127,7 +119,7 @@ at_sum l k x y hx hy h =
     ap (λ n. bit_at n k) (get_or-zip2 bit_xor x y l 0 0 0 (omega arith) (omega arith))
     ∙ bit_at_xor (get_or x l 0) (get_or y l 0) k
 
-at_product : (l k : ℕ) (x y : List ℕ) → length x ≡ 32 → length y ≡ 32 → l < 32
+pub at_product : (l k : ℕ) (x y : List ℕ) → length x ≡ 32 → length y ≡ 32 → l < 32
     → at l k (zip2 bit_and x y) ≡ min (at l k x) (at l k y)
 at_product l k x y hx hy h =
     ap (λ n. bit_at n k) (get_or-zip2 bit_and x y l 0 0 0 (omega arith) (omega arith))

@@ -21,7 +21,7 @@ le_number : (n : ℕ) → n < 2 ^ 32 → le (bytes_low_first 0 4 n) ≡ n
 le_number n h = le_is w32 (bytes_low_first 0 4 n) (omega arith) refl ∙ from_le_bytes-to_le_bytes_4 n h
 
 -- the first items of bytes are bytes
-small_take : (n : ℕ) (bs : List ℕ) → ((i : ℕ) → get_or bs i 0 < 256) → (i : ℕ) → get_or (take n bs) i 0 < 256
+pub small_take : (n : ℕ) (bs : List ℕ) → ((i : ℕ) → get_or bs i 0 < 256) → (i : ℕ) → get_or (take n bs) i 0 < 256
 small_take n bs small i =
     elim (cases_lt i n) [
       | inl l ↦ rw (get_or-take n bs i 0 l) (small i)

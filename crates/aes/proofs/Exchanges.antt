@@ -1,7 +1,7 @@
 -- Bits that change places between two planes.
 use Rattle.std.proofs.Common.{◌≡◌, ℕ, zero, suc, ◌+◌, ◌-◌, ◌*◌, ◌/◌, ◌%◌, ◌^◌, ◌<◌, Bool, true, false, cond, ◌==◌}
 use Rattle.std.proofs.Common.{◌&&◌, List, get_or, length, replicate, min, bit_and, bit_xor, refl, sym, ap, ap₂, ◌∙◌}
-use Rattle.std.proofs.Common.{arith, inl, inr}
+use Rattle.std.proofs.Common.{arith, inl, inr, add-zero}
 use Rattle.std.specs.Int.{bit_at}
 use Rattle.std.proofs.Math.Nat.{mul_comm, div-add-mod, mod-lt}
 use Rattle.std.proofs.lemmas.Bool.{and_parts, eqb-true, cases_lt}
@@ -30,7 +30,7 @@ min_one : (u v : ℕ) → u < 2 → v ≡ 1 → min u v ≡ u
 min_one u v h e = omega arith
 
 -- a bit of a number moved down
-down : (x n k : ℕ) → bit_at (x / 2 ^ n) k ≡ bit_at x (k + n)
+pub down : (x n k : ℕ) → bit_at (x / 2 ^ n) k ≡ bit_at x (k + n)
 down x n k =
     let whole : x / 2 ^ n * 2 ^ n + x % 2 ^ n ≡ x =
     ap (λ (v : ℕ). v + x % 2 ^ n) (mul_comm (x / 2 ^ n) (2 ^ n)) ∙ div-add-mod x (2 ^ n) in
@@ -39,12 +39,15 @@ down x n k =
     ∙ bit_at_cat_high (x / 2 ^ n) n (x % 2 ^ n) (k + n) (mod-lt x (pow_pos n)) (omega arith)
     ∙ ap (bit_at (x / 2 ^ n)) back)
 
+-- a bit of the low byte of a number
+pub low_bit : (v k : ℕ) → k < 8 → bit_at (v % 2 ^ 8) k ≡ bit_at v k
+low_bit v k h =
+    let whole : v / 2 ^ 8 * 2 ^ 8 + v % 2 ^ 8 ≡ v = omega arith in
+    sym (bit_at_cat_low (v / 2 ^ 8) 8 (v % 2 ^ 8) k h) ∙ ap (λ (w : ℕ). bit_at w k) whole
+
 -- a bit of a number moved up in eight bits
 up : (x n k : ℕ) → k < 8 → bit_at (x * 2 ^ n % 2 ^ 8) k ≡ bit_at (x * 2 ^ n + 0) k
-up x n k h =
-    let v : ℕ = x * 2 ^ n in
-    let whole : v / 2 ^ 8 * 2 ^ 8 + v % 2 ^ 8 ≡ v + 0 = omega arith in
-    sym (bit_at_cat_low (v / 2 ^ 8) 8 (v % 2 ^ 8) k h) ∙ ap (λ (w : ℕ). bit_at w k) whole
+up x n k h = low_bit (x * 2 ^ n) k h ∙ ap (λ (v : ℕ). bit_at v k) (sym (add-zero (x * 2 ^ n)))
 
 -- ---- lanes
 -- an operator on a plane and a number in each lane

@@ -108,7 +108,7 @@ word_of k ws n i l same =
     ∙ ap (λ w. get_or w (i % 4) 0) (same (i / 4) (omega arith))
 
 -- the place of a lane is that of the lane in its half
-spot_half : (l : ℕ) → spot (l % 16) ≡ spot l
+pub spot_half : (l : ℕ) → spot (l % 16) ≡ spot l
 spot_half l = omega arith
 
 -- planes of a key by rows

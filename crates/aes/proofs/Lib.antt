@@ -23,7 +23,8 @@ pub mod Vectors
 pub mod Circuit
 pub mod BitPlanes
 pub mod Exchanges
+pub mod CountedBlocks
+pub mod Nibbles
 pub mod SixteenBlocks
 pub mod KeyPlanes
 pub mod Loads
-pub mod Fours

@@ -1,5 +1,5 @@
--- Blocks that go into planes and come out of them.
-use Rattle.std.proofs.Common.{◌≡◌, ℕ, ◌+◌, ◌*◌, ◌/◌, ◌%◌, ◌<◌, ◌≤◌, true, ◌&&◌, ◌==◌, ltb, List, []}
+-- Blocks that come out of planes.
+use Rattle.std.proofs.Common.{◌≡◌, ℕ, ◌+◌, ◌*◌, ◌/◌, ◌%◌, ◌<◌, true, ◌&&◌, ◌==◌, ltb, List, []}
 use Rattle.std.proofs.Common.{◌∷◌, ◌++◌, map, get_or, length, refl, ap, ap₂, ◌∙◌, arith, inl, inr}
 use Rattle.std.specs.Int.{bit_at}
 use Rattle.std.proofs.lemmas.Nat.Bits.{same_from_bits_below}
@@ -10,8 +10,7 @@ use mir.Val.{Fits}
 use mir.Syntax.{w8}
 use Rattle.octets.specs.Bytes.{IsBlock}
 use Rattle.aes.specs.Code.Lanes.{HoldsBlocks}
-use Rattle.aes.specs.Code.Planes.{HoldsBits, HasByteBits, block_byte, spot}
-use Rattle.aes.specs.declared.planes.TheConstants.{FIRST, SECOND, THIRD, FOURTH}
+use Rattle.aes.specs.Code.Planes.{HoldsBits, HasByteBits}
 use Rattle.aes.proofs.Tested.{all_below, all_below_at}
 use Rattle.aes.proofs.FourBlocks.{lane_fits, same_lanes}
 
@@ -25,65 +24,6 @@ picked_two x y ps f n m l hx hy hp h test =
     get_or-map (λ p. get_or (x ++ y) p 0) ps l 0 0 (omega arith)
     ∙ ap (λ p. get_or (x ++ y) p 0) (eqb-true (get_or ps l 0) (f l) both.0)
 
--- the place in two fours of the byte in lane l of the plane of block q of each
-abbrev pub pair_place : ℕ → ℕ → ℕ
-pair_place q l = l / 16 * 64 + q * 16 + spot l
-
--- the eight pairs
-abbrev pub pairs : List ℕ → List ℕ → List ℕ → List ℕ → List (List ℕ)
-pairs x y z w =
-    map (λ p. get_or (x ++ z) p 0) FIRST ∷ map (λ p. get_or (x ++ z) p 0) SECOND ∷
-    map (λ p. get_or (x ++ z) p 0) THIRD ∷ map (λ p. get_or (x ++ z) p 0) FOURTH ∷
-    map (λ p. get_or (y ++ w) p 0) FIRST ∷ map (λ p. get_or (y ++ w) p 0) SECOND ∷
-    map (λ p. get_or (y ++ w) p 0) THIRD ∷ map (λ p. get_or (y ++ w) p 0) FOURTH ∷ []
-
--- a lane of a pair
-pair_lane : (ps : List ℕ) (q : ℕ) → q < 4 → length ps ≡ 32
-    → all_below (λ i. (get_or ps i 0 == pair_place q i) && ltb (get_or ps i 0) (64 + 64)) 32 ≡ true
-    → (x z : List ℕ) (fx fz : ℕ → List ℕ) (t : List ℕ) (l : ℕ) → HoldsBlocks x fx → HoldsBlocks z fz
-    → (l < 16 → fx q ≡ t) → (16 ≤ l → fz q ≡ t) → l < 32
-    → get_or (map (λ p. get_or (x ++ z) p 0) ps) l 0 ≡ get_or t (spot l) 0
-pair_lane ps q hq long test x z fx fz t l hx hz ex ez hl =
-    let lx : length x ≡ 64 = hx.long in
-    let lz : length z ≡ 64 = hz.long in
-    let small : spot l < 16 = omega arith in
-    let block : (q * 16 + spot l) / 16 ≡ q = omega arith in
-    let byte : (q * 16 + spot l) % 16 ≡ spot l = omega arith in
-    picked_two x z ps (pair_place q) 64 32 l lx lz long hl test
-    ∙ elim (cases_lt l 16) [
-      | inl h ↦
-          let at : pair_place q l ≡ q * 16 + spot l = omega arith in
-          ap (λ p. get_or (x ++ z) p 0) at ∙ get_or_append_left x z 0 (q * 16 + spot l) (omega arith)
-          ∙ hx.each (q * 16 + spot l) (omega arith)
-          ∙ ap₂ (λ (a b : ℕ). get_or (fx a) b 0) block byte ∙ ap (λ b. get_or b (spot l) 0) (ex h)
-      | inr h ↦
-          let at : pair_place q l ≡ length x + (q * 16 + spot l) = omega arith in
-          ap (λ p. get_or (x ++ z) p 0) at ∙ get_or-append-add x z (q * 16 + spot l) 0
-          ∙ hz.each (q * 16 + spot l) (omega arith)
-          ∙ ap₂ (λ (a b : ℕ). get_or (fz a) b 0) block byte ∙ ap (λ b. get_or b (spot l) 0) (ez h)
-    ]
-
--- a plane of the first and the third four
-pub loaded_first : (ps : List ℕ) (q : ℕ) → q < 4 → length ps ≡ 32
-    → all_below (λ i. (get_or ps i 0 == pair_place q i) && ltb (get_or ps i 0) (64 + 64)) 32 ≡ true
-    → (x z : List ℕ) (f : ℕ → List ℕ) (l : ℕ) → HoldsBlocks x f → HoldsBlocks z (λ q. f (8 + q)) → l < 32
-    → get_or (map (λ p. get_or (x ++ z) p 0) ps) l 0 ≡ block_byte f l q
-loaded_first ps q hq long test x z f l hx hz hl =
-    pair_lane ps q hq long test x z f (λ q. f (8 + q)) (f (l / 16 * 8 + q)) l hx hz
-    (λ h. let e : q ≡ l / 16 * 8 + q = omega arith in ap f e)
-    (λ h. let e : 8 + q ≡ l / 16 * 8 + q = omega arith in ap f e) hl
-
--- a plane of the second and the fourth four
-pub loaded_second : (ps : List ℕ) (q : ℕ) → q < 4 → length ps ≡ 32
-    → all_below (λ i. (get_or ps i 0 == pair_place q i) && ltb (get_or ps i 0) (64 + 64)) 32 ≡ true
-    → (x z : List ℕ) (f : ℕ → List ℕ) (l : ℕ) → HoldsBlocks x (λ q. f (4 + q)) → HoldsBlocks z (λ q. f (12 + q)) → l < 32
-    → get_or (map (λ p. get_or (x ++ z) p 0) ps) l 0 ≡ block_byte f l (4 + q)
-loaded_second ps q hq long test x z f l hx hz hl =
-    pair_lane ps q hq long test x z (λ q. f (4 + q)) (λ q. f (12 + q)) (f (l / 16 * 8 + (4 + q))) l hx hz
-    (λ h. let e : 4 + q ≡ l / 16 * 8 + (4 + q) = omega arith in ap f e)
-    (λ h. let e : 12 + q ≡ l / 16 * 8 + (4 + q) = omega arith in ap f e) hl
-
--- ---- out
 -- a lane by its bits
 by_bits : (v : List ℕ) (f : ℕ → List ℕ) (q l : ℕ) → Each1 (Fits w8) v → ((q : ℕ) → IsBlock (f q)) → HasByteBits v f q
     → l < 32 → get_or v l 0 ≡ get_or (f (l / 16 * 8 + q)) (l % 16) 0

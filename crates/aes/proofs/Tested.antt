@@ -15,3 +15,15 @@ all_below_at t (suc n) k h l =
       | inl e ↦ ap t e ∙ (and_parts (t n) (all_below t n) h).0
       | inr e ↦ all_below_at t n k (and_parts (t n) (all_below t n) h).1 (omega arith)
     ]
+
+-- what holds of eight numbers holds below eight
+pub eight_cases : (P : ℕ → Type 0) → P 0 → P 1 → P 2 → P 3 → P 4 → P 5 → P 6 → P 7 → (j : ℕ) → j < 8 → P j
+eight_cases P a b c d e f g h zero l = a
+eight_cases P a b c d e f g h (suc zero) l = b
+eight_cases P a b c d e f g h (suc (suc zero)) l = c
+eight_cases P a b c d e f g h (suc (suc (suc zero))) l = d
+eight_cases P a b c d e f g h (suc (suc (suc (suc zero)))) l = e
+eight_cases P a b c d e f g h (suc (suc (suc (suc (suc zero))))) l = f
+eight_cases P a b c d e f g h (suc (suc (suc (suc (suc (suc zero)))))) l = g
+eight_cases P a b c d e f g h (suc (suc (suc (suc (suc (suc (suc zero))))))) l = h
+eight_cases P a b c d e f g h (suc (suc (suc (suc (suc (suc (suc (suc j)))))))) l = absurd (omega arith)

@@ -3,5 +3,6 @@
 pub mod ExpandedKey
 pub mod InverseKey
 pub mod Lanes
+pub mod Nibbles
 pub mod Planes
 pub mod Wraps

@@ -1,13 +1,14 @@
 // Streams of bytes from a block that counts (SP 800-38D, 6.5; RFC 8452, 4).
 
 ghost use Rattle.std.specs.Prelude.{◌≡◌, ℕ, ◌+◌, ◌%◌, ◌^◌, ◌<◌, ◌≤◌, List, ◌++◌, length, take, drop};
-ghost use Rattle.octets.specs.Bytes.{block_at};
+ghost use Rattle.octets.specs.Bytes.{IsBlock, block_at};
 ghost use Rattle.octets.specs.Masked.{masked};
 ghost use Rattle.aes.specs.Counters.{CountsOn, counter_byte, up_be, up_le};
+ghost use Rattle.aes.specs.Code.Nibbles.{CountsInNibble};
 ghost use Rattle.aes.specs.Code.Wraps.{WrapsAround, up_be-wraps, up_le-wraps};
 
 use crate::key::AesKey;
-use crate::planes::Planes;
+use crate::planes::{Planes, count_blocks};
 use byteorder::{BigEndian, ByteOrder, LittleEndian};
 use octets::{Block, Stream, Work, xor_into};
 use std::marker::PhantomData;
@@ -58,8 +59,17 @@ trait Count {
     // The block that is some steps after the first one.
     ghost up: { List ℕ → ℕ → List ℕ };
 
+    // The place of the least significant byte that counts.
+    ghost LOW: { ℕ };
+
+    const LOW: usize;
+
     fn block(first: &Block, steps: u32) -> Block
         ensures { result ≡ up first.now steps };
+
+    // Tells a caller how the byte at `LOW` counts. It does nothing.
+    fn counts_in_nibble()
+        ensures { CountsInNibble up LOW };
 
     ghost wraps: { WrapsAround up };
 }
@@ -70,11 +80,17 @@ struct LastFour;
 impl Count for LastFour {
     ghost up = { up_be };
 
+    ghost LOW = { 15 };
+
+    const LOW: usize = 15;
+
     ghost wraps = { up_be-wraps };
 
     fn block(first: &Block, steps: u32) -> Block {
         Block::new(add_be(first.bytes(), steps))
     }
+
+    fn counts_in_nibble() {}
 }
 
 // In its first four bytes, least significant byte first.
@@ -83,11 +99,17 @@ struct FirstFour;
 impl Count for FirstFour {
     ghost up = { up_le };
 
+    ghost LOW = { 0 };
+
+    const LOW: usize = 0;
+
     ghost wraps = { up_le-wraps };
 
     fn block(first: &Block, steps: u32) -> Block {
         Block::new(add_le(first.bytes(), steps))
     }
+
+    fn counts_in_nibble() {}
 }
 
 // A stream from its first block on: how many blocks were begun, modulo 2^32, and the cipher of the last one
@@ -106,7 +128,7 @@ struct Counter<C> {
 impl<C: Count> Counter<C> {
     ghost use Rattle.aes.specs.Streams.{Makes, Advances};
     ghost use Rattle.aes.specs.Code.Lanes.{IsReady};
-    ghost use Rattle.aes.specs.Code.Planes.{AreReady, AreMasks};
+    ghost use Rattle.aes.specs.Code.Planes.{AreReady, AreMasks, HoldsSixteen};
     ghost use Rattle.aes.specs.Schedule.{schedule, round_count};
 
     // The stream whose first block is the cipher of `first`.
@@ -196,6 +218,24 @@ impl<C: Count> Counter<C> {
         self.take_four(b, &mut bytes[64..]);
     }
 
+    // The next sixteen blocks, in planes: all have the bytes of the first one, or of the first one after the
+    // low half of the byte at `LOW` has passed 15, but for that half.
+    #[inline(always)]
+    fn sixteen(&self) -> Planes
+        ensures planes { HoldsSixteen result (λ q. C.up self.now.first ((self.now.begun + q) % 2 ^ 32)) }
+        ensures each_is_block { (j : ℕ) → IsBlock (C.up self.now.first j) }
+    {
+        C::counts_in_nibble();
+        let low = u32::from(self.first.bytes()[C::LOW]).wrapping_add(self.begun) % 16;
+        let whole = self.begun.wrapping_sub(low);
+        count_blocks(
+            C::block(&self.first, whole).bytes(),
+            C::block(&self.first, whole.wrapping_add(16)).bytes(),
+            low,
+            C::LOW,
+        )
+    }
+
     // XORs in the next sixteen blocks, where no block is begun.
     fn begin_sixteen(&mut self, keys: &[Planes; 15], bytes: &mut [u8])
         requires ready { AreReady keys.now (schedule self.old.key) (round_count self.old.key) }
@@ -205,13 +245,7 @@ impl<C: Count> Counter<C> {
         ensures used { self.new.used ≡ 0 }
         ensures key { self.new.key ≡ self.old.key }
     {
-        let (a, b, c, d) = self.key.encrypt_sixteen(
-            keys,
-            &self.four(self.begun),
-            &self.four(self.begun.wrapping_add(4)),
-            &self.four(self.begun.wrapping_add(8)),
-            &self.four(self.begun.wrapping_add(12)),
-        );
+        let (a, b, c, d) = self.key.encrypt_sixteen(keys, self.sixteen());
         self.take_eight(&a, &b, &mut bytes[..128]);
         self.take_eight(&c, &d, &mut bytes[128..]);
     }

@@ -13,8 +13,7 @@ use crate::inverse::unmix_words;
 use crate::inverse_key::InverseKey;
 use crate::lanes::{first_four, last_four, ready_keys, round_four, spread};
 use crate::planes::{
-    Planes, add, last_sixteen, load as load_planes, ready_planes, round_sixteen,
-    store as store_planes,
+    Planes, add, last_sixteen, ready_planes, round_sixteen, store as store_planes,
 };
 use crate::schedule::expand;
 use octets::{Block, Fault, Key16, Key24, Key32};
@@ -169,29 +168,21 @@ impl AesKey {
         last_sixteen(state, keys[count])
     }
 
-    // The ciphers of sixteen blocks, four in each array, by the words of the rounds in planes.
+    // The ciphers of sixteen blocks in planes, four in each array, by the words of the rounds in planes.
     #[inline(always)]
     pub(crate) fn encrypt_sixteen(
         &self,
         keys: &[Planes; 15],
-        a: &[u8; 64],
-        b: &[u8; 64],
-        c: &[u8; 64],
-        d: &[u8; 64],
+        start: Planes,
     ) -> ([u8; 64], [u8; 64], [u8; 64], [u8; 64])
         requires { AreReady keys.now (schedule self.now) (round_count self.now) }
-        ensures first { (q : ℕ) → q < 4 → block_at result.0 q ≡ cipher self.now (block_at a.now q) }
-        ensures second { (q : ℕ) → q < 4 → block_at result.1 q ≡ cipher self.now (block_at b.now q) }
-        ensures third { (q : ℕ) → q < 4 → block_at result.2 q ≡ cipher self.now (block_at c.now q) }
-        ensures fourth { (q : ℕ) → q < 4 → block_at result.3 q ≡ cipher self.now (block_at d.now q) }
+        ensures { (f : ℕ → List ℕ) → ((q : ℕ) → IsBlock (f q)) → HoldsSixteen start f
+            → ((q : ℕ) → q < 4 → block_at result.0 q ≡ cipher self.now (f q))
+            × ((q : ℕ) → q < 4 → block_at result.1 q ≡ cipher self.now (f (4 + q)))
+            × ((q : ℕ) → q < 4 → block_at result.2 q ≡ cipher self.now (f (8 + q)))
+            × ((q : ℕ) → q < 4 → block_at result.3 q ≡ cipher self.now (f (12 + q))) }
     {
         self.is_key();
-        let start = load_planes(
-            u8x64::from_array(*a),
-            u8x64::from_array(*b),
-            u8x64::from_array(*c),
-            u8x64::from_array(*d),
-        );
         let (first, second, third, fourth) = store_planes(self.encrypt_planes(keys, start));
         (
             first.to_array(),

@@ -448,46 +448,90 @@ pub(crate) fn ready_planes(words: &[u32; 60], last: usize) -> [Planes; 15]
     keys
 }
 
-// Block 0 of each of two runs of four blocks, in the order of lanes.
-const FIRST: [usize; 32] = [
-    0, 4, 8, 12, 1, 5, 9, 13, 2, 6, 10, 14, 3, 7, 11, 15, 64, 68, 72, 76, 65, 69, 73, 77, 66, 70,
-    74, 78, 67, 71, 75, 79,
-];
-
-// Block 1 of each of two runs of four blocks, in the order of lanes.
-const SECOND: [usize; 32] = [
-    16, 20, 24, 28, 17, 21, 25, 29, 18, 22, 26, 30, 19, 23, 27, 31, 80, 84, 88, 92, 81, 85, 89, 93,
-    82, 86, 90, 94, 83, 87, 91, 95,
-];
-
-// Block 2 of each of two runs of four blocks, in the order of lanes.
-const THIRD: [usize; 32] = [
-    32, 36, 40, 44, 33, 37, 41, 45, 34, 38, 42, 46, 35, 39, 43, 47, 96, 100, 104, 108, 97, 101,
-    105, 109, 98, 102, 106, 110, 99, 103, 107, 111,
-];
-
-// Block 3 of each of two runs of four blocks, in the order of lanes.
-const FOURTH: [usize; 32] = [
-    48, 52, 56, 60, 49, 53, 57, 61, 50, 54, 58, 62, 51, 55, 59, 63, 112, 116, 120, 124, 113, 117,
-    121, 125, 114, 118, 122, 126, 115, 119, 123, 127,
-];
-
-// Four runs of four blocks, in planes.
+// The bits of a number below 2^16, bit q in each lane for block q.
 #[inline(always)]
-pub(crate) fn load(a: u8x64, b: u8x64, c: u8x64, d: u8x64) -> Planes
-    ensures { (f : ℕ → List ℕ) → HoldsBlocks a f → HoldsBlocks b (λ q. f (4 + q))
-        → HoldsBlocks c (λ q. f (8 + q)) → HoldsBlocks d (λ q. f (12 + q)) → HoldsSixteen result f }
+fn by_blocks(number: u32) -> u8x32
+    ensures long { length result ≡ 32 }
+    ensures bits { (l k : ℕ) → l < 32 → k < 8
+        → bit_at (slice_index result l) k ≡ bit_at number (l / 16 * 8 + k) }
 {
-    transpose([
-        a.shuffle(c, FIRST),
-        a.shuffle(c, SECOND),
-        a.shuffle(c, THIRD),
-        a.shuffle(c, FOURTH),
-        b.shuffle(d, FIRST),
-        b.shuffle(d, SECOND),
-        b.shuffle(d, THIRD),
-        b.shuffle(d, FOURTH),
-    ])
+    let low = u8x16::splat((number % 256) as u8);
+    let high = u8x16::splat((number / 256 % 256) as u8);
+    low.shuffle(
+        high,
+        [
+            0, 1, 2, 3, 4, 5, 6, 7, 8, 9, 10, 11, 12, 13, 14, 15, 16, 17, 18, 19, 20, 21, 22, 23,
+            24, 25, 26, 27, 28, 29, 30, 31,
+        ],
+    )
+}
+
+// Each byte whose bit in the mask is set, and 0 in the place of the others.
+#[inline(always)]
+fn marked(p: Planes, mask: u8x32) -> Planes
+    requires { length mask ≡ 32 }
+    ensures { (g : ℕ → ℕ → ℕ) → HoldsBits p g
+        → HoldsBits result (λ l k. bit_at (slice_index mask l) k * g l k) }
+{
+    [
+        p[0] & mask,
+        p[1] & mask,
+        p[2] & mask,
+        p[3] & mask,
+        p[4] & mask,
+        p[5] & mask,
+        p[6] & mask,
+        p[7] & mask,
+    ]
+}
+
+// All bits of the lanes of one byte of each block.
+#[inline(always)]
+fn lanes_of(place: usize) -> u8x32
+    requires { place < 16 }
+    ensures long { length result ≡ 32 }
+    ensures each { (l : ℕ) → l < 32 → slice_index result l ≡ if spot l == place then 255 else 0 }
+{
+    let lane = place % 4 * 4 + place / 4;
+    let mut lanes = [0; 32];
+    lanes[lane] = 255;
+    lanes[16 + lane] = 255;
+    u8x32::from_array(lanes)
+}
+
+// Blocks of zeros but for one byte, which is `first` plus the number of the block, modulo 16.
+#[inline(always)]
+fn numbers(first: u32, place: usize) -> Planes
+    requires { (first < 16) × (place < 16) }
+    ensures { HoldsBits result (λ l k. if spot l == place then (first + (l / 16 * 8 + k)) % 16 else 0) }
+{
+    let lanes = lanes_of(place);
+    let none = u8x32::splat(0);
+    [
+        by_blocks(0xaaaa_aaaa >> first) & lanes,
+        by_blocks(0xcccc_cccc >> first) & lanes,
+        by_blocks(0xf0f0_f0f0 >> first) & lanes,
+        by_blocks(0xff00_ff00 >> first) & lanes,
+        none,
+        none,
+        none,
+        none,
+    ]
+}
+
+// Sixteen blocks that count by the low half of one byte: block q is `a` with `first` + q there, or from the
+// block on where this passes 16, `b` with 16 less.
+#[inline(always)]
+pub(crate) fn count_blocks(a: &[u8; 16], b: &[u8; 16], first: u32, place: usize) -> Planes
+    requires { (first < 16) × (place < 16) }
+    ensures { (f : ℕ → List ℕ) → ((q i : ℕ) → q < 16 → i < 16 → slice_index (f q) i
+        ≡ bit_xor (slice_index (if (first + q) / 16 == 0 then a.now else b.now) i)
+        (if i == place then (first + q) % 16 else 0)) → HoldsSixteen result f }
+{
+    let before = rows(u8x16::from_array(*a));
+    let after = rows(u8x16::from_array(*b));
+    let change = marked(spread(before ^ after), by_blocks(0xffff_0000 >> first));
+    add(add(spread(before), change), numbers(first, place))
 }
 
 // The first halves of four planes after one another, and the second halves.

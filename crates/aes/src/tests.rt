@@ -205,6 +205,11 @@ const LENGTHS: [usize; 16] = [
     511, 512, 513, 527, 528, 575, 576, 577, 767, 768, 769, 831, 1023, 1024, 1025, 1100,
 ];
 
+// How far below 2^32 a count begins: each place in a run of sixteen blocks, and a later run.
+const BELOW_END: [u8; 18] = [
+    1, 2, 3, 4, 5, 6, 7, 8, 9, 10, 11, 12, 13, 14, 15, 16, 37, 100,
+];
+
 // A block that counts in its last four bytes, `steps` steps below 2^32.
 fn big_endian_below_end(steps: u8) -> [u8; 16] {
     let mut first = TEXT;
@@ -224,7 +229,7 @@ fn little_endian_below_end(steps: u8) -> [u8; 16] {
 #[test]
 fn big_endian_runs_of_sixteen(rt: HostRuntime) {
     for key in keys(&rt) {
-        for steps in [1u8, 3, 4, 8, 12, 15, 16, 20, 37, 100] {
+        for steps in BELOW_END {
             let first = big_endian_below_end(steps);
             for length in LENGTHS {
                 let single = big_endian_in_calls(&key, first, length, 16);
@@ -239,7 +244,7 @@ fn big_endian_runs_of_sixteen(rt: HostRuntime) {
 #[test]
 fn little_endian_runs_of_sixteen(rt: HostRuntime) {
     for key in keys(&rt) {
-        for steps in [1u8, 3, 4, 8, 12, 15, 16, 20, 37, 100] {
+        for steps in BELOW_END {
             let first = little_endian_below_end(steps);
             for length in LENGTHS {
                 let single = little_endian_in_calls(&key, first, length, 16);

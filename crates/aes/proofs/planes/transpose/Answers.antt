@@ -1,6 +1,6 @@
 use Rattle.std.proofs.Common.{◌≡◌, ℕ, List, [], ◌∷◌, get_or, length, refl, ◌∙◌, arith}
 use Rattle.std.specs.Int.{bit_at}
-use Rattle.aes.proofs.BitPlanes.{eight_cases}
+use Rattle.aes.proofs.Tested.{eight_cases}
 use Rattle.aes.proofs.planes.transpose.Goals as goal
 
 pub returns : goal.returns

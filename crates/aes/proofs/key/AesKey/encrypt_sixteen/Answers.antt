@@ -1,25 +1,18 @@
-use Rattle.std.proofs.Common.{ℕ, List, [], ◌∷◌, arith}
+use Rattle.std.proofs.Common.{ℕ, ◌+◌}
 use Rattle.octets.specs.Bytes.{IsBlock}
 use Rattle.aes.specs.Cipher.{IsKey, cipher}
+use Rattle.aes.proofs.FourRounds.{block_held}
 use Rattle.aes.proofs.Permutation.{cipher_block}
-use Rattle.aes.proofs.Fours.{of_fours, fours_blocks, first_four, four_held, made_four, made_first}
 use Rattle.aes.proofs.key.AesKey.encrypt_sixteen.Goals as goal
 
 pub returns : goal.returns
-returns c =
+returns c = λ f blocks held.
     let key = c.args.self.now in
     let k : IsKey key = c.is_key.ensures in
-    let ms : List (List ℕ) = c.args.a.now ∷ c.args.b.now ∷ c.args.c.now ∷ c.args.d.now ∷ [] in
-    let blocks : (q : ℕ) → IsBlock (of_fours ms q) = fours_blocks c.args.a.now c.args.b.now c.args.c.now c.args.d.now
-    c.told-a c.told-b c.told-c c.told-d c.fits-a c.fits-b c.fits-c c.fits-d in
-    let made : (q : ℕ) → IsBlock (cipher key (of_fours ms q)) = λ q. cipher_block key (of_fours ms q) k (blocks q) in
-    let start = c.load-start.ensures (of_fours ms) (first_four ms c.told-a) (four_held ms 1 c.told-b (omega arith))
-    (four_held ms 2 c.told-c (omega arith)) (four_held ms 3 c.told-d (omega arith)) in
-    let out = c.store.ensures (λ q. cipher key (of_fours ms q)) made
-    (c.encrypt_planes.ensures (of_fours ms) blocks start) in
-    record {
-      first = made_first key ms c.store.result.0 made out.0;
-      second = made_four key ms 1 c.store.result.1 (omega arith) made out.1;
-      third = made_four key ms 2 c.store.result.2 (omega arith) made out.2;
-      fourth = made_four key ms 3 c.store.result.3 (omega arith) made out.3;
-    }
+    let made : (q : ℕ) → IsBlock (cipher key (f q)) = λ q. cipher_block key (f q) k (blocks q) in
+    let out = c.store.ensures (λ q. cipher key (f q)) made (c.encrypt_planes.ensures f blocks held) in (
+      λ q h. block_held c.store.result.0 (λ q. cipher key (f q)) q out.0 h (made q).length_is,
+      λ q h. block_held c.store.result.1 (λ q. cipher key (f (4 + q))) q out.1 h (made (4 + q)).length_is,
+      λ q h. block_held c.store.result.2 (λ q. cipher key (f (8 + q))) q out.2 h (made (8 + q)).length_is,
+      λ q h. block_held c.store.result.3 (λ q. cipher key (f (12 + q))) q out.3 h (made (12 + q)).length_is,
+    )

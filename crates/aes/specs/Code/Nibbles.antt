@@ -1,0 +1,12 @@
+-- A counter of 32 bits, by the low half of its least significant byte.
+use Rattle.std.specs.Prelude.{◌≡◌, ℕ, ◌+◌, ◌%◌, ◌<◌, ◌==◌, if◌then◌else◌, List, slice_index, bit_xor}
+use Rattle.octets.specs.Bytes.{IsBlock}
+
+-- blocks stay blocks, the low half of the byte at a place counts modulo 16, and fewer than 16 steps from 0
+-- there change nothing else
+pub record CountsInNibble (up : List ℕ → ℕ → List ℕ) (place : ℕ) : Type 0 where
+  pub within : place < 16
+  pub blocks : (b : List ℕ) (j : ℕ) → IsBlock b → IsBlock (up b j)
+  pub nibble : (b : List ℕ) (j : ℕ) → IsBlock b → slice_index (up b j) place % 16 ≡ (slice_index b place + j) % 16
+  pub near : (b : List ℕ) (j s i : ℕ) → IsBlock b → slice_index (up b j) place % 16 ≡ 0 → s < 16 → i < 16
+      → slice_index (up b (j + s)) i ≡ bit_xor (slice_index (up b j) i) (if i == place then s else 0)
