@@ -9,7 +9,7 @@ ghost use Rattle.aes.specs.Columns.{column_of, columns_of, state_of};
 
 use crate::round_tables::TABLES;
 
-// What the byte x in row 0 adds to its column after SubBytes and MixColumns.
+// The column that the byte x in row 0 adds after SubBytes and MixColumns.
 #[inline(always)]
 fn entry(x: u8) -> u32
     ensures { column_of result ≡ times 2 (sbox x) ∷ sbox x ∷ sbox x ∷ times 3 (sbox x) ∷ [] }
@@ -17,7 +17,7 @@ fn entry(x: u8) -> u32
     TABLES[0][x as usize]
 }
 
-// What it adds in row 1.
+// The column that it adds from row 1.
 #[inline(always)]
 fn entry_row1(x: u8) -> u32
     ensures { column_of result ≡ times 3 (sbox x) ∷ times 2 (sbox x) ∷ sbox x ∷ sbox x ∷ [] }
@@ -25,7 +25,7 @@ fn entry_row1(x: u8) -> u32
     TABLES[1][x as usize]
 }
 
-// What it adds in row 2.
+// The column that it adds from row 2.
 #[inline(always)]
 fn entry_row2(x: u8) -> u32
     ensures { column_of result ≡ sbox x ∷ times 3 (sbox x) ∷ times 2 (sbox x) ∷ sbox x ∷ [] }
@@ -33,7 +33,7 @@ fn entry_row2(x: u8) -> u32
     TABLES[2][x as usize]
 }
 
-// What it adds in row 3.
+// The column that it adds from row 3.
 #[inline(always)]
 fn entry_row3(x: u8) -> u32
     ensures { column_of result ≡ sbox x ∷ sbox x ∷ times 3 (sbox x) ∷ times 2 (sbox x) ∷ [] }

@@ -113,7 +113,7 @@ impl Count for FirstFour {
 }
 
 // A stream from its first block on: how many blocks were begun, modulo 2^32, and the cipher of the last one
-// with the number of its bytes that were used, 0 where all were.
+// with the number of its bytes that were used, 0 if all were.
 #[derive(Drop)]
 struct Counter<C> {
     key: AesKey,
@@ -158,7 +158,7 @@ impl<C: Count> Counter<C> {
         self.used = end % 16;
     }
 
-    // XORs in the first bytes of the next block, where none is begun.
+    // XORs in the first bytes of the next block. No block is begun.
     fn begin(&mut self, bytes: &mut [u8])
         requires none { self.old.used ≡ 0 }
         requires some { 0 < length bytes.old }
@@ -185,7 +185,7 @@ impl<C: Count> Counter<C> {
         joined(first.bytes(), second.bytes(), third.bytes(), fourth.bytes())
     }
 
-    // XORs in the next four blocks, whose ciphers are given, where no block is begun.
+    // XORs in the next four blocks, whose ciphers are given. No block is begun.
     #[inline(always)]
     fn take_four(&mut self, masks: &[u8; 64], bytes: &mut [u8])
         requires masks { AreMasks C.up self.old.key self.old.first self.old.begun masks.now }
@@ -201,7 +201,7 @@ impl<C: Count> Counter<C> {
         xor_into(bytes, masks);
     }
 
-    // XORs in the next eight blocks, whose ciphers are given, where no block is begun.
+    // XORs in the next eight blocks, whose ciphers are given. No block is begun.
     #[inline(always)]
     fn take_eight(&mut self, a: &[u8; 64], b: &[u8; 64], bytes: &mut [u8])
         requires first { AreMasks C.up self.old.key self.old.first self.old.begun a.now }
@@ -236,7 +236,7 @@ impl<C: Count> Counter<C> {
         )
     }
 
-    // XORs in the next sixteen blocks, where no block is begun.
+    // XORs in the next sixteen blocks. No block is begun.
     fn begin_sixteen(&mut self, keys: &[Planes; 15], bytes: &mut [u8])
         requires ready { AreReady keys.now (schedule self.old.key) (round_count self.old.key) }
         requires none { self.old.used ≡ 0 }
@@ -250,7 +250,7 @@ impl<C: Count> Counter<C> {
         self.take_eight(&c, &d, &mut bytes[128..]);
     }
 
-    // XORs in the next four blocks, where no block is begun.
+    // XORs in the next four blocks. No block is begun.
     fn begin_four(&mut self, keys: &[[u8; 16]; 15], bytes: &mut [u8])
         requires ready { IsReady keys.now self.old.key }
         requires none { self.old.used ≡ 0 }
@@ -288,7 +288,7 @@ impl<C: Count> Counter<C> {
         done
     }
 
-    // XORs in whole runs of four blocks, those of sixteen first, where no block is begun.
+    // XORs in whole runs of four blocks, those of sixteen first. No block is begun.
     fn apply_fours(&mut self, bytes: &mut [u8])
         requires none { self.old.used ≡ 0 }
         requires whole { length bytes.old % 64 ≡ 0 }
@@ -309,7 +309,7 @@ impl<C: Count> Counter<C> {
         }
     }
 
-    // XORs in blocks, the last one perhaps in part, where no block is begun.
+    // XORs in blocks, the last one perhaps in part. No block is begun.
     fn apply_blocks(&mut self, bytes: &mut [u8])
         requires { self.old.used ≡ 0 }
         ensures { Advances C.up self.old self.new bytes.old bytes.new }

@@ -11,7 +11,7 @@ ghost use Rattle.aes.specs.Columns.{column_of, columns_of, state_of};
 use crate::round_tables::INVERSE_TABLES;
 use crate::sbox::{substitute, unsubstitute};
 
-// What the byte y in row 0 adds to the product of its column and the inverse matrix, by x = S(y).
+// The column that the byte y in row 0 adds to the product of its column and the inverse matrix, by x = S(y).
 #[inline(always)]
 fn inverse_entry(x: u8) -> u32
     ensures { (y : ℕ) → y < 256 → sbox y ≡ x
@@ -20,7 +20,7 @@ fn inverse_entry(x: u8) -> u32
     INVERSE_TABLES[0][x as usize]
 }
 
-// What it adds in row 1.
+// The column that it adds from row 1.
 #[inline(always)]
 fn inverse_entry_row1(x: u8) -> u32
     ensures { (y : ℕ) → y < 256 → sbox y ≡ x
@@ -29,7 +29,7 @@ fn inverse_entry_row1(x: u8) -> u32
     INVERSE_TABLES[1][x as usize]
 }
 
-// What it adds in row 2.
+// The column that it adds from row 2.
 #[inline(always)]
 fn inverse_entry_row2(x: u8) -> u32
     ensures { (y : ℕ) → y < 256 → sbox y ≡ x
@@ -38,7 +38,7 @@ fn inverse_entry_row2(x: u8) -> u32
     INVERSE_TABLES[2][x as usize]
 }
 
-// What it adds in row 3.
+// The column that it adds from row 3.
 #[inline(always)]
 fn inverse_entry_row3(x: u8) -> u32
     ensures { (y : ℕ) → y < 256 → sbox y ≡ x
@@ -102,7 +102,7 @@ fn inverse_column(a: u32, b: u32, c: u32, d: u32, key: u32) -> u32
     inverse_sum(row0, row1, row2, row3) ^ key
 }
 
-// A round of the equivalent inverse cipher (5.3.5): where SubBytes and ShiftRows take s to this state,
+// A round of the equivalent inverse cipher (5.3.5): if SubBytes and ShiftRows take s to this state,
 // MixColumns takes the result to the sum of s and the words that MixColumns makes of the key's.
 #[inline(always)]
 pub(crate) fn inverse_round(state: [u32; 4], key: [u32; 4]) -> [u32; 4]

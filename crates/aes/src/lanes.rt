@@ -139,8 +139,8 @@ fn to_basis(x: u8x64) -> u8x64
     sum(look(TO_LOW, low_nibbles(x)), look(TO_HIGH, high_nibbles(x)))
 }
 
-// What the S-box without its constant makes of bytes in the basis: itself, and itself and twice itself in
-// the basis.
+// The S-box without its constant, of bytes in the basis: its value, and its value and twice its value in the
+// basis.
 #[inline(always)]
 fn substitute(x: u8x64) -> (u8x64, u8x64, u8x64)
     ensures { (s : ℕ → ℕ) → ((k : ℕ) → k < 64 → s k < 256) → HasLanes x (λ k. in_basis (s k))

@@ -39,8 +39,8 @@ impl ChaStream {
     /// XORs the next bytes of the key stream into `bytes`, of any length (RFC 8439, 2.4). Pieces of
     /// a text, one call each, give what the whole text gives.
     ///
-    /// `StreamEnd` comes where a block past counter 2^32 - 1 would be needed, never for no bytes.
-    /// It leaves the stream and the bytes as they were.
+    /// `StreamEnd` if a block past counter 2^32 - 1 would be needed, never for no bytes. It leaves the stream
+    /// and the bytes as they were.
     pub fn apply(&mut self, bytes: &mut [u8]) -> Result<(), Fault>
         ensures { (key nonce : List ℕ) (first made : ℕ) → Holds self.old key nonce first made
             → MatchResult result (λ _. Applied self.new key nonce first made bytes.old bytes.new)
@@ -52,8 +52,7 @@ impl ChaStream {
     /// XORs the next bytes of the key stream into `bytes`, of any length, as `apply` does, and does steps of
     /// `work` meanwhile.
     ///
-    /// `StreamEnd` comes exactly where `apply` returns it. It leaves the stream, the bytes and the work as
-    /// they were.
+    /// `StreamEnd` exactly if `apply` returns it. It leaves the stream, the bytes and the work as they were.
     pub fn apply_with<W: Work>(&mut self, bytes: &mut [u8], work: &mut W) -> Result<(), Fault>
         ensures applied { (key nonce : List ℕ) (first made : ℕ) → Holds self.old key nonce first made
             → MatchResult result (λ _. Applied self.new key nonce first made bytes.old bytes.new)
