@@ -1,4 +1,6 @@
 pub mod AeadLemmas
+pub mod BlamesLemmas
 pub mod FilesLemmas
 pub mod KeywrapLemmas
 pub mod NewFileLemmas
+pub mod ReadingsLemmas

@@ -1,5 +1,6 @@
 pub mod Aead
 pub mod Answers
+pub mod Blames
 pub mod Files
 pub mod Hex
 pub mod Keywrap

@@ -1,8 +1,9 @@
 //! What the commands answer: bytes, for values given as hexadecimal.
-ghost use Rattle.std.specs.Prelude.{◌≡◌, ◌⊎◌, Ok, MatchResult, IfSome};
+ghost use Rattle.std.specs.Prelude.{◌≡◌, ◌⊎◌, MatchResult, IfErr};
 ghost use Rattle.aead.specs.AnyCiphers.{keyed_of};
 ghost use Rattle.aead.specs.Refusals.{WholeSealRefused, WholeOpenRefused};
 ghost use Rattle.aeadkit.specs.Aead.{IsReady, IsSealed, IsOpened, InputsRefused, IsRefused};
+ghost use Rattle.aeadkit.specs.Blames.{InputFailed};
 ghost use Rattle.aeadkit.specs.Hex.{Spells, IsBadHex};
 ghost use Rattle.aeadkit.specs.Reports.{IsReportOf, FileRefused};
 ghost use Rattle.aeadkit.specs.Keywrap.{Wraps, IsWrapped, IsUnwrapped, IsWrapRefused, WrapFault};
@@ -10,7 +11,8 @@ ghost use Rattle.aeadkit.specs.Keywrap.{UnwrapFault};
 ghost use Rattle.aeadkit.specs.declared.failure.Failure.TheVariants.{BadHex, Fault as OfFault};
 ghost use Rattle.octets.specs.declared.fault.Fault.TheVariants.{OutOfMemory, Read as OfRead};
 
-use crate::failure::{Failure, fault_of};
+use crate::failure::Failure;
+use crate::readings::file_bytes;
 use crate::storage::Storage;
 use crate::words::Inputs;
 use aead::{AnyAead, Suite};
@@ -18,7 +20,6 @@ use aes::AesKey;
 use hex::FromHexError;
 use octets::{Fault, Nonce};
 use std::alloc::Allocator;
-use std::io::Read;
 use vectors::Report;
 
 // The bytes that a value given for hexadecimal spells. `BadHex` where it is not an even number of hex
@@ -160,36 +161,17 @@ pub fn open<'a, A: Allocator>(alloc: &'a A, words: &Inputs<'_>) -> Result<Vec<u8
     Ok(aead::open(alloc, &cipher, &nonce, &aad, &body)?)
 }
 
-// The bytes of a file. `Read` where it can't be opened or read, `OutOfMemory` where a growth is refused.
-fn file_bytes<'a, A: Allocator, F: Storage>(
-    alloc: &'a A,
-    files: &F,
-    path: &str,
-) -> Result<Vec<u8, &'a A>, Fault>
-    ensures { MatchResult result
-        (λ v. IfSome (F.contents files.now path.now 0) (λ bytes. v.items ≡ bytes))
-        (λ e. (e ≡ OutOfMemory) ⊎ (e ≡ OfRead)) }
-{
-    let mut file = match files.open(path, 0) {
-        Ok(file) => file,
-        Err(error) => return Err(fault_of(&error, Fault::Read)),
-    };
-    let mut bytes = Vec::new(alloc);
-    match file.read_to_end(&mut bytes) {
-        Ok(_) => Ok(bytes),
-        Err(error) => Err(fault_of(&error, Fault::Read)),
-    }
-}
-
 /// `check`: the report of a vector file. The refusals of reading it come first, then the file's first fault.
 pub fn check<'a, A: Allocator, F: Storage>(
     alloc: &'a A,
     files: &F,
     path: &str,
 ) -> Result<Report<&'a A>, Failure>
-    ensures { MatchResult result
+    ensures answer { MatchResult result
         (λ r. IsReportOf (F.contents files.now path.now 0) r.records r.bad.items)
         (FileRefused (F.contents files.now path.now 0)) }
+    ensures blame { IfErr result (λ e. e ≡ OfFault OfRead
+        → InputFailed (F.open_may_fail files.now path.now) F.Input.failures) }
 {
     let file = file_bytes(alloc, files, path)?;
     Ok(vectors::check(alloc, &file)?)

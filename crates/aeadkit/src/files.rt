@@ -1,53 +1,29 @@
 //! The file commands: a file is sealed or opened into another, in memory of a fixed size.
-ghost use Rattle.std.specs.Prelude.{◌≡◌, ◌⊎◌, true, false, Some, is_some, IfOk, IfSome, MatchResult};
-ghost use Rattle.octets.specs.declared.fault.Fault.TheVariants.{OutOfMemory, Read as OfRead};
+ghost use Rattle.std.specs.Prelude.{◌≡◌, true, false, is_some, IfOk, IfErr, MatchResult};
+ghost use Rattle.octets.specs.Device.{Failed};
 ghost use Rattle.aead.specs.Suites.{ByGcmSiv, construction_of, is_one_pass};
 ghost use Rattle.aead.specs.Ciphers.{setting};
 ghost use Rattle.aead.specs.AnyCiphers.{one_pass_keyed, keyed_of};
+ghost use Rattle.aeadkit.specs.Blames.{InputFailed, OutputFailed, Blames, BlamesAs};
 ghost use Rattle.aeadkit.specs.Files.{SealingBy, Sealing, Opening, EngineRan, Ran};
 ghost use Rattle.aeadkit.specs.Files.{FileDone, FileStopped};
 ghost use Rattle.aeadkit.specs.NewFiles.{held};
 
 use crate::commands::prepare;
-use crate::failure::{Failure, fault_of};
+use crate::failure::Failure;
 use crate::new_file::NewFile;
+use crate::readings::reading;
 use crate::storage::Storage;
 use crate::words::FileWords;
 use aead::{
     AnyAead, AnyOnePass, GcmSiv, Sealer, SivAbsorb, open_stream, seal_siv_stream, seal_stream,
 };
-use octets::{Fault, FromRead, Intake, Nonce, Outlet};
+use octets::{Fault, Nonce, Outlet};
 use std::alloc::Allocator;
-use std::io::BufReader;
-
-// How many bytes a reading asks for at a time.
-const AHEAD: usize = 65536;
-
-// Opens a file for a reading. `Read` where it can't be opened, `OutOfMemory` where a growth is refused.
-fn reading<'a, A: Allocator, F: Storage>(
-    alloc: &'a A,
-    files: &F,
-    path: &str,
-    reading: u8,
-) -> Result<FromRead<BufReader<F::Input, &'a A>>, Fault>
-    ensures { MatchResult result
-        (λ r. IfSome (F.contents files.now path.now reading)
-        (λ bytes. ⟦<FromRead<BufReader<F::Input, &'a A>> as Intake>⟧.left r ≡ Some bytes))
-        (λ e. (e ≡ OfRead) ⊎ (e ≡ OutOfMemory)) }
-{
-    let file = match files.open(path, reading) {
-        Ok(file) => file,
-        Err(error) => return Err(fault_of(&error, Fault::Read)),
-    };
-    match BufReader::with_capacity(alloc, AHEAD, file) {
-        Ok(reader) => Ok(FromRead::new(reader)),
-        Err(error) => Err(fault_of(&error, Fault::OutOfMemory)),
-    }
-}
 
 // Seals a file into an outlet, in one reading.
-fn seal_once<A: Allocator, F: Storage, O: Outlet>(
-    alloc: &A,
+#[tactic(auto, using(crate::proofs::BlamesLemmas::unopened_blames))]
+fn seal_once<F: Storage, O: Outlet>(
     files: &F,
     path: &str,
     cipher: &AnyOnePass,
@@ -55,17 +31,19 @@ fn seal_once<A: Allocator, F: Storage, O: Outlet>(
     aad: &[u8],
     out: &mut O,
 ) -> Result<(), Fault>
-    ensures { EngineRan (SealingBy true (F.contents files.now path.now))
+    ensures ran { EngineRan (SealingBy true (F.contents files.now path.now))
         (setting (one_pass_keyed cipher.now) nonce.now aad.now)
         (O.taken out.old) (O.taken out.new) result }
+    ensures blame { IfErr result (Blames (InputFailed (F.open_may_fail files.now path.now) F.Input.failures)
+        (Failed (O.failures out.old) (O.failures out.new))) }
 {
-    let mut text = reading(alloc, files, path, 0)?;
+    let mut text = reading(files, path, 0)?;
     seal_stream(cipher, nonce, aad, &mut text, out)
 }
 
 // Seals a file into an outlet by AES-GCM-SIV, in two readings.
-fn seal_twice<A: Allocator, F: Storage, O: Outlet>(
-    alloc: &A,
+#[tactic(auto, using(crate::proofs::BlamesLemmas::unopened_blames))]
+fn seal_twice<F: Storage, O: Outlet>(
     files: &F,
     path: &str,
     cipher: &GcmSiv,
@@ -73,12 +51,14 @@ fn seal_twice<A: Allocator, F: Storage, O: Outlet>(
     aad: &[u8],
     out: &mut O,
 ) -> Result<(), Fault>
-    ensures { EngineRan (SealingBy false (F.contents files.now path.now))
+    ensures ran { EngineRan (SealingBy false (F.contents files.now path.now))
         (setting cipher.now nonce.now aad.now)
         (O.taken out.old) (O.taken out.new) result }
+    ensures blame { IfErr result (Blames (InputFailed (F.open_may_fail files.now path.now) F.Input.failures)
+        (Failed (O.failures out.old) (O.failures out.new))) }
 {
-    let mut first = reading(alloc, files, path, 0)?;
-    let mut second = reading(alloc, files, path, 1)?;
+    let mut first = reading(files, path, 0)?;
+    let mut second = reading(files, path, 1)?;
     seal_siv_stream(cipher, nonce, aad, &mut first, &mut second, out)
 }
 
@@ -97,8 +77,7 @@ fn takes_two_readings(cipher: &GcmSiv, nonce: &Nonce)
 }
 
 // Seals a file into an outlet under any cipher.
-fn seal_by<A: Allocator, F: Storage, O: Outlet>(
-    alloc: &A,
+fn seal_by<F: Storage, O: Outlet>(
     files: &F,
     path: &str,
     cipher: &AnyAead,
@@ -106,25 +85,27 @@ fn seal_by<A: Allocator, F: Storage, O: Outlet>(
     aad: &[u8],
     out: &mut O,
 ) -> Result<(), Fault>
-    ensures { EngineRan (Sealing (F.contents files.now path.now))
+    ensures ran { EngineRan (Sealing (F.contents files.now path.now))
         (setting (keyed_of cipher.now) nonce.now aad.now)
         (O.taken out.old) (O.taken out.new) result }
+    ensures blame { IfErr result (Blames (InputFailed (F.open_may_fail files.now path.now) F.Input.failures)
+        (Failed (O.failures out.old) (O.failures out.new))) }
 {
     match cipher {
         AnyAead::OnePass(cipher) => {
             takes_one_reading(cipher, nonce);
-            seal_once(alloc, files, path, cipher, nonce, aad, out)
+            seal_once(files, path, cipher, nonce, aad, out)
         }
         AnyAead::Siv(cipher) => {
             takes_two_readings(cipher, nonce);
-            seal_twice(alloc, files, path, cipher, nonce, aad, out)
+            seal_twice(files, path, cipher, nonce, aad, out)
         }
     }
 }
 
 // Opens a file into an outlet, in three readings.
-fn open_by<A: Allocator, F: Storage, O: Outlet>(
-    alloc: &A,
+#[tactic(auto, using(crate::proofs::BlamesLemmas::unopened_blames))]
+fn open_by<F: Storage, O: Outlet>(
     files: &F,
     path: &str,
     cipher: &AnyAead,
@@ -132,13 +113,15 @@ fn open_by<A: Allocator, F: Storage, O: Outlet>(
     aad: &[u8],
     out: &mut O,
 ) -> Result<(), Fault>
-    ensures { EngineRan (Opening (F.contents files.now path.now))
+    ensures ran { EngineRan (Opening (F.contents files.now path.now))
         (setting (keyed_of cipher.now) nonce.now aad.now)
         (O.taken out.old) (O.taken out.new) result }
+    ensures blame { IfErr result (Blames (InputFailed (F.open_may_fail files.now path.now) F.Input.failures)
+        (Failed (O.failures out.old) (O.failures out.new))) }
 {
-    let mut measure = reading(alloc, files, path, 0)?;
-    let mut verify = reading(alloc, files, path, 1)?;
-    let mut write = reading(alloc, files, path, 2)?;
+    let mut measure = reading(files, path, 0)?;
+    let mut verify = reading(files, path, 1)?;
+    let mut write = reading(files, path, 2)?;
     open_stream(
         cipher,
         nonce,
@@ -157,12 +140,14 @@ fn seal<A: Allocator, F: Storage, O: Outlet>(
     words: &FileWords<'_>,
     out: &mut O,
 ) -> Result<(), Failure>
-    ensures { Ran (Sealing (F.contents files.now words.now.input.now)) words.now.inputs (O.taken out.old)
+    ensures ran { Ran (Sealing (F.contents files.now words.now.input.now)) words.now.inputs (O.taken out.old)
         (O.taken out.new) result }
+    ensures blame { IfErr result (BlamesAs
+        (InputFailed (F.open_may_fail files.now words.now.input.now) F.Input.failures)
+        (Failed (O.failures out.old) (O.failures out.new))) }
 {
     let inputs = prepare(alloc, &words.inputs)?;
     Ok(seal_by(
-        alloc,
         files,
         words.input,
         &inputs.cipher,
@@ -179,12 +164,14 @@ fn open<A: Allocator, F: Storage, O: Outlet>(
     words: &FileWords<'_>,
     out: &mut O,
 ) -> Result<(), Failure>
-    ensures { Ran (Opening (F.contents files.now words.now.input.now)) words.now.inputs (O.taken out.old)
+    ensures ran { Ran (Opening (F.contents files.now words.now.input.now)) words.now.inputs (O.taken out.old)
         (O.taken out.new) result }
+    ensures blame { IfErr result (BlamesAs
+        (InputFailed (F.open_may_fail files.now words.now.input.now) F.Input.failures)
+        (Failed (O.failures out.old) (O.failures out.new))) }
 {
     let inputs = prepare(alloc, &words.inputs)?;
     Ok(open_by(
-        alloc,
         files,
         words.input,
         &inputs.cipher,
@@ -207,11 +194,15 @@ pub fn seal_file<'a, A: Allocator, B: Allocator, F: Storage>(
     ensures answer { MatchResult result
         (λ _. FileDone (Sealing (F.contents files.now words.now.input.now)) words.now.inputs
         (⟦<NewFile<'a, F, B> as Outlet>⟧.taken file.old)
-        (held (F.blank file.new.files.now) F.Output.contents file.new.file))
+        (held (F.blank file.new.files.now) F.Output.taken file.new.file))
         (FileStopped (Sealing (F.contents files.now words.now.input.now)) words.now.inputs
         (⟦<NewFile<'a, F, B> as Outlet>⟧.taken file.old)
-        (held (F.blank file.new.files.now) F.Output.contents file.new.file)) }
+        (held (F.blank file.new.files.now) F.Output.taken file.new.file)) }
     ensures made { IfOk result (λ _. is_some file.new.file ≡ true) }
+    // `Read` and `Write` come only where the input or the output failed.
+    ensures blame { IfErr result (BlamesAs
+        (InputFailed (F.open_may_fail files.now words.now.input.now) F.Input.failures)
+        (OutputFailed (F.make_may_fail file.new.files.now) F.Output.failures)) }
     ensures status { IfOk result (λ status. status ≡ 0) }
 {
     file.name(words.output)?;
@@ -233,11 +224,15 @@ pub fn open_file<'a, A: Allocator, B: Allocator, F: Storage>(
     ensures answer { MatchResult result
         (λ _. FileDone (Opening (F.contents files.now words.now.input.now)) words.now.inputs
         (⟦<NewFile<'a, F, B> as Outlet>⟧.taken file.old)
-        (held (F.blank file.new.files.now) F.Output.contents file.new.file))
+        (held (F.blank file.new.files.now) F.Output.taken file.new.file))
         (FileStopped (Opening (F.contents files.now words.now.input.now)) words.now.inputs
         (⟦<NewFile<'a, F, B> as Outlet>⟧.taken file.old)
-        (held (F.blank file.new.files.now) F.Output.contents file.new.file)) }
+        (held (F.blank file.new.files.now) F.Output.taken file.new.file)) }
     ensures made { IfOk result (λ _. is_some file.new.file ≡ true) }
+    // `Read` and `Write` come only where the input or the output failed.
+    ensures blame { IfErr result (BlamesAs
+        (InputFailed (F.open_may_fail files.now words.now.input.now) F.Input.failures)
+        (OutputFailed (F.make_may_fail file.new.files.now) F.Output.failures)) }
     ensures status { IfOk result (λ status. status ≡ 0) }
 {
     file.name(words.output)?;

@@ -7,6 +7,7 @@ mod failure;
 mod files;
 mod help;
 mod new_file;
+mod readings;
 mod run;
 mod storage;
 mod subcommands;
@@ -34,7 +35,7 @@ fn main(rt: HostRuntime) -> ExitCode {
     let mut out = rt.stdout();
     let mut err = rt.stderr();
     ExitCode::from(match words_given(rt.alloc(), &rt) {
-        Ok(words) => run(rt.alloc(), &Disk::new(&rt), &words, &mut out, &mut err),
+        Ok(words) => run(rt.alloc(), &Disk::new(&rt, rt.alloc()), &words, &mut out, &mut err),
         Err(failure) => report(&mut err, failure),
     })
 }

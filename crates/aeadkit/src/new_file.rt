@@ -3,12 +3,12 @@ ghost use Rattle.std.specs.Prelude.{◌≡◌, ◌<◌, ◌≤◌, ◌+◌, ◌-
 ghost use Rattle.std.specs.Prelude.{vec_capacity, OnOk, OnErr, IfErr};
 ghost use Rattle.std.specs.Io.KnownBytes.{Keeps, WriteAppends, append_known};
 ghost use Rattle.octets.specs.Device.{GivesSome};
+ghost use Rattle.aeadkit.specs.Blames.{OutputFailed};
 ghost use Rattle.aeadkit.specs.NewFiles.{held};
 
 use crate::storage::Storage;
 use octets::{DeviceFault, Fault, Outlet};
 use std::alloc::{AllocError, Allocator};
-use std::io::Write;
 
 // How many bytes are kept before they are written.
 const PENDING: usize = 65536;
@@ -25,6 +25,7 @@ pub struct NewFile<'a, F: Storage, A: Allocator> {
     written: usize,
     failed: u64,
     ghost in_range: { written ≤ vec_len pending },
+    ghost blame: { 0 < failed → OutputFailed (F.make_may_fail files.now) F.Output.failures },
 }
 
 impl<'a, F: Storage, A: Allocator> NewFile<'a, F, A> {
@@ -63,6 +64,7 @@ impl<'a, F: Storage, A: Allocator> NewFile<'a, F, A> {
         ensures pending { self.new.pending ≡ self.old.pending }
         ensures written { self.new.written ≡ self.old.written }
         ensures failed { self.new.failed ≡ self.old.failed }
+        ensures blame { OnErr result (OutputFailed (F.make_may_fail self.new.files.now) F.Output.failures) }
     {
         if self.file.is_none() {
             match self.files.create(self.path) {
@@ -75,20 +77,23 @@ impl<'a, F: Storage, A: Allocator> NewFile<'a, F, A> {
 
     // Writes some of what is pending.
     fn write_some(&mut self) -> Result<(), DeviceFault>
-        requires { self.old.written < vec_len self.old.pending }
+        requires pending { self.old.written < vec_len self.old.pending }
+        requires made { is_some self.old.file ≡ true }
+        ensures made { is_some self.new.file ≡ true }
         ensures taken { Keeps (⟦<NewFile<'a, F, A> as Outlet>⟧.taken self.old)
             (⟦<NewFile<'a, F, A> as Outlet>⟧.taken self.new) }
         ensures pending { self.new.pending ≡ self.old.pending }
         ensures written { OnOk result (self.old.written < self.new.written) }
         ensures failed { self.new.failed ≡ self.old.failed }
+        ensures blame { OnErr result (OutputFailed (F.make_may_fail self.new.files.now) F.Output.failures) }
     {
         match &mut self.file {
-            Some(file) => match file.write(&self.pending[self.written..]) {
-                Ok(n) if 0 < n => {
+            Some(file) => match file.give(&self.pending[self.written..]) {
+                Ok(n) => {
                     self.written += n;
                     Ok(())
                 }
-                _ => Err(DeviceFault),
+                Err(fault) => Err(fault),
             },
             None => Err(DeviceFault),
         }
@@ -97,11 +102,14 @@ impl<'a, F: Storage, A: Allocator> NewFile<'a, F, A> {
     // Writes what is pending.
     #[tactic(auto, using(crate::proofs::NewFileLemmas::none_pending, crate::proofs::NewFileLemmas::keeps_more))]
     fn write_pending(&mut self) -> Result<(), DeviceFault>
+        requires made { is_some self.old.file ≡ true }
+        ensures made { is_some self.new.file ≡ true }
         ensures taken { Keeps (⟦<NewFile<'a, F, A> as Outlet>⟧.taken self.old)
             (⟦<NewFile<'a, F, A> as Outlet>⟧.taken self.new) }
         ensures none_left { OnOk result (self.new.pending.items ≡ []) }
         ensures empty { OnOk result (vec_len self.new.pending ≡ 0) }
         ensures failed { self.new.failed ≡ self.old.failed }
+        ensures blame { OnErr result (OutputFailed (F.make_may_fail self.new.files.now) F.Output.failures) }
     {
         while self.written < self.pending.len() {
             self.write_some()?;
@@ -111,39 +119,54 @@ impl<'a, F: Storage, A: Allocator> NewFile<'a, F, A> {
         Ok(())
     }
 
-    // Adds to what is pending.
-    fn add(&mut self, bytes: &[u8]) -> Result<(), DeviceFault>
-        ensures items { OnOk result (self.new.pending.items ≡ self.old.pending.items ++ bytes.now) }
-        ensures same { OnErr result (self.new.pending.items ≡ self.old.pending.items) }
-        ensures held { held (F.blank self.new.files.now) F.Output.contents self.new.file
-            ≡ held (F.blank self.old.files.now) F.Output.contents self.old.file }
+    // Adds to what is pending, within its room.
+    fn add(&mut self, bytes: &[u8])
+        requires room { vec_len self.old.pending + length bytes.now ≤ vec_capacity self.old.pending }
+        ensures items { self.new.pending.items ≡ self.old.pending.items ++ bytes.now }
+        ensures held { held (F.blank self.new.files.now) F.Output.taken self.new.file
+            ≡ held (F.blank self.old.files.now) F.Output.taken self.old.file }
         ensures written { self.new.written ≡ self.old.written }
         ensures failed { self.new.failed ≡ self.old.failed }
     {
-        match self.pending.extend_from_slice(bytes) {
-            Ok(()) => Ok(()),
-            Err(_) => Err(DeviceFault),
+        // Where there is room nothing is refused.
+        let _ = self.pending.extend_from_slice(bytes);
+    }
+
+    // Writes some bytes straight to the file.
+    fn write_past(&mut self, bytes: &[u8]) -> Result<usize, DeviceFault>
+        requires made { is_some self.old.file ≡ true }
+        requires none_pending { self.old.pending.items ≡ [] }
+        ensures bound { GivesSome result bytes.now }
+        ensures taken { WriteAppends (⟦<NewFile<'a, F, A> as Outlet>⟧.taken self.old)
+            (⟦<NewFile<'a, F, A> as Outlet>⟧.taken self.new) result bytes.now }
+        ensures failed { self.new.failed ≡ self.old.failed }
+        ensures blame { OnErr result (OutputFailed (F.make_may_fail self.new.files.now) F.Output.failures) }
+    {
+        match &mut self.file {
+            Some(file) => file.give(bytes),
+            None => Err(DeviceFault),
         }
     }
 
-    // Keeps the first bytes, as many as there is room for.
+    // Keeps the bytes where there is room for them, and else writes what is pending, and some of them.
     #[tactic(auto, using(crate::proofs::NewFileLemmas::pends, crate::proofs::NewFileLemmas::keeps_more))]
     fn keep(&mut self, bytes: &[u8]) -> Result<usize, DeviceFault>
         ensures bound { GivesSome result bytes.now }
         ensures taken { WriteAppends (⟦<NewFile<'a, F, A> as Outlet>⟧.taken self.old)
             (⟦<NewFile<'a, F, A> as Outlet>⟧.taken self.new) result bytes.now }
         ensures failed { self.new.failed ≡ self.old.failed }
+        ensures blame { OnErr result (OutputFailed (F.make_may_fail self.new.files.now) F.Output.failures) }
     {
         if bytes.is_empty() {
             return Ok(0);
         }
         self.make()?;
-        if PENDING <= self.pending.len() {
-            self.write_pending()?;
+        if bytes.len() <= self.pending.capacity() - self.pending.len() {
+            self.add(bytes);
+            return Ok(bytes.len());
         }
-        let room = bytes.len().min(PENDING - self.pending.len());
-        self.add(&bytes[..room])?;
-        Ok(room)
+        self.write_pending()?;
+        self.write_past(bytes)
     }
 
     /// Makes the file where no byte was given, writes what is pending, and has the system take it. The only
@@ -156,6 +179,7 @@ impl<'a, F: Storage, A: Allocator> NewFile<'a, F, A> {
         ensures none_left { OnOk result (self.new.pending.items ≡ []) }
         ensures failed { self.new.failed ≡ self.old.failed }
         ensures fault { IfErr result (λ e. e ≡ Fault.Write) }
+        ensures blame { OnErr result (OutputFailed (F.make_may_fail self.new.files.now) F.Output.failures) }
     {
         if self.make().is_err() || self.write_pending().is_err() {
             return Err(Fault::Write);
@@ -168,7 +192,7 @@ impl<'a, F: Storage, A: Allocator> NewFile<'a, F, A> {
 }
 
 impl<F: Storage, A: Allocator> Outlet for NewFile<'_, F, A> {
-    ghost taken = { λ s. append_known (held (F.blank s.files.now) F.Output.contents s.file)
+    ghost taken = { λ s. append_known (held (F.blank s.files.now) F.Output.taken s.file)
         (drop s.written s.pending.items) };
 
     ghost failures = { λ s. s.failed };

@@ -1,20 +1,25 @@
 //! Files by name.
-ghost use Rattle.std.specs.Prelude.{◌≡◌, ℕ, List, Some, None, IfOk, IfSome};
+ghost use Rattle.std.specs.Prelude.{◌≡◌, ℕ, Bool, true, List, Some, None, IfOk, IfErr, IfSome};
 ghost use Rattle.std.specs.Io.KnownBytes.{Keeps};
 ghost use Rattle.std.specs.declared.option.Option.{Option};
 
+use octets::{DeviceFault, FromRead, Intake, Outlet};
+use std::alloc::Allocator;
 use std::fs::OpenFile;
-use std::io::{ErrorKind, Read, Write};
+use std::io::{BufReader, ErrorKind, Write};
 use std::rt::Files;
 use std::{fs, io};
+
+// How many bytes a reading asks the system for at a time.
+const AHEAD: usize = 65536;
 
 /// Where the program's files are.
 pub trait Storage {
     /// A file that is open for reading.
-    type Input: Read + Drop;
+    type Input: Intake + Drop;
 
     /// A file that is open for writing.
-    type Output: Write + Drop;
+    type Output: Outlet + Drop;
 
     // The bytes that a file gives in a reading, where they are told. A request's readings are counted from
     // 0.
@@ -23,49 +28,87 @@ pub trait Storage {
     // What a file holds once it was made, where that is told.
     ghost blank: { Self → Option (List ℕ) } = { λ _. None };
 
+    // Whether the opening of a file for a reading may fail.
+    ghost open_may_fail: { Self → List ℕ → ℕ → Bool } = { λ _ _ _. true };
+
+    // Whether the making of a file, or its syncing, may fail.
+    ghost make_may_fail: { Self → Bool } = { λ _. true };
+
     /// Opens a file for a reading, at its beginning.
     fn open(&self, path: &str, reading: u8) -> io::Result<Self::Input>
-        ensures { IfOk result (λ input.
+        ensures bytes { IfOk result (λ input.
             IfSome (contents self.now path.now reading)
-            (λ bytes. Self.Input.remaining input ≡ Some bytes)) };
+            (λ bytes. Self.Input.left input ≡ Some bytes)) }
+        ensures blame { IfErr result (λ _. open_may_fail self.now path.now reading ≡ true) };
 
     /// Makes a file, or cuts it to nothing.
     fn create(&self, path: &str) -> io::Result<Self::Output>
-        ensures { IfOk result (λ output. Keeps (blank self.now) (Self.Output.contents output)) };
+        ensures blank { IfOk result (λ output. Keeps (blank self.now) (Self.Output.taken output)) }
+        ensures blame { IfErr result (λ _. make_may_fail self.now ≡ true) };
 
     /// Hands what was written to the device below, where there is one.
-    fn sync(&self, output: &Self::Output) -> io::Result<()>;
+    fn sync(&self, output: &Self::Output) -> io::Result<()>
+        ensures blame { IfErr result (λ _. make_may_fail self.now ≡ true) };
 }
 
-/// The files of the system.
+/// A file of the system that is written. It counts its failures; an interrupted write is one, and a write of
+/// nothing from a slice that is not empty.
 #[derive(Drop)]
-pub struct Disk<'a, R: Files> {
+pub struct DiskOutput<W> {
+    file: W,
+    failed: u64,
+}
+
+impl<W: Write> Outlet for DiskOutput<W> {
+    ghost taken = { λ s. W.contents s.file };
+
+    ghost failures = { λ s. s.failed };
+
+    fn give(&mut self, bytes: &[u8]) -> Result<usize, DeviceFault> {
+        match self.file.write(bytes) {
+            Ok(n) if 0 < n || bytes.is_empty() => Ok(n),
+            _ => {
+                self.failed = self.failed.saturating_add(1);
+                Err(DeviceFault)
+            }
+        }
+    }
+}
+
+/// The files of the system. A reading takes a buffer.
+#[derive(Drop)]
+pub struct Disk<'a, R: Files, A: Allocator> {
     runtime: &'a R,
+    alloc: A,
 }
 
-impl<'a, R: Files> Disk<'a, R> {
+impl<'a, R: Files, A: Allocator> Disk<'a, R, A> {
     /// The files that a runtime reaches.
-    pub fn new(runtime: &'a R) -> Disk<'a, R> {
-        Disk { runtime }
+    pub fn new(runtime: &'a R, alloc: A) -> Disk<'a, R, A> {
+        Disk { runtime, alloc }
     }
 }
 
-impl<R: Files> Storage for Disk<'_, R> {
-    type Input = R::File;
+impl<R: Files, A: Allocator + Copy> Storage for Disk<'_, R, A> {
+    type Input = FromRead<BufReader<R::File, A>>;
 
-    type Output = R::File;
+    type Output = DiskOutput<R::File>;
 
-    fn open(&self, path: &str, _reading: u8) -> io::Result<R::File> {
-        fs::open(self.runtime, path)
+    fn open(&self, path: &str, _reading: u8) -> io::Result<FromRead<BufReader<R::File, A>>> {
+        let file = fs::open(self.runtime, path)?;
+        Ok(FromRead::new(BufReader::with_capacity(
+            self.alloc, AHEAD, file,
+        )?))
     }
 
-    fn create(&self, path: &str) -> io::Result<R::File> {
-        fs::create(self.runtime, path)
+    fn create(&self, path: &str) -> io::Result<DiskOutput<R::File>> {
+        let file = fs::create(self.runtime, path)?;
+        Ok(DiskOutput { file, failed: 0 })
     }
 
     // What can't be synced, as a pipe or a terminal, is no fault.
-    fn sync(&self, output: &R::File) -> io::Result<()> {
-        match output.sync_all() {
+    fn sync(&self, output: &DiskOutput<R::File>) -> io::Result<()> {
+        match output.file.sync_all() {
             Err(error) if error.kind() == ErrorKind::InvalidInput => Ok(()),
             result => result,
         }

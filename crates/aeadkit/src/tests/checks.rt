@@ -6,6 +6,7 @@ use super::vector_files::{
 };
 use super::{runs_into, runs_over};
 use crate::storage::Disk;
+use octets::RefusingMemory;
 use std::io;
 use std::test::Fail;
 
@@ -71,17 +72,25 @@ fn published_vectors(rt: HostRuntime) -> Result<(), Fail> {
     Ok(())
 }
 
-// A file that can't be opened or read is `Read`, and want of memory is `OutOfMemory`.
+// A file that can't be opened or read is `Read`, and want of memory at its opening is `OutOfMemory`.
 #[test]
 fn unreadable_files(rt: HostRuntime) {
     runs_over(&rt, &NoFiles, &WORDS, 3, "", "aeadkit: Read\n");
-    let kind = io::ErrorKind::IsADirectory;
-    for room in [0, 100] {
-        let files = BrokenFiles { room, kind };
-        runs_over(&rt, &files, &WORDS, 3, "", "aeadkit: Read\n");
+    for kind in [io::ErrorKind::IsADirectory, io::ErrorKind::OutOfMemory] {
+        for room in [0, 100] {
+            let files = BrokenFiles {
+                opens: true,
+                room,
+                kind,
+            };
+            runs_over(&rt, &files, &WORDS, 3, "", "aeadkit: Read\n");
+        }
     }
-    let kind = io::ErrorKind::OutOfMemory;
-    let files = BrokenFiles { room: 10, kind };
+    let files = BrokenFiles {
+        opens: false,
+        room: 0,
+        kind: io::ErrorKind::OutOfMemory,
+    };
     runs_over(&rt, &files, &WORDS, 4, "", "aeadkit: OutOfMemory\n");
 }
 
@@ -103,12 +112,16 @@ fn system_files(rt: HostRuntime) {
     let path = "aeadkit_checks/vectors.txt";
     make_folder(&rt, folder);
     make_file(&rt, path, TWO_BAD_RECORDS.as_bytes());
-    let files = Disk::new(&rt);
+    let files = Disk::new(&rt, rt.alloc());
     let printed = "records 2\nbad 1\nbad 2\n";
     runs_over(&rt, &files, &["check", path], 1, printed, "");
     for unreadable in [folder, "aeadkit_checks/none", ""] {
         let words = ["check", unreadable];
         runs_over(&rt, &files, &words, 3, "", "aeadkit: Read\n");
     }
+    let memory = RefusingMemory::after(0, rt.alloc());
+    let files = Disk::new(&rt, &memory);
+    let complaint = "aeadkit: OutOfMemory\n";
+    runs_over(&rt, &files, &["check", path], 4, "", complaint);
     remove_folder(&rt, folder);
 }

@@ -1,7 +1,8 @@
 //! Files in memory, and files and writers that fail.
-ghost use Rattle.std.specs.Prelude.{Some};
+ghost use Rattle.std.specs.Prelude.{Some, false};
 
 use crate::storage::Storage;
+use octets::{FromRead, SliceIntake, ToWrite};
 use std::io;
 
 /// One file in memory, at every path.
@@ -11,21 +12,23 @@ pub struct OneFile<'a> {
 }
 
 impl<'a> Storage for OneFile<'a> {
-    type Input = &'a [u8];
+    type Input = SliceIntake<'a>;
 
-    type Output = Narrow;
+    type Output = ToWrite<Narrow>;
 
     ghost contents = { λ s _ _. Some s.file.now };
 
-    fn open(&self, _path: &str, _reading: u8) -> io::Result<&'a [u8]> {
-        Ok(self.file)
+    ghost open_may_fail = { λ _ _ _. false };
+
+    fn open(&self, _path: &str, _reading: u8) -> io::Result<SliceIntake<'a>> {
+        Ok(SliceIntake::new(self.file))
     }
 
-    fn create(&self, _path: &str) -> io::Result<Narrow> {
+    fn create(&self, _path: &str) -> io::Result<ToWrite<Narrow>> {
         Err(io::Error::from(io::ErrorKind::PermissionDenied))
     }
 
-    fn sync(&self, _output: &Narrow) -> io::Result<()> {
+    fn sync(&self, _output: &ToWrite<Narrow>) -> io::Result<()> {
         Ok(())
     }
 }
@@ -35,50 +38,54 @@ impl<'a> Storage for OneFile<'a> {
 pub struct NoFiles;
 
 impl Storage for NoFiles {
-    type Input = BrokenFile;
+    type Input = FromRead<BrokenFile>;
 
-    type Output = Narrow;
+    type Output = ToWrite<Narrow>;
 
-    fn open(&self, _path: &str, _reading: u8) -> io::Result<BrokenFile> {
+    fn open(&self, _path: &str, _reading: u8) -> io::Result<FromRead<BrokenFile>> {
         Err(io::Error::from(io::ErrorKind::NotFound))
     }
 
-    fn create(&self, _path: &str) -> io::Result<Narrow> {
+    fn create(&self, _path: &str) -> io::Result<ToWrite<Narrow>> {
         Err(io::Error::from(io::ErrorKind::PermissionDenied))
     }
 
-    fn sync(&self, _output: &Narrow) -> io::Result<()> {
+    fn sync(&self, _output: &ToWrite<Narrow>) -> io::Result<()> {
         Ok(())
     }
 }
 
-/// At every path a file whose reading gives these many bytes and then fails.
+/// At every path a file that is not opened, or whose reading gives these many bytes and then fails.
 #[derive(Drop)]
 pub struct BrokenFiles {
+    pub opens: bool,
     pub room: usize,
     pub kind: io::ErrorKind,
 }
 
 impl Storage for BrokenFiles {
-    type Input = BrokenFile;
+    type Input = FromRead<BrokenFile>;
 
-    type Output = Narrow;
+    type Output = ToWrite<Narrow>;
 
-    fn open(&self, _path: &str, _reading: u8) -> io::Result<BrokenFile> {
-        Ok(BrokenFile {
+    fn open(&self, _path: &str, _reading: u8) -> io::Result<FromRead<BrokenFile>> {
+        if !self.opens {
+            return Err(io::Error::from(self.kind));
+        }
+        Ok(FromRead::new(BrokenFile {
             room: self.room,
             kind: self.kind,
-        })
+        }))
     }
 
-    fn create(&self, _path: &str) -> io::Result<Narrow> {
-        Ok(Narrow {
+    fn create(&self, _path: &str) -> io::Result<ToWrite<Narrow>> {
+        Ok(ToWrite::new(Narrow {
             room: self.room,
             kind: self.kind,
-        })
+        }))
     }
 
-    fn sync(&self, _output: &Narrow) -> io::Result<()> {
+    fn sync(&self, _output: &ToWrite<Narrow>) -> io::Result<()> {
         Ok(())
     }
 }

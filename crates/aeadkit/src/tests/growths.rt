@@ -10,10 +10,11 @@ use crate::new_file::NewFile;
 use crate::run::{perform, report};
 use crate::storage::Storage;
 use crate::words::{FileWords, Inputs, Request};
-use octets::RefusingMemory;
+use octets::{FromRead, RefusingMemory, ToWrite};
 use std::alloc::{Allocator, Global};
 use std::cell::Cell;
 use std::io;
+use std::io::BufReader;
 use std::process::Abort;
 
 // Whether the failure is want of memory, with its status and its text.
@@ -139,7 +140,8 @@ fn check_wants_memory_only_where_refused(rt: HostRuntime) {
     each_is_refused(&rt, &files, &request, "records 2");
 }
 
-// Files in memory that ask for memory: each opening does, and the making of the file that is written.
+// Files in memory that ask for memory: each opening does, for a buffer, and the making of the file that is
+// written.
 #[derive(Drop)]
 struct Asking<'b, 'l, 'm, A: Allocator> {
     files: Scripted<'b, 'l>,
@@ -156,24 +158,33 @@ fn ask<A: Allocator>(memory: &A) -> io::Result<()> {
     }
 }
 
-impl<'b, 'l, A: Allocator> Storage for Asking<'b, 'l, '_, A> {
-    type Input = Source<'b, 'l>;
+impl<'b, 'l, 'm, A: Allocator> Storage for Asking<'b, 'l, 'm, A> {
+    type Input = FromRead<BufReader<Source<'b, 'l>, &'m A>>;
 
-    type Output = Sink<'l>;
+    type Output = ToWrite<Sink<'l>>;
 
-    fn open(&self, path: &str, reading: u8) -> io::Result<Source<'b, 'l>> {
+    fn open(
+        &self,
+        _path: &str,
+        reading: u8,
+    ) -> io::Result<FromRead<BufReader<Source<'b, 'l>, &'m A>>> {
         ask(self.memory)?;
-        self.files.open(path, reading)
+        let source = self.files.source(reading)?;
+        Ok(FromRead::new(BufReader::with_capacity(
+            self.memory,
+            65536,
+            source,
+        )?))
     }
 
-    fn create(&self, path: &str) -> io::Result<Sink<'l>> {
+    fn create(&self, path: &str) -> io::Result<ToWrite<Sink<'l>>> {
         self.unmade.set(true);
         ask(self.memory)?;
         self.unmade.set(false);
         self.files.create(path)
     }
 
-    fn sync(&self, output: &Sink<'l>) -> io::Result<()> {
+    fn sync(&self, output: &ToWrite<Sink<'l>>) -> io::Result<()> {
         self.files.sync(output)
     }
 }

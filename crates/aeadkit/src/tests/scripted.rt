@@ -2,6 +2,7 @@
 ghost use Rattle.std.specs.Prelude.{◌≤◌, IfOk};
 
 use crate::storage::Storage;
+use octets::{FromRead, ToWrite};
 use std::alloc::Global;
 use std::cell::{Cell, RefCell};
 use std::io;
@@ -124,12 +125,9 @@ pub struct Sink<'l> {
     script: Script<'l>,
 }
 
-impl<'b, 'l> Storage for Scripted<'b, 'l> {
-    type Input = Source<'b, 'l>;
-
-    type Output = Sink<'l>;
-
-    fn open(&self, _path: &str, reading: u8) -> io::Result<Source<'b, 'l>> {
+impl<'b, 'l> Scripted<'b, 'l> {
+    /// Opens the file for a reading.
+    pub fn source(&self, reading: u8) -> io::Result<Source<'b, 'l>> {
         let _ = self.script.step(Some(reading), 0)?;
         let script = self.script;
         let rest = match reading {
@@ -143,16 +141,26 @@ impl<'b, 'l> Storage for Scripted<'b, 'l> {
             script,
         })
     }
+}
 
-    fn create(&self, _path: &str) -> io::Result<Sink<'l>> {
-        let _ = self.script.step(None, 0)?;
-        self.script.log.made.set(true);
-        Ok(Sink {
-            script: self.script,
-        })
+impl<'b, 'l> Storage for Scripted<'b, 'l> {
+    type Input = FromRead<Source<'b, 'l>>;
+
+    type Output = ToWrite<Sink<'l>>;
+
+    fn open(&self, _path: &str, reading: u8) -> io::Result<FromRead<Source<'b, 'l>>> {
+        Ok(FromRead::new(self.source(reading)?))
     }
 
-    fn sync(&self, _output: &Sink<'l>) -> io::Result<()> {
+    fn create(&self, _path: &str) -> io::Result<ToWrite<Sink<'l>>> {
+        let _ = self.script.step(None, 0)?;
+        self.script.log.made.set(true);
+        Ok(ToWrite::new(Sink {
+            script: self.script,
+        }))
+    }
+
+    fn sync(&self, _output: &ToWrite<Sink<'l>>) -> io::Result<()> {
         let _ = self.script.step(None, 0)?;
         Ok(())
     }

@@ -3,11 +3,12 @@ use Rattle.aead.specs.Ciphers.{Keyed, setting}
 use Rattle.aead.specs.AnyCiphers.{keyed_of}
 use Rattle.aeadkit.specs.Aead.{IsReady}
 use Rattle.aeadkit.specs.Files.{Opening}
+use Rattle.aeadkit.proofs.BlamesLemmas.{fault_blames, refused_blames}
 use Rattle.aeadkit.proofs.FilesLemmas.{ran_ok, ran_err}
 use Rattle.aeadkit.proofs.files.open.Goals as goal
 
-pub returns-in_err-open_by : goal.returns-in_err-open_by
-returns-in_err-open_by g c =
+pub returns-in_err-open_by-clause-ran : goal.returns-in_err-open_by-clause-ran
+returns-in_err-open_by-clause-ran g c =
     let p = err_from_is_err_and c.from_residual-in_err-open_by.result
     c.from_residual-in_err-open_by.ensures.1 in
     let keyed : Keyed = keyed_of c.in_ok-inputs.inputs.cipher in
@@ -17,10 +18,10 @@ returns-in_err-open_by g c =
     c.args.words.now.inputs keyed
     c.in_ok-inputs.inputs.nonce c.deref.result.now c.in_ok-inputs.inputs.body.items
     (g.O.Outlet.taken c.args.out.now) (g.O.Outlet.taken c.open_by.new.out) c.in_err-open_by.field-0.0 ready
-    c.in_err-open_by.ensures)
+    c.in_err-open_by.ensures.ran)
 
-pub returns : goal.returns
-returns g c =
+pub returns-clause-ran : goal.returns-clause-ran
+returns-clause-ran g c =
     let keyed : Keyed = keyed_of c.in_ok-inputs.inputs.cipher in
     let ready : IsReady c.args.words.now.inputs keyed c.in_ok-inputs.inputs.nonce c.deref.result.now
     c.in_ok-inputs.inputs.body.items = rw c.deref.ensures.value c.in_ok-inputs.ensures in
@@ -32,5 +33,11 @@ returns g c =
       ready = ready;
       is = ran_ok (Opening (g.F.Storage.contents c.args.files.now c.args.words.now.input.now))
           (setting keyed c.in_ok-inputs.inputs.nonce c.deref.result.now) (g.O.Outlet.taken c.args.out.now)
-          (g.O.Outlet.taken c.open_by.new.out) c.in_ok-open_by.field-0 c.in_ok-open_by.ensures;
+          (g.O.Outlet.taken c.open_by.new.out) c.in_ok-open_by.field-0 c.in_ok-open_by.ensures.ran;
     }
+
+pub returns-in_err-open_by-clause-blame : goal.returns-in_err-open_by-clause-blame
+returns-in_err-open_by-clause-blame g c =
+    let p = err_from_is_err_and c.from_residual-in_err-open_by.result
+    c.from_residual-in_err-open_by.ensures.1 in
+    rw (p.1, p.2) (fault_blames _ _ c.in_err-open_by.field-0.0 c.in_err-open_by.ensures.blame)

@@ -1,0 +1,43 @@
+-- What a file command's `Read` and `Write` come from.
+use Rattle.std.specs.Prelude.{◌≡◌, ℕ, ◌⊎◌, Bool, true, List, ⊤}
+use Rattle.octets.specs.declared.fault.Fault.{Fault}
+use Rattle.octets.specs.declared.fault.Fault.TheVariants.{Read, Write}
+use Rattle.octets.specs.Device.{Failed}
+use Rattle.aeadkit.specs.declared.failure.Failure.{Failure}
+use Rattle.aeadkit.specs.declared.failure.Failure.TheVariants.{Fault as OfFault}
+use Rattle.aeadkit.specs.declared.words.Request.{Request}
+use Rattle.aeadkit.specs.declared.words.Request.TheVariants.{SealFile, OpenFile, Check}
+
+-- a device of this type failed, from one state to another
+abbrev pub DeviceFailed : {D : Type 0} → (D → ℕ) → Type 0
+DeviceFailed {D} failures = (before : D) × (after : D) × Failed (failures before) (failures after)
+
+-- the opening for some reading may fail, or a device that is read from failed
+abbrev pub InputFailed : {D : Type 0} → (ℕ → Bool) → (D → ℕ) → Type 0
+InputFailed open_may_fail failures =
+    ((reading : ℕ) × (open_may_fail reading ≡ true)) ⊎ ∥ DeviceFailed failures ∥₁
+
+-- the making of the file may fail, or a device that is written to failed
+abbrev pub OutputFailed : {D : Type 0} → Bool → (D → ℕ) → Type 0
+OutputFailed make_may_fail failures = ∥ (make_may_fail ≡ true) ⊎ DeviceFailed failures ∥₁
+
+-- `Read` comes only where the input failed, and `Write` only where the output did
+abbrev pub Blames : (input output : Type 0) → Fault → Type 0
+Blames input output f = (f ≡ Read → input) × (f ≡ Write → output)
+
+-- the same of what stops the program
+abbrev pub BlamesAs : (input output : Type 0) → Failure → Type 0
+BlamesAs input output e = (e ≡ OfFault Read → input) × (e ≡ OfFault Write → output)
+
+-- the same of what stops a request, where it reads or writes a file
+abbrev pub RequestBlames : (List ℕ → Type 0) → Type 0 → Request → Failure → Type 0
+RequestBlames input output (SealFile w) e = BlamesAs (input w.input.now) output e
+RequestBlames input output (OpenFile w) e = BlamesAs (input w.input.now) output e
+RequestBlames input output (Check path) e = e ≡ OfFault Read → input path.now
+RequestBlames input output _ e = ⊤
+
+-- a request that writes a file made it
+abbrev pub Makes : Request → Bool → Type 0
+Makes (SealFile w) made = made ≡ true
+Makes (OpenFile w) made = made ≡ true
+Makes _ made = ⊤
