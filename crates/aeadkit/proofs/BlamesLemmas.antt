@@ -22,8 +22,10 @@ BlamesNone f = (f ≡ Read) ⊎ (f ≡ Write) → ⊥
 -- one more such fault
 own_more : (g : Fault) (own : List Fault) → BlamesNone g → ((f : Fault) → IsOneOf own f → BlamesNone f)
     → (f : Fault) → IsOneOf (g ∷ own) f → BlamesNone f
-own_more g own a b f h e = elim h [ inl x ↦ a (elim e [ inl y ↦ inl (sym x ∙ y) | inr y ↦ inr (sym x ∙ y) ])
-    | inr x ↦ b f x e ]
+own_more g own a b f h e = elim h [
+  | inl x ↦ a (elim e [ inl y ↦ inl (sym x ∙ y) | inr y ↦ inr (sym x ∙ y) ])
+  | inr x ↦ b f x e
+]
 
 -- a text that is past its limit, or another that was read later, blames none
 aad_none : BlamesNone AadTooLong
@@ -68,10 +70,14 @@ pub due_blames : {T : Type 0} (own : List Fault) (none reading output input : Ty
     → IfErr r (Blames input output)
 due_blames own none reading output input (Ok x) clean to h = tt
 due_blames own none reading output input (Err f) clean to h = (
-  λ e. elim h [ inl x ↦ absurd (clean f x.0 (inl e))
-      | inr x ↦ elim x [ inl y ↦ to y.1 | inr y ↦ let p : f ≡ Write = y.0 in absurd (cc) ] ],
-  λ e. elim h [ inl x ↦ absurd (clean f x.0 (inr e))
-      | inr x ↦ elim x [ inl y ↦ let p : f ≡ Read = y.0 in absurd (cc) | inr y ↦ y.1 ] ],
+  λ e. elim h [
+    | inl x ↦ absurd (clean f x.0 (inl e))
+    | inr x ↦ elim x [ inl y ↦ to y.1 | inr y ↦ let p : f ≡ Write = y.0 in absurd (cc) ]
+  ],
+  λ e. elim h [
+    | inl x ↦ absurd (clean f x.0 (inr e))
+    | inr x ↦ elim x [ inl y ↦ let p : f ≡ Read = y.0 in absurd (cc) | inr y ↦ y.1 ]
+  ],
 )
 
 -- sealing in one reading
@@ -110,8 +116,10 @@ pub open_blames : {D : Type 0} (may_fail : ℕ → Bool) (failures : D → ℕ)
 open_blames may_fail failures measure measure' verify verify' write write' wrote wrote' r h =
     let to : Failed (failures measure) (failures measure') ⊎ Failed (failures verify) (failures verify')
     ⊎ Failed (failures write) (failures write') → InputFailed may_fail failures =
-    λ x. elim x [ inl y ↦ inr ∣ (measure, measure', y) ∣₁
-        | inr y ↦ elim y [ inl z ↦ inr ∣ (verify, verify', z) ∣₁ | inr z ↦ inr ∣ (write, write', z) ∣₁ ] ] in
+    λ x. elim x [
+      | inl y ↦ inr ∣ (measure, measure', y) ∣₁
+      | inr y ↦ elim y [ inl z ↦ inr ∣ (verify, verify', z) ∣₁ | inr z ↦ inr ∣ (write, write', z) ∣₁ ]
+    ] in
     due_blames (AadTooLong ∷ TextTooLong ∷ TooShort ∷ TagMismatch ∷ SourceChanged ∷ [])
     (counted (failures measure') (failures verify') (failures write') wrote'
     ≡ counted (failures measure) (failures verify) (failures write) wrote)

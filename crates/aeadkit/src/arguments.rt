@@ -31,8 +31,8 @@ impl<R: Env> Env for Behind<'_, R> {
     }
 }
 
-/// The words behind the program's name. `Words` where one is not UTF-8, `OutOfMemory` where a growth is
-/// refused.
+/// Returns the words after the program's name. `Words` if one is not UTF-8, `OutOfMemory` if an allocation
+/// fails.
 pub fn words_given<R: Env>(alloc: Global, runtime: &R) -> Result<Vec<String>, Failure> {
     let words = env::args(&(Behind { runtime }, alloc)).map_err(|error| match error.kind() {
         io::ErrorKind::OutOfMemory => Failure::Fault(Fault::OutOfMemory),

@@ -1,4 +1,4 @@
-//! What the commands answer: bytes, for values given as hexadecimal.
+//! The commands over values given as hexadecimal, and `check`.
 ghost use Rattle.std.specs.Prelude.{◌≡◌, ◌⊎◌, MatchResult, IfErr};
 ghost use Rattle.aead.specs.AnyCiphers.{keyed_of};
 ghost use Rattle.aead.specs.Refusals.{WholeSealRefused, WholeOpenRefused};
@@ -22,8 +22,7 @@ use octets::{Fault, Nonce};
 use std::alloc::Allocator;
 use vectors::Report;
 
-// The bytes that a value given for hexadecimal spells. `BadHex` where it is not an even number of hex
-// digits.
+// The bytes that a value given for hexadecimal spells. `BadHex` if it is not an even number of hex digits.
 fn decoded<A: Allocator>(alloc: A, digits: &str) -> Result<Vec<u8, A>, Failure>
     ensures { MatchResult result (λ v. Spells digits.now v.items)
         (λ e. (e ≡ OfFault OutOfMemory) ⊎ ((e ≡ BadHex) × IsBadHex digits.now)) }

@@ -12,8 +12,8 @@ use std::{fmt, io};
 use thiserror::Error;
 use vectors::VectorFault;
 
-/// Why the program stops. `Display` writes what stands behind `aeadkit: ` on standard error: a name, or the
-/// text of a fault.
+/// Why the program stops. `Display` writes what follows `aeadkit: ` on standard error: a name, or the text
+/// of a fault.
 #[derive(Clone, Copy, Debug, PartialEq, Eq, Drop, Error)]
 pub enum Failure {
     /// The words are no command line of the program.
@@ -110,8 +110,7 @@ impl From<AllocError> for Failure {
     }
 }
 
-/// What a failed reading or writing comes to: want of memory where that is its kind, and else the given
-/// fault.
+/// Returns the fault of a failed reading or writing: `OutOfMemory` if that is its kind, else the given fault.
 pub fn fault_of(error: &io::Error, otherwise: Fault) -> Fault
     ensures memory { error_kind error.now ≡ ErrorKind.OutOfMemory → result ≡ Fault.OutOfMemory }
     ensures either { (result ≡ Fault.OutOfMemory) ⊎ (result ≡ otherwise) }

@@ -181,8 +181,8 @@ fn open<A: Allocator, F: Storage, O: Outlet>(
     )?)
 }
 
-/// `seal-file`: seals a file into another, and answers status 0. In this order: the refusals of the inputs,
-/// `Read` where the file can't be opened, `AadTooLong`, `TextTooLong` once more than the suite's limit was
+/// `seal-file`: seals a file into another, and returns status 0. Faults, in this order: those of the inputs,
+/// `Read` if the file can't be opened, `AadTooLong`, `TextTooLong` once more than the suite's limit was
 /// read, `Read`, `Write`, and for AES-GCM-SIV `SourceChanged`. Then the written file holds a beginning of
 /// what it should hold, or was not made.
 pub fn seal_file<'a, A: Allocator, B: Allocator, F: Storage>(
@@ -211,8 +211,8 @@ pub fn seal_file<'a, A: Allocator, B: Allocator, F: Storage>(
     Ok(0)
 }
 
-/// `open-file`: opens a sealed file into another, and answers status 0. In this order: the refusals of the
-/// inputs, `Read` where the file can't be opened, `AadTooLong`, then those of its three readings. Nothing is
+/// `open-file`: opens a sealed file into another, and returns status 0. Faults, in this order: those of the
+/// inputs, `Read` if the file can't be opened, `AadTooLong`, then those of its three readings. Nothing is
 /// written before a whole reading was found to be a sealing. After `SourceChanged`, `Read` and `Write` the
 /// written file holds a beginning of a text, which is to be thrown away, or was not made.
 pub fn open_file<'a, A: Allocator, B: Allocator, F: Storage>(

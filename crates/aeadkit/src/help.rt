@@ -1,4 +1,4 @@
-//! What the help says.
+//! The texts of the help.
 
 /// The suites, and how long their keys are.
 pub const SUITES: &str = "One of these, with so many bytes in its key:

@@ -21,8 +21,8 @@ use std::fs;
 use std::process::ExitCode;
 use storage::Disk;
 
-// What is open in place of a standard stream that is closed: a folder, which can be neither read nor written
-// as a file.
+// The path that is opened in place of a standard stream that is closed: a folder, which can be neither read
+// nor written as a file.
 const NO_STREAM: &str = "/";
 
 fn main(rt: HostRuntime) -> ExitCode {
@@ -35,7 +35,13 @@ fn main(rt: HostRuntime) -> ExitCode {
     let mut out = rt.stdout();
     let mut err = rt.stderr();
     ExitCode::from(match words_given(rt.alloc(), &rt) {
-        Ok(words) => run(rt.alloc(), &Disk::new(&rt, rt.alloc()), &words, &mut out, &mut err),
+        Ok(words) => run(
+            rt.alloc(),
+            &Disk::new(&rt, rt.alloc()),
+            &words,
+            &mut out,
+            &mut err,
+        ),
         Err(failure) => report(&mut err, failure),
     })
 }

@@ -13,7 +13,7 @@ use std::alloc::{AllocError, Allocator};
 // How many bytes are kept before they are written.
 const PENDING: usize = 65536;
 
-/// A file that is made, or cut to nothing, when its first byte is given, and at the end where none was.
+/// A file that is made, or cut to nothing, when its first byte is given, and at the end if none was.
 /// Bytes are written once many are pending. A failure of the system, an interrupted call too, is a failure
 /// of the device.
 #[derive(Drop)]
@@ -56,7 +56,7 @@ impl<'a, F: Storage, A: Allocator> NewFile<'a, F, A> {
         self.pending.reserve_exact(PENDING)
     }
 
-    // Makes the file where it is not made.
+    // Makes the file if it is not made yet.
     fn make(&mut self) -> Result<(), DeviceFault>
         ensures made { OnOk result (is_some self.new.file ≡ true) }
         ensures taken { Keeps (⟦<NewFile<'a, F, A> as Outlet>⟧.taken self.old)
@@ -128,7 +128,7 @@ impl<'a, F: Storage, A: Allocator> NewFile<'a, F, A> {
         ensures written { self.new.written ≡ self.old.written }
         ensures failed { self.new.failed ≡ self.old.failed }
     {
-        // Where there is room nothing is refused.
+        // Within the capacity no allocation is made.
         let _ = self.pending.extend_from_slice(bytes);
     }
 
@@ -148,7 +148,7 @@ impl<'a, F: Storage, A: Allocator> NewFile<'a, F, A> {
         }
     }
 
-    // Keeps the bytes where there is room for them, and else writes what is pending, and some of them.
+    // Keeps the bytes if there is room for them; else writes what is pending, and some of them.
     #[tactic(auto, using(crate::proofs::NewFileLemmas::pends, crate::proofs::NewFileLemmas::keeps_more))]
     fn keep(&mut self, bytes: &[u8]) -> Result<usize, DeviceFault>
         ensures bound { GivesSome result bytes.now }
@@ -169,7 +169,7 @@ impl<'a, F: Storage, A: Allocator> NewFile<'a, F, A> {
         self.write_past(bytes)
     }
 
-    /// Makes the file where no byte was given, writes what is pending, and has the system take it. The only
+    /// Makes the file if no byte was given, writes what is pending, and has the system take it. The only
     /// fault is `Write`.
     #[tactic(auto, using(crate::proofs::NewFileLemmas::keeps_more))]
     pub fn finish(&mut self) -> Result<(), Fault>

@@ -12,7 +12,7 @@ use std::alloc::Allocator;
 // How many bytes of a whole file are taken at a time.
 const CHUNK: usize = 65536;
 
-/// Opens a file for a reading. `Read` where it can't be opened, `OutOfMemory` where memory was wanting.
+/// Opens a file for a reading. `Read` if it can't be opened, `OutOfMemory` if an allocation fails.
 pub fn reading<F: Storage>(files: &F, path: &str, reading: u8) -> Result<F::Input, Fault>
     ensures { MatchResult result
         (λ input. IfSome (F.contents files.now path.now reading) (λ bytes. F.Input.left input ≡ Some bytes))
@@ -24,7 +24,7 @@ pub fn reading<F: Storage>(files: &F, path: &str, reading: u8) -> Result<F::Inpu
     }
 }
 
-// Takes a chunk behind the bytes that were taken, and says whether it was the last.
+// Takes a chunk after the bytes taken so far, and returns whether it was the last.
 fn take_chunk<A: Allocator, I: Intake>(
     input: &mut I,
     chunk: &mut [u8],
@@ -43,8 +43,12 @@ fn take_chunk<A: Allocator, I: Intake>(
     Ok(n < chunk.len())
 }
 
-// Takes all bytes that are left. `Read` where the device fails, `OutOfMemory` where a growth is refused.
-fn take_all<'a, A: Allocator, I: Intake>(alloc: &'a A, input: &mut I) -> Result<Vec<u8, &'a A>, Fault>
+// Takes all bytes that are left. `Read` if the device fails, `OutOfMemory` if an allocation fails. No vector
+// holds 2^64 chunks, so the loop ends by a return.
+fn take_all<'a, A: Allocator, I: Intake>(
+    alloc: &'a A,
+    input: &mut I,
+) -> Result<Vec<u8, &'a A>, Fault>
     ensures { MatchResult result
         (λ v. IfSome (I.left input.old) (λ bytes. v.items ≡ bytes))
         (λ e. ((e ≡ OfRead) × ∥ DeviceFailed I.failures ∥₁) ⊎ (e ≡ OutOfMemory)) }
@@ -60,7 +64,7 @@ fn take_all<'a, A: Allocator, I: Intake>(alloc: &'a A, input: &mut I) -> Result<
     Err(Fault::OutOfMemory)
 }
 
-/// The bytes of a file. `Read` where it can't be opened or read, `OutOfMemory` where a growth is refused.
+/// Returns the bytes of a file. `Read` if it can't be opened or read, `OutOfMemory` if an allocation fails.
 pub fn file_bytes<'a, A: Allocator, F: Storage>(
     alloc: &'a A,
     files: &F,

@@ -26,7 +26,7 @@ use std::convert::AsStr;
 use std::io::Write;
 use vectors::Report;
 
-// Writes text to standard output, and answers status 0. The only faults are `Write` and `OutOfMemory`.
+// Writes text to standard output, and returns status 0. The only faults are `Write` and `OutOfMemory`.
 fn print<W: Write>(out: &mut W, text: &str) -> Result<u8, Failure>
     ensures { MatchResult result
         (λ status. (status ≡ 0) × Appends (W.contents out.old) (W.contents out.new) text.now)
@@ -41,7 +41,7 @@ fn print<W: Write>(out: &mut W, text: &str) -> Result<u8, Failure>
     Ok(0)
 }
 
-// Prints bytes as one line of lower-case hexadecimal, and answers status 0. The only faults are `Write` and
+// Prints bytes as one line of lower-case hexadecimal, and returns status 0. The only faults are `Write` and
 // `OutOfMemory`.
 fn print_bytes<A: Allocator, W: Write>(alloc: A, out: &mut W, bytes: &[u8]) -> Result<u8, Failure>
     ensures { MatchResult result
@@ -141,7 +141,7 @@ fn print_unwrapping<A: Allocator, W: Write>(
     print_bytes(alloc, out, &text)
 }
 
-// The status of a report: 0 where there are records and none is bad, else 1.
+// The status of a report: 0 if there are records and none is bad, else 1.
 fn report_status<A: Allocator>(report: &Report<A>) -> u8
     ensures yes { (result ≡ 0) ↔ ((1 ≤ report.now.records) × (report.now.bad.items ≡ [])) }
     ensures bound { result ≤ 1 }
@@ -149,7 +149,7 @@ fn report_status<A: Allocator>(report: &Report<A>) -> u8
     if report.yes() { 0 } else { 1 }
 }
 
-// Prints the report of a vector file, and answers status 0, or 1 where a record is bad or none is there.
+// Prints the report of a vector file, and returns status 0, or 1 if a record is bad or there are none.
 fn print_checking<A: Allocator, F: Storage, W: Write>(
     alloc: &A,
     files: &F,
@@ -168,9 +168,9 @@ fn print_checking<A: Allocator, F: Storage, W: Write>(
     Ok(report_status(&report))
 }
 
-/// Does what a request asks for: prints its answer, and answers the status, 0, or 1 for a file with bad
-/// records. In this order: the refusals of its values, those of the call, `Write`; `OutOfMemory` wherever a
-/// growth is refused.
+/// Does what a request asks for: prints its answer, and returns the status, 0, or 1 for a file with bad
+/// records. Faults, in this order: those of its values, those of the call, `Write`; `OutOfMemory` wherever an
+/// allocation fails.
 pub fn perform<'a, A: Allocator, B: Allocator, F: Storage, W: Write>(
     alloc: &A,
     files: &F,
@@ -220,7 +220,7 @@ fn refuse<W: Write>(alloc: Global, refusal: &Refusal, out: &mut W) -> Result<u8,
     }
 }
 
-/// Says on standard error why the program stops, and answers the status. A failing standard error changes
+/// Says on standard error why the program stops, and returns the status. A failing standard error changes
 /// nothing.
 pub fn report<E: Write>(err: &mut E, failure: Failure) -> u8
     ensures value { result ≡ failure_status failure }
@@ -230,7 +230,7 @@ pub fn report<E: Write>(err: &mut E, failure: Failure) -> u8
     failure.status()
 }
 
-// What the words behind the program's name come to. A file that was written is closed when it returns.
+// Does what the words after the program's name ask for. A file that was written is closed when it returns.
 fn answer<S: AsStr, F: Storage, W: Write>(
     alloc: Global,
     files: &F,
@@ -248,10 +248,10 @@ fn answer<S: AsStr, F: Storage, W: Write>(
     }
 }
 
-/// Runs the program on the words behind its name, and answers its status: 0 where it is done, 1 where bytes
-/// are no sealing or wrapping, or a vector file has a fault or a bad record, 2 where the words or a value
-/// are of no use, 3 where a reading or a writing failed, 4 for want of memory. A failing standard error
-/// changes no status.
+/// Runs the program on the words after its name, and returns its status: 0 if it is done, 1 if bytes are no
+/// sealing or wrapping, or a vector file has a fault or a bad record, 2 if the words or a value are of no
+/// use, 3 if a reading or a writing failed, 4 if an allocation failed. A failing standard error changes no
+/// status.
 pub fn run<S: AsStr, F: Storage, W: Write, E: Write>(
     alloc: Global,
     files: &F,

@@ -21,11 +21,10 @@ pub trait Storage {
     /// A file that is open for writing.
     type Output: Outlet + Drop;
 
-    // The bytes that a file gives in a reading, where they are told. A request's readings are counted from
-    // 0.
+    // The bytes that a file gives in a reading, if they are told. A request's readings are counted from 0.
     ghost contents: { Self → List ℕ → ℕ → Option (List ℕ) } = { λ _ _ _. None };
 
-    // What a file holds once it was made, where that is told.
+    // The bytes that a file holds once it was made, if they are told.
     ghost blank: { Self → Option (List ℕ) } = { λ _. None };
 
     // Whether the opening of a file for a reading may fail.
@@ -46,7 +45,7 @@ pub trait Storage {
         ensures blank { IfOk result (λ output. Keeps (blank self.now) (Self.Output.taken output)) }
         ensures blame { IfErr result (λ _. make_may_fail self.now ≡ true) };
 
-    /// Hands what was written to the device below, where there is one.
+    /// Hands what was written to the device below, if there is one.
     fn sync(&self, output: &Self::Output) -> io::Result<()>
         ensures blame { IfErr result (λ _. make_may_fail self.now ≡ true) };
 }
@@ -96,9 +95,7 @@ impl<R: Files, A: Allocator + Copy> Storage for Disk<'_, R, A> {
 
     fn open(&self, path: &str, _reading: u8) -> io::Result<FromRead<BufReader<R::File, A>>> {
         let file = fs::open(self.runtime, path)?;
-        Ok(FromRead::new(BufReader::with_capacity(
-            self.alloc, AHEAD, file,
-        )?))
+        Ok(FromRead::new(BufReader::with_capacity(self.alloc, AHEAD, file)?))
     }
 
     fn create(&self, path: &str) -> io::Result<DiskOutput<R::File>> {

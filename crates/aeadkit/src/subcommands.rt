@@ -44,7 +44,7 @@ pub const FILE: &str = "file";
 #[derive(Clone, Copy)]
 struct Taken {
     name: &'static str,
-    // What help calls its value.
+    // The name of its value in help.
     value: &'static str,
     help: &'static str,
     is_option: bool,

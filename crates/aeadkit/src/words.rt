@@ -27,7 +27,7 @@ pub struct FileWords<'a> {
     pub output: &'a str,
 }
 
-/// What the words ask for, with each value as it was written.
+/// A request, with each value as it was written.
 #[derive(Drop)]
 pub enum Request<'a> {
     /// The sealing of a text.
@@ -56,7 +56,7 @@ pub enum Request<'a> {
     },
 }
 
-/// What the words come to when they are no request.
+/// Why words are no request.
 #[derive(Drop)]
 pub enum Refusal {
     /// Help was asked for: this is its text.
@@ -67,12 +67,12 @@ pub enum Refusal {
     OutOfMemory,
 }
 
-// The value of an option, or no bytes where it is not given.
+// The value of an option, or no bytes if it is not given.
 fn value<'a>(matches: &ArgMatches<'a>, name: &str) -> &'a str {
     matches.get_str(name).unwrap_or("")
 }
 
-// What all calls under a suite take, and a body.
+// The inputs of a call under a suite.
 fn inputs_of<'a>(matches: &ArgMatches<'a>, body: &'a str) -> Inputs<'a> {
     Inputs {
         suite: value(matches, SUITE),
@@ -83,7 +83,7 @@ fn inputs_of<'a>(matches: &ArgMatches<'a>, body: &'a str) -> Inputs<'a> {
     }
 }
 
-// What the file commands take; `None` where both paths are the same text.
+// The words of a file command; `None` if both paths are the same text.
 fn file_words<'a>(matches: &ArgMatches<'a>) -> Option<FileWords<'a>> {
     let input = value(matches, IN);
     let output = value(matches, OUT);
@@ -97,17 +97,17 @@ fn file_words<'a>(matches: &ArgMatches<'a>) -> Option<FileWords<'a>> {
     })
 }
 
-// What sealing asks for.
+// The request to seal.
 fn sealing<'a>(matches: &ArgMatches<'a>) -> Request<'a> {
     Request::Seal(inputs_of(matches, value(matches, TEXT)))
 }
 
-// What opening asks for.
+// The request to open.
 fn opening<'a>(matches: &ArgMatches<'a>) -> Request<'a> {
     Request::Open(inputs_of(matches, value(matches, SEALED)))
 }
 
-// What wrapping asks for.
+// The request to wrap.
 fn wrapping<'a>(matches: &ArgMatches<'a>) -> Request<'a> {
     Request::Wrap {
         key: value(matches, KEY),
@@ -116,7 +116,7 @@ fn wrapping<'a>(matches: &ArgMatches<'a>) -> Request<'a> {
     }
 }
 
-// What unwrapping asks for.
+// The request to unwrap.
 fn unwrapping<'a>(matches: &ArgMatches<'a>) -> Request<'a> {
     Request::Unwrap {
         key: value(matches, KEY),
@@ -125,7 +125,7 @@ fn unwrapping<'a>(matches: &ArgMatches<'a>) -> Request<'a> {
     }
 }
 
-// What a subcommand's arguments ask for.
+// The request of a subcommand's arguments.
 fn request_of<'a>(name: &str, matches: &ArgMatches<'a>) -> Option<Request<'a>> {
     match name {
         SEAL => Some(sealing(matches)),
@@ -141,7 +141,7 @@ fn request_of<'a>(name: &str, matches: &ArgMatches<'a>) -> Option<Request<'a>> {
     }
 }
 
-// What a command line asks for that is one of the program's.
+// The request of a command line, if it is one of the program's.
 fn asked<'a>(matches: &ArgMatches<'a>) -> Option<Request<'a>> {
     let (name, inner) = matches.subcommand()?;
     request_of(name, inner)
@@ -156,7 +156,7 @@ fn refused(error: Error) -> Refusal {
     }
 }
 
-/// What the words behind the program's name ask for.
+/// Returns the request that the words after the program's name make, or why they make none.
 pub fn read<'a, S: AsStr>(alloc: Global, words: &'a [S]) -> Result<Request<'a>, Refusal> {
     let command = command(alloc).map_err(|_| Refusal::OutOfMemory)?;
     match command.try_get_matches_from(words) {

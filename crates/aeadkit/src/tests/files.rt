@@ -72,7 +72,14 @@ fn runs(
 ) {
     let (input, output) = paths;
     let words = file_words(name, vector, input, output);
-    runs_over(rt, &Disk::new(rt, rt.alloc()), &words, status, "", complaint);
+    runs_over(
+        rt,
+        &Disk::new(rt, rt.alloc()),
+        &words,
+        status,
+        "",
+        complaint,
+    );
 }
 
 // A file holds the bytes that digits spell.

@@ -170,11 +170,7 @@ impl<'b, 'l, 'm, A: Allocator> Storage for Asking<'b, 'l, 'm, A> {
     ) -> io::Result<FromRead<BufReader<Source<'b, 'l>, &'m A>>> {
         ask(self.memory)?;
         let source = self.files.source(reading)?;
-        Ok(FromRead::new(BufReader::with_capacity(
-            self.memory,
-            65536,
-            source,
-        )?))
+        Ok(FromRead::new(BufReader::with_capacity(self.memory, 65536, source)?))
     }
 
     fn create(&self, path: &str) -> io::Result<ToWrite<Sink<'l>>> {
