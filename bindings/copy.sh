@@ -1,4 +1,4 @@
-# Functions of the scripts beside it and of .ci/run, which read it.
+# Functions of build.sh and wasm.sh, which read it.
 
 # Copies what the library is made of to a folder outside the repository, in which crates.txt names aead and
 # keywrap as libraries of a kind and leaves out what depends on them: copy REPOSITORY ROOM KIND
