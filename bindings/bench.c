@@ -1,7 +1,7 @@
 /* How fast the library is on this machine, beside the peers of peers.h. bench.sh builds and runs it.
 
    Each message has a new key and nonce, as each call of the library takes its key, and is sealed and opened
-   in place. A peer keeps its context from message to message, and makes its key anew. Library and peers take
+   in place. A peer keeps its context from message to message, and sets its key for each. Library and peers take
    turns in one process, and each figure is the best of many short rounds. Before a row is measured, each peer
    has to give the library's bytes. Status 1 if it does not; 2 if the program cannot run. */
 #include "peers.h"

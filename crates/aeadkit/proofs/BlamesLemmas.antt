@@ -160,7 +160,7 @@ pub count_blames : (input output : Type 0) (before after : ℕ) (e : Failure) �
     → BlamesAs input (Failed before after) e → BlamesAs input output e
 count_blames input output before after e to h = (h.0, λ p. to (failed_some before after (h.1 p)))
 
--- want of memory blames none
+-- an allocation failure blames none
 pub memory_blames : (input output : Type 0) → BlamesAs input output (OfFault OutOfMemory)
 memory_blames input output = (λ e. absurd (cc), λ e. absurd (cc))
 

@@ -43,7 +43,7 @@ pub record OpensThrice (s : Setting) (m v w given : List ℕ) (r : Answer) : Typ
 abbrev pub Giving : Type 1
 Giving = (List ℕ → Type 0) → Type 0
 
--- sealing in one reading, or else in two: where the readings tell their bytes
+-- sealing in one reading, or else in two, if the bytes of the readings are known
 abbrev pub SealingBy : Bool → (ℕ → Option (List ℕ)) → Giving → Setting → Answer → Type 0
 SealingBy true readings giving s r = IfSome (readings 0) (λ a. giving (λ given. SealsOnce s a given r))
 SealingBy false readings giving s r =

@@ -5,8 +5,8 @@ ghost use Rattle.std.specs.Prelude.{◌≡◌};
 use crate::device::{DeviceFault, Intake, Outlet};
 use std::io::{Read, Write};
 
-/// Takes from a reader, and counts its failures; an interrupted read is one. It tells its bytes if the reader
-/// does.
+/// Takes from a reader, and counts its failures; an interrupted read is one. Its bytes are known if the
+/// reader's are.
 #[derive(Drop)]
 pub struct FromRead<R> {
     reader: R,
@@ -40,7 +40,7 @@ impl<R: Read> Intake for FromRead<R> {
 }
 
 /// Gives to a writer, and counts its failures; an interrupted write is one, and a write of nothing from a
-/// slice that is not empty. It tells its bytes if the writer does.
+/// slice that is not empty. Its bytes are known if the writer's are.
 #[derive(Drop)]
 pub struct ToWrite<W> {
     writer: W,
