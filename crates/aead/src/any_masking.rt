@@ -6,9 +6,9 @@ ghost use Rattle.aead.specs.Sealing.{tag_over};
 ghost use Rattle.aead.specs.Code.Maskings.{Task, task_mask};
 ghost use Rattle.aead.specs.Code.AnyMaskings.{HoldsAnyMasking, count_of, limit_of};
 
+use crate::beside::MaskFirst;
 use crate::hashes::GhashTag;
 use crate::masking::Masking;
-use crate::order::MaskFirst;
 use aes::CtrBe;
 use chacha::ChaStream;
 use gf128::PlacedMul;

@@ -5,9 +5,9 @@ ghost use Rattle.aead.specs.Suites.{ByGcmSiv, construction_of};
 ghost use Rattle.aead.specs.Ciphers.{setting};
 ghost use Rattle.aead.specs.InPlace.{SealsInPlace, OpensInPlace, OpensEachSealing};
 
+use crate::beside::MaskFirst;
 use crate::mask::MaskStream;
 use crate::nonced::{Nonced, authenticator, masking};
-use crate::order::MaskFirst;
 use octets::{Fault, Tag, same};
 
 // A cipher with a nonce whose mask is made of the tag.

@@ -24,7 +24,6 @@ mod mask;
 mod mask_then_hash;
 mod masking;
 mod nonced;
-mod order;
 mod sealer;
 mod second_reading;
 mod siv;

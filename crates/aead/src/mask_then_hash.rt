@@ -7,10 +7,10 @@ ghost use Rattle.aead.specs.Code.Masks.{as_it_leaves};
 ghost use Rattle.aead.specs.Code.Maskings.{HoldsMasking, message_task};
 ghost use Rattle.aead.specs.InPlace.{SealsInPlace, OpensInPlace, OpensEachSealing};
 
+use crate::beside::MaskFirst;
 use crate::mask::MaskStream;
 use crate::masking::Masking;
 use crate::nonced::{Nonced, authenticator, masking};
-use crate::order::MaskFirst;
 use octets::{Fault, Tag, same};
 
 // A cipher with a nonce whose mask needs no tag.

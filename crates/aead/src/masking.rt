@@ -6,9 +6,9 @@ ghost use Rattle.aead.specs.Suites.{text_limit};
 ghost use Rattle.aead.specs.Sealing.{tag_over};
 
 use crate::authenticator::Authenticator;
+use crate::beside::Order;
 use crate::hashes::TagHash;
 use crate::mask::MaskStream;
-use crate::order::Order;
 use octets::Tag;
 
 // Pieces are masked in place, and authenticated as they come or as they leave.

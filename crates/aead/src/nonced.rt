@@ -7,10 +7,10 @@ ghost use Rattle.aead.specs.Code.States.{HoldsAuthenticator};
 ghost use Rattle.aead.specs.Code.Maskings.{HoldsMasking, message_task};
 
 use crate::authenticator::Authenticator;
+use crate::beside::Order;
 use crate::hashes::TagHash;
 use crate::mask::MaskStream;
 use crate::masking::Masking;
-use crate::order::Order;
 use crate::suite::Suite;
 
 // A cipher under a key with a nonce.

@@ -7,10 +7,10 @@ ghost use Rattle.aead.specs.Code.Masks.{as_it_comes};
 ghost use Rattle.aead.specs.Code.Maskings.{HoldsMasking, repeating_task};
 ghost use Rattle.aead.specs.Pieces.{Repeats};
 
+use crate::beside::HashFirst;
 use crate::hashes::TagHash;
 use crate::mask::MaskStream;
 use crate::masking::Masking;
-use crate::order::HashFirst;
 use octets::{Tag, same};
 
 // Whether a second reading had the length of the first one, and has its tag.

@@ -8,11 +8,11 @@ ghost use Rattle.aead.specs.Refusals.{SealRefused};
 
 use crate::aead::Aead;
 use crate::authenticator::Authenticator;
+use crate::beside::HashFirst;
 use crate::gcm_siv::{GcmSiv, tag_mask};
 use crate::hashes::PolyvalTag;
 use crate::masking::Masking;
 use crate::nonced::authenticator;
-use crate::order::HashFirst;
 use crate::second_reading::repeats;
 use aes::{AesKey, CtrLe};
 use gf128::{Keyed128, PlacedMul};

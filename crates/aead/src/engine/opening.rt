@@ -8,6 +8,7 @@ ghost use Rattle.aead.specs.Code.Passes.{Blames};
 ghost use Rattle.aead.specs.Code.Findings.{PassedWhole};
 
 use crate::any::{AnyAead, AnyOnePass};
+use crate::beside::{HashFirst, MaskFirst};
 use crate::engine::measure::Measured;
 use crate::engine::passes::{Finding, pass};
 use crate::gcm::{Gcm, LONG};
@@ -15,7 +16,6 @@ use crate::gcm_siv::GcmSiv;
 use crate::hash_then_mask::HashThenMask;
 use crate::mask_then_hash::MaskThenHash;
 use crate::nonced::masking;
-use crate::order::{HashFirst, MaskFirst};
 use gf128::{Keyed128, PlacedMul, WideMul};
 use octets::{Fault, Intake, Nonce, Outlet};
 

@@ -6,11 +6,11 @@ ghost use Rattle.aead.specs.Sealing.{Setting};
 ghost use Rattle.aead.specs.Code.Maskings.{Task, HoldsMasking, message_task};
 ghost use Rattle.aead.specs.Code.Passes.{Passed, Blames, BlamesReading};
 
+use crate::beside::Order;
 use crate::engine::measure::Measured;
 use crate::hashes::TagHash;
 use crate::mask::MaskStream;
 use crate::masking::Masking;
-use crate::order::Order;
 use octets::{Fault, Intake, Outlet, Tag, fill, give_all, same};
 
 // How a reading compares with the measured one.

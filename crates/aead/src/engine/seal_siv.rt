@@ -14,6 +14,7 @@ ghost use Rattle.aead.specs.SealSivStream.{WritesAgain, SealsSivStream, SivBlame
 
 use crate::aead::Aead;
 use crate::authenticator::Authenticator;
+use crate::beside::HashFirst;
 use crate::engine::passes::{has_more, pass_all};
 use crate::engine::verifying::absorb_body;
 use crate::gcm_siv::GcmSiv;
@@ -22,7 +23,6 @@ use crate::hashes::TagHash;
 use crate::mask::MaskStream;
 use crate::masking::Masking;
 use crate::nonced::authenticator;
-use crate::order::HashFirst;
 use crate::second_reading::repeats;
 use gf128::{Keyed128, WideMul};
 use octets::{Fault, Intake, Nonce, Outlet, Tag, give_all};
