@@ -1,19 +1,16 @@
 -- What the state of any construction tells of its pieces.
 use Rattle.std.proofs.Common.{◌≡◌, ℕ, ◌≤◌, List, length}
-use Rattle.gf128.specs.States.{key_of}
 use Rattle.aead.specs.declared.any_masking.AnyMasking.{AnyMasking}
 use Rattle.aead.specs.declared.any_masking.AnyMasking.TheVariants.{ByChaCha, ByGcm}
 use Rattle.aead.specs.Suites.{text_limit, aad_limit}
-use Rattle.aead.specs.Code.States.{MadeByChaCha, MadeByGcm, HeldByPoly, HeldByGhash}
 use Rattle.aead.specs.Code.Maskings.{Task}
 use Rattle.aead.specs.Code.AnyMaskings.{HoldsAnyMasking, count_of, limit_of}
-use Rattle.aead.proofs.Maskings.{length_fed}
 
 -- how long they are
 pub fed_length : (k : AnyMasking) (t : Task) (fed : List ℕ) → HoldsAnyMasking k t fed
     → count_of k ≡ length fed
-fed_length (ByChaCha k) t fed h = length_fed MadeByChaCha HeldByPoly k t fed h
-fed_length (ByGcm k) t fed h = length_fed MadeByGcm (HeldByGhash key_of) k t fed h
+fed_length (ByChaCha k) t fed h = h.count_is
+fed_length (ByGcm k) t fed h = h.count_is
 
 -- their limit
 pub limit_is : (k : AnyMasking) (t : Task) (fed : List ℕ) → HoldsAnyMasking k t fed → limit_of k ≡ t.limit

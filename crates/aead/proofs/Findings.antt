@@ -4,7 +4,7 @@ use Rattle.std.proofs.Common.{length, take, drop, get_or, refl, ap, ◌∙◌, s
 use Rattle.std.proofs.Common.{Some, None, subst, length-append}
 use Rattle.std.specs.Str.{bytes_eq}
 use Rattle.std.specs.Io.KnownBytes.{Consumes, Appends, IsAtEnd}
-use Rattle.std.proofs.lemmas.Bool.{cases_Bool, cases_lt}
+use Rattle.std.proofs.lemmas.Bool.{cases_lt}
 use Rattle.std.proofs.lemmas.List.{append-nil, take_all, drop_all, take_at, drop_at, length-drop}
 use Rattle.std.proofs.lemmas.List.{take-append-le, take-take}
 use Rattle.std.proofs.lemmas.Slice.Eq.{bytes_eq-Decides}
@@ -18,31 +18,19 @@ use Rattle.aead.specs.declared.engine.passes.Finding.{Finding}
 use Rattle.aead.specs.declared.engine.passes.Finding.TheVariants.{Differs, Unsealed, Sealed}
 use Rattle.aead.specs.Suites.{construction_of, is_one_pass, ByGcm}
 use Rattle.aead.specs.Sealing.{Setting, Fits, Opened, IsNoSealing, mask_of, tag_of, tag_over}
-use Rattle.aead.specs.Code.States.{HoldsAuthenticator, authenticated}
-use Rattle.aead.specs.Code.Maskings.{HoldsMasking, opening_task}
+use Rattle.aead.specs.Code.States.{HoldsAuthenticator}
+use Rattle.aead.specs.Code.Maskings.{HoldsMasking, message_task}
 use Rattle.aead.specs.Code.Passes.{WentFar, Stopped}
 use Rattle.aead.specs.Code.Findings.{IsFinding, MakesTag, TookBody, WentWhole, Tail}
 use Rattle.aead.proofs.ByteMasks.{masked_small, mask_small}
-use Rattle.aead.proofs.Opens.{unmasked, no_sealing, opened_as, body_tag, two_pass_tag}
-
--- the tag that an opening makes is that of what the body would open to
-pub opening_tag : (s : Setting) (tag body : List ℕ)
-    → tag_over s.suite s.key s.nonce s.aad (authenticated (is_one_pass (construction_of s.suite)) s tag body)
-    ≡ tag_of s (unmasked s tag body)
-opening_tag s tag body =
-    elim (cases_Bool (is_one_pass (construction_of s.suite))) [
-      | inl one ↦ ap (λ b. tag_over s.suite s.key s.nonce s.aad (authenticated b s tag body)) one
-          ∙ sym (body_tag s tag body one)
-      | inr two ↦ ap (λ b. tag_over s.suite s.key s.nonce s.aad (authenticated b s tag body)) two
-          ∙ sym (two_pass_tag s (unmasked s tag body) two)
-    ]
+use Rattle.aead.proofs.Opens.{unmasked, no_sealing, opened_as, body_tag}
 
 -- the lengths that an opening was fed are allowed
-pub opening_fits : {S H : Type 0} (made : S → Setting → List ℕ → ℕ → Type 0)
+pub opening_fits : {S H R : Type 0} (made : S → Setting → List ℕ → ℕ → Type 0)
     (held : H → Setting → List ℕ → Type 0)
-    (k : Masking S H) (s : Setting) (tag body : List ℕ)
-    → HoldsMasking made held k (opening_task s tag) body → Fits s body
-opening_fits made held k s tag body h =
+    (hashed : (ℕ → ℕ) → List ℕ → List ℕ) (k : Masking S H R) (s : Setting) (tag body : List ℕ)
+    → HoldsMasking made held hashed k (message_task s tag) body → Fits s body
+opening_fits made held hashed k s tag body h =
     record { aad_fits = h.taken.fits.aad_fits; text_fits = omega (arith, h.within, h.limit_fits) }
 
 -- ---- what was found of a body and what came after it
@@ -53,7 +41,7 @@ differs_found s tag body y len size other = λ e.
     true≢false (sym ((bytes_eq-Decides y tag).1 (sym (drop_at body y (len - 16) size) ∙ e)) ∙ other)
 
 pub sealed_found : (s : Setting) (tag body y : List ℕ) (len : ℕ) → length body ≡ len - 16
-    → bytes_eq y tag ≡ true → MakesTag tag (opening_task s tag) body
+    → bytes_eq y tag ≡ true → MakesTag tag (message_task s tag) body
     → ((i : ℕ) → get_or (unmasked s tag body) i 0 < 256) → IsFinding s tag len (body ++ y) Sealed
 sealed_found s tag body y len size equal makes small =
     let e : y ≡ tag = (bytes_eq-Decides y tag).0 equal in
@@ -77,19 +65,17 @@ unsealed_found s tag body y len long size equal other =
 -- ---- a whole pass
 
 -- a body that was decrypted
-pub took_masked : {S H : Type 0} (made : S → Setting → List ℕ → ℕ → Type 0)
-    (held : H → Setting → List ℕ → Type 0) (s : Setting) (tag : List ℕ) (len n : ℕ)
-    (l l' o o' : Option (List ℕ)) (k : Masking S H) (t : List ℕ)
-    → (q : WentFar (HoldsMasking made held) (opening_task s tag) [] (len - 16) l l' o o' k n)
-    → t ≡ tag_over s.suite s.key s.nonce s.aad
-    (authenticated (is_one_pass (construction_of s.suite)) s tag q.bytes)
-    → TookBody s tag len l l' o o' n t
-took_masked made held s tag len n l l' o o' k t q is = record {
+pub took_masked : {S H R : Type 0} (made : S → Setting → List ℕ → ℕ → Type 0)
+    (held : H → Setting → List ℕ → Type 0) (hashed : (ℕ → ℕ) → List ℕ → List ℕ) (s : Setting) (tag : List ℕ)
+    (len n : ℕ) (l l' o o' : Option (List ℕ)) (k : Masking S H R) (t : List ℕ)
+    → (q : WentFar (HoldsMasking made held hashed) (message_task s tag) [] (len - 16) l l' o o' k n)
+    → t ≡ tag_of s (masked (mask_of s tag) 0 q.bytes) → TookBody s tag len l l' o o' n t
+took_masked made held hashed s tag len n l l' o o' k t q is = record {
   bytes = q.bytes;
   went = record {
     consumed = q.went.consumed;
     given = q.went.given;
-    held = (opening_fits made held k s tag q.bytes q.went.held, is ∙ opening_tag s tag q.bytes);
+    held = (opening_fits made held hashed k s tag q.bytes q.went.held, is);
     small = q.went.small;
   };
   count = q.count;
@@ -134,7 +120,7 @@ whole_short s tag len n l l' o o' t size q less =
 
 -- or a reading of it failed
 pub stopped_read : (s : Setting) (tag : List ℕ) (room : ℕ) (l l' : Option (List ℕ)) (bytes : List ℕ)
-    → Consumes l l' bytes → Stopped (opening_task s tag) [] room l l' None None
+    → Consumes l l' bytes → Stopped (message_task s tag) [] room l l' None None
 stopped_read s tag room l l' bytes consumed = record {
   bytes = bytes;
   shown = 0;
@@ -164,7 +150,7 @@ whole_tail s tag len n l l' l'' o o' t b f low q full tail found =
 -- the body came whole, and then a device failed
 pub stopped_tail : (s : Setting) (tag : List ℕ) (len n : ℕ) (l l' l'' o o' : Option (List ℕ)) (t y : List ℕ)
     → TookBody s tag len l l' o o' n t → Consumes l' l'' y
-    → Stopped (opening_task s tag) [] (len - 16) l l'' o o'
+    → Stopped (message_task s tag) [] (len - 16) l l'' o o'
 stopped_tail s tag len n l l' l'' o o' t y q more =
     let P : List ℕ → Type 0 = λ b. Appends o o' b in
     let same : take (length q.bytes) (masked (mask_of s tag) 0 (q.bytes ++ y))
@@ -229,7 +215,7 @@ whole_given s tag len v (Some rest) o o' f w =
     ]
 
 pub stopped_given : (s : Setting) (tag : List ℕ) (n : ℕ) (v : List ℕ) (l' o o' : Option (List ℕ)) →
-    Stopped (opening_task s tag) [] n (Some v) l' o o'
+    Stopped (message_task s tag) [] n (Some v) l' o o'
     → (k : ℕ) × Appends o o' (take k (masked (mask_of s tag) 0 (take n v)))
 stopped_given s tag n v None o o' w = absurd w.consumed
 stopped_given s tag n v (Some rest) o o' w =

@@ -105,12 +105,12 @@ body_tag s tag body one =
 -- a tag over the ciphertext
 pub seals_one_pass : (s : Setting) (some text out tag : List ℕ) → is_one_pass (construction_of s.suite) ≡ true
     → Fits s text → ((i : ℕ) → get_or text i 0 < 256)
-    → out ≡ masked (mask s.suite s.key s.nonce some) 0 text → tag ≡ tag_over s.suite s.key s.nonce s.aad out
+    → out ≡ masked (mask s.suite s.key s.nonce some) 0 text
+    → tag ≡ tag_over s.suite s.key s.nonce s.aad (masked (mask s.suite s.key s.nonce some) 0 text)
     → Opened s (out ++ tag) text
 unfolding sealing
 seals_one_pass s some text out tag one fits bytes e f =
-    let tag_is : tag ≡ tag_of s text =
-    f ∙ ap (tag_over s.suite s.key s.nonce s.aad) e ∙ sym (one_pass_tag s some text one) in
+    let tag_is : tag ≡ tag_of s text = f ∙ sym (one_pass_tag s some text one) in
     record {
       fits = fits;
       bytes = bytes;

@@ -6,7 +6,7 @@ use Rattle.octets.specs.declared.fault.Fault.TheVariants.{Read, Write}
 use Rattle.octets.specs.Device.{Failed}
 use Rattle.aead.specs.declared.engine.passes.Finding.{Finding}
 use Rattle.aead.specs.Sealing.{Setting}
-use Rattle.aead.specs.Code.Maskings.{opening_task}
+use Rattle.aead.specs.Code.Maskings.{message_task}
 use Rattle.aead.specs.Code.Passes.{Stopped}
 use Rattle.aead.specs.Code.Findings.{WentWhole}
 use Rattle.aead.specs.Code.Told.{VerifyTold, WriteTold, verify_answer, write_answer}
@@ -33,7 +33,7 @@ write_told s tag len (Some v) l' o o' f read read' wrote wrote' r size low w e k
 
 pub write_stopped : (s : Setting) (tag : List ℕ) (len : ℕ) (l l' o o' : Option (List ℕ))
     (read read' wrote wrote' : ℕ) (f : Fault) →
-    Stopped (opening_task s tag) [] (len - 16) l l' o o'
+    Stopped (message_task s tag) [] (len - 16) l l' o o'
     → ((f ≡ Read) × Failed read read' × (wrote' ≡ wrote))
     ⊎ ((f ≡ Write) × (read' ≡ read) × Failed wrote wrote') →
     IfSome l (λ w. WriteTold s tag len w o o' read read' wrote wrote' (Err f))

@@ -3,6 +3,7 @@ pub mod Sealing
 pub mod Ciphers
 pub mod AnyCiphers
 pub mod Refusals
+pub mod InPlace
 pub mod Cuts
 pub mod Pieces
 pub mod Measure

@@ -7,13 +7,14 @@ use Rattle.aead.specs.declared.siv.SivWriter.{SivWriter}
 use Rattle.aead.specs.Suites.{ByGcmSiv, construction_of, is_one_pass, text_limit}
 use Rattle.aead.specs.Sealing.{Setting, encryption_key, tag_of}
 use Rattle.aead.specs.Code.States.{MadeByGcmSiv, HeldByPolyval, HoldsAuthenticator, own_key}
-use Rattle.aead.specs.Code.Maskings.{HoldsMasking, sealing_task, repeating_task}
+use Rattle.aead.specs.Code.Masks.{as_it_comes}
+use Rattle.aead.specs.Code.Maskings.{HoldsMasking, message_task, repeating_task}
 use Rattle.aead.specs.Code.AnyMaskings.{HoldsAnyMasking}
 
 -- a sealer was fed this text: its mask looks at no tag
 pub record HoldsSealer (sealer : Sealer) (s : Setting) (text : List ℕ) : Type 0 where
   pub one_pass : is_one_pass (construction_of s.suite) ≡ true
-  pub masking : (tag : List ℕ) → HoldsAnyMasking sealer.masking (sealing_task s tag) text
+  pub masking : (tag : List ℕ) → HoldsAnyMasking sealer.masking (message_task s tag) text
 
 -- the first reading was fed this text, and what the second one begins with has its associated data
 pub record HoldsAbsorb (a : SivAbsorb) (s : Setting) (text : List ℕ) : Type 0 where
@@ -28,7 +29,8 @@ pub record HoldsWriter (w : SivWriter) (s : Setting) (first text : List ℕ) : T
   pub by_gcm_siv : construction_of s.suite ≡ ByGcmSiv
   pub tag_is : w.tag ≡ tag_of s first
   pub masking :
-      HoldsMasking MadeByGcmSiv (HeldByPolyval key_of own_key) w.masking (repeating_task s first) text
+      HoldsMasking MadeByGcmSiv (HeldByPolyval key_of own_key) as_it_comes w.masking (repeating_task s first)
+      text
 
 -- a text has the length and the tag of the first one
 abbrev pub Repeats : Setting → List ℕ → List ℕ → Type 0

@@ -12,19 +12,15 @@ SealRefused s text AadTooLong = aad_limit s.suite < length s.aad
 SealRefused s text TextTooLong = (length s.aad ≤ aad_limit s.suite) × (text_limit s.suite < length text)
 SealRefused s text _ = ⊥
 
--- why a body and a tag are not opened in place
+-- why a body and a tag are not opened in place: for a length, or as the sealing of no text
 abbrev pub OpenRefused : Setting → List ℕ → List ℕ → Fault → Type 0
-OpenRefused s body tag AadTooLong = aad_limit s.suite < length s.aad
-OpenRefused s body tag TextTooLong = (length s.aad ≤ aad_limit s.suite) × (text_limit s.suite < length body)
 OpenRefused s body tag TagMismatch = Fits s body × IsNoSealing s (body ++ tag)
-OpenRefused s body tag _ = ⊥
+OpenRefused s body tag fault = SealRefused s body fault
 
 -- why a text is not sealed as a whole
 abbrev pub WholeSealRefused : Setting → List ℕ → Fault → Type 0
-WholeSealRefused s text AadTooLong = aad_limit s.suite < length s.aad
-WholeSealRefused s text TextTooLong = (length s.aad ≤ aad_limit s.suite) × (text_limit s.suite < length text)
 WholeSealRefused s text OutOfMemory = Fits s text
-WholeSealRefused s text _ = ⊥
+WholeSealRefused s text fault = SealRefused s text fault
 
 -- there is a body of an allowed length before the tag
 pub record FitsSealed (s : Setting) (sealed : List ℕ) : Type 0 where

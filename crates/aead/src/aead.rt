@@ -1,9 +1,8 @@
 // The trait of all ciphers.
 
-ghost use Rattle.std.specs.Prelude.{◌≡◌, ◌++◌, ℕ, List, MatchResult};
-ghost use Rattle.aead.specs.Sealing.{Opened};
+ghost use Rattle.std.specs.Prelude.{◌≡◌};
 ghost use Rattle.aead.specs.Ciphers.{Keyed, setting};
-ghost use Rattle.aead.specs.Refusals.{SealRefused, OpenRefused};
+ghost use Rattle.aead.specs.InPlace.{SealsInPlace, OpensInPlace, OpensEachSealing};
 
 use crate::suite::Suite;
 use octets::{Fault, Nonce, Tag};
@@ -22,9 +21,7 @@ pub trait Aead {
     /// tag. Faults: `AadTooLong`, then `TextTooLong`, if a length in bytes is past the suite's limit. A
     /// refusal leaves every byte as it was. Does not allocate.
     fn seal_in_place(&self, nonce: &Nonce, aad: &[u8], text: &mut [u8]) -> Result<Tag, Fault>
-        ensures { let s = setting (keyed self.now) nonce.now aad.now in
-            MatchResult result (λ tag. Opened s (text.new ++ tag) text.old)
-            (λ e. SealRefused s text.old e × (text.new ≡ text.old)) };
+        ensures { SealsInPlace (setting (keyed self.now) nonce.now aad.now) text.old text.new result };
 
     /// Opens a ciphertext and its tag under a nonce with associated data: leaves the text in the
     /// ciphertext's place. Faults: `AadTooLong`, then `TextTooLong`, if a length in bytes is past the
@@ -37,10 +34,8 @@ pub trait Aead {
         body: &mut [u8],
         tag: &Tag,
     ) -> Result<(), Fault>
-        ensures answer { let s = setting (keyed self.now) nonce.now aad.now in
-            MatchResult result (λ _. Opened s (body.old ++ tag.now) body.new)
-            (λ e. OpenRefused s body.old tag.now e × (body.new ≡ body.old)) }
-        ensures found { let s = setting (keyed self.now) nonce.now aad.now in
-            (text : List ℕ) → Opened s (body.old ++ tag.now) text
-            → MatchResult result (λ _. body.new ≡ text) (λ _. ⊥) };
+        ensures answer { OpensInPlace (setting (keyed self.now) nonce.now aad.now) tag.now body.old body.new
+            result }
+        ensures found { OpensEachSealing (setting (keyed self.now) nonce.now aad.now) tag.now body.old body.new
+            result };
 }

@@ -3,10 +3,10 @@
 ghost use Rattle.std.specs.Prelude.{◌≡◌, ◌+◌, ◌≤◌, ◌++◌, ℕ, List, [], length};
 ghost use Rattle.octets.specs.Masked.{masked};
 ghost use Rattle.aead.specs.Sealing.{tag_over};
-ghost use Rattle.aead.specs.Code.States.{authenticated};
 ghost use Rattle.aead.specs.Code.Maskings.{Task, task_mask};
 ghost use Rattle.aead.specs.Code.AnyMaskings.{HoldsAnyMasking, count_of, limit_of};
 
+use crate::beside::MaskFirst;
 use crate::hashes::GhashTag;
 use crate::masking::Masking;
 use aes::CtrBe;
@@ -19,9 +19,9 @@ use poly1305::Poly;
 #[derive(Drop)]
 pub(crate) enum AnyMasking {
     // ChaCha20-Poly1305.
-    ByChaCha(Masking<ChaStream, Poly>),
+    ByChaCha(Masking<ChaStream, Poly, MaskFirst>),
     // AES-GCM.
-    ByGcm(Masking<CtrBe, GhashTag<PlacedMul>>),
+    ByGcm(Masking<CtrBe, GhashTag<PlacedMul>, MaskFirst>),
 }
 
 impl AnyMasking {
@@ -54,7 +54,7 @@ impl AnyMasking {
     pub(crate) fn finish(self) -> Tag
         ensures { (t : Task) (fed : List ℕ) → HoldsAnyMasking self t fed
             → result ≡ tag_over t.setting.suite t.setting.key t.setting.nonce t.setting.aad
-            (authenticated t.over_input t.setting t.tag fed) }
+            (masked (task_mask t) 0 fed) }
     {
         match self {
             AnyMasking::ByChaCha(masking) => masking.finish(),

@@ -1,11 +1,33 @@
-// A mask and a hash beside each other.
+// A mask and a hash beside each other, in two orders, which fix what of a piece is authenticated.
 
-ghost use Rattle.std.specs.Prelude.{◌≡◌, ◌+◌, ◌<◌, ◌^◌, length};
-ghost use Rattle.aead.specs.Code.Masks.{Masks, Takes};
+ghost use Rattle.std.specs.Prelude.{◌≡◌, ◌+◌, ◌<◌, ◌^◌, ℕ, List, [], length, refl};
+ghost use Rattle.aead.specs.Code.Masks.{Masks, Takes, MasksAndHashes, as_it_comes, as_it_leaves};
+ghost use Rattle.aead.specs.Code.Masks.{none_leaves};
 
 use crate::authenticator::Authenticator;
 use crate::hashes::TagHash;
 use crate::mask::MaskStream;
+
+// An order of mask and hash.
+pub(crate) trait Order: Drop {
+    // The bytes that are authenticated, by the mask and the bytes before it.
+    ghost hashed: { (ℕ → ℕ) → List ℕ → List ℕ };
+
+    // Masks a piece and authenticates it.
+    fn step<S: MaskStream, H: TagHash>(
+        &self,
+        mask: &mut S,
+        authenticator: &mut Authenticator<H>,
+        piece: &mut [u8],
+    )
+        requires { authenticator.old.length + length piece.old < 2 ^ 64 }
+        ensures step { MasksAndHashes S.made H.held hashed mask.old mask.new authenticator.old
+            authenticator.new piece.old piece.new }
+        ensures length { authenticator.new.length ≡ authenticator.old.length + length piece.old };
+
+    // Of no bytes nothing is authenticated.
+    ghost none: { (mask : ℕ → ℕ) → hashed mask [] ≡ [] };
+}
 
 // Masks a piece and takes it in as it leaves, each part while the next one is masked.
 #[inline(never)]
@@ -31,24 +53,29 @@ fn mask_then_take_by_parts<S: MaskStream, H: TagHash>(
     authenticator.update(&piece[taken..]);
 }
 
-// Masks a piece and takes it in as it leaves.
-#[inline(always)]
-pub(crate) fn mask_then_take<S: MaskStream, H: TagHash>(
-    mask: &mut S,
-    authenticator: &mut Authenticator<H>,
-    piece: &mut [u8],
-)
-    requires { authenticator.old.length + length piece.old < 2 ^ 64 }
-    ensures masks { Masks S.made mask.old mask.new piece.old piece.new }
-    ensures takes { Takes H.held authenticator.old authenticator.new piece.new }
-    ensures length { authenticator.new.length ≡ authenticator.old.length + length piece.old }
-{
-    if mask.part(piece.len()) == piece.len() {
-        mask.apply_to(piece);
-        authenticator.update(piece);
-    } else {
-        mask_then_take_by_parts(mask, authenticator, piece);
+// A piece is masked, and authenticated as it leaves.
+#[derive(Drop)]
+pub(crate) struct MaskFirst;
+
+impl Order for MaskFirst {
+    ghost hashed = { as_it_leaves };
+
+    #[inline(always)]
+    fn step<S: MaskStream, H: TagHash>(
+        &self,
+        mask: &mut S,
+        authenticator: &mut Authenticator<H>,
+        piece: &mut [u8],
+    ) {
+        if mask.part(piece.len()) == piece.len() {
+            mask.apply_to(piece);
+            authenticator.update(piece);
+        } else {
+            mask_then_take_by_parts(mask, authenticator, piece);
+        }
     }
+
+    ghost none = { none_leaves };
 }
 
 // Takes in a piece as it comes and masks it, each part while the next one is taken in.
@@ -75,22 +102,27 @@ fn take_then_mask_by_parts<S: MaskStream, H: TagHash>(
     mask.apply_to(&mut piece[done..]);
 }
 
-// Takes in a piece as it comes and masks it.
-#[inline(always)]
-pub(crate) fn take_then_mask<S: MaskStream, H: TagHash>(
-    mask: &mut S,
-    authenticator: &mut Authenticator<H>,
-    piece: &mut [u8],
-)
-    requires { authenticator.old.length + length piece.old < 2 ^ 64 }
-    ensures masks { Masks S.made mask.old mask.new piece.old piece.new }
-    ensures takes { Takes H.held authenticator.old authenticator.new piece.old }
-    ensures length { authenticator.new.length ≡ authenticator.old.length + length piece.old }
-{
-    if mask.part(piece.len()) == piece.len() {
-        authenticator.update(piece);
-        mask.apply_to(piece);
-    } else {
-        take_then_mask_by_parts(mask, authenticator, piece);
+// A piece is authenticated as it comes, and masked.
+#[derive(Drop)]
+pub(crate) struct HashFirst;
+
+impl Order for HashFirst {
+    ghost hashed = { as_it_comes };
+
+    #[inline(always)]
+    fn step<S: MaskStream, H: TagHash>(
+        &self,
+        mask: &mut S,
+        authenticator: &mut Authenticator<H>,
+        piece: &mut [u8],
+    ) {
+        if mask.part(piece.len()) == piece.len() {
+            authenticator.update(piece);
+            mask.apply_to(piece);
+        } else {
+            take_then_mask_by_parts(mask, authenticator, piece);
+        }
     }
+
+    ghost none = { λ _. refl };
 }

@@ -1,33 +1,20 @@
 // ChaCha20-Poly1305 (RFC 8439, 2.8).
 
-ghost use Rattle.std.specs.Prelude.{◌≡◌, ℕ, ◌%◌, ◌<◌, ◌≤◌, List, length, take, slice_index, MatchResult};
+ghost use Rattle.std.specs.Prelude.{◌≡◌, ℕ, ◌%◌, ◌<◌, ◌≤◌, length, take, slice_index, refl};
 ghost use Rattle.chacha.specs.Stream.{key_stream_byte};
-ghost use Rattle.aead.specs.Sealing.{poly_key, Opened};
-ghost use Rattle.aead.specs.Ciphers.{Keyed, setting};
-ghost use Rattle.aead.specs.Refusals.{SealRefused, OpenRefused};
+ghost use Rattle.aead.specs.Sealing.{poly_key};
+ghost use Rattle.aead.specs.Ciphers.{Keyed};
 ghost use Rattle.aead.specs.declared.suite.Suite.TheVariants.{ChaCha20Poly1305};
 
 use crate::aead::Aead;
 use crate::begun_stream::BegunStream;
-use crate::nonced::{Nonced, open_whole, seal_whole};
+use crate::mask_then_hash::{MaskThenHash, open_whole, seal_whole};
+use crate::nonced::Nonced;
 use crate::suite::Suite;
 use chacha::{ChaStream, block, four_blocks, two_blocks};
 use octets::{Fault, Key32, Nonce, Tag};
 use poly1305::Poly;
 use std::marker::Model;
-
-// A key whose suite is this one.
-trait ChaChaKey {
-    // The suite.
-    fn suite(&self) -> Suite
-        ensures { result ≡ ChaCha20Poly1305 };
-}
-
-impl ChaChaKey for Key32 {
-    fn suite(&self) -> Suite {
-        Suite::ChaCha20Poly1305
-    }
-}
 
 /// ChaCha20-Poly1305 under a key of 32 bytes (RFC 8439, 2.8). Opening in place authenticates before it
 /// changes a byte. Contracts see its suite and key. `AnyAead::new` makes it.
@@ -89,17 +76,21 @@ impl<'a> Nonced for NoncedChaCha<'a> {
     ghost nonce = { λ m. m.nonce.now };
 
     fn suite(&self) -> Suite {
-        self.key.suite()
-    }
-
-    fn mask(&self, _tag: &Tag) -> ChaStream {
-        ChaStream::new(self.key, self.nonce, 1)
+        Suite::ChaCha20Poly1305
     }
 
     // Under the first 32 bytes of the block with counter 0 (RFC 8439, 2.6).
     fn hash(&self) -> Poly {
         Poly::new(&first_half(&block(self.key, 0, self.nonce)))
     }
+}
+
+impl<'a> MaskThenHash for NoncedChaCha<'a> {
+    fn mask(&self) -> ChaStream {
+        ChaStream::new(self.key, self.nonce, 1)
+    }
+
+    ghost one_pass = { λ _. refl };
 }
 
 // A cipher with a nonce and the first blocks of its key stream from counter 0 on, for a whole text.
@@ -125,16 +116,20 @@ impl<'a> Nonced for BegunChaCha<'a> {
     ghost nonce = { λ m. m.nonce.now };
 
     fn suite(&self) -> Suite {
-        self.key.suite()
-    }
-
-    fn mask(&self, _tag: &Tag) -> BegunStream<'a> {
-        BegunStream::new(self.key, self.nonce, self.start)
+        Suite::ChaCha20Poly1305
     }
 
     fn hash(&self) -> Poly {
         Poly::new(&first_half(self.start))
     }
+}
+
+impl<'a> MaskThenHash for BegunChaCha<'a> {
+    fn mask(&self) -> BegunStream<'a> {
+        BegunStream::new(self.key, self.nonce, self.start)
+    }
+
+    ghost one_pass = { λ _. refl };
 }
 
 // How many bytes of text the block with counter 1 masks.
@@ -147,7 +142,9 @@ impl Aead for ChaChaPoly {
     ghost keyed = { λ c. c };
 
     fn suite(&self) -> Suite {
-        self.key.suite()
+        // The proof sees a cipher by its fields.
+        let _key = &self.key;
+        Suite::ChaCha20Poly1305
     }
 
     fn seal_in_place(&self, nonce: &Nonce, aad: &[u8], text: &mut [u8]) -> Result<Tag, Fault> {

@@ -1,15 +1,17 @@
 // AES-GCM (SP 800-38D).
 
-ghost use Rattle.std.specs.Prelude.{◌≡◌, ◌++◌, ◌∷◌, ℕ, List, [], length, MatchResult};
+ghost use Rattle.std.specs.Prelude.{◌≡◌, ◌++◌, ◌∷◌, [], length};
+ghost use Rattle.std.proofs.Common.{ap};
 ghost use Rattle.aes.specs.Cipher.{cipher, IsKey};
-ghost use Rattle.aead.specs.Suites.{construction_of, ByGcm};
-ghost use Rattle.aead.specs.Sealing.{hash_key, j0, Opened};
+ghost use Rattle.aead.specs.Suites.{construction_of, is_one_pass, ByGcm};
+ghost use Rattle.aead.specs.Sealing.{hash_key, j0};
 ghost use Rattle.aead.specs.Ciphers.{Keyed, setting};
-ghost use Rattle.aead.specs.Refusals.{SealRefused, OpenRefused};
+ghost use Rattle.aead.specs.InPlace.{SealsInPlace, OpensInPlace, OpensEachSealing};
 
 use crate::aead::Aead;
 use crate::hashes::GhashTag;
-use crate::nonced::{Nonced, open_whole, seal_whole};
+use crate::mask_then_hash::{MaskThenHash, open_whole, seal_whole};
+use crate::nonced::Nonced;
 use crate::suite::Suite;
 use aes::{AesKey, CtrBe};
 use gf128::{Ghash, Keyed128, Multiply, PlacedMul, TableMul, WideMul};
@@ -95,9 +97,7 @@ impl Gcm {
     // Seals by a multiplier of the type `M`.
     #[inline(never)]
     fn seal_by<M: Keyed128>(&self, nonce: &Nonce, aad: &[u8], text: &mut [u8]) -> Result<Tag, Fault>
-        ensures { let s = setting self.now nonce.now aad.now in
-            MatchResult result (λ tag. Opened s (text.new ++ tag) text.old)
-            (λ e. SealRefused s text.old e × (text.new ≡ text.old)) }
+        ensures { SealsInPlace (setting self.now nonce.now aad.now) text.old text.new result }
     {
         let made = self.multiplier_of::<M>();
         seal_whole(&self.nonced(nonce, &made), aad, text)
@@ -112,12 +112,9 @@ impl Gcm {
         body: &mut [u8],
         tag: &Tag,
     ) -> Result<(), Fault>
-        ensures answer { let s = setting self.now nonce.now aad.now in
-            MatchResult result (λ _. Opened s (body.old ++ tag.now) body.new)
-            (λ e. OpenRefused s body.old tag.now e × (body.new ≡ body.old)) }
-        ensures found { let s = setting self.now nonce.now aad.now in
-            (text : List ℕ) → Opened s (body.old ++ tag.now) text
-            → MatchResult result (λ _. body.new ≡ text) (λ _. ⊥) }
+        ensures answer { OpensInPlace (setting self.now nonce.now aad.now) tag.now body.old body.new result }
+        ensures found { OpensEachSealing (setting self.now nonce.now aad.now) tag.now body.old body.new
+            result }
     {
         let made = self.multiplier_of::<M>();
         open_whole(&self.nonced(nonce, &made), aad, body, tag)
@@ -159,16 +156,20 @@ impl<'a, M: Multiply + Copy> Nonced for NoncedGcm<'a, M> {
         self.suite
     }
 
-    fn mask(&self, _tag: &Tag) -> CtrBe {
-        CtrBe::new(self.key, &counter_block(self.nonce, 2))
-    }
-
     fn hash(&self) -> GhashTag<M> {
         GhashTag {
             hash: Ghash::with(self.multiplier),
             mask: self.key.encrypt(&counter_block(self.nonce, 1)),
         }
     }
+}
+
+impl<'a, M: Multiply + Copy> MaskThenHash for NoncedGcm<'a, M> {
+    fn mask(&self) -> CtrBe {
+        CtrBe::new(self.key, &counter_block(self.nonce, 2))
+    }
+
+    ghost one_pass = { λ n. ap is_one_pass n.by_gcm };
 }
 
 impl Aead for Gcm {

@@ -1,19 +1,20 @@
 // AES-GCM-SIV (RFC 8452).
 
-ghost use Rattle.std.specs.Prelude.{◌≡◌, ◌<◌, ◌≤◌, ◌++◌, ℕ, List, length, MatchResult};
+ghost use Rattle.std.specs.Prelude.{◌≡◌, length};
 ghost use Rattle.octets.specs.Bytes.{IsBlock};
 ghost use Rattle.gf128.specs.Polyval.{IsReversedMulX};
 ghost use Rattle.gf128.specs.States.{key_of};
 ghost use Rattle.aead.specs.Suites.{construction_of, key_length, ByGcmSiv};
-ghost use Rattle.aead.specs.Sealing.{Setting, authentication_key, encryption_key, counter_block, Opened};
+ghost use Rattle.aead.specs.Sealing.{Setting, authentication_key, encryption_key, counter_block};
 ghost use Rattle.aead.specs.Ciphers.{Keyed, setting};
-ghost use Rattle.aead.specs.Refusals.{SealRefused, OpenRefused};
+ghost use Rattle.aead.specs.InPlace.{SealsInPlace, OpensInPlace, OpensEachSealing};
 ghost use Rattle.aead.specs.Code.States.{MadeByGcmSiv};
 
 use crate::aead::Aead;
 use crate::derived_keys::DerivedKeys;
+use crate::hash_then_mask::{HashThenMask, open_whole, seal_whole};
 use crate::hashes::{KeptKey, PolyvalTag};
-use crate::nonced::{Nonced, open_whole, seal_whole};
+use crate::nonced::Nonced;
 use crate::suite::Suite;
 use aes::{AesKey, CtrLe};
 use gf128::{Keyed128, Multiply, PlacedMul, Polyval, TableMul, WideMul};
@@ -89,9 +90,7 @@ impl GcmSiv {
     // Seals by a multiplier of the type `M`.
     #[inline(never)]
     fn seal_by<M: Keyed128>(&self, nonce: &Nonce, aad: &[u8], text: &mut [u8]) -> Result<Tag, Fault>
-        ensures { let s = setting self.now nonce.now aad.now in
-            MatchResult result (λ tag. Opened s (text.new ++ tag) text.old)
-            (λ e. SealRefused s text.old e × (text.new ≡ text.old)) }
+        ensures { SealsInPlace (setting self.now nonce.now aad.now) text.old text.new result }
     {
         let keys = self.derive(nonce);
         let multiplier = M::of(&keys.hash_key);
@@ -111,12 +110,9 @@ impl GcmSiv {
         body: &mut [u8],
         tag: &Tag,
     ) -> Result<(), Fault>
-        ensures answer { let s = setting self.now nonce.now aad.now in
-            MatchResult result (λ _. Opened s (body.old ++ tag.now) body.new)
-            (λ e. OpenRefused s body.old tag.now e × (body.new ≡ body.old)) }
-        ensures found { let s = setting self.now nonce.now aad.now in
-            (text : List ℕ) → Opened s (body.old ++ tag.now) text
-            → MatchResult result (λ _. body.new ≡ text) (λ _. ⊥) }
+        ensures answer { OpensInPlace (setting self.now nonce.now aad.now) tag.now body.old body.new result }
+        ensures found { OpensEachSealing (setting self.now nonce.now aad.now) tag.now body.old body.new
+            result }
     {
         let keys = self.derive(nonce);
         let multiplier = M::of(&keys.hash_key);
@@ -175,10 +171,6 @@ impl<'a, M: Multiply + Copy, K: KeptKey + Copy> Nonced for NoncedGcmSiv<'a, M, K
         self.suite
     }
 
-    fn mask(&self, tag: &Tag) -> CtrLe {
-        tag_mask(self.encryption.kept(), tag)
-    }
-
     fn hash(&self) -> PolyvalTag<M, K> {
         PolyvalTag {
             hash: Polyval::with(self.multiplier),
@@ -186,6 +178,14 @@ impl<'a, M: Multiply + Copy, K: KeptKey + Copy> Nonced for NoncedGcmSiv<'a, M, K
             nonce: *self.nonce,
         }
     }
+}
+
+impl<'a, M: Multiply + Copy, K: KeptKey + Copy> HashThenMask for NoncedGcmSiv<'a, M, K> {
+    fn mask(&self, tag: &Tag) -> CtrLe {
+        tag_mask(self.encryption.kept(), tag)
+    }
+
+    ghost by_gcm_siv = { λ n. n.by_gcm_siv };
 }
 
 impl Aead for GcmSiv {

@@ -7,13 +7,13 @@ ghost use Rattle.aead.specs.Sealing.{Setting, mask_of, tag_of};
 ghost use Rattle.aead.specs.Ciphers.{setting};
 ghost use Rattle.aead.specs.AnyCiphers.{one_pass_keyed};
 ghost use Rattle.aead.specs.Refusals.{SealRefused};
-ghost use Rattle.aead.specs.Code.Maskings.{sealing_task};
+ghost use Rattle.aead.specs.Code.Maskings.{message_task};
 ghost use Rattle.aead.specs.Code.AnyMaskings.{HoldsAnyMasking};
 
 use crate::aead::Aead;
 use crate::any::AnyOnePass;
 use crate::any_masking::AnyMasking;
-use crate::nonced::masking;
+use crate::mask_then_hash::sealing;
 use gf128::PlacedMul;
 use octets::{Fault, Nonce, Tag};
 
@@ -23,21 +23,18 @@ pub struct Sealer {
     pub(crate) masking: AnyMasking,
 }
 
-// The state that masks pieces and authenticates them as they leave; its mask looks at no tag.
-fn sealing(cipher: &AnyOnePass, nonce: &Nonce, aad: &[u8]) -> AnyMasking
+// The state that masks pieces and authenticates them as they leave.
+fn any_sealing(cipher: &AnyOnePass, nonce: &Nonce, aad: &[u8]) -> AnyMasking
     requires { length aad.now ≤ aad_limit (one_pass_keyed cipher.now).suite }
     ensures one_pass { is_one_pass (construction_of (one_pass_keyed cipher.now).suite) ≡ true }
     ensures holds { let s = setting (one_pass_keyed cipher.now) nonce.now aad.now in
-        (tag : List ℕ) → HoldsAnyMasking result (sealing_task s tag) [] }
+        (tag : List ℕ) → HoldsAnyMasking result (message_task s tag) [] }
 {
-    let tag = Tag::new([0; 16]);
     match cipher {
-        AnyOnePass::ChaCha(cipher) => {
-            AnyMasking::ByChaCha(masking(&cipher.nonced(nonce), aad, &tag, false))
-        }
+        AnyOnePass::ChaCha(cipher) => AnyMasking::ByChaCha(sealing(&cipher.nonced(nonce), aad)),
         AnyOnePass::Gcm(cipher) => {
             let nonced = cipher.nonced(nonce, cipher.multiplier_of::<PlacedMul>());
-            AnyMasking::ByGcm(masking(&nonced, aad, &tag, false))
+            AnyMasking::ByGcm(sealing(&nonced, aad))
         }
     }
 }
@@ -53,7 +50,7 @@ impl Sealer {
     {
         cipher.suite().check_aad(aad)?;
         Ok(Sealer {
-            masking: sealing(cipher, nonce, aad),
+            masking: any_sealing(cipher, nonce, aad),
         })
     }
 

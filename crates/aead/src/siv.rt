@@ -8,6 +8,7 @@ ghost use Rattle.aead.specs.Refusals.{SealRefused};
 
 use crate::aead::Aead;
 use crate::authenticator::Authenticator;
+use crate::beside::HashFirst;
 use crate::gcm_siv::{GcmSiv, tag_mask};
 use crate::hashes::PolyvalTag;
 use crate::masking::Masking;
@@ -93,7 +94,7 @@ impl SivAbsorb {
         let length = self.authenticator.length;
         let tag = self.authenticator.finish();
         let mask = tag_mask(&self.encryption, &tag);
-        let masking = Masking::new(mask, self.again, true, length);
+        let masking = Masking::new(mask, self.again, HashFirst, length);
         (tag, SivWriter { masking, tag })
     }
 }
@@ -101,7 +102,7 @@ impl SivAbsorb {
 /// The second reading of a text that is sealed by AES-GCM-SIV.
 #[derive(Drop)]
 pub struct SivWriter {
-    masking: Masking<CtrLe, PolyvalTag<PlacedMul, AesKey>>,
+    masking: Masking<CtrLe, PolyvalTag<PlacedMul, AesKey>, HashFirst>,
     tag: Tag,
 }
 

@@ -2,8 +2,7 @@
 
 ghost use Rattle.std.specs.Prelude.{◌≡◌, ◌↔◌, ◌<◌, ◌≤◌, ℕ, get_or, length, MatchResult};
 ghost use Rattle.aead.specs.declared.suite.Suite.{Suite};
-ghost use Rattle.aead.specs.Suites.{suite_name, key_length, text_limit, aad_limit, construction_of};
-ghost use Rattle.aead.specs.Suites.{is_one_pass};
+ghost use Rattle.aead.specs.Suites.{suite_name, key_length, text_limit, aad_limit};
 
 use octets::Fault;
 
@@ -69,17 +68,6 @@ impl Suite {
             Suite::Aes128Gcm | Suite::Aes128GcmSiv => 16,
             Suite::Aes192Gcm => 24,
             Suite::ChaCha20Poly1305 | Suite::Aes256Gcm | Suite::Aes256GcmSiv => 32,
-        }
-    }
-
-    // Whether the tag is over the ciphertext.
-    pub(crate) fn is_one_pass(self) -> bool
-        ensures { result ≡ is_one_pass (construction_of self) }
-    {
-        match self {
-            Suite::ChaCha20Poly1305 | Suite::Aes128Gcm | Suite::Aes192Gcm | Suite::Aes256Gcm =>
-                true,
-            Suite::Aes128GcmSiv | Suite::Aes256GcmSiv => false,
         }
     }
 

@@ -8,7 +8,8 @@ use Rattle.octets.specs.Masked.{masked}
 use Rattle.aead.specs.declared.engine.passes.Finding.{Finding}
 use Rattle.aead.specs.declared.engine.passes.Finding.TheVariants.{Differs, Unsealed, Sealed}
 use Rattle.aead.specs.Sealing.{Setting, Fits, Opened, IsNoSealing, mask_of, tag_of}
-use Rattle.aead.specs.Code.Maskings.{Task, task_mask, opening_task}
+use Rattle.aead.specs.Sealing.{tag_over}
+use Rattle.aead.specs.Code.Maskings.{Task, task_mask, message_task}
 use Rattle.aead.specs.Code.Passes.{Stopped, WentFar}
 
 -- x has this length and ends in this tag, and is a sealing or none; or it has another length or ends
@@ -32,17 +33,23 @@ abbrev pub PassedWhole : Setting → List ℕ → ℕ → Option (List ℕ) → 
     → Option (List ℕ) → Result Finding Fault → Type 0
 PassedWhole s tag len left left' taken taken' r =
     MatchResult r (λ f. WentWhole s tag len left left' taken taken' f)
-    (λ _. Stopped (opening_task s tag) [] (len - 16) left left' taken taken')
+    (λ _. Stopped (message_task s tag) [] (len - 16) left left' taken taken')
 
 -- what a body of an allowed length would open to has this tag
 abbrev pub MakesTag : List ℕ → Task → List ℕ → Type 0
 MakesTag made t body = Fits t.setting body × (made ≡ tag_of t.setting (masked (task_mask t) 0 body))
 
+-- the tag over the authenticated bytes of a body is that of what it would open to
+abbrev pub MakesTextTag : ((ℕ → ℕ) → List ℕ → List ℕ) → Setting → List ℕ → Type 0
+MakesTextTag hashed s tag =
+    (body : List ℕ) → tag_over s.suite s.key s.nonce s.aad (hashed (mask_of s tag) body)
+    ≡ tag_of s (masked (mask_of s tag) 0 body)
+
 -- as far as its body, so many bytes of a reading were taken, which make this tag
 abbrev pub TookBody : Setting → List ℕ → ℕ → Option (List ℕ) → Option (List ℕ) → Option (List ℕ)
     → Option (List ℕ) → ℕ → List ℕ → Type 0
 TookBody s tag len left left' taken taken' n made =
-    WentFar MakesTag (opening_task s tag) [] (len - 16) left left' taken taken' made n
+    WentFar MakesTag (message_task s tag) [] (len - 16) left left' taken taken' made n
 
 -- what came was this tag and nothing more, or not
 pub record Tail (tag : List ℕ) (left left' : Option (List ℕ)) (b : Bool) : Type 0 where

@@ -1,6 +1,6 @@
 -- What masks do to the bytes that come next.
-use Rattle.std.specs.Prelude.{◌≡◌, ℕ, ◌+◌, ◌-◌, ◌^◌, ◌≤◌, List, ◌++◌, length}
-use Rattle.std.proofs.Common.{◌∙◌, sym, ap, arith}
+use Rattle.std.specs.Prelude.{◌≡◌, ℕ, ◌+◌, ◌-◌, ◌^◌, ◌≤◌, List, [], ◌++◌, length}
+use Rattle.std.proofs.Common.{◌∙◌, refl, sym, ap, arith}
 use Rattle.octets.specs.Masked.{masked}
 use Rattle.chacha.specs.declared.stream.ChaStream.{ChaStream}
 use Rattle.chacha.specs.States as chacha
@@ -27,6 +27,29 @@ abbrev pub Takes : {H : Type 0} (held : H → Setting → List ℕ → Type 0) (
 Takes held a b bytes =
     (s : Setting) (m : List ℕ) → HoldsAuthenticator held a s m → length m + length bytes ≤ text_limit s.suite
     → HoldsAuthenticator held b s (m ++ bytes)
+
+-- the bytes that are authenticated where pieces are hashed first: they as they come
+abbrev pub as_it_comes : (ℕ → ℕ) → List ℕ → List ℕ
+as_it_comes mask bytes = bytes
+
+-- and where they are masked first: they as they leave
+abbrev pub as_it_leaves : (ℕ → ℕ) → List ℕ → List ℕ
+as_it_leaves mask bytes = masked mask 0 bytes
+
+pub none_leaves : (mask : ℕ → ℕ) → as_it_leaves mask [] ≡ []
+unfolding masked
+none_leaves mask = refl
+
+-- m and a become m' and a': the next piece is masked and authenticated, within the limit of a text
+abbrev pub MasksAndHashes : {S H : Type 0} (made : S → Setting → List ℕ → ℕ → Type 0)
+    (held : H → Setting → List ℕ → Type 0)
+    (hashed : (ℕ → ℕ) → List ℕ → List ℕ) (m m' : S) (a a' : Authenticator H) (was now : List ℕ) → Type 0
+MasksAndHashes made held hashed m m' a a' was now =
+    (s : Setting) (tag fed : List ℕ) → made m s tag (length fed)
+    → HoldsAuthenticator held a s (hashed (mask_of s tag) fed)
+    → length fed + length was ≤ text_limit s.suite
+    → made m' s tag (length (fed ++ was)) × HoldsAuthenticator held a' s (hashed (mask_of s tag) (fed ++ was))
+    × (now ≡ masked (mask_of s tag) (length fed) was)
 
 -- the mask of each construction
 pub chacha_mask : (s : Setting) (tag : List ℕ) → construction_of s.suite ≡ ByChaCha

@@ -1,7 +1,6 @@
 -- What the parts of a message's state hold.
-use Rattle.std.specs.Prelude.{◌≡◌, ℕ, Bool, List, ◌++◌, length, if◌then◌else◌}
+use Rattle.std.specs.Prelude.{◌≡◌, ℕ, List, ◌++◌, length}
 use Rattle.octets.specs.Bytes.{pad16}
-use Rattle.octets.specs.Masked.{masked}
 use Rattle.chacha.specs.declared.stream.ChaStream.{ChaStream}
 use Rattle.chacha.specs.States as chacha
 use Rattle.poly1305.specs.declared.poly.PolyBy.{PolyBy}
@@ -17,7 +16,7 @@ use Rattle.aead.specs.declared.hashes.GhashTag.{GhashTag}
 use Rattle.aead.specs.declared.hashes.PolyvalTag.{PolyvalTag}
 use Rattle.aead.specs.declared.authenticator.Authenticator.{Authenticator}
 use Rattle.aead.specs.Suites.{ByChaCha, ByGcm, ByGcmSiv, construction_of}
-use Rattle.aead.specs.Sealing.{Setting, Fits, mask_of, poly_key, hash_key, j0, authentication_key}
+use Rattle.aead.specs.Sealing.{Setting, Fits, poly_key, hash_key, j0, authentication_key}
 use Rattle.aead.specs.Sealing.{encryption_key, counter_block}
 
 -- ---- m has made n bytes of the mask of a message under this tag
@@ -68,7 +67,3 @@ pub record HoldsAuthenticator {H : Type 0} (held : H → Setting → List ℕ �
   pub aad_length_is : a.aad_length ≡ length s.aad
   pub length_is : a.length ≡ length bytes
   pub fits : Fits s bytes
-
--- what is authenticated of pieces that are masked: them as they come, or as they leave
-abbrev pub authenticated : Bool → Setting → List ℕ → List ℕ → List ℕ
-authenticated over_input s tag fed = if over_input then fed else masked (mask_of s tag) 0 fed

@@ -1,36 +1,26 @@
 // A whole reading, opened as it goes.
 
-ghost use Rattle.std.specs.Prelude.{◌≡◌, ◌+◌, ◌≤◌, [], length};
-ghost use Rattle.aead.specs.Suites.{construction_of, text_limit, aad_limit};
+ghost use Rattle.std.specs.Prelude.{◌+◌, ◌≤◌, length};
+ghost use Rattle.aead.specs.Suites.{text_limit, aad_limit};
 ghost use Rattle.aead.specs.Ciphers.{setting};
 ghost use Rattle.aead.specs.AnyCiphers.{keyed_of};
-ghost use Rattle.aead.specs.Code.Maskings.{HoldsMasking, opening_task};
 ghost use Rattle.aead.specs.Code.Passes.{Blames};
 ghost use Rattle.aead.specs.Code.Findings.{PassedWhole};
 
 use crate::any::{AnyAead, AnyOnePass};
+use crate::beside::{HashFirst, MaskFirst};
 use crate::engine::measure::Measured;
 use crate::engine::passes::{Finding, pass};
 use crate::gcm::{Gcm, LONG};
 use crate::gcm_siv::GcmSiv;
-use crate::masking::Masking;
-use crate::nonced::{Nonced, masking};
+use crate::hash_then_mask::HashThenMask;
+use crate::mask_then_hash::MaskThenHash;
+use crate::nonced::masking;
 use gf128::{Keyed128, PlacedMul, WideMul};
-use octets::{Fault, Intake, Nonce, Outlet, Tag};
+use octets::{Fault, Intake, Nonce, Outlet};
 
-// A state that decrypts under a tag, and makes the tag of what it decrypted.
-fn opening_over<N: Nonced>(nonced: &N, aad: &[u8], tag: &Tag) -> Masking<N::Stream, N::Hash>
-    requires { length aad.now ≤ aad_limit (N.keyed nonced.now).suite }
-    ensures holds { HoldsMasking N.Stream.made N.Hash.held result
-        (opening_task (setting (N.keyed nonced.now) (N.nonce nonced.now) aad.now) tag.now) [] }
-    ensures none { result.authenticator.length ≡ 0 }
-    ensures limit { result.limit ≡ text_limit (N.keyed nonced.now).suite }
-{
-    masking(nonced, aad, tag, nonced.suite().is_one_pass())
-}
-
-// A whole reading, by a cipher with a nonce.
-fn pass_over<N: Nonced, I: Intake, O: Outlet>(
+// Opens a whole reading by a cipher with a nonce whose tag is over the ciphertext.
+fn pass_hash_first<N: MaskThenHash, I: Intake, O: Outlet>(
     nonced: &N,
     aad: &[u8],
     intake: &mut I,
@@ -45,7 +35,27 @@ fn pass_over<N: Nonced, I: Intake, O: Outlet>(
     ensures blame { Blames (I.failures intake.old) (I.failures intake.new) (O.failures outlet.old)
         (O.failures outlet.new) result }
 {
-    let opening = opening_over(nonced, aad, &measured.tag);
+    let opening = masking(nonced, nonced.mask(), aad, HashFirst);
+    pass(intake, opening, measured, outlet)
+}
+
+// Opens a whole reading by a cipher with a nonce whose tag is over the text.
+fn pass_mask_first<N: HashThenMask, I: Intake, O: Outlet>(
+    nonced: &N,
+    aad: &[u8],
+    intake: &mut I,
+    measured: &Measured,
+    outlet: &mut O,
+) -> Result<Finding, Fault>
+    requires aad_fits { length aad.now ≤ aad_limit (N.keyed nonced.now).suite }
+    requires high { measured.now.length ≤ text_limit (N.keyed nonced.now).suite + 16 }
+    ensures passed { PassedWhole (setting (N.keyed nonced.now) (N.nonce nonced.now) aad.now)
+        measured.now.tag measured.now.length (I.left intake.old) (I.left intake.new)
+        (O.taken outlet.old) (O.taken outlet.new) result }
+    ensures blame { Blames (I.failures intake.old) (I.failures intake.new) (O.failures outlet.old)
+        (O.failures outlet.new) result }
+{
+    let opening = masking(nonced, nonced.mask(&measured.tag), aad, MaskFirst);
     pass(intake, opening, measured, outlet)
 }
 
@@ -67,7 +77,7 @@ fn pass_gcm<M: Keyed128, I: Intake, O: Outlet>(
         (O.failures outlet.new) result }
 {
     let made = cipher.multiplier_of::<M>();
-    pass_over(&cipher.nonced(nonce, &made), aad, intake, measured, outlet)
+    pass_hash_first(&cipher.nonced(nonce, &made), aad, intake, measured, outlet)
 }
 
 // Opens a whole reading by AES-GCM-SIV.
@@ -90,7 +100,7 @@ fn pass_siv<M: Keyed128, I: Intake, O: Outlet>(
     let keys = cipher.derive(nonce);
     let made = M::of(&keys.hash_key);
     let nonced = cipher.nonced(nonce, &keys.encryption, &made);
-    pass_over(&nonced, aad, intake, measured, outlet)
+    pass_mask_first(&nonced, aad, intake, measured, outlet)
 }
 
 // Opens a whole reading by a cipher of any suite.
@@ -113,7 +123,7 @@ pub(crate) fn pass_opening<I: Intake, O: Outlet>(
     let is_long = measured.length >= LONG as u64;
     match cipher {
         AnyAead::OnePass(AnyOnePass::ChaCha(cipher)) => {
-            pass_over(&cipher.nonced(nonce), aad, intake, measured, outlet)
+            pass_hash_first(&cipher.nonced(nonce), aad, intake, measured, outlet)
         }
         AnyAead::OnePass(AnyOnePass::Gcm(cipher)) => {
             if is_long {

@@ -3,9 +3,10 @@
 ghost use Rattle.std.specs.Prelude.{◌≡◌, ℕ, ◌+◌, ◌≤◌, List, [], length, Option, IfOk};
 ghost use Rattle.aead.specs.Suites.{text_limit};
 ghost use Rattle.aead.specs.Sealing.{Setting};
-ghost use Rattle.aead.specs.Code.Maskings.{Task, HoldsMasking, opening_task};
+ghost use Rattle.aead.specs.Code.Maskings.{Task, HoldsMasking, message_task};
 ghost use Rattle.aead.specs.Code.Passes.{Passed, Blames, BlamesReading};
 
+use crate::beside::Order;
 use crate::engine::measure::Measured;
 use crate::hashes::TagHash;
 use crate::mask::MaskStream;
@@ -23,20 +24,20 @@ pub(crate) enum Finding {
     Sealed,
 }
 
-ghost use Rattle.aead.specs.Code.Findings.{PassedWhole, TookBody, Ends};
+ghost use Rattle.aead.specs.Code.Findings.{PassedWhole, TookBody, MakesTextTag, Ends};
 ghost use Rattle.aead.specs.Code.Extents.{PassedAll, HasMore};
 
 // One piece: at most what the buffer holds.
-fn pass_piece<I: Intake, O: Outlet, S: MaskStream, H: TagHash>(
+fn pass_piece<I: Intake, O: Outlet, S: MaskStream, H: TagHash, R: Order>(
     intake: &mut I,
-    masking: &mut Masking<S, H>,
+    masking: &mut Masking<S, H, R>,
     buf: &mut [u8],
     outlet: &mut O,
 ) -> Result<usize, Fault>
     requires { masking.old.authenticator.length + length buf.old ≤ masking.old.limit }
     ensures bound { IfOk result (λ n. n ≤ length buf.old) }
-    ensures passed { (t : Task) (fed : List ℕ) → HoldsMasking S.made H.held masking.old t fed →
-        Passed (HoldsMasking S.made H.held) t fed (length buf.old)
+    ensures passed { (t : Task) (fed : List ℕ) → HoldsMasking S.made H.held R.hashed masking.old t fed →
+        Passed (HoldsMasking S.made H.held R.hashed) t fed (length buf.old)
         (I.left intake.old) (I.left intake.new) (O.taken outlet.old) (O.taken outlet.new) masking.new result }
     ensures blame { Blames (I.failures intake.old) (I.failures intake.new) (O.failures outlet.old)
         (O.failures outlet.new) result }
@@ -57,15 +58,15 @@ fn pass_piece<I: Intake, O: Outlet, S: MaskStream, H: TagHash>(
 }
 
 // At most `length` bytes.
-pub(crate) fn pass_body<I: Intake, O: Outlet, S: MaskStream, H: TagHash>(
+pub(crate) fn pass_body<I: Intake, O: Outlet, S: MaskStream, H: TagHash, R: Order>(
     intake: &mut I,
-    masking: &mut Masking<S, H>,
+    masking: &mut Masking<S, H, R>,
     length: u64,
     outlet: &mut O,
 ) -> Result<u64, Fault>
     requires { masking.old.authenticator.length + length ≤ masking.old.limit }
-    ensures passed { (t : Task) → HoldsMasking S.made H.held masking.old t [] →
-        Passed (HoldsMasking S.made H.held) t [] length
+    ensures passed { (t : Task) → HoldsMasking S.made H.held R.hashed masking.old t [] →
+        Passed (HoldsMasking S.made H.held R.hashed) t [] length
         (I.left intake.old) (I.left intake.new) (O.taken outlet.old) (O.taken outlet.new) masking.new result }
     ensures blame { Blames (I.failures intake.old) (I.failures intake.new) (O.failures outlet.old)
         (O.failures outlet.new) result }
@@ -125,14 +126,16 @@ pub(crate) fn finding_of<I: Intake>(
 }
 
 // A whole reading: the body of the measured length, the measured tag, the end.
-pub(crate) fn pass<I: Intake, O: Outlet, S: MaskStream, H: TagHash>(
+pub(crate) fn pass<I: Intake, O: Outlet, S: MaskStream, H: TagHash, R: Order>(
     intake: &mut I,
-    mut opening: Masking<S, H>,
+    mut opening: Masking<S, H, R>,
     measured: &Measured,
     outlet: &mut O,
 ) -> Result<Finding, Fault>
     requires { opening.authenticator.length + measured.now.length ≤ opening.limit + 16 }
-    ensures passed { (s : Setting) → HoldsMasking S.made H.held opening (opening_task s measured.now.tag) [] →
+    ensures passed { (s : Setting)
+        → HoldsMasking S.made H.held R.hashed opening (message_task s measured.now.tag) []
+        → MakesTextTag R.hashed s measured.now.tag →
         PassedWhole s measured.now.tag measured.now.length (I.left intake.old) (I.left intake.new)
         (O.taken outlet.old) (O.taken outlet.new) result }
     ensures blame { Blames (I.failures intake.old) (I.failures intake.new) (O.failures outlet.old)
@@ -157,15 +160,15 @@ pub(crate) fn has_more<I: Intake>(intake: &mut I) -> Result<bool, Fault>
 }
 
 // A reading to its end, and how many bytes it has; of more than `length` the first ones, and `None`.
-pub(crate) fn pass_all<I: Intake, O: Outlet, S: MaskStream, H: TagHash>(
+pub(crate) fn pass_all<I: Intake, O: Outlet, S: MaskStream, H: TagHash, R: Order>(
     intake: &mut I,
-    masking: &mut Masking<S, H>,
+    masking: &mut Masking<S, H, R>,
     length: u64,
     outlet: &mut O,
 ) -> Result<Option<u64>, Fault>
     requires { masking.old.authenticator.length + length ≤ masking.old.limit }
-    ensures passed { (t : Task) → HoldsMasking S.made H.held masking.old t [] →
-        PassedAll (HoldsMasking S.made H.held) t length
+    ensures passed { (t : Task) → HoldsMasking S.made H.held R.hashed masking.old t [] →
+        PassedAll (HoldsMasking S.made H.held R.hashed) t length
         (I.left intake.old) (I.left intake.new) (O.taken outlet.old) (O.taken outlet.new) masking.new result }
     ensures blame { Blames (I.failures intake.old) (I.failures intake.new) (O.failures outlet.old)
         (O.failures outlet.new) result }

@@ -1,7 +1,7 @@
 // The engine that seals in one reading.
 
-ghost use Rattle.std.specs.Prelude.{◌≡◌, ◌↔◌, ◌<◌, ◌≤◌, ◌∷◌, [], true, length};
-ghost use Rattle.aead.specs.Suites.{construction_of, is_one_pass, aad_limit};
+ghost use Rattle.std.specs.Prelude.{◌≡◌, ◌↔◌, ◌<◌, ◌≤◌, ◌∷◌, [], length};
+ghost use Rattle.aead.specs.Suites.{aad_limit};
 ghost use Rattle.aead.specs.Ciphers.{setting};
 ghost use Rattle.aead.specs.AnyCiphers.{one_pass_keyed};
 ghost use Rattle.aead.specs.SealStream.{GiveBlames, SealsStream, WhereTextTold};
@@ -9,26 +9,25 @@ ghost use Rattle.aead.specs.SealStream.{GiveBlames, SealsStream, WhereTextTold};
 use crate::aead::Aead;
 use crate::any::AnyOnePass;
 use crate::engine::passes::pass_all;
-use crate::nonced::{Nonced, masking};
+use crate::mask_then_hash::{MaskThenHash, sealing};
 use gf128::WideMul;
-use octets::{Fault, Intake, Nonce, Outlet, Tag, give_all};
+use octets::{Fault, Intake, Nonce, Outlet, give_all};
 
-// Seals a stream by a cipher with a nonce, whose mask looks at no tag.
-fn seal_over<N: Nonced, I: Intake, O: Outlet>(
+// Seals a stream by a cipher with a nonce.
+fn seal_over<N: MaskThenHash, I: Intake, O: Outlet>(
     nonced: &N,
     aad: &[u8],
     text: &mut I,
     out: &mut O,
 ) -> Result<(), Fault>
-    requires one_pass { is_one_pass (construction_of (N.keyed nonced.now).suite) ≡ true }
-    requires aad_fits { length aad.now ≤ aad_limit (N.keyed nonced.now).suite }
+    requires { length aad.now ≤ aad_limit (N.keyed nonced.now).suite }
     ensures blame { GiveBlames (Fault.TextTooLong ∷ []) (I.failures text.old) (I.failures text.new)
         (O.failures out.old) (O.failures out.new) result }
     ensures seals { WhereTextTold (I.left text.old) (O.taken out.old) (O.taken out.new)
         (λ x given. SealsStream (setting (N.keyed nonced.now) (N.nonce nonced.now) aad.now) x given
         (I.failures text.old) (I.failures text.new) (O.failures out.old) (O.failures out.new) result) }
 {
-    let mut sealing = masking(nonced, aad, &Tag::new([0; 16]), false);
+    let mut sealing = sealing(nonced, aad);
     let limit = sealing.limit;
     match pass_all(text, &mut sealing, limit, out) {
         Ok(Some(_)) => match give_all(out, sealing.finish().bytes()) {

@@ -5,6 +5,7 @@ ghost use Rattle.aead.specs.Suites.{ByGcmSiv, construction_of, text_limit, aad_l
 ghost use Rattle.aead.specs.Sealing.{Setting, tag_of};
 ghost use Rattle.aead.specs.Ciphers.{setting};
 ghost use Rattle.aead.specs.Code.States.{HoldsAuthenticator};
+ghost use Rattle.aead.specs.Code.Masks.{as_it_comes};
 ghost use Rattle.aead.specs.Code.Maskings.{HoldsMasking, repeating_task};
 ghost use Rattle.aead.specs.Code.Absorbed.{TakenIn};
 ghost use Rattle.aead.specs.Code.Passes.{BlamesReading};
@@ -13,13 +14,15 @@ ghost use Rattle.aead.specs.SealSivStream.{WritesAgain, SealsSivStream, SivBlame
 
 use crate::aead::Aead;
 use crate::authenticator::Authenticator;
+use crate::beside::HashFirst;
 use crate::engine::passes::{has_more, pass_all};
 use crate::engine::verifying::absorb_body;
 use crate::gcm_siv::GcmSiv;
+use crate::hash_then_mask::HashThenMask;
 use crate::hashes::TagHash;
 use crate::mask::MaskStream;
 use crate::masking::Masking;
-use crate::nonced::{Nonced, authenticator};
+use crate::nonced::authenticator;
 use crate::second_reading::repeats;
 use gf128::{Keyed128, WideMul};
 use octets::{Fault, Intake, Nonce, Outlet, Tag, give_all};
@@ -52,13 +55,13 @@ fn absorb_all<I: Intake, H: TagHash>(
 // Encrypts and gives a second reading, and then the tag if it repeats the first one.
 fn write_again<J: Intake, O: Outlet, S: MaskStream, H: TagHash>(
     intake: &mut J,
-    mut again: Masking<S, H>,
+    mut again: Masking<S, H, HashFirst>,
     tag: &Tag,
     outlet: &mut O,
 ) -> Result<(), Fault>
     requires { again.authenticator.length ≡ 0 }
     ensures written { (s : Setting) (first : List ℕ) → construction_of s.suite ≡ ByGcmSiv
-        → tag.now ≡ tag_of s first → HoldsMasking S.made H.held again (repeating_task s first) [] →
+        → tag.now ≡ tag_of s first → HoldsMasking S.made H.held as_it_comes again (repeating_task s first) [] →
         IfSome (J.left intake.old) (λ b. WritesAgain s first b (O.taken outlet.old) (O.taken outlet.new)
         (J.failures intake.old) (J.failures intake.new) (O.failures outlet.old) (O.failures outlet.new)
         result) }
@@ -83,15 +86,14 @@ fn write_again<J: Intake, O: Outlet, S: MaskStream, H: TagHash>(
 }
 
 // Seals a stream in two readings by a cipher with a nonce.
-fn seal_over<N: Nonced, I: Intake, J: Intake, O: Outlet>(
+fn seal_over<N: HashThenMask, I: Intake, J: Intake, O: Outlet>(
     nonced: &N,
     aad: &[u8],
     first: &mut I,
     second: &mut J,
     out: &mut O,
 ) -> Result<(), Fault>
-    requires by_gcm_siv { construction_of (N.keyed nonced.now).suite ≡ ByGcmSiv }
-    requires aad_fits { length aad.now ≤ aad_limit (N.keyed nonced.now).suite }
+    requires { length aad.now ≤ aad_limit (N.keyed nonced.now).suite }
     ensures blame { SivBlames (Fault.TextTooLong ∷ Fault.SourceChanged ∷ [])
         (record { first = I.failures first.old; second = J.failures second.old; outlet = O.failures out.old })
         (record { first = I.failures first.new; second = J.failures second.new; outlet = O.failures out.new })
@@ -108,7 +110,8 @@ fn seal_over<N: Nonced, I: Intake, J: Intake, O: Outlet>(
         Ok(true) => {
             let length = reading.length;
             let tag = reading.finish();
-            let again = Masking::new(nonced.mask(&tag), authenticator(nonced, aad), true, length);
+            let again = authenticator(nonced, aad);
+            let again = Masking::new(nonced.mask(&tag), again, HashFirst, length);
             write_again(second, again, &tag, out)
         }
         Ok(false) => Err(Fault::TextTooLong),

@@ -1,8 +1,8 @@
 // A whole reading authenticated, and not decrypted: its tag is over the ciphertext.
 
-ghost use Rattle.std.specs.Prelude.{◌≡◌, ◌+◌, ◌≤◌, ◌<◌, ◌^◌, ℕ, List, [], true, None, length, IfOk};
+ghost use Rattle.std.specs.Prelude.{◌≡◌, ◌+◌, ◌≤◌, ◌<◌, ◌^◌, ℕ, List, [], None, length, IfOk};
 ghost use Rattle.aes.specs.Cipher.{IsKey};
-ghost use Rattle.aead.specs.Suites.{ByGcm, construction_of, is_one_pass, text_limit, aad_limit};
+ghost use Rattle.aead.specs.Suites.{ByGcm, construction_of, text_limit, aad_limit};
 ghost use Rattle.aead.specs.Sealing.{Setting};
 ghost use Rattle.aead.specs.Ciphers.{setting};
 ghost use Rattle.aead.specs.AnyCiphers.{one_pass_keyed};
@@ -17,7 +17,8 @@ use crate::engine::measure::Measured;
 use crate::engine::passes::{Finding, finding_of};
 use crate::gcm::{Gcm, LONG};
 use crate::hashes::TagHash;
-use crate::nonced::{Nonced, authenticator};
+use crate::mask_then_hash::MaskThenHash;
+use crate::nonced::authenticator;
 use gf128::{Keyed128, PlacedMul, WideMul};
 use octets::{Fault, Intake, Nonce, fill};
 
@@ -72,14 +73,13 @@ pub(crate) fn absorb_body<I: Intake, H: TagHash>(
     Ok(done)
 }
 
-// A whole reading, by a cipher with a nonce whose mask looks at no tag.
-fn verify_over<N: Nonced, I: Intake>(
+// A whole reading, by a cipher with a nonce.
+fn verify_over<N: MaskThenHash, I: Intake>(
     nonced: &N,
     aad: &[u8],
     intake: &mut I,
     measured: &Measured,
 ) -> Result<Finding, Fault>
-    requires one_pass { is_one_pass (construction_of (N.keyed nonced.now).suite) ≡ true }
     requires key { construction_of (N.keyed nonced.now).suite ≡ ByGcm → IsKey (N.keyed nonced.now).key }
     requires aad_fits { length aad.now ≤ aad_limit (N.keyed nonced.now).suite }
     requires high { measured.now.length ≤ text_limit (N.keyed nonced.now).suite + 16 }

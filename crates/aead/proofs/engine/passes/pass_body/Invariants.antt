@@ -8,8 +8,8 @@ invariant-loop-done g l = record {
   in_range : l.done ≤ l.length;
   fed : l.masking.authenticator.length ≡ l.initial.masking.authenticator.length + l.done;
   same_limit : l.masking.limit ≡ l.initial.masking.limit;
-  went : (t : Task) → HoldsMasking g.S.MaskStream.made g.H.TagHash.held l.initial.masking t [] →
-      (bytes : List ℕ) × Went (HoldsMasking g.S.MaskStream.made g.H.TagHash.held) t []
+  went : (t : Task) → HoldsMasking g.S.MaskStream.made g.H.TagHash.held g.R.Order.hashed l.initial.masking t [] →
+      (bytes : List ℕ) × Went (HoldsMasking g.S.MaskStream.made g.H.TagHash.held g.R.Order.hashed) t []
       (g.I.Intake.left l.initial.intake) (g.I.Intake.left l.intake)
       (g.O.Outlet.taken l.initial.outlet) (g.O.Outlet.taken l.outlet) l.masking bytes
       × (length bytes ≡ l.done);

@@ -5,49 +5,52 @@ use Rattle.octets.specs.Device.{Failed}
 use Rattle.aead.specs.Suites.{text_limit}
 use Rattle.aead.specs.Sealing.{Setting}
 use Rattle.aead.specs.Ciphers.{setting}
-use Rattle.aead.specs.Code.Maskings.{sealing_task}
+use Rattle.aead.specs.Code.Maskings.{message_task}
 use Rattle.aead.proofs.Opens.{one_pass_tag}
 use Rattle.aead.proofs.SealExits.{exit_stopped, exit_long, exit_tag}
 use Rattle.aead.proofs.engine.seal.seal_over.Goals as goal
 
 pub pass_all-requires : goal.pass_all-requires
-pass_all-requires g c = omega (arith, c.masking-sealing.ensures.none)
+pass_all-requires g c = omega (arith, c.sealing-sealing.ensures.none)
 
 pub returns-in-Err-clause-seals : goal.returns-in-Err-clause-seals
 returns-in-Err-clause-seals g c =
     let s : Setting = setting (g.N.Nonced.keyed c.args.nonced.now) (g.N.Nonced.nonce c.args.nonced.now)
     c.args.aad.now in
-    let h = c.masking-sealing.ensures.any_tag c.requires.one_pass [] in
-    let limit : c.masking-sealing.result.limit ≡ text_limit s.suite =
-    c.masking-sealing.ensures.limit in
-    exit_stopped _ _ _ _ s _ _ _ _ _ _ limit c.requires.one_pass c.requires.aad_fits
-    (c.in-Err.ensures.passed (sealing_task s []) h) c.in-Err.ensures.blame
+    let one = g.met.N.MaskThenHash.one_pass c.args.nonced.now in
+    let h = c.sealing-sealing.ensures.holds [] in
+    let limit : c.sealing-sealing.result.limit ≡ text_limit s.suite =
+    c.sealing-sealing.ensures.limit in
+    exit_stopped _ _ _ _ s _ _ _ _ _ _ limit one c.requires
+    (c.in-Err.ensures.passed (message_task s []) h) c.in-Err.ensures.blame
 
 pub returns-in-Ok-None-clause-seals : goal.returns-in-Ok-None-clause-seals
 returns-in-Ok-None-clause-seals g c =
     let s : Setting = setting (g.N.Nonced.keyed c.args.nonced.now) (g.N.Nonced.nonce c.args.nonced.now)
     c.args.aad.now in
-    let h = c.masking-sealing.ensures.any_tag c.requires.one_pass [] in
-    let limit : c.masking-sealing.result.limit ≡ text_limit s.suite =
-    c.masking-sealing.ensures.limit in
-    let went = rw c.in-Ok-None.field-0-is at (c.in-Ok-None.ensures.passed (sealing_task s []) h) in
-    exit_long _ _ _ _ _ s _ _ _ _ _ _ limit c.requires.one_pass c.requires.aad_fits went
+    let one = g.met.N.MaskThenHash.one_pass c.args.nonced.now in
+    let h = c.sealing-sealing.ensures.holds [] in
+    let limit : c.sealing-sealing.result.limit ≡ text_limit s.suite =
+    c.sealing-sealing.ensures.limit in
+    let went = rw c.in-Ok-None.field-0-is at (c.in-Ok-None.ensures.passed (message_task s []) h) in
+    exit_long _ _ _ _ _ s _ _ _ _ _ _ limit one c.requires went
     c.in-Ok-None.ensures.blame
 
 pub returns-in-Ok-clause-seals : goal.returns-in-Ok-clause-seals
 returns-in-Ok-clause-seals g c =
     let s : Setting = setting (g.N.Nonced.keyed c.args.nonced.now) (g.N.Nonced.nonce c.args.nonced.now)
     c.args.aad.now in
-    let h = c.masking-sealing.ensures.any_tag c.requires.one_pass [] in
-    let limit : c.masking-sealing.result.limit ≡ text_limit s.suite =
-    c.masking-sealing.ensures.limit in
+    let one = g.met.N.MaskThenHash.one_pass c.args.nonced.now in
+    let h = c.sealing-sealing.ensures.holds [] in
+    let limit : c.sealing-sealing.result.limit ≡ text_limit s.suite =
+    c.sealing-sealing.ensures.limit in
     let tag : List ℕ = c.finish.result in
     let size : length tag ≡ 16 = c.bytes.ensures.is_block.length_is in
     let R : List ℕ → Type 0 =
     λ b. Appends (g.O.Outlet.taken c.pass_all.new.outlet) (g.O.Outlet.taken c.give_all.new.outlet) b in
-    exit_tag _ _ _ _ _ _ s _ tag _ _ 16 _ _ _ _ _ limit c.requires.one_pass c.requires.aad_fits
-    (rw c.in-Ok-Some.field-0-is at (c.in-Ok-Some.ensures.passed (sealing_task s []) h))
-    (λ text held. c.finish.ensures _ text held ∙ sym (one_pass_tag s [] text c.requires.one_pass))
+    exit_tag _ _ _ _ _ _ s _ tag _ _ 16 _ _ _ _ _ limit one c.requires
+    (rw c.in-Ok-Some.field-0-is at (c.in-Ok-Some.ensures.passed (message_task s []) h))
+    (λ text held. c.finish.ensures _ text held ∙ sym (one_pass_tag s [] text one))
     (subst R (c.bytes.ensures.value ∙ sym (take_all 16 tag (omega (arith, size))))
     c.in-Ok.ensures.bytes)
     (inl (
@@ -62,17 +65,18 @@ pub returns-in-Err-give_all-clause-seals : goal.returns-in-Err-give_all-clause-s
 returns-in-Err-give_all-clause-seals g c =
     let s : Setting = setting (g.N.Nonced.keyed c.args.nonced.now) (g.N.Nonced.nonce c.args.nonced.now)
     c.args.aad.now in
-    let h = c.masking-sealing.ensures.any_tag c.requires.one_pass [] in
-    let limit : c.masking-sealing.result.limit ≡ text_limit s.suite =
-    c.masking-sealing.ensures.limit in
+    let one = g.met.N.MaskThenHash.one_pass c.args.nonced.now in
+    let h = c.sealing-sealing.ensures.holds [] in
+    let limit : c.sealing-sealing.result.limit ≡ text_limit s.suite =
+    c.sealing-sealing.ensures.limit in
     let given = c.in-Err-give_all.ensures.bytes in
     let R : List ℕ → Type 0 =
     λ b. Appends (g.O.Outlet.taken c.pass_all.new.outlet) (g.O.Outlet.taken c.give_all.new.outlet)
     (take given.0 b) in
     let F : ℕ → Type 0 = λ n. Failed n (g.O.Outlet.failures c.give_all.new.outlet) in
-    exit_tag _ _ _ _ _ _ s _ c.finish.result _ _ given.0 _ _ _ _ _ limit c.requires.one_pass
-    c.requires.aad_fits
-    (rw c.in-Ok-Some.field-0-is at (c.in-Ok-Some.ensures.passed (sealing_task s []) h))
-    (λ text held. c.finish.ensures _ text held ∙ sym (one_pass_tag s [] text c.requires.one_pass))
+    exit_tag _ _ _ _ _ _ s _ c.finish.result _ _ given.0 _ _ _ _ _ limit one
+    c.requires
+    (rw c.in-Ok-Some.field-0-is at (c.in-Ok-Some.ensures.passed (message_task s []) h))
+    (λ text held. c.finish.ensures _ text held ∙ sym (one_pass_tag s [] text one))
     (subst R c.bytes.ensures.value given.2)
     (inr (refl, subst F c.in-Ok-Some.ensures.blame.1 c.in-Err-give_all.ensures.count))

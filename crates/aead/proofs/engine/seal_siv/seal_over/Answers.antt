@@ -2,7 +2,7 @@ use Rattle.std.proofs.Common.{◌≡◌, ◌∙◌, ◌≤◌, ℕ, List, [], su
 use Rattle.aead.specs.Suites.{is_one_pass, text_limit}
 use Rattle.aead.specs.Sealing.{Setting, tag_of}
 use Rattle.aead.specs.Ciphers.{setting}
-use Rattle.aead.proofs.Maskings.{at_limit}
+use Rattle.aead.specs.Code.Maskings.{repeating_task}
 use Rattle.aead.proofs.Opens.{two_pass_tag}
 use Rattle.aead.proofs.SivExits.{exit_first, exit_long, exit_second}
 use Rattle.aead.proofs.engine.seal_siv.seal_over.Goals as goal
@@ -25,7 +25,7 @@ returns-in-Ok-false-clause-seals g c =
     let limit : c.text_limit.result ≡ text_limit s.suite =
     c.text_limit.ensures ∙ ap text_limit c.suite.ensures in
     let went = rw c.in-Ok-false.field-0-test at (c.in-Ok-false.ensures.taken s h (omega (arith, limit))) in
-    exit_long _ _ _ _ _ s _ _ _ _ _ _ limit c.requires.aad_fits c.in-Ok-false.ensures.blame went
+    exit_long _ _ _ _ _ s _ _ _ _ _ _ limit c.requires c.in-Ok-false.ensures.blame went
 
 pub returns-in-Ok-true-clause-seals : goal.returns-in-Ok-true-clause-seals
 returns-in-Ok-true-clause-seals g c =
@@ -35,15 +35,13 @@ returns-in-Ok-true-clause-seals g c =
     let limit : c.text_limit.result ≡ text_limit s.suite =
     c.text_limit.ensures ∙ ap text_limit c.suite.ensures in
     let went = rw c.in-Ok-true.field-0-test at (c.in-Ok-true.ensures.taken s h (omega (arith, limit))) in
+    let by = g.met.N.HashThenMask.by_gcm_siv c.args.nonced.now in
     exit_second _ _ _ _ _ _ s _ _ _ _ _ _ _ _ _ c.in-Ok-true.ensures.blame went
     (λ a held.
     let tag_is : c.finish-tag.result ≡ tag_of s a =
-    c.finish-tag.ensures s a held ∙ sym (two_pass_tag s a (ap is_one_pass c.requires.by_gcm_siv)) in
-    let made = c.mask.ensures.made c.args.aad.now in
+    c.finish-tag.ensures s a held ∙ sym (two_pass_tag s a (ap is_one_pass by)) in
+    let made = c.mask.ensures c.args.aad.now in
     let P : List ℕ → Type 0 = λ t. g.N.Stream.MaskStream.made c.mask.result s t 0 in
-    let fits : c.absorb_all.new.reading.length ≤ text_limit s.suite =
-    omega (arith, held.length_is, held.fits.text_fits) in
-    c.write_again.ensures.written s a c.requires.by_gcm_siv tag_is
-    (at_limit _ _ _ _ _ _ s _ [] held.length_is
-    (c.new-again.ensures.holds s (tag_of s a) (subst P tag_is made)
-    c.authenticator.ensures.holds fits)))
+    c.write_again.ensures.written s a by tag_is
+    (c.new-again.ensures.holds (repeating_task s a) (subst P tag_is made) c.authenticator-again.ensures.holds
+    held.length_is held.fits.text_fits))

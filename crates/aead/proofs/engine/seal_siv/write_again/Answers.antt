@@ -3,6 +3,7 @@ use Rattle.std.proofs.Common.{None, Option, true≢false}
 use Rattle.std.proofs.lemmas.List.{take_all}
 use Rattle.std.specs.Io.KnownBytes.{Appends}
 use Rattle.octets.specs.Device.{Failed}
+use Rattle.aead.specs.Code.Masks.{as_it_comes}
 use Rattle.aead.specs.Code.Maskings.{HoldsMasking, repeating_task}
 use Rattle.aead.specs.Code.Passes.{Stopped}
 use Rattle.aead.specs.Code.Extents.{WentAll}
@@ -28,7 +29,7 @@ returns-in-Ok-None-clause-written g c = λ s first two e h.
     let l : Option (List ℕ) = g.J.Intake.left c.args.intake.now in
     let went = rw c.in-Ok-None.field-0-is at (c.in-Ok-None.ensures.passed (repeating_task s first) h) in
     where_told l _ _
-    (told l (λ m. WentAll (HoldsMasking g.S.MaskStream.made g.H.TagHash.held) (repeating_task s first)
+    (told l (λ m. WentAll (HoldsMasking g.S.MaskStream.made g.H.TagHash.held as_it_comes) (repeating_task s first)
     c.args.again.limit m (g.J.Intake.left c.pass_all.new.intake) (g.O.Outlet.taken c.args.outlet.now)
     (g.O.Outlet.taken c.pass_all.new.outlet) c.pass_all.new.masking None) went)
     (λ b w. again_long _ s first b _ _ _ _ _ _ _ _ _ h.limit_is w c.in-Ok-None.ensures.blame)
@@ -38,7 +39,7 @@ returns-else-repeats-clause-written g c = λ s first two e h.
     let l : Option (List ℕ) = g.J.Intake.left c.args.intake.now in
     let went = rw c.in-Ok-Some.field-0-is at (c.in-Ok-Some.ensures.passed (repeating_task s first) h) in
     where_told l _ _
-    (told l (λ m. WentAll (HoldsMasking g.S.MaskStream.made g.H.TagHash.held) (repeating_task s first)
+    (told l (λ m. WentAll (HoldsMasking g.S.MaskStream.made g.H.TagHash.held as_it_comes) (repeating_task s first)
     c.args.again.limit m (g.J.Intake.left c.pass_all.new.intake) (g.O.Outlet.taken c.args.outlet.now)
     (g.O.Outlet.taken c.pass_all.new.outlet) c.pass_all.new.masking (Some c.in-Ok-Some.field-0-0)) went)
     (λ b w. again_differs _ s first b _ _ _ _ _ _ _ _ _ _ h.limit_is w c.in-Ok-Some.ensures.blame
@@ -52,7 +53,7 @@ returns-in-Ok-clause-written g c = λ s first two e h.
     let R : List ℕ → Type 0 =
     λ x. Appends (g.O.Outlet.taken c.pass_all.new.outlet) (g.O.Outlet.taken c.give_all.new.outlet) x in
     where_told l _ _
-    (told l (λ m. WentAll (HoldsMasking g.S.MaskStream.made g.H.TagHash.held) (repeating_task s first)
+    (told l (λ m. WentAll (HoldsMasking g.S.MaskStream.made g.H.TagHash.held as_it_comes) (repeating_task s first)
     c.args.again.limit m (g.J.Intake.left c.pass_all.new.intake) (g.O.Outlet.taken c.args.outlet.now)
     (g.O.Outlet.taken c.pass_all.new.outlet) c.pass_all.new.masking (Some c.in-Ok-Some.field-0-0)) went)
     (λ b w. again_tag _ s first b c.args.tag.now _ _ 16 _ _ _ _ _ _ _ _ _ _ h.limit_is w
@@ -77,7 +78,7 @@ returns-in-Err-give_all-clause-written g c = λ s first two e h.
     (take given.0 x) in
     let F : ℕ → Type 0 = λ n. Failed n (g.O.Outlet.failures c.give_all.new.outlet) in
     where_told l _ _
-    (told l (λ m. WentAll (HoldsMasking g.S.MaskStream.made g.H.TagHash.held) (repeating_task s first)
+    (told l (λ m. WentAll (HoldsMasking g.S.MaskStream.made g.H.TagHash.held as_it_comes) (repeating_task s first)
     c.args.again.limit m (g.J.Intake.left c.pass_all.new.intake) (g.O.Outlet.taken c.args.outlet.now)
     (g.O.Outlet.taken c.pass_all.new.outlet) c.pass_all.new.masking (Some c.in-Ok-Some.field-0-0)) went)
     (λ b w. again_tag _ s first b c.args.tag.now _ _ given.0 _ _ _ _ _ _ _ _ _ _ h.limit_is w

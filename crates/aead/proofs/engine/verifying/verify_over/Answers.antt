@@ -12,8 +12,8 @@ returns-in-Ok-clause-passed g c =
     let fits : c.args.measured.now.length - 16 ≤ text_limit s.suite = omega (arith, c.requires.high) in
     let w = c.in-Ok.ensures.taken s c.authenticator-reading.ensures.holds fits in
     c.finding_of.ensures.found s _ _ _
-    (took_read g.N.Hash.TagHash.held s _ _ _ _ _ c.absorb_body.new.reading _ c.requires.one_pass c.requires.key
-    c.in-Ok.ensures.bound w (c.finish.ensures s w.0 w.2))
+    (took_read g.N.Hash.TagHash.held s _ _ _ _ _ c.absorb_body.new.reading _ (g.met.N.MaskThenHash.one_pass c.args.nonced.now)
+    c.requires.key c.in-Ok.ensures.bound w (c.finish.ensures s w.0 w.2))
 
 pub returns-in-Err-clause-passed : goal.returns-in-Err-clause-passed
 returns-in-Err-clause-passed g c =

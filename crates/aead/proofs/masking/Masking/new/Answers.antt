@@ -1,16 +1,16 @@
-use Rattle.std.proofs.Common.{ℕ, List, refl, sym, subst, arith}
+use Rattle.std.proofs.Common.{ℕ, List, sym, subst, arith}
 use Rattle.aead.specs.Code.States.{HoldsAuthenticator}
-use Rattle.aead.proofs.Maskings.{none_authenticated}
+use Rattle.aead.specs.Code.Maskings.{task_mask}
 use Rattle.aead.proofs.masking.Masking.new.Goals as goal
 
 pub returns-clause-holds : goal.returns-clause-holds
-returns-clause-holds g c = λ s tag h taken fits.
-    let P : List ℕ → Type 0 = λ x. HoldsAuthenticator g.H.TagHash.held c.args.authenticator s x in
+returns-clause-holds g c = λ t h taken limit fits.
+    let P : List ℕ → Type 0 = λ x. HoldsAuthenticator g.H.TagHash.held c.args.authenticator t.setting x in
     record {
-      over_input_is = refl;
-      limit_is = refl;
+      limit_is = limit;
       mask_is = h;
-      taken = subst P (sym (none_authenticated c.args.over_input s tag)) taken;
+      taken = subst P (sym (g.met.R.Order.none (task_mask t))) taken;
+      count_is = c.requires;
       within = omega arith;
       limit_fits = fits;
     }

@@ -1,32 +1,17 @@
-use Rattle.aead.proofs.Maskings.{more_input, more_output}
+use Rattle.std.proofs.Common.{◌+◌, ◌≤◌, length, arith, length-append}
 use Rattle.aead.proofs.masking.Masking.update.Goals as goal
 
-pub returns-then-self-clause-masked : goal.returns-then-self-clause-masked
-returns-then-self-clause-masked g c = λ t fed h.
-    let more = more_input g.S.MaskStream.made g.H.TagHash.held _ _ _ t fed _ _ c.if-self.true h c.requires
-    c.take_then_mask.ensures.masks c.take_then_mask.ensures.takes in (
+pub returns-clause-masked : goal.returns-clause-masked
+returns-clause-masked g c = λ t fed h.
+    let room : length fed + length c.args.piece.now ≤ t.limit = omega (arith, c.requires, h.count_is, h.limit_is) in
+    let went = c.step.ensures.step t.setting t.tag fed h.mask_is h.taken (omega (arith, room, h.limit_fits)) in (
       record {
-        over_input_is = h.over_input_is;
         limit_is = h.limit_is;
-        mask_is = more.0.mask_is;
-        taken = more.0.taken;
-        within = more.0.within;
+        mask_is = went.0;
+        taken = went.1;
+        count_is = omega (arith, c.step.ensures.length, h.count_is, length-append fed c.args.piece.now);
+        within = omega (arith, room, length-append fed c.args.piece.now);
         limit_fits = h.limit_fits;
       },
-      more.1,
-    )
-
-pub returns-else-self-clause-masked : goal.returns-else-self-clause-masked
-returns-else-self-clause-masked g c = λ t fed h.
-    let more = more_output g.S.MaskStream.made g.H.TagHash.held _ _ _ t fed _ _ c.if-self.false h c.requires
-    c.mask_then_take.ensures.masks c.mask_then_take.ensures.takes in (
-      record {
-        over_input_is = h.over_input_is;
-        limit_is = h.limit_is;
-        mask_is = more.0.mask_is;
-        taken = more.0.taken;
-        within = more.0.within;
-        limit_fits = h.limit_fits;
-      },
-      more.1,
+      went.2,
     )

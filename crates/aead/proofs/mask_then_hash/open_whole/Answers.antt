@@ -1,7 +1,7 @@
 use Rattle.aead.specs.Ciphers.{setting}
 use Rattle.aead.proofs.Found.{found_in_place}
 use Rattle.aead.proofs.OneText.{one_text}
-use Rattle.aead.proofs.nonced.open_whole.Goals as goal
+use Rattle.aead.proofs.mask_then_hash.open_whole.Goals as goal
 
 pub returns-clause-found : goal.returns-clause-found
 returns-clause-found g c =

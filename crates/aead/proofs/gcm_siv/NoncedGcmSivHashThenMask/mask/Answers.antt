@@ -1,9 +1,9 @@
 use Rattle.std.proofs.Common.{◌∙◌}
 use Rattle.aead.specs.Ciphers.{setting}
-use Rattle.aead.proofs.gcm_siv.NoncedGcmSivNonced.mask.Goals as goal
+use Rattle.aead.proofs.gcm_siv.NoncedGcmSivHashThenMask.mask.Goals as goal
 
-pub returns-clause-made : goal.returns-clause-made
-returns-clause-made g c = λ aad.
+pub returns : goal.returns
+returns g c = λ aad.
     let m = c.args.self.now in
     c.tag_mask.ensures (setting (record { suite = m.suite; key = m.key.now }) m.nonce.now aad) m.by_gcm_siv
     (c.kept.ensures ∙ m.encryption_is)
