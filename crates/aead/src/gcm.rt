@@ -51,7 +51,6 @@ impl Gcm {
         requires { construction_of suite ≡ ByGcm }
         ensures { result ≡ record { suite = suite; key = key } }
     {
-        key.is_key();
         let ghash_key = key.encrypt(&Block::new([0; 16]));
         Gcm {
             suite,

@@ -93,17 +93,11 @@ impl AesKey {
         })
     }
 
-    /// Tells a caller that the key has 16, 24 or 32 bytes. It does nothing.
-    pub fn is_key(&self)
-        ensures { IsKey self.now }
-    {
-        let _size = self.size;
-    }
-
     /// The block of 16 bytes that the cipher takes `block` to (FIPS 197, 5.1).
     pub fn encrypt(&self, block: &Block) -> Block
         ensures value { result ≡ cipher self.now block.now }
         ensures is_block { IsBlock result }
+        ensures is_key { IsKey self.now }
     {
         let count = self.size + 6;
         let mut state = add_key(load(block.bytes()), round_key(&self.words, 0));
@@ -206,5 +200,12 @@ impl AesKey {
         ensures is_block { IsBlock result }
     {
         self.inverse().decrypt(block)
+    }
+
+    // Tells a caller that the key has 16, 24 or 32 bytes. It does nothing.
+    fn is_key(&self)
+        ensures { IsKey self.now }
+    {
+        let _size = self.size;
     }
 }

@@ -4,13 +4,24 @@ use super::*;
 use octets::{Fault, Key32, Nonce};
 use rand_chacha::ChaCha20Rng;
 use rand_chacha::rand_core::{Rng, SeedableRng};
-use std::test::Fail;
+use std::process::Abort;
 
 // 00 01 .. 1f
 const KEY: [u8; 32] = [
     0x00, 0x01, 0x02, 0x03, 0x04, 0x05, 0x06, 0x07, 0x08, 0x09, 0x0a, 0x0b, 0x0c, 0x0d, 0x0e, 0x0f,
     0x10, 0x11, 0x12, 0x13, 0x14, 0x15, 0x16, 0x17, 0x18, 0x19, 0x1a, 0x1b, 0x1c, 0x1d, 0x1e, 0x1f,
 ];
+
+// A key and a nonce of these bytes.
+fn made(rt: &impl Abort, key: &[u8; 32], nonce: &[u8; 12]) -> (Key32, Nonce) {
+    let key = Key32::from_slice(key).expect(rt, "32 bytes");
+    (key, Nonce::from_slice(nonce).expect(rt, "12 bytes"))
+}
+
+// The key and the nonce of most tests.
+fn key_and_nonce(rt: &impl Abort) -> (Key32, Nonce) {
+    made(rt, &KEY, &[7; 12])
+}
 
 #[test]
 fn quarter_round_of_the_standard(rt: HostRuntime) {
@@ -30,10 +41,9 @@ fn quarter_round_of_the_standard(rt: HostRuntime) {
 }
 
 #[test]
-fn block_of_the_standard(rt: HostRuntime) -> Result<(), Fail> {
+fn block_of_the_standard(rt: HostRuntime) {
     // RFC 8439, 2.3.2
-    let key = Key32::from_slice(&KEY)?;
-    let nonce = Nonce::from_slice(&[0, 0, 0, 0x09, 0, 0, 0, 0x4a, 0, 0, 0, 0])?;
+    let (key, nonce) = made(&rt, &KEY, &[0, 0, 0, 0x09, 0, 0, 0, 0x4a, 0, 0, 0, 0]);
     let wanted = [
         0x10, 0xf1, 0xe7, 0xe4, 0xd1, 0x3b, 0x59, 0x15, 0x50, 0x0f, 0xdd, 0x1f, 0xa3, 0x20, 0x71,
         0xc4, 0xc7, 0xd1, 0xf4, 0xc7, 0x33, 0xc0, 0x68, 0x03, 0x04, 0x22, 0xaa, 0x9a, 0xc3, 0xd4,
@@ -42,14 +52,12 @@ fn block_of_the_standard(rt: HostRuntime) -> Result<(), Fail> {
         0xa2, 0x50, 0x3c, 0x4e,
     ];
     assert!(rt; block(&key, 1, &nonce) == wanted);
-    Ok(())
 }
 
 #[test]
-fn block_of_zeros(rt: HostRuntime) -> Result<(), Fail> {
+fn block_of_zeros(rt: HostRuntime) {
     // RFC 8439, A.1, vector 1
-    let key = Key32::from_slice(&[0; 32])?;
-    let nonce = Nonce::from_slice(&[0; 12])?;
+    let (key, nonce) = made(&rt, &[0; 32], &[0; 12]);
     let wanted = [
         0x76, 0xb8, 0xe0, 0xad, 0xa0, 0xf1, 0x3d, 0x90, 0x40, 0x5d, 0x6a, 0xe5, 0x53, 0x86, 0xbd,
         0x28, 0xbd, 0xd2, 0x19, 0xb8, 0xa0, 0x8d, 0xed, 0x1a, 0xa8, 0x36, 0xef, 0xcc, 0x8b, 0x77,
@@ -58,7 +66,6 @@ fn block_of_zeros(rt: HostRuntime) -> Result<(), Fail> {
         0xb2, 0xee, 0x65, 0x86,
     ];
     assert!(rt; block(&key, 0, &nonce) == wanted);
-    Ok(())
 }
 
 // Whether the words of another implementation from a block on are these bytes.
@@ -72,22 +79,14 @@ fn are_words(other: &mut ChaCha20Rng, counter: u32, block: &[u8; 64]) -> bool {
 }
 
 #[test]
-fn blocks_of_another_implementation(rt: HostRuntime) -> Result<(), Fail> {
-    let key = Key32::from_slice(&KEY)?;
-    let nonce = Nonce::from_slice(&[0, 0, 0, 0, 0, 1, 2, 3, 4, 5, 6, 7])?;
+fn blocks_of_another_implementation(rt: HostRuntime) {
+    let (key, nonce) = made(&rt, &KEY, &[0, 0, 0, 0, 0, 1, 2, 3, 4, 5, 6, 7]);
     let mut other = ChaCha20Rng::from_seed(KEY);
     other.set_stream(0x0706_0504_0302_0100);
     for counter in [0, 1, u32::MAX] {
         let agree = are_words(&mut other, counter, &block(&key, counter, &nonce));
         assert!(rt; agree, "counter {counter}");
     }
-    Ok(())
-}
-
-// The key and the nonce of the tests below.
-fn key_and_nonce() -> Result<(Key32, Nonce), Fault> {
-    let nonce = Nonce::from_slice(&[7; 12])?;
-    Ok((Key32::from_slice(&KEY)?, nonce))
 }
 
 // Ten blocks from a counter on, each made by itself.
@@ -100,43 +99,43 @@ fn ten_blocks(key: &Key32, nonce: &Nonce, first: u32) -> [[u8; 64]; 10] {
 }
 
 // Whether four blocks at once are those that are made one by one.
-fn four_agree(first: u32) -> Result<bool, Fault>
+fn four_agree(rt: &impl Abort, first: u32) -> bool
     requires { first + 3 < 2 ^ 32 }
 {
-    let (key, nonce) = key_and_nonce()?;
+    let (key, nonce) = key_and_nonce(rt);
     let expected = ten_blocks(&key, &nonce, first);
     let blocks = four_blocks(&key, first, &nonce);
     let mut bytes = [0; 256];
     xor_four_blocks(&key, first, &nonce, &mut bytes);
-    Ok(expected.starts_with(&blocks) && expected.as_flattened().starts_with(&bytes))
+    expected.starts_with(&blocks) && expected.as_flattened().starts_with(&bytes)
 }
 
 #[test]
 fn four_blocks_are_single_blocks(rt: HostRuntime) {
-    assert!(rt; four_agree(0) == Ok(true));
-    assert!(rt; four_agree(u32::MAX - 3) == Ok(true));
+    assert!(rt; four_agree(&rt, 0));
+    assert!(rt; four_agree(&rt, u32::MAX - 3));
 }
 
 // Whether two blocks at once are those that are made one by one.
-fn two_agree(first: u32) -> Result<bool, Fault>
+fn two_agree(rt: &impl Abort, first: u32) -> bool
     requires { first + 1 < 2 ^ 32 }
 {
-    let (key, nonce) = key_and_nonce()?;
+    let (key, nonce) = key_and_nonce(rt);
     let expected = ten_blocks(&key, &nonce, first);
-    Ok(expected.starts_with(&two_blocks(&key, first, &nonce)))
+    expected.starts_with(&two_blocks(&key, first, &nonce))
 }
 
 #[test]
 fn two_blocks_are_single_blocks(rt: HostRuntime) {
-    assert!(rt; two_agree(0) == Ok(true));
-    assert!(rt; two_agree(u32::MAX - 1) == Ok(true));
+    assert!(rt; two_agree(&rt, 0));
+    assert!(rt; two_agree(&rt, u32::MAX - 1));
 }
 
 // A key stream, and its first ten blocks.
-fn stream_and_blocks(first: u32) -> Result<(ChaStream, [[u8; 64]; 10]), Fault> {
-    let (key, nonce) = key_and_nonce()?;
+fn stream_and_blocks(rt: &impl Abort, first: u32) -> (ChaStream, [[u8; 64]; 10]) {
+    let (key, nonce) = key_and_nonce(rt);
     let stream = ChaStream::new(&key, &nonce, first);
-    Ok((stream, ten_blocks(&key, &nonce, first)))
+    (stream, ten_blocks(&key, &nonce, first))
 }
 
 // Whether a stream gives so many bytes of these blocks at once, and changes none behind them.
@@ -152,38 +151,38 @@ fn gives_first(stream: &ChaStream, blocks: &[[u8; 64]; 10], length: usize) -> bo
 }
 
 #[test]
-fn every_length(rt: HostRuntime) -> Result<(), Fail> {
-    let (stream, blocks) = stream_and_blocks(0)?;
+fn every_length(rt: HostRuntime) {
+    let (stream, blocks) = stream_and_blocks(&rt, 0);
     for length in 0..601usize {
         let agree = gives_first(&stream, &blocks, length);
         assert!(rt; agree, "length {length}");
     }
-    Ok(())
 }
 
 // Whether pieces of a size, joined, are the single blocks.
-fn pieces(size: usize) -> Result<bool, Fault>
+fn pieces(rt: &impl Abort, size: usize) -> bool
     requires { 0 < size }
 {
-    let (mut stream, blocks) = stream_and_blocks(0)?;
+    let (mut stream, blocks) = stream_and_blocks(rt, 0);
     let mut bytes = [0; 640];
+    let mut made = true;
     for piece in bytes.chunks_mut(size) {
-        stream.apply(piece)?;
+        made &= stream.apply(piece).is_ok();
     }
-    Ok(blocks.as_flattened() == bytes.as_slice())
+    made && blocks.as_flattened() == bytes.as_slice()
 }
 
 #[test]
 fn every_cut(rt: HostRuntime) {
-    assert!(rt; pieces(1) == Ok(true));
-    assert!(rt; pieces(63) == Ok(true));
-    assert!(rt; pieces(64) == Ok(true));
-    assert!(rt; pieces(65) == Ok(true));
-    assert!(rt; pieces(255) == Ok(true));
-    assert!(rt; pieces(256) == Ok(true));
-    assert!(rt; pieces(257) == Ok(true));
-    assert!(rt; pieces(300) == Ok(true));
-    assert!(rt; pieces(511) == Ok(true));
+    assert!(rt; pieces(&rt, 1));
+    assert!(rt; pieces(&rt, 63));
+    assert!(rt; pieces(&rt, 64));
+    assert!(rt; pieces(&rt, 65));
+    assert!(rt; pieces(&rt, 255));
+    assert!(rt; pieces(&rt, 256));
+    assert!(rt; pieces(&rt, 257));
+    assert!(rt; pieces(&rt, 300));
+    assert!(rt; pieces(&rt, 511));
 }
 
 // Whether a stream gives these bytes next, all at once.
@@ -203,52 +202,46 @@ fn refuses<const N: usize>(stream: &mut ChaStream) -> bool
 }
 
 #[test]
-fn last_block_at_once(rt: HostRuntime) -> Result<(), Fail> {
-    let (mut stream, blocks) = stream_and_blocks(u32::MAX)?;
+fn last_block_at_once(rt: HostRuntime) {
+    let (mut stream, blocks) = stream_and_blocks(&rt, u32::MAX);
     assert!(rt; gives::<64>(&mut stream, &blocks[0]));
     assert!(rt; refuses::<1>(&mut stream));
-    Ok(())
 }
 
 #[test]
-fn last_block_in_pieces(rt: HostRuntime) -> Result<(), Fail> {
-    let (mut stream, blocks) = stream_and_blocks(u32::MAX)?;
+fn last_block_in_pieces(rt: HostRuntime) {
+    let (mut stream, blocks) = stream_and_blocks(&rt, u32::MAX);
     let (front, back) = blocks[0].split_at(63);
     assert!(rt; gives::<63>(&mut stream, front));
     assert!(rt; gives::<1>(&mut stream, back));
     assert!(rt; gives::<0>(&mut stream, &[]));
     assert!(rt; refuses::<1>(&mut stream));
     assert!(rt; gives::<0>(&mut stream, &[]));
-    Ok(())
 }
 
 #[test]
-fn past_the_last_block(rt: HostRuntime) -> Result<(), Fail> {
-    let (mut stream, blocks) = stream_and_blocks(u32::MAX)?;
+fn past_the_last_block(rt: HostRuntime) {
+    let (mut stream, blocks) = stream_and_blocks(&rt, u32::MAX);
     assert!(rt; refuses::<65>(&mut stream));
     assert!(rt; gives::<64>(&mut stream, &blocks[0]));
-    Ok(())
 }
 
 #[test]
-fn last_three_blocks(rt: HostRuntime) -> Result<(), Fail> {
-    let (mut stream, blocks) = stream_and_blocks(u32::MAX - 2)?;
+fn last_three_blocks(rt: HostRuntime) {
+    let (mut stream, blocks) = stream_and_blocks(&rt, u32::MAX - 2);
     assert!(rt; gives::<192>(&mut stream, blocks[..3].as_flattened()));
-    Ok(())
 }
 
 #[test]
-fn past_the_last_three_blocks(rt: HostRuntime) -> Result<(), Fail> {
-    let (mut stream, _) = stream_and_blocks(u32::MAX - 2)?;
+fn past_the_last_three_blocks(rt: HostRuntime) {
+    let (mut stream, _) = stream_and_blocks(&rt, u32::MAX - 2);
     assert!(rt; refuses::<193>(&mut stream));
-    Ok(())
 }
 
 #[test]
-fn last_eight_blocks(rt: HostRuntime) -> Result<(), Fail> {
-    let (mut stream, blocks) = stream_and_blocks(u32::MAX - 7)?;
+fn last_eight_blocks(rt: HostRuntime) {
+    let (mut stream, blocks) = stream_and_blocks(&rt, u32::MAX - 7);
     assert!(rt; gives::<512>(&mut stream, blocks[..8].as_flattened()));
-    let (mut stream, blocks) = stream_and_blocks(u32::MAX - 6)?;
+    let (mut stream, blocks) = stream_and_blocks(&rt, u32::MAX - 6);
     assert!(rt; gives::<448>(&mut stream, blocks[..7].as_flattened()));
-    Ok(())
 }

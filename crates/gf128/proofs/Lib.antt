@@ -1,6 +1,5 @@
 pub mod WordLemmas
 pub mod Sums
-pub mod Texts
 pub mod Dot
 pub mod PolyvalSums
 pub mod ByGhash

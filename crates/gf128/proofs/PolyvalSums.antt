@@ -1,6 +1,6 @@
--- POLYVAL's sum: one block more, and only one value.
-use Rattle.std.proofs.Common.{◌≡◌, ℕ, zero, suc, ◌*◌, ◌/◌, ◌≤◌, Bool, true, false, List, [], ◌∷◌, ◌++◌}
-use Rattle.std.proofs.Common.{length, replicate, refl, sym, ap, ◌∙◌, arith, subst}
+-- There is one dot, and one POLYVAL.
+use Rattle.std.proofs.Common.{◌≡◌, ℕ, zero, suc, ◌/◌, ◌≤◌, Bool, true, false, List, [], ◌∷◌, ◌++◌}
+use Rattle.std.proofs.Common.{length, replicate, refl, sym, ap, ◌∙◌}
 use mathlib.Core.Path.{fun_ext}
 use Rattle.octets.specs.Bytes.{block_at, IsBlock}
 use Rattle.octets.specs.Bits.{v, bytes_of_v}
@@ -12,23 +12,9 @@ use Rattle.octets.proofs.Horner.{sum_is, product_swap, product_assoc, product_se
 use Rattle.octets.proofs.Horner.{residue_same, times_same, times_residue}
 use Rattle.octets.proofs.Readings.{v_injective}
 use Rattle.octets.proofs.Spelled.{bytes_of_v_bytes, v_bytes_of}
-use Rattle.octets.proofs.Blocks.{block_at-append}
 use Rattle.octets.proofs.Reversal.{none_at, times_power, coefficient_below}
 use Rattle.gf128.specs.Polyval.{polyval_modulus, x_to_128, x_to_minus_128, dot, polyval_sum, polyval, IsDot}
 use Rattle.gf128.specs.Polyval.{IsPolyvalSum, DotIsTheOnly, PolyvalIsTheOnly}
-
--- the sum over the blocks of a text is that of a longer text
-pub polyval_sum-append : (h m x : List ℕ) (n : ℕ) (s : List Bool) → n * 16 ≤ length m → IsPolyvalSum h m n s
-    → IsPolyvalSum h (m ++ x) n s
-unfolding IsPolyvalSum
-polyval_sum-append h m x zero s small e = e
-polyval_sum-append h m x (suc n) s small e =
-    let P : List ℕ → Type 0 = λ b. IsDot (sum e.0 (v b)) (v h) s in (
-      e.0,
-      polyval_sum-append h m x n e.0 (omega arith) e.1,
-      subst P
-          (sym (block_at-append m x n (omega arith))) e.2,
-    )
 
 -- dot sees its first factor by its coefficients
 pub dot_same : (a b c d : List Bool) → Agree a d → IsDot a b c → IsDot d b c
@@ -37,12 +23,6 @@ dot_same a b c d e is =
     ≡ coefficient (residue polyval_modulus (product d b)) =
     times_same polyval_modulus a d b refl (fun_ext e) in
     record { low = is.low; same = λ k. is.same k ∙ ap (λ f. f k) same }
-
--- one block more
-pub polyval_more : (h m : List ℕ) (n : ℕ) (s z t : List Bool) → IsPolyvalSum h m n s
-    → Agree z (sum s (v (block_at m n))) → IsDot z (v h) t → IsPolyvalSum h m (suc n) t
-unfolding IsPolyvalSum
-polyval_more h m n s z t held same is = (s, held, dot_same z (v h) t (sum s (v (block_at m n))) same is)
 
 -- ---- x^128 has an inverse
 

@@ -1,7 +1,8 @@
--- GHASH's sum of one block more.
-use Rattle.std.proofs.Common.{◌≡◌, ℕ, zero, suc, ◌-◌, ◌*◌, ◌<◌, ◌≤◌, Bool, false, List, [], ◌++◌, length}
-use Rattle.std.proofs.Common.{bit_xor, refl, sym, ap, ap₂, ◌∙◌, arith, ◌/◌}
-use Rattle.octets.specs.Bytes.{block_at, IsBlock}
+-- The sum of one block more, and the text's padding.
+use Rattle.std.proofs.Common.{◌≡◌, ℕ, zero, suc, ◌+◌, ◌-◌, ◌*◌, ◌/◌, ◌%◌, ◌<◌, ◌≤◌, Bool, false, List}
+use Rattle.std.proofs.Common.{◌++◌, length, take, replicate, bit_xor, refl, sym, ap, ap₂, ◌∙◌, arith}
+use Rattle.std.proofs.lemmas.List.{take_all, length-append, length-replicate}
+use Rattle.octets.specs.Bytes.{block_at, pad16, IsBlock}
 use Rattle.octets.specs.Bits.{g, bytes_of_g}
 use Rattle.octets.specs.Polynomial.{coefficient, plus, sum, product, power, sum_of_first, residue, Agree}
 use Rattle.octets.proofs.Residue.{residue_lower}
@@ -11,12 +12,13 @@ use Rattle.octets.proofs.Horner.{horner}
 use Rattle.octets.proofs.Readings.{g_injective}
 use Rattle.octets.proofs.Blocks.{block_at-append}
 use Rattle.gf128.specs.Ghash.{ghash_modulus, ghash_sum, ghash, GhashIsTheOnly}
+use Rattle.gf128.specs.Orders.{Order, Straight, reading, block_sum}
 use Rattle.gf128.specs.Code.Words.{of_word, IsWordProduct, IsFourProducts}
 use Rattle.gf128.proofs.FourProducts.{product_of, product_of_is, four_steps, horner_more}
 use Rattle.gf128.proofs.WordLemmas.{of_word_zero}
 
 -- sums of equal terms
-sum_of_first_same : (f e : ℕ → List Bool) (n : ℕ) → ((i : ℕ) → i < n → f i ≡ e i)
+pub sum_of_first_same : (f e : ℕ → List Bool) (n : ℕ) → ((i : ℕ) → i < n → f i ≡ e i)
     → sum_of_first n f ≡ sum_of_first n e
 unfolding sum_of_first
 sum_of_first_same f e zero h = refl
@@ -26,49 +28,58 @@ sum_of_first_same f e (suc n) h =
     rw (a, b) refl
 
 -- the sum over the whole blocks of a text is that of a longer text
-pub ghash_sum-append : (h m x : List ℕ) (n : ℕ) → n * 16 ≤ length m
-    → ghash_sum h (m ++ x) n ≡ ghash_sum h m n
-unfolding ghash_sum
-ghash_sum-append h m x n small =
-    sum_of_first_same (λ i. residue ghash_modulus (product (g (block_at (m ++ x) i)) (power (g h) (n - i))))
-    (λ i. residue ghash_modulus (product (g (block_at m i)) (power (g h) (n - i)))) n
-    (λ i l. ap (λ (b : List ℕ). residue ghash_modulus (product (g b) (power (g h) (n - i))))
+pub block_sum-append : (o : Order) (k m x : List ℕ) (n : ℕ) → n * 16 ≤ length m
+    → block_sum o k (m ++ x) n ≡ block_sum o k m n
+unfolding block_sum
+block_sum-append o k m x n small =
+    sum_of_first_same
+    (λ i. residue ghash_modulus (product (reading o (block_at (m ++ x) i)) (power (g k) (n - i))))
+    (λ i. residue ghash_modulus (product (reading o (block_at m i)) (power (g k) (n - i)))) n
+    (λ i l. ap (λ (b : List ℕ). residue ghash_modulus (product (reading o b) (power (g k) (n - i))))
     (block_at-append m x i (omega arith)))
 
 -- the sum so far and the next block, times the key
+pub block_sum_step : (o : Order) (k m : List ℕ) (n : ℕ)
+    → coefficient (block_sum o k m (suc n))
+    ≡ coefficient (residue ghash_modulus (product (sum (block_sum o k m n) (reading o (block_at m n))) (g k)))
+unfolding block_sum
+block_sum_step o k m n = horner ghash_modulus (λ i. reading o (block_at m i)) (g k) n refl
+
+-- GHASH's sum so far and the next block, times the key
 pub ghash_step : (h m : List ℕ) (n : ℕ)
     → coefficient (ghash_sum h m (suc n))
     ≡ coefficient (residue ghash_modulus (product (sum (ghash_sum h m n) (g (block_at m n))) (g h)))
-unfolding ghash_sum
-ghash_step h m n = horner ghash_modulus (λ i. g (block_at m i)) (g h) n refl
+unfolding ghash_sum block_sum
+ghash_step h m n = block_sum_step Straight h m n
 
 -- the product of the sum so far and the next block
-pub ghash_more : (h m : List ℕ) (s x z n : ℕ) → Agree (of_word s) (ghash_sum h m n)
-    → of_word x ≡ g (block_at m n)
-    → IsWordProduct (bit_xor s x) h z → Agree (of_word z) (ghash_sum h m (suc n))
-unfolding ghash_sum
-ghash_more h m s x z n held ex is = horner_more (λ i. g (block_at m i)) h s x z n held ex is
+pub block_sum_more : (o : Order) (k m : List ℕ) (s x z n : ℕ) → Agree (of_word s) (block_sum o k m n)
+    → of_word x ≡ reading o (block_at m n)
+    → IsWordProduct (bit_xor s x) k z → Agree (of_word z) (block_sum o k m (suc n))
+unfolding block_sum
+block_sum_more o k m s x z n held ex is =
+    horner_more (λ i. reading o (block_at m i)) k s x z n held ex is
 
 -- four blocks
-pub ghash_four : (h m : List ℕ) (s a b c d z n : ℕ) → Agree (of_word s) (ghash_sum h m n)
-    → of_word a ≡ g (block_at m n) → of_word b ≡ g (block_at m (suc n))
-    → of_word c ≡ g (block_at m (suc (suc n))) → of_word d ≡ g (block_at m (suc (suc (suc n))))
-    → IsFourProducts (bit_xor s a) b c d h z
-    → Agree (of_word z) (ghash_sum h m (suc (suc (suc (suc n)))))
-ghash_four h m s a b c d z n held ea eb ec ed is =
+pub block_sum_four : (o : Order) (k m : List ℕ) (s a b c d z n : ℕ) → Agree (of_word s) (block_sum o k m n)
+    → of_word a ≡ reading o (block_at m n) → of_word b ≡ reading o (block_at m (suc n))
+    → of_word c ≡ reading o (block_at m (suc (suc n))) → of_word d ≡ reading o (block_at m (suc (suc (suc n))))
+    → IsFourProducts (bit_xor s a) b c d k z
+    → Agree (of_word z) (block_sum o k m (suc (suc (suc (suc n)))))
+block_sum_four o k m s a b c d z n held ea eb ec ed is =
     let p : ℕ = bit_xor s a in
-    let t : ℕ = product_of p h in
-    let u : ℕ = product_of (bit_xor t b) h in
-    let w : ℕ = product_of (bit_xor u c) h in
-    ghash_more h m w d z (suc (suc (suc n)))
-    (ghash_more h m u c w (suc (suc n)) (ghash_more h m t b u (suc n) (ghash_more h m s a t n held ea
-    (product_of_is p h)) eb (product_of_is (bit_xor t b) h))
-    ec (product_of_is (bit_xor u c) h)) ed (four_steps p b c d z h is)
+    let t : ℕ = product_of p k in
+    let u : ℕ = product_of (bit_xor t b) k in
+    let w : ℕ = product_of (bit_xor u c) k in
+    block_sum_more o k m w d z (suc (suc (suc n)))
+    (block_sum_more o k m u c w (suc (suc n)) (block_sum_more o k m t b u (suc n)
+    (block_sum_more o k m s a t n held ea (product_of_is p k)) eb (product_of_is (bit_xor t b) k))
+    ec (product_of_is (bit_xor u c) k)) ed (four_steps p b c d z k is)
 
 -- no block
-pub ghash_none : (h : List ℕ) → Agree (of_word 0) (ghash_sum h [] 0)
-unfolding ghash_sum sum_of_first
-ghash_none h k = of_word_zero k
+pub block_sum_none : (o : Order) (k m : List ℕ) → Agree (of_word 0) (block_sum o k m 0)
+unfolding block_sum sum_of_first
+block_sum_none o k m i = of_word_zero i
 
 -- the sum has a degree below 128
 low_sum : (f : ℕ → List Bool) (n k : ℕ) → ((i : ℕ) → coefficient (f i) k ≡ false)
@@ -77,20 +88,29 @@ unfolding sum_of_first
 low_sum f zero k e = refl
 low_sum f (suc n) k e = coefficient_sum (sum_of_first n f) (f n) k ∙ ap₂ plus (low_sum f n k e) (e n)
 
--- GHASH's sum is of degree below 128
-pub ghash_sum_low : (h m : List ℕ) (n k : ℕ) → 128 ≤ k → coefficient (ghash_sum h m n) k ≡ false
-unfolding ghash_sum
-ghash_sum_low h m n k l =
-    low_sum (λ i. residue ghash_modulus (product (g (block_at m i)) (power (g h) (n - i)))) n k
-    (λ i. residue_lower ghash_modulus (product (g (block_at m i)) (power (g h) (n - i))) k l)
+-- the sum of blocks is of degree below 128
+pub block_sum_low : (o : Order) (h m : List ℕ) (n k : ℕ) → 128 ≤ k → coefficient (block_sum o h m n) k ≡ false
+unfolding block_sum
+block_sum_low o h m n k l =
+    low_sum (λ i. residue ghash_modulus (product (reading o (block_at m i)) (power (g h) (n - i)))) n k
+    (λ i. residue_lower ghash_modulus (product (reading o (block_at m i)) (power (g h) (n - i))) k l)
 
 -- there is one GHASH
 pub ghash_is_the_only : GhashIsTheOnly
-unfolding ghash
+unfolding ghash ghash_sum block_sum
 ghash_is_the_only h m =
     let s : List Bool = ghash_sum h m (length m / 16) in
-    let same : Agree (g (bytes_of_g 16 s)) s = g_bytes_of 16 s (ghash_sum_low h m (length m / 16)) in
+    let same : Agree (g (bytes_of_g 16 s)) s = g_bytes_of 16 s (block_sum_low Straight h m (length m / 16)) in
     let block : IsBlock (bytes_of_g 16 s) = bytes_of_g_bytes 16 s in (
       record { is_block = block; sum_is = same },
       λ y is. g_injective 16 y (bytes_of_g 16 s) is.is_block block (λ k. is.sum_is k ∙ sym (same k)),
     )
+
+-- a padded text is its whole blocks
+pub padded_whole : (m : List ℕ) → take (length (pad16 m) / 16 * 16) (pad16 m) ≡ pad16 m
+padded_whole m =
+    let z : ℕ = (16 - length m % 16) % 16 in
+    let zeros : length (replicate {A = ℕ} z 0) ≡ z = length-replicate z 0 in
+    let len : length (pad16 m) ≡ length m + z = length-append m (replicate z 0)
+    ∙ ap (λ (x : ℕ). length m + x) zeros in
+    take_all (length (pad16 m) / 16 * 16) (pad16 m) (omega arith)

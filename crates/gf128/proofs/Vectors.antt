@@ -3,18 +3,19 @@ use Rattle.std.proofs.Common.{◌≡◌, ℕ, zero, suc, ◌+◌, ◌/◌, ◌%�
 use Rattle.std.proofs.Common.{List, [], ◌∷◌, ◌++◌, reverse, bit_xor, refl, sym, ap, ◌∙◌, arith, subst}
 use Rattle.std.specs.Int.{w128, to_be_bytes, to_le_bytes}
 use Rattle.std.proofs.lemmas.Nat.{xor_lt}
-use Rattle.octets.specs.Bytes.{IsBlock}
-use Rattle.octets.specs.Bits.{bit, g, v}
-use Rattle.octets.specs.Polynomial.{coefficient, plus, sum_of_first, Agree}
+use Rattle.octets.specs.Bytes.{block_at}
+use Rattle.octets.specs.Bits.{bit, g}
+use Rattle.octets.specs.Polynomial.{coefficient, plus, Agree}
 use Rattle.octets.proofs.Sequence.{plus_comm}
 use Rattle.gf128.specs.Ghash.{ghash_sum, ghash}
-use Rattle.gf128.specs.Polyval.{polyval, IsPolyvalSum, IsReversedMulX}
+use Rattle.gf128.specs.Orders.{Order, Straight, Reversed, reading, block_sum}
+use Rattle.gf128.specs.Polyval.{polyval, IsReversedMulX}
 use Rattle.gf128.specs.Code.Words.{of_word, IsWordProduct, reduction, times_x}
-use Rattle.gf128.proofs.WordLemmas.{g-to_be, v-to_le, to_be_block, reverse_block, of_word_xor, of_word_zero}
+use Rattle.gf128.proofs.WordLemmas.{length-of_word, g-to_be, v-to_le, to_be_block, reverse_block}
+use Rattle.gf128.proofs.WordLemmas.{of_word_xor, of_word_zero}
 use Rattle.gf128.proofs.WordLemmas.{IsSoFar, so_far_none, so_far_more, so_far_all, times_x_is}
-use Rattle.gf128.proofs.Sums.{ghash_more, ghash_is_the_only}
-use Rattle.gf128.proofs.Texts.{polyval_none, polyval_taken}
-use Rattle.gf128.proofs.PolyvalSums.{polyval_is_the_only}
+use Rattle.gf128.proofs.Sums.{block_sum_more, block_sum_none, ghash_is_the_only}
+use Rattle.gf128.proofs.ByGhash.{polyval_by_sum}
 
 -- a number, or 0
 either : Bool → ℕ → ℕ
@@ -70,18 +71,23 @@ product_is : (f h z : ℕ) → h < 2 ^ 128 → by_bits f h 128 ≡ z → IsWordP
 product_is f h z small e =
     so_far_all f h 128 z refl (subst (IsSoFar f h 128) e (by_bits_is f h 128 (omega arith) small))
 
+-- the sum of two blocks
+sum_of_two : (o : Order) (k m : List ℕ) (a b s t : ℕ) → of_word a ≡ reading o (block_at m 0)
+    → of_word b ≡ reading o (block_at m 1) → IsWordProduct (bit_xor 0 a) k s → IsWordProduct (bit_xor s b) k t
+    → Agree (of_word t) (block_sum o k m 2)
+sum_of_two o k m a b s t ea eb first second =
+    block_sum_more o k m s b t 1 (block_sum_more o k m 0 a s 0 (block_sum_none o k m) ea first) eb second
+
 -- GHASH of two blocks
 ghash_of_two : (h a b s t : ℕ) → IsWordProduct (bit_xor 0 a) (to_be_bytes w128 h) s
     → IsWordProduct (bit_xor s b) (to_be_bytes w128 h) t
     → ghash (to_be_bytes w128 h) (to_be_bytes w128 a ++ to_be_bytes w128 b) ≡ to_be_bytes w128 t
-unfolding ghash_sum sum_of_first
+unfolding ghash_sum block_sum
 ghash_of_two h a b s t first second =
     let k : List ℕ = to_be_bytes w128 h in
     let m : List ℕ = to_be_bytes w128 a ++ to_be_bytes w128 b in
-    let one : Agree (of_word s) (ghash_sum k m 1) =
-    ghash_more k m 0 a s 0 of_word_zero (sym (g-to_be a)) first in
-    let two : Agree (of_word t) (ghash_sum k m 2) = ghash_more k m s b t 1 one (sym (g-to_be b)) second in
-    let same : Agree (g (to_be_bytes w128 t)) (ghash_sum k m 2) = rw (g-to_be t) two in
+    let same : Agree (g (to_be_bytes w128 t)) (ghash_sum k m 2) =
+    rw (g-to_be t) (sum_of_two Straight k m a b s t (sym (g-to_be a)) (sym (g-to_be b)) first second) in
     sym ((ghash_is_the_only k m).1 (to_be_bytes w128 t) (record { is_block = to_be_block t; sum_is = same }))
 
 -- POLYVAL of two blocks
@@ -89,20 +95,16 @@ polyval_of_two : (h a b s t : ℕ) → h < 2 ^ 128
     → IsWordProduct (bit_xor 0 a) (to_be_bytes w128 (times_x h)) s
     → IsWordProduct (bit_xor s b) (to_be_bytes w128 (times_x h)) t
     → polyval (to_le_bytes w128 h) (to_le_bytes w128 a ++ to_le_bytes w128 b) ≡ to_le_bytes w128 t
-unfolding IsPolyvalSum
 polyval_of_two h a b s t small first second =
     let y : List ℕ = to_le_bytes w128 h in
     let k : List ℕ = to_be_bytes w128 (times_x h) in
     let m : List ℕ = to_le_bytes w128 a ++ to_le_bytes w128 b in
     let times : IsReversedMulX y k =
     times_x_is h (times_x h) (reverse y) k small (sym (g-to_be h)) refl (g-to_be (times_x h)) in
-    let one : IsPolyvalSum y m 1 (reverse (of_word s)) =
-    polyval_taken y m k 0 a s 0 refl times (polyval_none y) (sym (g-to_be a)) first in
-    let two : IsPolyvalSum y m 2 (reverse (of_word t)) =
-    polyval_taken y m k s b t 1 refl times one (sym (g-to_be b)) second in
-    let same : IsPolyvalSum y m 2 (v (to_le_bytes w128 t)) = rw (v-to_le t) two in
-    let block : IsBlock (to_le_bytes w128 t) = reverse_block (to_be_bytes w128 t) (to_be_block t) in
-    sym ((polyval_is_the_only y m).1 (to_le_bytes w128 t) (record { is_block = block; sum_is = same }))
+    sym (polyval_by_sum y k m (of_word t) (to_le_bytes w128 t) (reverse_block (to_be_bytes w128 h)
+    (to_be_block h)) times (length-of_word t)
+    (sum_of_two Reversed k m a b s t (sym (g-to_be a)) (sym (g-to_be b)) first second)
+    (reverse_block (to_be_bytes w128 t) (to_be_block t)) (v-to_le t))
 
 -- the blocks of ciphertext and of lengths of test case 2 of the GCM specification
 ghash_of_blocks : ghash (0x66 ∷ 0xe9 ∷ 0x4b ∷ 0xd4 ∷ 0xef ∷ 0x8a ∷ 0x2c ∷ 0x3b

@@ -1,99 +1,35 @@
-// GHASH over a text fed piece by piece.
+// GHASH: the sum of blocks whose bytes are read in order.
 
-ghost use Rattle.std.specs.Prelude.{◌≡◌, ℕ, ◌++◌, List, []};
 ghost use Rattle.gf128.specs.Ghash.{GhashIsTheOnly};
+ghost use Rattle.gf128.specs.Orders.{Straight};
 
+use crate::hash::{BlockHash, ByteOrder};
 use crate::polynomial_word::{block_of, word_of};
-use crate::{Keyed128, Multiply};
-use octets::{Absorb, Block, Pieces};
+use octets::Block;
 
-// GHASH's sum over whole blocks.
-#[derive(Drop)]
-struct GhashSum<M> {
-    multiplier: M,
-    sum: u128,
-}
+/// The order of GHASH: the first byte of a block is the highest of its word.
+pub struct BigEndian;
 
-impl<M: Multiply> Absorb for GhashSum<M> {
-    ghost use Rattle.gf128.specs.States.{GhashSumHolds};
+impl ByteOrder for BigEndian {
+    ghost order = { Straight };
 
-    ghost absorbed = { λ s h m. GhashSumHolds M.key_bytes s h m };
+    #[inline(always)]
+    fn word_of(block: &[u8; 16]) -> u128 {
+        word_of(block)
+    }
 
-    fn absorb(&mut self, blocks: &[u8]) {
-        let (whole, _) = blocks.as_chunks::<16>();
-        let (fours, rest) = whole.as_chunks::<4>();
-        let mut sum = self.sum;
-        'fours: for four in fours {
-            sum = self.multiplier.times_four(
-                sum ^ word_of(&four[0]),
-                word_of(&four[1]),
-                word_of(&four[2]),
-                word_of(&four[3]),
-            );
-        }
-        'taken: for block in rest {
-            sum = self.multiplier.times_word(sum ^ word_of(block));
-        }
-        self.sum = sum;
+    #[inline(always)]
+    fn hash_of(sum: u128) -> Block {
+        block_of(sum)
+    }
+
+    fn multiplier_key(key: &Block) -> Block {
+        *key
     }
 }
 
 /// GHASH over a text fed piece by piece (SP 800-38D, 6.4), by the multiplier `M`.
-#[derive(Drop)]
-pub struct Ghash<M> {
-    pieces: Pieces<GhashSum<M>>,
-}
-
-impl<M: Keyed128> Ghash<M> {
-    ghost use Rattle.gf128.specs.States.{Holds};
-
-    /// A state that holds the empty text, under a key of 16 bytes.
-    pub fn new(key: &Block) -> Ghash<M>
-        ensures { Holds M.key_bytes result key.now [] }
-    {
-        Ghash::with(M::of(key))
-    }
-}
-
-impl<M: Multiply> Ghash<M> {
-    ghost use Rattle.octets.specs.Bytes.{pad16, IsBlock};
-    ghost use Rattle.gf128.specs.Ghash.{ghash};
-    ghost use Rattle.gf128.specs.States.{Holds};
-
-    /// A state that holds the empty text, under the key of a multiplier, or of a reference to one that is
-    /// kept.
-    pub fn with(multiplier: M) -> Ghash<M>
-        ensures { Holds M.key_bytes result (M.key_bytes multiplier) [] }
-    {
-        Ghash {
-            pieces: Pieces::new(GhashSum { multiplier, sum: 0 }),
-        }
-    }
-
-    /// Adds `piece`, of any length, to the text.
-    pub fn update(&mut self, piece: &[u8])
-        ensures { (h m : List ℕ) → Holds M.key_bytes self.old h m
-            → Holds M.key_bytes self.new h (m ++ piece.now) }
-    {
-        self.pieces.update(piece);
-    }
-
-    /// Feeds zeros up to a multiple of 16 bytes fed.
-    pub fn pad16(&mut self)
-        ensures { (h m : List ℕ) → Holds M.key_bytes self.old h m → Holds M.key_bytes self.new h (pad16 m) }
-    {
-        self.pieces.pad16();
-    }
-
-    /// Returns GHASH of the text fed, padded by zeros to whole blocks: 16 bytes. Consumes the state.
-    pub fn finish(mut self) -> Block
-        ensures value { (h m : List ℕ) → Holds M.key_bytes self h m → result ≡ ghash h (pad16 m) }
-        ensures is_block { IsBlock result }
-    {
-        self.pad16();
-        block_of(self.pieces.core().sum)
-    }
-}
+pub type Ghash<M> = BlockHash<M, BigEndian>;
 
 /// GHASH is the only block whose polynomial is the sum of the residues of the blocks times powers of the
 /// key.

@@ -5,6 +5,7 @@
 mod bit_mul;
 mod chain;
 mod ghash;
+mod hash;
 mod keyed;
 mod multiples;
 mod placed_mul;
@@ -18,11 +19,12 @@ mod uses;
 mod wide_mul;
 
 pub use bit_mul::BitMul;
-pub use ghash::{Ghash, ghash_is_the_only};
+pub use ghash::{BigEndian, Ghash, ghash_is_the_only};
+pub use hash::{BlockHash, ByteOrder};
 pub use keyed::{Keyed128, Multiply};
 pub use placed_mul::PlacedMul;
 pub use polyval::{
-    Polyval, dot_is_the_only, polyval_by_ghash, polyval_is_the_only, reversed_mul_x,
+    LittleEndian, Polyval, dot_is_the_only, polyval_by_ghash, polyval_is_the_only, reversed_mul_x,
 };
 pub use table_mul::TableMul;
 pub use wide_mul::WideMul;

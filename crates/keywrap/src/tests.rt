@@ -86,7 +86,7 @@ fn is_wrapped_in_place(key: &AesKey, text: &[u8], wrapped: &[u8]) -> bool {
     made && back && bytes.strip_prefix(&[0xa6; 8]) == Some(text)
 }
 
-// A vector, both ways and in both forms.
+// A vector is wrapped and unwrapped, in new memory and in place.
 fn agrees(rt: &(impl Abort + Alloc<A = Global>), key_length: usize, length: usize, wrapped: &[u8]) {
     let key = key_of(rt, key_length);
     let text = &TEXT[..length.min(32)];
@@ -95,7 +95,6 @@ fn agrees(rt: &(impl Abort + Alloc<A = Global>), key_length: usize, length: usiz
     assert!(rt; is_wrapped_in_place(&key, text, wrapped));
 }
 
-// Each vector.
 #[test]
 fn published_vectors(rt: HostRuntime) {
     agrees(&rt, 16, 16, &WRAPPED_1);
@@ -145,21 +144,21 @@ fn lengths(rt: HostRuntime) {
     }
 }
 
-// Whether a call's answer is right where no request for memory was refused, and want of memory where one
-// was.
+// Whether a call's answer is due if the memory refused the request after `passed` ones: the bytes, or out of
+// memory if there was such a request. There is a first one, and no sixth.
 fn is_due<A: Allocator + Drop>(
     answer: Result<Vec<u8, A>, Fault>,
-    right: &[u8],
+    bytes: &[u8],
     refused: bool,
+    passed: u64,
 ) -> bool {
     if refused {
-        is_refused(answer, Fault::OutOfMemory)
+        passed < 5 && is_refused(answer, Fault::OutOfMemory)
     } else {
-        is_made(answer, right)
+        0 < passed && is_made(answer, bytes)
     }
 }
 
-// Each request for memory of each call is refused in turn; at last none is refused.
 #[test]
 fn each_growth_refused_in_turn(rt: HostRuntime) {
     let key = key_of(&rt, 16);
@@ -167,15 +166,12 @@ fn each_growth_refused_in_turn(rt: HostRuntime) {
     for passed in 0..6u64 {
         let memory = RefusingMemory::after(passed, rt.alloc());
         let answer = wrap(&memory, &key, text);
-        let refused = memory.has_refused();
-        assert!(rt; is_due(answer, &WRAPPED_1, refused), "wrap, {passed}");
-        assert!(rt; refused || 0 < passed, "wrap takes no memory");
+        let due = is_due(answer, &WRAPPED_1, memory.has_refused(), passed);
+        assert!(rt; due, "wrap, {passed}");
         let memory = RefusingMemory::after(passed, rt.alloc());
         let answer = unwrap(&memory, &key, &WRAPPED_1);
-        let refused = memory.has_refused();
-        assert!(rt; is_due(answer, text, refused), "unwrap, {passed}");
-        assert!(rt; refused || 0 < passed, "unwrap takes no memory");
-        assert!(rt; !refused || passed < 5, "no end of requests");
+        let due = is_due(answer, text, memory.has_refused(), passed);
+        assert!(rt; due, "unwrap, {passed}");
     }
 }
 

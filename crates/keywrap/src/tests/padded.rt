@@ -216,22 +216,18 @@ fn padded_vectors_in_place(rt: HostRuntime) {
     is_wrapped_with_padding(&rt, &key, &mut room, &SEVEN, &SEVEN_WRAPPED);
 }
 
-// Each request for memory of both calls is refused in turn; at last none is refused.
 #[test]
 fn each_growth_with_padding_refused_in_turn(rt: HostRuntime) {
     let key = padded_key(&rt);
     for passed in 0..6u64 {
         let memory = RefusingMemory::after(passed, rt.alloc());
         let answer = wrap_padded(&memory, &key, &TWENTY);
-        let refused = memory.has_refused();
-        assert!(rt; is_due(answer, &TWENTY_WRAPPED, refused), "wrap, {passed}");
-        assert!(rt; refused || 0 < passed, "wrap takes no memory");
+        let due = is_due(answer, &TWENTY_WRAPPED, memory.has_refused(), passed);
+        assert!(rt; due, "wrap, {passed}");
         let memory = RefusingMemory::after(passed, rt.alloc());
         let answer = unwrap_padded(&memory, &key, &TWENTY_WRAPPED);
-        let refused = memory.has_refused();
-        assert!(rt; is_due(answer, &TWENTY, refused), "unwrap, {passed}");
-        assert!(rt; refused || 0 < passed, "unwrap takes no memory");
-        assert!(rt; !refused || passed < 5, "no end of requests");
+        let due = is_due(answer, &TWENTY, memory.has_refused(), passed);
+        assert!(rt; due, "unwrap, {passed}");
     }
 }
 

@@ -4,33 +4,37 @@
 ghost use Rattle.std.specs.Prelude.{◌≤◌};
 
 use super::super::*;
-use std::alloc::Allocator;
-use std::test::Fail;
+use std::alloc::{Allocator, Global};
+use std::process::Abort;
 
 const BYTES: [u8; 10] = [0, 1, 2, 3, 4, 5, 6, 7, 8, 9];
 
-// What a call answers, and the room with the bytes that it gives.
+// A vector of these items.
+fn vector<T: Copy>(rt: &(impl Abort + Alloc<A = Global>), items: &[T]) -> Vec<T> {
+    Vec::from_slice(rt.alloc(), items).expect(rt, "memory")
+}
+
+// Takes bytes: the result, and the room with them.
 fn taken<A: Allocator>(intake: &mut ScriptIntake<A>) -> (Result<usize, DeviceFault>, [u8; 5]) {
     let mut room = [0xff; 5];
     let answer = intake.take(&mut room);
     (answer, room)
 }
 
-// 0 counts as 1, no call gives more than fits, and behind the last step come as many as are left.
+// 0 counts as 1, no call gives more than fits, and after the last step come as many as are left.
 #[test]
-fn a_script_intake_follows_its_steps(rt: HostRuntime) -> Result<(), Fail> {
-    let steps = vec![in rt.alloc(); Step::Give(3), Step::Give(0), Step::Fail, Step::Give(100)]?;
-    let mut intake = ScriptIntake::new(Vec::from_slice(rt.alloc(), &BYTES)?, steps);
+fn a_script_intake_follows_its_steps(rt: HostRuntime) {
+    let steps = [Step::Give(3), Step::Give(0), Step::Fail, Step::Give(100)];
+    let mut intake = ScriptIntake::new(vector(&rt, &BYTES), vector(&rt, &steps));
     assert!(rt; taken(&mut intake) == (Ok(3), [0, 1, 2, 0xff, 0xff]));
     assert!(rt; taken(&mut intake) == (Ok(1), [3, 0xff, 0xff, 0xff, 0xff]));
     assert!(rt; taken(&mut intake) == (Err(DeviceFault), [0xff; 5]));
     assert!(rt; taken(&mut intake) == (Ok(5), [4, 5, 6, 7, 8]));
     assert!(rt; taken(&mut intake) == (Ok(1), [9, 0xff, 0xff, 0xff, 0xff]));
     assert!(rt; taken(&mut intake) == (Ok(0), [0xff; 5]));
-    Ok(())
 }
 
-// What a call answers, how many bytes are then there, and whether they are the first of `BYTES`.
+// Gives bytes: the result, how many bytes are then there, and whether they are the first of `BYTES`.
 fn given<A: Allocator>(
     outlet: &mut ScriptOutlet<A>,
     bytes: &[u8],
@@ -40,25 +44,24 @@ fn given<A: Allocator>(
     (answer, kept.len(), BYTES.starts_with(kept))
 }
 
-// 0 counts as 1, no call takes more than there are, and behind the last step it takes all.
+// 0 counts as 1, no call takes more than there are, and after the last step it takes all.
 #[test]
-fn a_script_outlet_follows_its_steps(rt: HostRuntime) -> Result<(), Fail> {
-    let steps = vec![in rt.alloc(); Step::Give(3), Step::Fail, Step::Give(0), Step::Give(100)]?;
-    let mut outlet = ScriptOutlet::new(rt.alloc(), steps);
+fn a_script_outlet_follows_its_steps(rt: HostRuntime) {
+    let steps = [Step::Give(3), Step::Fail, Step::Give(0), Step::Give(100)];
+    let mut outlet = ScriptOutlet::new(rt.alloc(), vector(&rt, &steps));
     assert!(rt; given(&mut outlet, &BYTES) == (Ok(3), 3, true));
     assert!(rt; given(&mut outlet, &BYTES[3..]) == (Err(DeviceFault), 3, true));
     assert!(rt; given(&mut outlet, &BYTES[3..]) == (Ok(1), 4, true));
     assert!(rt; given(&mut outlet, &BYTES[4..6]) == (Ok(2), 6, true));
     assert!(rt; given(&mut outlet, &BYTES[6..]) == (Ok(4), 10, true));
-    Ok(())
 }
 
-// Gives a piece, and answers whether it was taken whole.
+// Gives a piece, and returns whether it was taken whole.
 fn is_given<O: Outlet>(outlet: &mut O, piece: &[u8]) -> bool {
     matches!(outlet.give(piece), Ok(n) if n == piece.len())
 }
 
-// Gives a piece, where it is refused a second time, and answers how often it was refused.
+// Gives a piece, a second time if it is refused, and returns how often it was refused.
 fn refusals<O: Outlet>(outlet: &mut O, piece: &[u8]) -> u32
     ensures { result ≤ 2 }
 {
@@ -71,7 +74,7 @@ fn refusals<O: Outlet>(outlet: &mut O, piece: &[u8]) -> u32
     }
 }
 
-// Gives pieces of three lengths, each refused one a second time, and answers how often one was refused.
+// Gives pieces of three lengths, each refused one a second time, and returns how often one was refused.
 fn gives<O: Outlet>(outlet: &mut O) -> u32 {
     refusals(outlet, &BYTES[..1]) + refusals(outlet, &BYTES[..9]) + refusals(outlet, &BYTES)
 }

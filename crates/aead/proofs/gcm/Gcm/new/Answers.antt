@@ -8,4 +8,4 @@ unfolding hash_key
 invariant_of-result c =
     let is : c.encrypt-ghash_key.result ≡ hash_key c.args.key =
     c.encrypt-ghash_key.ensures.value ∙ ap (cipher c.args.key) c.new.ensures.value in
-    (c.requires, is, c.of.ensures ∙ is, c.is_key.ensures)
+    (c.requires, is, c.of.ensures ∙ is, c.encrypt-ghash_key.ensures.is_key)

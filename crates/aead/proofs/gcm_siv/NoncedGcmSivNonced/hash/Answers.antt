@@ -7,7 +7,7 @@ pub returns : goal.returns
 returns g c = λ aad.
     let m = c.args.self.now in (
       m.by_gcm_siv,
-      ∥∥₁_map m.multiplier_is (λ is. c.with.ensures (authentication_key m.key.now m.nonce.now) m.block is),
+      ∥∥₁_map m.multiplier_is (λ is. c.with.ensures (authentication_key m.key.now m.nonce.now) (m.block, is)),
       m.encryption_is,
       refl,
     )

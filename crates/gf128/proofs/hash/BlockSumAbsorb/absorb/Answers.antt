@@ -2,19 +2,20 @@ use Rattle.std.proofs.Common.{◌≡◌, ℕ, suc, ◌+◌, ◌*◌, ◌/◌, �
 use Rattle.std.proofs.Common.{length, get_or}
 use Rattle.std.proofs.lemmas.List.{length-append}
 use Rattle.octets.specs.Bytes.{block_at}
-use Rattle.octets.specs.Bits.{g}
 use Rattle.octets.proofs.Blocks.{next_block, four_at, after_fours}
-use Rattle.gf128.specs.Ghash.{ghash_sum}
 use Rattle.gf128.specs.Code.Words.{of_word}
-use Rattle.gf128.proofs.Sums.{ghash_sum-append, ghash_more, ghash_four}
-use Rattle.gf128.proofs.ghash.GhashSumAbsorb.absorb.Goals as goal
+use Rattle.gf128.specs.Orders.{Order, reading, block_sum}
+use Rattle.gf128.proofs.Sums.{block_sum-append, block_sum_more, block_sum_four}
+use Rattle.gf128.proofs.hash.BlockSumAbsorb.absorb.Goals as goal
 
 pub fours-init : goal.fours-init
 fours-init x c = λ h m whole held.
     let q : ℕ = length m / 16 in
     let e : q + 0 ≡ q = omega arith in
-    let before : ghash_sum h (m ++ c.args.blocks.now) q ≡ ghash_sum h m q =
-    ghash_sum-append h m c.args.blocks.now q (omega arith) in
+    let o : Order = x.O.ByteOrder.order in
+    let k : List ℕ = x.M.Multiply.key_bytes c.args.self.now.multiplier in
+    let before : block_sum o k (m ++ c.args.blocks.now) q ≡ block_sum o k m q =
+    block_sum-append o k m c.args.blocks.now q (omega arith) in
     rw (e, before) held.sum_is
 
 pub fours-preserved : goal.fours-preserved
@@ -24,18 +25,20 @@ fours-preserved x c = λ h m whole held.
     let q : ℕ = length m / 16 in
     let small : i < length c.as_chunks.result.0.now / 4 =
     omega (arith, c.fours-test.true, c.as_chunks-2.ensures.front_len) in
-    let read : (j : ℕ) → j < 4 → g (get_or (get_or c.as_chunks-2.result.0.now i []) j [])
-    ≡ g (block_at (m ++ blocks) (q + (i * 4 + j))) = λ j l.
-    ap g (four_at blocks c.as_chunks.result.0.now c.as_chunks-2.result.0.now i j c.as_chunks.ensures.front
+    let o : Order = x.O.ByteOrder.order in
+    let read : (j : ℕ) → j < 4 → reading o (get_or (get_or c.as_chunks-2.result.0.now i []) j [])
+    ≡ reading o (block_at (m ++ blocks) (q + (i * 4 + j))) = λ j l.
+    ap (reading o) (four_at blocks c.as_chunks.result.0.now c.as_chunks-2.result.0.now i j c.as_chunks.ensures.front
     c.as_chunks.ensures.front_len c.as_chunks-2.ensures.front small l
     ∙ sym (next_block m blocks (i * 4 + j) whole)) in
     let place : (j : ℕ) → q + (i * 4 + j) ≡ q + i * 4 + j = λ j. omega arith in
     let e : suc (suc (suc (suc (q + i * 4)))) ≡ q + (i + 1) * 4 = omega arith in
     let word : (j k w : ℕ) → j < 4 → q + i * 4 + j ≡ k
-    → of_word w ≡ g (get_or (get_or c.as_chunks-2.result.0.now i []) j [])
-    → of_word w ≡ g (block_at (m ++ blocks) k) = λ j k w l at is.
-    is ∙ read j l ∙ ap (λ (n : ℕ). g (block_at (m ++ blocks) n)) (place j ∙ at) in
-    rw e at (ghash_four h (m ++ blocks) c.fours.sum c.word_of.result c.word_of-in-fours.result
+    → of_word w ≡ reading o (get_or (get_or c.as_chunks-2.result.0.now i []) j [])
+    → of_word w ≡ reading o (block_at (m ++ blocks) k) = λ j k w l at is.
+    is ∙ read j l ∙ ap (λ (n : ℕ). reading o (block_at (m ++ blocks) n)) (place j ∙ at) in
+    rw e at (block_sum_four o (x.M.Multiply.key_bytes c.args.self.now.multiplier) (m ++ blocks) c.fours.sum
+    c.word_of.result c.word_of-in-fours.result
     c.word_of-in-fours-2.result c.word_of-in-fours-3.result c.times_four-sum.result
     (q + i * 4) (c.fours.invariant h m whole held)
     (word 0 (q + i * 4) c.word_of.result (omega arith) (omega arith) c.word_of.ensures)
@@ -45,7 +48,7 @@ fours-preserved x c = λ h m whole held.
     c.word_of-in-fours-2.ensures)
     (word 3 (suc (suc (suc (q + i * 4)))) c.word_of-in-fours-3.result (omega arith) (omega arith)
     c.word_of-in-fours-3.ensures)
-    (rw held.key_is at c.times_four-sum.ensures))
+    c.times_four-sum.ensures)
 
 pub taken-init : goal.taken-init
 taken-init x c = λ h m whole held.
@@ -69,15 +72,16 @@ taken-preserved x c = λ h m whole held.
     let small : i < length c.as_chunks.result.0.now % 4 =
     omega (arith, c.taken-test.true, c.as_chunks-2.ensures.back_len) in
     let at : q + (n + i) ≡ q + n + i = omega arith in
-    let word : of_word c.word_of-in-taken.result ≡ g (block_at (m ++ blocks) (q + n + i)) =
+    let o : Order = x.O.ByteOrder.order in
+    let word : of_word c.word_of-in-taken.result ≡ reading o (block_at (m ++ blocks) (q + n + i)) =
     c.word_of-in-taken.ensures
-    ∙ ap g (after_fours blocks c.as_chunks.result.0.now c.as_chunks-2.result.1.now i
+    ∙ ap (reading o) (after_fours blocks c.as_chunks.result.0.now c.as_chunks-2.result.1.now i
     c.as_chunks.ensures.front c.as_chunks.ensures.front_len c.as_chunks-2.ensures.back small
     ∙ sym (next_block m blocks (n + i) whole) ∙ ap (block_at (m ++ blocks)) at) in
     let e : suc (q + n + i) ≡ q + n + (i + 1) = omega arith in
-    rw e at (ghash_more h (m ++ blocks) c.taken.sum c.word_of-in-taken.result c.times_word-sum.result
+    rw e at (block_sum_more o (x.M.Multiply.key_bytes c.args.self.now.multiplier) (m ++ blocks) c.taken.sum c.word_of-in-taken.result c.times_word-sum.result
     (q + n + i) (c.taken.invariant h m whole held) word
-    (rw held.key_is at c.times_word-sum.ensures))
+    c.times_word-sum.ensures)
 
 pub returns : goal.returns
 returns x c = λ h m whole held.
@@ -92,4 +96,4 @@ returns x c = λ h m whole held.
       c.as_chunks-2.ensures.back_len,
       c.requires,
     ) in
-    record { key_is = held.key_is; sum_is = rw n (c.taken.invariant h m whole held) }
+    record { serves = held.serves; sum_is = rw n (c.taken.invariant h m whole held) }

@@ -1,0 +1,33 @@
+-- GHASH and POLYVAL by one sum in GHASH's field: they differ in the order in which the bytes of a block are
+-- read.
+use Rattle.std.specs.Prelude.{◌≡◌, ℕ, ◌-◌, Bool, List, reverse}
+use Rattle.octets.specs.Bytes.{block_at, IsBlock}
+use Rattle.octets.specs.Bits.{g}
+use Rattle.octets.specs.Polynomial.{product, power, sum_of_first, residue}
+use Rattle.gf128.specs.Ghash.{ghash_modulus, ghash}
+use Rattle.gf128.specs.Polyval.{IsReversedMulX, polyval}
+
+-- GHASH reads the bytes as they stand, POLYVAL from the last to the first
+pub data Order : Type 0 where
+  Straight : Order
+  Reversed : Order
+
+-- the polynomial of a block
+abbrev pub reading : Order → List ℕ → List Bool
+reading Straight b = g b
+reading Reversed b = g (reverse b)
+
+-- the hash under h is computed by products with k
+abbrev pub Serves : Order → List ℕ → List ℕ → Type 0
+Serves Straight h k = k ≡ h
+Serves Reversed h k = IsBlock h × IsReversedMulX h k
+
+-- the hash under h of the blocks of m, which are whole
+abbrev pub hash_by : Order → List ℕ → List ℕ → List ℕ
+hash_by Straight h m = ghash h m
+hash_by Reversed h m = polyval h m
+
+-- the sum of the residues of X_i * K^(n-i+1), where X_1 .. X_n are the first n blocks of m
+unfoldable pub block_sum : Order → List ℕ → List ℕ → ℕ → List Bool
+block_sum o k m n = sum_of_first n
+    (λ i. residue ghash_modulus (product (reading o (block_at m i)) (power (g k) (n - i))))

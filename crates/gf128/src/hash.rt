@@ -1,0 +1,126 @@
+// GHASH and POLYVAL over a text fed piece by piece: one state, over the order of a block's bytes.
+
+ghost use Rattle.std.specs.Prelude.{◌≡◌, ℕ, ◌/◌, ◌++◌, List, [], length};
+ghost use Rattle.octets.specs.Bytes.{IsBlock};
+ghost use Rattle.octets.specs.Polynomial.{Agree};
+ghost use Rattle.gf128.specs.Code.Words.{of_word};
+ghost use Rattle.gf128.specs.Orders.{Order, reading, Serves, hash_by, block_sum};
+
+use crate::{Keyed128, Multiply};
+use octets::{Absorb, Block, Pieces};
+use std::marker::PhantomData;
+
+/// The order in which a hash reads the bytes of a block.
+pub trait ByteOrder {
+    ghost order: { Order };
+
+    /// The word of a block.
+    fn word_of(block: &[u8; 16]) -> u128
+        ensures { of_word result ≡ reading order block.now };
+
+    /// The hash of blocks whose sum is a word.
+    fn hash_of(sum: u128) -> Block
+        ensures value { (h k m : List ℕ) → Serves order h k
+            → Agree (of_word sum) (block_sum order k m (length m / 16)) → result ≡ hash_by order h m }
+        ensures is_block { IsBlock result };
+
+    /// The key of a multiplier that serves the hash under `key`.
+    fn multiplier_key(key: &Block) -> Block
+        ensures { Serves order key.now result };
+}
+
+// The sum over whole blocks.
+#[derive(Drop)]
+struct BlockSum<M, O> {
+    multiplier: M,
+    sum: u128,
+    byte_order: PhantomData<O>,
+}
+
+impl<M: Multiply, O: ByteOrder> Absorb for BlockSum<M, O> {
+    ghost use Rattle.gf128.specs.States.{SumHolds};
+
+    ghost absorbed = { λ s h m. SumHolds O.order M.key_bytes s h m };
+
+    fn absorb(&mut self, blocks: &[u8]) {
+        let (whole, _) = blocks.as_chunks::<16>();
+        let (fours, rest) = whole.as_chunks::<4>();
+        let mut sum = self.sum;
+        'fours: for four in fours {
+            sum = self.multiplier.times_four(
+                sum ^ O::word_of(&four[0]),
+                O::word_of(&four[1]),
+                O::word_of(&four[2]),
+                O::word_of(&four[3]),
+            );
+        }
+        'taken: for block in rest {
+            sum = self.multiplier.times_word(sum ^ O::word_of(block));
+        }
+        self.sum = sum;
+    }
+}
+
+/// GHASH or POLYVAL over a text fed piece by piece, by the multiplier `M` in GHASH's field.
+#[derive(Drop)]
+pub struct BlockHash<M, O> {
+    pieces: Pieces<BlockSum<M, O>>,
+}
+
+impl<M: Keyed128, O: ByteOrder> BlockHash<M, O> {
+    ghost use Rattle.gf128.specs.States.{HashHolds};
+
+    /// A state that holds the empty text, under a key of 16 bytes.
+    pub fn new(key: &Block) -> BlockHash<M, O>
+        ensures { HashHolds O.order M.key_bytes result key.now [] }
+    {
+        BlockHash::with(M::of(&O::multiplier_key(key)))
+    }
+}
+
+impl<M: Multiply, O: ByteOrder> BlockHash<M, O> {
+    ghost use Rattle.octets.specs.Bytes.{pad16};
+    ghost use Rattle.gf128.specs.States.{HashHolds};
+
+    /// A state that holds the empty text, under each key that the multiplier serves: for GHASH its own key,
+    /// for POLYVAL the one of which its key is [`crate::reversed_mul_x`]. The multiplier may be a reference
+    /// to one that is kept.
+    pub fn with(multiplier: M) -> BlockHash<M, O>
+        ensures { (h : List ℕ) → Serves O.order h (M.key_bytes multiplier)
+            → HashHolds O.order M.key_bytes result h [] }
+    {
+        BlockHash {
+            pieces: Pieces::new(BlockSum {
+                multiplier,
+                sum: 0,
+                byte_order: PhantomData,
+            }),
+        }
+    }
+
+    /// Adds `piece`, of any length, to the text.
+    pub fn update(&mut self, piece: &[u8])
+        ensures { (h m : List ℕ) → HashHolds O.order M.key_bytes self.old h m
+            → HashHolds O.order M.key_bytes self.new h (m ++ piece.now) }
+    {
+        self.pieces.update(piece);
+    }
+
+    /// Feeds zeros up to a multiple of 16 bytes fed.
+    pub fn pad16(&mut self)
+        ensures { (h m : List ℕ) → HashHolds O.order M.key_bytes self.old h m
+            → HashHolds O.order M.key_bytes self.new h (pad16 m) }
+    {
+        self.pieces.pad16();
+    }
+
+    /// Returns the hash of the text fed, padded by zeros to whole blocks: 16 bytes. Consumes the state.
+    pub fn finish(mut self) -> Block
+        ensures value { (h m : List ℕ) → HashHolds O.order M.key_bytes self h m
+            → result ≡ hash_by O.order h (pad16 m) }
+        ensures is_block { IsBlock result }
+    {
+        self.pad16();
+        O::hash_of(self.pieces.core().sum)
+    }
+}
