@@ -5,6 +5,10 @@
 # is given; then it is the right one. It prints a line for each command, how many requests were refused, and
 # wants cc.
 set -eu
+if [ $# != 1 ]; then
+    echo "usage: refuse.sh PROGRAM" >&2
+    exit 2
+fi
 program=$(realpath "$1")
 cd "$(dirname "$0")"
 room=$(mktemp -d)
