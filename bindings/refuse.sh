@@ -62,6 +62,7 @@ tried() {
 }
 tried
 tried help seal
+tried --version
 tried wrap --key $key --text 00112233445566778899aabbccddeeff
 tried unwrap --key $key --sealed 1fa68b0a8112b447aef34bd8fb5a7b829d3e862371d2cfe5
 tried wrap --key $key --text 0011223344 --pad
