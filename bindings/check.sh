@@ -1,12 +1,20 @@
 #!/bin/sh
-# Builds and runs the examples over OUT, which build.sh made, and looks at the library's names: check.sh OUT
-# It prints a line for each language, 'ok: ..', or 'left out: ..' where its compiler or interpreter is not
-# there.
+# Looks at the library's names, builds and runs the examples over it, and installs each package in a fresh folder.
 set -eu
-out=$(cd "$1" && pwd)
+if [ $# != 1 ]; then
+    echo "usage: check.sh PREFIX
+  PREFIX   what build.sh laid out, whole or with --library
+It prints a line for each language, 'ok: ..', or 'left out: ..' if its compiler or interpreter is not there." >&2
+    exit 2
+fi
+prefix=$(cd "$1" && pwd)
+out=$prefix/lib
+include=-I$prefix/include
 cd "$(dirname "$0")"
+. ./copy.sh
 room=$(mktemp -d)
 trap 'rm -rf "$room"' EXIT
+version=$(version_of ..)
 warnings="-Wall -Wextra -Werror -pedantic"
 sanitizers="-fsanitize=address,undefined -fno-sanitize-recover=all"
 
@@ -25,13 +33,24 @@ wanted=$(grep -oE 'aeadkit_[a-z_]+' exports.map | sort | tr '\n' ' ')
 called=$(nm -D --undefined-only "$out/libaeadkit.so" | awk '$1 == "U" { print $2 }' \
     | grep -vE '^(mem(cpy|move|set|cmp)|bcmp)(@|$)' || true)
 [ -z "$called" ] || { echo "the library calls $called" >&2; exit 1; }
-echo "ok: the library exports $exported"
+soname=libaeadkit.so.${version%%.*}
+objdump -p "$out/libaeadkit.so" | grep -q "SONAME *$soname\$" || { echo "the library is not named $soname" >&2; exit 1; }
+echo "ok: $soname exports $exported"
 
 if makes "$room/probe.c" cc; then
-    cc -std=c11 -O2 $warnings -Iinclude c/example.c "$out/libaeadkit.a" -o "$room/c"
+    cc -std=c11 -O2 $warnings $include c/example.c "$out/libaeadkit.a" -o "$room/c"
     "$room/c"
+    if pkg-config --version > "$room/probe.log" 2>&1; then
+        words=$(PKG_CONFIG_PATH=$out/pkgconfig pkg-config --cflags --libs aeadkit)
+        cc -std=c11 -O2 c/example.c $words -o "$room/c-shared"
+        LD_LIBRARY_PATH=$out "$room/c-shared"
+        # the loader takes the build for AVX2 if it is there and the processor has it
+        LD_LIBRARY_PATH=$out ldd "$room/c-shared" | sed -n "s|.*=> $prefix/\(.*/$soname\) .*|ok: C by pkg-config, over \1|p"
+    else
+        echo "left out: C by pkg-config, which is not there"
+    fi
     if makes "$room/probe.c" cc $sanitizers; then
-        cc -std=c11 -g $warnings $sanitizers -Iinclude c/example.c "$out/libaeadkit.a" -o "$room/c-sanitized"
+        cc -std=c11 -g $warnings $sanitizers $include c/example.c "$out/libaeadkit.a" -o "$room/c-sanitized"
         ASAN_OPTIONS=detect_leaks=0 "$room/c-sanitized"
         echo "ok: C, and under the sanitizers"
     else
@@ -41,25 +60,52 @@ else
     echo "left out: C, no cc"
 fi
 if makes "$room/probe.c" c++ -x c++; then
-    c++ -x c++ -std=c++17 -O2 $warnings -Iinclude -c c/example.c -o "$room/c++.o"
+    c++ -x c++ -std=c++17 -O2 $warnings $include -c c/example.c -o "$room/c++.o"
     c++ "$room/c++.o" "$out/libaeadkit.a" -o "$room/c++"
     "$room/c++"
     echo "ok: C++"
 else
     echo "left out: C++, no c++"
 fi
-if python3 -c 'import ctypes' > "$room/probe.log" 2>&1; then
-    AEADKIT="$out/libaeadkit.so" PYTHONDONTWRITEBYTECODE=1 python3 python/example.py
-    echo "ok: Python"
-else
+
+# The packages: pip takes the wheel, or without pip its folder is read; cargo builds the crate, or else rustc does.
+mkdir "$room/laid"
+cp -a "$prefix/include" "$prefix/lib" "$room/laid/"
+./packages.sh "$room/laid"
+if ! python3 -c 'import ctypes' > "$room/log" 2>&1; then
     echo "left out: Python, no python3 with ctypes"
-fi
-if makes "$room/probe.rs" rustc --edition 2024; then
-    strict="--edition 2024 -O -D warnings"
-    rustc $strict --crate-type rlib --crate-name aeadkit -L "$out" rust/aeadkit.rs --out-dir "$room"
-    rustc $strict --extern aeadkit="$room/libaeadkit.rlib" rust/example.rs -o "$room/rust"
-    "$room/rust"
-    echo "ok: Rust"
+elif python3 -m venv "$room/venv" > "$room/log" 2>&1 && "$room/venv/bin/python" -m pip --version > "$room/log" 2>&1; then
+    "$room/venv/bin/python" -m pip install --quiet --no-index --disable-pip-version-check \
+        "$room/laid/share/aeadkit/"aeadkit-*.whl
+    "$room/venv/bin/python" python/examples/vectors.py
+    "$room/venv/bin/python" -m pip show aeadkit 2> "$room/log" | grep -q "^Version: $version\$"
+    echo "ok: Python, installed by pip"
 else
+    AEADKIT="$out/libaeadkit.so" PYTHONPATH=python PYTHONDONTWRITEBYTECODE=1 python3 python/examples/vectors.py
+    echo "ok: Python (left out: pip, which is not there)"
+fi
+if ! makes "$room/probe.rs" rustc --edition 2024; then
     echo "left out: Rust, no rustc of edition 2024"
+elif cargo --version > "$room/log" 2>&1; then
+    mkdir -p "$room/user/src"
+    cp rust/examples/vectors.rs "$room/user/src/main.rs"
+    printf '[package]\nname = "user"\nversion = "1.0.0"\nedition = "2024"\n\n[dependencies]\naeadkit = { path = "%s" }\n' \
+        "$room/laid/share/aeadkit/rust" > "$room/user/Cargo.toml"
+    (cd "$room/user" && RUSTFLAGS="-D warnings" CARGO_TARGET_DIR="$room/target" cargo run --quiet --offline)
+    echo "ok: Rust, built by cargo"
+else
+    strict="--edition 2024 -O -D warnings"
+    rustc $strict --crate-type rlib --crate-name aeadkit -L "$out" -l static=aeadkit rust/src/lib.rs --out-dir "$room"
+    rustc $strict --extern aeadkit="$room/libaeadkit.rlib" rust/examples/vectors.rs -o "$room/rust"
+    "$room/rust"
+    echo "ok: Rust (left out: cargo, which is not there)"
+fi
+if [ -e "$prefix/share/aeadkit/javascript" ]; then
+    ./wasm-check.sh "$prefix"
+fi
+if [ -e "$prefix/bin/aeadkit" ]; then
+    [ "$("$prefix/bin/aeadkit" --version)" = "aeadkit $version" ]
+    grep -q "AEADKIT 1 .*aeadkit $version" "$prefix/share/man/man1/aeadkit.1"
+    bash -n "$prefix/share/bash-completion/completions/aeadkit"
+    echo "ok: aeadkit $version, its man page and completions"
 fi

@@ -1,41 +1,82 @@
-# Functions of build.sh and wasm.sh, which read it.
+# Functions of build.sh, packages.sh and wasm.sh, which read it.
 
-# Copies what the library is made of to a folder outside the repository, in which crates.txt names aead and
-# keywrap as libraries of a kind and leaves out what depends on them: copy REPOSITORY ROOM KIND
-# What earlier checks kept of the crates is copied too, so that it is not proved anew.
-copy() {
-    mkdir "$2/crates"
-    grep -Ev '^(vectors|aeadkit):' "$1/crates.txt" | sed -E "s/^(aead|keywrap):/\\1 $3:/" > "$2/crates.txt"
+# Prints the version of a repository: version_of REPOSITORY
+version_of() {
+    sed -n 's/^pub const VERSION: &str = "\(.*\)";$/\1/p' "$1/crates/aeadkit/src/version.rt"
+}
+
+# Prints a file with the version in the place of 0.0.0: filled FILE VERSION
+filled() {
+    sed "s/0\.0\.0/$2/" "$1"
+}
+
+# Copies the crates that ROOM/crates.txt names from a repository: crates REPOSITORY ROOM
+# What earlier checks kept of a crate is copied too, if the room has nothing of it, so that it is not proved anew.
+crates() {
     for name in $(sed -E 's/[ :].*//' "$2/crates.txt"); do
-        cp -a "$1/crates/$name" "$2/crates/"
+        mkdir -p "$2/crates/$name"
+        for part in $(ls "$1/crates/$name"); do
+            if [ "$part" != out ]; then
+                rm -rf "$2/crates/$name/$part"
+                cp -a "$1/crates/$name/$part" "$2/crates/$name/"
+            elif [ ! -e "$2/crates/$name/out" ]; then
+                cp -a "$1/crates/$name/out" "$2/crates/$name/"
+            fi
+        done
     done
 }
 
-# Proves and builds a crate of the copy, and prints what was proved: build ROOM NAME [rattle's flags]
-# `rt lib` proves before it builds, so what is linked is proved.
-build() {
+# Copies what the library is made of to a folder outside the repository, in which crates.txt names aead and keywrap as
+# libraries of a kind and leaves out what depends on them: copy REPOSITORY ROOM KIND
+copy() {
+    grep -Ev '^(vectors|aeadkit):' "$1/crates.txt" | sed -E "s/^(aead|keywrap):/\\1 $3:/" > "$2/crates.txt"
+    crates "$1" "$2"
+}
+
+# Runs rt in a crate of the copy, and prints what was proved: proved ROOM NAME WORD.. of rt
+proved() {
     crate=$1/crates/$2
     log=$1/$2.log
     shift 2
-    (cd "$crate" && rt lib "$@" > "$log") || {
+    (cd "$crate" && rt "$@" > "$log" 2>&1) || {
         tail -n 20 "$log" >&2
         exit 1
     }
     grep '^logic=' "$log" | tail -n 1
 }
 
-# Builds OUT/libaeadkit.a and OUT/libaeadkit.so of the copy: archive ROOM OUT EXPORTS [rattle's flags]
+# Builds FOLDER/libaeadkit.a of the copy: archive ROOM FOLDER [rattle's flags]
+# `rt lib` proves before it builds, so what is linked is proved.
 archive() {
     room=$1
-    out=$2
-    exports=$3
-    shift 3
+    folder=$2
+    shift 2
     for name in keywrap aead; do
-        build "$room" "$name" "$@"
+        proved "$room" "$name" lib "$@"
         (cd "$room" && ar x "crates/$name/out/lib$name.a")
     done
-    rm -f "$out/libaeadkit.a"
-    ar rcs "$out/libaeadkit.a" "$room/aead.o" "$room/keywrap.o"
-    cc -shared -o "$out/libaeadkit.so" -Wl,--whole-archive "$out/libaeadkit.a" -Wl,--no-whole-archive \
-        -Wl,--no-undefined-version -Wl,--version-script="$exports"
+    rm -f "$folder/libaeadkit.a"
+    ar rcs "$folder/libaeadkit.a" "$room/aead.o" "$room/keywrap.o"
+}
+
+# Links an archive as FOLDER/libaeadkit.so, under the name that its version says: shared ARCHIVE FOLDER VERSION EXPORTS
+shared() {
+    name=libaeadkit.so.${3%%.*}
+    cc -shared -o "$2/libaeadkit.so.$3" -Wl,-soname,"$name" -Wl,--whole-archive "$1" -Wl,--no-whole-archive \
+        -Wl,--no-undefined-version -Wl,--version-script="$4"
+    ln -sf "libaeadkit.so.$3" "$2/$name"
+    ln -sf "$name" "$2/libaeadkit.so"
+}
+
+# Proves and builds the program of the copy into a folder: program REPOSITORY ROOM FOLDER [rattle's flags]
+program() {
+    repository=$1
+    room=$2
+    folder=$3
+    shift 3
+    cp "$repository/crates.txt" "$room/crates.txt"
+    crates "$repository" "$room"
+    proved "$room" aeadkit run "$@" -- --version
+    cp "$room/crates/aeadkit/out/aeadkit" "$folder/aeadkit.new"
+    mv "$folder/aeadkit.new" "$folder/aeadkit"
 }

@@ -5,6 +5,10 @@
 # is given; then it is the right one. It prints a line for each command, how many requests were refused, and
 # wants cc.
 set -eu
+if [ $# != 1 ]; then
+    echo "usage: refuse.sh PROGRAM" >&2
+    exit 2
+fi
 program=$(realpath "$1")
 cd "$(dirname "$0")"
 room=$(mktemp -d)
@@ -58,6 +62,7 @@ tried() {
 }
 tried
 tried help seal
+tried --version
 tried wrap --key $key --text 00112233445566778899aabbccddeeff
 tried unwrap --key $key --sealed 1fa68b0a8112b447aef34bd8fb5a7b829d3e862371d2cfe5
 tried wrap --key $key --text 0011223344 --pad

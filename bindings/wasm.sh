@@ -1,26 +1,27 @@
 #!/bin/sh
-# Proves the library crates, builds OUT/aead.wasm and OUT/keywrap.wasm, and runs their example where node is
-# there: wasm.sh REPOSITORY OUT. The modules import nothing; they want a host with 64-bit memories.
+# Proves the library crates, builds their WebAssembly modules and lays out the JavaScript package, whose example it
+# runs if node is there.
 set -eu
+if [ $# -lt 2 ]; then
+    echo "usage: wasm.sh REPOSITORY PREFIX [rattle's flags]
+  PREFIX   gets share/aeadkit/javascript, a package for npm. Its modules import nothing; they want a host with
+           memories of 64-bit addresses" >&2
+    exit 2
+fi
 repository=$(cd "$1" && pwd)
 mkdir -p "$2"
-out=$(cd "$2" && pwd)
+prefix=$(cd "$2" && pwd)
+shift 2
 cd "$(dirname "$0")"
 . ./copy.sh
-room=$(mktemp -d)
-trap 'rm -rf "$room"' EXIT
+room=${AEADKIT_WORK:-$prefix/.aeadkit}
+package=$prefix/share/aeadkit/javascript
+mkdir -p "$room" "$package"
 copy "$repository" "$room" wasm64
 for name in keywrap aead; do
-    build "$room" "$name"
-    cp "$room/crates/$name/out/$name.wasm" "$out/"
+    proved "$room" "$name" lib "$@"
+    cp "$room/crates/$name/out/$name.wasm" "$package/"
 done
-
-if ! node --version > "$room/node.log" 2>&1; then
-    echo "left out: WebAssembly, no node"
-elif node wasm/example.mjs "$out" > "$room/node.log" 2>&1 \
-    || node --experimental-wasm-memory64 wasm/example.mjs "$out" > "$room/node.log" 2>&1; then
-    echo "ok: WebAssembly"
-else
-    cat "$room/node.log" >&2
-    exit 1
-fi
+cp wasm/aeadkit.mjs wasm/aeadkit.d.mts wasm/node.mjs wasm/node.d.mts "$package/"
+filled wasm/package.json "$(version_of "$repository")" > "$package/package.json"
+./wasm-check.sh "$prefix"

@@ -1,12 +1,7 @@
-// Seals, opens, refuses, wraps and unwraps published vectors: example.mjs FOLDER, which holds aead.wasm and keywrap.wasm.
+// Seals, opens, refuses, wraps and unwraps published vectors, by the package that is installed.
 
 import assert from "node:assert";
-import { readFileSync } from "node:fs";
-import { Aead, KeyWrap, Refused, Suite } from "./aeadkit.mjs";
-
-const folder = process.argv[2];
-const aead = new Aead(readFileSync(`${folder}/aead.wasm`));
-const keywrap = new KeyWrap(readFileSync(`${folder}/keywrap.wasm`));
+import { Refused, Suite, aead, keywrap } from "aeadkit/node";
 
 const bytes = (hex) => Uint8Array.from(hex.match(/../g) ?? [], (digits) => parseInt(digits, 16));
 const hex = (array) => Array.from(array, (byte) => byte.toString(16).padStart(2, "0")).join("");
@@ -25,6 +20,16 @@ refuses("TooShort", () => aead.open(Suite.AES_128_GCM, zero, nonce, none, none))
 refuses("NonceLength", () => aead.seal(Suite.AES_128_GCM, zero, zero, none, zero));
 refuses("KeyLength", () => aead.seal(Suite.AES_256_GCM, zero, nonce, none, zero));
 refuses("UnknownSuite", () => aead.seal(7, zero, nonce, none, zero));
+refuses("UnknownSuite", () => aead.seal("2", zero, nonce, none, zero));
+
+// Nothing but a Uint8Array is taken for bytes.
+for (const other of ["a text", [1, 2], 16, undefined, null, new ArrayBuffer(16)]) {
+    assert.throws(() => aead.seal(Suite.AES_128_GCM, zero, nonce, none, other), TypeError);
+    assert.throws(() => aead.seal(Suite.AES_128_GCM, other, nonce, none, zero), TypeError);
+    assert.throws(() => aead.open(Suite.AES_128_GCM, zero, nonce, other, zero), TypeError);
+    assert.throws(() => keywrap.wrap(zero, other), TypeError);
+    assert.throws(() => keywrap.wrapPadded(zero, other), TypeError);
+}
 
 // RFC 8452, C.1, with associated data of one byte.
 const siv = aead.seal(Suite.AES_128_GCM_SIV, bytes("01".padEnd(32, "0")), bytes("03".padEnd(24, "0")), bytes("01"),

@@ -1,5 +1,5 @@
 -- What the program does for a request: what it prints, with which status, or why it stops.
-use Rattle.std.specs.Prelude.{◌≡◌, ℕ, ◌⊎◌, List, Err, MatchResult}
+use Rattle.std.specs.Prelude.{◌≡◌, ℕ, ◌⊎◌, List, [], ◌∷◌, ◌++◌, codes, Err, MatchResult}
 use Rattle.std.specs.declared.option.Option.{Option}
 use Rattle.std.specs.declared.result.Result.{Result}
 use Rattle.std.specs.Io.KnownBytes.{Appends}
@@ -10,7 +10,8 @@ use Rattle.aeadkit.specs.declared.words.Request.{Request}
 use Rattle.aeadkit.specs.declared.words.Request.TheVariants.{Wrap, Unwrap, Seal, Open, SealFile, OpenFile}
 use Rattle.aeadkit.specs.declared.words.Request.TheVariants.{Check}
 use Rattle.aeadkit.specs.declared.words.Refusal.{Refusal}
-use Rattle.aeadkit.specs.declared.words.Refusal.TheVariants.{Help, Words, OutOfMemory as NoMemory}
+use Rattle.aeadkit.specs.declared.words.Refusal.TheVariants.{Help, Version, Words, OutOfMemory as NoMemory}
+use Rattle.aeadkit.specs.declared.version.TheConstants.{VERSION}
 use Rattle.aead.specs.Refusals.{WholeSealRefused, WholeOpenRefused}
 use Rattle.aeadkit.specs.Aead.{IsSealed, IsOpened, IsRefused}
 use Rattle.aeadkit.specs.Files.{Sealing, Opening, FileDone, FileStopped}
@@ -64,8 +65,15 @@ Stopped s (SealFile w) e = FileStopped (Sealing (s.files w.input.now)) w.inputs 
 Stopped s (OpenFile w) e = FileStopped (Opening (s.files w.input.now)) w.inputs s.taken s.held e
 Stopped s (Check path) e = FileRefused (s.files path.now 0) e ⊎ IsOutputFailure e
 
--- what becomes of words that are no request: help is printed, with status 0, and else they are refused
-abbrev pub IsRefusedAs : Refusal → Result ℕ Failure → Type 0
-IsRefusedAs (Help text) result = MatchResult result (λ status. status ≡ 0) IsOutputFailure
-IsRefusedAs Words result = result ≡ Err OfWords
-IsRefusedAs NoMemory result = result ≡ Err (OfFault OutOfMemory)
+-- the program's name and version, and LF
+abbrev pub version_line : List ℕ
+version_line = codes "aeadkit " ++ (VERSION.now ++ 10 ∷ [])
+
+-- what becomes of words that are no request: help or the version is printed, with status 0, and else they
+-- are refused
+abbrev pub IsRefusedAs : Refusal → Option (List ℕ) → Option (List ℕ) → Result ℕ Failure → Type 0
+IsRefusedAs (Help text) before after result = MatchResult result (λ status. status ≡ 0) IsOutputFailure
+IsRefusedAs Version before after result =
+    MatchResult result (λ status. (status ≡ 0) × Appends before after version_line) IsOutputFailure
+IsRefusedAs Words before after result = result ≡ Err OfWords
+IsRefusedAs NoMemory before after result = result ≡ Err (OfFault OutOfMemory)

@@ -13,6 +13,7 @@ mod storage;
 mod subcommands;
 #[cfg(test)]
 mod tests;
+mod version;
 mod words;
 
 use arguments::words_given;

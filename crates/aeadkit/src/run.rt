@@ -5,7 +5,7 @@ ghost use Rattle.std.specs.Io.KnownBytes.{Appends};
 ghost use Rattle.aead.specs.Refusals.{WholeSealRefused, WholeOpenRefused};
 ghost use Rattle.aeadkit.specs.Aead.{IsSealed, IsOpened, IsRefused};
 ghost use Rattle.aeadkit.specs.Answers.{Surroundings, Printed, Answered, Stopped, IsOutputFailure};
-ghost use Rattle.aeadkit.specs.Answers.{IsRefusedAs};
+ghost use Rattle.aeadkit.specs.Answers.{IsRefusedAs, version_line};
 ghost use Rattle.aeadkit.specs.Blames.{InputFailed, OutputFailed, RequestBlames, Makes};
 ghost use Rattle.aeadkit.specs.declared.failure.Failure.TheVariants.{Fault as OfFault};
 ghost use Rattle.octets.specs.declared.fault.Fault.TheVariants.{Read as OfRead};
@@ -18,6 +18,7 @@ ghost use Rattle.aeadkit.specs.Statuses.{failure_status};
 use crate::failure::{Failure, fault_of};
 use crate::new_file::NewFile;
 use crate::storage::Storage;
+use crate::version::VERSION;
 use crate::words::{Inputs, Refusal, Request};
 use crate::{commands, files, words};
 use octets::{Fault, Outlet};
@@ -205,9 +206,20 @@ pub fn perform<'a, A: Allocator, B: Allocator, F: Storage, W: Write>(
     }
 }
 
-// Prints the help that was asked for, or says why the words are no request.
+// Prints the program's name and version as one line, and returns status 0. The only faults are `Write` and
+// `OutOfMemory`.
+fn print_version<W: Write>(alloc: Global, out: &mut W) -> Result<u8, Failure>
+    ensures { MatchResult result
+        (λ status. (status ≡ 0) × Appends (W.contents out.old) (W.contents out.new) version_line)
+        IsOutputFailure }
+{
+    let line = format!(in alloc; "aeadkit {VERSION}\n")?;
+    print(out, &line)
+}
+
+// Prints the help or the version that was asked for, or says why the words are no request.
 fn refuse<W: Write>(alloc: Global, refusal: &Refusal, out: &mut W) -> Result<u8, Failure>
-    ensures answer { IsRefusedAs refusal.now result }
+    ensures answer { IsRefusedAs refusal.now (W.contents out.old) (W.contents out.new) result }
     ensures status { IfOk result (λ status. status ≤ 1) }
 {
     match refusal {
@@ -215,6 +227,7 @@ fn refuse<W: Write>(alloc: Global, refusal: &Refusal, out: &mut W) -> Result<u8,
             let text = format!(in alloc; "{help}")?;
             print(out, &text)
         }
+        Refusal::Version => print_version(alloc, out),
         Refusal::Words => Err(Failure::Words),
         Refusal::OutOfMemory => Err(Failure::Fault(Fault::OutOfMemory)),
     }

@@ -3,6 +3,7 @@ use crate::help::{
     ABOUT_HEX, CHECK_MORE, OPEN_FILE_MORE, OPEN_MORE, SEAL_FILE_MORE, SEAL_MORE, SUITES,
     UNWRAP_MORE, WRAP_KEY, WRAP_MORE,
 };
+use crate::version::VERSION;
 use clap::{Arg, ArgAction, Command};
 use std::alloc::{AllocError, Global};
 
@@ -296,6 +297,7 @@ pub fn command<'a>(alloc: Global) -> Result<Command<'a>, AllocError> {
     let bare = Command::new(alloc, "aeadkit")
         .about("Authenticated encryption and key wrapping by published standards")
         .after_help(ABOUT_HEX)
+        .version(VERSION)
         .no_binary_name(true)
         .subcommand_required(true)
         .bin_name("aeadkit")?;

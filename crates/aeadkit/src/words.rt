@@ -61,6 +61,8 @@ pub enum Request<'a> {
 pub enum Refusal {
     /// Help was asked for: this is its text.
     Help(Error),
+    /// The version was asked for.
+    Version,
     /// They are no command line of the program.
     Words,
     /// A growth was refused.
@@ -151,6 +153,7 @@ fn asked<'a>(matches: &ArgMatches<'a>) -> Option<Request<'a>> {
 fn refused(error: Error) -> Refusal {
     match error.kind() {
         ErrorKind::DisplayHelp => Refusal::Help(error),
+        ErrorKind::DisplayVersion => Refusal::Version,
         ErrorKind::OutOfMemory => Refusal::OutOfMemory,
         _ => Refusal::Words,
     }

@@ -1,7 +1,8 @@
 //! Words that are no request.
 use super::devices::{Narrow, NoFiles};
-use super::{refuses, runs_into};
-use std::alloc::Global;
+use super::{prints, refuses, runs_into};
+use crate::version::VERSION;
+use std::alloc::{AllocError, Global};
 use std::io;
 use std::process::Abort;
 
@@ -37,7 +38,7 @@ fn refused_words(rt: HostRuntime) {
     refused(&["check", "a", "b"]);
     refused(&["seal-file"]);
     refused(&["help", "frob"]);
-    refused(&["--version"]);
+    refused(&["seal", "--version"]);
 }
 
 // The words print help, with status 0, and nothing to standard error.
@@ -62,6 +63,21 @@ fn help_asked_for(rt: HostRuntime) {
     ] {
         helps(&rt, words);
     }
+}
+
+// The version is one line on standard output, with status 0.
+#[test]
+fn version_asked_for(rt: HostRuntime) -> Result<(), AllocError> {
+    let mut line = String::new(rt.alloc());
+    line.push_str("aeadkit ")?;
+    line.push_str(VERSION)?;
+    prints(&rt, &["--version"], &line);
+    prints(&rt, &["-V"], &line);
+    let words = ["--version"];
+    let kind = io::ErrorKind::BrokenPipe;
+    let mut out = Narrow { room: 3, kind };
+    runs_into(&rt, &NoFiles, &words, &mut out, 3, "aeadkit: Write\n");
+    Ok(())
 }
 
 // Help that can't be written is `Write`.

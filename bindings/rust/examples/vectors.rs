@@ -1,6 +1,6 @@
 //! Seals, opens, refuses, wraps and unwraps published vectors.
 
-use aeadkit::{Fault, Suite, TAG_BYTES, WRAP_BYTES, open, seal, unwrap, unwrap_padded, wrap, wrap_padded};
+use aeadkit::{Fault, Key, Suite, TAG_BYTES, WRAP_BYTES, open, seal, unwrap, unwrap_padded, wrap, wrap_padded};
 
 /// AES-128-GCM of sixteen zero bytes under a zero key and nonce: test case 2 of GCM's vectors.
 fn sealing() -> Result<(), Fault> {
@@ -16,6 +16,24 @@ fn sealing() -> Result<(), Fault> {
     assert_eq!(open(Suite::Aes128Gcm, &key, &[], &[], &mut bytes), Err(Fault::NonceLength));
     assert_eq!(bytes, before);
     assert_eq!(open(Suite::Aes128Gcm, &key, &nonce, &[], &mut bytes)?, &[0; 16]);
+    Ok(())
+}
+
+/// Each suite with a key that is kept, and texts around the length of a block.
+fn keys() -> Result<(), Fault> {
+    use Suite::*;
+    for suite in [ChaCha20Poly1305, Aes128Gcm, Aes192Gcm, Aes256Gcm, Aes128GcmSiv, Aes256GcmSiv] {
+        let key = Key::new(suite, &[7; 32][..suite.key_bytes()])?;
+        for length in [0, 1, 15, 16, 17, 300] {
+            let mut bytes = vec![5; length + TAG_BYTES];
+            key.seal(&[9; 12], b"data", &mut bytes)?;
+            assert_eq!(key.open(&[9; 12], b"date", &mut bytes), Err(Fault::TagMismatch));
+            assert_eq!(key.open(&[9; 12], b"data", &mut bytes)?, vec![5; length]);
+        }
+        assert_eq!(Key::new(suite, &[0; 31]).err(), Some(Fault::KeyLength));
+        assert_eq!(format!("{key:?}"), format!("Key({suite:?})"));
+    }
+    assert_eq!(Fault::NonceLength.to_string(), "the nonce is not 12 bytes long");
     Ok(())
 }
 
@@ -53,6 +71,7 @@ fn padded() -> Result<(), Fault> {
 
 fn main() -> Result<(), Fault> {
     sealing()?;
+    keys()?;
     wrapping()?;
     padded()
 }

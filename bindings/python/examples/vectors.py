@@ -15,7 +15,7 @@ def refused(fault, call, *words):
     try:
         call(*words)
     except aeadkit.Refused as error:
-        assert type(error) is fault, (fault, error)
+        assert type(error) is fault and str(error), (fault, error)
     else:
         raise SystemExit(f"not refused as {fault.__name__}")
 
@@ -30,9 +30,21 @@ refused(aeadkit.TagMismatch, aeadkit.open, Suite.CHACHA20_POLY1305, KEY, NONCE, 
 refused(aeadkit.TooShort, aeadkit.open, Suite.CHACHA20_POLY1305, KEY, NONCE, AAD, sealed[:15])
 refused(aeadkit.TooShort, aeadkit.open, Suite.CHACHA20_POLY1305, KEY, NONCE, AAD, b"")
 
+kept = aeadkit.Key(Suite.CHACHA20_POLY1305, KEY)
+assert kept.seal(NONCE, TEXT, AAD) == sealed and kept.open(NONCE, sealed, aad=AAD) == TEXT
+assert kept.seal(NONCE, TEXT) == aeadkit.seal(Suite.CHACHA20_POLY1305, KEY, NONCE, None, memoryview(TEXT))
+refused(aeadkit.KeyLength, aeadkit.Key, Suite.AES_128_GCM, KEY)
+refused(aeadkit.UnknownSuite, aeadkit.Key, 0, KEY)
+for other in ("a text", 16, None):
+    try:
+        kept.seal(NONCE, other)
+    except TypeError:
+        continue
+    raise SystemExit(f"{other!r} was taken for a text")
+
 # each suite with texts around the length of a block; no text is a text too
-for suite, length in zip(Suite, (32, 16, 24, 32, 16, 32)):
-    key = bytes(length)
+for suite in Suite:
+    key = bytes(suite.key_bytes)
     for n in (0, 1, 15, 16, 17, 300):
         made = aeadkit.seal(suite, key, bytes(12), b"", bytes(n))
         assert len(made) == n + 16

@@ -1,0 +1,217 @@
+"""Authenticated encryption (RFC 8439, SP 800-38D, RFC 8452) and key wrapping (RFC 3394, RFC 5649), by libaeadkit.so.
+
+Keys, nonces, data and texts are bytes, or anything else that gives its bytes, as bytearray and memoryview; None stands for
+no associated data. Each call copies its text once, into the bytearray that it returns. A call that is refused raises one of
+the classes below, all of them of Refused. Never seal two texts with one nonce under one key: nothing here looks for it.
+Nothing is claimed of timing, since AES looks tables up by secret bytes, and nothing is wiped.
+
+The library is the one that the variable AEADKIT names, else the package's own, else the one that the system finds.
+"""
+
+import ctypes
+import enum
+import os
+from typing import Optional, Union
+
+__all__ = ["Suite", "Key", "seal", "open", "wrap", "unwrap", "wrap_padded", "unwrap_padded", "Refused", "KeyLength",
+           "NonceLength", "TextTooLong", "AadTooLong", "TooShort", "TagMismatch", "WrapLength", "WrapIntegrity",
+           "UnknownSuite"]
+
+Buffer = Union[bytes, bytearray, memoryview]
+
+_TAG_BYTES = 16
+_WRAP_BYTES = 8
+
+
+class Refused(Exception):
+    """Why a call was refused."""
+
+    message = ""
+
+    def __init_subclass__(cls) -> None:
+        cls.__doc__ = cls.message
+
+    def __init__(self, message: Optional[str] = None) -> None:
+        super().__init__(message or self.message)
+
+
+class KeyLength(Refused):
+    message = "the key has no length of the suite, or of AES"
+
+
+class NonceLength(Refused):
+    message = "the nonce is not 12 bytes long"
+
+
+class TextTooLong(Refused):
+    message = "the text is past the suite's limit"
+
+
+class AadTooLong(Refused):
+    message = "the associated data is past the suite's limit"
+
+
+class TooShort(Refused):
+    message = "the sealed bytes are fewer than 16"
+
+
+class TagMismatch(Refused):
+    message = "the bytes are the sealing of no text under this suite, key, nonce and associated data"
+
+
+class WrapLength(Refused):
+    message = "the length is none of a text to wrap, or of a wrapping"
+
+
+class WrapIntegrity(Refused):
+    message = "the bytes are the wrapping of no text under this key"
+
+
+class UnknownSuite(Refused):
+    message = "the suite is none of Suite"
+
+
+_FAULTS = {1: KeyLength, 2: NonceLength, 3: TextTooLong, 4: AadTooLong, 5: TooShort, 6: TagMismatch, 7: WrapLength,
+           8: WrapIntegrity, 14: UnknownSuite}
+
+
+class Suite(enum.IntEnum):
+    """The suites."""
+
+    CHACHA20_POLY1305 = 1
+    AES_128_GCM = 2
+    AES_192_GCM = 3
+    AES_256_GCM = 4
+    AES_128_GCM_SIV = 5
+    AES_256_GCM_SIV = 6
+
+    @property
+    def key_bytes(self) -> int:
+        """The bytes of a key."""
+        return (32, 16, 24, 32, 16, 32)[self - 1]
+
+
+def _has_avx2() -> bool:
+    """Whether the processor has all of x86-64-v3."""
+    try:
+        with os.fdopen(os.open("/proc/cpuinfo", os.O_RDONLY)) as file:
+            flags = next((set(line.split()) for line in file if line.startswith("flags")), set())
+    except OSError:
+        return False
+    return {"avx", "avx2", "bmi1", "bmi2", "f16c", "fma", "abm", "movbe"} <= flags
+
+
+def _found() -> str:
+    """The library's file, or the name that the system finds it by."""
+    if os.environ.get("AEADKIT"):
+        return os.environ["AEADKIT"]
+    folder = os.path.join(os.path.dirname(os.path.abspath(__file__)), "lib")
+    fast = os.path.join(folder, "x86-64-v3", "libaeadkit.so.1")
+    if os.path.exists(fast) and _has_avx2():
+        return fast
+    base = os.path.join(folder, "libaeadkit.so.1")
+    return base if os.path.exists(base) else "libaeadkit.so.1"
+
+
+def _declared(name, *arguments):
+    call = getattr(_library, name)
+    call.argtypes, call.restype = arguments, ctypes.c_uint32
+    return call
+
+
+_library = ctypes.CDLL(_found())
+_given = (ctypes.c_char_p, ctypes.c_size_t)
+_room = (ctypes.c_void_p, ctypes.c_size_t)
+_seal = _declared("aeadkit_seal", ctypes.c_uint32, *_given, *_given, *_given, *_room)
+_open = _declared("aeadkit_open", ctypes.c_uint32, *_given, *_given, *_given, *_room)
+_wrap = _declared("aeadkit_wrap", *_given, *_room)
+_unwrap = _declared("aeadkit_unwrap", *_given, *_room)
+_wrap_padded = _declared("aeadkit_wrap_padded", *_given, *_room, ctypes.c_size_t)
+_unwrap_padded = _declared("aeadkit_unwrap_padded", *_given, *_room, ctypes.POINTER(ctypes.c_size_t))
+
+
+def _bytes_of(data):
+    """What nobody can write during a call: data itself if it is bytes, else a copy."""
+    return data if type(data) is bytes else memoryview(data).tobytes()
+
+
+def _suite_of(suite):
+    try:
+        return Suite(suite)
+    except ValueError:
+        raise UnknownSuite(f"{suite!r} is none of Suite") from None
+
+
+def _run(call, suite, words, before, text, after, *more):
+    """Calls on a fresh bytearray, which nothing else sees: the text with room around it."""
+    with memoryview(text) as view:
+        size = before + view.nbytes + after
+        buffer = bytearray(size)
+        with memoryview(buffer) as room:
+            room[before : before + view.nbytes] = view.cast("B") if view.c_contiguous else view.tobytes()
+    given = [it for word in map(_bytes_of, words) for it in (word, len(word))]
+    # a place of its own if there are no bytes, since no pointer may be NULL
+    place = ctypes.c_ubyte.from_buffer(buffer if size else bytearray(1))
+    status = call(*suite, *given, ctypes.addressof(place), size, *more)
+    del place
+    if status:
+        raise _FAULTS[status]()
+    return buffer
+
+
+def seal(suite: int, key: Buffer, nonce: Buffer, aad: Optional[Buffer], text: Buffer) -> bytearray:
+    """The sealing of a text: the ciphertext, then a tag of 16 bytes."""
+    return _run(_seal, (_suite_of(suite),), (key, nonce, b"" if aad is None else aad), 0, text, _TAG_BYTES)
+
+
+def open(suite: int, key: Buffer, nonce: Buffer, aad: Optional[Buffer], sealed: Buffer) -> bytearray:
+    """The text that the sealed bytes are the sealing of."""
+    text = _run(_open, (_suite_of(suite),), (key, nonce, b"" if aad is None else aad), 0, sealed, 0)
+    del text[-_TAG_BYTES:]
+    return text
+
+
+class Key:
+    """A suite with a key. The nonce of each sealing has 12 bytes, which no other sealing under the key may have."""
+
+    def __init__(self, suite: int, key: Buffer) -> None:
+        self._suite = _suite_of(suite)
+        self._key = _bytes_of(key)
+        if len(self._key) != self._suite.key_bytes:
+            raise KeyLength()
+
+    def seal(self, nonce: Buffer, text: Buffer, aad: Optional[Buffer] = None) -> bytearray:
+        """The sealing of a text: the ciphertext, then a tag of 16 bytes."""
+        return seal(self._suite, self._key, nonce, aad, text)
+
+    def open(self, nonce: Buffer, sealed: Buffer, aad: Optional[Buffer] = None) -> bytearray:
+        """The text that the sealed bytes are the sealing of."""
+        return open(self._suite, self._key, nonce, aad, sealed)
+
+
+def wrap(key: Buffer, text: Buffer) -> bytearray:
+    """The wrapping of a text, which has whole blocks of 8 bytes, at least two, under an AES key."""
+    return _run(_wrap, (), (key,), _WRAP_BYTES, text, 0)
+
+
+def unwrap(key: Buffer, wrapped: Buffer) -> bytearray:
+    """The text that the bytes are the wrapping of."""
+    text = _run(_unwrap, (), (key,), 0, wrapped, 0)
+    del text[:_WRAP_BYTES]
+    return text
+
+
+def wrap_padded(key: Buffer, text: Buffer) -> bytearray:
+    """The wrapping with padding of a text of 1 to 2^32 - 1 bytes under an AES key."""
+    with memoryview(text) as view:
+        length = view.nbytes
+    return _run(_wrap_padded, (), (key,), _WRAP_BYTES, text, -length % 8, length)
+
+
+def unwrap_padded(key: Buffer, wrapped: Buffer) -> bytearray:
+    """The text that the bytes are the wrapping with padding of."""
+    length = ctypes.c_size_t()
+    text = _run(_unwrap_padded, (), (key,), 0, wrapped, 0, ctypes.byref(length))
+    del text[_WRAP_BYTES + length.value :]
+    del text[:_WRAP_BYTES]
+    return text

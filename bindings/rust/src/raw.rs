@@ -1,0 +1,56 @@
+//! The calls of libaeadkit.a over slices, which promise what the library requires of memory. Each returns a status.
+
+unsafe extern "C" {
+    #[rustfmt::skip]
+    fn aeadkit_seal(suite: u32, key: *const u8, key_length: usize, nonce: *const u8, nonce_length: usize,
+                    aad: *const u8, aad_length: usize, bytes: *mut u8, bytes_length: usize) -> u32;
+    #[rustfmt::skip]
+    fn aeadkit_open(suite: u32, key: *const u8, key_length: usize, nonce: *const u8, nonce_length: usize,
+                    aad: *const u8, aad_length: usize, bytes: *mut u8, bytes_length: usize) -> u32;
+    fn aeadkit_wrap(key: *const u8, key_length: usize, bytes: *mut u8, bytes_length: usize) -> u32;
+    fn aeadkit_unwrap(key: *const u8, key_length: usize, bytes: *mut u8, bytes_length: usize) -> u32;
+    #[rustfmt::skip]
+    fn aeadkit_wrap_padded(key: *const u8, key_length: usize, bytes: *mut u8, bytes_length: usize,
+                           text_length: usize) -> u32;
+    #[rustfmt::skip]
+    fn aeadkit_unwrap_padded(key: *const u8, key_length: usize, bytes: *mut u8, bytes_length: usize,
+                             text_length: *mut usize) -> u32;
+}
+
+pub fn seal(suite: u32, key: &[u8], nonce: &[u8], aad: &[u8], bytes: &mut [u8]) -> u32 {
+    let (k, n, a) = (key.as_ptr(), nonce.as_ptr(), aad.as_ptr());
+    let (room, length) = (bytes.as_mut_ptr(), bytes.len());
+    // SAFETY: each pointer and length are those of a slice, and only the last one is written.
+    unsafe { aeadkit_seal(suite, k, key.len(), n, nonce.len(), a, aad.len(), room, length) }
+}
+
+pub fn open(suite: u32, key: &[u8], nonce: &[u8], aad: &[u8], bytes: &mut [u8]) -> u32 {
+    let (k, n, a) = (key.as_ptr(), nonce.as_ptr(), aad.as_ptr());
+    let (room, length) = (bytes.as_mut_ptr(), bytes.len());
+    // SAFETY: as of `seal`.
+    unsafe { aeadkit_open(suite, k, key.len(), n, nonce.len(), a, aad.len(), room, length) }
+}
+
+pub fn wrap(key: &[u8], bytes: &mut [u8]) -> u32 {
+    // SAFETY: as of `seal`.
+    unsafe { aeadkit_wrap(key.as_ptr(), key.len(), bytes.as_mut_ptr(), bytes.len()) }
+}
+
+pub fn unwrap(key: &[u8], bytes: &mut [u8]) -> u32 {
+    // SAFETY: as of `seal`.
+    unsafe { aeadkit_unwrap(key.as_ptr(), key.len(), bytes.as_mut_ptr(), bytes.len()) }
+}
+
+pub fn wrap_padded(key: &[u8], bytes: &mut [u8], text_length: usize) -> u32 {
+    // SAFETY: as of `seal`.
+    unsafe { aeadkit_wrap_padded(key.as_ptr(), key.len(), bytes.as_mut_ptr(), bytes.len(), text_length) }
+}
+
+/// Returns the text's length too, which is 0 if the call is refused.
+pub fn unwrap_padded(key: &[u8], bytes: &mut [u8]) -> (u32, usize) {
+    let mut length = 0;
+    // SAFETY: as of `seal`, and the length is a place of this call's own.
+    let status =
+        unsafe { aeadkit_unwrap_padded(key.as_ptr(), key.len(), bytes.as_mut_ptr(), bytes.len(), &mut length) };
+    (status, length)
+}

@@ -1,0 +1,31 @@
+#!/bin/sh
+# Installs the JavaScript package that wasm.sh laid out in a fresh folder, and runs its example there.
+set -eu
+if [ $# != 1 ]; then
+    echo "usage: wasm-check.sh PREFIX" >&2
+    exit 2
+fi
+package=$(cd "$1" && pwd)/share/aeadkit/javascript
+cd "$(dirname "$0")"
+room=$(mktemp -d)
+trap 'rm -rf "$room"' EXIT
+if ! node --version > "$room/log" 2>&1; then
+    echo "left out: JavaScript, no node"
+    exit 0
+fi
+cp wasm/example.mjs "$room/"
+by=npm
+if npm --version > "$room/log" 2>&1; then
+    (cd "$room" && npm pack --silent "$package" && npm install --silent --offline --no-audit --no-fund ./aeadkit-*.tgz) \
+        > "$room/log" 2>&1 || { cat "$room/log" >&2; exit 1; }
+else
+    by="no npm: the folder copied"
+    mkdir "$room/node_modules"
+    cp -R "$package" "$room/node_modules/aeadkit"
+fi
+if (cd "$room" && { node example.mjs || node --experimental-wasm-memory64 example.mjs; }) > "$room/log" 2>&1; then
+    echo "ok: JavaScript ($by)"
+else
+    cat "$room/log" >&2
+    exit 1
+fi
