@@ -20,6 +20,7 @@ pub mod Findings
 pub mod Tellings
 pub mod StreamExits
 pub mod Repeats
+pub mod Joined
 pub mod Extents
 pub mod SealExits
 pub mod SivExits

@@ -1,11 +1,12 @@
 -- What a sealing in pieces has been fed.
-use Rattle.std.specs.Prelude.{◌≡◌, ℕ, true, List, [], length}
+use Rattle.std.specs.Prelude.{◌≡◌, ℕ, true, List, [], ◌++◌, length}
+use Rattle.octets.specs.Masked.{masked}
 use Rattle.gf128.specs.States.{key_of}
 use Rattle.aead.specs.declared.sealer.Sealer.{Sealer}
 use Rattle.aead.specs.declared.siv.SivAbsorb.{SivAbsorb}
 use Rattle.aead.specs.declared.siv.SivWriter.{SivWriter}
 use Rattle.aead.specs.Suites.{ByGcmSiv, construction_of, is_one_pass, text_limit}
-use Rattle.aead.specs.Sealing.{Setting, encryption_key, tag_of}
+use Rattle.aead.specs.Sealing.{Setting, encryption_key, mask_of, tag_of, sealing}
 use Rattle.aead.specs.Code.States.{MadeByGcmSiv, HeldByPolyval, HoldsAuthenticator, own_key}
 use Rattle.aead.specs.Code.Masks.{as_it_comes}
 use Rattle.aead.specs.Code.Maskings.{HoldsMasking, message_task, repeating_task}
@@ -35,3 +36,15 @@ pub record HoldsWriter (w : SivWriter) (s : Setting) (first text : List ℕ) : T
 -- a text has the length and the tag of the first one
 abbrev pub Repeats : Setting → List ℕ → List ℕ → Type 0
 Repeats s first text = (length text ≡ length first) × (tag_of s text ≡ tag_of s first)
+
+-- c is the ciphertext of a text, whatever its tag
+abbrev pub IsCiphertext : Setting → List ℕ → List ℕ → Type 0
+IsCiphertext s text c = (tag : List ℕ) → c ≡ masked (mask_of s tag) 0 text
+
+-- the ciphertext of a text and of the piece after it, joined, is the ciphertext of both; with the tag of its
+-- text behind it, it is the sealing
+abbrev pub PiecesMakeASealing : Type 0
+PiecesMakeASealing = (s : Setting) (text c : List ℕ) → IsCiphertext s text c
+    → ((piece d : List ℕ) → ((tag : List ℕ) → d ≡ masked (mask_of s tag) (length text) piece)
+    → IsCiphertext s (text ++ piece) (c ++ d))
+    × (c ++ tag_of s text ≡ sealing s text)

@@ -2,6 +2,7 @@
 //! AES-GCM-SIV (RFC 8452), with nonces of 12 bytes and tags of 16 bytes.
 #![tactic(auto)]
 
+ghost use Rattle.aead.specs.Pieces.{PiecesMakeASealing};
 ghost use Rattle.aead.specs.Sealing.{HasOneText};
 ghost use Rattle.aead.specs.Verdict.{ShownRepeatsTheText};
 
@@ -55,4 +56,10 @@ pub fn sealing_has_one_text()
 /// each byte that the write reading repeats of its body is given as that byte of the text.
 pub fn shown_repeats_the_text()
     ensures { ShownRepeatsTheText }
+{}
+
+/// Pieces that are masked one after the other, as [`Sealer::update`] masks them, join to the ciphertext of
+/// their text, and with its tag behind it that is the sealing of the text.
+pub fn pieces_make_a_sealing()
+    ensures { PiecesMakeASealing }
 {}
