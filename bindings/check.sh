@@ -30,6 +30,8 @@ echo "ok: the library exports $exported"
 if makes "$room/probe.c" cc; then
     cc -std=c11 -O2 $warnings -Iinclude c/example.c "$out/libaeadkit.a" -o "$room/c"
     "$room/c"
+    cc -std=c11 -O2 $warnings -Iinclude c/pieces.c "$out/libaeadkit.a" -o "$room/pieces"
+    "$room/pieces" 10000 100000
     if makes "$room/probe.c" cc $sanitizers; then
         cc -std=c11 -g $warnings $sanitizers -Iinclude c/example.c "$out/libaeadkit.a" -o "$room/c-sanitized"
         ASAN_OPTIONS=detect_leaks=0 "$room/c-sanitized"
