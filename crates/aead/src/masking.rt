@@ -14,9 +14,9 @@ use octets::Tag;
 // Pieces are masked in place, and authenticated as they come or as they leave.
 #[derive(Drop)]
 pub(crate) struct Masking<S, H, R> {
-    mask: S,
+    pub(crate) mask: S,
     pub(crate) authenticator: Authenticator<H>,
-    order: R,
+    pub(crate) order: R,
     // The most bytes of all pieces.
     pub(crate) limit: u64,
     ghost within: { authenticator.length ≤ limit },

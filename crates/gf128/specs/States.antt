@@ -1,5 +1,5 @@
 -- The text that a state in pieces holds, where its multiplier shows its key by `key`.
-use Rattle.std.specs.Prelude.{ℕ, ◌/◌, List, length}
+use Rattle.std.specs.Prelude.{ℕ, ◌*◌, ◌/◌, List, length, take}
 use Rattle.std.specs.Int.{w128, to_be_bytes}
 use Rattle.octets.specs.Polynomial.{Agree}
 use Rattle.octets.specs.Pieces.{HoldsPieces}
@@ -32,3 +32,9 @@ Holds key s h m = HashHolds Straight key s h m
 -- the state s of POLYVAL holds the text m under the key h
 abbrev pub PolyvalHolds : {M : Type 0} → (M → List ℕ) → BlockHash M LittleEndian → List ℕ → List ℕ → Type 0
 PolyvalHolds key s h m = HashHolds Reversed key s h m
+
+-- the word is GHASH's sum over the whole blocks of m under the key h
+abbrev pub IsSum : List ℕ → List ℕ → ℕ → Type 0
+IsSum h m sum =
+    Agree (of_word sum)
+    (block_sum Straight h (take (length m / 16 * 16) m) (length (take (length m / 16 * 16) m) / 16))

@@ -31,10 +31,10 @@ pub trait ByteOrder {
 
 // The sum over whole blocks.
 #[derive(Drop)]
-struct BlockSum<M, O> {
-    multiplier: M,
-    sum: u128,
-    byte_order: PhantomData<O>,
+pub(crate) struct BlockSum<M, O> {
+    pub(crate) multiplier: M,
+    pub(crate) sum: u128,
+    pub(crate) byte_order: PhantomData<O>,
 }
 
 impl<M: Multiply, O: ByteOrder> Absorb for BlockSum<M, O> {
@@ -64,7 +64,7 @@ impl<M: Multiply, O: ByteOrder> Absorb for BlockSum<M, O> {
 /// GHASH or POLYVAL over a text fed piece by piece, by the multiplier `M` in GHASH's field.
 #[derive(Drop)]
 pub struct BlockHash<M, O> {
-    pieces: Pieces<BlockSum<M, O>>,
+    pub(crate) pieces: Pieces<BlockSum<M, O>>,
 }
 
 impl<M: Keyed128, O: ByteOrder> BlockHash<M, O> {
