@@ -1,4 +1,4 @@
-use Rattle.std.proofs.Common.{◌≡◌, ℕ, ◌++◌, [], refl, arith, length, length-append, Ok, Err}
+use Rattle.std.proofs.Common.{◌++◌, [], arith, length-append, Ok, Err}
 use Rattle.octets.specs.Masked.{masked}
 use Rattle.octets.specs.declared.fault.Fault.TheVariants.{TextTooLong}
 use Rattle.aead.specs.Sealing.{mask_of}

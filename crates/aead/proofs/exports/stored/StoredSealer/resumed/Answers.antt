@@ -5,7 +5,6 @@ use Rattle.aead.specs.Suites.{text_limit}
 use Rattle.octets.specs.Masked.{masked}
 use Rattle.octets.proofs.Masks.{length-masked}
 use Rattle.aead.specs.Sealing.{mask_of}
-use Rattle.aead.proofs.Stored.{limit_small}
 use Rattle.aead.proofs.exports.stored.StoredSealer.resumed.Goals as goal
 
 pub returns-then-self-limit : goal.returns-then-self-limit
