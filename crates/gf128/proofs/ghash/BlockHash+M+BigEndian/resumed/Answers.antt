@@ -2,7 +2,7 @@ use Rattle.std.proofs.Common.{◌/◌, ◌*◌, length, take, subst, sym}
 use Rattle.octets.specs.Polynomial.{Agree}
 use Rattle.gf128.specs.Code.Words.{of_word}
 use Rattle.gf128.specs.Orders.{Straight, block_sum}
-use Rattle.gf128.proofs.ghash.BlockHash.resumed.Goals as goal
+use Rattle.gf128.proofs.ghash.BlockHash+M+BigEndian.resumed.Goals as goal
 
 pub returns : goal.returns
 returns g c = λ h m key sum rest.
