@@ -146,6 +146,27 @@ impl<C: Count> Counter<C> {
         }
     }
 
+    // The stream that has made the first `made` bytes.
+    fn at(key: &AesKey, first: &Block, made: u64) -> Counter<C>
+        requires { made < 2 ^ 63 }
+        ensures { Makes C.up result key.now first.now made }
+    {
+        let used = (made % 16) as usize;
+        let mask = if used == 0 {
+            *first
+        } else {
+            key.encrypt(&C::block(first, (made / 16 % 0x1_0000_0000) as u32))
+        };
+        Counter {
+            key: *key,
+            first: *first,
+            begun: ((made + 15) / 16 % 0x1_0000_0000) as u32,
+            mask,
+            used,
+            way: PhantomData,
+        }
+    }
+
     // XORs in bytes of the block begun.
     fn go_on(&mut self, bytes: &mut [u8])
         requires begun { 0 < self.old.used }
@@ -358,6 +379,16 @@ impl CtrBe {
     {
         CtrBe {
             counter: Counter::new(key, first),
+        }
+    }
+
+    /// The stream whose first block is the cipher of `first`, and that has made its first `made` bytes.
+    pub fn at(key: &AesKey, first: &Block, made: u64) -> CtrBe
+        requires { made < 2 ^ 63 }
+        ensures { HoldsBe result key.now first.now made }
+    {
+        CtrBe {
+            counter: Counter::at(key, first, made),
         }
     }
 

@@ -36,6 +36,19 @@ impl ChaStream {
         }
     }
 
+    /// The key stream whose next byte is at `place` of the key stream from counter 0 on, at most at its end.
+    pub fn at(key: &Key32, nonce: &Nonce, place: u64) -> ChaStream
+        requires { place ≤ 2 ^ 38 }
+        ensures { (first made : ℕ) → place ≡ first * 64 + made
+            → Holds result key.now nonce.now first made }
+    {
+        ChaStream {
+            key: *key,
+            nonce: *nonce,
+            place,
+        }
+    }
+
     /// XORs the next bytes of the key stream into `bytes`, of any length (RFC 8439, 2.4). Pieces of
     /// a text, one call each, give what the whole text gives.
     ///

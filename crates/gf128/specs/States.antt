@@ -1,5 +1,5 @@
 -- The text that a state in pieces holds, where its multiplier shows its key by `key`.
-use Rattle.std.specs.Prelude.{◌≡◌, ℕ, ◌/◌, List, length, reverse}
+use Rattle.std.specs.Prelude.{◌≡◌, ℕ, ◌*◌, ◌/◌, List, length, reverse, take}
 use Rattle.std.specs.Int.{w128, to_be_bytes}
 use Rattle.octets.specs.Bytes.{IsBlock}
 use Rattle.octets.specs.Polynomial.{Agree}
@@ -22,6 +22,12 @@ pub record GhashSumHolds {M : Type 0} (key : M → List ℕ) (s : GhashSum M) (h
   where
     pub key_is : key s.multiplier ≡ h
     pub sum_is : Agree (of_word s.sum) (ghash_sum h m (length m / 16))
+
+-- the word is the sum over the whole blocks of m
+abbrev pub IsSum : List ℕ → List ℕ → ℕ → Type 0
+IsSum h m sum =
+    Agree (of_word sum)
+    (ghash_sum h (take (length m / 16 * 16) m) (length (take (length m / 16 * 16) m) / 16))
 
 -- s holds the text m under the key h
 abbrev pub Holds : {M : Type 0} → (M → List ℕ) → Ghash M → List ℕ → List ℕ → Type 0

@@ -1,6 +1,6 @@
 // GHASH over a text fed piece by piece.
 
-ghost use Rattle.std.specs.Prelude.{◌≡◌, ℕ, ◌++◌, List, []};
+ghost use Rattle.std.specs.Prelude.{◌≡◌, ℕ, ◌<◌, ◌*◌, ◌/◌, ◌++◌, List, [], length, drop};
 ghost use Rattle.gf128.specs.Ghash.{GhashIsTheOnly};
 
 use crate::polynomial_word::{block_of, word_of};
@@ -58,7 +58,7 @@ impl<M: Keyed128> Ghash<M> {
 impl<M: Multiply> Ghash<M> {
     ghost use Rattle.octets.specs.Bytes.{pad16, IsBlock};
     ghost use Rattle.gf128.specs.Ghash.{ghash};
-    ghost use Rattle.gf128.specs.States.{Holds};
+    ghost use Rattle.gf128.specs.States.{Holds, IsSum};
 
     /// A state that holds the empty text, under the key of a multiplier, or of a reference to one that is
     /// kept.
@@ -68,6 +68,34 @@ impl<M: Multiply> Ghash<M> {
         Ghash {
             pieces: Pieces::new(GhashSum { multiplier, sum: 0 }),
         }
+    }
+
+    /// The state that holds a text again: `sum` is its sum over the whole blocks of the text, and `rest` the
+    /// bytes after them, fewer than 16.
+    pub fn resumed(multiplier: M, sum: u128, rest: &[u8]) -> Ghash<M>
+        requires { length rest.now < 16 }
+        ensures { (h m : List ℕ) → M.key_bytes multiplier ≡ h → IsSum h m sum
+            → rest.now ≡ drop (length m / 16 * 16) m → Holds M.key_bytes result h m }
+    {
+        Ghash {
+            pieces: Pieces::resumed(GhashSum { multiplier, sum }, rest),
+        }
+    }
+
+    /// Returns the sum over the whole blocks of the text.
+    pub fn sum(&self) -> u128
+        ensures { (h m : List ℕ) → Holds M.key_bytes self.now h m → IsSum h m result }
+    {
+        self.pieces.core().sum
+    }
+
+    /// Returns the bytes of the text after its last whole block: fewer than 16.
+    pub fn rest(&self) -> &[u8]
+        ensures value { (h m : List ℕ) → Holds M.key_bytes self.now h m
+            → result.now ≡ drop (length m / 16 * 16) m }
+        ensures short { length result.now < 16 }
+    {
+        self.pieces.rest()
     }
 
     /// Adds `piece`, of any length, to the text.

@@ -100,6 +100,13 @@ impl Model for Key32 {
 }
 
 impl Key32 {
+    /// The key with these 32 bytes.
+    pub fn new(bytes: [u8; 32]) -> Key32
+        ensures { result ≡ bytes }
+    {
+        Key32 { bytes }
+    }
+
     /// The key with these 32 bytes. Another length is `KeyLength`.
     pub fn from_slice(bytes: &[u8]) -> Result<Key32, Fault>
         ensures { MatchResult result (λ k. (k ≡ bytes.now) × (length bytes.now ≡ 32))
@@ -137,6 +144,13 @@ impl Model for Nonce {
 }
 
 impl Nonce {
+    /// The nonce with these 12 bytes.
+    pub fn new(bytes: [u8; 12]) -> Nonce
+        ensures { result ≡ bytes }
+    {
+        Nonce { bytes }
+    }
+
     /// The nonce with these 12 bytes. Another length is `NonceLength`.
     pub fn from_slice(bytes: &[u8]) -> Result<Nonce, Fault>
         ensures { MatchResult result (λ k. (k ≡ bytes.now) × (length bytes.now ≡ 12))

@@ -53,6 +53,21 @@ impl<A: Absorb> Pieces<A> {
         }
     }
 
+    /// The text whose whole blocks `core` took in, and whose bytes after them are `rest`: fewer than 16.
+    pub fn resumed(core: A, rest: &[u8]) -> Pieces<A>
+        requires { length rest.now < 16 }
+        ensures { (k m : List ℕ) → A.absorbed core k (take (length m / 16 * 16) m)
+            → rest.now ≡ drop (length m / 16 * 16) m → HoldsPieces A.absorbed result k m }
+    {
+        let mut buffer = [0; 16];
+        buffer[..rest.len()].copy_from_slice(rest);
+        Pieces {
+            core,
+            buffer,
+            used: rest.len(),
+        }
+    }
+
     /// The state that took in the whole blocks of the text.
     pub fn core(&self) -> &A
         ensures { (k m : List ℕ) → HoldsPieces A.absorbed self.now k m

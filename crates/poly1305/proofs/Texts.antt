@@ -1,7 +1,7 @@
 -- How the sum follows a text as it grows.
 use Rattle.std.proofs.Common.{◌≡◌, ℕ, suc, ◌+◌, ◌-◌, ◌*◌, ◌/◌, ◌%◌, ◌^◌, ◌<◌, ◌≤◌, List, [], ◌∷◌, ◌++◌}
 use Rattle.std.proofs.Common.{length, take, drop, get_or, set, bit_and, replicate, refl, sym, ap, ◌∙◌}
-use Rattle.std.proofs.Common.{arith}
+use Rattle.std.proofs.Common.{arith, mod-lt}
 use Rattle.std.proofs.Math.Nat.{mod-add-mod, mod-mod}
 use Rattle.std.proofs.lemmas.Nat.{mul-mod_first, and_mod, and_shr, and_le_r}
 use Rattle.std.proofs.lemmas.List.{take_all, length-take-le, length-drop, take-append-drop, drop-replicate}
@@ -158,3 +158,11 @@ holds_partial factor c k m start last v h some el es ev =
     (ev ∙ ap (λ (x : ℕ). x * factor c.multiplier % prime) sums
     ∙ ap (λ (x : ℕ). (s + last) * x % prime) h.factor_is)
     ∙ ap (λ (x : ℕ). block_sum (r_of k) m x % prime) (sym count)
+
+-- a pair that is a residue is read again as it is
+pub read_sum : (low high t : ℕ) → pair low high ≡ t % prime → pair low (high % 4) % prime ≡ t % prime
+read_sum low high t e =
+    let below : t % prime < prime = mod-lt t (omega arith) in
+    let small : high < 4 = omega (arith, e, below) in
+    let same : high % 4 ≡ high = omega arith in
+    ap (λ (x : ℕ). pair low x % prime) same ∙ ap (λ (x : ℕ). x % prime) e ∙ mod-mod t prime

@@ -1,5 +1,5 @@
 -- The text that a state in pieces holds.
-use Rattle.std.specs.Prelude.{◌≡◌, ℕ, ◌+◌, ◌*◌, ◌/◌, ◌%◌, ◌^◌, ◌<◌, List, length}
+use Rattle.std.specs.Prelude.{◌≡◌, ℕ, ◌+◌, ◌*◌, ◌/◌, ◌%◌, ◌^◌, ◌<◌, List, length, take}
 use Rattle.octets.specs.Pieces.{HoldsPieces}
 use Rattle.poly1305.specs.Poly1305.{prime, block_sum, r_of, s_of}
 use Rattle.poly1305.specs.Code.Residue.{pair}
@@ -14,6 +14,12 @@ pub record PolySumHolds {M : Type 0} (factor : M → ℕ) (c : PolySum M) (key :
     pub addend_is : c.addend ≡ s_of key
     pub sum_is : pair c.sum.low c.sum.high ≡ block_sum (r_of key) m (length m / 16) % prime
     pub sum_below_prime : pair c.sum.low c.sum.high < prime
+
+-- the pair is the sum over the whole blocks of m
+abbrev pub IsSum : List ℕ → List ℕ → ℕ → ℕ → Type 0
+IsSum key m low high =
+    pair low high
+    ≡ block_sum (r_of key) (take (length m / 16 * 16) m) (length (take (length m / 16 * 16) m) / 16) % prime
 
 -- p holds the text m under the key, by a multiplier with these factors
 abbrev pub HoldsBy : {M : Type 0} → (M → ℕ) → PolyBy M → List ℕ → List ℕ → Type 0

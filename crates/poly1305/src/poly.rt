@@ -1,11 +1,11 @@
 // The authenticator over a text that comes in pieces.
 
-ghost use Rattle.std.specs.Prelude.{◌≡◌, ℕ, ◌<◌, ◌++◌, List, [], length};
+ghost use Rattle.std.specs.Prelude.{◌≡◌, ℕ, ◌<◌, ◌*◌, ◌/◌, ◌++◌, List, [], length, drop};
 ghost use Rattle.poly1305.specs.Poly1305.{block_number};
 
 use crate::Multiplier;
 use crate::partial_sum::PartialSum;
-use crate::residue::Residue;
+use crate::residue::{Residue, Sum};
 use octets::{Absorb, Pieces, Stream, Tag};
 
 // The bits of r that the clamping keeps (RFC 8439, 2.5).
@@ -63,7 +63,7 @@ pub struct PolyBy<M> {
 impl<M: Multiplier> PolyBy<M> {
     ghost use Rattle.octets.specs.Bytes.{pad16, IsBlock};
     ghost use Rattle.poly1305.specs.Poly1305.{poly1305};
-    ghost use Rattle.poly1305.specs.States.{HoldsBy};
+    ghost use Rattle.poly1305.specs.States.{HoldsBy, IsSum};
 
     /// A state that holds the empty text, under a key of 32 bytes: r, then s (RFC 8439, 2.5).
     pub fn new(key: &[u8; 32]) -> PolyBy<M>
@@ -80,6 +80,48 @@ impl<M: Multiplier> PolyBy<M> {
                 sum: Residue::zero(),
             }),
         }
+    }
+
+    /// The state that holds a text again: its sum over the whole blocks of the text is `low`, and `high`
+    /// times 2^128; the bytes after them are `rest`, fewer than 16.
+    pub fn resumed(key: &[u8; 32], low: u128, high: u64, rest: &[u8]) -> PolyBy<M>
+        requires { length rest.now < 16 }
+        ensures { (m : List ℕ) → IsSum key.now m low high → rest.now ≡ drop (length m / 16 * 16) m
+            → HoldsBy M.factor result key.now m }
+    {
+        let mut first = [0u8; 16];
+        first.copy_from_slice(&key[..16]);
+        let mut second = [0u8; 16];
+        second.copy_from_slice(&key[16..]);
+        let sum = Sum {
+            low,
+            high: high % 4,
+        };
+        let core = PolySum {
+            multiplier: M::new(u128::from_le_bytes(first) & R_MASK),
+            addend: u128::from_le_bytes(second),
+            sum: sum.residue(),
+        };
+        PolyBy {
+            pieces: Pieces::resumed(core, rest),
+        }
+    }
+
+    /// Returns the sum over the whole blocks of the text: `low`, and `high` times 2^128.
+    pub fn sum(&self) -> (u128, u64)
+        ensures { (k m : List ℕ) → HoldsBy M.factor self.now k m → IsSum k m result.0 result.1 }
+    {
+        let sum = self.pieces.core().sum;
+        (sum.low, sum.high)
+    }
+
+    /// Returns the bytes of the text after its last whole block: fewer than 16.
+    pub fn rest(&self) -> &[u8]
+        ensures value { (k m : List ℕ) → HoldsBy M.factor self.now k m
+            → result.now ≡ drop (length m / 16 * 16) m }
+        ensures short { length result.now < 16 }
+    {
+        self.pieces.rest()
     }
 
     /// Adds `piece`, of any length, to the text.

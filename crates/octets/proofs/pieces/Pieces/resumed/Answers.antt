@@ -1,0 +1,18 @@
+use Rattle.std.proofs.Common.{◌≡◌, ◌*◌, ◌/◌, ◌%◌, ◌∙◌, ap, arith, refl, length, take, drop}
+use Rattle.std.proofs.lemmas.List.{length-drop}
+use Rattle.std.proofs.lemmas.Slice.{take-put_mid}
+use Rattle.std.proofs.Common.{replicate}
+use Rattle.octets.proofs.pieces.Pieces.resumed.Goals as goal
+
+pub returns : goal.returns
+returns g c = λ k m held e.
+    let x = c.args.rest.now in
+    let after = c.copy_from_slice.ensures.after in
+    record {
+      taken = held;
+      rest = record {
+        used_is = omega (arith, ap length e, length-drop (length m / 16 * 16) m);
+        kept = take-put_mid 0 (length x) (replicate 16 0) c.copy_from_slice.new.self (length x) (omega (arith, ap length after)) (omega arith)
+            ∙ after ∙ e;
+      };
+    }
