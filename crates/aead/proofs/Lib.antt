@@ -25,3 +25,4 @@ pub mod SealExits
 pub mod SivExits
 pub mod Parts
 pub mod ByteMasks
+pub mod Stored

@@ -10,4 +10,5 @@ pub mod Verdict
 pub mod SealStream
 pub mod SealSivStream
 pub mod Exports
+pub mod Stored
 pub mod Code

@@ -11,8 +11,8 @@ use octets::{Stream, Tag};
 // Associated data and the bytes after it: the ciphertext, or for GCM-SIV the text.
 #[derive(Drop)]
 pub(crate) struct Authenticator<H> {
-    hash: H,
-    aad_length: u64,
+    pub(crate) hash: H,
+    pub(crate) aad_length: u64,
     // The bytes after the associated data, so far.
     pub(crate) length: u64,
 }

@@ -63,7 +63,7 @@ impl ChaChaPoly {
 }
 
 // The first 32 bytes.
-fn first_half(start: &[u8]) -> [u8; 32]
+pub(crate) fn first_half(start: &[u8]) -> [u8; 32]
     requires { 32 ≤ length start.now }
     ensures { result ≡ take 32 start.now }
 {

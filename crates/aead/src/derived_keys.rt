@@ -24,7 +24,7 @@ pub(crate) fn joined(first: &[u8; 8], second: &[u8; 8]) -> [u8; 16]
 }
 
 // Two blocks.
-fn joined_blocks(first: &[u8; 16], second: &[u8; 16]) -> [u8; 32]
+pub(crate) fn joined_blocks(first: &[u8; 16], second: &[u8; 16]) -> [u8; 32]
     ensures { result ≡ first.now ++ second.now }
 {
     let mut both = [0; 32];
@@ -150,7 +150,7 @@ fn long_encryption_key(parts: &KeyParts) -> [u8; 32]
 }
 
 // The expanded key of 16 or 32 bytes.
-fn expanded(bytes: &[u8]) -> AesKey
+pub(crate) fn expanded(bytes: &[u8]) -> AesKey
     requires { IsKeyLength (length bytes.now) }
     ensures { result ≡ bytes.now }
 {

@@ -16,6 +16,9 @@ use crate::suite::Suite;
 use aes::AesKey;
 use octets::{Fault, Key32, Nonce, Tag, outcome_number};
 
+mod sealer;
+mod stored;
+
 // The status of a call at C whose suite number is unknown.
 const UNKNOWN_SUITE: u32 = 14;
 

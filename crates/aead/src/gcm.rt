@@ -17,7 +17,7 @@ use octets::{Block, Fault, Nonce, Tag};
 use std::marker::Model;
 
 // From so many bytes on, multiples at eight places are worth their making.
-const SHORT: usize = 128;
+pub(crate) const SHORT: usize = 128;
 
 // From so many bytes on, those of four powers of the hash key are.
 pub(crate) const LONG: usize = 2304;
@@ -125,7 +125,7 @@ impl Gcm {
 }
 
 // The nonce and a counter (SP 800-38D, 7.1).
-fn counter_block(nonce: &Nonce, counter: u8) -> Block
+pub(crate) fn counter_block(nonce: &Nonce, counter: u8) -> Block
     ensures value { result ≡ nonce.now ++ 0 ∷ 0 ∷ 0 ∷ counter ∷ [] }
     ensures nonce_length { length nonce.now ≡ 12 }
 {

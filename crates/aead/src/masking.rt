@@ -14,10 +14,10 @@ use octets::Tag;
 // Pieces are masked in place, and authenticated as they come or as they leave.
 #[derive(Drop)]
 pub(crate) struct Masking<S, H> {
-    mask: S,
+    pub(crate) mask: S,
     pub(crate) authenticator: Authenticator<H>,
     // Whether the tag is over the pieces as they come.
-    over_input: bool,
+    pub(crate) over_input: bool,
     // The most bytes of all pieces.
     pub(crate) limit: u64,
     ghost within: { authenticator.length ≤ limit },

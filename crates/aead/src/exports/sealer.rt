@@ -1,0 +1,335 @@
+// A sealing in pieces at C, under the suites whose tag is over the ciphertext.
+
+ghost use Rattle.std.specs.Prelude.{◌≡◌, ◌≢◌, ◌↔◌, ◌≤◌, ◌++◌, ℕ, List, [], length, true, false, MatchResult};
+ghost use Rattle.octets.specs.Numbers.{HasOutcome};
+ghost use Rattle.aead.specs.declared.suite.Suite.{Suite};
+ghost use Rattle.aead.specs.Suites.{ByChaCha, ByGcm, construction_of, is_one_pass, key_length, aad_limit};
+ghost use Rattle.aead.specs.Sealing.{Setting, tag_of};
+ghost use Rattle.aead.specs.Exports.{suite_number, unknown_suite, setting_of};
+ghost use Rattle.aead.specs.Stored.{sealer_mark, zeros, NotBegun, not_begun, BeginRefused};
+ghost use Rattle.aead.specs.Stored.{HoldsBy, HoldsTextBy, HoldsTextOf, HoldsText, Updates};
+
+use super::UNKNOWN_SUITE;
+use super::stored::{StoredHash, StoredSealer};
+use crate::authenticator::Authenticator;
+use crate::chacha_poly::first_half;
+use crate::derived_keys::joined_blocks;
+use crate::gcm::{LONG, SHORT, counter_block};
+use crate::hashes::GhashTag;
+use crate::suite::Suite;
+use aes::AesKey;
+use chacha::block;
+use gf128::{PlacedMul, TableMul, WideMul};
+use octets::{Block, Fault, Key32, Nonce, Tag, outcome_number};
+use poly1305::Poly;
+
+// The status of a call at C on a struct that holds no sealing.
+const NOT_BEGUN: u32 = 15;
+
+// The suite of a number, if its tag is over the ciphertext.
+fn one_pass_numbered(number: u32) -> Option<Suite>
+    ensures { (suite : Suite) → (result ≡ Some suite)
+        ↔ (is_one_pass (construction_of suite) ≡ true × (number ≡ suite_number suite)) }
+{
+    match number {
+        1 => Some(Suite::ChaCha20Poly1305),
+        2 => Some(Suite::Aes128Gcm),
+        3 => Some(Suite::Aes192Gcm),
+        4 => Some(Suite::Aes256Gcm),
+        _ => None,
+    }
+}
+
+// The mark of a sealing under a suite.
+fn sealer_mark(suite: Suite) -> u64
+    ensures { result ≡ sealer_mark suite }
+{
+    match suite {
+        Suite::ChaCha20Poly1305 => 0x7365_616c_6572_0101,
+        Suite::Aes128Gcm => 0x7365_616c_6572_0102,
+        Suite::Aes192Gcm => 0x7365_616c_6572_0103,
+        Suite::Aes256Gcm => 0x7365_616c_6572_0104,
+        Suite::Aes128GcmSiv => 0x7365_616c_6572_0105,
+        Suite::Aes256GcmSiv => 0x7365_616c_6572_0106,
+    }
+}
+
+// The suite of a mark, if its tag is over the ciphertext.
+fn one_pass_marked(mark: u64) -> Option<Suite>
+    ensures { (suite : Suite) → (result ≡ Some suite)
+        ↔ (is_one_pass (construction_of suite) ≡ true × (mark ≡ sealer_mark suite)) }
+{
+    match mark {
+        0x7365_616c_6572_0101 => Some(Suite::ChaCha20Poly1305),
+        0x7365_616c_6572_0102 => Some(Suite::Aes128Gcm),
+        0x7365_616c_6572_0103 => Some(Suite::Aes192Gcm),
+        0x7365_616c_6572_0104 => Some(Suite::Aes256Gcm),
+        _ => None,
+    }
+}
+
+// Whether a suite is ChaCha20-Poly1305.
+fn is_chacha(suite: Suite) -> bool
+    requires { is_one_pass (construction_of suite) ≡ true }
+    ensures yes { result ≡ true → construction_of suite ≡ ByChaCha }
+    ensures no { result ≡ false → construction_of suite ≡ ByGcm }
+{
+    match suite {
+        Suite::ChaCha20Poly1305 => true,
+        Suite::Aes128Gcm | Suite::Aes192Gcm | Suite::Aes256Gcm => false,
+        Suite::Aes128GcmSiv | Suite::Aes256GcmSiv => false,
+    }
+}
+
+// ---- init
+
+// The numbers of the empty text after associated data.
+fn begun_by<H: StoredHash>(
+    suite: Suite,
+    key: &[u8],
+    nonce: &Nonce,
+    hash_key: [u8; 32],
+    aad: &[u8],
+) -> StoredSealer
+    requires { length key.now ≡ key_length suite }
+    ensures { let s = setting_of suite key.now nonce.now aad.now in
+        construction_of suite ≡ H.by → is_one_pass (construction_of suite) ≡ true
+        → length aad.now ≤ aad_limit suite → H.keyed hash_key s
+        → HoldsBy H.by H.keyed H.summed result s [] }
+{
+    let mut padded = [0; 32];
+    padded[..key.len()].copy_from_slice(key);
+    let mut keys = StoredSealer::zeros();
+    keys.mark = sealer_mark(suite);
+    keys.key = padded;
+    keys.nonce = *nonce.bytes();
+    keys.hash_key = hash_key;
+    keys.storing(&Authenticator::new(H::begun(&hash_key), aad))
+}
+
+// The numbers of the empty text under the bytes of a key and a nonce.
+fn begun(suite: Suite, key: &[u8], nonce: &[u8], aad: &[u8]) -> Result<StoredSealer, Fault>
+    requires { is_one_pass (construction_of suite) ≡ true }
+    ensures { let s = setting_of suite key.now nonce.now aad.now in
+        MatchResult result (λ p. HoldsText p s []) (BeginRefused s) }
+{
+    if key.len() != suite.key_length() {
+        return Err(Fault::KeyLength);
+    }
+    let nonce = Nonce::from_slice(nonce)?;
+    suite.check_aad(aad)?;
+    if is_chacha(suite) {
+        let cipher = Key32::from_slice(key)?;
+        let one_time = first_half(&block(&cipher, 0, &nonce));
+        return Ok(begun_by::<Poly>(suite, key, &nonce, one_time, aad));
+    }
+    let cipher = AesKey::from_slice(key)?;
+    let hash_key = cipher.encrypt(&Block::new([0; 16]));
+    let tag_mask = cipher.encrypt(&counter_block(&nonce, 1));
+    let keys = joined_blocks(hash_key.bytes(), tag_mask.bytes());
+    Ok(begun_by::<GhashTag<PlacedMul>>(suite, key, &nonce, keys, aad))
+}
+
+/// Begins a sealing in pieces, of no text yet. What the struct was before makes no difference.
+#[unsafe(no_mangle)]
+pub extern "C" fn aeadkit_sealer_init(
+    sealer: &mut StoredSealer,
+    suite: u32,
+    key: &[u8],
+    nonce: &[u8],
+    aad: &[u8],
+) -> u32
+    ensures known { (named : Suite) → is_one_pass (construction_of named) ≡ true
+        → suite ≡ suite_number named → let s = setting_of named key.now nonce.now aad.now in
+        HasOutcome result (HoldsText sealer.new s []) (BeginRefused s) }
+    ensures unknown { ((named : Suite) → is_one_pass (construction_of named) ≡ true
+        → suite ≢ suite_number named) → result ≡ unknown_suite }
+    ensures refused { result ≢ 0 → sealer.new ≡ zeros }
+{
+    sealer.erase();
+    let Some(suite) = one_pass_numbered(suite) else {
+        return UNKNOWN_SUITE;
+    };
+    match begun(suite, key, nonce, aad) {
+        Ok(stored) => {
+            *sealer = stored;
+            outcome_number(Ok(()))
+        }
+        Err(fault) => outcome_number(Err(fault)),
+    }
+}
+
+// ---- update
+
+// Adds a piece by a hash.
+#[inline(never)]
+fn update_by<H: StoredHash>(sealer: &mut StoredSealer, suite: Suite, piece: &mut [u8]) -> u32
+    ensures holds { (s : Setting) (text : List ℕ) → s.suite ≡ suite
+        → Updates (HoldsTextBy H.by H.keyed H.summed)
+        sealer.old sealer.new piece.old piece.new result s text }
+    ensures kept { result ≢ 0 → (sealer.new ≡ sealer.old) × (piece.new ≡ piece.old) }
+{
+    let Some(mut masking) = sealer.resumed::<H>(suite) else {
+        return NOT_BEGUN;
+    };
+    if piece.len() as u64 > masking.room() {
+        return outcome_number(Err(Fault::TextTooLong));
+    }
+    masking.update(piece);
+    *sealer = sealer.storing(&masking.authenticator);
+    outcome_number(Ok(()))
+}
+
+// Adds a piece under AES-GCM, by the multiplier that its length is worth.
+fn update_gcm(sealer: &mut StoredSealer, suite: Suite, piece: &mut [u8]) -> u32
+    ensures holds { (s : Setting) (text : List ℕ) → s.suite ≡ suite → Updates (HoldsTextOf ByGcm)
+        sealer.old sealer.new piece.old piece.new result s text }
+    ensures kept { result ≢ 0 → (sealer.new ≡ sealer.old) × (piece.new ≡ piece.old) }
+{
+    if piece.len() < SHORT {
+        update_by::<GhashTag<TableMul>>(sealer, suite, piece)
+    } else if piece.len() < LONG {
+        update_by::<GhashTag<PlacedMul>>(sealer, suite, piece)
+    } else {
+        update_by::<GhashTag<WideMul>>(sealer, suite, piece)
+    }
+}
+
+/// Adds a piece to the text, and leaves its ciphertext in its place.
+#[unsafe(no_mangle)]
+pub extern "C" fn aeadkit_sealer_update(sealer: &mut StoredSealer, piece: &mut [u8]) -> u32
+    ensures holds { (s : Setting) (text : List ℕ)
+        → Updates HoldsText sealer.old sealer.new piece.old piece.new result s text }
+    ensures not_begun { NotBegun sealer.old → result ≡ not_begun }
+    ensures kept { result ≢ 0 → (sealer.new ≡ sealer.old) × (piece.new ≡ piece.old) }
+{
+    let Some(suite) = one_pass_marked(sealer.mark) else {
+        return NOT_BEGUN;
+    };
+    if is_chacha(suite) {
+        update_by::<Poly>(sealer, suite, piece)
+    } else {
+        update_gcm(sealer, suite, piece)
+    }
+}
+
+// ---- finish
+
+// The tag of the text, by a hash.
+#[inline(never)]
+fn tag_by<H: StoredHash>(sealer: &StoredSealer, suite: Suite) -> Option<Tag>
+    ensures { (s : Setting) (text : List ℕ) → s.suite ≡ suite
+        → HoldsTextBy H.by H.keyed H.summed sealer.now s text → result ≡ Some (tag_of s text) }
+{
+    match sealer.resumed::<H>(suite) {
+        Some(masking) => Some(masking.finish()),
+        None => None,
+    }
+}
+
+// The tag of the text that a struct holds.
+fn stored_tag(sealer: &StoredSealer) -> Option<Tag>
+    ensures holds { (s : Setting) (text : List ℕ) → HoldsText sealer.now s text
+        → result ≡ Some (tag_of s text) }
+    ensures not_begun { NotBegun sealer.now → result ≡ None }
+{
+    let Some(suite) = one_pass_marked(sealer.mark) else {
+        return None;
+    };
+    if is_chacha(suite) {
+        tag_by::<Poly>(sealer, suite)
+    } else {
+        tag_by::<GhashTag<TableMul>>(sealer, suite)
+    }
+}
+
+/// Gives the tag of the text, and leaves zeros in the struct.
+#[unsafe(no_mangle)]
+pub extern "C" fn aeadkit_sealer_finish(sealer: &mut StoredSealer, tag: &mut [u8; 16]) -> u32
+    ensures holds { (s : Setting) (text : List ℕ) → HoldsText sealer.old s text
+        → (result ≡ 0) × (tag.new ≡ tag_of s text) }
+    ensures not_begun { NotBegun sealer.old → result ≡ not_begun }
+    ensures done { result ≡ 0 → sealer.new ≡ zeros }
+    ensures kept { result ≢ 0 → (sealer.new ≡ sealer.old) × (tag.new ≡ tag.old) }
+{
+    let Some(found) = stored_tag(sealer) else {
+        return NOT_BEGUN;
+    };
+    *tag = *found.bytes();
+    sealer.erase();
+    0
+}
+
+/// The bytes of the struct that the calls in pieces take.
+#[unsafe(no_mangle)]
+pub extern "C" fn aeadkit_sealer_size() -> usize
+    ensures { result ≡ 144 }
+{
+    size_of::<StoredSealer>()
+}
+
+#[cfg(test)]
+mod tests {
+    use super::super::aeadkit_seal;
+    use super::*;
+
+    // Seals a text in two pieces with any struct, under a key, a nonce and associated data. Returns whether
+    // each call was done.
+    fn sealed_in_two(
+        sealer: &mut StoredSealer,
+        suite: u32,
+        keys: (&[u8], &[u8], &[u8]),
+        first: &mut [u8],
+        second: &mut [u8],
+        tag: &mut [u8; 16],
+    ) -> bool
+        ensures { (named : Suite) → is_one_pass (construction_of named) ≡ true → suite ≡ suite_number named
+            → let s = setting_of named keys.entry.0.now keys.entry.1.now keys.entry.2.now in
+            result ≡ true → tag.new ≡ tag_of s (first.old ++ second.old) }
+    {
+        let (key, nonce, aad) = keys;
+        if aeadkit_sealer_init(sealer, suite, key, nonce, aad) != 0 {
+            return false;
+        }
+        if aeadkit_sealer_update(sealer, first) != 0 {
+            return false;
+        }
+        if aeadkit_sealer_update(sealer, second) != 0 {
+            return false;
+        }
+        aeadkit_sealer_finish(sealer, tag) == 0
+    }
+
+    #[test]
+    fn pieces_have_the_sealing_of_their_text(rt: HostRuntime) {
+        for (suite, size) in [(1, 32), (2, 16), (3, 24), (4, 32)] {
+            let key = &[7; 32][..size];
+            let mut sealed = [1; 80];
+            assert!(rt; aeadkit_seal(suite, key, &[9; 12], b"to", &mut sealed) == 0);
+            let mut text = [1; 64];
+            let (first, second) = text.split_at_mut(21);
+            let mut sealer = StoredSealer::zeros();
+            let mut tag = [0; 16];
+            let keys = (key, [9; 12].as_slice(), b"to".as_slice());
+            assert!(rt; sealed_in_two(&mut sealer, suite, keys, first, second, &mut tag));
+            let (body, last) = sealed.split_at(64);
+            assert!(rt; body == text.as_slice() && last == tag.as_slice());
+            assert!(rt; aeadkit_sealer_finish(&mut sealer, &mut tag) == 15);
+        }
+    }
+
+    #[test]
+    fn the_numbers_of_refusals(rt: HostRuntime) {
+        let mut sealer = StoredSealer::zeros();
+        let zeros = &[0u8; 33];
+        let mut piece = [0; 3];
+        assert!(rt; aeadkit_sealer_update(&mut sealer, &mut piece) == 15);
+        assert!(rt; aeadkit_sealer_init(&mut sealer, 5, &zeros[..16], &zeros[..12], &[]) == 14);
+        assert!(rt; aeadkit_sealer_init(&mut sealer, 2, &zeros[..15], &[], &[]) == 1);
+        assert!(rt; aeadkit_sealer_init(&mut sealer, 1, &zeros[..32], &[], &[]) == 2);
+        assert!(rt; aeadkit_sealer_init(&mut sealer, 1, &zeros[..32], &zeros[..12], &[]) == 0);
+        sealer.length = (1 << 38) - 66;
+        assert!(rt; aeadkit_sealer_update(&mut sealer, &mut piece) == 3);
+        assert!(rt; piece == [0; 3]);
+    }
+}
