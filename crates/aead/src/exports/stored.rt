@@ -1,4 +1,4 @@
-// A sealing in pieces stored as plain numbers, of which no value is refused by a type: C keeps it.
+// A sealing in pieces, stored as plain numbers in the memory of a caller in C.
 
 ghost use Rattle.std.specs.Prelude.{◌≡◌, ◌+◌, ◌*◌, ◌-◌, ◌/◌, ◌^◌, ◌<◌, ◌≤◌, ℕ, List, [], length, take, drop};
 ghost use Rattle.std.specs.Prelude.{◌++◌, MatchOption};
@@ -34,7 +34,8 @@ pub struct StoredSum {
     high: u64,
 }
 
-/// A sealing in pieces. Each number may have any value.
+/// A sealing in pieces. Each number may have any value: a call reads them with checks, and makes again what
+/// carries a fact.
 #[repr(C)]
 #[derive(Clone, Copy)]
 pub struct StoredSealer {
@@ -132,7 +133,8 @@ impl StoredSealer {
     }
 }
 
-// The hash of a construction, and its mask: what is stored of them, and how they are made again of it.
+// The hash of a construction, and the mask that goes with it: what is stored of both, and how they are made
+// again.
 pub(super) trait StoredHash: TagHash {
     ghost use Rattle.aead.specs.declared.exports.stored.StoredSum.{StoredSum};
 

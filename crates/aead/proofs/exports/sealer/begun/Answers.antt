@@ -2,7 +2,7 @@ use Rattle.std.proofs.Common.{◌≡◌, ℕ, List, [], false, sym, subst, ap, a
 use Rattle.std.proofs.lemmas.List.{take_at, drop_at}
 use Rattle.chacha.specs.Block as chacha
 use Rattle.aes.specs.Cipher.{cipher}
-use Rattle.aead.specs.Suites.{Construction, ByChaCha, ByGcm, construction_of}
+use Rattle.aead.specs.Suites.{Construction, ByChaCha, ByGcm}
 use Rattle.aead.specs.Sealing.{Setting, poly_key, hash_key, j0}
 use Rattle.aead.specs.Exports.{setting_of}
 use Rattle.aead.specs.Stored.{HoldsText, HoldsTextOf, HoldsBy, IsPolyKey, IsPolySum, IsGhashKey, IsGhashSum}

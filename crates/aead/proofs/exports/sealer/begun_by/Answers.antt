@@ -1,4 +1,4 @@
-use Rattle.std.proofs.Common.{◌≡◌, ℕ, ◌∙◌, [], refl, ap, arith, length, replicate}
+use Rattle.std.proofs.Common.{◌∙◌, [], refl, ap, arith, length, replicate}
 use Rattle.std.proofs.lemmas.Slice.{take-put_mid}
 use Rattle.aead.specs.Suites.{key_length}
 use Rattle.aead.specs.Exports.{setting_of}

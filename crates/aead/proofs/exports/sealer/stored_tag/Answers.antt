@@ -1,6 +1,6 @@
 use Rattle.std.proofs.Common.{◌≡◌, ◌∙◌, sym, subst, ap}
 use Rattle.std.proofs.lemmas.Option.{none-some, same_Some}
-use Rattle.aead.specs.Suites.{Construction, ByChaCha, ByGcm, construction_of}
+use Rattle.aead.specs.Suites.{ByChaCha, ByGcm, construction_of}
 use Rattle.aead.specs.Stored.{HoldsTextOf}
 use Rattle.aead.proofs.Stored.{marked}
 use Rattle.aead.proofs.exports.sealer.stored_tag.Goals as goal

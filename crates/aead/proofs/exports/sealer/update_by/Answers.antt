@@ -1,4 +1,4 @@
-use Rattle.std.proofs.Common.{◌≡◌, ℕ, ◌++◌, [], false, refl, arith, length, length-append, Ok, Err}
+use Rattle.std.proofs.Common.{◌++◌, [], false, arith, length-append, Ok, Err}
 use Rattle.octets.specs.declared.fault.Fault.TheVariants.{TextTooLong}
 use Rattle.aead.specs.Code.States.{authenticated}
 use Rattle.aead.specs.Code.Maskings.{sealing_task}

@@ -1,10 +1,9 @@
-use Rattle.std.proofs.Common.{◌≡◌, ℕ, ◌*◌, ◌/◌, ◌%◌, ◌++◌, ◌∙◌, List, [], false, refl, sym, ap, arith}
+use Rattle.std.proofs.Common.{◌≡◌, ℕ, ◌*◌, ◌/◌, ◌%◌, ◌++◌, ◌∙◌, [], false, refl, sym, ap, arith}
 use Rattle.std.proofs.Common.{length, take, drop}
 use Rattle.octets.specs.Bytes.{pad16}
 use Rattle.aead.specs.Suites.{text_limit}
 use Rattle.aead.specs.Code.States.{authenticated}
 use Rattle.aead.proofs.Maskings.{length-authenticated}
-use Rattle.aead.proofs.Stored.{limit_small}
 use Rattle.aead.proofs.exports.stored.StoredSealer.resumed.Goals as goal
 
 pub returns-then-self-limit : goal.returns-then-self-limit

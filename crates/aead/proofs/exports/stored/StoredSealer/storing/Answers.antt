@@ -1,4 +1,4 @@
-use Rattle.std.proofs.Common.{◌≡◌, ℕ, ◌*◌, ◌/◌, ◌++◌, ◌∙◌, List, ap, arith, length, drop, replicate}
+use Rattle.std.proofs.Common.{◌≡◌, ◌*◌, ◌/◌, ◌++◌, ◌∙◌, ap, arith, length, drop, replicate}
 use Rattle.std.proofs.lemmas.Slice.{take-put_mid}
 use Rattle.octets.specs.Bytes.{pad16}
 use Rattle.aead.proofs.exports.stored.StoredSealer.storing.Goals as goal
