@@ -13,9 +13,9 @@ import enum
 import os
 from typing import Optional, Union
 
-__all__ = ["Suite", "Key", "seal", "open", "wrap", "unwrap", "wrap_padded", "unwrap_padded", "Refused", "KeyLength",
+__all__ = ["Suite", "Key", "Sealer", "seal", "open", "wrap", "unwrap", "wrap_padded", "unwrap_padded", "Refused", "KeyLength",
            "NonceLength", "TextTooLong", "AadTooLong", "TooShort", "TagMismatch", "WrapLength", "WrapIntegrity",
-           "UnknownSuite"]
+           "UnknownSuite", "NotBegun"]
 
 Buffer = Union[bytes, bytearray, memoryview]
 
@@ -71,8 +71,12 @@ class UnknownSuite(Refused):
     message = "the suite is none of Suite"
 
 
+class NotBegun(Refused):
+    message = "the sealing is finished"
+
+
 _FAULTS = {1: KeyLength, 2: NonceLength, 3: TextTooLong, 4: AadTooLong, 5: TooShort, 6: TagMismatch, 7: WrapLength,
-           8: WrapIntegrity, 14: UnknownSuite}
+           8: WrapIntegrity, 14: UnknownSuite, 15: NotBegun}
 
 
 class Suite(enum.IntEnum):
@@ -128,6 +132,11 @@ _wrap = _declared("aeadkit_wrap", *_given, *_room)
 _unwrap = _declared("aeadkit_unwrap", *_given, *_room)
 _wrap_padded = _declared("aeadkit_wrap_padded", *_given, *_room, ctypes.c_size_t)
 _unwrap_padded = _declared("aeadkit_unwrap_padded", *_given, *_room, ctypes.POINTER(ctypes.c_size_t))
+_sealer_init = _declared("aeadkit_sealer_init", ctypes.c_void_p, ctypes.c_uint32, *_given, *_given, *_given)
+_sealer_update = _declared("aeadkit_sealer_update", ctypes.c_void_p, *_room)
+_sealer_finish = _declared("aeadkit_sealer_finish", ctypes.c_void_p, ctypes.c_void_p)
+_library.aeadkit_sealer_size.argtypes, _library.aeadkit_sealer_size.restype = (), ctypes.c_size_t
+_State = ctypes.c_uint64 * (_library.aeadkit_sealer_size() // 8)
 
 
 def _bytes_of(data):
@@ -187,6 +196,37 @@ class Key:
     def open(self, nonce: Buffer, sealed: Buffer, aad: Optional[Buffer] = None) -> bytearray:
         """The text that the sealed bytes are the sealing of."""
         return open(self._suite, self._key, nonce, aad, sealed)
+
+
+class Sealer:
+    """A sealing in pieces, under ChaCha20-Poly1305 or AES-GCM: the ciphertext of all pieces, then the tag, is what seal makes
+    of the whole text, however it is cut. UnknownSuite for AES-GCM-SIV, which reads a text twice."""
+
+    def __init__(self, suite: int, key: Buffer, nonce: Buffer, aad: Optional[Buffer] = None) -> None:
+        self._state = _State()
+        given = [it for word in map(_bytes_of, (key, nonce, b"" if aad is None else aad)) for it in (word, len(word))]
+        status = _sealer_init(ctypes.addressof(self._state), _suite_of(suite), *given)
+        if status:
+            raise _FAULTS[status]()
+
+    def update(self, piece: Buffer) -> bytearray:
+        """The ciphertext of the next piece of the text, which may have any length."""
+        with memoryview(piece) as view:
+            text = bytearray(view.cast("B") if view.c_contiguous else view.tobytes())
+        place = ctypes.c_ubyte.from_buffer(text or bytearray(1))
+        status = _sealer_update(ctypes.addressof(self._state), ctypes.addressof(place), len(text))
+        del place
+        if status:
+            raise _FAULTS[status]()
+        return text
+
+    def finish(self) -> bytes:
+        """The tag of the text, of 16 bytes. After it the sealer takes no more: NotBegun."""
+        tag = ctypes.create_string_buffer(_TAG_BYTES)
+        status = _sealer_finish(ctypes.addressof(self._state), ctypes.addressof(tag))
+        if status:
+            raise _FAULTS[status]()
+        return tag.raw
 
 
 def wrap(key: Buffer, text: Buffer) -> bytearray:

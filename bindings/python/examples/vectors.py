@@ -1,5 +1,7 @@
 """Seals, opens, refuses, wraps and unwraps published vectors."""
 
+import tempfile
+
 import aeadkit
 from aeadkit import Suite
 
@@ -54,6 +56,30 @@ for suite in Suite:
     refused(aeadkit.NonceLength, aeadkit.seal, suite, key, bytes(11), b"", b"")
 refused(aeadkit.UnknownSuite, aeadkit.seal, 7, b"", b"", b"", b"")
 refused(aeadkit.UnknownSuite, aeadkit.open, 2**32 + 1, KEY, NONCE, AAD, sealed)
+
+# a text in pieces has the sealing of the whole text
+text = bytes(range(250)) * 4
+for suite in list(Suite)[:4]:
+    key = bytes(suite.key_bytes)
+    for size in (1, 15, 16, 17, 333, 1000):
+        sealer = aeadkit.Sealer(suite, key, bytes(12), b"data")
+        made = b"".join(sealer.update(text[i : i + size]) + sealer.update(b"") for i in range(0, len(text), size))
+        assert made + sealer.finish() == aeadkit.seal(suite, key, bytes(12), b"data", text)
+        refused(aeadkit.NotBegun, sealer.update, b"")
+        refused(aeadkit.NotBegun, sealer.finish)
+# a file, sealed by pieces of 64 KiB into another
+with tempfile.TemporaryFile() as plain, tempfile.TemporaryFile() as sealed_file:
+    plain.write(text * 500)
+    plain.seek(0)
+    sealer = aeadkit.Sealer(Suite.CHACHA20_POLY1305, KEY, NONCE, AAD)
+    while piece := plain.read(65536):
+        sealed_file.write(sealer.update(piece))
+    sealed_file.write(sealer.finish())
+    sealed_file.seek(0)
+    assert aeadkit.open(Suite.CHACHA20_POLY1305, KEY, NONCE, AAD, sealed_file.read()) == text * 500
+
+refused(aeadkit.UnknownSuite, aeadkit.Sealer, Suite.AES_128_GCM_SIV, bytes(16), bytes(12))
+refused(aeadkit.NonceLength, aeadkit.Sealer, Suite.AES_128_GCM, bytes(16), bytes(11))
 
 # RFC 3394, 4.1
 text = bytes.fromhex("00112233445566778899aabbccddeeff")

@@ -1,6 +1,6 @@
 //! Seals, opens, refuses, wraps and unwraps published vectors.
 
-use aeadkit::{Fault, Key, Suite, TAG_BYTES, WRAP_BYTES, open, seal, unwrap, unwrap_padded, wrap, wrap_padded};
+use aeadkit::{Fault, Key, Sealer, Suite, TAG_BYTES, WRAP_BYTES, open, seal, unwrap, unwrap_padded, wrap, wrap_padded};
 
 /// AES-128-GCM of sixteen zero bytes under a zero key and nonce: test case 2 of GCM's vectors.
 fn sealing() -> Result<(), Fault> {
@@ -34,6 +34,30 @@ fn keys() -> Result<(), Fault> {
         assert_eq!(format!("{key:?}"), format!("Key({suite:?})"));
     }
     assert_eq!(Fault::NonceLength.to_string(), "the nonce is not 12 bytes long");
+    Ok(())
+}
+
+/// A text in pieces has the sealing of the whole text.
+fn pieces() -> Result<(), Fault> {
+    use Suite::*;
+    let text: Vec<u8> = (0..1000).map(|i| i as u8).collect();
+    for suite in [ChaCha20Poly1305, Aes128Gcm, Aes192Gcm, Aes256Gcm] {
+        let key = &[7; 32][..suite.key_bytes()];
+        let mut whole = text.clone();
+        whole.resize(text.len() + TAG_BYTES, 0);
+        seal(suite, key, &[9; 12], b"data", &mut whole)?;
+        for size in [1, 15, 16, 17, 333, 1000] {
+            let mut sealed = text.clone();
+            let mut sealer = Sealer::new(suite, key, &[9; 12], b"data")?;
+            for piece in sealed.chunks_mut(size) {
+                sealer.update(piece)?;
+                sealer.update(&mut [])?;
+            }
+            sealed.extend(sealer.finish());
+            assert_eq!(sealed, whole);
+        }
+    }
+    assert_eq!(Sealer::new(Aes128GcmSiv, &[0; 16], &[0; 12], b"").err(), Some(Fault::UnknownSuite));
     Ok(())
 }
 
@@ -72,6 +96,7 @@ fn padded() -> Result<(), Fault> {
 fn main() -> Result<(), Fault> {
     sealing()?;
     keys()?;
+    pieces()?;
     wrapping()?;
     padded()
 }

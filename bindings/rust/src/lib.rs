@@ -11,10 +11,12 @@ mod fault;
 mod key;
 #[allow(unsafe_code)]
 mod raw;
+mod sealer;
 
 pub use fault::Fault;
 use fault::outcome;
 pub use key::Key;
+pub use sealer::Sealer;
 
 /// The bytes of a tag: a sealing is as much longer than its text.
 pub const TAG_BYTES: usize = 16;

@@ -15,6 +15,34 @@ unsafe extern "C" {
     #[rustfmt::skip]
     fn aeadkit_unwrap_padded(key: *const u8, key_length: usize, bytes: *mut u8, bytes_length: usize,
                              text_length: *mut usize) -> u32;
+    #[rustfmt::skip]
+    fn aeadkit_sealer_init(sealer: *mut Sealer, suite: u32, key: *const u8, key_length: usize,
+                           nonce: *const u8, nonce_length: usize, aad: *const u8, aad_length: usize) -> u32;
+    fn aeadkit_sealer_update(sealer: *mut Sealer, piece: *mut u8, piece_length: usize) -> u32;
+    fn aeadkit_sealer_finish(sealer: *mut Sealer, tag: *mut [u8; 16]) -> u32;
+}
+
+/// `struct aeadkit_sealer` of the header. It isn't copied: two copies would seal two texts with one nonce.
+#[repr(C)]
+#[derive(Default)]
+pub struct Sealer {
+    private: [u64; 18],
+}
+
+pub fn sealer_init(sealer: &mut Sealer, suite: u32, key: &[u8], nonce: &[u8], aad: &[u8]) -> u32 {
+    let (k, n, a) = (key.as_ptr(), nonce.as_ptr(), aad.as_ptr());
+    // SAFETY: as of `seal`, and the struct has the library's size.
+    unsafe { aeadkit_sealer_init(sealer, suite, k, key.len(), n, nonce.len(), a, aad.len()) }
+}
+
+pub fn sealer_update(sealer: &mut Sealer, piece: &mut [u8]) -> u32 {
+    // SAFETY: as of `sealer_init`; any bytes of the struct are taken.
+    unsafe { aeadkit_sealer_update(sealer, piece.as_mut_ptr(), piece.len()) }
+}
+
+pub fn sealer_finish(sealer: &mut Sealer, tag: &mut [u8; 16]) -> u32 {
+    // SAFETY: as of `sealer_update`.
+    unsafe { aeadkit_sealer_finish(sealer, tag) }
 }
 
 pub fn seal(suite: u32, key: &[u8], nonce: &[u8], aad: &[u8], bytes: &mut [u8]) -> u32 {
