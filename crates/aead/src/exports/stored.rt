@@ -111,7 +111,10 @@ impl StoredSealer {
 
     // The state that the numbers store, under a suite.
     #[inline(always)]
-    pub(super) fn resumed<H: StoredHash>(&self, suite: Suite) -> Option<Masking<H::Stream, H, MaskFirst>>
+    pub(super) fn resumed<H: StoredHash>(
+        &self,
+        suite: Suite,
+    ) -> Option<Masking<H::Stream, H, MaskFirst>>
         ensures { (s : Setting) (text : List ℕ) → s.suite ≡ suite
             → HoldsTextBy H.by H.keyed H.summed self.now s text
             → MatchOption result ⊥
