@@ -1,5 +1,5 @@
 -- What a file command's `Read` and `Write` come from.
-use Rattle.std.specs.Prelude.{◌≡◌, ℕ, ◌⊎◌, Bool, true, List, ⊤}
+use Rattle.std.specs.Prelude.{◌≡◌, ℕ, ◌⊎◌, Bool, true, List, Result, IfErr, ⊤}
 use Rattle.octets.specs.declared.fault.Fault.{Fault}
 use Rattle.octets.specs.declared.fault.Fault.TheVariants.{Read, Write}
 use Rattle.octets.specs.Device.{Failed}
@@ -21,20 +21,16 @@ InputFailed open_may_fail failures =
 abbrev pub OutputFailed : {D : Type 0} → Bool → (D → ℕ) → Type 0
 OutputFailed make_may_fail failures = ∥ (make_may_fail ≡ true) ⊎ DeviceFailed failures ∥₁
 
--- `Read` comes only where the input failed, and `Write` only where the output did
-abbrev pub Blames : (input output : Type 0) → Fault → Type 0
-Blames input output f = (f ≡ Read → input) × (f ≡ Write → output)
+-- a call's error shows `Read` only if the input failed, and `Write` only if the output did
+abbrev pub Blames : {T E : Type 0} → (shows : Fault → E) → (input output : Type 0) → Result T E → Type 0
+Blames shows input output r = IfErr r (λ e. (e ≡ shows Read → input) × (e ≡ shows Write → output))
 
--- the same of what stops the program
-abbrev pub BlamesAs : (input output : Type 0) → Failure → Type 0
-BlamesAs input output e = (e ≡ OfFault Read → input) × (e ≡ OfFault Write → output)
-
--- the same of what stops a request, where it reads or writes a file
-abbrev pub RequestBlames : (List ℕ → Type 0) → Type 0 → Request → Failure → Type 0
-RequestBlames input output (SealFile w) e = BlamesAs (input w.input.now) output e
-RequestBlames input output (OpenFile w) e = BlamesAs (input w.input.now) output e
-RequestBlames input output (Check path) e = e ≡ OfFault Read → input path.now
-RequestBlames input output _ e = ⊤
+-- what stops a request blames its input and its output, if it reads or writes a file
+abbrev pub RequestBlames : {T : Type 0} → (List ℕ → Type 0) → Type 0 → Request → Result T Failure → Type 0
+RequestBlames input output (SealFile w) r = Blames OfFault (input w.input.now) output r
+RequestBlames input output (OpenFile w) r = Blames OfFault (input w.input.now) output r
+RequestBlames input output (Check path) r = Blames OfFault (input path.now) ⊤ r
+RequestBlames input output _ r = ⊤
 
 -- a request that writes a file made it
 abbrev pub Makes : Request → Bool → Type 0

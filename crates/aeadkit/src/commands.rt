@@ -1,15 +1,15 @@
 //! The commands over values given as hexadecimal, and `check`.
-ghost use Rattle.std.specs.Prelude.{◌≡◌, ◌⊎◌, MatchResult, IfErr};
+ghost use Rattle.std.specs.Prelude.{◌≡◌, ◌⊎◌, ⊤, MatchResult, IfErr};
 ghost use Rattle.aead.specs.AnyCiphers.{keyed_of};
 ghost use Rattle.aead.specs.Refusals.{WholeSealRefused, WholeOpenRefused};
 ghost use Rattle.aeadkit.specs.Aead.{IsReady, IsSealed, IsOpened, InputsRefused, IsRefused};
-ghost use Rattle.aeadkit.specs.Blames.{InputFailed};
+ghost use Rattle.aeadkit.specs.Blames.{InputFailed, Blames};
 ghost use Rattle.aeadkit.specs.Hex.{Spells, IsBadHex};
 ghost use Rattle.aeadkit.specs.Reports.{IsReportOf, FileRefused};
 ghost use Rattle.aeadkit.specs.Keywrap.{Wraps, IsWrapped, IsUnwrapped, IsWrapRefused, WrapFault};
 ghost use Rattle.aeadkit.specs.Keywrap.{UnwrapFault};
 ghost use Rattle.aeadkit.specs.declared.failure.Failure.TheVariants.{BadHex, Fault as OfFault};
-ghost use Rattle.octets.specs.declared.fault.Fault.TheVariants.{OutOfMemory, Read as OfRead};
+ghost use Rattle.octets.specs.declared.fault.Fault.TheVariants.{OutOfMemory};
 
 use crate::failure::Failure;
 use crate::readings::file_bytes;
@@ -169,8 +169,8 @@ pub fn check<'a, A: Allocator, F: Storage>(
     ensures answer { MatchResult result
         (λ r. IsReportOf (F.contents files.now path.now 0) r.records r.bad.items)
         (FileRefused (F.contents files.now path.now 0)) }
-    ensures blame { IfErr result (λ e. e ≡ OfFault OfRead
-        → InputFailed (F.open_may_fail files.now path.now) F.Input.failures) }
+    ensures blame { Blames OfFault
+        (InputFailed (F.open_may_fail files.now path.now) F.Input.failures) ⊤ result }
 {
     let file = file_bytes(alloc, files, path)?;
     Ok(vectors::check(alloc, &file)?)

@@ -4,10 +4,11 @@ ghost use Rattle.octets.specs.Device.{Failed};
 ghost use Rattle.aead.specs.Suites.{ByGcmSiv, construction_of, is_one_pass};
 ghost use Rattle.aead.specs.Ciphers.{setting};
 ghost use Rattle.aead.specs.AnyCiphers.{one_pass_keyed, keyed_of};
-ghost use Rattle.aeadkit.specs.Blames.{InputFailed, OutputFailed, Blames, BlamesAs};
+ghost use Rattle.aeadkit.specs.Blames.{InputFailed, OutputFailed, Blames};
 ghost use Rattle.aeadkit.specs.Files.{SealingBy, Sealing, Opening, EngineRan, Ran};
 ghost use Rattle.aeadkit.specs.Files.{FileDone, FileStopped};
 ghost use Rattle.aeadkit.specs.NewFiles.{held};
+ghost use Rattle.aeadkit.specs.declared.failure.Failure.TheVariants.{Fault as OfFault};
 
 use crate::commands::prepare;
 use crate::failure::Failure;
@@ -34,8 +35,8 @@ fn seal_once<F: Storage, O: Outlet>(
     ensures ran { EngineRan (SealingBy true (F.contents files.now path.now))
         (setting (one_pass_keyed cipher.now) nonce.now aad.now)
         (O.taken out.old) (O.taken out.new) result }
-    ensures blame { IfErr result (Blames (InputFailed (F.open_may_fail files.now path.now) F.Input.failures)
-        (Failed (O.failures out.old) (O.failures out.new))) }
+    ensures blame { Blames (λ f. f) (InputFailed (F.open_may_fail files.now path.now) F.Input.failures)
+        (Failed (O.failures out.old) (O.failures out.new)) result }
 {
     let mut text = reading(files, path, 0)?;
     seal_stream(cipher, nonce, aad, &mut text, out)
@@ -54,8 +55,8 @@ fn seal_twice<F: Storage, O: Outlet>(
     ensures ran { EngineRan (SealingBy false (F.contents files.now path.now))
         (setting cipher.now nonce.now aad.now)
         (O.taken out.old) (O.taken out.new) result }
-    ensures blame { IfErr result (Blames (InputFailed (F.open_may_fail files.now path.now) F.Input.failures)
-        (Failed (O.failures out.old) (O.failures out.new))) }
+    ensures blame { Blames (λ f. f) (InputFailed (F.open_may_fail files.now path.now) F.Input.failures)
+        (Failed (O.failures out.old) (O.failures out.new)) result }
 {
     let mut first = reading(files, path, 0)?;
     let mut second = reading(files, path, 1)?;
@@ -88,8 +89,8 @@ fn seal_by<F: Storage, O: Outlet>(
     ensures ran { EngineRan (Sealing (F.contents files.now path.now))
         (setting (keyed_of cipher.now) nonce.now aad.now)
         (O.taken out.old) (O.taken out.new) result }
-    ensures blame { IfErr result (Blames (InputFailed (F.open_may_fail files.now path.now) F.Input.failures)
-        (Failed (O.failures out.old) (O.failures out.new))) }
+    ensures blame { Blames (λ f. f) (InputFailed (F.open_may_fail files.now path.now) F.Input.failures)
+        (Failed (O.failures out.old) (O.failures out.new)) result }
 {
     match cipher {
         AnyAead::OnePass(cipher) => {
@@ -116,8 +117,8 @@ fn open_by<F: Storage, O: Outlet>(
     ensures ran { EngineRan (Opening (F.contents files.now path.now))
         (setting (keyed_of cipher.now) nonce.now aad.now)
         (O.taken out.old) (O.taken out.new) result }
-    ensures blame { IfErr result (Blames (InputFailed (F.open_may_fail files.now path.now) F.Input.failures)
-        (Failed (O.failures out.old) (O.failures out.new))) }
+    ensures blame { Blames (λ f. f) (InputFailed (F.open_may_fail files.now path.now) F.Input.failures)
+        (Failed (O.failures out.old) (O.failures out.new)) result }
 {
     let mut measure = reading(files, path, 0)?;
     let mut verify = reading(files, path, 1)?;
@@ -142,9 +143,9 @@ fn seal<A: Allocator, F: Storage, O: Outlet>(
 ) -> Result<(), Failure>
     ensures ran { Ran (Sealing (F.contents files.now words.now.input.now)) words.now.inputs (O.taken out.old)
         (O.taken out.new) result }
-    ensures blame { IfErr result (BlamesAs
+    ensures blame { Blames OfFault
         (InputFailed (F.open_may_fail files.now words.now.input.now) F.Input.failures)
-        (Failed (O.failures out.old) (O.failures out.new))) }
+        (Failed (O.failures out.old) (O.failures out.new)) result }
 {
     let inputs = prepare(alloc, &words.inputs)?;
     Ok(seal_by(
@@ -166,9 +167,9 @@ fn open<A: Allocator, F: Storage, O: Outlet>(
 ) -> Result<(), Failure>
     ensures ran { Ran (Opening (F.contents files.now words.now.input.now)) words.now.inputs (O.taken out.old)
         (O.taken out.new) result }
-    ensures blame { IfErr result (BlamesAs
+    ensures blame { Blames OfFault
         (InputFailed (F.open_may_fail files.now words.now.input.now) F.Input.failures)
-        (Failed (O.failures out.old) (O.failures out.new))) }
+        (Failed (O.failures out.old) (O.failures out.new)) result }
 {
     let inputs = prepare(alloc, &words.inputs)?;
     Ok(open_by(
@@ -200,9 +201,9 @@ pub fn seal_file<'a, A: Allocator, B: Allocator, F: Storage>(
         (held (F.blank file.new.files.now) F.Output.taken file.new.file)) }
     ensures made { IfOk result (λ _. is_some file.new.file ≡ true) }
     // `Read` and `Write` come only where the input or the output failed.
-    ensures blame { IfErr result (BlamesAs
+    ensures blame { Blames OfFault
         (InputFailed (F.open_may_fail files.now words.now.input.now) F.Input.failures)
-        (OutputFailed (F.make_may_fail file.new.files.now) F.Output.failures)) }
+        (OutputFailed (F.make_may_fail file.new.files.now) F.Output.failures) result }
     ensures status { IfOk result (λ status. status ≡ 0) }
 {
     file.name(words.output)?;
@@ -230,9 +231,9 @@ pub fn open_file<'a, A: Allocator, B: Allocator, F: Storage>(
         (held (F.blank file.new.files.now) F.Output.taken file.new.file)) }
     ensures made { IfOk result (λ _. is_some file.new.file ≡ true) }
     // `Read` and `Write` come only where the input or the output failed.
-    ensures blame { IfErr result (BlamesAs
+    ensures blame { Blames OfFault
         (InputFailed (F.open_may_fail files.now words.now.input.now) F.Input.failures)
-        (OutputFailed (F.make_may_fail file.new.files.now) F.Output.failures)) }
+        (OutputFailed (F.make_may_fail file.new.files.now) F.Output.failures) result }
     ensures status { IfOk result (λ status. status ≡ 0) }
 {
     file.name(words.output)?;

@@ -1,14 +1,13 @@
 //! The program, over a writer for each stream.
-ghost use Rattle.std.specs.Prelude.{◌≤◌, ◌≡◌, ◌↔◌, ◌⊎◌, [], is_some, IfOk, IfErr, MatchResult};
+ghost use Rattle.std.specs.Prelude.{◌≤◌, ◌≡◌, ◌↔◌, ◌⊎◌, ⊤, [], is_some, IfOk, IfErr, MatchResult};
 ghost use Rattle.std.specs.Prelude.{string_bytes};
 ghost use Rattle.std.specs.Io.KnownBytes.{Appends};
 ghost use Rattle.aead.specs.Refusals.{WholeSealRefused, WholeOpenRefused};
 ghost use Rattle.aeadkit.specs.Aead.{IsSealed, IsOpened, IsRefused};
 ghost use Rattle.aeadkit.specs.Answers.{Surroundings, Printed, Answered, Stopped, IsOutputFailure};
 ghost use Rattle.aeadkit.specs.Answers.{IsRefusedAs, version_line};
-ghost use Rattle.aeadkit.specs.Blames.{InputFailed, OutputFailed, RequestBlames, Makes};
+ghost use Rattle.aeadkit.specs.Blames.{InputFailed, OutputFailed, Blames, RequestBlames, Makes};
 ghost use Rattle.aeadkit.specs.declared.failure.Failure.TheVariants.{Fault as OfFault};
-ghost use Rattle.octets.specs.declared.fault.Fault.TheVariants.{Read as OfRead};
 ghost use Rattle.aeadkit.specs.Hex.{hex_line};
 ghost use Rattle.aeadkit.specs.Keywrap.{IsWrapped, IsUnwrapped, IsWrapRefused, WrapFault, UnwrapFault};
 ghost use Rattle.aeadkit.specs.NewFiles.{held};
@@ -160,8 +159,8 @@ fn print_checking<A: Allocator, F: Storage, W: Write>(
     ensures answer { MatchResult result
         (IsChecked (F.contents files.now path.now 0) (W.contents out.old) (W.contents out.new))
         (λ e. FileRefused (F.contents files.now path.now 0) e ⊎ IsOutputFailure e) }
-    ensures blame { IfErr result (λ e. e ≡ OfFault OfRead
-        → InputFailed (F.open_may_fail files.now path.now) F.Input.failures) }
+    ensures blame { Blames OfFault
+        (InputFailed (F.open_may_fail files.now path.now) F.Input.failures) ⊤ result }
     ensures status { IfOk result (λ status. status ≤ 1) }
 {
     let report = commands::check(alloc, files, path)?;
@@ -189,9 +188,9 @@ pub fn perform<'a, A: Allocator, B: Allocator, F: Storage, W: Write>(
     } in
         MatchResult result (Answered s request.now) (Stopped s request.now) }
     // A file's `Read` and `Write` come only where the input or the output failed.
-    ensures blame { IfErr result (RequestBlames
+    ensures blame { RequestBlames
         (λ path. InputFailed (F.open_may_fail files.now path) F.Input.failures)
-        (OutputFailed (F.make_may_fail file.new.files.now) F.Output.failures) request.now) }
+        (OutputFailed (F.make_may_fail file.new.files.now) F.Output.failures) request.now result }
     ensures made { IfOk result (λ _. Makes request.now (is_some file.new.file)) }
     ensures status { IfOk result (λ status. status ≤ 1) }
 {

@@ -3,7 +3,7 @@ use Rattle.aead.specs.Ciphers.{Keyed, setting}
 use Rattle.aead.specs.AnyCiphers.{keyed_of}
 use Rattle.aeadkit.specs.Aead.{IsReady}
 use Rattle.aeadkit.specs.Files.{Sealing}
-use Rattle.aeadkit.proofs.BlamesLemmas.{fault_blames, refused_blames}
+use Rattle.aeadkit.proofs.BlamesLemmas.{fault_blames}
 use Rattle.aeadkit.proofs.FilesLemmas.{ran_ok, ran_err}
 use Rattle.aeadkit.proofs.files.seal.Goals as goal
 
