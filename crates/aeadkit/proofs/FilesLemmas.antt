@@ -16,9 +16,11 @@ use Rattle.aead.specs.Verdict.{OpensStream, FailureCounts, WhereTold}
 use Rattle.aeadkit.specs.declared.failure.Failure.{Failure}
 use Rattle.aeadkit.specs.declared.failure.Failure.TheVariants.{Fault as OfFault}
 use Rattle.aeadkit.specs.declared.words.Inputs.{Inputs}
-use Rattle.aeadkit.specs.Aead.{IsReady}
-use Rattle.aeadkit.specs.Files.{Answer, Giving, SealsOnce, SealsTwice, OpensThrice, SealingBy, Sealing}
-use Rattle.aeadkit.specs.Files.{Opening, Took, HoldsAll, HoldsStart, HoldsNothing, IsCalled, CallFailed}
+use Rattle.aeadkit.specs.declared.words.FileCommand.{FileCommand}
+use Rattle.aeadkit.specs.declared.words.FileCommand.TheVariants.{Seal, Open}
+use Rattle.aeadkit.specs.Aead.{IsReady, IsCalled, CallFailed}
+use Rattle.aeadkit.specs.Files.{Answer, Giving, SealsOnce, SealsTwice, OpensThrice, SealingBy, Engine}
+use Rattle.aeadkit.specs.Files.{Took, HoldsAll, HoldsStart, HoldsNothing}
 use Rattle.aeadkit.specs.Files.{NoCall, EngineRan, Ran, FileDone, FileStopped}
 
 -- a reader that was just made has left what its file has
@@ -92,7 +94,7 @@ keeps_same (Some x) None e = absurd (cc)
 keeps_same (Some x) (Some y) e = (cc)
 
 -- a file holds all that was given, once nothing is pending
-pub holds_all : (P : List ℕ → Type 0) (taken taken' held : Option (List ℕ)) (pending : List ℕ)
+holds_all : (P : List ℕ → Type 0) (taken taken' held : Option (List ℕ)) (pending : List ℕ)
     → Took taken taken' P → Keeps taken' (append_known held pending) → pending ≡ [] → HoldsAll taken held P
 holds_all P None taken' held pending t k e = tt
 holds_all P (Some x) None held pending t k e = absurd t.1
@@ -101,7 +103,7 @@ holds_all P (Some x) (Some y) (Some h) pending t k e =
     (t.0, ap Some (sym (append-nil h) ∙ ap (λ l. h ++ l) (sym e) ∙ k ∙ t.1), t.2)
 
 -- a file holds a beginning of what was given
-pub holds_start : (P : List ℕ → Type 0) (taken taken' held : Option (List ℕ)) (pending : List ℕ)
+holds_start : (P : List ℕ → Type 0) (taken taken' held : Option (List ℕ)) (pending : List ℕ)
     → Took taken taken' P → Keeps taken' (append_known held pending) → HoldsStart taken held P
 holds_start P None taken' held pending t k = tt
 holds_start P (Some x) None held pending t k = absurd t.1
@@ -113,7 +115,7 @@ holds_start P (Some x) (Some y) (Some h) pending t k = (
 )
 
 -- a file holds a beginning of what was taken before
-pub holds_nothing : (taken held : Option (List ℕ)) (pending : List ℕ)
+holds_nothing : (taken held : Option (List ℕ)) (pending : List ℕ)
     → Keeps taken (append_known held pending) → HoldsNothing taken held
 holds_nothing None held pending k = tt
 holds_nothing (Some x) None pending k = absurd k
@@ -143,7 +145,7 @@ map_three (Some x) (Some y) None X Y f h = tt
 map_three (Some x) (Some y) (Some z) X Y f h = f x y z h
 
 -- what holds of a way of giving holds of a weaker one
-abbrev pub Weakens : (Giving → Setting → Answer → Type 0) → Type 1
+abbrev Weakens : (Giving → Setting → Answer → Type 0) → Type 1
 Weakens engine = (G H : Giving) → ((P : List ℕ → Type 0) → G P → H P) → (s : Setting) (r : Answer)
     → engine G s r → engine H s r
 
@@ -156,14 +158,12 @@ sealing_by_weakens false readings G H f s r h =
     map_two (readings 0) (readings 1) (λ a b. G (λ given. SealsTwice s a b given r))
     (λ a b. H (λ given. SealsTwice s a b given r)) (λ a b. f (λ given. SealsTwice s a b given r)) h
 
--- of sealing in as many readings as the suite takes
-pub sealing_weakens : (readings : ℕ → Option (List ℕ)) → Weakens (Sealing readings)
-sealing_weakens readings G H f s r h =
+-- of the engine of a file command
+engine_weakens : (command : FileCommand) (readings : ℕ → Option (List ℕ))
+    → Weakens (Engine command readings)
+engine_weakens Seal readings G H f s r h =
     sealing_by_weakens (is_one_pass (construction_of s.suite)) readings G H f s r h
-
--- of opening
-pub opening_weakens : (readings : ℕ → Option (List ℕ)) → Weakens (Opening readings)
-opening_weakens readings G H f s r h =
+engine_weakens Open readings G H f s r h =
     map_three (readings 0) (readings 1) (readings 2) (λ m v w. G (λ given. OpensThrice s m v w given r))
     (λ m v w. H (λ given. OpensThrice s m v w given r)) (λ m v w. f (λ given. OpensThrice s m v w given r)) h
 
@@ -177,8 +177,8 @@ ran_ok engine s taken taken' u (inr h) = h
 pub ran_err : (engine : Giving → Setting → Answer → Type 0) (words : Inputs) (keyed : Keyed)
     (nonce aad body : List ℕ) (taken taken' : Option (List ℕ)) (f : Fault)
     → IsReady words keyed nonce aad body → EngineRan engine (setting keyed nonce aad) taken taken' (Err f)
-    → (NoCall words (OfFault f) × (taken' ≡ taken)) ⊎ CallFailed words
-    (λ s e. engine (Took taken taken') s (Err e)) (OfFault f)
+    → (NoCall words (OfFault f) × (taken' ≡ taken)) ⊎ CallFailed
+    (λ s body e. engine (Took taken taken') s (Err e)) words (OfFault f)
 ran_err engine words keyed nonce aad body taken taken' f ready (inl h) =
     let why : (OfFault f ≡ OfFault Read) ⊎ (OfFault f ≡ OfFault OutOfMemory) = elim h.0
     [ inl e ↦ inl (cc) | inr e ↦ inr (cc) ] in
@@ -189,76 +189,57 @@ ran_err engine words keyed nonce aad body taken taken' f ready (inr h) = inr (re
   call = record { keyed = keyed; nonce = nonce; aad = aad; body = body; ready = ready; is = h };
 })
 
--- a file command whose file is not named
-pub exit_name : (engine : Giving → Setting → Answer → Type 0) (words : Inputs) (taken held : Option (List ℕ))
-    (pending : List ℕ) → append_known held pending ≡ taken
-    → FileStopped engine words taken held (OfFault OutOfMemory)
-exit_name engine words taken held pending e = inl
-    (inr (inr refl), holds_nothing taken held pending (keeps_same _ _ e))
+-- a call for which more holds
+map_call : (words : Inputs) (P Q : Setting → List ℕ → Type 0)
+    → ((s : Setting) (body : List ℕ) → P s body → Q s body) → IsCalled words P → IsCalled words Q
+map_call words P Q f h = record {
+  keyed = h.keyed;
+  nonce = h.nonce;
+  aad = h.aad;
+  body = h.body;
+  ready = h.ready;
+  is = f (setting h.keyed h.nonce h.aad) h.body h.is;
+}
 
--- one whose engine did not run, or answered a fault
-pub exit_err : (engine : Giving → Setting → Answer → Type 0) → Weakens engine
-    → (words : Inputs) (taken named held : Option (List ℕ)) (pending : List ℕ) (e : Failure) → named ≡ taken
-    → Ran engine words named (append_known held pending) (Err e) → FileStopped engine words taken held e
-exit_err engine weakens words taken named held pending e same (inl h) =
-    inl (h.0, holds_nothing taken held pending (keeps_same _ _ (h.1 ∙ same)))
-exit_err engine weakens words taken named held pending e same (inr h) =
-    let P : Option (List ℕ) → Type 0 = λ t. engine (Took t (append_known held pending))
-    (setting h.call.keyed h.call.nonce h.call.aad) (Err h.fault) in
+-- a file command whose engine did not run, or answered a fault
+pub exit_err : (command : FileCommand) (readings : ℕ → Option (List ℕ)) (words : Inputs)
+    (taken held : Option (List ℕ)) (pending : List ℕ) (e : Failure)
+    → Ran (Engine command readings) words taken (append_known held pending) (Err e)
+    → FileStopped (Engine command readings) words taken held e
+exit_err command readings words taken held pending e (inl h) =
+    inl (h.0, holds_nothing taken held pending (keeps_same _ _ h.1))
+exit_err command readings words taken held pending e (inr h) =
+    let given : Option (List ℕ) = append_known held pending in
     inr (record {
       fault = h.fault;
       is = h.is;
-      call = record {
-        keyed = h.call.keyed;
-        nonce = h.call.nonce;
-        aad = h.call.aad;
-        body = h.call.body;
-        ready = h.call.ready;
-        is = inl (weakens (Took taken (append_known held pending)) (HoldsStart taken held)
-            (λ Q t. holds_start Q taken (append_known held pending) held pending t
-            (keeps_same (append_known held pending) (append_known held pending) refl)) _ _
-            (subst P same h.call.is));
-      };
+      call = map_call words _ _ (λ s body k. inl (engine_weakens command readings (Took taken given)
+          (HoldsStart taken held) (λ Q t. holds_start Q taken given held pending t (keeps_same given given refl))
+          s (Err h.fault) k)) h.call;
     })
 
 -- one whose last writing failed
-pub exit_write : (engine : Giving → Setting → Answer → Type 0) → Weakens engine
-    → (words : Inputs) (taken named given held : Option (List ℕ)) (pending : List ℕ) → named ≡ taken
-    → IsCalled words (λ s. engine (Took named given) s (Ok tt)) → Keeps given (append_known held pending)
-    → FileStopped engine words taken held (OfFault Write)
-exit_write engine weakens words taken named given held pending same h k =
-    let P : Option (List ℕ) → Type 0 = λ t. engine (Took t given) (setting h.keyed h.nonce h.aad) (Ok tt) in
-    inr (record {
-      fault = Write;
-      is = refl;
-      call = record {
-        keyed = h.keyed;
-        nonce = h.nonce;
-        aad = h.aad;
-        body = h.body;
-        ready = h.ready;
-        is = inr (
-          refl,
-          weakens (Took taken given) (HoldsStart taken held)
-              (λ Q t. holds_start Q taken given held pending t k) _ _ (subst P same h.is),
-        );
-      };
-    })
+pub exit_write : (command : FileCommand) (readings : ℕ → Option (List ℕ)) (words : Inputs)
+    (taken given held : Option (List ℕ)) (pending : List ℕ)
+    → IsCalled words (λ s body. Engine command readings (Took taken given) s (Ok tt))
+    → Keeps given (append_known held pending)
+    → FileStopped (Engine command readings) words taken held (OfFault Write)
+exit_write command readings words taken given held pending h k = inr (record {
+  fault = Write;
+  is = refl;
+  call = map_call words _ _ (λ s body j. inr (
+    refl,
+    engine_weakens command readings (Took taken given)
+        (HoldsStart taken held) (λ Q t. holds_start Q taken given held pending t k) s (Ok tt) j,
+  )) h;
+})
 
 -- one that is done
-pub exit_done : (engine : Giving → Setting → Answer → Type 0) → Weakens engine
-    → (words : Inputs) (taken named given held : Option (List ℕ)) (w : ℕ) (pending : List ℕ) → named ≡ taken
-    → IsCalled words (λ s. engine (Took named given) s (Ok tt))
-    → Keeps given (append_known held (drop w pending)) → pending ≡ [] → FileDone engine words taken held
-exit_done engine weakens words taken named given held w pending same h k e =
-    let P : Option (List ℕ) → Type 0 = λ t. engine (Took t given) (setting h.keyed h.nonce h.aad) (Ok tt) in
-    record {
-      keyed = h.keyed;
-      nonce = h.nonce;
-      aad = h.aad;
-      body = h.body;
-      ready = h.ready;
-      is = weakens (Took taken given) (HoldsAll taken held)
-          (λ Q t. holds_all Q taken given held (drop w pending) t k (none_left w pending e)) _ _
-          (subst P same h.is);
-    }
+pub exit_done : (command : FileCommand) (readings : ℕ → Option (List ℕ)) (words : Inputs)
+    (taken given held : Option (List ℕ)) (w : ℕ) (pending : List ℕ)
+    → IsCalled words (λ s body. Engine command readings (Took taken given) s (Ok tt))
+    → Keeps given (append_known held (drop w pending)) → pending ≡ []
+    → FileDone (Engine command readings) words taken held
+exit_done command readings words taken given held w pending h k e =
+    map_call words _ _ (λ s body. engine_weakens command readings (Took taken given) (HoldsAll taken held)
+    (λ Q t. holds_all Q taken given held (drop w pending) t k (none_left w pending e)) s (Ok tt)) h

@@ -31,23 +31,28 @@ pub record IsReady (words : Inputs) (keyed : Keyed) (nonce aad body : List ℕ) 
   pub key_long : length keyed.key ≡ key_length keyed.suite
   pub nonce_long : length nonce ≡ 12
 
--- sealed is the sealing of the text that is spelled
-pub record IsSealed (words : Inputs) (sealed : List ℕ) : Type 0 where
+-- the words spell the inputs of a call, for which this holds
+pub record IsCalled (words : Inputs) (P : Setting → List ℕ → Type 0) : Type 0 where
   pub keyed : Keyed
   pub nonce : List ℕ
   pub aad : List ℕ
-  pub text : List ℕ
-  pub ready : IsReady words keyed nonce aad text
-  pub is : Opened (setting keyed nonce aad) sealed text
+  pub body : List ℕ
+  pub ready : IsReady words keyed nonce aad body
+  pub is : P (setting keyed nonce aad) body
+
+-- the call returned a fault, for which this holds
+pub record CallFailed (P : Setting → List ℕ → Fault → Type 0) (words : Inputs) (e : Failure) : Type 0 where
+  pub fault : Fault
+  pub is : e ≡ OfFault fault
+  pub call : IsCalled words (λ s body. P s body fault)
+
+-- sealed is the sealing of the text that is spelled
+abbrev pub IsSealed : Inputs → List ℕ → Type 0
+IsSealed words sealed = IsCalled words (λ s text. Opened s sealed text)
 
 -- text is what the sealed bytes that are spelled seal
-pub record IsOpened (words : Inputs) (text : List ℕ) : Type 0 where
-  pub keyed : Keyed
-  pub nonce : List ℕ
-  pub aad : List ℕ
-  pub sealed : List ℕ
-  pub ready : IsReady words keyed nonce aad sealed
-  pub is : Opened (setting keyed nonce aad) sealed text
+abbrev pub IsOpened : Inputs → List ℕ → Type 0
+IsOpened words text = IsCalled words (λ s sealed. Opened s sealed text)
 
 -- the key that is spelled is none of the suite's
 pub record HasWrongKey (words : Inputs) : Type 0 where
@@ -82,18 +87,6 @@ InputsRefused words (OfFault NonceLength) = HasWrongNonce words
 InputsRefused words (OfFault OutOfMemory) = ⊤
 InputsRefused words _ = ⊥
 
--- the call is refused for the inputs that the words give, by its own rule
-pub record CallRefused (refused : Setting → List ℕ → Fault → Type 0) (words : Inputs) (e : Failure) : Type 0
-  where
-    pub keyed : Keyed
-    pub nonce : List ℕ
-    pub aad : List ℕ
-    pub body : List ℕ
-    pub ready : IsReady words keyed nonce aad body
-    pub fault : Fault
-    pub is : e ≡ OfFault fault
-    pub why : refused (setting keyed nonce aad) body fault
-
--- why the words have no answer
+-- why the words have no answer: they give no inputs, or the call is refused by its own rule
 abbrev pub IsRefused : (Setting → List ℕ → Fault → Type 0) → Inputs → Failure → Type 0
-IsRefused refused words e = InputsRefused words e ⊎ CallRefused refused words e
+IsRefused refused words e = InputsRefused words e ⊎ CallFailed refused words e

@@ -6,15 +6,13 @@ use Rattle.std.specs.Io.KnownBytes.{Appends}
 use Rattle.octets.specs.declared.fault.Fault.TheVariants.{OutOfMemory, Write}
 use Rattle.aeadkit.specs.declared.failure.Failure.{Failure}
 use Rattle.aeadkit.specs.declared.failure.Failure.TheVariants.{Words as OfWords, Fault as OfFault}
-use Rattle.aeadkit.specs.declared.words.Request.{Request}
-use Rattle.aeadkit.specs.declared.words.Request.TheVariants.{Wrap, Unwrap, Seal, Open, SealFile, OpenFile}
-use Rattle.aeadkit.specs.declared.words.Request.TheVariants.{Check}
+use Rattle.aeadkit.specs.declared.words.PrintRequest.{PrintRequest}
+use Rattle.aeadkit.specs.declared.words.PrintRequest.TheVariants.{Wrap, Unwrap, Seal, Open, Check}
 use Rattle.aeadkit.specs.declared.words.Refusal.{Refusal}
 use Rattle.aeadkit.specs.declared.words.Refusal.TheVariants.{Help, Version, Words, OutOfMemory as NoMemory}
 use Rattle.aeadkit.specs.declared.version.TheConstants.{VERSION}
 use Rattle.aead.specs.Refusals.{WholeSealRefused, WholeOpenRefused}
 use Rattle.aeadkit.specs.Aead.{IsSealed, IsOpened, IsRefused}
-use Rattle.aeadkit.specs.Files.{Sealing, Opening, FileDone, FileStopped}
 use Rattle.aeadkit.specs.Hex.{hex_line}
 use Rattle.aeadkit.specs.Reports.{IsChecked, FileRefused}
 use Rattle.aeadkit.specs.Keywrap.{IsWrapped, IsUnwrapped, IsWrapRefused, WrapFault, UnwrapFault}
@@ -30,40 +28,26 @@ pub record Printed (property : List ℕ → Type 0) (before after : Option (List
   pub line : Appends before after (hex_line bytes)
   pub done : status ≡ 0
 
--- what surrounds a request
-pub record Surroundings : Type 0 where
-  -- the bytes that a file gives in a reading
-  pub files : List ℕ → ℕ → Option (List ℕ)
-  -- what standard output held before, and holds after
-  pub before : Option (List ℕ)
-  pub after : Option (List ℕ)
-  -- what the file that is written had taken before, and holds after
-  pub taken : Option (List ℕ)
-  pub held : Option (List ℕ)
-
--- a request was answered
-abbrev pub Answered : Surroundings → Request → ℕ → Type 0
-Answered s (Seal inputs) status = Printed (IsSealed inputs) s.before s.after status
-Answered s (Open inputs) status = Printed (IsOpened inputs) s.before s.after status
-Answered s (Wrap key text pad) status = Printed (IsWrapped pad key.now text.now) s.before s.after status
-Answered s (Unwrap key sealed pad) status =
-    Printed (IsUnwrapped pad key.now sealed.now) s.before s.after status
-Answered s (SealFile w) status =
-    FileDone (Sealing (s.files w.input.now)) w.inputs s.taken s.held × (s.after ≡ s.before) × (status ≡ 0)
-Answered s (OpenFile w) status =
-    FileDone (Opening (s.files w.input.now)) w.inputs s.taken s.held × (s.after ≡ s.before) × (status ≡ 0)
-Answered s (Check path) status = IsChecked (s.files path.now 0) s.before s.after status
+-- a request was answered, over files that give these bytes in each reading: what standard output held
+-- before, and holds after, and the status
+abbrev pub Answered : (List ℕ → ℕ → Option (List ℕ)) → (before after : Option (List ℕ)) → PrintRequest → ℕ
+    → Type 0
+Answered files before after (Seal inputs) status = Printed (IsSealed inputs) before after status
+Answered files before after (Open inputs) status = Printed (IsOpened inputs) before after status
+Answered files before after (Wrap key text pad) status =
+    Printed (IsWrapped pad key.now text.now) before after status
+Answered files before after (Unwrap key sealed pad) status =
+    Printed (IsUnwrapped pad key.now sealed.now) before after status
+Answered files before after (Check path) status = IsChecked (files path.now 0) before after status
 
 -- a request came to nothing: it is refused, or standard output failed
-abbrev pub Stopped : Surroundings → Request → Failure → Type 0
-Stopped s (Seal inputs) e = IsRefused WholeSealRefused inputs e ⊎ IsOutputFailure e
-Stopped s (Open inputs) e = IsRefused WholeOpenRefused inputs e ⊎ IsOutputFailure e
-Stopped s (Wrap key text pad) e = IsWrapRefused (WrapFault pad) key.now text.now e ⊎ IsOutputFailure e
-Stopped s (Unwrap key sealed pad) e =
+abbrev pub Stopped : (List ℕ → ℕ → Option (List ℕ)) → PrintRequest → Failure → Type 0
+Stopped files (Seal inputs) e = IsRefused WholeSealRefused inputs e ⊎ IsOutputFailure e
+Stopped files (Open inputs) e = IsRefused WholeOpenRefused inputs e ⊎ IsOutputFailure e
+Stopped files (Wrap key text pad) e = IsWrapRefused (WrapFault pad) key.now text.now e ⊎ IsOutputFailure e
+Stopped files (Unwrap key sealed pad) e =
     IsWrapRefused (UnwrapFault pad) key.now sealed.now e ⊎ IsOutputFailure e
-Stopped s (SealFile w) e = FileStopped (Sealing (s.files w.input.now)) w.inputs s.taken s.held e
-Stopped s (OpenFile w) e = FileStopped (Opening (s.files w.input.now)) w.inputs s.taken s.held e
-Stopped s (Check path) e = FileRefused (s.files path.now 0) e ⊎ IsOutputFailure e
+Stopped files (Check path) e = FileRefused (files path.now 0) e ⊎ IsOutputFailure e
 
 -- the program's name and version, and LF
 abbrev pub version_line : List ℕ

@@ -5,8 +5,8 @@ use Rattle.octets.specs.declared.fault.Fault.TheVariants.{Read, Write}
 use Rattle.octets.specs.Device.{Failed}
 use Rattle.aeadkit.specs.declared.failure.Failure.{Failure}
 use Rattle.aeadkit.specs.declared.failure.Failure.TheVariants.{Fault as OfFault}
-use Rattle.aeadkit.specs.declared.words.Request.{Request}
-use Rattle.aeadkit.specs.declared.words.Request.TheVariants.{SealFile, OpenFile, Check}
+use Rattle.aeadkit.specs.declared.words.PrintRequest.{PrintRequest}
+use Rattle.aeadkit.specs.declared.words.PrintRequest.TheVariants.{Check}
 
 -- a device of this type failed, from one state to another
 abbrev pub DeviceFailed : {D : Type 0} → (D → ℕ) → Type 0
@@ -25,15 +25,7 @@ OutputFailed make_may_fail failures = ∥ (make_may_fail ≡ true) ⊎ DeviceFai
 abbrev pub Blames : {T E : Type 0} → (shows : Fault → E) → (input output : Type 0) → Result T E → Type 0
 Blames shows input output r = IfErr r (λ e. (e ≡ shows Read → input) × (e ≡ shows Write → output))
 
--- what stops a request blames its input and its output, if it reads or writes a file
-abbrev pub RequestBlames : {T : Type 0} → (List ℕ → Type 0) → Type 0 → Request → Result T Failure → Type 0
-RequestBlames input output (SealFile w) r = Blames OfFault (input w.input.now) output r
-RequestBlames input output (OpenFile w) r = Blames OfFault (input w.input.now) output r
-RequestBlames input output (Check path) r = Blames OfFault (input path.now) ⊤ r
-RequestBlames input output _ r = ⊤
-
--- a request that writes a file made it
-abbrev pub Makes : Request → Bool → Type 0
-Makes (SealFile w) made = made ≡ true
-Makes (OpenFile w) made = made ≡ true
-Makes _ made = ⊤
+-- what stops a request that reads a file blames its input
+abbrev pub RequestBlames : {T : Type 0} → (List ℕ → Type 0) → PrintRequest → Result T Failure → Type 0
+RequestBlames input (Check path) r = Blames OfFault (input path.now) ⊤ r
+RequestBlames input _ r = ⊤

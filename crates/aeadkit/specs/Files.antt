@@ -6,14 +6,15 @@ use Rattle.octets.specs.declared.fault.Fault.{Fault}
 use Rattle.octets.specs.declared.fault.Fault.TheVariants.{Read, Write, OutOfMemory}
 use Rattle.aead.specs.Suites.{construction_of, is_one_pass}
 use Rattle.aead.specs.Sealing.{Setting}
-use Rattle.aead.specs.Ciphers.{Keyed, setting}
 use Rattle.aead.specs.SealStream.{SealsStream}
 use Rattle.aead.specs.SealSivStream.{SealsSivStream, SivCounts}
 use Rattle.aead.specs.Verdict.{OpensStream, FailureCounts, IsBeginning}
 use Rattle.aeadkit.specs.declared.failure.Failure.{Failure}
 use Rattle.aeadkit.specs.declared.failure.Failure.TheVariants.{Fault as OfFault}
 use Rattle.aeadkit.specs.declared.words.Inputs.{Inputs}
-use Rattle.aeadkit.specs.Aead.{IsReady, InputsRefused}
+use Rattle.aeadkit.specs.declared.words.FileCommand.{FileCommand}
+use Rattle.aeadkit.specs.declared.words.FileCommand.TheVariants.{Seal, Open}
+use Rattle.aeadkit.specs.Aead.{InputsRefused, IsCalled, CallFailed}
 
 -- an engine's answer, for what it gave
 abbrev pub Answer : Type 0
@@ -58,6 +59,11 @@ abbrev pub Opening : (ℕ → Option (List ℕ)) → Giving → Setting → Answ
 Opening readings giving s r = IfSome (readings 0) (λ m. IfSome (readings 1) (λ v. IfSome (readings 2) (λ w.
     giving (λ given. OpensThrice s m v w given r))))
 
+-- the engine of a file command
+abbrev pub Engine : FileCommand → (ℕ → Option (List ℕ)) → Giving → Setting → Answer → Type 0
+Engine Seal readings giving s r = Sealing readings giving s r
+Engine Open readings giving s r = Opening readings giving s r
+
 -- the outlet took some bytes, with this property
 abbrev pub Took : Option (List ℕ) → Option (List ℕ) → Giving
 Took taken taken' P =
@@ -73,21 +79,6 @@ HoldsStart taken held P =
     IfSome taken (λ before. (given : List ℕ)
     × ((h : List ℕ) × (held ≡ Some h) × IsBeginning h (before ++ given)) × P given)
 
--- the words give the inputs of a call, for which this holds
-pub record IsCalled (words : Inputs) (P : Setting → Type 0) : Type 0 where
-  pub keyed : Keyed
-  pub nonce : List ℕ
-  pub aad : List ℕ
-  pub body : List ℕ
-  pub ready : IsReady words keyed nonce aad body
-  pub is : P (setting keyed nonce aad)
-
--- the call answered a fault
-pub record CallFailed (words : Inputs) (P : Setting → Fault → Type 0) (e : Failure) : Type 0 where
-  pub fault : Fault
-  pub is : e ≡ OfFault fault
-  pub call : IsCalled words (λ s. P s fault)
-
 -- no call was made: the words give no inputs, or a file was not opened
 abbrev pub NoCall : Inputs → Failure → Type 0
 NoCall words e = InputsRefused words e ⊎ ((e ≡ OfFault Read) ⊎ (e ≡ OfFault OutOfMemory))
@@ -102,14 +93,14 @@ EngineRan engine s taken taken' r =
 abbrev pub Ran : (Giving → Setting → Answer → Type 0) → Inputs → Option (List ℕ) → Option (List ℕ)
     → Result (Unit {0}) Failure → Type 0
 Ran engine words taken taken' r = MatchResult r
-    (λ _. IsCalled words (λ s. engine (Took taken taken') s (Ok tt)))
+    (λ _. IsCalled words (λ s body. engine (Took taken taken') s (Ok tt)))
     (λ e. (NoCall words e × (taken' ≡ taken))
-    ⊎ CallFailed words (λ s f. engine (Took taken taken') s (Err f)) e)
+    ⊎ CallFailed (λ s body f. engine (Took taken taken') s (Err f)) words e)
 
 -- a file command is done: the file holds what the engine gave
 abbrev pub FileDone : (Giving → Setting → Answer → Type 0) → Inputs → Option (List ℕ) → Option (List ℕ)
     → Type 0
-FileDone engine words taken held = IsCalled words (λ s. engine (HoldsAll taken held) s (Ok tt))
+FileDone engine words taken held = IsCalled words (λ s body. engine (HoldsAll taken held) s (Ok tt))
 
 -- the file holds a beginning of what was taken before
 abbrev pub HoldsNothing : Option (List ℕ) → Option (List ℕ) → Type 0
@@ -122,5 +113,5 @@ abbrev pub FileStopped : (Giving → Setting → Answer → Type 0) → Inputs �
     → Failure → Type 0
 FileStopped engine words taken held e =
     (NoCall words e × HoldsNothing taken held)
-    ⊎ CallFailed words (λ s f.
-    engine (HoldsStart taken held) s (Err f) ⊎ ((f ≡ Write) × engine (HoldsStart taken held) s (Ok tt))) e
+    ⊎ CallFailed (λ s body f. engine (HoldsStart taken held) s (Err f)
+    ⊎ ((f ≡ Write) × engine (HoldsStart taken held) s (Ok tt))) words e

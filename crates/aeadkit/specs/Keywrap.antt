@@ -10,45 +10,44 @@ use Rattle.aeadkit.specs.declared.failure.Failure.{Failure}
 use Rattle.aeadkit.specs.declared.failure.Failure.TheVariants.{BadHex, Fault as OfFault}
 use Rattle.aeadkit.specs.Hex.{Spells, IsBadHex}
 
--- the bytes that a key and a text or a wrapping spell
-pub record Spelled (key body : List ℕ) : Type 0 where
-  pub key_bytes : List ℕ
-  pub body_bytes : List ℕ
-  pub key_is : Spells key key_bytes
-  pub body_is : Spells body body_bytes
-
 -- under a key, wrapped is the wrapping of a text, with padding (RFC 5649) or without (RFC 3394)
 abbrev pub Wraps : Bool → List ℕ → List ℕ → List ℕ → Type 0
 Wraps true key wrapped text = UnwrappedPadded key wrapped text
 Wraps false key wrapped text = Unwrapped key wrapped text
 
--- wrapped is the wrapping of the text that is spelled, under the key that is spelled, a key of AES
-pub record IsWrapped (pad : Bool) (key text wrapped : List ℕ) : Type 0 where
-  pub spelled : Spelled key text
-  pub is_key : IsKey spelled.key_bytes
-  pub is : Wraps pad spelled.key_bytes wrapped spelled.body_bytes
+-- the values spell a key and a text or a wrapping, of which this holds
+pub record IsSpelledPair (P : List ℕ → List ℕ → Type 0) (key body : List ℕ) : Type 0 where
+  pub key_bytes : List ℕ
+  pub body_bytes : List ℕ
+  pub key_is : Spells key key_bytes
+  pub body_is : Spells body body_bytes
+  pub is : P key_bytes body_bytes
 
--- text is what the wrapping that is spelled wraps, under the key that is spelled, a key of AES
-pub record IsUnwrapped (pad : Bool) (key sealed text : List ℕ) : Type 0 where
-  pub spelled : Spelled key sealed
-  pub is_key : IsKey spelled.key_bytes
-  pub is : Wraps pad spelled.key_bytes spelled.body_bytes text
+-- the same, and the key is a key of AES
+abbrev pub IsWrapCall : (List ℕ → List ℕ → Type 0) → List ℕ → List ℕ → Type 0
+IsWrapCall P key body = IsSpelledPair (λ k b. IsKey k × P k b) key body
+
+-- wrapped is the wrapping of the text that is spelled, under the key that is spelled
+abbrev pub IsWrapped : Bool → List ℕ → List ℕ → List ℕ → Type 0
+IsWrapped pad key text wrapped = IsWrapCall (λ k t. Wraps pad k wrapped t) key text
+
+-- text is what the wrapping that is spelled wraps, under the key that is spelled
+abbrev pub IsUnwrapped : Bool → List ℕ → List ℕ → List ℕ → Type 0
+IsUnwrapped pad key sealed text = IsWrapCall (λ k w. Wraps pad k w text) key sealed
 
 -- why the values give no inputs of a call: one of them is no hex, or the key has no length of AES
 abbrev pub WrapInputsRefused : List ℕ → List ℕ → Failure → Type 0
 WrapInputsRefused key body BadHex = IsBadHex key ⊎ IsBadHex body
-WrapInputsRefused key body (OfFault KeyLength) = (s : Spelled key body) × ¬ IsKeyLength (length s.key_bytes)
+WrapInputsRefused key body (OfFault KeyLength) = IsSpelledPair (λ k b. ¬ IsKeyLength (length k)) key body
 WrapInputsRefused key body (OfFault OutOfMemory) = ⊤
 WrapInputsRefused key body _ = ⊥
 
 -- the call is refused for the bytes that are spelled, by its own rule
 pub record WrapCallRefused (refused : List ℕ → List ℕ → Fault → Type 0) (key body : List ℕ) (e : Failure)
     : Type 0 where
-  pub spelled : Spelled key body
-  pub is_key : IsKey spelled.key_bytes
   pub fault : Fault
   pub is : e ≡ OfFault fault
-  pub why : refused spelled.key_bytes spelled.body_bytes fault
+  pub why : IsWrapCall (λ k b. refused k b fault) key body
 
 -- why the values have no answer
 abbrev pub IsWrapRefused : (List ℕ → List ℕ → Fault → Type 0) → List ℕ → List ℕ → Failure → Type 0

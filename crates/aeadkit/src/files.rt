@@ -5,7 +5,7 @@ ghost use Rattle.aead.specs.Suites.{ByGcmSiv, construction_of, is_one_pass};
 ghost use Rattle.aead.specs.Ciphers.{setting};
 ghost use Rattle.aead.specs.AnyCiphers.{one_pass_keyed, keyed_of};
 ghost use Rattle.aeadkit.specs.Blames.{InputFailed, OutputFailed, Blames};
-ghost use Rattle.aeadkit.specs.Files.{SealingBy, Sealing, Opening, EngineRan, Ran};
+ghost use Rattle.aeadkit.specs.Files.{SealingBy, Opening, Engine, EngineRan, Ran};
 ghost use Rattle.aeadkit.specs.Files.{FileDone, FileStopped};
 ghost use Rattle.aeadkit.specs.NewFiles.{held};
 ghost use Rattle.aeadkit.specs.declared.failure.Failure.TheVariants.{Fault as OfFault};
@@ -15,7 +15,7 @@ use crate::failure::Failure;
 use crate::new_file::NewFile;
 use crate::readings::reading;
 use crate::storage::Storage;
-use crate::words::FileWords;
+use crate::words::{FileCommand, FileRequest};
 use aead::{
     AnyAead, AnyOnePass, GcmSiv, Sealer, SivAbsorb, open_stream, seal_siv_stream, seal_stream,
 };
@@ -77,33 +77,6 @@ fn takes_two_readings(cipher: &GcmSiv, nonce: &Nonce)
     let _ = SivAbsorb::new(cipher, nonce, &[]);
 }
 
-// Seals a file into an outlet under any cipher.
-fn seal_by<F: Storage, O: Outlet>(
-    files: &F,
-    path: &str,
-    cipher: &AnyAead,
-    nonce: &Nonce,
-    aad: &[u8],
-    out: &mut O,
-) -> Result<(), Fault>
-    ensures ran { EngineRan (Sealing (F.contents files.now path.now))
-        (setting (keyed_of cipher.now) nonce.now aad.now)
-        (O.taken out.old) (O.taken out.new) result }
-    ensures blame { Blames (λ f. f) (InputFailed (F.open_may_fail files.now path.now) F.Input.failures)
-        (Failed (O.failures out.old) (O.failures out.new)) result }
-{
-    match cipher {
-        AnyAead::OnePass(cipher) => {
-            takes_one_reading(cipher, nonce);
-            seal_once(files, path, cipher, nonce, aad, out)
-        }
-        AnyAead::Siv(cipher) => {
-            takes_two_readings(cipher, nonce);
-            seal_twice(files, path, cipher, nonce, aad, out)
-        }
-    }
-}
-
 // Opens a file into an outlet, in three readings.
 #[tactic(auto, using(crate::proofs::BlamesLemmas::unopened_blames))]
 fn open_by<F: Storage, O: Outlet>(
@@ -134,23 +107,54 @@ fn open_by<F: Storage, O: Outlet>(
     )
 }
 
-// Seals a file into an outlet, for the inputs that the words give.
-fn seal<A: Allocator, F: Storage, O: Outlet>(
+// Runs a command's engine from a file into an outlet, under any cipher.
+fn write_by<F: Storage, O: Outlet>(
+    files: &F,
+    words: &FileRequest<'_>,
+    cipher: &AnyAead,
+    nonce: &Nonce,
+    aad: &[u8],
+    out: &mut O,
+) -> Result<(), Fault>
+    ensures ran { EngineRan (Engine words.now.command (F.contents files.now words.now.input.now))
+        (setting (keyed_of cipher.now) nonce.now aad.now)
+        (O.taken out.old) (O.taken out.new) result }
+    ensures blame { Blames (λ f. f)
+        (InputFailed (F.open_may_fail files.now words.now.input.now) F.Input.failures)
+        (Failed (O.failures out.old) (O.failures out.new)) result }
+{
+    match words.command {
+        FileCommand::Seal => match cipher {
+            AnyAead::OnePass(cipher) => {
+                takes_one_reading(cipher, nonce);
+                seal_once(files, words.input, cipher, nonce, aad, out)
+            }
+            AnyAead::Siv(cipher) => {
+                takes_two_readings(cipher, nonce);
+                seal_twice(files, words.input, cipher, nonce, aad, out)
+            }
+        },
+        FileCommand::Open => open_by(files, words.input, cipher, nonce, aad, out),
+    }
+}
+
+// Runs a command's engine from a file into an outlet, for the inputs that the words give.
+fn write<A: Allocator, F: Storage, O: Outlet>(
     alloc: &A,
     files: &F,
-    words: &FileWords<'_>,
+    words: &FileRequest<'_>,
     out: &mut O,
 ) -> Result<(), Failure>
-    ensures ran { Ran (Sealing (F.contents files.now words.now.input.now)) words.now.inputs (O.taken out.old)
-        (O.taken out.new) result }
+    ensures ran { Ran (Engine words.now.command (F.contents files.now words.now.input.now)) words.now.inputs
+        (O.taken out.old) (O.taken out.new) result }
     ensures blame { Blames OfFault
         (InputFailed (F.open_may_fail files.now words.now.input.now) F.Input.failures)
         (Failed (O.failures out.old) (O.failures out.new)) result }
 {
     let inputs = prepare(alloc, &words.inputs)?;
-    Ok(seal_by(
+    Ok(write_by(
         files,
-        words.input,
+        words,
         &inputs.cipher,
         &inputs.nonce,
         &inputs.aad,
@@ -158,45 +162,24 @@ fn seal<A: Allocator, F: Storage, O: Outlet>(
     )?)
 }
 
-// Opens a file into an outlet, for the inputs that the words give.
-fn open<A: Allocator, F: Storage, O: Outlet>(
+/// `seal-file` and `open-file`: seals or opens a file into another, and returns status 0. Faults, in this
+/// order: those of the inputs, `Read` if the file can't be opened, and those of the engine. Of sealing these
+/// are `AadTooLong`, `TextTooLong` once more than the suite's limit was read, `Read`, `Write`, and for
+/// AES-GCM-SIV `SourceChanged`; then the written file holds a beginning of what it should hold, or was not
+/// made. Of opening they are `AadTooLong`, then those of its three readings. Nothing is written before a
+/// whole reading was found to be a sealing. After `SourceChanged`, `Read` and `Write` the written file holds
+/// a beginning of a text, which is to be thrown away, or was not made.
+pub fn write_file<'a, A: Allocator, B: Allocator, F: Storage>(
     alloc: &A,
     files: &F,
-    words: &FileWords<'_>,
-    out: &mut O,
-) -> Result<(), Failure>
-    ensures ran { Ran (Opening (F.contents files.now words.now.input.now)) words.now.inputs (O.taken out.old)
-        (O.taken out.new) result }
-    ensures blame { Blames OfFault
-        (InputFailed (F.open_may_fail files.now words.now.input.now) F.Input.failures)
-        (Failed (O.failures out.old) (O.failures out.new)) result }
-{
-    let inputs = prepare(alloc, &words.inputs)?;
-    Ok(open_by(
-        files,
-        words.input,
-        &inputs.cipher,
-        &inputs.nonce,
-        &inputs.aad,
-        out,
-    )?)
-}
-
-/// `seal-file`: seals a file into another, and returns status 0. Faults, in this order: those of the inputs,
-/// `Read` if the file can't be opened, `AadTooLong`, `TextTooLong` once more than the suite's limit was
-/// read, `Read`, `Write`, and for AES-GCM-SIV `SourceChanged`. Then the written file holds a beginning of
-/// what it should hold, or was not made.
-pub fn seal_file<'a, A: Allocator, B: Allocator, F: Storage>(
-    alloc: &A,
-    files: &F,
-    words: &FileWords<'a>,
+    words: &FileRequest<'_>,
     file: &mut NewFile<'a, F, B>,
 ) -> Result<u8, Failure>
     ensures answer { MatchResult result
-        (λ _. FileDone (Sealing (F.contents files.now words.now.input.now)) words.now.inputs
+        (λ _. FileDone (Engine words.now.command (F.contents files.now words.now.input.now)) words.now.inputs
         (⟦<NewFile<'a, F, B> as Outlet>⟧.taken file.old)
         (held (F.blank file.new.files.now) F.Output.taken file.new.file))
-        (FileStopped (Sealing (F.contents files.now words.now.input.now)) words.now.inputs
+        (FileStopped (Engine words.now.command (F.contents files.now words.now.input.now)) words.now.inputs
         (⟦<NewFile<'a, F, B> as Outlet>⟧.taken file.old)
         (held (F.blank file.new.files.now) F.Output.taken file.new.file)) }
     ensures made { IfOk result (λ _. is_some file.new.file ≡ true) }
@@ -206,38 +189,7 @@ pub fn seal_file<'a, A: Allocator, B: Allocator, F: Storage>(
         (OutputFailed (F.make_may_fail file.new.files.now) F.Output.failures) result }
     ensures status { IfOk result (λ status. status ≡ 0) }
 {
-    file.name(words.output)?;
-    seal(alloc, files, words, file)?;
-    file.finish()?;
-    Ok(0)
-}
-
-/// `open-file`: opens a sealed file into another, and returns status 0. Faults, in this order: those of the
-/// inputs, `Read` if the file can't be opened, `AadTooLong`, then those of its three readings. Nothing is
-/// written before a whole reading was found to be a sealing. After `SourceChanged`, `Read` and `Write` the
-/// written file holds a beginning of a text, which is to be thrown away, or was not made.
-pub fn open_file<'a, A: Allocator, B: Allocator, F: Storage>(
-    alloc: &A,
-    files: &F,
-    words: &FileWords<'a>,
-    file: &mut NewFile<'a, F, B>,
-) -> Result<u8, Failure>
-    ensures answer { MatchResult result
-        (λ _. FileDone (Opening (F.contents files.now words.now.input.now)) words.now.inputs
-        (⟦<NewFile<'a, F, B> as Outlet>⟧.taken file.old)
-        (held (F.blank file.new.files.now) F.Output.taken file.new.file))
-        (FileStopped (Opening (F.contents files.now words.now.input.now)) words.now.inputs
-        (⟦<NewFile<'a, F, B> as Outlet>⟧.taken file.old)
-        (held (F.blank file.new.files.now) F.Output.taken file.new.file)) }
-    ensures made { IfOk result (λ _. is_some file.new.file ≡ true) }
-    // `Read` and `Write` come only where the input or the output failed.
-    ensures blame { Blames OfFault
-        (InputFailed (F.open_may_fail files.now words.now.input.now) F.Input.failures)
-        (OutputFailed (F.make_may_fail file.new.files.now) F.Output.failures) result }
-    ensures status { IfOk result (λ status. status ≡ 0) }
-{
-    file.name(words.output)?;
-    open(alloc, files, words, file)?;
+    write(alloc, files, words, file)?;
     file.finish()?;
     Ok(0)
 }

@@ -1,6 +1,6 @@
 //! The file that a command writes.
 ghost use Rattle.std.specs.Prelude.{◌≡◌, ◌<◌, ◌≤◌, ◌+◌, ◌-◌, [], true, is_some, ◌++◌, drop, length, vec_len};
-ghost use Rattle.std.specs.Prelude.{vec_capacity, OnOk, OnErr, IfErr};
+ghost use Rattle.std.specs.Prelude.{vec_capacity, OnOk, OnErr, IfOk, IfErr};
 ghost use Rattle.std.specs.Io.KnownBytes.{Keeps, WriteAppends, append_known};
 ghost use Rattle.octets.specs.Device.{GivesSome};
 ghost use Rattle.aeadkit.specs.Blames.{OutputFailed};
@@ -29,31 +29,21 @@ pub struct NewFile<'a, F: Storage, A: Allocator> {
 }
 
 impl<'a, F: Storage, A: Allocator> NewFile<'a, F, A> {
-    /// No file is named, and none is made.
-    pub fn new(alloc: A, files: &'a F) -> Self
-        ensures taken { ⟦<NewFile<'a, F, A> as Outlet>⟧.taken result ≡ append_known (F.blank files.now) [] }
+    /// Names a file, which is not made yet, and takes memory for what will be pending.
+    pub fn new(alloc: A, files: &'a F, path: &'a str) -> Result<Self, AllocError>
+        ensures taken { IfOk result (λ file.
+            ⟦<NewFile<'a, F, A> as Outlet>⟧.taken file ≡ append_known (F.blank files.now) []) }
+        ensures path { IfOk result (λ file. file.path.now ≡ path.now) }
+        ensures room { IfOk result (λ file. 65536 ≤ vec_capacity file.pending) }
     {
-        NewFile {
+        Ok(NewFile {
             files,
-            path: "",
+            path,
             file: None,
-            pending: Vec::new(alloc),
+            pending: Vec::with_capacity(alloc, PENDING)?,
             written: 0,
             failed: 0,
-        }
-    }
-
-    /// Names the file, and takes memory for what will be pending.
-    pub fn name(&mut self, path: &'a str) -> Result<(), AllocError>
-        ensures taken { ⟦<NewFile<'a, F, A> as Outlet>⟧.taken self.new
-            ≡ ⟦<NewFile<'a, F, A> as Outlet>⟧.taken self.old }
-        ensures pending { self.new.pending.items ≡ self.old.pending.items }
-        ensures path { self.new.path.now ≡ path.now }
-        ensures failed { self.new.failed ≡ self.old.failed }
-        ensures room { OnOk result (vec_len self.new.pending + 65536 ≤ vec_capacity self.new.pending) }
-    {
-        self.path = path;
-        self.pending.reserve_exact(PENDING)
+        })
     }
 
     // Makes the file if it is not made yet.

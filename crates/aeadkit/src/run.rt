@@ -1,26 +1,23 @@
 //! The program, over a writer for each stream.
-ghost use Rattle.std.specs.Prelude.{◌≤◌, ◌≡◌, ◌↔◌, ◌⊎◌, ⊤, [], is_some, IfOk, IfErr, MatchResult};
+ghost use Rattle.std.specs.Prelude.{◌≤◌, ◌≡◌, ◌↔◌, ◌⊎◌, ⊤, [], IfOk, IfErr, MatchResult};
 ghost use Rattle.std.specs.Prelude.{string_bytes};
 ghost use Rattle.std.specs.Io.KnownBytes.{Appends};
-ghost use Rattle.aead.specs.Refusals.{WholeSealRefused, WholeOpenRefused};
-ghost use Rattle.aeadkit.specs.Aead.{IsSealed, IsOpened, IsRefused};
-ghost use Rattle.aeadkit.specs.Answers.{Surroundings, Printed, Answered, Stopped, IsOutputFailure};
+ghost use Rattle.aeadkit.specs.Answers.{Answered, Stopped, IsOutputFailure};
 ghost use Rattle.aeadkit.specs.Answers.{IsRefusedAs, version_line};
-ghost use Rattle.aeadkit.specs.Blames.{InputFailed, OutputFailed, Blames, RequestBlames, Makes};
+ghost use Rattle.aeadkit.specs.Blames.{InputFailed, Blames, RequestBlames};
 ghost use Rattle.aeadkit.specs.declared.failure.Failure.TheVariants.{Fault as OfFault};
 ghost use Rattle.aeadkit.specs.Hex.{hex_line};
-ghost use Rattle.aeadkit.specs.Keywrap.{IsWrapped, IsUnwrapped, IsWrapRefused, WrapFault, UnwrapFault};
-ghost use Rattle.aeadkit.specs.NewFiles.{held};
 ghost use Rattle.aeadkit.specs.Reports.{report_text, IsChecked, FileRefused};
 ghost use Rattle.aeadkit.specs.Statuses.{failure_status};
 
 use crate::failure::{Failure, fault_of};
+use crate::files::write_file;
 use crate::new_file::NewFile;
 use crate::storage::Storage;
 use crate::version::VERSION;
-use crate::words::{Inputs, Refusal, Request};
-use crate::{commands, files, words};
-use octets::{Fault, Outlet};
+use crate::words::{FileRequest, PrintRequest, Refusal, Request};
+use crate::{commands, words};
+use octets::Fault;
 use std::alloc::{AllocError, Allocator, Global};
 use std::convert::AsStr;
 use std::io::Write;
@@ -65,82 +62,6 @@ fn report_text<A: Allocator>(alloc: A, records: u64, bad: &[u64]) -> Result<Stri
     Ok(text)
 }
 
-// Prints a report. The only faults are `Write` and `OutOfMemory`.
-fn print_report<A: Allocator, W: Write>(
-    alloc: A,
-    out: &mut W,
-    records: u64,
-    bad: &[u64],
-) -> Result<u8, Failure>
-    ensures { MatchResult result
-        (λ status. (status ≡ 0) × Appends (W.contents out.old) (W.contents out.new)
-        (report_text records bad.now))
-        IsOutputFailure }
-{
-    let text = report_text(alloc, records, bad)?;
-    print(out, &text)
-}
-
-// Prints the sealing of a text.
-fn print_sealing<A: Allocator, W: Write>(
-    alloc: &A,
-    inputs: &Inputs<'_>,
-    out: &mut W,
-) -> Result<u8, Failure>
-    ensures { MatchResult result
-        (Printed (IsSealed inputs.now) (W.contents out.old) (W.contents out.new))
-        (λ e. IsRefused WholeSealRefused inputs.now e ⊎ IsOutputFailure e) }
-{
-    let sealed = commands::seal(alloc, inputs)?;
-    print_bytes(alloc, out, &sealed)
-}
-
-// Prints the text of sealed bytes.
-fn print_opening<A: Allocator, W: Write>(
-    alloc: &A,
-    inputs: &Inputs<'_>,
-    out: &mut W,
-) -> Result<u8, Failure>
-    ensures { MatchResult result
-        (Printed (IsOpened inputs.now) (W.contents out.old) (W.contents out.new))
-        (λ e. IsRefused WholeOpenRefused inputs.now e ⊎ IsOutputFailure e) }
-{
-    let opened = commands::open(alloc, inputs)?;
-    print_bytes(alloc, out, &opened)
-}
-
-// Prints the wrapping of a text.
-fn print_wrapping<A: Allocator, W: Write>(
-    alloc: &A,
-    key: &str,
-    text: &str,
-    pad: bool,
-    out: &mut W,
-) -> Result<u8, Failure>
-    ensures { MatchResult result
-        (Printed (IsWrapped pad key.now text.now) (W.contents out.old) (W.contents out.new))
-        (λ e. IsWrapRefused (WrapFault pad) key.now text.now e ⊎ IsOutputFailure e) }
-{
-    let wrapped = commands::wrap(alloc, key, text, pad)?;
-    print_bytes(alloc, out, &wrapped)
-}
-
-// Prints the text of a wrapping.
-fn print_unwrapping<A: Allocator, W: Write>(
-    alloc: &A,
-    key: &str,
-    sealed: &str,
-    pad: bool,
-    out: &mut W,
-) -> Result<u8, Failure>
-    ensures { MatchResult result
-        (Printed (IsUnwrapped pad key.now sealed.now) (W.contents out.old) (W.contents out.new))
-        (λ e. IsWrapRefused (UnwrapFault pad) key.now sealed.now e ⊎ IsOutputFailure e) }
-{
-    let text = commands::unwrap(alloc, key, sealed, pad)?;
-    print_bytes(alloc, out, &text)
-}
-
 // The status of a report: 0 if there are records and none is bad, else 1.
 fn report_status<A: Allocator>(report: &Report<A>) -> u8
     ensures yes { (result ≡ 0) ↔ ((1 ≤ report.now.records) × (report.now.bad.items ≡ [])) }
@@ -164,44 +85,47 @@ fn print_checking<A: Allocator, F: Storage, W: Write>(
     ensures status { IfOk result (λ status. status ≤ 1) }
 {
     let report = commands::check(alloc, files, path)?;
-    print_report(alloc, out, report.records, &report.bad)?;
+    let text = report_text(alloc, report.records, &report.bad)?;
+    print(out, &text)?;
     Ok(report_status(&report))
 }
 
 /// Does what a request asks for: prints its answer, and returns the status, 0, or 1 for a file with bad
 /// records. Faults, in this order: those of its values, those of the call, `Write`; `OutOfMemory` wherever an
 /// allocation fails.
-pub fn perform<'a, A: Allocator, B: Allocator, F: Storage, W: Write>(
+pub fn perform<A: Allocator, F: Storage, W: Write>(
     alloc: &A,
     files: &F,
-    request: &Request<'a>,
+    request: &PrintRequest<'_>,
     out: &mut W,
-    file: &mut NewFile<'a, F, B>,
 ) -> Result<u8, Failure>
-    // At Ok the answer is right and was printed or written; else the failure is one that the request has.
-    ensures answer { let s : Surroundings = record {
-      files = F.contents files.now;
-      before = W.contents out.old;
-      after = W.contents out.new;
-      taken = ⟦<NewFile<'a, F, B> as Outlet>⟧.taken file.old;
-      held = held (F.blank file.new.files.now) F.Output.taken file.new.file;
-    } in
-        MatchResult result (Answered s request.now) (Stopped s request.now) }
-    // A file's `Read` and `Write` come only where the input or the output failed.
+    // At Ok the answer is right and was printed; else the failure is one that the request has.
+    ensures answer { MatchResult result
+        (Answered (F.contents files.now) (W.contents out.old) (W.contents out.new) request.now)
+        (Stopped (F.contents files.now) request.now) }
+    // A file's `Read` comes only where the input failed.
     ensures blame { RequestBlames
-        (λ path. InputFailed (F.open_may_fail files.now path) F.Input.failures)
-        (OutputFailed (F.make_may_fail file.new.files.now) F.Output.failures) request.now result }
-    ensures made { IfOk result (λ _. Makes request.now (is_some file.new.file)) }
+        (λ path. InputFailed (F.open_may_fail files.now path) F.Input.failures) request.now result }
     ensures status { IfOk result (λ status. status ≤ 1) }
 {
     match request {
-        Request::Seal(inputs) => print_sealing(alloc, inputs, out),
-        Request::Open(inputs) => print_opening(alloc, inputs, out),
-        Request::Wrap { key, text, pad } => print_wrapping(alloc, key, text, *pad, out),
-        Request::Unwrap { key, sealed, pad } => print_unwrapping(alloc, key, sealed, *pad, out),
-        Request::SealFile(words) => files::seal_file(alloc, files, words, file),
-        Request::OpenFile(words) => files::open_file(alloc, files, words, file),
-        Request::Check { path } => print_checking(alloc, files, path, out),
+        PrintRequest::Seal(inputs) => {
+            let sealed = commands::seal(alloc, inputs)?;
+            print_bytes(alloc, out, &sealed)
+        }
+        PrintRequest::Open(inputs) => {
+            let opened = commands::open(alloc, inputs)?;
+            print_bytes(alloc, out, &opened)
+        }
+        PrintRequest::Wrap { key, text, pad } => {
+            let wrapped = commands::wrap(alloc, key, text, *pad)?;
+            print_bytes(alloc, out, &wrapped)
+        }
+        PrintRequest::Unwrap { key, sealed, pad } => {
+            let text = commands::unwrap(alloc, key, sealed, *pad)?;
+            print_bytes(alloc, out, &text)
+        }
+        PrintRequest::Check { path } => print_checking(alloc, files, path, out),
     }
 }
 
@@ -242,7 +166,19 @@ pub fn report<E: Write>(err: &mut E, failure: Failure) -> u8
     failure.status()
 }
 
-// Does what the words after the program's name ask for. A file that was written is closed when it returns.
+/// Writes the file that a request names, and returns status 0. The file is closed when this returns.
+pub fn write_new_file<A: Allocator, F: Storage>(
+    alloc: &A,
+    files: &F,
+    request: &FileRequest<'_>,
+) -> Result<u8, Failure>
+    ensures { IfOk result (λ status. status ≡ 0) }
+{
+    let mut file = NewFile::new(alloc, files, request.output)?;
+    write_file(alloc, files, request, &mut file)
+}
+
+// Does what the words after the program's name ask for.
 fn answer<S: AsStr, F: Storage, W: Write>(
     alloc: Global,
     files: &F,
@@ -252,10 +188,8 @@ fn answer<S: AsStr, F: Storage, W: Write>(
     ensures { IfOk result (λ status. status ≤ 1) }
 {
     match words::read(alloc, words) {
-        Ok(request) => {
-            let mut file = NewFile::new(alloc, files);
-            perform(&alloc, files, &request, out, &mut file)
-        }
+        Ok(Request::Print(request)) => perform(&alloc, files, &request, out),
+        Ok(Request::Write(request)) => write_new_file(&alloc, files, &request),
         Err(refusal) => refuse(alloc, &refusal, out),
     }
 }

@@ -18,18 +18,9 @@ pub struct Inputs<'a> {
     pub body: &'a str,
 }
 
-/// The inputs of a file command, without a body, and the paths of the file that is read and of the one that
-/// is written.
+/// A request that prints its answer, with each value as it was written.
 #[derive(Drop)]
-pub struct FileWords<'a> {
-    pub inputs: Inputs<'a>,
-    pub input: &'a str,
-    pub output: &'a str,
-}
-
-/// A request, with each value as it was written.
-#[derive(Drop)]
-pub enum Request<'a> {
+pub enum PrintRequest<'a> {
     /// The sealing of a text.
     Seal(Inputs<'a>),
     /// The text of sealed bytes.
@@ -46,14 +37,38 @@ pub enum Request<'a> {
         sealed: &'a str,
         pad: bool,
     },
-    /// The sealing of a file, into a file.
-    SealFile(FileWords<'a>),
-    /// The text of a sealed file, into a file.
-    OpenFile(FileWords<'a>),
     /// The report of a vector file.
     Check {
         path: &'a str,
     },
+}
+
+/// What is written to a file.
+#[derive(Clone, Copy, Drop)]
+pub enum FileCommand {
+    /// The sealing of a file.
+    Seal,
+    /// The text of a sealed file.
+    Open,
+}
+
+/// A request that writes a file: the inputs, without a body, and the paths of the file that is read and of
+/// the one that is written.
+#[derive(Drop)]
+pub struct FileRequest<'a> {
+    pub command: FileCommand,
+    pub inputs: Inputs<'a>,
+    pub input: &'a str,
+    pub output: &'a str,
+}
+
+/// A request.
+#[derive(Drop)]
+pub enum Request<'a> {
+    /// It prints its answer.
+    Print(PrintRequest<'a>),
+    /// It writes a file.
+    Write(FileRequest<'a>),
 }
 
 /// Why words are no request.
@@ -85,61 +100,49 @@ fn inputs_of<'a>(matches: &ArgMatches<'a>, body: &'a str) -> Inputs<'a> {
     }
 }
 
-// The words of a file command; `None` if both paths are the same text.
-fn file_words<'a>(matches: &ArgMatches<'a>) -> Option<FileWords<'a>> {
+// The request of a subcommand that prints.
+fn print_request<'a>(name: &str, matches: &ArgMatches<'a>) -> Option<PrintRequest<'a>> {
+    Some(match name {
+        SEAL => PrintRequest::Seal(inputs_of(matches, value(matches, TEXT))),
+        OPEN => PrintRequest::Open(inputs_of(matches, value(matches, SEALED))),
+        WRAP => PrintRequest::Wrap {
+            key: value(matches, KEY),
+            text: value(matches, TEXT),
+            pad: matches.get_flag(PAD),
+        },
+        UNWRAP => PrintRequest::Unwrap {
+            key: value(matches, KEY),
+            sealed: value(matches, SEALED),
+            pad: matches.get_flag(PAD),
+        },
+        CHECK => PrintRequest::Check {
+            path: value(matches, FILE),
+        },
+        _ => return None,
+    })
+}
+
+// The request of a file command; `None` if both paths are the same text.
+fn file_request<'a>(command: FileCommand, matches: &ArgMatches<'a>) -> Option<FileRequest<'a>> {
     let input = value(matches, IN);
     let output = value(matches, OUT);
     if input == output {
         return None;
     }
-    Some(FileWords {
+    Some(FileRequest {
+        command,
         inputs: inputs_of(matches, ""),
         input,
         output,
     })
 }
 
-// The request to seal.
-fn sealing<'a>(matches: &ArgMatches<'a>) -> Request<'a> {
-    Request::Seal(inputs_of(matches, value(matches, TEXT)))
-}
-
-// The request to open.
-fn opening<'a>(matches: &ArgMatches<'a>) -> Request<'a> {
-    Request::Open(inputs_of(matches, value(matches, SEALED)))
-}
-
-// The request to wrap.
-fn wrapping<'a>(matches: &ArgMatches<'a>) -> Request<'a> {
-    Request::Wrap {
-        key: value(matches, KEY),
-        text: value(matches, TEXT),
-        pad: matches.get_flag(PAD),
-    }
-}
-
-// The request to unwrap.
-fn unwrapping<'a>(matches: &ArgMatches<'a>) -> Request<'a> {
-    Request::Unwrap {
-        key: value(matches, KEY),
-        sealed: value(matches, SEALED),
-        pad: matches.get_flag(PAD),
-    }
-}
-
 // The request of a subcommand's arguments.
 fn request_of<'a>(name: &str, matches: &ArgMatches<'a>) -> Option<Request<'a>> {
     match name {
-        SEAL => Some(sealing(matches)),
-        OPEN => Some(opening(matches)),
-        WRAP => Some(wrapping(matches)),
-        UNWRAP => Some(unwrapping(matches)),
-        SEAL_FILE => file_words(matches).map(Request::SealFile),
-        OPEN_FILE => file_words(matches).map(Request::OpenFile),
-        CHECK => Some(Request::Check {
-            path: value(matches, FILE),
-        }),
-        _ => None,
+        SEAL_FILE => file_request(FileCommand::Seal, matches).map(Request::Write),
+        OPEN_FILE => file_request(FileCommand::Open, matches).map(Request::Write),
+        _ => print_request(name, matches).map(Request::Print),
     }
 }
 

@@ -6,10 +6,9 @@ use super::published::{CHACHA, GCM, GCM_SIV, Vector};
 use super::scripted::{Log, Script, Scripted, Sink, Source};
 use super::vector_files::TWO_RECORDS;
 use crate::failure::Failure;
-use crate::new_file::NewFile;
-use crate::run::{perform, report};
+use crate::run::{perform, report, write_new_file};
 use crate::storage::Storage;
-use crate::words::{FileWords, Inputs, Request};
+use crate::words::{FileCommand, FileRequest, Inputs, PrintRequest};
 use octets::{FromRead, RefusingMemory, ToWrite};
 use std::alloc::{Allocator, Global};
 use std::cell::Cell;
@@ -34,17 +33,16 @@ fn is_right(alloc: Global, answer: Result<u8, Failure>, printed: &[u8], line: &s
 
 // Performs a request with one request for memory refused after the first `passed` ones, and answers whether
 // it came to that one: then nothing is printed, and else the line is.
-fn is_refused<'x, F: Storage>(
+fn is_refused<F: Storage>(
     rt: &(impl Abort + Alloc<A = Global>),
-    files: &'x F,
-    request: &Request<'x>,
+    files: &F,
+    request: &PrintRequest<'_>,
     line: &str,
     passed: u64,
 ) -> bool {
     let memory = RefusingMemory::after(passed, rt.alloc());
     let mut out: Vec<u8> = Vec::new(rt.alloc());
-    let mut file = NewFile::new(&memory, files);
-    let answer = perform(&memory, files, request, &mut out, &mut file);
+    let answer = perform(&memory, files, request, &mut out);
     let is_due = memory.has_refused() == answer.is_err();
     assert!(rt;
         is_due && is_right(rt.alloc(), answer, &out, line),
@@ -54,10 +52,10 @@ fn is_refused<'x, F: Storage>(
 }
 
 // Performs a request with each of its requests for memory refused in turn, until none is. At least one is.
-fn each_is_refused<'x, F: Storage>(
+fn each_is_refused<F: Storage>(
     rt: &(impl Abort + Alloc<A = Global>),
-    files: &'x F,
-    request: &Request<'x>,
+    files: &F,
+    request: &PrintRequest<'_>,
     line: &str,
 ) {
     for passed in 0..100u64 {
@@ -82,9 +80,9 @@ fn inputs<'a>(vector: &Vector<'a>, body: &'a str) -> Inputs<'a> {
 
 // Sealing a vector's text, and opening the sealed bytes.
 fn seal_and_open(rt: &(impl Abort + Alloc<A = Global>), vector: &Vector<'_>) {
-    let request = Request::Seal(inputs(vector, vector.text));
+    let request = PrintRequest::Seal(inputs(vector, vector.text));
     each_is_refused(rt, &NoFiles, &request, vector.sealed);
-    let request = Request::Open(inputs(vector, vector.sealed));
+    let request = PrintRequest::Open(inputs(vector, vector.sealed));
     each_is_refused(rt, &NoFiles, &request, vector.text);
 }
 
@@ -103,8 +101,13 @@ fn wrap_and_unwrap(
     sealed: &str,
     pad: bool,
 ) {
-    each_is_refused(rt, &NoFiles, &Request::Wrap { key, text, pad }, sealed);
-    each_is_refused(rt, &NoFiles, &Request::Unwrap { key, sealed, pad }, text);
+    each_is_refused(rt, &NoFiles, &PrintRequest::Wrap { key, text, pad }, sealed);
+    each_is_refused(
+        rt,
+        &NoFiles,
+        &PrintRequest::Unwrap { key, sealed, pad },
+        text,
+    );
 }
 
 // RFC 3394, 4.1, and RFC 5649, 6.
@@ -126,17 +129,12 @@ fn wrap_and_unwrap_want_memory_only_where_refused(rt: HostRuntime) {
     );
 }
 
-// What asks for the report of a file among these.
-fn checking<'x>(_files: &'x OneFile<'_>) -> Request<'x> {
-    Request::Check { path: "" }
-}
-
 #[test]
 fn check_wants_memory_only_where_refused(rt: HostRuntime) {
     let files = OneFile {
         file: TWO_RECORDS.as_bytes(),
     };
-    let request = checking(&files);
+    let request = PrintRequest::Check { path: "" };
     each_is_refused(&rt, &files, &request, "records 2");
 }
 
@@ -188,10 +186,10 @@ impl<'b, 'l, 'm, A: Allocator> Storage for Asking<'b, 'l, 'm, A> {
 // Performs a file command with one request for memory refused after the first `passed` ones, and answers
 // the status: 4 where it came to that one, or 3 where the making of the file asked for it, and then no file
 // is made; and else 0, and it holds these bytes.
-fn file_status<'x>(
+fn file_status(
     rt: &(impl Abort + Alloc<A = Global>),
-    request: &Request<'x>,
-    from: &'x [u8],
+    request: &FileRequest<'_>,
+    from: &[u8],
     to: &[u8],
     passed: u64,
 ) -> u8 {
@@ -209,10 +207,8 @@ fn file_status<'x>(
         memory: &memory,
         unmade: Cell::new(false),
     };
-    let mut out: Vec<u8> = Vec::new(rt.alloc());
     let mut err: Vec<u8> = Vec::new(rt.alloc());
-    let mut file = NewFile::new(&memory, &files);
-    let status = match perform(&memory, &files, request, &mut out, &mut file) {
+    let status = match write_new_file(&memory, &files, request) {
         Ok(status) => status,
         Err(failure) => report(&mut err, failure),
     };
@@ -223,7 +219,7 @@ fn file_status<'x>(
     } else {
         (0, "")
     };
-    let is_right = status == due && err.as_slice() == complaint.as_bytes() && out.is_empty();
+    let is_right = status == due && err.as_slice() == complaint.as_bytes();
     let is_held = if status == 0 {
         log.holds(to)
     } else {
@@ -235,10 +231,10 @@ fn file_status<'x>(
 
 // Performs a file command with each of its requests for memory refused in turn, until none is. The making
 // of the file asks last.
-fn each_file_status<'x>(
+fn each_file_status(
     rt: &(impl Abort + Alloc<A = Global>),
-    request: &Request<'x>,
-    from: &'x [u8],
+    request: &FileRequest<'_>,
+    from: &[u8],
     to: &[u8],
 ) {
     let mut before = 0u8;
@@ -254,9 +250,10 @@ fn each_file_status<'x>(
     assert!(rt; false, "requests without end");
 }
 
-// The inputs of a vector, for a file command.
-fn file_inputs<'a>(vector: &Vector<'a>) -> FileWords<'a> {
-    FileWords {
+// A request for a file command under a vector's inputs.
+fn file_request<'a>(command: FileCommand, vector: &Vector<'a>) -> FileRequest<'a> {
+    FileRequest {
+        command,
         inputs: inputs(vector, ""),
         input: "a",
         output: "b",
@@ -267,8 +264,10 @@ fn file_inputs<'a>(vector: &Vector<'a>) -> FileWords<'a> {
 fn seal_and_open_files(rt: &(impl Abort + Alloc<A = Global>), vector: &Vector<'_>) {
     let text = bytes(rt, vector.text);
     let sealed = bytes(rt, vector.sealed);
-    each_file_status(rt, &Request::SealFile(file_inputs(vector)), &text, &sealed);
-    each_file_status(rt, &Request::OpenFile(file_inputs(vector)), &sealed, &text);
+    let request = file_request(FileCommand::Seal, vector);
+    each_file_status(rt, &request, &text, &sealed);
+    let request = file_request(FileCommand::Open, vector);
+    each_file_status(rt, &request, &sealed, &text);
 }
 
 #[test]
