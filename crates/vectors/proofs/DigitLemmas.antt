@@ -40,8 +40,8 @@ spelled-digits digits bytes h =
     rw (even, list_all-from_AllPass is_hex_digit digits ok.1) refl
 
 -- there are two digits for each byte
-pub length-bytes_of : (digits : List ℕ) → is_hex digits ≡ true → length digits ≡ 2 * length (bytes_of digits)
-length-bytes_of digits h = (decode_of-ok digits (bytes_of digits) (spells digits h)).2
+pub digits_length : (digits : List ℕ) → is_hex digits ≡ true → length digits ≡ 2 * length (bytes_of digits)
+digits_length digits h = (decode_of-ok digits (bytes_of digits) (spells digits h)).2
 
 -- ---- the digits of the first bytes
 

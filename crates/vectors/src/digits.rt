@@ -47,6 +47,7 @@ impl<'a> Digits<'a> {
     }
 
     /// Returns the number of bytes.
+    #[tactic(auto, using(crate::proofs::DigitLemmas::digits_length))]
     pub fn byte_count(self) -> usize
         ensures { result ≡ length (bytes_in self.entry) }
     {
@@ -54,6 +55,7 @@ impl<'a> Digits<'a> {
     }
 
     /// Splits the digits after those of the first `count` bytes.
+    #[tactic(auto, using(crate::proofs::DigitLemmas::digits_length))]
     pub fn split_at(self, count: usize) -> (Digits<'a>, Digits<'a>)
         requires { count ≤ length (bytes_in self) }
         ensures front { bytes_in result.0 ≡ take count (bytes_in self.entry) }
@@ -64,6 +66,7 @@ impl<'a> Digits<'a> {
     }
 
     // Returns the byte at an index.
+    #[tactic(auto, using(crate::proofs::DigitLemmas::digits_length))]
     fn byte(self, i: usize) -> u8
         requires { i < length (bytes_in self) }
         ensures { result ≡ get_or (bytes_in self.entry) i 0 }

@@ -3,25 +3,6 @@ use super::files::*;
 use crate::fault::VectorFault::*;
 use std::str::from_utf8;
 
-pub const FORMAT_2: &str = "format = 2
-suite = aes-128-gcm-siv
-key = 01000000000000000000000000000000
-nonce = 030000000000000000000000
-aad =
-sealed = b5d839330ac7b786578782fff6013b815b287c22493a364c
-cuts = 3,8
-text = 0100000000000000
-suite = aes-192-wrap-pad
-key = 5840df6e29b02af1ab493b705bf16ea1ae8338f4dcc176a8
-sealed = afbeb0f07dfbf5419200f2ccb50bb24f
-text = 466f7250617369
-";
-
-#[test]
-fn a_file_of_format_2_agrees(rt: HostRuntime) {
-    assert!(rt; answer(&rt, FORMAT_2.as_bytes()) == Ok((2, 0)));
-}
-
 // The file with a line less, and one line in the place of another: format 1 knows no padding, and without
 // cuts a sealing is not `invalid`.
 #[test]

@@ -22,6 +22,21 @@ sealed = 58e2fccefa7e3061367f1d57a4e7455b
 invalid
 ";
 
+/// A record with cuts, and one of key wrapping with padding.
+pub const FORMAT_2: &str = "format = 2
+suite = aes-128-gcm-siv
+key = 01000000000000000000000000000000
+nonce = 030000000000000000000000
+aad =
+sealed = b5d839330ac7b786578782fff6013b815b287c22493a364c
+cuts = 3,8
+text = 0100000000000000
+suite = aes-192-wrap-pad
+key = 5840df6e29b02af1ab493b705bf16ea1ae8338f4dcc176a8
+sealed = afbeb0f07dfbf5419200f2ccb50bb24f
+text = 466f7250617369
+";
+
 /// How many records a file has, and how many of them disagree, or its fault.
 pub type Answer = Result<(u64, usize), VectorFault>;
 
@@ -39,7 +54,7 @@ pub fn add(rt: &(impl Abort + Alloc<A = Global>), file: &mut Vec<u8>, line: &[u8
     file.push(b'\n').expect(rt, "memory");
 }
 
-/// A file whose lines are these bytes, and a LF behind each.
+/// A file with these lines in the place of one line, and a LF behind each.
 pub fn with_lines(
     rt: &(impl Abort + Alloc<A = Global>),
     file: &str,
@@ -50,10 +65,10 @@ pub fn with_lines(
     for (i, old) in file.lines().enumerate() {
         if i != number.saturating_sub(1) {
             add(rt, &mut out, old.as_bytes());
-            continue;
-        }
-        for line in lines {
-            add(rt, &mut out, line);
+        } else {
+            for line in lines {
+                add(rt, &mut out, line);
+            }
         }
     }
     out
@@ -95,12 +110,10 @@ pub fn cut_behind(
 
 /// A line of a file.
 pub fn line_of(file: &str, number: usize) -> &[u8] {
-    for (i, line) in file.lines().enumerate() {
-        if i.saturating_add(1) == number {
-            return line.as_bytes();
-        }
+    match file.lines().nth(number.saturating_sub(1)) {
+        Some(line) => line.as_bytes(),
+        None => &[],
     }
-    &[]
 }
 
 /// The answer for a file cut inside a line, of which these bytes are kept.
@@ -117,6 +130,7 @@ pub fn cut_inside(
 
 /// How many bytes stand behind the `= ` of a line, where its `=` is there.
 pub fn value_length(part: &[u8]) -> Option<usize> {
-    let at = part.iter().position(|b| *b == b'=')?;
-    Some(part.len().saturating_sub(at.saturating_add(2)))
+    part.iter()
+        .position(|b| *b == b'=')
+        .map(|at| part.len().saturating_sub(at.saturating_add(2)))
 }

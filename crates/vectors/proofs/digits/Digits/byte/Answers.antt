@@ -1,45 +1,19 @@
 use Rattle.std.proofs.Common.{◌+◌, ◌*◌, arith}
-use Rattle.vectors.proofs.DigitLemmas.{length-bytes_of, digit_at, byte_at}
+use Rattle.vectors.proofs.DigitLemmas.{digits_length, digit_at, byte_at}
 use Rattle.vectors.proofs.digits.Digits.byte.Goals as goal
-
-pub overflow_mul-i : goal.overflow_mul-i
-overflow_mul-i c =
-    let digits = length-bytes_of c.args.self.text.now c.args.self.valid in
-    let range = c.ranges.self.0 in
-    omega (arith, digits, range, c.requires)
-
-pub bounds-self-i : goal.bounds-self-i
-bounds-self-i c = let digits = length-bytes_of c.args.self.text.now c.args.self.valid in
-    omega (arith, digits, c.requires)
 
 pub overflow_mul-result : goal.overflow_mul-result
 overflow_mul-result c =
     let text = c.args.self.text.now in
-    let digits = length-bytes_of text c.args.self.valid in
+    let digits = digits_length text c.args.self.valid in
     let small = c.digit_value.ensures.small
     (digit_at text (2 * c.args.i) c.args.self.valid (omega (arith, digits, c.requires))) in
     omega (arith, small)
 
-pub overflow_mul-i-2 : goal.overflow_mul-i-2
-overflow_mul-i-2 c =
-    let digits = length-bytes_of c.args.self.text.now c.args.self.valid in
-    let range = c.ranges.self.0 in
-    omega (arith, digits, range, c.requires)
-
-pub overflow_add-i : goal.overflow_add-i
-overflow_add-i c =
-    let digits = length-bytes_of c.args.self.text.now c.args.self.valid in
-    let range = c.ranges.self.0 in
-    omega (arith, digits, range, c.requires)
-
-pub bounds-self-i-2 : goal.bounds-self-i-2
-bounds-self-i-2 c = let digits = length-bytes_of c.args.self.text.now c.args.self.valid in
-    omega (arith, digits, c.requires)
-
 pub overflow_add-result : goal.overflow_add-result
 overflow_add-result c =
     let text = c.args.self.text.now in
-    let digits = length-bytes_of text c.args.self.valid in
+    let digits = digits_length text c.args.self.valid in
     let small = c.digit_value.ensures.small
     (digit_at text (2 * c.args.i) c.args.self.valid (omega (arith, digits, c.requires))) in
     let smaller = c.digit_value-2.ensures.small
@@ -49,7 +23,7 @@ overflow_add-result c =
 pub returns : goal.returns
 returns c =
     let text = c.args.self.text.now in
-    let digits = length-bytes_of text c.args.self.valid in
+    let digits = digits_length text c.args.self.valid in
     byte_at text c.args.i c.digit_value.result c.digit_value-2.result c.args.self.valid c.requires
     (c.digit_value.ensures.value
     (digit_at text (2 * c.args.i) c.args.self.valid (omega (arith, digits, c.requires))))
