@@ -1,5 +1,5 @@
 -- What a sealing in pieces holds that is stored as numbers in C's memory.
-use Rattle.std.specs.Prelude.{◌≡◌, ◌≢◌, ℕ, ◌+◌, ◌*◌, ◌/◌, ◌^◌, ◌<◌, true, List, ◌++◌, length, take, drop}
+use Rattle.std.specs.Prelude.{◌≡◌, ◌≢◌, ℕ, ◌+◌, ◌*◌, ◌/◌, ◌^◌, ◌<◌, Bool, true, List, ◌++◌, length, take, drop}
 use Rattle.std.specs.Prelude.{replicate}
 use Rattle.octets.specs.Bytes.{pad16}
 use Rattle.octets.specs.Masked.{masked}
@@ -30,6 +30,10 @@ NotBegun p = (suite : Suite) → is_one_pass (construction_of suite) ≡ true �
 abbrev pub not_begun : ℕ
 not_begun = 15
 
+-- the sum of zeros
+abbrev pub zero_sum : StoredSum
+zero_sum = record { low = 0; middle = 0; high = 0 }
+
 -- the struct of zeros
 abbrev pub zeros : StoredSealer
 zeros = record {
@@ -39,7 +43,7 @@ zeros = record {
   used = 0;
   hash_key = replicate 32 0;
   rest = replicate 16 0;
-  sum = record { low = 0; middle = 0; high = 0 };
+  sum = zero_sum;
   aad_length = 0;
   length = 0;
 }
@@ -88,21 +92,29 @@ pub record HoldsBy (by : Construction) (keyed : List ℕ → Setting → Type 0)
   pub length_is : p.length ≡ length bytes
   pub fits : Fits s bytes
 
--- p holds this text, by such a hash
-abbrev pub HoldsTextBy : Construction → (List ℕ → Setting → Type 0) → (StoredSum → Setting → List ℕ → Type 0)
-    → StoredSealer → Setting → List ℕ → Type 0
-HoldsTextBy by keyed summed p s text =
-    (tag : List ℕ) → HoldsBy by keyed summed p s (masked (mask_of s tag) 0 text)
+-- p holds this ciphertext, by the hash of a construction
+abbrev pub HoldsOf : Construction → StoredSealer → Setting → List ℕ → Type 0
+HoldsOf ByChaCha p s bytes = HoldsBy ByChaCha IsPolyKey IsPolySum p s bytes
+HoldsOf ByGcm p s bytes = HoldsBy ByGcm IsGhashKey IsGhashSum p s bytes
+HoldsOf ByGcmSiv p s bytes = ⊥
 
--- p holds this text, by the hash of a construction
-abbrev pub HoldsTextOf : Construction → StoredSealer → Setting → List ℕ → Type 0
-HoldsTextOf ByChaCha p s text = HoldsTextBy ByChaCha IsPolyKey IsPolySum p s text
-HoldsTextOf ByGcm p s text = HoldsTextBy ByGcm IsGhashKey IsGhashSum p s text
-HoldsTextOf ByGcmSiv p s text = ⊥
+-- p holds this ciphertext
+abbrev pub HoldsBytes : StoredSealer → Setting → List ℕ → Type 0
+HoldsBytes p s bytes = HoldsOf (construction_of s.suite) p s bytes
 
 -- p holds this text
 abbrev pub HoldsText : StoredSealer → Setting → List ℕ → Type 0
-HoldsText p s text = HoldsTextOf (construction_of s.suite) p s text
+HoldsText p s text = (tag : List ℕ) → HoldsBytes p s (masked (mask_of s tag) 0 text)
+
+-- n is the sum over the whole blocks of m, by the hash of a construction
+abbrev pub IsSumOf : Construction → StoredSum → Setting → List ℕ → Type 0
+IsSumOf ByChaCha n s m = IsPolySum n s m
+IsSumOf ByGcm n s m = IsGhashSum n s m
+IsSumOf ByGcmSiv n s m = ⊥
+
+-- n is the sum over the padded associated data
+abbrev pub HasStart : StoredSum → Setting → Type 0
+HasStart n s = IsSumOf (construction_of s.suite) n s (pad16 s.aad)
 
 -- ---- what the calls come to
 
@@ -114,6 +126,15 @@ Updates holds p q was now status s text =
     holds p s text → HasOutcome status
     (holds q s (text ++ was) × ((tag : List ℕ) → now ≡ masked (mask_of s tag) (length text) was))
     (λ e. SealRefused s (text ++ was) e)
+
+-- p becomes q, and was becomes now: if the call is done, and p holds what of these bytes is authenticated, a
+-- piece is added and masked
+abbrev pub MasksPiece : (holds : StoredSealer → Setting → List ℕ → Type 0)
+    (hashed : (ℕ → ℕ) → List ℕ → List ℕ) (p q : StoredSealer) (was now : List ℕ) (done : Bool)
+    → Setting → (tag fed : List ℕ) → Type 0
+MasksPiece holds hashed p q was now done s tag fed =
+    done ≡ true → p.length ≡ length fed → holds p s (hashed (mask_of s tag) fed)
+    → holds q s (hashed (mask_of s tag) (fed ++ was)) × (now ≡ masked (mask_of s tag) (length fed) was)
 
 -- why no sealing is begun: the first of these lengths that does not fit
 abbrev pub BeginRefused : Setting → Fault → Type 0
