@@ -1,5 +1,5 @@
 -- What a sealing in pieces holds that is stored as numbers in C's memory.
-use Rattle.std.specs.Prelude.{◌≡◌, ◌≢◌, ℕ, ◌+◌, ◌*◌, ◌/◌, ◌^◌, ◌<◌, Bool, true, List, ◌++◌, length, take, drop}
+use Rattle.std.specs.Prelude.{◌≡◌, ◌≢◌, ℕ, ◌+◌, ◌*◌, ◌/◌, ◌^◌, ◌<◌, true, List, ◌++◌, length, take, drop}
 use Rattle.std.specs.Prelude.{replicate}
 use Rattle.octets.specs.Bytes.{pad16}
 use Rattle.octets.specs.Masked.{masked}
@@ -126,15 +126,6 @@ Updates holds p q was now status s text =
     holds p s text → HasOutcome status
     (holds q s (text ++ was) × ((tag : List ℕ) → now ≡ masked (mask_of s tag) (length text) was))
     (λ e. SealRefused s (text ++ was) e)
-
--- p becomes q, and was becomes now: if the call is done, and p holds what of these bytes is authenticated, a
--- piece is added and masked
-abbrev pub MasksPiece : (holds : StoredSealer → Setting → List ℕ → Type 0)
-    (hashed : (ℕ → ℕ) → List ℕ → List ℕ) (p q : StoredSealer) (was now : List ℕ) (done : Bool)
-    → Setting → (tag fed : List ℕ) → Type 0
-MasksPiece holds hashed p q was now done s tag fed =
-    done ≡ true → p.length ≡ length fed → holds p s (hashed (mask_of s tag) fed)
-    → holds q s (hashed (mask_of s tag) (fed ++ was)) × (now ≡ masked (mask_of s tag) (length fed) was)
 
 -- why no sealing is begun: the first of these lengths that does not fit
 abbrev pub BeginRefused : Setting → Fault → Type 0

@@ -5,7 +5,8 @@ ghost use Rattle.aead.specs.declared.suite.Suite.{Suite};
 ghost use Rattle.aead.specs.Suites.{ByChaCha, ByGcm, construction_of, is_one_pass, text_limit};
 ghost use Rattle.aead.specs.Sealing.{Setting, tag_over};
 ghost use Rattle.aead.specs.Exports.{suite_number};
-ghost use Rattle.aead.specs.Stored.{HoldsBy, HoldsOf, HoldsBytes, MasksPiece};
+ghost use Rattle.aead.specs.Stored.{HoldsBy, HoldsOf, HoldsBytes};
+ghost use Rattle.aead.specs.Code.Steps.{MasksPiece};
 
 use super::stored::{StoredHash, StoredSealer};
 use crate::beside::Order;

@@ -1,6 +1,7 @@
 use Rattle.std.proofs.Common.{◌∙◌, ap, subst, sym}
 use Rattle.aead.specs.Suites.{construction_of}
-use Rattle.aead.specs.Stored.{HoldsOf, MasksPiece}
+use Rattle.aead.specs.Stored.{HoldsOf}
+use Rattle.aead.specs.Code.Steps.{MasksPiece}
 use Rattle.aead.proofs.exports.pass.mask_piece.Goals as goal
 
 pub returns-then-is_chacha-clause-masks : goal.returns-then-is_chacha-clause-masks
