@@ -1,5 +1,5 @@
-/* Seals random texts in random pieces and compares them with aeadkit_seal, and hands structs of random bytes to update and
-   finish. Prints one line, and exits with 0 if nothing differs:
+/* Seals and opens random texts in random pieces and compares them with aeadkit_seal and aeadkit_open, and hands structs of
+   random bytes to the calls in pieces. Prints one line, and exits with 0 if nothing differs:
    cc -Iinclude c/pieces.c -LOUT -laeadkit && ./a.out [SPLITS] [STRUCTS] */
 #include "aeadkit.h"
 
@@ -34,28 +34,50 @@ static int all(const uint8_t *bytes, size_t length, uint8_t value) {
 
 enum { LONGEST = 20000 };
 
-static uint8_t whole[LONGEST + 16], pieces[LONGEST];
+static uint8_t whole[LONGEST + 16], pieces[LONGEST + 1], text[LONGEST];
+
+/* A random text under random keys, in `text`, and its sealing in `whole`. */
+struct message {
+    uint32_t suite;
+    size_t key_length, aad_length, length, longest;
+    uint8_t key[32], nonce[12], aad[70];
+};
+
+static struct message message_of(long number) {
+    struct message m;
+    m.suite = 1 + (uint32_t)(random_word() % 4);
+    m.key_length = m.suite == 2 ? 16 : m.suite == 3 ? 24 : 32;
+    m.aad_length = random_word() % 70;
+    m.length = random_word() % (number % 100 == 0 ? LONGEST : number % 10 == 0 ? 3000 : 300);
+    m.longest = number % 3 == 0 ? 20 : number % 3 == 1 ? 300 : LONGEST;
+    random_bytes(m.key, 32);
+    random_bytes(m.nonce, 12);
+    random_bytes(m.aad, m.aad_length);
+    random_bytes(text, m.length);
+    memcpy(whole, text, m.length);
+    want(aeadkit_seal(m.suite, m.key, m.key_length, m.nonce, 12, m.aad, m.aad_length, whole, m.length + 16) == AEADKIT_DONE,
+         "seal", number);
+    return m;
+}
+
+/* The length of the next piece, after `done` bytes. */
+static size_t next_of(const struct message *m, size_t done) {
+    size_t next = random_word() % (m->longest + 1);
+    return next > m->length - done ? m->length - done : next;
+}
 
 /* A random text, sealed whole and in random pieces between which the struct is moved. */
-static void compare(long number) {
-    uint32_t suite = 1 + (uint32_t)(random_word() % 4);
-    size_t key_length = suite == 2 ? 16 : suite == 3 ? 24 : 32;
-    size_t aad_length = random_word() % 70;
-    size_t length = random_word() % (number % 100 == 0 ? LONGEST : number % 10 == 0 ? 3000 : 300);
-    size_t longest = number % 3 == 0 ? 20 : number % 3 == 1 ? 300 : 5000;
-    uint8_t key[32], nonce[12], aad[70], tag[16];
-    random_bytes(key, 32);
-    random_bytes(nonce, 12);
-    random_bytes(aad, aad_length);
-    random_bytes(whole, length);
-    memcpy(pieces, whole, length);
-    want(aeadkit_seal(suite, key, key_length, nonce, 12, aad, aad_length, whole, length + 16) == AEADKIT_DONE, "seal", number);
+static void seal_in_pieces(long number) {
+    struct message m = message_of(number);
+    size_t length = m.length;
+    uint8_t tag[16];
+    memcpy(pieces, text, length);
     struct aeadkit_sealer sealer, moved;
     random_bytes((uint8_t *)&sealer, sizeof sealer);
-    want(aeadkit_sealer_init(&sealer, suite, key, key_length, nonce, 12, aad, aad_length) == AEADKIT_DONE, "init", number);
+    want(aeadkit_sealer_init(&sealer, m.suite, m.key, m.key_length, m.nonce, 12, m.aad, m.aad_length) == AEADKIT_DONE, "init",
+         number);
     for (size_t done = 0; done < length;) {
-        size_t next = random_word() % (longest + 1);
-        if (next > length - done) next = length - done;
+        size_t next = next_of(&m, done);
         moved = sealer;
         memset(&sealer, 0x5a, sizeof sealer);
         sealer = moved;
@@ -70,6 +92,64 @@ static void compare(long number) {
     want(aeadkit_sealer_finish(&sealer, tag) == AEADKIT_NOT_BEGUN, "finished twice", number);
     want(aeadkit_sealer_update(&sealer, tag, 16) == AEADKIT_NOT_BEGUN, "updated after finish", number);
     want(!memcmp(kept, tag, 16) && all((uint8_t *)&sealer, sizeof sealer, 0), "changed at NOT_BEGUN", number);
+}
+
+/* A random sealing, opened in two passes of random pieces, between which the struct is moved. Of five cases one has a changed
+   bit, one a second pass with a changed bit, and one a longer second pass. */
+static void open_in_pieces(long number) {
+    struct message m = message_of(number);
+    size_t length = m.length, bit = random_word() % (8 * (length + 16));
+    enum { CHANGED, CHANGED_LATER, LONGER } way = (int)(random_word() % 5);
+    if (way == CHANGED) whole[bit / 8] ^= (uint8_t)(1 << bit % 8);
+    memcpy(pieces, whole, length);
+    struct aeadkit_opener opener, moved;
+    random_bytes((uint8_t *)&opener, sizeof opener);
+    want(aeadkit_opener_init(&opener, m.suite, m.key, m.key_length, m.nonce, 12, m.aad, m.aad_length, whole + length)
+             == AEADKIT_DONE, "opener_init", number);
+    for (size_t done = 0; done < length;) {
+        size_t next = next_of(&m, done);
+        moved = opener;
+        memset(&opener, 0x5a, sizeof opener);
+        opener = moved;
+        want(aeadkit_opener_check(&opener, pieces + done, next) == AEADKIT_DONE, "check", number);
+        done += next;
+    }
+    moved = opener;
+    want(aeadkit_opener_update(&opener, pieces, length) == AEADKIT_NOT_BEGUN, "text before the check", number);
+    want(aeadkit_opener_finish(&opener) == AEADKIT_NOT_BEGUN, "finished before the check", number);
+    want(!memcmp(pieces, whole, length) && !memcmp(&opener, &moved, sizeof opener), "changed before the check", number);
+    uint32_t status = aeadkit_opener_checked(&opener);
+    want(status == aeadkit_open(m.suite, m.key, m.key_length, m.nonce, 12, m.aad, m.aad_length, whole, length + 16),
+         "another status of checked", number);
+    want((way == CHANGED) == (status == AEADKIT_TAG_MISMATCH), "a changed bit", number);
+    if (status != AEADKIT_DONE) {
+        want(all((uint8_t *)&opener, sizeof opener, 0), "not zeros after a mismatch", number);
+        return;
+    }
+    moved = opener;
+    want(aeadkit_opener_check(&opener, pieces, length) == AEADKIT_NOT_BEGUN, "checked again", number);
+    want(!memcmp(&opener, &moved, sizeof opener), "changed by a late check", number);
+    int changed = way == CHANGED_LATER && bit < 8 * length;
+    if (changed) pieces[bit / 8] ^= (uint8_t)(1 << bit % 8);
+    for (size_t done = 0; done < length;) {
+        size_t next = next_of(&m, done);
+        moved = opener;
+        memset(&opener, 0x5a, sizeof opener);
+        opener = moved;
+        want(aeadkit_opener_update(&opener, pieces + done, next) == AEADKIT_DONE, "opener_update", number);
+        done += next;
+    }
+    if (way == LONGER) {
+        moved = opener;
+        pieces[length] = 0x3c;
+        want(aeadkit_opener_update(&opener, pieces + length, 1) == AEADKIT_SOURCE_CHANGED, "a longer pass", number);
+        want(pieces[length] == 0x3c && !memcmp(&opener, &moved, sizeof opener), "changed by a longer pass", number);
+    }
+    want(aeadkit_opener_finish(&opener) == (changed ? AEADKIT_SOURCE_CHANGED : AEADKIT_DONE), "opener_finish", number);
+    if (changed) pieces[bit / 8] ^= (uint8_t)(1 << bit % 8);
+    want(!memcmp(pieces, text, length) && !memcmp(whole, text, length), "another text", number);
+    want(all((uint8_t *)&opener, sizeof opener, 0), "not zeros after finish", number);
+    want(aeadkit_opener_finish(&opener) == AEADKIT_NOT_BEGUN, "finished twice", number);
 }
 
 /* A struct of random bytes between guard bytes, by the mark of a suite in three cases of four. */
@@ -105,6 +185,48 @@ static void rubbish(long number, const struct aeadkit_sealer *marks) {
     want(all(held.before, 64, 0xa5) && all(held.after, 64, 0xa5), "bytes about the struct", number);
 }
 
+/* A struct of an opening of random bytes between guard bytes, by the mark of a pass and a suite in three cases of four. */
+static void opener_rubbish(long number, const struct aeadkit_opener marks[2][4]) {
+    struct {
+        uint8_t before[64];
+        struct aeadkit_opener opener;
+        uint8_t after[64];
+    } held;
+    uint8_t piece[400], copy[400];
+    memset(&held, 0xa5, sizeof held);
+    random_bytes((uint8_t *)&held.opener, sizeof held.opener);
+    size_t pass = random_word() % 2;
+    if (number % 4) held.opener.private_[0] = marks[pass][random_word() % 4].private_[0];
+    if (number % 3) held.opener.private_[18] = (number % 3 == 1 ? 0x3fffffffc0u : 0xfffffffe0u) - random_word() % 300;
+    if (number % 5) held.opener.private_[24] = held.opener.private_[18] + random_word() % 300;
+    struct aeadkit_opener was = held.opener;
+    size_t length = random_word() % 300;
+    memset(piece, 0x3c, sizeof piece);
+    memcpy(copy, piece, sizeof piece);
+    int first = number % 4 && !pass, second = number % 4 && pass;
+    uint32_t status = aeadkit_opener_check(&held.opener, piece + 50, length);
+    want(first ? status == AEADKIT_DONE || status == AEADKIT_TEXT_TOO_LONG : status == AEADKIT_NOT_BEGUN, "a status of check",
+         number);
+    want(!memcmp(piece, copy, sizeof piece), "a piece changed by check", number);
+    want(status == AEADKIT_DONE || !memcmp(&was, &held.opener, sizeof was), "changed by a refused check", number);
+    was = held.opener;
+    status = aeadkit_opener_update(&held.opener, piece + 50, length);
+    want(second ? status == AEADKIT_DONE || status == AEADKIT_SOURCE_CHANGED : status == AEADKIT_NOT_BEGUN,
+         "a status of opener_update", number);
+    want(all(piece, 50, 0x3c) && all(piece + 50 + length, 350 - length, 0x3c), "bytes about the piece", number);
+    want(status == AEADKIT_DONE || (!memcmp(piece, copy, sizeof piece) && !memcmp(&was, &held.opener, sizeof was)),
+         "changed by a refused opener_update", number);
+    was = held.opener;
+    status = number % 2 ? aeadkit_opener_checked(&held.opener) : aeadkit_opener_finish(&held.opener);
+    if (number % 2 ? first : second) {
+        want(status == (number % 2 ? AEADKIT_TAG_MISMATCH : AEADKIT_SOURCE_CHANGED), "a tag of random bytes", number);
+        want(all((uint8_t *)&held.opener, sizeof was, 0), "not zeros after a pass", number);
+    } else {
+        want(status == AEADKIT_NOT_BEGUN && !memcmp(&was, &held.opener, sizeof was), "the end of no pass", number);
+    }
+    want(all(held.before, 64, 0xa5) && all(held.after, 64, 0xa5), "bytes about the struct", number);
+}
+
 /* Each refusal of init leaves zeros. */
 static void refusals(void) {
     uint8_t key[33] = {0}, nonce[13] = {0};
@@ -124,20 +246,42 @@ static void refusals(void) {
         want(aeadkit_sealer_init(&sealer, cases[i].suite, key, cases[i].key_length, nonce, cases[i].nonce_length, NULL, 0)
                  == cases[i].status, "a status of init", (long)i);
         want(all((uint8_t *)&sealer, sizeof sealer, 0), "not zeros after a refused init", (long)i);
+        struct aeadkit_opener opener;
+        random_bytes((uint8_t *)&opener, sizeof opener);
+        want(aeadkit_opener_init(&opener, cases[i].suite, key, cases[i].key_length, nonce, cases[i].nonce_length, NULL, 0, key)
+                 == cases[i].status, "a status of opener_init", (long)i);
+        want(all((uint8_t *)&opener, sizeof opener, 0), "not zeros after a refused opener_init", (long)i);
     }
 }
 
 int main(int count, char **words) {
     long splits = count > 1 ? atol(words[1]) : 100000, structs = count > 2 ? atol(words[2]) : 1000000;
-    want(aeadkit_sealer_size() == sizeof(struct aeadkit_sealer), "the size of the struct", 0);
+    want(aeadkit_sealer_size() == sizeof(struct aeadkit_sealer), "the size of the sealer", 0);
+    want(aeadkit_opener_size() == sizeof(struct aeadkit_opener), "the size of the opener", 0);
     refusals();
-    struct aeadkit_sealer marks[4];
+    struct aeadkit_sealer marks[4], sealer;
+    struct aeadkit_opener opener_marks[2][4];
     static const size_t key_lengths[4] = {32, 16, 24, 32};
-    uint8_t zeros[32] = {0};
-    for (uint32_t i = 0; i < 4; i++)
+    uint8_t zeros[32] = {0}, tag[16];
+    for (uint32_t i = 0; i < 4; i++) {
         want(aeadkit_sealer_init(&marks[i], i + 1, zeros, key_lengths[i], zeros, 12, NULL, 0) == AEADKIT_DONE, "init", i);
-    for (long i = 0; i < splits; i++) compare(i);
-    for (long i = 0; i < structs; i++) rubbish(i, marks);
-    printf("pieces: %ld texts in pieces, %ld structs of random bytes: nothing differs\n", splits, structs);
+        sealer = marks[i];
+        want(aeadkit_sealer_finish(&sealer, tag) == AEADKIT_DONE, "finish", i);
+        struct aeadkit_opener *first = &opener_marks[0][i], *second = &opener_marks[1][i];
+        want(aeadkit_opener_init(first, i + 1, zeros, key_lengths[i], zeros, 12, NULL, 0, tag) == AEADKIT_DONE, "opener_init",
+             i);
+        *second = *first;
+        want(aeadkit_opener_checked(second) == AEADKIT_DONE, "checked", i);
+    }
+    for (long i = 0; i < splits; i++) {
+        seal_in_pieces(i);
+        open_in_pieces(i);
+    }
+    for (long i = 0; i < structs; i++) {
+        rubbish(i, marks);
+        opener_rubbish(i, (const struct aeadkit_opener(*)[4])opener_marks);
+    }
+    printf("pieces: %ld texts in pieces each way, %ld structs of random bytes of each kind: nothing differs\n", splits,
+           structs);
     return 0;
 }

@@ -13,9 +13,9 @@ import enum
 import os
 from typing import Optional, Union
 
-__all__ = ["Suite", "Key", "Sealer", "seal", "open", "wrap", "unwrap", "wrap_padded", "unwrap_padded", "Refused", "KeyLength",
-           "NonceLength", "TextTooLong", "AadTooLong", "TooShort", "TagMismatch", "WrapLength", "WrapIntegrity",
-           "UnknownSuite", "NotBegun"]
+__all__ = ["Suite", "Key", "Sealer", "Opener", "seal", "open", "wrap", "unwrap", "wrap_padded", "unwrap_padded", "Refused",
+           "KeyLength", "NonceLength", "TextTooLong", "AadTooLong", "TooShort", "TagMismatch", "WrapLength", "WrapIntegrity",
+           "SourceChanged", "UnknownSuite", "NotBegun"]
 
 Buffer = Union[bytes, bytearray, memoryview]
 
@@ -67,16 +67,20 @@ class WrapIntegrity(Refused):
     message = "the bytes are the wrapping of no text under this key"
 
 
+class SourceChanged(Refused):
+    message = "the second pass is over other bytes than the first"
+
+
 class UnknownSuite(Refused):
     message = "the suite is none of Suite"
 
 
 class NotBegun(Refused):
-    message = "the sealing is finished"
+    message = "the sealing or the pass of the opening is over, or not begun"
 
 
 _FAULTS = {1: KeyLength, 2: NonceLength, 3: TextTooLong, 4: AadTooLong, 5: TooShort, 6: TagMismatch, 7: WrapLength,
-           8: WrapIntegrity, 14: UnknownSuite, 15: NotBegun}
+           8: WrapIntegrity, 13: SourceChanged, 14: UnknownSuite, 15: NotBegun}
 
 
 class Suite(enum.IntEnum):
@@ -135,8 +139,21 @@ _unwrap_padded = _declared("aeadkit_unwrap_padded", *_given, *_room, ctypes.POIN
 _sealer_init = _declared("aeadkit_sealer_init", ctypes.c_void_p, ctypes.c_uint32, *_given, *_given, *_given)
 _sealer_update = _declared("aeadkit_sealer_update", ctypes.c_void_p, *_room)
 _sealer_finish = _declared("aeadkit_sealer_finish", ctypes.c_void_p, ctypes.c_void_p)
-_library.aeadkit_sealer_size.argtypes, _library.aeadkit_sealer_size.restype = (), ctypes.c_size_t
-_State = ctypes.c_uint64 * (_library.aeadkit_sealer_size() // 8)
+_opener_init = _declared("aeadkit_opener_init", ctypes.c_void_p, ctypes.c_uint32, *_given, *_given, *_given, ctypes.c_char_p)
+_opener_check = _declared("aeadkit_opener_check", ctypes.c_void_p, *_given)
+_opener_checked = _declared("aeadkit_opener_checked", ctypes.c_void_p)
+_opener_update = _declared("aeadkit_opener_update", ctypes.c_void_p, *_room)
+_opener_finish = _declared("aeadkit_opener_finish", ctypes.c_void_p)
+
+
+def _words(size):
+    """An array of 64-bit words of the size in bytes that a call returns."""
+    size.argtypes, size.restype = (), ctypes.c_size_t
+    return ctypes.c_uint64 * (size() // 8)
+
+
+_State = _words(_library.aeadkit_sealer_size)
+_OpenerState = _words(_library.aeadkit_opener_size)
 
 
 def _bytes_of(data):
@@ -151,6 +168,22 @@ def _suite_of(suite):
         raise UnknownSuite(f"{suite!r} is none of Suite") from None
 
 
+def _done(status):
+    if status:
+        raise _FAULTS[status]()
+
+
+def _masked(call, state, piece):
+    """What a call on a state makes of a copy of the piece."""
+    with memoryview(piece) as view:
+        text = bytearray(view.cast("B") if view.c_contiguous else view.tobytes())
+    place = ctypes.c_ubyte.from_buffer(text or bytearray(1))
+    status = call(ctypes.addressof(state), ctypes.addressof(place), len(text))
+    del place
+    _done(status)
+    return text
+
+
 def _run(call, suite, words, before, text, after, *more):
     """Calls on a fresh bytearray, which nothing else sees: the text with room around it."""
     with memoryview(text) as view:
@@ -163,8 +196,7 @@ def _run(call, suite, words, before, text, after, *more):
     place = ctypes.c_ubyte.from_buffer(buffer if size else bytearray(1))
     status = call(*suite, *given, ctypes.addressof(place), size, *more)
     del place
-    if status:
-        raise _FAULTS[status]()
+    _done(status)
     return buffer
 
 
@@ -205,28 +237,50 @@ class Sealer:
     def __init__(self, suite: int, key: Buffer, nonce: Buffer, aad: Optional[Buffer] = None) -> None:
         self._state = _State()
         given = [it for word in map(_bytes_of, (key, nonce, b"" if aad is None else aad)) for it in (word, len(word))]
-        status = _sealer_init(ctypes.addressof(self._state), _suite_of(suite), *given)
-        if status:
-            raise _FAULTS[status]()
+        _done(_sealer_init(ctypes.addressof(self._state), _suite_of(suite), *given))
 
     def update(self, piece: Buffer) -> bytearray:
         """The ciphertext of the next piece of the text, which may have any length."""
-        with memoryview(piece) as view:
-            text = bytearray(view.cast("B") if view.c_contiguous else view.tobytes())
-        place = ctypes.c_ubyte.from_buffer(text or bytearray(1))
-        status = _sealer_update(ctypes.addressof(self._state), ctypes.addressof(place), len(text))
-        del place
-        if status:
-            raise _FAULTS[status]()
-        return text
+        return _masked(_sealer_update, self._state, piece)
 
     def finish(self) -> bytes:
         """The tag of the text, of 16 bytes. After it the sealer takes no more: NotBegun."""
         tag = ctypes.create_string_buffer(_TAG_BYTES)
-        status = _sealer_finish(ctypes.addressof(self._state), ctypes.addressof(tag))
-        if status:
-            raise _FAULTS[status]()
+        _done(_sealer_finish(ctypes.addressof(self._state), ctypes.addressof(tag)))
         return tag.raw
+
+
+class Opener:
+    """An opening in pieces, under ChaCha20-Poly1305 or AES-GCM, of a sealing with a tag of 16 bytes, in two passes over the
+    ciphertext: check each piece, then checked; then update each piece again, then finish. The passes may be cut into other
+    pieces. No text comes before the first pass was found to be over a sealing. UnknownSuite for AES-GCM-SIV."""
+
+    def __init__(self, suite: int, key: Buffer, nonce: Buffer, tag: Buffer, aad: Optional[Buffer] = None) -> None:
+        self._state = _OpenerState()
+        last = _bytes_of(tag)
+        if len(last) != _TAG_BYTES:
+            raise ValueError("the tag is not 16 bytes long")
+        given = [it for word in map(_bytes_of, (key, nonce, b"" if aad is None else aad)) for it in (word, len(word))]
+        _done(_opener_init(ctypes.addressof(self._state), _suite_of(suite), *given, last))
+
+    def check(self, piece: Buffer) -> None:
+        """Takes in the next piece of the ciphertext in the first pass."""
+        given = _bytes_of(piece)
+        _done(_opener_check(ctypes.addressof(self._state), given, len(given)))
+
+    def checked(self) -> None:
+        """Ends the first pass. TagMismatch if its pieces and the tag are the sealing of no text; that ends the opening."""
+        _done(_opener_checked(ctypes.addressof(self._state)))
+
+    def update(self, piece: Buffer) -> bytearray:
+        """The text of the next piece of the ciphertext in the second pass. SourceChanged if that would be longer than the
+        first; NotBegun before the first pass is over."""
+        return _masked(_opener_update, self._state, piece)
+
+    def finish(self) -> None:
+        """Ends the second pass. SourceChanged if its pieces and the tag are the sealing of no text: what update gave is then
+        to be thrown away."""
+        _done(_opener_finish(ctypes.addressof(self._state)))
 
 
 def wrap(key: Buffer, text: Buffer) -> bytearray:

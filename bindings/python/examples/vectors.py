@@ -67,6 +67,34 @@ for suite in list(Suite)[:4]:
         assert made + sealer.finish() == aeadkit.seal(suite, key, bytes(12), b"data", text)
         refused(aeadkit.NotBegun, sealer.update, b"")
         refused(aeadkit.NotBegun, sealer.finish)
+# and it is opened in two passes, cut into other pieces
+for suite in list(Suite)[:4]:
+    key = bytes(suite.key_bytes)
+    made = aeadkit.seal(suite, key, bytes(12), b"data", text)
+    body, tag = made[:-16], made[-16:]
+    for size in (1, 15, 16, 17, 333, 1000):
+        opener = aeadkit.Opener(suite, key, bytes(12), tag, b"data")
+        for i in range(0, len(body), size):
+            opener.check(body[i : i + size])
+        refused(aeadkit.NotBegun, opener.update, body)
+        opener.checked()
+        refused(aeadkit.NotBegun, opener.check, body)
+        step = 1001 - size
+        assert b"".join(opener.update(body[i : i + step]) for i in range(0, len(body), step)) == text
+        refused(aeadkit.SourceChanged, opener.update, b"x")
+        opener.finish()
+        refused(aeadkit.NotBegun, opener.finish)
+    opener = aeadkit.Opener(suite, key, bytes(12), tag, b"date")
+    opener.check(body)
+    refused(aeadkit.TagMismatch, opener.checked)
+    refused(aeadkit.NotBegun, opener.checked)
+    opener = aeadkit.Opener(suite, key, bytes(12), tag, b"data")
+    opener.check(body)
+    opener.checked()
+    opener.update(bytes(1000))
+    refused(aeadkit.SourceChanged, opener.finish)
+refused(aeadkit.UnknownSuite, aeadkit.Opener, Suite.AES_128_GCM_SIV, bytes(16), bytes(12), bytes(16))
+refused(aeadkit.NonceLength, aeadkit.Opener, Suite.AES_128_GCM, bytes(16), bytes(11), bytes(16))
 # a file, sealed by pieces of 64 KiB into another
 with tempfile.TemporaryFile() as plain, tempfile.TemporaryFile() as sealed_file:
     plain.write(text * 500)

@@ -1,6 +1,8 @@
 //! Seals, opens, refuses, wraps and unwraps published vectors.
 
-use aeadkit::{Fault, Key, Sealer, Suite, TAG_BYTES, WRAP_BYTES, open, seal, unwrap, unwrap_padded, wrap, wrap_padded};
+use aeadkit::{
+    Fault, Key, Opener, Sealer, Suite, TAG_BYTES, WRAP_BYTES, open, seal, unwrap, unwrap_padded, wrap, wrap_padded,
+};
 
 /// AES-128-GCM of sixteen zero bytes under a zero key and nonce: test case 2 of GCM's vectors.
 fn sealing() -> Result<(), Fault> {
@@ -61,6 +63,42 @@ fn pieces() -> Result<(), Fault> {
     Ok(())
 }
 
+/// A sealing in pieces opens to its text, and only after the first pass was over all of it.
+fn opening() -> Result<(), Fault> {
+    use Suite::*;
+    for suite in [ChaCha20Poly1305, Aes128Gcm, Aes192Gcm, Aes256Gcm] {
+        let key = &[7; 32][..suite.key_bytes()];
+        let mut sealed = vec![5; 1000 + TAG_BYTES];
+        seal(suite, key, &[9; 12], b"data", &mut sealed)?;
+        let (body, tag) = sealed.split_last_chunk::<TAG_BYTES>().expect("a sealing has a tag");
+        for size in [1, 15, 16, 17, 333, 1000] {
+            let mut opener = Opener::new(suite, key, &[9; 12], b"data", tag)?;
+            for piece in body.chunks(size) {
+                opener.check(piece)?;
+                opener.check(&[])?;
+            }
+            let mut opener = opener.checked()?;
+            let mut text = body.to_vec();
+            for piece in text.chunks_mut(1001 - size) {
+                opener.update(piece)?;
+            }
+            assert_eq!(opener.update(&mut [0]), Err(Fault::SourceChanged));
+            opener.finish()?;
+            assert_eq!(text, vec![5; 1000]);
+        }
+        let mut opener = Opener::new(suite, key, &[9; 12], b"date", tag)?;
+        opener.check(body)?;
+        assert_eq!(opener.checked().err(), Some(Fault::TagMismatch));
+        let mut opener = Opener::new(suite, key, &[9; 12], b"data", tag)?;
+        opener.check(body)?;
+        let mut opener = opener.checked()?;
+        opener.update(&mut [0; 1000])?;
+        assert_eq!(opener.finish(), Err(Fault::SourceChanged));
+    }
+    assert_eq!(Opener::new(Aes128GcmSiv, &[0; 16], &[0; 12], b"", &[0; 16]).err(), Some(Fault::UnknownSuite));
+    Ok(())
+}
+
 /// RFC 3394, 4.1.
 fn wrapping() -> Result<(), Fault> {
     let key: [u8; 16] = std::array::from_fn(|i| i as u8);
@@ -97,6 +135,7 @@ fn main() -> Result<(), Fault> {
     sealing()?;
     keys()?;
     pieces()?;
+    opening()?;
     wrapping()?;
     padded()
 }

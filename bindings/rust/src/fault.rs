@@ -23,6 +23,8 @@ pub enum Fault {
     WrapLength,
     /// The bytes are the wrapping of no text.
     WrapIntegrity,
+    /// The second pass of an opening is over other bytes than the first.
+    SourceChanged,
     /// The call does not take the suite.
     UnknownSuite,
 }
@@ -38,6 +40,7 @@ impl fmt::Display for Fault {
             Fault::TagMismatch => "the bytes are the sealing of no text under this suite, key, nonce and associated data",
             Fault::WrapLength => "the length is none of a text to wrap, or of a wrapping",
             Fault::WrapIntegrity => "the bytes are the wrapping of no text under this key",
+            Fault::SourceChanged => "the second pass is over other bytes than the first",
             Fault::UnknownSuite => "the call does not take the suite",
         })
     }
@@ -57,6 +60,7 @@ pub(crate) fn outcome(status: u32) -> Result<(), Fault> {
         6 => Err(Fault::TagMismatch),
         7 => Err(Fault::WrapLength),
         8 => Err(Fault::WrapIntegrity),
+        13 => Err(Fault::SourceChanged),
         14 => Err(Fault::UnknownSuite),
         other => unreachable!("{other} is no status of a known suite"),
     }

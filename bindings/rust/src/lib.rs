@@ -9,6 +9,7 @@
 
 mod fault;
 mod key;
+mod opener;
 #[allow(unsafe_code)]
 mod raw;
 mod sealer;
@@ -16,6 +17,7 @@ mod sealer;
 pub use fault::Fault;
 use fault::outcome;
 pub use key::Key;
+pub use opener::{CheckedOpener, Opener};
 pub use sealer::Sealer;
 
 /// The bytes of a tag: a sealing is as much longer than its text.

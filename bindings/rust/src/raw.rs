@@ -20,6 +20,14 @@ unsafe extern "C" {
                            nonce: *const u8, nonce_length: usize, aad: *const u8, aad_length: usize) -> u32;
     fn aeadkit_sealer_update(sealer: *mut Sealer, piece: *mut u8, piece_length: usize) -> u32;
     fn aeadkit_sealer_finish(sealer: *mut Sealer, tag: *mut [u8; 16]) -> u32;
+    #[rustfmt::skip]
+    fn aeadkit_opener_init(opener: *mut Opener, suite: u32, key: *const u8, key_length: usize,
+                           nonce: *const u8, nonce_length: usize, aad: *const u8, aad_length: usize,
+                           tag: *const [u8; 16]) -> u32;
+    fn aeadkit_opener_check(opener: *mut Opener, piece: *const u8, piece_length: usize) -> u32;
+    fn aeadkit_opener_checked(opener: *mut Opener) -> u32;
+    fn aeadkit_opener_update(opener: *mut Opener, piece: *mut u8, piece_length: usize) -> u32;
+    fn aeadkit_opener_finish(opener: *mut Opener) -> u32;
 }
 
 /// `struct aeadkit_sealer` of the header. It isn't copied: two copies would seal two texts with one nonce.
@@ -43,6 +51,39 @@ pub fn sealer_update(sealer: &mut Sealer, piece: &mut [u8]) -> u32 {
 pub fn sealer_finish(sealer: &mut Sealer, tag: &mut [u8; 16]) -> u32 {
     // SAFETY: as of `sealer_update`.
     unsafe { aeadkit_sealer_finish(sealer, tag) }
+}
+
+/// `struct aeadkit_opener` of the header.
+#[repr(C)]
+#[derive(Default)]
+pub struct Opener {
+    private: [u64; 25],
+}
+
+pub fn opener_init(opener: &mut Opener, suite: u32, key: &[u8], nonce: &[u8], aad: &[u8], tag: &[u8; 16]) -> u32 {
+    let (k, n, a) = (key.as_ptr(), nonce.as_ptr(), aad.as_ptr());
+    // SAFETY: as of `seal`, and the struct has the library's size.
+    unsafe { aeadkit_opener_init(opener, suite, k, key.len(), n, nonce.len(), a, aad.len(), tag) }
+}
+
+pub fn opener_check(opener: &mut Opener, piece: &[u8]) -> u32 {
+    // SAFETY: as of `opener_init`; any bytes of the struct are taken.
+    unsafe { aeadkit_opener_check(opener, piece.as_ptr(), piece.len()) }
+}
+
+pub fn opener_checked(opener: &mut Opener) -> u32 {
+    // SAFETY: as of `opener_check`.
+    unsafe { aeadkit_opener_checked(opener) }
+}
+
+pub fn opener_update(opener: &mut Opener, piece: &mut [u8]) -> u32 {
+    // SAFETY: as of `opener_check`.
+    unsafe { aeadkit_opener_update(opener, piece.as_mut_ptr(), piece.len()) }
+}
+
+pub fn opener_finish(opener: &mut Opener) -> u32 {
+    // SAFETY: as of `opener_check`.
+    unsafe { aeadkit_opener_finish(opener) }
 }
 
 pub fn seal(suite: u32, key: &[u8], nonce: &[u8], aad: &[u8], bytes: &mut [u8]) -> u32 {

@@ -1,13 +1,36 @@
--- Key lengths and marks of sealings that are stored as numbers.
-use Rattle.std.proofs.Common.{◌≡◌, ℕ, ◌-◌, ◌^◌, true, List, [], refl, ap, arith}
+-- What is known of sealings that are stored as numbers.
+use Rattle.std.proofs.Common.{◌≡◌, ℕ, ◌-◌, ◌*◌, ◌/◌, ◌^◌, true, List, [], ◌++◌, length, refl, sym, ap, subst}
+use Rattle.std.proofs.Common.{◌<◌, get_or, arith, inl, inr}
+use Rattle.std.proofs.lemmas.List.{append-nil, drop_all}
+use Rattle.octets.specs.Bytes.{pad16}
+use Rattle.aes.specs.Cipher.{IsKey, IsKeyLength}
 use Rattle.aead.specs.declared.suite.Suite.{Suite}
 use Rattle.aead.specs.declared.suite.Suite.TheVariants.{ChaCha20Poly1305, Aes128Gcm, Aes192Gcm, Aes256Gcm}
 use Rattle.aead.specs.declared.suite.Suite.TheVariants.{Aes128GcmSiv, Aes256GcmSiv}
+use Rattle.aead.specs.declared.exports.stored.StoredSum.{StoredSum}
 use Rattle.aead.specs.declared.exports.stored.StoredSealer.{StoredSealer}
 use Rattle.aead.specs.Suites.{Construction, ByChaCha, ByGcm, ByGcmSiv, construction_of, is_one_pass}
 use Rattle.aead.specs.Suites.{key_length, text_limit_by}
-use Rattle.aead.specs.Sealing.{Setting}
-use Rattle.aead.specs.Stored.{sealer_mark, HoldsTextOf}
+use Rattle.aead.specs.Sealing.{Setting, Fits, mask_of}
+use Rattle.aead.specs.Exports.{HasLengths}
+use Rattle.aead.specs.Code.Masks.{none_leaves}
+use Rattle.aead.specs.Stored.{sealer_mark, IsPolySum, IsGhashSum, HoldsBy, HoldsOf, HoldsBytes, HoldsText}
+use Rattle.aead.specs.Stored.{IsSumOf}
+use Rattle.aead.proofs.Fed.{whole_padded}
+
+-- a struct before any piece, with this sum
+abbrev pub restart : StoredSealer → StoredSum → StoredSealer
+restart p n = record {
+  mark = p.mark;
+  key = p.key;
+  nonce = p.nonce;
+  used = 0;
+  hash_key = p.hash_key;
+  rest = p.rest;
+  sum = n;
+  aad_length = p.aad_length;
+  length = 0;
+}
 
 -- neither construction of AES is that of ChaCha20-Poly1305: it has another limit
 not_chacha : ByGcm ≡ ByChaCha → ⊥
@@ -25,9 +48,87 @@ chacha_key_length Aes256Gcm e = refl
 chacha_key_length Aes128GcmSiv e = absurd (not_chacha_either e)
 chacha_key_length Aes256GcmSiv e = refl
 
--- a struct that holds a text has the mark of its suite
-pub marked : (by : Construction) (p : StoredSealer) (s : Setting) (text : List ℕ) → HoldsTextOf by p s text
-    → (is_one_pass (construction_of s.suite) ≡ true) × (p.mark ≡ sealer_mark s.suite)
-marked ByChaCha p s text h = ((h []).keys.one_pass, (h []).keys.mark_is)
-marked ByGcm p s text h = ((h []).keys.one_pass, (h []).keys.mark_is)
-marked ByGcmSiv p s text h = absurd h
+-- each key length is one of AES
+key_size : (suite : Suite) → IsKeyLength (key_length suite)
+key_size ChaCha20Poly1305 = inr (inr refl)
+key_size Aes128Gcm = inl refl
+key_size Aes192Gcm = inr (inl refl)
+key_size Aes256Gcm = inr (inr refl)
+key_size Aes128GcmSiv = inl refl
+key_size Aes256GcmSiv = inr (inr refl)
+
+-- so bytes of that length are a key of AES
+pub aes_key : (suite : Suite) (key : List ℕ) → length key ≡ key_length suite → ((i : ℕ) → get_or key i 0 < 256)
+    → IsKey key
+aes_key suite key long bytes = record {
+  length_is = subst IsKeyLength (sym long) (key_size suite);
+  bytes = bytes;
+}
+
+-- what a struct that holds a ciphertext is known by, whatever its hash
+pub record Held (p : StoredSealer) (s : Setting) (bytes : List ℕ) : Type 0 where
+  pub one_pass : is_one_pass (construction_of s.suite) ≡ true
+  pub mark_is : p.mark ≡ sealer_mark s.suite
+  pub lengths : HasLengths s
+  pub length_is : p.length ≡ length bytes
+  pub fits : Fits s bytes
+
+held_by : (by : Construction) (keyed : List ℕ → Setting → Type 0) (summed : StoredSum → Setting → List ℕ → Type 0)
+    (p : StoredSealer) (s : Setting) (bytes : List ℕ) → HoldsBy by keyed summed p s bytes → Held p s bytes
+held_by by keyed summed p s bytes h = record {
+  one_pass = h.keys.one_pass;
+  mark_is = h.keys.mark_is;
+  lengths = h.keys.lengths;
+  length_is = h.length_is;
+  fits = h.fits;
+}
+
+pub held : (by : Construction) (p : StoredSealer) (s : Setting) (bytes : List ℕ) → HoldsOf by p s bytes
+    → Held p s bytes
+held ByChaCha p s bytes h = held_by _ _ _ p s bytes h
+held ByGcm p s bytes h = held_by _ _ _ p s bytes h
+held ByGcmSiv p s bytes h = absurd h
+
+-- the empty ciphertext is that of the empty text
+pub holds_none : (p : StoredSealer) (s : Setting) → HoldsBytes p s [] → HoldsText p s []
+holds_none p s h = λ tag. subst (HoldsBytes p s) (sym (none_leaves (mask_of s tag))) h
+
+-- the sum over the padded associated data is that of the empty ciphertext
+pub start_of : (by : Construction) (p : StoredSealer) (s : Setting) → HoldsOf by p s []
+    → IsSumOf by p.sum s (pad16 s.aad)
+start_of ByChaCha p s h = subst (IsPolySum p.sum s) (append-nil (pad16 s.aad)) h.sum_is
+start_of ByGcm p s h = subst (IsGhashSum p.sum s) (append-nil (pad16 s.aad)) h.sum_is
+start_of ByGcmSiv p s h = absurd h
+
+-- with that sum, a struct holds no bytes again
+restarted_by : (by : Construction) (keyed : List ℕ → Setting → Type 0)
+    (summed : StoredSum → Setting → List ℕ → Type 0) (p : StoredSealer) (n : StoredSum) (s : Setting)
+    (bytes : List ℕ) → HoldsBy by keyed summed p s bytes → summed n s (pad16 s.aad)
+    → HoldsBy by keyed summed (restart p n) s []
+restarted_by by keyed summed p n s bytes h start =
+    let none : pad16 s.aad ++ [] ≡ pad16 s.aad = append-nil (pad16 s.aad) in
+    let whole : length (pad16 s.aad ++ []) / 16 * 16 ≡ length (pad16 s.aad ++ []) =
+    omega (arith, ap length none, whole_padded s.aad) in
+    record {
+      keys = record {
+        by_is = h.keys.by_is;
+        one_pass = h.keys.one_pass;
+        mark_is = h.keys.mark_is;
+        lengths = h.keys.lengths;
+        key_is = h.keys.key_is;
+        nonce_is = h.keys.nonce_is;
+        hash_key_is = h.keys.hash_key_is;
+      };
+      sum_is = subst (summed n s) (sym none) start;
+      used_small = omega arith;
+      rest_is = sym (drop_all _ (pad16 s.aad ++ []) (omega (arith, whole)));
+      aad_length_is = h.aad_length_is;
+      length_is = refl;
+      fits = record { aad_fits = h.fits.aad_fits; text_fits = omega arith };
+    }
+
+pub restarted : (by : Construction) (p : StoredSealer) (n : StoredSum) (s : Setting) (bytes : List ℕ)
+    → HoldsOf by p s bytes → IsSumOf by n s (pad16 s.aad) → HoldsOf by (restart p n) s []
+restarted ByChaCha p n s bytes h start = restarted_by _ _ _ p n s bytes h start
+restarted ByGcm p n s bytes h start = restarted_by _ _ _ p n s bytes h start
+restarted ByGcmSiv p n s bytes h start = absurd h

@@ -10,3 +10,4 @@ pub mod Extents
 pub mod Findings
 pub mod Passes
 pub mod Told
+pub mod Steps

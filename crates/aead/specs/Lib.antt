@@ -12,4 +12,5 @@ pub mod SealStream
 pub mod SealSivStream
 pub mod Exports
 pub mod Stored
+pub mod StoredOpener
 pub mod Code

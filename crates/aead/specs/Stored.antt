@@ -30,6 +30,10 @@ NotBegun p = (suite : Suite) → is_one_pass (construction_of suite) ≡ true �
 abbrev pub not_begun : ℕ
 not_begun = 15
 
+-- the sum of zeros
+abbrev pub zero_sum : StoredSum
+zero_sum = record { low = 0; middle = 0; high = 0 }
+
 -- the struct of zeros
 abbrev pub zeros : StoredSealer
 zeros = record {
@@ -39,7 +43,7 @@ zeros = record {
   used = 0;
   hash_key = replicate 32 0;
   rest = replicate 16 0;
-  sum = record { low = 0; middle = 0; high = 0 };
+  sum = zero_sum;
   aad_length = 0;
   length = 0;
 }
@@ -88,21 +92,29 @@ pub record HoldsBy (by : Construction) (keyed : List ℕ → Setting → Type 0)
   pub length_is : p.length ≡ length bytes
   pub fits : Fits s bytes
 
--- p holds this text, by such a hash
-abbrev pub HoldsTextBy : Construction → (List ℕ → Setting → Type 0) → (StoredSum → Setting → List ℕ → Type 0)
-    → StoredSealer → Setting → List ℕ → Type 0
-HoldsTextBy by keyed summed p s text =
-    (tag : List ℕ) → HoldsBy by keyed summed p s (masked (mask_of s tag) 0 text)
+-- p holds this ciphertext, by the hash of a construction
+abbrev pub HoldsOf : Construction → StoredSealer → Setting → List ℕ → Type 0
+HoldsOf ByChaCha p s bytes = HoldsBy ByChaCha IsPolyKey IsPolySum p s bytes
+HoldsOf ByGcm p s bytes = HoldsBy ByGcm IsGhashKey IsGhashSum p s bytes
+HoldsOf ByGcmSiv p s bytes = ⊥
 
--- p holds this text, by the hash of a construction
-abbrev pub HoldsTextOf : Construction → StoredSealer → Setting → List ℕ → Type 0
-HoldsTextOf ByChaCha p s text = HoldsTextBy ByChaCha IsPolyKey IsPolySum p s text
-HoldsTextOf ByGcm p s text = HoldsTextBy ByGcm IsGhashKey IsGhashSum p s text
-HoldsTextOf ByGcmSiv p s text = ⊥
+-- p holds this ciphertext
+abbrev pub HoldsBytes : StoredSealer → Setting → List ℕ → Type 0
+HoldsBytes p s bytes = HoldsOf (construction_of s.suite) p s bytes
 
 -- p holds this text
 abbrev pub HoldsText : StoredSealer → Setting → List ℕ → Type 0
-HoldsText p s text = HoldsTextOf (construction_of s.suite) p s text
+HoldsText p s text = (tag : List ℕ) → HoldsBytes p s (masked (mask_of s tag) 0 text)
+
+-- n is the sum over the whole blocks of m, by the hash of a construction
+abbrev pub IsSumOf : Construction → StoredSum → Setting → List ℕ → Type 0
+IsSumOf ByChaCha n s m = IsPolySum n s m
+IsSumOf ByGcm n s m = IsGhashSum n s m
+IsSumOf ByGcmSiv n s m = ⊥
+
+-- n is the sum over the padded associated data
+abbrev pub HasStart : StoredSum → Setting → Type 0
+HasStart n s = IsSumOf (construction_of s.suite) n s (pad16 s.aad)
 
 -- ---- what the calls come to
 

@@ -16,6 +16,8 @@ use crate::suite::Suite;
 use aes::AesKey;
 use octets::{Fault, Key32, Nonce, Tag, outcome_number};
 
+mod opener;
+mod pass;
 mod sealer;
 mod stored;
 

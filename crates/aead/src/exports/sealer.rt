@@ -1,85 +1,35 @@
 // A sealing in pieces at C, under the suites whose tag is over the ciphertext.
 
-ghost use Rattle.std.specs.Prelude.{◌≡◌, ◌≢◌, ◌↔◌, ◌≤◌, ◌++◌, ℕ, List, [], length, true, false, MatchResult};
+ghost use Rattle.std.specs.Prelude.{◌≡◌, ◌≢◌, ◌≤◌, ◌++◌, ℕ, List, [], length, true, MatchResult};
 ghost use Rattle.octets.specs.Numbers.{HasOutcome};
 ghost use Rattle.aead.specs.declared.suite.Suite.{Suite};
-ghost use Rattle.aead.specs.Suites.{ByChaCha, ByGcm, construction_of, is_one_pass, key_length, aad_limit};
+ghost use Rattle.aead.specs.Suites.{construction_of, is_one_pass, key_length, aad_limit};
 ghost use Rattle.aead.specs.Sealing.{Setting, tag_of};
 ghost use Rattle.aead.specs.Exports.{suite_number, unknown_suite, setting_of};
-ghost use Rattle.aead.specs.Stored.{sealer_mark, zeros, NotBegun, not_begun, BeginRefused};
-ghost use Rattle.aead.specs.Stored.{HoldsBy, HoldsTextBy, HoldsTextOf, HoldsText, Updates};
+ghost use Rattle.aead.specs.Stored.{zeros, NotBegun, not_begun, BeginRefused};
+ghost use Rattle.aead.specs.Stored.{HoldsBy, HoldsBytes, HoldsText, Updates};
 
 use super::UNKNOWN_SUITE;
+use super::pass::{is_chacha, mark_of, mask_piece, one_pass_marked, one_pass_numbered, pass_tag};
 use super::stored::{StoredHash, StoredSealer};
 use crate::authenticator::Authenticator;
+use crate::beside::MaskFirst;
 use crate::chacha_poly::first_half;
 use crate::derived_keys::joined_blocks;
-use crate::gcm::{LONG, SHORT, counter_block};
+use crate::gcm::counter_block;
 use crate::hashes::GhashTag;
 use crate::suite::Suite;
 use aes::AesKey;
 use chacha::block;
-use gf128::{PlacedMul, TableMul, WideMul};
-use octets::{Block, Fault, Key32, Nonce, Tag, outcome_number};
+use gf128::PlacedMul;
+use octets::{Block, Fault, Key32, Nonce, outcome_number};
 use poly1305::Poly;
 
 // The status of a call at C on a struct that holds no sealing.
-const NOT_BEGUN: u32 = 15;
+pub(super) const NOT_BEGUN: u32 = 15;
 
-// The suite of a number, if its tag is over the ciphertext.
-fn one_pass_numbered(number: u32) -> Option<Suite>
-    ensures { (suite : Suite) → (result ≡ Some suite)
-        ↔ (is_one_pass (construction_of suite) ≡ true × (number ≡ suite_number suite)) }
-{
-    match number {
-        1 => Some(Suite::ChaCha20Poly1305),
-        2 => Some(Suite::Aes128Gcm),
-        3 => Some(Suite::Aes192Gcm),
-        4 => Some(Suite::Aes256Gcm),
-        _ => None,
-    }
-}
-
-// The mark of a sealing under a suite.
-fn sealer_mark(suite: Suite) -> u64
-    ensures { result ≡ sealer_mark suite }
-{
-    match suite {
-        Suite::ChaCha20Poly1305 => 0x7365_616c_6572_0101,
-        Suite::Aes128Gcm => 0x7365_616c_6572_0102,
-        Suite::Aes192Gcm => 0x7365_616c_6572_0103,
-        Suite::Aes256Gcm => 0x7365_616c_6572_0104,
-        Suite::Aes128GcmSiv => 0x7365_616c_6572_0105,
-        Suite::Aes256GcmSiv => 0x7365_616c_6572_0106,
-    }
-}
-
-// The suite of a mark, if its tag is over the ciphertext.
-fn one_pass_marked(mark: u64) -> Option<Suite>
-    ensures { (suite : Suite) → (result ≡ Some suite)
-        ↔ (is_one_pass (construction_of suite) ≡ true × (mark ≡ sealer_mark suite)) }
-{
-    match mark {
-        0x7365_616c_6572_0101 => Some(Suite::ChaCha20Poly1305),
-        0x7365_616c_6572_0102 => Some(Suite::Aes128Gcm),
-        0x7365_616c_6572_0103 => Some(Suite::Aes192Gcm),
-        0x7365_616c_6572_0104 => Some(Suite::Aes256Gcm),
-        _ => None,
-    }
-}
-
-// Whether a suite is ChaCha20-Poly1305.
-fn is_chacha(suite: Suite) -> bool
-    requires { is_one_pass (construction_of suite) ≡ true }
-    ensures yes { result ≡ true → construction_of suite ≡ ByChaCha }
-    ensures no { result ≡ false → construction_of suite ≡ ByGcm }
-{
-    match suite {
-        Suite::ChaCha20Poly1305 => true,
-        Suite::Aes128Gcm | Suite::Aes192Gcm | Suite::Aes256Gcm => false,
-        Suite::Aes128GcmSiv | Suite::Aes256GcmSiv => false,
-    }
-}
+// The kind of struct, to which its mark adds the suite's number: `sealer` in ASCII, and the version of its layout.
+const SEALER: u64 = 0x7365_616c_6572_0100;
 
 // ---- init
 
@@ -100,7 +50,7 @@ fn begun_by<H: StoredHash>(
     let mut padded = [0; 32];
     padded[..key.len()].copy_from_slice(key);
     let mut keys = StoredSealer::zeros();
-    keys.mark = sealer_mark(suite);
+    keys.mark = mark_of(SEALER, suite);
     keys.key = padded;
     keys.nonce = *nonce.bytes();
     keys.hash_key = hash_key;
@@ -108,10 +58,15 @@ fn begun_by<H: StoredHash>(
 }
 
 // The numbers of the empty text under the bytes of a key and a nonce.
-fn begun(suite: Suite, key: &[u8], nonce: &[u8], aad: &[u8]) -> Result<StoredSealer, Fault>
+pub(super) fn begun(
+    suite: Suite,
+    key: &[u8],
+    nonce: &[u8],
+    aad: &[u8],
+) -> Result<StoredSealer, Fault>
     requires { is_one_pass (construction_of suite) ≡ true }
     ensures { let s = setting_of suite key.now nonce.now aad.now in
-        MatchResult result (λ p. HoldsText p s []) (BeginRefused s) }
+        MatchResult result (λ p. HoldsBytes p s []) (BeginRefused s) }
 {
     if key.len() != suite.key_length() {
         return Err(Fault::KeyLength);
@@ -147,7 +102,7 @@ pub extern "C" fn aeadkit_sealer_init(
     ensures refused { result ≢ 0 → sealer.new ≡ zeros }
 {
     sealer.erase();
-    let Some(suite) = one_pass_numbered(suite) else {
+    let Some(suite) = one_pass_numbered(u64::from(suite)) else {
         return UNKNOWN_SUITE;
     };
     match begun(suite, key, nonce, aad) {
@@ -161,40 +116,6 @@ pub extern "C" fn aeadkit_sealer_init(
 
 // ---- update
 
-// Adds a piece by a hash.
-#[inline(never)]
-fn update_by<H: StoredHash>(sealer: &mut StoredSealer, suite: Suite, piece: &mut [u8]) -> u32
-    ensures holds { (s : Setting) (text : List ℕ) → s.suite ≡ suite
-        → Updates (HoldsTextBy H.by H.keyed H.summed)
-        sealer.old sealer.new piece.old piece.new result s text }
-    ensures kept { result ≢ 0 → (sealer.new ≡ sealer.old) × (piece.new ≡ piece.old) }
-{
-    let Some(mut masking) = sealer.resumed::<H>(suite) else {
-        return NOT_BEGUN;
-    };
-    if piece.len() as u64 > masking.room() {
-        return outcome_number(Err(Fault::TextTooLong));
-    }
-    masking.update(piece);
-    *sealer = sealer.storing(&masking.authenticator);
-    outcome_number(Ok(()))
-}
-
-// Adds a piece under AES-GCM, by the multiplier that its length is worth.
-fn update_gcm(sealer: &mut StoredSealer, suite: Suite, piece: &mut [u8]) -> u32
-    ensures holds { (s : Setting) (text : List ℕ) → s.suite ≡ suite → Updates (HoldsTextOf ByGcm)
-        sealer.old sealer.new piece.old piece.new result s text }
-    ensures kept { result ≢ 0 → (sealer.new ≡ sealer.old) × (piece.new ≡ piece.old) }
-{
-    if piece.len() < SHORT {
-        update_by::<GhashTag<TableMul>>(sealer, suite, piece)
-    } else if piece.len() < LONG {
-        update_by::<GhashTag<PlacedMul>>(sealer, suite, piece)
-    } else {
-        update_by::<GhashTag<WideMul>>(sealer, suite, piece)
-    }
-}
-
 /// Adds a piece to the text, and leaves its ciphertext in its place.
 #[unsafe(no_mangle)]
 pub extern "C" fn aeadkit_sealer_update(sealer: &mut StoredSealer, piece: &mut [u8]) -> u32
@@ -203,45 +124,17 @@ pub extern "C" fn aeadkit_sealer_update(sealer: &mut StoredSealer, piece: &mut [
     ensures not_begun { NotBegun sealer.old → result ≡ not_begun }
     ensures kept { result ≢ 0 → (sealer.new ≡ sealer.old) × (piece.new ≡ piece.old) }
 {
-    let Some(suite) = one_pass_marked(sealer.mark) else {
+    let Some(suite) = one_pass_marked(SEALER, sealer.mark) else {
         return NOT_BEGUN;
     };
-    if is_chacha(suite) {
-        update_by::<Poly>(sealer, suite, piece)
+    if mask_piece(sealer, suite, &MaskFirst, suite.text_limit(), piece) {
+        outcome_number(Ok(()))
     } else {
-        update_gcm(sealer, suite, piece)
+        outcome_number(Err(Fault::TextTooLong))
     }
 }
 
 // ---- finish
-
-// The tag of the text, by a hash.
-#[inline(never)]
-fn tag_by<H: StoredHash>(sealer: &StoredSealer, suite: Suite) -> Option<Tag>
-    ensures { (s : Setting) (text : List ℕ) → s.suite ≡ suite
-        → HoldsTextBy H.by H.keyed H.summed sealer.now s text → result ≡ Some (tag_of s text) }
-{
-    match sealer.resumed::<H>(suite) {
-        Some(masking) => Some(masking.finish()),
-        None => None,
-    }
-}
-
-// The tag of the text that a struct holds.
-fn stored_tag(sealer: &StoredSealer) -> Option<Tag>
-    ensures holds { (s : Setting) (text : List ℕ) → HoldsText sealer.now s text
-        → result ≡ Some (tag_of s text) }
-    ensures not_begun { NotBegun sealer.now → result ≡ None }
-{
-    let Some(suite) = one_pass_marked(sealer.mark) else {
-        return None;
-    };
-    if is_chacha(suite) {
-        tag_by::<Poly>(sealer, suite)
-    } else {
-        tag_by::<GhashTag<TableMul>>(sealer, suite)
-    }
-}
 
 /// Gives the tag of the text, and leaves zeros in the struct.
 #[unsafe(no_mangle)]
@@ -252,10 +145,10 @@ pub extern "C" fn aeadkit_sealer_finish(sealer: &mut StoredSealer, tag: &mut [u8
     ensures done { result ≡ 0 → sealer.new ≡ zeros }
     ensures kept { result ≢ 0 → (sealer.new ≡ sealer.old) × (tag.new ≡ tag.old) }
 {
-    let Some(found) = stored_tag(sealer) else {
+    let Some(suite) = one_pass_marked(SEALER, sealer.mark) else {
         return NOT_BEGUN;
     };
-    *tag = *found.bytes();
+    *tag = *pass_tag(sealer, suite).bytes();
     sealer.erase();
     0
 }

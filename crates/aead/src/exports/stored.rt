@@ -1,22 +1,18 @@
-// A sealing in pieces, stored as plain numbers in the memory of a caller in C.
+// A sealing or an opening in pieces, stored as plain numbers in the memory of a caller in C.
 
 ghost use Rattle.std.specs.Prelude.{◌≡◌, ◌+◌, ◌*◌, ◌-◌, ◌/◌, ◌^◌, ◌<◌, ◌≤◌, ℕ, List, [], length, take, drop};
-ghost use Rattle.std.specs.Prelude.{◌++◌, MatchOption};
+ghost use Rattle.std.specs.Prelude.{◌++◌, true, false};
 ghost use Rattle.aead.specs.Suites.{Construction, ByChaCha, ByGcm, construction_of, key_length};
 ghost use Rattle.aead.specs.Sealing.{Setting};
 ghost use Rattle.aead.specs.Code.States.{HoldsAuthenticator};
-ghost use Rattle.aead.specs.Code.Masks.{as_it_leaves};
-ghost use Rattle.aead.specs.Code.Maskings.{HoldsMasking, message_task};
-ghost use Rattle.aead.specs.Stored.{zeros, IsPolyKey, IsPolySum, IsGhashKey, IsGhashSum, HasKeys, HoldsBy};
-ghost use Rattle.aead.specs.Stored.{HoldsTextBy};
+ghost use Rattle.aead.specs.Stored.{zero_sum, zeros, IsPolyKey, IsPolySum, IsGhashKey, IsGhashSum, HasKeys};
+ghost use Rattle.aead.specs.Stored.{HoldsBy, HoldsBytes, HasStart};
 
 use crate::authenticator::Authenticator;
-use crate::beside::MaskFirst;
 use crate::derived_keys::expanded;
 use crate::gcm::counter_block;
 use crate::hashes::{GhashTag, TagHash};
 use crate::mask::MaskStream;
-use crate::masking::Masking;
 use crate::suite::Suite;
 use aes::CtrBe;
 use chacha::ChaStream;
@@ -34,6 +30,19 @@ pub struct StoredSum {
     low: u64,
     middle: u64,
     high: u64,
+}
+
+impl StoredSum {
+    // All zeros.
+    pub(super) fn zeros() -> StoredSum
+        ensures { result ≡ zero_sum }
+    {
+        StoredSum {
+            low: 0,
+            middle: 0,
+            high: 0,
+        }
+    }
 }
 
 /// A sealing in pieces. Each number may have any value: a call reads them with checks, and makes again what
@@ -69,11 +78,7 @@ impl StoredSealer {
             used: 0,
             hash_key: [0; 32],
             rest: [0; 16],
-            sum: StoredSum {
-                low: 0,
-                middle: 0,
-                high: 0,
-            },
+            sum: StoredSum::zeros(),
             aad_length: 0,
             length: 0,
         }
@@ -109,32 +114,39 @@ impl StoredSealer {
         }
     }
 
-    // The state that the numbers store, under a suite.
+    // What was taken in.
     #[inline(always)]
-    pub(super) fn resumed<H: StoredHash>(
-        &self,
-        suite: Suite,
-    ) -> Option<Masking<H::Stream, H, MaskFirst>>
-        ensures { (s : Setting) (text : List ℕ) → s.suite ≡ suite
-            → HoldsTextBy H.by H.keyed H.summed self.now s text
-            → MatchOption result ⊥
-            (λ m. (tag : List ℕ) → HoldsMasking H.Stream.made H.held as_it_leaves m (message_task s tag) text) }
+    pub(super) fn taken<H: StoredHash>(&self) -> Authenticator<H>
+        ensures holds { (s : Setting) (bytes : List ℕ) → HoldsBy H.by H.keyed H.summed self.now s bytes
+            → HoldsAuthenticator H.held result s bytes }
+        ensures length { result.length ≡ self.now.length }
     {
-        let limit = suite.text_limit();
-        if self.length > limit {
-            return None;
-        }
         let used = (self.used % 16) as usize;
-        Some(Masking {
-            mask: H::mask(suite, &self.key, &Nonce::new(self.nonce), self.length),
-            authenticator: Authenticator {
-                hash: H::resumed(&self.hash_key, self.sum, &self.rest[..used]),
-                aad_length: self.aad_length,
-                length: self.length,
-            },
-            order: MaskFirst,
-            limit,
-        })
+        Authenticator {
+            hash: H::resumed(&self.hash_key, self.sum, &self.rest[..used]),
+            aad_length: self.aad_length,
+            length: self.length,
+        }
+    }
+
+    // Whether a piece after what was taken in is within a limit.
+    pub(super) fn has_room(&self, limit: u64, piece: &[u8]) -> bool
+        ensures fits { result ≡ true → self.now.length + length piece.now ≤ limit }
+        ensures past { result ≡ false → limit < self.now.length + length piece.now }
+    {
+        self.length <= limit && piece.len() as u64 <= limit - self.length
+    }
+
+    // The numbers of no bytes after the same associated data, of which this is the sum.
+    pub(super) fn restarted(&self, start: StoredSum) -> StoredSealer
+        ensures { (s : Setting) (bytes : List ℕ) → HoldsBytes self.now s bytes
+            → HasStart start s → HoldsBytes result s [] }
+    {
+        let mut state = *self;
+        state.used = 0;
+        state.sum = start;
+        state.length = 0;
+        state
     }
 }
 

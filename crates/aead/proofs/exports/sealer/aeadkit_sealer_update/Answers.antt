@@ -1,31 +1,51 @@
-use Rattle.std.proofs.Common.{◌≡◌, ◌∙◌, sym, subst, ap}
+use Rattle.std.proofs.Common.{◌≡◌, ◌∙◌, [], sym, ap, arith, length, length-append, Ok, Err}
 use Rattle.std.proofs.lemmas.Option.{none-some, same_Some}
-use Rattle.aead.specs.Suites.{ByChaCha, ByGcm, construction_of}
-use Rattle.aead.specs.Stored.{HoldsTextOf, Updates}
-use Rattle.aead.proofs.Stored.{marked}
+use Rattle.octets.specs.declared.fault.Fault.TheVariants.{TextTooLong}
+use Rattle.octets.proofs.Masks.{length-masked}
+use Rattle.aead.specs.Suites.{construction_of, text_limit}
+use Rattle.aead.specs.Sealing.{mask_of}
+use Rattle.aead.proofs.Stored.{held}
 use Rattle.aead.proofs.exports.sealer.aeadkit_sealer_update.Goals as goal
 
-pub returns-then-is_chacha-clause-holds : goal.returns-then-is_chacha-clause-holds
-returns-then-is_chacha-clause-holds c = λ s text h.
-    let m = marked (construction_of s.suite) c.args.sealer.now s text h in
-    let same : c.in-Some.suite ≡ s.suite = same_Some _ _ ((c.in-Some.ensures s.suite).1 m) in
-    let by : construction_of s.suite ≡ ByChaCha =
-    ap construction_of (sym same) ∙ c.is_chacha.ensures.yes c.if-is_chacha.true in
-    subst (λ x. Updates (HoldsTextOf x) c.args.sealer.now c.update_by.new.sealer c.args.piece.now
-    c.update_by.new.piece c.update_by.result s text) (sym by)
-    (c.update_by.ensures.holds s text (sym same)) h
+pub returns-then-mask_piece-clause-holds : goal.returns-then-mask_piece-clause-holds
+returns-then-mask_piece-clause-holds c = λ s text h.
+    let f = held (construction_of s.suite) _ s _ (h []) in
+    let same : c.in-Some.suite ≡ s.suite = same_Some _ _ ((c.in-Some.ensures s.suite).1 (f.one_pass, f.mark_is)) in
+    let long : c.args.sealer.now.length ≡ length text = f.length_is ∙ length-masked (mask_of s []) 0 text in
+    let m = c.mask_piece.ensures.masks s in (
+      Ok tt,
+      (
+        c.outcome_number.ensures,
+        (
+          λ tag. (m tag text (sym same) c.if-mask_piece.true long (h tag)).0,
+          λ tag. (m tag text (sym same) c.if-mask_piece.true long (h tag)).1,
+        ),
+      ),
+    )
 
-pub returns-else-is_chacha-clause-holds : goal.returns-else-is_chacha-clause-holds
-returns-else-is_chacha-clause-holds c = λ s text h.
-    let m = marked (construction_of s.suite) c.args.sealer.now s text h in
-    let same : c.in-Some.suite ≡ s.suite = same_Some _ _ ((c.in-Some.ensures s.suite).1 m) in
-    let by : construction_of s.suite ≡ ByGcm =
-    ap construction_of (sym same) ∙ c.is_chacha.ensures.no c.if-is_chacha.false in
-    subst (λ x. Updates (HoldsTextOf x) c.args.sealer.now c.update_gcm.new.sealer c.args.piece.now
-    c.update_gcm.new.piece c.update_gcm.result s text) (sym by)
-    (c.update_gcm.ensures.holds s text (sym same)) h
+pub returns-else-mask_piece-clause-holds : goal.returns-else-mask_piece-clause-holds
+returns-else-mask_piece-clause-holds c = λ s text h.
+    let f = held (construction_of s.suite) _ s _ (h []) in
+    let same : c.in-Some.suite ≡ s.suite = same_Some _ _ ((c.in-Some.ensures s.suite).1 (f.one_pass, f.mark_is)) in
+    let limit : c.text_limit.result ≡ text_limit s.suite = c.text_limit.ensures ∙ ap text_limit same in (
+      Err TextTooLong,
+      (
+        c.outcome_number-else-mask_piece.ensures,
+        (
+          f.fits.aad_fits,
+          omega (
+            arith,
+            length-append text c.args.piece.now,
+            f.length_is,
+            length-masked (mask_of s []) 0 text,
+            limit,
+            c.mask_piece.ensures.past c.if-mask_piece.false,
+          ),
+        ),
+      ),
+    )
 
 pub returns-in_default-clause-holds : goal.returns-in_default-clause-holds
 returns-in_default-clause-holds c = λ s text h.
-    absurd (none-some s.suite ((c.in_default.ensures s.suite).1
-    (marked (construction_of s.suite) c.args.sealer.now s text h)))
+    let f = held (construction_of s.suite) _ s _ (h []) in
+    absurd (none-some s.suite ((c.in_default.ensures s.suite).1 (f.one_pass, f.mark_is)))

@@ -2,11 +2,10 @@ use Rattle.std.proofs.Common.{◌≡◌, ℕ, List, [], sym, subst, ap, ap₂, t
 use Rattle.std.proofs.lemmas.List.{take_at, drop_at}
 use Rattle.chacha.specs.Block as chacha
 use Rattle.aes.specs.Cipher.{cipher}
-use Rattle.aead.specs.Suites.{Construction, ByChaCha, ByGcm}
-use Rattle.aead.specs.Sealing.{Setting, mask_of, poly_key, hash_key, j0}
-use Rattle.aead.specs.Code.Masks.{none_leaves}
+use Rattle.aead.specs.Suites.{Construction}
+use Rattle.aead.specs.Sealing.{Setting, poly_key, hash_key, j0}
 use Rattle.aead.specs.Exports.{setting_of}
-use Rattle.aead.specs.Stored.{HoldsText, HoldsTextOf, HoldsBy, IsPolyKey, IsPolySum, IsGhashKey, IsGhashSum}
+use Rattle.aead.specs.Stored.{HoldsBytes, HoldsOf, IsPolyKey, IsGhashKey}
 use Rattle.aead.proofs.exports.sealer.begun.Goals as goal
 
 pub returns-then-is_chacha : goal.returns-then-is_chacha
@@ -21,11 +20,9 @@ returns-then-is_chacha c =
     c.first_half-one_time.ensures ∙ ap (take 32) (c.block.ensures.value
     ∙ ap (λ k. chacha.block k 0 nonce) c.in_ok-cipher.ensures.0) in
     let held = c.begun_by.ensures by c.requires c.in_ok-check_aad.ensures keyed in
-    let P : Construction → Type 0 = λ x. HoldsTextOf x p s [] in
-    let Q : List ℕ → Type 0 = λ n. HoldsText p (setting_of c.args.suite key n c.args.aad.now) [] in
-    subst Q c.in_ok-nonce.ensures.0 (subst P (sym by) (λ tag.
-    let R : List ℕ → Type 0 = λ x. HoldsBy ByChaCha IsPolyKey IsPolySum p s x in
-    subst R (sym (none_leaves (mask_of s tag))) held))
+    let P : Construction → Type 0 = λ x. HoldsOf x p s [] in
+    let Q : List ℕ → Type 0 = λ n. HoldsBytes p (setting_of c.args.suite key n c.args.aad.now) [] in
+    subst Q c.in_ok-nonce.ensures.0 (subst P (sym by) held)
 
 pub returns : goal.returns
 unfolding hash_key j0
@@ -49,8 +46,6 @@ returns c =
       ap (drop 16) c.joined_blocks-keys.ensures ∙ drop_at first second 16 long ∙ mask,
     ) in
     let held = c.begun_by-2.ensures by c.requires c.in_ok-check_aad.ensures keyed in
-    let P : Construction → Type 0 = λ x. HoldsTextOf x p s [] in
-    let Q : List ℕ → Type 0 = λ n. HoldsText p (setting_of c.args.suite key n c.args.aad.now) [] in
-    subst Q c.in_ok-nonce.ensures.0 (subst P (sym by) (λ tag.
-    let R : List ℕ → Type 0 = λ x. HoldsBy ByGcm IsGhashKey IsGhashSum p s x in
-    subst R (sym (none_leaves (mask_of s tag))) held))
+    let P : Construction → Type 0 = λ x. HoldsOf x p s [] in
+    let Q : List ℕ → Type 0 = λ n. HoldsBytes p (setting_of c.args.suite key n c.args.aad.now) [] in
+    subst Q c.in_ok-nonce.ensures.0 (subst P (sym by) held)

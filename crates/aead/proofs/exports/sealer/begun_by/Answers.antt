@@ -11,7 +11,7 @@ returns g c = λ by one fits keyed.
     c.storing.ensures s [] (record {
       by_is = by;
       one_pass = one;
-      mark_is = c.sealer_mark.ensures;
+      mark_is = c.mark_of.ensures;
       lengths = record { key_fits = c.requires; nonce_fits = omega (arith, ap length c.bytes.ensures.value) };
       key_is = take-put_mid 0 (length c.args.key.now) (replicate 32 0) c.copy_from_slice.new.self
           (key_length c.args.suite) (omega (arith, ap length after, c.requires)) (omega arith) ∙ after;

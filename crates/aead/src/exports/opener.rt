@@ -1,0 +1,331 @@
+// An opening in pieces at C, under the suites whose tag is over the ciphertext: a first pass over the ciphertext
+// gives nothing, and only after it was found to be a sealing a second pass decrypts.
+
+ghost use Rattle.std.specs.Prelude.{◌≡◌, ◌≢◌, ◌++◌, ℕ, List, [], true, false};
+ghost use Rattle.octets.specs.Numbers.{HasOutcome};
+ghost use Rattle.aead.specs.declared.suite.Suite.{Suite};
+ghost use Rattle.aead.specs.Suites.{construction_of, is_one_pass};
+ghost use Rattle.aead.specs.Sealing.{Setting, Opened, IsNoSealing};
+ghost use Rattle.aead.specs.Exports.{suite_number, unknown_suite, setting_of};
+ghost use Rattle.aead.specs.Stored.{not_begun, BeginRefused};
+ghost use Rattle.aead.specs.StoredOpener.{checking, opening, zeros, NotIn, HoldsPass, HoldsChecking};
+ghost use Rattle.aead.specs.StoredOpener.{Checks, Opens, Checked, Decrypts, Ends};
+
+use super::UNKNOWN_SUITE;
+use super::pass::{mark_of, mask_piece, one_pass_marked, one_pass_numbered, pass_tag, take_piece};
+use super::sealer::{NOT_BEGUN, begun};
+use super::stored::{StoredSealer, StoredSum};
+use crate::beside::HashFirst;
+use crate::suite::Suite;
+use octets::{Fault, outcome_number, same};
+
+// The kind of struct in the first pass, to which its mark adds the suite's number: `opener` in ASCII, and the
+// version of its layout.
+const CHECKING: u64 = 0x6f70_656e_6572_0100;
+
+// The kind of struct in the second pass: `opened`.
+const OPENING: u64 = 0x6f70_656e_6564_0100;
+
+/// An opening in pieces. Each number may have any value: a call reads them with checks, and makes again what
+/// carries a fact.
+#[repr(C)]
+#[derive(Clone, Copy)]
+pub struct StoredOpener {
+    // The kind of struct, its pass, the version of its layout and the suite; anything else if no opening is
+    // begun.
+    mark: u64,
+    // What the pass has taken in.
+    state: StoredSealer,
+    // The hash's sum over the padded associated data, with which each pass begins.
+    start: StoredSum,
+    tag: [u8; 16],
+    // In the second pass, the bytes that the first one took in.
+    checked: u64,
+}
+
+impl StoredOpener {
+    // All zeros: it holds no opening.
+    fn zeros() -> StoredOpener
+        ensures { result ≡ zeros }
+    {
+        StoredOpener {
+            mark: 0,
+            state: StoredSealer::zeros(),
+            start: StoredSum::zeros(),
+            tag: [0; 16],
+            checked: 0,
+        }
+    }
+
+    // Writes zeros over every number.
+    fn erase(&mut self)
+        ensures { self.new ≡ zeros }
+    {
+        *self = StoredOpener::zeros();
+    }
+
+    // Whether what the pass has taken in is the ciphertext of a sealing with this tag.
+    fn is_sealing(&self, suite: Suite) -> bool
+        requires { is_one_pass (construction_of suite) ≡ true }
+        ensures sealing { (kind : ℕ) (s : Setting) (tag bytes : List ℕ) → s.suite ≡ suite
+            → HoldsPass kind self.now s tag bytes → result ≡ true → Opens s tag bytes }
+        ensures none { (kind : ℕ) (s : Setting) (tag bytes : List ℕ) → s.suite ≡ suite
+            → HoldsPass kind self.now s tag bytes → result ≡ false → IsNoSealing s (bytes ++ tag) }
+    {
+        same(pass_tag(&self.state, suite).bytes(), &self.tag)
+    }
+}
+
+/// Begins an opening in pieces under the tag of the sealing: its first pass has taken in nothing yet. What the
+/// struct was before makes no difference. A refusal leaves zeros in it.
+#[unsafe(no_mangle)]
+pub extern "C" fn aeadkit_opener_init(
+    opener: &mut StoredOpener,
+    suite: u32,
+    key: &[u8],
+    nonce: &[u8],
+    aad: &[u8],
+    tag: &[u8; 16],
+) -> u32
+    ensures known { (named : Suite) → is_one_pass (construction_of named) ≡ true
+        → suite ≡ suite_number named → let s = setting_of named key.now nonce.now aad.now in
+        HasOutcome result (HoldsChecking opener.new s tag.now []) (BeginRefused s) }
+    ensures unknown { ((named : Suite) → is_one_pass (construction_of named) ≡ true
+        → suite ≢ suite_number named) → result ≡ unknown_suite }
+    ensures refused { result ≢ 0 → opener.new ≡ zeros }
+{
+    opener.erase();
+    let Some(suite) = one_pass_numbered(u64::from(suite)) else {
+        return UNKNOWN_SUITE;
+    };
+    match begun(suite, key, nonce, aad) {
+        Ok(state) => {
+            *opener = StoredOpener {
+                mark: mark_of(CHECKING, suite),
+                state,
+                start: state.sum,
+                tag: *tag,
+                checked: 0,
+            };
+            outcome_number(Ok(()))
+        }
+        Err(fault) => outcome_number(Err(fault)),
+    }
+}
+
+/// Takes in a piece of the ciphertext in the first pass. `TextTooLong` if the ciphertext would be past the
+/// suite's limit: the struct is then as before.
+#[unsafe(no_mangle)]
+pub extern "C" fn aeadkit_opener_check(opener: &mut StoredOpener, piece: &[u8]) -> u32
+    ensures holds { (s : Setting) (tag bytes : List ℕ)
+        → Checks opener.old opener.new piece.now result s tag bytes }
+    ensures not_begun { NotIn checking opener.old → result ≡ not_begun }
+    ensures kept { result ≢ 0 → opener.new ≡ opener.old }
+{
+    let Some(suite) = one_pass_marked(CHECKING, opener.mark) else {
+        return NOT_BEGUN;
+    };
+    if take_piece(&mut opener.state, suite, piece) {
+        outcome_number(Ok(()))
+    } else {
+        outcome_number(Err(Fault::TextTooLong))
+    }
+}
+
+/// Ends the first pass, and begins the second one, which has taken in nothing yet. `TagMismatch` if what was
+/// taken in and the tag are no sealing: the struct is then zeros.
+#[unsafe(no_mangle)]
+pub extern "C" fn aeadkit_opener_checked(opener: &mut StoredOpener) -> u32
+    ensures holds { (s : Setting) (tag bytes : List ℕ) → Checked opener.old opener.new result s tag bytes }
+    ensures not_begun { NotIn checking opener.old → (result ≡ not_begun) × (opener.new ≡ opener.old) }
+    ensures refused { result ≢ 0 → result ≢ not_begun → opener.new ≡ zeros }
+{
+    let Some(suite) = one_pass_marked(CHECKING, opener.mark) else {
+        return NOT_BEGUN;
+    };
+    if !opener.is_sealing(suite) {
+        opener.erase();
+        return outcome_number(Err(Fault::TagMismatch));
+    }
+    opener.mark = mark_of(OPENING, suite);
+    opener.checked = opener.state.length;
+    opener.state = opener.state.restarted(opener.start);
+    outcome_number(Ok(()))
+}
+
+/// Takes in a piece of the ciphertext in the second pass, and leaves its text in its place. `SourceChanged` if the
+/// second pass would be longer than the first: struct and piece are then as before.
+#[unsafe(no_mangle)]
+pub extern "C" fn aeadkit_opener_update(opener: &mut StoredOpener, piece: &mut [u8]) -> u32
+    ensures holds { (s : Setting) (tag : List ℕ) (first : ℕ) (bytes : List ℕ)
+        → Decrypts opener.old opener.new piece.old piece.new result s tag first bytes }
+    ensures not_begun { NotIn opening opener.old → result ≡ not_begun }
+    ensures kept { result ≢ 0 → (opener.new ≡ opener.old) × (piece.new ≡ piece.old) }
+{
+    let Some(suite) = one_pass_marked(OPENING, opener.mark) else {
+        return NOT_BEGUN;
+    };
+    let limit = opener.checked.min(suite.text_limit());
+    if mask_piece(&mut opener.state, suite, &HashFirst, limit, piece) {
+        outcome_number(Ok(()))
+    } else {
+        outcome_number(Err(Fault::SourceChanged))
+    }
+}
+
+/// Ends the second pass, and leaves zeros in the struct. `SourceChanged` if what the pass took in and the tag are
+/// no sealing: what update gave is then no text of one.
+#[unsafe(no_mangle)]
+pub extern "C" fn aeadkit_opener_finish(opener: &mut StoredOpener) -> u32
+    ensures holds { (s : Setting) (tag : List ℕ) (first : ℕ) (bytes : List ℕ)
+        → Ends opener.old result s tag first bytes }
+    ensures not_begun { NotIn opening opener.old → (result ≡ not_begun) × (opener.new ≡ opener.old) }
+    ensures ended { result ≢ not_begun → opener.new ≡ zeros }
+{
+    let Some(suite) = one_pass_marked(OPENING, opener.mark) else {
+        return NOT_BEGUN;
+    };
+    let sealing = opener.is_sealing(suite);
+    opener.erase();
+    if sealing {
+        outcome_number(Ok(()))
+    } else {
+        outcome_number(Err(Fault::SourceChanged))
+    }
+}
+
+/// The bytes of the struct that the calls of an opening in pieces take.
+#[unsafe(no_mangle)]
+pub extern "C" fn aeadkit_opener_size() -> usize
+    ensures { result ≡ 200 }
+{
+    size_of::<StoredOpener>()
+}
+
+#[cfg(test)]
+mod tests {
+    use super::super::sealer::{aeadkit_sealer_finish, aeadkit_sealer_init, aeadkit_sealer_update};
+    use super::*;
+
+    // The sealing of sixteen zero bytes under AES-128-GCM with a zero key and nonce: test case 2 of GCM's
+    // vectors.
+    const CIPHERTEXT: [u8; 16] = [
+        0x03, 0x88, 0xda, 0xce, 0x60, 0xb6, 0xa3, 0x92, 0xf3, 0x28, 0xc2, 0xb9, 0x71, 0xb2, 0xfe,
+        0x78,
+    ];
+
+    const TAG: [u8; 16] = [
+        0xab, 0x6e, 0x47, 0xd4, 0x2c, 0xec, 0x13, 0xbd, 0xf5, 0x3a, 0x67, 0xb2, 0x12, 0x57, 0xbd,
+        0xdf,
+    ];
+
+    // A key and a nonce of n bytes are the first n of these.
+    const ZEROS: [u8; 32] = [0; 32];
+
+    // Opens a ciphertext in two pieces, each pass, with any struct. Returns whether each call was done.
+    fn opened_in_two(
+        opener: &mut StoredOpener,
+        suite: u32,
+        keys: (&[u8], &[u8], &[u8]),
+        tag: &[u8; 16],
+        first: &mut [u8],
+        second: &mut [u8],
+    ) -> bool
+        ensures { (named : Suite) → is_one_pass (construction_of named) ≡ true → suite ≡ suite_number named
+            → let s = setting_of named keys.entry.0.now keys.entry.1.now keys.entry.2.now in
+            result ≡ true → Opened s ((first.old ++ second.old) ++ tag.now) (first.new ++ second.new) }
+    {
+        let (key, nonce, aad) = keys;
+        if aeadkit_opener_init(opener, suite, key, nonce, aad, tag) != 0 {
+            return false;
+        }
+        if aeadkit_opener_check(opener, first) != 0 {
+            return false;
+        }
+        if aeadkit_opener_check(opener, second) != 0 {
+            return false;
+        }
+        if aeadkit_opener_checked(opener) != 0 {
+            return false;
+        }
+        if aeadkit_opener_update(opener, first) != 0 {
+            return false;
+        }
+        if aeadkit_opener_update(opener, second) != 0 {
+            return false;
+        }
+        aeadkit_opener_finish(opener) == 0
+    }
+
+    #[test]
+    fn two_passes_give_the_text(rt: HostRuntime) {
+        for (suite, size) in [(1, 32), (2, 16), (3, 24), (4, 32)] {
+            let (key, nonce) = (&[7; 32][..size], &[9; 12]);
+            let mut bytes = [1; 64];
+            let mut tag = [0; 16];
+            let mut sealer = StoredSealer::zeros();
+            assert!(rt; aeadkit_sealer_init(&mut sealer, suite, key, nonce, b"to") == 0);
+            assert!(rt; aeadkit_sealer_update(&mut sealer, &mut bytes) == 0);
+            assert!(rt; aeadkit_sealer_finish(&mut sealer, &mut tag) == 0);
+            let (first, second) = bytes.split_at_mut(21);
+            let mut opener = StoredOpener::zeros();
+            let keys = (key, nonce.as_slice(), b"to".as_slice());
+            assert!(rt; opened_in_two(&mut opener, suite, keys, &tag, first, second));
+            assert!(rt; bytes == [1; 64]);
+            assert!(rt; aeadkit_opener_finish(&mut opener) == 15);
+        }
+    }
+
+    // Begins to open under AES-128-GCM with a zero key and nonce. Returns the status.
+    fn begin(opener: &mut StoredOpener, tag: &[u8; 16]) -> u32 {
+        aeadkit_opener_init(opener, 2, &ZEROS[..16], &ZEROS[..12], &[], tag)
+    }
+
+    #[test]
+    fn the_numbers_of_refusals(rt: HostRuntime) {
+        let mut opener = StoredOpener::zeros();
+        let mut piece = CIPHERTEXT;
+        assert!(rt; aeadkit_opener_check(&mut opener, &piece) == 15);
+        assert!(rt;
+            aeadkit_opener_init(&mut opener, 5, &ZEROS[..16], &ZEROS[..12], &[], &TAG) == 14
+        );
+        assert!(rt; aeadkit_opener_init(&mut opener, 2, &ZEROS[..15], &[], &[], &TAG) == 1);
+        assert!(rt; aeadkit_opener_init(&mut opener, 1, &ZEROS, &[], &[], &TAG) == 2);
+        assert!(rt; begin(&mut opener, &TAG) == 0);
+        opener.state.length = (1 << 36) - 47;
+        assert!(rt; aeadkit_opener_check(&mut opener, &piece) == 3);
+        // no text before the first pass is over
+        assert!(rt; aeadkit_opener_update(&mut opener, &mut piece) == 15);
+        assert!(rt; aeadkit_opener_finish(&mut opener) == 15);
+        assert!(rt; piece == CIPHERTEXT);
+    }
+
+    #[test]
+    fn a_first_pass_over_no_sealing(rt: HostRuntime) {
+        let mut opener = StoredOpener::zeros();
+        let mut other = TAG;
+        other[15] ^= 1;
+        assert!(rt; begin(&mut opener, &other) == 0);
+        assert!(rt; aeadkit_opener_check(&mut opener, &CIPHERTEXT) == 0);
+        assert!(rt; aeadkit_opener_checked(&mut opener) == 6);
+        assert!(rt; opener.mark == 0 && opener.state.key == [0; 32] && opener.tag == [0; 16]);
+        assert!(rt; aeadkit_opener_checked(&mut opener) == 15);
+    }
+
+    #[test]
+    fn a_second_pass_over_other_bytes(rt: HostRuntime) {
+        let mut opener = StoredOpener::zeros();
+        let mut other = CIPHERTEXT;
+        other[8] ^= 1;
+        assert!(rt; begin(&mut opener, &TAG) == 0);
+        assert!(rt; aeadkit_opener_check(&mut opener, &CIPHERTEXT) == 0);
+        assert!(rt; aeadkit_opener_checked(&mut opener) == 0);
+        // the first pass is over
+        assert!(rt; aeadkit_opener_check(&mut opener, &CIPHERTEXT) == 15);
+        assert!(rt; aeadkit_opener_update(&mut opener, &mut other) == 0);
+        // the second pass is no longer than the first
+        assert!(rt; aeadkit_opener_update(&mut opener, &mut [0]) == 13);
+        assert!(rt; aeadkit_opener_finish(&mut opener) == 13);
+        assert!(rt; opener.mark == 0 && opener.state.key == [0; 32]);
+    }
+}
