@@ -1,23 +1,25 @@
 // ChaCha20-Poly1305 (RFC 8439, 2.8).
 
-ghost use Rattle.std.specs.Prelude.{◌≡◌, ℕ, ◌%◌, ◌<◌, ◌≤◌, length, take, slice_index, refl};
+ghost use Rattle.std.specs.Prelude.{◌≡◌, ℕ, ◌%◌, ◌<◌, ◌≤◌, ◌++◌, length, take, slice_index, refl, MatchResult};
 ghost use Rattle.chacha.specs.Stream.{key_stream_byte};
-ghost use Rattle.aead.specs.Sealing.{poly_key};
-ghost use Rattle.aead.specs.Ciphers.{Keyed};
+ghost use Rattle.aead.specs.Sealing.{Opened, poly_key};
+ghost use Rattle.aead.specs.Ciphers.{Keyed, setting};
+ghost use Rattle.aead.specs.Refusals.{OpenRefused};
+ghost use Rattle.aead.specs.InPlace.{SealsInPlace, OpensInPlace, OpensEachSealing};
 ghost use Rattle.aead.specs.declared.suite.Suite.TheVariants.{ChaCha20Poly1305};
 
 use crate::aead::Aead;
 use crate::begun_stream::BegunStream;
-use crate::mask_then_hash::{MaskThenHash, open_whole, seal_whole};
+use crate::mask_then_hash::{MaskThenHash, open_beside, open_whole, seal_whole};
 use crate::nonced::Nonced;
 use crate::suite::Suite;
-use chacha::{ChaStream, block, four_blocks, two_blocks};
+use chacha::{ChaStream, block, key_stream_start};
 use octets::{Fault, Key32, Nonce, Tag};
 use poly1305::Poly;
 use std::marker::Model;
 
 /// ChaCha20-Poly1305 under a key of 32 bytes (RFC 8439, 2.8). Opening in place authenticates before it
-/// changes a byte. Contracts see its suite and key. `AnyAead::new` makes it.
+/// changes a byte. Contracts see its suite and key.
 #[derive(Drop)]
 pub struct ChaChaPoly {
     key: Key32,
@@ -30,8 +32,8 @@ impl Model for ChaChaPoly {
 }
 
 impl ChaChaPoly {
-    // The cipher under a key.
-    pub(crate) fn new(key: &Key32) -> ChaChaPoly
+    /// ChaCha20-Poly1305 under a key of 32 bytes.
+    pub fn new(key: &Key32) -> ChaChaPoly
         ensures { result ≡ record { suite = ChaCha20Poly1305; key = key.now } }
     {
         ChaChaPoly { key: *key }
@@ -46,6 +48,62 @@ impl ChaChaPoly {
             key: &self.key,
             nonce,
         }
+    }
+
+    // Seals with the first `N` bytes of the key stream made at once.
+    #[inline(never)]
+    fn seal_from<const N: usize>(
+        &self,
+        nonce: &Nonce,
+        aad: &[u8],
+        text: &mut [u8],
+    ) -> Result<Tag, Fault>
+        requires { (64 ≤ N) × (N ≤ 512) × (N % 64 ≡ 0) }
+        ensures { SealsInPlace (setting self.now nonce.now aad.now) text.old text.new result }
+    {
+        let key = &self.key;
+        let start = &key_stream_start::<N>(key, nonce)[..];
+        seal_whole(&BegunChaCha { key, nonce, start }, aad, text)
+    }
+
+    // Opens with the first `N` bytes of the key stream made at once.
+    #[inline(never)]
+    fn open_from<const N: usize>(
+        &self,
+        nonce: &Nonce,
+        aad: &[u8],
+        body: &mut [u8],
+        tag: &Tag,
+    ) -> Result<(), Fault>
+        requires { (64 ≤ N) × (N ≤ 512) × (N % 64 ≡ 0) }
+        ensures answer { OpensInPlace (setting self.now nonce.now aad.now) tag.now body.old body.new result }
+        ensures found { OpensEachSealing (setting self.now nonce.now aad.now) tag.now body.old body.new
+            result }
+    {
+        let key = &self.key;
+        let start = &key_stream_start::<N>(key, nonce)[..];
+        open_whole(&BegunChaCha { key, nonce, start }, aad, body, tag)
+    }
+
+    // Opens a ciphertext and its tag in place, and authenticates it meanwhile. After a refusal for the tag the
+    // bytes are of no use.
+    pub(crate) fn open_beside(
+        &self,
+        nonce: &Nonce,
+        aad: &[u8],
+        body: &mut [u8],
+        tag: &Tag,
+    ) -> Result<(), Fault>
+        ensures { let s = setting self.now nonce.now aad.now in
+            MatchResult result (λ _. Opened s (body.old ++ tag.now) body.new)
+            (OpenRefused s body.old tag.now) }
+    {
+        if body.len() <= SEVEN_BLOCKS {
+            return self.open_in_place(nonce, aad, body, tag);
+        }
+        let key = &self.key;
+        let start = &key_stream_start::<128>(key, nonce)[..];
+        open_beside(&BegunChaCha { key, nonce, start }, aad, body, tag)
     }
 }
 
@@ -100,7 +158,7 @@ struct BegunChaCha<'a> {
     nonce: &'a Nonce,
     start: &'a [u8],
     ghost has_a_block: { 64 ≤ length start.now },
-    ghost short: { length start.now ≤ 256 },
+    ghost short: { length start.now ≤ 512 },
     ghost whole: { length start.now % 64 ≡ 0 },
     ghost start_is: { (i : ℕ) → i < length start.now
         → slice_index start.now i ≡ key_stream_byte key.now nonce.now 0 i },
@@ -138,6 +196,9 @@ const ONE_BLOCK: usize = 64;
 // How many the blocks with the counters 1 to 3 do.
 const THREE_BLOCKS: usize = 192;
 
+// How many those with the counters 1 to 7 do.
+const SEVEN_BLOCKS: usize = 448;
+
 impl Aead for ChaChaPoly {
     ghost keyed = { λ c. c };
 
@@ -148,18 +209,12 @@ impl Aead for ChaChaPoly {
     }
 
     fn seal_in_place(&self, nonce: &Nonce, aad: &[u8], text: &mut [u8]) -> Result<Tag, Fault> {
-        let key = &self.key;
-        if text.len() <= ONE_BLOCK {
-            let blocks = two_blocks(key, 0, nonce);
-            let start = blocks.as_flattened();
-            seal_whole(&BegunChaCha { key, nonce, start }, aad, text)
+        if text.len() <= ONE_BLOCK || text.len() > SEVEN_BLOCKS {
+            self.seal_from::<128>(nonce, aad, text)
         } else if text.len() <= THREE_BLOCKS {
-            let blocks = four_blocks(key, 0, nonce);
-            let start = blocks.as_flattened();
-            seal_whole(&BegunChaCha { key, nonce, start }, aad, text)
+            self.seal_from::<256>(nonce, aad, text)
         } else {
-            let start = &block(key, 0, nonce)[..];
-            seal_whole(&BegunChaCha { key, nonce, start }, aad, text)
+            self.seal_from::<512>(nonce, aad, text)
         }
     }
 
@@ -170,18 +225,12 @@ impl Aead for ChaChaPoly {
         body: &mut [u8],
         tag: &Tag,
     ) -> Result<(), Fault> {
-        let key = &self.key;
-        if body.len() <= ONE_BLOCK {
-            let blocks = two_blocks(key, 0, nonce);
-            let start = blocks.as_flattened();
-            open_whole(&BegunChaCha { key, nonce, start }, aad, body, tag)
+        if body.len() <= ONE_BLOCK || body.len() > SEVEN_BLOCKS {
+            self.open_from::<128>(nonce, aad, body, tag)
         } else if body.len() <= THREE_BLOCKS {
-            let blocks = four_blocks(key, 0, nonce);
-            let start = blocks.as_flattened();
-            open_whole(&BegunChaCha { key, nonce, start }, aad, body, tag)
+            self.open_from::<256>(nonce, aad, body, tag)
         } else {
-            let start = &block(key, 0, nonce)[..];
-            open_whole(&BegunChaCha { key, nonce, start }, aad, body, tag)
+            self.open_from::<512>(nonce, aad, body, tag)
         }
     }
 }

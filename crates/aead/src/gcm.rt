@@ -1,9 +1,10 @@
 // AES-GCM (SP 800-38D).
 
-ghost use Rattle.std.specs.Prelude.{◌≡◌, ◌++◌, ◌∷◌, [], length};
+ghost use Rattle.std.specs.Prelude.{◌≡◌, ◌≢◌, ◌++◌, ◌∷◌, [], length, MatchResult};
 ghost use Rattle.std.proofs.Common.{ap};
 ghost use Rattle.aes.specs.Cipher.{cipher, IsKey};
-ghost use Rattle.aead.specs.Suites.{construction_of, is_one_pass, ByGcm};
+ghost use Rattle.aead.specs.declared.suite.Suite.{Suite};
+ghost use Rattle.aead.specs.Suites.{construction_of, is_one_pass, key_length, ByGcm};
 ghost use Rattle.aead.specs.Sealing.{hash_key, j0};
 ghost use Rattle.aead.specs.Ciphers.{Keyed, setting};
 ghost use Rattle.aead.specs.InPlace.{SealsInPlace, OpensInPlace, OpensEachSealing};
@@ -25,7 +26,7 @@ pub(crate) const SHORT: usize = 128;
 pub(crate) const LONG: usize = 2304;
 
 /// AES-GCM under a key of 16, 24 or 32 bytes (SP 800-38D). Opening in place authenticates before it
-/// changes a byte. Contracts see its suite and key. `AnyAead::new` makes it.
+/// changes a byte. Contracts see its suite and key.
 #[derive(Drop)]
 pub struct Gcm {
     suite: Suite,
@@ -45,6 +46,28 @@ impl Model for Gcm {
 }
 
 impl Gcm {
+    /// AES-GCM under a key of 16, 24 or 32 bytes: the suite of AES-128, AES-192 or AES-256. Any other length is
+    /// `KeyLength`, the only fault.
+    #[inline(always)]
+    pub fn from_slice(key: &[u8]) -> Result<Gcm, Fault>
+        ensures { MatchResult result
+            (λ c. (c.key ≡ key.now) × (construction_of c.suite ≡ ByGcm)
+            × (length key.now ≡ key_length c.suite))
+            (λ e. (e ≡ Fault.KeyLength)
+            × ((suite : Suite) → construction_of suite ≡ ByGcm → length key.now ≢ key_length suite)) }
+    {
+        let suite = match key.len() {
+            16 => Suite::Aes128Gcm,
+            24 => Suite::Aes192Gcm,
+            32 => Suite::Aes256Gcm,
+            _ => return Err(Fault::KeyLength),
+        };
+        match AesKey::from_slice(key) {
+            Ok(key) => Ok(Gcm::new(suite, key)),
+            Err(fault) => Err(fault),
+        }
+    }
+
     // The cipher of one of the three suites under a key.
     #[inline(always)]
     pub(crate) fn new(suite: Suite, key: AesKey) -> Gcm

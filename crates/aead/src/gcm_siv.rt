@@ -1,9 +1,10 @@
 // AES-GCM-SIV (RFC 8452).
 
-ghost use Rattle.std.specs.Prelude.{◌≡◌, length};
+ghost use Rattle.std.specs.Prelude.{◌≡◌, ◌≢◌, length, MatchResult};
 ghost use Rattle.octets.specs.Bytes.{IsBlock};
 ghost use Rattle.gf128.specs.Polyval.{IsReversedMulX};
 ghost use Rattle.gf128.specs.States.{key_of};
+ghost use Rattle.aead.specs.declared.suite.Suite.{Suite};
 ghost use Rattle.aead.specs.Suites.{construction_of, key_length, ByGcmSiv};
 ghost use Rattle.aead.specs.Sealing.{Setting, authentication_key, encryption_key, counter_block};
 ghost use Rattle.aead.specs.Ciphers.{Keyed, setting};
@@ -28,8 +29,7 @@ const SHORT: usize = 128;
 const LONG: usize = 2304;
 
 /// AES-GCM-SIV under a key of 16 or 32 bytes (RFC 8452). Opening in place decrypts before it can
-/// authenticate, and encrypts again after `TagMismatch`. Contracts see its suite and key. `AnyAead::new`
-/// makes it.
+/// authenticate, and encrypts again after `TagMismatch`. Contracts see its suite and key.
 #[derive(Drop)]
 pub struct GcmSiv {
     suite: Suite,
@@ -45,6 +45,27 @@ impl Model for GcmSiv {
 }
 
 impl GcmSiv {
+    /// AES-GCM-SIV under a key of 16 or 32 bytes: the suite of AES-128 or AES-256. Any other length is
+    /// `KeyLength`, the only fault.
+    #[inline(always)]
+    pub fn from_slice(key: &[u8]) -> Result<GcmSiv, Fault>
+        ensures { MatchResult result
+            (λ c. (c.key ≡ key.now) × (construction_of c.suite ≡ ByGcmSiv)
+            × (length key.now ≡ key_length c.suite))
+            (λ e. (e ≡ Fault.KeyLength)
+            × ((suite : Suite) → construction_of suite ≡ ByGcmSiv → length key.now ≢ key_length suite)) }
+    {
+        let suite = match key.len() {
+            16 => Suite::Aes128GcmSiv,
+            32 => Suite::Aes256GcmSiv,
+            _ => return Err(Fault::KeyLength),
+        };
+        match AesKey::from_slice(key) {
+            Ok(key) => Ok(GcmSiv::new(suite, key)),
+            Err(fault) => Err(fault),
+        }
+    }
+
     // The cipher of one of the two suites under a key of its length.
     #[inline(always)]
     pub(crate) fn new(suite: Suite, key: AesKey) -> GcmSiv

@@ -1,13 +1,15 @@
 // The construction whose tag is over the ciphertext: ChaCha20-Poly1305 and AES-GCM.
 
-ghost use Rattle.std.specs.Prelude.{◌≡◌, ◌≤◌, ℕ, List, [], true, length};
+ghost use Rattle.std.specs.Prelude.{◌≡◌, ◌≤◌, ◌++◌, ℕ, List, [], true, length, MatchResult};
 ghost use Rattle.aead.specs.Suites.{construction_of, is_one_pass, text_limit, aad_limit};
+ghost use Rattle.aead.specs.Sealing.{Opened};
 ghost use Rattle.aead.specs.Ciphers.{setting};
+ghost use Rattle.aead.specs.Refusals.{OpenRefused};
 ghost use Rattle.aead.specs.Code.Masks.{as_it_leaves};
 ghost use Rattle.aead.specs.Code.Maskings.{HoldsMasking, message_task};
 ghost use Rattle.aead.specs.InPlace.{SealsInPlace, OpensInPlace, OpensEachSealing};
 
-use crate::beside::MaskFirst;
+use crate::beside::{HashFirst, MaskFirst};
 use crate::mask::MaskStream;
 use crate::masking::Masking;
 use crate::nonced::{Nonced, authenticator, masking};
@@ -75,6 +77,30 @@ fn open_checked<N: MaskThenHash>(
     }
     nonced.mask().apply_to(body);
     Ok(())
+}
+
+// Turns a ciphertext into its text while it is authenticated. After a refusal for the tag the bytes are of no
+// use.
+pub(crate) fn open_beside<N: MaskThenHash>(
+    nonced: &N,
+    aad: &[u8],
+    body: &mut [u8],
+    tag: &Tag,
+) -> Result<(), Fault>
+    ensures { let s = setting (N.keyed nonced.now) (N.nonce nonced.now) aad.now in
+        MatchResult result (λ _. Opened s (body.old ++ tag.now) body.new) (OpenRefused s body.old tag.now) }
+{
+    let given = tag.bytes();
+    let suite = nonced.suite();
+    suite.check_aad(aad)?;
+    suite.check_text(body)?;
+    let mut opening = masking(nonced, nonced.mask(), aad, HashFirst);
+    opening.update(body);
+    if same(opening.finish().bytes(), given) {
+        Ok(())
+    } else {
+        Err(Fault::TagMismatch)
+    }
 }
 
 // Opens a ciphertext and its tag in place. A sealing of a text is never refused.

@@ -12,36 +12,15 @@ use crate::sealing_has_one_text;
 use octets::{Fault, Nonce, Tag};
 use std::alloc::Allocator;
 
-// The ciphertext and the tag.
-fn seal_by<A: Allocator, C: Aead>(
-    alloc: A,
-    cipher: &C,
-    nonce: &Nonce,
-    aad: &[u8],
-    text: &[u8],
-) -> Result<Vec<u8, A>, Fault>
-    ensures { let s = setting (C.keyed cipher.now) nonce.now aad.now in
-        MatchResult result (λ v. Opened s v.items text.now) (λ e. WholeSealRefused s text.now e) }
-{
-    let suite = cipher.suite();
-    suite.check_aad(aad)?;
-    suite.check_text(text)?;
-    let mut sealed = Vec::with_capacity(alloc, text.len() + 16)?;
-    sealed.extend_from_slice(text)?;
-    let tag = cipher.seal_in_place(nonce, aad, &mut sealed)?;
-    sealed.extend_from_slice(tag.bytes())?;
-    Ok(sealed)
-}
-
 // The text of a ciphertext and its tag.
-fn open_by<A: Allocator, C: Aead>(
+fn open_by<A: Allocator>(
     alloc: A,
-    cipher: &C,
+    cipher: &AnyAead,
     nonce: &Nonce,
     aad: &[u8],
     sealed: &[u8],
 ) -> Result<Vec<u8, A>, Fault>
-    ensures { let s = setting (C.keyed cipher.now) nonce.now aad.now in
+    ensures { let s = setting (keyed_of cipher.now) nonce.now aad.now in
         MatchResult result (λ v. Opened s sealed.now v.items) (λ e. WholeOpenRefused s sealed.now e) }
 {
     let suite = cipher.suite();
@@ -51,7 +30,7 @@ fn open_by<A: Allocator, C: Aead>(
     };
     suite.check_text(body)?;
     let mut text = Vec::from_slice(alloc, body)?;
-    cipher.open_in_place(nonce, aad, &mut text, &Tag::new(*tag))?;
+    cipher.open_beside(nonce, aad, &mut text, &Tag::new(*tag))?;
     Ok(text)
 }
 
@@ -68,7 +47,14 @@ pub fn seal<A: Allocator>(
     ensures { let s = setting (keyed_of cipher.now) nonce.now aad.now in
         MatchResult result (λ v. Opened s v.items text.now) (λ e. WholeSealRefused s text.now e) }
 {
-    seal_by(alloc, cipher, nonce, aad, text)
+    let suite = cipher.suite();
+    suite.check_aad(aad)?;
+    suite.check_text(text)?;
+    let mut sealed = Vec::with_capacity(alloc, text.len() + 16)?;
+    sealed.extend_from_slice(text)?;
+    let tag = cipher.seal_in_place(nonce, aad, &mut sealed)?;
+    sealed.extend_from_slice(tag.bytes())?;
+    Ok(sealed)
 }
 
 /// Returns the text of a sealing under a nonce with associated data. Faults, in this order: `AadTooLong` if

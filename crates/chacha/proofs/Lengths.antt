@@ -18,7 +18,7 @@ length-quarter_round a b c d s =
     ∙ length-add_xor_rotate a b d 16 s
 
 -- so does a round of the columns
-length-column_round : (s : List ℕ) → length (column_round s) ≡ length s
+pub length-column_round : (s : List ℕ) → length (column_round s) ≡ length s
 unfolding column_round
 length-column_round s =
     length-quarter_round 3 7 11 15 _ ∙ length-quarter_round 2 6 10 14 _ ∙ length-quarter_round 1 5 9 13 _
@@ -32,7 +32,7 @@ length-diagonal_round s =
     ∙ length-quarter_round 0 5 10 15 s
 
 -- so do double rounds
-length-double_rounds : (n : ℕ) (s : List ℕ) → length (double_rounds n s) ≡ length s
+pub length-double_rounds : (n : ℕ) (s : List ℕ) → length (double_rounds n s) ≡ length s
 unfolding double_rounds
 length-double_rounds zero s = refl
 length-double_rounds (suc n) s =

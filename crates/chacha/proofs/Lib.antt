@@ -4,4 +4,5 @@ pub mod Masking
 pub mod SideBySide
 pub mod Lengths
 pub mod ByRows
+pub mod Halves
 pub mod Refusals

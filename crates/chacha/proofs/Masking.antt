@@ -65,34 +65,6 @@ byte_of_blocks (b ∷ bs) (suc q) r long there below =
     ∙ ap (λ (n : ℕ). get_or (flat_map (λ x. x) bs) n 0) rest ∙ byte_of_blocks bs q r long.1 (omega arith)
     below
 
--- the blocks of four counters, by their place
-block_of_four : (key nonce : List ℕ) (c q : ℕ) → q < 4
-    → get_or (block key c nonce ∷ block key (c + 1) nonce ∷ block key (c + 2) nonce
-    ∷ block key (c + 3) nonce ∷ []) q [] ≡ block key (c + q) nonce
-block_of_four key nonce c zero h =
-    let first : c ≡ c + 0 = omega arith in
-    ap (λ (n : ℕ). block key n nonce) first
-block_of_four key nonce c (suc zero) h = refl
-block_of_four key nonce c (suc (suc zero)) h = refl
-block_of_four key nonce c (suc (suc (suc zero))) h = refl
-block_of_four key nonce c (suc (suc (suc (suc q)))) h = absurd (omega arith)
-
--- four blocks are the first bytes of the key stream from their counter on
-pub four_blocks_bytes : (key nonce : List ℕ) (c i : ℕ) → i < 256
-    → get_or (flat_map (λ (b : List ℕ). b) (block key c nonce ∷ block key (c + 1) nonce
-    ∷ block key (c + 2) nonce ∷ block key (c + 3) nonce ∷ [])) i 0
-    ≡ key_stream_byte key nonce c i
-unfolding key_stream_byte
-four_blocks_bytes key nonce c i below =
-    let bs = block key c nonce ∷ block key (c + 1) nonce ∷ block key (c + 2) nonce ∷ block key (c + 3) nonce
-    ∷ [] in
-    let size = λ (n : ℕ). length-block key n nonce in
-    let whole : i ≡ 64 * (i / 64) + i % 64 = omega arith in
-    ap (λ (n : ℕ). get_or (flat_map (λ (b : List ℕ). b) bs) n 0) whole
-    ∙ byte_of_blocks bs (i / 64) (i % 64) (size c, (size (c + 1), (size (c + 2), (size (c + 3), tt {0}))))
-    (omega arith) (omega arith)
-    ∙ ap (λ (b : List ℕ). get_or b (i % 64) 0) (block_of_four key nonce c (i / 64) (omega arith))
-
 -- one of two blocks
 block_of_two : (key nonce : List ℕ) (c q : ℕ) → q < 2
     → get_or (block key c nonce ∷ block key (c + 1) nonce ∷ []) q [] ≡ block key (c + q) nonce
@@ -102,7 +74,7 @@ block_of_two key nonce c (suc zero) h = refl
 block_of_two key nonce c (suc (suc q)) h = absurd (omega arith)
 
 -- two blocks are the first bytes of the key stream from their counter on
-pub two_blocks_bytes : (key nonce : List ℕ) (c i : ℕ) → i < 128
+two_blocks_bytes : (key nonce : List ℕ) (c i : ℕ) → i < 128
     → get_or (flat_map (λ (b : List ℕ). b) (block key c nonce ∷ block key (c + 1) nonce ∷ [])) i 0
     ≡ key_stream_byte key nonce c i
 unfolding key_stream_byte
@@ -203,6 +175,12 @@ run_of_stream key nonce p size n bytes stream now long same least is_now =
     ∙ same (s + j) (omega (arith, l, whole))
     ∙ sym (key_stream_byte-first key nonce (p / 64) s j) ∙ ap (key_stream_byte key nonce 0) place))
 
+-- zeros with the key stream XORed in are its bytes
+pub bytes_of_zeros : (f : ℕ → ℕ) (size i : ℕ) → i < size → get_or (masked f 0 (replicate size 0)) i 0 ≡ f i
+bytes_of_zeros f size i l =
+    masked_zero f 0 i i (replicate size 0) (omega (arith, l, length-replicate {A = ℕ} size 0))
+    (get_or-replicate size i 0 0 l) (omega arith)
+
 -- where it is zeros with the key stream XORed in
 pub run_of_zeros : (key nonce : List ℕ) (p size n : ℕ) (bytes stream now : List ℕ)
     → stream ≡ masked (key_stream_byte key nonce (p / 64)) 0 (replicate size 0) → length stream ≡ size
@@ -211,10 +189,7 @@ pub run_of_zeros : (key nonce : List ℕ) (p size n : ℕ) (bytes stream now : L
     → now ≡ masked (key_stream_byte key nonce 0) p (take n bytes) ++ drop n bytes
 run_of_zeros key nonce p size n bytes stream now is_stream long =
     run_of_stream key nonce p size n bytes stream now long (λ i l.
-    ap (λ s. get_or s i 0) is_stream
-    ∙ masked_zero (key_stream_byte key nonce (p / 64)) 0 i i (replicate size 0)
-    (omega (arith, l, length-replicate {A = ℕ} size 0))
-    (get_or-replicate size i 0 0 l) (omega arith))
+    ap (λ s. get_or s i 0) is_stream ∙ bytes_of_zeros (key_stream_byte key nonce (p / 64)) size i l)
 
 -- where it is two blocks, one after the other
 pub run_of_two : (key nonce : List ℕ) (p n : ℕ) (blocks : List (List ℕ)) (bytes stream now : List ℕ)

@@ -5,9 +5,9 @@ ghost use Rattle.std.specs.Prelude.{take, drop, slice_index, slice_set, bit_xor}
 ghost use Rattle.std.specs.Int.{w32, rotate_left};
 ghost use Rattle.octets.specs.Bytes.{xor_bytes};
 ghost use Rattle.octets.specs.Masked.{masked};
-ghost use Rattle.chacha.specs.Block.{add_xor_rotate, quarter_round, column_round, diagonal_round};
-ghost use Rattle.chacha.specs.Block.{double_rounds, added, serialized, block};
+ghost use Rattle.chacha.specs.Block.{add_xor_rotate, quarter_round, double_rounds, added, serialized, block};
 ghost use Rattle.chacha.specs.Code.Lanes.{lane, HasBlocks};
+ghost use Rattle.chacha.specs.Code.Halves.{half_quarter, half_columns, half_diagonals, half_round};
 ghost use Rattle.chacha.specs.Stream.{key_stream_byte};
 
 use crate::state::initial_state;
@@ -71,41 +71,73 @@ pub(crate) fn quarter_round<const N: usize, const K: usize>(
     add_xor_rotate(x, c, d, b, 7);
 }
 
-// The quarter round on each column, in each lane.
+// The first half of the quarter round in each lane, by 16 and 12, or the second, by 8 and 7.
 #[inline(always)]
-fn column_round<const N: usize>(x: &mut [Simd<u32, N>; 16])
-    ensures { (j : ℕ) → j < N → lane j x.new ≡ column_round (lane j x.old) }
+fn half_quarter<const N: usize>(
+    x: &mut [Simd<u32, N>; 16],
+    a: usize,
+    b: usize,
+    c: usize,
+    d: usize,
+    n: u32,
+    m: u32,
+)
+    requires places { (a < 16) × (b < 16) × (c < 16) × (d < 16) }
+    requires turns { (0 < n) × (n < 32) × (0 < m) × (m < 32) }
+    ensures { (j : ℕ) → j < N → lane j x.new ≡ half_quarter a b c d n m (lane j x.old) }
 {
-    quarter_round(x, 0, 4, 8, 12);
-    quarter_round(x, 1, 5, 9, 13);
-    quarter_round(x, 2, 6, 10, 14);
-    quarter_round(x, 3, 7, 11, 15);
+    add_xor_rotate(x, a, b, d, n);
+    add_xor_rotate(x, c, d, b, m);
 }
 
-// The quarter round on each diagonal, in each lane.
+// A half of the round of the columns, in each lane.
 #[inline(always)]
-fn diagonal_round<const N: usize>(x: &mut [Simd<u32, N>; 16])
-    ensures { (j : ℕ) → j < N → lane j x.new ≡ diagonal_round (lane j x.old) }
+fn half_columns<const N: usize>(x: &mut [Simd<u32, N>; 16], n: u32, m: u32)
+    requires { (0 < n) × (n < 32) × (0 < m) × (m < 32) }
+    ensures { (j : ℕ) → j < N → lane j x.new ≡ half_columns n m (lane j x.old) }
 {
-    quarter_round(x, 0, 5, 10, 15);
-    quarter_round(x, 1, 6, 11, 12);
-    quarter_round(x, 2, 7, 8, 13);
-    quarter_round(x, 3, 4, 9, 14);
+    half_quarter(x, 0, 4, 8, 12, n, m);
+    half_quarter(x, 1, 5, 9, 13, n, m);
+    half_quarter(x, 2, 6, 10, 14, n, m);
+    half_quarter(x, 3, 7, 11, 15, n, m);
 }
 
-// Ten double rounds, with three steps of other work in each. The steps are done on a copy: it stays in
-// registers, where a reference would not.
+// A half of the round of the diagonals, in each lane.
+#[inline(always)]
+fn half_diagonals<const N: usize>(x: &mut [Simd<u32, N>; 16], n: u32, m: u32)
+    requires { (0 < n) × (n < 32) × (0 < m) × (m < 32) }
+    ensures { (j : ℕ) → j < N → lane j x.new ≡ half_diagonals n m (lane j x.old) }
+{
+    half_quarter(x, 0, 5, 10, 15, n, m);
+    half_quarter(x, 1, 6, 11, 12, n, m);
+    half_quarter(x, 2, 7, 8, 13, n, m);
+    half_quarter(x, 3, 4, 9, 14, n, m);
+}
+
+// A half of a round, in each lane: of the columns the first and the second, and then of the diagonals.
+#[inline(always)]
+fn half_round<const N: usize>(x: &mut [Simd<u32, N>; 16], half: u32)
+    ensures { (j : ℕ) → j < N → lane j x.new ≡ half_round (half % 4) (lane j x.old) }
+{
+    match half % 4 {
+        0 => half_columns(x, 16, 12),
+        1 => half_columns(x, 8, 7),
+        2 => half_diagonals(x, 16, 12),
+        _ => half_diagonals(x, 8, 7),
+    }
+}
+
+// Ten double rounds in halves of rounds, with a step of other work after each. The steps are done on a copy: it
+// stays in registers, where a reference would not. Where both halves of a round stand in one basic block, LLVM
+// makes two shuffles of the rotation by 8, one for either side of the XOR before it.
 #[inline(always)]
 fn ten_rounds<const N: usize, W: Work>(x: &mut [Simd<u32, N>; 16], work: &mut W)
     ensures lanes { (j : ℕ) → j < N → lane j x.new ≡ double_rounds 10 (lane j x.old) }
     ensures work { (k m : List ℕ) → W.comes_to work.old k m → W.comes_to work.new k m }
 {
     let mut own = *work;
-    'rounds: for _round in 0..10u32 {
-        column_round(x);
-        own.step();
-        diagonal_round(x);
-        own.step();
+    'halves: for half in 0..40u32 {
+        half_round(x, half);
         own.step();
     }
     *work = own;
@@ -278,25 +310,8 @@ fn xor_written(x: &[u32x4; 16], bytes: &mut [u8])
     xor_lanes(x, first, second, third, fourth);
 }
 
-/// The four blocks of 64 bytes with the counters `counter` to `counter + 3` (RFC 8439, 2.3). The
-/// caller shows that these are counters of 32 bits.
-pub fn four_blocks(key: &Key32, counter: u32, nonce: &Nonce) -> [[u8; 64]; 4]
-    requires { counter + 3 < 2 ^ 32 }
-    ensures { result ≡ block key.now counter nonce.now ∷ block key.now (counter + 1) nonce.now
-        ∷ block key.now (counter + 2) nonce.now ∷ block key.now (counter + 3) nonce.now ∷ [] }
-{
-    let x = four_lanes(key, counter, nonce);
-    let mut first = [0; 64];
-    let mut second = [0; 64];
-    let mut third = [0; 64];
-    let mut fourth = [0; 64];
-    xor_lanes(&x, &mut first, &mut second, &mut third, &mut fourth);
-    [first, second, third, fourth]
-}
-
-/// XORs the four blocks with the counters `counter` to `counter + 3` into 256 bytes (RFC 8439, 2.4). The
-/// caller shows that these are counters of 32 bits.
-pub fn xor_four_blocks(key: &Key32, counter: u32, nonce: &Nonce, bytes: &mut [u8])
+// XORs the first 256 bytes of the key stream from a counter on.
+pub(crate) fn xor_four_blocks(key: &Key32, counter: u32, nonce: &Nonce, bytes: &mut [u8])
     requires counters { counter + 3 < 2 ^ 32 }
     requires size { length bytes.old ≡ 256 }
     ensures { bytes.new ≡ masked (key_stream_byte key.now nonce.now counter) 0 bytes.old }
@@ -304,7 +319,7 @@ pub fn xor_four_blocks(key: &Key32, counter: u32, nonce: &Nonce, bytes: &mut [u8
     xor_written(&four_lanes(key, counter, nonce), bytes);
 }
 
-// XORs the first 512 bytes of the key stream from a counter on, and does thirty steps of other work.
+// XORs the first 512 bytes of the key stream from a counter on, and does forty steps of other work.
 pub(crate) fn xor_eight_blocks<W: Work>(
     key: &Key32,
     counter: u32,

@@ -1,4 +1,4 @@
-//! ChaCha20 (RFC 8439, 2.1 to 2.4): the block, two and four blocks at once, and the key stream in pieces.
+//! ChaCha20 (RFC 8439, 2.1 to 2.4): the block, and the key stream in pieces.
 #![tactic(auto)]
 
 mod lanes;
@@ -11,7 +11,5 @@ mod tests;
 #[cfg(test)]
 mod uses;
 
-pub use lanes::{four_blocks, xor_four_blocks};
-pub use rows::two_blocks;
 pub use single::block;
-pub use stream::ChaStream;
+pub use stream::{ChaStream, key_stream_start};

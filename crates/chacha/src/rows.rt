@@ -119,9 +119,8 @@ fn written(x: &[u32x4; 4], start: &[u32x4; 4]) -> [u8; 64]
     out
 }
 
-/// The two blocks of 64 bytes with the counters `counter` and `counter + 1` (RFC 8439, 2.3), in the time
-/// of one. The caller shows that these are counters of 32 bits.
-pub fn two_blocks(key: &Key32, counter: u32, nonce: &Nonce) -> [[u8; 64]; 2]
+// The two blocks with the counters `counter` and `counter + 1` (RFC 8439, 2.3), in the time of one.
+pub(crate) fn two_blocks(key: &Key32, counter: u32, nonce: &Nonce) -> [[u8; 64]; 2]
     requires { counter + 1 < 2 ^ 32 }
     ensures { result ≡ block key.now counter nonce.now ∷ block key.now (counter + 1) nonce.now ∷ [] }
 {

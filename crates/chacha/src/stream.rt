@@ -1,7 +1,7 @@
 // The key stream, in pieces.
 
 ghost use Rattle.std.specs.Prelude.{◌≡◌, ℕ, ◌+◌, ◌-◌, ◌*◌, ◌^◌, ◌<◌, ◌≤◌, ◌++◌, List, length, take, drop};
-ghost use Rattle.std.specs.Prelude.{min, MatchResult};
+ghost use Rattle.std.specs.Prelude.{min, slice_index, MatchResult};
 ghost use Rattle.octets.specs.Bytes.{xor_bytes};
 ghost use Rattle.octets.specs.Masked.{masked};
 ghost use Rattle.chacha.specs.Stream.{key_stream_byte};
@@ -89,6 +89,17 @@ impl Stream for ChaStream {
     fn apply_beside<W: Work>(&mut self, bytes: &mut [u8], work: &mut W) {
         let _ = self.apply_with(bytes, work);
     }
+}
+
+/// The first `N` bytes of the key stream from counter 0 on (RFC 8439, 2.4). The caller shows that they are at
+/// most 2^38.
+pub fn key_stream_start<const N: usize>(key: &Key32, nonce: &Nonce) -> [u8; N]
+    requires { N ≤ 2 ^ 38 }
+    ensures { (i : ℕ) → i < N → slice_index result i ≡ key_stream_byte key.now nonce.now 0 i }
+{
+    let mut start = [0; N];
+    xor_stream(key, nonce, 0, &mut start, &mut Idle);
+    start
 }
 
 // XORs the key stream into the bytes, from a place of the stream that begins at counter 0.

@@ -98,37 +98,21 @@ fn ten_blocks(key: &Key32, nonce: &Nonce, first: u32) -> [[u8; 64]; 10] {
     blocks
 }
 
-// Whether four blocks at once are those that are made one by one.
-fn four_agree(rt: &impl Abort, first: u32) -> bool
-    requires { first + 3 < 2 ^ 32 }
+// Whether the start of the key stream is the blocks that are made one by one.
+fn starts_with_blocks<const N: usize>(rt: &impl Abort) -> bool
+    requires { N ≤ 640 }
 {
     let (key, nonce) = key_and_nonce(rt);
-    let expected = ten_blocks(&key, &nonce, first);
-    let blocks = four_blocks(&key, first, &nonce);
-    let mut bytes = [0; 256];
-    xor_four_blocks(&key, first, &nonce, &mut bytes);
-    expected.starts_with(&blocks) && expected.as_flattened().starts_with(&bytes)
+    let blocks = ten_blocks(&key, &nonce, 0);
+    let start: [u8; N] = key_stream_start(&key, &nonce);
+    blocks.as_flattened().starts_with(&start)
 }
 
 #[test]
-fn four_blocks_are_single_blocks(rt: HostRuntime) {
-    assert!(rt; four_agree(&rt, 0));
-    assert!(rt; four_agree(&rt, u32::MAX - 3));
-}
-
-// Whether two blocks at once are those that are made one by one.
-fn two_agree(rt: &impl Abort, first: u32) -> bool
-    requires { first + 1 < 2 ^ 32 }
-{
-    let (key, nonce) = key_and_nonce(rt);
-    let expected = ten_blocks(&key, &nonce, first);
-    expected.starts_with(&two_blocks(&key, first, &nonce))
-}
-
-#[test]
-fn two_blocks_are_single_blocks(rt: HostRuntime) {
-    assert!(rt; two_agree(&rt, 0));
-    assert!(rt; two_agree(&rt, u32::MAX - 1));
+fn the_start_is_single_blocks(rt: HostRuntime) {
+    assert!(rt; starts_with_blocks::<128>(&rt));
+    assert!(rt; starts_with_blocks::<256>(&rt));
+    assert!(rt; starts_with_blocks::<512>(&rt));
 }
 
 // A key stream, and its first ten blocks.

@@ -1,0 +1,41 @@
+use Rattle.std.proofs.Common.{◌∙◌, [], sym, true≢false}
+use Rattle.aead.specs.Sealing.{Setting, Fits, tag_of}
+use Rattle.aead.specs.Ciphers.{setting}
+use Rattle.aead.specs.Code.Maskings.{message_task}
+use Rattle.aead.proofs.Opens.{fits_by, unmasked, no_sealing, opened_as, body_tag}
+use Rattle.aead.proofs.mask_then_hash.open_beside.Goals as goal
+
+pub returns-then-same : goal.returns-then-same
+returns-then-same g c =
+    let s : Setting = setting (g.N.Nonced.keyed c.args.nonced.now) (g.N.Nonced.nonce c.args.nonced.now)
+    c.args.aad.now in
+    let fits : Fits s c.args.body.now =
+    fits_by s c.suite-suite.result c.args.body.now c.suite-suite.ensures c.in_ok-check_aad.ensures
+    c.in_ok-check_text.ensures.answer in
+    let t = message_task s c.args.tag.now in
+    let fed = c.update.ensures.masked t []
+    (c.masking-opening.ensures.holds c.args.tag.now (c.mask.ensures c.args.aad.now c.args.tag.now)) in
+    opened_as s c.args.body.now c.args.tag.now c.update.new.piece fits (λ i. (c.type_inv.body i).fits) fed.1
+    (body_tag s c.args.tag.now c.args.body.now (g.met.N.MaskThenHash.one_pass c.args.nonced.now)
+    ∙ sym (c.finish.ensures t c.args.body.now fed.0) ∙ sym c.bytes.ensures.value
+    ∙ c.same.ensures.0 c.if-same.true ∙ c.bytes-given.ensures.value)
+
+pub returns-else-same : goal.returns-else-same
+returns-else-same g c =
+    let s : Setting = setting (g.N.Nonced.keyed c.args.nonced.now) (g.N.Nonced.nonce c.args.nonced.now)
+    c.args.aad.now in
+    let fits : Fits s c.args.body.now =
+    fits_by s c.suite-suite.result c.args.body.now c.suite-suite.ensures c.in_ok-check_aad.ensures
+    c.in_ok-check_text.ensures.answer in
+    let t = message_task s c.args.tag.now in
+    let fed = c.update.ensures.masked t []
+    (c.masking-opening.ensures.holds c.args.tag.now (c.mask.ensures c.args.aad.now c.args.tag.now)) in (
+      fits,
+      no_sealing s c.args.body.now c.args.tag.now c.bytes-given.ensures.is_block.length_is
+          (λ e. true≢false
+          (sym (c.same.ensures.1
+          (c.bytes.ensures.value ∙ c.finish.ensures t c.args.body.now fed.0
+          ∙ sym (body_tag s c.args.tag.now c.args.body.now (g.met.N.MaskThenHash.one_pass c.args.nonced.now))
+          ∙ e ∙ sym c.bytes-given.ensures.value))
+          ∙ c.if-same.false)),
+    )

@@ -1,0 +1,9 @@
+use Rattle.std.proofs.Common.{ap, get_or, ◌∙◌}
+use Rattle.chacha.specs.Stream.{key_stream_byte}
+use Rattle.chacha.proofs.Masking.{bytes_of_zeros}
+use Rattle.chacha.proofs.stream.key_stream_start.Goals as goal
+
+pub returns : goal.returns
+returns g c = λ i l.
+    ap (λ s. get_or s i 0) c.xor_stream.ensures.masked
+    ∙ bytes_of_zeros (key_stream_byte c.args.key.now c.args.nonce.now 0) g.row.N i l
