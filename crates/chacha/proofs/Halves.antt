@@ -1,5 +1,5 @@
 -- The rounds in halves are the rounds.
-use Rattle.std.proofs.Common.{◌≡◌, ℕ, zero, suc, ◌*◌, ◌%◌, List, [], ◌∷◌, length, get_or, refl, ap, ap₂, sym, ◌∙◌, arith}
+use Rattle.std.proofs.Common.{◌≡◌, ℕ, zero, suc, ◌*◌, ◌%◌, List, [], ◌∷◌, length, refl, ap, ap₂, sym, ◌∙◌, arith}
 use Rattle.chacha.specs.Block.{add_xor_rotate, quarter_round, column_round, diagonal_round, double_rounds}
 use Rattle.chacha.specs.Code.Halves.{half_quarter, half_columns, half_diagonals, half_round, half_rounds}
 use Rattle.chacha.proofs.ByRows.{sixteen_items}

@@ -1,8 +1,8 @@
 use Rattle.std.proofs.Common.{◌∙◌, [], sym, true≢false}
-use Rattle.aead.specs.Sealing.{Setting, Fits, tag_of}
+use Rattle.aead.specs.Sealing.{Setting, Fits}
 use Rattle.aead.specs.Ciphers.{setting}
 use Rattle.aead.specs.Code.Maskings.{message_task}
-use Rattle.aead.proofs.Opens.{fits_by, unmasked, no_sealing, opened_as, body_tag}
+use Rattle.aead.proofs.Opens.{fits_by, no_sealing, opened_as, body_tag}
 use Rattle.aead.proofs.mask_then_hash.open_beside.Goals as goal
 
 pub returns-then-same : goal.returns-then-same

@@ -1,7 +1,7 @@
-use Rattle.std.proofs.Common.{◌≡◌, ◌∙◌, ℕ, List, [], sym, ap, ap₂, subst}
+use Rattle.std.proofs.Common.{◌∙◌, [], sym, ap, ap₂, subst}
 use Rattle.gf128.specs.States.{key_of}
 use Rattle.aead.specs.Sealing.{Setting}
-use Rattle.aead.specs.Ciphers.{Keyed, setting}
+use Rattle.aead.specs.Ciphers.{setting}
 use Rattle.aead.specs.AnyCiphers.{one_pass_keyed}
 use Rattle.aead.specs.Code.States.{MadeByChaCha, MadeByGcm, HeldByPoly, HeldByGhash}
 use Rattle.aead.specs.Code.Masks.{as_it_leaves}

@@ -1,4 +1,4 @@
-use Rattle.std.proofs.Common.{◌≡◌, ℕ, ◌*◌, ◌%◌, ◌∙◌, refl, ap, arith, add-one}
+use Rattle.std.proofs.Common.{◌≡◌, ◌*◌, ◌%◌, ◌∙◌, refl, ap, arith, add-one}
 use Rattle.chacha.specs.Code.Lanes.{lane}
 use Rattle.chacha.specs.Code.Halves.{half_round, half_rounds}
 use Rattle.chacha.proofs.SideBySide.{length-lane}
