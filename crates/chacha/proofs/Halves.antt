@@ -1,11 +1,12 @@
 -- The rounds in halves are the rounds.
-use Rattle.std.proofs.Common.{◌≡◌, ℕ, zero, suc, ◌*◌, ◌%◌, List, [], ◌∷◌, length, refl, ap, ap₂, sym, ◌∙◌, arith}
+use Rattle.std.proofs.Common.{◌≡◌, ℕ, zero, suc, ◌*◌, ◌%◌, List, [], ◌∷◌, length}
+use Rattle.std.proofs.Common.{refl, ap, ap₂, sym, ◌∙◌, arith}
 use Rattle.chacha.specs.Block.{add_xor_rotate, quarter_round, column_round, diagonal_round, double_rounds}
 use Rattle.chacha.specs.Code.Halves.{half_quarter, half_columns, half_diagonals, half_round, half_rounds}
 use Rattle.chacha.proofs.ByRows.{sixteen_items}
 use Rattle.chacha.proofs.Lengths.{length-column_round, length-double_rounds}
 
--- of sixteen words
+-- both halves of each column, of sixteen words
 columns_of : (a0 a1 a2 a3 b0 b1 b2 b3 c0 c1 c2 c3 d0 d1 d2 d3 : ℕ)
     → half_columns 8 7 (half_columns 16 12
     (a0 ∷ a1 ∷ a2 ∷ a3 ∷ b0 ∷ b1 ∷ b2 ∷ b3 ∷ c0 ∷ c1 ∷ c2 ∷ c3 ∷ d0 ∷ d1 ∷ d2 ∷ d3 ∷ []))
@@ -13,6 +14,7 @@ columns_of : (a0 a1 a2 a3 b0 b1 b2 b3 c0 c1 c2 c3 d0 d1 d2 d3 : ℕ)
 unfolding half_columns half_quarter column_round quarter_round add_xor_rotate
 columns_of a0 a1 a2 a3 b0 b1 b2 b3 c0 c1 c2 c3 d0 d1 d2 d3 = refl
 
+-- and of each diagonal
 diagonals_of : (a0 a1 a2 a3 b0 b1 b2 b3 c0 c1 c2 c3 d0 d1 d2 d3 : ℕ)
     → half_diagonals 8 7 (half_diagonals 16 12
     (a0 ∷ a1 ∷ a2 ∷ a3 ∷ b0 ∷ b1 ∷ b2 ∷ b3 ∷ c0 ∷ c1 ∷ c2 ∷ c3 ∷ d0 ∷ d1 ∷ d2 ∷ d3 ∷ []))
@@ -20,13 +22,14 @@ diagonals_of : (a0 a1 a2 a3 b0 b1 b2 b3 c0 c1 c2 c3 d0 d1 d2 d3 : ℕ)
 unfolding half_diagonals half_quarter diagonal_round quarter_round add_xor_rotate
 diagonals_of a0 a1 a2 a3 b0 b1 b2 b3 c0 c1 c2 c3 d0 d1 d2 d3 = refl
 
--- of a state
+-- both halves of each column are the round of the columns
 columns_in_halves : (s : List ℕ) → length s ≡ 16 → half_columns 8 7 (half_columns 16 12 s) ≡ column_round s
 columns_in_halves s long =
     ap (λ t. half_columns 8 7 (half_columns 16 12 t)) (sym (sixteen_items s long))
     ∙ columns_of _ _ _ _ _ _ _ _ _ _ _ _ _ _ _ _
     ∙ ap column_round (sixteen_items s long)
 
+-- and of each diagonal that of the diagonals
 diagonals_in_halves : (s : List ℕ) → length s ≡ 16
     → half_diagonals 8 7 (half_diagonals 16 12 s) ≡ diagonal_round s
 diagonals_in_halves s long =
@@ -34,6 +37,7 @@ diagonals_in_halves s long =
     ∙ diagonals_of _ _ _ _ _ _ _ _ _ _ _ _ _ _ _ _
     ∙ ap diagonal_round (sixteen_items s long)
 
+-- all four are a double round
 double_round_in_halves : (s : List ℕ) → length s ≡ 16
     → half_diagonals 8 7 (half_diagonals 16 12 (half_columns 8 7 (half_columns 16 12 s)))
     ≡ diagonal_round (column_round s)
@@ -52,7 +56,7 @@ four_more m s first =
     ap₂ half_round fourth (ap₂ half_round third (ap₂ half_round second
     (ap (λ k. half_round k (half_rounds m s)) first)))
 
--- four halves are a double round
+-- as many halves as n double rounds have are these
 pub rounds_in_halves : (n : ℕ) (s : List ℕ) → length s ≡ 16 → half_rounds (n * 4) s ≡ double_rounds n s
 unfolding half_rounds double_rounds
 rounds_in_halves zero s long = refl
