@@ -93,11 +93,7 @@ fn another_line(rt: HostRuntime) {
         (2, b"format = 1\r\r".as_slice(), Err(BadFormat(2))),
         (3, b"suite=aes-128-gcm   ".as_slice(), Ok((2, 0))),
         (3, b" suite = aes-128-gcm".as_slice(), Err(WrongName(3))),
-        (
-            3,
-            b"suite = aes-128-ccm".as_slice(),
-            Err(UnknownSuite(3)),
-        ),
+        (3, b"suite = aes-128-ccm".as_slice(), Err(UnknownSuite(3))),
         (
             4,
             b"key = 0000000000000000000000000000000G".as_slice(),

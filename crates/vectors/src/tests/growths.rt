@@ -25,12 +25,7 @@ fn is_due<A: Allocator + Drop>(
 }
 
 // The number of requests for memory that `check` makes for a file. Each is refused in turn, until none is.
-fn requests(
-    rt: &(impl Abort + Alloc<A = Global>),
-    file: &[u8],
-    records: u64,
-    bad: &[u64],
-) -> u64 {
+fn requests(rt: &(impl Abort + Alloc<A = Global>), file: &[u8], records: u64, bad: &[u64]) -> u64 {
     let mut count = 0u64;
     for passed in 0..99u64 {
         let memory = RefusingMemory::after(passed, rt.alloc());
