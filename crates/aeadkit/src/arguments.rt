@@ -1,4 +1,4 @@
-//! The words behind the program's name.
+//! The words after the program's name.
 ghost use Rattle.std.specs.Io.{WritesAtMost};
 
 use crate::failure::Failure;
@@ -10,11 +10,11 @@ use std::{env, io};
 
 // An environment without the program's name, which need not be text.
 #[derive(Drop)]
-struct Behind<'a, R: Env> {
+struct WithoutName<'a, R: Env> {
     runtime: &'a R,
 }
 
-impl<R: Env> Env for Behind<'_, R> {
+impl<R: Env> Env for WithoutName<'_, R> {
     fn arg(&self, i: usize, buf: &mut [u8]) -> Result<usize, FillError> {
         match i.checked_add(1) {
             Some(next) => self.runtime.arg(next, buf),
@@ -34,7 +34,7 @@ impl<R: Env> Env for Behind<'_, R> {
 /// Returns the words after the program's name. `Words` if one is not UTF-8, `OutOfMemory` if an allocation
 /// fails.
 pub fn words_given<R: Env>(alloc: Global, runtime: &R) -> Result<Vec<String>, Failure> {
-    let words = env::args(&(Behind { runtime }, alloc)).map_err(|error| match error.kind() {
+    let words = env::args(&(WithoutName { runtime }, alloc)).map_err(|error| match error.kind() {
         io::ErrorKind::OutOfMemory => Failure::Fault(Fault::OutOfMemory),
         _ => Failure::Words,
     })?;

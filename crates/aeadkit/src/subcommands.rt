@@ -43,7 +43,7 @@ pub const FILE: &str = "file";
 
 // An argument: an option under its name, or a word.
 #[derive(Clone, Copy)]
-struct Taken {
+struct ArgSpec {
     name: &'static str,
     // The name of its value in help.
     value: &'static str,
@@ -53,253 +53,204 @@ struct Taken {
     action: ArgAction,
 }
 
-const SUITE_TAKEN: Taken = Taken {
+// A required option with a value in hexadecimal, without its name and its help.
+const HEX: ArgSpec = ArgSpec {
+    name: "",
+    value: "HEX",
+    help: "",
+    is_option: true,
+    is_required: true,
+    action: ArgAction::Set,
+};
+
+const SUITE_ARG: ArgSpec = ArgSpec {
     name: SUITE,
     value: "SUITE",
     help: SUITES,
-    is_option: true,
-    is_required: true,
-    action: ArgAction::Set,
+    ..HEX
 };
 
-const KEY_TAKEN: Taken = Taken {
+const KEY_ARG: ArgSpec = ArgSpec {
     name: KEY,
-    value: "HEX",
     help: "The key, as long as the suite says",
-    is_option: true,
-    is_required: true,
-    action: ArgAction::Set,
+    ..HEX
 };
 
-const NONCE_TAKEN: Taken = Taken {
+const NONCE_ARG: ArgSpec = ArgSpec {
     name: NONCE,
-    value: "HEX",
     help: "The nonce: 12 bytes",
-    is_option: true,
-    is_required: true,
-    action: ArgAction::Set,
+    ..HEX
 };
 
-const AAD_TAKEN: Taken = Taken {
+const AAD_ARG: ArgSpec = ArgSpec {
     name: AAD,
-    value: "HEX",
     help: "The associated data",
-    is_option: true,
     is_required: false,
-    action: ArgAction::Set,
+    ..HEX
 };
 
-const TEXT_TAKEN: Taken = Taken {
+const TEXT_ARG: ArgSpec = ArgSpec {
     name: TEXT,
-    value: "HEX",
     help: "The text",
-    is_option: true,
     is_required: false,
-    action: ArgAction::Set,
+    ..HEX
 };
 
-const SEALED_TAKEN: Taken = Taken {
+const SEALED_ARG: ArgSpec = ArgSpec {
     name: SEALED,
-    value: "HEX",
     help: "The ciphertext, then the tag",
-    is_option: true,
-    is_required: true,
-    action: ArgAction::Set,
+    ..HEX
 };
 
-const IN_TAKEN: Taken = Taken {
+const IN_ARG: ArgSpec = ArgSpec {
     name: IN,
     value: "IN",
     help: "The file that is read",
-    is_option: true,
-    is_required: true,
-    action: ArgAction::Set,
+    ..HEX
 };
 
-const OUT_TAKEN: Taken = Taken {
+const OUT_ARG: ArgSpec = ArgSpec {
     name: OUT,
     value: "OUT",
     help: "The file that is written",
-    is_option: true,
-    is_required: true,
-    action: ArgAction::Set,
+    ..HEX
 };
 
-const WRAP_KEY_TAKEN: Taken = Taken {
-    name: KEY,
-    value: "HEX",
+const WRAP_KEY_ARG: ArgSpec = ArgSpec {
     help: WRAP_KEY,
-    is_option: true,
-    is_required: true,
-    action: ArgAction::Set,
+    ..KEY_ARG
 };
 
-const WRAP_TEXT_TAKEN: Taken = Taken {
-    name: TEXT,
-    value: "HEX",
-    help: "The text",
-    is_option: true,
+const WRAP_TEXT_ARG: ArgSpec = ArgSpec {
     is_required: true,
-    action: ArgAction::Set,
+    ..TEXT_ARG
 };
 
-const WRAPPING_TAKEN: Taken = Taken {
-    name: SEALED,
-    value: "HEX",
+const WRAPPING_ARG: ArgSpec = ArgSpec {
     help: "The wrapping",
-    is_option: true,
-    is_required: true,
-    action: ArgAction::Set,
+    ..SEALED_ARG
 };
 
 // It has no value.
-const PAD_TAKEN: Taken = Taken {
+const PAD_ARG: ArgSpec = ArgSpec {
     name: PAD,
     value: "",
     help: "With padding (RFC 5649)",
-    is_option: true,
     is_required: false,
     action: ArgAction::SetTrue,
+    ..HEX
 };
 
-const FILE_TAKEN: Taken = Taken {
+const FILE_ARG: ArgSpec = ArgSpec {
     name: FILE,
     value: "FILE",
     help: "The vector file",
     is_option: false,
-    is_required: true,
-    action: ArgAction::Set,
+    ..HEX
 };
 
-const SEAL_TAKES: [Taken; 5] = [SUITE_TAKEN, KEY_TAKEN, NONCE_TAKEN, AAD_TAKEN, TEXT_TAKEN];
+const SEAL_ARGS: [ArgSpec; 5] = [SUITE_ARG, KEY_ARG, NONCE_ARG, AAD_ARG, TEXT_ARG];
 
-const OPEN_TAKES: [Taken; 5] = [SUITE_TAKEN, KEY_TAKEN, NONCE_TAKEN, AAD_TAKEN, SEALED_TAKEN];
+const OPEN_ARGS: [ArgSpec; 5] = [SUITE_ARG, KEY_ARG, NONCE_ARG, AAD_ARG, SEALED_ARG];
 
-const WRAP_TAKES: [Taken; 3] = [WRAP_KEY_TAKEN, WRAP_TEXT_TAKEN, PAD_TAKEN];
+const WRAP_ARGS: [ArgSpec; 3] = [WRAP_KEY_ARG, WRAP_TEXT_ARG, PAD_ARG];
 
-const UNWRAP_TAKES: [Taken; 3] = [WRAP_KEY_TAKEN, WRAPPING_TAKEN, PAD_TAKEN];
+const UNWRAP_ARGS: [ArgSpec; 3] = [WRAP_KEY_ARG, WRAPPING_ARG, PAD_ARG];
 
-const FILES_TAKE: [Taken; 6] = [
-    SUITE_TAKEN,
-    KEY_TAKEN,
-    NONCE_TAKEN,
-    AAD_TAKEN,
-    IN_TAKEN,
-    OUT_TAKEN,
-];
+const FILE_ARGS: [ArgSpec; 6] = [SUITE_ARG, KEY_ARG, NONCE_ARG, AAD_ARG, IN_ARG, OUT_ARG];
 
-const CHECK_TAKES: [Taken; 1] = [FILE_TAKEN];
+const CHECK_ARGS: [ArgSpec; 1] = [FILE_ARG];
 
 // A subcommand: what it does, in a line, what else its help says, and its arguments.
 #[derive(Clone, Copy)]
-struct Form {
+struct CommandSpec {
     name: &'static str,
     about: &'static str,
     more: &'static str,
-    takes: &'static [Taken],
+    args: &'static [ArgSpec],
 }
 
-const FORMS: [Form; 7] = [
-    Form {
+const SUBCOMMANDS: [CommandSpec; 7] = [
+    CommandSpec {
         name: SEAL,
         about: "Seals a text",
         more: SEAL_MORE,
-        takes: &SEAL_TAKES,
+        args: &SEAL_ARGS,
     },
-    Form {
+    CommandSpec {
         name: OPEN,
         about: "Opens sealed bytes",
         more: OPEN_MORE,
-        takes: &OPEN_TAKES,
+        args: &OPEN_ARGS,
     },
-    Form {
+    CommandSpec {
         name: WRAP,
         about: "Wraps a text by AES Key Wrap",
         more: WRAP_MORE,
-        takes: &WRAP_TAKES,
+        args: &WRAP_ARGS,
     },
-    Form {
+    CommandSpec {
         name: UNWRAP,
         about: "Unwraps the bytes of a wrapping",
         more: UNWRAP_MORE,
-        takes: &UNWRAP_TAKES,
+        args: &UNWRAP_ARGS,
     },
-    Form {
+    CommandSpec {
         name: SEAL_FILE,
         about: "Seals a file into another",
         more: SEAL_FILE_MORE,
-        takes: &FILES_TAKE,
+        args: &FILE_ARGS,
     },
-    Form {
+    CommandSpec {
         name: OPEN_FILE,
         about: "Opens a sealed file into another",
         more: OPEN_FILE_MORE,
-        takes: &FILES_TAKE,
+        args: &FILE_ARGS,
     },
-    Form {
+    CommandSpec {
         name: CHECK,
         about: "Checks each record of a vector file against its standard",
         more: CHECK_MORE,
-        takes: &CHECK_TAKES,
+        args: &CHECK_ARGS,
     },
 ];
 
 // An argument, for clap.
-fn argument<'a>(alloc: Global, taken: Taken) -> Arg<'a> {
-    let word = Arg::new(alloc, taken.name)
-        .value_name(taken.value)
-        .help(taken.help)
-        .required(taken.is_required)
-        .action(taken.action);
-    if taken.is_option {
-        word.long(taken.name)
+fn argument<'a>(alloc: Global, spec: ArgSpec) -> Arg<'a> {
+    let word = Arg::new(alloc, spec.name)
+        .value_name(spec.value)
+        .help(spec.help)
+        .required(spec.is_required)
+        .action(spec.action);
+    if spec.is_option {
+        word.long(spec.name)
     } else {
         word
     }
 }
 
-// A subcommand and its arguments.
-fn with_arguments<'a>(
-    alloc: Global,
-    bare: Command<'a>,
-    takes: &[Taken],
-) -> Result<Command<'a>, AllocError> {
-    let mut command = bare;
-    for taken in takes {
-        command = command.arg(argument(alloc, *taken))?;
-    }
-    Ok(command)
-}
-
 // A subcommand, for clap.
-fn subcommand<'a>(alloc: Global, form: Form) -> Result<Command<'a>, AllocError> {
-    let bare = Command::new(alloc, form.name)
-        .about(form.about)
-        .after_help(form.more);
-    with_arguments(alloc, bare, form.takes)
-}
-
-// A command line and its subcommands.
-fn with_subcommands<'a>(
-    alloc: Global,
-    bare: Command<'a>,
-    forms: &[Form],
-) -> Result<Command<'a>, AllocError> {
-    let mut command = bare;
-    for form in forms {
-        command = command.subcommand(subcommand(alloc, *form)?)?;
+fn subcommand<'a>(alloc: Global, spec: &CommandSpec) -> Result<Command<'a>, AllocError> {
+    let mut command = Command::new(alloc, spec.name)
+        .about(spec.about)
+        .after_help(spec.more);
+    for arg in spec.args {
+        command = command.arg(argument(alloc, *arg))?;
     }
     Ok(command)
 }
 
 /// The program's command line.
 pub fn command<'a>(alloc: Global) -> Result<Command<'a>, AllocError> {
-    let bare = Command::new(alloc, "aeadkit")
+    let mut command = Command::new(alloc, "aeadkit")
         .about("Authenticated encryption and key wrapping by published standards")
         .after_help(ABOUT_HEX)
         .version(VERSION)
         .no_binary_name(true)
         .subcommand_required(true)
         .bin_name("aeadkit")?;
-    with_subcommands(alloc, bare, &FORMS)
+    for spec in &SUBCOMMANDS {
+        command = command.subcommand(subcommand(alloc, spec)?)?;
+    }
+    Ok(command)
 }

@@ -8,12 +8,11 @@ mod helps;
 mod published;
 mod scripted;
 mod seals;
-mod vector_files;
 mod wraps;
 
 use crate::run::run;
 use crate::storage::Storage;
-use devices::NoFiles;
+use devices::NO_FILES;
 use std::alloc::Global;
 use std::io::Write;
 use std::process::Abort;
@@ -50,12 +49,12 @@ fn runs_over<F: Storage>(
 // The words print one line, with status 0, and nothing to standard error.
 fn prints(rt: &(impl Abort + Alloc<A = Global>), words: &[&str], line: &str) {
     let mut out: Vec<u8> = Vec::new(rt.alloc());
-    runs_into(rt, &NoFiles, words, &mut out, 0, "");
+    runs_into(rt, &NO_FILES, words, &mut out, 0, "");
     let printed = out.as_slice().split_last();
     assert!(rt; printed == Some((&b'\n', line.as_bytes())), "{words:?}");
 }
 
 // The words are refused with a status and a line on standard error, and print nothing.
 fn refuses(rt: &(impl Abort + Alloc<A = Global>), words: &[&str], status: u8, complaint: &str) {
-    runs_over(rt, &NoFiles, words, status, "", complaint);
+    runs_over(rt, &NO_FILES, words, status, "", complaint);
 }

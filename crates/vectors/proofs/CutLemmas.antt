@@ -14,7 +14,7 @@ use Rattle.std.proofs.lemmas.List.Sums.{fails_before_first}
 use Rattle.std.proofs.lemmas.List.Splits.{slice_split_first, slice_split_none}
 
 -- whether a byte is a comma
-abbrev pub is_comma : ℕ → Bool
+abbrev is_comma : ℕ → Bool
 is_comma b = eqb b 44
 
 -- what the first place says
@@ -62,7 +62,7 @@ value_more text i l =
     (get_or-map digit text i 0 0 l)
 
 -- more digits are no less
-pub value_grows : (text : List ℕ) (i : ℕ) → decimal_value (take i text) ≤ decimal_value text
+value_grows : (text : List ℕ) (i : ℕ) → decimal_value (take i text) ≤ decimal_value text
 unfolding decimal_value
 value_grows text i =
     let front : List ℕ = map digit (take i text) in

@@ -29,13 +29,13 @@ bind_ok (Ok x) f y e = (x, refl, e)
 bind_ok (Err d) f y e = absurd cc
 
 -- a test that leads to Ok
-pub guard_ok : {A : Type 0} (b : Bool) (d : Cause) (x y : A) → cond b (Ok x) (Err d) ≡ Ok y
+guard_ok : {A : Type 0} (b : Bool) (d : Cause) (x y : A) → cond b (Ok x) (Err d) ≡ Ok y
     → (b ≡ true) × (x ≡ y)
 guard_ok true d x y e = (refl, cc)
 guard_ok false d x y e = absurd cc
 
 -- what was found is what there was
-pub found_ok : {A : Type 0} (d : Cause) (f : Option A) (x : A) → ok_or d f ≡ Ok x → f ≡ Some x
+found_ok : {A : Type 0} (d : Cause) (f : Option A) (x : A) → ok_or d f ≡ Ok x → f ≡ Some x
 found_ok d None x e = absurd cc
 found_ok d (Some y) x e = cc
 
@@ -61,18 +61,18 @@ no_gap line f h = gap_cases (is_gap line) (field_of line) f h refl where
   gap_cases false g f e is = is
 
 -- the value of a line is read exactly where the grammar has it
-pub value_ok : (name line v : List ℕ) → value_at name line ≡ Ok v → IsField line name v
+value_ok : (name line v : List ℕ) → value_at name line ≡ Ok v → IsField line name v
 unfolding value_at
 value_ok name line v e = named_ok name v (value_line line) e
 
 -- a value line is read
-pub value_again : (name line v : List ℕ) → IsField line name v → value_at name line ≡ Ok v
+value_again : (name line v : List ℕ) → IsField line name v → value_at name line ≡ Ok v
 unfolding value_at
 value_again name line v h =
     rw h (ap (λ (b : Bool). cond b (Ok v) (Err WrongName)) ((bytes_eq-Decides name name).1 refl))
 
 -- and so are its bytes
-pub hex_ok : (name line v : List ℕ) → hex_at name line ≡ Ok v → IsHexField line name v
+hex_ok : (name line v : List ℕ) → hex_at name line ≡ Ok v → IsHexField line name v
 unfolding hex_at
 hex_ok name line v e =
     let b = bind_ok (value_at name line) (λ digits. cond (is_hex digits) (Ok (bytes_of digits)) (Err BadHex))
@@ -81,7 +81,7 @@ hex_ok name line v e =
     record { digits = b.0; field = value_ok name line b.0 b.1; spelled = spells b.0 g.0 ∙ ap Ok g.1 }
 
 -- a hexadecimal value line is read
-pub hex_again : (name line v : List ℕ) → IsHexField line name v → hex_at name line ≡ Ok v
+hex_again : (name line v : List ℕ) → IsHexField line name v → hex_at name line ≡ Ok v
 unfolding hex_at
 hex_again name line v h =
     rw (value_again name line h.digits h.field, spelled-digits h.digits v h.spelled)
@@ -171,7 +171,7 @@ unfolding text_at
 text_again F r line v h = rw (hex_again (codes "text") line v h) refl
 
 -- a line of cuts that was read
-pub cuts_ok : (F : Format) (r : Record) (line : List ℕ) (x : Next) → cuts_at F r line ≡ Ok x
+cuts_ok : (F : Format) (r : Record) (line : List ℕ) (x : Next) → cuts_at F r line ≡ Ok x
     → IsCutsLine r line × (◌≡◌ {A = Next} (steps.text F r, []) x)
 unfolding cuts_at
 cuts_ok F r line x e =
@@ -181,7 +181,7 @@ cuts_ok F r line x e =
     (record { value = b.0; field = value_ok (codes "cuts") line b.0 b.1; cuts = g.0 }, g.1)
 
 -- a line of cuts is read
-pub cuts_again : (F : Format) (r : Record) (line : List ℕ) → IsCutsLine r line
+cuts_again : (F : Format) (r : Record) (line : List ℕ) → IsCutsLine r line
     → cuts_at F r line ≡ Ok (steps.text F r, [])
 unfolding cuts_at
 cuts_again F r line h = rw (value_again (codes "cuts") line h.value h.field, h.cuts) refl

@@ -28,7 +28,7 @@ trim_none (b ∷ c ∷ cs) zero e h = absurd (omega arith)
 trim_none (b ∷ c ∷ cs) (suc n) e h = ap (before_trimmed b) (trim_none (c ∷ cs) n (omega arith) h)
 
 -- whether a byte is a line feed
-abbrev pub is_lf : ℕ → Bool
+abbrev is_lf : ℕ → Bool
 is_lf b = eqb b 10
 
 -- what isn't true is false
@@ -79,7 +79,7 @@ one_part [] h = absurd (h refl)
 one_part (b ∷ bs) h = rw (eqb_suc (length bs)) refl
 
 -- with no line feed, the bytes are the one line
-pub lines_none : (bs : List ℕ) → bs ≢ [] → length bs ≤ position_or_len is_lf bs → lines bs ≡ bs ∷ []
+lines_none : (bs : List ℕ) → bs ≢ [] → length bs ≤ position_or_len is_lf bs → lines bs ≡ bs ∷ []
 lines_none bs h e = ap lines_of_parts (slice_split_none is_lf bs (none_passes bs e)) ∙ one_part bs h
 
 -- what the first place says
@@ -96,7 +96,7 @@ behind : (bs : List ℕ) (k : ℕ) → take (length bs - k) (drop k bs) ≡ drop
 behind bs k = grind (arith, common_steps)
 
 -- the lines of bytes with a line feed at i
-pub lines_some : (bs : List ℕ) (i : ℕ) → Some i ≡ position is_lf bs
+lines_some : (bs : List ℕ) (i : ℕ) → Some i ≡ position is_lf bs
     → lines bs ≡ strip_carriage_return (take i bs) ∷ lines (take (length bs - (i + 1)) (drop (i + 1) bs))
 lines_some bs i e =
     let at = some_place bs i e in

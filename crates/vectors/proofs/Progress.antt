@@ -150,7 +150,7 @@ cut_off lines n p rs inside h none is =
     }
 
 -- a file has no fault
-pub no_fault : (lines : List (List ℕ)) (n : ℕ) (c : Cause) (rs : List Record) → IsFaultAt lines n c
+no_fault : (lines : List (List ℕ)) (n : ℕ) (c : Cause) (rs : List Record) → IsFaultAt lines n c
     → IsFile lines rs → ⊥
 no_fault lines n c rs f file =
     let whole : run steps.start ((f.before ++ f.line ∷ []) ++ f.after) ≡ Ok (steps.between file.format, rs) =

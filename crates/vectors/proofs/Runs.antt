@@ -27,7 +27,7 @@ abbrev pub behind : List Record → Read → Read
 behind front read = read >>= λ x. Ok (x.0, front ++ x.1)
 
 -- what was read, behind some records
-pub behind-Ok : (front : List Record) (read : Read) (x : Next) → read ≡ Ok x
+behind-Ok : (front : List Record) (read : Read) (x : Next) → read ≡ Ok x
     → behind front read ≡ Ok (x.0, front ++ x.1)
 behind-Ok front read x e = rw e refl
 
@@ -52,7 +52,7 @@ unfolding run
 run-nil p x e = ok_is (p, []) x e
 
 -- one more line
-pub run-cons : (p : Place) (l : List ℕ) (ls : List (List ℕ)) (x : Next) → step p l ≡ Ok x
+run-cons : (p : Place) (l : List ℕ) (ls : List (List ℕ)) (x : Next) → step p l ≡ Ok x
     → run p (l ∷ ls) ≡ behind x.1 (run x.0 ls)
 unfolding run
 run-cons p l ls x e = rw e refl
@@ -131,7 +131,7 @@ unfolding step
 suite-line F l s h = rw (no_gap l (codes "suite", h.name) h.field, suite_again F l s h) refl
 
 -- the line of a field
-pub field-line : (F : Format) (f : Field) (fs : List Field) (r : Record) (l v : List ℕ)
+field-line : (F : Format) (f : Field) (fs : List Field) (r : Record) (l v : List ℕ)
     → IsFieldLine r.suite f l v
     → step (steps.fields F (f ∷ fs) r) l ≡ Ok (steps.fields F fs (with_field f v r), [])
 unfolding step

@@ -23,7 +23,7 @@ use Rattle.vectors.proofs.Runs.{both, one, first, run-front, complete}
 use Rattle.vectors.proofs.Places.{At, lines_at}
 
 -- n lines that lead from a place to the end of a record
-pub record Ending (p : Place) (n : ℕ) : Type 0 where
+record Ending (p : Place) (n : ℕ) : Type 0 where
   pub format : Format
   pub more : List (List ℕ)
   pub size : length more ≡ n
@@ -138,7 +138,7 @@ unfolding step format_at value_line field_of
 format-step = refl
 
 -- from a place a record can be ended in five lines
-pub record Endable (p : Place) : Type 0 where
+record Endable (p : Place) : Type 0 where
   pub n : ℕ
   pub few : n ≤ 5
   pub ending : Ending p n

@@ -1,26 +1,58 @@
 //! `check` on vector files.
-use super::devices::{BrokenFiles, Narrow, NoFiles, OneFile};
+use super::devices::{BrokenFiles, FailsAfter, NO_FILES, OneFile};
 use super::files::{make_file, make_folder, remove_folder};
-use super::vector_files::{
-    ODD_NONCE, TWO_BAD_RECORDS, TWO_RECORDS, WRONG_CUTS, one_of_eighteen_bad,
-};
 use super::{runs_into, runs_over};
 use crate::storage::Disk;
 use octets::RefusingMemory;
+use std::alloc::Global;
 use std::io;
-use std::test::Fail;
+use std::process::Abort;
+
+/// Two records with these ends: a published vector of GCM, and its sealed bytes with another last byte.
+pub fn two_records(
+    rt: &(impl Abort + Alloc<A = Global>),
+    first_end: &str,
+    second_end: &str,
+) -> String {
+    let record = "suite = aes-128-gcm
+key = 00000000000000000000000000000000
+nonce = 000000000000000000000000
+aad =
+sealed = 58e2fccefa7e3061367f1d57a4e745";
+    format!(in rt.alloc();
+        "# two records\nformat = 1\n{record}5a\n{first_end}\n\n{record}5b\n{second_end}\n"
+    ).expect(rt, "memory")
+}
+
+// A record of format 2 whose cut is no place inside its text.
+const WRONG_CUTS: &str = "format = 2
+suite = aes-128-gcm-siv
+key = 01000000000000000000000000000000
+nonce = 030000000000000000000000
+aad =
+sealed = b5d839330ac7b786578782fff6013b815b287c22493a364c
+cuts = 9
+text = 0100000000000000
+";
 
 const WORDS: [&str; 2] = ["check", "vectors.txt"];
 
 // The report of a file, or its first fault.
 #[test]
 fn reports(rt: HostRuntime) {
+    let good = two_records(&rt, "text =", "invalid");
+    let bad = two_records(&rt, "invalid", "text =");
     for (file, status, printed, complaint) in [
-        (TWO_RECORDS, 0, "records 2\n", ""),
-        (TWO_BAD_RECORDS, 1, "records 2\nbad 1\nbad 2\n", ""),
+        (good.as_str(), 0, "records 2\n", ""),
+        (bad.as_str(), 1, "records 2\nbad 1\nbad 2\n", ""),
         ("format = 1", 1, "", "aeadkit: NoRecords\n"),
         ("", 1, "", "aeadkit: NoRecords\n"),
-        (ODD_NONCE, 1, "", "aeadkit: BadHex at line 4\n"),
+        (
+            "#\nformat = 1\nsuite = aes-128-wrap\nkey = 000\n",
+            1,
+            "",
+            "aeadkit: BadHex at line 4\n",
+        ),
         ("format = 3\n", 1, "", "aeadkit: BadFormat at line 1\n"),
         (
             "format = 1\nsuite = des\n",
@@ -61,21 +93,10 @@ fn reports(rt: HostRuntime) {
     }
 }
 
-// The published vectors agree, but for one whose text is denied.
-#[test]
-fn published_vectors(rt: HostRuntime) -> Result<(), Fail> {
-    let file = one_of_eighteen_bad(rt.alloc())?;
-    let files = OneFile {
-        file: file.as_bytes(),
-    };
-    runs_over(&rt, &files, &WORDS, 1, "records 18\nbad 5\n", "");
-    Ok(())
-}
-
 // A file that can't be opened or read is `Read`, and want of memory at its opening is `OutOfMemory`.
 #[test]
 fn unreadable_files(rt: HostRuntime) {
-    runs_over(&rt, &NoFiles, &WORDS, 3, "", "aeadkit: Read\n");
+    runs_over(&rt, &NO_FILES, &WORDS, 3, "", "aeadkit: Read\n");
     for kind in [io::ErrorKind::IsADirectory, io::ErrorKind::OutOfMemory] {
         for room in [0, 100] {
             let files = BrokenFiles {
@@ -97,11 +118,12 @@ fn unreadable_files(rt: HostRuntime) {
 // A report that can't be printed is `Write`.
 #[test]
 fn failing_output(rt: HostRuntime) {
+    let file = two_records(&rt, "text =", "invalid");
     let files = OneFile {
-        file: TWO_RECORDS.as_bytes(),
+        file: file.as_bytes(),
     };
     let kind = io::ErrorKind::StorageFull;
-    let mut out = Narrow { room: 8, kind };
+    let mut out = FailsAfter { room: 8, kind };
     runs_into(&rt, &files, &WORDS, &mut out, 3, "aeadkit: Write\n");
 }
 
@@ -111,7 +133,8 @@ fn system_files(rt: HostRuntime) {
     let folder = "aeadkit_checks";
     let path = "aeadkit_checks/vectors.txt";
     make_folder(&rt, folder);
-    make_file(&rt, path, TWO_BAD_RECORDS.as_bytes());
+    let bad = two_records(&rt, "invalid", "text =");
+    make_file(&rt, path, bad.as_bytes());
     let files = Disk::new(&rt, rt.alloc());
     let printed = "records 2\nbad 1\nbad 2\n";
     runs_over(&rt, &files, &["check", path], 1, printed, "");

@@ -1,5 +1,5 @@
 //! Files in memory, and files and writers that fail.
-ghost use Rattle.std.specs.Prelude.{Some, false};
+ghost use Rattle.std.specs.Prelude.{Some, false, ◌≤◌, IfOk};
 
 use crate::storage::Storage;
 use octets::{FromRead, SliceIntake, ToWrite};
@@ -14,7 +14,7 @@ pub struct OneFile<'a> {
 impl<'a> Storage for OneFile<'a> {
     type Input = SliceIntake<'a>;
 
-    type Output = ToWrite<Narrow>;
+    type Output = ToWrite<FailsAfter>;
 
     ghost contents = { λ s _ _. Some s.file.now };
 
@@ -24,33 +24,11 @@ impl<'a> Storage for OneFile<'a> {
         Ok(SliceIntake::new(self.file))
     }
 
-    fn create(&self, _path: &str) -> io::Result<ToWrite<Narrow>> {
+    fn create(&self, _path: &str) -> io::Result<ToWrite<FailsAfter>> {
         Err(io::Error::from(io::ErrorKind::PermissionDenied))
     }
 
-    fn sync(&self, _output: &ToWrite<Narrow>) -> io::Result<()> {
-        Ok(())
-    }
-}
-
-/// No files: each opening fails.
-#[derive(Drop)]
-pub struct NoFiles;
-
-impl Storage for NoFiles {
-    type Input = FromRead<BrokenFile>;
-
-    type Output = ToWrite<Narrow>;
-
-    fn open(&self, _path: &str, _reading: u8) -> io::Result<FromRead<BrokenFile>> {
-        Err(io::Error::from(io::ErrorKind::NotFound))
-    }
-
-    fn create(&self, _path: &str) -> io::Result<ToWrite<Narrow>> {
-        Err(io::Error::from(io::ErrorKind::PermissionDenied))
-    }
-
-    fn sync(&self, _output: &ToWrite<Narrow>) -> io::Result<()> {
+    fn sync(&self, _output: &ToWrite<FailsAfter>) -> io::Result<()> {
         Ok(())
     }
 }
@@ -63,66 +41,76 @@ pub struct BrokenFiles {
     pub kind: io::ErrorKind,
 }
 
-impl Storage for BrokenFiles {
-    type Input = FromRead<BrokenFile>;
+/// No files: each opening fails.
+pub const NO_FILES: BrokenFiles = BrokenFiles {
+    opens: false,
+    room: 0,
+    kind: io::ErrorKind::NotFound,
+};
 
-    type Output = ToWrite<Narrow>;
-
-    fn open(&self, _path: &str, _reading: u8) -> io::Result<FromRead<BrokenFile>> {
-        if !self.opens {
-            return Err(io::Error::from(self.kind));
+impl BrokenFiles {
+    // A file that is open.
+    fn device(&self) -> FailsAfter {
+        FailsAfter {
+            room: self.room,
+            kind: self.kind,
         }
-        Ok(FromRead::new(BrokenFile {
-            room: self.room,
-            kind: self.kind,
-        }))
+    }
+}
+
+impl Storage for BrokenFiles {
+    type Input = FromRead<FailsAfter>;
+
+    type Output = ToWrite<FailsAfter>;
+
+    fn open(&self, _path: &str, _reading: u8) -> io::Result<FromRead<FailsAfter>> {
+        if self.opens {
+            Ok(FromRead::new(self.device()))
+        } else {
+            Err(io::Error::from(self.kind))
+        }
     }
 
-    fn create(&self, _path: &str) -> io::Result<ToWrite<Narrow>> {
-        Ok(ToWrite::new(Narrow {
-            room: self.room,
-            kind: self.kind,
-        }))
+    fn create(&self, _path: &str) -> io::Result<ToWrite<FailsAfter>> {
+        Ok(ToWrite::new(self.device()))
     }
 
-    fn sync(&self, _output: &ToWrite<Narrow>) -> io::Result<()> {
+    fn sync(&self, _output: &ToWrite<FailsAfter>) -> io::Result<()> {
         Ok(())
     }
 }
 
-/// A file whose reading gives these many bytes and then fails.
+/// A device that moves these many bytes and then fails.
 #[derive(Drop)]
-pub struct BrokenFile {
-    room: usize,
-    kind: io::ErrorKind,
-}
-
-impl io::Read for BrokenFile {
-    fn read(&mut self, buf: &mut [u8]) -> io::Result<usize> {
-        let count = self.room.min(buf.len());
-        if count == 0 {
-            return Err(io::Error::from(self.kind));
-        }
-        self.room -= count;
-        Ok(count)
-    }
-}
-
-/// A writer that takes these many bytes and then fails.
-#[derive(Drop)]
-pub struct Narrow {
+pub struct FailsAfter {
     pub room: usize,
     pub kind: io::ErrorKind,
 }
 
-impl io::Write for Narrow {
-    fn write(&mut self, buf: &[u8]) -> io::Result<usize> {
-        let count = self.room.min(buf.len());
-        if count == 0 {
-            return Err(io::Error::from(self.kind));
-        }
+impl FailsAfter {
+    // How many of the bytes that are wanted there is room for; its failure if that is none.
+    fn step(&mut self, wanted: usize) -> io::Result<usize>
+        ensures { IfOk result (λ n. n ≤ wanted) }
+    {
+        let count = self.room.min(wanted);
         self.room -= count;
-        Ok(count)
+        if count == 0 {
+            Err(io::Error::from(self.kind))
+        } else {
+            Ok(count)
+        }
+    }
+}
+
+impl io::Read for FailsAfter {
+    fn read(&mut self, buf: &mut [u8]) -> io::Result<usize> {
+        self.step(buf.len())
+    }
+}
+
+impl io::Write for FailsAfter {
+    fn write(&mut self, buf: &[u8]) -> io::Result<usize> {
+        self.step(buf.len())
     }
 
     fn flush(&mut self) -> io::Result<()> {

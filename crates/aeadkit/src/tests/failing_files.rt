@@ -1,5 +1,5 @@
 //! The file commands, where a call of their files goes wrong or a later reading gives other bytes.
-use super::files::{bytes, file_words};
+use super::files::{bytes, changed, file_words};
 use super::published::{CHACHA, GCM_SIV, Vector};
 use super::runs_over;
 use super::scripted::{Log, Script, Scripted, Wrong};
@@ -18,7 +18,7 @@ fn is_stopped(log: &Log, err: &[u8], to: &[u8], last: u8) -> bool {
 }
 
 // Runs a file command with one call that goes wrong, and answers whether it was done before that call.
-fn goes(
+fn is_over_before(
     rt: &(impl Abort + Alloc<A = Global>),
     words: &[&str],
     from: &[u8],
@@ -55,7 +55,7 @@ fn goes(
 
 // Runs a file command with each of its calls going wrong in turn, until a run is done before the call that
 // would.
-fn each_call_goes(
+fn each_call_goes_wrong(
     rt: &(impl Abort + Alloc<A = Global>),
     words: &[&str],
     from: &[u8],
@@ -64,13 +64,14 @@ fn each_call_goes(
     how: (Wrong, bool),
 ) {
     let (wrong, trickle) = how;
+    let mut count = 1u32;
     for at in 1..1000u32 {
-        if goes(rt, words, from, to, last, (at, wrong, trickle)) {
-            assert!(rt; 4 < at, "{at} calls");
-            return;
+        count = at;
+        if is_over_before(rt, words, from, to, last, (at, wrong, trickle)) {
+            break;
         }
     }
-    assert!(rt; false, "calls without end");
+    assert!(rt; 4 < count && count < 999, "{count} calls");
 }
 
 // Seals and opens a vector's text with each call going wrong in turn; sealing ends with the given reading.
@@ -83,9 +84,9 @@ fn each_call_of(
     let text = bytes(rt, vector.text);
     let sealed = bytes(rt, vector.sealed);
     let words = file_words("seal-file", vector, "a", "b");
-    each_call_goes(rt, &words, &text, &sealed, last, how);
+    each_call_goes_wrong(rt, &words, &text, &sealed, last, how);
     let words = file_words("open-file", vector, "a", "b");
-    each_call_goes(rt, &words, &sealed, &text, 2, how);
+    each_call_goes_wrong(rt, &words, &sealed, &text, 2, how);
 }
 
 // Each opening, read, making, write and sync fails in turn.
@@ -151,15 +152,6 @@ fn opens<'b>(
     runs_on(rt, &words, readings, status, complaint, made);
 }
 
-// A sealing with one bit of its body changed.
-fn changed(rt: &(impl Abort + Alloc<A = Global>)) -> Vec<u8> {
-    let mut other = bytes(rt, CHACHA.sealed);
-    if let Some(byte) = other.get_mut(100) {
-        *byte ^= 1;
-    }
-    other
-}
-
 // The first fifteen bytes of a sealing.
 const START: &str = "d31a8d34648e60db7b86afbc53ef7e";
 
@@ -168,7 +160,13 @@ const START: &str = "d31a8d34648e60db7b86afbc53ef7e";
 fn third_reading_differs(rt: HostRuntime) {
     let whole = bytes(&rt, CHACHA.sealed);
     let complaint = "aeadkit: SourceChanged\n";
-    opens(&rt, (&whole, &whole, &changed(&rt)), 3, complaint, true);
+    opens(
+        &rt,
+        (&whole, &whole, &changed(&rt, CHACHA.sealed, 100)),
+        3,
+        complaint,
+        true,
+    );
     opens(
         &rt,
         (&whole, &whole, &bytes(&rt, START)),
@@ -192,7 +190,13 @@ fn second_reading_differs(rt: HostRuntime) {
         false,
     );
     let complaint = "aeadkit: TagMismatch\n";
-    opens(&rt, (&whole, &changed(&rt), &whole), 1, complaint, false);
+    opens(
+        &rt,
+        (&whole, &changed(&rt, CHACHA.sealed, 100), &whole),
+        1,
+        complaint,
+        false,
+    );
 }
 
 // A first reading that is too short is `TooShort`; no file is made.
@@ -214,10 +218,7 @@ fn first_reading_is_short(rt: HostRuntime) {
 #[test]
 fn second_reading_of_a_text_differs(rt: HostRuntime) {
     let text = bytes(&rt, GCM_SIV.text);
-    let mut other = bytes(&rt, GCM_SIV.text);
-    if let Some(byte) = other.get_mut(0) {
-        *byte ^= 1;
-    }
+    let other = changed(&rt, GCM_SIV.text, 0);
     let longer = bytes(&rt, GCM_SIV.sealed);
     let words = file_words("seal-file", &GCM_SIV, "a", "b");
     let complaint = "aeadkit: SourceChanged\n";

@@ -52,11 +52,11 @@ pub fn make_file(rt: &(impl Abort + Files), path: &str, held: &[u8]) {
     assert!(rt; fs::write(rt, path, held).is_ok());
 }
 
-// A sealing with another last byte.
-fn forged(rt: &(impl Abort + Alloc<A = Global>)) -> Vec<u8> {
-    let mut other = bytes(rt, CHACHA.sealed);
-    if let Some(last) = other.last_mut() {
-        *last = 0x90;
+/// The bytes that hex digits spell, with a bit of the byte at this place changed.
+pub fn changed(rt: &(impl Abort + Alloc<A = Global>), digits: &str, at: usize) -> Vec<u8> {
+    let mut other = bytes(rt, digits);
+    if let Some(byte) = other.get_mut(at) {
+        *byte ^= 1;
     }
     other
 }
@@ -128,7 +128,8 @@ fn opens(
 #[test]
 fn no_sealing_and_empty_text(rt: HostRuntime) {
     let complaint = "aeadkit: TagMismatch\n";
-    opens(&rt, &CHACHA, &forged(&rt), 1, complaint, None);
+    let forged = changed(&rt, CHACHA.sealed, 129);
+    opens(&rt, &CHACHA, &forged, 1, complaint, None);
     opens(&rt, &GCM, &bytes(&rt, GCM.sealed), 0, "", Some(""));
 }
 

@@ -1,10 +1,10 @@
 //! Each request for memory of a command is refused in turn, until a run takes all that it asks for. The
 //! answer to a refused one is `OutOfMemory`, wherever it stands, and else it is the right one.
-use super::devices::{NoFiles, OneFile};
+use super::checks::two_records;
+use super::devices::{NO_FILES, OneFile};
 use super::files::bytes;
-use super::published::{CHACHA, GCM, GCM_SIV, Vector};
+use super::published::{CHACHA, GCM, GCM_SIV, PADDED, Vector, WRAPPINGS, Wrapping};
 use super::scripted::{Log, Script, Scripted, Sink, Source};
-use super::vector_files::TWO_RECORDS;
 use crate::failure::Failure;
 use crate::run::{perform, report, write_new_file};
 use crate::storage::Storage;
@@ -58,13 +58,14 @@ fn each_is_refused<F: Storage>(
     request: &PrintRequest<'_>,
     line: &str,
 ) {
+    let mut count = 0u64;
     for passed in 0..100u64 {
         if !is_refused(rt, files, request, line, passed) {
-            assert!(rt; 0 < passed, "no request for memory");
-            return;
+            break;
         }
+        count = passed.saturating_add(1);
     }
-    assert!(rt; false, "requests without end");
+    assert!(rt; 0 < count && count < 100, "{count} requests for memory");
 }
 
 // The inputs of a vector, with a body.
@@ -81,9 +82,9 @@ fn inputs<'a>(vector: &Vector<'a>, body: &'a str) -> Inputs<'a> {
 // Sealing a vector's text, and opening the sealed bytes.
 fn seal_and_open(rt: &(impl Abort + Alloc<A = Global>), vector: &Vector<'_>) {
     let request = PrintRequest::Seal(inputs(vector, vector.text));
-    each_is_refused(rt, &NoFiles, &request, vector.sealed);
+    each_is_refused(rt, &NO_FILES, &request, vector.sealed);
     let request = PrintRequest::Open(inputs(vector, vector.sealed));
-    each_is_refused(rt, &NoFiles, &request, vector.text);
+    each_is_refused(rt, &NO_FILES, &request, vector.text);
 }
 
 #[test]
@@ -94,45 +95,37 @@ fn seal_and_open_want_memory_only_where_refused(rt: HostRuntime) {
 }
 
 // Wrapping a text, and unwrapping the wrapping.
-fn wrap_and_unwrap(
-    rt: &(impl Abort + Alloc<A = Global>),
-    key: &str,
-    text: &str,
-    sealed: &str,
-    pad: bool,
-) {
-    each_is_refused(rt, &NoFiles, &PrintRequest::Wrap { key, text, pad }, sealed);
+fn wrap_and_unwrap(rt: &(impl Abort + Alloc<A = Global>), wrapping: &Wrapping<'_>, pad: bool) {
+    let Wrapping {
+        key,
+        text,
+        wrapped: sealed,
+    } = *wrapping;
     each_is_refused(
         rt,
-        &NoFiles,
+        &NO_FILES,
+        &PrintRequest::Wrap { key, text, pad },
+        sealed,
+    );
+    each_is_refused(
+        rt,
+        &NO_FILES,
         &PrintRequest::Unwrap { key, sealed, pad },
         text,
     );
 }
 
-// RFC 3394, 4.1, and RFC 5649, 6.
 #[test]
 fn wrap_and_unwrap_want_memory_only_where_refused(rt: HostRuntime) {
-    wrap_and_unwrap(
-        &rt,
-        "000102030405060708090a0b0c0d0e0f",
-        "00112233445566778899aabbccddeeff",
-        "1fa68b0a8112b447aef34bd8fb5a7b829d3e862371d2cfe5",
-        false,
-    );
-    wrap_and_unwrap(
-        &rt,
-        "5840df6e29b02af1ab493b705bf16ea1ae8338f4dcc176a8",
-        "c37b7e6492584340bed12207808941155068f738",
-        "138bdeaa9b8fa7fc61f97742e72248ee5ae6ae5360d1ae6a5f54f373fa543b6a",
-        true,
-    );
+    wrap_and_unwrap(&rt, &WRAPPINGS[0], false);
+    wrap_and_unwrap(&rt, &PADDED[0], true);
 }
 
 #[test]
 fn check_wants_memory_only_where_refused(rt: HostRuntime) {
+    let file = two_records(&rt, "text =", "invalid");
     let files = OneFile {
-        file: TWO_RECORDS.as_bytes(),
+        file: file.as_bytes(),
     };
     let request = PrintRequest::Check { path: "" };
     each_is_refused(&rt, &files, &request, "records 2");
@@ -141,7 +134,7 @@ fn check_wants_memory_only_where_refused(rt: HostRuntime) {
 // Files in memory that ask for memory: each opening does, for a buffer, and the making of the file that is
 // written.
 #[derive(Drop)]
-struct Asking<'b, 'l, 'm, A: Allocator> {
+struct AllocatingFiles<'b, 'l, 'm, A: Allocator> {
     files: Scripted<'b, 'l>,
     memory: &'m A,
     // Whether the making was refused.
@@ -149,14 +142,14 @@ struct Asking<'b, 'l, 'm, A: Allocator> {
 }
 
 // Asks for memory, and gives it back.
-fn ask<A: Allocator>(memory: &A) -> io::Result<()> {
+fn allocate<A: Allocator>(memory: &A) -> io::Result<()> {
     match Vec::<u8, &A>::with_capacity(memory, 1) {
         Ok(_) => Ok(()),
         Err(_) => Err(io::Error::from(io::ErrorKind::OutOfMemory)),
     }
 }
 
-impl<'b, 'l, 'm, A: Allocator> Storage for Asking<'b, 'l, 'm, A> {
+impl<'b, 'l, 'm, A: Allocator> Storage for AllocatingFiles<'b, 'l, 'm, A> {
     type Input = FromRead<BufReader<Source<'b, 'l>, &'m A>>;
 
     type Output = ToWrite<Sink<'l>>;
@@ -166,14 +159,14 @@ impl<'b, 'l, 'm, A: Allocator> Storage for Asking<'b, 'l, 'm, A> {
         _path: &str,
         reading: u8,
     ) -> io::Result<FromRead<BufReader<Source<'b, 'l>, &'m A>>> {
-        ask(self.memory)?;
+        allocate(self.memory)?;
         let source = self.files.source(reading)?;
         Ok(FromRead::new(BufReader::with_capacity(self.memory, 65536, source)?))
     }
 
     fn create(&self, path: &str) -> io::Result<ToWrite<Sink<'l>>> {
         self.unmade.set(true);
-        ask(self.memory)?;
+        allocate(self.memory)?;
         self.unmade.set(false);
         self.files.create(path)
     }
@@ -202,7 +195,7 @@ fn file_status(
         third: from,
         script,
     };
-    let files = Asking {
+    let files = AllocatingFiles {
         files: scripted,
         memory: &memory,
         unmade: Cell::new(false),
@@ -238,16 +231,17 @@ fn each_file_status(
     to: &[u8],
 ) {
     let mut before = 0u8;
+    let mut count = 0u64;
     for passed in 0..100u64 {
         let status = file_status(rt, request, from, to, passed);
         if status == 0 {
-            assert_eq!(rt; before, 3);
-            assert!(rt; 1 < passed, "only the making asks for memory");
-            return;
+            break;
         }
         before = status;
+        count = passed.saturating_add(1);
     }
-    assert!(rt; false, "requests without end");
+    assert_eq!(rt; before, 3);
+    assert!(rt; 1 < count && count < 100, "{count} requests for memory");
 }
 
 // A request for a file command under a vector's inputs.

@@ -1,14 +1,11 @@
 //! Words that are no request.
-use super::devices::{Narrow, NoFiles};
+use super::devices::{FailsAfter, NO_FILES};
+use super::published::{KEY, TEXT};
 use super::{prints, refuses, runs_into};
 use crate::version::VERSION;
 use std::alloc::{AllocError, Global};
 use std::io;
 use std::process::Abort;
-
-const KEY: &str = "000102030405060708090a0b0c0d0e0f";
-
-const TEXT: &str = "00112233445566778899aabbccddeeff";
 
 // What is no command line is refused as `Words`.
 #[test]
@@ -44,7 +41,7 @@ fn refused_words(rt: HostRuntime) {
 // The words print help, with status 0, and nothing to standard error.
 fn helps(rt: &(impl Abort + Alloc<A = Global>), words: &[&str]) {
     let mut out: Vec<u8> = Vec::new(rt.alloc());
-    runs_into(rt, &NoFiles, words, &mut out, 0, "");
+    runs_into(rt, &NO_FILES, words, &mut out, 0, "");
     assert!(rt; !out.is_empty(), "{words:?}");
 }
 
@@ -75,8 +72,8 @@ fn version_asked_for(rt: HostRuntime) -> Result<(), AllocError> {
     prints(&rt, &["-V"], &line);
     let words = ["--version"];
     let kind = io::ErrorKind::BrokenPipe;
-    let mut out = Narrow { room: 3, kind };
-    runs_into(&rt, &NoFiles, &words, &mut out, 3, "aeadkit: Write\n");
+    let mut out = FailsAfter { room: 3, kind };
+    runs_into(&rt, &NO_FILES, &words, &mut out, 3, "aeadkit: Write\n");
     Ok(())
 }
 
@@ -84,6 +81,6 @@ fn version_asked_for(rt: HostRuntime) -> Result<(), AllocError> {
 #[test]
 fn failing_help(rt: HostRuntime) {
     let kind = io::ErrorKind::BrokenPipe;
-    let mut out = Narrow { room: 3, kind };
-    runs_into(&rt, &NoFiles, &["--help"], &mut out, 3, "aeadkit: Write\n");
+    let mut out = FailsAfter { room: 3, kind };
+    runs_into(&rt, &NO_FILES, &["--help"], &mut out, 3, "aeadkit: Write\n");
 }

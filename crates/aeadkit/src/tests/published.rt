@@ -11,6 +11,16 @@ pub struct Vector<'a> {
     pub sealed: &'a str,
 }
 
+impl<'a> Vector<'a> {
+    /// The words of a command under the inputs, with one more option.
+    pub fn words(&self, command: &'a str, option: &'a str, body: &'a str) -> [&'a str; 11] {
+        [
+            command, "--suite", self.suite, "--key", self.key, "--nonce", self.nonce, "--aad",
+            self.aad, option, body,
+        ]
+    }
+}
+
 /// RFC 8439, 2.8.2.
 pub const CHACHA: Vector<'static> = Vector {
     suite: "chacha20-poly1305",
@@ -127,49 +137,63 @@ pub const VECTORS: [Vector<'static>; 12] = [
     },
 ];
 
-/// A suite of key wrap, a key, and the wrapping of a text.
+/// A key, a text and its wrapping.
 #[derive(Clone, Copy)]
 pub struct Wrapping<'a> {
-    pub suite: &'a str,
     pub key: &'a str,
     pub text: &'a str,
     pub wrapped: &'a str,
 }
 
+/// The key, the text and the wrapping of RFC 3394, 4.1.
+pub const KEY: &str = "000102030405060708090a0b0c0d0e0f";
+
+pub const TEXT: &str = "00112233445566778899aabbccddeeff";
+
+pub const WRAPPED: &str = "1fa68b0a8112b447aef34bd8fb5a7b829d3e862371d2cfe5";
+
+/// RFC 5649, 6, with padding.
+pub const PADDED: [Wrapping<'static>; 2] = [
+    Wrapping {
+        key: "5840df6e29b02af1ab493b705bf16ea1ae8338f4dcc176a8",
+        text: "c37b7e6492584340bed12207808941155068f738",
+        wrapped: "138bdeaa9b8fa7fc61f97742e72248ee5ae6ae5360d1ae6a5f54f373fa543b6a",
+    },
+    Wrapping {
+        key: "5840df6e29b02af1ab493b705bf16ea1ae8338f4dcc176a8",
+        text: "466f7250617369",
+        wrapped: "afbeb0f07dfbf5419200f2ccb50bb24f",
+    },
+];
+
 /// RFC 3394, 4.1 to 4.6.
 pub const WRAPPINGS: [Wrapping<'static>; 6] = [
     Wrapping {
-        suite: "aes-128-wrap",
-        key: "000102030405060708090a0b0c0d0e0f",
-        text: "00112233445566778899aabbccddeeff",
-        wrapped: "1fa68b0a8112b447aef34bd8fb5a7b829d3e862371d2cfe5",
+        key: KEY,
+        text: TEXT,
+        wrapped: WRAPPED,
     },
     Wrapping {
-        suite: "aes-192-wrap",
         key: "000102030405060708090a0b0c0d0e0f1011121314151617",
         text: "00112233445566778899aabbccddeeff",
         wrapped: "96778b25ae6ca435f92b5b97c050aed2468ab8a17ad84e5d",
     },
     Wrapping {
-        suite: "aes-256-wrap",
         key: "000102030405060708090a0b0c0d0e0f101112131415161718191a1b1c1d1e1f",
         text: "00112233445566778899aabbccddeeff",
         wrapped: "64e8c3f9ce0f5ba263e9777905818a2a93c8191e7d6e8ae7",
     },
     Wrapping {
-        suite: "aes-192-wrap",
         key: "000102030405060708090a0b0c0d0e0f1011121314151617",
         text: "00112233445566778899aabbccddeeff0001020304050607",
         wrapped: "031d33264e15d33268f24ec260743edce1c6c7ddee725a936ba814915c6762d2",
     },
     Wrapping {
-        suite: "aes-256-wrap",
         key: "000102030405060708090a0b0c0d0e0f101112131415161718191a1b1c1d1e1f",
         text: "00112233445566778899aabbccddeeff0001020304050607",
         wrapped: "a8f9bc1612c68b3ff6e6f4fbe30e71e4769c8b80a32cb8958cd5d17d6b254da1",
     },
     Wrapping {
-        suite: "aes-256-wrap",
         key: "000102030405060708090a0b0c0d0e0f101112131415161718191a1b1c1d1e1f",
         text: "00112233445566778899aabbccddeeff000102030405060708090a0b0c0d0e0f",
         wrapped: "28c9f404c4b810f4cbccb35cfb87f8263f5786e2d80ed326cbc7f0e71a99f43bfb988b9b7a02dd21",

@@ -89,12 +89,11 @@ impl<'a> Script<'a> {
         if call == self.at {
             self.log.reading.set(reading);
             match self.wrong {
-                Wrong::Fails => return Err(io::Error::from(io::ErrorKind::Other)),
-                Wrong::IsInterrupted => return Err(io::Error::from(io::ErrorKind::Interrupted)),
-                Wrong::IsShort => return Ok(wanted.min(1)),
+                Wrong::Fails => Err(io::Error::from(io::ErrorKind::Other)),
+                Wrong::IsInterrupted => Err(io::Error::from(io::ErrorKind::Interrupted)),
+                Wrong::IsShort => Ok(wanted.min(1)),
             }
-        }
-        if self.trickle {
+        } else if self.trickle {
             Ok(wanted.min(1))
         } else {
             Ok(wanted)

@@ -10,22 +10,9 @@ const ZERO24: &str = "000000000000000000000000000000000000000000000000";
 
 // A vector seals and opens.
 fn seals_and_opens(rt: &(impl Abort + Alloc<A = Global>), vector: &Vector<'_>) {
-    let Vector {
-        suite,
-        key,
-        nonce,
-        aad,
-        text,
-        sealed,
-    } = *vector;
-    let words = [
-        "seal", "--suite", suite, "--key", key, "--nonce", nonce, "--aad", aad, "--text", text,
-    ];
-    prints(rt, &words, sealed);
-    let words = [
-        "open", "--suite", suite, "--key", key, "--nonce", nonce, "--aad", aad, "--sealed", sealed,
-    ];
-    prints(rt, &words, text);
+    let Vector { text, sealed, .. } = *vector;
+    prints(rt, &vector.words("seal", "--text", text), sealed);
+    prints(rt, &vector.words("open", "--sealed", sealed), text);
 }
 
 #[test]
@@ -56,14 +43,7 @@ fn options_left_out(rt: HostRuntime) {
 // Bytes that are no sealing.
 #[test]
 fn wrong_bytes(rt: HostRuntime) {
-    let Vector {
-        suite,
-        key,
-        nonce,
-        aad,
-        sealed,
-        ..
-    } = CHACHA;
+    let Vector { aad, sealed, .. } = CHACHA;
     let start = "d31a8d34648e60db7b86afbc53ef7e";
     for (aad, sealed, name) in [
         (aad, start, "aeadkit: TooShort\n"),
@@ -71,11 +51,8 @@ fn wrong_bytes(rt: HostRuntime) {
         ("", sealed, "aeadkit: TagMismatch\n"),
         ("51515253c0c1c2c3c4c5c6c7", sealed, "aeadkit: TagMismatch\n"),
     ] {
-        let words = [
-            "open", "--suite", suite, "--key", key, "--nonce", nonce, "--aad", aad, "--sealed",
-            sealed,
-        ];
-        refuses(&rt, &words, 1, name);
+        let vector = Vector { aad, ..CHACHA };
+        refuses(&rt, &vector.words("open", "--sealed", sealed), 1, name);
     }
 }
 
@@ -121,14 +98,15 @@ const REFUSED: [Row; 12] = [
 // Inputs are refused by sealing and by opening.
 fn are_refused(rt: &(impl Abort + Alloc<A = Global>), row: &Row) {
     let (suite, key, nonce, aad, body, line) = *row;
-    let words = [
-        "seal", "--suite", suite, "--key", key, "--nonce", nonce, "--aad", aad, "--text", body,
-    ];
-    refuses(rt, &words, 2, line);
-    let words = [
-        "open", "--suite", suite, "--key", key, "--nonce", nonce, "--aad", aad, "--sealed", body,
-    ];
-    refuses(rt, &words, 2, line);
+    let vector = Vector {
+        suite,
+        key,
+        nonce,
+        aad,
+        ..GCM
+    };
+    refuses(rt, &vector.words("seal", "--text", body), 2, line);
+    refuses(rt, &vector.words("open", "--sealed", body), 2, line);
 }
 
 // The suite's name comes first, then the hex of key, nonce, associated data and body, then the key's

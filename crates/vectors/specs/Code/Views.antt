@@ -34,12 +34,13 @@ view (Between format) = steps.between format
 view (Fields format left e) = steps.fields format left.now (entry_view e)
 view (Text format e) = steps.text format (entry_view e)
 
-abbrev pub made : Option Entry → List Record
-made None = []
-made (Some e) = entry_view e ∷ []
+-- the record that a line ended, if it ended one
+abbrev pub ended_view : Option Entry → List Record
+ended_view None = []
+ended_view (Some e) = entry_view e ∷ []
 
 abbrev pub next_view : Next → steps.Place × List Record
-next_view n = (view n.place, made n.ended)
+next_view n = (view n.place, ended_view n.ended)
 
 -- what a call returned, seen by f, is what reading gives
 abbrev pub Gives : {X Y : Type 0} → (X → Y) → Result X Cause → Result Y Cause → Type 0
