@@ -75,8 +75,8 @@ pub(super) fn is_chacha(suite: Suite) -> bool
 
 // ---- the multiples of GHASH's key
 
-// From so many bytes of a piece on, multiples of four powers of the hash key are worth their making: a whole
-// call makes them once, and these are made for each piece.
+// From so many bytes of a piece on, its hash takes multiples of four powers of the hash key. It is more than a
+// whole message's bound, since each piece makes its multiples anew.
 const LONG_PIECE: usize = 8192;
 
 // The multiples that the hash of a piece takes.
