@@ -125,7 +125,8 @@ failed_some before after h = elim h [ inl x ↦ omega arith | inr x ↦ omega ar
 
 -- what blames the count of the written file blames its output
 pub count_blames : (input output : Type 0) (before after : ℕ) (e : Failure) → (0 < after → output)
-    → Blames {T = Unit {0}} OfFault input (Failed before after) (Err e) → Blames {T = Unit {0}} OfFault input output (Err e)
+    → Blames {T = Unit {0}} OfFault input (Failed before after) (Err e)
+    → Blames {T = Unit {0}} OfFault input output (Err e)
 count_blames input output before after e to h = (h.0, λ p. to (failed_some before after (h.1 p)))
 
 -- `Write` blames the output

@@ -214,7 +214,8 @@ exit_err command readings words taken held pending e (inr h) =
       fault = h.fault;
       is = h.is;
       call = map_call words _ _ (λ s body k. inl (engine_weakens command readings (Took taken given)
-          (HoldsStart taken held) (λ Q t. holds_start Q taken given held pending t (keeps_same given given refl))
+          (HoldsStart taken held)
+          (λ Q t. holds_start Q taken given held pending t (keeps_same given given refl))
           s (Err h.fault) k)) h.call;
     })
 

@@ -10,7 +10,7 @@ ghost use Rattle.aead.specs.Code.Steps.{MasksPiece};
 
 use super::stored::{StoredHash, StoredSealer};
 use crate::beside::Order;
-use crate::gcm::SHORT;
+use crate::gcm::{LONG, SHORT};
 use crate::hashes::GhashTag;
 use crate::suite::Suite;
 use gf128::{PlacedMul, TableMul, WideMul};
@@ -75,11 +75,7 @@ pub(super) fn is_chacha(suite: Suite) -> bool
 
 // ---- the multiples of GHASH's key
 
-// From so many bytes of a piece on, its hash takes multiples of four powers of the hash key. It is more than a
-// whole message's bound, since each piece makes its multiples anew.
-const LONG_PIECE: usize = 8192;
-
-// The multiples that the hash of a piece takes.
+// The multiples that the hash of a piece takes. Each piece makes them anew.
 #[derive(Clone, Copy)]
 enum Multiples {
     Few,
@@ -91,7 +87,7 @@ enum Multiples {
 fn worth(length: usize) -> Multiples {
     if length < SHORT {
         Multiples::Few
-    } else if length < LONG_PIECE {
+    } else if length < LONG {
         Multiples::AtEightPlaces
     } else {
         Multiples::OfFourPowers

@@ -14,7 +14,8 @@ returns-in_err-write_by-clause-ran g c =
     let keyed : Keyed = keyed_of c.in_ok-inputs.inputs.cipher in
     let ready : IsReady c.args.words.now.inputs keyed c.in_ok-inputs.inputs.nonce c.deref.result.now
     c.in_ok-inputs.inputs.body.items = rw c.deref.ensures.value c.in_ok-inputs.ensures in
-    rw (p.1, p.2) (ran_err (Engine c.args.words.now.command (g.F.Storage.contents c.args.files.now c.args.words.now.input.now))
+    rw (p.1, p.2) (ran_err
+    (Engine c.args.words.now.command (g.F.Storage.contents c.args.files.now c.args.words.now.input.now))
     c.args.words.now.inputs keyed c.in_ok-inputs.inputs.nonce c.deref.result.now
     c.in_ok-inputs.inputs.body.items (g.O.Outlet.taken c.args.out.now) (g.O.Outlet.taken c.write_by.new.out)
     c.in_err-write_by.field-0.0 ready c.in_err-write_by.ensures.ran)
@@ -30,7 +31,8 @@ returns-clause-ran g c =
       aad = c.deref.result.now;
       body = c.in_ok-inputs.inputs.body.items;
       ready = ready;
-      is = ran_ok (Engine c.args.words.now.command (g.F.Storage.contents c.args.files.now c.args.words.now.input.now))
+      is = ran_ok
+          (Engine c.args.words.now.command (g.F.Storage.contents c.args.files.now c.args.words.now.input.now))
           (setting keyed c.in_ok-inputs.inputs.nonce c.deref.result.now) (g.O.Outlet.taken c.args.out.now)
           (g.O.Outlet.taken c.write_by.new.out) c.in_ok-write_by.field-0 c.in_ok-write_by.ensures.ran;
     }

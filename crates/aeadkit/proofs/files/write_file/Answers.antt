@@ -11,7 +11,8 @@ returns-in_err-write-clause-answer g c =
     let h : Option (List ℕ) = held (g.F.Storage.blank c.write.new.out.files.now) g.F.Output.Outlet.taken
     c.write.new.out.file in
     rw (p.1, p.2) (exit_err c.args.words.now.command
-    (g.F.Storage.contents c.args.files.now c.args.words.now.input.now) c.args.words.now.inputs _ h (drop c.write.new.out.written c.write.new.out.pending.items)
+    (g.F.Storage.contents c.args.files.now c.args.words.now.input.now) c.args.words.now.inputs _ h
+    (drop c.write.new.out.written c.write.new.out.pending.items)
     c.in_err-write.field-0.0 c.in_err-write.ensures.ran)
 
 pub returns-in_err-finish-clause-answer : goal.returns-in_err-finish-clause-answer
@@ -22,7 +23,8 @@ returns-in_err-finish-clause-answer g c =
     c.finish.new.self.file in
     rw (p.1, p.2, c.in_err-finish.ensures.fault)
     (exit_write c.args.words.now.command
-    (g.F.Storage.contents c.args.files.now c.args.words.now.input.now) c.args.words.now.inputs _ _ h (drop c.finish.new.self.written c.finish.new.self.pending.items)
+    (g.F.Storage.contents c.args.files.now c.args.words.now.input.now) c.args.words.now.inputs _ _ h
+    (drop c.finish.new.self.written c.finish.new.self.pending.items)
     c.in_ok-write.ensures.ran c.in_err-finish.ensures.taken)
 
 pub returns-clause-answer : goal.returns-clause-answer
@@ -30,7 +32,8 @@ returns-clause-answer g c =
     let h : Option (List ℕ) = held (g.F.Storage.blank c.finish.new.self.files.now) g.F.Output.Outlet.taken
     c.finish.new.self.file in
     exit_done c.args.words.now.command
-    (g.F.Storage.contents c.args.files.now c.args.words.now.input.now) c.args.words.now.inputs _ _ h c.finish.new.self.written c.finish.new.self.pending.items
+    (g.F.Storage.contents c.args.files.now c.args.words.now.input.now) c.args.words.now.inputs _ _ h
+    c.finish.new.self.written c.finish.new.self.pending.items
     c.in_ok-write.ensures.ran c.in_ok-finish.ensures.taken c.in_ok-finish.ensures.none_left
 
 pub returns-in_err-write-clause-blame : goal.returns-in_err-write-clause-blame
