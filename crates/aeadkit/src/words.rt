@@ -43,7 +43,7 @@ pub enum PrintRequest<'a> {
     },
 }
 
-/// What is written to a file.
+/// A command that writes a file.
 #[derive(Clone, Copy, Drop)]
 pub enum FileCommand {
     /// The sealing of a file.

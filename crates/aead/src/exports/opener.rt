@@ -34,7 +34,7 @@ pub struct StoredOpener {
     // The kind of struct, its pass, the version of its layout and the suite; anything else if no opening is
     // begun.
     mark: u64,
-    // What the pass has taken in.
+    // The state of the pass: the ciphertext so far.
     state: StoredSealer,
     // The hash's sum over the padded associated data, with which each pass begins.
     start: StoredSum,

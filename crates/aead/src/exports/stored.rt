@@ -114,7 +114,7 @@ impl StoredSealer {
         }
     }
 
-    // What was taken in.
+    // The authenticator that has taken in the bytes so far.
     #[inline(always)]
     pub(super) fn taken<H: StoredHash>(&self) -> Authenticator<H>
         ensures holds { (s : Setting) (bytes : List ℕ) → HoldsBy H.by H.keyed H.summed self.now s bytes
