@@ -1,4 +1,5 @@
 pub mod AeadLemmas
+pub mod AnswersLemmas
 pub mod BlamesLemmas
 pub mod FilesLemmas
 pub mod KeywrapLemmas

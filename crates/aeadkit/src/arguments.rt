@@ -34,9 +34,11 @@ impl<R: Env> Env for WithoutName<'_, R> {
 /// Returns the words after the program's name. `Words` if one is not UTF-8, `OutOfMemory` if an allocation
 /// fails.
 pub fn words_given<R: Env>(alloc: Global, runtime: &R) -> Result<Vec<String>, Failure> {
-    let words = env::args(&(WithoutName { runtime }, alloc)).map_err(|error| match error.kind() {
-        io::ErrorKind::OutOfMemory => Failure::Fault(Fault::OutOfMemory),
-        _ => Failure::Words,
-    })?;
-    Ok(words.collect(alloc)?)
+    match env::args(&(WithoutName { runtime }, alloc)) {
+        Ok(words) => Ok(words.collect(alloc)?),
+        Err(error) => Err(match error.kind() {
+            io::ErrorKind::OutOfMemory => Failure::Fault(Fault::OutOfMemory),
+            _ => Failure::Words,
+        }),
+    }
 }

@@ -27,10 +27,11 @@ fn decoded<A: Allocator>(alloc: A, digits: &str) -> Result<Vec<u8, A>, Failure>
     ensures { MatchResult result (λ v. Spells digits.now v.items)
         (λ e. (e ≡ OfFault OutOfMemory) ⊎ ((e ≡ BadHex) × IsBadHex digits.now)) }
 {
-    hex::decode(alloc, digits).map_err(|error| match error {
-        FromHexError::OutOfMemory => Failure::Fault(Fault::OutOfMemory),
-        _ => Failure::BadHex,
-    })
+    match hex::decode(alloc, digits) {
+        Ok(bytes) => Ok(bytes),
+        Err(FromHexError::OutOfMemory) => Err(Failure::Fault(Fault::OutOfMemory)),
+        Err(_) => Err(Failure::BadHex),
+    }
 }
 
 // The wrapping of a text, with padding or without.

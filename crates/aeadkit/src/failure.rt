@@ -14,7 +14,7 @@ use vectors::VectorFault;
 
 /// Why the program stops. `Display` writes what follows `aeadkit: ` on standard error: a name, or the text
 /// of a fault.
-#[derive(Clone, Copy, Debug, PartialEq, Eq, Drop, Error)]
+#[derive(Clone, Copy, Debug, Drop, Error)]
 pub enum Failure {
     /// The words are no command line of the program.
     Words,

@@ -175,8 +175,8 @@ impl<'a, F: Storage, A: Allocator> NewFile<'a, F, A> {
             return Err(Fault::Write);
         }
         match &self.file {
-            Some(file) => self.files.sync(file).map_err(|_| Fault::Write),
-            None => Err(Fault::Write),
+            Some(file) if self.files.sync(file).is_ok() => Ok(()),
+            _ => Err(Fault::Write),
         }
     }
 }

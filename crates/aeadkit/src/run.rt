@@ -1,5 +1,5 @@
 //! The program, over a writer for each stream.
-ghost use Rattle.std.specs.Prelude.{◌≤◌, ◌≡◌, ◌↔◌, ◌⊎◌, ⊤, [], IfOk, IfErr, MatchResult};
+ghost use Rattle.std.specs.Prelude.{◌≤◌, ◌≡◌, ◌↔◌, ◌⊎◌, ⊤, [], Err, IfOk, IfErr, MatchResult};
 ghost use Rattle.std.specs.Prelude.{string_bytes};
 ghost use Rattle.std.specs.Io.KnownBytes.{Appends};
 ghost use Rattle.aeadkit.specs.Answers.{Answered, Stopped, IsOutputFailure};
@@ -48,6 +48,22 @@ fn print_bytes<A: Allocator, W: Write>(alloc: A, out: &mut W, bytes: &[u8]) -> R
     let mut line = hex::encode(alloc, bytes)?;
     line.push('\n')?;
     print(out, &line)
+}
+
+// Prints the value that a command returns as one line of lower-case hexadecimal, and returns status 0. A refusal is
+// passed on, and else the only faults are `Write` and `OutOfMemory`.
+fn print_value<A: Allocator + Copy, W: Write>(
+    alloc: A,
+    out: &mut W,
+    value: Result<Vec<u8, A>, Failure>,
+) -> Result<u8, Failure>
+    ensures { MatchResult value
+        (λ v. MatchResult result
+        (λ status. (status ≡ 0) × Appends (W.contents out.old) (W.contents out.new) (hex_line v.items))
+        IsOutputFailure)
+        (λ e. result ≡ Err e) }
+{
+    print_bytes(alloc, out, &value?)
 }
 
 // The text of a report: the number of records, then a line for each bad one.
@@ -109,21 +125,13 @@ pub fn perform<A: Allocator, F: Storage, W: Write>(
     ensures status { IfOk result (λ status. status ≤ 1) }
 {
     match request {
-        PrintRequest::Seal(inputs) => {
-            let sealed = commands::seal(alloc, inputs)?;
-            print_bytes(alloc, out, &sealed)
-        }
-        PrintRequest::Open(inputs) => {
-            let opened = commands::open(alloc, inputs)?;
-            print_bytes(alloc, out, &opened)
-        }
+        PrintRequest::Seal(inputs) => print_value(alloc, out, commands::seal(alloc, inputs)),
+        PrintRequest::Open(inputs) => print_value(alloc, out, commands::open(alloc, inputs)),
         PrintRequest::Wrap { key, text, pad } => {
-            let wrapped = commands::wrap(alloc, key, text, *pad)?;
-            print_bytes(alloc, out, &wrapped)
+            print_value(alloc, out, commands::wrap(alloc, key, text, *pad))
         }
         PrintRequest::Unwrap { key, sealed, pad } => {
-            let text = commands::unwrap(alloc, key, sealed, *pad)?;
-            print_bytes(alloc, out, &text)
+            print_value(alloc, out, commands::unwrap(alloc, key, sealed, *pad))
         }
         PrintRequest::Check { path } => print_checking(alloc, files, path, out),
     }

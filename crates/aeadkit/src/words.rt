@@ -101,8 +101,8 @@ fn inputs_of<'a>(matches: &ArgMatches<'a>, body: &'a str) -> Inputs<'a> {
 }
 
 // The request of a subcommand that prints.
-fn print_request<'a>(name: &str, matches: &ArgMatches<'a>) -> Option<PrintRequest<'a>> {
-    Some(match name {
+fn print_request<'a>(name: &str, matches: &ArgMatches<'a>) -> Option<Request<'a>> {
+    Some(Request::Print(match name {
         SEAL => PrintRequest::Seal(inputs_of(matches, value(matches, TEXT))),
         OPEN => PrintRequest::Open(inputs_of(matches, value(matches, SEALED))),
         WRAP => PrintRequest::Wrap {
@@ -119,30 +119,30 @@ fn print_request<'a>(name: &str, matches: &ArgMatches<'a>) -> Option<PrintReques
             path: value(matches, FILE),
         },
         _ => return None,
-    })
+    }))
 }
 
 // The request of a file command; `None` if both paths are the same text.
-fn file_request<'a>(command: FileCommand, matches: &ArgMatches<'a>) -> Option<FileRequest<'a>> {
+fn file_request<'a>(command: FileCommand, matches: &ArgMatches<'a>) -> Option<Request<'a>> {
     let input = value(matches, IN);
     let output = value(matches, OUT);
     if input == output {
         return None;
     }
-    Some(FileRequest {
+    Some(Request::Write(FileRequest {
         command,
         inputs: inputs_of(matches, ""),
         input,
         output,
-    })
+    }))
 }
 
 // The request of a subcommand's arguments.
 fn request_of<'a>(name: &str, matches: &ArgMatches<'a>) -> Option<Request<'a>> {
     match name {
-        SEAL_FILE => file_request(FileCommand::Seal, matches).map(Request::Write),
-        OPEN_FILE => file_request(FileCommand::Open, matches).map(Request::Write),
-        _ => print_request(name, matches).map(Request::Print),
+        SEAL_FILE => file_request(FileCommand::Seal, matches),
+        OPEN_FILE => file_request(FileCommand::Open, matches),
+        _ => print_request(name, matches),
     }
 }
 
@@ -164,7 +164,9 @@ fn refused(error: Error) -> Refusal {
 
 /// Returns the request that the words after the program's name make, or why they make none.
 pub fn read<'a, S: AsStr>(alloc: Global, words: &'a [S]) -> Result<Request<'a>, Refusal> {
-    let command = command(alloc).map_err(|_| Refusal::OutOfMemory)?;
+    let Ok(command) = command(alloc) else {
+        return Err(Refusal::OutOfMemory);
+    };
     match command.try_get_matches_from(words) {
         Ok(matches) => asked(&matches).ok_or(Refusal::Words),
         Err(error) => Err(refused(error)),
