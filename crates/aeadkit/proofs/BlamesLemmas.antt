@@ -128,8 +128,3 @@ pub count_blames : (input output : Type 0) (before after : ℕ) (e : Failure) �
     → Blames {T = Unit {0}} OfFault input (Failed before after) (Err e)
     → Blames {T = Unit {0}} OfFault input output (Err e)
 count_blames input output before after e to h = (h.0, λ p. to (failed_some before after (h.1 p)))
-
--- `Write` blames the output
-pub write_blames : (input output : Type 0) → output
-    → Blames {T = Unit {0}} OfFault input output (Err (OfFault Write))
-write_blames input output h = (λ e. absurd (cc), λ e. h)

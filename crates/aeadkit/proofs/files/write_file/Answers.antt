@@ -1,7 +1,7 @@
 use Rattle.std.proofs.Common.{ℕ, List, Option, drop}
 use Rattle.std.proofs.lemmas.Result.{err_from_is_err_and}
 use Rattle.aeadkit.specs.NewFiles.{held}
-use Rattle.aeadkit.proofs.BlamesLemmas.{count_blames, write_blames}
+use Rattle.aeadkit.proofs.BlamesLemmas.{count_blames}
 use Rattle.aeadkit.proofs.FilesLemmas.{exit_err, exit_write, exit_done}
 use Rattle.aeadkit.proofs.files.write_file.Goals as goal
 
@@ -46,4 +46,4 @@ pub returns-in_err-finish-clause-blame : goal.returns-in_err-finish-clause-blame
 returns-in_err-finish-clause-blame g c =
     let p = err_from_is_err_and c.from_residual-in_err-finish.result
     c.from_residual-in_err-finish.ensures.1 in
-    rw (p.1, p.2, c.in_err-finish.ensures.fault) (write_blames _ _ c.in_err-finish.ensures.blame)
+    rw (p.1, p.2, c.in_err-finish.ensures.fault) (λ e. absurd (cc), λ _. c.in_err-finish.ensures.blame)
