@@ -30,7 +30,8 @@ pub moved : (ps : List ℕ) → length ps ≡ 32 → all_below (λ i. ltb (get_o
     → HoldsBits (map (λ v. map (λ i. get_or (v ++ v) i 0) ps) (eight p)) (λ l k. g (get_or ps l 0) k)
 moved ps long test p g h = record {
   count = refl;
-  long = λ j hj. ap length (each_of (λ v. map (λ i. get_or (v ++ v) i 0) ps) p j hj) ∙ length-map ps (λ i. get_or (get_or p j [] ++ get_or p j []) i 0) ∙ long;
+  long = λ j hj. ap length (each_of (λ v. map (λ i. get_or (v ++ v) i 0) ps) p j hj)
+      ∙ length-map ps (λ i. get_or (get_or p j [] ++ get_or p j []) i 0) ∙ long;
   each = λ j l k hj hl hk.
       let small : get_or ps l 0 < 32 = ltb-true (get_or ps l 0) 32 (all_below_at (λ i. ltb (get_or ps i 0) 32) 32 l test hl) in
       let wide = h.long j hj in

@@ -34,7 +34,8 @@ take_eight-requires-clause-second g c =
     let up : List ℕ → ℕ → List ℕ = g.C.Count.up in
     let out = c.encrypt_sixteen.ensures (λ q. up s.first ((s.begun + q) % 2 ^ 32))
     (λ q. c.sixteen.ensures.each_is_block ((s.begun + q) % 2 ^ 32)) c.sixteen.ensures.planes in
-    masks_on up s.key s.first s.begun s.key s.first ((s.begun + 4) % 2 ^ 32) 4 c.encrypt_sixteen.result.1 refl refl
+    masks_on up s.key s.first s.begun s.key s.first ((s.begun + 4) % 2 ^ 32) 4 c.encrypt_sixteen.result.1 refl
+    refl
     (omega arith) out.1
 
 pub take_eight-requires-2-clause-first : goal.take_eight-requires-2-clause-first
@@ -43,7 +44,9 @@ take_eight-requires-2-clause-first g c =
     let up : List ℕ → ℕ → List ℕ = g.C.Count.up in
     let out = c.encrypt_sixteen.ensures (λ q. up s.first ((s.begun + q) % 2 ^ 32))
     (λ q. c.sixteen.ensures.each_is_block ((s.begun + q) % 2 ^ 32)) c.sixteen.ensures.planes in
-    masks_on up s.key s.first s.begun c.take_eight.new.self.key c.take_eight.new.self.first c.take_eight.new.self.begun 8 c.encrypt_sixteen.result.2 c.take_eight.ensures.key c.take_eight.ensures.first
+    masks_on up s.key s.first s.begun c.take_eight.new.self.key c.take_eight.new.self.first
+    c.take_eight.new.self.begun 8 c.encrypt_sixteen.result.2 c.take_eight.ensures.key
+    c.take_eight.ensures.first
     (omega (arith, c.take_eight.ensures.begun)) out.2
 
 pub take_eight-requires-2-clause-second : goal.take_eight-requires-2-clause-second
@@ -52,5 +55,7 @@ take_eight-requires-2-clause-second g c =
     let up : List ℕ → ℕ → List ℕ = g.C.Count.up in
     let out = c.encrypt_sixteen.ensures (λ q. up s.first ((s.begun + q) % 2 ^ 32))
     (λ q. c.sixteen.ensures.each_is_block ((s.begun + q) % 2 ^ 32)) c.sixteen.ensures.planes in
-    masks_on up s.key s.first s.begun c.take_eight.new.self.key c.take_eight.new.self.first ((c.take_eight.new.self.begun + 4) % 2 ^ 32) 12 c.encrypt_sixteen.result.3 c.take_eight.ensures.key c.take_eight.ensures.first
+    masks_on up s.key s.first s.begun c.take_eight.new.self.key c.take_eight.new.self.first
+    ((c.take_eight.new.self.begun + 4) % 2 ^ 32) 12 c.encrypt_sixteen.result.3 c.take_eight.ensures.key
+    c.take_eight.ensures.first
     (omega (arith, c.take_eight.ensures.begun)) out.3
