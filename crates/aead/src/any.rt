@@ -1,13 +1,13 @@
 // A cipher of any suite.
 
-ghost use Rattle.std.specs.Prelude.{◌≡◌, ◌≢◌, ◌++◌, length, MatchResult};
-ghost use Rattle.aead.specs.Suites.{key_length};
+ghost use Rattle.std.specs.Prelude.{◌≡◌, ◌≢◌, ◌≤◌, ◌++◌, length, MatchResult};
+ghost use Rattle.aead.specs.Suites.{key_length, text_limit, aad_limit};
 ghost use Rattle.aead.specs.Sealing.{Opened};
 ghost use Rattle.aead.specs.Ciphers.{setting};
 ghost use Rattle.aead.specs.AnyCiphers.{one_pass_keyed, keyed_of};
-ghost use Rattle.aead.specs.Refusals.{SealRefused, OpenRefused};
+ghost use Rattle.aead.specs.Refusals.{OpenRefused};
 
-use crate::aead::Aead;
+use crate::aead::Cipher;
 use crate::chacha_poly::ChaChaPoly;
 use crate::gcm::Gcm;
 use crate::gcm_siv::GcmSiv;
@@ -64,8 +64,7 @@ impl AnyAead {
         }
     }
 
-    // Opens a ciphertext and its tag in place, the fastest way. After a refusal for the tag the bytes are of no
-    // use.
+    // Opens a ciphertext and its tag in place, the fastest way. After a refusal the bytes are of no use.
     pub(crate) fn open_beside(
         &self,
         nonce: &Nonce,
@@ -73,6 +72,8 @@ impl AnyAead {
         body: &mut [u8],
         tag: &Tag,
     ) -> Result<(), Fault>
+        requires aad_fits { length aad.now ≤ aad_limit (keyed_of self.now).suite }
+        requires text_fits { length body.old ≤ text_limit (keyed_of self.now).suite }
         ensures { let s = setting (keyed_of self.now) nonce.now aad.now in
             MatchResult result (λ _. Opened s (body.old ++ tag.now) body.new)
             (OpenRefused s body.old tag.now) }
@@ -82,14 +83,14 @@ impl AnyAead {
                 cipher.open_beside(nonce, aad, body, tag)
             }
             AnyAead::OnePass(AnyOnePass::Gcm(cipher)) => {
-                cipher.open_in_place(nonce, aad, body, tag)
+                cipher.open_fitting(nonce, aad, body, tag)
             }
-            AnyAead::Siv(cipher) => cipher.open_in_place(nonce, aad, body, tag),
+            AnyAead::Siv(cipher) => cipher.open_fitting(nonce, aad, body, tag),
         }
     }
 }
 
-impl Aead for AnyOnePass {
+impl Cipher for AnyOnePass {
     ghost keyed = { one_pass_keyed };
 
     fn suite(&self) -> Suite {
@@ -99,14 +100,14 @@ impl Aead for AnyOnePass {
         }
     }
 
-    fn seal_in_place(&self, nonce: &Nonce, aad: &[u8], text: &mut [u8]) -> Result<Tag, Fault> {
+    fn seal_fitting(&self, nonce: &Nonce, aad: &[u8], text: &mut [u8]) -> Tag {
         match self {
-            AnyOnePass::ChaCha(cipher) => cipher.seal_in_place(nonce, aad, text),
-            AnyOnePass::Gcm(cipher) => cipher.seal_in_place(nonce, aad, text),
+            AnyOnePass::ChaCha(cipher) => cipher.seal_fitting(nonce, aad, text),
+            AnyOnePass::Gcm(cipher) => cipher.seal_fitting(nonce, aad, text),
         }
     }
 
-    fn open_in_place(
+    fn open_fitting(
         &self,
         nonce: &Nonce,
         aad: &[u8],
@@ -114,13 +115,13 @@ impl Aead for AnyOnePass {
         tag: &Tag,
     ) -> Result<(), Fault> {
         match self {
-            AnyOnePass::ChaCha(cipher) => cipher.open_in_place(nonce, aad, body, tag),
-            AnyOnePass::Gcm(cipher) => cipher.open_in_place(nonce, aad, body, tag),
+            AnyOnePass::ChaCha(cipher) => cipher.open_fitting(nonce, aad, body, tag),
+            AnyOnePass::Gcm(cipher) => cipher.open_fitting(nonce, aad, body, tag),
         }
     }
 }
 
-impl Aead for AnyAead {
+impl Cipher for AnyAead {
     ghost keyed = { keyed_of };
 
     fn suite(&self) -> Suite {
@@ -130,14 +131,14 @@ impl Aead for AnyAead {
         }
     }
 
-    fn seal_in_place(&self, nonce: &Nonce, aad: &[u8], text: &mut [u8]) -> Result<Tag, Fault> {
+    fn seal_fitting(&self, nonce: &Nonce, aad: &[u8], text: &mut [u8]) -> Tag {
         match self {
-            AnyAead::OnePass(cipher) => cipher.seal_in_place(nonce, aad, text),
-            AnyAead::Siv(cipher) => cipher.seal_in_place(nonce, aad, text),
+            AnyAead::OnePass(cipher) => cipher.seal_fitting(nonce, aad, text),
+            AnyAead::Siv(cipher) => cipher.seal_fitting(nonce, aad, text),
         }
     }
 
-    fn open_in_place(
+    fn open_fitting(
         &self,
         nonce: &Nonce,
         aad: &[u8],
@@ -145,8 +146,8 @@ impl Aead for AnyAead {
         tag: &Tag,
     ) -> Result<(), Fault> {
         match self {
-            AnyAead::OnePass(cipher) => cipher.open_in_place(nonce, aad, body, tag),
-            AnyAead::Siv(cipher) => cipher.open_in_place(nonce, aad, body, tag),
+            AnyAead::OnePass(cipher) => cipher.open_fitting(nonce, aad, body, tag),
+            AnyAead::Siv(cipher) => cipher.open_fitting(nonce, aad, body, tag),
         }
     }
 }

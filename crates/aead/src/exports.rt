@@ -8,7 +8,7 @@ ghost use Rattle.aead.specs.Ciphers.{setting};
 ghost use Rattle.aead.specs.Exports.{suite_number, unknown_suite, setting_of, HasLengths};
 ghost use Rattle.aead.specs.Exports.{WasSealed, WasNotSealed, WasOpened, WasNotOpened};
 
-use crate::aead::Aead;
+use crate::aead::Cipher;
 use crate::chacha_poly::ChaChaPoly;
 use crate::gcm::Gcm;
 use crate::gcm_siv::GcmSiv;
@@ -40,21 +40,23 @@ fn suite_numbered(number: u32) -> Option<Suite>
 }
 
 // Seals the bytes before the last sixteen, which become the tag.
-fn seal_room<C: Aead>(cipher: &C, nonce: &Nonce, aad: &[u8], bytes: &mut [u8]) -> Result<(), Fault>
+fn seal_room<C: Cipher>(cipher: &C, nonce: &Nonce, aad: &[u8], bytes: &mut [u8]) -> Result<(), Fault>
     ensures { let s = setting (C.keyed cipher.now) nonce.now aad.now in HasLengths s →
         MatchResult result (λ _. WasSealed s bytes.old bytes.new) (WasNotSealed s bytes.old bytes.new) }
 {
-    cipher.suite().check_aad(aad)?;
+    let suite = cipher.suite();
+    suite.check_aad(aad)?;
     let Some((body, last)) = bytes.split_last_chunk_mut() else {
         return Err(Fault::TooShort);
     };
-    let tag = cipher.seal_in_place(nonce, aad, body)?;
+    suite.check_text(body)?;
+    let tag = cipher.seal_fitting(nonce, aad, body);
     *last = *tag.bytes();
     Ok(())
 }
 
 // Seals under the bytes of a nonce.
-fn seal_under<C: Aead>(cipher: &C, nonce: &[u8], aad: &[u8], bytes: &mut [u8]) -> Result<(), Fault>
+fn seal_under<C: Cipher>(cipher: &C, nonce: &[u8], aad: &[u8], bytes: &mut [u8]) -> Result<(), Fault>
     requires { length (C.keyed cipher.now).key ≡ key_length (C.keyed cipher.now).suite }
     ensures { let s = setting (C.keyed cipher.now) nonce.now aad.now in
         MatchResult result (λ _. WasSealed s bytes.old bytes.new) (WasNotSealed s bytes.old bytes.new) }
@@ -94,19 +96,21 @@ fn seal_bytes(
 }
 
 // Opens the bytes before the last sixteen, which are the tag.
-fn open_room<C: Aead>(cipher: &C, nonce: &Nonce, aad: &[u8], bytes: &mut [u8]) -> Result<(), Fault>
+fn open_room<C: Cipher>(cipher: &C, nonce: &Nonce, aad: &[u8], bytes: &mut [u8]) -> Result<(), Fault>
     ensures { let s = setting (C.keyed cipher.now) nonce.now aad.now in HasLengths s →
         MatchResult result (λ _. WasOpened s bytes.old bytes.new) (WasNotOpened s bytes.old bytes.new) }
 {
-    cipher.suite().check_aad(aad)?;
+    let suite = cipher.suite();
+    suite.check_aad(aad)?;
     let Some((body, last)) = bytes.split_last_chunk_mut() else {
         return Err(Fault::TooShort);
     };
-    cipher.open_in_place(nonce, aad, body, &Tag::new(*last))
+    suite.check_text(body)?;
+    cipher.open_fitting(nonce, aad, body, &Tag::new(*last))
 }
 
 // Opens under the bytes of a nonce.
-fn open_under<C: Aead>(cipher: &C, nonce: &[u8], aad: &[u8], bytes: &mut [u8]) -> Result<(), Fault>
+fn open_under<C: Cipher>(cipher: &C, nonce: &[u8], aad: &[u8], bytes: &mut [u8]) -> Result<(), Fault>
     requires { length (C.keyed cipher.now).key ≡ key_length (C.keyed cipher.now).suite }
     ensures { let s = setting (C.keyed cipher.now) nonce.now aad.now in
         MatchResult result (λ _. WasOpened s bytes.old bytes.new) (WasNotOpened s bytes.old bytes.new) }

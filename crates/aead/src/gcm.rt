@@ -1,15 +1,15 @@
 // AES-GCM (SP 800-38D).
 
-ghost use Rattle.std.specs.Prelude.{◌≡◌, ◌≢◌, ◌++◌, ◌∷◌, [], length, MatchResult};
+ghost use Rattle.std.specs.Prelude.{◌≡◌, ◌≢◌, ◌≤◌, ◌++◌, ◌∷◌, [], length, MatchResult};
 ghost use Rattle.std.proofs.Common.{ap};
 ghost use Rattle.aes.specs.Cipher.{cipher, IsKey};
 ghost use Rattle.aead.specs.declared.suite.Suite.{Suite};
-ghost use Rattle.aead.specs.Suites.{construction_of, is_one_pass, key_length, ByGcm};
-ghost use Rattle.aead.specs.Sealing.{hash_key, j0};
+ghost use Rattle.aead.specs.Suites.{construction_of, is_one_pass, key_length, text_limit, aad_limit, ByGcm};
+ghost use Rattle.aead.specs.Sealing.{Opened, hash_key, j0};
 ghost use Rattle.aead.specs.Ciphers.{Keyed, setting};
-ghost use Rattle.aead.specs.InPlace.{SealsInPlace, OpensInPlace, OpensEachSealing};
+ghost use Rattle.aead.specs.InPlace.{OpensInPlace};
 
-use crate::aead::Aead;
+use crate::aead::Cipher;
 use crate::hashes::GhashTag;
 use crate::mask_then_hash::{MaskThenHash, open_whole, seal_whole};
 use crate::nonced::Nonced;
@@ -118,8 +118,10 @@ impl Gcm {
 
     // Seals by a multiplier of the type `M`.
     #[inline(never)]
-    fn seal_by<M: Keyed128>(&self, nonce: &Nonce, aad: &[u8], text: &mut [u8]) -> Result<Tag, Fault>
-        ensures { SealsInPlace (setting self.now nonce.now aad.now) text.old text.new result }
+    fn seal_by<M: Keyed128>(&self, nonce: &Nonce, aad: &[u8], text: &mut [u8]) -> Tag
+        requires aad_fits { length aad.now ≤ aad_limit self.now.suite }
+        requires text_fits { length text.old ≤ text_limit self.now.suite }
+        ensures { Opened (setting self.now nonce.now aad.now) (text.new ++ result) text.old }
     {
         let made = self.multiplier_of::<M>();
         seal_whole(&self.nonced(nonce, &made), aad, text)
@@ -134,9 +136,9 @@ impl Gcm {
         body: &mut [u8],
         tag: &Tag,
     ) -> Result<(), Fault>
-        ensures answer { OpensInPlace (setting self.now nonce.now aad.now) tag.now body.old body.new result }
-        ensures found { OpensEachSealing (setting self.now nonce.now aad.now) tag.now body.old body.new
-            result }
+        requires aad_fits { length aad.now ≤ aad_limit self.now.suite }
+        requires text_fits { length body.old ≤ text_limit self.now.suite }
+        ensures { OpensInPlace (setting self.now nonce.now aad.now) tag.now body.old body.new result }
     {
         let made = self.multiplier_of::<M>();
         open_whole(&self.nonced(nonce, &made), aad, body, tag)
@@ -194,14 +196,14 @@ impl<'a, M: Multiply + Copy> MaskThenHash for NoncedGcm<'a, M> {
     ghost one_pass = { λ n. ap is_one_pass n.by_gcm };
 }
 
-impl Aead for Gcm {
+impl Cipher for Gcm {
     ghost keyed = { λ c. c };
 
     fn suite(&self) -> Suite {
         self.suite
     }
 
-    fn seal_in_place(&self, nonce: &Nonce, aad: &[u8], text: &mut [u8]) -> Result<Tag, Fault> {
+    fn seal_fitting(&self, nonce: &Nonce, aad: &[u8], text: &mut [u8]) -> Tag {
         let length = aad.len() + text.len();
         if length < SHORT {
             seal_whole(&self.nonced(nonce, self.multiplier()), aad, text)
@@ -212,7 +214,7 @@ impl Aead for Gcm {
         }
     }
 
-    fn open_in_place(
+    fn open_fitting(
         &self,
         nonce: &Nonce,
         aad: &[u8],

@@ -1,17 +1,17 @@
 // AES-GCM-SIV (RFC 8452).
 
-ghost use Rattle.std.specs.Prelude.{◌≡◌, ◌≢◌, length, MatchResult};
+ghost use Rattle.std.specs.Prelude.{◌≡◌, ◌≢◌, ◌≤◌, ◌++◌, length, MatchResult};
 ghost use Rattle.octets.specs.Bytes.{IsBlock};
 ghost use Rattle.gf128.specs.Polyval.{IsReversedMulX};
 ghost use Rattle.gf128.specs.States.{key_of};
 ghost use Rattle.aead.specs.declared.suite.Suite.{Suite};
-ghost use Rattle.aead.specs.Suites.{construction_of, key_length, ByGcmSiv};
-ghost use Rattle.aead.specs.Sealing.{Setting, authentication_key, encryption_key, counter_block};
+ghost use Rattle.aead.specs.Suites.{construction_of, key_length, text_limit, aad_limit, ByGcmSiv};
+ghost use Rattle.aead.specs.Sealing.{Setting, Opened, authentication_key, encryption_key, counter_block};
 ghost use Rattle.aead.specs.Ciphers.{Keyed, setting};
-ghost use Rattle.aead.specs.InPlace.{SealsInPlace, OpensInPlace, OpensEachSealing};
+ghost use Rattle.aead.specs.InPlace.{OpensInPlace};
 ghost use Rattle.aead.specs.Code.States.{MadeByGcmSiv};
 
-use crate::aead::Aead;
+use crate::aead::Cipher;
 use crate::derived_keys::DerivedKeys;
 use crate::hash_then_mask::{HashThenMask, open_whole, seal_whole};
 use crate::hashes::{KeptKey, PolyvalTag};
@@ -110,8 +110,10 @@ impl GcmSiv {
 
     // Seals by a multiplier of the type `M`.
     #[inline(never)]
-    fn seal_by<M: Keyed128>(&self, nonce: &Nonce, aad: &[u8], text: &mut [u8]) -> Result<Tag, Fault>
-        ensures { SealsInPlace (setting self.now nonce.now aad.now) text.old text.new result }
+    fn seal_by<M: Keyed128>(&self, nonce: &Nonce, aad: &[u8], text: &mut [u8]) -> Tag
+        requires aad_fits { length aad.now ≤ aad_limit self.now.suite }
+        requires text_fits { length text.old ≤ text_limit self.now.suite }
+        ensures { Opened (setting self.now nonce.now aad.now) (text.new ++ result) text.old }
     {
         let keys = self.derive(nonce);
         let multiplier = M::of(&keys.hash_key);
@@ -131,9 +133,9 @@ impl GcmSiv {
         body: &mut [u8],
         tag: &Tag,
     ) -> Result<(), Fault>
-        ensures answer { OpensInPlace (setting self.now nonce.now aad.now) tag.now body.old body.new result }
-        ensures found { OpensEachSealing (setting self.now nonce.now aad.now) tag.now body.old body.new
-            result }
+        requires aad_fits { length aad.now ≤ aad_limit self.now.suite }
+        requires text_fits { length body.old ≤ text_limit self.now.suite }
+        ensures { OpensInPlace (setting self.now nonce.now aad.now) tag.now body.old body.new result }
     {
         let keys = self.derive(nonce);
         let multiplier = M::of(&keys.hash_key);
@@ -209,14 +211,14 @@ impl<'a, M: Multiply + Copy, K: KeptKey + Copy> HashThenMask for NoncedGcmSiv<'a
     ghost by_gcm_siv = { λ n. n.by_gcm_siv };
 }
 
-impl Aead for GcmSiv {
+impl Cipher for GcmSiv {
     ghost keyed = { λ c. c };
 
     fn suite(&self) -> Suite {
         self.suite
     }
 
-    fn seal_in_place(&self, nonce: &Nonce, aad: &[u8], text: &mut [u8]) -> Result<Tag, Fault> {
+    fn seal_fitting(&self, nonce: &Nonce, aad: &[u8], text: &mut [u8]) -> Tag {
         let length = aad.len() + text.len();
         if length < SHORT {
             self.seal_by::<TableMul>(nonce, aad, text)
@@ -227,7 +229,7 @@ impl Aead for GcmSiv {
         }
     }
 
-    fn open_in_place(
+    fn open_fitting(
         &self,
         nonce: &Nonce,
         aad: &[u8],

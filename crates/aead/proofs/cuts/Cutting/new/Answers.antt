@@ -13,7 +13,7 @@ returns-in-Ok-new c =
     let s : Setting = setting (keyed_of c.args.cipher.now) c.args.nonce.now c.args.aad.now in
     let fits : Fits s c.args.text.now =
     fits_by s c.suite-suite.result c.args.text.now c.suite-suite.ensures c.in_ok-check_aad.ensures
-    c.in_ok-check_text.ensures.answer in
+    c.in_ok-check_text.ensures in
     let P : AnyAead → Type 0 =
     λ x. HoldsAbsorb c.in-Ok-new.absorb (setting (keyed_of x) c.args.nonce.now c.args.aad.now) [] in
     let begun : P c.args.cipher.now = subst P (sym c.in-Siv.is) c.in-Ok-new.ensures in
