@@ -40,7 +40,12 @@ fn suite_numbered(number: u32) -> Option<Suite>
 }
 
 // Seals the bytes before the last sixteen, which become the tag.
-fn seal_room<C: Cipher>(cipher: &C, nonce: &Nonce, aad: &[u8], bytes: &mut [u8]) -> Result<(), Fault>
+fn seal_room<C: Cipher>(
+    cipher: &C,
+    nonce: &Nonce,
+    aad: &[u8],
+    bytes: &mut [u8],
+) -> Result<(), Fault>
     ensures { let s = setting (C.keyed cipher.now) nonce.now aad.now in HasLengths s →
         MatchResult result (λ _. WasSealed s bytes.old bytes.new) (WasNotSealed s bytes.old bytes.new) }
 {
@@ -56,7 +61,12 @@ fn seal_room<C: Cipher>(cipher: &C, nonce: &Nonce, aad: &[u8], bytes: &mut [u8])
 }
 
 // Seals under the bytes of a nonce.
-fn seal_under<C: Cipher>(cipher: &C, nonce: &[u8], aad: &[u8], bytes: &mut [u8]) -> Result<(), Fault>
+fn seal_under<C: Cipher>(
+    cipher: &C,
+    nonce: &[u8],
+    aad: &[u8],
+    bytes: &mut [u8],
+) -> Result<(), Fault>
     requires { length (C.keyed cipher.now).key ≡ key_length (C.keyed cipher.now).suite }
     ensures { let s = setting (C.keyed cipher.now) nonce.now aad.now in
         MatchResult result (λ _. WasSealed s bytes.old bytes.new) (WasNotSealed s bytes.old bytes.new) }
@@ -96,7 +106,12 @@ fn seal_bytes(
 }
 
 // Opens the bytes before the last sixteen, which are the tag.
-fn open_room<C: Cipher>(cipher: &C, nonce: &Nonce, aad: &[u8], bytes: &mut [u8]) -> Result<(), Fault>
+fn open_room<C: Cipher>(
+    cipher: &C,
+    nonce: &Nonce,
+    aad: &[u8],
+    bytes: &mut [u8],
+) -> Result<(), Fault>
     ensures { let s = setting (C.keyed cipher.now) nonce.now aad.now in HasLengths s →
         MatchResult result (λ _. WasOpened s bytes.old bytes.new) (WasNotOpened s bytes.old bytes.new) }
 {
@@ -110,7 +125,12 @@ fn open_room<C: Cipher>(cipher: &C, nonce: &Nonce, aad: &[u8], bytes: &mut [u8])
 }
 
 // Opens under the bytes of a nonce.
-fn open_under<C: Cipher>(cipher: &C, nonce: &[u8], aad: &[u8], bytes: &mut [u8]) -> Result<(), Fault>
+fn open_under<C: Cipher>(
+    cipher: &C,
+    nonce: &[u8],
+    aad: &[u8],
+    bytes: &mut [u8],
+) -> Result<(), Fault>
     requires { length (C.keyed cipher.now).key ≡ key_length (C.keyed cipher.now).suite }
     ensures { let s = setting (C.keyed cipher.now) nonce.now aad.now in
         MatchResult result (λ _. WasOpened s bytes.old bytes.new) (WasNotOpened s bytes.old bytes.new) }

@@ -1,6 +1,5 @@
 use Rattle.std.proofs.Common.{ap, arith, length-append}
 use Rattle.aead.specs.Suites.{text_limit}
-use Rattle.aead.specs.Sealing.{Setting}
 use Rattle.aead.specs.Ciphers.{setting}
 use Rattle.aead.proofs.Found.{found_in_place}
 use Rattle.aead.proofs.OneText.{one_text}
