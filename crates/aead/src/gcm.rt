@@ -12,18 +12,13 @@ ghost use Rattle.aead.specs.InPlace.{OpensInPlace};
 use crate::aead::Cipher;
 use crate::hashes::GhashTag;
 use crate::mask_then_hash::{MaskThenHash, open_whole, seal_whole};
+use crate::multiples::{Multiples, worth};
 use crate::nonced::Nonced;
 use crate::suite::Suite;
 use aes::{AesKey, CtrBe};
 use gf128::{Ghash, Keyed128, Multiply, PlacedMul, TableMul, WideMul};
 use octets::{Block, Fault, Nonce, Tag};
 use std::marker::Model;
-
-// From so many bytes on, multiples at eight places are worth their making.
-pub(crate) const SHORT: usize = 128;
-
-// From so many bytes on, those of four powers of the hash key are.
-pub(crate) const LONG: usize = 2304;
 
 /// AES-GCM under a key of 16, 24 or 32 bytes (SP 800-38D). Opening in place authenticates before it
 /// changes a byte. Contracts see its suite and key.
@@ -204,13 +199,10 @@ impl Cipher for Gcm {
     }
 
     fn seal_fitting(&self, nonce: &Nonce, aad: &[u8], text: &mut [u8]) -> Tag {
-        let length = aad.len() + text.len();
-        if length < SHORT {
-            seal_whole(&self.nonced(nonce, self.multiplier()), aad, text)
-        } else if length < LONG {
-            self.seal_by::<PlacedMul>(nonce, aad, text)
-        } else {
-            self.seal_by::<WideMul>(nonce, aad, text)
+        match worth((aad.len() + text.len()) as u64) {
+            Multiples::Few => seal_whole(&self.nonced(nonce, self.multiplier()), aad, text),
+            Multiples::AtEightPlaces => self.seal_by::<PlacedMul>(nonce, aad, text),
+            Multiples::OfFourPowers => self.seal_by::<WideMul>(nonce, aad, text),
         }
     }
 
@@ -221,13 +213,10 @@ impl Cipher for Gcm {
         body: &mut [u8],
         tag: &Tag,
     ) -> Result<(), Fault> {
-        let length = aad.len() + body.len();
-        if length < SHORT {
-            open_whole(&self.nonced(nonce, self.multiplier()), aad, body, tag)
-        } else if length < LONG {
-            self.open_by::<PlacedMul>(nonce, aad, body, tag)
-        } else {
-            self.open_by::<WideMul>(nonce, aad, body, tag)
+        match worth((aad.len() + body.len()) as u64) {
+            Multiples::Few => open_whole(&self.nonced(nonce, self.multiplier()), aad, body, tag),
+            Multiples::AtEightPlaces => self.open_by::<PlacedMul>(nonce, aad, body, tag),
+            Multiples::OfFourPowers => self.open_by::<WideMul>(nonce, aad, body, tag),
         }
     }
 }

@@ -15,18 +15,13 @@ use crate::aead::Cipher;
 use crate::derived_keys::DerivedKeys;
 use crate::hash_then_mask::{HashThenMask, open_whole, seal_whole};
 use crate::hashes::{KeptKey, PolyvalTag};
+use crate::multiples::{Multiples, worth};
 use crate::nonced::Nonced;
 use crate::suite::Suite;
 use aes::{AesKey, CtrLe};
 use gf128::{Keyed128, Multiply, PlacedMul, Polyval, TableMul, WideMul};
 use octets::{Block, Fault, Nonce, Tag};
 use std::marker::Model;
-
-// From so many bytes on, multiples at eight places are worth their making.
-const SHORT: usize = 128;
-
-// From so many bytes on, those of four powers of the key are.
-const LONG: usize = 2304;
 
 /// AES-GCM-SIV under a key of 16 or 32 bytes (RFC 8452). Opening in place decrypts before it can
 /// authenticate, and encrypts again after `TagMismatch`. Contracts see its suite and key.
@@ -219,13 +214,10 @@ impl Cipher for GcmSiv {
     }
 
     fn seal_fitting(&self, nonce: &Nonce, aad: &[u8], text: &mut [u8]) -> Tag {
-        let length = aad.len() + text.len();
-        if length < SHORT {
-            self.seal_by::<TableMul>(nonce, aad, text)
-        } else if length < LONG {
-            self.seal_by::<PlacedMul>(nonce, aad, text)
-        } else {
-            self.seal_by::<WideMul>(nonce, aad, text)
+        match worth((aad.len() + text.len()) as u64) {
+            Multiples::Few => self.seal_by::<TableMul>(nonce, aad, text),
+            Multiples::AtEightPlaces => self.seal_by::<PlacedMul>(nonce, aad, text),
+            Multiples::OfFourPowers => self.seal_by::<WideMul>(nonce, aad, text),
         }
     }
 
@@ -236,13 +228,10 @@ impl Cipher for GcmSiv {
         body: &mut [u8],
         tag: &Tag,
     ) -> Result<(), Fault> {
-        let length = aad.len() + body.len();
-        if length < SHORT {
-            self.open_by::<TableMul>(nonce, aad, body, tag)
-        } else if length < LONG {
-            self.open_by::<PlacedMul>(nonce, aad, body, tag)
-        } else {
-            self.open_by::<WideMul>(nonce, aad, body, tag)
+        match worth((aad.len() + body.len()) as u64) {
+            Multiples::Few => self.open_by::<TableMul>(nonce, aad, body, tag),
+            Multiples::AtEightPlaces => self.open_by::<PlacedMul>(nonce, aad, body, tag),
+            Multiples::OfFourPowers => self.open_by::<WideMul>(nonce, aad, body, tag),
         }
     }
 }
