@@ -47,20 +47,17 @@ impl AnyAead {
             return Err(Fault::KeyLength);
         }
         match suite {
-            Suite::ChaCha20Poly1305 => match Key32::from_slice(key) {
-                Ok(key) => Ok(AnyAead::OnePass(AnyOnePass::ChaCha(ChaChaPoly::new(&key)))),
-                Err(fault) => Err(fault),
-            },
-            Suite::Aes128Gcm | Suite::Aes192Gcm | Suite::Aes256Gcm => match AesKey::from_slice(
-                key,
-            ) {
-                Ok(key) => Ok(AnyAead::OnePass(AnyOnePass::Gcm(Gcm::new(suite, key)))),
-                Err(fault) => Err(fault),
-            },
-            Suite::Aes128GcmSiv | Suite::Aes256GcmSiv => match AesKey::from_slice(key) {
-                Ok(key) => Ok(AnyAead::Siv(GcmSiv::new(suite, key))),
-                Err(fault) => Err(fault),
-            },
+            Suite::ChaCha20Poly1305 => {
+                let cipher = ChaChaPoly::new(&Key32::from_slice(key)?);
+                Ok(AnyAead::OnePass(AnyOnePass::ChaCha(cipher)))
+            }
+            Suite::Aes128Gcm | Suite::Aes192Gcm | Suite::Aes256Gcm => {
+                let cipher = Gcm::new(suite, AesKey::from_slice(key)?);
+                Ok(AnyAead::OnePass(AnyOnePass::Gcm(cipher)))
+            }
+            Suite::Aes128GcmSiv | Suite::Aes256GcmSiv => {
+                Ok(AnyAead::Siv(GcmSiv::new(suite, AesKey::from_slice(key)?)))
+            }
         }
     }
 

@@ -90,18 +90,30 @@ fn seal_bytes(
         return Err(Fault::KeyLength);
     }
     match suite {
-        Suite::ChaCha20Poly1305 => match Key32::from_slice(key) {
-            Ok(key) => seal_under(&ChaChaPoly::new(&key), nonce, aad, bytes),
-            Err(fault) => Err(fault),
-        },
-        Suite::Aes128Gcm | Suite::Aes192Gcm | Suite::Aes256Gcm => match AesKey::from_slice(key) {
-            Ok(key) => seal_under(&Gcm::new(suite, key), nonce, aad, bytes),
-            Err(fault) => Err(fault),
-        },
-        Suite::Aes128GcmSiv | Suite::Aes256GcmSiv => match AesKey::from_slice(key) {
-            Ok(key) => seal_under(&GcmSiv::new(suite, key), nonce, aad, bytes),
-            Err(fault) => Err(fault),
-        },
+        Suite::ChaCha20Poly1305 => {
+            seal_under(
+                &ChaChaPoly::new(&Key32::from_slice(key)?),
+                nonce,
+                aad,
+                bytes,
+            )
+        }
+        Suite::Aes128Gcm | Suite::Aes192Gcm | Suite::Aes256Gcm => {
+            seal_under(
+                &Gcm::new(suite, AesKey::from_slice(key)?),
+                nonce,
+                aad,
+                bytes,
+            )
+        }
+        Suite::Aes128GcmSiv | Suite::Aes256GcmSiv => {
+            seal_under(
+                &GcmSiv::new(suite, AesKey::from_slice(key)?),
+                nonce,
+                aad,
+                bytes,
+            )
+        }
     }
 }
 
@@ -154,18 +166,30 @@ fn open_bytes(
         return Err(Fault::KeyLength);
     }
     match suite {
-        Suite::ChaCha20Poly1305 => match Key32::from_slice(key) {
-            Ok(key) => open_under(&ChaChaPoly::new(&key), nonce, aad, bytes),
-            Err(fault) => Err(fault),
-        },
-        Suite::Aes128Gcm | Suite::Aes192Gcm | Suite::Aes256Gcm => match AesKey::from_slice(key) {
-            Ok(key) => open_under(&Gcm::new(suite, key), nonce, aad, bytes),
-            Err(fault) => Err(fault),
-        },
-        Suite::Aes128GcmSiv | Suite::Aes256GcmSiv => match AesKey::from_slice(key) {
-            Ok(key) => open_under(&GcmSiv::new(suite, key), nonce, aad, bytes),
-            Err(fault) => Err(fault),
-        },
+        Suite::ChaCha20Poly1305 => {
+            open_under(
+                &ChaChaPoly::new(&Key32::from_slice(key)?),
+                nonce,
+                aad,
+                bytes,
+            )
+        }
+        Suite::Aes128Gcm | Suite::Aes192Gcm | Suite::Aes256Gcm => {
+            open_under(
+                &Gcm::new(suite, AesKey::from_slice(key)?),
+                nonce,
+                aad,
+                bytes,
+            )
+        }
+        Suite::Aes128GcmSiv | Suite::Aes256GcmSiv => {
+            open_under(
+                &GcmSiv::new(suite, AesKey::from_slice(key)?),
+                nonce,
+                aad,
+                bytes,
+            )
+        }
     }
 }
 
