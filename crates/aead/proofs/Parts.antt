@@ -19,15 +19,17 @@ no_masks made a = λ s tag n h room.
     (subst (made a s tag) same h, refl)
 
 -- two parts, one after the other
-pub more_masks : {S : Type 0} (made : S → Setting → List ℕ → ℕ → Type 0) (a b c : S) (x p y q : List ℕ)
-    → Masks made a b x p → Masks made b c y q → Masks made a c (x ++ y) (p ++ q)
-more_masks made a b c x p y q f g = λ s tag n h room.
-    let sum : length (x ++ y) ≡ length x + length y = length-append x y in
+pub more_masks : {S : Type 0} (made : S → Setting → List ℕ → ℕ → Type 0) (a b c : S) (x p y q was now : List ℕ)
+    → Masks made a b x p → Masks made b c y q → x ++ y ≡ was → p ++ q ≡ now → Masks made a c was now
+more_masks made a b c x p y q was now f g input output = λ s tag n h room.
+    let sum : length was ≡ length x + length y = ap length (sym input) ∙ length-append x y in
     let first = f s tag n h (omega (arith, room, sum)) in
     let second = g s tag (n + length x) first.0 (omega (arith, room, sum)) in
-    let place : n + length x + length y ≡ n + length (x ++ y) = omega (arith, sum) in (
+    let place : n + length x + length y ≡ n + length was = omega (arith, sum) in (
       subst (made c s tag) place second.0,
-      ap₂ (λ (u v : List ℕ). u ++ v) first.1 second.1 ∙ sym (masked-append (mask_of s tag) n x y),
+      sym output ∙ ap₂ (λ (u v : List ℕ). u ++ v) first.1 second.1
+          ∙ sym (masked-append (mask_of s tag) n x y)
+          ∙ ap (masked (mask_of s tag) n) input,
     )
 
 -- no bytes are taken in
@@ -35,13 +37,13 @@ pub no_takes : {H : Type 0} (held : H → Setting → List ℕ → Type 0) (a : 
 no_takes held a = λ s m h room. subst (HoldsAuthenticator held a s) (sym (append-nil m)) h
 
 -- two parts, one after the other
-pub more_takes : {H : Type 0} (held : H → Setting → List ℕ → Type 0) (a b c : Authenticator H) (x y : List ℕ)
-    → Takes held a b x → Takes held b c y → Takes held a c (x ++ y)
-more_takes held a b c x y f g = λ s m h room.
-    let sum : length (x ++ y) ≡ length x + length y = length-append x y in
+pub more_takes : {H : Type 0} (held : H → Setting → List ℕ → Type 0) (a b c : Authenticator H)
+    (x y both : List ℕ) → Takes held a b x → Takes held b c y → x ++ y ≡ both → Takes held a c both
+more_takes held a b c x y both f g is = λ s m h room.
+    let sum : length both ≡ length x + length y = ap length (sym is) ∙ length-append x y in
     let first = f s m h (omega (arith, room, sum)) in
     let second = g s (m ++ x) first (omega (arith, room, sum, length-append m x)) in
-    subst (HoldsAuthenticator held c s) (append_assoc m x y) second
+    subst (HoldsAuthenticator held c s) (append_assoc m x y ∙ ap (λ (z : List ℕ). m ++ z) is) second
 
 -- what is left after a part of a piece was overwritten
 pub part_left : (b a new was : List ℕ) (d k : ℕ) → length b ≡ d → length new ≡ k → a ≡ drop d was

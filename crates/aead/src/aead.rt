@@ -1,6 +1,8 @@
 // The trait of all ciphers.
 
-ghost use Rattle.std.specs.Prelude.{◌≡◌};
+ghost use Rattle.std.specs.Prelude.{◌≡◌, ◌≤◌, ◌++◌, length};
+ghost use Rattle.aead.specs.Suites.{text_limit, aad_limit};
+ghost use Rattle.aead.specs.Sealing.{Opened};
 ghost use Rattle.aead.specs.Ciphers.{Keyed, setting};
 ghost use Rattle.aead.specs.InPlace.{SealsInPlace, OpensInPlace, OpensEachSealing};
 
@@ -38,4 +40,63 @@ pub trait Aead {
             result }
         ensures found { OpensEachSealing (setting (keyed self.now) nonce.now aad.now) tag.now body.old body.new
             result };
+}
+
+// A cipher under a key, for lengths that were found to be within the limits of its suite.
+pub(crate) trait Cipher {
+    // The suite and the key.
+    ghost keyed: { Self → Keyed };
+
+    // The suite.
+    fn suite(&self) -> Suite
+        ensures { result ≡ (keyed self.now).suite };
+
+    // Turns a text into its ciphertext, and returns its tag.
+    fn seal_fitting(&self, nonce: &Nonce, aad: &[u8], text: &mut [u8]) -> Tag
+        requires aad_fits { length aad.now ≤ aad_limit (keyed self.now).suite }
+        requires text_fits { length text.old ≤ text_limit (keyed self.now).suite }
+        ensures { Opened (setting (keyed self.now) nonce.now aad.now) (text.new ++ result) text.old };
+
+    // Turns a ciphertext into its text if the tag is its own, and else leaves every byte as it was.
+    fn open_fitting(
+        &self,
+        nonce: &Nonce,
+        aad: &[u8],
+        body: &mut [u8],
+        tag: &Tag,
+    ) -> Result<(), Fault>
+        requires aad_fits { length aad.now ≤ aad_limit (keyed self.now).suite }
+        requires text_fits { length body.old ≤ text_limit (keyed self.now).suite }
+        ensures { OpensInPlace (setting (keyed self.now) nonce.now aad.now) tag.now body.old body.new
+            result };
+}
+
+impl<C: Cipher> Aead for C {
+    ghost keyed = { C.keyed };
+
+    fn suite(&self) -> Suite {
+        Cipher::suite(self)
+    }
+
+    fn seal_in_place(&self, nonce: &Nonce, aad: &[u8], text: &mut [u8]) -> Result<Tag, Fault> {
+        let suite = Cipher::suite(self);
+        suite.check_aad(aad)?;
+        suite.check_text(text)?;
+        Ok(self.seal_fitting(nonce, aad, text))
+    }
+
+    fn open_in_place(
+        &self,
+        nonce: &Nonce,
+        aad: &[u8],
+        body: &mut [u8],
+        tag: &Tag,
+    ) -> Result<(), Fault> {
+        // The proof sees the tag's length.
+        let _given = tag.bytes();
+        let suite = Cipher::suite(self);
+        suite.check_aad(aad)?;
+        suite.check_text(body)?;
+        self.open_fitting(nonce, aad, body, tag)
+    }
 }

@@ -1,13 +1,13 @@
 // A cipher of any suite.
 
-ghost use Rattle.std.specs.Prelude.{◌≡◌, ◌≢◌, ◌++◌, length, MatchResult};
-ghost use Rattle.aead.specs.Suites.{key_length};
+ghost use Rattle.std.specs.Prelude.{◌≡◌, ◌≢◌, ◌≤◌, ◌++◌, length, MatchResult};
+ghost use Rattle.aead.specs.Suites.{key_length, text_limit, aad_limit};
 ghost use Rattle.aead.specs.Sealing.{Opened};
 ghost use Rattle.aead.specs.Ciphers.{setting};
 ghost use Rattle.aead.specs.AnyCiphers.{one_pass_keyed, keyed_of};
-ghost use Rattle.aead.specs.Refusals.{SealRefused, OpenRefused};
+ghost use Rattle.aead.specs.Refusals.{OpenRefused};
 
-use crate::aead::Aead;
+use crate::aead::Cipher;
 use crate::chacha_poly::ChaChaPoly;
 use crate::gcm::Gcm;
 use crate::gcm_siv::GcmSiv;
@@ -47,25 +47,21 @@ impl AnyAead {
             return Err(Fault::KeyLength);
         }
         match suite {
-            Suite::ChaCha20Poly1305 => match Key32::from_slice(key) {
-                Ok(key) => Ok(AnyAead::OnePass(AnyOnePass::ChaCha(ChaChaPoly::new(&key)))),
-                Err(fault) => Err(fault),
-            },
-            Suite::Aes128Gcm | Suite::Aes192Gcm | Suite::Aes256Gcm => match AesKey::from_slice(
-                key,
-            ) {
-                Ok(key) => Ok(AnyAead::OnePass(AnyOnePass::Gcm(Gcm::new(suite, key)))),
-                Err(fault) => Err(fault),
-            },
-            Suite::Aes128GcmSiv | Suite::Aes256GcmSiv => match AesKey::from_slice(key) {
-                Ok(key) => Ok(AnyAead::Siv(GcmSiv::new(suite, key))),
-                Err(fault) => Err(fault),
-            },
+            Suite::ChaCha20Poly1305 => {
+                let cipher = ChaChaPoly::new(&Key32::from_slice(key)?);
+                Ok(AnyAead::OnePass(AnyOnePass::ChaCha(cipher)))
+            }
+            Suite::Aes128Gcm | Suite::Aes192Gcm | Suite::Aes256Gcm => {
+                let cipher = Gcm::new(suite, AesKey::from_slice(key)?);
+                Ok(AnyAead::OnePass(AnyOnePass::Gcm(cipher)))
+            }
+            Suite::Aes128GcmSiv | Suite::Aes256GcmSiv => {
+                Ok(AnyAead::Siv(GcmSiv::new(suite, AesKey::from_slice(key)?)))
+            }
         }
     }
 
-    // Opens a ciphertext and its tag in place, the fastest way. After a refusal for the tag the bytes are of no
-    // use.
+    // Opens a ciphertext and its tag in place, the fastest way. After a refusal the bytes are of no use.
     pub(crate) fn open_beside(
         &self,
         nonce: &Nonce,
@@ -73,6 +69,8 @@ impl AnyAead {
         body: &mut [u8],
         tag: &Tag,
     ) -> Result<(), Fault>
+        requires aad_fits { length aad.now ≤ aad_limit (keyed_of self.now).suite }
+        requires text_fits { length body.old ≤ text_limit (keyed_of self.now).suite }
         ensures { let s = setting (keyed_of self.now) nonce.now aad.now in
             MatchResult result (λ _. Opened s (body.old ++ tag.now) body.new)
             (OpenRefused s body.old tag.now) }
@@ -82,14 +80,14 @@ impl AnyAead {
                 cipher.open_beside(nonce, aad, body, tag)
             }
             AnyAead::OnePass(AnyOnePass::Gcm(cipher)) => {
-                cipher.open_in_place(nonce, aad, body, tag)
+                cipher.open_fitting(nonce, aad, body, tag)
             }
-            AnyAead::Siv(cipher) => cipher.open_in_place(nonce, aad, body, tag),
+            AnyAead::Siv(cipher) => cipher.open_fitting(nonce, aad, body, tag),
         }
     }
 }
 
-impl Aead for AnyOnePass {
+impl Cipher for AnyOnePass {
     ghost keyed = { one_pass_keyed };
 
     fn suite(&self) -> Suite {
@@ -99,14 +97,14 @@ impl Aead for AnyOnePass {
         }
     }
 
-    fn seal_in_place(&self, nonce: &Nonce, aad: &[u8], text: &mut [u8]) -> Result<Tag, Fault> {
+    fn seal_fitting(&self, nonce: &Nonce, aad: &[u8], text: &mut [u8]) -> Tag {
         match self {
-            AnyOnePass::ChaCha(cipher) => cipher.seal_in_place(nonce, aad, text),
-            AnyOnePass::Gcm(cipher) => cipher.seal_in_place(nonce, aad, text),
+            AnyOnePass::ChaCha(cipher) => cipher.seal_fitting(nonce, aad, text),
+            AnyOnePass::Gcm(cipher) => cipher.seal_fitting(nonce, aad, text),
         }
     }
 
-    fn open_in_place(
+    fn open_fitting(
         &self,
         nonce: &Nonce,
         aad: &[u8],
@@ -114,13 +112,13 @@ impl Aead for AnyOnePass {
         tag: &Tag,
     ) -> Result<(), Fault> {
         match self {
-            AnyOnePass::ChaCha(cipher) => cipher.open_in_place(nonce, aad, body, tag),
-            AnyOnePass::Gcm(cipher) => cipher.open_in_place(nonce, aad, body, tag),
+            AnyOnePass::ChaCha(cipher) => cipher.open_fitting(nonce, aad, body, tag),
+            AnyOnePass::Gcm(cipher) => cipher.open_fitting(nonce, aad, body, tag),
         }
     }
 }
 
-impl Aead for AnyAead {
+impl Cipher for AnyAead {
     ghost keyed = { keyed_of };
 
     fn suite(&self) -> Suite {
@@ -130,14 +128,14 @@ impl Aead for AnyAead {
         }
     }
 
-    fn seal_in_place(&self, nonce: &Nonce, aad: &[u8], text: &mut [u8]) -> Result<Tag, Fault> {
+    fn seal_fitting(&self, nonce: &Nonce, aad: &[u8], text: &mut [u8]) -> Tag {
         match self {
-            AnyAead::OnePass(cipher) => cipher.seal_in_place(nonce, aad, text),
-            AnyAead::Siv(cipher) => cipher.seal_in_place(nonce, aad, text),
+            AnyAead::OnePass(cipher) => cipher.seal_fitting(nonce, aad, text),
+            AnyAead::Siv(cipher) => cipher.seal_fitting(nonce, aad, text),
         }
     }
 
-    fn open_in_place(
+    fn open_fitting(
         &self,
         nonce: &Nonce,
         aad: &[u8],
@@ -145,8 +143,8 @@ impl Aead for AnyAead {
         tag: &Tag,
     ) -> Result<(), Fault> {
         match self {
-            AnyAead::OnePass(cipher) => cipher.open_in_place(nonce, aad, body, tag),
-            AnyAead::Siv(cipher) => cipher.open_in_place(nonce, aad, body, tag),
+            AnyAead::OnePass(cipher) => cipher.open_fitting(nonce, aad, body, tag),
+            AnyAead::Siv(cipher) => cipher.open_fitting(nonce, aad, body, tag),
         }
     }
 }

@@ -2,13 +2,14 @@
 
 ghost use Rattle.std.specs.Prelude.{◌≡◌, ℕ, ◌%◌, ◌<◌, ◌≤◌, ◌++◌, length, take, slice_index, refl, MatchResult};
 ghost use Rattle.chacha.specs.Stream.{key_stream_byte};
+ghost use Rattle.aead.specs.Suites.{text_limit, aad_limit};
 ghost use Rattle.aead.specs.Sealing.{Opened, poly_key};
 ghost use Rattle.aead.specs.Ciphers.{Keyed, setting};
 ghost use Rattle.aead.specs.Refusals.{OpenRefused};
-ghost use Rattle.aead.specs.InPlace.{SealsInPlace, OpensInPlace, OpensEachSealing};
+ghost use Rattle.aead.specs.InPlace.{OpensInPlace};
 ghost use Rattle.aead.specs.declared.suite.Suite.TheVariants.{ChaCha20Poly1305};
 
-use crate::aead::Aead;
+use crate::aead::Cipher;
 use crate::begun_stream::BegunStream;
 use crate::mask_then_hash::{MaskThenHash, open_beside, open_whole, seal_whole};
 use crate::nonced::Nonced;
@@ -52,14 +53,11 @@ impl ChaChaPoly {
 
     // Seals with the first `N` bytes of the key stream made at once.
     #[inline(never)]
-    fn seal_from<const N: usize>(
-        &self,
-        nonce: &Nonce,
-        aad: &[u8],
-        text: &mut [u8],
-    ) -> Result<Tag, Fault>
-        requires { (64 ≤ N) × (N ≤ 512) × (N % 64 ≡ 0) }
-        ensures { SealsInPlace (setting self.now nonce.now aad.now) text.old text.new result }
+    fn seal_from<const N: usize>(&self, nonce: &Nonce, aad: &[u8], text: &mut [u8]) -> Tag
+        requires blocks { (64 ≤ N) × (N ≤ 512) × (N % 64 ≡ 0) }
+        requires aad_fits { length aad.now ≤ aad_limit self.now.suite }
+        requires text_fits { length text.old ≤ text_limit self.now.suite }
+        ensures { Opened (setting self.now nonce.now aad.now) (text.new ++ result) text.old }
     {
         let key = &self.key;
         let start = &key_stream_start::<N>(key, nonce)[..];
@@ -75,18 +73,18 @@ impl ChaChaPoly {
         body: &mut [u8],
         tag: &Tag,
     ) -> Result<(), Fault>
-        requires { (64 ≤ N) × (N ≤ 512) × (N % 64 ≡ 0) }
-        ensures answer { OpensInPlace (setting self.now nonce.now aad.now) tag.now body.old body.new result }
-        ensures found { OpensEachSealing (setting self.now nonce.now aad.now) tag.now body.old body.new
-            result }
+        requires blocks { (64 ≤ N) × (N ≤ 512) × (N % 64 ≡ 0) }
+        requires aad_fits { length aad.now ≤ aad_limit self.now.suite }
+        requires text_fits { length body.old ≤ text_limit self.now.suite }
+        ensures { OpensInPlace (setting self.now nonce.now aad.now) tag.now body.old body.new result }
     {
         let key = &self.key;
         let start = &key_stream_start::<N>(key, nonce)[..];
         open_whole(&BegunChaCha { key, nonce, start }, aad, body, tag)
     }
 
-    // Opens a ciphertext and its tag in place, and authenticates it meanwhile. After a refusal for the tag the
-    // bytes are of no use.
+    // Opens a ciphertext and its tag in place, and authenticates it meanwhile. After a refusal the bytes are of
+    // no use.
     pub(crate) fn open_beside(
         &self,
         nonce: &Nonce,
@@ -94,12 +92,14 @@ impl ChaChaPoly {
         body: &mut [u8],
         tag: &Tag,
     ) -> Result<(), Fault>
+        requires aad_fits { length aad.now ≤ aad_limit self.now.suite }
+        requires text_fits { length body.old ≤ text_limit self.now.suite }
         ensures { let s = setting self.now nonce.now aad.now in
             MatchResult result (λ _. Opened s (body.old ++ tag.now) body.new)
             (OpenRefused s body.old tag.now) }
     {
         if body.len() <= SEVEN_BLOCKS {
-            return self.open_in_place(nonce, aad, body, tag);
+            return self.open_fitting(nonce, aad, body, tag);
         }
         let key = &self.key;
         let start = &key_stream_start::<128>(key, nonce)[..];
@@ -199,7 +199,7 @@ const THREE_BLOCKS: usize = 192;
 // How many those with the counters 1 to 7 do.
 const SEVEN_BLOCKS: usize = 448;
 
-impl Aead for ChaChaPoly {
+impl Cipher for ChaChaPoly {
     ghost keyed = { λ c. c };
 
     fn suite(&self) -> Suite {
@@ -208,7 +208,7 @@ impl Aead for ChaChaPoly {
         Suite::ChaCha20Poly1305
     }
 
-    fn seal_in_place(&self, nonce: &Nonce, aad: &[u8], text: &mut [u8]) -> Result<Tag, Fault> {
+    fn seal_fitting(&self, nonce: &Nonce, aad: &[u8], text: &mut [u8]) -> Tag {
         if text.len() <= ONE_BLOCK || text.len() > SEVEN_BLOCKS {
             self.seal_from::<128>(nonce, aad, text)
         } else if text.len() <= THREE_BLOCKS {
@@ -218,7 +218,7 @@ impl Aead for ChaChaPoly {
         }
     }
 
-    fn open_in_place(
+    fn open_fitting(
         &self,
         nonce: &Nonce,
         aad: &[u8],

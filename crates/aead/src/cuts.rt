@@ -25,8 +25,6 @@ enum Cutting {
 }
 
 impl Cutting {
-    ghost use Rattle.aead.specs.Pieces.{HoldsAbsorb};
-
     // Nothing of the text is encrypted yet.
     fn new(cipher: &AnyAead, nonce: &Nonce, aad: &[u8], text: &[u8]) -> Result<Cutting, Fault>
         ensures { let s = setting (keyed_of cipher.now) nonce.now aad.now in
@@ -36,28 +34,13 @@ impl Cutting {
         suite.check_aad(aad)?;
         suite.check_text(text)?;
         match cipher {
-            AnyAead::OnePass(cipher) => match Sealer::new(cipher, nonce, aad) {
-                Ok(sealer) => Ok(Cutting::OnePass(sealer)),
-                Err(fault) => Err(fault),
-            },
-            AnyAead::Siv(cipher) => match SivAbsorb::new(cipher, nonce, aad) {
-                Ok(absorb) => Cutting::read(absorb, text),
-                Err(fault) => Err(fault),
-            },
-        }
-    }
-
-    // Reads the text once.
-    fn read(mut absorb: SivAbsorb, text: &[u8]) -> Result<Cutting, Fault>
-        ensures { (s : Setting) → HoldsAbsorb absorb s [] →
-            MatchResult result (λ c. Encrypted c s text.now []) (λ e. SealRefused s text.now e) }
-    {
-        match absorb.update(text) {
-            Ok(()) => {
+            AnyAead::OnePass(cipher) => Ok(Cutting::OnePass(Sealer::begin(cipher, nonce, aad))),
+            AnyAead::Siv(cipher) => {
+                let mut absorb = SivAbsorb::begin(cipher, nonce, aad);
+                absorb.extend(text);
                 let (tag, writer) = absorb.finish();
                 Ok(Cutting::Siv(writer, tag))
             }
-            Err(fault) => Err(fault),
         }
     }
 

@@ -8,7 +8,7 @@ ghost use Rattle.aead.specs.Ciphers.{setting};
 ghost use Rattle.aead.specs.Exports.{suite_number, unknown_suite, setting_of, HasLengths};
 ghost use Rattle.aead.specs.Exports.{WasSealed, WasNotSealed, WasOpened, WasNotOpened};
 
-use crate::aead::Aead;
+use crate::aead::Cipher;
 use crate::chacha_poly::ChaChaPoly;
 use crate::gcm::Gcm;
 use crate::gcm_siv::GcmSiv;
@@ -40,21 +40,33 @@ fn suite_numbered(number: u32) -> Option<Suite>
 }
 
 // Seals the bytes before the last sixteen, which become the tag.
-fn seal_room<C: Aead>(cipher: &C, nonce: &Nonce, aad: &[u8], bytes: &mut [u8]) -> Result<(), Fault>
+fn seal_room<C: Cipher>(
+    cipher: &C,
+    nonce: &Nonce,
+    aad: &[u8],
+    bytes: &mut [u8],
+) -> Result<(), Fault>
     ensures { let s = setting (C.keyed cipher.now) nonce.now aad.now in HasLengths s →
         MatchResult result (λ _. WasSealed s bytes.old bytes.new) (WasNotSealed s bytes.old bytes.new) }
 {
-    cipher.suite().check_aad(aad)?;
+    let suite = cipher.suite();
+    suite.check_aad(aad)?;
     let Some((body, last)) = bytes.split_last_chunk_mut() else {
         return Err(Fault::TooShort);
     };
-    let tag = cipher.seal_in_place(nonce, aad, body)?;
+    suite.check_text(body)?;
+    let tag = cipher.seal_fitting(nonce, aad, body);
     *last = *tag.bytes();
     Ok(())
 }
 
 // Seals under the bytes of a nonce.
-fn seal_under<C: Aead>(cipher: &C, nonce: &[u8], aad: &[u8], bytes: &mut [u8]) -> Result<(), Fault>
+fn seal_under<C: Cipher>(
+    cipher: &C,
+    nonce: &[u8],
+    aad: &[u8],
+    bytes: &mut [u8],
+) -> Result<(), Fault>
     requires { length (C.keyed cipher.now).key ≡ key_length (C.keyed cipher.now).suite }
     ensures { let s = setting (C.keyed cipher.now) nonce.now aad.now in
         MatchResult result (λ _. WasSealed s bytes.old bytes.new) (WasNotSealed s bytes.old bytes.new) }
@@ -78,35 +90,59 @@ fn seal_bytes(
         return Err(Fault::KeyLength);
     }
     match suite {
-        Suite::ChaCha20Poly1305 => match Key32::from_slice(key) {
-            Ok(key) => seal_under(&ChaChaPoly::new(&key), nonce, aad, bytes),
-            Err(fault) => Err(fault),
-        },
-        Suite::Aes128Gcm | Suite::Aes192Gcm | Suite::Aes256Gcm => match AesKey::from_slice(key) {
-            Ok(key) => seal_under(&Gcm::new(suite, key), nonce, aad, bytes),
-            Err(fault) => Err(fault),
-        },
-        Suite::Aes128GcmSiv | Suite::Aes256GcmSiv => match AesKey::from_slice(key) {
-            Ok(key) => seal_under(&GcmSiv::new(suite, key), nonce, aad, bytes),
-            Err(fault) => Err(fault),
-        },
+        Suite::ChaCha20Poly1305 => {
+            seal_under(
+                &ChaChaPoly::new(&Key32::from_slice(key)?),
+                nonce,
+                aad,
+                bytes,
+            )
+        }
+        Suite::Aes128Gcm | Suite::Aes192Gcm | Suite::Aes256Gcm => {
+            seal_under(
+                &Gcm::new(suite, AesKey::from_slice(key)?),
+                nonce,
+                aad,
+                bytes,
+            )
+        }
+        Suite::Aes128GcmSiv | Suite::Aes256GcmSiv => {
+            seal_under(
+                &GcmSiv::new(suite, AesKey::from_slice(key)?),
+                nonce,
+                aad,
+                bytes,
+            )
+        }
     }
 }
 
 // Opens the bytes before the last sixteen, which are the tag.
-fn open_room<C: Aead>(cipher: &C, nonce: &Nonce, aad: &[u8], bytes: &mut [u8]) -> Result<(), Fault>
+fn open_room<C: Cipher>(
+    cipher: &C,
+    nonce: &Nonce,
+    aad: &[u8],
+    bytes: &mut [u8],
+) -> Result<(), Fault>
     ensures { let s = setting (C.keyed cipher.now) nonce.now aad.now in HasLengths s →
         MatchResult result (λ _. WasOpened s bytes.old bytes.new) (WasNotOpened s bytes.old bytes.new) }
 {
-    cipher.suite().check_aad(aad)?;
+    let suite = cipher.suite();
+    suite.check_aad(aad)?;
     let Some((body, last)) = bytes.split_last_chunk_mut() else {
         return Err(Fault::TooShort);
     };
-    cipher.open_in_place(nonce, aad, body, &Tag::new(*last))
+    suite.check_text(body)?;
+    cipher.open_fitting(nonce, aad, body, &Tag::new(*last))
 }
 
 // Opens under the bytes of a nonce.
-fn open_under<C: Aead>(cipher: &C, nonce: &[u8], aad: &[u8], bytes: &mut [u8]) -> Result<(), Fault>
+fn open_under<C: Cipher>(
+    cipher: &C,
+    nonce: &[u8],
+    aad: &[u8],
+    bytes: &mut [u8],
+) -> Result<(), Fault>
     requires { length (C.keyed cipher.now).key ≡ key_length (C.keyed cipher.now).suite }
     ensures { let s = setting (C.keyed cipher.now) nonce.now aad.now in
         MatchResult result (λ _. WasOpened s bytes.old bytes.new) (WasNotOpened s bytes.old bytes.new) }
@@ -130,18 +166,30 @@ fn open_bytes(
         return Err(Fault::KeyLength);
     }
     match suite {
-        Suite::ChaCha20Poly1305 => match Key32::from_slice(key) {
-            Ok(key) => open_under(&ChaChaPoly::new(&key), nonce, aad, bytes),
-            Err(fault) => Err(fault),
-        },
-        Suite::Aes128Gcm | Suite::Aes192Gcm | Suite::Aes256Gcm => match AesKey::from_slice(key) {
-            Ok(key) => open_under(&Gcm::new(suite, key), nonce, aad, bytes),
-            Err(fault) => Err(fault),
-        },
-        Suite::Aes128GcmSiv | Suite::Aes256GcmSiv => match AesKey::from_slice(key) {
-            Ok(key) => open_under(&GcmSiv::new(suite, key), nonce, aad, bytes),
-            Err(fault) => Err(fault),
-        },
+        Suite::ChaCha20Poly1305 => {
+            open_under(
+                &ChaChaPoly::new(&Key32::from_slice(key)?),
+                nonce,
+                aad,
+                bytes,
+            )
+        }
+        Suite::Aes128Gcm | Suite::Aes192Gcm | Suite::Aes256Gcm => {
+            open_under(
+                &Gcm::new(suite, AesKey::from_slice(key)?),
+                nonce,
+                aad,
+                bytes,
+            )
+        }
+        Suite::Aes128GcmSiv | Suite::Aes256GcmSiv => {
+            open_under(
+                &GcmSiv::new(suite, AesKey::from_slice(key)?),
+                nonce,
+                aad,
+                bytes,
+            )
+        }
     }
 }
 

@@ -1,29 +1,24 @@
 // AES-GCM (SP 800-38D).
 
-ghost use Rattle.std.specs.Prelude.{◌≡◌, ◌≢◌, ◌++◌, ◌∷◌, [], length, MatchResult};
+ghost use Rattle.std.specs.Prelude.{◌≡◌, ◌≢◌, ◌≤◌, ◌++◌, ◌∷◌, [], length, MatchResult};
 ghost use Rattle.std.proofs.Common.{ap};
 ghost use Rattle.aes.specs.Cipher.{cipher, IsKey};
 ghost use Rattle.aead.specs.declared.suite.Suite.{Suite};
-ghost use Rattle.aead.specs.Suites.{construction_of, is_one_pass, key_length, ByGcm};
-ghost use Rattle.aead.specs.Sealing.{hash_key, j0};
+ghost use Rattle.aead.specs.Suites.{construction_of, is_one_pass, key_length, text_limit, aad_limit, ByGcm};
+ghost use Rattle.aead.specs.Sealing.{Opened, hash_key, j0};
 ghost use Rattle.aead.specs.Ciphers.{Keyed, setting};
-ghost use Rattle.aead.specs.InPlace.{SealsInPlace, OpensInPlace, OpensEachSealing};
+ghost use Rattle.aead.specs.InPlace.{OpensInPlace};
 
-use crate::aead::Aead;
+use crate::aead::Cipher;
 use crate::hashes::GhashTag;
 use crate::mask_then_hash::{MaskThenHash, open_whole, seal_whole};
+use crate::multiples::{Multiples, worth};
 use crate::nonced::Nonced;
 use crate::suite::Suite;
 use aes::{AesKey, CtrBe};
 use gf128::{Ghash, Keyed128, Multiply, PlacedMul, TableMul, WideMul};
 use octets::{Block, Fault, Nonce, Tag};
 use std::marker::Model;
-
-// From so many bytes on, multiples at eight places are worth their making.
-pub(crate) const SHORT: usize = 128;
-
-// From so many bytes on, those of four powers of the hash key are.
-pub(crate) const LONG: usize = 2304;
 
 /// AES-GCM under a key of 16, 24 or 32 bytes (SP 800-38D). Opening in place authenticates before it
 /// changes a byte. Contracts see its suite and key.
@@ -118,8 +113,10 @@ impl Gcm {
 
     // Seals by a multiplier of the type `M`.
     #[inline(never)]
-    fn seal_by<M: Keyed128>(&self, nonce: &Nonce, aad: &[u8], text: &mut [u8]) -> Result<Tag, Fault>
-        ensures { SealsInPlace (setting self.now nonce.now aad.now) text.old text.new result }
+    fn seal_by<M: Keyed128>(&self, nonce: &Nonce, aad: &[u8], text: &mut [u8]) -> Tag
+        requires aad_fits { length aad.now ≤ aad_limit self.now.suite }
+        requires text_fits { length text.old ≤ text_limit self.now.suite }
+        ensures { Opened (setting self.now nonce.now aad.now) (text.new ++ result) text.old }
     {
         let made = self.multiplier_of::<M>();
         seal_whole(&self.nonced(nonce, &made), aad, text)
@@ -134,9 +131,9 @@ impl Gcm {
         body: &mut [u8],
         tag: &Tag,
     ) -> Result<(), Fault>
-        ensures answer { OpensInPlace (setting self.now nonce.now aad.now) tag.now body.old body.new result }
-        ensures found { OpensEachSealing (setting self.now nonce.now aad.now) tag.now body.old body.new
-            result }
+        requires aad_fits { length aad.now ≤ aad_limit self.now.suite }
+        requires text_fits { length body.old ≤ text_limit self.now.suite }
+        ensures { OpensInPlace (setting self.now nonce.now aad.now) tag.now body.old body.new result }
     {
         let made = self.multiplier_of::<M>();
         open_whole(&self.nonced(nonce, &made), aad, body, tag)
@@ -194,38 +191,32 @@ impl<'a, M: Multiply + Copy> MaskThenHash for NoncedGcm<'a, M> {
     ghost one_pass = { λ n. ap is_one_pass n.by_gcm };
 }
 
-impl Aead for Gcm {
+impl Cipher for Gcm {
     ghost keyed = { λ c. c };
 
     fn suite(&self) -> Suite {
         self.suite
     }
 
-    fn seal_in_place(&self, nonce: &Nonce, aad: &[u8], text: &mut [u8]) -> Result<Tag, Fault> {
-        let length = aad.len() + text.len();
-        if length < SHORT {
-            seal_whole(&self.nonced(nonce, self.multiplier()), aad, text)
-        } else if length < LONG {
-            self.seal_by::<PlacedMul>(nonce, aad, text)
-        } else {
-            self.seal_by::<WideMul>(nonce, aad, text)
+    fn seal_fitting(&self, nonce: &Nonce, aad: &[u8], text: &mut [u8]) -> Tag {
+        match worth((aad.len() + text.len()) as u64) {
+            Multiples::Few => seal_whole(&self.nonced(nonce, self.multiplier()), aad, text),
+            Multiples::AtEightPlaces => self.seal_by::<PlacedMul>(nonce, aad, text),
+            Multiples::OfFourPowers => self.seal_by::<WideMul>(nonce, aad, text),
         }
     }
 
-    fn open_in_place(
+    fn open_fitting(
         &self,
         nonce: &Nonce,
         aad: &[u8],
         body: &mut [u8],
         tag: &Tag,
     ) -> Result<(), Fault> {
-        let length = aad.len() + body.len();
-        if length < SHORT {
-            open_whole(&self.nonced(nonce, self.multiplier()), aad, body, tag)
-        } else if length < LONG {
-            self.open_by::<PlacedMul>(nonce, aad, body, tag)
-        } else {
-            self.open_by::<WideMul>(nonce, aad, body, tag)
+        match worth((aad.len() + body.len()) as u64) {
+            Multiples::Few => open_whole(&self.nonced(nonce, self.multiplier()), aad, body, tag),
+            Multiples::AtEightPlaces => self.open_by::<PlacedMul>(nonce, aad, body, tag),
+            Multiples::OfFourPowers => self.open_by::<WideMul>(nonce, aad, body, tag),
         }
     }
 }

@@ -1,32 +1,27 @@
 // AES-GCM-SIV (RFC 8452).
 
-ghost use Rattle.std.specs.Prelude.{◌≡◌, ◌≢◌, length, MatchResult};
+ghost use Rattle.std.specs.Prelude.{◌≡◌, ◌≢◌, ◌≤◌, ◌++◌, length, MatchResult};
 ghost use Rattle.octets.specs.Bytes.{IsBlock};
 ghost use Rattle.gf128.specs.Polyval.{IsReversedMulX};
 ghost use Rattle.gf128.specs.States.{key_of};
 ghost use Rattle.aead.specs.declared.suite.Suite.{Suite};
-ghost use Rattle.aead.specs.Suites.{construction_of, key_length, ByGcmSiv};
-ghost use Rattle.aead.specs.Sealing.{Setting, authentication_key, encryption_key, counter_block};
+ghost use Rattle.aead.specs.Suites.{construction_of, key_length, text_limit, aad_limit, ByGcmSiv};
+ghost use Rattle.aead.specs.Sealing.{Setting, Opened, authentication_key, encryption_key, counter_block};
 ghost use Rattle.aead.specs.Ciphers.{Keyed, setting};
-ghost use Rattle.aead.specs.InPlace.{SealsInPlace, OpensInPlace, OpensEachSealing};
+ghost use Rattle.aead.specs.InPlace.{OpensInPlace};
 ghost use Rattle.aead.specs.Code.States.{MadeByGcmSiv};
 
-use crate::aead::Aead;
+use crate::aead::Cipher;
 use crate::derived_keys::DerivedKeys;
 use crate::hash_then_mask::{HashThenMask, open_whole, seal_whole};
 use crate::hashes::{KeptKey, PolyvalTag};
+use crate::multiples::{Multiples, worth};
 use crate::nonced::Nonced;
 use crate::suite::Suite;
 use aes::{AesKey, CtrLe};
 use gf128::{Keyed128, Multiply, PlacedMul, Polyval, TableMul, WideMul};
 use octets::{Block, Fault, Nonce, Tag};
 use std::marker::Model;
-
-// From so many bytes on, multiples at eight places are worth their making.
-const SHORT: usize = 128;
-
-// From so many bytes on, those of four powers of the key are.
-const LONG: usize = 2304;
 
 /// AES-GCM-SIV under a key of 16 or 32 bytes (RFC 8452). Opening in place decrypts before it can
 /// authenticate, and encrypts again after `TagMismatch`. Contracts see its suite and key.
@@ -110,8 +105,10 @@ impl GcmSiv {
 
     // Seals by a multiplier of the type `M`.
     #[inline(never)]
-    fn seal_by<M: Keyed128>(&self, nonce: &Nonce, aad: &[u8], text: &mut [u8]) -> Result<Tag, Fault>
-        ensures { SealsInPlace (setting self.now nonce.now aad.now) text.old text.new result }
+    fn seal_by<M: Keyed128>(&self, nonce: &Nonce, aad: &[u8], text: &mut [u8]) -> Tag
+        requires aad_fits { length aad.now ≤ aad_limit self.now.suite }
+        requires text_fits { length text.old ≤ text_limit self.now.suite }
+        ensures { Opened (setting self.now nonce.now aad.now) (text.new ++ result) text.old }
     {
         let keys = self.derive(nonce);
         let multiplier = M::of(&keys.hash_key);
@@ -131,9 +128,9 @@ impl GcmSiv {
         body: &mut [u8],
         tag: &Tag,
     ) -> Result<(), Fault>
-        ensures answer { OpensInPlace (setting self.now nonce.now aad.now) tag.now body.old body.new result }
-        ensures found { OpensEachSealing (setting self.now nonce.now aad.now) tag.now body.old body.new
-            result }
+        requires aad_fits { length aad.now ≤ aad_limit self.now.suite }
+        requires text_fits { length body.old ≤ text_limit self.now.suite }
+        ensures { OpensInPlace (setting self.now nonce.now aad.now) tag.now body.old body.new result }
     {
         let keys = self.derive(nonce);
         let multiplier = M::of(&keys.hash_key);
@@ -209,38 +206,32 @@ impl<'a, M: Multiply + Copy, K: KeptKey + Copy> HashThenMask for NoncedGcmSiv<'a
     ghost by_gcm_siv = { λ n. n.by_gcm_siv };
 }
 
-impl Aead for GcmSiv {
+impl Cipher for GcmSiv {
     ghost keyed = { λ c. c };
 
     fn suite(&self) -> Suite {
         self.suite
     }
 
-    fn seal_in_place(&self, nonce: &Nonce, aad: &[u8], text: &mut [u8]) -> Result<Tag, Fault> {
-        let length = aad.len() + text.len();
-        if length < SHORT {
-            self.seal_by::<TableMul>(nonce, aad, text)
-        } else if length < LONG {
-            self.seal_by::<PlacedMul>(nonce, aad, text)
-        } else {
-            self.seal_by::<WideMul>(nonce, aad, text)
+    fn seal_fitting(&self, nonce: &Nonce, aad: &[u8], text: &mut [u8]) -> Tag {
+        match worth((aad.len() + text.len()) as u64) {
+            Multiples::Few => self.seal_by::<TableMul>(nonce, aad, text),
+            Multiples::AtEightPlaces => self.seal_by::<PlacedMul>(nonce, aad, text),
+            Multiples::OfFourPowers => self.seal_by::<WideMul>(nonce, aad, text),
         }
     }
 
-    fn open_in_place(
+    fn open_fitting(
         &self,
         nonce: &Nonce,
         aad: &[u8],
         body: &mut [u8],
         tag: &Tag,
     ) -> Result<(), Fault> {
-        let length = aad.len() + body.len();
-        if length < SHORT {
-            self.open_by::<TableMul>(nonce, aad, body, tag)
-        } else if length < LONG {
-            self.open_by::<PlacedMul>(nonce, aad, body, tag)
-        } else {
-            self.open_by::<WideMul>(nonce, aad, body, tag)
+        match worth((aad.len() + body.len()) as u64) {
+            Multiples::Few => self.open_by::<TableMul>(nonce, aad, body, tag),
+            Multiples::AtEightPlaces => self.open_by::<PlacedMul>(nonce, aad, body, tag),
+            Multiples::OfFourPowers => self.open_by::<WideMul>(nonce, aad, body, tag),
         }
     }
 }

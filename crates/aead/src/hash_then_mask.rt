@@ -1,13 +1,14 @@
 // The construction whose tag is over the text and begins the mask: AES-GCM-SIV.
 
-ghost use Rattle.std.specs.Prelude.{◌≡◌, ℕ, List, length};
-ghost use Rattle.aead.specs.Suites.{ByGcmSiv, construction_of};
+ghost use Rattle.std.specs.Prelude.{◌≡◌, ◌≤◌, ◌++◌, ℕ, List, length};
+ghost use Rattle.aead.specs.Suites.{ByGcmSiv, construction_of, text_limit, aad_limit};
+ghost use Rattle.aead.specs.Sealing.{Opened};
 ghost use Rattle.aead.specs.Ciphers.{setting};
-ghost use Rattle.aead.specs.InPlace.{SealsInPlace, OpensInPlace, OpensEachSealing};
+ghost use Rattle.aead.specs.InPlace.{OpensInPlace};
 
 use crate::beside::MaskFirst;
 use crate::mask::MaskStream;
-use crate::nonced::{Nonced, authenticator, masking};
+use crate::nonced::{Nonced, authenticator, masking, tells_bytes};
 use octets::{Fault, Tag, same};
 
 // A cipher with a nonce whose mask is made of the tag.
@@ -20,38 +21,33 @@ pub(crate) trait HashThenMask: Nonced {
 }
 
 // Turns a text into its ciphertext, and returns its tag.
-pub(crate) fn seal_whole<N: HashThenMask>(
-    nonced: &N,
-    aad: &[u8],
-    text: &mut [u8],
-) -> Result<Tag, Fault>
-    ensures { SealsInPlace (setting (N.keyed nonced.now) (N.nonce nonced.now) aad.now) text.old text.new result }
+pub(crate) fn seal_whole<N: HashThenMask>(nonced: &N, aad: &[u8], text: &mut [u8]) -> Tag
+    requires aad_fits { length aad.now ≤ aad_limit (N.keyed nonced.now).suite }
+    requires text_fits { length text.old ≤ text_limit (N.keyed nonced.now).suite }
+    ensures { Opened (setting (N.keyed nonced.now) (N.nonce nonced.now) aad.now) (text.new ++ result)
+        text.old }
 {
-    let suite = nonced.suite();
-    suite.check_aad(aad)?;
-    suite.check_text(text)?;
+    tells_bytes(text);
     let mut authenticator = authenticator(nonced, aad);
     authenticator.update(text);
     let tag = authenticator.finish();
     nonced.mask(&tag).apply_to(text);
-    Ok(tag)
+    tag
 }
 
 // Turns a ciphertext into its text if the tag is its own, and else leaves every byte as it was.
-fn open_checked<N: HashThenMask>(
+pub(crate) fn open_whole<N: HashThenMask>(
     nonced: &N,
     aad: &[u8],
     body: &mut [u8],
     tag: &Tag,
 ) -> Result<(), Fault>
-    ensures tag_length { length tag.now ≡ 16 }
-    ensures answer { OpensInPlace (setting (N.keyed nonced.now) (N.nonce nonced.now) aad.now) tag.now
-        body.old body.new result }
+    requires aad_fits { length aad.now ≤ aad_limit (N.keyed nonced.now).suite }
+    requires text_fits { length body.old ≤ text_limit (N.keyed nonced.now).suite }
+    ensures { OpensInPlace (setting (N.keyed nonced.now) (N.nonce nonced.now) aad.now) tag.now body.old
+        body.new result }
 {
     let given = tag.bytes();
-    let suite = nonced.suite();
-    suite.check_aad(aad)?;
-    suite.check_text(body)?;
     let mut opening = masking(nonced, nonced.mask(tag), aad, MaskFirst);
     opening.update(body);
     if same(opening.finish().bytes(), given) {
@@ -59,19 +55,4 @@ fn open_checked<N: HashThenMask>(
     }
     nonced.mask(tag).apply_to(body);
     Err(Fault::TagMismatch)
-}
-
-// Opens a ciphertext and its tag in place. A sealing of a text is never refused.
-pub(crate) fn open_whole<N: HashThenMask>(
-    nonced: &N,
-    aad: &[u8],
-    body: &mut [u8],
-    tag: &Tag,
-) -> Result<(), Fault>
-    ensures answer { OpensInPlace (setting (N.keyed nonced.now) (N.nonce nonced.now) aad.now) tag.now
-        body.old body.new result }
-    ensures found { OpensEachSealing (setting (N.keyed nonced.now) (N.nonce nonced.now) aad.now) tag.now
-        body.old body.new result }
-{
-    open_checked(nonced, aad, body, tag)
 }

@@ -24,6 +24,7 @@ mod hashes;
 mod mask;
 mod mask_then_hash;
 mod masking;
+mod multiples;
 mod nonced;
 mod sealer;
 mod second_reading;

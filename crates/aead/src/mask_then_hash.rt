@@ -7,12 +7,12 @@ ghost use Rattle.aead.specs.Ciphers.{setting};
 ghost use Rattle.aead.specs.Refusals.{OpenRefused};
 ghost use Rattle.aead.specs.Code.Masks.{as_it_leaves};
 ghost use Rattle.aead.specs.Code.Maskings.{HoldsMasking, message_task};
-ghost use Rattle.aead.specs.InPlace.{SealsInPlace, OpensInPlace, OpensEachSealing};
+ghost use Rattle.aead.specs.InPlace.{OpensInPlace};
 
 use crate::beside::{HashFirst, MaskFirst};
 use crate::mask::MaskStream;
 use crate::masking::Masking;
-use crate::nonced::{Nonced, authenticator, masking};
+use crate::nonced::{Nonced, authenticator, masking, tells_bytes};
 use octets::{Fault, Tag, same};
 
 // A cipher with a nonce whose mask needs no tag.
@@ -40,36 +40,31 @@ pub(crate) fn sealing<N: MaskThenHash>(
 }
 
 // Turns a text into its ciphertext, and returns its tag.
-pub(crate) fn seal_whole<N: MaskThenHash>(
-    nonced: &N,
-    aad: &[u8],
-    text: &mut [u8],
-) -> Result<Tag, Fault>
-    ensures { SealsInPlace (setting (N.keyed nonced.now) (N.nonce nonced.now) aad.now) text.old text.new result }
+pub(crate) fn seal_whole<N: MaskThenHash>(nonced: &N, aad: &[u8], text: &mut [u8]) -> Tag
+    requires aad_fits { length aad.now ≤ aad_limit (N.keyed nonced.now).suite }
+    requires text_fits { length text.old ≤ text_limit (N.keyed nonced.now).suite }
+    ensures { Opened (setting (N.keyed nonced.now) (N.nonce nonced.now) aad.now) (text.new ++ result)
+        text.old }
 {
-    let suite = nonced.suite();
-    suite.check_aad(aad)?;
-    suite.check_text(text)?;
+    tells_bytes(text);
     let mut sealing = sealing(nonced, aad);
     sealing.update(text);
-    Ok(sealing.finish())
+    sealing.finish()
 }
 
 // Turns a ciphertext into its text if the tag is its own, and else leaves every byte as it was.
-fn open_checked<N: MaskThenHash>(
+pub(crate) fn open_whole<N: MaskThenHash>(
     nonced: &N,
     aad: &[u8],
     body: &mut [u8],
     tag: &Tag,
 ) -> Result<(), Fault>
-    ensures tag_length { length tag.now ≡ 16 }
-    ensures answer { OpensInPlace (setting (N.keyed nonced.now) (N.nonce nonced.now) aad.now) tag.now
-        body.old body.new result }
+    requires aad_fits { length aad.now ≤ aad_limit (N.keyed nonced.now).suite }
+    requires text_fits { length body.old ≤ text_limit (N.keyed nonced.now).suite }
+    ensures { OpensInPlace (setting (N.keyed nonced.now) (N.nonce nonced.now) aad.now) tag.now body.old
+        body.new result }
 {
     let given = tag.bytes();
-    let suite = nonced.suite();
-    suite.check_aad(aad)?;
-    suite.check_text(body)?;
     let mut authenticator = authenticator(nonced, aad);
     authenticator.update(body);
     if !same(authenticator.finish().bytes(), given) {
@@ -79,21 +74,19 @@ fn open_checked<N: MaskThenHash>(
     Ok(())
 }
 
-// Turns a ciphertext into its text while it is authenticated. After a refusal for the tag the bytes are of no
-// use.
+// Turns a ciphertext into its text while it is authenticated. After a refusal the bytes are of no use.
 pub(crate) fn open_beside<N: MaskThenHash>(
     nonced: &N,
     aad: &[u8],
     body: &mut [u8],
     tag: &Tag,
 ) -> Result<(), Fault>
+    requires aad_fits { length aad.now ≤ aad_limit (N.keyed nonced.now).suite }
+    requires text_fits { length body.old ≤ text_limit (N.keyed nonced.now).suite }
     ensures { let s = setting (N.keyed nonced.now) (N.nonce nonced.now) aad.now in
         MatchResult result (λ _. Opened s (body.old ++ tag.now) body.new) (OpenRefused s body.old tag.now) }
 {
     let given = tag.bytes();
-    let suite = nonced.suite();
-    suite.check_aad(aad)?;
-    suite.check_text(body)?;
     let mut opening = masking(nonced, nonced.mask(), aad, HashFirst);
     opening.update(body);
     if same(opening.finish().bytes(), given) {
@@ -101,19 +94,4 @@ pub(crate) fn open_beside<N: MaskThenHash>(
     } else {
         Err(Fault::TagMismatch)
     }
-}
-
-// Opens a ciphertext and its tag in place. A sealing of a text is never refused.
-pub(crate) fn open_whole<N: MaskThenHash>(
-    nonced: &N,
-    aad: &[u8],
-    body: &mut [u8],
-    tag: &Tag,
-) -> Result<(), Fault>
-    ensures answer { OpensInPlace (setting (N.keyed nonced.now) (N.nonce nonced.now) aad.now) tag.now
-        body.old body.new result }
-    ensures found { OpensEachSealing (setting (N.keyed nonced.now) (N.nonce nonced.now) aad.now) tag.now
-        body.old body.new result }
-{
-    open_checked(nonced, aad, body, tag)
 }

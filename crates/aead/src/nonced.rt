@@ -1,6 +1,6 @@
 // A cipher with a nonce, and the states that it begins.
 
-ghost use Rattle.std.specs.Prelude.{◌≡◌, ◌≤◌, ℕ, List, [], length};
+ghost use Rattle.std.specs.Prelude.{◌≡◌, ◌<◌, ◌≤◌, ℕ, List, [], get_or, length};
 ghost use Rattle.aead.specs.Suites.{text_limit, aad_limit};
 ghost use Rattle.aead.specs.Ciphers.{Keyed, setting};
 ghost use Rattle.aead.specs.Code.States.{HoldsAuthenticator};
@@ -30,6 +30,11 @@ pub(crate) trait Nonced {
     fn hash(&self) -> Self::Hash
         ensures { (aad : List ℕ) → Self.Hash.held result (setting (keyed self.now) (nonce self.now) aad) [] };
 }
+
+// Does nothing: a caller learns that each byte of a slice is below 256.
+pub(crate) fn tells_bytes(bytes: &[u8])
+    ensures { (i : ℕ) → get_or bytes.now i 0 < 256 }
+{}
 
 // The authenticator that has taken in associated data.
 #[inline(always)]

@@ -2,6 +2,7 @@
 
 ghost use Rattle.std.specs.Prelude.{◌≡◌, ◌++◌, ◌+◌, ◌<◌, ◌≤◌, ◌^◌, ℕ, List, [], length, MatchResult, OnErr};
 ghost use Rattle.octets.specs.Masked.{masked};
+ghost use Rattle.aead.specs.Suites.{aad_limit};
 ghost use Rattle.aead.specs.Sealing.{Setting, mask_of, tag_of};
 ghost use Rattle.aead.specs.Ciphers.{setting};
 ghost use Rattle.aead.specs.Refusals.{SealRefused};
@@ -40,17 +41,25 @@ impl SivAbsorb {
         ensures { let s = setting cipher.now nonce.now aad.now in
             MatchResult result (λ absorb. HoldsAbsorb absorb s []) (λ e. SealRefused s [] e) }
     {
-        let suite = cipher.suite();
-        suite.check_aad(aad)?;
+        cipher.suite().check_aad(aad)?;
+        Ok(SivAbsorb::begin(cipher, nonce, aad))
+    }
+
+    // The state that holds the empty text.
+    pub(crate) fn begin(cipher: &GcmSiv, nonce: &Nonce, aad: &[u8]) -> SivAbsorb
+        requires { length aad.now ≤ aad_limit cipher.now.suite }
+        ensures holds { HoldsAbsorb result (setting cipher.now nonce.now aad.now) [] }
+        ensures none { result.authenticator.length ≡ 0 }
+    {
         let keys = cipher.derive(nonce);
         let multiplier = PlacedMul::of(&keys.hash_key);
         let nonced = cipher.nonced(nonce, keys.encryption, multiplier);
-        Ok(SivAbsorb {
+        SivAbsorb {
             authenticator: authenticator(&nonced, aad),
             again: authenticator(&nonced, aad),
             encryption: keys.encryption,
-            limit: suite.text_limit(),
-        })
+            limit: cipher.suite().text_limit(),
+        }
     }
 
     // How many bytes more are within the limit.

@@ -1,6 +1,6 @@
 // The suites: their names and limits.
 
-ghost use Rattle.std.specs.Prelude.{◌≡◌, ◌↔◌, ◌<◌, ◌≤◌, ℕ, get_or, length, MatchResult};
+ghost use Rattle.std.specs.Prelude.{◌≡◌, ◌↔◌, ◌<◌, ◌≤◌, length, MatchResult};
 ghost use Rattle.aead.specs.declared.suite.Suite.{Suite};
 ghost use Rattle.aead.specs.Suites.{suite_name, key_length, text_limit, aad_limit};
 
@@ -97,9 +97,8 @@ impl Suite {
 
     // Refuses a text past the limit.
     pub(crate) fn check_text(self, text: &[u8]) -> Result<(), Fault>
-        ensures answer { MatchResult result (λ _. length text.now ≤ text_limit self)
+        ensures { MatchResult result (λ _. length text.now ≤ text_limit self)
             (λ e. (e ≡ Fault.TextTooLong) × (text_limit self < length text.now)) }
-        ensures bytes { (i : ℕ) → get_or text.now i 0 < 256 }
     {
         if text.len() as u64 > self.text_limit() {
             return Err(Fault::TextTooLong);

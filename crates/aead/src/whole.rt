@@ -6,7 +6,7 @@ ghost use Rattle.aead.specs.Ciphers.{setting};
 ghost use Rattle.aead.specs.AnyCiphers.{keyed_of};
 ghost use Rattle.aead.specs.Refusals.{WholeSealRefused, WholeOpenRefused};
 
-use crate::aead::Aead;
+use crate::aead::Cipher;
 use crate::any::AnyAead;
 use crate::sealing_has_one_text;
 use octets::{Fault, Nonce, Tag};
@@ -52,7 +52,7 @@ pub fn seal<A: Allocator>(
     suite.check_text(text)?;
     let mut sealed = Vec::with_capacity(alloc, text.len() + 16)?;
     sealed.extend_from_slice(text)?;
-    let tag = cipher.seal_in_place(nonce, aad, &mut sealed)?;
+    let tag = cipher.seal_fitting(nonce, aad, &mut sealed);
     sealed.extend_from_slice(tag.bytes())?;
     Ok(sealed)
 }

@@ -11,10 +11,9 @@ use crate::any::{AnyAead, AnyOnePass};
 use crate::beside::{HashFirst, MaskFirst};
 use crate::engine::measure::Measured;
 use crate::engine::passes::{Finding, pass};
-use crate::gcm::{Gcm, LONG};
-use crate::gcm_siv::GcmSiv;
 use crate::hash_then_mask::HashThenMask;
 use crate::mask_then_hash::MaskThenHash;
+use crate::multiples::{Multiples, worth};
 use crate::nonced::masking;
 use gf128::{Keyed128, PlacedMul, WideMul};
 use octets::{Fault, Intake, Nonce, Outlet};
@@ -59,48 +58,38 @@ fn pass_mask_first<N: HashThenMask, I: Intake, O: Outlet>(
     pass(intake, opening, measured, outlet)
 }
 
-// Opens a whole reading by AES-GCM, with a multiplier of the type `M`.
-fn pass_gcm<M: Keyed128, I: Intake, O: Outlet>(
-    cipher: &Gcm,
+// Opens a whole reading by a cipher of any suite, with a multiplier of the type `M`.
+fn pass_by<M: Keyed128, I: Intake, O: Outlet>(
+    cipher: &AnyAead,
     nonce: &Nonce,
     aad: &[u8],
     intake: &mut I,
     measured: &Measured,
     outlet: &mut O,
 ) -> Result<Finding, Fault>
-    requires aad_fits { length aad.now ≤ aad_limit cipher.now.suite }
-    requires high { measured.now.length ≤ text_limit cipher.now.suite + 16 }
-    ensures passed { PassedWhole (setting cipher.now nonce.now aad.now)
+    requires aad_fits { length aad.now ≤ aad_limit (keyed_of cipher.now).suite }
+    requires high { measured.now.length ≤ text_limit (keyed_of cipher.now).suite + 16 }
+    ensures passed { PassedWhole (setting (keyed_of cipher.now) nonce.now aad.now)
         measured.now.tag measured.now.length (I.left intake.old) (I.left intake.new)
         (O.taken outlet.old) (O.taken outlet.new) result }
     ensures blame { Blames (I.failures intake.old) (I.failures intake.new) (O.failures outlet.old)
         (O.failures outlet.new) result }
 {
-    let made = cipher.multiplier_of::<M>();
-    pass_hash_first(&cipher.nonced(nonce, &made), aad, intake, measured, outlet)
-}
-
-// Opens a whole reading by AES-GCM-SIV.
-fn pass_siv<M: Keyed128, I: Intake, O: Outlet>(
-    cipher: &GcmSiv,
-    nonce: &Nonce,
-    aad: &[u8],
-    intake: &mut I,
-    measured: &Measured,
-    outlet: &mut O,
-) -> Result<Finding, Fault>
-    requires aad_fits { length aad.now ≤ aad_limit cipher.now.suite }
-    requires high { measured.now.length ≤ text_limit cipher.now.suite + 16 }
-    ensures passed { PassedWhole (setting cipher.now nonce.now aad.now)
-        measured.now.tag measured.now.length (I.left intake.old) (I.left intake.new)
-        (O.taken outlet.old) (O.taken outlet.new) result }
-    ensures blame { Blames (I.failures intake.old) (I.failures intake.new) (O.failures outlet.old)
-        (O.failures outlet.new) result }
-{
-    let keys = cipher.derive(nonce);
-    let made = M::of(&keys.hash_key);
-    let nonced = cipher.nonced(nonce, &keys.encryption, &made);
-    pass_mask_first(&nonced, aad, intake, measured, outlet)
+    match cipher {
+        AnyAead::OnePass(AnyOnePass::ChaCha(cipher)) => {
+            pass_hash_first(&cipher.nonced(nonce), aad, intake, measured, outlet)
+        }
+        AnyAead::OnePass(AnyOnePass::Gcm(cipher)) => {
+            let made = cipher.multiplier_of::<M>();
+            pass_hash_first(&cipher.nonced(nonce, &made), aad, intake, measured, outlet)
+        }
+        AnyAead::Siv(cipher) => {
+            let keys = cipher.derive(nonce);
+            let made = M::of(&keys.hash_key);
+            let nonced = cipher.nonced(nonce, &keys.encryption, &made);
+            pass_mask_first(&nonced, aad, intake, measured, outlet)
+        }
+    }
 }
 
 // Opens a whole reading by a cipher of any suite.
@@ -120,24 +109,10 @@ pub(crate) fn pass_opening<I: Intake, O: Outlet>(
     ensures blame { Blames (I.failures intake.old) (I.failures intake.new) (O.failures outlet.old)
         (O.failures outlet.new) result }
 {
-    let is_long = measured.length >= LONG as u64;
-    match cipher {
-        AnyAead::OnePass(AnyOnePass::ChaCha(cipher)) => {
-            pass_hash_first(&cipher.nonced(nonce), aad, intake, measured, outlet)
+    match worth(measured.length) {
+        Multiples::OfFourPowers => {
+            pass_by::<WideMul, I, O>(cipher, nonce, aad, intake, measured, outlet)
         }
-        AnyAead::OnePass(AnyOnePass::Gcm(cipher)) => {
-            if is_long {
-                pass_gcm::<WideMul, I, O>(cipher, nonce, aad, intake, measured, outlet)
-            } else {
-                pass_gcm::<PlacedMul, I, O>(cipher, nonce, aad, intake, measured, outlet)
-            }
-        }
-        AnyAead::Siv(cipher) => {
-            if is_long {
-                pass_siv::<WideMul, I, O>(cipher, nonce, aad, intake, measured, outlet)
-            } else {
-                pass_siv::<PlacedMul, I, O>(cipher, nonce, aad, intake, measured, outlet)
-            }
-        }
+        _ => pass_by::<PlacedMul, I, O>(cipher, nonce, aad, intake, measured, outlet),
     }
 }

@@ -15,9 +15,9 @@ use crate::any::AnyOnePass;
 use crate::authenticator::Authenticator;
 use crate::engine::measure::Measured;
 use crate::engine::passes::{Finding, finding_of};
-use crate::gcm::{Gcm, LONG};
 use crate::hashes::TagHash;
 use crate::mask_then_hash::MaskThenHash;
+use crate::multiples::{Multiples, worth};
 use crate::nonced::authenticator;
 use gf128::{Keyed128, PlacedMul, WideMul};
 use octets::{Fault, Intake, Nonce, fill};
@@ -94,24 +94,6 @@ fn verify_over<N: MaskThenHash, I: Intake>(
     }
 }
 
-// A whole reading by AES-GCM, with a multiplier of the type `M`.
-fn verify_gcm<M: Keyed128, I: Intake>(
-    cipher: &Gcm,
-    nonce: &Nonce,
-    aad: &[u8],
-    intake: &mut I,
-    measured: &Measured,
-) -> Result<Finding, Fault>
-    requires aad_fits { length aad.now ≤ aad_limit cipher.now.suite }
-    requires high { measured.now.length ≤ text_limit cipher.now.suite + 16 }
-    ensures passed { PassedWhole (setting cipher.now nonce.now aad.now)
-        measured.now.tag measured.now.length (I.left intake.old) (I.left intake.new) None None result }
-    ensures blame { BlamesReading (I.failures intake.old) (I.failures intake.new) result }
-{
-    let made = cipher.multiplier_of::<M>();
-    verify_over(&cipher.nonced(nonce, &made), aad, intake, measured)
-}
-
 // A whole reading by a cipher of any suite whose tag is over the ciphertext.
 pub(crate) fn verify_one_pass<I: Intake>(
     cipher: &AnyOnePass,
@@ -129,10 +111,12 @@ pub(crate) fn verify_one_pass<I: Intake>(
     match cipher {
         AnyOnePass::ChaCha(cipher) => verify_over(&cipher.nonced(nonce), aad, intake, measured),
         AnyOnePass::Gcm(cipher) => {
-            if measured.length >= LONG as u64 {
-                verify_gcm::<WideMul, I>(cipher, nonce, aad, intake, measured)
+            if matches!(worth(measured.length), Multiples::OfFourPowers) {
+                let made = cipher.multiplier_of::<WideMul>();
+                verify_over(&cipher.nonced(nonce, &made), aad, intake, measured)
             } else {
-                verify_gcm::<PlacedMul, I>(cipher, nonce, aad, intake, measured)
+                let made = cipher.multiplier_of::<PlacedMul>();
+                verify_over(&cipher.nonced(nonce, &made), aad, intake, measured)
             }
         }
     }

@@ -10,8 +10,8 @@ ghost use Rattle.aead.specs.Code.Steps.{MasksPiece};
 
 use super::stored::{StoredHash, StoredSealer};
 use crate::beside::Order;
-use crate::gcm::{LONG, SHORT};
 use crate::hashes::GhashTag;
+use crate::multiples::{Multiples, worth};
 use crate::suite::Suite;
 use gf128::{PlacedMul, TableMul, WideMul};
 use octets::{Nonce, Tag};
@@ -73,27 +73,6 @@ pub(super) fn is_chacha(suite: Suite) -> bool
     }
 }
 
-// ---- the multiples of GHASH's key
-
-// The multiples that the hash of a piece takes. Each piece makes them anew.
-#[derive(Clone, Copy)]
-enum Multiples {
-    Few,
-    AtEightPlaces,
-    OfFourPowers,
-}
-
-// Those that a piece of so many bytes is worth.
-fn worth(length: usize) -> Multiples {
-    if length < SHORT {
-        Multiples::Few
-    } else if length < LONG {
-        Multiples::AtEightPlaces
-    } else {
-        Multiples::OfFourPowers
-    }
-}
-
 // ---- masking a piece
 
 // Masks a piece and takes it in, by a hash, if it is within a limit. Returns whether it is.
@@ -139,7 +118,7 @@ fn mask_gcm<R: Order>(
     ensures past { result ≡ false → limit < state.old.length + length piece.old }
     ensures kept { result ≡ false → (state.new ≡ state.old) × (piece.new ≡ piece.old) }
 {
-    match worth(piece.len()) {
+    match worth(piece.len() as u64) {
         Multiples::Few => mask_by::<GhashTag<TableMul>, R>(state, suite, order, limit, piece),
         Multiples::AtEightPlaces => {
             mask_by::<GhashTag<PlacedMul>, R>(state, suite, order, limit, piece)
@@ -202,7 +181,7 @@ fn take_gcm(state: &mut StoredSealer, suite: Suite, piece: &[u8]) -> bool
     ensures past { result ≡ false → text_limit suite < state.old.length + length piece.now }
     ensures kept { result ≡ false → state.new ≡ state.old }
 {
-    match worth(piece.len()) {
+    match worth(piece.len() as u64) {
         Multiples::Few => take_by::<GhashTag<TableMul>>(state, suite, piece),
         Multiples::AtEightPlaces => take_by::<GhashTag<PlacedMul>>(state, suite, piece),
         Multiples::OfFourPowers => take_by::<GhashTag<WideMul>>(state, suite, piece),

@@ -1,8 +1,7 @@
-use Rattle.std.proofs.Common.{◌≡◌, ℕ, ◌+◌, ◌-◌, ◌≤◌, List, ◌++◌, length, take, drop, refl, sym, ap, ap₂, subst, ◌∙◌, arith}
+use Rattle.std.proofs.Common.{◌≡◌, ℕ, ◌+◌, ◌-◌, ◌≤◌, List, ◌++◌, length, take, drop, refl, sym, ap, ap₂, ◌∙◌, arith}
 use Rattle.std.proofs.Math.Seq.{take-add}
 use Rattle.std.proofs.lemmas.List.{length-append, length-drop, length-take-le, take-append-drop, take-append-le}
 use Rattle.std.proofs.lemmas.List.{take_all}
-use Rattle.aead.specs.Code.Masks.{Masks, Takes}
 use Rattle.aead.proofs.Parts.{no_masks, more_masks, no_takes, more_takes, part_left, part_front}
 use Rattle.aead.proofs.beside.mask_then_take_by_parts.Goals as goal
 
@@ -42,10 +41,8 @@ parts-preserved g c =
     ap (λ (x : List ℕ). take d was ++ take k x) ea ∙ sym (take-add d k was) in
     let output : take d p ++ new ≡ take (d + k) z =
     ap (λ (x : List ℕ). x ++ new) (sym halves.front) ∙ sym (part_front b a new d k eb en) in
-    let all = more_masks made _ _ c.update_beside.new.stream (take d was) (take d p) (take k a) new i.5 masks in
     let last : List ℕ = take (length b - t) (drop t b) in
     let tail : last ≡ drop t b = take_all (length b - t) (drop t b) (omega (arith, length-drop t b)) in
-    let takes = more_takes held _ _ c.update_beside.new.self (take t p) last i.6 c.update_beside.ensures.holds in
     let front : take t p ≡ take t b =
     ap (take t) halves.value ∙ take-append-le t b a (omega (arith, eb, i.0)) in
     let whole : take t p ++ last ≡ take d z =
@@ -57,8 +54,6 @@ parts-preserved g c =
           ∙ omega (arith, length-append new (drop k a), length-drop k a, en, ek, eb, halves.back_len, i.1, i.2),
       omega (arith, c.update_beside.ensures.length, i.3, i.0, eb, length-drop t b, ap length tail),
       part_left b a new was d k eb en ea,
-      subst (λ (x : List ℕ). Masks made c.args.mask.now c.update_beside.new.stream x (take (d + k) z)) input
-          (subst (λ (x : List ℕ).
-          Masks made c.args.mask.now c.update_beside.new.stream (take d was ++ take k a) x) output all),
-      subst (Takes held c.args.authenticator.now c.update_beside.new.self) whole takes,
+      more_masks made _ _ _ (take d was) (take d p) (take k a) new _ _ i.5 masks input output,
+      more_takes held _ _ _ (take t p) last _ i.6 c.update_beside.ensures.holds whole,
     )

@@ -1,9 +1,8 @@
-use Rattle.std.proofs.Common.{◌≡◌, ℕ, ◌+◌, ◌-◌, ◌≤◌, List, ◌++◌, length, take, drop, refl, sym, ap, subst, ◌∙◌, arith}
+use Rattle.std.proofs.Common.{◌≡◌, ℕ, ◌+◌, ◌-◌, ◌≤◌, List, ◌++◌, length, take, drop, refl, sym, ap, ◌∙◌, arith}
 use Rattle.std.proofs.Math.Seq.{take-add, drop-append_seam, take-append_seam, drop-drop}
 use Rattle.std.proofs.lemmas.List.{length-append, length-drop, length-take-le, take-append-drop, take-append-le}
 use Rattle.std.proofs.lemmas.List.{take_all}
 use borrow.Rule.Slice.PartMut.{put_mid}
-use Rattle.aead.specs.Code.Masks.{Masks, Takes}
 use Rattle.aead.proofs.Parts.{no_masks, more_masks, no_takes, more_takes, front_part, front_whole}
 use Rattle.aead.proofs.beside.take_then_mask_by_parts.Goals as goal
 
@@ -47,7 +46,6 @@ parts-preserved g c =
     let ea : a ≡ drop t was = halves.back ∙ left in
     let masks = g.met.S.MaskStream.masks c.parts.mask c.update_beside.new.stream last new
     c.update_beside.ensures.did in
-    let all = more_masks made _ _ c.update_beside.new.stream (take d was) (take d p) last new i.5 masks in
     let input : take d was ++ last ≡ take t was =
     ap (λ (x : List ℕ). take d was ++ x) (take_all (length b - d) (drop d b) (omega (arith, length-drop d b))
     ∙ front_part p was b d t halves.front i.0 (omega (arith, i.1, i.2)) i.4) ∙ sym (take-add d (t - d) was)
@@ -57,8 +55,6 @@ parts-preserved g c =
     let whole : take t (out ++ a) ≡ out = ap (λ (n : ℕ). take n (out ++ a)) (sym lo) ∙ take-append_seam out a in
     let output : take d p ++ new ≡ take t (out ++ a) =
     ap (λ (x : List ℕ). x ++ new) front ∙ sym (whole ∙ eo) in
-    let takes = more_takes held _ _ c.update_beside.new.self (take t was) (take k a) i.6
-    c.update_beside.ensures.holds in
     let taken : take t was ++ take k a ≡ take (t + k) was =
     ap (λ (x : List ℕ). take t was ++ take k x) ea ∙ sym (take-add t k was) in (
       omega arith,
@@ -66,10 +62,8 @@ parts-preserved g c =
       length-append out a ∙ omega (arith, lo, halves.back_len, i.1, i.2),
       omega (arith, c.update_beside.ensures.length, i.3, length-take-le k a ek),
       ap (λ (n : ℕ). drop n (out ++ a)) (sym lo) ∙ drop-append_seam out a ∙ ea,
-      subst (λ (x : List ℕ). Masks made c.args.mask.now c.update_beside.new.stream x (take t (out ++ a))) input
-          (subst (λ (x : List ℕ).
-          Masks made c.args.mask.now c.update_beside.new.stream (take d was ++ last) x) output all),
-      subst (Takes held c.args.authenticator.now c.update_beside.new.self) taken takes,
+      more_masks made _ _ _ (take d was) (take d p) last new _ _ i.5 masks input output,
+      more_takes held _ _ _ (take t was) (take k a) _ i.6 c.update_beside.ensures.holds taken,
     )
 
 pub returns-clause-masks : goal.returns-clause-masks
@@ -82,10 +76,8 @@ returns-clause-masks g c =
     let last : List ℕ = take (length p - d) (drop d p) in
     let rest : last ≡ drop d was = take_all (length p - d) (drop d p) (omega (arith, length-drop d p)) ∙ i.4 in
     let new : List ℕ = c.apply_to.new.piece in
-    let all = more_masks made _ _ c.apply_to.new.self (take d was) (take d p) last new i.5 c.apply_to.ensures in
     let input : take d was ++ last ≡ was =
     ap (λ (x : List ℕ). take d was ++ x) rest ∙ take-append-drop d was in
     let output : take d p ++ new ≡ put_mid d (length p - d) p new =
     sym (front_whole p new d (omega (arith, i.0, i.1, i.2))) in
-    subst (λ (x : List ℕ). Masks made c.args.mask.now c.apply_to.new.self x (put_mid d (length p - d) p new)) input
-    (subst (λ (x : List ℕ). Masks made c.args.mask.now c.apply_to.new.self (take d was ++ last) x) output all)
+    more_masks made _ _ _ (take d was) (take d p) last new _ _ i.5 c.apply_to.ensures input output

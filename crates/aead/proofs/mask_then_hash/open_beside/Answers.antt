@@ -2,7 +2,7 @@ use Rattle.std.proofs.Common.{◌∙◌, [], sym, true≢false}
 use Rattle.aead.specs.Sealing.{Setting, Fits}
 use Rattle.aead.specs.Ciphers.{setting}
 use Rattle.aead.specs.Code.Maskings.{message_task}
-use Rattle.aead.proofs.Opens.{fits_by, no_sealing, opened_as, body_tag}
+use Rattle.aead.proofs.Opens.{no_sealing, opened_as, body_tag}
 use Rattle.aead.proofs.mask_then_hash.open_beside.Goals as goal
 
 pub returns-then-same : goal.returns-then-same
@@ -10,8 +10,7 @@ returns-then-same g c =
     let s : Setting = setting (g.N.Nonced.keyed c.args.nonced.now) (g.N.Nonced.nonce c.args.nonced.now)
     c.args.aad.now in
     let fits : Fits s c.args.body.now =
-    fits_by s c.suite-suite.result c.args.body.now c.suite-suite.ensures c.in_ok-check_aad.ensures
-    c.in_ok-check_text.ensures.answer in
+    record { aad_fits = c.requires.aad_fits; text_fits = c.requires.text_fits } in
     let t = message_task s c.args.tag.now in
     let fed = c.update.ensures.masked t []
     (c.masking-opening.ensures.holds c.args.tag.now (c.mask.ensures c.args.aad.now c.args.tag.now)) in
@@ -25,8 +24,7 @@ returns-else-same g c =
     let s : Setting = setting (g.N.Nonced.keyed c.args.nonced.now) (g.N.Nonced.nonce c.args.nonced.now)
     c.args.aad.now in
     let fits : Fits s c.args.body.now =
-    fits_by s c.suite-suite.result c.args.body.now c.suite-suite.ensures c.in_ok-check_aad.ensures
-    c.in_ok-check_text.ensures.answer in
+    record { aad_fits = c.requires.aad_fits; text_fits = c.requires.text_fits } in
     let t = message_task s c.args.tag.now in
     let fed = c.update.ensures.masked t []
     (c.masking-opening.ensures.holds c.args.tag.now (c.mask.ensures c.args.aad.now c.args.tag.now)) in (

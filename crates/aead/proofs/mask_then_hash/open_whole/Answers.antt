@@ -1,11 +1,40 @@
+use Rattle.std.proofs.Common.{◌≡◌, ◌∙◌, [], arith, sym, refl, true≢false}
+use Rattle.aead.specs.Sealing.{Setting, Fits, tag_of}
 use Rattle.aead.specs.Ciphers.{setting}
-use Rattle.aead.proofs.Found.{found_in_place}
-use Rattle.aead.proofs.OneText.{one_text}
+use Rattle.aead.proofs.Opens.{unmasked, no_sealing, opened_as, body_tag}
 use Rattle.aead.proofs.mask_then_hash.open_whole.Goals as goal
 
-pub returns-clause-found : goal.returns-clause-found
-returns-clause-found g c =
-    found_in_place one_text (setting (g.N.Nonced.keyed c.args.nonced.now)
-    (g.N.Nonced.nonce c.args.nonced.now) c.args.aad.now) c.args.body.now c.args.tag.now
-    c.open_checked.new.body c.open_checked.result c.open_checked.ensures.tag_length
-    c.open_checked.ensures.answer
+pub returns-then-not-same : goal.returns-then-not-same
+returns-then-not-same g c =
+    let s : Setting = setting (g.N.Nonced.keyed c.args.nonced.now) (g.N.Nonced.nonce c.args.nonced.now)
+    c.args.aad.now in
+    let fits : Fits s c.args.body.now =
+    record { aad_fits = c.requires.aad_fits; text_fits = c.requires.text_fits } in
+    let taken = c.update.ensures.holds s [] c.authenticator-authenticator.ensures.holds
+    (omega (arith, fits.text_fits)) in
+    let tag_is : c.bytes.result.now ≡ tag_of s (unmasked s c.args.tag.now c.args.body.now) =
+    c.bytes.ensures.value ∙ c.finish.ensures s c.args.body.now taken
+    ∙ sym (body_tag s c.args.tag.now c.args.body.now (g.met.N.MaskThenHash.one_pass c.args.nonced.now)) in (
+      (
+        fits,
+        no_sealing s c.args.body.now c.args.tag.now c.bytes-given.ensures.is_block.length_is
+            (λ e. true≢false (sym (c.same.ensures.1 (tag_is ∙ e ∙ sym c.bytes-given.ensures.value))
+            ∙ c.if-not-same.true)),
+      ),
+      refl {a = c.args.body.now},
+    )
+
+pub returns : goal.returns
+returns g c =
+    let s : Setting = setting (g.N.Nonced.keyed c.args.nonced.now) (g.N.Nonced.nonce c.args.nonced.now)
+    c.args.aad.now in
+    let fits : Fits s c.args.body.now =
+    record { aad_fits = c.requires.aad_fits; text_fits = c.requires.text_fits } in
+    let taken = c.update.ensures.holds s [] c.authenticator-authenticator.ensures.holds
+    (omega (arith, fits.text_fits)) in
+    let made = c.mask.ensures c.args.aad.now c.args.tag.now in
+    opened_as s c.args.body.now c.args.tag.now c.apply_to.new.piece fits (λ i. (c.type_inv.body i).fits)
+    (c.apply_to.ensures s c.args.tag.now 0 made (omega (arith, fits.text_fits))).1
+    (body_tag s c.args.tag.now c.args.body.now (g.met.N.MaskThenHash.one_pass c.args.nonced.now)
+    ∙ sym (c.finish.ensures s c.args.body.now taken) ∙ sym c.bytes.ensures.value
+    ∙ c.same.ensures.0 c.if-not-same.false ∙ c.bytes-given.ensures.value)

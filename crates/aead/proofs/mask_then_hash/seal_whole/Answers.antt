@@ -2,7 +2,7 @@ use Rattle.std.proofs.Common.{[]}
 use Rattle.aead.specs.Sealing.{Setting, Fits}
 use Rattle.aead.specs.Ciphers.{setting}
 use Rattle.aead.specs.Code.Maskings.{message_task}
-use Rattle.aead.proofs.Opens.{fits_by, seals_one_pass}
+use Rattle.aead.proofs.Opens.{seals_one_pass}
 use Rattle.aead.proofs.mask_then_hash.seal_whole.Goals as goal
 
 pub returns : goal.returns
@@ -10,10 +10,9 @@ returns g c =
     let s : Setting = setting (g.N.Nonced.keyed c.args.nonced.now) (g.N.Nonced.nonce c.args.nonced.now)
     c.args.aad.now in
     let fits : Fits s c.args.text.now =
-    fits_by s c.suite-suite.result c.args.text.now c.suite-suite.ensures c.in_ok-check_aad.ensures
-    c.in_ok-check_text.ensures.answer in
+    record { aad_fits = c.requires.aad_fits; text_fits = c.requires.text_fits } in
     let t = message_task s [] in
     let fed = c.update.ensures.masked t [] (c.sealing-sealing.ensures.holds []) in
     seals_one_pass s [] c.args.text.now c.update.new.piece c.finish.result
-    (g.met.N.MaskThenHash.one_pass c.args.nonced.now) fits c.check_text.ensures.bytes fed.1
+    (g.met.N.MaskThenHash.one_pass c.args.nonced.now) fits c.tells_bytes.ensures fed.1
     (c.finish.ensures t c.args.text.now fed.0)
