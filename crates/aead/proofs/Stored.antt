@@ -1,6 +1,7 @@
 -- What is known of sealings that are stored as numbers.
 use Rattle.std.proofs.Common.{◌≡◌, ℕ, ◌-◌, ◌*◌, ◌/◌, ◌^◌, true, List, [], ◌++◌, length, refl, sym, ap, subst}
-use Rattle.std.proofs.Common.{◌<◌, get_or, arith, inl, inr}
+use Rattle.std.proofs.Common.{◌∙◌}
+use Rattle.std.proofs.Common.{◌<◌, get_or, arith, inl, inr, take}
 use Rattle.std.proofs.lemmas.List.{append-nil, drop_all}
 use Rattle.octets.specs.Bytes.{pad16}
 use Rattle.aes.specs.Cipher.{IsKey, IsKeyLength}
@@ -15,7 +16,7 @@ use Rattle.aead.specs.Sealing.{Setting, Fits, mask_of}
 use Rattle.aead.specs.Exports.{HasLengths}
 use Rattle.aead.specs.Code.Masks.{none_leaves}
 use Rattle.aead.specs.Stored.{sealer_mark, IsPolySum, IsGhashSum, HoldsBy, HoldsOf, HoldsBytes, HoldsText}
-use Rattle.aead.specs.Stored.{IsSumOf}
+use Rattle.aead.specs.Stored.{IsSumOf, HasKeys, cipher_key}
 use Rattle.aead.proofs.Fed.{whole_padded}
 
 -- a struct before any piece, with this sum
@@ -65,6 +66,20 @@ aes_key suite key long bytes = record {
   bytes = bytes;
 }
 
+-- the keys of a message in a struct
+pub has_keys : {p : StoredSealer} (by : Construction) (keyed : List ℕ → Setting → Type 0) (s : Setting)
+    → construction_of s.suite ≡ by → p.mark ≡ sealer_mark s.suite → HasLengths s
+    → take (key_length s.suite) p.key ≡ cipher_key by s → p.nonce ≡ s.nonce → keyed p.hash_key s
+    → HasKeys by keyed p s
+has_keys by keyed s a b c d e f = record {
+  by_is = a;
+  mark_is = b;
+  lengths = c;
+  key_is = d;
+  nonce_is = e;
+  hash_key_is = f;
+}
+
 -- what a struct that holds a ciphertext is known by, whatever its hash
 pub record Held (p : StoredSealer) (s : Setting) (bytes : List ℕ) : Type 0 where
   pub one_pass : is_one_pass (construction_of s.suite) ≡ true
@@ -74,9 +89,10 @@ pub record Held (p : StoredSealer) (s : Setting) (bytes : List ℕ) : Type 0 whe
   pub fits : Fits s bytes
 
 held_by : (by : Construction) (keyed : List ℕ → Setting → Type 0) (summed : StoredSum → Setting → List ℕ → Type 0)
-    (p : StoredSealer) (s : Setting) (bytes : List ℕ) → HoldsBy by keyed summed p s bytes → Held p s bytes
-held_by by keyed summed p s bytes h = record {
-  one_pass = h.keys.one_pass;
+    (p : StoredSealer) (s : Setting) (bytes : List ℕ) → is_one_pass by ≡ true → HoldsBy by keyed summed p s bytes
+    → Held p s bytes
+held_by by keyed summed p s bytes one h = record {
+  one_pass = ap is_one_pass h.keys.by_is ∙ one;
   mark_is = h.keys.mark_is;
   lengths = h.keys.lengths;
   length_is = h.length_is;
@@ -85,8 +101,8 @@ held_by by keyed summed p s bytes h = record {
 
 pub held : (by : Construction) (p : StoredSealer) (s : Setting) (bytes : List ℕ) → HoldsOf by p s bytes
     → Held p s bytes
-held ByChaCha p s bytes h = held_by _ _ _ p s bytes h
-held ByGcm p s bytes h = held_by _ _ _ p s bytes h
+held ByChaCha p s bytes h = held_by _ _ _ p s bytes refl h
+held ByGcm p s bytes h = held_by _ _ _ p s bytes refl h
 held ByGcmSiv p s bytes h = absurd h
 
 -- the empty ciphertext is that of the empty text
@@ -101,7 +117,7 @@ start_of ByGcm p s h = subst (IsGhashSum p.sum s) (append-nil (pad16 s.aad)) h.s
 start_of ByGcmSiv p s h = absurd h
 
 -- with that sum, a struct holds no bytes again
-restarted_by : (by : Construction) (keyed : List ℕ → Setting → Type 0)
+pub restarted_by : (by : Construction) (keyed : List ℕ → Setting → Type 0)
     (summed : StoredSum → Setting → List ℕ → Type 0) (p : StoredSealer) (n : StoredSum) (s : Setting)
     (bytes : List ℕ) → HoldsBy by keyed summed p s bytes → summed n s (pad16 s.aad)
     → HoldsBy by keyed summed (restart p n) s []
@@ -112,7 +128,6 @@ restarted_by by keyed summed p n s bytes h start =
     record {
       keys = record {
         by_is = h.keys.by_is;
-        one_pass = h.keys.one_pass;
         mark_is = h.keys.mark_is;
         lengths = h.keys.lengths;
         key_is = h.keys.key_is;

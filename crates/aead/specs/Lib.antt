@@ -13,4 +13,5 @@ pub mod SealSivStream
 pub mod Exports
 pub mod Stored
 pub mod StoredOpener
+pub mod StoredSiv
 pub mod Code

@@ -1,4 +1,4 @@
--- What a sealing in pieces holds that is stored as numbers in C's memory.
+-- What sealings and openings in pieces hold that are stored as numbers in C's memory.
 use Rattle.std.specs.Prelude.{◌≡◌, ◌≢◌, ℕ, ◌+◌, ◌*◌, ◌/◌, ◌^◌, ◌<◌, true, List, ◌++◌, length, take, drop}
 use Rattle.std.specs.Prelude.{replicate}
 use Rattle.octets.specs.Bytes.{pad16}
@@ -8,13 +8,16 @@ use Rattle.octets.specs.declared.fault.Fault.{Fault}
 use Rattle.octets.specs.declared.fault.Fault.TheVariants.{KeyLength, NonceLength, AadTooLong}
 use Rattle.poly1305.specs.States as poly1305
 use Rattle.aes.specs.Cipher.{cipher}
+use Rattle.gf128.specs.Orders.{Straight, Reversed, Serves}
 use Rattle.gf128.specs.States as gf128
 use Rattle.aead.specs.declared.suite.Suite.{Suite}
 use Rattle.aead.specs.declared.exports.stored.StoredSum.{StoredSum}
 use Rattle.aead.specs.declared.exports.stored.StoredSealer.{StoredSealer}
+use Rattle.aead.specs.declared.exports.stored.StoredPasses.{StoredPasses}
 use Rattle.aead.specs.Suites.{Construction, ByChaCha, ByGcm, ByGcmSiv, construction_of, is_one_pass}
 use Rattle.aead.specs.Suites.{key_length, aad_limit}
-use Rattle.aead.specs.Sealing.{Setting, Fits, mask_of, poly_key, hash_key, j0}
+use Rattle.aead.specs.Sealing.{Setting, Fits, mask_of, poly_key, hash_key, j0, authentication_key}
+use Rattle.aead.specs.Sealing.{encryption_key}
 use Rattle.aead.specs.Refusals.{SealRefused}
 use Rattle.aead.specs.Exports.{suite_number, HasLengths}
 
@@ -48,7 +51,17 @@ zeros = record {
   length = 0;
 }
 
--- ---- the hash's key and sum
+-- the struct of zeros of what takes two passes
+abbrev pub zero_passes : StoredPasses
+zero_passes = record { mark = 0; state = zeros; start = zero_sum; tag = replicate 16 0; first = 0 }
+
+-- ---- the keys and the hash's sum
+
+-- the key of the cipher of a message
+abbrev pub cipher_key : Construction → Setting → List ℕ
+cipher_key ByChaCha s = s.key
+cipher_key ByGcm s = s.key
+cipher_key ByGcmSiv s = encryption_key s.key s.nonce
 
 -- the one-time key of Poly1305
 abbrev pub IsPolyKey : List ℕ → Setting → Type 0
@@ -64,7 +77,15 @@ IsGhashKey k s = (take 16 k ≡ hash_key s.key) × (drop 16 k ≡ cipher s.key (
 
 -- its sum over the whole blocks of m
 abbrev pub IsGhashSum : StoredSum → Setting → List ℕ → Type 0
-IsGhashSum n s m = gf128.IsSum (hash_key s.key) m (n.low + n.middle * 2 ^ 64)
+IsGhashSum n s m = gf128.IsSum Straight (hash_key s.key) m (n.low + n.middle * 2 ^ 64)
+
+-- first the key of a multiplier that serves POLYVAL
+abbrev pub IsPolyvalKey : List ℕ → Setting → Type 0
+IsPolyvalKey k s = Serves Reversed (authentication_key s.key s.nonce) (take 16 k)
+
+-- POLYVAL's sum over the whole blocks of m, told as a fact alone
+abbrev pub IsPolyvalSum : StoredSum → Setting → List ℕ → Type 0
+IsPolyvalSum n s m = ∥ gf128.IsSum Reversed (authentication_key s.key s.nonce) m (n.low + n.middle * 2 ^ 64) ∥₁
 
 -- ---- the whole struct
 
@@ -72,14 +93,13 @@ IsGhashSum n s m = gf128.IsSum (hash_key s.key) m (n.low + n.middle * 2 ^ 64)
 pub record HasKeys (by : Construction) (keyed : List ℕ → Setting → Type 0) (p : StoredSealer) (s : Setting) :
     Type 0 where
   pub by_is : construction_of s.suite ≡ by
-  pub one_pass : is_one_pass (construction_of s.suite) ≡ true
   pub mark_is : p.mark ≡ sealer_mark s.suite
   pub lengths : HasLengths s
-  pub key_is : take (key_length s.suite) p.key ≡ s.key
+  pub key_is : take (key_length s.suite) p.key ≡ cipher_key by s
   pub nonce_is : p.nonce ≡ s.nonce
   pub hash_key_is : keyed p.hash_key s
 
--- p holds this ciphertext, by a hash of which `keyed` and `summed` speak
+-- p holds these bytes, by a hash of which `keyed` and `summed` speak
 pub record HoldsBy (by : Construction) (keyed : List ℕ → Setting → Type 0)
     (summed : StoredSum → Setting → List ℕ → Type 0)
     (p : StoredSealer) (s : Setting) (bytes : List ℕ) : Type 0 where
@@ -92,7 +112,7 @@ pub record HoldsBy (by : Construction) (keyed : List ℕ → Setting → Type 0)
   pub length_is : p.length ≡ length bytes
   pub fits : Fits s bytes
 
--- p holds this ciphertext, by the hash of a construction
+-- p holds this ciphertext, by the hash of a construction whose tag is over it
 abbrev pub HoldsOf : Construction → StoredSealer → Setting → List ℕ → Type 0
 HoldsOf ByChaCha p s bytes = HoldsBy ByChaCha IsPolyKey IsPolySum p s bytes
 HoldsOf ByGcm p s bytes = HoldsBy ByGcm IsGhashKey IsGhashSum p s bytes
@@ -105,6 +125,10 @@ HoldsBytes p s bytes = HoldsOf (construction_of s.suite) p s bytes
 -- p holds this text
 abbrev pub HoldsText : StoredSealer → Setting → List ℕ → Type 0
 HoldsText p s text = (tag : List ℕ) → HoldsBytes p s (masked (mask_of s tag) 0 text)
+
+-- p has taken in this text under AES-GCM-SIV
+abbrev pub HoldsTaken : StoredSealer → Setting → List ℕ → Type 0
+HoldsTaken p s text = HoldsBy ByGcmSiv IsPolyvalKey IsPolyvalSum p s text
 
 -- n is the sum over the whole blocks of m, by the hash of a construction
 abbrev pub IsSumOf : Construction → StoredSum → Setting → List ℕ → Type 0

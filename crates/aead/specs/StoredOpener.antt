@@ -1,16 +1,15 @@
 -- What an opening in pieces holds that is stored as numbers in C's memory.
-use Rattle.std.specs.Prelude.{◌≡◌, ◌≢◌, ℕ, ◌+◌, ◌<◌, ◌≤◌, true, List, [], ◌++◌, length, get_or, replicate}
+use Rattle.std.specs.Prelude.{◌≡◌, ◌≢◌, ℕ, ◌+◌, ◌<◌, ◌≤◌, true, List, [], ◌++◌, length, get_or}
 use Rattle.octets.specs.Masked.{masked}
 use Rattle.octets.specs.Numbers.{HasOutcome}
 use Rattle.octets.specs.declared.fault.Fault.TheVariants.{TagMismatch, SourceChanged}
 use Rattle.aead.specs.declared.suite.Suite.{Suite}
-use Rattle.aead.specs.declared.exports.opener.StoredOpener.{StoredOpener}
+use Rattle.aead.specs.declared.exports.stored.StoredPasses.{StoredPasses}
 use Rattle.aead.specs.Suites.{construction_of, is_one_pass, text_limit}
 use Rattle.aead.specs.Sealing.{Setting, Opened, IsNoSealing, mask_of}
 use Rattle.aead.specs.Refusals.{SealRefused}
 use Rattle.aead.specs.Exports.{suite_number}
-use Rattle.aead.specs.Stored.{HoldsBytes, HasStart, zero_sum}
-use Rattle.aead.specs.Stored as stored
+use Rattle.aead.specs.Stored.{HoldsBytes, HasStart}
 
 -- the kind of struct in the first pass, to which its mark adds the suite's number: `opener` in ASCII, and the
 -- version of the layout
@@ -22,15 +21,11 @@ abbrev pub opening : ℕ
 opening = 0x6f70656e65640100
 
 -- the mark is that of no suite whose tag is over the ciphertext, in this pass
-abbrev pub NotIn : ℕ → StoredOpener → Type 0
+abbrev pub NotIn : ℕ → StoredPasses → Type 0
 NotIn kind p = (suite : Suite) → is_one_pass (construction_of suite) ≡ true → p.mark ≢ kind + suite_number suite
 
--- the struct of zeros
-abbrev pub zeros : StoredOpener
-zeros = record { mark = 0; state = stored.zeros; start = zero_sum; tag = replicate 16 0; checked = 0 }
-
 -- p is in a pass of opening a ciphertext under this tag, and has taken in these bytes of it
-pub record HoldsPass (kind : ℕ) (p : StoredOpener) (s : Setting) (tag bytes : List ℕ) : Type 0 where
+pub record HoldsPass (kind : ℕ) (p : StoredPasses) (s : Setting) (tag bytes : List ℕ) : Type 0 where
   pub mark_is : p.mark ≡ kind + suite_number s.suite
   pub state : HoldsBytes p.state s bytes
   pub start : HasStart p.start s
@@ -40,21 +35,21 @@ pub record HoldsPass (kind : ℕ) (p : StoredOpener) (s : Setting) (tag bytes : 
   pub mask_small : (i : ℕ) → mask_of s tag i < 256
 
 -- p is in the first pass, and has taken in these bytes
-abbrev pub HoldsChecking : StoredOpener → Setting → (tag bytes : List ℕ) → Type 0
+abbrev pub HoldsChecking : StoredPasses → Setting → (tag bytes : List ℕ) → Type 0
 HoldsChecking p s tag bytes = HoldsPass checking p s tag bytes
 
 -- p is in the second pass, after a first one of so many bytes, and has taken in these
-pub record HoldsOpening (p : StoredOpener) (s : Setting) (tag : List ℕ) (first : ℕ) (bytes : List ℕ) : Type 0
+pub record HoldsOpening (p : StoredPasses) (s : Setting) (tag : List ℕ) (first : ℕ) (bytes : List ℕ) : Type 0
   where
     pub pass : HoldsPass opening p s tag bytes
-    pub first_is : p.checked ≡ first
+    pub first_is : p.first ≡ first
     pub first_fits : first ≤ text_limit s.suite
     pub within : length bytes ≤ first
 
 -- ---- what the calls come to
 
 -- p becomes q: a piece is taken in, or the ciphertext would be too long
-abbrev pub Checks : (p q : StoredOpener) (piece : List ℕ) (status : ℕ) → Setting → (tag bytes : List ℕ) → Type 0
+abbrev pub Checks : (p q : StoredPasses) (piece : List ℕ) (status : ℕ) → Setting → (tag bytes : List ℕ) → Type 0
 Checks p q piece status s tag bytes =
     HoldsChecking p s tag bytes → HasOutcome status (HoldsChecking q s tag (bytes ++ piece))
     (λ e. SealRefused s (bytes ++ piece) e)
@@ -64,7 +59,7 @@ abbrev pub Opens : Setting → (tag bytes : List ℕ) → Type 0
 Opens s tag bytes = Opened s (bytes ++ tag) (masked (mask_of s tag) 0 bytes)
 
 -- p becomes q: the first pass was over a sealing, and the second begins; or what it took in is none
-abbrev pub Checked : (p q : StoredOpener) (status : ℕ) → Setting → (tag bytes : List ℕ) → Type 0
+abbrev pub Checked : (p q : StoredPasses) (status : ℕ) → Setting → (tag bytes : List ℕ) → Type 0
 Checked p q status s tag bytes =
     HoldsChecking p s tag bytes
     → HasOutcome status (HoldsOpening q s tag (length bytes) [] × Opens s tag bytes)
@@ -72,7 +67,7 @@ Checked p q status s tag bytes =
 
 -- p becomes q, and was becomes now: a piece is taken in and decrypted, or the second pass would be longer than
 -- the first
-abbrev pub Decrypts : (p q : StoredOpener) (was now : List ℕ) (status : ℕ) → Setting → (tag : List ℕ)
+abbrev pub Decrypts : (p q : StoredPasses) (was now : List ℕ) (status : ℕ) → Setting → (tag : List ℕ)
     (first : ℕ) (bytes : List ℕ) → Type 0
 Decrypts p q was now status s tag first bytes =
     HoldsOpening p s tag first bytes → HasOutcome status
@@ -80,7 +75,7 @@ Decrypts p q was now status s tag first bytes =
     (λ e. (e ≡ SourceChanged) × (first < length (bytes ++ was)))
 
 -- the second pass was over a sealing, whose text it gave; or what it took in is none
-abbrev pub Ends : (p : StoredOpener) (status : ℕ) → Setting → (tag : List ℕ) (first : ℕ) (bytes : List ℕ)
+abbrev pub Ends : (p : StoredPasses) (status : ℕ) → Setting → (tag : List ℕ) (first : ℕ) (bytes : List ℕ)
     → Type 0
 Ends p status s tag first bytes =
     HoldsOpening p s tag first bytes → HasOutcome status (Opens s tag bytes)

@@ -84,7 +84,7 @@ fn half_of(blocks: &[u8; 64], q: usize) -> [u8; 8]
 // Parts 0 to 3 of the derived keys, each the first half of a block (RFC 8452, 4): four blocks are
 // encrypted at once.
 #[derive(Drop)]
-struct KeyParts<'a> {
+pub(crate) struct KeyParts<'a> {
     key: &'a AesKey,
     nonce: &'a Nonce,
     blocks: [u8; 64],
@@ -93,7 +93,7 @@ struct KeyParts<'a> {
 
 impl<'a> KeyParts<'a> {
     // The parts under a key with a nonce.
-    fn new(key: &'a AesKey, nonce: &'a Nonce) -> KeyParts<'a>
+    pub(crate) fn new(key: &'a AesKey, nonce: &'a Nonce) -> KeyParts<'a>
         ensures key { result.key.now ≡ key.now }
         ensures nonce { result.nonce.now ≡ nonce.now }
     {
@@ -129,7 +129,7 @@ fn authentication_key(parts: &KeyParts) -> Block
 }
 
 // The encryption key of 16 bytes: parts 2 and 3 (RFC 8452, 4).
-fn short_encryption_key(parts: &KeyParts) -> [u8; 16]
+pub(crate) fn short_encryption_key(parts: &KeyParts) -> [u8; 16]
     requires { length parts.now.key.now ≡ 16 }
     ensures { result ≡ encryption_key parts.now.key.now parts.now.nonce.now }
 {
@@ -137,7 +137,7 @@ fn short_encryption_key(parts: &KeyParts) -> [u8; 16]
 }
 
 // The encryption key of 32 bytes: parts 2 to 5.
-fn long_encryption_key(parts: &KeyParts) -> [u8; 32]
+pub(crate) fn long_encryption_key(parts: &KeyParts) -> [u8; 32]
     requires { length parts.now.key.now ≡ 32 }
     ensures { result ≡ encryption_key parts.now.key.now parts.now.nonce.now }
 {
@@ -158,7 +158,7 @@ pub(crate) fn expanded(bytes: &[u8]) -> AesKey
 }
 
 // The key of POLYVAL's multiplier in GHASH's field (RFC 8452, appendix A).
-fn hash_key(parts: &KeyParts) -> Block
+pub(crate) fn hash_key(parts: &KeyParts) -> Block
     ensures value { IsReversedMulX (authentication_key parts.now.key.now parts.now.nonce.now) result }
     ensures of_block { IsBlock (authentication_key parts.now.key.now parts.now.nonce.now) }
 {

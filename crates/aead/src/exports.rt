@@ -19,6 +19,7 @@ use octets::{Fault, Key32, Nonce, Tag, outcome_number};
 mod opener;
 mod pass;
 mod sealer;
+mod siv;
 mod stored;
 
 // The status of a call at C whose suite number is unknown.

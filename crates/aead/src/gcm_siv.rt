@@ -144,7 +144,7 @@ impl GcmSiv {
 }
 
 // The first counter block of a tag (RFC 8452, 4).
-fn counter_block(tag: &[u8; 16]) -> [u8; 16]
+pub(crate) fn counter_block(tag: &[u8; 16]) -> [u8; 16]
     ensures { result ≡ counter_block tag.now }
 {
     let mut block = *tag;

@@ -423,6 +423,16 @@ impl CtrLe {
         }
     }
 
+    /// The stream whose first block is the cipher of `first`, and that has made its first `made` bytes.
+    pub fn at(key: &AesKey, first: &Block, made: u64) -> CtrLe
+        requires { made < 2 ^ 63 }
+        ensures { HoldsLe result key.now first.now made }
+    {
+        CtrLe {
+            counter: Counter::at(key, first, made),
+        }
+    }
+
     /// XORs the next bytes of the stream into `bytes`, of any length: two calls do what one call does for
     /// both pieces in turn. It has no fault: after 2^32 blocks the stream begins again (RFC 8452, 4).
     pub fn apply(&mut self, bytes: &mut [u8])

@@ -8,11 +8,14 @@ use Rattle.octets.specs.Polynomial.{coefficient, plus, sum, product, power, sum_
 use Rattle.octets.proofs.Residue.{residue_lower}
 use Rattle.octets.proofs.Ring.{coefficient_sum}
 use Rattle.octets.proofs.Spelled.{bytes_of_g_bytes, g_bytes_of}
-use Rattle.octets.proofs.Horner.{horner}
+use mathlib.Core.Path.{fun_ext}
+use Rattle.octets.proofs.Sequence.{sum_of}
+use Rattle.octets.proofs.Horner.{horner, sum_is, residue_same, product_first, product_second}
 use Rattle.octets.proofs.Readings.{g_injective}
 use Rattle.octets.proofs.Blocks.{block_at-append}
 use Rattle.gf128.specs.Ghash.{ghash_modulus, ghash_sum, ghash, GhashIsTheOnly}
-use Rattle.gf128.specs.Orders.{Order, Straight, reading, block_sum}
+use Rattle.gf128.specs.Orders.{Order, Straight, Reversed, Serves, reading, block_sum}
+use Rattle.gf128.specs.Polyval.{IsMulX}
 use Rattle.gf128.specs.Code.Words.{of_word, IsWordProduct, IsFourProducts}
 use Rattle.gf128.proofs.FourProducts.{product_of, product_of_is, four_steps, horner_more}
 use Rattle.gf128.proofs.WordLemmas.{of_word_zero}
@@ -44,6 +47,29 @@ pub block_sum_step : (o : Order) (k m : List ℕ) (n : ℕ)
     ≡ coefficient (residue ghash_modulus (product (sum (block_sum o k m n) (reading o (block_at m n))) (g k)))
 unfolding block_sum
 block_sum_step o k m n = horner ghash_modulus (λ i. reading o (block_at m i)) (g k) n refl
+
+-- keys that serve one hash are the same polynomial
+serving_key : (o : Order) (h k l : List ℕ) → Serves o h k → Serves o h l → coefficient (g k) ≡ coefficient (g l)
+unfolding IsMulX
+serving_key Straight h k l a b = ap (λ x. coefficient (g x)) (a ∙ sym b)
+serving_key Reversed h k l a b = fun_ext (b.1.1 (g k) a.1.0)
+
+-- so they have one sum
+pub block_sum_serves : (o : Order) (h k l m : List ℕ) (n : ℕ) → Serves o h k → Serves o h l
+    → coefficient (block_sum o k m n) ≡ coefficient (block_sum o l m n)
+unfolding block_sum sum_of_first
+block_sum_serves o h k l m zero a b = refl
+block_sum_serves o h k l m (suc n) a b =
+    let x : List Bool = reading o (block_at m n) in
+    let p : List Bool = sum (block_sum o k m n) x in
+    let q : List Bool = sum (block_sum o l m n) x in
+    let same : coefficient p ≡ coefficient q =
+    sum_is (block_sum o k m n) x ∙ ap (λ f. sum_of f (coefficient x)) (block_sum_serves o h k l m n a b)
+    ∙ sym (sum_is (block_sum o l m n) x) in
+    block_sum_step o k m n
+    ∙ residue_same ghash_modulus (product p (g k)) (product q (g l)) refl
+    (product_first p q (g k) same ∙ product_second q (g k) (g l) (serving_key o h k l a b))
+    ∙ sym (block_sum_step o l m n)
 
 -- GHASH's sum so far and the next block, times the key
 pub ghash_step : (h m : List ℕ) (n : ℕ)

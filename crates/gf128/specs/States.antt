@@ -33,8 +33,8 @@ Holds key s h m = HashHolds Straight key s h m
 abbrev pub PolyvalHolds : {M : Type 0} → (M → List ℕ) → BlockHash M LittleEndian → List ℕ → List ℕ → Type 0
 PolyvalHolds key s h m = HashHolds Reversed key s h m
 
--- the word is GHASH's sum over the whole blocks of m under the key h
-abbrev pub IsSum : List ℕ → List ℕ → ℕ → Type 0
-IsSum h m sum =
-    Agree (of_word sum)
-    (block_sum Straight h (take (length m / 16 * 16) m) (length (take (length m / 16 * 16) m) / 16))
+-- the word is the sum over the whole blocks of m under the key h, by the key of any multiplier that serves it
+abbrev pub IsSum : Order → List ℕ → List ℕ → ℕ → Type 0
+IsSum order h m sum =
+    (k : List ℕ) → Serves order h k → Agree (of_word sum)
+    (block_sum order k (take (length m / 16 * 16) m) (length (take (length m / 16 * 16) m) / 16))

@@ -1,6 +1,6 @@
 // GHASH and POLYVAL over a text fed piece by piece: one state, over the order of a block's bytes.
 
-ghost use Rattle.std.specs.Prelude.{◌≡◌, ℕ, ◌/◌, ◌++◌, List, [], length};
+ghost use Rattle.std.specs.Prelude.{◌≡◌, ℕ, ◌*◌, ◌/◌, ◌<◌, ◌++◌, List, [], length, drop};
 ghost use Rattle.octets.specs.Bytes.{IsBlock};
 ghost use Rattle.octets.specs.Polynomial.{Agree};
 ghost use Rattle.gf128.specs.Code.Words.{of_word};
@@ -80,7 +80,7 @@ impl<M: Keyed128, O: ByteOrder> BlockHash<M, O> {
 
 impl<M: Multiply, O: ByteOrder> BlockHash<M, O> {
     ghost use Rattle.octets.specs.Bytes.{pad16};
-    ghost use Rattle.gf128.specs.States.{HashHolds};
+    ghost use Rattle.gf128.specs.States.{HashHolds, IsSum};
 
     /// A state that holds the empty text, under each key that the multiplier serves: for GHASH its own key,
     /// for POLYVAL the one of which its key is [`crate::reversed_mul_x`]. The multiplier may be a reference
@@ -96,6 +96,42 @@ impl<M: Multiply, O: ByteOrder> BlockHash<M, O> {
                 byte_order: PhantomData,
             }),
         }
+    }
+
+    /// The state that holds a text again: `sum` is its sum over the whole blocks of the text, and `rest` the
+    /// bytes after them, fewer than 16. The multiplier is as for [`BlockHash::with`].
+    pub fn resumed(multiplier: M, sum: u128, rest: &[u8]) -> BlockHash<M, O>
+        requires { length rest.now < 16 }
+        ensures { (h m : List ℕ) → Serves O.order h (M.key_bytes multiplier) → IsSum O.order h m sum
+            → rest.now ≡ drop (length m / 16 * 16) m → HashHolds O.order M.key_bytes result h m }
+    {
+        let byte_order = PhantomData;
+        BlockHash {
+            pieces: Pieces::resumed(
+                BlockSum {
+                    multiplier,
+                    sum,
+                    byte_order,
+                },
+                rest,
+            ),
+        }
+    }
+
+    /// Returns the sum over the whole blocks of the text.
+    pub fn sum(&self) -> u128
+        ensures { (h m : List ℕ) → HashHolds O.order M.key_bytes self.now h m → IsSum O.order h m result }
+    {
+        self.pieces.core().sum
+    }
+
+    /// Returns the bytes of the text after its last whole block: fewer than 16.
+    pub fn rest(&self) -> &[u8]
+        ensures value { (h m : List ℕ) → HashHolds O.order M.key_bytes self.now h m
+            → result.now ≡ drop (length m / 16 * 16) m }
+        ensures short { length result.now < 16 }
+    {
+        self.pieces.rest()
     }
 
     /// Adds `piece`, of any length, to the text.

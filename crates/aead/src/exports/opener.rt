@@ -7,14 +7,14 @@ ghost use Rattle.aead.specs.declared.suite.Suite.{Suite};
 ghost use Rattle.aead.specs.Suites.{construction_of, is_one_pass};
 ghost use Rattle.aead.specs.Sealing.{Setting, Opened, IsNoSealing};
 ghost use Rattle.aead.specs.Exports.{suite_number, unknown_suite, setting_of};
-ghost use Rattle.aead.specs.Stored.{not_begun, BeginRefused};
-ghost use Rattle.aead.specs.StoredOpener.{checking, opening, zeros, NotIn, HoldsPass, HoldsChecking};
+ghost use Rattle.aead.specs.Stored.{zero_passes, not_begun, BeginRefused};
+ghost use Rattle.aead.specs.StoredOpener.{checking, opening, NotIn, HoldsPass, HoldsChecking};
 ghost use Rattle.aead.specs.StoredOpener.{Checks, Opens, Checked, Decrypts, Ends};
 
 use super::UNKNOWN_SUITE;
 use super::pass::{mark_of, mask_piece, one_pass_marked, one_pass_numbered, pass_tag, take_piece};
 use super::sealer::{NOT_BEGUN, begun};
-use super::stored::{StoredSealer, StoredSum};
+use super::stored::StoredPasses;
 use crate::beside::HashFirst;
 use crate::suite::Suite;
 use octets::{Fault, outcome_number, same};
@@ -26,44 +26,7 @@ const CHECKING: u64 = 0x6f70_656e_6572_0100;
 // The kind of struct in the second pass: `opened`.
 const OPENING: u64 = 0x6f70_656e_6564_0100;
 
-/// An opening in pieces. Each number may have any value: a call reads them with checks, and makes again what
-/// carries a fact.
-#[repr(C)]
-#[derive(Clone, Copy)]
-pub struct StoredOpener {
-    // The kind of struct, its pass, the version of its layout and the suite; anything else if no opening is
-    // begun.
-    mark: u64,
-    // The state of the pass: the ciphertext so far.
-    state: StoredSealer,
-    // The hash's sum over the padded associated data, with which each pass begins.
-    start: StoredSum,
-    tag: [u8; 16],
-    // In the second pass, the bytes that the first one took in.
-    checked: u64,
-}
-
-impl StoredOpener {
-    // All zeros: it holds no opening.
-    fn zeros() -> StoredOpener
-        ensures { result ≡ zeros }
-    {
-        StoredOpener {
-            mark: 0,
-            state: StoredSealer::zeros(),
-            start: StoredSum::zeros(),
-            tag: [0; 16],
-            checked: 0,
-        }
-    }
-
-    // Writes zeros over every number.
-    fn erase(&mut self)
-        ensures { self.new ≡ zeros }
-    {
-        *self = StoredOpener::zeros();
-    }
-
+impl StoredPasses {
     // Whether what the pass has taken in is the ciphertext of a sealing with this tag.
     fn is_sealing(&self, suite: Suite) -> bool
         requires { is_one_pass (construction_of suite) ≡ true }
@@ -80,7 +43,7 @@ impl StoredOpener {
 /// struct was before makes no difference. A refusal leaves zeros in it.
 #[unsafe(no_mangle)]
 pub extern "C" fn aeadkit_opener_init(
-    opener: &mut StoredOpener,
+    opener: &mut StoredPasses,
     suite: u32,
     key: &[u8],
     nonce: &[u8],
@@ -92,7 +55,7 @@ pub extern "C" fn aeadkit_opener_init(
         HasOutcome result (HoldsChecking opener.new s tag.now []) (BeginRefused s) }
     ensures unknown { ((named : Suite) → is_one_pass (construction_of named) ≡ true
         → suite ≢ suite_number named) → result ≡ unknown_suite }
-    ensures refused { result ≢ 0 → opener.new ≡ zeros }
+    ensures refused { result ≢ 0 → opener.new ≡ zero_passes }
 {
     opener.erase();
     let Some(suite) = one_pass_numbered(u64::from(suite)) else {
@@ -100,12 +63,12 @@ pub extern "C" fn aeadkit_opener_init(
     };
     match begun(suite, key, nonce, aad) {
         Ok(state) => {
-            *opener = StoredOpener {
+            *opener = StoredPasses {
                 mark: mark_of(CHECKING, suite),
                 state,
                 start: state.sum,
                 tag: *tag,
-                checked: 0,
+                first: 0,
             };
             outcome_number(Ok(()))
         }
@@ -116,7 +79,7 @@ pub extern "C" fn aeadkit_opener_init(
 /// Takes in a piece of the ciphertext in the first pass. `TextTooLong` if the ciphertext would be past the
 /// suite's limit: the struct is then as before.
 #[unsafe(no_mangle)]
-pub extern "C" fn aeadkit_opener_check(opener: &mut StoredOpener, piece: &[u8]) -> u32
+pub extern "C" fn aeadkit_opener_check(opener: &mut StoredPasses, piece: &[u8]) -> u32
     ensures holds { (s : Setting) (tag bytes : List ℕ)
         → Checks opener.old opener.new piece.now result s tag bytes }
     ensures not_begun { NotIn checking opener.old → result ≡ not_begun }
@@ -135,10 +98,10 @@ pub extern "C" fn aeadkit_opener_check(opener: &mut StoredOpener, piece: &[u8]) 
 /// Ends the first pass, and begins the second one, which has taken in nothing yet. `TagMismatch` if what was
 /// taken in and the tag are no sealing: the struct is then zeros.
 #[unsafe(no_mangle)]
-pub extern "C" fn aeadkit_opener_checked(opener: &mut StoredOpener) -> u32
+pub extern "C" fn aeadkit_opener_checked(opener: &mut StoredPasses) -> u32
     ensures holds { (s : Setting) (tag bytes : List ℕ) → Checked opener.old opener.new result s tag bytes }
     ensures not_begun { NotIn checking opener.old → (result ≡ not_begun) × (opener.new ≡ opener.old) }
-    ensures refused { result ≢ 0 → result ≢ not_begun → opener.new ≡ zeros }
+    ensures refused { result ≢ 0 → result ≢ not_begun → opener.new ≡ zero_passes }
 {
     let Some(suite) = one_pass_marked(CHECKING, opener.mark) else {
         return NOT_BEGUN;
@@ -148,7 +111,7 @@ pub extern "C" fn aeadkit_opener_checked(opener: &mut StoredOpener) -> u32
         return outcome_number(Err(Fault::TagMismatch));
     }
     opener.mark = mark_of(OPENING, suite);
-    opener.checked = opener.state.length;
+    opener.first = opener.state.length;
     opener.state = opener.state.restarted(opener.start);
     outcome_number(Ok(()))
 }
@@ -156,7 +119,7 @@ pub extern "C" fn aeadkit_opener_checked(opener: &mut StoredOpener) -> u32
 /// Takes in a piece of the ciphertext in the second pass, and leaves its text in its place. `SourceChanged` if the
 /// second pass would be longer than the first: struct and piece are then as before.
 #[unsafe(no_mangle)]
-pub extern "C" fn aeadkit_opener_update(opener: &mut StoredOpener, piece: &mut [u8]) -> u32
+pub extern "C" fn aeadkit_opener_update(opener: &mut StoredPasses, piece: &mut [u8]) -> u32
     ensures holds { (s : Setting) (tag : List ℕ) (first : ℕ) (bytes : List ℕ)
         → Decrypts opener.old opener.new piece.old piece.new result s tag first bytes }
     ensures not_begun { NotIn opening opener.old → result ≡ not_begun }
@@ -165,7 +128,7 @@ pub extern "C" fn aeadkit_opener_update(opener: &mut StoredOpener, piece: &mut [
     let Some(suite) = one_pass_marked(OPENING, opener.mark) else {
         return NOT_BEGUN;
     };
-    let limit = opener.checked.min(suite.text_limit());
+    let limit = opener.first.min(suite.text_limit());
     if mask_piece(&mut opener.state, suite, &HashFirst, limit, piece) {
         outcome_number(Ok(()))
     } else {
@@ -176,11 +139,11 @@ pub extern "C" fn aeadkit_opener_update(opener: &mut StoredOpener, piece: &mut [
 /// Ends the second pass, and leaves zeros in the struct. `SourceChanged` if what the pass took in and the tag are
 /// no sealing: what update gave is then no text of one.
 #[unsafe(no_mangle)]
-pub extern "C" fn aeadkit_opener_finish(opener: &mut StoredOpener) -> u32
+pub extern "C" fn aeadkit_opener_finish(opener: &mut StoredPasses) -> u32
     ensures holds { (s : Setting) (tag : List ℕ) (first : ℕ) (bytes : List ℕ)
         → Ends opener.old result s tag first bytes }
     ensures not_begun { NotIn opening opener.old → (result ≡ not_begun) × (opener.new ≡ opener.old) }
-    ensures ended { result ≢ not_begun → opener.new ≡ zeros }
+    ensures ended { result ≢ not_begun → opener.new ≡ zero_passes }
 {
     let Some(suite) = one_pass_marked(OPENING, opener.mark) else {
         return NOT_BEGUN;
@@ -199,12 +162,13 @@ pub extern "C" fn aeadkit_opener_finish(opener: &mut StoredOpener) -> u32
 pub extern "C" fn aeadkit_opener_size() -> usize
     ensures { result ≡ 200 }
 {
-    size_of::<StoredOpener>()
+    size_of::<StoredPasses>()
 }
 
 #[cfg(test)]
 mod tests {
     use super::super::sealer::{aeadkit_sealer_finish, aeadkit_sealer_init, aeadkit_sealer_update};
+    use super::super::stored::StoredSealer;
     use super::*;
 
     // The sealing of sixteen zero bytes under AES-128-GCM with a zero key and nonce: test case 2 of GCM's
@@ -224,7 +188,7 @@ mod tests {
 
     // Opens a ciphertext in two pieces, each pass, with any struct. Returns whether each call was done.
     fn opened_in_two(
-        opener: &mut StoredOpener,
+        opener: &mut StoredPasses,
         suite: u32,
         keys: (&[u8], &[u8], &[u8]),
         tag: &[u8; 16],
@@ -268,7 +232,7 @@ mod tests {
             assert!(rt; aeadkit_sealer_update(&mut sealer, &mut bytes) == 0);
             assert!(rt; aeadkit_sealer_finish(&mut sealer, &mut tag) == 0);
             let (first, second) = bytes.split_at_mut(21);
-            let mut opener = StoredOpener::zeros();
+            let mut opener = StoredPasses::zeros();
             let keys = (key, nonce.as_slice(), b"to".as_slice());
             assert!(rt; opened_in_two(&mut opener, suite, keys, &tag, first, second));
             assert!(rt; bytes == [1; 64]);
@@ -277,13 +241,13 @@ mod tests {
     }
 
     // Begins to open under AES-128-GCM with a zero key and nonce. Returns the status.
-    fn begin(opener: &mut StoredOpener, tag: &[u8; 16]) -> u32 {
+    fn begin(opener: &mut StoredPasses, tag: &[u8; 16]) -> u32 {
         aeadkit_opener_init(opener, 2, &ZEROS[..16], &ZEROS[..12], &[], tag)
     }
 
     #[test]
     fn the_numbers_of_refusals(rt: HostRuntime) {
-        let mut opener = StoredOpener::zeros();
+        let mut opener = StoredPasses::zeros();
         let mut piece = CIPHERTEXT;
         assert!(rt; aeadkit_opener_check(&mut opener, &piece) == 15);
         assert!(rt;
@@ -302,7 +266,7 @@ mod tests {
 
     #[test]
     fn a_first_pass_over_no_sealing(rt: HostRuntime) {
-        let mut opener = StoredOpener::zeros();
+        let mut opener = StoredPasses::zeros();
         let mut other = TAG;
         other[15] ^= 1;
         assert!(rt; begin(&mut opener, &other) == 0);
@@ -314,7 +278,7 @@ mod tests {
 
     #[test]
     fn a_second_pass_over_other_bytes(rt: HostRuntime) {
-        let mut opener = StoredOpener::zeros();
+        let mut opener = StoredPasses::zeros();
         let mut other = CIPHERTEXT;
         other[8] ^= 1;
         assert!(rt; begin(&mut opener, &TAG) == 0);

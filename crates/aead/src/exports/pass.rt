@@ -1,20 +1,34 @@
 // The steps of a pass over pieces that is stored as plain numbers, by its suite.
 
-ghost use Rattle.std.specs.Prelude.{◌≡◌, ◌↔◌, ◌+◌, ◌<◌, ◌≤◌, ◌^◌, ◌++◌, ℕ, List, length, true, false};
+ghost use Rattle.std.specs.Prelude.{◌≡◌, ◌↔◌, ◌+◌, ◌-◌, ◌<◌, ◌≤◌, ◌^◌, ◌++◌, ℕ, List, length, true, false};
 ghost use Rattle.aead.specs.declared.suite.Suite.{Suite};
-ghost use Rattle.aead.specs.Suites.{ByChaCha, ByGcm, construction_of, is_one_pass, text_limit};
+ghost use Rattle.aead.specs.Suites.{ByChaCha, ByGcm, ByGcmSiv, construction_of, is_one_pass, text_limit};
 ghost use Rattle.aead.specs.Sealing.{Setting, tag_over};
 ghost use Rattle.aead.specs.Exports.{suite_number};
-ghost use Rattle.aead.specs.Stored.{HoldsBy, HoldsOf, HoldsBytes};
+ghost use Rattle.aead.specs.Stored.{IsPolyKey, IsGhashKey, IsPolyvalKey, HasKeys};
+ghost use Rattle.aead.specs.Stored.{HoldsBy, HoldsOf, HoldsBytes, HoldsTaken};
+ghost use Rattle.aead.specs.Code.Masks.{as_it_comes};
+ghost use Rattle.aead.specs.Code.States.{MadeByChaCha, MadeByGcm, MadeByGcmSiv};
 ghost use Rattle.aead.specs.Code.Steps.{MasksPiece};
 
 use super::stored::{StoredHash, StoredSealer};
+<<<<<<< HEAD
 use crate::beside::Order;
 use crate::hashes::GhashTag;
 use crate::multiples::{Multiples, worth};
+=======
+use crate::beside::{HashFirst, Order};
+use crate::derived_keys::expanded;
+use crate::gcm::{LONG, SHORT, counter_block};
+use crate::gcm_siv::counter_block as tag_counter_block;
+use crate::hashes::{GhashTag, PolyvalTag};
+use crate::mask::MaskStream;
+>>>>>>> 0653993c9bba267fb21c0cf8c4a80a26206f01e7
 use crate::suite::Suite;
+use aes::{AesKey, CtrBe, CtrLe};
+use chacha::ChaStream;
 use gf128::{PlacedMul, TableMul, WideMul};
-use octets::{Nonce, Tag};
+use octets::{Block, Key32, Nonce, Tag};
 use poly1305::Poly;
 
 // ---- suites and marks
@@ -73,58 +87,128 @@ pub(super) fn is_chacha(suite: Suite) -> bool
     }
 }
 
+<<<<<<< HEAD
+=======
+// The suite of a number, if it is one of AES-GCM-SIV.
+pub(super) fn siv_numbered(number: u64) -> Option<Suite>
+    ensures { (suite : Suite) → (result ≡ Some suite)
+        ↔ ((construction_of suite ≡ ByGcmSiv) × (number ≡ suite_number suite)) }
+{
+    match number {
+        5 => Some(Suite::Aes128GcmSiv),
+        6 => Some(Suite::Aes256GcmSiv),
+        _ => None,
+    }
+}
+
+// The suite of a mark of a kind of struct, if it is one of AES-GCM-SIV.
+pub(super) fn siv_marked(kind: u64, mark: u64) -> Option<Suite>
+    ensures { (suite : Suite) → (result ≡ Some suite)
+        ↔ ((construction_of suite ≡ ByGcmSiv) × (mark ≡ kind + suite_number suite)) }
+{
+    match mark.checked_sub(kind) {
+        Some(number) => siv_numbered(number),
+        None => None,
+    }
+}
+
+// ---- the multiples of the hash key
+
+// The multiples that the hash of a piece takes. Each piece makes them anew.
+#[derive(Clone, Copy)]
+enum Multiples {
+    Few,
+    AtEightPlaces,
+    OfFourPowers,
+}
+
+// Those that a piece of so many bytes is worth.
+fn worth(length: usize) -> Multiples {
+    if length < SHORT {
+        Multiples::Few
+    } else if length < LONG {
+        Multiples::AtEightPlaces
+    } else {
+        Multiples::OfFourPowers
+    }
+}
+
+>>>>>>> 0653993c9bba267fb21c0cf8c4a80a26206f01e7
 // ---- masking a piece
 
-// Masks a piece and takes it in, by a hash, if it is within a limit. Returns whether it is.
+// The key stream of ChaCha20-Poly1305 from where the pass is.
+fn chacha_stream(state: &StoredSealer) -> ChaStream
+    requires { state.now.length ≤ 2 ^ 38 - 64 }
+    ensures { (s : Setting) (tag : List ℕ) → HasKeys ByChaCha IsPolyKey state.now s
+        → MadeByChaCha result s tag state.now.length }
+{
+    let nonce = Nonce::new(state.nonce);
+    ChaStream::at(&Key32::new(state.key), &nonce, 64 + state.length)
+}
+
+// The counter stream of AES-GCM from where the pass is.
+fn gcm_stream(state: &StoredSealer, suite: Suite) -> CtrBe
+    requires { state.now.length ≤ 2 ^ 38 - 64 }
+    ensures { (s : Setting) (tag : List ℕ) → s.suite ≡ suite → HasKeys ByGcm IsGhashKey state.now s
+        → MadeByGcm result s tag state.now.length }
+{
+    let key = expanded(&state.key[..suite.key_length()]);
+    CtrBe::at(
+        &key,
+        &counter_block(&Nonce::new(state.nonce), 2),
+        state.length,
+    )
+}
+
+// The counter stream of AES-GCM-SIV under a tag, from where the pass is.
+fn siv_stream(state: &StoredSealer, suite: Suite, tag: &[u8; 16]) -> CtrLe
+    requires { state.now.length ≤ 2 ^ 38 - 64 }
+    ensures { (s : Setting) → s.suite ≡ suite → HasKeys ByGcmSiv IsPolyvalKey state.now s
+        → MadeByGcmSiv result s tag.now state.now.length }
+{
+    let key = expanded(&state.key[..suite.key_length()]);
+    CtrLe::at(&key, &Block::new(tag_counter_block(tag)), state.length)
+}
+
+// Masks a piece that is within the suite's limit and takes it in, by a hash.
 #[inline(never)]
-fn mask_by<H: StoredHash, R: Order>(
+fn mask_by<H: StoredHash, S: MaskStream, R: Order>(
     state: &mut StoredSealer,
     suite: Suite,
+    mask: &mut S,
     order: &R,
-    limit: u64,
     piece: &mut [u8],
-) -> bool
-    requires { limit ≤ text_limit suite }
-    ensures masks { (s : Setting) (tag fed : List ℕ) → s.suite ≡ suite
-        → MasksPiece (HoldsBy H.by H.keyed H.summed) R.hashed state.old state.new piece.old piece.new result
-        s tag fed }
-    ensures fits { result ≡ true → state.old.length + length piece.old ≤ limit }
-    ensures past { result ≡ false → limit < state.old.length + length piece.old }
-    ensures kept { result ≡ false → (state.new ≡ state.old) × (piece.new ≡ piece.old) }
+)
+    requires { state.old.length + length piece.old ≤ text_limit suite }
+    ensures { (s : Setting) (tag fed : List ℕ) → s.suite ≡ suite → S.made mask.old s tag state.old.length
+        → MasksPiece (HoldsBy H.by H.keyed H.summed) R.hashed state.old state.new piece.old piece.new s tag fed }
 {
-    if !state.has_room(limit, piece) {
-        return false;
-    }
-    let nonce = Nonce::new(state.nonce);
-    let mut mask = H::mask(suite, &state.key, &nonce, state.length);
-    let mut taken = state.taken::<H>();
-    order.step(&mut mask, &mut taken, piece);
+    let mut taken = state.taken::<H>(suite);
+    order.step(mask, &mut taken, piece);
     *state = state.storing(&taken);
-    true
 }
 
 // Masks a piece under AES-GCM.
-fn mask_gcm<R: Order>(
-    state: &mut StoredSealer,
-    suite: Suite,
-    order: &R,
-    limit: u64,
-    piece: &mut [u8],
-) -> bool
-    requires { limit ≤ text_limit suite }
-    ensures masks { (s : Setting) (tag fed : List ℕ) → s.suite ≡ suite
-        → MasksPiece (HoldsOf ByGcm) R.hashed state.old state.new piece.old piece.new result s tag fed }
-    ensures fits { result ≡ true → state.old.length + length piece.old ≤ limit }
-    ensures past { result ≡ false → limit < state.old.length + length piece.old }
-    ensures kept { result ≡ false → (state.new ≡ state.old) × (piece.new ≡ piece.old) }
+fn mask_gcm<R: Order>(state: &mut StoredSealer, suite: Suite, order: &R, piece: &mut [u8])
+    requires { state.old.length + length piece.old ≤ text_limit suite }
+    ensures { (s : Setting) (tag fed : List ℕ) → s.suite ≡ suite
+        → MasksPiece (HoldsOf ByGcm) R.hashed state.old state.new piece.old piece.new s tag fed }
 {
+<<<<<<< HEAD
     match worth(piece.len() as u64) {
         Multiples::Few => mask_by::<GhashTag<TableMul>, R>(state, suite, order, limit, piece),
+=======
+    let mut mask = gcm_stream(state, suite);
+    match worth(piece.len()) {
+        Multiples::Few => {
+            mask_by::<GhashTag<TableMul>, CtrBe, R>(state, suite, &mut mask, order, piece)
+        }
+>>>>>>> 0653993c9bba267fb21c0cf8c4a80a26206f01e7
         Multiples::AtEightPlaces => {
-            mask_by::<GhashTag<PlacedMul>, R>(state, suite, order, limit, piece)
+            mask_by::<GhashTag<PlacedMul>, CtrBe, R>(state, suite, &mut mask, order, piece)
         }
         Multiples::OfFourPowers => {
-            mask_by::<GhashTag<WideMul>, R>(state, suite, order, limit, piece)
+            mask_by::<GhashTag<WideMul>, CtrBe, R>(state, suite, &mut mask, order, piece)
         }
     }
 }
@@ -139,17 +223,62 @@ pub(super) fn mask_piece<R: Order>(
 ) -> bool
     requires one_pass { is_one_pass (construction_of suite) ≡ true }
     requires limit { limit ≤ text_limit suite }
-    ensures masks { (s : Setting) (tag fed : List ℕ) → s.suite ≡ suite
-        → MasksPiece HoldsBytes R.hashed state.old state.new piece.old piece.new result s tag fed }
+    ensures masks { (s : Setting) (tag fed : List ℕ) → s.suite ≡ suite → result ≡ true
+        → MasksPiece HoldsBytes R.hashed state.old state.new piece.old piece.new s tag fed }
     ensures fits { result ≡ true → state.old.length + length piece.old ≤ limit }
     ensures past { result ≡ false → limit < state.old.length + length piece.old }
     ensures kept { result ≡ false → (state.new ≡ state.old) × (piece.new ≡ piece.old) }
 {
-    if is_chacha(suite) {
-        mask_by::<Poly, R>(state, suite, order, limit, piece)
-    } else {
-        mask_gcm(state, suite, order, limit, piece)
+    if !state.has_room(limit, piece) {
+        return false;
     }
+    if is_chacha(suite) {
+        let mut mask = chacha_stream(state);
+        mask_by::<Poly, ChaStream, R>(state, suite, &mut mask, order, piece);
+    } else {
+        mask_gcm(state, suite, order, piece);
+    }
+    true
+}
+
+// Masks a piece under AES-GCM-SIV and a tag and takes it in as it comes, if it is within a limit. Returns
+// whether it is.
+pub(super) fn mask_siv(
+    state: &mut StoredSealer,
+    suite: Suite,
+    tag: &[u8; 16],
+    limit: u64,
+    piece: &mut [u8],
+) -> bool
+    requires { limit ≤ text_limit suite }
+    ensures masks { (s : Setting) (text : List ℕ) → s.suite ≡ suite → result ≡ true
+        → MasksPiece HoldsTaken as_it_comes state.old state.new piece.old piece.new s tag.now text }
+    ensures fits { result ≡ true → state.old.length + length piece.old ≤ limit }
+    ensures past { result ≡ false → limit < state.old.length + length piece.old }
+    ensures kept { result ≡ false → (state.new ≡ state.old) × (piece.new ≡ piece.old) }
+{
+    if !state.has_room(limit, piece) {
+        return false;
+    }
+    let mut mask = siv_stream(state, suite, tag);
+    match worth(piece.len()) {
+        Multiples::Few => {
+            mask_by::<PolyvalTag<TableMul, AesKey>, CtrLe, HashFirst>(
+                state, suite, &mut mask, &HashFirst, piece,
+            )
+        }
+        Multiples::AtEightPlaces => {
+            mask_by::<PolyvalTag<PlacedMul, AesKey>, CtrLe, HashFirst>(
+                state, suite, &mut mask, &HashFirst, piece,
+            )
+        }
+        Multiples::OfFourPowers => {
+            mask_by::<PolyvalTag<WideMul, AesKey>, CtrLe, HashFirst>(
+                state, suite, &mut mask, &HashFirst, piece,
+            )
+        }
+    }
+    true
 }
 
 // ---- taking in a piece that is not masked
@@ -167,7 +296,7 @@ fn take_by<H: StoredHash>(state: &mut StoredSealer, suite: Suite, piece: &[u8]) 
     if !state.has_room(suite.text_limit(), piece) {
         return false;
     }
-    let mut taken = state.taken::<H>();
+    let mut taken = state.taken::<H>(suite);
     taken.update(piece);
     *state = state.storing(&taken);
     true
@@ -204,15 +333,31 @@ pub(super) fn take_piece(state: &mut StoredSealer, suite: Suite, piece: &[u8]) -
     }
 }
 
+// Takes in a piece of a text under AES-GCM-SIV, if it is within the suite's limit. Returns whether it is.
+pub(super) fn take_siv(state: &mut StoredSealer, suite: Suite, piece: &[u8]) -> bool
+    ensures takes { (s : Setting) (text : List ℕ) → s.suite ≡ suite → result ≡ true
+        → HoldsTaken state.old s text → HoldsTaken state.new s (text ++ piece.now) }
+    ensures fits { result ≡ true → state.old.length + length piece.now ≤ text_limit suite }
+    ensures past { result ≡ false → text_limit suite < state.old.length + length piece.now }
+    ensures kept { result ≡ false → state.new ≡ state.old }
+{
+    match worth(piece.len()) {
+        Multiples::Few => take_by::<PolyvalTag<TableMul, AesKey>>(state, suite, piece),
+        Multiples::AtEightPlaces => take_by::<PolyvalTag<PlacedMul, AesKey>>(state, suite, piece),
+        Multiples::OfFourPowers => take_by::<PolyvalTag<WideMul, AesKey>>(state, suite, piece),
+    }
+}
+
 // ---- the tag
 
 // The tag of what was taken in, by a hash.
 #[inline(never)]
-fn tag_by<H: StoredHash>(state: &StoredSealer) -> Tag
-    ensures { (s : Setting) (bytes : List ℕ) → HoldsBy H.by H.keyed H.summed state.now s bytes
+pub(super) fn tag_by<H: StoredHash>(state: &StoredSealer, suite: Suite) -> Tag
+    ensures { (s : Setting) (bytes : List ℕ) → s.suite ≡ suite
+        → HoldsBy H.by H.keyed H.summed state.now s bytes
         → result ≡ tag_over s.suite s.key s.nonce s.aad bytes }
 {
-    state.taken::<H>().finish()
+    state.taken::<H>(suite).finish()
 }
 
 // The tag of what was taken in under a suite.
@@ -222,8 +367,8 @@ pub(super) fn pass_tag(state: &StoredSealer, suite: Suite) -> Tag
         → result ≡ tag_over s.suite s.key s.nonce s.aad bytes }
 {
     if is_chacha(suite) {
-        tag_by::<Poly>(state)
+        tag_by::<Poly>(state, suite)
     } else {
-        tag_by::<GhashTag<TableMul>>(state)
+        tag_by::<GhashTag<TableMul>>(state, suite)
     }
 }

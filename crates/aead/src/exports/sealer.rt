@@ -7,7 +7,7 @@ ghost use Rattle.aead.specs.Suites.{construction_of, is_one_pass, key_length, aa
 ghost use Rattle.aead.specs.Sealing.{Setting, tag_of};
 ghost use Rattle.aead.specs.Exports.{suite_number, unknown_suite, setting_of};
 ghost use Rattle.aead.specs.Stored.{zeros, NotBegun, not_begun, BeginRefused};
-ghost use Rattle.aead.specs.Stored.{HoldsBy, HoldsBytes, HoldsText, Updates};
+ghost use Rattle.aead.specs.Stored.{cipher_key, HoldsBy, HoldsBytes, HoldsText, Updates};
 
 use super::UNKNOWN_SUITE;
 use super::pass::{is_chacha, mark_of, mask_piece, one_pass_marked, one_pass_numbered, pass_tag};
@@ -33,8 +33,8 @@ const SEALER: u64 = 0x7365_616c_6572_0100;
 
 // ---- init
 
-// The numbers of the empty text after associated data.
-fn begun_by<H: StoredHash>(
+// The numbers of no bytes after associated data, under a message's keys of the cipher and the hash.
+pub(super) fn begun_by<H: StoredHash>(
     suite: Suite,
     key: &[u8],
     nonce: &Nonce,
@@ -42,9 +42,9 @@ fn begun_by<H: StoredHash>(
     aad: &[u8],
 ) -> StoredSealer
     requires { length key.now ≡ key_length suite }
-    ensures { let s = setting_of suite key.now nonce.now aad.now in
-        construction_of suite ≡ H.by → is_one_pass (construction_of suite) ≡ true
-        → length aad.now ≤ aad_limit suite → H.keyed hash_key s
+    ensures { (s : Setting) → s.suite ≡ suite → construction_of suite ≡ H.by
+        → length s.key ≡ key_length suite → s.nonce ≡ nonce.now → s.aad ≡ aad.now
+        → length aad.now ≤ aad_limit suite → key.now ≡ cipher_key H.by s → H.keyed hash_key s
         → HoldsBy H.by H.keyed H.summed result s [] }
 {
     let mut padded = [0; 32];
@@ -54,7 +54,8 @@ fn begun_by<H: StoredHash>(
     keys.key = padded;
     keys.nonce = *nonce.bytes();
     keys.hash_key = hash_key;
-    keys.storing(&Authenticator::new(H::begun(&hash_key), aad))
+    let hash = H::begun(&keys, suite);
+    keys.storing(&Authenticator::new(hash, aad))
 }
 
 // The numbers of the empty text under the bytes of a key and a nonce.

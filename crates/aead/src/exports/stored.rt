@@ -1,23 +1,22 @@
-// A sealing or an opening in pieces, stored as plain numbers in the memory of a caller in C.
+// Sealings and openings in pieces, stored as plain numbers in the memory of a caller in C.
 
 ghost use Rattle.std.specs.Prelude.{◌≡◌, ◌+◌, ◌*◌, ◌-◌, ◌/◌, ◌^◌, ◌<◌, ◌≤◌, ℕ, List, [], length, take, drop};
 ghost use Rattle.std.specs.Prelude.{◌++◌, true, false};
-ghost use Rattle.aead.specs.Suites.{Construction, ByChaCha, ByGcm, construction_of, key_length};
+ghost use Rattle.aead.specs.Suites.{Construction, ByChaCha, ByGcm, ByGcmSiv};
 ghost use Rattle.aead.specs.Sealing.{Setting};
+ghost use Rattle.octets.specs.Bytes.{pad16};
 ghost use Rattle.aead.specs.Code.States.{HoldsAuthenticator};
-ghost use Rattle.aead.specs.Stored.{zero_sum, zeros, IsPolyKey, IsPolySum, IsGhashKey, IsGhashSum, HasKeys};
-ghost use Rattle.aead.specs.Stored.{HoldsBy, HoldsBytes, HasStart};
+ghost use Rattle.aead.specs.Stored.{zero_sum, zeros, zero_passes, IsPolyKey, IsPolySum, IsGhashKey};
+ghost use Rattle.aead.specs.Stored.{IsGhashSum, IsPolyvalKey, IsPolyvalSum, HasKeys, HoldsBy, HoldsBytes};
+ghost use Rattle.aead.specs.Stored.{HasStart, HoldsTaken};
 
 use crate::authenticator::Authenticator;
 use crate::derived_keys::expanded;
-use crate::gcm::counter_block;
-use crate::hashes::{GhashTag, TagHash};
-use crate::mask::MaskStream;
+use crate::hashes::{GhashTag, PolyvalTag, TagHash};
 use crate::suite::Suite;
-use aes::CtrBe;
-use chacha::ChaStream;
-use gf128::{Ghash, Keyed128};
-use octets::{Block, Key32, Nonce};
+use aes::AesKey;
+use gf128::{Ghash, Keyed128, Polyval};
+use octets::{Block, Nonce};
 use poly1305::Poly;
 
 // 2^64.
@@ -52,12 +51,13 @@ impl StoredSum {
 pub struct StoredSealer {
     // The kind of struct, the version of its layout and the suite; anything else if no sealing is begun.
     pub(super) mark: u64,
-    // The cipher's key, and zeros after it.
+    // The cipher's key, and zeros after it: of AES-GCM-SIV the message's encryption key.
     pub(super) key: [u8; 32],
     pub(super) nonce: [u8; 12],
     // How many bytes of `rest` belong to the text.
     pub(super) used: u32,
-    // The one-time key of Poly1305, or the key of GHASH and the cipher of J0.
+    // The one-time key of Poly1305; or the key of GHASH and the cipher of J0; or the key of POLYVAL's
+    // multiplier, and zeros.
     pub(super) hash_key: [u8; 32],
     // The bytes after the last whole block of what is hashed.
     pub(super) rest: [u8; 16],
@@ -116,14 +116,14 @@ impl StoredSealer {
 
     // The authenticator that has taken in the bytes so far.
     #[inline(always)]
-    pub(super) fn taken<H: StoredHash>(&self) -> Authenticator<H>
-        ensures holds { (s : Setting) (bytes : List ℕ) → HoldsBy H.by H.keyed H.summed self.now s bytes
-            → HoldsAuthenticator H.held result s bytes }
+    pub(super) fn taken<H: StoredHash>(&self, suite: Suite) -> Authenticator<H>
+        ensures holds { (s : Setting) (bytes : List ℕ) → s.suite ≡ suite
+            → HoldsBy H.by H.keyed H.summed self.now s bytes → HoldsAuthenticator H.held result s bytes }
         ensures length { result.length ≡ self.now.length }
     {
         let used = (self.used % 16) as usize;
         Authenticator {
-            hash: H::resumed(&self.hash_key, self.sum, &self.rest[..used]),
+            hash: H::resumed(self, suite, &self.rest[..used]),
             aad_length: self.aad_length,
             length: self.length,
         }
@@ -139,8 +139,10 @@ impl StoredSealer {
 
     // The numbers of no bytes after the same associated data, of which this is the sum.
     pub(super) fn restarted(&self, start: StoredSum) -> StoredSealer
-        ensures { (s : Setting) (bytes : List ℕ) → HoldsBytes self.now s bytes
+        ensures bytes { (s : Setting) (bytes : List ℕ) → HoldsBytes self.now s bytes
             → HasStart start s → HoldsBytes result s [] }
+        ensures taken { (s : Setting) (text : List ℕ) → HoldsTaken self.now s text
+            → IsPolyvalSum start s (pad16 s.aad) → HoldsTaken result s [] }
     {
         let mut state = *self;
         state.used = 0;
@@ -150,12 +152,46 @@ impl StoredSealer {
     }
 }
 
-// The hash of a construction, and the mask that goes with it: what is stored of both, and how they are made
-// again.
+/// A sealing or an opening in pieces that takes two passes. Each number may have any value.
+#[repr(C)]
+#[derive(Clone, Copy)]
+pub struct StoredPasses {
+    // The kind of struct, its pass, the version of its layout and the suite; anything else if nothing is begun.
+    pub(super) mark: u64,
+    // The state of the pass: what it has taken in so far.
+    pub(super) state: StoredSealer,
+    // The hash's sum over the padded associated data, with which each pass begins.
+    pub(super) start: StoredSum,
+    pub(super) tag: [u8; 16],
+    // In the second pass, the bytes that the first one took in.
+    pub(super) first: u64,
+}
+
+impl StoredPasses {
+    // All zeros: it holds neither.
+    pub(super) fn zeros() -> StoredPasses
+        ensures { result ≡ zero_passes }
+    {
+        StoredPasses {
+            mark: 0,
+            state: StoredSealer::zeros(),
+            start: StoredSum::zeros(),
+            tag: [0; 16],
+            first: 0,
+        }
+    }
+
+    // Writes zeros over every number.
+    pub(super) fn erase(&mut self)
+        ensures { self.new ≡ zero_passes }
+    {
+        *self = StoredPasses::zeros();
+    }
+}
+
+// The hash of a construction: what is stored of it, and how it is made again.
 pub(super) trait StoredHash: TagHash {
     ghost use Rattle.aead.specs.declared.exports.stored.StoredSum.{StoredSum};
-
-    type Stream: MaskStream;
 
     // Its construction.
     ghost by: { Construction };
@@ -166,16 +202,9 @@ pub(super) trait StoredHash: TagHash {
     // This is the sum over the whole blocks of a text, under the keys of a message.
     ghost summed: { StoredSum → Setting → List ℕ → Type 0 };
 
-    // The mask under a suite's key and a nonce, of which so many bytes were made.
-    fn mask(suite: Suite, key: &[u8; 32], nonce: &Nonce, made: u64) -> Self::Stream
-        requires { made ≤ 2 ^ 38 - 64 }
-        ensures { (s : Setting) (tag : List ℕ) (n : ℕ) → construction_of s.suite ≡ by → s.suite ≡ suite
-            → take (key_length s.suite) key.now ≡ s.key → nonce.now ≡ s.nonce → made ≡ n
-            → Self.Stream.made result s tag n };
-
-    // The hash of no bytes.
-    fn begun(key: &[u8; 32]) -> Self
-        ensures { (s : Setting) → construction_of s.suite ≡ by → keyed key.now s → Self.held result s [] };
+    // The hash of no bytes under the keys of these numbers.
+    fn begun(keys: &StoredSealer, suite: Suite) -> Self
+        ensures { (s : Setting) → s.suite ≡ suite → HasKeys by keyed keys.now s → Self.held result s [] };
 
     // Its sum over the whole blocks of the text.
     fn sum(&self) -> StoredSum
@@ -187,28 +216,29 @@ pub(super) trait StoredHash: TagHash {
             → result.now ≡ drop (length m / 16 * 16) m }
         ensures short { length result.now < 16 };
 
-    // The hash of a text again.
-    fn resumed(key: &[u8; 32], sum: StoredSum, rest: &[u8]) -> Self
+    // The hash of a text again, under the keys and from the sum of these numbers.
+    fn resumed(stored: &StoredSealer, suite: Suite, rest: &[u8]) -> Self
         requires { length rest.now < 16 }
-        ensures { (s : Setting) (m : List ℕ) → construction_of s.suite ≡ by → keyed key.now s
-            → summed sum s m → rest.now ≡ drop (length m / 16 * 16) m → Self.held result s m };
+        ensures { (s : Setting) (m : List ℕ) → s.suite ≡ suite → HasKeys by keyed stored.now s
+            → summed stored.now.sum s m → rest.now ≡ drop (length m / 16 * 16) m → Self.held result s m };
+}
+
+// The lower 128 bits of a sum.
+fn from_words(sum: StoredSum) -> u128
+    ensures { result ≡ sum.low + sum.middle * 2 ^ 64 }
+{
+    u128::from(sum.low) + u128::from(sum.middle) * WORD
 }
 
 impl StoredHash for Poly {
-    type Stream = ChaStream;
-
     ghost by = { ByChaCha };
 
     ghost keyed = { IsPolyKey };
 
     ghost summed = { IsPolySum };
 
-    fn mask(_suite: Suite, key: &[u8; 32], nonce: &Nonce, made: u64) -> ChaStream {
-        ChaStream::at(&Key32::new(*key), nonce, 64 + made)
-    }
-
-    fn begun(key: &[u8; 32]) -> Poly {
-        Poly::new(key)
+    fn begun(keys: &StoredSealer, _suite: Suite) -> Poly {
+        Poly::new(&keys.hash_key)
     }
 
     fn sum(&self) -> StoredSum {
@@ -224,14 +254,27 @@ impl StoredHash for Poly {
         self.rest()
     }
 
-    fn resumed(key: &[u8; 32], sum: StoredSum, rest: &[u8]) -> Poly {
-        let low = u128::from(sum.low) + u128::from(sum.middle) * WORD;
-        Poly::resumed(key, low, sum.high, rest)
+    fn resumed(stored: &StoredSealer, _suite: Suite, rest: &[u8]) -> Poly {
+        let sum = stored.sum;
+        Poly::resumed(&stored.hash_key, from_words(sum), sum.high, rest)
     }
 }
 
-// The key of GHASH.
-fn ghash_key(key: &[u8; 32]) -> Block
+// ---- AES-GCM and AES-GCM-SIV
+
+// A sum of 128 bits, in words.
+fn in_words(sum: u128) -> StoredSum
+    ensures { result.low + result.middle * 2 ^ 64 ≡ sum }
+{
+    StoredSum {
+        low: (sum % WORD) as u64,
+        middle: (sum >> 64) as u64,
+        high: 0,
+    }
+}
+
+// The key of the multiplier.
+fn multiplier_key(key: &[u8; 32]) -> Block
     ensures { result ≡ take 16 key.now }
 {
     let mut first = [0; 16];
@@ -249,44 +292,65 @@ fn tag_mask(key: &[u8; 32]) -> Block
 }
 
 impl<M: Keyed128> StoredHash for GhashTag<M> {
-    type Stream = CtrBe;
-
     ghost by = { ByGcm };
 
     ghost keyed = { IsGhashKey };
 
     ghost summed = { IsGhashSum };
 
-    fn mask(suite: Suite, key: &[u8; 32], nonce: &Nonce, made: u64) -> CtrBe {
-        let key = expanded(&key[..suite.key_length()]);
-        CtrBe::at(&key, &counter_block(nonce, 2), made)
-    }
-
-    fn begun(key: &[u8; 32]) -> GhashTag<M> {
+    fn begun(keys: &StoredSealer, _suite: Suite) -> GhashTag<M> {
         GhashTag {
-            hash: Ghash::with(M::of(&ghash_key(key))),
-            mask: tag_mask(key),
+            hash: Ghash::with(M::of(&multiplier_key(&keys.hash_key))),
+            mask: tag_mask(&keys.hash_key),
         }
     }
 
     fn sum(&self) -> StoredSum {
-        let sum = self.hash.sum();
-        StoredSum {
-            low: (sum % WORD) as u64,
-            middle: (sum >> 64) as u64,
-            high: 0,
-        }
+        in_words(self.hash.sum())
     }
 
     fn rest(&self) -> &[u8] {
         self.hash.rest()
     }
 
-    fn resumed(key: &[u8; 32], sum: StoredSum, rest: &[u8]) -> GhashTag<M> {
-        let sum = u128::from(sum.low) + u128::from(sum.middle) * WORD;
+    fn resumed(stored: &StoredSealer, _suite: Suite, rest: &[u8]) -> GhashTag<M> {
+        let multiplier = M::of(&multiplier_key(&stored.hash_key));
         GhashTag {
-            hash: Ghash::resumed(M::of(&ghash_key(key)), sum, rest),
-            mask: tag_mask(key),
+            hash: Ghash::resumed(multiplier, from_words(stored.sum), rest),
+            mask: tag_mask(&stored.hash_key),
+        }
+    }
+}
+
+impl<M: Keyed128> StoredHash for PolyvalTag<M, AesKey> {
+    ghost by = { ByGcmSiv };
+
+    ghost keyed = { IsPolyvalKey };
+
+    ghost summed = { IsPolyvalSum };
+
+    fn begun(keys: &StoredSealer, suite: Suite) -> PolyvalTag<M, AesKey> {
+        PolyvalTag {
+            hash: Polyval::with(M::of(&multiplier_key(&keys.hash_key))),
+            key: expanded(&keys.key[..suite.key_length()]),
+            nonce: Nonce::new(keys.nonce),
+        }
+    }
+
+    fn sum(&self) -> StoredSum {
+        in_words(self.hash.sum())
+    }
+
+    fn rest(&self) -> &[u8] {
+        self.hash.rest()
+    }
+
+    fn resumed(stored: &StoredSealer, suite: Suite, rest: &[u8]) -> PolyvalTag<M, AesKey> {
+        let multiplier = M::of(&multiplier_key(&stored.hash_key));
+        PolyvalTag {
+            hash: Polyval::resumed(multiplier, from_words(stored.sum), rest),
+            key: expanded(&stored.key[..suite.key_length()]),
+            nonce: Nonce::new(stored.nonce),
         }
     }
 }

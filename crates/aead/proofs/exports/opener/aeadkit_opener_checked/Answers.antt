@@ -34,7 +34,7 @@ returns-clause-holds c = λ s tag bytes h.
           record {
             pass = record {
               mark_is = c.mark_of-opener.ensures ∙ ap (λ x. opening + suite_number x) same;
-              state = c.restarted-opener.ensures s bytes h.state h.start;
+              state = c.restarted-opener.ensures.bytes s bytes h.state h.start;
               start = h.start;
               tag_is = h.tag_is;
               tag_long = h.tag_long;

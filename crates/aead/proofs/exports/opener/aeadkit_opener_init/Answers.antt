@@ -1,6 +1,6 @@
 use Rattle.std.proofs.Common.{◌≡◌, ◌∙◌, [], refl, sym, subst, arith, Ok, Err}
 use Rattle.std.proofs.lemmas.Option.{same_Some}
-use Rattle.aead.specs.declared.exports.opener.StoredOpener.{StoredOpener}
+use Rattle.aead.specs.declared.exports.stored.StoredPasses.{StoredPasses}
 use Rattle.aead.specs.Suites.{construction_of}
 use Rattle.aead.specs.Sealing.{Setting}
 use Rattle.aead.specs.Exports.{setting_of}
@@ -16,13 +16,13 @@ returns-in-Ok-clause-known c = λ named one is.
     same_Some _ _ ((c.in-Some.ensures named).1 (one, c.from.ensures ∙ is)) in
     let s : Setting = setting_of c.in-Some.suite c.args.key.now c.args.nonce.now c.args.aad.now in
     let f = held (construction_of s.suite) c.in-Ok.state s [] c.in-Ok.ensures in
-    let new : StoredOpener =
+    let new : StoredPasses =
     record {
       mark = c.mark_of.result;
       state = c.in-Ok.state;
       start = c.in-Ok.state.sum;
       tag = c.args.tag.now;
-      checked = 0;
+      first = 0;
     } in
     let holds : HoldsChecking new s c.args.tag.now [] =
     record {

@@ -12,4 +12,4 @@ returns-clause-takes g c = λ s bytes same done h.
       c.text_limit.ensures,
       ap text_limit same,
     ) in
-    c.storing.ensures s _ h.keys (c.update.ensures.holds s bytes (c.taken-taken.ensures.holds s bytes h) room)
+    c.storing.ensures s _ h.keys (c.update.ensures.holds s bytes (c.taken-taken.ensures.holds s bytes same h) room)

@@ -1,20 +1,26 @@
-use Rattle.std.proofs.Common.{◌∙◌, [], refl, ap, arith, length, replicate}
+use Rattle.std.proofs.Common.{◌≡◌, ◌≤◌, ◌∙◌, [], sym, ap, arith, length, replicate}
 use Rattle.std.proofs.lemmas.Slice.{take-put_mid}
-use Rattle.aead.specs.Suites.{key_length}
-use Rattle.aead.specs.Exports.{setting_of}
+use Rattle.aead.specs.Suites.{construction_of, key_length, aad_limit}
+use Rattle.aead.specs.Exports.{HasLengths}
+use Rattle.aead.specs.Stored.{sealer_mark}
+use Rattle.aead.proofs.Stored.{has_keys}
 use Rattle.aead.proofs.exports.sealer.begun_by.Goals as goal
 
 pub returns : goal.returns
-returns g c = λ by one fits keyed.
-    let s = setting_of c.args.suite c.args.key.now c.args.nonce.now c.args.aad.now in
+returns g c = λ s same by long nonce_is aad_is fits key_is keyed.
     let after = c.copy_from_slice.ensures.after in
-    c.storing.ensures s [] (record {
-      by_is = by;
-      one_pass = one;
-      mark_is = c.mark_of.ensures;
-      lengths = record { key_fits = c.requires; nonce_fits = omega (arith, ap length c.bytes.ensures.value) };
-      key_is = take-put_mid 0 (length c.args.key.now) (replicate 32 0) c.copy_from_slice.new.self
-          (key_length c.args.suite) (omega (arith, ap length after, c.requires)) (omega arith) ∙ after;
-      nonce_is = c.bytes.ensures.value;
-      hash_key_is = keyed;
-    }) (c.new.ensures.holds s refl fits (c.begun.ensures s by keyed))
+    let by_is : construction_of s.suite ≡ g.H.StoredHash.by = ap construction_of same ∙ by in
+    let mark : c.mark_of.result ≡ sealer_mark s.suite = c.mark_of.ensures ∙ ap sealer_mark (sym same) in
+    let lengths : HasLengths s =
+    record {
+      key_fits = long ∙ ap key_length (sym same);
+      nonce_fits = omega (arith, ap length c.bytes.ensures.value, ap length nonce_is);
+    } in
+    let key =
+    take-put_mid 0 (length c.args.key.now) (replicate 32 0) c.copy_from_slice.new.self (key_length s.suite)
+    (omega (arith, ap length after, c.requires, ap key_length same)) (omega arith) ∙ after ∙ key_is in
+    let nonce : c.bytes.result.now ≡ s.nonce = c.bytes.ensures.value ∙ sym nonce_is in
+    let room : length c.args.aad.now ≤ aad_limit s.suite = omega (arith, fits, ap aad_limit same) in
+    c.storing.ensures s [] (has_keys _ _ s by_is mark lengths key nonce keyed)
+    (c.new.ensures.holds s aad_is room
+    (c.begun-hash.ensures s same (has_keys _ _ s by_is mark lengths key nonce keyed)))

@@ -12,7 +12,6 @@ returns g c = λ s bytes keys held.
     record {
       keys = record {
         by_is = keys.by_is;
-        one_pass = keys.one_pass;
         mark_is = keys.mark_is;
         lengths = keys.lengths;
         key_is = keys.key_is;

@@ -4,7 +4,7 @@ use Rattle.aead.specs.Sealing.{mask_of, tag_of}
 use Rattle.aead.proofs.ByteMasks.{masked_small}
 use Rattle.aead.proofs.Opens.{unmasked, no_sealing, opened_as, body_tag}
 use Rattle.aead.proofs.Stored.{held}
-use Rattle.aead.proofs.exports.opener.StoredOpener.is_sealing.Goals as goal
+use Rattle.aead.proofs.exports.stored.StoredPasses.is_sealing.Goals as goal
 
 pub returns-clause-sealing : goal.returns-clause-sealing
 returns-clause-sealing c = λ kind s tag bytes suite h done.

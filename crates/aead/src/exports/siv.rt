@@ -1,0 +1,330 @@
+// A sealing in pieces at C under AES-GCM-SIV: a first reading of the text gives its tag, and a second one encrypts
+// it.
+
+ghost use Rattle.std.specs.Prelude.{◌≡◌, ◌≢◌, ◌↔◌, ◌++◌, ℕ, List, [], IsTrue, MatchResult};
+ghost use Rattle.octets.specs.Masked.{masked};
+ghost use Rattle.octets.specs.Numbers.{HasOutcome};
+ghost use Rattle.aead.specs.declared.suite.Suite.{Suite};
+ghost use Rattle.aead.specs.Suites.{ByGcmSiv, construction_of};
+ghost use Rattle.aead.specs.Sealing.{Setting, mask_of, tag_of};
+ghost use Rattle.aead.specs.Pieces.{Repeats};
+ghost use Rattle.aead.specs.Exports.{suite_number, unknown_suite, setting_of};
+ghost use Rattle.aead.specs.Stored.{zero_passes, not_begun, HoldsTaken, BeginRefused};
+ghost use Rattle.aead.specs.StoredSiv.{absorbing, writing, NotIn, HoldsAbsorbing, HoldsWriting};
+ghost use Rattle.aead.specs.StoredSiv.{Absorbs, Tags, Encrypts, Ends};
+
+use super::UNKNOWN_SUITE;
+use super::pass::{mark_of, mask_siv, siv_marked, siv_numbered, tag_by, take_siv};
+use super::sealer::{NOT_BEGUN, begun_by};
+use super::stored::{StoredPasses, StoredSealer};
+use crate::derived_keys::{
+    KeyParts, hash_key, joined_blocks, long_encryption_key, short_encryption_key,
+};
+use crate::hashes::PolyvalTag;
+use crate::suite::Suite;
+use aes::AesKey;
+use gf128::{PlacedMul, TableMul};
+use octets::{Fault, Nonce, outcome_number, same};
+
+// The kind of struct in the first reading, to which its mark adds the suite's number: `sivone` in ASCII, and the
+// version of its layout.
+const ABSORBING: u64 = 0x7369_766f_6e65_0100;
+
+// The kind of struct in the second reading: `sivtwo`.
+const WRITING: u64 = 0x7369_7674_776f_0100;
+
+// The numbers of the empty text under the bytes of a key and a nonce.
+fn begun(suite: Suite, key: &[u8], nonce: &[u8], aad: &[u8]) -> Result<StoredSealer, Fault>
+    requires { construction_of suite ≡ ByGcmSiv }
+    ensures { let s = setting_of suite key.now nonce.now aad.now in
+        MatchResult result (λ p. HoldsTaken p s []) (BeginRefused s) }
+{
+    if key.len() != suite.key_length() {
+        return Err(Fault::KeyLength);
+    }
+    let nonce = Nonce::from_slice(nonce)?;
+    suite.check_aad(aad)?;
+    let cipher = AesKey::from_slice(key)?;
+    let parts = KeyParts::new(&cipher, &nonce);
+    let hash_key = joined_blocks(hash_key(&parts).bytes(), &[0; 16]);
+    if suite == Suite::Aes128GcmSiv {
+        let key = short_encryption_key(&parts);
+        return Ok(begun_by::<PolyvalTag<PlacedMul, AesKey>>(suite, &key, &nonce, hash_key, aad));
+    }
+    let key = long_encryption_key(&parts);
+    Ok(begun_by::<PolyvalTag<PlacedMul, AesKey>>(suite, &key, &nonce, hash_key, aad))
+}
+
+impl StoredPasses {
+    // Whether the second text has the length and the tag of the first.
+    fn repeats(&self, suite: Suite) -> bool
+        ensures { (s : Setting) (first text : List ℕ) → s.suite ≡ suite → HoldsWriting self.now s first text
+            → IsTrue result ↔ Repeats s first text }
+    {
+        let tag = tag_by::<PolyvalTag<TableMul, AesKey>>(&self.state, suite);
+        self.state.length == self.first && same(tag.bytes(), &self.tag)
+    }
+}
+
+/// Begins a sealing by two readings, in its first one, of no text yet. What the struct was before makes no
+/// difference. A refusal leaves zeros in it.
+#[unsafe(no_mangle)]
+pub extern "C" fn aeadkit_siv_init(
+    siv: &mut StoredPasses,
+    suite: u32,
+    key: &[u8],
+    nonce: &[u8],
+    aad: &[u8],
+) -> u32
+    ensures known { (named : Suite) → construction_of named ≡ ByGcmSiv
+        → suite ≡ suite_number named → let s = setting_of named key.now nonce.now aad.now in
+        HasOutcome result (HoldsAbsorbing siv.new s []) (BeginRefused s) }
+    ensures unknown { ((named : Suite) → construction_of named ≡ ByGcmSiv
+        → suite ≢ suite_number named) → result ≡ unknown_suite }
+    ensures refused { result ≢ 0 → siv.new ≡ zero_passes }
+{
+    siv.erase();
+    let Some(suite) = siv_numbered(u64::from(suite)) else {
+        return UNKNOWN_SUITE;
+    };
+    match begun(suite, key, nonce, aad) {
+        Ok(state) => {
+            *siv = StoredPasses {
+                mark: mark_of(ABSORBING, suite),
+                state,
+                start: state.sum,
+                tag: [0; 16],
+                first: 0,
+            };
+            outcome_number(Ok(()))
+        }
+        Err(fault) => outcome_number(Err(fault)),
+    }
+}
+
+/// Takes in a piece of the text in the first reading. `TextTooLong` if the text would be past the suite's limit:
+/// the struct is then as before.
+#[unsafe(no_mangle)]
+pub extern "C" fn aeadkit_siv_absorb(siv: &mut StoredPasses, piece: &[u8]) -> u32
+    ensures holds { (s : Setting) (text : List ℕ) → Absorbs siv.old siv.new piece.now result s text }
+    ensures not_begun { NotIn absorbing siv.old → result ≡ not_begun }
+    ensures kept { result ≢ 0 → siv.new ≡ siv.old }
+{
+    let Some(suite) = siv_marked(ABSORBING, siv.mark) else {
+        return NOT_BEGUN;
+    };
+    if take_siv(&mut siv.state, suite, piece) {
+        outcome_number(Ok(()))
+    } else {
+        outcome_number(Err(Fault::TextTooLong))
+    }
+}
+
+/// Ends the first reading, gives the tag of its text, and begins the second reading, which has taken in nothing
+/// yet.
+#[unsafe(no_mangle)]
+pub extern "C" fn aeadkit_siv_tag(siv: &mut StoredPasses, tag: &mut [u8; 16]) -> u32
+    ensures holds { (s : Setting) (text : List ℕ) → Tags siv.old siv.new tag.new result s text }
+    ensures not_begun { NotIn absorbing siv.old → result ≡ not_begun }
+    ensures kept { result ≢ 0 → (siv.new ≡ siv.old) × (tag.new ≡ tag.old) }
+{
+    let Some(suite) = siv_marked(ABSORBING, siv.mark) else {
+        return NOT_BEGUN;
+    };
+    *tag = *tag_by::<PolyvalTag<TableMul, AesKey>>(&siv.state, suite).bytes();
+    siv.mark = mark_of(WRITING, suite);
+    siv.tag = *tag;
+    siv.first = siv.state.length;
+    siv.state = siv.state.restarted(siv.start);
+    outcome_number(Ok(()))
+}
+
+/// Takes in a piece of the text in the second reading, and leaves its ciphertext in its place. `SourceChanged` if
+/// the second text would be longer than the first: struct and piece are then as before.
+#[unsafe(no_mangle)]
+pub extern "C" fn aeadkit_siv_update(siv: &mut StoredPasses, piece: &mut [u8]) -> u32
+    ensures holds { (s : Setting) (first text : List ℕ)
+        → Encrypts siv.old siv.new piece.old piece.new result s first text }
+    ensures not_begun { NotIn writing siv.old → result ≡ not_begun }
+    ensures kept { result ≢ 0 → (siv.new ≡ siv.old) × (piece.new ≡ piece.old) }
+{
+    let Some(suite) = siv_marked(WRITING, siv.mark) else {
+        return NOT_BEGUN;
+    };
+    let limit = siv.first.min(suite.text_limit());
+    if mask_siv(&mut siv.state, suite, &siv.tag, limit, piece) {
+        outcome_number(Ok(()))
+    } else {
+        outcome_number(Err(Fault::SourceChanged))
+    }
+}
+
+/// Ends the second reading, and leaves zeros in the struct. `SourceChanged` if its text has another length or
+/// another tag than that of the first one: what update gave is then of no use.
+#[unsafe(no_mangle)]
+pub extern "C" fn aeadkit_siv_finish(siv: &mut StoredPasses) -> u32
+    ensures holds { (s : Setting) (first text : List ℕ) → Ends siv.old result s first text }
+    ensures not_begun { NotIn writing siv.old → (result ≡ not_begun) × (siv.new ≡ siv.old) }
+    ensures ended { result ≢ not_begun → siv.new ≡ zero_passes }
+{
+    let Some(suite) = siv_marked(WRITING, siv.mark) else {
+        return NOT_BEGUN;
+    };
+    let repeats = siv.repeats(suite);
+    siv.erase();
+    if repeats {
+        outcome_number(Ok(()))
+    } else {
+        outcome_number(Err(Fault::SourceChanged))
+    }
+}
+
+/// The bytes of the struct that the calls of a sealing by two readings take.
+#[unsafe(no_mangle)]
+pub extern "C" fn aeadkit_siv_size() -> usize
+    ensures { result ≡ 200 }
+{
+    size_of::<StoredPasses>()
+}
+
+#[cfg(test)]
+mod tests {
+    use super::super::aeadkit_seal;
+    use super::*;
+    use std::process::Abort;
+
+    // The sealing of eight bytes of RFC 8452, C.1.
+    const SEALED: [u8; 24] = [
+        0xb5, 0xd8, 0x39, 0x33, 0x0a, 0xc7, 0xb7, 0x86, 0x57, 0x87, 0x82, 0xff, 0xf6, 0x01, 0x3b,
+        0x81, 0x5b, 0x28, 0x7c, 0x22, 0x49, 0x3a, 0x36, 0x4c,
+    ];
+
+    // Seals a text in two pieces, each reading, with any struct. Returns whether each call was done.
+    fn sealed_in_two(
+        siv: &mut StoredPasses,
+        suite: u32,
+        keys: (&[u8], &[u8], &[u8]),
+        first: &mut [u8],
+        second: &mut [u8],
+        tag: &mut [u8; 16],
+    ) -> bool
+        ensures { (named : Suite) → construction_of named ≡ ByGcmSiv → suite ≡ suite_number named
+            → let s = setting_of named keys.entry.0.now keys.entry.1.now keys.entry.2.now in
+            let text = first.old ++ second.old in result ≡ true
+            → (first.new ++ second.new ≡ masked (mask_of s (tag_of s text)) 0 text)
+            × (tag.new ≡ tag_of s text) }
+    {
+        let (key, nonce, aad) = keys;
+        if aeadkit_siv_init(siv, suite, key, nonce, aad) != 0 {
+            return false;
+        }
+        if aeadkit_siv_absorb(siv, first) != 0 {
+            return false;
+        }
+        if aeadkit_siv_absorb(siv, second) != 0 {
+            return false;
+        }
+        if aeadkit_siv_tag(siv, tag) != 0 {
+            return false;
+        }
+        if aeadkit_siv_update(siv, first) != 0 {
+            return false;
+        }
+        if aeadkit_siv_update(siv, second) != 0 {
+            return false;
+        }
+        aeadkit_siv_finish(siv) == 0
+    }
+
+    #[test]
+    fn a_published_sealing_in_two_pieces(rt: HostRuntime) {
+        let mut key = [0; 16];
+        key[0] = 1;
+        let mut nonce = [0; 12];
+        nonce[0] = 3;
+        let mut text = [1, 0, 0, 0, 0, 0, 0, 0];
+        let (first, second) = text.split_at_mut(3);
+        let mut tag = [0; 16];
+        let mut siv = StoredPasses::zeros();
+        let keys = (key.as_slice(), nonce.as_slice(), [].as_slice());
+        assert!(rt; sealed_in_two(&mut siv, 5, keys, first, second, &mut tag));
+        let (body, last) = SEALED.split_at(8);
+        assert!(rt; body == text.as_slice() && last == tag.as_slice());
+        assert!(rt; aeadkit_siv_finish(&mut siv) == 15);
+    }
+
+    #[test]
+    fn two_readings_give_the_sealing(rt: HostRuntime) {
+        for (suite, size) in [(5, 16), (6, 32)] {
+            let (key, nonce) = (&[7; 32][..size], &[9; 12]);
+            let mut sealed = [1; 3016];
+            assert!(rt; aeadkit_seal(suite, key, nonce, b"to", &mut sealed) == 0);
+            let mut text = [1; 3000];
+            let (first, second) = text.split_at_mut(277);
+            let mut tag = [0; 16];
+            let mut siv = StoredPasses::zeros();
+            let keys = (key, nonce.as_slice(), b"to".as_slice());
+            assert!(rt; sealed_in_two(&mut siv, suite, keys, first, second, &mut tag));
+            let (body, last) = sealed.split_at(3000);
+            assert!(rt; body == text.as_slice() && last == tag.as_slice());
+        }
+    }
+
+    // A key and a nonce of n bytes are the first n of these.
+    const ZEROS: [u8; 32] = [0; 32];
+
+    #[test]
+    fn the_numbers_of_refusals(rt: HostRuntime) {
+        let mut siv = StoredPasses::zeros();
+        let mut piece = [5; 3];
+        let mut tag = [0; 16];
+        assert!(rt; aeadkit_siv_absorb(&mut siv, &piece) == 15);
+        assert!(rt; aeadkit_siv_init(&mut siv, 4, &ZEROS, &ZEROS[..12], &[]) == 14);
+        assert!(rt; aeadkit_siv_init(&mut siv, 5, &ZEROS[..24], &[], &[]) == 1);
+        assert!(rt; aeadkit_siv_init(&mut siv, 6, &ZEROS, &[], &[]) == 2);
+        assert!(rt; aeadkit_siv_init(&mut siv, 6, &ZEROS, &ZEROS[..12], &[]) == 0);
+        // no ciphertext before the first reading is over
+        assert!(rt; aeadkit_siv_update(&mut siv, &mut piece) == 15);
+        assert!(rt; aeadkit_siv_finish(&mut siv) == 15);
+        assert!(rt; aeadkit_siv_absorb(&mut siv, &piece) == 0);
+        siv.state.length = (1 << 36) - 2;
+        assert!(rt; aeadkit_siv_absorb(&mut siv, &piece) == 3);
+        siv.state.length = 3;
+        assert!(rt; aeadkit_siv_tag(&mut siv, &mut tag) == 0);
+        // the first reading is over
+        assert!(rt; aeadkit_siv_absorb(&mut siv, &piece) == 15);
+        assert!(rt; aeadkit_siv_tag(&mut siv, &mut tag) == 15);
+        assert!(rt; piece == [5; 3]);
+    }
+
+    // Reads a text of three bytes twice. Returns the status of finish.
+    fn read_twice(rt: &impl Abort, siv: &mut StoredPasses, again: &mut [u8]) -> u32 {
+        let mut tag = [0; 16];
+        assert!(rt; aeadkit_siv_init(siv, 5, &ZEROS[..16], &ZEROS[..12], &[]) == 0);
+        assert!(rt; aeadkit_siv_absorb(siv, &[5, 6, 7]) == 0);
+        assert!(rt; aeadkit_siv_tag(siv, &mut tag) == 0);
+        assert!(rt; aeadkit_siv_update(siv, again) == 0);
+        aeadkit_siv_finish(siv)
+    }
+
+    #[test]
+    fn a_second_reading_of_another_text(rt: HostRuntime) {
+        let mut siv = StoredPasses::zeros();
+        assert!(rt; read_twice(&rt, &mut siv, &mut [5, 6, 7]) == 0);
+        assert!(rt; read_twice(&rt, &mut siv, &mut [5, 6]) == 13);
+        assert!(rt; read_twice(&rt, &mut siv, &mut [5, 6, 8]) == 13);
+        assert!(rt; siv.mark == 0 && siv.state.key == [0; 32]);
+    }
+
+    #[test]
+    fn a_longer_second_reading(rt: HostRuntime) {
+        let mut siv = StoredPasses::zeros();
+        let mut tag = [0; 16];
+        let mut piece = [5];
+        assert!(rt; aeadkit_siv_init(&mut siv, 5, &ZEROS[..16], &ZEROS[..12], &[]) == 0);
+        assert!(rt; aeadkit_siv_tag(&mut siv, &mut tag) == 0);
+        assert!(rt; aeadkit_siv_update(&mut siv, &mut piece) == 13);
+        assert!(rt; piece == [5]);
+        assert!(rt; aeadkit_siv_finish(&mut siv) == 0);
+    }
+}
