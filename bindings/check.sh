@@ -108,6 +108,13 @@ fi
 if [ -e "$prefix/bin/aeadkit" ]; then
     [ "$("$prefix/bin/aeadkit" --version)" = "aeadkit $version" ]
     grep -q "AEADKIT 1 .*aeadkit $version" "$prefix/share/man/man1/aeadkit.1"
-    bash -n "$prefix/share/bash-completion/completions/aeadkit"
-    echo "ok: aeadkit $version, its man page and completions"
+    shells=
+    for file in bash-completion/completions/aeadkit zsh/site-functions/_aeadkit fish/vendor_completions.d/aeadkit.fish; do
+        shell=${file%%[-/]*}
+        if "$shell" --version > "$room/log" 2>&1; then
+            "$shell" -n "$prefix/share/$file"
+            shells="$shells $shell"
+        fi
+    done
+    echo "ok: aeadkit $version, its man page, and its completions for$shells"
 fi

@@ -124,7 +124,7 @@ zsh_completion() {
             text=$(echo "$text" | sed 's/[]:[]/\\&/g')
             case $word:$value in
             '<FILE>':*) echo "        '1:$text:_files' \\" ;;
-            *:SUITE) echo "        '$word=[$text]:suite:($values)' \\" ;;
+            *:SUITE) echo "        '$word=[The suite]:suite:($values)' \\" ;;
             *:IN | *:OUT) echo "        '$word=[$text]:file:_files' \\" ;;
             *:HEX) echo "        '$word=[$text]:hex: ' \\" ;;
             *) echo "        '$word[$text]' \\" ;;
@@ -140,6 +140,8 @@ fish_completion() {
     for name in $names; do
         echo "complete -c aeadkit -n __fish_use_subcommand -a $name -d '$(about "$name")'"
     done
+    echo "complete -c aeadkit -n __fish_use_subcommand -a help -d 'Print help'"
+    echo "complete -c aeadkit -s h -l help -d 'Print help'"
     echo "complete -c aeadkit -n __fish_use_subcommand -l version -s V -d 'Print version'"
     echo "complete -c aeadkit -n '__fish_seen_subcommand_from help' -a '$(echo $names)'"
     for name in $names; do
@@ -147,8 +149,9 @@ fish_completion() {
         table "$name" | while IFS=$between read -r word value text values; do
             long="-l ${word#--} -d '$text'"
             case $word:$value in
+            --help:*) ;;
             '<FILE>':*) echo "$begin -F -d '$text'" ;;
-            *:SUITE) echo "$begin -x $long -a '$values'" ;;
+            *:SUITE) echo "$begin -x -l ${word#--} -d 'The suite' -a '$values'" ;;
             *:IN | *:OUT) echo "$begin -r -F $long" ;;
             *:HEX) echo "$begin -x $long" ;;
             *) echo "$begin $long" ;;

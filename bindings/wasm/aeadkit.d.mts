@@ -11,7 +11,7 @@ export type Suite = (typeof Suite)[keyof typeof Suite];
 
 export type Fault =
     | "KeyLength" | "NonceLength" | "TextTooLong" | "AadTooLong" | "TooShort" | "TagMismatch" | "WrapLength" | "WrapIntegrity"
-    | "UnknownSuite";
+    | "SourceChanged" | "UnknownSuite" | "NotBegun";
 
 /** Why a call was refused. */
 export class Refused extends Error {
@@ -20,7 +20,7 @@ export class Refused extends Error {
 
 /** The calls of aead.wasm, whose bytes are handed in. */
 export class Aead {
-    constructor(bytes: BufferSource);
+    constructor(bytes: ArrayBuffer | ArrayBufferView);
 
     /** The ciphertext and the tag of 16 bytes. Never seal two texts with one nonce under one key. */
     seal(suite: Suite, key: Uint8Array, nonce: Uint8Array, aad: Uint8Array, text: Uint8Array): Uint8Array;
@@ -29,9 +29,52 @@ export class Aead {
     open(suite: Suite, key: Uint8Array, nonce: Uint8Array, aad: Uint8Array, sealed: Uint8Array): Uint8Array;
 }
 
+/**
+ * A sealing in pieces, under ChaCha20-Poly1305 or AES-GCM: the ciphertext of all pieces, then the tag, is what `seal` makes of
+ * the whole text, for any split into pieces.
+ */
+export class Sealer {
+    /** Begins a sealing by the calls of an `Aead`, of no text yet. `UnknownSuite` for AES-GCM-SIV, which reads a text twice. */
+    constructor(aead: Aead, suite: Suite, key: Uint8Array, nonce: Uint8Array, aad: Uint8Array);
+
+    /** The ciphertext of the next piece of the text, which may have any length. */
+    update(piece: Uint8Array): Uint8Array;
+
+    /** The tag of the text, of 16 bytes. After it the sealer takes no more: `NotBegun`. */
+    finish(): Uint8Array;
+}
+
+/**
+ * An opening in pieces, under ChaCha20-Poly1305 or AES-GCM, in two passes over the ciphertext: `check` each piece, then
+ * `checked`; then `update` each piece again, then `finish`. The passes may be cut into other pieces. No text comes before the
+ * first pass was found to be over a sealing.
+ */
+export class Opener {
+    /** Begins an opening of a sealing with a tag of 16 bytes by the calls of an `Aead`. `UnknownSuite` for AES-GCM-SIV. */
+    constructor(aead: Aead, suite: Suite, key: Uint8Array, nonce: Uint8Array, aad: Uint8Array, tag: Uint8Array);
+
+    /** Takes in the next piece of the ciphertext in the first pass. */
+    check(piece: Uint8Array): void;
+
+    /** Ends the first pass. `TagMismatch` if its pieces and the tag are the sealing of no text; that ends the opening. */
+    checked(): void;
+
+    /**
+     * The text of the next piece of the ciphertext in the second pass. `SourceChanged` if that would be longer than the first;
+     * `NotBegun` before the first pass is over.
+     */
+    update(piece: Uint8Array): Uint8Array;
+
+    /**
+     * Ends the second pass. `SourceChanged` if its pieces and the tag are the sealing of no text: what `update` gave is then to
+     * be thrown away.
+     */
+    finish(): void;
+}
+
 /** The calls of keywrap.wasm, whose bytes are handed in. The key has 16, 24 or 32 bytes. */
 export class KeyWrap {
-    constructor(bytes: BufferSource);
+    constructor(bytes: ArrayBuffer | ArrayBufferView);
 
     /** The wrapping of a text, which has whole blocks of 8 bytes, at least two: 8 bytes more. */
     wrap(key: Uint8Array, text: Uint8Array): Uint8Array;

@@ -16,7 +16,9 @@ const FAULTS = {
     6: ["TagMismatch", "the bytes are the sealing of no text under this suite, key, nonce and associated data"],
     7: ["WrapLength", "the length is none of a text to wrap, or of a wrapping"],
     8: ["WrapIntegrity", "the bytes are the wrapping of no text under this key"],
-    14: ["UnknownSuite", "the suite is none of Suite"],
+    13: ["SourceChanged", "the second pass is over other bytes than the first"],
+    14: ["UnknownSuite", "the call does not take the suite"],
+    15: ["NotBegun", "the sealing or the pass of the opening is over, or not begun"],
 };
 
 /** The numbers of the suites. */
@@ -34,7 +36,7 @@ export class Refused extends Error {
     }
 }
 
-// Throws where an argument is not bytes.
+// Throws if an argument is not bytes.
 function wantBytes(...arrays) {
     for (const array of arrays) {
         if (!(array instanceof Uint8Array)) {
@@ -43,7 +45,7 @@ function wantBytes(...arrays) {
     }
 }
 
-// Throws where a suite is not a number, which a module would read as one.
+// Throws if a suite is not a number, which a module would read as one.
 function wantNumber(suite) {
     if (!Number.isInteger(suite) || suite < 0 || suite >= 2 ** 32) {
         throw new Refused(14);
@@ -62,42 +64,58 @@ function grow(memory, pages) {
     }
 }
 
-// A module with a memory of its own, in which a number of 8 bytes and then the bytes of a call stand past what the module
-// itself uses.
+// The next place that fits a struct.
+const aligned = (place) => 8 * Math.ceil(place / 8);
+
+// Bytes that a call takes by their address alone and may write: a struct, a tag or a number.
+class Struct extends Uint8Array {}
+
+// A module with a memory of its own, in which the bytes of a call stand past what the module itself uses.
 class Module {
     constructor(bytes) {
         this.calls = new WebAssembly.Instance(new WebAssembly.Module(bytes), {}).exports;
-        this.number = 8 * Math.ceil(Number(this.calls.__heap_base.value) / 8);
-        this.heap = this.number + 8;
+        this.heap = aligned(Number(this.calls.__heap_base.value));
     }
 
-    // Calls with a pointer and a length for each array, between the numbers before and behind them. It returns the last array
-    // as it then stands.
-    call(name, before, arrays, behind = []) {
+    // Calls with each word: a pointer to a Struct, which is then as the call left it, a pointer and a length for any other
+    // array, and a number as it is. Returns the arrays as they then stand in the memory.
+    call(name, ...words) {
         const { memory } = this.calls;
-        const end = arrays.reduce((place, array) => place + array.length, this.heap);
+        const placed = [];
+        let end = this.heap;
+        const given = words.flatMap((word) => {
+            if (!(word instanceof Uint8Array)) {
+                return [word];
+            }
+            const place = end;
+            placed.push([word, place]);
+            end = aligned(place + word.length);
+            return word instanceof Struct ? [BigInt(place)] : [BigInt(place), BigInt(word.length)];
+        });
         if (end > memory.buffer.byteLength) {
             grow(memory, Math.ceil((end - memory.buffer.byteLength) / 65536));
         }
-        const room = new Uint8Array(memory.buffer);
-        const slices = [];
-        let place = this.heap;
-        for (const array of arrays) {
-            room.set(array, place);
-            slices.push(BigInt(place), BigInt(array.length));
-            place += array.length;
-        }
-        const status = this.calls[name](...before, ...slices, ...behind);
+        const standing = placed.map(([array, place]) => new Uint8Array(memory.buffer, place, array.length));
+        placed.forEach(([array], i) => standing[i].set(array));
+        const status = this.calls[name](...given);
+        placed.forEach(([array], i) => array instanceof Struct && array.set(standing[i]));
         if (status !== 0) {
             throw new Refused(status);
         }
-        return room.slice(place - arrays.at(-1).length, place);
+        return standing;
     }
 }
+
+// The module of an Aead, for the classes beside it.
+let moduleOf;
 
 /** The calls of aead.wasm, whose bytes are handed in. */
 export class Aead {
     #module;
+
+    static {
+        moduleOf = (aead) => aead.#module;
+    }
 
     constructor(bytes) {
         this.#module = new Module(bytes);
@@ -109,14 +127,93 @@ export class Aead {
         wantBytes(key, nonce, aad, text);
         const room = new Uint8Array(text.length + TAG_BYTES);
         room.set(text);
-        return this.#module.call("aeadkit_seal", [suite], [key, nonce, aad, room]);
+        return this.#module.call("aeadkit_seal", suite, key, nonce, aad, room).at(-1).slice();
     }
 
     /** The text of a sealing. */
     open(suite, key, nonce, aad, sealed) {
         wantNumber(suite);
         wantBytes(key, nonce, aad, sealed);
-        return this.#module.call("aeadkit_open", [suite], [key, nonce, aad, sealed]).slice(0, -TAG_BYTES);
+        return this.#module.call("aeadkit_open", suite, key, nonce, aad, sealed).at(-1).slice(0, -TAG_BYTES);
+    }
+}
+
+/**
+ * A sealing in pieces, under ChaCha20-Poly1305 or AES-GCM: the ciphertext of all pieces, then the tag, is what `seal` makes of
+ * the whole text, for any split into pieces.
+ */
+export class Sealer {
+    #module;
+    #state;
+
+    /** Begins a sealing by the calls of an `Aead`, of no text yet. `UnknownSuite` for AES-GCM-SIV, which reads a text twice. */
+    constructor(aead, suite, key, nonce, aad) {
+        wantNumber(suite);
+        wantBytes(key, nonce, aad);
+        this.#module = moduleOf(aead);
+        this.#state = new Struct(Number(this.#module.calls.aeadkit_sealer_size()));
+        this.#module.call("aeadkit_sealer_init", this.#state, suite, key, nonce, aad);
+    }
+
+    /** The ciphertext of the next piece of the text, which may have any length. */
+    update(piece) {
+        wantBytes(piece);
+        return this.#module.call("aeadkit_sealer_update", this.#state, piece).at(-1).slice();
+    }
+
+    /** The tag of the text, of 16 bytes. After it the sealer takes no more: `NotBegun`. */
+    finish() {
+        return this.#module.call("aeadkit_sealer_finish", this.#state, new Struct(TAG_BYTES)).at(-1).slice();
+    }
+}
+
+/**
+ * An opening in pieces, under ChaCha20-Poly1305 or AES-GCM, in two passes over the ciphertext: `check` each piece, then
+ * `checked`; then `update` each piece again, then `finish`. The passes may be cut into other pieces. No text comes before the
+ * first pass was found to be over a sealing.
+ */
+export class Opener {
+    #module;
+    #state;
+
+    /** Begins an opening of a sealing with a tag of 16 bytes by the calls of an `Aead`. `UnknownSuite` for AES-GCM-SIV. */
+    constructor(aead, suite, key, nonce, aad, tag) {
+        wantNumber(suite);
+        wantBytes(key, nonce, aad, tag);
+        if (tag.length !== TAG_BYTES) {
+            throw new RangeError("the tag is not 16 bytes long");
+        }
+        this.#module = moduleOf(aead);
+        this.#state = new Struct(Number(this.#module.calls.aeadkit_opener_size()));
+        this.#module.call("aeadkit_opener_init", this.#state, suite, key, nonce, aad, new Struct(tag));
+    }
+
+    /** Takes in the next piece of the ciphertext in the first pass. */
+    check(piece) {
+        wantBytes(piece);
+        this.#module.call("aeadkit_opener_check", this.#state, piece);
+    }
+
+    /** Ends the first pass. `TagMismatch` if its pieces and the tag are the sealing of no text; that ends the opening. */
+    checked() {
+        this.#module.call("aeadkit_opener_checked", this.#state);
+    }
+
+    /**
+     * The text of the next piece of the ciphertext in the second pass. `SourceChanged` if that would be longer than the first;
+     * `NotBegun` before the first pass is over.
+     */
+    update(piece) {
+        wantBytes(piece);
+        return this.#module.call("aeadkit_opener_update", this.#state, piece).at(-1).slice();
+    }
+
+    /**
+     * Ends the second pass. `SourceChanged` if its pieces and the tag are the sealing of no text: what `update` gave is then to
+     * be thrown away.
+     */
+    finish() {
+        this.#module.call("aeadkit_opener_finish", this.#state);
     }
 }
 
@@ -133,13 +230,13 @@ export class KeyWrap {
         wantBytes(key, text);
         const room = new Uint8Array(WRAP_BYTES + text.length);
         room.set(text, WRAP_BYTES);
-        return this.#module.call("aeadkit_wrap", [], [key, room]);
+        return this.#module.call("aeadkit_wrap", key, room).at(-1).slice();
     }
 
     /** The text of a wrapping. */
     unwrap(key, wrapped) {
         wantBytes(key, wrapped);
-        return this.#module.call("aeadkit_unwrap", [], [key, wrapped]).slice(WRAP_BYTES);
+        return this.#module.call("aeadkit_unwrap", key, wrapped).at(-1).slice(WRAP_BYTES);
     }
 
     /** The wrapping with padding of a text of 1 to 2^32 - 1 bytes. */
@@ -147,15 +244,14 @@ export class KeyWrap {
         wantBytes(key, text);
         const room = new Uint8Array(WRAP_BYTES + 8 * Math.ceil(text.length / 8));
         room.set(text, WRAP_BYTES);
-        return this.#module.call("aeadkit_wrap_padded", [], [key, room], [BigInt(text.length)]);
+        return this.#module.call("aeadkit_wrap_padded", key, room, BigInt(text.length)).at(-1).slice();
     }
 
     /** The text of a wrapping with padding. */
     unwrapPadded(key, wrapped) {
         wantBytes(key, wrapped);
-        const { calls, number } = this.#module;
-        const room = this.#module.call("aeadkit_unwrap_padded", [], [key, wrapped], [BigInt(number)]);
-        const length = Number(new DataView(calls.memory.buffer).getBigUint64(number, true));
-        return room.slice(WRAP_BYTES, WRAP_BYTES + length);
+        const length = new Struct(8);
+        const room = this.#module.call("aeadkit_unwrap_padded", key, wrapped, length)[1];
+        return room.slice(WRAP_BYTES, WRAP_BYTES + Number(new DataView(length.buffer).getBigUint64(0, true)));
     }
 }

@@ -1,7 +1,7 @@
 // Seals, opens, refuses, wraps and unwraps published vectors, by the package that is installed.
 
 import assert from "node:assert";
-import { Refused, Suite, aead, keywrap } from "aeadkit/node";
+import { Opener, Refused, Sealer, Suite, aead, keywrap } from "aeadkit/node";
 
 const bytes = (hex) => Uint8Array.from(hex.match(/../g) ?? [], (digits) => parseInt(digits, 16));
 const hex = (array) => Array.from(array, (byte) => byte.toString(16).padStart(2, "0")).join("");
@@ -27,6 +27,10 @@ for (const other of ["a text", [1, 2], 16, undefined, null, new ArrayBuffer(16)]
     assert.throws(() => aead.seal(Suite.AES_128_GCM, zero, nonce, none, other), TypeError);
     assert.throws(() => aead.seal(Suite.AES_128_GCM, other, nonce, none, zero), TypeError);
     assert.throws(() => aead.open(Suite.AES_128_GCM, zero, nonce, other, zero), TypeError);
+    assert.throws(() => new Sealer(aead, Suite.AES_128_GCM, zero, nonce, other), TypeError);
+    assert.throws(() => new Sealer(aead, Suite.AES_128_GCM, zero, nonce, none).update(other), TypeError);
+    assert.throws(() => new Opener(aead, Suite.AES_128_GCM, zero, nonce, none, other), TypeError);
+    assert.throws(() => new Opener(aead, Suite.AES_128_GCM, zero, nonce, none, zero).check(other), TypeError);
     assert.throws(() => keywrap.wrap(zero, other), TypeError);
     assert.throws(() => keywrap.wrapPadded(zero, other), TypeError);
 }
@@ -41,6 +45,53 @@ const key = new Uint8Array(32);
 const long = new Uint8Array(4 << 20).fill(1);
 const longSealed = aead.seal(Suite.CHACHA20_POLY1305, key, nonce, none, long);
 assert.deepEqual(aead.open(Suite.CHACHA20_POLY1305, key, nonce, none, longSealed), long);
+
+// A text in pieces has the sealing of the whole text, and is opened in two passes that are cut into other pieces.
+const split = (array, size) =>
+    Array.from({ length: Math.ceil(array.length / size) }, (_, i) => array.subarray(size * i, size * (i + 1)));
+const joined = (arrays) => Uint8Array.from(arrays.flatMap((array) => [...array]));
+const text = Uint8Array.from({ length: 1000 }, (_, i) => i);
+const aad = bytes("64617461");
+for (const [name, length] of [["CHACHA20_POLY1305", 32], ["AES_128_GCM", 16], ["AES_192_GCM", 24], ["AES_256_GCM", 32]]) {
+    const words = [Suite[name], new Uint8Array(length).fill(7), nonce, aad];
+    const whole = aead.seal(...words, text);
+    const [body, tag] = [whole.subarray(0, -16), whole.subarray(-16)];
+    for (const size of [1, 15, 16, 17, 333, 1000]) {
+        const sealer = new Sealer(aead, ...words);
+        const ciphertext = split(text, size).flatMap((piece) => [sealer.update(piece), sealer.update(none)]);
+        assert.deepEqual(joined([...ciphertext, sealer.finish()]), whole);
+        refuses("NotBegun", () => sealer.update(none));
+        refuses("NotBegun", () => sealer.finish());
+
+        const opener = new Opener(aead, ...words, tag);
+        split(body, size).forEach((piece) => opener.check(piece));
+        refuses("NotBegun", () => opener.update(body));
+        opener.checked();
+        refuses("NotBegun", () => opener.check(body));
+        assert.deepEqual(joined(split(body, 1001 - size).map((piece) => opener.update(piece))), text);
+        refuses("SourceChanged", () => opener.update(zero));
+        opener.finish();
+        refuses("NotBegun", () => opener.finish());
+    }
+    const mismatched = new Opener(aead, ...words, zero);
+    mismatched.check(body);
+    refuses("TagMismatch", () => mismatched.checked());
+    refuses("NotBegun", () => mismatched.checked());
+    const changed = new Opener(aead, ...words, tag);
+    changed.check(body);
+    changed.checked();
+    changed.update(text);
+    refuses("SourceChanged", () => changed.finish());
+}
+// Two sealings that go on in turns.
+const [one, other] = [none, aad].map((data) => new Sealer(aead, Suite.AES_128_GCM, zero, nonce, data));
+assert.deepEqual(one.update(zero), other.update(zero));
+assert.equal(hex(one.finish()), "ab6e47d42cec13bdf53a67b21257bddf");
+assert.deepEqual(other.finish(), aead.seal(Suite.AES_128_GCM, zero, nonce, aad, zero).subarray(16));
+refuses("UnknownSuite", () => new Sealer(aead, Suite.AES_128_GCM_SIV, zero, nonce, none));
+refuses("UnknownSuite", () => new Opener(aead, Suite.AES_128_GCM_SIV, zero, nonce, none, zero));
+refuses("NonceLength", () => new Sealer(aead, Suite.AES_128_GCM, zero, zero, none));
+assert.throws(() => new Opener(aead, Suite.AES_128_GCM, zero, nonce, none, none), RangeError);
 
 // RFC 3394, 4.1.
 const wrapped = keywrap.wrap(bytes("000102030405060708090a0b0c0d0e0f"), bytes("00112233445566778899aabbccddeeff"));

@@ -72,7 +72,7 @@ class SourceChanged(Refused):
 
 
 class UnknownSuite(Refused):
-    message = "the suite is none of Suite"
+    message = "the call does not take the suite"
 
 
 class NotBegun(Refused):
