@@ -12,18 +12,13 @@ ghost use Rattle.aead.specs.Code.States.{MadeByChaCha, MadeByGcm, MadeByGcmSiv};
 ghost use Rattle.aead.specs.Code.Steps.{MasksPiece};
 
 use super::stored::{StoredHash, StoredSealer};
-<<<<<<< HEAD
-use crate::beside::Order;
-use crate::hashes::GhashTag;
-use crate::multiples::{Multiples, worth};
-=======
 use crate::beside::{HashFirst, Order};
 use crate::derived_keys::expanded;
-use crate::gcm::{LONG, SHORT, counter_block};
+use crate::gcm::counter_block;
 use crate::gcm_siv::counter_block as tag_counter_block;
 use crate::hashes::{GhashTag, PolyvalTag};
 use crate::mask::MaskStream;
->>>>>>> 0653993c9bba267fb21c0cf8c4a80a26206f01e7
+use crate::multiples::{Multiples, worth};
 use crate::suite::Suite;
 use aes::{AesKey, CtrBe, CtrLe};
 use chacha::ChaStream;
@@ -87,8 +82,6 @@ pub(super) fn is_chacha(suite: Suite) -> bool
     }
 }
 
-<<<<<<< HEAD
-=======
 // The suite of a number, if it is one of AES-GCM-SIV.
 pub(super) fn siv_numbered(number: u64) -> Option<Suite>
     ensures { (suite : Suite) → (result ≡ Some suite)
@@ -112,28 +105,6 @@ pub(super) fn siv_marked(kind: u64, mark: u64) -> Option<Suite>
     }
 }
 
-// ---- the multiples of the hash key
-
-// The multiples that the hash of a piece takes. Each piece makes them anew.
-#[derive(Clone, Copy)]
-enum Multiples {
-    Few,
-    AtEightPlaces,
-    OfFourPowers,
-}
-
-// Those that a piece of so many bytes is worth.
-fn worth(length: usize) -> Multiples {
-    if length < SHORT {
-        Multiples::Few
-    } else if length < LONG {
-        Multiples::AtEightPlaces
-    } else {
-        Multiples::OfFourPowers
-    }
-}
-
->>>>>>> 0653993c9bba267fb21c0cf8c4a80a26206f01e7
 // ---- masking a piece
 
 // The key stream of ChaCha20-Poly1305 from where the pass is.
@@ -194,16 +165,11 @@ fn mask_gcm<R: Order>(state: &mut StoredSealer, suite: Suite, order: &R, piece: 
     ensures { (s : Setting) (tag fed : List ℕ) → s.suite ≡ suite
         → MasksPiece (HoldsOf ByGcm) R.hashed state.old state.new piece.old piece.new s tag fed }
 {
-<<<<<<< HEAD
-    match worth(piece.len() as u64) {
-        Multiples::Few => mask_by::<GhashTag<TableMul>, R>(state, suite, order, limit, piece),
-=======
     let mut mask = gcm_stream(state, suite);
-    match worth(piece.len()) {
+    match worth(piece.len() as u64) {
         Multiples::Few => {
             mask_by::<GhashTag<TableMul>, CtrBe, R>(state, suite, &mut mask, order, piece)
         }
->>>>>>> 0653993c9bba267fb21c0cf8c4a80a26206f01e7
         Multiples::AtEightPlaces => {
             mask_by::<GhashTag<PlacedMul>, CtrBe, R>(state, suite, &mut mask, order, piece)
         }
@@ -261,7 +227,7 @@ pub(super) fn mask_siv(
         return false;
     }
     let mut mask = siv_stream(state, suite, tag);
-    match worth(piece.len()) {
+    match worth(piece.len() as u64) {
         Multiples::Few => {
             mask_by::<PolyvalTag<TableMul, AesKey>, CtrLe, HashFirst>(
                 state, suite, &mut mask, &HashFirst, piece,
@@ -341,7 +307,7 @@ pub(super) fn take_siv(state: &mut StoredSealer, suite: Suite, piece: &[u8]) -> 
     ensures past { result ≡ false → text_limit suite < state.old.length + length piece.now }
     ensures kept { result ≡ false → state.new ≡ state.old }
 {
-    match worth(piece.len()) {
+    match worth(piece.len() as u64) {
         Multiples::Few => take_by::<PolyvalTag<TableMul, AesKey>>(state, suite, piece),
         Multiples::AtEightPlaces => take_by::<PolyvalTag<PlacedMul, AesKey>>(state, suite, piece),
         Multiples::OfFourPowers => take_by::<PolyvalTag<WideMul, AesKey>>(state, suite, piece),
