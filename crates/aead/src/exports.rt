@@ -5,7 +5,7 @@ ghost use Rattle.octets.specs.Numbers.{HasOutcome};
 ghost use Rattle.aead.specs.declared.suite.Suite.{Suite};
 ghost use Rattle.aead.specs.Suites.{key_length};
 ghost use Rattle.aead.specs.Ciphers.{setting};
-ghost use Rattle.aead.specs.Exports.{suite_number, unknown_suite, setting_of, HasLengths};
+ghost use Rattle.aead.specs.Exports.{suite_number, unknown_suite, setting_of};
 ghost use Rattle.aead.specs.Exports.{WasSealed, WasNotSealed, WasOpened, WasNotOpened};
 
 use crate::aead::Cipher;
@@ -40,28 +40,7 @@ fn suite_numbered(number: u32) -> Option<Suite>
     }
 }
 
-// Seals the bytes before the last sixteen, which become the tag.
-fn seal_room<C: Cipher>(
-    cipher: &C,
-    nonce: &Nonce,
-    aad: &[u8],
-    bytes: &mut [u8],
-) -> Result<(), Fault>
-    ensures { let s = setting (C.keyed cipher.now) nonce.now aad.now in HasLengths s →
-        MatchResult result (λ _. WasSealed s bytes.old bytes.new) (WasNotSealed s bytes.old bytes.new) }
-{
-    let suite = cipher.suite();
-    suite.check_aad(aad)?;
-    let Some((body, last)) = bytes.split_last_chunk_mut() else {
-        return Err(Fault::TooShort);
-    };
-    suite.check_text(body)?;
-    let tag = cipher.seal_fitting(nonce, aad, body);
-    *last = *tag.bytes();
-    Ok(())
-}
-
-// Seals under the bytes of a nonce.
+// Seals the bytes before the last sixteen, which become the tag, under the bytes of a nonce.
 fn seal_under<C: Cipher>(
     cipher: &C,
     nonce: &[u8],
@@ -73,7 +52,15 @@ fn seal_under<C: Cipher>(
         MatchResult result (λ _. WasSealed s bytes.old bytes.new) (WasNotSealed s bytes.old bytes.new) }
 {
     let nonce = Nonce::from_slice(nonce)?;
-    seal_room(cipher, &nonce, aad, bytes)
+    let suite = cipher.suite();
+    suite.check_aad(aad)?;
+    let Some((body, last)) = bytes.split_last_chunk_mut() else {
+        return Err(Fault::TooShort);
+    };
+    suite.check_text(body)?;
+    let tag = cipher.seal_fitting(&nonce, aad, body);
+    *last = *tag.bytes();
+    Ok(())
 }
 
 // Seals under the bytes of a key and a nonce. A cipher of its own suite is smaller than one of any suite.
@@ -92,52 +79,21 @@ fn seal_bytes(
     }
     match suite {
         Suite::ChaCha20Poly1305 => {
-            seal_under(
-                &ChaChaPoly::new(&Key32::from_slice(key)?),
-                nonce,
-                aad,
-                bytes,
-            )
+            let cipher = ChaChaPoly::new(&Key32::from_slice(key)?);
+            seal_under(&cipher, nonce, aad, bytes)
         }
         Suite::Aes128Gcm | Suite::Aes192Gcm | Suite::Aes256Gcm => {
-            seal_under(
-                &Gcm::new(suite, AesKey::from_slice(key)?),
-                nonce,
-                aad,
-                bytes,
-            )
+            let cipher = Gcm::new(suite, AesKey::from_slice(key)?);
+            seal_under(&cipher, nonce, aad, bytes)
         }
         Suite::Aes128GcmSiv | Suite::Aes256GcmSiv => {
-            seal_under(
-                &GcmSiv::new(suite, AesKey::from_slice(key)?),
-                nonce,
-                aad,
-                bytes,
-            )
+            let cipher = GcmSiv::new(suite, AesKey::from_slice(key)?);
+            seal_under(&cipher, nonce, aad, bytes)
         }
     }
 }
 
-// Opens the bytes before the last sixteen, which are the tag.
-fn open_room<C: Cipher>(
-    cipher: &C,
-    nonce: &Nonce,
-    aad: &[u8],
-    bytes: &mut [u8],
-) -> Result<(), Fault>
-    ensures { let s = setting (C.keyed cipher.now) nonce.now aad.now in HasLengths s →
-        MatchResult result (λ _. WasOpened s bytes.old bytes.new) (WasNotOpened s bytes.old bytes.new) }
-{
-    let suite = cipher.suite();
-    suite.check_aad(aad)?;
-    let Some((body, last)) = bytes.split_last_chunk_mut() else {
-        return Err(Fault::TooShort);
-    };
-    suite.check_text(body)?;
-    cipher.open_fitting(nonce, aad, body, &Tag::new(*last))
-}
-
-// Opens under the bytes of a nonce.
+// Opens the bytes before the last sixteen, which are the tag, under the bytes of a nonce.
 fn open_under<C: Cipher>(
     cipher: &C,
     nonce: &[u8],
@@ -149,7 +105,13 @@ fn open_under<C: Cipher>(
         MatchResult result (λ _. WasOpened s bytes.old bytes.new) (WasNotOpened s bytes.old bytes.new) }
 {
     let nonce = Nonce::from_slice(nonce)?;
-    open_room(cipher, &nonce, aad, bytes)
+    let suite = cipher.suite();
+    suite.check_aad(aad)?;
+    let Some((body, last)) = bytes.split_last_chunk_mut() else {
+        return Err(Fault::TooShort);
+    };
+    suite.check_text(body)?;
+    cipher.open_fitting(&nonce, aad, body, &Tag::new(*last))
 }
 
 // Opens under the bytes of a key and a nonce. A cipher of its own suite is smaller than one of any suite.
@@ -168,28 +130,16 @@ fn open_bytes(
     }
     match suite {
         Suite::ChaCha20Poly1305 => {
-            open_under(
-                &ChaChaPoly::new(&Key32::from_slice(key)?),
-                nonce,
-                aad,
-                bytes,
-            )
+            let cipher = ChaChaPoly::new(&Key32::from_slice(key)?);
+            open_under(&cipher, nonce, aad, bytes)
         }
         Suite::Aes128Gcm | Suite::Aes192Gcm | Suite::Aes256Gcm => {
-            open_under(
-                &Gcm::new(suite, AesKey::from_slice(key)?),
-                nonce,
-                aad,
-                bytes,
-            )
+            let cipher = Gcm::new(suite, AesKey::from_slice(key)?);
+            open_under(&cipher, nonce, aad, bytes)
         }
         Suite::Aes128GcmSiv | Suite::Aes256GcmSiv => {
-            open_under(
-                &GcmSiv::new(suite, AesKey::from_slice(key)?),
-                nonce,
-                aad,
-                bytes,
-            )
+            let cipher = GcmSiv::new(suite, AesKey::from_slice(key)?);
+            open_under(&cipher, nonce, aad, bytes)
         }
     }
 }
