@@ -23,6 +23,12 @@ else
     mkdir "$room/node_modules"
     cp -R "$package" "$room/node_modules/aeadkit"
 fi
+if ! tsc --version > "$room/log" 2>&1; then
+    by="$by; left out: the types, no tsc"
+else
+    strict="--strict --noEmit --target es2022 --lib es2022 --module nodenext --moduleResolution nodenext"
+    (cd "$room" && tsc $strict node_modules/aeadkit/node.d.mts) || exit 1
+fi
 if (cd "$room" && { node example.mjs || node --experimental-wasm-memory64 example.mjs; }) > "$room/log" 2>&1; then
     echo "ok: JavaScript ($by)"
 else

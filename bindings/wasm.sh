@@ -22,6 +22,7 @@ copy "$repository" "$room" wasm64
 # A kit like rt's own, whose clang compiles vectors to simd128, which hosts with 64-bit addresses have. Without it vectors are
 # compiled a lane at a time, and AES-GCM is 10 times slower.
 kit=$(dirname "$(dirname "$(realpath "$(command -v rt)")")")
+[ -x "$kit/toolchain/bin/clang" ] || { echo "rt is not in a kit" >&2; exit 1; }
 clang=$room/kit/toolchain/bin/clang
 rm -rf "$room/kit"
 mkdir "$room/kit"
