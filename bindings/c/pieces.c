@@ -36,17 +36,17 @@ enum { LONGEST = 20000 };
 
 static uint8_t whole[LONGEST + 16], pieces[LONGEST + 1], text[LONGEST];
 
-/* A random text under random keys, in `text`, and its sealing in `whole`. */
+/* A random text under random keys of a suite, in `text`, and its sealing in `whole`. */
 struct message {
     uint32_t suite;
     size_t key_length, aad_length, length, longest;
     uint8_t key[32], nonce[12], aad[70];
 };
 
-static struct message message_of(long number) {
+static struct message message_of(long number, uint32_t suite) {
     struct message m;
-    m.suite = 1 + (uint32_t)(random_word() % 4);
-    m.key_length = m.suite == 2 ? 16 : m.suite == 3 ? 24 : 32;
+    m.suite = suite;
+    m.key_length = suite == 2 || suite == 5 ? 16 : suite == 3 ? 24 : 32;
     m.aad_length = random_word() % 70;
     m.length = random_word() % (number % 100 == 0 ? LONGEST : number % 10 == 0 ? 3000 : 300);
     m.longest = number % 3 == 0 ? 20 : number % 3 == 1 ? 300 : LONGEST;
@@ -68,7 +68,7 @@ static size_t next_of(const struct message *m, size_t done) {
 
 /* A random text, sealed whole and in random pieces between which the struct is moved. */
 static void seal_in_pieces(long number) {
-    struct message m = message_of(number);
+    struct message m = message_of(number, 1 + (uint32_t)(random_word() % 4));
     size_t length = m.length;
     uint8_t tag[16];
     memcpy(pieces, text, length);
@@ -97,7 +97,7 @@ static void seal_in_pieces(long number) {
 /* A random sealing, opened in two passes of random pieces, between which the struct is moved. Of five cases one has a changed
    bit, one a second pass with a changed bit, and one a longer second pass. */
 static void open_in_pieces(long number) {
-    struct message m = message_of(number);
+    struct message m = message_of(number, 1 + (uint32_t)(random_word() % 4));
     size_t length = m.length, bit = random_word() % (8 * (length + 16));
     enum { CHANGED, CHANGED_LATER, LONGER } way = (int)(random_word() % 5);
     if (way == CHANGED) whole[bit / 8] ^= (uint8_t)(1 << bit % 8);
@@ -150,6 +150,61 @@ static void open_in_pieces(long number) {
     want(!memcmp(pieces, text, length) && !memcmp(whole, text, length), "another text", number);
     want(all((uint8_t *)&opener, sizeof opener, 0), "not zeros after finish", number);
     want(aeadkit_opener_finish(&opener) == AEADKIT_NOT_BEGUN, "finished twice", number);
+}
+
+/* A random text, sealed whole and by two readings of random pieces, between which the struct is moved. Of five cases one has a
+   second reading with a changed bit, one a shorter second reading, and one a longer one. */
+static void seal_by_two_readings(long number) {
+    struct message m = message_of(number, 5 + (uint32_t)(random_word() % 2));
+    size_t length = m.length, again = length, bit = random_word() % (8 * (length + 1));
+    enum { CHANGED, SHORTER, LONGER } way = (int)(random_word() % 5);
+    uint8_t tag[16], kept[16];
+    memcpy(pieces, text, length);
+    struct aeadkit_siv siv, moved;
+    random_bytes((uint8_t *)&siv, sizeof siv);
+    want(aeadkit_siv_init(&siv, m.suite, m.key, m.key_length, m.nonce, 12, m.aad, m.aad_length) == AEADKIT_DONE, "siv_init",
+         number);
+    for (size_t done = 0; done < length;) {
+        size_t next = next_of(&m, done);
+        moved = siv;
+        memset(&siv, 0x5a, sizeof siv);
+        siv = moved;
+        want(aeadkit_siv_absorb(&siv, pieces + done, next) == AEADKIT_DONE, "absorb", number);
+        done += next;
+    }
+    moved = siv;
+    want(aeadkit_siv_update(&siv, pieces, length) == AEADKIT_NOT_BEGUN, "ciphertext before the tag", number);
+    want(aeadkit_siv_finish(&siv) == AEADKIT_NOT_BEGUN, "finished before the tag", number);
+    want(!memcmp(pieces, text, length) && !memcmp(&siv, &moved, sizeof siv), "changed before the tag", number);
+    want(aeadkit_siv_tag(&siv, tag) == AEADKIT_DONE && !memcmp(whole + length, tag, 16), "another tag", number);
+    moved = siv;
+    memcpy(kept, tag, 16);
+    want(aeadkit_siv_absorb(&siv, pieces, length) == AEADKIT_NOT_BEGUN, "absorbed after the tag", number);
+    want(aeadkit_siv_tag(&siv, tag) == AEADKIT_NOT_BEGUN, "a second tag", number);
+    want(!memcmp(kept, tag, 16) && !memcmp(&siv, &moved, sizeof siv), "changed after the tag", number);
+    int changed = way == CHANGED && bit < 8 * length;
+    if (changed) pieces[bit / 8] ^= (uint8_t)(1 << bit % 8);
+    if (way == SHORTER && length) again = length - 1;
+    for (size_t done = 0; done < again;) {
+        size_t next = next_of(&m, done);
+        if (next > again - done) next = again - done;
+        moved = siv;
+        memset(&siv, 0x5a, sizeof siv);
+        siv = moved;
+        want(aeadkit_siv_update(&siv, pieces + done, next) == AEADKIT_DONE, "siv_update", number);
+        done += next;
+    }
+    if (way == LONGER) {
+        moved = siv;
+        pieces[length] = 0x3c;
+        want(aeadkit_siv_update(&siv, pieces + length, 1) == AEADKIT_SOURCE_CHANGED, "a longer reading", number);
+        want(pieces[length] == 0x3c && !memcmp(&siv, &moved, sizeof siv), "changed by a longer reading", number);
+    }
+    want(aeadkit_siv_finish(&siv) == (changed || again < length ? AEADKIT_SOURCE_CHANGED : AEADKIT_DONE), "siv_finish", number);
+    if (changed) pieces[bit / 8] ^= (uint8_t)(1 << bit % 8);
+    want(!memcmp(pieces, whole, again), "another ciphertext", number);
+    want(all((uint8_t *)&siv, sizeof siv, 0), "not zeros after finish", number);
+    want(aeadkit_siv_finish(&siv) == AEADKIT_NOT_BEGUN, "finished twice", number);
 }
 
 /* A struct of random bytes between guard bytes, by the mark of a suite in three cases of four. */
@@ -227,6 +282,53 @@ static void opener_rubbish(long number, const struct aeadkit_opener marks[2][4])
     want(all(held.before, 64, 0xa5) && all(held.after, 64, 0xa5), "bytes about the struct", number);
 }
 
+/* A struct of a sealing by two readings of random bytes between guard bytes, by the mark of a reading and a suite in three
+   cases of four. */
+static void siv_rubbish(long number, const struct aeadkit_siv marks[2][2]) {
+    struct {
+        uint8_t before[64];
+        struct aeadkit_siv siv;
+        uint8_t after[64];
+    } held;
+    uint8_t piece[400], copy[400], tag[48];
+    memset(&held, 0xa5, sizeof held);
+    random_bytes((uint8_t *)&held.siv, sizeof held.siv);
+    size_t reading = random_word() % 2;
+    if (number % 4) held.siv.private_[0] = marks[reading][random_word() % 2].private_[0];
+    if (number % 3) held.siv.private_[18] = 0x1000000000u - random_word() % 300;
+    if (number % 5) held.siv.private_[24] = held.siv.private_[18] + random_word() % 300;
+    struct aeadkit_siv was = held.siv;
+    size_t length = random_word() % 300;
+    memset(piece, 0x3c, sizeof piece);
+    memcpy(copy, piece, sizeof piece);
+    memset(tag, 0x3c, sizeof tag);
+    int first = number % 4 && !reading, second = number % 4 && reading;
+    uint32_t status = aeadkit_siv_absorb(&held.siv, piece + 50, length);
+    want(first ? status == AEADKIT_DONE || status == AEADKIT_TEXT_TOO_LONG : status == AEADKIT_NOT_BEGUN, "a status of absorb",
+         number);
+    want(!memcmp(piece, copy, sizeof piece), "a piece changed by absorb", number);
+    want(status == AEADKIT_DONE || !memcmp(&was, &held.siv, sizeof was), "changed by a refused absorb", number);
+    was = held.siv;
+    status = aeadkit_siv_update(&held.siv, piece + 50, length);
+    want(second ? status == AEADKIT_DONE || status == AEADKIT_SOURCE_CHANGED : status == AEADKIT_NOT_BEGUN,
+         "a status of siv_update", number);
+    want(all(piece, 50, 0x3c) && all(piece + 50 + length, 350 - length, 0x3c), "bytes about the piece", number);
+    want(status == AEADKIT_DONE || (!memcmp(piece, copy, sizeof piece) && !memcmp(&was, &held.siv, sizeof was)),
+         "changed by a refused siv_update", number);
+    was = held.siv;
+    status = number % 2 ? aeadkit_siv_tag(&held.siv, tag + 16) : aeadkit_siv_finish(&held.siv);
+    want(all(tag, 16, 0x3c) && all(tag + 32, 16, 0x3c), "bytes about the tag", number);
+    if (number % 2 && first) {
+        want(status == AEADKIT_DONE && held.siv.private_[0] != was.private_[0], "a tag of random bytes", number);
+    } else if (number % 2 == 0 && second) {
+        want(status == AEADKIT_SOURCE_CHANGED && all((uint8_t *)&held.siv, sizeof was, 0), "the end of random bytes", number);
+    } else {
+        want(status == AEADKIT_NOT_BEGUN && all(tag, 48, 0x3c) && !memcmp(&was, &held.siv, sizeof was), "the end of no reading",
+             number);
+    }
+    want(all(held.before, 64, 0xa5) && all(held.after, 64, 0xa5), "bytes about the struct", number);
+}
+
 /* Each refusal of init leaves zeros. */
 static void refusals(void) {
     uint8_t key[33] = {0}, nonce[13] = {0};
@@ -252,15 +354,33 @@ static void refusals(void) {
                  == cases[i].status, "a status of opener_init", (long)i);
         want(all((uint8_t *)&opener, sizeof opener, 0), "not zeros after a refused opener_init", (long)i);
     }
+    static const struct {
+        uint32_t suite;
+        size_t key_length, nonce_length;
+        uint32_t status;
+    } siv_cases[] = {
+        {0, 32, 12, AEADKIT_UNKNOWN_SUITE}, {1, 32, 12, AEADKIT_UNKNOWN_SUITE}, {4, 32, 12, AEADKIT_UNKNOWN_SUITE},
+        {7, 32, 12, AEADKIT_UNKNOWN_SUITE}, {5, 32, 12, AEADKIT_KEY_LENGTH},    {6, 16, 11, AEADKIT_KEY_LENGTH},
+        {5, 16, 11, AEADKIT_NONCE_LENGTH},  {6, 32, 13, AEADKIT_NONCE_LENGTH},
+    };
+    for (size_t i = 0; i < sizeof siv_cases / sizeof siv_cases[0]; i++) {
+        struct aeadkit_siv siv;
+        random_bytes((uint8_t *)&siv, sizeof siv);
+        want(aeadkit_siv_init(&siv, siv_cases[i].suite, key, siv_cases[i].key_length, nonce, siv_cases[i].nonce_length, NULL, 0)
+                 == siv_cases[i].status, "a status of siv_init", (long)i);
+        want(all((uint8_t *)&siv, sizeof siv, 0), "not zeros after a refused siv_init", (long)i);
+    }
 }
 
 int main(int count, char **words) {
     long splits = count > 1 ? atol(words[1]) : 100000, structs = count > 2 ? atol(words[2]) : 1000000;
     want(aeadkit_sealer_size() == sizeof(struct aeadkit_sealer), "the size of the sealer", 0);
     want(aeadkit_opener_size() == sizeof(struct aeadkit_opener), "the size of the opener", 0);
+    want(aeadkit_siv_size() == sizeof(struct aeadkit_siv), "the size of the siv", 0);
     refusals();
     struct aeadkit_sealer marks[4], sealer;
     struct aeadkit_opener opener_marks[2][4];
+    struct aeadkit_siv siv_marks[2][2];
     static const size_t key_lengths[4] = {32, 16, 24, 32};
     uint8_t zeros[32] = {0}, tag[16];
     for (uint32_t i = 0; i < 4; i++) {
@@ -273,13 +393,21 @@ int main(int count, char **words) {
         *second = *first;
         want(aeadkit_opener_checked(second) == AEADKIT_DONE, "checked", i);
     }
+    for (uint32_t i = 0; i < 2; i++) {
+        struct aeadkit_siv *first = &siv_marks[0][i], *second = &siv_marks[1][i];
+        want(aeadkit_siv_init(first, i + 5, zeros, i ? 32 : 16, zeros, 12, NULL, 0) == AEADKIT_DONE, "siv_init", i);
+        *second = *first;
+        want(aeadkit_siv_tag(second, tag) == AEADKIT_DONE, "siv_tag", i);
+    }
     for (long i = 0; i < splits; i++) {
         seal_in_pieces(i);
         open_in_pieces(i);
+        seal_by_two_readings(i);
     }
     for (long i = 0; i < structs; i++) {
         rubbish(i, marks);
         opener_rubbish(i, (const struct aeadkit_opener(*)[4])opener_marks);
+        siv_rubbish(i, (const struct aeadkit_siv(*)[2])siv_marks);
     }
     printf("pieces: %ld texts in pieces each way, %ld structs of random bytes of each kind: nothing differs\n", splits,
            structs);

@@ -210,7 +210,7 @@ mod tests {
     ) -> bool
         ensures { (named : Suite) → construction_of named ≡ ByGcmSiv → suite ≡ suite_number named
             → let s = setting_of named keys.entry.0.now keys.entry.1.now keys.entry.2.now in
-            let text = first.old ++ second.old in result ≡ true
+            let text = first.old ++ second.old in IsTrue result
             → (first.new ++ second.new ≡ masked (mask_of s (tag_of s text)) 0 text)
             × (tag.new ≡ tag_of s text) }
     {
