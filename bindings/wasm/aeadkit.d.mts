@@ -72,6 +72,34 @@ export class Opener {
     finish(): void;
 }
 
+/**
+ * A sealing in pieces under AES-GCM-SIV, whose tag is over the text, by two readings of it: `absorb` each piece, then `tag`;
+ * then `update` each piece again, then `finish`. The readings may be cut into other pieces. The ciphertext of all pieces, then
+ * the tag, is what `seal` makes of the whole text.
+ */
+export class SivSealer {
+    /** Begins a sealing by the calls of an `Aead`, of no text yet. `UnknownSuite` for ChaCha20-Poly1305 and AES-GCM. */
+    constructor(aead: Aead, suite: Suite, key: Uint8Array, nonce: Uint8Array, aad: Uint8Array);
+
+    /** Takes in the next piece of the text in the first reading. */
+    absorb(piece: Uint8Array): void;
+
+    /** Ends the first reading: the tag of its text, of 16 bytes. */
+    tag(): Uint8Array;
+
+    /**
+     * The ciphertext of the next piece of the text in the second reading. `SourceChanged` if that would be longer than the
+     * first; `NotBegun` before the first reading is over.
+     */
+    update(piece: Uint8Array): Uint8Array;
+
+    /**
+     * Ends the second reading. `SourceChanged` if its text had another length or tag than the first: what `update` gave is then
+     * to be thrown away.
+     */
+    finish(): void;
+}
+
 /** The calls of keywrap.wasm, whose bytes are handed in. The key has 16, 24 or 32 bytes. */
 export class KeyWrap {
     constructor(bytes: ArrayBuffer | ArrayBufferView);

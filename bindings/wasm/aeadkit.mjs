@@ -17,9 +17,9 @@ const FAULTS = {
     6: ["TagMismatch", "the bytes are the sealing of no text under this suite, key, nonce and associated data"],
     7: ["WrapLength", "the length is none of a text to wrap, or of a wrapping"],
     8: ["WrapIntegrity", "the bytes are the wrapping of no text under this key"],
-    13: ["SourceChanged", "the second pass is over other bytes than the first"],
+    13: ["SourceChanged", "the second pass or reading is over other bytes than the first"],
     14: ["UnknownSuite", "the call does not take the suite"],
-    15: ["NotBegun", "the sealing or the pass of the opening is over, or not begun"],
+    15: ["NotBegun", "the sealing, the pass or the reading is over, or not begun"],
 };
 
 /** The numbers of the suites. */
@@ -215,6 +215,53 @@ export class Opener {
      */
     finish() {
         this.#module.call("aeadkit_opener_finish", this.#state);
+    }
+}
+
+/**
+ * A sealing in pieces under AES-GCM-SIV, whose tag is over the text, by two readings of it: `absorb` each piece, then `tag`;
+ * then `update` each piece again, then `finish`. The readings may be cut into other pieces. The ciphertext of all pieces, then
+ * the tag, is what `seal` makes of the whole text.
+ */
+export class SivSealer {
+    #module;
+    #state;
+
+    /** Begins a sealing by the calls of an `Aead`, of no text yet. `UnknownSuite` for ChaCha20-Poly1305 and AES-GCM. */
+    constructor(aead, suite, key, nonce, aad) {
+        wantNumber(suite);
+        wantBytes(key, nonce, aad);
+        this.#module = moduleOf(aead);
+        this.#state = new Struct(Number(this.#module.calls.aeadkit_siv_size()));
+        this.#module.call("aeadkit_siv_init", this.#state, suite, key, nonce, aad);
+    }
+
+    /** Takes in the next piece of the text in the first reading. */
+    absorb(piece) {
+        wantBytes(piece);
+        this.#module.call("aeadkit_siv_absorb", this.#state, piece);
+    }
+
+    /** Ends the first reading: the tag of its text, of 16 bytes. */
+    tag() {
+        return this.#module.call("aeadkit_siv_tag", this.#state, new Struct(TAG_BYTES)).at(-1).slice();
+    }
+
+    /**
+     * The ciphertext of the next piece of the text in the second reading. `SourceChanged` if that would be longer than the
+     * first; `NotBegun` before the first reading is over.
+     */
+    update(piece) {
+        wantBytes(piece);
+        return this.#module.call("aeadkit_siv_update", this.#state, piece).at(-1).slice();
+    }
+
+    /**
+     * Ends the second reading. `SourceChanged` if its text had another length or tag than the first: what `update` gave is then
+     * to be thrown away.
+     */
+    finish() {
+        this.#module.call("aeadkit_siv_finish", this.#state);
     }
 }
 

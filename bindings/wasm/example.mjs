@@ -1,7 +1,7 @@
 // Seals, opens, refuses, wraps and unwraps published vectors, by the package that is installed.
 
 import assert from "node:assert";
-import { Opener, Refused, Sealer, Suite, aead, keywrap } from "aeadkit/node";
+import { Opener, Refused, Sealer, SivSealer, Suite, aead, keywrap } from "aeadkit/node";
 
 const bytes = (hex) => Uint8Array.from(hex.match(/../g) ?? [], (digits) => parseInt(digits, 16));
 const hex = (array) => Array.from(array, (byte) => byte.toString(16).padStart(2, "0")).join("");
@@ -92,6 +92,29 @@ refuses("UnknownSuite", () => new Sealer(aead, Suite.AES_128_GCM_SIV, zero, nonc
 refuses("UnknownSuite", () => new Opener(aead, Suite.AES_128_GCM_SIV, zero, nonce, none, zero));
 refuses("NonceLength", () => new Sealer(aead, Suite.AES_128_GCM, zero, zero, none));
 assert.throws(() => new Opener(aead, Suite.AES_128_GCM, zero, nonce, none, none), RangeError);
+
+// Under AES-GCM-SIV a text is sealed by two readings.
+for (const [name, length] of [["AES_128_GCM_SIV", 16], ["AES_256_GCM_SIV", 32]]) {
+    const words = [Suite[name], new Uint8Array(length).fill(7), nonce, aad];
+    for (const size of [1, 15, 16, 17, 333, 1000]) {
+        const sealer = new SivSealer(aead, ...words);
+        split(text, size).forEach((piece) => sealer.absorb(piece));
+        refuses("NotBegun", () => sealer.update(text));
+        const tag = sealer.tag();
+        refuses("NotBegun", () => sealer.absorb(text));
+        const ciphertext = split(text, 1001 - size).map((piece) => sealer.update(piece));
+        refuses("SourceChanged", () => sealer.update(zero));
+        sealer.finish();
+        refuses("NotBegun", () => sealer.finish());
+        assert.deepEqual(joined([...ciphertext, tag]), aead.seal(...words, text));
+    }
+    const changed = new SivSealer(aead, ...words);
+    changed.absorb(text);
+    changed.tag();
+    changed.update(new Uint8Array(1000));
+    refuses("SourceChanged", () => changed.finish());
+}
+refuses("UnknownSuite", () => new SivSealer(aead, Suite.AES_128_GCM, zero, nonce, none));
 
 // RFC 3394, 4.1.
 const wrapped = keywrap.wrap(bytes("000102030405060708090a0b0c0d0e0f"), bytes("00112233445566778899aabbccddeeff"));

@@ -13,9 +13,9 @@ import enum
 import os
 from typing import Optional, Union
 
-__all__ = ["Suite", "Key", "Sealer", "Opener", "seal", "open", "wrap", "unwrap", "wrap_padded", "unwrap_padded", "Refused",
-           "KeyLength", "NonceLength", "TextTooLong", "AadTooLong", "TooShort", "TagMismatch", "WrapLength", "WrapIntegrity",
-           "SourceChanged", "UnknownSuite", "NotBegun"]
+__all__ = ["Suite", "Key", "Sealer", "Opener", "SivSealer", "seal", "open", "wrap", "unwrap", "wrap_padded", "unwrap_padded",
+           "Refused", "KeyLength", "NonceLength", "TextTooLong", "AadTooLong", "TooShort", "TagMismatch", "WrapLength",
+           "WrapIntegrity", "SourceChanged", "UnknownSuite", "NotBegun"]
 
 Buffer = Union[bytes, bytearray, memoryview]
 
@@ -68,7 +68,7 @@ class WrapIntegrity(Refused):
 
 
 class SourceChanged(Refused):
-    message = "the second pass is over other bytes than the first"
+    message = "the second pass or reading is over other bytes than the first"
 
 
 class UnknownSuite(Refused):
@@ -76,7 +76,7 @@ class UnknownSuite(Refused):
 
 
 class NotBegun(Refused):
-    message = "the sealing or the pass of the opening is over, or not begun"
+    message = "the sealing, the pass or the reading is over, or not begun"
 
 
 _FAULTS = {1: KeyLength, 2: NonceLength, 3: TextTooLong, 4: AadTooLong, 5: TooShort, 6: TagMismatch, 7: WrapLength,
@@ -144,6 +144,11 @@ _opener_check = _declared("aeadkit_opener_check", ctypes.c_void_p, *_given)
 _opener_checked = _declared("aeadkit_opener_checked", ctypes.c_void_p)
 _opener_update = _declared("aeadkit_opener_update", ctypes.c_void_p, *_room)
 _opener_finish = _declared("aeadkit_opener_finish", ctypes.c_void_p)
+_siv_init = _declared("aeadkit_siv_init", ctypes.c_void_p, ctypes.c_uint32, *_given, *_given, *_given)
+_siv_absorb = _declared("aeadkit_siv_absorb", ctypes.c_void_p, *_given)
+_siv_tag = _declared("aeadkit_siv_tag", ctypes.c_void_p, ctypes.c_void_p)
+_siv_update = _declared("aeadkit_siv_update", ctypes.c_void_p, *_room)
+_siv_finish = _declared("aeadkit_siv_finish", ctypes.c_void_p)
 
 
 def _words(size):
@@ -154,11 +159,17 @@ def _words(size):
 
 _State = _words(_library.aeadkit_sealer_size)
 _OpenerState = _words(_library.aeadkit_opener_size)
+_SivState = _words(_library.aeadkit_siv_size)
 
 
 def _bytes_of(data):
     """What nobody can write during a call: data itself if it is bytes, else a copy."""
     return data if type(data) is bytes else memoryview(data).tobytes()
+
+
+def _slices(*words):
+    """Each word's bytes and their length, as the calls take them."""
+    return [it for word in map(_bytes_of, words) for it in (word, len(word))]
 
 
 def _suite_of(suite):
@@ -191,10 +202,9 @@ def _run(call, suite, words, before, text, after, *more):
         buffer = bytearray(size)
         with memoryview(buffer) as room:
             room[before : before + view.nbytes] = view.cast("B") if view.c_contiguous else view.tobytes()
-    given = [it for word in map(_bytes_of, words) for it in (word, len(word))]
     # a place of its own if there are no bytes, since no pointer may be NULL
     place = ctypes.c_ubyte.from_buffer(buffer if size else bytearray(1))
-    status = call(*suite, *given, ctypes.addressof(place), size, *more)
+    status = call(*suite, *_slices(*words), ctypes.addressof(place), size, *more)
     del place
     _done(status)
     return buffer
@@ -236,7 +246,7 @@ class Sealer:
 
     def __init__(self, suite: int, key: Buffer, nonce: Buffer, aad: Optional[Buffer] = None) -> None:
         self._state = _State()
-        given = [it for word in map(_bytes_of, (key, nonce, b"" if aad is None else aad)) for it in (word, len(word))]
+        given = _slices(key, nonce, b"" if aad is None else aad)
         _done(_sealer_init(ctypes.addressof(self._state), _suite_of(suite), *given))
 
     def update(self, piece: Buffer) -> bytearray:
@@ -260,13 +270,12 @@ class Opener:
         last = _bytes_of(tag)
         if len(last) != _TAG_BYTES:
             raise ValueError("the tag is not 16 bytes long")
-        given = [it for word in map(_bytes_of, (key, nonce, b"" if aad is None else aad)) for it in (word, len(word))]
+        given = _slices(key, nonce, b"" if aad is None else aad)
         _done(_opener_init(ctypes.addressof(self._state), _suite_of(suite), *given, last))
 
     def check(self, piece: Buffer) -> None:
         """Takes in the next piece of the ciphertext in the first pass."""
-        given = _bytes_of(piece)
-        _done(_opener_check(ctypes.addressof(self._state), given, len(given)))
+        _done(_opener_check(ctypes.addressof(self._state), *_slices(piece)))
 
     def checked(self) -> None:
         """Ends the first pass. TagMismatch if its pieces and the tag are the sealing of no text; that ends the opening."""
@@ -281,6 +290,37 @@ class Opener:
         """Ends the second pass. SourceChanged if its pieces and the tag are the sealing of no text: what update gave is then
         to be thrown away."""
         _done(_opener_finish(ctypes.addressof(self._state)))
+
+
+class SivSealer:
+    """A sealing in pieces under AES-GCM-SIV, whose tag is over the text, by two readings of it: absorb each piece, then tag;
+    then update each piece again, then finish. The readings may be cut into other pieces. The ciphertext of all pieces, then
+    the tag, is what seal makes of the whole text. UnknownSuite for ChaCha20-Poly1305 and AES-GCM."""
+
+    def __init__(self, suite: int, key: Buffer, nonce: Buffer, aad: Optional[Buffer] = None) -> None:
+        self._state = _SivState()
+        given = _slices(key, nonce, b"" if aad is None else aad)
+        _done(_siv_init(ctypes.addressof(self._state), _suite_of(suite), *given))
+
+    def absorb(self, piece: Buffer) -> None:
+        """Takes in the next piece of the text in the first reading."""
+        _done(_siv_absorb(ctypes.addressof(self._state), *_slices(piece)))
+
+    def tag(self) -> bytes:
+        """Ends the first reading: the tag of its text, of 16 bytes."""
+        tag = ctypes.create_string_buffer(_TAG_BYTES)
+        _done(_siv_tag(ctypes.addressof(self._state), ctypes.addressof(tag)))
+        return tag.raw
+
+    def update(self, piece: Buffer) -> bytearray:
+        """The ciphertext of the next piece of the text in the second reading. SourceChanged if that would be longer than the
+        first; NotBegun before the first reading is over."""
+        return _masked(_siv_update, self._state, piece)
+
+    def finish(self) -> None:
+        """Ends the second reading. SourceChanged if its text had another length or tag than the first: what update gave is
+        then to be thrown away."""
+        _done(_siv_finish(ctypes.addressof(self._state)))
 
 
 def wrap(key: Buffer, text: Buffer) -> bytearray:

@@ -95,6 +95,28 @@ for suite in list(Suite)[:4]:
     refused(aeadkit.SourceChanged, opener.finish)
 refused(aeadkit.UnknownSuite, aeadkit.Opener, Suite.AES_128_GCM_SIV, bytes(16), bytes(12), bytes(16))
 refused(aeadkit.NonceLength, aeadkit.Opener, Suite.AES_128_GCM, bytes(16), bytes(11), bytes(16))
+# under AES-GCM-SIV a text is sealed by two readings
+for suite in list(Suite)[4:]:
+    key = bytes(suite.key_bytes)
+    for size in (1, 15, 16, 17, 333, 1000):
+        sealer = aeadkit.SivSealer(suite, key, bytes(12), b"data")
+        for i in range(0, len(text), size):
+            sealer.absorb(text[i : i + size])
+        refused(aeadkit.NotBegun, sealer.update, text)
+        tag = sealer.tag()
+        refused(aeadkit.NotBegun, sealer.absorb, text)
+        step = 1001 - size
+        made = b"".join(sealer.update(text[i : i + step]) for i in range(0, len(text), step))
+        refused(aeadkit.SourceChanged, sealer.update, b"x")
+        sealer.finish()
+        refused(aeadkit.NotBegun, sealer.finish)
+        assert made + tag == aeadkit.seal(suite, key, bytes(12), b"data", text)
+    sealer = aeadkit.SivSealer(suite, key, bytes(12))
+    sealer.absorb(text)
+    sealer.tag()
+    sealer.update(bytes(1000))
+    refused(aeadkit.SourceChanged, sealer.finish)
+refused(aeadkit.UnknownSuite, aeadkit.SivSealer, Suite.AES_128_GCM, bytes(16), bytes(12))
 # a file, sealed by pieces of 64 KiB into another
 with tempfile.TemporaryFile() as plain, tempfile.TemporaryFile() as sealed_file:
     plain.write(text * 500)

@@ -1,7 +1,8 @@
 //! Seals, opens, refuses, wraps and unwraps published vectors.
 
 use aeadkit::{
-    Fault, Key, Opener, Sealer, Suite, TAG_BYTES, WRAP_BYTES, open, seal, unwrap, unwrap_padded, wrap, wrap_padded,
+    Fault, Key, Opener, Sealer, SivSealer, Suite, TAG_BYTES, WRAP_BYTES, open, seal, unwrap, unwrap_padded, wrap,
+    wrap_padded,
 };
 
 /// AES-128-GCM of sixteen zero bytes under a zero key and nonce: test case 2 of GCM's vectors.
@@ -99,6 +100,39 @@ fn opening() -> Result<(), Fault> {
     Ok(())
 }
 
+/// A text in pieces has the sealing of the whole text under AES-GCM-SIV too, by two readings of it.
+fn readings() -> Result<(), Fault> {
+    use Suite::*;
+    for suite in [Aes128GcmSiv, Aes256GcmSiv] {
+        let key = &[7; 32][..suite.key_bytes()];
+        let mut whole = vec![5; 1000 + TAG_BYTES];
+        seal(suite, key, &[9; 12], b"data", &mut whole)?;
+        for size in [1, 15, 16, 17, 333, 1000] {
+            let mut sealed = vec![5; 1000];
+            let mut sealer = SivSealer::new(suite, key, &[9; 12], b"data")?;
+            for piece in sealed.chunks(size) {
+                sealer.absorb(piece)?;
+                sealer.absorb(&[])?;
+            }
+            let (tag, mut writer) = sealer.tag();
+            for piece in sealed.chunks_mut(1001 - size) {
+                writer.update(piece)?;
+            }
+            assert_eq!(writer.update(&mut [0]), Err(Fault::SourceChanged));
+            writer.finish()?;
+            sealed.extend(tag);
+            assert_eq!(sealed, whole);
+        }
+        let mut sealer = SivSealer::new(suite, key, &[9; 12], b"data")?;
+        sealer.absorb(&[5; 1000])?;
+        let (_, mut writer) = sealer.tag();
+        writer.update(&mut [6; 1000])?;
+        assert_eq!(writer.finish(), Err(Fault::SourceChanged));
+    }
+    assert_eq!(SivSealer::new(Aes128Gcm, &[0; 16], &[0; 12], b"").err(), Some(Fault::UnknownSuite));
+    Ok(())
+}
+
 /// RFC 3394, 4.1.
 fn wrapping() -> Result<(), Fault> {
     let key: [u8; 16] = std::array::from_fn(|i| i as u8);
@@ -136,6 +170,7 @@ fn main() -> Result<(), Fault> {
     keys()?;
     pieces()?;
     opening()?;
+    readings()?;
     wrapping()?;
     padded()
 }

@@ -23,7 +23,7 @@ pub enum Fault {
     WrapLength,
     /// The bytes are the wrapping of no text.
     WrapIntegrity,
-    /// The second pass of an opening is over other bytes than the first.
+    /// The second pass or reading is over other bytes than the first.
     SourceChanged,
     /// The call does not take the suite.
     UnknownSuite,
@@ -40,7 +40,7 @@ impl fmt::Display for Fault {
             Fault::TagMismatch => "the bytes are the sealing of no text under this suite, key, nonce and associated data",
             Fault::WrapLength => "the length is none of a text to wrap, or of a wrapping",
             Fault::WrapIntegrity => "the bytes are the wrapping of no text under this key",
-            Fault::SourceChanged => "the second pass is over other bytes than the first",
+            Fault::SourceChanged => "the second pass or reading is over other bytes than the first",
             Fault::UnknownSuite => "the call does not take the suite",
         })
     }

@@ -13,12 +13,14 @@ mod opener;
 #[allow(unsafe_code)]
 mod raw;
 mod sealer;
+mod siv;
 
 pub use fault::Fault;
 use fault::outcome;
 pub use key::Key;
 pub use opener::{CheckedOpener, Opener};
 pub use sealer::Sealer;
+pub use siv::{SivSealer, SivWriter};
 
 /// The bytes of a tag: a sealing is as much longer than its text.
 pub const TAG_BYTES: usize = 16;

@@ -28,6 +28,13 @@ unsafe extern "C" {
     fn aeadkit_opener_checked(opener: *mut Opener) -> u32;
     fn aeadkit_opener_update(opener: *mut Opener, piece: *mut u8, piece_length: usize) -> u32;
     fn aeadkit_opener_finish(opener: *mut Opener) -> u32;
+    #[rustfmt::skip]
+    fn aeadkit_siv_init(siv: *mut Siv, suite: u32, key: *const u8, key_length: usize,
+                        nonce: *const u8, nonce_length: usize, aad: *const u8, aad_length: usize) -> u32;
+    fn aeadkit_siv_absorb(siv: *mut Siv, piece: *const u8, piece_length: usize) -> u32;
+    fn aeadkit_siv_tag(siv: *mut Siv, tag: *mut [u8; 16]) -> u32;
+    fn aeadkit_siv_update(siv: *mut Siv, piece: *mut u8, piece_length: usize) -> u32;
+    fn aeadkit_siv_finish(siv: *mut Siv) -> u32;
 }
 
 /// `struct aeadkit_sealer` of the header. It isn't copied: two copies would seal two texts with one nonce.
@@ -84,6 +91,39 @@ pub fn opener_update(opener: &mut Opener, piece: &mut [u8]) -> u32 {
 pub fn opener_finish(opener: &mut Opener) -> u32 {
     // SAFETY: as of `opener_check`.
     unsafe { aeadkit_opener_finish(opener) }
+}
+
+/// `struct aeadkit_siv` of the header. It isn't copied, as `Sealer`.
+#[repr(C)]
+#[derive(Default)]
+pub struct Siv {
+    private: [u64; 25],
+}
+
+pub fn siv_init(siv: &mut Siv, suite: u32, key: &[u8], nonce: &[u8], aad: &[u8]) -> u32 {
+    let (k, n, a) = (key.as_ptr(), nonce.as_ptr(), aad.as_ptr());
+    // SAFETY: as of `seal`, and the struct has the library's size.
+    unsafe { aeadkit_siv_init(siv, suite, k, key.len(), n, nonce.len(), a, aad.len()) }
+}
+
+pub fn siv_absorb(siv: &mut Siv, piece: &[u8]) -> u32 {
+    // SAFETY: as of `siv_init`; any bytes of the struct are taken.
+    unsafe { aeadkit_siv_absorb(siv, piece.as_ptr(), piece.len()) }
+}
+
+pub fn siv_tag(siv: &mut Siv, tag: &mut [u8; 16]) -> u32 {
+    // SAFETY: as of `siv_absorb`.
+    unsafe { aeadkit_siv_tag(siv, tag) }
+}
+
+pub fn siv_update(siv: &mut Siv, piece: &mut [u8]) -> u32 {
+    // SAFETY: as of `siv_absorb`.
+    unsafe { aeadkit_siv_update(siv, piece.as_mut_ptr(), piece.len()) }
+}
+
+pub fn siv_finish(siv: &mut Siv) -> u32 {
+    // SAFETY: as of `siv_absorb`.
+    unsafe { aeadkit_siv_finish(siv) }
 }
 
 pub fn seal(suite: u32, key: &[u8], nonce: &[u8], aad: &[u8], bytes: &mut [u8]) -> u32 {
