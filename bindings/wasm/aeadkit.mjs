@@ -2,8 +2,9 @@
 //
 // Keys, nonces, data and texts are Uint8Arrays, and so is each result; anything else is a TypeError. A refused call throws a
 // Refused, whose `fault` is the fault's name and whose message is a sentence. Never seal two texts with one nonce under one
-// key: nothing here looks for it. Nothing is claimed of timing, since AES looks tables up by secret bytes, and nothing is
-// wiped: the modules' memories keep what the last calls left. The memories have 64-bit addresses.
+// key: nothing here looks for it. Nothing is claimed of timing, since AES looks tables up by secret bytes. Nothing is wiped but
+// the struct of a finished sealing or opening: the modules' memories keep what the last calls left. The memories have 64-bit
+// addresses.
 
 const TAG_BYTES = 16;
 const WRAP_BYTES = 8;
