@@ -80,7 +80,7 @@ pub enum Refusal {
     Version,
     /// They are no command line of the program.
     Words,
-    /// A growth was refused.
+    /// An allocation failed.
     OutOfMemory,
 }
 

@@ -28,7 +28,7 @@ pub enum VectorFault {
     NoRecords,
     /// The file ends inside a record; the number is that of its last line.
     Unfinished(u64),
-    /// A growth was refused in this call.
+    /// An allocation failed in this call.
     OutOfMemory,
 }
 
