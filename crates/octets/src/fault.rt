@@ -24,7 +24,7 @@ pub enum Fault {
     WrapLength,
     /// The bytes are no wrapping.
     WrapIntegrity,
-    /// A growth was refused in this call.
+    /// An allocation failed in this call.
     OutOfMemory,
     /// A block past counter 2^32 - 1 would be needed.
     StreamEnd,
