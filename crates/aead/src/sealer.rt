@@ -53,6 +53,7 @@ impl Sealer {
     }
 
     // The state that holds the empty text.
+    #[inline(always)]
     pub(crate) fn begin(cipher: &AnyOnePass, nonce: &Nonce, aad: &[u8]) -> Sealer
         requires { length aad.now ≤ aad_limit (one_pass_keyed cipher.now).suite }
         ensures { HoldsSealer result (setting (one_pass_keyed cipher.now) nonce.now aad.now) [] }

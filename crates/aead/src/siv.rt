@@ -46,6 +46,7 @@ impl SivAbsorb {
     }
 
     // The state that holds the empty text.
+    #[inline(always)]
     pub(crate) fn begin(cipher: &GcmSiv, nonce: &Nonce, aad: &[u8]) -> SivAbsorb
         requires { length aad.now ≤ aad_limit cipher.now.suite }
         ensures holds { HoldsAbsorb result (setting cipher.now nonce.now aad.now) [] }
