@@ -36,12 +36,13 @@ pub record HoldsReading (kind : ℕ) (p : StoredPasses) (s : Setting) (text : Li
 abbrev pub HoldsAbsorbing : StoredPasses → Setting → List ℕ → Type 0
 HoldsAbsorbing p s text = HoldsReading absorbing p s text
 
--- p is in the second reading, after a first one of another text, and has taken in this one
+-- p is in the second reading, after a first one of another text, and has taken in this one, which is no longer
 pub record HoldsWriting (p : StoredPasses) (s : Setting) (first text : List ℕ) : Type 0 where
   pub reading : HoldsReading writing p s text
   pub tag_is : p.tag ≡ tag_of s first
   pub first_is : p.first ≡ length first
   pub first_fits : length first ≤ text_limit s.suite
+  pub within : length text ≤ length first
 
 -- ---- what the calls come to
 

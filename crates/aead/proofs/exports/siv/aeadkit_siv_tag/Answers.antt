@@ -1,4 +1,4 @@
-use Rattle.std.proofs.Common.{◌≡◌, ◌+◌, ◌∙◌, sym, ap}
+use Rattle.std.proofs.Common.{◌≡◌, ◌+◌, ◌∙◌, sym, ap, arith}
 use Rattle.std.proofs.lemmas.Option.{same_Some}
 use Rattle.aead.specs.Suites.{is_one_pass}
 use Rattle.aead.specs.Sealing.{tag_of}
@@ -25,5 +25,6 @@ returns-clause-holds c = λ s text h.
         tag_is = tag_is;
         first_is = h.state.length_is;
         first_fits = h.state.fits.text_fits;
+        within = omega arith;
       },
     )

@@ -21,6 +21,13 @@ returns-then-mask_siv-clause-holds c = λ s first text w.
             tag_is = w.tag_is;
             first_is = w.first_is;
             first_fits = w.first_fits;
+            within = omega (
+              arith,
+              length-append text c.args.piece.now,
+              h.state.length_is,
+              w.first_is,
+              c.mask_siv.ensures.fits c.if-mask_siv.true,
+            );
           },
           m.1 ∙ ap (λ t. masked (mask_of s t) (length text) c.args.piece.now) w.tag_is,
         ),
