@@ -175,6 +175,7 @@ impl<'a, M: Multiply + Copy> Nonced for NoncedGcm<'a, M> {
         self.suite
     }
 
+    #[inline(always)]
     fn hash(&self) -> GhashTag<M> {
         GhashTag {
             hash: Ghash::with(self.multiplier),
@@ -184,6 +185,7 @@ impl<'a, M: Multiply + Copy> Nonced for NoncedGcm<'a, M> {
 }
 
 impl<'a, M: Multiply + Copy> MaskThenHash for NoncedGcm<'a, M> {
+    #[inline(always)]
     fn mask(&self) -> CtrBe {
         CtrBe::new(self.key, &counter_block(self.nonce, 2))
     }

@@ -153,6 +153,7 @@ pub(crate) fn counter_block(tag: &[u8; 16]) -> [u8; 16]
 }
 
 // The mask under a tag (RFC 8452, 4).
+#[inline(always)]
 pub(crate) fn tag_mask(encryption: &AesKey, tag: &Tag) -> CtrLe
     ensures { (s : Setting) → construction_of s.suite ≡ ByGcmSiv
         → encryption.now ≡ encryption_key s.key s.nonce
@@ -189,6 +190,7 @@ impl<'a, M: Multiply + Copy, K: KeptKey + Copy> Nonced for NoncedGcmSiv<'a, M, K
         self.suite
     }
 
+    #[inline(always)]
     fn hash(&self) -> PolyvalTag<M, K> {
         PolyvalTag {
             hash: Polyval::with(self.multiplier),
@@ -199,6 +201,7 @@ impl<'a, M: Multiply + Copy, K: KeptKey + Copy> Nonced for NoncedGcmSiv<'a, M, K
 }
 
 impl<'a, M: Multiply + Copy, K: KeptKey + Copy> HashThenMask for NoncedGcmSiv<'a, M, K> {
+    #[inline(always)]
     fn mask(&self, tag: &Tag) -> CtrLe {
         tag_mask(self.encryption.kept(), tag)
     }

@@ -80,6 +80,7 @@ pub(crate) struct GhashTag<M> {
 impl<M: Multiply> TagHash for GhashTag<M> {
     ghost held = { HeldByGhash M.key_bytes };
 
+    #[inline(always)]
     fn take_in(&mut self, bytes: &[u8]) {
         self.hash.update(bytes);
     }
@@ -144,6 +145,7 @@ pub(crate) struct PolyvalTag<M, K> {
 impl<M: Multiply, K: KeptKey> TagHash for PolyvalTag<M, K> {
     ghost held = { HeldByPolyval M.key_bytes K.bytes };
 
+    #[inline(always)]
     fn take_in(&mut self, bytes: &[u8]) {
         self.hash.update(bytes);
     }
