@@ -46,11 +46,7 @@ pub(super) fn begun(
 // ---- taking in a piece that is left as it is
 
 // Takes in the text of a part of a ciphertext.
-fn take_part<S: MaskStream, H: TagHash>(
-    mask: &mut S,
-    taken: &mut Authenticator<H>,
-    part: &[u8],
-)
+fn take_part<S: MaskStream, H: TagHash>(mask: &mut S, taken: &mut Authenticator<H>, part: &[u8])
     requires small { length part.now ≤ 512 }
     requires room { taken.old.length + length part.now < 2 ^ 64 }
     ensures takes { TakesText S.made H.held mask.old mask.new taken.old taken.new part.now }
@@ -63,11 +59,7 @@ fn take_part<S: MaskStream, H: TagHash>(
 }
 
 // Takes in the text of a piece of a ciphertext.
-fn take_text<S: MaskStream, H: TagHash>(
-    mask: &mut S,
-    taken: &mut Authenticator<H>,
-    piece: &[u8],
-)
+fn take_text<S: MaskStream, H: TagHash>(mask: &mut S, taken: &mut Authenticator<H>, piece: &[u8])
     requires { taken.old.length + length piece.now < 2 ^ 64 }
     ensures takes { TakesText S.made H.held mask.old mask.new taken.old taken.new piece.now }
     ensures length { taken.new.length ≡ taken.old.length + length piece.now }

@@ -254,7 +254,9 @@ pub(super) fn mask_siv<R: Order>(
             mask_by::<PolyvalTag<TableMul, AesKey>, CtrLe, R>(state, suite, &mut mask, order, piece)
         }
         Multiples::AtEightPlaces => {
-            mask_by::<PolyvalTag<PlacedMul, AesKey>, CtrLe, R>(state, suite, &mut mask, order, piece)
+            mask_by::<PolyvalTag<PlacedMul, AesKey>, CtrLe, R>(
+                state, suite, &mut mask, order, piece,
+            )
         }
         Multiples::OfFourPowers => {
             mask_by::<PolyvalTag<WideMul, AesKey>, CtrLe, R>(state, suite, &mut mask, order, piece)

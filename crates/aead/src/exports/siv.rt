@@ -35,7 +35,12 @@ const ABSORBING: u64 = 0x7369_766f_6e65_0100;
 const WRITING: u64 = 0x7369_7674_776f_0100;
 
 // The numbers of the empty text under the bytes of a key and a nonce.
-pub(super) fn begun(suite: Suite, key: &[u8], nonce: &[u8], aad: &[u8]) -> Result<StoredSealer, Fault>
+pub(super) fn begun(
+    suite: Suite,
+    key: &[u8],
+    nonce: &[u8],
+    aad: &[u8],
+) -> Result<StoredSealer, Fault>
     requires { construction_of suite ≡ ByGcmSiv }
     ensures { let s = setting_of suite key.now nonce.now aad.now in
         MatchResult result (λ p. HoldsTaken p s []) (BeginRefused s) }
