@@ -97,7 +97,7 @@ static void seal_in_pieces(long number) {
 /* A random sealing, opened in two passes of random pieces, between which the struct is moved. Of five cases one has a changed
    bit, one a second pass with a changed bit, and one a longer second pass. */
 static void open_in_pieces(long number) {
-    struct message m = message_of(number, 1 + (uint32_t)(random_word() % 4));
+    struct message m = message_of(number, 1 + (uint32_t)(random_word() % 6));
     size_t length = m.length, bit = random_word() % (8 * (length + 16));
     enum { CHANGED, CHANGED_LATER, LONGER } way = (int)(random_word() % 5);
     if (way == CHANGED) whole[bit / 8] ^= (uint8_t)(1 << bit % 8);
@@ -241,7 +241,7 @@ static void rubbish(long number, const struct aeadkit_sealer *marks) {
 }
 
 /* A struct of an opening of random bytes between guard bytes, by the mark of a pass and a suite in three cases of four. */
-static void opener_rubbish(long number, const struct aeadkit_opener marks[2][4]) {
+static void opener_rubbish(long number, const struct aeadkit_opener marks[2][6]) {
     struct {
         uint8_t before[64];
         struct aeadkit_opener opener;
@@ -251,7 +251,7 @@ static void opener_rubbish(long number, const struct aeadkit_opener marks[2][4])
     memset(&held, 0xa5, sizeof held);
     random_bytes((uint8_t *)&held.opener, sizeof held.opener);
     size_t pass = random_word() % 2;
-    if (number % 4) held.opener.private_[0] = marks[pass][random_word() % 4].private_[0];
+    if (number % 4) held.opener.private_[0] = marks[pass][random_word() % 6].private_[0];
     if (number % 3) held.opener.private_[18] = (number % 3 == 1 ? 0x3fffffffc0u : 0xfffffffe0u) - random_word() % 300;
     if (number % 5) held.opener.private_[24] = held.opener.private_[18] + random_word() % 300;
     struct aeadkit_opener was = held.opener;
@@ -348,6 +348,7 @@ static void refusals(void) {
         want(aeadkit_sealer_init(&sealer, cases[i].suite, key, cases[i].key_length, nonce, cases[i].nonce_length, NULL, 0)
                  == cases[i].status, "a status of init", (long)i);
         want(all((uint8_t *)&sealer, sizeof sealer, 0), "not zeros after a refused init", (long)i);
+        if (cases[i].suite == 5 || cases[i].suite == 6) continue; /* an opener takes these */
         struct aeadkit_opener opener;
         random_bytes((uint8_t *)&opener, sizeof opener);
         want(aeadkit_opener_init(&opener, cases[i].suite, key, cases[i].key_length, nonce, cases[i].nonce_length, NULL, 0, key)
@@ -369,6 +370,12 @@ static void refusals(void) {
         want(aeadkit_siv_init(&siv, siv_cases[i].suite, key, siv_cases[i].key_length, nonce, siv_cases[i].nonce_length, NULL, 0)
                  == siv_cases[i].status, "a status of siv_init", (long)i);
         want(all((uint8_t *)&siv, sizeof siv, 0), "not zeros after a refused siv_init", (long)i);
+        if (siv_cases[i].suite != 5 && siv_cases[i].suite != 6) continue;
+        struct aeadkit_opener opener;
+        random_bytes((uint8_t *)&opener, sizeof opener);
+        want(aeadkit_opener_init(&opener, siv_cases[i].suite, key, siv_cases[i].key_length, nonce, siv_cases[i].nonce_length,
+                                 NULL, 0, key) == siv_cases[i].status, "a status of opener_init under 5 and 6", (long)i);
+        want(all((uint8_t *)&opener, sizeof opener, 0), "not zeros after a refused opener_init", (long)i);
     }
 }
 
@@ -379,14 +386,17 @@ int main(int count, char **words) {
     want(aeadkit_siv_size() == sizeof(struct aeadkit_siv), "the size of the siv", 0);
     refusals();
     struct aeadkit_sealer marks[4], sealer;
-    struct aeadkit_opener opener_marks[2][4];
+    struct aeadkit_opener opener_marks[2][6];
     struct aeadkit_siv siv_marks[2][2];
-    static const size_t key_lengths[4] = {32, 16, 24, 32};
+    static const size_t key_lengths[6] = {32, 16, 24, 32, 16, 32};
     uint8_t zeros[32] = {0}, tag[16];
     for (uint32_t i = 0; i < 4; i++) {
         want(aeadkit_sealer_init(&marks[i], i + 1, zeros, key_lengths[i], zeros, 12, NULL, 0) == AEADKIT_DONE, "init", i);
         sealer = marks[i];
         want(aeadkit_sealer_finish(&sealer, tag) == AEADKIT_DONE, "finish", i);
+    }
+    for (uint32_t i = 0; i < 6; i++) {
+        want(aeadkit_seal(i + 1, zeros, key_lengths[i], zeros, 12, NULL, 0, tag, 16) == AEADKIT_DONE, "seal", i);
         struct aeadkit_opener *first = &opener_marks[0][i], *second = &opener_marks[1][i];
         want(aeadkit_opener_init(first, i + 1, zeros, key_lengths[i], zeros, 12, NULL, 0, tag) == AEADKIT_DONE, "opener_init",
              i);
@@ -406,7 +416,7 @@ int main(int count, char **words) {
     }
     for (long i = 0; i < structs; i++) {
         rubbish(i, marks);
-        opener_rubbish(i, (const struct aeadkit_opener(*)[4])opener_marks);
+        opener_rubbish(i, (const struct aeadkit_opener(*)[6])opener_marks);
         siv_rubbish(i, (const struct aeadkit_siv(*)[2])siv_marks);
     }
     printf("pieces: %ld texts in pieces each way, %ld structs of random bytes of each kind: nothing differs\n", splits,

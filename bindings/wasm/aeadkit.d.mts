@@ -45,12 +45,12 @@ export class Sealer {
 }
 
 /**
- * An opening in pieces, under ChaCha20-Poly1305 or AES-GCM, in two passes over the ciphertext: `check` each piece, then
+ * An opening in pieces, under every suite, in two passes over the ciphertext: `check` each piece, then
  * `checked`; then `update` each piece again, then `finish`. The passes may be cut into other pieces. No text comes before the
  * first pass was found to be over a sealing.
  */
 export class Opener {
-    /** Begins an opening of a sealing with a tag of 16 bytes by the calls of an `Aead`. `UnknownSuite` for AES-GCM-SIV. */
+    /** Begins an opening of a sealing with a tag of 16 bytes by the calls of an `Aead`. */
     constructor(aead: Aead, suite: Suite, key: Uint8Array, nonce: Uint8Array, aad: Uint8Array, tag: Uint8Array);
 
     /** Takes in the next piece of the ciphertext in the first pass. */

@@ -46,7 +46,7 @@ const long = new Uint8Array(4 << 20).fill(1);
 const longSealed = aead.seal(Suite.CHACHA20_POLY1305, key, nonce, none, long);
 assert.deepEqual(aead.open(Suite.CHACHA20_POLY1305, key, nonce, none, longSealed), long);
 
-// A text in pieces has the sealing of the whole text, and is opened in two passes that are cut into other pieces.
+// A text in pieces has the sealing of the whole text.
 const split = (array, size) =>
     Array.from({ length: Math.ceil(array.length / size) }, (_, i) => array.subarray(size * i, size * (i + 1)));
 const joined = (arrays) => Uint8Array.from(arrays.flatMap((array) => [...array]));
@@ -55,14 +55,21 @@ const aad = bytes("64617461");
 for (const [name, length] of [["CHACHA20_POLY1305", 32], ["AES_128_GCM", 16], ["AES_192_GCM", 24], ["AES_256_GCM", 32]]) {
     const words = [Suite[name], new Uint8Array(length).fill(7), nonce, aad];
     const whole = aead.seal(...words, text);
-    const [body, tag] = [whole.subarray(0, -16), whole.subarray(-16)];
     for (const size of [1, 15, 16, 17, 333, 1000]) {
         const sealer = new Sealer(aead, ...words);
         const ciphertext = split(text, size).flatMap((piece) => [sealer.update(piece), sealer.update(none)]);
         assert.deepEqual(joined([...ciphertext, sealer.finish()]), whole);
         refuses("NotBegun", () => sealer.update(none));
         refuses("NotBegun", () => sealer.finish());
-
+    }
+}
+// Under every suite a sealing is opened in two passes, which are cut into other pieces.
+for (const [name, length] of [["CHACHA20_POLY1305", 32], ["AES_128_GCM", 16], ["AES_192_GCM", 24], ["AES_256_GCM", 32],
+    ["AES_128_GCM_SIV", 16], ["AES_256_GCM_SIV", 32]]) {
+    const words = [Suite[name], new Uint8Array(length).fill(7), nonce, aad];
+    const whole = aead.seal(...words, text);
+    const [body, tag] = [whole.subarray(0, -16), whole.subarray(-16)];
+    for (const size of [1, 15, 16, 17, 333, 1000]) {
         const opener = new Opener(aead, ...words, tag);
         split(body, size).forEach((piece) => opener.check(piece));
         refuses("NotBegun", () => opener.update(body));
@@ -89,7 +96,7 @@ assert.deepEqual(one.update(zero), other.update(zero));
 assert.equal(hex(one.finish()), "ab6e47d42cec13bdf53a67b21257bddf");
 assert.deepEqual(other.finish(), aead.seal(Suite.AES_128_GCM, zero, nonce, aad, zero).subarray(16));
 refuses("UnknownSuite", () => new Sealer(aead, Suite.AES_128_GCM_SIV, zero, nonce, none));
-refuses("UnknownSuite", () => new Opener(aead, Suite.AES_128_GCM_SIV, zero, nonce, none, zero));
+refuses("KeyLength", () => new Opener(aead, Suite.AES_256_GCM_SIV, zero, nonce, none, zero));
 refuses("NonceLength", () => new Sealer(aead, Suite.AES_128_GCM, zero, zero, none));
 assert.throws(() => new Opener(aead, Suite.AES_128_GCM, zero, nonce, none, none), RangeError);
 

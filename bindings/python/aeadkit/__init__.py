@@ -261,9 +261,9 @@ class Sealer:
 
 
 class Opener:
-    """An opening in pieces, under ChaCha20-Poly1305 or AES-GCM, of a sealing with a tag of 16 bytes, in two passes over the
+    """An opening in pieces, under every suite, of a sealing with a tag of 16 bytes, in two passes over the
     ciphertext: check each piece, then checked; then update each piece again, then finish. The passes may be cut into other
-    pieces. No text comes before the first pass was found to be over a sealing. UnknownSuite for AES-GCM-SIV."""
+    pieces. No text comes before the first pass was found to be over a sealing."""
 
     def __init__(self, suite: int, key: Buffer, nonce: Buffer, tag: Buffer, aad: Optional[Buffer] = None) -> None:
         self._state = _OpenerState()

@@ -67,7 +67,7 @@ fn pieces() -> Result<(), Fault> {
 /// A sealing in pieces opens to its text, and only after the first pass was over all of it.
 fn opening() -> Result<(), Fault> {
     use Suite::*;
-    for suite in [ChaCha20Poly1305, Aes128Gcm, Aes192Gcm, Aes256Gcm] {
+    for suite in [ChaCha20Poly1305, Aes128Gcm, Aes192Gcm, Aes256Gcm, Aes128GcmSiv, Aes256GcmSiv] {
         let key = &[7; 32][..suite.key_bytes()];
         let mut sealed = vec![5; 1000 + TAG_BYTES];
         seal(suite, key, &[9; 12], b"data", &mut sealed)?;
@@ -96,7 +96,7 @@ fn opening() -> Result<(), Fault> {
         opener.update(&mut [0; 1000])?;
         assert_eq!(opener.finish(), Err(Fault::SourceChanged));
     }
-    assert_eq!(Opener::new(Aes128GcmSiv, &[0; 16], &[0; 12], b"", &[0; 16]).err(), Some(Fault::UnknownSuite));
+    assert_eq!(Opener::new(Aes128GcmSiv, &[0; 24], &[0; 12], b"", &[0; 16]).err(), Some(Fault::KeyLength));
     Ok(())
 }
 

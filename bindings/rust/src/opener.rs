@@ -4,7 +4,7 @@ use crate::fault::outcome;
 use crate::{Fault, NONCE_BYTES, Suite, TAG_BYTES, raw};
 use std::fmt;
 
-/// The first pass of an opening in pieces, under ChaCha20-Poly1305 or AES-GCM: it takes in the ciphertext and gives no text.
+/// The first pass of an opening in pieces, under every suite: it takes in the ciphertext and gives no text.
 pub struct Opener {
     state: raw::Opener,
 }
@@ -15,7 +15,7 @@ pub struct CheckedOpener {
 }
 
 impl Opener {
-    /// Begins an opening of a sealing with this tag. `UnknownSuite` for AES-GCM-SIV.
+    /// Begins an opening of a sealing with this tag.
     pub fn new(
         suite: Suite,
         key: &[u8],

@@ -1,6 +1,8 @@
 -- Masks whose bytes are bytes.
 use Rattle.std.proofs.Common.{◌≡◌, ℕ, zero, suc, ◌+◌, ◌-◌, ◌*◌, ◌/◌, ◌%◌, ◌<◌, true, List, [], ◌∷◌, get_or}
 use Rattle.std.proofs.Common.{flat_map, refl, sym, subst, arith, true≢false}
+use Rattle.std.proofs.Common.{◌∙◌, ◌++◌, ap, take, length, length-append, inl, inr}
+use Rattle.std.proofs.lemmas.List.{length-take-le}
 use Rattle.std.proofs.lemmas.Nat.{xor_of_8}
 use Rattle.std.specs.Int.{byte_at, bytes_low_first, to_le_bytes, w32}
 use Rattle.octets.specs.Bytes.{IsBlock}
@@ -9,11 +11,15 @@ use Rattle.chacha.specs.Block.{block, block_from, serialized}
 use Rattle.chacha.specs.Stream.{key_stream_byte}
 use Rattle.aes.specs.Schedule.{schedule, key_words, round_count}
 use Rattle.aes.specs.Cipher.{sub_bytes, shift_rows, mix_columns, rounds, cipher, IsKey}
-use Rattle.aes.specs.Counters.{up_be, counter_byte}
+use Rattle.aes.specs.Counters.{up_be, up_le, counter_byte}
 use Rattle.aes.proofs.Steps.{AreWords, sub_block, shift_block, mix_block, add_block}
 use Rattle.aes.proofs.Permutation.{words_are}
-use Rattle.aead.specs.Suites.{Construction, ByChaCha, ByGcm, ByGcmSiv, construction_of, is_one_pass}
-use Rattle.aead.specs.Sealing.{Setting, j0, mask_by, mask, mask_of}
+use Rattle.aead.specs.declared.suite.Suite.{Suite}
+use Rattle.aead.specs.declared.suite.Suite.TheVariants.{ChaCha20Poly1305, Aes128Gcm, Aes192Gcm, Aes256Gcm}
+use Rattle.aead.specs.declared.suite.Suite.TheVariants.{Aes128GcmSiv, Aes256GcmSiv}
+use Rattle.aead.specs.Suites.{Construction, ByChaCha, ByGcm, ByGcmSiv, construction_of, is_one_pass, key_length}
+use Rattle.aead.specs.Sealing.{Setting, j0, key_part, encryption_key, counter_block, mask_by, mask, mask_of}
+use Rattle.aead.proofs.DerivedKeys.{short_key, long_key}
 use Rattle.aead.proofs.Passing.{small-append}
 
 -- bytes masked by bytes are bytes
@@ -68,15 +74,96 @@ counter_small : (key b : List ℕ) (i : ℕ) → IsKey key → counter_byte up_b
 unfolding counter_byte
 counter_small key b i k = (cipher_any key (up_be b (i / 16)) k).bytes (i % 16)
 
--- where the tag is over the ciphertext, the mask is one of bytes
-mask_small_by : (by : Construction) (key nonce tag : List ℕ) → is_one_pass by ≡ true
-    → (by ≡ ByGcm → IsKey key) → (i : ℕ) → mask_by by key nonce tag i < 256
-unfolding mask_by
-mask_small_by ByChaCha key nonce tag one k i = key_stream_small key nonce 1 i
-mask_small_by ByGcm key nonce tag one k i = counter_small key (up_be (j0 nonce) 1) i (k refl)
-mask_small_by ByGcmSiv key nonce tag one k i = absurd (true≢false (sym one))
+counter_small_le : (key b : List ℕ) (i : ℕ) → IsKey key → counter_byte up_le key b i < 256
+unfolding counter_byte
+counter_small_le key b i k = (cipher_any key (up_le b (i / 16)) k).bytes (i % 16)
 
+-- the first bytes of bytes
+take_small : (n : ℕ) (xs : List ℕ) → ((i : ℕ) → get_or xs i 0 < 256) → (i : ℕ) → get_or (take n xs) i 0 < 256
+take_small zero xs p i = omega arith
+take_small (suc n) [] p i = omega arith
+take_small (suc n) (x ∷ xs) p zero = p 0
+take_small (suc n) (x ∷ xs) p (suc i) = take_small n xs (λ j. p (suc j)) i
+
+-- a part of the derived keys has eight bytes
+part_long : (key nonce : List ℕ) (i : ℕ) → IsKey key → length (key_part key nonce i) ≡ 8
+unfolding key_part
+part_long key nonce i k =
+    let block : List ℕ = cipher key (to_le_bytes w32 i ++ nonce) in
+    length-take-le 8 block (omega (arith, (cipher_any key (to_le_bytes w32 i ++ nonce) k).length_is))
+
+part_small : (key nonce : List ℕ) (i : ℕ) → IsKey key → (j : ℕ) → get_or (key_part key nonce i) j 0 < 256
+unfolding key_part
+part_small key nonce i k =
+    take_small 8 (cipher key (to_le_bytes w32 i ++ nonce)) (cipher_any key (to_le_bytes w32 i ++ nonce) k).bytes
+
+two_parts_long : (key nonce : List ℕ) (i j : ℕ) → IsKey key
+    → length (key_part key nonce i ++ key_part key nonce j) ≡ 16
+two_parts_long key nonce i j k =
+    omega (
+      arith,
+      length-append (key_part key nonce i) (key_part key nonce j),
+      part_long key nonce i k,
+      part_long key nonce j k,
+    )
+
+two_parts_small : (key nonce : List ℕ) (i j : ℕ) → IsKey key → (n : ℕ)
+    → get_or (key_part key nonce i ++ key_part key nonce j) n 0 < 256
+two_parts_small key nonce i j k =
+    small-append (key_part key nonce i) (key_part key nonce j) (part_small key nonce i k) (part_small key nonce j k)
+
+-- the derived key of the cipher is a key of AES
+short_derived : (key nonce : List ℕ) → length key ≡ 16 → IsKey key → IsKey (encryption_key key nonce)
+short_derived key nonce long k =
+    subst IsKey (sym (short_key key nonce long)) (record {
+      length_is = inl (two_parts_long key nonce 2 3 k);
+      bytes = two_parts_small key nonce 2 3 k;
+    })
+
+long_derived : (key nonce : List ℕ) → length key ≡ 32 → IsKey key → IsKey (encryption_key key nonce)
+long_derived key nonce long k =
+    let a : List ℕ = key_part key nonce 2 ++ key_part key nonce 3 in
+    let b : List ℕ = key_part key nonce 4 ++ key_part key nonce 5 in
+    subst IsKey (sym (long_key key nonce long)) (record {
+      length_is = inr (inr (omega (
+        arith,
+        length-append a b,
+        two_parts_long key nonce 2 3 k,
+        two_parts_long key nonce 4 5 k,
+      )));
+      bytes = small-append a b (two_parts_small key nonce 2 3 k) (two_parts_small key nonce 4 5 k);
+    })
+
+derived_key : (suite : Suite) (key nonce : List ℕ) → construction_of suite ≡ ByGcmSiv
+    → length key ≡ key_length suite → IsKey key → IsKey (encryption_key key nonce)
+derived_key ChaCha20Poly1305 key nonce e long k = long_derived key nonce long k
+derived_key Aes128Gcm key nonce e long k = short_derived key nonce long k
+derived_key Aes192Gcm key nonce e long k = absurd (true≢false (ap is_one_pass e))
+derived_key Aes256Gcm key nonce e long k = long_derived key nonce long k
+derived_key Aes128GcmSiv key nonce e long k = short_derived key nonce long k
+derived_key Aes256GcmSiv key nonce e long k = long_derived key nonce long k
+
+-- the mask of each construction is one of bytes
+mask_small_by : (by : Construction) (key nonce tag : List ℕ) → (by ≡ ByGcm → IsKey key)
+    → (by ≡ ByGcmSiv → IsKey (encryption_key key nonce)) → (i : ℕ) → mask_by by key nonce tag i < 256
+unfolding mask_by
+mask_small_by ByChaCha key nonce tag k m i = key_stream_small key nonce 1 i
+mask_small_by ByGcm key nonce tag k m i = counter_small key (up_be (j0 nonce) 1) i (k refl)
+mask_small_by ByGcmSiv key nonce tag k m i =
+    counter_small_le (encryption_key key nonce) (counter_block tag) i (m refl)
+
+-- so that of a suite whose tag is over the ciphertext
 pub mask_small : (s : Setting) (tag : List ℕ) → is_one_pass (construction_of s.suite) ≡ true
     → (construction_of s.suite ≡ ByGcm → IsKey s.key) → (i : ℕ) → mask_of s tag i < 256
 unfolding mask
-mask_small s tag one k i = mask_small_by (construction_of s.suite) s.key s.nonce tag one k i
+mask_small s tag one k i =
+    mask_small_by (construction_of s.suite) s.key s.nonce tag k
+    (λ e. absurd (true≢false (sym one ∙ ap is_one_pass e))) i
+
+-- that of each suite under a key of its length
+pub any_mask_small : (s : Setting) (tag : List ℕ) → IsKey s.key → length s.key ≡ key_length s.suite → (i : ℕ)
+    → mask_of s tag i < 256
+unfolding mask
+any_mask_small s tag k long i =
+    mask_small_by (construction_of s.suite) s.key s.nonce tag (λ _. k)
+    (λ e. derived_key s.suite s.key s.nonce e long k) i

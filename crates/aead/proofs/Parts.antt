@@ -8,7 +8,7 @@ use Rattle.octets.specs.Masked.{masked}
 use Rattle.octets.proofs.Masks.{masked-append}
 use Rattle.aead.specs.Sealing.{Setting, mask_of}
 use Rattle.aead.specs.Code.States.{HoldsAuthenticator}
-use Rattle.aead.specs.Code.Masks.{Masks, Takes}
+use Rattle.aead.specs.Code.Masks.{Masks, Takes, TakesText}
 use Rattle.aead.specs.declared.authenticator.Authenticator.{Authenticator}
 
 -- no bytes are masked
@@ -44,6 +44,28 @@ more_takes held a b c x y both f g is = λ s m h room.
     let first = f s m h (omega (arith, room, sum)) in
     let second = g s (m ++ x) first (omega (arith, room, sum, length-append m x)) in
     subst (HoldsAuthenticator held c s) (append_assoc m x y ∙ ap (λ (z : List ℕ). m ++ z) is) second
+
+-- no text is taken in
+pub no_text : {S H : Type 0} (made : S → Setting → List ℕ → ℕ → Type 0) (held : H → Setting → List ℕ → Type 0)
+    (m : S) (a : Authenticator H) → TakesText made held m m a a []
+no_text made held m a = λ s tag fed h k room.
+    let same : fed ≡ fed ++ [] = sym (append-nil fed) in (
+      subst (λ x. made m s tag (length x)) same h,
+      subst (λ x. HoldsAuthenticator held a s (masked (mask_of s tag) 0 x)) same k,
+    )
+
+-- the text of two parts, one after the other
+pub more_text : {S H : Type 0} (made : S → Setting → List ℕ → ℕ → Type 0) (held : H → Setting → List ℕ → Type 0)
+    (m n o : S) (a b c : Authenticator H) (x y both : List ℕ) → TakesText made held m n a b x
+    → TakesText made held n o b c y → x ++ y ≡ both → TakesText made held m o a c both
+more_text made held m n o a b c x y both f g is = λ s tag fed h k room.
+    let sum : length both ≡ length x + length y = ap length (sym is) ∙ length-append x y in
+    let first = f s tag fed h k (omega (arith, room, sum)) in
+    let second = g s tag (fed ++ x) first.0 first.1 (omega (arith, room, sum, length-append fed x)) in
+    let all : (fed ++ x) ++ y ≡ fed ++ both = append_assoc fed x y ∙ ap (λ (z : List ℕ). fed ++ z) is in (
+      subst (λ z. made o s tag (length z)) all second.0,
+      subst (λ z. HoldsAuthenticator held c s (masked (mask_of s tag) 0 z)) all second.1,
+    )
 
 -- what is left after a part of a piece was overwritten
 pub part_left : (b a new was : List ℕ) (d k : ℕ) → length b ≡ d → length new ≡ k → a ≡ drop d was

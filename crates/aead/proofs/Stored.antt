@@ -1,10 +1,14 @@
 -- What is known of sealings that are stored as numbers.
 use Rattle.std.proofs.Common.{◌≡◌, ℕ, ◌-◌, ◌*◌, ◌/◌, ◌^◌, true, List, [], ◌++◌, length, refl, sym, ap, subst}
 use Rattle.std.proofs.Common.{◌∙◌}
-use Rattle.std.proofs.Common.{◌<◌, get_or, arith, inl, inr, take}
+use Rattle.std.proofs.Common.{◌<◌, get_or, arith, inl, inr, take, true≢false}
 use Rattle.std.proofs.lemmas.List.{append-nil, drop_all}
 use Rattle.octets.specs.Bytes.{pad16}
+use Rattle.octets.specs.Masked.{masked}
+use Rattle.octets.proofs.Masks.{length-masked}
 use Rattle.aes.specs.Cipher.{IsKey, IsKeyLength}
+use Rattle.std.proofs.Common.{Result, MatchResult, Ok, Err}
+use Rattle.octets.specs.declared.fault.Fault.{Fault}
 use Rattle.aead.specs.declared.suite.Suite.{Suite}
 use Rattle.aead.specs.declared.suite.Suite.TheVariants.{ChaCha20Poly1305, Aes128Gcm, Aes192Gcm, Aes256Gcm}
 use Rattle.aead.specs.declared.suite.Suite.TheVariants.{Aes128GcmSiv, Aes256GcmSiv}
@@ -16,7 +20,7 @@ use Rattle.aead.specs.Sealing.{Setting, Fits, mask_of}
 use Rattle.aead.specs.Exports.{HasLengths}
 use Rattle.aead.specs.Code.Masks.{none_leaves}
 use Rattle.aead.specs.Stored.{sealer_mark, IsPolySum, IsGhashSum, HoldsBy, HoldsOf, HoldsBytes, HoldsText}
-use Rattle.aead.specs.Stored.{IsSumOf, HasKeys, cipher_key}
+use Rattle.aead.specs.Stored.{IsSumOf, IsPolyvalSum, HasKeys, HoldsTaken, HoldsSealedBy, cipher_key}
 use Rattle.aead.proofs.Fed.{whole_padded}
 
 -- a struct before any piece, with this sum
@@ -109,12 +113,66 @@ held ByGcmSiv p s bytes h = absurd h
 pub holds_none : (p : StoredSealer) (s : Setting) → HoldsBytes p s [] → HoldsText p s []
 holds_none p s h = λ tag. subst (HoldsBytes p s) (sym (none_leaves (mask_of s tag))) h
 
+-- what a struct is known by that holds what is authenticated of a ciphertext under a tag
+pub record Sealed (p : StoredSealer) (s : Setting) (bytes : List ℕ) : Type 0 where
+  pub lengths : HasLengths s
+  pub length_is : p.length ≡ length bytes
+  pub fits : Fits s bytes
+
+pub sealed : (by : Construction) (p : StoredSealer) (s : Setting) (tag bytes : List ℕ)
+    → HoldsSealedBy by p s tag bytes → Sealed p s bytes
+sealed ByChaCha p s tag bytes h = record { lengths = h.keys.lengths; length_is = h.length_is; fits = h.fits }
+sealed ByGcm p s tag bytes h = record { lengths = h.keys.lengths; length_is = h.length_is; fits = h.fits }
+sealed ByGcmSiv p s tag bytes h =
+    let same : length (masked (mask_of s tag) 0 bytes) ≡ length bytes = length-masked (mask_of s tag) 0 bytes in
+    record {
+      lengths = h.keys.lengths;
+      length_is = h.length_is ∙ same;
+      fits = record { aad_fits = h.fits.aad_fits; text_fits = omega (arith, h.fits.text_fits, same) };
+    }
+
+-- what is authenticated under a suite whose tag is over the ciphertext: the ciphertext
+pub one_pass_sealed : (by : Construction) (p : StoredSealer) (s : Setting) (tag bytes : List ℕ)
+    → is_one_pass by ≡ true → HoldsOf by p s bytes → HoldsSealedBy by p s tag bytes
+one_pass_sealed ByChaCha p s tag bytes one h = h
+one_pass_sealed ByGcm p s tag bytes one h = h
+one_pass_sealed ByGcmSiv p s tag bytes one h = absurd h
+
+pub sealed_one_pass : (by : Construction) (p : StoredSealer) (s : Setting) (tag bytes : List ℕ)
+    → is_one_pass by ≡ true → HoldsSealedBy by p s tag bytes → HoldsOf by p s bytes
+sealed_one_pass ByChaCha p s tag bytes one h = h
+sealed_one_pass ByGcm p s tag bytes one h = h
+sealed_one_pass ByGcmSiv p s tag bytes one h = absurd (true≢false (sym one))
+
+-- and under AES-GCM-SIV the text
+pub siv_sealed : (by : Construction) (p : StoredSealer) (s : Setting) (tag bytes : List ℕ) → by ≡ ByGcmSiv
+    → HoldsTaken p s (masked (mask_of s tag) 0 bytes) → HoldsSealedBy by p s tag bytes
+siv_sealed by p s tag bytes is h = subst (λ x. HoldsSealedBy x p s tag bytes) (sym is) h
+
+pub sealed_siv : (by : Construction) (p : StoredSealer) (s : Setting) (tag bytes : List ℕ) → by ≡ ByGcmSiv
+    → HoldsSealedBy by p s tag bytes → HoldsTaken p s (masked (mask_of s tag) 0 bytes)
+sealed_siv by p s tag bytes is h = subst (λ x. HoldsSealedBy x p s tag bytes) is h
+
+-- a beginning of one construction is one of any
+pub begun_as : (r : Result StoredSealer Fault) (P Q : StoredSealer → Type 0) (R : Fault → Type 0)
+    → ((p : StoredSealer) → P p → Q p) → MatchResult r P R → MatchResult r Q R
+begun_as (Ok p) P Q R f h = f p h
+begun_as (Err e) P Q R f h = h
+
+pub begun_none : (p : StoredSealer) (s : Setting) (tag : List ℕ) → construction_of s.suite ≡ ByGcmSiv
+    → HoldsTaken p s [] → HoldsSealedBy (construction_of s.suite) p s tag []
+begun_none p s tag is h =
+    siv_sealed (construction_of s.suite) p s tag [] is (subst (HoldsTaken p s) (sym (none_leaves (mask_of s tag))) h)
+
 -- the sum over the padded associated data is that of the empty ciphertext
-pub start_of : (by : Construction) (p : StoredSealer) (s : Setting) → HoldsOf by p s []
+pub start_of : (by : Construction) (p : StoredSealer) (s : Setting) (tag : List ℕ) → HoldsSealedBy by p s tag []
     → IsSumOf by p.sum s (pad16 s.aad)
-start_of ByChaCha p s h = subst (IsPolySum p.sum s) (append-nil (pad16 s.aad)) h.sum_is
-start_of ByGcm p s h = subst (IsGhashSum p.sum s) (append-nil (pad16 s.aad)) h.sum_is
-start_of ByGcmSiv p s h = absurd h
+start_of ByChaCha p s tag h = subst (IsPolySum p.sum s) (append-nil (pad16 s.aad)) h.sum_is
+start_of ByGcm p s tag h = subst (IsGhashSum p.sum s) (append-nil (pad16 s.aad)) h.sum_is
+start_of ByGcmSiv p s tag h =
+    let none : pad16 s.aad ++ masked (mask_of s tag) 0 [] ≡ pad16 s.aad =
+    ap (λ m. pad16 s.aad ++ m) (none_leaves (mask_of s tag)) ∙ append-nil (pad16 s.aad) in
+    subst (IsPolyvalSum p.sum s) none h.sum_is
 
 -- with that sum, a struct holds no bytes again
 pub restarted_by : (by : Construction) (keyed : List ℕ → Setting → Type 0)
@@ -142,8 +200,10 @@ restarted_by by keyed summed p n s bytes h start =
       fits = record { aad_fits = h.fits.aad_fits; text_fits = omega arith };
     }
 
-pub restarted : (by : Construction) (p : StoredSealer) (n : StoredSum) (s : Setting) (bytes : List ℕ)
-    → HoldsOf by p s bytes → IsSumOf by n s (pad16 s.aad) → HoldsOf by (restart p n) s []
-restarted ByChaCha p n s bytes h start = restarted_by _ _ _ p n s bytes h start
-restarted ByGcm p n s bytes h start = restarted_by _ _ _ p n s bytes h start
-restarted ByGcmSiv p n s bytes h start = absurd h
+pub restarted : (by : Construction) (p : StoredSealer) (n : StoredSum) (s : Setting) (tag bytes : List ℕ)
+    → HoldsSealedBy by p s tag bytes → IsSumOf by n s (pad16 s.aad) → HoldsSealedBy by (restart p n) s tag []
+restarted ByChaCha p n s tag bytes h start = restarted_by _ _ _ p n s bytes h start
+restarted ByGcm p n s tag bytes h start = restarted_by _ _ _ p n s bytes h start
+restarted ByGcmSiv p n s tag bytes h start =
+    subst (HoldsTaken (restart p n) s) (sym (none_leaves (mask_of s tag)))
+    (restarted_by _ _ _ p n s (masked (mask_of s tag) 0 bytes) h start)

@@ -1,15 +1,15 @@
 -- What an opening in pieces holds that is stored as numbers in C's memory.
-use Rattle.std.specs.Prelude.{◌≡◌, ◌≢◌, ℕ, ◌+◌, ◌<◌, ◌≤◌, true, List, [], ◌++◌, length, get_or}
+use Rattle.std.specs.Prelude.{◌≡◌, ◌≢◌, ℕ, ◌+◌, ◌<◌, ◌≤◌, List, [], ◌++◌, length, get_or}
 use Rattle.octets.specs.Masked.{masked}
 use Rattle.octets.specs.Numbers.{HasOutcome}
 use Rattle.octets.specs.declared.fault.Fault.TheVariants.{TagMismatch, SourceChanged}
 use Rattle.aead.specs.declared.suite.Suite.{Suite}
 use Rattle.aead.specs.declared.exports.stored.StoredPasses.{StoredPasses}
-use Rattle.aead.specs.Suites.{construction_of, is_one_pass, text_limit}
+use Rattle.aead.specs.Suites.{text_limit}
 use Rattle.aead.specs.Sealing.{Setting, Opened, IsNoSealing, mask_of}
 use Rattle.aead.specs.Refusals.{SealRefused}
 use Rattle.aead.specs.Exports.{suite_number}
-use Rattle.aead.specs.Stored.{HoldsBytes, HasStart}
+use Rattle.aead.specs.Stored.{HoldsSealed, HasStart}
 
 -- the kind of struct in the first pass, to which its mark adds the suite's number: `opener` in ASCII, and the
 -- version of the layout
@@ -20,14 +20,14 @@ checking = 0x6f70656e65720100
 abbrev pub opening : ℕ
 opening = 0x6f70656e65640100
 
--- the mark is that of no suite whose tag is over the ciphertext, in this pass
+-- the mark is that of no suite, in this pass
 abbrev pub NotIn : ℕ → StoredPasses → Type 0
-NotIn kind p = (suite : Suite) → is_one_pass (construction_of suite) ≡ true → p.mark ≢ kind + suite_number suite
+NotIn kind p = (suite : Suite) → p.mark ≢ kind + suite_number suite
 
--- p is in a pass of opening a ciphertext under this tag, and has taken in these bytes of it
+-- p is in a pass of opening a ciphertext under this tag, and has taken in what is authenticated of these bytes of it
 pub record HoldsPass (kind : ℕ) (p : StoredPasses) (s : Setting) (tag bytes : List ℕ) : Type 0 where
   pub mark_is : p.mark ≡ kind + suite_number s.suite
-  pub state : HoldsBytes p.state s bytes
+  pub state : HoldsSealed p.state s tag bytes
   pub start : HasStart p.start s
   pub tag_is : p.tag ≡ tag
   pub tag_long : length tag ≡ 16

@@ -16,6 +16,7 @@ use crate::suite::Suite;
 use aes::AesKey;
 use octets::{Fault, Key32, Nonce, Tag, outcome_number};
 
+mod any_pass;
 mod opener;
 mod pass;
 mod sealer;
@@ -26,7 +27,7 @@ mod stored;
 const UNKNOWN_SUITE: u32 = 14;
 
 // The suite of a number.
-fn suite_numbered(number: u32) -> Option<Suite>
+fn suite_numbered(number: u64) -> Option<Suite>
     ensures { (suite : Suite) → (result ≡ Some suite) ↔ (number ≡ suite_number suite) }
 {
     match number {
@@ -159,7 +160,7 @@ pub extern "C" fn aeadkit_seal(
     ensures unknown { ((named : Suite) → suite ≢ suite_number named)
         → (result ≡ unknown_suite) × (bytes.new ≡ bytes.old) }
 {
-    match suite_numbered(suite) {
+    match suite_numbered(u64::from(suite)) {
         Some(suite) => outcome_number(seal_bytes(suite, key, nonce, aad, bytes)),
         None => UNKNOWN_SUITE,
     }
@@ -180,7 +181,7 @@ pub extern "C" fn aeadkit_open(
     ensures unknown { ((named : Suite) → suite ≢ suite_number named)
         → (result ≡ unknown_suite) × (bytes.new ≡ bytes.old) }
 {
-    match suite_numbered(suite) {
+    match suite_numbered(u64::from(suite)) {
         Some(suite) => outcome_number(open_bytes(suite, key, nonce, aad, bytes)),
         None => UNKNOWN_SUITE,
     }

@@ -51,6 +51,15 @@ MasksAndHashes made held hashed m m' a a' was now =
     → made m' s tag (length (fed ++ was)) × HoldsAuthenticator held a' s (hashed (mask_of s tag) (fed ++ was))
     × (now ≡ masked (mask_of s tag) (length fed) was)
 
+-- m and a become m' and a': the text of the next bytes of a ciphertext is authenticated, within the limit of a text
+abbrev pub TakesText : {S H : Type 0} (made : S → Setting → List ℕ → ℕ → Type 0)
+    (held : H → Setting → List ℕ → Type 0) (m m' : S) (a a' : Authenticator H) (bytes : List ℕ) → Type 0
+TakesText made held m m' a a' bytes =
+    (s : Setting) (tag fed : List ℕ) → made m s tag (length fed)
+    → HoldsAuthenticator held a s (masked (mask_of s tag) 0 fed)
+    → length fed + length bytes ≤ text_limit s.suite
+    → made m' s tag (length (fed ++ bytes)) × HoldsAuthenticator held a' s (masked (mask_of s tag) 0 (fed ++ bytes))
+
 -- the mask of each construction
 pub chacha_mask : (s : Setting) (tag : List ℕ) → construction_of s.suite ≡ ByChaCha
     → mask_of s tag ≡ key_stream_byte s.key s.nonce 1

@@ -1,21 +1,20 @@
-// An opening in pieces at C, under the suites whose tag is over the ciphertext: a first pass over the ciphertext
-// gives nothing, and only after it was found to be a sealing a second pass decrypts.
+// An opening in pieces at C: a first pass over the ciphertext gives nothing, and only after it was found to be a
+// sealing a second pass decrypts.
 
 ghost use Rattle.std.specs.Prelude.{◌≡◌, ◌≢◌, ◌++◌, ℕ, List, [], true, false};
 ghost use Rattle.octets.specs.Numbers.{HasOutcome};
 ghost use Rattle.aead.specs.declared.suite.Suite.{Suite};
-ghost use Rattle.aead.specs.Suites.{construction_of, is_one_pass};
 ghost use Rattle.aead.specs.Sealing.{Setting, Opened, IsNoSealing};
 ghost use Rattle.aead.specs.Exports.{suite_number, unknown_suite, setting_of};
 ghost use Rattle.aead.specs.Stored.{zero_passes, not_begun, BeginRefused};
 ghost use Rattle.aead.specs.StoredOpener.{checking, opening, NotIn, HoldsPass, HoldsChecking};
 ghost use Rattle.aead.specs.StoredOpener.{Checks, Opens, Checked, Decrypts, Ends};
 
-use super::UNKNOWN_SUITE;
-use super::pass::{mark_of, mask_piece, one_pass_marked, one_pass_numbered, pass_tag, take_piece};
-use super::sealer::{NOT_BEGUN, begun};
+use super::any_pass::{begun, open_piece, take_sealed, text_tag};
+use super::pass::{mark_of, marked};
+use super::sealer::NOT_BEGUN;
 use super::stored::StoredPasses;
-use crate::beside::HashFirst;
+use super::{UNKNOWN_SUITE, suite_numbered};
 use crate::suite::Suite;
 use octets::{Fault, outcome_number, same};
 
@@ -29,13 +28,12 @@ const OPENING: u64 = 0x6f70_656e_6564_0100;
 impl StoredPasses {
     // Whether what the pass has taken in is the ciphertext of a sealing with this tag.
     fn is_sealing(&self, suite: Suite) -> bool
-        requires { is_one_pass (construction_of suite) ≡ true }
         ensures sealing { (kind : ℕ) (s : Setting) (tag bytes : List ℕ) → s.suite ≡ suite
             → HoldsPass kind self.now s tag bytes → result ≡ true → Opens s tag bytes }
         ensures none { (kind : ℕ) (s : Setting) (tag bytes : List ℕ) → s.suite ≡ suite
             → HoldsPass kind self.now s tag bytes → result ≡ false → IsNoSealing s (bytes ++ tag) }
     {
-        same(pass_tag(&self.state, suite).bytes(), &self.tag)
+        same(text_tag(&self.state, suite).bytes(), &self.tag)
     }
 }
 
@@ -50,15 +48,14 @@ pub extern "C" fn aeadkit_opener_init(
     aad: &[u8],
     tag: &[u8; 16],
 ) -> u32
-    ensures known { (named : Suite) → is_one_pass (construction_of named) ≡ true
-        → suite ≡ suite_number named → let s = setting_of named key.now nonce.now aad.now in
+    ensures known { (named : Suite) → suite ≡ suite_number named
+        → let s = setting_of named key.now nonce.now aad.now in
         HasOutcome result (HoldsChecking opener.new s tag.now []) (BeginRefused s) }
-    ensures unknown { ((named : Suite) → is_one_pass (construction_of named) ≡ true
-        → suite ≢ suite_number named) → result ≡ unknown_suite }
+    ensures unknown { ((named : Suite) → suite ≢ suite_number named) → result ≡ unknown_suite }
     ensures refused { result ≢ 0 → opener.new ≡ zero_passes }
 {
     opener.erase();
-    let Some(suite) = one_pass_numbered(u64::from(suite)) else {
+    let Some(suite) = suite_numbered(u64::from(suite)) else {
         return UNKNOWN_SUITE;
     };
     match begun(suite, key, nonce, aad) {
@@ -85,10 +82,10 @@ pub extern "C" fn aeadkit_opener_check(opener: &mut StoredPasses, piece: &[u8]) 
     ensures not_begun { NotIn checking opener.old → result ≡ not_begun }
     ensures kept { result ≢ 0 → opener.new ≡ opener.old }
 {
-    let Some(suite) = one_pass_marked(CHECKING, opener.mark) else {
+    let Some(suite) = marked(CHECKING, opener.mark) else {
         return NOT_BEGUN;
     };
-    if take_piece(&mut opener.state, suite, piece) {
+    if take_sealed(&mut opener.state, suite, &opener.tag, piece) {
         outcome_number(Ok(()))
     } else {
         outcome_number(Err(Fault::TextTooLong))
@@ -103,7 +100,7 @@ pub extern "C" fn aeadkit_opener_checked(opener: &mut StoredPasses) -> u32
     ensures not_begun { NotIn checking opener.old → (result ≡ not_begun) × (opener.new ≡ opener.old) }
     ensures refused { result ≢ 0 → result ≢ not_begun → opener.new ≡ zero_passes }
 {
-    let Some(suite) = one_pass_marked(CHECKING, opener.mark) else {
+    let Some(suite) = marked(CHECKING, opener.mark) else {
         return NOT_BEGUN;
     };
     if !opener.is_sealing(suite) {
@@ -125,11 +122,11 @@ pub extern "C" fn aeadkit_opener_update(opener: &mut StoredPasses, piece: &mut [
     ensures not_begun { NotIn opening opener.old → result ≡ not_begun }
     ensures kept { result ≢ 0 → (opener.new ≡ opener.old) × (piece.new ≡ piece.old) }
 {
-    let Some(suite) = one_pass_marked(OPENING, opener.mark) else {
+    let Some(suite) = marked(OPENING, opener.mark) else {
         return NOT_BEGUN;
     };
     let limit = opener.first.min(suite.text_limit());
-    if mask_piece(&mut opener.state, suite, &HashFirst, limit, piece) {
+    if open_piece(&mut opener.state, suite, &opener.tag, limit, piece) {
         outcome_number(Ok(()))
     } else {
         outcome_number(Err(Fault::SourceChanged))
@@ -145,7 +142,7 @@ pub extern "C" fn aeadkit_opener_finish(opener: &mut StoredPasses) -> u32
     ensures not_begun { NotIn opening opener.old → (result ≡ not_begun) × (opener.new ≡ opener.old) }
     ensures ended { result ≢ not_begun → opener.new ≡ zero_passes }
 {
-    let Some(suite) = one_pass_marked(OPENING, opener.mark) else {
+    let Some(suite) = marked(OPENING, opener.mark) else {
         return NOT_BEGUN;
     };
     let sealing = opener.is_sealing(suite);
@@ -167,8 +164,7 @@ pub extern "C" fn aeadkit_opener_size() -> usize
 
 #[cfg(test)]
 mod tests {
-    use super::super::sealer::{aeadkit_sealer_finish, aeadkit_sealer_init, aeadkit_sealer_update};
-    use super::super::stored::StoredSealer;
+    use super::super::aeadkit_seal;
     use super::*;
 
     // The sealing of sixteen zero bytes under AES-128-GCM with a zero key and nonce: test case 2 of GCM's
@@ -195,7 +191,7 @@ mod tests {
         first: &mut [u8],
         second: &mut [u8],
     ) -> bool
-        ensures { (named : Suite) → is_one_pass (construction_of named) ≡ true → suite ≡ suite_number named
+        ensures { (named : Suite) → suite ≡ suite_number named
             → let s = setting_of named keys.entry.0.now keys.entry.1.now keys.entry.2.now in
             result ≡ true → Opened s ((first.old ++ second.old) ++ tag.now) (first.new ++ second.new) }
     {
@@ -223,19 +219,19 @@ mod tests {
 
     #[test]
     fn two_passes_give_the_text(rt: HostRuntime) {
-        for (suite, size) in [(1, 32), (2, 16), (3, 24), (4, 32)] {
+        for (suite, size) in [(1, 32), (2, 16), (3, 24), (4, 32), (5, 16), (6, 32)] {
             let (key, nonce) = (&[7; 32][..size], &[9; 12]);
-            let mut bytes = [1; 64];
-            let mut tag = [0; 16];
-            let mut sealer = StoredSealer::zeros();
-            assert!(rt; aeadkit_sealer_init(&mut sealer, suite, key, nonce, b"to") == 0);
-            assert!(rt; aeadkit_sealer_update(&mut sealer, &mut bytes) == 0);
-            assert!(rt; aeadkit_sealer_finish(&mut sealer, &mut tag) == 0);
-            let (first, second) = bytes.split_at_mut(21);
+            let mut sealed = [1; 1466];
+            assert!(rt; aeadkit_seal(suite, key, nonce, b"to", &mut sealed) == 0);
+            let Some((body, last)) = sealed.split_last_chunk_mut() else {
+                return;
+            };
+            let tag = *last;
+            let (first, second) = body.split_at_mut(21);
             let mut opener = StoredPasses::zeros();
             let keys = (key, nonce.as_slice(), b"to".as_slice());
             assert!(rt; opened_in_two(&mut opener, suite, keys, &tag, first, second));
-            assert!(rt; bytes == [1; 64]);
+            assert!(rt; &*body == [1; 1450].as_slice());
             assert!(rt; aeadkit_opener_finish(&mut opener) == 15);
         }
     }
@@ -251,7 +247,7 @@ mod tests {
         let mut piece = CIPHERTEXT;
         assert!(rt; aeadkit_opener_check(&mut opener, &piece) == 15);
         assert!(rt;
-            aeadkit_opener_init(&mut opener, 5, &ZEROS[..16], &ZEROS[..12], &[], &TAG) == 14
+            aeadkit_opener_init(&mut opener, 7, &ZEROS[..16], &ZEROS[..12], &[], &TAG) == 14
         );
         assert!(rt; aeadkit_opener_init(&mut opener, 2, &ZEROS[..15], &[], &[], &TAG) == 1);
         assert!(rt; aeadkit_opener_init(&mut opener, 1, &ZEROS, &[], &[], &TAG) == 2);

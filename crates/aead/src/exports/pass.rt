@@ -7,12 +7,12 @@ ghost use Rattle.aead.specs.Sealing.{Setting, tag_over};
 ghost use Rattle.aead.specs.Exports.{suite_number};
 ghost use Rattle.aead.specs.Stored.{IsPolyKey, IsGhashKey, IsPolyvalKey, HasKeys};
 ghost use Rattle.aead.specs.Stored.{HoldsBy, HoldsOf, HoldsBytes, HoldsTaken};
-ghost use Rattle.aead.specs.Code.Masks.{as_it_comes};
 ghost use Rattle.aead.specs.Code.States.{MadeByChaCha, MadeByGcm, MadeByGcmSiv};
 ghost use Rattle.aead.specs.Code.Steps.{MasksPiece};
 
 use super::stored::{StoredHash, StoredSealer};
-use crate::beside::{HashFirst, Order};
+use super::suite_numbered;
+use crate::beside::Order;
 use crate::derived_keys::expanded;
 use crate::gcm::counter_block;
 use crate::gcm_siv::counter_block as tag_counter_block;
@@ -66,6 +66,28 @@ pub(super) fn one_pass_marked(kind: u64, mark: u64) -> Option<Suite>
     match mark.checked_sub(kind) {
         Some(number) => one_pass_numbered(number),
         None => None,
+    }
+}
+
+// The suite of a mark of a kind of struct.
+pub(super) fn marked(kind: u64, mark: u64) -> Option<Suite>
+    ensures { (suite : Suite) → (result ≡ Some suite) ↔ (mark ≡ kind + suite_number suite) }
+{
+    match mark.checked_sub(kind) {
+        Some(number) => suite_numbered(number),
+        None => None,
+    }
+}
+
+// Whether a suite is one of AES-GCM-SIV.
+pub(super) fn is_siv(suite: Suite) -> bool
+    ensures yes { result ≡ true → construction_of suite ≡ ByGcmSiv }
+    ensures no { result ≡ false → is_one_pass (construction_of suite) ≡ true }
+{
+    match suite {
+        Suite::ChaCha20Poly1305 => false,
+        Suite::Aes128Gcm | Suite::Aes192Gcm | Suite::Aes256Gcm => false,
+        Suite::Aes128GcmSiv | Suite::Aes256GcmSiv => true,
     }
 }
 
@@ -132,7 +154,7 @@ fn gcm_stream(state: &StoredSealer, suite: Suite) -> CtrBe
 }
 
 // The counter stream of AES-GCM-SIV under a tag, from where the pass is.
-fn siv_stream(state: &StoredSealer, suite: Suite, tag: &[u8; 16]) -> CtrLe
+pub(super) fn siv_stream(state: &StoredSealer, suite: Suite, tag: &[u8; 16]) -> CtrLe
     requires { state.now.length ≤ 2 ^ 38 - 64 }
     ensures { (s : Setting) → s.suite ≡ suite → HasKeys ByGcmSiv IsPolyvalKey state.now s
         → MadeByGcmSiv result s tag.now state.now.length }
@@ -207,18 +229,18 @@ pub(super) fn mask_piece<R: Order>(
     true
 }
 
-// Masks a piece under AES-GCM-SIV and a tag and takes it in as it comes, if it is within a limit. Returns
-// whether it is.
-pub(super) fn mask_siv(
+// Masks a piece under AES-GCM-SIV and a tag and takes it in, if it is within a limit. Returns whether it is.
+pub(super) fn mask_siv<R: Order>(
     state: &mut StoredSealer,
     suite: Suite,
+    order: &R,
     tag: &[u8; 16],
     limit: u64,
     piece: &mut [u8],
 ) -> bool
     requires { limit ≤ text_limit suite }
-    ensures masks { (s : Setting) (text : List ℕ) → s.suite ≡ suite → result ≡ true
-        → MasksPiece HoldsTaken as_it_comes state.old state.new piece.old piece.new s tag.now text }
+    ensures masks { (s : Setting) (fed : List ℕ) → s.suite ≡ suite → result ≡ true
+        → MasksPiece HoldsTaken R.hashed state.old state.new piece.old piece.new s tag.now fed }
     ensures fits { result ≡ true → state.old.length + length piece.old ≤ limit }
     ensures past { result ≡ false → limit < state.old.length + length piece.old }
     ensures kept { result ≡ false → (state.new ≡ state.old) × (piece.new ≡ piece.old) }
@@ -229,19 +251,15 @@ pub(super) fn mask_siv(
     let mut mask = siv_stream(state, suite, tag);
     match worth(piece.len() as u64) {
         Multiples::Few => {
-            mask_by::<PolyvalTag<TableMul, AesKey>, CtrLe, HashFirst>(
-                state, suite, &mut mask, &HashFirst, piece,
-            )
+            mask_by::<PolyvalTag<TableMul, AesKey>, CtrLe, R>(state, suite, &mut mask, order, piece)
         }
         Multiples::AtEightPlaces => {
-            mask_by::<PolyvalTag<PlacedMul, AesKey>, CtrLe, HashFirst>(
-                state, suite, &mut mask, &HashFirst, piece,
+            mask_by::<PolyvalTag<PlacedMul, AesKey>, CtrLe, R>(
+                state, suite, &mut mask, order, piece,
             )
         }
         Multiples::OfFourPowers => {
-            mask_by::<PolyvalTag<WideMul, AesKey>, CtrLe, HashFirst>(
-                state, suite, &mut mask, &HashFirst, piece,
-            )
+            mask_by::<PolyvalTag<WideMul, AesKey>, CtrLe, R>(state, suite, &mut mask, order, piece)
         }
     }
     true

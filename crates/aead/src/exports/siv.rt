@@ -17,6 +17,7 @@ use super::UNKNOWN_SUITE;
 use super::pass::{mark_of, mask_siv, siv_marked, siv_numbered, tag_by, take_siv};
 use super::sealer::{NOT_BEGUN, begun_by};
 use super::stored::{StoredPasses, StoredSealer};
+use crate::beside::HashFirst;
 use crate::derived_keys::{
     KeyParts, hash_key, joined_blocks, long_encryption_key, short_encryption_key,
 };
@@ -34,7 +35,12 @@ const ABSORBING: u64 = 0x7369_766f_6e65_0100;
 const WRITING: u64 = 0x7369_7674_776f_0100;
 
 // The numbers of the empty text under the bytes of a key and a nonce.
-fn begun(suite: Suite, key: &[u8], nonce: &[u8], aad: &[u8]) -> Result<StoredSealer, Fault>
+pub(super) fn begun(
+    suite: Suite,
+    key: &[u8],
+    nonce: &[u8],
+    aad: &[u8],
+) -> Result<StoredSealer, Fault>
     requires { construction_of suite ≡ ByGcmSiv }
     ensures { let s = setting_of suite key.now nonce.now aad.now in
         MatchResult result (λ p. HoldsTaken p s []) (BeginRefused s) }
@@ -152,7 +158,7 @@ pub extern "C" fn aeadkit_siv_update(siv: &mut StoredPasses, piece: &mut [u8]) -
         return NOT_BEGUN;
     };
     let limit = siv.first.min(suite.text_limit());
-    if mask_siv(&mut siv.state, suite, &siv.tag, limit, piece) {
+    if mask_siv(&mut siv.state, suite, &HashFirst, &siv.tag, limit, piece) {
         outcome_number(Ok(()))
     } else {
         outcome_number(Err(Fault::SourceChanged))

@@ -7,7 +7,7 @@ ghost use Rattle.aead.specs.Sealing.{Setting};
 ghost use Rattle.octets.specs.Bytes.{pad16};
 ghost use Rattle.aead.specs.Code.States.{HoldsAuthenticator};
 ghost use Rattle.aead.specs.Stored.{zero_sum, zeros, zero_passes, IsPolyKey, IsPolySum, IsGhashKey};
-ghost use Rattle.aead.specs.Stored.{IsGhashSum, IsPolyvalKey, IsPolyvalSum, HasKeys, HoldsBy, HoldsBytes};
+ghost use Rattle.aead.specs.Stored.{IsGhashSum, IsPolyvalKey, IsPolyvalSum, HasKeys, HoldsBy, HoldsSealed};
 ghost use Rattle.aead.specs.Stored.{HasStart, HoldsTaken};
 
 use crate::authenticator::Authenticator;
@@ -139,8 +139,8 @@ impl StoredSealer {
 
     // The numbers of no bytes after the same associated data, of which this is the sum.
     pub(super) fn restarted(&self, start: StoredSum) -> StoredSealer
-        ensures bytes { (s : Setting) (bytes : List ℕ) → HoldsBytes self.now s bytes
-            → HasStart start s → HoldsBytes result s [] }
+        ensures sealed { (s : Setting) (tag bytes : List ℕ) → HoldsSealed self.now s tag bytes
+            → HasStart start s → HoldsSealed result s tag [] }
         ensures taken { (s : Setting) (text : List ℕ) → HoldsTaken self.now s text
             → IsPolyvalSum start s (pad16 s.aad) → HoldsTaken result s [] }
     {

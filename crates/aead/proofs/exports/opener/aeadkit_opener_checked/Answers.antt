@@ -4,13 +4,13 @@ use Rattle.octets.specs.declared.fault.Fault.TheVariants.{TagMismatch}
 use Rattle.aead.specs.Suites.{construction_of}
 use Rattle.aead.specs.Exports.{suite_number}
 use Rattle.aead.specs.StoredOpener.{checking, opening}
-use Rattle.aead.proofs.Stored.{held}
+use Rattle.aead.proofs.Stored.{sealed}
 use Rattle.aead.proofs.exports.opener.aeadkit_opener_checked.Goals as goal
 
 pub returns-then-not-is_sealing-clause-holds : goal.returns-then-not-is_sealing-clause-holds
 returns-then-not-is_sealing-clause-holds c = λ s tag bytes h.
-    let f = held (construction_of s.suite) _ s bytes h.state in
-    let same : c.in-Some.suite ≡ s.suite = same_Some _ _ ((c.in-Some.ensures s.suite).1 (f.one_pass, h.mark_is)) in (
+    let f = sealed (construction_of s.suite) _ s tag bytes h.state in
+    let same : c.in-Some.suite ≡ s.suite = same_Some _ _ ((c.in-Some.ensures s.suite).1 h.mark_is) in (
       Err TagMismatch,
       (
         c.outcome_number.ensures,
@@ -21,12 +21,12 @@ returns-then-not-is_sealing-clause-holds c = λ s tag bytes h.
 pub returns-then-not-is_sealing-clause-not_begun : goal.returns-then-not-is_sealing-clause-not_begun
 returns-then-not-is_sealing-clause-not_begun c = λ none.
     let found = (c.in-Some.ensures c.in-Some.suite).0 refl in
-    absurd (none c.in-Some.suite found.0 found.1)
+    absurd (none c.in-Some.suite found)
 
 pub returns-clause-holds : goal.returns-clause-holds
 returns-clause-holds c = λ s tag bytes h.
-    let f = held (construction_of s.suite) _ s bytes h.state in
-    let same : c.in-Some.suite ≡ s.suite = same_Some _ _ ((c.in-Some.ensures s.suite).1 (f.one_pass, h.mark_is)) in (
+    let f = sealed (construction_of s.suite) _ s tag bytes h.state in
+    let same : c.in-Some.suite ≡ s.suite = same_Some _ _ ((c.in-Some.ensures s.suite).1 h.mark_is) in (
       Ok tt,
       (
         c.outcome_number-2.ensures,
@@ -34,7 +34,7 @@ returns-clause-holds c = λ s tag bytes h.
           record {
             pass = record {
               mark_is = c.mark_of-opener.ensures ∙ ap (λ x. opening + suite_number x) same;
-              state = c.restarted-opener.ensures.bytes s bytes h.state h.start;
+              state = c.restarted-opener.ensures.sealed s tag bytes h.state h.start;
               start = h.start;
               tag_is = h.tag_is;
               tag_long = h.tag_long;
@@ -52,5 +52,5 @@ returns-clause-holds c = λ s tag bytes h.
 
 pub returns-in_default-clause-holds : goal.returns-in_default-clause-holds
 returns-in_default-clause-holds c = λ s tag bytes h.
-    let f = held (construction_of s.suite) _ s bytes h.state in
-    absurd (none-some s.suite ((c.in_default.ensures s.suite).1 (f.one_pass, h.mark_is)))
+    let f = sealed (construction_of s.suite) _ s tag bytes h.state in
+    absurd (none-some s.suite ((c.in_default.ensures s.suite).1 h.mark_is))

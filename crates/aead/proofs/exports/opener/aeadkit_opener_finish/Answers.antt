@@ -3,14 +3,14 @@ use Rattle.std.proofs.lemmas.Option.{none-some, same_Some}
 use Rattle.octets.specs.declared.fault.Fault.TheVariants.{SourceChanged}
 use Rattle.aead.specs.Suites.{construction_of}
 use Rattle.aead.specs.StoredOpener.{opening}
-use Rattle.aead.proofs.Stored.{held}
+use Rattle.aead.proofs.Stored.{sealed}
 use Rattle.aead.proofs.exports.opener.aeadkit_opener_finish.Goals as goal
 
 pub returns-then-sealing-clause-holds : goal.returns-then-sealing-clause-holds
 returns-then-sealing-clause-holds c = λ s tag first bytes o.
     let h = o.pass in
-    let f = held (construction_of s.suite) _ s bytes h.state in
-    let same : c.in-Some.suite ≡ s.suite = same_Some _ _ ((c.in-Some.ensures s.suite).1 (f.one_pass, h.mark_is)) in (
+    let f = sealed (construction_of s.suite) _ s tag bytes h.state in
+    let same : c.in-Some.suite ≡ s.suite = same_Some _ _ ((c.in-Some.ensures s.suite).1 h.mark_is) in (
       Ok tt,
       (
         c.outcome_number.ensures,
@@ -21,8 +21,8 @@ returns-then-sealing-clause-holds c = λ s tag first bytes o.
 pub returns-else-sealing-clause-holds : goal.returns-else-sealing-clause-holds
 returns-else-sealing-clause-holds c = λ s tag first bytes o.
     let h = o.pass in
-    let f = held (construction_of s.suite) _ s bytes h.state in
-    let same : c.in-Some.suite ≡ s.suite = same_Some _ _ ((c.in-Some.ensures s.suite).1 (f.one_pass, h.mark_is)) in (
+    let f = sealed (construction_of s.suite) _ s tag bytes h.state in
+    let same : c.in-Some.suite ≡ s.suite = same_Some _ _ ((c.in-Some.ensures s.suite).1 h.mark_is) in (
       Err SourceChanged,
       (
         c.outcome_number-else-sealing.ensures,
@@ -33,15 +33,15 @@ returns-else-sealing-clause-holds c = λ s tag first bytes o.
 pub returns-then-sealing-clause-not_begun : goal.returns-then-sealing-clause-not_begun
 returns-then-sealing-clause-not_begun c = λ none.
     let found = (c.in-Some.ensures c.in-Some.suite).0 refl in
-    absurd (none c.in-Some.suite found.0 found.1)
+    absurd (none c.in-Some.suite found)
 
 pub returns-else-sealing-clause-not_begun : goal.returns-else-sealing-clause-not_begun
 returns-else-sealing-clause-not_begun c = λ none.
     let found = (c.in-Some.ensures c.in-Some.suite).0 refl in
-    absurd (none c.in-Some.suite found.0 found.1)
+    absurd (none c.in-Some.suite found)
 
 pub returns-in_default-clause-holds : goal.returns-in_default-clause-holds
 returns-in_default-clause-holds c = λ s tag first bytes o.
     let h = o.pass in
-    let f = held (construction_of s.suite) _ s bytes h.state in
-    absurd (none-some s.suite ((c.in_default.ensures s.suite).1 (f.one_pass, h.mark_is)))
+    let f = sealed (construction_of s.suite) _ s tag bytes h.state in
+    absurd (none-some s.suite ((c.in_default.ensures s.suite).1 h.mark_is))

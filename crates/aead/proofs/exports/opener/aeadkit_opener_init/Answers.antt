@@ -6,16 +6,17 @@ use Rattle.aead.specs.Sealing.{Setting}
 use Rattle.aead.specs.Exports.{setting_of}
 use Rattle.aead.specs.Stored.{BeginRefused}
 use Rattle.aead.specs.StoredOpener.{HoldsChecking}
-use Rattle.aead.proofs.ByteMasks.{mask_small}
-use Rattle.aead.proofs.Stored.{held, start_of, aes_key}
+use Rattle.aead.proofs.ByteMasks.{any_mask_small}
+use Rattle.aead.proofs.Stored.{sealed, start_of, aes_key}
 use Rattle.aead.proofs.exports.opener.aeadkit_opener_init.Goals as goal
 
 pub returns-in-Ok-clause-known : goal.returns-in-Ok-clause-known
-returns-in-Ok-clause-known c = λ named one is.
+returns-in-Ok-clause-known c = λ named is.
     let same : c.in-Some.suite ≡ named =
-    same_Some _ _ ((c.in-Some.ensures named).1 (one, c.from.ensures ∙ is)) in
+    same_Some _ _ ((c.in-Some.ensures named).1 (c.from.ensures ∙ is)) in
     let s : Setting = setting_of c.in-Some.suite c.args.key.now c.args.nonce.now c.args.aad.now in
-    let f = held (construction_of s.suite) c.in-Ok.state s [] c.in-Ok.ensures in
+    let state = c.in-Ok.ensures c.args.tag.now in
+    let f = sealed (construction_of s.suite) c.in-Ok.state s c.args.tag.now [] state in
     let new : StoredPasses =
     record {
       mark = c.mark_of.result;
@@ -27,13 +28,13 @@ returns-in-Ok-clause-known c = λ named one is.
     let holds : HoldsChecking new s c.args.tag.now [] =
     record {
       mark_is = c.mark_of.ensures;
-      state = c.in-Ok.ensures;
-      start = start_of (construction_of s.suite) c.in-Ok.state s c.in-Ok.ensures;
+      state = state;
+      start = start_of (construction_of s.suite) c.in-Ok.state s c.args.tag.now state;
       tag_is = refl;
       tag_long = omega arith;
       small = λ i. omega arith;
-      mask_small = mask_small s c.args.tag.now f.one_pass
-          (λ _. aes_key s.suite s.key f.lengths.key_fits (λ i. (c.type_inv.key i).fits));
+      mask_small = any_mask_small s c.args.tag.now
+          (aes_key s.suite s.key f.lengths.key_fits (λ i. (c.type_inv.key i).fits)) f.lengths.key_fits;
     } in (
       Ok tt,
       (
@@ -44,9 +45,9 @@ returns-in-Ok-clause-known c = λ named one is.
     )
 
 pub returns-in-Err-clause-known : goal.returns-in-Err-clause-known
-returns-in-Err-clause-known c = λ named one is.
+returns-in-Err-clause-known c = λ named is.
     let same : c.in-Some.suite ≡ named =
-    same_Some _ _ ((c.in-Some.ensures named).1 (one, c.from.ensures ∙ is)) in (
+    same_Some _ _ ((c.in-Some.ensures named).1 (c.from.ensures ∙ is)) in (
       Err c.in-Err.fault,
       (
         c.outcome_number-in-Err.ensures,
@@ -58,4 +59,4 @@ returns-in-Err-clause-known c = λ named one is.
 pub returns-in-Err-clause-unknown : goal.returns-in-Err-clause-unknown
 returns-in-Err-clause-unknown c = λ none.
     let found = (c.in-Some.ensures c.in-Some.suite).0 refl in
-    absurd (none c.in-Some.suite found.0 (sym c.from.ensures ∙ found.1))
+    absurd (none c.in-Some.suite (sym c.from.ensures ∙ found))

@@ -7,13 +7,13 @@ use Rattle.aead.proofs.Outcomes.{done}
 use Rattle.aead.proofs.exports.opener.tests.opened_in_two.Goals as goal
 
 pub returns : goal.returns
-returns c = λ named one is zero.
+returns c = λ named is zero.
     let s = setting_of named c.args.keys.0.now c.args.keys.1.now c.args.keys.2.now in
     let tag : List ℕ = c.args.tag.now in
     let x : List ℕ = c.args.first.now in
     let y : List ℕ = c.args.second.now in
     let mask : ℕ → ℕ = mask_of s tag in
-    let begun = done _ _ _ (c.aeadkit_opener_init.ensures.known named one is) c.if-aeadkit_opener_init-ne0.false in
+    let begun = done _ _ _ (c.aeadkit_opener_init.ensures.known named is) c.if-aeadkit_opener_init-ne0.false in
     let once = done _ _ _ (c.aeadkit_opener_check.ensures.holds s tag [] begun)
     c.if-aeadkit_opener_check-ne0.false in
     let twice = done _ _ _ (c.aeadkit_opener_check-2.ensures.holds s tag x once)
