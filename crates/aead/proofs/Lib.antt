@@ -28,3 +28,4 @@ pub mod Parts
 pub mod ByteMasks
 pub mod Stored
 pub mod Outcomes
+mod Marks

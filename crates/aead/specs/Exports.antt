@@ -34,6 +34,14 @@ suite_number Aes256GcmSiv = 6
 abbrev pub unknown_suite : ℕ
 unknown_suite = 14
 
+-- the mark of a kept key: `cipher` in ASCII, the version of the layout, and the suite's number
+abbrev pub key_mark : Suite → ℕ
+key_mark suite = 0x6369706865720100 + suite_number suite
+
+-- the key of a suite that the bytes begin with
+abbrev pub first_key : Suite → List ℕ → List ℕ
+first_key suite bytes = take (key_length suite) bytes
+
 -- a suite with the bytes that are handed in
 abbrev pub setting_of : Suite → List ℕ → List ℕ → List ℕ → Setting
 setting_of suite key nonce aad = record { suite = suite; key = key; nonce = nonce; aad = aad }

@@ -12,6 +12,7 @@ pub mod SealStream
 pub mod SealSivStream
 pub mod Exports
 pub mod Stored
+pub mod StoredKey
 pub mod StoredOpener
 pub mod StoredSiv
 pub mod Code

@@ -17,11 +17,13 @@ use aes::AesKey;
 use octets::{Fault, Key32, Nonce, Tag, outcome_number};
 
 mod any_pass;
+mod key;
 mod opener;
 mod pass;
 mod sealer;
 mod siv;
 mod stored;
+mod stored_key;
 
 // The status of a call at C whose suite number is unknown.
 const UNKNOWN_SUITE: u32 = 14;

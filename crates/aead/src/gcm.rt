@@ -70,6 +70,17 @@ impl Gcm {
         ensures { result ≡ record { suite = suite; key = key } }
     {
         let ghash_key = key.encrypt(&Block::new([0; 16]));
+        Gcm::with_hash_key(suite, key, ghash_key)
+    }
+
+    // The cipher of one of the three suites under a key whose hash key is there.
+    #[inline(always)]
+    pub(crate) fn with_hash_key(suite: Suite, key: AesKey, ghash_key: Block) -> Gcm
+        requires by_gcm { construction_of suite ≡ ByGcm }
+        requires is_key { IsKey key }
+        requires hash_key { ghash_key ≡ hash_key key }
+        ensures { result ≡ record { suite = suite; key = key } }
+    {
         Gcm {
             suite,
             key,

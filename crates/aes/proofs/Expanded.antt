@@ -5,7 +5,8 @@ use Rattle.std.proofs.lemmas.List.FromFn.{get_or-map-range_with_len}
 use Rattle.std.proofs.lemmas.List.{length-map, get_or-map}
 use Rattle.aes.specs.Columns.{column_of, columns_of}
 use Rattle.aes.specs.Schedule.{round_count, schedule}
-use Rattle.aes.specs.Code.ExpandedKey.{table, key_of, IsKeySize, IsExpanded}
+use Rattle.aes.specs.KeptWords.{table}
+use Rattle.aes.specs.Code.ExpandedKey.{key_of, IsKeySize, IsExpanded}
 use Rattle.aes.specs.Cipher.{at, grid, sub_bytes, shift_rows, mix_columns, add_round_key, rounds, cipher}
 use Rattle.aes.specs.Cipher.{IsKey, IsKeyLength}
 use Rattle.aes.proofs.Words.{words_at, word_start, table_start, key_of_words}
@@ -134,6 +135,13 @@ pub key_length : (key : List ℕ) (n : ℕ) → IsKeySize n → length key ≡ 4
 key_length key n (inl e) h = inl (omega arith)
 key_length key n (inr (inl e)) h = inr (inl (omega arith))
 key_length key n (inr (inr e)) h = inr (inr (omega arith))
+
+-- and a key of so many bytes has a fourth as many words
+pub key_size : (key : List ℕ) → IsKeyLength (length key)
+    → IsKeySize (length key / 4) × (length key ≡ 4 * (length key / 4))
+key_size key (inl e) = (inl (omega arith), omega arith)
+key_size key (inr (inl e)) = (inr (inl (omega arith)), omega arith)
+key_size key (inr (inr e)) = (inr (inr (omega arith)), omega arith)
 
 -- the fields spell a key
 pub is_key : (ws : List ℕ) (n : ℕ) → IsExpanded ws n → IsKey (key_of (columns_of ws) n)

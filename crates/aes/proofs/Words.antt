@@ -11,7 +11,8 @@ use Rattle.std.proofs.lemmas.List.{length-map, get_or_past}
 use Rattle.aes.specs.Columns.{column_of, columns_of}
 use Rattle.aes.specs.Schedule.{schedule, xor_word, key_words, changed, next_word, words, sub_word, rot_word}
 use Rattle.aes.specs.Schedule.{rcon, round_count, MeetsRecurrence}
-use Rattle.aes.specs.Code.ExpandedKey.{table, key_of}
+use Rattle.aes.specs.KeptWords.{table}
+use Rattle.aes.specs.Code.ExpandedKey.{key_of}
 
 -- the number of words
 pub length_words : (key : List ℕ) (n : ℕ) → length (words key n) ≡ n

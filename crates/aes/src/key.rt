@@ -5,6 +5,7 @@ ghost use Rattle.octets.specs.Bytes.{IsBlock, block_at};
 ghost use Rattle.aes.specs.Cipher.{cipher, IsKey, IsKeyLength, IsPreimage};
 ghost use Rattle.aes.specs.Code.InverseKey.{IsInverse};
 ghost use Rattle.aes.specs.Code.Lanes.{IsReady};
+ghost use Rattle.aes.specs.KeptWords.{KeepsSchedule};
 ghost use Rattle.aes.specs.Code.Planes.{AreReady, HoldsBits, HoldsSixteen};
 ghost use Rattle.aes.specs.Schedule.{schedule, round_count};
 
@@ -91,6 +92,28 @@ impl AesKey {
             words: expand(key, size),
             size,
         })
+    }
+
+    /// The words of the schedule, each with its first byte least significant, and zeros after them (FIPS 197,
+    /// 5.2), for a caller that stores plain numbers.
+    pub fn words(&self) -> [u32; 60]
+        ensures { KeepsSchedule result self.now }
+    {
+        self.words
+    }
+
+    /// The key with these bytes, of which `words` returned these words. The caller shows that they keep its
+    /// schedule.
+    pub fn from_words(words: &[u32; 60], key: &[u8]) -> AesKey
+        requires long { IsKeyLength (length key.now) }
+        requires schedule { KeepsSchedule words.now key.now }
+        ensures value { result ≡ key.now }
+        ensures is_key { IsKey key.now }
+    {
+        AesKey {
+            words: *words,
+            size: key.len() / 4,
+        }
     }
 
     /// The block of 16 bytes that the cipher takes `block` to (FIPS 197, 5.1).

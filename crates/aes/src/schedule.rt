@@ -3,7 +3,8 @@
 ghost use Rattle.std.specs.Prelude.{◌≡◌, ℕ, ◌+◌, ◌*◌, ◌^◌, ◌≤◌, ◌/◌, ◌<◌, length, take, drop, slice_index};
 ghost use Rattle.aes.specs.Columns.{column_of, columns_of};
 ghost use Rattle.aes.specs.Schedule.{xor_word, sub_word, rot_word, rcon, changed, MeetsRecurrence};
-ghost use Rattle.aes.specs.Code.ExpandedKey.{table, IsKeySize};
+ghost use Rattle.aes.specs.KeptWords.{table};
+ghost use Rattle.aes.specs.Code.ExpandedKey.{IsKeySize};
 
 use crate::sbox::substitute;
 use byteorder::{ByteOrder, LittleEndian};

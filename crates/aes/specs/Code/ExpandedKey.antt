@@ -8,7 +8,7 @@ use Rattle.std.proofs.Math.Nat.{mul-div_cancel_left}
 use Rattle.octets.specs.Bytes.{le}
 use Rattle.octets.proofs.Numbers.{le_is}
 use Rattle.aes.specs.Columns.{column_of, columns_of}
-use Rattle.aes.specs.Schedule.{schedule}
+use Rattle.aes.specs.KeptWords.{table}
 use Rattle.aes.specs.declared.key.AesKey.TheInside.{Inside}
 
 -- 4, 6 or 8
@@ -18,10 +18,6 @@ IsKeySize nk = (nk ≡ 4) ⊎ ((nk ≡ 6) ⊎ (nk ≡ 8))
 -- the key that the first nk words spell
 abbrev pub key_of : List (List ℕ) → ℕ → List ℕ
 key_of ws nk = flat_map (λ w. w) (take nk ws)
-
--- the sixty words that are kept: those of the schedule, and zero words after them
-unfoldable pub table : List ℕ → List (List ℕ)
-table key = schedule key ++ replicate (60 - length (schedule key)) (replicate 4 0)
 
 -- what the fields keep: words that spell the columns of the table of the key that they begin with
 pub record IsExpanded (ws : List ℕ) (nk : ℕ) : Type 0 where

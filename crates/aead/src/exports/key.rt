@@ -1,0 +1,202 @@
+// A key that is kept at C between messages: what is made of it alone is made once.
+
+ghost use Rattle.std.specs.Prelude.{◌≡◌, ◌≢◌, ℕ, List, length, MatchResult};
+ghost use Rattle.octets.specs.Numbers.{HasOutcome};
+ghost use Rattle.aead.specs.declared.suite.Suite.{Suite};
+ghost use Rattle.aead.specs.Suites.{key_length};
+ghost use Rattle.aead.specs.Exports.{suite_number, unknown_suite, setting_of, key_mark, first_key};
+ghost use Rattle.aead.specs.Exports.{WasSealed, WasNotSealed, WasOpened, WasNotOpened};
+ghost use Rattle.aead.specs.Stored.{not_begun};
+ghost use Rattle.aead.specs.StoredKey.{KeepsKey, KeepsNone, KeyRefused};
+
+use super::pass::{mark_of, marked};
+use super::sealer::NOT_BEGUN;
+use super::stored_key::StoredKey;
+use super::{UNKNOWN_SUITE, open_under, seal_under, suite_numbered};
+use crate::chacha_poly::ChaChaPoly;
+use crate::derived_keys::expanded;
+use crate::gcm::Gcm;
+use crate::gcm_siv::GcmSiv;
+use crate::suite::Suite;
+use octets::{Block, Fault, Key32, outcome_number};
+
+// The kind of struct, to which its mark adds the suite's number: `cipher` in ASCII, and the version of its layout.
+const KEY: u64 = 0x6369_7068_6572_0100;
+
+// Keeps the bytes of a key of the suite's length.
+fn kept(suite: Suite, key: &[u8]) -> StoredKey
+    requires { length key.now ≡ key_length suite }
+    ensures { KeepsKey result suite key.now }
+{
+    let mut padded = [0; 32];
+    padded[..key.len()].copy_from_slice(key);
+    let aes = expanded(key);
+    StoredKey {
+        mark: mark_of(KEY, suite),
+        key: padded,
+        words: aes.words(),
+        ghash_key: *aes.encrypt(&Block::new([0; 16])).bytes(),
+    }
+}
+
+// Seals under a kept key and the bytes of a nonce.
+fn seal_kept(
+    kept: &StoredKey,
+    suite: Suite,
+    nonce: &[u8],
+    aad: &[u8],
+    bytes: &mut [u8],
+) -> Result<(), Fault>
+    requires { kept.now.mark ≡ key_mark suite }
+    ensures { let s = setting_of suite (first_key suite kept.now.key) nonce.now aad.now in
+        MatchResult result (λ _. WasSealed s bytes.old bytes.new) (WasNotSealed s bytes.old bytes.new) }
+{
+    match suite {
+        Suite::ChaCha20Poly1305 => {
+            let cipher = ChaChaPoly::new(&Key32::new(kept.key));
+            seal_under(&cipher, nonce, aad, bytes)
+        }
+        Suite::Aes128Gcm | Suite::Aes192Gcm | Suite::Aes256Gcm => {
+            let cipher = Gcm::with_hash_key(suite, kept.aes(suite), Block::new(kept.ghash_key));
+            seal_under(&cipher, nonce, aad, bytes)
+        }
+        Suite::Aes128GcmSiv | Suite::Aes256GcmSiv => {
+            let cipher = GcmSiv::new(suite, kept.aes(suite));
+            seal_under(&cipher, nonce, aad, bytes)
+        }
+    }
+}
+
+// Opens under a kept key and the bytes of a nonce.
+fn open_kept(
+    kept: &StoredKey,
+    suite: Suite,
+    nonce: &[u8],
+    aad: &[u8],
+    bytes: &mut [u8],
+) -> Result<(), Fault>
+    requires { kept.now.mark ≡ key_mark suite }
+    ensures { let s = setting_of suite (first_key suite kept.now.key) nonce.now aad.now in
+        MatchResult result (λ _. WasOpened s bytes.old bytes.new) (WasNotOpened s bytes.old bytes.new) }
+{
+    match suite {
+        Suite::ChaCha20Poly1305 => {
+            let cipher = ChaChaPoly::new(&Key32::new(kept.key));
+            open_under(&cipher, nonce, aad, bytes)
+        }
+        Suite::Aes128Gcm | Suite::Aes192Gcm | Suite::Aes256Gcm => {
+            let cipher = Gcm::with_hash_key(suite, kept.aes(suite), Block::new(kept.ghash_key));
+            open_under(&cipher, nonce, aad, bytes)
+        }
+        Suite::Aes128GcmSiv | Suite::Aes256GcmSiv => {
+            let cipher = GcmSiv::new(suite, kept.aes(suite));
+            open_under(&cipher, nonce, aad, bytes)
+        }
+    }
+}
+
+/// Keeps a key of a suite. What the struct was before makes no difference. `UNKNOWN_SUITE`, then `KeyLength`:
+/// both leave a struct that keeps no key.
+#[unsafe(no_mangle)]
+pub extern "C" fn aeadkit_key_init(kept: &mut StoredKey, suite: u32, key: &[u8]) -> u32
+    ensures known { (named : Suite) → suite ≡ suite_number named
+        → HasOutcome result (KeepsKey kept.new named key.now) (KeyRefused named key.now) }
+    ensures unknown { ((named : Suite) → suite ≢ suite_number named) → result ≡ unknown_suite }
+    ensures refused { result ≢ 0 → KeepsNone kept.new }
+{
+    *kept = StoredKey::zeros();
+    let Some(suite) = suite_numbered(u64::from(suite)) else {
+        return UNKNOWN_SUITE;
+    };
+    if key.len() != suite.key_length() {
+        return outcome_number(Err(Fault::KeyLength));
+    }
+    *kept = self::kept(suite, key);
+    outcome_number(Ok(()))
+}
+
+/// Seals in place under a kept key, as `aeadkit_seal` does under its bytes. `NOT_BEGUN` if the struct keeps no
+/// key.
+#[unsafe(no_mangle)]
+pub extern "C" fn aeadkit_seal_with(
+    kept: &StoredKey,
+    nonce: &[u8],
+    aad: &[u8],
+    bytes: &mut [u8],
+) -> u32
+    ensures keeps { (suite : Suite) (key : List ℕ) → KeepsKey kept.now suite key → let s =
+        setting_of suite key nonce.now aad.now in
+        HasOutcome result (WasSealed s bytes.old bytes.new) (WasNotSealed s bytes.old bytes.new) }
+    ensures not_begun { KeepsNone kept.now → (result ≡ not_begun) × (bytes.new ≡ bytes.old) }
+{
+    match marked(KEY, kept.mark) {
+        Some(suite) => outcome_number(seal_kept(kept, suite, nonce, aad, bytes)),
+        None => NOT_BEGUN,
+    }
+}
+
+/// Opens in place under a kept key, as `aeadkit_open` does under its bytes. `NOT_BEGUN` if the struct keeps no
+/// key.
+#[unsafe(no_mangle)]
+pub extern "C" fn aeadkit_open_with(
+    kept: &StoredKey,
+    nonce: &[u8],
+    aad: &[u8],
+    bytes: &mut [u8],
+) -> u32
+    ensures keeps { (suite : Suite) (key : List ℕ) → KeepsKey kept.now suite key → let s =
+        setting_of suite key nonce.now aad.now in
+        HasOutcome result (WasOpened s bytes.old bytes.new) (WasNotOpened s bytes.old bytes.new) }
+    ensures not_begun { KeepsNone kept.now → (result ≡ not_begun) × (bytes.new ≡ bytes.old) }
+{
+    match marked(KEY, kept.mark) {
+        Some(suite) => outcome_number(open_kept(kept, suite, nonce, aad, bytes)),
+        None => NOT_BEGUN,
+    }
+}
+
+/// The bytes of a struct that keeps a key.
+#[unsafe(no_mangle)]
+pub extern "C" fn aeadkit_key_size() -> usize
+    ensures { result ≡ 296 }
+{
+    size_of::<StoredKey>()
+}
+
+#[cfg(test)]
+mod tests {
+    use super::super::{aeadkit_open, aeadkit_seal};
+    use super::*;
+
+    // Whether a kept key seals and opens as its bytes do.
+    fn serves(suite: u32, key: &[u8]) -> bool {
+        let mut kept = StoredKey::zeros();
+        let mut by_key = [1; 80];
+        let mut by_kept = [1; 80];
+        let begun = aeadkit_key_init(&mut kept, suite, key);
+        let sealed = aeadkit_seal(suite, key, &[9; 12], b"to", &mut by_key);
+        let sealed_with = aeadkit_seal_with(&kept, &[9; 12], b"to", &mut by_kept);
+        let same = by_key == by_kept;
+        let opened = aeadkit_open(suite, key, &[9; 12], b"to", &mut by_key);
+        let opened_with = aeadkit_open_with(&kept, &[9; 12], b"to", &mut by_kept);
+        begun + sealed + sealed_with + opened + opened_with == 0 && same && by_key == by_kept
+    }
+
+    #[test]
+    fn a_kept_key_serves_as_its_bytes(rt: HostRuntime) {
+        for (suite, size) in [(1, 32), (2, 16), (3, 24), (4, 32), (5, 16), (6, 32)] {
+            assert!(rt; serves(suite, &[7; 32][..size]), "{suite}");
+        }
+    }
+
+    #[test]
+    fn no_key_is_kept(rt: HostRuntime) {
+        let mut kept = StoredKey::zeros();
+        let mut bytes = [1; 32];
+        assert!(rt; aeadkit_key_init(&mut kept, 7, &[7; 16]) == 14);
+        assert!(rt; aeadkit_key_init(&mut kept, 2, &[7; 17]) == 1);
+        assert!(rt; aeadkit_seal_with(&kept, &[9; 12], &[], &mut bytes) == 15);
+        assert!(rt; aeadkit_open_with(&kept, &[9; 12], &[], &mut bytes) == 15);
+        assert!(rt; bytes == [1; 32]);
+    }
+}

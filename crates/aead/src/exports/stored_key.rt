@@ -1,0 +1,51 @@
+// A key that is stored in the memory of a caller in C.
+
+ghost use Rattle.std.specs.Prelude.{◌≡◌};
+ghost use Rattle.aes.specs.Cipher.{IsKey};
+ghost use Rattle.aes.specs.KeptWords.{KeepsSchedule};
+ghost use Rattle.aead.specs.declared.suite.Suite.{Suite};
+ghost use Rattle.aead.specs.Sealing.{hash_key};
+ghost use Rattle.aead.specs.Exports.{key_mark, first_key};
+
+use crate::suite::Suite;
+use aes::AesKey;
+
+/// A key of a suite with what is made of it alone. C owes it that a struct with the mark of a suite is as
+/// `aeadkit_key_init` left it; any other struct is refused.
+#[repr(C)]
+#[derive(Clone, Copy)]
+pub struct StoredKey {
+    // The kind of struct, the version of its layout and the suite; anything else if no key is kept.
+    pub(super) mark: u64,
+    // The key, and zeros after it.
+    pub(super) key: [u8; 32],
+    // The schedule of AES, and zeros after it. It and the key of GHASH are there whatever the suite.
+    pub(super) words: [u32; 60],
+    pub(super) ghash_key: [u8; 16],
+    ghost schedule: { (suite : Suite) → mark ≡ key_mark suite → KeepsSchedule words (first_key suite key) },
+    ghost hashes: { (suite : Suite) → mark ≡ key_mark suite → ghash_key ≡ hash_key (first_key suite key) },
+}
+
+impl StoredKey {
+    // All zeros: it keeps no key.
+    pub(super) fn zeros() -> StoredKey
+        ensures { result.mark ≡ 0 }
+    {
+        StoredKey {
+            mark: 0,
+            key: [0; 32],
+            words: [0; 60],
+            ghash_key: [0; 16],
+        }
+    }
+
+    // AES under the key.
+    #[inline(always)]
+    pub(super) fn aes(&self, suite: Suite) -> AesKey
+        requires marked { self.now.mark ≡ key_mark suite }
+        ensures value { result ≡ first_key suite self.now.key }
+        ensures is_key { IsKey (first_key suite self.now.key) }
+    {
+        AesKey::from_words(&self.words, &self.key[..suite.key_length()])
+    }
+}

@@ -1,0 +1,17 @@
+use Rattle.std.proofs.Common.{◌≡◌, ◌*◌, ◌/◌, length, arith, inl, inr, rules}
+use Rattle.aes.specs.Cipher.{IsKeyLength}
+use Rattle.aes.specs.Code.ExpandedKey.{IsKeySize}
+use Rattle.aes.proofs.Expanded.{spelled, expanded, key_size}
+use Rattle.aes.proofs.key.AesKey.from_words.Goals as goal
+
+pub invariant_of-result : goal.invariant_of-result
+invariant_of-result c =
+    expanded c.args.words.now c.args.key.now (length c.args.key.now / 4) (search rules) (search rules)
+    (key_size c.args.key.now c.requires.long).0 (key_size c.args.key.now c.requires.long).1
+    c.requires.schedule.columns_are c.requires.schedule.words
+
+pub returns-clause-value : goal.returns-clause-value
+returns-clause-value c =
+    spelled c.args.words.now c.args.key.now (length c.args.key.now / 4) (search rules)
+    (key_size c.args.key.now c.requires.long).0 (key_size c.args.key.now c.requires.long).1
+    c.requires.schedule.columns_are
