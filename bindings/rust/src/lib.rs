@@ -22,10 +22,10 @@ pub use opener::{CheckedOpener, Opener};
 pub use sealer::Sealer;
 pub use siv::{SivSealer, SivWriter};
 
-/// The length of a tag in bytes: a sealing is so much longer than its text.
+/// The length of a tag in bytes: a sealing is that much longer than its text.
 pub const TAG_BYTES: usize = 16;
 
-/// A wrapping is so many bytes longer than its text.
+/// A wrapping is that many bytes longer than its text.
 pub const WRAP_BYTES: usize = 8;
 
 /// The length of a nonce in bytes.
