@@ -26,7 +26,7 @@ sealed = 1fa68b0a8112b447aef34bd8fb5a7b829d3e862371d2cfe5
 text = 00112233445566778899aabbccddeeff
 END
 
-# What a run answers with request number $1 refused: its status, its two outputs, and whether OUT was made.
+# The outcome of a run with request number $1 refused: its status, its two outputs, and whether OUT was made.
 answer() {
     rm -f "$room/out"
     number=$1

@@ -34,7 +34,7 @@ static int all(const uint8_t *bytes, size_t length, uint8_t value) {
 
 enum { LONGEST = 20000 };
 
-static uint8_t whole[LONGEST + 16], pieces[LONGEST + 1], text[LONGEST];
+static uint8_t whole[LONGEST + 16], pieces[LONGEST + 16], text[LONGEST];
 
 /* A random text under random keys of a suite, in `text`, and its sealing in `whole`. */
 struct message {
@@ -379,11 +379,60 @@ static void refusals(void) {
     }
 }
 
+/* A kept key seals and opens a message as its bytes do, and no call writes it. */
+static void by_a_kept_key(long number) {
+    struct message m = message_of(number, 1 + (uint32_t)(number % 6));
+    struct { uint8_t before[16]; struct aeadkit_key kept; uint8_t after[16]; } held;
+    memset(&held, 0xa5, sizeof held);
+    random_bytes((uint8_t *)&held.kept, sizeof held.kept);
+    want(aeadkit_key_init(&held.kept, m.suite, m.key, m.key_length) == AEADKIT_DONE, "key_init", number);
+    struct aeadkit_key kept = held.kept;
+    memcpy(pieces, text, m.length);
+    want(aeadkit_seal_with(&held.kept, m.nonce, 12, m.aad, m.aad_length, pieces, m.length + 16) == AEADKIT_DONE, "seal_with",
+         number);
+    want(memcmp(pieces, whole, m.length + 16) == 0, "another sealing by a kept key", number);
+    want(aeadkit_open_with(&held.kept, m.nonce, 12, m.aad, m.aad_length, pieces, m.length + 16) == AEADKIT_DONE, "open_with",
+         number);
+    want(memcmp(pieces, text, m.length) == 0, "another text by a kept key", number);
+    memcpy(pieces, whole, m.length + 16);
+    pieces[random_word() % (m.length + 16)] ^= 1;
+    memcpy(whole, pieces, m.length + 16);
+    want(aeadkit_open_with(&held.kept, m.nonce, 12, m.aad, m.aad_length, pieces, m.length + 16) == AEADKIT_TAG_MISMATCH,
+         "a changed sealing opened by a kept key", number);
+    want(memcmp(pieces, whole, m.length + 16) == 0, "changed at a mismatch by a kept key", number);
+    want(aeadkit_seal_with(&held.kept, m.nonce, 11, NULL, 0, pieces, 16) == AEADKIT_NONCE_LENGTH, "a nonce of 11 bytes", number);
+    want(memcmp(&kept, &held.kept, sizeof kept) == 0, "a kept key was written", number);
+    want(all(held.before, 16, 0xa5) && all(held.after, 16, 0xa5), "written beside a kept key", number);
+}
+
+/* A struct with any mark but those of kept keys is refused, and one with such a mark and random bytes behind it is read within
+   its bounds: the status is one of the call's. */
+static void kept_key_rubbish(long number) {
+    struct aeadkit_key kept;
+    uint8_t key[33], nonce[12] = {0}, bytes[64], before[64];
+    random_bytes(key, 33);
+    random_bytes(bytes, 64);
+    memcpy(before, bytes, 64);
+    random_bytes((uint8_t *)&kept, sizeof kept);
+    want(aeadkit_seal_with(&kept, nonce, 12, NULL, 0, bytes, 64) == AEADKIT_NOT_BEGUN, "sealed by no key", number);
+    want(aeadkit_open_with(&kept, nonce, 12, NULL, 0, bytes, 64) == AEADKIT_NOT_BEGUN, "opened by no key", number);
+    want(aeadkit_key_init(&kept, 7, key, 32) == AEADKIT_UNKNOWN_SUITE, "a key of suite 7", number);
+    want(aeadkit_key_init(&kept, 1 + (uint32_t)(number % 6), key, 33) == AEADKIT_KEY_LENGTH, "a key of 33 bytes", number);
+    want(aeadkit_seal_with(&kept, nonce, 12, NULL, 0, bytes, 64) == AEADKIT_NOT_BEGUN, "sealed by a refused key", number);
+    want(memcmp(bytes, before, 64) == 0, "changed by no key", number);
+    uint32_t suite = 1 + (uint32_t)(number % 6);
+    want(aeadkit_key_init(&kept, suite, key, suite == 2 || suite == 5 ? 16 : suite == 3 ? 24 : 32) == AEADKIT_DONE, "key_init",
+         number);
+    random_bytes((uint8_t *)&kept + 8, sizeof kept - 8);
+    want(aeadkit_seal_with(&kept, nonce, 12, NULL, 0, bytes, 64) == AEADKIT_DONE, "sealed by a spoilt key", number);
+}
+
 int main(int count, char **words) {
     long splits = count > 1 ? atol(words[1]) : 100000, structs = count > 2 ? atol(words[2]) : 1000000;
     want(aeadkit_sealer_size() == sizeof(struct aeadkit_sealer), "the size of the sealer", 0);
     want(aeadkit_opener_size() == sizeof(struct aeadkit_opener), "the size of the opener", 0);
     want(aeadkit_siv_size() == sizeof(struct aeadkit_siv), "the size of the siv", 0);
+    want(aeadkit_key_size() == sizeof(struct aeadkit_key), "the size of the key", 0);
     refusals();
     struct aeadkit_sealer marks[4], sealer;
     struct aeadkit_opener opener_marks[2][6];
@@ -413,11 +462,13 @@ int main(int count, char **words) {
         seal_in_pieces(i);
         open_in_pieces(i);
         seal_by_two_readings(i);
+        by_a_kept_key(i);
     }
     for (long i = 0; i < structs; i++) {
         rubbish(i, marks);
         opener_rubbish(i, (const struct aeadkit_opener(*)[6])opener_marks);
         siv_rubbish(i, (const struct aeadkit_siv(*)[2])siv_marks);
+        kept_key_rubbish(i);
     }
     printf("pieces: %ld texts in pieces each way, %ld structs of random bytes of each kind: nothing differs\n", splits,
            structs);

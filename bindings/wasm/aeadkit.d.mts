@@ -100,7 +100,7 @@ export class SivSealer {
     finish(): void;
 }
 
-/** The calls of keywrap.wasm, whose bytes are handed in. The key has 16, 24 or 32 bytes. */
+/** The calls of keywrap.wasm, whose bytes are handed in. The key is 16, 24 or 32 bytes long. */
 export class KeyWrap {
     constructor(bytes: ArrayBuffer | ArrayBufferView);
 

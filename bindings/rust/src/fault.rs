@@ -7,7 +7,7 @@ use std::fmt;
 #[derive(Clone, Copy, Debug, PartialEq, Eq, Hash)]
 #[non_exhaustive]
 pub enum Fault {
-    /// The key has no length of the suite, or of AES.
+    /// The key's length is not the suite's, or not one of AES.
     KeyLength,
     /// The nonce is not 12 bytes long.
     NonceLength,
@@ -19,7 +19,7 @@ pub enum Fault {
     TooShort,
     /// The bytes are the sealing of no text.
     TagMismatch,
-    /// The length is none of a text to wrap, or of a wrapping: each call says which it takes.
+    /// The length is not that of a text to wrap, or of a wrapping: each call says which it takes.
     WrapLength,
     /// The bytes are the wrapping of no text.
     WrapIntegrity,

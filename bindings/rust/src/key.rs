@@ -3,7 +3,7 @@
 use crate::{Fault, NONCE_BYTES, Suite, open, seal};
 use std::fmt;
 
-/// A suite with a key of its length. Each call makes the key's schedule anew. Never seal two texts with one nonce.
+/// A suite with a key of its length. Each call makes a new key schedule. Never seal two texts with one nonce.
 #[derive(Clone)]
 pub struct Key {
     suite: Suite,
@@ -11,7 +11,7 @@ pub struct Key {
 }
 
 impl Key {
-    /// `KeyLength` if the key has no length of the suite.
+    /// `KeyLength` if the key's length is not the suite's.
     pub fn new(suite: Suite, key: &[u8]) -> Result<Key, Fault> {
         let mut bytes = [0; 32];
         if key.len() != suite.key_bytes() {

@@ -22,13 +22,13 @@ pub use opener::{CheckedOpener, Opener};
 pub use sealer::Sealer;
 pub use siv::{SivSealer, SivWriter};
 
-/// The bytes of a tag: a sealing is as much longer than its text.
+/// The length of a tag in bytes: a sealing is that much longer than its text.
 pub const TAG_BYTES: usize = 16;
 
-/// A wrapping is as many bytes longer than its text.
+/// A wrapping is that many bytes longer than its text.
 pub const WRAP_BYTES: usize = 8;
 
-/// The bytes of a nonce.
+/// The length of a nonce in bytes.
 pub const NONCE_BYTES: usize = 12;
 
 /// The suites.
@@ -44,7 +44,7 @@ pub enum Suite {
 }
 
 impl Suite {
-    /// The bytes of a key.
+    /// The length of a key in bytes.
     pub const fn key_bytes(self) -> usize {
         match self {
             Suite::Aes128Gcm | Suite::Aes128GcmSiv => 16,
@@ -72,7 +72,7 @@ pub fn open<'a>(
     Ok(&mut bytes[..length])
 }
 
-/// `bytes` are room for 8 bytes and then a text; they become its wrapping. The key has 16, 24 or 32 bytes. `WrapLength`
+/// `bytes` are room for 8 bytes and then a text; they become its wrapping. The key is 16, 24 or 32 bytes long. `WrapLength`
 /// under 24 bytes, and for no multiple of 8.
 pub fn wrap(key: &[u8], bytes: &mut [u8]) -> Result<(), Fault> {
     outcome(raw::wrap(key, bytes))

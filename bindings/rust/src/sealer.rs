@@ -5,7 +5,7 @@ use crate::{Fault, NONCE_BYTES, Suite, TAG_BYTES, raw};
 use std::fmt;
 
 /// A sealing in pieces, under ChaCha20-Poly1305 or AES-GCM: the ciphertext of all pieces, then the tag, is what `seal`
-/// makes of the whole text, however it is cut.
+/// makes of the whole text, for every split into pieces.
 pub struct Sealer {
     state: raw::Sealer,
 }
