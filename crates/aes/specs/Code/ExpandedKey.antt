@@ -1,6 +1,6 @@
 -- What the code keeps of a key: the schedule as sixty words of 32 bits. No definition of the standard.
-use Rattle.std.specs.Prelude.{◌≡◌, ℕ, ◌-◌, ◌*◌, ◌/◌, ◌^◌, ◌<◌, List, [], ◌∷◌, ◌++◌, map, take, length, get_or}
-use Rattle.std.specs.Prelude.{replicate, flat_map, ◌⊎◌}
+use Rattle.std.specs.Prelude.{◌≡◌, ℕ, ◌*◌, ◌/◌, ◌^◌, ◌<◌, List, [], ◌∷◌, map, take, length, get_or}
+use Rattle.std.specs.Prelude.{flat_map, ◌⊎◌}
 use Rattle.std.specs.Int.{w32}
 use Rattle.std.proofs.Common.{refl, sym, ap, ap₂, ◌∙◌, suc, lit≤, lit<}
 use Rattle.std.proofs.lemmas.Nat.{from_le_bytes-to_le_bytes_4}

@@ -1,6 +1,4 @@
-use Rattle.std.proofs.Common.{◌≡◌, ◌*◌, ◌/◌, length, arith, inl, inr, rules}
-use Rattle.aes.specs.Cipher.{IsKeyLength}
-use Rattle.aes.specs.Code.ExpandedKey.{IsKeySize}
+use Rattle.std.proofs.Common.{◌/◌, length, rules}
 use Rattle.aes.proofs.Expanded.{spelled, expanded, key_size}
 use Rattle.aes.proofs.key.AesKey.from_words.Goals as goal
 
