@@ -174,5 +174,8 @@ pub fn check<'a, A: Allocator, F: Storage>(
         (InputFailed (F.open_may_fail files.now path.now) F.Input.failures) ⊤ result }
 {
     let file = file_bytes(alloc, files, path)?;
-    Ok(vectors::check(alloc, &file)?)
+    match vectors::check(alloc, &file) {
+        Ok(report) => Ok(report),
+        Err(fault) => Err(Failure::Vector(fault)),
+    }
 }

@@ -1,20 +1,19 @@
 //! Why the program stops, and with which status.
 ghost use Rattle.std.specs.Prelude.{◌≡◌, ◌≤◌, ◌⊎◌};
 ghost use Rattle.std.specs.IoError.{error_kind};
-ghost use Rattle.aeadkit.specs.Statuses.{failure_status, fault_status, vector_status};
-ghost use Rattle.aeadkit.specs.declared.failure.Failure.TheVariants.{Fault as OfFault, Vector as OfVector};
+ghost use Rattle.aeadkit.specs.Statuses.{failure_status};
+ghost use Rattle.aeadkit.specs.declared.failure.Failure.TheVariants.{Fault as OfFault};
 ghost use Rattle.octets.specs.declared.fault.Fault.TheVariants.{OutOfMemory};
 
 use octets::Fault;
 use std::alloc::AllocError;
 use std::io::ErrorKind;
 use std::{fmt, io};
-use thiserror::Error;
 use vectors::VectorFault;
 
 /// Why the program stops. `Display` writes what follows `aeadkit: ` on standard error: a name, or the text
 /// of a fault.
-#[derive(Clone, Copy, Debug, Drop, Error)]
+#[derive(Clone, Copy)]
 pub enum Failure {
     /// The words are no command line of the program.
     Words,
@@ -22,7 +21,7 @@ pub enum Failure {
     UnknownSuite,
     /// A value given for hexadecimal is not an even number of hex digits.
     BadHex,
-    /// A call refused, a reading or a writing failed, or memory was wanting.
+    /// A call refused, a reading or a writing failed, or an allocation failed.
     Fault(Fault),
     /// A file has no report.
     Vector(VectorFault),
@@ -53,36 +52,22 @@ impl Failure {
     {
         match self {
             Failure::Words | Failure::UnknownSuite | Failure::BadHex => 2,
-            Failure::Fault(fault) => fault_status(fault),
-            Failure::Vector(fault) => vector_status(fault),
+            Failure::Fault(fault) => match fault {
+                Fault::TooShort | Fault::TagMismatch | Fault::WrapIntegrity => 1,
+                Fault::KeyLength
+                | Fault::NonceLength
+                | Fault::TextTooLong
+                | Fault::AadTooLong
+                | Fault::WrapLength
+                | Fault::StreamEnd => 2,
+                Fault::Read | Fault::Write | Fault::SourceChanged => 3,
+                Fault::OutOfMemory => 4,
+            },
+            Failure::Vector(fault) => match fault {
+                VectorFault::OutOfMemory => 4,
+                _ => 1,
+            },
         }
-    }
-}
-
-// The status of a fault.
-fn fault_status(fault: Fault) -> u8
-    ensures { result ≡ fault_status fault }
-{
-    match fault {
-        Fault::TooShort | Fault::TagMismatch | Fault::WrapIntegrity => 1,
-        Fault::KeyLength
-        | Fault::NonceLength
-        | Fault::TextTooLong
-        | Fault::AadTooLong
-        | Fault::WrapLength
-        | Fault::StreamEnd => 2,
-        Fault::Read | Fault::Write | Fault::SourceChanged => 3,
-        Fault::OutOfMemory => 4,
-    }
-}
-
-// The status of a fault of a vector file.
-fn vector_status(fault: VectorFault) -> u8
-    ensures { result ≡ vector_status fault }
-{
-    match fault {
-        VectorFault::OutOfMemory => 4,
-        _ => 1,
     }
 }
 
@@ -91,14 +76,6 @@ impl From<Fault> for Failure {
 
     fn from(fault: Fault) -> Failure {
         Failure::Fault(fault)
-    }
-}
-
-impl From<VectorFault> for Failure {
-    ghost from_gives = { λ fault failure. failure ≡ OfVector fault };
-
-    fn from(fault: VectorFault) -> Failure {
-        Failure::Vector(fault)
     }
 }
 

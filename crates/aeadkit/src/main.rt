@@ -38,7 +38,10 @@ fn main(rt: HostRuntime) -> ExitCode {
     ExitCode::from(match words_given(rt.alloc(), &rt) {
         Ok(words) => run(
             rt.alloc(),
-            &Disk::new(&rt, rt.alloc()),
+            &Disk {
+                runtime: &rt,
+                alloc: rt.alloc(),
+            },
             &words,
             &mut out,
             &mut err,

@@ -3,7 +3,7 @@ ghost use Rattle.std.specs.Prelude.{◌≤◌, ◌≡◌, ◌↔◌, ◌⊎◌, 
 ghost use Rattle.std.specs.Prelude.{string_bytes};
 ghost use Rattle.std.specs.Io.KnownBytes.{Appends};
 ghost use Rattle.aeadkit.specs.Answers.{Answered, Stopped, IsOutputFailure};
-ghost use Rattle.aeadkit.specs.Answers.{IsRefusedAs, version_line};
+ghost use Rattle.aeadkit.specs.Answers.{IsRefusedAs};
 ghost use Rattle.aeadkit.specs.Blames.{InputFailed, Blames, RequestBlames};
 ghost use Rattle.aeadkit.specs.declared.failure.Failure.TheVariants.{Fault as OfFault};
 ghost use Rattle.aeadkit.specs.Hex.{hex_line};
@@ -38,18 +38,6 @@ fn print<W: Write>(out: &mut W, text: &str) -> Result<u8, Failure>
     Ok(0)
 }
 
-// Prints bytes as one line of lower-case hexadecimal, and returns status 0. The only faults are `Write` and
-// `OutOfMemory`.
-fn print_bytes<A: Allocator, W: Write>(alloc: A, out: &mut W, bytes: &[u8]) -> Result<u8, Failure>
-    ensures { MatchResult result
-        (λ status. (status ≡ 0) × Appends (W.contents out.old) (W.contents out.new) (hex_line bytes.now))
-        IsOutputFailure }
-{
-    let mut line = hex::encode(alloc, bytes)?;
-    line.push('\n')?;
-    print(out, &line)
-}
-
 // Prints the value that a command returns as one line of lower-case hexadecimal, and returns status 0. A refusal is
 // passed on, and else the only faults are `Write` and `OutOfMemory`.
 fn print_value<A: Allocator + Copy, W: Write>(
@@ -63,7 +51,9 @@ fn print_value<A: Allocator + Copy, W: Write>(
         IsOutputFailure)
         (λ e. result ≡ Err e) }
 {
-    print_bytes(alloc, out, &value?)
+    let mut line = hex::encode(alloc, &value?)?;
+    line.push('\n')?;
+    print(out, &line)
 }
 
 // The text of a report: the number of records, then a line for each bad one.
@@ -137,17 +127,6 @@ pub fn perform<A: Allocator, F: Storage, W: Write>(
     }
 }
 
-// Prints the program's name and version as one line, and returns status 0. The only faults are `Write` and
-// `OutOfMemory`.
-fn print_version<W: Write>(alloc: Global, out: &mut W) -> Result<u8, Failure>
-    ensures { MatchResult result
-        (λ status. (status ≡ 0) × Appends (W.contents out.old) (W.contents out.new) version_line)
-        IsOutputFailure }
-{
-    let line = format!(in alloc; "aeadkit {VERSION}\n")?;
-    print(out, &line)
-}
-
 // Prints the help or the version that was asked for, or says why the words are no request.
 fn refuse<W: Write>(alloc: Global, refusal: &Refusal, out: &mut W) -> Result<u8, Failure>
     ensures answer { IsRefusedAs refusal.now (W.contents out.old) (W.contents out.new) result }
@@ -158,7 +137,10 @@ fn refuse<W: Write>(alloc: Global, refusal: &Refusal, out: &mut W) -> Result<u8,
             let text = format!(in alloc; "{help}")?;
             print(out, &text)
         }
-        Refusal::Version => print_version(alloc, out),
+        Refusal::Version => {
+            let line = format!(in alloc; "aeadkit {VERSION}\n")?;
+            print(out, &line)
+        }
         Refusal::Words => Err(Failure::Words),
         Refusal::OutOfMemory => Err(Failure::Fault(Fault::OutOfMemory)),
     }

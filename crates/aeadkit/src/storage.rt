@@ -74,18 +74,11 @@ impl<W: Write> Outlet for DiskOutput<W> {
     }
 }
 
-/// The files of the system. A reading takes a buffer.
+/// The files that a runtime reaches. Each reading allocates a buffer.
 #[derive(Drop)]
 pub struct Disk<'a, R: Files, A: Allocator> {
-    runtime: &'a R,
-    alloc: A,
-}
-
-impl<'a, R: Files, A: Allocator> Disk<'a, R, A> {
-    /// The files that a runtime reaches.
-    pub fn new(runtime: &'a R, alloc: A) -> Disk<'a, R, A> {
-        Disk { runtime, alloc }
-    }
+    pub runtime: &'a R,
+    pub alloc: A,
 }
 
 impl<R: Files, A: Allocator + Copy> Storage for Disk<'_, R, A> {

@@ -42,7 +42,6 @@ pub const OUT: &str = "out";
 pub const FILE: &str = "file";
 
 // An argument: an option under its name, or a word.
-#[derive(Clone, Copy)]
 struct ArgSpec {
     name: &'static str,
     // The name of its value in help.
@@ -162,7 +161,6 @@ const FILE_ARGS: [ArgSpec; 6] = [SUITE_ARG, KEY_ARG, NONCE_ARG, AAD_ARG, IN_ARG,
 const CHECK_ARGS: [ArgSpec; 1] = [FILE_ARG];
 
 // A subcommand: what it does, in a line, what else its help says, and its arguments.
-#[derive(Clone, Copy)]
 struct CommandSpec {
     name: &'static str,
     about: &'static str,
@@ -216,7 +214,7 @@ const SUBCOMMANDS: [CommandSpec; 7] = [
 ];
 
 // An argument, for clap.
-fn argument<'a>(alloc: Global, spec: ArgSpec) -> Arg<'a> {
+fn argument<'a>(alloc: Global, spec: &ArgSpec) -> Arg<'a> {
     let word = Arg::new(alloc, spec.name)
         .value_name(spec.value)
         .help(spec.help)
@@ -235,7 +233,7 @@ fn subcommand<'a>(alloc: Global, spec: &CommandSpec) -> Result<Command<'a>, Allo
         .about(spec.about)
         .after_help(spec.more);
     for arg in spec.args {
-        command = command.arg(argument(alloc, *arg))?;
+        command = command.arg(argument(alloc, arg))?;
     }
     Ok(command)
 }

@@ -44,7 +44,7 @@ pub enum PrintRequest<'a> {
 }
 
 /// A command that writes a file.
-#[derive(Clone, Copy, Drop)]
+#[derive(Drop)]
 pub enum FileCommand {
     /// The sealing of a file.
     Seal,
@@ -100,8 +100,24 @@ fn inputs_of<'a>(matches: &ArgMatches<'a>, body: &'a str) -> Inputs<'a> {
     }
 }
 
-// The request of a subcommand that prints.
-fn print_request<'a>(name: &str, matches: &ArgMatches<'a>) -> Option<Request<'a>> {
+// The request of a file command; `None` if both paths are the same text.
+fn file_request<'a>(command: FileCommand, matches: &ArgMatches<'a>) -> Option<Request<'a>> {
+    let input = value(matches, IN);
+    let output = value(matches, OUT);
+    if input == output {
+        return None;
+    }
+    Some(Request::Write(FileRequest {
+        command,
+        inputs: inputs_of(matches, ""),
+        input,
+        output,
+    }))
+}
+
+// The request of a command line, if it is one of the program's.
+fn request_of<'a>(matches: &ArgMatches<'a>) -> Option<Request<'a>> {
+    let (name, matches) = matches.subcommand()?;
     Some(Request::Print(match name {
         SEAL => PrintRequest::Seal(inputs_of(matches, value(matches, TEXT))),
         OPEN => PrintRequest::Open(inputs_of(matches, value(matches, SEALED))),
@@ -118,48 +134,10 @@ fn print_request<'a>(name: &str, matches: &ArgMatches<'a>) -> Option<Request<'a>
         CHECK => PrintRequest::Check {
             path: value(matches, FILE),
         },
+        SEAL_FILE => return file_request(FileCommand::Seal, matches),
+        OPEN_FILE => return file_request(FileCommand::Open, matches),
         _ => return None,
     }))
-}
-
-// The request of a file command; `None` if both paths are the same text.
-fn file_request<'a>(command: FileCommand, matches: &ArgMatches<'a>) -> Option<Request<'a>> {
-    let input = value(matches, IN);
-    let output = value(matches, OUT);
-    if input == output {
-        return None;
-    }
-    Some(Request::Write(FileRequest {
-        command,
-        inputs: inputs_of(matches, ""),
-        input,
-        output,
-    }))
-}
-
-// The request of a subcommand's arguments.
-fn request_of<'a>(name: &str, matches: &ArgMatches<'a>) -> Option<Request<'a>> {
-    match name {
-        SEAL_FILE => file_request(FileCommand::Seal, matches),
-        OPEN_FILE => file_request(FileCommand::Open, matches),
-        _ => print_request(name, matches),
-    }
-}
-
-// The request of a command line, if it is one of the program's.
-fn asked<'a>(matches: &ArgMatches<'a>) -> Option<Request<'a>> {
-    let (name, inner) = matches.subcommand()?;
-    request_of(name, inner)
-}
-
-// Why words are no command line of the program.
-fn refused(error: Error) -> Refusal {
-    match error.kind() {
-        ErrorKind::DisplayHelp => Refusal::Help(error),
-        ErrorKind::DisplayVersion => Refusal::Version,
-        ErrorKind::OutOfMemory => Refusal::OutOfMemory,
-        _ => Refusal::Words,
-    }
 }
 
 /// Returns the request that the words after the program's name make, or why they make none.
@@ -168,7 +146,12 @@ pub fn read<'a, S: AsStr>(alloc: Global, words: &'a [S]) -> Result<Request<'a>, 
         return Err(Refusal::OutOfMemory);
     };
     match command.try_get_matches_from(words) {
-        Ok(matches) => asked(&matches).ok_or(Refusal::Words),
-        Err(error) => Err(refused(error)),
+        Ok(matches) => request_of(&matches).ok_or(Refusal::Words),
+        Err(error) => Err(match error.kind() {
+            ErrorKind::DisplayHelp => Refusal::Help(error),
+            ErrorKind::DisplayVersion => Refusal::Version,
+            ErrorKind::OutOfMemory => Refusal::OutOfMemory,
+            _ => Refusal::Words,
+        }),
     }
 }

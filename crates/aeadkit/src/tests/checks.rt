@@ -135,7 +135,10 @@ fn system_files(rt: HostRuntime) {
     make_folder(&rt, folder);
     let bad = two_records(&rt, "invalid", "text =");
     make_file(&rt, path, bad.as_bytes());
-    let files = Disk::new(&rt, rt.alloc());
+    let files = Disk {
+        runtime: &rt,
+        alloc: rt.alloc(),
+    };
     let printed = "records 2\nbad 1\nbad 2\n";
     runs_over(&rt, &files, &["check", path], 1, printed, "");
     for unreadable in [folder, "aeadkit_checks/none", ""] {
@@ -143,7 +146,10 @@ fn system_files(rt: HostRuntime) {
         runs_over(&rt, &files, &words, 3, "", "aeadkit: Read\n");
     }
     let memory = RefusingMemory::after(0, rt.alloc());
-    let files = Disk::new(&rt, &memory);
+    let files = Disk {
+        runtime: &rt,
+        alloc: &memory,
+    };
     let complaint = "aeadkit: OutOfMemory\n";
     runs_over(&rt, &files, &["check", path], 4, "", complaint);
     remove_folder(&rt, folder);

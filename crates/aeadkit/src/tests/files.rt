@@ -74,7 +74,10 @@ fn runs(
     let words = file_words(name, vector, input, output);
     runs_over(
         rt,
-        &Disk::new(rt, rt.alloc()),
+        &Disk {
+            runtime: rt,
+            alloc: rt.alloc(),
+        },
         &words,
         status,
         "",
