@@ -179,7 +179,7 @@ mod tests {
         let same = by_key == by_kept;
         let opened = aeadkit_open(suite, key, &[9; 12], b"to", &mut by_key);
         let opened_with = aeadkit_open_with(&kept, &[9; 12], b"to", &mut by_kept);
-        begun + sealed + sealed_with + opened + opened_with == 0 && same && by_key == by_kept
+        (begun | sealed | sealed_with | opened | opened_with) == 0 && same && by_key == by_kept
     }
 
     #[test]
