@@ -29,6 +29,18 @@ export class Aead {
     open(suite: Suite, key: Uint8Array, nonce: Uint8Array, aad: Uint8Array, sealed: Uint8Array): Uint8Array;
 }
 
+/** A key that is kept between messages: its schedule is made once. */
+export class Key {
+    /** Keeps a key of a suite, for the calls of an `Aead`. */
+    constructor(aead: Aead, suite: Suite, key: Uint8Array);
+
+    /** The ciphertext and the tag of 16 bytes. Never seal two texts with one nonce under one key. */
+    seal(nonce: Uint8Array, aad: Uint8Array, text: Uint8Array): Uint8Array;
+
+    /** The text of a sealing. */
+    open(nonce: Uint8Array, aad: Uint8Array, sealed: Uint8Array): Uint8Array;
+}
+
 /**
  * A sealing in pieces, under ChaCha20-Poly1305 or AES-GCM: the ciphertext of all pieces, then the tag, is what `seal` makes of
  * the whole text, for any split into pieces.

@@ -139,6 +139,35 @@ export class Aead {
     }
 }
 
+/** A key that is kept between messages: its schedule is made once. */
+export class Key {
+    #module;
+    #state;
+
+    /** Keeps a key of a suite, for the calls of an Aead. */
+    constructor(aead, suite, key) {
+        wantNumber(suite);
+        wantBytes(key);
+        this.#module = moduleOf(aead);
+        this.#state = new Struct(Number(this.#module.calls.aeadkit_key_size()));
+        this.#module.call("aeadkit_key_init", this.#state, suite, key);
+    }
+
+    /** The ciphertext and the tag of 16 bytes. */
+    seal(nonce, aad, text) {
+        wantBytes(nonce, aad, text);
+        const room = new Uint8Array(text.length + TAG_BYTES);
+        room.set(text);
+        return this.#module.call("aeadkit_seal_with", this.#state, nonce, aad, room).at(-1).slice();
+    }
+
+    /** The text of a sealing. */
+    open(nonce, aad, sealed) {
+        wantBytes(nonce, aad, sealed);
+        return this.#module.call("aeadkit_open_with", this.#state, nonce, aad, sealed).at(-1).slice(0, -TAG_BYTES);
+    }
+}
+
 /**
  * A sealing in pieces, under ChaCha20-Poly1305 or AES-GCM: the ciphertext of all pieces, then the tag, is what `seal` makes of
  * the whole text, for any split into pieces.

@@ -1,7 +1,7 @@
 // Seals, opens, refuses, wraps and unwraps published vectors, by the package that is installed.
 
 import assert from "node:assert";
-import { Opener, Refused, Sealer, SivSealer, Suite, aead, keywrap } from "aeadkit/node";
+import { Key, Opener, Refused, Sealer, SivSealer, Suite, aead, keywrap } from "aeadkit/node";
 
 const bytes = (hex) => Uint8Array.from(hex.match(/../g) ?? [], (digits) => parseInt(digits, 16));
 const hex = (array) => Array.from(array, (byte) => byte.toString(16).padStart(2, "0")).join("");
@@ -14,7 +14,12 @@ const nonce = new Uint8Array(12);
 const sealed = aead.seal(Suite.AES_128_GCM, zero, nonce, none, zero);
 assert.equal(hex(sealed), "0388dace60b6a392f328c2b971b2fe78ab6e47d42cec13bdf53a67b21257bddf");
 assert.deepEqual(aead.open(Suite.AES_128_GCM, zero, nonce, none, sealed), zero);
+const kept = new Key(aead, Suite.AES_128_GCM, zero);
+assert.deepEqual(kept.seal(nonce, none, zero), sealed);
+assert.deepEqual(kept.open(nonce, none, sealed), zero);
 sealed[3] ^= 1;
+refuses("TagMismatch", () => kept.open(nonce, none, sealed));
+refuses("KeyLength", () => new Key(aead, Suite.AES_256_GCM, zero));
 refuses("TagMismatch", () => aead.open(Suite.AES_128_GCM, zero, nonce, none, sealed));
 refuses("TooShort", () => aead.open(Suite.AES_128_GCM, zero, nonce, none, none));
 refuses("NonceLength", () => aead.seal(Suite.AES_128_GCM, zero, zero, none, zero));

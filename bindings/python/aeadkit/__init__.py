@@ -149,6 +149,9 @@ _siv_absorb = _declared("aeadkit_siv_absorb", ctypes.c_void_p, *_given)
 _siv_tag = _declared("aeadkit_siv_tag", ctypes.c_void_p, ctypes.c_void_p)
 _siv_update = _declared("aeadkit_siv_update", ctypes.c_void_p, *_room)
 _siv_finish = _declared("aeadkit_siv_finish", ctypes.c_void_p)
+_key_init = _declared("aeadkit_key_init", ctypes.c_void_p, ctypes.c_uint32, *_given)
+_seal_with = _declared("aeadkit_seal_with", ctypes.c_void_p, *_given, *_given, *_room)
+_open_with = _declared("aeadkit_open_with", ctypes.c_void_p, *_given, *_given, *_room)
 
 
 def _words(size):
@@ -160,6 +163,7 @@ def _words(size):
 _State = _words(_library.aeadkit_sealer_size)
 _OpenerState = _words(_library.aeadkit_opener_size)
 _SivState = _words(_library.aeadkit_siv_size)
+_KeyState = _words(_library.aeadkit_key_size)
 
 
 def _bytes_of(data):
@@ -223,26 +227,28 @@ def open(suite: int, key: Buffer, nonce: Buffer, aad: Optional[Buffer], sealed: 
 
 
 class Key:
-    """A suite with a key. The nonce of each sealing has 12 bytes, which no other sealing under the key may have."""
+    """A suite with a key, whose key schedule is made once. Threads may share it. The nonce of each sealing is 12 bytes long,
+    and no other sealing under the key may have it."""
 
     def __init__(self, suite: int, key: Buffer) -> None:
-        self._suite = _suite_of(suite)
-        self._key = _bytes_of(key)
-        if len(self._key) != self._suite.key_bytes:
-            raise KeyLength()
+        self._state = _KeyState()
+        self._place = (ctypes.addressof(self._state),)
+        _done(_key_init(*self._place, _suite_of(suite), *_slices(key)))
 
     def seal(self, nonce: Buffer, text: Buffer, aad: Optional[Buffer] = None) -> bytearray:
         """The sealing of a text: the ciphertext, then a tag of 16 bytes."""
-        return seal(self._suite, self._key, nonce, aad, text)
+        return _run(_seal_with, self._place, (nonce, b"" if aad is None else aad), 0, text, _TAG_BYTES)
 
     def open(self, nonce: Buffer, sealed: Buffer, aad: Optional[Buffer] = None) -> bytearray:
         """The text that the sealed bytes are the sealing of."""
-        return open(self._suite, self._key, nonce, aad, sealed)
+        text = _run(_open_with, self._place, (nonce, b"" if aad is None else aad), 0, sealed, 0)
+        del text[-_TAG_BYTES:]
+        return text
 
 
 class Sealer:
     """A sealing in pieces, under ChaCha20-Poly1305 or AES-GCM: the ciphertext of all pieces, then the tag, is what seal makes
-    of the whole text, however it is cut. UnknownSuite for AES-GCM-SIV, which reads a text twice."""
+    of the whole text, for any split into pieces. UnknownSuite for AES-GCM-SIV, which reads a text twice."""
 
     def __init__(self, suite: int, key: Buffer, nonce: Buffer, aad: Optional[Buffer] = None) -> None:
         self._state = _State()

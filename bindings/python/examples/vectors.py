@@ -47,10 +47,12 @@ for other in ("a text", 16, None):
 # each suite with texts around the length of a block; no text is a text too
 for suite in Suite:
     key = bytes(suite.key_bytes)
+    kept = aeadkit.Key(suite, key)
     for n in (0, 1, 15, 16, 17, 300):
         made = aeadkit.seal(suite, key, bytes(12), b"", bytes(n))
         assert len(made) == n + 16
         assert aeadkit.open(suite, key, bytes(12), b"", made) == bytes(n)
+        assert kept.seal(bytes(12), bytes(n)) == made and kept.open(bytes(12), made) == bytes(n)
         refused(aeadkit.TagMismatch, aeadkit.open, suite, key, bytes(12), b"x", made)
     refused(aeadkit.KeyLength, aeadkit.seal, suite, key[1:], bytes(11), b"", b"")
     refused(aeadkit.NonceLength, aeadkit.seal, suite, key, bytes(11), b"", b"")

@@ -26,10 +26,14 @@ fn sealing() -> Result<(), Fault> {
 fn keys() -> Result<(), Fault> {
     use Suite::*;
     for suite in [ChaCha20Poly1305, Aes128Gcm, Aes192Gcm, Aes256Gcm, Aes128GcmSiv, Aes256GcmSiv] {
-        let key = Key::new(suite, &[7; 32][..suite.key_bytes()])?;
+        let key_bytes = &[7; 32][..suite.key_bytes()];
+        let key = Key::new(suite, key_bytes)?;
         for length in [0, 1, 15, 16, 17, 300] {
             let mut bytes = vec![5; length + TAG_BYTES];
+            let mut by_its_bytes = bytes.clone();
             key.seal(&[9; 12], b"data", &mut bytes)?;
+            seal(suite, key_bytes, &[9; 12], b"data", &mut by_its_bytes)?;
+            assert_eq!(bytes, by_its_bytes);
             assert_eq!(key.open(&[9; 12], b"date", &mut bytes), Err(Fault::TagMismatch));
             assert_eq!(key.open(&[9; 12], b"data", &mut bytes)?, vec![5; length]);
         }

@@ -35,6 +35,13 @@ unsafe extern "C" {
     fn aeadkit_siv_tag(siv: *mut Siv, tag: *mut [u8; 16]) -> u32;
     fn aeadkit_siv_update(siv: *mut Siv, piece: *mut u8, piece_length: usize) -> u32;
     fn aeadkit_siv_finish(siv: *mut Siv) -> u32;
+    fn aeadkit_key_init(kept: *mut Key, suite: u32, key: *const u8, key_length: usize) -> u32;
+    #[rustfmt::skip]
+    fn aeadkit_seal_with(kept: *const Key, nonce: *const u8, nonce_length: usize, aad: *const u8, aad_length: usize,
+                         bytes: *mut u8, bytes_length: usize) -> u32;
+    #[rustfmt::skip]
+    fn aeadkit_open_with(kept: *const Key, nonce: *const u8, nonce_length: usize, aad: *const u8, aad_length: usize,
+                         bytes: *mut u8, bytes_length: usize) -> u32;
 }
 
 /// `struct aeadkit_sealer` of the header. It isn't copied: two copies would seal two texts with one nonce.
@@ -124,6 +131,37 @@ pub fn siv_update(siv: &mut Siv, piece: &mut [u8]) -> u32 {
 pub fn siv_finish(siv: &mut Siv) -> u32 {
     // SAFETY: as of `siv_absorb`.
     unsafe { aeadkit_siv_finish(siv) }
+}
+
+/// `struct aeadkit_key` of the header. Only `key_init` writes it.
+#[repr(C)]
+#[derive(Clone)]
+pub struct Key {
+    private: [u64; 37],
+}
+
+impl Key {
+    /// All zeros: it keeps no key.
+    pub fn new() -> Key {
+        Key { private: [0; 37] }
+    }
+}
+
+pub fn key_init(kept: &mut Key, suite: u32, key: &[u8]) -> u32 {
+    // SAFETY: as of `seal`, and the struct has the library's size.
+    unsafe { aeadkit_key_init(kept, suite, key.as_ptr(), key.len()) }
+}
+
+pub fn seal_with(kept: &Key, nonce: &[u8], aad: &[u8], bytes: &mut [u8]) -> u32 {
+    let (n, a, room) = (nonce.as_ptr(), aad.as_ptr(), bytes.as_mut_ptr());
+    // SAFETY: as of `seal`; the struct is zeros, or as `key_init` left it.
+    unsafe { aeadkit_seal_with(kept, n, nonce.len(), a, aad.len(), room, bytes.len()) }
+}
+
+pub fn open_with(kept: &Key, nonce: &[u8], aad: &[u8], bytes: &mut [u8]) -> u32 {
+    let (n, a, room) = (nonce.as_ptr(), aad.as_ptr(), bytes.as_mut_ptr());
+    // SAFETY: as of `seal_with`.
+    unsafe { aeadkit_open_with(kept, n, nonce.len(), a, aad.len(), room, bytes.len()) }
 }
 
 pub fn seal(suite: u32, key: &[u8], nonce: &[u8], aad: &[u8], bytes: &mut [u8]) -> u32 {
