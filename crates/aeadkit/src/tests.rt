@@ -4,11 +4,10 @@ mod devices;
 mod failing_files;
 mod files;
 mod growths;
-mod helps;
 mod published;
+mod rows;
 mod scripted;
 mod seals;
-mod wraps;
 
 use crate::run::run;
 use crate::storage::Storage;
@@ -52,9 +51,4 @@ fn prints(rt: &(impl Abort + Alloc<A = Global>), words: &[&str], line: &str) {
     runs_into(rt, &NO_FILES, words, &mut out, 0, "");
     let printed = out.as_slice().split_last();
     assert!(rt; printed == Some((&b'\n', line.as_bytes())), "{words:?}");
-}
-
-// The words are refused with a status and a line on standard error, and print nothing.
-fn refuses(rt: &(impl Abort + Alloc<A = Global>), words: &[&str], status: u8, complaint: &str) {
-    runs_over(rt, &NO_FILES, words, status, "", complaint);
 }

@@ -1,27 +1,39 @@
-//! Files in memory, and files and writers that fail.
-ghost use Rattle.std.specs.Prelude.{Some, false, ◌≤◌, IfOk};
+//! One file in memory, and a writer that fails.
+ghost use Rattle.std.specs.Prelude.{◌≤◌, IfOk};
 
 use crate::storage::Storage;
-use octets::{FromRead, SliceIntake, ToWrite};
+use octets::{FromRead, ToWrite};
 use std::io;
 
-/// One file in memory, at every path.
+/// At every path a file that gives its bytes, and then ends, or fails if it has a failure; or a file whose
+/// opening fails.
 #[derive(Drop)]
 pub struct OneFile<'a> {
-    pub file: &'a [u8],
+    pub opens: bool,
+    pub bytes: &'a [u8],
+    pub failure: Option<io::ErrorKind>,
 }
 
+/// No files: each opening fails.
+pub const NO_FILES: OneFile<'static> = OneFile {
+    opens: false,
+    bytes: b"",
+    failure: Some(io::ErrorKind::NotFound),
+};
+
 impl<'a> Storage for OneFile<'a> {
-    type Input = SliceIntake<'a>;
+    type Input = FromRead<Source<'a>>;
 
     type Output = ToWrite<FailsAfter>;
 
-    ghost contents = { λ s _ _. Some s.file.now };
-
-    ghost open_may_fail = { λ _ _ _. false };
-
-    fn open(&self, _path: &str, _reading: u8) -> io::Result<SliceIntake<'a>> {
-        Ok(SliceIntake::new(self.file))
+    fn open(&self, _path: &str, _reading: u8) -> io::Result<FromRead<Source<'a>>> {
+        match self.failure {
+            Some(kind) if !self.opens => Err(io::Error::from(kind)),
+            failure => Ok(FromRead::new(Source {
+                rest: self.bytes,
+                failure,
+            })),
+        }
     }
 
     fn create(&self, _path: &str) -> io::Result<ToWrite<FailsAfter>> {
@@ -33,84 +45,44 @@ impl<'a> Storage for OneFile<'a> {
     }
 }
 
-/// At every path a file that is not opened, or whose reading gives these many bytes and then fails.
+/// The bytes of a reading that are left, and its failure after them.
 #[derive(Drop)]
-pub struct BrokenFiles {
-    pub opens: bool,
-    pub room: usize,
-    pub kind: io::ErrorKind,
+pub struct Source<'a> {
+    rest: &'a [u8],
+    failure: Option<io::ErrorKind>,
 }
 
-/// No files: each opening fails.
-pub const NO_FILES: BrokenFiles = BrokenFiles {
-    opens: false,
-    room: 0,
-    kind: io::ErrorKind::NotFound,
-};
-
-impl BrokenFiles {
-    // A file that is open.
-    fn device(&self) -> FailsAfter {
-        FailsAfter {
-            room: self.room,
-            kind: self.kind,
+impl io::Read for Source<'_> {
+    fn read(&mut self, buf: &mut [u8]) -> io::Result<usize> {
+        match self.failure {
+            Some(kind) if self.rest.is_empty() => Err(io::Error::from(kind)),
+            _ => {
+                let n = buf.len().min(self.rest.len());
+                let (front, back) = self.rest.split_at(n);
+                buf[..n].copy_from_slice(front);
+                self.rest = back;
+                Ok(n)
+            }
         }
     }
 }
 
-impl Storage for BrokenFiles {
-    type Input = FromRead<FailsAfter>;
-
-    type Output = ToWrite<FailsAfter>;
-
-    fn open(&self, _path: &str, _reading: u8) -> io::Result<FromRead<FailsAfter>> {
-        if self.opens {
-            Ok(FromRead::new(self.device()))
-        } else {
-            Err(io::Error::from(self.kind))
-        }
-    }
-
-    fn create(&self, _path: &str) -> io::Result<ToWrite<FailsAfter>> {
-        Ok(ToWrite::new(self.device()))
-    }
-
-    fn sync(&self, _output: &ToWrite<FailsAfter>) -> io::Result<()> {
-        Ok(())
-    }
-}
-
-/// A device that moves these many bytes and then fails.
+/// A writer that takes these many bytes and then fails.
 #[derive(Drop)]
 pub struct FailsAfter {
     pub room: usize,
     pub kind: io::ErrorKind,
 }
 
-impl FailsAfter {
-    // How many of the bytes that are wanted there is room for; its failure if that is none.
-    fn step(&mut self, wanted: usize) -> io::Result<usize>
-        ensures { IfOk result (λ n. n ≤ wanted) }
-    {
-        let count = self.room.min(wanted);
+impl io::Write for FailsAfter {
+    fn write(&mut self, buf: &[u8]) -> io::Result<usize> {
+        let count = self.room.min(buf.len());
         self.room -= count;
         if count == 0 {
             Err(io::Error::from(self.kind))
         } else {
             Ok(count)
         }
-    }
-}
-
-impl io::Read for FailsAfter {
-    fn read(&mut self, buf: &mut [u8]) -> io::Result<usize> {
-        self.step(buf.len())
-    }
-}
-
-impl io::Write for FailsAfter {
-    fn write(&mut self, buf: &[u8]) -> io::Result<usize> {
-        self.step(buf.len())
     }
 
     fn flush(&mut self) -> io::Result<()> {

@@ -1,6 +1,8 @@
 //! The file commands, where a call of their files goes wrong or a later reading gives other bytes.
-use super::files::{bytes, changed, file_words};
-use super::published::{CHACHA, GCM_SIV, Vector};
+use super::files::{bytes, file_words};
+use super::published::{
+    CHACHA, CHACHA_SEALED, CHANGED, GCM_SIV, GCM_SIV_SEALED, GCM_SIV_TEXT, Vector,
+};
 use super::runs_over;
 use super::scripted::{Log, Script, Scripted, Wrong};
 use crate::run::run;
@@ -17,7 +19,7 @@ fn is_stopped(log: &Log, err: &[u8], to: &[u8], last: u8) -> bool {
     err == complaint.as_bytes() && log.begins(to) && (may_be_made || !log.made.get())
 }
 
-// Runs a file command with one call that goes wrong, and answers whether it was done before that call.
+// Runs a file command with one call that goes wrong, and returns whether it was done before that call.
 fn is_over_before(
     rt: &(impl Abort + Alloc<A = Global>),
     words: &[&str],
@@ -44,7 +46,7 @@ fn is_over_before(
     let mut err: Vec<u8> = Vec::new(rt.alloc());
     let status = run(rt.alloc(), &files, words, &mut out, &mut err);
     let is_over = log.calls.get() < at;
-    let is_right = if is_over || wrong == Wrong::IsShort {
+    let is_right = if is_over || matches!(wrong, Wrong::IsShort) {
         status == 0 && err.is_empty() && log.holds(to)
     } else {
         status == 3 && is_stopped(&log, err.as_slice(), to, last)
@@ -89,140 +91,109 @@ fn each_call_of(
     each_call_goes_wrong(rt, &words, &sealed, &text, 2, how);
 }
 
-// Each opening, read, making, write and sync fails in turn.
+// Each opening, read, making, write and sync in turn fails, or is interrupted, which is a failure, or moves
+// one byte alone, which changes nothing; and each of them fails where all move one byte.
 #[test]
-fn calls_that_fail(rt: HostRuntime) {
-    each_call_of(&rt, &CHACHA, 0, (Wrong::Fails, false));
-    each_call_of(&rt, &GCM_SIV, 1, (Wrong::Fails, false));
+fn calls_that_go_wrong(rt: HostRuntime) {
+    for how in [
+        (Wrong::Fails, false),
+        (Wrong::IsInterrupted, false),
+        (Wrong::IsShort, false),
+        (Wrong::Fails, true),
+    ] {
+        each_call_of(&rt, &CHACHA, 0, how);
+        each_call_of(&rt, &GCM_SIV, 1, how);
+    }
 }
 
-// Each call is interrupted in turn, which is a failure.
-#[test]
-fn calls_that_are_interrupted(rt: HostRuntime) {
-    each_call_of(&rt, &CHACHA, 0, (Wrong::IsInterrupted, false));
-    each_call_of(&rt, &GCM_SIV, 1, (Wrong::IsInterrupted, false));
-}
-
-// Each call moves one byte alone in turn, which changes nothing.
-#[test]
-fn calls_that_are_short(rt: HostRuntime) {
-    each_call_of(&rt, &CHACHA, 0, (Wrong::IsShort, false));
-    each_call_of(&rt, &GCM_SIV, 1, (Wrong::IsShort, false));
-}
-
-// Each call moves one byte, and each of them fails in turn.
-#[test]
-fn calls_that_fail_after_single_bytes(rt: HostRuntime) {
-    each_call_of(&rt, &CHACHA, 0, (Wrong::Fails, true));
-    each_call_of(&rt, &GCM_SIV, 1, (Wrong::Fails, true));
-}
-
-// Runs a file command over three readings of a file, and compares the status, standard error, and whether
-// the file was made.
-fn runs_on<'b>(
-    rt: &(impl Abort + Alloc<A = Global>),
-    words: &[&str],
-    readings: (&'b [u8], &'b [u8], &'b [u8]),
+// Three readings of a file by a command, the status and the fault, and whether the file was made.
+#[derive(Drop)]
+struct Row {
+    command: &'static str,
+    vector: Vector<'static>,
+    readings: [&'static str; 3],
     status: u8,
-    complaint: &str,
+    complaint: &'static str,
     made: bool,
-) {
-    let (first, second, third) = readings;
-    let log = Log::new(rt.alloc());
-    let script = Script::of_none(&log);
-    let files = Scripted {
-        first,
-        second,
-        third,
-        script,
-    };
-    runs_over(rt, &files, words, status, "", complaint);
-    assert_eq!(rt; log.made.get(), made);
-}
-
-// Runs `open-file` over three readings of a file.
-fn opens<'b>(
-    rt: &(impl Abort + Alloc<A = Global>),
-    readings: (&'b [u8], &'b [u8], &'b [u8]),
-    status: u8,
-    complaint: &str,
-    made: bool,
-) {
-    let words = file_words("open-file", &CHACHA, "a", "b");
-    runs_on(rt, &words, readings, status, complaint, made);
 }
 
 // The first fifteen bytes of a sealing.
 const START: &str = "d31a8d34648e60db7b86afbc53ef7e";
 
-// A third reading that differs from the second is `SourceChanged`, after the file was made.
-#[test]
-fn third_reading_differs(rt: HostRuntime) {
-    let whole = bytes(&rt, CHACHA.sealed);
-    let complaint = "aeadkit: SourceChanged\n";
-    opens(
-        &rt,
-        (&whole, &whole, &changed(&rt, CHACHA.sealed, 100)),
-        3,
-        complaint,
-        true,
-    );
-    opens(
-        &rt,
-        (&whole, &whole, &bytes(&rt, START)),
-        3,
-        complaint,
-        true,
-    );
-}
+const OPENS: Row = Row {
+    command: "open-file",
+    vector: CHACHA,
+    readings: [CHACHA_SEALED, CHACHA_SEALED, CHACHA_SEALED],
+    status: 3,
+    complaint: "aeadkit: SourceChanged\n",
+    made: false,
+};
 
-// A second reading of another length is `SourceChanged`, and one that is no sealing `TagMismatch`; no file
-// is made.
-#[test]
-fn second_reading_differs(rt: HostRuntime) {
-    let whole = bytes(&rt, CHACHA.sealed);
-    let complaint = "aeadkit: SourceChanged\n";
-    opens(
-        &rt,
-        (&whole, &bytes(&rt, START), &whole),
-        3,
-        complaint,
-        false,
-    );
-    let complaint = "aeadkit: TagMismatch\n";
-    opens(
-        &rt,
-        (&whole, &changed(&rt, CHACHA.sealed, 100), &whole),
-        1,
-        complaint,
-        false,
-    );
-}
+const SEALS: Row = Row {
+    command: "seal-file",
+    vector: GCM_SIV,
+    made: true,
+    ..OPENS
+};
 
-// A first reading that is too short is `TooShort`; no file is made.
-#[test]
-fn first_reading_is_short(rt: HostRuntime) {
-    let whole = bytes(&rt, CHACHA.sealed);
-    let complaint = "aeadkit: TooShort\n";
-    opens(
-        &rt,
-        (&bytes(&rt, START), &whole, &whole),
-        1,
-        complaint,
-        false,
-    );
-}
+const ROWS: [Row; 7] = [
+    // The third reading of sealed bytes differs from the second.
+    Row {
+        readings: [CHACHA_SEALED, CHACHA_SEALED, CHANGED],
+        made: true,
+        ..OPENS
+    },
+    Row {
+        readings: [CHACHA_SEALED, CHACHA_SEALED, START],
+        made: true,
+        ..OPENS
+    },
+    // The second has another length, or is no sealing.
+    Row {
+        readings: [CHACHA_SEALED, START, CHACHA_SEALED],
+        ..OPENS
+    },
+    Row {
+        readings: [CHACHA_SEALED, CHANGED, CHACHA_SEALED],
+        status: 1,
+        complaint: "aeadkit: TagMismatch\n",
+        ..OPENS
+    },
+    // The first is too short.
+    Row {
+        readings: [START, CHACHA_SEALED, CHACHA_SEALED],
+        status: 1,
+        complaint: "aeadkit: TooShort\n",
+        ..OPENS
+    },
+    // By AES-GCM-SIV the second reading of a text differs from the first in a byte, or in its length.
+    Row {
+        readings: [GCM_SIV_TEXT, "0000000000000000", "0000000000000000"],
+        ..SEALS
+    },
+    Row {
+        readings: [GCM_SIV_TEXT, GCM_SIV_SEALED, GCM_SIV_SEALED],
+        ..SEALS
+    },
+];
 
-// By AES-GCM-SIV a second reading of a text that differs from the first, in a byte or in its length, is
-// `SourceChanged`, after the file was made.
+// A later reading that differs is refused, after the file was made or before.
 #[test]
-fn second_reading_of_a_text_differs(rt: HostRuntime) {
-    let text = bytes(&rt, GCM_SIV.text);
-    let other = changed(&rt, GCM_SIV.text, 0);
-    let longer = bytes(&rt, GCM_SIV.sealed);
-    let words = file_words("seal-file", &GCM_SIV, "a", "b");
-    let complaint = "aeadkit: SourceChanged\n";
-    for second in [other.as_slice(), longer.as_slice()] {
-        runs_on(&rt, &words, (&text, second, second), 3, complaint, true);
+fn readings_that_differ(rt: HostRuntime) {
+    for row in &ROWS {
+        let [first, second, third] = row.readings;
+        let first = bytes(&rt, first);
+        let second = bytes(&rt, second);
+        let third = bytes(&rt, third);
+        let log = Log::new(rt.alloc());
+        let files = Scripted {
+            first: &first,
+            second: &second,
+            third: &third,
+            script: Script::of_none(&log),
+        };
+        let words = file_words(row.command, &row.vector, "a", "b");
+        runs_over(&rt, &files, &words, row.status, "", row.complaint);
+        assert_eq!(rt; log.made.get(), row.made);
     }
 }

@@ -1,11 +1,10 @@
 //! Each request for memory of a command is refused in turn, until a run takes all that it asks for. The
 //! answer to a refused one is `OutOfMemory`, wherever it stands, and else it is the right one.
-use super::checks::two_records;
+use super::checks::GOOD;
 use super::devices::{NO_FILES, OneFile};
 use super::files::bytes;
 use super::published::{CHACHA, GCM, GCM_SIV, PADDED, Vector, WRAPPINGS, Wrapping};
 use super::scripted::{Log, Script, Scripted, Sink, Source};
-use crate::failure::Failure;
 use crate::run::{perform, report, write_new_file};
 use crate::storage::Storage;
 use crate::words::{FileCommand, FileRequest, Inputs, PrintRequest};
@@ -16,22 +15,7 @@ use std::io;
 use std::io::BufReader;
 use std::process::Abort;
 
-// Whether the failure is want of memory, with its status and its text.
-fn wants_memory(alloc: Global, failure: Failure) -> bool {
-    let mut err: Vec<u8> = Vec::new(alloc);
-    let status = report(&mut err, failure);
-    status == 4 && err.as_slice() == b"aeadkit: OutOfMemory\n".as_slice()
-}
-
-// Whether a refused request printed nothing, and any other the line, with status 0.
-fn is_right(alloc: Global, answer: Result<u8, Failure>, printed: &[u8], line: &str) -> bool {
-    match answer {
-        Ok(status) => status == 0 && printed.split_last() == Some((&b'\n', line.as_bytes())),
-        Err(failure) => printed.is_empty() && wants_memory(alloc, failure),
-    }
-}
-
-// Performs a request with one request for memory refused after the first `passed` ones, and answers whether
+// Performs a request with one request for memory refused after the first `passed` ones, and returns whether
 // it came to that one: then nothing is printed, and else the line is.
 fn is_refused<F: Storage>(
     rt: &(impl Abort + Alloc<A = Global>),
@@ -42,13 +26,19 @@ fn is_refused<F: Storage>(
 ) -> bool {
     let memory = RefusingMemory::after(passed, rt.alloc());
     let mut out: Vec<u8> = Vec::new(rt.alloc());
-    let answer = perform(&memory, files, request, &mut out);
-    let is_due = memory.has_refused() == answer.is_err();
-    assert!(rt;
-        is_due && is_right(rt.alloc(), answer, &out, line),
-        "request {passed}"
-    );
-    memory.has_refused()
+    let mut err: Vec<u8> = Vec::new(rt.alloc());
+    let status = match perform(&memory, files, request, &mut out) {
+        Ok(status) => status,
+        Err(failure) => report(&mut err, failure),
+    };
+    let refused = memory.has_refused();
+    let is_right = if refused {
+        status == 4 && out.is_empty() && err.as_slice() == b"aeadkit: OutOfMemory\n".as_slice()
+    } else {
+        status == 0 && out.as_slice().split_last() == Some((&b'\n', line.as_bytes()))
+    };
+    assert!(rt; is_right, "request {passed}");
+    refused
 }
 
 // Performs a request with each of its requests for memory refused in turn, until none is. At least one is.
@@ -79,53 +69,28 @@ fn inputs<'a>(vector: &Vector<'a>, body: &'a str) -> Inputs<'a> {
     }
 }
 
-// Sealing a vector's text, and opening the sealed bytes.
-fn seal_and_open(rt: &(impl Abort + Alloc<A = Global>), vector: &Vector<'_>) {
-    let request = PrintRequest::Seal(inputs(vector, vector.text));
-    each_is_refused(rt, &NO_FILES, &request, vector.sealed);
-    let request = PrintRequest::Open(inputs(vector, vector.sealed));
-    each_is_refused(rt, &NO_FILES, &request, vector.text);
-}
-
+// Sealing and opening, wrapping and unwrapping with padding or without, and checking a vector file.
 #[test]
-fn seal_and_open_want_memory_only_where_refused(rt: HostRuntime) {
-    seal_and_open(&rt, &CHACHA);
-    seal_and_open(&rt, &GCM);
-    seal_and_open(&rt, &GCM_SIV);
-}
-
-// Wrapping a text, and unwrapping the wrapping.
-fn wrap_and_unwrap(rt: &(impl Abort + Alloc<A = Global>), wrapping: &Wrapping<'_>, pad: bool) {
-    let Wrapping {
-        key,
-        text,
-        wrapped: sealed,
-    } = *wrapping;
-    each_is_refused(
-        rt,
-        &NO_FILES,
-        &PrintRequest::Wrap { key, text, pad },
-        sealed,
-    );
-    each_is_refused(
-        rt,
-        &NO_FILES,
-        &PrintRequest::Unwrap { key, sealed, pad },
-        text,
-    );
-}
-
-#[test]
-fn wrap_and_unwrap_want_memory_only_where_refused(rt: HostRuntime) {
-    wrap_and_unwrap(&rt, &WRAPPINGS[0], false);
-    wrap_and_unwrap(&rt, &PADDED[0], true);
-}
-
-#[test]
-fn check_wants_memory_only_where_refused(rt: HostRuntime) {
-    let file = two_records(&rt, "text =", "invalid");
+fn requests_want_memory_only_where_refused(rt: HostRuntime) {
+    for vector in &[CHACHA, GCM, GCM_SIV] {
+        let request = PrintRequest::Seal(inputs(vector, vector.text));
+        each_is_refused(&rt, &NO_FILES, &request, vector.sealed);
+        let request = PrintRequest::Open(inputs(vector, vector.sealed));
+        each_is_refused(&rt, &NO_FILES, &request, vector.text);
+    }
+    for (wrapping, pad) in &[(&WRAPPINGS[0], false), (&PADDED[0], true)] {
+        let Wrapping { key, text, wrapped } = **wrapping;
+        let pad = *pad;
+        let request = PrintRequest::Wrap { key, text, pad };
+        each_is_refused(&rt, &NO_FILES, &request, wrapped);
+        let sealed = wrapped;
+        let request = PrintRequest::Unwrap { key, sealed, pad };
+        each_is_refused(&rt, &NO_FILES, &request, text);
+    }
     let files = OneFile {
-        file: file.as_bytes(),
+        opens: true,
+        bytes: GOOD.as_bytes(),
+        failure: None,
     };
     let request = PrintRequest::Check { path: "" };
     each_is_refused(&rt, &files, &request, "records 2");
@@ -176,7 +141,7 @@ impl<'b, 'l, 'm, A: Allocator> Storage for AllocatingFiles<'b, 'l, 'm, A> {
     }
 }
 
-// Performs a file command with one request for memory refused after the first `passed` ones, and answers
+// Performs a file command with one request for memory refused after the first `passed` ones, and returns
 // the status: 4 where it came to that one, or 3 where the making of the file asked for it, and then no file
 // is made; and else 0, and it holds these bytes.
 fn file_status(
@@ -244,29 +209,20 @@ fn each_file_status(
     assert!(rt; 1 < count && count < 100, "{count} requests for memory");
 }
 
-// A request for a file command under a vector's inputs.
-fn file_request<'a>(command: FileCommand, vector: &Vector<'a>) -> FileRequest<'a> {
-    FileRequest {
-        command,
-        inputs: inputs(vector, ""),
-        input: "a",
-        output: "b",
-    }
-}
-
 // Sealing a file of a vector's text, and opening one of the sealed bytes.
-fn seal_and_open_files(rt: &(impl Abort + Alloc<A = Global>), vector: &Vector<'_>) {
-    let text = bytes(rt, vector.text);
-    let sealed = bytes(rt, vector.sealed);
-    let request = file_request(FileCommand::Seal, vector);
-    each_file_status(rt, &request, &text, &sealed);
-    let request = file_request(FileCommand::Open, vector);
-    each_file_status(rt, &request, &sealed, &text);
-}
-
 #[test]
 fn files_want_memory_only_where_refused(rt: HostRuntime) {
-    seal_and_open_files(&rt, &CHACHA);
-    seal_and_open_files(&rt, &GCM);
-    seal_and_open_files(&rt, &GCM_SIV);
+    for vector in &[CHACHA, GCM, GCM_SIV] {
+        let text = bytes(&rt, vector.text);
+        let sealed = bytes(&rt, vector.sealed);
+        let mut request = FileRequest {
+            command: FileCommand::Seal,
+            inputs: inputs(vector, ""),
+            input: "a",
+            output: "b",
+        };
+        each_file_status(&rt, &request, &text, &sealed);
+        request.command = FileCommand::Open;
+        each_file_status(&rt, &request, &sealed, &text);
+    }
 }

@@ -1,5 +1,28 @@
 //! Published vectors of the suites.
 
+pub const CHACHA_KEY: &str = "808182838485868788898a8b8c8d8e8f909192939495969798999a9b9c9d9e9f";
+
+pub const CHACHA_NONCE: &str = "070000004041424344454647";
+
+pub const CHACHA_AAD: &str = "50515253c0c1c2c3c4c5c6c7";
+
+pub const CHACHA_TEXT: &str =
+    "4c616469657320616e642047656e746c656d656e206f662074686520636c617373206f6620273939\
+    3a204966204920636f756c64206f6666657220796f75206f6e6c79206f6e652074697020666f7220\
+    746865206675747572652c2073756e73637265656e20776f756c642062652069742e";
+
+pub const CHACHA_SEALED: &str =
+    "d31a8d34648e60db7b86afbc53ef7ec2a4aded51296e08fea9e2b5a736ee62d63dbea45e8ca96712\
+    82fafb69da92728b1a71de0a9e060b2905d6a5b67ecd3b3692ddbd7f2d778b8c9803aee328091b58\
+    fab324e4fad675945585808b4831d7bc3ff4def08e4b7a9de576d26586cec64b61161ae10b594f09\
+    e26a7e902ecbd0600691";
+
+pub const GCM_SEALED: &str = "58e2fccefa7e3061367f1d57a4e7455a";
+
+pub const GCM_SIV_TEXT: &str = "0100000000000000";
+
+pub const GCM_SIV_SEALED: &str = "b5d839330ac7b786578782fff6013b815b287c22493a364c";
+
 /// A suite, its inputs, and the sealing of the text.
 #[derive(Clone, Copy)]
 pub struct Vector<'a> {
@@ -24,17 +47,19 @@ impl<'a> Vector<'a> {
 /// RFC 8439, 2.8.2.
 pub const CHACHA: Vector<'static> = Vector {
     suite: "chacha20-poly1305",
-    key: "808182838485868788898a8b8c8d8e8f909192939495969798999a9b9c9d9e9f",
-    nonce: "070000004041424344454647",
-    aad: "50515253c0c1c2c3c4c5c6c7",
-    text: "4c616469657320616e642047656e746c656d656e206f662074686520636c617373206f6620273939\
-        3a204966204920636f756c64206f6666657220796f75206f6e6c79206f6e652074697020666f7220\
-        746865206675747572652c2073756e73637265656e20776f756c642062652069742e",
-    sealed: "d31a8d34648e60db7b86afbc53ef7ec2a4aded51296e08fea9e2b5a736ee62d63dbea45e8ca96712\
-        82fafb69da92728b1a71de0a9e060b2905d6a5b67ecd3b3692ddbd7f2d778b8c9803aee328091b58\
-        fab324e4fad675945585808b4831d7bc3ff4def08e4b7a9de576d26586cec64b61161ae10b594f09\
-        e26a7e902ecbd0600691",
+    key: CHACHA_KEY,
+    nonce: CHACHA_NONCE,
+    aad: CHACHA_AAD,
+    text: CHACHA_TEXT,
+    sealed: CHACHA_SEALED,
 };
+
+/// The same sealed bytes with a bit of byte 100 changed, which are no sealing.
+pub const CHANGED: &str =
+    "d31a8d34648e60db7b86afbc53ef7ec2a4aded51296e08fea9e2b5a736ee62d63dbea45e8ca96712\
+    82fafb69da92728b1a71de0a9e060b2905d6a5b67ecd3b3692ddbd7f2d778b8c9803aee328091b58\
+    fab324e4fad675945585808b4831d7bc3ff4def08f4b7a9de576d26586cec64b61161ae10b594f09\
+    e26a7e902ecbd0600691";
 
 /// The GCM submission, case 1.
 pub const GCM: Vector<'static> = Vector {
@@ -43,7 +68,7 @@ pub const GCM: Vector<'static> = Vector {
     nonce: "000000000000000000000000",
     aad: "",
     text: "",
-    sealed: "58e2fccefa7e3061367f1d57a4e7455a",
+    sealed: GCM_SEALED,
 };
 
 /// RFC 8452, appendix C.1.
@@ -52,8 +77,8 @@ pub const GCM_SIV: Vector<'static> = Vector {
     key: "01000000000000000000000000000000",
     nonce: "030000000000000000000000",
     aad: "",
-    text: "0100000000000000",
-    sealed: "b5d839330ac7b786578782fff6013b815b287c22493a364c",
+    text: GCM_SIV_TEXT,
+    sealed: GCM_SIV_SEALED,
 };
 
 /// RFC 8439, 2.8.2; the GCM submission, cases 1, 2, 4, 7, 8, 13 and 14; RFC 8452, appendices C.1 and C.2.
@@ -152,15 +177,19 @@ pub const TEXT: &str = "00112233445566778899aabbccddeeff";
 
 pub const WRAPPED: &str = "1fa68b0a8112b447aef34bd8fb5a7b829d3e862371d2cfe5";
 
+pub const PADDED_KEY: &str = "5840df6e29b02af1ab493b705bf16ea1ae8338f4dcc176a8";
+
+pub const PADDED_WRAPPED: &str = "138bdeaa9b8fa7fc61f97742e72248ee5ae6ae5360d1ae6a5f54f373fa543b6a";
+
 /// RFC 5649, 6, with padding.
 pub const PADDED: [Wrapping<'static>; 2] = [
     Wrapping {
-        key: "5840df6e29b02af1ab493b705bf16ea1ae8338f4dcc176a8",
+        key: PADDED_KEY,
         text: "c37b7e6492584340bed12207808941155068f738",
-        wrapped: "138bdeaa9b8fa7fc61f97742e72248ee5ae6ae5360d1ae6a5f54f373fa543b6a",
+        wrapped: PADDED_WRAPPED,
     },
     Wrapping {
-        key: "5840df6e29b02af1ab493b705bf16ea1ae8338f4dcc176a8",
+        key: PADDED_KEY,
         text: "466f7250617369",
         wrapped: "afbeb0f07dfbf5419200f2ccb50bb24f",
     },

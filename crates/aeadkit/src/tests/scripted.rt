@@ -8,7 +8,7 @@ use std::cell::{Cell, RefCell};
 use std::io;
 
 /// What goes wrong.
-#[derive(Clone, Copy, PartialEq, Eq, Debug, Drop)]
+#[derive(Clone, Copy)]
 pub enum Wrong {
     /// The call fails.
     Fails,
@@ -61,7 +61,7 @@ impl Log {
 
 /// The call that goes wrong, by its number from 1 on, and how; 0 is none. With `trickle` each call moves one
 /// byte.
-#[derive(Clone, Copy, Drop)]
+#[derive(Clone, Copy)]
 pub struct Script<'a> {
     pub at: u32,
     pub wrong: Wrong,
@@ -80,7 +80,7 @@ impl<'a> Script<'a> {
         }
     }
 
-    // Counts a call, and answers how many bytes it may move, or its failure.
+    // Counts a call, and returns how many bytes it may move, or its failure.
     fn step(&self, reading: Option<u8>, wanted: usize) -> io::Result<usize>
         ensures { IfOk result (λ n. n ≤ wanted) }
     {

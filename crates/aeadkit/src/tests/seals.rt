@@ -1,60 +1,13 @@
 //! `seal` and `open` on published vectors.
-use super::published::{CHACHA, GCM, VECTORS, Vector};
-use super::{prints, refuses};
-use std::alloc::Global;
-use std::process::Abort;
+use super::devices::NO_FILES;
+use super::published::{
+    CHACHA, CHACHA_AAD, CHACHA_KEY, CHACHA_SEALED, CHACHA_TEXT, GCM, VECTORS, Vector,
+};
+use super::{prints, runs_over};
 
 const ZERO16: &str = "00000000000000000000000000000000";
 
 const ZERO24: &str = "000000000000000000000000000000000000000000000000";
-
-// A vector seals and opens.
-fn seals_and_opens(rt: &(impl Abort + Alloc<A = Global>), vector: &Vector<'_>) {
-    let Vector { text, sealed, .. } = *vector;
-    prints(rt, &vector.words("seal", "--text", text), sealed);
-    prints(rt, &vector.words("open", "--sealed", sealed), text);
-}
-
-#[test]
-fn standard_vectors(rt: HostRuntime) {
-    for vector in &VECTORS {
-        seals_and_opens(&rt, vector);
-    }
-}
-
-// Options that are not given stand for no bytes.
-#[test]
-fn options_left_out(rt: HostRuntime) {
-    let Vector {
-        suite,
-        key,
-        nonce,
-        sealed,
-        ..
-    } = GCM;
-    let words = ["seal", "--suite", suite, "--key", key, "--nonce", nonce];
-    prints(&rt, &words, sealed);
-    let words = [
-        "open", "--suite", suite, "--key", key, "--nonce", nonce, "--sealed", sealed,
-    ];
-    prints(&rt, &words, "");
-}
-
-// Bytes that are no sealing.
-#[test]
-fn wrong_bytes(rt: HostRuntime) {
-    let Vector { aad, sealed, .. } = CHACHA;
-    let start = "d31a8d34648e60db7b86afbc53ef7e";
-    for (aad, sealed, name) in [
-        (aad, start, "aeadkit: TooShort\n"),
-        (aad, "", "aeadkit: TooShort\n"),
-        ("", sealed, "aeadkit: TagMismatch\n"),
-        ("51515253c0c1c2c3c4c5c6c7", sealed, "aeadkit: TagMismatch\n"),
-    ] {
-        let vector = Vector { aad, ..CHACHA };
-        refuses(&rt, &vector.words("open", "--sealed", sealed), 1, name);
-    }
-}
 
 // A suite, a key, a nonce, associated data and a body, and the fault that they have.
 type Row = (
@@ -66,7 +19,7 @@ type Row = (
     &'static str,
 );
 
-const REFUSED: [Row; 12] = [
+const REFUSED: [Row; 13] = [
     ("des", "0", "07", "0", "0", "aeadkit: UnknownSuite\n"),
     ("AES-128-GCM", "", "", "", "", "aeadkit: UnknownSuite\n"),
     ("", "0", "07", "", "", "aeadkit: UnknownSuite\n"),
@@ -93,30 +46,75 @@ const REFUSED: [Row; 12] = [
         "aeadkit: NonceLength\n",
     ),
     ("aes-128-gcm", ZERO16, "", "", "", "aeadkit: NonceLength\n"),
+    (
+        "chacha20-poly1305",
+        CHACHA_KEY,
+        "07",
+        CHACHA_AAD,
+        CHACHA_TEXT,
+        "aeadkit: NonceLength\n",
+    ),
 ];
 
-// Inputs are refused by sealing and by opening.
-fn are_refused(rt: &(impl Abort + Alloc<A = Global>), row: &Row) {
-    let (suite, key, nonce, aad, body, line) = *row;
-    let vector = Vector {
+// Associated data and sealed bytes under the rest of a vector, and why they are no sealing.
+const WRONG: [(&str, &str, &str); 4] = [
+    (
+        CHACHA_AAD,
+        "d31a8d34648e60db7b86afbc53ef7e",
+        "aeadkit: TooShort\n",
+    ),
+    (CHACHA_AAD, "", "aeadkit: TooShort\n"),
+    ("", CHACHA_SEALED, "aeadkit: TagMismatch\n"),
+    (
+        "51515253c0c1c2c3c4c5c6c7",
+        CHACHA_SEALED,
+        "aeadkit: TagMismatch\n",
+    ),
+];
+
+// Each vector seals and opens. Options that are not given stand for no bytes.
+#[test]
+fn standard_vectors(rt: HostRuntime) {
+    for vector in &VECTORS {
+        let Vector { text, sealed, .. } = *vector;
+        prints(&rt, &vector.words("seal", "--text", text), sealed);
+        prints(&rt, &vector.words("open", "--sealed", sealed), text);
+    }
+    let Vector {
         suite,
         key,
         nonce,
-        aad,
-        ..GCM
-    };
-    refuses(rt, &vector.words("seal", "--text", body), 2, line);
-    refuses(rt, &vector.words("open", "--sealed", body), 2, line);
+        sealed,
+        ..
+    } = GCM;
+    let words = ["seal", "--suite", suite, "--key", key, "--nonce", nonce];
+    prints(&rt, &words, sealed);
+    let words = [
+        "open", "--suite", suite, "--key", key, "--nonce", nonce, "--sealed", sealed,
+    ];
+    prints(&rt, &words, "");
 }
 
 // The suite's name comes first, then the hex of key, nonce, associated data and body, then the key's
-// length, then the nonce's.
+// length, then the nonce's, for sealing and opening; then bytes are found to be no sealing.
 #[test]
 fn refusals_in_order(rt: HostRuntime) {
-    for row in &REFUSED {
-        are_refused(&rt, row);
+    for (suite, key, nonce, aad, body, complaint) in &REFUSED {
+        let vector = Vector {
+            suite,
+            key,
+            nonce,
+            aad,
+            ..GCM
+        };
+        let words = vector.words("seal", "--text", body);
+        runs_over(&rt, &NO_FILES, &words, 2, "", complaint);
+        let words = vector.words("open", "--sealed", body);
+        runs_over(&rt, &NO_FILES, &words, 2, "", complaint);
     }
-    let Vector { key, aad, text, .. } = CHACHA;
-    let line = "aeadkit: NonceLength\n";
-    are_refused(&rt, &("chacha20-poly1305", key, "07", aad, text, line));
+    for (aad, sealed, complaint) in &WRONG {
+        let vector = Vector { aad, ..CHACHA };
+        let words = vector.words("open", "--sealed", sealed);
+        runs_over(&rt, &NO_FILES, &words, 1, "", complaint);
+    }
 }
