@@ -9,7 +9,7 @@
 const TAG_BYTES = 16;
 const WRAP_BYTES = 8;
 const FAULTS = {
-    1: ["KeyLength", "the key has no length of the suite, or of AES"],
+    1: ["KeyLength", "the key's length is not the suite's, or not one of AES"],
     2: ["NonceLength", "the nonce is not 12 bytes long"],
     3: ["TextTooLong", "the text is past the suite's limit"],
     4: ["AadTooLong", "the associated data is past the suite's limit"],

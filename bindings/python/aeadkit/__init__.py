@@ -36,7 +36,7 @@ class Refused(Exception):
 
 
 class KeyLength(Refused):
-    message = "the key has no length of the suite, or of AES"
+    message = "the key's length is not the suite's, or not one of AES"
 
 
 class NonceLength(Refused):

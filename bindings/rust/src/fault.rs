@@ -32,7 +32,7 @@ pub enum Fault {
 impl fmt::Display for Fault {
     fn fmt(&self, f: &mut fmt::Formatter<'_>) -> fmt::Result {
         f.write_str(match self {
-            Fault::KeyLength => "the key has no length of the suite, or of AES",
+            Fault::KeyLength => "the key's length is not the suite's, or not one of AES",
             Fault::NonceLength => "the nonce is not 12 bytes long",
             Fault::TextTooLong => "the text is past the suite's limit",
             Fault::AadTooLong => "the associated data is past the suite's limit",
