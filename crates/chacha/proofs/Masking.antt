@@ -137,15 +137,36 @@ four_masked key nonce c x a b d e now_a now_b now_d now_e has a64 b64 d64 e64 is
     ∙ sym (masked-append f 0 (a ++ b) (d ++ e) ∙ ap (λ (n : ℕ). masked f 0 (a ++ b) ++ masked f n (d ++ e))
     at_d)
 
--- what stands after the first four blocks
-pub four_later : (key nonce : List ℕ) (c : ℕ) (xs : List ℕ)
-    → masked (key_stream_byte key nonce (c + 4)) 0 xs ≡ masked (key_stream_byte key nonce c) 256 xs
+-- what stands after the first k blocks
+pub later : (key nonce : List ℕ) (c k : ℕ) (xs : List ℕ)
+    → masked (key_stream_byte key nonce (c + k)) 0 xs ≡ masked (key_stream_byte key nonce c) (64 * k) xs
 unfolding key_stream_byte
-four_later key nonce c xs =
-    masked_same (key_stream_byte key nonce (c + 4)) (key_stream_byte key nonce c) 0 256 xs (λ j.
-    let counter : c + 4 + (0 + j) / 64 ≡ c + (256 + j) / 64 = omega arith in
-    let place : (0 + j) % 64 ≡ (256 + j) % 64 = omega arith in
-    ap₂ (λ (n k : ℕ). get_or (block key n nonce) k 0) counter place)
+later key nonce c k xs =
+    masked_same (key_stream_byte key nonce (c + k)) (key_stream_byte key nonce c) 0 (64 * k) xs (λ j.
+    let counter : c + k + (0 + j) / 64 ≡ c + (64 * k + j) / 64 = omega arith in
+    let place : (0 + j) % 64 ≡ (64 * k + j) % 64 = omega arith in
+    ap₂ (λ (n i : ℕ). get_or (block key n nonce) i 0) counter place)
+
+-- the first k blocks and those after them
+pub joined : (key nonce : List ℕ) (c k : ℕ) (front back a b : List ℕ) → length front ≡ 64 * k
+    → a ≡ masked (key_stream_byte key nonce c) 0 front
+    → b ≡ masked (key_stream_byte key nonce (c + k)) 0 back
+    → a ++ b ≡ masked (key_stream_byte key nonce c) 0 (front ++ back)
+joined key nonce c k front back a b long is_a is_b =
+    let f = key_stream_byte key nonce c in
+    let at : 0 + length front ≡ 64 * k = omega (arith, long) in
+    ap₂ (λ (y z : List ℕ). y ++ z) is_a (is_b ∙ later key nonce c k back)
+    ∙ sym (masked-append f 0 front back ∙ ap (λ (n : ℕ). masked f 0 front ++ masked f n back) at)
+
+-- the first block and those after it
+pub joined_block : (key nonce : List ℕ) (c : ℕ) (front back first a b : List ℕ) → length front ≡ 64
+    → first ≡ block key c nonce → a ≡ xor_bytes front first
+    → b ≡ masked (key_stream_byte key nonce (c + 1)) 0 back
+    → a ++ b ≡ masked (key_stream_byte key nonce c) 0 (front ++ back)
+joined_block key nonce c front back first a b long is_first is_a =
+    let same : c ≡ c + 0 = omega arith in
+    joined key nonce c 1 front back a b long
+    (is_a ∙ block_masked key nonce c 0 0 front first long refl (is_first ∙ ap (λ n. block key n nonce) same))
 
 -- the key stream from the counter of a place on that begins a block
 pub whole_blocks : (key nonce : List ℕ) (p : ℕ) (xs : List ℕ) → p % 64 ≡ 0

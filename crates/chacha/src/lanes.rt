@@ -116,7 +116,7 @@ fn half_diagonals<const N: usize>(x: &mut [Simd<u32, N>; 16], n: u32, m: u32)
 
 // A half of a round, in each lane: of the columns the first and the second, and then of the diagonals.
 #[inline(always)]
-fn half_round<const N: usize>(x: &mut [Simd<u32, N>; 16], half: u32)
+pub(crate) fn half_round<const N: usize>(x: &mut [Simd<u32, N>; 16], half: u32)
     ensures { (j : ℕ) → j < N → lane j x.new ≡ half_round (half % 4) (lane j x.old) }
 {
     match half % 4 {
@@ -145,7 +145,7 @@ fn ten_rounds<const N: usize, W: Work>(x: &mut [Simd<u32, N>; 16], work: &mut W)
 
 // Adds the words of `start`.
 #[inline(always)]
-fn add<const N: usize>(x: &mut [Simd<u32, N>; 16], start: &[Simd<u32, N>; 16])
+pub(crate) fn add<const N: usize>(x: &mut [Simd<u32, N>; 16], start: &[Simd<u32, N>; 16])
     ensures { (j : ℕ) → j < N → lane j x.new ≡ added (lane j x.old) (lane j start.now) }
 {
     'words: for i in 0..16 {
@@ -155,7 +155,7 @@ fn add<const N: usize>(x: &mut [Simd<u32, N>; 16], start: &[Simd<u32, N>; 16])
 
 // The state goes into each lane, with the lane's own counter.
 #[inline(always)]
-fn set_starts<const N: usize>(x: &mut [Simd<u32, N>; 16], state: &[u32; 16], counters: Simd<u32, N>)
+pub(crate) fn set_starts<const N: usize>(x: &mut [Simd<u32, N>; 16], state: &[u32; 16], counters: Simd<u32, N>)
     ensures { (j : ℕ) → j < N → lane j x.new ≡ slice_set state.now 12 (slice_index counters.entry j) }
 {
     'words: for i in 0..16 {
@@ -183,15 +183,41 @@ fn set_blocks<const N: usize, W: Work>(
     add(x, &start);
 }
 
+// Four counters, one in each lane.
+#[inline(always)]
+pub(crate) fn four_counters(counter: u32) -> u32x4
+    requires { counter + 3 < 2 ^ 32 }
+    ensures { (j : ℕ) → j < 4 → slice_index result j ≡ counter + j }
+{
+    u32x4::from_array([counter, counter + 1, counter + 2, counter + 3])
+}
+
+// Eight counters, one in each lane.
+#[inline(always)]
+pub(crate) fn eight_counters(counter: u32) -> u32x8
+    requires { counter + 7 < 2 ^ 32 }
+    ensures { (j : ℕ) → j < 8 → slice_index result j ≡ counter + j }
+{
+    u32x8::from_array([
+        counter,
+        counter + 1,
+        counter + 2,
+        counter + 3,
+        counter + 4,
+        counter + 5,
+        counter + 6,
+        counter + 7,
+    ])
+}
+
 // The words of the four blocks, one block in each lane.
 #[inline(always)]
 fn four_lanes(key: &Key32, counter: u32, nonce: &Nonce) -> [u32x4; 16]
     requires { counter + 3 < 2 ^ 32 }
     ensures { HasBlocks 4 result key.now counter nonce.now }
 {
-    let counters = u32x4::from_array([counter, counter + 1, counter + 2, counter + 3]);
     let mut x = [u32x4::splat(0); 16];
-    set_blocks(&mut x, key, counters, nonce, &mut Idle);
+    set_blocks(&mut x, key, four_counters(counter), nonce, &mut Idle);
     x
 }
 
@@ -202,18 +228,8 @@ fn eight_lanes<W: Work>(key: &Key32, counter: u32, nonce: &Nonce, work: &mut W) 
     ensures blocks { HasBlocks 8 result key.now counter nonce.now }
     ensures work { (k m : List ℕ) → W.comes_to work.old k m → W.comes_to work.new k m }
 {
-    let counters = u32x8::from_array([
-        counter,
-        counter + 1,
-        counter + 2,
-        counter + 3,
-        counter + 4,
-        counter + 5,
-        counter + 6,
-        counter + 7,
-    ]);
     let mut x = [u32x8::splat(0); 16];
-    set_blocks(&mut x, key, counters, nonce, work);
+    set_blocks(&mut x, key, eight_counters(counter), nonce, work);
     x
 }
 
@@ -299,7 +315,7 @@ fn xor_lanes(
 
 // XORs the words of the lanes, written out one lane after the other, into 256 bytes.
 #[inline(always)]
-fn xor_written(x: &[u32x4; 16], bytes: &mut [u8])
+pub(crate) fn xor_written(x: &[u32x4; 16], bytes: &mut [u8])
     requires { length bytes.old ≡ 256 }
     ensures { (key nonce : List ℕ) (counter : ℕ) → HasBlocks 4 x.now key counter nonce
         → bytes.new ≡ masked (key_stream_byte key nonce counter) 0 bytes.old }
@@ -308,6 +324,21 @@ fn xor_written(x: &[u32x4; 16], bytes: &mut [u8])
     let (first, second) = front.split_at_mut(64);
     let (third, fourth) = back.split_at_mut(64);
     xor_lanes(x, first, second, third, fourth);
+}
+
+// XORs the words of eight lanes, written out one lane after the other, into 512 bytes.
+#[inline(always)]
+pub(crate) fn xor_eight_written(x: &[u32x8; 16], bytes: &mut [u8])
+    requires { length bytes.old ≡ 512 }
+    ensures { (key nonce : List ℕ) (counter : ℕ) → HasBlocks 8 x.now key counter nonce
+        → bytes.new ≡ masked (key_stream_byte key nonce counter) 0 bytes.old }
+{
+    let mut first = [u32x4::splat(0); 16];
+    let mut last = [u32x4::splat(0); 16];
+    part(x, &mut first, &mut last);
+    let (front, back) = bytes.split_at_mut(256);
+    xor_written(&first, front);
+    xor_written(&last, back);
 }
 
 // XORs the first 256 bytes of the key stream from a counter on.
@@ -333,10 +364,5 @@ pub(crate) fn xor_eight_blocks<W: Work>(
     ensures work { (k m : List ℕ) → W.comes_to work.old k m → W.comes_to work.new k m }
 {
     let x = eight_lanes(key, counter, nonce, work);
-    let mut first = [u32x4::splat(0); 16];
-    let mut last = [u32x4::splat(0); 16];
-    part(&x, &mut first, &mut last);
-    let (front, back) = bytes.split_at_mut(256);
-    xor_written(&first, front);
-    xor_written(&last, back);
+    xor_eight_written(&x, bytes);
 }

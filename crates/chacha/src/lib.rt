@@ -2,6 +2,7 @@
 #![tactic(auto)]
 
 mod lanes;
+mod row_beside;
 mod rows;
 mod single;
 mod state;

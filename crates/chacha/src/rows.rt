@@ -36,7 +36,7 @@ fn moved_by_three(row: u32x4) -> u32x4
 
 // The quarter round on each column, which is a lane (RFC 8439, 2.3).
 #[inline(always)]
-fn column_round(x: &mut [u32x4; 4])
+pub(crate) fn column_round(x: &mut [u32x4; 4])
     ensures { read_by_rows x.new ≡ column_round (read_by_rows x.old) }
 {
     quarter_round(x, 0, 1, 2, 3);
@@ -44,7 +44,7 @@ fn column_round(x: &mut [u32x4; 4])
 
 // The quarter round on each diagonal, which is moved into a lane and back (RFC 8439, 2.3).
 #[inline(always)]
-fn diagonal_round(x: &mut [u32x4; 4])
+pub(crate) fn diagonal_round(x: &mut [u32x4; 4])
     ensures { read_by_rows x.new ≡ diagonal_round (read_by_rows x.old) }
 {
     let mut moved = [
@@ -79,7 +79,7 @@ fn ten_rounds(x: &mut [u32x4; 4], y: &mut [u32x4; 4])
 
 // The rows of a state of sixteen words.
 #[inline(always)]
-fn rows_of(words: &[u32; 16]) -> [u32x4; 4]
+pub(crate) fn rows_of(words: &[u32; 16]) -> [u32x4; 4]
     ensures { read_by_rows result ≡ words.now }
 {
     [
@@ -108,7 +108,7 @@ fn written_sum(row: u32x4, start: u32x4) -> [u8; 16]
 
 // The state with the start added, written out.
 #[inline(always)]
-fn written(x: &[u32x4; 4], start: &[u32x4; 4]) -> [u8; 64]
+pub(crate) fn written(x: &[u32x4; 4], start: &[u32x4; 4]) -> [u8; 64]
     ensures { result ≡ serialized (added (read_by_rows x.now) (read_by_rows start.now)) }
 {
     let mut out = [0; 64];

@@ -6,7 +6,7 @@ ghost use Rattle.octets.specs.Bytes.{xor_bytes};
 ghost use Rattle.octets.specs.Masked.{masked};
 ghost use Rattle.chacha.specs.Stream.{key_stream_byte};
 
-use crate::{lanes, rows, single};
+use crate::{lanes, row_beside, rows, single};
 use octets::{Fault, Idle, Key32, Nonce, Stream, Work, xor_into};
 
 // The end of the key stream from counter 0 on: 2^32 blocks of 64 bytes.
@@ -98,7 +98,11 @@ pub fn key_stream_start<const N: usize>(key: &Key32, nonce: &Nonce) -> [u8; N]
     ensures { (i : ℕ) → i < N → slice_index result i ≡ key_stream_byte key.now nonce.now 0 i }
 {
     let mut start = [0; N];
-    xor_stream(key, nonce, 0, &mut start, &mut Idle);
+    match N {
+        320 => row_beside::xor_five_blocks(key, 0, nonce, &mut start),
+        576 => row_beside::xor_nine_blocks(key, 0, nonce, &mut start),
+        _ => xor_stream(key, nonce, 0, &mut start, &mut Idle),
+    }
     start
 }
 
@@ -131,10 +135,15 @@ fn xor_run<W: Work>(key: &Key32, nonce: &Nonce, place: u64, bytes: &mut [u8], wo
         lanes::xor_eight_blocks(key, counter, nonce, &mut bytes[..512], work);
         return 512;
     }
-    // Up to five blocks are made faster as four and the rest.
+    // Five blocks take hardly longer than four.
     if skip + bytes.len() > 320 && counter <= u32::MAX - 7 {
         let mut stream = [0; 512];
         lanes::xor_eight_blocks(key, counter, nonce, &mut stream, work);
+        return xor_part(&stream, skip, bytes);
+    }
+    if skip + bytes.len() > 256 && counter <= u32::MAX - 4 {
+        let mut stream = [0; 320];
+        row_beside::xor_five_blocks(key, counter, nonce, &mut stream);
         return xor_part(&stream, skip, bytes);
     }
     if skip + bytes.len() > 128 && counter <= u32::MAX - 3 {

@@ -112,7 +112,9 @@ fn starts_with_blocks<const N: usize>(rt: &impl Abort) -> bool
 fn the_start_is_single_blocks(rt: HostRuntime) {
     assert!(rt; starts_with_blocks::<128>(&rt));
     assert!(rt; starts_with_blocks::<256>(&rt));
+    assert!(rt; starts_with_blocks::<320>(&rt));
     assert!(rt; starts_with_blocks::<512>(&rt));
+    assert!(rt; starts_with_blocks::<576>(&rt));
 }
 
 // A key stream, and its first ten blocks.

@@ -1,8 +1,7 @@
 use Rattle.std.proofs.Common.{◌∙◌, ap}
 use Rattle.chacha.specs.Block.{block}
-use Rattle.chacha.proofs.SideBySide.{four_counters}
 use Rattle.chacha.proofs.lanes.four_lanes.Goals as goal
 
 pub returns : goal.returns
 returns c = λ j l. c.set_blocks.ensures.blocks j l ∙ ap (λ n. block c.args.key.now n c.args.nonce.now)
-    (four_counters c.args.counter j l)
+    (c.four_counters.ensures j l)

@@ -3,7 +3,17 @@ use Rattle.chacha.specs.Stream.{key_stream_byte}
 use Rattle.chacha.proofs.Masking.{bytes_of_zeros}
 use Rattle.chacha.proofs.stream.key_stream_start.Goals as goal
 
-pub returns : goal.returns
-returns g c = λ i l.
+pub returns-in-320 : goal.returns-in-320
+returns-in-320 g c = λ i l.
+    ap (λ s. get_or s i 0) c.xor_five_blocks.ensures
+    ∙ bytes_of_zeros (key_stream_byte c.args.key.now c.args.nonce.now 0) g.row.N i l
+
+pub returns-in-576 : goal.returns-in-576
+returns-in-576 g c = λ i l.
+    ap (λ s. get_or s i 0) c.xor_nine_blocks.ensures
+    ∙ bytes_of_zeros (key_stream_byte c.args.key.now c.args.nonce.now 0) g.row.N i l
+
+pub returns-in_default : goal.returns-in_default
+returns-in_default g c = λ i l.
     ap (λ s. get_or s i 0) c.xor_stream.ensures.masked
     ∙ bytes_of_zeros (key_stream_byte c.args.key.now c.args.nonce.now 0) g.row.N i l

@@ -17,17 +17,24 @@ returns-then-counter-clause-masked g c =
 
 pub returns-then-counter-2-clause-masked : goal.returns-then-counter-2-clause-masked
 returns-then-counter-2-clause-masked g c =
-    run_of_zeros c.args.key.now c.args.nonce.now c.args.place 256 c.xor_part-then-counter-2.result
-    c.args.bytes.now c.xor_four_blocks.new.bytes _
-    c.xor_four_blocks.ensures c.xor_four_blocks.auto.bytes c.xor_part-then-counter-2.ensures.count
+    run_of_zeros c.args.key.now c.args.nonce.now c.args.place 320 c.xor_part-then-counter-2.result
+    c.args.bytes.now c.xor_five_blocks.new.bytes _
+    c.xor_five_blocks.ensures c.xor_five_blocks.auto.bytes c.xor_part-then-counter-2.ensures.count
     c.xor_part-then-counter-2.ensures.xored
 
 pub returns-then-counter-3-clause-masked : goal.returns-then-counter-3-clause-masked
 returns-then-counter-3-clause-masked g c =
-    run_of_two c.args.key.now c.args.nonce.now c.args.place c.xor_part-then-counter-3.result
+    run_of_zeros c.args.key.now c.args.nonce.now c.args.place 256 c.xor_part-then-counter-3.result
+    c.args.bytes.now c.xor_four_blocks.new.bytes _
+    c.xor_four_blocks.ensures c.xor_four_blocks.auto.bytes c.xor_part-then-counter-3.ensures.count
+    c.xor_part-then-counter-3.ensures.xored
+
+pub returns-then-counter-4-clause-masked : goal.returns-then-counter-4-clause-masked
+returns-then-counter-4-clause-masked g c =
+    run_of_two c.args.key.now c.args.nonce.now c.args.place c.xor_part-then-counter-4.result
     c.two_blocks-blocks.result c.args.bytes.now c.as_flattened.result.now _
     c.two_blocks-blocks.ensures c.as_flattened.ensures.value c.as_flattened.ensures.len
-    c.xor_part-then-counter-3.ensures.count c.xor_part-then-counter-3.ensures.xored
+    c.xor_part-then-counter-4.ensures.count c.xor_part-then-counter-4.ensures.xored
 
 pub returns-clause-masked : goal.returns-clause-masked
 returns-clause-masked g c =

@@ -1,0 +1,88 @@
+// A block by rows beside four or eight in lanes: in the steps of the lanes the processor has room for those of a row.
+
+ghost use Rattle.std.specs.Prelude.{◌≡◌, ℕ, ◌+◌, ◌%◌, ◌^◌, ◌<◌, length, slice_index};
+ghost use Rattle.octets.specs.Masked.{masked};
+ghost use Rattle.chacha.specs.Block.{double_rounds, serialized, block};
+ghost use Rattle.chacha.specs.Code.Halves.{round_at};
+ghost use Rattle.chacha.specs.Code.Lanes.{lane};
+ghost use Rattle.chacha.specs.Code.Rows.{read_by_rows};
+ghost use Rattle.chacha.specs.Stream.{key_stream_byte};
+
+use crate::lanes::{add, eight_counters, four_counters, half_round, set_starts};
+use crate::lanes::{xor_eight_written, xor_written};
+use crate::rows::{column_round, diagonal_round, rows_of, written};
+use crate::state::initial_state;
+use octets::{Key32, Nonce, xor_into};
+use std::simd::{Simd, u32x4, u32x8};
+
+// What the rows do beside a half of a round of the lanes: beside the first half of a round all of it.
+#[inline(always)]
+fn round_at(row: &mut [u32x4; 4], half: u32)
+    ensures { read_by_rows row.new ≡ round_at (half % 4) (read_by_rows row.old) }
+{
+    match half % 4 {
+        0 => column_round(row),
+        2 => diagonal_round(row),
+        _ => {}
+    }
+}
+
+// Ten double rounds of the lanes, and of the rows beside them.
+#[inline(always)]
+fn ten_rounds<const N: usize>(x: &mut [Simd<u32, N>; 16], row: &mut [u32x4; 4])
+    ensures lanes { (j : ℕ) → j < N → lane j x.new ≡ double_rounds 10 (lane j x.old) }
+    ensures row { read_by_rows row.new ≡ double_rounds 10 (read_by_rows row.old) }
+{
+    'halves: for half in 0..40u32 {
+        half_round(x, half);
+        round_at(row, half);
+    }
+}
+
+// Each lane gets the words of the block of its counter. Returns the block with one more counter.
+#[inline(always)]
+fn set_blocks<const N: usize>(
+    x: &mut [Simd<u32, N>; 16],
+    key: &Key32,
+    counter: u32,
+    counters: Simd<u32, N>,
+    nonce: &Nonce,
+) -> [u8; 64]
+    ensures lanes { (j : ℕ) → j < N
+        → serialized (lane j x.new) ≡ block key.now (slice_index counters.entry j) nonce.now }
+    ensures row { result ≡ block key.now counter nonce.now }
+{
+    set_starts(x, &initial_state(key, 0, nonce), counters);
+    let start = *x;
+    let row_start = rows_of(&initial_state(key, counter, nonce));
+    let mut row = row_start;
+    ten_rounds(x, &mut row);
+    add(x, &start);
+    written(&row, &row_start)
+}
+
+// XORs the first 320 bytes of the key stream from a counter on.
+pub(crate) fn xor_five_blocks(key: &Key32, counter: u32, nonce: &Nonce, bytes: &mut [u8])
+    requires counters { counter + 4 < 2 ^ 32 }
+    requires size { length bytes.old ≡ 320 }
+    ensures { bytes.new ≡ masked (key_stream_byte key.now nonce.now counter) 0 bytes.old }
+{
+    let mut x = [u32x4::splat(0); 16];
+    let first = set_blocks(&mut x, key, counter, four_counters(counter + 1), nonce);
+    let (front, back) = bytes.split_at_mut(64);
+    xor_into(front, &first);
+    xor_written(&x, back);
+}
+
+// XORs the first 576 bytes of the key stream from a counter on.
+pub(crate) fn xor_nine_blocks(key: &Key32, counter: u32, nonce: &Nonce, bytes: &mut [u8])
+    requires counters { counter + 8 < 2 ^ 32 }
+    requires size { length bytes.old ≡ 576 }
+    ensures { bytes.new ≡ masked (key_stream_byte key.now nonce.now counter) 0 bytes.old }
+{
+    let mut x = [u32x8::splat(0); 16];
+    let first = set_blocks(&mut x, key, counter, eight_counters(counter + 1), nonce);
+    let (front, back) = bytes.split_at_mut(64);
+    xor_into(front, &first);
+    xor_eight_written(&x, back);
+}
