@@ -16,7 +16,7 @@ pub(crate) struct BegunStream<'a> {
     used: usize,
     rest: ChaStream,
     ghost in_range: { used ≤ length start.now },
-    ghost short: { length start.now ≤ 512 },
+    ghost short: { length start.now ≤ 576 },
 }
 
 impl<'a> BegunStream<'a> {
@@ -25,7 +25,7 @@ impl<'a> BegunStream<'a> {
     // No byte is made yet.
     pub(crate) fn new(key: &Key32, nonce: &Nonce, start: &'a [u8]) -> BegunStream<'a>
         requires has_a_block { 64 ≤ length start.now }
-        requires short { length start.now ≤ 512 }
+        requires short { length start.now ≤ 576 }
         requires whole { length start.now % 64 ≡ 0 }
         requires start_is { (i : ℕ) → i < length start.now
             → slice_index start.now i ≡ key_stream_byte key.now nonce.now 0 i }
@@ -60,7 +60,8 @@ impl<'a> MaskStream for BegunStream<'a> {
     ghost made = { MadeByBegun };
 
     fn part(&self, length: usize) -> usize {
-        length.min(self.start.len() - self.used + CHACHA_PART)
+        let begun = self.start.len() - self.used;
+        length.min(if begun < CHACHA_PART { begun + CHACHA_PART } else { begun })
     }
 
     ghost masks = { begun_masks };

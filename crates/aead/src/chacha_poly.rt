@@ -54,7 +54,7 @@ impl ChaChaPoly {
     // Seals with the first `N` bytes of the key stream made at once.
     #[inline(never)]
     fn seal_from<const N: usize>(&self, nonce: &Nonce, aad: &[u8], text: &mut [u8]) -> Tag
-        requires blocks { (64 ≤ N) × (N ≤ 512) × (N % 64 ≡ 0) }
+        requires blocks { (64 ≤ N) × (N ≤ 576) × (N % 64 ≡ 0) }
         requires aad_fits { length aad.now ≤ aad_limit self.now.suite }
         requires text_fits { length text.old ≤ text_limit self.now.suite }
         ensures { Opened (setting self.now nonce.now aad.now) (text.new ++ result) text.old }
@@ -73,7 +73,7 @@ impl ChaChaPoly {
         body: &mut [u8],
         tag: &Tag,
     ) -> Result<(), Fault>
-        requires blocks { (64 ≤ N) × (N ≤ 512) × (N % 64 ≡ 0) }
+        requires blocks { (64 ≤ N) × (N ≤ 576) × (N % 64 ≡ 0) }
         requires aad_fits { length aad.now ≤ aad_limit self.now.suite }
         requires text_fits { length body.old ≤ text_limit self.now.suite }
         ensures { OpensInPlace (setting self.now nonce.now aad.now) tag.now body.old body.new result }
@@ -158,7 +158,7 @@ struct BegunChaCha<'a> {
     nonce: &'a Nonce,
     start: &'a [u8],
     ghost has_a_block: { 64 ≤ length start.now },
-    ghost short: { length start.now ≤ 512 },
+    ghost short: { length start.now ≤ 576 },
     ghost whole: { length start.now % 64 ≡ 0 },
     ghost start_is: { (i : ℕ) → i < length start.now
         → slice_index start.now i ≡ key_stream_byte key.now nonce.now 0 i },
@@ -190,14 +190,23 @@ impl<'a> MaskThenHash for BegunChaCha<'a> {
     ghost one_pass = { λ _. refl };
 }
 
-// How many bytes of text the block with counter 1 masks.
-const ONE_BLOCK: usize = 64;
-
-// How many the blocks with the counters 1 to 3 do.
-const THREE_BLOCKS: usize = 192;
-
-// How many those with the counters 1 to 7 do.
+// The bytes of text that the blocks with the counters 1 to 7 mask.
 const SEVEN_BLOCKS: usize = 448;
+
+// How many blocks from counter 0 on are made at once for a text of so many bytes. A block beside four or eight
+// others costs little, and the blocks after them go by eight, so that few are made for a last part.
+fn blocks_at_once(length: usize) -> usize {
+    match length {
+        0..=64 => 2,
+        65..=192 => 4,
+        193..=256 => 5,
+        257..=SEVEN_BLOCKS => 8,
+        _ => match length % 512 {
+            1..=64 | 321..=384 => 2,
+            _ => 9,
+        },
+    }
+}
 
 impl Cipher for ChaChaPoly {
     ghost keyed = { λ c. c };
@@ -209,12 +218,12 @@ impl Cipher for ChaChaPoly {
     }
 
     fn seal_fitting(&self, nonce: &Nonce, aad: &[u8], text: &mut [u8]) -> Tag {
-        if text.len() <= ONE_BLOCK || text.len() > SEVEN_BLOCKS {
-            self.seal_from::<128>(nonce, aad, text)
-        } else if text.len() <= THREE_BLOCKS {
-            self.seal_from::<256>(nonce, aad, text)
-        } else {
-            self.seal_from::<512>(nonce, aad, text)
+        match blocks_at_once(text.len()) {
+            2 => self.seal_from::<128>(nonce, aad, text),
+            4 => self.seal_from::<256>(nonce, aad, text),
+            5 => self.seal_from::<320>(nonce, aad, text),
+            8 => self.seal_from::<512>(nonce, aad, text),
+            _ => self.seal_from::<576>(nonce, aad, text),
         }
     }
 
@@ -225,12 +234,12 @@ impl Cipher for ChaChaPoly {
         body: &mut [u8],
         tag: &Tag,
     ) -> Result<(), Fault> {
-        if body.len() <= ONE_BLOCK || body.len() > SEVEN_BLOCKS {
-            self.open_from::<128>(nonce, aad, body, tag)
-        } else if body.len() <= THREE_BLOCKS {
-            self.open_from::<256>(nonce, aad, body, tag)
-        } else {
-            self.open_from::<512>(nonce, aad, body, tag)
+        match blocks_at_once(body.len()) {
+            2 => self.open_from::<128>(nonce, aad, body, tag),
+            4 => self.open_from::<256>(nonce, aad, body, tag),
+            5 => self.open_from::<320>(nonce, aad, body, tag),
+            8 => self.open_from::<512>(nonce, aad, body, tag),
+            _ => self.open_from::<576>(nonce, aad, body, tag),
         }
     }
 }

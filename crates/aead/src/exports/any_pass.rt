@@ -24,7 +24,7 @@ use gf128::{PlacedMul, TableMul, WideMul};
 use octets::{Fault, Tag};
 
 // The most bytes that are decrypted at once in memory of their own.
-const PART: usize = 512;
+const PART: usize = 4096;
 
 // The numbers of no bytes under the bytes of a key and a nonce.
 pub(super) fn begun(
@@ -47,7 +47,7 @@ pub(super) fn begun(
 
 // Takes in the text of a part of a ciphertext.
 fn take_part<S: MaskStream, H: TagHash>(mask: &mut S, taken: &mut Authenticator<H>, part: &[u8])
-    requires small { length part.now ≤ 512 }
+    requires small { length part.now ≤ 4096 }
     requires room { taken.old.length + length part.now < 2 ^ 64 }
     ensures takes { TakesText S.made H.held mask.old mask.new taken.old taken.new part.now }
     ensures length { taken.new.length ≡ taken.old.length + length part.now }
