@@ -1,4 +1,4 @@
--- What the state of any construction tells of its pieces.
+-- The pieces of a message: their length and limits, from the state of any construction.
 use Rattle.std.proofs.Common.{◌≡◌, ℕ, ◌≤◌, List, length}
 use Rattle.aead.specs.declared.any_masking.AnyMasking.{AnyMasking}
 use Rattle.aead.specs.declared.any_masking.AnyMasking.TheVariants.{ByChaCha, ByGcm}

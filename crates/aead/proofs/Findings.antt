@@ -1,4 +1,4 @@
--- What a whole pass finds.
+-- The findings of a whole pass.
 use Rattle.std.proofs.Common.{◌≡◌, ℕ, List, [], ◌++◌, ◌≤◌, ◌<◌, ◌-◌, ◌⊎◌, inl, inr, Bool, true, false}
 use Rattle.std.proofs.Common.{length, take, drop, get_or, refl, ap, ◌∙◌, sym, arith, true≢false, Option}
 use Rattle.std.proofs.Common.{Some, None, subst, length-append}

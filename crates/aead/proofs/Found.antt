@@ -1,4 +1,4 @@
--- A sealing is refused only for want of memory.
+-- A sealing is refused only with `OutOfMemory`.
 use Rattle.std.proofs.Common.{◌≡◌, ℕ, List, ◌++◌, length, refl, arith, length-append, Result, Ok, Err}
 use Rattle.std.proofs.Common.{MatchResult}
 use Rattle.octets.specs.declared.fault.Fault.{Fault}
@@ -28,7 +28,7 @@ refused_only law s sealed text o Read h = absurd h
 refused_only law s sealed text o Write h = absurd h
 refused_only law s sealed text o SourceChanged h = absurd h
 
--- so where a text was sealed, it is answered, or memory was refused
+-- so if a text was sealed, it is returned, or an allocation failed
 pub found : {T : Type 0} (items : T → List ℕ) → HasOneText
     → (s : Setting) (sealed : List ℕ) (r : Result T Fault)
     → MatchResult r (λ v. Opened s sealed (items v)) (λ e. WholeOpenRefused s sealed e)

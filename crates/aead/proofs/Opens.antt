@@ -1,4 +1,4 @@
--- What is sealed and opened by the parts of a cipher.
+-- Sealing and opening by the parts of a cipher.
 use Rattle.std.proofs.Common.{◌≡◌, ℕ, ◌+◌, ◌<◌, ◌≤◌, true, false, List, ◌++◌, get_or, length}
 use Rattle.std.proofs.Common.{refl, sym, ap, ap₂}
 use Rattle.std.proofs.Common.{◌∙◌, arith, true≢false, length-append, subst}

@@ -1,4 +1,4 @@
--- What the numbers of outcomes say.
+-- The meaning of the numbers of outcomes.
 use Rattle.std.proofs.Common.{◌≡◌, ◌≢◌, ◌∙◌, ℕ, sym, arith, Ok, Err, Result, MatchResult}
 use Rattle.octets.specs.declared.fault.Fault.{Fault}
 use Rattle.octets.specs.declared.fault.Fault.TheVariants.{KeyLength, NonceLength, TextTooLong, AadTooLong}

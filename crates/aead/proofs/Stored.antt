@@ -1,4 +1,4 @@
--- What is known of sealings that are stored as numbers.
+-- Facts about sealings that are stored as numbers.
 use Rattle.std.proofs.Common.{◌≡◌, ℕ, ◌-◌, ◌*◌, ◌/◌, ◌^◌, true, List, [], ◌++◌, length, refl, sym, ap, subst}
 use Rattle.std.proofs.Common.{◌∙◌}
 use Rattle.std.proofs.Common.{◌<◌, get_or, arith, inl, inr, take, true≢false}

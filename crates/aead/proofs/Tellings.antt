@@ -1,4 +1,4 @@
--- What the steps of the stream opener say where the reading tells its bytes.
+-- The steps of the stream opener over a reading whose bytes are known.
 use Rattle.std.proofs.Common.{◌≡◌, ℕ, List, [], ◌≤◌, ◌-◌, ◌⊎◌, inl, inr, length, ap, Option, Some, None}
 use Rattle.std.proofs.Common.{Result, Err, IfSome}
 use Rattle.octets.specs.declared.fault.Fault.{Fault}

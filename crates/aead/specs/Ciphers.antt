@@ -1,4 +1,4 @@
--- What a cipher is to its caller.
+-- A cipher, as its caller sees it.
 use Rattle.std.specs.Prelude.{ℕ, List}
 use Rattle.aead.specs.declared.suite.Suite.{Suite}
 use Rattle.aead.specs.Sealing.{Setting}

@@ -1,5 +1,5 @@
--- What the code's states hold and what the steps of its engines leave. Of public words only the relations
--- of `Pieces` go by it: sealing, opening and the engines are defined without it.
+-- The code's states, and the steps of its engines. Of public words only the relations of `Pieces` go by them:
+-- sealing, opening and the engines are defined without them.
 pub mod States
 pub mod Maskings
 pub mod AnyMaskings

@@ -1,4 +1,4 @@
--- What a sealing in pieces has been fed.
+-- The state of a sealing in pieces, by what it was fed.
 use Rattle.std.specs.Prelude.{◌≡◌, ℕ, true, List, [], ◌++◌, length}
 use Rattle.octets.specs.Masked.{masked}
 use Rattle.gf128.specs.States.{key_of}

@@ -1,4 +1,4 @@
--- Why a call is refused: one case for each fault that it answers, in the order in which they are tried.
+-- Why a call is refused: one case for each fault that it returns, in the order in which they are tried.
 use Rattle.std.specs.Prelude.{◌≡◌, ℕ, ◌+◌, ◌<◌, ◌≤◌, ◌⊎◌, List, [], ◌∷◌, ◌++◌, length, Result, MatchResult}
 use Rattle.octets.specs.declared.fault.Fault.{Fault}
 use Rattle.octets.specs.declared.fault.Fault.TheVariants.{TextTooLong, AadTooLong, TooShort, TagMismatch}

@@ -1,4 +1,4 @@
--- What the engine that seals in two readings answers, and what it gives.
+-- The result of the engine that seals in two readings, and what it gives.
 use Rattle.std.specs.Prelude.{◌≡◌, ℕ, ◌<◌, ◌⊎◌, List, [], ◌++◌, length, take, Option, Some, Result, Ok, Err}
 use Rattle.std.specs.Prelude.{IfSome}
 use Rattle.std.specs.Io.KnownBytes.{Appends}
@@ -30,7 +30,7 @@ WritesAgain s a b taken taken' read read' wrote wrote' r =
     ⊎ ((k : ℕ) × Appends taken taken' (again s a b ++ take k (tag_of s a)) × Repeats s a b × (r ≡ Err Write)
     × Failed wrote wrote')
 
--- the answer that the two readings fix
+-- the result that the two readings fix
 abbrev pub SivVerdict : Setting → List ℕ → List ℕ → Result (Unit {0}) Fault → Type 0
 SivVerdict s a b (Ok _) = Fits s a × Repeats s a b
 SivVerdict s a b (Err SourceChanged) = Fits s a × ¬ (Repeats s a b)
@@ -49,7 +49,7 @@ SivBlames own before after r =
     DueTo own (after ≡ before) (Failed before.first after.first ⊎ Failed before.second after.second)
     (Failed before.outlet after.outlet) r
 
--- what was given of the second reading b after the first one a, and the answer
+-- what was given of the second reading b after the first one a, and the result
 pub record SealsSivStream (s : Setting) (a b given : List ℕ) (before after : SivCounts)
     (r : Result (Unit {0}) Fault) : Type 0 where
   -- nothing is given where the associated data or the first reading is past its limit
@@ -60,7 +60,7 @@ pub record SealsSivStream (s : Setting) (a b given : List ℕ) (before after : S
       ⊎ (Repeats s a b × IsBeginning given (again s a b ++ tag_of s a))
   -- at Ok it is all of both
   pub whole : r ≡ Ok tt → Repeats s a b × (given ≡ again s a b ++ tag_of s a)
-  -- the answer is the verdict, and no device failed, or it names a device that failed
+  -- the result is the verdict, and no device failed, or it names a device that failed
   pub answer : (SivVerdict s a b r × (after ≡ before))
       ⊎ ((r ≡ Err Read) × (Failed before.first after.first ⊎ Failed before.second after.second))
       ⊎ ((r ≡ Err Write) × Failed before.outlet after.outlet)

@@ -1,4 +1,4 @@
--- What the sealing engines answer, and what they give.
+-- The results of the sealing engines, and what they give.
 use Rattle.std.specs.Prelude.{◌≡◌, ℕ, ◌<◌, ◌⊎◌, nat_le, List, [], length, take, Option, Some, Result}
 use Rattle.std.specs.Prelude.{Ok, Err, MatchResult, IfSome, if◌then◌else◌}
 use Rattle.std.specs.Io.KnownBytes.{Appends}
@@ -19,11 +19,11 @@ may_seal s x =
     then sealing s x
     else masked (mask_of s (tag_of s x)) 0 (take (text_limit s.suite) x)
 
--- the answer that a text fixes
+-- the result that a text fixes
 abbrev pub SealVerdict : Setting → List ℕ → Result (Unit {0}) Fault → Type 0
 SealVerdict s x r = MatchResult r (λ _. Fits s x) (λ e. SealRefused s x e)
 
--- what was given of a text, and the answer
+-- what was given of a text, and the result
 pub record SealsStream (s : Setting) (x given : List ℕ) (read read' wrote wrote' : ℕ)
     (r : Result (Unit {0}) Fault) : Type 0 where
   -- nothing is given where the associated data is past its limit
@@ -32,7 +32,7 @@ pub record SealsStream (s : Setting) (x given : List ℕ) (read read' wrote wrot
   pub beginning : IsBeginning given (may_seal s x)
   -- at Ok it is the sealing
   pub whole : r ≡ Ok tt → given ≡ sealing s x
-  -- the answer is the verdict, and no device failed, or it names the device that failed
+  -- the result is the verdict, and no device failed, or it names the device that failed
   pub answer : (SealVerdict s x r × (read' ≡ read) × (wrote' ≡ wrote)) ⊎ ((r ≡ Err Read) × Failed read read')
       ⊎ ((r ≡ Err Write) × Failed wrote wrote')
 

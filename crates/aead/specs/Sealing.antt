@@ -1,4 +1,4 @@
--- What is sealed, and what it opens to (RFC 8439, 2.8; SP 800-38D, 7; RFC 8452, 4 and 5).
+-- Sealing, and the text that a sealing opens to (RFC 8439, 2.8; SP 800-38D, 7; RFC 8452, 4 and 5).
 use Rattle.std.specs.Prelude.{◌≡◌, ℕ, ◌+◌, ◌*◌, ◌/◌, ◌<◌, ◌≤◌, List, [], ◌∷◌, ◌++◌, take, drop, get_or}
 use Rattle.std.specs.Prelude.{slice_set, length, replicate, flat_map, bit_and, bit_or}
 use Rattle.std.specs.List.{range_with_len}

@@ -1,4 +1,4 @@
--- What sealings and openings in pieces hold that are stored as numbers in C's memory.
+-- The state of sealings and openings in pieces that are stored as numbers in C's memory.
 use Rattle.std.specs.Prelude.{◌≡◌, ◌≢◌, ℕ, ◌+◌, ◌*◌, ◌/◌, ◌^◌, ◌<◌, true, List, ◌++◌, length, take, drop}
 use Rattle.std.specs.Prelude.{replicate}
 use Rattle.octets.specs.Bytes.{pad16}

@@ -1,4 +1,4 @@
--- What an opening in pieces holds that is stored as numbers in C's memory.
+-- The state of an opening in pieces that is stored as numbers in C's memory.
 use Rattle.std.specs.Prelude.{◌≡◌, ◌≢◌, ℕ, ◌+◌, ◌<◌, ◌≤◌, List, [], ◌++◌, length, get_or}
 use Rattle.octets.specs.Masked.{masked}
 use Rattle.octets.specs.Numbers.{HasOutcome}

@@ -1,4 +1,4 @@
--- What a sealing in pieces by two readings holds that is stored as numbers in C's memory.
+-- The state of a sealing in pieces by two readings that is stored as numbers in C's memory.
 use Rattle.std.specs.Prelude.{◌≡◌, ◌≢◌, ◌<◌, ◌≤◌, ℕ, ◌+◌, List, [], ◌++◌, length}
 use Rattle.octets.specs.Bytes.{pad16}
 use Rattle.octets.specs.Masked.{masked}

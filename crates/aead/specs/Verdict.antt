@@ -1,4 +1,4 @@
--- The answer of the stream opener, and what it gives.
+-- The result of the stream opener, and what it gives.
 use Rattle.std.specs.Prelude.{◌≡◌, ◌≢◌, ℕ, ◌+◌, ◌-◌, ◌<◌, ◌≤◌, ◌⊎◌, nat_le, List, [], ◌∷◌, length, take}
 use Rattle.std.specs.Prelude.{Option, Some, Result, Ok, Err, IfSome, slice_index, if◌then◌else◌}
 use Rattle.std.specs.Io.KnownBytes.{Appends}
@@ -20,7 +20,7 @@ Agrees m x = (length x ≡ length m) × (last_16 x ≡ last_16 m)
 abbrev pub OnlyWriteDiffers : Setting → List ℕ → List ℕ → List ℕ → Type 0
 OnlyWriteDiffers s m v w = Agrees m v × IsSealing s v × ¬ (Agrees m w × IsSealing s w)
 
--- what the measure, verify and write readings m, v and w fix as the answer: each fault with its case, in
+-- what the measure, verify and write readings m, v and w fix as the result: each fault with its case, in
 -- this order
 abbrev pub Verdict : Setting → List ℕ → List ℕ → List ℕ → Result (Unit {0}) Fault → Type 0
 Verdict s m v w (Err AadTooLong) = aad_limit s.suite < length s.aad
@@ -62,7 +62,7 @@ BlamesRightly before after r =
     ⊎ Failed before.write after.write)
     (Failed before.outlet after.outlet) r
 
--- what was given, and the answer, where three readings and an outlet tell their bytes
+-- what was given, and the result, where three readings and an outlet tell their bytes
 pub record OpensStream (s : Setting) (m v w given : List ℕ) (before after : FailureCounts)
     (r : Result (Unit {0}) Fault) : Type 0 where
   -- nothing is given before the verify reading was found to be a sealing that agrees with the measured one
@@ -74,7 +74,7 @@ pub record OpensStream (s : Setting) (m v w given : List ℕ) (before after : Fa
   pub whole : (r ≡ Ok tt) ⊎ ((r ≡ Err SourceChanged) × OnlyWriteDiffers s m v w) → given ≡ shown s m w
   -- at Ok it is the text of the write reading
   pub text : r ≡ Ok tt → Opened s w given
-  -- the answer is the verdict, and no device failed, or it names a device that failed
+  -- the result is the verdict, and no device failed, or it names a device that failed
   pub answer : (Verdict s m v w r × (after ≡ before))
       ⊎ ((r ≡ Err Read) × (Failed before.measure after.measure ⊎ Failed before.verify after.verify
       ⊎ Failed before.write after.write))

@@ -27,7 +27,7 @@ impl Suite {
     /// The bytes of a nonce, in each suite.
     pub const NONCE_LENGTH: usize = 12;
 
-    /// The bytes of a tag, in each suite: so many more than its text has a sealing.
+    /// The bytes of a tag, in each suite: the ciphertext overhead.
     pub const TAG_LENGTH: usize = 16;
 
     /// The suite of a name: `chacha20-poly1305`, `aes-128-gcm`, `aes-192-gcm`, `aes-256-gcm`,

@@ -207,7 +207,7 @@ fn each_bit_changed(rt: HostRuntime) {
     }
 }
 
-// The same of AES-GCM.
+// A sealing of AES-GCM with any one bit changed is none, and what was to be opened stays.
 #[test]
 fn each_bit_of_gcm_changed(rt: HostRuntime) {
     let sample = gcm(&rt);

@@ -9,6 +9,7 @@ ghost use Rattle.aead.specs.Refusals.{WholeSealRefused, WholeOpenRefused};
 use crate::aead::Cipher;
 use crate::any::AnyAead;
 use crate::sealing_has_one_text;
+use crate::suite::Suite;
 use octets::{Fault, Nonce, Tag};
 use std::alloc::Allocator;
 
@@ -50,7 +51,7 @@ pub fn seal<A: Allocator>(
     let suite = cipher.suite();
     suite.check_aad(aad)?;
     suite.check_text(text)?;
-    let mut sealed = Vec::with_capacity(alloc, text.len() + 16)?;
+    let mut sealed = Vec::with_capacity(alloc, text.len() + Suite::TAG_LENGTH)?;
     sealed.extend_from_slice(text)?;
     let tag = cipher.seal_fitting(nonce, aad, &mut sealed);
     sealed.extend_from_slice(tag.bytes())?;

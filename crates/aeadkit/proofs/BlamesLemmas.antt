@@ -1,4 +1,4 @@
--- What the faults of the engines, of the inputs and of the written file blame.
+-- Devices that the faults of the engines, of the inputs and of the written file blame.
 use Rattle.std.proofs.Common.{◌≡◌, ℕ, ◌⊎◌, inl, inr, Bool, true, false, List, [], ◌∷◌, Ok, Err, ◌<◌}
 use Rattle.std.proofs.Common.{Result, refl, sym, ◌∙◌, ap, subst, arith, true≢false}
 use Rattle.std.proofs.lemmas.Bool.{and_parts}

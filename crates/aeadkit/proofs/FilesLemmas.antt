@@ -1,4 +1,4 @@
--- What the file commands make of the engines' answers.
+-- Results of the file commands, from those of the engines.
 use Rattle.std.proofs.Common.{◌≡◌, ℕ, ◌⊎◌, inl, inr, Bool, true, false, List, [], ◌++◌, ◌==◌}
 use Rattle.std.proofs.Common.{Option, Some, None, Ok, Err, IfSome, refl, subst, sym, ◌∙◌, ap, arith, take}
 use Rattle.std.proofs.Common.{drop, length, if◌then◌else◌}
@@ -122,7 +122,7 @@ holds_nothing (Some x) None pending k = absurd k
 holds_nothing (Some x) (Some h) pending k =
     (h, refl, (length h, sym (take-append_seam h pending) ∙ ap (λ l. take (length h) l) k))
 
--- an engine's answer over one reading, for what is given in another way
+-- an engine's result over one reading, for what is given in another way
 map_one : (a : Option (List ℕ)) (X Y : List ℕ → Type 0) → ((x : List ℕ) → X x → Y x)
     → IfSome a (λ x. X x) → IfSome a (λ x. Y x)
 map_one None X Y f h = tt
@@ -201,7 +201,7 @@ map_call words P Q f h = record {
   is = f (setting h.keyed h.nonce h.aad) h.body h.is;
 }
 
--- a file command whose engine did not run, or answered a fault
+-- a file command whose engine did not run, or returned a fault
 pub exit_err : (command : FileCommand) (readings : ℕ → Option (List ℕ)) (words : Inputs)
     (taken held : Option (List ℕ)) (pending : List ℕ) (e : Failure)
     → Ran (Engine command readings) words taken (append_known held pending) (Err e)

@@ -1,4 +1,4 @@
--- What `seal` and `open` answer on a suite's name and values given as digits.
+-- The results of `seal` and `open` on a suite's name and values given as digits.
 use Rattle.std.specs.Prelude.{◌≡◌, ◌≢◌, ℕ, ◌⊎◌, List, length, ⊤}
 use Rattle.octets.specs.declared.fault.Fault.{Fault}
 use Rattle.octets.specs.declared.fault.Fault.TheVariants.{KeyLength, NonceLength, OutOfMemory}
@@ -87,6 +87,6 @@ InputsRefused words (OfFault NonceLength) = HasWrongNonce words
 InputsRefused words (OfFault OutOfMemory) = ⊤
 InputsRefused words _ = ⊥
 
--- why the words have no answer: they give no inputs, or the call is refused by its own rule
+-- why the words have no result: they give no inputs, or the call is refused by its own rule
 abbrev pub IsRefused : (Setting → List ℕ → Fault → Type 0) → Inputs → Failure → Type 0
 IsRefused refused words e = InputsRefused words e ⊎ CallFailed refused words e

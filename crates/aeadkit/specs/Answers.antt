@@ -1,4 +1,4 @@
--- What the program does for a request: what it prints, with which status, or why it stops.
+-- The effect of a request: what the program prints, with which status, or why it stops.
 use Rattle.std.specs.Prelude.{◌≡◌, ℕ, ◌⊎◌, List, [], ◌∷◌, ◌++◌, codes, Err, MatchResult}
 use Rattle.std.specs.declared.option.Option.{Option}
 use Rattle.std.specs.declared.result.Result.{Result}
@@ -17,7 +17,7 @@ use Rattle.aeadkit.specs.Hex.{hex_line}
 use Rattle.aeadkit.specs.Reports.{IsChecked, FileRefused}
 use Rattle.aeadkit.specs.Keywrap.{IsWrapped, IsUnwrapped, IsWrapRefused, WrapFault, UnwrapFault}
 
--- standard output failed, or memory was wanting
+-- standard output failed, or the program is out of memory
 abbrev pub IsOutputFailure : Failure → Type 0
 IsOutputFailure e = (e ≡ OfFault OutOfMemory) ⊎ (e ≡ OfFault Write)
 

@@ -1,4 +1,4 @@
--- What a file command's `Read` and `Write` come from.
+-- The causes of a file command's `Read` and `Write`.
 use Rattle.std.specs.Prelude.{◌≡◌, ℕ, ◌⊎◌, Bool, true, List, Result, IfErr, ⊤}
 use Rattle.octets.specs.declared.fault.Fault.{Fault}
 use Rattle.octets.specs.declared.fault.Fault.TheVariants.{Read, Write}

@@ -1,4 +1,4 @@
--- What the file commands answer, and what the file that they write holds.
+-- The results of the file commands, and the contents of the file that they write.
 use Rattle.std.specs.Prelude.{◌≡◌, ℕ, ◌⊎◌, Bool, true, false, List, ◌++◌, Option, Some, Result, Ok, Err}
 use Rattle.std.specs.Prelude.{MatchResult, IfSome}
 use Rattle.std.specs.Io.KnownBytes.{Appends}
@@ -16,7 +16,7 @@ use Rattle.aeadkit.specs.declared.words.FileCommand.{FileCommand}
 use Rattle.aeadkit.specs.declared.words.FileCommand.TheVariants.{Seal, Open}
 use Rattle.aeadkit.specs.Aead.{InputsRefused, IsCalled, CallFailed}
 
--- an engine's answer, for what it gave
+-- an engine's result, for what it gave
 abbrev pub Answer : Type 0
 Answer = Result (Unit {0}) Fault
 
@@ -40,7 +40,7 @@ pub record OpensThrice (s : Setting) (m v w given : List ℕ) (r : Answer) : Typ
   pub after : FailureCounts
   pub is : OpensStream s m v w given before after r
 
--- a relation between what is given and the answer, where something is told of what was given
+-- a relation between what is given and the result, if something is told of what was given
 abbrev pub Giving : Type 1
 Giving = (List ℕ → Type 0) → Type 0
 
@@ -83,7 +83,7 @@ HoldsStart taken held P =
 abbrev pub NoCall : Inputs → Failure → Type 0
 NoCall words e = InputsRefused words e ⊎ ((e ≡ OfFault Read) ⊎ (e ≡ OfFault OutOfMemory))
 
--- an engine answered, or a file was not opened and nothing was given
+-- an engine returned, or a file was not opened and nothing was given
 abbrev pub EngineRan : (Giving → Setting → Answer → Type 0) → Setting → Option (List ℕ) → Option (List ℕ)
     → Answer → Type 0
 EngineRan engine s taken taken' r =
@@ -106,9 +106,8 @@ FileDone engine words taken held = IsCalled words (λ s body. engine (HoldsAll t
 abbrev pub HoldsNothing : Option (List ℕ) → Option (List ℕ) → Type 0
 HoldsNothing taken held = IfSome taken (λ before. (h : List ℕ) × (held ≡ Some h) × IsBeginning h before)
 
--- a file command came to nothing: the file holds a beginning of what the engine gave, which answered this
--- fault, or was done
--- where the last writing failed
+-- a file command came to nothing: the file holds a beginning of what the engine gave, which returned this
+-- fault, or was done before the last write failed
 abbrev pub FileStopped : (Giving → Setting → Answer → Type 0) → Inputs → Option (List ℕ) → Option (List ℕ)
     → Failure → Type 0
 FileStopped engine words taken held e =

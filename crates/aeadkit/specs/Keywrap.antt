@@ -1,4 +1,4 @@
--- What `wrap` and `unwrap` answer on values given as digits.
+-- The results of `wrap` and `unwrap` on values given as digits.
 use Rattle.std.specs.Prelude.{◌≡◌, ℕ, ◌-◌, ◌^◌, ◌⊎◌, Bool, true, false, List, length, ⊤}
 use Rattle.octets.specs.declared.fault.Fault.{Fault}
 use Rattle.octets.specs.declared.fault.Fault.TheVariants.{KeyLength, OutOfMemory}
@@ -49,7 +49,7 @@ pub record WrapCallRefused (refused : List ℕ → List ℕ → Fault → Type 0
   pub is : e ≡ OfFault fault
   pub why : IsWrapCall (λ k b. refused k b fault) key body
 
--- why the values have no answer
+-- why the values have no result
 abbrev pub IsWrapRefused : (List ℕ → List ℕ → Fault → Type 0) → List ℕ → List ℕ → Failure → Type 0
 IsWrapRefused refused key body e = WrapInputsRefused key body e ⊎ WrapCallRefused refused key body e
 

@@ -1,4 +1,4 @@
--- What a file holds that is made when it is needed.
+-- The contents of a file that is made when it is needed.
 use Rattle.std.specs.Prelude.{ℕ, List, Option, Some, None}
 
 -- before it is made what a file holds at first, and then what was written to it

@@ -1,4 +1,4 @@
--- What `check` answers on a file, and what it prints.
+-- The result of `check` on a file, and the lines that it prints.
 use Rattle.std.specs.Prelude.{◌≡◌, ℕ, ◌≤◌, List, [], ◌∷◌, ◌++◌, codes, flat_map, IfSome, ⊤, ◌↔◌}
 use Rattle.std.specs.declared.option.Option.{Option}
 use Rattle.std.specs.Fmt.{decimal}

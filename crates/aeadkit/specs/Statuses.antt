@@ -9,7 +9,7 @@ use Rattle.aeadkit.specs.declared.failure.Failure.TheVariants.{Words, UnknownSui
 use Rattle.aeadkit.specs.declared.failure.Failure.TheVariants.{Vector as OfVector}
 
 -- 1: the bytes are no sealing or wrapping; 2: an input is of no use; 3: a reading or a writing failed;
--- 4: want of memory
+-- 4: out of memory
 abbrev pub fault_status : Fault → ℕ
 fault_status fault.TooShort = 1
 fault_status fault.TagMismatch = 1

@@ -15,13 +15,13 @@ use vectors::VectorFault;
 /// of a fault.
 #[derive(Clone, Copy)]
 pub enum Failure {
-    /// The words are no command line of the program.
+    /// The words are not a command line of the program.
     Words,
-    /// The name is no suite's.
+    /// No suite has the name.
     UnknownSuite,
     /// A value given for hexadecimal is not an even number of hex digits.
     BadHex,
-    /// A call refused, a reading or a writing failed, or an allocation failed.
+    /// A call was refused, a read or a write failed, or an allocation failed.
     Fault(Fault),
     /// A file has no report.
     Vector(VectorFault),
@@ -87,7 +87,7 @@ impl From<AllocError> for Failure {
     }
 }
 
-/// Returns the fault of a failed reading or writing: `OutOfMemory` if that is its kind, else the given fault.
+/// Returns the fault of a failed read or write: `OutOfMemory` if that is its kind, else the given fault.
 pub fn fault_of(error: &io::Error, otherwise: Fault) -> Fault
     ensures memory { error_kind error.now ≡ ErrorKind.OutOfMemory → result ≡ Fault.OutOfMemory }
     ensures either { (result ≡ Fault.OutOfMemory) ⊎ (result ≡ otherwise) }

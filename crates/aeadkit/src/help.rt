@@ -28,7 +28,7 @@ Example:
     --nonce 000000000000000000000000 --text 00000000000000000000000000000000
 prints 0388dace60b6a392f328c2b971b2fe78ab6e47d42cec13bdf53a67b21257bddf
 
-Status: 0 done; 2 words or a value of no use; 3 standard output failed; 4 want of memory.
+Status: 0 done; 2 words or a value of no use; 3 standard output failed; 4 out of memory.
 To go on: aeadkit help open, aeadkit help seal-file, docs/COMMAND.md.";
 
 pub const OPEN_MORE: &str =
@@ -42,7 +42,7 @@ Example:
 prints 00000000000000000000000000000000
 
 Status: 0 done; 1 the bytes are no sealing; 2 words or a value of no use; 3 standard output failed;
-4 want of memory.
+4 out of memory.
 To go on: aeadkit help open-file, docs/COMMAND.md.";
 
 pub const WRAP_MORE: &str = "It prints the wrapping as one line of lower-case hex digits.
@@ -53,7 +53,7 @@ Example:
   aeadkit wrap --key 000102030405060708090a0b0c0d0e0f --text 00112233445566778899aabbccddeeff
 prints 1fa68b0a8112b447aef34bd8fb5a7b829d3e862371d2cfe5
 
-Status: 0 done; 2 words or a value of no use; 3 standard output failed; 4 want of memory.
+Status: 0 done; 2 words or a value of no use; 3 standard output failed; 4 out of memory.
 To go on: aeadkit help unwrap, docs/COMMAND.md.";
 
 pub const UNWRAP_MORE: &str =
@@ -68,7 +68,7 @@ Example:
 prints 00112233445566778899aabbccddeeff
 
 Status: 0 done; 1 the bytes are no wrapping; 2 words or a value of no use; 3 standard output
-failed; 4 want of memory.
+failed; 4 out of memory.
 To go on: aeadkit help wrap, docs/COMMAND.md.";
 
 pub const SEAL_FILE_MORE: &str =
@@ -82,7 +82,7 @@ Example:
   aeadkit seal-file --suite aes-128-gcm --key 00000000000000000000000000000000 \\
     --nonce 000000000000000000000000 --in letter.txt --out letter.sealed
 
-Status: 0 done; 2 words or a value of no use; 3 a file failed or changed; 4 want of memory.
+Status: 0 done; 2 words or a value of no use; 3 a file failed or changed; 4 out of memory.
 To go on: aeadkit help open-file, docs/COMMAND.md.";
 
 pub const OPEN_FILE_MORE: &str =
@@ -96,7 +96,7 @@ Example:
     --nonce 000000000000000000000000 --in letter.sealed --out letter.txt
 
 Status: 0 done; 1 the bytes are no sealing; 2 words or a value of no use; 3 a file failed or
-changed; 4 want of memory.
+changed; 4 out of memory.
 To go on: docs/COMMAND.md.";
 
 pub const CHECK_MORE: &str =
@@ -110,5 +110,5 @@ Example:
 prints records 1
 
 Status: 0 all agree; 1 a record is bad, or the file is no vector file; 2 words of no use; 3 a file
-or standard output failed; 4 want of memory.
+or standard output failed; 4 out of memory.
 To go on: docs/VECTOR-FILES.md.";

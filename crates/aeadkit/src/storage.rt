@@ -96,7 +96,7 @@ impl<R: Files, A: Allocator + Copy> Storage for Disk<'_, R, A> {
         Ok(DiskOutput { file, failed: 0 })
     }
 
-    // What can't be synced, as a pipe or a terminal, is no fault.
+    // An output that can't be synced, as a pipe or a terminal, is no fault.
     fn sync(&self, output: &DiskOutput<R::File>) -> io::Result<()> {
         match output.file.sync_all() {
             Err(error) if error.kind() == ErrorKind::InvalidInput => Ok(()),

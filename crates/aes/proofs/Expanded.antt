@@ -1,6 +1,6 @@
 -- An expanded key, and the rounds with its words.
 use Rattle.std.proofs.Common.{◌≡◌, ℕ, suc, ◌+◌, ◌-◌, ◌*◌, ◌/◌, ◌%◌, ◌^◌, ◌<◌, ◌≤◌, List, [], get_or, length}
-use Rattle.std.proofs.Common.{refl, sym, ap, ap₂, ◌∙◌, arith, inl, inr, take_all, zero-add, bit_xor, add-one}
+use Rattle.std.proofs.Common.{refl, sym, ap, ap₂, ◌∙◌, arith, inl, inr, take_all, zero-add, bit_xor, add-one, subst}
 use Rattle.std.proofs.lemmas.List.FromFn.{get_or-map-range_with_len}
 use Rattle.std.proofs.lemmas.List.{length-map, get_or-map}
 use Rattle.aes.specs.Columns.{column_of, columns_of}
@@ -144,9 +144,11 @@ key_size key (inr (inl e)) = (inr (inl (omega arith)), omega arith)
 key_size key (inr (inr e)) = (inr (inr (omega arith)), omega arith)
 
 -- the fields spell a key
-pub is_key : (ws : List ℕ) (n : ℕ) → IsExpanded ws n → IsKey (key_of (columns_of ws) n)
-is_key ws n x = record {
-  length_is = key_length (key_of (columns_of ws) n) n x.size x.length_is;
-  bytes =
-      x.bytes;
-}
+pub is_key : (ws : List ℕ) (n : ℕ) (key : List ℕ) → IsExpanded ws n → key_of (columns_of ws) n ≡ key → IsKey key
+is_key ws n key x e =
+    subst IsKey e (record { length_is = key_length (key_of (columns_of ws) n) n x.size x.length_is; bytes = x.bytes })
+
+-- a key that the fields spell has four bytes for each of its words
+pub kept_length : (ws : List ℕ) (n : ℕ) (key : List ℕ) → IsExpanded ws n → key_of (columns_of ws) n ≡ key
+    → length key ≡ 4 * n
+kept_length ws n key x e = sym (ap length e) ∙ x.length_is

@@ -42,8 +42,8 @@ const TWO_BELOW: [usize; 32] = [
     18, 19, 20, 21, 22, 23,
 ];
 
-// The S-box without its constant, on each byte: the circuit of Boyar and Peralta (2012), with its gates in an
-// order that keeps few values alive.
+// The S-box without its constant, on each byte: a circuit of 83 XOR gates and 32 AND gates, in an order that
+// keeps few values alive.
 #[inline(always)]
 pub(crate) fn substitute(p: Planes) -> Planes
     ensures { (g : ℕ → ℕ → ℕ) → ((l k : ℕ) → g l k < 256) → HoldsBits p g

@@ -1,4 +1,4 @@
--- What each refusal says. A fault that a call never answers has no case of its own.
+-- The cause of each refusal. A fault that a call never returns has no case of its own.
 use Rattle.std.specs.Prelude.{◌≡◌, ℕ, ◌+◌, ◌^◌, ◌<◌, ◌≤◌, List, length}
 use Rattle.octets.specs.declared.fault.Fault.{Fault}
 use Rattle.octets.specs.declared.fault.Fault.TheVariants.{TextTooLong, WrapLength, WrapIntegrity, OutOfMemory}

@@ -59,7 +59,7 @@ fn untransform(key: &AesKey, first: &mut [u8; 8], blocks: &mut [u8])
     }
 }
 
-// The length that an alternative initial value tells.
+// The length in an alternative initial value, or none if `first` is not one.
 fn told_length(first: &[u8; 8]) -> Option<u32>
     ensures { MatchOption result ((n : ℕ) → n < 2 ^ 32 → first.now ≢ alternative_value n)
         (λ n. (n < 2 ^ 32) × (first.now ≡ alternative_value n)) }

@@ -60,7 +60,7 @@ fn key_of(rt: &impl Abort, length: usize) -> AesKey {
     AesKey::from_slice(&KEY[..length.min(32)]).expect(rt, "a key")
 }
 
-// Whether a call's answer is these bytes.
+// Whether a call returned these bytes.
 fn is_made<A: Allocator + Drop>(answer: Result<Vec<u8, A>, Fault>, bytes: &[u8]) -> bool {
     match answer {
         Ok(made) => made.as_slice() == bytes,
@@ -68,7 +68,7 @@ fn is_made<A: Allocator + Drop>(answer: Result<Vec<u8, A>, Fault>, bytes: &[u8])
     }
 }
 
-// Whether a call's answer is this fault.
+// Whether a call returned this fault.
 fn is_refused<A: Allocator + Drop>(answer: Result<Vec<u8, A>, Fault>, fault: Fault) -> bool {
     match answer {
         Ok(_) => false,
@@ -144,7 +144,7 @@ fn lengths(rt: HostRuntime) {
     }
 }
 
-// Whether a call's answer is due if the memory refused the request after `passed` ones: the bytes, or out of
+// Whether a call's result is due if the memory refused the request after `passed` ones: the bytes, or out of
 // memory if there was such a request. There is a first one, and no sixth.
 fn is_due<A: Allocator + Drop>(
     answer: Result<Vec<u8, A>, Fault>,

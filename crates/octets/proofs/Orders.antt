@@ -1,4 +1,4 @@
--- The numbers that byteorder's reads answer are those that `le` and `be` say.
+-- The numbers that byteorder's reads return are those that `le` and `be` say.
 use Rattle.std.proofs.Common.{◌≡◌, ℕ, zero, suc, ◌+◌, ◌*◌, ◌^◌, ◌≤◌, List, [], ◌∷◌, length, take, refl, ap}
 use Rattle.std.proofs.Common.{◌∙◌, sym, arith}
 use Rattle.std.proofs.Math.Nat.{pow-suc, pow-zero, add-mul, mul_assoc, mul_comm}

@@ -56,7 +56,7 @@ module _ {M : Type 1} {𝓤 : Ura M} (𝓛 : Logic 𝓤) (at_mem : Memory → SP
       nothing ! $ move ! (1 ∷ []) $ fjoin ! $ nothing ! $ move ! (2 ∷ []) $ join ! $ join ! $ nothing ! $
       move ! (1 ∷ []) $ done !
 
-  -- it answers yes or no, and hands the right to read back
+  -- it returns yes or no, and hands the right to read back
   pub due_gives : (v : Val) → ent 𝓤 ((IsDue 𝓛 at_mem run).post (at_due 𝓛 at_mem run κ q c) v)
       (H.⇛ (ex 𝓤 (λ (y : Bool). guard 𝓤 (v ≡ vbool y) (A.lft κ q))))
   due_gives v =

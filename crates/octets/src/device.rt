@@ -9,10 +9,9 @@ ghost use Rattle.octets.specs.Device.{Counts, GivesSome};
 #[derive(Clone, Copy, Debug, PartialEq, Eq, Drop)]
 pub struct DeviceFault;
 
-/// A device that gives bytes. Contracts see its count of failures and, if the device tells them, the bytes
-/// left.
+/// A device that gives bytes. Contracts see its count of failures and, if they are known, the bytes left.
 pub trait Intake {
-    // The bytes left, if the device tells them.
+    // The bytes left, if they are known.
     ghost left: { Self → Option (List ℕ) };
 
     // How many takes have failed, up to 2^64 - 1.
@@ -27,10 +26,9 @@ pub trait Intake {
         ensures count { Counts (failures self.old) (failures self.new) result };
 }
 
-/// A device that takes bytes. Contracts see its count of failures and, if the device tells them, the bytes
-/// taken.
+/// A device that takes bytes. Contracts see its count of failures and, if they are known, the bytes taken.
 pub trait Outlet {
-    // The bytes taken, if the device tells them.
+    // The bytes taken, if they are known.
     ghost taken: { Self → Option (List ℕ) };
 
     // How many gives have failed, up to 2^64 - 1.

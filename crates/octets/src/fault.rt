@@ -8,7 +8,7 @@ use std::fmt;
 /// Why a call was refused. `Display` writes the fault's name, as `TagMismatch`.
 #[derive(Clone, Copy, Debug, PartialEq, Eq, Drop)]
 pub enum Fault {
-    /// The key has no length of this cipher.
+    /// The key length is invalid for this cipher.
     KeyLength,
     /// The nonce is not 12 bytes long.
     NonceLength,

@@ -54,7 +54,7 @@ fn sums_at_the_modulus_are_reduced(rt: HostRuntime) {
     assert!(rt; has_tag(&key, &[&[0xff; 16]], &block(3, 0)));
     // 2^130 - 6 is the greatest residue.
     assert!(rt; has_tag(&key, &[&block(0xfd, 0xff)], &block(0xfa, 0xff)));
-    // What s carries past bit 128 is dropped.
+    // The carry of s past bit 128 is dropped.
     assert!(rt; has_tag(&small_key(2, 0xff), &[&block(2, 0)], &block(3, 0)));
 }
 

@@ -1,4 +1,4 @@
--- What lines that were read are, by the place behind them.
+-- Lines that were read, by the place behind them.
 use Rattle.std.proofs.Common.{◌≡◌, ◌≢◌, ℕ, Bool, true, false, cond, List, [], ◌∷◌, ◌++◌, Option, Some, Ok}
 use Rattle.std.proofs.Common.{refl, sym, ap, ◌∙◌, subst, append_assoc}
 use Rattle.std.specs.List.{list_all}

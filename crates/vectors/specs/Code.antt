@@ -1,4 +1,4 @@
--- What the code does with a line, in the words of the grammar. No public contract speaks of it: it is
+-- The code's steps from line to line, in the words of the grammar. No public contract speaks of them: they are
 -- proved to be the grammar.
 pub mod Steps
 pub mod Views

@@ -176,7 +176,7 @@ pub record HasEnded (lines : List Line) : Type 0 where
   pub records : List Record
   pub file : IsFile front records
 
--- the fault is the first one of these lines; want of memory comes only where a record has ended
+-- the fault is the first one of these lines; out of memory comes only if a record has ended
 abbrev pub IsFaultOf : List Line → VectorFault → Type 0
 IsFaultOf lines (BadFormat n) = IsFaultAt lines n cause.BadFormat
 IsFaultOf lines (BadLine n) = IsFaultAt lines n cause.BadLine

@@ -36,8 +36,8 @@ is_gap (b ∷ bs) = b == 35
 abbrev pub is_equals : ℕ → Bool
 is_equals b = b == 61
 
--- What stands before the first `=` of a line, without the spaces at its end, and what stands after it,
--- without the spaces at its beginning.
+-- the parts of a line before and after its first `=`: the one without the spaces at its end, the other without
+-- the spaces at its beginning
 unfoldable pub field_of : Line → Option (List ℕ × List ℕ)
 field_of line =
     if nat_lt (position_or_len is_equals line) (length line)

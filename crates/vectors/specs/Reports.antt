@@ -1,4 +1,4 @@
--- What a report says of a file.
+-- Reports of a file.
 use Rattle.std.specs.Prelude.{◌≡◌, ℕ, ◌+◌, ◌⊎◌, List, [], ◌∷◌, ◌++◌, length, Result, Ok, Err}
 use Rattle.vectors.specs.declared.fault.VectorFault.{VectorFault}
 use Rattle.vectors.specs.declared.fault.VectorFault.TheVariants.{OutOfMemory}
@@ -25,7 +25,7 @@ abbrev pub Judges : ℕ → List ℕ → Record → ℕ → List ℕ → Type 0
 Judges count bad r more worse =
     (more ≡ count + 1) × ((Agrees r × (worse ≡ bad)) ⊎ ((¬ Agrees r) × (worse ≡ bad ++ more ∷ [])))
 
--- a report, or no memory
+-- a report, or out of memory
 abbrev pub IsReported : {R : Type 0} → Result R VectorFault → Type 0
 IsReported (Ok report) = Unit {0}
 IsReported (Err fault) = fault ≡ OutOfMemory

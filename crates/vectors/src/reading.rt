@@ -87,7 +87,7 @@ pub fn check<A: Allocator>(alloc: A, file: &[u8]) -> Result<Report<A>, VectorFau
     // Anything else is the first fault of the file, at its line.
     ensures fault { IfErr result (IsFaultOf (lines_of file.now)) }
 
-    // A file in the grammar has a report, or memory was refused.
+    // A file in the grammar has a report, or an allocation failed.
     ensures found { (records : List Record) → IsFile (lines_of file.now) records → IsReported result }
 {
     read(alloc, file)

@@ -1,4 +1,4 @@
--- What the first of two readings leaves.
+-- The state after the first of two readings.
 use Rattle.std.specs.Prelude.{◌≡◌, ℕ, ◌<◌, List, ◌++◌, Bool, true, false, length, get_or, Option, Result, MatchResult}
 use Rattle.std.specs.Io.KnownBytes.{Consumes, IsAtEnd}
 use Rattle.octets.specs.declared.fault.Fault.{Fault}

@@ -1,4 +1,4 @@
--- What the state of a message in pieces was fed, whichever construction of one pass it is.
+-- The state of a message in pieces under any construction of one pass, by what it was fed.
 use Rattle.std.specs.Prelude.{ℕ, List}
 use Rattle.gf128.specs.States.{key_of}
 use Rattle.aead.specs.declared.any_masking.AnyMasking.{AnyMasking}

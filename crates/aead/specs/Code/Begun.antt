@@ -1,4 +1,4 @@
--- What ChaCha20's mask whose first bytes are there has made.
+-- The bytes made by ChaCha20's mask whose first bytes are there.
 use Rattle.std.specs.Prelude.{◌≡◌, ℕ, ◌+◌, ◌<◌, List, length, min, max, slice_index}
 use Rattle.chacha.specs.Stream.{key_stream_byte}
 use Rattle.chacha.specs.States as chacha

@@ -1,4 +1,4 @@
--- What the state of a message in pieces was fed.
+-- The state of a message in pieces, by what it was fed.
 use Rattle.std.specs.Prelude.{◌≡◌, ℕ, ◌≤◌, List, length}
 use Rattle.aead.specs.declared.masking.Masking.{Masking}
 use Rattle.aead.specs.Suites.{text_limit}

@@ -1,4 +1,4 @@
--- What masks do to the bytes that come next.
+-- The effect of masks on the bytes that come next.
 use Rattle.std.specs.Prelude.{◌≡◌, ℕ, ◌+◌, ◌-◌, ◌^◌, ◌≤◌, List, [], ◌++◌, length}
 use Rattle.std.proofs.Common.{◌∙◌, refl, sym, ap, arith}
 use Rattle.octets.specs.Masked.{masked}

@@ -1,4 +1,4 @@
--- What the parts of a message's state hold.
+-- The contents of the parts of a message's state.
 use Rattle.std.specs.Prelude.{◌≡◌, ℕ, List, ◌++◌, length}
 use Rattle.octets.specs.Bytes.{pad16}
 use Rattle.chacha.specs.declared.stream.ChaStream.{ChaStream}

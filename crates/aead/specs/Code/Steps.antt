@@ -1,4 +1,4 @@
--- What the steps of a pass come to whose state is stored as numbers.
+-- The steps of a pass whose state is stored as numbers.
 use Rattle.std.specs.Prelude.{◌≡◌, ℕ, List, ◌++◌, length}
 use Rattle.octets.specs.Masked.{masked}
 use Rattle.aead.specs.declared.exports.stored.StoredSealer.{StoredSealer}

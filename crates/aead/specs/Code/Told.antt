@@ -1,4 +1,4 @@
--- What each step of the stream opener answers, where its reading tells its bytes.
+-- The result of each step of the stream opener over a reading whose bytes are known.
 use Rattle.std.specs.Prelude.{◌≡◌, ℕ, ◌+◌, ◌-◌, ◌≤◌, ◌<◌, ◌⊎◌, List, length, take, Option, Result, Ok}
 use Rattle.std.specs.Prelude.{Err, MatchResult}
 use Rattle.std.specs.Io.KnownBytes.{Appends}
@@ -23,13 +23,13 @@ MeasureTold limit m read read' r =
     ⊎ ((f ≡ TooShort) × (length m < 16) × (read' ≡ read))
     ⊎ ((f ≡ Read) × Failed read read'))
 
--- the answer to what the verify reading showed
+-- the result for what the verify reading showed
 abbrev pub verify_answer : Finding → Result (Unit {0}) Fault
 verify_answer Sealed = Ok tt
 verify_answer Unsealed = Err TagMismatch
 verify_answer Differs = Err SourceChanged
 
--- the answer to what the write reading showed
+-- the result for what the write reading showed
 abbrev pub write_answer : Finding → Result (Unit {0}) Fault
 write_answer Sealed = Ok tt
 write_answer Unsealed = Err SourceChanged

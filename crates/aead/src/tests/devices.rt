@@ -5,7 +5,7 @@ use octets::{Fault, ScriptIntake, ScriptOutlet, Step};
 use std::alloc::Global;
 use std::process::Abort;
 
-// What a device does: so many calls of seven bytes each before a failure, or three bytes and then a
+// The course of a device: so many calls of seven bytes each before a failure, or three bytes and then a
 // failure, or calls of so many bytes and no failure, or calls of any number of bytes and none.
 #[derive(Clone, Copy, PartialEq, Eq, Debug, Drop)]
 enum Course {
@@ -43,7 +43,7 @@ fn reading(
     ScriptIntake::new(bytes, steps(rt, course))
 }
 
-// What takes bytes.
+// An outlet of this course.
 fn outlet(rt: &(impl Abort + Alloc<A = Global>), course: Course) -> ScriptOutlet<Global> {
     ScriptOutlet::new(rt.alloc(), steps(rt, course))
 }
@@ -83,8 +83,8 @@ fn takes_of_each_size(rt: HostRuntime) {
     }
 }
 
-// Opening with a device that fails is answered by its fault; what was given is a beginning of these bytes,
-// and its length is answered.
+// Opening with a device that fails returns its fault; what was given is a beginning of these bytes, and its
+// length is returned.
 fn fails(
     rt: &(impl Abort + Alloc<A = Global>),
     courses: (Course, Course, Course, Course),
@@ -223,7 +223,7 @@ fn is_sealed_twice(rt: &(impl Abort + Alloc<A = Global>), device: usize, call: u
     )
 }
 
-// What is run with a device that fails.
+// The engine that is run with a device that fails.
 #[derive(Clone, Copy, Drop)]
 enum Engine {
     Opening,

@@ -5,7 +5,7 @@ use octets::{Fault, RefusingMemory};
 use std::alloc::{Allocator, Global};
 use std::process::Abort;
 
-// Whether an answer is right: want of memory where a request was refused, and else what is wanted.
+// Whether a result is right: out of memory if a request was refused, and else what is wanted.
 fn is_due<A: Allocator + Drop>(
     answer: Result<Vec<u8, A>, Fault>,
     want: Result<&[u8], Fault>,
@@ -91,7 +91,7 @@ fn open_refused(
     assert!(rt; false, "requests without end");
 }
 
-// The same of a published sealing.
+// Opening a published sealing with each request for memory refused in turn.
 fn opening_refused(rt: &(impl Abort + Alloc<A = Global>), sample: &Sample) {
     open_refused(rt, sample, sample.sealed, Ok(sample.text));
 }
@@ -105,7 +105,7 @@ fn refused_requests_of_open(rt: HostRuntime) {
     opening_refused(&rt, &siv_of_no_text(&rt));
 }
 
-// Want of memory comes before the tag is looked at, and after the length.
+// `OutOfMemory` comes before the tag is looked at, and after the length.
 #[test]
 fn want_of_memory_in_its_place(rt: HostRuntime) {
     let sample = chacha(&rt);

@@ -163,7 +163,7 @@ fn write_readings_that_differ(rt: HostRuntime) {
     gives(&rt, &sample, &[], &[]);
 }
 
-// The same where the tag is over the text.
+// A write reading that differs is found after its bytes were given, also if the tag is over the text.
 #[test]
 fn another_write_reading_of_gcm_siv(rt: HostRuntime) {
     let mut write = SIV_128;

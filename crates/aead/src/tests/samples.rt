@@ -65,7 +65,7 @@ pub fn siv(rt: &impl Abort) -> Sample {
     }
 }
 
-/// The same with no text.
+/// AES-128-GCM-SIV of RFC 8452, appendix C.1: no text.
 pub fn siv_of_no_text(rt: &impl Abort) -> Sample {
     Sample {
         cipher: cipher(rt, Suite::Aes128GcmSiv, &SIV_KEY[..16]),

@@ -21,7 +21,7 @@ sealed = 58e2fccefa7e3061367f1d57a4e7455b
 invalid
 ";
 
-/// The same records, each with the other's end.
+/// The records of `GOOD`, each with the other's end.
 pub const BAD: &str = "# two records
 format = 1
 suite = aes-128-gcm

@@ -1,5 +1,5 @@
 //! Each request for memory of a command is refused in turn, until a run takes all that it asks for. The
-//! answer to a refused one is `OutOfMemory`, wherever it stands, and else it is the right one.
+//! result of a refused one is `OutOfMemory`, wherever it stands, and else it is the right one.
 use super::checks::GOOD;
 use super::devices::{NO_FILES, OneFile};
 use super::files::bytes;

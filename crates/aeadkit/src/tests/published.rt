@@ -54,7 +54,7 @@ pub const CHACHA: Vector<'static> = Vector {
     sealed: CHACHA_SEALED,
 };
 
-/// The same sealed bytes with a bit of byte 100 changed, which are no sealing.
+/// The sealed bytes of `CHACHA` with a bit of byte 100 changed, which are no sealing.
 pub const CHANGED: &str =
     "d31a8d34648e60db7b86afbc53ef7ec2a4aded51296e08fea9e2b5a736ee62d63dbea45e8ca96712\
     82fafb69da92728b1a71de0a9e060b2905d6a5b67ecd3b3692ddbd7f2d778b8c9803aee328091b58\

@@ -100,7 +100,7 @@ const REFUSED: [(&[&str], u8, &str); 43] = [
         1,
         WRAP_INTEGRITY,
     ),
-    // What is no command line.
+    // Arguments that are no command line.
     (&[], 2, WORDS),
     (&[""], 2, WORDS),
     (&["frob"], 2, WORDS),
@@ -134,7 +134,7 @@ const REFUSED: [(&[&str], u8, &str); 43] = [
     (&["seal-file"], 2, WORDS),
     (&["help", "frob"], 2, WORDS),
     (&["seal", "--version"], 2, WORDS),
-    // The same text for both paths.
+    // One path for both files.
     (
         &[
             "seal-file",

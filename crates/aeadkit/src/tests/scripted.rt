@@ -7,7 +7,7 @@ use std::alloc::Global;
 use std::cell::{Cell, RefCell};
 use std::io;
 
-/// What goes wrong.
+/// A way in which a call goes wrong.
 #[derive(Clone, Copy)]
 pub enum Wrong {
     /// The call fails.
@@ -18,7 +18,7 @@ pub enum Wrong {
     IsShort,
 }
 
-/// What is kept of a run.
+/// The record of a run.
 #[derive(Drop)]
 pub struct Log {
     /// How many calls were made: openings, reads, makings, writes and syncs.
@@ -27,7 +27,7 @@ pub struct Log {
     pub reading: Cell<Option<u8>>,
     /// Whether the written file was made.
     pub made: Cell<bool>,
-    /// What the written file holds.
+    /// The contents of the written file.
     pub written: RefCell<Vec<u8>>,
 }
 
@@ -110,7 +110,7 @@ pub struct Scripted<'b, 'l> {
     pub script: Script<'l>,
 }
 
-/// What is left of a reading.
+/// The rest of a reading.
 #[derive(Drop)]
 pub struct Source<'b, 'l> {
     reading: u8,

@@ -1,4 +1,4 @@
--- What the code keeps of a key: the schedule as sixty words of 32 bits. No definition of the standard.
+-- The code's form of a key: the schedule as sixty words of 32 bits. No definition of the standard.
 use Rattle.std.specs.Prelude.{◌≡◌, ℕ, ◌*◌, ◌/◌, ◌^◌, ◌<◌, List, [], ◌∷◌, map, take, length, get_or}
 use Rattle.std.specs.Prelude.{flat_map, ◌⊎◌}
 use Rattle.std.specs.Int.{w32}

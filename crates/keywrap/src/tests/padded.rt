@@ -43,14 +43,14 @@ fn published_padded_vectors(rt: HostRuntime) {
     agrees_with_padding(&rt, &SEVEN, &SEVEN_WRAPPED);
 }
 
-// What `unwrap_padded` makes of the cipher of one block.
+// The result of `unwrap_padded` on the cipher of one block.
 fn of_block(rt: &(impl Abort + Alloc<A = Global>), block: [u8; 16]) -> Result<Vec<u8>, Fault> {
     let key = padded_key(rt);
     let wrapped = key.encrypt(&Block::new(block));
     unwrap_padded(rt.alloc(), &key, wrapped.bytes())
 }
 
-// What the deciphered block says of the text: the constant, its length, and zeros past it.
+// The deciphered block holds the constant, the text's length, the text, and zeros past it.
 #[test]
 fn padded_blocks(rt: HostRuntime) {
     let mut block = [0xa6, 0x59, 0x59, 0xa6, 0, 0, 0, 8, 1, 2, 3, 4, 5, 6, 7, 8];

@@ -1,4 +1,4 @@
--- What the program's values are in the words of the grammar.
+-- The program's values in the words of the grammar.
 use Rattle.std.specs.Prelude.{◌≡◌, ℕ, List, [], ◌∷◌, Option, Some, None, Result, Ok, Err}
 use Rattle.vectors.specs.declared.digits.Digits.{Digits}
 use Rattle.vectors.specs.declared.place.Entry.{Entry}

@@ -1,4 +1,4 @@
-// The file of two records, damaged: each answer is the first fault, at its line.
+// The file of two records, damaged: each result is the first fault, at its line.
 use super::files::*;
 use crate::fault::VectorFault;
 use crate::fault::VectorFault::*;

@@ -1,4 +1,4 @@
-// Files made of others for tests, and their answers.
+// Files made of others for tests, and their results.
 use crate::fault::VectorFault;
 use crate::reading::check;
 use std::alloc::Global;
@@ -40,7 +40,7 @@ text = 466f7250617369
 /// How many records a file has, and how many of them disagree, or its fault.
 pub type Answer = Result<(u64, usize), VectorFault>;
 
-/// The answer for a file.
+/// The result for a file.
 pub fn answer(rt: &(impl Abort + Alloc<A = Global>), file: &[u8]) -> Answer {
     match check(rt.alloc(), file) {
         Ok(report) => Ok((report.records, report.bad.len())),
@@ -74,7 +74,7 @@ pub fn with_lines(
     out
 }
 
-/// The answer for a file with these lines in the place of one line.
+/// The result for a file with these lines in the place of one line.
 pub fn replaced(
     rt: &(impl Abort + Alloc<A = Global>),
     file: &str,
@@ -94,7 +94,7 @@ pub fn first_lines(rt: &(impl Abort + Alloc<A = Global>), file: &str, count: usi
     out
 }
 
-/// The answer for a file cut behind a line: with the line's LF, or without it.
+/// The result for a file cut behind a line: with the line's LF, or without it.
 pub fn cut_behind(
     rt: &(impl Abort + Alloc<A = Global>),
     file: &str,
@@ -116,7 +116,7 @@ pub fn line_of(file: &str, number: usize) -> &[u8] {
     }
 }
 
-/// The answer for a file cut inside a line, of which these bytes are kept.
+/// The result for a file cut inside a line, of which these bytes are kept.
 pub fn cut_inside(
     rt: &(impl Abort + Alloc<A = Global>),
     file: &str,

@@ -1,4 +1,4 @@
-// Each request for memory is refused in turn, and the answer is `OutOfMemory` each time.
+// Each request for memory is refused in turn, and the result is `OutOfMemory` each time.
 use super::fifth_invalid;
 use super::files::{FORMAT_2, first_lines};
 use crate::fault::VectorFault;
@@ -8,7 +8,7 @@ use octets::RefusingMemory;
 use std::alloc::{Allocator, Global};
 use std::process::Abort;
 
-// Whether an answer is the one that is due: `OutOfMemory` if a request was refused, else the report.
+// Whether a result is the one that is due: `OutOfMemory` if a request was refused, else the report.
 fn is_due<A: Allocator + Drop>(
     answer: Result<Report<A>, VectorFault>,
     records: u64,

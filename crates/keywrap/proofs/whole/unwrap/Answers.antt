@@ -57,9 +57,6 @@ returns-else-is_initial_value-clause-answer g c =
       length-take-le (length wrapped - 8) (drop 8 wrapped)
           (omega (arith, length-drop 8 wrapped)),
     ) in
-    let kept : take c.in_ok-text.text.len (rest ++ drop (length rest) c.in_ok-text.text.items) ≡ rest =
-    take_at rest (drop (length rest) c.in_ok-text.text.items) c.in_ok-text.text.len
-    (omega (arith, c.deref_mut.ensures.len)) in
     let bytes : AreBytes (length rest) rest = c.unwrap_blocks.ensures.rest in (
       lengths,
       no_wrapping c.args.key.now wrapped (first ++ rest) is_permutation c.unwrap_blocks.ensures.key

@@ -1,6 +1,6 @@
-use Rattle.std.proofs.Common.{◌≡◌, length, ◌+◌, ◌*◌, sym, ap, ◌∙◌, arith}
+use Rattle.std.proofs.Common.{◌+◌, ◌∙◌, arith}
 use Rattle.aes.specs.Columns.{columns_of}
-use Rattle.aes.proofs.Expanded.{has_schedule, first_state, next_state, last_state}
+use Rattle.aes.proofs.Expanded.{has_schedule, kept_length, first_state, next_state, last_state}
 use Rattle.aes.proofs.key.AesKey.encrypt.Goals as goal
 
 pub loop-done-init : goal.loop-done-init
@@ -14,8 +14,7 @@ pub loop-done-preserved : goal.loop-done-preserved
 loop-done-preserved c =
     let key = c.args.self.now in
     let has = has_schedule c.self.inside.words c.self.inside.size key c.self.invariant c.self.view_is in
-    let long : length key ≡ 4 * c.self.inside.size =
-    sym (ap length c.self.view_is) ∙ c.self.invariant.length_is in
+    let long = kept_length c.self.inside.words c.self.inside.size key c.self.invariant c.self.view_is in
     next_state (columns_of c.round_key-in-loop-done.result) _ key c.loop-done.done _ _ _ has (omega arith)
     c.round_key-in-loop-done.ensures
     c.loop-done.invariant c.round-next.ensures
@@ -24,8 +23,7 @@ pub returns-clause-value : goal.returns-clause-value
 returns-clause-value c =
     let key = c.args.self.now in
     let has = has_schedule c.self.inside.words c.self.inside.size key c.self.invariant c.self.view_is in
-    let long : length key ≡ 4 * c.self.inside.size =
-    sym (ap length c.self.view_is) ∙ c.self.invariant.length_is in
+    let long = kept_length c.self.inside.words c.self.inside.size key c.self.invariant c.self.view_is in
     c.new.ensures.value ∙ c.store.ensures
     ∙ last_state (columns_of c.round_key-2.result) _ key c.loop-done.done (c.self.inside.size + 6) _ _ _ has
     (omega arith) (omega arith)

@@ -1,10 +1,10 @@
-use Rattle.std.proofs.Common.{[], drop, refl, ◌≡◌, ℕ, List, length, ◌+◌, ◌*◌, ◌-◌, ◌/◌, ◌%◌, get_or, sym, ap, subst}
+use Rattle.std.proofs.Common.{[], drop, refl, ◌≡◌, ℕ, List, ◌+◌, ◌*◌, ◌-◌, ◌/◌, ◌%◌, get_or, sym, ap, subst}
 use Rattle.std.proofs.Common.{◌∙◌, arith}
 use Rattle.std.proofs.lemmas.List.{get_or-drop}
 use Rattle.aes.specs.Schedule.{round_count, schedule}
-use Rattle.aes.specs.Cipher.{sub_bytes, shift_rows, mix_columns, add_round_key, rounds, IsKey}
+use Rattle.aes.specs.Cipher.{sub_bytes, shift_rows, mix_columns, add_round_key, rounds}
 use Rattle.aes.specs.Code.Planes.{HoldsBits, block_byte, spot, word_byte, masked_byte}
-use Rattle.aes.proofs.Expanded.{round_key_is, rounds_start, rounds_more, cipher_is, is_key}
+use Rattle.aes.proofs.Expanded.{round_key_is, rounds_start, rounds_more, cipher_is, is_key, kept_length}
 use Rattle.aes.proofs.Permutation.{words_are, rounds_block}
 use Rattle.aes.proofs.SixteenBlocks.{same_bytes, same_sixteen, first_value, dropped_row, dropped_last}
 use Rattle.aes.proofs.key.AesKey.encrypt_planes.Goals as goal
@@ -20,10 +20,8 @@ pub loop-done-preserved : goal.loop-done-preserved
 loop-done-preserved c = λ f blocks held.
     let key = c.args.self.now in
     let ws = schedule key in
-    let long : length key ≡ 4 * c.self.inside.size =
-    sym (ap length c.self.view_is) ∙ c.self.invariant.length_is in
-    let k : IsKey key = subst IsKey c.self.view_is
-    (is_key c.self.inside.words c.self.inside.size c.self.invariant) in
+    let long = kept_length c.self.inside.words c.self.inside.size key c.self.invariant c.self.view_is in
+    let k = is_key c.self.inside.words c.self.inside.size key c.self.invariant c.self.view_is in
     let n = c.loop-done.done in
     let words = words_are key (4 * (round_count key + 1)) k.bytes in
     let vs = drop (4 * (n + 1)) ws in
@@ -44,10 +42,8 @@ pub returns : goal.returns
 returns c = λ f blocks held.
     let key = c.args.self.now in
     let ws = schedule key in
-    let long : length key ≡ 4 * c.self.inside.size =
-    sym (ap length c.self.view_is) ∙ c.self.invariant.length_is in
-    let k : IsKey key = subst IsKey c.self.view_is
-    (is_key c.self.inside.words c.self.inside.size c.self.invariant) in
+    let long = kept_length c.self.inside.words c.self.inside.size key c.self.invariant c.self.view_is in
+    let k = is_key c.self.inside.words c.self.inside.size key c.self.invariant c.self.view_is in
     let n = c.loop-done.done in
     let last = round_count key in
     let count : c.self.inside.size + 6 ≡ last = omega arith in

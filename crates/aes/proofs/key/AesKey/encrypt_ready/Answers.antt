@@ -1,11 +1,11 @@
-use Rattle.std.proofs.Common.{[], drop, refl, ◌≡◌, ℕ, List, length, ◌+◌, ◌*◌, ◌-◌, ◌%◌, sym, ap, ap₂, subst}
+use Rattle.std.proofs.Common.{[], drop, refl, ◌≡◌, ℕ, List, ◌+◌, ◌*◌, ◌-◌, ◌%◌, sym, ap, ap₂}
 use Rattle.std.proofs.Common.{◌∙◌, arith}
 use Rattle.std.proofs.lemmas.List.{get_or-drop}
 use Rattle.octets.specs.Bytes.{IsBlock, block_at}
 use Rattle.aes.specs.Schedule.{round_count, schedule}
-use Rattle.aes.specs.Cipher.{sub_bytes, shift_rows, mix_columns, add_round_key, rounds, cipher, IsKey}
+use Rattle.aes.specs.Cipher.{sub_bytes, shift_rows, mix_columns, add_round_key, rounds, cipher}
 use Rattle.aes.specs.Columns.{columns_of}
-use Rattle.aes.proofs.Expanded.{has_schedule, round_key_is, rounds_start, rounds_more, cipher_is, is_key}
+use Rattle.aes.proofs.Expanded.{has_schedule, kept_length, round_key_is, rounds_start, rounds_more, cipher_is, is_key}
 use Rattle.aes.proofs.Permutation.{words_are, rounds_block, cipher_block}
 use Rattle.aes.proofs.FourRounds.{ready_first, holds_self, block_at_is, block_held, basis_same, blocks_same}
 use Rattle.aes.proofs.key.AesKey.encrypt_ready.Goals as goal
@@ -26,10 +26,8 @@ pub loop-done-preserved : goal.loop-done-preserved
 loop-done-preserved c =
     let key = c.args.self.now in
     let m = c.args.blocks.now in
-    let long : length key ≡ 4 * c.self.inside.size =
-    sym (ap length c.self.view_is) ∙ c.self.invariant.length_is in
-    let k : IsKey key = subst IsKey c.self.view_is
-    (is_key c.self.inside.words c.self.inside.size c.self.invariant) in
+    let long = kept_length c.self.inside.words c.self.inside.size key c.self.invariant c.self.view_is in
+    let k = is_key c.self.inside.words c.self.inside.size key c.self.invariant c.self.view_is in
     let n = c.loop-done.done in
     let words = words_are key (4 * (round_count key + 1)) k.bytes in
     let vs = drop (4 * (n + 1)) (schedule key) in
@@ -53,10 +51,8 @@ returns c = λ q h.
     let key = c.args.self.now in
     let m = c.args.blocks.now in
     let has = has_schedule c.self.inside.words c.self.inside.size key c.self.invariant c.self.view_is in
-    let long : length key ≡ 4 * c.self.inside.size =
-    sym (ap length c.self.view_is) ∙ c.self.invariant.length_is in
-    let k : IsKey key = subst IsKey c.self.view_is
-    (is_key c.self.inside.words c.self.inside.size c.self.invariant) in
+    let long = kept_length c.self.inside.words c.self.inside.size key c.self.invariant c.self.view_is in
+    let k = is_key c.self.inside.words c.self.inside.size key c.self.invariant c.self.view_is in
     let n = c.loop-done.done in
     let count : c.self.inside.size + 6 ≡ round_count key = omega arith in
     let last : n ≡ round_count key - 1 = omega arith in

@@ -1,8 +1,8 @@
-use Rattle.std.proofs.Common.{◌≡◌, ℕ, ◌+◌, ◌*◌, ◌<◌, get_or, length, sym, ap, subst, ◌∙◌, arith, rules}
-use Rattle.aes.specs.Cipher.{mix_column, IsKey}
+use Rattle.std.proofs.Common.{◌≡◌, ℕ, ◌+◌, ◌*◌, ◌<◌, get_or, length, ap, ◌∙◌, arith, rules}
+use Rattle.aes.specs.Cipher.{mix_column}
 use Rattle.aes.specs.Columns.{column_of}
 use Rattle.aes.specs.Schedule.{word}
-use Rattle.aes.proofs.Expanded.{has_schedule, has_word, is_key}
+use Rattle.aes.proofs.Expanded.{has_schedule, has_word, is_key, kept_length}
 use Rattle.aes.proofs.key.AesKey.inverse.Goals as goal
 
 pub returns : goal.returns
@@ -11,7 +11,7 @@ returns c =
     let ws = c.self.inside.words in
     let nk = c.self.inside.size in
     let out = c.new.result.words in
-    let long : length key ≡ 4 * nk = sym (ap length c.self.view_is) ∙ c.self.invariant.length_is in
+    let long = kept_length ws nk key c.self.invariant c.self.view_is in
     let has = has_schedule ws nk key c.self.invariant c.self.view_is in
     let size : c.new.result.size ≡ nk = c.new.ensures.size in
     let is : (k : ℕ) → k < 4 * (nk + 7) → column_of (get_or ws k 0) ≡ word key k =
@@ -19,7 +19,7 @@ returns c =
     let made : (k : ℕ) → get_or out k 0 ≡ get_or c.unmix_words.result k 0 =
     λ k. ap (λ l. get_or l k 0) c.new.ensures.words in
     record {
-      is_key = subst IsKey c.self.view_is (is_key ws nk c.self.invariant);
+      is_key = is_key ws nk key c.self.invariant c.self.view_is;
       size_is = omega arith;
       long = ap length c.new.ensures.words ∙ search rules;
       first = λ k l. ap column_of (made k ∙ c.unmix_words.ensures.first k l) ∙ is k (omega arith);

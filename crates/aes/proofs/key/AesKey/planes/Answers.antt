@@ -1,7 +1,7 @@
-use Rattle.std.proofs.Common.{◌≡◌, ◌+◌, ◌*◌, length, sym, ap, ◌∙◌, arith}
+use Rattle.std.proofs.Common.{◌≡◌, ◌+◌, arith}
 use Rattle.aes.specs.Schedule.{round_count}
 use Rattle.aes.specs.Columns.{columns_of}
-use Rattle.aes.proofs.Expanded.{has_schedule}
+use Rattle.aes.proofs.Expanded.{has_schedule, kept_length}
 use Rattle.aes.proofs.SixteenBlocks.{ready_same_planes}
 use Rattle.aes.proofs.key.AesKey.planes.Goals as goal
 
@@ -9,8 +9,7 @@ pub returns : goal.returns
 returns c =
     let key = c.args.self.now in
     let has = has_schedule c.self.inside.words c.self.inside.size key c.self.invariant c.self.view_is in
-    let long : length key ≡ 4 * c.self.inside.size =
-    sym (ap length c.self.view_is) ∙ c.self.invariant.length_is in
+    let long = kept_length c.self.inside.words c.self.inside.size key c.self.invariant c.self.view_is in
     let count : c.self.inside.size + 6 ≡ round_count key = omega arith in
     ready_same_planes c.ready_planes.result (columns_of c.self.inside.words) key (c.self.inside.size + 6) count has
     c.ready_planes.ensures

@@ -1,4 +1,4 @@
--- It refuses the request that is due, and else answers what the inner allocator answers.
+-- `allocate` refuses the request that is due, and else returns what the inner allocator returns.
 use Rattle.std.proofs.Common.{◌≡◌, ℕ, ◌+◌, ◌^◌, ◌<◌, true, false, List, [], ◌∷◌, Ok, Err, refl, w64, Bor}
 use seplogic.Ra.Ura.{Ura}
 use mir.Syntax.{Ty, Args, Fn, a_type, dnil, dcons}
