@@ -24,11 +24,12 @@ use std::marker::Model;
 /// changes a byte. Contracts see its suite and key.
 #[derive(Drop)]
 pub struct Gcm {
-    suite: Suite,
     key: AesKey,
     ghash_key: Block,
     // The few multiples that a short text takes: what is kept is small, since it moves with the key.
     multiplier: TableMul,
+    // Behind the key: before it, the bytes between them make LLVM move the key twice.
+    suite: Suite,
 }
 
 impl Model for Gcm {
@@ -82,10 +83,10 @@ impl Gcm {
         ensures { result ≡ record { suite = suite; key = key } }
     {
         Gcm {
-            suite,
             key,
             ghash_key,
             multiplier: TableMul::of(&ghash_key),
+            suite,
         }
     }
 

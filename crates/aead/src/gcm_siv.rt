@@ -27,8 +27,8 @@ use std::marker::Model;
 /// authenticate, and encrypts again after `TagMismatch`. Contracts see its suite and key.
 #[derive(Drop)]
 pub struct GcmSiv {
-    suite: Suite,
     key: AesKey,
+    suite: Suite,
 }
 
 impl Model for GcmSiv {
@@ -68,7 +68,7 @@ impl GcmSiv {
         requires long { length key ≡ key_length suite }
         ensures { result ≡ record { suite = suite; key = key } }
     {
-        GcmSiv { suite, key }
+        GcmSiv { key, suite }
     }
 
     // The keys of a message.
