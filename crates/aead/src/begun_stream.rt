@@ -61,7 +61,8 @@ impl<'a> MaskStream for BegunStream<'a> {
 
     fn part(&self, length: usize) -> usize {
         let begun = self.start.len() - self.used;
-        length.min(if begun < CHACHA_PART { begun + CHACHA_PART } else { begun })
+        let more = if begun < CHACHA_PART { CHACHA_PART } else { 0 };
+        length.min(begun + more)
     }
 
     ghost masks = { begun_masks };

@@ -155,7 +155,11 @@ pub(crate) fn add<const N: usize>(x: &mut [Simd<u32, N>; 16], start: &[Simd<u32,
 
 // The state goes into each lane, with the lane's own counter.
 #[inline(always)]
-pub(crate) fn set_starts<const N: usize>(x: &mut [Simd<u32, N>; 16], state: &[u32; 16], counters: Simd<u32, N>)
+pub(crate) fn set_starts<const N: usize>(
+    x: &mut [Simd<u32, N>; 16],
+    state: &[u32; 16],
+    counters: Simd<u32, N>,
+)
     ensures { (j : ℕ) → j < N → lane j x.new ≡ slice_set state.now 12 (slice_index counters.entry j) }
 {
     'words: for i in 0..16 {

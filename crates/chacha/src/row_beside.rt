@@ -8,8 +8,9 @@ ghost use Rattle.chacha.specs.Code.Lanes.{lane};
 ghost use Rattle.chacha.specs.Code.Rows.{read_by_rows};
 ghost use Rattle.chacha.specs.Stream.{key_stream_byte};
 
-use crate::lanes::{add, eight_counters, four_counters, half_round, set_starts};
-use crate::lanes::{xor_eight_written, xor_written};
+use crate::lanes::{
+    add, eight_counters, four_counters, half_round, set_starts, xor_eight_written, xor_written,
+};
 use crate::rows::{column_round, diagonal_round, rows_of, written};
 use crate::state::initial_state;
 use octets::{Key32, Nonce, xor_into};

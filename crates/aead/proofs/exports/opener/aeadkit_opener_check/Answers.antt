@@ -17,9 +17,9 @@ returns-then-take_sealed-clause-holds c = λ s tag bytes h.
         record {
           mark_is = h.mark_is;
           state =
-          subst (λ t. HoldsSealed c.take_sealed.new.state s t (bytes ++ c.args.piece.now)) h.tag_is
-          (c.take_sealed.ensures.takes s bytes (sym same) c.if-take_sealed.true
-          (subst (λ t. HoldsSealed c.args.opener.now.state s t bytes) (sym h.tag_is) h.state));
+              subst (λ t. HoldsSealed c.take_sealed.new.state s t (bytes ++ c.args.piece.now)) h.tag_is
+              (c.take_sealed.ensures.takes s bytes (sym same) c.if-take_sealed.true
+              (subst (λ t. HoldsSealed c.args.opener.now.state s t bytes) (sym h.tag_is) h.state));
           start = h.start;
           tag_is = h.tag_is;
           tag_long = h.tag_long;
