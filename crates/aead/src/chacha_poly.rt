@@ -202,7 +202,7 @@ fn blocks_at_once(length: usize) -> usize {
         193..=256 => 5,
         257..=SEVEN_BLOCKS => 8,
         _ => match length % 512 {
-            1..=64 | 321..=384 => 2,
+            1..=64 | 257..=384 => 2,
             _ => 9,
         },
     }

@@ -11,7 +11,7 @@ ghost use Rattle.chacha.specs.Code.Halves.{half_quarter, half_columns, half_diag
 ghost use Rattle.chacha.specs.Stream.{key_stream_byte};
 
 use crate::state::initial_state;
-use octets::{Idle, Key32, Nonce, Work, xor_into};
+use octets::{Key32, Nonce, Work, xor_into};
 use std::simd::{Simd, u32x4, u32x8};
 
 // The sums of the words, lane by lane.
@@ -216,12 +216,13 @@ pub(crate) fn eight_counters(counter: u32) -> u32x8
 
 // The words of the four blocks, one block in each lane.
 #[inline(always)]
-fn four_lanes(key: &Key32, counter: u32, nonce: &Nonce) -> [u32x4; 16]
+fn four_lanes<W: Work>(key: &Key32, counter: u32, nonce: &Nonce, work: &mut W) -> [u32x4; 16]
     requires { counter + 3 < 2 ^ 32 }
-    ensures { HasBlocks 4 result key.now counter nonce.now }
+    ensures blocks { HasBlocks 4 result key.now counter nonce.now }
+    ensures work { (k m : List ℕ) → W.comes_to work.old k m → W.comes_to work.new k m }
 {
     let mut x = [u32x4::splat(0); 16];
-    set_blocks(&mut x, key, four_counters(counter), nonce, &mut Idle);
+    set_blocks(&mut x, key, four_counters(counter), nonce, work);
     x
 }
 
@@ -345,13 +346,23 @@ pub(crate) fn xor_eight_written(x: &[u32x8; 16], bytes: &mut [u8])
     xor_written(&last, back);
 }
 
-// XORs the first 256 bytes of the key stream from a counter on.
-pub(crate) fn xor_four_blocks(key: &Key32, counter: u32, nonce: &Nonce, bytes: &mut [u8])
+// XORs the first 256 bytes of the key stream from a counter on, and does forty steps of other work. It is a
+// function of its own, since its frame would slow down runs of eight blocks.
+#[inline(never)]
+pub(crate) fn xor_four_blocks<W: Work>(
+    key: &Key32,
+    counter: u32,
+    nonce: &Nonce,
+    bytes: &mut [u8],
+    work: &mut W,
+)
     requires counters { counter + 3 < 2 ^ 32 }
     requires size { length bytes.old ≡ 256 }
-    ensures { bytes.new ≡ masked (key_stream_byte key.now nonce.now counter) 0 bytes.old }
+    ensures masked { bytes.new ≡ masked (key_stream_byte key.now nonce.now counter) 0 bytes.old }
+    ensures work { (k m : List ℕ) → W.comes_to work.old k m → W.comes_to work.new k m }
 {
-    xor_written(&four_lanes(key, counter, nonce), bytes);
+    let x = four_lanes(key, counter, nonce, work);
+    xor_written(&x, bytes);
 }
 
 // XORs the first 512 bytes of the key stream from a counter on, and does forty steps of other work.

@@ -1,6 +1,6 @@
 // A block by rows beside four or eight in lanes: in the steps of the lanes the processor has room for those of a row.
 
-ghost use Rattle.std.specs.Prelude.{◌≡◌, ℕ, ◌+◌, ◌%◌, ◌^◌, ◌<◌, length, slice_index};
+ghost use Rattle.std.specs.Prelude.{◌≡◌, ℕ, ◌+◌, ◌%◌, ◌^◌, ◌<◌, List, length, slice_index};
 ghost use Rattle.octets.specs.Masked.{masked};
 ghost use Rattle.chacha.specs.Block.{double_rounds, serialized, block};
 ghost use Rattle.chacha.specs.Code.Halves.{round_at};
@@ -13,10 +13,10 @@ use crate::lanes::{
 };
 use crate::rows::{column_round, diagonal_round, rows_of, written};
 use crate::state::initial_state;
-use octets::{Key32, Nonce, xor_into};
+use octets::{Idle, Key32, Nonce, Work, xor_into};
 use std::simd::{Simd, u32x4, u32x8};
 
-// What the rows do beside a half of a round of the lanes: beside the first half of a round all of it.
+// The rows do a whole round beside the first half of a round of the lanes, and nothing beside the second.
 #[inline(always)]
 fn round_at(row: &mut [u32x4; 4], half: u32)
     ensures { read_by_rows row.new ≡ round_at (half % 4) (read_by_rows row.old) }
@@ -28,48 +28,68 @@ fn round_at(row: &mut [u32x4; 4], half: u32)
     }
 }
 
-// Ten double rounds of the lanes, and of the rows beside them.
+// Ten double rounds of the lanes, and of the rows beside them, with a step of other work after each half of a
+// round.
 #[inline(always)]
-fn ten_rounds<const N: usize>(x: &mut [Simd<u32, N>; 16], row: &mut [u32x4; 4])
+fn ten_rounds<const N: usize, W: Work>(
+    x: &mut [Simd<u32, N>; 16],
+    row: &mut [u32x4; 4],
+    work: &mut W,
+)
     ensures lanes { (j : ℕ) → j < N → lane j x.new ≡ double_rounds 10 (lane j x.old) }
     ensures row { read_by_rows row.new ≡ double_rounds 10 (read_by_rows row.old) }
+    ensures work { (k m : List ℕ) → W.comes_to work.old k m → W.comes_to work.new k m }
 {
+    let mut own = *work;
     'halves: for half in 0..40u32 {
         half_round(x, half);
         round_at(row, half);
+        own.step();
     }
+    *work = own;
 }
 
 // Each lane gets the words of the block of its counter. Returns the block with one more counter.
 #[inline(always)]
-fn set_blocks<const N: usize>(
+fn set_blocks<const N: usize, W: Work>(
     x: &mut [Simd<u32, N>; 16],
     key: &Key32,
     counter: u32,
     counters: Simd<u32, N>,
     nonce: &Nonce,
+    work: &mut W,
 ) -> [u8; 64]
     ensures lanes { (j : ℕ) → j < N
         → serialized (lane j x.new) ≡ block key.now (slice_index counters.entry j) nonce.now }
     ensures row { result ≡ block key.now counter nonce.now }
+    ensures work { (k m : List ℕ) → W.comes_to work.old k m → W.comes_to work.new k m }
 {
     set_starts(x, &initial_state(key, 0, nonce), counters);
     let start = *x;
     let row_start = rows_of(&initial_state(key, counter, nonce));
     let mut row = row_start;
-    ten_rounds(x, &mut row);
+    ten_rounds(x, &mut row, work);
     add(x, &start);
     written(&row, &row_start)
 }
 
-// XORs the first 320 bytes of the key stream from a counter on.
-pub(crate) fn xor_five_blocks(key: &Key32, counter: u32, nonce: &Nonce, bytes: &mut [u8])
+// XORs the first 320 bytes of the key stream from a counter on, and does forty steps of other work. It is a
+// function of its own, since its frame would slow down runs of eight blocks.
+#[inline(never)]
+pub(crate) fn xor_five_blocks<W: Work>(
+    key: &Key32,
+    counter: u32,
+    nonce: &Nonce,
+    bytes: &mut [u8],
+    work: &mut W,
+)
     requires counters { counter + 4 < 2 ^ 32 }
     requires size { length bytes.old ≡ 320 }
-    ensures { bytes.new ≡ masked (key_stream_byte key.now nonce.now counter) 0 bytes.old }
+    ensures masked { bytes.new ≡ masked (key_stream_byte key.now nonce.now counter) 0 bytes.old }
+    ensures work { (k m : List ℕ) → W.comes_to work.old k m → W.comes_to work.new k m }
 {
     let mut x = [u32x4::splat(0); 16];
-    let first = set_blocks(&mut x, key, counter, four_counters(counter + 1), nonce);
+    let first = set_blocks(&mut x, key, counter, four_counters(counter + 1), nonce, work);
     let (front, back) = bytes.split_at_mut(64);
     xor_into(front, &first);
     xor_written(&x, back);
@@ -82,7 +102,7 @@ pub(crate) fn xor_nine_blocks(key: &Key32, counter: u32, nonce: &Nonce, bytes: &
     ensures { bytes.new ≡ masked (key_stream_byte key.now nonce.now counter) 0 bytes.old }
 {
     let mut x = [u32x8::splat(0); 16];
-    let first = set_blocks(&mut x, key, counter, eight_counters(counter + 1), nonce);
+    let first = set_blocks(&mut x, key, counter, eight_counters(counter + 1), nonce, &mut Idle);
     let (front, back) = bytes.split_at_mut(64);
     xor_into(front, &first);
     xor_eight_written(&x, back);

@@ -99,7 +99,7 @@ pub fn key_stream_start<const N: usize>(key: &Key32, nonce: &Nonce) -> [u8; N]
 {
     let mut start = [0; N];
     match N {
-        320 => row_beside::xor_five_blocks(key, 0, nonce, &mut start),
+        320 => row_beside::xor_five_blocks(key, 0, nonce, &mut start, &mut Idle),
         576 => row_beside::xor_nine_blocks(key, 0, nonce, &mut start),
         _ => xor_stream(key, nonce, 0, &mut start, &mut Idle),
     }
@@ -143,12 +143,12 @@ fn xor_run<W: Work>(key: &Key32, nonce: &Nonce, place: u64, bytes: &mut [u8], wo
     }
     if skip + bytes.len() > 256 && counter <= u32::MAX - 4 {
         let mut stream = [0; 320];
-        row_beside::xor_five_blocks(key, counter, nonce, &mut stream);
+        row_beside::xor_five_blocks(key, counter, nonce, &mut stream, work);
         return xor_part(&stream, skip, bytes);
     }
     if skip + bytes.len() > 128 && counter <= u32::MAX - 3 {
         let mut stream = [0; 256];
-        lanes::xor_four_blocks(key, counter, nonce, &mut stream);
+        lanes::xor_four_blocks(key, counter, nonce, &mut stream, work);
         return xor_part(&stream, skip, bytes);
     }
     // Two blocks by rows take no longer than one.

@@ -5,8 +5,8 @@ use Rattle.chacha.specs.Stream.{key_stream_byte}
 use Rattle.chacha.proofs.Masking.{joined_block}
 use Rattle.chacha.proofs.row_beside.xor_five_blocks.Goals as goal
 
-pub returns : goal.returns
-returns c =
+pub returns-clause-masked : goal.returns-clause-masked
+returns-clause-masked g c =
     let key = c.args.key.now in
     let nonce = c.args.nonce.now in
     let n = c.args.counter in

@@ -5,7 +5,7 @@ use Rattle.chacha.proofs.stream.key_stream_start.Goals as goal
 
 pub returns-in-320 : goal.returns-in-320
 returns-in-320 g c = λ i l.
-    ap (λ s. get_or s i 0) c.xor_five_blocks.ensures
+    ap (λ s. get_or s i 0) c.xor_five_blocks.ensures.masked
     ∙ bytes_of_zeros (key_stream_byte c.args.key.now c.args.nonce.now 0) g.row.N i l
 
 pub returns-in-576 : goal.returns-in-576

@@ -19,14 +19,14 @@ pub returns-then-counter-2-clause-masked : goal.returns-then-counter-2-clause-ma
 returns-then-counter-2-clause-masked g c =
     run_of_zeros c.args.key.now c.args.nonce.now c.args.place 320 c.xor_part-then-counter-2.result
     c.args.bytes.now c.xor_five_blocks.new.bytes _
-    c.xor_five_blocks.ensures c.xor_five_blocks.auto.bytes c.xor_part-then-counter-2.ensures.count
+    c.xor_five_blocks.ensures.masked c.xor_five_blocks.auto.bytes c.xor_part-then-counter-2.ensures.count
     c.xor_part-then-counter-2.ensures.xored
 
 pub returns-then-counter-3-clause-masked : goal.returns-then-counter-3-clause-masked
 returns-then-counter-3-clause-masked g c =
     run_of_zeros c.args.key.now c.args.nonce.now c.args.place 256 c.xor_part-then-counter-3.result
     c.args.bytes.now c.xor_four_blocks.new.bytes _
-    c.xor_four_blocks.ensures c.xor_four_blocks.auto.bytes c.xor_part-then-counter-3.ensures.count
+    c.xor_four_blocks.ensures.masked c.xor_four_blocks.auto.bytes c.xor_part-then-counter-3.ensures.count
     c.xor_part-then-counter-3.ensures.xored
 
 pub returns-then-counter-4-clause-masked : goal.returns-then-counter-4-clause-masked
