@@ -7,14 +7,14 @@ use Rattle.octets.specs.Masked.{masked}
 use Rattle.octets.proofs.Devices.{consumes_more}
 use Rattle.octets.proofs.Masks.{take-masked}
 use Rattle.aead.specs.Code.Maskings.{Task, task_mask}
-use Rattle.aead.specs.Code.Passes.{WentFar, Stopped}
-use Rattle.aead.specs.Code.Extents.{IsExtent, WentAll, More}
+use Rattle.aead.specs.Code.Passes.{HasFilledRoom, Stopped}
+use Rattle.aead.specs.Code.Extents.{IsExtent, HasPassedAll, More}
 use Rattle.aead.proofs.Findings.{front_of}
 
 -- the reading ended before the length
 pub all_short : {M : Type 0} (holds : M → Task → List ℕ → Type 0) (t : Task) (len n : ℕ)
     (l l' o o' : Option (List ℕ)) (k : M)
-    → WentFar holds t [] len l l' o o' k n → n < len → WentAll holds t len l l' o o' k (Some n)
+    → HasFilledRoom holds t [] len l l' o o' k n → n < len → HasPassedAll holds t len l l' o o' k (Some n)
 all_short holds t len n l l' o o' k q less =
     let P : List ℕ → Type 0 = λ b. Appends o o' (masked (task_mask t) 0 b) in
     let Q : List ℕ → Type 0 = λ b. holds k t b in
@@ -31,11 +31,11 @@ all_short holds t len n l l' o o' k q less =
 -- it came to the length, and then there was more or not
 pub all_more : {M : Type 0} (holds : M → Task → List ℕ → Type 0) (t : Task) (len n : ℕ)
     (l l' l'' o o' : Option (List ℕ)) (k : M) (extent : Option ℕ) (b : Bool)
-    → (q : WentFar holds t [] len l l' o o' k n) → len ≤ n →
+    → (q : HasFilledRoom holds t [] len l l' o o' k n) → len ≤ n →
     (more : More l' l'' b) →
     (length q.bytes ≡ len → IsExtent len (q.bytes ++ more.bytes) extent
     × (length (q.bytes ++ more.bytes) ≤ len → b ≡ false)) →
-    WentAll holds t len l l'' o o' k extent
+    HasPassedAll holds t len l l'' o o' k extent
 all_more holds t len n l l' l'' o o' k extent b q full more found =
     let P : List ℕ → Type 0 = λ b. Appends o o' (masked (task_mask t) 0 b) in
     let Q : List ℕ → Type 0 = λ b. holds k t b in
@@ -53,7 +53,7 @@ all_more holds t len n l l' l'' o o' k extent b q full more found =
 -- a device failed as it was asked for more
 pub all_stopped : {M : Type 0} (holds : M → Task → List ℕ → Type 0) (t : Task) (len n : ℕ)
     (l l' l'' o o' : Option (List ℕ)) (k : M) (y : List ℕ)
-    → WentFar holds t [] len l l' o o' k n → Consumes l' l'' y → Stopped t [] len l l'' o o'
+    → HasFilledRoom holds t [] len l l' o o' k n → Consumes l' l'' y → Stopped t [] len l l'' o o'
 all_stopped holds t len n l l' l'' o o' k y q more =
     let P : List ℕ → Type 0 = λ b. Appends o o' b in
     let same : take (length q.bytes) (masked (task_mask t) 0 (q.bytes ++ y))
@@ -69,20 +69,20 @@ all_stopped holds t len n l l' l'' o o' k y q more =
       given = subst P (sym same) q.went.given;
     }
 
--- ---- where the reading tells its bytes
+-- ---- if the bytes of the reading are known
 
--- the same extent by a longer list
+-- an extent past the length is that of any other such list
 extent_of : (len : ℕ) (x y : List ℕ) (e : Option ℕ) → len < length x → len < length y → IsExtent len x e
     → IsExtent len y e
 extent_of len x y None p q h = q
 extent_of len x y (Some n) p q h = absurd (omega (arith, p, h.0, h.1))
 
 -- what was given and is held, in the reading's own bytes
-pub all_told : {M : Type 0} (holds : M → Task → List ℕ → Type 0) (t : Task) (len : ℕ) (x : List ℕ)
-    (l' o o' : Option (List ℕ)) (k : M) (e : Option ℕ) → WentAll holds t len (Some x) l' o o' k e →
+pub all_known : {M : Type 0} (holds : M → Task → List ℕ → Type 0) (t : Task) (len : ℕ) (x : List ℕ)
+    (l' o o' : Option (List ℕ)) (k : M) (e : Option ℕ) → HasPassedAll holds t len (Some x) l' o o' k e →
     Appends o o' (masked (task_mask t) 0 (take len x)) × holds k t (take len x) × IsExtent len x e
-all_told holds t len x None o o' k e w = absurd w.consumed
-all_told holds t len x (Some rest) o o' k e w =
+all_known holds t len x None o o' k e w = absurd w.consumed
+all_known holds t len x (Some rest) o o' k e w =
     let P : List ℕ → Type 0 = λ b. Appends o o' (masked (task_mask t) 0 b) in
     let Q : List ℕ → Type 0 = λ b. holds k t b in
     let R : List ℕ → Type 0 = λ b. IsExtent len b e in
@@ -97,11 +97,11 @@ all_told holds t len x (Some rest) o o' k e w =
     ]
 
 -- what a device's failure leaves given, in the reading's own bytes
-pub all_stopped_told : (t : Task) (len : ℕ) (x : List ℕ) (l' o o' : Option (List ℕ))
+pub all_stopped_known : (t : Task) (len : ℕ) (x : List ℕ) (l' o o' : Option (List ℕ))
     → Stopped t [] len (Some x) l' o o' →
     (k : ℕ) × (k ≤ length x) × (k ≤ len) × Appends o o' (take k (masked (task_mask t) 0 x))
-all_stopped_told t len x None o o' w = absurd w.consumed
-all_stopped_told t len x (Some rest) o o' w =
+all_stopped_known t len x None o o' w = absurd w.consumed
+all_stopped_known t len x (Some rest) o o' w =
     let P : List ℕ → Type 0 = λ b. Appends o o' b in
     let same : take w.shown (masked (task_mask t) 0 x) ≡ take w.shown (masked (task_mask t) 0 w.bytes) =
     take-masked (task_mask t) w.shown 0 x

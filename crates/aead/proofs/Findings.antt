@@ -20,8 +20,8 @@ use Rattle.aead.specs.Suites.{construction_of, is_one_pass, ByGcm}
 use Rattle.aead.specs.Sealing.{Setting, Fits, Opened, IsNoSealing, mask_of, tag_of, tag_over}
 use Rattle.aead.specs.Code.States.{HoldsAuthenticator}
 use Rattle.aead.specs.Code.Maskings.{HoldsMasking, message_task}
-use Rattle.aead.specs.Code.Passes.{WentFar, Stopped}
-use Rattle.aead.specs.Code.Findings.{IsFinding, MakesTag, TookBody, WentWhole, Tail}
+use Rattle.aead.specs.Code.Passes.{HasFilledRoom, Stopped}
+use Rattle.aead.specs.Code.Findings.{IsFinding, MakesTag, PassesBody, HasPassedReading, Tail}
 use Rattle.aead.proofs.ByteMasks.{masked_small, mask_small}
 use Rattle.aead.proofs.Opens.{unmasked, no_sealing, opened_as, body_tag}
 
@@ -68,8 +68,8 @@ unsealed_found s tag body y len long size equal other =
 pub took_masked : {S H R : Type 0} (made : S → Setting → List ℕ → ℕ → Type 0)
     (held : H → Setting → List ℕ → Type 0) (hashed : (ℕ → ℕ) → List ℕ → List ℕ) (s : Setting) (tag : List ℕ)
     (len n : ℕ) (l l' o o' : Option (List ℕ)) (k : Masking S H R) (t : List ℕ)
-    → (q : WentFar (HoldsMasking made held hashed) (message_task s tag) [] (len - 16) l l' o o' k n)
-    → t ≡ tag_of s (masked (mask_of s tag) 0 q.bytes) → TookBody s tag len l l' o o' n t
+    → (q : HasFilledRoom (HoldsMasking made held hashed) (message_task s tag) [] (len - 16) l l' o o' k n)
+    → t ≡ tag_of s (masked (mask_of s tag) 0 q.bytes) → PassesBody s tag len l l' o o' n t
 took_masked made held hashed s tag len n l l' o o' k t q is = record {
   bytes = q.bytes;
   went = record {
@@ -89,7 +89,7 @@ pub took_read : {H : Type 0} (held : H → Setting → List ℕ → Type 0) (s :
     → (construction_of s.suite ≡ ByGcm → IsKey s.key) → n ≤ len - 16
     → (w : (bytes : List ℕ) × Consumes l l' bytes × HoldsAuthenticator held k s bytes × (length bytes ≡ n)
     × (n < len - 16 → IsAtEnd l') × ((i : ℕ) → get_or bytes i 0 < 256))
-    → t ≡ tag_over s.suite s.key s.nonce s.aad w.0 → TookBody s tag len l l' None None n t
+    → t ≡ tag_over s.suite s.key s.nonce s.aad w.0 → PassesBody s tag len l l' None None n t
 took_read held s tag len n l l' k t one key short w is = record {
   bytes = w.0;
   went = record {
@@ -105,7 +105,7 @@ took_read held s tag len n l l' k t one key short w is = record {
 
 -- the reading ended within the body
 pub whole_short : (s : Setting) (tag : List ℕ) (len n : ℕ) (l l' o o' : Option (List ℕ)) (t : List ℕ)
-    → length tag ≡ 16 → TookBody s tag len l l' o o' n t → n < len - 16 → WentWhole s tag len l l' o o' Differs
+    → length tag ≡ 16 → PassesBody s tag len l l' o o' n t → n < len - 16 → HasPassedReading s tag len l l' o o' Differs
 whole_short s tag len n l l' o o' t size q less =
     let P : List ℕ → Type 0 = λ b. Appends o o' (masked (mask_of s tag) 0 b) in
     let all : length q.bytes ≤ len - 16 = omega (arith, q.count, less) in
@@ -133,9 +133,9 @@ stopped_read s tag room l l' bytes consumed = record {
 -- the body came whole, and then a tail
 pub whole_tail : (s : Setting) (tag : List ℕ) (len n : ℕ) (l l' l'' o o' : Option (List ℕ)) (t : List ℕ)
     (b : Bool) (f : Finding) → 16 ≤ len →
-    (q : TookBody s tag len l l' o o' n t) → len - 16 ≤ n → (tail : Tail tag l' l'' b) →
+    (q : PassesBody s tag len l l' o o' n t) → len - 16 ≤ n → (tail : Tail tag l' l'' b) →
     (length q.bytes ≡ len - 16 → IsFinding s tag len (q.bytes ++ tail.bytes) f)
-    → WentWhole s tag len l l'' o o' f
+    → HasPassedReading s tag len l l'' o o' f
 whole_tail s tag len n l l' l'' o o' t b f low q full tail found =
     let P : List ℕ → Type 0 = λ b. Appends o o' (masked (mask_of s tag) 0 b) in
     let size : length q.bytes ≡ len - 16 = omega (arith, q.count, q.short, full) in
@@ -149,7 +149,7 @@ whole_tail s tag len n l l' l'' o o' t b f low q full tail found =
 
 -- the body came whole, and then a device failed
 pub stopped_tail : (s : Setting) (tag : List ℕ) (len n : ℕ) (l l' l'' o o' : Option (List ℕ)) (t y : List ℕ)
-    → TookBody s tag len l l' o o' n t → Consumes l' l'' y
+    → PassesBody s tag len l l' o o' n t → Consumes l' l'' y
     → Stopped (message_task s tag) [] (len - 16) l l'' o o'
 stopped_tail s tag len n l l' l'' o o' t y q more =
     let P : List ℕ → Type 0 = λ b. Appends o o' b in
@@ -192,7 +192,7 @@ long_found s tag x y len Sealed size low p q h = absurd (too_long tag x len size
 
 pub whole_found : (s : Setting) (tag : List ℕ) (len : ℕ) (v : List ℕ) (l' o o' : Option (List ℕ))
     (f : Finding) → length tag ≡ 16 → 16 ≤ len →
-    WentWhole s tag len (Some v) l' o o' f → IsFinding s tag len v f
+    HasPassedReading s tag len (Some v) l' o o' f → IsFinding s tag len v f
 whole_found s tag len v None o o' f size low w = absurd w.consumed
 whole_found s tag len v (Some rest) o o' f size low w =
     let P : List ℕ → Type 0 = λ x. IsFinding s tag len x f in
@@ -203,7 +203,7 @@ whole_found s tag len v (Some rest) o o' f size low w =
 
 pub whole_given : (s : Setting) (tag : List ℕ) (len : ℕ) (v : List ℕ) (l' o o' : Option (List ℕ))
     (f : Finding) →
-    WentWhole s tag len (Some v) l' o o' f → Appends o o' (masked (mask_of s tag) 0 (take (len - 16) v))
+    HasPassedReading s tag len (Some v) l' o o' f → Appends o o' (masked (mask_of s tag) 0 (take (len - 16) v))
 whole_given s tag len v None o o' f w = absurd w.consumed
 whole_given s tag len v (Some rest) o o' f w =
     let P : List ℕ → Type 0 = λ b. Appends o o' (masked (mask_of s tag) 0 b) in

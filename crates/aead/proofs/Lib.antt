@@ -12,12 +12,12 @@ mod GcmSivVector
 pub mod Pieces
 pub mod Maskings
 pub mod AnyMaskings
-pub mod BegunStreams
+pub mod BufferedStreams
 pub mod Tags
 pub mod Measuring
 pub mod Passing
 pub mod Findings
-pub mod Tellings
+pub mod KnownReadings
 pub mod StreamExits
 pub mod Repeats
 pub mod Joined

@@ -8,7 +8,7 @@ use Rattle.octets.specs.Masked.{masked}
 use Rattle.octets.proofs.Devices.{consumes_none, consumes_more, appends_none, appends_more}
 use Rattle.octets.proofs.Masks.{length-masked, masked-append}
 use Rattle.aead.specs.Code.Maskings.{Task, task_mask}
-use Rattle.aead.specs.Code.Passes.{Went, WentFar, Stopped}
+use Rattle.aead.specs.Code.Passes.{HasPassed, HasFilledRoom, Stopped}
 
 -- what holds of the places of two lists holds of both joined
 pub small-append : (x y : List ℕ) → ((i : ℕ) → get_or x i 0 < 256) → ((i : ℕ) → get_or y i 0 < 256) → (i : ℕ)
@@ -18,10 +18,10 @@ small-append (b ∷ x) y p q zero = p 0
 small-append (b ∷ x) y p q (suc i) = small-append x y (λ j. p (suc j)) q i
 
 -- nothing yet
-pub went_none : {M : Type 0} (holds : M → Task → List ℕ → Type 0) (t : Task) (fed : List ℕ)
-    (l o : Option (List ℕ)) (k : M) → holds k t fed → Went holds t fed l l o o k []
+pub passed_none : {M : Type 0} (holds : M → Task → List ℕ → Type 0) (t : Task) (fed : List ℕ)
+    (l o : Option (List ℕ)) (k : M) → holds k t fed → HasPassed holds t fed l l o o k []
 unfolding masked
-went_none holds t fed l o k h =
+passed_none holds t fed l o k h =
     let P : List ℕ → Type 0 = λ b. holds k t b in
     record {
       consumed = consumes_none l;
@@ -38,11 +38,11 @@ two_masked t fed x y =
     masked-append (task_mask t) (length fed) x y
     ∙ ap (λ i. masked (task_mask t) (length fed) x ++ masked (task_mask t) i y) (sym (length-append fed x))
 
-pub went_more : {M N : Type 0} (first : M → Task → List ℕ → Type 0) (second : N → Task → List ℕ → Type 0)
+pub passed_more : {M N : Type 0} (first : M → Task → List ℕ → Type 0) (second : N → Task → List ℕ → Type 0)
     (t : Task) (fed x y : List ℕ) (l l' l'' o o' o'' : Option (List ℕ)) (k : M) (k' : N) →
-    Went first t fed l l' o o' k x → Went second t (fed ++ x) l' l'' o' o'' k' y
-    → Went second t fed l l'' o o'' k' (x ++ y)
-went_more first second t fed x y l l' l'' o o' o'' k k' p q =
+    HasPassed first t fed l l' o o' k x → HasPassed second t (fed ++ x) l' l'' o' o'' k' y
+    → HasPassed second t fed l l'' o o'' k' (x ++ y)
+passed_more first second t fed x y l l' l'' o o' o'' k k' p q =
     let P : List ℕ → Type 0 = λ b. second k' t b in
     let Q : List ℕ → Type 0 = λ b. Appends o o'' b in
     let R : List ℕ → Type 0 = λ b. (i : ℕ) → get_or b i 0 < 256 in
@@ -55,7 +55,7 @@ went_more first second t fed x y l l' l'' o o' o'' k k' p q =
 
 pub stopped_more : {M : Type 0} (holds : M → Task → List ℕ → Type 0) (t : Task) (fed x : List ℕ)
     (room room' : ℕ) (l l' l'' o o' o'' : Option (List ℕ)) (k : M) →
-    Went holds t fed l l' o o' k x → Stopped t (fed ++ x) room l' l'' o' o'' → length x + room ≤ room'
+    HasPassed holds t fed l l' o o' k x → Stopped t (fed ++ x) room l' l'' o' o'' → length x + room ≤ room'
     → Stopped t fed room' l l'' o o''
 stopped_more holds t fed x room room' l l' l'' o o' o'' k p q fits =
     let Q : List ℕ → Type 0 = λ b. Appends o o'' b in
@@ -79,13 +79,13 @@ stopped_more holds t fed x room room' l l' l'' o o' o'' k p q fits =
 -- a piece that was the last
 pub far_more : {M : Type 0} (holds : M → Task → List ℕ → Type 0) (t : Task) (x : List ℕ)
     (room room' n done : ℕ) (l l' l'' o o' o'' : Option (List ℕ)) (k k' : M) →
-    Went holds t [] l l' o o' k x → length x ≡ done → WentFar holds t x room l' l'' o' o'' k' n → n < room
+    HasPassed holds t [] l l' o o' k x → length x ≡ done → HasFilledRoom holds t x room l' l'' o' o'' k' n → n < room
     → done + room ≤ room' →
-    WentFar holds t [] room' l l'' o o'' k' (done + n)
+    HasFilledRoom holds t [] room' l l'' o o'' k' (done + n)
 far_more holds t x room room' n done l l' l'' o o' o'' k k' p size q less fits =
     record {
       bytes = x ++ q.bytes;
-      went = went_more holds holds t [] x q.bytes l l' l'' o o' o'' k k' p q.went;
+      went = passed_more holds holds t [] x q.bytes l l' l'' o o' o'' k k' p q.went;
       count = omega (arith, length-append x q.bytes, q.count, size);
       short = omega (arith, q.short, fits);
       end = λ _. q.end less;

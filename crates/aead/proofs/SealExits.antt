@@ -16,10 +16,10 @@ use Rattle.aead.specs.Suites.{construction_of, is_one_pass, text_limit, aad_limi
 use Rattle.aead.specs.Sealing.{Setting, mask_of, tag_of, sealing}
 use Rattle.aead.specs.Code.Maskings.{Task, message_task}
 use Rattle.aead.specs.Code.Passes.{Stopped}
-use Rattle.aead.specs.Code.Extents.{WentAll}
-use Rattle.aead.specs.SealStream.{may_seal, SealVerdict, SealsStream, WhereTextTold}
+use Rattle.aead.specs.Code.Extents.{HasPassedAll}
+use Rattle.aead.specs.SealStream.{may_seal, SealVerdict, SealsStream, IfTextKnown}
 use Rattle.aead.proofs.Opens.{same_mask}
-use Rattle.aead.proofs.Extents.{all_told, all_stopped_told}
+use Rattle.aead.proofs.Extents.{all_known, all_stopped_known}
 
 -- ---- what may be given
 
@@ -65,11 +65,11 @@ begun s x k one within short =
 -- ---- the exits
 
 -- where both tell their bytes
-where_text_told : (l o o' : Option (List ℕ)) (A : List ℕ → Type 0) (Q : List ℕ → List ℕ → Type 0) → IfSome l A
-    → ((x : List ℕ) → A x → (given : List ℕ) × Appends o o' given × Q x given) → WhereTextTold l o o' Q
-where_text_told None o o' A Q a f = tt
-where_text_told (Some x) None o' A Q a f = tt
-where_text_told (Some x) (Some y) o' A Q a f = f x a
+if_text_known : (l o o' : Option (List ℕ)) (A : List ℕ → Type 0) (Q : List ℕ → List ℕ → Type 0) → IfSome l A
+    → ((x : List ℕ) → A x → (given : List ℕ) × Appends o o' given × Q x given) → IfTextKnown l o o' Q
+if_text_known None o o' A Q a f = tt
+if_text_known (Some x) None o' A Q a f = tt
+if_text_known (Some x) (Some y) o' A Q a f = f x a
 
 -- what holds of a text that is told
 pub told : (l : Option (List ℕ)) (P : Option (List ℕ) → Type 0) → P l → IfSome l (λ x. P (Some x))
@@ -77,10 +77,10 @@ told None P p = tt
 told (Some x) P p = p
 
 -- and what follows from it
-pub where_told : (l : Option (List ℕ)) (A B : List ℕ → Type 0) → IfSome l A → ((x : List ℕ) → A x → B x)
+pub if_known : (l : Option (List ℕ)) (A B : List ℕ → Type 0) → IfSome l A → ((x : List ℕ) → A x → B x)
     → IfSome l B
-where_told None A B a f = tt
-where_told (Some x) A B a f = f x a
+if_known None A B a f = tt
+if_known (Some x) A B a f = f x a
 
 -- nothing is asked of a text
 any_text : (l : Option (List ℕ)) → IfSome l (λ _. Unit {0})
@@ -89,9 +89,9 @@ any_text (Some x) = tt
 
 -- the associated data are too long
 pub exit_aad : (l o : Option (List ℕ)) (s : Setting) (read wrote : ℕ) → aad_limit s.suite < length s.aad
-    → WhereTextTold l o o (λ x given. SealsStream s x given read read wrote wrote (Err AadTooLong))
+    → IfTextKnown l o o (λ x given. SealsStream s x given read read wrote wrote (Err AadTooLong))
 exit_aad l o s read wrote past =
-    where_text_told l o o (λ _. Unit {0}) _ (any_text l) (λ x _. (
+    if_text_known l o o (λ _. Unit {0}) _ (any_text l) (λ x _. (
       [],
       appends_none o,
       record {
@@ -109,10 +109,10 @@ pub exit_stopped : (l l' o o' : Option (List ℕ)) (s : Setting) (limit read rea
     → Stopped (message_task s []) [] limit l l' o o'
     → ((f ≡ Read) × Failed read read' × (wrote' ≡ wrote))
     ⊎ ((f ≡ Write) × (read' ≡ read) × Failed wrote wrote')
-    → WhereTextTold l o o' (λ x given. SealsStream s x given read read' wrote wrote' (Err f))
+    → IfTextKnown l o o' (λ x given. SealsStream s x given read read' wrote wrote' (Err f))
 exit_stopped l l' o o' s limit read read' wrote wrote' f same one fits stop blame =
-    where_text_told l o o' _ _ (told l (λ m. Stopped (message_task s []) [] limit m l' o o') stop) (λ x st.
-    let k = all_stopped_told (message_task s []) limit x l' o o' st in (
+    if_text_known l o o' _ _ (told l (λ m. Stopped (message_task s []) [] limit m l' o o') stop) (λ x st.
+    let k = all_stopped_known (message_task s []) limit x l' o o' st in (
       take k.0 (masked (mask_of s []) 0 x),
       k.3,
       record {
@@ -127,12 +127,12 @@ exit_stopped l l' o o' s limit read read' wrote wrote' f same one fits stop blam
 pub exit_long : {M : Type 0} (holds : M → Task → List ℕ → Type 0) (l l' o o' : Option (List ℕ))
     (s : Setting) (k : M) (limit read read' wrote wrote' : ℕ) → limit ≡ text_limit s.suite
     → is_one_pass (construction_of s.suite) ≡ true → length s.aad ≤ aad_limit s.suite
-    → WentAll holds (message_task s []) limit l l' o o' k None → (read' ≡ read) × (wrote' ≡ wrote)
-    → WhereTextTold l o o' (λ x given. SealsStream s x given read read' wrote wrote' (Err TextTooLong))
+    → HasPassedAll holds (message_task s []) limit l l' o o' k None → (read' ≡ read) × (wrote' ≡ wrote)
+    → IfTextKnown l o o' (λ x given. SealsStream s x given read read' wrote wrote' (Err TextTooLong))
 exit_long holds l l' o o' s k limit read read' wrote wrote' same one fits went kept =
-    where_text_told l o o' _ _
-    (told l (λ m. WentAll holds (message_task s []) limit m l' o o' k None) went) (λ x w.
-    let t = all_told holds (message_task s []) limit x l' o o' k None w in
+    if_text_known l o o' _ _
+    (told l (λ m. HasPassedAll holds (message_task s []) limit m l' o o' k None) went) (λ x w.
+    let t = all_known holds (message_task s []) limit x l' o o' k None w in
     let past : text_limit s.suite < length x = omega (arith, t.2, same) in
     let given : List ℕ = masked (mask_of s []) 0 (take limit x) in
     let all : given ≡ may_seal s x =
@@ -154,10 +154,10 @@ exit_long holds l l' o o' s k limit read read' wrote wrote' same one fits went k
 -- the whole text is held
 pub holds_all : {M : Type 0} (holds : M → Task → List ℕ → Type 0) (k : M) (s : Setting) (limit n : ℕ)
     (x : List ℕ) (l' o o' : Option (List ℕ)) → limit ≡ text_limit s.suite
-    → WentAll holds (message_task s []) limit (Some x) l' o o' k (Some n)
+    → HasPassedAll holds (message_task s []) limit (Some x) l' o o' k (Some n)
     → holds k (message_task s []) x × (length x ≤ text_limit s.suite)
 holds_all holds k s limit n x l' o o' same went =
-    let t = all_told holds (message_task s []) limit x l' o o' k (Some n) went in
+    let t = all_known holds (message_task s []) limit x l' o o' k (Some n) went in
     let all : take limit x ≡ x = take_all limit x (omega (arith, t.2.0, t.2.1)) in
     let P : List ℕ → Type 0 = λ y. holds k (message_task s []) y in
     (subst P all t.1, omega (arith, t.2.0, t.2.1, same))
@@ -167,18 +167,18 @@ pub exit_tag : {M : Type 0} (holds : M → Task → List ℕ → Type 0) (l l' o
     (s : Setting) (k : M) (tag : List ℕ) (limit n i read read' wrote wrote' : ℕ)
     (r : Result (Unit {0}) Fault) → limit ≡ text_limit s.suite
     → is_one_pass (construction_of s.suite) ≡ true → length s.aad ≤ aad_limit s.suite
-    → WentAll holds (message_task s []) limit l l' o o' k (Some n)
+    → HasPassedAll holds (message_task s []) limit l l' o o' k (Some n)
     → ((text : List ℕ) → holds k (message_task s []) text → tag ≡ tag_of s text)
     → Appends o' o'' (take i tag)
     → ((r ≡ Ok tt) × (length tag ≤ i) × (read' ≡ read) × (wrote' ≡ wrote))
     ⊎ ((r ≡ Err Write) × Failed wrote wrote')
-    → WhereTextTold l o o'' (λ x given. SealsStream s x given read read' wrote wrote' r)
+    → IfTextKnown l o o'' (λ x given. SealsStream s x given read read' wrote wrote' r)
 exit_tag holds l l' o o' o'' s k tag limit n i read read' wrote wrote' r same one fits went tag_is more end =
-    where_text_told l o o'' _ _
-    (told l (λ m. WentAll holds (message_task s []) limit m l' o o' k (Some n)) went)
+    if_text_known l o o'' _ _
+    (told l (λ m. HasPassedAll holds (message_task s []) limit m l' o o' k (Some n)) went)
     (λ x w.
     let held = holds_all holds k s limit n x l' o o' same w in
-    let t = all_told holds (message_task s []) limit x l' o o' k (Some n) w in
+    let t = all_known holds (message_task s []) limit x l' o o' k (Some n) w in
     let is : tag ≡ tag_of s x = tag_is x held.0 in
     let whole : take limit x ≡ x = take_all limit x (omega (arith, held.1, same)) in
     let P : List ℕ → Type 0 = λ y. Appends o o' (masked (mask_of s []) 0 y) in

@@ -23,21 +23,21 @@ use Rattle.aead.specs.Code.States.{HoldsAuthenticator}
 use Rattle.aead.specs.Code.Maskings.{Task, repeating_task}
 use Rattle.aead.specs.Code.Absorbed.{AbsorbedAll}
 use Rattle.aead.specs.Code.Passes.{Stopped}
-use Rattle.aead.specs.Code.Extents.{WentAll}
+use Rattle.aead.specs.Code.Extents.{HasPassedAll}
 use Rattle.aead.specs.SealSivStream.{again, WritesAgain, SivVerdict, SivCounts, SealsSivStream}
-use Rattle.aead.specs.SealSivStream.{WhereBothTold}
-use Rattle.aead.proofs.Extents.{all_told, all_stopped_told}
+use Rattle.aead.specs.SealSivStream.{IfBothKnown}
+use Rattle.aead.proofs.Extents.{all_known, all_stopped_known}
 use Rattle.aead.proofs.SealExits.{told}
 
 -- ---- the second reading
 
 -- what was given and is held of it
-again_told : {M : Type 0} (holds : M → Task → List ℕ → Type 0) (s : Setting) (a b : List ℕ) (len : ℕ)
+again_known : {M : Type 0} (holds : M → Task → List ℕ → Type 0) (s : Setting) (a b : List ℕ) (len : ℕ)
     (l' o o' : Option (List ℕ)) (k : M) (e : Option ℕ) → len ≡ length a
-    → WentAll holds (repeating_task s a) len (Some b) l' o o' k e
+    → HasPassedAll holds (repeating_task s a) len (Some b) l' o o' k e
     → Appends o o' (again s a b) × holds k (repeating_task s a) (take (length a) b)
-again_told holds s a b len l' o o' k e same w =
-    let t = all_told holds (repeating_task s a) len b l' o o' k e w in
+again_known holds s a b len l' o o' k e same w =
+    let t = all_known holds (repeating_task s a) len b l' o o' k e w in
     let P : ℕ → Type 0 = λ n. Appends o o' (masked (mask_of s (tag_of s a)) 0 (take n b)) in
     let Q : ℕ → Type 0 = λ n. holds k (repeating_task s a) (take n b) in
     (subst P same t.0, subst Q same t.1)
@@ -45,9 +45,9 @@ again_told holds s a b len l' o o' k e same w =
 -- where its length is within the first one's, it is held whole
 whole_again : {M : Type 0} (holds : M → Task → List ℕ → Type 0) (s : Setting) (a b : List ℕ)
     (len n : ℕ) (l' o o' : Option (List ℕ)) (k : M) → len ≡ length a
-    → WentAll holds (repeating_task s a) len (Some b) l' o o' k (Some n) → take (length a) b ≡ b
+    → HasPassedAll holds (repeating_task s a) len (Some b) l' o o' k (Some n) → take (length a) b ≡ b
 whole_again holds s a b len n l' o o' k same w =
-    let t = all_told holds (repeating_task s a) len b l' o o' k (Some n) w in
+    let t = all_known holds (repeating_task s a) len b l' o o' k (Some n) w in
     take_all (length a) b (omega (arith, t.2.0, t.2.1, same))
 
 -- a device failed before the tag
@@ -59,7 +59,7 @@ pub again_stopped : (s : Setting) (a b : List ℕ) (len read read' wrote wrote' 
     → WritesAgain s a b o o' read read' wrote wrote' (Err f)
 again_stopped s a b len read read' wrote wrote' l' o o' f same stop blame =
     let m : ℕ → ℕ = mask_of s (tag_of s a) in
-    let k = all_stopped_told (repeating_task s a) len b l' o o' stop in
+    let k = all_stopped_known (repeating_task s a) len b l' o o' stop in
     let P : List ℕ → Type 0 = λ x. Appends o o' x in
     let front : take k.0 (masked m 0 b) ≡ take k.0 (again s a b) =
     take-masked m k.0 0 b ∙ ap (λ x. masked m 0 x)
@@ -74,14 +74,14 @@ again_stopped s a b len read read' wrote wrote' l' o o' f same stop blame =
 -- it is longer than the first one
 pub again_long : {M : Type 0} (holds : M → Task → List ℕ → Type 0) (s : Setting) (a b : List ℕ)
     (len read read' wrote wrote' : ℕ) (l' o o' : Option (List ℕ)) (k : M) → len ≡ length a
-    → WentAll holds (repeating_task s a) len (Some b) l' o o' k None → (read' ≡ read) × (wrote' ≡ wrote)
+    → HasPassedAll holds (repeating_task s a) len (Some b) l' o o' k None → (read' ≡ read) × (wrote' ≡ wrote)
     → WritesAgain s a b o o' read read' wrote wrote' (Err SourceChanged)
 again_long holds s a b len read read' wrote wrote' l' o o' k same w kept =
-    let t = all_told holds (repeating_task s a) len b l' o o' k None w in
+    let t = all_known holds (repeating_task s a) len b l' o o' k None w in
     inr (inl (
       refl,
       λ r. omega (arith, r.0, t.2, same),
-      (again_told holds s a b len l' o o' k None same w).0,
+      (again_known holds s a b len l' o o' k None same w).0,
       kept.0,
       kept.1,
     ))
@@ -89,11 +89,11 @@ again_long holds s a b len read read' wrote wrote' l' o o' k same w kept =
 -- it does not repeat the first one
 pub again_differs : {M : Type 0} (holds : M → Task → List ℕ → Type 0) (s : Setting) (a b : List ℕ)
     (len n read read' wrote wrote' : ℕ) (l' o o' : Option (List ℕ)) (k : M) → len ≡ length a
-    → WentAll holds (repeating_task s a) len (Some b) l' o o' k (Some n) → (read' ≡ read) × (wrote' ≡ wrote)
+    → HasPassedAll holds (repeating_task s a) len (Some b) l' o o' k (Some n) → (read' ≡ read) × (wrote' ≡ wrote)
     → ((text : List ℕ) → holds k (repeating_task s a) text → ¬ (Repeats s a text))
     → WritesAgain s a b o o' read read' wrote wrote' (Err SourceChanged)
 again_differs holds s a b len n read read' wrote wrote' l' o o' k same w kept other =
-    let t = again_told holds s a b len l' o o' k (Some n) same w in
+    let t = again_known holds s a b len l' o o' k (Some n) same w in
     let e = whole_again holds s a b len n l' o o' k same w in
     let P : List ℕ → Type 0 = λ x. ¬ (Repeats s a x) in
     inr (inl (refl, subst P e (other (take (length a) b) t.1), t.0, kept.0, kept.1))
@@ -102,14 +102,14 @@ again_differs holds s a b len n read read' wrote wrote' l' o o' k same w kept ot
 pub again_tag : {M : Type 0} (holds : M → Task → List ℕ → Type 0) (s : Setting) (a b tag : List ℕ)
     (len n i read read' wrote wrote' : ℕ) (l' o o' o'' : Option (List ℕ)) (k : M)
     (r : Result (Unit {0}) Fault) → len ≡ length a
-    → WentAll holds (repeating_task s a) len (Some b) l' o o' k (Some n)
+    → HasPassedAll holds (repeating_task s a) len (Some b) l' o o' k (Some n)
     → ((text : List ℕ) → holds k (repeating_task s a) text → Repeats s a text)
     → tag ≡ tag_of s a → Appends o' o'' (take i tag)
     → ((r ≡ Ok tt) × (length tag ≤ i) × (read' ≡ read) × (wrote' ≡ wrote))
     ⊎ ((r ≡ Err Write) × Failed wrote wrote')
     → WritesAgain s a b o o'' read read' wrote wrote' r
 again_tag holds s a b tag len n i read read' wrote wrote' l' o o' o'' k r same w found tag_is more end =
-    let t = again_told holds s a b len l' o o' k (Some n) same w in
+    let t = again_known holds s a b len l' o o' k (Some n) same w in
     let e = whole_again holds s a b len n l' o o' k same w in
     let P : List ℕ → Type 0 = λ x. Repeats s a x in
     let repeats = subst P e (found (take (length a) b) t.1) in
@@ -123,14 +123,14 @@ again_tag holds s a b tag len n i read read' wrote wrote' l' o o' o'' k r same w
 -- ---- both readings
 
 -- where all three tell their bytes
-where_both_told : (la lb o o' : Option (List ℕ)) (A B : List ℕ → Type 0)
+if_both_known : (la lb o o' : Option (List ℕ)) (A B : List ℕ → Type 0)
     (Q : List ℕ → List ℕ → List ℕ → Type 0) → IfSome la A → IfSome lb B
     → ((a b : List ℕ) → A a → B b → (given : List ℕ) × Appends o o' given × Q a b given)
-    → WhereBothTold la lb o o' Q
-where_both_told None lb o o' A B Q p q f = tt
-where_both_told (Some a) None o o' A B Q p q f = tt
-where_both_told (Some a) (Some b) None o' A B Q p q f = tt
-where_both_told (Some a) (Some b) (Some y) o' A B Q p q f = f a b p q
+    → IfBothKnown la lb o o' Q
+if_both_known None lb o o' A B Q p q f = tt
+if_both_known (Some a) None o o' A B Q p q f = tt
+if_both_known (Some a) (Some b) None o' A B Q p q f = tt
+if_both_known (Some a) (Some b) (Some y) o' A B Q p q f = f a b p q
 
 -- nothing is asked
 any_bytes : (l : Option (List ℕ)) → IfSome l (λ _. Unit {0})
@@ -138,12 +138,12 @@ any_bytes None = tt
 any_bytes (Some x) = tt
 
 -- the first reading, where it tells its bytes
-absorbed_told : {H : Type 0} (held : H → Setting → List ℕ → Type 0) (s : Setting) (room : ℕ) (a : List ℕ)
+absorbed_known : {H : Type 0} (held : H → Setting → List ℕ → Type 0) (s : Setting) (room : ℕ) (a : List ℕ)
     (l' : Option (List ℕ)) (after : Authenticator H) (all : Bool)
     → AbsorbedAll held s room (Some a) l' after all
     → (all ≡ true → HoldsAuthenticator held after s a) × (all ≡ false → room < length a)
-absorbed_told held s room a None after all w = absurd w.consumed
-absorbed_told held s room a (Some rest) after all w =
+absorbed_known held s room a None after all w = absurd w.consumed
+absorbed_known held s room a (Some rest) after all w =
     let P : List ℕ → Type 0 = λ x. HoldsAuthenticator held after s x in (
       λ e. let h = w.held_all e in
           subst P (sym (w.consumed ∙ ap (λ y. w.bytes ++ y) h.1 ∙ append-nil w.bytes)) h.0,
@@ -182,9 +182,9 @@ nothing s a b before after f answer =
 
 pub exit_refused : (la lb o : Option (List ℕ)) (s : Setting) (before : SivCounts) (f : Fault)
     → SealRefused s [] f
-    → WhereBothTold la lb o o (λ a b given. SealsSivStream s a b given before before (Err f))
+    → IfBothKnown la lb o o (λ a b given. SealsSivStream s a b given before before (Err f))
 exit_refused la lb o s before f h =
-    where_both_told la lb o o (λ _. Unit {0}) (λ _. Unit {0}) _ (any_bytes la) (any_bytes lb)
+    if_both_known la lb o o (λ _. Unit {0}) (λ _. Unit {0}) _ (any_bytes la) (any_bytes lb)
     (λ a b _ _. (
       [],
       appends_none o,
@@ -193,11 +193,11 @@ exit_refused la lb o s before f h =
 
 pub exit_first : (la lb o : Option (List ℕ)) (s : Setting) (x x' y z : ℕ) (f : Fault)
     → (f ≡ Read) × Failed x x'
-    → WhereBothTold la lb o o
+    → IfBothKnown la lb o o
     (λ a b given. SealsSivStream s a b given (record { first = x; second = y; outlet = z })
     (record { first = x'; second = y; outlet = z }) (Err f))
 exit_first la lb o s x x' y z f failed =
-    where_both_told la lb o o (λ _. Unit {0}) (λ _. Unit {0}) _ (any_bytes la) (any_bytes lb)
+    if_both_known la lb o o (λ _. Unit {0}) (λ _. Unit {0}) _ (any_bytes la) (any_bytes lb)
     (λ a b _ _. (
       [],
       appends_none o,
@@ -209,16 +209,16 @@ pub exit_long : {H : Type 0} (held : H → Setting → List ℕ → Type 0) (la 
     (s : Setting) (after : Authenticator H) (room x x' y z : ℕ)
     → room ≡ text_limit s.suite → length s.aad ≤ aad_limit s.suite
     → x' ≡ x → AbsorbedAll held s room la l' after false
-    → WhereBothTold la lb o o
+    → IfBothKnown la lb o o
     (λ a b given. SealsSivStream s a b given (record { first = x; second = y; outlet = z })
     (record { first = x'; second = y; outlet = z }) (Err TextTooLong))
 exit_long held la lb o l' s after room x x' y z same fits kept w =
     let counts : ℕ → SivCounts = λ n. record { first = n; second = y; outlet = z } in
-    where_both_told la lb o o _ (λ _. Unit {0}) _ (told la (λ m. AbsorbedAll held s room m l' after false) w)
+    if_both_known la lb o o _ (λ _. Unit {0}) _ (told la (λ m. AbsorbedAll held s room m l' after false) w)
     (any_bytes lb)
     (λ a b t _.
     let past : text_limit s.suite < length a =
-    omega (arith, (absorbed_told held s room a l' after false t).1 refl, same) in (
+    omega (arith, (absorbed_known held s room a l' after false t).1 refl, same) in (
       [],
       appends_none o,
       nothing s a b (counts x) (counts x') TextTooLong
@@ -294,13 +294,13 @@ pub exit_second : {H : Type 0} (held : H → Setting → List ℕ → Type 0) (l
     (s : Setting) (after : Authenticator H) (room x x' y y' z z' : ℕ) (r : Result (Unit {0}) Fault)
     → x' ≡ x → AbsorbedAll held s room la l' after true
     → ((a : List ℕ) → HoldsAuthenticator held after s a → IfSome lb (λ b. WritesAgain s a b o o' y y' z z' r))
-    → WhereBothTold la lb o o'
+    → IfBothKnown la lb o o'
     (λ a b given. SealsSivStream s a b given (record { first = x; second = y; outlet = z })
     (record { first = x'; second = y'; outlet = z' }) r)
 exit_second held None lb o o' l' s after room x x' y y' z z' r kept w f = tt
 exit_second held (Some a) lb o o' l' s after room x x' y y' z z' r kept w f =
-    let h = (absorbed_told held s room a l' after true w).0 refl in
-    where_both_told (Some a) lb o o' (λ m. m ≡ a) (λ b. WritesAgain s a b o o' y y' z z' r) _ refl (f a h)
+    let h = (absorbed_known held s room a l' after true w).0 refl in
+    if_both_known (Some a) lb o o' (λ m. m ≡ a) (λ b. WritesAgain s a b o o' y y' z z' r) _ refl (f a h)
     (λ m b e t.
     let P : List ℕ → Type 0 =
     λ q. (given : List ℕ) × Appends o o' given

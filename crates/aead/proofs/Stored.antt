@@ -20,7 +20,7 @@ use Rattle.aead.specs.Sealing.{Setting, Fits, mask_of}
 use Rattle.aead.specs.Exports.{HasLengths}
 use Rattle.aead.specs.Code.Masks.{none_leaves}
 use Rattle.aead.specs.Stored.{sealer_mark, IsPolySum, IsGhashSum, HoldsBy, HoldsOf, HoldsBytes, HoldsText}
-use Rattle.aead.specs.Stored.{IsSumOf, IsPolyvalSum, HasKeys, HoldsTaken, HoldsSealedBy, cipher_key}
+use Rattle.aead.specs.Stored.{IsSumOf, IsPolyvalSum, HasKeys, HoldsSivText, HoldsSealedBy, cipher_key}
 use Rattle.aead.proofs.Fed.{whole_padded}
 
 -- a struct before any piece, with this sum
@@ -146,11 +146,11 @@ sealed_one_pass ByGcmSiv p s tag bytes one h = absurd (true≢false (sym one))
 
 -- and under AES-GCM-SIV the text
 pub siv_sealed : (by : Construction) (p : StoredSealer) (s : Setting) (tag bytes : List ℕ) → by ≡ ByGcmSiv
-    → HoldsTaken p s (masked (mask_of s tag) 0 bytes) → HoldsSealedBy by p s tag bytes
+    → HoldsSivText p s (masked (mask_of s tag) 0 bytes) → HoldsSealedBy by p s tag bytes
 siv_sealed by p s tag bytes is h = subst (λ x. HoldsSealedBy x p s tag bytes) (sym is) h
 
 pub sealed_siv : (by : Construction) (p : StoredSealer) (s : Setting) (tag bytes : List ℕ) → by ≡ ByGcmSiv
-    → HoldsSealedBy by p s tag bytes → HoldsTaken p s (masked (mask_of s tag) 0 bytes)
+    → HoldsSealedBy by p s tag bytes → HoldsSivText p s (masked (mask_of s tag) 0 bytes)
 sealed_siv by p s tag bytes is h = subst (λ x. HoldsSealedBy x p s tag bytes) is h
 
 -- a beginning of one construction is one of any
@@ -160,9 +160,9 @@ begun_as (Ok p) P Q R f h = f p h
 begun_as (Err e) P Q R f h = h
 
 pub begun_none : (p : StoredSealer) (s : Setting) (tag : List ℕ) → construction_of s.suite ≡ ByGcmSiv
-    → HoldsTaken p s [] → HoldsSealedBy (construction_of s.suite) p s tag []
+    → HoldsSivText p s [] → HoldsSealedBy (construction_of s.suite) p s tag []
 begun_none p s tag is h =
-    siv_sealed (construction_of s.suite) p s tag [] is (subst (HoldsTaken p s) (sym (none_leaves (mask_of s tag))) h)
+    siv_sealed (construction_of s.suite) p s tag [] is (subst (HoldsSivText p s) (sym (none_leaves (mask_of s tag))) h)
 
 -- the sum over the padded associated data is that of the empty ciphertext
 pub start_of : (by : Construction) (p : StoredSealer) (s : Setting) (tag : List ℕ) → HoldsSealedBy by p s tag []
@@ -205,5 +205,5 @@ pub restarted : (by : Construction) (p : StoredSealer) (n : StoredSum) (s : Sett
 restarted ByChaCha p n s tag bytes h start = restarted_by _ _ _ p n s bytes h start
 restarted ByGcm p n s tag bytes h start = restarted_by _ _ _ p n s bytes h start
 restarted ByGcmSiv p n s tag bytes h start =
-    subst (HoldsTaken (restart p n) s) (sym (none_leaves (mask_of s tag)))
+    subst (HoldsSivText (restart p n) s) (sym (none_leaves (mask_of s tag)))
     (restarted_by _ _ _ p n s (masked (mask_of s tag) 0 bytes) h start)

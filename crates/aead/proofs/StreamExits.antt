@@ -18,9 +18,9 @@ use Rattle.aead.specs.Sealing.{Setting, Opened, IsSealing, mask_of}
 use Rattle.aead.specs.Refusals.{FitsSealed}
 use Rattle.aead.specs.Measure.{last_16}
 use Rattle.aead.specs.Code.Findings.{IsFinding}
-use Rattle.aead.specs.Code.Told.{MeasureTold, VerifyTold, WriteTold, verify_answer, write_answer}
+use Rattle.aead.specs.Code.Returns.{MeasureReturns, VerifyReturns, WriteReturns, verify_answer, write_answer}
 use Rattle.aead.specs.Verdict.{Agrees, OnlyWriteDiffers, Verdict, shown, FailureCounts, OpensStream}
-use Rattle.aead.specs.Verdict.{WhereTold}
+use Rattle.aead.specs.Verdict.{IfAllKnown}
 
 -- ---- agreeing, as it is tested
 
@@ -41,16 +41,16 @@ shown_is s m w fits = rw (le-leb (length m) (text_limit s.suite + 16) fits) refl
 
 -- ---- the devices that tell their bytes
 
-pub where_told : (lm lv lw o o' : Option (List ℕ)) (A B C : List ℕ → Type 0)
+pub if_known : (lm lv lw o o' : Option (List ℕ)) (A B C : List ℕ → Type 0)
     (Q : List ℕ → List ℕ → List ℕ → List ℕ → Type 0) →
     IfSome lm A → IfSome lv B → IfSome lw C →
     ((m v w : List ℕ) → A m → B v → C w → (given : List ℕ) × Appends o o' given × Q m v w given)
-    → WhereTold lm lv lw o o' Q
-where_told None lv lw o o' A B C Q a b d f = tt
-where_told (Some m) None lw o o' A B C Q a b d f = tt
-where_told (Some m) (Some v) None o o' A B C Q a b d f = tt
-where_told (Some m) (Some v) (Some w) None o' A B C Q a b d f = tt
-where_told (Some m) (Some v) (Some w) (Some x) o' A B C Q a b d f = f m v w a b d
+    → IfAllKnown lm lv lw o o' Q
+if_known None lv lw o o' A B C Q a b d f = tt
+if_known (Some m) None lw o o' A B C Q a b d f = tt
+if_known (Some m) (Some v) None o o' A B C Q a b d f = tt
+if_known (Some m) (Some v) (Some w) None o' A B C Q a b d f = tt
+if_known (Some m) (Some v) (Some w) (Some x) o' A B C Q a b d f = f m v w a b d
 
 -- nothing is asked
 pub any_bytes : (l : Option (List ℕ)) → IfSome l (λ _. Unit {0})
@@ -91,7 +91,7 @@ opens_aad s m v w before a =
 
 -- the measure reading is refused
 opens_measure : (s : Setting) (m v w : List ℕ) (x x' y z u : ℕ) (f : Fault)
-    → length s.aad ≤ aad_limit s.suite → MeasureTold (text_limit s.suite) m x x' (Err f) →
+    → length s.aad ≤ aad_limit s.suite → MeasureReturns (text_limit s.suite) m x x' (Err f) →
     OpensStream s m v w [] (record { measure = x; verify = y; write = z; outlet = u })
     (record { measure = x'; verify = y; write = z; outlet = u }) (Err f)
 opens_measure s m v w x x' y z u f a told =
@@ -113,18 +113,18 @@ opens_measure s m v w x x' y z u f a told =
 -- the steps' length and tag are the measured ones
 verify_at : (s : Setting) (m v tag : List ℕ) (len y y' : ℕ) (r : Result (Unit {0}) Fault) → len ≡ length m
     → tag ≡ last_16 m →
-    VerifyTold s tag len v y y' r → VerifyTold s (last_16 m) (length m) v y y' r
+    VerifyReturns s tag len v y y' r → VerifyReturns s (last_16 m) (length m) v y y' r
 verify_at s m v tag len y y' r e t told =
-    let P : ℕ → Type 0 = λ n. VerifyTold s (last_16 m) n v y y' r in
-    let Q : List ℕ → Type 0 = λ x. VerifyTold s x len v y y' r in
+    let P : ℕ → Type 0 = λ n. VerifyReturns s (last_16 m) n v y y' r in
+    let Q : List ℕ → Type 0 = λ x. VerifyReturns s x len v y y' r in
     subst P e (subst Q t told)
 
 write_at : (s : Setting) (m w tag : List ℕ) (o o' : Option (List ℕ)) (len z z' u u' : ℕ)
     (r : Result (Unit {0}) Fault) → len ≡ length m → tag ≡ last_16 m →
-    WriteTold s tag len w o o' z z' u u' r → WriteTold s (last_16 m) (length m) w o o' z z' u u' r
+    WriteReturns s tag len w o o' z z' u u' r → WriteReturns s (last_16 m) (length m) w o o' z z' u u' r
 write_at s m w tag o o' len z z' u u' r e d told =
-    let P : ℕ → Type 0 = λ n. WriteTold s (last_16 m) n w o o' z z' u u' r in
-    let Q : List ℕ → Type 0 = λ x. WriteTold s x len w o o' z z' u u' r in
+    let P : ℕ → Type 0 = λ n. WriteReturns s (last_16 m) n w o o' z z' u u' r in
+    let Q : List ℕ → Type 0 = λ x. WriteReturns s x len w o o' z z' u u' r in
     subst P e (subst Q d told)
 
 -- the verify reading is refused by what was found of it
@@ -147,7 +147,7 @@ refused_by s m v w f Unsealed fits e h =
 refused_by s m v w f Sealed fits e h = absurd (cc)
 
 opens_verify : (s : Setting) (m v w : List ℕ) (x x' y y' z u : ℕ) (f : Fault) → FitsSealed s m → x' ≡ x →
-    VerifyTold s (last_16 m) (length m) v y y' (Err f) →
+    VerifyReturns s (last_16 m) (length m) v y y' (Err f) →
     OpensStream s m v w [] (record { measure = x; verify = y; write = z; outlet = u })
     (record { measure = x'; verify = y'; write = z; outlet = u }) (Err f)
 opens_verify s m v w x x' y y' z u f fits kept told =
@@ -194,7 +194,7 @@ written s m v w r Sealed fits ver e h =
 
 opens_written : (s : Setting) (m v w : List ℕ) (o o' : Option (List ℕ)) (x x' y y' z z' u u' : ℕ)
     (r : Result (Unit {0}) Fault) → FitsSealed s m →
-    x' ≡ x → y' ≡ y → Agrees m v × IsSealing s v → WriteTold s (last_16 m) (length m) w o o' z z' u u' r →
+    x' ≡ x → y' ≡ y → Agrees m v × IsSealing s v → WriteReturns s (last_16 m) (length m) w o o' z z' u u' r →
     (given : List ℕ) × Appends o o' given
     × OpensStream s m v w given (record { measure = x; verify = y; write = z; outlet = u })
     (record { measure = x'; verify = y'; write = z'; outlet = u' }) r
@@ -235,36 +235,36 @@ opens_written s m v w o o' x x' y y' z z' u u' r fits kept_x kept_y ver told =
 
 pub exit_aad : (lm lv lw o : Option (List ℕ)) (s : Setting) (before : FailureCounts)
     → aad_limit s.suite < length s.aad →
-    WhereTold lm lv lw o o (λ m v w given. OpensStream s m v w given before before (Err AadTooLong))
+    IfAllKnown lm lv lw o o (λ m v w given. OpensStream s m v w given before before (Err AadTooLong))
 exit_aad lm lv lw o s before a =
-    where_told lm lv lw o o (λ _. Unit {0}) (λ _. Unit {0}) (λ _. Unit {0}) _ (any_bytes lm) (any_bytes lv)
+    if_known lm lv lw o o (λ _. Unit {0}) (λ _. Unit {0}) (λ _. Unit {0}) _ (any_bytes lm) (any_bytes lv)
     (any_bytes lw)
     (λ m v w _ _ _. ([], appends_none o, opens_aad s m v w before a))
 
 pub exit_measure : (lm lv lw o : Option (List ℕ)) (s : Setting) (x x' y z u : ℕ) (f : Fault)
     → length s.aad ≤ aad_limit s.suite →
-    IfSome lm (λ m. MeasureTold (text_limit s.suite) m x x' (Err f)) →
-    WhereTold lm lv lw o o (λ m v w given.
+    IfSome lm (λ m. MeasureReturns (text_limit s.suite) m x x' (Err f)) →
+    IfAllKnown lm lv lw o o (λ m v w given.
     OpensStream s m v w given (record { measure = x; verify = y; write = z; outlet = u })
     (record { measure = x'; verify = y; write = z; outlet = u }) (Err f))
 exit_measure lm lv lw o s x x' y z u f a told =
-    where_told lm lv lw o o _ (λ _. Unit {0}) (λ _. Unit {0}) _ told (any_bytes lv) (any_bytes lw)
+    if_known lm lv lw o o _ (λ _. Unit {0}) (λ _. Unit {0}) _ told (any_bytes lv) (any_bytes lw)
     (λ m v w p _ _. ([], appends_none o, opens_measure s m v w x x' y z u f a p))
 
 -- a measured reading has a length of sealed bytes
 fits_measured : (s : Setting) (m : List ℕ) (x x' : ℕ) (a : Measured) → length s.aad ≤ aad_limit s.suite
-    → MeasureTold (text_limit s.suite) m x x' (Ok a) → FitsSealed s m
+    → MeasureReturns (text_limit s.suite) m x x' (Ok a) → FitsSealed s m
 fits_measured s m x x' a fits told = record { aad_fits = fits; long = told.2; text_fits = told.3 }
 
 pub exit_verify : (lm lv lw o : Option (List ℕ)) (s : Setting) (a : Measured) (x x' y y' z u : ℕ) (f : Fault)
     → length s.aad ≤ aad_limit s.suite →
-    IfSome lm (λ m. MeasureTold (text_limit s.suite) m x x' (Ok a)) →
-    IfSome lv (λ v. VerifyTold s a.tag a.length v y y' (Err f)) →
-    WhereTold lm lv lw o o (λ m v w given.
+    IfSome lm (λ m. MeasureReturns (text_limit s.suite) m x x' (Ok a)) →
+    IfSome lv (λ v. VerifyReturns s a.tag a.length v y y' (Err f)) →
+    IfAllKnown lm lv lw o o (λ m v w given.
     OpensStream s m v w given (record { measure = x; verify = y; write = z; outlet = u })
     (record { measure = x'; verify = y'; write = z; outlet = u }) (Err f))
 exit_verify lm lv lw o s a x x' y y' z u f fits told_m told_v =
-    where_told lm lv lw o o _ _ (λ _. Unit {0}) _ told_m told_v (any_bytes lw)
+    if_known lm lv lw o o _ _ (λ _. Unit {0}) _ told_m told_v (any_bytes lw)
     (λ m v w p q _. (
       [],
       appends_none o,
@@ -274,14 +274,14 @@ exit_verify lm lv lw o s a x x' y y' z u f fits told_m told_v =
 
 pub exit_write : (lm lv lw o o' : Option (List ℕ)) (s : Setting) (a : Measured) (x x' y y' z z' u u' : ℕ)
     (r : Result (Unit {0}) Fault) → length s.aad ≤ aad_limit s.suite →
-    IfSome lm (λ m. MeasureTold (text_limit s.suite) m x x' (Ok a)) →
-    IfSome lv (λ v. VerifyTold s a.tag a.length v y y' (Ok tt)) →
-    IfSome lw (λ w. WriteTold s a.tag a.length w o o' z z' u u' r) →
-    WhereTold lm lv lw o o' (λ m v w given.
+    IfSome lm (λ m. MeasureReturns (text_limit s.suite) m x x' (Ok a)) →
+    IfSome lv (λ v. VerifyReturns s a.tag a.length v y y' (Ok tt)) →
+    IfSome lw (λ w. WriteReturns s a.tag a.length w o o' z z' u u' r) →
+    IfAllKnown lm lv lw o o' (λ m v w given.
     OpensStream s m v w given (record { measure = x; verify = y; write = z; outlet = u })
     (record { measure = x'; verify = y'; write = z'; outlet = u' }) r)
 exit_write lm lv lw o o' s a x x' y y' z z' u u' r fits told_m told_v told_w =
-    where_told lm lv lw o o' _ _ _ _ told_m told_v told_w
+    if_known lm lv lw o o' _ _ _ _ told_m told_v told_w
     (λ m v w p q t.
     let f : FitsSealed s m = fits_measured s m x x' a fits p in
     elim (verify_at s m v a.tag a.length y y' (Ok tt) p.0 p.1 q) [

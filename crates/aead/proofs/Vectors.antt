@@ -102,7 +102,7 @@ both_are : sealing (record { suite = ChaCha20Poly1305; key = key; nonce = nonce;
 unfolding sealing tag_of mask mask_by
 both_are = ap₂ (λ c t. c ++ t) ciphertext_is tag_is
 
--- the same, written out
+-- the sealing, written out
 pub one_sealing : sealing
     (record {
       suite = ChaCha20Poly1305;

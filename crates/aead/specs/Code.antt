@@ -5,9 +5,9 @@ pub mod Maskings
 pub mod AnyMaskings
 pub mod Absorbed
 pub mod Masks
-pub mod Begun
+pub mod Buffered
 pub mod Extents
 pub mod Findings
 pub mod Passes
-pub mod Told
+pub mod Returns
 pub mod Steps

@@ -29,7 +29,7 @@ abbrev pub Encrypted : Cutting → Setting → List ℕ → List ℕ → Type 0
 Encrypted (OnePass sealer) s text done = HoldsSealer sealer s done
 Encrypted (Siv writer tag) s text done = HoldsWriter writer s text done × (tag ≡ tag_of s text)
 
--- the same, and the text is within the limits
+-- a state that encrypts a text within the limits has encrypted these bytes of it
 pub record Encrypts (c : Cutting) (s : Setting) (text done : List ℕ) : Type 0 where
   pub fits : Fits s text
   pub encrypted : Encrypted c s text done

@@ -16,8 +16,8 @@ use Rattle.aead.specs.Verdict.{IsBeginning}
 abbrev pub again : Setting → List ℕ → List ℕ → List ℕ
 again s a b = masked (mask_of s (tag_of s a)) 0 (take (length a) b)
 
--- what the second reading b gives after the first one a: all and the tag, all where it differs, or a
--- beginning where a device failed
+-- the bytes given of the second reading b after the first one a: all and the tag, all if it differs, or a
+-- beginning if a device failed
 abbrev pub WritesAgain : Setting → List ℕ → List ℕ → Option (List ℕ) → Option (List ℕ) → ℕ → ℕ → ℕ → ℕ
     → Result (Unit {0}) Fault → Type 0
 WritesAgain s a b taken taken' read read' wrote wrote' r =
@@ -49,12 +49,12 @@ SivBlames own before after r =
     DueTo own (after ≡ before) (Failed before.first after.first ⊎ Failed before.second after.second)
     (Failed before.outlet after.outlet) r
 
--- what was given of the second reading b after the first one a, and the result
+-- the bytes given of the second reading b after the first one a, and the result
 pub record SealsSivStream (s : Setting) (a b given : List ℕ) (before after : SivCounts)
     (r : Result (Unit {0}) Fault) : Type 0 where
   -- nothing is given where the associated data or the first reading is past its limit
   pub early : (aad_limit s.suite < length s.aad) ⊎ (text_limit s.suite < length a) → given ≡ []
-  -- what was given is a beginning of the ciphertext, and of the tag after it only where the second
+  -- the bytes given are a beginning of the ciphertext, and of the tag after it only if the second
   -- reading repeats the first
   pub beginning : IsBeginning given (again s a b)
       ⊎ (Repeats s a b × IsBeginning given (again s a b ++ tag_of s a))
@@ -65,9 +65,9 @@ pub record SealsSivStream (s : Setting) (a b given : List ℕ) (before after : S
       ⊎ ((r ≡ Err Read) × (Failed before.first after.first ⊎ Failed before.second after.second))
       ⊎ ((r ≡ Err Write) × Failed before.outlet after.outlet)
 
--- where both readings and the outlet tell their bytes: P of these and of what was given
-abbrev pub WhereBothTold : Option (List ℕ) → Option (List ℕ) → Option (List ℕ) → Option (List ℕ)
+-- if the bytes of both readings and of the outlet are known: P of the readings' bytes and of those given
+abbrev pub IfBothKnown : Option (List ℕ) → Option (List ℕ) → Option (List ℕ) → Option (List ℕ)
     → (List ℕ → List ℕ → List ℕ → Type 0) → Type 0
-WhereBothTold first second taken taken' P =
+IfBothKnown first second taken taken' P =
     IfSome first (λ a. IfSome second
     (λ b. IfSome taken (λ before. (given : List ℕ) × Appends (Some before) taken' given × P a b given)))

@@ -11,7 +11,7 @@ use Rattle.aead.specs.Sealing.{Setting, Fits, mask_of, tag_of, sealing}
 use Rattle.aead.specs.Refusals.{SealRefused, DueTo}
 use Rattle.aead.specs.Verdict.{IsBeginning}
 
--- what may be given of a text whose tag is over the ciphertext: its sealing, or where it is past the
+-- the bytes that may be given of a text whose tag is over the ciphertext: its sealing, or if the text is past the
 -- limit, the ciphertext of its first bytes up to the limit
 unfoldable pub may_seal : Setting → List ℕ → List ℕ
 may_seal s x =
@@ -23,12 +23,12 @@ may_seal s x =
 abbrev pub SealVerdict : Setting → List ℕ → Result (Unit {0}) Fault → Type 0
 SealVerdict s x r = MatchResult r (λ _. Fits s x) (λ e. SealRefused s x e)
 
--- what was given of a text, and the result
+-- the bytes given of a text, and the result
 pub record SealsStream (s : Setting) (x given : List ℕ) (read read' wrote wrote' : ℕ)
     (r : Result (Unit {0}) Fault) : Type 0 where
   -- nothing is given where the associated data is past its limit
   pub early : aad_limit s.suite < length s.aad → given ≡ []
-  -- what was given is a beginning of what may be given
+  -- the bytes given are a beginning of those that may be given
   pub beginning : IsBeginning given (may_seal s x)
   -- at Ok it is the sealing
   pub whole : r ≡ Ok tt → given ≡ sealing s x
@@ -36,10 +36,10 @@ pub record SealsStream (s : Setting) (x given : List ℕ) (read read' wrote wrot
   pub answer : (SealVerdict s x r × (read' ≡ read) × (wrote' ≡ wrote)) ⊎ ((r ≡ Err Read) × Failed read read')
       ⊎ ((r ≡ Err Write) × Failed wrote wrote')
 
--- where the reading and the outlet tell their bytes: P of these and of what was given
-abbrev pub WhereTextTold : Option (List ℕ) → Option (List ℕ) → Option (List ℕ) → (List ℕ → List ℕ → Type 0)
+-- if the bytes of the reading and of the outlet are known: P of the reading's bytes and of those given
+abbrev pub IfTextKnown : Option (List ℕ) → Option (List ℕ) → Option (List ℕ) → (List ℕ → List ℕ → Type 0)
     → Type 0
-WhereTextTold text taken taken' P =
+IfTextKnown text taken taken' P =
     IfSome text (λ x. IfSome taken
     (λ before. (given : List ℕ) × Appends (Some before) taken' given × P x given))
 

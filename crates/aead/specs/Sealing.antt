@@ -21,7 +21,7 @@ use Rattle.aead.specs.Suites.{Construction, ByChaCha, ByGcm, ByGcmSiv, construct
 unfoldable pub poly_key : List ℕ → List ℕ → List ℕ
 poly_key key nonce = take 32 (block key 0 nonce)
 
--- what is authenticated: the padded data, the padded ciphertext, and their lengths in bytes
+-- the authenticated bytes: the padded data, the padded ciphertext, and their lengths in bytes
 unfoldable pub chacha_authenticated : List ℕ → List ℕ → List ℕ
 chacha_authenticated aad c =
     pad16 aad ++ (pad16 c ++ (to_le_bytes w64 (length aad) ++ to_le_bytes w64 (length c)))
@@ -36,7 +36,7 @@ hash_key key = cipher key (replicate 16 0)
 unfoldable pub j0 : List ℕ → List ℕ
 j0 nonce = nonce ++ (0 ∷ 0 ∷ 0 ∷ 1 ∷ [])
 
--- what is authenticated: the padded data, the padded ciphertext, and their lengths in bits
+-- the authenticated bytes: the padded data, the padded ciphertext, and their lengths in bits
 unfoldable pub gcm_authenticated : List ℕ → List ℕ → List ℕ
 gcm_authenticated aad c =
     pad16 aad ++ (pad16 c ++ (to_be_bytes w64 (8 * length aad) ++ to_be_bytes w64 (8 * length c)))
@@ -55,7 +55,7 @@ authentication_key key nonce = key_part key nonce 0 ++ key_part key nonce 1
 unfoldable pub encryption_key : List ℕ → List ℕ → List ℕ
 encryption_key key nonce = flat_map (λ i. key_part key nonce (2 + i)) (range_with_len 0 (length key / 8))
 
--- what is authenticated: the padded data, the padded text, and their lengths in bits
+-- the authenticated bytes: the padded data, the padded text, and their lengths in bits
 unfoldable pub siv_authenticated : List ℕ → List ℕ → List ℕ
 siv_authenticated aad text =
     pad16 aad ++ (pad16 text ++ (to_le_bytes w64 (8 * length aad) ++ to_le_bytes w64 (8 * length text)))
@@ -102,7 +102,7 @@ tag_over_by ByGcmSiv key nonce aad text =
     cipher (encryption_key key nonce)
     (tag_block (polyval (authentication_key key nonce) (siv_authenticated aad text)) nonce)
 
--- the same by suite
+-- the tag over authenticated bytes, by suite
 unfoldable pub tag_over : Suite → List ℕ → List ℕ → List ℕ → List ℕ → List ℕ
 tag_over suite = tag_over_by (construction_of suite)
 
@@ -113,7 +113,7 @@ tag_by ByChaCha key nonce aad text =
 tag_by ByGcm key nonce aad text = tag_over_by ByGcm key nonce aad (masked (gcm_mask key nonce) 0 text)
 tag_by ByGcmSiv key nonce aad text = tag_over_by ByGcmSiv key nonce aad text
 
--- what all messages under one key, nonce and associated data share
+-- the suite, key, nonce and associated data of a message
 pub record Setting : Type 0 where
   pub suite : Suite
   pub key : List ℕ

@@ -127,15 +127,15 @@ abbrev pub HoldsText : StoredSealer → Setting → List ℕ → Type 0
 HoldsText p s text = (tag : List ℕ) → HoldsBytes p s (masked (mask_of s tag) 0 text)
 
 -- p has taken in this text under AES-GCM-SIV
-abbrev pub HoldsTaken : StoredSealer → Setting → List ℕ → Type 0
-HoldsTaken p s text = HoldsBy ByGcmSiv IsPolyvalKey IsPolyvalSum p s text
+abbrev pub HoldsSivText : StoredSealer → Setting → List ℕ → Type 0
+HoldsSivText p s text = HoldsBy ByGcmSiv IsPolyvalKey IsPolyvalSum p s text
 
 -- p has taken in what is authenticated of this ciphertext under a tag: itself, or for AES-GCM-SIV the text to which
 -- the tag's mask decrypts it
 abbrev pub HoldsSealedBy : Construction → StoredSealer → Setting → (tag bytes : List ℕ) → Type 0
 HoldsSealedBy ByChaCha p s tag bytes = HoldsOf ByChaCha p s bytes
 HoldsSealedBy ByGcm p s tag bytes = HoldsOf ByGcm p s bytes
-HoldsSealedBy ByGcmSiv p s tag bytes = HoldsTaken p s (masked (mask_of s tag) 0 bytes)
+HoldsSealedBy ByGcmSiv p s tag bytes = HoldsSivText p s (masked (mask_of s tag) 0 bytes)
 
 abbrev pub HoldsSealed : StoredSealer → Setting → (tag bytes : List ℕ) → Type 0
 HoldsSealed p s tag bytes = HoldsSealedBy (construction_of s.suite) p s tag bytes

@@ -11,7 +11,7 @@ use Rattle.aead.specs.Sealing.{Setting, mask_of, tag_of}
 use Rattle.aead.specs.Refusals.{SealRefused}
 use Rattle.aead.specs.Exports.{suite_number}
 use Rattle.aead.specs.Pieces.{Repeats}
-use Rattle.aead.specs.Stored.{IsPolyvalSum, HoldsTaken}
+use Rattle.aead.specs.Stored.{IsPolyvalSum, HoldsSivText}
 
 -- the kind of struct in the first reading, to which its mark adds the suite's number: `sivone` in ASCII, and the
 -- version of the layout
@@ -29,7 +29,7 @@ NotIn kind p = (suite : Suite) → construction_of suite ≡ ByGcmSiv → p.mark
 -- p is in a reading, and has taken in this text of it
 pub record HoldsReading (kind : ℕ) (p : StoredPasses) (s : Setting) (text : List ℕ) : Type 0 where
   pub mark_is : p.mark ≡ kind + suite_number s.suite
-  pub state : HoldsTaken p.state s text
+  pub state : HoldsSivText p.state s text
   pub start : IsPolyvalSum p.start s (pad16 s.aad)
 
 -- p is in the first reading, and has taken in this text

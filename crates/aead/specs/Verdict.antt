@@ -20,8 +20,8 @@ Agrees m x = (length x ≡ length m) × (last_16 x ≡ last_16 m)
 abbrev pub OnlyWriteDiffers : Setting → List ℕ → List ℕ → List ℕ → Type 0
 OnlyWriteDiffers s m v w = Agrees m v × IsSealing s v × ¬ (Agrees m w × IsSealing s w)
 
--- what the measure, verify and write readings m, v and w fix as the result: each fault with its case, in
--- this order
+-- the result that the measure, verify and write readings m, v and w fix: each fault with its case, in this
+-- order
 abbrev pub Verdict : Setting → List ℕ → List ℕ → List ℕ → Result (Unit {0}) Fault → Type 0
 Verdict s m v w (Err AadTooLong) = aad_limit s.suite < length s.aad
 Verdict s m v w (Err TextTooLong) = (length s.aad ≤ aad_limit s.suite) × (text_limit s.suite + 16 < length m)
@@ -31,7 +31,7 @@ Verdict s m v w (Err SourceChanged) = FitsSealed s m × (¬ (Agrees m v) ⊎ Onl
 Verdict s m v w (Err _) = ⊥
 Verdict s m v w (Ok _) = FitsSealed s m × Agrees m v × IsSealing s v × Agrees m w × IsSealing s w
 
--- what may be given: the body of the write reading, decrypted under the measured tag
+-- the bytes that may be given: the body of the write reading, decrypted under the measured tag
 unfoldable pub shown : Setting → List ℕ → List ℕ → List ℕ
 shown s m w =
     if nat_le (length m) (text_limit s.suite + 16)
@@ -62,13 +62,13 @@ BlamesRightly before after r =
     ⊎ Failed before.write after.write)
     (Failed before.outlet after.outlet) r
 
--- what was given, and the result, where three readings and an outlet tell their bytes
+-- the bytes given, and the result, if the bytes of three readings and of an outlet are known
 pub record OpensStream (s : Setting) (m v w given : List ℕ) (before after : FailureCounts)
     (r : Result (Unit {0}) Fault) : Type 0 where
   -- nothing is given before the verify reading was found to be a sealing that agrees with the measured one
   pub early : given ≢ [] → Agrees m v × IsSealing s v × (after.measure ≡ before.measure)
       × (after.verify ≡ before.verify)
-  -- what was given is a beginning of what may be given
+  -- the bytes given are a beginning of those that may be given
   pub beginning : IsBeginning given (shown s m w)
   -- and all of it at Ok, and where only the write reading differs
   pub whole : (r ≡ Ok tt) ⊎ ((r ≡ Err SourceChanged) × OnlyWriteDiffers s m v w) → given ≡ shown s m w
@@ -80,15 +80,15 @@ pub record OpensStream (s : Setting) (m v w given : List ℕ) (before after : Fa
       ⊎ Failed before.write after.write))
       ⊎ ((r ≡ Err Write) × Failed before.outlet after.outlet)
 
--- where the readings and the outlet tell their bytes: P of these and of what was given
-abbrev pub WhereTold : Option (List ℕ) → Option (List ℕ) → Option (List ℕ) → Option (List ℕ)
+-- if the bytes of the readings and of the outlet are known: P of the readings' bytes and of those given
+abbrev pub IfAllKnown : Option (List ℕ) → Option (List ℕ) → Option (List ℕ) → Option (List ℕ)
     → Option (List ℕ) → (List ℕ → List ℕ → List ℕ → List ℕ → Type 0) → Type 0
-WhereTold measure verify write taken taken' P =
+IfAllKnown measure verify write taken taken' P =
     IfSome measure (λ m. IfSome verify (λ v. IfSome write (λ w. IfSome taken (λ before.
     (given : List ℕ) × Appends (Some before) taken' given × P m v w given))))
 
 -- where the verify reading is a sealing that agrees, and the write reading repeats a byte of its body,
--- what may be given repeats that byte of the text
+-- a byte that may be given is that byte of the text
 abbrev pub ShownRepeatsTheText : Type 0
 ShownRepeatsTheText = (s : Setting) (m v w text : List ℕ) (i : ℕ) → Agrees m v → Opened s v text
     → i < length m - 16

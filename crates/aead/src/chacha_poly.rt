@@ -10,7 +10,7 @@ ghost use Rattle.aead.specs.InPlace.{OpensInPlace};
 ghost use Rattle.aead.specs.declared.suite.Suite.TheVariants.{ChaCha20Poly1305};
 
 use crate::aead::Cipher;
-use crate::begun_stream::BegunStream;
+use crate::buffered_stream::BufferedStream;
 use crate::mask_then_hash::{MaskThenHash, open_beside, open_whole, seal_whole};
 use crate::nonced::Nonced;
 use crate::suite::Suite;
@@ -61,7 +61,7 @@ impl ChaChaPoly {
     {
         let key = &self.key;
         let start = &key_stream_start::<N>(key, nonce)[..];
-        seal_whole(&BegunChaCha { key, nonce, start }, aad, text)
+        seal_whole(&BufferedChaCha { key, nonce, start }, aad, text)
     }
 
     // Opens with the first `N` bytes of the key stream made at once.
@@ -80,7 +80,7 @@ impl ChaChaPoly {
     {
         let key = &self.key;
         let start = &key_stream_start::<N>(key, nonce)[..];
-        open_whole(&BegunChaCha { key, nonce, start }, aad, body, tag)
+        open_whole(&BufferedChaCha { key, nonce, start }, aad, body, tag)
     }
 
     // Opens a ciphertext and its tag in place, and authenticates it meanwhile. After a refusal the bytes are of
@@ -103,7 +103,7 @@ impl ChaChaPoly {
         }
         let key = &self.key;
         let start = &key_stream_start::<128>(key, nonce)[..];
-        open_beside(&BegunChaCha { key, nonce, start }, aad, body, tag)
+        open_beside(&BufferedChaCha { key, nonce, start }, aad, body, tag)
     }
 }
 
@@ -153,7 +153,7 @@ impl<'a> MaskThenHash for NoncedChaCha<'a> {
 
 // A cipher with a nonce and the first blocks of its key stream from counter 0 on, for a whole text.
 #[derive(Drop)]
-struct BegunChaCha<'a> {
+struct BufferedChaCha<'a> {
     key: &'a Key32,
     nonce: &'a Nonce,
     start: &'a [u8],
@@ -164,8 +164,8 @@ struct BegunChaCha<'a> {
         → slice_index start.now i ≡ key_stream_byte key.now nonce.now 0 i },
 }
 
-impl<'a> Nonced for BegunChaCha<'a> {
-    type Stream = BegunStream<'a>;
+impl<'a> Nonced for BufferedChaCha<'a> {
+    type Stream = BufferedStream<'a>;
 
     type Hash = Poly;
 
@@ -182,9 +182,9 @@ impl<'a> Nonced for BegunChaCha<'a> {
     }
 }
 
-impl<'a> MaskThenHash for BegunChaCha<'a> {
-    fn mask(&self) -> BegunStream<'a> {
-        BegunStream::new(self.key, self.nonce, self.start)
+impl<'a> MaskThenHash for BufferedChaCha<'a> {
+    fn mask(&self) -> BufferedStream<'a> {
+        BufferedStream::new(self.key, self.nonce, self.start)
     }
 
     ghost one_pass = { λ _. refl };

@@ -10,7 +10,7 @@ mod aead;
 mod any;
 mod any_masking;
 mod authenticator;
-mod begun_stream;
+mod buffered_stream;
 mod beside;
 mod chacha_poly;
 mod cuts;

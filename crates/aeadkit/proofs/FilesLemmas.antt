@@ -10,9 +10,9 @@ use Rattle.octets.specs.declared.fault.Fault.TheVariants.{Read, Write, OutOfMemo
 use Rattle.aead.specs.Suites.{construction_of, is_one_pass}
 use Rattle.aead.specs.Sealing.{Setting}
 use Rattle.aead.specs.Ciphers.{Keyed, setting}
-use Rattle.aead.specs.SealStream.{SealsStream, WhereTextTold}
-use Rattle.aead.specs.SealSivStream.{SealsSivStream, SivCounts, WhereBothTold}
-use Rattle.aead.specs.Verdict.{OpensStream, FailureCounts, WhereTold}
+use Rattle.aead.specs.SealStream.{SealsStream, IfTextKnown}
+use Rattle.aead.specs.SealSivStream.{SealsSivStream, SivCounts, IfBothKnown}
+use Rattle.aead.specs.Verdict.{OpensStream, FailureCounts, IfAllKnown}
 use Rattle.aeadkit.specs.declared.failure.Failure.{Failure}
 use Rattle.aeadkit.specs.declared.failure.Failure.TheVariants.{Fault as OfFault}
 use Rattle.aeadkit.specs.declared.words.Inputs.{Inputs}
@@ -20,7 +20,7 @@ use Rattle.aeadkit.specs.declared.words.FileCommand.{FileCommand}
 use Rattle.aeadkit.specs.declared.words.FileCommand.TheVariants.{Seal, Open}
 use Rattle.aeadkit.specs.Aead.{IsReady, IsCalled, CallFailed}
 use Rattle.aeadkit.specs.Files.{Answer, Giving, SealsOnce, SealsTwice, OpensThrice, SealingBy, Engine}
-use Rattle.aeadkit.specs.Files.{Took, HoldsAll, HoldsStart, HoldsNothing}
+use Rattle.aeadkit.specs.Files.{OutletTakes, HoldsAll, HoldsStart, HoldsNothing}
 use Rattle.aeadkit.specs.Files.{NoCall, EngineRan, Ran, FileDone, FileStopped}
 
 -- a reader that was just made has left what its file has
@@ -37,12 +37,12 @@ just_opened (Some x) rest left capacity ahead e c a h =
 -- one reading of a text
 pub sealed_once : (a left taken taken' : Option (List ℕ)) (s : Setting) (read read' wrote wrote' : ℕ)
     (r : Answer) → IfSome a (λ x. left ≡ Some x)
-    → WhereTextTold left taken taken' (λ x given. SealsStream s x given read read' wrote wrote' r)
-    → IfSome a (λ x. Took taken taken' (λ given. SealsOnce s x given r))
+    → IfTextKnown left taken taken' (λ x given. SealsStream s x given read read' wrote wrote' r)
+    → IfSome a (λ x. OutletTakes taken taken' (λ given. SealsOnce s x given r))
 sealed_once None left taken taken' s read read' wrote wrote' r e h = tt
 sealed_once (Some x) left None taken' s read read' wrote wrote' r e h = tt
 sealed_once (Some x) left (Some t) taken' s read read' wrote wrote' r e h =
-    let P : Option (List ℕ) → Type 0 = λ l. WhereTextTold l (Some t) taken'
+    let P : Option (List ℕ) → Type 0 = λ l. IfTextKnown l (Some t) taken'
     (λ x given. SealsStream s x given read read' wrote wrote' r) in
     let k = subst P e h in
     (k.0, k.1, record { read = read; read' = read'; wrote = wrote; wrote' = wrote'; is = k.2 })
@@ -50,15 +50,15 @@ sealed_once (Some x) left (Some t) taken' s read read' wrote wrote' r e h =
 -- two readings of a text
 pub sealed_twice : (a b left right taken taken' : Option (List ℕ)) (s : Setting) (before after : SivCounts)
     (r : Answer) → IfSome a (λ x. left ≡ Some x) → IfSome b (λ y. right ≡ Some y)
-    → WhereBothTold left right taken taken' (λ x y given. SealsSivStream s x y given before after r)
-    → IfSome a (λ x. IfSome b (λ y. Took taken taken' (λ given. SealsTwice s x y given r)))
+    → IfBothKnown left right taken taken' (λ x y given. SealsSivStream s x y given before after r)
+    → IfSome a (λ x. IfSome b (λ y. OutletTakes taken taken' (λ given. SealsTwice s x y given r)))
 sealed_twice None b left right taken taken' s before after r e f h = tt
 sealed_twice (Some x) None left right taken taken' s before after r e f h = tt
 sealed_twice (Some x) (Some y) left right None taken' s before after r e f h = tt
 sealed_twice (Some x) (Some y) left right (Some t) taken' s before after r e f h =
-    let P : Option (List ℕ) → Type 0 = λ l. WhereBothTold l right (Some t) taken'
+    let P : Option (List ℕ) → Type 0 = λ l. IfBothKnown l right (Some t) taken'
     (λ x y given. SealsSivStream s x y given before after r) in
-    let Q : Option (List ℕ) → Type 0 = λ l. WhereBothTold (Some x) l (Some t) taken'
+    let Q : Option (List ℕ) → Type 0 = λ l. IfBothKnown (Some x) l (Some t) taken'
     (λ x y given. SealsSivStream s x y given before after r) in
     let k = subst Q f (subst P e h) in
     (k.0, k.1, record { before = before; after = after; is = k.2 })
@@ -67,9 +67,9 @@ sealed_twice (Some x) (Some y) left right (Some t) taken' s before after r e f h
 pub opened_thrice : (a b c measure verify write taken taken' : Option (List ℕ)) (s : Setting)
     (before after : FailureCounts) (r : Answer) → IfSome a (λ x. measure ≡ Some x)
     → IfSome b (λ y. verify ≡ Some y) → IfSome c (λ z. write ≡ Some z)
-    → WhereTold measure verify write taken taken' (λ m v w given. OpensStream s m v w given before after r)
+    → IfAllKnown measure verify write taken taken' (λ m v w given. OpensStream s m v w given before after r)
     → IfSome a (λ m. IfSome b
-    (λ v. IfSome c (λ w. Took taken taken' (λ given. OpensThrice s m v w given r))))
+    (λ v. IfSome c (λ w. OutletTakes taken taken' (λ given. OpensThrice s m v w given r))))
 opened_thrice None b c measure verify write taken taken' s before after r d e f h = tt
 opened_thrice (Some x) None c measure verify write taken taken' s before after r d e f h = tt
 opened_thrice (Some x) (Some y) None measure verify write taken taken' s before after r d e f h = tt
@@ -77,9 +77,9 @@ opened_thrice (Some x) (Some y) (Some z) measure verify write None taken' s befo
 opened_thrice (Some x) (Some y) (Some z) measure verify write (Some t) taken' s before after r d e f h =
     let T : List ℕ → List ℕ → List ℕ → List ℕ → Type 0 = λ m v w given. OpensStream s m v w given before
     after r in
-    let P : Option (List ℕ) → Type 0 = λ l. WhereTold l verify write (Some t) taken' T in
-    let Q : Option (List ℕ) → Type 0 = λ l. WhereTold (Some x) l write (Some t) taken' T in
-    let R : Option (List ℕ) → Type 0 = λ l. WhereTold (Some x) (Some y) l (Some t) taken' T in
+    let P : Option (List ℕ) → Type 0 = λ l. IfAllKnown l verify write (Some t) taken' T in
+    let Q : Option (List ℕ) → Type 0 = λ l. IfAllKnown (Some x) l write (Some t) taken' T in
+    let R : Option (List ℕ) → Type 0 = λ l. IfAllKnown (Some x) (Some y) l (Some t) taken' T in
     let k = subst R f (subst Q e (subst P d h)) in
     (k.0, k.1, record { before = before; after = after; is = k.2 })
 
@@ -95,7 +95,7 @@ keeps_same (Some x) (Some y) e = (cc)
 
 -- a file holds all that was given, once nothing is pending
 holds_all : (P : List ℕ → Type 0) (taken taken' held : Option (List ℕ)) (pending : List ℕ)
-    → Took taken taken' P → Keeps taken' (append_known held pending) → pending ≡ [] → HoldsAll taken held P
+    → OutletTakes taken taken' P → Keeps taken' (append_known held pending) → pending ≡ [] → HoldsAll taken held P
 holds_all P None taken' held pending t k e = tt
 holds_all P (Some x) None held pending t k e = absurd t.1
 holds_all P (Some x) (Some y) None pending t k e = absurd k
@@ -104,7 +104,7 @@ holds_all P (Some x) (Some y) (Some h) pending t k e =
 
 -- a file holds a beginning of what was given
 holds_start : (P : List ℕ → Type 0) (taken taken' held : Option (List ℕ)) (pending : List ℕ)
-    → Took taken taken' P → Keeps taken' (append_known held pending) → HoldsStart taken held P
+    → OutletTakes taken taken' P → Keeps taken' (append_known held pending) → HoldsStart taken held P
 holds_start P None taken' held pending t k = tt
 holds_start P (Some x) None held pending t k = absurd t.1
 holds_start P (Some x) (Some y) None pending t k = absurd k
@@ -169,7 +169,7 @@ engine_weakens Open readings G H f s r h =
 
 -- an engine that is done opened its files
 pub ran_ok : (engine : Giving → Setting → Answer → Type 0) (s : Setting) (taken taken' : Option (List ℕ))
-    (u : Unit {0}) → EngineRan engine s taken taken' (Ok u) → engine (Took taken taken') s (Ok u)
+    (u : Unit {0}) → EngineRan engine s taken taken' (Ok u) → engine (OutletTakes taken taken') s (Ok u)
 ran_ok engine s taken taken' u (inl h) = let no : ⊥ = elim h.0 [ inl e ↦ (cc) | inr e ↦ (cc) ] in absurd no
 ran_ok engine s taken taken' u (inr h) = h
 
@@ -178,7 +178,7 @@ pub ran_err : (engine : Giving → Setting → Answer → Type 0) (words : Input
     (nonce aad body : List ℕ) (taken taken' : Option (List ℕ)) (f : Fault)
     → IsReady words keyed nonce aad body → EngineRan engine (setting keyed nonce aad) taken taken' (Err f)
     → (NoCall words (OfFault f) × (taken' ≡ taken)) ⊎ CallFailed
-    (λ s body e. engine (Took taken taken') s (Err e)) words (OfFault f)
+    (λ s body e. engine (OutletTakes taken taken') s (Err e)) words (OfFault f)
 ran_err engine words keyed nonce aad body taken taken' f ready (inl h) =
     let why : (OfFault f ≡ OfFault Read) ⊎ (OfFault f ≡ OfFault OutOfMemory) = elim h.0
     [ inl e ↦ inl (cc) | inr e ↦ inr (cc) ] in
@@ -213,7 +213,7 @@ exit_err command readings words taken held pending e (inr h) =
     inr (record {
       fault = h.fault;
       is = h.is;
-      call = map_call words _ _ (λ s body k. inl (engine_weakens command readings (Took taken given)
+      call = map_call words _ _ (λ s body k. inl (engine_weakens command readings (OutletTakes taken given)
           (HoldsStart taken held)
           (λ Q t. holds_start Q taken given held pending t (keeps_same given given refl))
           s (Err h.fault) k)) h.call;
@@ -222,7 +222,7 @@ exit_err command readings words taken held pending e (inr h) =
 -- one whose last writing failed
 pub exit_write : (command : FileCommand) (readings : ℕ → Option (List ℕ)) (words : Inputs)
     (taken given held : Option (List ℕ)) (pending : List ℕ)
-    → IsCalled words (λ s body. Engine command readings (Took taken given) s (Ok tt))
+    → IsCalled words (λ s body. Engine command readings (OutletTakes taken given) s (Ok tt))
     → Keeps given (append_known held pending)
     → FileStopped (Engine command readings) words taken held (OfFault Write)
 exit_write command readings words taken given held pending h k = inr (record {
@@ -230,7 +230,7 @@ exit_write command readings words taken given held pending h k = inr (record {
   is = refl;
   call = map_call words _ _ (λ s body j. inr (
     refl,
-    engine_weakens command readings (Took taken given)
+    engine_weakens command readings (OutletTakes taken given)
         (HoldsStart taken held) (λ Q t. holds_start Q taken given held pending t k) s (Ok tt) j,
   )) h;
 })
@@ -238,9 +238,9 @@ exit_write command readings words taken given held pending h k = inr (record {
 -- one that is done
 pub exit_done : (command : FileCommand) (readings : ℕ → Option (List ℕ)) (words : Inputs)
     (taken given held : Option (List ℕ)) (w : ℕ) (pending : List ℕ)
-    → IsCalled words (λ s body. Engine command readings (Took taken given) s (Ok tt))
+    → IsCalled words (λ s body. Engine command readings (OutletTakes taken given) s (Ok tt))
     → Keeps given (append_known held (drop w pending)) → pending ≡ []
     → FileDone (Engine command readings) words taken held
 exit_done command readings words taken given held w pending h k e =
-    map_call words _ _ (λ s body. engine_weakens command readings (Took taken given) (HoldsAll taken held)
+    map_call words _ _ (λ s body. engine_weakens command readings (OutletTakes taken given) (HoldsAll taken held)
     (λ Q t. holds_all Q taken given held (drop w pending) t k (none_left w pending e)) s (Ok tt)) h

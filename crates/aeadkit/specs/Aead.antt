@@ -25,7 +25,7 @@ pub record IsSpelled (words : Inputs) (keyed : Keyed) (nonce aad body : List ℕ
   pub aad_is : Spells words.aad.now aad
   pub body_is : Spells words.body.now body
 
--- the same, with the lengths that the suite asks of its key and its nonce
+-- the words spell a call whose key and nonce have the suite's lengths
 pub record IsReady (words : Inputs) (keyed : Keyed) (nonce aad body : List ℕ) : Type 0 where
   pub spelled : IsSpelled words keyed nonce aad body
   pub key_long : length keyed.key ≡ key_length keyed.suite

@@ -53,8 +53,7 @@ Stopped files (Check path) e = FileRefused (files path.now 0) e ⊎ IsOutputFail
 abbrev pub version_line : List ℕ
 version_line = codes "aeadkit " ++ (VERSION.now ++ 10 ∷ [])
 
--- what becomes of words that are no request: help or the version is printed, with status 0, and else they
--- are refused
+-- the end of words that are no request: help or the version is printed, with status 0, or they are refused
 abbrev pub IsRefusedAs : Refusal → Option (List ℕ) → Option (List ℕ) → Result ℕ Failure → Type 0
 IsRefusedAs (Help text) before after result = MatchResult result (λ status. status ≡ 0) IsOutputFailure
 IsRefusedAs Version before after result =

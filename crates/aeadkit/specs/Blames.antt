@@ -25,7 +25,7 @@ OutputFailed make_may_fail failures = ∥ (make_may_fail ≡ true) ⊎ DeviceFai
 abbrev pub Blames : {T E : Type 0} → (shows : Fault → E) → (input output : Type 0) → Result T E → Type 0
 Blames shows input output r = IfErr r (λ e. (e ≡ shows Read → input) × (e ≡ shows Write → output))
 
--- what stops a request that reads a file blames its input
+-- a fault that stops a request that reads a file blames its input
 abbrev pub RequestBlames : {T : Type 0} → (List ℕ → Type 0) → PrintRequest → Result T Failure → Type 0
 RequestBlames input (Check path) r = Blames OfFault (input path.now) ⊤ r
 RequestBlames input _ r = ⊤

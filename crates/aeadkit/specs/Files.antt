@@ -20,7 +20,7 @@ use Rattle.aeadkit.specs.Aead.{InputsRefused, IsCalled, CallFailed}
 abbrev pub Answer : Type 0
 Answer = Result (Unit {0}) Fault
 
--- what a text gives whose tag is over the ciphertext, whatever the counts of failures
+-- the bytes given of a text whose tag is over the ciphertext, whatever the counts of failures
 pub record SealsOnce (s : Setting) (a given : List ℕ) (r : Answer) : Type 0 where
   pub read : ℕ
   pub read' : ℕ
@@ -28,13 +28,13 @@ pub record SealsOnce (s : Setting) (a given : List ℕ) (r : Answer) : Type 0 wh
   pub wrote' : ℕ
   pub is : SealsStream s a given read read' wrote wrote' r
 
--- what two readings of a text give by AES-GCM-SIV
+-- the bytes given of two readings of a text by AES-GCM-SIV
 pub record SealsTwice (s : Setting) (a b given : List ℕ) (r : Answer) : Type 0 where
   pub before : SivCounts
   pub after : SivCounts
   pub is : SealsSivStream s a b given before after r
 
--- what three readings of sealed bytes give
+-- the bytes given of three readings of sealed bytes
 pub record OpensThrice (s : Setting) (m v w given : List ℕ) (r : Answer) : Type 0 where
   pub before : FailureCounts
   pub after : FailureCounts
@@ -54,7 +54,7 @@ SealingBy false readings giving s r =
 abbrev pub Sealing : (ℕ → Option (List ℕ)) → Giving → Setting → Answer → Type 0
 Sealing readings giving s r = SealingBy (is_one_pass (construction_of s.suite)) readings giving s r
 
--- opening: where the readings tell their bytes
+-- opening, if the bytes of the readings are known
 abbrev pub Opening : (ℕ → Option (List ℕ)) → Giving → Setting → Answer → Type 0
 Opening readings giving s r = IfSome (readings 0) (λ m. IfSome (readings 1) (λ v. IfSome (readings 2) (λ w.
     giving (λ given. OpensThrice s m v w given r))))
@@ -65,8 +65,8 @@ Engine Seal readings giving s r = Sealing readings giving s r
 Engine Open readings giving s r = Opening readings giving s r
 
 -- the outlet took some bytes, with this property
-abbrev pub Took : Option (List ℕ) → Option (List ℕ) → Giving
-Took taken taken' P =
+abbrev pub OutletTakes : Option (List ℕ) → Option (List ℕ) → Giving
+OutletTakes taken taken' P =
     IfSome taken (λ before. (given : List ℕ) × Appends (Some before) taken' given × P given)
 
 -- a file holds, behind what was taken before, all bytes that were given; they have this property
@@ -87,15 +87,15 @@ NoCall words e = InputsRefused words e ⊎ ((e ≡ OfFault Read) ⊎ (e ≡ OfFa
 abbrev pub EngineRan : (Giving → Setting → Answer → Type 0) → Setting → Option (List ℕ) → Option (List ℕ)
     → Answer → Type 0
 EngineRan engine s taken taken' r =
-    (((r ≡ Err Read) ⊎ (r ≡ Err OutOfMemory)) × (taken' ≡ taken)) ⊎ engine (Took taken taken') s r
+    (((r ≡ Err Read) ⊎ (r ≡ Err OutOfMemory)) × (taken' ≡ taken)) ⊎ engine (OutletTakes taken taken') s r
 
 -- an engine ran over readings into an outlet, or there was no call and nothing was given
 abbrev pub Ran : (Giving → Setting → Answer → Type 0) → Inputs → Option (List ℕ) → Option (List ℕ)
     → Result (Unit {0}) Failure → Type 0
 Ran engine words taken taken' r = MatchResult r
-    (λ _. IsCalled words (λ s body. engine (Took taken taken') s (Ok tt)))
+    (λ _. IsCalled words (λ s body. engine (OutletTakes taken taken') s (Ok tt)))
     (λ e. (NoCall words e × (taken' ≡ taken))
-    ⊎ CallFailed (λ s body f. engine (Took taken taken') s (Err f)) words e)
+    ⊎ CallFailed (λ s body f. engine (OutletTakes taken taken') s (Err f)) words e)
 
 -- a file command is done: the file holds what the engine gave
 abbrev pub FileDone : (Giving → Setting → Answer → Type 0) → Inputs → Option (List ℕ) → Option (List ℕ)

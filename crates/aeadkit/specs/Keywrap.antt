@@ -23,7 +23,7 @@ pub record IsSpelledPair (P : List ℕ → List ℕ → Type 0) (key body : List
   pub body_is : Spells body body_bytes
   pub is : P key_bytes body_bytes
 
--- the same, and the key is a key of AES
+-- the values spell a key of AES and a text or a wrapping, of which this holds
 abbrev pub IsWrapCall : (List ℕ → List ℕ → Type 0) → List ℕ → List ℕ → Type 0
 IsWrapCall P key body = IsSpelledPair (λ k b. IsKey k × P k b) key body
 

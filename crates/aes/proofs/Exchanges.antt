@@ -135,7 +135,7 @@ over_bit n m x y k =
     bit_at_and (bit_xor (x / 2 ^ n) y) m k
     ∙ ap (λ u. min u (bit_at m k)) (bit_at_xor (x / 2 ^ n) y k ∙ ap (λ u. plus2 u (bit_at y k)) (down x n k))
 
--- the same, moved up
+-- a bit that goes over, moved up
 back_bit : (n m x y k : ℕ) → k < 8 → bit_at (over_byte n m x y * 2 ^ n % 2 ^ 8) k
     ≡ min (plus2 (bit_at x k) (bit_at y (k - n))) (bit_at (m * 2 ^ n % 2 ^ 8) k)
 back_bit n m x y k h =

@@ -95,7 +95,7 @@ pub cipher_is : (key s : List ℕ) → cipher key s
 unfolding cipher
 cipher_is key s = refl
 
--- the same step, as the definition writes it
+-- one round more, as the definition writes it
 pub rounds_suc : (ws : List (List ℕ)) (n : ℕ) (s : List ℕ)
     → rounds ws (suc n) s ≡ add_round_key ws (suc n) (mix_columns (shift_rows (sub_bytes (rounds ws n s))))
 unfolding rounds

@@ -278,7 +278,7 @@ plain_computed : all_below
 unfolding in_basis
 plain_computed = refl
 
--- the same in the basis, tested at each byte
+-- the S-box without its constant in the basis, tested at each byte
 once_computed : all_below
     (λ b. by_parts ONCE_BY_FIRST ONCE_BY_SECOND (in_basis b) == in_basis (bit_xor (get_or SBOX b 0) 0x63))
     256 ≡ true
@@ -322,7 +322,7 @@ pub plain_lanes : (v x : List ℕ) (s : ℕ → ℕ)
 plain_lanes v x s made small held =
     substituted PLAIN_BY_FIRST PLAIN_BY_SECOND v x s (λ y. y) made small held plain_computed
 
--- the same in the basis
+-- lanes of the S-box without its constant in the basis
 pub once_lanes : (v x : List ℕ) (s : ℕ → ℕ)
     → HasLanes v (λ k. by_parts ONCE_BY_FIRST ONCE_BY_SECOND (get_or x k 0)) → ((k : ℕ) → k < 64 → s k < 256)
     → HasLanes x (λ k. in_basis (s k)) → HasLanes v (λ k. in_basis (linear_sbox (s k)))

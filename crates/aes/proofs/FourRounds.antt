@@ -217,19 +217,19 @@ own_computed : all_below (λ i. (row_source i / 16 == i / 16) && (row_source i %
     64 ≡ true
 own_computed = refl
 
--- the same from one row below
+-- ShiftRows from one row below stays in the block, tested at each lane
 one_computed : all_below
     (λ i. (row_source (row_below i) / 16 == i / 16) &&
     (row_source (row_below i) % 16 == row_source (row_below (i % 16)))) 64 ≡ true
 one_computed = refl
 
--- the same from two rows below
+-- ShiftRows from two rows below stays in the block, tested at each lane
 two_computed : all_below
     (λ i. (row_source (row_below (row_below i)) / 16 == i / 16) &&
     (row_source (row_below (row_below i)) % 16 == row_source (row_below (row_below (i % 16))))) 64 ≡ true
 two_computed = refl
 
--- the same from three rows below
+-- ShiftRows from three rows below stays in the block, tested at each lane
 three_computed : all_below
     (λ i. (row_source (row_below (row_below (row_below i))) / 16 == i / 16) &&
     (row_source (row_below (row_below (row_below i))) % 16 == row_source

@@ -35,7 +35,7 @@ up_be_written b ys n j long read written =
     ∙ ap (λ (x : ℕ). big_bytes 4 ((x + j) % 2 ^ 32)) number in
     ap (λ x. take 12 b ++ x) (ap (λ x. ys ++ x) none ∙ append-nil ys ∙ bytes)
 
--- the same in the first four bytes
+-- the number in the first four bytes, counted on and written over them
 pub up_le_written : (b : List ℕ) (n j : ℕ) → length b ≡ 16 → n ≡ little_number 4 b
     → little_bytes 4 ((n + j) % 2 ^ 32) ++ drop 4 b ≡ up_le b j
 unfolding up_le
@@ -134,44 +134,49 @@ joined_blocks a b c d m f ha hb hc hd is ea eb ec ed (suc (suc (suc zero))) h =
     ∙ take_all 16 d (omega arith) ∙ ed
 joined_blocks a b c d m f ha hb hc hd is ea eb ec ed (suc (suc (suc (suc q)))) h = absurd (omega arith)
 
--- the next four blocks
+-- the first bytes of the next four blocks, of the fourth at least one
 pub began_four : {C : Type 0} (up : List ℕ → ℕ → List ℕ) (s t : Counter C) (masks xs ys : List ℕ)
     → WrapsAround up
-    → t.key ≡ s.key → t.first ≡ s.first → t.begun ≡ (s.begun + 4) % 2 ^ 32 → t.used ≡ 0 → s.used ≡ 0
-    → length xs ≡ 64 → length masks ≡ 64
+    → t.key ≡ s.key → t.first ≡ s.first → t.begun ≡ (s.begun + 4) % 2 ^ 32 → t.used ≡ length xs % 16
+    → s.used ≡ 0 → 48 < length xs → length xs ≤ 64 → length masks ≡ 64
+    → (length xs < 64 → t.mask ≡ block_at masks 3)
     → ((q : ℕ) → q < 4 → block_at masks q ≡ cipher s.key (up s.first ((s.begun + q) % 2 ^ 32)))
-    → ys ≡ xor_bytes xs masks → Advances up s t xs ys
+    → ys ≡ xor_bytes xs (take (length xs) masks) → Advances up s t xs ys
 unfolding counter_byte
-began_four up s t masks xs ys wraps key_stays first_stays counted used_is none long size are xored =
+began_four up s t masks xs ys wraps key_stays first_stays counted used_is none most room size kept are xored =
     λ key first made held.
+    let n : ℕ = length xs in
     let place : 0 ≡ made % 16 = sym none ∙ held.used_is in
     let blocks : (made + 15) / 16 ≡ made / 16 = omega arith in
-    let more : (made + length xs + 15) / 16 ≡ made / 16 + 4 = omega arith in
+    let more : (made + n + 15) / 16 ≡ made / 16 + 4 = omega arith in
     let before : s.begun ≡ (made / 16) % 2 ^ 32 = held.begun_is ∙ ap (λ (x : ℕ). x % 2 ^ 32) blocks in
     let next : ((made / 16) % 2 ^ 32 + 4) % 2 ^ 32 ≡ (made / 16 + 4) % 2 ^ 32 = omega arith in
-    let ended : (made + length xs) % 16 ≡ 0 = omega arith in (
+    let mask_at : (q : ℕ) → q < 4 → block_at masks q ≡ cipher key (up first (made / 16 + q)) = λ q within.
+    let count : ((made / 16) % 2 ^ 32 + q) % 2 ^ 32 ≡ (made / 16 + q) % 2 ^ 32 = omega arith in
+    are q within
+    ∙ ap₂ cipher held.key_is (ap₂ up held.first_is (ap (λ (x : ℕ). (x + q) % 2 ^ 32) before ∙ count)
+    ∙ wraps first (made / 16 + q)) in
+    let cut : length (take n masks) ≡ n = length-take-le n masks (omega (arith, size, room)) in (
       record {
         key_is = key_stays ∙ held.key_is;
         first_is = first_stays ∙ held.first_is;
         begun_is = counted ∙ ap (λ (x : ℕ). (x + 4) % 2 ^ 32) before ∙ next
             ∙ ap (λ (x : ℕ). x % 2 ^ 32) (sym more);
-        used_is = used_is ∙ sym ended;
-        mask_is = λ left. absurd (omega arith);
+        used_is = omega arith;
+        mask_is = λ left.
+            let fourth : made / 16 + 3 ≡ (made + n) / 16 = omega arith in
+            kept (omega arith) ∙ mask_at 3 (omega arith) ∙ ap (λ (x : ℕ). cipher key (up first x)) fourth;
       },
-      xored ∙ xor_bytes-masked (counter_byte up key first) made xs masks (omega arith) (λ i l.
+      xored ∙ xor_bytes-masked (counter_byte up key first) made xs (take n masks) (omega arith) (λ i l.
           let q : ℕ = i / 16 in
           let within : q < 4 = omega arith in
           let split : i ≡ q * 16 + i % 16 = omega arith in
           let block : (made + i) / 16 ≡ made / 16 + q = omega arith in
           let byte : (made + i) % 16 ≡ i % 16 = omega arith in
-          let count : ((made / 16) % 2 ^ 32 + q) % 2 ^ 32 ≡ (made / 16 + q) % 2 ^ 32 = omega arith in
-          ap (λ (k : ℕ). get_or masks k 0) split ∙ sym (get_or-drop (q * 16) masks (i % 16) 0)
+          get_or-take n masks i 0 (omega arith)
+          ∙ ap (λ (k : ℕ). get_or masks k 0) split ∙ sym (get_or-drop (q * 16) masks (i % 16) 0)
           ∙ sym (get_or-take 16 (drop (q * 16) masks) (i % 16) 0 (omega arith))
-          ∙ ap (λ m. get_or m (i % 16) 0) (
-          are q within
-          ∙ ap₂ cipher held.key_is
-          (ap₂ up held.first_is (ap (λ (x : ℕ). (x + q) % 2 ^ 32) before ∙ count)
-          ∙ wraps first (made / 16 + q)))
+          ∙ ap (λ m. get_or m (i % 16) 0) (mask_at q within)
           ∙ sym (ap₂ (λ (b r : ℕ). get_or (cipher key (up first b)) r 0) block byte)),
     )
 

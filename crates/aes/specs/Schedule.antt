@@ -34,7 +34,7 @@ key_words key = length key / 4
 abbrev pub round_count : List ℕ → ℕ
 round_count key = key_words key + 6
 
--- what is added to the word Nk places back, from the word before
+-- the word added to the one Nk places back, from the word before
 unfoldable pub changed : ℕ → ℕ → List ℕ → List ℕ
 changed nk i t =
     if i % nk == 0 then xor_word (sub_word (rot_word t)) (rcon (i / nk))

@@ -31,12 +31,12 @@ pub record HoldsBe (s : CtrBe) (key : List ℕ) (first : List ℕ) (made : ℕ) 
 pub record HoldsLe (s : CtrLe) (key : List ℕ) (first : List ℕ) (made : ℕ) : Type 0 where
   pub makes : Makes up_le s.counter key first made
 
--- what a call beside other work does to the stream that counts by `up_be`: it XORs in the next bytes
+-- a call beside other work XORs in the next bytes of the stream that counts by `up_be`
 abbrev pub DidBe : CtrBe → CtrBe → List ℕ → List ℕ → Type 0
 DidBe s t was now = (key first : List ℕ) (made : ℕ) → HoldsBe s key first made
     → HoldsBe t key first (made + length was) × (now ≡ masked (counter_byte up_be key first) made was)
 
--- what a call beside other work does to the stream that counts by `up_le`: it XORs in the next bytes
+-- a call beside other work XORs in the next bytes of the stream that counts by `up_le`
 abbrev pub DidLe : CtrLe → CtrLe → List ℕ → List ℕ → Type 0
 DidLe s t was now = (key first : List ℕ) (made : ℕ) → HoldsLe s key first made
     → HoldsLe t key first (made + length was) × (now ≡ masked (counter_byte up_le key first) made was)

@@ -180,7 +180,7 @@ xored_more words was mid now quad q sixteen long below held is_quad is_now =
     ∙ ap₂ xor_bytes (sym bytes_more) (sym words_more))
     past
 
--- the same of the state in a lane
+-- sixteen bytes more of the block in a lane
 pub xored_lane : (x : List (List ℕ)) (j : ℕ) (was mid now quad : List ℕ) (q : ℕ) → length x ≡ 16
     → length was ≡ 64 → q < 4
     → Xored (lane j x) q was mid

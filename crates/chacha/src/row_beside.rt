@@ -89,7 +89,14 @@ pub(crate) fn xor_five_blocks<W: Work>(
     ensures work { (k m : List ℕ) → W.comes_to work.old k m → W.comes_to work.new k m }
 {
     let mut x = [u32x4::splat(0); 16];
-    let first = set_blocks(&mut x, key, counter, four_counters(counter + 1), nonce, work);
+    let first = set_blocks(
+        &mut x,
+        key,
+        counter,
+        four_counters(counter + 1),
+        nonce,
+        work,
+    );
     let (front, back) = bytes.split_at_mut(64);
     xor_into(front, &first);
     xor_written(&x, back);
@@ -102,7 +109,14 @@ pub(crate) fn xor_nine_blocks(key: &Key32, counter: u32, nonce: &Nonce, bytes: &
     ensures { bytes.new ≡ masked (key_stream_byte key.now nonce.now counter) 0 bytes.old }
 {
     let mut x = [u32x8::splat(0); 16];
-    let first = set_blocks(&mut x, key, counter, eight_counters(counter + 1), nonce, &mut Idle);
+    let first = set_blocks(
+        &mut x,
+        key,
+        counter,
+        eight_counters(counter + 1),
+        nonce,
+        &mut Idle,
+    );
     let (front, back) = bytes.split_at_mut(64);
     xor_into(front, &first);
     xor_eight_written(&x, back);

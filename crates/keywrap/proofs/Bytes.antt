@@ -156,7 +156,7 @@ step_bytes key s t n law k b l =
     (drop 16 s ++ drop 8 x) (next_first x t block)
     (bytes_append (n - 16) (16 - 8) (drop 16 s) (drop 8 x) (bytes_drop 16 n s b) (bytes_drop 8 16 x block)))
 
--- the same for many steps
+-- many steps take bytes to bytes
 pub steps_bytes : (key s : List ℕ) (t n : ℕ) → IsPermutation → IsKey key → AreBytes n s → 16 ≤ n
     → AreBytes n (steps key t s)
 unfolding steps
@@ -199,7 +199,7 @@ step_one_to_one key s r t n law k b d l h =
     (law key k).1 (take 16 s) (take 16 r) (bytes_take 16 n s l b) (bytes_take 16 n r l d) ciphers in
     sym (take-append-drop 16 s) ∙ ap₂ (λ u v. u ++ v) block middle ∙ take-append-drop 16 r
 
--- the same for many steps
+-- many steps are one to one
 pub steps_one_to_one : (key s r : List ℕ) (t n : ℕ) → IsPermutation → IsKey key → AreBytes n s → AreBytes n r
     → 16 ≤ n
     → steps key t s ≡ steps key t r → s ≡ r

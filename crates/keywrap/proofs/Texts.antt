@@ -40,7 +40,7 @@ step_length key s t l =
     length-append (xor_bytes (take 8 b) n) (drop 16 s ++ drop 8 b)
     ∙ omega (arith, first, rest, length-drop 16 s, length-drop 8 b)
 
--- the same for many steps
+-- many steps keep the length
 pub steps_length : (key s : List ℕ) (t : ℕ) → 16 ≤ length s → length (steps key t s) ≡ length s
 unfolding steps
 steps_length key s zero l = refl
@@ -106,7 +106,7 @@ unwrapped_by key wrapped start text l b begins e =
       is = sym e ∙ ap₂ (λ n s. steps key (6 * (n / 8)) s) (sym long) begins;
     }
 
--- the same, told forwards
+-- the bytes to which they lead from the initial value and a text are the text's wrapping
 pub wrapping_by : (key wrapped start text : List ℕ) → AreBytes (length text) text → HasTextLength text
     → start ≡ initial_value ++ text
     → wrapped ≡ steps key (6 * ((length start - 8) / 8)) start → Unwrapped key wrapped text
@@ -115,7 +115,7 @@ wrapping_by key wrapped start text b l begins e =
     let blocks : length start - 8 ≡ length text = omega arith in
     record { length_is = l; bytes = b; is = e ∙ ap₂ (λ n s. steps key (6 * (n / 8)) s) blocks begins }
 
--- the same where A was taken apart from the blocks
+-- the steps lead to the bytes if they lead to A and the blocks that were taken apart
 pub start_of_parts : (key wrapped a blocks first rest : List ℕ) → a ≡ take 8 wrapped
     → blocks ≡ take (length wrapped - 8) (drop 8 wrapped)
     → steps key (6 * (length blocks / 8)) (first ++ rest) ≡ a ++ blocks

@@ -19,8 +19,8 @@ alternative_value n = constant ++ bytes_high_first 4 n
 abbrev pub padded : List ℕ → List ℕ
 padded text = text ++ replicate ((8 - length text % 8) % 8) 0
 
--- what is made of A and n blocks: the cipher of both where there is one block, and else the register after
--- the 6n steps of RFC 3394 (4.1)
+-- the bytes made of A and n blocks: the cipher of both if there is one block, and else the register after the
+-- 6n steps of RFC 3394 (4.1)
 unfoldable pub transformed : List ℕ → List ℕ → List ℕ
 transformed key s = if length s == 16 then cipher key s else steps key (6 * ((length s - 8) / 8)) s
 

@@ -54,7 +54,7 @@ At (steps.between F) ls rs = Formatted F ls rs
 At (steps.fields F left r) ls rs = InFields F left r ls rs
 At (steps.text F r) ls rs = BehindCuts F r ls rs
 
--- the same at the next place
+-- the lines before the next place, with its records
 abbrev AtNext : List (List ℕ) → List Record → Next → Type 0
 AtNext ls rs x = At x.0 ls (rs ++ x.1)
 

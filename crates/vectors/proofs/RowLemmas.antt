@@ -50,7 +50,7 @@ hex_rows : (name : List ℕ) (f : Option (List ℕ × List ℕ)) (c : Cause)
 hex_rows name None c e = cc
 hex_rows name (Some f) c e = name_row (bytes_eq f.0 name) f.1 c e
 
--- the same with a length
+-- bytes of a length, if one is asked
 abbrev sized : Option ℕ → List ℕ → Result (List ℕ) Cause
 sized n bytes = cond (has_length n bytes) (Ok bytes) (Err BadLength)
 
@@ -104,7 +104,7 @@ suite_rows : (F : Format) (f : Option (List ℕ × List ℕ)) (c : Cause)
 suite_rows F None c e = cc
 suite_rows F (Some f) c e = suite_row F (bytes_eq f.0 (codes "suite")) f.1 c e
 
--- the same where a blank line or a comment may stand
+-- all rows of a suite line, or a blank line or a comment
 between_rows : (F : Format) (gap : Bool) (f : Option (List ℕ × List ℕ)) (c : Cause)
     → cond {A = Result Next Cause} gap (Ok (steps.between F, []))
     ((named_value (codes "suite") f >>= λ x. ok_or UnknownSuite (suite_named F x)) >>= λ s.

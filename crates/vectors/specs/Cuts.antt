@@ -13,7 +13,7 @@ abbrev pub has_no_leading_zero : List ℕ → Bool
 has_no_leading_zero [] = false
 has_no_leading_zero (b ∷ bs) = not (b == 48)
 
--- what digits spell
+-- the number that digits spell
 unfoldable pub decimal_value : List ℕ → ℕ
 decimal_value digits = number_from_digits 10 (map (λ b. b - 48) digits)
 

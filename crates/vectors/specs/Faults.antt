@@ -31,7 +31,7 @@ pub data Expected : Type 0 where
   cuts_or_end : ℕ → Expected
   text_line : Expected
 
--- what is expected behind all the fields of a record
+-- the lines expected after all the fields of a record
 abbrev pub behind_fields : Format → Record → Expected
 behind_fields format r = if may_cut format r.suite then cuts_or_end (most_cut r) else end_line
 

@@ -7,9 +7,9 @@ use Rattle.aead.specs.Sealing.{Setting}
 use Rattle.aead.specs.Code.States.{HoldsAuthenticator}
 
 -- after this text, a piece was taken in by a hash of which `held` speaks, of the room's length but at the end
-abbrev pub TookPiece : {H : Type 0} → (H → Setting → List ℕ → Type 0) → Setting → List ℕ → ℕ
+abbrev pub AbsorbsPiece : {H : Type 0} → (H → Setting → List ℕ → Type 0) → Setting → List ℕ → ℕ
     → Option (List ℕ) → Option (List ℕ) → Authenticator H → Result ℕ Fault → Type 0
-TookPiece held s text room left left' after r =
+AbsorbsPiece held s text room left left' after r =
     MatchResult r
     (λ n. (bytes : List ℕ) × Consumes left left' bytes × HoldsAuthenticator held after s (text ++ bytes)
     × (length bytes ≡ n) × (n < room → IsAtEnd left') × ((i : ℕ) → get_or bytes i 0 < 256))
@@ -23,8 +23,8 @@ pub record AbsorbedAll {H : Type 0} (held : H → Setting → List ℕ → Type 
   pub held_all : all ≡ true → HoldsAuthenticator held after s bytes × IsAtEnd left'
   pub long : all ≡ false → room < length bytes
 
-abbrev pub TakenIn : {H : Type 0} → (H → Setting → List ℕ → Type 0) → Setting → ℕ → Option (List ℕ)
+abbrev pub AbsorbReturns : {H : Type 0} → (H → Setting → List ℕ → Type 0) → Setting → ℕ → Option (List ℕ)
     → Option (List ℕ) → Authenticator H → Result Bool Fault → Type 0
-TakenIn held s room left left' after r =
+AbsorbReturns held s room left left' after r =
     MatchResult r (λ all. AbsorbedAll held s room left left' after all)
     (λ _. (bytes : List ℕ) × Consumes left left' bytes)

@@ -13,7 +13,7 @@ IsExtent len x None = len < length x
 IsExtent len x (Some n) = (length x ≡ n) × (n ≤ len)
 
 -- all was taken, or more than the length; the state is one of which `holds` speaks
-pub record WentAll {M : Type 0} (holds : M → Task → List ℕ → Type 0) (t : Task) (len : ℕ)
+pub record HasPassedAll {M : Type 0} (holds : M → Task → List ℕ → Type 0) (t : Task) (len : ℕ)
     (left left' taken taken' : Option (List ℕ)) (after : M) (extent : Option ℕ) : Type 0 where
   pub bytes : List ℕ
   pub consumed : Consumes left left' bytes
@@ -25,7 +25,7 @@ pub record WentAll {M : Type 0} (holds : M → Task → List ℕ → Type 0) (t 
 abbrev pub PassedAll : {M : Type 0} → (M → Task → List ℕ → Type 0) → Task → ℕ → Option (List ℕ)
     → Option (List ℕ) → Option (List ℕ) → Option (List ℕ) → M → Result (Option ℕ) Fault → Type 0
 PassedAll holds t len left left' taken taken' after r =
-    MatchResult r (λ e. WentAll holds t len left left' taken taken' after e)
+    MatchResult r (λ e. HasPassedAll holds t len left left' taken taken' after e)
     (λ _. Stopped t [] len left left' taken taken')
 
 -- some byte came, or the reading is at its end

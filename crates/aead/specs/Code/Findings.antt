@@ -10,7 +10,7 @@ use Rattle.aead.specs.declared.engine.passes.Finding.TheVariants.{Differs, Unsea
 use Rattle.aead.specs.Sealing.{Setting, Fits, Opened, IsNoSealing, mask_of, tag_of}
 use Rattle.aead.specs.Sealing.{tag_over}
 use Rattle.aead.specs.Code.Maskings.{Task, task_mask, message_task}
-use Rattle.aead.specs.Code.Passes.{Stopped, WentFar}
+use Rattle.aead.specs.Code.Passes.{Stopped, HasFilledRoom}
 
 -- x has this length and ends in this tag, and is a sealing or none; or it has another length or ends
 -- otherwise
@@ -21,7 +21,7 @@ IsFinding s tag len x Sealed =
     (drop (len - 16) x ≡ tag) × Opened s x (masked (mask_of s tag) 0 (take (len - 16) x))
 
 -- a whole reading was taken, as far as it can matter
-pub record WentWhole (s : Setting) (tag : List ℕ) (len : ℕ) (left left' taken taken' : Option (List ℕ))
+pub record HasPassedReading (s : Setting) (tag : List ℕ) (len : ℕ) (left left' taken taken' : Option (List ℕ))
     (f : Finding) : Type 0 where
   pub bytes : List ℕ
   pub consumed : Consumes left left' bytes
@@ -32,10 +32,10 @@ pub record WentWhole (s : Setting) (tag : List ℕ) (len : ℕ) (left left' take
 abbrev pub PassedWhole : Setting → List ℕ → ℕ → Option (List ℕ) → Option (List ℕ) → Option (List ℕ)
     → Option (List ℕ) → Result Finding Fault → Type 0
 PassedWhole s tag len left left' taken taken' r =
-    MatchResult r (λ f. WentWhole s tag len left left' taken taken' f)
+    MatchResult r (λ f. HasPassedReading s tag len left left' taken taken' f)
     (λ _. Stopped (message_task s tag) [] (len - 16) left left' taken taken')
 
--- what a body of an allowed length would open to has this tag
+-- a body of an allowed length would open to a text with this tag
 abbrev pub MakesTag : List ℕ → Task → List ℕ → Type 0
 MakesTag made t body = Fits t.setting body × (made ≡ tag_of t.setting (masked (task_mask t) 0 body))
 
@@ -46,12 +46,12 @@ MakesTextTag hashed s tag =
     ≡ tag_of s (masked (mask_of s tag) 0 body)
 
 -- as far as its body, so many bytes of a reading were taken, which make this tag
-abbrev pub TookBody : Setting → List ℕ → ℕ → Option (List ℕ) → Option (List ℕ) → Option (List ℕ)
+abbrev pub PassesBody : Setting → List ℕ → ℕ → Option (List ℕ) → Option (List ℕ) → Option (List ℕ)
     → Option (List ℕ) → ℕ → List ℕ → Type 0
-TookBody s tag len left left' taken taken' n made =
-    WentFar MakesTag (message_task s tag) [] (len - 16) left left' taken taken' made n
+PassesBody s tag len left left' taken taken' n made =
+    HasFilledRoom MakesTag (message_task s tag) [] (len - 16) left left' taken taken' made n
 
--- what came was this tag and nothing more, or not
+-- this tag came and nothing more, or something else
 pub record Tail (tag : List ℕ) (left left' : Option (List ℕ)) (b : Bool) : Type 0 where
   pub bytes : List ℕ
   pub consumed : Consumes left left' bytes

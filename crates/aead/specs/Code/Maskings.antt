@@ -5,7 +5,7 @@ use Rattle.aead.specs.Suites.{text_limit}
 use Rattle.aead.specs.Sealing.{Setting, mask_of, tag_of}
 use Rattle.aead.specs.Code.States.{HoldsAuthenticator}
 
--- what pieces are masked for
+-- the message whose pieces are masked
 pub record Task : Type 0 where
   -- the most bytes of all pieces
   pub limit : ℕ

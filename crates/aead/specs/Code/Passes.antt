@@ -9,7 +9,7 @@ use Rattle.octets.specs.Masked.{masked}
 use Rattle.aead.specs.Code.Maskings.{Task, task_mask}
 
 -- after these bytes, more were taken, fed to a state of which `holds` speaks and, masked, given
-pub record Went {M : Type 0} (holds : M → Task → List ℕ → Type 0) (t : Task) (fed : List ℕ)
+pub record HasPassed {M : Type 0} (holds : M → Task → List ℕ → Type 0) (t : Task) (fed : List ℕ)
     (left left' taken taken' : Option (List ℕ)) (after : M) (bytes : List ℕ) : Type 0 where
   pub consumed : Consumes left left' bytes
   pub given : Appends taken taken' (masked (task_mask t) (length fed) bytes)
@@ -27,10 +27,10 @@ pub record Stopped (t : Task) (fed : List ℕ) (room : ℕ) (left left' taken ta
     pub given : Appends taken taken' (take shown (masked (task_mask t) (length fed) bytes))
 
 -- all of the room, or all that was left
-pub record WentFar {M : Type 0} (holds : M → Task → List ℕ → Type 0) (t : Task) (fed : List ℕ) (room : ℕ)
+pub record HasFilledRoom {M : Type 0} (holds : M → Task → List ℕ → Type 0) (t : Task) (fed : List ℕ) (room : ℕ)
     (left left' taken taken' : Option (List ℕ)) (after : M) (n : ℕ) : Type 0 where
   pub bytes : List ℕ
-  pub went : Went holds t fed left left' taken taken' after bytes
+  pub went : HasPassed holds t fed left left' taken taken' after bytes
   pub count : length bytes ≡ n
   pub short : n ≤ room
   pub end : n < room → IsAtEnd left'
@@ -38,7 +38,7 @@ pub record WentFar {M : Type 0} (holds : M → Task → List ℕ → Type 0) (t 
 abbrev pub Passed : {M : Type 0} → (M → Task → List ℕ → Type 0) → Task → List ℕ → ℕ → Option (List ℕ)
     → Option (List ℕ) → Option (List ℕ) → Option (List ℕ) → M → Result ℕ Fault → Type 0
 Passed holds t fed room left left' taken taken' after r =
-    MatchResult r (λ n. WentFar holds t fed room left left' taken taken' after n)
+    MatchResult r (λ n. HasFilledRoom holds t fed room left left' taken taken' after n)
     (λ _. Stopped t fed room left left' taken taken')
 
 -- the fault names the one device that failed

@@ -4,10 +4,10 @@ ghost use Rattle.std.specs.Prelude.{◌≡◌, ◌↔◌, ℕ, ◌+◌, ◌<◌,
 ghost use Rattle.aead.specs.Suites.{text_limit, aad_limit};
 ghost use Rattle.aead.specs.Ciphers.{setting};
 ghost use Rattle.aead.specs.AnyCiphers.{keyed_of};
-ghost use Rattle.aead.specs.Verdict.{WhereTold, OpensStream, BlamesRightly, counted};
+ghost use Rattle.aead.specs.Verdict.{IfAllKnown, OpensStream, BlamesRightly, counted};
 ghost use Rattle.aead.specs.SealStream.{GiveBlames};
-ghost use Rattle.aead.specs.Code.Told.{MeasureTold, VerifyTold, WriteTold, StepBlames, verify_answer};
-ghost use Rattle.aead.specs.Code.Told.{write_answer};
+ghost use Rattle.aead.specs.Code.Returns.{MeasureReturns, VerifyReturns, WriteReturns, StepBlames, verify_answer};
+ghost use Rattle.aead.specs.Code.Returns.{write_answer};
 ghost use Rattle.aead.specs.Code.Passes.{BlamesReading};
 ghost use Rattle.aead.specs.Code.Findings.{PassedWhole};
 
@@ -40,7 +40,7 @@ fn measure_step<I: Intake>(suite: Suite, intake: &mut I) -> Result<Measured, Fau
     ensures blame { StepBlames (Fault.TextTooLong ∷ Fault.TooShort ∷ []) (I.failures intake.old)
         (I.failures intake.new) result }
     ensures told { IfSome (I.left intake.old)
-        (λ m. MeasureTold (text_limit suite) m (I.failures intake.old) (I.failures intake.new) result) }
+        (λ m. MeasureReturns (text_limit suite) m (I.failures intake.old) (I.failures intake.new) result) }
 {
     Measured::of(intake, suite.text_limit())
 }
@@ -104,7 +104,7 @@ fn verify_step<I: Intake>(
     ensures blame { StepBlames (Fault.TagMismatch ∷ Fault.SourceChanged ∷ []) (I.failures intake.old)
         (I.failures intake.new) result }
     ensures told { IfSome (I.left intake.old)
-        (λ v. VerifyTold (setting (keyed_of cipher.now) nonce.now aad.now)
+        (λ v. VerifyReturns (setting (keyed_of cipher.now) nonce.now aad.now)
         measured.now.tag measured.now.length v (I.failures intake.old) (I.failures intake.new) result) }
 {
     match verify_reading(cipher, nonce, aad, measured, intake) {
@@ -127,7 +127,7 @@ fn write_step<I: Intake, O: Outlet>(
     ensures blame { GiveBlames (Fault.SourceChanged ∷ []) (I.failures intake.old) (I.failures intake.new)
         (O.failures outlet.old) (O.failures outlet.new) result }
     ensures told { IfSome (I.left intake.old)
-        (λ w. WriteTold (setting (keyed_of cipher.now) nonce.now aad.now)
+        (λ w. WriteReturns (setting (keyed_of cipher.now) nonce.now aad.now)
         measured.now.tag measured.now.length w (O.taken outlet.old) (O.taken outlet.new)
         (I.failures intake.old) (I.failures intake.new)
         (O.failures outlet.old) (O.failures outlet.new) result) }
@@ -161,7 +161,7 @@ pub fn open_stream<I: Intake, J: Intake, K: Intake, O: Outlet>(
         (counted (I.failures measure.old) (J.failures verify.old) (K.failures write.old) (O.failures out.old))
         (counted (I.failures measure.new) (J.failures verify.new) (K.failures write.new) (O.failures out.new))
         result }
-    ensures opens { WhereTold (I.left measure.old) (J.left verify.old) (K.left write.old) (O.taken out.old)
+    ensures opens { IfAllKnown (I.left measure.old) (J.left verify.old) (K.left write.old) (O.taken out.old)
         (O.taken out.new)
         (λ m v w given. OpensStream (setting (keyed_of cipher.now) nonce.now aad.now) m v w given
         (counted (I.failures measure.old) (J.failures verify.old) (K.failures write.old) (O.failures out.old))

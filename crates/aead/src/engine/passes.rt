@@ -24,7 +24,7 @@ pub(crate) enum Finding {
     Sealed,
 }
 
-ghost use Rattle.aead.specs.Code.Findings.{PassedWhole, TookBody, MakesTextTag, Ends};
+ghost use Rattle.aead.specs.Code.Findings.{PassedWhole, PassesBody, MakesTextTag, Ends};
 ghost use Rattle.aead.specs.Code.Extents.{PassedAll, HasMore};
 
 // One piece: at most what the buffer holds.
@@ -105,7 +105,7 @@ pub(crate) fn finding_of<I: Intake>(
     made: Tag,
 ) -> Result<Finding, Fault>
     ensures found { (s : Setting) (left taken taken' : Option (List ℕ)) →
-        TookBody s measured.now.tag measured.now.length left (I.left intake.old) taken taken' came made →
+        PassesBody s measured.now.tag measured.now.length left (I.left intake.old) taken taken' came made →
         PassedWhole s measured.now.tag measured.now.length left (I.left intake.new) taken taken' result }
     ensures blame { BlamesReading (I.failures intake.old) (I.failures intake.new) result }
 {

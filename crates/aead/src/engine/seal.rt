@@ -4,7 +4,7 @@ ghost use Rattle.std.specs.Prelude.{◌≡◌, ◌↔◌, ◌<◌, ◌≤◌, �
 ghost use Rattle.aead.specs.Suites.{aad_limit};
 ghost use Rattle.aead.specs.Ciphers.{setting};
 ghost use Rattle.aead.specs.AnyCiphers.{one_pass_keyed};
-ghost use Rattle.aead.specs.SealStream.{GiveBlames, SealsStream, WhereTextTold};
+ghost use Rattle.aead.specs.SealStream.{GiveBlames, SealsStream, IfTextKnown};
 
 use crate::aead::Aead;
 use crate::any::AnyOnePass;
@@ -23,7 +23,7 @@ fn seal_over<N: MaskThenHash, I: Intake, O: Outlet>(
     requires { length aad.now ≤ aad_limit (N.keyed nonced.now).suite }
     ensures blame { GiveBlames (Fault.TextTooLong ∷ []) (I.failures text.old) (I.failures text.new)
         (O.failures out.old) (O.failures out.new) result }
-    ensures seals { WhereTextTold (I.left text.old) (O.taken out.old) (O.taken out.new)
+    ensures seals { IfTextKnown (I.left text.old) (O.taken out.old) (O.taken out.new)
         (λ x given. SealsStream (setting (N.keyed nonced.now) (N.nonce nonced.now) aad.now) x given
         (I.failures text.old) (I.failures text.new) (O.failures out.old) (O.failures out.new) result) }
 {
@@ -56,7 +56,7 @@ pub fn seal_stream<I: Intake, O: Outlet>(
         ↔ (aad_limit (one_pass_keyed cipher.now).suite < length aad.now) }
     ensures blame { GiveBlames (Fault.AadTooLong ∷ Fault.TextTooLong ∷ []) (I.failures text.old)
         (I.failures text.new) (O.failures out.old) (O.failures out.new) result }
-    ensures seals { WhereTextTold (I.left text.old) (O.taken out.old) (O.taken out.new)
+    ensures seals { IfTextKnown (I.left text.old) (O.taken out.old) (O.taken out.new)
         (λ x given. SealsStream (setting (one_pass_keyed cipher.now) nonce.now aad.now) x given
         (I.failures text.old) (I.failures text.new) (O.failures out.old) (O.failures out.new) result) }
 {

@@ -7,10 +7,10 @@ ghost use Rattle.aead.specs.Ciphers.{setting};
 ghost use Rattle.aead.specs.Code.States.{HoldsAuthenticator};
 ghost use Rattle.aead.specs.Code.Masks.{as_it_comes};
 ghost use Rattle.aead.specs.Code.Maskings.{HoldsMasking, repeating_task};
-ghost use Rattle.aead.specs.Code.Absorbed.{TakenIn};
+ghost use Rattle.aead.specs.Code.Absorbed.{AbsorbReturns};
 ghost use Rattle.aead.specs.Code.Passes.{BlamesReading};
 ghost use Rattle.aead.specs.SealStream.{GiveBlames};
-ghost use Rattle.aead.specs.SealSivStream.{WritesAgain, SealsSivStream, SivBlames, WhereBothTold};
+ghost use Rattle.aead.specs.SealSivStream.{WritesAgain, SealsSivStream, SivBlames, IfBothKnown};
 
 use crate::aead::Aead;
 use crate::authenticator::Authenticator;
@@ -35,7 +35,7 @@ fn absorb_all<I: Intake, H: TagHash>(
 ) -> Result<bool, Fault>
     requires { reading.old.length ≡ 0 }
     ensures taken { (s : Setting) → HoldsAuthenticator H.held reading.old s [] → limit ≤ text_limit s.suite →
-        TakenIn H.held s limit (I.left intake.old) (I.left intake.new) reading.new result }
+        AbsorbReturns H.held s limit (I.left intake.old) (I.left intake.new) reading.new result }
     ensures blame { BlamesReading (I.failures intake.old) (I.failures intake.new) result }
 {
     let n = match absorb_body(intake, reading, limit) {
@@ -98,7 +98,7 @@ fn seal_over<N: HashThenMask, I: Intake, J: Intake, O: Outlet>(
         (record { first = I.failures first.old; second = J.failures second.old; outlet = O.failures out.old })
         (record { first = I.failures first.new; second = J.failures second.new; outlet = O.failures out.new })
         result }
-    ensures seals { WhereBothTold (I.left first.old) (J.left second.old) (O.taken out.old) (O.taken out.new)
+    ensures seals { IfBothKnown (I.left first.old) (J.left second.old) (O.taken out.old) (O.taken out.new)
         (λ a b given. SealsSivStream (setting (N.keyed nonced.now) (N.nonce nonced.now) aad.now)
         a b given
         (record { first = I.failures first.old; second = J.failures second.old; outlet = O.failures out.old })
@@ -133,7 +133,7 @@ fn seal_by<M: Keyed128, I: Intake, J: Intake, O: Outlet>(
         (record { first = I.failures first.old; second = J.failures second.old; outlet = O.failures out.old })
         (record { first = I.failures first.new; second = J.failures second.new; outlet = O.failures out.new })
         result }
-    ensures seals { WhereBothTold (I.left first.old) (J.left second.old) (O.taken out.old) (O.taken out.new)
+    ensures seals { IfBothKnown (I.left first.old) (J.left second.old) (O.taken out.old) (O.taken out.new)
         (λ a b given. SealsSivStream (setting cipher.now nonce.now aad.now) a b given
         (record { first = I.failures first.old; second = J.failures second.old; outlet = O.failures out.old })
         (record { first = I.failures first.new; second = J.failures second.new; outlet = O.failures out.new })
@@ -166,7 +166,7 @@ pub fn seal_siv_stream<I: Intake, J: Intake, O: Outlet>(
         (record { first = I.failures first.old; second = J.failures second.old; outlet = O.failures out.old })
         (record { first = I.failures first.new; second = J.failures second.new; outlet = O.failures out.new })
         result }
-    ensures seals { WhereBothTold (I.left first.old) (J.left second.old) (O.taken out.old) (O.taken out.new)
+    ensures seals { IfBothKnown (I.left first.old) (J.left second.old) (O.taken out.old) (O.taken out.new)
         (λ a b given. SealsSivStream (setting cipher.now nonce.now aad.now) a b given
         (record { first = I.failures first.old; second = J.failures second.old; outlet = O.failures out.old })
         (record { first = I.failures first.new; second = J.failures second.new; outlet = O.failures out.new })

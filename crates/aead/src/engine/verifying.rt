@@ -7,7 +7,7 @@ ghost use Rattle.aead.specs.Sealing.{Setting};
 ghost use Rattle.aead.specs.Ciphers.{setting};
 ghost use Rattle.aead.specs.AnyCiphers.{one_pass_keyed};
 ghost use Rattle.aead.specs.Code.States.{HoldsAuthenticator};
-ghost use Rattle.aead.specs.Code.Absorbed.{TookPiece};
+ghost use Rattle.aead.specs.Code.Absorbed.{AbsorbsPiece};
 ghost use Rattle.aead.specs.Code.Passes.{BlamesReading};
 ghost use Rattle.aead.specs.Code.Findings.{PassedWhole};
 
@@ -32,7 +32,7 @@ fn absorb_piece<I: Intake, H: TagHash>(
     ensures bound { IfOk result (λ n. n ≤ length buf.old) }
     ensures taken { (s : Setting) (text : List ℕ) → HoldsAuthenticator H.held reading.old s text
         → length text + length buf.old ≤ text_limit s.suite →
-        TookPiece H.held s text (length buf.old) (I.left intake.old) (I.left intake.new) reading.new result }
+        AbsorbsPiece H.held s text (length buf.old) (I.left intake.old) (I.left intake.new) reading.new result }
     ensures blame { BlamesReading (I.failures intake.old) (I.failures intake.new) result }
     ensures length { IfOk result (λ n. reading.new.length ≡ reading.old.length + n) }
 {
@@ -53,7 +53,7 @@ pub(crate) fn absorb_body<I: Intake, H: TagHash>(
     requires { reading.old.length ≡ 0 }
     ensures bound { IfOk result (λ n. n ≤ length) }
     ensures taken { (s : Setting) → HoldsAuthenticator H.held reading.old s [] → length ≤ text_limit s.suite →
-        TookPiece H.held s [] length (I.left intake.old) (I.left intake.new) reading.new result }
+        AbsorbsPiece H.held s [] length (I.left intake.old) (I.left intake.new) reading.new result }
     ensures blame { BlamesReading (I.failures intake.old) (I.failures intake.new) result }
     ensures length { IfOk result (λ n. reading.new.length ≡ n) }
 {

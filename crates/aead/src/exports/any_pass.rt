@@ -7,7 +7,7 @@ ghost use Rattle.octets.specs.Masked.{masked};
 ghost use Rattle.aead.specs.Suites.{text_limit};
 ghost use Rattle.aead.specs.Sealing.{Setting, mask_of, tag_of};
 ghost use Rattle.aead.specs.Exports.{setting_of};
-ghost use Rattle.aead.specs.Stored.{HoldsBy, HoldsTaken, HoldsSealed, BeginRefused};
+ghost use Rattle.aead.specs.Stored.{HoldsBy, HoldsSivText, HoldsSealed, BeginRefused};
 ghost use Rattle.aead.specs.Code.Masks.{TakesText};
 
 use super::pass::{is_siv, mask_piece, mask_siv, pass_tag, siv_stream, tag_by, take_piece};
@@ -95,8 +95,8 @@ fn take_text_by<H: StoredHash, S: MaskStream>(
 // is.
 fn take_siv_text(state: &mut StoredSealer, suite: Suite, tag: &[u8; 16], piece: &[u8]) -> bool
     ensures takes { (s : Setting) (bytes : List ℕ) → s.suite ≡ suite → result ≡ true
-        → HoldsTaken state.old s (masked (mask_of s tag.now) 0 bytes)
-        → HoldsTaken state.new s (masked (mask_of s tag.now) 0 (bytes ++ piece.now)) }
+        → HoldsSivText state.old s (masked (mask_of s tag.now) 0 bytes)
+        → HoldsSivText state.new s (masked (mask_of s tag.now) 0 (bytes ++ piece.now)) }
     ensures fits { result ≡ true → state.old.length + length piece.now ≤ text_limit suite }
     ensures past { result ≡ false → text_limit suite < state.old.length + length piece.now }
     ensures kept { result ≡ false → state.new ≡ state.old }

@@ -6,7 +6,7 @@ ghost use Rattle.aead.specs.Suites.{ByChaCha, ByGcm, ByGcmSiv, construction_of, 
 ghost use Rattle.aead.specs.Sealing.{Setting, tag_over};
 ghost use Rattle.aead.specs.Exports.{suite_number};
 ghost use Rattle.aead.specs.Stored.{IsPolyKey, IsGhashKey, IsPolyvalKey, HasKeys};
-ghost use Rattle.aead.specs.Stored.{HoldsBy, HoldsOf, HoldsBytes, HoldsTaken};
+ghost use Rattle.aead.specs.Stored.{HoldsBy, HoldsOf, HoldsBytes, HoldsSivText};
 ghost use Rattle.aead.specs.Code.States.{MadeByChaCha, MadeByGcm, MadeByGcmSiv};
 ghost use Rattle.aead.specs.Code.Steps.{MasksPiece};
 
@@ -240,7 +240,7 @@ pub(super) fn mask_siv<R: Order>(
 ) -> bool
     requires { limit ≤ text_limit suite }
     ensures masks { (s : Setting) (fed : List ℕ) → s.suite ≡ suite → result ≡ true
-        → MasksPiece HoldsTaken R.hashed state.old state.new piece.old piece.new s tag.now fed }
+        → MasksPiece HoldsSivText R.hashed state.old state.new piece.old piece.new s tag.now fed }
     ensures fits { result ≡ true → state.old.length + length piece.old ≤ limit }
     ensures past { result ≡ false → limit < state.old.length + length piece.old }
     ensures kept { result ≡ false → (state.new ≡ state.old) × (piece.new ≡ piece.old) }
@@ -320,7 +320,7 @@ pub(super) fn take_piece(state: &mut StoredSealer, suite: Suite, piece: &[u8]) -
 // Takes in a piece of a text under AES-GCM-SIV, if it is within the suite's limit. Returns whether it is.
 pub(super) fn take_siv(state: &mut StoredSealer, suite: Suite, piece: &[u8]) -> bool
     ensures takes { (s : Setting) (text : List ℕ) → s.suite ≡ suite → result ≡ true
-        → HoldsTaken state.old s text → HoldsTaken state.new s (text ++ piece.now) }
+        → HoldsSivText state.old s text → HoldsSivText state.new s (text ++ piece.now) }
     ensures fits { result ≡ true → state.old.length + length piece.now ≤ text_limit suite }
     ensures past { result ≡ false → text_limit suite < state.old.length + length piece.now }
     ensures kept { result ≡ false → state.new ≡ state.old }

@@ -9,7 +9,7 @@ ghost use Rattle.aead.specs.Suites.{ByGcmSiv, construction_of};
 ghost use Rattle.aead.specs.Sealing.{Setting, mask_of, tag_of};
 ghost use Rattle.aead.specs.Pieces.{Repeats};
 ghost use Rattle.aead.specs.Exports.{suite_number, unknown_suite, setting_of};
-ghost use Rattle.aead.specs.Stored.{zero_passes, not_begun, HoldsTaken, BeginRefused};
+ghost use Rattle.aead.specs.Stored.{zero_passes, not_begun, HoldsSivText, BeginRefused};
 ghost use Rattle.aead.specs.StoredSiv.{absorbing, writing, NotIn, HoldsAbsorbing, HoldsWriting};
 ghost use Rattle.aead.specs.StoredSiv.{Absorbs, Tags, Encrypts, Ends};
 
@@ -43,7 +43,7 @@ pub(super) fn begun(
 ) -> Result<StoredSealer, Fault>
     requires { construction_of suite ≡ ByGcmSiv }
     ensures { let s = setting_of suite key.now nonce.now aad.now in
-        MatchResult result (λ p. HoldsTaken p s []) (BeginRefused s) }
+        MatchResult result (λ p. HoldsSivText p s []) (BeginRefused s) }
 {
     if key.len() != suite.key_length() {
         return Err(Fault::KeyLength);

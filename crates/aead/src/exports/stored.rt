@@ -8,7 +8,7 @@ ghost use Rattle.octets.specs.Bytes.{pad16};
 ghost use Rattle.aead.specs.Code.States.{HoldsAuthenticator};
 ghost use Rattle.aead.specs.Stored.{zero_sum, zeros, zero_passes, IsPolyKey, IsPolySum, IsGhashKey};
 ghost use Rattle.aead.specs.Stored.{IsGhashSum, IsPolyvalKey, IsPolyvalSum, HasKeys, HoldsBy, HoldsSealed};
-ghost use Rattle.aead.specs.Stored.{HasStart, HoldsTaken};
+ghost use Rattle.aead.specs.Stored.{HasStart, HoldsSivText};
 
 use crate::authenticator::Authenticator;
 use crate::derived_keys::expanded;
@@ -141,8 +141,8 @@ impl StoredSealer {
     pub(super) fn restarted(&self, start: StoredSum) -> StoredSealer
         ensures sealed { (s : Setting) (tag bytes : List ℕ) → HoldsSealed self.now s tag bytes
             → HasStart start s → HoldsSealed result s tag [] }
-        ensures taken { (s : Setting) (text : List ℕ) → HoldsTaken self.now s text
-            → IsPolyvalSum start s (pad16 s.aad) → HoldsTaken result s [] }
+        ensures taken { (s : Setting) (text : List ℕ) → HoldsSivText self.now s text
+            → IsPolyvalSum start s (pad16 s.aad) → HoldsSivText result s [] }
     {
         let mut state = *self;
         state.used = 0;

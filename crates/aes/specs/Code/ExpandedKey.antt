@@ -19,7 +19,7 @@ IsKeySize nk = (nk ≡ 4) ⊎ ((nk ≡ 6) ⊎ (nk ≡ 8))
 abbrev pub key_of : List (List ℕ) → ℕ → List ℕ
 key_of ws nk = flat_map (λ w. w) (take nk ws)
 
--- what the fields keep: words that spell the columns of the table of the key that they begin with
+-- the words of an expanded key: they spell the columns of the table of the key that they begin with
 pub record IsExpanded (ws : List ℕ) (nk : ℕ) : Type 0 where
   pub size : IsKeySize nk
   pub length_is : length (key_of (columns_of ws) nk) ≡ 4 * nk
@@ -36,7 +36,7 @@ le_column_of : (w : ℕ) → w < 2 ^ 32 → le (column_of w) ≡ w
 unfolding column_of
 le_column_of w h = le_is w32 (column_of w) (lit≤ tt) refl ∙ from_le_bytes-to_le_bytes_4 w h
 
--- the same of a list of words
+-- words read from the bytes of their columns are themselves
 le_columns_of : (ws : List ℕ) → ((i : ℕ) → get_or ws i 0 < 2 ^ 32) → map le (columns_of ws) ≡ ws
 le_columns_of [] h = refl
 le_columns_of (w ∷ ws) h =

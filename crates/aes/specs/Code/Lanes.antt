@@ -14,7 +14,7 @@ pub record HasLanes (v : List ℕ) (f : ℕ → ℕ) : Type 0 where
 abbrev pub IsPlace : ℕ → Type 0
 IsPlace j = (nat_le 128 j || nat_lt j 16) ≡ true
 
--- what the table has there
+-- the entry of the table, or 0 past its end
 abbrev pub entry : List ℕ → ℕ → ℕ
 entry t j = if nat_le 128 j then 0 else slice_index t j
 

@@ -39,7 +39,7 @@ field_at suite field line = do
   bytes ← hex_at (field_name field) line
   if has_length (field_length suite field) bytes then Ok bytes else Err BadLength
 
--- what was found, if anything was
+-- the value found, or the cause
 abbrev pub ok_or : {A : Type 0} → Cause → Option A → Result A Cause
 ok_or cause None = Err cause
 ok_or cause (Some x) = Ok x
@@ -65,7 +65,7 @@ pub data Place : Type 0 where
   fields : Format → List Field → Record → Place
   text : Format → Record → Place
 
--- what the last lines of a record come to
+-- the end of a record, by its last lines
 unfoldable pub text_at : Format → Record → List ℕ → Result (Place × List Record) Cause
 text_at format r line = do
   bytes ← hex_at (codes "text") line
@@ -82,7 +82,7 @@ end_at format r line =
     else if may_cut format r.suite && is_named (codes "cuts") (value_line line) then cuts_at format r line
     else text_at format r line
 
--- what is expected behind a line, and the record that it ends
+-- the lines expected after a line, and the record that it ends
 unfoldable pub step : Place → List ℕ → Result (Place × List Record) Cause
 step start line = if is_gap line then Ok (start, []) else
     (format_at line >>= λ format. Ok (between format, []))

@@ -1,4 +1,4 @@
-use Rattle.std.proofs.Common.{◌≡◌, ℕ, ◌+◌, ◌∙◌, ap, sym, arith}
+use Rattle.std.proofs.Common.{◌≡◌, ◌+◌, ◌∙◌, ap, sym, arith}
 use Rattle.octets.specs.Masked.{masked}
 use Rattle.chacha.specs.Block.{serialized, block}
 use Rattle.chacha.specs.Stream.{key_stream_byte}

@@ -1,4 +1,4 @@
-use Rattle.std.proofs.Common.{◌≡◌, ◌%◌, ◌∙◌, ap, sym, arith}
+use Rattle.std.proofs.Common.{◌%◌, ◌∙◌, ap, sym, arith}
 use Rattle.chacha.specs.Code.Halves.{round_at}
 use Rattle.chacha.specs.Code.Rows.{read_by_rows}
 use Rattle.chacha.proofs.Halves.{round_at_odd}

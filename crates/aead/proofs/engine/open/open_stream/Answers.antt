@@ -6,7 +6,7 @@ use Rattle.octets.specs.declared.fault.Fault.TheVariants.{AadTooLong}
 use Rattle.aead.specs.declared.suite.Suite.{Suite}
 use Rattle.aead.specs.declared.engine.measure.Measured.{Measured}
 use Rattle.aead.specs.Suites.{aad_limit, text_limit}
-use Rattle.aead.specs.Code.Told.{MeasureTold}
+use Rattle.aead.specs.Code.Returns.{MeasureReturns}
 use Rattle.aead.specs.Sealing.{Setting}
 use Rattle.aead.specs.Ciphers.{setting}
 use Rattle.aead.specs.AnyCiphers.{keyed_of}
@@ -29,12 +29,12 @@ returns-in_err-check_aad-clause-opens g c =
     (g.K.Intake.failures c.args.write.now) (g.O.Outlet.failures c.args.out.now))
     long)
 
--- the same answer of the measure reading by the suite's other name
-told_at : (x y : Suite) (lm : Option (List ℕ)) (before after : ℕ) (r : Result Measured Fault) → x ≡ y
-    → IfSome lm (λ m. MeasureTold (text_limit x) m before after r)
-    → IfSome lm (λ m. MeasureTold (text_limit y) m before after r)
-told_at x y lm before after r e told = let P : Suite → Type 0 =
-    λ z. IfSome lm (λ m. MeasureTold (text_limit z) m before after r) in subst P e told
+-- the result of the measure reading, by another name of its suite
+known_at : (x y : Suite) (lm : Option (List ℕ)) (before after : ℕ) (r : Result Measured Fault) → x ≡ y
+    → IfSome lm (λ m. MeasureReturns (text_limit x) m before after r)
+    → IfSome lm (λ m. MeasureReturns (text_limit y) m before after r)
+known_at x y lm before after r e told = let P : Suite → Type 0 =
+    λ z. IfSome lm (λ m. MeasureReturns (text_limit z) m before after r) in subst P e told
 
 pub returns-in-Err-clause-opens : goal.returns-in-Err-clause-opens
 returns-in-Err-clause-opens g c =
@@ -47,7 +47,7 @@ returns-in-Err-clause-opens g c =
     (g.I.Intake.failures c.args.measure.now) (g.I.Intake.failures c.measure_step.new.intake)
     (g.J.Intake.failures c.args.verify.now)
     (g.K.Intake.failures c.args.write.now) (g.O.Outlet.failures c.args.out.now) c.in-Err.fault
-    fits (told_at c.suite-suite.result s.suite (g.I.Intake.left c.args.measure.now)
+    fits (known_at c.suite-suite.result s.suite (g.I.Intake.left c.args.measure.now)
     (g.I.Intake.failures c.args.measure.now) (g.I.Intake.failures c.measure_step.new.intake)
     (Err c.in-Err.fault) c.suite-suite.ensures c.in-Err.ensures.told)
 
@@ -63,7 +63,7 @@ returns-in-Err-verify_step-clause-opens g c =
     (g.I.Intake.failures c.args.measure.now) (g.I.Intake.failures c.measure_step.new.intake)
     (g.J.Intake.failures c.args.verify.now) (g.J.Intake.failures c.verify_step.new.intake)
     (g.K.Intake.failures c.args.write.now) (g.O.Outlet.failures c.args.out.now) c.in-Err-verify_step.fault
-    fits (told_at c.suite-suite.result s.suite (g.I.Intake.left c.args.measure.now)
+    fits (known_at c.suite-suite.result s.suite (g.I.Intake.left c.args.measure.now)
     (g.I.Intake.failures c.args.measure.now) (g.I.Intake.failures c.measure_step.new.intake)
     (Ok c.in-Ok.measured) c.suite-suite.ensures c.in-Ok.ensures.told) c.in-Err-verify_step.ensures.told
 
@@ -81,7 +81,7 @@ returns-in-Ok-verify_step-clause-opens g c =
     (g.J.Intake.failures c.args.verify.now) (g.J.Intake.failures c.verify_step.new.intake)
     (g.K.Intake.failures c.args.write.now) (g.K.Intake.failures c.write_step.new.intake)
     (g.O.Outlet.failures c.args.out.now) (g.O.Outlet.failures c.write_step.new.outlet) c.write_step.result
-    fits (told_at c.suite-suite.result s.suite (g.I.Intake.left c.args.measure.now)
+    fits (known_at c.suite-suite.result s.suite (g.I.Intake.left c.args.measure.now)
     (g.I.Intake.failures c.args.measure.now) (g.I.Intake.failures c.measure_step.new.intake)
     (Ok c.in-Ok.measured) c.suite-suite.ensures c.in-Ok.ensures.told) c.in-Ok-verify_step.ensures.told
     c.write_step.ensures.told

@@ -1,7 +1,7 @@
 use Rattle.aead.specs.Sealing.{Setting}
 use Rattle.aead.specs.Ciphers.{setting}
 use Rattle.aead.specs.AnyCiphers.{keyed_of}
-use Rattle.aead.proofs.Tellings.{verify_told}
+use Rattle.aead.proofs.KnownReadings.{verify_known}
 use Rattle.aead.proofs.engine.open.verify_step.Goals as goal
 
 pub returns-in-Ok-clause-told : goal.returns-in-Ok-clause-told
@@ -9,5 +9,5 @@ returns-in-Ok-clause-told g c =
     let s : Setting = setting (keyed_of c.args.cipher.now) c.args.nonce.now
     c.args.aad.now in
     let a = c.args.measured.now in
-    verify_told s _ _ _ _ _ _ _ _ _ _ a.tag_is.length_is a.low
+    verify_known s _ _ _ _ _ _ _ _ _ _ a.tag_is.length_is a.low
     c.in-Ok.ensures.passed c.answer_verify.ensures c.in-Ok.ensures.blame

@@ -1,7 +1,7 @@
 use Rattle.aead.specs.Sealing.{Setting}
 use Rattle.aead.specs.Ciphers.{setting}
 use Rattle.aead.specs.AnyCiphers.{keyed_of}
-use Rattle.aead.proofs.Tellings.{write_told, write_stopped}
+use Rattle.aead.proofs.KnownReadings.{write_known, write_stopped}
 use Rattle.aead.proofs.engine.open.write_step.Goals as goal
 
 pub returns-in-Ok-clause-told : goal.returns-in-Ok-clause-told
@@ -9,7 +9,7 @@ returns-in-Ok-clause-told g c =
     let s : Setting = setting (keyed_of c.args.cipher.now) c.args.nonce.now
     c.args.aad.now in
     let a = c.args.measured.now in
-    write_told s _ _ _ _ _ _ _ _ _ _ _ _ a.tag_is.length_is a.low
+    write_known s _ _ _ _ _ _ _ _ _ _ _ _ a.tag_is.length_is a.low
     c.in-Ok.ensures.passed c.answer_write.ensures c.in-Ok.ensures.blame.0 c.in-Ok.ensures.blame.1
 
 pub returns-in-Err-clause-told : goal.returns-in-Err-clause-told

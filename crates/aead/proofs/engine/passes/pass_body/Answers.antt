@@ -1,7 +1,7 @@
 use Rattle.std.proofs.Common.{◌+◌, ◌-◌, ◌≤◌, ◌<◌, [], ◌++◌, length, take, arith, refl, ◌∙◌, length-append}
 use Rattle.std.proofs.lemmas.Grind.{common_steps}
 use Rattle.std.proofs.lemmas.Result.{err_from_is_err_and}
-use Rattle.aead.proofs.Passing.{went_none, went_more, stopped_more, far_more}
+use Rattle.aead.proofs.Passing.{passed_none, passed_more, stopped_more, far_more}
 use Rattle.aead.proofs.engine.passes.pass_body.Goals as goal
 
 pub loop-done-init : goal.loop-done-init
@@ -9,7 +9,7 @@ loop-done-init g c = record {
   in_range = omega arith;
   fed = omega arith;
   same_limit = refl;
-  went = λ t h. ([], went_none _ t [] _ _ _ h, refl);
+  went = λ t h. ([], passed_none _ t [] _ _ _ h, refl);
   read = refl;
   wrote = refl;
 }
@@ -43,7 +43,7 @@ loop-done-preserved g c = record {
       let w = c.loop-done.invariant.went t h in
       let q = c.in_ok-n.ensures.passed t w.0 w.1.held in (
         w.0 ++ q.bytes,
-        went_more _ _ t [] w.0 q.bytes _ _ _ _ _ _ _ _ w.1 q.went,
+        passed_more _ _ t [] w.0 q.bytes _ _ _ _ _ _ _ _ w.1 q.went,
         omega (arith, length-append w.0 q.bytes, q.count, w.2),
       );
   read = c.in_ok-n.ensures.blame.0 ∙ c.loop-done.invariant.read;

@@ -1,6 +1,6 @@
 use Rattle.std.proofs.Common.{◌+◌, ◌-◌, ◌≡◌, ℕ, ◌≤◌, List, [], length}
 use Rattle.aead.specs.Code.Maskings.{Task, HoldsMasking}
-use Rattle.aead.specs.Code.Passes.{Went}
+use Rattle.aead.specs.Code.Passes.{HasPassed}
 use Rattle.aead.proofs.engine.passes.pass_body.Given as goal
 
 abbrev pub invariant-loop-done : goal.invariant-loop-done
@@ -9,7 +9,7 @@ invariant-loop-done g l = record {
   fed : l.masking.authenticator.length ≡ l.initial.masking.authenticator.length + l.done;
   same_limit : l.masking.limit ≡ l.initial.masking.limit;
   went : (t : Task) → HoldsMasking g.S.MaskStream.made g.H.TagHash.held g.R.Order.hashed l.initial.masking t [] →
-      (bytes : List ℕ) × Went (HoldsMasking g.S.MaskStream.made g.H.TagHash.held g.R.Order.hashed) t []
+      (bytes : List ℕ) × HasPassed (HoldsMasking g.S.MaskStream.made g.H.TagHash.held g.R.Order.hashed) t []
       (g.I.Intake.left l.initial.intake) (g.I.Intake.left l.intake)
       (g.O.Outlet.taken l.initial.outlet) (g.O.Outlet.taken l.outlet) l.masking bytes
       × (length bytes ≡ l.done);

@@ -6,8 +6,8 @@ use Rattle.octets.specs.Device.{Failed}
 use Rattle.aead.specs.Code.Masks.{as_it_comes}
 use Rattle.aead.specs.Code.Maskings.{HoldsMasking, repeating_task}
 use Rattle.aead.specs.Code.Passes.{Stopped}
-use Rattle.aead.specs.Code.Extents.{WentAll}
-use Rattle.aead.proofs.SealExits.{told, where_told}
+use Rattle.aead.specs.Code.Extents.{HasPassedAll}
+use Rattle.aead.proofs.SealExits.{told, if_known}
 use Rattle.aead.proofs.SivExits.{again_stopped, again_long, again_differs, again_tag}
 use Rattle.aead.proofs.engine.seal_siv.write_again.Goals as goal
 
@@ -17,7 +17,7 @@ pass_all-requires g c = omega (arith, c.requires)
 pub returns-in-Err-clause-written : goal.returns-in-Err-clause-written
 returns-in-Err-clause-written g c = λ s first two e h.
     let l : Option (List ℕ) = g.J.Intake.left c.args.intake.now in
-    where_told l _ _
+    if_known l _ _
     (told l (λ m. Stopped (repeating_task s first) [] c.args.again.limit m
     (g.J.Intake.left c.pass_all.new.intake) (g.O.Outlet.taken c.args.outlet.now)
     (g.O.Outlet.taken c.pass_all.new.outlet))
@@ -28,8 +28,8 @@ pub returns-in-Ok-None-clause-written : goal.returns-in-Ok-None-clause-written
 returns-in-Ok-None-clause-written g c = λ s first two e h.
     let l : Option (List ℕ) = g.J.Intake.left c.args.intake.now in
     let went = rw c.in-Ok-None.field-0-is at (c.in-Ok-None.ensures.passed (repeating_task s first) h) in
-    where_told l _ _
-    (told l (λ m. WentAll (HoldsMasking g.S.MaskStream.made g.H.TagHash.held as_it_comes) (repeating_task s first)
+    if_known l _ _
+    (told l (λ m. HasPassedAll (HoldsMasking g.S.MaskStream.made g.H.TagHash.held as_it_comes) (repeating_task s first)
     c.args.again.limit m (g.J.Intake.left c.pass_all.new.intake) (g.O.Outlet.taken c.args.outlet.now)
     (g.O.Outlet.taken c.pass_all.new.outlet) c.pass_all.new.masking None) went)
     (λ b w. again_long _ s first b _ _ _ _ _ _ _ _ _ h.limit_is w c.in-Ok-None.ensures.blame)
@@ -38,8 +38,8 @@ pub returns-else-repeats-clause-written : goal.returns-else-repeats-clause-writt
 returns-else-repeats-clause-written g c = λ s first two e h.
     let l : Option (List ℕ) = g.J.Intake.left c.args.intake.now in
     let went = rw c.in-Ok-Some.field-0-is at (c.in-Ok-Some.ensures.passed (repeating_task s first) h) in
-    where_told l _ _
-    (told l (λ m. WentAll (HoldsMasking g.S.MaskStream.made g.H.TagHash.held as_it_comes) (repeating_task s first)
+    if_known l _ _
+    (told l (λ m. HasPassedAll (HoldsMasking g.S.MaskStream.made g.H.TagHash.held as_it_comes) (repeating_task s first)
     c.args.again.limit m (g.J.Intake.left c.pass_all.new.intake) (g.O.Outlet.taken c.args.outlet.now)
     (g.O.Outlet.taken c.pass_all.new.outlet) c.pass_all.new.masking (Some c.in-Ok-Some.field-0-0)) went)
     (λ b w. again_differs _ s first b _ _ _ _ _ _ _ _ _ _ h.limit_is w c.in-Ok-Some.ensures.blame
@@ -52,8 +52,8 @@ returns-in-Ok-clause-written g c = λ s first two e h.
     let size : length c.args.tag.now ≡ 16 = c.bytes.ensures.is_block.length_is in
     let R : List ℕ → Type 0 =
     λ x. Appends (g.O.Outlet.taken c.pass_all.new.outlet) (g.O.Outlet.taken c.give_all.new.outlet) x in
-    where_told l _ _
-    (told l (λ m. WentAll (HoldsMasking g.S.MaskStream.made g.H.TagHash.held as_it_comes) (repeating_task s first)
+    if_known l _ _
+    (told l (λ m. HasPassedAll (HoldsMasking g.S.MaskStream.made g.H.TagHash.held as_it_comes) (repeating_task s first)
     c.args.again.limit m (g.J.Intake.left c.pass_all.new.intake) (g.O.Outlet.taken c.args.outlet.now)
     (g.O.Outlet.taken c.pass_all.new.outlet) c.pass_all.new.masking (Some c.in-Ok-Some.field-0-0)) went)
     (λ b w. again_tag _ s first b c.args.tag.now _ _ 16 _ _ _ _ _ _ _ _ _ _ h.limit_is w
@@ -77,8 +77,8 @@ returns-in-Err-give_all-clause-written g c = λ s first two e h.
     λ x. Appends (g.O.Outlet.taken c.pass_all.new.outlet) (g.O.Outlet.taken c.give_all.new.outlet)
     (take given.0 x) in
     let F : ℕ → Type 0 = λ n. Failed n (g.O.Outlet.failures c.give_all.new.outlet) in
-    where_told l _ _
-    (told l (λ m. WentAll (HoldsMasking g.S.MaskStream.made g.H.TagHash.held as_it_comes) (repeating_task s first)
+    if_known l _ _
+    (told l (λ m. HasPassedAll (HoldsMasking g.S.MaskStream.made g.H.TagHash.held as_it_comes) (repeating_task s first)
     c.args.again.limit m (g.J.Intake.left c.pass_all.new.intake) (g.O.Outlet.taken c.args.outlet.now)
     (g.O.Outlet.taken c.pass_all.new.outlet) c.pass_all.new.masking (Some c.in-Ok-Some.field-0-0)) went)
     (λ b w. again_tag _ s first b c.args.tag.now _ _ given.0 _ _ _ _ _ _ _ _ _ _ h.limit_is w

@@ -1,11 +1,11 @@
-use Rattle.std.proofs.Common.{◌≡◌, ℕ, List, ◌∙◌, ◌++◌, ◌×◌, [], length, take, refl, sym, ap, ap₂, subst, arith}
+use Rattle.std.proofs.Common.{◌≡◌, ℕ, List, ◌∙◌, ◌++◌, [], length, take, refl, sym, ap, ap₂, subst, arith}
 use Rattle.std.proofs.lemmas.List.{take_at}
 use Rattle.octets.specs.Bytes.{IsBlock}
 use Rattle.gf128.specs.Polyval.{IsReversedMulX}
 use Rattle.aead.specs.Suites.{key_length}
 use Rattle.aead.specs.Sealing.{Setting, authentication_key, encryption_key}
 use Rattle.aead.specs.Exports.{setting_of}
-use Rattle.aead.specs.Stored.{HoldsTaken, IsPolyvalKey}
+use Rattle.aead.specs.Stored.{HoldsSivText, IsPolyvalKey}
 use Rattle.aead.proofs.exports.siv.begun.Goals as goal
 
 -- The hash key that stands first in what is stored is that of the message.
@@ -35,7 +35,7 @@ returns-then-eq c =
     omega (arith, c.if-key-key_length.false, c.key_length.ensures) in
     let cipher : c.short_encryption_key-key.result ≡ encryption_key key nonce =
     c.short_encryption_key-key.ensures ∙ ap₂ encryption_key key_is c.new-parts.ensures.nonce in
-    subst (λ n. HoldsTaken c.begun_by.result (setting_of c.args.suite key n c.args.aad.now) [])
+    subst (λ n. HoldsSivText c.begun_by.result (setting_of c.args.suite key n c.args.aad.now) [])
     c.in_ok-nonce.ensures.0
     (c.begun_by.ensures s refl c.requires long refl refl c.in_ok-check_aad.ensures cipher keyed)
 
@@ -53,6 +53,6 @@ returns c =
     omega (arith, c.if-key-key_length.false, c.key_length.ensures) in
     let cipher : c.long_encryption_key-key.result ≡ encryption_key key nonce =
     c.long_encryption_key-key.ensures ∙ ap₂ encryption_key key_is c.new-parts.ensures.nonce in
-    subst (λ n. HoldsTaken c.begun_by-2.result (setting_of c.args.suite key n c.args.aad.now) [])
+    subst (λ n. HoldsSivText c.begun_by-2.result (setting_of c.args.suite key n c.args.aad.now) [])
     c.in_ok-nonce.ensures.0
     (c.begun_by-2.ensures s refl c.requires long refl refl c.in_ok-check_aad.ensures cipher keyed)

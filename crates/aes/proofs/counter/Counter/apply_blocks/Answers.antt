@@ -8,13 +8,13 @@ pub whole-init : goal.whole-init
 whole-init g c =
     let was = c.args.bytes.now in
     let done : ℕ = length was / 64 * 64 in
-    let begun = c.apply_fours.new.bytes in
-    let size : length begun ≡ done = c.apply_fours.auto.bytes ∙ length-take-le done was (omega arith) in
+    let begun = c.apply_fours-2.new.bytes in
+    let size : length begun ≡ done = c.apply_fours-2.auto.bytes ∙ length-take-le done was (omega arith) in
     record {
       within = omega (arith, length-begun was begun done size (omega arith));
-      none = c.apply_fours.ensures.used;
+      none = omega (arith, c.apply_fours-2.ensures.used, size);
       left = drop_at begun (drop done was) done size;
-      so_far = rw (take_at begun (drop done was) done size) c.apply_fours.ensures.advances;
+      so_far = rw (take_at begun (drop done was) done size) c.apply_fours-2.ensures.advances;
     }
 
 pub whole-preserved : goal.whole-preserved
@@ -44,9 +44,9 @@ returns-then-done-bytes g c =
     let k : ℕ = length mid - a in
     let ys = c.begin-then-done-bytes.new.bytes in
     let same : length mid ≡ length c.args.bytes.now =
-    c.whole.auto.bytes ∙ length-begun c.args.bytes.now c.apply_fours.new.bytes
+    c.whole.auto.bytes ∙ length-begun c.args.bytes.now c.apply_fours-2.new.bytes
     (length c.args.bytes.now / 64 * 64)
-    (c.apply_fours.auto.bytes
+    (c.apply_fours-2.auto.bytes
     ∙ length-take-le (length c.args.bytes.now / 64 * 64) c.args.bytes.now (omega arith)) (omega arith) in
     let room : a + k ≤ length mid = omega (arith, c.whole.invariant.within) in
     let part : length (take k (drop a mid)) ≡ k =
@@ -63,9 +63,9 @@ returns-then-done-bytes g c =
 pub returns-else-done-bytes : goal.returns-else-done-bytes
 returns-else-done-bytes g c =
     let same : length c.whole.bytes ≡ length c.args.bytes.now =
-    c.whole.auto.bytes ∙ length-begun c.args.bytes.now c.apply_fours.new.bytes
+    c.whole.auto.bytes ∙ length-begun c.args.bytes.now c.apply_fours-2.new.bytes
     (length c.args.bytes.now / 64 * 64)
-    (c.apply_fours.auto.bytes
+    (c.apply_fours-2.auto.bytes
     ∙ length-take-le (length c.args.bytes.now / 64 * 64) c.args.bytes.now (omega arith)) (omega arith) in
     advances_all g.C.Count.up c.args.self.now c.whole.self c.args.bytes.now c.whole.bytes c.whole.done
     (omega (arith, c.if-done-bytes.false)) (omega (arith, c.if-done-bytes.false)) c.whole.invariant.so_far

@@ -1,7 +1,7 @@
 use Rattle.std.proofs.Common.{ℕ, List, [], refl, subst, ◌∙◌}
 use Rattle.poly1305.specs.States.{Holds}
 use Rattle.aead.proofs.KeyStreamStart.{poly_key_first}
-use Rattle.aead.proofs.chacha_poly.BegunChaChaNonced.hash.Goals as goal
+use Rattle.aead.proofs.chacha_poly.BufferedChaChaNonced.hash.Goals as goal
 
 pub returns : goal.returns
 returns c = λ aad.

@@ -7,8 +7,8 @@ use Rattle.chacha.specs.States.{Holds}
 use Rattle.aead.specs.Suites.{text_limit, text_limit_by}
 use Rattle.aead.proofs.Streams.{surely_ok}
 use Rattle.aead.specs.Code.Masks.{chacha_mask}
-use Rattle.aead.proofs.BegunStreams.{begun_masked}
-use Rattle.aead.proofs.begun_stream.BegunStreamStream.apply_beside.Goals as goal
+use Rattle.aead.proofs.BufferedStreams.{buffered_masked}
+use Rattle.aead.proofs.buffered_stream.BufferedStreamStream.apply_beside.Goals as goal
 
 pub returns-clause-did : goal.returns-clause-did
 returns-clause-did g c = λ s tag n h room.
@@ -42,7 +42,7 @@ returns-clause-did g c = λ s tag n h room.
           rest_is = subst P next applied.holds;
         },
       ),
-      begun_masked s.key s.nonce m.start.now c.args.bytes.now c.xor_into.new.dst c.apply_with.new.bytes n m.used
+      buffered_masked s.key s.nonce m.start.now c.args.bytes.now c.xor_into.new.dst c.apply_with.new.bytes n m.used
           c.min-n.result (max (64 + n) there)
           q.start_is q.used_is c.min-n.ensures refl
           (c.xor_into.ensures ∙ ap₂ xor_bytes c.split_at_mut-first.ensures.front

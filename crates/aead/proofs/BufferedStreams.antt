@@ -33,7 +33,7 @@ from_one key nonce n p xs e =
     ap (key_stream_byte key nonce 0) place ∙ key_stream_byte-first key nonce 1 n i)
 
 -- a piece whose first bytes are masked by those that are there, and the others by the rest of the key stream
-pub begun_masked : (key nonce start piece first last : List ℕ) (n used count rest : ℕ)
+pub buffered_masked : (key nonce start piece first last : List ℕ) (n used count rest : ℕ)
     → ((i : ℕ) → i < length start → get_or start i 0 ≡ key_stream_byte key nonce 0 i)
     → used ≡ min (64 + n) (length start) → count ≡ min (length piece) (length start - used)
     → rest ≡ max (64 + n) (length start)
@@ -41,7 +41,7 @@ pub begun_masked : (key nonce start piece first last : List ℕ) (n used count r
     → last ≡ masked (key_stream_byte key nonce 0) rest (drop count piece)
     → first ++ last ≡ masked (key_stream_byte key nonce 1) n piece
 unfolding masked
-begun_masked key nonce start piece first last n used count rest same is_used is_count is_rest is_first
+buffered_masked key nonce start piece first last n used count rest same is_used is_count is_rest is_first
     is_last =
     let f : ℕ → ℕ = key_stream_byte key nonce 0 in
     let h : ℕ → ℕ = key_stream_byte key nonce 1 in

@@ -15,8 +15,8 @@ use Rattle.aead.specs.Measure.{last_16}
 use Rattle.aead.specs.Refusals.{DueTo}
 use Rattle.aead.specs.Code.Findings.{IsFinding}
 
-abbrev pub MeasureTold : ℕ → List ℕ → ℕ → ℕ → Result Measured Fault → Type 0
-MeasureTold limit m read read' r =
+abbrev pub MeasureReturns : ℕ → List ℕ → ℕ → ℕ → Result Measured Fault → Type 0
+MeasureReturns limit m read read' r =
     MatchResult r (λ a. (a.length ≡ length m) × (a.tag ≡ last_16 m) × (16 ≤ length m)
     × (length m ≤ limit + 16) × (read' ≡ read))
     (λ f. ((f ≡ TextTooLong) × (limit + 16 < length m) × (read' ≡ read))
@@ -35,14 +35,14 @@ write_answer Sealed = Ok tt
 write_answer Unsealed = Err SourceChanged
 write_answer Differs = Err SourceChanged
 
-abbrev pub VerifyTold : Setting → List ℕ → ℕ → List ℕ → ℕ → ℕ → Result (Unit {0}) Fault → Type 0
-VerifyTold s tag len v read read' r =
+abbrev pub VerifyReturns : Setting → List ℕ → ℕ → List ℕ → ℕ → ℕ → Result (Unit {0}) Fault → Type 0
+VerifyReturns s tag len v read read' r =
     ((f : Finding) × (r ≡ verify_answer f) × IsFinding s tag len v f × (read' ≡ read))
     ⊎ ((r ≡ Err Read) × Failed read read')
 
-abbrev pub WriteTold : Setting → List ℕ → ℕ → List ℕ → Option (List ℕ) → Option (List ℕ) → ℕ → ℕ → ℕ → ℕ
+abbrev pub WriteReturns : Setting → List ℕ → ℕ → List ℕ → Option (List ℕ) → Option (List ℕ) → ℕ → ℕ → ℕ → ℕ
     → Result (Unit {0}) Fault → Type 0
-WriteTold s tag len w taken taken' read read' wrote wrote' r =
+WriteReturns s tag len w taken taken' read read' wrote wrote' r =
     (Appends taken taken' (masked (mask_of s tag) 0 (take (len - 16) w))
     × ((f : Finding) × (r ≡ write_answer f) × IsFinding s tag len w f × (read' ≡ read) × (wrote' ≡ wrote)))
     ⊎ ((k : ℕ) × Appends taken taken' (take k (masked (mask_of s tag) 0 (take (len - 16) w)))

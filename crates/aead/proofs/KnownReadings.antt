@@ -8,24 +8,24 @@ use Rattle.aead.specs.declared.engine.passes.Finding.{Finding}
 use Rattle.aead.specs.Sealing.{Setting}
 use Rattle.aead.specs.Code.Maskings.{message_task}
 use Rattle.aead.specs.Code.Passes.{Stopped}
-use Rattle.aead.specs.Code.Findings.{WentWhole}
-use Rattle.aead.specs.Code.Told.{VerifyTold, WriteTold, verify_answer, write_answer}
+use Rattle.aead.specs.Code.Findings.{HasPassedReading}
+use Rattle.aead.specs.Code.Returns.{VerifyReturns, WriteReturns, verify_answer, write_answer}
 use Rattle.aead.proofs.Findings.{whole_found, whole_given, stopped_given}
 
-pub verify_told : (s : Setting) (tag : List ℕ) (len : ℕ) (l l' o o' : Option (List ℕ)) (f : Finding)
+pub verify_known : (s : Setting) (tag : List ℕ) (len : ℕ) (l l' o o' : Option (List ℕ)) (f : Finding)
     (read read' : ℕ) (r : Result (Unit {0}) Fault) → length tag ≡ 16 → 16 ≤ len →
-    WentWhole s tag len l l' o o' f → r ≡ verify_answer f → read' ≡ read
-    → IfSome l (λ v. VerifyTold s tag len v read read' r)
-verify_told s tag len None l' o o' f read read' r size low w e kept = tt
-verify_told s tag len (Some v) l' o o' f read read' r size low w e kept =
+    HasPassedReading s tag len l l' o o' f → r ≡ verify_answer f → read' ≡ read
+    → IfSome l (λ v. VerifyReturns s tag len v read read' r)
+verify_known s tag len None l' o o' f read read' r size low w e kept = tt
+verify_known s tag len (Some v) l' o o' f read read' r size low w e kept =
     inl (f, e, whole_found s tag len v l' o o' f size low w, kept)
 
-pub write_told : (s : Setting) (tag : List ℕ) (len : ℕ) (l l' o o' : Option (List ℕ)) (f : Finding)
+pub write_known : (s : Setting) (tag : List ℕ) (len : ℕ) (l l' o o' : Option (List ℕ)) (f : Finding)
     (read read' wrote wrote' : ℕ) (r : Result (Unit {0}) Fault) → length tag ≡ 16 → 16 ≤ len →
-    WentWhole s tag len l l' o o' f → r ≡ write_answer f → read' ≡ read → wrote' ≡ wrote
-    → IfSome l (λ w. WriteTold s tag len w o o' read read' wrote wrote' r)
-write_told s tag len None l' o o' f read read' wrote wrote' r size low w e kept kept' = tt
-write_told s tag len (Some v) l' o o' f read read' wrote wrote' r size low w e kept kept' =
+    HasPassedReading s tag len l l' o o' f → r ≡ write_answer f → read' ≡ read → wrote' ≡ wrote
+    → IfSome l (λ w. WriteReturns s tag len w o o' read read' wrote wrote' r)
+write_known s tag len None l' o o' f read read' wrote wrote' r size low w e kept kept' = tt
+write_known s tag len (Some v) l' o o' f read read' wrote wrote' r size low w e kept kept' =
     inl (
       whole_given s tag len v l' o o' f w,
       (f, e, whole_found s tag len v l' o o' f size low w, kept, kept'),
@@ -36,7 +36,7 @@ pub write_stopped : (s : Setting) (tag : List ℕ) (len : ℕ) (l l' o o' : Opti
     Stopped (message_task s tag) [] (len - 16) l l' o o'
     → ((f ≡ Read) × Failed read read' × (wrote' ≡ wrote))
     ⊎ ((f ≡ Write) × (read' ≡ read) × Failed wrote wrote') →
-    IfSome l (λ w. WriteTold s tag len w o o' read read' wrote wrote' (Err f))
+    IfSome l (λ w. WriteReturns s tag len w o o' read read' wrote wrote' (Err f))
 write_stopped s tag len None l' o o' read read' wrote wrote' f w blame = tt
 write_stopped s tag len (Some v) l' o o' read read' wrote wrote' f w blame =
     let k = stopped_given s tag (len - 16) v l' o o' w in

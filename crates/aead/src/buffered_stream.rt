@@ -9,7 +9,7 @@ use octets::{Key32, Nonce, Stream, Work, xor_into};
 
 // The key stream from counter 1 on: of the blocks that are there, and then of those after them.
 #[derive(Drop)]
-pub(crate) struct BegunStream<'a> {
+pub(crate) struct BufferedStream<'a> {
     // The blocks from counter 0 on.
     start: &'a [u8],
     // How many of their bytes were used.
@@ -19,19 +19,19 @@ pub(crate) struct BegunStream<'a> {
     ghost short: { length start.now ≤ 576 },
 }
 
-impl<'a> BegunStream<'a> {
-    ghost use Rattle.aead.specs.Code.Begun.{IsBegun};
+impl<'a> BufferedStream<'a> {
+    ghost use Rattle.aead.specs.Code.Buffered.{IsBuffered};
 
     // No byte is made yet.
-    pub(crate) fn new(key: &Key32, nonce: &Nonce, start: &'a [u8]) -> BegunStream<'a>
+    pub(crate) fn new(key: &Key32, nonce: &Nonce, start: &'a [u8]) -> BufferedStream<'a>
         requires has_a_block { 64 ≤ length start.now }
         requires short { length start.now ≤ 576 }
         requires whole { length start.now % 64 ≡ 0 }
         requires start_is { (i : ℕ) → i < length start.now
             → slice_index start.now i ≡ key_stream_byte key.now nonce.now 0 i }
-        ensures { IsBegun result key.now nonce.now 0 }
+        ensures { IsBuffered result key.now nonce.now 0 }
     {
-        BegunStream {
+        BufferedStream {
             start,
             used: 64,
             rest: ChaStream::new(key, nonce, (start.len() / 64) as u32),
@@ -39,10 +39,10 @@ impl<'a> BegunStream<'a> {
     }
 }
 
-impl<'a> Stream for BegunStream<'a> {
-    ghost use Rattle.aead.specs.Code.Begun.{DidBegun};
+impl<'a> Stream for BufferedStream<'a> {
+    ghost use Rattle.aead.specs.Code.Buffered.{DidBuffered};
 
-    ghost did = { DidBegun };
+    ghost did = { DidBuffered };
 
     fn apply_beside<W: Work>(&mut self, bytes: &mut [u8], work: &mut W) {
         let n = bytes.len().min(self.start.len() - self.used);
@@ -54,10 +54,10 @@ impl<'a> Stream for BegunStream<'a> {
     }
 }
 
-impl<'a> MaskStream for BegunStream<'a> {
-    ghost use Rattle.aead.specs.Code.Begun.{MadeByBegun, begun_masks};
+impl<'a> MaskStream for BufferedStream<'a> {
+    ghost use Rattle.aead.specs.Code.Buffered.{MadeByBuffered, buffered_masks};
 
-    ghost made = { MadeByBegun };
+    ghost made = { MadeByBuffered };
 
     fn part(&self, length: usize) -> usize {
         let begun = self.start.len() - self.used;
@@ -65,5 +65,5 @@ impl<'a> MaskStream for BegunStream<'a> {
         length.min(begun + more)
     }
 
-    ghost masks = { begun_masks };
+    ghost masks = { buffered_masks };
 }
