@@ -9,10 +9,9 @@ use Rattle.std.proofs.lemmas.Nat.Bits.{bit_at-zero, bit_at-lt, bit_at_ones, bit_
 use Rattle.std.proofs.lemmas.List.{get_or-replicate, get_or_append_left, get_or-append-add}
 use Rattle.std.proofs.lemmas.Simd.{length-zip2}
 use lib.Lanes.{zip2}
-use Rattle.octets.specs.Bytes.{IsBlock, block_at}
-use Rattle.aes.specs.Cipher.{cipher}
+use Rattle.octets.specs.Bytes.{IsBlock}
 use Rattle.aes.specs.Code.Nibbles.{CountsInNibble}
-use Rattle.aes.specs.Code.Planes.{HoldsBits, AreMasks, spot}
+use Rattle.aes.specs.Code.Planes.{HoldsBits, spot}
 use Rattle.aes.specs.Code.Wraps.{WrapsAround}
 use Rattle.aes.proofs.BitPlanes.{each_of}
 use Rattle.aes.proofs.Circuit.{eight, at, at_product, at_none, none}
@@ -204,12 +203,3 @@ sixteen_blocks up place wraps counts b x y block begun low whole lows wholes ex 
     ∙ ap₂ (λ (v : List ℕ) (n : ℕ). bit_xor (get_or v i 0) (cond (i == place) n 0)) (sym ey) (sym s)
 sixteen_blocks up place wraps counts b x y block begun low whole lows wholes ex ey q (suc (suc d)) i hq hi hd =
     absurd (omega arith)
-
--- four masks of sixteen, from number k on
-pub masks_on : (up : List ℕ → ℕ → List ℕ) (key first : List ℕ) (begun : ℕ) (other_key other_first : List ℕ) (other k : ℕ)
-    (masks : List ℕ) → other_key ≡ key → other_first ≡ first → other % 2 ^ 32 ≡ (begun + k) % 2 ^ 32
-    → ((q : ℕ) → q < 4 → block_at masks q ≡ cipher key (up first ((begun + (k + q)) % 2 ^ 32)))
-    → AreMasks up other_key other_first other masks
-masks_on up key first begun other_key other_first other k masks keys firsts begins are = λ q h.
-    let count : (begun + (k + q)) % 2 ^ 32 ≡ (other + q) % 2 ^ 32 = omega arith in
-    are q h ∙ ap₂ cipher (sym keys) (ap₂ up (sym firsts) count)

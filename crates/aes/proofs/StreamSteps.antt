@@ -15,7 +15,9 @@ use Rattle.octets.proofs.Orders.{big_number_is, little_number_is}
 use Rattle.aes.specs.Cipher.{cipher}
 use Rattle.aes.specs.Counters.{up_be, up_le, counter_byte}
 use Rattle.aes.specs.Code.Wraps.{WrapsAround}
-use Rattle.aes.specs.Streams.{Makes, Advances}
+use Rattle.octets.proofs.Blocks.{block_at-append}
+use Rattle.aes.specs.Code.Planes.{AreMasks}
+use Rattle.aes.specs.Streams.{Makes, Advances, AdvancesFront}
 use Rattle.aes.specs.declared.counter.Counter.{Counter}
 
 -- the number in the last four bytes, counted on and written over them
@@ -83,37 +85,6 @@ went_on up s t xs ys n key_stays first_stays begun_stays mask_stays used_rises s
       xored ∙ block_masked up key first s.mask xs made s.used n mask place room long size,
     )
 
--- the first bytes of the next block
-pub began : {C : Type 0} (up : List ℕ → ℕ → List ℕ) (s t : Counter C) (xs ys : List ℕ) (n : ℕ)
-    → WrapsAround up
-    → t.key ≡ s.key → t.first ≡ s.first → t.begun ≡ (s.begun + 1) % 2 ^ 32
-    → t.mask ≡ cipher s.key (up s.first s.begun)
-    → t.used ≡ length xs % 16 → s.used ≡ 0 → 0 < length xs → length xs ≤ 16 → length t.mask ≡ 16
-    → n ≡ length xs
-    → ys ≡ xor_bytes xs (take n t.mask) → Advances up s t xs ys
-began up s t xs ys n wraps key_stays first_stays counted new_mask used_is none some room long size xored =
-    λ key first made held.
-    let place : 0 ≡ made % 16 = sym none ∙ held.used_is in
-    let blocks : (made + 15) / 16 ≡ made / 16 = omega arith in
-    let more : (made + length xs + 15) / 16 ≡ made / 16 + 1 = omega arith in
-    let before : s.begun ≡ (made / 16) % 2 ^ 32 = held.begun_is ∙ ap (λ (x : ℕ). x % 2 ^ 32) blocks in
-    let next : ((made / 16) % 2 ^ 32 + 1) % 2 ^ 32 ≡ (made / 16 + 1) % 2 ^ 32 = omega arith in
-    let room_at_0 : 0 + length xs ≤ 16 = omega arith in
-    let mask : t.mask ≡ cipher key (up first (made / 16)) =
-    new_mask ∙ ap₂ cipher held.key_is (ap₂ up held.first_is before ∙ wraps first (made / 16)) in (
-      record {
-        key_is = key_stays ∙ held.key_is;
-        first_is = first_stays ∙ held.first_is;
-        begun_is = counted ∙ ap (λ (x : ℕ). (x + 1) % 2 ^ 32) before ∙ next
-            ∙ ap (λ (x : ℕ). x % 2 ^ 32) (sym more);
-        used_is = omega arith;
-        mask_is = λ left.
-            let block : made / 16 ≡ (made + length xs) / 16 = omega arith in
-            mask ∙ ap (λ (x : ℕ). cipher key (up first x)) block;
-      },
-      xored ∙ block_masked up key first t.mask xs made 0 n mask place room_at_0 long size,
-    )
-
 -- four blocks one after the other
 pub joined_blocks : (a b c d m : List ℕ) (f : ℕ → List ℕ) → length a ≡ 16 → length b ≡ 16 → length c ≡ 16
     → length d ≡ 16 → m ≡ a ++ (b ++ (c ++ d))
@@ -134,62 +105,85 @@ joined_blocks a b c d m f ha hb hc hd is ea eb ec ed (suc (suc (suc zero))) h =
     ∙ take_all 16 d (omega arith) ∙ ed
 joined_blocks a b c d m f ha hb hc hd is ea eb ec ed (suc (suc (suc (suc q)))) h = absurd (omega arith)
 
--- the first bytes of the next four blocks, of the fourth at least one
-pub began_four : {C : Type 0} (up : List ℕ → ℕ → List ℕ) (s t : Counter C) (masks xs ys : List ℕ)
+-- the first bytes of the next blocks
+pub began : {C : Type 0} (up : List ℕ → ℕ → List ℕ) (s t : Counter C) (masks xs ys : List ℕ)
     → WrapsAround up
-    → t.key ≡ s.key → t.first ≡ s.first → t.begun ≡ (s.begun + 4) % 2 ^ 32 → t.used ≡ length xs % 16
-    → s.used ≡ 0 → 48 < length xs → length xs ≤ 64 → length masks ≡ 64
-    → (length xs < 64 → t.mask ≡ block_at masks 3)
-    → ((q : ℕ) → q < 4 → block_at masks q ≡ cipher s.key (up s.first ((s.begun + q) % 2 ^ 32)))
+    → t.key ≡ s.key → t.first ≡ s.first → t.begun ≡ (s.begun + (length xs + 15) / 16) % 2 ^ 32
+    → t.used ≡ length xs % 16 → s.used ≡ 0 → length xs ≤ length masks → length masks % 16 ≡ 0
+    → (length xs < length masks → t.mask ≡ block_at masks (length xs / 16))
+    → AreMasks up s.key s.first s.begun masks
     → ys ≡ xor_bytes xs (take (length xs) masks) → Advances up s t xs ys
 unfolding counter_byte
-began_four up s t masks xs ys wraps key_stays first_stays counted used_is none most room size kept are xored =
+began up s t masks xs ys wraps key_stays first_stays counted used_is none room whole kept are xored =
     λ key first made held.
     let n : ℕ = length xs in
     let place : 0 ≡ made % 16 = sym none ∙ held.used_is in
     let blocks : (made + 15) / 16 ≡ made / 16 = omega arith in
-    let more : (made + n + 15) / 16 ≡ made / 16 + 4 = omega arith in
     let before : s.begun ≡ (made / 16) % 2 ^ 32 = held.begun_is ∙ ap (λ (x : ℕ). x % 2 ^ 32) blocks in
-    let next : ((made / 16) % 2 ^ 32 + 4) % 2 ^ 32 ≡ (made / 16 + 4) % 2 ^ 32 = omega arith in
-    let mask_at : (q : ℕ) → q < 4 → block_at masks q ≡ cipher key (up first (made / 16 + q)) = λ q within.
+    let next : (s.begun + (n + 15) / 16) % 2 ^ 32 ≡ (made + n + 15) / 16 % 2 ^ 32 = omega (arith, before, place) in
+    let mask_at : (q : ℕ) → q * 16 < length masks → block_at masks q ≡ cipher key (up first (made / 16 + q)) =
+    λ q within.
     let count : ((made / 16) % 2 ^ 32 + q) % 2 ^ 32 ≡ (made / 16 + q) % 2 ^ 32 = omega arith in
     are q within
     ∙ ap₂ cipher held.key_is (ap₂ up held.first_is (ap (λ (x : ℕ). (x + q) % 2 ^ 32) before ∙ count)
     ∙ wraps first (made / 16 + q)) in
-    let cut : length (take n masks) ≡ n = length-take-le n masks (omega (arith, size, room)) in (
+    let cut : length (take n masks) ≡ n = length-take-le n masks room in (
       record {
         key_is = key_stays ∙ held.key_is;
         first_is = first_stays ∙ held.first_is;
-        begun_is = counted ∙ ap (λ (x : ℕ). (x + 4) % 2 ^ 32) before ∙ next
-            ∙ ap (λ (x : ℕ). x % 2 ^ 32) (sym more);
-        used_is = omega arith;
+        begun_is = counted ∙ next;
+        used_is = omega (arith, used_is, place);
         mask_is = λ left.
-            let fourth : made / 16 + 3 ≡ (made + n) / 16 = omega arith in
-            kept (omega arith) ∙ mask_at 3 (omega arith) ∙ ap (λ (x : ℕ). cipher key (up first x)) fourth;
+            let last : made / 16 + n / 16 ≡ (made + n) / 16 = omega (arith, place) in
+            let short : n < length masks = omega (arith, left, place, room, whole) in
+            kept short ∙ mask_at (n / 16) (omega (arith, short)) ∙ ap (λ (x : ℕ). cipher key (up first x)) last;
       },
       xored ∙ xor_bytes-masked (counter_byte up key first) made xs (take n masks) (omega arith) (λ i l.
           let q : ℕ = i / 16 in
-          let within : q < 4 = omega arith in
+          let within : q * 16 < length masks = omega (arith, l, room) in
           let split : i ≡ q * 16 + i % 16 = omega arith in
-          let block : (made + i) / 16 ≡ made / 16 + q = omega arith in
-          let byte : (made + i) % 16 ≡ i % 16 = omega arith in
-          get_or-take n masks i 0 (omega arith)
+          let block : (made + i) / 16 ≡ made / 16 + q = omega (arith, place) in
+          let byte : (made + i) % 16 ≡ i % 16 = omega (arith, place) in
+          get_or-take n masks i 0 (omega (arith, l))
           ∙ ap (λ (k : ℕ). get_or masks k 0) split ∙ sym (get_or-drop (q * 16) masks (i % 16) 0)
           ∙ sym (get_or-take 16 (drop (q * 16) masks) (i % 16) 0 (omega arith))
           ∙ ap (λ m. get_or m (i % 16) 0) (mask_at q within)
           ∙ sym (ap₂ (λ (b r : ℕ). get_or (cipher key (up first b)) r 0) block byte)),
     )
 
+-- four blocks, and those after them
+pub joined_after : (a x : List ℕ) (f : ℕ → List ℕ) (n : ℕ) → length a ≡ 64 → ((q : ℕ) → q < 4 → block_at a q ≡ f q)
+    → ((q : ℕ) → q < n → block_at x q ≡ f (4 + q)) → (q : ℕ) → q < 4 + n → block_at (a ++ x) q ≡ f q
+joined_after a x f n long front back zero h = block_at-append a x 0 (omega (arith, long)) ∙ front 0 (omega arith)
+joined_after a x f n long front back (suc zero) h =
+    block_at-append a x 1 (omega (arith, long)) ∙ front 1 (omega arith)
+joined_after a x f n long front back (suc (suc zero)) h =
+    block_at-append a x 2 (omega (arith, long)) ∙ front 2 (omega arith)
+joined_after a x f n long front back (suc (suc (suc zero))) h =
+    block_at-append a x 3 (omega (arith, long)) ∙ front 3 (omega arith)
+joined_after a x f n long front back (suc (suc (suc (suc q)))) h =
+    let next : suc (suc (suc (suc q))) ≡ 4 + q = omega arith in
+    let place : (4 + q) * 16 ≡ 64 + q * 16 = omega arith in
+    ap (block_at (a ++ x)) next ∙ ap (λ (i : ℕ). take 16 (drop i (a ++ x))) place ∙ ap (take 16) (sym (drop-drop (q * 16) 64 (a ++ x)))
+    ∙ ap (λ l. take 16 (drop (q * 16) l)) (drop_at a x 64 long) ∙ back q (omega (arith, h)) ∙ ap f (sym next)
+
+-- sixteen blocks, four after four
+pub joined_fours : (a b c d m : List ℕ) (f : ℕ → List ℕ) → length a ≡ 64 → length b ≡ 64 → length c ≡ 64
+    → length d ≡ 64 → m ≡ a ++ (b ++ (c ++ (d ++ [])))
+    → ((q : ℕ) → q < 4 → block_at a q ≡ f q) → ((q : ℕ) → q < 4 → block_at b q ≡ f (4 + q))
+    → ((q : ℕ) → q < 4 → block_at c q ≡ f (8 + q)) → ((q : ℕ) → q < 4 → block_at d q ≡ f (12 + q))
+    → (q : ℕ) → q < 16 → block_at m q ≡ f q
+joined_fours a b c d m f la lb lc ld is fa fb fc fd q h =
+    ap (λ l. block_at l q) is
+    ∙ joined_after a (b ++ (c ++ (d ++ []))) f 12 la fa
+    (joined_after b (c ++ (d ++ [])) (λ k. f (4 + k)) 8 lb fb
+    (joined_after c (d ++ []) (λ k. f (4 + (4 + k))) 4 lc (λ k l. fc k l ∙ ap f (omega arith))
+    (λ k l. block_at-append d [] k (omega (arith, ld, l)) ∙ fd k l ∙ ap f (omega arith)))) q h
+
 -- no bytes
 pub advances-nil : {C : Type 0} (up : List ℕ → ℕ → List ℕ) (s : Counter C) → Advances up s s [] []
 unfolding masked
 advances-nil up s = λ key first made held. (subst (Makes up s key first) (sym (add-zero made)) held, refl)
-
--- a piece of length 0
-pub advances_empty : {C : Type 0} (up : List ℕ → ℕ → List ℕ) (s : Counter C) (was : List ℕ) → length was ≡ 0
-    → Advances up s s was was
-advances_empty up s [] h = advances-nil up s
-advances_empty up s (x ∷ was) h = absurd (omega arith)
 
 -- one piece and then another
 pub advances-append : {C : Type 0} (up : List ℕ → ℕ → List ℕ) (s t u : Counter C) (a x b y : List ℕ)
@@ -231,11 +225,6 @@ length-put_mid a k xs ys room size =
     ∙ ap (λ (x : ℕ). length (take a xs) + x) (length-append ys (drop k (drop a xs)))
     ∙ omega arith
 
--- a list whose beginning was written anew keeps its length
-pub length-begun : (was begun : List ℕ) (h : ℕ) → length begun ≡ h → h ≤ length was
-    → length (begun ++ drop h was) ≡ length was
-length-begun was begun h size within = length-append begun (drop h was) ∙ omega (arith, length-drop h was)
-
 -- the last piece
 pub advances_all : {C : Type 0} (up : List ℕ → ℕ → List ℕ) (s t : Counter C) (was now : List ℕ) (b : ℕ)
     → length was ≤ b → length now ≤ b → Advances up s t (take b was) (take b now) → Advances up s t was now
@@ -260,3 +249,60 @@ advances_two up s t u was begun ys h within size same front back =
     (drop_at begun (drop h was) h size) first back in
     advances_all up s u was (put_mid h k mid ys) (length was) (omega arith)
     (omega (arith, length-put_mid h k mid ys (omega arith) (same ∙ part))) more.0
+
+-- no bytes at all
+pub front_none : {C : Type 0} (up : List ℕ → ℕ → List ℕ) (s : Counter C) (was : List ℕ) → s.used ≡ 0
+    → AdvancesFront up s s was was 0
+front_none up s was none = record {
+  within = omega arith;
+  none = λ l. none;
+  left = refl;
+  front = advances-nil up s;
+}
+
+-- a piece more of the bytes, written from place a on
+pub front_more : {C : Type 0} (up : List ℕ → ℕ → List ℕ) (s t u : Counter C) (was mid ys : List ℕ) (a k b : ℕ)
+    → length mid ≡ length was → AdvancesFront up s t was mid a → a + k ≤ length mid → a + k ≡ b → length ys ≡ k
+    → Advances up t u (take k (drop a mid)) ys → (b < length mid → u.used ≡ 0)
+    → AdvancesFront up s u was (put_mid a k mid ys) b
+front_more up s t u was mid ys a k b same begun room sum size more none =
+    let both = advances_more up s t u was mid ys a k b room sum size begun.left begun.front more in
+    record {
+      within = omega (arith, room, same, sum);
+      none = λ l. none (omega (arith, l, same));
+      left = both.1;
+      front = both.0;
+    }
+
+-- the first bytes of all that is left, written from place a on
+pub front_then : {C : Type 0} (up : List ℕ → ℕ → List ℕ) (s t u : Counter C) (was mid ys : List ℕ) (a k r : ℕ)
+    → length mid ≡ length was → AdvancesFront up s t was mid a → k ≡ length mid - a → length ys ≡ k
+    → AdvancesFront up t u (take k (drop a mid)) ys r → AdvancesFront up s u was (put_mid a k mid ys) (a + r)
+front_then up s t u was mid ys a k r same begun whole size more =
+    let within : a ≤ length mid = omega (arith, same, begun.within) in
+    let all : take k (drop a mid) ≡ drop a was =
+    take_all k (drop a mid) (omega (arith, length-drop a mid, whole)) ∙ begun.left in
+    let part : length (take k (drop a mid)) ≡ k = length-take-le k (drop a mid) (omega (arith, length-drop a mid, whole)) in
+    let front : length (take a mid) ≡ a = length-take-le a mid within in
+    let last : put_mid a k mid ys ≡ take a mid ++ ys =
+    ap (λ l. take a mid ++ (ys ++ l)) (drop_all k (drop a mid) (omega (arith, length-drop a mid, whole)))
+    ∙ ap (λ l. take a mid ++ l) (append-nil ys) in
+    let now : take (a + r) (put_mid a k mid ys) ≡ take a mid ++ take r ys =
+    ap (take (a + r)) last ∙ take-add a r (take a mid ++ ys)
+    ∙ ap₂ (λ (x y : List ℕ). x ++ take r y) (take_at (take a mid) ys a front) (drop_at (take a mid) ys a front) in
+    let old : take (a + r) was ≡ take a was ++ take r (take k (drop a mid)) =
+    take-add a r was ∙ ap (λ l. take a was ++ take r l) (sym all) in
+    record {
+      within = omega (arith, more.within, part, whole, within, same);
+      none = λ l. more.none (omega (arith, l, part, whole, within, same));
+      left = ap (drop (a + r)) last ∙ sym (drop-drop r a (take a mid ++ ys))
+          ∙ ap (drop r) (drop_at (take a mid) ys a front) ∙ more.left ∙ ap (drop r) all ∙ drop-drop r a was;
+      front = rw (now, old) (advances-append up s t u (take a was) (take a mid) (take r (take k (drop a mid)))
+          (take r ys) begun.front more.front);
+    }
+
+-- all bytes
+pub front_all : {C : Type 0} (up : List ℕ → ℕ → List ℕ) (s t : Counter C) (was now : List ℕ) (n : ℕ)
+    → length now ≡ length was → AdvancesFront up s t was now n → length was ≤ n → Advances up s t was now
+front_all up s t was now n same begun all =
+    advances_all up s t was now n all (omega (arith, same, all)) begun.front

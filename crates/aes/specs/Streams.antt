@@ -1,5 +1,5 @@
 -- The states of the streams of counting blocks.
-use Rattle.std.specs.Prelude.{◌≡◌, ℕ, ◌+◌, ◌/◌, ◌%◌, ◌^◌, ◌<◌, List, length}
+use Rattle.std.specs.Prelude.{◌≡◌, ℕ, ◌+◌, ◌/◌, ◌%◌, ◌^◌, ◌<◌, ◌≤◌, List, length, take, drop}
 use Rattle.octets.specs.Masked.{masked}
 use Rattle.aes.specs.Cipher.{cipher}
 use Rattle.aes.specs.Counters.{up_be, up_le, counter_byte}
@@ -22,6 +22,15 @@ pub record Makes {C : Type 0} (up : List ℕ → ℕ → List ℕ) (s : Counter 
 abbrev pub Advances : {C : Type 0} (up : List ℕ → ℕ → List ℕ) (s t : Counter C) (was now : List ℕ) → Type 0
 Advances up s t was now = (key first : List ℕ) (made : ℕ) → Makes up s key first made
     → Makes up t key first (made + length was) × (now ≡ masked (counter_byte up key first) made was)
+
+-- s becomes t, and was becomes now: the next bytes are XORed into the first n, and the others stay; only at the
+-- end may a block be begun
+pub record AdvancesFront {C : Type 0} (up : List ℕ → ℕ → List ℕ) (s t : Counter C) (was now : List ℕ) (n : ℕ) :
+    Type 0 where
+  pub within : n ≤ length was
+  pub none : n < length was → t.used ≡ 0
+  pub left : drop n now ≡ drop n was
+  pub front : Advances up s t (take n was) (take n now)
 
 -- s has made this many bytes of the stream that counts by `up_be` from the first block on
 pub record HoldsBe (s : CtrBe) (key : List ℕ) (first : List ℕ) (made : ℕ) : Type 0 where

@@ -1,6 +1,6 @@
 // Streams of bytes from a block that counts (SP 800-38D, 6.5; RFC 8452, 4).
 
-ghost use Rattle.std.specs.Prelude.{◌≡◌, ℕ, ◌+◌, ◌%◌, ◌^◌, ◌<◌, ◌≤◌, List, ◌++◌, length, take, drop};
+ghost use Rattle.std.specs.Prelude.{◌≡◌, ℕ, ◌+◌, ◌*◌, ◌%◌, ◌^◌, ◌<◌, ◌≤◌, List, ◌++◌, length, take, drop};
 ghost use Rattle.octets.specs.Bytes.{IsBlock, block_at};
 ghost use Rattle.octets.specs.Masked.{masked};
 ghost use Rattle.aes.specs.Counters.{CountsOn, counter_byte, up_be, up_le};
@@ -54,13 +54,14 @@ fn joined(a: &[u8; 16], b: &[u8; 16], c: &[u8; 16], d: &[u8; 16]) -> [u8; 64]
     ]
 }
 
-// The last of four blocks.
-fn last_block(blocks: &[u8; 64]) -> Block
-    ensures { result ≡ block_at blocks.now 3 }
+// Block `q` of blocks one after the other.
+fn block_of(blocks: &[u8], q: usize) -> Block
+    requires { q * 16 + 16 ≤ length blocks.now }
+    ensures { result ≡ block_at blocks.now q }
 {
-    let mut last = [0; 16];
-    last.copy_from_slice(&blocks[48..]);
-    Block::new(last)
+    let mut block = [0; 16];
+    block.copy_from_slice(&blocks[q * 16..q * 16 + 16]);
+    Block::new(block)
 }
 
 // Where a block counts.
@@ -135,7 +136,7 @@ struct Counter<C> {
 }
 
 impl<C: Count> Counter<C> {
-    ghost use Rattle.aes.specs.Streams.{Makes, Advances};
+    ghost use Rattle.aes.specs.Streams.{Makes, Advances, AdvancesFront};
     ghost use Rattle.aes.specs.Code.Lanes.{IsReady};
     ghost use Rattle.aes.specs.Code.Planes.{AreReady, AreMasks, HoldsSixteen};
     ghost use Rattle.aes.specs.Schedule.{schedule, round_count};
@@ -188,19 +189,38 @@ impl<C: Count> Counter<C> {
         self.used = end % 16;
     }
 
+    // XORs in the first bytes of the next blocks, whose ciphers are given. No block is begun.
+    #[inline(always)]
+    fn take(&mut self, masks: &[u8], bytes: &mut [u8])
+        requires masks { AreMasks C.up self.old.key self.old.first self.old.begun masks.now }
+        requires whole { length masks.now % 16 ≡ 0 }
+        requires none { self.old.used ≡ 0 }
+        requires room { length bytes.old ≤ length masks.now }
+        ensures advances { Advances C.up self.old self.new bytes.old bytes.new }
+        ensures used { self.new.used ≡ length bytes.old % 16 }
+        ensures key { self.new.key ≡ self.old.key }
+    {
+        let count = bytes.len();
+        let blocks = ((count + 15) / 16 % 0x1_0000_0000) as u32;
+        self.begun = self.begun.wrapping_add(blocks);
+        self.used = count % 16;
+        if count == masks.len() {
+            xor_into(bytes, masks);
+        } else {
+            self.mask = block_of(masks, count / 16);
+            xor_into(bytes, &masks[..count]);
+        }
+    }
+
     // XORs in the first bytes of the next block. No block is begun.
     fn begin(&mut self, bytes: &mut [u8])
         requires none { self.old.used ≡ 0 }
-        requires some { 0 < length bytes.old }
         requires room { length bytes.old ≤ 16 }
         ensures advances { Advances C.up self.old self.new bytes.old bytes.new }
         ensures used { self.new.used ≡ length bytes.old % 16 }
     {
         let mask = self.key.encrypt(&C::block(&self.first, self.begun));
-        self.mask = mask;
-        self.begun = self.begun.wrapping_add(1);
-        xor_into(bytes, &mask.bytes()[..bytes.len()]);
-        self.used = bytes.len() % 16;
+        self.take(mask.bytes(), bytes);
     }
 
     // The four blocks with the numbers from `begun` on, modulo 2^32.
@@ -213,39 +233,6 @@ impl<C: Count> Counter<C> {
         let third = C::block(&self.first, begun.wrapping_add(2));
         let fourth = C::block(&self.first, begun.wrapping_add(3));
         joined(first.bytes(), second.bytes(), third.bytes(), fourth.bytes())
-    }
-
-    // XORs in the next four blocks, whose ciphers are given. No block is begun.
-    #[inline(always)]
-    fn take_four(&mut self, masks: &[u8; 64], bytes: &mut [u8])
-        requires masks { AreMasks C.up self.old.key self.old.first self.old.begun masks.now }
-        requires none { self.old.used ≡ 0 }
-        requires long { length bytes.old ≡ 64 }
-        ensures advances { Advances C.up self.old self.new bytes.old bytes.new }
-        ensures used { self.new.used ≡ 0 }
-        ensures key { self.new.key ≡ self.old.key }
-        ensures first { self.new.first ≡ self.old.first }
-        ensures begun { self.new.begun ≡ (self.old.begun + 4) % 2 ^ 32 }
-    {
-        self.begun = self.begun.wrapping_add(4);
-        xor_into(bytes, masks);
-    }
-
-    // XORs in the next eight blocks, whose ciphers are given. No block is begun.
-    #[inline(always)]
-    fn take_eight(&mut self, a: &[u8; 64], b: &[u8; 64], bytes: &mut [u8])
-        requires first { AreMasks C.up self.old.key self.old.first self.old.begun a.now }
-        requires second { AreMasks C.up self.old.key self.old.first ((self.old.begun + 4) % 2 ^ 32) b.now }
-        requires none { self.old.used ≡ 0 }
-        requires long { length bytes.old ≡ 128 }
-        ensures advances { Advances C.up self.old self.new bytes.old bytes.new }
-        ensures used { self.new.used ≡ 0 }
-        ensures key { self.new.key ≡ self.old.key }
-        ensures first { self.new.first ≡ self.old.first }
-        ensures begun { self.new.begun ≡ (self.old.begun + 8) % 2 ^ 32 }
-    {
-        self.take_four(a, &mut bytes[..64]);
-        self.take_four(b, &mut bytes[64..]);
     }
 
     // The next sixteen blocks, in planes: all have the bytes of the first one, or of the first one after the
@@ -266,118 +253,95 @@ impl<C: Count> Counter<C> {
         )
     }
 
-    // XORs in the next sixteen blocks. No block is begun.
-    fn begin_sixteen(&mut self, keys: &[Planes; 15], bytes: &mut [u8])
-        requires ready { AreReady keys.now (schedule self.old.key) (round_count self.old.key) }
-        requires none { self.old.used ≡ 0 }
-        requires long { length bytes.old ≡ 256 }
-        ensures advances { Advances C.up self.old self.new bytes.old bytes.new }
-        ensures used { self.new.used ≡ 0 }
-        ensures key { self.new.key ≡ self.old.key }
-    {
-        let (a, b, c, d) = self.key.encrypt_sixteen(keys, self.sixteen());
-        self.take_eight(&a, &b, &mut bytes[..128]);
-        self.take_eight(&c, &d, &mut bytes[128..]);
-    }
-
-    // XORs in the next four blocks. No block is begun.
+    // XORs in the first bytes of the next four blocks. No block is begun.
     fn begin_four(&mut self, keys: &[[u8; 16]; 15], bytes: &mut [u8])
         requires ready { IsReady keys.now self.old.key }
         requires none { self.old.used ≡ 0 }
-        requires long { length bytes.old ≡ 64 }
+        requires room { length bytes.old ≤ 64 }
         ensures advances { Advances C.up self.old self.new bytes.old bytes.new }
-        ensures used { self.new.used ≡ 0 }
+        ensures used { self.new.used ≡ length bytes.old % 16 }
         ensures key { self.new.key ≡ self.old.key }
     {
         let masks = self.key.encrypt_ready(keys, &self.four(self.begun));
-        self.take_four(&masks, bytes);
+        self.take(&masks, bytes);
     }
 
-    // XORs in runs of sixteen blocks, where no block is begun, and returns how many bytes they are: none of
-    // fewer than 512, for which making the planes of the key costs more than it wins. A function of its own,
-    // since its frame would slow down short messages.
+    // XORs in the first bytes of the next sixteen blocks. No block is begun.
+    fn begin_sixteen(&mut self, keys: &[Planes; 15], bytes: &mut [u8])
+        requires ready { AreReady keys.now (schedule self.old.key) (round_count self.old.key) }
+        requires none { self.old.used ≡ 0 }
+        requires room { length bytes.old ≤ 256 }
+        ensures advances { Advances C.up self.old self.new bytes.old bytes.new }
+        ensures used { self.new.used ≡ length bytes.old % 16 }
+        ensures key { self.new.key ≡ self.old.key }
+    {
+        let (a, b, c, d) = self.key.encrypt_sixteen(keys, self.sixteen());
+        let masks = [a, b, c, d];
+        self.take(masks.as_flattened(), bytes);
+    }
+
+    // XORs in runs of sixteen blocks, the last one perhaps in part, while more than 128 bytes are left, and returns
+    // how many bytes were taken. Making the planes of the key pays from 512 bytes on. A function of its own, since
+    // its frame would slow down short messages.
     #[inline(never)]
     fn apply_sixteens(&mut self, bytes: &mut [u8]) -> usize
         requires { self.old.used ≡ 0 }
-        ensures within { result ≤ length bytes.old }
-        ensures whole { result % 64 ≡ 0 }
-        ensures left { drop result bytes.new ≡ drop result bytes.old }
-        ensures advances { Advances C.up self.old self.new (take result bytes.old) (take result bytes.new) }
-        ensures used { self.new.used ≡ 0 }
-        ensures key { self.new.key ≡ self.old.key }
+        ensures { AdvancesFront C.up self.old self.new bytes.old bytes.new result }
     {
-        if bytes.len() < 512 {
-            return 0;
-        }
         let keys = self.key.planes();
         let mut done = 0;
-        'sixteens: while bytes.len() - done >= 256 {
-            self.begin_sixteen(&keys, &mut bytes[done..done + 256]);
-            done += 256;
+        'sixteens: while bytes.len() - done > 128 {
+            let next = (bytes.len() - done).min(256);
+            self.begin_sixteen(&keys, &mut bytes[done..done + next]);
+            done += next;
         }
         done
     }
 
-    // XORs in the first bytes of the next four blocks, three whole ones and a part of the fourth. No block is
-    // begun.
-    fn begin_most(&mut self, keys: &[[u8; 16]; 15], bytes: &mut [u8])
-        requires ready { IsReady keys.now self.old.key }
-        requires none { self.old.used ≡ 0 }
-        requires most { 48 < length bytes.old }
-        requires room { length bytes.old < 64 }
-        ensures advances { Advances C.up self.old self.new bytes.old bytes.new }
-        ensures used { self.new.used ≡ length bytes.old % 16 }
-    {
-        let masks = self.key.encrypt_ready(keys, &self.four(self.begun));
-        self.mask = last_block(&masks);
-        self.begun = self.begun.wrapping_add(4);
-        xor_into(bytes, &masks[..bytes.len()]);
-        self.used = bytes.len() % 16;
-    }
-
-    // XORs in runs of four blocks, those of sixteen first; of the last four blocks a part of the fourth may be
-    // left out. No block is begun.
-    fn apply_fours(&mut self, bytes: &mut [u8])
-        requires none { self.old.used ≡ 0 }
-        requires most { 48 ≤ (length bytes.old + 63) % 64 }
-        ensures advances { Advances C.up self.old self.new bytes.old bytes.new }
-        ensures used { self.new.used ≡ length bytes.old % 16 }
+    // XORs in runs of four blocks, the last one perhaps in part, while more than 48 bytes are left, and returns how
+    // many bytes were taken.
+    fn apply_fours(&mut self, bytes: &mut [u8]) -> usize
+        requires { self.old.used ≡ 0 }
+        ensures { AdvancesFront C.up self.old self.new bytes.old bytes.new result }
     {
         if bytes.len() <= 48 {
-            return;
-        }
-        let mut done = self.apply_sixteens(bytes);
-        if done == bytes.len() {
-            return;
+            return 0;
         }
         let keys = self.key.ready();
-        'fours: while bytes.len() - done >= 64 {
-            self.begin_four(&keys, &mut bytes[done..done + 64]);
-            done += 64;
+        let mut done = 0;
+        'fours: while bytes.len() - done > 48 {
+            let next = (bytes.len() - done).min(64);
+            self.begin_four(&keys, &mut bytes[done..done + next]);
+            done += next;
         }
-        if done < bytes.len() {
-            self.begin_most(&keys, &mut bytes[done..]);
-        }
+        done
     }
 
-    // XORs in blocks, the last one perhaps in part. No block is begun.
+    // XORs in runs of sixteen and of four blocks, and returns how many bytes were taken.
+    fn apply_runs(&mut self, bytes: &mut [u8]) -> usize
+        requires { self.old.used ≡ 0 }
+        ensures { AdvancesFront C.up self.old self.new bytes.old bytes.new result }
+    {
+        if bytes.len() < 512 {
+            return self.apply_fours(bytes);
+        }
+        let done = self.apply_sixteens(bytes);
+        if done == bytes.len() {
+            return done;
+        }
+        done + self.apply_fours(&mut bytes[done..])
+    }
+
+    // XORs in runs of blocks and single ones, the last one perhaps in part. No block is begun.
     fn apply_blocks(&mut self, bytes: &mut [u8])
         requires { self.old.used ≡ 0 }
         ensures { Advances C.up self.old self.new bytes.old bytes.new }
     {
-        // Four blocks at once take less time than four one after the other.
-        if bytes.len() % 64 > 48 {
-            self.apply_fours(bytes);
-            return;
-        }
-        let mut done = bytes.len() / 64 * 64;
-        self.apply_fours(&mut bytes[..done]);
-        'whole: while bytes.len() - done >= 16 {
-            self.begin(&mut bytes[done..done + 16]);
-            done += 16;
-        }
-        if done < bytes.len() {
-            self.begin(&mut bytes[done..]);
+        let mut done = self.apply_runs(bytes);
+        'singles: while done < bytes.len() {
+            let next = (bytes.len() - done).min(16);
+            self.begin(&mut bytes[done..done + next]);
+            done += next;
         }
     }
 

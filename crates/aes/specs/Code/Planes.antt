@@ -42,7 +42,7 @@ abbrev pub HasByteBits : List ℕ → (ℕ → List ℕ) → ℕ → Type 0
 HasByteBits v f q = (l k : ℕ) → l < 32 → k < 8
     → bit_at (slice_index v l) k ≡ bit_at (slice_index (f (l / 16 * 8 + q)) (l % 16)) k
 
--- the masks are the ciphers of the four blocks that `up` counts from a number on, modulo 2^32
+-- the masks are the ciphers of the blocks that `up` counts from a number on, modulo 2^32
 abbrev pub AreMasks : (List ℕ → ℕ → List ℕ) → List ℕ → List ℕ → ℕ → List ℕ → Type 0
-AreMasks up key first begun masks = (q : ℕ) → q < 4
+AreMasks up key first begun masks = (q : ℕ) → q * 16 < length masks
     → block_at masks q ≡ cipher key (up first ((begun + q) % 2 ^ 32))

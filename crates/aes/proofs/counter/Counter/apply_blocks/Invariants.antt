@@ -1,14 +1,9 @@
-use Rattle.std.proofs.Common.{◌≡◌, ◌-◌, ◌≤◌, length, take, drop}
-use Rattle.aes.specs.Streams.{Advances}
+use Rattle.std.proofs.Common.{◌-◌, length}
+use Rattle.aes.specs.Streams.{AdvancesFront}
 use Rattle.aes.proofs.counter.Counter.apply_blocks.Given as goal
 
-abbrev pub invariant-whole : goal.invariant-whole
-invariant-whole g l = record {
-  within : l.done ≤ length l.bytes;
-  none : l.self.used ≡ 0;
-  left : drop l.done l.bytes ≡ drop l.done l.fn.bytes;
-  so_far : Advances g.C.Count.up l.fn.self l.self (take l.done l.fn.bytes) (take l.done l.bytes);
-}
+abbrev pub invariant-singles : goal.invariant-singles
+invariant-singles g l = AdvancesFront g.C.Count.up l.fn.self l.self l.fn.bytes l.bytes l.done
 
-abbrev pub decreases-whole : goal.decreases-whole
-decreases-whole g l = length l.bytes - l.done
+abbrev pub decreases-singles : goal.decreases-singles
+decreases-singles g l = length l.bytes - l.done

@@ -1,7 +1,8 @@
-use Rattle.std.proofs.Common.{ap, ◌∙◌}
+use Rattle.std.proofs.Common.{◌<◌, ◌∙◌, ap, arith}
 use Rattle.aes.specs.Cipher.{cipher}
 use Rattle.aes.proofs.counter.Counter.begin_four.Goals as goal
 
-pub take_four-requires-clause-masks : goal.take_four-requires-clause-masks
-take_four-requires-clause-masks g c = λ q h.
-    c.encrypt_ready-masks.ensures q h ∙ ap (cipher c.args.self.now.key) (c.four.ensures q h)
+pub take-requires-clause-masks : goal.take-requires-clause-masks
+take-requires-clause-masks g c = λ q h.
+    let within : q < 4 = omega (arith, h) in
+    c.encrypt_ready-masks.ensures q within ∙ ap (cipher c.args.self.now.key) (c.four.ensures q within)

@@ -1,0 +1,14 @@
+use Rattle.std.proofs.Common.{◌≡◌, ℕ, ◌-◌, ◌∙◌, length, take, drop, refl, arith}
+use Rattle.std.proofs.lemmas.List.{length-take-le, length-drop}
+use Rattle.aes.proofs.StreamSteps.{front_then}
+use Rattle.aes.proofs.counter.Counter.apply_runs.Goals as goal
+
+pub returns : goal.returns
+returns g c =
+    let a : ℕ = c.apply_sixteens-done.result in
+    let mid = c.apply_sixteens-done.new.bytes in
+    let k : ℕ = length mid - a in
+    let part : length (take k (drop a mid)) ≡ k = length-take-le k (drop a mid) (omega (arith, length-drop a mid)) in
+    front_then g.C.Count.up c.args.self.now c.apply_sixteens-done.new.self c.apply_fours-2.new.self c.args.bytes.now mid
+    c.apply_fours-2.new.bytes a k c.apply_fours-2.result c.apply_sixteens-done.auto.bytes
+    c.apply_sixteens-done.ensures refl (c.apply_fours-2.auto.bytes ∙ part) c.apply_fours-2.ensures
