@@ -1,6 +1,6 @@
 -- Streams of counting blocks, one piece after the other.
 use Rattle.std.proofs.Common.{◌≡◌, ℕ, ◌+◌, ◌-◌, ◌*◌, ◌/◌, ◌%◌, zero, suc, ◌^◌, ◌<◌, ◌≤◌, List, [], ◌∷◌, ◌++◌}
-use Rattle.std.proofs.Common.{length, take, drop, get_or, refl, sym, ap, ap₂, subst, ◌∙◌, arith, take-add}
+use Rattle.std.proofs.Common.{length, take, drop, get_or, bit_xor, append_assoc, refl, sym, ap, ap₂, subst, ◌∙◌, arith, take-add}
 use Rattle.std.proofs.Common.{add-zero}
 use Rattle.std.proofs.lemmas.List.{take_at, drop_at, take_all, drop_all, drop-drop, length-append}
 use Rattle.std.proofs.lemmas.List.{length-take-le, length-drop, get_or-take, get_or-drop, append-nil}
@@ -44,6 +44,16 @@ unfolding up_le
 up_le_written b n j long read =
     let number : n ≡ le (take 4 b) = read ∙ little_number_is 4 b (omega arith) in
     ap (λ (x : ℕ). little_bytes 4 ((x + j) % 2 ^ 32) ++ drop 4 b) number
+
+-- two XORs, one after the other
+pub xor_bytes-append : (xs ys zs ws : List ℕ) → length xs ≡ length ys → xor_bytes (xs ++ zs) (ys ++ ws)
+    ≡ xor_bytes xs ys ++ xor_bytes zs ws
+unfolding xor_bytes
+xor_bytes-append [] [] zs ws same = refl
+xor_bytes-append [] (y ∷ ys) zs ws same = absurd (omega arith)
+xor_bytes-append (x ∷ xs) [] zs ws same = absurd (omega arith)
+xor_bytes-append (x ∷ xs) (y ∷ ys) zs ws same =
+    ap (λ l. bit_xor x y ∷ l) (xor_bytes-append xs ys zs ws (omega arith))
 
 -- the XOR with a part of the cipher of one block
 block_masked : (up : List ℕ → ℕ → List ℕ) (key first mask xs : List ℕ) (made used n : ℕ)
@@ -168,17 +178,16 @@ joined_after a x f n long front back (suc (suc (suc (suc q)))) h =
     ∙ ap (λ l. take 16 (drop (q * 16) l)) (drop_at a x 64 long) ∙ back q (omega (arith, h)) ∙ ap f (sym next)
 
 -- sixteen blocks, four after four
-pub joined_fours : (a b c d m : List ℕ) (f : ℕ → List ℕ) → length a ≡ 64 → length b ≡ 64 → length c ≡ 64
-    → length d ≡ 64 → m ≡ a ++ (b ++ (c ++ (d ++ [])))
+pub joined_fours : (a b c d : List ℕ) (f : ℕ → List ℕ) → length a ≡ 64 → length b ≡ 64 → length c ≡ 64
     → ((q : ℕ) → q < 4 → block_at a q ≡ f q) → ((q : ℕ) → q < 4 → block_at b q ≡ f (4 + q))
     → ((q : ℕ) → q < 4 → block_at c q ≡ f (8 + q)) → ((q : ℕ) → q < 4 → block_at d q ≡ f (12 + q))
-    → (q : ℕ) → q < 16 → block_at m q ≡ f q
-joined_fours a b c d m f la lb lc ld is fa fb fc fd q h =
-    ap (λ l. block_at l q) is
-    ∙ joined_after a (b ++ (c ++ (d ++ []))) f 12 la fa
-    (joined_after b (c ++ (d ++ [])) (λ k. f (4 + k)) 8 lb fb
-    (joined_after c (d ++ []) (λ k. f (4 + (4 + k))) 4 lc (λ k l. fc k l ∙ ap f (omega arith))
-    (λ k l. block_at-append d [] k (omega (arith, ld, l)) ∙ fd k l ∙ ap f (omega arith)))) q h
+    → (q : ℕ) → q < 16 → block_at ((a ++ b) ++ (c ++ d)) q ≡ f q
+joined_fours a b c d f la lb lc fa fb fc fd q h =
+    ap (λ l. block_at l q) (append_assoc a b (c ++ d))
+    ∙ joined_after a (b ++ (c ++ d)) f 12 la fa
+    (joined_after b (c ++ d) (λ k. f (4 + k)) 8 lb fb
+    (joined_after c d (λ k. f (4 + (4 + k))) 4 lc (λ k l. fc k l ∙ ap f (omega arith))
+    (λ k l. fd k l ∙ ap f (omega arith)))) q h
 
 -- no bytes
 pub advances-nil : {C : Type 0} (up : List ℕ → ℕ → List ℕ) (s : Counter C) → Advances up s s [] []

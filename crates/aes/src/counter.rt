@@ -1,7 +1,7 @@
 // Streams of bytes from a block that counts (SP 800-38D, 6.5; RFC 8452, 4).
 
 ghost use Rattle.std.specs.Prelude.{◌≡◌, ℕ, ◌+◌, ◌*◌, ◌%◌, ◌^◌, ◌<◌, ◌≤◌, List, ◌++◌, length, take, drop};
-ghost use Rattle.octets.specs.Bytes.{IsBlock, block_at};
+ghost use Rattle.octets.specs.Bytes.{IsBlock, block_at, xor_bytes};
 ghost use Rattle.octets.specs.Masked.{masked};
 ghost use Rattle.aes.specs.Counters.{CountsOn, counter_byte, up_be, up_le};
 ghost use Rattle.aes.specs.Code.Nibbles.{CountsInNibble};
@@ -52,6 +52,21 @@ fn joined(a: &[u8; 16], b: &[u8; 16], c: &[u8; 16], d: &[u8; 16]) -> [u8; 64]
         c[10], c[11], c[12], c[13], c[14], c[15], d[0], d[1], d[2], d[3], d[4], d[5], d[6], d[7],
         d[8], d[9], d[10], d[11], d[12], d[13], d[14], d[15],
     ]
+}
+
+// XORs four runs of four blocks into 256 bytes.
+#[inline(always)]
+fn xor_fours(bytes: &mut [u8], a: &[u8; 64], b: &[u8; 64], c: &[u8; 64], d: &[u8; 64])
+    requires { length bytes.old ≡ 256 }
+    ensures { bytes.new ≡ xor_bytes bytes.old ((a.now ++ b.now) ++ (c.now ++ d.now)) }
+{
+    let (front, back) = bytes.split_at_mut(128);
+    let (first, second) = front.split_at_mut(64);
+    let (third, fourth) = back.split_at_mut(64);
+    xor_into(first, a);
+    xor_into(second, b);
+    xor_into(third, c);
+    xor_into(fourth, d);
 }
 
 // Block `q` of blocks one after the other.
@@ -276,11 +291,16 @@ impl<C: Count> Counter<C> {
         ensures key { self.new.key ≡ self.old.key }
     {
         let (a, b, c, d) = self.key.encrypt_sixteen(keys, self.sixteen());
-        let masks = [a, b, c, d];
-        self.take(masks.as_flattened(), bytes);
+        if bytes.len() < 256 {
+            self.take([a, b, c, d].as_flattened(), bytes);
+            return;
+        }
+        // From registers.
+        self.begun = self.begun.wrapping_add(16);
+        xor_fours(bytes, &a, &b, &c, &d);
     }
 
-    // XORs in runs of sixteen blocks, the last one perhaps in part, while more than 128 bytes are left, and returns
+    // XORs in runs of sixteen blocks, the last one perhaps in part, while more than 176 bytes are left, and returns
     // how many bytes were taken. Making the planes of the key pays from 512 bytes on. A function of its own, since
     // its frame would slow down short messages.
     #[inline(never)]
@@ -290,7 +310,7 @@ impl<C: Count> Counter<C> {
     {
         let keys = self.key.planes();
         let mut done = 0;
-        'sixteens: while bytes.len() - done > 128 {
+        'sixteens: while bytes.len() - done > 176 {
             let next = (bytes.len() - done).min(256);
             self.begin_sixteen(&keys, &mut bytes[done..done + next]);
             done += next;

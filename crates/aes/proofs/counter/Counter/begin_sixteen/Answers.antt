@@ -1,6 +1,9 @@
-use Rattle.std.proofs.Common.{◌≡◌, ℕ, ◌+◌, ◌%◌, ◌^◌, List, length, rules, arith}
+use Rattle.std.proofs.Common.{◌≡◌, ℕ, ◌+◌, ◌/◌, ◌%◌, ◌^◌, List, ◌++◌, ◌∙◌, ap, sym, length, refl, rules, arith}
+use Rattle.std.proofs.Common.{append_assoc}
+use Rattle.std.proofs.lemmas.List.{take_all, length-append, append-nil}
+use Rattle.octets.specs.Bytes.{xor_bytes, block_at}
 use Rattle.aes.specs.Cipher.{cipher}
-use Rattle.aes.proofs.StreamSteps.{joined_fours}
+use Rattle.aes.proofs.StreamSteps.{began, joined_fours}
 use Rattle.aes.proofs.counter.Counter.begin_sixteen.Goals as goal
 
 pub take-requires-clause-masks : goal.take-requires-clause-masks
@@ -9,10 +12,37 @@ take-requires-clause-masks g c = λ q h.
     let up : List ℕ → ℕ → List ℕ = g.C.Count.up in
     let out = c.encrypt_sixteen.ensures (λ q. up s.first ((s.begun + q) % 2 ^ 32))
     (λ q. c.sixteen.ensures.each_is_block ((s.begun + q) % 2 ^ 32)) c.sixteen.ensures.planes in
+    let x = c.encrypt_sixteen.result in
+    let first : length c.encrypt_sixteen.result.0 ≡ 64 = search rules in
+    let second : length c.encrypt_sixteen.result.1 ≡ 64 = search rules in
+    let third : length c.encrypt_sixteen.result.2 ≡ 64 = search rules in
+    let joined : c.as_flattened.result.now ≡ (x.0 ++ x.1) ++ (x.2 ++ x.3) =
+    c.as_flattened.ensures.value ∙ ap (λ l. x.0 ++ (x.1 ++ (x.2 ++ l))) (append-nil x.3)
+    ∙ sym (append_assoc x.0 x.1 (x.2 ++ x.3)) in
+    ap (λ l. block_at l q) joined
+    ∙ joined_fours x.0 x.1 x.2 x.3 (λ q. cipher s.key (up s.first ((s.begun + q) % 2 ^ 32))) first second third
+    out.0 out.1 out.2 out.3 q (omega (arith, h))
+
+pub returns-clause-advances : goal.returns-clause-advances
+returns-clause-advances g c =
+    let s = c.args.self.now in
+    let xs = c.args.bytes.now in
+    let up : List ℕ → ℕ → List ℕ = g.C.Count.up in
+    let out = c.encrypt_sixteen.ensures (λ q. up s.first ((s.begun + q) % 2 ^ 32))
+    (λ q. c.sixteen.ensures.each_is_block ((s.begun + q) % 2 ^ 32)) c.sixteen.ensures.planes in
+    let x = c.encrypt_sixteen.result in
     let first : length c.encrypt_sixteen.result.0 ≡ 64 = search rules in
     let second : length c.encrypt_sixteen.result.1 ≡ 64 = search rules in
     let third : length c.encrypt_sixteen.result.2 ≡ 64 = search rules in
     let fourth : length c.encrypt_sixteen.result.3 ≡ 64 = search rules in
-    joined_fours c.encrypt_sixteen.result.0 c.encrypt_sixteen.result.1 c.encrypt_sixteen.result.2
-    c.encrypt_sixteen.result.3 c.as_flattened.result.now (λ q. cipher s.key (up s.first ((s.begun + q) % 2 ^ 32)))
-    first second third fourth c.as_flattened.ensures.value out.0 out.1 out.2 out.3 q (omega (arith, h))
+    let masks : List ℕ = (x.0 ++ x.1) ++ (x.2 ++ x.3) in
+    let size : length masks ≡ 256 =
+    length-append (x.0 ++ x.1) (x.2 ++ x.3)
+    ∙ omega (arith, first, second, third, fourth, length-append x.0 x.1, length-append x.2 x.3) in
+    let long : length xs ≡ 256 = omega (arith, c.requires.room, c.if-bytes-lt256.false) in
+    let counted : (s.begun + 16) % 2 ^ 32 ≡ (s.begun + (length xs + 15) / 16) % 2 ^ 32 = omega (arith, long) in
+    began up s _ masks xs c.xor_fours.new.bytes g.met.C.Count.wraps refl refl counted (omega (arith, long, c.requires.none))
+    c.requires.none (omega (arith, long, size)) (omega (arith, size)) (λ short. absurd (omega (arith, short, long, size)))
+    (λ q h. joined_fours x.0 x.1 x.2 x.3 (λ q. cipher s.key (up s.first ((s.begun + q) % 2 ^ 32)))
+    first second third out.0 out.1 out.2 out.3 q (omega (arith, h, size)))
+    (c.xor_fours.ensures ∙ ap (xor_bytes xs) (sym (take_all (length xs) masks (omega (arith, long, size)))))
