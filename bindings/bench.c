@@ -1,7 +1,7 @@
 /* How fast the library is on this machine, beside the peers of peers.h. bench.sh builds and runs it.
 
-   Each message has a new key and nonce, as each call of the library takes its key, and is sealed and opened
-   in place. A peer keeps its context from message to message, and sets its key for each. Library and peers take
+   Each message is sealed and opened in place, with a new nonce and a new key, or under --kept with a key that
+   library and peers keep. A peer keeps its context from message to message. Library and peers take
    turns in one process, and each figure is the best of many short rounds. Before a row is measured, each peer
    has to give the library's bytes. Status 1 if it does not; 2 if the program cannot run. */
 #include "peers.h"
@@ -29,10 +29,12 @@ static void fill(uint8_t *bytes, size_t length) {
 static size_t make(size_t length, size_t most) {
     size_t count = length < LARGEST / 2 ? LARGEST / (length + 32) : 1;
     if (count > most) count = most;
+    keys_made++;
     for (size_t i = 0; i < count; i++) {
         struct message *m = &messages[i];
         *m = (struct message){.aad = data, .bytes = store + i * ((length + 31) / 16 * 16), .length = length};
-        fill(m->key, sizeof m->key);
+        if (kept && i > 0) memcpy(m->key, messages[0].key, sizeof m->key);
+        else fill(m->key, sizeof m->key);
         fill(m->nonce, sizeof m->nonce);
         fill(m->bytes, length + 16);
     }
@@ -191,6 +193,7 @@ int main(int argc, char **argv) {
     void (*mode)(int) = tables;
     if (*word && strcmp(*word, "--avx2") == 0) capability = AVX2, word++;
     else if (*word && strcmp(*word, "--all") == 0) capability = ALL, word++;
+    if (*word && strcmp(*word, "--kept") == 0) kept = 1, word++;
     if (*word && strcmp(*word, "scan") == 0) mode = scan, word++;
     else if (*word && strcmp(*word, "random") == 0) mode = try_random, word++;
     int number = *word ? atoi(*word++) : mode == tables ? 10 : mode == scan ? 50 : 100000;

@@ -16,6 +16,17 @@ enum direction { SEALING, OPENING };
 enum form { CHACHA, GCM, SIV, WRAP };
 static enum { PLAIN, AVX2, ALL } capability;
 
+/* Under --kept the messages that are made at once have one key, which each party sets once. */
+static int kept;
+static unsigned keys_made;
+
+/* Whether a party that set its key last at `*set` has to set it. */
+static int to_set(unsigned *set) {
+    int again = !kept || *set != keys_made;
+    *set = keys_made;
+    return again;
+}
+
 static const struct kind {
     const char *name;
     enum form form;
@@ -57,9 +68,17 @@ static int aeadkit_has(const struct kind *kind) {
 }
 
 static int by_aeadkit(const struct kind *kind, const struct message *m, enum direction direction) {
+    static struct aeadkit_key keys[KINDS];
+    static unsigned set[KINDS];
     size_t n = whole(kind, m), k = kind->key_length;
     if (kind->form == WRAP)
         return !(direction == SEALING ? aeadkit_wrap : aeadkit_unwrap)(m->key, k, m->bytes, n);
+    if (kept) {
+        struct aeadkit_key *key = &keys[kind - kinds];
+        return (!to_set(&set[kind - kinds]) || !aeadkit_key_init(key, kind->suite, m->key, k))
+            && !(direction == SEALING ? aeadkit_seal_with : aeadkit_open_with)(key, m->nonce, 12, m->aad,
+                                                                               m->aad_length, m->bytes, n);
+    }
     return !(direction == SEALING ? aeadkit_seal : aeadkit_open)(kind->suite, m->key, k, m->nonce, 12,
                                                                  m->aad, m->aad_length, m->bytes, n);
 }
@@ -84,10 +103,12 @@ static int openssl_has(const struct kind *kind) {
 }
 
 static int by_openssl(const struct kind *kind, const struct message *m, enum direction direction) {
+    static unsigned set[KINDS][2];
     EVP_CIPHER_CTX *context = openssl_contexts[kind - kinds][direction];
     uint8_t *bytes = m->bytes, *text = text_of(kind, m), *tag = bytes + m->length;
+    const uint8_t *key = to_set(&set[kind - kinds][direction]) || kind->form == WRAP ? m->key : NULL;
     int got, n = (int)m->length;
-    if (!EVP_CipherInit_ex(context, NULL, NULL, m->key, kind->form == WRAP ? NULL : m->nonce, -1)) return 0;
+    if (!EVP_CipherInit_ex(context, NULL, NULL, key, kind->form == WRAP ? NULL : m->nonce, -1)) return 0;
     if (kind->form == WRAP)
         return direction == SEALING ? EVP_CipherUpdate(context, bytes, &got, text, n) == 1
                                     : EVP_CipherUpdate(context, text, &got, bytes, n + 8) == 1;
@@ -114,7 +135,14 @@ static int by_nettle(const struct kind *kind, const struct message *m, enum dire
     static const uint8_t a6[8] = {0xa6, 0xa6, 0xa6, 0xa6, 0xa6, 0xa6, 0xa6, 0xa6};
     const struct nettle_cipher *aes = kind->key_length == 16 ? &nettle_aes128
         : kind->key_length == 24 ? &nettle_aes192 : &nettle_aes256;
-    struct aes256_ctx cipher; /* as large as the other two */
+    static struct keyed {
+        unsigned set;
+        struct aes256_ctx cipher; /* as large as the other two */
+        struct gcm_key key;
+        struct chacha_poly1305_ctx chacha;
+    } all[KINDS];
+    struct keyed *own = &all[kind - kinds];
+    struct aes256_ctx cipher;
     uint8_t found[16], *bytes = m->bytes, *text = text_of(kind, m);
     uint8_t *tag = direction == SEALING ? bytes + m->length : found;
     size_t n = m->length;
@@ -125,22 +153,23 @@ static int by_nettle(const struct kind *kind, const struct message *m, enum dire
         return 1;
     }
     if (kind->form == CHACHA) {
-        struct chacha_poly1305_ctx context;
-        chacha_poly1305_set_key(&context, m->key);
-        chacha_poly1305_set_nonce(&context, m->nonce);
-        chacha_poly1305_update(&context, m->aad_length, m->aad);
-        (direction == SEALING ? chacha_poly1305_encrypt : chacha_poly1305_decrypt)(&context, n, bytes, bytes);
-        chacha_poly1305_digest(&context, 16, tag);
+        struct chacha_poly1305_ctx *context = &own->chacha;
+        if (to_set(&own->set)) chacha_poly1305_set_key(context, m->key);
+        chacha_poly1305_set_nonce(context, m->nonce);
+        chacha_poly1305_update(context, m->aad_length, m->aad);
+        (direction == SEALING ? chacha_poly1305_encrypt : chacha_poly1305_decrypt)(context, n, bytes, bytes);
+        chacha_poly1305_digest(context, 16, tag);
     } else {
-        struct gcm_key key;
         struct gcm_ctx context;
-        aes->set_encrypt_key(&cipher, m->key);
-        gcm_set_key(&key, &cipher, aes->encrypt);
-        gcm_set_iv(&context, &key, 12, m->nonce);
-        gcm_update(&context, &key, m->aad_length, m->aad);
-        (direction == SEALING ? gcm_encrypt : gcm_decrypt)(&context, &key, &cipher, aes->encrypt, n, bytes,
-                                                           bytes);
-        gcm_digest(&context, &key, &cipher, aes->encrypt, 16, tag);
+        if (to_set(&own->set)) {
+            aes->set_encrypt_key(&own->cipher, m->key);
+            gcm_set_key(&own->key, &own->cipher, aes->encrypt);
+        }
+        gcm_set_iv(&context, &own->key, 12, m->nonce);
+        gcm_update(&context, &own->key, m->aad_length, m->aad);
+        (direction == SEALING ? gcm_encrypt : gcm_decrypt)(&context, &own->key, &own->cipher, aes->encrypt, n,
+                                                           bytes, bytes);
+        gcm_digest(&context, &own->key, &own->cipher, aes->encrypt, 16, tag);
     }
     return direction == SEALING || memcmp(found, bytes + n, 16) == 0;
 }
@@ -162,10 +191,13 @@ static int gcrypt_has(const struct kind *kind) {
 }
 
 static int by_gcrypt(const struct kind *kind, const struct message *m, enum direction direction) {
+    static unsigned set[KINDS];
     gcry_cipher_hd_t handle = gcrypt_handles[kind - kinds];
     uint8_t *bytes = m->bytes, *text = text_of(kind, m), *tag = bytes + m->length;
     size_t n = m->length;
-    if (gcry_cipher_setkey(handle, m->key, kind->key_length)) return 0;
+    /* It keeps no key of AES-GCM-SIV. */
+    if ((to_set(&set[kind - kinds]) || kind->form == SIV) && gcry_cipher_setkey(handle, m->key, kind->key_length))
+        return 0;
     if (kind->form == WRAP)
         return (direction == SEALING ? gcry_cipher_encrypt(handle, bytes, n + 8, text, n)
                                      : gcry_cipher_decrypt(handle, text, n, bytes, n + 8)) == 0;
