@@ -195,9 +195,9 @@ static int by_gcrypt(const struct kind *kind, const struct message *m, enum dire
     gcry_cipher_hd_t handle = gcrypt_handles[kind - kinds];
     uint8_t *bytes = m->bytes, *text = text_of(kind, m), *tag = bytes + m->length;
     size_t n = m->length;
-    /* It keeps no key of AES-GCM-SIV. */
-    if ((to_set(&set[kind - kinds]) || kind->form == SIV) && gcry_cipher_setkey(handle, m->key, kind->key_length))
-        return 0;
+    /* Under AES-GCM-SIV 1.10.1 gives other bytes for a second message if its key is not set again. */
+    int again = to_set(&set[kind - kinds]) || kind->form == SIV || kind->form == WRAP;
+    if (again && gcry_cipher_setkey(handle, m->key, kind->key_length)) return 0;
     if (kind->form == WRAP)
         return (direction == SEALING ? gcry_cipher_encrypt(handle, bytes, n + 8, text, n)
                                      : gcry_cipher_decrypt(handle, text, n, bytes, n + 8)) == 0;
