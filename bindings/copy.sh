@@ -45,12 +45,23 @@ proved() {
     grep '^logic=' "$log" | tail -n 1
 }
 
+# Tells the copy's ChaCha20 whether the processor's vectors hold eight words: fit ROOM [rattle's flags]
+fit() {
+    wide=false
+    case " $* " in *" --cpu"[=\ ]x86-64-v[34]" "*) wide=true ;; esac
+    lanes=$1/crates/chacha/src/lanes.rt
+    sed "s/^\(pub(crate) const WIDE: bool =\) .*;/\1 $wide;/" "$lanes" > "$lanes.new"
+    grep -q "const WIDE: bool = $wide;" "$lanes.new"
+    mv "$lanes.new" "$lanes"
+}
+
 # Builds FOLDER/libaeadkit.a of the copy: archive ROOM FOLDER [rattle's flags]
 # `rt lib` proves before it builds, so what is linked is proved.
 archive() {
     room=$1
     folder=$2
     shift 2
+    fit "$room" "$@"
     for name in keywrap aead; do
         proved "$room" "$name" lib "$@"
         (cd "$room" && ar x "crates/$name/out/lib$name.a")
@@ -76,6 +87,7 @@ program() {
     shift 3
     cp "$repository/crates.txt" "$room/crates.txt"
     crates "$repository" "$room"
+    fit "$room" "$@"
     proved "$room" aeadkit run "$@" -- --version
     cp "$room/crates/aeadkit/out/aeadkit" "$folder/aeadkit.new"
     mv "$folder/aeadkit.new" "$folder/aeadkit"

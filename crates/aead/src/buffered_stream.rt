@@ -3,8 +3,8 @@
 ghost use Rattle.std.specs.Prelude.{◌≡◌, ◌+◌, ◌*◌, ◌%◌, ◌<◌, ◌≤◌, ℕ, List, length, min, slice_index};
 ghost use Rattle.chacha.specs.Stream.{key_stream_byte};
 
-use crate::mask::{CHACHA_PART, MaskStream};
-use chacha::ChaStream;
+use crate::mask::MaskStream;
+use chacha::{ChaStream, RUN};
 use octets::{Key32, Nonce, Stream, Work, xor_into};
 
 // The key stream from counter 1 on: of the blocks that are there, and then of those after them.
@@ -61,7 +61,7 @@ impl<'a> MaskStream for BufferedStream<'a> {
 
     fn part(&self, length: usize) -> usize {
         let begun = self.start.len() - self.used;
-        let more = if begun < CHACHA_PART { CHACHA_PART } else { 0 };
+        let more = if begun < RUN / 2 { RUN } else { 0 };
         length.min(begun + more)
     }
 

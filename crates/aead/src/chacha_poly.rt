@@ -14,7 +14,7 @@ use crate::buffered_stream::BufferedStream;
 use crate::mask_then_hash::{MaskThenHash, open_beside, open_whole, seal_whole};
 use crate::nonced::Nonced;
 use crate::suite::Suite;
-use chacha::{ChaStream, block, key_stream_start};
+use chacha::{ChaStream, WIDE, block, key_stream_start};
 use octets::{Fault, Key32, Nonce, Tag};
 use poly1305::Poly;
 use std::marker::Model;
@@ -194,17 +194,21 @@ impl<'a> MaskThenHash for BufferedChaCha<'a> {
 const SEVEN_BLOCKS: usize = 448;
 
 // How many blocks from counter 0 on are made at once for a text of so many bytes. A block beside four or eight
-// others costs little, and the blocks after them go by eight, so that few are made for a last part.
+// others costs little, and the blocks after them go by four or eight, so that few are made for a last part.
 fn blocks_at_once(length: usize) -> usize {
-    match length {
-        0..=64 => 2,
+    if WIDE && length > 256 {
+        return match length {
+            0..=SEVEN_BLOCKS => 8,
+            _ => match length % 512 {
+                1..=64 | 257..=384 => 2,
+                _ => 9,
+            },
+        };
+    }
+    match length.max(1) % 256 {
+        1..=64 => 2,
         65..=192 => 4,
-        193..=256 => 5,
-        257..=SEVEN_BLOCKS => 8,
-        _ => match length % 512 {
-            1..=64 | 257..=384 => 2,
-            _ => 9,
-        },
+        _ => 5,
     }
 }
 

@@ -8,7 +8,7 @@ ghost use Rattle.aead.specs.Code.States.{MadeByChaCha, MadeByGcm, MadeByGcmSiv};
 ghost use Rattle.aead.specs.Code.Masks.{Masks, chacha_masks, gcm_masks, siv_masks};
 
 use aes::{CtrBe, CtrLe};
-use chacha::ChaStream;
+use chacha::{ChaStream, RUN};
 use octets::{Idle, Stream};
 
 // A mask of which some bytes were made.
@@ -34,15 +34,12 @@ pub(crate) trait MaskStream: Stream + Drop {
     ghost masks: { (a b : Self) (was now : List ℕ) → Self.did a b was now → Masks made a b was now };
 }
 
-// The bytes that eight blocks of ChaCha20 mask, made beside the hash of as many bytes.
-pub(crate) const CHACHA_PART: usize = 512;
-
 // The key stream from counter 1 on (RFC 8439, 2.8).
 impl MaskStream for ChaStream {
     ghost made = { MadeByChaCha };
 
     fn part(&self, length: usize) -> usize {
-        length.min(CHACHA_PART)
+        length.min(RUN)
     }
 
     ghost masks = { chacha_masks };

@@ -367,10 +367,6 @@ pub(crate) fn xor_eight_written(x: &[u32x8; 16], bytes: &mut [u8])
     xor_written(&last, back);
 }
 
-// Whether a vector of the processor holds eight words, as with AVX2. No code can ask, so `bindings/build.sh` writes
-// `true` here for such a processor. Either way the bytes are the same; where it is wrong they take longer.
-pub(crate) const WIDE: bool = false;
-
 // XORs the first 256 bytes of the key stream from a counter on, and does a step of other work after one in `every`
 // halves of the forty. It is a function of its own, since its frame would slow down runs of eight blocks.
 #[inline(never)]
@@ -392,8 +388,7 @@ pub(crate) fn xor_four_blocks<W: Work>(
     xor_written(&x, bytes);
 }
 
-// XORs the first 512 bytes of the key stream from a counter on, and does forty steps of other work. Without wide
-// vectors four blocks go after the other four: the words of eight would not fit the registers.
+// XORs the first 512 bytes of the key stream from a counter on, and does forty steps of other work.
 pub(crate) fn xor_eight_blocks<W: Work>(
     key: &Key32,
     counter: u32,
@@ -406,12 +401,6 @@ pub(crate) fn xor_eight_blocks<W: Work>(
     ensures masked { bytes.new ≡ masked (key_stream_byte key.now nonce.now counter) 0 bytes.old }
     ensures work { (k m : List ℕ) → W.comes_to work.old k m → W.comes_to work.new k m }
 {
-    if WIDE {
-        let x = eight_lanes(key, counter, nonce, work);
-        xor_eight_written(&x, bytes);
-    } else {
-        let (front, back) = bytes.split_at_mut(256);
-        xor_four_blocks(key, counter, nonce, front, 2, work);
-        xor_four_blocks(key, counter + 4, nonce, back, 2, work);
-    }
+    let x = eight_lanes(key, counter, nonce, work);
+    xor_eight_written(&x, bytes);
 }

@@ -9,8 +9,7 @@ ghost use Rattle.chacha.specs.Code.Rows.{read_by_rows};
 ghost use Rattle.chacha.specs.Stream.{key_stream_byte};
 
 use crate::lanes::{
-    WIDE, add, eight_counters, four_counters, half_round, set_starts, xor_eight_written,
-    xor_four_blocks, xor_written,
+    add, eight_counters, four_counters, half_round, set_starts, xor_eight_written, xor_written,
 };
 use crate::rows::{column_round, diagonal_round, rows_of, written};
 use crate::state::initial_state;
@@ -103,28 +102,22 @@ pub(crate) fn xor_five_blocks<W: Work>(
     xor_written(&x, back);
 }
 
-// XORs the first 576 bytes of the key stream from a counter on. Without wide vectors four blocks go after five.
+// XORs the first 576 bytes of the key stream from a counter on.
 pub(crate) fn xor_nine_blocks(key: &Key32, counter: u32, nonce: &Nonce, bytes: &mut [u8])
     requires counters { counter + 8 < 2 ^ 32 }
     requires size { length bytes.old ≡ 576 }
     ensures { bytes.new ≡ masked (key_stream_byte key.now nonce.now counter) 0 bytes.old }
 {
-    if WIDE {
-        let mut x = [u32x8::splat(0); 16];
-        let first = set_blocks(
-            &mut x,
-            key,
-            counter,
-            eight_counters(counter + 1),
-            nonce,
-            &mut Idle,
-        );
-        let (front, back) = bytes.split_at_mut(64);
-        xor_into(front, &first);
-        xor_eight_written(&x, back);
-    } else {
-        let (front, back) = bytes.split_at_mut(320);
-        xor_five_blocks(key, counter, nonce, front, &mut Idle);
-        xor_four_blocks(key, counter + 5, nonce, back, 1, &mut Idle);
-    }
+    let mut x = [u32x8::splat(0); 16];
+    let first = set_blocks(
+        &mut x,
+        key,
+        counter,
+        eight_counters(counter + 1),
+        nonce,
+        &mut Idle,
+    );
+    let (front, back) = bytes.split_at_mut(64);
+    xor_into(front, &first);
+    xor_eight_written(&x, back);
 }

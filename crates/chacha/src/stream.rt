@@ -12,6 +12,14 @@ use octets::{Fault, Idle, Key32, Nonce, Stream, Work, xor_into};
 // The end of the key stream from counter 0 on: 2^32 blocks of 64 bytes.
 const END: u64 = 0x40_0000_0000;
 
+/// Whether a vector of the processor holds eight words, as with AVX2: then eight blocks at once are faster than twice
+/// four, and else slower. No code can ask, so `bindings/build.sh` writes `true` here for such a processor. The bytes
+/// are the same either way.
+pub const WIDE: bool = false;
+
+/// How many bytes are masked at once beside other work.
+pub const RUN: usize = if WIDE { 512 } else { 256 };
+
 /// A ChaCha20 key stream, of which some bytes were made (RFC 8439, 2.4).
 #[derive(Clone, Copy)]
 pub struct ChaStream {
@@ -131,12 +139,15 @@ fn xor_run<W: Work>(key: &Key32, nonce: &Nonce, place: u64, bytes: &mut [u8], wo
 {
     let counter = (place / 64) as u32;
     let skip = (place % 64) as usize;
-    if skip == 0 && bytes.len() >= 512 {
+    if WIDE && skip == 0 && bytes.len() >= 512 {
         lanes::xor_eight_blocks(key, counter, nonce, &mut bytes[..512], work);
         return 512;
     }
-    // Five blocks take hardly longer than four.
-    if skip + bytes.len() > 320 && counter <= u32::MAX - 7 {
+    if !WIDE && skip == 0 && bytes.len() >= 256 {
+        lanes::xor_four_blocks(key, counter, nonce, &mut bytes[..256], 2, work);
+        return 256;
+    }
+    if WIDE && skip + bytes.len() > 320 && counter <= u32::MAX - 7 {
         let mut stream = [0; 512];
         lanes::xor_eight_blocks(key, counter, nonce, &mut stream, work);
         return xor_part(&stream, skip, bytes);

@@ -2,11 +2,11 @@ use Rattle.std.proofs.Common.{◌+◌, ◌∙◌, ap, sym}
 use Rattle.octets.specs.Masked.{masked}
 use Rattle.chacha.specs.Block.{block}
 use Rattle.chacha.specs.Stream.{key_stream_byte}
-use Rattle.chacha.proofs.Masking.{joined, joined_block}
+use Rattle.chacha.proofs.Masking.{joined_block}
 use Rattle.chacha.proofs.row_beside.xor_nine_blocks.Goals as goal
 
-pub returns-then-this : goal.returns-then-this
-returns-then-this c =
+pub returns : goal.returns
+returns c =
     let key = c.args.key.now in
     let nonce = c.args.nonce.now in
     let n = c.args.counter in
@@ -15,14 +15,4 @@ returns-then-this c =
     c.set_blocks-first.result _ _ cut.front_len c.set_blocks-first.ensures.row c.xor_into.ensures
     (c.xor_eight_written.ensures key nonce (n + 1) (λ j l. c.set_blocks-first.ensures.lanes j l
     ∙ ap (λ m. block key m nonce) (c.eight_counters.ensures j l)))
-    ∙ ap (masked (key_stream_byte key nonce n) 0) (sym cut.value)
-
-pub returns-else-this : goal.returns-else-this
-returns-else-this c =
-    let key = c.args.key.now in
-    let nonce = c.args.nonce.now in
-    let n = c.args.counter in
-    let cut = c.split_at_mut-front-else-this.ensures in
-    joined key nonce n 5 c.split_at_mut-front-else-this.result.0.now c.split_at_mut-front-else-this.result.1.now _ _ cut.front_len
-    c.xor_five_blocks.ensures.masked c.xor_four_blocks.ensures.masked
     ∙ ap (masked (key_stream_byte key nonce n) 0) (sym cut.value)

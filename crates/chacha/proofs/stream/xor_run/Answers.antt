@@ -8,6 +8,12 @@ returns-then-bytes-ge512-clause-masked g c =
     (c.xor_eight_blocks.ensures.masked
     ∙ whole_blocks c.args.key.now c.args.nonce.now c.args.place (take 512 c.args.bytes.now) (omega arith))
 
+pub returns-then-bytes-ge256-clause-masked : goal.returns-then-bytes-ge256-clause-masked
+returns-then-bytes-ge256-clause-masked g c =
+    ap (λ l. l ++ drop 256 c.args.bytes.now)
+    (c.xor_four_blocks.ensures.masked
+    ∙ whole_blocks c.args.key.now c.args.nonce.now c.args.place (take 256 c.args.bytes.now) (omega arith))
+
 pub returns-then-counter-clause-masked : goal.returns-then-counter-clause-masked
 returns-then-counter-clause-masked g c =
     run_of_zeros c.args.key.now c.args.nonce.now c.args.place 512 c.xor_part.result c.args.bytes.now
@@ -25,8 +31,8 @@ returns-then-counter-2-clause-masked g c =
 pub returns-then-counter-3-clause-masked : goal.returns-then-counter-3-clause-masked
 returns-then-counter-3-clause-masked g c =
     run_of_zeros c.args.key.now c.args.nonce.now c.args.place 256 c.xor_part-then-counter-3.result
-    c.args.bytes.now c.xor_four_blocks.new.bytes _
-    c.xor_four_blocks.ensures.masked c.xor_four_blocks.auto.bytes c.xor_part-then-counter-3.ensures.count
+    c.args.bytes.now c.xor_four_blocks-then-counter-3.new.bytes _
+    c.xor_four_blocks-then-counter-3.ensures.masked c.xor_four_blocks-then-counter-3.auto.bytes c.xor_part-then-counter-3.ensures.count
     c.xor_part-then-counter-3.ensures.xored
 
 pub returns-then-counter-4-clause-masked : goal.returns-then-counter-4-clause-masked
