@@ -45,14 +45,14 @@ proved() {
     grep '^logic=' "$log" | tail -n 1
 }
 
-# Tells the copy's ChaCha20 whether the processor's vectors hold eight words: fit ROOM [rattle's flags]
+# Tells the copy's ChaCha20 whether a vector of the processor holds eight words: fit ROOM [rattle's flags]
 fit() {
+    stream=$1/crates/chacha/src/stream.rt
     wide=false
     case " $* " in *" --cpu"[=\ ]x86-64-v[34]" "*) wide=true ;; esac
-    lanes=$1/crates/chacha/src/lanes.rt
-    sed "s/^\(pub(crate) const WIDE: bool =\) .*;/\1 $wide;/" "$lanes" > "$lanes.new"
-    grep -q "const WIDE: bool = $wide;" "$lanes.new"
-    mv "$lanes.new" "$lanes"
+    sed "s/^\(pub const WIDE: bool =\) .*;/\1 $wide;/" "$stream" > "$stream.new"
+    grep -q "^pub const WIDE: bool = $wide;" "$stream.new" || { echo "no constant WIDE in $stream" >&2; exit 1; }
+    mv "$stream.new" "$stream"
 }
 
 # Builds FOLDER/libaeadkit.a of the copy: archive ROOM FOLDER [rattle's flags]

@@ -127,30 +127,18 @@ pub(crate) fn half_round<const N: usize>(x: &mut [Simd<u32, N>; 16], half: u32)
     }
 }
 
-// Does a step of other work if the number of a half of a round is a multiple of `every`.
+// Ten double rounds in halves of rounds, with a step of other work after each. The steps are done on a copy: it
+// stays in registers, where a reference would not. Where both halves of a round stand in one basic block, LLVM
+// makes two shuffles of the rotation by 8, one for either side of the XOR before it.
 #[inline(always)]
-fn step_at<W: Work>(work: &mut W, half: u32, every: u32)
-    requires { 0 < every }
-    ensures { (k m : List ℕ) → W.comes_to work.old k m → W.comes_to work.new k m }
-{
-    if half % every == 0 {
-        work.step();
-    }
-}
-
-// Ten double rounds in halves of rounds, with a step of other work after one in `every` of them. The steps are done
-// on a copy: it stays in registers, where a reference would not. Where both halves of a round stand in one basic
-// block, LLVM makes two shuffles of the rotation by 8, one for either side of the XOR before it.
-#[inline(always)]
-fn ten_rounds<const N: usize, W: Work>(x: &mut [Simd<u32, N>; 16], every: u32, work: &mut W)
-    requires { 0 < every }
+fn ten_rounds<const N: usize, W: Work>(x: &mut [Simd<u32, N>; 16], work: &mut W)
     ensures lanes { (j : ℕ) → j < N → lane j x.new ≡ double_rounds 10 (lane j x.old) }
     ensures work { (k m : List ℕ) → W.comes_to work.old k m → W.comes_to work.new k m }
 {
     let mut own = *work;
     'halves: for half in 0..40u32 {
         half_round(x, half);
-        step_at(&mut own, half, every);
+        own.step();
     }
     *work = own;
 }
@@ -187,17 +175,15 @@ fn set_blocks<const N: usize, W: Work>(
     key: &Key32,
     counters: Simd<u32, N>,
     nonce: &Nonce,
-    every: u32,
     work: &mut W,
 )
-    requires { 0 < every }
     ensures blocks { (j : ℕ) → j < N
         → serialized (lane j x.new) ≡ block key.now (slice_index counters.entry j) nonce.now }
     ensures work { (k m : List ℕ) → W.comes_to work.old k m → W.comes_to work.new k m }
 {
     set_starts(x, &initial_state(key, 0, nonce), counters);
     let start = *x;
-    ten_rounds(x, every, work);
+    ten_rounds(x, work);
     add(x, &start);
 }
 
@@ -230,20 +216,13 @@ pub(crate) fn eight_counters(counter: u32) -> u32x8
 
 // The words of the four blocks, one block in each lane.
 #[inline(always)]
-fn four_lanes<W: Work>(
-    key: &Key32,
-    counter: u32,
-    nonce: &Nonce,
-    every: u32,
-    work: &mut W,
-) -> [u32x4; 16]
-    requires counters { counter + 3 < 2 ^ 32 }
-    requires every { 0 < every }
+fn four_lanes<W: Work>(key: &Key32, counter: u32, nonce: &Nonce, work: &mut W) -> [u32x4; 16]
+    requires { counter + 3 < 2 ^ 32 }
     ensures blocks { HasBlocks 4 result key.now counter nonce.now }
     ensures work { (k m : List ℕ) → W.comes_to work.old k m → W.comes_to work.new k m }
 {
     let mut x = [u32x4::splat(0); 16];
-    set_blocks(&mut x, key, four_counters(counter), nonce, every, work);
+    set_blocks(&mut x, key, four_counters(counter), nonce, work);
     x
 }
 
@@ -255,7 +234,7 @@ fn eight_lanes<W: Work>(key: &Key32, counter: u32, nonce: &Nonce, work: &mut W) 
     ensures work { (k m : List ℕ) → W.comes_to work.old k m → W.comes_to work.new k m }
 {
     let mut x = [u32x8::splat(0); 16];
-    set_blocks(&mut x, key, eight_counters(counter), nonce, 1, work);
+    set_blocks(&mut x, key, eight_counters(counter), nonce, work);
     x
 }
 
@@ -367,24 +346,22 @@ pub(crate) fn xor_eight_written(x: &[u32x8; 16], bytes: &mut [u8])
     xor_written(&last, back);
 }
 
-// XORs the first 256 bytes of the key stream from a counter on, and does a step of other work after one in `every`
-// halves of the forty. It is a function of its own, since its frame would slow down runs of eight blocks.
+// XORs the first 256 bytes of the key stream from a counter on, and does forty steps of other work. It is a
+// function of its own, since its frame would slow down runs of eight blocks.
 #[inline(never)]
 pub(crate) fn xor_four_blocks<W: Work>(
     key: &Key32,
     counter: u32,
     nonce: &Nonce,
     bytes: &mut [u8],
-    every: u32,
     work: &mut W,
 )
     requires counters { counter + 3 < 2 ^ 32 }
     requires size { length bytes.old ≡ 256 }
-    requires every { 0 < every }
     ensures masked { bytes.new ≡ masked (key_stream_byte key.now nonce.now counter) 0 bytes.old }
     ensures work { (k m : List ℕ) → W.comes_to work.old k m → W.comes_to work.new k m }
 {
-    let x = four_lanes(key, counter, nonce, every, work);
+    let x = four_lanes(key, counter, nonce, work);
     xor_written(&x, bytes);
 }
 

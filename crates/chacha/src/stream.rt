@@ -144,7 +144,7 @@ fn xor_run<W: Work>(key: &Key32, nonce: &Nonce, place: u64, bytes: &mut [u8], wo
         return 512;
     }
     if !WIDE && skip == 0 && bytes.len() >= 256 {
-        lanes::xor_four_blocks(key, counter, nonce, &mut bytes[..256], 2, work);
+        lanes::xor_four_blocks(key, counter, nonce, &mut bytes[..256], work);
         return 256;
     }
     if WIDE && skip + bytes.len() > 320 && counter <= u32::MAX - 7 {
@@ -159,7 +159,7 @@ fn xor_run<W: Work>(key: &Key32, nonce: &Nonce, place: u64, bytes: &mut [u8], wo
     }
     if skip + bytes.len() > 128 && counter <= u32::MAX - 3 {
         let mut stream = [0; 256];
-        lanes::xor_four_blocks(key, counter, nonce, &mut stream, 1, work);
+        lanes::xor_four_blocks(key, counter, nonce, &mut stream, work);
         return xor_part(&stream, skip, bytes);
     }
     // Two blocks by rows take no longer than one.

@@ -13,7 +13,7 @@ pub halves-preserved : goal.halves-preserved
 unfolding half_rounds
 halves-preserved g c = (
   λ j l. rw add-one (c.half_round.ensures j l ∙ ap (half_round (c.halves.half % 4)) (c.halves.invariant.0 j l)),
-  λ k m h. c.step_at.ensures k m (c.halves.invariant.1 k m h),
+  λ k m h. c.step.ensures k m (c.halves.invariant.1 k m h),
 )
 
 pub returns-clause-lanes : goal.returns-clause-lanes
