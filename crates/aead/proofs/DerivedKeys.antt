@@ -6,13 +6,13 @@ use Rattle.std.specs.List.{range_with_len}
 use Rattle.aead.specs.Sealing.{key_part, encryption_key}
 use borrow.Rule.Slice.PartMut.{put_mid}
 
--- a run of bytes written in two parts of one length
-pub two_parts : (n : ℕ) (x z y a b : List ℕ) → x ≡ a → y ≡ b → length a ≡ n → length z ≡ n
-    → put_mid n n (x ++ z) y ≡ a ++ b
-two_parts n x z y a b e f long rest =
+-- bytes written in two parts
+pub two_parts : (n m : ℕ) (x z y a b : List ℕ) → x ≡ a → y ≡ b → length a ≡ n → length z ≡ m
+    → put_mid n m (x ++ z) y ≡ a ++ b
+two_parts n m x z y a b e f long rest =
     let l : length x ≡ n = ap length e ∙ long in
     ap₂ (λ u v. u ++ (y ++ v)) (take_at x z n l ∙ e)
-    (ap (drop n) (drop_at x z n l) ∙ drop_all n z (omega arith))
+    (ap (drop m) (drop_at x z n l) ∙ drop_all m z (omega arith))
     ∙ ap (λ v. a ++ v) (append-nil y ∙ f)
 
 -- for a key of 16 bytes

@@ -152,14 +152,15 @@ impl Gcm {
     }
 }
 
-// The nonce and a counter (SP 800-38D, 7.1).
+// The nonce and a counter (SP 800-38D, 7.1). The last word is written as one, since the cipher reads words.
+#[inline(always)]
 pub(crate) fn counter_block(nonce: &Nonce, counter: u8) -> Block
     ensures value { result ≡ nonce.now ++ 0 ∷ 0 ∷ 0 ∷ counter ∷ [] }
     ensures nonce_length { length nonce.now ≡ 12 }
 {
     let mut bytes = [0; 16];
     bytes[..12].copy_from_slice(nonce.bytes());
-    bytes[15] = counter;
+    bytes[12..].copy_from_slice(&[0, 0, 0, counter]);
     Block::new(bytes)
 }
 

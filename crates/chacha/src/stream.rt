@@ -152,6 +152,7 @@ fn xor_run<W: Work>(key: &Key32, nonce: &Nonce, place: u64, bytes: &mut [u8], wo
         lanes::xor_eight_blocks(key, counter, nonce, &mut stream, work);
         return xor_part(&stream, skip, bytes);
     }
+    // Five blocks take hardly longer than four.
     if skip + bytes.len() > 256 && counter <= u32::MAX - 4 {
         let mut stream = [0; 320];
         row_beside::xor_five_blocks(key, counter, nonce, &mut stream, work);

@@ -4,6 +4,6 @@ use Rattle.aead.proofs.derived_keys.joined.Goals as goal
 
 pub returns : goal.returns
 returns c =
-    two_parts 8 c.copy_from_slice.new.self (0 ∷ 0 ∷ 0 ∷ 0 ∷ 0 ∷ 0 ∷ 0 ∷ 0 ∷ []) c.copy_from_slice-2.new.self
+    two_parts 8 8 c.copy_from_slice.new.self (0 ∷ 0 ∷ 0 ∷ 0 ∷ 0 ∷ 0 ∷ 0 ∷ 0 ∷ []) c.copy_from_slice-2.new.self
     c.args.first.now c.args.second.now
     c.copy_from_slice.ensures.after c.copy_from_slice-2.ensures.after c.told-first refl
