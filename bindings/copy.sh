@@ -45,14 +45,14 @@ proved() {
     grep '^logic=' "$log" | tail -n 1
 }
 
-# Tells the copy's ChaCha20 whether a vector of the processor holds eight words: fit ROOM [rattle's flags]
+# Tells the copy whether a vector of the processor holds 32 bytes: fit ROOM [rattle's flags]
 fit() {
-    stream=$1/crates/chacha/src/stream.rt
+    work=$1/crates/octets/src/work.rt
     wide=false
     case " $* " in *" --cpu"[=\ ]x86-64-v[34]" "*) wide=true ;; esac
-    sed "s/^\(pub const WIDE: bool =\) .*;/\1 $wide;/" "$stream" > "$stream.new"
-    grep -q "^pub const WIDE: bool = $wide;" "$stream.new" || { echo "no constant WIDE in $stream" >&2; exit 1; }
-    mv "$stream.new" "$stream"
+    sed "s/^\(pub const WIDE: bool =\) .*;/\1 $wide;/" "$work" > "$work.new"
+    grep -q "^pub const WIDE: bool = $wide;" "$work.new" || { echo "no constant WIDE in $work" >&2; exit 1; }
+    mv "$work.new" "$work"
 }
 
 # Builds FOLDER/libaeadkit.a of the copy: archive ROOM FOLDER [rattle's flags]

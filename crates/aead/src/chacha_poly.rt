@@ -14,8 +14,8 @@ use crate::buffered_stream::BufferedStream;
 use crate::mask_then_hash::{MaskThenHash, open_beside, open_whole, seal_whole};
 use crate::nonced::Nonced;
 use crate::suite::Suite;
-use chacha::{ChaStream, WIDE, block, key_stream_start};
-use octets::{Fault, Key32, Nonce, Tag};
+use chacha::{ChaStream, block, key_stream_start};
+use octets::{Fault, Key32, Nonce, Tag, WIDE};
 use poly1305::Poly;
 use std::marker::Model;
 

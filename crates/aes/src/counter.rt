@@ -10,7 +10,7 @@ ghost use Rattle.aes.specs.Code.Wraps.{WrapsAround, up_be-wraps, up_le-wraps};
 use crate::key::AesKey;
 use crate::planes::{Planes, count_blocks};
 use byteorder::{BigEndian, ByteOrder, LittleEndian};
-use octets::{Block, Stream, Work, xor_into};
+use octets::{Block, Stream, WIDE, Work, xor_into};
 use std::marker::PhantomData;
 
 /// The law of counting blocks (SP 800-38D, 6.2; RFC 8452, 4): 0 steps lead from a block of 16 bytes to
@@ -136,6 +136,9 @@ impl Count for FirstFour {
 
     fn counts_in_nibble() {}
 }
+
+// From so many bytes on, making the planes of the key pays.
+const PLANES_PAY: usize = if WIDE { 417 } else { 512 };
 
 // A stream from its first block on: how many blocks were begun, modulo 2^32, and the cipher of the last one
 // with the number of its bytes that were used, 0 if all were.
@@ -301,8 +304,7 @@ impl<C: Count> Counter<C> {
     }
 
     // XORs in runs of sixteen blocks, the last one perhaps in part, while more than 176 bytes are left, and returns
-    // how many bytes were taken. Making the planes of the key pays from 512 bytes on. A function of its own, since
-    // its frame would slow down short messages.
+    // how many bytes were taken. A function of its own, since its frame would slow down short messages.
     #[inline(never)]
     fn apply_sixteens(&mut self, bytes: &mut [u8]) -> usize
         requires { self.old.used ≡ 0 }
@@ -342,7 +344,7 @@ impl<C: Count> Counter<C> {
         requires { self.old.used ≡ 0 }
         ensures { AdvancesFront C.up self.old self.new bytes.old bytes.new result }
     {
-        if bytes.len() < 512 {
+        if bytes.len() < PLANES_PAY {
             return self.apply_fours(bytes);
         }
         let done = self.apply_sixteens(bytes);

@@ -13,4 +13,4 @@ mod tests;
 mod uses;
 
 pub use single::block;
-pub use stream::{ChaStream, RUN, WIDE, key_stream_start};
+pub use stream::{ChaStream, RUN, key_stream_start};

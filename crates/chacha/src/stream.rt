@@ -7,17 +7,12 @@ ghost use Rattle.octets.specs.Masked.{masked};
 ghost use Rattle.chacha.specs.Stream.{key_stream_byte};
 
 use crate::{lanes, row_beside, rows, single};
-use octets::{Fault, Idle, Key32, Nonce, Stream, Work, xor_into};
+use octets::{Fault, Idle, Key32, Nonce, Stream, WIDE, Work, xor_into};
 
 // The end of the key stream from counter 0 on: 2^32 blocks of 64 bytes.
 const END: u64 = 0x40_0000_0000;
 
-/// Whether a vector of the processor holds eight words, as with AVX2: then eight blocks at once are faster than twice
-/// four, and else slower. No code can ask, so `bindings/build.sh` writes `true` here for such a processor. The bytes
-/// are the same either way.
-pub const WIDE: bool = false;
-
-/// How many bytes are masked at once beside other work.
+/// How many bytes are masked at once beside other work: eight blocks where they fit the registers, and else four.
 pub const RUN: usize = if WIDE { 512 } else { 256 };
 
 /// A ChaCha20 key stream, of which some bytes were made (RFC 8439, 2.4).

@@ -30,7 +30,7 @@ pub use refusing::RefusingMemory;
 pub use script::{ScriptIntake, ScriptOutlet, Step};
 pub use std_io::{FromRead, ToWrite};
 pub use transfer::{fill, give_all};
-pub use work::{Idle, Stream, Work};
+pub use work::{Idle, Stream, WIDE, Work};
 
 /// Every polynomial has exactly one residue modulo a polynomial of degree at least 1.
 pub fn each_has_one_residue()
