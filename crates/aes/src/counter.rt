@@ -138,7 +138,7 @@ impl Count for FirstFour {
 }
 
 // From so many bytes on, making the planes of the key pays.
-const PLANES_PAY: usize = if WIDE { 417 } else { 512 };
+const PLANES_PAY: usize = if WIDE { 481 } else { 512 };
 
 // A stream from its first block on: how many blocks were begun, modulo 2^32, and the cipher of the last one
 // with the number of its bytes that were used, 0 if all were.
