@@ -35,3 +35,26 @@ else
     cat "$room/log" >&2
     exit 1
 fi
+
+# The same example in a browser: a page maps its imports to a module that holds the bytes of both modules.
+browser=$(command -v chromium || command -v chromium-browser || command -v google-chrome || true)
+if [ -z "$browser" ]; then
+    echo "left out: JavaScript in a browser, no chromium"
+    exit 0
+fi
+cp "$package/aeadkit.mjs" wasm/page.html wasm/assert.mjs "$room/"
+{
+    echo 'export * from "./aeadkit.mjs";'
+    echo 'import { Aead, KeyWrap } from "./aeadkit.mjs";'
+    echo 'const bytes = (text) => Uint8Array.from(atob(text), (letter) => letter.charCodeAt(0));'
+    echo "export const aead = new Aead(bytes(\"$(base64 "$package/aead.wasm" | tr -d '\n')\"));"
+    echo "export const keywrap = new KeyWrap(bytes(\"$(base64 "$package/keywrap.wasm" | tr -d '\n')\"));"
+} > "$room/bytes.mjs"
+HOME=$room "$browser" --headless --no-sandbox --disable-gpu --allow-file-access-from-files --virtual-time-budget=600000 \
+    --dump-dom "file://$room/page.html" > "$room/dom" 2> "$room/log"
+if grep -q '>ok<' "$room/dom"; then
+    echo "ok: JavaScript in a browser ($("$browser" --version 2> "$room/log" | cut -d ' ' -f 1-2))"
+else
+    cat "$room/log" "$room/dom" >&2
+    exit 1
+fi
