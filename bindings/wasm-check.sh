@@ -50,7 +50,7 @@ cp "$package/aeadkit.mjs" wasm/page.html wasm/assert.mjs "$room/"
     echo "export const aead = new Aead(bytes(\"$(base64 "$package/aead.wasm" | tr -d '\n')\"));"
     echo "export const keywrap = new KeyWrap(bytes(\"$(base64 "$package/keywrap.wasm" | tr -d '\n')\"));"
 } > "$room/bytes.mjs"
-HOME=$room "$browser" --headless --no-sandbox --disable-gpu --allow-file-access-from-files --virtual-time-budget=600000 \
+HOME=$room "$browser" --headless --no-sandbox --disable-gpu --allow-file-access-from-files \
     --dump-dom "file://$room/page.html" > "$room/dom" 2> "$room/log"
 if grep -q '>ok<' "$room/dom"; then
     echo "ok: JavaScript in a browser ($("$browser" --version 2> "$room/log" | cut -d ' ' -f 1-2))"
