@@ -3,14 +3,7 @@ use Rattle.std.proofs.Common.{◌≡◌, ℕ, ◌-◌, ◌%◌, List, ◌++◌, 
 use Rattle.std.proofs.Common.{length-append}
 use Rattle.std.proofs.lemmas.List.{length-replicate, append-nil}
 use Rattle.octets.specs.Bytes.{padding, pad16}
-
--- the padding makes whole blocks
-pub whole_padded : (m : List ℕ) → length (pad16 m) % 16 ≡ 0
-whole_padded m = omega (
-  arith,
-  length-append m (padding m),
-  length-replicate {A = ℕ} ((16 - length m % 16) % 16) 0,
-)
+use Rattle.octets.proofs.Texts.{whole_padded}
 
 -- whole blocks are not padded
 pub pad16_whole : (m : List ℕ) → length m % 16 ≡ 0 → pad16 m ≡ m

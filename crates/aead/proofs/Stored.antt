@@ -21,7 +21,7 @@ use Rattle.aead.specs.Exports.{HasLengths}
 use Rattle.aead.specs.Code.Masks.{none_leaves}
 use Rattle.aead.specs.Stored.{sealer_mark, IsPolySum, IsGhashSum, HoldsBy, HoldsOf, HoldsBytes, HoldsText}
 use Rattle.aead.specs.Stored.{IsSumOf, IsPolyvalSum, HasKeys, HoldsSivText, HoldsSealedBy, cipher_key}
-use Rattle.aead.proofs.Fed.{whole_padded}
+use Rattle.octets.proofs.Texts.{whole_padded}
 
 -- a struct before any piece, with this sum
 abbrev pub restart : StoredSealer → StoredSum → StoredSealer

@@ -131,12 +131,3 @@ ghash_is_the_only h m =
       record { is_block = block; sum_is = same },
       λ y is. g_injective 16 y (bytes_of_g 16 s) is.is_block block (λ k. is.sum_is k ∙ sym (same k)),
     )
-
--- a padded text is its whole blocks
-pub padded_whole : (m : List ℕ) → take (length (pad16 m) / 16 * 16) (pad16 m) ≡ pad16 m
-padded_whole m =
-    let z : ℕ = (16 - length m % 16) % 16 in
-    let zeros : length (replicate {A = ℕ} z 0) ≡ z = length-replicate z 0 in
-    let len : length (pad16 m) ≡ length m + z = length-append m (replicate z 0)
-    ∙ ap (λ (x : ℕ). length m + x) zeros in
-    take_all (length (pad16 m) / 16 * 16) (pad16 m) (omega arith)

@@ -1,6 +1,6 @@
 // GHASH and POLYVAL over a text fed piece by piece: one state, over the order of a block's bytes.
 
-ghost use Rattle.std.specs.Prelude.{◌≡◌, ℕ, ◌*◌, ◌/◌, ◌<◌, ◌++◌, List, [], length, drop};
+ghost use Rattle.std.specs.Prelude.{◌≡◌, ℕ, ◌*◌, ◌/◌, ◌%◌, ◌<◌, ◌++◌, List, [], length, drop};
 ghost use Rattle.octets.specs.Bytes.{IsBlock};
 ghost use Rattle.octets.specs.Polynomial.{Agree};
 ghost use Rattle.gf128.specs.Code.Words.{of_word};
@@ -150,6 +150,15 @@ impl<M: Multiply, O: ByteOrder> BlockHash<M, O> {
         self.pieces.pad16();
     }
 
+    /// Returns the hash of the text fed so far, if that is whole blocks of 16 bytes.
+    pub fn hash(&self) -> Block
+        ensures value { (h m : List ℕ) → HashHolds O.order M.key_bytes self.now h m → length m % 16 ≡ 0
+            → result ≡ hash_by O.order h m }
+        ensures is_block { IsBlock result }
+    {
+        O::hash_of(self.pieces.core().sum)
+    }
+
     /// Returns the hash of the text fed, padded by zeros to whole blocks: 16 bytes. Consumes the state.
     pub fn finish(mut self) -> Block
         ensures value { (h m : List ℕ) → HashHolds O.order M.key_bytes self h m
@@ -157,6 +166,6 @@ impl<M: Multiply, O: ByteOrder> BlockHash<M, O> {
         ensures is_block { IsBlock result }
     {
         self.pad16();
-        O::hash_of(self.pieces.core().sum)
+        self.hash()
     }
 }

@@ -1,8 +1,9 @@
 -- A text that comes in pieces, as it grows.
 use Rattle.std.proofs.Common.{◌≡◌, ℕ, ◌+◌, ◌*◌, ◌/◌, ◌%◌, ◌<◌, List, ◌++◌, length, take, drop, sym, ap, ◌∙◌}
-use Rattle.std.proofs.Common.{arith}
+use Rattle.std.proofs.Common.{◌-◌, arith}
 use Rattle.std.proofs.lemmas.List.{length-append, length-take-le, take-append-le, drop-append-le}
-use Rattle.std.proofs.lemmas.List.{take-append-drop, take_all, drop_all, append_assoc}
+use Rattle.std.proofs.lemmas.List.{take-append-drop, take_all, drop_all, append_assoc, length-replicate}
+use Rattle.octets.specs.Bytes.{padding, pad16}
 use Rattle.octets.specs.Pieces.{HoldsPieces}
 use Rattle.octets.specs.declared.pieces.Pieces.{Pieces}
 
@@ -57,3 +58,11 @@ holds_blocks absorbed p n k m x blocks h whole eb step eu =
 pub holds_used : {A : Type 0} (absorbed : A → List ℕ → List ℕ → Type 0) (p : Pieces A) (k m : List ℕ)
     → HoldsPieces absorbed p k m → p.used ≡ length m % 16
 holds_used absorbed p k m h = h.rest.used_is
+
+-- a padded text is whole blocks
+pub whole_padded : (m : List ℕ) → length (pad16 m) % 16 ≡ 0
+whole_padded m = omega (
+  arith,
+  length-append m (padding m),
+  length-replicate {A = ℕ} ((16 - length m % 16) % 16) 0,
+)

@@ -10,15 +10,43 @@ pub fn same(a: &[u8; 16], b: &[u8; 16]) -> bool
     a == b
 }
 
-/// XORs `src` into `dst`, place by place. The caller shows that they have one length.
+// XORs `src` into `dst`, byte by byte.
 #[inline(always)]
-pub fn xor_into(dst: &mut [u8], src: &[u8])
+fn xor_each(dst: &mut [u8], src: &[u8])
     requires { length dst.old ≡ length src.now }
     ensures { dst.new ≡ xor_bytes dst.old src.now }
 {
     'bytes: for i in 0..dst.len() {
         dst[i] ^= src[i];
     }
+}
+
+// XORs 16 bytes into 16 others, through arrays, which overlap nothing: it is one step of the processor.
+#[inline(always)]
+fn xor_block(dst: &mut [u8], src: &[u8])
+    requires { (length dst.old ≡ 16) × (length src.now ≡ 16) }
+    ensures { dst.new ≡ xor_bytes dst.old src.now }
+{
+    let mut sum = [0; 16];
+    sum.copy_from_slice(dst);
+    let mut other = [0; 16];
+    other.copy_from_slice(src);
+    xor_each(&mut sum, &other);
+    dst.copy_from_slice(&sum);
+}
+
+/// XORs `src` into `dst`, place by place. The caller shows that they have one length.
+#[inline(always)]
+pub fn xor_into(dst: &mut [u8], src: &[u8])
+    requires { length dst.old ≡ length src.now }
+    ensures { dst.new ≡ xor_bytes dst.old src.now }
+{
+    let mut at = 0;
+    'sixteens: while dst.len() - at >= 16 {
+        xor_block(&mut dst[at..at + 16], &src[at..at + 16]);
+        at += 16;
+    }
+    xor_each(&mut dst[at..], &src[at..]);
 }
 
 /// The XOR of two runs of 16 bytes.

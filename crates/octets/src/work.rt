@@ -3,7 +3,7 @@
 ghost use Rattle.std.specs.Prelude.{⊤, ℕ, List};
 
 /// Whether a vector of the processor holds 32 bytes, as with AVX2. No code can ask, so `bindings/build.sh` writes `true`
-/// here for such a processor. It chooses between forms that give the same bytes and take unlike times.
+/// here for such a processor. It chooses between forms that give the same bytes and differ in speed alone.
 pub const WIDE: bool = false;
 
 /// Work in small steps, which other code does wherever the processor has room for one. It is `Copy` so that a

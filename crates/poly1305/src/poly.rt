@@ -149,9 +149,9 @@ impl<M: Multiplier> PolyBy<M> {
         self.pieces.pad16();
     }
 
-    /// Returns the tag of the text (RFC 8439, 2.5). Consumes the state.
-    pub fn finish(self) -> Tag
-        ensures value { (k m : List ℕ) → HoldsBy M.factor self k m → result ≡ poly1305 k m }
+    /// Returns the tag of the text so far (RFC 8439, 2.5).
+    pub fn tag(&self) -> Tag
+        ensures value { (k m : List ℕ) → HoldsBy M.factor self.now k m → result ≡ poly1305 k m }
         ensures is_block { IsBlock result }
     {
         let core = self.pieces.core();
@@ -162,5 +162,13 @@ impl<M: Multiplier> PolyBy<M> {
             sum = core.multiplier.step(sum.sum(), last, 0).residue();
         }
         Tag::new(sum.low.wrapping_add(core.addend).to_le_bytes())
+    }
+
+    /// Returns the tag of the text (RFC 8439, 2.5). Consumes the state.
+    pub fn finish(self) -> Tag
+        ensures value { (k m : List ℕ) → HoldsBy M.factor self k m → result ≡ poly1305 k m }
+        ensures is_block { IsBlock result }
+    {
+        self.tag()
     }
 }

@@ -1,9 +1,13 @@
-use Rattle.std.proofs.Common.{◌≡◌, ℕ, ◌<◌, ◌≤◌, get_or, length, bit_xor}
+use Rattle.std.proofs.Common.{◌≡◌, ◌-◌, ◌≤◌, length, take, drop}
+use Rattle.octets.specs.Bytes.{xor_bytes}
 use Rattle.octets.proofs.compare.xor_into.Given as goal
 
-abbrev pub invariant-bytes : goal.invariant-bytes
-invariant-bytes l = record {
-  length_is : length l.dst ≡ length l.fn.dst;
-  done : (k : ℕ) → k < l.i → get_or l.dst k 0 ≡ bit_xor (get_or l.fn.dst k 0) (get_or l.src k 0);
-  left : (k : ℕ) → l.i ≤ k → get_or l.dst k 0 ≡ get_or l.fn.dst k 0;
+abbrev pub invariant-sixteens : goal.invariant-sixteens
+invariant-sixteens l = record {
+  within : l.at ≤ length l.fn.dst;
+  done : take l.at l.dst ≡ xor_bytes (take l.at l.fn.dst) (take l.at l.src);
+  left : drop l.at l.dst ≡ drop l.at l.fn.dst;
 }
+
+abbrev pub decreases-sixteens : goal.decreases-sixteens
+decreases-sixteens l = length l.dst - l.at

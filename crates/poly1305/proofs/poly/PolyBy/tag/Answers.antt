@@ -6,8 +6,8 @@ use Rattle.poly1305.specs.Code.Residue.{pair}
 use Rattle.poly1305.specs.declared.residue.Residue.{Residue}
 use Rattle.poly1305.specs.States.{PolySumHolds}
 use Rattle.poly1305.proofs.Texts.{holds_whole, holds_partial}
-use Rattle.poly1305.proofs.poly.PolyBy.finish.Goals as goal
-use Rattle.poly1305.proofs.poly.PolyBy.finish.Goals.{then-rest-gt0, else-rest-gt0}
+use Rattle.poly1305.proofs.poly.PolyBy.tag.Goals as goal
+use Rattle.poly1305.proofs.poly.PolyBy.tag.Goals.{then-rest-gt0, else-rest-gt0}
 
 pub returns-clause-value : goal.returns-clause-value
 unfolding poly1305
