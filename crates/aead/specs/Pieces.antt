@@ -7,7 +7,8 @@ use Rattle.aead.specs.declared.siv.SivAbsorb.{SivAbsorb}
 use Rattle.aead.specs.declared.siv.SivWriter.{SivWriter}
 use Rattle.aead.specs.Suites.{ByGcmSiv, construction_of, is_one_pass, text_limit}
 use Rattle.aead.specs.Sealing.{Setting, encryption_key, mask_of, tag_of, sealing}
-use Rattle.aead.specs.Code.States.{MadeByGcmSiv, HeldByPolyval, HoldsAuthenticator, own_key}
+use Rattle.aes.specs.Code.ExpandedKey.{own_key}
+use Rattle.aead.specs.Code.States.{MadeByGcmSiv, HeldByPolyval, HoldsAuthenticator}
 use Rattle.aead.specs.Code.Masks.{as_it_comes}
 use Rattle.aead.specs.Code.Maskings.{HoldsMasking, message_task, repeating_task}
 use Rattle.aead.specs.Code.AnyMaskings.{HoldsAnyMasking}
@@ -30,7 +31,7 @@ pub record HoldsWriter (w : SivWriter) (s : Setting) (first text : List ℕ) : T
   pub by_gcm_siv : construction_of s.suite ≡ ByGcmSiv
   pub tag_is : w.tag ≡ tag_of s first
   pub masking :
-      HoldsMasking MadeByGcmSiv (HeldByPolyval key_of own_key) as_it_comes w.masking (repeating_task s first)
+      HoldsMasking (MadeByGcmSiv own_key) (HeldByPolyval key_of own_key) as_it_comes w.masking (repeating_task s first)
       text
 
 -- a text has the length and the tag of the first one

@@ -9,7 +9,7 @@ ghost use Rattle.aead.specs.Code.AnyMaskings.{HoldsAnyMasking, count_of, limit_o
 use crate::beside::MaskFirst;
 use crate::hashes::GhashTag;
 use crate::masking::Masking;
-use aes::CtrBe;
+use aes::{AesKey, CtrBe};
 use chacha::ChaStream;
 use gf128::PlacedMul;
 use octets::Tag;
@@ -21,7 +21,7 @@ pub(crate) enum AnyMasking {
     // ChaCha20-Poly1305.
     ByChaCha(Masking<ChaStream, Poly, MaskFirst>),
     // AES-GCM.
-    ByGcm(Masking<CtrBe, GhashTag<PlacedMul>, MaskFirst>),
+    ByGcm(Masking<CtrBe<AesKey>, GhashTag<PlacedMul>, MaskFirst>),
 }
 
 impl AnyMasking {

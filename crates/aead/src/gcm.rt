@@ -15,7 +15,7 @@ use crate::mask_then_hash::{MaskThenHash, open_whole, seal_whole};
 use crate::multiples::{Multiples, worth};
 use crate::nonced::Nonced;
 use crate::suite::Suite;
-use aes::{AesKey, CtrBe};
+use aes::{AesKey, CtrBe, KeptKey};
 use gf128::{Ghash, Keyed128, Multiply, PlacedMul, TableMul, WideMul};
 use octets::{Block, Fault, Nonce, Tag};
 use std::marker::Model;
@@ -90,20 +90,29 @@ impl Gcm {
         }
     }
 
-    // The cipher with a nonce, by a multiplier of its hash key.
-    pub(crate) fn nonced<'a, M: Multiply + Copy>(
-        &'a self,
+    // Its key.
+    pub(crate) fn key(&self) -> &AesKey
+        ensures { result.now ≡ self.now.key }
+    {
+        &self.key
+    }
+
+    // The cipher with a nonce, by its key, kept or borrowed, and a multiplier of its hash key.
+    pub(crate) fn nonced<'a, M: Multiply + Copy, K: KeptKey + Copy>(
+        &self,
         nonce: &'a Nonce,
+        key: K,
         multiplier: M,
-    ) -> NoncedGcm<'a, M>
-        requires { M.key_bytes multiplier ≡ hash_key self.now.key }
+    ) -> NoncedGcm<'a, M, K>
+        requires key { K.bytes key ≡ self.now.key }
+        requires multiplier { M.key_bytes multiplier ≡ hash_key self.now.key }
         ensures key { IsKey self.now.key }
-        ensures keyed { ⟦<NoncedGcm<'a, M> as Nonced>⟧.keyed result ≡ self.now }
-        ensures nonce { ⟦<NoncedGcm<'a, M> as Nonced>⟧.nonce result ≡ nonce.now }
+        ensures keyed { ⟦<NoncedGcm<'a, M, K> as Nonced>⟧.keyed result ≡ self.now }
+        ensures nonce { ⟦<NoncedGcm<'a, M, K> as Nonced>⟧.nonce result ≡ nonce.now }
     {
         NoncedGcm {
             suite: self.suite,
-            key: &self.key,
+            key,
             nonce,
             multiplier,
         }
@@ -131,7 +140,7 @@ impl Gcm {
         ensures { Opened (setting self.now nonce.now aad.now) (text.new ++ result) text.old }
     {
         let made = self.multiplier_of::<M>();
-        seal_whole(&self.nonced(nonce, &made), aad, text)
+        seal_whole(&self.nonced(nonce, &self.key, &made), aad, text)
     }
 
     // Opens by a multiplier of the type `M`.
@@ -148,7 +157,7 @@ impl Gcm {
         ensures { OpensInPlace (setting self.now nonce.now aad.now) tag.now body.old body.new result }
     {
         let made = self.multiplier_of::<M>();
-        open_whole(&self.nonced(nonce, &made), aad, body, tag)
+        open_whole(&self.nonced(nonce, &self.key, &made), aad, body, tag)
     }
 }
 
@@ -164,23 +173,23 @@ pub(crate) fn counter_block(nonce: &Nonce, counter: u8) -> Block
     Block::new(bytes)
 }
 
-// The cipher with a nonce, and a multiplier of its hash key.
+// The cipher with a nonce, its key, and a multiplier of its hash key.
 #[derive(Drop)]
-pub(crate) struct NoncedGcm<'a, M: Multiply> {
+pub(crate) struct NoncedGcm<'a, M: Multiply, K: KeptKey> {
     suite: Suite,
-    key: &'a AesKey,
+    key: K,
     nonce: &'a Nonce,
     multiplier: M,
     ghost by_gcm: { construction_of suite ≡ ByGcm },
-    ghost multiplier_is: { M.key_bytes multiplier ≡ hash_key key.now },
+    ghost multiplier_is: { M.key_bytes multiplier ≡ hash_key (K.bytes key) },
 }
 
-impl<'a, M: Multiply + Copy> Nonced for NoncedGcm<'a, M> {
-    type Stream = CtrBe;
+impl<'a, M: Multiply + Copy, K: KeptKey + Copy> Nonced for NoncedGcm<'a, M, K> {
+    type Stream = CtrBe<K>;
 
     type Hash = GhashTag<M>;
 
-    ghost keyed = { λ m. record { suite = m.suite; key = m.key.now } };
+    ghost keyed = { λ m. record { suite = m.suite; key = K.bytes m.key } };
 
     ghost nonce = { λ m. m.nonce.now };
 
@@ -192,14 +201,14 @@ impl<'a, M: Multiply + Copy> Nonced for NoncedGcm<'a, M> {
     fn hash(&self) -> GhashTag<M> {
         GhashTag {
             hash: Ghash::with(self.multiplier),
-            mask: self.key.encrypt(&counter_block(self.nonce, 1)),
+            mask: self.key.kept().encrypt(&counter_block(self.nonce, 1)),
         }
     }
 }
 
-impl<'a, M: Multiply + Copy> MaskThenHash for NoncedGcm<'a, M> {
+impl<'a, M: Multiply + Copy, K: KeptKey + Copy> MaskThenHash for NoncedGcm<'a, M, K> {
     #[inline(always)]
-    fn mask(&self) -> CtrBe {
+    fn mask(&self) -> CtrBe<K> {
         CtrBe::new(self.key, &counter_block(self.nonce, 2))
     }
 
@@ -215,7 +224,9 @@ impl Cipher for Gcm {
 
     fn seal_fitting(&self, nonce: &Nonce, aad: &[u8], text: &mut [u8]) -> Tag {
         match worth((aad.len() + text.len()) as u64) {
-            Multiples::Few => seal_whole(&self.nonced(nonce, self.multiplier()), aad, text),
+            Multiples::Few => {
+                seal_whole(&self.nonced(nonce, &self.key, self.multiplier()), aad, text)
+            }
             Multiples::AtEightPlaces => self.seal_by::<PlacedMul>(nonce, aad, text),
             Multiples::OfFourPowers => self.seal_by::<WideMul>(nonce, aad, text),
         }
@@ -229,7 +240,14 @@ impl Cipher for Gcm {
         tag: &Tag,
     ) -> Result<(), Fault> {
         match worth((aad.len() + body.len()) as u64) {
-            Multiples::Few => open_whole(&self.nonced(nonce, self.multiplier()), aad, body, tag),
+            Multiples::Few => {
+                open_whole(
+                    &self.nonced(nonce, &self.key, self.multiplier()),
+                    aad,
+                    body,
+                    tag,
+                )
+            }
             Multiples::AtEightPlaces => self.open_by::<PlacedMul>(nonce, aad, body, tag),
             Multiples::OfFourPowers => self.open_by::<WideMul>(nonce, aad, body, tag),
         }

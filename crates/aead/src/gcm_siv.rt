@@ -14,11 +14,11 @@ ghost use Rattle.aead.specs.Code.States.{MadeByGcmSiv};
 use crate::aead::Cipher;
 use crate::derived_keys::DerivedKeys;
 use crate::hash_then_mask::{HashThenMask, open_whole, seal_whole};
-use crate::hashes::{KeptKey, PolyvalTag};
+use crate::hashes::PolyvalTag;
 use crate::multiples::{Multiples, worth};
 use crate::nonced::Nonced;
 use crate::suite::Suite;
-use aes::{AesKey, CtrLe};
+use aes::{AesKey, CtrLe, KeptKey};
 use gf128::{Keyed128, Multiply, PlacedMul, Polyval, TableMul, WideMul};
 use octets::{Block, Fault, Nonce, Tag};
 use std::marker::Model;
@@ -154,10 +154,10 @@ pub(crate) fn counter_block(tag: &[u8; 16]) -> [u8; 16]
 
 // The mask under a tag (RFC 8452, 4).
 #[inline(always)]
-pub(crate) fn tag_mask(encryption: &AesKey, tag: &Tag) -> CtrLe
+pub(crate) fn tag_mask<K: KeptKey>(encryption: K, tag: &Tag) -> CtrLe<K>
     ensures { (s : Setting) → construction_of s.suite ≡ ByGcmSiv
-        → encryption.now ≡ encryption_key s.key s.nonce
-        → MadeByGcmSiv result s tag.now 0 }
+        → K.bytes encryption ≡ encryption_key s.key s.nonce
+        → MadeByGcmSiv K.bytes result s tag.now 0 }
 {
     CtrLe::new(encryption, &Block::new(counter_block(tag.bytes())))
 }
@@ -178,7 +178,7 @@ pub(crate) struct NoncedGcmSiv<'a, M: Multiply, K: KeptKey> {
 }
 
 impl<'a, M: Multiply + Copy, K: KeptKey + Copy> Nonced for NoncedGcmSiv<'a, M, K> {
-    type Stream = CtrLe;
+    type Stream = CtrLe<K>;
 
     type Hash = PolyvalTag<M, K>;
 
@@ -202,8 +202,8 @@ impl<'a, M: Multiply + Copy, K: KeptKey + Copy> Nonced for NoncedGcmSiv<'a, M, K
 
 impl<'a, M: Multiply + Copy, K: KeptKey + Copy> HashThenMask for NoncedGcmSiv<'a, M, K> {
     #[inline(always)]
-    fn mask(&self, tag: &Tag) -> CtrLe {
-        tag_mask(self.encryption.kept(), tag)
+    fn mask(&self, tag: &Tag) -> CtrLe<K> {
+        tag_mask(self.encryption, tag)
     }
 
     ghost by_gcm_siv = { λ n. n.by_gcm_siv };

@@ -3,10 +3,10 @@
 ghost use Rattle.std.specs.Prelude.{◌≡◌, ◌<◌, ◌*◌, ◌^◌, ◌++◌, ℕ, List, length};
 ghost use Rattle.octets.specs.Bytes.{pad16};
 ghost use Rattle.aead.specs.Sealing.{Setting, Fits, tag_block, tag_over};
-ghost use Rattle.aead.specs.Code.States.{HeldByPoly, HeldByGhash, HeldByPolyval, own_key};
+ghost use Rattle.aead.specs.Code.States.{HeldByPoly, HeldByGhash, HeldByPolyval};
 
 use crate::derived_keys::joined;
-use aes::AesKey;
+use aes::KeptKey;
 use gf128::{Ghash, Multiply, Polyval};
 use octets::{Block, Idle, Nonce, Stream, Tag, xor_into, xored};
 use poly1305::Poly;
@@ -105,33 +105,6 @@ fn tag_block(hash: &[u8; 16], nonce: &[u8; 12]) -> [u8; 16]
     xor_into(&mut block[..12], nonce);
     block[15] &= 0x7f;
     block
-}
-
-// A key of AES, or a reference to one that is kept elsewhere: a message that is sealed whole copies none.
-pub(crate) trait KeptKey: Drop {
-    // The key's bytes.
-    ghost bytes: { Self → List ℕ };
-
-    fn kept(&self) -> &AesKey
-        ensures { result.now ≡ bytes self.now };
-}
-
-impl KeptKey for AesKey {
-    ghost bytes = { own_key };
-
-    #[inline(always)]
-    fn kept(&self) -> &AesKey {
-        self
-    }
-}
-
-impl KeptKey for &AesKey {
-    ghost bytes = { λ k. k.now };
-
-    #[inline(always)]
-    fn kept(&self) -> &AesKey {
-        *self
-    }
 }
 
 // POLYVAL, the encryption key and the nonce; the lengths are in bits (RFC 8452, 4).

@@ -7,7 +7,7 @@ ghost use Rattle.aead.specs.Sealing.{Setting, mask_of};
 ghost use Rattle.aead.specs.Code.States.{MadeByChaCha, MadeByGcm, MadeByGcmSiv};
 ghost use Rattle.aead.specs.Code.Masks.{Masks, chacha_masks, gcm_masks, siv_masks};
 
-use aes::{CtrBe, CtrLe};
+use aes::{CtrBe, CtrLe, KeptKey};
 use chacha::{ChaStream, RUN};
 use octets::{Idle, Stream};
 
@@ -46,23 +46,23 @@ impl MaskStream for ChaStream {
 }
 
 // The counter stream from inc32(J0) on (SP 800-38D, 7.1).
-impl MaskStream for CtrBe {
-    ghost made = { MadeByGcm };
+impl<K: KeptKey> MaskStream for CtrBe<K> {
+    ghost made = { MadeByGcm K.bytes };
 
     fn part(&self, length: usize) -> usize {
         length
     }
 
-    ghost masks = { gcm_masks };
+    ghost masks = { gcm_masks K.bytes };
 }
 
 // The counter stream that the tag begins (RFC 8452, 4).
-impl MaskStream for CtrLe {
-    ghost made = { MadeByGcmSiv };
+impl<K: KeptKey> MaskStream for CtrLe<K> {
+    ghost made = { MadeByGcmSiv K.bytes };
 
     fn part(&self, length: usize) -> usize {
         length
     }
 
-    ghost masks = { siv_masks };
+    ghost masks = { siv_masks K.bytes };
 }

@@ -33,7 +33,8 @@ fn any_sealing(cipher: &AnyOnePass, nonce: &Nonce, aad: &[u8]) -> AnyMasking
     match cipher {
         AnyOnePass::ChaCha(cipher) => AnyMasking::ByChaCha(sealing(&cipher.nonced(nonce), aad)),
         AnyOnePass::Gcm(cipher) => {
-            let nonced = cipher.nonced(nonce, cipher.multiplier_of::<PlacedMul>());
+            let multiplier = cipher.multiplier_of::<PlacedMul>();
+            let nonced = cipher.nonced(nonce, *cipher.key(), multiplier);
             AnyMasking::ByGcm(sealing(&nonced, aad))
         }
     }

@@ -103,7 +103,7 @@ impl SivAbsorb {
     {
         let length = self.authenticator.length;
         let tag = self.authenticator.finish();
-        let mask = tag_mask(&self.encryption, &tag);
+        let mask = tag_mask(self.encryption, &tag);
         let masking = Masking::new(mask, self.again, HashFirst, length);
         (tag, SivWriter { masking, tag })
     }
@@ -112,7 +112,7 @@ impl SivAbsorb {
 /// The second reading of a text that is sealed by AES-GCM-SIV.
 #[derive(Drop)]
 pub struct SivWriter {
-    masking: Masking<CtrLe, PolyvalTag<PlacedMul, AesKey>, HashFirst>,
+    masking: Masking<CtrLe<AesKey>, PolyvalTag<PlacedMul, AesKey>, HashFirst>,
     tag: Tag,
 }
 

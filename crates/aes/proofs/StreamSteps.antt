@@ -1,6 +1,6 @@
 -- Streams of counting blocks, one piece after the other.
-use Rattle.std.proofs.Common.{◌≡◌, ℕ, ◌+◌, ◌-◌, ◌*◌, ◌/◌, ◌%◌, zero, suc, ◌^◌, ◌<◌, ◌≤◌, List, [], ◌∷◌, ◌++◌}
-use Rattle.std.proofs.Common.{length, take, drop, get_or, bit_xor, append_assoc, refl, sym, ap, ap₂, subst, ◌∙◌, arith, take-add}
+use Rattle.std.proofs.Common.{◌≡◌, ℕ, ◌+◌, ◌-◌, ◌*◌, ◌/◌, ◌%◌, zero, suc, ◌^◌, ◌<◌, ◌≤◌, List, [], ◌++◌}
+use Rattle.std.proofs.Common.{length, take, drop, get_or, append_assoc, refl, sym, ap, ap₂, subst, ◌∙◌, arith, take-add}
 use Rattle.std.proofs.Common.{add-zero}
 use Rattle.std.proofs.lemmas.List.{take_at, drop_at, take_all, drop_all, drop-drop, length-append}
 use Rattle.std.proofs.lemmas.List.{length-take-le, length-drop, get_or-take, get_or-drop, append-nil}
@@ -10,6 +10,7 @@ use borrow.Rule.Slice.PartMut.{put_mid}
 use Rattle.octets.specs.Bytes.{xor_bytes, le, be, block_at}
 use Rattle.octets.specs.Masked.{masked}
 use Rattle.octets.proofs.Masks.{masked-append, xor_bytes-masked}
+use Rattle.octets.proofs.Xors.{length-put_mid}
 use Rattle.byteorder.specs.Endian.{big_number, big_bytes, little_number, little_bytes}
 use Rattle.octets.proofs.Orders.{big_number_is, little_number_is}
 use Rattle.aes.specs.Cipher.{cipher}
@@ -45,16 +46,6 @@ up_le_written b n j long read =
     let number : n ≡ le (take 4 b) = read ∙ little_number_is 4 b (omega arith) in
     ap (λ (x : ℕ). little_bytes 4 ((x + j) % 2 ^ 32) ++ drop 4 b) number
 
--- two XORs, one after the other
-pub xor_bytes-append : (xs ys zs ws : List ℕ) → length xs ≡ length ys → xor_bytes (xs ++ zs) (ys ++ ws)
-    ≡ xor_bytes xs ys ++ xor_bytes zs ws
-unfolding xor_bytes
-xor_bytes-append [] [] zs ws same = refl
-xor_bytes-append [] (y ∷ ys) zs ws same = absurd (omega arith)
-xor_bytes-append (x ∷ xs) [] zs ws same = absurd (omega arith)
-xor_bytes-append (x ∷ xs) (y ∷ ys) zs ws same =
-    ap (λ l. bit_xor x y ∷ l) (xor_bytes-append xs ys zs ws (omega arith))
-
 -- the XOR with a part of the cipher of one block
 block_masked : (up : List ℕ → ℕ → List ℕ) (key first mask xs : List ℕ) (made used n : ℕ)
     → mask ≡ cipher key (up first (made / 16)) → used ≡ made % 16 → used + length xs ≤ 16 → length mask ≡ 16
@@ -73,18 +64,17 @@ block_masked up key first mask xs made used n is place room long size =
     ∙ sym (ap₂ (λ (q r : ℕ). get_or (cipher key (up first q)) r 0) block byte))
 
 -- some bytes of the block begun
-pub went_on : {C : Type 0} (up : List ℕ → ℕ → List ℕ) (s t : Counter C) (xs ys : List ℕ) (n : ℕ)
-    → t.key ≡ s.key → t.first ≡ s.first → t.begun ≡ s.begun → t.mask ≡ s.mask
+pub went_on : {C : Type 0} (up : List ℕ → ℕ → List ℕ) (key : List ℕ) (s t : Counter C) (xs ys : List ℕ) (n : ℕ)
+    → t.first ≡ s.first → t.begun ≡ s.begun → t.mask ≡ s.mask
     → t.used ≡ (s.used + length xs) % 16
     → 0 < s.used → s.used + length xs ≤ 16 → length s.mask ≡ 16 → n ≡ length xs
-    → ys ≡ xor_bytes xs (take n (drop s.used s.mask)) → Advances up s t xs ys
-went_on up s t xs ys n key_stays first_stays begun_stays mask_stays used_rises some room long size xored =
-    λ key first made held.
+    → ys ≡ xor_bytes xs (take n (drop s.used s.mask)) → Advances up key s t xs ys
+went_on up key s t xs ys n first_stays begun_stays mask_stays used_rises some room long size xored =
+    λ first made held.
     let place : s.used ≡ made % 16 = held.used_is in
     let mask : s.mask ≡ cipher key (up first (made / 16)) = held.mask_is (omega arith) in
     let blocks : (made + 15) / 16 ≡ (made + length xs + 15) / 16 = omega arith in (
       record {
-        key_is = key_stays ∙ held.key_is;
         first_is = first_stays ∙ held.first_is;
         begun_is = begun_stays ∙ held.begun_is ∙ ap (λ (x : ℕ). x % 2 ^ 32) blocks;
         used_is = omega arith;
@@ -116,16 +106,16 @@ joined_blocks a b c d m f ha hb hc hd is ea eb ec ed (suc (suc (suc zero))) h =
 joined_blocks a b c d m f ha hb hc hd is ea eb ec ed (suc (suc (suc (suc q)))) h = absurd (omega arith)
 
 -- the first bytes of the next blocks
-pub began : {C : Type 0} (up : List ℕ → ℕ → List ℕ) (s t : Counter C) (masks xs ys : List ℕ)
+pub began : {C : Type 0} (up : List ℕ → ℕ → List ℕ) (key : List ℕ) (s t : Counter C) (masks xs ys : List ℕ)
     → WrapsAround up
-    → t.key ≡ s.key → t.first ≡ s.first → t.begun ≡ (s.begun + (length xs + 15) / 16) % 2 ^ 32
+    → t.first ≡ s.first → t.begun ≡ (s.begun + (length xs + 15) / 16) % 2 ^ 32
     → t.used ≡ length xs % 16 → s.used ≡ 0 → length xs ≤ length masks → length masks % 16 ≡ 0
     → (length xs < length masks → t.mask ≡ block_at masks (length xs / 16))
-    → AreMasks up s.key s.first s.begun masks
-    → ys ≡ xor_bytes xs (take (length xs) masks) → Advances up s t xs ys
+    → AreMasks up key s.first s.begun masks
+    → ys ≡ xor_bytes xs (take (length xs) masks) → Advances up key s t xs ys
 unfolding counter_byte
-began up s t masks xs ys wraps key_stays first_stays counted used_is none room whole kept are xored =
-    λ key first made held.
+began up key s t masks xs ys wraps first_stays counted used_is none room whole kept are xored =
+    λ first made held.
     let n : ℕ = length xs in
     let place : 0 ≡ made % 16 = sym none ∙ held.used_is in
     let blocks : (made + 15) / 16 ≡ made / 16 = omega arith in
@@ -135,11 +125,10 @@ began up s t masks xs ys wraps key_stays first_stays counted used_is none room w
     λ q within.
     let count : ((made / 16) % 2 ^ 32 + q) % 2 ^ 32 ≡ (made / 16 + q) % 2 ^ 32 = omega arith in
     are q within
-    ∙ ap₂ cipher held.key_is (ap₂ up held.first_is (ap (λ (x : ℕ). (x + q) % 2 ^ 32) before ∙ count)
+    ∙ ap (cipher key) (ap₂ up held.first_is (ap (λ (x : ℕ). (x + q) % 2 ^ 32) before ∙ count)
     ∙ wraps first (made / 16 + q)) in
     let cut : length (take n masks) ≡ n = length-take-le n masks room in (
       record {
-        key_is = key_stays ∙ held.key_is;
         first_is = first_stays ∙ held.first_is;
         begun_is = counted ∙ next;
         used_is = omega (arith, used_is, place);
@@ -190,28 +179,28 @@ joined_fours a b c d f la lb lc fa fb fc fd q h =
     (λ k l. fd k l ∙ ap f (omega arith)))) q h
 
 -- no bytes
-pub advances-nil : {C : Type 0} (up : List ℕ → ℕ → List ℕ) (s : Counter C) → Advances up s s [] []
+pub advances-nil : {C : Type 0} (up : List ℕ → ℕ → List ℕ) (key : List ℕ) (s : Counter C) → Advances up key s s [] []
 unfolding masked
-advances-nil up s = λ key first made held. (subst (Makes up s key first) (sym (add-zero made)) held, refl)
+advances-nil up key s = λ first made held. (subst (Makes up s key first) (sym (add-zero made)) held, refl)
 
 -- one piece and then another
-pub advances-append : {C : Type 0} (up : List ℕ → ℕ → List ℕ) (s t u : Counter C) (a x b y : List ℕ)
-    → Advances up s t a x → Advances up t u b y → Advances up s u (a ++ b) (x ++ y)
-advances-append up s t u a x b y front back = λ key first made held.
-    let one = front key first made held in
-    let two = back key first (made + length a) one.0 in
+pub advances-append : {C : Type 0} (up : List ℕ → ℕ → List ℕ) (key : List ℕ) (s t u : Counter C) (a x b y : List ℕ)
+    → Advances up key s t a x → Advances up key t u b y → Advances up key s u (a ++ b) (x ++ y)
+advances-append up key s t u a x b y front back = λ first made held.
+    let one = front first made held in
+    let two = back first (made + length a) one.0 in
     let size : made + length a + length b ≡ made + length (a ++ b) = omega (arith, length-append a b) in (
       subst (Makes up u key first) size two.0,
       ap₂ (λ (v w : List ℕ). v ++ w) one.1 two.1 ∙ sym (masked-append (counter_byte up key first) made a b),
     )
 
 -- a piece more, written from place a on
-pub advances_more : {C : Type 0} (up : List ℕ → ℕ → List ℕ) (s t u : Counter C) (was mid ys : List ℕ)
+pub advances_more : {C : Type 0} (up : List ℕ → ℕ → List ℕ) (key : List ℕ) (s t u : Counter C) (was mid ys : List ℕ)
     (a k b : ℕ)
     → a + k ≤ length mid → a + k ≡ b → length ys ≡ k → drop a mid ≡ drop a was
-    → Advances up s t (take a was) (take a mid) → Advances up t u (take k (drop a mid)) ys
-    → Advances up s u (take b was) (take b (put_mid a k mid ys)) × (drop b (put_mid a k mid ys) ≡ drop b was)
-advances_more up s t u was mid ys a k b room sum size rest front back =
+    → Advances up key s t (take a was) (take a mid) → Advances up key t u (take k (drop a mid)) ys
+    → Advances up key s u (take b was) (take b (put_mid a k mid ys)) × (drop b (put_mid a k mid ys) ≡ drop b was)
+advances_more up key s t u was mid ys a k b room sum size rest front back =
     let now : take b (put_mid a k mid ys) ≡ take a mid ++ ys =
     take-put_mid a k mid ys b (omega arith) (omega arith) in
     let old : take b was ≡ take a was ++ take k (drop a mid) =
@@ -220,62 +209,51 @@ advances_more up s t u was mid ys a k b room sum size rest front back =
     drop-put_mid a k mid ys b (omega arith) (omega arith) size
     ∙ ap (λ i. drop i mid) (sym sum) ∙ sym (drop-drop k a mid) ∙ ap (drop k) rest ∙ drop-drop k a was
     ∙ ap (λ i. drop i was) sum in
-    let joined = advances-append up s t u (take a was) (take a mid) (take k (drop a mid)) ys front back in
+    let joined = advances-append up key s t u (take a was) (take a mid) (take k (drop a mid)) ys front back in
     (rw (now, old) joined, left)
 
--- what a written part leaves of the length
-pub length-put_mid : (a k : ℕ) (xs ys : List ℕ) → a + k ≤ length xs → length ys ≡ k
-    → length (put_mid a k xs ys) ≡ length xs
-length-put_mid a k xs ys room size =
-    let front : length (take a xs) ≡ a = length-take-le a xs (omega arith) in
-    let back : length (drop k (drop a xs)) ≡ length xs - a - k =
-    length-drop k (drop a xs) ∙ ap (λ (x : ℕ). x - k) (length-drop a xs) in
-    length-append (take a xs) (ys ++ drop k (drop a xs))
-    ∙ ap (λ (x : ℕ). length (take a xs) + x) (length-append ys (drop k (drop a xs)))
-    ∙ omega arith
-
 -- the last piece
-pub advances_all : {C : Type 0} (up : List ℕ → ℕ → List ℕ) (s t : Counter C) (was now : List ℕ) (b : ℕ)
-    → length was ≤ b → length now ≤ b → Advances up s t (take b was) (take b now) → Advances up s t was now
-advances_all up s t was now b h k all = rw (take_all b was h, take_all b now k) at all
+pub advances_all : {C : Type 0} (up : List ℕ → ℕ → List ℕ) (key : List ℕ) (s t : Counter C) (was now : List ℕ) (b : ℕ)
+    → length was ≤ b → length now ≤ b → Advances up key s t (take b was) (take b now) → Advances up key s t was now
+advances_all up key s t was now b h k all = rw (take_all b was h, take_all b now k) at all
 
 -- the rest of a block, and then all that is left
-pub advances_two : {C : Type 0} (up : List ℕ → ℕ → List ℕ) (s t u : Counter C) (was begun ys : List ℕ) (h : ℕ)
+pub advances_two : {C : Type 0} (up : List ℕ → ℕ → List ℕ) (key : List ℕ) (s t u : Counter C) (was begun ys : List ℕ) (h : ℕ)
     → h ≤ length was → length begun ≡ h
     → length ys ≡ length (take (length (begun ++ drop h was) - h) (drop h (begun ++ drop h was)))
-    → Advances up s t (take h was) begun
-    → Advances up t u (take (length (begun ++ drop h was) - h) (drop h (begun ++ drop h was))) ys
-    → Advances up s u was (put_mid h (length (begun ++ drop h was) - h) (begun ++ drop h was) ys)
-advances_two up s t u was begun ys h within size same front back =
+    → Advances up key s t (take h was) begun
+    → Advances up key t u (take (length (begun ++ drop h was) - h) (drop h (begun ++ drop h was))) ys
+    → Advances up key s u was (put_mid h (length (begun ++ drop h was) - h) (begun ++ drop h was) ys)
+advances_two up key s t u was begun ys h within size same front back =
     let mid : List ℕ = begun ++ drop h was in
     let k : ℕ = length mid - h in
     let whole : length mid ≡ length was =
     length-append begun (drop h was) ∙ omega (arith, length-drop h was) in
     let part : length (take k (drop h mid)) ≡ k =
     length-take-le k (drop h mid) (omega (arith, length-drop h mid)) in
-    let first : Advances up s t (take h was) (take h mid) = rw (take_at begun (drop h was) h size) front in
-    let more = advances_more up s t u was mid ys h k (length was) (omega arith) (omega arith) (same ∙ part)
+    let first : Advances up key s t (take h was) (take h mid) = rw (take_at begun (drop h was) h size) front in
+    let more = advances_more up key s t u was mid ys h k (length was) (omega arith) (omega arith) (same ∙ part)
     (drop_at begun (drop h was) h size) first back in
-    advances_all up s u was (put_mid h k mid ys) (length was) (omega arith)
+    advances_all up key s u was (put_mid h k mid ys) (length was) (omega arith)
     (omega (arith, length-put_mid h k mid ys (omega arith) (same ∙ part))) more.0
 
 -- no bytes at all
-pub front_none : {C : Type 0} (up : List ℕ → ℕ → List ℕ) (s : Counter C) (was : List ℕ) → s.used ≡ 0
-    → AdvancesFront up s s was was 0
-front_none up s was none = record {
+pub front_none : {C : Type 0} (up : List ℕ → ℕ → List ℕ) (key : List ℕ) (s : Counter C) (was : List ℕ) → s.used ≡ 0
+    → AdvancesFront up key s s was was 0
+front_none up key s was none = record {
   within = omega arith;
   none = λ l. none;
   left = refl;
-  front = advances-nil up s;
+  front = advances-nil up key s;
 }
 
 -- a piece more of the bytes, written from place a on
-pub front_more : {C : Type 0} (up : List ℕ → ℕ → List ℕ) (s t u : Counter C) (was mid ys : List ℕ) (a k b : ℕ)
-    → length mid ≡ length was → AdvancesFront up s t was mid a → a + k ≤ length mid → a + k ≡ b → length ys ≡ k
-    → Advances up t u (take k (drop a mid)) ys → (b < length mid → u.used ≡ 0)
-    → AdvancesFront up s u was (put_mid a k mid ys) b
-front_more up s t u was mid ys a k b same begun room sum size more none =
-    let both = advances_more up s t u was mid ys a k b room sum size begun.left begun.front more in
+pub front_more : {C : Type 0} (up : List ℕ → ℕ → List ℕ) (key : List ℕ) (s t u : Counter C) (was mid ys : List ℕ) (a k b : ℕ)
+    → length mid ≡ length was → AdvancesFront up key s t was mid a → a + k ≤ length mid → a + k ≡ b → length ys ≡ k
+    → Advances up key t u (take k (drop a mid)) ys → (b < length mid → u.used ≡ 0)
+    → AdvancesFront up key s u was (put_mid a k mid ys) b
+front_more up key s t u was mid ys a k b same begun room sum size more none =
+    let both = advances_more up key s t u was mid ys a k b room sum size begun.left begun.front more in
     record {
       within = omega (arith, room, same, sum);
       none = λ l. none (omega (arith, l, same));
@@ -284,10 +262,10 @@ front_more up s t u was mid ys a k b same begun room sum size more none =
     }
 
 -- the first bytes of all that is left, written from place a on
-pub front_then : {C : Type 0} (up : List ℕ → ℕ → List ℕ) (s t u : Counter C) (was mid ys : List ℕ) (a k r : ℕ)
-    → length mid ≡ length was → AdvancesFront up s t was mid a → k ≡ length mid - a → length ys ≡ k
-    → AdvancesFront up t u (take k (drop a mid)) ys r → AdvancesFront up s u was (put_mid a k mid ys) (a + r)
-front_then up s t u was mid ys a k r same begun whole size more =
+pub front_then : {C : Type 0} (up : List ℕ → ℕ → List ℕ) (key : List ℕ) (s t u : Counter C) (was mid ys : List ℕ) (a k r : ℕ)
+    → length mid ≡ length was → AdvancesFront up key s t was mid a → k ≡ length mid - a → length ys ≡ k
+    → AdvancesFront up key t u (take k (drop a mid)) ys r → AdvancesFront up key s u was (put_mid a k mid ys) (a + r)
+front_then up key s t u was mid ys a k r same begun whole size more =
     let within : a ≤ length mid = omega (arith, same, begun.within) in
     let all : take k (drop a mid) ≡ drop a was =
     take_all k (drop a mid) (omega (arith, length-drop a mid, whole)) ∙ begun.left in
@@ -306,12 +284,12 @@ front_then up s t u was mid ys a k r same begun whole size more =
       none = λ l. more.none (omega (arith, l, part, whole, within, same));
       left = ap (drop (a + r)) last ∙ sym (drop-drop r a (take a mid ++ ys))
           ∙ ap (drop r) (drop_at (take a mid) ys a front) ∙ more.left ∙ ap (drop r) all ∙ drop-drop r a was;
-      front = rw (now, old) (advances-append up s t u (take a was) (take a mid) (take r (take k (drop a mid)))
+      front = rw (now, old) (advances-append up key s t u (take a was) (take a mid) (take r (take k (drop a mid)))
           (take r ys) begun.front more.front);
     }
 
 -- all bytes
-pub front_all : {C : Type 0} (up : List ℕ → ℕ → List ℕ) (s t : Counter C) (was now : List ℕ) (n : ℕ)
-    → length now ≡ length was → AdvancesFront up s t was now n → length was ≤ n → Advances up s t was now
-front_all up s t was now n same begun all =
-    advances_all up s t was now n all (omega (arith, same, all)) begun.front
+pub front_all : {C : Type 0} (up : List ℕ → ℕ → List ℕ) (key : List ℕ) (s t : Counter C) (was now : List ℕ) (n : ℕ)
+    → length now ≡ length was → AdvancesFront up key s t was now n → length was ≤ n → Advances up key s t was now
+front_all up key s t was now n same begun all =
+    advances_all up key s t was now n all (omega (arith, same, all)) begun.front

@@ -7,45 +7,51 @@ use Rattle.aes.specs.declared.counter.Counter.{Counter}
 use Rattle.aes.specs.declared.counter.CtrBe.{CtrBe}
 use Rattle.aes.specs.declared.counter.CtrLe.{CtrLe}
 
--- s has made this many bytes of the stream from the first block on: it has begun their blocks, counted
+-- s has made this many bytes of the stream from the first block on under the key: it has begun their blocks, counted
 -- modulo 2^32, and where the last one is not used up it keeps its cipher
 pub record Makes {C : Type 0} (up : List ℕ → ℕ → List ℕ) (s : Counter C) (key : List ℕ) (first : List ℕ)
     (made : ℕ) : Type 0 where
-  pub key_is : s.key ≡ key
   pub first_is : s.first ≡ first
   pub begun_is : s.begun ≡ (made + 15) / 16 % 2 ^ 32
   pub used_is : s.used ≡ made % 16
   pub mask_is : 0 < made % 16 → s.mask ≡ cipher key (up first (made / 16))
 
--- s becomes t, and was becomes now: wherever s has made a number of bytes, the next ones are XORed in, and
--- t has made them too
-abbrev pub Advances : {C : Type 0} (up : List ℕ → ℕ → List ℕ) (s t : Counter C) (was now : List ℕ) → Type 0
-Advances up s t was now = (key first : List ℕ) (made : ℕ) → Makes up s key first made
+-- s becomes t, and was becomes now: wherever s has made a number of bytes under the key, the next ones are XORed
+-- in, and t has made them too
+abbrev pub Advances : {C : Type 0} (up : List ℕ → ℕ → List ℕ) (key : List ℕ) (s t : Counter C) (was now : List ℕ)
+    → Type 0
+Advances up key s t was now = (first : List ℕ) (made : ℕ) → Makes up s key first made
     → Makes up t key first (made + length was) × (now ≡ masked (counter_byte up key first) made was)
 
 -- s becomes t, and was becomes now: the next bytes are XORed into the first n, and the others stay; only at the
 -- end may a block be begun
-pub record AdvancesFront {C : Type 0} (up : List ℕ → ℕ → List ℕ) (s t : Counter C) (was now : List ℕ) (n : ℕ) :
-    Type 0 where
+pub record AdvancesFront {C : Type 0} (up : List ℕ → ℕ → List ℕ) (key : List ℕ) (s t : Counter C)
+    (was now : List ℕ) (n : ℕ) : Type 0 where
   pub within : n ≤ length was
   pub none : n < length was → t.used ≡ 0
   pub left : drop n now ≡ drop n was
-  pub front : Advances up s t (take n was) (take n now)
+  pub front : Advances up key s t (take n was) (take n now)
 
--- s has made this many bytes of the stream that counts by `up_be` from the first block on
-pub record HoldsBe (s : CtrBe) (key : List ℕ) (first : List ℕ) (made : ℕ) : Type 0 where
+-- s has made this many bytes of the stream that counts by `up_be` from the first block on, under a key whose bytes
+-- `bytes` tells
+pub record HoldsBe {K : Type 0} (bytes : K → List ℕ) (s : CtrBe K) (key : List ℕ) (first : List ℕ) (made : ℕ) :
+    Type 0 where
+  pub key_is : bytes s.key ≡ key
   pub makes : Makes up_be s.counter key first made
 
--- s has made this many bytes of the stream that counts by `up_le` from the first block on
-pub record HoldsLe (s : CtrLe) (key : List ℕ) (first : List ℕ) (made : ℕ) : Type 0 where
+-- s has made this many bytes of the stream that counts by `up_le` from the first block on, under a key whose bytes
+-- `bytes` tells
+pub record HoldsLe {K : Type 0} (bytes : K → List ℕ) (s : CtrLe K) (key : List ℕ) (first : List ℕ) (made : ℕ) :
+    Type 0 where
+  pub key_is : bytes s.key ≡ key
   pub makes : Makes up_le s.counter key first made
 
 -- a call beside other work XORs in the next bytes of the stream that counts by `up_be`
-abbrev pub DidBe : CtrBe → CtrBe → List ℕ → List ℕ → Type 0
-DidBe s t was now = (key first : List ℕ) (made : ℕ) → HoldsBe s key first made
-    → HoldsBe t key first (made + length was) × (now ≡ masked (counter_byte up_be key first) made was)
+abbrev pub DidBe : {K : Type 0} → (K → List ℕ) → CtrBe K → CtrBe K → List ℕ → List ℕ → Type 0
+DidBe bytes s t was now = (key first : List ℕ) (made : ℕ) → HoldsBe bytes s key first made
+    → HoldsBe bytes t key first (made + length was) × (now ≡ masked (counter_byte up_be key first) made was)
 
 -- a call beside other work XORs in the next bytes of the stream that counts by `up_le`
-abbrev pub DidLe : CtrLe → CtrLe → List ℕ → List ℕ → Type 0
-DidLe s t was now = (key first : List ℕ) (made : ℕ) → HoldsLe s key first made
-    → HoldsLe t key first (made + length was) × (now ≡ masked (counter_byte up_le key first) made was)
+abbrev pub DidLe : {K : Type 0} → (K → List ℕ) → CtrLe K → CtrLe K → List ℕ → List ℕ → Type 0
+DidLe bytes s t was now = (key first : List ℕ) (made : ℕ) → HoldsLe bytes s key first made
+    → HoldsLe bytes t key first (made + length was) × (now ≡ masked (counter_byte up_le key first) made was)

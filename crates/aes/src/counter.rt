@@ -7,7 +7,7 @@ ghost use Rattle.aes.specs.Counters.{CountsOn, counter_byte, up_be, up_le};
 ghost use Rattle.aes.specs.Code.Nibbles.{CountsInNibble};
 ghost use Rattle.aes.specs.Code.Wraps.{WrapsAround, up_be-wraps, up_le-wraps};
 
-use crate::key::AesKey;
+use crate::key::{AesKey, KeptKey};
 use crate::planes::{Planes, count_blocks};
 use byteorder::{BigEndian, ByteOrder, LittleEndian};
 use octets::{Block, Stream, WIDE, Work, xor_into};
@@ -140,11 +140,10 @@ impl Count for FirstFour {
 // From so many bytes on, making the planes of the key pays.
 const PLANES_PAY: usize = if WIDE { 481 } else { 512 };
 
-// A stream from its first block on: how many blocks were begun, modulo 2^32, and the cipher of the last one
-// with the number of its bytes that were used, 0 if all were.
+// A stream from its first block on, but for its key: how many blocks were begun, modulo 2^32, and the cipher of
+// the last one with the number of its bytes that were used, 0 if all were.
 #[derive(Drop)]
 struct Counter<C> {
-    key: AesKey,
     first: Block,
     begun: u32,
     mask: Block,
@@ -161,11 +160,10 @@ impl<C: Count> Counter<C> {
 
     // The stream whose first block is the cipher of `first`.
     #[inline(always)]
-    fn new(key: &AesKey, first: &Block) -> Counter<C>
-        ensures { Makes C.up result key.now first.now 0 }
+    fn new(first: &Block) -> Counter<C>
+        ensures { (key : List ℕ) → Makes C.up result key first.now 0 }
     {
         Counter {
-            key: *key,
             first: *first,
             begun: 0,
             mask: *first,
@@ -186,7 +184,6 @@ impl<C: Count> Counter<C> {
             key.encrypt(&C::block(first, (made / 16 % 0x1_0000_0000) as u32))
         };
         Counter {
-            key: *key,
             first: *first,
             begun: ((made + 15) / 16 % 0x1_0000_0000) as u32,
             mask,
@@ -199,7 +196,7 @@ impl<C: Count> Counter<C> {
     fn go_on(&mut self, bytes: &mut [u8])
         requires begun { 0 < self.old.used }
         requires room { self.old.used + length bytes.old ≤ 16 }
-        ensures advances { Advances C.up self.old self.new bytes.old bytes.new }
+        ensures advances { (key : List ℕ) → Advances C.up key self.old self.new bytes.old bytes.new }
         ensures used { self.new.used ≡ (self.old.used + length bytes.old) % 16 }
     {
         let end = self.used + bytes.len();
@@ -207,16 +204,15 @@ impl<C: Count> Counter<C> {
         self.used = end % 16;
     }
 
-    // XORs in the first bytes of the next blocks, whose ciphers are given. No block is begun.
+    // XORs in the first bytes of the next blocks, whose ciphers under the key are given. No block is begun.
     #[inline(always)]
     fn take(&mut self, masks: &[u8], bytes: &mut [u8])
-        requires masks { AreMasks C.up self.old.key self.old.first self.old.begun masks.now }
         requires whole { length masks.now % 16 ≡ 0 }
         requires none { self.old.used ≡ 0 }
         requires room { length bytes.old ≤ length masks.now }
-        ensures advances { Advances C.up self.old self.new bytes.old bytes.new }
+        ensures advances { (key : List ℕ) → AreMasks C.up key self.old.first self.old.begun masks.now
+            → Advances C.up key self.old self.new bytes.old bytes.new }
         ensures used { self.new.used ≡ length bytes.old % 16 }
-        ensures key { self.new.key ≡ self.old.key }
     {
         let count = bytes.len();
         let blocks = ((count + 15) / 16 % 0x1_0000_0000) as u32;
@@ -231,13 +227,13 @@ impl<C: Count> Counter<C> {
     }
 
     // XORs in the first bytes of the next block. No block is begun.
-    fn begin(&mut self, bytes: &mut [u8])
+    fn begin(&mut self, key: &AesKey, bytes: &mut [u8])
         requires none { self.old.used ≡ 0 }
         requires room { length bytes.old ≤ 16 }
-        ensures advances { Advances C.up self.old self.new bytes.old bytes.new }
+        ensures advances { Advances C.up key.now self.old self.new bytes.old bytes.new }
         ensures used { self.new.used ≡ length bytes.old % 16 }
     {
-        let mask = self.key.encrypt(&C::block(&self.first, self.begun));
+        let mask = key.encrypt(&C::block(&self.first, self.begun));
         self.take(mask.bytes(), bytes);
     }
 
@@ -272,33 +268,31 @@ impl<C: Count> Counter<C> {
     }
 
     // XORs in the first bytes of the next four blocks. No block is begun.
-    fn begin_four(&mut self, keys: &[[u8; 16]; 15], bytes: &mut [u8])
-        requires ready { IsReady keys.now self.old.key }
+    fn begin_four(&mut self, key: &AesKey, words: &[[u8; 16]; 15], bytes: &mut [u8])
+        requires ready { IsReady words.now key.now }
         requires none { self.old.used ≡ 0 }
         requires room { length bytes.old ≤ 64 }
-        ensures advances { Advances C.up self.old self.new bytes.old bytes.new }
+        ensures advances { Advances C.up key.now self.old self.new bytes.old bytes.new }
         ensures used { self.new.used ≡ length bytes.old % 16 }
-        ensures key { self.new.key ≡ self.old.key }
     {
-        let masks = self.key.encrypt_ready(keys, &self.four(self.begun));
+        let masks = key.encrypt_ready(words, &self.four(self.begun));
         self.take(&masks, bytes);
     }
 
     // XORs in the first bytes of the next sixteen blocks. No block is begun.
-    fn begin_sixteen(&mut self, keys: &[Planes; 15], bytes: &mut [u8])
-        requires ready { AreReady keys.now (schedule self.old.key) (round_count self.old.key) }
+    fn begin_sixteen(&mut self, key: &AesKey, words: &[Planes; 15], bytes: &mut [u8])
+        requires ready { AreReady words.now (schedule key.now) (round_count key.now) }
         requires none { self.old.used ≡ 0 }
         requires room { length bytes.old ≤ 256 }
-        ensures advances { Advances C.up self.old self.new bytes.old bytes.new }
+        ensures advances { Advances C.up key.now self.old self.new bytes.old bytes.new }
         ensures used { self.new.used ≡ length bytes.old % 16 }
-        ensures key { self.new.key ≡ self.old.key }
     {
-        let (a, b, c, d) = self.key.encrypt_sixteen(keys, self.sixteen());
+        let (a, b, c, d) = key.encrypt_sixteen(words, self.sixteen());
         if bytes.len() < 256 {
             self.take([a, b, c, d].as_flattened(), bytes);
             return;
         }
-        // From registers.
+        // A whole run is XORed from registers.
         self.begun = self.begun.wrapping_add(16);
         xor_fours(bytes, &a, &b, &c, &d);
     }
@@ -306,15 +300,15 @@ impl<C: Count> Counter<C> {
     // XORs in runs of sixteen blocks, the last one perhaps in part, while more than 176 bytes are left, and returns
     // how many bytes were taken. A function of its own, since its frame would slow down short messages.
     #[inline(never)]
-    fn apply_sixteens(&mut self, bytes: &mut [u8]) -> usize
+    fn apply_sixteens(&mut self, key: &AesKey, bytes: &mut [u8]) -> usize
         requires { self.old.used ≡ 0 }
-        ensures { AdvancesFront C.up self.old self.new bytes.old bytes.new result }
+        ensures { AdvancesFront C.up key.now self.old self.new bytes.old bytes.new result }
     {
-        let keys = self.key.planes();
+        let words = key.planes();
         let mut done = 0;
         'sixteens: while bytes.len() - done > 176 {
             let next = (bytes.len() - done).min(256);
-            self.begin_sixteen(&keys, &mut bytes[done..done + next]);
+            self.begin_sixteen(key, &words, &mut bytes[done..done + next]);
             done += next;
         }
         done
@@ -322,63 +316,63 @@ impl<C: Count> Counter<C> {
 
     // XORs in runs of four blocks, the last one perhaps in part, while more than 48 bytes are left, and returns how
     // many bytes were taken.
-    fn apply_fours(&mut self, bytes: &mut [u8]) -> usize
+    fn apply_fours(&mut self, key: &AesKey, bytes: &mut [u8]) -> usize
         requires { self.old.used ≡ 0 }
-        ensures { AdvancesFront C.up self.old self.new bytes.old bytes.new result }
+        ensures { AdvancesFront C.up key.now self.old self.new bytes.old bytes.new result }
     {
         if bytes.len() <= 48 {
             return 0;
         }
-        let keys = self.key.ready();
+        let words = key.ready();
         let mut done = 0;
         'fours: while bytes.len() - done > 48 {
             let next = (bytes.len() - done).min(64);
-            self.begin_four(&keys, &mut bytes[done..done + next]);
+            self.begin_four(key, &words, &mut bytes[done..done + next]);
             done += next;
         }
         done
     }
 
     // XORs in runs of sixteen and of four blocks, and returns how many bytes were taken.
-    fn apply_runs(&mut self, bytes: &mut [u8]) -> usize
+    fn apply_runs(&mut self, key: &AesKey, bytes: &mut [u8]) -> usize
         requires { self.old.used ≡ 0 }
-        ensures { AdvancesFront C.up self.old self.new bytes.old bytes.new result }
+        ensures { AdvancesFront C.up key.now self.old self.new bytes.old bytes.new result }
     {
         if bytes.len() < PLANES_PAY {
-            return self.apply_fours(bytes);
+            return self.apply_fours(key, bytes);
         }
-        let done = self.apply_sixteens(bytes);
+        let done = self.apply_sixteens(key, bytes);
         if done == bytes.len() {
             return done;
         }
-        done + self.apply_fours(&mut bytes[done..])
+        done + self.apply_fours(key, &mut bytes[done..])
     }
 
     // XORs in runs of blocks and single ones, the last one perhaps in part. No block is begun.
-    fn apply_blocks(&mut self, bytes: &mut [u8])
+    fn apply_blocks(&mut self, key: &AesKey, bytes: &mut [u8])
         requires { self.old.used ≡ 0 }
-        ensures { Advances C.up self.old self.new bytes.old bytes.new }
+        ensures { Advances C.up key.now self.old self.new bytes.old bytes.new }
     {
-        let mut done = self.apply_runs(bytes);
+        let mut done = self.apply_runs(key, bytes);
         'singles: while done < bytes.len() {
             let next = (bytes.len() - done).min(16);
-            self.begin(&mut bytes[done..done + next]);
+            self.begin(key, &mut bytes[done..done + next]);
             done += next;
         }
     }
 
     // XORs in the next bytes.
-    fn apply(&mut self, bytes: &mut [u8])
-        ensures { Advances C.up self.old self.new bytes.old bytes.new }
+    fn apply(&mut self, key: &AesKey, bytes: &mut [u8])
+        ensures { Advances C.up key.now self.old self.new bytes.old bytes.new }
     {
         if self.used == 0 {
-            self.apply_blocks(bytes);
+            self.apply_blocks(key, bytes);
         } else if bytes.len() <= 16 - self.used {
             self.go_on(bytes);
         } else {
             let left = 16 - self.used;
             self.go_on(&mut bytes[..left]);
-            self.apply_blocks(&mut bytes[left..]);
+            self.apply_blocks(key, &mut bytes[left..]);
         }
     }
 }
@@ -386,90 +380,92 @@ impl<C: Count> Counter<C> {
 /// The stream of AES-GCM: the ciphers of blocks that count in their last four bytes, most significant byte
 /// first, modulo 2^32 (SP 800-38D, 6.5).
 #[derive(Drop)]
-pub struct CtrBe {
+pub struct CtrBe<K> {
+    key: K,
     counter: Counter<LastFour>,
 }
 
-impl CtrBe {
+impl<K: KeptKey> CtrBe<K> {
     ghost use Rattle.aes.specs.Streams.{HoldsBe};
 
-    /// The stream whose first block is the cipher of `first`.
+    /// The stream whose first block is the cipher of `first`, under a key that it keeps or borrows.
     #[inline(always)]
-    pub fn new(key: &AesKey, first: &Block) -> CtrBe
-        ensures { HoldsBe result key.now first.now 0 }
+    pub fn new(key: K, first: &Block) -> CtrBe<K>
+        ensures { HoldsBe K.bytes result (K.bytes key) first.now 0 }
     {
         CtrBe {
-            counter: Counter::new(key, first),
+            key,
+            counter: Counter::new(first),
         }
     }
 
     /// The stream whose first block is the cipher of `first`, and that has made its first `made` bytes.
-    pub fn at(key: &AesKey, first: &Block, made: u64) -> CtrBe
+    pub fn at(key: K, first: &Block, made: u64) -> CtrBe<K>
         requires { made < 2 ^ 63 }
-        ensures { HoldsBe result key.now first.now made }
+        ensures { HoldsBe K.bytes result (K.bytes key) first.now made }
     {
-        CtrBe {
-            counter: Counter::at(key, first, made),
-        }
+        let counter = Counter::at(key.kept(), first, made);
+        CtrBe { key, counter }
     }
 
     /// XORs the next bytes of the stream into `bytes`, of any length: two calls do what one call does for
     /// both pieces in turn. It has no fault: after 2^32 blocks the stream begins again (SP 800-38D, 6.5).
     pub fn apply(&mut self, bytes: &mut [u8])
-        ensures { (key first : List ℕ) (made : ℕ) → HoldsBe self.old key first made
-            → HoldsBe self.new key first (made + length bytes.old)
+        ensures { (key first : List ℕ) (made : ℕ) → HoldsBe K.bytes self.old key first made
+            → HoldsBe K.bytes self.new key first (made + length bytes.old)
             × (bytes.new ≡ masked (counter_byte up_be key first) made bytes.old) }
     {
-        self.counter.apply(bytes);
+        self.counter.apply(self.key.kept(), bytes);
     }
 }
 
 /// The stream of AES-GCM-SIV: the ciphers of blocks that count in their first four bytes, least significant
 /// byte first, modulo 2^32 (RFC 8452, 4).
 #[derive(Drop)]
-pub struct CtrLe {
+pub struct CtrLe<K> {
+    key: K,
     counter: Counter<FirstFour>,
 }
 
-impl CtrLe {
+impl<K: KeptKey> CtrLe<K> {
     ghost use Rattle.aes.specs.Streams.{HoldsLe};
 
-    /// The stream whose first block is the cipher of `first`.
+    /// The stream whose first block is the cipher of `first`, under a key that it keeps or borrows.
     #[inline(always)]
-    pub fn new(key: &AesKey, first: &Block) -> CtrLe
-        ensures { HoldsLe result key.now first.now 0 }
+    pub fn new(key: K, first: &Block) -> CtrLe<K>
+        ensures { HoldsLe K.bytes result (K.bytes key) first.now 0 }
     {
         CtrLe {
-            counter: Counter::new(key, first),
+            key,
+            counter: Counter::new(first),
         }
     }
 
     /// The stream whose first block is the cipher of `first`, and that has made its first `made` bytes.
-    pub fn at(key: &AesKey, first: &Block, made: u64) -> CtrLe
+    pub fn at(key: K, first: &Block, made: u64) -> CtrLe<K>
         requires { made < 2 ^ 63 }
-        ensures { HoldsLe result key.now first.now made }
+        ensures { HoldsLe K.bytes result (K.bytes key) first.now made }
     {
-        CtrLe {
-            counter: Counter::at(key, first, made),
-        }
+        let counter = Counter::at(key.kept(), first, made);
+        CtrLe { key, counter }
     }
 
     /// XORs the next bytes of the stream into `bytes`, of any length: two calls do what one call does for
     /// both pieces in turn. It has no fault: after 2^32 blocks the stream begins again (RFC 8452, 4).
     pub fn apply(&mut self, bytes: &mut [u8])
-        ensures { (key first : List ℕ) (made : ℕ) → HoldsLe self.old key first made
-            → HoldsLe self.new key first (made + length bytes.old)
+        ensures { (key first : List ℕ) (made : ℕ) → HoldsLe K.bytes self.old key first made
+            → HoldsLe K.bytes self.new key first (made + length bytes.old)
             × (bytes.new ≡ masked (counter_byte up_le key first) made bytes.old) }
     {
-        self.counter.apply(bytes);
+        self.counter.apply(self.key.kept(), bytes);
     }
 }
 
 /// The stream does no step of the work: its rounds leave no room for one.
-impl Stream for CtrBe {
+impl<K: KeptKey> Stream for CtrBe<K> {
     ghost use Rattle.aes.specs.Streams.{DidBe};
 
-    ghost did = { DidBe };
+    ghost did = { DidBe K.bytes };
 
     fn apply_beside<W: Work>(&mut self, bytes: &mut [u8], _work: &mut W) {
         self.apply(bytes);
@@ -477,10 +473,10 @@ impl Stream for CtrBe {
 }
 
 /// The stream does no step of the work: its rounds leave no room for one.
-impl Stream for CtrLe {
+impl<K: KeptKey> Stream for CtrLe<K> {
     ghost use Rattle.aes.specs.Streams.{DidLe};
 
-    ghost did = { DidLe };
+    ghost did = { DidLe K.bytes };
 
     fn apply_beside<W: Work>(&mut self, bytes: &mut [u8], _work: &mut W) {
         self.apply(bytes);

@@ -22,6 +22,6 @@ pub use cipher::is_permutation;
 pub use columns::round;
 pub use counter::{CtrBe, CtrLe, blocks_count_on};
 pub use inverse_key::InverseKey;
-pub use key::AesKey;
+pub use key::{AesKey, KeptKey};
 pub use sbox::inverse_is_the_only;
 pub use schedule::schedule_recurs;

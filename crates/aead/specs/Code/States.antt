@@ -26,13 +26,13 @@ abbrev pub MadeByChaCha : ChaStream → Setting → List ℕ → ℕ → Type 0
 MadeByChaCha m s tag n = (construction_of s.suite ≡ ByChaCha) × chacha.Holds m s.key s.nonce 1 n
 
 -- of GCM
-abbrev pub MadeByGcm : CtrBe → Setting → List ℕ → ℕ → Type 0
-MadeByGcm m s tag n = (construction_of s.suite ≡ ByGcm) × HoldsBe m s.key (up_be (j0 s.nonce) 1) n
+abbrev pub MadeByGcm : {K : Type 0} → (K → List ℕ) → CtrBe K → Setting → List ℕ → ℕ → Type 0
+MadeByGcm kept m s tag n = (construction_of s.suite ≡ ByGcm) × HoldsBe kept m s.key (up_be (j0 s.nonce) 1) n
 
 -- of GCM-SIV
-abbrev pub MadeByGcmSiv : CtrLe → Setting → List ℕ → ℕ → Type 0
-MadeByGcmSiv m s tag n =
-    (construction_of s.suite ≡ ByGcmSiv) × HoldsLe m (encryption_key s.key s.nonce) (counter_block tag) n
+abbrev pub MadeByGcmSiv : {K : Type 0} → (K → List ℕ) → CtrLe K → Setting → List ℕ → ℕ → Type 0
+MadeByGcmSiv kept m s tag n =
+    (construction_of s.suite ≡ ByGcmSiv) × HoldsLe kept m (encryption_key s.key s.nonce) (counter_block tag) n
 
 -- ---- h holds the text m under the keys of a message
 
@@ -45,10 +45,6 @@ abbrev pub HeldByGhash : {M : Type 0} → (M → List ℕ) → GhashTag M → Se
 HeldByGhash key_bytes h s m =
     (construction_of s.suite ≡ ByGcm) × gf128.Holds key_bytes h.hash (hash_key s.key) m
     × (h.mask ≡ cipher s.key (j0 s.nonce))
-
--- the bytes of a key that is no reference
-abbrev pub own_key : List ℕ → List ℕ
-own_key key = key
 
 -- POLYVAL, with the encryption key and the nonce; what it holds is told as a fact alone
 abbrev pub HeldByPolyval : {M K : Type 0} → (M → List ℕ) → (K → List ℕ) → PolyvalTag M K → Setting → List ℕ

@@ -81,7 +81,8 @@ fn pass_by<M: Keyed128, I: Intake, O: Outlet>(
         }
         AnyAead::OnePass(AnyOnePass::Gcm(cipher)) => {
             let made = cipher.multiplier_of::<M>();
-            pass_hash_first(&cipher.nonced(nonce, &made), aad, intake, measured, outlet)
+            let nonced = cipher.nonced(nonce, cipher.key(), &made);
+            pass_hash_first(&nonced, aad, intake, measured, outlet)
         }
         AnyAead::Siv(cipher) => {
             let keys = cipher.derive(nonce);

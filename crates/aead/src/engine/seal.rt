@@ -65,7 +65,12 @@ pub fn seal_stream<I: Intake, O: Outlet>(
         AnyOnePass::ChaCha(cipher) => seal_over(&cipher.nonced(nonce), aad, text, out),
         AnyOnePass::Gcm(cipher) => {
             let multiplier = cipher.multiplier_of::<WideMul>();
-            seal_over(&cipher.nonced(nonce, &multiplier), aad, text, out)
+            seal_over(
+                &cipher.nonced(nonce, cipher.key(), &multiplier),
+                aad,
+                text,
+                out,
+            )
         }
     }
 }

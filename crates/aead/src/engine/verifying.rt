@@ -113,10 +113,20 @@ pub(crate) fn verify_one_pass<I: Intake>(
         AnyOnePass::Gcm(cipher) => {
             if matches!(worth(measured.length), Multiples::OfFourPowers) {
                 let made = cipher.multiplier_of::<WideMul>();
-                verify_over(&cipher.nonced(nonce, &made), aad, intake, measured)
+                verify_over(
+                    &cipher.nonced(nonce, cipher.key(), &made),
+                    aad,
+                    intake,
+                    measured,
+                )
             } else {
                 let made = cipher.multiplier_of::<PlacedMul>();
-                verify_over(&cipher.nonced(nonce, &made), aad, intake, measured)
+                verify_over(
+                    &cipher.nonced(nonce, cipher.key(), &made),
+                    aad,
+                    intake,
+                    measured,
+                )
             }
         }
     }

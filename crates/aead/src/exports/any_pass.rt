@@ -107,13 +107,19 @@ fn take_siv_text(state: &mut StoredSealer, suite: Suite, tag: &[u8; 16], piece: 
     let mut mask = siv_stream(state, suite, tag);
     match worth(piece.len() as u64) {
         Multiples::Few => {
-            take_text_by::<PolyvalTag<TableMul, AesKey>, CtrLe>(state, suite, &mut mask, piece)
+            take_text_by::<PolyvalTag<TableMul, AesKey>, CtrLe<AesKey>>(
+                state, suite, &mut mask, piece,
+            )
         }
         Multiples::AtEightPlaces => {
-            take_text_by::<PolyvalTag<PlacedMul, AesKey>, CtrLe>(state, suite, &mut mask, piece)
+            take_text_by::<PolyvalTag<PlacedMul, AesKey>, CtrLe<AesKey>>(
+                state, suite, &mut mask, piece,
+            )
         }
         Multiples::OfFourPowers => {
-            take_text_by::<PolyvalTag<WideMul, AesKey>, CtrLe>(state, suite, &mut mask, piece)
+            take_text_by::<PolyvalTag<WideMul, AesKey>, CtrLe<AesKey>>(
+                state, suite, &mut mask, piece,
+            )
         }
     }
     true

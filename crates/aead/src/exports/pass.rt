@@ -1,6 +1,7 @@
 // The steps of a pass over pieces that is stored as plain numbers, by its suite.
 
 ghost use Rattle.std.specs.Prelude.{◌≡◌, ◌↔◌, ◌+◌, ◌-◌, ◌<◌, ◌≤◌, ◌^◌, ◌++◌, ℕ, List, length, true, false};
+ghost use Rattle.aes.specs.Code.ExpandedKey.{own_key};
 ghost use Rattle.aead.specs.declared.suite.Suite.{Suite};
 ghost use Rattle.aead.specs.Suites.{ByChaCha, ByGcm, ByGcmSiv, construction_of, is_one_pass, text_limit};
 ghost use Rattle.aead.specs.Sealing.{Setting, tag_over};
@@ -140,27 +141,27 @@ fn chacha_stream(state: &StoredSealer) -> ChaStream
 }
 
 // The counter stream of AES-GCM from where the pass is.
-fn gcm_stream(state: &StoredSealer, suite: Suite) -> CtrBe
+fn gcm_stream(state: &StoredSealer, suite: Suite) -> CtrBe<AesKey>
     requires { state.now.length ≤ 2 ^ 38 - 64 }
     ensures { (s : Setting) (tag : List ℕ) → s.suite ≡ suite → HasKeys ByGcm IsGhashKey state.now s
-        → MadeByGcm result s tag state.now.length }
+        → MadeByGcm own_key result s tag state.now.length }
 {
     let key = expanded(&state.key[..suite.key_length()]);
     CtrBe::at(
-        &key,
+        key,
         &counter_block(&Nonce::new(state.nonce), 2),
         state.length,
     )
 }
 
 // The counter stream of AES-GCM-SIV under a tag, from where the pass is.
-pub(super) fn siv_stream(state: &StoredSealer, suite: Suite, tag: &[u8; 16]) -> CtrLe
+pub(super) fn siv_stream(state: &StoredSealer, suite: Suite, tag: &[u8; 16]) -> CtrLe<AesKey>
     requires { state.now.length ≤ 2 ^ 38 - 64 }
     ensures { (s : Setting) → s.suite ≡ suite → HasKeys ByGcmSiv IsPolyvalKey state.now s
-        → MadeByGcmSiv result s tag.now state.now.length }
+        → MadeByGcmSiv own_key result s tag.now state.now.length }
 {
     let key = expanded(&state.key[..suite.key_length()]);
-    CtrLe::at(&key, &Block::new(tag_counter_block(tag)), state.length)
+    CtrLe::at(key, &Block::new(tag_counter_block(tag)), state.length)
 }
 
 // Masks a piece that is within the suite's limit and takes it in, by a hash.
@@ -190,13 +191,13 @@ fn mask_gcm<R: Order>(state: &mut StoredSealer, suite: Suite, order: &R, piece: 
     let mut mask = gcm_stream(state, suite);
     match worth(piece.len() as u64) {
         Multiples::Few => {
-            mask_by::<GhashTag<TableMul>, CtrBe, R>(state, suite, &mut mask, order, piece)
+            mask_by::<GhashTag<TableMul>, CtrBe<AesKey>, R>(state, suite, &mut mask, order, piece)
         }
         Multiples::AtEightPlaces => {
-            mask_by::<GhashTag<PlacedMul>, CtrBe, R>(state, suite, &mut mask, order, piece)
+            mask_by::<GhashTag<PlacedMul>, CtrBe<AesKey>, R>(state, suite, &mut mask, order, piece)
         }
         Multiples::OfFourPowers => {
-            mask_by::<GhashTag<WideMul>, CtrBe, R>(state, suite, &mut mask, order, piece)
+            mask_by::<GhashTag<WideMul>, CtrBe<AesKey>, R>(state, suite, &mut mask, order, piece)
         }
     }
 }
@@ -251,15 +252,19 @@ pub(super) fn mask_siv<R: Order>(
     let mut mask = siv_stream(state, suite, tag);
     match worth(piece.len() as u64) {
         Multiples::Few => {
-            mask_by::<PolyvalTag<TableMul, AesKey>, CtrLe, R>(state, suite, &mut mask, order, piece)
+            mask_by::<PolyvalTag<TableMul, AesKey>, CtrLe<AesKey>, R>(
+                state, suite, &mut mask, order, piece,
+            )
         }
         Multiples::AtEightPlaces => {
-            mask_by::<PolyvalTag<PlacedMul, AesKey>, CtrLe, R>(
+            mask_by::<PolyvalTag<PlacedMul, AesKey>, CtrLe<AesKey>, R>(
                 state, suite, &mut mask, order, piece,
             )
         }
         Multiples::OfFourPowers => {
-            mask_by::<PolyvalTag<WideMul, AesKey>, CtrLe, R>(state, suite, &mut mask, order, piece)
+            mask_by::<PolyvalTag<WideMul, AesKey>, CtrLe<AesKey>, R>(
+                state, suite, &mut mask, order, piece,
+            )
         }
     }
     true

@@ -50,3 +50,7 @@ fields_of-key_of a x =
     ap (λ n. n / 4) x.length_is ∙ mul-div_cancel_left a.size (lit< tt) in
     let fields : List ℕ → ℕ → Inside = λ words size. record { words = words; size = size } in
     ap₂ fields (ap (map le) (sym x.columns_are) ∙ le_columns_of a.words x.words) size
+
+-- the bytes of a key that is no reference
+abbrev pub own_key : List ℕ → List ℕ
+own_key key = key

@@ -1,7 +1,7 @@
 use Rattle.std.proofs.Common.{◌≡◌, List, ℕ, ◌++◌, ◌∙◌, ap, ap₂, sym, length, rules, arith}
 use Rattle.std.proofs.lemmas.List.{length-append}
 use Rattle.octets.specs.Bytes.{xor_bytes}
-use Rattle.aes.proofs.StreamSteps.{xor_bytes-append}
+use Rattle.octets.proofs.Xors.{xor_bytes-append}
 use Rattle.aes.proofs.counter.xor_fours.Goals as goal
 
 pub returns : goal.returns

@@ -1,4 +1,3 @@
-use Rattle.std.proofs.Common.{◌∙◌}
 use Rattle.aead.specs.Ciphers.{setting}
 use Rattle.aead.proofs.gcm_siv.NoncedGcmSivHashThenMask.mask.Goals as goal
 
@@ -6,4 +5,4 @@ pub returns : goal.returns
 returns g c = λ aad.
     let m = c.args.self.now in
     c.tag_mask.ensures (setting (record { suite = m.suite; key = m.key.now }) m.nonce.now aad) m.by_gcm_siv
-    (c.kept.ensures ∙ m.encryption_is)
+    m.encryption_is

@@ -1,6 +1,7 @@
 use Rattle.std.proofs.Common.{◌≡◌, ◌∙◌, ℕ, List, subst, sym, ap}
 use Rattle.aead.specs.Suites.{is_one_pass}
 use Rattle.aead.specs.Sealing.{tag_of}
+use Rattle.aes.specs.Code.ExpandedKey.{own_key}
 use Rattle.aead.specs.Code.States.{MadeByGcmSiv}
 use Rattle.aead.specs.Code.Maskings.{repeating_task}
 use Rattle.aead.proofs.Opens.{two_pass_tag}
@@ -10,7 +11,7 @@ pub returns : goal.returns
 returns c = λ s text h.
     let tag_is : c.finish-tag.result ≡ tag_of s text =
     c.finish-tag.ensures s text h.taken ∙ sym (two_pass_tag s text (ap is_one_pass h.by_gcm_siv)) in
-    let P : List ℕ → Type 0 = λ t. MadeByGcmSiv c.tag_mask-mask.result s t 0 in
+    let P : List ℕ → Type 0 = λ t. MadeByGcmSiv own_key c.tag_mask-mask.result s t 0 in
     let made = subst P tag_is (c.tag_mask-mask.ensures s h.by_gcm_siv h.encryption_is) in (
       tag_is,
       record {

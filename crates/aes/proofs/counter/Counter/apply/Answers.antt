@@ -10,7 +10,7 @@ returns-else-bytes-self g c =
     let begun = c.go_on-else-bytes-self.new.bytes in
     let within : h ≤ length was = omega (arith, c.if-bytes-self.false) in
     let size : length begun ≡ h = c.go_on-else-bytes-self.auto.bytes ∙ length-take-le h was within in
-    advances_two g.C.Count.up c.args.self.now c.go_on-else-bytes-self.new.self
+    advances_two g.C.Count.up c.args.key.now c.args.self.now c.go_on-else-bytes-self.new.self
     c.apply_blocks-else-bytes-self.new.self was begun
     c.apply_blocks-else-bytes-self.new.bytes h within size c.apply_blocks-else-bytes-self.auto.bytes
-    c.go_on-else-bytes-self.ensures.advances c.apply_blocks-else-bytes-self.ensures
+    (c.go_on-else-bytes-self.ensures.advances c.args.key.now) c.apply_blocks-else-bytes-self.ensures

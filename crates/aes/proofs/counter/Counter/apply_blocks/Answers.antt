@@ -16,12 +16,12 @@ singles-preserved g c =
     let room : a + k ≤ length mid = omega (arith, within, c.min-next.ensures) in
     let part : length (take k (drop a mid)) ≡ k =
     length-take-le k (drop a mid) (omega (arith, room, length-drop a mid)) in
-    front_more g.C.Count.up c.args.self.now c.singles.self c.begin.new.self c.args.bytes.now mid c.begin.new.bytes a k
+    front_more g.C.Count.up c.args.key.now c.args.self.now c.singles.self c.begin.new.self c.args.bytes.now mid c.begin.new.bytes a k
     (a + c.min-next.result) same c.singles.invariant room (omega arith) (c.begin.auto.bytes ∙ part) c.begin.ensures.advances
     (λ l. omega (arith, l, part, within, c.min-next.ensures, c.begin.ensures.used))
 
 pub returns : goal.returns
 returns g c =
     let same : length c.singles.bytes ≡ length c.args.bytes.now = c.singles.auto.bytes ∙ c.apply_runs-done.auto.bytes in
-    front_all g.C.Count.up c.args.self.now c.singles.self c.args.bytes.now c.singles.bytes c.singles.done
+    front_all g.C.Count.up c.args.key.now c.args.self.now c.singles.self c.args.bytes.now c.singles.bytes c.singles.done
     same c.singles.invariant (omega (arith, c.singles-test.false, same))

@@ -1,10 +1,10 @@
-use Rattle.std.proofs.Common.{◌≡◌, ℕ, ◌+◌, ◌-◌, ◌≤◌, ◌∙◌, length, take, drop, refl, arith}
+use Rattle.std.proofs.Common.{◌≡◌, ℕ, ◌+◌, ◌-◌, ◌≤◌, ◌∙◌, length, take, drop, arith}
 use Rattle.std.proofs.lemmas.List.{length-take-le, length-drop}
 use Rattle.aes.proofs.StreamSteps.{front_none, front_more}
 use Rattle.aes.proofs.counter.Counter.apply_fours.Goals as goal
 
 pub fours-init : goal.fours-init
-fours-init g c = record { front = front_none g.C.Count.up c.args.self.now c.args.bytes.now c.requires; key = refl }
+fours-init g c = front_none g.C.Count.up c.args.key.now c.args.self.now c.args.bytes.now c.requires
 
 pub fours-preserved : goal.fours-preserved
 fours-preserved g c =
@@ -12,16 +12,14 @@ fours-preserved g c =
     let k : ℕ = a + c.min-next.result - a in
     let mid = c.fours.bytes in
     let same : length mid ≡ length c.args.bytes.now = c.fours.auto.bytes in
-    let within : a ≤ length mid = omega (arith, same, c.fours.invariant.front.within) in
+    let within : a ≤ length mid = omega (arith, same, c.fours.invariant.within) in
     let room : a + k ≤ length mid = omega (arith, within, c.min-next.ensures) in
     let part : length (take k (drop a mid)) ≡ k =
     length-take-le k (drop a mid) (omega (arith, room, length-drop a mid)) in
-    record {
-      front = front_more g.C.Count.up c.args.self.now c.fours.self c.begin_four.new.self c.args.bytes.now mid c.begin_four.new.bytes a k
-          (a + c.min-next.result) same c.fours.invariant.front room (omega arith) (c.begin_four.auto.bytes ∙ part) c.begin_four.ensures.advances
-          (λ l. omega (arith, l, part, within, c.min-next.ensures, c.begin_four.ensures.used));
-      key = c.begin_four.ensures.key ∙ c.fours.invariant.key;
-    }
+    front_more g.C.Count.up c.args.key.now c.args.self.now c.fours.self c.begin_four.new.self c.args.bytes.now mid
+    c.begin_four.new.bytes a k (a + c.min-next.result) same c.fours.invariant room (omega arith)
+    (c.begin_four.auto.bytes ∙ part) c.begin_four.ensures.advances
+    (λ l. omega (arith, l, part, within, c.min-next.ensures, c.begin_four.ensures.used))
 
 pub returns-then-bytes-le48 : goal.returns-then-bytes-le48
-returns-then-bytes-le48 g c = front_none g.C.Count.up c.args.self.now c.args.bytes.now c.requires
+returns-then-bytes-le48 g c = front_none g.C.Count.up c.args.key.now c.args.self.now c.args.bytes.now c.requires

@@ -1,12 +1,9 @@
-use Rattle.std.proofs.Common.{◌≡◌, ◌-◌, length}
+use Rattle.std.proofs.Common.{◌-◌, length}
 use Rattle.aes.specs.Streams.{AdvancesFront}
 use Rattle.aes.proofs.counter.Counter.apply_fours.Given as goal
 
 abbrev pub invariant-fours : goal.invariant-fours
-invariant-fours g l = record {
-  front : AdvancesFront g.C.Count.up l.fn.self l.self l.fn.bytes l.bytes l.done;
-  key : l.self.key ≡ l.fn.self.key;
-}
+invariant-fours g l = AdvancesFront g.C.Count.up l.key l.fn.self l.self l.fn.bytes l.bytes l.done
 
 abbrev pub decreases-fours : goal.decreases-fours
 decreases-fours g l = length l.bytes - l.done

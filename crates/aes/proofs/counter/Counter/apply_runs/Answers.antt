@@ -9,6 +9,6 @@ returns g c =
     let mid = c.apply_sixteens-done.new.bytes in
     let k : ℕ = length mid - a in
     let part : length (take k (drop a mid)) ≡ k = length-take-le k (drop a mid) (omega (arith, length-drop a mid)) in
-    front_then g.C.Count.up c.args.self.now c.apply_sixteens-done.new.self c.apply_fours-2.new.self c.args.bytes.now mid
+    front_then g.C.Count.up c.args.key.now c.args.self.now c.apply_sixteens-done.new.self c.apply_fours-2.new.self c.args.bytes.now mid
     c.apply_fours-2.new.bytes a k c.apply_fours-2.result c.apply_sixteens-done.auto.bytes
     c.apply_sixteens-done.ensures refl (c.apply_fours-2.auto.bytes ∙ part) c.apply_fours-2.ensures

@@ -1,10 +1,10 @@
-use Rattle.std.proofs.Common.{◌≡◌, ℕ, ◌+◌, ◌-◌, ◌≤◌, ◌∙◌, length, take, drop, refl, arith}
+use Rattle.std.proofs.Common.{◌≡◌, ℕ, ◌+◌, ◌-◌, ◌≤◌, ◌∙◌, length, take, drop, arith}
 use Rattle.std.proofs.lemmas.List.{length-take-le, length-drop}
 use Rattle.aes.proofs.StreamSteps.{front_none, front_more}
 use Rattle.aes.proofs.counter.Counter.apply_sixteens.Goals as goal
 
 pub sixteens-init : goal.sixteens-init
-sixteens-init g c = record { front = front_none g.C.Count.up c.args.self.now c.args.bytes.now c.requires; key = refl }
+sixteens-init g c = front_none g.C.Count.up c.args.key.now c.args.self.now c.args.bytes.now c.requires
 
 pub sixteens-preserved : goal.sixteens-preserved
 sixteens-preserved g c =
@@ -12,13 +12,11 @@ sixteens-preserved g c =
     let k : ℕ = a + c.min-next.result - a in
     let mid = c.sixteens.bytes in
     let same : length mid ≡ length c.args.bytes.now = c.sixteens.auto.bytes in
-    let within : a ≤ length mid = omega (arith, same, c.sixteens.invariant.front.within) in
+    let within : a ≤ length mid = omega (arith, same, c.sixteens.invariant.within) in
     let room : a + k ≤ length mid = omega (arith, within, c.min-next.ensures) in
     let part : length (take k (drop a mid)) ≡ k =
     length-take-le k (drop a mid) (omega (arith, room, length-drop a mid)) in
-    record {
-      front = front_more g.C.Count.up c.args.self.now c.sixteens.self c.begin_sixteen.new.self c.args.bytes.now mid c.begin_sixteen.new.bytes a k
-          (a + c.min-next.result) same c.sixteens.invariant.front room (omega arith) (c.begin_sixteen.auto.bytes ∙ part) c.begin_sixteen.ensures.advances
-          (λ l. omega (arith, l, part, within, c.min-next.ensures, c.begin_sixteen.ensures.used));
-      key = c.begin_sixteen.ensures.key ∙ c.sixteens.invariant.key;
-    }
+    front_more g.C.Count.up c.args.key.now c.args.self.now c.sixteens.self c.begin_sixteen.new.self c.args.bytes.now mid
+    c.begin_sixteen.new.bytes a k (a + c.min-next.result) same c.sixteens.invariant room (omega arith)
+    (c.begin_sixteen.auto.bytes ∙ part) c.begin_sixteen.ensures.advances
+    (λ l. omega (arith, l, part, within, c.min-next.ensures, c.begin_sixteen.ensures.used))

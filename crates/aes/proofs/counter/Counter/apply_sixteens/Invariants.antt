@@ -1,12 +1,9 @@
-use Rattle.std.proofs.Common.{◌≡◌, ◌-◌, length}
+use Rattle.std.proofs.Common.{◌-◌, length}
 use Rattle.aes.specs.Streams.{AdvancesFront}
 use Rattle.aes.proofs.counter.Counter.apply_sixteens.Given as goal
 
 abbrev pub invariant-sixteens : goal.invariant-sixteens
-invariant-sixteens g l = record {
-  front : AdvancesFront g.C.Count.up l.fn.self l.self l.fn.bytes l.bytes l.done;
-  key : l.self.key ≡ l.fn.self.key;
-}
+invariant-sixteens g l = AdvancesFront g.C.Count.up l.key l.fn.self l.self l.fn.bytes l.bytes l.done
 
 abbrev pub decreases-sixteens : goal.decreases-sixteens
 decreases-sixteens g l = length l.bytes - l.done

@@ -8,7 +8,6 @@ none n l e = omega (arith, l, e)
 
 pub returns : goal.returns
 returns g c = record {
-  key_is = refl;
   first_is = refl;
   begun_is = refl;
   used_is = refl;

@@ -6,8 +6,8 @@ use Rattle.aes.specs.Cipher.{cipher}
 use Rattle.aes.proofs.StreamSteps.{began, joined_fours}
 use Rattle.aes.proofs.counter.Counter.begin_sixteen.Goals as goal
 
-pub take-requires-clause-masks : goal.take-requires-clause-masks
-take-requires-clause-masks g c = λ q h.
+pub returns-then-bytes-lt256-clause-advances : goal.returns-then-bytes-lt256-clause-advances
+returns-then-bytes-lt256-clause-advances g c = c.take.ensures.advances c.args.key.now (λ q h.
     let s = c.args.self.now in
     let up : List ℕ → ℕ → List ℕ = g.C.Count.up in
     let out = c.encrypt_sixteen.ensures (λ q. up s.first ((s.begun + q) % 2 ^ 32))
@@ -20,8 +20,8 @@ take-requires-clause-masks g c = λ q h.
     c.as_flattened.ensures.value ∙ ap (λ l. x.0 ++ (x.1 ++ (x.2 ++ l))) (append-nil x.3)
     ∙ sym (append_assoc x.0 x.1 (x.2 ++ x.3)) in
     ap (λ l. block_at l q) joined
-    ∙ joined_fours x.0 x.1 x.2 x.3 (λ q. cipher s.key (up s.first ((s.begun + q) % 2 ^ 32))) first second third
-    out.0 out.1 out.2 out.3 q (omega (arith, h))
+    ∙ joined_fours x.0 x.1 x.2 x.3 (λ q. cipher c.args.key.now (up s.first ((s.begun + q) % 2 ^ 32))) first second third
+    out.0 out.1 out.2 out.3 q (omega (arith, h)))
 
 pub returns-clause-advances : goal.returns-clause-advances
 returns-clause-advances g c =
@@ -41,8 +41,8 @@ returns-clause-advances g c =
     ∙ omega (arith, first, second, third, fourth, length-append x.0 x.1, length-append x.2 x.3) in
     let long : length xs ≡ 256 = omega (arith, c.requires.room, c.if-bytes-lt256.false) in
     let counted : (s.begun + 16) % 2 ^ 32 ≡ (s.begun + (length xs + 15) / 16) % 2 ^ 32 = omega (arith, long) in
-    began up s _ masks xs c.xor_fours.new.bytes g.met.C.Count.wraps refl refl counted (omega (arith, long, c.requires.none))
+    began up c.args.key.now s _ masks xs c.xor_fours.new.bytes g.met.C.Count.wraps refl counted (omega (arith, long, c.requires.none))
     c.requires.none (omega (arith, long, size)) (omega (arith, size)) (λ short. absurd (omega (arith, short, long, size)))
-    (λ q h. joined_fours x.0 x.1 x.2 x.3 (λ q. cipher s.key (up s.first ((s.begun + q) % 2 ^ 32)))
+    (λ q h. joined_fours x.0 x.1 x.2 x.3 (λ q. cipher c.args.key.now (up s.first ((s.begun + q) % 2 ^ 32)))
     first second third out.0 out.1 out.2 out.3 q (omega (arith, h, size)))
     (c.xor_fours.ensures ∙ ap (xor_bytes xs) (sym (take_all (length xs) masks (omega (arith, long, size)))))
