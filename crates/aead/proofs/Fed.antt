@@ -1,7 +1,7 @@
 -- A text fed part by part to an authenticator, each part padded to whole blocks.
 use Rattle.std.proofs.Common.{◌≡◌, ℕ, ◌-◌, ◌%◌, List, ◌++◌, length, replicate, ap, ◌∙◌, arith, append_assoc}
 use Rattle.std.proofs.Common.{length-append}
-use Rattle.std.proofs.lemmas.List.{length-replicate, append-nil}
+use Rattle.std.proofs.lemmas.List.{append-nil}
 use Rattle.octets.specs.Bytes.{padding, pad16}
 use Rattle.octets.proofs.Texts.{whole_padded}
 
@@ -24,15 +24,6 @@ fed a b z =
     ap (λ l. l ++ z) (pad16_after (pad16 a) b (whole_padded a))
     ∙ append_assoc (pad16 a) (pad16 b) z
 
--- and two parts of 8 bytes after them make whole blocks
-pub whole_fed : (a b x y : List ℕ) → length x ≡ 8 → length y ≡ 8
-    → length (pad16 a ++ (pad16 b ++ (x ++ y))) % 16 ≡ 0
-whole_fed a b x y l m =
-    omega (
-      arith,
-      whole_padded a,
-      whole_padded b,
-      length-append x y,
-      length-append (pad16 b) (x ++ y),
-      length-append (pad16 a) (pad16 b ++ (x ++ y)),
-    )
+-- a padded part and 16 bytes after it are whole blocks
+pub whole_ended : (a z : List ℕ) → length z ≡ 16 → length (pad16 a ++ z) % 16 ≡ 0
+whole_ended a z long = omega (arith, whole_padded a, length-append (pad16 a) z, long)

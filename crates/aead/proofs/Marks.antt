@@ -1,5 +1,5 @@
 -- The marks of kept keys tell their suites apart.
-use Rattle.std.proofs.Common.{◌≡◌, ◌+◌, ℕ, nat_eq, refl, sym, ap, ◌∙◌, arith}
+use Rattle.std.proofs.Common.{◌≡◌, ℕ, nat_eq, refl, sym, ap, ◌∙◌, arith}
 use Rattle.std.specs.Prelude.{if◌then◌else◌}
 use Rattle.aead.specs.declared.suite.Suite.{Suite}
 use Rattle.aead.specs.declared.suite.Suite.TheVariants.{

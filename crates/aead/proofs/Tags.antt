@@ -1,5 +1,5 @@
 -- The tags of the constructions, as their hashes make them.
-use Rattle.std.proofs.Common.{◌≡◌, ℕ, ◌*◌, List, ◌++◌, length, ap, ap₂, sym, refl, ◌∙◌}
+use Rattle.std.proofs.Common.{◌≡◌, ℕ, ◌*◌, List, ◌++◌, length, ap, ap₂, sym, ◌∙◌}
 use Rattle.std.specs.Int.{w64, to_le_bytes, to_be_bytes}
 use Rattle.octets.specs.Bytes.{xor_bytes, pad16}
 use Rattle.poly1305.specs.Poly1305.{poly1305}
@@ -10,7 +10,7 @@ use Rattle.aead.specs.Suites.{ByChaCha, ByGcm, ByGcmSiv, construction_of}
 use Rattle.aead.specs.Sealing.{Setting, poly_key, chacha_authenticated, hash_key, j0, gcm_authenticated}
 use Rattle.aead.specs.Sealing.{authentication_key, encryption_key, siv_authenticated, tag_block, tag_over_by}
 use Rattle.aead.specs.Sealing.{tag_over}
-use Rattle.aead.proofs.Fed.{fed, pad16_whole, whole_fed}
+use Rattle.aead.proofs.Fed.{fed}
 
 -- Poly1305 of what was taken in and the lengths
 pub by_poly1305 : (s : Setting) (m result : List ℕ) (a n : ℕ) → construction_of s.suite ≡ ByChaCha
@@ -31,17 +31,14 @@ pub by_ghash : (s : Setting) (m mask result : List ℕ) (a n : ℕ) → construc
     → mask ≡ cipher s.key (j0 s.nonce)
     → a ≡ length s.aad → n ≡ length m
     → result ≡ xor_bytes mask
-    (ghash (hash_key s.key) (pad16
-    (pad16 (pad16 s.aad ++ m) ++ (to_be_bytes w64 (8 * a) ++ to_be_bytes w64 (8 * n)))))
+    (ghash (hash_key s.key) (pad16 (pad16 s.aad ++ m) ++ (to_be_bytes w64 (8 * a) ++ to_be_bytes w64 (8 * n))))
     → result ≡ tag_over s.suite s.key s.nonce s.aad m
 unfolding tag_over tag_over_by gcm_authenticated
 by_ghash s m mask result a n by under e f h =
     let x : List ℕ = to_be_bytes w64 (8 * a) in
     let y : List ℕ = to_be_bytes w64 (8 * n) in
     h
-    ∙ ap₂ (λ k z. xor_bytes k (ghash (hash_key s.key) z)) under
-    (ap pad16 (fed s.aad m (x ++ y))
-    ∙ pad16_whole (pad16 s.aad ++ (pad16 m ++ (x ++ y))) (whole_fed s.aad m x y refl refl))
+    ∙ ap₂ (λ k z. xor_bytes k (ghash (hash_key s.key) z)) under (fed s.aad m (x ++ y))
     ∙ ap₂ (λ i j. xor_bytes (cipher s.key (j0 s.nonce))
     (ghash (hash_key s.key) (pad16 s.aad
     ++ (pad16 m ++ (to_be_bytes w64 (8 * i) ++ to_be_bytes w64 (8 * j)))))) e f
@@ -52,7 +49,7 @@ pub by_polyval : (s : Setting) (m key nonce result : List ℕ) (a n : ℕ) → c
     → key ≡ encryption_key s.key s.nonce → nonce ≡ s.nonce → a ≡ length s.aad → n ≡ length m
     → result ≡ cipher key (tag_block
     (polyval (authentication_key s.key s.nonce)
-    (pad16 (pad16 (pad16 s.aad ++ m) ++ (to_le_bytes w64 (8 * a) ++ to_le_bytes w64 (8 * n))))) nonce)
+    (pad16 (pad16 s.aad ++ m) ++ (to_le_bytes w64 (8 * a) ++ to_le_bytes w64 (8 * n)))) nonce)
     → result ≡ tag_over s.suite s.key s.nonce s.aad m
 unfolding tag_over tag_over_by siv_authenticated
 by_polyval s m key nonce result a n by under same e f h =
@@ -60,9 +57,7 @@ by_polyval s m key nonce result a n by under same e f h =
     let y : List ℕ = to_le_bytes w64 (8 * n) in
     let hash : List ℕ → List ℕ = polyval (authentication_key s.key s.nonce) in
     h
-    ∙ ap₂ (λ k z. cipher k (tag_block (hash z) nonce)) under
-    (ap pad16 (fed s.aad m (x ++ y))
-    ∙ pad16_whole (pad16 s.aad ++ (pad16 m ++ (x ++ y))) (whole_fed s.aad m x y refl refl))
+    ∙ ap₂ (λ k z. cipher k (tag_block (hash z) nonce)) under (fed s.aad m (x ++ y))
     ∙ ap (λ z. cipher (encryption_key s.key s.nonce)
     (tag_block (hash (pad16 s.aad ++ (pad16 m ++ (x ++ y)))) z)) same
     ∙ ap₂ (λ i j. cipher (encryption_key s.key s.nonce)

@@ -18,21 +18,43 @@ pub(crate) struct Authenticator<H> {
 }
 
 impl<H: TagHash> Authenticator<H> {
-    // Takes in the associated data.
+    // One that has taken in nothing.
     #[inline(always)]
-    pub(crate) fn new(mut hash: H, aad: &[u8]) -> Authenticator<H>
+    pub(crate) fn empty(hash: H) -> Authenticator<H>
+        ensures { (result.hash ≡ hash) × (result.length ≡ 0) }
+    {
+        Authenticator {
+            hash,
+            aad_length: 0,
+            length: 0,
+        }
+    }
+
+    // Takes in the associated data, before all else. What takes in bytes stays where it is: to move it is to copy it.
+    #[inline(always)]
+    pub(crate) fn begin(&mut self, aad: &[u8])
+        requires { self.old.length ≡ 0 }
+        ensures holds { (s : Setting) → s.aad ≡ aad.now → length aad.now ≤ aad_limit s.suite
+            → H.held self.old.hash s []
+            → HoldsAuthenticator H.held self.new s [] }
+        ensures none { self.new.length ≡ 0 }
+    {
+        self.hash.take_in(aad);
+        self.hash.pad();
+        self.aad_length = aad.len() as u64;
+    }
+
+    // One that has taken in the associated data.
+    #[inline(always)]
+    pub(crate) fn new(hash: H, aad: &[u8]) -> Authenticator<H>
         ensures holds { (s : Setting) → s.aad ≡ aad.now → length aad.now ≤ aad_limit s.suite
             → H.held hash s []
             → HoldsAuthenticator H.held result s [] }
         ensures none { result.length ≡ 0 }
     {
-        hash.take_in(aad);
-        hash.pad();
-        Authenticator {
-            hash,
-            aad_length: aad.len() as u64,
-            length: 0,
-        }
+        let mut begun = Authenticator::empty(hash);
+        begun.begin(aad);
+        begun
     }
 
     // Takes in the next bytes.
@@ -67,18 +89,23 @@ impl<H: TagHash> Authenticator<H> {
         self.length += bytes.len() as u64;
     }
 
+    // The tag of what was taken in. The authenticator is of no use after it.
+    #[inline(always)]
+    pub(crate) fn tag(&mut self) -> Tag
+        ensures tag { (s : Setting) (m : List ℕ) → HoldsAuthenticator H.held self.old s m
+            → result ≡ tag_over s.suite s.key s.nonce s.aad m }
+        ensures length { self.new.length ≡ self.old.length }
+    {
+        self.hash.pad();
+        self.hash.tag_with_lengths(self.aad_length, self.length)
+    }
+
     // The tag of what was taken in.
     #[inline(always)]
-    pub(crate) fn finish(self) -> Tag
+    pub(crate) fn finish(mut self) -> Tag
         ensures { (s : Setting) (m : List ℕ) → HoldsAuthenticator H.held self s m
             → result ≡ tag_over s.suite s.key s.nonce s.aad m }
     {
-        let Authenticator {
-            mut hash,
-            aad_length,
-            length,
-        } = self;
-        hash.pad();
-        hash.tag(aad_length, length)
+        self.tag()
     }
 }

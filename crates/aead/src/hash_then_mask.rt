@@ -8,7 +8,7 @@ ghost use Rattle.aead.specs.InPlace.{OpensInPlace};
 
 use crate::beside::MaskFirst;
 use crate::mask::MaskStream;
-use crate::nonced::{Nonced, authenticator, masking, tells_bytes};
+use crate::nonced::{Nonced, blank_authenticator, blank_masking, tells_bytes};
 use octets::{Fault, Tag, same};
 
 // A cipher with a nonce whose mask is made of the tag.
@@ -28,9 +28,10 @@ pub(crate) fn seal_whole<N: HashThenMask>(nonced: &N, aad: &[u8], text: &mut [u8
         text.old }
 {
     tells_bytes(text);
-    let mut authenticator = authenticator(nonced, aad);
+    let mut authenticator = blank_authenticator(nonced);
+    authenticator.begin(aad);
     authenticator.update(text);
-    let tag = authenticator.finish();
+    let tag = authenticator.tag();
     nonced.mask(&tag).apply_to(text);
     tag
 }
@@ -48,9 +49,10 @@ pub(crate) fn open_whole<N: HashThenMask>(
         body.new result }
 {
     let given = tag.bytes();
-    let mut opening = masking(nonced, nonced.mask(tag), aad, MaskFirst);
+    let mut opening = blank_masking(nonced, nonced.mask(tag), MaskFirst);
+    opening.begin(aad);
     opening.update(body);
-    if same(opening.finish().bytes(), given) {
+    if same(opening.tag().bytes(), given) {
         return Ok(());
     }
     nonced.mask(tag).apply_to(body);

@@ -34,8 +34,8 @@ pub(crate) trait TagHash: Drop {
         ensures { (s : Setting) (m : List ℕ) → held self.old s m → held self.new s (pad16 m) };
 
     // The tag of padded associated data and the bytes after it, padded: their lengths are taken in last.
-    fn tag(self, aad_length: u64, bytes_length: u64) -> Tag
-        ensures { (s : Setting) (m : List ℕ) → held self s (pad16 (pad16 s.aad ++ m)) → Fits s m
+    fn tag_with_lengths(&mut self, aad_length: u64, bytes_length: u64) -> Tag
+        ensures { (s : Setting) (m : List ℕ) → held self.old s (pad16 (pad16 s.aad ++ m)) → Fits s m
             → aad_length ≡ length s.aad
             → bytes_length ≡ length m → result ≡ tag_over s.suite s.key s.nonce s.aad m };
 }
@@ -63,10 +63,9 @@ impl TagHash for Poly {
         self.pad16();
     }
 
-    fn tag(self, aad_length: u64, bytes_length: u64) -> Tag {
-        let mut hash = self;
-        hash.update(&joined(&aad_length.to_le_bytes(), &bytes_length.to_le_bytes()));
-        hash.finish()
+    fn tag_with_lengths(&mut self, aad_length: u64, bytes_length: u64) -> Tag {
+        self.update(&joined(&aad_length.to_le_bytes(), &bytes_length.to_le_bytes()));
+        self.tag()
     }
 }
 
@@ -89,11 +88,11 @@ impl<M: Multiply> TagHash for GhashTag<M> {
         self.hash.pad16();
     }
 
-    fn tag(self, aad_length: u64, bytes_length: u64) -> Tag {
-        let GhashTag { mut hash, mask } = self;
+    fn tag_with_lengths(&mut self, aad_length: u64, bytes_length: u64) -> Tag {
         let (first, second) = (bits(aad_length), bits(bytes_length));
-        hash.update(&joined(&first.to_be_bytes(), &second.to_be_bytes()));
-        Tag::new(xored(mask.bytes(), hash.finish().bytes()))
+        self.hash
+            .update(&joined(&first.to_be_bytes(), &second.to_be_bytes()));
+        Tag::new(xored(self.mask.bytes(), self.hash.hash().bytes()))
     }
 }
 
@@ -127,15 +126,11 @@ impl<M: Multiply, K: KeptKey> TagHash for PolyvalTag<M, K> {
         self.hash.pad16();
     }
 
-    fn tag(self, aad_length: u64, bytes_length: u64) -> Tag {
-        let PolyvalTag {
-            mut hash,
-            key,
-            nonce,
-        } = self;
+    fn tag_with_lengths(&mut self, aad_length: u64, bytes_length: u64) -> Tag {
         let (first, second) = (bits(aad_length), bits(bytes_length));
-        hash.update(&joined(&first.to_le_bytes(), &second.to_le_bytes()));
-        let block = tag_block(hash.finish().bytes(), nonce.bytes());
-        Tag::new(*key.kept().encrypt(&Block::new(block)).bytes())
+        self.hash
+            .update(&joined(&first.to_le_bytes(), &second.to_le_bytes()));
+        let block = tag_block(self.hash.hash().bytes(), self.nonce.bytes());
+        Tag::new(*self.key.kept().encrypt(&Block::new(block)).bytes())
     }
 }

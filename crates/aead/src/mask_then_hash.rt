@@ -12,7 +12,7 @@ ghost use Rattle.aead.specs.InPlace.{OpensInPlace};
 use crate::beside::{HashFirst, MaskFirst};
 use crate::mask::MaskStream;
 use crate::masking::Masking;
-use crate::nonced::{Nonced, authenticator, masking, tells_bytes};
+use crate::nonced::{Nonced, blank_authenticator, blank_masking, masking, tells_bytes};
 use octets::{Fault, Tag, same};
 
 // A cipher with a nonce whose mask needs no tag.
@@ -47,9 +47,10 @@ pub(crate) fn seal_whole<N: MaskThenHash>(nonced: &N, aad: &[u8], text: &mut [u8
         text.old }
 {
     tells_bytes(text);
-    let mut sealing = sealing(nonced, aad);
+    let mut sealing = blank_masking(nonced, nonced.mask(), MaskFirst);
+    sealing.begin(aad);
     sealing.update(text);
-    sealing.finish()
+    sealing.tag()
 }
 
 // Turns a ciphertext into its text if the tag is its own, and else leaves every byte as it was.
@@ -65,9 +66,10 @@ pub(crate) fn open_whole<N: MaskThenHash>(
         body.new result }
 {
     let given = tag.bytes();
-    let mut authenticator = authenticator(nonced, aad);
+    let mut authenticator = blank_authenticator(nonced);
+    authenticator.begin(aad);
     authenticator.update(body);
-    if !same(authenticator.finish().bytes(), given) {
+    if !same(authenticator.tag().bytes(), given) {
         return Err(Fault::TagMismatch);
     }
     nonced.mask().apply_to(body);
@@ -87,9 +89,10 @@ pub(crate) fn open_beside<N: MaskThenHash>(
         MatchResult result (λ _. Opened s (body.old ++ tag.now) body.new) (OpenRefused s body.old tag.now) }
 {
     let given = tag.bytes();
-    let mut opening = masking(nonced, nonced.mask(), aad, HashFirst);
+    let mut opening = blank_masking(nonced, nonced.mask(), HashFirst);
+    opening.begin(aad);
     opening.update(body);
-    if same(opening.finish().bytes(), given) {
+    if same(opening.tag().bytes(), given) {
         Ok(())
     } else {
         Err(Fault::TagMismatch)

@@ -2,7 +2,7 @@
 
 ghost use Rattle.std.specs.Prelude.{◌≡◌, ◌+◌, ◌<◌, ◌≤◌, ◌^◌, ◌++◌, ℕ, List, [], length};
 ghost use Rattle.octets.specs.Masked.{masked};
-ghost use Rattle.aead.specs.Suites.{text_limit};
+ghost use Rattle.aead.specs.Suites.{text_limit, aad_limit};
 ghost use Rattle.aead.specs.Sealing.{tag_over};
 
 use crate::authenticator::Authenticator;
@@ -50,6 +50,20 @@ impl<S: MaskStream, H: TagHash, R: Order> Masking<S, H, R> {
         }
     }
 
+    // Takes in the associated data, before any piece.
+    #[inline(always)]
+    pub(crate) fn begin(&mut self, aad: &[u8])
+        requires { self.old.authenticator.length ≡ 0 }
+        ensures holds { (t : Task) → S.made self.old.mask t.setting t.tag 0
+            → H.held self.old.authenticator.hash t.setting [] → t.setting.aad ≡ aad.now
+            → length aad.now ≤ aad_limit t.setting.suite → self.old.limit ≡ t.limit
+            → t.limit ≤ text_limit t.setting.suite → HoldsMasking S.made H.held R.hashed self.new t [] }
+        ensures none { self.new.authenticator.length ≡ 0 }
+        ensures limit { self.new.limit ≡ self.old.limit }
+    {
+        self.authenticator.begin(aad);
+    }
+
     // How many bytes more are within the limit.
     pub(crate) fn room(&self) -> u64
         ensures { result + self.now.authenticator.length ≡ self.now.limit }
@@ -69,6 +83,16 @@ impl<S: MaskStream, H: TagHash, R: Order> Masking<S, H, R> {
     {
         self.order
             .step(&mut self.mask, &mut self.authenticator, piece);
+    }
+
+    // The tag of all pieces. The state is of no use after it.
+    #[inline(always)]
+    pub(crate) fn tag(&mut self) -> Tag
+        ensures { (t : Task) (fed : List ℕ) → HoldsMasking S.made H.held R.hashed self.old t fed
+            → result ≡ tag_over t.setting.suite t.setting.key t.setting.nonce t.setting.aad
+            (R.hashed (task_mask t) fed) }
+    {
+        self.authenticator.tag()
     }
 
     // The tag of all pieces.

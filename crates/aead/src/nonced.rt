@@ -44,7 +44,40 @@ pub(crate) fn authenticator<N: Nonced>(nonced: &N, aad: &[u8]) -> Authenticator<
         (setting (N.keyed nonced.now) (N.nonce nonced.now) aad.now) [] }
     ensures none { result.length ≡ 0 }
 {
-    Authenticator::new(nonced.hash(), aad)
+    let mut begun = blank_authenticator(nonced);
+    begun.begin(aad);
+    begun
+}
+
+// The authenticator of a message before its associated data is taken in.
+#[inline(always)]
+pub(crate) fn blank_authenticator<N: Nonced>(nonced: &N) -> Authenticator<N::Hash>
+    ensures hash { (aad : List ℕ)
+        → N.Hash.held result.hash (setting (N.keyed nonced.now) (N.nonce nonced.now) aad) [] }
+    ensures none { result.length ≡ 0 }
+{
+    Authenticator::empty(nonced.hash())
+}
+
+// The state of a message in this order before its associated data is taken in.
+#[inline(always)]
+pub(crate) fn blank_masking<N: Nonced, R: Order>(
+    nonced: &N,
+    mask: N::Stream,
+    order: R,
+) -> Masking<N::Stream, N::Hash, R>
+    ensures mask { result.mask ≡ mask }
+    ensures hash { (aad : List ℕ)
+        → N.Hash.held result.authenticator.hash (setting (N.keyed nonced.now) (N.nonce nonced.now) aad) [] }
+    ensures none { result.authenticator.length ≡ 0 }
+    ensures limit { result.limit ≡ text_limit (N.keyed nonced.now).suite }
+{
+    Masking {
+        mask,
+        authenticator: blank_authenticator(nonced),
+        order,
+        limit: nonced.suite().text_limit(),
+    }
 }
 
 // The state that masks and authenticates a message in this order.
@@ -62,6 +95,7 @@ pub(crate) fn masking<N: Nonced, R: Order>(
     ensures none { result.authenticator.length ≡ 0 }
     ensures limit { result.limit ≡ text_limit (N.keyed nonced.now).suite }
 {
-    let limit = nonced.suite().text_limit();
-    Masking::new(mask, authenticator(nonced, aad), order, limit)
+    let mut begun = blank_masking(nonced, mask, order);
+    begun.begin(aad);
+    begun
 }

@@ -1,4 +1,4 @@
-use Rattle.std.proofs.Common.{◌≡◌, ◌∙◌, ◌≤◌, ℕ, [], length, arith, sym, ap, true≢false}
+use Rattle.std.proofs.Common.{refl, ◌≡◌, ◌∙◌, ◌≤◌, ℕ, [], length, arith, sym, ap, true≢false}
 use Rattle.octets.specs.Masked.{masked}
 use Rattle.octets.proofs.Masks.{length-masked, masked_twice}
 use Rattle.aead.specs.Suites.{is_one_pass, text_limit}
@@ -16,11 +16,11 @@ returns-then-same g c =
     record { aad_fits = c.requires.aad_fits; text_fits = c.requires.text_fits } in
     let two = ap is_one_pass (g.met.N.HashThenMask.by_gcm_siv c.args.nonced.now) in
     let t = message_task s c.args.tag.now in
-    let fed = c.update.ensures.masked t []
-    (c.masking-opening.ensures.holds c.args.tag.now (c.mask.ensures c.args.aad.now)) in
-    let tag_is : tag_of s (unmasked s c.args.tag.now c.args.body.now) ≡ c.finish.result =
+    let fed = c.update.ensures.masked t [] (c.begin.ensures.holds t (rw (sym c.blank_masking-opening.ensures.mask) at (c.mask.ensures c.args.aad.now))
+    (c.blank_masking-opening.ensures.hash c.args.aad.now) refl c.requires.aad_fits c.blank_masking-opening.ensures.limit (omega arith)) in
+    let tag_is : tag_of s (unmasked s c.args.tag.now c.args.body.now) ≡ c.tag.result =
     two_pass_tag s (unmasked s c.args.tag.now c.args.body.now) two
-    ∙ sym (c.finish.ensures t c.args.body.now fed.0) in
+    ∙ sym (c.tag.ensures t c.args.body.now fed.0) in
     opened_as s c.args.body.now c.args.tag.now c.update.new.piece fits (λ i. (c.type_inv.body i).fits) fed.1
     (tag_is ∙ sym c.bytes.ensures.value ∙ c.same.ensures.0 c.if-same.true ∙ c.bytes-given.ensures.value)
 
@@ -33,11 +33,11 @@ returns g c =
     let two = ap is_one_pass (g.met.N.HashThenMask.by_gcm_siv c.args.nonced.now) in
     let t = message_task s c.args.tag.now in
     let f : ℕ → ℕ = mask_of s c.args.tag.now in
-    let fed = c.update.ensures.masked t []
-    (c.masking-opening.ensures.holds c.args.tag.now (c.mask.ensures c.args.aad.now)) in
-    let tag_is : tag_of s (unmasked s c.args.tag.now c.args.body.now) ≡ c.finish.result =
+    let fed = c.update.ensures.masked t [] (c.begin.ensures.holds t (rw (sym c.blank_masking-opening.ensures.mask) at (c.mask.ensures c.args.aad.now))
+    (c.blank_masking-opening.ensures.hash c.args.aad.now) refl c.requires.aad_fits c.blank_masking-opening.ensures.limit (omega arith)) in
+    let tag_is : tag_of s (unmasked s c.args.tag.now c.args.body.now) ≡ c.tag.result =
     two_pass_tag s (unmasked s c.args.tag.now c.args.body.now) two
-    ∙ sym (c.finish.ensures t c.args.body.now fed.0) in
+    ∙ sym (c.tag.ensures t c.args.body.now fed.0) in
     let long : length c.update.new.piece ≤ text_limit s.suite =
     omega (arith, ap length fed.1, length-masked f 0 c.args.body.now, fits.text_fits) in (
       (

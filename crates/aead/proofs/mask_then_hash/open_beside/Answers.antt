@@ -1,4 +1,4 @@
-use Rattle.std.proofs.Common.{◌∙◌, [], sym, true≢false}
+use Rattle.std.proofs.Common.{◌∙◌, [], sym, refl, arith, true≢false}
 use Rattle.aead.specs.Sealing.{Setting, Fits}
 use Rattle.aead.specs.Ciphers.{setting}
 use Rattle.aead.specs.Code.Maskings.{message_task}
@@ -12,27 +12,27 @@ returns-then-same g c =
     let fits : Fits s c.args.body.now =
     record { aad_fits = c.requires.aad_fits; text_fits = c.requires.text_fits } in
     let t = message_task s c.args.tag.now in
-    let fed = c.update.ensures.masked t []
-    (c.masking-opening.ensures.holds c.args.tag.now (c.mask.ensures c.args.aad.now c.args.tag.now)) in
+    let fed = c.update.ensures.masked t [] (c.begin.ensures.holds t (rw (sym c.blank_masking-opening.ensures.mask) at (c.mask.ensures c.args.aad.now c.args.tag.now))
+    (c.blank_masking-opening.ensures.hash c.args.aad.now) refl c.requires.aad_fits c.blank_masking-opening.ensures.limit (omega arith)) in
     opened_as s c.args.body.now c.args.tag.now c.update.new.piece fits (λ i. (c.type_inv.body i).fits) fed.1
     (body_tag s c.args.tag.now c.args.body.now (g.met.N.MaskThenHash.one_pass c.args.nonced.now)
-    ∙ sym (c.finish.ensures t c.args.body.now fed.0) ∙ sym c.bytes.ensures.value
+    ∙ sym (c.tag.ensures t c.args.body.now fed.0) ∙ sym c.bytes.ensures.value
     ∙ c.same.ensures.0 c.if-same.true ∙ c.bytes-given.ensures.value)
 
-pub returns-else-same : goal.returns-else-same
-returns-else-same g c =
+pub returns : goal.returns
+returns g c =
     let s : Setting = setting (g.N.Nonced.keyed c.args.nonced.now) (g.N.Nonced.nonce c.args.nonced.now)
     c.args.aad.now in
     let fits : Fits s c.args.body.now =
     record { aad_fits = c.requires.aad_fits; text_fits = c.requires.text_fits } in
     let t = message_task s c.args.tag.now in
-    let fed = c.update.ensures.masked t []
-    (c.masking-opening.ensures.holds c.args.tag.now (c.mask.ensures c.args.aad.now c.args.tag.now)) in (
+    let fed = c.update.ensures.masked t [] (c.begin.ensures.holds t (rw (sym c.blank_masking-opening.ensures.mask) at (c.mask.ensures c.args.aad.now c.args.tag.now))
+    (c.blank_masking-opening.ensures.hash c.args.aad.now) refl c.requires.aad_fits c.blank_masking-opening.ensures.limit (omega arith)) in (
       fits,
       no_sealing s c.args.body.now c.args.tag.now c.bytes-given.ensures.is_block.length_is
           (λ e. true≢false
           (sym (c.same.ensures.1
-          (c.bytes.ensures.value ∙ c.finish.ensures t c.args.body.now fed.0
+          (c.bytes.ensures.value ∙ c.tag.ensures t c.args.body.now fed.0
           ∙ sym (body_tag s c.args.tag.now c.args.body.now (g.met.N.MaskThenHash.one_pass c.args.nonced.now))
           ∙ e ∙ sym c.bytes-given.ensures.value))
           ∙ c.if-same.false)),

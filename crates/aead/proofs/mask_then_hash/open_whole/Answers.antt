@@ -10,10 +10,11 @@ returns-then-not-same g c =
     c.args.aad.now in
     let fits : Fits s c.args.body.now =
     record { aad_fits = c.requires.aad_fits; text_fits = c.requires.text_fits } in
-    let taken = c.update.ensures.holds s [] c.authenticator-authenticator.ensures.holds
-    (omega (arith, fits.text_fits)) in
+    let begun = c.begin.ensures.holds s refl c.requires.aad_fits
+    (c.blank_authenticator-authenticator.ensures.hash c.args.aad.now) in
+    let taken = c.update.ensures.holds s [] begun (omega (arith, fits.text_fits)) in
     let tag_is : c.bytes.result.now ≡ tag_of s (unmasked s c.args.tag.now c.args.body.now) =
-    c.bytes.ensures.value ∙ c.finish.ensures s c.args.body.now taken
+    c.bytes.ensures.value ∙ c.tag.ensures.tag s c.args.body.now taken
     ∙ sym (body_tag s c.args.tag.now c.args.body.now (g.met.N.MaskThenHash.one_pass c.args.nonced.now)) in (
       (
         fits,
@@ -30,11 +31,12 @@ returns g c =
     c.args.aad.now in
     let fits : Fits s c.args.body.now =
     record { aad_fits = c.requires.aad_fits; text_fits = c.requires.text_fits } in
-    let taken = c.update.ensures.holds s [] c.authenticator-authenticator.ensures.holds
-    (omega (arith, fits.text_fits)) in
+    let begun = c.begin.ensures.holds s refl c.requires.aad_fits
+    (c.blank_authenticator-authenticator.ensures.hash c.args.aad.now) in
+    let taken = c.update.ensures.holds s [] begun (omega (arith, fits.text_fits)) in
     let made = c.mask.ensures c.args.aad.now c.args.tag.now in
     opened_as s c.args.body.now c.args.tag.now c.apply_to.new.piece fits (λ i. (c.type_inv.body i).fits)
     (c.apply_to.ensures s c.args.tag.now 0 made (omega (arith, fits.text_fits))).1
     (body_tag s c.args.tag.now c.args.body.now (g.met.N.MaskThenHash.one_pass c.args.nonced.now)
-    ∙ sym (c.finish.ensures s c.args.body.now taken) ∙ sym c.bytes.ensures.value
+    ∙ sym (c.tag.ensures.tag s c.args.body.now taken) ∙ sym c.bytes.ensures.value
     ∙ c.same.ensures.0 c.if-not-same.false ∙ c.bytes-given.ensures.value)

@@ -1,4 +1,4 @@
-use Rattle.std.proofs.Common.{[]}
+use Rattle.std.proofs.Common.{[], sym, refl, arith}
 use Rattle.aead.specs.Sealing.{Setting, Fits}
 use Rattle.aead.specs.Ciphers.{setting}
 use Rattle.aead.specs.Code.Maskings.{message_task}
@@ -12,7 +12,8 @@ returns g c =
     let fits : Fits s c.args.text.now =
     record { aad_fits = c.requires.aad_fits; text_fits = c.requires.text_fits } in
     let t = message_task s [] in
-    let fed = c.update.ensures.masked t [] (c.sealing-sealing.ensures.holds []) in
-    seals_one_pass s [] c.args.text.now c.update.new.piece c.finish.result
+    let fed = c.update.ensures.masked t [] (c.begin.ensures.holds t (rw (sym c.blank_masking-sealing.ensures.mask) at (c.mask.ensures c.args.aad.now []))
+    (c.blank_masking-sealing.ensures.hash c.args.aad.now) refl c.requires.aad_fits c.blank_masking-sealing.ensures.limit (omega arith)) in
+    seals_one_pass s [] c.args.text.now c.update.new.piece c.tag.result
     (g.met.N.MaskThenHash.one_pass c.args.nonced.now) fits c.tells_bytes.ensures fed.1
-    (c.finish.ensures t c.args.text.now fed.0)
+    (c.tag.ensures t c.args.text.now fed.0)

@@ -1,4 +1,4 @@
-use Rattle.std.proofs.Common.{◌≡◌, ◌∙◌, refl, sym, ap, ap₂, subst, arith, length, replicate}
+use Rattle.std.proofs.Common.{◌≡◌, ◌∙◌, sym, ap, ap₂, subst, arith, length, replicate}
 use Rattle.std.proofs.lemmas.Slice.{take-put_mid}
 use Rattle.aes.specs.Cipher.{cipher}
 use Rattle.aes.specs.KeptWords.{KeepsSchedule}

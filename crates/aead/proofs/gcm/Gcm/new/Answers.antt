@@ -1,4 +1,4 @@
-use Rattle.std.proofs.Common.{◌≡◌, ap, ◌∙◌}
+use Rattle.std.proofs.Common.{ap, ◌∙◌}
 use Rattle.aes.specs.Cipher.{cipher}
 use Rattle.aead.specs.Sealing.{hash_key}
 use Rattle.aead.proofs.gcm.Gcm.new.Goals as goal
