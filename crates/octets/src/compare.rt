@@ -3,6 +3,9 @@
 ghost use Rattle.std.specs.Prelude.{◌≡◌, ◌↔◌, length, true};
 ghost use Rattle.octets.specs.Bytes.{xor_bytes};
 
+use std::simd::prelude::*;
+use std::simd::u8x16;
+
 /// Whether two runs of 16 bytes are equal.
 pub fn same(a: &[u8; 16], b: &[u8; 16]) -> bool
     ensures { (result ≡ true) ↔ (a.now ≡ b.now) }
@@ -21,18 +24,14 @@ fn xor_each(dst: &mut [u8], src: &[u8])
     }
 }
 
-// XORs 16 bytes into 16 others, through arrays, which overlap nothing: it is one step of the processor.
+// XORs 16 bytes into 16 others at once.
 #[inline(always)]
 fn xor_block(dst: &mut [u8], src: &[u8])
     requires { (length dst.old ≡ 16) × (length src.now ≡ 16) }
     ensures { dst.new ≡ xor_bytes dst.old src.now }
 {
-    let mut sum = [0; 16];
-    sum.copy_from_slice(dst);
-    let mut other = [0; 16];
-    other.copy_from_slice(src);
-    xor_each(&mut sum, &other);
-    dst.copy_from_slice(&sum);
+    let sum = u8x16::from_slice(dst) ^ u8x16::from_slice(src);
+    sum.copy_to_slice(dst);
 }
 
 /// XORs `src` into `dst`, place by place. The caller shows that they have one length.
