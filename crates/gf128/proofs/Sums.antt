@@ -1,8 +1,7 @@
 -- The sum of one block more, and the text's padding.
-use Rattle.std.proofs.Common.{◌≡◌, ℕ, zero, suc, ◌+◌, ◌-◌, ◌*◌, ◌/◌, ◌%◌, ◌<◌, ◌≤◌, Bool, false, List}
-use Rattle.std.proofs.Common.{◌++◌, length, take, replicate, bit_xor, refl, sym, ap, ap₂, ◌∙◌, arith}
-use Rattle.std.proofs.lemmas.List.{take_all, length-append, length-replicate}
-use Rattle.octets.specs.Bytes.{block_at, pad16, IsBlock}
+use Rattle.std.proofs.Common.{◌≡◌, ℕ, zero, suc, ◌-◌, ◌*◌, ◌/◌, ◌<◌, ◌≤◌, Bool, false, List}
+use Rattle.std.proofs.Common.{◌++◌, length, bit_xor, refl, sym, ap, ap₂, ◌∙◌, arith}
+use Rattle.octets.specs.Bytes.{block_at, IsBlock}
 use Rattle.octets.specs.Bits.{g, bytes_of_g}
 use Rattle.octets.specs.Polynomial.{coefficient, plus, sum, product, power, sum_of_first, residue, Agree}
 use Rattle.octets.proofs.Residue.{residue_lower}

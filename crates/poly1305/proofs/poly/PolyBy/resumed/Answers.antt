@@ -1,10 +1,7 @@
-use Rattle.std.proofs.Common.{◌≡◌, ℕ, ◌*◌, ◌/◌, ◌%◌, ◌∙◌, ◌^◌, sym, ap, arith, length, take, drop, bit_and}
-use Rattle.std.proofs.Math.Nat.{mod-mod}
+use Rattle.std.proofs.Common.{◌≡◌, ℕ, ◌∙◌, sym, ap, arith, length, take, drop, bit_and}
 use Rattle.std.proofs.lemmas.List.{take_all, length-drop}
 use Rattle.octets.specs.Bytes.{le}
 use Rattle.octets.proofs.Numbers.{le_word}
-use Rattle.poly1305.specs.Poly1305.{prime, block_sum, r_of}
-use Rattle.poly1305.specs.Code.Residue.{pair}
 use Rattle.poly1305.proofs.Texts.{clamped, read_sum}
 use Rattle.poly1305.proofs.poly.PolyBy.resumed.Goals as goal
 
