@@ -66,28 +66,34 @@ static size_t next_of(const struct message *m, size_t done) {
     return next > m->length - done ? m->length - done : next;
 }
 
-/* A random text, sealed whole and in random pieces between which the struct is moved. */
-static void seal_in_pieces(long number) {
-    struct message m = message_of(number, 1 + (uint32_t)(random_word() % 4));
-    size_t length = m.length;
+/* Seals the text of a message in random pieces, between which the struct is moved, by a sealing that was begun. */
+static void sealed_in_pieces(struct aeadkit_sealer *sealer, const struct message *m, long number) {
+    size_t length = m->length;
     uint8_t tag[16];
     memcpy(pieces, text, length);
-    struct aeadkit_sealer sealer, moved;
+    for (size_t done = 0; done < length;) {
+        size_t next = next_of(m, done);
+        struct aeadkit_sealer moved = *sealer;
+        memset(sealer, 0x5a, sizeof *sealer);
+        *sealer = moved;
+        want(aeadkit_sealer_update(sealer, pieces + done, next) == AEADKIT_DONE, "update", number);
+        done += next;
+    }
+    want(aeadkit_sealer_finish(sealer, tag) == AEADKIT_DONE, "finish", number);
+    want(!memcmp(whole, pieces, length) && !memcmp(whole + length, tag, 16), "another sealing", number);
+    want(all((uint8_t *)sealer, sizeof *sealer, 0), "not zeros after finish", number);
+}
+
+/* A random text, sealed whole and in pieces. */
+static void seal_in_pieces(long number) {
+    struct message m = message_of(number, 1 + (uint32_t)(random_word() % 4));
+    uint8_t tag[16], kept[16];
+    struct aeadkit_sealer sealer;
     random_bytes((uint8_t *)&sealer, sizeof sealer);
     want(aeadkit_sealer_init(&sealer, m.suite, m.key, m.key_length, m.nonce, 12, m.aad, m.aad_length) == AEADKIT_DONE, "init",
          number);
-    for (size_t done = 0; done < length;) {
-        size_t next = next_of(&m, done);
-        moved = sealer;
-        memset(&sealer, 0x5a, sizeof sealer);
-        sealer = moved;
-        want(aeadkit_sealer_update(&sealer, pieces + done, next) == AEADKIT_DONE, "update", number);
-        done += next;
-    }
-    want(aeadkit_sealer_finish(&sealer, tag) == AEADKIT_DONE, "finish", number);
-    want(!memcmp(whole, pieces, length) && !memcmp(whole + length, tag, 16), "another sealing", number);
-    want(all((uint8_t *)&sealer, sizeof sealer, 0), "not zeros after finish", number);
-    uint8_t kept[16];
+    sealed_in_pieces(&sealer, &m, number);
+    random_bytes(tag, 16);
     memcpy(kept, tag, 16);
     want(aeadkit_sealer_finish(&sealer, tag) == AEADKIT_NOT_BEGUN, "finished twice", number);
     want(aeadkit_sealer_update(&sealer, tag, 16) == AEADKIT_NOT_BEGUN, "updated after finish", number);
@@ -379,7 +385,28 @@ static void refusals(void) {
     }
 }
 
-/* A kept key seals and opens a message as its bytes do, and no call writes it. */
+/* A sealing of a message begins under a kept key as under its bytes, or is refused under the suites 5 and 6. */
+static void begun_by_a_kept_key(const struct aeadkit_key *kept, const struct message *m, long number) {
+    struct { uint8_t before[16]; struct aeadkit_sealer sealer; uint8_t after[16]; } held;
+    struct aeadkit_sealer *sealer = &held.sealer;
+    memset(&held, 0xa5, sizeof held);
+    random_bytes((uint8_t *)sealer, sizeof *sealer);
+    uint32_t status = aeadkit_sealer_init_with(sealer, kept, m->nonce, 12, m->aad, m->aad_length);
+    if (m->suite > 4) {
+        want(status == AEADKIT_UNKNOWN_SUITE, "a suite of two readings", number);
+        want(all((uint8_t *)sealer, sizeof *sealer, 0), "not zeros after a suite of two readings", number);
+    } else {
+        want(status == AEADKIT_DONE, "sealer_init_with", number);
+        sealed_in_pieces(sealer, m, number);
+        random_bytes((uint8_t *)sealer, sizeof *sealer);
+        want(aeadkit_sealer_init_with(sealer, kept, m->nonce, 11, NULL, 0) == AEADKIT_NONCE_LENGTH,
+             "begun with a nonce of 11 bytes", number);
+        want(all((uint8_t *)sealer, sizeof *sealer, 0), "not zeros after a nonce of 11 bytes", number);
+    }
+    want(all(held.before, 16, 0xa5) && all(held.after, 16, 0xa5), "written beside a sealer", number);
+}
+
+/* A kept key seals, begins and opens a message as its bytes do, and no call writes it. */
 static void by_a_kept_key(long number) {
     struct message m = message_of(number, 1 + (uint32_t)(number % 6));
     struct { uint8_t before[16]; struct aeadkit_key kept; uint8_t after[16]; } held;
@@ -387,6 +414,7 @@ static void by_a_kept_key(long number) {
     random_bytes((uint8_t *)&held.kept, sizeof held.kept);
     want(aeadkit_key_init(&held.kept, m.suite, m.key, m.key_length) == AEADKIT_DONE, "key_init", number);
     struct aeadkit_key kept = held.kept;
+    begun_by_a_kept_key(&held.kept, &m, number);
     memcpy(pieces, text, m.length);
     want(aeadkit_seal_with(&held.kept, m.nonce, 12, m.aad, m.aad_length, pieces, m.length + 16) == AEADKIT_DONE, "seal_with",
          number);
@@ -427,6 +455,37 @@ static void kept_key_rubbish(long number) {
     want(aeadkit_seal_with(&kept, nonce, 12, NULL, 0, bytes, 64) == AEADKIT_DONE, "sealed by a spoilt key", number);
 }
 
+/* Such structs begin a sealing or are refused. Nothing but the sealer is written, which is zeros after a refusal. */
+static void kept_key_rubbish_begins(long number, const uint64_t marks[6]) {
+    struct {
+        uint8_t before[64];
+        struct aeadkit_sealer sealer;
+        uint8_t between[64];
+        struct aeadkit_key kept;
+        uint8_t after[64];
+    } held;
+    uint8_t nonce[13], aad[70], tag[16];
+    memset(&held, 0xa5, sizeof held);
+    random_bytes((uint8_t *)&held.sealer, sizeof held.sealer);
+    random_bytes((uint8_t *)&held.kept, sizeof held.kept);
+    random_bytes(nonce, sizeof nonce);
+    random_bytes(aad, sizeof aad);
+    if (number % 4) held.kept.private_[0] = marks[number % 6];
+    struct aeadkit_key was = held.kept;
+    size_t nonce_length = number % 5 ? 12 : 11 + 2 * (size_t)(number % 2);
+    uint32_t status = aeadkit_sealer_init_with(&held.sealer, &held.kept, nonce, nonce_length, aad, random_word() % 70);
+    want(status == (number % 4 == 0 ? AEADKIT_NOT_BEGUN : number % 6 > 3 ? AEADKIT_UNKNOWN_SUITE
+                    : number % 5 ? AEADKIT_DONE : AEADKIT_NONCE_LENGTH), "a status of sealer_init_with", number);
+    if (status == AEADKIT_DONE) {
+        want(aeadkit_sealer_update(&held.sealer, aad, 70) == AEADKIT_DONE, "updated by a spoilt key", number);
+        want(aeadkit_sealer_finish(&held.sealer, tag) == AEADKIT_DONE, "finished by a spoilt key", number);
+    }
+    want(all((uint8_t *)&held.sealer, sizeof held.sealer, 0), "the sealer of a spoilt key", number);
+    want(!memcmp(&was, &held.kept, sizeof was), "a spoilt key was written", number);
+    want(all(held.before, 64, 0xa5) && all(held.between, 64, 0xa5) && all(held.after, 64, 0xa5),
+         "written beside the structs", number);
+}
+
 int main(int count, char **words) {
     long splits = count > 1 ? atol(words[1]) : 100000, structs = count > 2 ? atol(words[2]) : 1000000;
     want(aeadkit_sealer_size() == sizeof(struct aeadkit_sealer), "the size of the sealer", 0);
@@ -438,6 +497,8 @@ int main(int count, char **words) {
     struct aeadkit_opener opener_marks[2][6];
     struct aeadkit_siv siv_marks[2][2];
     static const size_t key_lengths[6] = {32, 16, 24, 32, 16, 32};
+    struct aeadkit_key kept;
+    uint64_t key_marks[6];
     uint8_t zeros[32] = {0}, tag[16];
     for (uint32_t i = 0; i < 4; i++) {
         want(aeadkit_sealer_init(&marks[i], i + 1, zeros, key_lengths[i], zeros, 12, NULL, 0) == AEADKIT_DONE, "init", i);
@@ -451,6 +512,8 @@ int main(int count, char **words) {
              i);
         *second = *first;
         want(aeadkit_opener_checked(second) == AEADKIT_DONE, "checked", i);
+        want(aeadkit_key_init(&kept, i + 1, zeros, key_lengths[i]) == AEADKIT_DONE, "key_init", i);
+        key_marks[i] = kept.private_[0];
     }
     for (uint32_t i = 0; i < 2; i++) {
         struct aeadkit_siv *first = &siv_marks[0][i], *second = &siv_marks[1][i];
@@ -469,6 +532,7 @@ int main(int count, char **words) {
         opener_rubbish(i, (const struct aeadkit_opener(*)[6])opener_marks);
         siv_rubbish(i, (const struct aeadkit_siv(*)[2])siv_marks);
         kept_key_rubbish(i);
+        kept_key_rubbish_begins(i, key_marks);
     }
     printf("pieces: %ld texts in pieces each way, %ld structs of random bytes of each kind: nothing differs\n", splits,
            structs);

@@ -39,6 +39,9 @@ export class Key {
 
     /** The text of a sealing. */
     open(nonce: Uint8Array, aad: Uint8Array, sealed: Uint8Array): Uint8Array;
+
+    /** Begins a sealing in pieces, of no text yet. `UnknownSuite` for AES-GCM-SIV, which reads a text twice. */
+    sealer(nonce: Uint8Array, aad: Uint8Array): Sealer;
 }
 
 /**

@@ -139,6 +139,22 @@ export class Aead {
     }
 }
 
+// A sealing in pieces that a call of a module began, with its struct.
+class Begun {
+    #module;
+    #state;
+
+    constructor(module, name, ...words) {
+        this.#module = module;
+        this.#state = new Struct(Number(module.calls.aeadkit_sealer_size()));
+        this.call(name, ...words);
+    }
+
+    call(name, ...words) {
+        return this.#module.call(name, this.#state, ...words);
+    }
+}
+
 /** A key that is kept between messages: its schedule is made once. */
 export class Key {
     #module;
@@ -166,6 +182,12 @@ export class Key {
         wantBytes(nonce, aad, sealed);
         return this.#module.call("aeadkit_open_with", this.#state, nonce, aad, sealed).at(-1).slice(0, -TAG_BYTES);
     }
+
+    /** Begins a sealing in pieces, of no text yet. `UnknownSuite` for AES-GCM-SIV, which reads a text twice. */
+    sealer(nonce, aad) {
+        wantBytes(nonce, aad);
+        return new Sealer(new Begun(this.#module, "aeadkit_sealer_init_with", this.#state, nonce, aad));
+    }
 }
 
 /**
@@ -173,27 +195,29 @@ export class Key {
  * the whole text, for any split into pieces.
  */
 export class Sealer {
-    #module;
-    #state;
+    #begun;
 
     /** Begins a sealing by the calls of an `Aead`, of no text yet. `UnknownSuite` for AES-GCM-SIV, which reads a text twice. */
     constructor(aead, suite, key, nonce, aad) {
+        // what a Key began
+        if (aead instanceof Begun) {
+            this.#begun = aead;
+            return;
+        }
         wantNumber(suite);
         wantBytes(key, nonce, aad);
-        this.#module = moduleOf(aead);
-        this.#state = new Struct(Number(this.#module.calls.aeadkit_sealer_size()));
-        this.#module.call("aeadkit_sealer_init", this.#state, suite, key, nonce, aad);
+        this.#begun = new Begun(moduleOf(aead), "aeadkit_sealer_init", suite, key, nonce, aad);
     }
 
     /** The ciphertext of the next piece of the text, which may have any length. */
     update(piece) {
         wantBytes(piece);
-        return this.#module.call("aeadkit_sealer_update", this.#state, piece).at(-1).slice();
+        return this.#begun.call("aeadkit_sealer_update", piece).at(-1).slice();
     }
 
     /** The tag of the text, of 16 bytes. After it the sealer takes no more: `NotBegun`. */
     finish() {
-        return this.#module.call("aeadkit_sealer_finish", this.#state, new Struct(TAG_BYTES)).at(-1).slice();
+        return this.#begun.call("aeadkit_sealer_finish", new Struct(TAG_BYTES)).at(-1).slice();
     }
 }
 

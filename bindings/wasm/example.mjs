@@ -60,12 +60,14 @@ const aad = bytes("64617461");
 for (const [name, length] of [["CHACHA20_POLY1305", 32], ["AES_128_GCM", 16], ["AES_192_GCM", 24], ["AES_256_GCM", 32]]) {
     const words = [Suite[name], new Uint8Array(length).fill(7), nonce, aad];
     const whole = aead.seal(...words, text);
+    const kept = new Key(aead, words[0], words[1]);
     for (const size of [1, 15, 16, 17, 333, 1000]) {
-        const sealer = new Sealer(aead, ...words);
-        const ciphertext = split(text, size).flatMap((piece) => [sealer.update(piece), sealer.update(none)]);
-        assert.deepEqual(joined([...ciphertext, sealer.finish()]), whole);
-        refuses("NotBegun", () => sealer.update(none));
-        refuses("NotBegun", () => sealer.finish());
+        for (const sealer of [new Sealer(aead, ...words), kept.sealer(nonce, aad)]) {
+            const ciphertext = split(text, size).flatMap((piece) => [sealer.update(piece), sealer.update(none)]);
+            assert.deepEqual(joined([...ciphertext, sealer.finish()]), whole);
+            refuses("NotBegun", () => sealer.update(none));
+            refuses("NotBegun", () => sealer.finish());
+        }
     }
 }
 // Under every suite a sealing is opened in two passes, which are cut into other pieces.
@@ -101,6 +103,9 @@ assert.deepEqual(one.update(zero), other.update(zero));
 assert.equal(hex(one.finish()), "ab6e47d42cec13bdf53a67b21257bddf");
 assert.deepEqual(other.finish(), aead.seal(Suite.AES_128_GCM, zero, nonce, aad, zero).subarray(16));
 refuses("UnknownSuite", () => new Sealer(aead, Suite.AES_128_GCM_SIV, zero, nonce, none));
+refuses("UnknownSuite", () => new Key(aead, Suite.AES_128_GCM_SIV, zero).sealer(nonce, none));
+refuses("NonceLength", () => kept.sealer(zero, none));
+assert.throws(() => kept.sealer(nonce), TypeError);
 refuses("KeyLength", () => new Opener(aead, Suite.AES_256_GCM_SIV, zero, nonce, none, zero));
 refuses("NonceLength", () => new Sealer(aead, Suite.AES_128_GCM, zero, zero, none));
 assert.throws(() => new Opener(aead, Suite.AES_128_GCM, zero, nonce, none, none), RangeError);

@@ -152,6 +152,7 @@ _siv_finish = _declared("aeadkit_siv_finish", ctypes.c_void_p)
 _key_init = _declared("aeadkit_key_init", ctypes.c_void_p, ctypes.c_uint32, *_given)
 _seal_with = _declared("aeadkit_seal_with", ctypes.c_void_p, *_given, *_given, *_room)
 _open_with = _declared("aeadkit_open_with", ctypes.c_void_p, *_given, *_given, *_room)
+_sealer_init_with = _declared("aeadkit_sealer_init_with", ctypes.c_void_p, ctypes.c_void_p, *_given, *_given)
 
 
 def _words(size):
@@ -244,6 +245,14 @@ class Key:
         text = _run(_open_with, self._place, (nonce, b"" if aad is None else aad), 0, sealed, 0)
         del text[-_TAG_BYTES:]
         return text
+
+    def sealer(self, nonce: Buffer, aad: Optional[Buffer] = None) -> "Sealer":
+        """A sealing in pieces, of no text yet. UnknownSuite for AES-GCM-SIV, which reads a text twice."""
+        sealer = Sealer.__new__(Sealer)
+        sealer._state = _State()
+        given = _slices(nonce, b"" if aad is None else aad)
+        _done(_sealer_init_with(ctypes.addressof(sealer._state), *self._place, *given))
+        return sealer
 
 
 class Sealer:

@@ -63,12 +63,14 @@ refused(aeadkit.UnknownSuite, aeadkit.open, 2**32 + 1, KEY, NONCE, AAD, sealed)
 text = bytes(range(250)) * 4
 for suite in list(Suite)[:4]:
     key = bytes(suite.key_bytes)
+    kept = aeadkit.Key(suite, key)
     for size in (1, 15, 16, 17, 333, 1000):
-        sealer = aeadkit.Sealer(suite, key, bytes(12), b"data")
-        made = b"".join(sealer.update(text[i : i + size]) + sealer.update(b"") for i in range(0, len(text), size))
-        assert made + sealer.finish() == aeadkit.seal(suite, key, bytes(12), b"data", text)
-        refused(aeadkit.NotBegun, sealer.update, b"")
-        refused(aeadkit.NotBegun, sealer.finish)
+        for sealer in (aeadkit.Sealer(suite, key, bytes(12), b"data"), kept.sealer(bytes(12), b"data")):
+            made = b"".join(sealer.update(text[i : i + size]) + sealer.update(b"") for i in range(0, len(text), size))
+            assert made + sealer.finish() == aeadkit.seal(suite, key, bytes(12), b"data", text)
+            refused(aeadkit.NotBegun, sealer.update, b"")
+            refused(aeadkit.NotBegun, sealer.finish)
+    refused(aeadkit.NonceLength, kept.sealer, bytes(11))
 # and under every suite it is opened in two passes, cut into other pieces
 for suite in Suite:
     key = bytes(suite.key_bytes)
@@ -131,6 +133,7 @@ with tempfile.TemporaryFile() as plain, tempfile.TemporaryFile() as sealed_file:
     assert aeadkit.open(Suite.CHACHA20_POLY1305, KEY, NONCE, AAD, sealed_file.read()) == text * 500
 
 refused(aeadkit.UnknownSuite, aeadkit.Sealer, Suite.AES_128_GCM_SIV, bytes(16), bytes(12))
+refused(aeadkit.UnknownSuite, aeadkit.Key(Suite.AES_128_GCM_SIV, bytes(16)).sealer, bytes(12))
 refused(aeadkit.NonceLength, aeadkit.Sealer, Suite.AES_128_GCM, bytes(16), bytes(11))
 
 # RFC 3394, 4.1

@@ -50,21 +50,24 @@ fn pieces() -> Result<(), Fault> {
     let text: Vec<u8> = (0..1000).map(|i| i as u8).collect();
     for suite in [ChaCha20Poly1305, Aes128Gcm, Aes192Gcm, Aes256Gcm] {
         let key = &[7; 32][..suite.key_bytes()];
+        let kept = Key::new(suite, key)?;
         let mut whole = text.clone();
         whole.resize(text.len() + TAG_BYTES, 0);
         seal(suite, key, &[9; 12], b"data", &mut whole)?;
         for size in [1, 15, 16, 17, 333, 1000] {
-            let mut sealed = text.clone();
-            let mut sealer = Sealer::new(suite, key, &[9; 12], b"data")?;
-            for piece in sealed.chunks_mut(size) {
-                sealer.update(piece)?;
-                sealer.update(&mut [])?;
+            for mut sealer in [Sealer::new(suite, key, &[9; 12], b"data")?, kept.sealer(&[9; 12], b"data")?] {
+                let mut sealed = text.clone();
+                for piece in sealed.chunks_mut(size) {
+                    sealer.update(piece)?;
+                    sealer.update(&mut [])?;
+                }
+                sealed.extend(sealer.finish());
+                assert_eq!(sealed, whole);
             }
-            sealed.extend(sealer.finish());
-            assert_eq!(sealed, whole);
         }
     }
     assert_eq!(Sealer::new(Aes128GcmSiv, &[0; 16], &[0; 12], b"").err(), Some(Fault::UnknownSuite));
+    assert_eq!(Key::new(Aes128GcmSiv, &[0; 16])?.sealer(&[0; 12], b"").err(), Some(Fault::UnknownSuite));
     Ok(())
 }
 

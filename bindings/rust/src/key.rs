@@ -1,6 +1,6 @@
 #![forbid(unsafe_code)]
 
-use crate::{Fault, NONCE_BYTES, Suite, TAG_BYTES, outcome, raw};
+use crate::{Fault, NONCE_BYTES, Sealer, Suite, TAG_BYTES, outcome, raw};
 use std::fmt;
 
 /// A suite with a key of its length, whose key schedule is made once. Threads may share it. Never seal two texts with one
@@ -39,6 +39,11 @@ impl Key {
         outcome(raw::open_with(&self.kept, nonce, aad, bytes))?;
         let length = bytes.len() - TAG_BYTES;
         Ok(&mut bytes[..length])
+    }
+
+    /// Begins a sealing in pieces, of no text yet. `UnknownSuite` under AES-GCM-SIV, which reads a text twice.
+    pub fn sealer(&self, nonce: &[u8; NONCE_BYTES], aad: &[u8]) -> Result<Sealer, Fault> {
+        Sealer::under(&self.kept, nonce, aad)
     }
 }
 

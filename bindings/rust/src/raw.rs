@@ -42,6 +42,9 @@ unsafe extern "C" {
     #[rustfmt::skip]
     fn aeadkit_open_with(kept: *const Key, nonce: *const u8, nonce_length: usize, aad: *const u8, aad_length: usize,
                          bytes: *mut u8, bytes_length: usize) -> u32;
+    #[rustfmt::skip]
+    fn aeadkit_sealer_init_with(sealer: *mut Sealer, kept: *const Key, nonce: *const u8, nonce_length: usize,
+                                aad: *const u8, aad_length: usize) -> u32;
 }
 
 /// `struct aeadkit_sealer` of the header. It isn't copied: two copies would seal two texts with one nonce.
@@ -162,6 +165,11 @@ pub fn open_with(kept: &Key, nonce: &[u8], aad: &[u8], bytes: &mut [u8]) -> u32 
     let (n, a, room) = (nonce.as_ptr(), aad.as_ptr(), bytes.as_mut_ptr());
     // SAFETY: as of `seal_with`.
     unsafe { aeadkit_open_with(kept, n, nonce.len(), a, aad.len(), room, bytes.len()) }
+}
+
+pub fn sealer_init_with(sealer: &mut Sealer, kept: &Key, nonce: &[u8], aad: &[u8]) -> u32 {
+    // SAFETY: as of `sealer_init` and of `seal_with`.
+    unsafe { aeadkit_sealer_init_with(sealer, kept, nonce.as_ptr(), nonce.len(), aad.as_ptr(), aad.len()) }
 }
 
 pub fn seal(suite: u32, key: &[u8], nonce: &[u8], aad: &[u8], bytes: &mut [u8]) -> u32 {

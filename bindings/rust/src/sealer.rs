@@ -18,6 +18,13 @@ impl Sealer {
         Ok(Sealer { state })
     }
 
+    /// Begins a sealing under a key that is kept.
+    pub(crate) fn under(kept: &raw::Key, nonce: &[u8; NONCE_BYTES], aad: &[u8]) -> Result<Sealer, Fault> {
+        let mut state = raw::Sealer::default();
+        outcome(raw::sealer_init_with(&mut state, kept, nonce, aad))?;
+        Ok(Sealer { state })
+    }
+
     /// Adds a piece of any length to the text; it becomes its ciphertext. After `TextTooLong` nothing was changed, and a
     /// shorter piece may follow.
     pub fn update(&mut self, piece: &mut [u8]) -> Result<(), Fault> {

@@ -1,16 +1,17 @@
 // A key that is kept at C between messages: what is made of it alone is made once.
 
-ghost use Rattle.std.specs.Prelude.{◌≡◌, ◌≢◌, ℕ, List, length, MatchResult};
+ghost use Rattle.std.specs.Prelude.{◌≡◌, ◌≢◌, ℕ, List, [], length, true, false, MatchResult};
 ghost use Rattle.octets.specs.Numbers.{HasOutcome};
 ghost use Rattle.aead.specs.declared.suite.Suite.{Suite};
-ghost use Rattle.aead.specs.Suites.{key_length};
+ghost use Rattle.aead.specs.Suites.{construction_of, is_one_pass, key_length};
 ghost use Rattle.aead.specs.Exports.{suite_number, unknown_suite, setting_of, key_mark, first_key};
 ghost use Rattle.aead.specs.Exports.{WasSealed, WasNotSealed, WasOpened, WasNotOpened};
-ghost use Rattle.aead.specs.Stored.{not_begun};
+ghost use Rattle.aead.specs.Stored.{zeros, not_begun, BeginRefused, HoldsBytes, HoldsText};
 ghost use Rattle.aead.specs.StoredKey.{KeepsKey, KeepsNone, KeyRefused};
 
-use super::pass::{mark_of, marked};
-use super::sealer::NOT_BEGUN;
+use super::pass::{is_chacha, is_siv, mark_of, marked};
+use super::sealer::{NOT_BEGUN, begun_chacha, begun_gcm};
+use super::stored::StoredSealer;
 use super::stored_key::StoredKey;
 use super::{UNKNOWN_SUITE, open_under, seal_under, suite_numbered};
 use crate::chacha_poly::ChaChaPoly;
@@ -18,7 +19,7 @@ use crate::derived_keys::expanded;
 use crate::gcm::Gcm;
 use crate::gcm_siv::GcmSiv;
 use crate::suite::Suite;
-use octets::{Block, Fault, Key32, outcome_number};
+use octets::{Block, Fault, Key32, Nonce, outcome_number};
 
 // The kind of struct, to which its mark adds the suite's number: `cipher` in ASCII, and the version of its layout.
 const KEY: u64 = 0x6369_7068_6572_0100;
@@ -95,6 +96,28 @@ fn open_kept(
     }
 }
 
+// The numbers of the empty text under a kept key and the bytes of a nonce.
+fn begun_kept(
+    kept: &StoredKey,
+    suite: Suite,
+    nonce: &[u8],
+    aad: &[u8],
+) -> Result<StoredSealer, Fault>
+    requires marked { kept.now.mark ≡ key_mark suite }
+    requires one_pass { is_one_pass (construction_of suite) ≡ true }
+    ensures { let s = setting_of suite (first_key suite kept.now.key) nonce.now aad.now in
+        MatchResult result (λ p. HoldsBytes p s []) (BeginRefused s) }
+{
+    let nonce = Nonce::from_slice(nonce)?;
+    suite.check_aad(aad)?;
+    if is_chacha(suite) {
+        return Ok(begun_chacha(suite, &Key32::new(kept.key), &nonce, aad));
+    }
+    let key = &kept.key[..suite.key_length()];
+    let ghash_key = Block::new(kept.ghash_key);
+    Ok(begun_gcm(suite, key, &kept.aes(suite), &ghash_key, &nonce, aad))
+}
+
 /// Keeps a key of a suite. What the struct was before makes no difference. `UNKNOWN_SUITE`, then `KeyLength`:
 /// both leave a struct that keeps no key.
 #[unsafe(no_mangle)]
@@ -155,6 +178,34 @@ pub extern "C" fn aeadkit_open_with(
     }
 }
 
+/// Begins a sealing in pieces under a kept key, as `aeadkit_sealer_init` does under its bytes. `NOT_BEGUN` if the
+/// struct keeps no key, then `UNKNOWN_SUITE` if its suite reads a text twice. What the sealer was before makes no
+/// difference. A refusal leaves zeros in it.
+#[unsafe(no_mangle)]
+pub extern "C" fn aeadkit_sealer_init_with(
+    sealer: &mut StoredSealer,
+    kept: &StoredKey,
+    nonce: &[u8],
+    aad: &[u8],
+) -> u32
+    ensures keeps { (suite : Suite) (key : List ℕ) → KeepsKey kept.now suite key
+        → is_one_pass (construction_of suite) ≡ true → let s = setting_of suite key nonce.now aad.now in
+        HasOutcome result (HoldsText sealer.new s []) (BeginRefused s) }
+    ensures two_readings { (suite : Suite) (key : List ℕ) → KeepsKey kept.now suite key
+        → is_one_pass (construction_of suite) ≡ false → result ≡ unknown_suite }
+    ensures not_begun { KeepsNone kept.now → result ≡ not_begun }
+    ensures refused { result ≢ 0 → sealer.new ≡ zeros }
+{
+    sealer.erase();
+    let Some(suite) = marked(KEY, kept.mark) else {
+        return NOT_BEGUN;
+    };
+    if is_siv(suite) {
+        return UNKNOWN_SUITE;
+    }
+    sealer.begin(begun_kept(kept, suite, nonce, aad))
+}
+
 /// The bytes of a struct that keeps a key.
 #[unsafe(no_mangle)]
 pub extern "C" fn aeadkit_key_size() -> usize
@@ -165,6 +216,7 @@ pub extern "C" fn aeadkit_key_size() -> usize
 
 #[cfg(test)]
 mod tests {
+    use super::super::sealer::{aeadkit_sealer_finish, aeadkit_sealer_init, aeadkit_sealer_update};
     use super::super::{aeadkit_open, aeadkit_seal};
     use super::*;
 
@@ -186,6 +238,32 @@ mod tests {
     fn a_kept_key_serves_as_its_bytes(rt: HostRuntime) {
         for (suite, size) in [(1, 32), (2, 16), (3, 24), (4, 32), (5, 16), (6, 32)] {
             assert!(rt; serves(suite, &[7; 32][..size]), "{suite}");
+        }
+    }
+
+    // The status of sealing sixty-four bytes in one piece, with the ciphertext and the tag.
+    fn sealed(sealer: &mut StoredSealer) -> (u32, [u8; 64], [u8; 16]) {
+        let mut text = [1; 64];
+        let mut tag = [0; 16];
+        let updated = aeadkit_sealer_update(sealer, &mut text);
+        let finished = aeadkit_sealer_finish(sealer, &mut tag);
+        (updated | finished, text, tag)
+    }
+
+    #[test]
+    fn a_kept_key_begins_a_sealing_as_its_bytes(rt: HostRuntime) {
+        for (suite, size) in [(1, 32), (2, 16), (3, 24), (4, 32)] {
+            let key = &[7; 32][..size];
+            let mut kept = StoredKey::zeros();
+            let mut by_key = StoredSealer::zeros();
+            let mut by_kept = StoredSealer::zeros();
+            assert!(rt; aeadkit_key_init(&mut kept, suite, key) == 0);
+            assert!(rt; aeadkit_sealer_init(&mut by_key, suite, key, &[9; 12], b"to") == 0);
+            assert!(rt; aeadkit_sealer_init_with(&mut by_kept, &kept, &[9; 12], b"to") == 0);
+            let wanted = sealed(&mut by_key);
+            let by_kept = sealed(&mut by_kept);
+            assert!(rt; wanted.0 == 0 && by_kept.0 == 0, "{suite}");
+            assert!(rt; by_kept.1 == wanted.1 && by_kept.2 == wanted.2, "{suite}");
         }
     }
 

@@ -3,8 +3,8 @@
 ghost use Rattle.std.specs.Prelude.{◌≡◌, ◌≢◌, ◌≤◌, ◌++◌, ℕ, List, [], length, true, MatchResult};
 ghost use Rattle.octets.specs.Numbers.{HasOutcome};
 ghost use Rattle.aead.specs.declared.suite.Suite.{Suite};
-ghost use Rattle.aead.specs.Suites.{construction_of, is_one_pass, key_length, aad_limit};
-ghost use Rattle.aead.specs.Sealing.{Setting, tag_of};
+ghost use Rattle.aead.specs.Suites.{ByChaCha, ByGcm, construction_of, is_one_pass, key_length, aad_limit};
+ghost use Rattle.aead.specs.Sealing.{Setting, hash_key, tag_of};
 ghost use Rattle.aead.specs.Exports.{suite_number, unknown_suite, setting_of};
 ghost use Rattle.aead.specs.Stored.{zeros, NotBegun, not_begun, BeginRefused};
 ghost use Rattle.aead.specs.Stored.{cipher_key, HoldsBy, HoldsBytes, HoldsText, Updates};
@@ -58,6 +58,37 @@ pub(super) fn begun_by<H: StoredHash>(
     keys.storing(&Authenticator::new(hash, aad))
 }
 
+// The numbers of the empty text under ChaCha20-Poly1305.
+pub(super) fn begun_chacha(suite: Suite, key: &Key32, nonce: &Nonce, aad: &[u8]) -> StoredSealer
+    requires by { construction_of suite ≡ ByChaCha }
+    requires fits { length aad.now ≤ aad_limit suite }
+    ensures { HoldsBytes result (setting_of suite key.now nonce.now aad.now) [] }
+{
+    let one_time = first_half(&block(key, 0, nonce));
+    begun_by::<Poly>(suite, key.bytes(), nonce, one_time, aad)
+}
+
+// The numbers of the empty text under AES-GCM, by the expanded key and the key of GHASH.
+pub(super) fn begun_gcm(
+    suite: Suite,
+    key: &[u8],
+    cipher: &AesKey,
+    ghash_key: &Block,
+    nonce: &Nonce,
+    aad: &[u8],
+) -> StoredSealer
+    requires by { construction_of suite ≡ ByGcm }
+    requires long { length key.now ≡ key_length suite }
+    requires cipher_is { cipher.now ≡ key.now }
+    requires hash_key_is { ghash_key.now ≡ hash_key key.now }
+    requires fits { length aad.now ≤ aad_limit suite }
+    ensures { HoldsBytes result (setting_of suite key.now nonce.now aad.now) [] }
+{
+    let tag_mask = cipher.encrypt(&counter_block(nonce, 1));
+    let keys = joined_blocks(ghash_key.bytes(), tag_mask.bytes());
+    begun_by::<GhashTag<PlacedMul>>(suite, key, nonce, keys, aad)
+}
+
 // The numbers of the empty text under the bytes of a key and a nonce.
 pub(super) fn begun(
     suite: Suite,
@@ -75,15 +106,30 @@ pub(super) fn begun(
     let nonce = Nonce::from_slice(nonce)?;
     suite.check_aad(aad)?;
     if is_chacha(suite) {
-        let cipher = Key32::from_slice(key)?;
-        let one_time = first_half(&block(&cipher, 0, &nonce));
-        return Ok(begun_by::<Poly>(suite, key, &nonce, one_time, aad));
+        let key = Key32::from_slice(key)?;
+        return Ok(begun_chacha(suite, &key, &nonce, aad));
     }
     let cipher = AesKey::from_slice(key)?;
-    let hash_key = cipher.encrypt(&Block::new([0; 16]));
-    let tag_mask = cipher.encrypt(&counter_block(&nonce, 1));
-    let keys = joined_blocks(hash_key.bytes(), tag_mask.bytes());
-    Ok(begun_by::<GhashTag<PlacedMul>>(suite, key, &nonce, keys, aad))
+    let ghash_key = cipher.encrypt(&Block::new([0; 16]));
+    Ok(begun_gcm(suite, key, &cipher, &ghash_key, &nonce, aad))
+}
+
+impl StoredSealer {
+    // Becomes what was begun, or stays zeros if that was refused. Returns the status.
+    pub(super) fn begin(&mut self, begun: Result<StoredSealer, Fault>) -> u32
+        requires { self.old ≡ zeros }
+        ensures begins { (s : Setting) → MatchResult begun (λ p. HoldsBytes p s []) (BeginRefused s)
+            → HasOutcome result (HoldsText self.new s []) (BeginRefused s) }
+        ensures refused { result ≢ 0 → self.new ≡ zeros }
+    {
+        match begun {
+            Ok(stored) => {
+                *self = stored;
+                outcome_number(Ok(()))
+            }
+            Err(fault) => outcome_number(Err(fault)),
+        }
+    }
 }
 
 /// Begins a sealing in pieces, of no text yet. What the struct was before makes no difference.
@@ -106,13 +152,7 @@ pub extern "C" fn aeadkit_sealer_init(
     let Some(suite) = one_pass_numbered(u64::from(suite)) else {
         return UNKNOWN_SUITE;
     };
-    match begun(suite, key, nonce, aad) {
-        Ok(stored) => {
-            *sealer = stored;
-            outcome_number(Ok(()))
-        }
-        Err(fault) => outcome_number(Err(fault)),
-    }
+    sealer.begin(begun(suite, key, nonce, aad))
 }
 
 // ---- update
