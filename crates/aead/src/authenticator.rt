@@ -30,7 +30,7 @@ impl<H: TagHash> Authenticator<H> {
         }
     }
 
-    // Takes in the associated data, before all else. What takes in bytes stays where it is: to move it is to copy it.
+    // Takes in the associated data, before all else. The state is not moved afterwards, since a move would copy it.
     #[inline(always)]
     pub(crate) fn begin(&mut self, aad: &[u8])
         requires { self.old.length ≡ 0 }

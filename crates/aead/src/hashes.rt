@@ -33,7 +33,8 @@ pub(crate) trait TagHash: Drop {
     fn pad(&mut self)
         ensures { (s : Setting) (m : List ℕ) → held self.old s m → held self.new s (pad16 m) };
 
-    // The tag of padded associated data and the bytes after it, padded: their lengths are taken in last.
+    // The tag of padded associated data and the bytes after it, padded: their lengths are taken in last. The hash is
+    // of no use after it.
     fn tag_with_lengths(&mut self, aad_length: u64, bytes_length: u64) -> Tag
         ensures { (s : Setting) (m : List ℕ) → held self.old s (pad16 (pad16 s.aad ++ m)) → Fits s m
             → aad_length ≡ length s.aad

@@ -49,7 +49,8 @@ pub(crate) fn authenticator<N: Nonced>(nonced: &N, aad: &[u8]) -> Authenticator<
     begun
 }
 
-// The authenticator of a message before its associated data is taken in.
+// The authenticator of a message before its associated data is taken in: the caller takes that in where the
+// authenticator stays.
 #[inline(always)]
 pub(crate) fn blank_authenticator<N: Nonced>(nonced: &N) -> Authenticator<N::Hash>
     ensures hash { (aad : List ℕ)
