@@ -39,9 +39,12 @@ impl<H: TagHash> Authenticator<H> {
             → HoldsAuthenticator H.held self.new s [] }
         ensures none { self.new.length ≡ 0 }
     {
+        self.aad_length = aad.len() as u64;
+        if aad.is_empty() {
+            return;
+        }
         self.hash.take_in(aad);
         self.hash.pad();
-        self.aad_length = aad.len() as u64;
     }
 
     // One that has taken in the associated data.

@@ -338,6 +338,10 @@ impl<C: Count> Counter<C> {
         requires { self.old.used ≡ 0 }
         ensures { AdvancesFront C.up key.now self.old self.new bytes.old bytes.new result }
     {
+        // A short text makes no call: `apply_fours` would take none of it.
+        if bytes.len() <= 48 {
+            return 0;
+        }
         if bytes.len() < PLANES_PAY {
             return self.apply_fours(key, bytes);
         }

@@ -1,6 +1,6 @@
 use Rattle.std.proofs.Common.{◌≡◌, ℕ, ◌-◌, ◌∙◌, length, take, drop, refl, arith}
 use Rattle.std.proofs.lemmas.List.{length-take-le, length-drop}
-use Rattle.aes.proofs.StreamSteps.{front_then}
+use Rattle.aes.proofs.StreamSteps.{front_none, front_then}
 use Rattle.aes.proofs.counter.Counter.apply_runs.Goals as goal
 
 pub returns : goal.returns
@@ -12,3 +12,6 @@ returns g c =
     front_then g.C.Count.up c.args.key.now c.args.self.now c.apply_sixteens-done.new.self c.apply_fours-2.new.self c.args.bytes.now mid
     c.apply_fours-2.new.bytes a k c.apply_fours-2.result c.apply_sixteens-done.auto.bytes
     c.apply_sixteens-done.ensures refl (c.apply_fours-2.auto.bytes ∙ part) c.apply_fours-2.ensures
+
+pub returns-then-bytes-le48 : goal.returns-then-bytes-le48
+returns-then-bytes-le48 g c = front_none g.C.Count.up c.args.key.now c.args.self.now c.args.bytes.now c.requires
