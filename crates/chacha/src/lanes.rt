@@ -7,7 +7,7 @@ ghost use Rattle.octets.specs.Bytes.{xor_bytes};
 ghost use Rattle.octets.specs.Masked.{masked};
 ghost use Rattle.chacha.specs.Block.{add_xor_rotate, quarter_round, double_rounds, added, serialized, block};
 ghost use Rattle.chacha.specs.Code.Lanes.{lane, HasBlocks};
-ghost use Rattle.chacha.specs.Code.Halves.{half_quarter, half_columns, half_diagonals, half_round};
+ghost use Rattle.chacha.specs.Code.Halves.{half_quarter, half_columns, half_diagonals};
 ghost use Rattle.chacha.specs.Stream.{key_stream_byte};
 
 use crate::state::initial_state;
@@ -92,7 +92,7 @@ fn half_quarter<const N: usize>(
 
 // A half of the round of the columns, in each lane.
 #[inline(always)]
-fn half_columns<const N: usize>(x: &mut [Simd<u32, N>; 16], n: u32, m: u32)
+pub(crate) fn half_columns<const N: usize>(x: &mut [Simd<u32, N>; 16], n: u32, m: u32)
     requires { (0 < n) × (n < 32) × (0 < m) × (m < 32) }
     ensures { (j : ℕ) → j < N → lane j x.new ≡ half_columns n m (lane j x.old) }
 {
@@ -104,7 +104,7 @@ fn half_columns<const N: usize>(x: &mut [Simd<u32, N>; 16], n: u32, m: u32)
 
 // A half of the round of the diagonals, in each lane.
 #[inline(always)]
-fn half_diagonals<const N: usize>(x: &mut [Simd<u32, N>; 16], n: u32, m: u32)
+pub(crate) fn half_diagonals<const N: usize>(x: &mut [Simd<u32, N>; 16], n: u32, m: u32)
     requires { (0 < n) × (n < 32) × (0 < m) × (m < 32) }
     ensures { (j : ℕ) → j < N → lane j x.new ≡ half_diagonals n m (lane j x.old) }
 {
@@ -114,30 +114,23 @@ fn half_diagonals<const N: usize>(x: &mut [Simd<u32, N>; 16], n: u32, m: u32)
     half_quarter(x, 3, 4, 9, 14, n, m);
 }
 
-// A half of a round, in each lane: of the columns the first and the second, and then of the diagonals.
-#[inline(always)]
-pub(crate) fn half_round<const N: usize>(x: &mut [Simd<u32, N>; 16], half: u32)
-    ensures { (j : ℕ) → j < N → lane j x.new ≡ half_round (half % 4) (lane j x.old) }
-{
-    match half % 4 {
-        0 => half_columns(x, 16, 12),
-        1 => half_columns(x, 8, 7),
-        2 => half_diagonals(x, 16, 12),
-        _ => half_diagonals(x, 8, 7),
-    }
-}
-
-// Ten double rounds in halves of rounds, with a step of other work after each. The steps are done on a copy: it
-// stays in registers, where a reference would not. Where both halves of a round stand in one basic block, LLVM
-// makes two shuffles of the rotation by 8, one for either side of the XOR before it.
+// Ten double rounds in halves of rounds, with a step of other work after each half. The steps are done on a copy: it
+// stays in registers, where a reference would not. A step is a branch, and so keeps the halves of a round apart: where
+// both stand in one basic block, LLVM makes two shuffles of the rotation by 8, one for either side of the XOR before it.
 #[inline(always)]
 fn ten_rounds<const N: usize, W: Work>(x: &mut [Simd<u32, N>; 16], work: &mut W)
     ensures lanes { (j : ℕ) → j < N → lane j x.new ≡ double_rounds 10 (lane j x.old) }
     ensures work { (k m : List ℕ) → W.comes_to work.old k m → W.comes_to work.new k m }
 {
     let mut own = *work;
-    'halves: for half in 0..40u32 {
-        half_round(x, half);
+    'rounds: for _ in 0..10u32 {
+        half_columns(x, 16, 12);
+        own.step();
+        half_columns(x, 8, 7);
+        own.step();
+        half_diagonals(x, 16, 12);
+        own.step();
+        half_diagonals(x, 8, 7);
         own.step();
     }
     *work = own;

@@ -1,35 +1,23 @@
 // A block by rows beside four or eight in lanes: in the steps of the lanes the processor has room for those of a row.
 
-ghost use Rattle.std.specs.Prelude.{◌≡◌, ℕ, ◌+◌, ◌%◌, ◌^◌, ◌<◌, List, length, slice_index};
+ghost use Rattle.std.specs.Prelude.{◌≡◌, ℕ, ◌+◌, ◌^◌, ◌<◌, List, length, slice_index};
 ghost use Rattle.octets.specs.Masked.{masked};
 ghost use Rattle.chacha.specs.Block.{double_rounds, serialized, block};
-ghost use Rattle.chacha.specs.Code.Halves.{round_at};
 ghost use Rattle.chacha.specs.Code.Lanes.{lane};
 ghost use Rattle.chacha.specs.Code.Rows.{read_by_rows};
 ghost use Rattle.chacha.specs.Stream.{key_stream_byte};
 
 use crate::lanes::{
-    add, eight_counters, four_counters, half_round, set_starts, xor_eight_written, xor_written,
+    add, eight_counters, four_counters, half_columns, half_diagonals, set_starts,
+    xor_eight_written, xor_written,
 };
 use crate::rows::{column_round, diagonal_round, rows_of, written};
 use crate::state::initial_state;
 use octets::{Idle, Key32, Nonce, Work, xor_into};
 use std::simd::{Simd, u32x4, u32x8};
 
-// The rows do a whole round beside the first half of a round of the lanes, and nothing beside the second.
-#[inline(always)]
-fn round_at(row: &mut [u32x4; 4], half: u32)
-    ensures { read_by_rows row.new ≡ round_at (half % 4) (read_by_rows row.old) }
-{
-    match half % 4 {
-        0 => column_round(row),
-        2 => diagonal_round(row),
-        _ => {}
-    }
-}
-
-// Ten double rounds of the lanes, and of the rows beside them, with a step of other work after each half of a
-// round.
+// Ten double rounds of the lanes, and of the rows beside the first halves of their rounds, with a step of other work
+// after each half.
 #[inline(always)]
 fn ten_rounds<const N: usize, W: Work>(
     x: &mut [Simd<u32, N>; 16],
@@ -41,9 +29,16 @@ fn ten_rounds<const N: usize, W: Work>(
     ensures work { (k m : List ℕ) → W.comes_to work.old k m → W.comes_to work.new k m }
 {
     let mut own = *work;
-    'halves: for half in 0..40u32 {
-        half_round(x, half);
-        round_at(row, half);
+    'rounds: for _ in 0..10u32 {
+        half_columns(x, 16, 12);
+        column_round(row);
+        own.step();
+        half_columns(x, 8, 7);
+        own.step();
+        half_diagonals(x, 16, 12);
+        diagonal_round(row);
+        own.step();
+        half_diagonals(x, 8, 7);
         own.step();
     }
     *work = own;

@@ -1,8 +1,8 @@
 use Rattle.std.proofs.Common.{◌≡◌, ℕ, ◌<◌, List}
-use Rattle.chacha.specs.Code.Halves.{half_rounds}
+use Rattle.chacha.specs.Block.{double_rounds}
 use Rattle.chacha.specs.Code.Lanes.{lane}
 use Rattle.chacha.proofs.lanes.ten_rounds.Given as goal
 
-abbrev pub invariant-halves : goal.invariant-halves
-invariant-halves g l = ((j : ℕ) → j < g.row.N → lane j l.x ≡ half_rounds l.half (lane j l.initial.x))
+abbrev pub invariant-rounds : goal.invariant-rounds
+invariant-rounds g l = ((j : ℕ) → j < g.row.N → lane j l.x ≡ double_rounds l.counter (lane j l.initial.x))
     × ((k m : List ℕ) → g.W.Work.comes_to l.initial.own k m → g.W.Work.comes_to l.own k m)

@@ -1,34 +1,46 @@
-use Rattle.std.proofs.Common.{◌≡◌, ◌*◌, ◌%◌, ◌∙◌, refl, ap, arith, add-one}
-use Rattle.chacha.specs.Code.Halves.{half_round, half_rounds, round_at, rounds_at}
+use Rattle.std.proofs.Common.{◌≡◌, ℕ, ◌∙◌, List, length, refl, ap, arith, add-one}
+use Rattle.chacha.specs.Block.{column_round, diagonal_round, double_rounds}
 use Rattle.chacha.specs.Code.Lanes.{lane}
 use Rattle.chacha.specs.Code.Rows.{read_by_rows}
+use Rattle.chacha.specs.Code.Halves.{half_columns, half_diagonals}
 use Rattle.chacha.proofs.SideBySide.{length-lane}
-use Rattle.chacha.proofs.Halves.{rounds_in_halves, rounds_beside}
+use Rattle.chacha.proofs.Halves.{double_round_in_halves}
+use Rattle.chacha.proofs.Lengths.{length-double_rounds}
 use Rattle.chacha.proofs.row_beside.ten_rounds.Goals as goal
 
-pub halves-init : goal.halves-init
-unfolding half_rounds rounds_at
-halves-init g c = (λ j l. refl, refl, λ k m h. h)
+pub rounds-init : goal.rounds-init
+unfolding double_rounds
+rounds-init g c = (λ j l. refl, refl, λ k m h. h)
 
-pub halves-preserved : goal.halves-preserved
-unfolding half_rounds rounds_at
-halves-preserved g c = (
-  λ j l. rw add-one (c.half_round.ensures j l ∙ ap (half_round (c.halves.half % 4)) (c.halves.invariant.0 j l)),
-  rw add-one (c.round_at.ensures ∙ ap (round_at (c.halves.half % 4)) c.halves.invariant.1),
-  λ k m h. c.step.ensures k m (c.halves.invariant.2 k m h),
+pub rounds-preserved : goal.rounds-preserved
+unfolding double_rounds
+rounds-preserved g c = (
+  λ j l.
+      let s : List ℕ = double_rounds c.rounds.counter (lane j c.args.x.now) in
+      let long : length s ≡ 16 =
+      length-double_rounds c.rounds.counter (lane j c.args.x.now) ∙ length-lane j c.args.x.now ∙ c.told-x in
+      rw add-one
+      (c.half_diagonals-in-rounds.ensures j l
+      ∙ ap (half_diagonals 8 7) (c.half_diagonals.ensures j l
+      ∙ ap (half_diagonals 16 12) (c.half_columns-in-rounds.ensures j l
+      ∙ ap (half_columns 8 7) (c.half_columns.ensures j l ∙ ap (half_columns 16 12) (c.rounds.invariant.0 j l))))
+      ∙ double_round_in_halves s long),
+  rw add-one
+      (c.diagonal_round.ensures ∙ ap diagonal_round (c.column_round.ensures ∙ ap column_round c.rounds.invariant.1)),
+  λ k m h.
+      c.step-in-rounds-3.ensures k m (c.step-in-rounds-2.ensures k m
+      (c.step-in-rounds.ensures k m (c.step.ensures k m (c.rounds.invariant.2 k m h)))),
 )
 
 pub returns-clause-lanes : goal.returns-clause-lanes
 returns-clause-lanes g c = λ j l.
-    let end : c.halves.half ≡ 10 * 4 = omega (arith, c.halves-test.false, c.halves.auto.half-end) in
-    c.halves.invariant.0 j l ∙ ap (λ m. half_rounds m (lane j c.args.x.now)) end
-    ∙ rounds_in_halves 10 (lane j c.args.x.now) (length-lane j c.args.x.now ∙ c.told-x)
+    let end : c.rounds.counter ≡ 10 = omega (arith, c.rounds-test.false, c.rounds.auto.counter-end) in
+    c.rounds.invariant.0 j l ∙ ap (λ m. double_rounds m (lane j c.args.x.now)) end
 
 pub returns-clause-row : goal.returns-clause-row
 returns-clause-row g c =
-    let end : c.halves.half ≡ 10 * 4 = omega (arith, c.halves-test.false, c.halves.auto.half-end) in
-    c.halves.invariant.1 ∙ ap (λ m. rounds_at m (read_by_rows c.args.row.now)) end
-    ∙ rounds_beside 10 (read_by_rows c.args.row.now)
+    let end : c.rounds.counter ≡ 10 = omega (arith, c.rounds-test.false, c.rounds.auto.counter-end) in
+    c.rounds.invariant.1 ∙ ap (λ m. double_rounds m (read_by_rows c.args.row.now)) end
 
 pub returns-clause-work : goal.returns-clause-work
-returns-clause-work g c = c.halves.invariant.2
+returns-clause-work g c = c.rounds.invariant.2
