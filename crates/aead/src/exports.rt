@@ -1,6 +1,6 @@
 // The calls for C: a slice crosses as a pointer and a length, a suite and an outcome as their numbers.
 
-ghost use Rattle.std.specs.Prelude.{◌≡◌, ◌≢◌, ◌↔◌, length, MatchResult};
+ghost use Rattle.std.specs.Prelude.{◌≡◌, ◌≢◌, ◌↔◌, length, MatchOption, MatchResult};
 ghost use Rattle.octets.specs.Numbers.{HasOutcome};
 ghost use Rattle.aead.specs.declared.suite.Suite.{Suite};
 ghost use Rattle.aead.specs.Suites.{key_length};
@@ -43,6 +43,17 @@ fn suite_numbered(number: u64) -> Option<Suite>
     }
 }
 
+// The nonce with these 12 bytes. In a `Result` it would share its first byte with the fault, and LLVM copies that byte
+// by itself, so that the cipher waits for it.
+fn nonce_of(bytes: &[u8]) -> Option<Nonce>
+    ensures { MatchOption result (length bytes.now ≢ 12) (λ n. (n ≡ bytes.now) × (length bytes.now ≡ 12)) }
+{
+    match bytes.as_array() {
+        Some(bytes) => Some(Nonce::new(*bytes)),
+        None => None,
+    }
+}
+
 // Seals the bytes before the last sixteen, which become the tag, under the bytes of a nonce.
 fn seal_under<C: Cipher>(
     cipher: &C,
@@ -54,7 +65,9 @@ fn seal_under<C: Cipher>(
     ensures { let s = setting (C.keyed cipher.now) nonce.now aad.now in
         MatchResult result (λ _. WasSealed s bytes.old bytes.new) (WasNotSealed s bytes.old bytes.new) }
 {
-    let nonce = Nonce::from_slice(nonce)?;
+    let Some(nonce) = nonce_of(nonce) else {
+        return Err(Fault::NonceLength);
+    };
     let suite = cipher.suite();
     suite.check_aad(aad)?;
     let Some((body, last)) = bytes.split_last_chunk_mut() else {
@@ -107,7 +120,9 @@ fn open_under<C: Cipher>(
     ensures { let s = setting (C.keyed cipher.now) nonce.now aad.now in
         MatchResult result (λ _. WasOpened s bytes.old bytes.new) (WasNotOpened s bytes.old bytes.new) }
 {
-    let nonce = Nonce::from_slice(nonce)?;
+    let Some(nonce) = nonce_of(nonce) else {
+        return Err(Fault::NonceLength);
+    };
     let suite = cipher.suite();
     suite.check_aad(aad)?;
     let Some((body, last)) = bytes.split_last_chunk_mut() else {

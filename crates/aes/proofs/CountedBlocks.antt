@@ -1,5 +1,6 @@
 -- Sixteen blocks that count, in planes of bits.
-use Rattle.std.proofs.Common.{◌≡◌, ℕ, zero, suc, ◌+◌, ◌-◌, ◌*◌, ◌/◌, ◌%◌, ◌^◌, ◌<◌, ◌≤◌, Bool, true, false, cond, ◌==◌, List, []}
+use Rattle.std.proofs.Common.{◌≡◌, ℕ, zero, suc, ◌+◌, ◌-◌, ◌*◌, ◌/◌, ◌%◌, ◌^◌, ◌<◌, ◌≤◌}
+use Rattle.std.proofs.Common.{Bool, true, false, cond, ◌==◌, List, []}
 use Rattle.std.proofs.Common.{◌∷◌, ◌++◌, map, get_or, length, replicate, slice_set, min, bit_and, bit_xor, refl, sym, ap}
 use Rattle.std.proofs.Common.{ap₂, ◌∙◌, arith, inl, inr}
 use Rattle.std.specs.Int.{bit_at}

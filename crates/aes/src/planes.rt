@@ -1,7 +1,8 @@
 // Sixteen blocks at once in eight planes of bits: bit j of the byte in row r and column c of block q is in
 // plane j, in lane 16 (q / 8) + 4 r + c, at bit q mod 8.
 
-ghost use Rattle.std.specs.Prelude.{◌≡◌, ℕ, ◌<◌, ◌+◌, ◌-◌, ◌*◌, ◌/◌, ◌%◌, ◌==◌, ◌≤◌, if◌then◌else◌, slice_index, slice_index_or, bit_xor, length, []};
+ghost use Rattle.std.specs.Prelude.{◌≡◌, ℕ, ◌<◌, ◌+◌, ◌-◌, ◌*◌, ◌/◌, ◌%◌, ◌==◌, ◌≤◌, if◌then◌else◌};
+ghost use Rattle.std.specs.Prelude.{slice_index, slice_index_or, bit_xor, length, []};
 ghost use Rattle.std.specs.Int.{bit_at};
 ghost use Rattle.aes.specs.Field.{times};
 ghost use Rattle.std.specs.Prelude.{List};

@@ -12,8 +12,10 @@ returns-then-same g c =
     let fits : Fits s c.args.body.now =
     record { aad_fits = c.requires.aad_fits; text_fits = c.requires.text_fits } in
     let t = message_task s c.args.tag.now in
-    let fed = c.update.ensures.masked t [] (c.begin.ensures.holds t (rw (sym c.blank_masking-opening.ensures.mask) at (c.mask.ensures c.args.aad.now c.args.tag.now))
-    (c.blank_masking-opening.ensures.hash c.args.aad.now) refl c.requires.aad_fits c.blank_masking-opening.ensures.limit (omega arith)) in
+    let blank = c.blank_masking-opening.ensures in
+    let mask = rw (sym blank.mask) at (c.mask.ensures c.args.aad.now c.args.tag.now) in
+    let begun = c.begin.ensures.holds t mask (blank.hash c.args.aad.now) refl c.requires.aad_fits blank.limit (omega arith) in
+    let fed = c.update.ensures.masked t [] begun in
     opened_as s c.args.body.now c.args.tag.now c.update.new.piece fits (λ i. (c.type_inv.body i).fits) fed.1
     (body_tag s c.args.tag.now c.args.body.now (g.met.N.MaskThenHash.one_pass c.args.nonced.now)
     ∙ sym (c.tag.ensures t c.args.body.now fed.0) ∙ sym c.bytes.ensures.value
@@ -26,8 +28,10 @@ returns g c =
     let fits : Fits s c.args.body.now =
     record { aad_fits = c.requires.aad_fits; text_fits = c.requires.text_fits } in
     let t = message_task s c.args.tag.now in
-    let fed = c.update.ensures.masked t [] (c.begin.ensures.holds t (rw (sym c.blank_masking-opening.ensures.mask) at (c.mask.ensures c.args.aad.now c.args.tag.now))
-    (c.blank_masking-opening.ensures.hash c.args.aad.now) refl c.requires.aad_fits c.blank_masking-opening.ensures.limit (omega arith)) in (
+    let blank = c.blank_masking-opening.ensures in
+    let mask = rw (sym blank.mask) at (c.mask.ensures c.args.aad.now c.args.tag.now) in
+    let begun = c.begin.ensures.holds t mask (blank.hash c.args.aad.now) refl c.requires.aad_fits blank.limit (omega arith) in
+    let fed = c.update.ensures.masked t [] begun in (
       fits,
       no_sealing s c.args.body.now c.args.tag.now c.bytes-given.ensures.is_block.length_is
           (λ e. true≢false
