@@ -76,17 +76,6 @@ impl KeptKey for &AesKey {
     }
 }
 
-// A copy of the words. LLVM copies at most 128 bytes in place and calls the C library for more.
-#[inline(always)]
-fn copied(words: &[u32; 60]) -> [u32; 60]
-    ensures { result ≡ words.now }
-{
-    let mut copy = [0; 60];
-    copy[..32].copy_from_slice(&words[..32]);
-    copy[32..].copy_from_slice(&words[32..]);
-    copy
-}
-
 impl AesKey {
     /// The key of AES-128 with these 16 bytes; its cipher has 10 rounds (FIPS 197, 5).
     pub fn new128(key: &Key16) -> AesKey
@@ -145,6 +134,8 @@ impl AesKey {
 
     /// The key with these bytes, of which `words` returned these words. The caller shows that they keep its
     /// schedule.
+    // Inlined, LLVM copies the words one by one.
+    #[inline(never)]
     pub fn from_words(words: &[u32; 60], key: &[u8]) -> AesKey
         requires long { IsKeyLength (length key.now) }
         requires schedule { KeepsSchedule words.now key.now }
@@ -152,7 +143,7 @@ impl AesKey {
         ensures is_key { IsKey key.now }
     {
         AesKey {
-            words: copied(words),
+            words: *words,
             size: key.len() / 4,
         }
     }
