@@ -15,7 +15,6 @@ use Rattle.octets.specs.Bytes.{xor_bytes}
 use Rattle.octets.specs.Masked.{masked}
 use Rattle.octets.proofs.Masks.{length-masked, masked-append, xor_bytes-masked}
 use Rattle.chacha.specs.Block.{serialized, block}
-use Rattle.chacha.specs.Code.Lanes.{lane, HasBlocks}
 use Rattle.chacha.specs.Stream.{key_stream_byte}
 use Rattle.chacha.proofs.Lengths.{length-block}
 
@@ -110,13 +109,13 @@ block_masked key nonce c j at xs words size is_at is_block =
     ap (λ b. get_or b i 0) is_block ∙ ap₂ (λ (n k : ℕ). get_or (block key n nonce) k 0) counter place)
 
 -- four blocks, one after the other
-pub four_masked : (key nonce : List ℕ) (c : ℕ) (x : List (List ℕ)) (a b d e now_a now_b now_d now_e : List
-    ℕ) → HasBlocks 4 x key c nonce
+pub four_masked : (key nonce : List ℕ) (c : ℕ) (l : ℕ → List ℕ) (a b d e now_a now_b now_d now_e : List ℕ)
+    → ((j : ℕ) → j < 4 → serialized (l j) ≡ block key (c + j) nonce)
     → length a ≡ 64 → length b ≡ 64 → length d ≡ 64 → length e ≡ 64
-    → now_a ≡ xor_bytes a (serialized (lane 0 x)) → now_b ≡ xor_bytes b (serialized (lane 1 x))
-    → now_d ≡ xor_bytes d (serialized (lane 2 x)) → now_e ≡ xor_bytes e (serialized (lane 3 x))
+    → now_a ≡ xor_bytes a (serialized (l 0)) → now_b ≡ xor_bytes b (serialized (l 1))
+    → now_d ≡ xor_bytes d (serialized (l 2)) → now_e ≡ xor_bytes e (serialized (l 3))
     → now_a ++ now_b ++ (now_d ++ now_e) ≡ masked (key_stream_byte key nonce c) 0 (a ++ b ++ (d ++ e))
-four_masked key nonce c x a b d e now_a now_b now_d now_e has a64 b64 d64 e64 is_a is_b is_d is_e =
+four_masked key nonce c l a b d e now_a now_b now_d now_e has a64 b64 d64 e64 is_a is_b is_d is_e =
     let f = key_stream_byte key nonce c in
     let at_b : 0 + length a ≡ 64 = omega (arith, a64) in
     let at_d : 0 + length (a ++ b) ≡ 128 = omega (arith, a64, b64, length-append a b) in

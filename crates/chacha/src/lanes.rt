@@ -240,19 +240,6 @@ fn halves(x: u32x8) -> (u32x4, u32x4)
     (x.extract::<0, 4>(), x.extract::<4, 4>())
 }
 
-// Parts eight states into the first four and the last four.
-#[inline(always)]
-fn part(x: &[u32x8; 16], front: &mut [u32x4; 16], back: &mut [u32x4; 16])
-    ensures front { (j : ℕ) → j < 4 → lane j front.new ≡ lane j x.now }
-    ensures back { (j : ℕ) → j < 4 → lane j back.new ≡ lane (4 + j) x.now }
-{
-    'words: for i in 0..16 {
-        let (low, high) = halves(x[i]);
-        front[i] = low;
-        back[i] = high;
-    }
-}
-
 // Lane j of the four vectors becomes vector j.
 #[inline(always)]
 fn transposed(a: u32x4, b: u32x4, c: u32x4, d: u32x4) -> (u32x4, u32x4, u32x4, u32x4)
@@ -266,6 +253,47 @@ fn transposed(a: u32x4, b: u32x4, c: u32x4, d: u32x4) -> (u32x4, u32x4, u32x4, u
     let (first, second) = ac_low.interleave(bd_low);
     let (third, fourth) = ac_high.interleave(bd_high);
     (first, second, third, fourth)
+}
+
+// The first two words of both vectors in turn, in each half of the lanes.
+#[inline(always)]
+fn low_words(a: u32x8, b: u32x8) -> u32x8
+    ensures { result ≡ slice_index a 0 ∷ slice_index b 0 ∷ slice_index a 1 ∷ slice_index b 1
+        ∷ slice_index a 4 ∷ slice_index b 4 ∷ slice_index a 5 ∷ slice_index b 5 ∷ [] }
+{
+    a.shuffle(b, [0, 8, 1, 9, 4, 12, 5, 13])
+}
+
+// The last two words of both vectors in turn, in each half of the lanes.
+#[inline(always)]
+fn high_words(a: u32x8, b: u32x8) -> u32x8
+    ensures { result ≡ slice_index a 2 ∷ slice_index b 2 ∷ slice_index a 3 ∷ slice_index b 3
+        ∷ slice_index a 6 ∷ slice_index b 6 ∷ slice_index a 7 ∷ slice_index b 7 ∷ [] }
+{
+    a.shuffle(b, [2, 10, 3, 11, 6, 14, 7, 15])
+}
+
+// Lanes j and 4 + j of the four vectors become vector j: processors with vectors of 32 bytes move words within each
+// half of one.
+#[inline(always)]
+fn transposed_halves(a: u32x8, b: u32x8, c: u32x8, d: u32x8) -> (u32x8, u32x8, u32x8, u32x8)
+    ensures first { result.0 ≡ slice_index a 0 ∷ slice_index b 0 ∷ slice_index c 0 ∷ slice_index d 0
+        ∷ slice_index a 4 ∷ slice_index b 4 ∷ slice_index c 4 ∷ slice_index d 4 ∷ [] }
+    ensures second { result.1 ≡ slice_index a 1 ∷ slice_index b 1 ∷ slice_index c 1 ∷ slice_index d 1
+        ∷ slice_index a 5 ∷ slice_index b 5 ∷ slice_index c 5 ∷ slice_index d 5 ∷ [] }
+    ensures third { result.2 ≡ slice_index a 2 ∷ slice_index b 2 ∷ slice_index c 2 ∷ slice_index d 2
+        ∷ slice_index a 6 ∷ slice_index b 6 ∷ slice_index c 6 ∷ slice_index d 6 ∷ [] }
+    ensures fourth { result.3 ≡ slice_index a 3 ∷ slice_index b 3 ∷ slice_index c 3 ∷ slice_index d 3
+        ∷ slice_index a 7 ∷ slice_index b 7 ∷ slice_index c 7 ∷ slice_index d 7 ∷ [] }
+{
+    let (ac_low, ac_high) = (low_words(a, c), high_words(a, c));
+    let (bd_low, bd_high) = (low_words(b, d), high_words(b, d));
+    (
+        low_words(ac_low, bd_low),
+        high_words(ac_low, bd_low),
+        low_words(ac_high, bd_high),
+        high_words(ac_high, bd_high),
+    )
 }
 
 // The words of the lanes, each with its lowest byte first.
@@ -324,6 +352,49 @@ pub(crate) fn xor_written(x: &[u32x4; 16], bytes: &mut [u8])
     xor_lanes(x, first, second, third, fourth);
 }
 
+// XORs the words of each of eight lanes, written out, into the block of bytes of that lane.
+#[inline(always)]
+fn xor_eight_lanes(
+    x: &[u32x8; 16],
+    first: &mut [u8],
+    second: &mut [u8],
+    third: &mut [u8],
+    fourth: &mut [u8],
+    fifth: &mut [u8],
+    sixth: &mut [u8],
+    seventh: &mut [u8],
+    eighth: &mut [u8],
+)
+    requires front { (length first.old ≡ 64) × (length second.old ≡ 64) × (length third.old ≡ 64)
+        × (length fourth.old ≡ 64) }
+    requires back { (length fifth.old ≡ 64) × (length sixth.old ≡ 64) × (length seventh.old ≡ 64)
+        × (length eighth.old ≡ 64) }
+    ensures first { first.new ≡ xor_bytes first.old (serialized (lane 0 x.now)) }
+    ensures second { second.new ≡ xor_bytes second.old (serialized (lane 1 x.now)) }
+    ensures third { third.new ≡ xor_bytes third.old (serialized (lane 2 x.now)) }
+    ensures fourth { fourth.new ≡ xor_bytes fourth.old (serialized (lane 3 x.now)) }
+    ensures fifth { fifth.new ≡ xor_bytes fifth.old (serialized (lane 4 x.now)) }
+    ensures sixth { sixth.new ≡ xor_bytes sixth.old (serialized (lane 5 x.now)) }
+    ensures seventh { seventh.new ≡ xor_bytes seventh.old (serialized (lane 6 x.now)) }
+    ensures eighth { eighth.new ≡ xor_bytes eighth.old (serialized (lane 7 x.now)) }
+{
+    'quads: for q in 0..4 {
+        let (a, b, c, d) = transposed_halves(x[4 * q], x[4 * q + 1], x[4 * q + 2], x[4 * q + 3]);
+        let (a, e) = halves(a);
+        let (b, f) = halves(b);
+        let (c, g) = halves(c);
+        let (d, h) = halves(d);
+        xor_at(first, 16 * q, a);
+        xor_at(second, 16 * q, b);
+        xor_at(third, 16 * q, c);
+        xor_at(fourth, 16 * q, d);
+        xor_at(fifth, 16 * q, e);
+        xor_at(sixth, 16 * q, f);
+        xor_at(seventh, 16 * q, g);
+        xor_at(eighth, 16 * q, h);
+    }
+}
+
 // XORs the words of eight lanes, written out one lane after the other, into 512 bytes.
 #[inline(always)]
 pub(crate) fn xor_eight_written(x: &[u32x8; 16], bytes: &mut [u8])
@@ -331,12 +402,16 @@ pub(crate) fn xor_eight_written(x: &[u32x8; 16], bytes: &mut [u8])
     ensures { (key nonce : List ℕ) (counter : ℕ) → HasBlocks 8 x.now key counter nonce
         → bytes.new ≡ masked (key_stream_byte key nonce counter) 0 bytes.old }
 {
-    let mut first = [u32x4::splat(0); 16];
-    let mut last = [u32x4::splat(0); 16];
-    part(x, &mut first, &mut last);
     let (front, back) = bytes.split_at_mut(256);
-    xor_written(&first, front);
-    xor_written(&last, back);
+    let (front_low, front_high) = front.split_at_mut(128);
+    let (first, second) = front_low.split_at_mut(64);
+    let (third, fourth) = front_high.split_at_mut(64);
+    let (back_low, back_high) = back.split_at_mut(128);
+    let (fifth, sixth) = back_low.split_at_mut(64);
+    let (seventh, eighth) = back_high.split_at_mut(64);
+    xor_eight_lanes(
+        x, first, second, third, fourth, fifth, sixth, seventh, eighth,
+    );
 }
 
 // XORs the first 256 bytes of the key stream from a counter on, and does forty steps of other work. It is a
