@@ -29,7 +29,8 @@ pub(crate) trait Order: Drop {
     ghost none: { (mask : ℕ → ℕ) → hashed mask [] ≡ [] };
 }
 
-// Masks a piece and takes it in as it leaves, each part while the next one is masked.
+// Masks a piece and takes it in as it leaves, each part while the next one is masked: a quarter of what is left, since a
+// part costs a call, and nothing runs beside the hash of the last one.
 #[inline(never)]
 fn mask_then_take_by_parts<S: MaskStream, H: TagHash>(
     mask: &mut S,
@@ -44,7 +45,8 @@ fn mask_then_take_by_parts<S: MaskStream, H: TagHash>(
     let mut taken = 0;
     let mut done = 0;
     'parts: while done < piece.len() {
-        let next = mask.part(piece.len() - done);
+        let left = piece.len() - done;
+        let next = mask.part(left, left / 4);
         let (before, after) = piece.split_at_mut(done);
         authenticator.update_beside(&before[taken..], mask, &mut after[..next]);
         taken = done;
@@ -67,7 +69,7 @@ impl Order for MaskFirst {
         authenticator: &mut Authenticator<H>,
         piece: &mut [u8],
     ) {
-        if mask.part(piece.len()) == piece.len() {
+        if mask.part(piece.len(), 0) == piece.len() {
             mask.apply_to(piece);
             authenticator.update(piece);
         } else {
@@ -78,7 +80,8 @@ impl Order for MaskFirst {
     ghost none = { none_leaves };
 }
 
-// Takes in a piece as it comes and masks it, each part while the next one is taken in.
+// Takes in a piece as it comes and masks it, each part while the next one is taken in. Nothing runs beside the hash of
+// the first part, so the parts begin short.
 #[inline(never)]
 fn take_then_mask_by_parts<S: MaskStream, H: TagHash>(
     mask: &mut S,
@@ -93,7 +96,7 @@ fn take_then_mask_by_parts<S: MaskStream, H: TagHash>(
     let mut taken = 0;
     let mut done = 0;
     'parts: while taken < piece.len() {
-        let next = mask.part(piece.len() - taken);
+        let next = mask.part(piece.len() - taken, taken / 2);
         let (before, after) = piece.split_at_mut(taken);
         authenticator.update_beside(&after[..next], mask, &mut before[done..]);
         done = taken;
@@ -116,7 +119,7 @@ impl Order for HashFirst {
         authenticator: &mut Authenticator<H>,
         piece: &mut [u8],
     ) {
-        if mask.part(piece.len()) == piece.len() {
+        if mask.part(piece.len(), 0) == piece.len() {
             authenticator.update(piece);
             mask.apply_to(piece);
         } else {

@@ -3,7 +3,7 @@
 ghost use Rattle.std.specs.Prelude.{◌≡◌, ◌+◌, ◌*◌, ◌%◌, ◌<◌, ◌≤◌, ℕ, List, length, min, slice_index};
 ghost use Rattle.chacha.specs.Stream.{key_stream_byte};
 
-use crate::mask::MaskStream;
+use crate::mask::{MaskStream, runs};
 use chacha::{ChaStream, RUN};
 use octets::{Key32, Nonce, Stream, Work, xor_into};
 
@@ -59,9 +59,9 @@ impl<'a> MaskStream for BufferedStream<'a> {
 
     ghost made = { MadeByBuffered };
 
-    fn part(&self, length: usize) -> usize {
+    fn part(&self, length: usize, most: usize) -> usize {
         let begun = self.start.len() - self.used;
-        let more = if begun < RUN / 2 { RUN } else { 0 };
+        let more = if begun < RUN / 2 { runs(most) } else { 0 };
         length.min(begun + more)
     }
 

@@ -196,11 +196,11 @@ const SEVEN_BLOCKS: usize = 448;
 // How many blocks from counter 0 on are made at once for a text of so many bytes. A block beside four or eight
 // others costs little, and the blocks after them go by four or eight, so that few are made for a last part.
 fn blocks_at_once(length: usize) -> usize {
-    if WIDE && length > 256 {
+    if WIDE && length > 192 {
         return match length {
             0..=SEVEN_BLOCKS => 8,
             _ => match length % 512 {
-                1..=64 | 257..=384 => 2,
+                1..=64 | 257..=320 => 2,
                 _ => 9,
             },
         };

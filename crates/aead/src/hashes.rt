@@ -25,7 +25,7 @@ pub(crate) trait TagHash: Drop {
         ensures held { (s : Setting) (m : List ℕ) → held self.old s m → held self.new s (m ++ bytes.now) }
         ensures did { S.did stream.old stream.new piece.old piece.new }
     {
-        stream.apply_beside(piece, &mut Idle);
+        stream.apply_beside(piece, &mut Idle::new());
         self.take_in(bytes);
     }
 

@@ -16,8 +16,8 @@ pub(crate) trait MaskStream: Stream + Drop {
     // It has made so many bytes of the mask of a message under a tag.
     ghost made: { Self → Setting → List ℕ → ℕ → Type 0 };
 
-    // How many of so many bytes are masked at once, while a hash takes in others.
-    fn part(&self, length: usize) -> usize
+    // How many of so many bytes are masked at once, while a hash takes in others: about `most`, or all.
+    fn part(&self, length: usize, most: usize) -> usize
         ensures some { 0 < length → 0 < result }
         ensures within { result ≤ length };
 
@@ -27,19 +27,30 @@ pub(crate) trait MaskStream: Stream + Drop {
             → n + length piece.old ≤ text_limit s.suite
             → made self.new s tag (n + length piece.old) × (piece.new ≡ masked (mask_of s tag) n piece.old) }
     {
-        self.apply_beside(piece, &mut Idle);
+        self.apply_beside(piece, &mut Idle::new());
     }
 
     // A call beside other work masks as one without it.
     ghost masks: { (a b : Self) (was now : List ℕ) → Self.did a b was now → Masks made a b was now };
 }
 
+// The longest part: it and the one before it fit the processor's first cache.
+const LONGEST: usize = 8192;
+
+// The whole runs of ChaCha20 within so many bytes: one at least, and no more than a part may have.
+pub(crate) fn runs(most: usize) -> usize
+    ensures some { 0 < result }
+    ensures few { result ≤ 8192 }
+{
+    (most.min(LONGEST) / RUN * RUN).max(RUN)
+}
+
 // The key stream from counter 1 on (RFC 8439, 2.8).
 impl MaskStream for ChaStream {
     ghost made = { MadeByChaCha };
 
-    fn part(&self, length: usize) -> usize {
-        length.min(RUN)
+    fn part(&self, length: usize, most: usize) -> usize {
+        length.min(runs(most))
     }
 
     ghost masks = { chacha_masks };
@@ -49,7 +60,7 @@ impl MaskStream for ChaStream {
 impl<K: KeptKey> MaskStream for CtrBe<K> {
     ghost made = { MadeByGcm K.bytes };
 
-    fn part(&self, length: usize) -> usize {
+    fn part(&self, length: usize, _most: usize) -> usize {
         length
     }
 
@@ -60,7 +71,7 @@ impl<K: KeptKey> MaskStream for CtrBe<K> {
 impl<K: KeptKey> MaskStream for CtrLe<K> {
     ghost made = { MadeByGcmSiv K.bytes };
 
-    fn part(&self, length: usize) -> usize {
+    fn part(&self, length: usize, _most: usize) -> usize {
         length
     }
 

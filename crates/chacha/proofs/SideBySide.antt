@@ -194,14 +194,16 @@ xored_lane x j was mid now quad q sixteen long below held is_quad is_now =
     xored_more (lane j x) was mid now quad q (length-lane j x ∙ sixteen) long below held
     (is_quad ∙ (λ k. at (4 * q) k ∷ at (4 * q + 1) k ∷ at (4 * q + 2) k ∷ at (4 * q + 3) k ∷ [])) is_now
 
--- all words
-pub xored_all : (words was now : List ℕ) → length words ≡ 16 → length was ≡ 64 → Xored words 4 was now
-    → now ≡ xor_bytes was (serialized words)
-xored_all words was now sixteen long held =
-    held
+-- all words of the block in a lane
+pub xored_all : (x : List (List ℕ)) (j : ℕ) (was now : List ℕ) (q : ℕ) → length x ≡ 16 → length was ≡ 64
+    → q ≡ 4 → Xored (lane j x) q was now → now ≡ xor_bytes was (serialized (lane j x))
+xored_all x j was now q sixteen long end held =
+    let words = lane j x in
+    let all : length words ≡ 16 = length-lane j x ∙ sixteen in
+    rw end at held
     ∙ ap₂ (λ (x y : List ℕ). x ++ y)
     (ap₂ (λ (x y : List ℕ). xor_bytes x (serialized y)) (take_all 64 was (omega arith))
-    (take_all 16 words (omega arith)))
+    (take_all 16 words (omega (arith, all))))
     (drop_all 64 was (omega arith))
     ∙ append-nil (xor_bytes was (serialized words))
 

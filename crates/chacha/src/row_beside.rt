@@ -110,7 +110,7 @@ pub(crate) fn xor_nine_blocks(key: &Key32, counter: u32, nonce: &Nonce, bytes: &
         counter,
         eight_counters(counter + 1),
         nonce,
-        &mut Idle,
+        &mut Idle::new(),
     );
     let (front, back) = bytes.split_at_mut(64);
     xor_into(front, &first);

@@ -62,7 +62,7 @@ impl ChaStream {
             → MatchResult result (λ _. Applied self.new key nonce first made bytes.old bytes.new)
             (λ fault. Refused fault self.old self.new first made bytes.old bytes.new) }
     {
-        self.apply_with(bytes, &mut Idle)
+        self.apply_with(bytes, &mut Idle::new())
     }
 
     /// XORs the next bytes of the key stream into `bytes`, of any length, as `apply` does, and does steps of
@@ -102,9 +102,9 @@ pub fn key_stream_start<const N: usize>(key: &Key32, nonce: &Nonce) -> [u8; N]
 {
     let mut start = [0; N];
     match N {
-        320 => row_beside::xor_five_blocks(key, 0, nonce, &mut start, &mut Idle),
+        320 => row_beside::xor_five_blocks(key, 0, nonce, &mut start, &mut Idle::new()),
         576 => row_beside::xor_nine_blocks(key, 0, nonce, &mut start),
-        _ => xor_stream(key, nonce, 0, &mut start, &mut Idle),
+        _ => xor_stream(key, nonce, 0, &mut start, &mut Idle::new()),
     }
     start
 }

@@ -23,7 +23,7 @@ pub trait Absorb {
             → absorbed self.new k (m ++ blocks.now) }
         ensures did { S.did stream.old stream.new bytes.old bytes.new }
     {
-        stream.apply_beside(bytes, &mut Idle);
+        stream.apply_beside(bytes, &mut Idle::new());
         self.absorb(blocks);
     }
 }
@@ -151,7 +151,7 @@ impl<A: Absorb> Pieces<A> {
         if self.used == 0 && piece.len() % 16 == 0 {
             self.core.absorb_beside(piece, stream, bytes);
         } else {
-            stream.apply_beside(bytes, &mut Idle);
+            stream.apply_beside(bytes, &mut Idle::new());
             self.update(piece);
         }
     }

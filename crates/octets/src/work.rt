@@ -18,15 +18,30 @@ pub trait Work: Copy {
         ensures { (k m : List ℕ) → comes_to self.old k m → comes_to self.new k m };
 }
 
-/// Work without steps.
+/// Work without steps. Its step is a branch all the same, as that of other work is, and LLVM can't tell that it is never
+/// taken: so the code before a step stays apart from the code after it.
 #[derive(Clone, Copy)]
-pub struct Idle;
+pub struct Idle<'a> {
+    // What is left after one step more, of which there is none.
+    next: Option<&'a Idle<'a>>,
+}
 
-impl Work for Idle {
+impl<'a> Idle<'a> {
+    /// No work.
+    pub fn new() -> Idle<'a> {
+        Idle { next: None }
+    }
+}
+
+impl<'a> Work for Idle<'a> {
     ghost comes_to = { λ w k m. ⊤ };
 
     #[inline(always)]
-    fn step(&mut self) {}
+    fn step(&mut self) {
+        if let Some(next) = self.next {
+            *self = *next;
+        }
+    }
 }
 
 /// A stream of bytes that is XORed into pieces of any length, and may do steps of other work meanwhile.

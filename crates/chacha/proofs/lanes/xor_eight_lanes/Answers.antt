@@ -1,6 +1,6 @@
 use Rattle.std.proofs.Common.{◌≡◌, ℕ, List, ◌∙◌, ap, take, drop, arith, length}
 use Rattle.chacha.specs.Code.Lanes.{lane}
-use Rattle.chacha.proofs.SideBySide.{Xored, xored_none, xored_lane, xored_all, length-lane}
+use Rattle.chacha.proofs.SideBySide.{Xored, xored_none, xored_lane, xored_all}
 use Rattle.chacha.proofs.lanes.xor_eight_lanes.Goals as goal
 
 pub quads-init : goal.quads-init
@@ -44,56 +44,40 @@ quads-preserved c =
 
 pub returns-clause-first : goal.returns-clause-first
 returns-clause-first c =
-    let end : c.quads.q ≡ 4 = omega (arith, c.quads-test.false, c.quads.auto.q-end) in
-    xored_all (lane 0 c.args.x.now) c.args.first.now c.quads.first (length-lane 0 c.args.x.now ∙ c.told-x)
-    c.requires.front.0
-    (rw end at c.quads.invariant.0)
+    xored_all _ 0 _ _ _ c.told-x c.requires.front.0 (omega (arith, c.quads-test.false, c.quads.auto.q-end))
+    c.quads.invariant.0
 
 pub returns-clause-second : goal.returns-clause-second
 returns-clause-second c =
-    let end : c.quads.q ≡ 4 = omega (arith, c.quads-test.false, c.quads.auto.q-end) in
-    xored_all (lane 1 c.args.x.now) c.args.second.now c.quads.second (length-lane 1 c.args.x.now ∙ c.told-x)
-    c.requires.front.1
-    (rw end at c.quads.invariant.1)
+    xored_all _ 1 _ _ _ c.told-x c.requires.front.1 (omega (arith, c.quads-test.false, c.quads.auto.q-end))
+    c.quads.invariant.1
 
 pub returns-clause-third : goal.returns-clause-third
 returns-clause-third c =
-    let end : c.quads.q ≡ 4 = omega (arith, c.quads-test.false, c.quads.auto.q-end) in
-    xored_all (lane 2 c.args.x.now) c.args.third.now c.quads.third (length-lane 2 c.args.x.now ∙ c.told-x)
-    c.requires.front.2
-    (rw end at c.quads.invariant.2)
+    xored_all _ 2 _ _ _ c.told-x c.requires.front.2 (omega (arith, c.quads-test.false, c.quads.auto.q-end))
+    c.quads.invariant.2
 
 pub returns-clause-fourth : goal.returns-clause-fourth
 returns-clause-fourth c =
-    let end : c.quads.q ≡ 4 = omega (arith, c.quads-test.false, c.quads.auto.q-end) in
-    xored_all (lane 3 c.args.x.now) c.args.fourth.now c.quads.fourth (length-lane 3 c.args.x.now ∙ c.told-x)
-    c.requires.front.3
-    (rw end at c.quads.invariant.3)
+    xored_all _ 3 _ _ _ c.told-x c.requires.front.3 (omega (arith, c.quads-test.false, c.quads.auto.q-end))
+    c.quads.invariant.3
 
 pub returns-clause-fifth : goal.returns-clause-fifth
 returns-clause-fifth c =
-    let end : c.quads.q ≡ 4 = omega (arith, c.quads-test.false, c.quads.auto.q-end) in
-    xored_all (lane 4 c.args.x.now) c.args.fifth.now c.quads.fifth (length-lane 4 c.args.x.now ∙ c.told-x)
-    c.requires.back.0
-    (rw end at c.quads.invariant.4)
+    xored_all _ 4 _ _ _ c.told-x c.requires.back.0 (omega (arith, c.quads-test.false, c.quads.auto.q-end))
+    c.quads.invariant.4
 
 pub returns-clause-sixth : goal.returns-clause-sixth
 returns-clause-sixth c =
-    let end : c.quads.q ≡ 4 = omega (arith, c.quads-test.false, c.quads.auto.q-end) in
-    xored_all (lane 5 c.args.x.now) c.args.sixth.now c.quads.sixth (length-lane 5 c.args.x.now ∙ c.told-x)
-    c.requires.back.1
-    (rw end at c.quads.invariant.5)
+    xored_all _ 5 _ _ _ c.told-x c.requires.back.1 (omega (arith, c.quads-test.false, c.quads.auto.q-end))
+    c.quads.invariant.5
 
 pub returns-clause-seventh : goal.returns-clause-seventh
 returns-clause-seventh c =
-    let end : c.quads.q ≡ 4 = omega (arith, c.quads-test.false, c.quads.auto.q-end) in
-    xored_all (lane 6 c.args.x.now) c.args.seventh.now c.quads.seventh (length-lane 6 c.args.x.now ∙ c.told-x)
-    c.requires.back.2
-    (rw end at c.quads.invariant.6)
+    xored_all _ 6 _ _ _ c.told-x c.requires.back.2 (omega (arith, c.quads-test.false, c.quads.auto.q-end))
+    c.quads.invariant.6
 
 pub returns-clause-eighth : goal.returns-clause-eighth
 returns-clause-eighth c =
-    let end : c.quads.q ≡ 4 = omega (arith, c.quads-test.false, c.quads.auto.q-end) in
-    xored_all (lane 7 c.args.x.now) c.args.eighth.now c.quads.eighth (length-lane 7 c.args.x.now ∙ c.told-x)
-    c.requires.back.3
-    (rw end at c.quads.invariant.7)
+    xored_all _ 7 _ _ _ c.told-x c.requires.back.3 (omega (arith, c.quads-test.false, c.quads.auto.q-end))
+    c.quads.invariant.7
