@@ -63,7 +63,7 @@ pub record HasWrongKey (words : Inputs) : Type 0 where
   pub spelled : IsSpelled words keyed nonce aad body
   pub key_long : length keyed.key ≢ key_length keyed.suite
 
--- the key is one of the suite's, and the nonce that is spelled has not 12 bytes
+-- the key is one of the suite's, and the nonce that is spelled is not 12 bytes long
 pub record HasWrongNonce (words : Inputs) : Type 0 where
   pub keyed : Keyed
   pub nonce : List ℕ
