@@ -99,7 +99,6 @@ impl<H: TagHash> Authenticator<H> {
             → result ≡ tag_over s.suite s.key s.nonce s.aad m }
         ensures length { self.new.length ≡ self.old.length }
     {
-        self.hash.pad();
         self.hash.tag_with_lengths(self.aad_length, self.length)
     }
 

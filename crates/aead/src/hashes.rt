@@ -8,7 +8,7 @@ ghost use Rattle.aead.specs.Code.States.{HeldByPoly, HeldByGhash, HeldByPolyval}
 use crate::derived_keys::joined;
 use aes::KeptKey;
 use gf128::{Ghash, Multiply, Polyval};
-use octets::{Block, Idle, Nonce, Stream, Tag, xor_into, xored};
+use octets::{Block, Idle, Nonce, Stream, Tag, be_pair, xor_into, xored};
 use poly1305::Poly;
 
 // The hash of a construction under the keys of a message, and the tag that it ends in.
@@ -33,10 +33,10 @@ pub(crate) trait TagHash: Drop {
     fn pad(&mut self)
         ensures { (s : Setting) (m : List ℕ) → held self.old s m → held self.new s (pad16 m) };
 
-    // The tag of padded associated data and the bytes after it, padded: their lengths are taken in last. The hash is
-    // of no use after it.
+    // The tag of padded associated data and the bytes after it: zeros up to whole blocks and both lengths are taken in
+    // last. The hash is of no use after it.
     fn tag_with_lengths(&mut self, aad_length: u64, bytes_length: u64) -> Tag
-        ensures { (s : Setting) (m : List ℕ) → held self.old s (pad16 (pad16 s.aad ++ m)) → Fits s m
+        ensures { (s : Setting) (m : List ℕ) → held self.old s (pad16 s.aad ++ m) → Fits s m
             → aad_length ≡ length s.aad
             → bytes_length ≡ length m → result ≡ tag_over s.suite s.key s.nonce s.aad m };
 }
@@ -65,7 +65,7 @@ impl TagHash for Poly {
     }
 
     fn tag_with_lengths(&mut self, aad_length: u64, bytes_length: u64) -> Tag {
-        self.update(&joined(&aad_length.to_le_bytes(), &bytes_length.to_le_bytes()));
+        self.pad16_and_add(&joined(&aad_length.to_le_bytes(), &bytes_length.to_le_bytes()));
         self.tag()
     }
 }
@@ -91,8 +91,7 @@ impl<M: Multiply> TagHash for GhashTag<M> {
 
     fn tag_with_lengths(&mut self, aad_length: u64, bytes_length: u64) -> Tag {
         let (first, second) = (bits(aad_length), bits(bytes_length));
-        self.hash
-            .update(&joined(&first.to_be_bytes(), &second.to_be_bytes()));
+        self.hash.pad16_and_add(&be_pair(first, second));
         Tag::new(xored(self.mask.bytes(), self.hash.hash().bytes()))
     }
 }
@@ -130,7 +129,7 @@ impl<M: Multiply, K: KeptKey> TagHash for PolyvalTag<M, K> {
     fn tag_with_lengths(&mut self, aad_length: u64, bytes_length: u64) -> Tag {
         let (first, second) = (bits(aad_length), bits(bytes_length));
         self.hash
-            .update(&joined(&first.to_le_bytes(), &second.to_le_bytes()));
+            .pad16_and_add(&joined(&first.to_le_bytes(), &second.to_le_bytes()));
         let block = tag_block(self.hash.hash().bytes(), self.nonce.bytes());
         Tag::new(*self.key.kept().encrypt(&Block::new(block)).bytes())
     }

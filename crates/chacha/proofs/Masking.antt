@@ -211,6 +211,14 @@ run_of_zeros key nonce p size n bytes stream now is_stream long =
     run_of_stream key nonce p size n bytes stream now long (λ i l.
     ap (λ s. get_or s i 0) is_stream ∙ bytes_of_zeros (key_stream_byte key nonce (p / 64)) size i l)
 
+-- the bytes of two blocks, one after the other
+pub bytes_of_two : (key nonce : List ℕ) (c : ℕ) (blocks : List (List ℕ)) (stream : List ℕ)
+    → blocks ≡ block key c nonce ∷ block key (c + 1) nonce ∷ [] → stream ≡ flat_map (λ b. b) blocks
+    → (i : ℕ) → i < 128 → get_or stream i 0 ≡ key_stream_byte key nonce c i
+bytes_of_two key nonce c blocks stream are is_stream i l =
+    ap (λ s. get_or s i 0) (is_stream ∙ ap (λ bs. flat_map (λ (b : List ℕ). b) bs) are)
+    ∙ two_blocks_bytes key nonce c i l
+
 -- where it is two blocks, one after the other
 pub run_of_two : (key nonce : List ℕ) (p n : ℕ) (blocks : List (List ℕ)) (bytes stream now : List ℕ)
     → blocks ≡ block key (p / 64) nonce ∷ block key (p / 64 + 1) nonce ∷ []
@@ -220,9 +228,8 @@ pub run_of_two : (key nonce : List ℕ) (p n : ℕ) (blocks : List (List ℕ)) (
     → now ≡ masked (key_stream_byte key nonce 0) p (take n bytes) ++ drop n bytes
 run_of_two key nonce p n blocks bytes stream now are is_stream long =
     let two : length blocks ≡ 2 = ap length are in
-    run_of_stream key nonce p 128 n bytes stream now (omega (arith, long, two)) (λ i l.
-    ap (λ s. get_or s i 0) (is_stream ∙ ap (λ bs. flat_map (λ (b : List ℕ). b) bs) are)
-    ∙ two_blocks_bytes key nonce (p / 64) i l)
+    run_of_stream key nonce p 128 n bytes stream now (omega (arith, long, two))
+    (bytes_of_two key nonce (p / 64) blocks stream are is_stream)
 
 -- where it is a block
 pub run_of_block : (key nonce : List ℕ) (p n : ℕ) (bytes stream now : List ℕ)

@@ -102,6 +102,8 @@ pub fn key_stream_start<const N: usize>(key: &Key32, nonce: &Nonce) -> [u8; N]
 {
     let mut start = [0; N];
     match N {
+        128 => start.copy_from_slice(rows::two_blocks(key, 0, nonce).as_flattened()),
+        256 => lanes::xor_four_blocks(key, 0, nonce, &mut start, &mut Idle::new()),
         320 => row_beside::xor_five_blocks(key, 0, nonce, &mut start, &mut Idle::new()),
         576 => row_beside::xor_nine_blocks(key, 0, nonce, &mut start),
         _ => xor_stream(key, nonce, 0, &mut start, &mut Idle::new()),

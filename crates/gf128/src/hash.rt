@@ -150,6 +150,14 @@ impl<M: Multiply, O: ByteOrder> BlockHash<M, O> {
         self.pieces.pad16();
     }
 
+    /// Feeds zeros up to a multiple of 16 bytes fed, and then a block.
+    pub fn pad16_and_add(&mut self, block: &[u8; 16])
+        ensures { (h m : List ℕ) → HashHolds O.order M.key_bytes self.old h m
+            → HashHolds O.order M.key_bytes self.new h (pad16 m ++ block.now) }
+    {
+        self.pieces.pad16_and_add(block);
+    }
+
     /// Returns the hash of the text fed so far, if that is whole blocks of 16 bytes.
     pub fn hash(&self) -> Block
         ensures value { (h m : List ℕ) → HashHolds O.order M.key_bytes self.now h m → length m % 16 ≡ 0

@@ -5,7 +5,7 @@ ghost use Rattle.octets.specs.Bytes.{IsBlock};
 ghost use Rattle.octets.specs.Bits.{g, v};
 ghost use Rattle.gf128.specs.Code.Words.{of_bits, of_word, times_x};
 
-use octets::Block;
+use octets::{Block, be_bytes, le_bytes};
 
 // The coefficients of the modulus below x^128.
 const REDUCTION: u128 = 0xe100_0000_0000_0000_0000_0000_0000_0000;
@@ -56,7 +56,7 @@ pub(crate) fn block_of(word: u128) -> Block
     ensures value { g result ≡ of_word word }
     ensures is_block { IsBlock result }
 {
-    Block::new(word.to_be_bytes())
+    Block::new(be_bytes(word))
 }
 
 // The block of a word, with its bytes in reverse order.
@@ -65,7 +65,7 @@ pub(crate) fn reversed_block_of(word: u128) -> Block
     ensures value { v result ≡ reverse (of_word word) }
     ensures is_block { IsBlock result }
 {
-    Block::new(word.to_le_bytes())
+    Block::new(le_bytes(word))
 }
 
 // The word times x.

@@ -1,8 +1,8 @@
 -- A text that comes in pieces, as it grows.
 use Rattle.std.proofs.Common.{◌≡◌, ℕ, ◌+◌, ◌*◌, ◌/◌, ◌%◌, ◌<◌, List, ◌++◌, length, take, drop, sym, ap, ◌∙◌}
-use Rattle.std.proofs.Common.{◌-◌, arith}
+use Rattle.std.proofs.Common.{◌-◌, arith, replicate, refl}
 use Rattle.std.proofs.lemmas.List.{length-append, length-take-le, take-append-le, drop-append-le}
-use Rattle.std.proofs.lemmas.List.{take-append-drop, take_all, drop_all, append_assoc, length-replicate}
+use Rattle.std.proofs.lemmas.List.{take-append-drop, take_all, drop_all, append_assoc, length-replicate, append-nil}
 use Rattle.octets.specs.Bytes.{padding, pad16}
 use Rattle.octets.specs.Pieces.{HoldsPieces}
 use Rattle.octets.specs.declared.pieces.Pieces.{Pieces}
@@ -12,8 +12,9 @@ pub holds_kept : {A : Type 0} (absorbed : A → List ℕ → List ℕ → Type 0
     → HoldsPieces absorbed p k m
     → p.used + length x < 16 → n.core ≡ p.core
     → take (p.used + length x) n.buffer ≡ take p.used p.buffer ++ x → n.used ≡ p.used + length x
+    → drop n.used n.buffer ≡ replicate (16 - n.used) 0
     → HoldsPieces absorbed n k (m ++ x)
-holds_kept absorbed p n k m x h short ec eb eu =
+holds_kept absorbed p n k m x h short ec eb eu ez =
     let used : p.used ≡ length m % 16 = h.rest.used_is in
     let len : length (m ++ x) ≡ length m + length x = length-append m x in
     let q : length (m ++ x) / 16 ≡ length m / 16 = omega arith in
@@ -25,6 +26,7 @@ holds_kept absorbed p n k m x h short ec eb eu =
       taken = rw (ec, q, front) h.taken;
       rest = record
           { used_is = omega arith; kept = rw (eu, q, rest) (eb ∙ ap (λ (y : List ℕ). y ++ x) h.rest.kept) };
+      zeros = ez;
     }
 
 -- bytes up to the end of a block
@@ -32,8 +34,8 @@ pub holds_blocks : {A : Type 0} (absorbed : A → List ℕ → List ℕ → Type
     (k m x blocks : List ℕ) → HoldsPieces absorbed p k m
     → (p.used + length x) % 16 ≡ 0 → blocks ≡ take p.used p.buffer ++ x
     → ((j t : List ℕ) → length t % 16 ≡ 0 → absorbed p.core j t → absorbed n.core j (t ++ blocks))
-    → n.used ≡ 0 → HoldsPieces absorbed n k (m ++ x)
-holds_blocks absorbed p n k m x blocks h whole eb step eu =
+    → n.used ≡ 0 → drop n.used n.buffer ≡ replicate (16 - n.used) 0 → HoldsPieces absorbed n k (m ++ x)
+holds_blocks absorbed p n k m x blocks h whole eb step eu ez =
     let used : p.used ≡ length m % 16 = h.rest.used_is in
     let f : ℕ = length m / 16 * 16 in
     let len : length (m ++ x) ≡ length m + length x = length-append m x in
@@ -52,7 +54,51 @@ holds_blocks absorbed p n k m x blocks h whole eb step eu =
         kept = rw (eu, e)
             (sym (drop_all (length (m ++ x)) (m ++ x) (omega arith)));
       };
+      zeros = ez;
     }
+
+-- whole blocks and bytes that end no block, if the buffer is empty
+pub holds_more : {A : Type 0} (absorbed : A → List ℕ → List ℕ → Type 0) (p n : Pieces A)
+    (k m x blocks rest : List ℕ) → HoldsPieces absorbed p k m → p.used ≡ 0
+    → length blocks % 16 ≡ 0 → length rest < 16
+    → ((j t : List ℕ) → length t % 16 ≡ 0 → absorbed p.core j t → absorbed n.core j (t ++ blocks))
+    → take (length rest) n.buffer ≡ rest → n.used ≡ length rest
+    → drop n.used n.buffer ≡ replicate (16 - n.used) 0
+    → blocks ++ rest ≡ x → HoldsPieces absorbed n k (m ++ x)
+holds_more absorbed p n k m x blocks rest h none whole short step eb eu ez joined =
+    let mid : Pieces _ = record { core = n.core; buffer = p.buffer; used = p.used; in_range = p.in_range } in
+    let first : HoldsPieces absorbed mid k (m ++ blocks) =
+    holds_blocks absorbed p mid k m blocks blocks h (omega arith) (rw none refl) step none h.zeros in
+    let all : (m ++ blocks) ++ rest ≡ m ++ x = append_assoc m blocks rest ∙ ap (λ (y : List ℕ). m ++ y) joined in
+    let size : p.used + length rest ≡ length rest = omega (arith, none) in
+    rw (← all)
+    (holds_kept absorbed mid n k (m ++ blocks) rest first (omega arith) refl
+    (rw (size, none) eb) (eu ∙ sym size) ez)
+
+-- whole blocks need no zeros
+pub pad16_none : (m : List ℕ) → length m % 16 ≡ 0 → pad16 m ≡ m
+pad16_none m whole =
+    let none : (16 - length m % 16) % 16 ≡ 0 = omega (arith, whole) in
+    ap (λ (n : ℕ). m ++ replicate n 0) none ∙ append-nil m
+
+-- the block begun, filled with zeros, and whole blocks
+pub holds_padded : {A : Type 0} (absorbed : A → List ℕ → List ℕ → Type 0) (p n : Pieces A)
+    (k m x y blocks : List ℕ) → HoldsPieces absorbed p k m → 0 < p.used
+    → length x % 16 ≡ 0 → blocks ≡ p.buffer ++ x
+    → ((j t : List ℕ) → length t % 16 ≡ 0 → absorbed p.core j t → absorbed n.core j (t ++ blocks))
+    → n.used ≡ 0 → drop n.used n.buffer ≡ replicate (16 - n.used) 0
+    → pad16 m ++ x ≡ y → HoldsPieces absorbed n k y
+holds_padded absorbed p n k m x y blocks h some whole eb step eu ez joined =
+    let used : p.used ≡ length m % 16 = h.rest.used_is in
+    let count : 16 - p.used ≡ (16 - length m % 16) % 16 = omega (arith, used, some) in
+    let filled : p.buffer ≡ take p.used p.buffer ++ padding m = sym (take-append-drop p.used p.buffer)
+    ∙ ap (λ (z : List ℕ). take p.used p.buffer ++ z) (h.zeros ∙ ap (λ (c : ℕ). replicate c 0) count) in
+    let size : length (padding m ++ x) ≡ 16 - p.used + length x = length-append (padding m) x
+    ∙ ap (λ (c : ℕ). c + length x) (length-replicate {A = ℕ} ((16 - length m % 16) % 16) 0 ∙ sym count) in
+    let all : m ++ (padding m ++ x) ≡ y = sym (append_assoc m (padding m) x) ∙ joined in
+    rw (← all)
+    (holds_blocks absorbed p n k m (padding m ++ x) blocks h (omega (arith, size, whole, p.in_range))
+    (eb ∙ ap (λ (z : List ℕ). z ++ x) filled ∙ append_assoc (take p.used p.buffer) (padding m) x) step eu ez)
 
 -- how many bytes the buffer keeps
 pub holds_used : {A : Type 0} (absorbed : A → List ℕ → List ℕ → Type 0) (p : Pieces A) (k m : List ℕ)

@@ -1,10 +1,10 @@
 // Equality and XOR of lists of bytes.
 
-ghost use Rattle.std.specs.Prelude.{◌≡◌, ◌↔◌, length, true};
+ghost use Rattle.std.specs.Prelude.{◌≡◌, ◌↔◌, ◌≤◌, length, true};
 ghost use Rattle.octets.specs.Bytes.{xor_bytes};
 
+use std::simd::Simd;
 use std::simd::prelude::*;
-use std::simd::u8x16;
 
 /// Whether two runs of 16 bytes are equal.
 pub fn same(a: &[u8; 16], b: &[u8; 16]) -> bool
@@ -24,14 +24,79 @@ fn xor_each(dst: &mut [u8], src: &[u8])
     }
 }
 
-// XORs 16 bytes into 16 others at once.
+// The XOR of `N` bytes and `N` others, made at once.
 #[inline(always)]
-fn xor_block(dst: &mut [u8], src: &[u8])
-    requires { (length dst.old ≡ 16) × (length src.now ≡ 16) }
+fn xored_lanes<const N: usize>(a: &[u8], b: &[u8]) -> Simd<u8, N>
+    requires { (length a.now ≡ N) × (length b.now ≡ N) }
+    ensures { result ≡ xor_bytes a.now b.now }
+{
+    Simd::from_slice(a) ^ Simd::from_slice(b)
+}
+
+// Writes `N` bytes at once.
+#[inline(always)]
+fn put_lanes<const N: usize>(dst: &mut [u8], lanes: Simd<u8, N>)
+    requires { length dst.old ≡ N }
+    ensures { dst.new ≡ lanes.entry }
+{
+    lanes.copy_to_slice(dst);
+}
+
+// XORs `N` bytes into `N` others at once.
+#[inline(always)]
+fn xor_lanes<const N: usize>(dst: &mut [u8], src: &[u8])
+    requires { (length dst.old ≡ N) × (length src.now ≡ N) }
     ensures { dst.new ≡ xor_bytes dst.old src.now }
 {
-    let sum = u8x16::from_slice(dst) ^ u8x16::from_slice(src);
-    sum.copy_to_slice(dst);
+    let sum = xored_lanes::<N>(dst, src);
+    put_lanes(dst, sum);
+}
+
+// XORs `src` into `dst`, fewer than 8 bytes: four at once, if there are so many, and the rest one by one.
+#[inline(always)]
+fn xor_seven(dst: &mut [u8], src: &[u8])
+    requires { length dst.old ≡ length src.now }
+    ensures { dst.new ≡ xor_bytes dst.old src.now }
+{
+    if dst.len() < 4 {
+        xor_each(dst, src);
+        return;
+    }
+    let (front, back) = dst.split_at_mut(4);
+    xor_lanes::<4>(front, &src[..4]);
+    xor_each(back, &src[4..]);
+}
+
+// XORs `src` into `dst`, fewer than 16 bytes: eight at once, if there are so many.
+#[inline(always)]
+fn xor_fifteen(dst: &mut [u8], src: &[u8])
+    requires { length dst.old ≡ length src.now }
+    ensures { dst.new ≡ xor_bytes dst.old src.now }
+{
+    if dst.len() < 8 {
+        xor_seven(dst, src);
+        return;
+    }
+    let (front, back) = dst.split_at_mut(8);
+    xor_lanes::<8>(front, &src[..8]);
+    xor_seven(back, &src[8..]);
+}
+
+// XORs `src` into `dst`, 16 bytes or more, by sixteen. The last 16 are read before the others are written: bytes that
+// they share with a block are written twice, but none alone, for which a read of several would have to wait.
+#[inline(always)]
+fn xor_sixteens(dst: &mut [u8], src: &[u8])
+    requires { (length dst.old ≡ length src.now) × (16 ≤ length src.now) }
+    ensures { dst.new ≡ xor_bytes dst.old src.now }
+{
+    let start = dst.len() - 16;
+    let last = xored_lanes::<16>(&dst[start..], &src[start..]);
+    let mut at = 0;
+    'sixteens: while at < start {
+        xor_lanes::<16>(&mut dst[at..at + 16], &src[at..at + 16]);
+        at += 16;
+    }
+    put_lanes(&mut dst[start..], last);
 }
 
 /// XORs `src` into `dst`, place by place. The caller shows that they have one length.
@@ -40,12 +105,11 @@ pub fn xor_into(dst: &mut [u8], src: &[u8])
     requires { length dst.old ≡ length src.now }
     ensures { dst.new ≡ xor_bytes dst.old src.now }
 {
-    let mut at = 0;
-    'sixteens: while dst.len() - at >= 16 {
-        xor_block(&mut dst[at..at + 16], &src[at..at + 16]);
-        at += 16;
+    if dst.len() < 16 {
+        xor_fifteen(dst, src);
+    } else {
+        xor_sixteens(dst, src);
     }
-    xor_each(&mut dst[at..], &src[at..]);
 }
 
 /// The XOR of two runs of 16 bytes.

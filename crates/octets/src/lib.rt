@@ -18,6 +18,7 @@ mod tests;
 mod transfer;
 #[cfg(test)]
 mod uses;
+mod words;
 mod work;
 
 pub use bytes::{Block, Key16, Key24, Key32, Nonce, Tag};
@@ -30,6 +31,7 @@ pub use refusing::RefusingMemory;
 pub use script::{ScriptIntake, ScriptOutlet, Step};
 pub use std_io::{FromRead, ToWrite};
 pub use transfer::{fill, give_all};
+pub use words::{be_bytes, be_pair, le_bytes};
 pub use work::{Idle, Stream, WIDE, Work};
 
 /// Every polynomial has exactly one residue modulo a polynomial of degree at least 1.

@@ -1,7 +1,8 @@
 // A text that comes in pieces, taken in by whole blocks of 16 bytes.
 
-ghost use Rattle.std.specs.Prelude.{◌≡◌, ℕ, ◌+◌, ◌*◌, ◌/◌, ◌%◌, ◌<◌, ◌++◌, List, [], length, take, drop};
+ghost use Rattle.std.specs.Prelude.{◌≡◌, ℕ, ◌+◌, ◌*◌, ◌/◌, ◌%◌, ◌<◌, ◌++◌, ◌-◌, List, [], length, take, drop, replicate};
 
+use crate::words::{le_bytes, padded};
 use crate::work::{Idle, Stream};
 
 /// A state that takes in whole blocks of 16 bytes; how they were split into calls makes no difference to it.
@@ -28,8 +29,20 @@ pub trait Absorb {
     }
 }
 
+// The last `count` of 16 bytes, then zeros. They are moved within a word: a block that is copied by parts is read only
+// after all of them reached the cache.
+fn last_bytes(bytes: &[u8], count: usize) -> [u8; 16]
+    requires { (length bytes.now ≡ 16) × (0 < count) × (count < 16) }
+    ensures { result ≡ drop (16 - count) bytes.now ++ replicate (16 - count) 0 }
+{
+    let mut block = [0; 16];
+    block.copy_from_slice(bytes);
+    le_bytes(u128::from_le_bytes(block) >> (8 * (16 - count) as u32))
+}
+
 /// A text that comes in pieces of any length: what took in its whole blocks of 16 bytes, and the bytes
-/// after them. Whole blocks are handed on many at a time; only the ends of a piece are copied.
+/// after them, with zeros behind. Whole blocks are handed on many at a time; only the ends of a piece are
+/// copied.
 #[derive(Drop)]
 pub struct Pieces<A> {
     core: A,
@@ -105,10 +118,12 @@ impl<A: Absorb> Pieces<A> {
     {
         self.buffer[self.used..16].copy_from_slice(bytes);
         self.core.absorb(&self.buffer);
+        self.buffer = [0; 16];
         self.used = 0;
     }
 
     // Adds bytes if no block is begun.
+    #[inline(always)]
     fn update_whole(&mut self, bytes: &[u8])
         requires { self.old.used ≡ 0 }
         ensures { (k m : List ℕ) → HoldsPieces A.absorbed self.old k m
@@ -116,12 +131,14 @@ impl<A: Absorb> Pieces<A> {
     {
         let whole = bytes.len() / 16 * 16;
         if whole == 0 {
-            self.keep(bytes);
+            self.buffer = padded(bytes);
+            self.used = bytes.len();
             return;
         }
         self.core.absorb(&bytes[..whole]);
         if whole < bytes.len() {
-            self.keep(&bytes[whole..]);
+            self.used = bytes.len() - whole;
+            self.buffer = last_bytes(&bytes[bytes.len() - 16..], self.used);
         }
     }
 
@@ -130,15 +147,18 @@ impl<A: Absorb> Pieces<A> {
         ensures { (k m : List ℕ) → HoldsPieces A.absorbed self.old k m
             → HoldsPieces A.absorbed self.new k (m ++ piece.now) }
     {
-        if self.used == 0 {
-            self.update_whole(piece);
-        } else if piece.len() < 16 - self.used {
-            self.keep(piece);
-        } else {
-            let room = 16 - self.used;
+        let mut rest = piece;
+        let begun = self.used;
+        if begun > 0 {
+            let room = 16 - begun;
+            if piece.len() < room {
+                self.keep(piece);
+                return;
+            }
             self.fill(&piece[..room]);
-            self.update_whole(&piece[room..]);
+            rest = &piece[room..];
         }
+        self.update_whole(rest);
     }
 
     /// Adds `piece` to the end of the text, while `stream` XORs its next bytes into `bytes`, both of any
@@ -162,9 +182,23 @@ impl<A: Absorb> Pieces<A> {
             → HoldsPieces A.absorbed self.new k (pad16 m) }
     {
         if self.used > 0 {
-            let zeros = [0u8; 16];
-            let missing = 16 - self.used;
-            self.fill(&zeros[..missing]);
+            self.core.absorb(&self.buffer);
+            self.buffer = [0; 16];
+            self.used = 0;
+        }
+    }
+
+    /// Adds the fewest zero bytes that make the length of the text a multiple of 16, and then a block.
+    pub fn pad16_and_add(&mut self, block: &[u8; 16])
+        ensures { (k m : List ℕ) → HoldsPieces A.absorbed self.old k m
+            → HoldsPieces A.absorbed self.new k (pad16 m ++ block.now) }
+    {
+        if self.used == 0 {
+            self.core.absorb(block);
+        } else {
+            self.core.absorb([self.buffer, *block].as_flattened());
+            self.buffer = [0; 16];
+            self.used = 0;
         }
     }
 }

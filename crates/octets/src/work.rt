@@ -22,7 +22,7 @@ pub trait Work: Copy {
 /// taken: so the code before a step stays apart from the code after it.
 #[derive(Clone, Copy)]
 pub struct Idle<'a> {
-    // What is left after one step more, of which there is none.
+    // The work after one step more, of which there is none.
     next: Option<&'a Idle<'a>>,
 }
 

@@ -6,7 +6,7 @@ ghost use Rattle.poly1305.specs.Poly1305.{block_number};
 use crate::Multiplier;
 use crate::partial_sum::PartialSum;
 use crate::residue::{Residue, Sum};
-use octets::{Absorb, Pieces, Stream, Tag};
+use octets::{Absorb, Pieces, Stream, Tag, le_bytes};
 
 // The bits of r that the clamping keeps (RFC 8439, 2.5).
 const R_MASK: u128 = 0x0ffffffc0ffffffc0ffffffc0fffffff;
@@ -149,6 +149,15 @@ impl<M: Multiplier> PolyBy<M> {
         self.pieces.pad16();
     }
 
+    /// Adds the fewest zero bytes that make the text's length a multiple of 16 bytes, and then a block of 16
+    /// (RFC 8439, 2.8.1).
+    pub fn pad16_and_add(&mut self, block: &[u8; 16])
+        ensures { (k m : List ℕ) → HoldsBy M.factor self.old k m
+            → HoldsBy M.factor self.new k (pad16 m ++ block.now) }
+    {
+        self.pieces.pad16_and_add(block);
+    }
+
     /// Returns the tag of the text so far (RFC 8439, 2.5).
     pub fn tag(&self) -> Tag
         ensures value { (k m : List ℕ) → HoldsBy M.factor self.now k m → result ≡ poly1305 k m }
@@ -161,7 +170,7 @@ impl<M: Multiplier> PolyBy<M> {
             let last = short_block_number(rest);
             sum = core.multiplier.step(sum.sum(), last, 0).residue();
         }
-        Tag::new(sum.low.wrapping_add(core.addend).to_le_bytes())
+        Tag::new(le_bytes(sum.low.wrapping_add(core.addend)))
     }
 
     /// Returns the tag of the text (RFC 8439, 2.5). Consumes the state.

@@ -1,4 +1,4 @@
-use Rattle.std.proofs.Common.{◌≡◌, ℕ, List, ◌∙◌, arith, length}
+use Rattle.std.proofs.Common.{◌≡◌, ℕ, List, arith, length}
 use Rattle.chacha.specs.Code.Lanes.{lane}
 use Rattle.chacha.proofs.SideBySide.{Xored, xored_none, xored_lane, xored_all}
 use Rattle.chacha.proofs.lanes.xor_lanes.Goals as goal

@@ -16,13 +16,11 @@ returns g c = λ s m h fits is_aad is_bytes.
     let most : text_limit s.suite < 2 ^ 61 = rw (ap text_limit_by h.0) (omega arith) in
     let aad_small : c.args.aad_length < 2 ^ 61 = omega (arith, is_aad, fits.aad_fits, aad_most) in
     let small : c.args.bytes_length < 2 ^ 61 = omega (arith, is_bytes, fits.text_fits, most) in
-    let long : length c.joined.result ≡ 16 =
-    ap length (c.joined.ensures ∙ ap₂ (λ x y. x ++ y) c.to_be_bytes.ensures c.to_be_bytes-2.ensures) in
-    let whole : length (fed ++ c.joined.result) % 16 ≡ 0 = whole_ended (pad16 s.aad ++ m) c.joined.result long in
+    let long : length c.be_pair.result ≡ 16 = ap length c.be_pair.ensures in
+    let whole : length (fed ++ c.be_pair.result) % 16 ≡ 0 = whole_ended (pad16 s.aad ++ m) c.be_pair.result long in
     by_ghash s m _ _ _ _ h.0 h.2 is_aad is_bytes
     (c.new.ensures.value ∙ c.xored.ensures
     ∙ ap₂ xor_bytes c.bytes.ensures.value
-    (c.bytes-2.ensures.value ∙ c.hash.ensures.value k _ (c.update.ensures k fed h.1) whole
-    ∙ ap (λ z. ghash k (fed ++ z)) (c.joined.ensures ∙ ap₂ (λ x y. x ++ y)
-    (c.to_be_bytes.ensures ∙ ap (to_be_bytes w64) (c.bits-first.ensures aad_small))
-    (c.to_be_bytes-2.ensures ∙ ap (to_be_bytes w64) (c.bits-second.ensures small)))))
+    (c.bytes-2.ensures.value ∙ c.hash.ensures.value k _ (c.pad16_and_add.ensures k (pad16 s.aad ++ m) h.1) whole
+    ∙ ap (λ z. ghash k (fed ++ z)) (c.be_pair.ensures ∙ ap₂ (λ x y. to_be_bytes w64 x ++ to_be_bytes w64 y)
+    (c.bits-first.ensures aad_small) (c.bits-second.ensures small))))

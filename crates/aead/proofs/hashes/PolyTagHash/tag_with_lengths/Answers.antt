@@ -10,6 +10,6 @@ returns c = λ s m h fits is_aad is_bytes.
     let k : List ℕ = poly_key s.key s.nonce in
     let fed : List ℕ = pad16 (pad16 s.aad ++ m) in
     by_poly1305 s m _ _ _ h.0 is_aad is_bytes
-    (c.tag.ensures.value k _ (c.update.ensures k fed h.1)
+    (c.tag.ensures.value k _ (c.pad16_and_add.ensures k (pad16 s.aad ++ m) h.1)
     ∙ ap (λ z. poly1305 k (fed ++ z))
     (c.joined.ensures ∙ ap₂ (λ x y. x ++ y) c.to_le_bytes.ensures c.to_le_bytes-2.ensures))

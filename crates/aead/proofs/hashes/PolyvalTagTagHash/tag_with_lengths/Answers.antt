@@ -28,7 +28,7 @@ returns g c = λ s m h fits is_aad is_bytes.
     ∙ ap₂ cipher c.kept.ensures
     (c.new.ensures.value ∙ c.tag_block-block.ensures
     ∙ ap₂ tag_block
-    (c.bytes.ensures.value ∙ c.hash.ensures.value k _ (c.update.ensures k fed held) whole
+    (c.bytes.ensures.value ∙ c.hash.ensures.value k _ (c.pad16_and_add.ensures k (pad16 s.aad ++ m) held) whole
     ∙ ap (λ z. polyval k (fed ++ z)) (c.joined.ensures ∙ ap₂ (λ x y. x ++ y)
     (c.to_le_bytes.ensures ∙ ap (to_le_bytes w64) (c.bits-first.ensures aad_small))
     (c.to_le_bytes-2.ensures ∙ ap (to_le_bytes w64) (c.bits-second.ensures small))))

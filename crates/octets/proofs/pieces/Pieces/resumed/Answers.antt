@@ -1,6 +1,6 @@
 use Rattle.std.proofs.Common.{◌*◌, ◌/◌, ◌∙◌, ap, arith, length}
-use Rattle.std.proofs.lemmas.List.{length-drop}
-use Rattle.std.proofs.lemmas.Slice.{take-put_mid}
+use Rattle.std.proofs.lemmas.List.{length-drop, drop-replicate}
+use Rattle.std.proofs.lemmas.Slice.{take-put_mid, drop-put_mid}
 use Rattle.std.proofs.Common.{replicate}
 use Rattle.octets.proofs.pieces.Pieces.resumed.Goals as goal
 
@@ -16,4 +16,7 @@ returns g c = λ k m held e.
             (omega (arith, ap length after)) (omega arith)
             ∙ after ∙ e;
       };
+      zeros = drop-put_mid 0 (length x) (replicate 16 0) c.copy_from_slice.new.self (length x) (omega arith)
+          (omega arith) (ap length after ∙ omega arith)
+          ∙ drop-replicate (length x) 16 0;
     }

@@ -30,4 +30,4 @@ returns-clause-value g c = λ k m held.
     let addend : core.addend ≡ s_of k = taken.addend_is in
     let same : (c.if-rest-gt0.sum.low + core.addend) % 2 ^ 128
     ≡ (block_sum (r_of k) m (block_count m) % prime + s_of k) % 2 ^ 128 = omega arith in
-    c.new.ensures.value ∙ c.to_le_bytes.ensures ∙ ap (to_le_bytes w128) same
+    c.new.ensures.value ∙ c.le_bytes.ensures ∙ ap (to_le_bytes w128) same

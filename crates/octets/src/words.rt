@@ -1,0 +1,95 @@
+// Numbers and their bytes, which are made as one vector: for `to_le_bytes` LLVM shifts out each byte.
+
+ghost use Rattle.std.specs.Prelude.{◌≡◌, ◌++◌, ◌-◌, ◌<◌, ◌^◌, length, replicate};
+ghost use Rattle.octets.specs.Bytes.{le};
+ghost use Rattle.std.specs.Int.{w64, w128, to_le_bytes, to_be_bytes};
+
+use std::simd::prelude::*;
+use std::simd::{u8x16, u64x2};
+
+// Its bytes, the least significant one first.
+#[inline(always)]
+fn lanes_of(word: u128) -> u8x16
+    ensures { result ≡ to_le_bytes w128 word }
+{
+    let low = (word % 0x1_0000_0000_0000_0000) as u64;
+    let high = (word >> 64) as u64;
+    u64x2::from_array([low, high]).to_le_bytes()
+}
+
+/// The 16 bytes of a number, the least significant one first.
+#[inline(always)]
+pub fn le_bytes(word: u128) -> [u8; 16]
+    ensures { result ≡ to_le_bytes w128 word }
+{
+    lanes_of(word).to_array()
+}
+
+/// The 16 bytes of a number, the most significant one first.
+#[inline(always)]
+pub fn be_bytes(word: u128) -> [u8; 16]
+    ensures { result ≡ to_be_bytes w128 word }
+{
+    lanes_of(word).reverse().to_array()
+}
+
+// The bytes of two numbers, one after the other, each with the least significant one first.
+#[inline(always)]
+fn lanes_of_two(first: u64, second: u64) -> u8x16
+    ensures { result ≡ to_le_bytes w64 first ++ to_le_bytes w64 second }
+{
+    u64x2::from_array([first, second]).to_le_bytes()
+}
+
+/// The 8 bytes of a number and the 8 of another, each with the most significant one first.
+#[inline(always)]
+pub fn be_pair(first: u64, second: u64) -> [u8; 16]
+    ensures { result ≡ to_be_bytes w64 first ++ to_be_bytes w64 second }
+{
+    lanes_of_two(second, first).reverse().to_array()
+}
+
+// The number that at most 3 bytes spell, the least significant one first.
+#[inline(always)]
+fn number_of_three(bytes: &[u8]) -> u32
+    requires { length bytes.now < 4 }
+    ensures value { result ≡ le bytes.now }
+    ensures small { result < 2 ^ 24 }
+{
+    match bytes.len() {
+        0 => 0,
+        1 => u32::from(bytes[0]),
+        2 => u32::from(bytes[0]) + 256 * u32::from(bytes[1]),
+        _ => u32::from(bytes[0]) + 256 * u32::from(bytes[1]) + 65536 * u32::from(bytes[2]),
+    }
+}
+
+// The number that at most 7 bytes spell.
+#[inline(always)]
+fn number_of_seven(bytes: &[u8]) -> u64
+    requires { length bytes.now < 8 }
+    ensures { result ≡ le bytes.now }
+{
+    match bytes.split_first_chunk::<4>() {
+        Some((front, back)) => {
+            u64::from(u32::from_le_bytes(*front)) + u64::from(number_of_three(back)) * 0x1_0000_0000
+        }
+        None => u64::from(number_of_three(bytes)),
+    }
+}
+
+// Fewer than 16 bytes, and zeros up to 16. They are read by eight and four, and written at once.
+#[inline(always)]
+pub(crate) fn padded(bytes: &[u8]) -> [u8; 16]
+    requires { length bytes.now < 16 }
+    ensures { result ≡ bytes.now ++ replicate (16 - length bytes.now) 0 }
+{
+    match bytes.split_first_chunk::<8>() {
+        Some((front, back)) => {
+            let low = u64::from_le_bytes(*front);
+            let high = number_of_seven(back);
+            le_bytes(u128::from(low) + u128::from(high) * 0x1_0000_0000_0000_0000)
+        }
+        None => le_bytes(u128::from(number_of_seven(bytes))),
+    }
+}
