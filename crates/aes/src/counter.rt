@@ -8,7 +8,7 @@ ghost use Rattle.aes.specs.Code.Nibbles.{CountsInNibble};
 ghost use Rattle.aes.specs.Code.Wraps.{WrapsAround, up_be-wraps, up_le-wraps};
 
 use crate::key::{AesKey, KeptKey};
-use crate::planes::{Planes, count_blocks};
+use crate::planes::{Planes, count_blocks, no_planes};
 use byteorder::{BigEndian, ByteOrder, LittleEndian};
 use octets::{Block, Stream, WIDE, Work, xor_into};
 use std::marker::PhantomData;
@@ -304,7 +304,8 @@ impl<C: Count> Counter<C> {
         requires { self.old.used ≡ 0 }
         ensures { AdvancesFront C.up key.now self.old self.new bytes.old bytes.new result }
     {
-        let words = key.planes();
+        let mut words = no_planes();
+        key.make_planes(&mut words);
         let mut done = 0;
         'sixteens: while bytes.len() - done > 176 {
             let next = (bytes.len() - done).min(256);

@@ -194,11 +194,11 @@ impl AesKey {
         self.encrypt_ready(&self.ready(), blocks)
     }
 
-    // The words of its rounds in planes of bits.
-    pub(crate) fn planes(&self) -> [Planes; 15]
-        ensures { AreReady result (schedule self.now) (round_count self.now) }
+    // Makes the words of its rounds in planes of bits.
+    pub(crate) fn make_planes(&self, keys: &mut [Planes; 15])
+        ensures { AreReady keys.new (schedule self.now) (round_count self.now) }
     {
-        ready_planes(&self.words, self.size + 6)
+        ready_planes(keys, &self.words, self.size + 6);
     }
 
     // The ciphers of sixteen blocks in planes, by the words of the rounds in planes.

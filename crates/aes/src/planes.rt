@@ -434,19 +434,24 @@ fn rows(key: u8x16) -> u8x16
     key.swizzle([0, 4, 8, 12, 1, 5, 9, 13, 2, 6, 10, 14, 3, 7, 11, 15])
 }
 
+// Room for the words of each round in planes.
+#[inline(always)]
+pub(crate) fn no_planes() -> [Planes; 15] {
+    [[u8x32::splat(0); 8]; 15]
+}
+
 // The words of each round up to the last one, in planes: from the second round key on plus the constant of
-// the S-box, and those of the last round in the order of the bytes of a block.
-pub(crate) fn ready_planes(words: &[u32; 60], last: usize) -> [Planes; 15]
+// the S-box, and those of the last round in the order of the bytes of a block. They are made where they stay,
+// since they are 3,840 bytes.
+pub(crate) fn ready_planes(keys: &mut [Planes; 15], words: &[u32; 60], last: usize)
     requires { (0 < last) × (last < 15) }
-    ensures { AreReady result (columns_of words.now) last }
+    ensures { AreReady keys.new (columns_of words.now) last }
 {
-    let mut keys = [[u8x32::splat(0); 8]; 15];
     keys[0] = spread(rows(key_bytes(words, 0)));
     for n in 1..last {
         keys[n] = spread(rows(masked(key_bytes(words, n))));
     }
     keys[last] = spread(masked(key_bytes(words, last)));
-    keys
 }
 
 // The bits of a number below 2^16, bit q in each lane for block q.

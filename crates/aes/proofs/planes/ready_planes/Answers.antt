@@ -11,8 +11,10 @@ loop-n-init c =
     let ws = columns_of c.args.words.now in
     record {
       size = search rules;
-      first = first_key c.spread.result c.rows.result c.key_bytes.result ws c.spread.ensures c.rows.ensures
-          c.key_bytes.ensures.bytes;
+      first = subst (λ p. HoldsBits p (λ l k. word_byte ws 0 (spot l)))
+          (sym (get_or-set_same c.args.keys.now 0 c.spread.result [] (search rules)))
+          (first_key c.spread.result c.rows.result c.key_bytes.result ws c.spread.ensures c.rows.ensures
+          c.key_bytes.ensures.bytes);
       middle = λ n h l. absurd (omega arith);
     }
 
