@@ -138,7 +138,10 @@ impl Count for FirstFour {
 }
 
 // From so many bytes on, making the planes of the key pays.
-const PLANES_PAY: usize = if WIDE { 481 } else { 512 };
+const PLANES_PAY: usize = if WIDE { 353 } else { 512 };
+
+// Once they are made, a run of sixteen blocks pays for more than so many bytes.
+const SIXTEEN_PAY: usize = if WIDE { 96 } else { 176 };
 
 // A stream from its first block on, but for its key: how many blocks were begun, modulo 2^32, and the cipher of
 // the last one with the number of its bytes that were used, 0 if all were.
@@ -297,8 +300,8 @@ impl<C: Count> Counter<C> {
         xor_fours(bytes, &a, &b, &c, &d);
     }
 
-    // XORs in runs of sixteen blocks, the last one perhaps in part, while more than 176 bytes are left, and returns
-    // how many bytes were taken. A function of its own, since its frame would slow down short messages.
+    // XORs in runs of sixteen blocks, the last one perhaps in part, while they pay, and returns how many bytes were
+    // taken. A function of its own, since its frame would slow down short messages.
     #[inline(never)]
     fn apply_sixteens(&mut self, key: &AesKey, bytes: &mut [u8]) -> usize
         requires { self.old.used ≡ 0 }
@@ -307,7 +310,7 @@ impl<C: Count> Counter<C> {
         let mut words = no_planes();
         key.make_planes(&mut words);
         let mut done = 0;
-        'sixteens: while bytes.len() - done > 176 {
+        'sixteens: while bytes.len() - done > SIXTEEN_PAY {
             let next = (bytes.len() - done).min(256);
             self.begin_sixteen(key, &words, &mut bytes[done..done + next]);
             done += next;
