@@ -125,7 +125,8 @@ impl Gcm {
         &self.multiplier
     }
 
-    // A multiplier of its hash key.
+    // A multiplier of its hash key. It is inlined, since a large one would be moved.
+    #[inline(always)]
     pub(crate) fn multiplier_of<M: Keyed128>(&self) -> M
         ensures { M.key_bytes result ≡ hash_key self.now.key }
     {

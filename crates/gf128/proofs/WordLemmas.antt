@@ -15,7 +15,7 @@ use mathlib.Core.Path.{fun_ext}
 use Rattle.octets.specs.Bytes.{le, be, IsBlock}
 use Rattle.octets.specs.Bits.{bit, is_odd, g, v}
 use Rattle.octets.specs.Polynomial.{coefficient, plus, product, residue, Agree}
-use Rattle.octets.proofs.Sequence.{plus_comm}
+use Rattle.octets.proofs.Sequence.{plus_comm, mult, mult_comm}
 use Rattle.octets.proofs.BitFacts.{bit_suc, bit_zero, bit_of_xor, bit_of_zero}
 use Rattle.octets.proofs.Numbers.{be_word, be_bit, be_push, le_word, byte_bit, bytes_high_at}
 use Rattle.octets.proofs.Readings.{made_same, g_injective, v_is}
@@ -24,7 +24,7 @@ use Rattle.octets.proofs.Ring.{residue_more, residue_agree, coefficient_product,
 use Rattle.octets.proofs.Ring.{the_residue}
 use Rattle.gf128.specs.Ghash.{ghash_modulus, IsProduct}
 use Rattle.gf128.specs.Polyval.{IsMulX}
-use Rattle.gf128.specs.Code.Words.{of_bits, of_word, IsWordProduct, reduction, times_x}
+use Rattle.gf128.specs.Code.Words.{of_bits, of_word, IsBitsProduct, IsWordProduct, reduction, times_x}
 
 -- ---- words and blocks
 pub of_word-be : (bs : List ℕ) → IsBlock bs → of_word (from_be_bytes w128 bs) ≡ g bs
@@ -199,6 +199,18 @@ IsSoFar f h i p = Agree (of_word p) (residue ghash_modulus (product (drop (128 -
 residue_zero : (k : ℕ) → coefficient (residue ghash_modulus []) k ≡ false
 unfolding residue
 residue_zero k = refl
+
+-- a product by 0 is 0
+product_zero : (p : List Bool) → Agree (product p (of_word 0)) []
+product_zero p k =
+    coefficient_product p (of_word 0) k ∙ ap (λ f. mult p f k) (fun_ext of_word_zero) ∙ ap (λ f. f k) (mult_comm p [])
+
+-- every multiple of the word 0 is 0
+pub multiple_of_zero : (w n : ℕ) → IsBitsProduct w n 0 0
+multiple_of_zero w n k =
+    let p : List Bool = of_bits w n in
+    of_word_zero k
+    ∙ sym (residue_agree ghash_modulus (product p (of_word 0)) [] refl (product_zero p) k ∙ residue_zero k)
 
 -- before the first bit
 pub so_far_none : (f h : ℕ) → IsSoFar f h 0 0

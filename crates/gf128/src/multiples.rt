@@ -130,14 +130,23 @@ fn fill(entries: &mut [u128; 256], word: u128)
 }
 
 impl Multiples256 {
-    // The multiples of a word.
+    // The multiples of 0.
     #[inline(always)]
-    pub(crate) fn of(word: u128) -> Multiples256
-        ensures { result.word ≡ word }
+    pub(crate) fn none() -> Multiples256
+        ensures { result.word ≡ 0 }
     {
-        let mut entries = [0u128; 256];
-        fill(&mut entries, word);
-        Multiples256 { word, entries }
+        Multiples256 {
+            word: 0,
+            entries: [0; 256],
+        }
+    }
+
+    // They become the multiples of a word.
+    pub(crate) fn set(&mut self, word: u128)
+        ensures { self.new.word ≡ word }
+    {
+        fill(&mut self.entries, word);
+        self.word = word;
     }
 
     // The multiple by a byte.

@@ -8,6 +8,7 @@ ghost use Rattle.gf128.specs.Code.Words.{of_word, products, IsReduced};
 use crate::chain::{Chain, times_x64};
 use crate::multiples::Multiples256;
 use crate::polynomial_word::{block_of, bytes_of, high_half, low_half, word_of};
+use crate::table_mul::TableMul;
 use crate::{Keyed128, Multiply};
 use octets::Block;
 
@@ -77,16 +78,24 @@ impl Multiply for WideMul {
 }
 
 impl Keyed128 for WideMul {
+    // The tables are made where they stay.
+    #[inline(always)]
     fn of(key: &Block) -> WideMul {
-        let first = Multiples256::of(word_of(key.bytes()));
-        let second = first.times_word(first.word);
-        let third = first.times_word(second);
-        let fourth = first.times_word(third);
-        WideMul {
-            first,
-            second: Multiples256::of(second),
-            third: Multiples256::of(third),
-            fourth: Multiples256::of(fourth),
-        }
+        let word = word_of(key.bytes());
+        let by_key = TableMul::of(key);
+        let second = by_key.times_word(word);
+        let third = by_key.times_word(second);
+        let fourth = by_key.times_word(third);
+        let mut made = WideMul {
+            first: Multiples256::none(),
+            second: Multiples256::none(),
+            third: Multiples256::none(),
+            fourth: Multiples256::none(),
+        };
+        made.first.set(word);
+        made.second.set(second);
+        made.third.set(third);
+        made.fourth.set(fourth);
+        made
     }
 }
