@@ -140,6 +140,9 @@ impl Count for FirstFour {
 // From so many bytes on, making the planes of the key pays.
 const PLANES_PAY: usize = if WIDE { 353 } else { 512 };
 
+// A run of four blocks pays for more than so many bytes.
+const FOUR_PAY: usize = if WIDE { 32 } else { 48 };
+
 // Once they are made, a run of sixteen blocks pays for more than so many bytes.
 const SIXTEEN_PAY: usize = if WIDE { 96 } else { 176 };
 
@@ -324,12 +327,12 @@ impl<C: Count> Counter<C> {
         requires { self.old.used ≡ 0 }
         ensures { AdvancesFront C.up key.now self.old self.new bytes.old bytes.new result }
     {
-        if bytes.len() <= 48 {
+        if bytes.len() <= FOUR_PAY {
             return 0;
         }
         let words = key.ready();
         let mut done = 0;
-        'fours: while bytes.len() - done > 48 {
+        'fours: while bytes.len() - done > FOUR_PAY {
             let next = (bytes.len() - done).min(64);
             self.begin_four(key, &words, &mut bytes[done..done + next]);
             done += next;
@@ -343,7 +346,7 @@ impl<C: Count> Counter<C> {
         ensures { AdvancesFront C.up key.now self.old self.new bytes.old bytes.new result }
     {
         // A short text makes no call: `apply_fours` would take none of it.
-        if bytes.len() <= 48 {
+        if bytes.len() <= FOUR_PAY {
             return 0;
         }
         if bytes.len() < PLANES_PAY {

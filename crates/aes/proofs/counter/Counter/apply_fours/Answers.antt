@@ -21,5 +21,5 @@ fours-preserved g c =
     (c.begin_four.auto.bytes ∙ part) c.begin_four.ensures.advances
     (λ l. omega (arith, l, part, within, c.min-next.ensures, c.begin_four.ensures.used))
 
-pub returns-then-bytes-le48 : goal.returns-then-bytes-le48
-returns-then-bytes-le48 g c = front_none g.C.Count.up c.args.key.now c.args.self.now c.args.bytes.now c.requires
+pub returns-then-bytes-le-FOUR_PAY : goal.returns-then-bytes-le-FOUR_PAY
+returns-then-bytes-le-FOUR_PAY g c = front_none g.C.Count.up c.args.key.now c.args.self.now c.args.bytes.now c.requires
