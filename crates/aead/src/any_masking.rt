@@ -11,7 +11,7 @@ use crate::hashes::GhashTag;
 use crate::masking::Masking;
 use aes::{AesKey, CtrBe};
 use chacha::ChaStream;
-use gf128::PlacedMul;
+use gf128::TableMul;
 use octets::Tag;
 use poly1305::Poly;
 
@@ -21,7 +21,7 @@ pub(crate) enum AnyMasking {
     // ChaCha20-Poly1305.
     ByChaCha(Masking<ChaStream, Poly, MaskFirst>),
     // AES-GCM.
-    ByGcm(Masking<CtrBe<AesKey>, GhashTag<PlacedMul>, MaskFirst>),
+    ByGcm(Masking<CtrBe<AesKey>, GhashTag<TableMul>, MaskFirst>),
 }
 
 impl AnyMasking {

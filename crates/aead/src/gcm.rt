@@ -16,7 +16,7 @@ use crate::multiples::{Multiples, worth};
 use crate::nonced::Nonced;
 use crate::suite::Suite;
 use aes::{AesKey, CtrBe, KeptKey};
-use gf128::{Ghash, Keyed128, Multiply, PlacedMul, TableMul, WideMul};
+use gf128::{Ghash, Keyed128, Multiply, TableMul, WideMul};
 use octets::{Block, Fault, Nonce, Tag};
 use std::marker::Model;
 
@@ -140,7 +140,8 @@ impl Gcm {
         requires text_fits { length text.old ≤ text_limit self.now.suite }
         ensures { Opened (setting self.now nonce.now aad.now) (text.new ++ result) text.old }
     {
-        let made = self.multiplier_of::<M>();
+        let mut made = M::none();
+        made.set(&self.ghash_key);
         seal_whole(&self.nonced(nonce, &self.key, &made), aad, text)
     }
 
@@ -157,7 +158,8 @@ impl Gcm {
         requires text_fits { length body.old ≤ text_limit self.now.suite }
         ensures { OpensInPlace (setting self.now nonce.now aad.now) tag.now body.old body.new result }
     {
-        let made = self.multiplier_of::<M>();
+        let mut made = M::none();
+        made.set(&self.ghash_key);
         open_whole(&self.nonced(nonce, &self.key, &made), aad, body, tag)
     }
 }
@@ -228,7 +230,6 @@ impl Cipher for Gcm {
             Multiples::Few => {
                 seal_whole(&self.nonced(nonce, &self.key, self.multiplier()), aad, text)
             }
-            Multiples::AtEightPlaces => self.seal_by::<PlacedMul>(nonce, aad, text),
             Multiples::OfFourPowers => self.seal_by::<WideMul>(nonce, aad, text),
         }
     }
@@ -249,7 +250,6 @@ impl Cipher for Gcm {
                     tag,
                 )
             }
-            Multiples::AtEightPlaces => self.open_by::<PlacedMul>(nonce, aad, body, tag),
             Multiples::OfFourPowers => self.open_by::<WideMul>(nonce, aad, body, tag),
         }
     }

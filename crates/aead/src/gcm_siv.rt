@@ -19,7 +19,7 @@ use crate::multiples::{Multiples, worth};
 use crate::nonced::Nonced;
 use crate::suite::Suite;
 use aes::{AesKey, CtrLe, KeptKey};
-use gf128::{Keyed128, Multiply, PlacedMul, Polyval, TableMul, WideMul};
+use gf128::{Keyed128, Multiply, Polyval, TableMul, WideMul};
 use octets::{Block, Fault, Nonce, Tag};
 use std::marker::Model;
 
@@ -111,7 +111,8 @@ impl GcmSiv {
         ensures { Opened (setting self.now nonce.now aad.now) (text.new ++ result) text.old }
     {
         let keys = self.derive(nonce);
-        let multiplier = M::of(&keys.hash_key);
+        let mut multiplier = M::none();
+        multiplier.set(&keys.hash_key);
         seal_whole(
             &self.nonced(nonce, &keys.encryption, &multiplier),
             aad,
@@ -133,7 +134,8 @@ impl GcmSiv {
         ensures { OpensInPlace (setting self.now nonce.now aad.now) tag.now body.old body.new result }
     {
         let keys = self.derive(nonce);
-        let multiplier = M::of(&keys.hash_key);
+        let mut multiplier = M::none();
+        multiplier.set(&keys.hash_key);
         open_whole(
             &self.nonced(nonce, &keys.encryption, &multiplier),
             aad,
@@ -219,7 +221,6 @@ impl Cipher for GcmSiv {
     fn seal_fitting(&self, nonce: &Nonce, aad: &[u8], text: &mut [u8]) -> Tag {
         match worth((aad.len() + text.len()) as u64) {
             Multiples::Few => self.seal_by::<TableMul>(nonce, aad, text),
-            Multiples::AtEightPlaces => self.seal_by::<PlacedMul>(nonce, aad, text),
             Multiples::OfFourPowers => self.seal_by::<WideMul>(nonce, aad, text),
         }
     }
@@ -233,7 +234,6 @@ impl Cipher for GcmSiv {
     ) -> Result<(), Fault> {
         match worth((aad.len() + body.len()) as u64) {
             Multiples::Few => self.open_by::<TableMul>(nonce, aad, body, tag),
-            Multiples::AtEightPlaces => self.open_by::<PlacedMul>(nonce, aad, body, tag),
             Multiples::OfFourPowers => self.open_by::<WideMul>(nonce, aad, body, tag),
         }
     }

@@ -14,7 +14,7 @@ use crate::aead::Aead;
 use crate::any::AnyOnePass;
 use crate::any_masking::AnyMasking;
 use crate::mask_then_hash::sealing;
-use gf128::PlacedMul;
+use gf128::TableMul;
 use octets::{Fault, Nonce, Tag};
 
 /// A text that is sealed piece by piece in one reading.
@@ -33,7 +33,7 @@ fn any_sealing(cipher: &AnyOnePass, nonce: &Nonce, aad: &[u8]) -> AnyMasking
     match cipher {
         AnyOnePass::ChaCha(cipher) => AnyMasking::ByChaCha(sealing(&cipher.nonced(nonce), aad)),
         AnyOnePass::Gcm(cipher) => {
-            let multiplier = cipher.multiplier_of::<PlacedMul>();
+            let multiplier = cipher.multiplier_of::<TableMul>();
             let nonced = cipher.nonced(nonce, *cipher.key(), multiplier);
             AnyMasking::ByGcm(sealing(&nonced, aad))
         }

@@ -16,15 +16,15 @@ use crate::masking::Masking;
 use crate::nonced::authenticator;
 use crate::second_reading::repeats;
 use aes::{AesKey, CtrLe};
-use gf128::{Keyed128, PlacedMul};
+use gf128::{Keyed128, TableMul};
 use octets::{Fault, Nonce, Tag};
 
 /// The first reading of a text that is sealed by AES-GCM-SIV.
 #[derive(Drop)]
 pub struct SivAbsorb {
-    authenticator: Authenticator<PolyvalTag<PlacedMul, AesKey>>,
+    authenticator: Authenticator<PolyvalTag<TableMul, AesKey>>,
     // The authenticator that the second reading begins with.
-    again: Authenticator<PolyvalTag<PlacedMul, AesKey>>,
+    again: Authenticator<PolyvalTag<TableMul, AesKey>>,
     encryption: AesKey,
     limit: u64,
     ghost within: { authenticator.length ≤ limit },
@@ -53,7 +53,7 @@ impl SivAbsorb {
         ensures none { result.authenticator.length ≡ 0 }
     {
         let keys = cipher.derive(nonce);
-        let multiplier = PlacedMul::of(&keys.hash_key);
+        let multiplier = TableMul::of(&keys.hash_key);
         let nonced = cipher.nonced(nonce, keys.encryption, multiplier);
         SivAbsorb {
             authenticator: authenticator(&nonced, aad),
@@ -112,7 +112,7 @@ impl SivAbsorb {
 /// The second reading of a text that is sealed by AES-GCM-SIV.
 #[derive(Drop)]
 pub struct SivWriter {
-    masking: Masking<CtrLe<AesKey>, PolyvalTag<PlacedMul, AesKey>, HashFirst>,
+    masking: Masking<CtrLe<AesKey>, PolyvalTag<TableMul, AesKey>, HashFirst>,
     tag: Tag,
 }
 

@@ -1,7 +1,7 @@
 -- Products of some bits of a number and a word.
 use Rattle.std.proofs.Common.{◌≡◌, ℕ, zero, suc, ◌+◌, ◌-◌, ◌*◌, ◌/◌, ◌%◌, ◌^◌, ◌<◌, ◌≤◌, Bool, true, false}
 use Rattle.std.proofs.Common.{◌==◌, List, [], ◌∷◌, ◌++◌, length, get_or, reverse, replicate, bit_xor, inl}
-use Rattle.std.proofs.Common.{inr, refl, sym, ap, ap₂, ◌∙◌, arith, zero-add}
+use Rattle.std.proofs.Common.{inr, refl, sym, subst, ap, ap₂, ◌∙◌, arith, zero-add}
 use mathlib.Core.Path.{fun_ext}
 use Rattle.std.specs.Int.{w64, w128, to_be_bytes, to_le_bytes, bytes_high_first, byte_at}
 use Rattle.std.proofs.Math.Nat.{zero-mul, one-mul}
@@ -230,20 +230,6 @@ moved_product w h moved q mv =
     ∙ fun_ext (residue_product m q up refl) ∙ residue_same m (product q up) (replicate w false
     ++ product q (of_word h)) refl (x_second w q (of_word h))
 
--- the bits at one place more
-pub place_more : (w d n h moved : ℕ) (q : List Bool) → IsMoved w h moved
-    → coefficient (residue ghash_modulus q)
-    ≡ coefficient (residue ghash_modulus (product (of_bits d n) (of_word moved)))
-    → coefficient (residue ghash_modulus (sum (product (of_bits w (n / 2 ^ d)) (of_word h)) q))
-    ≡ coefficient (residue ghash_modulus (product (of_bits (w + d) n) (of_word h)))
-place_more w d n h moved q mv e =
-    let m : List Bool = ghash_modulus in
-    let p : List Bool = product (of_bits w (n / 2 ^ d)) (of_word h) in
-    let r : List Bool = replicate w false ++ product (of_bits d n) (of_word h) in
-    residue_parts p q ∙ ap (sum_of (coefficient (residue m p))) (e ∙ moved_product w h moved (of_bits d n)
-    mv) ∙ sym (residue_parts p r)
-    ∙ residue_same m (sum p r) (product (of_bits (w + d) n) (of_word h)) refl (sym (product_joined w d n h))
-
 -- two products joined, the second by a moved word
 pub joined : (w d n h moved a b : ℕ) → IsMoved w h moved → IsBitsProduct w (n / 2 ^ d) h a
     → IsBitsProduct d n moved b
@@ -303,3 +289,17 @@ word_product_is x h z is =
     let agree : Agree (of_word z) (residue ghash_modulus (product (of_word x) (g (to_be_bytes w128 h)))) =
     rw (g-to_be h) is in
     the_residue ghash_modulus (product (of_word x) (g (to_be_bytes w128 h))) (of_word z) refl agree
+
+-- ---- tables
+
+-- the entries of a table, from place k on
+abbrev pub AllFrom : {A : Type 0} → (ℕ → A → Type 0) → ℕ → List A → Type 0
+AllFrom P k [] = Unit {0}
+AllFrom P k (x ∷ xs) = P k x × AllFrom P (suc k) xs
+
+-- an entry of a table
+pub entry_at : {A : Type 0} (P : ℕ → A → Type 0) (k j n : ℕ) (xs : List A) (d : A) → k + j ≡ n → j < length xs
+    → AllFrom P k xs → P n (get_or xs j d)
+entry_at P k j n [] d e l all = absurd (omega arith)
+entry_at P k zero n (x ∷ xs) d e l all = subst (λ (m : ℕ). P m x) (omega arith) all.0
+entry_at P k (suc j) n (x ∷ xs) d e l all = entry_at P (suc k) j n xs d (omega arith) (omega arith) all.1

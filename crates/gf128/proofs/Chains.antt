@@ -5,18 +5,17 @@ use mathlib.Core.Path.{fun_ext}
 use Rattle.std.proofs.lemmas.Bool.{cases_lt}
 use Rattle.octets.specs.Bits.{bit}
 use Rattle.octets.specs.Polynomial.{coefficient, plus, sum, product}
-use Rattle.octets.proofs.Sequence.{sum_of, plus_comm, plus_false}
+use Rattle.octets.proofs.Sequence.{sum_of, plus_comm}
 use Rattle.octets.proofs.Ring.{product_is}
 use Rattle.octets.proofs.Horner.{sum_is, residue_same}
 use Rattle.octets.proofs.Reversal.{raised, raised_high, coefficient_below}
 use Rattle.gf128.specs.Ghash.{ghash_modulus}
 use Rattle.gf128.specs.Code.Words.{of_bits, of_word, folded, IsReduced, IsBitsProduct, IsMoved, IsSpread}
 use Rattle.gf128.specs.Code.Words.{wide}
-use lib.Bits.{xor_zero_r}
-use Rattle.gf128.proofs.WordLemmas.{of_word_at, of_word_past, of_word_zero}
+use Rattle.gf128.proofs.WordLemmas.{of_word_at, of_word_past}
 use Rattle.gf128.proofs.BitParts.{bit_low, of_bits_at, of_bits_past, product_joined, reduced_same}
 use Rattle.gf128.proofs.BitParts.{reduced_sum, own_residue, residue_parts, x_same, moved_is}
-use Rattle.gf128.proofs.Folds.{of_word_shr, wide_low, wide_high, wide_more, wide_none, wide_alone}
+use Rattle.gf128.proofs.Folds.{of_word_shr, wide_low, wide_high, wide_more, wide_none}
 use Rattle.gf128.proofs.Folds.{folded_at}
 
 -- nothing taken in
@@ -111,25 +110,6 @@ half_moves n small k =
     ap (λ f. f k) (folded_at a b (omega arith) (omega arith)
     ∙ residue_same ghash_modulus (wide a b) (replicate 64 false ++ of_word n) refl
     (fun_ext (λ i. moved_half n i small) ∙ sym (fun_ext (coefficient_below 64 (of_word n)))))
-
--- a word times x^16
-pub part_moves : (n : ℕ) → n < 2 ^ 128 → IsMoved 16 n (folded (n / 2 ^ 16) (n % 2 ^ 16 * 2 ^ 48))
-part_moves n small k =
-    let a : ℕ = n / 2 ^ 16 in
-    let b : ℕ = n % 2 ^ 16 * 2 ^ 48 in
-    let alone : coefficient (wide n 0) ≡ coefficient (of_word n) = fun_ext (wide_alone n) in
-    let ea : bit_xor a 0 ≡ a = xor_zero_r a in
-    let eb : b + 0 ≡ b = omega arith in
-    let more : (i : ℕ) → coefficient (wide (bit_xor a 0) (b + 0)) i
-    ≡ plus (raised 16 (coefficient (wide n 0)) i) (coefficient (of_word 0) i) =
-    wide_more 16 n 0 0 (omega arith) small (omega arith) (omega arith) (λ i l. wide_alone n i
-    ∙ of_word_past n i (omega arith)) in
-    let moved : (i : ℕ) → coefficient (wide a b) i ≡ coefficient (replicate 16 false ++ of_word n) i = λ i.
-    sym (ap₂ (λ (y z : ℕ). coefficient (wide y z) i) ea eb) ∙ more i
-    ∙ ap₂ plus (ap (λ f. raised 16 f i) alone) (of_word_zero i)
-    ∙ plus_false (raised 16 (coefficient (of_word n)) i) ∙ sym (coefficient_below 16 (of_word n) i) in
-    ap (λ f. f k) (folded_at a b (omega arith) (omega arith) ∙ residue_same ghash_modulus (wide a b)
-    (replicate 16 false ++ of_word n) refl (fun_ext moved))
 
 -- the sums of the high and of the low half words' multiples
 pub two_chains : (p q : List Bool) (a b c : ℕ) → IsReduced p a → IsReduced q b → IsMoved 64 b c

@@ -17,9 +17,9 @@ use Rattle.octets.proofs.Spelled.{bytes_of_g_bytes, g_bytes_of}
 use Rattle.octets.proofs.Reversal.{raised, raised_low, raised_high, coefficient_below}
 use Rattle.gf128.specs.Ghash.{ghash_modulus}
 use Rattle.gf128.specs.Code.Words.{of_bits, of_word, products, IsReduced, IsWordProduct, IsFourProducts}
-use Rattle.gf128.specs.Code.Words.{IsSpread, IsMoved, IsBitsProduct}
+use Rattle.gf128.specs.Code.Words.{IsSpread, IsMoved}
 use Rattle.gf128.proofs.WordLemmas.{of_word_xor, of_word_zero, of_word-be, g-to_be, word_product}
-use Rattle.gf128.proofs.BitParts.{residue_parts, place_more, product_joined, reduced_same, reduced_is}
+use Rattle.gf128.proofs.BitParts.{residue_parts, product_joined, reduced_same, reduced_is}
 use Rattle.gf128.proofs.BitParts.{own_residue}
 use Rattle.gf128.proofs.Folds.{raised_sum}
 use Rattle.gf128.proofs.Chains.{spread_same, two_chains, no_bits}
@@ -101,22 +101,6 @@ pub four_parts : (w a b c d p q r e h s t u z : ℕ) → of_bits w p ≡ of_bits
     → IsReduced (products w ((p, u) ∷ (q, t) ∷ (r, s) ∷ (e, h) ∷ [])) z
     → IsReduced (products w ((a, u) ∷ (b, t) ∷ (c, s) ∷ (d, h) ∷ [])) z
 four_parts w a b c d p q r e h s t u z ea eb ec ed is = rw (ea, eb, ec, ed) at is
-
--- the products at four places
-pub four_places : (n h s t u z : ℕ) → IsMoved 16 h s → IsMoved 16 s t → IsMoved 16 t u
-    → IsReduced (products 16 ((n / 2 ^ 48, h) ∷ (n / 2 ^ 32, s) ∷ (n / 2 ^ 16, t) ∷ (n, u) ∷ [])) z
-    → IsBitsProduct 64 n h z
-four_places n h s t u z ms mt mu is k =
-    let m : List Bool = ghash_modulus in
-    let part : ℕ → ℕ → List Bool = λ (b w : ℕ). product (of_bits 16 b) (of_word w) in
-    let last : List Bool = sum (part n u) [] in
-    let third : List Bool = sum (part (n / 2 ^ 16) t) last in
-    let second : List Bool = sum (part (n / 2 ^ 32) s) third in
-    let alone : coefficient (residue m last) ≡ coefficient (residue m (part n u)) =
-    residue_same m last (part n u) refl (fun_ext (λ i. coefficient_sum (part n u) [] i
-    ∙ plus_false (coefficient (part n u) i))) in
-    is k ∙ ap (λ f. f k) (place_more 16 48 n h s second ms (place_more 16 32 n s t third mt
-    (place_more 16 16 n t u last mu alone)))
 
 -- ---- powers of the key
 

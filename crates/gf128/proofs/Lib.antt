@@ -3,6 +3,7 @@ pub mod Sums
 pub mod Dot
 pub mod PolyvalSums
 pub mod ByGhash
+pub mod LaneWords
 pub mod Folds
 pub mod BitParts
 pub mod Chains

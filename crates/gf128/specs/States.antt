@@ -8,12 +8,12 @@ use Rattle.gf128.specs.Orders.{Order, Straight, Reversed, Serves, block_sum}
 use Rattle.gf128.specs.declared.ghash.BigEndian.{BigEndian}
 use Rattle.gf128.specs.declared.hash.BlockHash.{BlockHash}
 use Rattle.gf128.specs.declared.hash.BlockSum.{BlockSum}
-use Rattle.gf128.specs.declared.placed_mul.PlacedMul.{PlacedMul}
 use Rattle.gf128.specs.declared.polyval.LittleEndian.{LittleEndian}
+use Rattle.gf128.specs.declared.table_mul.TableMul.{TableMul}
 
 -- the key of the multiplier of texts in pieces
-abbrev pub key_of : PlacedMul → List ℕ
-key_of s = to_be_bytes w128 s.high.first.word
+abbrev pub key_of : TableMul → List ℕ
+key_of s = to_be_bytes w128 s.multiples.high.word
 
 -- s has taken in the whole blocks m under the key h
 pub record SumHolds {M O : Type 0} (order : Order) (key : M → List ℕ) (s : BlockSum M O) (h : List ℕ)

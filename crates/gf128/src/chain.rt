@@ -1,10 +1,12 @@
-// A sum of multiples of degree below 192, taken in a few bits of the factors at a time.
+// A sum of multiples of degree below 192, taken in a byte of the factors at a time.
 
-ghost use Rattle.std.specs.Prelude.{◌≡◌, ℕ, ◌+◌, ◌≤◌, Bool, false, List, ◌++◌, replicate};
+ghost use Rattle.std.specs.Prelude.{◌≡◌, ℕ, ◌+◌, ◌/◌, ◌^◌, ◌≤◌, Bool, false, List, ◌++◌, replicate};
+ghost use Rattle.octets.specs.Bytes.{le};
 ghost use Rattle.octets.specs.Polynomial.{coefficient, sum};
 ghost use Rattle.gf128.specs.Code.Words.{folded, IsMoved, IsReduced, IsSpread};
 
-use crate::polynomial_word::low_half;
+use crate::lanes::Lanes;
+use crate::polynomial_word::{high_half, low_half};
 
 // The word and x^128 times the half word that fell out below it, reduced.
 #[inline(always)]
@@ -15,14 +17,6 @@ fn folded(word: u128, spill: u64) -> u128
     word ^ (high ^ ((high >> 1) ^ ((high >> 2) ^ (high >> 7))))
 }
 
-// The word times x^16.
-#[inline(always)]
-pub(crate) fn times_x16(word: u128) -> u128
-    ensures { IsMoved 16 word result }
-{
-    folded(word >> 16, (word % 0x1_0000) as u64 * 0x1_0000_0000_0000)
-}
-
 // The word times x^64.
 #[inline(always)]
 pub(crate) fn times_x64(word: u128) -> u128
@@ -31,11 +25,12 @@ pub(crate) fn times_x64(word: u128) -> u128
     folded(word >> 64, low_half(word))
 }
 
-// The sum of a word and x^128 times what fell out below it, which is folded in at the end.
+// The sum of a word and x^128 times what fell out below it, which is folded in at the end. That stands in the high
+// half of `spill`.
 #[derive(Drop, Clone, Copy)]
 pub(crate) struct Chain {
-    word: u128,
-    spill: u64,
+    word: Lanes,
+    spill: Lanes,
 }
 
 impl Chain {
@@ -43,42 +38,32 @@ impl Chain {
     #[inline(always)]
     pub(crate) fn empty() -> Chain
         ensures { (p : List Bool) → ((k : ℕ) → coefficient p k ≡ false)
-            → IsSpread 0 p result.word result.spill }
-    {
-        Chain { word: 0, spill: 0 }
-    }
-
-    // The sum times x^4, and a multiple by four bits more.
-    #[inline(always)]
-    pub(crate) fn take_four(self, multiple: u128) -> Chain
-        ensures { (d : ℕ) (p q : List Bool) → 4 + d ≤ 64 → IsSpread d p self.word self.spill
-            → IsReduced q multiple → IsSpread (4 + d) (sum q (replicate 4 false ++ p)) result.word
-            result.spill }
+            → IsSpread 0 p (le result.word.bytes) (le result.spill.bytes / 2 ^ 64) }
     {
         Chain {
-            word: (self.word >> 4) ^ multiple,
-            spill: (self.word % 16) as u64 * 0x1000_0000_0000_0000 + self.spill / 16,
+            word: Lanes::of(0),
+            spill: Lanes::of(0),
         }
     }
 
     // The sum times x^8, and a multiple by eight bits more.
     #[inline(always)]
-    pub(crate) fn take_eight(self, multiple: u128) -> Chain
-        ensures { (d : ℕ) (p q : List Bool) → 8 + d ≤ 64 → IsSpread d p self.word self.spill
-            → IsReduced q multiple → IsSpread (8 + d) (sum q (replicate 8 false ++ p)) result.word
-            result.spill }
+    pub(crate) fn take_eight(self, multiple: Lanes) -> Chain
+        ensures { (d : ℕ) (p q : List Bool) → 8 + d ≤ 64 → IsSpread d p (le self.word.bytes) (le self.spill.bytes / 2 ^ 64)
+            → IsReduced q (le multiple.bytes) → IsSpread (8 + d) (sum q (replicate 8 false ++ p)) (le result.word.bytes)
+            (le result.spill.bytes / 2 ^ 64) }
     {
         Chain {
-            word: (self.word >> 8) ^ multiple,
-            spill: (self.word % 256) as u64 * 0x100_0000_0000_0000 + self.spill / 256,
+            word: self.word.down_below(Lanes::of(0)).xor(multiple),
+            spill: self.spill.down_below(self.word),
         }
     }
 
     // The sum, reduced.
     #[inline(always)]
     pub(crate) fn reduced(self) -> u128
-        ensures { (d : ℕ) (p : List Bool) → IsSpread d p self.word self.spill → IsReduced p result }
+        ensures { (d : ℕ) (p : List Bool) → IsSpread d p (le self.word.bytes) (le self.spill.bytes / 2 ^ 64) → IsReduced p result }
     {
-        folded(self.word, self.spill)
+        folded(self.word.word(), high_half(self.spill.word()))
     }
 }

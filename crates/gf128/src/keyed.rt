@@ -1,6 +1,6 @@
 // Multiplication by a key in GHASH's field.
 
-ghost use Rattle.std.specs.Prelude.{◌≡◌, ℕ, List};
+ghost use Rattle.std.specs.Prelude.{◌≡◌, ℕ, List, replicate};
 ghost use Rattle.octets.specs.Bytes.{IsBlock};
 ghost use Rattle.gf128.specs.Ghash.{IsProduct};
 ghost use Rattle.gf128.specs.Code.Words.{IsFourProducts, IsWordProduct};
@@ -41,10 +41,24 @@ pub trait Multiply: Drop {
 }
 
 /// A multiplier that is made of its key.
-pub trait Keyed128: Multiply {
+pub trait Keyed128: Multiply + Sized {
     /// The multiplier of `key`.
     fn of(key: &Block) -> Self
         ensures { Self.key_bytes result ≡ key.now };
+
+    /// The multiplier of the key of 16 zeros, for [`Keyed128::set`].
+    fn none() -> Self
+        ensures { Self.key_bytes result ≡ replicate 16 0 }
+    {
+        Self::of(&Block::new([0; 16]))
+    }
+
+    /// It becomes the multiplier of `key`, where it stays: a large one takes long to move.
+    fn set(&mut self, key: &Block)
+        ensures { Self.key_bytes self.new ≡ key.now }
+    {
+        *self = Self::of(key);
+    }
 }
 
 /// A multiplier that is kept elsewhere.

@@ -7,8 +7,8 @@ mod chain;
 mod ghash;
 mod hash;
 mod keyed;
+mod lanes;
 mod multiples;
-mod placed_mul;
 mod polynomial_word;
 mod polyval;
 mod table_mul;
@@ -22,12 +22,11 @@ pub use bit_mul::BitMul;
 pub use ghash::{BigEndian, Ghash, ghash_is_the_only};
 pub use hash::{BlockHash, ByteOrder};
 pub use keyed::{Keyed128, Multiply};
-pub use placed_mul::PlacedMul;
 pub use polyval::{
     LittleEndian, Polyval, dot_is_the_only, polyval_by_ghash, polyval_is_the_only, reversed_mul_x,
 };
 pub use table_mul::TableMul;
 pub use wide_mul::WideMul;
 
-/// The multiplier for a key of which nothing more is known: 16 multiples, quickly made.
+/// The multiplier for a key of which nothing more is known: it is quickly made.
 pub type Mul = TableMul;

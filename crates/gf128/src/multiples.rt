@@ -1,11 +1,14 @@
 // The multiples of a word by two, four and eight bits, each made of two smaller ones. The bit of highest
 // weight is the coefficient of x^0.
 
-ghost use Rattle.std.specs.Prelude.{◌≡◌, ℕ, ◌<◌, slice_index};
+ghost use Rattle.std.specs.Prelude.{◌≡◌, ℕ, ◌<◌, slice_index_or};
 ghost use Rattle.std.specs.Int.{w128, to_be_bytes};
+ghost use Rattle.octets.specs.Bytes.{le};
+ghost use Rattle.gf128.specs.declared.lanes.Lanes.{Lanes};
 ghost use Rattle.gf128.specs.Code.Words.{IsBitsProduct, IsMoved, IsWordProduct};
 
 use crate::chain::{Chain, times_x64};
+use crate::lanes::Lanes;
 use crate::polynomial_word::{bytes_of, high_half, low_half, times_x};
 
 // The word times x^2.
@@ -30,8 +33,8 @@ fn times_x4(word: u128) -> u128
 #[derive(Drop)]
 struct Multiples4 {
     word: u128,
-    entries: [u128; 4],
-    ghost filled: { (j : ℕ) → j < 4 → IsBitsProduct 2 j word (slice_index entries j) },
+    entries: [Lanes; 4],
+    ghost filled: { (j : ℕ) (d : Lanes) → j < 4 → IsBitsProduct 2 j word (le (slice_index_or entries j d).bytes) },
 }
 
 impl Multiples4 {
@@ -40,91 +43,181 @@ impl Multiples4 {
     fn of(word: u128) -> Multiples4
         ensures { result.word ≡ word }
     {
-        let by_x = times_x(word);
+        let once = Lanes::of(word);
+        let by_x = Lanes::of(times_x(word));
         Multiples4 {
             word,
-            entries: [0, by_x, word, word ^ by_x],
+            entries: [Lanes::of(0), by_x, once, once.xor(by_x)],
         }
     }
 
     // The multiple by the two lowest bits of a number.
     #[inline(always)]
-    fn at(&self, bits: u64) -> u128
-        ensures { IsBitsProduct 2 bits self.now.word result }
+    fn at(&self, bits: u64) -> Lanes
+        ensures { IsBitsProduct 2 bits self.now.word (le result.bytes) }
     {
         self.entries[(bits % 4) as usize]
     }
 }
 
-// The multiple by four bits, from those of a word and of x^2 times it.
-#[inline(always)]
-fn by_four_bits(high: &Multiples4, low: &Multiples4, bits: u64) -> u128
-    requires { IsMoved 2 high.now.word low.now.word }
-    ensures { IsBitsProduct 4 bits high.now.word result }
-{
-    high.at(bits / 4) ^ low.at(bits)
+// The multiples of a word by four bits, each the sum of two by two.
+#[derive(Drop)]
+struct Multiples8 {
+    high: Multiples4,
+    low: Multiples4,
+    ghost moved: { IsMoved 2 high.word low.word },
+}
+
+impl Multiples8 {
+    // The multiples of a word.
+    #[inline(always)]
+    fn of(word: u128) -> Multiples8
+        ensures { result.high.word ≡ word }
+    {
+        Multiples8 {
+            high: Multiples4::of(word),
+            low: Multiples4::of(times_x2(word)),
+        }
+    }
+
+    // The multiple by the four lowest bits of a number.
+    #[inline(always)]
+    fn at(&self, bits: u64) -> Lanes
+        ensures { IsBitsProduct 4 bits self.now.high.word (le result.bytes) }
+    {
+        self.high.at(bits / 4).xor(self.low.at(bits))
+    }
 }
 
 // The 16 multiples of a word by four bits.
 #[derive(Drop, Clone, Copy)]
 pub(crate) struct Multiples16 {
     pub(crate) word: u128,
-    entries: [u128; 16],
-    ghost filled: { (j : ℕ) → j < 16 → IsBitsProduct 4 j word (slice_index entries j) },
+    entries: [Lanes; 16],
+    ghost filled: { (j : ℕ) (d : Lanes) → j < 16 → IsBitsProduct 4 j word (le (slice_index_or entries j d).bytes) },
 }
 
 impl Multiples16 {
-    // The multiples of a word, made of those by two bits.
+    // The multiples of a word. They are written out, since LLVM would look the smaller ones up in memory.
     #[inline(always)]
     pub(crate) fn of(word: u128) -> Multiples16
         ensures { result.word ≡ word }
     {
-        let high = Multiples4::of(word);
-        let low = Multiples4::of(times_x2(word));
-        let mut entries = [0u128; 16];
-        'entries: for j in 0..16usize {
-            entries[j] = by_four_bits(&high, &low, j as u64);
+        let by_two = Multiples8::of(word);
+        Multiples16 {
+            word,
+            entries: [
+                by_two.at(0),
+                by_two.at(1),
+                by_two.at(2),
+                by_two.at(3),
+                by_two.at(4),
+                by_two.at(5),
+                by_two.at(6),
+                by_two.at(7),
+                by_two.at(8),
+                by_two.at(9),
+                by_two.at(10),
+                by_two.at(11),
+                by_two.at(12),
+                by_two.at(13),
+                by_two.at(14),
+                by_two.at(15),
+            ],
         }
-        Multiples16 { word, entries }
     }
 
     // The multiple by the four lowest bits of a number.
     #[inline(always)]
-    pub(crate) fn at(&self, bits: u64) -> u128
-        ensures { IsBitsProduct 4 bits self.now.word result }
+    pub(crate) fn at(&self, bits: u64) -> Lanes
+        ensures { IsBitsProduct 4 bits self.now.word (le result.bytes) }
     {
         self.entries[(bits % 16) as usize]
     }
 }
 
-// The multiple by eight bits, from those of a word and of x^4 times it.
-#[inline(always)]
-fn by_eight_bits(high: &Multiples16, low: &Multiples16, bits: u64) -> u128
-    requires { IsMoved 4 high.now.word low.now.word }
-    ensures { IsBitsProduct 8 bits high.now.word result }
-{
-    high.at(bits / 16) ^ low.at(bits)
+// The multiples of a word by eight bits.
+pub(crate) trait ByteMultiples {
+    // The word whose multiples they are.
+    ghost factor: { Self → ℕ };
+
+    // The multiple by a byte.
+    fn at(&self, byte: u8) -> Lanes
+        ensures { IsBitsProduct 8 byte (factor self.now) (le result.bytes) };
+
+    // The product of a half word and the word.
+    #[inline(always)]
+    fn times_half(&self, half: u64) -> u128
+        ensures { IsBitsProduct 64 half (factor self.now) result }
+    {
+        let bytes = bytes_of(half);
+        let mut sum = Chain::empty();
+        'places: for i in 0..8usize {
+            sum = sum.take_eight(self.at(bytes[i]));
+        }
+        sum.reduced()
+    }
+
+    // The product of another word and the word.
+    #[inline(always)]
+    fn times_word(&self, x: u128) -> u128
+        ensures { IsWordProduct x (to_be_bytes w128 (factor self.now)) result }
+    {
+        let high = self.times_half(high_half(x));
+        let low = self.times_half(low_half(x));
+        high ^ times_x64(low)
+    }
 }
 
-// The 256 multiples of a word by eight bits.
+// The multiples of a word by eight bits, each the sum of two by four: 32 are kept.
+#[derive(Drop, Clone, Copy)]
+pub(crate) struct Multiples32 {
+    pub(crate) high: Multiples16,
+    low: Multiples16,
+    ghost moved: { IsMoved 4 high.word low.word },
+}
+
+impl Multiples32 {
+    // The multiples of a word.
+    #[inline(always)]
+    pub(crate) fn of(word: u128) -> Multiples32
+        ensures { result.high.word ≡ word }
+    {
+        Multiples32 {
+            high: Multiples16::of(word),
+            low: Multiples16::of(times_x4(word)),
+        }
+    }
+}
+
+impl ByteMultiples for Multiples32 {
+    ghost factor = { λ s. s.high.word };
+
+    #[inline(always)]
+    fn at(&self, byte: u8) -> Lanes {
+        let bits = u64::from(byte);
+        self.high.at(bits / 16).xor(self.low.at(bits))
+    }
+}
+
+// All 256 multiples of a word by eight bits.
 #[derive(Drop)]
 pub(crate) struct Multiples256 {
     pub(crate) word: u128,
-    entries: [u128; 256],
-    ghost filled: { (j : ℕ) → j < 256 → IsBitsProduct 8 j word (slice_index entries j) },
+    entries: [Lanes; 256],
+    ghost filled: { (j : ℕ) (d : Lanes) → j < 256 → IsBitsProduct 8 j word (le (slice_index_or entries j d).bytes) },
 }
 
-// Makes a table the multiples of a word by eight bits, of those by four bits. It stays where it is: a table
-// of 4 KiB takes longer to move than to fill.
-fn fill(entries: &mut [u128; 256], word: u128)
-    ensures { (k : ℕ) → k < 256 → IsBitsProduct 8 k word (slice_index entries.new k) }
+// Makes a table the multiples of a word by eight bits. It stays where it is: a table of 4 KiB takes longer to move
+// than to fill.
+fn fill(entries: &mut [Lanes; 256], word: u128)
+    ensures { (k : ℕ) (d : Lanes) → k < 256 → IsBitsProduct 8 k word (le (slice_index_or entries.new k d).bytes) }
 {
-    let high = Multiples16::of(word);
-    let low = Multiples16::of(times_x4(word));
+    let multiples = Multiples32::of(word);
     'rows: for i in 0..16usize {
         'entries: for j in 0..16usize {
             let place = 16 * i + j;
-            entries[place] = by_eight_bits(&high, &low, place as u64);
+            entries[place] = multiples.at(place as u8);
         }
     }
 }
@@ -137,7 +230,7 @@ impl Multiples256 {
     {
         Multiples256 {
             word: 0,
-            entries: [0; 256],
+            entries: [Lanes::of(0); 256],
         }
     }
 
@@ -148,35 +241,13 @@ impl Multiples256 {
         fill(&mut self.entries, word);
         self.word = word;
     }
+}
 
-    // The multiple by a byte.
+impl ByteMultiples for Multiples256 {
+    ghost factor = { λ s. s.word };
+
     #[inline(always)]
-    pub(crate) fn at(&self, byte: u8) -> u128
-        ensures { IsBitsProduct 8 byte self.now.word result }
-    {
+    fn at(&self, byte: u8) -> Lanes {
         self.entries[byte as usize]
-    }
-
-    // The product of a half word and the word.
-    #[inline(always)]
-    fn times_half(&self, half: u64) -> u128
-        ensures { IsBitsProduct 64 half self.now.word result }
-    {
-        let bytes = bytes_of(half);
-        let mut sum = Chain::empty();
-        'places: for i in 0..8usize {
-            sum = sum.take_eight(self.at(bytes[i]));
-        }
-        sum.reduced()
-    }
-
-    // The product of another word and the word.
-    #[inline(always)]
-    pub(crate) fn times_word(&self, x: u128) -> u128
-        ensures { IsWordProduct x (to_be_bytes w128 self.now.word) result }
-    {
-        let high = self.times_half(high_half(x));
-        let low = self.times_half(low_half(x));
-        high ^ times_x64(low)
     }
 }

@@ -29,9 +29,8 @@ fn has_ghash(key: &[u8; 16], text: &[u8], want: &[u8; 16]) -> bool {
     let block = Block::new(*key);
     ghash_of::<BitMul>(key, text) == *want
         && ghash_of::<TableMul>(key, text) == *want
-        && ghash_of::<PlacedMul>(key, text) == *want
         && ghash_of::<WideMul>(key, text) == *want
-        && ghash_kept(&PlacedMul::of(&block), text) == *want
+        && ghash_kept(&TableMul::of(&block), text) == *want
         && ghash_kept(&WideMul::of(&block), text) == *want
 }
 
@@ -57,9 +56,8 @@ fn has_polyval(key: &[u8; 16], text: &[u8], want: &[u8; 16]) -> bool {
     let block = reversed_mul_x(&Block::new(*key));
     polyval_of::<BitMul>(key, text) == *want
         && polyval_of::<TableMul>(key, text) == *want
-        && polyval_of::<PlacedMul>(key, text) == *want
         && polyval_of::<WideMul>(key, text) == *want
-        && polyval_kept(&PlacedMul::of(&block), text) == *want
+        && polyval_kept(&TableMul::of(&block), text) == *want
 }
 
 // A product of two blocks.
@@ -87,7 +85,6 @@ fn x_times_the_highest_power_is_reduced(rt: HostRuntime) {
     assert!(rt; has_ghash(&x, &highest, &want));
     assert!(rt; product::<BitMul>(&x, &highest) == want);
     assert!(rt; product::<Mul>(&x, &highest) == want);
-    assert!(rt; product::<PlacedMul>(&x, &highest) == want);
     assert!(rt; product::<WideMul>(&x, &highest) == want);
 }
 

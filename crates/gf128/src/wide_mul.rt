@@ -1,19 +1,21 @@
-// Four products in one sum, by tables of 256 multiples of the key's first four powers.
+// Four products in one sum, by tables of multiples of the key's first four powers.
 
 ghost use Rattle.std.specs.Prelude.{List, [], ◌∷◌};
 ghost use Rattle.std.specs.Int.{w128, to_be_bytes};
+ghost use Rattle.octets.specs.Bytes.{le};
 ghost use Rattle.octets.specs.Polynomial.{power};
 ghost use Rattle.gf128.specs.Code.Words.{of_word, products, IsReduced};
 
 use crate::chain::{Chain, times_x64};
-use crate::multiples::Multiples256;
+use crate::lanes::Lanes;
+use crate::multiples::{ByteMultiples, Multiples256};
 use crate::polynomial_word::{block_of, bytes_of, high_half, low_half, word_of};
 use crate::table_mul::TableMul;
 use crate::{Keyed128, Multiply};
 use octets::Block;
 
 /// The multiplier that holds 256 multiples of each of the key's first four powers, 16 KiB, and takes four
-/// blocks at a time. It is for a text of some KiB, or for a key that is kept.
+/// blocks at a time. It is for a text of a KiB and more, or for a key that is kept.
 #[derive(Drop)]
 pub struct WideMul {
     first: Multiples256,
@@ -28,13 +30,14 @@ pub struct WideMul {
 impl WideMul {
     // The sum of the multiples by four bytes, that of the fourth power first.
     #[inline(always)]
-    fn four_multiples(&self, a: u8, b: u8, c: u8, d: u8) -> u128
+    fn four_multiples(&self, a: u8, b: u8, c: u8, d: u8) -> Lanes
         ensures { let s = self.now in
             IsReduced (products 8 ((a, s.fourth.word) ∷ (b, s.third.word) ∷ (c, s.second.word)
             ∷ (d, s.first.word) ∷ []))
-            result }
+            (le result.bytes) }
     {
-        self.fourth.at(a) ^ (self.third.at(b) ^ (self.second.at(c) ^ self.first.at(d)))
+        let low = self.second.at(c).xor(self.first.at(d));
+        self.fourth.at(a).xor(self.third.at(b).xor(low))
     }
 
     // The sum of four half words, the first times the fourth power of the key, the last times the key.
@@ -78,24 +81,34 @@ impl Multiply for WideMul {
 }
 
 impl Keyed128 for WideMul {
-    // The tables are made where they stay.
+    // A move that is inlined is one of 16 KiB, and one that is not is two.
     #[inline(always)]
     fn of(key: &Block) -> WideMul {
+        let mut made = WideMul::none();
+        made.set(key);
+        made
+    }
+
+    // Inlined, the tables are cleared where they stay.
+    #[inline(always)]
+    fn none() -> WideMul {
+        WideMul {
+            first: Multiples256::none(),
+            second: Multiples256::none(),
+            third: Multiples256::none(),
+            fourth: Multiples256::none(),
+        }
+    }
+
+    fn set(&mut self, key: &Block) {
         let word = word_of(key.bytes());
         let by_key = TableMul::of(key);
         let second = by_key.times_word(word);
         let third = by_key.times_word(second);
         let fourth = by_key.times_word(third);
-        let mut made = WideMul {
-            first: Multiples256::none(),
-            second: Multiples256::none(),
-            third: Multiples256::none(),
-            fourth: Multiples256::none(),
-        };
-        made.first.set(word);
-        made.second.set(second);
-        made.third.set(third);
-        made.fourth.set(fourth);
-        made
+        self.first.set(word);
+        self.second.set(second);
+        self.third.set(third);
+        self.fourth.set(fourth);
     }
 }

@@ -15,7 +15,7 @@ use crate::hash_then_mask::HashThenMask;
 use crate::mask_then_hash::MaskThenHash;
 use crate::multiples::{Multiples, worth};
 use crate::nonced::masking;
-use gf128::{Keyed128, PlacedMul, WideMul};
+use gf128::{Keyed128, TableMul, WideMul};
 use octets::{Fault, Intake, Nonce, Outlet};
 
 // Opens a whole reading by a cipher with a nonce whose tag is over the ciphertext.
@@ -114,6 +114,6 @@ pub(crate) fn pass_opening<I: Intake, O: Outlet>(
         Multiples::OfFourPowers => {
             pass_by::<WideMul, I, O>(cipher, nonce, aad, intake, measured, outlet)
         }
-        _ => pass_by::<PlacedMul, I, O>(cipher, nonce, aad, intake, measured, outlet),
+        Multiples::Few => pass_by::<TableMul, I, O>(cipher, nonce, aad, intake, measured, outlet),
     }
 }

@@ -19,7 +19,7 @@ use crate::hashes::TagHash;
 use crate::mask_then_hash::MaskThenHash;
 use crate::multiples::{Multiples, worth};
 use crate::nonced::authenticator;
-use gf128::{Keyed128, PlacedMul, WideMul};
+use gf128::{Keyed128, TableMul, WideMul};
 use octets::{Fault, Intake, Nonce, fill};
 
 // Takes in one piece: at most what the buffer holds.
@@ -120,7 +120,7 @@ pub(crate) fn verify_one_pass<I: Intake>(
                     measured,
                 )
             } else {
-                let made = cipher.multiplier_of::<PlacedMul>();
+                let made = cipher.multiplier_of::<TableMul>();
                 verify_over(
                     &cipher.nonced(nonce, cipher.key(), &made),
                     aad,

@@ -20,7 +20,7 @@ use crate::mask::MaskStream;
 use crate::multiples::{Multiples, worth};
 use crate::suite::Suite;
 use aes::{AesKey, CtrLe};
-use gf128::{PlacedMul, TableMul, WideMul};
+use gf128::{TableMul, WideMul};
 use octets::{Fault, Tag};
 
 // The most bytes that are decrypted at once in memory of their own.
@@ -108,11 +108,6 @@ fn take_siv_text(state: &mut StoredSealer, suite: Suite, tag: &[u8; 16], piece: 
     match worth(piece.len() as u64) {
         Multiples::Few => {
             take_text_by::<PolyvalTag<TableMul, AesKey>, CtrLe<AesKey>>(
-                state, suite, &mut mask, piece,
-            )
-        }
-        Multiples::AtEightPlaces => {
-            take_text_by::<PolyvalTag<PlacedMul, AesKey>, CtrLe<AesKey>>(
                 state, suite, &mut mask, piece,
             )
         }

@@ -23,7 +23,7 @@ use crate::multiples::{Multiples, worth};
 use crate::suite::Suite;
 use aes::{AesKey, CtrBe, CtrLe};
 use chacha::ChaStream;
-use gf128::{PlacedMul, TableMul, WideMul};
+use gf128::{TableMul, WideMul};
 use octets::{Block, Key32, Nonce, Tag};
 use poly1305::Poly;
 
@@ -193,9 +193,6 @@ fn mask_gcm<R: Order>(state: &mut StoredSealer, suite: Suite, order: &R, piece: 
         Multiples::Few => {
             mask_by::<GhashTag<TableMul>, CtrBe<AesKey>, R>(state, suite, &mut mask, order, piece)
         }
-        Multiples::AtEightPlaces => {
-            mask_by::<GhashTag<PlacedMul>, CtrBe<AesKey>, R>(state, suite, &mut mask, order, piece)
-        }
         Multiples::OfFourPowers => {
             mask_by::<GhashTag<WideMul>, CtrBe<AesKey>, R>(state, suite, &mut mask, order, piece)
         }
@@ -256,11 +253,6 @@ pub(super) fn mask_siv<R: Order>(
                 state, suite, &mut mask, order, piece,
             )
         }
-        Multiples::AtEightPlaces => {
-            mask_by::<PolyvalTag<PlacedMul, AesKey>, CtrLe<AesKey>, R>(
-                state, suite, &mut mask, order, piece,
-            )
-        }
         Multiples::OfFourPowers => {
             mask_by::<PolyvalTag<WideMul, AesKey>, CtrLe<AesKey>, R>(
                 state, suite, &mut mask, order, piece,
@@ -301,7 +293,6 @@ fn take_gcm(state: &mut StoredSealer, suite: Suite, piece: &[u8]) -> bool
 {
     match worth(piece.len() as u64) {
         Multiples::Few => take_by::<GhashTag<TableMul>>(state, suite, piece),
-        Multiples::AtEightPlaces => take_by::<GhashTag<PlacedMul>>(state, suite, piece),
         Multiples::OfFourPowers => take_by::<GhashTag<WideMul>>(state, suite, piece),
     }
 }
@@ -332,7 +323,6 @@ pub(super) fn take_siv(state: &mut StoredSealer, suite: Suite, piece: &[u8]) -> 
 {
     match worth(piece.len() as u64) {
         Multiples::Few => take_by::<PolyvalTag<TableMul, AesKey>>(state, suite, piece),
-        Multiples::AtEightPlaces => take_by::<PolyvalTag<PlacedMul, AesKey>>(state, suite, piece),
         Multiples::OfFourPowers => take_by::<PolyvalTag<WideMul, AesKey>>(state, suite, piece),
     }
 }

@@ -21,7 +21,7 @@ use crate::hashes::GhashTag;
 use crate::suite::Suite;
 use aes::AesKey;
 use chacha::block;
-use gf128::PlacedMul;
+use gf128::TableMul;
 use octets::{Block, Fault, Key32, Nonce, outcome_number};
 use poly1305::Poly;
 
@@ -86,7 +86,7 @@ pub(super) fn begun_gcm(
 {
     let tag_mask = cipher.encrypt(&counter_block(nonce, 1));
     let keys = joined_blocks(ghash_key.bytes(), tag_mask.bytes());
-    begun_by::<GhashTag<PlacedMul>>(suite, key, nonce, keys, aad)
+    begun_by::<GhashTag<TableMul>>(suite, key, nonce, keys, aad)
 }
 
 // The numbers of the empty text under the bytes of a key and a nonce.

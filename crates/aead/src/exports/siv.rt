@@ -24,7 +24,7 @@ use crate::derived_keys::{
 use crate::hashes::PolyvalTag;
 use crate::suite::Suite;
 use aes::AesKey;
-use gf128::{PlacedMul, TableMul};
+use gf128::TableMul;
 use octets::{Fault, Nonce, outcome_number, same};
 
 // The kind of struct in the first reading, to which its mark adds the suite's number: `sivone` in ASCII, and the
@@ -55,10 +55,10 @@ pub(super) fn begun(
     let hash_key = joined_blocks(hash_key(&parts).bytes(), &[0; 16]);
     if suite == Suite::Aes128GcmSiv {
         let key = short_encryption_key(&parts);
-        return Ok(begun_by::<PolyvalTag<PlacedMul, AesKey>>(suite, &key, &nonce, hash_key, aad));
+        return Ok(begun_by::<PolyvalTag<TableMul, AesKey>>(suite, &key, &nonce, hash_key, aad));
     }
     let key = long_encryption_key(&parts);
-    Ok(begun_by::<PolyvalTag<PlacedMul, AesKey>>(suite, &key, &nonce, hash_key, aad))
+    Ok(begun_by::<PolyvalTag<TableMul, AesKey>>(suite, &key, &nonce, hash_key, aad))
 }
 
 impl StoredPasses {

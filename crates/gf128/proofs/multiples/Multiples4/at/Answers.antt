@@ -1,4 +1,5 @@
-use Rattle.std.proofs.Common.{ℕ, ◌/◌, ◌%◌, arith, slice_index}
+use Rattle.std.proofs.Common.{ℕ, ◌/◌, ◌%◌, arith, slice_index_or}
+use Rattle.octets.specs.Bytes.{le}
 use Rattle.gf128.proofs.BitParts.{product_low}
 use Rattle.gf128.proofs.multiples.Multiples4.at.Goals as goal
 
@@ -6,5 +7,6 @@ pub returns : goal.returns
 returns c =
     let s = c.args.self.now in
     let n : ℕ = c.args.bits in
-    product_low 2 (n / 4) (n % 4) n s.word (slice_index s.entries (n % 4)) (omega arith)
-    (s.filled (n % 4) (omega arith))
+    let i : ℕ = n % 4 in
+    let entry = slice_index_or s.entries i c.index-self-bits.result in
+    product_low 2 (n / 4) i n s.word (le entry.bytes) (omega arith) (s.filled i c.index-self-bits.result (omega arith))

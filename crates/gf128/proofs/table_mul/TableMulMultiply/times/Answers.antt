@@ -7,5 +7,5 @@ use Rattle.gf128.proofs.table_mul.TableMulMultiply.times.Goals as goal
 pub returns-clause-value : goal.returns-clause-value
 returns-clause-value c =
     block_product c.word_of.result c.times_word.result c.args.x.now
-    (to_be_bytes w128 c.args.self.now.multiples.word) c.block_of.result
+    (to_be_bytes w128 c.args.self.now.multiples.high.word) c.block_of.result
     (c.word_of.ensures ∙ ap g c.bytes.ensures.value) c.times_word.ensures c.block_of.ensures.value

@@ -1,4 +1,5 @@
 use Rattle.std.proofs.Common.{◌≡◌, ℕ, ◌+◌, ◌*◌, ◌/◌, ◌^◌, ◌<◌, List, [], ◌∷◌, arith, slice_index}
+use Rattle.octets.specs.Bytes.{le}
 use Rattle.gf128.specs.Code.Words.{products, IsSpread, IsReduced}
 use Rattle.gf128.proofs.FourProducts.{shortened, products_none, products_more, four_parts}
 use Rattle.gf128.proofs.wide_mul.WideMul.four_halves.Goals as goal
@@ -26,15 +27,16 @@ places-preserved c =
     let all : List (ℕ × ℕ) = factors c.args.a c.args.b c.args.c c.args.d u t s h in
     let down : ℕ → ℕ = λ (n : ℕ). n / 2 ^ d in
     let small : i < 8 = c.places-test.true in
-    let part : IsReduced (products 8 (shortened d all)) c.four_multiples.result =
+    let part : IsReduced (products 8 (shortened d all)) (le c.four_multiples.result.bytes) =
     four_parts 8 (down c.args.a) (down c.args.b) (down c.args.c) (down c.args.d)
     (slice_index c.bytes_of-a_bytes.result i) (slice_index c.bytes_of-b_bytes.result i)
     (slice_index c.bytes_of-c_bytes.result i) (slice_index c.bytes_of-d_bytes.result i)
-    h s t u c.four_multiples.result
+    h s t u (le c.four_multiples.result.bytes)
     (c.bytes_of-a_bytes.ensures i small) (c.bytes_of-b_bytes.ensures i small)
     (c.bytes_of-c_bytes.ensures i small) (c.bytes_of-d_bytes.ensures i small)
     c.four_multiples.ensures in
-    products_more 8 d (8 * (i + 1)) all c.take_eight-sum.result.word c.take_eight-sum.result.spill
+    products_more 8 d (8 * (i + 1)) all (le c.take_eight-sum.result.word.bytes)
+    (le c.take_eight-sum.result.spill.bytes / 2 ^ 64)
     (omega arith)
     (c.take_eight-sum.ensures d (products d all) (products 8 (shortened d all)) (omega (arith, small))
     c.places.invariant part)
@@ -45,6 +47,6 @@ returns c =
     let all : List (ℕ × ℕ) = factors c.args.a c.args.b c.args.c c.args.d self.fourth.word self.third.word
     self.second.word self.first.word in
     let end : 8 * c.places.i ≡ 64 = omega (arith, c.places-test.false, c.places.auto.i-end) in
-    let done : IsSpread 64 (products 64 all) c.places.sum.word c.places.sum.spill =
+    let done : IsSpread 64 (products 64 all) (le c.places.sum.word.bytes) (le c.places.sum.spill.bytes / 2 ^ 64) =
     rw end at c.places.invariant in
     c.reduced.ensures 64 (products 64 all) done

@@ -1,4 +1,5 @@
-use Rattle.std.proofs.Common.{ℕ, List, [], Bool, bit_xor}
+use Rattle.std.proofs.Common.{◌≡◌, ℕ, List, [], Bool, ◌∙◌, ap, bit_xor}
+use Rattle.octets.specs.Bytes.{le}
 use Rattle.octets.specs.Polynomial.{sum, product}
 use Rattle.gf128.specs.Code.Words.{of_bits, of_word}
 use Rattle.gf128.proofs.BitParts.{reduced_sum}
@@ -13,9 +14,12 @@ returns c =
     let second : List Bool = part c.args.b s.third.word in
     let third : List Bool = part c.args.c s.second.word in
     let last : List Bool = part c.args.d s.first.word in
-    let t : ℕ = bit_xor c.at-3.result c.at-4.result in
-    reduced_sum first (sum second (sum third (sum last []))) c.at.result (bit_xor c.at-2.result t)
-    c.at.ensures
-    (reduced_sum second (sum third (sum last [])) c.at-2.result t c.at-2.ensures
-    (reduced_sum third (sum last []) c.at-3.result c.at-4.result c.at-3.ensures
-    (last_product last c.at-4.result c.at-4.ensures)))
+    let low : ℕ = bit_xor (le c.at.result.bytes) (le c.at-2.result.bytes) in
+    let is : le c.xor-2.result.bytes ≡ bit_xor (le c.at-3.result.bytes) (bit_xor (le c.at-4.result.bytes) low) =
+    c.xor-2.ensures ∙ ap (bit_xor (le c.at-3.result.bytes)) (c.xor.ensures ∙ ap (bit_xor (le c.at-4.result.bytes)) c.xor-low.ensures) in
+    rw is
+    (reduced_sum first (sum second (sum third (sum last []))) (le c.at-3.result.bytes) (bit_xor (le c.at-4.result.bytes) low)
+    c.at-3.ensures
+    (reduced_sum second (sum third (sum last [])) (le c.at-4.result.bytes) low c.at-4.ensures
+    (reduced_sum third (sum last []) (le c.at.result.bytes) (le c.at-2.result.bytes) c.at.ensures
+    (last_product last (le c.at-2.result.bytes) c.at-2.ensures))))

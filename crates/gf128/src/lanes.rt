@@ -1,0 +1,59 @@
+// Words of 128 bits in vectors: a move by a byte is one shuffle, where LLVM takes three shifts for a number.
+
+ghost use Rattle.std.specs.Prelude.{◌≡◌, ◌+◌, ◌*◌, ◌/◌, ◌%◌, ◌^◌, ◌<◌, bit_xor};
+ghost use Rattle.octets.specs.Bytes.{IsBlock, le};
+
+use octets::le_bytes;
+use std::simd::prelude::*;
+use std::simd::u8x16;
+
+// A word in the vector of its bytes, the least significant one first.
+#[derive(Drop, Clone, Copy)]
+pub(crate) struct Lanes {
+    bytes: u8x16,
+    ghost is_block: { IsBlock bytes },
+}
+
+impl Lanes {
+    // A word.
+    #[inline(always)]
+    pub(crate) fn of(word: u128) -> Lanes
+        ensures { le result.bytes ≡ word }
+    {
+        Lanes {
+            bytes: u8x16::from_array(le_bytes(word)),
+        }
+    }
+
+    // The word.
+    #[inline(always)]
+    pub(crate) fn word(self) -> u128
+        ensures { result ≡ le self.bytes }
+    {
+        u128::from_le_bytes(self.bytes.to_array())
+    }
+
+    // The XOR of two words.
+    #[inline(always)]
+    pub(crate) fn xor(self, other: Lanes) -> Lanes
+        ensures { le result.bytes ≡ bit_xor (le self.bytes) (le other.bytes) }
+    {
+        Lanes {
+            bytes: self.bytes ^ other.bytes,
+        }
+    }
+
+    // The word moved down by a byte, with the lowest byte of another word above it.
+    #[inline(always)]
+    pub(crate) fn down_below(self, above: Lanes) -> Lanes
+        ensures value { le result.bytes ≡ le above.bytes % 256 * 2 ^ 120 + le self.bytes / 256 }
+        ensures small { le self.bytes < 2 ^ 128 }
+    {
+        Lanes {
+            bytes: self.bytes.shuffle(
+                above.bytes,
+                [1, 2, 3, 4, 5, 6, 7, 8, 9, 10, 11, 12, 13, 14, 15, 16],
+            ),
+        }
+    }
+}
