@@ -321,8 +321,8 @@ impl<C: Count> Counter<C> {
         done
     }
 
-    // XORs in runs of four blocks, the last one perhaps in part, while more than 48 bytes are left, and returns how
-    // many bytes were taken.
+    // XORs in runs of four blocks, the last one perhaps in part, while they pay, and returns how many bytes were
+    // taken.
     fn apply_fours(&mut self, key: &AesKey, bytes: &mut [u8]) -> usize
         requires { self.old.used ≡ 0 }
         ensures { AdvancesFront C.up key.now self.old self.new bytes.old bytes.new result }
