@@ -1,13 +1,15 @@
 -- Eight planes of bits: sums, doubles and moves.
-use Rattle.std.proofs.Common.{◌≡◌, ℕ, ◌<◌, true, ltb, List, []}
+use Rattle.std.proofs.Common.{◌≡◌, ℕ, ◌+◌, ◌-◌, ◌<◌, ◌==◌, true, ltb, List, [], inl, inr}
+use Rattle.std.proofs.lemmas.Bool.{cases_lt, eqb-true}
 use Rattle.std.proofs.Common.{◌∷◌, ◌++◌, map, get_or, length, bit_xor, refl, sym, ap, ap₂, ◌∙◌, arith, ltb-true}
 use Rattle.std.specs.Int.{bit_at}
 use Rattle.std.proofs.lemmas.Nat.Bits.{bit_at_xor}
-use Rattle.std.proofs.lemmas.List.{get_or-map, get_or_append_left, length-map}
+use Rattle.std.proofs.lemmas.List.{get_or-map, get_or_append_left, get_or-append_right, length-map}
 use Rattle.std.proofs.lemmas.Simd.{length-zip2}
 use lib.Lanes.{zip2}
 use Rattle.aes.specs.Field.{times}
-use Rattle.aes.specs.Code.Planes.{HoldsBits}
+use Rattle.aes.specs.Code.Planes.{HoldsBits, HoldsLanes}
+use Rattle.aes.specs.declared.planes.TheConstants.{ALL}
 use Rattle.aes.proofs.Tested.{all_below, all_below_at, eight_cases}
 use Rattle.aes.proofs.Multiples.{double, double_is}
 use Rattle.aes.proofs.Circuit.{eight, at, at_sum, plus2, bits8, bits_at, same_list, same_at}
@@ -25,21 +27,46 @@ each_two F p q =
     refl refl refl refl refl refl refl refl
 
 -- lanes brought from places
-pub moved : (ps : List ℕ) → length ps ≡ 32 → all_below (λ i. ltb (get_or ps i 0) 32) 32 ≡ true
-    → (p : List (List ℕ)) (g : ℕ → ℕ → ℕ) → HoldsBits p g
-    → HoldsBits (map (λ v. map (λ i. get_or (v ++ v) i 0) ps) (eight p)) (λ l k. g (get_or ps l 0) k)
-moved ps long test p g h = record {
+pub moved : (n m : ℕ) (ps : List ℕ) → length ps ≡ m → all_below (λ i. ltb (get_or ps i 0) n) m ≡ true
+    → (p : List (List ℕ)) (g : ℕ → ℕ → ℕ) → HoldsLanes n p g
+    → HoldsLanes m (map (λ v. map (λ i. get_or (v ++ v) i 0) ps) (eight p)) (λ l k. g (get_or ps l 0) k)
+moved n m ps long test p g h = record {
   count = refl;
   long = λ j hj. ap length (each_of (λ v. map (λ i. get_or (v ++ v) i 0) ps) p j hj)
       ∙ length-map ps (λ i. get_or (get_or p j [] ++ get_or p j []) i 0) ∙ long;
   each = λ j l k hj hl hk.
-      let small : get_or ps l 0 < 32 = ltb-true (get_or ps l 0) 32 (all_below_at (λ i. ltb (get_or ps i 0) 32) 32 l test hl) in
+      let small : get_or ps l 0 < n = ltb-true (get_or ps l 0) n (all_below_at (λ i. ltb (get_or ps i 0) n) m l test hl) in
       let wide = h.long j hj in
       ap (λ v. at l k v) (each_of (λ v. map (λ i. get_or (v ++ v) i 0) ps) p j hj)
-      ∙ ap (λ n. bit_at n k) (get_or-map (λ i. get_or (get_or p j [] ++ get_or p j []) i 0) ps l 0 0 (omega arith)
-      ∙ get_or_append_left (get_or p j []) (get_or p j []) 0 (get_or ps l 0) (omega arith))
+      ∙ ap (λ n. bit_at n k) (get_or-map (λ i. get_or (get_or p j [] ++ get_or p j []) i 0) ps l 0 0 (omega (arith, long, hl))
+      ∙ get_or_append_left (get_or p j []) (get_or p j []) 0 (get_or ps l 0) (omega (arith, small, wide)))
       ∙ h.each j (get_or ps l 0) k hj small hk;
 }
+
+-- planes of 16 lanes and others after them
+pub both : (p q : List (List ℕ)) (g : ℕ → ℕ → ℕ) → HoldsLanes 16 p g → HoldsLanes 16 q (λ l k. g (16 + l) k)
+    → HoldsBits (zip2 (λ v w. map (λ i. get_or (v ++ w) i 0) ALL) (eight p) (eight q)) g
+both p q g hp hq =
+    let F : List ℕ → List ℕ → List ℕ = λ v w. map (λ i. get_or (v ++ w) i 0) ALL in
+    record {
+      count = refl;
+      long = λ j hj. ap length (each_two F p q j hj);
+      each = λ j l k hj hl hk.
+          let v : List ℕ = get_or p j [] in
+          let w : List ℕ = get_or q j [] in
+          let place : get_or ALL l 0 ≡ l = eqb-true (get_or ALL l 0) l (all_below_at (λ i. get_or ALL i 0 == i) 32 l refl hl) in
+          let brought : get_or (F v w) l 0 ≡ get_or (v ++ w) l 0 =
+          get_or-map (λ i. get_or (v ++ w) i 0) ALL l 0 0 hl ∙ ap (λ (i : ℕ). get_or (v ++ w) i 0) place in
+          ap (at l k) (each_two F p q j hj) ∙ ap (λ n. bit_at n k) brought
+          ∙ elim (cases_lt l 16) [
+            | inl low ↦ ap (λ n. bit_at n k) (get_or_append_left v w 0 l (omega (arith, low, hp.long j hj)))
+                ∙ hp.each j l k hj low hk
+            | inr high ↦
+                let back : 16 + (l - 16) ≡ l = omega (arith, high) in
+                ap (λ n. bit_at n k) (get_or-append_right v w 16 l 0 (hp.long j hj) high)
+                ∙ hq.each j (l - 16) k hj (omega (arith, hl, high)) hk ∙ ap (λ (i : ℕ). bit_at (g i k) j) back
+          ];
+    }
 
 -- the sums of bytes
 pub added : (p q : List (List ℕ)) (g h : ℕ → ℕ → ℕ) → HoldsBits p g → HoldsBits q h

@@ -8,7 +8,7 @@ use Rattle.std.proofs.lemmas.Bool.{and_parts, eqb-true}
 use Rattle.std.proofs.lemmas.List.{get_or-map, get_or-replicate, length-replicate}
 use Rattle.std.proofs.lemmas.Simd.{length-zip2, get_or-zip2}
 use lib.Lanes.{zip2}
-use Rattle.aes.specs.Code.Planes.{HoldsBits}
+use Rattle.aes.specs.Code.Planes.{HoldsLanes}
 use Rattle.aes.specs.Code.Lanes.{linear_sbox}
 use Rattle.aes.proofs.Tables.{sbox_at}
 use Rattle.aes.specs.declared.sbox.TheConstants.{SBOX}
@@ -90,17 +90,17 @@ pub bits_at : (x j : ℕ) → j < 8 → get_or (bits8 x) j 0 ≡ bit_at x j
 bits_at x = eight_cases (λ j. get_or (bits8 x) j 0 ≡ bit_at x j) refl refl refl refl refl refl refl refl
 
 -- ---- bits of planes
--- a plane of no bits
-abbrev pub none : List ℕ
-none = replicate 32 0
+-- a plane of n lanes without bits
+abbrev pub none : ℕ → List ℕ
+none n = replicate n 0
 
 -- bit k of lane l
 abbrev pub at : ℕ → ℕ → List ℕ → ℕ
 at l k v = bit_at (get_or v l 0) k
 
--- each plane has 32 lanes
-abbrev pub Long : List (List ℕ) → Type 0
-Long env = (i : ℕ) → length (get_or env i none) ≡ 32
+-- each plane has n lanes
+abbrev pub Long : ℕ → List (List ℕ) → Type 0
+Long n env = (i : ℕ) → length (get_or env i (none n)) ≡ n
 
 -- a member of a mapped list, whatever its place
 mapped : {A B : Type 0} (h : A → B) (d : A) (e : B) → h d ≡ e → (xs : List A) (i : ℕ)
@@ -110,59 +110,67 @@ mapped h d e same (x ∷ xs) zero = refl
 mapped h d e same (x ∷ xs) (suc i) = mapped h d e same xs i
 
 -- a bit of no bits
-pub at_none : (l k : ℕ) → l < 32 → at l k none ≡ 0
-at_none l k h = ap (λ n. bit_at n k) (get_or-replicate {A = ℕ} 32 l 0 0 h) ∙ bit_at-zero k
+pub at_none : (n l k : ℕ) → l < n → at l k (none n) ≡ 0
+at_none n l k h = ap (λ m. bit_at m k) (get_or-replicate {A = ℕ} n l 0 0 h) ∙ bit_at-zero k
 
-pub at_sum : (l k : ℕ) (x y : List ℕ) → length x ≡ 32 → length y ≡ 32 → l < 32
+pub at_sum : {n : ℕ} (l k : ℕ) (x y : List ℕ) → length x ≡ n → length y ≡ n → l < n
     → at l k (zip2 bit_xor x y) ≡ plus2 (at l k x) (at l k y)
 at_sum l k x y hx hy h =
-    ap (λ n. bit_at n k) (get_or-zip2 bit_xor x y l 0 0 0 (omega arith) (omega arith))
+    ap (λ m. bit_at m k) (get_or-zip2 bit_xor x y l 0 0 0 (omega (arith, hx, h)) (omega (arith, hy, h)))
     ∙ bit_at_xor (get_or x l 0) (get_or y l 0) k
 
-pub at_product : (l k : ℕ) (x y : List ℕ) → length x ≡ 32 → length y ≡ 32 → l < 32
+pub at_product : {n : ℕ} (l k : ℕ) (x y : List ℕ) → length x ≡ n → length y ≡ n → l < n
     → at l k (zip2 bit_and x y) ≡ min (at l k x) (at l k y)
 at_product l k x y hx hy h =
-    ap (λ n. bit_at n k) (get_or-zip2 bit_and x y l 0 0 0 (omega arith) (omega arith))
+    ap (λ m. bit_at m k) (get_or-zip2 bit_and x y l 0 0 0 (omega (arith, hx, h)) (omega (arith, hy, h)))
     ∙ bit_at_and (get_or x l 0) (get_or y l 0) k
 
--- what a gate makes of planes is long
-made_long : (b : Bool) (i j : ℕ) (env : List (List ℕ)) → Long env
-    → length (made (zip2 bit_and) (zip2 bit_xor) none (b, i, j) env) ≡ 32
-made_long true i j env h =
-    length-zip2 bit_and (get_or env i none) (get_or env j none) (h i ∙ sym (h j)) ∙ h i
-made_long false i j env h =
-    length-zip2 bit_xor (get_or env i none) (get_or env j none) (h i ∙ sym (h j)) ∙ h i
+-- what the gates make of planes of n lanes
+module _ (n : ℕ) where
+  abbrev make : Gate → List (List ℕ) → List ℕ
+  make = made (zip2 bit_and) (zip2 bit_xor) (none n)
 
--- the bits of what it makes
-made_bits : (l k : ℕ) → l < 32 → (b : Bool) (i j : ℕ) (env : List (List ℕ)) → Long env
-    → at l k (made (zip2 bit_and) (zip2 bit_xor) none (b, i, j) env) ≡ made min plus2 0 (b, i, j) (map (at l k) env)
-made_bits l k h true i j env long =
-    at_product l k (get_or env i none) (get_or env j none) (long i) (long j) h
-    ∙ sym (ap₂ min (mapped (at l k) none 0 (at_none l k h) env i) (mapped (at l k) none 0 (at_none l k h) env j))
-made_bits l k h false i j env long =
-    at_sum l k (get_or env i none) (get_or env j none) (long i) (long j) h
-    ∙ sym (ap₂ plus2 (mapped (at l k) none 0 (at_none l k h) env i) (mapped (at l k) none 0 (at_none l k h) env j))
+  abbrev run_planes : List Gate → List (List ℕ) → List (List ℕ)
+  run_planes = run (zip2 bit_and) (zip2 bit_xor) (none n)
 
--- one plane more
-longer : (v : List ℕ) (env : List (List ℕ)) → length v ≡ 32 → Long env → Long (v ∷ env)
-longer v env h long zero = h
-longer v env h long (suc i) = long i
+  -- what a gate makes of planes is long
+  made_long : (b : Bool) (i j : ℕ) (env : List (List ℕ)) → Long n env → length (make (b, i, j) env) ≡ n
+  made_long true i j env h =
+      length-zip2 bit_and (get_or env i (none n)) (get_or env j (none n)) (h i ∙ sym (h j)) ∙ h i
+  made_long false i j env h =
+      length-zip2 bit_xor (get_or env i (none n)) (get_or env j (none n)) (h i ∙ sym (h j)) ∙ h i
 
--- every plane made is long
-run_long : (gs : List Gate) (env : List (List ℕ)) → Long env → Long (run (zip2 bit_and) (zip2 bit_xor) none gs env)
-run_long [] env h = h
-run_long ((b, i, j) ∷ gs) env h =
-    run_long gs (made (zip2 bit_and) (zip2 bit_xor) none (b, i, j) env ∷ env)
-    (longer (made (zip2 bit_and) (zip2 bit_xor) none (b, i, j) env) env (made_long b i j env h) h)
+  -- the bits of what it makes
+  made_bits : (l k : ℕ) → l < n → (b : Bool) (i j : ℕ) (env : List (List ℕ)) → Long n env
+      → at l k (make (b, i, j) env) ≡ made min plus2 0 (b, i, j) (map (at l k) env)
+  made_bits l k h true i j env long =
+      at_product l k (get_or env i (none n)) (get_or env j (none n)) (long i) (long j) h
+      ∙ sym (ap₂ min (mapped (at l k) (none n) 0 (at_none n l k h) env i)
+      (mapped (at l k) (none n) 0 (at_none n l k h) env j))
+  made_bits l k h false i j env long =
+      at_sum l k (get_or env i (none n)) (get_or env j (none n)) (long i) (long j) h
+      ∙ sym (ap₂ plus2 (mapped (at l k) (none n) 0 (at_none n l k h) env i)
+      (mapped (at l k) (none n) 0 (at_none n l k h) env j))
 
--- the bits of all that is made
-run_bits : (l k : ℕ) → l < 32 → (gs : List Gate) (env : List (List ℕ)) → Long env
-    → map (at l k) (run (zip2 bit_and) (zip2 bit_xor) none gs env) ≡ run min plus2 0 gs (map (at l k) env)
-run_bits l k h [] env long = refl
-run_bits l k h ((b, i, j) ∷ gs) env long =
-    run_bits l k h gs (made (zip2 bit_and) (zip2 bit_xor) none (b, i, j) env ∷ env)
-    (longer (made (zip2 bit_and) (zip2 bit_xor) none (b, i, j) env) env (made_long b i j env long) long)
-    ∙ ap (λ n. run min plus2 0 gs (n ∷ map (at l k) env)) (made_bits l k h b i j env long)
+  -- one plane more
+  longer : (v : List ℕ) (env : List (List ℕ)) → length v ≡ n → Long n env → Long n (v ∷ env)
+  longer v env h long zero = h
+  longer v env h long (suc i) = long i
+
+  -- every plane made is long
+  run_long : (gs : List Gate) (env : List (List ℕ)) → Long n env → Long n (run_planes gs env)
+  run_long [] env h = h
+  run_long ((b, i, j) ∷ gs) env h =
+      run_long gs (make (b, i, j) env ∷ env) (longer (make (b, i, j) env) env (made_long b i j env h) h)
+
+  -- the bits of all that is made
+  run_bits : (l k : ℕ) → l < n → (gs : List Gate) (env : List (List ℕ)) → Long n env
+      → map (at l k) (run_planes gs env) ≡ run min plus2 0 gs (map (at l k) env)
+  run_bits l k h [] env long = refl
+  run_bits l k h ((b, i, j) ∷ gs) env long =
+      run_bits l k h gs (make (b, i, j) env ∷ env)
+      (longer (make (b, i, j) env) env (made_long b i j env long) long)
+      ∙ ap (λ m. run min plus2 0 gs (m ∷ map (at l k) env)) (made_bits l k h b i j env long)
 
 -- eight planes
 abbrev pub eight : List (List ℕ) → List (List ℕ)
@@ -170,21 +178,21 @@ eight p =
     get_or p 0 [] ∷ get_or p 1 [] ∷ get_or p 2 [] ∷ get_or p 3 [] ∷ get_or p 4 [] ∷ get_or p 5 [] ∷
     get_or p 6 [] ∷ get_or p 7 [] ∷ []
 
-eight_long : (p : List (List ℕ)) → ((j : ℕ) → j < 8 → length (get_or p j []) ≡ 32) → Long (eight p)
-eight_long p h zero = h 0 (omega arith)
-eight_long p h (suc zero) = h 1 (omega arith)
-eight_long p h (suc (suc zero)) = h 2 (omega arith)
-eight_long p h (suc (suc (suc zero))) = h 3 (omega arith)
-eight_long p h (suc (suc (suc (suc zero)))) = h 4 (omega arith)
-eight_long p h (suc (suc (suc (suc (suc zero))))) = h 5 (omega arith)
-eight_long p h (suc (suc (suc (suc (suc (suc zero)))))) = h 6 (omega arith)
-eight_long p h (suc (suc (suc (suc (suc (suc (suc zero))))))) = h 7 (omega arith)
-eight_long p h (suc (suc (suc (suc (suc (suc (suc (suc i)))))))) = length-replicate {A = ℕ} 32 0
+eight_long : (n : ℕ) (p : List (List ℕ)) → ((j : ℕ) → j < 8 → length (get_or p j []) ≡ n) → Long n (eight p)
+eight_long n p h zero = h 0 (omega arith)
+eight_long n p h (suc zero) = h 1 (omega arith)
+eight_long n p h (suc (suc zero)) = h 2 (omega arith)
+eight_long n p h (suc (suc (suc zero))) = h 3 (omega arith)
+eight_long n p h (suc (suc (suc (suc zero)))) = h 4 (omega arith)
+eight_long n p h (suc (suc (suc (suc (suc zero))))) = h 5 (omega arith)
+eight_long n p h (suc (suc (suc (suc (suc (suc zero)))))) = h 6 (omega arith)
+eight_long n p h (suc (suc (suc (suc (suc (suc (suc zero))))))) = h 7 (omega arith)
+eight_long n p h (suc (suc (suc (suc (suc (suc (suc (suc i)))))))) = length-replicate {A = ℕ} n 0
 
 -- the bits of eight planes are those of a byte
-eight_bits : (p : List (List ℕ)) (g : ℕ → ℕ → ℕ) (l k : ℕ) → HoldsBits p g → l < 32 → k < 8
+eight_bits : (n : ℕ) (p : List (List ℕ)) (g : ℕ → ℕ → ℕ) (l k : ℕ) → HoldsLanes n p g → l < n → k < 8
     → map (at l k) (eight p) ≡ bits8 (g l k)
-eight_bits p g l k h hl hk =
+eight_bits n p g l k h hl hk =
     ap₂ ◌∷◌ (h.each 0 l k (omega arith) hl hk) (
     ap₂ ◌∷◌ (h.each 1 l k (omega arith) hl hk) (
     ap₂ ◌∷◌ (h.each 2 l k (omega arith) hl hk) (
@@ -194,30 +202,30 @@ eight_bits p g l k h hl hk =
     ap₂ ◌∷◌ (h.each 6 l k (omega arith) hl hk) (
     ap₂ ◌∷◌ (h.each 7 l k (omega arith) hl hk) refl)))))))
 
--- the planes that the circuit makes
-abbrev pub planes_out : List (List ℕ) → List (List ℕ)
-planes_out p = outcome (zip2 bit_and) (zip2 bit_xor) none (eight p)
+-- the planes of n lanes that the circuit makes
+abbrev pub planes_out : ℕ → List (List ℕ) → List (List ℕ)
+planes_out n p = outcome (zip2 bit_and) (zip2 bit_xor) (none n) (eight p)
 
 -- a plane that it makes
-plane_out : (p : List (List ℕ)) (j : ℕ) → j < 8
-    → get_or (planes_out p) j [] ≡ get_or (run (zip2 bit_and) (zip2 bit_xor) none gates (eight p)) (get_or places j 0) none
-plane_out p j h =
-    get_or-map (λ i. get_or (run (zip2 bit_and) (zip2 bit_xor) none gates (eight p)) i none) places j 0 [] (omega arith)
+plane_out : (n : ℕ) (p : List (List ℕ)) (j : ℕ) → j < 8
+    → get_or (planes_out n p) j [] ≡ get_or (run_planes n gates (eight p)) (get_or places j 0) (none n)
+plane_out n p j h =
+    get_or-map (λ i. get_or (run_planes n gates (eight p)) i (none n)) places j 0 [] (omega arith)
 
 -- the S-box at each byte
-pub substituted : (p : List (List ℕ)) (g : ℕ → ℕ → ℕ) → ((l k : ℕ) → g l k < 256) → HoldsBits p g
-    → HoldsBits (planes_out p) (λ l k. linear_sbox (g l k))
+pub substituted : (n : ℕ) (p : List (List ℕ)) (g : ℕ → ℕ → ℕ) → ((l k : ℕ) → g l k < 256) → HoldsLanes n p g
+    → HoldsLanes n (planes_out n p) (λ l k. linear_sbox (g l k))
 unfolding linear_sbox
-substituted p g small h = record {
+substituted n p g small h = record {
   count = refl;
-  long = λ j hj. ap length (plane_out p j hj)
-      ∙ run_long gates (eight p) (eight_long p h.long) (get_or places j 0);
+  long = λ j hj. ap length (plane_out n p j hj)
+      ∙ run_long n gates (eight p) (eight_long n p h.long) (get_or places j 0);
   each = λ j l k hj hl hk.
-      ap (at l k) (plane_out p j hj)
-      ∙ sym (mapped (at l k) none 0 (at_none l k hl) (run (zip2 bit_and) (zip2 bit_xor) none gates (eight p)) (get_or places j 0))
+      ap (at l k) (plane_out n p j hj)
+      ∙ sym (mapped (at l k) (none n) 0 (at_none n l k hl) (run_planes n gates (eight p)) (get_or places j 0))
       ∙ ap (λ e. get_or e (get_or places j 0) 0)
-      (run_bits l k hl gates (eight p) (eight_long p h.long)
-      ∙ ap (run min plus2 0 gates) (eight_bits p g l k h hl hk))
+      (run_bits n l k hl gates (eight p) (eight_long n p h.long)
+      ∙ ap (run min plus2 0 gates) (eight_bits n p g l k h hl hk))
       ∙ sym (get_or-map (λ i. get_or (run min plus2 0 gates (bits8 (g l k))) i 0) places j 0 0 (omega arith))
       ∙ same_at (outcome min plus2 0 (bits8 (g l k))) (bits8 (bit_xor (get_or SBOX (g l k) 0) 0x63)) j
       (all_below_at (λ x. same_list (outcome min plus2 0 (bits8 x)) (bits8 (bit_xor (get_or SBOX x 0) 0x63))) 256

@@ -122,14 +122,14 @@ pub number_planes : (a b c d m : List ℕ) (f place : ℕ) → length a ≡ 32 �
     → ((l k : ℕ) → l < 32 → k < 8 → bit_at (get_or c l 0) k ≡ bit_at (0xf0f0f0f0 / 2 ^ f) (l / 16 * 8 + k))
     → ((l k : ℕ) → l < 32 → k < 8 → bit_at (get_or d l 0) k ≡ bit_at (0xff00ff00 / 2 ^ f) (l / 16 * 8 + k))
     → ((l : ℕ) → l < 32 → get_or m l 0 ≡ cond (spot l == place) 255 0)
-    → HoldsBits (zip2 bit_and a m ∷ zip2 bit_and b m ∷ zip2 bit_and c m ∷ zip2 bit_and d m ∷ none ∷ none ∷ none ∷ none ∷ [])
+    → HoldsBits (zip2 bit_and a m ∷ zip2 bit_and b m ∷ zip2 bit_and c m ∷ zip2 bit_and d m ∷ none 32 ∷ none 32 ∷ none 32 ∷ none 32 ∷ [])
     (λ l k. cond (spot l == place) ((f + (l / 16 * 8 + k)) % 16) 0)
 number_planes a b c d m f place la lb lc ld lm hf ba bb bc bd lanes =
-    let ps : List (List ℕ) = zip2 bit_and a m ∷ zip2 bit_and b m ∷ zip2 bit_and c m ∷ zip2 bit_and d m ∷ none ∷ none ∷ none
-    ∷ none ∷ [] in
+    let ps : List (List ℕ) = zip2 bit_and a m ∷ zip2 bit_and b m ∷ zip2 bit_and c m ∷ zip2 bit_and d m ∷ none 32 ∷ none 32
+    ∷ none 32 ∷ none 32 ∷ [] in
     let g : ℕ → ℕ → ℕ = λ (l k : ℕ). cond (spot l == place) ((f + (l / 16 * 8 + k)) % 16) 0 in
-    let empty : (l k j : ℕ) → l < 32 → 4 ≤ j → at l k none ≡ bit_at (g l k) j =
-    λ l k j hl hj. at_none l k hl ∙ sym (no_bit (spot l == place) (f + (l / 16 * 8 + k)) j hj) in
+    let empty : (l k j : ℕ) → l < 32 → 4 ≤ j → at l k (none 32) ≡ bit_at (g l k) j =
+    λ l k j hl hj. at_none 32 l k hl ∙ sym (no_bit (spot l == place) (f + (l / 16 * 8 + k)) j hj) in
     record {
       count = refl;
       long = eight_cases (λ j. length (get_or ps j []) ≡ 32)

@@ -12,8 +12,8 @@ use Rattle.std.proofs.Common.{drop, subst, ◌≤◌}
 use Rattle.std.proofs.lemmas.List.{get_or-drop}
 use Rattle.aes.specs.Schedule.{round_count, schedule}
 use Rattle.aes.proofs.Expanded.{HasSchedule}
-use Rattle.aes.specs.Code.Planes.{HoldsBits, HoldsSixteen, block_byte, spot, word_byte, masked_byte, AreReady}
-use Rattle.aes.specs.declared.planes.TheConstants.{SHIFTED, SHIFTED_OUT, BELOW, TWO_BELOW}
+use Rattle.aes.specs.Code.Planes.{HoldsBits, HoldsLanes, HoldsSixteen, block_byte, spot, word_byte, masked_byte, AreReady}
+use Rattle.aes.specs.declared.planes.TheConstants.{FIRST, SECOND, SHIFTED, SHIFTED_OUT, BELOW, TWO_BELOW}
 use Rattle.aes.proofs.Tested.{all_below, all_below_at}
 use Rattle.aes.proofs.Multiples.{triple_is}
 use Rattle.aes.proofs.Sums.{times_xor, xor_exchange}
@@ -21,8 +21,8 @@ use Rattle.aes.proofs.Steps.{sbox_small}
 use Rattle.aes.proofs.FourRounds.{round_byte, lane_last, mixed, added_byte, shifted_byte}
 
 -- planes of bytes hold equal bytes
-pub same_bytes : {g h : ℕ → ℕ → ℕ} (p : List (List ℕ)) → HoldsBits p g
-    → ((l k : ℕ) → l < 32 → k < 8 → g l k ≡ h l k) → HoldsBits p h
+pub same_bytes : {n : ℕ} {g h : ℕ → ℕ → ℕ} (p : List (List ℕ)) → HoldsLanes n p g
+    → ((l k : ℕ) → l < n → k < 8 → g l k ≡ h l k) → HoldsLanes n p h
 same_bytes p held same = record {
   count = held.count;
   long = held.long;
@@ -30,6 +30,16 @@ same_bytes p held same = record {
 }
 
 -- ---- places
+-- the first 16 lanes, and the other 16
+pub in_first : (g : ℕ → ℕ → ℕ) (l k : ℕ) → l < 16 → g (get_or FIRST l 0) k ≡ g l k
+in_first g l k hl =
+    ap (λ (i : ℕ). g i k) (eqb-true (get_or FIRST l 0) l (all_below_at (λ i. get_or FIRST i 0 == i) 16 l refl hl))
+
+pub in_second : (g : ℕ → ℕ → ℕ) (l k : ℕ) → l < 16 → g (get_or SECOND l 0) k ≡ g (16 + l) k
+in_second g l k hl =
+    ap (λ (i : ℕ). g i k)
+    (eqb-true (get_or SECOND l 0) (16 + l) (all_below_at (λ i. get_or SECOND i 0 == 16 + i) 16 l refl hl))
+
 shifted_computed : all_below
     (λ l. (get_or SHIFTED l 0 / 16 == l / 16) && (spot (get_or SHIFTED l 0) == row_source (spot l))) 32 ≡ true
 shifted_computed = refl

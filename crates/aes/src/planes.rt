@@ -10,10 +10,11 @@ ghost use Rattle.octets.specs.Bytes.{IsBlock};
 ghost use Rattle.aes.specs.Columns.{columns_of};
 ghost use Rattle.aes.specs.Cipher.{sub_bytes, shift_rows, mix_columns, add_round_key};
 ghost use Rattle.aes.specs.Code.Lanes.{linear_sbox, key_byte, HoldsBlocks};
-ghost use Rattle.aes.specs.Code.Planes.{HoldsBits, HoldsSixteen, spot, word_byte, masked_byte, AreReady, HasByteBits};
+ghost use Rattle.aes.specs.Code.Planes.{HoldsBits, HoldsLanes, HoldsSixteen, spot, word_byte, masked_byte, AreReady, HasByteBits};
 
 use crate::columns::round_key;
 use crate::lanes::{first_sixteen, spread as spread_four};
+use octets::WIDE;
 use std::simd::prelude::*;
 use std::simd::{u8x16, u8x32, u8x64};
 
@@ -43,137 +44,230 @@ const TWO_BELOW: [usize; 32] = [
     18, 19, 20, 21, 22, 23,
 ];
 
-// The S-box without its constant, on each byte: a circuit of 83 XOR gates and 32 AND gates, in an order that
-// keeps few values alive.
+// The first 16 lanes, the other 16, and all.
+const FIRST: [usize; 16] = [0, 1, 2, 3, 4, 5, 6, 7, 8, 9, 10, 11, 12, 13, 14, 15];
+
+const SECOND: [usize; 16] = [
+    16, 17, 18, 19, 20, 21, 22, 23, 24, 25, 26, 27, 28, 29, 30, 31,
+];
+
+const ALL: [usize; 32] = [
+    0, 1, 2, 3, 4, 5, 6, 7, 8, 9, 10, 11, 12, 13, 14, 15, 16, 17, 18, 19, 20, 21, 22, 23, 24, 25,
+    26, 27, 28, 29, 30, 31,
+];
+
+// The S-box without its constant, on each byte of eight planes: a circuit of 83 XOR gates and 32 AND gates, in an
+// order that keeps few values alive.
+macro_rules! circuit {
+    ($p:expr) => {{
+        let x0 = $p[7];
+        let x1 = $p[6];
+        let x2 = $p[5];
+        let x3 = $p[4];
+        let x4 = $p[3];
+        let x5 = $p[2];
+        let x6 = $p[1];
+        let x7 = $p[0];
+        let t0 = x2 ^ x1;
+        let y13 = x6 ^ x0;
+        let y1 = t0 ^ x7;
+        let y14 = x3 ^ x5;
+        let y5 = x6 ^ y1;
+        let y4 = y1 ^ x3;
+        let y12 = y14 ^ y13;
+        let t1 = y12 ^ x4;
+        let y9 = x0 ^ x3;
+        let y20 = x1 ^ t1;
+        let y8 = x0 ^ x5;
+        let t5 = x7 & y4;
+        let y11 = y9 ^ y20;
+        let y15 = t1 ^ x5;
+        let y3 = y5 ^ y8;
+        let t12 = y9 & y11;
+        let t2 = y15 & y12;
+        let y10 = t0 ^ y15;
+        let t15 = y10 & y8;
+        let y19 = y8 ^ y10;
+        let y17 = y10 ^ y11;
+        let y6 = x7 ^ y15;
+        let t3 = y6 & y3;
+        let t13 = y17 & y14;
+        let y16 = y11 ^ t0;
+        let y2 = x0 ^ y1;
+        let t6 = t5 ^ t2;
+        let t8 = y5 & y1;
+        let y7 = x7 ^ y11;
+        let t16 = t15 ^ t12;
+        let t14 = t12 ^ t13;
+        let t4 = t3 ^ t2;
+        let y21 = y13 ^ y16;
+        let t10 = y7 & y2;
+        let t18 = t16 ^ t6;
+        let t7 = y16 & y13;
+        let t11 = t7 ^ t10;
+        let t9 = t8 ^ t7;
+        let t22 = t18 ^ y19;
+        let t20 = t11 ^ t16;
+        let t19 = t9 ^ t14;
+        let t17 = t14 ^ t4;
+        let y18 = y16 ^ x0;
+        let t24 = t20 ^ y18;
+        let t21 = t17 ^ y20;
+        let t23 = t19 ^ y21;
+        let t30 = t24 ^ t23;
+        let t26 = t23 & t21;
+        let t31 = t22 ^ t26;
+        let t25 = t21 ^ t22;
+        let t32 = t31 & t30;
+        let t33 = t32 ^ t24;
+        let z11 = y4 & t33;
+        let t27 = t24 ^ t26;
+        let t34 = t23 ^ t33;
+        let t28 = t27 & t25;
+        let t35 = t27 ^ t33;
+        let t36 = t24 & t35;
+        let t38 = t36 ^ t27;
+        let t29 = t28 ^ t22;
+        let z2 = t33 & x7;
+        let t39 = t29 & t38;
+        let t42 = t29 ^ t33;
+        let t40 = t25 ^ t39;
+        let t37 = t36 ^ t34;
+        let t41 = t40 ^ t37;
+        let t43 = t29 ^ t40;
+        let z3 = t43 & y16;
+        let t45 = t42 ^ t41;
+        let t44 = t37 ^ t33;
+        let z4 = t40 & y1;
+        let z0 = y15 & t44;
+        let t53 = z3 ^ z0;
+        let z9 = y12 & t44;
+        let z7 = t45 & y17;
+        let z12 = t43 & y13;
+        let z6 = t42 & y11;
+        let t54 = z6 ^ z7;
+        let t50 = z2 ^ z12;
+        let z17 = y8 & t41;
+        let z10 = t37 & y3;
+        let t57 = t53 ^ t50;
+        let z16 = t45 & y14;
+        let t59 = t54 ^ z3;
+        let t49 = z10 ^ z9;
+        let z1 = t37 & y6;
+        let z15 = t42 & y9;
+        let z8 = t41 & y10;
+        let t46 = z15 ^ z16;
+        let t52 = z8 ^ z7;
+        let t58 = z4 ^ t46;
+        let t63 = t58 ^ t49;
+        let z5 = y7 & t29;
+        let z14 = y2 & t29;
+        let t61 = t57 ^ z14;
+        let z13 = y5 & t40;
+        let t62 = t52 ^ t58;
+        let t60 = t46 ^ t57;
+        let t65 = t62 ^ t61;
+        let t51 = z2 ^ z5;
+        let t64 = t59 ^ z4;
+        let t67 = t65 ^ t64;
+        let t47 = z10 ^ z11;
+        let t55 = z16 ^ z17;
+        let t66 = z1 ^ t63;
+        let s3 = t53 ^ t66;
+        let t48 = z5 ^ z13;
+        let s7 = t48 ^ t60;
+        let s2 = t55 ^ t67;
+        let t56 = t48 ^ z12;
+        let s6 = t56 ^ t62;
+        let s1 = t64 ^ s3;
+        let s0 = t59 ^ t63;
+        let s5 = t65 ^ t47;
+        let s4 = t51 ^ t66;
+        [s7, s6, s5, s4, s3, s2, s1, s0]
+    }};
+}
+
+// The first 16 lanes.
+#[inline(always)]
+fn lower(p: Planes) -> [u8x16; 8]
+    ensures { (g : ℕ → ℕ → ℕ) → HoldsBits p g → HoldsLanes 16 result g }
+{
+    [
+        p[0].swizzle(FIRST),
+        p[1].swizzle(FIRST),
+        p[2].swizzle(FIRST),
+        p[3].swizzle(FIRST),
+        p[4].swizzle(FIRST),
+        p[5].swizzle(FIRST),
+        p[6].swizzle(FIRST),
+        p[7].swizzle(FIRST),
+    ]
+}
+
+// The other 16.
+#[inline(always)]
+fn upper(p: Planes) -> [u8x16; 8]
+    ensures { (g : ℕ → ℕ → ℕ) → HoldsBits p g → HoldsLanes 16 result (λ l k. g (16 + l) k) }
+{
+    [
+        p[0].swizzle(SECOND),
+        p[1].swizzle(SECOND),
+        p[2].swizzle(SECOND),
+        p[3].swizzle(SECOND),
+        p[4].swizzle(SECOND),
+        p[5].swizzle(SECOND),
+        p[6].swizzle(SECOND),
+        p[7].swizzle(SECOND),
+    ]
+}
+
+// Both after one another.
+#[inline(always)]
+fn both_halves(p: [u8x16; 8], q: [u8x16; 8]) -> Planes
+    ensures { (g : ℕ → ℕ → ℕ) → HoldsLanes 16 p g → HoldsLanes 16 q (λ l k. g (16 + l) k) → HoldsBits result g }
+{
+    [
+        p[0].shuffle(q[0], ALL),
+        p[1].shuffle(q[1], ALL),
+        p[2].shuffle(q[2], ALL),
+        p[3].shuffle(q[3], ALL),
+        p[4].shuffle(q[4], ALL),
+        p[5].shuffle(q[5], ALL),
+        p[6].shuffle(q[6], ALL),
+        p[7].shuffle(q[7], ALL),
+    ]
+}
+
+// The S-box without its constant, on each byte of 16 lanes.
+#[inline(always)]
+fn substitute_half(p: [u8x16; 8]) -> [u8x16; 8]
+    ensures { (g : ℕ → ℕ → ℕ) → ((l k : ℕ) → g l k < 256) → HoldsLanes 16 p g
+        → HoldsLanes 16 result (λ l k. linear_sbox (g l k)) }
+{
+    circuit!(p)
+}
+
+// The S-box without its constant, on each byte of 32 lanes.
+#[inline(always)]
+fn substitute_whole(p: Planes) -> Planes
+    ensures { (g : ℕ → ℕ → ℕ) → ((l k : ℕ) → g l k < 256) → HoldsBits p g
+        → HoldsBits result (λ l k. linear_sbox (g l k)) }
+{
+    circuit!(p)
+}
+
+// The S-box without its constant, on each byte. A plane is one register or two: two halves go one after the other,
+// since the circuit takes all registers for each.
 #[inline(always)]
 pub(crate) fn substitute(p: Planes) -> Planes
     ensures { (g : ℕ → ℕ → ℕ) → ((l k : ℕ) → g l k < 256) → HoldsBits p g
         → HoldsBits result (λ l k. linear_sbox (g l k)) }
 {
-    let x0 = p[7];
-    let x1 = p[6];
-    let x2 = p[5];
-    let x3 = p[4];
-    let x4 = p[3];
-    let x5 = p[2];
-    let x6 = p[1];
-    let x7 = p[0];
-    let t0 = x2 ^ x1;
-    let y13 = x6 ^ x0;
-    let y1 = t0 ^ x7;
-    let y14 = x3 ^ x5;
-    let y5 = x6 ^ y1;
-    let y4 = y1 ^ x3;
-    let y12 = y14 ^ y13;
-    let t1 = y12 ^ x4;
-    let y9 = x0 ^ x3;
-    let y20 = x1 ^ t1;
-    let y8 = x0 ^ x5;
-    let t5 = x7 & y4;
-    let y11 = y9 ^ y20;
-    let y15 = t1 ^ x5;
-    let y3 = y5 ^ y8;
-    let t12 = y9 & y11;
-    let t2 = y15 & y12;
-    let y10 = t0 ^ y15;
-    let t15 = y10 & y8;
-    let y19 = y8 ^ y10;
-    let y17 = y10 ^ y11;
-    let y6 = x7 ^ y15;
-    let t3 = y6 & y3;
-    let t13 = y17 & y14;
-    let y16 = y11 ^ t0;
-    let y2 = x0 ^ y1;
-    let t6 = t5 ^ t2;
-    let t8 = y5 & y1;
-    let y7 = x7 ^ y11;
-    let t16 = t15 ^ t12;
-    let t14 = t12 ^ t13;
-    let t4 = t3 ^ t2;
-    let y21 = y13 ^ y16;
-    let t10 = y7 & y2;
-    let t18 = t16 ^ t6;
-    let t7 = y16 & y13;
-    let t11 = t7 ^ t10;
-    let t9 = t8 ^ t7;
-    let t22 = t18 ^ y19;
-    let t20 = t11 ^ t16;
-    let t19 = t9 ^ t14;
-    let t17 = t14 ^ t4;
-    let y18 = y16 ^ x0;
-    let t24 = t20 ^ y18;
-    let t21 = t17 ^ y20;
-    let t23 = t19 ^ y21;
-    let t30 = t24 ^ t23;
-    let t26 = t23 & t21;
-    let t31 = t22 ^ t26;
-    let t25 = t21 ^ t22;
-    let t32 = t31 & t30;
-    let t33 = t32 ^ t24;
-    let z11 = y4 & t33;
-    let t27 = t24 ^ t26;
-    let t34 = t23 ^ t33;
-    let t28 = t27 & t25;
-    let t35 = t27 ^ t33;
-    let t36 = t24 & t35;
-    let t38 = t36 ^ t27;
-    let t29 = t28 ^ t22;
-    let z2 = t33 & x7;
-    let t39 = t29 & t38;
-    let t42 = t29 ^ t33;
-    let t40 = t25 ^ t39;
-    let t37 = t36 ^ t34;
-    let t41 = t40 ^ t37;
-    let t43 = t29 ^ t40;
-    let z3 = t43 & y16;
-    let t45 = t42 ^ t41;
-    let t44 = t37 ^ t33;
-    let z4 = t40 & y1;
-    let z0 = y15 & t44;
-    let t53 = z3 ^ z0;
-    let z9 = y12 & t44;
-    let z7 = t45 & y17;
-    let z12 = t43 & y13;
-    let z6 = t42 & y11;
-    let t54 = z6 ^ z7;
-    let t50 = z2 ^ z12;
-    let z17 = y8 & t41;
-    let z10 = t37 & y3;
-    let t57 = t53 ^ t50;
-    let z16 = t45 & y14;
-    let t59 = t54 ^ z3;
-    let t49 = z10 ^ z9;
-    let z1 = t37 & y6;
-    let z15 = t42 & y9;
-    let z8 = t41 & y10;
-    let t46 = z15 ^ z16;
-    let t52 = z8 ^ z7;
-    let t58 = z4 ^ t46;
-    let t63 = t58 ^ t49;
-    let z5 = y7 & t29;
-    let z14 = y2 & t29;
-    let t61 = t57 ^ z14;
-    let z13 = y5 & t40;
-    let t62 = t52 ^ t58;
-    let t60 = t46 ^ t57;
-    let t65 = t62 ^ t61;
-    let t51 = z2 ^ z5;
-    let t64 = t59 ^ z4;
-    let t67 = t65 ^ t64;
-    let t47 = z10 ^ z11;
-    let t55 = z16 ^ z17;
-    let t66 = z1 ^ t63;
-    let s3 = t53 ^ t66;
-    let t48 = z5 ^ z13;
-    let s7 = t48 ^ t60;
-    let s2 = t55 ^ t67;
-    let t56 = t48 ^ z12;
-    let s6 = t56 ^ t62;
-    let s1 = t64 ^ s3;
-    let s0 = t59 ^ t63;
-    let s5 = t65 ^ t47;
-    let s4 = t51 ^ t66;
-    [s7, s6, s5, s4, s3, s2, s1, s0]
+    if WIDE {
+        substitute_whole(p)
+    } else {
+        both_halves(substitute_half(lower(p)), substitute_half(upper(p)))
+    }
 }
 
 // The sums of the bytes.

@@ -4,12 +4,16 @@ use Rattle.std.specs.Int.{bit_at}
 use Rattle.octets.specs.Bytes.{block_at}
 use Rattle.aes.specs.Cipher.{cipher}
 
--- p has eight planes of 32 lanes, and bit k of lane l of plane j is bit j of g l k
-pub record HoldsBits (p : List (List ℕ)) (g : ℕ → ℕ → ℕ) : Type 0 where
+-- p has eight planes of n lanes, and bit k of lane l of plane j is bit j of g l k
+pub record HoldsLanes (n : ℕ) (p : List (List ℕ)) (g : ℕ → ℕ → ℕ) : Type 0 where
   pub count : length p ≡ 8
-  pub long : (j : ℕ) → j < 8 → length (slice_index_or p j []) ≡ 32
-  pub each : (j l k : ℕ) → j < 8 → l < 32 → k < 8
+  pub long : (j : ℕ) → j < 8 → length (slice_index_or p j []) ≡ n
+  pub each : (j l k : ℕ) → j < 8 → l < n → k < 8
       → bit_at (slice_index (slice_index_or p j []) l) k ≡ bit_at (g l k) j
+
+-- eight planes of 32 lanes
+abbrev pub HoldsBits : List (List ℕ) → (ℕ → ℕ → ℕ) → Type 0
+HoldsBits p g = HoldsLanes 32 p g
 
 -- the place in its block of the byte in lane l
 abbrev pub spot : ℕ → ℕ

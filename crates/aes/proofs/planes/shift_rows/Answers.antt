@@ -4,4 +4,4 @@ use Rattle.aes.proofs.BitPlanes.{moved}
 use Rattle.aes.proofs.planes.shift_rows.Goals as goal
 
 pub returns : goal.returns
-returns c = λ g held. moved SHIFTED refl refl c.args.p g held
+returns c = λ g held. moved 32 32 SHIFTED refl refl c.args.p g held

@@ -4,4 +4,4 @@ use Rattle.aes.proofs.BitPlanes.{moved}
 use Rattle.aes.proofs.planes.two_below.Goals as goal
 
 pub returns : goal.returns
-returns c = λ g held. moved TWO_BELOW refl refl c.args.p g held
+returns c = λ g held. moved 32 32 TWO_BELOW refl refl c.args.p g held
