@@ -69,8 +69,8 @@ both p q g hp hq =
     }
 
 -- the sums of bytes
-pub added : (p q : List (List ℕ)) (g h : ℕ → ℕ → ℕ) → HoldsBits p g → HoldsBits q h
-    → HoldsBits (zip2 (zip2 bit_xor) (eight p) (eight q)) (λ l k. bit_xor (g l k) (h l k))
+pub added : {n : ℕ} (p q : List (List ℕ)) (g h : ℕ → ℕ → ℕ) → HoldsLanes n p g → HoldsLanes n q h
+    → HoldsLanes n (zip2 (zip2 bit_xor) (eight p) (eight q)) (λ l k. bit_xor (g l k) (h l k))
 added p q g h hp hq = record {
   count = refl;
   long = λ j hj. ap length (each_two (zip2 bit_xor) p q j hj)
@@ -107,14 +107,14 @@ doubled_planes p =
     get_or p 5 [] ∷ get_or p 6 [] ∷ []
 
 -- a sum with the last plane
-with_last : (p : List (List ℕ)) (g : ℕ → ℕ → ℕ) → HoldsBits p g → (i l k : ℕ) → i < 8 → l < 32 → k < 8
+with_last : {n : ℕ} (p : List (List ℕ)) (g : ℕ → ℕ → ℕ) → HoldsLanes n p g → (i l k : ℕ) → i < 8 → l < n → k < 8
     → at l k (zip2 bit_xor (get_or p i []) (get_or p 7 [])) ≡ plus2 (bit_at (g l k) i) (bit_at (g l k) 7)
 with_last p g h i l k hi hl hk =
     at_sum l k (get_or p i []) (get_or p 7 []) (h.long i hi) (h.long 7 (omega arith)) hl
     ∙ ap₂ plus2 (h.each i l k hi hl hk) (h.each 7 l k (omega arith) hl hk)
 
 -- a plane of doubles
-plane_doubled : (p : List (List ℕ)) (g : ℕ → ℕ → ℕ) → HoldsBits p g → (j l k : ℕ) → j < 8 → l < 32 → k < 8
+plane_doubled : {n : ℕ} (p : List (List ℕ)) (g : ℕ → ℕ → ℕ) → HoldsLanes n p g → (j l k : ℕ) → j < 8 → l < n → k < 8
     → at l k (get_or (doubled_planes p) j []) ≡ get_or (doubled_bits (bits8 (g l k))) j 0
 plane_doubled p g h j l k hj hl hk =
     eight_cases (λ j. at l k (get_or (doubled_planes p) j []) ≡ get_or (doubled_bits (bits8 (g l k))) j 0)
@@ -123,20 +123,20 @@ plane_doubled p g h j l k hj hl hk =
     (h.each 4 l k (omega arith) hl hk) (h.each 5 l k (omega arith) hl hk) (h.each 6 l k (omega arith) hl hk) j hj
 
 -- its length
-long_doubled : (p : List (List ℕ)) → ((j : ℕ) → j < 8 → length (get_or p j []) ≡ 32) → (j : ℕ) → j < 8
-    → length (get_or (doubled_planes p) j []) ≡ 32
-long_doubled p h =
-    let with_last : (i : ℕ) → i < 8 → length (zip2 bit_xor (get_or p i []) (get_or p 7 [])) ≡ 32 = λ i hi.
+long_doubled : (n : ℕ) (p : List (List ℕ)) → ((j : ℕ) → j < 8 → length (get_or p j []) ≡ n) → (j : ℕ) → j < 8
+    → length (get_or (doubled_planes p) j []) ≡ n
+long_doubled n p h =
+    let with_last : (i : ℕ) → i < 8 → length (zip2 bit_xor (get_or p i []) (get_or p 7 [])) ≡ n = λ i hi.
     length-zip2 bit_xor (get_or p i []) (get_or p 7 []) (h i hi ∙ sym (h 7 (omega arith))) ∙ h i hi in
-    eight_cases (λ j. length (get_or (doubled_planes p) j []) ≡ 32) (h 7 (omega arith)) (with_last 0 (omega arith))
+    eight_cases (λ j. length (get_or (doubled_planes p) j []) ≡ n) (h 7 (omega arith)) (with_last 0 (omega arith))
     (h 1 (omega arith)) (with_last 2 (omega arith)) (with_last 3 (omega arith)) (h 4 (omega arith)) (h 5 (omega arith))
     (h 6 (omega arith))
 
 -- twice each byte
-pub twice : (p : List (List ℕ)) (g : ℕ → ℕ → ℕ) → ((l k : ℕ) → g l k < 256) → HoldsBits p g
-    → HoldsBits (doubled_planes p) (λ l k. times 2 (g l k))
-twice p g small h = record {
+pub twice : {n : ℕ} (p : List (List ℕ)) (g : ℕ → ℕ → ℕ) → ((l k : ℕ) → g l k < 256) → HoldsLanes n p g
+    → HoldsLanes n (doubled_planes p) (λ l k. times 2 (g l k))
+twice {n} p g small h = record {
   count = refl;
-  long = λ j hj. long_doubled p h.long j hj;
+  long = λ j hj. long_doubled n p h.long j hj;
   each = λ j l k hj hl hk. plane_doubled p g h j l k hj hl hk ∙ doubled_bit (g l k) j (small l k) hj;
 }

@@ -7,7 +7,7 @@ ghost use Rattle.aes.specs.Code.ExpandedKey.{own_key};
 ghost use Rattle.aes.specs.Code.InverseKey.{IsInverse};
 ghost use Rattle.aes.specs.Code.Lanes.{IsReady};
 ghost use Rattle.aes.specs.KeptWords.{KeepsSchedule};
-ghost use Rattle.aes.specs.Code.Planes.{AreReady, HoldsBits, HoldsSixteen};
+ghost use Rattle.aes.specs.Code.Planes.{AreReady, HoldsBits, HoldsEight, HoldsLanes, HoldsSixteen};
 ghost use Rattle.aes.specs.Schedule.{schedule, round_count};
 
 use crate::columns::{add_key, last_round, load, round, round_key, store};
@@ -15,10 +15,11 @@ use crate::inverse::unmix_words;
 use crate::inverse_key::InverseKey;
 use crate::lanes::{first_four, last_four, ready_keys, round_four, spread};
 use crate::planes::{
-    Planes, add, last_sixteen, ready_planes, round_sixteen, store as store_planes,
+    HalfPlanes, Planes, add, add_half, both_halves, last_half, last_sixteen, lower, ready_planes,
+    round_half, round_sixteen, store as store_planes, upper,
 };
 use crate::schedule::expand;
-use octets::{Block, Fault, Key16, Key24, Key32};
+use octets::{Block, Fault, Key16, Key24, Key32, WIDE};
 use std::marker::Model;
 use std::simd::prelude::*;
 use std::simd::u8x64;
@@ -201,9 +202,24 @@ impl AesKey {
         ready_planes(keys, &self.words, self.size + 6);
     }
 
+    // The ciphers of eight blocks in half of the planes, by the words of the rounds in planes.
+    fn encrypt_half(&self, keys: &[Planes; 15], start: HalfPlanes) -> HalfPlanes
+        requires { AreReady keys.now (schedule self.now) (round_count self.now) }
+        ensures { (f : ℕ → List ℕ) → ((q : ℕ) → IsBlock (f q)) → HoldsEight start f
+            → HoldsLanes 16 result (λ l k. slice_index (cipher self.now (f (l / 16 * 8 + k))) (l % 16)) }
+    {
+        let count = self.size + 6;
+        let mut state = add_half(start, lower(keys[0]));
+        for done in 0..count - 1 {
+            let next = round_half(state, lower(keys[done + 1]));
+            state = next;
+        }
+        last_half(state, lower(keys[count]))
+    }
+
     // The ciphers of sixteen blocks in planes, by the words of the rounds in planes.
     #[inline(always)]
-    pub(crate) fn encrypt_planes(&self, keys: &[Planes; 15], start: Planes) -> Planes
+    fn encrypt_whole(&self, keys: &[Planes; 15], start: Planes) -> Planes
         requires { AreReady keys.now (schedule self.now) (round_count self.now) }
         ensures { (f : ℕ → List ℕ) → ((q : ℕ) → IsBlock (f q)) → HoldsSixteen start f
             → HoldsBits result (λ l k. slice_index (cipher self.now (f (l / 16 * 8 + k))) (l % 16)) }
@@ -215,6 +231,22 @@ impl AesKey {
             state = next;
         }
         last_sixteen(state, keys[count])
+    }
+
+    // The ciphers of sixteen blocks in planes, by the words of the rounds in planes. Where a plane is two registers,
+    // one half goes after the other: a round needs all registers for eight blocks.
+    #[inline(always)]
+    pub(crate) fn encrypt_planes(&self, keys: &[Planes; 15], start: Planes) -> Planes
+        requires { AreReady keys.now (schedule self.now) (round_count self.now) }
+        ensures { (f : ℕ → List ℕ) → ((q : ℕ) → IsBlock (f q)) → HoldsSixteen start f
+            → HoldsBits result (λ l k. slice_index (cipher self.now (f (l / 16 * 8 + k))) (l % 16)) }
+    {
+        if WIDE {
+            return self.encrypt_whole(keys, start);
+        }
+        let first = self.encrypt_half(keys, lower(start));
+        let second = self.encrypt_half(keys, upper(start));
+        both_halves(first, second)
     }
 
     // The ciphers of sixteen blocks in planes, four in each array, by the words of the rounds in planes.

@@ -10,15 +10,17 @@ ghost use Rattle.octets.specs.Bytes.{IsBlock};
 ghost use Rattle.aes.specs.Columns.{columns_of};
 ghost use Rattle.aes.specs.Cipher.{sub_bytes, shift_rows, mix_columns, add_round_key};
 ghost use Rattle.aes.specs.Code.Lanes.{linear_sbox, key_byte, HoldsBlocks};
-ghost use Rattle.aes.specs.Code.Planes.{HoldsBits, HoldsLanes, HoldsSixteen, spot, word_byte, masked_byte, AreReady, HasByteBits};
+ghost use Rattle.aes.specs.Code.Planes.{HoldsBits, HoldsEight, HoldsLanes, HoldsSixteen, spot, word_byte, masked_byte, AreReady, HasByteBits};
 
 use crate::columns::round_key;
 use crate::lanes::{first_sixteen, spread as spread_four};
-use octets::WIDE;
 use std::simd::prelude::*;
 use std::simd::{u8x16, u8x32, u8x64};
 
 pub(crate) type Planes = [u8x32; 8];
+
+// The first 16 lanes of them, which are eight blocks, or the other 16.
+pub(crate) type HalfPlanes = [u8x16; 8];
 
 // The lane from which ShiftRows brings each lane.
 const SHIFTED: [usize; 32] = [
@@ -43,6 +45,15 @@ const TWO_BELOW: [usize; 32] = [
     8, 9, 10, 11, 12, 13, 14, 15, 0, 1, 2, 3, 4, 5, 6, 7, 24, 25, 26, 27, 28, 29, 30, 31, 16, 17,
     18, 19, 20, 21, 22, 23,
 ];
+
+// The same four of 16 lanes.
+const HALF_SHIFTED: [usize; 16] = [0, 1, 2, 3, 5, 6, 7, 4, 10, 11, 8, 9, 15, 12, 13, 14];
+
+const HALF_SHIFTED_OUT: [usize; 16] = [0, 5, 10, 15, 1, 6, 11, 12, 2, 7, 8, 13, 3, 4, 9, 14];
+
+const HALF_BELOW: [usize; 16] = [4, 5, 6, 7, 8, 9, 10, 11, 12, 13, 14, 15, 0, 1, 2, 3];
+
+const HALF_TWO_BELOW: [usize; 16] = [8, 9, 10, 11, 12, 13, 14, 15, 0, 1, 2, 3, 4, 5, 6, 7];
 
 // The first 16 lanes, the other 16, and all.
 const FIRST: [usize; 16] = [0, 1, 2, 3, 4, 5, 6, 7, 8, 9, 10, 11, 12, 13, 14, 15];
@@ -187,43 +198,73 @@ macro_rules! circuit {
     }};
 }
 
+// The sums of the lanes of eight planes and eight others.
+macro_rules! sums {
+    ($p:expr, $q:expr) => {
+        [
+            $p[0] ^ $q[0],
+            $p[1] ^ $q[1],
+            $p[2] ^ $q[2],
+            $p[3] ^ $q[3],
+            $p[4] ^ $q[4],
+            $p[5] ^ $q[5],
+            $p[6] ^ $q[6],
+            $p[7] ^ $q[7],
+        ]
+    };
+}
+
+// The lanes of eight planes, brought from these places.
+macro_rules! brought {
+    ($p:expr, $places:expr) => {
+        [
+            $p[0].swizzle($places),
+            $p[1].swizzle($places),
+            $p[2].swizzle($places),
+            $p[3].swizzle($places),
+            $p[4].swizzle($places),
+            $p[5].swizzle($places),
+            $p[6].swizzle($places),
+            $p[7].swizzle($places),
+        ]
+    };
+}
+
+// Twice each byte of eight planes.
+macro_rules! doubles {
+    ($p:expr) => {
+        [
+            $p[7],
+            $p[0] ^ $p[7],
+            $p[1],
+            $p[2] ^ $p[7],
+            $p[3] ^ $p[7],
+            $p[4],
+            $p[5],
+            $p[6],
+        ]
+    };
+}
+
 // The first 16 lanes.
 #[inline(always)]
-fn lower(p: Planes) -> [u8x16; 8]
+pub(crate) fn lower(p: Planes) -> HalfPlanes
     ensures { (g : ℕ → ℕ → ℕ) → HoldsBits p g → HoldsLanes 16 result g }
 {
-    [
-        p[0].swizzle(FIRST),
-        p[1].swizzle(FIRST),
-        p[2].swizzle(FIRST),
-        p[3].swizzle(FIRST),
-        p[4].swizzle(FIRST),
-        p[5].swizzle(FIRST),
-        p[6].swizzle(FIRST),
-        p[7].swizzle(FIRST),
-    ]
+    brought!(p, FIRST)
 }
 
 // The other 16.
 #[inline(always)]
-fn upper(p: Planes) -> [u8x16; 8]
+pub(crate) fn upper(p: Planes) -> HalfPlanes
     ensures { (g : ℕ → ℕ → ℕ) → HoldsBits p g → HoldsLanes 16 result (λ l k. g (16 + l) k) }
 {
-    [
-        p[0].swizzle(SECOND),
-        p[1].swizzle(SECOND),
-        p[2].swizzle(SECOND),
-        p[3].swizzle(SECOND),
-        p[4].swizzle(SECOND),
-        p[5].swizzle(SECOND),
-        p[6].swizzle(SECOND),
-        p[7].swizzle(SECOND),
-    ]
+    brought!(p, SECOND)
 }
 
 // Both after one another.
 #[inline(always)]
-fn both_halves(p: [u8x16; 8], q: [u8x16; 8]) -> Planes
+pub(crate) fn both_halves(p: HalfPlanes, q: HalfPlanes) -> Planes
     ensures { (g : ℕ → ℕ → ℕ) → HoldsLanes 16 p g → HoldsLanes 16 q (λ l k. g (16 + l) k) → HoldsBits result g }
 {
     [
@@ -240,34 +281,20 @@ fn both_halves(p: [u8x16; 8], q: [u8x16; 8]) -> Planes
 
 // The S-box without its constant, on each byte of 16 lanes.
 #[inline(always)]
-fn substitute_half(p: [u8x16; 8]) -> [u8x16; 8]
+fn substitute_half(p: HalfPlanes) -> HalfPlanes
     ensures { (g : ℕ → ℕ → ℕ) → ((l k : ℕ) → g l k < 256) → HoldsLanes 16 p g
         → HoldsLanes 16 result (λ l k. linear_sbox (g l k)) }
 {
     circuit!(p)
 }
 
-// The S-box without its constant, on each byte of 32 lanes.
-#[inline(always)]
-fn substitute_whole(p: Planes) -> Planes
-    ensures { (g : ℕ → ℕ → ℕ) → ((l k : ℕ) → g l k < 256) → HoldsBits p g
-        → HoldsBits result (λ l k. linear_sbox (g l k)) }
-{
-    circuit!(p)
-}
-
-// The S-box without its constant, on each byte. A plane is one register or two: two halves go one after the other,
-// since the circuit takes all registers for each.
+// The S-box without its constant, on each byte.
 #[inline(always)]
 pub(crate) fn substitute(p: Planes) -> Planes
     ensures { (g : ℕ → ℕ → ℕ) → ((l k : ℕ) → g l k < 256) → HoldsBits p g
         → HoldsBits result (λ l k. linear_sbox (g l k)) }
 {
-    if WIDE {
-        substitute_whole(p)
-    } else {
-        both_halves(substitute_half(lower(p)), substitute_half(upper(p)))
-    }
+    circuit!(p)
 }
 
 // The sums of the bytes.
@@ -276,16 +303,7 @@ pub(crate) fn add(p: Planes, q: Planes) -> Planes
     ensures { (g h : ℕ → ℕ → ℕ) → HoldsBits p g → HoldsBits q h
         → HoldsBits result (λ l k. bit_xor (g l k) (h l k)) }
 {
-    [
-        p[0] ^ q[0],
-        p[1] ^ q[1],
-        p[2] ^ q[2],
-        p[3] ^ q[3],
-        p[4] ^ q[4],
-        p[5] ^ q[5],
-        p[6] ^ q[6],
-        p[7] ^ q[7],
-    ]
+    sums!(p, q)
 }
 
 // Twice each byte.
@@ -294,16 +312,7 @@ fn doubled(p: Planes) -> Planes
     ensures { (g : ℕ → ℕ → ℕ) → ((l k : ℕ) → g l k < 256) → HoldsBits p g
         → HoldsBits result (λ l k. times 2 (g l k)) }
 {
-    [
-        p[7],
-        p[0] ^ p[7],
-        p[1],
-        p[2] ^ p[7],
-        p[3] ^ p[7],
-        p[4],
-        p[5],
-        p[6],
-    ]
+    doubles!(p)
 }
 
 // ShiftRows.
@@ -311,16 +320,7 @@ fn doubled(p: Planes) -> Planes
 fn shift_rows(p: Planes) -> Planes
     ensures { (g : ℕ → ℕ → ℕ) → HoldsBits p g → HoldsBits result (λ l k. g (slice_index SHIFTED l) k) }
 {
-    [
-        p[0].swizzle(SHIFTED),
-        p[1].swizzle(SHIFTED),
-        p[2].swizzle(SHIFTED),
-        p[3].swizzle(SHIFTED),
-        p[4].swizzle(SHIFTED),
-        p[5].swizzle(SHIFTED),
-        p[6].swizzle(SHIFTED),
-        p[7].swizzle(SHIFTED),
-    ]
+    brought!(p, SHIFTED)
 }
 
 // ShiftRows, to lanes in the order of the bytes of a block.
@@ -328,16 +328,7 @@ fn shift_rows(p: Planes) -> Planes
 fn shift_out(p: Planes) -> Planes
     ensures { (g : ℕ → ℕ → ℕ) → HoldsBits p g → HoldsBits result (λ l k. g (slice_index SHIFTED_OUT l) k) }
 {
-    [
-        p[0].swizzle(SHIFTED_OUT),
-        p[1].swizzle(SHIFTED_OUT),
-        p[2].swizzle(SHIFTED_OUT),
-        p[3].swizzle(SHIFTED_OUT),
-        p[4].swizzle(SHIFTED_OUT),
-        p[5].swizzle(SHIFTED_OUT),
-        p[6].swizzle(SHIFTED_OUT),
-        p[7].swizzle(SHIFTED_OUT),
-    ]
+    brought!(p, SHIFTED_OUT)
 }
 
 // Each row becomes the row below it.
@@ -345,16 +336,7 @@ fn shift_out(p: Planes) -> Planes
 fn below(p: Planes) -> Planes
     ensures { (g : ℕ → ℕ → ℕ) → HoldsBits p g → HoldsBits result (λ l k. g (slice_index BELOW l) k) }
 {
-    [
-        p[0].swizzle(BELOW),
-        p[1].swizzle(BELOW),
-        p[2].swizzle(BELOW),
-        p[3].swizzle(BELOW),
-        p[4].swizzle(BELOW),
-        p[5].swizzle(BELOW),
-        p[6].swizzle(BELOW),
-        p[7].swizzle(BELOW),
-    ]
+    brought!(p, BELOW)
 }
 
 // Each row becomes the row two below it.
@@ -362,16 +344,7 @@ fn below(p: Planes) -> Planes
 fn two_below(p: Planes) -> Planes
     ensures { (g : ℕ → ℕ → ℕ) → HoldsBits p g → HoldsBits result (λ l k. g (slice_index TWO_BELOW l) k) }
 {
-    [
-        p[0].swizzle(TWO_BELOW),
-        p[1].swizzle(TWO_BELOW),
-        p[2].swizzle(TWO_BELOW),
-        p[3].swizzle(TWO_BELOW),
-        p[4].swizzle(TWO_BELOW),
-        p[5].swizzle(TWO_BELOW),
-        p[6].swizzle(TWO_BELOW),
-        p[7].swizzle(TWO_BELOW),
-    ]
+    brought!(p, TWO_BELOW)
 }
 
 // MixColumns.
@@ -501,6 +474,97 @@ pub(crate) fn last_sixteen(x: Planes, key: Planes) -> Planes
 {
     add(substitute(shift_out(x)), key)
 }
+
+// ---- rounds of eight blocks
+
+// The sums of the bytes.
+#[inline(always)]
+pub(crate) fn add_half(p: HalfPlanes, q: HalfPlanes) -> HalfPlanes
+    ensures { (g h : ℕ → ℕ → ℕ) → HoldsLanes 16 p g → HoldsLanes 16 q h
+        → HoldsLanes 16 result (λ l k. bit_xor (g l k) (h l k)) }
+{
+    sums!(p, q)
+}
+
+// Twice each byte.
+#[inline(always)]
+fn doubled_half(p: HalfPlanes) -> HalfPlanes
+    ensures { (g : ℕ → ℕ → ℕ) → ((l k : ℕ) → g l k < 256) → HoldsLanes 16 p g
+        → HoldsLanes 16 result (λ l k. times 2 (g l k)) }
+{
+    doubles!(p)
+}
+
+// ShiftRows.
+#[inline(always)]
+fn shift_rows_half(p: HalfPlanes) -> HalfPlanes
+    ensures { (g : ℕ → ℕ → ℕ) → HoldsLanes 16 p g → HoldsLanes 16 result (λ l k. g (slice_index HALF_SHIFTED l) k) }
+{
+    brought!(p, HALF_SHIFTED)
+}
+
+// ShiftRows, to lanes in the order of the bytes of a block.
+#[inline(always)]
+fn shift_out_half(p: HalfPlanes) -> HalfPlanes
+    ensures { (g : ℕ → ℕ → ℕ) → HoldsLanes 16 p g
+        → HoldsLanes 16 result (λ l k. g (slice_index HALF_SHIFTED_OUT l) k) }
+{
+    brought!(p, HALF_SHIFTED_OUT)
+}
+
+// Each row becomes the row below it.
+#[inline(always)]
+fn below_half(p: HalfPlanes) -> HalfPlanes
+    ensures { (g : ℕ → ℕ → ℕ) → HoldsLanes 16 p g → HoldsLanes 16 result (λ l k. g (slice_index HALF_BELOW l) k) }
+{
+    brought!(p, HALF_BELOW)
+}
+
+// Each row becomes the row two below it.
+#[inline(always)]
+fn two_below_half(p: HalfPlanes) -> HalfPlanes
+    ensures { (g : ℕ → ℕ → ℕ) → HoldsLanes 16 p g
+        → HoldsLanes 16 result (λ l k. g (slice_index HALF_TWO_BELOW l) k) }
+{
+    brought!(p, HALF_TWO_BELOW)
+}
+
+// MixColumns.
+#[inline(always)]
+fn mix_half(p: HalfPlanes) -> HalfPlanes
+    ensures { (g : ℕ → ℕ → ℕ) → ((l k : ℕ) → g l k < 256) → HoldsLanes 16 p g
+        → HoldsLanes 16 result (λ l k. bit_xor
+        (bit_xor (g (slice_index HALF_BELOW l) k)
+        (bit_xor (g (slice_index HALF_TWO_BELOW l) k) (g (slice_index HALF_BELOW (slice_index HALF_TWO_BELOW l)) k)))
+        (times 2 (bit_xor (g l k) (g (slice_index HALF_BELOW l) k)))) }
+{
+    let next = below_half(p);
+    let both = add_half(p, next);
+    add_half(add_half(next, two_below_half(both)), doubled_half(both))
+}
+
+// A round before the last (FIPS 197, 5.1). The constant of the S-box is in the key.
+#[inline(always)]
+pub(crate) fn round_half(x: HalfPlanes, key: HalfPlanes) -> HalfPlanes
+    ensures { (f : ℕ → List ℕ) (ws : List (List ℕ)) → ((q : ℕ) → IsBlock (f q)) → HoldsEight x f
+        → HoldsLanes 16 key (λ l k. bit_xor (key_byte ws (spot l)) 0x63)
+        → HoldsEight result (λ q. add_round_key ws 0 (mix_columns (shift_rows (sub_bytes (f q))))) }
+{
+    add_half(mix_half(substitute_half(shift_rows_half(x))), key)
+}
+
+// The last round (FIPS 197, 5.1), to lanes in the order of the bytes of a block.
+#[inline(always)]
+pub(crate) fn last_half(x: HalfPlanes, key: HalfPlanes) -> HalfPlanes
+    ensures { (f : ℕ → List ℕ) (ws : List (List ℕ)) → ((q : ℕ) → IsBlock (f q)) → HoldsEight x f
+        → HoldsLanes 16 key (λ l k. bit_xor (key_byte ws (l % 16)) 0x63)
+        → HoldsLanes 16 result (λ l k. slice_index (add_round_key ws 0 (shift_rows (sub_bytes (f (l / 16 * 8 + k)))))
+        (l % 16)) }
+{
+    add_half(substitute_half(shift_out_half(x)), key)
+}
+
+// ---- the key in planes
 
 // The 16 bytes of the words of a round.
 #[inline(always)]

@@ -27,6 +27,10 @@ block_byte f l k = slice_index (f (l / 16 * 8 + k)) (spot l)
 abbrev pub HoldsSixteen : List (List ℕ) → (ℕ → List ℕ) → Type 0
 HoldsSixteen p f = HoldsBits p (block_byte f)
 
+-- p holds the blocks f 0 to f 7
+abbrev pub HoldsEight : List (List ℕ) → (ℕ → List ℕ) → Type 0
+HoldsEight p f = HoldsLanes 16 p (block_byte f)
+
 -- byte i of the words of round n
 abbrev pub word_byte : List (List ℕ) → ℕ → ℕ → ℕ
 word_byte ws n i = slice_index (slice_index_or ws (4 * n + i / 4) []) (i % 4)

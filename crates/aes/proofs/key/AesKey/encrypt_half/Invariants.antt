@@ -1,0 +1,10 @@
+use Rattle.std.proofs.Common.{ℕ, List}
+use Rattle.octets.specs.Bytes.{IsBlock}
+use Rattle.aes.specs.Schedule.{schedule}
+use Rattle.aes.specs.Cipher.{rounds}
+use Rattle.aes.specs.Code.Planes.{HoldsEight}
+use Rattle.aes.proofs.key.AesKey.encrypt_half.Given as goal
+
+abbrev pub invariant-loop-done : goal.invariant-loop-done
+invariant-loop-done l = (f : ℕ → List ℕ) → ((q : ℕ) → IsBlock (f q)) → HoldsEight l.fn.start f
+    → HoldsEight l.state (λ q. rounds (schedule l.self) l.done (f q))

@@ -1,0 +1,64 @@
+use Rattle.std.proofs.Common.{[], drop, refl, ◌≡◌, ℕ, List, ◌+◌, ◌*◌, ◌-◌, ◌/◌, ◌%◌, get_or, sym, ap, subst}
+use Rattle.std.proofs.Common.{◌∙◌, arith}
+use Rattle.std.proofs.lemmas.List.{get_or-drop}
+use Rattle.aes.specs.Schedule.{round_count, schedule}
+use Rattle.aes.specs.Cipher.{sub_bytes, shift_rows, mix_columns, add_round_key, rounds}
+use Rattle.aes.specs.Code.Planes.{HoldsBits, block_byte, spot, word_byte, masked_byte}
+use Rattle.aes.proofs.Expanded.{round_key_is, rounds_start, rounds_more, cipher_is, is_key, kept_length}
+use Rattle.aes.proofs.Permutation.{words_are, rounds_block}
+use Rattle.aes.proofs.SixteenBlocks.{same_bytes, same_sixteen, first_value, dropped_row, dropped_last}
+use Rattle.aes.proofs.key.AesKey.encrypt_whole.Goals as goal
+
+pub loop-done-init : goal.loop-done-init
+loop-done-init c = λ f blocks held.
+    let ws = schedule c.args.self.now in
+    same_bytes c.add-state.result
+    (c.add-state.ensures (block_byte f) (λ l k. word_byte ws 0 (spot l)) held c.requires.first)
+    (λ l k hl hk. first_value f ws l k ∙ ap (λ b. get_or b (spot l) 0) (sym (rounds_start ws (f (l / 16 * 8 + k)))))
+
+pub loop-done-preserved : goal.loop-done-preserved
+loop-done-preserved c = λ f blocks held.
+    let key = c.args.self.now in
+    let ws = schedule key in
+    let long = kept_length c.self.inside.words c.self.inside.size key c.self.invariant c.self.view_is in
+    let k = is_key c.self.inside.words c.self.inside.size key c.self.invariant c.self.view_is in
+    let n = c.loop-done.done in
+    let words = words_are key (4 * (round_count key + 1)) k.bytes in
+    let vs = drop (4 * (n + 1)) ws in
+    let state : ℕ → List ℕ = λ q. rounds ws n (f q) in
+    same_sixteen c.round_sixteen-next.result
+    (λ q. add_round_key vs 0 (mix_columns (shift_rows (sub_bytes (state q)))))
+    (λ q. rounds ws (n + 1) (f q))
+    (λ q.
+    round_key_is vs ws key (n + 1) (mix_columns (shift_rows (sub_bytes (state q))))
+    (λ i h. get_or-drop (4 * (n + 1)) ws i []) (λ i h. refl) (omega arith)
+    ∙ sym (rounds_more ws n (f q)))
+    (c.round_sixteen-next.ensures state vs (λ q. rounds_block ws n (f q) words (blocks q))
+    (c.loop-done.invariant f blocks held)
+    (same_bytes _ (c.requires.middle (n + 1) (omega arith) (omega arith))
+    (λ l k hl hk. dropped_row ws (n + 1) l)))
+
+pub returns : goal.returns
+returns c = λ f blocks held.
+    let key = c.args.self.now in
+    let ws = schedule key in
+    let long = kept_length c.self.inside.words c.self.inside.size key c.self.invariant c.self.view_is in
+    let k = is_key c.self.inside.words c.self.inside.size key c.self.invariant c.self.view_is in
+    let n = c.loop-done.done in
+    let last = round_count key in
+    let count : c.self.inside.size + 6 ≡ last = omega arith in
+    let before : n ≡ last - 1 = omega arith in
+    let words = words_are key (4 * (last + 1)) k.bytes in
+    let vs = drop (4 * last) ws in
+    let state : ℕ → List ℕ = λ q. rounds ws n (f q) in
+    let final = subst (λ i. HoldsBits (get_or c.args.keys.now i []) (λ l k. masked_byte ws last (l % 16)))
+    (sym count) c.requires.final in
+    same_bytes c.last_sixteen.result
+    (c.last_sixteen.ensures state vs (λ q. rounds_block ws n (f q) words (blocks q))
+    (c.loop-done.invariant f blocks held)
+    (same_bytes _ final (λ l k hl hk. dropped_last ws last l)))
+    (λ l k hl hk. ap (λ b. get_or b (l % 16) 0)
+    (round_key_is vs ws key last (shift_rows (sub_bytes (state (l / 16 * 8 + k))))
+    (λ i h. get_or-drop (4 * last) ws i []) (λ i h. refl) (omega arith)
+    ∙ ap (λ (i : ℕ). add_round_key ws last (shift_rows (sub_bytes (rounds ws i (f (l / 16 * 8 + k)))))) before
+    ∙ sym (cipher_is key (f (l / 16 * 8 + k)))))
