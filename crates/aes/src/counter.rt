@@ -138,13 +138,13 @@ impl Count for FirstFour {
 }
 
 // From so many bytes on, making the planes of the key pays.
-const PLANES_PAY: usize = if WIDE { 353 } else { 512 };
+const PLANES_PAY: usize = if WIDE { 353 } else { 256 };
 
 // A run of four blocks pays for more than so many bytes.
 const FOUR_PAY: usize = if WIDE { 32 } else { 48 };
 
 // Once they are made, a run of sixteen blocks pays for more than so many bytes.
-const SIXTEEN_PAY: usize = if WIDE { 96 } else { 176 };
+const SIXTEEN_PAY: usize = if WIDE { 96 } else { 128 };
 
 // A stream from its first block on, but for its key: how many blocks were begun, modulo 2^32, and the cipher of
 // the last one with the number of its bytes that were used, 0 if all were.
