@@ -1,7 +1,7 @@
 -- The rounds in halves are the rounds.
 use Rattle.std.proofs.Common.{◌≡◌, ℕ, List, [], ◌∷◌, length, refl, ap, sym, ◌∙◌}
 use Rattle.chacha.specs.Block.{add_xor_rotate, quarter_round, column_round, diagonal_round}
-use Rattle.chacha.specs.Code.Halves.{half_quarter, half_columns, half_diagonals}
+use Rattle.chacha.specs.Code.Halves.{half_columns, half_diagonals}
 use Rattle.chacha.proofs.ByRows.{sixteen_items}
 use Rattle.chacha.proofs.Lengths.{length-column_round}
 
@@ -10,7 +10,7 @@ columns_of : (a0 a1 a2 a3 b0 b1 b2 b3 c0 c1 c2 c3 d0 d1 d2 d3 : ℕ)
     → half_columns 8 7 (half_columns 16 12
     (a0 ∷ a1 ∷ a2 ∷ a3 ∷ b0 ∷ b1 ∷ b2 ∷ b3 ∷ c0 ∷ c1 ∷ c2 ∷ c3 ∷ d0 ∷ d1 ∷ d2 ∷ d3 ∷ []))
     ≡ column_round (a0 ∷ a1 ∷ a2 ∷ a3 ∷ b0 ∷ b1 ∷ b2 ∷ b3 ∷ c0 ∷ c1 ∷ c2 ∷ c3 ∷ d0 ∷ d1 ∷ d2 ∷ d3 ∷ [])
-unfolding half_columns half_quarter column_round quarter_round add_xor_rotate
+unfolding half_columns column_round quarter_round add_xor_rotate
 columns_of a0 a1 a2 a3 b0 b1 b2 b3 c0 c1 c2 c3 d0 d1 d2 d3 = refl
 
 -- and of each diagonal
@@ -18,7 +18,7 @@ diagonals_of : (a0 a1 a2 a3 b0 b1 b2 b3 c0 c1 c2 c3 d0 d1 d2 d3 : ℕ)
     → half_diagonals 8 7 (half_diagonals 16 12
     (a0 ∷ a1 ∷ a2 ∷ a3 ∷ b0 ∷ b1 ∷ b2 ∷ b3 ∷ c0 ∷ c1 ∷ c2 ∷ c3 ∷ d0 ∷ d1 ∷ d2 ∷ d3 ∷ []))
     ≡ diagonal_round (a0 ∷ a1 ∷ a2 ∷ a3 ∷ b0 ∷ b1 ∷ b2 ∷ b3 ∷ c0 ∷ c1 ∷ c2 ∷ c3 ∷ d0 ∷ d1 ∷ d2 ∷ d3 ∷ [])
-unfolding half_diagonals half_quarter diagonal_round quarter_round add_xor_rotate
+unfolding half_diagonals diagonal_round quarter_round add_xor_rotate
 diagonals_of a0 a1 a2 a3 b0 b1 b2 b3 c0 c1 c2 c3 d0 d1 d2 d3 = refl
 
 -- both halves of each column are the round of the columns

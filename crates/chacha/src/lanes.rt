@@ -7,11 +7,11 @@ ghost use Rattle.octets.specs.Bytes.{xor_bytes};
 ghost use Rattle.octets.specs.Masked.{masked};
 ghost use Rattle.chacha.specs.Block.{add_xor_rotate, quarter_round, double_rounds, added, serialized, block};
 ghost use Rattle.chacha.specs.Code.Lanes.{lane, HasBlocks};
-ghost use Rattle.chacha.specs.Code.Halves.{half_quarter, half_columns, half_diagonals};
+ghost use Rattle.chacha.specs.Code.Halves.{half_columns, half_diagonals};
 ghost use Rattle.chacha.specs.Stream.{key_stream_byte};
 
 use crate::state::initial_state;
-use octets::{Key32, Nonce, Work, xor_into};
+use octets::{Key32, Nonce, WIDE, Work, xor_into};
 use std::simd::{Simd, u32x4, u32x8};
 
 // The sums of the words, lane by lane.
@@ -71,48 +71,44 @@ pub(crate) fn quarter_round<const N: usize, const K: usize>(
     add_xor_rotate(x, c, d, b, 7);
 }
 
-// The first half of the quarter round in each lane, by 16 and 12, or the second, by 8 and 7.
-#[inline(always)]
-fn half_quarter<const N: usize>(
-    x: &mut [Simd<u32, N>; 16],
-    a: usize,
-    b: usize,
-    c: usize,
-    d: usize,
-    n: u32,
-    m: u32,
-)
-    requires places { (a < 16) × (b < 16) × (c < 16) × (d < 16) }
-    requires turns { (0 < n) × (n < 32) × (0 < m) × (m < 32) }
-    ensures { (j : ℕ) → j < N → lane j x.new ≡ half_quarter a b c d n m (lane j x.old) }
-{
-    add_xor_rotate(x, a, b, d, n);
-    add_xor_rotate(x, c, d, b, m);
-}
-
-// A half of the round of the columns, in each lane.
+// The first half of the round of the columns in each lane, by 16 and 12, or the second, by 8 and 7. Each operation is
+// done on all four quarter rounds before the next: so LLVM keeps 15 of the 16 words in registers.
 #[inline(always)]
 pub(crate) fn half_columns<const N: usize>(x: &mut [Simd<u32, N>; 16], n: u32, m: u32)
     requires { (0 < n) × (n < 32) × (0 < m) × (m < 32) }
     ensures { (j : ℕ) → j < N → lane j x.new ≡ half_columns n m (lane j x.old) }
 {
-    half_quarter(x, 0, 4, 8, 12, n, m);
-    half_quarter(x, 1, 5, 9, 13, n, m);
-    half_quarter(x, 2, 6, 10, 14, n, m);
-    half_quarter(x, 3, 7, 11, 15, n, m);
+    add_xor_rotate(x, 0, 4, 12, n);
+    add_xor_rotate(x, 1, 5, 13, n);
+    add_xor_rotate(x, 2, 6, 14, n);
+    add_xor_rotate(x, 3, 7, 15, n);
+    add_xor_rotate(x, 8, 12, 4, m);
+    add_xor_rotate(x, 9, 13, 5, m);
+    add_xor_rotate(x, 10, 14, 6, m);
+    add_xor_rotate(x, 11, 15, 7, m);
 }
 
-// A half of the round of the diagonals, in each lane.
+// The first half of the round of the diagonals in each lane, or the second.
 #[inline(always)]
 pub(crate) fn half_diagonals<const N: usize>(x: &mut [Simd<u32, N>; 16], n: u32, m: u32)
     requires { (0 < n) × (n < 32) × (0 < m) × (m < 32) }
     ensures { (j : ℕ) → j < N → lane j x.new ≡ half_diagonals n m (lane j x.old) }
 {
-    half_quarter(x, 0, 5, 10, 15, n, m);
-    half_quarter(x, 1, 6, 11, 12, n, m);
-    half_quarter(x, 2, 7, 8, 13, n, m);
-    half_quarter(x, 3, 4, 9, 14, n, m);
+    add_xor_rotate(x, 0, 5, 15, n);
+    add_xor_rotate(x, 1, 6, 12, n);
+    add_xor_rotate(x, 2, 7, 13, n);
+    add_xor_rotate(x, 3, 4, 14, n);
+    add_xor_rotate(x, 10, 15, 5, m);
+    add_xor_rotate(x, 11, 12, 6, m);
+    add_xor_rotate(x, 8, 13, 7, m);
+    add_xor_rotate(x, 9, 14, 4, m);
 }
+
+// How many steps of other work are kept after the second half of a round. A run of four blocks has 40 places for a step
+// and about 16 steps beside it: done at the first places, they would fill the processor there and leave it idle at the
+// others. So it does none at every second place, unless more are left than a part of a text has. A run of eight blocks
+// has 32 steps.
+pub(crate) const KEPT: usize = if WIDE { 0 } else { 512 };
 
 // Ten double rounds in halves of rounds, with a step of other work after each half. The steps are done on a copy: it
 // stays in registers, where a reference would not. A step is a branch, and so keeps the halves of a round apart: where
@@ -125,13 +121,13 @@ fn ten_rounds<const N: usize, W: Work>(x: &mut [Simd<u32, N>; 16], work: &mut W)
     let mut own = *work;
     'rounds: for _ in 0..10u32 {
         half_columns(x, 16, 12);
-        own.step();
+        own.step(0);
         half_columns(x, 8, 7);
-        own.step();
+        own.step(KEPT);
         half_diagonals(x, 16, 12);
-        own.step();
+        own.step(0);
         half_diagonals(x, 8, 7);
-        own.step();
+        own.step(KEPT);
     }
     *work = own;
 }

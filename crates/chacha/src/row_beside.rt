@@ -8,7 +8,7 @@ ghost use Rattle.chacha.specs.Code.Rows.{read_by_rows};
 ghost use Rattle.chacha.specs.Stream.{key_stream_byte};
 
 use crate::lanes::{
-    add, eight_counters, four_counters, half_columns, half_diagonals, set_starts,
+    KEPT, add, eight_counters, four_counters, half_columns, half_diagonals, set_starts,
     xor_eight_written, xor_written,
 };
 use crate::rows::{column_round, diagonal_round, rows_of, written};
@@ -32,14 +32,14 @@ fn ten_rounds<const N: usize, W: Work>(
     'rounds: for _ in 0..10u32 {
         half_columns(x, 16, 12);
         column_round(row);
-        own.step();
+        own.step(0);
         half_columns(x, 8, 7);
-        own.step();
+        own.step(KEPT);
         half_diagonals(x, 16, 12);
         diagonal_round(row);
-        own.step();
+        own.step(0);
         half_diagonals(x, 8, 7);
-        own.step();
+        own.step(KEPT);
     }
     *work = own;
 }

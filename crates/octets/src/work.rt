@@ -12,9 +12,10 @@ pub trait Work: Copy {
     // Once all its steps are done, the work has taken in this text under this key.
     ghost comes_to: { Self → List ℕ → List ℕ → Type 0 };
 
-    /// Does one step, if any is left. What the work comes to stays as it was, so no contract counts steps:
-    /// whoever owns the work does those that are left.
-    fn step(&mut self)
+    /// Does one step, if more than `kept` are left: a loop that keeps some at every second place spreads them evenly.
+    /// What the work comes to stays as it was, so no contract counts steps: whoever owns the work does those that are
+    /// left.
+    fn step(&mut self, kept: usize)
         ensures { (k m : List ℕ) → comes_to self.old k m → comes_to self.new k m };
 }
 
@@ -37,7 +38,7 @@ impl<'a> Work for Idle<'a> {
     ghost comes_to = { λ w k m. ⊤ };
 
     #[inline(always)]
-    fn step(&mut self) {
+    fn step(&mut self, _kept: usize) {
         if let Some(next) = self.next {
             *self = *next;
         }

@@ -54,7 +54,10 @@ impl<'a, 'b, M: Multiplier> Work for PartialSum<'a, 'b, M> {
     ghost comes_to = { λ t k m. PartialSumHolds M.factor t k m };
 
     #[inline(always)]
-    fn step(&mut self) {
+    fn step(&mut self, kept: usize) {
+        if self.left.len() / 16 <= kept {
+            return;
+        }
         if let Some((block, rest)) = self.left.split_first_chunk::<16>() {
             self.sum = self
                 .multiplier

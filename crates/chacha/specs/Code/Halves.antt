@@ -1,19 +1,15 @@
--- The rounds in halves: the first half of all four quarter rounds, and then the second of all.
+-- The rounds in halves, each step of all four quarter rounds after the other.
 use Rattle.std.specs.Prelude.{ℕ, List}
 use Rattle.chacha.specs.Block.{add_xor_rotate}
 
--- the half of a quarter round that rotates by n and by m
-unfoldable pub half_quarter : ℕ → ℕ → ℕ → ℕ → ℕ → ℕ → List ℕ → List ℕ
-half_quarter a b c d n m s = add_xor_rotate c d b m (add_xor_rotate a b d n s)
-
--- that of each column
+-- the halves of the quarter rounds on the columns that rotate by n and by m
 unfoldable pub half_columns : ℕ → ℕ → List ℕ → List ℕ
 half_columns n m s =
-    half_quarter 3 7 11 15 n m (half_quarter 2 6 10 14 n m (half_quarter 1 5 9 13 n m
-    (half_quarter 0 4 8 12 n m s)))
+    add_xor_rotate 11 15 7 m (add_xor_rotate 10 14 6 m (add_xor_rotate 9 13 5 m (add_xor_rotate 8 12 4 m
+    (add_xor_rotate 3 7 15 n (add_xor_rotate 2 6 14 n (add_xor_rotate 1 5 13 n (add_xor_rotate 0 4 12 n s)))))))
 
--- that of each diagonal
+-- those on the diagonals
 unfoldable pub half_diagonals : ℕ → ℕ → List ℕ → List ℕ
 half_diagonals n m s =
-    half_quarter 3 4 9 14 n m (half_quarter 2 7 8 13 n m (half_quarter 1 6 11 12 n m
-    (half_quarter 0 5 10 15 n m s)))
+    add_xor_rotate 9 14 4 m (add_xor_rotate 8 13 7 m (add_xor_rotate 11 12 6 m (add_xor_rotate 10 15 5 m
+    (add_xor_rotate 3 4 14 n (add_xor_rotate 2 7 13 n (add_xor_rotate 1 6 12 n (add_xor_rotate 0 5 15 n s)))))))
