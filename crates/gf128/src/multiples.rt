@@ -1,7 +1,7 @@
 // The multiples of a word by two, four and eight bits, each made of two smaller ones. The bit of highest
 // weight is the coefficient of x^0.
 
-ghost use Rattle.std.specs.Prelude.{◌≡◌, ℕ, ◌<◌, slice_index_or};
+ghost use Rattle.std.specs.Prelude.{◌≡◌, ℕ, ◌<◌, slice_index, slice_index_or};
 ghost use Rattle.std.specs.Int.{w128, to_be_bytes};
 ghost use Rattle.octets.specs.Bytes.{le};
 ghost use Rattle.gf128.specs.declared.lanes.Lanes.{Lanes};
@@ -89,12 +89,13 @@ impl Multiples8 {
     }
 }
 
-// The 16 multiples of a word by four bits.
+// The 16 multiples of a word by four bits. A table is one of numbers: an array of them starts at a multiple of 16 bytes in
+// memory, and so a sum takes an entry from there without a load before it; an array of vectors may start anywhere.
 #[derive(Drop, Clone, Copy)]
 pub(crate) struct Multiples16 {
     pub(crate) word: u128,
-    entries: [Lanes; 16],
-    ghost filled: { (j : ℕ) (d : Lanes) → j < 16 → IsBitsProduct 4 j word (le (slice_index_or entries j d).bytes) },
+    entries: [u128; 16],
+    ghost filled: { (j : ℕ) → j < 16 → IsBitsProduct 4 j word (slice_index entries j) },
 }
 
 impl Multiples16 {
@@ -107,22 +108,22 @@ impl Multiples16 {
         Multiples16 {
             word,
             entries: [
-                by_two.at(0),
-                by_two.at(1),
-                by_two.at(2),
-                by_two.at(3),
-                by_two.at(4),
-                by_two.at(5),
-                by_two.at(6),
-                by_two.at(7),
-                by_two.at(8),
-                by_two.at(9),
-                by_two.at(10),
-                by_two.at(11),
-                by_two.at(12),
-                by_two.at(13),
-                by_two.at(14),
-                by_two.at(15),
+                by_two.at(0).word(),
+                by_two.at(1).word(),
+                by_two.at(2).word(),
+                by_two.at(3).word(),
+                by_two.at(4).word(),
+                by_two.at(5).word(),
+                by_two.at(6).word(),
+                by_two.at(7).word(),
+                by_two.at(8).word(),
+                by_two.at(9).word(),
+                by_two.at(10).word(),
+                by_two.at(11).word(),
+                by_two.at(12).word(),
+                by_two.at(13).word(),
+                by_two.at(14).word(),
+                by_two.at(15).word(),
             ],
         }
     }
@@ -132,7 +133,7 @@ impl Multiples16 {
     pub(crate) fn at(&self, bits: u64) -> Lanes
         ensures { IsBitsProduct 4 bits self.now.word (le result.bytes) }
     {
-        self.entries[(bits % 16) as usize]
+        Lanes::of(self.entries[(bits % 16) as usize])
     }
 }
 
@@ -204,20 +205,20 @@ impl ByteMultiples for Multiples32 {
 #[derive(Drop)]
 pub(crate) struct Multiples256 {
     pub(crate) word: u128,
-    entries: [Lanes; 256],
-    ghost filled: { (j : ℕ) (d : Lanes) → j < 256 → IsBitsProduct 8 j word (le (slice_index_or entries j d).bytes) },
+    entries: [u128; 256],
+    ghost filled: { (j : ℕ) → j < 256 → IsBitsProduct 8 j word (slice_index entries j) },
 }
 
 // Makes a table the multiples of a word by eight bits. It stays where it is: a table of 4 KiB takes longer to move
 // than to fill.
-fn fill(entries: &mut [Lanes; 256], word: u128)
-    ensures { (k : ℕ) (d : Lanes) → k < 256 → IsBitsProduct 8 k word (le (slice_index_or entries.new k d).bytes) }
+fn fill(entries: &mut [u128; 256], word: u128)
+    ensures { (k : ℕ) → k < 256 → IsBitsProduct 8 k word (slice_index entries.new k) }
 {
     let multiples = Multiples32::of(word);
     'rows: for i in 0..16usize {
         'entries: for j in 0..16usize {
             let place = 16 * i + j;
-            entries[place] = multiples.at(place as u8);
+            entries[place] = multiples.at(place as u8).word();
         }
     }
 }
@@ -230,7 +231,7 @@ impl Multiples256 {
     {
         Multiples256 {
             word: 0,
-            entries: [Lanes::of(0); 256],
+            entries: [0; 256],
         }
     }
 
@@ -248,6 +249,6 @@ impl ByteMultiples for Multiples256 {
 
     #[inline(always)]
     fn at(&self, byte: u8) -> Lanes {
-        self.entries[byte as usize]
+        Lanes::of(self.entries[byte as usize])
     }
 }
