@@ -30,30 +30,30 @@ run mul add d (g ∷ gs) env = run mul add d gs (made mul add d g env ∷ env)
 -- the gates
 abbrev pub gates : List Gate
 gates =
-    (false, 5, 6) ∷ (false, 2, 8) ∷ (false, 1, 2) ∷ (false, 7, 5) ∷ (false, 5, 1) ∷ (false, 2, 9) ∷
-    (false, 2, 4) ∷ (false, 0, 10) ∷ (false, 15, 12) ∷ (false, 15, 1) ∷ (false, 17, 12) ∷ (true, 11, 5) ∷
-    (false, 3, 2) ∷ (false, 5, 15) ∷ (false, 9, 3) ∷ (true, 6, 2) ∷ (true, 2, 9) ∷ (false, 16, 3) ∷
-    (true, 0, 7) ∷ (false, 8, 1) ∷ (false, 2, 7) ∷ (false, 21, 7) ∷ (true, 0, 7) ∷ (true, 2, 19) ∷
-    (false, 11, 23) ∷ (false, 32, 22) ∷ (false, 14, 9) ∷ (true, 22, 24) ∷ (false, 28, 15) ∷
-    (false, 10, 13) ∷ (false, 14, 6) ∷ (false, 8, 14) ∷ (false, 30, 7) ∷ (true, 4, 7) ∷ (false, 4, 7) ∷
-    (true, 10, 33) ∷ (false, 0, 2) ∷ (false, 9, 1) ∷ (false, 3, 18) ∷ (false, 2, 9) ∷ (false, 2, 9) ∷
-    (false, 10, 9) ∷ (false, 17, 49) ∷ (false, 3, 0) ∷ (false, 2, 34) ∷ (false, 4, 12) ∷ (false, 2, 0) ∷
-    (true, 1, 2) ∷ (false, 9, 0) ∷ (false, 4, 10) ∷ (true, 1, 3) ∷ (false, 0, 7) ∷ (true, 46, 0) ∷
-    (false, 9, 5) ∷ (false, 8, 2) ∷ (true, 1, 5) ∷ (false, 2, 4) ∷ (true, 13, 0) ∷ (false, 0, 4) ∷
-    (false, 3, 20) ∷ (true, 8, 60) ∷ (true, 1, 2) ∷ (false, 2, 10) ∷ (false, 13, 1) ∷ (false, 6, 9) ∷
-    (false, 1, 0) ∷ (false, 6, 2) ∷ (true, 0, 42) ∷ (false, 5, 2) ∷ (false, 4, 17) ∷ (true, 6, 67) ∷
-    (true, 57, 1) ∷ (false, 4, 0) ∷ (true, 66, 3) ∷ (true, 5, 53) ∷ (true, 8, 73) ∷ (true, 13, 63) ∷
-    (false, 0, 2) ∷ (false, 17, 2) ∷ (true, 68, 13) ∷ (true, 15, 65) ∷ (false, 8, 2) ∷ (true, 13, 78) ∷
-    (false, 5, 15) ∷ (false, 3, 10) ∷ (true, 20, 63) ∷ (true, 23, 77) ∷ (true, 21, 69) ∷ (false, 1, 5) ∷
-    (false, 1, 14) ∷ (false, 19, 1) ∷ (false, 0, 6) ∷ (true, 63, 32) ∷ (true, 67, 33) ∷ (false, 12, 0) ∷
-    (true, 90, 31) ∷ (false, 6, 5) ∷ (false, 8, 15) ∷ (false, 1, 3) ∷ (false, 38, 6) ∷ (false, 16, 29) ∷
-    (false, 2, 0) ∷ (false, 21, 49) ∷ (false, 20, 23) ∷ (false, 18, 12) ∷ (false, 32, 0) ∷
-    (false, 13, 10) ∷ (false, 0, 9) ∷ (false, 4, 6) ∷ (false, 2, 33) ∷ (false, 0, 13) ∷ (false, 10, 5) ∷
-    (false, 28, 20) ∷ (false, 14, 10) ∷ (false, 14, 9) ∷ []
+    (false, 4, 2) ∷ (false, 6, 7) ∷ (false, 0, 2) ∷ (false, 4, 10) ∷ (false, 3, 0) ∷ (false, 12, 2) ∷
+    (false, 13, 10) ∷ (false, 2, 10) ∷ (false, 14, 0) ∷ (false, 10, 6) ∷ (false, 3, 1) ∷ (false, 8, 15) ∷
+    (false, 4, 14) ∷ (false, 11, 0) ∷ (true, 1, 9) ∷ (false, 15, 2) ∷ (false, 23, 18) ∷ (true, 10, 6) ∷
+    (true, 18, 6) ∷ (true, 5, 2) ∷ (false, 10, 3) ∷ (false, 21, 10) ∷ (false, 11, 20) ∷ (false, 0, 30) ∷
+    (true, 1, 20) ∷ (true, 9, 4) ∷ (true, 4, 20) ∷ (false, 2, 0) ∷ (false, 11, 14) ∷ (false, 9, 11) ∷
+    (false, 2, 0) ∷ (false, 27, 8) ∷ (false, 18, 21) ∷ (false, 14, 18) ∷ (true, 1, 33) ∷ (true, 25, 32) ∷
+    (false, 18, 1) ∷ (false, 11, 22) ∷ (false, 7, 14) ∷ (false, 3, 14) ∷ (false, 3, 2) ∷ (false, 11, 7) ∷
+    (false, 2, 5) ∷ (false, 1, 14) ∷ (false, 1, 12) ∷ (false, 6, 0) ∷ (false, 5, 37) ∷ (false, 0, 3) ∷
+    (true, 3, 1) ∷ (false, 5, 0) ∷ (false, 11, 1) ∷ (true, 1, 5) ∷ (true, 1, 4) ∷ (false, 1, 14) ∷
+    (false, 9, 0) ∷ (false, 2, 11) ∷ (false, 5, 2) ∷ (true, 18, 0) ∷ (false, 0, 3) ∷ (false, 0, 5) ∷
+    (true, 6, 60) ∷ (false, 3, 10) ∷ (true, 6, 0) ∷ (false, 7, 9) ∷ (false, 16, 1) ∷ (true, 53, 11) ∷
+    (false, 1, 7) ∷ (false, 3, 0) ∷ (true, 0, 35) ∷ (false, 13, 4) ∷ (true, 6, 59) ∷ (true, 7, 64) ∷
+    (true, 2, 49) ∷ (true, 3, 69) ∷ (true, 61, 14) ∷ (true, 70, 15) ∷ (true, 59, 9) ∷ (false, 6, 8) ∷
+    (false, 5, 3) ∷ (true, 12, 65) ∷ (true, 12, 79) ∷ (false, 9, 0) ∷ (false, 21, 8) ∷ (false, 3, 14) ∷
+    (false, 5, 1) ∷ (true, 20, 82) ∷ (false, 0, 4) ∷ (false, 9, 14) ∷ (true, 82, 32) ∷ (true, 30, 68) ∷
+    (false, 8, 5) ∷ (true, 32, 75) ∷ (false, 2, 16) ∷ (true, 71, 37) ∷ (false, 7, 1) ∷ (false, 3, 0) ∷
+    (false, 15, 19) ∷ (false, 13, 10) ∷ (true, 88, 33) ∷ (false, 14, 10) ∷ (false, 39, 6) ∷
+    (false, 11, 35) ∷ (false, 4, 2) ∷ (false, 15, 17) ∷ (false, 10, 5) ∷ (false, 2, 3) ∷ (false, 1, 15) ∷
+    (false, 6, 11) ∷ (false, 5, 4) ∷ (false, 21, 14) ∷ (false, 13, 1) ∷ (false, 6, 37) ∷
+    (false, 33, 16) ∷ (false, 9, 0) ∷ (false, 2, 16) ∷ []
 
 -- where the eight bits stand at the end
 abbrev pub places : List ℕ
-places = 7 ∷ 4 ∷ 1 ∷ 0 ∷ 9 ∷ 6 ∷ 3 ∷ 2 ∷ []
+places = 8 ∷ 0 ∷ 9 ∷ 7 ∷ 2 ∷ 4 ∷ 1 ∷ 5 ∷ []
 
 -- the eight values at the end
 abbrev pub outcome : {A : Type 0} → (A → A → A) → (A → A → A) → A → List A → List A

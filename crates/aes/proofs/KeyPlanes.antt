@@ -5,12 +5,17 @@ use Rattle.std.proofs.Common.{ltb-true}
 use Rattle.std.specs.Int.{bit_at}
 use Rattle.std.proofs.lemmas.Nat.Bits.{bit_at-zero, bit_at_ones, bit_at-lt, shr_and_one}
 use Rattle.std.proofs.lemmas.Bool.{and_parts, eqb-true}
-use Rattle.std.proofs.lemmas.List.{get_or-map, get_or-replicate, length-replicate, get_or_append_left}
+use Rattle.std.proofs.lemmas.List.{get_or-map, get_or-replicate, length-replicate, get_or_append_left, append-nil}
 use Rattle.std.proofs.lemmas.Simd.{length-zip2, get_or-zip2}
-use lib.Lanes.{zip2}
+use lib.Lanes.{zip2, Each1}
+use mir.Val.{Fits}
+use mir.Syntax.{w8}
+use Rattle.std.specs.Int.{from_le_bytes, to_le_bytes, w128}
+use Rattle.octets.proofs.Numbers.{le_padded, le_word}
+use Rattle.aes.proofs.FourBlocks.{lane_fits}
 use Rattle.aes.specs.Code.Lanes.{key_byte}
 use Rattle.aes.specs.Code.Planes.{spot, word_byte}
-use Rattle.aes.specs.Code.Planes.{HoldsBits, masked_byte}
+use Rattle.aes.specs.Code.Planes.{HoldsLanes, masked_byte}
 use Rattle.aes.proofs.SixteenBlocks.{same_bytes}
 use Rattle.aes.proofs.Tested.{all_below, all_below_at}
 
@@ -37,18 +42,9 @@ picked x ps f n l hx hp h test =
     ∙ get_or_append_left x x 0 (get_or ps l 0) (omega arith)
     ∙ ap (λ p. get_or x p 0) (eqb-true (get_or ps l 0) (f l) both.0)
 
--- sixteen places twice
-abbrev twice_places : List ℕ
-twice_places =
-    0 ∷ 1 ∷ 2 ∷ 3 ∷ 4 ∷ 5 ∷ 6 ∷ 7 ∷ 8 ∷ 9 ∷ 10 ∷ 11 ∷ 12 ∷ 13 ∷ 14 ∷ 15 ∷
-    0 ∷ 1 ∷ 2 ∷ 3 ∷ 4 ∷ 5 ∷ 6 ∷ 7 ∷ 8 ∷ 9 ∷ 10 ∷ 11 ∷ 12 ∷ 13 ∷ 14 ∷ 15 ∷ []
-
 -- the places of rows
 abbrev row_places : List ℕ
 row_places = 0 ∷ 4 ∷ 8 ∷ 12 ∷ 1 ∷ 5 ∷ 9 ∷ 13 ∷ 2 ∷ 6 ∷ 10 ∷ 14 ∷ 3 ∷ 7 ∷ 11 ∷ 15 ∷ []
-
-twice_computed : all_below (λ i. (get_or twice_places i 0 == i % 16) && ltb (get_or twice_places i 0) 16) 32 ≡ true
-twice_computed = refl
 
 rows_computed : all_below (λ i. (get_or row_places i 0 == spot i) && ltb (get_or row_places i 0) 16) 16 ≡ true
 rows_computed = refl
@@ -70,7 +66,7 @@ full x j =
     zip2 (λ a b. (a + (2 ^ 8 - b)) % 2 ^ 8) (replicate 16 0)
     (zip2 bit_and (zip2 (λ a b. a / 2 ^ b) x (replicate 16 j)) (replicate 16 1))
 
-full_long : (x : List ℕ) (j : ℕ) → length x ≡ 16 → length (full x j) ≡ 16
+pub full_long : (x : List ℕ) (j : ℕ) → length x ≡ 16 → length (full x j) ≡ 16
 full_long x j hx =
     let low = zip2 bit_and (zip2 (λ (a b : ℕ). a / 2 ^ b) x (replicate 16 j)) (replicate 16 1) in
     let long : length low ≡ 16 = long_number bit_and (zip2 (λ a b. a / 2 ^ b) x (replicate 16 j)) 1
@@ -91,13 +87,18 @@ full_at x j i hx h =
     ∙ ap (λ b. (0 + (2 ^ 8 - b)) % 2 ^ 8) (number_lane bit_and down 1 i down_long h
     ∙ ap (λ a. bit_and a 1) (number_lane (λ a b. a / 2 ^ b) x j i hx h) ∙ shr_and_one (get_or x i 0) j)
 
-pub plane_bits : (x : List ℕ) (j : ℕ) → length x ≡ 16 → (l k : ℕ) → l < 32 → k < 8
-    → bit_at (get_or (map (λ p. get_or (full x j ++ full x j) p 0) twice_places) l 0) k
-    ≡ bit_at (get_or x (l % 16) 0) j
+pub plane_bits : (x : List ℕ) (j : ℕ) → length x ≡ 16 → (l k : ℕ) → l < 16 → k < 8
+    → bit_at (get_or (full x j) l 0) k ≡ bit_at (get_or x l 0) j
 plane_bits x j hx l k hl hk =
-    ap (λ n. bit_at n k) (picked (full x j) twice_places (λ i. i % 16) 32 l (full_long x j hx) refl hl twice_computed
-    ∙ full_at x j (l % 16) hx (omega arith))
-    ∙ full_bit (bit_at (get_or x (l % 16) 0) j) k (bit_at-lt (get_or x (l % 16) 0) j) hk
+    ap (λ n. bit_at n k) (full_at x j l hx hl) ∙ full_bit (bit_at (get_or x l 0) j) k (bit_at-lt (get_or x l 0) j) hk
+
+-- lanes read as a number, and the number's bytes
+pub written_back : (v : List ℕ) (n : ℕ) → length v ≡ 16 → Each1 (Fits w8) v → n ≡ from_le_bytes w128 v
+    → to_le_bytes w128 n ≡ v
+written_back v n long fits read =
+    let none : 16 - length v ≡ 0 = omega arith in
+    ap (to_le_bytes w128) (read ∙ sym (le_word v long)) ∙ le_padded v (omega arith) (λ i. lane_fits v i fits)
+    ∙ ap (λ (m : ℕ). v ++ replicate m 0) none ∙ append-nil v
 
 -- a byte of four words
 pub word_of : (k ws : List (List ℕ)) (n i : ℕ) → i < 16
@@ -113,27 +114,24 @@ spot_half l = omega arith
 
 -- planes of a key by rows
 pub first_key : (v : List (List ℕ)) (key bytes : List ℕ) (ws : List (List ℕ))
-    → HoldsBits v (λ l k. get_or key (l % 16) 0)
+    → HoldsLanes 16 v (λ l k. get_or key l 0)
     → ((l : ℕ) → l < 16 → get_or key l 0 ≡ get_or bytes (spot l) 0)
-    → ((i : ℕ) → i < 16 → get_or bytes i 0 ≡ word_byte ws 0 i) → HoldsBits v (λ l k. word_byte ws 0 (spot l))
+    → ((i : ℕ) → i < 16 → get_or bytes i 0 ≡ word_byte ws 0 i) → HoldsLanes 16 v (λ l k. word_byte ws 0 (spot l))
 first_key v key bytes ws held rows words =
-    same_bytes v held (λ l k hl hk.
-    rows (l % 16) (omega arith) ∙ words (spot (l % 16)) (omega arith) ∙ ap (word_byte ws 0) (spot_half l))
+    same_bytes v held (λ l k hl hk. rows l hl ∙ words (spot l) (omega arith))
 
 pub middle_key : (v : List (List ℕ)) (key masked bytes : List ℕ) (ws : List (List ℕ)) (n : ℕ)
-    → HoldsBits v (λ l k. get_or key (l % 16) 0)
+    → HoldsLanes 16 v (λ l k. get_or key l 0)
     → ((l : ℕ) → l < 16 → get_or key l 0 ≡ get_or masked (spot l) 0)
     → ((i : ℕ) → i < 16 → get_or masked i 0 ≡ bit_xor (get_or bytes i 0) 0x63)
-    → ((i : ℕ) → i < 16 → get_or bytes i 0 ≡ word_byte ws n i) → HoldsBits v (λ l k. masked_byte ws n (spot l))
+    → ((i : ℕ) → i < 16 → get_or bytes i 0 ≡ word_byte ws n i) → HoldsLanes 16 v (λ l k. masked_byte ws n (spot l))
 middle_key v key masked bytes ws n held rows mask words =
     same_bytes v held (λ l k hl hk.
-    rows (l % 16) (omega arith) ∙ mask (spot (l % 16)) (omega arith)
-    ∙ ap (λ b. bit_xor b 0x63) (words (spot (l % 16)) (omega arith)) ∙ ap (masked_byte ws n) (spot_half l))
+    rows l hl ∙ mask (spot l) (omega arith) ∙ ap (λ b. bit_xor b 0x63) (words (spot l) (omega arith)))
 
 pub last_key : (v : List (List ℕ)) (masked bytes : List ℕ) (ws : List (List ℕ)) (n : ℕ)
-    → HoldsBits v (λ l k. get_or masked (l % 16) 0)
+    → HoldsLanes 16 v (λ l k. get_or masked l 0)
     → ((i : ℕ) → i < 16 → get_or masked i 0 ≡ bit_xor (get_or bytes i 0) 0x63)
-    → ((i : ℕ) → i < 16 → get_or bytes i 0 ≡ word_byte ws n i) → HoldsBits v (λ l k. masked_byte ws n (l % 16))
+    → ((i : ℕ) → i < 16 → get_or bytes i 0 ≡ word_byte ws n i) → HoldsLanes 16 v (λ l k. masked_byte ws n l)
 last_key v masked bytes ws n held mask words =
-    same_bytes v held (λ l k hl hk.
-    mask (l % 16) (omega arith) ∙ ap (λ b. bit_xor b 0x63) (words (l % 16) (omega arith)))
+    same_bytes v held (λ l k hl hk. mask l hl ∙ ap (λ b. bit_xor b 0x63) (words l hl))

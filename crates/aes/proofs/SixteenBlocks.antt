@@ -12,8 +12,8 @@ use Rattle.std.proofs.Common.{drop, subst, ◌≤◌}
 use Rattle.std.proofs.lemmas.List.{get_or-drop}
 use Rattle.aes.specs.Schedule.{round_count, schedule}
 use Rattle.aes.proofs.Expanded.{HasSchedule}
-use Rattle.aes.specs.Code.Planes.{HoldsEight, HoldsLanes, HoldsSixteen, block_byte, spot, word_byte, masked_byte, AreReady}
-use Rattle.aes.specs.declared.planes.TheConstants.{FIRST, SECOND, SHIFTED, SHIFTED_OUT, BELOW, TWO_BELOW}
+use Rattle.aes.specs.Code.Planes.{HoldsEight, HoldsLanes, HoldsSixteen, HoldsWords, block_byte, spot, word_byte, masked_byte, AreReady}
+use Rattle.aes.specs.declared.planes.TheConstants.{FIRST, SECOND, TWICE, SHIFTED, SHIFTED_OUT, BELOW, TWO_BELOW}
 use Rattle.aes.specs.declared.planes.TheConstants.{HALF_SHIFTED, HALF_SHIFTED_OUT, HALF_BELOW, HALF_TWO_BELOW}
 use Rattle.aes.proofs.Tested.{all_below, all_below_at}
 use Rattle.aes.proofs.Multiples.{triple_is}
@@ -30,6 +30,13 @@ same_bytes p held same = record {
   each = λ j l k hj hl hk. held.each j l k hj hl hk ∙ ap (λ n. bit_at n j) (same l k hl hk);
 }
 
+-- and numbers
+pub same_words : {g h : ℕ → ℕ → ℕ} (words : List ℕ) → HoldsWords words g
+    → ((l k : ℕ) → l < 16 → k < 8 → g l k ≡ h l k) → HoldsWords words h
+same_words words held same = record {
+  each = λ j l k hj hl hk. held.each j l k hj hl hk ∙ ap (λ n. bit_at n j) (same l k hl hk);
+}
+
 -- ---- places
 -- the first 16 lanes, and the other 16
 pub in_first : (g : ℕ → ℕ → ℕ) (l k : ℕ) → l < 16 → g (get_or FIRST l 0) k ≡ g l k
@@ -40,6 +47,12 @@ pub in_second : (g : ℕ → ℕ → ℕ) (l k : ℕ) → l < 16 → g (get_or S
 in_second g l k hl =
     ap (λ (i : ℕ). g i k)
     (eqb-true (get_or SECOND l 0) (16 + l) (all_below_at (λ i. get_or SECOND i 0 == 16 + i) 16 l refl hl))
+
+-- a lane of both
+pub in_both : (g : ℕ → ℕ → ℕ) (l k : ℕ) → l < 32 → g (get_or TWICE l 0) k ≡ g (l % 16) k
+in_both g l k hl =
+    ap (λ (i : ℕ). g i k)
+    (eqb-true (get_or TWICE l 0) (l % 16) (all_below_at (λ i. get_or TWICE i 0 == i % 16) 32 l refl hl))
 
 shifted_computed : all_below
     (λ l. (get_or SHIFTED l 0 / 16 == l / 16) && (spot (get_or SHIFTED l 0) == row_source (spot l))) 32 ≡ true
@@ -266,12 +279,12 @@ word_same : (ws : List (List ℕ)) (key : List ℕ) (n i : ℕ) → HasSchedule 
 word_same ws key n i has h l = ap (λ w. get_or w (i % 4) 0) (has (4 * n + i / 4) (omega arith))
 
 -- planes of such words are those of the schedule
-pub ready_same_planes : (keys : List (List (List ℕ))) (ws : List (List ℕ)) (key : List ℕ) (last : ℕ)
+pub ready_same_planes : (keys : List (List ℕ)) (ws : List (List ℕ)) (key : List ℕ) (last : ℕ)
     → last ≡ round_count key → HasSchedule ws key → AreReady keys ws last → AreReady keys (schedule key) (round_count key)
 ready_same_planes keys ws key last e has ready = subst (λ n. AreReady keys (schedule key) n) e (record {
-  first = same_bytes _ ready.first (λ l k hl hk. word_same ws key 0 (spot l) has (omega arith) (omega arith));
-  middle = λ n h m. same_bytes _ (ready.middle n h m) (λ l k hl hk.
+  first = same_words _ ready.first (λ l k hl hk. word_same ws key 0 (spot l) has (omega arith) (omega arith));
+  middle = λ n h m. same_words _ (ready.middle n h m) (λ l k hl hk.
       ap (λ b. bit_xor b 0x63) (word_same ws key n (spot l) has (omega arith) (omega arith)));
-  final = same_bytes _ ready.final (λ l k hl hk.
-      ap (λ b. bit_xor b 0x63) (word_same ws key last (l % 16) has (omega arith) (omega arith)));
+  final = same_words _ ready.final (λ l k hl hk.
+      ap (λ b. bit_xor b 0x63) (word_same ws key last l has (omega arith) hl));
 })

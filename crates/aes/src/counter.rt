@@ -8,7 +8,7 @@ ghost use Rattle.aes.specs.Code.Nibbles.{CountsInNibble};
 ghost use Rattle.aes.specs.Code.Wraps.{WrapsAround, up_be-wraps, up_le-wraps};
 
 use crate::key::{AesKey, KeptKey};
-use crate::planes::{Planes, count_blocks, no_planes};
+use crate::planes::{KeyPlanes, Planes, count_blocks, no_planes};
 use byteorder::{BigEndian, ByteOrder, LittleEndian};
 use octets::{Block, Stream, WIDE, Work, xor_into};
 use std::marker::PhantomData;
@@ -138,13 +138,28 @@ impl Count for FirstFour {
 }
 
 // From so many bytes on, making the planes of the key pays.
-const PLANES_PAY: usize = if WIDE { 353 } else { 256 };
+const PLANES_PAY: usize = if WIDE { 193 } else { 97 };
 
 // A run of four blocks pays for more than so many bytes.
 const FOUR_PAY: usize = if WIDE { 32 } else { 48 };
 
-// Once they are made, a run of sixteen blocks pays for more than so many bytes.
-const SIXTEEN_PAY: usize = if WIDE { 96 } else { 128 };
+// Once they are made, a run of sixteen blocks pays for more than so many bytes, or one of eight blocks where a plane
+// is two registers.
+const SIXTEEN_PAY: usize = if WIDE { 96 } else { 64 };
+
+// Up to so many bytes, a run of eight blocks and then shorter ones take no longer than one of sixteen.
+const EIGHT_PAY: usize = if WIDE { 0 } else { 192 };
+
+// How many of the bytes that are left the next run takes.
+#[inline(always)]
+fn run_of(left: usize) -> usize
+    ensures within { result ≤ left }
+    ensures room { result ≤ 256 }
+    ensures some { 0 < left → 0 < result }
+    ensures whole { result < left → result % 16 ≡ 0 }
+{
+    left.min(if left > EIGHT_PAY { 256 } else { 128 })
+}
 
 // A stream from its first block on, but for its key: how many blocks were begun, modulo 2^32, and the cipher of
 // the last one with the number of its bytes that were used, 0 if all were.
@@ -285,14 +300,32 @@ impl<C: Count> Counter<C> {
         self.take(&masks, bytes);
     }
 
+    // XORs in the first bytes of the next eight blocks. No block is begun. A function of its own, since runs of sixteen
+    // take longer beside it.
+    #[inline(never)]
+    fn begin_eight(&mut self, key: &AesKey, words: &[KeyPlanes; 15], bytes: &mut [u8])
+        requires ready { AreReady words.now (schedule key.now) (round_count key.now) }
+        requires none { self.old.used ≡ 0 }
+        requires room { length bytes.old ≤ 128 }
+        ensures advances { Advances C.up key.now self.old self.new bytes.old bytes.new }
+        ensures used { self.new.used ≡ length bytes.old % 16 }
+    {
+        let (a, b) = key.encrypt_eight(words, self.sixteen());
+        self.take([a, b].as_flattened(), bytes);
+    }
+
     // XORs in the first bytes of the next sixteen blocks. No block is begun.
-    fn begin_sixteen(&mut self, key: &AesKey, words: &[Planes; 15], bytes: &mut [u8])
+    fn begin_sixteen(&mut self, key: &AesKey, words: &[KeyPlanes; 15], bytes: &mut [u8])
         requires ready { AreReady words.now (schedule key.now) (round_count key.now) }
         requires none { self.old.used ≡ 0 }
         requires room { length bytes.old ≤ 256 }
         ensures advances { Advances C.up key.now self.old self.new bytes.old bytes.new }
         ensures used { self.new.used ≡ length bytes.old % 16 }
     {
+        if !WIDE && bytes.len() <= 128 {
+            self.begin_eight(key, words, bytes);
+            return;
+        }
         let (a, b, c, d) = key.encrypt_sixteen(words, self.sixteen());
         if bytes.len() < 256 {
             self.take([a, b, c, d].as_flattened(), bytes);
@@ -314,7 +347,7 @@ impl<C: Count> Counter<C> {
         key.make_planes(&mut words);
         let mut done = 0;
         'sixteens: while bytes.len() - done > SIXTEEN_PAY {
-            let next = (bytes.len() - done).min(256);
+            let next = run_of(bytes.len() - done);
             self.begin_sixteen(key, &words, &mut bytes[done..done + next]);
             done += next;
         }

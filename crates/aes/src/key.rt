@@ -15,8 +15,8 @@ use crate::inverse::unmix_words;
 use crate::inverse_key::InverseKey;
 use crate::lanes::{first_four, last_four, ready_keys, round_four, spread};
 use crate::planes::{
-    HalfPlanes, Planes, add, add_half, both_halves, last_half, last_sixteen, lower, ready_planes,
-    round_half, round_sixteen, store as store_planes, upper,
+    HalfPlanes, KeyPlanes, Planes, add, add_half, both_halves, last_half, last_sixteen, lower,
+    ready_planes, round_half, round_sixteen, store as store_planes, twice, unpacked, upper,
 };
 use crate::schedule::expand;
 use octets::{Block, Fault, Key16, Key24, Key32, WIDE};
@@ -195,48 +195,48 @@ impl AesKey {
         self.encrypt_ready(&self.ready(), blocks)
     }
 
-    // Makes the words of its rounds in planes of bits.
-    pub(crate) fn make_planes(&self, keys: &mut [Planes; 15])
+    // Makes the words of its rounds in planes of bits, for eight blocks.
+    pub(crate) fn make_planes(&self, keys: &mut [KeyPlanes; 15])
         ensures { AreReady keys.new (schedule self.now) (round_count self.now) }
     {
         ready_planes(keys, &self.words, self.size + 6);
     }
 
     // The ciphers of eight blocks in half of the planes, by the words of the rounds in planes.
-    fn encrypt_half(&self, keys: &[Planes; 15], start: HalfPlanes) -> HalfPlanes
+    fn encrypt_half(&self, keys: &[KeyPlanes; 15], start: HalfPlanes) -> HalfPlanes
         requires { AreReady keys.now (schedule self.now) (round_count self.now) }
         ensures { (f : ℕ → List ℕ) → ((q : ℕ) → IsBlock (f q)) → HoldsEight start f
             → HoldsLanes 16 result (λ l k. slice_index (cipher self.now (f (l / 16 * 8 + k))) (l % 16)) }
     {
         let count = self.size + 6;
-        let mut state = add_half(start, lower(keys[0]));
+        let mut state = add_half(start, unpacked(&keys[0]));
         for done in 0..count - 1 {
-            let next = round_half(state, lower(keys[done + 1]));
+            let next = round_half(state, unpacked(&keys[done + 1]));
             state = next;
         }
-        last_half(state, lower(keys[count]))
+        last_half(state, unpacked(&keys[count]))
     }
 
     // The ciphers of sixteen blocks in planes, by the words of the rounds in planes.
     #[inline(always)]
-    fn encrypt_whole(&self, keys: &[Planes; 15], start: Planes) -> Planes
+    fn encrypt_whole(&self, keys: &[KeyPlanes; 15], start: Planes) -> Planes
         requires { AreReady keys.now (schedule self.now) (round_count self.now) }
         ensures { (f : ℕ → List ℕ) → ((q : ℕ) → IsBlock (f q)) → HoldsSixteen start f
             → HoldsBits result (λ l k. slice_index (cipher self.now (f (l / 16 * 8 + k))) (l % 16)) }
     {
         let count = self.size + 6;
-        let mut state = add(start, keys[0]);
+        let mut state = add(start, twice(unpacked(&keys[0])));
         for done in 0..count - 1 {
-            let next = round_sixteen(state, keys[done + 1]);
+            let next = round_sixteen(state, twice(unpacked(&keys[done + 1])));
             state = next;
         }
-        last_sixteen(state, keys[count])
+        last_sixteen(state, twice(unpacked(&keys[count])))
     }
 
     // The ciphers of sixteen blocks in planes, by the words of the rounds in planes. Where a plane is two registers,
     // one half goes after the other: a round needs all registers for eight blocks.
     #[inline(always)]
-    pub(crate) fn encrypt_planes(&self, keys: &[Planes; 15], start: Planes) -> Planes
+    pub(crate) fn encrypt_planes(&self, keys: &[KeyPlanes; 15], start: Planes) -> Planes
         requires { AreReady keys.now (schedule self.now) (round_count self.now) }
         ensures { (f : ℕ → List ℕ) → ((q : ℕ) → IsBlock (f q)) → HoldsSixteen start f
             → HoldsBits result (λ l k. slice_index (cipher self.now (f (l / 16 * 8 + k))) (l % 16)) }
@@ -253,7 +253,7 @@ impl AesKey {
     #[inline(always)]
     pub(crate) fn encrypt_sixteen(
         &self,
-        keys: &[Planes; 15],
+        keys: &[KeyPlanes; 15],
         start: Planes,
     ) -> ([u8; 64], [u8; 64], [u8; 64], [u8; 64])
         requires { AreReady keys.now (schedule self.now) (round_count self.now) }
@@ -271,6 +271,25 @@ impl AesKey {
             third.to_array(),
             fourth.to_array(),
         )
+    }
+
+    // The ciphers of the first eight of sixteen blocks in planes, four in each array, by the words of the rounds in
+    // planes.
+    #[inline(always)]
+    pub(crate) fn encrypt_eight(
+        &self,
+        keys: &[KeyPlanes; 15],
+        start: Planes,
+    ) -> ([u8; 64], [u8; 64])
+        requires { AreReady keys.now (schedule self.now) (round_count self.now) }
+        ensures { (f : ℕ → List ℕ) → ((q : ℕ) → IsBlock (f q)) → HoldsSixteen start f
+            → ((q : ℕ) → q < 4 → block_at result.0 q ≡ cipher self.now (f q))
+            × ((q : ℕ) → q < 4 → block_at result.1 q ≡ cipher self.now (f (4 + q))) }
+    {
+        self.is_key();
+        // What the other lanes hold is let go, and so are the steps that would store it.
+        let (first, second, _, _) = store_planes(twice(self.encrypt_half(keys, lower(start))));
+        (first.to_array(), second.to_array())
     }
 
     /// This key made ready for `InverseKey::decrypt` (FIPS 197, 5.3.5).

@@ -3,17 +3,18 @@
 
 ghost use Rattle.std.specs.Prelude.{◌≡◌, ℕ, ◌<◌, ◌+◌, ◌-◌, ◌*◌, ◌/◌, ◌%◌, ◌==◌, ◌≤◌, if◌then◌else◌};
 ghost use Rattle.std.specs.Prelude.{slice_index, slice_index_or, bit_xor, length, []};
-ghost use Rattle.std.specs.Int.{bit_at};
+ghost use Rattle.std.specs.Int.{bit_at, to_le_bytes, w128};
 ghost use Rattle.aes.specs.Field.{times};
 ghost use Rattle.std.specs.Prelude.{List};
 ghost use Rattle.octets.specs.Bytes.{IsBlock};
 ghost use Rattle.aes.specs.Columns.{columns_of};
 ghost use Rattle.aes.specs.Cipher.{sub_bytes, shift_rows, mix_columns, add_round_key};
 ghost use Rattle.aes.specs.Code.Lanes.{linear_sbox, key_byte, HoldsBlocks};
-ghost use Rattle.aes.specs.Code.Planes.{HoldsBits, HoldsEight, HoldsLanes, HoldsSixteen, spot, word_byte, masked_byte, AreReady, HasByteBits};
+ghost use Rattle.aes.specs.Code.Planes.{HoldsBits, HoldsEight, HoldsLanes, HoldsSixteen, HoldsWords, spot, word_byte, masked_byte, AreReady, HasByteBits};
 
 use crate::columns::round_key;
 use crate::lanes::{first_sixteen, spread as spread_four};
+use octets::le_bytes;
 use std::simd::prelude::*;
 use std::simd::{u8x16, u8x32, u8x64};
 
@@ -21,6 +22,10 @@ pub(crate) type Planes = [u8x32; 8];
 
 // The first 16 lanes of them, which are eight blocks, or the other 16.
 pub(crate) type HalfPlanes = [u8x16; 8];
+
+// Eight planes of 16 lanes as numbers, the first lane least significant. An array of numbers starts at a multiple of 16
+// bytes in memory, and so a sum takes a plane from there without a load before it; an array of vectors may start anywhere.
+pub(crate) type KeyPlanes = [u128; 8];
 
 // The lane from which ShiftRows brings each lane.
 const SHIFTED: [usize; 32] = [
@@ -55,7 +60,7 @@ const HALF_BELOW: [usize; 16] = [4, 5, 6, 7, 8, 9, 10, 11, 12, 13, 14, 15, 0, 1,
 
 const HALF_TWO_BELOW: [usize; 16] = [8, 9, 10, 11, 12, 13, 14, 15, 0, 1, 2, 3, 4, 5, 6, 7];
 
-// The first 16 lanes, the other 16, and all.
+// The first 16 lanes, the other 16, all, and the first 16 twice.
 const FIRST: [usize; 16] = [0, 1, 2, 3, 4, 5, 6, 7, 8, 9, 10, 11, 12, 13, 14, 15];
 
 const SECOND: [usize; 16] = [
@@ -67,8 +72,13 @@ const ALL: [usize; 32] = [
     26, 27, 28, 29, 30, 31,
 ];
 
+const TWICE: [usize; 32] = [
+    0, 1, 2, 3, 4, 5, 6, 7, 8, 9, 10, 11, 12, 13, 14, 15, 0, 1, 2, 3, 4, 5, 6, 7, 8, 9, 10, 11, 12,
+    13, 14, 15,
+];
+
 // The S-box without its constant, on each byte of eight planes: a circuit of 83 XOR gates and 32 AND gates, in an
-// order that keeps few values alive.
+// order for which LLVM makes few moves where a plane is one register. It was found by trying.
 macro_rules! circuit {
     ($p:expr) => {{
         let x0 = $p[7];
@@ -79,121 +89,121 @@ macro_rules! circuit {
         let x5 = $p[2];
         let x6 = $p[1];
         let x7 = $p[0];
-        let t0 = x2 ^ x1;
-        let y13 = x6 ^ x0;
-        let y1 = t0 ^ x7;
         let y14 = x3 ^ x5;
-        let y5 = x6 ^ y1;
-        let y4 = y1 ^ x3;
+        let t0 = x2 ^ x1;
+        let y1 = t0 ^ x7;
+        let y13 = x6 ^ x0;
         let y12 = y14 ^ y13;
-        let t1 = y12 ^ x4;
-        let y9 = x0 ^ x3;
-        let y20 = x1 ^ t1;
-        let y8 = x0 ^ x5;
-        let t5 = x7 & y4;
-        let y11 = y9 ^ y20;
-        let y15 = t1 ^ x5;
-        let y3 = y5 ^ y8;
-        let t12 = y9 & y11;
-        let t2 = y15 & y12;
-        let y10 = t0 ^ y15;
-        let t15 = y10 & y8;
-        let y19 = y8 ^ y10;
-        let y17 = y10 ^ y11;
-        let y6 = x7 ^ y15;
-        let t3 = y6 & y3;
-        let t13 = y17 & y14;
-        let y16 = y11 ^ t0;
         let y2 = x0 ^ y1;
-        let t6 = t5 ^ t2;
-        let t8 = y5 & y1;
+        let y9 = x0 ^ x3;
+        let t1 = y12 ^ x4;
+        let y20 = x1 ^ t1;
+        let y5 = x6 ^ y1;
+        let y11 = y9 ^ y20;
+        let y4 = y1 ^ x3;
+        let y15 = t1 ^ x5;
+        let y10 = t0 ^ y15;
+        let t2 = y15 & y12;
+        let y6 = x7 ^ y15;
+        let y8 = x0 ^ x5;
+        let t12 = y9 & y11;
+        let t5 = x7 & y4;
+        let t15 = y10 & y8;
+        let y3 = y5 ^ y8;
         let y7 = x7 ^ y11;
+        let y16 = y11 ^ t0;
+        let y18 = y16 ^ x0;
+        let t7 = y16 & y13;
+        let t3 = y6 & y3;
+        let t10 = y7 & y2;
+        let t11 = t7 ^ t10;
+        let y19 = y8 ^ y10;
         let t16 = t15 ^ t12;
+        let t20 = t11 ^ t16;
+        let y21 = y13 ^ y16;
+        let y17 = y10 ^ y11;
+        let t6 = t5 ^ t2;
+        let t13 = y17 & y14;
+        let t8 = y5 & y1;
         let t14 = t12 ^ t13;
         let t4 = t3 ^ t2;
-        let y21 = y13 ^ y16;
-        let t10 = y7 & y2;
-        let t18 = t16 ^ t6;
-        let t7 = y16 & y13;
-        let t11 = t7 ^ t10;
-        let t9 = t8 ^ t7;
-        let t22 = t18 ^ y19;
-        let t20 = t11 ^ t16;
-        let t19 = t9 ^ t14;
-        let t17 = t14 ^ t4;
-        let y18 = y16 ^ x0;
         let t24 = t20 ^ y18;
-        let t21 = t17 ^ y20;
+        let t9 = t8 ^ t7;
+        let t17 = t14 ^ t4;
+        let t18 = t16 ^ t6;
+        let t19 = t9 ^ t14;
+        let t22 = t18 ^ y19;
         let t23 = t19 ^ y21;
         let t30 = t24 ^ t23;
+        let t21 = t17 ^ y20;
+        let t25 = t21 ^ t22;
         let t26 = t23 & t21;
         let t31 = t22 ^ t26;
-        let t25 = t21 ^ t22;
-        let t32 = t31 & t30;
-        let t33 = t32 ^ t24;
-        let z11 = y4 & t33;
         let t27 = t24 ^ t26;
-        let t34 = t23 ^ t33;
+        let t32 = t31 & t30;
         let t28 = t27 & t25;
+        let t33 = t32 ^ t24;
+        let t34 = t23 ^ t33;
+        let t29 = t28 ^ t22;
         let t35 = t27 ^ t33;
         let t36 = t24 & t35;
-        let t38 = t36 ^ t27;
-        let t29 = t28 ^ t22;
+        let t37 = t36 ^ t34;
+        let t44 = t37 ^ t33;
         let z2 = t33 & x7;
+        let t38 = t36 ^ t27;
         let t39 = t29 & t38;
         let t42 = t29 ^ t33;
         let t40 = t25 ^ t39;
-        let t37 = t36 ^ t34;
+        let z11 = y4 & t33;
         let t41 = t40 ^ t37;
-        let t43 = t29 ^ t40;
-        let z3 = t43 & y16;
         let t45 = t42 ^ t41;
-        let t44 = t37 ^ t33;
-        let z4 = t40 & y1;
-        let z0 = y15 & t44;
-        let t53 = z3 ^ z0;
-        let z9 = y12 & t44;
         let z7 = t45 & y17;
-        let z12 = t43 & y13;
+        let t43 = t29 ^ t40;
         let z6 = t42 & y11;
-        let t54 = z6 ^ z7;
-        let t50 = z2 ^ z12;
-        let z17 = y8 & t41;
-        let z10 = t37 & y3;
-        let t57 = t53 ^ t50;
-        let z16 = t45 & y14;
-        let t59 = t54 ^ z3;
-        let t49 = z10 ^ z9;
-        let z1 = t37 & y6;
         let z15 = t42 & y9;
+        let z3 = t43 & y16;
+        let z12 = t43 & y13;
+        let z0 = y15 & t44;
+        let z9 = y12 & t44;
+        let z17 = y8 & t41;
+        let t54 = z6 ^ z7;
+        let t53 = z3 ^ z0;
         let z8 = t41 & y10;
+        let z16 = t45 & y14;
         let t46 = z15 ^ z16;
+        let t50 = z2 ^ z12;
         let t52 = z8 ^ z7;
+        let t57 = t53 ^ t50;
+        let z4 = t40 & y1;
         let t58 = z4 ^ t46;
-        let t63 = t58 ^ t49;
-        let z5 = y7 & t29;
+        let t59 = t54 ^ z3;
         let z14 = y2 & t29;
-        let t61 = t57 ^ z14;
-        let z13 = y5 & t40;
-        let t62 = t52 ^ t58;
+        let z10 = t37 & y3;
         let t60 = t46 ^ t57;
-        let t65 = t62 ^ t61;
-        let t51 = z2 ^ z5;
-        let t64 = t59 ^ z4;
-        let t67 = t65 ^ t64;
-        let t47 = z10 ^ z11;
-        let t55 = z16 ^ z17;
+        let z1 = t37 & y6;
+        let t49 = z10 ^ z9;
+        let z5 = y7 & t29;
+        let t63 = t58 ^ t49;
         let t66 = z1 ^ t63;
-        let s3 = t53 ^ t66;
+        let t55 = z16 ^ z17;
+        let t62 = t52 ^ t58;
+        let z13 = y5 & t40;
+        let t61 = t57 ^ z14;
+        let t51 = z2 ^ z5;
+        let t47 = z10 ^ z11;
+        let t65 = t62 ^ t61;
+        let t64 = t59 ^ z4;
         let t48 = z5 ^ z13;
+        let s5 = t65 ^ t47;
         let s7 = t48 ^ t60;
+        let s4 = t51 ^ t66;
+        let t67 = t65 ^ t64;
+        let s0 = t59 ^ t63;
         let s2 = t55 ^ t67;
         let t56 = t48 ^ z12;
-        let s6 = t56 ^ t62;
+        let s3 = t53 ^ t66;
         let s1 = t64 ^ s3;
-        let s0 = t59 ^ t63;
-        let s5 = t65 ^ t47;
-        let s4 = t51 ^ t66;
+        let s6 = t56 ^ t62;
         [s7, s6, s5, s4, s3, s2, s1, s0]
     }};
 }
@@ -277,6 +287,14 @@ pub(crate) fn both_halves(p: HalfPlanes, q: HalfPlanes) -> Planes
         p[6].shuffle(q[6], ALL),
         p[7].shuffle(q[7], ALL),
     ]
+}
+
+// The same 16 lanes twice.
+#[inline(always)]
+pub(crate) fn twice(p: HalfPlanes) -> Planes
+    ensures { (g : ℕ → ℕ → ℕ) → HoldsLanes 16 p g → HoldsBits result (λ l k. g (l % 16) k) }
+{
+    brought!(p, TWICE)
 }
 
 // The S-box without its constant, on each byte of 16 lanes.
@@ -423,25 +441,21 @@ fn transpose(p: Planes) -> Planes
     [c0, c1, c2, c3, c4, c5, c6, c7]
 }
 
-// Bit j of each of 16 bytes of key, in all eight bits of its lane, for both halves of a plane.
+// Bit j of each of 16 bytes of key, in all eight bits of its lane.
 #[inline(always)]
-fn plane(key: u8x16, j: u8) -> u8x32
+fn plane(key: u8x16, j: u8) -> u8x16
     requires { j < 8 }
-    ensures long { length result ≡ 32 }
-    ensures bits { (l k : ℕ) → l < 32 → k < 8
-        → bit_at (slice_index result l) k ≡ bit_at (slice_index key (l % 16)) j }
+    ensures long { length result ≡ 16 }
+    ensures bits { (l k : ℕ) → l < 16 → k < 8
+        → bit_at (slice_index result l) k ≡ bit_at (slice_index key l) j }
 {
-    let full = u8x16::splat(0) - ((key >> u8x16::splat(j)) & u8x16::splat(1));
-    full.swizzle([
-        0, 1, 2, 3, 4, 5, 6, 7, 8, 9, 10, 11, 12, 13, 14, 15, 0, 1, 2, 3, 4, 5, 6, 7, 8, 9, 10, 11,
-        12, 13, 14, 15,
-    ])
+    u8x16::splat(0) - ((key >> u8x16::splat(j)) & u8x16::splat(1))
 }
 
-// The planes that have 16 bytes of key for each block.
+// The planes that have 16 bytes of key for each of eight blocks.
 #[inline(always)]
-fn spread(key: u8x16) -> Planes
-    ensures { HoldsBits result (λ l k. slice_index key (l % 16)) }
+fn spread(key: u8x16) -> HalfPlanes
+    ensures { HoldsLanes 16 result (λ l k. slice_index key l) }
 {
     [
         plane(key, 0),
@@ -566,6 +580,56 @@ pub(crate) fn last_half(x: HalfPlanes, key: HalfPlanes) -> HalfPlanes
 
 // ---- the key in planes
 
+// The number whose bytes are the lanes, the first one least significant.
+#[inline(always)]
+fn number_of(lanes: u8x16) -> u128
+    ensures { to_le_bytes w128 result ≡ lanes }
+{
+    u128::from_le_bytes(lanes.to_array())
+}
+
+// The lanes that a number stands for.
+#[inline(always)]
+fn lanes_in(number: u128) -> u8x16
+    ensures { result ≡ to_le_bytes w128 number }
+{
+    u8x16::from_array(le_bytes(number))
+}
+
+// The planes as numbers.
+#[inline(always)]
+fn packed(p: HalfPlanes) -> KeyPlanes
+    ensures { (g : ℕ → ℕ → ℕ) → HoldsLanes 16 p g → HoldsWords result g }
+{
+    [
+        number_of(p[0]),
+        number_of(p[1]),
+        number_of(p[2]),
+        number_of(p[3]),
+        number_of(p[4]),
+        number_of(p[5]),
+        number_of(p[6]),
+        number_of(p[7]),
+    ]
+}
+
+// The planes that numbers stand for.
+#[inline(always)]
+pub(crate) fn unpacked(words: &KeyPlanes) -> HalfPlanes
+    ensures { (g : ℕ → ℕ → ℕ) → HoldsWords words.now g → HoldsLanes 16 result g }
+{
+    [
+        lanes_in(words[0]),
+        lanes_in(words[1]),
+        lanes_in(words[2]),
+        lanes_in(words[3]),
+        lanes_in(words[4]),
+        lanes_in(words[5]),
+        lanes_in(words[6]),
+        lanes_in(words[7]),
+    ]
+}
+
 // The 16 bytes of the words of a round.
 #[inline(always)]
 fn key_bytes(words: &[u32; 60], round: usize) -> u8x16
@@ -594,22 +658,22 @@ fn rows(key: u8x16) -> u8x16
 
 // Room for the words of each round in planes.
 #[inline(always)]
-pub(crate) fn no_planes() -> [Planes; 15] {
-    [[u8x32::splat(0); 8]; 15]
+pub(crate) fn no_planes() -> [KeyPlanes; 15] {
+    [[0; 8]; 15]
 }
 
-// The words of each round up to the last one, in planes: from the second round key on plus the constant of
-// the S-box, and those of the last round in the order of the bytes of a block. They are made where they stay,
-// since they are 3,840 bytes.
-pub(crate) fn ready_planes(keys: &mut [Planes; 15], words: &[u32; 60], last: usize)
+// The words of each round up to the last one, in planes of eight blocks: from the second round key on plus the
+// constant of the S-box, and those of the last round in the order of the bytes of a block. They are made where they
+// stay, since they are 1,920 bytes.
+pub(crate) fn ready_planes(keys: &mut [KeyPlanes; 15], words: &[u32; 60], last: usize)
     requires { (0 < last) × (last < 15) }
     ensures { AreReady keys.new (columns_of words.now) last }
 {
-    keys[0] = spread(rows(key_bytes(words, 0)));
+    keys[0] = packed(spread(rows(key_bytes(words, 0))));
     for n in 1..last {
-        keys[n] = spread(rows(masked(key_bytes(words, n))));
+        keys[n] = packed(spread(rows(masked(key_bytes(words, n)))));
     }
-    keys[last] = spread(masked(key_bytes(words, last)));
+    keys[last] = packed(spread(masked(key_bytes(words, last))));
 }
 
 // The bits of a number below 2^16, bit q in each lane for block q.
@@ -694,8 +758,9 @@ pub(crate) fn count_blocks(a: &[u8; 16], b: &[u8; 16], first: u32, place: usize)
 {
     let before = rows(u8x16::from_array(*a));
     let after = rows(u8x16::from_array(*b));
-    let change = marked(spread(before ^ after), by_blocks(0xffff_0000 >> first));
-    add(add(spread(before), change), numbers(first, place))
+    let apart = twice(spread(before ^ after));
+    let change = marked(apart, by_blocks(0xffff_0000 >> first));
+    add(add(twice(spread(before)), change), numbers(first, place))
 }
 
 // The first halves of four planes after one another, and the second halves.

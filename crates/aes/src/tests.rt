@@ -197,9 +197,10 @@ fn little_endian_in_calls(key: &AesKey, first: [u8; 16], length: usize, size: us
     bytes
 }
 
-// Lengths about whole runs of sixteen blocks, of four and of one.
-const LENGTHS: [usize; 16] = [
-    511, 512, 513, 527, 528, 575, 576, 577, 767, 768, 769, 831, 1023, 1024, 1025, 1100,
+// Lengths about whole runs of sixteen blocks, of eight, of four and of one.
+const LENGTHS: [usize; 26] = [
+    96, 97, 128, 129, 192, 193, 320, 511, 512, 513, 527, 528, 575, 576, 577, 639, 640, 641, 767,
+    768, 769, 831, 1023, 1024, 1025, 1100,
 ];
 
 // How far below 2^32 a count begins: each place in a run of sixteen blocks, and a later run.

@@ -1,6 +1,6 @@
 -- Sixteen blocks in eight planes of bits, and the words of a key in planes.
 use Rattle.std.specs.Prelude.{◌≡◌, ℕ, ◌+◌, ◌*◌, ◌/◌, ◌%◌, ◌^◌, ◌<◌, List, [], length, slice_index, slice_index_or, bit_xor}
-use Rattle.std.specs.Int.{bit_at}
+use Rattle.std.specs.Int.{bit_at, to_le_bytes, w128}
 use Rattle.octets.specs.Bytes.{block_at}
 use Rattle.aes.specs.Cipher.{cipher}
 
@@ -14,6 +14,12 @@ pub record HoldsLanes (n : ℕ) (p : List (List ℕ)) (g : ℕ → ℕ → ℕ) 
 -- eight planes of 32 lanes
 abbrev pub HoldsBits : List (List ℕ) → (ℕ → ℕ → ℕ) → Type 0
 HoldsBits p g = HoldsLanes 32 p g
+
+-- the words are eight planes of 16 lanes, written as numbers with the first lane least significant: bit k of lane l of
+-- plane j is bit j of g l k
+pub record HoldsWords (words : List ℕ) (g : ℕ → ℕ → ℕ) : Type 0 where
+  pub each : (j l k : ℕ) → j < 8 → l < 16 → k < 8
+      → bit_at (slice_index (to_le_bytes w128 (slice_index words j)) l) k ≡ bit_at (g l k) j
 
 -- the place in its block of the byte in lane l
 abbrev pub spot : ℕ → ℕ
@@ -39,11 +45,11 @@ word_byte ws n i = slice_index (slice_index_or ws (4 * n + i / 4) []) (i % 4)
 abbrev pub masked_byte : List (List ℕ) → ℕ → ℕ → ℕ
 masked_byte ws n i = bit_xor (word_byte ws n i) 0x63
 
--- the keys are the words of the rounds up to the last one, in planes
-pub record AreReady (keys : List (List (List ℕ))) (ws : List (List ℕ)) (last : ℕ) : Type 0 where
-  pub first : HoldsBits (slice_index_or keys 0 []) (λ l k. word_byte ws 0 (spot l))
-  pub middle : (n : ℕ) → 0 < n → n < last → HoldsBits (slice_index_or keys n []) (λ l k. masked_byte ws n (spot l))
-  pub final : HoldsBits (slice_index_or keys last []) (λ l k. masked_byte ws last (l % 16))
+-- the keys are the words of the rounds up to the last one, in planes of eight blocks
+pub record AreReady (keys : List (List ℕ)) (ws : List (List ℕ)) (last : ℕ) : Type 0 where
+  pub first : HoldsWords (slice_index_or keys 0 []) (λ l k. word_byte ws 0 (spot l))
+  pub middle : (n : ℕ) → 0 < n → n < last → HoldsWords (slice_index_or keys n []) (λ l k. masked_byte ws n (spot l))
+  pub final : HoldsWords (slice_index_or keys last []) (λ l k. masked_byte ws last l)
 
 -- lane l of v has the bits of byte l mod 16 of the block f (8 (l / 16) + q)
 abbrev pub HasByteBits : List ℕ → (ℕ → List ℕ) → ℕ → Type 0

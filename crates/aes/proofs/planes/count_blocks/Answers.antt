@@ -23,8 +23,10 @@ returns c = λ f same.
     let number : ℕ → ℕ → ℕ = λ (l k : ℕ). cond (spot l == c.args.place) ((first + (l / 16 * 8 + k)) % 16) 0 in
     same_bytes c.add-2.result
     (c.add-2.ensures (λ l k. bit_xor (get_or x (l % 16) 0) (bit_at (get_or m l 0) k * apart l k)) number
-    (c.add.ensures (λ l k. get_or x (l % 16) 0) (λ l k. bit_at (get_or m l 0) k * apart l k) c.spread-2.ensures
-    (c.marked-change.ensures apart c.spread.ensures)) c.numbers.ensures)
+    (c.add.ensures (λ l k. get_or x (l % 16) 0) (λ l k. bit_at (get_or m l 0) k * apart l k)
+    (c.twice.ensures (λ l k. get_or x l 0) c.spread-2.ensures)
+    (c.marked-change.ensures apart (c.twice-apart.ensures (λ l k. get_or (zip2 bit_xor x y) l 0) c.spread.ensures)))
+    c.numbers.ensures)
     (λ l k hl hk.
     let q : ℕ = l / 16 * 8 + k in
     let i : ℕ = spot l in

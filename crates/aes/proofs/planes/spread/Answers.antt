@@ -1,4 +1,4 @@
-use Rattle.std.proofs.Common.{◌≡◌, ℕ, ◌%◌, List, [], ◌∷◌, get_or, length, refl}
+use Rattle.std.proofs.Common.{◌≡◌, ℕ, List, [], ◌∷◌, get_or, length, refl}
 use Rattle.std.specs.Int.{bit_at}
 use Rattle.aes.proofs.Tested.{eight_cases}
 use Rattle.aes.proofs.planes.spread.Goals as goal
@@ -10,11 +10,11 @@ returns c =
     c.plane-7.result ∷ c.plane-8.result ∷ [] in
     record {
       count = refl;
-      long = eight_cases (λ j. length (get_or r j []) ≡ 32) c.plane.ensures.long c.plane-2.ensures.long
+      long = eight_cases (λ j. length (get_or r j []) ≡ 16) c.plane.ensures.long c.plane-2.ensures.long
           c.plane-3.ensures.long c.plane-4.ensures.long c.plane-5.ensures.long c.plane-6.ensures.long
           c.plane-7.ensures.long c.plane-8.ensures.long;
       each = λ j l k hj hl hk.
-          eight_cases (λ j. bit_at (get_or (get_or r j []) l 0) k ≡ bit_at (get_or c.args.key (l % 16) 0) j)
+          eight_cases (λ j. bit_at (get_or (get_or r j []) l 0) k ≡ bit_at (get_or c.args.key l 0) j)
           (c.plane.ensures.bits l k hl hk) (c.plane-2.ensures.bits l k hl hk) (c.plane-3.ensures.bits l k hl hk)
           (c.plane-4.ensures.bits l k hl hk) (c.plane-5.ensures.bits l k hl hk) (c.plane-6.ensures.bits l k hl hk)
           (c.plane-7.ensures.bits l k hl hk) (c.plane-8.ensures.bits l k hl hk) j hj;

@@ -9,14 +9,14 @@ sixteens-init g c = front_none g.C.Count.up c.args.key.now c.args.self.now c.arg
 pub sixteens-preserved : goal.sixteens-preserved
 sixteens-preserved g c =
     let a : ℕ = c.sixteens.done in
-    let k : ℕ = a + c.min-next.result - a in
+    let k : ℕ = a + c.run_of-next.result - a in
     let mid = c.sixteens.bytes in
     let same : length mid ≡ length c.args.bytes.now = c.sixteens.auto.bytes in
     let within : a ≤ length mid = omega (arith, same, c.sixteens.invariant.within) in
-    let room : a + k ≤ length mid = omega (arith, within, c.min-next.ensures) in
+    let room : a + k ≤ length mid = omega (arith, within, c.run_of-next.ensures.within) in
     let part : length (take k (drop a mid)) ≡ k =
     length-take-le k (drop a mid) (omega (arith, room, length-drop a mid)) in
     front_more g.C.Count.up c.args.key.now c.args.self.now c.sixteens.self c.begin_sixteen.new.self c.args.bytes.now mid
-    c.begin_sixteen.new.bytes a k (a + c.min-next.result) same c.sixteens.invariant room (omega arith)
+    c.begin_sixteen.new.bytes a k (a + c.run_of-next.result) same c.sixteens.invariant room (omega arith)
     (c.begin_sixteen.auto.bytes ∙ part) c.begin_sixteen.ensures.advances
-    (λ l. omega (arith, l, part, within, c.min-next.ensures, c.begin_sixteen.ensures.used))
+    (λ l. omega (arith, l, part, within, c.run_of-next.ensures.whole (omega (arith, l, within)), c.begin_sixteen.ensures.used))

@@ -3,7 +3,7 @@ use Rattle.std.proofs.Common.{◌∙◌, arith}
 use Rattle.std.proofs.lemmas.List.{get_or-drop}
 use Rattle.aes.specs.Schedule.{round_count, schedule}
 use Rattle.aes.specs.Cipher.{sub_bytes, shift_rows, mix_columns, add_round_key, rounds}
-use Rattle.aes.specs.Code.Planes.{HoldsBits, block_byte, spot, word_byte, masked_byte}
+use Rattle.aes.specs.Code.Planes.{HoldsWords, block_byte, spot, word_byte, masked_byte}
 use Rattle.aes.proofs.Expanded.{round_key_is, rounds_start, rounds_more, cipher_is, is_key, kept_length}
 use Rattle.aes.proofs.Permutation.{words_are, rounds_block}
 use Rattle.aes.proofs.SixteenBlocks.{same_bytes, same_eight, first_value, dropped_row, dropped_last}
@@ -13,7 +13,8 @@ pub loop-done-init : goal.loop-done-init
 loop-done-init c = λ f blocks held.
     let ws = schedule c.args.self.now in
     same_bytes c.add_half-state.result
-    (c.add_half-state.ensures (block_byte f) (λ l k. word_byte ws 0 (spot l)) held (c.lower.ensures (λ l k. word_byte ws 0 (spot l)) c.requires.first))
+    (c.add_half-state.ensures (block_byte f) (λ l k. word_byte ws 0 (spot l)) held
+    (c.unpacked.ensures (λ l k. word_byte ws 0 (spot l)) c.requires.first))
     (λ l k hl hk. first_value f ws l k ∙ ap (λ b. get_or b (spot l) 0) (sym (rounds_start ws (f (l / 16 * 8 + k)))))
 
 pub loop-done-preserved : goal.loop-done-preserved
@@ -35,7 +36,7 @@ loop-done-preserved c = λ f blocks held.
     ∙ sym (rounds_more ws n (f q)))
     (c.round_half-next.ensures state vs (λ q. rounds_block ws n (f q) words (blocks q))
     (c.loop-done.invariant f blocks held)
-    (same_bytes _ (c.lower-in-loop-done.ensures (λ l k. masked_byte ws (n + 1) (spot l))
+    (same_bytes _ (c.unpacked-in-loop-done.ensures (λ l k. masked_byte ws (n + 1) (spot l))
     (c.requires.middle (n + 1) (omega arith) (omega arith)))
     (λ l k hl hk. dropped_row ws (n + 1) l)))
 
@@ -52,12 +53,13 @@ returns c = λ f blocks held.
     let words = words_are key (4 * (last + 1)) k.bytes in
     let vs = drop (4 * last) ws in
     let state : ℕ → List ℕ = λ q. rounds ws n (f q) in
-    let final = subst (λ i. HoldsBits (get_or c.args.keys.now i []) (λ l k. masked_byte ws last (l % 16)))
+    let final = subst (λ i. HoldsWords (get_or c.args.keys.now i []) (λ l k. masked_byte ws last l))
     (sym count) c.requires.final in
     same_bytes c.last_half.result
     (c.last_half.ensures state vs (λ q. rounds_block ws n (f q) words (blocks q))
     (c.loop-done.invariant f blocks held)
-    (same_bytes _ (c.lower-2.ensures (λ l k. masked_byte ws last (l % 16)) final) (λ l k hl hk. dropped_last ws last l)))
+    (same_bytes _ (c.unpacked-2.ensures (λ l k. masked_byte ws last l) final) (λ l k hl hk.
+    let same : l ≡ l % 16 = omega (arith, hl) in ap (masked_byte ws last) same ∙ dropped_last ws last l)))
     (λ l k hl hk. ap (λ b. get_or b (l % 16) 0)
     (round_key_is vs ws key last (shift_rows (sub_bytes (state (l / 16 * 8 + k))))
     (λ i h. get_or-drop (4 * last) ws i []) (λ i h. refl) (omega arith)
