@@ -1,4 +1,5 @@
 pub mod Products
+pub mod Chunks
 pub mod Texts
 pub mod Vectors
 pub mod PartialSums

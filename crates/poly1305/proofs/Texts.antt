@@ -19,7 +19,7 @@ use Rattle.poly1305.specs.States.{PolySumHolds}
 use Rattle.poly1305.specs.declared.poly.PolySum.{PolySum}
 
 -- the sum over one block more
-block_sum_more : (r : ℕ) (m : List ℕ) (k : ℕ)
+pub block_sum_more : (r : ℕ) (m : List ℕ) (k : ℕ)
     → block_sum r m (k + 1) ≡ (block_sum r m k + block_number (block_at m k)) * r
 unfolding block_sum
 block_sum_more r m k = powers_more (λ i. block_number (block_at m i)) r k
@@ -34,7 +34,7 @@ block_sum-append r m x k h =
     (λ i l. ap (λ (b : List ℕ). block_number b * r ^ (k - i)) (block_at-append m x i (omega arith)))
 
 -- one block more, modulo p
-taken : (p a t c r : ℕ) → a % p ≡ t % p → (a + c) * r % p ≡ (t + c) * r % p
+pub taken : (p a t c r : ℕ) → a % p ≡ t % p → (a + c) * r % p ≡ (t + c) * r % p
 taken p a t c r e =
     sym (mul-mod_first (a + c) r p) ∙ ap (λ (x : ℕ). x * r % p) (sym (mod-add-mod a p c)
     ∙ ap (λ (x : ℕ). (x + c) % p) e ∙ mod-add-mod t p c) ∙ mul-mod_first (t + c) r p

@@ -6,6 +6,7 @@ mod nibble_mul;
 mod partial_sum;
 mod poly;
 mod residue;
+mod side_by_side;
 #[cfg(test)]
 mod tests;
 #[cfg(test)]

@@ -1,11 +1,12 @@
 // The authenticator over a text that comes in pieces.
 
-ghost use Rattle.std.specs.Prelude.{◌≡◌, ℕ, ◌<◌, ◌*◌, ◌/◌, ◌++◌, List, [], length, drop};
+ghost use Rattle.std.specs.Prelude.{◌≡◌, ℕ, ◌<◌, ◌*◌, ◌/◌, ◌%◌, ◌++◌, List, [], length, drop};
 ghost use Rattle.poly1305.specs.Poly1305.{block_number};
 
 use crate::Multiplier;
 use crate::partial_sum::PartialSum;
 use crate::residue::{Residue, Sum};
+use crate::side_by_side::{CHUNK, far_factor, over_chunk};
 use octets::{Absorb, Pieces, Stream, Tag, le_bytes};
 
 // The bits of r that the clamping keeps (RFC 8439, 2.5).
@@ -25,6 +26,32 @@ impl<M: Multiplier> Absorb for PolySum<M> {
     ghost absorbed = { λ c k m. PolySumHolds M.factor c k m };
 
     fn absorb(&mut self, blocks: &[u8]) {
+        let long = blocks.len() / CHUNK * CHUNK;
+        if long > 0 {
+            self.absorb_chunks(&blocks[..long]);
+        }
+        self.absorb_blocks(&blocks[long..]);
+    }
+
+    fn absorb_beside<S: Stream>(&mut self, blocks: &[u8], stream: &mut S, bytes: &mut [u8]) {
+        let mut partial = PartialSum::new(&self.multiplier, self.sum.sum(), blocks);
+        stream.apply_beside(bytes, &mut partial);
+        let PartialSum { sum, left, .. } = partial;
+        self.sum = sum.residue();
+        self.absorb(left);
+    }
+}
+
+impl<M: Multiplier> PolySum<M> {
+    ghost use Rattle.poly1305.specs.States.{PolySumHolds};
+
+    // Takes in whole blocks.
+    #[inline(always)]
+    fn absorb_blocks(&mut self, blocks: &[u8])
+        requires { length blocks.now % 16 ≡ 0 }
+        ensures { (k m : List ℕ) → length m % 16 ≡ 0 → PolySumHolds M.factor self.old k m
+            → PolySumHolds M.factor self.new k (m ++ blocks.now) }
+    {
         let (whole, _) = blocks.as_chunks::<16>();
         // Partly reduced from block to block, and wholly at the end.
         let mut sum = self.sum.sum();
@@ -34,12 +61,20 @@ impl<M: Multiplier> Absorb for PolySum<M> {
         self.sum = sum.residue();
     }
 
-    fn absorb_beside<S: Stream>(&mut self, blocks: &[u8], stream: &mut S, bytes: &mut [u8]) {
-        let mut partial = PartialSum::new(&self.multiplier, self.sum.sum(), blocks);
-        stream.apply_beside(bytes, &mut partial);
-        let PartialSum { sum, left, .. } = partial;
+    // Takes in whole chunks.
+    #[inline(never)]
+    fn absorb_chunks(&mut self, blocks: &[u8])
+        requires { length blocks.now % 2048 ≡ 0 }
+        ensures { (k m : List ℕ) → length m % 16 ≡ 0 → PolySumHolds M.factor self.old k m
+            → PolySumHolds M.factor self.new k (m ++ blocks.now) }
+    {
+        let far = far_factor(&self.multiplier);
+        let (chunks, _) = blocks.as_chunks::<2048>();
+        let mut sum = self.sum.sum();
+        'chunks: for chunk in chunks {
+            sum = over_chunk(&self.multiplier, sum, far, chunk);
+        }
         self.sum = sum.residue();
-        self.absorb(left);
     }
 }
 

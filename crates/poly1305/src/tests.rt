@@ -105,3 +105,30 @@ fn padding_is_part_of_the_text(rt: HostRuntime) {
     assert!(rt; has_padded_tag(&zero, 2, &[0; 16]));
     assert!(rt; has_padded_tag(&[], 1, &[0; 16]));
 }
+
+// Bytes of which no two blocks are alike.
+fn long_text() -> [u8; 4200] {
+    let mut text = [0; 4200];
+    for i in 0..4200usize {
+        text[i] = (i % 251) as u8;
+    }
+    text
+}
+
+// A long piece is summed by halves, and shorter ones are not.
+#[test]
+fn long_text_has_the_tag_of_its_pieces(rt: HostRuntime) {
+    let text = long_text();
+    for length in [2047, 2048, 2049, 4096, 4200usize] {
+        let message = &text[..length];
+        let whole = tag_in_pieces::<WordMul>(&KEY, message, 4200);
+        assert!(rt;
+            tag_in_pieces::<WordMul>(&KEY, message, 1000) == whole,
+            "{length}"
+        );
+        assert!(rt;
+            tag_in_pieces::<NibbleMul>(&KEY, message, 4200) == whole,
+            "{length}"
+        );
+    }
+}

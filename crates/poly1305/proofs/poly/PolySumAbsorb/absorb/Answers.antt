@@ -1,50 +1,28 @@
-use Rattle.std.proofs.Common.{◌≡◌, ℕ, ◌+◌, ◌*◌, ◌/◌, ◌%◌, ◌≤◌, ◌∙◌, ap, sym, arith, List, ◌++◌, length}
-use Rattle.std.proofs.Math.Nat.{mod-mod}
-use Rattle.std.proofs.lemmas.List.{length-append}
-use Rattle.poly1305.specs.Poly1305.{prime, block_sum, r_of}
-use Rattle.poly1305.specs.Code.Residue.{pair}
-use Rattle.poly1305.proofs.Texts.{block_sum-append, whole_block_taken, whole_block_read}
+use Rattle.std.proofs.Common.{◌≡◌, ℕ, ◌-◌, ◌*◌, ◌/◌, ◌∙◌, List, ◌++◌, append_assoc, ap, arith, drop, length, subst, sym, take}
+use Rattle.std.proofs.lemmas.List.{append-nil, length-append, length-drop, length-take-le, take-append-drop, take_all}
+use Rattle.poly1305.specs.States.{PolySumHolds}
 use Rattle.poly1305.proofs.poly.PolySumAbsorb.absorb.Goals as goal
-
-pub taken-init : goal.taken-init
-taken-init g c = λ k m whole held.
-    let q : ℕ = length m / 16 in
-    let e : q + 0 ≡ q = omega arith in
-    let before : block_sum (r_of k) (m ++ c.args.blocks.now) q ≡ block_sum (r_of k) m q =
-    block_sum-append (r_of k) m c.args.blocks.now q (omega arith) in
-    ap (λ (x : ℕ). x % prime) (c.sum-sum.ensures ∙ held.sum_is) ∙ mod-mod (block_sum (r_of k) m q) prime
-    ∙ ap (λ (x : ℕ). x % prime) (sym before) ∙ ap (λ (x : ℕ). block_sum (r_of k) (m ++ c.args.blocks.now)
-    x % prime) (sym e)
-
-pub taken-preserved : goal.taken-preserved
-taken-preserved g c = λ k m whole held.
-    let x : List ℕ = c.args.blocks.now in
-    let i : ℕ = c.taken.block-index in
-    let room : (i + 1) * 16 ≤ length x = omega (arith, c.taken-test.true, c.as_chunks.ensures.front_len) in
-    whole_block_taken (r_of k) (g.M.Multiplier.factor c.args.self.now.multiplier) (m ++ x) (length m / 16) i
-    (pair c.taken.sum.low c.taken.sum.high) c.from_le_bytes.result
-    (pair c.step-sum.result.low c.step-sum.result.high)
-    (c.taken.invariant k m whole held)
-    (whole_block_read m x c.as_chunks.result.0.now i c.from_le_bytes.result whole room
-    c.as_chunks.ensures.front c.from_le_bytes.ensures)
-    held.factor_is c.step-sum.ensures
+use Rattle.poly1305.proofs.poly.PolySumAbsorb.absorb.Goals.{then-long-gt0, else-long-gt0}
 
 pub returns : goal.returns
 returns g c = λ k m whole held.
+    let f = g.M.Multiplier.factor in
     let x : List ℕ = c.args.blocks.now in
-    let n : length (m ++ x) / 16 ≡ length m / 16 + c.taken.block-index =
-    omega (
-      arith,
-      length-append m x,
-      c.taken-test.false,
-      c.taken.auto.block-index-end,
-      c.as_chunks.ensures.front_len,
-      c.requires,
-    ) in
-    record {
-      factor_is = held.factor_is;
-      addend_is = held.addend_is;
-      sum_is = c.residue-self.ensures ∙ c.taken.invariant k m whole held
-          ∙ ap (λ (y : ℕ). block_sum (r_of k) (m ++ x) y % prime) (sym n);
-      sum_below_prime = c.residue-self.result.below;
-    }
+    let n : ℕ = length x / 2048 * 2048 in
+    let front : List ℕ = take n x in
+    let back : List ℕ = take (length x - n) (drop n x) in
+    let rest : back ≡ drop n x = take_all (length x - n) (drop n x) (omega (arith, length-drop n x)) in
+    let cut : length front ≡ n = length-take-le n x (omega arith) in
+    let joined : (m ++ front) ++ back ≡ m ++ x =
+    append_assoc m front back ∙ ap (λ (l : List ℕ). m ++ (front ++ l)) rest
+    ∙ ap (λ (l : List ℕ). m ++ l) (take-append-drop n x) in
+    let before : PolySumHolds f c.if-long-gt0.self k (m ++ front) = elim c.if-long-gt0.branch [
+      | then-long-gt0 w ↦ subst (λ s. PolySumHolds f s k (m ++ front)) (sym w.self-is)
+          (w.absorb_chunks.ensures k m whole held)
+      | else-long-gt0 w ↦
+          let none : n ≡ 0 = omega (arith, w.if-long-gt0.false) in
+          let same : m ≡ m ++ front = sym (ap (λ (j : ℕ). m ++ take j x) none ∙ append-nil m) in
+          subst (λ s. PolySumHolds f s k (m ++ front)) (sym w.self-is) (subst (PolySumHolds f c.args.self.now k) same held)
+    ] in
+    subst (PolySumHolds f c.absorb_blocks.new.self k) joined
+    (c.absorb_blocks.ensures k (m ++ front) (omega (arith, length-append m front, cut, whole)) before)

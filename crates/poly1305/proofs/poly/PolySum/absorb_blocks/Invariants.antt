@@ -2,7 +2,7 @@ use Rattle.std.proofs.Common.{◌≡◌, ℕ, ◌++◌, List, ◌+◌, ◌/◌, 
 use Rattle.poly1305.specs.Poly1305.{prime, block_sum, r_of}
 use Rattle.poly1305.specs.Code.Residue.{pair}
 use Rattle.poly1305.specs.States.{PolySumHolds}
-use Rattle.poly1305.proofs.poly.PolySumAbsorb.absorb.Given as goal
+use Rattle.poly1305.proofs.poly.PolySum.absorb_blocks.Given as goal
 
 abbrev pub invariant-taken : goal.invariant-taken
 invariant-taken g l = (k m : List ℕ) → length m % 16 ≡ 0 → PolySumHolds g.M.Multiplier.factor l.self k m
