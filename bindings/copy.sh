@@ -56,7 +56,8 @@ fit() {
 }
 
 # Builds FOLDER/libaeadkit.a of the copy: archive ROOM FOLDER [rattle's flags]
-# `rt lib` proves before it builds, so what is linked is proved.
+# `rt lib` proves before it builds, so what is linked is proved. Functions start at multiples of 64 bytes: otherwise the speed of
+# one depends on the length of those before it, since some processors are slow at a jump across a multiple of 32 bytes.
 archive() {
     room=$1
     folder=$2
@@ -65,6 +66,7 @@ archive() {
     for name in keywrap aead; do
         proved "$room" "$name" lib "$@"
         (cd "$room" && ar x "crates/$name/out/lib$name.a")
+        objcopy -w --set-section-alignment '.text.*=64' "$room/$name.o"
     done
     rm -f "$folder/libaeadkit.a"
     ar rcs "$folder/libaeadkit.a" "$room/aead.o" "$room/keywrap.o"
