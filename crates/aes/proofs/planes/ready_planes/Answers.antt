@@ -52,6 +52,7 @@ returns c =
           (sym (get_or-set_other ks n m v [] (omega arith))) (c.loop-n.invariant.middle m h (omega arith));
       final = subst (λ p. HoldsWords p (λ l k. masked_byte ws n l))
           (sym (get_or-set_same ks n v [] (omega arith)))
-          (c.packed-2.ensures (λ l k. masked_byte ws n l) (last_key c.spread-2.result c.masked-2.result c.key_bytes-2.result ws n c.spread-2.ensures c.masked-2.ensures
-          c.key_bytes-2.ensures.bytes));
+          (c.packed-2.ensures (λ l k. masked_byte ws n l)
+          (last_key c.spread-2.result c.masked-2.result c.key_bytes-2.result ws n
+          c.spread-2.ensures c.masked-2.ensures c.key_bytes-2.ensures.bytes));
     }

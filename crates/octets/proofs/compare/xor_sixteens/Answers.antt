@@ -19,7 +19,12 @@ sixteens-preserved c =
     let more = xor_more c.args.dst.now mid c.args.src.now c.xor_lanes.new.dst a (a + 16 - a) (a + 16) c.requires.0
     whole long (omega arith) part c.sixteens.invariant.done c.sixteens.invariant.left
     c.xor_lanes.ensures in
-    record { length_is = length-put_mid a (a + 16 - a) mid c.xor_lanes.new.dst (omega arith) part ∙ whole; within = omega (arith, long, whole); done = more.0; left = more.1 }
+    record {
+      length_is = length-put_mid a (a + 16 - a) mid c.xor_lanes.new.dst (omega arith) part ∙ whole;
+      within = omega (arith, long, whole);
+      done = more.0;
+      left = more.1;
+    }
 
 pub returns : goal.returns
 returns c =
