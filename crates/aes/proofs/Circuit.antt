@@ -30,30 +30,30 @@ run mul add d (g ∷ gs) env = run mul add d gs (made mul add d g env ∷ env)
 -- the gates
 abbrev pub gates : List Gate
 gates =
-    (false, 4, 2) ∷ (false, 6, 7) ∷ (false, 0, 2) ∷ (false, 4, 10) ∷ (false, 3, 0) ∷ (false, 12, 2) ∷
-    (false, 13, 10) ∷ (false, 2, 10) ∷ (false, 14, 0) ∷ (false, 10, 6) ∷ (false, 3, 1) ∷ (false, 8, 15) ∷
-    (false, 4, 14) ∷ (false, 11, 0) ∷ (true, 1, 9) ∷ (false, 15, 2) ∷ (false, 23, 18) ∷ (true, 10, 6) ∷
-    (true, 18, 6) ∷ (true, 5, 2) ∷ (false, 10, 3) ∷ (false, 21, 10) ∷ (false, 11, 20) ∷ (false, 0, 30) ∷
-    (true, 1, 20) ∷ (true, 9, 4) ∷ (true, 4, 20) ∷ (false, 2, 0) ∷ (false, 11, 14) ∷ (false, 9, 11) ∷
-    (false, 2, 0) ∷ (false, 27, 8) ∷ (false, 18, 21) ∷ (false, 14, 18) ∷ (true, 1, 33) ∷ (true, 25, 32) ∷
-    (false, 18, 1) ∷ (false, 11, 22) ∷ (false, 7, 14) ∷ (false, 3, 14) ∷ (false, 3, 2) ∷ (false, 11, 7) ∷
-    (false, 2, 5) ∷ (false, 1, 14) ∷ (false, 1, 12) ∷ (false, 6, 0) ∷ (false, 5, 37) ∷ (false, 0, 3) ∷
-    (true, 3, 1) ∷ (false, 5, 0) ∷ (false, 11, 1) ∷ (true, 1, 5) ∷ (true, 1, 4) ∷ (false, 1, 14) ∷
-    (false, 9, 0) ∷ (false, 2, 11) ∷ (false, 5, 2) ∷ (true, 18, 0) ∷ (false, 0, 3) ∷ (false, 0, 5) ∷
-    (true, 6, 60) ∷ (false, 3, 10) ∷ (true, 6, 0) ∷ (false, 7, 9) ∷ (false, 16, 1) ∷ (true, 53, 11) ∷
-    (false, 1, 7) ∷ (false, 3, 0) ∷ (true, 0, 35) ∷ (false, 13, 4) ∷ (true, 6, 59) ∷ (true, 7, 64) ∷
-    (true, 2, 49) ∷ (true, 3, 69) ∷ (true, 61, 14) ∷ (true, 70, 15) ∷ (true, 59, 9) ∷ (false, 6, 8) ∷
-    (false, 5, 3) ∷ (true, 12, 65) ∷ (true, 12, 79) ∷ (false, 9, 0) ∷ (false, 21, 8) ∷ (false, 3, 14) ∷
-    (false, 5, 1) ∷ (true, 20, 82) ∷ (false, 0, 4) ∷ (false, 9, 14) ∷ (true, 82, 32) ∷ (true, 30, 68) ∷
-    (false, 8, 5) ∷ (true, 32, 75) ∷ (false, 2, 16) ∷ (true, 71, 37) ∷ (false, 7, 1) ∷ (false, 3, 0) ∷
-    (false, 15, 19) ∷ (false, 13, 10) ∷ (true, 88, 33) ∷ (false, 14, 10) ∷ (false, 39, 6) ∷
-    (false, 11, 35) ∷ (false, 4, 2) ∷ (false, 15, 17) ∷ (false, 10, 5) ∷ (false, 2, 3) ∷ (false, 1, 15) ∷
-    (false, 6, 11) ∷ (false, 5, 4) ∷ (false, 21, 14) ∷ (false, 13, 1) ∷ (false, 6, 37) ∷
-    (false, 33, 16) ∷ (false, 9, 0) ∷ (false, 2, 16) ∷ []
+    (false, 1, 7) ∷ (false, 6, 7) ∷ (false, 6, 4) ∷ (false, 0, 2) ∷ (false, 2, 4) ∷ (false, 6, 0) ∷
+    (false, 2, 9) ∷ (true, 1, 2) ∷ (false, 15, 3) ∷ (false, 15, 2) ∷ (false, 17, 12) ∷ (false, 18, 15) ∷
+    (false, 5, 14) ∷ (false, 1, 3) ∷ (false, 12, 1) ∷ (true, 2, 11) ∷ (false, 1, 2) ∷ (false, 17, 3) ∷
+    (false, 7, 3) ∷ (true, 7, 5) ∷ (false, 6, 18) ∷ (true, 6, 10) ∷ (false, 0, 2) ∷ (true, 2, 22) ∷
+    (false, 19, 28) ∷ (false, 4, 32) ∷ (true, 8, 17) ∷ (false, 26, 6) ∷ (true, 11, 25) ∷ (true, 29, 4) ∷
+    (false, 0, 14) ∷ (false, 25, 20) ∷ (false, 9, 1) ∷ (false, 25, 9) ∷ (false, 34, 21) ∷ (true, 0, 3) ∷
+    (false, 12, 9) ∷ (false, 4, 18) ∷ (false, 2, 22) ∷ (false, 19, 10) ∷ (false, 6, 0) ∷ (false, 1, 2) ∷
+    (false, 5, 19) ∷ (false, 1, 33) ∷ (false, 3, 16) ∷ (true, 0, 1) ∷ (false, 2, 8) ∷ (false, 9, 1) ∷
+    (false, 5, 22) ∷ (false, 0, 4) ∷ (false, 1, 4) ∷ (true, 3, 1) ∷ (false, 0, 3) ∷ (false, 8, 0) ∷
+    (false, 3, 1) ∷ (true, 4, 8) ∷ (true, 7, 1) ∷ (false, 0, 3) ∷ (false, 1, 7) ∷ (false, 3, 21) ∷
+    (false, 0, 7) ∷ (true, 3, 29) ∷ (true, 2, 3) ∷ (true, 45, 3) ∷ (true, 55, 4) ∷ (false, 18, 2) ∷
+    (false, 0, 8) ∷ (false, 9, 14) ∷ (true, 15, 68) ∷ (true, 8, 55) ∷ (false, 10, 4) ∷ (false, 10, 4) ∷
+    (true, 6, 67) ∷ (true, 2, 52) ∷ (true, 3, 73) ∷ (true, 3, 58) ∷ (true, 72, 8) ∷ (false, 8, 2) ∷
+    (true, 65, 10) ∷ (false, 17, 2) ∷ (true, 55, 27) ∷ (true, 75, 15) ∷ (false, 8, 3) ∷ (false, 14, 19) ∷
+    (false, 1, 6) ∷ (false, 15, 9) ∷ (false, 0, 12) ∷ (false, 23, 5) ∷ (true, 21, 73) ∷ (true, 28, 77) ∷
+    (false, 28, 9) ∷ (true, 19, 88) ∷ (false, 2, 0) ∷ (false, 4, 17) ∷ (true, 83, 27) ∷ (false, 22, 2) ∷
+    (true, 38, 61) ∷ (false, 10, 24) ∷ (false, 4, 2) ∷ (false, 14, 34) ∷ (false, 4, 20) ∷ (false, 8, 16) ∷
+    (false, 3, 2) ∷ (false, 15, 1) ∷ (false, 1, 6) ∷ (false, 17, 30) ∷ (false, 3, 15) ∷ (false, 10, 6) ∷
+    (false, 21, 7) ∷ (false, 17, 14) ∷ (false, 26, 2) ∷ (false, 5, 12) ∷ (false, 2, 7) ∷ (false, 30, 5) ∷
+    (false, 16, 0) ∷ []
 
 -- where the eight bits stand at the end
 abbrev pub places : List ℕ
-places = 8 ∷ 0 ∷ 9 ∷ 7 ∷ 2 ∷ 4 ∷ 1 ∷ 5 ∷ []
+places = 11 ∷ 3 ∷ 8 ∷ 4 ∷ 1 ∷ 2 ∷ 0 ∷ 6 ∷ []
 
 -- the eight values at the end
 abbrev pub outcome : {A : Type 0} → (A → A → A) → (A → A → A) → A → List A → List A

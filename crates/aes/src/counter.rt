@@ -7,8 +7,10 @@ ghost use Rattle.aes.specs.Counters.{CountsOn, counter_byte, up_be, up_le};
 ghost use Rattle.aes.specs.Code.Nibbles.{CountsInNibble};
 ghost use Rattle.aes.specs.Code.Wraps.{WrapsAround, up_be-wraps, up_le-wraps};
 
+use crate::counted_planes::count_blocks;
 use crate::key::{AesKey, KeptKey};
-use crate::planes::{KeyPlanes, Planes, count_blocks, no_planes};
+use crate::key_planes::{KeyPlanes, no_planes};
+use crate::planes::Planes;
 use byteorder::{BigEndian, ByteOrder, LittleEndian};
 use octets::{Block, Stream, WIDE, Work, xor_into};
 use std::marker::PhantomData;
@@ -143,8 +145,8 @@ const PLANES_PAY: usize = if WIDE { 193 } else { 97 };
 // A run of four blocks pays for more than so many bytes.
 const FOUR_PAY: usize = if WIDE { 32 } else { 48 };
 
-// Once they are made, a run of sixteen blocks pays for more than so many bytes, or one of eight blocks where a plane
-// is two registers.
+// Once they are made, a run of sixteen blocks pays for more than so many bytes. In the default build, where a plane is
+// two registers, a run of eight blocks does.
 const SIXTEEN_PAY: usize = if WIDE { 96 } else { 64 };
 
 // Up to so many bytes, a run of eight blocks and then shorter ones take no longer than one of sixteen.

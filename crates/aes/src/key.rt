@@ -13,10 +13,11 @@ ghost use Rattle.aes.specs.Schedule.{schedule, round_count};
 use crate::columns::{add_key, last_round, load, round, round_key, store};
 use crate::inverse::unmix_words;
 use crate::inverse_key::InverseKey;
+use crate::key_planes::{KeyPlanes, ready_planes, unpacked};
 use crate::lanes::{first_four, last_four, ready_keys, round_four, spread};
 use crate::planes::{
-    HalfPlanes, KeyPlanes, Planes, add, add_half, both_halves, last_half, last_sixteen, lower,
-    ready_planes, round_half, round_sixteen, store as store_planes, twice, unpacked, upper,
+    HalfPlanes, Planes, add, add_half, both_halves, last_half, last_sixteen, lower, round_half,
+    round_sixteen, store as store_planes, twice, upper,
 };
 use crate::schedule::expand;
 use octets::{Block, Fault, Key16, Key24, Key32, WIDE};
@@ -287,7 +288,7 @@ impl AesKey {
             × ((q : ℕ) → q < 4 → block_at result.1 q ≡ cipher self.now (f (4 + q))) }
     {
         self.is_key();
-        // What the other lanes hold is let go, and so are the steps that would store it.
+        // Nothing uses the other lanes, so LLVM leaves out the steps that store them.
         let (first, second, _, _) = store_planes(twice(self.encrypt_half(keys, lower(start))));
         (first.to_array(), second.to_array())
     }

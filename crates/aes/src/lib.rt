@@ -4,10 +4,12 @@
 
 mod cipher;
 mod columns;
+mod counted_planes;
 mod counter;
 mod inverse;
 mod inverse_key;
 mod key;
+mod key_planes;
 mod lanes;
 mod planes;
 mod round_tables;

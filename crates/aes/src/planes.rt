@@ -12,9 +12,6 @@ ghost use Rattle.aes.specs.Cipher.{sub_bytes, shift_rows, mix_columns, add_round
 ghost use Rattle.aes.specs.Code.Lanes.{linear_sbox, key_byte, HoldsBlocks};
 ghost use Rattle.aes.specs.Code.Planes.{HoldsBits, HoldsEight, HoldsLanes, HoldsSixteen, HoldsWords, spot, word_byte, masked_byte, AreReady, HasByteBits};
 
-use crate::columns::round_key;
-use crate::lanes::{first_sixteen, spread as spread_four};
-use octets::le_bytes;
 use std::simd::prelude::*;
 use std::simd::{u8x16, u8x32, u8x64};
 
@@ -22,10 +19,6 @@ pub(crate) type Planes = [u8x32; 8];
 
 // The first 16 lanes of them, which are eight blocks, or the other 16.
 pub(crate) type HalfPlanes = [u8x16; 8];
-
-// Eight planes of 16 lanes as numbers, the first lane least significant. An array of numbers starts at a multiple of 16
-// bytes in memory, and so a sum takes a plane from there without a load before it; an array of vectors may start anywhere.
-pub(crate) type KeyPlanes = [u128; 8];
 
 // The lane from which ShiftRows brings each lane.
 const SHIFTED: [usize; 32] = [
@@ -77,8 +70,8 @@ const TWICE: [usize; 32] = [
     13, 14, 15,
 ];
 
-// The S-box without its constant, on each byte of eight planes: a circuit of 83 XOR gates and 32 AND gates, in an
-// order for which LLVM makes few moves where a plane is one register. It was found by trying.
+// The S-box without its constant, on each byte of eight planes: a circuit of 83 XOR gates and 32 AND gates. Of the
+// orders that were tried, this one takes the least time on planes of 16 bytes.
 macro_rules! circuit {
     ($p:expr) => {{
         let x0 = $p[7];
@@ -89,121 +82,121 @@ macro_rules! circuit {
         let x5 = $p[2];
         let x6 = $p[1];
         let x7 = $p[0];
-        let y14 = x3 ^ x5;
-        let t0 = x2 ^ x1;
-        let y1 = t0 ^ x7;
         let y13 = x6 ^ x0;
+        let t0 = x2 ^ x1;
+        let y14 = x3 ^ x5;
         let y12 = y14 ^ y13;
-        let y2 = x0 ^ y1;
-        let y9 = x0 ^ x3;
-        let t1 = y12 ^ x4;
-        let y20 = x1 ^ t1;
+        let y1 = t0 ^ x7;
         let y5 = x6 ^ y1;
-        let y11 = y9 ^ y20;
-        let y4 = y1 ^ x3;
+        let t1 = y12 ^ x4;
+        let t8 = y5 & y1;
+        let y2 = x0 ^ y1;
+        let y20 = x1 ^ t1;
+        let y8 = x0 ^ x5;
+        let y9 = x0 ^ x3;
         let y15 = t1 ^ x5;
+        let y11 = y9 ^ y20;
         let y10 = t0 ^ y15;
         let t2 = y15 & y12;
-        let y6 = x7 ^ y15;
-        let y8 = x0 ^ x5;
-        let t12 = y9 & y11;
-        let t5 = x7 & y4;
-        let t15 = y10 & y8;
-        let y3 = y5 ^ y8;
-        let y7 = x7 ^ y11;
-        let y16 = y11 ^ t0;
-        let y18 = y16 ^ x0;
-        let t7 = y16 & y13;
-        let t3 = y6 & y3;
-        let t10 = y7 & y2;
-        let t11 = t7 ^ t10;
-        let y19 = y8 ^ y10;
-        let t16 = t15 ^ t12;
-        let t20 = t11 ^ t16;
-        let y21 = y13 ^ y16;
         let y17 = y10 ^ y11;
-        let t6 = t5 ^ t2;
+        let y7 = x7 ^ y11;
+        let y19 = y8 ^ y10;
+        let t12 = y9 & y11;
+        let y16 = y11 ^ t0;
+        let t15 = y10 & y8;
+        let t16 = t15 ^ t12;
+        let t7 = y16 & y13;
+        let y4 = y1 ^ x3;
+        let y18 = y16 ^ x0;
+        let t10 = y7 & y2;
+        let y21 = y13 ^ y16;
         let t13 = y17 & y14;
-        let t8 = y5 & y1;
-        let t14 = t12 ^ t13;
-        let t4 = t3 ^ t2;
-        let t24 = t20 ^ y18;
-        let t9 = t8 ^ t7;
-        let t17 = t14 ^ t4;
+        let t5 = x7 & y4;
+        let t6 = t5 ^ t2;
+        let y3 = y5 ^ y8;
         let t18 = t16 ^ t6;
-        let t19 = t9 ^ t14;
+        let t9 = t8 ^ t7;
+        let y6 = x7 ^ y15;
+        let t3 = y6 & y3;
+        let t11 = t7 ^ t10;
         let t22 = t18 ^ y19;
-        let t23 = t19 ^ y21;
-        let t30 = t24 ^ t23;
+        let t4 = t3 ^ t2;
+        let t14 = t12 ^ t13;
+        let t19 = t9 ^ t14;
+        let t17 = t14 ^ t4;
+        let t20 = t11 ^ t16;
         let t21 = t17 ^ y20;
-        let t25 = t21 ^ t22;
+        let t23 = t19 ^ y21;
         let t26 = t23 & t21;
+        let t25 = t21 ^ t22;
         let t31 = t22 ^ t26;
+        let t24 = t20 ^ y18;
+        let t30 = t24 ^ t23;
         let t27 = t24 ^ t26;
         let t32 = t31 & t30;
-        let t28 = t27 & t25;
         let t33 = t32 ^ t24;
         let t34 = t23 ^ t33;
-        let t29 = t28 ^ t22;
         let t35 = t27 ^ t33;
+        let t28 = t27 & t25;
         let t36 = t24 & t35;
         let t37 = t36 ^ t34;
+        let t38 = t36 ^ t27;
+        let t29 = t28 ^ t22;
+        let t42 = t29 ^ t33;
+        let z10 = t37 & y3;
+        let t39 = t29 & t38;
+        let z5 = y7 & t29;
+        let z14 = y2 & t29;
+        let t40 = t25 ^ t39;
+        let t41 = t40 ^ t37;
         let t44 = t37 ^ t33;
         let z2 = t33 & x7;
-        let t38 = t36 ^ t27;
-        let t39 = t29 & t38;
-        let t42 = t29 ^ t33;
-        let t40 = t25 ^ t39;
-        let z11 = y4 & t33;
-        let t41 = t40 ^ t37;
-        let t45 = t42 ^ t41;
-        let z7 = t45 & y17;
-        let t43 = t29 ^ t40;
         let z6 = t42 & y11;
-        let z15 = t42 & y9;
+        let t43 = t29 ^ t40;
+        let t45 = t42 ^ t41;
+        let z4 = t40 & y1;
         let z3 = t43 & y16;
         let z12 = t43 & y13;
-        let z0 = y15 & t44;
+        let z7 = t45 & y17;
         let z9 = y12 & t44;
-        let z17 = y8 & t41;
-        let t54 = z6 ^ z7;
+        let t50 = z2 ^ z12;
+        let z0 = y15 & t44;
+        let t49 = z10 ^ z9;
+        let z11 = y4 & t33;
+        let z13 = y5 & t40;
         let t53 = z3 ^ z0;
+        let t51 = z2 ^ z5;
+        let t57 = t53 ^ t50;
+        let t54 = z6 ^ z7;
+        let t59 = t54 ^ z3;
+        let t48 = z5 ^ z13;
         let z8 = t41 & y10;
+        let z15 = t42 & y9;
+        let t47 = z10 ^ z11;
         let z16 = t45 & y14;
         let t46 = z15 ^ z16;
-        let t50 = z2 ^ z12;
         let t52 = z8 ^ z7;
-        let t57 = t53 ^ t50;
-        let z4 = t40 & y1;
+        let z17 = y8 & t41;
         let t58 = z4 ^ t46;
-        let t59 = t54 ^ z3;
-        let z14 = y2 & t29;
-        let z10 = t37 & y3;
-        let t60 = t46 ^ t57;
         let z1 = t37 & y6;
-        let t49 = z10 ^ z9;
-        let z5 = y7 & t29;
-        let t63 = t58 ^ t49;
-        let t66 = z1 ^ t63;
-        let t55 = z16 ^ z17;
-        let t62 = t52 ^ t58;
-        let z13 = y5 & t40;
-        let t61 = t57 ^ z14;
-        let t51 = z2 ^ z5;
-        let t47 = z10 ^ z11;
-        let t65 = t62 ^ t61;
         let t64 = t59 ^ z4;
-        let t48 = z5 ^ z13;
-        let s5 = t65 ^ t47;
+        let t62 = t52 ^ t58;
+        let t61 = t57 ^ z14;
+        let t63 = t58 ^ t49;
+        let t60 = t46 ^ t57;
+        let t65 = t62 ^ t61;
         let s7 = t48 ^ t60;
-        let s4 = t51 ^ t66;
         let t67 = t65 ^ t64;
-        let s0 = t59 ^ t63;
-        let s2 = t55 ^ t67;
         let t56 = t48 ^ z12;
+        let s5 = t65 ^ t47;
+        let t66 = z1 ^ t63;
+        let s0 = t59 ^ t63;
+        let t55 = z16 ^ z17;
+        let s4 = t51 ^ t66;
+        let s6 = t56 ^ t62;
+        let s2 = t55 ^ t67;
         let s3 = t53 ^ t66;
         let s1 = t64 ^ s3;
-        let s6 = t56 ^ t62;
         [s7, s6, s5, s4, s3, s2, s1, s0]
     }};
 }
@@ -441,34 +434,6 @@ fn transpose(p: Planes) -> Planes
     [c0, c1, c2, c3, c4, c5, c6, c7]
 }
 
-// Bit j of each of 16 bytes of key, in all eight bits of its lane.
-#[inline(always)]
-fn plane(key: u8x16, j: u8) -> u8x16
-    requires { j < 8 }
-    ensures long { length result ≡ 16 }
-    ensures bits { (l k : ℕ) → l < 16 → k < 8
-        → bit_at (slice_index result l) k ≡ bit_at (slice_index key l) j }
-{
-    u8x16::splat(0) - ((key >> u8x16::splat(j)) & u8x16::splat(1))
-}
-
-// The planes that have 16 bytes of key for each of eight blocks.
-#[inline(always)]
-fn spread(key: u8x16) -> HalfPlanes
-    ensures { HoldsLanes 16 result (λ l k. slice_index key l) }
-{
-    [
-        plane(key, 0),
-        plane(key, 1),
-        plane(key, 2),
-        plane(key, 3),
-        plane(key, 4),
-        plane(key, 5),
-        plane(key, 6),
-        plane(key, 7),
-    ]
-}
-
 // A round before the last (FIPS 197, 5.1). The constant of the S-box is in the key.
 #[inline(always)]
 pub(crate) fn round_sixteen(x: Planes, key: Planes) -> Planes
@@ -576,191 +541,6 @@ pub(crate) fn last_half(x: HalfPlanes, key: HalfPlanes) -> HalfPlanes
         (l % 16)) }
 {
     add_half(substitute_half(shift_out_half(x)), key)
-}
-
-// ---- the key in planes
-
-// The number whose bytes are the lanes, the first one least significant.
-#[inline(always)]
-fn number_of(lanes: u8x16) -> u128
-    ensures { to_le_bytes w128 result ≡ lanes }
-{
-    u128::from_le_bytes(lanes.to_array())
-}
-
-// The lanes that a number stands for.
-#[inline(always)]
-fn lanes_in(number: u128) -> u8x16
-    ensures { result ≡ to_le_bytes w128 number }
-{
-    u8x16::from_array(le_bytes(number))
-}
-
-// The planes as numbers.
-#[inline(always)]
-fn packed(p: HalfPlanes) -> KeyPlanes
-    ensures { (g : ℕ → ℕ → ℕ) → HoldsLanes 16 p g → HoldsWords result g }
-{
-    [
-        number_of(p[0]),
-        number_of(p[1]),
-        number_of(p[2]),
-        number_of(p[3]),
-        number_of(p[4]),
-        number_of(p[5]),
-        number_of(p[6]),
-        number_of(p[7]),
-    ]
-}
-
-// The planes that numbers stand for.
-#[inline(always)]
-pub(crate) fn unpacked(words: &KeyPlanes) -> HalfPlanes
-    ensures { (g : ℕ → ℕ → ℕ) → HoldsWords words.now g → HoldsLanes 16 result g }
-{
-    [
-        lanes_in(words[0]),
-        lanes_in(words[1]),
-        lanes_in(words[2]),
-        lanes_in(words[3]),
-        lanes_in(words[4]),
-        lanes_in(words[5]),
-        lanes_in(words[6]),
-        lanes_in(words[7]),
-    ]
-}
-
-// The 16 bytes of the words of a round.
-#[inline(always)]
-fn key_bytes(words: &[u32; 60], round: usize) -> u8x16
-    requires { round < 15 }
-    ensures long { length result ≡ 16 }
-    ensures bytes { (i : ℕ) → i < 16 → slice_index result i ≡ word_byte (columns_of words.now) round i }
-{
-    u8x16::from_array(first_sixteen(spread_four(round_key(words, round))))
-}
-
-// Each byte plus the constant of the S-box.
-#[inline(always)]
-fn masked(key: u8x16) -> u8x16
-    ensures { (i : ℕ) → i < 16 → slice_index result i ≡ bit_xor (slice_index key i) 0x63 }
-{
-    key ^ u8x16::splat(0x63)
-}
-
-// Bytes in the order of a block, put in the order of lanes.
-#[inline(always)]
-fn rows(key: u8x16) -> u8x16
-    ensures { (l : ℕ) → l < 16 → slice_index result l ≡ slice_index key (spot l) }
-{
-    key.swizzle([0, 4, 8, 12, 1, 5, 9, 13, 2, 6, 10, 14, 3, 7, 11, 15])
-}
-
-// Room for the words of each round in planes.
-#[inline(always)]
-pub(crate) fn no_planes() -> [KeyPlanes; 15] {
-    [[0; 8]; 15]
-}
-
-// The words of each round up to the last one, in planes of eight blocks: from the second round key on plus the
-// constant of the S-box, and those of the last round in the order of the bytes of a block. They are made where they
-// stay, since they are 1,920 bytes.
-pub(crate) fn ready_planes(keys: &mut [KeyPlanes; 15], words: &[u32; 60], last: usize)
-    requires { (0 < last) × (last < 15) }
-    ensures { AreReady keys.new (columns_of words.now) last }
-{
-    keys[0] = packed(spread(rows(key_bytes(words, 0))));
-    for n in 1..last {
-        keys[n] = packed(spread(rows(masked(key_bytes(words, n)))));
-    }
-    keys[last] = packed(spread(masked(key_bytes(words, last))));
-}
-
-// The bits of a number below 2^16, bit q in each lane for block q.
-#[inline(always)]
-fn by_blocks(number: u32) -> u8x32
-    ensures long { length result ≡ 32 }
-    ensures bits { (l k : ℕ) → l < 32 → k < 8
-        → bit_at (slice_index result l) k ≡ bit_at number (l / 16 * 8 + k) }
-{
-    let low = u8x16::splat((number % 256) as u8);
-    let high = u8x16::splat((number / 256 % 256) as u8);
-    low.shuffle(
-        high,
-        [
-            0, 1, 2, 3, 4, 5, 6, 7, 8, 9, 10, 11, 12, 13, 14, 15, 16, 17, 18, 19, 20, 21, 22, 23,
-            24, 25, 26, 27, 28, 29, 30, 31,
-        ],
-    )
-}
-
-// Each byte whose bit in the mask is set, and 0 in the place of the others.
-#[inline(always)]
-fn marked(p: Planes, mask: u8x32) -> Planes
-    requires { length mask ≡ 32 }
-    ensures { (g : ℕ → ℕ → ℕ) → HoldsBits p g
-        → HoldsBits result (λ l k. bit_at (slice_index mask l) k * g l k) }
-{
-    [
-        p[0] & mask,
-        p[1] & mask,
-        p[2] & mask,
-        p[3] & mask,
-        p[4] & mask,
-        p[5] & mask,
-        p[6] & mask,
-        p[7] & mask,
-    ]
-}
-
-// All bits of the lanes of one byte of each block.
-#[inline(always)]
-fn lanes_of(place: usize) -> u8x32
-    requires { place < 16 }
-    ensures long { length result ≡ 32 }
-    ensures each { (l : ℕ) → l < 32 → slice_index result l ≡ if spot l == place then 255 else 0 }
-{
-    let lane = place % 4 * 4 + place / 4;
-    let mut lanes = [0; 32];
-    lanes[lane] = 255;
-    lanes[16 + lane] = 255;
-    u8x32::from_array(lanes)
-}
-
-// Blocks of zeros but for one byte, which is `first` plus the number of the block, modulo 16.
-#[inline(always)]
-fn numbers(first: u32, place: usize) -> Planes
-    requires { (first < 16) × (place < 16) }
-    ensures { HoldsBits result (λ l k. if spot l == place then (first + (l / 16 * 8 + k)) % 16 else 0) }
-{
-    let lanes = lanes_of(place);
-    let none = u8x32::splat(0);
-    [
-        by_blocks(0xaaaa_aaaa >> first) & lanes,
-        by_blocks(0xcccc_cccc >> first) & lanes,
-        by_blocks(0xf0f0_f0f0 >> first) & lanes,
-        by_blocks(0xff00_ff00 >> first) & lanes,
-        none,
-        none,
-        none,
-        none,
-    ]
-}
-
-// Sixteen blocks that count by the low half of one byte: block q is `a` with `first` + q there, or from the
-// block on where this passes 16, `b` with 16 less.
-#[inline(always)]
-pub(crate) fn count_blocks(a: &[u8; 16], b: &[u8; 16], first: u32, place: usize) -> Planes
-    requires { (first < 16) × (place < 16) }
-    ensures { (f : ℕ → List ℕ) → ((q i : ℕ) → q < 16 → i < 16 → slice_index (f q) i
-        ≡ bit_xor (slice_index (if (first + q) / 16 == 0 then a.now else b.now) i)
-        (if i == place then (first + q) % 16 else 0)) → HoldsSixteen result f }
-{
-    let before = rows(u8x16::from_array(*a));
-    let after = rows(u8x16::from_array(*b));
-    let apart = twice(spread(before ^ after));
-    let change = marked(apart, by_blocks(0xffff_0000 >> first));
-    add(add(twice(spread(before)), change), numbers(first, place))
 }
 
 // The first halves of four planes after one another, and the second halves.

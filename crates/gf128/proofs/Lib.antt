@@ -7,5 +7,6 @@ pub mod LaneWords
 pub mod Folds
 pub mod BitParts
 pub mod Chains
+pub mod FourBlocks
 pub mod FourProducts
 pub mod Vectors

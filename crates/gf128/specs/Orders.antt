@@ -1,11 +1,12 @@
 -- GHASH and POLYVAL by one sum in GHASH's field: they differ in the order in which the bytes of a block are
 -- read.
-use Rattle.std.specs.Prelude.{◌≡◌, ℕ, ◌-◌, Bool, List, reverse}
+use Rattle.std.specs.Prelude.{◌≡◌, ℕ, ◌-◌, Bool, List, [], reverse, get_or, bit_xor}
 use Rattle.octets.specs.Bytes.{block_at, IsBlock}
 use Rattle.octets.specs.Bits.{g}
 use Rattle.octets.specs.Polynomial.{product, power, sum_of_first, residue}
 use Rattle.gf128.specs.Ghash.{ghash_modulus, ghash}
 use Rattle.gf128.specs.Polyval.{IsReversedMulX, polyval}
+use Rattle.gf128.specs.Code.Words.{of_word, IsFourProducts}
 
 -- GHASH reads the bytes as they stand, POLYVAL from the last to the first
 pub data Order : Type 0 where
@@ -31,3 +32,9 @@ hash_by Reversed h m = polyval h m
 unfoldable pub block_sum : Order → List ℕ → List ℕ → ℕ → List Bool
 block_sum o k m n = sum_of_first n
     (λ i. residue ghash_modulus (product (reading o (block_at m i)) (power (g k) (n - i))))
+
+-- the word z is the sum of the words of four blocks times y^4, y^3, y^2 and y, the word s added to the first of them
+abbrev pub IsFourBlocks : Order → ℕ → List (List ℕ) → List ℕ → ℕ → Type 0
+IsFourBlocks o s blocks y z = (a b c d : ℕ) → of_word a ≡ reading o (get_or blocks 0 [])
+    → of_word b ≡ reading o (get_or blocks 1 []) → of_word c ≡ reading o (get_or blocks 2 [])
+    → of_word d ≡ reading o (get_or blocks 3 []) → IsFourProducts (bit_xor s a) b c d y z

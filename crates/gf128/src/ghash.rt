@@ -3,7 +3,8 @@
 ghost use Rattle.gf128.specs.Ghash.{GhashIsTheOnly};
 ghost use Rattle.gf128.specs.Orders.{Straight};
 
-use crate::hash::{BlockHash, ByteOrder};
+use crate::byte_order::ByteOrder;
+use crate::hash::BlockHash;
 use crate::polynomial_word::{block_of, word_of};
 use octets::Block;
 
@@ -16,6 +17,11 @@ impl ByteOrder for BigEndian {
     #[inline(always)]
     fn word_of(block: &[u8; 16]) -> u128 {
         word_of(block)
+    }
+
+    #[inline(always)]
+    fn byte_at(block: &[u8; 16], place: usize) -> u8 {
+        block[15 - place]
     }
 
     #[inline(always)]

@@ -2,32 +2,12 @@
 
 ghost use Rattle.std.specs.Prelude.{◌≡◌, ℕ, ◌*◌, ◌/◌, ◌%◌, ◌<◌, ◌++◌, List, [], length, drop};
 ghost use Rattle.octets.specs.Bytes.{IsBlock};
-ghost use Rattle.octets.specs.Polynomial.{Agree};
-ghost use Rattle.gf128.specs.Code.Words.{of_word};
-ghost use Rattle.gf128.specs.Orders.{Order, reading, Serves, hash_by, block_sum};
+ghost use Rattle.gf128.specs.Orders.{Serves, hash_by};
 
+use crate::byte_order::ByteOrder;
 use crate::{Keyed128, Multiply};
 use octets::{Absorb, Block, Pieces};
 use std::marker::PhantomData;
-
-/// The order in which a hash reads the bytes of a block.
-pub trait ByteOrder {
-    ghost order: { Order };
-
-    /// The word of a block.
-    fn word_of(block: &[u8; 16]) -> u128
-        ensures { of_word result ≡ reading order block.now };
-
-    /// The hash of blocks whose sum is a word.
-    fn hash_of(sum: u128) -> Block
-        ensures value { (h k m : List ℕ) → Serves order h k
-            → Agree (of_word sum) (block_sum order k m (length m / 16)) → result ≡ hash_by order h m }
-        ensures is_block { IsBlock result };
-
-    /// The key of a multiplier that serves the hash under `key`.
-    fn multiplier_key(key: &Block) -> Block
-        ensures { Serves order key.now result };
-}
 
 // The sum over whole blocks.
 #[derive(Drop)]
@@ -47,12 +27,7 @@ impl<M: Multiply, O: ByteOrder> Absorb for BlockSum<M, O> {
         let (fours, rest) = whole.as_chunks::<4>();
         let mut sum = self.sum;
         'fours: for four in fours {
-            sum = self.multiplier.times_four(
-                sum ^ O::word_of(&four[0]),
-                O::word_of(&four[1]),
-                O::word_of(&four[2]),
-                O::word_of(&four[3]),
-            );
+            sum = self.multiplier.times_blocks::<O>(sum, four);
         }
         'taken: for block in rest {
             sum = self.multiplier.times_word(sum ^ O::word_of(block));

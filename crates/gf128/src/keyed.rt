@@ -4,7 +4,9 @@ ghost use Rattle.std.specs.Prelude.{◌≡◌, ℕ, List, replicate};
 ghost use Rattle.octets.specs.Bytes.{IsBlock};
 ghost use Rattle.gf128.specs.Ghash.{IsProduct};
 ghost use Rattle.gf128.specs.Code.Words.{IsFourProducts, IsWordProduct};
+ghost use Rattle.gf128.specs.Orders.{IsFourBlocks};
 
+use crate::byte_order::ByteOrder;
 use crate::polynomial_word::{block_of, word_of};
 use octets::Block;
 
@@ -37,6 +39,19 @@ pub trait Multiply: Drop {
         let second = self.times_word(first ^ b);
         let third = self.times_word(second ^ c);
         self.times_word(third ^ d)
+    }
+
+    /// [`Multiply::times_four`] of the words of four blocks whose bytes `O` reads, `sum` added to the first.
+    fn times_blocks<O: ByteOrder>(&self, sum: u128, blocks: &[[u8; 16]; 4]) -> u128
+        ensures { IsFourBlocks O.order sum blocks.now (key_bytes self.now) result }
+    {
+        let first = sum ^ O::word_of(&blocks[0]);
+        self.times_four(
+            first,
+            O::word_of(&blocks[1]),
+            O::word_of(&blocks[2]),
+            O::word_of(&blocks[3]),
+        )
     }
 }
 
@@ -78,5 +93,10 @@ impl<M: Multiply> Multiply for &M {
     #[inline(always)]
     fn times_four(&self, a: u128, b: u128, c: u128, d: u128) -> u128 {
         (**self).times_four(a, b, c, d)
+    }
+
+    #[inline(always)]
+    fn times_blocks<O: ByteOrder>(&self, sum: u128, blocks: &[[u8; 16]; 4]) -> u128 {
+        (**self).times_blocks::<O>(sum, blocks)
     }
 }

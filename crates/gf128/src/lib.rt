@@ -3,6 +3,7 @@
 #![tactic(auto)]
 
 mod bit_mul;
+mod byte_order;
 mod chain;
 mod ghash;
 mod hash;
@@ -19,8 +20,9 @@ mod uses;
 mod wide_mul;
 
 pub use bit_mul::BitMul;
+pub use byte_order::ByteOrder;
 pub use ghash::{BigEndian, Ghash, ghash_is_the_only};
-pub use hash::{BlockHash, ByteOrder};
+pub use hash::BlockHash;
 pub use keyed::{Keyed128, Multiply};
 pub use polyval::{
     LittleEndian, Polyval, dot_is_the_only, polyval_by_ghash, polyval_is_the_only, reversed_mul_x,

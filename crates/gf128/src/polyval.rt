@@ -4,7 +4,8 @@ ghost use Rattle.octets.specs.Bytes.{IsBlock};
 ghost use Rattle.gf128.specs.Orders.{Reversed};
 ghost use Rattle.gf128.specs.Polyval.{DotIsTheOnly, PolyvalIsTheOnly, PolyvalByGhash, IsReversedMulX};
 
-use crate::hash::{BlockHash, ByteOrder};
+use crate::byte_order::ByteOrder;
+use crate::hash::BlockHash;
 use crate::polynomial_word::{block_of, reversed_block_of, reversed_word_of, times_x};
 use octets::Block;
 
@@ -28,6 +29,11 @@ impl ByteOrder for LittleEndian {
     #[inline(always)]
     fn word_of(block: &[u8; 16]) -> u128 {
         reversed_word_of(block)
+    }
+
+    #[inline(always)]
+    fn byte_at(block: &[u8; 16], place: usize) -> u8 {
+        block[place]
     }
 
     #[inline(always)]

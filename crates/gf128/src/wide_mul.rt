@@ -1,11 +1,13 @@
 // Four products in one sum, by tables of multiples of the key's first four powers.
 
-ghost use Rattle.std.specs.Prelude.{List, [], ◌∷◌};
+ghost use Rattle.std.specs.Prelude.{◌≡◌, ℕ, ◌+◌, ◌*◌, ◌/◌, ◌^◌, ◌≤◌, List, [], ◌∷◌};
 ghost use Rattle.std.specs.Int.{w128, to_be_bytes};
 ghost use Rattle.octets.specs.Bytes.{le};
 ghost use Rattle.octets.specs.Polynomial.{power};
 ghost use Rattle.gf128.specs.Code.Words.{of_word, products, IsReduced};
+ghost use Rattle.gf128.specs.Orders.{reading};
 
+use crate::byte_order::ByteOrder;
 use crate::chain::{Chain, times_x64};
 use crate::lanes::Lanes;
 use crate::multiples::{ByteMultiples, Multiples256};
@@ -40,22 +42,33 @@ impl WideMul {
         self.fourth.at(a).xor(self.third.at(b).xor(low))
     }
 
-    // The sum of four half words, the first times the fourth power of the key, the last times the key.
+    // The sum of a half word times the fourth power of the key, and of half the words of three blocks, from place `from`
+    // on, times the third, the second and the key. Their bytes are read from the blocks, which is one instruction each:
+    // a shift of a word down to a byte is two or three.
     #[inline(always)]
-    fn four_halves(&self, a: u64, b: u64, c: u64, d: u64) -> u128
-        ensures { let s = self.now in
-            IsReduced (products 64 ((a, s.fourth.word) ∷ (b, s.third.word) ∷ (c, s.second.word)
-            ∷ (d, s.first.word) ∷ []))
+    fn four_halves<O: ByteOrder>(
+        &self,
+        a: u64,
+        b: &[u8; 16],
+        c: &[u8; 16],
+        d: &[u8; 16],
+        from: usize,
+    ) -> u128
+        requires { from + 8 ≤ 16 }
+        ensures { let s = self.now in let o = O.order in (x y z : ℕ) → of_word x ≡ reading o b.now
+            → of_word y ≡ reading o c.now → of_word z ≡ reading o d.now
+            → IsReduced (products 64 ((a, s.fourth.word) ∷ (x / 2 ^ (8 * from), s.third.word)
+            ∷ (y / 2 ^ (8 * from), s.second.word) ∷ (z / 2 ^ (8 * from), s.first.word) ∷ []))
             result }
     {
         let a_bytes = bytes_of(a);
-        let b_bytes = bytes_of(b);
-        let c_bytes = bytes_of(c);
-        let d_bytes = bytes_of(d);
         let mut sum = Chain::empty();
         'places: for i in 0..8usize {
             sum = sum.take_eight(self.four_multiples(
-                a_bytes[i], b_bytes[i], c_bytes[i], d_bytes[i],
+                a_bytes[i],
+                O::byte_at(b, from + i),
+                O::byte_at(c, from + i),
+                O::byte_at(d, from + i),
             ));
         }
         sum.reduced()
@@ -73,9 +86,11 @@ impl Multiply for WideMul {
         self.first.times_word(x)
     }
 
-    fn times_four(&self, a: u128, b: u128, c: u128, d: u128) -> u128 {
-        let high = self.four_halves(high_half(a), high_half(b), high_half(c), high_half(d));
-        let low = self.four_halves(low_half(a), low_half(b), low_half(c), low_half(d));
+    fn times_blocks<O: ByteOrder>(&self, sum: u128, blocks: &[[u8; 16]; 4]) -> u128 {
+        let first = sum ^ O::word_of(&blocks[0]);
+        let (b, c, d) = (&blocks[1], &blocks[2], &blocks[3]);
+        let high = self.four_halves::<O>(high_half(first), b, c, d, 8);
+        let low = self.four_halves::<O>(low_half(first), b, c, d, 0);
         high ^ times_x64(low)
     }
 }

@@ -1,10 +1,11 @@
 use Rattle.std.proofs.Common.{◌≡◌, ℕ, suc, ◌+◌, ◌*◌, ◌/◌, ◌%◌, ◌<◌, ◌∙◌, ap, sym, arith, List, [], ◌++◌}
 use Rattle.std.proofs.Common.{length, get_or}
 use Rattle.std.proofs.lemmas.List.{length-append}
-use Rattle.octets.specs.Bytes.{block_at}
+use Rattle.octets.specs.Bytes.{block_at, IsBlock}
 use Rattle.octets.proofs.Blocks.{next_block, four_at, after_fours}
 use Rattle.gf128.specs.Code.Words.{of_word}
 use Rattle.gf128.specs.Orders.{Order, reading, block_sum}
+use Rattle.gf128.proofs.FourBlocks.{block_within, word_for, word_for_reads}
 use Rattle.gf128.proofs.Sums.{block_sum-append, block_sum_more, block_sum_four}
 use Rattle.gf128.proofs.hash.BlockSumAbsorb.absorb.Goals as goal
 
@@ -26,29 +27,30 @@ fours-preserved x c = λ h m whole held.
     let small : i < length c.as_chunks.result.0.now / 4 =
     omega (arith, c.fours-test.true, c.as_chunks-2.ensures.front_len) in
     let o : Order = x.O.ByteOrder.order in
-    let read : (j : ℕ) → j < 4 → reading o (get_or (get_or c.as_chunks-2.result.0.now i []) j [])
-    ≡ reading o (block_at (m ++ blocks) (q + (i * 4 + j))) = λ j l.
-    ap (reading o) (four_at blocks c.as_chunks.result.0.now c.as_chunks-2.result.0.now i j c.as_chunks.ensures.front
-    c.as_chunks.ensures.front_len c.as_chunks-2.ensures.front small l
-    ∙ sym (next_block m blocks (i * 4 + j) whole)) in
+    let b : ℕ → List ℕ = λ (j : ℕ). get_or (get_or c.as_chunks-2.result.0.now i []) j [] in
+    let own : (j : ℕ) → j < 4 → b j ≡ block_at blocks (i * 4 + j) = λ j l.
+    four_at blocks c.as_chunks.result.0.now c.as_chunks-2.result.0.now i j c.as_chunks.ensures.front
+    c.as_chunks.ensures.front_len c.as_chunks-2.ensures.front small l in
+    let block : (j : ℕ) → j < 4 → IsBlock (b j) = λ j l.
+    rw (own j l) (block_within blocks (i * 4 + j) (omega (arith, small, l, c.as_chunks.ensures.front_len))
+    (λ k. (c.type_inv.blocks k).fits)) in
+    let is : (j : ℕ) → j < 4 → of_word (word_for o (b j)) ≡ reading o (b j) = λ j l.
+    word_for_reads o (b j) (block j l) in
     let place : (j : ℕ) → q + (i * 4 + j) ≡ q + i * 4 + j = λ j. omega arith in
     let e : suc (suc (suc (suc (q + i * 4)))) ≡ q + (i + 1) * 4 = omega arith in
-    let word : (j k w : ℕ) → j < 4 → q + i * 4 + j ≡ k
-    → of_word w ≡ reading o (get_or (get_or c.as_chunks-2.result.0.now i []) j [])
-    → of_word w ≡ reading o (block_at (m ++ blocks) k) = λ j k w l at is.
-    is ∙ read j l ∙ ap (λ (n : ℕ). reading o (block_at (m ++ blocks) n)) (place j ∙ at) in
+    let word : (j k : ℕ) → j < 4 → q + i * 4 + j ≡ k
+    → of_word (word_for o (b j)) ≡ reading o (block_at (m ++ blocks) k) = λ j k l at.
+    is j l ∙ ap (reading o) (own j l ∙ sym (next_block m blocks (i * 4 + j) whole)
+    ∙ ap (block_at (m ++ blocks)) (place j ∙ at)) in
     rw e at (block_sum_four o (x.M.Multiply.key_bytes c.args.self.now.multiplier) (m ++ blocks) c.fours.sum
-    c.word_of.result c.word_of-in-fours.result
-    c.word_of-in-fours-2.result c.word_of-in-fours-3.result c.times_four-sum.result
+    (word_for o (b 0)) (word_for o (b 1)) (word_for o (b 2)) (word_for o (b 3)) c.times_blocks-sum.result
     (q + i * 4) (c.fours.invariant h m whole held)
-    (word 0 (q + i * 4) c.word_of.result (omega arith) (omega arith) c.word_of.ensures)
-    (word 1 (suc (q + i * 4)) c.word_of-in-fours.result (omega arith) (omega arith)
-    c.word_of-in-fours.ensures)
-    (word 2 (suc (suc (q + i * 4))) c.word_of-in-fours-2.result (omega arith) (omega arith)
-    c.word_of-in-fours-2.ensures)
-    (word 3 (suc (suc (suc (q + i * 4)))) c.word_of-in-fours-3.result (omega arith) (omega arith)
-    c.word_of-in-fours-3.ensures)
-    c.times_four-sum.ensures)
+    (word 0 (q + i * 4) (omega arith) (omega arith))
+    (word 1 (suc (q + i * 4)) (omega arith) (omega arith))
+    (word 2 (suc (suc (q + i * 4))) (omega arith) (omega arith))
+    (word 3 (suc (suc (suc (q + i * 4)))) (omega arith) (omega arith))
+    (c.times_blocks-sum.ensures (word_for o (b 0)) (word_for o (b 1)) (word_for o (b 2)) (word_for o (b 3))
+    (is 0 (omega arith)) (is 1 (omega arith)) (is 2 (omega arith)) (is 3 (omega arith))))
 
 pub taken-init : goal.taken-init
 taken-init x c = λ h m whole held.
@@ -73,13 +75,13 @@ taken-preserved x c = λ h m whole held.
     omega (arith, c.taken-test.true, c.as_chunks-2.ensures.back_len) in
     let at : q + (n + i) ≡ q + n + i = omega arith in
     let o : Order = x.O.ByteOrder.order in
-    let word : of_word c.word_of-in-taken.result ≡ reading o (block_at (m ++ blocks) (q + n + i)) =
-    c.word_of-in-taken.ensures
+    let word : of_word c.word_of.result ≡ reading o (block_at (m ++ blocks) (q + n + i)) =
+    c.word_of.ensures
     ∙ ap (reading o) (after_fours blocks c.as_chunks.result.0.now c.as_chunks-2.result.1.now i
     c.as_chunks.ensures.front c.as_chunks.ensures.front_len c.as_chunks-2.ensures.back small
     ∙ sym (next_block m blocks (n + i) whole) ∙ ap (block_at (m ++ blocks)) at) in
     let e : suc (q + n + i) ≡ q + n + (i + 1) = omega arith in
-    rw e at (block_sum_more o (x.M.Multiply.key_bytes c.args.self.now.multiplier) (m ++ blocks) c.taken.sum c.word_of-in-taken.result c.times_word-sum.result
+    rw e at (block_sum_more o (x.M.Multiply.key_bytes c.args.self.now.multiplier) (m ++ blocks) c.taken.sum c.word_of.result c.times_word-sum.result
     (q + n + i) (c.taken.invariant h m whole held) word
     c.times_word-sum.ensures)
 

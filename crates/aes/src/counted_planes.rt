@@ -1,0 +1,98 @@
+// Sixteen blocks that count, in eight planes of bits.
+
+ghost use Rattle.std.specs.Prelude.{◌≡◌, ℕ, ◌<◌, ◌+◌, ◌*◌, ◌/◌, ◌%◌, ◌==◌, if◌then◌else◌};
+ghost use Rattle.std.specs.Prelude.{List, slice_index, bit_xor, length};
+ghost use Rattle.std.specs.Int.{bit_at};
+ghost use Rattle.aes.specs.Code.Planes.{HoldsBits, HoldsSixteen, spot};
+
+use crate::key_planes::{rows, spread};
+use crate::planes::{Planes, add, twice};
+use std::simd::prelude::*;
+use std::simd::{u8x16, u8x32};
+
+// The bits of a number below 2^16, bit q in each lane for block q.
+#[inline(always)]
+fn by_blocks(number: u32) -> u8x32
+    ensures long { length result ≡ 32 }
+    ensures bits { (l k : ℕ) → l < 32 → k < 8
+        → bit_at (slice_index result l) k ≡ bit_at number (l / 16 * 8 + k) }
+{
+    let low = u8x16::splat((number % 256) as u8);
+    let high = u8x16::splat((number / 256 % 256) as u8);
+    low.shuffle(
+        high,
+        [
+            0, 1, 2, 3, 4, 5, 6, 7, 8, 9, 10, 11, 12, 13, 14, 15, 16, 17, 18, 19, 20, 21, 22, 23,
+            24, 25, 26, 27, 28, 29, 30, 31,
+        ],
+    )
+}
+
+// Each byte whose bit in the mask is set, and 0 in the place of the others.
+#[inline(always)]
+fn marked(p: Planes, mask: u8x32) -> Planes
+    requires { length mask ≡ 32 }
+    ensures { (g : ℕ → ℕ → ℕ) → HoldsBits p g
+        → HoldsBits result (λ l k. bit_at (slice_index mask l) k * g l k) }
+{
+    [
+        p[0] & mask,
+        p[1] & mask,
+        p[2] & mask,
+        p[3] & mask,
+        p[4] & mask,
+        p[5] & mask,
+        p[6] & mask,
+        p[7] & mask,
+    ]
+}
+
+// All bits of the lanes of one byte of each block.
+#[inline(always)]
+fn lanes_of(place: usize) -> u8x32
+    requires { place < 16 }
+    ensures long { length result ≡ 32 }
+    ensures each { (l : ℕ) → l < 32 → slice_index result l ≡ if spot l == place then 255 else 0 }
+{
+    let lane = place % 4 * 4 + place / 4;
+    let mut lanes = [0; 32];
+    lanes[lane] = 255;
+    lanes[16 + lane] = 255;
+    u8x32::from_array(lanes)
+}
+
+// Blocks of zeros but for one byte, which is `first` plus the number of the block, modulo 16.
+#[inline(always)]
+fn numbers(first: u32, place: usize) -> Planes
+    requires { (first < 16) × (place < 16) }
+    ensures { HoldsBits result (λ l k. if spot l == place then (first + (l / 16 * 8 + k)) % 16 else 0) }
+{
+    let lanes = lanes_of(place);
+    let none = u8x32::splat(0);
+    [
+        by_blocks(0xaaaa_aaaa >> first) & lanes,
+        by_blocks(0xcccc_cccc >> first) & lanes,
+        by_blocks(0xf0f0_f0f0 >> first) & lanes,
+        by_blocks(0xff00_ff00 >> first) & lanes,
+        none,
+        none,
+        none,
+        none,
+    ]
+}
+
+// Sixteen blocks that count by the low half of one byte: block q is `a` with `first` + q there, or from the
+// block on where this passes 16, `b` with 16 less.
+#[inline(always)]
+pub(crate) fn count_blocks(a: &[u8; 16], b: &[u8; 16], first: u32, place: usize) -> Planes
+    requires { (first < 16) × (place < 16) }
+    ensures { (f : ℕ → List ℕ) → ((q i : ℕ) → q < 16 → i < 16 → slice_index (f q) i
+        ≡ bit_xor (slice_index (if (first + q) / 16 == 0 then a.now else b.now) i)
+        (if i == place then (first + q) % 16 else 0)) → HoldsSixteen result f }
+{
+    let before = rows(u8x16::from_array(*a));
+    let after = rows(u8x16::from_array(*b));
+    let apart = twice(spread(before ^ after));
+    let change = marked(apart, by_blocks(0xffff_0000 >> first));
+    add(add(twice(spread(before)), change), numbers(first, place))
+}

@@ -1,0 +1,85 @@
+-- The words of four blocks, by the bytes of the blocks.
+use Rattle.std.proofs.Common.{◌≡◌, ℕ, ◌+◌, ◌-◌, ◌*◌, ◌/◌, ◌%◌, ◌^◌, ◌<◌, ◌≤◌, Bool, List, [], length, take, drop}
+use Rattle.std.proofs.Common.{get_or, bit_xor, inl, inr, ap, ap₂, sym, ◌∙◌, arith}
+use Rattle.std.specs.Int.{w128, from_be_bytes, from_le_bytes}
+use Rattle.std.proofs.lemmas.Bool.{cases_lt}
+use Rattle.std.proofs.lemmas.List.{get_or_past, get_or-take, get_or-drop, length-drop, length-take, length-take-le}
+use Rattle.std.proofs.lemmas.Nat.{shr-shr}
+use Rattle.octets.specs.Bits.{bit, g}
+use Rattle.octets.specs.Bytes.{IsBlock, block_at}
+use Rattle.octets.specs.Polynomial.{coefficient, plus, sum, product, power, sum_of_first, residue, Agree}
+use Rattle.octets.proofs.BitFacts.{bit_of_xor}
+use Rattle.octets.proofs.Readings.{g_at}
+use Rattle.gf128.specs.Ghash.{ghash_modulus}
+use Rattle.gf128.specs.Code.Words.{of_bits, of_word, IsFourProducts}
+use Rattle.gf128.specs.Orders.{Order, Straight, Reversed, reading}
+use Rattle.gf128.proofs.BitParts.{bit_shr, bits_same, of_bits_at}
+use Rattle.gf128.proofs.WordLemmas.{of_word-be, of_word-le}
+
+-- a byte of a block has the bits of its word
+pub byte_read : (bs : List ℕ) (w p : ℕ) → p < 16 → of_word w ≡ g bs
+    → of_bits 8 (get_or bs (15 - p) 0) ≡ of_bits 8 (w / 2 ^ (8 * p))
+unfolding of_word
+byte_read bs w p small e =
+    bits_same 8 (get_or bs (15 - p) 0) (w / 2 ^ (8 * p)) (λ j h.
+    let k : ℕ = 8 * (15 - p) + (7 - j) in
+    let byte : 15 - p ≡ k / 8 = omega (arith, small, h) in
+    let place : j ≡ 7 - k % 8 = omega (arith, small, h) in
+    let at : 128 - 1 - k ≡ 8 * p + j = omega (arith, small, h) in
+    ap₂ (λ x i. bit (get_or bs x 0) i) byte place ∙ sym (g_at bs k) ∙ ap (λ q. coefficient q k) (sym e)
+    ∙ of_bits_at 128 w k (omega (arith, small, h)) ∙ ap (bit w) at ∙ sym (bit_shr w (8 * p) j))
+
+-- so has a byte further up
+pub byte_above : (n p q r w : ℕ) → p + q ≡ r → of_bits 8 n ≡ of_bits 8 (w / 2 ^ (8 * r))
+    → of_bits 8 n ≡ of_bits 8 (w / 2 ^ (8 * p) / 2 ^ (8 * q))
+byte_above n p q r w e is =
+    let at : 8 * r ≡ 8 * p + 8 * q = omega (arith, e) in
+    is ∙ ap (λ i. of_bits 8 (w / 2 ^ i)) at ∙ ap (of_bits 8) (sym (shr-shr w (8 * p) (8 * q)))
+
+-- words of one polynomial have the same bits
+same_bit : (a b j : ℕ) → j < 128 → of_word a ≡ of_word b → bit a j ≡ bit b j
+unfolding of_word
+same_bit a b j h e =
+    let k : ℕ = 127 - j in
+    let at : j ≡ 128 - 1 - k = omega (arith, h) in
+    ap (bit a) at ∙ sym (of_bits_at 128 a k (omega arith)) ∙ ap (λ q. coefficient q k) e
+    ∙ of_bits_at 128 b k (omega arith) ∙ ap (bit b) (sym at)
+
+-- and so have their sums with one word
+pub same_sum : (s a b : ℕ) → of_word a ≡ of_word b → of_word (bit_xor s a) ≡ of_word (bit_xor s b)
+unfolding of_word
+same_sum s a b e =
+    bits_same 128 (bit_xor s a) (bit_xor s b) (λ j h. bit_of_xor s a j ∙ ap (plus (bit s j)) (same_bit a b j h e)
+    ∙ sym (bit_of_xor s b j))
+
+-- products of words of the same polynomials
+pub four_same : (a b c d p q r t z : ℕ) (y : List ℕ) → of_word p ≡ of_word a → of_word q ≡ of_word b
+    → of_word r ≡ of_word c → of_word t ≡ of_word d → IsFourProducts p q r t y z → IsFourProducts a b c d y z
+unfolding IsFourProducts sum_of_first
+four_same a b c d p q r t z y ea eb ec ed is =
+    let term : ℕ → ℕ → List Bool = λ (x n : ℕ). residue ghash_modulus (product (of_word x) (power (g y) n)) in
+    let all : Agree (of_word z) (sum (sum (sum (sum [] (term p 4)) (term q 3)) (term r 2)) (term t 1)) = is in
+    rw (ea, eb, ec, ed) at all
+
+-- a block has a word
+pub word_for : Order → List ℕ → ℕ
+word_for Straight b = from_be_bytes w128 b
+word_for Reversed b = from_le_bytes w128 b
+
+-- it is one
+pub word_for_reads : (o : Order) (b : List ℕ) → IsBlock b → of_word (word_for o b) ≡ reading o b
+unfolding word_for
+word_for_reads Straight b is = of_word-be b is
+word_for_reads Reversed b is = of_word-le b is
+
+-- a text has whole blocks
+pub block_within : (m : List ℕ) (q : ℕ) → (q + 1) * 16 ≤ length m → ((i : ℕ) → get_or m i 0 < 256)
+    → IsBlock (block_at m q)
+block_within m q long small = record {
+  length_is = length-take-le 16 (drop (q * 16) m) (omega (arith, long, length-drop (q * 16) m));
+  bytes = λ i. elim (cases_lt i 16) [
+    | inl l ↦ rw (get_or-take 16 (drop (q * 16) m) i 0 l, get_or-drop (q * 16) m i 0) (small (q * 16 + i))
+    | inr g ↦ rw (get_or_past (take 16 (drop (q * 16) m)) i 0
+        (omega (arith, length-take 16 (drop (q * 16) m)))) (omega arith)
+  ];
+}

@@ -1,0 +1,34 @@
+// The order in which a hash reads the bytes of a block.
+
+ghost use Rattle.std.specs.Prelude.{◌≡◌, ℕ, ◌*◌, ◌/◌, ◌^◌, ◌<◌, List, length};
+ghost use Rattle.octets.specs.Bytes.{IsBlock};
+ghost use Rattle.octets.specs.Polynomial.{Agree};
+ghost use Rattle.gf128.specs.Code.Words.{of_bits, of_word};
+ghost use Rattle.gf128.specs.Orders.{Order, reading, Serves, hash_by, block_sum};
+
+use octets::Block;
+
+/// The order in which a hash reads the bytes of a block.
+pub trait ByteOrder {
+    ghost order: { Order };
+
+    /// The word of a block.
+    fn word_of(block: &[u8; 16]) -> u128
+        ensures { of_word result ≡ reading order block.now };
+
+    /// The byte of a block that is at a place in its word: 0 is the lowest byte, 15 the highest.
+    fn byte_at(block: &[u8; 16], place: usize) -> u8
+        requires { place < 16 }
+        ensures { (w : ℕ) → of_word w ≡ reading order block.now
+            → of_bits 8 result ≡ of_bits 8 (w / 2 ^ (8 * place)) };
+
+    /// The hash of blocks whose sum is a word.
+    fn hash_of(sum: u128) -> Block
+        ensures value { (h k m : List ℕ) → Serves order h k
+            → Agree (of_word sum) (block_sum order k m (length m / 16)) → result ≡ hash_by order h m }
+        ensures is_block { IsBlock result };
+
+    /// The key of a multiplier that serves the hash under `key`.
+    fn multiplier_key(key: &Block) -> Block
+        ensures { Serves order key.now result };
+}
