@@ -1,8 +1,8 @@
 -- An expanded key, and the rounds with its words.
-use Rattle.std.proofs.Common.{◌≡◌, ℕ, suc, ◌+◌, ◌-◌, ◌*◌, ◌/◌, ◌%◌, ◌^◌, ◌<◌, ◌≤◌, List, [], get_or, length}
+use Rattle.std.proofs.Common.{◌≡◌, ℕ, suc, ◌+◌, ◌-◌, ◌*◌, ◌/◌, ◌%◌, ◌^◌, ◌<◌, ◌≤◌, List, [], get_or, length, drop}
 use Rattle.std.proofs.Common.{refl, sym, ap, ap₂, ◌∙◌, arith, inl, inr, take_all, zero-add, bit_xor, add-one, subst}
 use Rattle.std.proofs.lemmas.List.FromFn.{get_or-map-range_with_len}
-use Rattle.std.proofs.lemmas.List.{length-map, get_or-map}
+use Rattle.std.proofs.lemmas.List.{length-map, get_or-map, get_or-drop}
 use Rattle.aes.specs.Columns.{column_of, columns_of}
 use Rattle.aes.specs.Schedule.{round_count, schedule}
 use Rattle.aes.specs.KeptWords.{table}
@@ -152,3 +152,21 @@ is_key ws n key x e =
 pub kept_length : (ws : List ℕ) (n : ℕ) (key : List ℕ) → IsExpanded ws n → key_of (columns_of ws) n ≡ key
     → length key ≡ 4 * n
 kept_length ws n key x e = sym (ap length e) ∙ x.length_is
+
+-- a round by the words from its own on
+pub next_round : (key b : List ℕ) (n : ℕ) → n + 1 ≤ round_count key
+    → add_round_key (drop (4 * (n + 1)) (schedule key)) 0
+    (mix_columns (shift_rows (sub_bytes (rounds (schedule key) n b)))) ≡ rounds (schedule key) (n + 1) b
+next_round key b n within =
+    let ws = schedule key in
+    next_state (drop (4 * (n + 1)) ws) ws key n b (rounds ws n b) _ (λ i h. refl) within
+    (λ c l. get_or-drop (4 * (n + 1)) ws c []) refl refl
+
+-- and the last one
+pub final_round : (key b : List ℕ) (n : ℕ) → n ≡ round_count key - 1
+    → add_round_key (drop (4 * round_count key) (schedule key)) 0
+    (shift_rows (sub_bytes (rounds (schedule key) n b))) ≡ cipher key b
+final_round key b n before =
+    let ws = schedule key in
+    last_state (drop (4 * round_count key) ws) ws key n (round_count key) b (rounds ws n b) _ (λ i h. refl) refl before
+    (λ c l. get_or-drop (4 * round_count key) ws c []) refl refl

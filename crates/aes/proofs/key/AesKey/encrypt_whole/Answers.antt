@@ -1,10 +1,9 @@
-use Rattle.std.proofs.Common.{[], drop, refl, ◌≡◌, ℕ, List, ◌+◌, ◌*◌, ◌-◌, ◌/◌, ◌%◌, get_or, sym, ap, subst}
+use Rattle.std.proofs.Common.{[], drop, ◌≡◌, ℕ, List, ◌+◌, ◌*◌, ◌-◌, ◌/◌, ◌%◌, get_or, sym, ap, subst}
 use Rattle.std.proofs.Common.{◌∙◌, arith}
-use Rattle.std.proofs.lemmas.List.{get_or-drop}
 use Rattle.aes.specs.Schedule.{round_count, schedule}
 use Rattle.aes.specs.Cipher.{sub_bytes, shift_rows, mix_columns, add_round_key, rounds}
 use Rattle.aes.specs.Code.Planes.{HoldsWords, block_byte, spot, word_byte, masked_byte}
-use Rattle.aes.proofs.Expanded.{round_key_is, rounds_start, rounds_more, cipher_is, is_key, kept_length}
+use Rattle.aes.proofs.Expanded.{rounds_start, next_round, final_round, is_key, kept_length}
 use Rattle.aes.proofs.Permutation.{words_are, rounds_block}
 use Rattle.aes.proofs.KeyPlanes.{spot_half}
 use Rattle.aes.proofs.SixteenBlocks.{same_bytes, same_sixteen, first_value, dropped_row, dropped_last}
@@ -32,11 +31,7 @@ loop-done-preserved c = λ f blocks held.
     let state : ℕ → List ℕ = λ q. rounds ws n (f q) in
     same_sixteen c.round_sixteen-next.result
     (λ q. add_round_key vs 0 (mix_columns (shift_rows (sub_bytes (state q)))))
-    (λ q. rounds ws (n + 1) (f q))
-    (λ q.
-    round_key_is vs ws key (n + 1) (mix_columns (shift_rows (sub_bytes (state q))))
-    (λ i h. get_or-drop (4 * (n + 1)) ws i []) (λ i h. refl) (omega arith)
-    ∙ sym (rounds_more ws n (f q)))
+    (λ q. rounds ws (n + 1) (f q)) (λ q. next_round key (f q) n (omega arith))
     (c.round_sixteen-next.ensures state vs (λ q. rounds_block ws n (f q) words (blocks q))
     (c.loop-done.invariant f blocks held)
     (same_bytes _ (c.twice-in-loop-done.ensures (λ l k. masked_byte ws (n + 1) (spot l))
@@ -64,8 +59,4 @@ returns c = λ f blocks held.
     (c.loop-done.invariant f blocks held)
     (same_bytes _ (c.twice-2.ensures (λ l k. masked_byte ws last l)
     (c.unpacked-2.ensures (λ l k. masked_byte ws last l) final)) (λ l k hl hk. dropped_last ws last l)))
-    (λ l k hl hk. ap (λ b. get_or b (l % 16) 0)
-    (round_key_is vs ws key last (shift_rows (sub_bytes (state (l / 16 * 8 + k))))
-    (λ i h. get_or-drop (4 * last) ws i []) (λ i h. refl) (omega arith)
-    ∙ ap (λ (i : ℕ). add_round_key ws last (shift_rows (sub_bytes (rounds ws i (f (l / 16 * 8 + k)))))) before
-    ∙ sym (cipher_is key (f (l / 16 * 8 + k)))))
+    (λ l k hl hk. ap (λ b. get_or b (l % 16) 0) (final_round key (f (l / 16 * 8 + k)) n before))
