@@ -4,18 +4,18 @@ use Rattle.std.proofs.Common.{replicate, bit_xor, inl, inr, refl, sym, ap, ap₂
 use mathlib.Core.Path.{fun_ext}
 use Rattle.std.proofs.lemmas.Bool.{cases_lt}
 use Rattle.octets.specs.Bits.{bit}
-use Rattle.octets.specs.Polynomial.{coefficient, plus, sum, product}
+use Rattle.octets.specs.Polynomial.{coefficient, plus, sum, product, residue}
 use Rattle.octets.proofs.Sequence.{sum_of, plus_comm}
 use Rattle.octets.proofs.Ring.{product_is}
 use Rattle.octets.proofs.Horner.{sum_is, residue_same}
 use Rattle.octets.proofs.Reversal.{raised, raised_high, coefficient_below}
 use Rattle.gf128.specs.Ghash.{ghash_modulus}
-use Rattle.gf128.specs.Code.Words.{of_bits, of_word, folded, IsReduced, IsBitsProduct, IsMoved, IsSpread}
+use Rattle.gf128.specs.Code.Words.{of_bits, of_word, folded, IsReduced, IsBitsProduct, IsSpread}
 use Rattle.gf128.specs.Code.Words.{wide}
 use Rattle.gf128.proofs.WordLemmas.{of_word_at, of_word_past}
 use Rattle.gf128.proofs.BitParts.{bit_low, of_bits_at, of_bits_past, product_joined, reduced_same}
-use Rattle.gf128.proofs.BitParts.{reduced_sum, own_residue, residue_parts, x_same, moved_is}
-use Rattle.gf128.proofs.Folds.{of_word_shr, wide_low, wide_high, wide_more, wide_none}
+use Rattle.gf128.proofs.BitParts.{own_residue, residue_parts, x_same}
+use Rattle.gf128.proofs.Folds.{of_word_shr, wide_low, wide_high, wide_more, wide_none, wide_xor}
 use Rattle.gf128.proofs.Folds.{folded_at}
 
 -- nothing taken in
@@ -102,26 +102,29 @@ moved_half n k small =
           ∙ sym (raised_high 64 (coefficient (of_word n)) k (omega arith))
     ]
 
--- a word times x^64
-pub half_moves : (n : ℕ) → n < 2 ^ 128 → IsMoved 64 n (folded (n / 2 ^ 64) (n % 2 ^ 64))
-half_moves n small k =
+-- a sum and x^64 times a word
+pub spread_with : (d : ℕ) (p q : List Bool) (z s n : ℕ) → n < 2 ^ 128 → bit_xor z (n / 2 ^ 64) < 2 ^ 128
+    → bit_xor s (n % 2 ^ 64) < 2 ^ 64 → IsSpread d p z s → IsReduced q n
+    → IsReduced (sum p (replicate 64 false ++ q)) (folded (bit_xor z (n / 2 ^ 64)) (bit_xor s (n % 2 ^ 64)))
+spread_with d p q z s n small lz ls held is k =
+    let m : List Bool = ghash_modulus in
     let a : ℕ = n / 2 ^ 64 in
     let b : ℕ = n % 2 ^ 64 in
-    ap (λ f. f k) (folded_at a b (omega arith) (omega arith)
-    ∙ residue_same ghash_modulus (wide a b) (replicate 64 false ++ of_word n) refl
-    (fun_ext (λ i. moved_half n i small) ∙ sym (fun_ext (coefficient_below 64 (of_word n)))))
-
--- the sums of the high and of the low half words' multiples
-pub two_chains : (p q : List Bool) (a b c : ℕ) → IsReduced p a → IsReduced q b → IsMoved 64 b c
-    → IsReduced (sum p (replicate 64 false ++ q)) (bit_xor a c)
-two_chains p q a b c ha hb moved = reduced_sum p (replicate 64 false ++ q) a c ha
-    (moved_is 64 b c q hb moved)
+    let up : List Bool → List Bool = λ (r : List Bool). replicate 64 false ++ r in
+    let parts : coefficient (wide (bit_xor z a) (bit_xor s b)) ≡ coefficient (sum (wide z s) (wide a b)) =
+    fun_ext (wide_xor z s a b) ∙ sym (sum_is (wide z s) (wide a b)) in
+    let low : coefficient (residue m (wide a b)) ≡ coefficient (residue m (up q)) =
+    residue_same m (wide a b) (up (of_word n)) refl (fun_ext (λ i. moved_half n i small)
+    ∙ sym (fun_ext (coefficient_below 64 (of_word n))))
+    ∙ x_same 64 (of_word n) q (sym (fun_ext (own_residue n)) ∙ fun_ext is) in
+    ap (λ f. f k) (folded_at (bit_xor z a) (bit_xor s b) lz ls
+    ∙ residue_same m (wide (bit_xor z a) (bit_xor s b)) (sum (wide z s) (wide a b)) refl parts
+    ∙ residue_parts (wide z s) (wide a b) ∙ ap₂ sum_of held.1 low ∙ sym (residue_parts p (up q)))
 
 -- a product by its two half words
-pub halves_product : (x h a b c : ℕ) → IsBitsProduct 64 (x / 2 ^ 64) h a → IsBitsProduct 64 x h b
-    → IsMoved 64 b c → IsBitsProduct 128 x h (bit_xor a c)
-halves_product x h a b c ha hb moved =
-    let p : List Bool = product (of_bits 64 (x / 2 ^ 64)) (of_word h) in
-    let q : List Bool = product (of_bits 64 x) (of_word h) in
-    reduced_same (sum p (replicate 64 false ++ q)) (product (of_bits 128 x) (of_word h)) (bit_xor a c)
-    (sym (product_joined 64 64 x h)) (two_chains p q a b c ha hb moved)
+pub halves_product : (x h z : ℕ) → IsReduced (sum (product (of_bits 64 (x / 2 ^ 64)) (of_word h))
+    (replicate 64 false ++ product (of_bits 64 x) (of_word h))) z → IsBitsProduct 128 x h z
+halves_product x h z is =
+    reduced_same (sum (product (of_bits 64 (x / 2 ^ 64)) (of_word h))
+    (replicate 64 false ++ product (of_bits 64 x) (of_word h))) (product (of_bits 128 x) (of_word h)) z
+    (sym (product_joined 64 64 x h)) is

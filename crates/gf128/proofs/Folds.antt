@@ -7,7 +7,7 @@ use Rattle.std.proofs.lemmas.Bool.{cases_lt}
 use Rattle.std.proofs.lemmas.List.{get_or_append_left, get_or-append_right}
 use Rattle.octets.specs.Bits.{bit}
 use Rattle.octets.specs.Polynomial.{coefficient, plus, residue}
-use Rattle.octets.proofs.BitFacts.{bit_of_zero}
+use Rattle.octets.proofs.BitFacts.{bit_of_xor, bit_of_zero}
 use Rattle.octets.proofs.Sequence.{Sequence, sum_of, shift, mult, mult_comm, shift_sum, plus_false}
 use Rattle.octets.proofs.Ring.{residue_of_lower}
 use Rattle.octets.proofs.Reversal.{raised, raised_low, raised_high, times_power, residue_by}
@@ -53,6 +53,24 @@ wide_alone n k = elim (cases_lt k 128) [
 -- the word 0 and the half word 0
 pub wide_none : (k : ℕ) → coefficient (wide 0 0) k ≡ false
 wide_none k = wide_alone 0 k ∙ of_word_zero k
+
+-- sums of words and of half words
+pub wide_xor : (z s a b k : ℕ) → coefficient (wide (bit_xor z a) (bit_xor s b)) k
+    ≡ plus (coefficient (wide z s) k) (coefficient (wide a b) k)
+wide_xor z s a b k = elim (cases_lt k 128) [
+  | inl l ↦ wide_low (bit_xor z a) (bit_xor s b) k l ∙ of_word_xor z a k
+      ∙ sym (ap₂ plus (wide_low z s k l) (wide_low a b k l))
+  | inr l ↦
+      let j : ℕ = k - 128 in
+      let high : (n : ℕ) → j < 64 → coefficient (of_bits 64 n) j ≡ bit n (63 - j) = λ n h. of_bits_at 64 n j h in
+      wide_high (bit_xor z a) (bit_xor s b) k l
+      ∙ elim (cases_lt j 64) [
+        | inl h ↦ high (bit_xor s b) h ∙ bit_of_xor s b (63 - j) ∙ sym (ap₂ plus (high s h) (high b h))
+        | inr h ↦ of_bits_past 64 (bit_xor s b) j h
+            ∙ sym (ap₂ plus (of_bits_past 64 s j h) (of_bits_past 64 b j h))
+      ]
+      ∙ sym (ap₂ plus (wide_high z s k l) (wide_high a b k l))
+]
 
 -- sequences that agree up to a place
 raised_agree : (n : ℕ) (e f : Sequence) (k : ℕ) → ((j : ℕ) → j ≤ k → e j ≡ f j)

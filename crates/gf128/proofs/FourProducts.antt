@@ -17,12 +17,12 @@ use Rattle.octets.proofs.Spelled.{bytes_of_g_bytes, g_bytes_of}
 use Rattle.octets.proofs.Reversal.{raised, raised_low, raised_high, coefficient_below}
 use Rattle.gf128.specs.Ghash.{ghash_modulus}
 use Rattle.gf128.specs.Code.Words.{of_bits, of_word, products, IsReduced, IsWordProduct, IsFourProducts}
-use Rattle.gf128.specs.Code.Words.{IsSpread, IsMoved}
+use Rattle.gf128.specs.Code.Words.{IsSpread}
 use Rattle.gf128.proofs.WordLemmas.{of_word_xor, of_word_zero, of_word-be, g-to_be, word_product}
 use Rattle.gf128.proofs.BitParts.{residue_parts, product_joined, reduced_same, reduced_is}
 use Rattle.gf128.proofs.BitParts.{own_residue}
 use Rattle.gf128.proofs.Folds.{raised_sum}
-use Rattle.gf128.proofs.Chains.{spread_same, two_chains, no_bits}
+use Rattle.gf128.proofs.Chains.{spread_same, no_bits}
 
 -- ---- sums of products, some bits at a time
 
@@ -87,20 +87,18 @@ last_product p t is =
     is
 
 -- all the bits, from the chains of the two half words
-pub products_halves : (l : List (ℕ × ℕ)) (a b c : ℕ) → IsReduced (products 64 (shortened 64 l)) a
-    → IsReduced (products 64 l) b → IsMoved 64 b c
-    → IsReduced (products 128 l) (bit_xor a c)
-products_halves l a b c ha hb moved =
+pub products_halves : (l : List (ℕ × ℕ)) (z : ℕ)
+    → IsReduced (sum (products 64 (shortened 64 l)) (replicate 64 false ++ products 64 l)) z
+    → IsReduced (products 128 l) z
+products_halves l z is =
     reduced_same (sum (products 64 (shortened 64 l)) (replicate 64 false ++ products 64 l)) (products 128 l)
-    (bit_xor a c) (sym (products_joined 64 64 l))
-    (two_chains (products 64 (shortened 64 l)) (products 64 l) a b c ha hb moved)
+    z (sym (products_joined 64 64 l)) is
 
 -- numbers with the same bits
-pub four_parts : (w a b c d p q r e h s t u z : ℕ) → of_bits w p ≡ of_bits w a → of_bits w q ≡ of_bits w b
+pub four_parts : (w a b c d p q r e h s t u : ℕ) → of_bits w p ≡ of_bits w a → of_bits w q ≡ of_bits w b
     → of_bits w r ≡ of_bits w c → of_bits w e ≡ of_bits w d
-    → IsReduced (products w ((p, u) ∷ (q, t) ∷ (r, s) ∷ (e, h) ∷ [])) z
-    → IsReduced (products w ((a, u) ∷ (b, t) ∷ (c, s) ∷ (d, h) ∷ [])) z
-four_parts w a b c d p q r e h s t u z ea eb ec ed is = rw (ea, eb, ec, ed) at is
+    → products w ((p, u) ∷ (q, t) ∷ (r, s) ∷ (e, h) ∷ []) ≡ products w ((a, u) ∷ (b, t) ∷ (c, s) ∷ (d, h) ∷ [])
+four_parts w a b c d p q r e h s t u ea eb ec ed = rw (ea, eb, ec, ed) refl
 
 -- ---- powers of the key
 

@@ -3,7 +3,7 @@
 ghost use Rattle.std.specs.Prelude.{◌≡◌, ℕ, ◌+◌, ◌/◌, ◌^◌, ◌≤◌, Bool, false, List, ◌++◌, replicate};
 ghost use Rattle.octets.specs.Bytes.{le};
 ghost use Rattle.octets.specs.Polynomial.{coefficient, sum};
-ghost use Rattle.gf128.specs.Code.Words.{folded, IsMoved, IsReduced, IsSpread};
+ghost use Rattle.gf128.specs.Code.Words.{folded, IsReduced, IsSpread};
 
 use crate::lanes::Lanes;
 use crate::polynomial_word::{high_half, low_half};
@@ -15,14 +15,6 @@ fn folded(word: u128, spill: u64) -> u128
 {
     let high = u128::from(spill) << 64;
     word ^ (high ^ ((high >> 1) ^ ((high >> 2) ^ (high >> 7))))
-}
-
-// The word times x^64.
-#[inline(always)]
-pub(crate) fn times_x64(word: u128) -> u128
-    ensures { IsMoved 64 word result }
-{
-    folded(word >> 64, low_half(word))
 }
 
 // The sum of a word and x^128 times what fell out below it, which is folded in at the end. That stands in the high
@@ -65,5 +57,15 @@ impl Chain {
         ensures { (d : ℕ) (p : List Bool) → IsSpread d p (le self.word.bytes) (le self.spill.bytes / 2 ^ 64) → IsReduced p result }
     {
         folded(self.word.word(), high_half(self.spill.word()))
+    }
+
+    // The sum and x^64 times a word, reduced: what falls out below both is folded in at once.
+    #[inline(always)]
+    pub(crate) fn reduced_with(self, low: u128) -> u128
+        ensures { (d : ℕ) (p q : List Bool) → IsSpread d p (le self.word.bytes) (le self.spill.bytes / 2 ^ 64)
+            → IsReduced q low → IsReduced (sum p (replicate 64 false ++ q)) result }
+    {
+        let spill = high_half(self.spill.word()) ^ low_half(low);
+        folded(self.word.word() ^ (low >> 64), spill)
     }
 }

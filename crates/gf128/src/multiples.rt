@@ -1,13 +1,14 @@
 // The multiples of a word by two, four and eight bits, each made of two smaller ones. The bit of highest
 // weight is the coefficient of x^0.
 
-ghost use Rattle.std.specs.Prelude.{◌≡◌, ℕ, ◌<◌, slice_index, slice_index_or};
+ghost use Rattle.std.specs.Prelude.{◌≡◌, ℕ, ◌/◌, ◌^◌, ◌<◌, slice_index, slice_index_or};
 ghost use Rattle.std.specs.Int.{w128, to_be_bytes};
 ghost use Rattle.octets.specs.Bytes.{le};
+ghost use Rattle.octets.specs.Polynomial.{product};
 ghost use Rattle.gf128.specs.declared.lanes.Lanes.{Lanes};
-ghost use Rattle.gf128.specs.Code.Words.{IsBitsProduct, IsMoved, IsWordProduct};
+ghost use Rattle.gf128.specs.Code.Words.{of_bits, of_word, IsBitsProduct, IsMoved, IsSpread, IsWordProduct};
 
-use crate::chain::{Chain, times_x64};
+use crate::chain::Chain;
 use crate::lanes::Lanes;
 use crate::polynomial_word::{bytes_of, high_half, low_half, times_x};
 
@@ -146,17 +147,18 @@ pub(crate) trait ByteMultiples {
     fn at(&self, byte: u8) -> Lanes
         ensures { IsBitsProduct 8 byte (factor self.now) (le result.bytes) };
 
-    // The product of a half word and the word.
+    // The product of a half word and the word, not reduced.
     #[inline(always)]
-    fn times_half(&self, half: u64) -> u128
-        ensures { IsBitsProduct 64 half (factor self.now) result }
+    fn times_half(&self, half: u64) -> Chain
+        ensures { IsSpread 64 (product (of_bits 64 half) (of_word (factor self.now))) (le result.word.bytes)
+            (le result.spill.bytes / 2 ^ 64) }
     {
         let bytes = bytes_of(half);
         let mut sum = Chain::empty();
         'places: for i in 0..8usize {
             sum = sum.take_eight(self.at(bytes[i]));
         }
-        sum.reduced()
+        sum
     }
 
     // The product of another word and the word.
@@ -166,7 +168,7 @@ pub(crate) trait ByteMultiples {
     {
         let high = self.times_half(high_half(x));
         let low = self.times_half(low_half(x));
-        high ^ times_x64(low)
+        high.reduced_with(low.reduced())
     }
 }
 

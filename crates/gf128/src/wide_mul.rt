@@ -4,11 +4,11 @@ ghost use Rattle.std.specs.Prelude.{◌≡◌, ℕ, ◌+◌, ◌*◌, ◌/◌, �
 ghost use Rattle.std.specs.Int.{w128, to_be_bytes};
 ghost use Rattle.octets.specs.Bytes.{le};
 ghost use Rattle.octets.specs.Polynomial.{power};
-ghost use Rattle.gf128.specs.Code.Words.{of_word, products, IsReduced};
+ghost use Rattle.gf128.specs.Code.Words.{of_word, products, IsReduced, IsSpread};
 ghost use Rattle.gf128.specs.Orders.{reading};
 
 use crate::byte_order::ByteOrder;
-use crate::chain::{Chain, times_x64};
+use crate::chain::Chain;
 use crate::lanes::Lanes;
 use crate::multiples::{ByteMultiples, Multiples256};
 use crate::polynomial_word::{block_of, bytes_of, high_half, low_half, word_of};
@@ -43,7 +43,7 @@ impl WideMul {
     }
 
     // The sum of a half word times the fourth power of the key, and of half the words of three blocks, from place `from`
-    // on, times the third, the second and the key. Their bytes are read from the blocks, which is one instruction each:
+    // on, times the third, the second and the key, not reduced. Their bytes are read from the blocks, which is one instruction each:
     // a shift of a word down to a byte is two or three.
     #[inline(always)]
     fn four_halves<O: ByteOrder>(
@@ -53,13 +53,13 @@ impl WideMul {
         c: &[u8; 16],
         d: &[u8; 16],
         from: usize,
-    ) -> u128
+    ) -> Chain
         requires { from + 8 ≤ 16 }
         ensures { let s = self.now in let o = O.order in (x y z : ℕ) → of_word x ≡ reading o b.now
             → of_word y ≡ reading o c.now → of_word z ≡ reading o d.now
-            → IsReduced (products 64 ((a, s.fourth.word) ∷ (x / 2 ^ (8 * from), s.third.word)
+            → IsSpread 64 (products 64 ((a, s.fourth.word) ∷ (x / 2 ^ (8 * from), s.third.word)
             ∷ (y / 2 ^ (8 * from), s.second.word) ∷ (z / 2 ^ (8 * from), s.first.word) ∷ []))
-            result }
+            (le result.word.bytes) (le result.spill.bytes / 2 ^ 64) }
     {
         let a_bytes = bytes_of(a);
         let mut sum = Chain::empty();
@@ -71,7 +71,7 @@ impl WideMul {
                 O::byte_at(d, from + i),
             ));
         }
-        sum.reduced()
+        sum
     }
 }
 
@@ -86,12 +86,13 @@ impl Multiply for WideMul {
         self.first.times_word(x)
     }
 
+    #[inline(always)]
     fn times_blocks<O: ByteOrder>(&self, sum: u128, blocks: &[[u8; 16]; 4]) -> u128 {
         let first = sum ^ O::word_of(&blocks[0]);
         let (b, c, d) = (&blocks[1], &blocks[2], &blocks[3]);
         let high = self.four_halves::<O>(high_half(first), b, c, d, 8);
         let low = self.four_halves::<O>(low_half(first), b, c, d, 0);
-        high ^ times_x64(low)
+        high.reduced_with(low.reduced())
     }
 }
 

@@ -1,5 +1,5 @@
 use Rattle.std.proofs.Common.{◌≡◌, ℕ, suc, ◌+◌, ◌*◌, ◌/◌, ◌%◌, ◌<◌, ◌∙◌, ap, sym, arith, List, [], ◌++◌}
-use Rattle.std.proofs.Common.{length, get_or}
+use Rattle.std.proofs.Common.{length, get_or, rules}
 use Rattle.std.proofs.lemmas.List.{length-append}
 use Rattle.octets.specs.Bytes.{block_at, IsBlock}
 use Rattle.octets.proofs.Blocks.{next_block, four_at, after_fours}
@@ -33,7 +33,7 @@ fours-preserved x c = λ h m whole held.
     c.as_chunks.ensures.front_len c.as_chunks-2.ensures.front small l in
     let block : (j : ℕ) → j < 4 → IsBlock (b j) = λ j l.
     rw (own j l) (block_within blocks (i * 4 + j) (omega (arith, small, l, c.as_chunks.ensures.front_len))
-    (λ k. (c.type_inv.blocks k).fits)) in
+    (λ k. search rules)) in
     let is : (j : ℕ) → j < 4 → of_word (word_for o (b j)) ≡ reading o (b j) = λ j l.
     word_for_reads o (b j) (block j l) in
     let place : (j : ℕ) → q + (i * 4 + j) ≡ q + i * 4 + j = λ j. omega arith in

@@ -1,7 +1,7 @@
-use Rattle.std.proofs.Common.{◌≡◌, ℕ, ◌+◌, ◌*◌, ◌/◌, ◌^◌, ◌<◌, List, Bool, arith}
+use Rattle.std.proofs.Common.{◌≡◌, ℕ, ◌+◌, ◌*◌, ◌/◌, ◌^◌, ◌<◌, arith}
 use Rattle.octets.specs.Polynomial.{product}
 use Rattle.octets.specs.Bytes.{le}
-use Rattle.gf128.specs.Code.Words.{of_bits, of_word, IsSpread, IsBitsProduct}
+use Rattle.gf128.specs.Code.Words.{of_bits, of_word, IsBitsProduct}
 use Rattle.gf128.proofs.Chains.{no_bits, factor_more}
 use Rattle.gf128.proofs.multiples.ByteMultiples.times_half.Goals as goal
 
@@ -26,7 +26,5 @@ places-preserved g c =
 
 pub returns : goal.returns
 returns g c =
-    let p : List Bool = product (of_bits 64 c.args.half) (of_word (g.Self.ByteMultiples.factor c.args.self.now)) in
     let end : 8 * c.places.i ≡ 64 = omega (arith, c.places-test.false, c.places.auto.i-end) in
-    let all : IsSpread 64 p (le c.places.sum.word.bytes) (le c.places.sum.spill.bytes / 2 ^ 64) = rw end at c.places.invariant in
-    c.reduced.ensures 64 p all
+    rw end at c.places.invariant

@@ -1,6 +1,7 @@
-use Rattle.std.proofs.Common.{◌≡◌, ℕ, ◌/◌, ◌%◌, ◌^◌, List, [], ◌∷◌, arith, bit_xor, ap, refl, sym, ◌∙◌}
+use Rattle.std.proofs.Common.{◌≡◌, ℕ, ◌/◌, ◌%◌, ◌^◌, List, [], ◌∷◌, arith, bit_xor, ap, refl, sym, subst, ◌∙◌}
 use Rattle.std.proofs.Math.Nat.{div-one}
-use Rattle.gf128.specs.Code.Words.{of_bits, products, IsReduced}
+use Rattle.octets.specs.Bytes.{le}
+use Rattle.gf128.specs.Code.Words.{of_bits, products, IsReduced, IsSpread}
 use Rattle.gf128.proofs.BitParts.{bits_low}
 use Rattle.gf128.proofs.FourBlocks.{four_same, same_sum}
 use Rattle.gf128.proofs.FourProducts.{shortened, products_halves, four_parts, four_products}
@@ -20,18 +21,19 @@ returns g c = λ a b c' d ea eb ec ed.
     let x : ℕ = bit_xor c.args.sum c.word_of.result in
     let all : List (ℕ × ℕ) = (x, u) ∷ (b, t) ∷ (c', s) ∷ (d, h) ∷ [] in
     let up : ℕ → ℕ = λ (n : ℕ). n / 2 ^ 64 in
-    let high : IsReduced (products 64 (shortened 64 all)) c.four_halves-high.result =
-    four_parts 64 (up x) (up b) (up c') (up d) c.high_half.result (up b) (up c') (up d) h s t u
-    c.four_halves-high.result (ap (of_bits 64) c.high_half.ensures) refl refl refl
-    (c.four_halves-high.ensures b c' d eb ec ed) in
+    let z : ℕ = c.reduced_with.result in
+    let high = subst (λ l. IsSpread 64 l (le c.four_halves-high.result.word.bytes)
+    (le c.four_halves-high.result.spill.bytes / 2 ^ 64))
+    (four_parts 64 (up x) (up b) (up c') (up d) c.high_half.result (up b) (up c') (up d) h s t u
+    (ap (of_bits 64) c.high_half.ensures) refl refl refl) (c.four_halves-high.ensures b c' d eb ec ed) in
     let whole : (n : ℕ) → of_bits 64 (n / 1) ≡ of_bits 64 n = λ n. ap (of_bits 64) (div-one n) in
-    let low : IsReduced (products 64 all) c.four_halves-low.result =
-    four_parts 64 x b c' d c.low_half.result (b / 1) (c' / 1) (d / 1) h s t u c.four_halves-low.result
-    (low_bits x c.low_half.result c.low_half.ensures) (whole b) (whole c') (whole d)
-    (c.four_halves-low.ensures b c' d eb ec ed) in
-    four_same (bit_xor c.args.sum a) b c' d x b c' d (bit_xor c.four_halves-high.result c.times_x64.result) _
+    let low : IsReduced (products 64 all) c.reduced.result =
+    c.reduced.ensures 64 (products 64 all) (subst (λ l. IsSpread 64 l (le c.four_halves-low.result.word.bytes)
+    (le c.four_halves-low.result.spill.bytes / 2 ^ 64))
+    (four_parts 64 x b c' d c.low_half.result (b / 1) (c' / 1) (d / 1) h s t u
+    (low_bits x c.low_half.result c.low_half.ensures) (whole b) (whole c') (whole d))
+    (c.four_halves-low.ensures b c' d eb ec ed)) in
+    four_same (bit_xor c.args.sum a) b c' d x b c' d z _
     (same_sum c.args.sum c.word_of.result a (c.word_of.ensures ∙ sym ea)) refl refl refl
-    (four_products x b c' d h s t u (bit_xor c.four_halves-high.result c.times_x64.result)
-    self.second_power self.third_power self.fourth_power
-    (products_halves all c.four_halves-high.result c.four_halves-low.result c.times_x64.result high low
-    c.times_x64.ensures))
+    (four_products x b c' d h s t u z self.second_power self.third_power self.fourth_power
+    (products_halves all z (c.reduced_with.ensures 64 (products 64 (shortened 64 all)) (products 64 all) high low)))
