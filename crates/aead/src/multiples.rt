@@ -1,7 +1,7 @@
 // How many multiples of its key a hash takes.
 
 // From so many bytes on, those of four powers of the key are worth their making.
-const LONG: u64 = 768;
+const LONG: u64 = 704;
 
 // The multiples of its key that a hash takes, made anew for a text or a piece.
 #[derive(Clone, Copy)]

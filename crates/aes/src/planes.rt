@@ -1,23 +1,21 @@
 // Sixteen blocks at once in eight planes of bits: bit j of the byte in row r and column c of block q is in
 // plane j, in lane 16 (q / 8) + 4 r + c, at bit q mod 8.
 
-ghost use Rattle.std.specs.Prelude.{◌≡◌, ℕ, ◌<◌, ◌+◌, ◌-◌, ◌*◌, ◌/◌, ◌%◌, ◌==◌, ◌≤◌, if◌then◌else◌};
-ghost use Rattle.std.specs.Prelude.{slice_index, slice_index_or, bit_xor, length, []};
-ghost use Rattle.std.specs.Int.{bit_at, to_le_bytes, w128};
-ghost use Rattle.aes.specs.Field.{times};
-ghost use Rattle.std.specs.Prelude.{List};
+ghost use Rattle.std.specs.Prelude.{◌≡◌, ℕ, ◌<◌, ◌+◌, ◌-◌, ◌*◌, ◌/◌, ◌%◌, ◌==◌, if◌then◌else◌};
+ghost use Rattle.std.specs.Prelude.{List, [], slice_index, slice_index_or, bit_xor, length};
+ghost use Rattle.std.specs.Int.{bit_at};
 ghost use Rattle.octets.specs.Bytes.{IsBlock};
-ghost use Rattle.aes.specs.Columns.{columns_of};
+ghost use Rattle.aes.specs.Field.{times};
 ghost use Rattle.aes.specs.Cipher.{sub_bytes, shift_rows, mix_columns, add_round_key};
 ghost use Rattle.aes.specs.Code.Lanes.{linear_sbox, key_byte, HoldsBlocks};
-ghost use Rattle.aes.specs.Code.Planes.{HoldsBits, HoldsEight, HoldsLanes, HoldsSixteen, HoldsWords, spot, word_byte, masked_byte, AreReady, HasByteBits};
+ghost use Rattle.aes.specs.Code.Planes.{HoldsBits, HoldsEight, HoldsLanes, HoldsSixteen, spot, HasByteBits};
 
 use std::simd::prelude::*;
 use std::simd::{u8x16, u8x32, u8x64};
 
 pub(crate) type Planes = [u8x32; 8];
 
-// The first 16 lanes of them, which are eight blocks, or the other 16.
+// The first 16 lanes of them, which are eight blocks, or the last 16.
 pub(crate) type HalfPlanes = [u8x16; 8];
 
 // The lane from which ShiftRows brings each lane.

@@ -43,8 +43,8 @@ impl WideMul {
     }
 
     // The sum of a half word times the fourth power of the key, and of half the words of three blocks, from place `from`
-    // on, times the third, the second and the key, not reduced. Their bytes are read from the blocks, which is one instruction each:
-    // a shift of a word down to a byte is two or three.
+    // on, times the third, the second and the key, not reduced. A byte of a block is read from memory, which takes one
+    // instruction; to get it from a word takes two or three.
     #[inline(always)]
     fn four_halves<O: ByteOrder>(
         &self,
