@@ -71,12 +71,18 @@ static int agree(const struct kind *kind, const struct message *m) {
 }
 
 /* Seals `count` messages and opens them, and lowers `best` to the nanoseconds of a message. It does so four
-   times, since the first one finds cold caches and wide vectors that sleep. */
+   times, since the first one finds cold caches and wide vectors that sleep, each time at another depth of the
+   stack: processors take a load for one of what was just stored at the same offset in another page, so that in
+   places the stack is in the way of the message or of constants. */
 static void pass(const struct party *party, const struct kind *kind, size_t count, double best[2]) {
+    static size_t depth;
     for (int turn = 0; turn < 8; turn++) {
         enum direction direction = turn % 2 == 0 ? SEALING : OPENING;
+        if (direction == SEALING) depth = (depth + 17 * 16) % 4096;
+        volatile uint8_t room[depth + 1];
+        room[depth] = (uint8_t)turn;
         struct timespec start, end;
-        int able = 1;
+        int able = room[depth] == turn;
         clock_gettime(CLOCK_MONOTONIC, &start);
         for (size_t i = 0; i < count; i++) able &= party->act(kind, &messages[i], direction);
         clock_gettime(CLOCK_MONOTONIC, &end);
