@@ -72,8 +72,8 @@ static int agree(const struct kind *kind, const struct message *m) {
 
 /* Seals `count` messages and opens them, and lowers `best` to the nanoseconds of a message. It does so four
    times, since the first one finds cold caches and wide vectors that sleep, each time at another depth of the
-   stack: processors take a load for one of what was just stored at the same offset in another page, so that in
-   places the stack is in the way of the message or of constants. */
+   stack: some depths are slow, the same ones in each 4 KiB, likely since a load waits for a store before it at
+   the same offset in another page. */
 static void pass(const struct party *party, const struct kind *kind, size_t count, double best[2]) {
     static size_t depth;
     for (int turn = 0; turn < 8; turn++) {
