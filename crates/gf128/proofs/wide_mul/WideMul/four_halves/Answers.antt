@@ -32,7 +32,8 @@ places-preserved g c = λ x y z ex ey ez.
     let down : ℕ → ℕ = λ (n : ℕ). n / 2 ^ d in
     let small : i < 8 = c.places-test.true in
     let part : IsReduced (products 8 (shortened d all)) (le c.four_multiples.result.bytes) =
-    subst (λ l. IsReduced l (le c.four_multiples.result.bytes)) (four_parts 8 (down c.args.a) (down (up x)) (down (up y)) (down (up z)) (slice_index c.bytes_of-a_bytes.result i)
+    subst (λ l. IsReduced l (le c.four_multiples.result.bytes)) (four_parts 8 (down c.args.a) (down (up x)) (down (up y)) (down (up z))
+    (slice_index c.bytes_of-a_bytes.result i)
     c.byte_at.result c.byte_at-in-places.result c.byte_at-in-places-2.result h s t u
     (c.bytes_of-a_bytes.ensures i small)
     (byte_above c.byte_at.result from i (from + i) x refl (c.byte_at.ensures x ex))
