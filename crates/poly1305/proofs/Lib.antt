@@ -1,5 +1,5 @@
 pub mod Products
-pub mod Chunks
+pub mod Halves
 pub mod Texts
 pub mod Vectors
 pub mod PartialSums

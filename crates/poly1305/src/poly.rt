@@ -6,7 +6,7 @@ ghost use Rattle.poly1305.specs.Poly1305.{block_number};
 use crate::Multiplier;
 use crate::partial_sum::PartialSum;
 use crate::residue::{Residue, Sum};
-use crate::side_by_side::{CHUNK, far_factor, over_chunk};
+use crate::side_by_side::{PAYS, far_factor, over_halves};
 use octets::{Absorb, Pieces, Stream, Tag, le_bytes};
 
 // The bits of r that the clamping keeps (RFC 8439, 2.5).
@@ -26,11 +26,13 @@ impl<M: Multiplier> Absorb for PolySum<M> {
     ghost absorbed = { λ c k m. PolySumHolds M.factor c k m };
 
     fn absorb(&mut self, blocks: &[u8]) {
-        let long = blocks.len() / CHUNK * CHUNK;
-        if long > 0 {
-            self.absorb_chunks(&blocks[..long]);
+        if blocks.len() < PAYS {
+            self.absorb_blocks(blocks);
+            return;
         }
-        self.absorb_blocks(&blocks[long..]);
+        let half = blocks.len() / 32 * 16;
+        self.absorb_halves(&blocks[..half], &blocks[half..2 * half]);
+        self.absorb_blocks(&blocks[2 * half..]);
     }
 
     fn absorb_beside<S: Stream>(&mut self, blocks: &[u8], stream: &mut S, bytes: &mut [u8]) {
@@ -61,19 +63,17 @@ impl<M: Multiplier> PolySum<M> {
         self.sum = sum.residue();
     }
 
-    // Takes in whole chunks.
+    // Takes in the whole blocks of two halves, which are equally long.
     #[inline(never)]
-    fn absorb_chunks(&mut self, blocks: &[u8])
-        requires { length blocks.now % 2048 ≡ 0 }
+    fn absorb_halves(&mut self, front: &[u8], back: &[u8])
+        requires some { 0 < length front.now }
+        requires whole { length front.now % 16 ≡ 0 }
+        requires same { length back.now ≡ length front.now }
         ensures { (k m : List ℕ) → length m % 16 ≡ 0 → PolySumHolds M.factor self.old k m
-            → PolySumHolds M.factor self.new k (m ++ blocks.now) }
+            → PolySumHolds M.factor self.new k (m ++ (front.now ++ back.now)) }
     {
-        let far = far_factor(&self.multiplier);
-        let (chunks, _) = blocks.as_chunks::<2048>();
-        let mut sum = self.sum.sum();
-        'chunks: for chunk in chunks {
-            sum = over_chunk(&self.multiplier, sum, far, chunk);
-        }
+        let far = far_factor(&self.multiplier, front.len() / 16);
+        let sum = over_halves(&self.multiplier, self.sum.sum(), far, front, back);
         self.sum = sum.residue();
     }
 }
