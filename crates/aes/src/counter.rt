@@ -333,9 +333,9 @@ impl<C: Count> Counter<C> {
             self.take([a, b, c, d].as_flattened(), bytes);
             return;
         }
-        // A whole run is XORed from registers.
+        // A whole run is XORed from registers, where its length is a constant.
         self.begun = self.begun.wrapping_add(16);
-        xor_fours(bytes, &a, &b, &c, &d);
+        xor_fours(&mut bytes[..256], &a, &b, &c, &d);
     }
 
     // XORs in runs of sixteen blocks, the last one perhaps in part, while they pay, and returns how many bytes were

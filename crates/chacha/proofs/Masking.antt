@@ -273,6 +273,26 @@ run_more f p a k r was mid now whole room held done =
     ∙ sym (append_assoc (masked f p u) (masked f (p + a) (take r d)) (drop r d))
     ∙ ap₂ (λ (x y : List ℕ). x ++ y) (sym taken) (drop-drop r a was)
 
+-- a run more: the k bytes after the first a
+pub whole_run_more : (f : ℕ → ℕ) (p a k : ℕ) (was mid now : List ℕ) → a ≤ length was
+    → mid ≡ masked f p (take a was) ++ drop a was
+    → now ≡ masked f (p + a) (take k (drop a mid))
+    → put_mid a k mid now ≡ masked f p (take (a + k) was) ++ drop (a + k) was
+whole_run_more f p a k was mid now within held done =
+    let u = take a was in
+    let d = drop a was in
+    let len : length u ≡ a = length-take-le a was within in
+    let size : length (masked f p u) ≡ a = length-masked f p u ∙ len in
+    let front : take a mid ≡ masked f p u = ap (take a) held ∙ take_at (masked f p u) d a size in
+    let back : drop a mid ≡ d = ap (drop a) held ∙ drop_at (masked f p u) d a size in
+    let taken : masked f p (take (a + k) was) ≡ masked f p u ++ masked f (p + a) (take k d) =
+    ap (masked f p) (take-add a k was) ∙ masked-append f p u (take k d) ∙ ap (λ (n : ℕ). masked f p u
+    ++ masked f (p + n) (take k d)) len in
+    ap₂ (λ (x y : List ℕ). x ++ y) front
+    (ap₂ (λ (x y : List ℕ). x ++ y) (done ∙ ap (λ l. masked f (p + a) (take k l)) back) (ap (drop k) back))
+    ∙ sym (append_assoc (masked f p u) (masked f (p + a) (take k d)) (drop k d))
+    ∙ ap₂ (λ (x y : List ℕ). x ++ y) (sym taken) (drop-drop k a was)
+
 -- all runs
 pub all_runs : (f : ℕ → ℕ) (p n : ℕ) (was : List ℕ) → length was ≤ n → masked f p (take n was) ++ drop n was
     ≡ masked f p was

@@ -1,11 +1,11 @@
 // Several blocks at once, one in each lane.
 
-ghost use Rattle.std.specs.Prelude.{◌≡◌, ℕ, ◌+◌, ◌%◌, ◌^◌, ◌<◌, ◌≤◌, ◌∷◌, ◌++◌, [], List, length};
+ghost use Rattle.std.specs.Prelude.{◌≡◌, ℕ, ◌+◌, ◌/◌, ◌%◌, ◌^◌, ◌<◌, ◌≤◌, ◌∷◌, ◌++◌, [], List, length};
 ghost use Rattle.std.specs.Prelude.{take, drop, slice_index, slice_set, bit_xor};
 ghost use Rattle.std.specs.Int.{w32, rotate_left};
 ghost use Rattle.octets.specs.Bytes.{xor_bytes};
 ghost use Rattle.octets.specs.Masked.{masked};
-ghost use Rattle.chacha.specs.Block.{add_xor_rotate, quarter_round, double_rounds, added, serialized, block};
+ghost use Rattle.chacha.specs.Block.{add_xor_rotate, quarter_round, double_rounds, added, serialized, initial_state, block};
 ghost use Rattle.chacha.specs.Code.Lanes.{lane, HasBlocks};
 ghost use Rattle.chacha.specs.Code.Halves.{half_columns, half_diagonals};
 ghost use Rattle.chacha.specs.Stream.{key_stream_byte};
@@ -157,23 +157,24 @@ pub(crate) fn set_starts<const N: usize>(
     x[12] = counters;
 }
 
-// Each lane gets the words of the block of its counter.
+// The words of the blocks that start from the states in the lanes, which then count on by as many as there are lanes.
 #[inline(always)]
-fn set_blocks<const N: usize, W: Work>(
-    x: &mut [Simd<u32, N>; 16],
-    key: &Key32,
-    counters: Simd<u32, N>,
-    nonce: &Nonce,
+fn next_blocks<const N: usize, W: Work>(
+    start: &mut [Simd<u32, N>; 16],
     work: &mut W,
-)
-    ensures blocks { (j : ℕ) → j < N
-        → serialized (lane j x.new) ≡ block key.now (slice_index counters.entry j) nonce.now }
+) -> [Simd<u32, N>; 16]
+    requires { N < 2 ^ 32 }
+    ensures blocks { (j : ℕ) → j < N → (key nonce : List ℕ) (n : ℕ) → lane j start.old ≡ initial_state key n nonce
+        → serialized (lane j result) ≡ block key n nonce }
+    ensures counts { (j : ℕ) → j < N → (key nonce : List ℕ) (n : ℕ) → lane j start.old ≡ initial_state key n nonce
+        → lane j start.new ≡ initial_state key ((n + N) % 2 ^ 32) nonce }
     ensures work { (k m : List ℕ) → W.comes_to work.old k m → W.comes_to work.new k m }
 {
-    set_starts(x, &initial_state(key, 0, nonce), counters);
-    let start = *x;
-    ten_rounds(x, work);
-    add(x, &start);
+    let mut x = *start;
+    ten_rounds(&mut x, work);
+    add(&mut x, start);
+    start[12] = sum(start[12], Simd::splat(N as u32));
+    x
 }
 
 // Four counters, one in each lane.
@@ -201,30 +202,6 @@ pub(crate) fn eight_counters(counter: u32) -> u32x8
         counter + 6,
         counter + 7,
     ])
-}
-
-// The words of the four blocks, one block in each lane.
-#[inline(always)]
-fn four_lanes<W: Work>(key: &Key32, counter: u32, nonce: &Nonce, work: &mut W) -> [u32x4; 16]
-    requires { counter + 3 < 2 ^ 32 }
-    ensures blocks { HasBlocks 4 result key.now counter nonce.now }
-    ensures work { (k m : List ℕ) → W.comes_to work.old k m → W.comes_to work.new k m }
-{
-    let mut x = [u32x4::splat(0); 16];
-    set_blocks(&mut x, key, four_counters(counter), nonce, work);
-    x
-}
-
-// The words of the eight blocks, one block in each lane.
-#[inline(always)]
-fn eight_lanes<W: Work>(key: &Key32, counter: u32, nonce: &Nonce, work: &mut W) -> [u32x8; 16]
-    requires { counter + 7 < 2 ^ 32 }
-    ensures blocks { HasBlocks 8 result key.now counter nonce.now }
-    ensures work { (k m : List ℕ) → W.comes_to work.old k m → W.comes_to work.new k m }
-{
-    let mut x = [u32x8::splat(0); 16];
-    set_blocks(&mut x, key, eight_counters(counter), nonce, work);
-    x
 }
 
 // The first four lanes of a vector, and the last four.
@@ -410,38 +387,65 @@ pub(crate) fn xor_eight_written(x: &[u32x8; 16], bytes: &mut [u8])
     );
 }
 
-// XORs the first 256 bytes of the key stream from a counter on, and does forty steps of other work. It is a
-// function of its own, since its frame would slow down runs of eight blocks.
+// XORs the key stream from a counter on into whole runs of 256 bytes, and does forty steps of other work in each. The
+// states from which blocks start are made once. It is a function of its own, since its frame would slow down runs of
+// eight blocks.
 #[inline(never)]
-pub(crate) fn xor_four_blocks<W: Work>(
+pub(crate) fn xor_fours<W: Work>(
     key: &Key32,
     counter: u32,
     nonce: &Nonce,
     bytes: &mut [u8],
     work: &mut W,
 )
-    requires counters { counter + 3 < 2 ^ 32 }
-    requires size { length bytes.old ≡ 256 }
+    requires some { 256 ≤ length bytes.old }
+    requires whole { length bytes.old % 256 ≡ 0 }
+    requires counters { counter + length bytes.old / 64 ≤ 2 ^ 32 }
     ensures masked { bytes.new ≡ masked (key_stream_byte key.now nonce.now counter) 0 bytes.old }
     ensures work { (k m : List ℕ) → W.comes_to work.old k m → W.comes_to work.new k m }
 {
-    let x = four_lanes(key, counter, nonce, work);
-    xor_written(&x, bytes);
+    let mut own = *work;
+    let mut start = [u32x4::splat(0); 16];
+    set_starts(
+        &mut start,
+        &initial_state(key, 0, nonce),
+        four_counters(counter),
+    );
+    let mut done = 0;
+    'runs: while done < bytes.len() {
+        let x = next_blocks(&mut start, &mut own);
+        xor_written(&x, &mut bytes[done..done + 256]);
+        done += 256;
+    }
+    *work = own;
 }
 
-// XORs the first 512 bytes of the key stream from a counter on, and does forty steps of other work.
-pub(crate) fn xor_eight_blocks<W: Work>(
+// XORs the key stream from a counter on into whole runs of 512 bytes, and does forty steps of other work in each.
+pub(crate) fn xor_eights<W: Work>(
     key: &Key32,
     counter: u32,
     nonce: &Nonce,
     bytes: &mut [u8],
     work: &mut W,
 )
-    requires counters { counter + 7 < 2 ^ 32 }
-    requires size { length bytes.old ≡ 512 }
+    requires some { 512 ≤ length bytes.old }
+    requires whole { length bytes.old % 512 ≡ 0 }
+    requires counters { counter + length bytes.old / 64 ≤ 2 ^ 32 }
     ensures masked { bytes.new ≡ masked (key_stream_byte key.now nonce.now counter) 0 bytes.old }
     ensures work { (k m : List ℕ) → W.comes_to work.old k m → W.comes_to work.new k m }
 {
-    let x = eight_lanes(key, counter, nonce, work);
-    xor_eight_written(&x, bytes);
+    let mut own = *work;
+    let mut start = [u32x8::splat(0); 16];
+    set_starts(
+        &mut start,
+        &initial_state(key, 0, nonce),
+        eight_counters(counter),
+    );
+    let mut done = 0;
+    'runs: while done < bytes.len() {
+        let x = next_blocks(&mut start, &mut own);
+        xor_eight_written(&x, &mut bytes[done..done + 512]);
+        done += 512;
+    }
+    *work = own;
 }

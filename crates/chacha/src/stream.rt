@@ -103,7 +103,7 @@ pub fn key_stream_start<const N: usize>(key: &Key32, nonce: &Nonce) -> [u8; N]
     let mut start = [0; N];
     match N {
         128 => start.copy_from_slice(rows::two_blocks(key, 0, nonce).as_flattened()),
-        256 => lanes::xor_four_blocks(key, 0, nonce, &mut start, &mut Idle::new()),
+        256 => lanes::xor_fours(key, 0, nonce, &mut start, &mut Idle::new()),
         320 => row_beside::xor_five_blocks(key, 0, nonce, &mut start, &mut Idle::new()),
         576 => row_beside::xor_nine_blocks(key, 0, nonce, &mut start),
         _ => xor_stream(key, nonce, 0, &mut start, &mut Idle::new()),
@@ -137,16 +137,18 @@ fn xor_run<W: Work>(key: &Key32, nonce: &Nonce, place: u64, bytes: &mut [u8], wo
     let counter = (place / 64) as u32;
     let skip = (place % 64) as usize;
     if WIDE && skip == 0 && bytes.len() >= 512 {
-        lanes::xor_eight_blocks(key, counter, nonce, &mut bytes[..512], work);
-        return 512;
+        let whole = bytes.len() / 512 * 512;
+        lanes::xor_eights(key, counter, nonce, &mut bytes[..whole], work);
+        return whole;
     }
     if !WIDE && skip == 0 && bytes.len() >= 256 {
-        lanes::xor_four_blocks(key, counter, nonce, &mut bytes[..256], work);
-        return 256;
+        let whole = bytes.len() / 256 * 256;
+        lanes::xor_fours(key, counter, nonce, &mut bytes[..whole], work);
+        return whole;
     }
     if WIDE && skip + bytes.len() > 320 && counter <= u32::MAX - 7 {
         let mut stream = [0; 512];
-        lanes::xor_eight_blocks(key, counter, nonce, &mut stream, work);
+        lanes::xor_eights(key, counter, nonce, &mut stream, work);
         return xor_part(&stream, skip, bytes);
     }
     // Five blocks take hardly longer than four.
@@ -157,7 +159,7 @@ fn xor_run<W: Work>(key: &Key32, nonce: &Nonce, place: u64, bytes: &mut [u8], wo
     }
     if skip + bytes.len() > 128 && counter <= u32::MAX - 3 {
         let mut stream = [0; 256];
-        lanes::xor_four_blocks(key, counter, nonce, &mut stream, work);
+        lanes::xor_fours(key, counter, nonce, &mut stream, work);
         return xor_part(&stream, skip, bytes);
     }
     // Two blocks by rows take no longer than one.

@@ -11,7 +11,7 @@ returns-in-128 g c = λ i l.
 
 pub returns-in-256 : goal.returns-in-256
 returns-in-256 g c = λ i l.
-    ap (λ s. get_or s i 0) c.xor_four_blocks.ensures.masked
+    ap (λ s. get_or s i 0) c.xor_fours.ensures.masked
     ∙ bytes_of_zeros (key_stream_byte c.args.key.now c.args.nonce.now 0) g.row.N i l
 
 pub returns-in-320 : goal.returns-in-320

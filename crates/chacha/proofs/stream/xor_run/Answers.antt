@@ -1,24 +1,26 @@
-use Rattle.std.proofs.Common.{◌++◌, ◌∙◌, ap, arith, take, drop}
+use Rattle.std.proofs.Common.{ℕ, ◌*◌, ◌/◌, ◌++◌, ◌∙◌, ap, arith, length, take, drop}
 use Rattle.chacha.proofs.Masking.{whole_blocks, run_of_zeros, run_of_two, run_of_block}
 use Rattle.chacha.proofs.stream.xor_run.Goals as goal
 
 pub returns-then-bytes-ge512-clause-masked : goal.returns-then-bytes-ge512-clause-masked
 returns-then-bytes-ge512-clause-masked g c =
-    ap (λ l. l ++ drop 512 c.args.bytes.now)
-    (c.xor_eight_blocks.ensures.masked
-    ∙ whole_blocks c.args.key.now c.args.nonce.now c.args.place (take 512 c.args.bytes.now) (omega arith))
+    let n : ℕ = length c.args.bytes.now / 512 * 512 in
+    ap (λ l. l ++ drop n c.args.bytes.now)
+    (c.xor_eights.ensures.masked
+    ∙ whole_blocks c.args.key.now c.args.nonce.now c.args.place (take n c.args.bytes.now) (omega arith))
 
 pub returns-then-bytes-ge256-clause-masked : goal.returns-then-bytes-ge256-clause-masked
 returns-then-bytes-ge256-clause-masked g c =
-    ap (λ l. l ++ drop 256 c.args.bytes.now)
-    (c.xor_four_blocks.ensures.masked
-    ∙ whole_blocks c.args.key.now c.args.nonce.now c.args.place (take 256 c.args.bytes.now) (omega arith))
+    let n : ℕ = length c.args.bytes.now / 256 * 256 in
+    ap (λ l. l ++ drop n c.args.bytes.now)
+    (c.xor_fours.ensures.masked
+    ∙ whole_blocks c.args.key.now c.args.nonce.now c.args.place (take n c.args.bytes.now) (omega arith))
 
 pub returns-then-counter-clause-masked : goal.returns-then-counter-clause-masked
 returns-then-counter-clause-masked g c =
     run_of_zeros c.args.key.now c.args.nonce.now c.args.place 512 c.xor_part.result c.args.bytes.now
-    c.xor_eight_blocks-then-counter.new.bytes _
-    c.xor_eight_blocks-then-counter.ensures.masked c.xor_eight_blocks-then-counter.auto.bytes
+    c.xor_eights-then-counter.new.bytes _
+    c.xor_eights-then-counter.ensures.masked c.xor_eights-then-counter.auto.bytes
     c.xor_part.ensures.count c.xor_part.ensures.xored
 
 pub returns-then-counter-2-clause-masked : goal.returns-then-counter-2-clause-masked
@@ -31,8 +33,8 @@ returns-then-counter-2-clause-masked g c =
 pub returns-then-counter-3-clause-masked : goal.returns-then-counter-3-clause-masked
 returns-then-counter-3-clause-masked g c =
     run_of_zeros c.args.key.now c.args.nonce.now c.args.place 256 c.xor_part-then-counter-3.result
-    c.args.bytes.now c.xor_four_blocks-then-counter-3.new.bytes _
-    c.xor_four_blocks-then-counter-3.ensures.masked c.xor_four_blocks-then-counter-3.auto.bytes c.xor_part-then-counter-3.ensures.count
+    c.args.bytes.now c.xor_fours-then-counter-3.new.bytes _
+    c.xor_fours-then-counter-3.ensures.masked c.xor_fours-then-counter-3.auto.bytes c.xor_part-then-counter-3.ensures.count
     c.xor_part-then-counter-3.ensures.xored
 
 pub returns-then-counter-4-clause-masked : goal.returns-then-counter-4-clause-masked

@@ -1,6 +1,6 @@
-use Rattle.std.proofs.Common.{◌≡◌, ℕ, ◌+◌, ◌/◌, ◌%◌, ◌^◌, List, ◌++◌, ◌∙◌, ap, sym, length, refl, rules, arith}
+use Rattle.std.proofs.Common.{◌≡◌, ℕ, ◌+◌, ◌/◌, ◌%◌, ◌^◌, List, ◌++◌, ◌∙◌, ap, sym, length, drop, refl, rules, arith}
 use Rattle.std.proofs.Common.{append_assoc}
-use Rattle.std.proofs.lemmas.List.{take_all, length-append, append-nil}
+use Rattle.std.proofs.lemmas.List.{take_all, drop_all, length-append, append-nil}
 use Rattle.octets.specs.Bytes.{xor_bytes, block_at}
 use Rattle.aes.specs.Cipher.{cipher}
 use Rattle.aes.proofs.StreamSteps.{began, joined_fours}
@@ -41,8 +41,10 @@ returns-clause-advances g c =
     ∙ omega (arith, first, second, third, fourth, length-append x.0 x.1, length-append x.2 x.3) in
     let long : length xs ≡ 256 = omega (arith, c.requires.room, c.if-bytes-lt256.false) in
     let counted : (s.begun + 16) % 2 ^ 32 ≡ (s.begun + (length xs + 15) / 16) % 2 ^ 32 = omega (arith, long) in
-    began up c.args.key.now s _ masks xs c.xor_fours.new.bytes g.met.C.Count.wraps refl counted (omega (arith, long, c.requires.none))
+    began up c.args.key.now s _ masks xs (c.xor_fours.new.bytes ++ drop 256 xs) g.met.C.Count.wraps refl counted (omega (arith, long, c.requires.none))
     c.requires.none (omega (arith, long, size)) (omega (arith, size)) (λ short. absurd (omega (arith, short, long, size)))
     (λ q h. joined_fours x.0 x.1 x.2 x.3 (λ q. cipher c.args.key.now (up s.first ((s.begun + q) % 2 ^ 32)))
     first second third out.0 out.1 out.2 out.3 q (omega (arith, h, size)))
-    (c.xor_fours.ensures ∙ ap (xor_bytes xs) (sym (take_all (length xs) masks (omega (arith, long, size)))))
+    (ap (λ l. c.xor_fours.new.bytes ++ l) (drop_all 256 xs (omega (arith, long))) ∙ append-nil c.xor_fours.new.bytes
+    ∙ c.xor_fours.ensures ∙ ap (λ l. xor_bytes l masks) (take_all 256 xs (omega (arith, long)))
+    ∙ ap (xor_bytes xs) (sym (take_all (length xs) masks (omega (arith, long, size)))))
