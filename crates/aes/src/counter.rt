@@ -316,6 +316,20 @@ impl<C: Count> Counter<C> {
         self.take([a, b].as_flattened(), bytes);
     }
 
+    // XORs in the first bytes of the next sixteen blocks. No block is begun. A function of its own, since whole runs
+    // would set aside room for its blocks.
+    #[inline(never)]
+    fn begin_part(&mut self, key: &AesKey, words: &[KeyPlanes; 15], bytes: &mut [u8])
+        requires ready { AreReady words.now (schedule key.now) (round_count key.now) }
+        requires none { self.old.used ≡ 0 }
+        requires room { length bytes.old ≤ 256 }
+        ensures advances { Advances C.up key.now self.old self.new bytes.old bytes.new }
+        ensures used { self.new.used ≡ length bytes.old % 16 }
+    {
+        let (a, b, c, d) = key.encrypt_sixteen(words, self.sixteen());
+        self.take([a, b, c, d].as_flattened(), bytes);
+    }
+
     // XORs in the first bytes of the next sixteen blocks. No block is begun.
     fn begin_sixteen(&mut self, key: &AesKey, words: &[KeyPlanes; 15], bytes: &mut [u8])
         requires ready { AreReady words.now (schedule key.now) (round_count key.now) }
@@ -328,11 +342,11 @@ impl<C: Count> Counter<C> {
             self.begin_eight(key, words, bytes);
             return;
         }
-        let (a, b, c, d) = key.encrypt_sixteen(words, self.sixteen());
         if bytes.len() < 256 {
-            self.take([a, b, c, d].as_flattened(), bytes);
+            self.begin_part(key, words, bytes);
             return;
         }
+        let (a, b, c, d) = key.encrypt_sixteen(words, self.sixteen());
         // A whole run is XORed from registers, where its length is a constant.
         self.begun = self.begun.wrapping_add(16);
         xor_fours(&mut bytes[..256], &a, &b, &c, &d);

@@ -203,19 +203,20 @@ impl AesKey {
         ready_planes(keys, &self.words, self.size + 6);
     }
 
-    // The ciphers of eight blocks in half of the planes, by the words of the rounds in planes.
-    fn encrypt_half(&self, keys: &[KeyPlanes; 15], start: HalfPlanes) -> HalfPlanes
+    // The ciphers of eight blocks in half of the planes, in their place, by the words of the rounds in planes.
+    fn encrypt_half(&self, keys: &[KeyPlanes; 15], planes: &mut HalfPlanes)
         requires { AreReady keys.now (schedule self.now) (round_count self.now) }
-        ensures { (f : ℕ → List ℕ) → ((q : ℕ) → IsBlock (f q)) → HoldsEight start f
-            → HoldsLanes 16 result (λ l k. slice_index (cipher self.now (f (l / 16 * 8 + k))) (l % 16)) }
+        ensures { (f : ℕ → List ℕ) → ((q : ℕ) → IsBlock (f q)) → HoldsEight planes.old f
+            → HoldsLanes 16 planes.new
+            (λ l k. slice_index (cipher self.now (f (l / 16 * 8 + k))) (l % 16)) }
     {
         let count = self.size + 6;
-        let mut state = add_half(start, unpacked(&keys[0]));
+        let mut state = add_half(*planes, unpacked(&keys[0]));
         for done in 0..count - 1 {
             let next = round_half(state, unpacked(&keys[done + 1]));
             state = next;
         }
-        last_half(state, unpacked(&keys[count]))
+        *planes = last_half(state, unpacked(&keys[count]));
     }
 
     // The ciphers of sixteen blocks in planes, by the words of the rounds in planes.
@@ -245,8 +246,10 @@ impl AesKey {
         if WIDE {
             return self.encrypt_whole(keys, start);
         }
-        let first = self.encrypt_half(keys, lower(start));
-        let second = self.encrypt_half(keys, upper(start));
+        let mut first = lower(start);
+        let mut second = upper(start);
+        self.encrypt_half(keys, &mut first);
+        self.encrypt_half(keys, &mut second);
         both_halves(first, second)
     }
 
@@ -288,8 +291,10 @@ impl AesKey {
             × ((q : ℕ) → q < 4 → block_at result.1 q ≡ cipher self.now (f (4 + q))) }
     {
         self.is_key();
+        let mut half = lower(start);
+        self.encrypt_half(keys, &mut half);
         // Nothing uses the other lanes, so LLVM leaves out the steps that store them.
-        let (first, second, _, _) = store_planes(twice(self.encrypt_half(keys, lower(start))));
+        let (first, second, _, _) = store_planes(twice(half));
         (first.to_array(), second.to_array())
     }
 

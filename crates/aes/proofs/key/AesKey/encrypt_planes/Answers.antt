@@ -12,10 +12,10 @@ returns c = λ f blocks held.
     let key = c.args.self.now in
     let byte : ℕ → ℕ → ℕ = λ l k. get_or (cipher key (f (l / 16 * 8 + k))) (l % 16) 0 in
     c.both_halves.ensures byte
-    (c.encrypt_half-first.ensures f blocks (c.lower.ensures (block_byte f) held))
-    (same_bytes c.encrypt_half-second.result
-    (c.encrypt_half-second.ensures (λ q. f (8 + q)) (λ q. blocks (8 + q))
-    (same_bytes c.upper.result (c.upper.ensures (block_byte f) held) (λ l k hl hk. second_block f l k hl)))
+    (c.encrypt_half.ensures f blocks (c.lower-first.ensures (block_byte f) held))
+    (same_bytes c.encrypt_half-2.new.planes
+    (c.encrypt_half-2.ensures (λ q. f (8 + q)) (λ q. blocks (8 + q))
+    (same_bytes c.upper-second.result (c.upper-second.ensures (block_byte f) held) (λ l k hl hk. second_block f l k hl)))
     (λ l k hl hk.
     let block : 8 + (l / 16 * 8 + k) ≡ (16 + l) / 16 * 8 + k = omega (arith, hl) in
     let at : l % 16 ≡ (16 + l) % 16 = omega (arith, hl) in
