@@ -274,7 +274,7 @@ run_more f p a k r was mid now whole room held done =
     ∙ ap₂ (λ (x y : List ℕ). x ++ y) (sym taken) (drop-drop r a was)
 
 -- a run more: the k bytes after the first a
-pub whole_run_more : (f : ℕ → ℕ) (p a k : ℕ) (was mid now : List ℕ) → a ≤ length was
+whole_run_more : (f : ℕ → ℕ) (p a k : ℕ) (was mid now : List ℕ) → a ≤ length was
     → mid ≡ masked f p (take a was) ++ drop a was
     → now ≡ masked f (p + a) (take k (drop a mid))
     → put_mid a k mid now ≡ masked f p (take (a + k) was) ++ drop (a + k) was
@@ -292,6 +292,21 @@ whole_run_more f p a k was mid now within held done =
     (ap₂ (λ (x y : List ℕ). x ++ y) (done ∙ ap (λ l. masked f (p + a) (take k l)) back) (ap (drop k) back))
     ∙ sym (append_assoc (masked f p u) (masked f (p + a) (take k d)) (drop k d))
     ∙ ap₂ (λ (x y : List ℕ). x ++ y) (sym taken) (drop-drop k a was)
+
+-- a run more of k blocks, of a text whose first block has the counter c
+pub blocks_more : (key nonce : List ℕ) (c a k : ℕ) (was mid now : List ℕ) → a % 64 ≡ 0 → a ≤ length was
+    → mid ≡ masked (key_stream_byte key nonce c) 0 (take a was) ++ drop a was
+    → now ≡ masked (key_stream_byte key nonce (c + a / 64)) 0 (take (a + k - a) (drop a mid))
+    → put_mid a (a + k - a) mid now
+    ≡ masked (key_stream_byte key nonce c) 0 (take (a + k) was) ++ drop (a + k) was
+blocks_more key nonce c a k was mid now begins within held done =
+    let f = key_stream_byte key nonce c in
+    let run = take (a + k - a) (drop a mid) in
+    let place : 64 * (a / 64) ≡ 0 + a = omega (arith, begins) in
+    let part : a + (a + k - a) ≡ a + k = omega arith in
+    whole_run_more f 0 a (a + k - a) was mid now within held
+    (done ∙ later key nonce c (a / 64) run ∙ ap (λ p. masked f p run) place)
+    ∙ ap (λ m. masked f 0 (take m was) ++ drop m was) part
 
 -- all runs
 pub all_runs : (f : ℕ → ℕ) (p n : ℕ) (was : List ℕ) → length was ≤ n → masked f p (take n was) ++ drop n was
