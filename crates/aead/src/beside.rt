@@ -29,8 +29,9 @@ pub(crate) trait Order: Drop {
     ghost none: { (mask : ℕ → ℕ) → hashed mask [] ≡ [] };
 }
 
-// Masks a piece and takes it in as it leaves, each part while the next one is masked: a quarter of what is left, since a
-// part costs a call, and nothing runs beside the hash of the last one.
+// Masks a piece and takes it in as it leaves, each part while the next one is masked: 1 KiB, or a sixteenth of what is left
+// if that is more, since a part costs calls, and what is hashed beside a much shorter one does not find room there. Nothing
+// runs beside the hash of the last part, so the last ones are halves of what is left.
 #[inline(never)]
 fn mask_then_take_by_parts<S: MaskStream, H: TagHash>(
     mask: &mut S,
@@ -46,7 +47,7 @@ fn mask_then_take_by_parts<S: MaskStream, H: TagHash>(
     let mut done = 0;
     'parts: while done < piece.len() {
         let left = piece.len() - done;
-        let next = mask.part(left, left / 4);
+        let next = mask.part(left, (left / 16).max((left / 2).min(1024)));
         let (before, after) = piece.split_at_mut(done);
         authenticator.update_beside(&before[taken..], mask, &mut after[..next]);
         taken = done;
