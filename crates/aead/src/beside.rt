@@ -30,8 +30,9 @@ pub(crate) trait Order: Drop {
 }
 
 // Masks a piece and takes it in as it leaves, each part while the next one is masked: 1 KiB, or a sixteenth of what is left
-// if that is more, since a part costs calls, and what is hashed beside a much shorter one does not find room there. Nothing
-// runs beside the hash of the last part, so the last ones are halves of what is left.
+// if that is more, since a part costs calls. So a part is hardly shorter than what is hashed beside it: a third longer, and
+// some steps of the hash find no room in a run. Nothing runs beside the hash of the last part, so the last ones are halves
+// of what is left.
 #[inline(never)]
 fn mask_then_take_by_parts<S: MaskStream, H: TagHash>(
     mask: &mut S,

@@ -54,7 +54,7 @@ length-serialized (w ∷ words) =
     omega (arith, length-append (to_le_bytes w32 w) (serialized words), length-serialized words)
 
 -- the initial state has sixteen words
-length-initial_state : (key : List ℕ) (counter : ℕ) (nonce : List ℕ)
+pub length-initial_state : (key : List ℕ) (counter : ℕ) (nonce : List ℕ)
     → length (initial_state key counter nonce) ≡ 16
 unfolding initial_state
 length-initial_state key counter nonce = refl

@@ -211,6 +211,36 @@ run_of_zeros key nonce p size n bytes stream now is_stream long =
     run_of_stream key nonce p size n bytes stream now long (λ i l.
     ap (λ s. get_or s i 0) is_stream ∙ bytes_of_zeros (key_stream_byte key nonce (p / 64)) size i l)
 
+-- k bytes masked in their place, and bytes of the run after them, which begins a block
+pub front_and_run : (key nonce : List ℕ) (p k n : ℕ) (bytes xs ys now stream rest : List ℕ) → p % 64 ≡ 0
+    → k % 64 ≡ 0 → length xs ≡ k → bytes ≡ xs ++ ys
+    → now ≡ masked (key_stream_byte key nonce (p / 64)) 0 xs
+    → stream ≡ masked (key_stream_byte key nonce (p / 64 + k / 64)) 0 (replicate k 0) → length stream ≡ k
+    → n ≡ min (length stream - 0) (length ys)
+    → rest ≡ xor_bytes (take n ys) (take n (drop 0 stream)) ++ drop n ys
+    → now ++ rest ≡ masked (key_stream_byte key nonce 0) p (take (k + n) bytes) ++ drop (k + n) bytes
+front_and_run key nonce p k n bytes xs ys now stream rest begins whole long split is_now is_stream size least is_rest =
+    let f = key_stream_byte key nonce 0 in
+    let counter : p / 64 + k / 64 ≡ (p + k) / 64 = omega (arith, begins, whole) in
+    let skip : 0 ≡ (p + k) % 64 = omega (arith, begins, whole) in
+    let place : p + length xs ≡ p + k = omega (arith, long) in
+    let front : now ≡ masked f p xs = is_now ∙ whole_blocks key nonce p xs begins in
+    let back : rest ≡ masked f (p + k) (take n ys) ++ drop n ys =
+    run_of_zeros key nonce (p + k) k n ys stream rest
+    (is_stream ∙ ap (λ c. masked (key_stream_byte key nonce c) 0 (replicate k 0)) counter) size
+    (least ∙ ap (λ s. min (length stream - s) (length ys)) skip)
+    (is_rest ∙ ap (λ s. xor_bytes (take n ys) (take n (drop s stream)) ++ drop n ys) skip) in
+    let taken : take (k + n) bytes ≡ xs ++ take n ys =
+    ap (take (k + n)) split ∙ take-add k n (xs ++ ys)
+    ∙ ap₂ (λ (x y : List ℕ). x ++ take n y) (take_at xs ys k long) (drop_at xs ys k long) in
+    let dropped : drop (k + n) bytes ≡ drop n ys =
+    ap (drop (k + n)) split ∙ sym (drop-drop n k (xs ++ ys)) ∙ ap (drop n) (drop_at xs ys k long) in
+    ap₂ (λ (x y : List ℕ). x ++ y) front back
+    ∙ sym (append_assoc (masked f p xs) (masked f (p + k) (take n ys)) (drop n ys))
+    ∙ ap₂ (λ (x y : List ℕ). x ++ y)
+    (sym (ap (masked f p) taken ∙ masked-append f p xs (take n ys)
+    ∙ ap (λ i. masked f p xs ++ masked f i (take n ys)) place)) (sym dropped)
+
 -- the bytes of two blocks, one after the other
 pub bytes_of_two : (key nonce : List ℕ) (c : ℕ) (blocks : List (List ℕ)) (stream : List ℕ)
     → blocks ≡ block key c nonce ∷ block key (c + 1) nonce ∷ [] → stream ≡ flat_map (λ b. b) blocks

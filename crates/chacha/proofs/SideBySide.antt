@@ -99,12 +99,12 @@ digits-serialized (w ∷ v) fit =
     ∙ word_digits w (number_l (2 ^ 32) v) (4 * length v) fit.0.fits
     ∙ ap (λ l. to_le_bytes w32 w ++ l) (digits-serialized v fit.1)
 
--- four lanes of words written out as bytes
-pub four_serialized : (v : List ℕ) → length v ≡ 4 → Each1 (Fits w32) v
-    → digits_l 256 16 (number_l (2 ^ 32) v) ≡ serialized v
-four_serialized v long fit =
-    let whole : 16 ≡ 4 * length v = omega arith in
-    ap (λ (n : ℕ). digits_l 256 n (number_l (2 ^ 32) v)) whole ∙ digits-serialized v fit
+-- lanes of words written out as bytes
+pub lanes_serialized : (v : List ℕ) (n m : ℕ) → length v ≡ n → m ≡ 4 * n → Each1 (Fits w32) v
+    → digits_l 256 m (number_l (2 ^ 32) v) ≡ serialized v
+lanes_serialized v n m long size fit =
+    let whole : m ≡ 4 * length v = omega arith in
+    ap (λ (k : ℕ). digits_l 256 k (number_l (2 ^ 32) v)) whole ∙ digits-serialized v fit
 
 -- two XORs, one after the other
 xor_bytes-append : (xs ys zs ws : List ℕ) → length xs ≡ length ys → xor_bytes (xs ++ zs) (ys ++ ws)
@@ -125,79 +125,81 @@ xor_bytes-zeros (y ∷ ys) zero same = absurd (omega arith)
 xor_bytes-zeros (y ∷ ys) (suc n) same = ap₂ (λ (z : ℕ) (zs : List ℕ). z ∷ zs) (xor_zero_l y)
     (xor_bytes-zeros ys n (omega arith))
 
--- the first 4 * q words of a state are XORed, written out, into bytes
+-- the first n words of a state are XORed, written out, into bytes
 abbrev pub Xored : List ℕ → ℕ → List ℕ → List ℕ → Type 0
-Xored words q was now = now ≡ xor_bytes (take (16 * q) was) (serialized (take (4 * q) words))
-    ++ drop (16 * q) was
+Xored words n was now = now ≡ xor_bytes (take (4 * n) was) (serialized (take n words)) ++ drop (4 * n) was
 
 -- no word yet
 pub xored_none : (words was : List ℕ) → Xored words 0 was was
 unfolding serialized xor_bytes
 xored_none words was = refl
 
--- four words more
-xored_more : (words was mid now quad : List ℕ) (q : ℕ) → length words ≡ 16 → length was ≡ 64 → q < 4
-    → Xored words q was mid
-    → quad ≡ get_or words (4 * q) 0 ∷ get_or words (4 * q + 1) 0 ∷ get_or words (4 * q + 2) 0
-    ∷ get_or words (4 * q + 3) 0 ∷ []
-    → now ≡ take (16 * q) mid ++ xor_bytes (take 16 (drop (16 * q) mid)) (serialized quad)
-    ++ drop (16 * q + 16) mid
-    → Xored words (q + 1) was now
-xored_more words was mid now quad q sixteen long below held is_quad is_now =
-    let a : ℕ = 16 * q in
+-- four neighbouring words of the state in a lane
+pub lane_four : (x : List (List ℕ)) (j n : ℕ) → length x ≡ 16 → n + 4 ≤ 16
+    → get_or (get_or x n []) j 0 ∷ get_or (get_or x (n + 1) []) j 0 ∷ get_or (get_or x (n + 2) []) j 0
+    ∷ get_or (get_or x (n + 3) []) j 0 ∷ [] ≡ take 4 (drop n (lane j x))
+lane_four x j n sixteen room =
+    let at : (i : ℕ) → get_or (get_or x i []) j 0 ≡ get_or (lane j x) i 0 = λ i. sym (get_or-lane j x i) in
+    (λ k. at n k ∷ at (n + 1) k ∷ at (n + 2) k ∷ at (n + 3) k ∷ [])
+    ∙ sym (four_bytes (lane j x) n (omega (arith, length-lane j x)))
+
+-- eight of them
+pub lane_eight : (x : List (List ℕ)) (j n : ℕ) → length x ≡ 16 → n + 8 ≤ 16
+    → (get_or (get_or x n []) j 0 ∷ get_or (get_or x (n + 1) []) j 0 ∷ get_or (get_or x (n + 2) []) j 0
+    ∷ get_or (get_or x (n + 3) []) j 0 ∷ []) ++ (get_or (get_or x (n + 4) []) j 0
+    ∷ get_or (get_or x (n + 5) []) j 0 ∷ get_or (get_or x (n + 6) []) j 0 ∷ get_or (get_or x (n + 7) []) j 0 ∷ [])
+    ≡ take 8 (drop n (lane j x))
+lane_eight x j n sixteen room =
+    let words = lane j x in
+    let at : (i k : ℕ) → i ≡ k → get_or (get_or x i []) j 0 ≡ get_or (get_or x k []) j 0 =
+    λ i k e. ap (λ (l : ℕ). get_or (get_or x l []) j 0) e in
+    ap₂ (λ (y z : List ℕ). y ++ z) (lane_four x j n sixteen (omega arith))
+    ((λ k. get_or (get_or x (n + 4) []) j 0 ∷ at (n + 5) (n + 4 + 1) (omega arith) k
+    ∷ at (n + 6) (n + 4 + 2) (omega arith) k ∷ at (n + 7) (n + 4 + 3) (omega arith) k ∷ [])
+    ∙ lane_four x j (n + 4) sixteen (omega arith))
+    ∙ ap (λ l. take 4 (drop n words) ++ take 4 l) (sym (drop-drop 4 n words)) ∙ sym (take-add 4 4 (drop n words))
+
+-- k words more of the block in a lane, from byte a on
+pub xored_more : (x : List (List ℕ)) (j : ℕ) (was mid now part : List ℕ) (n k m a : ℕ) → length x ≡ 16
+    → length was ≡ 64 → n + k ≤ 16 → m ≡ n + k → a ≡ 4 * n
+    → Xored (lane j x) n was mid → part ≡ take k (drop n (lane j x))
+    → now ≡ take a mid ++ xor_bytes (take (4 * k) (drop a mid)) (serialized part) ++ drop (a + 4 * k) mid
+    → Xored (lane j x) m was now
+xored_more x j was mid now part n k m a sixteen long room sum place held is_part is_now =
+    let words = lane j x in
+    let all : length words ≡ 16 = length-lane j x ∙ sixteen in
+    let b : ℕ = 4 * k in
     let front = take a was in
     let rest = drop a was in
-    let done = serialized (take (4 * q) words) in
-    let next : 16 * (q + 1) ≡ a + 16 = omega arith in
-    let four : 4 * (q + 1) ≡ 4 * q + 4 = omega arith in
+    let done = serialized (take n words) in
+    let next : 4 * m ≡ a + b = omega arith in
     let size : length front ≡ a = length-take-le a was (omega arith) in
     let same : length front ≡ length done =
-    size ∙ omega (
-      arith,
-      length-serialized (take (4 * q) words),
-      length-take-le (4 * q) words
-          (omega arith),
-    ) in
+    size ∙ omega (arith, length-serialized (take n words), length-take-le n words (omega (arith, all))) in
+    let has : mid ≡ xor_bytes front done ++ rest =
+    held ∙ ap (λ (i : ℕ). xor_bytes (take i was) done ++ drop i was) (sym place) in
     let whole : length (xor_bytes front done) ≡ a = length-xor_bytes front done same ∙ size in
-    let before : take a mid ≡ xor_bytes front done = ap (take a) held ∙ take_at (xor_bytes front done) rest
+    let before : take a mid ≡ xor_bytes front done = ap (take a) has ∙ take_at (xor_bytes front done) rest
     a whole in
-    let after : drop a mid ≡ rest = ap (drop a) held ∙ drop_at (xor_bytes front done) rest a whole in
-    let past : drop (a + 16) mid ≡ drop (16 * (q + 1)) was =
-    sym (drop-drop 16 a mid) ∙ ap (drop 16) after ∙ drop-drop 16 a was ∙ ap (λ (n : ℕ). drop n was)
-    (sym next) in
-    let part : quad ≡ take 4 (drop (4 * q) words) =
-    is_quad ∙ sym (four_bytes words (4 * q) (omega arith)) in
-    let words_more : serialized (take (4 * (q + 1)) words) ≡ done ++ serialized quad =
-    ap (λ (n : ℕ). serialized (take n words)) four ∙ ap serialized (take-add (4 * q) 4 words)
-    ∙ serialized-append (take (4 * q) words) (take 4 (drop (4 * q) words)) ∙ ap (λ l. done ++ serialized l)
-    (sym part) in
-    let bytes_more : take (16 * (q + 1)) was ≡ front ++ take 16 rest = ap (λ (n : ℕ). take n was) next
-    ∙ take-add a 16 was in
+    let after : drop a mid ≡ rest = ap (drop a) has ∙ drop_at (xor_bytes front done) rest a whole in
+    let past : drop (a + b) mid ≡ drop (4 * m) was =
+    sym (drop-drop b a mid) ∙ ap (drop b) after ∙ drop-drop b a was ∙ ap (λ (i : ℕ). drop i was) (sym next) in
+    let words_more : serialized (take m words) ≡ done ++ serialized part =
+    ap (λ (i : ℕ). serialized (take i words)) sum ∙ ap serialized (take-add n k words)
+    ∙ serialized-append (take n words) (take k (drop n words)) ∙ ap (λ l. done ++ serialized l) (sym is_part) in
+    let bytes_more : take (4 * m) was ≡ front ++ take b rest = ap (λ (i : ℕ). take i was) next
+    ∙ take-add a b was in
     is_now
     ∙ ap₂ (λ (x y : List ℕ). x ++ y)
-    (ap₂ (λ (x y : List ℕ). x ++ xor_bytes (take 16 y) (serialized quad)) before after
-    ∙ sym (xor_bytes-append front done (take 16 rest) (serialized quad) same)
+    (ap₂ (λ (x y : List ℕ). x ++ xor_bytes (take b y) (serialized part)) before after
+    ∙ sym (xor_bytes-append front done (take b rest) (serialized part) same)
     ∙ ap₂ xor_bytes (sym bytes_more) (sym words_more))
     past
 
--- sixteen bytes more of the block in a lane
-pub xored_lane : (x : List (List ℕ)) (j : ℕ) (was mid now quad : List ℕ) (q : ℕ) → length x ≡ 16
-    → length was ≡ 64 → q < 4
-    → Xored (lane j x) q was mid
-    → quad ≡ get_or (get_or x (4 * q) []) j 0 ∷ get_or (get_or x (4 * q + 1) []) j 0
-    ∷ get_or (get_or x (4 * q + 2) []) j 0 ∷ get_or (get_or x (4 * q + 3) []) j 0 ∷ []
-    → now ≡ take (16 * q) mid ++ xor_bytes (take 16 (drop (16 * q) mid)) (serialized quad)
-    ++ drop (16 * q + 16) mid
-    → Xored (lane j x) (q + 1) was now
-xored_lane x j was mid now quad q sixteen long below held is_quad is_now =
-    let at : (i : ℕ) → get_or (get_or x i []) j 0 ≡ get_or (lane j x) i 0 = λ i. sym (get_or-lane j x i) in
-    xored_more (lane j x) was mid now quad q (length-lane j x ∙ sixteen) long below held
-    (is_quad ∙ (λ k. at (4 * q) k ∷ at (4 * q + 1) k ∷ at (4 * q + 2) k ∷ at (4 * q + 3) k ∷ [])) is_now
-
 -- all words of the block in a lane
-pub xored_all : (x : List (List ℕ)) (j : ℕ) (was now : List ℕ) (q : ℕ) → length x ≡ 16 → length was ≡ 64
-    → q ≡ 4 → Xored (lane j x) q was now → now ≡ xor_bytes was (serialized (lane j x))
-xored_all x j was now q sixteen long end held =
+pub xored_all : (x : List (List ℕ)) (j : ℕ) (was now : List ℕ) (n : ℕ) → length x ≡ 16 → length was ≡ 64
+    → n ≡ 16 → Xored (lane j x) n was now → now ≡ xor_bytes was (serialized (lane j x))
+xored_all x j was now n sixteen long end held =
     let words = lane j x in
     let all : length words ≡ 16 = length-lane j x ∙ sixteen in
     rw end at held

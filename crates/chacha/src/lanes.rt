@@ -1,7 +1,7 @@
 // Several blocks at once, one in each lane.
 
 ghost use Rattle.std.specs.Prelude.{◌≡◌, ℕ, ◌+◌, ◌/◌, ◌%◌, ◌^◌, ◌<◌, ◌≤◌, ◌∷◌, ◌++◌, [], List, length};
-ghost use Rattle.std.specs.Prelude.{take, drop, slice_index, slice_set, bit_xor};
+ghost use Rattle.std.specs.Prelude.{take, drop, slice_index, bit_xor};
 ghost use Rattle.std.specs.Int.{w32, rotate_left};
 ghost use Rattle.octets.specs.Bytes.{xor_bytes};
 ghost use Rattle.octets.specs.Masked.{masked};
@@ -12,7 +12,7 @@ ghost use Rattle.chacha.specs.Stream.{key_stream_byte};
 
 use crate::state::initial_state;
 use octets::{Key32, Nonce, WIDE, Work, xor_into};
-use std::simd::{Simd, u32x4, u32x8};
+use std::simd::{Simd, u8x32, u32x4, u32x8};
 
 // The sums of the words, lane by lane.
 #[inline(always)]
@@ -142,15 +142,18 @@ pub(crate) fn add<const N: usize>(x: &mut [Simd<u32, N>; 16], start: &[Simd<u32,
     }
 }
 
-// The state goes into each lane, with the lane's own counter.
+// Each lane gets the state from which the block of its counter starts.
 #[inline(always)]
 pub(crate) fn set_starts<const N: usize>(
     x: &mut [Simd<u32, N>; 16],
-    state: &[u32; 16],
+    key: &Key32,
+    nonce: &Nonce,
     counters: Simd<u32, N>,
 )
-    ensures { (j : ℕ) → j < N → lane j x.new ≡ slice_set state.now 12 (slice_index counters.entry j) }
+    ensures { (j : ℕ) → j < N
+        → lane j x.new ≡ initial_state key.now (slice_index counters.entry j) nonce.now }
 {
+    let state = initial_state(key, 0, nonce);
     'words: for i in 0..16 {
         x[i] = Simd::splat(state[i]);
     }
@@ -204,13 +207,20 @@ pub(crate) fn eight_counters(counter: u32) -> u32x8
     ])
 }
 
-// The first four lanes of a vector, and the last four.
+// The first four lanes of both vectors.
 #[inline(always)]
-fn halves(x: u32x8) -> (u32x4, u32x4)
-    ensures front { result.0 ≡ take 4 x }
-    ensures back { result.1 ≡ take 4 (drop 4 x) }
+fn low_halves(a: u32x8, b: u32x8) -> u32x8
+    ensures { result ≡ take 4 a ++ take 4 b }
 {
-    (x.extract::<0, 4>(), x.extract::<4, 4>())
+    a.shuffle(b, [0, 1, 2, 3, 8, 9, 10, 11])
+}
+
+// The last four lanes of both vectors.
+#[inline(always)]
+fn high_halves(a: u32x8, b: u32x8) -> u32x8
+    ensures { result ≡ take 4 (drop 4 a) ++ take 4 (drop 4 b) }
+{
+    a.shuffle(b, [4, 5, 6, 7, 12, 13, 14, 15])
 }
 
 // Lane j of the four vectors becomes vector j.
@@ -287,6 +297,34 @@ fn xor_at(bytes: &mut [u8], at: usize, words: u32x4)
     xor_into(&mut bytes[at..at + 16], &bytes_of(words));
 }
 
+// The words of eight lanes, each with its lowest byte first.
+#[inline(always)]
+fn bytes_of_eight(lanes: u32x8) -> u8x32
+    ensures { result ≡ serialized lanes }
+{
+    lanes.to_le_bytes()
+}
+
+// XORs 32 bytes into as many, all at once.
+#[inline(always)]
+pub(crate) fn xor_thirty_two(bytes: &mut [u8], by: u8x32)
+    requires { length bytes.old ≡ 32 }
+    ensures { bytes.new ≡ xor_bytes bytes.old by }
+{
+    let sum = Simd::from_slice(bytes) ^ by;
+    sum.copy_to_slice(bytes);
+}
+
+// XORs eight words, written out, into the 32 bytes from place `at` on.
+#[inline(always)]
+fn xor_eight_at(bytes: &mut [u8], at: usize, words: u32x8)
+    requires { at + 32 ≤ length bytes.old }
+    ensures { bytes.new ≡ take at bytes.old ++ xor_bytes (take 32 (drop at bytes.old)) (serialized words)
+        ++ drop (at + 32) bytes.old }
+{
+    xor_thirty_two(&mut bytes[at..at + 32], bytes_of_eight(words));
+}
+
 // XORs the words of each lane, written out, into the block of bytes of that lane.
 #[inline(always)]
 fn xor_lanes(
@@ -351,21 +389,44 @@ fn xor_eight_lanes(
     ensures seventh { seventh.new ≡ xor_bytes seventh.old (serialized (lane 6 x.now)) }
     ensures eighth { eighth.new ≡ xor_bytes eighth.old (serialized (lane 7 x.now)) }
 {
-    'quads: for q in 0..4 {
-        let (a, b, c, d) = transposed_halves(x[4 * q], x[4 * q + 1], x[4 * q + 2], x[4 * q + 3]);
-        let (a, e) = halves(a);
-        let (b, f) = halves(b);
-        let (c, g) = halves(c);
-        let (d, h) = halves(d);
-        xor_at(first, 16 * q, a);
-        xor_at(second, 16 * q, b);
-        xor_at(third, 16 * q, c);
-        xor_at(fourth, 16 * q, d);
-        xor_at(fifth, 16 * q, e);
-        xor_at(sixth, 16 * q, f);
-        xor_at(seventh, 16 * q, g);
-        xor_at(eighth, 16 * q, h);
+    'eights: for q in 0..2 {
+        let (a, b, c, d) = transposed_halves(x[8 * q], x[8 * q + 1], x[8 * q + 2], x[8 * q + 3]);
+        let (e, f, g, h) = transposed_halves(
+            x[8 * q + 4],
+            x[8 * q + 5],
+            x[8 * q + 6],
+            x[8 * q + 7],
+        );
+        xor_eight_at(first, 32 * q, low_halves(a, e));
+        xor_eight_at(second, 32 * q, low_halves(b, f));
+        xor_eight_at(third, 32 * q, low_halves(c, g));
+        xor_eight_at(fourth, 32 * q, low_halves(d, h));
+        xor_eight_at(fifth, 32 * q, high_halves(a, e));
+        xor_eight_at(sixth, 32 * q, high_halves(b, f));
+        xor_eight_at(seventh, 32 * q, high_halves(c, g));
+        xor_eight_at(eighth, 32 * q, high_halves(d, h));
     }
+}
+
+// XORs the words of eight lanes, written out one lane after the other, into twice 256 bytes.
+#[inline(always)]
+fn xor_halves(x: &[u32x8; 16], front: &mut [u8], back: &mut [u8])
+    requires front { length front.old ≡ 256 }
+    requires back { length back.old ≡ 256 }
+    ensures front { (key nonce : List ℕ) (counter : ℕ) → HasBlocks 8 x.now key counter nonce
+        → front.new ≡ masked (key_stream_byte key nonce counter) 0 front.old }
+    ensures back { (key nonce : List ℕ) (counter : ℕ) → HasBlocks 8 x.now key counter nonce
+        → back.new ≡ masked (key_stream_byte key nonce (counter + 4)) 0 back.old }
+{
+    let (front_low, front_high) = front.split_at_mut(128);
+    let (first, second) = front_low.split_at_mut(64);
+    let (third, fourth) = front_high.split_at_mut(64);
+    let (back_low, back_high) = back.split_at_mut(128);
+    let (fifth, sixth) = back_low.split_at_mut(64);
+    let (seventh, eighth) = back_high.split_at_mut(64);
+    xor_eight_lanes(
+        x, first, second, third, fourth, fifth, sixth, seventh, eighth,
+    );
 }
 
 // XORs the words of eight lanes, written out one lane after the other, into 512 bytes.
@@ -376,15 +437,7 @@ pub(crate) fn xor_eight_written(x: &[u32x8; 16], bytes: &mut [u8])
         → bytes.new ≡ masked (key_stream_byte key nonce counter) 0 bytes.old }
 {
     let (front, back) = bytes.split_at_mut(256);
-    let (front_low, front_high) = front.split_at_mut(128);
-    let (first, second) = front_low.split_at_mut(64);
-    let (third, fourth) = front_high.split_at_mut(64);
-    let (back_low, back_high) = back.split_at_mut(128);
-    let (fifth, sixth) = back_low.split_at_mut(64);
-    let (seventh, eighth) = back_high.split_at_mut(64);
-    xor_eight_lanes(
-        x, first, second, third, fourth, fifth, sixth, seventh, eighth,
-    );
+    xor_halves(x, front, back);
 }
 
 // XORs the key stream from a counter on into whole runs of 256 bytes, and does forty steps of other work in each. The
@@ -406,11 +459,7 @@ pub(crate) fn xor_fours<W: Work>(
 {
     let mut own = *work;
     let mut start = [u32x4::splat(0); 16];
-    set_starts(
-        &mut start,
-        &initial_state(key, 0, nonce),
-        four_counters(counter),
-    );
+    set_starts(&mut start, key, nonce, four_counters(counter));
     let mut done = 0;
     'runs: while done < bytes.len() {
         let x = next_blocks(&mut start, &mut own);
@@ -436,11 +485,7 @@ pub(crate) fn xor_eights<W: Work>(
 {
     let mut own = *work;
     let mut start = [u32x8::splat(0); 16];
-    set_starts(
-        &mut start,
-        &initial_state(key, 0, nonce),
-        eight_counters(counter),
-    );
+    set_starts(&mut start, key, nonce, eight_counters(counter));
     let mut done = 0;
     'runs: while done < bytes.len() {
         let x = next_blocks(&mut start, &mut own);
@@ -448,4 +493,28 @@ pub(crate) fn xor_eights<W: Work>(
         done += 512;
     }
     *work = own;
+}
+
+// XORs the first 512 bytes of the key stream from a counter on into twice 256 bytes, and does forty steps of other work. It
+// is a function of its own, since inlined it would slow down the other widths.
+#[inline(never)]
+pub(crate) fn xor_eight<W: Work>(
+    key: &Key32,
+    counter: u32,
+    nonce: &Nonce,
+    front: &mut [u8],
+    back: &mut [u8],
+    work: &mut W,
+)
+    requires counters { counter + 7 < 2 ^ 32 }
+    requires front { length front.old ≡ 256 }
+    requires back { length back.old ≡ 256 }
+    ensures front { front.new ≡ masked (key_stream_byte key.now nonce.now counter) 0 front.old }
+    ensures back { back.new ≡ masked (key_stream_byte key.now nonce.now (counter + 4)) 0 back.old }
+    ensures work { (k m : List ℕ) → W.comes_to work.old k m → W.comes_to work.new k m }
+{
+    let mut start = [u32x8::splat(0); 16];
+    set_starts(&mut start, key, nonce, eight_counters(counter));
+    let x = next_blocks(&mut start, work);
+    xor_halves(&x, front, back);
 }

@@ -59,7 +59,7 @@ fn set_blocks<const N: usize, W: Work>(
     ensures row { result ≡ block key.now counter nonce.now }
     ensures work { (k m : List ℕ) → W.comes_to work.old k m → W.comes_to work.new k m }
 {
-    set_starts(x, &initial_state(key, 0, nonce), counters);
+    set_starts(x, key, nonce, counters);
     let start = *x;
     let row_start = rows_of(&initial_state(key, counter, nonce));
     let mut row = row_start;

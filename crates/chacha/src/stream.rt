@@ -12,7 +12,8 @@ use octets::{Fault, Idle, Key32, Nonce, Stream, WIDE, Work, xor_into};
 // The end of the key stream from counter 0 on: 2^32 blocks of 64 bytes.
 const END: u64 = 0x40_0000_0000;
 
-/// How many bytes are masked at once beside other work: eight blocks where they fit the registers, and else four.
+/// The length in bytes of a run, whose blocks are made side by side and beside other work: eight blocks where they fit the
+/// registers, and else four.
 pub const RUN: usize = if WIDE { 512 } else { 256 };
 
 /// A ChaCha20 key stream, of which some bytes were made (RFC 8439, 2.4).
@@ -146,6 +147,13 @@ fn xor_run<W: Work>(key: &Key32, nonce: &Nonce, place: u64, bytes: &mut [u8], wo
         lanes::xor_fours(key, counter, nonce, &mut bytes[..whole], work);
         return whole;
     }
+    if WIDE && skip == 0 && bytes.len() >= 256 && counter <= u32::MAX - 7 {
+        // Half of the run goes into its place, and only the other half through a stream of its own.
+        let mut stream = [0; 256];
+        let (front, back) = bytes.split_at_mut(256);
+        lanes::xor_eight(key, counter, nonce, front, &mut stream, work);
+        return 256 + xor_part(&stream, 0, back);
+    }
     if WIDE && skip + bytes.len() > 320 && counter <= u32::MAX - 7 {
         let mut stream = [0; 512];
         lanes::xor_eights(key, counter, nonce, &mut stream, work);
@@ -170,8 +178,9 @@ fn xor_run<W: Work>(key: &Key32, nonce: &Nonce, place: u64, bytes: &mut [u8], wo
     xor_part(&single::block(key, counter, nonce), skip, bytes)
 }
 
-// XORs the bytes of `stream` from place `skip` on into the first bytes, and returns how many they are.
-#[inline(always)]
+// XORs the bytes of `stream` from place `skip` on into the first bytes, and returns how many they are. It is a function of
+// its own, since inlined it would stand in the code for each width.
+#[inline(never)]
 fn xor_part(stream: &[u8], skip: usize, bytes: &mut [u8]) -> usize
     requires { skip ≤ length stream.now }
     ensures count { result ≡ min (length stream.now - skip) (length bytes.old) }

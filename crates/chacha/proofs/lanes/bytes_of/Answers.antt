@@ -1,5 +1,6 @@
-use Rattle.chacha.proofs.SideBySide.{four_serialized}
+use Rattle.std.proofs.Common.{refl}
+use Rattle.chacha.proofs.SideBySide.{lanes_serialized}
 use Rattle.chacha.proofs.lanes.bytes_of.Goals as goal
 
 pub returns : goal.returns
-returns c = four_serialized c.args.lanes c.fits-lanes.0 c.fits-lanes.1
+returns c = lanes_serialized c.args.lanes 4 16 c.fits-lanes.0 refl c.fits-lanes.1

@@ -1,8 +1,7 @@
 use Rattle.std.proofs.Common.{◌≡◌, ℕ, ◌+◌, ◌/◌, ◌%◌, ◌^◌, ◌≤◌, ◌∙◌, ap, arith, length}
 use Rattle.chacha.specs.Block.{initial_state}
 use Rattle.chacha.specs.Stream.{key_stream_byte}
-use Rattle.chacha.specs.Code.Lanes.{lane}
-use Rattle.chacha.proofs.SideBySide.{lane_begun, lanes_have, counter_next}
+use Rattle.chacha.proofs.SideBySide.{lanes_have, counter_next}
 use Rattle.chacha.proofs.Masking.{no_run, blocks_more, all_runs}
 use Rattle.chacha.proofs.lanes.xor_eights.Goals as goal
 
@@ -13,9 +12,7 @@ runs-init g c = (
   λ j l.
       let n : ℕ = c.args.counter in
       let first : n + j ≡ (n + 0 / 64 + j) % 2 ^ 32 = omega (arith, l, c.requires.counters, c.requires.some) in
-      lane_begun c.args.key.now c.args.nonce.now c.initial_state.result (lane j c.set_starts.new.x) _ 0
-      c.initial_state.ensures
-      (c.set_starts.ensures j l)
+      c.set_starts.ensures j l
       ∙ ap (λ n. initial_state c.args.key.now n c.args.nonce.now) (c.eight_counters.ensures j l ∙ first),
   no_run (key_stream_byte c.args.key.now c.args.nonce.now c.args.counter) 0 c.args.bytes.now,
   λ k m h. h,
