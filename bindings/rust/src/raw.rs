@@ -140,13 +140,13 @@ pub fn siv_finish(siv: &mut Siv) -> u32 {
 #[repr(C)]
 #[derive(Clone)]
 pub struct Key {
-    private: [u64; 37],
+    private: [u64; 101],
 }
 
 impl Key {
     /// All zeros: it keeps no key.
     pub fn new() -> Key {
-        Key { private: [0; 37] }
+        Key { private: [0; 101] }
     }
 }
 

@@ -36,7 +36,7 @@ unknown_suite = 14
 
 -- the mark of a kept key: `cipher` in ASCII, the version of the layout, and the suite's number
 abbrev pub key_mark : Suite → ℕ
-key_mark suite = 0x6369706865720100 + suite_number suite
+key_mark suite = 0x6369706865720200 + suite_number suite
 
 -- the key of a suite that the bytes begin with
 abbrev pub first_key : Suite → List ℕ → List ℕ

@@ -3,18 +3,20 @@
 ghost use Rattle.std.specs.Prelude.{◌≡◌, ◌≢◌, ◌↔◌, length, MatchOption, MatchResult};
 ghost use Rattle.octets.specs.Numbers.{HasOutcome};
 ghost use Rattle.aead.specs.declared.suite.Suite.{Suite};
-ghost use Rattle.aead.specs.Suites.{key_length};
+ghost use Rattle.aead.specs.Suites.{construction_of, key_length, ByGcm};
+ghost use Rattle.aead.specs.Sealing.{hash_key};
 ghost use Rattle.aead.specs.Ciphers.{setting};
 ghost use Rattle.aead.specs.Exports.{suite_number, unknown_suite, setting_of};
 ghost use Rattle.aead.specs.Exports.{WasSealed, WasNotSealed, WasOpened, WasNotOpened};
 
 use crate::aead::Cipher;
 use crate::chacha_poly::ChaChaPoly;
-use crate::gcm::Gcm;
+use crate::gcm::{KeptGcm, ghash_key_of};
 use crate::gcm_siv::GcmSiv;
 use crate::suite::Suite;
 use aes::AesKey;
-use octets::{Fault, Key32, Nonce, Tag, outcome_number};
+use gf128::{Keyed128, TableMul};
+use octets::{Block, Fault, Key32, Nonce, Tag, outcome_number};
 
 mod any_pass;
 mod key;
@@ -79,6 +81,26 @@ fn seal_under<C: Cipher>(
     Ok(())
 }
 
+// Seals under AES-GCM, whose hash key is there, by multiples that are made for the message.
+fn seal_gcm(
+    suite: Suite,
+    key: &AesKey,
+    ghash_key: &Block,
+    nonce: &[u8],
+    aad: &[u8],
+    bytes: &mut [u8],
+) -> Result<(), Fault>
+    requires by_gcm { construction_of suite ≡ ByGcm }
+    requires long { length key.now ≡ key_length suite }
+    requires ghash_key { ghash_key.now ≡ hash_key key.now }
+    ensures { let s = setting_of suite key.now nonce.now aad.now in
+        MatchResult result (λ _. WasSealed s bytes.old bytes.new) (WasNotSealed s bytes.old bytes.new) }
+{
+    let multiplier = TableMul::of(ghash_key);
+    let cipher = KeptGcm::new(suite, key, ghash_key, &multiplier);
+    seal_under(&cipher, nonce, aad, bytes)
+}
+
 // Seals under the bytes of a key and a nonce. A cipher of its own suite is smaller than one of any suite.
 fn seal_bytes(
     suite: Suite,
@@ -99,8 +121,8 @@ fn seal_bytes(
             seal_under(&cipher, nonce, aad, bytes)
         }
         Suite::Aes128Gcm | Suite::Aes192Gcm | Suite::Aes256Gcm => {
-            let cipher = Gcm::new(suite, AesKey::from_slice(key)?);
-            seal_under(&cipher, nonce, aad, bytes)
+            let key = AesKey::from_slice(key)?;
+            seal_gcm(suite, &key, &ghash_key_of(&key), nonce, aad, bytes)
         }
         Suite::Aes128GcmSiv | Suite::Aes256GcmSiv => {
             let cipher = GcmSiv::new(suite, AesKey::from_slice(key)?);
@@ -132,6 +154,26 @@ fn open_under<C: Cipher>(
     cipher.open_fitting(&nonce, aad, body, &Tag::new(*last))
 }
 
+// Opens under AES-GCM, whose hash key is there, by multiples that are made for the message.
+fn open_gcm(
+    suite: Suite,
+    key: &AesKey,
+    ghash_key: &Block,
+    nonce: &[u8],
+    aad: &[u8],
+    bytes: &mut [u8],
+) -> Result<(), Fault>
+    requires by_gcm { construction_of suite ≡ ByGcm }
+    requires long { length key.now ≡ key_length suite }
+    requires ghash_key { ghash_key.now ≡ hash_key key.now }
+    ensures { let s = setting_of suite key.now nonce.now aad.now in
+        MatchResult result (λ _. WasOpened s bytes.old bytes.new) (WasNotOpened s bytes.old bytes.new) }
+{
+    let multiplier = TableMul::of(ghash_key);
+    let cipher = KeptGcm::new(suite, key, ghash_key, &multiplier);
+    open_under(&cipher, nonce, aad, bytes)
+}
+
 // Opens under the bytes of a key and a nonce. A cipher of its own suite is smaller than one of any suite.
 fn open_bytes(
     suite: Suite,
@@ -152,8 +194,8 @@ fn open_bytes(
             open_under(&cipher, nonce, aad, bytes)
         }
         Suite::Aes128Gcm | Suite::Aes192Gcm | Suite::Aes256Gcm => {
-            let cipher = Gcm::new(suite, AesKey::from_slice(key)?);
-            open_under(&cipher, nonce, aad, bytes)
+            let key = AesKey::from_slice(key)?;
+            open_gcm(suite, &key, &ghash_key_of(&key), nonce, aad, bytes)
         }
         Suite::Aes128GcmSiv | Suite::Aes256GcmSiv => {
             let cipher = GcmSiv::new(suite, AesKey::from_slice(key)?);

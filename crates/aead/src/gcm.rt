@@ -70,24 +70,21 @@ impl Gcm {
         requires { construction_of suite ≡ ByGcm }
         ensures { result ≡ record { suite = suite; key = key } }
     {
-        let ghash_key = key.encrypt(&Block::new([0; 16]));
-        Gcm::with_hash_key(suite, key, ghash_key)
-    }
-
-    // The cipher of one of the three suites under a key whose hash key is there.
-    #[inline(always)]
-    pub(crate) fn with_hash_key(suite: Suite, key: AesKey, ghash_key: Block) -> Gcm
-        requires by_gcm { construction_of suite ≡ ByGcm }
-        requires is_key { IsKey key }
-        requires hash_key { ghash_key ≡ hash_key key }
-        ensures { result ≡ record { suite = suite; key = key } }
-    {
+        let ghash_key = ghash_key_of(&key);
         Gcm {
             key,
             ghash_key,
             multiplier: TableMul::of(&ghash_key),
             suite,
         }
+    }
+
+    // The cipher by what it keeps, where that is.
+    #[inline(always)]
+    fn kept<'a>(&'a self) -> KeptGcm<'a, &'a TableMul>
+        ensures { ⟦<KeptGcm<'a, &'a TableMul> as Cipher>⟧.keyed result ≡ self.now }
+    {
+        KeptGcm::new(self.suite, &self.key, &self.ghash_key, &self.multiplier)
     }
 
     // Its key.
@@ -118,13 +115,6 @@ impl Gcm {
         }
     }
 
-    // The multiples of its hash key that are kept.
-    fn multiplier(&self) -> &TableMul
-        ensures { ⟦<TableMul as Multiply>⟧.key_bytes result.now ≡ hash_key self.now.key }
-    {
-        &self.multiplier
-    }
-
     // A multiplier of its hash key. It is inlined, since a large one would be moved.
     #[inline(always)]
     pub(crate) fn multiplier_of<M: Keyed128>(&self) -> M
@@ -132,36 +122,15 @@ impl Gcm {
     {
         M::of(&self.ghash_key)
     }
+}
 
-    // Seals by a multiplier of the type `M`.
-    #[inline(never)]
-    fn seal_by<M: Keyed128>(&self, nonce: &Nonce, aad: &[u8], text: &mut [u8]) -> Tag
-        requires aad_fits { length aad.now ≤ aad_limit self.now.suite }
-        requires text_fits { length text.old ≤ text_limit self.now.suite }
-        ensures { Opened (setting self.now nonce.now aad.now) (text.new ++ result) text.old }
-    {
-        let mut made = M::none();
-        made.set(&self.ghash_key);
-        seal_whole(&self.nonced(nonce, &self.key, &made), aad, text)
-    }
-
-    // Opens by a multiplier of the type `M`.
-    #[inline(never)]
-    fn open_by<M: Keyed128>(
-        &self,
-        nonce: &Nonce,
-        aad: &[u8],
-        body: &mut [u8],
-        tag: &Tag,
-    ) -> Result<(), Fault>
-        requires aad_fits { length aad.now ≤ aad_limit self.now.suite }
-        requires text_fits { length body.old ≤ text_limit self.now.suite }
-        ensures { OpensInPlace (setting self.now nonce.now aad.now) tag.now body.old body.new result }
-    {
-        let mut made = M::none();
-        made.set(&self.ghash_key);
-        open_whole(&self.nonced(nonce, &self.key, &made), aad, body, tag)
-    }
+// The key of GHASH (SP 800-38D, 7.1).
+#[inline(always)]
+pub(crate) fn ghash_key_of(key: &AesKey) -> Block
+    ensures value { result ≡ hash_key key.now }
+    ensures is_key { IsKey key.now }
+{
+    key.encrypt(&Block::new([0; 16]))
 }
 
 // The nonce and a counter (SP 800-38D, 7.1). The last word is written as one, since the cipher reads words.
@@ -218,8 +187,95 @@ impl<'a, M: Multiply + Copy, K: KeptKey + Copy> MaskThenHash for NoncedGcm<'a, M
     ghost one_pass = { λ n. ap is_one_pass n.by_gcm };
 }
 
-impl Cipher for Gcm {
-    ghost keyed = { λ c. c };
+// AES-GCM by its key, its hash key and a multiplier for short texts, all kept elsewhere.
+#[derive(Drop)]
+pub(crate) struct KeptGcm<'a, M: Multiply> {
+    suite: Suite,
+    key: &'a AesKey,
+    ghash_key: &'a Block,
+    multiplier: M,
+    ghost by_gcm: { construction_of suite ≡ ByGcm },
+    ghost ghash_key_is: { ghash_key.now ≡ hash_key key.now },
+    ghost multiplier_is: { M.key_bytes multiplier ≡ hash_key key.now },
+}
+
+impl<'a, M: Multiply + Copy> KeptGcm<'a, M> {
+    // The cipher of one of the three suites.
+    #[inline(always)]
+    pub(crate) fn new(
+        suite: Suite,
+        key: &'a AesKey,
+        ghash_key: &'a Block,
+        multiplier: M,
+    ) -> KeptGcm<'a, M>
+        requires by_gcm { construction_of suite ≡ ByGcm }
+        requires ghash_key { ghash_key.now ≡ hash_key key.now }
+        requires multiplier { M.key_bytes multiplier ≡ hash_key key.now }
+        ensures { ⟦<KeptGcm<'a, M> as Cipher>⟧.keyed result ≡ record { suite = suite; key = key.now } }
+    {
+        KeptGcm {
+            suite,
+            key,
+            ghash_key,
+            multiplier,
+        }
+    }
+
+    // The cipher with a nonce, by a multiplier of its hash key.
+    #[inline(always)]
+    fn nonced<'b, N: Multiply + Copy>(
+        &self,
+        nonce: &'b Nonce,
+        multiplier: N,
+    ) -> NoncedGcm<'b, N, &'a AesKey>
+        requires { N.key_bytes multiplier ≡ hash_key self.now.key.now }
+        ensures keyed { ⟦<NoncedGcm<'b, N, &'a AesKey> as Nonced>⟧.keyed result
+            ≡ ⟦<KeptGcm<'a, M> as Cipher>⟧.keyed self.now }
+        ensures nonce { ⟦<NoncedGcm<'b, N, &'a AesKey> as Nonced>⟧.nonce result ≡ nonce.now }
+    {
+        NoncedGcm {
+            suite: self.suite,
+            key: self.key,
+            nonce,
+            multiplier,
+        }
+    }
+
+    // Seals by a multiplier of the type `N`.
+    #[inline(never)]
+    fn seal_by<N: Keyed128>(&self, nonce: &Nonce, aad: &[u8], text: &mut [u8]) -> Tag
+        requires aad_fits { length aad.now ≤ aad_limit self.now.suite }
+        requires text_fits { length text.old ≤ text_limit self.now.suite }
+        ensures { Opened (setting (⟦<KeptGcm<'a, M> as Cipher>⟧.keyed self.now) nonce.now aad.now) (text.new ++ result)
+            text.old }
+    {
+        let mut made = N::none();
+        made.set(self.ghash_key);
+        seal_whole(&self.nonced(nonce, &made), aad, text)
+    }
+
+    // Opens by a multiplier of the type `N`.
+    #[inline(never)]
+    fn open_by<N: Keyed128>(
+        &self,
+        nonce: &Nonce,
+        aad: &[u8],
+        body: &mut [u8],
+        tag: &Tag,
+    ) -> Result<(), Fault>
+        requires aad_fits { length aad.now ≤ aad_limit self.now.suite }
+        requires text_fits { length body.old ≤ text_limit self.now.suite }
+        ensures { OpensInPlace (setting (⟦<KeptGcm<'a, M> as Cipher>⟧.keyed self.now) nonce.now aad.now) tag.now body.old
+            body.new result }
+    {
+        let mut made = N::none();
+        made.set(self.ghash_key);
+        open_whole(&self.nonced(nonce, &made), aad, body, tag)
+    }
+}
+
+impl<'a, M: Multiply + Copy> Cipher for KeptGcm<'a, M> {
+    ghost keyed = { λ c. record { suite = c.suite; key = c.key.now } };
 
     fn suite(&self) -> Suite {
         self.suite
@@ -227,9 +283,7 @@ impl Cipher for Gcm {
 
     fn seal_fitting(&self, nonce: &Nonce, aad: &[u8], text: &mut [u8]) -> Tag {
         match worth((aad.len() + text.len()) as u64) {
-            Multiples::Few => {
-                seal_whole(&self.nonced(nonce, &self.key, self.multiplier()), aad, text)
-            }
+            Multiples::Few => seal_whole(&self.nonced(nonce, self.multiplier), aad, text),
             Multiples::OfFourPowers => self.seal_by::<WideMul>(nonce, aad, text),
         }
     }
@@ -242,15 +296,30 @@ impl Cipher for Gcm {
         tag: &Tag,
     ) -> Result<(), Fault> {
         match worth((aad.len() + body.len()) as u64) {
-            Multiples::Few => {
-                open_whole(
-                    &self.nonced(nonce, &self.key, self.multiplier()),
-                    aad,
-                    body,
-                    tag,
-                )
-            }
+            Multiples::Few => open_whole(&self.nonced(nonce, self.multiplier), aad, body, tag),
             Multiples::OfFourPowers => self.open_by::<WideMul>(nonce, aad, body, tag),
         }
+    }
+}
+
+impl Cipher for Gcm {
+    ghost keyed = { λ c. c };
+
+    fn suite(&self) -> Suite {
+        self.suite
+    }
+
+    fn seal_fitting(&self, nonce: &Nonce, aad: &[u8], text: &mut [u8]) -> Tag {
+        self.kept().seal_fitting(nonce, aad, text)
+    }
+
+    fn open_fitting(
+        &self,
+        nonce: &Nonce,
+        aad: &[u8],
+        body: &mut [u8],
+        tag: &Tag,
+    ) -> Result<(), Fault> {
+        self.kept().open_fitting(nonce, aad, body, tag)
     }
 }

@@ -13,7 +13,7 @@ use Rattle.gf128.specs.declared.table_mul.TableMul.{TableMul}
 
 -- the key of the multiplier of texts in pieces
 abbrev pub key_of : TableMul → List ℕ
-key_of s = to_be_bytes w128 s.multiples.high.word
+key_of s = to_be_bytes w128 s.multiples.word
 
 -- s has taken in the whole blocks m under the key h
 pub record SumHolds {M O : Type 0} (order : Order) (key : M → List ℕ) (s : BlockSum M O) (h : List ℕ)

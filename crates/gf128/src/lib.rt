@@ -24,10 +24,11 @@ pub use byte_order::ByteOrder;
 pub use ghash::{BigEndian, Ghash, ghash_is_the_only};
 pub use hash::BlockHash;
 pub use keyed::{Keyed128, Multiply};
+pub use multiples::KeptMultiples;
 pub use polyval::{
     LittleEndian, Polyval, dot_is_the_only, polyval_by_ghash, polyval_is_the_only, reversed_mul_x,
 };
-pub use table_mul::TableMul;
+pub use table_mul::{KeptMul, TableMul};
 pub use wide_mul::WideMul;
 
 /// The multiplier for a key of which nothing more is known: it is quickly made.

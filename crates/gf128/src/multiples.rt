@@ -1,16 +1,21 @@
 // The multiples of a word by two, four and eight bits, each made of two smaller ones. The bit of highest
 // weight is the coefficient of x^0.
 
-ghost use Rattle.std.specs.Prelude.{◌≡◌, ℕ, ◌/◌, ◌^◌, ◌<◌, slice_index, slice_index_or};
+ghost use Rattle.std.specs.Prelude.{◌≡◌, ℕ, ◌/◌, ◌%◌, ◌^◌, ◌<◌, bit_xor, slice_index, slice_index_or};
 ghost use Rattle.std.specs.Int.{w128, to_be_bytes};
-ghost use Rattle.octets.specs.Bytes.{le};
+ghost use Rattle.octets.specs.Bytes.{IsBlock, le};
 ghost use Rattle.octets.specs.Polynomial.{product};
 ghost use Rattle.gf128.specs.declared.lanes.Lanes.{Lanes};
+ghost use Rattle.gf128.specs.Ghash.{IsProduct};
 ghost use Rattle.gf128.specs.Code.Words.{of_bits, of_word, IsBitsProduct, IsMoved, IsSpread, IsWordProduct};
+ghost use Rattle.gf128.specs.Code.Words.{AreMultiples, kept_number};
 
 use crate::chain::Chain;
 use crate::lanes::Lanes;
-use crate::polynomial_word::{bytes_of, high_half, low_half, times_x};
+use crate::polynomial_word::{
+    block_of, bytes_of, high_half, low_half, of_halves, times_x, word_of,
+};
+use octets::Block;
 
 // The word times x^2.
 #[inline(always)]
@@ -90,52 +95,42 @@ impl Multiples8 {
     }
 }
 
-// The 16 multiples of a word by four bits. A table is one of numbers: an array of them starts at a multiple of 16 bytes in
-// memory, and so a sum takes an entry from there without a load before it; an array of vectors may start anywhere.
-#[derive(Drop, Clone, Copy)]
-pub(crate) struct Multiples16 {
-    pub(crate) word: u128,
-    entries: [u128; 16],
-    ghost filled: { (j : ℕ) → j < 16 → IsBitsProduct 4 j word (slice_index entries j) },
+// The 16 multiples of a word by four bits. They are written out, since LLVM would look the smaller ones up in memory.
+#[inline(always)]
+fn sixteen_multiples(word: u128) -> [u128; 16]
+    ensures { (j : ℕ) → j < 16 → IsBitsProduct 4 j word (slice_index result j) }
+{
+    let by_two = Multiples8::of(word);
+    [
+        by_two.at(0).word(),
+        by_two.at(1).word(),
+        by_two.at(2).word(),
+        by_two.at(3).word(),
+        by_two.at(4).word(),
+        by_two.at(5).word(),
+        by_two.at(6).word(),
+        by_two.at(7).word(),
+        by_two.at(8).word(),
+        by_two.at(9).word(),
+        by_two.at(10).word(),
+        by_two.at(11).word(),
+        by_two.at(12).word(),
+        by_two.at(13).word(),
+        by_two.at(14).word(),
+        by_two.at(15).word(),
+    ]
 }
 
-impl Multiples16 {
-    // The multiples of a word. They are written out, since LLVM would look the smaller ones up in memory.
-    #[inline(always)]
-    pub(crate) fn of(word: u128) -> Multiples16
-        ensures { result.word ≡ word }
-    {
-        let by_two = Multiples8::of(word);
-        Multiples16 {
-            word,
-            entries: [
-                by_two.at(0).word(),
-                by_two.at(1).word(),
-                by_two.at(2).word(),
-                by_two.at(3).word(),
-                by_two.at(4).word(),
-                by_two.at(5).word(),
-                by_two.at(6).word(),
-                by_two.at(7).word(),
-                by_two.at(8).word(),
-                by_two.at(9).word(),
-                by_two.at(10).word(),
-                by_two.at(11).word(),
-                by_two.at(12).word(),
-                by_two.at(13).word(),
-                by_two.at(14).word(),
-                by_two.at(15).word(),
-            ],
-        }
+// The halves of these numbers.
+fn halves_of(numbers: &[u128; 16]) -> [u64; 32]
+    ensures { (j : ℕ) → j < 16 → kept_number result j ≡ slice_index numbers.now j }
+{
+    let mut halves = [0; 32];
+    'numbers: for i in 0..16usize {
+        halves[2 * i] = low_half(numbers[i]);
+        halves[2 * i + 1] = high_half(numbers[i]);
     }
-
-    // The multiple by the four lowest bits of a number.
-    #[inline(always)]
-    pub(crate) fn at(&self, bits: u64) -> Lanes
-        ensures { IsBitsProduct 4 bits self.now.word (le result.bytes) }
-    {
-        Lanes::of(self.entries[(bits % 16) as usize])
-    }
+    halves
 }
 
 // The multiples of a word by eight bits.
@@ -170,36 +165,80 @@ pub(crate) trait ByteMultiples {
         let low = self.times_half(low_half(x));
         high.reduced_with(low.reduced())
     }
+
+    // The product of a block and the word.
+    fn times_block(&self, x: &Block) -> Block
+        ensures value { IsProduct x.now (to_be_bytes w128 (factor self.now)) result }
+        ensures is_block { IsBlock result }
+    {
+        block_of(self.times_word(word_of(x.bytes())))
+    }
 }
 
-// The multiples of a word by eight bits, each the sum of two by four: 32 are kept.
+/// The 32 multiples of a key as plain numbers, for a caller that stores them.
+// C has no numbers of 128 bits.
+#[repr(C)]
+#[derive(Clone, Copy)]
+pub struct KeptMultiples {
+    high: [u64; 32],
+    low: [u64; 32],
+}
+
+impl KeptMultiples {
+    // The sum of a number of each table, as a byte says.
+    #[inline(always)]
+    pub(crate) fn sum_at(&self, byte: u8) -> Lanes
+        ensures { le result.bytes
+            ≡ bit_xor (kept_number self.now.high (byte / 16)) (kept_number self.now.low (byte % 16)) }
+    {
+        let (i, j) = (usize::from(byte / 16) * 2, usize::from(byte % 16) * 2);
+        let high = Lanes::of(of_halves(self.high[i + 1], self.high[i]));
+        high.xor(Lanes::of(of_halves(self.low[j + 1], self.low[j])))
+    }
+}
+
+// The multiples of a word by eight bits, each the sum of two by four: 32 are held. A table is one of numbers: an array of
+// them starts at a multiple of 16 bytes in memory, and so a sum takes an entry from there without a load before it; an
+// array of vectors may start anywhere.
 #[derive(Drop, Clone, Copy)]
 pub(crate) struct Multiples32 {
-    pub(crate) high: Multiples16,
-    low: Multiples16,
-    ghost moved: { IsMoved 4 high.word low.word },
+    pub(crate) word: u128,
+    high: [u128; 16],
+    low: [u128; 16],
+    ghost filled: { AreMultiples (of_word word) (slice_index high) (slice_index low) },
 }
 
 impl Multiples32 {
     // The multiples of a word.
     #[inline(always)]
     pub(crate) fn of(word: u128) -> Multiples32
-        ensures { result.high.word ≡ word }
+        ensures { result.word ≡ word }
     {
         Multiples32 {
-            high: Multiples16::of(word),
-            low: Multiples16::of(times_x4(word)),
+            word,
+            high: sixteen_multiples(word),
+            low: sixteen_multiples(times_x4(word)),
+        }
+    }
+
+    // Its numbers, to be kept.
+    pub(crate) fn kept(&self) -> KeptMultiples
+        ensures { AreMultiples (of_word self.now.word) (kept_number result.high) (kept_number result.low) }
+    {
+        KeptMultiples {
+            high: halves_of(&self.high),
+            low: halves_of(&self.low),
         }
     }
 }
 
 impl ByteMultiples for Multiples32 {
-    ghost factor = { λ s. s.high.word };
+    ghost factor = { λ s. s.word };
 
     #[inline(always)]
     fn at(&self, byte: u8) -> Lanes {
-        let bits = u64::from(byte);
-        self.high.at(bits / 16).xor(self.low.at(bits))
+        let bits = byte as usize;
+        Lanes::of(self.high[bits / 16]).xor(Lanes::of(self.low[bits % 16]))
     }
 }
 

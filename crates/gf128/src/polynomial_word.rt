@@ -1,6 +1,6 @@
 // Words of 128 bits as polynomials: the bit of weight 2^127 is the coefficient of x^0.
 
-ghost use Rattle.std.specs.Prelude.{◌≡◌, ℕ, ◌*◌, ◌/◌, ◌%◌, ◌^◌, ◌<◌, List, reverse, slice_index};
+ghost use Rattle.std.specs.Prelude.{◌≡◌, ℕ, ◌+◌, ◌*◌, ◌/◌, ◌%◌, ◌^◌, ◌<◌, List, reverse, slice_index};
 ghost use Rattle.octets.specs.Bytes.{IsBlock};
 ghost use Rattle.octets.specs.Bits.{g, v};
 ghost use Rattle.gf128.specs.Code.Words.{of_bits, of_word, times_x};
@@ -40,6 +40,14 @@ pub(crate) fn low_half(word: u128) -> u64
     ensures { result ≡ word % 2 ^ 64 }
 {
     (word % 0x1_0000_0000_0000_0000) as u64
+}
+
+// The word of two halves.
+#[inline(always)]
+pub(crate) fn of_halves(high: u64, low: u64) -> u128
+    ensures { result ≡ high * 2 ^ 64 + low }
+{
+    u128::from(high) << 64 | u128::from(low)
 }
 
 // The bytes of a half word, that of the lowest bits first.

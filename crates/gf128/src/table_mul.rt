@@ -1,9 +1,13 @@
 // The product by a table of 32 multiples of the key, a byte at a time.
 
+ghost use Rattle.std.specs.Prelude.{◌≡◌};
 ghost use Rattle.std.specs.Int.{w128, to_be_bytes};
+ghost use Rattle.gf128.specs.Code.Words.{of_word, AreMultiples, kept_number};
+ghost use Rattle.gf128.specs.KeptMultiples.{KeepsMultiples};
 
-use crate::multiples::{ByteMultiples, Multiples32};
-use crate::polynomial_word::{block_of, word_of};
+use crate::lanes::Lanes;
+use crate::multiples::{ByteMultiples, KeptMultiples, Multiples32};
+use crate::polynomial_word::word_of;
 use crate::{Keyed128, Multiply};
 use octets::Block;
 
@@ -13,11 +17,20 @@ pub struct TableMul {
     multiples: Multiples32,
 }
 
+impl TableMul {
+    /// Its multiples, to be kept as plain numbers.
+    pub fn kept(&self) -> KeptMultiples
+        ensures { KeepsMultiples result (⟦<TableMul as Multiply>⟧.key_bytes self.now) }
+    {
+        self.multiples.kept()
+    }
+}
+
 impl Multiply for TableMul {
-    ghost key_bytes = { λ s. to_be_bytes w128 s.multiples.high.word };
+    ghost key_bytes = { λ s. to_be_bytes w128 s.multiples.word };
 
     fn times(&self, x: &Block) -> Block {
-        block_of(self.times_word(word_of(x.bytes())))
+        self.multiples.times_block(x)
     }
 
     fn times_word(&self, x: u128) -> u128 {
@@ -30,5 +43,49 @@ impl Keyed128 for TableMul {
         TableMul {
             multiples: Multiples32::of(word_of(key.bytes())),
         }
+    }
+}
+
+/// The multiplier by multiples that are kept as plain numbers. It takes a little longer than [`TableMul`] for each block,
+/// and needs no making.
+#[derive(Drop, Clone, Copy)]
+pub struct KeptMul<'a> {
+    word: u128,
+    kept: &'a KeptMultiples,
+    ghost filled: { AreMultiples (of_word word) (kept_number kept.now.high) (kept_number kept.now.low) },
+}
+
+impl<'a> KeptMul<'a> {
+    /// The multiplier of `key`, of which [`TableMul::kept`] returned these multiples. The caller shows that they keep them.
+    #[inline(always)]
+    pub fn new(key: &Block, kept: &'a KeptMultiples) -> KeptMul<'a>
+        requires { KeepsMultiples kept.now key.now }
+        ensures { ⟦<KeptMul<'a> as Multiply>⟧.key_bytes result ≡ key.now }
+    {
+        KeptMul {
+            word: word_of(key.bytes()),
+            kept,
+        }
+    }
+}
+
+impl<'a> ByteMultiples for KeptMul<'a> {
+    ghost factor = { λ s. s.word };
+
+    #[inline(always)]
+    fn at(&self, byte: u8) -> Lanes {
+        self.kept.sum_at(byte)
+    }
+}
+
+impl<'a> Multiply for KeptMul<'a> {
+    ghost key_bytes = { λ s. to_be_bytes w128 s.word };
+
+    fn times(&self, x: &Block) -> Block {
+        self.times_block(x)
+    }
+
+    fn times_word(&self, x: u128) -> u128 {
+        ByteMultiples::times_word(self, x)
     }
 }

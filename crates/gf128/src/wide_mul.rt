@@ -79,7 +79,7 @@ impl Multiply for WideMul {
     ghost key_bytes = { λ s. to_be_bytes w128 s.first.word };
 
     fn times(&self, x: &Block) -> Block {
-        block_of(self.times_word(word_of(x.bytes())))
+        self.first.times_block(x)
     }
 
     fn times_word(&self, x: u128) -> u128 {

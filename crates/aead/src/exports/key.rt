@@ -13,16 +13,17 @@ use super::pass::{is_chacha, is_siv, mark_of, marked};
 use super::sealer::{NOT_BEGUN, begun_chacha, begun_gcm};
 use super::stored::StoredSealer;
 use super::stored_key::StoredKey;
-use super::{UNKNOWN_SUITE, open_under, seal_under, suite_numbered};
+use super::{UNKNOWN_SUITE, open_gcm, open_under, seal_gcm, seal_under, suite_numbered};
 use crate::chacha_poly::ChaChaPoly;
 use crate::derived_keys::expanded;
-use crate::gcm::Gcm;
+use crate::gcm::{KeptGcm, ghash_key_of};
 use crate::gcm_siv::GcmSiv;
 use crate::suite::Suite;
-use octets::{Block, Fault, Key32, Nonce, outcome_number};
+use gf128::{Keyed128, TableMul};
+use octets::{Fault, Key32, Nonce, WIDE, outcome_number};
 
 // The kind of struct, to which its mark adds the suite's number: `cipher` in ASCII, and the version of its layout.
-const KEY: u64 = 0x6369_7068_6572_0100;
+const KEY: u64 = 0x6369_7068_6572_0200;
 
 // Keeps the bytes of a key of the suite's length.
 fn kept(suite: Suite, key: &[u8]) -> StoredKey
@@ -32,12 +33,19 @@ fn kept(suite: Suite, key: &[u8]) -> StoredKey
     let mut padded = [0; 32];
     padded[..key.len()].copy_from_slice(key);
     let aes = expanded(key);
+    let ghash_key = ghash_key_of(&aes);
     StoredKey {
         mark: mark_of(KEY, suite),
         key: padded,
         words: aes.words(),
-        ghash_key: *aes.encrypt(&Block::new([0; 16])).bytes(),
+        ghash_key: *ghash_key.bytes(),
+        multiples: TableMul::of(&ghash_key).kept(),
     }
+}
+
+// Whether the multiples that are kept serve a message sooner than others that are made for it.
+fn is_short(aad: &[u8], bytes: &[u8]) -> bool {
+    WIDE || aad.len() < 48 && bytes.len() < 96
 }
 
 // Seals under a kept key and the bytes of a nonce.
@@ -58,8 +66,13 @@ fn seal_kept(
             seal_under(&cipher, nonce, aad, bytes)
         }
         Suite::Aes128Gcm | Suite::Aes192Gcm | Suite::Aes256Gcm => {
-            let cipher = Gcm::with_hash_key(suite, kept.aes(suite), Block::new(kept.ghash_key));
-            seal_under(&cipher, nonce, aad, bytes)
+            let (key, ghash_key) = (kept.aes(suite), kept.ghash_key(suite));
+            if is_short(aad, bytes) {
+                let cipher = KeptGcm::new(suite, &key, &ghash_key, kept.multiplier(suite));
+                seal_under(&cipher, nonce, aad, bytes)
+            } else {
+                seal_gcm(suite, &key, &ghash_key, nonce, aad, bytes)
+            }
         }
         Suite::Aes128GcmSiv | Suite::Aes256GcmSiv => {
             let cipher = GcmSiv::new(suite, kept.aes(suite));
@@ -86,8 +99,13 @@ fn open_kept(
             open_under(&cipher, nonce, aad, bytes)
         }
         Suite::Aes128Gcm | Suite::Aes192Gcm | Suite::Aes256Gcm => {
-            let cipher = Gcm::with_hash_key(suite, kept.aes(suite), Block::new(kept.ghash_key));
-            open_under(&cipher, nonce, aad, bytes)
+            let (key, ghash_key) = (kept.aes(suite), kept.ghash_key(suite));
+            if is_short(aad, bytes) {
+                let cipher = KeptGcm::new(suite, &key, &ghash_key, kept.multiplier(suite));
+                open_under(&cipher, nonce, aad, bytes)
+            } else {
+                open_gcm(suite, &key, &ghash_key, nonce, aad, bytes)
+            }
         }
         Suite::Aes128GcmSiv | Suite::Aes256GcmSiv => {
             let cipher = GcmSiv::new(suite, kept.aes(suite));
@@ -114,8 +132,14 @@ fn begun_kept(
         return Ok(begun_chacha(suite, &Key32::new(kept.key), &nonce, aad));
     }
     let key = &kept.key[..suite.key_length()];
-    let ghash_key = Block::new(kept.ghash_key);
-    Ok(begun_gcm(suite, key, &kept.aes(suite), &ghash_key, &nonce, aad))
+    Ok(begun_gcm(
+        suite,
+        key,
+        &kept.aes(suite),
+        &kept.ghash_key(suite),
+        &nonce,
+        aad,
+    ))
 }
 
 /// Keeps a key of a suite. What the struct was before makes no difference. `UNKNOWN_SUITE`, then `KeyLength`:
@@ -209,7 +233,7 @@ pub extern "C" fn aeadkit_sealer_init_with(
 /// The bytes of a struct that keeps a key.
 #[unsafe(no_mangle)]
 pub extern "C" fn aeadkit_key_size() -> usize
-    ensures { result ≡ 296 }
+    ensures { result ≡ 808 }
 {
     size_of::<StoredKey>()
 }

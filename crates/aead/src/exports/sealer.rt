@@ -16,7 +16,7 @@ use crate::authenticator::Authenticator;
 use crate::beside::MaskFirst;
 use crate::chacha_poly::first_half;
 use crate::derived_keys::joined_blocks;
-use crate::gcm::counter_block;
+use crate::gcm::{counter_block, ghash_key_of};
 use crate::hashes::GhashTag;
 use crate::suite::Suite;
 use aes::AesKey;
@@ -110,8 +110,7 @@ pub(super) fn begun(
         return Ok(begun_chacha(suite, &key, &nonce, aad));
     }
     let cipher = AesKey::from_slice(key)?;
-    let ghash_key = cipher.encrypt(&Block::new([0; 16]));
-    Ok(begun_gcm(suite, key, &cipher, &ghash_key, &nonce, aad))
+    Ok(begun_gcm(suite, key, &cipher, &ghash_key_of(&cipher), &nonce, aad))
 }
 
 impl StoredSealer {

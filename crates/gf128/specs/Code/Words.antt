@@ -1,6 +1,6 @@
 -- Words of 128 bits as polynomials.
-use Rattle.std.specs.Prelude.{◌≡◌, ℕ, ◌+◌, ◌-◌, ◌*◌, ◌/◌, ◌%◌, ◌^◌, ◌≤◌, Bool, false, List, [], ◌∷◌, ◌++◌}
-use Rattle.std.specs.Prelude.{get_or, map, replicate, bit_xor}
+use Rattle.std.specs.Prelude.{◌≡◌, ℕ, ◌+◌, ◌-◌, ◌*◌, ◌/◌, ◌%◌, ◌^◌, ◌<◌, ◌≤◌, Bool, false, List, [], ◌∷◌, ◌++◌}
+use Rattle.std.specs.Prelude.{get_or, slice_index, map, replicate, bit_xor}
 use Rattle.std.specs.List.{range_with_len}
 use Rattle.octets.specs.Bits.{bit, g}
 use Rattle.octets.specs.Polynomial.{coefficient, Agree, sum, product, power, sum_of_first, residue}
@@ -26,6 +26,15 @@ IsReduced p z = Agree (of_word z) (residue ghash_modulus p)
 -- the word z is the product of the w lowest bits of n and the word h
 abbrev pub IsBitsProduct : ℕ → ℕ → ℕ → ℕ → Type 0
 IsBitsProduct w n h z = IsReduced (product (of_bits w n) (of_word h)) z
+
+-- the multiple of the polynomial p by each byte is the sum of a number of each table
+abbrev pub AreMultiples : List Bool → (ℕ → ℕ) → (ℕ → ℕ) → Type 0
+AreMultiples p high low =
+    (n : ℕ) → n < 256 → IsReduced (product (of_bits 8 n) p) (bit_xor (high (n / 16)) (low (n % 16)))
+
+-- a number of a table that is kept as halves of 64 bits, of each number the low half first
+abbrev pub kept_number : List ℕ → ℕ → ℕ
+kept_number halves i = slice_index halves (2 * i + 1) * 2 ^ 64 + slice_index halves (2 * i)
 
 -- the word z is x^w times the word h
 abbrev pub IsMoved : ℕ → ℕ → ℕ → Type 0

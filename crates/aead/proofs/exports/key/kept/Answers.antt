@@ -1,30 +1,28 @@
-use Rattle.std.proofs.Common.{◌≡◌, ◌∙◌, sym, ap, ap₂, subst, arith, length, replicate}
+use Rattle.std.proofs.Common.{◌≡◌, ◌∙◌, sym, ap, subst, arith, length, replicate}
 use Rattle.std.proofs.lemmas.Slice.{take-put_mid}
-use Rattle.aes.specs.Cipher.{cipher}
 use Rattle.aes.specs.KeptWords.{KeepsSchedule}
+use Rattle.gf128.specs.KeptMultiples.{KeepsMultiples}
 use Rattle.aead.specs.declared.suite.Suite.{Suite}
 use Rattle.aead.specs.Suites.{key_length}
+use Rattle.aead.specs.Exports.{key_mark}
 use Rattle.aead.specs.Sealing.{hash_key}
 use Rattle.aead.proofs.Marks.{one_suite}
 use Rattle.aead.proofs.exports.key.kept.Goals as goal
 
 pub invariant_of-result : goal.invariant_of-result
-unfolding hash_key
 invariant_of-result c =
     let after = c.copy_from_slice.ensures.after in
     let first = λ (s : Suite) (same : c.args.suite ≡ s).
     take-put_mid 0 (length c.args.key.now) (replicate 32 0) c.copy_from_slice.new.self (key_length s)
     (omega (arith, ap length after, c.requires, ap key_length same)) (omega arith) ∙ after in
+    let own = λ (s : Suite) (is : c.mark_of.result ≡ key_mark s).
+    c.expanded-aes.ensures ∙ sym (first s (one_suite c.args.suite s (sym c.mark_of.ensures ∙ is))) in
+    let hashed = λ (s : Suite) (is : c.mark_of.result ≡ key_mark s).
+    c.ghash_key_of-ghash_key.ensures.value ∙ ap hash_key (own s is) in
     record {
-      schedule = λ s is.
-          subst (KeepsSchedule c.words.result)
-          (c.expanded-aes.ensures ∙ sym (first s (one_suite c.args.suite s (sym c.mark_of.ensures ∙ is))))
-          c.words.ensures;
-      hashes = λ s is.
-          c.bytes.ensures.value ∙ c.encrypt.ensures.value
-          ∙ ap₂ cipher
-          (c.expanded-aes.ensures ∙ sym (first s (one_suite c.args.suite s (sym c.mark_of.ensures ∙ is))))
-          c.new.ensures.value;
+      schedule = λ s is. subst (KeepsSchedule c.words.result) (own s is) c.words.ensures;
+      hashes = λ s is. c.bytes.ensures.value ∙ hashed s is;
+      multiplied = λ s is. subst (KeepsMultiples c.kept.result) (c.of.ensures ∙ hashed s is) c.kept.ensures;
     }
 
 pub returns : goal.returns

@@ -1,10 +1,10 @@
 use Rattle.std.proofs.Common.{ℕ, List, [], ◌∷◌, arith}
 use Rattle.gf128.specs.Code.Words.{IsBitsProduct}
 use Rattle.gf128.proofs.BitParts.{AllFrom, entry_at}
-use Rattle.gf128.proofs.multiples.Multiples16.of.Goals as goal
+use Rattle.gf128.proofs.multiples.sixteen_multiples.Goals as goal
 
-pub invariant_of-result : goal.invariant_of-result
-invariant_of-result c =
+pub returns : goal.returns
+returns c =
     let h : ℕ = c.of-by_two.result.high.word in
     let is : ℕ → ℕ → Type 0 = λ j z. IsBitsProduct 4 j h z in
     let entries : List ℕ =
@@ -51,4 +51,4 @@ invariant_of-result c =
         ),
       ),
     ) in
-    record { filled = λ j l. rw c.of-by_two.ensures at (entry_at is 0 j j entries 0 (omega arith) l all) }
+    λ j l. rw c.of-by_two.ensures at (entry_at is 0 j j entries 0 (omega arith) l all)
