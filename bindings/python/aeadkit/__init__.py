@@ -114,11 +114,11 @@ def _found() -> str:
     if os.environ.get("AEADKIT"):
         return os.environ["AEADKIT"]
     folder = os.path.join(os.path.dirname(os.path.abspath(__file__)), "lib")
-    fast = os.path.join(folder, "x86-64-v3", "libaeadkit.so.1")
+    fast = os.path.join(folder, "x86-64-v3", "libaeadkit.so.2")
     if os.path.exists(fast) and _has_avx2():
         return fast
-    base = os.path.join(folder, "libaeadkit.so.1")
-    return base if os.path.exists(base) else "libaeadkit.so.1"
+    base = os.path.join(folder, "libaeadkit.so.2")
+    return base if os.path.exists(base) else "libaeadkit.so.2"
 
 
 def _declared(name, *arguments):

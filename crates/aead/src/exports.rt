@@ -82,6 +82,7 @@ fn seal_under<C: Cipher>(
 }
 
 // Seals under AES-GCM, whose hash key is there, by multiples that are made for the message.
+#[inline(always)]
 fn seal_gcm(
     suite: Suite,
     key: &AesKey,
@@ -155,6 +156,7 @@ fn open_under<C: Cipher>(
 }
 
 // Opens under AES-GCM, whose hash key is there, by multiples that are made for the message.
+#[inline(always)]
 fn open_gcm(
     suite: Suite,
     key: &AesKey,

@@ -136,8 +136,8 @@ impl AesKey {
 
     /// The key with these bytes, of which `words` returned these words. The caller shows that they keep its
     /// schedule.
-    // Inlined, LLVM copies the words one by one.
-    #[inline(never)]
+    // Inlined, so that the words are copied once.
+    #[inline(always)]
     pub fn from_words(words: &[u32; 60], key: &[u8]) -> AesKey
         requires long { IsKeyLength (length key.now) }
         requires schedule { KeepsSchedule words.now key.now }

@@ -31,6 +31,7 @@ fn has_ghash(key: &[u8; 16], text: &[u8], want: &[u8; 16]) -> bool {
         && ghash_of::<TableMul>(key, text) == *want
         && ghash_of::<WideMul>(key, text) == *want
         && ghash_kept(&TableMul::of(&block), text) == *want
+        && ghash_kept(KeptMul::new(&block, &TableMul::of(&block).kept()), text) == *want
         && ghash_kept(&WideMul::of(&block), text) == *want
 }
 
