@@ -1,6 +1,6 @@
 -- Words of 128 bits as polynomials.
-use Rattle.std.specs.Prelude.{◌≡◌, ℕ, ◌+◌, ◌-◌, ◌*◌, ◌/◌, ◌%◌, ◌^◌, ◌<◌, ◌≤◌, Bool, false, List, [], ◌∷◌, ◌++◌}
-use Rattle.std.specs.Prelude.{get_or, slice_index, map, replicate, bit_xor}
+use Rattle.std.specs.Prelude.{◌≡◌, ℕ, ◌+◌, ◌-◌, ◌*◌, ◌/◌, ◌%◌, ◌^◌, ◌≤◌, Bool, false, List, [], ◌∷◌, ◌++◌}
+use Rattle.std.specs.Prelude.{◌<◌, get_or, slice_index, map, replicate, bit_xor}
 use Rattle.std.specs.List.{range_with_len}
 use Rattle.octets.specs.Bits.{bit, g}
 use Rattle.octets.specs.Polynomial.{coefficient, Agree, sum, product, power, sum_of_first, residue}
