@@ -83,7 +83,7 @@ IsGhashSum n s m = gf128.IsSum Straight (hash_key s.key) m (n.low + n.middle * 2
 abbrev pub IsPolyvalKey : List ℕ → Setting → Type 0
 IsPolyvalKey k s = Serves Reversed (authentication_key s.key s.nonce) (take 16 k)
 
--- POLYVAL's sum over the whole blocks of m, told as a fact alone
+-- POLYVAL's sum over the whole blocks of m, stated as a fact alone
 abbrev pub IsPolyvalSum : StoredSum → Setting → List ℕ → Type 0
 IsPolyvalSum n s m = ∥ gf128.IsSum Reversed (authentication_key s.key s.nonce) m (n.low + n.middle * 2 ^ 64) ∥₁
 

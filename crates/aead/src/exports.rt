@@ -1,10 +1,12 @@
 // The calls for C: a slice crosses as a pointer and a length, a suite and an outcome as their numbers.
 
-ghost use Rattle.std.specs.Prelude.{◌≡◌, ◌≢◌, ◌↔◌, length, MatchOption, MatchResult};
+ghost use Rattle.std.specs.Prelude.{◌≡◌, ◌≢◌, ◌↔◌, ℕ, List, length, refl, MatchOption, MatchResult};
+ghost use Rattle.octets.specs.declared.fault.Fault.{Fault};
+ghost use Rattle.octets.specs.declared.fault.Fault.TheVariants.{KeyLength};
 ghost use Rattle.octets.specs.Numbers.{HasOutcome};
 ghost use Rattle.aead.specs.declared.suite.Suite.{Suite};
 ghost use Rattle.aead.specs.Suites.{construction_of, key_length, ByGcm};
-ghost use Rattle.aead.specs.Sealing.{hash_key};
+ghost use Rattle.aead.specs.Sealing.{Setting, hash_key};
 ghost use Rattle.aead.specs.Ciphers.{setting};
 ghost use Rattle.aead.specs.Exports.{suite_number, unknown_suite, setting_of};
 ghost use Rattle.aead.specs.Exports.{WasSealed, WasNotSealed, WasOpened, WasNotOpened};
@@ -56,34 +58,78 @@ fn nonce_of(bytes: &[u8]) -> Option<Nonce>
     }
 }
 
-// Seals the bytes before the last sixteen, which become the tag, under the bytes of a nonce.
-fn seal_under<C: Cipher>(
-    cipher: &C,
-    nonce: &[u8],
-    aad: &[u8],
-    bytes: &mut [u8],
-) -> Result<(), Fault>
-    requires { length (C.keyed cipher.now).key ≡ key_length (C.keyed cipher.now).suite }
-    ensures { let s = setting (C.keyed cipher.now) nonce.now aad.now in
-        MatchResult result (λ _. WasSealed s bytes.old bytes.new) (WasNotSealed s bytes.old bytes.new) }
-{
-    let Some(nonce) = nonce_of(nonce) else {
-        return Err(Fault::NonceLength);
-    };
-    let suite = cipher.suite();
-    suite.check_aad(aad)?;
-    let Some((body, last)) = bytes.split_last_chunk_mut() else {
-        return Err(Fault::TooShort);
-    };
-    suite.check_text(body)?;
-    let tag = cipher.seal_fitting(&nonce, aad, body);
-    *last = *tag.bytes();
-    Ok(())
+// What a call does with the bytes of a message, whatever its cipher: the last sixteen are the tag, or room for it.
+trait Direction {
+    // What becomes of the bytes.
+    ghost done: { Setting → List ℕ → List ℕ → Type 0 };
+
+    // Why the bytes are left as they were.
+    ghost refused: { Setting → List ℕ → List ℕ → Fault → Type 0 };
+
+    // Seals or opens under the bytes of a nonce.
+    fn run<C: Cipher>(cipher: &C, nonce: &[u8], aad: &[u8], bytes: &mut [u8]) -> Result<(), Fault>
+        requires { length (C.keyed cipher.now).key ≡ key_length (C.keyed cipher.now).suite }
+        ensures { let s = setting (C.keyed cipher.now) nonce.now aad.now in
+            MatchResult result (λ _. done s bytes.old bytes.new) (refused s bytes.old bytes.new) };
+
+    // A key of another length is refused.
+    ghost key: { (s : Setting) (bytes : List ℕ) → length s.key ≢ key_length s.suite
+        → refused s bytes bytes KeyLength };
 }
 
-// Seals under AES-GCM, whose hash key is there, by multiples that are made for the message.
+// A text becomes its ciphertext and tag.
+struct Sealing;
+
+impl Direction for Sealing {
+    ghost done = { WasSealed };
+
+    ghost refused = { WasNotSealed };
+
+    ghost key = { λ s bytes long. (refl, long) };
+
+    fn run<C: Cipher>(cipher: &C, nonce: &[u8], aad: &[u8], bytes: &mut [u8]) -> Result<(), Fault> {
+        let Some(nonce) = nonce_of(nonce) else {
+            return Err(Fault::NonceLength);
+        };
+        let suite = cipher.suite();
+        suite.check_aad(aad)?;
+        let Some((body, last)) = bytes.split_last_chunk_mut() else {
+            return Err(Fault::TooShort);
+        };
+        suite.check_text(body)?;
+        let tag = cipher.seal_fitting(&nonce, aad, body);
+        *last = *tag.bytes();
+        Ok(())
+    }
+}
+
+// A ciphertext becomes its text if the tag is its own.
+struct Opening;
+
+impl Direction for Opening {
+    ghost done = { WasOpened };
+
+    ghost refused = { WasNotOpened };
+
+    ghost key = { λ s bytes long. (refl, long) };
+
+    fn run<C: Cipher>(cipher: &C, nonce: &[u8], aad: &[u8], bytes: &mut [u8]) -> Result<(), Fault> {
+        let Some(nonce) = nonce_of(nonce) else {
+            return Err(Fault::NonceLength);
+        };
+        let suite = cipher.suite();
+        suite.check_aad(aad)?;
+        let Some((body, last)) = bytes.split_last_chunk_mut() else {
+            return Err(Fault::TooShort);
+        };
+        suite.check_text(body)?;
+        cipher.open_fitting(&nonce, aad, body, &Tag::new(*last))
+    }
+}
+
+// Seals or opens under AES-GCM, whose hash key is there, by multiples that are made for the message.
 #[inline(always)]
-fn seal_gcm(
+fn run_gcm<D: Direction>(
     suite: Suite,
     key: &AesKey,
     ghash_key: &Block,
@@ -95,15 +141,15 @@ fn seal_gcm(
     requires long { length key.now ≡ key_length suite }
     requires ghash_key { ghash_key.now ≡ hash_key key.now }
     ensures { let s = setting_of suite key.now nonce.now aad.now in
-        MatchResult result (λ _. WasSealed s bytes.old bytes.new) (WasNotSealed s bytes.old bytes.new) }
+        MatchResult result (λ _. D.done s bytes.old bytes.new) (D.refused s bytes.old bytes.new) }
 {
     let multiplier = TableMul::of(ghash_key);
     let cipher = KeptGcm::new(suite, key, ghash_key, &multiplier);
-    seal_under(&cipher, nonce, aad, bytes)
+    D::run(&cipher, nonce, aad, bytes)
 }
 
-// Seals under the bytes of a key and a nonce. A cipher of its own suite is smaller than one of any suite.
-fn seal_bytes(
+// Seals or opens under the bytes of a key and a nonce. A cipher of its own suite is smaller than one of any suite.
+fn run_by_bytes<D: Direction>(
     suite: Suite,
     key: &[u8],
     nonce: &[u8],
@@ -111,7 +157,7 @@ fn seal_bytes(
     bytes: &mut [u8],
 ) -> Result<(), Fault>
     ensures { let s = setting_of suite key.now nonce.now aad.now in
-        MatchResult result (λ _. WasSealed s bytes.old bytes.new) (WasNotSealed s bytes.old bytes.new) }
+        MatchResult result (λ _. D.done s bytes.old bytes.new) (D.refused s bytes.old bytes.new) }
 {
     if key.len() != suite.key_length() {
         return Err(Fault::KeyLength);
@@ -119,89 +165,15 @@ fn seal_bytes(
     match suite {
         Suite::ChaCha20Poly1305 => {
             let cipher = ChaChaPoly::new(&Key32::from_slice(key)?);
-            seal_under(&cipher, nonce, aad, bytes)
+            D::run(&cipher, nonce, aad, bytes)
         }
         Suite::Aes128Gcm | Suite::Aes192Gcm | Suite::Aes256Gcm => {
             let key = AesKey::from_slice(key)?;
-            seal_gcm(suite, &key, &ghash_key_of(&key), nonce, aad, bytes)
+            run_gcm::<D>(suite, &key, &ghash_key_of(&key), nonce, aad, bytes)
         }
         Suite::Aes128GcmSiv | Suite::Aes256GcmSiv => {
             let cipher = GcmSiv::new(suite, AesKey::from_slice(key)?);
-            seal_under(&cipher, nonce, aad, bytes)
-        }
-    }
-}
-
-// Opens the bytes before the last sixteen, which are the tag, under the bytes of a nonce.
-fn open_under<C: Cipher>(
-    cipher: &C,
-    nonce: &[u8],
-    aad: &[u8],
-    bytes: &mut [u8],
-) -> Result<(), Fault>
-    requires { length (C.keyed cipher.now).key ≡ key_length (C.keyed cipher.now).suite }
-    ensures { let s = setting (C.keyed cipher.now) nonce.now aad.now in
-        MatchResult result (λ _. WasOpened s bytes.old bytes.new) (WasNotOpened s bytes.old bytes.new) }
-{
-    let Some(nonce) = nonce_of(nonce) else {
-        return Err(Fault::NonceLength);
-    };
-    let suite = cipher.suite();
-    suite.check_aad(aad)?;
-    let Some((body, last)) = bytes.split_last_chunk_mut() else {
-        return Err(Fault::TooShort);
-    };
-    suite.check_text(body)?;
-    cipher.open_fitting(&nonce, aad, body, &Tag::new(*last))
-}
-
-// Opens under AES-GCM, whose hash key is there, by multiples that are made for the message.
-#[inline(always)]
-fn open_gcm(
-    suite: Suite,
-    key: &AesKey,
-    ghash_key: &Block,
-    nonce: &[u8],
-    aad: &[u8],
-    bytes: &mut [u8],
-) -> Result<(), Fault>
-    requires by_gcm { construction_of suite ≡ ByGcm }
-    requires long { length key.now ≡ key_length suite }
-    requires ghash_key { ghash_key.now ≡ hash_key key.now }
-    ensures { let s = setting_of suite key.now nonce.now aad.now in
-        MatchResult result (λ _. WasOpened s bytes.old bytes.new) (WasNotOpened s bytes.old bytes.new) }
-{
-    let multiplier = TableMul::of(ghash_key);
-    let cipher = KeptGcm::new(suite, key, ghash_key, &multiplier);
-    open_under(&cipher, nonce, aad, bytes)
-}
-
-// Opens under the bytes of a key and a nonce. A cipher of its own suite is smaller than one of any suite.
-fn open_bytes(
-    suite: Suite,
-    key: &[u8],
-    nonce: &[u8],
-    aad: &[u8],
-    bytes: &mut [u8],
-) -> Result<(), Fault>
-    ensures { let s = setting_of suite key.now nonce.now aad.now in
-        MatchResult result (λ _. WasOpened s bytes.old bytes.new) (WasNotOpened s bytes.old bytes.new) }
-{
-    if key.len() != suite.key_length() {
-        return Err(Fault::KeyLength);
-    }
-    match suite {
-        Suite::ChaCha20Poly1305 => {
-            let cipher = ChaChaPoly::new(&Key32::from_slice(key)?);
-            open_under(&cipher, nonce, aad, bytes)
-        }
-        Suite::Aes128Gcm | Suite::Aes192Gcm | Suite::Aes256Gcm => {
-            let key = AesKey::from_slice(key)?;
-            open_gcm(suite, &key, &ghash_key_of(&key), nonce, aad, bytes)
-        }
-        Suite::Aes128GcmSiv | Suite::Aes256GcmSiv => {
-            let cipher = GcmSiv::new(suite, AesKey::from_slice(key)?);
-            open_under(&cipher, nonce, aad, bytes)
+            D::run(&cipher, nonce, aad, bytes)
         }
     }
 }
@@ -222,7 +194,7 @@ pub extern "C" fn aeadkit_seal(
         → (result ≡ unknown_suite) × (bytes.new ≡ bytes.old) }
 {
     match suite_numbered(u64::from(suite)) {
-        Some(suite) => outcome_number(seal_bytes(suite, key, nonce, aad, bytes)),
+        Some(suite) => outcome_number(run_by_bytes::<Sealing>(suite, key, nonce, aad, bytes)),
         None => UNKNOWN_SUITE,
     }
 }
@@ -243,7 +215,7 @@ pub extern "C" fn aeadkit_open(
         → (result ≡ unknown_suite) × (bytes.new ≡ bytes.old) }
 {
     match suite_numbered(u64::from(suite)) {
-        Some(suite) => outcome_number(open_bytes(suite, key, nonce, aad, bytes)),
+        Some(suite) => outcome_number(run_by_bytes::<Opening>(suite, key, nonce, aad, bytes)),
         None => UNKNOWN_SUITE,
     }
 }
@@ -276,36 +248,5 @@ mod tests {
         assert!(rt; sealed == 0 && bytes == SEALED);
         let opened = aeadkit_open(2, &ZEROS, &ZEROS[..12], &[], &mut bytes);
         assert!(rt; opened == 0 && bytes == OPENED);
-    }
-
-    // Whether opening the first bytes of the sealing returns a number, and leaves them.
-    fn is_not_opened(suite: u32, key: &[u8], nonce: &[u8], most: usize, number: u32) -> bool {
-        let mut bytes = SEALED;
-        let answer = aeadkit_open(suite, key, nonce, &[], &mut bytes[..most.min(32)]);
-        answer == number && bytes == SEALED
-    }
-
-    // Whether sealing in the first bytes returns a number, and leaves them.
-    fn is_not_sealed(suite: u32, key: &[u8], nonce: &[u8], most: usize, number: u32) -> bool {
-        let mut bytes = SEALED;
-        let answer = aeadkit_seal(suite, key, nonce, &[], &mut bytes[..most.min(32)]);
-        answer == number && bytes == SEALED
-    }
-
-    // Whether opening and sealing both return a number, and leave the bytes.
-    fn is_refused(suite: u32, key: &[u8], nonce: &[u8], most: usize, number: u32) -> bool {
-        is_not_opened(suite, key, nonce, most, number)
-            && is_not_sealed(suite, key, nonce, most, number)
-    }
-
-    #[test]
-    fn the_numbers_of_refusals(rt: HostRuntime) {
-        let nonce = &ZEROS[..12];
-        assert!(rt; is_refused(0, &[], &[], 0, 14));
-        assert!(rt; is_refused(7, &ZEROS, nonce, 32, 14));
-        assert!(rt; is_refused(2, &ZEROS[..15], &[], 0, 1));
-        assert!(rt; is_refused(2, &ZEROS, &ZEROS[..11], 0, 2));
-        assert!(rt; is_refused(2, &ZEROS, nonce, 15, 5));
-        assert!(rt; is_not_opened(2, &ZEROS, nonce, 31, 6));
     }
 }

@@ -40,7 +40,7 @@ pub record OpensThrice (s : Setting) (m v w given : List ℕ) (r : Answer) : Typ
   pub after : FailureCounts
   pub is : OpensStream s m v w given before after r
 
--- a relation between what is given and the result, if something is told of what was given
+-- a relation between what is given and the result, if what was given is known
 abbrev pub Giving : Type 1
 Giving = (List ℕ → Type 0) → Type 0
 

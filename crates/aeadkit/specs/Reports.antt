@@ -18,7 +18,7 @@ bad_line number = codes "bad " ++ (decimal number ++ 10 ∷ [])
 abbrev pub report_text : ℕ → List ℕ → List ℕ
 report_text records bad = codes "records " ++ (decimal records ++ 10 ∷ flat_map bad_line bad)
 
--- this is the report of a file, where its bytes are told
+-- this is the report of a file, if its bytes are known
 abbrev pub IsReportOf : Option (List ℕ) → ℕ → List ℕ → Type 0
 IsReportOf file records bad = IfSome file (λ bytes. IsReport (lines_of bytes) records bad)
 
@@ -30,7 +30,7 @@ pub record IsChecked (file before after : Option (List ℕ)) (status : ℕ) : Ty
   pub text : Appends before after (report_text records bad)
   pub yes : (status ≡ 0) ↔ ((1 ≤ records) × (bad ≡ []))
 
--- why a file has no report: it is not read, or its first fault, where its bytes are told
+-- why a file has no report: it is not read, or its first fault, if its bytes are known
 abbrev pub FileRefused : Option (List ℕ) → Failure → Type 0
 FileRefused file (OfFault Read) = ⊤
 FileRefused file (OfFault OutOfMemory) = ⊤

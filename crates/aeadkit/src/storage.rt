@@ -21,10 +21,10 @@ pub trait Storage {
     /// A file that is open for writing.
     type Output: Outlet + Drop;
 
-    // The bytes that a file gives in a reading, if they are told. A request's readings are counted from 0.
+    // The bytes that a file gives in a reading, if they are known. A request's readings are counted from 0.
     ghost contents: { Self → List ℕ → ℕ → Option (List ℕ) } = { λ _ _ _. None };
 
-    // The bytes that a file holds once it was made, if they are told.
+    // The bytes that a file holds once it was made, if they are known.
     ghost blank: { Self → Option (List ℕ) } = { λ _. None };
 
     // Whether the opening of a file for a reading may fail.

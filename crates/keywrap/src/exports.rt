@@ -137,51 +137,13 @@ mod tests {
         0x77, 0x88, 0x99, 0xaa, 0xbb, 0xcc, 0xdd, 0xee, 0xff,
     ];
 
-    // The last byte of the wrapping changed.
-    const CHANGED: [u8; 24] = [
-        0x1f, 0xa6, 0x8b, 0x0a, 0x81, 0x12, 0xb4, 0x47, 0xae, 0xf3, 0x4b, 0xd8, 0xfb, 0x5a, 0x7b,
-        0x82, 0x9d, 0x3e, 0x86, 0x23, 0x71, 0xd2, 0xcf, 0xe4,
-    ];
-
     const KEY: [u8; 16] = [0, 1, 2, 3, 4, 5, 6, 7, 8, 9, 10, 11, 12, 13, 14, 15];
-
-    // Whether wrapping this many of the bytes returns a number and leaves these.
-    fn wraps(
-        key: &[u8],
-        mut bytes: [u8; 24],
-        length: usize,
-        number: u32,
-        after: &[u8; 24],
-    ) -> bool {
-        let answer = aeadkit_wrap(key, &mut bytes[..length.min(24)]);
-        answer == number && bytes == *after
-    }
-
-    // Whether unwrapping this many of the bytes returns a number and leaves these.
-    fn unwraps(
-        key: &[u8],
-        mut bytes: [u8; 24],
-        length: usize,
-        number: u32,
-        after: &[u8; 24],
-    ) -> bool {
-        let answer = aeadkit_unwrap(key, &mut bytes[..length.min(24)]);
-        answer == number && bytes == *after
-    }
 
     #[test]
     fn a_published_wrapping_and_back(rt: HostRuntime) {
-        assert!(rt; wraps(&KEY, ROOM, 24, 0, &WRAPPED));
-        assert!(rt; unwraps(&KEY, WRAPPED, 24, 0, &UNWRAPPED));
-    }
-
-    #[test]
-    fn the_numbers_of_refusals(rt: HostRuntime) {
-        assert!(rt; unwraps(&KEY, CHANGED, 24, 8, &CHANGED));
-        assert!(rt; unwraps(&KEY, CHANGED, 23, 7, &CHANGED));
-        assert!(rt; wraps(&KEY, CHANGED, 16, 7, &CHANGED));
-        assert!(rt; unwraps(&KEY[..15], CHANGED, 23, 1, &CHANGED));
-        assert!(rt; wraps(&KEY[..15], CHANGED, 16, 1, &CHANGED));
+        let mut bytes = ROOM;
+        assert!(rt; aeadkit_wrap(&KEY, &mut bytes) == 0 && bytes == WRAPPED);
+        assert!(rt; aeadkit_unwrap(&KEY, &mut bytes) == 0 && bytes == UNWRAPPED);
     }
 
     // The key of RFC 5649, 6.
@@ -207,26 +169,12 @@ mod tests {
         0x00,
     ];
 
-    // Whether wrapping a text of this length with padding returns a number and leaves these bytes.
-    fn wraps_padded(text_length: usize, number: u32, after: &[u8; 16]) -> bool {
-        let mut bytes = SHORT_ROOM;
-        let answer = aeadkit_wrap_padded(&LONG_KEY, &mut bytes, text_length);
-        answer == number && bytes == *after
-    }
-
-    // Whether unwrapping returns a number and a length, and leaves these bytes.
-    fn unwraps_padded(key: &[u8], number: u32, text_length: usize, after: &[u8; 16]) -> bool {
-        let mut bytes = SHORT_WRAPPED;
-        let mut length = 0;
-        let answer = aeadkit_unwrap_padded(key, &mut bytes, &mut length);
-        answer == number && length == text_length && bytes == *after
-    }
-
     #[test]
     fn a_published_padded_wrapping_and_back(rt: HostRuntime) {
-        assert!(rt; wraps_padded(0, 7, &SHORT_ROOM));
-        assert!(rt; wraps_padded(7, 0, &SHORT_WRAPPED));
-        assert!(rt; unwraps_padded(&KEY, 8, 0, &SHORT_WRAPPED));
-        assert!(rt; unwraps_padded(&LONG_KEY, 0, 7, &SHORT_UNWRAPPED));
+        let mut bytes = SHORT_ROOM;
+        let mut length = 0;
+        assert!(rt; aeadkit_wrap_padded(&LONG_KEY, &mut bytes, 7) == 0 && bytes == SHORT_WRAPPED);
+        assert!(rt; aeadkit_unwrap_padded(&LONG_KEY, &mut bytes, &mut length) == 0);
+        assert!(rt; length == 7 && bytes == SHORT_UNWRAPPED);
     }
 }

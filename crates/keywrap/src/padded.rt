@@ -60,7 +60,7 @@ fn untransform(key: &AesKey, first: &mut [u8; 8], blocks: &mut [u8])
 }
 
 // The length in an alternative initial value, or none if `first` is not one.
-fn told_length(first: &[u8; 8]) -> Option<u32>
+fn stated_length(first: &[u8; 8]) -> Option<u32>
     ensures { MatchOption result ((n : ℕ) → n < 2 ^ 32 → first.now ≢ alternative_value n)
         (λ n. (n < 2 ^ 32) × (first.now ≡ alternative_value n)) }
 {
@@ -89,7 +89,7 @@ fn text_length(first: &[u8; 8], blocks: &[u8]) -> Option<usize>
     ensures { MatchOption result ((text : List ℕ) → ¬ IsStartOf text first.now blocks.now)
         (λ n. (n ≤ length blocks.now) × IsStartOf (take n blocks.now) first.now blocks.now) }
 {
-    let length = told_length(first)? as usize;
+    let length = stated_length(first)? as usize;
     if length <= blocks.len() && blocks.len() < length + 8 && are_zero(&blocks[length..]) {
         Some(length)
     } else {

@@ -46,7 +46,7 @@ HeldByGhash key_bytes h s m =
     (construction_of s.suite ≡ ByGcm) × gf128.Holds key_bytes h.hash (hash_key s.key) m
     × (h.mask ≡ cipher s.key (j0 s.nonce))
 
--- POLYVAL, with the encryption key and the nonce; what it holds is told as a fact alone
+-- POLYVAL, with the encryption key and the nonce; what it holds is stated as a fact alone
 abbrev pub HeldByPolyval : {M K : Type 0} → (M → List ℕ) → (K → List ℕ) → PolyvalTag M K → Setting → List ℕ
     → Type 0
 HeldByPolyval key_bytes kept h s m =

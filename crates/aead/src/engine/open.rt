@@ -18,6 +18,7 @@ use crate::engine::opening::pass_opening;
 use crate::engine::passes::Finding;
 use crate::engine::verifying::verify_one_pass;
 use crate::suite::Suite;
+use gf128::WideMul;
 use octets::{DeviceFault, Fault, Intake, Nonce, Outlet};
 
 // Takes all bytes and keeps none.
@@ -39,7 +40,7 @@ fn measure_step<I: Intake>(suite: Suite, intake: &mut I) -> Result<Measured, Fau
     ensures high { IfOk result (λ m. m.length ≤ text_limit suite + 16) }
     ensures blame { StepBlames (Fault.TextTooLong ∷ Fault.TooShort ∷ []) (I.failures intake.old)
         (I.failures intake.new) result }
-    ensures told { IfSome (I.left intake.old)
+    ensures known { IfSome (I.left intake.old)
         (λ m. MeasureReturns (text_limit suite) m (I.failures intake.old) (I.failures intake.new) result) }
 {
     Measured::of(intake, suite.text_limit())
@@ -83,7 +84,14 @@ fn verify_reading<I: Intake>(
     match cipher {
         AnyAead::OnePass(cipher) => verify_one_pass(cipher, nonce, aad, intake, measured),
         AnyAead::Siv(_) => {
-            match pass_opening(cipher, nonce, aad, intake, measured, &mut Discard) {
+            match pass_opening::<WideMul, I, Discard>(
+                cipher,
+                nonce,
+                aad,
+                intake,
+                measured,
+                &mut Discard,
+            ) {
                 Ok(finding) => Ok(finding),
                 Err(_) => Err(Fault::Read),
             }
@@ -103,7 +111,7 @@ fn verify_step<I: Intake>(
     requires high { measured.now.length ≤ text_limit (keyed_of cipher.now).suite + 16 }
     ensures blame { StepBlames (Fault.TagMismatch ∷ Fault.SourceChanged ∷ []) (I.failures intake.old)
         (I.failures intake.new) result }
-    ensures told { IfSome (I.left intake.old)
+    ensures known { IfSome (I.left intake.old)
         (λ v. VerifyReturns (setting (keyed_of cipher.now) nonce.now aad.now)
         measured.now.tag measured.now.length v (I.failures intake.old) (I.failures intake.new) result) }
 {
@@ -126,13 +134,13 @@ fn write_step<I: Intake, O: Outlet>(
     requires high { measured.now.length ≤ text_limit (keyed_of cipher.now).suite + 16 }
     ensures blame { GiveBlames (Fault.SourceChanged ∷ []) (I.failures intake.old) (I.failures intake.new)
         (O.failures outlet.old) (O.failures outlet.new) result }
-    ensures told { IfSome (I.left intake.old)
+    ensures known { IfSome (I.left intake.old)
         (λ w. WriteReturns (setting (keyed_of cipher.now) nonce.now aad.now)
         measured.now.tag measured.now.length w (O.taken outlet.old) (O.taken outlet.new)
         (I.failures intake.old) (I.failures intake.new)
         (O.failures outlet.old) (O.failures outlet.new) result) }
 {
-    match pass_opening(cipher, nonce, aad, intake, measured, outlet) {
+    match pass_opening::<WideMul, I, O>(cipher, nonce, aad, intake, measured, outlet) {
         Ok(finding) => answer_write(finding),
         Err(fault) => Err(fault),
     }

@@ -13,9 +13,8 @@ use crate::engine::measure::Measured;
 use crate::engine::passes::{Finding, pass};
 use crate::hash_then_mask::HashThenMask;
 use crate::mask_then_hash::MaskThenHash;
-use crate::multiples::{Multiples, worth};
 use crate::nonced::masking;
-use gf128::{Keyed128, TableMul, WideMul};
+use gf128::Keyed128;
 use octets::{Fault, Intake, Nonce, Outlet};
 
 // Opens a whole reading by a cipher with a nonce whose tag is over the ciphertext.
@@ -59,7 +58,7 @@ fn pass_mask_first<N: HashThenMask, I: Intake, O: Outlet>(
 }
 
 // Opens a whole reading by a cipher of any suite, with a multiplier of the type `M`.
-fn pass_by<M: Keyed128, I: Intake, O: Outlet>(
+pub(crate) fn pass_opening<M: Keyed128, I: Intake, O: Outlet>(
     cipher: &AnyAead,
     nonce: &Nonce,
     aad: &[u8],
@@ -90,30 +89,5 @@ fn pass_by<M: Keyed128, I: Intake, O: Outlet>(
             let nonced = cipher.nonced(nonce, &keys.encryption, &made);
             pass_mask_first(&nonced, aad, intake, measured, outlet)
         }
-    }
-}
-
-// Opens a whole reading by a cipher of any suite.
-pub(crate) fn pass_opening<I: Intake, O: Outlet>(
-    cipher: &AnyAead,
-    nonce: &Nonce,
-    aad: &[u8],
-    intake: &mut I,
-    measured: &Measured,
-    outlet: &mut O,
-) -> Result<Finding, Fault>
-    requires aad_fits { length aad.now ≤ aad_limit (keyed_of cipher.now).suite }
-    requires high { measured.now.length ≤ text_limit (keyed_of cipher.now).suite + 16 }
-    ensures passed { PassedWhole (setting (keyed_of cipher.now) nonce.now aad.now)
-        measured.now.tag measured.now.length (I.left intake.old) (I.left intake.new)
-        (O.taken outlet.old) (O.taken outlet.new) result }
-    ensures blame { Blames (I.failures intake.old) (I.failures intake.new) (O.failures outlet.old)
-        (O.failures outlet.new) result }
-{
-    match worth(measured.length) {
-        Multiples::OfFourPowers => {
-            pass_by::<WideMul, I, O>(cipher, nonce, aad, intake, measured, outlet)
-        }
-        Multiples::Few => pass_by::<TableMul, I, O>(cipher, nonce, aad, intake, measured, outlet),
     }
 }

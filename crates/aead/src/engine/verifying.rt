@@ -17,9 +17,8 @@ use crate::engine::measure::Measured;
 use crate::engine::passes::{Finding, finding_of};
 use crate::hashes::TagHash;
 use crate::mask_then_hash::MaskThenHash;
-use crate::multiples::{Multiples, worth};
 use crate::nonced::authenticator;
-use gf128::{Keyed128, TableMul, WideMul};
+use gf128::WideMul;
 use octets::{Fault, Intake, Nonce, fill};
 
 // Takes in one piece: at most what the buffer holds.
@@ -111,23 +110,13 @@ pub(crate) fn verify_one_pass<I: Intake>(
     match cipher {
         AnyOnePass::ChaCha(cipher) => verify_over(&cipher.nonced(nonce), aad, intake, measured),
         AnyOnePass::Gcm(cipher) => {
-            if matches!(worth(measured.length), Multiples::OfFourPowers) {
-                let made = cipher.multiplier_of::<WideMul>();
-                verify_over(
-                    &cipher.nonced(nonce, cipher.key(), &made),
-                    aad,
-                    intake,
-                    measured,
-                )
-            } else {
-                let made = cipher.multiplier_of::<TableMul>();
-                verify_over(
-                    &cipher.nonced(nonce, cipher.key(), &made),
-                    aad,
-                    intake,
-                    measured,
-                )
-            }
+            let made = cipher.multiplier_of::<WideMul>();
+            verify_over(
+                &cipher.nonced(nonce, cipher.key(), &made),
+                aad,
+                intake,
+                measured,
+            )
         }
     }
 }

@@ -13,7 +13,7 @@ use super::pass::{is_chacha, is_siv, mark_of, marked};
 use super::sealer::{NOT_BEGUN, begun_chacha, begun_gcm};
 use super::stored::StoredSealer;
 use super::stored_key::StoredKey;
-use super::{UNKNOWN_SUITE, open_gcm, open_under, seal_gcm, seal_under, suite_numbered};
+use super::{Direction, Opening, Sealing, UNKNOWN_SUITE, run_gcm, suite_numbered};
 use crate::chacha_poly::ChaChaPoly;
 use crate::derived_keys::expanded;
 use crate::gcm::{KeptGcm, ghash_key_of};
@@ -49,8 +49,8 @@ fn is_short(aad: &[u8], bytes: &[u8]) -> bool {
     WIDE || aad.len() < 64 && bytes.len() < 112
 }
 
-// Seals under a kept key and the bytes of a nonce.
-fn seal_kept(
+// Seals or opens under a kept key and the bytes of a nonce.
+fn run_by_kept<D: Direction>(
     kept: &StoredKey,
     suite: Suite,
     nonce: &[u8],
@@ -59,60 +59,26 @@ fn seal_kept(
 ) -> Result<(), Fault>
     requires { kept.now.mark ≡ key_mark suite }
     ensures { let s = setting_of suite (first_key suite kept.now.key) nonce.now aad.now in
-        MatchResult result (λ _. WasSealed s bytes.old bytes.new) (WasNotSealed s bytes.old bytes.new) }
+        MatchResult result (λ _. D.done s bytes.old bytes.new) (D.refused s bytes.old bytes.new) }
 {
     match suite {
         Suite::ChaCha20Poly1305 => {
             let cipher = ChaChaPoly::new(&Key32::new(kept.key));
-            seal_under(&cipher, nonce, aad, bytes)
+            D::run(&cipher, nonce, aad, bytes)
         }
         Suite::Aes128Gcm | Suite::Aes192Gcm | Suite::Aes256Gcm => {
             let key = kept.aes(suite);
             let ghash_key = kept.ghash_key(suite);
             if is_short(aad, bytes) {
                 let cipher = KeptGcm::new(suite, &key, &ghash_key, kept.multiplier(suite));
-                seal_under(&cipher, nonce, aad, bytes)
+                D::run(&cipher, nonce, aad, bytes)
             } else {
-                seal_gcm(suite, &key, &ghash_key, nonce, aad, bytes)
+                run_gcm::<D>(suite, &key, &ghash_key, nonce, aad, bytes)
             }
         }
         Suite::Aes128GcmSiv | Suite::Aes256GcmSiv => {
             let cipher = GcmSiv::new(suite, kept.aes(suite));
-            seal_under(&cipher, nonce, aad, bytes)
-        }
-    }
-}
-
-// Opens under a kept key and the bytes of a nonce.
-fn open_kept(
-    kept: &StoredKey,
-    suite: Suite,
-    nonce: &[u8],
-    aad: &[u8],
-    bytes: &mut [u8],
-) -> Result<(), Fault>
-    requires { kept.now.mark ≡ key_mark suite }
-    ensures { let s = setting_of suite (first_key suite kept.now.key) nonce.now aad.now in
-        MatchResult result (λ _. WasOpened s bytes.old bytes.new) (WasNotOpened s bytes.old bytes.new) }
-{
-    match suite {
-        Suite::ChaCha20Poly1305 => {
-            let cipher = ChaChaPoly::new(&Key32::new(kept.key));
-            open_under(&cipher, nonce, aad, bytes)
-        }
-        Suite::Aes128Gcm | Suite::Aes192Gcm | Suite::Aes256Gcm => {
-            let key = kept.aes(suite);
-            let ghash_key = kept.ghash_key(suite);
-            if is_short(aad, bytes) {
-                let cipher = KeptGcm::new(suite, &key, &ghash_key, kept.multiplier(suite));
-                open_under(&cipher, nonce, aad, bytes)
-            } else {
-                open_gcm(suite, &key, &ghash_key, nonce, aad, bytes)
-            }
-        }
-        Suite::Aes128GcmSiv | Suite::Aes256GcmSiv => {
-            let cipher = GcmSiv::new(suite, kept.aes(suite));
-            open_under(&cipher, nonce, aad, bytes)
+            D::run(&cipher, nonce, aad, bytes)
         }
     }
 }
@@ -180,7 +146,7 @@ pub extern "C" fn aeadkit_seal_with(
     ensures not_begun { KeepsNone kept.now → (result ≡ not_begun) × (bytes.new ≡ bytes.old) }
 {
     match marked(KEY, kept.mark) {
-        Some(suite) => outcome_number(seal_kept(kept, suite, nonce, aad, bytes)),
+        Some(suite) => outcome_number(run_by_kept::<Sealing>(kept, suite, nonce, aad, bytes)),
         None => NOT_BEGUN,
     }
 }
@@ -200,7 +166,7 @@ pub extern "C" fn aeadkit_open_with(
     ensures not_begun { KeepsNone kept.now → (result ≡ not_begun) × (bytes.new ≡ bytes.old) }
 {
     match marked(KEY, kept.mark) {
-        Some(suite) => outcome_number(open_kept(kept, suite, nonce, aad, bytes)),
+        Some(suite) => outcome_number(run_by_kept::<Opening>(kept, suite, nonce, aad, bytes)),
         None => NOT_BEGUN,
     }
 }
@@ -271,42 +237,5 @@ mod tests {
                 "{suite}"
             );
         }
-    }
-
-    // The status of sealing sixty-four bytes in one piece, with the ciphertext and the tag.
-    fn sealed(sealer: &mut StoredSealer) -> (u32, [u8; 64], [u8; 16]) {
-        let mut text = [1; 64];
-        let mut tag = [0; 16];
-        let updated = aeadkit_sealer_update(sealer, &mut text);
-        let finished = aeadkit_sealer_finish(sealer, &mut tag);
-        (updated | finished, text, tag)
-    }
-
-    #[test]
-    fn a_kept_key_begins_a_sealing_as_its_bytes(rt: HostRuntime) {
-        for (suite, size) in [(1, 32), (2, 16), (3, 24), (4, 32)] {
-            let key = &[7; 32][..size];
-            let mut kept = StoredKey::zeros();
-            let mut by_key = StoredSealer::zeros();
-            let mut by_kept = StoredSealer::zeros();
-            assert!(rt; aeadkit_key_init(&mut kept, suite, key) == 0);
-            assert!(rt; aeadkit_sealer_init(&mut by_key, suite, key, &[9; 12], b"to") == 0);
-            assert!(rt; aeadkit_sealer_init_with(&mut by_kept, &kept, &[9; 12], b"to") == 0);
-            let wanted = sealed(&mut by_key);
-            let by_kept = sealed(&mut by_kept);
-            assert!(rt; wanted.0 == 0 && by_kept.0 == 0, "{suite}");
-            assert!(rt; by_kept.1 == wanted.1 && by_kept.2 == wanted.2, "{suite}");
-        }
-    }
-
-    #[test]
-    fn no_key_is_kept(rt: HostRuntime) {
-        let mut kept = StoredKey::zeros();
-        let mut bytes = [1; 32];
-        assert!(rt; aeadkit_key_init(&mut kept, 7, &[7; 16]) == 14);
-        assert!(rt; aeadkit_key_init(&mut kept, 2, &[7; 17]) == 1);
-        assert!(rt; aeadkit_seal_with(&kept, &[9; 12], &[], &mut bytes) == 15);
-        assert!(rt; aeadkit_open_with(&kept, &[9; 12], &[], &mut bytes) == 15);
-        assert!(rt; bytes == [1; 32]);
     }
 }

@@ -167,21 +167,6 @@ mod tests {
     use super::super::aeadkit_seal;
     use super::*;
 
-    // The sealing of sixteen zero bytes under AES-128-GCM with a zero key and nonce: test case 2 of GCM's
-    // vectors.
-    const CIPHERTEXT: [u8; 16] = [
-        0x03, 0x88, 0xda, 0xce, 0x60, 0xb6, 0xa3, 0x92, 0xf3, 0x28, 0xc2, 0xb9, 0x71, 0xb2, 0xfe,
-        0x78,
-    ];
-
-    const TAG: [u8; 16] = [
-        0xab, 0x6e, 0x47, 0xd4, 0x2c, 0xec, 0x13, 0xbd, 0xf5, 0x3a, 0x67, 0xb2, 0x12, 0x57, 0xbd,
-        0xdf,
-    ];
-
-    // A key and a nonce of n bytes are the first n of these.
-    const ZEROS: [u8; 32] = [0; 32];
-
     // Opens a ciphertext in two pieces, each pass, with any struct. Returns whether each call was done.
     fn opened_in_two(
         opener: &mut StoredPasses,
@@ -234,58 +219,5 @@ mod tests {
             assert!(rt; &*body == [1; 1450].as_slice());
             assert!(rt; aeadkit_opener_finish(&mut opener) == 15);
         }
-    }
-
-    // Begins to open under AES-128-GCM with a zero key and nonce. Returns the status.
-    fn begin(opener: &mut StoredPasses, tag: &[u8; 16]) -> u32 {
-        aeadkit_opener_init(opener, 2, &ZEROS[..16], &ZEROS[..12], &[], tag)
-    }
-
-    #[test]
-    fn the_numbers_of_refusals(rt: HostRuntime) {
-        let mut opener = StoredPasses::zeros();
-        let mut piece = CIPHERTEXT;
-        assert!(rt; aeadkit_opener_check(&mut opener, &piece) == 15);
-        assert!(rt;
-            aeadkit_opener_init(&mut opener, 7, &ZEROS[..16], &ZEROS[..12], &[], &TAG) == 14
-        );
-        assert!(rt; aeadkit_opener_init(&mut opener, 2, &ZEROS[..15], &[], &[], &TAG) == 1);
-        assert!(rt; aeadkit_opener_init(&mut opener, 1, &ZEROS, &[], &[], &TAG) == 2);
-        assert!(rt; begin(&mut opener, &TAG) == 0);
-        opener.state.length = (1 << 36) - 47;
-        assert!(rt; aeadkit_opener_check(&mut opener, &piece) == 3);
-        // no text before the first pass is over
-        assert!(rt; aeadkit_opener_update(&mut opener, &mut piece) == 15);
-        assert!(rt; aeadkit_opener_finish(&mut opener) == 15);
-        assert!(rt; piece == CIPHERTEXT);
-    }
-
-    #[test]
-    fn a_first_pass_over_no_sealing(rt: HostRuntime) {
-        let mut opener = StoredPasses::zeros();
-        let mut other = TAG;
-        other[15] ^= 1;
-        assert!(rt; begin(&mut opener, &other) == 0);
-        assert!(rt; aeadkit_opener_check(&mut opener, &CIPHERTEXT) == 0);
-        assert!(rt; aeadkit_opener_checked(&mut opener) == 6);
-        assert!(rt; opener.mark == 0 && opener.state.key == [0; 32] && opener.tag == [0; 16]);
-        assert!(rt; aeadkit_opener_checked(&mut opener) == 15);
-    }
-
-    #[test]
-    fn a_second_pass_over_other_bytes(rt: HostRuntime) {
-        let mut opener = StoredPasses::zeros();
-        let mut other = CIPHERTEXT;
-        other[8] ^= 1;
-        assert!(rt; begin(&mut opener, &TAG) == 0);
-        assert!(rt; aeadkit_opener_check(&mut opener, &CIPHERTEXT) == 0);
-        assert!(rt; aeadkit_opener_checked(&mut opener) == 0);
-        // the first pass is over
-        assert!(rt; aeadkit_opener_check(&mut opener, &CIPHERTEXT) == 15);
-        assert!(rt; aeadkit_opener_update(&mut opener, &mut other) == 0);
-        // the second pass is no longer than the first
-        assert!(rt; aeadkit_opener_update(&mut opener, &mut [0]) == 13);
-        assert!(rt; aeadkit_opener_finish(&mut opener) == 13);
-        assert!(rt; opener.mark == 0 && opener.state.key == [0; 32]);
     }
 }

@@ -250,19 +250,4 @@ mod tests {
             assert!(rt; aeadkit_sealer_finish(&mut sealer, &mut tag) == 15);
         }
     }
-
-    #[test]
-    fn the_numbers_of_refusals(rt: HostRuntime) {
-        let mut sealer = StoredSealer::zeros();
-        let zeros = &[0u8; 33];
-        let mut piece = [0; 3];
-        assert!(rt; aeadkit_sealer_update(&mut sealer, &mut piece) == 15);
-        assert!(rt; aeadkit_sealer_init(&mut sealer, 5, &zeros[..16], &zeros[..12], &[]) == 14);
-        assert!(rt; aeadkit_sealer_init(&mut sealer, 2, &zeros[..15], &[], &[]) == 1);
-        assert!(rt; aeadkit_sealer_init(&mut sealer, 1, &zeros[..32], &[], &[]) == 2);
-        assert!(rt; aeadkit_sealer_init(&mut sealer, 1, &zeros[..32], &zeros[..12], &[]) == 0);
-        sealer.length = (1 << 38) - 66;
-        assert!(rt; aeadkit_sealer_update(&mut sealer, &mut piece) == 3);
-        assert!(rt; piece == [0; 3]);
-    }
 }

@@ -195,9 +195,7 @@ pub extern "C" fn aeadkit_siv_size() -> usize
 
 #[cfg(test)]
 mod tests {
-    use super::super::aeadkit_seal;
     use super::*;
-    use std::process::Abort;
 
     // The sealing of eight bytes of RFC 8452, C.1.
     const SEALED: [u8; 24] = [
@@ -257,80 +255,5 @@ mod tests {
         let (body, last) = SEALED.split_at(8);
         assert!(rt; body == text.as_slice() && last == tag.as_slice());
         assert!(rt; aeadkit_siv_finish(&mut siv) == 15);
-    }
-
-    #[test]
-    fn two_readings_give_the_sealing(rt: HostRuntime) {
-        for (suite, size) in [(5, 16), (6, 32)] {
-            let (key, nonce) = (&[7; 32][..size], &[9; 12]);
-            let mut sealed = [1; 3016];
-            assert!(rt; aeadkit_seal(suite, key, nonce, b"to", &mut sealed) == 0);
-            let mut text = [1; 3000];
-            let (first, second) = text.split_at_mut(277);
-            let mut tag = [0; 16];
-            let mut siv = StoredPasses::zeros();
-            let keys = (key, nonce.as_slice(), b"to".as_slice());
-            assert!(rt; sealed_in_two(&mut siv, suite, keys, first, second, &mut tag));
-            let (body, last) = sealed.split_at(3000);
-            assert!(rt; body == text.as_slice() && last == tag.as_slice());
-        }
-    }
-
-    // A key and a nonce of n bytes are the first n of these.
-    const ZEROS: [u8; 32] = [0; 32];
-
-    #[test]
-    fn the_numbers_of_refusals(rt: HostRuntime) {
-        let mut siv = StoredPasses::zeros();
-        let mut piece = [5; 3];
-        let mut tag = [0; 16];
-        assert!(rt; aeadkit_siv_absorb(&mut siv, &piece) == 15);
-        assert!(rt; aeadkit_siv_init(&mut siv, 4, &ZEROS, &ZEROS[..12], &[]) == 14);
-        assert!(rt; aeadkit_siv_init(&mut siv, 5, &ZEROS[..24], &[], &[]) == 1);
-        assert!(rt; aeadkit_siv_init(&mut siv, 6, &ZEROS, &[], &[]) == 2);
-        assert!(rt; aeadkit_siv_init(&mut siv, 6, &ZEROS, &ZEROS[..12], &[]) == 0);
-        // no ciphertext before the first reading is over
-        assert!(rt; aeadkit_siv_update(&mut siv, &mut piece) == 15);
-        assert!(rt; aeadkit_siv_finish(&mut siv) == 15);
-        assert!(rt; aeadkit_siv_absorb(&mut siv, &piece) == 0);
-        siv.state.length = (1 << 36) - 2;
-        assert!(rt; aeadkit_siv_absorb(&mut siv, &piece) == 3);
-        siv.state.length = 3;
-        assert!(rt; aeadkit_siv_tag(&mut siv, &mut tag) == 0);
-        // the first reading is over
-        assert!(rt; aeadkit_siv_absorb(&mut siv, &piece) == 15);
-        assert!(rt; aeadkit_siv_tag(&mut siv, &mut tag) == 15);
-        assert!(rt; piece == [5; 3]);
-    }
-
-    // Reads a text of three bytes twice. Returns the status of finish.
-    fn read_twice(rt: &impl Abort, siv: &mut StoredPasses, again: &mut [u8]) -> u32 {
-        let mut tag = [0; 16];
-        assert!(rt; aeadkit_siv_init(siv, 5, &ZEROS[..16], &ZEROS[..12], &[]) == 0);
-        assert!(rt; aeadkit_siv_absorb(siv, &[5, 6, 7]) == 0);
-        assert!(rt; aeadkit_siv_tag(siv, &mut tag) == 0);
-        assert!(rt; aeadkit_siv_update(siv, again) == 0);
-        aeadkit_siv_finish(siv)
-    }
-
-    #[test]
-    fn a_second_reading_of_another_text(rt: HostRuntime) {
-        let mut siv = StoredPasses::zeros();
-        assert!(rt; read_twice(&rt, &mut siv, &mut [5, 6, 7]) == 0);
-        assert!(rt; read_twice(&rt, &mut siv, &mut [5, 6]) == 13);
-        assert!(rt; read_twice(&rt, &mut siv, &mut [5, 6, 8]) == 13);
-        assert!(rt; siv.mark == 0 && siv.state.key == [0; 32]);
-    }
-
-    #[test]
-    fn a_longer_second_reading(rt: HostRuntime) {
-        let mut siv = StoredPasses::zeros();
-        let mut tag = [0; 16];
-        let mut piece = [5];
-        assert!(rt; aeadkit_siv_init(&mut siv, 5, &ZEROS[..16], &ZEROS[..12], &[]) == 0);
-        assert!(rt; aeadkit_siv_tag(&mut siv, &mut tag) == 0);
-        assert!(rt; aeadkit_siv_update(&mut siv, &mut piece) == 13);
-        assert!(rt; piece == [5]);
-        assert!(rt; aeadkit_siv_finish(&mut siv) == 0);
     }
 }

@@ -107,7 +107,7 @@ fn refused_requests_of_open(rt: HostRuntime) {
 
 // `OutOfMemory` comes before the tag is looked at, and after the length.
 #[test]
-fn want_of_memory_in_its_place(rt: HostRuntime) {
+fn out_of_memory_in_its_place(rt: HostRuntime) {
     let sample = chacha(&rt);
     let mut changed = CHACHA_SEALED;
     changed[129] = 0x90;

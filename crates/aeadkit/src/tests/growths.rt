@@ -71,7 +71,7 @@ fn inputs<'a>(vector: &Vector<'a>, body: &'a str) -> Inputs<'a> {
 
 // Sealing and opening, wrapping and unwrapping with padding or without, and checking a vector file.
 #[test]
-fn requests_want_memory_only_where_refused(rt: HostRuntime) {
+fn requests_are_out_of_memory_only_if_refused(rt: HostRuntime) {
     for vector in &[CHACHA, GCM, GCM_SIV] {
         let request = PrintRequest::Seal(inputs(vector, vector.text));
         each_is_refused(&rt, &NO_FILES, &request, vector.sealed);
@@ -211,7 +211,7 @@ fn each_file_status(
 
 // Sealing a file of a vector's text, and opening one of the sealed bytes.
 #[test]
-fn files_want_memory_only_where_refused(rt: HostRuntime) {
+fn files_are_out_of_memory_only_if_refused(rt: HostRuntime) {
     for vector in &[CHACHA, GCM, GCM_SIV] {
         let text = bytes(&rt, vector.text);
         let sealed = bytes(&rt, vector.sealed);

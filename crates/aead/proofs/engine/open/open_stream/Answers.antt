@@ -49,7 +49,7 @@ returns-in-Err-clause-opens g c =
     (g.K.Intake.failures c.args.write.now) (g.O.Outlet.failures c.args.out.now) c.in-Err.fault
     fits (known_at c.suite-suite.result s.suite (g.I.Intake.left c.args.measure.now)
     (g.I.Intake.failures c.args.measure.now) (g.I.Intake.failures c.measure_step.new.intake)
-    (Err c.in-Err.fault) c.suite-suite.ensures c.in-Err.ensures.told)
+    (Err c.in-Err.fault) c.suite-suite.ensures c.in-Err.ensures.known)
 
 pub returns-in-Err-verify_step-clause-opens : goal.returns-in-Err-verify_step-clause-opens
 returns-in-Err-verify_step-clause-opens g c =
@@ -65,7 +65,7 @@ returns-in-Err-verify_step-clause-opens g c =
     (g.K.Intake.failures c.args.write.now) (g.O.Outlet.failures c.args.out.now) c.in-Err-verify_step.fault
     fits (known_at c.suite-suite.result s.suite (g.I.Intake.left c.args.measure.now)
     (g.I.Intake.failures c.args.measure.now) (g.I.Intake.failures c.measure_step.new.intake)
-    (Ok c.in-Ok.measured) c.suite-suite.ensures c.in-Ok.ensures.told) c.in-Err-verify_step.ensures.told
+    (Ok c.in-Ok.measured) c.suite-suite.ensures c.in-Ok.ensures.known) c.in-Err-verify_step.ensures.known
 
 pub returns-in-Ok-verify_step-clause-opens : goal.returns-in-Ok-verify_step-clause-opens
 returns-in-Ok-verify_step-clause-opens g c =
@@ -83,5 +83,5 @@ returns-in-Ok-verify_step-clause-opens g c =
     (g.O.Outlet.failures c.args.out.now) (g.O.Outlet.failures c.write_step.new.outlet) c.write_step.result
     fits (known_at c.suite-suite.result s.suite (g.I.Intake.left c.args.measure.now)
     (g.I.Intake.failures c.args.measure.now) (g.I.Intake.failures c.measure_step.new.intake)
-    (Ok c.in-Ok.measured) c.suite-suite.ensures c.in-Ok.ensures.told) c.in-Ok-verify_step.ensures.told
-    c.write_step.ensures.told
+    (Ok c.in-Ok.measured) c.suite-suite.ensures c.in-Ok.ensures.known) c.in-Ok-verify_step.ensures.known
+    c.write_step.ensures.known

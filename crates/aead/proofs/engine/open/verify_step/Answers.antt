@@ -4,8 +4,8 @@ use Rattle.aead.specs.AnyCiphers.{keyed_of}
 use Rattle.aead.proofs.KnownReadings.{verify_known}
 use Rattle.aead.proofs.engine.open.verify_step.Goals as goal
 
-pub returns-in-Ok-clause-told : goal.returns-in-Ok-clause-told
-returns-in-Ok-clause-told g c =
+pub returns-in-Ok-clause-known : goal.returns-in-Ok-clause-known
+returns-in-Ok-clause-known g c =
     let s : Setting = setting (keyed_of c.args.cipher.now) c.args.nonce.now
     c.args.aad.now in
     let a = c.args.measured.now in

@@ -8,14 +8,14 @@ pub returns-in-Some-clause-keeps : goal.returns-in-Some-clause-keeps
 returns-in-Some-clause-keeps c = λ suite key k.
     let same : c.in-Some.suite ≡ suite = same_Some _ _ ((c.in-Some.ensures suite).1 k.mark_is) in
     let setting = λ (x : Suite) (y : List ℕ). setting_of x y c.args.nonce.now c.args.aad.now in (
-      c.open_kept.result,
+      c.run_by_kept.result,
       (
         c.outcome_number.ensures,
-        subst (λ s. MatchResult c.open_kept.result
-            (λ _. WasOpened s c.args.bytes.now c.open_kept.new.bytes)
-            (WasNotOpened s c.args.bytes.now c.open_kept.new.bytes))
+        subst (λ s. MatchResult c.run_by_kept.result
+            (λ _. WasOpened s c.args.bytes.now c.run_by_kept.new.bytes)
+            (WasNotOpened s c.args.bytes.now c.run_by_kept.new.bytes))
             (ap₂ setting same (ap (λ x. first_key x c.args.kept.now.key) same ∙ sym k.key_is))
-            c.open_kept.ensures,
+            c.run_by_kept.ensures,
       ),
     )
 

@@ -1,7 +1,7 @@
 use Rattle.std.proofs.Common.{◌≡◌, ◌+◌, ◌++◌, ℕ, List, length, subst, sym, arith}
 use Rattle.aead.specs.Sealing.{Opened}
 use Rattle.aead.specs.Ciphers.{setting}
-use Rattle.aead.proofs.exports.seal_under.Goals as goal
+use Rattle.aead.proofs.exports.SealingDirection.run.Goals as goal
 
 pub returns : goal.returns
 returns g c =
