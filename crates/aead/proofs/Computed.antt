@@ -35,7 +35,7 @@ moved_at : (p q : List Bool) (k : ℕ) → ((i : ℕ) → coefficient p i ≡ co
 moved_at p q zero same = refl
 moved_at p q (suc k) same = same k
 
--- a list moved up by one place, with m of degree n added where it has the degree of m
+-- a list r with m of degree n added if coefficient n of r is one
 abbrev reduced_by : List Bool → ℕ → List Bool → List Bool
 reduced_by m n r = added r (cond (coefficient r n) m [])
 
@@ -64,18 +64,18 @@ times_at m n (b ∷ p) h k one d low =
     ∙ sym (added_at t (cond (coefficient t n) m []) k))
     ∙ sym (added_at (cond b h []) (reduced_by m n t) k)
 
--- the first bits of a list
+-- the first n bits of a list have its coefficients below n
 taken_at : (n : ℕ) (xs : List Bool) (k : ℕ) → k < n → coefficient (take n xs) k ≡ coefficient xs k
 taken_at zero xs k l = absurd (omega arith)
 taken_at (suc n) [] k l = refl
 taken_at (suc n) (x ∷ xs) zero l = refl
 taken_at (suc n) (x ∷ xs) (suc k) l = taken_at n xs k (omega arith)
 
--- they are at most so many
+-- the first n bits of a list are at most n bits
 length-take-most : (n : ℕ) (xs : List Bool) → length (take n xs) ≤ n
 length-take-most n xs = omega (arith, length-take n xs)
 
--- what is computed so is the residue of the product
+-- the first n bits that `times_by` computes are the residue of the product
 pub computed : (m : List Bool) (n : ℕ) (p h t : List Bool) → has_one m ≡ true → degree m ≡ n
     → length h ≤ n → length t ≤ n → take n (times_by m n p h) ≡ t
     → coefficient (residue m (product p h)) ≡ coefficient t
@@ -89,7 +89,7 @@ computed m n p h t one d short long is = fun_ext (λ k.
           ∙ sym (get_or_past t k false (omega (arith, long, l)))
     ])
 
--- what is computed so is the dot
+-- `times_by` of a and h, and then of the result and x^-128, is the dot
 pub dot_computed : (a h t : List Bool) → length h ≤ 128 → length t ≤ 128
     → take 128 (times_by polyval_modulus 128 (take 128 (times_by polyval_modulus 128 a h)) x_to_minus_128) ≡ t
     → coefficient (dot a h) ≡ coefficient t
@@ -103,7 +103,7 @@ dot_computed a h t short long is =
     ∙ times_same m (residue m (product a h)) r x_to_minus_128 refl first
     ∙ computed m 128 r x_to_minus_128 t refl refl (omega arith) long is
 
--- where the sums so far agree, their dots with a block do
+-- if two sums so far agree, so do the dots of h with each plus the next block
 pub dot_same : (s t x h : List Bool) → coefficient s ≡ coefficient t
     → coefficient (dot (sum s x) h) ≡ coefficient (dot (sum t x) h)
 unfolding dot

@@ -28,7 +28,7 @@ all_short holds t len n l l' o o' k q less =
       end = λ _. q.end less;
     }
 
--- it came to the length, and then there was more or not
+-- the reading came to the length, and then had more bytes or not
 pub all_more : {M : Type 0} (holds : M → Task → List ℕ → Type 0) (t : Task) (len n : ℕ)
     (l l' l'' o o' : Option (List ℕ)) (k : M) (extent : Option ℕ) (b : Bool)
     → (q : HasFilledRoom holds t [] len l l' o o' k n) → len ≤ n →
@@ -77,7 +77,7 @@ extent_of : (len : ℕ) (x y : List ℕ) (e : Option ℕ) → len < length x →
 extent_of len x y None p q h = q
 extent_of len x y (Some n) p q h = absurd (omega (arith, p, h.0, h.1))
 
--- what was given and is held, in the reading's own bytes
+-- the bytes given, the bytes held and the extent are those of the reading
 pub all_known : {M : Type 0} (holds : M → Task → List ℕ → Type 0) (t : Task) (len : ℕ) (x : List ℕ)
     (l' o o' : Option (List ℕ)) (k : M) (e : Option ℕ) → HasPassedAll holds t len (Some x) l' o o' k e →
     Appends o o' (masked (task_mask t) 0 (take len x)) × holds k t (take len x) × IsExtent len x e
@@ -96,7 +96,7 @@ all_known holds t len x (Some rest) o o' k e w =
           (subst P e w.given, subst Q e w.held, extent_of len w.bytes x _ long.0 long.1 w.is)
     ]
 
--- what a device's failure leaves given, in the reading's own bytes
+-- after a device failed, the bytes given are a beginning of the masked reading, within the length
 pub all_stopped_known : (t : Task) (len : ℕ) (x : List ℕ) (l' o o' : Option (List ℕ))
     → Stopped t [] len (Some x) l' o o' →
     (k : ℕ) × (k ≤ length x) × (k ≤ len) × Appends o o' (take k (masked (task_mask t) 0 x))

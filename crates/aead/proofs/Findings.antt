@@ -33,7 +33,7 @@ pub opening_fits : {S H R : Type 0} (made : S → Setting → List ℕ → ℕ �
 opening_fits made held hashed k s tag body h =
     record { aad_fits = h.taken.fits.aad_fits; text_fits = omega (arith, h.within, h.limit_fits) }
 
--- ---- what was found of a body and what came after it
+-- ---- the finding for a body and the bytes after it
 
 pub differs_found : (s : Setting) (tag body y : List ℕ) (len : ℕ) → length body ≡ len - 16
     → bytes_eq y tag ≡ false → IsFinding s tag len (body ++ y) Differs
@@ -166,7 +166,7 @@ stopped_tail s tag len n l l' l'' o o' t y q more =
       given = subst P (sym same) q.went.given;
     }
 
--- ---- where the reading tells its bytes
+-- ---- if the bytes of the reading are known
 
 -- the reading is what was taken, or both are longer than the measure
 pub front_of : (v x rest : List ℕ) (len : ℕ) → v ≡ x ++ rest → (length x ≤ len → rest ≡ [])
@@ -177,12 +177,12 @@ front_of v x rest len e end =
       | inr less ↦ inl (e ∙ ap (λ r. x ++ r) (end less) ∙ append-nil x)
     ]
 
--- what is longer than the measure ends otherwise
+-- a reading longer than len does not have the tag as its bytes after the first len - 16
 too_long : (tag x : List ℕ) (len : ℕ) → length tag ≡ 16 → 16 ≤ len → len < length x → drop (len - 16) x ≡ tag
     → ⊥
 too_long tag x len size low more e = omega (arith, ap length e, length-drop (len - 16) x, size, low, more)
 
--- so it is found alike
+-- two readings longer than the measure have the same finding
 long_found : (s : Setting) (tag x y : List ℕ) (len : ℕ) (f : Finding) → length tag ≡ 16 → 16 ≤ len
     → len < length x → len < length y
     → IsFinding s tag len x f → IsFinding s tag len y f

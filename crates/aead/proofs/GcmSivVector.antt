@@ -265,7 +265,7 @@ encryption_is : encryption_key key nonce ≡ derived
 unfolding key encryption_key key_part nonce derived part2_block part3_block part2_ciphered part3_ciphered
 encryption_is = ap₂ (λ a b. take 8 a ++ (take 8 b ++ [])) part2_is part3_is ∙ refl
 
--- what is authenticated
+-- the authenticated bytes
 unfoldable authenticated : List ℕ
 authenticated =
     0x01 ∷ 0x00 ∷ 0x00 ∷ 0x00 ∷ 0x00 ∷ 0x00 ∷ 0x00 ∷ 0x00 ∷ 0x00 ∷ 0x00 ∷ 0x00 ∷ 0x00 ∷ 0x00 ∷ 0x00 ∷ 0x00
@@ -275,7 +275,7 @@ authenticated =
     0x08 ∷ 0x00 ∷ 0x00 ∷ 0x00 ∷ 0x00 ∷ 0x00 ∷ 0x00 ∷ 0x00 ∷ 0x40 ∷ 0x00 ∷ 0x00 ∷ 0x00 ∷ 0x00 ∷ 0x00 ∷ 0x00
     ∷ 0x00 ∷ []
 
--- as the definition joins it
+-- the authenticated bytes as the definition joins them are these
 authenticated_is : siv_authenticated aad text ≡ authenticated
 unfolding siv_authenticated aad text authenticated
 authenticated_is = refl
@@ -298,7 +298,7 @@ unfolding authentication block1 sum1 v sum
 step1 =
     dot_computed (sum [] (v block1)) (v authentication) (v sum1) (omega arith) (omega arith) refl
 
--- it is the sum over the blocks so far
+-- S_1 is the sum over the first block
 sum1_is : coefficient (polyval_sum authentication authenticated 1) ≡ coefficient (v sum1)
 unfolding authenticated block1 polyval_sum
 sum1_is = step1
@@ -321,7 +321,7 @@ unfolding authentication sum1 block2 sum2 v sum
 step2 =
     dot_computed (sum (v sum1) (v block2)) (v authentication) (v sum2) (omega arith) (omega arith) refl
 
--- it is the sum over the blocks so far
+-- S_2 is the sum over the first 2 blocks
 sum2_is : coefficient (polyval_sum authentication authenticated 2) ≡ coefficient (v sum2)
 unfolding authenticated block2 polyval_sum
 sum2_is =
@@ -347,7 +347,7 @@ unfolding authentication sum2 block3 sum3 v sum
 step3 =
     dot_computed (sum (v sum2) (v block3)) (v authentication) (v sum3) (omega arith) (omega arith) refl
 
--- it is the sum over the blocks so far
+-- S_3 is the sum over the first 3 blocks
 sum3_is : coefficient (polyval_sum authentication authenticated 3) ≡ coefficient (v sum3)
 unfolding authenticated block3 polyval_sum
 sum3_is =
@@ -360,7 +360,7 @@ written : bytes_of_v 16 (v sum3) ≡ sum3
 unfolding sum3 v bytes_of_v
 written = refl
 
--- POLYVAL of what is authenticated
+-- POLYVAL of the authenticated bytes is S_3
 polyval_is : polyval authentication authenticated ≡ sum3
 unfolding authenticated polyval bytes_of_v
 polyval_is =

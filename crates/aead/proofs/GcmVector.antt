@@ -164,7 +164,7 @@ hash_key_is : hash_key key ≡ zero_ciphered
 unfolding hash_key zero_block
 hash_key_is = zero_is
 
--- the sum over one block more, where the sum so far is s, the block x, and t their sum times the key
+-- the sum over one more block is t, if the sum so far is s, the block is x, and t is their sum times the key
 ghash_next : (h m s x t : List ℕ) (n : ℕ) → coefficient (ghash_sum h m n) ≡ coefficient (g s)
     → block_at m n ≡ x
     → coefficient (residue ghash_modulus (product (sum (g s) (g x)) (g h))) ≡ coefficient (g t)
@@ -177,7 +177,7 @@ ghash_next h m s x t n held is next =
     ∙ ap (λ y. coefficient (residue ghash_modulus (product (sum (g s) (g y)) (g h)))) is
     ∙ next
 
--- what is authenticated
+-- the authenticated bytes
 unfoldable authenticated : List ℕ
 authenticated =
     0x24 ∷ 0x82 ∷ 0x56 ∷ 0x02 ∷ 0xbd ∷ 0x12 ∷ 0xa9 ∷ 0x84 ∷ 0xe0 ∷ 0x09 ∷ 0x2d ∷ 0x3e ∷ 0x44 ∷ 0x8e ∷ 0xda
@@ -187,7 +187,7 @@ authenticated =
     0x00 ∷ 0x00 ∷ 0x00 ∷ 0x00 ∷ 0x00 ∷ 0x00 ∷ 0x00 ∷ 0x80 ∷ 0x00 ∷ 0x00 ∷ 0x00 ∷ 0x00 ∷ 0x00 ∷ 0x00 ∷ 0x00
     ∷ 0x80 ∷ []
 
--- as the definition joins it
+-- the authenticated bytes as the definition joins them are these
 authenticated_is : gcm_authenticated aad ciphertext ≡ authenticated
 unfolding gcm_authenticated aad ciphertext authenticated
 authenticated_is = refl
@@ -204,7 +204,7 @@ block1 =
     0x24 ∷ 0x82 ∷ 0x56 ∷ 0x02 ∷ 0xbd ∷ 0x12 ∷ 0xa9 ∷ 0x84 ∷ 0xe0 ∷ 0x09 ∷ 0x2d ∷ 0x3e ∷ 0x44 ∷ 0x8e ∷ 0xda
     ∷ 0x5f ∷ []
 
--- times the key
+-- block 1 times the key is sum1
 step1 : coefficient (residue ghash_modulus (product (sum (g []) (g block1)) (g zero_ciphered)))
     ≡ coefficient (g sum1)
 unfolding zero_ciphered block1 sum1 g sum
@@ -212,7 +212,7 @@ step1 =
     computed ghash_modulus 128 (sum (g []) (g block1)) (g zero_ciphered) (g sum1) refl refl
     (omega arith) (omega arith) refl
 
--- so it is
+-- the sum over 1 block is sum1
 sum1_is : coefficient (ghash_sum zero_ciphered authenticated 1) ≡ coefficient (g sum1)
 unfolding authenticated block1 ghash_sum sum_of_first g
 sum1_is = ghash_next zero_ciphered authenticated [] block1 sum1 0 refl refl step1
@@ -229,7 +229,7 @@ block2 =
     0x93 ∷ 0xfe ∷ 0x7d ∷ 0x9e ∷ 0x9b ∷ 0xfd ∷ 0x10 ∷ 0x34 ∷ 0x8a ∷ 0x56 ∷ 0x06 ∷ 0xe5 ∷ 0xca ∷ 0xfa ∷ 0x73
     ∷ 0x54 ∷ []
 
--- times the key
+-- sum1 plus block 2, times the key, is sum2
 step2 : coefficient (residue ghash_modulus (product (sum (g sum1) (g block2)) (g zero_ciphered)))
     ≡ coefficient (g sum2)
 unfolding zero_ciphered sum1 block2 sum2 g sum
@@ -237,7 +237,7 @@ step2 =
     computed ghash_modulus 128 (sum (g sum1) (g block2)) (g zero_ciphered) (g sum2) refl refl
     (omega arith) (omega arith) refl
 
--- so it is
+-- the sum over 2 blocks is sum2
 sum2_is : coefficient (ghash_sum zero_ciphered authenticated 2) ≡ coefficient (g sum2)
 unfolding authenticated block2
 sum2_is = ghash_next zero_ciphered authenticated sum1 block2 sum2 1 sum1_is refl step2
@@ -254,7 +254,7 @@ block3 =
     0x00 ∷ 0x00 ∷ 0x00 ∷ 0x00 ∷ 0x00 ∷ 0x00 ∷ 0x00 ∷ 0x80 ∷ 0x00 ∷ 0x00 ∷ 0x00 ∷ 0x00 ∷ 0x00 ∷ 0x00 ∷ 0x00
     ∷ 0x80 ∷ []
 
--- times the key
+-- sum2 plus block 3, times the key, is sum3
 step3 : coefficient (residue ghash_modulus (product (sum (g sum2) (g block3)) (g zero_ciphered)))
     ≡ coefficient (g sum3)
 unfolding zero_ciphered sum2 block3 sum3 g sum
@@ -262,12 +262,12 @@ step3 =
     computed ghash_modulus 128 (sum (g sum2) (g block3)) (g zero_ciphered) (g sum3) refl refl
     (omega arith) (omega arith) refl
 
--- so it is
+-- the sum over 3 blocks is sum3
 sum3_is : coefficient (ghash_sum zero_ciphered authenticated 3) ≡ coefficient (g sum3)
 unfolding authenticated block3
 sum3_is = ghash_next zero_ciphered authenticated sum2 block3 sum3 2 sum2_is refl step3
 
--- GHASH of what is authenticated
+-- GHASH of the authenticated bytes is sum3
 ghash_is : ghash zero_ciphered authenticated ≡ sum3
 unfolding authenticated sum3
 ghash_is =

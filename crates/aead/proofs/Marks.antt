@@ -1,4 +1,4 @@
--- The marks of kept keys tell their suites apart.
+-- Kept keys of different suites have different marks.
 use Rattle.std.proofs.Common.{◌≡◌, ℕ, nat_eq, refl, sym, ap, ◌∙◌, arith}
 use Rattle.std.specs.Prelude.{if◌then◌else◌}
 use Rattle.aead.specs.declared.suite.Suite.{Suite}

@@ -19,11 +19,11 @@ fits_by s suite text is aad_fits text_fits = record {
   text_fits = subst (λ x. length text ≤ text_limit x) is text_fits;
 }
 
--- what a body and a tag would open to
+-- the text that a body under a tag would open to
 abbrev pub unmasked : Setting → List ℕ → List ℕ → List ℕ
 unmasked s tag body = masked (mask s.suite s.key s.nonce tag) 0 body
 
--- they are a sealing where that has the tag
+-- a body and a tag are the sealing of the text that the body would open to, if it has the tag
 pub sealed_if : (s : Setting) (body tag : List ℕ) → tag_of s (unmasked s tag body) ≡ tag
     → body ++ tag ≡ sealing s (unmasked s tag body)
 unfolding sealing
@@ -33,7 +33,7 @@ sealed_if s body tag e =
     ∙ ap (λ t. masked (mask s.suite s.key s.nonce t) 0 (unmasked s tag body)) (sym e))
     (sym e)
 
--- and only there
+-- a body and a tag are the sealing of a text only if the body would open to it and it has the tag
 pub sealed_only_if : (s : Setting) (body tag text : List ℕ) → length tag ≡ 16 → body ++ tag ≡ sealing s text
     → (tag_of s (unmasked s tag body) ≡ tag) × (text ≡ unmasked s tag body)
 unfolding sealing
@@ -51,7 +51,7 @@ sealed_only_if s body tag text long e =
 
 -- ---- by construction
 
--- where the tag is over the ciphertext, the mask looks at no tag
+-- if the tag is over the ciphertext, the mask does not depend on the tag
 same_mask_by : (by : Construction) (key nonce tag other : List ℕ) → is_one_pass by ≡ true
     → mask_by by key nonce tag ≡ mask_by by key nonce other
 unfolding mask_by
@@ -59,7 +59,7 @@ same_mask_by ByChaCha key nonce tag other h = refl
 same_mask_by ByGcm key nonce tag other h = refl
 same_mask_by ByGcmSiv key nonce tag other h = absurd (true≢false (sym h))
 
--- and their tag is over the ciphertext that any tag's mask makes
+-- if the tag is over the ciphertext, it is over the one that any tag's mask makes
 one_pass_tag_by : (by : Construction) (key nonce aad tag text : List ℕ) → is_one_pass by ≡ true
     → tag_by by key nonce aad text ≡ tag_over_by by key nonce aad (masked (mask_by by key nonce tag) 0 text)
 unfolding tag_by mask_by
@@ -67,7 +67,7 @@ one_pass_tag_by ByChaCha key nonce aad tag text h = refl
 one_pass_tag_by ByGcm key nonce aad tag text h = refl
 one_pass_tag_by ByGcmSiv key nonce aad tag text h = absurd (true≢false (sym h))
 
--- and the others: the tag is over the text
+-- if the tag is not over the ciphertext, it is over the text
 two_pass_tag_by : (by : Construction) (key nonce aad text : List ℕ) → is_one_pass by ≡ false
     → tag_by by key nonce aad text ≡ tag_over_by by key nonce aad text
 unfolding tag_by
@@ -75,34 +75,34 @@ two_pass_tag_by ByChaCha key nonce aad text h = absurd (true≢false h)
 two_pass_tag_by ByGcm key nonce aad text h = absurd (true≢false h)
 two_pass_tag_by ByGcmSiv key nonce aad text h = refl
 
--- the same three of a suite: its mask looks at no tag
+-- if the tag of a suite is over the ciphertext, its mask does not depend on the tag
 pub same_mask : (s : Setting) (tag other : List ℕ) → is_one_pass (construction_of s.suite) ≡ true
     → mask s.suite s.key s.nonce tag ≡ mask s.suite s.key s.nonce other
 unfolding mask
 same_mask s tag other one = same_mask_by (construction_of s.suite) s.key s.nonce tag other one
 
--- the tag of a text is over the ciphertext that any tag's mask makes
+-- if the tag of a suite is over the ciphertext, it is over the one that any tag's mask makes
 pub one_pass_tag : (s : Setting) (tag text : List ℕ) → is_one_pass (construction_of s.suite) ≡ true
     → tag_of s text ≡ tag_over s.suite s.key s.nonce s.aad (masked (mask s.suite s.key s.nonce tag) 0 text)
 unfolding tag_of tag_over mask
 one_pass_tag s tag text one = one_pass_tag_by (construction_of s.suite) s.key s.nonce s.aad tag text one
 
--- the tag of a text is over the text
+-- if the tag of a suite is not over the ciphertext, it is over the text
 pub two_pass_tag : (s : Setting) (text : List ℕ) → is_one_pass (construction_of s.suite) ≡ false
     → tag_of s text ≡ tag_over s.suite s.key s.nonce s.aad text
 unfolding tag_of tag_over
 two_pass_tag s text two = two_pass_tag_by (construction_of s.suite) s.key s.nonce s.aad text two
 
--- the tag of what a body would open to
+-- if the tag is over the ciphertext, the tag of the text that a body would open to is the tag over the body
 pub body_tag : (s : Setting) (tag body : List ℕ) → is_one_pass (construction_of s.suite) ≡ true
     → tag_of s (unmasked s tag body) ≡ tag_over s.suite s.key s.nonce s.aad body
 body_tag s tag body one =
     one_pass_tag s tag (unmasked s tag body) one
     ∙ ap (tag_over s.suite s.key s.nonce s.aad) (masked_twice (mask s.suite s.key s.nonce tag) 0 body)
 
--- ---- what the parts make
+-- ---- sealings from their parts
 
--- a tag over the ciphertext
+-- a ciphertext and the tag over it are the sealing of the text
 pub seals_one_pass : (s : Setting) (some text out tag : List ℕ) → is_one_pass (construction_of s.suite) ≡ true
     → Fits s text → ((i : ℕ) → get_or text i 0 < 256)
     → out ≡ masked (mask s.suite s.key s.nonce some) 0 text
@@ -117,7 +117,7 @@ seals_one_pass s some text out tag one fits bytes e f =
       is = ap₂ (λ b t. b ++ t) (e ∙ ap (λ g. masked g 0 text) (same_mask s some (tag_of s text) one)) tag_is;
     }
 
--- a tag over the text
+-- a ciphertext and the tag over the text are the sealing of the text
 pub seals_two_pass : (s : Setting) (text out tag : List ℕ) → is_one_pass (construction_of s.suite) ≡ false
     → Fits s text → ((i : ℕ) → get_or text i 0 < 256)
     → tag ≡ tag_over s.suite s.key s.nonce s.aad text → out ≡ masked (mask s.suite s.key s.nonce tag) 0 text
@@ -131,12 +131,12 @@ seals_two_pass s text out tag two fits bytes f e =
       is = ap₂ (λ b t. b ++ t) (e ∙ ap (λ t. masked (mask s.suite s.key s.nonce t) 0 text) tag_is) tag_is;
     }
 
--- a body whose text has another tag
+-- a body and a tag that its text does not have are no sealing
 pub no_sealing : (s : Setting) (body tag : List ℕ) → length tag ≡ 16
     → (tag_of s (unmasked s tag body) ≡ tag → ⊥) → IsNoSealing s (body ++ tag)
 no_sealing s body tag long other text o = other (sealed_only_if s body tag text long o.is).0
 
--- a body whose text has the tag
+-- a body and the tag of its text are the sealing of that text
 pub opened_as : (s : Setting) (body tag text : List ℕ) → Fits s body
     → ((i : ℕ) → get_or text i 0 < 256) → text ≡ unmasked s tag body → tag_of s (unmasked s tag body) ≡ tag
     → Opened s (body ++ tag) text

@@ -18,7 +18,7 @@ no_masks made a = λ s tag n h room.
     let same : n ≡ n + 0 = omega arith in
     (subst (made a s tag) same h, refl)
 
--- two parts, one after the other
+-- masking two parts one after the other masks both joined
 pub more_masks : {S : Type 0} (made : S → Setting → List ℕ → ℕ → Type 0) (a b c : S) (x p y q was now : List ℕ)
     → Masks made a b x p → Masks made b c y q → x ++ y ≡ was → p ++ q ≡ now → Masks made a c was now
 more_masks made a b c x p y q was now f g input output = λ s tag n h room.
@@ -36,7 +36,7 @@ more_masks made a b c x p y q was now f g input output = λ s tag n h room.
 pub no_takes : {H : Type 0} (held : H → Setting → List ℕ → Type 0) (a : Authenticator H) → Takes held a a []
 no_takes held a = λ s m h room. subst (HoldsAuthenticator held a s) (sym (append-nil m)) h
 
--- two parts, one after the other
+-- taking in two parts one after the other takes in both joined
 pub more_takes : {H : Type 0} (held : H → Setting → List ℕ → Type 0) (a b c : Authenticator H)
     (x y both : List ℕ) → Takes held a b x → Takes held b c y → x ++ y ≡ both → Takes held a c both
 more_takes held a b c x y both f g is = λ s m h room.
@@ -54,7 +54,7 @@ no_text made held m a = λ s tag fed h k room.
       subst (λ x. HoldsAuthenticator held a s (masked (mask_of s tag) 0 x)) same k,
     )
 
--- the text of two parts, one after the other
+-- taking in the text of two parts one after the other takes in that of both joined
 pub more_text : {S H : Type 0} (made : S → Setting → List ℕ → ℕ → Type 0) (held : H → Setting → List ℕ → Type 0)
     (m n o : S) (a b c : Authenticator H) (x y both : List ℕ) → TakesText made held m n a b x
     → TakesText made held n o b c y → x ++ y ≡ both → TakesText made held m o a c both
@@ -67,7 +67,7 @@ more_text made held m n o a b c x y both f g is = λ s tag fed h k room.
       subst (λ z. HoldsAuthenticator held c s (masked (mask_of s tag) 0 z)) all second.1,
     )
 
--- what is left after a part of a piece was overwritten
+-- after a part of a piece was overwritten, the bytes after that part are the old ones
 pub part_left : (b a new was : List ℕ) (d k : ℕ) → length b ≡ d → length new ≡ k → a ≡ drop d was
     → drop (d + k) (b ++ (new ++ drop k a)) ≡ drop (d + k) was
 part_left b a new was d k eb en e =
@@ -75,7 +75,7 @@ part_left b a new was d k eb en e =
     ∙ ap (λ (n : ℕ). drop n (new ++ drop k a)) (sym en) ∙ drop-append_seam new (drop k a) ∙ ap (drop k) e
     ∙ drop-drop k d was
 
--- and what stands up to its end
+-- after a part of a piece was overwritten, the bytes up to its end are those before it and the new ones
 pub part_front : (b a new : List ℕ) (d k : ℕ) → length b ≡ d → length new ≡ k
     → take (d + k) (b ++ (new ++ drop k a)) ≡ b ++ new
 part_front b a new d k eb en =
@@ -83,7 +83,7 @@ part_front b a new d k eb en =
     ∙ ap (λ (n : ℕ). b ++ take n (new ++ drop k a)) (sym en)
     ∙ ap (λ (z : List ℕ). b ++ z) (take-append_seam new (drop k a))
 
--- the bytes of a front from a place on
+-- the bytes of a front of p after its first d are those of was, if p and was agree after the first d
 pub front_part : (p was b : List ℕ) (d t : ℕ) → b ≡ take t p → d ≤ t → t ≤ length p → drop d p ≡ drop d was
     → drop d b ≡ take (t - d) (drop d was)
 front_part p was b d t e le room same =
@@ -93,7 +93,7 @@ front_part p was b d t e le room same =
     ∙ ap (λ (n : ℕ). drop n (take d p ++ take (t - d) (drop d p))) (sym long)
     ∙ drop-append_seam (take d p) (take (t - d) (drop d p)) ∙ ap (take (t - d)) same
 
--- a front whose bytes from a place on were overwritten
+-- overwriting all bytes of a front after the first d leaves the first d and the new ones
 pub front_whole : (b new : List ℕ) (d : ℕ) → d ≤ length b
     → put_mid d (length b - d) b new ≡ take d b ++ new
 front_whole b new d le =

@@ -10,14 +10,14 @@ use Rattle.octets.proofs.Masks.{length-masked, masked-append}
 use Rattle.aead.specs.Code.Maskings.{Task, task_mask}
 use Rattle.aead.specs.Code.Passes.{HasPassed, HasFilledRoom, Stopped}
 
--- what holds of the places of two lists holds of both joined
+-- if all numbers of two lists are below 256, so are those of both joined
 pub small-append : (x y : List ℕ) → ((i : ℕ) → get_or x i 0 < 256) → ((i : ℕ) → get_or y i 0 < 256) → (i : ℕ)
     → get_or (x ++ y) i 0 < 256
 small-append [] y p q i = q i
 small-append (b ∷ x) y p q zero = p 0
 small-append (b ∷ x) y p q (suc i) = small-append x y (λ j. p (suc j)) q i
 
--- nothing yet
+-- a state that is fed nothing more has passed no bytes
 pub passed_none : {M : Type 0} (holds : M → Task → List ℕ → Type 0) (t : Task) (fed : List ℕ)
     (l o : Option (List ℕ)) (k : M) → holds k t fed → HasPassed holds t fed l l o o k []
 unfolding masked
@@ -30,7 +30,7 @@ passed_none holds t fed l o k h =
       small = λ i. omega arith;
     }
 
--- the masked x, and then that of y
+-- x and y joined, masked, are the masked x and then the masked y
 two_masked : (t : Task) (fed x y : List ℕ)
     → masked (task_mask t) (length fed) (x ++ y)
     ≡ masked (task_mask t) (length fed) x ++ masked (task_mask t) (length (fed ++ x)) y

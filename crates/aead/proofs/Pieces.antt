@@ -19,7 +19,7 @@ use Rattle.aead.specs.Refusals.{SealRefused, WholeSealRefused}
 use Rattle.aead.specs.Cuts.{Rise, piece_lengths, IsCutSealing, Encrypts}
 use Rattle.aead.proofs.OneText.{length-tag_of}
 
--- the pieces before a place, where the first i cuts were looked at
+-- the pieces of a body before a place, after the first i cuts were taken into account
 pub record CutSoFar (body cuts : List ℕ) (i place : ℕ) (pieces : List (List ℕ)) : Type 0 where
   pub joined : concat pieces ≡ take place body
   pub lengths : map length pieces ++ piece_lengths (length body) place (drop i cuts)
@@ -27,11 +27,11 @@ pub record CutSoFar (body cuts : List ℕ) (i place : ℕ) (pieces : List (List 
   pub rising : Rise place (drop i cuts)
   pub within : place ≤ length body
 
--- no cut was looked at
+-- before the first cut there are no pieces
 pub starts : (body cuts : List ℕ) → Rise 0 cuts → CutSoFar body cuts 0 0 []
 starts body cuts h = record { joined = refl; lengths = refl; rising = h; within = omega arith }
 
--- one piece more
+-- pieces and one more join to the joined pieces followed by that one
 joined_more : (pieces : List (List ℕ)) (piece : List ℕ)
     → concat (pieces ++ piece ∷ []) ≡ concat pieces ++ piece
 joined_more pieces piece = concat-append pieces (piece ∷ []) ∙ ap (λ x. concat pieces ++ x) (append-nil piece)
@@ -47,11 +47,11 @@ cut_at : (cuts : List ℕ) (i : ℕ) → i < length cuts → drop i cuts ≡ get
 cut_at cuts i l = let one : suc i ≡ i + 1 = omega arith in
     drop-cons cuts i 0 l ∙ ap (λ j. get_or cuts i 0 ∷ drop j cuts) one
 
--- a number that is no more
+-- a number is not at most a smaller one
 no_more : (m n : ℕ) → n < m → nat_le m n ≡ false
 no_more m n h = grind arith
 
--- the lengths behind a place, by whether the next cut fits
+-- the lengths of the pieces after a place, by whether the next cut fits
 abbrev by_fit : ℕ → ℕ → ℕ → List ℕ → Bool → List ℕ
 by_fit n place c rest b = cond b ((c - place) ∷ piece_lengths n c rest) (piece_lengths n place rest)
 
@@ -109,7 +109,7 @@ passed body cuts i place pieces l past h =
       within = h.within;
     }
 
--- the piece behind the last cut, and the tag
+-- the pieces, the one after the last cut and the tag join to the sealed bytes and have the lengths the cuts fix
 pub finished : (sealed body tag cuts last : List ℕ) (i place : ℕ) (pieces : List (List ℕ)) → length cuts ≤ i
     → CutSoFar body cuts i place pieces → last ≡ drop place body
     → sealed ≡ body ++ tag → length tag ≡ 16
@@ -133,28 +133,28 @@ finished sealed body tag cuts last i place pieces l h e whole long =
 
 -- ---- the ciphertext of a text in pieces
 
--- why a part of a text is refused is why the text is
+-- a text is refused for the fault that a part of it is refused for
 pub part_refused : (s : Setting) (part text : List ℕ) (e : Fault) → length part ≤ length text
     → SealRefused s part e → SealRefused s text e
 part_refused s part text AadTooLong l h = h
 part_refused s part text TextTooLong l h = (h.0, omega (arith, h.1, l))
 part_refused s part text _ l h = absurd h
 
--- and why it is sealed as a whole no more
+-- a text that is refused in place is refused as a whole for the same fault
 pub whole_refused : (s : Setting) (text : List ℕ) (e : Fault) → SealRefused s text e
     → WholeSealRefused s text e
 whole_refused s text AadTooLong h = h
 whole_refused s text TextTooLong h = h
 whole_refused s text _ h = absurd h
 
--- why a further piece of a text is refused is why the text is
+-- a text is refused as a whole for the fault that its first bytes and a further piece are refused for
 pub refused_piece : (s : Setting) (text done piece : List ℕ) (e : Fault)
     → length done + length piece ≤ length text → SealRefused s (done ++ piece) e → WholeSealRefused s text e
 refused_piece s text done piece e l h =
     whole_refused s text e (part_refused s (done ++ piece) text e
     (omega (arith, l, length-append done piece)) h)
 
--- both cases of an answer changed
+-- a result that meets P or Q meets P' or Q', if P implies P' and Q implies Q'
 pub each_case : {A : Type 0} (r : Result A Fault) (P P' : A → Type 0) (Q Q' : Fault → Type 0)
     → ((x : A) → P x → P' x) → ((e : Fault) → Q e → Q' e)
     → MatchResult r P Q → MatchResult r P' Q'
@@ -165,7 +165,7 @@ each_case (Err e) P P' Q Q' f g h = g e h
 abbrev pub ciphertext : Setting → List ℕ → List ℕ
 ciphertext s text = masked (mask_of s (tag_of s text)) 0 text
 
--- what is masked from a place on
+-- masked bytes after the first n are the bytes after the first n, masked from n places further on
 drop-masked : (f : ℕ → ℕ) (n at : ℕ) (xs : List ℕ) → drop n (masked f at xs) ≡ masked f (at + n) (drop n xs)
 unfolding masked
 drop-masked f zero at xs = ap (λ i. masked f i xs) (sym (add-zero at))
@@ -174,7 +174,7 @@ drop-masked f (suc n) at (x ∷ xs) =
     let e : suc at + n ≡ at + suc n = omega arith in
     drop-masked f n (suc at) xs ∙ ap (λ i. masked f i (drop n xs)) e
 
--- a piece of the ciphertext is what the piece of the text is masked to
+-- a piece of the text, masked from its place, is that piece of the ciphertext
 masked_part : (f : ℕ → ℕ) (place n : ℕ) (text : List ℕ) → place ≤ length text
     → masked f (length (take place text)) (take n (drop place text)) ≡ take n (drop place (masked f 0 text))
 masked_part f place n text l =
@@ -182,21 +182,21 @@ masked_part f place n text l =
     ap (λ i. masked f i (take n (drop place text))) at ∙ sym (take-masked f n (0 + place) (drop place text))
     ∙ ap (take n) (sym (drop-masked f place 0 text))
 
--- the pieces before a place, where the first i cuts were looked at, and the state that encrypted them
+-- the pieces before a place, after the first i cuts were taken into account, and the state that encrypted them
 pub record Encrypting (c : Cutting) (s : Setting) (text cuts : List ℕ) (i place : ℕ) (pieces : List (List ℕ))
     : Type 0 where
   pub encrypts : Encrypts c s text (take place text)
   pub within : place ≤ length text
   pub so_far : CutSoFar (ciphertext s text) cuts i place pieces
 
--- what one piece more makes of a state and of the pieces
+-- a state has encrypted one more piece, and its ciphertext was added to the pieces
 abbrev pub Added : Cutting → Setting → List ℕ → List ℕ → List ℕ → List (List ℕ) → List (List ℕ) → Type 0
 Added c s text done piece pieces more =
     Encrypts c s text (done ++ piece)
     × (more ≡ pieces ++ masked (mask_of s (tag_of s text)) (length done) piece ∷ [])
 
 module _ (s : Setting) (text cuts : List ℕ) where
-  -- a cut that is within the text is past the place
+  -- the next cut is past the place
   pub past_place : (c : Cutting) (i place : ℕ) (pieces : List (List ℕ)) → i < length cuts
       → Encrypting c s text cuts i place pieces → place < get_or cuts i 0
   past_place c i place pieces l h =
@@ -245,21 +245,21 @@ module _ (s : Setting) (text cuts : List ℕ) where
         (omega (arith, past, length-masked (mask_of s (tag_of s text)) 0 text)) h.so_far;
   }
 
-  -- the rest of a text after its first bytes
+  -- the first bytes of a text and the rest join to the text
   whole_text : (place : ℕ) → take place text ++ take (length text - place) (drop place text) ≡ text
   whole_text place =
       let all : take (length text - place) (drop place text) ≡ drop place text =
       take_all (length text - place) (drop place text) (omega (arith, length-drop place text)) in
       ap (λ x. take place text ++ x) all ∙ take-append-drop place text
 
-  -- the state that encrypted the piece behind the last cut encrypted the text
+  -- the state that encrypted the piece after the last cut encrypted the text
   pub encrypted_all : (d : Cutting) (place : ℕ) (pieces more : List (List ℕ))
       → Added d s text (take place text) (take (length text - place) (drop place text)) pieces more
       → Encrypts d s text text
   encrypted_all d place pieces more added =
       subst (λ (x : List ℕ). Encrypts d s text x) (whole_text place) added.0
 
-  -- the pieces after the last cut was looked at, the piece behind it and the tag are a sealing
+  -- the pieces up to the last cut, the piece after it and the tag are a sealing with these cuts
   pub cut_sealing : (c d : Cutting) (i place : ℕ) (tag : List ℕ) (pieces more all : List (List ℕ))
       → length cuts ≤ i → ((j : ℕ) → get_or text j 0 < 256)
       → Encrypting c s text cuts i place pieces
@@ -290,7 +290,7 @@ module _ (s : Setting) (text cuts : List ℕ) where
         lengths = ap (map length) made ∙ found.1 ∙ ap (λ m. piece_lengths m 0 cuts ++ 16 ∷ []) size;
       }
 
-  -- the same place, state and pieces
+  -- `Encrypting` carries over to an equal state, place and pieces
   pub same_so_far : (c d : Cutting) (i p q : ℕ) (ps qs : List (List ℕ)) → c ≡ d → p ≡ q → ps ≡ qs
       → Encrypting d s text cuts i q qs → Encrypting c s text cuts i p ps
   same_so_far c d i p q ps qs e f g h =

@@ -1,4 +1,4 @@
--- Where the write reading repeats the verify reading, what may be given repeats the text.
+-- If the write reading repeats the verify reading, the bytes that may be given repeat the text.
 use Rattle.std.proofs.Common.{◌≡◌, ℕ, zero, suc, List, [], ◌∷◌, ◌≤◌, ◌<◌, ◌+◌, ◌-◌, length, take, get_or, ap}
 use Rattle.std.proofs.Common.{ap₂, ◌∙◌, sym, arith, bit_xor}
 use Rattle.std.proofs.lemmas.List.{get_or-take, length-take, take-append-drop, length-drop}

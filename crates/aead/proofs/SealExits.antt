@@ -21,7 +21,7 @@ use Rattle.aead.specs.SealStream.{may_seal, SealVerdict, SealsStream, IfTextKnow
 use Rattle.aead.proofs.Opens.{same_mask}
 use Rattle.aead.proofs.Extents.{all_known, all_stopped_known}
 
--- ---- what may be given
+-- ---- the bytes that may be given
 
 -- of a text within the limit, the ciphertext and the tag
 pub may_seal_is : (s : Setting) (x : List ℕ) → is_one_pass (construction_of s.suite) ≡ true
@@ -45,7 +45,7 @@ pub may_seal_sealing : (s : Setting) (x : List ℕ) → length x ≤ text_limit 
 unfolding may_seal
 may_seal_sealing s x fits = rw (le-leb (length x) (text_limit s.suite) fits) refl
 
--- a beginning of the ciphertext is one of it
+-- a beginning of the ciphertext within the limit is one of the bytes that may be given
 pub begun : (s : Setting) (x : List ℕ) (k : ℕ) → is_one_pass (construction_of s.suite) ≡ true → k ≤ length x
     → k ≤ text_limit s.suite
     → take k (masked (mask_of s []) 0 x) ≡ take k (may_seal s x)
@@ -64,25 +64,25 @@ begun s x k one within short =
 
 -- ---- the exits
 
--- where both tell their bytes
+-- a fact about the known bytes of the reading gives one about the bytes given, if the outlet's are known too
 if_text_known : (l o o' : Option (List ℕ)) (A : List ℕ → Type 0) (Q : List ℕ → List ℕ → Type 0) → IfSome l A
     → ((x : List ℕ) → A x → (given : List ℕ) × Appends o o' given × Q x given) → IfTextKnown l o o' Q
 if_text_known None o o' A Q a f = tt
 if_text_known (Some x) None o' A Q a f = tt
 if_text_known (Some x) (Some y) o' A Q a f = f x a
 
--- what holds of a text that is told
+-- a fact about what is known of a text holds of its bytes, if they are known
 pub told : (l : Option (List ℕ)) (P : Option (List ℕ) → Type 0) → P l → IfSome l (λ x. P (Some x))
 told None P p = tt
 told (Some x) P p = p
 
--- and what follows from it
+-- if a fact holds of the bytes, if known, so does what follows from it
 pub if_known : (l : Option (List ℕ)) (A B : List ℕ → Type 0) → IfSome l A → ((x : List ℕ) → A x → B x)
     → IfSome l B
 if_known None A B a f = tt
 if_known (Some x) A B a f = f x a
 
--- nothing is asked of a text
+-- the empty condition holds of any text
 any_text : (l : Option (List ℕ)) → IfSome l (λ _. Unit {0})
 any_text None = tt
 any_text (Some x) = tt

@@ -31,7 +31,7 @@ use Rattle.aead.proofs.SealExits.{told}
 
 -- ---- the second reading
 
--- what was given and is held of it
+-- the ciphertext of the second reading up to the first one's length was given, and that much of it is held
 again_known : {M : Type 0} (holds : M → Task → List ℕ → Type 0) (s : Setting) (a b : List ℕ) (len : ℕ)
     (l' o o' : Option (List ℕ)) (k : M) (e : Option ℕ) → len ≡ length a
     → HasPassedAll holds (repeating_task s a) len (Some b) l' o o' k e
@@ -42,7 +42,7 @@ again_known holds s a b len l' o o' k e same w =
     let Q : ℕ → Type 0 = λ n. holds k (repeating_task s a) (take n b) in
     (subst P same t.0, subst Q same t.1)
 
--- where its length is within the first one's, it is held whole
+-- if its length was found, it is no longer than the first one
 whole_again : {M : Type 0} (holds : M → Task → List ℕ → Type 0) (s : Setting) (a b : List ℕ)
     (len n : ℕ) (l' o o' : Option (List ℕ)) (k : M) → len ≡ length a
     → HasPassedAll holds (repeating_task s a) len (Some b) l' o o' k (Some n) → take (length a) b ≡ b
@@ -122,7 +122,7 @@ again_tag holds s a b tag len n i read read' wrote wrote' l' o o' o'' k r same w
 
 -- ---- both readings
 
--- where all three tell their bytes
+-- facts about the known bytes of both readings give one about the bytes given, if the outlet's are known too
 if_both_known : (la lb o o' : Option (List ℕ)) (A B : List ℕ → Type 0)
     (Q : List ℕ → List ℕ → List ℕ → Type 0) → IfSome la A → IfSome lb B
     → ((a b : List ℕ) → A a → B b → (given : List ℕ) × Appends o o' given × Q a b given)
@@ -132,12 +132,12 @@ if_both_known (Some a) None o o' A B Q p q f = tt
 if_both_known (Some a) (Some b) None o' A B Q p q f = tt
 if_both_known (Some a) (Some b) (Some y) o' A B Q p q f = f a b p q
 
--- nothing is asked
+-- the empty condition holds of the bytes of any device
 any_bytes : (l : Option (List ℕ)) → IfSome l (λ _. Unit {0})
 any_bytes None = tt
 any_bytes (Some x) = tt
 
--- the first reading, where it tells its bytes
+-- the first reading, if its bytes are known, was taken in whole or is longer than the room
 absorbed_known : {H : Type 0} (held : H → Setting → List ℕ → Type 0) (s : Setting) (room : ℕ) (a : List ℕ)
     (l' : Option (List ℕ)) (after : Authenticator H) (all : Bool)
     → AbsorbedAll held s room (Some a) l' after all
@@ -150,7 +150,7 @@ absorbed_known held s room a (Some rest) after all w =
       λ e. omega (arith, w.long e, ap length w.consumed, length-append w.bytes rest),
     )
 
--- the refusal of the beginning is one of any text
+-- a refusal of the empty text is the verdict for any readings, and is `AadTooLong`
 refused_at_all : (s : Setting) (a b : List ℕ) (f : Fault) → SealRefused s [] f
     → SivVerdict s a b (Err f) × (f ≡ AadTooLong)
 refused_at_all s a b AadTooLong h = (h, refl)

@@ -84,7 +84,7 @@ has_keys by keyed s a b c d e f = record {
   hash_key_is = f;
 }
 
--- what a struct that holds a ciphertext is known by, whatever its hash
+-- the suite, mark and lengths of a struct that holds a ciphertext, whatever its hash
 pub record Held (p : StoredSealer) (s : Setting) (bytes : List ℕ) : Type 0 where
   pub one_pass : is_one_pass (construction_of s.suite) ≡ true
   pub mark_is : p.mark ≡ sealer_mark s.suite
@@ -113,7 +113,7 @@ held ByGcmSiv p s bytes h = absurd h
 pub holds_none : (p : StoredSealer) (s : Setting) → HoldsBytes p s [] → HoldsText p s []
 holds_none p s h = λ tag. subst (HoldsBytes p s) (sym (none_leaves (mask_of s tag))) h
 
--- what a struct is known by that holds what is authenticated of a ciphertext under a tag
+-- the lengths of a struct that has taken in what is authenticated of a ciphertext under a tag
 pub record Sealed (p : StoredSealer) (s : Setting) (bytes : List ℕ) : Type 0 where
   pub lengths : HasLengths s
   pub length_is : p.length ≡ length bytes
@@ -131,7 +131,7 @@ sealed ByGcmSiv p s tag bytes h =
       fits = record { aad_fits = h.fits.aad_fits; text_fits = omega (arith, h.fits.text_fits, same) };
     }
 
--- what is authenticated under a suite whose tag is over the ciphertext: the ciphertext
+-- if the tag is over the ciphertext, a struct that holds a ciphertext has taken in what is authenticated of it
 pub one_pass_sealed : (by : Construction) (p : StoredSealer) (s : Setting) (tag bytes : List ℕ)
     → is_one_pass by ≡ true → HoldsOf by p s bytes → HoldsSealedBy by p s tag bytes
 one_pass_sealed ByChaCha p s tag bytes one h = h
@@ -144,7 +144,7 @@ sealed_one_pass ByChaCha p s tag bytes one h = h
 sealed_one_pass ByGcm p s tag bytes one h = h
 sealed_one_pass ByGcmSiv p s tag bytes one h = absurd (true≢false (sym one))
 
--- and under AES-GCM-SIV the text
+-- under AES-GCM-SIV, a struct that holds the text of a ciphertext has taken in what is authenticated of it
 pub siv_sealed : (by : Construction) (p : StoredSealer) (s : Setting) (tag bytes : List ℕ) → by ≡ ByGcmSiv
     → HoldsSivText p s (masked (mask_of s tag) 0 bytes) → HoldsSealedBy by p s tag bytes
 siv_sealed by p s tag bytes is h = subst (λ x. HoldsSealedBy x p s tag bytes) (sym is) h

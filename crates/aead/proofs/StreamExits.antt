@@ -33,13 +33,13 @@ agrees_from m x low e =
 agrees_to : (m x : List ℕ) → Agrees m x → drop (length m - 16) x ≡ last_16 m
 agrees_to m x a = ap (λ n. drop (n - 16) x) (sym a.0) ∙ a.1
 
--- what may be given, within the lengths
+-- within the limits, the bytes that may be given are the body of the write reading under the measured tag's mask
 pub shown_is : (s : Setting) (m w : List ℕ) → length m ≤ text_limit s.suite + 16
     → shown s m w ≡ masked (mask_of s (last_16 m)) 0 (take (length m - 16) w)
 unfolding shown
 shown_is s m w fits = rw (le-leb (length m) (text_limit s.suite + 16) fits) refl
 
--- ---- the devices that tell their bytes
+-- ---- if the bytes of the devices are known
 
 pub if_known : (lm lv lw o o' : Option (List ℕ)) (A B C : List ℕ → Type 0)
     (Q : List ℕ → List ℕ → List ℕ → List ℕ → Type 0) →
@@ -52,7 +52,7 @@ if_known (Some m) (Some v) None o o' A B C Q a b d f = tt
 if_known (Some m) (Some v) (Some w) None o' A B C Q a b d f = tt
 if_known (Some m) (Some v) (Some w) (Some x) o' A B C Q a b d f = f m v w a b d
 
--- nothing is asked
+-- the empty condition holds of the bytes of any device
 pub any_bytes : (l : Option (List ℕ)) → IfSome l (λ _. Unit {0})
 any_bytes None = tt
 any_bytes (Some x) = tt
@@ -172,12 +172,12 @@ verified s m v Differs fits e h = absurd (cc)
 verified s m v Unsealed fits e h = absurd (cc)
 verified s m v Sealed fits e h = (agrees_from m v fits.long h.0, (_, h.1))
 
--- no device's fault is an answer of the write reading
+-- a result with a device's fault is neither `Ok` nor `SourceChanged`
 no_answer : (r : Result (Unit {0}) Fault) (X Y : Type 0) → ((r ≡ Err Read) × X) ⊎ ((r ≡ Err Write) × Y)
     → (r ≡ Ok tt → ⊥) × (r ≡ Err SourceChanged → ⊥)
 no_answer r X Y h = elim h [ inl b ↦ (λ e. cc (b.0), λ e. cc (b.0)) | inr b ↦ (λ e. cc (b.0), λ e. cc (b.0)) ]
 
--- the answer by what was found of the write reading, and its text
+-- the result for a finding of the write reading is the verdict, and at Ok the reading opens to its unmasked body
 written : (s : Setting) (m v w : List ℕ) (r : Result (Unit {0}) Fault) (found : Finding) → FitsSealed s m
     → Agrees m v × IsSealing s v →
     r ≡ write_answer found → IsFinding s (last_16 m) (length m) w found →

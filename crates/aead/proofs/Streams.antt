@@ -1,4 +1,4 @@
--- How a stream's answer and the first block of a mask come about.
+-- The result of a stream that returns no fault, and the first block of GCM's mask.
 use Rattle.std.proofs.Common.{◌≡◌, ℕ, ◌+◌, ◌^◌, ◌%◌, List, [], ◌∷◌, ◌++◌, length, ap₂, refl, Result, Ok}
 use Rattle.std.proofs.Common.{Err, MatchResult}
 use Rattle.std.specs.Result.{IsOk}

@@ -30,7 +30,7 @@ suite_number Aes256Gcm = 4
 suite_number Aes128GcmSiv = 5
 suite_number Aes256GcmSiv = 6
 
--- the number of an outcome where no suite has the given number
+-- the status of a call if no suite has the given number
 abbrev pub unknown_suite : ℕ
 unknown_suite = 14
 

@@ -7,7 +7,7 @@ use Rattle.octets.specs.declared.fault.Fault.TheVariants.{Read, TextTooLong, Too
 use Rattle.octets.specs.Device.{Failed}
 use Rattle.aead.specs.declared.engine.measure.Measured.{Measured}
 
--- the last 16 bytes, or all where there are fewer
+-- the last 16 bytes, or all if there are fewer
 abbrev pub last_16 : List ℕ → List ℕ
 last_16 x = drop (length x - 16) x
 

@@ -13,7 +13,7 @@ use Rattle.aead.specs.Code.Masks.{as_it_comes}
 use Rattle.aead.specs.Code.Maskings.{HoldsMasking, message_task, repeating_task}
 use Rattle.aead.specs.Code.AnyMaskings.{HoldsAnyMasking}
 
--- a sealer was fed this text: its mask looks at no tag
+-- a sealer was fed this text: its mask does not depend on the tag
 pub record HoldsSealer (sealer : Sealer) (s : Setting) (text : List ℕ) : Type 0 where
   pub one_pass : is_one_pass (construction_of s.suite) ≡ true
   pub masking : (tag : List ℕ) → HoldsAnyMasking sealer.masking (message_task s tag) text
@@ -42,8 +42,8 @@ Repeats s first text = (length text ≡ length first) × (tag_of s text ≡ tag_
 abbrev pub IsCiphertext : Setting → List ℕ → List ℕ → Type 0
 IsCiphertext s text c = (tag : List ℕ) → c ≡ masked (mask_of s tag) 0 text
 
--- the ciphertext of a text and of the piece after it, joined, is the ciphertext of both; with the tag of its
--- text behind it, it is the sealing
+-- the ciphertexts of a text and of the piece after it, joined, are the ciphertext of both; a ciphertext
+-- followed by the tag of its text is the sealing
 abbrev pub PiecesMakeASealing : Type 0
 PiecesMakeASealing = (s : Setting) (text c : List ℕ) → IsCiphertext s text c
     → ((piece d : List ℕ) → ((tag : List ℕ) → d ≡ masked (mask_of s tag) (length text) piece)

@@ -12,7 +12,7 @@ use Rattle.aead.specs.Refusals.{SealRefused, DueTo}
 use Rattle.aead.specs.Pieces.{Repeats}
 use Rattle.aead.specs.Verdict.{IsBeginning}
 
--- the ciphertext of a second reading, as far as the first one went
+-- the ciphertext of a second reading b, under the tag of the first one a and up to its length
 abbrev pub again : Setting → List ℕ → List ℕ → List ℕ
 again s a b = masked (mask_of s (tag_of s a)) 0 (take (length a) b)
 
@@ -42,8 +42,8 @@ pub record SivCounts : Type 0 where
   pub second : ℕ
   pub outlet : ℕ
 
--- `Read` comes only where a reading failed, `Write` only where the outlet did, and no fault but these and the
--- call's own
+-- at `Ok` and at a fault of the call's own no device failed, at `Read` a reading did, and at `Write` the outlet
+-- did; there is no other fault
 abbrev pub SivBlames : List Fault → SivCounts → SivCounts → Result (Unit {0}) Fault → Type 0
 SivBlames own before after r =
     DueTo own (after ≡ before) (Failed before.first after.first ⊎ Failed before.second after.second)
@@ -52,7 +52,7 @@ SivBlames own before after r =
 -- the bytes given of the second reading b after the first one a, and the result
 pub record SealsSivStream (s : Setting) (a b given : List ℕ) (before after : SivCounts)
     (r : Result (Unit {0}) Fault) : Type 0 where
-  -- nothing is given where the associated data or the first reading is past its limit
+  -- nothing is given if the associated data or the first reading is past its limit
   pub early : (aad_limit s.suite < length s.aad) ⊎ (text_limit s.suite < length a) → given ≡ []
   -- the bytes given are a beginning of the ciphertext, and of the tag after it only if the second
   -- reading repeats the first

@@ -26,7 +26,7 @@ SealVerdict s x r = MatchResult r (λ _. Fits s x) (λ e. SealRefused s x e)
 -- the bytes given of a text, and the result
 pub record SealsStream (s : Setting) (x given : List ℕ) (read read' wrote wrote' : ℕ)
     (r : Result (Unit {0}) Fault) : Type 0 where
-  -- nothing is given where the associated data is past its limit
+  -- nothing is given if the associated data is past its limit
   pub early : aad_limit s.suite < length s.aad → given ≡ []
   -- the bytes given are a beginning of those that may be given
   pub beginning : IsBeginning given (may_seal s x)

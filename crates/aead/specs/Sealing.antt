@@ -83,7 +83,7 @@ chacha_mask key nonce = key_stream_byte key nonce 1
 abbrev pub gcm_mask : List ℕ → List ℕ → ℕ → ℕ
 gcm_mask key nonce = counter_byte up_be key (up_be (j0 nonce) 1)
 
--- byte i of the mask: what the text is XORed with. Only GCM-SIV looks at the tag.
+-- byte i of the mask that the text is XORed with. Only that of GCM-SIV depends on the tag.
 unfoldable pub mask_by : Construction → List ℕ → List ℕ → List ℕ → ℕ → ℕ
 mask_by ByChaCha key nonce tag = chacha_mask key nonce
 mask_by ByGcm key nonce tag = gcm_mask key nonce

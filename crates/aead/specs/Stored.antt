@@ -150,7 +150,7 @@ IsSumOf ByGcmSiv n s m = IsPolyvalSum n s m
 abbrev pub HasStart : StoredSum → Setting → Type 0
 HasStart n s = IsSumOf (construction_of s.suite) n s (pad16 s.aad)
 
--- ---- what the calls come to
+-- ---- the outcomes of the calls
 
 -- p becomes q, and was becomes now: if p holds the text, of which `holds` speaks, a piece is added and
 -- masked, or the text would be too long

@@ -38,7 +38,7 @@ pub record HoldsPass (kind : ℕ) (p : StoredPasses) (s : Setting) (tag bytes : 
 abbrev pub HoldsChecking : StoredPasses → Setting → (tag bytes : List ℕ) → Type 0
 HoldsChecking p s tag bytes = HoldsPass checking p s tag bytes
 
--- p is in the second pass, after a first one of so many bytes, and has taken in these
+-- p is in the second pass, after a first one of this many bytes, and has taken in these
 pub record HoldsOpening (p : StoredPasses) (s : Setting) (tag : List ℕ) (first : ℕ) (bytes : List ℕ) : Type 0
   where
     pub pass : HoldsPass opening p s tag bytes
@@ -46,7 +46,7 @@ pub record HoldsOpening (p : StoredPasses) (s : Setting) (tag : List ℕ) (first
     pub first_fits : first ≤ text_limit s.suite
     pub within : length bytes ≤ first
 
--- ---- what the calls come to
+-- ---- the outcomes of the calls
 
 -- p becomes q: a piece is taken in, or the ciphertext would be too long
 abbrev pub Checks : (p q : StoredPasses) (piece : List ℕ) (status : ℕ) → Setting → (tag bytes : List ℕ) → Type 0

@@ -44,7 +44,7 @@ pub record HoldsWriting (p : StoredPasses) (s : Setting) (first text : List ℕ)
   pub first_fits : length first ≤ text_limit s.suite
   pub within : length text ≤ length first
 
--- ---- what the calls come to
+-- ---- the outcomes of the calls
 
 -- p becomes q: a piece is taken in, or the text would be too long
 abbrev pub Absorbs : (p q : StoredPasses) (piece : List ℕ) (status : ℕ) → Setting → (text : List ℕ) → Type 0

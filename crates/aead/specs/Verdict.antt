@@ -53,8 +53,8 @@ pub record FailureCounts : Type 0 where
 abbrev pub counted : ℕ → ℕ → ℕ → ℕ → FailureCounts
 counted m v w o = record { measure = m; verify = v; write = w; outlet = o }
 
--- `Read` comes only where a reading failed, `Write` only where the outlet did, and no fault but these and the
--- verdict's
+-- at `Ok` and at a fault of the verdict no device failed, at `Read` a reading did, and at `Write` the outlet
+-- did; there is no other fault
 abbrev pub BlamesRightly : FailureCounts → FailureCounts → Result (Unit {0}) Fault → Type 0
 BlamesRightly before after r =
     DueTo (AadTooLong ∷ TextTooLong ∷ TooShort ∷ TagMismatch ∷ SourceChanged ∷ []) (after ≡ before)
@@ -70,7 +70,7 @@ pub record OpensStream (s : Setting) (m v w given : List ℕ) (before after : Fa
       × (after.verify ≡ before.verify)
   -- the bytes given are a beginning of those that may be given
   pub beginning : IsBeginning given (shown s m w)
-  -- and all of it at Ok, and where only the write reading differs
+  -- and all of them at Ok, or if only the write reading differs
   pub whole : (r ≡ Ok tt) ⊎ ((r ≡ Err SourceChanged) × OnlyWriteDiffers s m v w) → given ≡ shown s m w
   -- at Ok it is the text of the write reading
   pub text : r ≡ Ok tt → Opened s w given
@@ -87,8 +87,8 @@ IfAllKnown measure verify write taken taken' P =
     IfSome measure (λ m. IfSome verify (λ v. IfSome write (λ w. IfSome taken (λ before.
     (given : List ℕ) × Appends (Some before) taken' given × P m v w given))))
 
--- where the verify reading is a sealing that agrees, and the write reading repeats a byte of its body,
--- a byte that may be given is that byte of the text
+-- if the verify reading is a sealing that agrees, and the write reading repeats byte i of its body, byte i
+-- of those that may be given is byte i of the text
 abbrev pub ShownRepeatsTheText : Type 0
 ShownRepeatsTheText = (s : Setting) (m v w text : List ℕ) (i : ℕ) → Agrees m v → Opened s v text
     → i < length m - 16

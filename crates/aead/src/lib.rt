@@ -53,14 +53,14 @@ pub fn sealing_has_one_text()
     ensures { HasOneText }
 {}
 
-/// Where the verify reading of the stream opener is a sealing of the measured length and last 16 bytes,
-/// each byte that the write reading repeats of its body is given as that byte of the text.
+/// If the verify reading of the stream opener is a sealing with the measured length and last 16 bytes, each
+/// byte of its body that the write reading repeats is given as that byte of the text.
 pub fn shown_repeats_the_text()
     ensures { ShownRepeatsTheText }
 {}
 
 /// Pieces that are masked one after the other, as [`Sealer::update`] masks them, join to the ciphertext of
-/// their text, and with its tag behind it that is the sealing of the text.
+/// their text, which followed by the tag of the text is its sealing.
 pub fn pieces_make_a_sealing()
     ensures { PiecesMakeASealing }
 {}

@@ -49,8 +49,8 @@ pub(crate) fn authenticator<N: Nonced>(nonced: &N, aad: &[u8]) -> Authenticator<
     begun
 }
 
-// The authenticator of a message before its associated data is taken in: the caller takes that in where the
-// authenticator stays.
+// The authenticator of a message before its associated data is taken in: the caller takes that in once the
+// authenticator is in its final place.
 #[inline(always)]
 pub(crate) fn blank_authenticator<N: Nonced>(nonced: &N) -> Authenticator<N::Hash>
     ensures hash { (aad : List ℕ)

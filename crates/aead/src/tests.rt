@@ -31,7 +31,7 @@ fn is_sealed_and_opened(rt: &(impl Abort + Alloc<A = Global>), sample: &Sample) 
     assert!(rt; back.as_slice() == *text);
 }
 
-// A text is sealed and opened where it stands.
+// A text is sealed and opened in place.
 fn is_sealed_and_opened_in_place(rt: &(impl Abort + Alloc<A = Global>), sample: &Sample) {
     let Sample {
         cipher,
@@ -135,7 +135,7 @@ fn published_vectors_of_gcm_siv(rt: HostRuntime) {
     agrees_of_siv(&rt, name, &SIV_KEY, &SIV_TEXT, &SIV_256);
 }
 
-// Opening these bytes as a vector is refused so.
+// Opening these bytes as a vector returns this fault.
 fn is_refused(
     rt: &(impl Abort + Alloc<A = Global>),
     sample: &Sample,
@@ -147,7 +147,7 @@ fn is_refused(
     assert!(rt; answer.err() == Some(fault), "{sealed:?}");
 }
 
-// These bytes are no sealing where they stand either, and stay.
+// Opening these bytes in place returns `TagMismatch`, and they stay unchanged.
 fn is_refused_in_place(
     rt: &(impl Abort + Alloc<A = Global>),
     sample: &Sample,

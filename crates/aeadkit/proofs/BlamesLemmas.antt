@@ -123,7 +123,7 @@ refused_blames input output words e h = (
 failed_some : (before after : ℕ) → Failed before after → 0 < after
 failed_some before after h = elim h [ inl x ↦ omega arith | inr x ↦ omega arith ]
 
--- what blames the count of the written file blames its output
+-- an error that blames the failure count of the written file blames the output
 pub count_blames : (input output : Type 0) (before after : ℕ) (e : Failure) → (0 < after → output)
     → Blames {T = Unit {0}} OfFault input (Failed before after) (Err e)
     → Blames {T = Unit {0}} OfFault input output (Err e)

@@ -83,7 +83,7 @@ opened_thrice (Some x) (Some y) (Some z) measure verify write (Some t) taken' s 
     let k = subst R f (subst Q e (subst P d h)) in
     (k.0, k.1, record { before = before; after = after; is = k.2 })
 
--- nothing of no bytes
+-- dropping from no bytes leaves none
 none_left : (w : ℕ) (p : List ℕ) → p ≡ [] → drop w p ≡ []
 none_left w p e = rw e (drop_all {X = ℕ} w [] (omega arith))
 
@@ -128,14 +128,14 @@ map_one : (a : Option (List ℕ)) (X Y : List ℕ → Type 0) → ((x : List ℕ
 map_one None X Y f h = tt
 map_one (Some x) X Y f h = f x h
 
--- over two
+-- an engine's result over two readings, for what is given in another way
 map_two : (a b : Option (List ℕ)) (X Y : List ℕ → List ℕ → Type 0) → ((x y : List ℕ) → X x y → Y x y)
     → IfSome a (λ x. IfSome b (λ y. X x y)) → IfSome a (λ x. IfSome b (λ y. Y x y))
 map_two None b X Y f h = tt
 map_two (Some x) None X Y f h = tt
 map_two (Some x) (Some y) X Y f h = f x y h
 
--- over three
+-- an engine's result over three readings, for what is given in another way
 map_three : (a b c : Option (List ℕ)) (X Y : List ℕ → List ℕ → List ℕ → Type 0)
     → ((x y z : List ℕ) → X x y z → Y x y z) → IfSome a (λ x. IfSome b (λ y. IfSome c (λ z. X x y z)))
     → IfSome a (λ x. IfSome b (λ y. IfSome c (λ z. Y x y z)))
@@ -144,12 +144,12 @@ map_three (Some x) None c X Y f h = tt
 map_three (Some x) (Some y) None X Y f h = tt
 map_three (Some x) (Some y) (Some z) X Y f h = f x y z h
 
--- what holds of a way of giving holds of a weaker one
+-- an engine's relation that holds for a way of giving also holds for each weaker one
 abbrev Weakens : (Giving → Setting → Answer → Type 0) → Type 1
 Weakens engine = (G H : Giving) → ((P : List ℕ → Type 0) → G P → H P) → (s : Setting) (r : Answer)
     → engine G s r → engine H s r
 
--- of sealing in one reading, or in two
+-- sealing, in one reading or in two, also holds for each weaker way of giving
 sealing_by_weakens : (one : Bool) (readings : ℕ → Option (List ℕ)) → Weakens (SealingBy one readings)
 sealing_by_weakens true readings G H f s r h =
     map_one (readings 0) (λ a. G (λ given. SealsOnce s a given r)) (λ a. H (λ given. SealsOnce s a given r))
@@ -158,7 +158,7 @@ sealing_by_weakens false readings G H f s r h =
     map_two (readings 0) (readings 1) (λ a b. G (λ given. SealsTwice s a b given r))
     (λ a b. H (λ given. SealsTwice s a b given r)) (λ a b. f (λ given. SealsTwice s a b given r)) h
 
--- of the engine of a file command
+-- the engine of a file command also holds for each weaker way of giving
 engine_weakens : (command : FileCommand) (readings : ℕ → Option (List ℕ))
     → Weakens (Engine command readings)
 engine_weakens Seal readings G H f s r h =
@@ -189,7 +189,7 @@ ran_err engine words keyed nonce aad body taken taken' f ready (inr h) = inr (re
   call = record { keyed = keyed; nonce = nonce; aad = aad; body = body; ready = ready; is = h };
 })
 
--- a call for which more holds
+-- a call for which P holds is one for which Q holds, if P implies Q
 map_call : (words : Inputs) (P Q : Setting → List ℕ → Type 0)
     → ((s : Setting) (body : List ℕ) → P s body → Q s body) → IsCalled words P → IsCalled words Q
 map_call words P Q f h = record {
@@ -201,7 +201,7 @@ map_call words P Q f h = record {
   is = f (setting h.keyed h.nonce h.aad) h.body h.is;
 }
 
--- a file command whose engine did not run, or returned a fault
+-- a file command whose engine did not run, or returned a fault, is stopped
 pub exit_err : (command : FileCommand) (readings : ℕ → Option (List ℕ)) (words : Inputs)
     (taken held : Option (List ℕ)) (pending : List ℕ) (e : Failure)
     → Ran (Engine command readings) words taken (append_known held pending) (Err e)
@@ -219,7 +219,7 @@ exit_err command readings words taken held pending e (inr h) =
           s (Err h.fault) k)) h.call;
     })
 
--- one whose last writing failed
+-- a file command whose last write failed is stopped with `Write`
 pub exit_write : (command : FileCommand) (readings : ℕ → Option (List ℕ)) (words : Inputs)
     (taken given held : Option (List ℕ)) (pending : List ℕ)
     → IsCalled words (λ s body. Engine command readings (OutletTakes taken given) s (Ok tt))
@@ -235,7 +235,7 @@ exit_write command readings words taken given held pending h k = inr (record {
   )) h;
 })
 
--- one that is done
+-- a file command whose engine is done is done once nothing is pending
 pub exit_done : (command : FileCommand) (readings : ℕ → Option (List ℕ)) (words : Inputs)
     (taken given held : Option (List ℕ)) (w : ℕ) (pending : List ℕ)
     → IsCalled words (λ s body. Engine command readings (OutletTakes taken given) s (Ok tt))

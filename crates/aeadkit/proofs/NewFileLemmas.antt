@@ -5,7 +5,7 @@ use Rattle.std.proofs.lemmas.List.{append-nil, drop_all, drop-append-le, take_re
 use Rattle.std.proofs.Math.Seq.{drop-drop}
 use Rattle.std.specs.Io.KnownBytes.{Appends, Keeps, WriteAppends, append_known}
 
--- of what is pending some were written
+-- if some of the pending bytes are written, the written and the pending bytes together stay the same
 pub wrote : (old new : Option (List ℕ)) (p q : List ℕ) (w n : ℕ) → q ≡ p
     → Appends old new (take n (take (length q - w) (drop w q)))
     → Keeps (append_known old (drop w p)) (append_known new (drop (w + n) p))
@@ -24,7 +24,7 @@ pub none_pending : (old new : Option (List ℕ)) (p : List ℕ) (w : ℕ) → le
     → Keeps old (append_known new (drop w p)) → Keeps old (append_known new [])
 none_pending old new p w h k = rw (← drop_all w p h) k
 
--- one after another
+-- if a is kept in b, and b in c, a is kept in c
 pub keeps_more : (a b c : Option (List ℕ)) → Keeps a b → Keeps b c → Keeps a c
 keeps_more None b c p q = tt
 keeps_more (Some x) None c p q = absurd p

@@ -69,11 +69,11 @@ abbrev pub OutletTakes : Option (List ℕ) → Option (List ℕ) → Giving
 OutletTakes taken taken' P =
     IfSome taken (λ before. (given : List ℕ) × Appends (Some before) taken' given × P given)
 
--- a file holds, behind what was taken before, all bytes that were given; they have this property
+-- a file holds what was taken before, then all bytes that were given; these have this property
 abbrev pub HoldsAll : Option (List ℕ) → Option (List ℕ) → Giving
 HoldsAll taken held P = IfSome taken (λ before. (given : List ℕ) × (held ≡ Some (before ++ given)) × P given)
 
--- a file holds a beginning of that
+-- a file holds a beginning of what was taken before and the bytes that were given; these have this property
 abbrev pub HoldsStart : Option (List ℕ) → Option (List ℕ) → Giving
 HoldsStart taken held P =
     IfSome taken (λ before. (given : List ℕ)

@@ -22,7 +22,7 @@ report_text records bad = codes "records " ++ (decimal records ++ 10 ∷ flat_ma
 abbrev pub IsReportOf : Option (List ℕ) → ℕ → List ℕ → Type 0
 IsReportOf file records bad = IfSome file (λ bytes. IsReport (lines_of bytes) records bad)
 
--- the report of a file was printed; the status is 0 where there are records and none is bad, else 1
+-- the report of a file was printed; the status is 0 if there are records and none is bad, else 1
 pub record IsChecked (file before after : Option (List ℕ)) (status : ℕ) : Type 0 where
   pub records : ℕ
   pub bad : List ℕ

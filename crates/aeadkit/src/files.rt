@@ -183,7 +183,7 @@ pub fn write_file<'a, A: Allocator, B: Allocator, F: Storage>(
         (⟦<NewFile<'a, F, B> as Outlet>⟧.taken file.old)
         (held (F.blank file.new.files.now) F.Output.taken file.new.file)) }
     ensures made { IfOk result (λ _. is_some file.new.file ≡ true) }
-    // `Read` and `Write` come only where the input or the output failed.
+    // `Read` comes only if the input failed, and `Write` only if the output failed.
     ensures blame { Blames OfFault
         (InputFailed (F.open_may_fail files.now words.now.input.now) F.Input.failures)
         (OutputFailed (F.make_may_fail file.new.files.now) F.Output.failures) result }

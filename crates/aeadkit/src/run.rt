@@ -105,11 +105,11 @@ pub fn perform<A: Allocator, F: Storage, W: Write>(
     request: &PrintRequest<'_>,
     out: &mut W,
 ) -> Result<u8, Failure>
-    // At Ok the answer is right and was printed; else the failure is one that the request has.
+    // On Ok the right answer was printed; on Err the failure is one that the request can have.
     ensures answer { MatchResult result
         (Answered (F.contents files.now) (W.contents out.old) (W.contents out.new) request.now)
         (Stopped (F.contents files.now) request.now) }
-    // A file's `Read` comes only where the input failed.
+    // A file's `Read` comes only if the input failed.
     ensures blame { RequestBlames
         (λ path. InputFailed (F.open_may_fail files.now path) F.Input.failures) request.now result }
     ensures status { IfOk result (λ status. status ≤ 1) }

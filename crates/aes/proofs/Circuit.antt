@@ -18,7 +18,7 @@ use Rattle.aes.proofs.Tested.{all_below, all_below_at, eight_cases}
 abbrev pub Gate : Type 0
 Gate = Bool × ℕ × ℕ
 
--- what a gate makes
+-- the value of a gate: the product or the sum of its two operands
 abbrev pub made : {A : Type 0} → (A → A → A) → (A → A → A) → A → Gate → List A → A
 made mul add d g env = cond g.0 (mul (get_or env g.1 d) (get_or env g.2 d)) (add (get_or env g.1 d) (get_or env g.2 d))
 
@@ -51,7 +51,7 @@ gates =
     (false, 21, 7) ∷ (false, 17, 14) ∷ (false, 26, 2) ∷ (false, 5, 12) ∷ (false, 2, 7) ∷ (false, 30, 5) ∷
     (false, 16, 0) ∷ []
 
--- where the eight bits stand at the end
+-- the positions of the eight result bits in the final list of values
 abbrev pub places : List ℕ
 places = 11 ∷ 3 ∷ 8 ∷ 4 ∷ 1 ∷ 2 ∷ 0 ∷ 6 ∷ []
 
@@ -125,7 +125,7 @@ at_product l k x y hx hy h =
     ap (λ m. bit_at m k) (get_or-zip2 bit_and x y l 0 0 0 (omega (arith, hx, h)) (omega (arith, hy, h)))
     ∙ bit_at_and (get_or x l 0) (get_or y l 0) k
 
--- what the gates make of planes of n lanes
+-- the gates on planes of n lanes
 module _ (n : ℕ) where
   abbrev make : Gate → List (List ℕ) → List ℕ
   make = made (zip2 bit_and) (zip2 bit_xor) (none n)
@@ -133,14 +133,14 @@ module _ (n : ℕ) where
   abbrev run_planes : List Gate → List (List ℕ) → List (List ℕ)
   run_planes = run (zip2 bit_and) (zip2 bit_xor) (none n)
 
-  -- what a gate makes of planes is long
+  -- a gate on planes of n lanes makes a plane of n lanes
   made_long : (b : Bool) (i j : ℕ) (env : List (List ℕ)) → Long n env → length (make (b, i, j) env) ≡ n
   made_long true i j env h =
       length-zip2 bit_and (get_or env i (none n)) (get_or env j (none n)) (h i ∙ sym (h j)) ∙ h i
   made_long false i j env h =
       length-zip2 bit_xor (get_or env i (none n)) (get_or env j (none n)) (h i ∙ sym (h j)) ∙ h i
 
-  -- the bits of what it makes
+  -- a bit of the plane that a gate makes is the value of the gate on the same bits of the given planes
   made_bits : (l k : ℕ) → l < n → (b : Bool) (i j : ℕ) (env : List (List ℕ)) → Long n env
       → at l k (make (b, i, j) env) ≡ made min plus2 0 (b, i, j) (map (at l k) env)
   made_bits l k h true i j env long =
@@ -157,13 +157,13 @@ module _ (n : ℕ) where
   longer v env h long zero = h
   longer v env h long (suc i) = long i
 
-  -- every plane made is long
+  -- every plane that the gates make has n lanes
   run_long : (gs : List Gate) (env : List (List ℕ)) → Long n env → Long n (run_planes gs env)
   run_long [] env h = h
   run_long ((b, i, j) ∷ gs) env h =
       run_long gs (make (b, i, j) env ∷ env) (longer (make (b, i, j) env) env (made_long b i j env h) h)
 
-  -- the bits of all that is made
+  -- the bits of the planes that the gates make are the values of the gates on the same bits of the given planes
   run_bits : (l k : ℕ) → l < n → (gs : List Gate) (env : List (List ℕ)) → Long n env
       → map (at l k) (run_planes gs env) ≡ run min plus2 0 gs (map (at l k) env)
   run_bits l k h [] env long = refl

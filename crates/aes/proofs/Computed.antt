@@ -28,13 +28,13 @@ sub_word_is : (w : List ℕ) → Small w → sub_word w ≡ sub_word_by_table w
 sub_word_is [] h = refl
 sub_word_is (x ∷ w) h = ap₂ (λ y ys. y ∷ ys) (sym (sbox_at x (h 0))) (sub_word_is w (λ i. h (suc i)))
 
--- what is added to the word Nk places back, by the table
+-- the word added to the one Nk places back, with SubWord by the table
 abbrev changed_by_table : ℕ → ℕ → List ℕ → List ℕ
 changed_by_table nk i t =
     cond (i % nk == 0) (xor_word (sub_word_by_table (rot_word t)) (rcon (i / nk)))
     (cond ((nk == 8) && (i % 8 == 4)) (sub_word_by_table t) t)
 
--- it is the same
+-- `changed_by_table` computes `changed` of a list of bytes
 changed_is : (nk i : ℕ) (t : List ℕ) → Small t → changed nk i t ≡ changed_by_table nk i t
 unfolding changed
 changed_is nk i t h =
@@ -47,7 +47,7 @@ next_by_table key ws i =
     cond (nat_lt i (key_words key)) (take 4 (drop (4 * i) key))
     (xor_word (get_or ws (i - key_words key) []) (changed_by_table (key_words key) i (get_or ws (i - 1) [])))
 
--- it is the same
+-- `next_by_table` computes `next_word`, if every byte of the words ws is below 256
 next_is : (key : List ℕ) (ws : List (List ℕ)) (i : ℕ) → AreWords ws
     → next_word key ws i ≡ next_by_table key ws i
 unfolding next_word

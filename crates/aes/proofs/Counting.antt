@@ -57,7 +57,7 @@ up_le-up_le b i j long =
     (ap (λ (x : ℕ). bytes_low_first 0 4 ((x + j) % 2 ^ 32)) number ∙ ap (bytes_low_first 0 4) sum)
     (drop_at four (drop 4 b) 4 refl)
 
--- what a list spells is less than its length allows
+-- the first n bytes of a list, most significant first, spell less than 256^n
 be_small : (bs : List ℕ) (n : ℕ) → n ≤ length bs → ((i : ℕ) → get_or bs i 0 < 256) → be (take n bs) < 256 ^ n
 unfolding be
 be_small bs zero h small = rw (pow-zero 256) (omega arith)

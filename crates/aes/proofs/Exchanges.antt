@@ -68,19 +68,19 @@ of_two : (f : ℕ → ℕ → ℕ) (x y : List ℕ) (l : ℕ) → length x ≡ 3
     → get_or (zip2 f x y) l 0 ≡ f (get_or x l 0) (get_or y l 0)
 of_two f x y l hx hy h = get_or-zip2 f x y l 0 0 0 (omega arith) (omega arith)
 
--- the bits that go over
+-- the bits under the mask m in which x, shifted down by n, and y differ
 abbrev pub over : ℕ → ℕ → List ℕ → List ℕ → List ℕ
 over n m x y = zip2 bit_and (zip2 bit_xor (zip2 (λ a b. a / 2 ^ b) x (replicate 32 n)) y) (replicate 32 m)
 
--- the bits of two bytes that go over
+-- the bits under the mask m in which two bytes, the first one shifted down by n, differ
 abbrev over_byte : ℕ → ℕ → ℕ → ℕ → ℕ
 over_byte n m x y = bit_and (bit_xor (x / 2 ^ n) y) m
 
--- what x becomes
+-- x after an exchange: `over`, shifted up by n, is XORed into it
 abbrev pub first_of : ℕ → ℕ → List ℕ → List ℕ → List ℕ
 first_of n m x y = zip2 bit_xor x (zip2 (λ a b. a * 2 ^ b % 2 ^ 8) (over n m x y) (replicate 32 n))
 
--- what y becomes
+-- y after an exchange: `over` is XORed into it
 abbrev pub second_of : ℕ → ℕ → List ℕ → List ℕ → List ℕ
 second_of n m x y = zip2 bit_xor y (over n m x y)
 
@@ -193,7 +193,7 @@ second_bit n m x y k (suc (suc d)) h e = absurd (omega arith)
 abbrev pub is_mask : ℕ → ℕ → Bool
 is_mask n m = all_below (λ k. (bit_at (m * 2 ^ n % 2 ^ 8) k == k / n % 2) && (bit_at m k == 1 - k / n % 2)) 8
 
--- what it says of a place
+-- a mask that passes `is_mask` has bit 1 - k / n % 2 at place k, and moved up by n it has bit k / n % 2
 mask_at : (n m k : ℕ) → is_mask n m ≡ true → k < 8
     → (bit_at (m * 2 ^ n % 2 ^ 8) k ≡ k / n % 2) × (bit_at m k ≡ 1 - k / n % 2)
 mask_at n m k test h =

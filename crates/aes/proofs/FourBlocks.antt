@@ -22,7 +22,7 @@ use Rattle.aes.proofs.Sums.{xor_exchange}
 use Rattle.aes.proofs.Multiples.{double, double_is}
 use Rattle.aes.proofs.Steps.{sbox_small}
 
--- the same lanes by another name
+-- a vector whose lanes hold f holds g too, if f and g agree on all 64 lanes
 pub same_lanes : {f g : ℕ → ℕ} (v : List ℕ) → HasLanes v f → ((k : ℕ) → k < 64 → f k ≡ g k) → HasLanes v g
 same_lanes v h same = record { long = h.long; each = λ k l. h.each k l ∙ same k l }
 
@@ -204,11 +204,11 @@ scaled_at y = entry SCALED (y % 16)
 abbrev pub both_at : ℕ → ℕ
 both_at y = bit_xor (y % 16) (y / 16)
 
--- what the first part inverts
+-- the inverse of the high nibble plus the scaled inverse of the low one, which the first part inverts
 abbrev pub first_at : ℕ → ℕ
 first_at y = bit_xor (entry INVERSE (y / 16)) (scaled_at y)
 
--- what the second part inverts
+-- the inverse of the sum of the nibbles plus the scaled inverse of the low one, which the second part inverts
 abbrev pub second_at : ℕ → ℕ
 second_at y = bit_xor (entry INVERSE (both_at y)) (scaled_at y)
 
@@ -243,7 +243,7 @@ places_at y h =
     let d = and_parts (is_place (u_at y)) (is_place (t_at y)) c.1 in
     (a.0, b.0, c.0, d.0, d.1)
 
--- what the places of a look-up are, by the lanes from which they were made
+-- lanes that hold g of each byte are places of a look-up, if g maps each byte to such a place
 pub shown : (g : ℕ → ℕ) (v x : List ℕ) → Each1 (Fits w8) x → HasLanes v (λ k. g (get_or x k 0))
     → ((y : ℕ) → y < 256 → IsPlace (g y)) → (k : ℕ) → k < 64 → IsPlace (get_or v k 0)
 shown g v x fits h ok k l = subst IsPlace (sym (h.each k l)) (ok (get_or x k 0) (lane_fits x k fits))
@@ -252,11 +252,11 @@ shown g v x fits h ok k l = subst IsPlace (sym (h.each k l)) (ok (get_or x k 0) 
 pub both_place : (y : ℕ) → y < 256 → IsPlace (both_at y)
 both_place y h = (places_at y h).0
 
--- what the first part inverts is a place
+-- `first_at` of a byte is a place of a look-up
 pub first_place : (y : ℕ) → y < 256 → IsPlace (first_at y)
 first_place y h = (places_at y h).1
 
--- what the second part inverts is a place
+-- `second_at` of a byte is a place of a look-up
 pub second_place : (y : ℕ) → y < 256 → IsPlace (second_at y)
 second_place y h = (places_at y h).2
 

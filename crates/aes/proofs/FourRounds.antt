@@ -167,7 +167,7 @@ constant_in_basis : in_basis 0x63 ≡ 0x7c
 unfolding in_basis
 constant_in_basis = refl
 
--- what a lane of a round holds
+-- the terms of a lane of a round sum to the mixed S-box values plus the key byte, all in the basis
 lane_mixed : (a b c d k : ℕ) → a < 256 → b < 256 → c < 256 → d < 256 → k < 256
     → bit_xor
     (bit_xor (bit_xor (in_basis (times 2 (linear_sbox a))) (in_basis (linear_sbox b)))
@@ -206,7 +206,7 @@ lane_mixed a b c d k ha hb hc hd hk =
     ∙ ap (λ (u : ℕ). bit_xor (bit_xor (times 2 (sbox a)) (bit_xor u (bit_xor (sbox c) (sbox d)))) k)
     (sym (triple_is (sbox b) (sbox_small b hb))))
 
--- what a lane of the last round holds
+-- in the last round, the S-box without its constant plus the key byte with it is the S-box plus the key byte
 pub lane_last : (a k : ℕ) → bit_xor (linear_sbox a) (bit_xor k 0x63) ≡ bit_xor (sbox a) k
 unfolding linear_sbox
 lane_last a k = xor_exchange (sbox a) 0x63 k 0x63 ∙ xor_zero_r (bit_xor (sbox a) k)
@@ -416,12 +416,12 @@ block_held v f q held h long =
     ∙ held.each (q * 16 + k) (omega arith)
     ∙ ap₂ (λ (i j : ℕ). get_or (f i) j 0) block byte)
 
--- the same blocks by another name
+-- a vector that holds blocks in the basis holds equal blocks in the basis
 pub basis_same : (v : List ℕ) (f g : ℕ → List ℕ) → ((q : ℕ) → f q ≡ g q) → HoldsInBasis v f → HoldsInBasis v g
 basis_same v f g same held =
     same_lanes v held (λ k l. ap (λ b. in_basis (get_or b (k % 16) 0)) (same (k / 16)))
 
--- out of the basis
+-- a vector that holds blocks holds equal blocks
 pub blocks_same : (v : List ℕ) (f g : ℕ → List ℕ) → ((q : ℕ) → f q ≡ g q) → HoldsBlocks v f → HoldsBlocks v g
 blocks_same v f g same held = same_lanes v held (λ k l. ap (λ b. get_or b (k % 16) 0) (same (k / 16)))
 

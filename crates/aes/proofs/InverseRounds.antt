@@ -67,7 +67,7 @@ one_back key s x k u t v b d long four within same back mixed h =
     ∙ add_twice (schedule key) n u long)
     ∙ back
 
--- where no round is left, AddRoundKey alone is undone
+-- if no round is left, AddRoundKey alone is undone
 pub first_added : (key : List ℕ) (s : InverseKey) (x : IsInverse s key) (k u f t : List ℕ) (n : ℕ) → n ≡ 0
     → length u ≡ 16 → s.size ≤ 8
     → ((i : ℕ) → i < 4 → get_or (columns_of k) i [] ≡ get_or (columns_of s.words) (4 * 0 + i) [])

@@ -72,7 +72,7 @@ cond_word : (b : Bool) (v w : List ℕ) → IsWord v → IsWord w → IsWord (co
 cond_word true v w hv hw = hv
 cond_word false v w hv hw = hw
 
--- what is added to the word Nk places back
+-- the word added to the one Nk places back is a word, if t is one
 changed_is : (nk i : ℕ) (t : List ℕ) → IsWord t → IsWord (changed nk i t)
 unfolding changed
 changed_is nk i t h =

@@ -97,7 +97,7 @@ constants_go a b = xor_exchange a 0x63 b 0x63 ∙ xor_zero_r (bit_xor a b)
 constant_out : (a b : ℕ) → bit_xor (bit_xor a 0x63) b ≡ bit_xor (bit_xor a b) 0x63
 constant_out a b = ap (bit_xor (bit_xor a 0x63)) (sym (xor_zero_r b)) ∙ xor_exchange a 0x63 b 0
 
--- what a round makes of the four bytes that it comes from
+-- the terms of a round's byte sum to the mixed S-box values of its four bytes plus the key byte
 pub value : (a b c d k : ℕ) → b < 256
     → bit_xor (bit_xor (bit_xor (linear_sbox b) (bit_xor (linear_sbox c) (linear_sbox d)))
     (times 2 (bit_xor (linear_sbox a) (linear_sbox b)))) (bit_xor k 0x63)
@@ -258,7 +258,7 @@ first_value f ws l k =
     ap (λ (i : ℕ). bit_xor (block_byte f l k) (get_or (get_or ws i []) (spot l % 4) 0)) first
     ∙ sym (added_byte ws (f (l / 16 * 8 + k)) (spot l) small)
 
--- a byte of a round's words, where they stand first
+-- byte i of the words of round n is byte i of the first words after 4n words are dropped
 dropped : (ws : List (List ℕ)) (n i : ℕ) → i < 16 → word_byte ws n i ≡ key_byte (drop (4 * n) ws) i
 dropped ws n i h =
     let same : i % 16 ≡ i = omega arith in

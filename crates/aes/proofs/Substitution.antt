@@ -46,13 +46,13 @@ has_nibbles {x = x} {low = low} {high = high} {both = both} {scaled = scaled} l 
   scaled_is = via (entry SCALED) (λ k. get_or x k 0 % 16) scaled low s l;
 }
 
--- what the first part inverts
+-- the inverses of the high nibbles plus the scaled inverses of the low ones are `first_at` of each lane
 pub first_is : {x low high both scaled look first : List ℕ} → HasNibbles x low high both scaled
     → IsLook look INVERSE high → IsSum first look scaled → HasLanes first (λ k. first_at (get_or x k 0))
 first_is {high = high} {scaled = scaled} {look = look} {first = first} n l s =
     looked INVERSE first look high scaled l s n.high_is n.scaled_is
 
--- what the second part inverts
+-- the inverses of the sums of the nibbles plus the scaled inverses of the low ones are `second_at` of each lane
 pub second_is : {x low high both scaled look second : List ℕ} → HasNibbles x low high both scaled
     → IsLook look INVERSE both → IsSum second look scaled → HasLanes second (λ k. second_at (get_or x k 0))
 second_is {both = both} {scaled = scaled} {look = look} {second = second} n l s =

@@ -68,7 +68,7 @@ pub inverse_unique : (x y z : ℕ) → y < 256 → z < 256 → times x y ≡ 1 �
 inverse_unique x y z hy hz ey ez =
     sym (times_one z hz) ∙ ap (times z) (sym ey) ∙ times_swap z x y ∙ ap (times y) ez ∙ times_one y hy
 
--- where the byte y alone passes, the first place that passes is y
+-- if y is the only byte that passes the test, the first position that passes is y
 position_only : (t : ℕ → Bool) (y : ℕ) → y < 256 → t y ≡ true → ((z : ℕ) → z < 256 → t z ≡ true → z ≡ y)
     → position t (range_with_len 0 256) ≡ Some y
 position_only t y h here only =

@@ -16,7 +16,7 @@ all_below_at t (suc n) k h l =
       | inr e ↦ all_below_at t n k (and_parts (t n) (all_below t n) h).1 (omega arith)
     ]
 
--- what holds of eight numbers holds below eight
+-- a predicate that holds of 0 to 7 holds of each number below 8
 pub eight_cases : (P : ℕ → Type 0) → P 0 → P 1 → P 2 → P 3 → P 4 → P 5 → P 6 → P 7 → (j : ℕ) → j < 8 → P j
 eight_cases P a b c d e f g h zero l = a
 eight_cases P a b c d e f g h (suc zero) l = b

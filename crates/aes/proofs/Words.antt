@@ -61,19 +61,19 @@ word_rest key k h some =
     ∙ ap₂ (λ v w. xor_word v (changed (key_words key) k w))
     (words_at key k (k - key_words key) (omega arith)) (words_at key k (k - 1) (omega arith))
 
--- what is added, in the three cases
+-- at i mod Nk = 0, `changed` is SubWord(RotWord(t)) plus the round constant
 pub changed_first : (nk i : ℕ) (t : List ℕ) → i % nk ≡ 0
     → xor_word (sub_word (rot_word t)) (rcon (i / nk)) ≡ changed nk i t
 unfolding changed
 changed_first nk i t h = rw (eq-eqb (i % nk) 0 h) refl
 
--- at i mod 8 = 4 where Nk is 8
+-- at i mod 8 = 4, if Nk is 8 and i mod Nk is not 0, `changed` is SubWord(t)
 pub changed_fourth : (nk i : ℕ) (t : List ℕ) → (i % nk ≡ 0 → ⊥) → nk ≡ 8 → i % 8 ≡ 4
     → sub_word t ≡ changed nk i t
 unfolding changed
 changed_fourth nk i t h e f = rw (ne_eqb (i % nk) 0 h, eq-eqb nk 8 e, eq-eqb (i % 8) 4 f) refl
 
--- at any other word
+-- at any other word, `changed` is t
 pub changed_other : (nk i : ℕ) (t : List ℕ) → (i % nk ≡ 0 → ⊥) → (nk ≡ 8 → i % 8 ≡ 4 → ⊥) → t ≡ changed nk i t
 unfolding changed
 changed_other nk i t h no_fourth =

@@ -8,7 +8,7 @@ use Rattle.aes.specs.declared.counter.CtrBe.{CtrBe}
 use Rattle.aes.specs.declared.counter.CtrLe.{CtrLe}
 
 -- s has made this many bytes of the stream from the first block on under the key: it has begun their blocks, counted
--- modulo 2^32, and where the last one is not used up it keeps its cipher
+-- modulo 2^32, and if the last block is not used up, it keeps the output of the cipher for that block
 pub record Makes {C : Type 0} (up : List ℕ → ℕ → List ℕ) (s : Counter C) (key : List ℕ) (first : List ℕ)
     (made : ℕ) : Type 0 where
   pub first_is : s.first ≡ first
@@ -16,7 +16,7 @@ pub record Makes {C : Type 0} (up : List ℕ → ℕ → List ℕ) (s : Counter 
   pub used_is : s.used ≡ made % 16
   pub mask_is : 0 < made % 16 → s.mask ≡ cipher key (up first (made / 16))
 
--- s becomes t, and was becomes now: wherever s has made a number of bytes under the key, the next ones are XORed
+-- s becomes t, and was becomes now: if s has made a number of bytes under the key, the next ones are XORed
 -- in, and t has made them too
 abbrev pub Advances : {C : Type 0} (up : List ℕ → ℕ → List ℕ) (key : List ℕ) (s t : Counter C) (was now : List ℕ)
     → Type 0
@@ -33,14 +33,14 @@ pub record AdvancesFront {C : Type 0} (up : List ℕ → ℕ → List ℕ) (key 
   pub front : Advances up key s t (take n was) (take n now)
 
 -- s has made this many bytes of the stream that counts by `up_be` from the first block on, under a key whose bytes
--- `bytes` tells
+-- are given by `bytes`
 pub record HoldsBe {K : Type 0} (bytes : K → List ℕ) (s : CtrBe K) (key : List ℕ) (first : List ℕ) (made : ℕ) :
     Type 0 where
   pub key_is : bytes s.key ≡ key
   pub makes : Makes up_be s.counter key first made
 
 -- s has made this many bytes of the stream that counts by `up_le` from the first block on, under a key whose bytes
--- `bytes` tells
+-- are given by `bytes`
 pub record HoldsLe {K : Type 0} (bytes : K → List ℕ) (s : CtrLe K) (key : List ℕ) (first : List ℕ) (made : ℕ) :
     Type 0 where
   pub key_is : bytes s.key ≡ key

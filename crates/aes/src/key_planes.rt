@@ -53,7 +53,7 @@ fn number_of(lanes: u8x16) -> u128
     u128::from_le_bytes(lanes.to_array())
 }
 
-// The lanes that a number stands for.
+// The bytes of the number as lanes, the least significant first.
 #[inline(always)]
 fn lanes_in(number: u128) -> u8x16
     ensures { result ≡ to_le_bytes w128 number }
@@ -78,7 +78,7 @@ fn packed(p: HalfPlanes) -> KeyPlanes
     ]
 }
 
-// The planes that numbers stand for.
+// The planes whose lanes are the bytes of these numbers.
 #[inline(always)]
 pub(crate) fn unpacked(words: &KeyPlanes) -> HalfPlanes
     ensures { (g : ℕ → ℕ → ℕ) → HoldsWords words.now g → HoldsLanes 16 result g }

@@ -42,7 +42,7 @@ const TWO_BELOW: [usize; 32] = [
     18, 19, 20, 21, 22, 23,
 ];
 
-// The same four of 16 lanes.
+// The first 16 entries of SHIFTED, SHIFTED_OUT, BELOW and TWO_BELOW, for planes of 16 lanes.
 const HALF_SHIFTED: [usize; 16] = [0, 1, 2, 3, 5, 6, 7, 4, 10, 11, 8, 9, 15, 12, 13, 14];
 
 const HALF_SHIFTED_OUT: [usize; 16] = [0, 5, 10, 15, 1, 6, 11, 12, 2, 7, 8, 13, 3, 4, 9, 14];
@@ -255,7 +255,7 @@ pub(crate) fn lower(p: Planes) -> HalfPlanes
     brought!(p, FIRST)
 }
 
-// The other 16.
+// The last 16 lanes.
 #[inline(always)]
 pub(crate) fn upper(p: Planes) -> HalfPlanes
     ensures { (g : ℕ → ℕ → ℕ) → HoldsBits p g → HoldsLanes 16 result (λ l k. g (16 + l) k) }
@@ -263,7 +263,7 @@ pub(crate) fn upper(p: Planes) -> HalfPlanes
     brought!(p, SECOND)
 }
 
-// Both after one another.
+// The 16 lanes of `p`, then the 16 of `q`.
 #[inline(always)]
 pub(crate) fn both_halves(p: HalfPlanes, q: HalfPlanes) -> Planes
     ensures { (g : ℕ → ℕ → ℕ) → HoldsLanes 16 p g → HoldsLanes 16 q (λ l k. g (16 + l) k) → HoldsBits result g }
@@ -280,7 +280,7 @@ pub(crate) fn both_halves(p: HalfPlanes, q: HalfPlanes) -> Planes
     ]
 }
 
-// The same 16 lanes twice.
+// Copies these 16 lanes into both halves of the planes.
 #[inline(always)]
 pub(crate) fn twice(p: HalfPlanes) -> Planes
     ensures { (g : ℕ → ℕ → ℕ) → HoldsLanes 16 p g → HoldsBits result (λ l k. g (l % 16) k) }

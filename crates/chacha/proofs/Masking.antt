@@ -50,7 +50,7 @@ block_bytes key nonce c i below =
     let place : i ≡ i % 64 = omega arith in
     ap₂ (λ (n j : ℕ). get_or (block key n nonce) j 0) counter place
 
--- a byte of blocks that stand one after the other
+-- byte 64 * q + r of concatenated blocks is byte r of block q
 byte_of_blocks : (bs : List (List ℕ)) (q r : ℕ) → Each1 (λ b. length b ≡ 64) bs → q < length bs → r < 64
     → get_or (flat_map (λ b. b) bs) (64 * q + r) 0 ≡ get_or (get_or bs q []) r 0
 byte_of_blocks [] q r long there below = absurd (omega arith)
@@ -136,7 +136,7 @@ four_masked key nonce c l a b d e now_a now_b now_d now_e has a64 b64 d64 e64 is
     ∙ sym (masked-append f 0 (a ++ b) (d ++ e) ∙ ap (λ (n : ℕ). masked f 0 (a ++ b) ++ masked f n (d ++ e))
     at_d)
 
--- what stands after the first k blocks
+-- the key stream from the counter c + k on is that from the counter c on, at offset 64 * k
 pub later : (key nonce : List ℕ) (c k : ℕ) (xs : List ℕ)
     → masked (key_stream_byte key nonce (c + k)) 0 xs ≡ masked (key_stream_byte key nonce c) (64 * k) xs
 unfolding key_stream_byte
@@ -175,8 +175,8 @@ whole_blocks key nonce p xs begins =
     let place : p / 64 * 64 + 0 + j ≡ p + j = omega arith in
     sym (key_stream_byte-first key nonce (p / 64) 0 j) ∙ ap (key_stream_byte key nonce 0) place)
 
--- a run of bytes, from a place on: what is XORed into them begins within the key stream from the counter of
--- that place on
+-- XORing in bytes p mod 64 and on of a stream that agrees with the key stream from the counter p / 64 on masks a run
+-- of bytes in its place
 run_of_stream : (key nonce : List ℕ) (p size n : ℕ) (bytes stream now : List ℕ) → length stream ≡ size
     → ((i : ℕ) → i < size → get_or stream i 0 ≡ key_stream_byte key nonce (p / 64) i)
     → n ≡ min (length stream - p % 64) (length bytes)
@@ -201,7 +201,7 @@ bytes_of_zeros f size i l =
     masked_zero f 0 i i (replicate size 0) (omega (arith, l, length-replicate {A = ℕ} size 0))
     (get_or-replicate size i 0 0 l) (omega arith)
 
--- where it is zeros with the key stream XORed in
+-- a run of bytes is masked in its place if the stream is zeros with the key stream XORed in
 pub run_of_zeros : (key nonce : List ℕ) (p size n : ℕ) (bytes stream now : List ℕ)
     → stream ≡ masked (key_stream_byte key nonce (p / 64)) 0 (replicate size 0) → length stream ≡ size
     → n ≡ min (length stream - p % 64) (length bytes)
@@ -249,7 +249,7 @@ bytes_of_two key nonce c blocks stream are is_stream i l =
     ap (λ s. get_or s i 0) (is_stream ∙ ap (λ bs. flat_map (λ (b : List ℕ). b) bs) are)
     ∙ two_blocks_bytes key nonce c i l
 
--- where it is two blocks, one after the other
+-- a run of bytes is masked in its place if the stream is two blocks, one after the other
 pub run_of_two : (key nonce : List ℕ) (p n : ℕ) (blocks : List (List ℕ)) (bytes stream now : List ℕ)
     → blocks ≡ block key (p / 64) nonce ∷ block key (p / 64 + 1) nonce ∷ []
     → stream ≡ flat_map (λ b. b) blocks → length stream ≡ length blocks * 64
@@ -261,7 +261,7 @@ run_of_two key nonce p n blocks bytes stream now are is_stream long =
     run_of_stream key nonce p 128 n bytes stream now (omega (arith, long, two))
     (bytes_of_two key nonce (p / 64) blocks stream are is_stream)
 
--- where it is a block
+-- a run of bytes is masked in its place if the stream is a block
 pub run_of_block : (key nonce : List ℕ) (p n : ℕ) (bytes stream now : List ℕ)
     → stream ≡ block key (p / 64) nonce
     → n ≡ min (length stream - p % 64) (length bytes)

@@ -1,7 +1,7 @@
--- Calls that are refused nothing.
+-- Calls that never fail.
 use Rattle.std.proofs.Common.{Result, Ok, Err, MatchResult}
 
--- what holds of a result where no fault fits
+-- if the contract of a result allows no fault, its Ok case holds
 pub never_refused : {T E : Type 0} (r : Result T E) (P : Type 0) (Q : E → Type 0) → MatchResult r (λ _. P) Q
     → ((e : E) → Q e → ⊥) → P
 never_refused (Ok v) P Q m none = m

@@ -225,25 +225,25 @@ pub lane_all : (j : ℕ) (x : List (List ℕ)) (words : List ℕ) (i : ℕ) → 
 lane_all j x words i sixteen long end same =
     sym (take_all i (lane j x) (omega (arith, length-lane j x))) ∙ same ∙ take_all i words (omega arith)
 
--- a lane whose counter was set is where its block starts
+-- an initial state with word 12 set to n is the initial state of the counter n
 pub lane_begun : (key nonce state start : List ℕ) (n m : ℕ) → state ≡ initial_state key m nonce
     → start ≡ set state 12 n → start ≡ initial_state key n nonce
 unfolding initial_state
 lane_begun key nonce state start n m is_state is_start = is_start ∙ ap (λ (s : List ℕ). set s 12 n) is_state
 
--- the counter of the state where a block starts
+-- word 12 of an initial state is its counter
 pub counter_of : (key nonce state : List ℕ) (n : ℕ) → state ≡ initial_state key n nonce → get_or state 12 0 ≡ n
 unfolding initial_state
 counter_of key nonce state n is_state = ap (λ (s : List ℕ). get_or s 12 0) is_state
 
--- a lane that went through ten double rounds from where its block starts, with the start added, is the block
+-- ten double rounds of an initial state, with that state added, serialize to its block
 pub lane_block : (key nonce start x rounds : List ℕ) (n : ℕ) → start ≡ initial_state key n nonce
     → rounds ≡ double_rounds 10 start → x ≡ added rounds start → serialized x ≡ block key n nonce
 unfolding block block_from
 lane_block key nonce start x rounds n begins is_rounds is_x =
     ap serialized (is_x ∙ ap (λ s. added s start) is_rounds ∙ ap (λ s. added (double_rounds 10 s) s) begins)
 
--- a lane's counter in a run, which no run passes
+-- a lane's counter does not wrap within the text
 pub counter_now : (n a j k size : ℕ) → j < k → a % 64 ≡ 0 → a + 64 * k ≤ size → n + size / 64 ≤ 2 ^ 32
     → (n + a / 64 + j) % 2 ^ 32 ≡ n + a / 64 + j
 counter_now n a j k size below begins room limit = omega (arith, below, begins, room, limit)

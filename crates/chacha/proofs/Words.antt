@@ -75,7 +75,7 @@ length-put out bytes at h =
     (length-append (take at out) bytes)
     ∙ omega (arith, length-take-le at out (omega arith), length-drop (at + length bytes) out)
 
--- and what stands before the end of the part
+-- a list with a part put in place begins with the bytes before the part, then the part
 pub take-put : (out bytes : List ℕ) (at n : ℕ) → at + length bytes ≤ length out → n ≡ at + length bytes
     → take n (take at out ++ bytes ++ drop (at + length bytes) out) ≡ take at out ++ bytes
 take-put out bytes at n h e =

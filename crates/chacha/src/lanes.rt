@@ -111,8 +111,8 @@ pub(crate) fn half_diagonals<const N: usize>(x: &mut [Simd<u32, N>; 16], n: u32,
 pub(crate) const KEPT: usize = if WIDE { 0 } else { 512 };
 
 // Ten double rounds in halves of rounds, with a step of other work after each half. The steps are done on a copy: it
-// stays in registers, where a reference would not. A step is a branch, and so keeps the halves of a round apart: where
-// both stand in one basic block, LLVM makes two shuffles of the rotation by 8, one for either side of the XOR before it.
+// stays in registers, which a reference would not. A step is a branch, and so keeps the halves of a round apart: if
+// both are in one basic block, LLVM makes two shuffles of the rotation by 8, one for each side of the XOR before it.
 #[inline(always)]
 fn ten_rounds<const N: usize, W: Work>(x: &mut [Simd<u32, N>; 16], work: &mut W)
     ensures lanes { (j : ℕ) → j < N → lane j x.new ≡ double_rounds 10 (lane j x.old) }

@@ -178,8 +178,8 @@ fn xor_run<W: Work>(key: &Key32, nonce: &Nonce, place: u64, bytes: &mut [u8], wo
     xor_part(&single::block(key, counter, nonce), skip, bytes)
 }
 
-// XORs the bytes of `stream` from place `skip` on into the first bytes, and returns how many they are. It is a function of
-// its own, since inlined it would stand in the code for each width.
+// XORs the bytes of `stream` from offset `skip` on into the first bytes, and returns their number. It is a separate
+// function, since inlining would copy it into the code for each width.
 #[inline(never)]
 fn xor_part(stream: &[u8], skip: usize, bytes: &mut [u8]) -> usize
     requires { skip ≤ length stream.now }

@@ -124,7 +124,7 @@ fn stream_and_blocks(rt: &impl Abort, first: u32) -> (ChaStream, [[u8; 64]; 10])
     (stream, ten_blocks(&key, &nonce, first))
 }
 
-// Whether a stream gives so many bytes of these blocks at once, and changes none behind them.
+// Whether a stream gives the first `length` bytes of these blocks in one call, and changes no byte after them.
 fn gives_first(stream: &ChaStream, blocks: &[[u8; 64]; 10], length: usize) -> bool
     requires { length ≤ 640 }
 {

@@ -110,7 +110,7 @@ pub reduced_is : (p : List Bool) (z : ℕ) → IsReduced p z
     → coefficient (of_word z) ≡ coefficient (residue ghash_modulus p)
 reduced_is p z is = fun_ext is
 
--- a residue is seen by the coefficients of what it is of
+-- a residue of p is the residue of any q with the same coefficients
 pub reduced_same : (p q : List Bool) (z : ℕ) → coefficient p ≡ coefficient q → IsReduced p z → IsReduced q z
 reduced_same p q z e is k = is k ∙ ap (λ f. f k) (residue_same ghash_modulus p q refl e)
 
@@ -141,7 +141,7 @@ x_first w p q =
     product_first (replicate w false ++ p) (product power p) q (x_times w p) ∙ product_assoc power p q
     ∙ sym (x_times w (product p q))
 
--- the same by its second
+-- x^w times a product, by its second factor
 x_second : (w : ℕ) (p q : List Bool) → coefficient (product p (replicate w false ++ q))
     ≡ coefficient (replicate w false ++ product p q)
 x_second w p q =
@@ -175,7 +175,7 @@ x_same w p q e =
     ∙ ap (raised w) e ∙ sym (fun_ext (coefficient_below w (residue m q))))
     ∙ x_residue w q
 
--- what is moved has x^w times the residue
+-- a residue of p moved by w places is the residue of x^w times p
 pub moved_is : (w b z : ℕ) (p : List Bool) → IsReduced p b → IsMoved w b z
     → IsReduced (replicate w false ++ p) z
 moved_is w b z p is moved k =

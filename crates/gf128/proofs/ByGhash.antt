@@ -28,12 +28,12 @@ use Rattle.gf128.proofs.PolyvalSums.{dot_same, polyval_is_the_only}
 bits_of : List Bool → List Bool
 bits_of p = map (coefficient p) (range_with_len 0 128)
 
--- they are 128
+-- `bits_of p` has 128 bits
 length-bits_of : (p : List Bool) → length (bits_of p) ≡ 128
 unfolding bits_of
 length-bits_of p = length-map-range_with_len (coefficient p) 0 128
 
--- they have the polynomial, where it is of degree below 128
+-- `bits_of p` is the polynomial p, if p has degree below 128
 bits_of_same : (p : List Bool) → ((k : ℕ) → 128 ≤ k → coefficient p k ≡ false) → Agree (bits_of p) p
 unfolding bits_of
 bits_of_same p low k = made_at (coefficient p) 128 k (low k)

@@ -26,7 +26,7 @@ spread_none p none = (
       (fun_ext (λ k. wide_none k ∙ sym (none k))),
 )
 
--- what is taken in is seen by its coefficients
+-- `IsSpread` holds of q if it holds of p and q has the same coefficients
 pub spread_same : (d : ℕ) (p q : List Bool) (z s : ℕ) → coefficient p ≡ coefficient q → IsSpread d p z s
     → IsSpread d q z s
 spread_same d p q z s e held = (held.0, held.1 ∙ residue_same ghash_modulus p q refl e)
@@ -57,7 +57,7 @@ spread_more w d p q z s t lw room lz small whole is held =
           ∙ sym (residue_parts q (up p)),
     )
 
--- what is folded in the end
+-- if z and s spread p, then `folded z s` is the residue of p
 pub spread_all : (d : ℕ) (p : List Bool) (z s : ℕ) → z < 2 ^ 128 → s < 2 ^ 64 → IsSpread d p z s
     → IsReduced p (folded z s)
 spread_all d p z s lz ls held k = ap (λ f. f k) (folded_at z s lz ls ∙ held.1)

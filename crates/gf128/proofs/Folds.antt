@@ -180,7 +180,7 @@ high_at s k l =
           ∙ sym (of_bits_past 64 s k h)
     ]
 
--- what is folded has the residue of the whole
+-- `folded z s` is the residue of `wide z s`, the word z and x^128 times the half word s
 pub folded_at : (z s : ℕ) → z < 2 ^ 128 → s < 2 ^ 64 → coefficient (of_word (folded z s))
     ≡ coefficient (residue ghash_modulus (wide z s))
 folded_at z s lz ls =

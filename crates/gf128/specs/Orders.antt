@@ -8,7 +8,7 @@ use Rattle.gf128.specs.Ghash.{ghash_modulus, ghash}
 use Rattle.gf128.specs.Polyval.{IsReversedMulX, polyval}
 use Rattle.gf128.specs.Code.Words.{of_word, IsFourProducts}
 
--- GHASH reads the bytes as they stand, POLYVAL from the last to the first
+-- GHASH reads the bytes in order, POLYVAL from the last to the first
 pub data Order : Type 0 where
   Straight : Order
   Reversed : Order

@@ -17,8 +17,8 @@ fn folded(word: u128, spill: u64) -> u128
     word ^ (high ^ ((high >> 1) ^ ((high >> 2) ^ (high >> 7))))
 }
 
-// The sum of a word and x^128 times what fell out below it, which is folded in at the end. That stands in the high
-// half of `spill`.
+// The sum of a word and x^128 times what fell out below it, which is kept in the high half of `spill` and folded in
+// at the end.
 #[derive(Drop, Clone, Copy)]
 pub(crate) struct Chain {
     word: Lanes,

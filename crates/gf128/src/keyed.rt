@@ -68,7 +68,7 @@ pub trait Keyed128: Multiply + Sized {
         Self::of(&Block::new([0; 16]))
     }
 
-    /// It becomes the multiplier of `key`, where it stays: a large one takes long to move.
+    /// Becomes the multiplier of `key` in place, since a large multiplier takes long to move.
     fn set(&mut self, key: &Block)
         ensures { Self.key_bytes self.new ≡ key.now }
     {

@@ -250,8 +250,8 @@ pub(crate) struct Multiples256 {
     ghost filled: { (j : ℕ) → j < 256 → IsBitsProduct 8 j word (slice_index entries j) },
 }
 
-// Makes a table the multiples of a word by eight bits. It stays where it is: a table of 4 KiB takes longer to move
-// than to fill.
+// Fills a table in place with the multiples of a word by eight bits: a table of 4 KiB takes longer to move than to
+// fill.
 fn fill(entries: &mut [u128; 256], word: u128)
     ensures { (k : ℕ) → k < 256 → IsBitsProduct 8 k word (slice_index entries.new k) }
 {

@@ -28,12 +28,12 @@ length_cipher key b =
     length_added (schedule key) (round_count key)
     (shift_rows (sub_bytes (rounds (schedule key) (round_count key - 1) b)))
 
--- one block more at the end
+-- the blocks with one more, joined, are the joined blocks and that block
 joined_push : (rs : List (List ℕ)) (h : List ℕ) → joined_blocks (rs ++ h ∷ []) ≡ joined_blocks rs ++ h
 joined_push [] h = append-nil h
 joined_push (r ∷ rs) h = ap (λ x. r ++ x) (joined_push rs h) ∙ sym (append_assoc r (joined_blocks rs) h)
 
--- one block more is a list of blocks again
+-- blocks with one more block are blocks
 blocks_push : (rs : List (List ℕ)) (h : List ℕ) → AreBlocks rs → length h ≡ 8 → AreBlocks (rs ++ h ∷ [])
 blocks_push [] h b l = (l, tt)
 blocks_push (r ∷ rs) h b l = (b.0, blocks_push rs h b.1 l)

@@ -74,7 +74,7 @@ pub length_number : (k n : ℕ) → length (bytes_high_first k n) ≡ k
 length_number zero n = refl
 length_number (suc k) n = ap suc (length_number k n)
 
--- the same number of bytes, written otherwise
+-- m bytes are n bytes if m is n
 pub bytes_resized : (m n : ℕ) (xs : List ℕ) → m ≡ n → AreBytes m xs → AreBytes n xs
 bytes_resized m n xs e b = subst (λ (k : ℕ). AreBytes k xs) e b
 
@@ -125,15 +125,15 @@ xor_twice (x ∷ xs) (y ∷ ys) h =
     ap₂ (λ u us. u ∷ us) (xor_assoc x y y ∙ ap (bit_xor x) (xor_self y) ∙ xor_zero_r x)
     (xor_twice xs ys (omega arith))
 
--- equal lists, each joined from two parts: where the earlier parts have one length, they are equal
+-- if two joined lists are equal, and their first parts have the same length, the first parts are equal
 pub same_front : (a b x y : List ℕ) → length a ≡ length b → a ++ x ≡ b ++ y → a ≡ b
 same_front a b x y l e = sym (take_at a x (length b) l) ∙ ap (take (length b)) e ∙ take_at b y (length b) refl
 
--- their later parts are equal too
+-- if two joined lists are equal, and their first parts have the same length, the second parts are equal
 pub same_back : (a b x y : List ℕ) → length a ≡ length b → a ++ x ≡ b ++ y → x ≡ y
 same_back a b x y l e = sym (drop_at a x (length b) l) ∙ ap (drop (length b)) e ∙ drop_at b y (length b) refl
 
--- what the cipher makes of A and the next block is a block
+-- the cipher of A and the next block is a block
 ciphered : (key s : List ℕ) (n : ℕ) → IsPermutation → IsKey key → AreBytes n s → 16 ≤ n
     → IsBlock (cipher key (take 16 s))
 ciphered key s n law k b l = (law key k).0 (take 16 s) (bytes_take 16 n s l b)

@@ -1,4 +1,4 @@
--- Texts to pad, what their wrappings begin with, and what is made of it.
+-- Padded texts, the registers that their wrapping starts from, and the transformation of these.
 use Rattle.std.proofs.Common.{◌≡◌, ◌≢◌, ℕ, zero, suc, ◌+◌, ◌-◌, ◌*◌, ◌/◌, ◌%◌, ◌^◌, ◌<◌, ◌≤◌, ◌==◌, Bool}
 use Rattle.std.proofs.Common.{true, false, eqb, List, [], ◌∷◌, ◌++◌, take, drop, length, replicate, refl}
 use Rattle.std.proofs.Common.{sym, ap, ap₂, ◌∙◌, arith, length-append, length-drop, append_assoc}
@@ -22,7 +22,7 @@ use Rattle.keywrap.proofs.Texts.{steps_length}
 use Rattle.keywrap.proofs.Bytes.{bytes_append, bytes_resized, bytes_take, bytes_drop, bytes_replicate}
 use Rattle.keywrap.proofs.Bytes.{bytes_number, same_front, same_back, steps_bytes, steps_one_to_one}
 
--- one block
+-- A and one block are transformed by the cipher
 pub transformed_one : (key s : List ℕ) → length s ≡ 16 → transformed key s ≡ cipher key s
 unfolding transformed
 transformed_one key s e = rw e refl
@@ -31,7 +31,7 @@ transformed_one key s e = rw e refl
 differs : (m n : ℕ) → m ≢ n → eqb m n ≡ false
 differs m n d = grind arith
 
--- more blocks than one
+-- A and more blocks than one are transformed by the steps
 pub transformed_more : (key s : List ℕ) → length s ≢ 16
     → transformed key s ≡ steps key (6 * ((length s - 8) / 8)) s
 unfolding transformed
@@ -41,7 +41,7 @@ transformed_more key s d = rw (differs (length s) 16 d) refl
 fails : eqb 16 16 ≡ false → ⊥
 fails e = cc
 
--- what is made of bytes is as many bytes
+-- 16 bytes or more are transformed into as many bytes
 made_bytes : (b : Bool) (key s : List ℕ) (n : ℕ) → eqb n 16 ≡ b → IsPermutation → IsKey key → AreBytes n s
     → 16 ≤ n → AreBytes n (transformed key s)
 made_bytes true key s n e law k h l =
@@ -53,7 +53,7 @@ made_bytes false key s n e law k h l =
     let d : length s ≢ 16 = λ is. fails (sym (ap (λ m. eqb m 16) (sym h.length_is ∙ is)) ∙ e) in
     rw (transformed_more key s d) (steps_bytes key s (6 * ((length s - 8) / 8)) n law k h l)
 
--- and nothing else has the same made of it
+-- the transformation of n bytes is one to one
 made_one_to_one : (b : Bool) (key s r : List ℕ) (n : ℕ) → eqb n 16 ≡ b → IsPermutation → IsKey key
     → AreBytes n s → AreBytes n r → 16 ≤ n
     → transformed key s ≡ transformed key r → s ≡ r
@@ -80,11 +80,11 @@ padded_long text =
     ∙ ap (λ n. length text + n) (length-replicate ((8 - length text % 8) % 8) 0) in
     (omega arith, omega arith, omega arith)
 
--- what the wrapping of a text begins with
+-- the register of a text: the alternative initial value and the padded text
 abbrev pub start : List ℕ → List ℕ
 start text = alternative_value (length text) ++ padded text
 
--- it is bytes
+-- the register of a text is made of bytes, eight more than the padded text
 pub start_bytes : (text : List ℕ) → AreBytes (length text) text
     → AreBytes (8 + length (padded text)) (start text)
 start_bytes text b =
@@ -97,7 +97,7 @@ start_bytes text b =
     (bytes_resized (length text + zeros) (length (padded text)) (padded text) long
     (bytes_append (length text) zeros text (replicate zeros 0) b (bytes_replicate zeros 0 (omega arith))))
 
--- the same alternative initial value tells the same length
+-- lengths below 2^32 with the same alternative initial value are equal
 pub one_length : (m n : ℕ) → m < 2 ^ 32 → n < 2 ^ 32 → alternative_value m ≡ alternative_value n → m ≡ n
 one_length m n lm ln e =
     sym (from_be_bytes-to_be_bytes_4 m lm)
@@ -105,7 +105,7 @@ one_length m n lm ln e =
     e)
     ∙ from_be_bytes-to_be_bytes_4 n ln
 
--- texts of one length whose wrappings begin alike are the same
+-- texts to pad with the same register are equal
 pub one_start : (text other : List ℕ) → HasPaddableLength text → HasPaddableLength other
     → start text ≡ start other → text ≡ other
 one_start text other h i e =
@@ -130,7 +130,7 @@ wrapped_bytes key wrapped text law k u =
     rw u.is (made_bytes (eqb (8 + length (padded text)) 16) key (start text) (8 + length (padded text)) refl
     law k (start_bytes text u.bytes) (start_long text u.length_is.least))
 
--- a register of which a wrapping of the text is made is the one that the text begins with
+-- a register that is transformed into a wrapping of the text is the register of the text
 pub only_start : (key wrapped text s : List ℕ) → IsPermutation → IsKey key → AreBytes (length wrapped) s
     → transformed key s ≡ wrapped
     → UnwrappedPadded key wrapped text → s ≡ start text
@@ -154,14 +154,14 @@ one_text law key k wrapped text u = (
       (start_bytes other v.bytes)) (sym v.is) u),
 )
 
--- zero bytes are as many zeros
+-- a list whose items are all 0 is as many zeros
 pub zeros : (xs : List ℕ) → list_all (λ b. b == 0) xs ≡ true → xs ≡ replicate (length xs) 0
 zeros [] h = refl
 zeros (x ∷ xs) h =
     let both = and_parts (eqb x 0) (list_all (λ b. b == 0) xs) h in
     ap₂ (λ y ys. y ∷ ys) (eqb-true x 0 both.0) (zeros xs both.1)
 
--- and zeros are zero bytes
+-- n zeros are all 0
 pub are_zeros : (n : ℕ) → list_all (λ b. b == 0) (replicate n 0) ≡ true
 are_zeros zero = refl
 are_zeros (suc n) = are_zeros n
@@ -177,7 +177,7 @@ padded_by n blocks whole least few h =
     sym (take-append-drop n blocks) ∙ ap (λ z. take n blocks ++ z)
     (zeros (drop n blocks) h ∙ ap (λ m. replicate m 0) rest)
 
--- what is made of a register of blocks is as long, whatever the key
+-- the transformation keeps the length of a register of 16 bytes or more, whatever the key
 made_length : (b : Bool) (key s : List ℕ) → eqb (length s) 16 ≡ b → 16 ≤ length s
     → length (transformed key s) ≡ length s
 made_length true key s e l =
@@ -218,7 +218,7 @@ parts wrapped a blocks e f =
     ap₂ (λ x y. x ++ y) e (f ∙ take_all (length wrapped - 8) (drop 8 wrapped)
     (omega (arith, length-drop 8 wrapped))) ∙ take-append-drop 8 wrapped
 
--- the text whose start was found
+-- if the register found is that of the first n bytes of its blocks, these are the text of the wrapping
 pub unwrapped_by : (key wrapped first rest : List ℕ) (n : ℕ) → n ≤ length rest → AreBytes (length rest) rest
     → IsStartOf (take n rest) first rest
     → transformed key (first ++ rest) ≡ wrapped → UnwrappedPadded key wrapped (take n rest)
@@ -229,7 +229,7 @@ unwrapped_by key wrapped first rest n l b s e = record {
   is = sym e ∙ ap (transformed key) (ap₂ (λ x y. x ++ y) s.first_is s.blocks_are);
 }
 
--- where none was found, there is none
+-- if the register found is that of no text, the bytes are the wrapping of no text
 pub no_wrapping : (key wrapped first rest : List ℕ) → IsPermutation → IsKey key
     → AreBytes (length wrapped) (first ++ rest) → length first ≡ 8
     → transformed key (first ++ rest) ≡ wrapped → ((text : List ℕ) → IsStartOf text first rest → ⊥)
@@ -242,7 +242,7 @@ no_wrapping key wrapped first rest law k b long e none text u =
       blocks_are = same_back first (alternative_value (length text)) rest (padded text) long same;
     })
 
--- blocks that a text begins with have zeros past it
+-- blocks that are a padded text have only zeros after the text
 pub zeros_past : (text blocks : List ℕ) (n : ℕ) → n ≡ length text → blocks ≡ padded text
     → list_all (λ b. b == 0) (take (length blocks - n) (drop n blocks)) ≡ true
 zeros_past text blocks n e is =
@@ -307,7 +307,7 @@ wrapped_in_room key bytes value zeros wrapped n room most b v z e =
           (sym long));
     }
 
--- where a length was found, the text of that length is what the register begins with
+-- if a length is found, the register is that of the text of this length
 pub start_found : (first rest : List ℕ) (found : Option ℕ)
     → MatchOption found ((text : List ℕ) → ¬ IsStartOf text first rest)
     (λ n. (n ≤ length rest) × IsStartOf (take n rest) first rest)
@@ -315,7 +315,7 @@ pub start_found : (first rest : List ℕ) (found : Option ℕ)
 start_found first rest None h = tt
 start_found first rest (Some n) h = h.1
 
--- the length that was found is that of the text of a wrapping, and where none was found, there is no text
+-- a length that is found is that of the text of the wrapping, and if none is found, there is no text
 pub found_by : (key wrapped first rest : List ℕ) (found : Option ℕ) → IsPermutation → IsKey key
     → AreBytes (length wrapped) (first ++ rest) → length first ≡ 8
     → AreBytes (length rest) rest → transformed key (first ++ rest) ≡ wrapped

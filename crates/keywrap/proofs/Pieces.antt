@@ -24,7 +24,7 @@ halves x z y a b e f long rest =
 pub cut : (p : ℕ) (s : List ℕ) → s ≡ take p s ++ (take 8 (drop p s) ++ drop 8 (drop p s))
 cut p s = sym (ap (λ v. take p s ++ v) (take-append-drop 8 (drop p s)) ∙ take-append-drop p s)
 
--- a step where the first two blocks are known
+-- the register after step t, if its A is a and its R[1] is r
 pub step_at : (key : List ℕ) (t : ℕ) (a r z : List ℕ) → length a ≡ 8 → length r ≡ 8
     → step key t (a ++ (r ++ z)) ≡ xor_bytes (take 8 (cipher key (a ++ r))) (bytes_high_first 8 t)
     ++ (z ++ drop 8 (cipher key (a ++ r)))
@@ -45,7 +45,7 @@ register_before place a m r e lm =
     ap (λ v. a ++ v) (ap₂ (λ d t. d ++ t) (drop_at m (r ++ e) place lm) (take_at m (r ++ e) place lm)
     ∙ append_assoc r e m)
 
--- and after
+-- the register after its next block r was taken
 pub register_after : (place : ℕ) (a m r e : List ℕ) → length m ≡ place → length r ≡ 8
     → register (place + 8) a (m ++ (r ++ e)) ≡ a ++ ((e ++ m) ++ r)
 unfolding register
@@ -62,7 +62,7 @@ pub register_start : (a s : List ℕ) → register 0 a s ≡ a ++ s
 unfolding register
 register_start a s = ap (λ v. a ++ v) (append-nil s)
 
--- and ends past the last block
+-- a round ends past the last block
 pub register_end : (place : ℕ) (a s : List ℕ) → length s ≤ place → register place a s ≡ a ++ s
 unfolding register
 register_end place a s l =
@@ -88,7 +88,7 @@ wrapped_at key t p k a s b h k8 la room lb e f =
     ∙ sym (ap (λ v. step key t (register p a v)) (cut p s) ∙ ap (step key t) (register_before p a m r z lm)
     ∙ step_at key t a r (z ++ m) la lr)
 
--- one step backwards on the block at a place, where the cipher takes d to the block found there
+-- one step backwards on the block at a place, if the cipher takes d to A XOR t and that block
 pub unwrapped_at : (key : List ℕ) (t p k : ℕ) (a s d h : List ℕ) → k ≡ 8 → length a ≡ 8 → p + 8 ≤ length s
     → length d ≡ 16
     → cipher key d ≡ xor_bytes a (bytes_high_first 8 t) ++ take k (drop p s) → h ≡ drop 8 d

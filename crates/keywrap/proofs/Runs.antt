@@ -2,12 +2,12 @@
 use Rattle.std.proofs.Common.{◌≡◌, ℕ, ◌+◌, ◌*◌, ◌-◌, ◌<◌, List, refl, sym, ap, ◌∙◌, arith, add-one}
 use Rattle.keywrap.specs.Wrapping.{step, steps}
 
--- one step more
+-- step t + 1, after the steps 1 to t, makes the steps 1 to t + 1
 pub steps_more : (key s : List ℕ) (t : ℕ) → step key (t + 1) (steps key t s) ≡ steps key (t + 1) s
 unfolding steps
 steps_more key s t = rw add-one refl
 
--- no step
+-- no steps leave the register as it is
 pub steps_none : (key s : List ℕ) (t : ℕ) → t ≡ 0 → s ≡ steps key t s
 unfolding steps
 steps_none key s t e = rw e refl
@@ -16,7 +16,7 @@ steps_none key s t e = rw e refl
 abbrev pub LeadsTo : List ℕ → ℕ → List ℕ → ℕ → List ℕ → Type 0
 LeadsTo key n last t now = (s : List ℕ) → steps key t s ≡ now → steps key n s ≡ last
 
--- what a step takes to a register on the way is on the way too
+-- if step t + 1 takes a register to one on the way, that register is on the way too
 pub leads_before : (key : List ℕ) (n t : ℕ) (last after before : List ℕ) → LeadsTo key n last (t + 1) after
     → step key (t + 1) before ≡ after
     → LeadsTo key n last t before

@@ -85,14 +85,14 @@ one_text law key k wrapped text u = (
       (ap (λ n. steps key (6 * (n / 8)) (initial_value ++ other)) blocks ∙ sym v.is) u),
 )
 
--- where the steps lead from another first value to the bytes, these are the wrapping of no text
+-- if the steps lead from another first value to the bytes, these are the wrapping of no text
 pub no_wrapping : (key wrapped start : List ℕ) → IsPermutation → IsKey key → AreBytes (length wrapped) start
     → steps key (6 * ((length wrapped - 8) / 8)) start ≡ wrapped → (take 8 start ≡ initial_value → ⊥)
     → IsNoWrapping key wrapped
 no_wrapping key wrapped start law k b e other text u =
     other (ap (take 8) (one_start key wrapped text start law k b e u) ∙ take_at initial_value text 8 refl)
 
--- where they lead from the initial value and a text to the bytes, these are the text's wrapping
+-- if the steps lead from the initial value and a text to the bytes, these are the text's wrapping
 pub unwrapped_by : (key wrapped start text : List ℕ) → HasWrappedLength wrapped
     → AreBytes (length wrapped - 8) text
     → start ≡ initial_value ++ text → steps key (6 * ((length wrapped - 8) / 8)) start ≡ wrapped
@@ -106,7 +106,7 @@ unwrapped_by key wrapped start text l b begins e =
       is = sym e ∙ ap₂ (λ n s. steps key (6 * (n / 8)) s) (sym long) begins;
     }
 
--- the bytes to which they lead from the initial value and a text are the text's wrapping
+-- the bytes to which the steps lead from the initial value and a text are the text's wrapping
 pub wrapping_by : (key wrapped start text : List ℕ) → AreBytes (length text) text → HasTextLength text
     → start ≡ initial_value ++ text
     → wrapped ≡ steps key (6 * ((length start - 8) / 8)) start → Unwrapped key wrapped text

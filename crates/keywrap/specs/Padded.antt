@@ -15,7 +15,7 @@ constant = 0xa6 ∷ 0x59 ∷ 0x59 ∷ 0xa6 ∷ []
 abbrev pub alternative_value : ℕ → List ℕ
 alternative_value n = constant ++ bytes_high_first 4 n
 
--- a text with the fewest zero bytes behind it that make whole blocks of eight (4.1)
+-- a text followed by the fewest zero bytes that make whole blocks of eight (4.1)
 abbrev pub padded : List ℕ → List ℕ
 padded text = text ++ replicate ((8 - length text % 8) % 8) 0
 
@@ -62,7 +62,7 @@ WrappedPaddedInPlace key room n bytes =
     HasPaddedRoom room n × UnwrappedPadded key bytes (take n (drop 8 room))
 
 -- bytes that were a wrapping with padding are the alternative initial value for n, its text of n bytes, and
--- the zeros behind it
+-- the zeros after it
 abbrev pub UnwrappedPaddedInPlace : List ℕ → List ℕ → ℕ → List ℕ → Type 0
 UnwrappedPaddedInPlace key wrapped n bytes = (8 + n ≤ length bytes)
     × UnwrappedPadded key wrapped (take n (drop 8 bytes))

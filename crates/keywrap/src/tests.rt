@@ -76,7 +76,7 @@ fn is_refused<A: Allocator + Drop>(answer: Result<Vec<u8, A>, Fault>, fault: Fau
     }
 }
 
-// Whether a text is wrapped and unwrapped where it stands.
+// Whether a text is wrapped and unwrapped in place.
 fn is_wrapped_in_place(key: &AesKey, text: &[u8], wrapped: &[u8]) -> bool {
     let mut room = [0x55; 40];
     room[8..].copy_from_slice(&TEXT);

@@ -17,7 +17,7 @@ little_number_is (suc n) (x ∷ xs) h =
     let moved = little_from-cons 0 n x xs in
     omega (arith, rest, moved)
 
--- a number m with the first n bytes behind it
+-- the digits of m followed by the first n bytes spell m * 256^n plus the number of these bytes
 big_after : (n m : ℕ) (xs : List ℕ) → n ≤ length xs
     → number_from_digits_after 256 m (take n xs) ≡ m * 256 ^ n + big_from 0 n xs
 big_after zero m xs h = rw (pow-zero 256) (omega arith)

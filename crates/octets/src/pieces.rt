@@ -40,8 +40,8 @@ fn last_bytes(bytes: &[u8], count: usize) -> [u8; 16]
     le_bytes(u128::from_le_bytes(block) >> (8 * (16 - count) as u32))
 }
 
-/// A text that comes in pieces of any length: what took in its whole blocks of 16 bytes, and the bytes
-/// after them, with zeros behind. Whole blocks are handed on many at a time; only the ends of a piece are
+/// A text that comes in pieces of any length: the state that absorbed its whole blocks of 16 bytes, and the bytes
+/// after them, padded with zeros. Whole blocks are handed on many at a time; only the ends of a piece are
 /// copied.
 #[derive(Drop)]
 pub struct Pieces<A> {

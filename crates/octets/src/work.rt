@@ -13,8 +13,7 @@ pub trait Work: Copy {
     ghost comes_to: { Self → List ℕ → List ℕ → Type 0 };
 
     /// Does one step, if more than `kept` are left: a loop that keeps some at every second place spreads them evenly.
-    /// What the work comes to stays as it was, so no contract counts steps: whoever owns the work does those that are
-    /// left.
+    /// A step preserves `comes_to`, so no contract counts steps: the owner of the work does the steps that are left.
     fn step(&mut self, kept: usize)
         ensures { (k m : List ℕ) → comes_to self.old k m → comes_to self.new k m };
 }

@@ -39,7 +39,7 @@ taken p a t c r e =
     sym (mul-mod_first (a + c) r p) ∙ ap (λ (x : ℕ). x * r % p) (sym (mod-add-mod a p c)
     ∙ ap (λ (x : ℕ). (x + c) % p) e ∙ mod-add-mod t p c) ∙ mul-mod_first (t + c) r p
 
--- a step makes a number that is congruent to the sum over q blocks one that is congruent to that over q + 1
+-- a step takes a number congruent to the sum over q blocks to one congruent to the sum over q + 1 blocks
 pub block_taken : (r : ℕ) (m : List ℕ) (q s c v : ℕ) → s % prime ≡ block_sum r m q % prime
     → c ≡ block_number (block_at m q)
     → v % prime ≡ (s + c) * r % prime → v % prime ≡ block_sum r m (q + 1) % prime
@@ -48,7 +48,7 @@ block_taken r m q s c v before number step =
     ∙ ap (λ (x : ℕ). (block_sum r m q + x) * r % prime) number ∙ ap (λ (x : ℕ). x % prime)
     (sym (block_sum_more r m q))
 
--- the same for block i after q blocks, as `absorb` adds it up
+-- a step of `absorb` at block q + i takes the sum over q + i blocks to that over q + i + 1, modulo 2^130 - 5
 pub whole_block_taken : (r f : ℕ) (m : List ℕ) (q i s w v : ℕ) → s % prime ≡ block_sum r m (q + i) % prime
     → w + 1 * 2 ^ 128 ≡ block_number (block_at m (q + i)) → f ≡ r
     → v % prime ≡ (s + w + 1 * 2 ^ 128) * f % prime
@@ -117,7 +117,7 @@ clamped x =
       omega arith,
     )
 
--- at the end the state's sum is that over all blocks, where the last one is whole
+-- if the last block is whole, the state's sum at the end is the sum over all blocks, modulo 2^130 - 5
 pub holds_whole : {M : Type 0} (factor : M → ℕ) (c : PolySum M) (k m : List ℕ)
     → PolySumHolds factor c k (take (length m / 16 * 16) m)
     → length (drop (length m / 16 * 16) m) ≡ 0
@@ -128,7 +128,7 @@ holds_whole factor c k m h e =
     let all : take (length m / 16 * 16) m ≡ m = take_all (length m / 16 * 16) m (omega (arith, none)) in
     rw q (rw all at h.sum_is)
 
--- and one step makes it that where the last block is short
+-- if the last block is short, one more step makes the state's sum the sum over all blocks, modulo 2^130 - 5
 pub holds_partial : {M : Type 0} (factor : M → ℕ) (c : PolySum M) (k m : List ℕ) (start last v : ℕ)
     → PolySumHolds factor c k (take (length m / 16 * 16) m)
     → 0 < length (drop (length m / 16 * 16) m)

@@ -15,11 +15,11 @@ r_of key = bit_and (le (take 16 key)) 0x0ffffffc0ffffffc0ffffffc0fffffff
 abbrev pub s_of : List ℕ → ℕ
 s_of key = le (drop 16 key)
 
--- what a block counts: its little-endian number with one bit more, past its last byte
+-- the number of a block: its bytes as a little-endian number, with one more bit set after the last byte
 abbrev pub block_number : List ℕ → ℕ
 block_number b = le b + 2 ^ (8 * length b)
 
--- c_0 * r^q + c_1 * r^(q-1) + .. + c_(q-1) * r, where c_i is what block i of m counts
+-- c_0 * r^q + c_1 * r^(q-1) + .. + c_(q-1) * r, where c_i is the number of block i of m
 unfoldable pub block_sum : ℕ → List ℕ → ℕ → ℕ
 block_sum r m q = sum_below (λ i. block_number (block_at m i) * r ^ (q - i)) q
 

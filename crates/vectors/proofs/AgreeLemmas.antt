@@ -22,7 +22,7 @@ judges (Ok x) count more bad worse r false h m w =
       no : false ≡ true → ⊥
       no e = cc
 
--- if a fact holds of no text, a record without a text has this fact, and one with a text has not
+-- if P holds of no text, `TextIs P` is true if and only if the record has no text
 pub none_is : (P : List ℕ → Type 0) (text : Option Digits) (b : Bool)
     → ((x : List ℕ) → ¬ P x) → is_some text ≡ not b → IsTrue b ↔ TextIs P (text_view text)
 none_is P (Some d) true nothing e = absurd cc
@@ -30,7 +30,7 @@ none_is P (Some d) false nothing e = (λ t. absurd cc, λ p. absurd (nothing (by
 none_is P None true nothing e = (λ t. nothing, λ p. refl)
 none_is P None false nothing e = absurd cc
 
--- what is decided under the record's own suite is whether the record agrees
+-- a result that decides by the record's own suite what the sealed bytes hold decides whether the record agrees
 pub held_agrees : {E : Type 0} (e : Record) (b : Result Bool E) (suite : Suite) → e.suite ≡ suite
     → IfOk b (λ b. IsTrue b ↔ TextIs (HoldsBy suite e) e.text) → IfOk b (λ b. IsTrue b ↔ Agrees e)
 held_agrees e b suite is h =

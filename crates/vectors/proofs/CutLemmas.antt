@@ -17,16 +17,16 @@ use Rattle.std.proofs.lemmas.List.Splits.{slice_split_first, slice_split_none}
 abbrev is_comma : ℕ → Bool
 is_comma b = eqb b 44
 
--- what the first place says
+-- if a comma is first found at i, `position_or_len` is i, below the length
 some_place : (bs : List ℕ) (i : ℕ) → Some i ≡ position is_comma bs
     → (position_or_len is_comma bs < length bs) × (i ≡ position_or_len is_comma bs)
 some_place bs i e = grind (arith, common_steps)
 
--- what no place says
+-- if no comma is found, `position_or_len` is at least the length
 no_place : (bs : List ℕ) → None ≡ position is_comma bs → length bs ≤ position_or_len is_comma bs
 no_place bs e = grind (arith, common_steps)
 
--- what follows a place, as a range
+-- the first `length bs - k` of the bytes after the first k are all of them
 behind : (bs : List ℕ) (k : ℕ) → take (length bs - k) (drop k bs) ≡ drop k bs
 behind bs k = grind (arith, common_steps)
 
@@ -47,11 +47,11 @@ parts_none bs e = slice_split_none is_comma bs
 
 -- ---- numbers
 
--- what a digit counts
+-- the value of a decimal digit
 abbrev digit : ℕ → ℕ
 digit b = b - 48
 
--- one digit more
+-- the value of one digit more is ten times the value, plus the digit's
 pub value_more : (text : List ℕ) (i : ℕ) → i < length text
     → decimal_value (take (i + 1) text) ≡ decimal_value (take i text) * 10 + (get_or text i 0 - 48)
 unfolding decimal_value
@@ -61,7 +61,7 @@ value_more text i l =
     ∙ ap₂ (λ a b. a * 10 + b) (ap (number_from_digits 10) (take-map digit i text))
     (get_or-map digit text i 0 0 l)
 
--- more digits are no less
+-- the value of the first digits is at most that of all
 value_grows : (text : List ℕ) (i : ℕ) → decimal_value (take i text) ≤ decimal_value text
 unfolding decimal_value
 value_grows text i =
@@ -74,17 +74,17 @@ value_grows text i =
     sym (number_after_append 10 0 front back) ∙ ap (number_from_digits_after 10 0) whole in
     omega (arith, number_after_ge 10 (number_from_digits_after 10 0 front) back (omega arith), sum)
 
--- a text that begins with a zero, or with nothing
+-- an empty text, or one that begins with a zero, spells no number
 pub none_zero : (text : List ℕ) → has_no_leading_zero text ≡ false → number_of text ≡ None
 unfolding number_of
 none_zero text h = rw h refl
 
--- a test that fails behind another
+-- if the second of two tests fails, the result is None
 behind_test : (a b : Bool) (n : ℕ) → b ≡ false → cond {A = Option ℕ} (a && b) (Some n) None ≡ None
 behind_test true b n h = rw h refl
 behind_test false b n h = refl
 
--- a byte that is no digit
+-- a text with a byte that is no digit spells no number
 pub none_digit : (text : List ℕ) (i : ℕ) → i < length text → is_digit (get_or text i 0) ≡ false
     → number_of text ≡ None
 unfolding number_of
@@ -93,21 +93,21 @@ none_digit text i l h =
     (decimal_value text)
     (rw (list_all_at is_digit text i 0 l h) refl)
 
--- a failing test on the right
+-- a conjunction whose second part is false is false
 both_fail : (a b : Bool) → b ≡ false → (a && b) ≡ false
 both_fail true b h = h
 both_fail false b h = refl
 
--- two tests that pass
+-- a conjunction of two true parts is true
 pub both_pass : (a b : Bool) → a ≡ true → b ≡ true → (a && b) ≡ true
 both_pass true b e f = f
 both_pass false b e f = e
 
--- a number that is not less
+-- if n is at most m, the test whether m is less than n fails
 no_less : (m n : ℕ) → n ≤ m → nat_lt m n ≡ false
 no_less m n h = grind arith
 
--- a number past 64 bits, told by its first digits
+-- a text whose first digits are past 64 bits spells no number
 pub none_large : (text : List ℕ) (i : ℕ) → 2 ^ 64 ≤ decimal_value (take i text) → number_of text ≡ None
 unfolding number_of
 none_large text i h =
@@ -116,11 +116,11 @@ none_large text i h =
     (both_fail (list_all is_digit text) (nat_lt (decimal_value text) (2 ^ 64))
     (no_less (decimal_value text) (2 ^ 64) (omega (arith, h, value_grows text i))))
 
--- a number that is less
+-- if m is less than n, the test whether it is passes
 less : (m n : ℕ) → m < n → nat_lt m n ≡ true
 less m n h = grind arith
 
--- all digits of a number
+-- digits without a leading zero, whose value fits in 64 bits, spell this value
 pub some_number : (text : List ℕ) (i n : ℕ) → length text ≤ i → has_no_leading_zero text ≡ true
     → list_all is_digit (take i text) ≡ true → n ≡ decimal_value (take i text) → n < 2 ^ 64
     → Some n ≡ number_of text

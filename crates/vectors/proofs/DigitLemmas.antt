@@ -26,12 +26,12 @@ spells digits h =
     (AllPass-from_list_all is_hex_digit digits both.1) in
     decoded.1 ∙ ap Ok (sym (ap (λ (r : Result (List ℕ) FromHexError). result_unwrap_or r []) decoded.1))
 
--- and only those
+-- if digits spell bytes, these are the bytes of the digits
 pub spelled-bytes : (digits bytes : List ℕ) → Spells digits bytes → bytes_of digits ≡ bytes
 unfolding bytes_of
 spelled-bytes digits bytes h = ap (λ (r : Result (List ℕ) FromHexError). result_unwrap_or r []) h
 
--- what spells bytes is digits
+-- a text that spells bytes is an even number of hexadecimal digits
 pub spelled-digits : (digits bytes : List ℕ) → Spells digits bytes → is_hex digits ≡ true
 unfolding is_hex
 spelled-digits digits bytes h =
@@ -45,7 +45,7 @@ digits_length digits h = (decode_of-ok digits (bytes_of digits) (spells digits h
 
 -- ---- the digits of the first bytes
 
--- what an Ok of two steps of decoding shows
+-- if two steps of decoding in a row return Ok, the first one did, and the second did on its value
 bind_ok : {A B : Type 0} (r : Result A FromHexError) (f : A → Result B FromHexError) (y : B)
     → (r >>= f) ≡ Ok y
     → (x : A) × (r ≡ Ok x) × (f x ≡ Ok y)
@@ -61,7 +61,7 @@ value_of (Some v) = v
 digit : ℕ → ℕ
 digit c = value_of (hex_digit_value c)
 
--- what was read of a digit
+-- if `digit_or_error` returns Ok v, v is the value of the digit
 digit_is : (c i : ℕ) (o : Option ℕ) (v : ℕ) → digit_or_error c i o ≡ Ok v → value_of o ≡ v
 unfolding value_of
 digit_is c i None v e = absurd cc
@@ -73,7 +73,7 @@ pairs [] = []
 pairs (c ∷ []) = []
 pairs (a ∷ b ∷ rest) = (digit a * 16 + digit b) ∷ pairs rest
 
--- what decodes is the bytes of its pairs
+-- if digits decode to bytes, these are the bytes of their pairs
 decoded : (i : ℕ) (s bytes : List ℕ) → decode_pairs i s ≡ Ok bytes → pairs s ≡ bytes
 unfolding decode_pairs pairs digit
 decoded i [] bytes e = cc
@@ -100,18 +100,18 @@ bytes_are digits h =
     let even = eqb-true (length digits % 2) 0 both.0 in
     sym (decoded 0 digits (bytes_of digits) (sym (decode_of-even digits even) ∙ spells digits h))
 
--- two for each
+-- twice a number
 twice : ℕ → ℕ
 twice zero = zero
 twice (suc k) = suc (suc (twice k))
 
--- as a product
+-- twice a number is its product with 2
 twice_is : (k : ℕ) → twice k ≡ 2 * k
 unfolding twice
 twice_is zero = refl
 twice_is (suc k) = let h = twice_is k in omega (arith, h)
 
--- the first pairs
+-- the pairs of the first 2k digits have the first k bytes
 take-pairs : (k : ℕ) (s : List ℕ) → pairs (take (twice k) s) ≡ take k (pairs s)
 unfolding twice pairs
 take-pairs zero s = refl
@@ -119,7 +119,7 @@ take-pairs (suc k) [] = refl
 take-pairs (suc k) (c ∷ []) = refl
 take-pairs (suc k) (a ∷ b ∷ rest) = ap (λ (xs : List ℕ). (digit a * 16 + digit b) ∷ xs) (take-pairs k rest)
 
--- and the others
+-- the pairs of the digits after the first 2k have the bytes after the first k
 drop-pairs : (k : ℕ) (s : List ℕ) → pairs (drop (twice k) s) ≡ drop k (pairs s)
 unfolding twice pairs
 drop-pairs zero s = refl
@@ -127,7 +127,7 @@ drop-pairs (suc k) [] = refl
 drop-pairs (suc k) (c ∷ []) = refl
 drop-pairs (suc k) (a ∷ b ∷ rest) = drop-pairs k rest
 
--- digits cut behind an even number are digits
+-- an even number of digits, cut after the first 2k, is an even number of digits on both sides
 pub cut_hex : (digits : List ℕ) (k : ℕ) → is_hex digits ≡ true → 2 * k ≤ length digits
     → (is_hex (take (2 * k) digits) ≡ true) × (is_hex (drop (2 * k) digits) ≡ true)
 unfolding is_hex
@@ -143,7 +143,7 @@ cut_hex digits k h fits =
     let back : (length (drop (2 * k) digits) % 2 == 0) ≡ true = grind (arith, common_steps, even) in
     (rw (front, parts.0) refl, rw (back, parts.1) refl)
 
--- the digits of the first bytes
+-- the first 2k digits spell the first k bytes
 pub front_bytes : (digits : List ℕ) (k : ℕ) → is_hex digits ≡ true → 2 * k ≤ length digits
     → bytes_of (take (2 * k) digits) ≡ take k (bytes_of digits)
 front_bytes digits k h fits =
@@ -152,7 +152,7 @@ front_bytes digits k h fits =
     ∙ take-pairs k digits
     ∙ ap (take k) (sym (bytes_are digits h))
 
--- and of the others
+-- the digits after the first 2k spell the bytes after the first k
 pub back_bytes : (digits : List ℕ) (k : ℕ) → is_hex digits ≡ true → 2 * k ≤ length digits
     → bytes_of (drop (2 * k) digits) ≡ drop k (bytes_of digits)
 back_bytes digits k h fits =
@@ -161,7 +161,7 @@ back_bytes digits k h fits =
     ∙ drop-pairs k digits
     ∙ ap (drop k) (sym (bytes_are digits h))
 
--- each digit is one
+-- each item of a text of hexadecimal digits is one
 pub digit_at : (digits : List ℕ) (i : ℕ) → is_hex digits ≡ true → i < length digits
     → is_hex_digit (get_or digits i 0) ≡ true
 unfolding is_hex
@@ -198,7 +198,7 @@ byte_at digits k a b h l high low =
       next : (k : ℕ) → suc (twice k) ≡ 2 * k + 1
       next k = let e = twice_is k in omega (arith, e)
 
--- one more byte was written
+-- if the first i bytes in the room are right and byte i is written, the first i + 1 are right
 pub written_more : (bytes room : List ℕ) (i v : ℕ) → i < length room → v ≡ get_or bytes i 0
     → ((k : ℕ) → k < i → get_or room k 0 ≡ get_or bytes k 0)
     → (k : ℕ) → k < i + 1 → get_or (set room i v) k 0 ≡ get_or bytes k 0

@@ -1,4 +1,4 @@
--- A line is what the grammar says exactly where reading it gives that.
+-- A line has a form of the grammar if and only if it is read as that form.
 use Rattle.std.proofs.Common.{◌≡◌, ℕ, Bool, true, false, cond, List, [], ◌∷◌, Option, Some, None, Result, Ok}
 use Rattle.std.proofs.Common.{Err, refl, sym, ap, ◌∙◌, subst}
 use Rattle.std.specs.Prelude.{codes, ◌&&◌}
@@ -22,19 +22,19 @@ use Rattle.vectors.specs.Code.Steps as steps
 use Rattle.vectors.specs.Code.Steps.{◌>>=◌, Place, named_value, value_at, hex_at, field_at, ok_or, format_of}
 use Rattle.vectors.specs.Code.Steps.{format_at, suite_at, text_at, cuts_at, end_at}
 
--- what an Ok of two steps shows
+-- if two steps in a row return Ok, the first one did, and the second did on its value
 pub bind_ok : {A B : Type 0} (r : Result A Cause) (f : A → Result B Cause) (y : B) → (r >>= f) ≡ Ok y
     → (x : A) × (r ≡ Ok x) × (f x ≡ Ok y)
 bind_ok (Ok x) f y e = (x, refl, e)
 bind_ok (Err d) f y e = absurd cc
 
--- a test that leads to Ok
+-- if a test chooses between Ok x and a fault, and the result is Ok y, the test is true and x is y
 guard_ok : {A : Type 0} (b : Bool) (d : Cause) (x y : A) → cond b (Ok x) (Err d) ≡ Ok y
     → (b ≡ true) × (x ≡ y)
 guard_ok true d x y e = (refl, cc)
 guard_ok false d x y e = absurd cc
 
--- what was found is what there was
+-- if `ok_or` returns Ok x, the option is Some x
 found_ok : {A : Type 0} (d : Cause) (f : Option A) (x : A) → ok_or d f ≡ Ok x → f ≡ Some x
 found_ok d None x e = absurd cc
 found_ok d (Some y) x e = cc
@@ -60,7 +60,7 @@ no_gap line f h = gap_cases (is_gap line) (field_of line) f h refl where
   gap_cases true g f e is = absurd cc
   gap_cases false g f e is = is
 
--- the value of a line is read exactly where the grammar has it
+-- if a value is read from a line, the line is a value line with this name and value
 value_ok : (name line v : List ℕ) → value_at name line ≡ Ok v → IsField line name v
 unfolding value_at
 value_ok name line v e = named_ok name v (value_line line) e
@@ -71,7 +71,7 @@ unfolding value_at
 value_again name line v h =
     rw h (ap (λ (b : Bool). cond b (Ok v) (Err WrongName)) ((bytes_eq-Decides name name).1 refl))
 
--- and so are its bytes
+-- if bytes are read from a line, it is a value line with this name, whose value spells these bytes
 hex_ok : (name line v : List ℕ) → hex_at name line ≡ Ok v → IsHexField line name v
 unfolding hex_at
 hex_ok name line v e =
@@ -87,7 +87,7 @@ hex_again name line v h =
     rw (value_again name line h.digits h.field, spelled-digits h.digits v h.spelled)
     (ap Ok (spelled-bytes h.digits v h.spelled))
 
--- a field that was read stands on its line
+-- if a field is read from a line, it is that field's line with these bytes
 pub field_ok : (s : Suite) (f : Field) (line v : List ℕ) → field_at s f line ≡ Ok v → IsFieldLine s f line v
 unfolding field_at
 field_ok s f line v e =
@@ -105,7 +105,7 @@ pub field_again : (s : Suite) (f : Field) (line v : List ℕ) → IsFieldLine s 
 unfolding field_at
 field_again s f line v h = rw (hex_again (field_name f) line v h.hex, h.size) refl
 
--- what a format that was read shows of its line
+-- if a format is found, the name on the line is `format`, and the value names this format
 format_found : (v : Option (List ℕ × List ℕ)) (F : Format) → format_of v ≡ Ok F
     → (name : List ℕ) × (v ≡ Some (codes "format", name)) × (format_named name ≡ Some F)
 format_found None F e = absurd cc
@@ -120,7 +120,7 @@ format_found (Some f) F e = by_name (bytes_eq f.0 (codes "format")) refl e where
   )
   by_name false is e = absurd cc
 
--- a format that was read stands on a format line
+-- if a format is read from a line, it is a format line with this format
 pub format_ok : (line : List ℕ) (F : Format) → format_at line ≡ Ok F → IsFormatLine line F
 unfolding format_at
 format_ok line F e = let h = format_found (value_line line) F e in
@@ -131,7 +131,7 @@ pub format_again : (line : List ℕ) (F : Format) → IsFormatLine line F → fo
 unfolding format_at
 format_again line F h = ap format_of h.field ∙ ap (ok_or BadFormat) h.known
 
--- a suite that was read stands on a suite line
+-- if a suite is read from a line, it is a suite line with this suite
 pub suite_ok : (F : Format) (line : List ℕ) (s : Suite) → suite_at F line ≡ Ok s → IsSuiteLine F line s
 unfolding suite_at
 suite_ok F line s e =
@@ -154,7 +154,7 @@ suite_again F line s h = rw (value_again (codes "suite") line h.name h.field, h.
 abbrev pub Next : Type 0
 Next = Place × List Record
 
--- a text line that was read
+-- if a text is read from a line, it is a text line, and the record ends with this text
 pub text_ok : (F : Format) (r : Record) (line : List ℕ) (x : Next) → text_at F r line ≡ Ok x
     → (v : List ℕ) × IsHexField line (codes "text") v
     × (◌≡◌ {A = Next} (steps.between F, with_text (Some v) r ∷ []) x)
@@ -170,7 +170,7 @@ pub text_again : (F : Format) (r : Record) (line v : List ℕ) → IsHexField li
 unfolding text_at
 text_again F r line v h = rw (hex_again (codes "text") line v h) refl
 
--- a line of cuts that was read
+-- if cuts are read from a line, it is a line of cuts, and the text line is next
 cuts_ok : (F : Format) (r : Record) (line : List ℕ) (x : Next) → cuts_at F r line ≡ Ok x
     → IsCutsLine r line × (◌≡◌ {A = Next} (steps.text F r, []) x)
 unfolding cuts_at
@@ -186,14 +186,14 @@ cuts_again : (F : Format) (r : Record) (line : List ℕ) → IsCutsLine r line
 unfolding cuts_at
 cuts_again F r line h = rw (value_again (codes "cuts") line h.value h.field, h.cuts) refl
 
--- what the line behind all fields comes to
+-- how the line after all fields leads to x: it ends the record, or it is a line of cuts
 pub data Ended (F : Format) (r : Record) (line : List ℕ) (x : Next) : Type 0 where
   by_text : (text : Option (List ℕ)) → Ends F r (line ∷ []) text
       → ◌≡◌ {A = Next} (steps.between F, with_text text r ∷ []) x → Ended F r line x
   by_cuts : may_cut F r.suite ≡ true → IsCutsLine r line → ◌≡◌ {A = Next} (steps.text F r, []) x
       → Ended F r line x
 
--- the line behind all fields, as it was read
+-- if the line after all fields is read, it ends the record or is a line of cuts
 pub end_ok : (F : Format) (r : Record) (line : List ℕ) (x : Next) → end_at F r line ≡ Ok x → Ended F r line x
 unfolding end_at
 end_ok F r line x e = by_word (bytes_eq line (codes "invalid")) refl e where
@@ -219,7 +219,7 @@ no_field : value_line (codes "invalid") ≡ None
 unfolding value_line field_of
 no_field = refl
 
--- nothing is no value line
+-- None is not Some x
 none_some : (x : List ℕ × List ℕ) → None ≡ Some x → ⊥
 none_some x e = cc
 
@@ -231,12 +231,12 @@ differs line f true h is =
     absurd (none_some f (sym no_field ∙ ap value_line (sym same) ∙ h))
 differs line f false h is = refl
 
--- and nothing
+-- a conjunction whose second part is false is false
 and_false : (a b : Bool) → b ≡ false → (a && b) ≡ false
 and_false true b e = e
 and_false false b e = refl
 
--- a text line behind all fields is read
+-- a text line after all fields is read
 pub end_text : (F : Format) (r : Record) (line v : List ℕ) → IsHexField line (codes "text") v
     → end_at F r line ≡ Ok (steps.between F, with_text (Some v) r ∷ [])
 unfolding end_at

@@ -25,7 +25,7 @@ pub record Judged (lines rest : List (List ℕ)) (n : ℕ) (p : Place) (records 
   pub judged : IsBad 1 entries bad
   pub room : records ≤ n
 
--- one more record at the end agrees
+-- one more record that agrees leaves the bad numbers as they are
 bad_yes : (n : ℕ) (rs : List Record) (r : Record) (bad : List ℕ) → IsBad n rs bad → Agrees r
     → IsBad n (rs ++ r ∷ []) bad
 bad_yes n [] r [] ends a = agrees a ends
@@ -33,7 +33,7 @@ bad_yes n [] r (_ ∷ bad) h a = elim h [ ]
 bad_yes n (s ∷ rs) r bad (agrees h t) a = agrees h (bad_yes (n + 1) rs r bad t a)
 bad_yes n (s ∷ rs) r (_ ∷ bad) (disagrees h t) a = disagrees h (bad_yes (n + 1) rs r bad t a)
 
--- or doesn't
+-- one more record that doesn't agree adds its number to the bad ones
 bad_no : (n m : ℕ) (rs : List Record) (r : Record) (bad : List ℕ) → m ≡ n + length rs → IsBad n rs bad
     → ¬ Agrees r → IsBad n (rs ++ r ∷ []) (bad ++ m ∷ [])
 bad_no n m [] r [] e ends a =
@@ -125,7 +125,7 @@ pub lines_read : (lines other : List (List ℕ)) (n : ℕ) (p : Place) (records 
 lines_read lines other n p records bad h e =
     sym (count_is lines n p h.entries (shift lines other [] n p h.entries h.progress e))
 
--- records and one more are some
+-- records and one more are not empty
 snoc_some : (rs : List Record) (r : Record) → (rs ++ r ∷ []) ≢ []
 snoc_some [] r e = cc
 snoc_some (s ∷ rs) r e = cc
@@ -139,7 +139,7 @@ sized_at_end lines other l rest n p q r records bad h e s =
     (shift lines other (l ∷ rest) n p h.entries h.progress e) s in
     last_read_sized after.before q h.entries r after.read
 
--- at a line that ends a record, one has ended
+-- if the next line ends a record, the first of the lines are a file
 pub ended_at : (lines other : List (List ℕ)) (l : List ℕ) (rest : List (List ℕ)) (n : ℕ) (p q : Place)
     (r : Record) (records : ℕ) (bad : List ℕ)
     → Judged lines other n p records bad → other ≡ l ∷ rest → step p l ≡ Ok (q, r ∷ []) → HasEnded lines

@@ -19,7 +19,7 @@ trim_last (b ∷ []) (suc n) e h = absurd (omega arith)
 trim_last (b ∷ c ∷ cs) zero e h = absurd (omega arith)
 trim_last (b ∷ c ∷ cs) (suc n) e h = ap (before_trimmed b) (trim_last (c ∷ cs) n (omega arith) h)
 
--- where the last byte is no space, nothing is trimmed
+-- if the last byte is no space, nothing is trimmed
 pub trim_none : (xs : List ℕ) (n : ℕ) → length xs ≡ suc n → get_or xs n 0 ≢ 32 → trim_end xs ≡ xs
 trim_none [] n e h = absurd cc
 trim_none (b ∷ []) zero e h = grind (arith, common_steps)
@@ -31,12 +31,12 @@ trim_none (b ∷ c ∷ cs) (suc n) e h = ap (before_trimmed b) (trim_none (c ∷
 abbrev is_lf : ℕ → Bool
 is_lf b = eqb b 10
 
--- what isn't true is false
+-- a truth value that isn't true is false
 not_true : (b : Bool) → (b ≡ true → ⊥) → b ≡ false
 not_true true h = absurd (h refl)
 not_true false h = refl
 
--- the first byte that is a line feed
+-- the result of a search for the first line feed is its position
 pub first_byte : (bytes : List ℕ) (r : Option ℕ) → IsFirstByte (is_byte 10) bytes r → r ≡ position is_lf bytes
 first_byte bytes None h =
     let at = position_or_len_is is_lf bytes (length bytes) 0 (omega arith)
@@ -57,7 +57,7 @@ parts_cons : (x : List ℕ) (parts : List (List ℕ)) → 0 < length parts
 parts_cons x [] h = absurd (omega arith)
 parts_cons x (y ∷ more) h = refl
 
--- where there is a line feed, the lines are the part before it and the lines of what is behind it
+-- if there is a line feed, the lines are the part before it, without its CR, and the lines of the bytes after it
 pub lines_at : (bs : List ℕ) → position_or_len is_lf bs < length bs
     → lines bs ≡ strip_carriage_return (before_first is_lf bs) ∷ lines (after_first is_lf bs)
 lines_at bs h =
@@ -65,7 +65,7 @@ lines_at bs h =
     ∙ parts_cons (before_first is_lf bs) (slice_split is_lf (after_first is_lf bs))
     (omega (arith, length-slice_split is_lf (after_first is_lf bs)))
 
--- where there is none, the one line is all the bytes
+-- if `position_or_len` is at least the length, no byte is a line feed
 none_passes : (bs : List ℕ) → length bs ≤ position_or_len is_lf bs → All (λ b. is_lf b ≡ false) bs
 none_passes bs h k d lt = fails_before_first is_lf bs k d (omega arith)
 
@@ -73,7 +73,7 @@ none_passes bs h k d lt = fails_before_first is_lf bs k d (omega arith)
 eqb_suc : (n : ℕ) → eqb (suc n) 0 ≡ false
 eqb_suc n = grind arith
 
--- the only part is a line, where it is not empty
+-- if the only part is not empty, it is the only line
 one_part : (bs : List ℕ) → bs ≢ [] → lines_of_parts (bs ∷ []) ≡ bs ∷ []
 one_part [] h = absurd (h refl)
 one_part (b ∷ bs) h = rw (eqb_suc (length bs)) refl
@@ -82,16 +82,16 @@ one_part (b ∷ bs) h = rw (eqb_suc (length bs)) refl
 lines_none : (bs : List ℕ) → bs ≢ [] → length bs ≤ position_or_len is_lf bs → lines bs ≡ bs ∷ []
 lines_none bs h e = ap lines_of_parts (slice_split_none is_lf bs (none_passes bs e)) ∙ one_part bs h
 
--- what the first place says
+-- if a line feed is first found at i, `position_or_len` is i, below the length
 some_place : (bs : List ℕ) (i : ℕ) → Some i ≡ position is_lf bs
     → (position_or_len is_lf bs < length bs) × (i ≡ position_or_len is_lf bs)
 some_place bs i e = grind (arith, common_steps)
 
--- what no place says
+-- if no line feed is found, `position_or_len` is at least the length
 no_place : (bs : List ℕ) → None ≡ position is_lf bs → length bs ≤ position_or_len is_lf bs
 no_place bs e = grind (arith, common_steps)
 
--- what follows a place, as a range
+-- the first `length bs - k` of the bytes after the first k are all of them
 behind : (bs : List ℕ) (k : ℕ) → take (length bs - k) (drop k bs) ≡ drop k bs
 behind bs k = grind (arith, common_steps)
 
@@ -104,7 +104,7 @@ lines_some bs i e =
     ∙ ap (λ k. strip_carriage_return (take k bs) ∷ lines (drop (k + 1) bs)) (sym at.1)
     ∙ ap (λ (rest : List ℕ). strip_carriage_return (take i bs) ∷ lines rest) (sym (behind bs (i + 1)))
 
--- no line is left behind the last byte
+-- there is no line after the last byte
 no_lines : (bs : List ℕ) → lines (take (length bs - length bs) (drop (length bs) bs)) ≡ []
 no_lines bs = ap (λ (rest : List ℕ). lines rest) (behind bs (length bs) ∙ nothing bs) where
   nothing : (xs : List ℕ) → drop (length xs) xs ≡ []
@@ -128,7 +128,7 @@ only_is bs line h e is =
     ∙ ap (λ (x : List ℕ). x ∷ []) (sym is)
     ∙ ap (λ (ls : List (List ℕ)). line ∷ map trim_end ls) (sym (no_lines bs))
 
--- no bytes have no line
+-- an empty file has no lines
 pub lines_nil : lines_of [] ≡ []
 unfolding lines_of
 lines_nil = refl

@@ -1,4 +1,4 @@
--- Behind lines one thing alone is expected.
+-- Only one thing is expected after lines that were read.
 use Rattle.std.proofs.Common.{◌≡◌, ℕ, List, [], ◌∷◌, ◌++◌, Ok, refl, sym, ap, ◌∙◌}
 use Rattle.vectors.specs.declared.suite.Format.{Format}
 use Rattle.vectors.specs.Suites.{fields_of}
@@ -50,7 +50,7 @@ begun_read F _ _ (faults.cuts {suite = s} {l = l} {c = c} {ms = ms} {r = r} a h 
   is = refl;
 }
 
--- lines behind which something is expected are read to where it is
+-- lines after which something is expected are read to a place that expects it
 expects_read : (ls : List (List ℕ)) (e : Expected) → Expects ls e → LeadsTo steps.start ls e
 expects_read _ _ (faults.unformatted {ls = ls} h) =
     record { place = steps.start; records = []; read = gaps_read ls h; is = refl }
@@ -66,7 +66,7 @@ expects_read _ _ (faults.inside {F = F} {ls = ls} {ms = ms} {rs = rs} {e = e} h 
       is = begun.is;
     }
 
--- what is expected behind lines that were read is what their place says
+-- if something is expected after lines that were read, it is what the place that they lead to expects
 pub only_expected : (ls : List (List ℕ)) (x : Next) (e : Expected) → run steps.start ls ≡ Ok x
     → Expects ls e → e ≡ expected x.0
 only_expected ls x e h there =

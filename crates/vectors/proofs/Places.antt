@@ -1,4 +1,4 @@
--- Lines that were read, by the place behind them.
+-- Lines that were read, by the place that they lead to.
 use Rattle.std.proofs.Common.{◌≡◌, ◌≢◌, ℕ, Bool, true, false, cond, List, [], ◌∷◌, ◌++◌, Option, Some, Ok}
 use Rattle.std.proofs.Common.{refl, sym, ap, ◌∙◌, subst, append_assoc}
 use Rattle.std.specs.List.{list_all}
@@ -33,7 +33,7 @@ pub record InFields (F : Format) (left : List Field) (r : Record) (ls : List (Li
   pub fills : Fills read (unread suite) ms r
   pub whole : ls ≡ front ++ l ∷ ms
 
--- lines that end in a record behind its cuts
+-- lines that end in a record, directly after its cuts
 pub record BehindCuts (F : Format) (r : Record) (ls : List (List ℕ)) (rs : List Record) : Type 0 where
   pub front : List (List ℕ)
   pub formatted : Formatted F front rs
@@ -47,7 +47,7 @@ pub record BehindCuts (F : Format) (r : Record) (ls : List (List ℕ)) (rs : Lis
   pub cuts : IsCutsLine r c
   pub whole : ls ≡ front ++ l ∷ (ms ++ c ∷ [])
 
--- what the lines before a place are, with these records
+-- these lines come before a place, and have these records
 abbrev pub At : Place → List (List ℕ) → List Record → Type 0
 At steps.start ls rs = (list_all is_gap ls ≡ true) × (rs ≡ [])
 At (steps.between F) ls rs = Formatted F ls rs
@@ -58,13 +58,13 @@ At (steps.text F r) ls rs = BehindCuts F r ls rs
 abbrev AtNext : List (List ℕ) → List Record → Next → Type 0
 AtNext ls rs x = At x.0 ls (rs ++ x.1)
 
--- at a place behind no further record
+-- if the next place ends no record, the records before it stay the same
 moved : (q : Place) (ls : List (List ℕ)) (rs : List Record) (x : Next) → ◌≡◌ {A = Next} (q, []) x
     → At q ls rs → AtNext ls rs x
 moved q ls rs x e h = subst (λ (y : Next). AtNext ls rs y) e
     (subst (λ (ss : List Record). At q ls ss) (sym (append-nil rs)) h)
 
--- one blank line or comment more
+-- blank lines and comments, and one more of them, are all blank lines or comments
 all_snoc : (ls : List (List ℕ)) (l : List ℕ) → list_all is_gap ls ≡ true → is_gap l ≡ true
     → list_all is_gap (ls ++ l ∷ []) ≡ true
 all_snoc [] l h g = rw g refl
@@ -72,7 +72,7 @@ all_snoc (m ∷ ls) l h g =
     let two = and_parts (is_gap m) (list_all is_gap ls) h in
     rw (two.0, all_snoc ls l two.1 g) refl
 
--- the line of one field more
+-- the lines of some fields, and the line of one more, fill all of these fields
 fills_more : (fs : List Field) (r s : Record) (ms : List (List ℕ)) (f : Field) (l v : List ℕ)
     → Fills fs r ms s → IsFieldLine s.suite f l v
     → Fills (fs ++ f ∷ []) r (ms ++ l ∷ []) (with_field f v s)
@@ -81,18 +81,18 @@ fills_more _ _ _ _ f l v (grammar.field {f = g} {fs = fs} {r = r} {s = s} {l = m
     h =
     grammar.field k (fills_more fs (with_field g w r) s ms f l v t h)
 
--- where no field is left, all were read
+-- if no field is left, all were read
 all_filled : (F : Format) (r : Record) (ls : List (List ℕ)) (rs : List Record) (h : InFields F [] r ls rs)
     → Fills (fields_of h.suite) (unread h.suite) h.ms r
 all_filled F r ls rs h =
     subst (λ (fs : List Field). Fills fs (unread h.suite) h.ms r) (sym (h.order ∙ append-nil h.read)) h.fills
 
--- a line more behind lines that end in others
+-- a line appended to lines is appended to the last part of them
 longer : (ls front ms : List (List ℕ)) (a l : List ℕ) → ls ≡ front ++ a ∷ ms
     → ls ++ l ∷ [] ≡ front ++ a ∷ (ms ++ l ∷ [])
 longer ls front ms a l e = ap (λ (x : List (List ℕ)). x ++ l ∷ []) e ∙ append_assoc front (a ∷ ms) (l ∷ [])
 
--- a line at the start
+-- the lines with one more, read at the start, come before the next place
 from_start : (b : Bool) (l : List ℕ) (ls : List (List ℕ)) (rs : List Record) (x : Next) → is_gap l ≡ b
     → At steps.start ls rs
     → cond b (Ok (steps.start, [])) (format_at l >>= λ F. Ok (steps.between F, [])) ≡ Ok x
@@ -105,7 +105,7 @@ from_start false l ls rs x g h e =
     (subst (λ (ss : List Record). Formatted F.0 (ls ++ l ∷ []) ss) (sym h.1)
     (grammar.starts ls h.0 (format_ok l F.0 F.1)))
 
--- a line between records
+-- the lines with one more, read between records, come before the next place
 from_between : (b : Bool) (F : Format) (l : List ℕ) (ls : List (List ℕ)) (rs : List Record) (x : Next)
     → is_gap l ≡ b → Formatted F ls rs
     → cond b (Ok (steps.between F, []))
@@ -129,7 +129,7 @@ from_between false F l ls rs x g h e =
       whole = refl;
     })
 
--- the line of a field
+-- the lines with one more, read as the line of a field, come before the next place
 from_fields : (F : Format) (f : Field) (fs : List Field) (r : Record) (l : List ℕ) (ls : List (List ℕ))
     (rs : List Record) (x : Next)
     → InFields F (f ∷ fs) r ls rs
@@ -151,7 +151,7 @@ from_fields F f fs r l ls rs x h e =
       whole = longer ls h.front h.ms h.l l h.whole;
     })
 
--- a whole record behind others
+-- lines before a record and the lines of the record come before the place between records
 added : (F : Format) (front ms es ls : List (List ℕ)) (l : List ℕ) (s : Suite) (r : Record)
     (t : Option (List ℕ)) (rs : List Record) (x : Next)
     → Formatted F front rs → IsSuiteLine F l s → Fills (fields_of s) (unread s) ms r → Ends F r es t
@@ -162,7 +162,7 @@ added F front ms es ls l s r t rs x h a f e whole same =
     (subst (λ (ks : List (List ℕ)). Formatted F ks (rs ++ with_text t r ∷ [])) (sym whole)
     (grammar.adds h (grammar.made a f e)))
 
--- the line behind all fields
+-- the lines with one more, read after all fields, come before the next place
 from_end : (F : Format) (r : Record) (l : List ℕ) (ls : List (List ℕ)) (rs : List Record) (x : Next)
     → InFields F [] r ls rs → Ended F r l x → AtNext (ls ++ l ∷ []) rs x
 from_end F r l ls rs x h (by_text t e same) =
@@ -183,7 +183,7 @@ from_end F r l ls rs x h (by_cuts m k same) =
       whole = longer ls h.front h.ms h.l l h.whole;
     })
 
--- the line behind cuts
+-- the lines with one more, read after cuts, come before the next place
 from_text : (F : Format) (r : Record) (l : List ℕ) (ls : List (List ℕ)) (rs : List Record) (x : Next)
     → BehindCuts F r ls rs → text_at F r l ≡ Ok x → AtNext (ls ++ l ∷ []) rs x
 from_text F r l ls rs x h e =
@@ -193,7 +193,7 @@ from_text F r l ls rs x h e =
     (longer ls h.front (h.ms ++ h.c ∷ []) h.l l h.whole
     ∙ ap (λ (k : List (List ℕ)). h.front ++ h.l ∷ k) (append_assoc h.ms (h.c ∷ []) (l ∷ []))) t.2
 
--- a step leads from what the lines are to what they are with one more
+-- the lines with one more, read by a step, come before the next place
 step_at : (p : Place) (l : List ℕ) (ls : List (List ℕ)) (rs : List Record) (x : Next) → At p ls rs
     → step p l ≡ Ok x → AtNext (ls ++ l ∷ []) rs x
 unfolding step
@@ -203,7 +203,7 @@ step_at (steps.fields F [] r) l ls rs x h e = from_end F r l ls rs x h (end_ok F
 step_at (steps.fields F (f ∷ fs) r) l ls rs x h e = from_fields F f fs r l ls rs x h e
 step_at (steps.text F r) l ls rs x h e = from_text F r l ls rs x h e
 
--- and many steps
+-- the lines with others, read by a run, come before the place that the run leads to
 run_at : (ms : List (List ℕ)) (p : Place) (ls : List (List ℕ)) (rs : List Record) (x : Next) → At p ls rs
     → run p ms ≡ Ok x → At x.0 (ls ++ ms) (rs ++ x.1)
 run_at [] p ls rs x h e =
@@ -220,11 +220,11 @@ run_at (l ∷ ms) p ls rs x h e =
     (subst (λ (ks : List (List ℕ)). At b.0 ks (rs ++ (a.1 ++ b.1))) (append_assoc ls (l ∷ []) ms)
     (subst (λ (ss : List Record). At b.0 ((ls ++ l ∷ []) ++ ms) ss) (append_assoc rs a.1 b.1) there))
 
--- what lines that were read from the start are
+-- lines that were read from the start come before the place that they lead to
 pub lines_at : (ls : List (List ℕ)) (x : Next) → run steps.start ls ≡ Ok x → At x.0 ls x.1
 lines_at ls x e = run_at ls steps.start [] [] x (refl, refl) e
 
--- what is expected at a place
+-- the line that is expected at a place
 abbrev pub expected : Place → Expected
 expected steps.start = faults.format_line
 expected (steps.between F) = faults.suite_line F
@@ -232,7 +232,7 @@ expected (steps.fields F [] r) = behind_fields F r
 expected (steps.fields F (f ∷ fs) r) = faults.field_line r.suite f
 expected (steps.text F r) = faults.text_line
 
--- it is expected behind the lines before the place
+-- the line expected at a place is expected after the lines before the place
 at_expects : (p : Place) (ls : List (List ℕ)) (rs : List Record) → At p ls rs → Expects ls (expected p)
 at_expects steps.start ls rs h = faults.unformatted h.0
 at_expects (steps.between F) ls rs h = faults.formatted h
@@ -246,11 +246,11 @@ at_expects (steps.text F r) ls rs h =
     subst (λ (ks : List (List ℕ)). Expects ks faults.text_line) (sym h.whole)
     (faults.inside h.formatted (faults.cuts h.suite_line h.fills h.may h.cuts))
 
--- behind lines that were read to a place, what the place says is expected
+-- the line expected at a place is expected after lines that were read to the place
 pub expects : (ls : List (List ℕ)) (x : Next) → run steps.start ls ≡ Ok x → Expects ls (expected x.0)
 expects ls x e = at_expects x.0 ls x.1 (lines_at ls x e)
 
--- the first of the lines before a place behind records are a file
+-- if the lines before a place have at least one record, the first of them are a file
 pub file_at : (p : Place) (ls : List (List ℕ)) (rs : List Record) → At p ls rs → rs ≢ [] → HasEnded ls
 file_at steps.start ls rs h some = absurd (some h.1)
 file_at (steps.between F) ls rs h some = record {

@@ -39,7 +39,7 @@ pub record Progress (lines rest : List (List ℕ)) (n : ℕ) (p : Place) (rs : L
 pub begins : (lines : List (List ℕ)) → Progress lines lines 0 steps.start []
 begins lines = record { before = []; whole = refl; number = refl; read = run-empty steps.start }
 
--- one more line
+-- after the step of the next line, one more line was read
 pub goes_on : (lines : List (List ℕ)) (l : List ℕ) (rest : List (List ℕ)) (n : ℕ) (p q : Place)
     (rs made : List Record)
     → Progress lines (l ∷ rest) n p rs → step p l ≡ Ok (q, made) → Progress lines rest (n + 1) q (rs ++ made)
@@ -51,13 +51,13 @@ goes_on lines l rest n p q rs made h e =
       read = both steps.start p h.before (l ∷ []) q rs made h.read (one p q l made e);
     }
 
--- a line at which the step fails
+-- if the step of the first line fails, reading the lines fails with the same cause
 run-err : (p : Place) (l : List ℕ) (ls : List (List ℕ)) (c : Cause) → step p l ≡ Err c
     → run p (l ∷ ls) ≡ Err c
 unfolding run
 run-err p l ls c e = rw e refl
 
--- what failed was not read
+-- a failed reading with records put in front is not Ok
 no_read : (rs : List Record) (read : Read) (c : Cause) (x : Place × List Record) → read ≡ Err c
     → behind rs read ≡ Ok x → ⊥
 no_read rs (Ok y) c x e h = cc
@@ -102,12 +102,12 @@ all_read : (lines : List (List ℕ)) (n : ℕ) (p : Place) (rs : List Record) �
     → run steps.start lines ≡ Ok (p, rs)
 all_read lines n p rs h = ap (run steps.start) (h.whole ∙ append-nil h.before) ∙ h.read
 
--- and counted
+-- at the end the number of lines is the number that was read
 pub count_is : (lines : List (List ℕ)) (n : ℕ) (p : Place) (rs : List Record) → Progress lines [] n p rs
     → length lines ≡ n
 count_is lines n p rs h = ap length (h.whole ∙ append-nil h.before) ∙ h.number
 
--- between records, at least one, the lines are a file
+-- lines that end between records, with at least one record, are a file
 pub is_file : (lines : List (List ℕ)) (n : ℕ) (F : Format) (rs : List Record)
     → Progress lines [] n (steps.between F) rs → rs ≢ [] → IsFile lines rs
 is_file lines n F rs h some =
@@ -131,7 +131,7 @@ one_reading lines rs ss f g =
     let again = complete g.format lines ss g.formatted in
     (pair_is (steps.between f.format) (steps.between g.format) rs ss (sym read ∙ again)).1
 
--- elsewhere they are cut off
+-- lines that end elsewhere, or with no record, are cut off
 pub cut_off : (lines : List (List ℕ)) (n : ℕ) (p : Place) (rs : List Record) (inside : Bool)
     → Progress lines [] n p rs → ((F : Format) → p ≡ steps.between F → rs ≡ [])
     → is_inside (expected p) ≡ inside → IsCutOff lines inside
@@ -160,7 +160,7 @@ no_fault lines n c rs f file =
     in
     f.faulty (viable (f.before ++ f.line ∷ []) front.0 front.1)
 
--- where a record was read, it has ended
+-- if at least one record was read, the first of the lines are a file
 pub ended : (lines rest : List (List ℕ)) (n : ℕ) (p : Place) (rs : List Record) → Progress lines rest n p rs
     → rs ≢ [] → HasEnded lines
 ended lines rest n p rs h some =
@@ -174,22 +174,22 @@ ended lines rest n p rs h some =
       file = front.file;
     }
 
--- the same lines are left
+-- the rest of the lines may be replaced by an equal list
 pub shift : (lines rest other : List (List ℕ)) (n : ℕ) (p : Place) (rs : List Record)
     → Progress lines rest n p rs → rest ≡ other → Progress lines other n p rs
 shift lines rest other n p rs h e = subst (λ (x : List (List ℕ)). Progress lines x n p rs) e h
 
--- the same records were read
+-- the records that were read may be replaced by an equal list
 pub same : (lines rest : List (List ℕ)) (n : ℕ) (p : Place) (rs ss : List Record)
     → Progress lines rest n p rs → rs ≡ ss → Progress lines rest n p ss
 same lines rest n p rs ss h e = subst (λ (x : List Record). Progress lines rest n p x) e h
 
--- behind all fields is inside a record
+-- the line expected after all fields is inside a record
 inside_end : (m : Bool) (most : ℕ) → is_inside (cond m (faults.cuts_or_end most) faults.end_line) ≡ true
 inside_end true most = refl
 inside_end false most = refl
 
--- and so is each field
+-- the line expected at a field, or after all fields, is inside a record
 inside_fields : (F : Format) (left : List Field) (r : Record)
     → is_inside (expected (steps.fields F left r)) ≡ true
 inside_fields F [] r = inside_end (may_cut F r.suite) (most_cut r)
@@ -203,19 +203,19 @@ inside_is (Between F) f b = absurd (b F refl)
 inside_is (Fields F left e) f b = inside_fields F left.now _
 inside_is (Text F e) f b = refl
 
--- which has no end there
+-- a place inside a record is not between records
 pub not_between : (p : Place) (F : Format) → is_inside (expected p) ≡ true → p ≢ steps.between F
 not_between p F is e = no_true (sym is ∙ ap (λ q. is_inside (expected q)) e) where
   no_true : true ≡ false → ⊥
   no_true h = cc
 
--- before the format line is not between records
+-- the place before the format line is not between records
 pub not_start : (p : Place) (F : Format) → p ≡ steps.start → p ≢ steps.between F
 not_start p F f b = apart (sym f ∙ b) where
   apart : steps.start ≡ steps.between F → ⊥
   apart h = cc
 
--- a file has no first fault, so it is reported or memory was refused
+-- a file has no fault, so the result is a report or out of memory
 pub reported : {R : Type 0} (lines : List (List ℕ)) (records : List Record) (r : Result R VectorFault)
     → IsFile lines records → IfErr r (IsFaultOf lines) → IsReported r
 reported lines records (Ok report) file h = tt

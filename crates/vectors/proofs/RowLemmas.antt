@@ -21,13 +21,13 @@ use Rattle.std.proofs.lemmas.Slice.Eq.{bytes_eq-Decides}
 use Rattle.vectors.proofs.FieldLemmas.{Next}
 use Rattle.vectors.proofs.Places.{expected}
 
--- a fault before a step that has none
+-- if the second step can't fail, a fault of both steps is the first step's
 bind_err : {A B : Type 0} (r : Result A Cause) (f : A → B) (c : Cause) → (r >>= λ x. Ok (f x)) ≡ Err c
     → r ≡ Err c
 bind_err (Ok x) f c e = absurd cc
 bind_err (Err d) f c e = cc
 
--- the rows of a hexadecimal value
+-- the bytes that digits spell, or `BadHex`
 abbrev bytes_at : List ℕ → Result (List ℕ) Cause
 bytes_at digits = cond (is_hex digits) (Ok (bytes_of digits)) (Err BadHex)
 
@@ -50,7 +50,7 @@ hex_rows : (name : List ℕ) (f : Option (List ℕ × List ℕ)) (c : Cause)
 hex_rows name None c e = cc
 hex_rows name (Some f) c e = name_row (bytes_eq f.0 name) f.1 c e
 
--- bytes of a length, if one is asked
+-- the bytes, if they have the length that is asked for, or `BadLength`
 abbrev sized : Option ℕ → List ℕ → Result (List ℕ) Cause
 sized n bytes = cond (has_length n bytes) (Ok bytes) (Err BadLength)
 
@@ -134,22 +134,22 @@ format_rows false (Some f) c e =
     format_row (bytes_eq f.0 (codes "format")) (format_named f.1) c
     (bind_err (format_of (Some f)) (λ F. (steps.between F, [])) c e)
 
--- ---- the line behind all fields
+-- ---- the line after all fields
 
--- what the bytes of a text line lead to
+-- the next place and the record that ends, by the bytes of a text line
 abbrev text_behind : Format → Record → Result (List ℕ) Cause → Result Next Cause
 text_behind F r read = read >>= λ bytes. Ok (steps.between F, with_text (Some bytes) r ∷ [])
 
--- what a text line leads to
+-- the next place and the record that ends, by a text line
 abbrev text_next : Format → Record → Option (List ℕ × List ℕ) → Result Next Cause
 text_next F r f = text_behind F r (named_value (codes "text") f >>= bytes_at)
 
--- and a line of cuts
+-- the next place, by a line of cuts
 abbrev cuts_next : Format → Record → Option (List ℕ × List ℕ) → Result Next Cause
 cuts_next F r f = named_value (codes "cuts") f >>= λ value.
     cond (are_cuts (most_cut r) value) (Ok (steps.text F r, [])) (Err BadCuts)
 
--- the rows where no cuts may stand
+-- all rows of the line after all fields, if there may be no cuts
 end_rows : (F : Format) (r : Record) (invalid : Bool) (f : Option (List ℕ × List ℕ)) (c : Cause)
     → cond invalid (Ok (steps.between F, with_text None r ∷ [])) (text_next F r f) ≡ Err c
     → first_fitting ((not invalid && is_none f, BadLine) ∷ (is_misnamed (codes "text") f, WrongName)
@@ -166,13 +166,13 @@ no_text : (name : List ℕ) (t : Bool) → bytes_eq name (codes "cuts") ≡ true
 no_text name t k e = sym e
     ∙ ap (λ (x : List ℕ). bytes_eq x (codes "text")) ((bytes_eq-Decides name (codes "cuts")).0 k)
 
--- the rows of the names, the digits and the cuts
+-- this is the first cause that fits, of the rows of the names, the digits and the cuts
 names_rows : (t k hex cuts : Bool) (c : Cause) → Type 0
 names_rows t k hex cuts c =
     first_fitting ((not t && not k, WrongName) ∷ (t && not hex, BadHex) ∷ (k && not cuts, BadCuts) ∷ [])
     ≡ Some c
 
--- where the name is `cuts`
+-- if a line named `cuts` fails, its cause is the first that fits
 cuts_row : (F : Format) (r : Record) (t hex cuts : Bool) (c : Cause) → t ≡ false
     → cond {A = Result Next Cause} cuts (Ok (steps.text F r, [])) (Err BadCuts) ≡ Err c
     → names_rows t true hex cuts c
@@ -181,14 +181,14 @@ cuts_row F r true hex cuts c is e = absurd cc
 cuts_row F r false hex true c is e = absurd cc
 cuts_row F r false hex false c is e = cc
 
--- where it is `text`, the row of the digits
+-- if a line named `text` fails, the cause `BadHex` is the first that fits
 digits_row : (F : Format) (r : Record) (hex cuts : Bool) (bytes : List ℕ) (c : Cause)
     → text_behind F r (cond hex (Ok bytes) (Err BadHex)) ≡ Err c → names_rows true false hex cuts c
 unfolding names_rows
 digits_row F r true cuts bytes c e = absurd cc
 digits_row F r false cuts bytes c e = cc
 
--- where it is not `cuts`
+-- if a line that is not named `cuts` fails, its cause is the first that fits
 text_row : (F : Format) (r : Record) (t cuts : Bool) (digits : List ℕ) (c : Cause)
     → text_behind F r (cond t (Ok digits) (Err WrongName) >>= bytes_at) ≡ Err c
     → names_rows t false (is_hex digits) cuts c
@@ -196,7 +196,7 @@ unfolding names_rows
 text_row F r true cuts digits c e = digits_row F r (is_hex digits) cuts (bytes_of digits) c e
 text_row F r false cuts digits c e = cc
 
--- by the name
+-- if a value line after all fields fails, its cause is the first that fits, whatever its name
 by_name : (F : Format) (r : Record) (f : List ℕ × List ℕ) (k : Bool) (c : Cause)
     → bytes_eq f.0 (codes "cuts") ≡ k → cond k (cuts_next F r (Some f)) (text_next F r (Some f)) ≡ Err c
     → names_rows (bytes_eq f.0 (codes "text")) k (is_hex f.1) (are_cuts (most_cut r) f.1) c
@@ -208,7 +208,7 @@ by_name F r f true c is e =
     ≡ Err c) is e)
 by_name F r f false c is e = text_row F r (bytes_eq f.0 (codes "text")) (are_cuts (most_cut r) f.1) f.1 c e
 
--- the rows where cuts may stand
+-- all rows of the line after all fields, if there may be cuts
 cuts_rows : (F : Format) (r : Record) (invalid : Bool) (f : Option (List ℕ × List ℕ)) (c : Cause)
     → cond invalid (Ok (steps.between F, with_text None r ∷ []))
     (cond (is_named (codes "cuts") f) (cuts_next F r f) (text_next F r f)) ≡ Err c
@@ -223,7 +223,7 @@ cuts_rows F r true f c e = absurd cc
 cuts_rows F r false None c e = cc
 cuts_rows F r false (Some f) c e = by_name F r f (bytes_eq f.0 (codes "cuts")) c refl e
 
--- the line behind all fields
+-- all rows of the line after all fields
 behind_rows : (F : Format) (r : Record) (line : List ℕ) (c : Cause) (m : Bool)
     → cond (bytes_eq line (codes "invalid")) (Ok (steps.between F, with_text None r ∷ []))
     (cond (m && is_named (codes "cuts") (value_line line)) (cuts_next F r (value_line line))
@@ -232,7 +232,7 @@ behind_rows : (F : Format) (r : Record) (line : List ℕ) (c : Cause) (m : Bool)
 behind_rows F r line c true e = cuts_rows F r (bytes_eq line (codes "invalid")) (value_line line) c e
 behind_rows F r line c false e = end_rows F r (bytes_eq line (codes "invalid")) (value_line line) c e
 
--- where a step fails, the fault is the first row that fits what is expected
+-- if a step fails, its cause is the first that fits, of the rows of what is expected
 pub wrong : (p : Place) (line : List ℕ) (c : Cause) → step p line ≡ Err c
     → first_fitting (rows (expected p) line) ≡ Some c
 unfolding step field_at hex_at value_at format_at suite_at end_at text_at cuts_at

@@ -18,46 +18,46 @@ use Rattle.vectors.specs.Code.Steps.{◌>>=◌, Place, field_at, format_at, suit
 use Rattle.vectors.proofs.FieldLemmas.{Next, bind_ok, ok_is, no_gap, field_again, format_again, suite_again}
 use Rattle.vectors.proofs.FieldLemmas.{text_again, end_text, end_invalid, end_cuts}
 
--- a place, and the records behind which it comes, or why there is none
+-- the result of reading lines: a place and the records that ended before it, or the cause
 abbrev pub Read : Type 0
 Read = Result Next Cause
 
--- what is read behind some records
+-- the result of a reading, with some records put in front of its own
 abbrev pub behind : List Record → Read → Read
 behind front read = read >>= λ x. Ok (x.0, front ++ x.1)
 
--- what was read, behind some records
+-- records put in front of an Ok result go in front of its records
 behind-Ok : (front : List Record) (read : Read) (x : Next) → read ≡ Ok x
     → behind front read ≡ Ok (x.0, front ++ x.1)
 behind-Ok front read x e = rw e refl
 
--- behind records and records
+-- putting b in front and then a is putting a ++ b in front
 behind-behind : (a b : List Record) (read : Read) → behind a (behind b read) ≡ behind (a ++ b) read
 behind-behind a b (Ok x) = ap (λ (rs : List Record). Ok (x.0, rs)) (sym (append_assoc a b x.1))
 behind-behind a b (Err d) = refl
 
--- behind no records
+-- putting no records in front changes nothing
 behind-nil : (read : Read) → behind [] read ≡ read
 behind-nil (Ok x) = refl
 behind-nil (Err d) = refl
 
--- no lines are read
+-- reading no lines returns the place and no records
 pub run-empty : (p : Place) → run p [] ≡ Ok (p, [])
 unfolding run
 run-empty p = refl
 
--- no lines lead nowhere
+-- if reading no lines returns x, then x is the place and no records
 pub run-nil : (p : Place) (x : Next) → run p [] ≡ Ok x → (p, []) ≡ x
 unfolding run
 run-nil p x e = ok_is (p, []) x e
 
--- one more line
+-- reading a line and then others is a run over the others, with the records of the line's step in front
 run-cons : (p : Place) (l : List ℕ) (ls : List (List ℕ)) (x : Next) → step p l ≡ Ok x
     → run p (l ∷ ls) ≡ behind x.1 (run x.0 ls)
 unfolding run
 run-cons p l ls x e = rw e refl
 
--- the first line of a run, and the others
+-- if reading lines returns Ok, the step of the first line did, and the run of the others after it
 pub run-parts : (p : Place) (l : List ℕ) (ls : List (List ℕ)) (x : Next) → run p (l ∷ ls) ≡ Ok x
     → (a : Next) × (step p l ≡ Ok a) × ((b : Next) × (run a.0 ls ≡ Ok b) × ((b.0, a.1 ++ b.1) ≡ x))
 unfolding run
@@ -67,7 +67,7 @@ run-parts p l ls x e =
     let b = bind_ok (run a.0.0 ls) (λ others. Ok (others.0, a.0.1 ++ others.1)) x a.2 in
     (a.0, a.1, (b.0, b.1, ok_is (b.0.0, a.0.1 ++ b.0.1) x b.2))
 
--- lines, and then others
+-- reading lines and then others is a run over the others, with the records of the first lines in front
 pub run-append : (p : Place) (ls ms : List (List ℕ)) (x : Next) → run p ls ≡ Ok x
     → run p (ls ++ ms) ≡ behind x.1 (run x.0 ms)
 run-append p [] ms x e =
@@ -91,22 +91,22 @@ run-front p (l ∷ ls) ms y e =
     let f = run-front r.0.0 ls ms r.2.0 r.2.1 in
     ((f.0.0, r.0.1 ++ f.0.1), run-cons p l ls r.0 r.1 ∙ behind-Ok r.0.1 (run r.0.0 ls) f.0 f.1)
 
--- lines that were read, and then others
+-- if lines lead from p to q and others from q to x, all of them lead from p to x, and the records are joined
 pub both : (p q : Place) (ls ms : List (List ℕ)) (x : Place) (rs ss : List Record) → run p ls ≡ Ok (q, rs)
     → run q ms ≡ Ok (x, ss) → run p (ls ++ ms) ≡ Ok (x, rs ++ ss)
 both p q ls ms x rs ss e f = run-append p ls ms (q, rs) e ∙ behind-Ok rs (run q ms) (x, ss) f
 
--- one line alone
+-- reading one line is its step
 pub one : (p q : Place) (l : List ℕ) (rs : List Record) → step p l ≡ Ok (q, rs) → run p (l ∷ []) ≡ Ok (q, rs)
 one p q l rs e = run-cons p l [] (q, rs) e ∙ behind-Ok rs (run q []) (q, []) (run-empty q)
     ∙ ap (λ (ss : List Record). Ok (q, ss)) (append-nil rs)
 
--- a line that ends no record, and then others
+-- a line that ends no record, and then others, lead to the place and the records of the others
 pub first : (p q : Place) (l : List ℕ) (ls : List (List ℕ)) (x : Place) (rs : List Record)
     → step p l ≡ Ok (q, []) → run q ls ≡ Ok (x, rs) → run p (l ∷ ls) ≡ Ok (x, rs)
 first p q l ls x rs e f = run-cons p l ls (q, []) e ∙ behind-Ok [] (run q ls) (x, rs) f
 
--- ---- what the grammar takes is read
+-- ---- reading the lines of the grammar
 
 -- a blank line or a comment before the format line
 gap-start : (l : List ℕ) → is_gap l ≡ true → step steps.start l ≡ Ok (steps.start, [])
@@ -154,12 +154,12 @@ all_read F fs r s ms h =
     ap (λ (gs : List Field). run (steps.fields F gs r) ms) (sym (append-nil fs))
     ∙ fills_read F fs [] r s ms h
 
--- a line behind all fields
+-- the line after all fields is read as the end of the record
 end-line : (F : Format) (r : Record) (l : List ℕ) → step (steps.fields F [] r) l ≡ steps.end_at F r l
 unfolding step
 end-line F r l = refl
 
--- a line behind cuts
+-- the line after cuts is read as the text line
 text-line : (F : Format) (r : Record) (l : List ℕ) → step (steps.text F r) l ≡ steps.text_at F r l
 unfolding step
 text-line F r l = refl

@@ -130,7 +130,7 @@ half_text = codes "sealed = afbeb0f07dfbf541"
 text_text : Line
 text_text = codes "text = 466f7250617369"
 
--- a line's bytes, and a line feed behind them
+-- the bytes of a line, followed by a line feed
 abbrev fed : Line → List ℕ
 fed line = line ++ 10 ∷ []
 

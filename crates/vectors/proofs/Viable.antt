@@ -31,11 +31,11 @@ record Ending (p : Place) (n : ℕ) : Type 0 where
   pub some : records ≢ []
   pub read : run p more ≡ Ok (steps.between format, records)
 
--- one record and others are some
+-- a list with a first record is not empty
 cons_some : (r : Record) (rs : List Record) → (r ∷ rs) ≢ []
 cons_some r rs e = cc
 
--- one line more before an end
+-- if a line leads from p to q, and q has an ending of n lines, p has one of n + 1
 longer : (p q : Place) (n : ℕ) (l : List ℕ) → step p l ≡ Ok (q, []) → Ending q n → Ending p (suc n)
 longer p q n l e end = record {
   format = end.format;
@@ -46,7 +46,7 @@ longer p q n l e end = record {
   read = first p q l end.more (steps.between end.format) end.records e end.read;
 }
 
--- a record that ends with a line
+-- a place from which one line ends a record has an ending of one line
 last : (p : Place) (F : Format) (l : List ℕ) (r : Record) → step p l ≡ Ok (steps.between F, r ∷ [])
     → Ending p 1
 last p F l r e = record {
@@ -64,17 +64,17 @@ invalid-step : (F : Format) (r : Record)
 unfolding step end_at
 invalid-step F r = refl
 
--- a text line ends a record behind cuts
+-- a text line after cuts ends a record
 text-step : (F : Format) (r : Record)
     → step (steps.text F r) (codes "text=") ≡ Ok (steps.between F, with_text (Some []) r ∷ [])
 unfolding step text_at hex_at value_at value_line field_of is_hex bytes_of decode_pairs
 text-step F r = refl
 
--- a key of the suite's length
+-- a line with a key of zero bytes, of the suite's length
 key_line : Suite → List ℕ
 key_line s = codes "key=" ++ replicate (2 * suite_key_length s) 48
 
--- it is read
+-- the line with a key of zero bytes is read
 key-read : (s : Suite) → field_at s Key (key_line s) ≡ Ok (replicate (suite_key_length s) 0)
 unfolding field_at hex_at value_at value_line field_of is_hex bytes_of decode_pairs key_line
 key-read (Aead ChaCha20Poly1305) = refl
@@ -96,7 +96,7 @@ record HasLine (s : Suite) (f : Field) : Type 0 where
   pub bytes : List ℕ
   pub read : field_at s f l ≡ Ok bytes
 
--- each field has one
+-- each field has a line
 line_of : (s : Suite) (f : Field) → HasLine s f
 unfolding field_at hex_at value_at value_line field_of is_hex bytes_of decode_pairs
 line_of s Key = record { l = key_line s; bytes = replicate (suite_key_length s) 0; read = key-read s }
@@ -104,14 +104,14 @@ line_of s Nonce = record { l = codes "nonce=000000000000000000000000"; bytes = r
 line_of s Aad = record { l = codes "aad="; bytes = []; read = refl }
 line_of s Sealed = record { l = codes "sealed="; bytes = []; read = refl }
 
--- the step of a field's line
+-- the step of a field's line fills the field
 field-step : (F : Format) (f : Field) (fs : List Field) (r : Record) (l v : List ℕ)
     → field_at r.suite f l ≡ Ok v
     → step (steps.fields F (f ∷ fs) r) l ≡ Ok (steps.fields F fs (with_field f v r), [])
 unfolding step
 field-step F f fs r l v e = rw e refl
 
--- a line for each field that is left, and one more
+-- a place at a field has an ending of one line for each field that is left, and one more
 of_fields : (F : Format) (left : List Field) (r : Record) → Ending (steps.fields F left r) (suc (length left))
 of_fields F [] r = last (steps.fields F [] r) F (codes "invalid") (with_text None r) (invalid-step F r)
 of_fields F (f ∷ fs) r =
@@ -127,7 +127,7 @@ unfolding step suite_at value_at value_line field_of suite_named
 suite-step One = refl
 suite-step Two = refl
 
--- four lines from between records on
+-- a place between records has an ending of four lines
 of_between : (F : Format) → Ending (steps.between F) 4
 of_between F = longer (steps.between F) _ 3 (codes "suite=aes-128-wrap") (suite-step F)
     (of_fields F (Key ∷ Sealed ∷ []) (unread (Wrap Bits128)))
@@ -137,7 +137,7 @@ format-step : step steps.start (codes "format=1") ≡ Ok (steps.between One, [])
 unfolding step format_at value_line field_of
 format-step = refl
 
--- from a place a record can be ended in five lines
+-- from a place a record can be ended in at most five lines
 record Endable (p : Place) : Type 0 where
   pub n : ℕ
   pub few : n ≤ 5
@@ -149,7 +149,7 @@ four (Aead s) = omega arith
 four (Wrap aes) = omega arith
 four (WrapPad aes) = omega arith
 
--- each place behind lines can be ended
+-- from each place that lines lead to, a record can be ended in at most five lines
 endable : (p : Place) (ls : List (List ℕ)) (rs : List Record) → At p ls rs → Endable p
 endable steps.start ls rs h =
     record {
@@ -172,7 +172,7 @@ endable (steps.text F r) ls rs h =
           last (steps.text F r) F (codes "text=") (with_text (Some []) r) (text-step F r);
     }
 
--- records and some are some
+-- records joined with at least one more are not empty
 append_some : (rs ss : List Record) → ss ≢ [] → (rs ++ ss) ≢ []
 append_some [] ss h = h
 append_some (r ∷ rs) ss h = cons_some r (rs ++ ss)

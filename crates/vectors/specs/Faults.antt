@@ -19,10 +19,10 @@ use Rattle.vectors.specs.Cuts.{are_cuts}
 use Rattle.vectors.specs.Grammar.{Line, Record, is_gap, value_line, has_length, may_cut, most_cut}
 use Rattle.vectors.specs.Grammar.{IsSuiteLine, IsCutsLine, unread, Fills, Formatted, IsFile, IsViable}
 
--- ---- what is expected on a line
+-- ---- the expected line
 
 -- the format line, the first line of a record, or one of a record that was begun: a field, the end, the
--- end or a line of cuts up to some number, or the text line behind cuts
+-- end or a line of cuts up to some number, or the text line after cuts
 pub data Expected : Type 0 where
   format_line : Expected
   suite_line : Format → Expected
@@ -35,7 +35,7 @@ pub data Expected : Type 0 where
 abbrev pub behind_fields : Format → Record → Expected
 behind_fields format r = if may_cut format r.suite then cuts_or_end (most_cut r) else end_line
 
--- the first lines of a record that isn't ended, and what is expected behind them
+-- the first lines of a record that isn't ended, and what is expected after them
 pub data Begun (format : Format) : List Line → Expected → Type 0 where
   some_fields : {suite : Suite} {l : Line} {ms : List Line} {r : Record} {f : Field} {fs : List Field}
       (gs : List Field)
@@ -49,7 +49,7 @@ pub data Begun (format : Format) : List Line → Expected → Type 0 where
       → may_cut format r.suite ≡ true → IsCutsLine r c
       → Begun format (l ∷ (ms ++ c ∷ [])) text_line
 
--- behind these lines, this is expected
+-- this is expected after these lines
 pub data Expects : List Line → Expected → Type 0 where
   unformatted : {ls : List Line} → list_all is_gap ls ≡ true → Expects ls format_line
   formatted : {F : Format} {ls : List Line} {rs : List Record} → Formatted F ls rs → Expects ls (suite_line F)
@@ -57,7 +57,7 @@ pub data Expects : List Line → Expected → Type 0 where
       → Begun F ms e
       → Expects (ls ++ ms) e
 
--- ---- what is wrong with a line, by what is expected there
+-- ---- the faults of a line, by what is expected there
 
 -- a list of faults, each with whether it fits: the first that fits
 abbrev pub first_fitting : List (Bool × Cause) → Option Cause

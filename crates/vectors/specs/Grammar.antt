@@ -63,7 +63,7 @@ pub record IsHexField (line : Line) (name bytes : List ℕ) : Type 0 where
   pub field : IsField line name digits
   pub spelled : Spells digits bytes
 
--- so many bytes, where a number is asked for
+-- whether the bytes have the length that is asked for, if one is
 abbrev pub has_length : Option ℕ → List ℕ → Bool
 has_length None bytes = true
 has_length (Some n) bytes = length bytes == n
@@ -92,7 +92,7 @@ abbrev pub may_cut : Format → Suite → Bool
 may_cut One suite = false
 may_cut Two suite = is_aead suite
 
--- the greatest number that may stand there: the bytes of the text
+-- the greatest number that a line of cuts may have: the length of the text in bytes
 abbrev pub most_cut : Record → ℕ
 most_cut r = length r.sealed - 16
 

@@ -72,7 +72,7 @@ pub(crate) enum Place<'a> {
         left: &'static [Field],
         entry: Entry<'a>,
     },
-    // The text line behind cuts.
+    // The text line after cuts.
     Text {
         format: Format,
         entry: Entry<'a>,
@@ -81,7 +81,7 @@ pub(crate) enum Place<'a> {
 
 // The place after a line, and the record that it ends.
 pub(crate) struct Next<'a> {
-    /// Which line is expected behind it.
+    /// Which line is expected after it.
     pub place: Place<'a>,
     /// The record that it ends.
     pub ended: Option<Entry<'a>>,
@@ -90,7 +90,7 @@ pub(crate) struct Next<'a> {
 impl<'a> Next<'a> {
     ghost use Rattle.std.specs.Prelude.{[], ◌∷◌};
 
-    // A place behind a line that ends no record.
+    // The place after a line that ends no record.
     fn at(place: Place<'a>) -> Next<'a>
         ensures { next_view result ≡ (view place.entry, []) }
     {

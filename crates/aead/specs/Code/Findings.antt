@@ -45,7 +45,7 @@ MakesTextTag hashed s tag =
     (body : List ℕ) → tag_over s.suite s.key s.nonce s.aad (hashed (mask_of s tag) body)
     ≡ tag_of s (masked (mask_of s tag) 0 body)
 
--- as far as its body, so many bytes of a reading were taken, which make this tag
+-- the n bytes of the body that a reading had were taken, and they make this tag
 abbrev pub PassesBody : Setting → List ℕ → ℕ → Option (List ℕ) → Option (List ℕ) → Option (List ℕ)
     → Option (List ℕ) → ℕ → List ℕ → Type 0
 PassesBody s tag len left left' taken taken' n made =

@@ -28,11 +28,11 @@ Takes held a b bytes =
     (s : Setting) (m : List ℕ) → HoldsAuthenticator held a s m → length m + length bytes ≤ text_limit s.suite
     → HoldsAuthenticator held b s (m ++ bytes)
 
--- the bytes that are authenticated where pieces are hashed first: they as they come
+-- the bytes authenticated if pieces are hashed first: the pieces as they come
 abbrev pub as_it_comes : (ℕ → ℕ) → List ℕ → List ℕ
 as_it_comes mask bytes = bytes
 
--- and where they are masked first: they as they leave
+-- the bytes authenticated if pieces are masked first: the pieces as they leave, masked
 abbrev pub as_it_leaves : (ℕ → ℕ) → List ℕ → List ℕ
 as_it_leaves mask bytes = masked mask 0 bytes
 

@@ -99,7 +99,7 @@ fn fails(
     out.bytes().len()
 }
 
-// Nothing is given where the measure reading fails at its first take, or the verify reading at its second.
+// Nothing is given if the measure reading fails at its first take, or the verify reading at its second.
 #[test]
 fn failing_readings_before_any_byte(rt: HostRuntime) {
     let (first, second) = (Course::FailsAfter(0), Course::FailsAfter(1));
@@ -108,7 +108,7 @@ fn failing_readings_before_any_byte(rt: HostRuntime) {
     let _ = fails(&rt, (whole, second, whole, whole), Fault::Read, &[]);
 }
 
-// Where the write reading fails after three bytes, no more than these were given.
+// If the write reading fails after three bytes, no more than these were given.
 #[test]
 fn a_write_reading_that_fails(rt: HostRuntime) {
     let whole = Course::IsWhole;
@@ -159,7 +159,7 @@ fn is_done(
     answer.is_ok()
 }
 
-// Opening with one call of one device failing: whether it ended well. Nothing was given where the measure
+// Opening with one call of one device failing: whether it ended well. Nothing was given if the measure
 // or the verify reading failed.
 fn is_opened(rt: &(impl Abort + Alloc<A = Global>), device: usize, call: usize) -> bool {
     let mut out = outlet(rt, course_of(device == 3, call));
@@ -198,7 +198,7 @@ fn is_sealed_once(rt: &(impl Abort + Alloc<A = Global>), device: usize, call: us
 }
 
 // Sealing in two readings with one call of one device failing: whether it ended well. Nothing was given
-// where the first reading failed.
+// if the first reading failed.
 fn is_sealed_twice(rt: &(impl Abort + Alloc<A = Global>), device: usize, call: usize) -> bool {
     let sample = siv(rt);
     let cipher = two_pass(&sample.cipher).expect(rt, "two readings");

@@ -31,7 +31,7 @@ fn nonce(rt: &impl Abort) -> Nonce {
     Nonce::from_slice(&KEY[..12]).expect(rt, "a nonce")
 }
 
-// The tag by ChaCha20-Poly1305 of no text with these bytes as associated data: it stands for them.
+// A digest of these bytes: the tag by ChaCha20-Poly1305 of no text with them as associated data.
 fn digest(rt: &impl Abort, bytes: &[u8]) -> Tag {
     cipher(rt, Suite::ChaCha20Poly1305, &KEY)
         .seal_in_place(&nonce(rt), bytes, &mut [])
@@ -51,7 +51,7 @@ fn agrees(rt: &impl Abort, suite: Suite, tag: &[u8; 16], ciphertext: &[u8; 16]) 
     assert!(rt; answer.is_ok() && bytes == text());
 }
 
-// As OpenSSL seals it.
+// A long text is sealed as OpenSSL seals it.
 #[test]
 fn long_texts(rt: HostRuntime) {
     agrees(

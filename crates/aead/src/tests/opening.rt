@@ -5,7 +5,7 @@ use octets::{Fault, SliceIntake, VecOutlet};
 use std::alloc::Global;
 use std::process::Abort;
 
-// The readings of one opening, its answer, and what it gives.
+// The readings of one opening, its result, and the bytes it gives.
 #[derive(Drop)]
 struct Opening<'a> {
     measure: &'a [u8],
@@ -15,7 +15,7 @@ struct Opening<'a> {
     given: &'a [u8],
 }
 
-// Opening these readings ends so.
+// Opening these readings has this result and gives these bytes.
 fn opens(rt: &(impl Abort + Alloc<A = Global>), sample: &Sample, opening: &Opening) {
     let mut measure = SliceIntake::new(opening.measure);
     let mut verify = SliceIntake::new(opening.verify);
@@ -83,7 +83,7 @@ fn other_text() -> [u8; 114] {
     text
 }
 
-// The published sealing of 130 bytes is refused where the measure reading is these bytes: nothing is given.
+// If the measure reading is these bytes, opening the published sealing returns `TooShort` and gives nothing.
 fn is_refused_measuring(rt: &(impl Abort + Alloc<A = Global>), measure: &[u8]) {
     let sample = chacha(rt);
     let opening = Opening {
@@ -96,14 +96,14 @@ fn is_refused_measuring(rt: &(impl Abort + Alloc<A = Global>), measure: &[u8]) {
     opens(rt, &sample, &opening);
 }
 
-// Nothing is given where the measure reading is too short to be a sealing.
+// Nothing is given if the measure reading is too short to be a sealing.
 #[test]
 fn measure_readings_that_differ(rt: HostRuntime) {
     is_refused_measuring(&rt, &CHACHA_SEALED[..0]);
     is_refused_measuring(&rt, &CHACHA_SEALED[..15]);
 }
 
-// It is refused where the verify reading is these bytes: nothing is given.
+// If the verify reading is these bytes, opening the published sealing returns this fault and gives nothing.
 fn is_refused_verifying(rt: &(impl Abort + Alloc<A = Global>), verify: &[u8], fault: Fault) {
     let sample = chacha(rt);
     let opening = Opening {
@@ -116,7 +116,7 @@ fn is_refused_verifying(rt: &(impl Abort + Alloc<A = Global>), verify: &[u8], fa
     opens(rt, &sample, &opening);
 }
 
-// Nothing is given where the verify reading has another length or tag than the measured one, or is no
+// Nothing is given if the verify reading has another length or tag than the measured one, or is no
 // sealing.
 #[test]
 fn verify_readings_that_differ(rt: HostRuntime) {

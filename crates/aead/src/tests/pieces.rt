@@ -35,7 +35,7 @@ fn sealer_takes_any_cut(rt: HostRuntime) {
     }
 }
 
-// Pieces that end before, at and behind a block, and an empty one, make the published sealing.
+// Pieces that end before, at and after a block boundary, and an empty one, make the published sealing.
 #[test]
 fn sealer_takes_uneven_pieces(rt: HostRuntime) {
     is_sealed_in_pieces(&rt, &gcm(&rt), &[1, 15, 0, 17, 27]);

@@ -22,8 +22,8 @@ fn a_stream_has_the_sealing_of_its_text(rt: HostRuntime) {
     is_sealed(&rt, &gcm(&rt));
 }
 
-// The answer for a second reading of the published text of eight bytes, with what was given: a beginning
-// of `most`.
+// Sealing the published text of eight bytes with this second reading returns `want` and gives a beginning
+// of `most`, all of it if `want` is `Ok`.
 fn sealed_again(
     rt: &(impl Abort + Alloc<A = Global>),
     second: &[u8],
@@ -62,7 +62,7 @@ fn a_stream_of_another_second_text(rt: HostRuntime) {
     sealed_again(&rt, &second, Err(Fault::SourceChanged), &most);
 }
 
-// Nor after a shorter one.
+// The tag is not given after a shorter second reading.
 #[test]
 fn a_stream_of_a_shorter_second_text(rt: HostRuntime) {
     let most = [0xb5, 0xd8, 0x39];

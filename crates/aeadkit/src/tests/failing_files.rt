@@ -1,4 +1,4 @@
-//! The file commands, where a call of their files goes wrong or a later reading gives other bytes.
+//! The file commands, if a call to their files goes wrong or a later reading gives other bytes.
 use super::files::{bytes, file_words};
 use super::published::{
     CHACHA, CHACHA_SEALED, CHANGED, GCM_SIV, GCM_SIV_SEALED, GCM_SIV_TEXT, Vector,
@@ -9,8 +9,8 @@ use crate::run::run;
 use std::alloc::Global;
 use std::process::Abort;
 
-// Whether the failure is of the side that went wrong, and the written file holds a beginning of what it
-// should; none was made where a reading before the last one went wrong.
+// Whether the failure names the side that went wrong, and the written file holds a beginning of what it
+// should; none was made if a reading before the last one went wrong.
 fn is_stopped(log: &Log, err: &[u8], to: &[u8], last: u8) -> bool {
     let (complaint, may_be_made) = match log.reading.get() {
         Some(reading) => ("aeadkit: Read\n", last <= reading),
@@ -92,7 +92,7 @@ fn each_call_of(
 }
 
 // Each opening, read, making, write and sync in turn fails, or is interrupted, which is a failure, or moves
-// one byte alone, which changes nothing; and each of them fails where all move one byte.
+// one byte alone, which changes nothing; and each of them fails while all others move one byte.
 #[test]
 fn calls_that_go_wrong(rt: HostRuntime) {
     for how in [

@@ -1,5 +1,5 @@
 //! Each request for memory of a command is refused in turn, until a run takes all that it asks for. The
-//! result of a refused one is `OutOfMemory`, wherever it stands, and else it is the right one.
+//! result is `OutOfMemory` if one was refused, or `Write` if the making of a file asked for it; else it is right.
 use super::checks::GOOD;
 use super::devices::{NO_FILES, OneFile};
 use super::files::bytes;
@@ -142,8 +142,8 @@ impl<'b, 'l, 'm, A: Allocator> Storage for AllocatingFiles<'b, 'l, 'm, A> {
 }
 
 // Performs a file command with one request for memory refused after the first `passed` ones, and returns
-// the status: 4 where it came to that one, or 3 where the making of the file asked for it, and then no file
-// is made; and else 0, and it holds these bytes.
+// the status: 4 if it came to that one, or 3 if the making of the file asked for it, and then no file is
+// made; else 0, and the file holds these bytes.
 fn file_status(
     rt: &(impl Abort + Alloc<A = Global>),
     request: &FileRequest<'_>,

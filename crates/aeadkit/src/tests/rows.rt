@@ -183,7 +183,7 @@ fn refused_words(rt: HostRuntime) {
 }
 
 // RFC 3394, sections 4.1 to 4.6, and RFC 5649, section 6, both ways. Hex digits may be of either case, and a
-// value may stand behind `=`.
+// value may follow `=`.
 #[test]
 fn wrapping_vectors(rt: HostRuntime) {
     for wrapping in &WRAPPINGS {

@@ -23,7 +23,7 @@ pub enum Wrong {
 pub struct Log {
     /// How many calls were made: openings, reads, makings, writes and syncs.
     pub calls: Cell<u32>,
-    /// Which reading the call was for that went wrong, if it was for one.
+    /// The reading for which the wrong call was made, if it was made for one.
     pub reading: Cell<Option<u8>>,
     /// Whether the written file was made.
     pub made: Cell<bool>,

@@ -72,7 +72,7 @@ const WRONG: [(&str, &str, &str); 4] = [
     ),
 ];
 
-// Each vector seals and opens. Options that are not given stand for no bytes.
+// Each vector seals and opens. An option that is not given has an empty value.
 #[test]
 fn standard_vectors(rt: HostRuntime) {
     for vector in &VECTORS {

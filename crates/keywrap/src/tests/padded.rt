@@ -189,7 +189,7 @@ fn rooms_are_refused(rt: &impl Abort, key: &AesKey, room: &mut [u8; 32]) {
     }
 }
 
-// A text of so many bytes from place 8 on is wrapped and unwrapped where it stands.
+// A text, which starts at offset 8, is wrapped and unwrapped in place.
 fn is_wrapped_with_padding(
     rt: &impl Abort,
     key: &AesKey,

@@ -19,7 +19,7 @@ abbrev pub ◌>>=◌ : {A B : Type 0} → Result A Cause → (A → Result B Cau
 (Ok x) >>= f = f x
 (Err e) >>= f = Err e
 
--- the value, where the name is the one that is wanted
+-- the value of a value line with this name, or the cause
 abbrev pub named_value : List ℕ → Option (List ℕ × List ℕ) → Result (List ℕ) Cause
 named_value name None = Err BadLine
 named_value name (Some f) = if bytes_eq f.0 name then Ok f.1 else Err WrongName
@@ -44,7 +44,7 @@ abbrev pub ok_or : {A : Type 0} → Cause → Option A → Result A Cause
 ok_or cause None = Err cause
 ok_or cause (Some x) = Ok x
 
--- the format, where the name is `format` and the value names one
+-- the format, if the name is `format` and the value names one
 abbrev pub format_of : Option (List ℕ × List ℕ) → Result Format Cause
 format_of None = Err BadFormat
 format_of (Some f) = if bytes_eq f.0 (codes "format") then ok_or BadFormat (format_named f.1) else Err

@@ -45,7 +45,7 @@ fn values_of_cuts(rt: HostRuntime) {
 }
 
 // One line in the place of another: format 1 knows no cuts; there is no format 3; other lines in the place
-// of cuts; `invalid`, another text and an empty line behind cuts; a padding is part of no text.
+// of cuts; `invalid`, another text and an empty line after cuts; a padding is part of no text.
 #[test]
 fn another_line(rt: HostRuntime) {
     for (number, line, due) in [
@@ -65,7 +65,7 @@ fn another_line(rt: HostRuntime) {
     }
 }
 
-// No cuts, cuts behind cuts, and cuts in a record of key wrapping.
+// No cuts, a second line of cuts, and cuts in a record of key wrapping.
 #[test]
 fn more_lines_and_fewer(rt: HostRuntime) {
     let cuts = b"cuts = 3,8".as_slice();

@@ -5,7 +5,7 @@ use crate::fault::VectorFault::*;
 use std::alloc::Global;
 use std::process::Abort;
 
-// Behind each line, with its LF and without it.
+// The file is cut after each line, with its LF and without it.
 #[test]
 fn cut_behind_each_line(rt: HostRuntime) {
     for (count, due) in [
@@ -53,7 +53,7 @@ const ROWS: [Row; 14] = [
     (15, BadLine(15), BadLine(15), BadLine(15)),
 ];
 
-// Whether the file, cut behind this part of a line, has the fault that is due.
+// Whether the file, cut after this part of a line, has the fault that is due.
 fn has_fault(rt: &(impl Abort + Alloc<A = Global>), row: &Row, part: &[u8]) -> bool {
     let (number, odd, even, none) = *row;
     let due = match value_length(part) {

@@ -54,7 +54,7 @@ pub fn add(rt: &(impl Abort + Alloc<A = Global>), file: &mut Vec<u8>, line: &[u8
     file.push(b'\n').expect(rt, "memory");
 }
 
-/// A file with these lines in the place of one line, and a LF behind each.
+/// A file with these lines in the place of one line, and a LF after each.
 pub fn with_lines(
     rt: &(impl Abort + Alloc<A = Global>),
     file: &str,
@@ -94,7 +94,7 @@ pub fn first_lines(rt: &(impl Abort + Alloc<A = Global>), file: &str, count: usi
     out
 }
 
-/// The result for a file cut behind a line: with the line's LF, or without it.
+/// The result for a file cut after a line: with the line's LF, or without it.
 pub fn cut_behind(
     rt: &(impl Abort + Alloc<A = Global>),
     file: &str,
@@ -128,7 +128,7 @@ pub fn cut_inside(
     answer(rt, &kept)
 }
 
-/// How many bytes stand behind the `= ` of a line, where its `=` is there.
+/// The number of bytes after the `= ` of a line, if it has a `=`.
 pub fn value_length(part: &[u8]) -> Option<usize> {
     part.iter()
         .position(|b| *b == b'=')

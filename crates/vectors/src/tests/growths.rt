@@ -48,7 +48,7 @@ fn each_refused_growth_is_out_of_memory(rt: HostRuntime) {
     assert!(rt; requests(&rt, FORMAT_2.as_bytes(), 2, &[]) == 2);
 }
 
-// Cut behind the format line, and before the last line of the first record.
+// The file is cut after the format line, and before the last line of the first record.
 #[test]
 fn no_request_before_a_record_has_ended(rt: HostRuntime) {
     for (count, due) in [

@@ -8,7 +8,7 @@ use Rattle.aead.specs.Exports.{setting_of}
 use Rattle.aead.specs.Stored.{HoldsSivText, IsPolyvalKey}
 use Rattle.aead.proofs.exports.siv.begun.Goals as goal
 
--- The hash key that stands first in what is stored is that of the message.
+-- The hash key in the first 16 bytes stored is that of the message.
 stored_key : (key nonce own_key own_nonce bytes rest hash stored : List ℕ) → own_key ≡ key → own_nonce ≡ nonce
     → stored ≡ bytes ++ rest → bytes ≡ hash → length bytes ≡ 16
     → IsBlock (authentication_key own_key own_nonce)
