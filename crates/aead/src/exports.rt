@@ -58,15 +58,15 @@ fn nonce_of(bytes: &[u8]) -> Option<Nonce>
     }
 }
 
-// What a call does with the bytes of a message, whatever its cipher: the last sixteen are the tag, or room for it.
+// Sealing or opening the bytes of a message in place: the last sixteen are room for the tag, or the tag.
 trait Direction {
-    // What becomes of the bytes.
+    // The bytes before and after a call that succeeds.
     ghost done: { Setting → List ℕ → List ℕ → Type 0 };
 
-    // Why the bytes are left as they were.
+    // The bytes before and after a call that is refused, and its fault.
     ghost refused: { Setting → List ℕ → List ℕ → Fault → Type 0 };
 
-    // Seals or opens under the bytes of a nonce.
+    // Seals or opens by a cipher, under the bytes of a nonce.
     fn run<C: Cipher>(cipher: &C, nonce: &[u8], aad: &[u8], bytes: &mut [u8]) -> Result<(), Fault>
         requires { length (C.keyed cipher.now).key ≡ key_length (C.keyed cipher.now).suite }
         ensures { let s = setting (C.keyed cipher.now) nonce.now aad.now in
@@ -77,7 +77,7 @@ trait Direction {
         → refused s bytes bytes KeyLength };
 }
 
-// A text becomes its ciphertext and tag.
+// A text and room become its ciphertext and tag.
 struct Sealing;
 
 impl Direction for Sealing {
@@ -127,7 +127,7 @@ impl Direction for Opening {
     }
 }
 
-// Seals or opens under AES-GCM, whose hash key is there, by multiples that are made for the message.
+// Seals or opens under AES-GCM by its key and hash key, with multiples that are made for the message.
 #[inline(always)]
 fn run_gcm<D: Direction>(
     suite: Suite,
