@@ -14,7 +14,7 @@ use octets::{Fault, Nonce, Tag};
 use std::alloc::Allocator;
 
 // The text of a ciphertext and its tag.
-fn open_by<A: Allocator>(
+fn opened_text<A: Allocator>(
     alloc: A,
     cipher: &AnyAead,
     nonce: &Nonce,
@@ -76,5 +76,5 @@ pub fn open<A: Allocator>(
         → MatchResult result (λ v. v.items ≡ text) (λ e. e ≡ Fault.OutOfMemory) }
 {
     sealing_has_one_text();
-    open_by(alloc, cipher, nonce, aad, sealed)
+    opened_text(alloc, cipher, nonce, aad, sealed)
 }

@@ -79,7 +79,7 @@ fn takes_two_readings(cipher: &GcmSiv, nonce: &Nonce)
 
 // Opens a file into an outlet, in three readings.
 #[tactic(auto, using(crate::proofs::BlamesLemmas::unopened_blames))]
-fn open_by<F: Storage, O: Outlet>(
+fn open_thrice<F: Storage, O: Outlet>(
     files: &F,
     path: &str,
     cipher: &AnyAead,
@@ -134,7 +134,7 @@ fn write_by<F: Storage, O: Outlet>(
                 seal_twice(files, words.input, cipher, nonce, aad, out)
             }
         },
-        FileCommand::Open => open_by(files, words.input, cipher, nonce, aad, out),
+        FileCommand::Open => open_thrice(files, words.input, cipher, nonce, aad, out),
     }
 }
 

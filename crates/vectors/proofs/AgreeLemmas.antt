@@ -4,7 +4,7 @@ use Rattle.std.proofs.Common.{None, Result, Ok, Err, refl, sym, ap, ◌∙◌, s
 use Rattle.std.specs.Prelude.{◌↔◌, IsTrue, IfOk, OnOk, if◌then◌else◌, is_some, not}
 use Rattle.vectors.specs.Grammar.{Record}
 use Rattle.vectors.specs.Agreement.{HoldsBy, Agrees, TextIs}
-use Rattle.vectors.specs.declared.suite.Suite.{Suite}
+use Rattle.vectors.specs.declared.suite.Algorithm.{Algorithm}
 use Rattle.vectors.specs.declared.digits.Digits.{Digits}
 use Rattle.vectors.specs.Code.Views.{bytes_in, text_view}
 use Rattle.vectors.specs.Reports.{Judges}
@@ -31,7 +31,7 @@ none_is P None true nothing e = (λ t. nothing, λ p. refl)
 none_is P None false nothing e = absurd cc
 
 -- a result that decides by the record's own suite what the sealed bytes hold decides whether the record agrees
-pub held_agrees : {E : Type 0} (e : Record) (b : Result Bool E) (suite : Suite) → e.suite ≡ suite
+pub held_agrees : {E : Type 0} (e : Record) (b : Result Bool E) (suite : Algorithm) → e.suite ≡ suite
     → IfOk b (λ b. IsTrue b ↔ TextIs (HoldsBy suite e) e.text) → IfOk b (λ b. IsTrue b ↔ Agrees e)
 held_agrees e b suite is h =
-    subst (λ (u : Suite). IfOk b (λ b. IsTrue b ↔ TextIs (HoldsBy u e) e.text)) (sym is) h
+    subst (λ (u : Algorithm). IfOk b (λ b. IsTrue b ↔ TextIs (HoldsBy u e) e.text)) (sym is) h

@@ -9,7 +9,7 @@ use Rattle.vectors.specs.declared.fault.Cause.{Cause}
 use Rattle.vectors.specs.declared.fault.Cause.TheVariants.{BadFormat, WrongName, UnknownSuite, BadHex}
 use Rattle.vectors.specs.declared.fault.Cause.TheVariants.{BadLength, BadCuts}
 use Rattle.vectors.specs.declared.suite.Format.{Format}
-use Rattle.vectors.specs.declared.suite.Suite.{Suite}
+use Rattle.vectors.specs.declared.suite.Algorithm.{Algorithm}
 use Rattle.vectors.specs.declared.suite.Field.{Field}
 use Rattle.vectors.specs.Suites.{format_named, suite_named, field_name, field_length}
 use Rattle.vectors.specs.Cuts.{are_cuts}
@@ -88,7 +88,7 @@ hex_again name line v h =
     (ap Ok (spelled-bytes h.digits v h.spelled))
 
 -- if a field is read from a line, it is that field's line with these bytes
-pub field_ok : (s : Suite) (f : Field) (line v : List ℕ) → field_at s f line ≡ Ok v → IsFieldLine s f line v
+pub field_ok : (s : Algorithm) (f : Field) (line v : List ℕ) → field_at s f line ≡ Ok v → IsFieldLine s f line v
 unfolding field_at
 field_ok s f line v e =
     let b = bind_ok (hex_at (field_name f) line)
@@ -100,7 +100,7 @@ field_ok s f line v e =
     }
 
 -- the line of a field is read
-pub field_again : (s : Suite) (f : Field) (line v : List ℕ) → IsFieldLine s f line v
+pub field_again : (s : Algorithm) (f : Field) (line v : List ℕ) → IsFieldLine s f line v
     → field_at s f line ≡ Ok v
 unfolding field_at
 field_again s f line v h = rw (hex_again (field_name f) line v h.hex, h.size) refl
@@ -132,7 +132,7 @@ unfolding format_at
 format_again line F h = ap format_of h.field ∙ ap (ok_or BadFormat) h.known
 
 -- if a suite is read from a line, it is a suite line with this suite
-pub suite_ok : (F : Format) (line : List ℕ) (s : Suite) → suite_at F line ≡ Ok s → IsSuiteLine F line s
+pub suite_ok : (F : Format) (line : List ℕ) (s : Algorithm) → suite_at F line ≡ Ok s → IsSuiteLine F line s
 unfolding suite_at
 suite_ok F line s e =
     let b = bind_ok (value_at (codes "suite") line) (λ name. ok_or UnknownSuite (suite_named F name)) s e in
@@ -144,7 +144,7 @@ suite_ok F line s e =
     }
 
 -- a suite line is read
-pub suite_again : (F : Format) (line : List ℕ) (s : Suite) → IsSuiteLine F line s → suite_at F line ≡ Ok s
+pub suite_again : (F : Format) (line : List ℕ) (s : Algorithm) → IsSuiteLine F line s → suite_at F line ≡ Ok s
 unfolding suite_at
 suite_again F line s h = rw (value_again (codes "suite") line h.name h.field, h.known) refl
 

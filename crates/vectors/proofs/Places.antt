@@ -5,7 +5,7 @@ use Rattle.std.specs.List.{list_all}
 use Rattle.std.proofs.lemmas.Bool.{and_parts}
 use Rattle.std.proofs.lemmas.List.{append-nil}
 use Rattle.vectors.specs.declared.suite.Format.{Format}
-use Rattle.vectors.specs.declared.suite.Suite.{Suite}
+use Rattle.vectors.specs.declared.suite.Algorithm.{Algorithm}
 use Rattle.vectors.specs.declared.suite.Field.{Field}
 use Rattle.vectors.specs.Suites.{fields_of}
 use Rattle.vectors.specs.Grammar as grammar
@@ -24,7 +24,7 @@ pub record InFields (F : Format) (left : List Field) (r : Record) (ls : List (Li
     Type 0 where
   pub front : List (List ℕ)
   pub formatted : Formatted F front rs
-  pub suite : Suite
+  pub suite : Algorithm
   pub l : List ℕ
   pub suite_line : IsSuiteLine F l suite
   pub read : List Field
@@ -37,7 +37,7 @@ pub record InFields (F : Format) (left : List Field) (r : Record) (ls : List (Li
 pub record BehindCuts (F : Format) (r : Record) (ls : List (List ℕ)) (rs : List Record) : Type 0 where
   pub front : List (List ℕ)
   pub formatted : Formatted F front rs
-  pub suite : Suite
+  pub suite : Algorithm
   pub l : List ℕ
   pub suite_line : IsSuiteLine F l suite
   pub ms : List (List ℕ)
@@ -152,7 +152,7 @@ from_fields F f fs r l ls rs x h e =
     })
 
 -- lines before a record and the lines of the record come before the place between records
-added : (F : Format) (front ms es ls : List (List ℕ)) (l : List ℕ) (s : Suite) (r : Record)
+added : (F : Format) (front ms es ls : List (List ℕ)) (l : List ℕ) (s : Algorithm) (r : Record)
     (t : Option (List ℕ)) (rs : List Record) (x : Next)
     → Formatted F front rs → IsSuiteLine F l s → Fills (fields_of s) (unread s) ms r → Ends F r es t
     → ls ≡ front ++ l ∷ (ms ++ es)

@@ -7,7 +7,7 @@ use Rattle.vectors.specs.declared.fault.Cause.{Cause}
 use Rattle.vectors.specs.declared.fault.Cause.TheVariants.{BadFormat, BadLine, WrongName, UnknownSuite}
 use Rattle.vectors.specs.declared.fault.Cause.TheVariants.{BadHex, BadLength, BadCuts}
 use Rattle.vectors.specs.declared.suite.Format.{Format}
-use Rattle.vectors.specs.declared.suite.Suite.{Suite}
+use Rattle.vectors.specs.declared.suite.Algorithm.{Algorithm}
 use Rattle.vectors.specs.Suites.{format_named, suite_named, fields_of, field_name, field_length}
 use Rattle.vectors.specs.Cuts.{are_cuts}
 use Rattle.vectors.specs.Grammar.{Record, is_gap, value_line, has_length, may_cut, most_cut, unread}
@@ -84,7 +84,7 @@ field_rows name n None c e = cc
 field_rows name n (Some f) c e = sized_name_row n (bytes_eq f.0 name) f.1 c e
 
 -- the rows of a suite line
-known_row : (s : Option Suite) (c : Cause) → ok_or UnknownSuite s ≡ Err c
+known_row : (s : Option Algorithm) (c : Cause) → ok_or UnknownSuite s ≡ Err c
     → first_fitting ((not (is_some s), UnknownSuite) ∷ []) ≡ Some c
 known_row None c e = cc
 known_row (Some s) c e = absurd cc

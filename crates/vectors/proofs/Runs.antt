@@ -7,7 +7,7 @@ use Rattle.std.proofs.lemmas.Bool.{and_parts}
 use Rattle.std.proofs.lemmas.List.{append-nil}
 use Rattle.vectors.specs.declared.fault.Cause.{Cause}
 use Rattle.vectors.specs.declared.suite.Format.{Format}
-use Rattle.vectors.specs.declared.suite.Suite.{Suite}
+use Rattle.vectors.specs.declared.suite.Algorithm.{Algorithm}
 use Rattle.vectors.specs.declared.suite.Field.{Field}
 use Rattle.vectors.specs.Suites.{fields_of}
 use Rattle.vectors.specs.Grammar as grammar
@@ -125,7 +125,7 @@ unfolding step
 gap-between F l h = rw h refl
 
 -- a suite line
-pub suite-line : (F : Format) (l : List ℕ) (s : Suite) → IsSuiteLine F l s
+pub suite-line : (F : Format) (l : List ℕ) (s : Algorithm) → IsSuiteLine F l s
     → step (steps.between F) l ≡ Ok (steps.fields F (fields_of s) (unread s), [])
 unfolding step
 suite-line F l s h = rw (no_gap l (codes "suite", h.name) h.field, suite_again F l s h) refl

@@ -2,8 +2,8 @@
 use Rattle.std.proofs.Common.{◌≡◌, ℕ, List, [], ◌∷◌, ◌++◌, Ok}
 use Rattle.std.proofs.lemmas.Bool.{eqb-true}
 use Rattle.vectors.specs.declared.suite.Format.{Format}
-use Rattle.vectors.specs.declared.suite.Suite.{Suite}
-use Rattle.vectors.specs.declared.suite.Suite.TheVariants.{Aead, Wrap, WrapPad}
+use Rattle.vectors.specs.declared.suite.Algorithm.{Algorithm}
+use Rattle.vectors.specs.declared.suite.Algorithm.TheVariants.{Aead, Wrap, WrapPad}
 use Rattle.vectors.specs.Suites.{fields_of}
 use Rattle.vectors.specs.Grammar as grammar
 use Rattle.vectors.specs.Grammar.{Record, unread, with_text, Fills, IsRecord, Formatted}
@@ -13,7 +13,7 @@ use Rattle.vectors.specs.Code.Steps.{Place, run}
 use Rattle.vectors.proofs.Places.{At, lines_at}
 
 -- a record whose fields are filled has a key and a nonce of its suite's lengths
-filled_sized : (s : Suite) (ms : List (List ℕ)) (r : Record) → Fills (fields_of s) (unread s) ms r → IsSized r
+filled_sized : (s : Algorithm) (ms : List (List ℕ)) (r : Record) → Fills (fields_of s) (unread s) ms r → IsSized r
 filled_sized (Aead s) _ _
     (grammar.field h (grammar.field k (grammar.field a (grammar.field x grammar.nothing)))) =
     record { key = eqb-true _ _ h.size; nonce = λ _. eqb-true _ _ k.size }

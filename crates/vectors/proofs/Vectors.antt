@@ -13,7 +13,7 @@ use Rattle.keywrap.specs.Padded.{IsNoPaddedWrapping}
 use Rattle.keywrap.proofs.PaddedTexts.{wrapped_long}
 use Rattle.keywrap.proofs.Vectors.{key192, seven, seven_wrapped, wrapped_padded}
 use Rattle.vectors.specs.declared.suite.Format.TheVariants.{Two}
-use Rattle.vectors.specs.declared.suite.Suite.TheVariants.{Aead, WrapPad}
+use Rattle.vectors.specs.declared.suite.Algorithm.TheVariants.{Aead, WrapPad}
 use Rattle.vectors.specs.declared.suite.Aes.TheVariants.{Bits192}
 use Rattle.vectors.specs.declared.suite.Field.TheVariants.{Key, Nonce, Aad, Sealed}
 use Rattle.vectors.specs.Suites.{suite_named}

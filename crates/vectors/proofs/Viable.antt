@@ -7,8 +7,8 @@ use Rattle.aead.specs.declared.suite.Suite.TheVariants.{Aes128GcmSiv, Aes256GcmS
 use Rattle.vectors.specs.declared.suite.Format.{Format}
 use Rattle.vectors.specs.declared.suite.Format.TheVariants.{One, Two}
 use Rattle.vectors.specs.declared.suite.Aes.TheVariants.{Bits128, Bits192, Bits256}
-use Rattle.vectors.specs.declared.suite.Suite.{Suite}
-use Rattle.vectors.specs.declared.suite.Suite.TheVariants.{Aead, Wrap, WrapPad}
+use Rattle.vectors.specs.declared.suite.Algorithm.{Algorithm}
+use Rattle.vectors.specs.declared.suite.Algorithm.TheVariants.{Aead, Wrap, WrapPad}
 use Rattle.vectors.specs.declared.suite.Field.{Field}
 use Rattle.vectors.specs.declared.suite.Field.TheVariants.{Key, Nonce, Aad, Sealed}
 use Rattle.vectors.specs.Suites.{suite_named, suite_key_length, fields_of}
@@ -71,11 +71,11 @@ unfolding step text_at hex_at value_at value_line field_of is_hex bytes_of decod
 text-step F r = refl
 
 -- a line with a key of zero bytes, of the suite's length
-key_line : Suite → List ℕ
+key_line : Algorithm → List ℕ
 key_line s = codes "key=" ++ replicate (2 * suite_key_length s) 48
 
 -- the line with a key of zero bytes is read
-key-read : (s : Suite) → field_at s Key (key_line s) ≡ Ok (replicate (suite_key_length s) 0)
+key-read : (s : Algorithm) → field_at s Key (key_line s) ≡ Ok (replicate (suite_key_length s) 0)
 unfolding field_at hex_at value_at value_line field_of is_hex bytes_of decode_pairs key_line
 key-read (Aead ChaCha20Poly1305) = refl
 key-read (Aead Aes128Gcm) = refl
@@ -91,13 +91,13 @@ key-read (WrapPad Bits192) = refl
 key-read (WrapPad Bits256) = refl
 
 -- a line for a field
-record HasLine (s : Suite) (f : Field) : Type 0 where
+record HasLine (s : Algorithm) (f : Field) : Type 0 where
   pub l : List ℕ
   pub bytes : List ℕ
   pub read : field_at s f l ≡ Ok bytes
 
 -- each field has a line
-line_of : (s : Suite) (f : Field) → HasLine s f
+line_of : (s : Algorithm) (f : Field) → HasLine s f
 unfolding field_at hex_at value_at value_line field_of is_hex bytes_of decode_pairs
 line_of s Key = record { l = key_line s; bytes = replicate (suite_key_length s) 0; read = key-read s }
 line_of s Nonce = record { l = codes "nonce=000000000000000000000000"; bytes = replicate 12 0; read = refl }
@@ -144,7 +144,7 @@ record Endable (p : Place) : Type 0 where
   pub ending : Ending p n
 
 -- a record has at most four fields
-four : (s : Suite) → length (fields_of s) ≤ 4
+four : (s : Algorithm) → length (fields_of s) ≤ 4
 four (Aead s) = omega arith
 four (Wrap aes) = omega arith
 four (WrapPad aes) = omega arith

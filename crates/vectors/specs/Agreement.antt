@@ -3,14 +3,14 @@ use Rattle.std.specs.Prelude.{◌≡◌, ℕ, List, length, true, Option, Some, 
 use Rattle.aead.specs.Sealing.{Opened}
 use Rattle.keywrap.specs.Wrapping.{Unwrapped}
 use Rattle.keywrap.specs.Padded.{UnwrappedPadded}
-use Rattle.vectors.specs.declared.suite.Suite.{Suite}
-use Rattle.vectors.specs.declared.suite.Suite.TheVariants.{Aead, Wrap, WrapPad}
+use Rattle.vectors.specs.declared.suite.Algorithm.{Algorithm}
+use Rattle.vectors.specs.declared.suite.Algorithm.TheVariants.{Aead, Wrap, WrapPad}
 use Rattle.vectors.specs.Suites.{suite_key_length, is_aead}
 use Rattle.vectors.specs.Grammar.{Record}
 
 -- the record's sealed bytes are the sealing or the wrapping of the text under a suite, by the record's
 -- key, nonce and associated data
-abbrev pub HoldsBy : Suite → Record → List ℕ → Type 0
+abbrev pub HoldsBy : Algorithm → Record → List ℕ → Type 0
 HoldsBy (Aead suite) r text =
     Opened (record { suite = suite; key = r.key; nonce = r.nonce; aad = r.aad }) r.sealed text
 HoldsBy (Wrap aes) r text = Unwrapped r.key r.sealed text

@@ -11,7 +11,7 @@ use Rattle.vectors.specs.declared.fault.VectorFault.{VectorFault}
 use Rattle.vectors.specs.declared.fault.VectorFault.TheVariants.{BadFormat, BadLine, WrongName, UnknownSuite}
 use Rattle.vectors.specs.declared.fault.VectorFault.TheVariants.{BadHex, BadLength, BadCuts, NoRecords}
 use Rattle.vectors.specs.declared.fault.VectorFault.TheVariants.{Unfinished, OutOfMemory}
-use Rattle.vectors.specs.declared.suite.Suite.{Suite}
+use Rattle.vectors.specs.declared.suite.Algorithm.{Algorithm}
 use Rattle.vectors.specs.declared.suite.Format.{Format}
 use Rattle.vectors.specs.declared.suite.Field.{Field}
 use Rattle.vectors.specs.Suites.{format_named, suite_named, fields_of, field_name, field_length}
@@ -26,7 +26,7 @@ use Rattle.vectors.specs.Grammar.{IsSuiteLine, IsCutsLine, unread, Fills, Format
 pub data Expected : Type 0 where
   format_line : Expected
   suite_line : Format → Expected
-  field_line : Suite → Field → Expected
+  field_line : Algorithm → Field → Expected
   end_line : Expected
   cuts_or_end : ℕ → Expected
   text_line : Expected
@@ -37,14 +37,14 @@ behind_fields format r = if may_cut format r.suite then cuts_or_end (most_cut r)
 
 -- the first lines of a record that isn't ended, and what is expected after them
 pub data Begun (format : Format) : List Line → Expected → Type 0 where
-  some_fields : {suite : Suite} {l : Line} {ms : List Line} {r : Record} {f : Field} {fs : List Field}
+  some_fields : {suite : Algorithm} {l : Line} {ms : List Line} {r : Record} {f : Field} {fs : List Field}
       (gs : List Field)
       → IsSuiteLine format l suite → fields_of suite ≡ fs ++ f ∷ gs → Fills fs (unread suite) ms r
       → Begun format (l ∷ ms) (field_line r.suite f)
-  all_fields : {suite : Suite} {l : Line} {ms : List Line} {r : Record}
+  all_fields : {suite : Algorithm} {l : Line} {ms : List Line} {r : Record}
       → IsSuiteLine format l suite → Fills (fields_of suite) (unread suite) ms r
       → Begun format (l ∷ ms) (behind_fields format r)
-  cuts : {suite : Suite} {l c : Line} {ms : List Line} {r : Record}
+  cuts : {suite : Algorithm} {l c : Line} {ms : List Line} {r : Record}
       → IsSuiteLine format l suite → Fills (fields_of suite) (unread suite) ms r
       → may_cut format r.suite ≡ true → IsCutsLine r c
       → Begun format (l ∷ (ms ++ c ∷ [])) text_line

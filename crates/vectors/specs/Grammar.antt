@@ -5,7 +5,7 @@ use Rattle.std.specs.List.{list_all, position_or_len, before_first, after_first}
 use Rattle.hex.specs.Hex.{decode_of}
 use Rattle.vectors.specs.declared.suite.Format.{Format}
 use Rattle.vectors.specs.declared.suite.Format.TheVariants.{One, Two}
-use Rattle.vectors.specs.declared.suite.Suite.{Suite}
+use Rattle.vectors.specs.declared.suite.Algorithm.{Algorithm}
 use Rattle.vectors.specs.declared.suite.Field.{Field}
 use Rattle.vectors.specs.declared.suite.Field.TheVariants.{Key, Nonce, Aad, Sealed}
 use Rattle.vectors.specs.Suites.{format_named, suite_named, is_aead, fields_of, field_name, field_length}
@@ -15,7 +15,7 @@ use Rattle.vectors.specs.Cuts.{are_cuts}
 -- a record of the file; key wrapping has no nonce and no associated data, and a record that says
 -- `invalid` has no text
 pub record Record : Type 0 where
-  pub suite : Suite
+  pub suite : Algorithm
   pub key : List ℕ
   pub nonce : List ℕ
   pub aad : List ℕ
@@ -69,7 +69,7 @@ has_length None bytes = true
 has_length (Some n) bytes = length bytes == n
 
 -- a value line with a field's name, whose value spells these bytes, as many as the suite asks for
-pub record IsFieldLine (suite : Suite) (field : Field) (line : Line) (bytes : List ℕ) : Type 0 where
+pub record IsFieldLine (suite : Algorithm) (field : Field) (line : Line) (bytes : List ℕ) : Type 0 where
   pub hex : IsHexField line (field_name field) bytes
   pub size : has_length (field_length suite field) bytes ≡ true
 
@@ -80,7 +80,7 @@ pub record IsFormatLine (line : Line) (format : Format) : Type 0 where
   pub known : format_named name ≡ Some format
 
 -- a value line with the name `suite`, whose value names this suite of the format
-pub record IsSuiteLine (format : Format) (line : Line) (suite : Suite) : Type 0 where
+pub record IsSuiteLine (format : Format) (line : Line) (suite : Algorithm) : Type 0 where
   pub name : List ℕ
   pub field : IsField line (codes "suite") name
   pub known : suite_named format name ≡ Some suite
@@ -88,7 +88,7 @@ pub record IsSuiteLine (format : Format) (line : Line) (suite : Suite) : Type 0 
 -- ---- cuts
 
 -- whether a record may have a line of cuts: one of an AEAD suite, in format 2
-abbrev pub may_cut : Format → Suite → Bool
+abbrev pub may_cut : Format → Algorithm → Bool
 may_cut One suite = false
 may_cut Two suite = is_aead suite
 
@@ -105,7 +105,7 @@ pub record IsCutsLine (r : Record) (line : Line) : Type 0 where
 -- ---- records
 
 -- a record of which the suite alone is known
-abbrev pub unread : Suite → Record
+abbrev pub unread : Algorithm → Record
 unread suite = record { suite = suite; key = []; nonce = []; aad = []; sealed = []; text = None }
 
 -- a record with the bytes of one field
@@ -136,7 +136,7 @@ pub data Ends (format : Format) (r : Record) : List Line → Option (List ℕ) �
 
 -- the lines of a record: its suite, the fields of the suite, and its end
 pub data IsRecord (format : Format) : List Line → Record → Type 0 where
-  made : {suite : Suite} {l : Line} {ms es : List Line} {r : Record} {text : Option (List ℕ)}
+  made : {suite : Algorithm} {l : Line} {ms es : List Line} {r : Record} {text : Option (List ℕ)}
       → IsSuiteLine format l suite → Fills (fields_of suite) (unread suite) ms r → Ends format r es text
       → IsRecord format (l ∷ (ms ++ es)) (with_text text r)
 

@@ -6,13 +6,13 @@ ghost use Rattle.aead.specs.Ciphers.{setting};
 ghost use Rattle.aead.specs.Sealing.{Opened};
 ghost use Rattle.keywrap.specs.Wrapping.{Unwrapped};
 ghost use Rattle.keywrap.specs.Padded.{UnwrappedPadded};
-ghost use Rattle.vectors.specs.declared.suite.Suite.TheVariants as suites;
+ghost use Rattle.vectors.specs.declared.suite.Algorithm.TheVariants as suites;
 ghost use Rattle.vectors.specs.Code.Views.{bytes_in, entry_view, text_view};
 ghost use Rattle.vectors.specs.Agreement.{Agrees, IsSized, TextIs};
 
 use crate::digits::Digits;
 use crate::place::Entry;
-use crate::suite::Suite;
+use crate::suite::Algorithm;
 use aead::{Aead, AnyAead, sealing_has_one_text};
 use aes::AesKey;
 use keywrap::{unwrap_in_place, unwrap_padded_in_place};
@@ -135,9 +135,9 @@ pub(crate) fn agrees<A: Allocator>(alloc: &A, entry: &Entry<'_>) -> Result<bool,
     ensures { IfOk result (λ b. IsTrue b ↔ Agrees (entry_view entry.now)) }
 {
     match entry.suite {
-        Suite::Aead(suite) => aead_agrees(alloc, suite, entry),
-        Suite::Wrap(_) => wrapping_agrees(alloc, &aes_key(entry.key), entry.sealed, entry.text),
-        Suite::WrapPad(_) => {
+        Algorithm::Aead(suite) => aead_agrees(alloc, suite, entry),
+        Algorithm::Wrap(_) => wrapping_agrees(alloc, &aes_key(entry.key), entry.sealed, entry.text),
+        Algorithm::WrapPad(_) => {
             padded_wrapping_agrees(alloc, &aes_key(entry.key), entry.sealed, entry.text)
         }
     }

@@ -11,12 +11,12 @@ use crate::cuts::are_cuts;
 use crate::digits::Digits;
 use crate::fault::Cause;
 use crate::field::{is_gap, value_line};
-use crate::suite::{Field, Format, Suite};
+use crate::suite::{Algorithm, Field, Format};
 
 // A record as the file writes it, or what was read of it.
 #[derive(Clone, Copy)]
 pub(crate) struct Entry<'a> {
-    pub suite: Suite,
+    pub suite: Algorithm,
     pub key: Digits<'a>,
     pub nonce: Digits<'a>,
     pub aad: Digits<'a>,
@@ -26,7 +26,7 @@ pub(crate) struct Entry<'a> {
 
 impl<'a> Entry<'a> {
     // A record of which the suite alone was read.
-    fn unread(suite: Suite) -> Entry<'a>
+    fn unread(suite: Algorithm) -> Entry<'a>
         ensures { entry_view result ≡ unread suite }
     {
         let none = Digits::none();
@@ -139,7 +139,7 @@ fn hex_at<'a>(name: &[u8], line: &'a [u8]) -> Result<Digits<'a>, Cause>
 
 // The digits of a field.
 #[tactic(auto, unfolding(crate::specs::Code::Steps::field_at))]
-fn field_at<'a>(suite: Suite, field: Field, line: &'a [u8]) -> Result<Digits<'a>, Cause>
+fn field_at<'a>(suite: Algorithm, field: Field, line: &'a [u8]) -> Result<Digits<'a>, Cause>
     ensures { Gives bytes_in result (field_at suite field line.entry.now) }
 {
     let digits = hex_at(field.name(), line)?;
@@ -174,11 +174,11 @@ fn format_at(line: &[u8]) -> Result<Format, Cause>
 
 // The suite that a line names.
 #[tactic(auto, unfolding(crate::specs::Code::Steps::suite_at))]
-fn suite_at(format: Format, line: &[u8]) -> Result<Suite, Cause>
+fn suite_at(format: Format, line: &[u8]) -> Result<Algorithm, Cause>
     ensures { Gives (λ s. s) result (suite_at format line.now) }
 {
     let name = value_at(b"suite", line)?;
-    Suite::named(format, name).ok_or(Cause::UnknownSuite)
+    Algorithm::named(format, name).ok_or(Cause::UnknownSuite)
 }
 
 // Whether a value line has this name.
@@ -192,7 +192,7 @@ fn is_named(name: &[u8], line: &[u8]) -> bool
 }
 
 // Whether a record may have a line of cuts.
-fn may_cut(format: Format, suite: Suite) -> bool
+fn may_cut(format: Format, suite: Algorithm) -> bool
     ensures { result ≡ may_cut format suite }
 {
     match format {

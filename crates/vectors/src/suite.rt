@@ -23,7 +23,7 @@ pub(crate) enum Aes {
 
 // The algorithm that a record's bytes are sealed or wrapped by.
 #[derive(Clone, Copy, Debug, PartialEq, Eq)]
-pub(crate) enum Suite {
+pub(crate) enum Algorithm {
     Aead(aead::Suite),
     // Key wrapping.
     Wrap(Aes),
@@ -45,24 +45,24 @@ const AEAD_FIELDS: [Field; 4] = [Field::Key, Field::Nonce, Field::Aad, Field::Se
 const WRAP_FIELDS: [Field; 2] = [Field::Key, Field::Sealed];
 
 // The suites of both formats, and then those of format 2.
-const SUITES: [Suite; 12] = [
-    Suite::Aead(aead::Suite::ChaCha20Poly1305),
-    Suite::Aead(aead::Suite::Aes128Gcm),
-    Suite::Aead(aead::Suite::Aes192Gcm),
-    Suite::Aead(aead::Suite::Aes256Gcm),
-    Suite::Aead(aead::Suite::Aes128GcmSiv),
-    Suite::Aead(aead::Suite::Aes256GcmSiv),
-    Suite::Wrap(Aes::Bits128),
-    Suite::Wrap(Aes::Bits192),
-    Suite::Wrap(Aes::Bits256),
-    Suite::WrapPad(Aes::Bits128),
-    Suite::WrapPad(Aes::Bits192),
-    Suite::WrapPad(Aes::Bits256),
+const SUITES: [Algorithm; 12] = [
+    Algorithm::Aead(aead::Suite::ChaCha20Poly1305),
+    Algorithm::Aead(aead::Suite::Aes128Gcm),
+    Algorithm::Aead(aead::Suite::Aes192Gcm),
+    Algorithm::Aead(aead::Suite::Aes256Gcm),
+    Algorithm::Aead(aead::Suite::Aes128GcmSiv),
+    Algorithm::Aead(aead::Suite::Aes256GcmSiv),
+    Algorithm::Wrap(Aes::Bits128),
+    Algorithm::Wrap(Aes::Bits192),
+    Algorithm::Wrap(Aes::Bits256),
+    Algorithm::WrapPad(Aes::Bits128),
+    Algorithm::WrapPad(Aes::Bits192),
+    Algorithm::WrapPad(Aes::Bits256),
 ];
 
 impl Format {
     // The suites of the format.
-    fn suites(self) -> &'static [Suite]
+    fn suites(self) -> &'static [Algorithm]
         ensures { result.now ≡ suites self }
     {
         match self {
@@ -113,16 +113,16 @@ impl Aes {
 }
 
 // The first of some suites that has that name.
-fn first_named(suites: &[Suite], name: &[u8]) -> Option<Suite>
+fn first_named(suites: &[Algorithm], name: &[u8]) -> Option<Algorithm>
     ensures { result ≡ find (λ s. bytes_eq name.now (suite_name s)) suites.now }
 {
     suites.iter().copied().find(|suite| suite.is_named(name))
 }
 
-impl Suite {
+impl Algorithm {
     /// The suite of a format with that name.
     #[tactic(auto, unfolding(crate::specs::Suites::suite_named))]
-    pub fn named(format: Format, name: &[u8]) -> Option<Suite>
+    pub fn named(format: Format, name: &[u8]) -> Option<Algorithm>
         ensures { result ≡ suite_named format name.now }
     {
         first_named(format.suites(), name)
@@ -140,13 +140,13 @@ impl Suite {
         ensures { result.now ≡ suite_name self }
     {
         match self {
-            Suite::Aead(suite) => suite.name().as_bytes(),
-            Suite::Wrap(Aes::Bits128) => b"aes-128-wrap".as_slice(),
-            Suite::Wrap(Aes::Bits192) => b"aes-192-wrap".as_slice(),
-            Suite::Wrap(Aes::Bits256) => b"aes-256-wrap".as_slice(),
-            Suite::WrapPad(Aes::Bits128) => b"aes-128-wrap-pad".as_slice(),
-            Suite::WrapPad(Aes::Bits192) => b"aes-192-wrap-pad".as_slice(),
-            Suite::WrapPad(Aes::Bits256) => b"aes-256-wrap-pad".as_slice(),
+            Algorithm::Aead(suite) => suite.name().as_bytes(),
+            Algorithm::Wrap(Aes::Bits128) => b"aes-128-wrap".as_slice(),
+            Algorithm::Wrap(Aes::Bits192) => b"aes-192-wrap".as_slice(),
+            Algorithm::Wrap(Aes::Bits256) => b"aes-256-wrap".as_slice(),
+            Algorithm::WrapPad(Aes::Bits128) => b"aes-128-wrap-pad".as_slice(),
+            Algorithm::WrapPad(Aes::Bits192) => b"aes-192-wrap-pad".as_slice(),
+            Algorithm::WrapPad(Aes::Bits256) => b"aes-256-wrap-pad".as_slice(),
         }
     }
 
@@ -155,8 +155,8 @@ impl Suite {
         ensures { result ≡ suite_key_length self }
     {
         match self {
-            Suite::Aead(suite) => suite.key_length(),
-            Suite::Wrap(aes) | Suite::WrapPad(aes) => aes.key_length(),
+            Algorithm::Aead(suite) => suite.key_length(),
+            Algorithm::Wrap(aes) | Algorithm::WrapPad(aes) => aes.key_length(),
         }
     }
 
@@ -164,7 +164,7 @@ impl Suite {
     pub fn is_aead(self) -> bool
         ensures { result ≡ is_aead self }
     {
-        matches!(self, Suite::Aead(_))
+        matches!(self, Algorithm::Aead(_))
     }
 
     /// The fields of a record, in the order of their lines.
@@ -172,8 +172,8 @@ impl Suite {
         ensures { result.now ≡ fields_of self }
     {
         match self {
-            Suite::Aead(_) => &AEAD_FIELDS,
-            Suite::Wrap(_) | Suite::WrapPad(_) => &WRAP_FIELDS,
+            Algorithm::Aead(_) => &AEAD_FIELDS,
+            Algorithm::Wrap(_) | Algorithm::WrapPad(_) => &WRAP_FIELDS,
         }
     }
 

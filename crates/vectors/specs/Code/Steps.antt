@@ -6,7 +6,7 @@ use Rattle.vectors.specs.declared.fault.Cause.{Cause}
 use Rattle.vectors.specs.declared.fault.Cause.TheVariants.{BadFormat, BadLine, WrongName, UnknownSuite}
 use Rattle.vectors.specs.declared.fault.Cause.TheVariants.{BadHex, BadLength, BadCuts}
 use Rattle.vectors.specs.declared.suite.Format.{Format}
-use Rattle.vectors.specs.declared.suite.Suite.{Suite}
+use Rattle.vectors.specs.declared.suite.Algorithm.{Algorithm}
 use Rattle.vectors.specs.declared.suite.Field.{Field}
 use Rattle.vectors.specs.Suites.{format_named, suite_named, fields_of, field_name, field_length}
 use Rattle.vectors.specs.Cuts.{are_cuts}
@@ -34,7 +34,7 @@ hex_at name line = do
   if is_hex digits then Ok (bytes_of digits) else Err BadHex
 
 -- the bytes of a field
-unfoldable pub field_at : Suite → Field → List ℕ → Result (List ℕ) Cause
+unfoldable pub field_at : Algorithm → Field → List ℕ → Result (List ℕ) Cause
 field_at suite field line = do
   bytes ← hex_at (field_name field) line
   if has_length (field_length suite field) bytes then Ok bytes else Err BadLength
@@ -53,7 +53,7 @@ format_of (Some f) = if bytes_eq f.0 (codes "format") then ok_or BadFormat (form
 unfoldable pub format_at : List ℕ → Result Format Cause
 format_at line = format_of (value_line line)
 
-unfoldable pub suite_at : Format → List ℕ → Result Suite Cause
+unfoldable pub suite_at : Format → List ℕ → Result Algorithm Cause
 suite_at format line = do
   name ← value_at (codes "suite") line
   ok_or UnknownSuite (suite_named format name)

@@ -7,4 +7,4 @@ pub returns-clause-found : goal.returns-clause-found
 returns-clause-found g c =
     found (λ v. v.items) c.sealing_has_one_text.ensures
     (setting (keyed_of c.args.cipher.now) c.args.nonce.now c.args.aad.now) c.args.sealed.now
-    c.open_by.result c.open_by.ensures
+    c.opened_text.result c.opened_text.ensures

@@ -3,7 +3,7 @@ use Rattle.std.specs.Prelude.{◌↔◌, IfOk, IsTrue}
 use Rattle.aead.specs.AnyCiphers.{keyed_of}
 use Rattle.aead.specs.Ciphers.{setting}
 use Rattle.aead.specs.Sealing.{Setting, Opened}
-use Rattle.vectors.specs.declared.suite.Suite.TheVariants.{Aead}
+use Rattle.vectors.specs.declared.suite.Algorithm.TheVariants.{Aead}
 use Rattle.vectors.specs.Code.Views.{entry_view}
 use Rattle.vectors.specs.Agreement.{TextIs}
 use Rattle.vectors.proofs.AgreeLemmas.{held_agrees}

@@ -2,7 +2,7 @@ use Rattle.std.proofs.Common.{List, ℕ, subst}
 use Rattle.std.specs.Prelude.{◌↔◌, IfOk, IsTrue}
 use Rattle.keywrap.specs.Wrapping.{Unwrapped}
 use Rattle.keywrap.specs.Padded.{UnwrappedPadded}
-use Rattle.vectors.specs.declared.suite.Suite.TheVariants.{Wrap, WrapPad}
+use Rattle.vectors.specs.declared.suite.Algorithm.TheVariants.{Wrap, WrapPad}
 use Rattle.vectors.specs.Code.Views.{entry_view}
 use Rattle.vectors.specs.Agreement.{TextIs}
 use Rattle.vectors.proofs.AgreeLemmas.{held_agrees}

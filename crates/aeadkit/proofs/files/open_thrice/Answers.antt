@@ -4,7 +4,7 @@ use Rattle.aead.specs.AnyCiphers.{keyed_of}
 use Rattle.aead.specs.Verdict.{FailureCounts, counted}
 use Rattle.aeadkit.proofs.BlamesLemmas.{open_blames}
 use Rattle.aeadkit.proofs.FilesLemmas.{opened_thrice}
-use Rattle.aeadkit.proofs.files.open_by.Goals as goal
+use Rattle.aeadkit.proofs.files.open_thrice.Goals as goal
 
 pub returns-clause-ran : goal.returns-clause-ran
 returns-clause-ran g c =
