@@ -1,11 +1,10 @@
 -- The steps of the stream opener over a reading whose bytes are known.
-use Rattle.std.proofs.Common.{◌≡◌, ℕ, List, [], ◌≤◌, ◌-◌, ◌⊎◌, inl, inr, length, ap, Option, Some, None}
+use Rattle.std.proofs.Common.{◌≡◌, ℕ, List, [], ◌≤◌, ◌-◌, inl, inr, length, ap, Option, Some, None}
 use Rattle.std.proofs.Common.{Result, Err, IfSome}
 use Rattle.octets.specs.declared.fault.Fault.{Fault}
-use Rattle.octets.specs.declared.fault.Fault.TheVariants.{Read, Write}
-use Rattle.octets.specs.Device.{Failed}
 use Rattle.aead.specs.declared.engine.passes.Finding.{Finding}
 use Rattle.aead.specs.Sealing.{Setting}
+use Rattle.aead.specs.Refusals.{DueToBoth}
 use Rattle.aead.specs.Code.Maskings.{message_task}
 use Rattle.aead.specs.Code.Passes.{Stopped}
 use Rattle.aead.specs.Code.Findings.{HasPassedReading}
@@ -34,10 +33,13 @@ write_known s tag len (Some v) l' o o' f read read' wrote wrote' r size low w e 
 pub write_stopped : (s : Setting) (tag : List ℕ) (len : ℕ) (l l' o o' : Option (List ℕ))
     (read read' wrote wrote' : ℕ) (f : Fault) →
     Stopped (message_task s tag) [] (len - 16) l l' o o'
-    → ((f ≡ Read) × Failed read read' × (wrote' ≡ wrote))
-    ⊎ ((f ≡ Write) × (read' ≡ read) × Failed wrote wrote') →
+    → DueToBoth {T = ℕ} [] read read' wrote wrote' (Err f) →
     IfSome l (λ w. WriteReturns s tag len w o o' read read' wrote wrote' (Err f))
 write_stopped s tag len None l' o o' read read' wrote wrote' f w blame = tt
 write_stopped s tag len (Some v) l' o o' read read' wrote wrote' f w blame =
     let k = stopped_given s tag (len - 16) v l' o o' w in
-    inr (k.0, k.1, elim blame [ inl b ↦ inl (ap Err b.0, b.1) | inr b ↦ inr (ap Err b.0, b.2) ])
+    inr (
+      k.0,
+      k.1,
+      elim blame [ inl b ↦ absurd b.0 | inr (inl b) ↦ inl (ap Err b.0, b.1) | inr (inr b) ↦ inr (ap Err b.0, b.1) ],
+    )

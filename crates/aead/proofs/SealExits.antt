@@ -7,13 +7,14 @@ use Rattle.std.proofs.lemmas.List.{take_all, take-append-le, take-take}
 use Rattle.std.proofs.Math.Seq.{take-append-add}
 use Rattle.std.specs.Io.KnownBytes.{Appends}
 use Rattle.octets.specs.declared.fault.Fault.{Fault}
-use Rattle.octets.specs.declared.fault.Fault.TheVariants.{Read, Write, TextTooLong, AadTooLong}
+use Rattle.octets.specs.declared.fault.Fault.TheVariants.{Write, TextTooLong, AadTooLong}
 use Rattle.octets.specs.Device.{Failed}
 use Rattle.octets.specs.Masked.{masked}
 use Rattle.octets.proofs.Devices.{appends_none, appends_more}
 use Rattle.octets.proofs.Masks.{length-masked, take-masked}
 use Rattle.aead.specs.Suites.{construction_of, is_one_pass, text_limit, aad_limit}
 use Rattle.aead.specs.Sealing.{Setting, mask_of, tag_of, sealing}
+use Rattle.aead.specs.Refusals.{DueToBoth}
 use Rattle.aead.specs.Code.Maskings.{Task, message_task}
 use Rattle.aead.specs.Code.Passes.{Stopped}
 use Rattle.aead.specs.Code.Extents.{HasPassedAll}
@@ -107,8 +108,7 @@ pub exit_stopped : (l l' o o' : Option (List ℕ)) (s : Setting) (limit read rea
     (f : Fault) → limit ≡ text_limit s.suite
     → is_one_pass (construction_of s.suite) ≡ true → length s.aad ≤ aad_limit s.suite
     → Stopped (message_task s []) [] limit l l' o o'
-    → ((f ≡ Read) × Failed read read' × (wrote' ≡ wrote))
-    ⊎ ((f ≡ Write) × (read' ≡ read) × Failed wrote wrote')
+    → DueToBoth {T = ℕ} [] read read' wrote wrote' (Err f)
     → IfTextKnown l o o' (λ x given. SealsStream s x given read read' wrote wrote' (Err f))
 exit_stopped l l' o o' s limit read read' wrote wrote' f same one fits stop blame =
     if_text_known l o o' _ _ (told l (λ m. Stopped (message_task s []) [] limit m l' o o') stop) (λ x st.
@@ -119,7 +119,7 @@ exit_stopped l l' o o' s limit read read' wrote wrote' f same one fits stop blam
         early = λ past. absurd (omega (arith, past, fits));
         beginning = (k.0, begun s x k.0 one k.1 (omega (arith, k.2, same)));
         whole = λ e. absurd (cc);
-        answer = elim blame [ inl b ↦ inr (inl (ap Err b.0, b.1)) | inr b ↦ inr (inr (ap Err b.0, b.2)) ];
+        answer = elim blame [ inl b ↦ absurd b.0 | inr (inl b) ↦ inr (inl (ap Err b.0, b.1)) | inr (inr b) ↦ inr (inr (ap Err b.0, b.1)) ];
       },
     ))
 

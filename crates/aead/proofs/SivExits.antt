@@ -17,7 +17,7 @@ use Rattle.octets.proofs.Masks.{take-masked}
 use Rattle.aead.specs.declared.authenticator.Authenticator.{Authenticator}
 use Rattle.aead.specs.Suites.{text_limit, aad_limit}
 use Rattle.aead.specs.Sealing.{Setting, Fits, mask_of, tag_of}
-use Rattle.aead.specs.Refusals.{SealRefused}
+use Rattle.aead.specs.Refusals.{SealRefused, DueToReading, DueToBoth}
 use Rattle.aead.specs.Pieces.{Repeats}
 use Rattle.aead.specs.Code.States.{HoldsAuthenticator}
 use Rattle.aead.specs.Code.Maskings.{Task, repeating_task}
@@ -54,8 +54,7 @@ whole_again holds s a b len n l' o o' k same w =
 pub again_stopped : (s : Setting) (a b : List ℕ) (len read read' wrote wrote' : ℕ)
     (l' o o' : Option (List ℕ)) (f : Fault) → len ≡ length a
     → Stopped (repeating_task s a) [] len (Some b) l' o o'
-    → ((f ≡ Read) × Failed read read' × (wrote' ≡ wrote))
-    ⊎ ((f ≡ Write) × (read' ≡ read) × Failed wrote wrote')
+    → DueToBoth {T = ℕ} [] read read' wrote wrote' (Err f)
     → WritesAgain s a b o o' read read' wrote wrote' (Err f)
 again_stopped s a b len read read' wrote wrote' l' o o' f same stop blame =
     let m : ℕ → ℕ = mask_of s (tag_of s a) in
@@ -68,7 +67,7 @@ again_stopped s a b len read read' wrote wrote' l' o o' f same stop blame =
     inr (inr (inl (
       k.0,
       subst P front k.3,
-      elim blame [ inl x ↦ inl (ap Err x.0, x.1) | inr x ↦ inr (ap Err x.0, x.2) ],
+      elim blame [ inl x ↦ absurd x.0 | inr (inl x) ↦ inl (ap Err x.0, x.1) | inr (inr x) ↦ inr (ap Err x.0, x.1) ],
     )))
 
 -- it is longer than the first one
@@ -192,11 +191,13 @@ exit_refused la lb o s before f h =
     ))
 
 pub exit_first : (la lb o : Option (List ℕ)) (s : Setting) (x x' y z : ℕ) (f : Fault)
-    → (f ≡ Read) × Failed x x'
+    → DueToReading {T = Bool} [] x x' (Err f)
     → IfBothKnown la lb o o
     (λ a b given. SealsSivStream s a b given (record { first = x; second = y; outlet = z })
     (record { first = x'; second = y; outlet = z }) (Err f))
-exit_first la lb o s x x' y z f failed =
+exit_first la lb o s x x' y z f due =
+    let failed : (f ≡ Read) × Failed x x' =
+    elim due [ inl b ↦ absurd b.0 | inr (inl b) ↦ b | inr (inr b) ↦ absurd b.1 ] in
     if_both_known la lb o o (λ _. Unit {0}) (λ _. Unit {0}) _ (any_bytes la) (any_bytes lb)
     (λ a b _ _. (
       [],

@@ -3,6 +3,7 @@ use Rattle.std.specs.Prelude.{◌≡◌, ℕ, ◌+◌, ◌<◌, ◌≤◌, ◌�
 use Rattle.octets.specs.declared.fault.Fault.{Fault}
 use Rattle.octets.specs.declared.fault.Fault.TheVariants.{TextTooLong, AadTooLong, TooShort, TagMismatch}
 use Rattle.octets.specs.declared.fault.Fault.TheVariants.{OutOfMemory, Read, Write}
+use Rattle.octets.specs.Device.{Failed}
 use Rattle.aead.specs.Suites.{text_limit, aad_limit}
 use Rattle.aead.specs.Sealing.{Setting, Fits, IsNoSealing}
 
@@ -49,3 +50,12 @@ abbrev pub DueTo : {T : Type 0} (own : List Fault) (none reading outlet : Type 0
 DueTo own none reading outlet r =
     MatchResult r (λ _. none)
     (λ f. (IsOneOf own f × none) ⊎ ((f ≡ Read) × reading) ⊎ ((f ≡ Write) × outlet))
+
+-- of a call over one reading, by its counts of failures before and after
+abbrev pub DueToReading : {T : Type 0} → List Fault → ℕ → ℕ → Result T Fault → Type 0
+DueToReading own read read' r = DueTo own (read' ≡ read) (Failed read read') ⊥ r
+
+-- of a call over a reading and an outlet
+abbrev pub DueToBoth : {T : Type 0} → List Fault → ℕ → ℕ → ℕ → ℕ → Result T Fault → Type 0
+DueToBoth own read read' wrote wrote' r =
+    DueTo own ((read' ≡ read) × (wrote' ≡ wrote)) (Failed read read') (Failed wrote wrote') r

@@ -8,7 +8,7 @@ use Rattle.octets.specs.Device.{Failed}
 use Rattle.octets.specs.Masked.{masked}
 use Rattle.aead.specs.Suites.{text_limit, aad_limit}
 use Rattle.aead.specs.Sealing.{Setting, Fits, mask_of, tag_of, sealing}
-use Rattle.aead.specs.Refusals.{SealRefused, DueTo}
+use Rattle.aead.specs.Refusals.{SealRefused}
 use Rattle.aead.specs.Verdict.{IsBeginning}
 
 -- the bytes that may be given of a text whose tag is over the ciphertext: its sealing, or if the text is past the
@@ -42,8 +42,3 @@ abbrev pub IfTextKnown : Option (List ℕ) → Option (List ℕ) → Option (Lis
 IfTextKnown text taken taken' P =
     IfSome text (λ x. IfSome taken
     (λ before. (given : List ℕ) × Appends (Some before) taken' given × P x given))
-
--- a call's fault is the reading's or the outlet's, which failed, or one of its own
-abbrev pub GiveBlames : {T : Type 0} → List Fault → ℕ → ℕ → ℕ → ℕ → Result T Fault → Type 0
-GiveBlames own read read' wrote wrote' r =
-    DueTo own ((read' ≡ read) × (wrote' ≡ wrote)) (Failed read read') (Failed wrote wrote') r

@@ -7,8 +7,7 @@ use Rattle.octets.specs.declared.fault.Fault.{Fault}
 use Rattle.octets.specs.declared.fault.Fault.TheVariants.{Read, Write, OutOfMemory, AadTooLong, TextTooLong}
 use Rattle.octets.specs.declared.fault.Fault.TheVariants.{TooShort, TagMismatch, SourceChanged}
 use Rattle.octets.specs.Device.{Failed}
-use Rattle.aead.specs.Refusals.{IsOneOf, DueTo}
-use Rattle.aead.specs.SealStream.{GiveBlames}
+use Rattle.aead.specs.Refusals.{IsOneOf, DueTo, DueToBoth}
 use Rattle.aead.specs.SealSivStream.{SivCounts, SivBlames}
 use Rattle.aead.specs.Verdict.{BlamesRightly, counted}
 use Rattle.aeadkit.specs.declared.failure.Failure.{Failure}
@@ -50,7 +49,7 @@ due_blames own none reading output input (Err f) clean to h = (
 -- sealing in one reading
 pub seal_blames : {D : Type 0} (may_fail : ℕ → Bool) (failures : D → ℕ) (text text' : D) (wrote wrote' : ℕ)
     (r : Result (Unit {0}) Fault)
-    → GiveBlames (AadTooLong ∷ TextTooLong ∷ []) (failures text) (failures text') wrote wrote' r
+    → DueToBoth (AadTooLong ∷ TextTooLong ∷ []) (failures text) (failures text') wrote wrote' r
     → Blames (λ f. f) (InputFailed may_fail failures) (Failed wrote wrote') r
 seal_blames may_fail failures text text' wrote wrote' r h =
     due_blames (AadTooLong ∷ TextTooLong ∷ []) ((failures text' ≡ failures text) × (wrote' ≡ wrote))

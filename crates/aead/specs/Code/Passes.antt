@@ -1,10 +1,8 @@
 -- The state after a pass over a reading.
-use Rattle.std.specs.Prelude.{◌≡◌, ℕ, ◌≤◌, ◌<◌, ◌⊎◌, List, ◌++◌, length, take, get_or, Option, Result}
+use Rattle.std.specs.Prelude.{◌≡◌, ℕ, ◌≤◌, ◌<◌, List, ◌++◌, length, take, get_or, Option, Result}
 use Rattle.std.specs.Prelude.{MatchResult}
 use Rattle.std.specs.Io.KnownBytes.{Consumes, Appends, IsAtEnd}
 use Rattle.octets.specs.declared.fault.Fault.{Fault}
-use Rattle.octets.specs.declared.fault.Fault.TheVariants.{Read, Write}
-use Rattle.octets.specs.Device.{Failed}
 use Rattle.octets.specs.Masked.{masked}
 use Rattle.aead.specs.Code.Maskings.{Task, task_mask}
 
@@ -40,14 +38,3 @@ abbrev pub Passed : {M : Type 0} → (M → Task → List ℕ → Type 0) → Ta
 Passed holds t fed room left left' taken taken' after r =
     MatchResult r (λ n. HasFilledRoom holds t fed room left left' taken taken' after n)
     (λ _. Stopped t fed room left left' taken taken')
-
--- the fault names the one device that failed
-abbrev pub Blames : {T : Type 0} → ℕ → ℕ → ℕ → ℕ → Result T Fault → Type 0
-Blames read read' wrote wrote' r =
-    MatchResult r (λ _. (read' ≡ read) × (wrote' ≡ wrote))
-    (λ f. ((f ≡ Read) × Failed read read' × (wrote' ≡ wrote))
-    ⊎ ((f ≡ Write) × (read' ≡ read) × Failed wrote wrote'))
-
--- the fault is the reading's
-abbrev pub BlamesReading : {T : Type 0} → ℕ → ℕ → Result T Fault → Type 0
-BlamesReading read read' r = MatchResult r (λ _. read' ≡ read) (λ f. (f ≡ Read) × Failed read read')

@@ -12,7 +12,6 @@ use Rattle.aead.specs.declared.engine.passes.Finding.{Finding}
 use Rattle.aead.specs.declared.engine.passes.Finding.TheVariants.{Differs, Unsealed, Sealed}
 use Rattle.aead.specs.Sealing.{Setting, mask_of}
 use Rattle.aead.specs.Measure.{last_16}
-use Rattle.aead.specs.Refusals.{DueTo}
 use Rattle.aead.specs.Code.Findings.{IsFinding}
 
 abbrev pub MeasureReturns : ℕ → List ℕ → ℕ → ℕ → Result Measured Fault → Type 0
@@ -47,7 +46,3 @@ WriteReturns s tag len w taken taken' read read' wrote wrote' r =
     × ((f : Finding) × (r ≡ write_answer f) × IsFinding s tag len w f × (read' ≡ read) × (wrote' ≡ wrote)))
     ⊎ ((k : ℕ) × Appends taken taken' (take k (masked (mask_of s tag) 0 (take (len - 16) w)))
     × (((r ≡ Err Read) × Failed read read') ⊎ ((r ≡ Err Write) × Failed wrote wrote')))
-
--- a step's fault is the reading's, which failed, or one of the step's own
-abbrev pub StepBlames : {T : Type 0} → List Fault → ℕ → ℕ → Result T Fault → Type 0
-StepBlames own read read' r = DueTo own (read' ≡ read) (Failed read read') ⊥ r

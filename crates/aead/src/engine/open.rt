@@ -1,14 +1,13 @@
 // The stream opener.
 
 ghost use Rattle.std.specs.Prelude.{◌≡◌, ◌↔◌, ℕ, ◌+◌, ◌<◌, ◌≤◌, ◌∷◌, [], length, None, IfSome, IfOk};
+ghost use Rattle.aead.specs.Refusals.{DueToReading, DueToBoth};
 ghost use Rattle.aead.specs.Suites.{text_limit, aad_limit};
 ghost use Rattle.aead.specs.Ciphers.{setting};
 ghost use Rattle.aead.specs.AnyCiphers.{keyed_of};
 ghost use Rattle.aead.specs.Verdict.{IfAllKnown, OpensStream, BlamesRightly, counted};
-ghost use Rattle.aead.specs.SealStream.{GiveBlames};
-ghost use Rattle.aead.specs.Code.Returns.{MeasureReturns, VerifyReturns, WriteReturns, StepBlames, verify_answer};
+ghost use Rattle.aead.specs.Code.Returns.{MeasureReturns, VerifyReturns, WriteReturns, verify_answer};
 ghost use Rattle.aead.specs.Code.Returns.{write_answer};
-ghost use Rattle.aead.specs.Code.Passes.{BlamesReading};
 ghost use Rattle.aead.specs.Code.Findings.{PassedWhole};
 
 use crate::aead::Aead;
@@ -38,7 +37,7 @@ impl Outlet for Discard {
 // The first step: the measured length and tag.
 fn measure_step<I: Intake>(suite: Suite, intake: &mut I) -> Result<Measured, Fault>
     ensures high { IfOk result (λ m. m.length ≤ text_limit suite + 16) }
-    ensures blame { StepBlames (Fault.TextTooLong ∷ Fault.TooShort ∷ []) (I.failures intake.old)
+    ensures blame { DueToReading (Fault.TextTooLong ∷ Fault.TooShort ∷ []) (I.failures intake.old)
         (I.failures intake.new) result }
     ensures known { IfSome (I.left intake.old)
         (λ m. MeasureReturns (text_limit suite) m (I.failures intake.old) (I.failures intake.new) result) }
@@ -79,7 +78,7 @@ fn verify_reading<I: Intake>(
     requires high { measured.now.length ≤ text_limit (keyed_of cipher.now).suite + 16 }
     ensures passed { PassedWhole (setting (keyed_of cipher.now) nonce.now aad.now)
         measured.now.tag measured.now.length (I.left intake.old) (I.left intake.new) None None result }
-    ensures blame { BlamesReading (I.failures intake.old) (I.failures intake.new) result }
+    ensures blame { DueToReading [] (I.failures intake.old) (I.failures intake.new) result }
 {
     match cipher {
         AnyAead::OnePass(cipher) => verify_one_pass(cipher, nonce, aad, intake, measured),
@@ -109,7 +108,7 @@ fn verify_step<I: Intake>(
 ) -> Result<(), Fault>
     requires aad_fits { length aad.now ≤ aad_limit (keyed_of cipher.now).suite }
     requires high { measured.now.length ≤ text_limit (keyed_of cipher.now).suite + 16 }
-    ensures blame { StepBlames (Fault.TagMismatch ∷ Fault.SourceChanged ∷ []) (I.failures intake.old)
+    ensures blame { DueToReading (Fault.TagMismatch ∷ Fault.SourceChanged ∷ []) (I.failures intake.old)
         (I.failures intake.new) result }
     ensures known { IfSome (I.left intake.old)
         (λ v. VerifyReturns (setting (keyed_of cipher.now) nonce.now aad.now)
@@ -132,7 +131,7 @@ fn write_step<I: Intake, O: Outlet>(
 ) -> Result<(), Fault>
     requires aad_fits { length aad.now ≤ aad_limit (keyed_of cipher.now).suite }
     requires high { measured.now.length ≤ text_limit (keyed_of cipher.now).suite + 16 }
-    ensures blame { GiveBlames (Fault.SourceChanged ∷ []) (I.failures intake.old) (I.failures intake.new)
+    ensures blame { DueToBoth (Fault.SourceChanged ∷ []) (I.failures intake.old) (I.failures intake.new)
         (O.failures outlet.old) (O.failures outlet.new) result }
     ensures known { IfSome (I.left intake.old)
         (λ w. WriteReturns (setting (keyed_of cipher.now) nonce.now aad.now)

@@ -1,10 +1,10 @@
 // A whole reading, opened as it goes.
 
-ghost use Rattle.std.specs.Prelude.{◌+◌, ◌≤◌, length};
+ghost use Rattle.std.specs.Prelude.{◌+◌, ◌≤◌, [], length};
+ghost use Rattle.aead.specs.Refusals.{DueToBoth};
 ghost use Rattle.aead.specs.Suites.{text_limit, aad_limit};
 ghost use Rattle.aead.specs.Ciphers.{setting};
 ghost use Rattle.aead.specs.AnyCiphers.{keyed_of};
-ghost use Rattle.aead.specs.Code.Passes.{Blames};
 ghost use Rattle.aead.specs.Code.Findings.{PassedWhole};
 
 use crate::any::{AnyAead, AnyOnePass};
@@ -30,7 +30,7 @@ fn pass_hash_first<N: MaskThenHash, I: Intake, O: Outlet>(
     ensures passed { PassedWhole (setting (N.keyed nonced.now) (N.nonce nonced.now) aad.now)
         measured.now.tag measured.now.length (I.left intake.old) (I.left intake.new)
         (O.taken outlet.old) (O.taken outlet.new) result }
-    ensures blame { Blames (I.failures intake.old) (I.failures intake.new) (O.failures outlet.old)
+    ensures blame { DueToBoth [] (I.failures intake.old) (I.failures intake.new) (O.failures outlet.old)
         (O.failures outlet.new) result }
 {
     let opening = masking(nonced, nonced.mask(), aad, HashFirst);
@@ -50,7 +50,7 @@ fn pass_mask_first<N: HashThenMask, I: Intake, O: Outlet>(
     ensures passed { PassedWhole (setting (N.keyed nonced.now) (N.nonce nonced.now) aad.now)
         measured.now.tag measured.now.length (I.left intake.old) (I.left intake.new)
         (O.taken outlet.old) (O.taken outlet.new) result }
-    ensures blame { Blames (I.failures intake.old) (I.failures intake.new) (O.failures outlet.old)
+    ensures blame { DueToBoth [] (I.failures intake.old) (I.failures intake.new) (O.failures outlet.old)
         (O.failures outlet.new) result }
 {
     let opening = masking(nonced, nonced.mask(&measured.tag), aad, MaskFirst);
@@ -71,7 +71,7 @@ pub(crate) fn pass_opening<M: Keyed128, I: Intake, O: Outlet>(
     ensures passed { PassedWhole (setting (keyed_of cipher.now) nonce.now aad.now)
         measured.now.tag measured.now.length (I.left intake.old) (I.left intake.new)
         (O.taken outlet.old) (O.taken outlet.new) result }
-    ensures blame { Blames (I.failures intake.old) (I.failures intake.new) (O.failures outlet.old)
+    ensures blame { DueToBoth [] (I.failures intake.old) (I.failures intake.new) (O.failures outlet.old)
         (O.failures outlet.new) result }
 {
     match cipher {

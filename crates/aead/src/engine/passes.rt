@@ -1,10 +1,11 @@
 // One pass over a reading: each piece is masked, authenticated and given.
 
 ghost use Rattle.std.specs.Prelude.{◌≡◌, ℕ, ◌+◌, ◌≤◌, List, [], length, Option, IfOk};
+ghost use Rattle.aead.specs.Refusals.{DueToReading, DueToBoth};
 ghost use Rattle.aead.specs.Suites.{text_limit};
 ghost use Rattle.aead.specs.Sealing.{Setting};
 ghost use Rattle.aead.specs.Code.Maskings.{Task, HoldsMasking, message_task};
-ghost use Rattle.aead.specs.Code.Passes.{Passed, Blames, BlamesReading};
+ghost use Rattle.aead.specs.Code.Passes.{Passed};
 
 use crate::beside::Order;
 use crate::engine::measure::Measured;
@@ -39,7 +40,7 @@ fn pass_piece<I: Intake, O: Outlet, S: MaskStream, H: TagHash, R: Order>(
     ensures passed { (t : Task) (fed : List ℕ) → HoldsMasking S.made H.held R.hashed masking.old t fed →
         Passed (HoldsMasking S.made H.held R.hashed) t fed (length buf.old)
         (I.left intake.old) (I.left intake.new) (O.taken outlet.old) (O.taken outlet.new) masking.new result }
-    ensures blame { Blames (I.failures intake.old) (I.failures intake.new) (O.failures outlet.old)
+    ensures blame { DueToBoth [] (I.failures intake.old) (I.failures intake.new) (O.failures outlet.old)
         (O.failures outlet.new) result }
     ensures length { IfOk result
         (λ n. masking.new.authenticator.length ≡ masking.old.authenticator.length + n) }
@@ -68,7 +69,7 @@ pub(crate) fn pass_body<I: Intake, O: Outlet, S: MaskStream, H: TagHash, R: Orde
     ensures passed { (t : Task) → HoldsMasking S.made H.held R.hashed masking.old t [] →
         Passed (HoldsMasking S.made H.held R.hashed) t [] length
         (I.left intake.old) (I.left intake.new) (O.taken outlet.old) (O.taken outlet.new) masking.new result }
-    ensures blame { Blames (I.failures intake.old) (I.failures intake.new) (O.failures outlet.old)
+    ensures blame { DueToBoth [] (I.failures intake.old) (I.failures intake.new) (O.failures outlet.old)
         (O.failures outlet.new) result }
 {
     let mut buf = [0; 4096];
@@ -87,7 +88,7 @@ pub(crate) fn pass_body<I: Intake, O: Outlet, S: MaskStream, H: TagHash, R: Orde
 // Whether what is left of a reading is this tag and nothing more.
 fn ends_with<I: Intake>(intake: &mut I, tag: &Tag) -> Result<bool, Fault>
     ensures ends { Ends tag.now (I.left intake.old) (I.left intake.new) result }
-    ensures blame { BlamesReading (I.failures intake.old) (I.failures intake.new) result }
+    ensures blame { DueToReading [] (I.failures intake.old) (I.failures intake.new) result }
 {
     let mut last = [0; 17];
     match fill(intake, &mut last) {
@@ -107,7 +108,7 @@ pub(crate) fn finding_of<I: Intake>(
     ensures found { (s : Setting) (left taken taken' : Option (List ℕ)) →
         PassesBody s measured.now.tag measured.now.length left (I.left intake.old) taken taken' came made →
         PassedWhole s measured.now.tag measured.now.length left (I.left intake.new) taken taken' result }
-    ensures blame { BlamesReading (I.failures intake.old) (I.failures intake.new) result }
+    ensures blame { DueToReading [] (I.failures intake.old) (I.failures intake.new) result }
 {
     if came < measured.length - 16 {
         return Ok(Finding::Differs);
@@ -138,7 +139,7 @@ pub(crate) fn pass<I: Intake, O: Outlet, S: MaskStream, H: TagHash, R: Order>(
         → MakesTextTag R.hashed s measured.now.tag →
         PassedWhole s measured.now.tag measured.now.length (I.left intake.old) (I.left intake.new)
         (O.taken outlet.old) (O.taken outlet.new) result }
-    ensures blame { Blames (I.failures intake.old) (I.failures intake.new) (O.failures outlet.old)
+    ensures blame { DueToBoth [] (I.failures intake.old) (I.failures intake.new) (O.failures outlet.old)
         (O.failures outlet.new) result }
 {
     match pass_body(intake, &mut opening, measured.length - 16, outlet) {
@@ -150,7 +151,7 @@ pub(crate) fn pass<I: Intake, O: Outlet, S: MaskStream, H: TagHash, R: Order>(
 // Whether anything is left of a reading.
 pub(crate) fn has_more<I: Intake>(intake: &mut I) -> Result<bool, Fault>
     ensures more { HasMore (I.left intake.old) (I.left intake.new) result }
-    ensures blame { BlamesReading (I.failures intake.old) (I.failures intake.new) result }
+    ensures blame { DueToReading [] (I.failures intake.old) (I.failures intake.new) result }
 {
     let mut next = [0; 1];
     match fill(intake, &mut next) {
@@ -170,7 +171,7 @@ pub(crate) fn pass_all<I: Intake, O: Outlet, S: MaskStream, H: TagHash, R: Order
     ensures passed { (t : Task) → HoldsMasking S.made H.held R.hashed masking.old t [] →
         PassedAll (HoldsMasking S.made H.held R.hashed) t length
         (I.left intake.old) (I.left intake.new) (O.taken outlet.old) (O.taken outlet.new) masking.new result }
-    ensures blame { Blames (I.failures intake.old) (I.failures intake.new) (O.failures outlet.old)
+    ensures blame { DueToBoth [] (I.failures intake.old) (I.failures intake.new) (O.failures outlet.old)
         (O.failures outlet.new) result }
 {
     let n = match pass_body(intake, masking, length, outlet) {

@@ -1,10 +1,11 @@
 // The engine that seals in one reading.
 
 ghost use Rattle.std.specs.Prelude.{◌≡◌, ◌↔◌, ◌<◌, ◌≤◌, ◌∷◌, [], length};
+ghost use Rattle.aead.specs.Refusals.{DueToBoth};
 ghost use Rattle.aead.specs.Suites.{aad_limit};
 ghost use Rattle.aead.specs.Ciphers.{setting};
 ghost use Rattle.aead.specs.AnyCiphers.{one_pass_keyed};
-ghost use Rattle.aead.specs.SealStream.{GiveBlames, SealsStream, IfTextKnown};
+ghost use Rattle.aead.specs.SealStream.{SealsStream, IfTextKnown};
 
 use crate::aead::Aead;
 use crate::any::AnyOnePass;
@@ -21,7 +22,7 @@ fn seal_over<N: MaskThenHash, I: Intake, O: Outlet>(
     out: &mut O,
 ) -> Result<(), Fault>
     requires { length aad.now ≤ aad_limit (N.keyed nonced.now).suite }
-    ensures blame { GiveBlames (Fault.TextTooLong ∷ []) (I.failures text.old) (I.failures text.new)
+    ensures blame { DueToBoth (Fault.TextTooLong ∷ []) (I.failures text.old) (I.failures text.new)
         (O.failures out.old) (O.failures out.new) result }
     ensures seals { IfTextKnown (I.left text.old) (O.taken out.old) (O.taken out.new)
         (λ x given. SealsStream (setting (N.keyed nonced.now) (N.nonce nonced.now) aad.now) x given
@@ -54,7 +55,7 @@ pub fn seal_stream<I: Intake, O: Outlet>(
 ) -> Result<(), Fault>
     ensures aad { (result ≡ Err Fault.AadTooLong)
         ↔ (aad_limit (one_pass_keyed cipher.now).suite < length aad.now) }
-    ensures blame { GiveBlames (Fault.AadTooLong ∷ Fault.TextTooLong ∷ []) (I.failures text.old)
+    ensures blame { DueToBoth (Fault.AadTooLong ∷ Fault.TextTooLong ∷ []) (I.failures text.old)
         (I.failures text.new) (O.failures out.old) (O.failures out.new) result }
     ensures seals { IfTextKnown (I.left text.old) (O.taken out.old) (O.taken out.new)
         (λ x given. SealsStream (setting (one_pass_keyed cipher.now) nonce.now aad.now) x given

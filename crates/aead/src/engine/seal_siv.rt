@@ -1,6 +1,7 @@
 // The engine that seals in two readings.
 
 ghost use Rattle.std.specs.Prelude.{◌≡◌, ◌↔◌, ◌+◌, ◌<◌, ◌≤◌, ◌^◌, ◌∷◌, ℕ, List, [], length, IfOk, IfSome};
+ghost use Rattle.aead.specs.Refusals.{DueToReading, DueToBoth};
 ghost use Rattle.aead.specs.Suites.{ByGcmSiv, construction_of, text_limit, aad_limit};
 ghost use Rattle.aead.specs.Sealing.{Setting, tag_of};
 ghost use Rattle.aead.specs.Ciphers.{setting};
@@ -8,8 +9,6 @@ ghost use Rattle.aead.specs.Code.States.{HoldsAuthenticator};
 ghost use Rattle.aead.specs.Code.Masks.{as_it_comes};
 ghost use Rattle.aead.specs.Code.Maskings.{HoldsMasking, repeating_task};
 ghost use Rattle.aead.specs.Code.Absorbed.{AbsorbReturns};
-ghost use Rattle.aead.specs.Code.Passes.{BlamesReading};
-ghost use Rattle.aead.specs.SealStream.{GiveBlames};
 ghost use Rattle.aead.specs.SealSivStream.{WritesAgain, SealsSivStream, SivBlames, IfBothKnown};
 
 use crate::aead::Aead;
@@ -36,7 +35,7 @@ fn absorb_all<I: Intake, H: TagHash>(
     requires { reading.old.length ≡ 0 }
     ensures taken { (s : Setting) → HoldsAuthenticator H.held reading.old s [] → limit ≤ text_limit s.suite →
         AbsorbReturns H.held s limit (I.left intake.old) (I.left intake.new) reading.new result }
-    ensures blame { BlamesReading (I.failures intake.old) (I.failures intake.new) result }
+    ensures blame { DueToReading [] (I.failures intake.old) (I.failures intake.new) result }
 {
     let n = match absorb_body(intake, reading, limit) {
         Ok(n) => n,
@@ -65,7 +64,7 @@ fn write_again<J: Intake, O: Outlet, S: MaskStream, H: TagHash>(
         IfSome (J.left intake.old) (λ b. WritesAgain s first b (O.taken outlet.old) (O.taken outlet.new)
         (J.failures intake.old) (J.failures intake.new) (O.failures outlet.old) (O.failures outlet.new)
         result) }
-    ensures blame { GiveBlames (Fault.SourceChanged ∷ []) (J.failures intake.old) (J.failures intake.new)
+    ensures blame { DueToBoth (Fault.SourceChanged ∷ []) (J.failures intake.old) (J.failures intake.new)
         (O.failures outlet.old) (O.failures outlet.new) result }
 {
     let length = again.limit;

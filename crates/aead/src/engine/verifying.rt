@@ -2,13 +2,13 @@
 
 ghost use Rattle.std.specs.Prelude.{◌≡◌, ◌+◌, ◌≤◌, ◌<◌, ◌^◌, ℕ, List, [], None, length, IfOk};
 ghost use Rattle.aes.specs.Cipher.{IsKey};
+ghost use Rattle.aead.specs.Refusals.{DueToReading};
 ghost use Rattle.aead.specs.Suites.{ByGcm, construction_of, text_limit, aad_limit};
 ghost use Rattle.aead.specs.Sealing.{Setting};
 ghost use Rattle.aead.specs.Ciphers.{setting};
 ghost use Rattle.aead.specs.AnyCiphers.{one_pass_keyed};
 ghost use Rattle.aead.specs.Code.States.{HoldsAuthenticator};
 ghost use Rattle.aead.specs.Code.Absorbed.{AbsorbsPiece};
-ghost use Rattle.aead.specs.Code.Passes.{BlamesReading};
 ghost use Rattle.aead.specs.Code.Findings.{PassedWhole};
 
 use crate::any::AnyOnePass;
@@ -32,7 +32,7 @@ fn absorb_piece<I: Intake, H: TagHash>(
     ensures taken { (s : Setting) (text : List ℕ) → HoldsAuthenticator H.held reading.old s text
         → length text + length buf.old ≤ text_limit s.suite →
         AbsorbsPiece H.held s text (length buf.old) (I.left intake.old) (I.left intake.new) reading.new result }
-    ensures blame { BlamesReading (I.failures intake.old) (I.failures intake.new) result }
+    ensures blame { DueToReading [] (I.failures intake.old) (I.failures intake.new) result }
     ensures length { IfOk result (λ n. reading.new.length ≡ reading.old.length + n) }
 {
     let n = match fill(intake, buf) {
@@ -53,7 +53,7 @@ pub(crate) fn absorb_body<I: Intake, H: TagHash>(
     ensures bound { IfOk result (λ n. n ≤ length) }
     ensures taken { (s : Setting) → HoldsAuthenticator H.held reading.old s [] → length ≤ text_limit s.suite →
         AbsorbsPiece H.held s [] length (I.left intake.old) (I.left intake.new) reading.new result }
-    ensures blame { BlamesReading (I.failures intake.old) (I.failures intake.new) result }
+    ensures blame { DueToReading [] (I.failures intake.old) (I.failures intake.new) result }
     ensures length { IfOk result (λ n. reading.new.length ≡ n) }
 {
     let mut buf = [0; 4096];
@@ -84,7 +84,7 @@ fn verify_over<N: MaskThenHash, I: Intake>(
     requires high { measured.now.length ≤ text_limit (N.keyed nonced.now).suite + 16 }
     ensures passed { PassedWhole (setting (N.keyed nonced.now) (N.nonce nonced.now) aad.now)
         measured.now.tag measured.now.length (I.left intake.old) (I.left intake.new) None None result }
-    ensures blame { BlamesReading (I.failures intake.old) (I.failures intake.new) result }
+    ensures blame { DueToReading [] (I.failures intake.old) (I.failures intake.new) result }
 {
     let mut reading = authenticator(nonced, aad);
     match absorb_body(intake, &mut reading, measured.length - 16) {
@@ -105,7 +105,7 @@ pub(crate) fn verify_one_pass<I: Intake>(
     requires high { measured.now.length ≤ text_limit (one_pass_keyed cipher.now).suite + 16 }
     ensures passed { PassedWhole (setting (one_pass_keyed cipher.now) nonce.now aad.now)
         measured.now.tag measured.now.length (I.left intake.old) (I.left intake.new) None None result }
-    ensures blame { BlamesReading (I.failures intake.old) (I.failures intake.new) result }
+    ensures blame { DueToReading [] (I.failures intake.old) (I.failures intake.new) result }
 {
     match cipher {
         AnyOnePass::ChaCha(cipher) => verify_over(&cipher.nonced(nonce), aad, intake, measured),
