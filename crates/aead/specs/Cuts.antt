@@ -1,10 +1,7 @@
 -- A sealing in pieces.
 use Rattle.std.specs.Prelude.{◌≡◌, ℕ, ◌-◌, ◌<◌, List, [], ◌∷◌, ◌++◌, length, map, if◌then◌else◌, nat_le}
 use Rattle.std.specs.List.{concat}
-use Rattle.aead.specs.declared.cuts.Cutting.{Cutting}
-use Rattle.aead.specs.declared.cuts.Cutting.TheVariants.{OnePass, Siv}
-use Rattle.aead.specs.Sealing.{Setting, Fits, Opened, tag_of}
-use Rattle.aead.specs.Pieces.{HoldsSealer, HoldsWriter}
+use Rattle.aead.specs.Sealing.{Setting, Opened}
 
 -- cuts rise strictly, from above a place
 abbrev pub Rise : ℕ → List ℕ → Type 0
@@ -18,18 +15,13 @@ piece_lengths n place [] = (n - place) ∷ []
 piece_lengths n place (cut ∷ cuts) =
     if nat_le cut n then (cut - place) ∷ piece_lengths n cut cuts else piece_lengths n place cuts
 
+-- the pieces are those that the cuts fix of the bytes
+pub record AreCut (bytes cuts : List ℕ) (pieces : List (List ℕ)) : Type 0 where
+  pub joined : concat pieces ≡ bytes
+  pub lengths : map length pieces ≡ piece_lengths (length bytes) 0 cuts
+
 -- the pieces are those that the cuts fix of the ciphertext, and then the tag; joined they are the sealing
 -- of the text
 pub record IsCutSealing (s : Setting) (text cuts : List ℕ) (pieces : List (List ℕ)) : Type 0 where
   pub joined : Opened s (concat pieces) text
   pub lengths : map length pieces ≡ piece_lengths (length text) 0 cuts ++ 16 ∷ []
-
--- a state that encrypts this text has encrypted these bytes of it
-abbrev pub Encrypted : Cutting → Setting → List ℕ → List ℕ → Type 0
-Encrypted (OnePass sealer) s text done = HoldsSealer sealer s done
-Encrypted (Siv writer tag) s text done = HoldsWriter writer s text done × (tag ≡ tag_of s text)
-
--- a state that encrypts a text within the limits has encrypted these bytes of it
-pub record Encrypts (c : Cutting) (s : Setting) (text done : List ℕ) : Type 0 where
-  pub fits : Fits s text
-  pub encrypted : Encrypted c s text done

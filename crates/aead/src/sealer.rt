@@ -50,18 +50,9 @@ impl Sealer {
             MatchResult result (λ sealer. HoldsSealer sealer s []) (λ e. SealRefused s [] e) }
     {
         cipher.suite().check_aad(aad)?;
-        Ok(Sealer::begin(cipher, nonce, aad))
-    }
-
-    // The state that holds the empty text.
-    #[inline(always)]
-    pub(crate) fn begin(cipher: &AnyOnePass, nonce: &Nonce, aad: &[u8]) -> Sealer
-        requires { length aad.now ≤ aad_limit (one_pass_keyed cipher.now).suite }
-        ensures { HoldsSealer result (setting (one_pass_keyed cipher.now) nonce.now aad.now) [] }
-    {
-        Sealer {
+        Ok(Sealer {
             masking: any_sealing(cipher, nonce, aad),
-        }
+        })
     }
 
     /// Adds `piece`, of any length, to the text, and leaves its ciphertext in its place. `TextTooLong` if the

@@ -42,43 +42,15 @@ impl SivAbsorb {
             MatchResult result (λ absorb. HoldsAbsorb absorb s []) (λ e. SealRefused s [] e) }
     {
         cipher.suite().check_aad(aad)?;
-        Ok(SivAbsorb::begin(cipher, nonce, aad))
-    }
-
-    // The state that holds the empty text.
-    #[inline(always)]
-    pub(crate) fn begin(cipher: &GcmSiv, nonce: &Nonce, aad: &[u8]) -> SivAbsorb
-        requires { length aad.now ≤ aad_limit cipher.now.suite }
-        ensures holds { HoldsAbsorb result (setting cipher.now nonce.now aad.now) [] }
-        ensures none { result.authenticator.length ≡ 0 }
-    {
         let keys = cipher.derive(nonce);
         let multiplier = TableMul::of(&keys.hash_key);
         let nonced = cipher.nonced(nonce, keys.encryption, multiplier);
-        SivAbsorb {
+        Ok(SivAbsorb {
             authenticator: authenticator(&nonced, aad),
             again: authenticator(&nonced, aad),
             encryption: keys.encryption,
             limit: cipher.suite().text_limit(),
-        }
-    }
-
-    // How many bytes more are within the limit.
-    pub(crate) fn room(&self) -> u64
-        ensures { result + self.now.authenticator.length ≡ self.now.limit }
-    {
-        self.limit - self.authenticator.length
-    }
-
-    // Adds a piece that is within the limit.
-    pub(crate) fn extend(&mut self, piece: &[u8])
-        requires { self.old.authenticator.length + length piece.now ≤ self.old.limit }
-        ensures holds { (s : Setting) (text : List ℕ) → HoldsAbsorb self.old s text
-            → HoldsAbsorb self.new s (text ++ piece.now) }
-        ensures length { self.new.authenticator.length ≡ self.old.authenticator.length + length piece.now }
-        ensures limit { self.new.limit ≡ self.old.limit }
-    {
-        self.authenticator.update(piece);
+        })
     }
 
     /// Adds `piece`, of any length, to the text. `TextTooLong` if the text would be past its limit: the
@@ -88,10 +60,10 @@ impl SivAbsorb {
             (λ _. HoldsAbsorb self.new s (text ++ piece.now)) (λ e. SealRefused s (text ++ piece.now) e) }
         ensures kept { OnErr result (self.new ≡ self.old) }
     {
-        if piece.len() as u64 > self.room() {
+        if piece.len() as u64 > self.limit - self.authenticator.length {
             return Err(Fault::TextTooLong);
         }
-        self.extend(piece);
+        self.authenticator.update(piece);
         Ok(())
     }
 
