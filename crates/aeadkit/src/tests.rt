@@ -1,4 +1,4 @@
-//! Rows of the program, as runs on words.
+//! Rows of the program, as runs on words, and the tests of `aead` and `vectors`.
 mod checks;
 mod devices;
 mod failing_files;
@@ -7,7 +7,9 @@ mod growths;
 mod published;
 mod rows;
 mod scripted;
+mod sealings;
 mod seals;
+mod vector_files;
 
 use crate::run::run;
 use crate::storage::Storage;

@@ -1,7 +1,7 @@
 use Rattle.std.proofs.Common.{◌++◌, []}
 use Rattle.aead.specs.Exports.{setting_of}
 use Rattle.aead.proofs.Outcomes.{done}
-use Rattle.aead.proofs.exports.sealer.tests.sealed_in_two.Goals as goal
+use Rattle.aead.proofs.exports.uses.sealed_in_two.Goals as goal
 
 pub returns : goal.returns
 returns c = λ named one is zero.

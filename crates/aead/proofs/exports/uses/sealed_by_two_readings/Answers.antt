@@ -4,7 +4,7 @@ use Rattle.octets.proofs.Masks.{masked-append}
 use Rattle.aead.specs.Sealing.{mask_of, tag_of}
 use Rattle.aead.specs.Exports.{setting_of}
 use Rattle.aead.proofs.Outcomes.{done}
-use Rattle.aead.proofs.exports.siv.tests.sealed_in_two.Goals as goal
+use Rattle.aead.proofs.exports.uses.sealed_by_two_readings.Goals as goal
 
 pub returns : goal.returns
 returns c = λ named two is zero.

@@ -4,7 +4,7 @@ use Rattle.octets.proofs.Masks.{masked-append}
 use Rattle.aead.specs.Sealing.{Opened, mask_of}
 use Rattle.aead.specs.Exports.{setting_of}
 use Rattle.aead.proofs.Outcomes.{done}
-use Rattle.aead.proofs.exports.opener.tests.opened_in_two.Goals as goal
+use Rattle.aead.proofs.exports.uses.opened_in_two.Goals as goal
 
 pub returns : goal.returns
 returns c = λ named is zero.
