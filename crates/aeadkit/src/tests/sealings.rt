@@ -5,7 +5,7 @@ mod growths;
 mod long;
 mod opening;
 mod pieces;
-mod samples;
+pub mod samples;
 mod streams;
 
 use super::files::bytes;
