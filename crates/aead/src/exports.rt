@@ -28,6 +28,7 @@ mod sealer;
 mod siv;
 mod stored;
 mod stored_key;
+mod uses;
 
 // The status of a call at C whose suite number is unknown.
 const UNKNOWN_SUITE: u32 = 14;
@@ -217,36 +218,5 @@ pub extern "C" fn aeadkit_open(
     match suite_numbered(u64::from(suite)) {
         Some(suite) => outcome_number(run_by_bytes::<Opening>(suite, key, nonce, aad, bytes)),
         None => UNKNOWN_SUITE,
-    }
-}
-
-#[cfg(test)]
-mod tests {
-    use super::*;
-
-    // The sealing of sixteen zero bytes under AES-128-GCM with a zero key and nonce: test case 2 of
-    // GCM's vectors.
-    const SEALED: [u8; 32] = [
-        0x03, 0x88, 0xda, 0xce, 0x60, 0xb6, 0xa3, 0x92, 0xf3, 0x28, 0xc2, 0xb9, 0x71, 0xb2, 0xfe,
-        0x78, 0xab, 0x6e, 0x47, 0xd4, 0x2c, 0xec, 0x13, 0xbd, 0xf5, 0x3a, 0x67, 0xb2, 0x12, 0x57,
-        0xbd, 0xdf,
-    ];
-
-    // Its text, followed by the tag.
-    const OPENED: [u8; 32] = [
-        0, 0, 0, 0, 0, 0, 0, 0, 0, 0, 0, 0, 0, 0, 0, 0, 0xab, 0x6e, 0x47, 0xd4, 0x2c, 0xec, 0x13,
-        0xbd, 0xf5, 0x3a, 0x67, 0xb2, 0x12, 0x57, 0xbd, 0xdf,
-    ];
-
-    // A key and a nonce of n bytes are the first n of these.
-    const ZEROS: [u8; 16] = [0; 16];
-
-    #[test]
-    fn a_published_sealing_by_its_number(rt: HostRuntime) {
-        let mut bytes = [0; 32];
-        let sealed = aeadkit_seal(2, &ZEROS, &ZEROS[..12], &[], &mut bytes);
-        assert!(rt; sealed == 0 && bytes == SEALED);
-        let opened = aeadkit_open(2, &ZEROS, &ZEROS[..12], &[], &mut bytes);
-        assert!(rt; opened == 0 && bytes == OPENED);
     }
 }

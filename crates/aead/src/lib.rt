@@ -30,9 +30,6 @@ mod sealer;
 mod second_reading;
 mod siv;
 mod suite;
-#[cfg(test)]
-mod tests;
-#[cfg(test)]
 mod uses;
 mod whole;
 

@@ -1,13 +1,19 @@
-//! Rows of the program, as runs on words.
+//! Rows of the program, as runs on words, and the tests of the library's crates.
+mod blocks;
+mod byte_devices;
 mod checks;
 mod devices;
 mod failing_files;
 mod files;
 mod growths;
+mod hashes;
 mod published;
 mod rows;
 mod scripted;
+mod sealings;
 mod seals;
+mod vector_files;
+mod wrappings;
 
 use crate::run::run;
 use crate::storage::Storage;

@@ -15,9 +15,6 @@ mod planes;
 mod round_tables;
 mod sbox;
 mod schedule;
-#[cfg(test)]
-mod tests;
-#[cfg(test)]
 mod uses;
 
 pub use cipher::is_permutation;

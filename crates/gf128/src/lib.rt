@@ -13,9 +13,6 @@ mod multiples;
 mod polynomial_word;
 mod polyval;
 mod table_mul;
-#[cfg(test)]
-mod tests;
-#[cfg(test)]
 mod uses;
 mod wide_mul;
 

@@ -12,9 +12,6 @@ mod in_place;
 mod padded;
 mod padded_in_place;
 mod steps;
-#[cfg(test)]
-mod tests;
-#[cfg(test)]
 mod uses;
 mod whole;
 

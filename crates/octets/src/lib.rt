@@ -13,10 +13,7 @@ mod pieces;
 mod refusing;
 mod script;
 mod std_io;
-#[cfg(test)]
-mod tests;
 mod transfer;
-#[cfg(test)]
 mod uses;
 mod words;
 mod work;

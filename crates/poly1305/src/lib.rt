@@ -7,9 +7,6 @@ mod partial_sum;
 mod poly;
 mod residue;
 mod side_by_side;
-#[cfg(test)]
-mod tests;
-#[cfg(test)]
 mod uses;
 mod word_mul;
 

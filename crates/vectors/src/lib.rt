@@ -13,9 +13,6 @@ mod place;
 mod reading;
 mod report;
 mod suite;
-#[cfg(test)]
-mod tests;
-#[cfg(test)]
 mod uses;
 
 pub use fault::VectorFault;

@@ -206,36 +206,3 @@ pub extern "C" fn aeadkit_key_size() -> usize
 {
     size_of::<StoredKey>()
 }
-
-#[cfg(test)]
-mod tests {
-    use super::super::sealer::{aeadkit_sealer_finish, aeadkit_sealer_init, aeadkit_sealer_update};
-    use super::super::{aeadkit_open, aeadkit_seal};
-    use super::*;
-
-    // Whether a kept key seals and opens so many bytes as its own bytes do.
-    fn serves(suite: u32, key: &[u8], size: usize) -> bool {
-        let mut kept = StoredKey::zeros();
-        let mut by_key = [1; 200];
-        let mut by_kept = [1; 200];
-        let size = size.min(200);
-        let begun = aeadkit_key_init(&mut kept, suite, key);
-        let sealed = aeadkit_seal(suite, key, &[9; 12], b"to", &mut by_key[..size]);
-        let sealed_with = aeadkit_seal_with(&kept, &[9; 12], b"to", &mut by_kept[..size]);
-        let same = by_key == by_kept;
-        let opened = aeadkit_open(suite, key, &[9; 12], b"to", &mut by_key[..size]);
-        let opened_with = aeadkit_open_with(&kept, &[9; 12], b"to", &mut by_kept[..size]);
-        (begun | sealed | sealed_with | opened | opened_with) == 0 && same && by_key == by_kept
-    }
-
-    #[test]
-    fn a_kept_key_serves_as_its_bytes(rt: HostRuntime) {
-        for (suite, size) in [(1, 32), (2, 16), (3, 24), (4, 32), (5, 16), (6, 32)] {
-            let key = &[7; 32][..size];
-            assert!(rt;
-                serves(suite, key, 80) && serves(suite, key, 200),
-                "{suite}"
-            );
-        }
-    }
-}

@@ -4,7 +4,7 @@
 ghost use Rattle.std.specs.Prelude.{◌≡◌, ◌≢◌, ◌++◌, ℕ, List, [], true, false};
 ghost use Rattle.octets.specs.Numbers.{HasOutcome};
 ghost use Rattle.aead.specs.declared.suite.Suite.{Suite};
-ghost use Rattle.aead.specs.Sealing.{Setting, Opened, IsNoSealing};
+ghost use Rattle.aead.specs.Sealing.{Setting, IsNoSealing};
 ghost use Rattle.aead.specs.Exports.{suite_number, unknown_suite, setting_of};
 ghost use Rattle.aead.specs.Stored.{zero_passes, not_begun, BeginRefused};
 ghost use Rattle.aead.specs.StoredOpener.{checking, opening, NotIn, HoldsPass, HoldsChecking};
@@ -160,64 +160,4 @@ pub extern "C" fn aeadkit_opener_size() -> usize
     ensures { result ≡ 200 }
 {
     size_of::<StoredPasses>()
-}
-
-#[cfg(test)]
-mod tests {
-    use super::super::aeadkit_seal;
-    use super::*;
-
-    // Opens a ciphertext in two pieces, each pass, with any struct. Returns whether each call was done.
-    fn opened_in_two(
-        opener: &mut StoredPasses,
-        suite: u32,
-        keys: (&[u8], &[u8], &[u8]),
-        tag: &[u8; 16],
-        first: &mut [u8],
-        second: &mut [u8],
-    ) -> bool
-        ensures { (named : Suite) → suite ≡ suite_number named
-            → let s = setting_of named keys.entry.0.now keys.entry.1.now keys.entry.2.now in
-            result ≡ true → Opened s ((first.old ++ second.old) ++ tag.now) (first.new ++ second.new) }
-    {
-        let (key, nonce, aad) = keys;
-        if aeadkit_opener_init(opener, suite, key, nonce, aad, tag) != 0 {
-            return false;
-        }
-        if aeadkit_opener_check(opener, first) != 0 {
-            return false;
-        }
-        if aeadkit_opener_check(opener, second) != 0 {
-            return false;
-        }
-        if aeadkit_opener_checked(opener) != 0 {
-            return false;
-        }
-        if aeadkit_opener_update(opener, first) != 0 {
-            return false;
-        }
-        if aeadkit_opener_update(opener, second) != 0 {
-            return false;
-        }
-        aeadkit_opener_finish(opener) == 0
-    }
-
-    #[test]
-    fn two_passes_give_the_text(rt: HostRuntime) {
-        for (suite, size) in [(1, 32), (2, 16), (3, 24), (4, 32), (5, 16), (6, 32)] {
-            let (key, nonce) = (&[7; 32][..size], &[9; 12]);
-            let mut sealed = [1; 1466];
-            assert!(rt; aeadkit_seal(suite, key, nonce, b"to", &mut sealed) == 0);
-            let Some((body, last)) = sealed.split_last_chunk_mut() else {
-                return;
-            };
-            let tag = *last;
-            let (first, second) = body.split_at_mut(21);
-            let mut opener = StoredPasses::zeros();
-            let keys = (key, nonce.as_slice(), b"to".as_slice());
-            assert!(rt; opened_in_two(&mut opener, suite, keys, &tag, first, second));
-            assert!(rt; &*body == [1; 1450].as_slice());
-            assert!(rt; aeadkit_opener_finish(&mut opener) == 15);
-        }
-    }
 }

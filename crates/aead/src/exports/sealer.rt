@@ -1,6 +1,6 @@
 // A sealing in pieces at C, under the suites whose tag is over the ciphertext.
 
-ghost use Rattle.std.specs.Prelude.{◌≡◌, ◌≢◌, ◌≤◌, ◌++◌, ℕ, List, [], length, true, MatchResult};
+ghost use Rattle.std.specs.Prelude.{◌≡◌, ◌≢◌, ◌≤◌, ℕ, List, [], length, true, MatchResult};
 ghost use Rattle.octets.specs.Numbers.{HasOutcome};
 ghost use Rattle.aead.specs.declared.suite.Suite.{Suite};
 ghost use Rattle.aead.specs.Suites.{ByChaCha, ByGcm, construction_of, is_one_pass, key_length, aad_limit};
@@ -199,55 +199,4 @@ pub extern "C" fn aeadkit_sealer_size() -> usize
     ensures { result ≡ 144 }
 {
     size_of::<StoredSealer>()
-}
-
-#[cfg(test)]
-mod tests {
-    use super::super::aeadkit_seal;
-    use super::*;
-
-    // Seals a text in two pieces with any struct, under a key, a nonce and associated data. Returns whether
-    // each call was done.
-    fn sealed_in_two(
-        sealer: &mut StoredSealer,
-        suite: u32,
-        keys: (&[u8], &[u8], &[u8]),
-        first: &mut [u8],
-        second: &mut [u8],
-        tag: &mut [u8; 16],
-    ) -> bool
-        ensures { (named : Suite) → is_one_pass (construction_of named) ≡ true → suite ≡ suite_number named
-            → let s = setting_of named keys.entry.0.now keys.entry.1.now keys.entry.2.now in
-            result ≡ true → tag.new ≡ tag_of s (first.old ++ second.old) }
-    {
-        let (key, nonce, aad) = keys;
-        if aeadkit_sealer_init(sealer, suite, key, nonce, aad) != 0 {
-            return false;
-        }
-        if aeadkit_sealer_update(sealer, first) != 0 {
-            return false;
-        }
-        if aeadkit_sealer_update(sealer, second) != 0 {
-            return false;
-        }
-        aeadkit_sealer_finish(sealer, tag) == 0
-    }
-
-    #[test]
-    fn pieces_have_the_sealing_of_their_text(rt: HostRuntime) {
-        for (suite, size) in [(1, 32), (2, 16), (3, 24), (4, 32)] {
-            let key = &[7; 32][..size];
-            let mut sealed = [1; 80];
-            assert!(rt; aeadkit_seal(suite, key, &[9; 12], b"to", &mut sealed) == 0);
-            let mut text = [1; 64];
-            let (first, second) = text.split_at_mut(21);
-            let mut sealer = StoredSealer::zeros();
-            let mut tag = [0; 16];
-            let keys = (key, [9; 12].as_slice(), b"to".as_slice());
-            assert!(rt; sealed_in_two(&mut sealer, suite, keys, first, second, &mut tag));
-            let (body, last) = sealed.split_at(64);
-            assert!(rt; body == text.as_slice() && last == tag.as_slice());
-            assert!(rt; aeadkit_sealer_finish(&mut sealer, &mut tag) == 15);
-        }
-    }
 }

@@ -1,12 +1,11 @@
 // A sealing in pieces at C under AES-GCM-SIV: a first reading of the text gives its tag, and a second one encrypts
 // it.
 
-ghost use Rattle.std.specs.Prelude.{◌≡◌, ◌≢◌, ◌↔◌, ◌++◌, ℕ, List, [], IsTrue, MatchResult};
-ghost use Rattle.octets.specs.Masked.{masked};
+ghost use Rattle.std.specs.Prelude.{◌≡◌, ◌≢◌, ◌↔◌, ℕ, List, [], IsTrue, MatchResult};
 ghost use Rattle.octets.specs.Numbers.{HasOutcome};
 ghost use Rattle.aead.specs.declared.suite.Suite.{Suite};
 ghost use Rattle.aead.specs.Suites.{ByGcmSiv, construction_of};
-ghost use Rattle.aead.specs.Sealing.{Setting, mask_of, tag_of};
+ghost use Rattle.aead.specs.Sealing.{Setting};
 ghost use Rattle.aead.specs.Pieces.{Repeats};
 ghost use Rattle.aead.specs.Exports.{suite_number, unknown_suite, setting_of};
 ghost use Rattle.aead.specs.Stored.{zero_passes, not_begun, HoldsSivText, BeginRefused};
@@ -191,69 +190,4 @@ pub extern "C" fn aeadkit_siv_size() -> usize
     ensures { result ≡ 200 }
 {
     size_of::<StoredPasses>()
-}
-
-#[cfg(test)]
-mod tests {
-    use super::*;
-
-    // The sealing of eight bytes of RFC 8452, C.1.
-    const SEALED: [u8; 24] = [
-        0xb5, 0xd8, 0x39, 0x33, 0x0a, 0xc7, 0xb7, 0x86, 0x57, 0x87, 0x82, 0xff, 0xf6, 0x01, 0x3b,
-        0x81, 0x5b, 0x28, 0x7c, 0x22, 0x49, 0x3a, 0x36, 0x4c,
-    ];
-
-    // Seals a text in two pieces, each reading, with any struct. Returns whether each call was done.
-    fn sealed_in_two(
-        siv: &mut StoredPasses,
-        suite: u32,
-        keys: (&[u8], &[u8], &[u8]),
-        first: &mut [u8],
-        second: &mut [u8],
-        tag: &mut [u8; 16],
-    ) -> bool
-        ensures { (named : Suite) → construction_of named ≡ ByGcmSiv → suite ≡ suite_number named
-            → let s = setting_of named keys.entry.0.now keys.entry.1.now keys.entry.2.now in
-            let text = first.old ++ second.old in IsTrue result
-            → (first.new ++ second.new ≡ masked (mask_of s (tag_of s text)) 0 text)
-            × (tag.new ≡ tag_of s text) }
-    {
-        let (key, nonce, aad) = keys;
-        if aeadkit_siv_init(siv, suite, key, nonce, aad) != 0 {
-            return false;
-        }
-        if aeadkit_siv_absorb(siv, first) != 0 {
-            return false;
-        }
-        if aeadkit_siv_absorb(siv, second) != 0 {
-            return false;
-        }
-        if aeadkit_siv_tag(siv, tag) != 0 {
-            return false;
-        }
-        if aeadkit_siv_update(siv, first) != 0 {
-            return false;
-        }
-        if aeadkit_siv_update(siv, second) != 0 {
-            return false;
-        }
-        aeadkit_siv_finish(siv) == 0
-    }
-
-    #[test]
-    fn a_published_sealing_in_two_pieces(rt: HostRuntime) {
-        let mut key = [0; 16];
-        key[0] = 1;
-        let mut nonce = [0; 12];
-        nonce[0] = 3;
-        let mut text = [1, 0, 0, 0, 0, 0, 0, 0];
-        let (first, second) = text.split_at_mut(3);
-        let mut tag = [0; 16];
-        let mut siv = StoredPasses::zeros();
-        let keys = (key.as_slice(), nonce.as_slice(), [].as_slice());
-        assert!(rt; sealed_in_two(&mut siv, 5, keys, first, second, &mut tag));
-        let (body, last) = SEALED.split_at(8);
-        assert!(rt; body == text.as_slice() && last == tag.as_slice());
-        assert!(rt; aeadkit_siv_finish(&mut siv) == 15);
-    }
 }

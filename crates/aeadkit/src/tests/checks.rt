@@ -1,27 +1,10 @@
 //! `check` on vector files.
 use super::devices::{NO_FILES, OneFile};
 use super::runs_over;
+use super::vector_files::TWO_RECORDS;
 use std::io;
 
-/// A published vector of GCM, and its sealed bytes with another last byte, which are no sealing.
-pub const GOOD: &str = "# two records
-format = 1
-suite = aes-128-gcm
-key = 00000000000000000000000000000000
-nonce = 000000000000000000000000
-aad =
-sealed = 58e2fccefa7e3061367f1d57a4e7455a
-text =
-
-suite = aes-128-gcm
-key = 00000000000000000000000000000000
-nonce = 000000000000000000000000
-aad =
-sealed = 58e2fccefa7e3061367f1d57a4e7455b
-invalid
-";
-
-/// The records of `GOOD`, each with the other's end.
+/// The file of two records, each with the other's end.
 pub const BAD: &str = "# two records
 format = 1
 suite = aes-128-gcm
@@ -55,7 +38,7 @@ pub const CHECK: [&str; 2] = ["check", "vectors.txt"];
 
 // Files, and the status, standard output and standard error of checking them.
 const REPORTS: [(&str, u8, &str, &str); 12] = [
-    (GOOD, 0, "records 2\n", ""),
+    (TWO_RECORDS, 0, "records 2\n", ""),
     (BAD, 1, "records 2\nbad 1\nbad 2\n", ""),
     ("format = 1", 1, "", "aeadkit: NoRecords\n"),
     ("", 1, "", "aeadkit: NoRecords\n"),
@@ -132,13 +115,19 @@ const UNREADABLE: [(bool, &str, io::ErrorKind, u8, &str); 5] = [
     (true, "", io::ErrorKind::IsADirectory, 3, "aeadkit: Read\n"),
     (
         true,
-        GOOD,
+        TWO_RECORDS,
         io::ErrorKind::IsADirectory,
         3,
         "aeadkit: Read\n",
     ),
     (true, "", io::ErrorKind::OutOfMemory, 3, "aeadkit: Read\n"),
-    (true, GOOD, io::ErrorKind::OutOfMemory, 3, "aeadkit: Read\n"),
+    (
+        true,
+        TWO_RECORDS,
+        io::ErrorKind::OutOfMemory,
+        3,
+        "aeadkit: Read\n",
+    ),
     (
         false,
         "",

@@ -1,10 +1,10 @@
 //! Each request for memory of a command is refused in turn, until a run takes all that it asks for. The
 //! result is `OutOfMemory` if one was refused, or `Write` if the making of a file asked for it; else it is right.
-use super::checks::GOOD;
 use super::devices::{NO_FILES, OneFile};
 use super::files::bytes;
 use super::published::{CHACHA, GCM, GCM_SIV, PADDED, Vector, WRAPPINGS, Wrapping};
 use super::scripted::{Log, Script, Scripted, Sink, Source};
+use super::vector_files::TWO_RECORDS;
 use crate::run::{perform, report, write_new_file};
 use crate::storage::Storage;
 use crate::words::{FileCommand, FileRequest, Inputs, PrintRequest};
@@ -89,7 +89,7 @@ fn requests_are_out_of_memory_only_if_refused(rt: HostRuntime) {
     }
     let files = OneFile {
         opens: true,
-        bytes: GOOD.as_bytes(),
+        bytes: TWO_RECORDS.as_bytes(),
         failure: None,
     };
     let request = PrintRequest::Check { path: "" };

@@ -71,7 +71,19 @@ pub const GCM: Vector<'static> = Vector {
     sealed: GCM_SEALED,
 };
 
-/// RFC 8452, appendix C.1.
+/// The GCM submission, case 4.
+pub const GCM_4: Vector<'static> = Vector {
+    suite: "aes-128-gcm",
+    key: "feffe9928665731c6d6a8f9467308308",
+    nonce: "cafebabefacedbaddecaf888",
+    aad: "feedfacedeadbeeffeedfacedeadbeefabaddad2",
+    text: "d9313225f88406e5a55909c5aff5269a86a7a9531534f7da2e4c303d8a318a721c3c0c9595680953\
+        2fcf0e2449a6b525b16aedf5aa0de657ba637b39",
+    sealed: "42831ec2217774244b7221b784d0d49ce3aa212f2c02a4e035c17e2329aca12e21d514b25466931c\
+        7d8f6a5aac84aa051ba30b396a0aac973d58e0915bc94fbc3221a5db94fae95ae7121a47",
+};
+
+/// RFC 8452, appendix C.1, the text of eight bytes.
 pub const GCM_SIV: Vector<'static> = Vector {
     suite: "aes-128-gcm-siv",
     key: "01000000000000000000000000000000",
@@ -79,6 +91,13 @@ pub const GCM_SIV: Vector<'static> = Vector {
     aad: "",
     text: GCM_SIV_TEXT,
     sealed: GCM_SIV_SEALED,
+};
+
+/// RFC 8452, appendix C.1, the empty text.
+pub const GCM_SIV_EMPTY: Vector<'static> = Vector {
+    text: "",
+    sealed: "dc20e2d83f25705bb49e439eca56de25",
+    ..GCM_SIV
 };
 
 /// RFC 8439, 2.8.2; the GCM submission, cases 1, 2, 4, 7, 8, 13 and 14; RFC 8452, appendices C.1 and C.2.
@@ -93,16 +112,7 @@ pub const VECTORS: [Vector<'static>; 12] = [
         text: "00000000000000000000000000000000",
         sealed: "0388dace60b6a392f328c2b971b2fe78ab6e47d42cec13bdf53a67b21257bddf",
     },
-    Vector {
-        suite: "aes-128-gcm",
-        key: "feffe9928665731c6d6a8f9467308308",
-        nonce: "cafebabefacedbaddecaf888",
-        aad: "feedfacedeadbeeffeedfacedeadbeefabaddad2",
-        text: "d9313225f88406e5a55909c5aff5269a86a7a9531534f7da2e4c303d8a318a721c3c0c9595680953\
-            2fcf0e2449a6b525b16aedf5aa0de657ba637b39",
-        sealed: "42831ec2217774244b7221b784d0d49ce3aa212f2c02a4e035c17e2329aca12e21d514b25466931c\
-            7d8f6a5aac84aa051ba30b396a0aac973d58e0915bc94fbc3221a5db94fae95ae7121a47",
-    },
+    GCM_4,
     Vector {
         suite: "aes-192-gcm",
         key: "000000000000000000000000000000000000000000000000",
@@ -135,14 +145,7 @@ pub const VECTORS: [Vector<'static>; 12] = [
         text: "00000000000000000000000000000000",
         sealed: "cea7403d4d606b6e074ec5d3baf39d18d0d1c8a799996bf0265b98b5d48ab919",
     },
-    Vector {
-        suite: "aes-128-gcm-siv",
-        key: "01000000000000000000000000000000",
-        nonce: "030000000000000000000000",
-        aad: "",
-        text: "",
-        sealed: "dc20e2d83f25705bb49e439eca56de25",
-    },
+    GCM_SIV_EMPTY,
     GCM_SIV,
     Vector {
         suite: "aes-256-gcm-siv",

@@ -1,10 +1,11 @@
 //! Words that print a line, and words that are refused.
-use super::checks::{CHECK, GOOD};
+use super::checks::CHECK;
 use super::devices::{FailsAfter, NO_FILES, OneFile};
 use super::published::{
     CHACHA_AAD, CHACHA_KEY, CHACHA_NONCE, KEY, PADDED, PADDED_KEY, PADDED_WRAPPED, TEXT, WRAPPED,
     WRAPPINGS, Wrapping,
 };
+use super::vector_files::TWO_RECORDS;
 use super::{prints, runs_into, runs_over};
 use crate::run::run;
 use crate::version::VERSION;
@@ -255,7 +256,7 @@ const UNPRINTED: [(&[&str], io::ErrorKind, u8, &str); 5] = [
 fn failing_output(rt: HostRuntime) {
     let files = OneFile {
         opens: true,
-        bytes: GOOD.as_bytes(),
+        bytes: TWO_RECORDS.as_bytes(),
         failure: None,
     };
     for (words, kind, status, complaint) in &UNPRINTED {

@@ -1,0 +1,164 @@
+//! AES and its streams of counting blocks.
+ghost use Rattle.std.specs.Prelude.{◌<◌};
+
+use aes::{AesKey, CtrBe, CtrLe, round};
+use octets::{Block, Key16, Key24, Key32};
+use std::process::Abort;
+
+// A key of n bytes is the first n of these.
+const BYTES: [u8; 32] = [
+    0, 1, 2, 3, 4, 5, 6, 7, 8, 9, 10, 11, 12, 13, 14, 15, 16, 17, 18, 19, 20, 21, 22, 23, 24, 25,
+    26, 27, 28, 29, 30, 31,
+];
+
+const TEXT: [u8; 16] = *b"\x00\x11\x22\x33\x44\x55\x66\x77\x88\x99\xaa\xbb\xcc\xdd\xee\xff";
+
+// FIPS 197, appendices C.1 to C.3: the ciphers of the text under the keys of 16, 24 and 32 bytes.
+const CIPHERS: [[u8; 16]; 3] = [
+    *b"\x69\xc4\xe0\xd8\x6a\x7b\x04\x30\xd8\xcd\xb7\x80\x70\xb4\xc5\x5a",
+    *b"\xdd\xa9\x7c\xa4\x86\x4c\xdf\xe0\x6e\xaf\x70\xa0\xec\x0d\x71\x91",
+    *b"\x8e\xa2\xb7\xca\x51\x67\x45\xbf\xea\xfc\x49\x90\x4b\x49\x60\x89",
+];
+
+// The keys of 16, 24 and 32 bytes, by the call for each length.
+fn keys(rt: &impl Abort) -> [AesKey; 3] {
+    [
+        AesKey::new128(&Key16::from_slice(&BYTES[..16]).expect(rt, "16 bytes")),
+        AesKey::new192(&Key24::from_slice(&BYTES[..24]).expect(rt, "24 bytes")),
+        AesKey::new256(&Key32::new(BYTES)),
+    ]
+}
+
+// Whether the text is enciphered so, alone and as the last of four blocks, and deciphered.
+fn is_cipher(key: &AesKey, cipher: &[u8; 16]) -> bool {
+    let block = key.encrypt(&Block::new(TEXT));
+    let mut four = [0; 64];
+    four[48..].copy_from_slice(&TEXT);
+    block.bytes() == cipher
+        && &key.encrypt_four(&four)[48..] == cipher.as_slice()
+        && *key.decrypt(&block).bytes() == TEXT
+}
+
+#[test]
+fn published_ciphers(rt: HostRuntime) {
+    for (key, cipher) in keys(&rt).iter().zip(&CIPHERS) {
+        assert!(rt; is_cipher(key, cipher));
+    }
+    for (length, cipher) in [16, 24, 32usize].iter().zip(&CIPHERS) {
+        let key = AesKey::from_slice(&BYTES[..(*length).min(32)]).expect(&rt, "a key");
+        assert!(rt; is_cipher(&key, cipher));
+    }
+    // FIPS 197, appendix B: the columns at the start of rounds 1 and 2, and the key of round 1.
+    let state = [0xbee3_3d19, 0x2be2_f4a0, 0x2a8d_c69a, 0x0848_f8e9];
+    let key = [0x17fe_faa0, 0xb12c_5488, 0x3939_a323, 0x0576_6c2a];
+    assert!(rt; round(state, key) == [0xf27f_9ca4, 0x2b35_9f68, 0x43ea_5b6b, 0x4950_6a02]);
+}
+
+// SP 800-38A, F.5.1.
+#[test]
+fn published_stream(rt: HostRuntime) {
+    let key = AesKey::from_slice(
+        b"\x2b\x7e\x15\x16\x28\xae\xd2\xa6\xab\xf7\x15\x88\x09\xcf\x4f\x3c",
+    ).expect(&rt, "a key");
+    let first = *b"\xf0\xf1\xf2\xf3\xf4\xf5\xf6\xf7\xf8\xf9\xfa\xfb\xfc\xfd\xfe\xff";
+    let mut text = *b"\x6b\xc1\xbe\xe2\x2e\x40\x9f\x96\xe9\x3d\x7e\x11\x73\x93\x17\x2a\
+           \xae\x2d\x8a\x57\x1e\x03\xac\x9c\x9e\xb7\x6f\xac\x45\xaf\x8e\x51\
+           \x30\xc8\x1c\x46\xa3\x5c\xe4\x11\xe5\xfb\xc1\x19\x1a\x0a\x52\xef\
+           \xf6\x9f\x24\x45\xdf\x4f\x9b\x17\xad\x2b\x41\x7b\xe6\x6c\x37\x10";
+    CtrBe::new(&key, &Block::new(first)).apply(&mut text);
+    let cipher = *b"\x87\x4d\x61\x91\xb6\x20\xe3\x26\x1b\xef\x68\x64\x99\x0d\xb6\xce\
+           \x98\x06\xf6\x6b\x79\x70\xfd\xff\x86\x17\x18\x7b\xb9\xff\xfd\xff\
+           \x5a\xe4\xdf\x3e\xdb\xd5\xd3\x5e\x5b\x4f\x09\x02\x0d\xb0\x3e\xab\
+           \x1e\x03\x1d\xda\x2f\xbe\x03\xd1\x79\x21\x70\xa0\xf3\x00\x9c\xee";
+    assert!(rt; text == cipher);
+}
+
+// Which bytes of a block count.
+#[derive(Clone, Copy, PartialEq, Eq, Debug, Drop)]
+enum Counts {
+    LastFour,
+    FirstFour,
+}
+
+// The text with the four bytes that count this many below 2^32.
+fn below_end(counts: Counts, below: u32) -> [u8; 16] {
+    let count = 0u32.wrapping_sub(below);
+    let mut block = TEXT;
+    match counts {
+        Counts::LastFour => block[12..].copy_from_slice(&count.to_be_bytes()),
+        Counts::FirstFour => block[..4].copy_from_slice(&count.to_le_bytes()),
+    }
+    block
+}
+
+// The stream from the block that is this many below 2^32, in calls of at most `size` bytes.
+fn stream(key: &AesKey, counts: Counts, below: u32, size: usize) -> [u8; 1100]
+    requires { 0 < size }
+{
+    let first = Block::new(below_end(counts, below));
+    let mut bytes = [0; 1100];
+    match counts {
+        Counts::LastFour => {
+            let mut stream = CtrBe::new(key, &first);
+            for piece in bytes.chunks_mut(size) {
+                stream.apply(piece);
+            }
+        }
+        Counts::FirstFour => {
+            let mut stream = CtrLe::new(key, &first);
+            for piece in bytes.chunks_mut(size) {
+                stream.apply(piece);
+            }
+        }
+    }
+    bytes
+}
+
+// Whether the stream, in calls of each size, has the ciphers of blocks of which each is counted on from the one
+// before it, modulo 2^32.
+fn is_stream(key: &AesKey, counts: Counts, below: u32, sizes: &[usize]) -> bool {
+    let mut due = [0; 1100];
+    let mut left = below;
+    for piece in due.chunks_mut(16) {
+        let cipher = key.encrypt(&Block::new(below_end(counts, left)));
+        for (byte, made) in piece.iter_mut().zip(cipher.bytes()) {
+            *byte = *made;
+        }
+        left = left.wrapping_sub(1);
+    }
+    for size in sizes {
+        if stream(key, counts, below, (*size).max(1)) != due {
+            return false;
+        }
+    }
+    true
+}
+
+// The count passes 2^32 at the first block of sixteen that are made together, within them, at the last one or
+// after them; and there are runs of sixteen blocks, of eight, of four and of one.
+#[test]
+fn streams_count_modulo_2_to_32(rt: HostRuntime) {
+    for key in keys(&rt) {
+        for below in [1, 2, 5, 8, 15, 16, 17, 37, 100] {
+            for counts in [Counts::LastFour, Counts::FirstFour] {
+                let sizes = [16, 64, 97, 129, 193, 257, 513, 537, 577, 1100];
+                assert!(rt;
+                    is_stream(&key, counts, below, &sizes),
+                    "{counts:?}, {below}"
+                );
+            }
+        }
+    }
+}
+
+// The block of sixteen zeros comes after that of twelve zeros and ffffffff.
+#[test]
+fn zeros_after_the_last_count(rt: HostRuntime) {
+    let key = AesKey::from_slice(&[0; 16]).expect(&rt, "a key");
+    let mut first = [0; 16];
+    first[12..].copy_from_slice(&[255; 4]);
+    let mut bytes = [0; 32];
+    CtrBe::new(&key, &Block::new(first)).apply(&mut bytes);
+    let due = *b"\x66\xe9\x4b\xd4\xef\x8a\x2c\x3b\x88\x4c\xfa\x59\xca\x34\x2b\x2e";
+    assert!(rt; bytes.ends_with(&due));
+}

@@ -1,0 +1,51 @@
+//! Sealing in the pieces that cuts fix.
+ghost use Rattle.aead.specs.Cuts.{Rise};
+
+use super::super::published::{CHACHA, GCM_SIV};
+use super::samples::*;
+use aead::seal_cut;
+use std::alloc::{Allocator, Global};
+use std::process::Abort;
+
+// Whether pieces have these lengths.
+fn have_lengths<A: Allocator>(pieces: &[Vec<u8, A>], lengths: &[usize]) -> bool {
+    for (piece, length) in pieces.iter().zip(lengths) {
+        if piece.len() != *length {
+            return false;
+        }
+    }
+    pieces.len() == lengths.len()
+}
+
+// Sealed with these cuts, a text has pieces of these lengths, which joined are its sealing.
+fn has_pieces(
+    rt: &(impl Abort + Alloc<A = Global>),
+    sample: &Sample,
+    cuts: &[u64],
+    lengths: &[usize],
+)
+    requires { Rise 0 cuts.now }
+{
+    let Sample {
+        cipher,
+        nonce,
+        aad,
+        text,
+        sealed,
+    } = sample;
+    let pieces = seal_cut(rt.alloc(), cipher, nonce, aad, text, cuts).expect(rt, "pieces");
+    assert!(rt; are_joined(&pieces, sealed), "{cuts:?}");
+    assert!(rt; have_lengths(&pieces, lengths), "{cuts:?}");
+}
+
+// A text that is read once, cut at each place and at three, and one that is read twice.
+#[test]
+fn pieces_begin_at_the_cuts(rt: HostRuntime) {
+    let chacha = sample_of(&rt, &CHACHA);
+    for cut in 1..115u64 {
+        let first = cut as usize;
+        has_pieces(&rt, &chacha, &[cut], &[first, 114 - first, 16]);
+    }
+    has_pieces(&rt, &chacha, &[1, 5, 16], &[1, 4, 11, 98, 16]);
+    has_pieces(&rt, &sample_of(&rt, &GCM_SIV), &[3, 8], &[3, 5, 0, 16]);
+}

@@ -1,0 +1,84 @@
+//! A text of more than 1,024 bytes, as OpenSSL seals it.
+use super::super::files::bytes;
+use aead::{Aead, AnyAead, Suite};
+use octets::{Nonce, Tag};
+use std::alloc::Global;
+use std::process::Abort;
+
+// A key of n bytes is the first n of these, the nonce the first twelve.
+const KEY: [u8; 32] = [
+    0, 1, 2, 3, 4, 5, 6, 7, 8, 9, 10, 11, 12, 13, 14, 15, 16, 17, 18, 19, 20, 21, 22, 23, 24, 25,
+    26, 27, 28, 29, 30, 31,
+];
+
+// Four runs of sixteen blocks, a block and a byte: byte i is 7 i + i / 256.
+fn text() -> [u8; 1041] {
+    let mut bytes = [0; 1041];
+    for (i, byte) in bytes.iter_mut().enumerate() {
+        *byte = ((i % 256) as u8)
+            .wrapping_mul(7)
+            .wrapping_add((i / 256 % 256) as u8);
+    }
+    bytes
+}
+
+// The tag of a text that is sealed in place, without associated data.
+fn sealed(rt: &impl Abort, cipher: &AnyAead, aad: &[u8], text: &mut [u8]) -> Tag {
+    let nonce = Nonce::from_slice(&KEY[..12]).expect(rt, "a nonce");
+    cipher.seal_in_place(&nonce, aad, text).expect(rt, "a tag")
+}
+
+// The suite, the tag, and a digest of the ciphertext: the tag by ChaCha20-Poly1305 of no text with it as
+// associated data.
+const SEALINGS: [(Suite, &str, &str); 6] = [
+    (
+        Suite::ChaCha20Poly1305,
+        "126fe556568b238c053271d44363a394",
+        "6db03b65d0e46a10ad5e9634ba734120",
+    ),
+    (
+        Suite::Aes128Gcm,
+        "e42e554ce3b181c0663620583fde8165",
+        "9d3920dbe4e0ba0bbe6510c6ae8b32b8",
+    ),
+    (
+        Suite::Aes192Gcm,
+        "f418a50274317428ab7ad969e4b5057a",
+        "28495e3337be9f93e615a6c5d4cfeb73",
+    ),
+    (
+        Suite::Aes256Gcm,
+        "38a5094c408622477dc84b0fa224b9b0",
+        "11e8f338811bb33fa71d701b8f1443a1",
+    ),
+    (
+        Suite::Aes128GcmSiv,
+        "c40bdfca0c01cf90dfaba2d18d0c1677",
+        "5be5fcc4d4d0c4dbd91e3dec664ed7e8",
+    ),
+    (
+        Suite::Aes256GcmSiv,
+        "63d6be4bfdc96f19d48b33cff6d02a0e",
+        "88ce3480f0aa7ddb0915e127273ad312",
+    ),
+];
+
+#[test]
+fn a_long_text(rt: HostRuntime) {
+    let chacha = AnyAead::new(Suite::ChaCha20Poly1305, &KEY).expect(&rt, "a key");
+    for (suite, tag, digest) in &SEALINGS {
+        let key = &KEY[..suite.key_length().min(32)];
+        let cipher = AnyAead::new(*suite, key).expect(&rt, "a key");
+        let mut held = text();
+        let made = sealed(&rt, &cipher, &[], &mut held);
+        assert!(rt;
+            made.bytes().as_slice() == bytes(&rt, tag).as_slice(),
+            "{suite:?}"
+        );
+        let found = sealed(&rt, &chacha, &held, &mut []);
+        assert!(rt;
+            found.bytes().as_slice() == bytes(&rt, digest).as_slice(),
+            "{suite:?}"
+        );
+    }
+}

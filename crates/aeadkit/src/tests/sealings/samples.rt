@@ -1,0 +1,84 @@
+//! The bytes of published vectors, with their ciphers.
+use super::super::files::bytes;
+use super::super::published::Vector;
+use aead::{AnyAead, AnyOnePass, GcmSiv, Suite};
+use octets::{Nonce, Tag};
+use std::alloc::{Allocator, Global};
+use std::process::Abort;
+
+/// A published sealing.
+#[derive(Drop)]
+pub struct Sample {
+    pub cipher: AnyAead,
+    pub nonce: Nonce,
+    pub aad: Vec<u8>,
+    pub text: Vec<u8>,
+    pub sealed: Vec<u8>,
+}
+
+/// The bytes of a vector.
+pub fn sample_of(rt: &(impl Abort + Alloc<A = Global>), vector: &Vector<'_>) -> Sample {
+    let suite = Suite::named(vector.suite).expect(rt, "a suite's name");
+    Sample {
+        cipher: AnyAead::new(suite, &bytes(rt, vector.key)).expect(rt, "a key"),
+        nonce: Nonce::from_slice(&bytes(rt, vector.nonce)).expect(rt, "a nonce"),
+        aad: bytes(rt, vector.aad),
+        text: bytes(rt, vector.text),
+        sealed: bytes(rt, vector.sealed),
+    }
+}
+
+/// A cipher of one reading.
+pub fn one_pass(cipher: &AnyAead) -> Option<&AnyOnePass> {
+    match cipher {
+        AnyAead::OnePass(cipher) => Some(cipher),
+        AnyAead::Siv(_) => None,
+    }
+}
+
+/// A cipher of two readings.
+pub fn two_pass(cipher: &AnyAead) -> Option<&GcmSiv> {
+    match cipher {
+        AnyAead::OnePass(_) => None,
+        AnyAead::Siv(cipher) => Some(cipher),
+    }
+}
+
+/// The first bytes of these, so many.
+pub fn first(bytes: &[u8], count: usize) -> &[u8] {
+    &bytes[..count.min(bytes.len())]
+}
+
+/// Changes a bit, numbered from the lowest one of the first byte on.
+pub fn flip(bytes: &mut [u8], bit: usize) {
+    if let Some(byte) = bytes.get_mut(bit / 8) {
+        *byte ^= 1 << (bit % 8);
+    }
+}
+
+/// A copy with the lowest bit of one byte changed.
+pub fn changed(rt: &(impl Abort + Alloc<A = Global>), bytes: &[u8], at: usize) -> Vec<u8> {
+    let mut copy = Vec::from_slice(rt.alloc(), bytes).expect(rt, "memory");
+    flip(&mut copy, at.saturating_mul(8));
+    copy
+}
+
+/// Whether a ciphertext and its tag, joined, are these bytes.
+pub fn are_sealed(body: &[u8], tag: &Tag, sealed: &[u8]) -> bool {
+    match sealed.strip_prefix(body) {
+        Some(last) => last == tag.bytes().as_slice(),
+        None => false,
+    }
+}
+
+/// Whether these pieces, joined, are these bytes.
+pub fn are_joined<A: Allocator>(pieces: &[Vec<u8, A>], bytes: &[u8]) -> bool {
+    let mut rest = bytes;
+    for piece in pieces {
+        match rest.strip_prefix(piece.as_slice()) {
+            Some(behind) => rest = behind,
+            None => return false,
+        }
+    }
+    rest.is_empty()
+}
