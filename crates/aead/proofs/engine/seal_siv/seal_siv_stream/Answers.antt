@@ -21,3 +21,6 @@ returns-in_err-check_aad-clause-seals g c =
       outlet = g.O.Outlet.failures c.args.out.now;
     })
     AadTooLong (omega (arith, c.in_err-check_aad.ensures.1, ap aad_limit c.suite.ensures)))
+
+pub returns-clause-seals : goal.returns-clause-seals
+returns-clause-seals g c = c.seal_by.ensures.seals

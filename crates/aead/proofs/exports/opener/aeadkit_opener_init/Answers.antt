@@ -60,3 +60,6 @@ pub returns-in-Err-clause-unknown : goal.returns-in-Err-clause-unknown
 returns-in-Err-clause-unknown c = λ none.
     let found = (c.in-Some.ensures c.in-Some.suite).0 refl in
     absurd (none c.in-Some.suite (sym c.from.ensures ∙ found))
+
+pub returns-in_default-clause-refused : goal.returns-in_default-clause-refused
+returns-in_default-clause-refused c = λ _. c.erase.ensures

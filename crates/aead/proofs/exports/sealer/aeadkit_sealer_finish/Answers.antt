@@ -20,3 +20,6 @@ pub returns-in_default-clause-holds : goal.returns-in_default-clause-holds
 returns-in_default-clause-holds c = λ s text h.
     let f = held (construction_of s.suite) _ s _ (h []) in
     absurd (none-some s.suite ((c.in_default.ensures s.suite).1 (f.one_pass, f.mark_is)))
+
+pub returns-clause-done : goal.returns-clause-done
+returns-clause-done c = λ _. c.erase.ensures

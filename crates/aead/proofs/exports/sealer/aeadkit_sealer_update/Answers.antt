@@ -49,3 +49,6 @@ pub returns-in_default-clause-holds : goal.returns-in_default-clause-holds
 returns-in_default-clause-holds c = λ s text h.
     let f = held (construction_of s.suite) _ s _ (h []) in
     absurd (none-some s.suite ((c.in_default.ensures s.suite).1 (f.one_pass, f.mark_is)))
+
+pub returns-else-mask_piece-clause-kept : goal.returns-else-mask_piece-clause-kept
+returns-else-mask_piece-clause-kept c = λ _. c.mask_piece.ensures.kept c.if-mask_piece.false

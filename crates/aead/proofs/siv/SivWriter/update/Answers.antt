@@ -1,3 +1,4 @@
+use Rattle.std.proofs.Common.{refl, arith}
 use Rattle.aead.proofs.siv.SivWriter.update.Goals as goal
 
 pub returns-clause-answer : goal.returns-clause-answer
@@ -6,3 +7,7 @@ returns-clause-answer c = λ s first text h.
       record { by_gcm_siv = h.by_gcm_siv; tag_is = h.tag_is; masking = u.0 },
       u.1,
     )
+
+pub returns-then-piece-room-clause-answer : goal.returns-then-piece-room-clause-answer
+returns-then-piece-room-clause-answer c = λ s first text h.
+    (refl, omega (arith, c.room.ensures, h.masking.limit_is, h.masking.count_is))
