@@ -18,3 +18,6 @@ returns-then-has_wrapped_length-clause-answer c =
     wrapping_by c.args.key.now c.wrap_register.new.bytes (c.copy_from_slice.new.self ++ text) text bytes
     lengths
     (ap (λ x. x ++ text) c.copy_from_slice.ensures.after) c.wrap_register.ensures
+
+pub returns-else-has_wrapped_length-clause-kept : goal.returns-else-has_wrapped_length-clause-kept
+returns-else-has_wrapped_length-clause-kept c = refl
