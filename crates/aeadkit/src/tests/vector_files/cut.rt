@@ -15,13 +15,14 @@ fn due_after(number: u64) -> Answer {
 
 // Its fault if it is cut inside a line of which so many bytes of the value are kept, or no `=`.
 fn due_inside(number: u64, kept: Option<usize>) -> VectorFault {
-    match (number, kept) {
-        (1, _) => NoRecords,
-        (2, _) => BadFormat(2),
-        (_, None) => BadLine(number),
-        (3 | 10, _) => UnknownSuite(number),
-        (_, Some(digits)) if digits % 2 == 1 => BadHex(number),
-        (7 | 14, _) => Unfinished(number),
+    let is_odd = kept.unwrap_or(0) % 2 == 1;
+    match number {
+        1 => NoRecords,
+        2 => BadFormat(2),
+        _ if kept.is_none() => BadLine(number),
+        3 | 10 => UnknownSuite(number),
+        _ if is_odd => BadHex(number),
+        7 | 14 => Unfinished(number),
         _ => BadLength(number),
     }
 }
