@@ -43,7 +43,7 @@ const REPORTS: [(&str, u8, &str, &str); 12] = [
     ("format = 1", 1, "", "aeadkit: NoRecords\n"),
     ("", 1, "", "aeadkit: NoRecords\n"),
     (
-        "#\nformat = 1\nsuite = aes-128-wrap\nkey = 000\n",
+        "format = 1\nsuite = aes-128-gcm\nkey = 00000000000000000000000000000000\nnonce = 000\n",
         1,
         "",
         "aeadkit: BadHex at line 4\n",
