@@ -139,26 +139,16 @@ pub fn prepare<'a, A: Allocator>(
 pub fn seal<'a, A: Allocator>(alloc: &'a A, words: &Inputs<'_>) -> Result<Vec<u8, &'a A>, Failure>
     ensures { MatchResult result (λ v. IsSealed words.now v.items) (IsRefused WholeSealRefused words.now) }
 {
-    let Prepared {
-        cipher,
-        nonce,
-        aad,
-        body,
-    } = prepare(alloc, words)?;
-    Ok(aead::seal(alloc, &cipher, &nonce, &aad, &body)?)
+    let call = prepare(alloc, words)?;
+    Ok(aead::seal(alloc, &call.cipher, &call.nonce, &call.aad, &call.body)?)
 }
 
 /// `open`: the text of sealed bytes. The refusals of its inputs come first, then those of the call.
 pub fn open<'a, A: Allocator>(alloc: &'a A, words: &Inputs<'_>) -> Result<Vec<u8, &'a A>, Failure>
     ensures { MatchResult result (λ v. IsOpened words.now v.items) (IsRefused WholeOpenRefused words.now) }
 {
-    let Prepared {
-        cipher,
-        nonce,
-        aad,
-        body,
-    } = prepare(alloc, words)?;
-    Ok(aead::open(alloc, &cipher, &nonce, &aad, &body)?)
+    let call = prepare(alloc, words)?;
+    Ok(aead::open(alloc, &call.cipher, &call.nonce, &call.aad, &call.body)?)
 }
 
 /// `check`: the report of a vector file. The refusals of reading it come first, then the file's first fault.

@@ -36,18 +36,19 @@ not_true : (b : Bool) → (b ≡ true → ⊥) → b ≡ false
 not_true true h = absurd (h refl)
 not_true false h = refl
 
--- the result of a search for the first line feed is its position
-pub first_byte : (bytes : List ℕ) (r : Option ℕ) → IsFirstByte (is_byte 10) bytes r → r ≡ position is_lf bytes
-first_byte bytes None h =
-    let at = position_or_len_is is_lf bytes (length bytes) 0 (omega arith)
-    (λ k l. not_true (is_lf (get_or bytes k 0)) (h k (omega arith) l)) (λ l. absurd (omega (arith, l))) in
-    let past : nat_lt (position_or_len is_lf bytes) (length bytes) ≡ false =
+-- the result of a search for the first byte that is this one is its position
+pub first_byte : (byte : ℕ) (bytes : List ℕ) (r : Option ℕ) → IsFirstByte (is_byte byte) bytes r
+    → r ≡ position (is_byte byte) bytes
+first_byte byte bytes None h =
+    let at = position_or_len_is (is_byte byte) bytes (length bytes) 0 (omega arith)
+    (λ k l. not_true (is_byte byte (get_or bytes k 0)) (h k (omega arith) l)) (λ l. absurd (omega (arith, l))) in
+    let past : nat_lt (position_or_len (is_byte byte) bytes) (length bytes) ≡ false =
     grind (arith, common_steps, at) in
     rw past refl
-first_byte bytes (Some n) h =
-    let at = position_or_len_is is_lf bytes n 0 (omega (arith, h.0.high))
-    (λ k l. not_true (is_lf (get_or bytes k 0)) (h.0.before k (omega arith) l)) (λ l. h.1) in
-    let within : nat_lt (position_or_len is_lf bytes) (length bytes) ≡ true =
+first_byte byte bytes (Some n) h =
+    let at = position_or_len_is (is_byte byte) bytes n 0 (omega (arith, h.0.high))
+    (λ k l. not_true (is_byte byte (get_or bytes k 0)) (h.0.before k (omega arith) l)) (λ l. h.1) in
+    let within : nat_lt (position_or_len (is_byte byte) bytes) (length bytes) ≡ true =
     grind (arith, common_steps, at, h.0.high) in
     rw (within, at) refl
 

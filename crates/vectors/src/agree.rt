@@ -95,37 +95,24 @@ fn aes_key(digits: Digits<'_>) -> AesKey
     key
 }
 
-// Whether the sealed bytes are the wrapping of the text, or of no text for `invalid` (RFC 3394).
-fn wrapping_agrees<A: Allocator>(
-    alloc: &A,
-    key: &AesKey,
-    sealed: Digits<'_>,
-    text: Option<Digits<'_>>,
-) -> Result<bool, AllocError>
-    ensures { IfOk result
-        (λ b. IsTrue b ↔ TextIs (Unwrapped key.now (bytes_in sealed.entry)) (text_view text.entry)) }
+// Whether the bytes are the wrapping of the text, or of no text for `invalid` (RFC 3394). Unwraps them in place.
+fn wrapping_agrees(key: &AesKey, sealed: &mut [u8], text: Option<Digits<'_>>) -> bool
+    ensures { IsTrue result ↔ TextIs (Unwrapped key.now sealed.old) (text_view text.entry) }
 {
-    let mut bytes = sealed.bytes(alloc)?;
-    match unwrap_in_place(key, &mut bytes) {
-        Ok(()) => Ok(is_text(text, &bytes[8..])),
-        Err(_) => Ok(text.is_none()),
+    match unwrap_in_place(key, sealed) {
+        Ok(()) => is_text(text, &sealed[8..]),
+        Err(_) => text.is_none(),
     }
 }
 
-// Whether the sealed bytes are the padded wrapping of the text, or of no text for `invalid` (RFC 5649).
-fn padded_wrapping_agrees<A: Allocator>(
-    alloc: &A,
-    key: &AesKey,
-    sealed: Digits<'_>,
-    text: Option<Digits<'_>>,
-) -> Result<bool, AllocError>
-    ensures { IfOk result
-        (λ b. IsTrue b ↔ TextIs (UnwrappedPadded key.now (bytes_in sealed.entry)) (text_view text.entry)) }
+// Whether the bytes are the padded wrapping of the text, or of no text for `invalid` (RFC 5649). Unwraps them in
+// place.
+fn padded_wrapping_agrees(key: &AesKey, sealed: &mut [u8], text: Option<Digits<'_>>) -> bool
+    ensures { IsTrue result ↔ TextIs (UnwrappedPadded key.now sealed.old) (text_view text.entry) }
 {
-    let mut bytes = sealed.bytes(alloc)?;
-    match unwrap_padded_in_place(key, &mut bytes) {
-        Ok(count) => Ok(is_text(text, &bytes[8..8 + count])),
-        Err(_) => Ok(text.is_none()),
+    match unwrap_padded_in_place(key, sealed) {
+        Ok(count) => is_text(text, &sealed[8..8 + count]),
+        Err(_) => text.is_none(),
     }
 }
 
@@ -136,9 +123,13 @@ pub(crate) fn agrees<A: Allocator>(alloc: &A, entry: &Entry<'_>) -> Result<bool,
 {
     match entry.suite {
         Algorithm::Aead(suite) => aead_agrees(alloc, suite, entry),
-        Algorithm::Wrap(_) => wrapping_agrees(alloc, &aes_key(entry.key), entry.sealed, entry.text),
+        Algorithm::Wrap(_) => {
+            let mut sealed = entry.sealed.bytes(alloc)?;
+            Ok(wrapping_agrees(&aes_key(entry.key), &mut sealed, entry.text))
+        }
         Algorithm::WrapPad(_) => {
-            padded_wrapping_agrees(alloc, &aes_key(entry.key), entry.sealed, entry.text)
+            let mut sealed = entry.sealed.bytes(alloc)?;
+            Ok(padded_wrapping_agrees(&aes_key(entry.key), &mut sealed, entry.text))
         }
     }
 }

@@ -1,15 +1,10 @@
 // The value of a `cuts` line.
-ghost use Rattle.std.specs.Prelude.{◌≡◌, ◌<◌, ◌==◌, [], ◌∷◌, length, position, IfSome, map};
+ghost use Rattle.std.specs.Prelude.{◌≡◌, ◌<◌, ◌==◌, [], ◌∷◌, length, IfSome, map};
 ghost use Rattle.std.specs.Option.{option_map_or};
 ghost use Rattle.std.specs.List.{slice_split};
 ghost use Rattle.vectors.specs.Cuts.{is_digit, has_no_leading_zero, number_of, rise, are_cuts};
 
-// The place of the first comma.
-fn comma(text: &[u8]) -> Option<usize>
-    ensures { result ≡ position (λ b. b == 44) text.now }
-{
-    text.iter().position(|b| *b == b',')
-}
+use crate::lines::first_place;
 
 // The text before the first comma, and the text after it.
 fn first_part(text: &[u8]) -> (&[u8], Option<&[u8]>)
@@ -17,7 +12,7 @@ fn first_part(text: &[u8]) -> (&[u8], Option<&[u8]>)
         ≡ result.0.now ∷ option_map_or (λ rest. slice_split (λ b. b == 44) rest.now) result.1 [] }
     ensures shorter { IfSome result.1 (λ rest. length rest.now < length text.now) }
 {
-    match comma(text) {
+    match first_place(b',', text) {
         Some(at) => (&text[..at], Some(&text[at + 1..])),
         None => (text, None),
     }

@@ -1,11 +1,11 @@
 // The parts of a line.
-ghost use Rattle.std.specs.Prelude.{◌≡◌, option_map, position};
+ghost use Rattle.std.specs.Prelude.{◌≡◌, option_map};
 ghost use Rattle.std.specs.List.{list_all};
 ghost use Rattle.hex.specs.Hex.{is_hex_digit};
-ghost use Rattle.vectors.specs.Grammar.{field_of, value_line, is_gap, is_equals};
+ghost use Rattle.vectors.specs.Grammar.{field_of, value_line, is_gap};
 ghost use Rattle.vectors.specs.Faults.{is_hex};
 
-use crate::lines::{without_end_spaces, without_start_spaces};
+use crate::lines::{first_place, without_end_spaces, without_start_spaces};
 
 // Whether a line is blank or a comment.
 pub(crate) fn is_gap(line: &[u8]) -> bool
@@ -14,19 +14,12 @@ pub(crate) fn is_gap(line: &[u8]) -> bool
     matches!(line, [] | [b'#', ..])
 }
 
-// The place of the first `=` of a line.
-fn equals_sign(line: &[u8]) -> Option<usize>
-    ensures { result ≡ position is_equals line.now }
-{
-    line.iter().position(|b| *b == b'=')
-}
-
 // The parts of a line before and after its first `=`.
 #[tactic(auto, unfolding(crate::specs::Grammar::field_of))]
 fn field_of(line: &[u8]) -> Option<(&[u8], &[u8])>
     ensures { option_map (λ f. (f.0.now, f.1.now)) result ≡ field_of line.now }
 {
-    let at = equals_sign(line)?;
+    let at = first_place(b'=', line)?;
     let name = without_end_spaces(&line[..at]);
     let value = without_start_spaces(&line[at + 1..]);
     Some((name, value))

@@ -37,11 +37,11 @@ fn without_carriage_return(line: &[u8]) -> &[u8]
     }
 }
 
-// Where the first line ends.
-fn line_end(bytes: &[u8]) -> Option<usize>
-    ensures { result ≡ position (λ b. b == 10) bytes.now }
+// The place of the first byte that is this one.
+pub(crate) fn first_place(byte: u8, bytes: &[u8]) -> Option<usize>
+    ensures { result ≡ position (λ b. b == byte) bytes.now }
 {
-    memchr(b'\n', bytes)
+    memchr(byte, bytes)
 }
 
 // The first line, and the bytes after it.
@@ -53,7 +53,7 @@ pub(crate) fn first_line(bytes: &[u8]) -> Option<(&[u8], &[u8])>
     if bytes.is_empty() {
         return None;
     }
-    match line_end(bytes) {
+    match first_place(b'\n', bytes) {
         Some(end) => {
             let line = without_carriage_return(&bytes[..end]);
             Some((without_end_spaces(line), &bytes[end + 1..]))

@@ -1,5 +1,0 @@
-use Rattle.vectors.proofs.LineLemmas.{first_byte}
-use Rattle.vectors.proofs.lines.line_end.Goals as goal
-
-pub returns : goal.returns
-returns c = first_byte c.args.bytes.now c.memchr.result c.memchr.ensures
