@@ -2,8 +2,7 @@
 use super::super::files::bytes;
 use super::sixteen;
 use gf128::{
-    BigEndian, BitMul, BlockHash, ByteOrder, KeptMul, Keyed128, LittleEndian, Multiply, TableMul,
-    WideMul,
+    BigEndian, BitMul, BlockHash, ByteOrder, Keyed128, LittleEndian, Multiply, TableMul, WideMul,
 };
 use octets::Block;
 
@@ -26,13 +25,11 @@ fn hash_by<M: Multiply, O: ByteOrder>(multiplier: M, text: &[u8]) -> [u8; 16] {
 // Whether each multiplier gives this hash.
 fn is_hash<O: ByteOrder>(key: &Block, text: &[u8], hash: &[u8; 16]) -> bool {
     let multiplied = O::multiplier_key(key);
-    let table = TableMul::of(&multiplied);
     hash_of::<BitMul, O>(key, text) == *hash
         && hash_of::<TableMul, O>(key, text) == *hash
         && hash_of::<WideMul, O>(key, text) == *hash
         && hash_by::<&WideMul, O>(&WideMul::of(&multiplied), text) == *hash
-        && hash_by::<&TableMul, O>(&table, text) == *hash
-        && hash_by::<KeptMul, O>(KeptMul::new(&multiplied, &table.kept()), text) == *hash
+        && hash_by::<&TableMul, O>(&TableMul::of(&multiplied), text) == *hash
 }
 
 // A key, a text and its GHASH.
