@@ -2,7 +2,8 @@
 use super::super::files::bytes;
 use super::sixteen;
 use gf128::{
-    BigEndian, BitMul, BlockHash, ByteOrder, Keyed128, LittleEndian, Multiply, TableMul, WideMul,
+    BigEndian, BitMul, BlockHash, ByteOrder, KeptMul, Keyed128, LittleEndian, Multiply, TableMul,
+    WideMul,
 };
 use octets::Block;
 
@@ -22,6 +23,12 @@ fn hash_by<M: Multiply, O: ByteOrder>(multiplier: M, text: &[u8]) -> [u8; 16] {
     *state.finish().bytes()
 }
 
+// The hash of a text, by the multiples of a multiplier's key that are kept as plain numbers.
+fn hash_by_kept<O: ByteOrder>(multiplied: &Block, text: &[u8]) -> [u8; 16] {
+    let kept = TableMul::of(multiplied).kept();
+    hash_by::<KeptMul, O>(KeptMul::new(multiplied, &kept), text)
+}
+
 // Whether each multiplier gives this hash.
 fn is_hash<O: ByteOrder>(key: &Block, text: &[u8], hash: &[u8; 16]) -> bool {
     let multiplied = O::multiplier_key(key);
@@ -30,6 +37,7 @@ fn is_hash<O: ByteOrder>(key: &Block, text: &[u8], hash: &[u8; 16]) -> bool {
         && hash_of::<WideMul, O>(key, text) == *hash
         && hash_by::<&WideMul, O>(&WideMul::of(&multiplied), text) == *hash
         && hash_by::<&TableMul, O>(&TableMul::of(&multiplied), text) == *hash
+        && hash_by_kept::<O>(&multiplied, text) == *hash
 }
 
 // A key, a text and its GHASH.
