@@ -7,6 +7,7 @@ mod failing_files;
 mod files;
 mod growths;
 mod hashes;
+mod key_stream;
 mod published;
 mod rows;
 mod scripted;

@@ -7,9 +7,6 @@ mod rows;
 mod single;
 mod state;
 mod stream;
-#[cfg(test)]
-mod tests;
-#[cfg(test)]
 mod uses;
 
 pub use single::block;

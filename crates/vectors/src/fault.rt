@@ -67,7 +67,7 @@ impl From<AllocError> for VectorFault {
 }
 
 // The reason why a line is refused.
-#[derive(Clone, Copy, PartialEq, Eq)]
+#[derive(Clone, Copy)]
 pub(crate) enum Cause {
     BadFormat,
     BadLine,

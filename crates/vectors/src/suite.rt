@@ -6,7 +6,7 @@ ghost use Rattle.vectors.specs.Suites.{format_named, suite_name, suites, suite_n
 ghost use Rattle.vectors.specs.Suites.{suite_key_length, is_aead, fields_of, field_name, field_length};
 
 // The format of a vector file.
-#[derive(Clone, Copy, Debug, PartialEq, Eq)]
+#[derive(Clone, Copy)]
 pub(crate) enum Format {
     One,
     // It knows key wrapping with padding, and cuts.
@@ -14,7 +14,7 @@ pub(crate) enum Format {
 }
 
 // The length of a key of AES.
-#[derive(Clone, Copy, Debug, PartialEq, Eq)]
+#[derive(Clone, Copy)]
 pub(crate) enum Aes {
     Bits128,
     Bits192,
@@ -22,7 +22,7 @@ pub(crate) enum Aes {
 }
 
 // The algorithm that a record's bytes are sealed or wrapped by.
-#[derive(Clone, Copy, Debug, PartialEq, Eq)]
+#[derive(Clone, Copy)]
 pub(crate) enum Algorithm {
     Aead(aead::Suite),
     // Key wrapping.
@@ -32,7 +32,7 @@ pub(crate) enum Algorithm {
 }
 
 // A line of a record between its suite and its end.
-#[derive(Clone, Copy, Debug, PartialEq, Eq)]
+#[derive(Clone, Copy)]
 pub(crate) enum Field {
     Key,
     Nonce,

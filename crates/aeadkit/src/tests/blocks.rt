@@ -73,8 +73,8 @@ fn published_stream(rt: HostRuntime) {
     assert!(rt; text == cipher);
 }
 
-// Which bytes of a block count.
-#[derive(Clone, Copy, PartialEq, Eq, Debug, Drop)]
+// The bytes of a block that count.
+#[derive(Clone, Copy, Debug)]
 enum Counts {
     LastFour,
     FirstFour,

@@ -12,14 +12,14 @@ use std::alloc::{Allocator, Global};
 use std::process::Abort;
 
 // A form of wrapping.
-#[derive(Clone, Copy, PartialEq, Eq, Debug, Drop)]
+#[derive(Clone, Copy)]
 enum Form {
     Plain,
     Padded,
 }
 
-// What is done with bytes.
-#[derive(Clone, Copy, PartialEq, Eq, Debug, Drop)]
+// The call on bytes.
+#[derive(Clone, Copy)]
 enum Way {
     Wraps,
     Unwraps,
@@ -176,8 +176,8 @@ fn other_forms_and_lengths(rt: HostRuntime) {
     }
 }
 
-// What the one block of a wrapping with padding is deciphered to, and the text, if it is one. The block holds
-// a65959a6, the text's length, and the text with zeros after it.
+// The block that a wrapping of one block with padding is deciphered to, and the text, if it is one. The block
+// holds a65959a6, the text's length, and the text with zeros after it.
 const BLOCKS: [([u8; 16], Option<&[u8]>); 6] = [
     (
         [0xa6, 0x59, 0x59, 0xa6, 0, 0, 0, 0, 0, 0, 0, 0, 0, 0, 0, 0],
@@ -239,11 +239,11 @@ fn each_is_refused(
         let memory = RefusingMemory::after(passed, rt.alloc());
         let answer = made(&memory, form, way, key, from);
         if !memory.has_refused() {
-            assert!(rt; is_due(answer, due), "{form:?} {way:?}");
+            assert!(rt; is_due(answer, due), "{from:?}");
             break;
         }
         let refused = Err(Fault::OutOfMemory);
-        assert!(rt; is_due(answer, refused), "{form:?} {way:?} {passed}");
+        assert!(rt; is_due(answer, refused), "{from:?}, request {passed}");
         count = passed.saturating_add(1);
     }
     assert!(rt; count < 6 && (0 < count) == (due != Err(Fault::WrapLength)));

@@ -8,7 +8,7 @@ use std::process::Abort;
 
 // The course of a device: so many calls of seven bytes each before a failure, or three bytes and then a
 // failure, or calls of so many bytes and no failure, or calls of any number of bytes and none.
-#[derive(Clone, Copy, PartialEq, Eq, Debug, Drop)]
+#[derive(Clone, Copy, Debug)]
 enum Course {
     FailsAfter(usize),
     FailsAfterThree,
@@ -46,8 +46,8 @@ fn reading(
     ScriptIntake::new(bytes, steps(rt, course))
 }
 
-// What an engine does with a published vector.
-#[derive(Clone, Copy, PartialEq, Eq, Debug, Drop)]
+// The engine that runs on a published vector.
+#[derive(Clone, Copy)]
 enum Way {
     Opens,
     Seals,

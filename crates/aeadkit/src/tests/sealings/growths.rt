@@ -7,7 +7,7 @@ use std::alloc::{Allocator, Global};
 use std::process::Abort;
 
 // A call that allocates.
-#[derive(Clone, Copy, PartialEq, Eq, Debug, Drop)]
+#[derive(Clone, Copy, Debug)]
 enum Call {
     Seal,
     SealCut,

@@ -1,0 +1,160 @@
+//! ChaCha20: single blocks, and the key stream in pieces.
+ghost use Rattle.std.specs.Prelude.{◌<◌, ◌≤◌, ◌+◌, ◌^◌};
+
+use super::files::bytes;
+use chacha::{ChaStream, block, key_stream_start};
+use octets::{Fault, Key32, Nonce};
+use rand_chacha::ChaCha20Rng;
+use rand_chacha::rand_core::{Rng, SeedableRng};
+use std::process::Abort;
+
+// 00 01 .. 1f
+const KEY: [u8; 32] = [
+    0, 1, 2, 3, 4, 5, 6, 7, 8, 9, 10, 11, 12, 13, 14, 15, 16, 17, 18, 19, 20, 21, 22, 23, 24, 25,
+    26, 27, 28, 29, 30, 31,
+];
+
+// A key, a counter, a nonce, and the block: RFC 8439, 2.3.2, and A.1, vector 1.
+const BLOCKS: [([u8; 32], u32, [u8; 12], &str); 2] = [
+    (
+        KEY,
+        1,
+        [0, 0, 0, 9, 0, 0, 0, 0x4a, 0, 0, 0, 0],
+        "10f1e7e4d13b5915500fdd1fa32071c4c7d1f4c733c068030422aa9ac3d46c4e\
+        d2826446079faa0914c2d705d98b02a2b5129cd1de164eb9cbd083e8a2503c4e",
+    ),
+    (
+        [0; 32],
+        0,
+        [0; 12],
+        "76b8e0ada0f13d90405d6ae55386bd28bdd219b8a08ded1aa836efcc8b770dc7\
+        da41597c5157488d7724e03fb8d84a376a43b8f41518a11cc387b669b2ee6586",
+    ),
+];
+
+#[test]
+fn published_blocks(rt: HostRuntime) {
+    for (key, counter, nonce, due) in &BLOCKS {
+        let made = block(&Key32::new(*key), *counter, &Nonce::new(*nonce));
+        assert!(rt; made.as_slice() == bytes(&rt, due).as_slice());
+    }
+}
+
+// Whether the words of another implementation from a block on are these bytes.
+fn are_words(other: &mut ChaCha20Rng, counter: u32, block: &[u8; 64]) -> bool {
+    other.set_word_pos(16 * counter as u128);
+    let mut agree = true;
+    for word in block.chunks(4) {
+        agree &= word == other.next_u32().to_le_bytes().as_slice();
+    }
+    agree
+}
+
+#[test]
+fn blocks_of_another_implementation(rt: HostRuntime) {
+    let nonce = Nonce::new([0, 0, 0, 0, 0, 1, 2, 3, 4, 5, 6, 7]);
+    let mut other = ChaCha20Rng::from_seed(KEY);
+    other.set_stream(0x0706_0504_0302_0100);
+    for counter in [0, 1, u32::MAX] {
+        let made = block(&Key32::new(KEY), counter, &nonce);
+        assert!(rt; are_words(&mut other, counter, &made), "{counter}");
+    }
+}
+
+// Ten blocks from a counter on, each made by itself.
+fn ten_blocks(first: u32) -> [[u8; 64]; 10] {
+    let mut blocks = [[0; 64]; 10];
+    for (i, made) in blocks.iter_mut().enumerate() {
+        *made = block(&Key32::new(KEY), first.wrapping_add(i as u32), &Nonce::new([7; 12]));
+    }
+    blocks
+}
+
+// Whether the start of the key stream is the blocks that are made one by one.
+fn starts_with_blocks<const N: usize>() -> bool
+    requires { N ≤ 2 ^ 38 }
+{
+    let start: [u8; N] = key_stream_start(&Key32::new(KEY), &Nonce::new([7; 12]));
+    ten_blocks(0).as_flattened().starts_with(&start)
+}
+
+#[test]
+fn the_start_is_single_blocks(rt: HostRuntime) {
+    assert!(rt; starts_with_blocks::<128>());
+    assert!(rt; starts_with_blocks::<256>());
+    assert!(rt; starts_with_blocks::<320>());
+    assert!(rt; starts_with_blocks::<512>());
+    assert!(rt; starts_with_blocks::<576>());
+}
+
+// The key stream from a block on.
+fn stream(first: u32) -> ChaStream {
+    ChaStream::new(&Key32::new(KEY), &Nonce::new([7; 12]), first)
+}
+
+// Whether a stream from a block on gives `length` bytes of the blocks that are made one by one, in pieces of a
+// size, and changes no byte after them.
+fn gives(first: u32, length: usize, size: usize) -> bool
+    requires { length ≤ 640 }
+    requires { 0 < size }
+{
+    let mut stream = stream(first);
+    let mut bytes = [0; 640];
+    let (front, back) = bytes.split_at_mut(length);
+    let mut made = true;
+    for piece in front.chunks_mut(size) {
+        made &= stream.apply(piece).is_ok();
+    }
+    made && ten_blocks(first).as_flattened().starts_with(front) && [0; 640].starts_with(back)
+}
+
+#[test]
+fn every_length(rt: HostRuntime) {
+    for length in 0..601usize {
+        assert!(rt; gives(0, length, 640), "{length}");
+    }
+}
+
+#[test]
+fn pieces_of_each_size(rt: HostRuntime) {
+    for size in [1, 63, 64, 65, 255, 256, 257, 300, 511usize] {
+        assert!(rt; gives(0, 640, size), "{size}");
+    }
+}
+
+// A block near the last one, how many bytes go from there, and the size of the pieces.
+const LAST: [(u32, usize, usize); 5] = [
+    (u32::MAX, 64, 64),
+    (u32::MAX, 64, 63),
+    (u32::MAX - 2, 192, 192),
+    (u32::MAX - 6, 448, 448),
+    (u32::MAX - 7, 512, 512),
+];
+
+#[test]
+fn the_last_blocks(rt: HostRuntime) {
+    for (first, length, size) in &LAST {
+        let length = (*length).min(640);
+        assert!(rt; gives(*first, length, (*size).max(1)), "{length}");
+    }
+}
+
+// A block near the last one, how many bytes go from there, how many are then refused, and how many go after that.
+const PAST: [(u32, usize, usize, usize); 3] = [
+    (u32::MAX, 64, 1, 0),
+    (u32::MAX, 0, 65, 64),
+    (u32::MAX - 2, 0, 193, 192),
+];
+
+// Bytes past the last block are refused and stay, and the stream stays where it was.
+#[test]
+fn past_the_last_block(rt: HostRuntime) {
+    for (first, before, refused, after) in &PAST {
+        let mut stream = stream(*first);
+        let mut bytes = [9; 640];
+        assert!(rt; stream.apply(&mut [0; 640][..(*before).min(640)]).is_ok());
+        let answer = stream.apply(&mut bytes[..(*refused).min(640)]);
+        assert!(rt; answer == Err(Fault::StreamEnd) && bytes == [9; 640]);
+        assert!(rt; stream.apply(&mut bytes[..(*after).min(640)]).is_ok());
+    }
+}
