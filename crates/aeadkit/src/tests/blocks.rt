@@ -1,9 +1,6 @@
 //! AES and its streams of counting blocks.
-ghost use Rattle.std.specs.Prelude.{◌<◌};
-
 use aes::{AesKey, CtrBe, CtrLe, round};
 use octets::{Block, Key16, Key24, Key32};
-use std::process::Abort;
 
 // A key of n bytes is the first n of these.
 const BYTES: [u8; 32] = [
@@ -20,15 +17,6 @@ const CIPHERS: [[u8; 16]; 3] = [
     *b"\x8e\xa2\xb7\xca\x51\x67\x45\xbf\xea\xfc\x49\x90\x4b\x49\x60\x89",
 ];
 
-// The keys of 16, 24 and 32 bytes, by the call for each length.
-fn keys(rt: &impl Abort) -> [AesKey; 3] {
-    [
-        AesKey::new128(&Key16::from_slice(&BYTES[..16]).expect(rt, "16 bytes")),
-        AesKey::new192(&Key24::from_slice(&BYTES[..24]).expect(rt, "24 bytes")),
-        AesKey::new256(&Key32::new(BYTES)),
-    ]
-}
-
 // Whether the text is enciphered so, alone and as the last of four blocks, and deciphered.
 fn is_cipher(key: &AesKey, cipher: &[u8; 16]) -> bool {
     let block = key.encrypt(&Block::new(TEXT));
@@ -41,9 +29,11 @@ fn is_cipher(key: &AesKey, cipher: &[u8; 16]) -> bool {
 
 #[test]
 fn published_ciphers(rt: HostRuntime) {
-    for (key, cipher) in keys(&rt).iter().zip(&CIPHERS) {
-        assert!(rt; is_cipher(key, cipher));
-    }
+    let key = AesKey::new128(&Key16::from_slice(&BYTES[..16]).expect(&rt, "16 bytes"));
+    assert!(rt; is_cipher(&key, &CIPHERS[0]));
+    let key = AesKey::new192(&Key24::from_slice(&BYTES[..24]).expect(&rt, "24 bytes"));
+    assert!(rt; is_cipher(&key, &CIPHERS[1]));
+    assert!(rt; is_cipher(&AesKey::new256(&Key32::new(BYTES)), &CIPHERS[2]));
     for (length, cipher) in [16, 24, 32usize].iter().zip(&CIPHERS) {
         let key = AesKey::from_slice(&BYTES[..(*length).min(32)]).expect(&rt, "a key");
         assert!(rt; is_cipher(&key, cipher));
@@ -73,84 +63,6 @@ fn published_stream(rt: HostRuntime) {
     assert!(rt; text == cipher);
 }
 
-// The bytes of a block that count.
-#[derive(Clone, Copy, Debug)]
-enum Counts {
-    LastFour,
-    FirstFour,
-}
-
-// The text with the four bytes that count this many below 2^32.
-fn below_end(counts: Counts, below: u32) -> [u8; 16] {
-    let count = 0u32.wrapping_sub(below);
-    let mut block = TEXT;
-    match counts {
-        Counts::LastFour => block[12..].copy_from_slice(&count.to_be_bytes()),
-        Counts::FirstFour => block[..4].copy_from_slice(&count.to_le_bytes()),
-    }
-    block
-}
-
-// The stream from the block that is this many below 2^32, in calls of at most `size` bytes.
-fn stream(key: &AesKey, counts: Counts, below: u32, size: usize) -> [u8; 1100]
-    requires { 0 < size }
-{
-    let first = Block::new(below_end(counts, below));
-    let mut bytes = [0; 1100];
-    match counts {
-        Counts::LastFour => {
-            let mut stream = CtrBe::new(key, &first);
-            for piece in bytes.chunks_mut(size) {
-                stream.apply(piece);
-            }
-        }
-        Counts::FirstFour => {
-            let mut stream = CtrLe::new(key, &first);
-            for piece in bytes.chunks_mut(size) {
-                stream.apply(piece);
-            }
-        }
-    }
-    bytes
-}
-
-// Whether the stream, in calls of each size, has the ciphers of blocks of which each is counted on from the one
-// before it, modulo 2^32.
-fn is_stream(key: &AesKey, counts: Counts, below: u32, sizes: &[usize]) -> bool {
-    let mut due = [0; 1100];
-    let mut left = below;
-    for piece in due.chunks_mut(16) {
-        let cipher = key.encrypt(&Block::new(below_end(counts, left)));
-        for (byte, made) in piece.iter_mut().zip(cipher.bytes()) {
-            *byte = *made;
-        }
-        left = left.wrapping_sub(1);
-    }
-    for size in sizes {
-        if stream(key, counts, below, (*size).max(1)) != due {
-            return false;
-        }
-    }
-    true
-}
-
-// The count passes 2^32 at the first block of sixteen that are made together, within them, at the last one or
-// after them; and there are runs of sixteen blocks, of eight, of four and of one.
-#[test]
-fn streams_count_modulo_2_to_32(rt: HostRuntime) {
-    for key in keys(&rt) {
-        for below in [1, 2, 5, 8, 15, 16, 17, 37, 100] {
-            for counts in [Counts::LastFour, Counts::FirstFour] {
-                let sizes = [16, 64, 97, 129, 193, 257, 513, 537, 577, 1100];
-                assert!(rt;
-                    is_stream(&key, counts, below, &sizes),
-                    "{counts:?}, {below}"
-                );
-            }
-        }
-    }
-}
-
 // The block of sixteen zeros comes after that of twelve zeros and ffffffff.
 #[test]
 fn zeros_after_the_last_count(rt: HostRuntime) {
@@ -161,4 +73,17 @@ fn zeros_after_the_last_count(rt: HostRuntime) {
     CtrBe::new(&key, &Block::new(first)).apply(&mut bytes);
     let due = *b"\x66\xe9\x4b\xd4\xef\x8a\x2c\x3b\x88\x4c\xfa\x59\xca\x34\x2b\x2e";
     assert!(rt; bytes.ends_with(&due));
+}
+
+// After the block that begins with ffffffff comes that of four zeros and the same last twelve bytes.
+#[test]
+fn zeros_before_the_last_twelve(rt: HostRuntime) {
+    let key = AesKey::from_slice(&BYTES[..16]).expect(&rt, "a key");
+    let (mut first, mut second) = (TEXT, TEXT);
+    first[..4].copy_from_slice(&[255; 4]);
+    second[..4].copy_from_slice(&[0; 4]);
+    let mut bytes = [0; 32];
+    CtrLe::new(&key, &Block::new(first)).apply(&mut bytes);
+    assert!(rt; bytes.starts_with(key.encrypt(&Block::new(first)).bytes()));
+    assert!(rt; bytes.ends_with(key.encrypt(&Block::new(second)).bytes()));
 }

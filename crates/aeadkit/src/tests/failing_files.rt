@@ -1,9 +1,6 @@
-//! The file commands, if a call to their files goes wrong or a later reading gives other bytes.
+//! The file commands, if a call to their files goes wrong.
 use super::files::{bytes, file_words};
-use super::published::{
-    CHACHA, CHACHA_SEALED, CHANGED, GCM_SIV, GCM_SIV_SEALED, GCM_SIV_TEXT, Vector,
-};
-use super::runs_over;
+use super::published::{CHACHA, GCM_SIV, Vector};
 use super::scripted::{Log, Script, Scripted, Wrong};
 use crate::run::run;
 use std::alloc::Global;
@@ -37,9 +34,7 @@ fn is_over_before(
         log: &log,
     };
     let files = Scripted {
-        first: from,
-        second: from,
-        third: from,
+        bytes: from,
         script,
     };
     let mut out: Vec<u8> = Vec::new(rt.alloc());
@@ -103,97 +98,5 @@ fn calls_that_go_wrong(rt: HostRuntime) {
     ] {
         each_call_of(&rt, &CHACHA, 0, how);
         each_call_of(&rt, &GCM_SIV, 1, how);
-    }
-}
-
-// Three readings of a file by a command, the status and the fault, and whether the file was made.
-#[derive(Drop)]
-struct Row {
-    command: &'static str,
-    vector: Vector<'static>,
-    readings: [&'static str; 3],
-    status: u8,
-    complaint: &'static str,
-    made: bool,
-}
-
-// The first fifteen bytes of a sealing.
-const START: &str = "d31a8d34648e60db7b86afbc53ef7e";
-
-const OPENS: Row = Row {
-    command: "open-file",
-    vector: CHACHA,
-    readings: [CHACHA_SEALED, CHACHA_SEALED, CHACHA_SEALED],
-    status: 3,
-    complaint: "aeadkit: SourceChanged\n",
-    made: false,
-};
-
-const SEALS: Row = Row {
-    command: "seal-file",
-    vector: GCM_SIV,
-    made: true,
-    ..OPENS
-};
-
-const ROWS: [Row; 7] = [
-    // The third reading of sealed bytes differs from the second.
-    Row {
-        readings: [CHACHA_SEALED, CHACHA_SEALED, CHANGED],
-        made: true,
-        ..OPENS
-    },
-    Row {
-        readings: [CHACHA_SEALED, CHACHA_SEALED, START],
-        made: true,
-        ..OPENS
-    },
-    // The second has another length, or is no sealing.
-    Row {
-        readings: [CHACHA_SEALED, START, CHACHA_SEALED],
-        ..OPENS
-    },
-    Row {
-        readings: [CHACHA_SEALED, CHANGED, CHACHA_SEALED],
-        status: 1,
-        complaint: "aeadkit: TagMismatch\n",
-        ..OPENS
-    },
-    // The first is too short.
-    Row {
-        readings: [START, CHACHA_SEALED, CHACHA_SEALED],
-        status: 1,
-        complaint: "aeadkit: TooShort\n",
-        ..OPENS
-    },
-    // By AES-GCM-SIV the second reading of a text differs from the first in a byte, or in its length.
-    Row {
-        readings: [GCM_SIV_TEXT, "0000000000000000", "0000000000000000"],
-        ..SEALS
-    },
-    Row {
-        readings: [GCM_SIV_TEXT, GCM_SIV_SEALED, GCM_SIV_SEALED],
-        ..SEALS
-    },
-];
-
-// A later reading that differs is refused, after the file was made or before.
-#[test]
-fn readings_that_differ(rt: HostRuntime) {
-    for row in &ROWS {
-        let [first, second, third] = row.readings;
-        let first = bytes(&rt, first);
-        let second = bytes(&rt, second);
-        let third = bytes(&rt, third);
-        let log = Log::new(rt.alloc());
-        let files = Scripted {
-            first: &first,
-            second: &second,
-            third: &third,
-            script: Script::of_none(&log),
-        };
-        let words = file_words(row.command, &row.vector, "a", "b");
-        runs_over(&rt, &files, &words, row.status, "", row.complaint);
-        assert_eq!(rt; log.made.get(), row.made);
     }
 }

@@ -155,9 +155,7 @@ fn file_status(
     let log = Log::new(rt.alloc());
     let script = Script::of_none(&log);
     let scripted = Scripted {
-        first: from,
-        second: from,
-        third: from,
+        bytes: from,
         script,
     };
     let files = AllocatingFiles {

@@ -65,7 +65,11 @@ fn blocks_of_another_implementation(rt: HostRuntime) {
 fn ten_blocks(first: u32) -> [[u8; 64]; 10] {
     let mut blocks = [[0; 64]; 10];
     for (i, made) in blocks.iter_mut().enumerate() {
-        *made = block(&Key32::new(KEY), first.wrapping_add(i as u32), &Nonce::new([7; 12]));
+        *made = block(
+            &Key32::new(KEY),
+            first.wrapping_add(i as u32),
+            &Nonce::new([7; 12]),
+        );
     }
     blocks
 }
@@ -95,8 +99,8 @@ fn stream(first: u32) -> ChaStream {
 // Whether a stream from a block on gives `length` bytes of the blocks that are made one by one, in pieces of a
 // size, and changes no byte after them.
 fn gives(first: u32, length: usize, size: usize) -> bool
-    requires { length ≤ 640 }
-    requires { 0 < size }
+    requires length { length ≤ 640 }
+    requires size { 0 < size }
 {
     let mut stream = stream(first);
     let mut bytes = [0; 640];

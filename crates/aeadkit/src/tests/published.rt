@@ -19,10 +19,6 @@ pub const CHACHA_SEALED: &str =
 
 pub const GCM_SEALED: &str = "58e2fccefa7e3061367f1d57a4e7455a";
 
-pub const GCM_SIV_TEXT: &str = "0100000000000000";
-
-pub const GCM_SIV_SEALED: &str = "b5d839330ac7b786578782fff6013b815b287c22493a364c";
-
 /// A suite, its inputs, and the sealing of the text.
 #[derive(Clone, Copy)]
 pub struct Vector<'a> {
@@ -89,15 +85,19 @@ pub const GCM_SIV: Vector<'static> = Vector {
     key: "01000000000000000000000000000000",
     nonce: "030000000000000000000000",
     aad: "",
-    text: GCM_SIV_TEXT,
-    sealed: GCM_SIV_SEALED,
+    text: "0100000000000000",
+    sealed: "b5d839330ac7b786578782fff6013b815b287c22493a364c",
 };
 
-/// RFC 8452, appendix C.1, the empty text.
-pub const GCM_SIV_EMPTY: Vector<'static> = Vector {
-    text: "",
-    sealed: "dc20e2d83f25705bb49e439eca56de25",
-    ..GCM_SIV
+/// RFC 8452, appendix C.3, the first: the count of blocks passes 2^32.
+pub const GCM_SIV_WRAPS: Vector<'static> = Vector {
+    suite: "aes-256-gcm-siv",
+    key: "0000000000000000000000000000000000000000000000000000000000000000",
+    nonce: "000000000000000000000000",
+    aad: "",
+    text: "000000000000000000000000000000004db923dc793ee6497c76dcc03a98e108",
+    sealed: "f3f80f2cf0cb2dd9c5984fcda908456cc537703b5ba70324a6793a7bf218d3ea\
+        ffffffff000000000000000000000000",
 };
 
 /// RFC 8439, 2.8.2; the GCM submission, cases 1, 2, 4, 7, 8, 13 and 14; RFC 8452, appendices C.1 and C.2.
@@ -145,7 +145,11 @@ pub const VECTORS: [Vector<'static>; 12] = [
         text: "00000000000000000000000000000000",
         sealed: "cea7403d4d606b6e074ec5d3baf39d18d0d1c8a799996bf0265b98b5d48ab919",
     },
-    GCM_SIV_EMPTY,
+    Vector {
+        text: "",
+        sealed: "dc20e2d83f25705bb49e439eca56de25",
+        ..GCM_SIV
+    },
     GCM_SIV,
     Vector {
         suite: "aes-256-gcm-siv",

@@ -101,12 +101,10 @@ impl<'a> Script<'a> {
     }
 }
 
-/// Three readings, the same at every path, and one file that is written.
+/// A file that is read, the same at every path, and one that is written.
 #[derive(Drop)]
 pub struct Scripted<'b, 'l> {
-    pub first: &'b [u8],
-    pub second: &'b [u8],
-    pub third: &'b [u8],
+    pub bytes: &'b [u8],
     pub script: Script<'l>,
 }
 
@@ -128,16 +126,10 @@ impl<'b, 'l> Scripted<'b, 'l> {
     /// Opens the file for a reading.
     pub fn source(&self, reading: u8) -> io::Result<Source<'b, 'l>> {
         let _ = self.script.step(Some(reading), 0)?;
-        let script = self.script;
-        let rest = match reading {
-            0 => self.first,
-            1 => self.second,
-            _ => self.third,
-        };
         Ok(Source {
             reading,
-            rest,
-            script,
+            rest: self.bytes,
+            script: self.script,
         })
     }
 }

@@ -9,7 +9,7 @@ pub mod samples;
 mod streams;
 
 use super::files::bytes;
-use super::published::{CHACHA, GCM_4, GCM_SIV, VECTORS};
+use super::published::{CHACHA, GCM_4, GCM_SIV, GCM_SIV_WRAPS, VECTORS};
 use aead::{Aead, ChaChaPoly, Gcm, GcmSiv, open, seal};
 use octets::{Fault, Key32, Tag};
 use samples::{Sample, are_sealed, flip, sample_of};
@@ -50,6 +50,12 @@ fn published_sealings(rt: HostRuntime) {
         is_sealed(&rt, &sample);
         is_sealed_in_place(&rt, &sample.cipher, &sample);
     }
+}
+
+// The count of blocks of AES-GCM-SIV begins below 2^32, and goes on from 0.
+#[test]
+fn the_count_passes_its_end(rt: HostRuntime) {
+    is_sealed(&rt, &sample_of(&rt, &GCM_SIV_WRAPS));
 }
 
 // A cipher of one construction seals as that of its suite does.

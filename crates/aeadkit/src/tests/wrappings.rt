@@ -7,7 +7,7 @@ use keywrap::{
     unwrap, unwrap_in_place, unwrap_padded, unwrap_padded_in_place, wrap, wrap_in_place,
     wrap_padded, wrap_padded_in_place,
 };
-use octets::{Block, Fault, RefusingMemory};
+use octets::{Block, Fault};
 use std::alloc::{Allocator, Global};
 use std::process::Abort;
 
@@ -106,19 +106,15 @@ fn published_wrappings(rt: HostRuntime) {
     }
 }
 
-// One wrapping without padding, and one of several blocks and one of a single block with it.
-fn samples() -> [(Form, Wrapping<'static>); 3] {
-    [
+// A wrapping with any one bit changed is none, and stays as it was when it is unwrapped in place: one without
+// padding, and one of several blocks and one of a single block with it.
+#[test]
+fn each_bit_changed(rt: HostRuntime) {
+    for (form, published) in &[
         (Form::Plain, WRAPPINGS[0]),
         (Form::Padded, PADDED[0]),
         (Form::Padded, PADDED[1]),
-    ]
-}
-
-// A wrapping with any one bit changed is none, and stays as it was when it is unwrapped in place.
-#[test]
-fn each_bit_changed(rt: HostRuntime) {
-    for (form, published) in &samples() {
+    ] {
         let key = key_of(&rt, published.key);
         let wrapped = bytes(&rt, published.wrapped);
         let mut changed = bytes(&rt, published.wrapped);
@@ -221,50 +217,5 @@ fn padding(rt: HostRuntime) {
             "a wrapping",
         );
         assert_eq!(rt; made.len(), wrapped);
-    }
-}
-
-// Makes a call with each of its requests for memory refused in turn, until none is: the result is `OutOfMemory`,
-// and then the one that is due. It asks for memory only if the length is right.
-fn each_is_refused(
-    rt: &(impl Abort + Alloc<A = Global>),
-    form: Form,
-    way: Way,
-    key: &AesKey,
-    from: &[u8],
-    due: Result<&[u8], Fault>,
-) {
-    let mut count = 0u64;
-    for passed in 0..6u64 {
-        let memory = RefusingMemory::after(passed, rt.alloc());
-        let answer = made(&memory, form, way, key, from);
-        if !memory.has_refused() {
-            assert!(rt; is_due(answer, due), "{from:?}");
-            break;
-        }
-        let refused = Err(Fault::OutOfMemory);
-        assert!(rt; is_due(answer, refused), "{from:?}, request {passed}");
-        count = passed.saturating_add(1);
-    }
-    assert!(rt; count < 6 && (0 < count) == (due != Err(Fault::WrapLength)));
-}
-
-#[test]
-fn out_of_memory_in_its_place(rt: HostRuntime) {
-    for (form, published) in &samples() {
-        let key = key_of(&rt, published.key);
-        let text = bytes(&rt, published.text);
-        let wrapped = bytes(&rt, published.wrapped);
-        let mut changed = bytes(&rt, published.wrapped);
-        flip(&mut changed, 0);
-        for (way, from, due) in [
-            (Way::Wraps, text.as_slice(), Ok(wrapped.as_slice())),
-            (Way::Wraps, &[], Err(Fault::WrapLength)),
-            (Way::Unwraps, &wrapped, Ok(&text)),
-            (Way::Unwraps, &changed, Err(Fault::WrapIntegrity)),
-            (Way::Unwraps, &[0; 8], Err(Fault::WrapLength)),
-        ] {
-            each_is_refused(&rt, *form, way, &key, from, due);
-        }
     }
 }

@@ -1,14 +1,14 @@
-//! The engines over devices that fail, or move few bytes at a time.
-use super::super::published::{CHACHA, GCM_SIV};
+//! Opening streams over devices that fail, or move few bytes at a time.
+use super::super::published::CHACHA;
 use super::samples::*;
-use aead::{AnyAead, open_stream, seal_siv_stream, seal_stream};
+use aead::open_stream;
 use octets::{Fault, ScriptIntake, ScriptOutlet, Step};
 use std::alloc::Global;
 use std::process::Abort;
 
 // The course of a device: so many calls of seven bytes each before a failure, or three bytes and then a
 // failure, or calls of so many bytes and no failure, or calls of any number of bytes and none.
-#[derive(Clone, Copy, Debug)]
+#[derive(Clone, Copy)]
 enum Course {
     FailsAfter(usize),
     FailsAfterThree,
@@ -46,41 +46,6 @@ fn reading(
     ScriptIntake::new(bytes, steps(rt, course))
 }
 
-// The engine that runs on a published vector.
-#[derive(Clone, Copy)]
-enum Way {
-    Opens,
-    Seals,
-}
-
-// Runs an engine over three readings and an outlet of these courses. Sealing makes one reading, or two if the
-// tag is over the text.
-fn ended(
-    rt: &(impl Abort + Alloc<A = Global>),
-    sample: &Sample,
-    way: Way,
-    courses: [Course; 4],
-    out: &mut ScriptOutlet<Global>,
-) -> Result<(), Fault> {
-    let Sample { nonce, aad, .. } = sample;
-    let from = match way {
-        Way::Opens => &sample.sealed,
-        Way::Seals => &sample.text,
-    };
-    let mut first = reading(rt, from, courses[0]);
-    let mut second = reading(rt, from, courses[1]);
-    let mut third = reading(rt, from, courses[2]);
-    match (way, &sample.cipher) {
-        (Way::Opens, cipher) => {
-            open_stream(cipher, nonce, aad, &mut first, &mut second, &mut third, out)
-        }
-        (_, AnyAead::OnePass(cipher)) => seal_stream(cipher, nonce, aad, &mut first, out),
-        (_, AnyAead::Siv(cipher)) => {
-            seal_siv_stream(cipher, nonce, aad, &mut first, &mut second, out)
-        }
-    }
-}
-
 // Opening with devices of these courses has this result, and gives a beginning of the text: at least and at
 // most so many bytes.
 fn opens(
@@ -92,13 +57,21 @@ fn opens(
     most: usize,
 ) {
     let mut out = ScriptOutlet::new(rt.alloc(), steps(rt, courses[3]));
-    let answer = ended(rt, sample, Way::Opens, courses, &mut out);
+    let answer = open_stream(
+        &sample.cipher,
+        &sample.nonce,
+        &sample.aad,
+        &mut reading(rt, &sample.sealed, courses[0]),
+        &mut reading(rt, &sample.sealed, courses[1]),
+        &mut reading(rt, &sample.sealed, courses[2]),
+        &mut out,
+    );
     let given = out.bytes();
     assert!(rt;
         answer == due && sample.text.starts_with(given),
-        "{courses:?}"
+        "{answer:?}, {given:?}"
     );
-    assert!(rt; least <= given.len() && given.len() <= most, "{courses:?}");
+    assert!(rt; least <= given.len() && given.len() <= most, "{given:?}");
 }
 
 // Takes of any size make no difference.
@@ -165,73 +138,4 @@ fn devices_that_fail(rt: HostRuntime) {
         3,
         3,
     );
-}
-
-// Runs an engine with one call of one device failing, the outlet by the number 3, and returns whether it ended
-// before that call: then all was given. Else the fault is the device's, and a beginning was given: nothing if
-// a reading before the last one failed.
-fn is_over_before(
-    rt: &(impl Abort + Alloc<A = Global>),
-    sample: &Sample,
-    way: Way,
-    last: usize,
-    device: usize,
-    call: usize,
-) -> bool {
-    let mut courses = [NeverFails(7); 4];
-    if let Some(course) = courses.get_mut(device) {
-        *course = FailsAfter(call);
-    }
-    let mut out = ScriptOutlet::new(rt.alloc(), steps(rt, courses[3]));
-    let answer = ended(rt, sample, way, courses, &mut out);
-    let fault = if device == 3 {
-        Fault::Write
-    } else {
-        Fault::Read
-    };
-    let to = match way {
-        Way::Opens => &sample.text,
-        Way::Seals => &sample.sealed,
-    };
-    let given = out.bytes();
-    let is_right = match answer {
-        Ok(()) => given == to.as_slice(),
-        Err(found) => {
-            found == fault && to.starts_with(given) && (last <= device || given.is_empty())
-        }
-    };
-    assert!(rt; is_right, "device {device}, call {call}");
-    answer.is_ok()
-}
-
-// Runs an engine with each call of each device failing in turn, until a run ends before the call that would:
-// after more than `least` calls. The last reading has the number `last`.
-fn each_call_of(
-    rt: &(impl Abort + Alloc<A = Global>),
-    sample: &Sample,
-    way: Way,
-    last: usize,
-    least: usize,
-) {
-    for device in 0..4usize {
-        if device <= last || device == 3 {
-            let mut count = 0usize;
-            for call in 0..60usize {
-                count = call;
-                if is_over_before(rt, sample, way, last, device, call) {
-                    break;
-                }
-            }
-            assert!(rt; least < count && count < 59, "device {device}");
-        }
-    }
-}
-
-// Each call of each device of opening, of sealing in one reading and of sealing in two fails in turn.
-#[test]
-fn each_call_fails(rt: HostRuntime) {
-    let chacha = sample_of(&rt, &CHACHA);
-    each_call_of(&rt, &chacha, Way::Opens, 2, 10);
-    each_call_of(&rt, &chacha, Way::Seals, 0, 10);
-    each_call_of(&rt, &sample_of(&rt, &GCM_SIV), Way::Seals, 1, 1);
 }
