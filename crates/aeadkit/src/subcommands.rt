@@ -148,24 +148,53 @@ const FILE_ARG: ArgSpec = ArgSpec {
     ..HEX
 };
 
-const SEAL_ARGS: [ArgSpec; 5] = [SUITE_ARG, KEY_ARG, NONCE_ARG, AAD_ARG, TEXT_ARG];
+// The arguments of the subcommands.
+#[derive(Clone, Copy)]
+enum Argument {
+    Suite,
+    Key,
+    Nonce,
+    Aad,
+    Text,
+    Sealed,
+    In,
+    Out,
+    WrapKey,
+    WrapText,
+    Wrapping,
+    Pad,
+    File,
+}
 
-const OPEN_ARGS: [ArgSpec; 5] = [SUITE_ARG, KEY_ARG, NONCE_ARG, AAD_ARG, SEALED_ARG];
+use Argument::{
+    Aad, File, In, Key, Nonce, Out, Pad, Sealed, Suite, Text, WrapKey, WrapText, Wrapping,
+};
 
-const WRAP_ARGS: [ArgSpec; 3] = [WRAP_KEY_ARG, WRAP_TEXT_ARG, PAD_ARG];
-
-const UNWRAP_ARGS: [ArgSpec; 3] = [WRAP_KEY_ARG, WRAPPING_ARG, PAD_ARG];
-
-const FILE_ARGS: [ArgSpec; 6] = [SUITE_ARG, KEY_ARG, NONCE_ARG, AAD_ARG, IN_ARG, OUT_ARG];
-
-const CHECK_ARGS: [ArgSpec; 1] = [FILE_ARG];
+// The specification of an argument.
+fn spec_of(argument: Argument) -> &'static ArgSpec {
+    match argument {
+        Suite => &SUITE_ARG,
+        Key => &KEY_ARG,
+        Nonce => &NONCE_ARG,
+        Aad => &AAD_ARG,
+        Text => &TEXT_ARG,
+        Sealed => &SEALED_ARG,
+        In => &IN_ARG,
+        Out => &OUT_ARG,
+        WrapKey => &WRAP_KEY_ARG,
+        WrapText => &WRAP_TEXT_ARG,
+        Wrapping => &WRAPPING_ARG,
+        Pad => &PAD_ARG,
+        File => &FILE_ARG,
+    }
+}
 
 // A subcommand: what it does, in a line, what else its help says, and its arguments.
 struct CommandSpec {
     name: &'static str,
     about: &'static str,
     more: &'static str,
-    args: &'static [ArgSpec],
+    args: &'static [Argument],
 }
 
 const SUBCOMMANDS: [CommandSpec; 7] = [
@@ -173,48 +202,48 @@ const SUBCOMMANDS: [CommandSpec; 7] = [
         name: SEAL,
         about: "Seals a text",
         more: SEAL_MORE,
-        args: &SEAL_ARGS,
+        args: &[Suite, Key, Nonce, Aad, Text],
     },
     CommandSpec {
         name: OPEN,
         about: "Opens sealed bytes",
         more: OPEN_MORE,
-        args: &OPEN_ARGS,
+        args: &[Suite, Key, Nonce, Aad, Sealed],
     },
     CommandSpec {
         name: WRAP,
         about: "Wraps a text by AES Key Wrap",
         more: WRAP_MORE,
-        args: &WRAP_ARGS,
+        args: &[WrapKey, WrapText, Pad],
     },
     CommandSpec {
         name: UNWRAP,
         about: "Unwraps the bytes of a wrapping",
         more: UNWRAP_MORE,
-        args: &UNWRAP_ARGS,
+        args: &[WrapKey, Wrapping, Pad],
     },
     CommandSpec {
         name: SEAL_FILE,
         about: "Seals a file into another",
         more: SEAL_FILE_MORE,
-        args: &FILE_ARGS,
+        args: &[Suite, Key, Nonce, Aad, In, Out],
     },
     CommandSpec {
         name: OPEN_FILE,
         about: "Opens a sealed file into another",
         more: OPEN_FILE_MORE,
-        args: &FILE_ARGS,
+        args: &[Suite, Key, Nonce, Aad, In, Out],
     },
     CommandSpec {
         name: CHECK,
         about: "Checks each record of a vector file against its standard",
         more: CHECK_MORE,
-        args: &CHECK_ARGS,
+        args: &[File],
     },
 ];
 
 // An argument, for clap.
-fn argument<'a>(alloc: Global, spec: &ArgSpec) -> Arg<'a> {
+fn arg_of<'a>(alloc: Global, spec: &ArgSpec) -> Arg<'a> {
     let word = Arg::new(alloc, spec.name)
         .value_name(spec.value)
         .help(spec.help)
@@ -233,22 +262,31 @@ fn subcommand<'a>(alloc: Global, spec: &CommandSpec) -> Result<Command<'a>, Allo
         .about(spec.about)
         .after_help(spec.more);
     for arg in spec.args {
-        command = command.arg(argument(alloc, arg))?;
+        command = command.arg(arg_of(alloc, spec_of(*arg)))?;
+    }
+    Ok(command)
+}
+
+// A command with more subcommands.
+fn with_subcommands<'a>(
+    alloc: Global,
+    mut command: Command<'a>,
+    specs: &[CommandSpec],
+) -> Result<Command<'a>, AllocError> {
+    for spec in specs {
+        command = command.subcommand(subcommand(alloc, spec)?)?;
     }
     Ok(command)
 }
 
 /// The program's command line.
 pub fn command<'a>(alloc: Global) -> Result<Command<'a>, AllocError> {
-    let mut command = Command::new(alloc, "aeadkit")
+    let program = Command::new(alloc, "aeadkit")
         .about("Authenticated encryption and key wrapping by published standards")
         .after_help(ABOUT_HEX)
         .version(VERSION)
         .no_binary_name(true)
         .subcommand_required(true)
         .bin_name("aeadkit")?;
-    for spec in &SUBCOMMANDS {
-        command = command.subcommand(subcommand(alloc, spec)?)?;
-    }
-    Ok(command)
+    with_subcommands(alloc, program, &SUBCOMMANDS)
 }

@@ -72,17 +72,13 @@ fn each_call_goes_wrong(
 }
 
 // Seals and opens a vector's text with each call going wrong in turn; sealing ends with the given reading.
-fn each_call_of(
-    rt: &(impl Abort + Alloc<A = Global>),
-    vector: &Vector<'_>,
-    last: u8,
-    how: (Wrong, bool),
-) {
+fn each_call_of(rt: &(impl Abort + Alloc<A = Global>), line: &str, last: u8, how: (Wrong, bool)) {
+    let vector = Vector::of(line);
     let text = bytes(rt, vector.text);
     let sealed = bytes(rt, vector.sealed);
-    let words = file_words("seal-file", vector, "a", "b");
+    let words = file_words("seal-file", &vector, "a", "b");
     each_call_goes_wrong(rt, &words, &text, &sealed, last, how);
-    let words = file_words("open-file", vector, "a", "b");
+    let words = file_words("open-file", &vector, "a", "b");
     each_call_goes_wrong(rt, &words, &sealed, &text, 2, how);
 }
 
@@ -96,7 +92,7 @@ fn calls_that_go_wrong(rt: HostRuntime) {
         (Wrong::IsShort, false),
         (Wrong::Fails, true),
     ] {
-        each_call_of(&rt, &CHACHA, 0, how);
-        each_call_of(&rt, &GCM_SIV, 1, how);
+        each_call_of(&rt, CHACHA, 0, how);
+        each_call_of(&rt, GCM_SIV, 1, how);
     }
 }

@@ -1,6 +1,6 @@
 //! The system's files, in a folder of the test's own.
 use super::checks::BAD;
-use super::published::{CHACHA, CHACHA_SEALED, CHACHA_TEXT, CHANGED, GCM, GCM_SEALED, Vector};
+use super::published::{CHACHA, CHANGED, GCM, Vector};
 use super::runs_over;
 use crate::storage::Disk;
 use octets::RefusingMemory;
@@ -55,17 +55,25 @@ const UNMADE: &str = "aeadkit_files/unmade";
 
 const NOWHERE: &str = "aeadkit_files/none/file";
 
+// The bytes of a file.
+#[derive(Clone, Copy)]
+enum Held {
+    Nothing,
+    Text,
+    Sealing,
+}
+
 // A file command from one file into another.
 #[derive(Drop)]
 struct Row {
     command: &'static str,
-    vector: Vector<'static>,
+    vector: &'static str,
     input: &'static str,
     output: &'static str,
     status: u8,
     complaint: &'static str,
-    // The digits of what OUT holds then; `None` if it is not there.
-    held: Option<&'static str>,
+    // The bytes that OUT holds then; `None` if it is not there.
+    held: Option<Held>,
 }
 
 // A file sealed and opened again; bytes that are no sealing make no file, and an empty text makes an empty
@@ -78,7 +86,7 @@ const ROWS: [Row; 6] = [
         output: SEALED,
         status: 0,
         complaint: "",
-        held: Some(CHACHA_SEALED),
+        held: Some(Held::Sealing),
     },
     Row {
         command: "open-file",
@@ -87,7 +95,7 @@ const ROWS: [Row; 6] = [
         output: OPENED,
         status: 0,
         complaint: "",
-        held: Some(CHACHA_TEXT),
+        held: Some(Held::Text),
     },
     Row {
         command: "open-file",
@@ -105,7 +113,7 @@ const ROWS: [Row; 6] = [
         output: OPENED,
         status: 0,
         complaint: "",
-        held: Some(""),
+        held: Some(Held::Nothing),
     },
     Row {
         command: "seal-file",
@@ -114,7 +122,7 @@ const ROWS: [Row; 6] = [
         output: TEXT,
         status: 3,
         complaint: "aeadkit: Read\n",
-        held: Some(CHACHA_TEXT),
+        held: Some(Held::Text),
     },
     Row {
         command: "seal-file",
@@ -132,7 +140,9 @@ const ROWS: [Row; 6] = [
 fn system_files(rt: HostRuntime) {
     let _ = fs::remove_dir_all(&rt, FOLDER);
     assert!(rt; fs::create_dir(&rt, FOLDER).is_ok());
-    for (path, digits) in &[(TEXT, CHACHA_TEXT), (FORGED, CHANGED), (EMPTY, GCM_SEALED)] {
+    let chacha = Vector::of(CHACHA);
+    let empty = Vector::of(GCM).sealed;
+    for (path, digits) in &[(TEXT, chacha.text), (FORGED, CHANGED), (EMPTY, empty)] {
         assert!(rt; fs::write(&rt, path, &bytes(&rt, digits)).is_ok());
     }
     assert!(rt; fs::write(&rt, VECTORS, BAD.as_bytes()).is_ok());
@@ -141,10 +151,15 @@ fn system_files(rt: HostRuntime) {
         alloc: rt.alloc(),
     };
     for row in &ROWS {
-        let words = file_words(row.command, &row.vector, row.input, row.output);
+        let vector = Vector::of(row.vector);
+        let words = file_words(row.command, &vector, row.input, row.output);
         runs_over(&rt, &files, &words, row.status, "", row.complaint);
         let is_right = match (fs::read(&rt, row.output), row.held) {
-            (Ok(held), Some(digits)) => held.as_slice() == bytes(&rt, digits).as_slice(),
+            (Ok(held), Some(Held::Nothing)) => held.is_empty(),
+            (Ok(held), Some(Held::Text)) => held.as_slice() == bytes(&rt, vector.text).as_slice(),
+            (Ok(held), Some(Held::Sealing)) => {
+                held.as_slice() == bytes(&rt, vector.sealed).as_slice()
+            }
             (Err(_), None) => true,
             _ => false,
         };

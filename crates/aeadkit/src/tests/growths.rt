@@ -72,14 +72,15 @@ fn inputs<'a>(vector: &Vector<'a>, body: &'a str) -> Inputs<'a> {
 // Sealing and opening, wrapping and unwrapping with padding or without, and checking a vector file.
 #[test]
 fn requests_are_out_of_memory_only_if_refused(rt: HostRuntime) {
-    for vector in &[CHACHA, GCM, GCM_SIV] {
-        let request = PrintRequest::Seal(inputs(vector, vector.text));
+    for line in &[CHACHA, GCM, GCM_SIV] {
+        let vector = Vector::of(line);
+        let request = PrintRequest::Seal(inputs(&vector, vector.text));
         each_is_refused(&rt, &NO_FILES, &request, vector.sealed);
-        let request = PrintRequest::Open(inputs(vector, vector.sealed));
+        let request = PrintRequest::Open(inputs(&vector, vector.sealed));
         each_is_refused(&rt, &NO_FILES, &request, vector.text);
     }
-    for (wrapping, pad) in &[(&WRAPPINGS[0], false), (&PADDED[0], true)] {
-        let Wrapping { key, text, wrapped } = **wrapping;
+    for (line, pad) in &[(WRAPPINGS[0], false), (PADDED[0], true)] {
+        let Wrapping { key, text, wrapped } = Wrapping::of(line);
         let pad = *pad;
         let request = PrintRequest::Wrap { key, text, pad };
         each_is_refused(&rt, &NO_FILES, &request, wrapped);
@@ -210,12 +211,13 @@ fn each_file_status(
 // Sealing a file of a vector's text, and opening one of the sealed bytes.
 #[test]
 fn files_are_out_of_memory_only_if_refused(rt: HostRuntime) {
-    for vector in &[CHACHA, GCM, GCM_SIV] {
+    for line in &[CHACHA, GCM, GCM_SIV] {
+        let vector = Vector::of(line);
         let text = bytes(&rt, vector.text);
         let sealed = bytes(&rt, vector.sealed);
         let mut request = FileRequest {
             command: FileCommand::Seal,
-            inputs: inputs(vector, ""),
+            inputs: inputs(&vector, ""),
             input: "a",
             output: "b",
         };

@@ -1,185 +1,108 @@
 //! Words that print a line, and words that are refused.
 use super::checks::CHECK;
 use super::devices::{FailsAfter, NO_FILES, OneFile};
-use super::published::{
-    CHACHA_AAD, CHACHA_KEY, CHACHA_NONCE, KEY, PADDED, PADDED_KEY, PADDED_WRAPPED, TEXT, WRAPPED,
-    WRAPPINGS, Wrapping,
-};
+use super::published::{PADDED, WRAPPINGS, Wrapping, words_of};
 use super::vector_files::TWO_RECORDS;
 use super::{prints, runs_into, runs_over};
 use crate::run::run;
 use crate::version::VERSION;
+use std::alloc::Global;
 use std::io;
+use std::process::Abort;
 
-const BAD_HEX: &str = "aeadkit: BadHex\n";
+const KEY: &str = "000102030405060708090a0b0c0d0e0f";
 
-const KEY_LENGTH: &str = "aeadkit: KeyLength\n";
-
-const WRAP_LENGTH: &str = "aeadkit: WrapLength\n";
-
-const WRAP_INTEGRITY: &str = "aeadkit: WrapIntegrity\n";
-
-const WORDS: &str = "aeadkit: Words\n";
+const TEXT: &str = "00112233445566778899aabbccddeeff";
 
 const WRITE: &str = "aeadkit: Write\n";
 
-const TWENTY: &str = "00112233445566778899aabbccddeeff00112233";
+// Each line of what follows has a status, a fault and the words that are refused with them; `-` is the empty word.
 
-// Words, and the status and the fault that they are refused with.
-const REFUSED: [(&[&str], u8, &str); 43] = [
-    // Wrapping and unwrapping: the hex of the key comes first, then that of the text, then the key's length, then
-    // the text's.
-    (&["wrap", "--key", "0", "--text", "0"], 2, BAD_HEX),
-    (&["unwrap", "--key", "0", "--sealed", "0"], 2, BAD_HEX),
-    (&["wrap", "--key", "0g", "--text", ""], 2, BAD_HEX),
-    (&["unwrap", "--key", "0g", "--sealed", ""], 2, BAD_HEX),
-    (&["wrap", "--key", "00", "--text", "0"], 2, BAD_HEX),
-    (&["unwrap", "--key", "00", "--sealed", "0"], 2, BAD_HEX),
-    (&["wrap", "--key", "00", "--text", "00"], 2, KEY_LENGTH),
-    (&["unwrap", "--key", "00", "--sealed", "00"], 2, KEY_LENGTH),
-    (&["wrap", "--key", "", "--text", ""], 2, KEY_LENGTH),
-    (&["unwrap", "--key", "", "--sealed", ""], 2, KEY_LENGTH),
-    (&["wrap", "--key", KEY, "--text", "0x"], 2, BAD_HEX),
-    (&["unwrap", "--key", KEY, "--sealed", "0x"], 2, BAD_HEX),
-    (&["wrap", "--key", KEY, "--text", ""], 2, WRAP_LENGTH),
-    (&["unwrap", "--key", KEY, "--sealed", ""], 2, WRAP_LENGTH),
-    (
-        &["wrap", "--key", KEY, "--text", "0011223344556677"],
-        2,
-        WRAP_LENGTH,
-    ),
-    (
-        &["unwrap", "--key", KEY, "--sealed", "0011223344556677"],
-        2,
-        WRAP_LENGTH,
-    ),
-    (&["wrap", "--key", KEY, "--text", TWENTY], 2, WRAP_LENGTH),
-    (&["unwrap", "--key", KEY, "--sealed", TEXT], 2, WRAP_LENGTH),
-    // No text of no bytes is padded; a wrapping with padding has 16 bytes at least, in whole blocks. The two forms
-    // refuse one another's wrappings.
-    (
-        &["wrap", "--pad", "--key", KEY, "--text", ""],
-        2,
-        WRAP_LENGTH,
-    ),
-    (
-        &[
-            "unwrap",
-            "--pad",
-            "--key",
-            KEY,
-            "--sealed",
-            "0011223344556677",
-        ],
-        2,
-        WRAP_LENGTH,
-    ),
-    (
-        &["unwrap", "--pad", "--key", KEY, "--sealed", TWENTY],
-        2,
-        WRAP_LENGTH,
-    ),
-    (
-        &["unwrap", "--pad", "--key", KEY, "--sealed", WRAPPED],
-        1,
-        WRAP_INTEGRITY,
-    ),
-    (
-        &["unwrap", "--key", PADDED_KEY, "--sealed", PADDED_WRAPPED],
-        1,
-        WRAP_INTEGRITY,
-    ),
-    // Changed bytes are no wrapping.
-    (
-        &[
-            "unwrap",
-            "--key",
-            KEY,
-            "--sealed",
-            "1fa68b0a8112b447aef34bd8fb5a7b829d3e862371d2cfe4",
-        ],
-        1,
-        WRAP_INTEGRITY,
-    ),
-    // Arguments that are no command line.
-    (&[], 2, WORDS),
-    (&[""], 2, WORDS),
-    (&["frob"], 2, WORDS),
-    (&["wrap"], 2, WORDS),
-    (&["wrap", "--key", KEY], 2, WORDS),
-    (&["wrap", "--key", KEY, "--text"], 2, WORDS),
-    (
-        &["wrap", "--key", KEY, "--key", KEY, "--text", TEXT],
-        2,
-        WORDS,
-    ),
-    (&["wrap", "--key", KEY, "--text", TEXT, "more"], 2, WORDS),
-    (&["wrap", "--key", KEY, "--sealed", TEXT], 2, WORDS),
-    (&["unwrap", "--key", KEY, "--text", TEXT], 2, WORDS),
-    (&["seal", "--suite", "aes-128-gcm", "--key", KEY], 2, WORDS),
-    (
-        &[
-            "open",
-            "--suite",
-            "aes-128-gcm",
-            "--key",
-            KEY,
-            "--nonce",
-            "",
-        ],
-        2,
-        WORDS,
-    ),
-    (&["check"], 2, WORDS),
-    (&["check", "a", "b"], 2, WORDS),
-    (&["seal-file"], 2, WORDS),
-    (&["help", "frob"], 2, WORDS),
-    (&["seal", "--version"], 2, WORDS),
-    // One path for both files.
-    (
-        &[
-            "seal-file",
-            "--suite",
-            "chacha20-poly1305",
-            "--key",
-            CHACHA_KEY,
-            "--nonce",
-            CHACHA_NONCE,
-            "--aad",
-            CHACHA_AAD,
-            "--in",
-            "a",
-            "--out",
-            "a",
-        ],
-        2,
-        WORDS,
-    ),
-    (
-        &[
-            "open-file",
-            "--suite",
-            "chacha20-poly1305",
-            "--key",
-            CHACHA_KEY,
-            "--nonce",
-            CHACHA_NONCE,
-            "--aad",
-            CHACHA_AAD,
-            "--in",
-            "a",
-            "--out",
-            "a",
-        ],
-        2,
-        WORDS,
-    ),
-];
+// Wrapping and unwrapping: the hex of the key comes first, then that of the text, then the key's length, then
+// the text's.
+const OF_WRAPPING: &str = "\
+2 BadHex wrap --key 0 --text 0
+2 BadHex unwrap --key 0 --sealed 0
+2 BadHex wrap --key 0g --text -
+2 BadHex unwrap --key 0g --sealed -
+2 BadHex wrap --key 00 --text 0
+2 BadHex unwrap --key 00 --sealed 0
+2 KeyLength wrap --key 00 --text 00
+2 KeyLength unwrap --key 00 --sealed 00
+2 KeyLength wrap --key - --text -
+2 KeyLength unwrap --key - --sealed -
+2 BadHex wrap --key 000102030405060708090a0b0c0d0e0f --text 0x
+2 BadHex unwrap --key 000102030405060708090a0b0c0d0e0f --sealed 0x
+2 WrapLength wrap --key 000102030405060708090a0b0c0d0e0f --text -
+2 WrapLength unwrap --key 000102030405060708090a0b0c0d0e0f --sealed -
+2 WrapLength wrap --key 000102030405060708090a0b0c0d0e0f --text 0011223344556677
+2 WrapLength unwrap --key 000102030405060708090a0b0c0d0e0f --sealed 0011223344556677
+2 WrapLength wrap --key 000102030405060708090a0b0c0d0e0f --text 00112233445566778899aabbccddeeff00112233
+2 WrapLength unwrap --key 000102030405060708090a0b0c0d0e0f --sealed 00112233445566778899aabbccddeeff";
+
+// No text of no bytes is padded; a wrapping with padding has 16 bytes at least, in whole blocks. The two forms
+// refuse one another's wrappings.
+const OF_PADDING: &str = "\
+2 WrapLength wrap --pad --key 000102030405060708090a0b0c0d0e0f --text -
+2 WrapLength unwrap --pad --key 000102030405060708090a0b0c0d0e0f --sealed 0011223344556677
+2 WrapLength unwrap --pad --key 000102030405060708090a0b0c0d0e0f --sealed 00112233445566778899aabbccddeeff00112233
+1 WrapIntegrity unwrap --pad --key 000102030405060708090a0b0c0d0e0f --sealed 1fa68b0a8112b447aef34bd8fb5a7b829d3e862371d2cfe5
+1 WrapIntegrity unwrap --key 5840df6e29b02af1ab493b705bf16ea1ae8338f4dcc176a8 --sealed 138bdeaa9b8fa7fc61f97742e72248ee5ae6ae5360d1ae6a5f54f373fa543b6a";
+
+// Changed bytes are no wrapping.
+const OF_BYTES: &str = "\
+1 WrapIntegrity unwrap --key 000102030405060708090a0b0c0d0e0f --sealed 1fa68b0a8112b447aef34bd8fb5a7b829d3e862371d2cfe4";
+
+// Arguments that are no command line.
+const OF_WORDS: &str = "\
+2 Words
+2 Words -
+2 Words frob
+2 Words wrap
+2 Words wrap --key 000102030405060708090a0b0c0d0e0f
+2 Words wrap --key 000102030405060708090a0b0c0d0e0f --text
+2 Words wrap --key 000102030405060708090a0b0c0d0e0f --key 000102030405060708090a0b0c0d0e0f --text 00112233445566778899aabbccddeeff
+2 Words wrap --key 000102030405060708090a0b0c0d0e0f --text 00112233445566778899aabbccddeeff more
+2 Words wrap --key 000102030405060708090a0b0c0d0e0f --sealed 00112233445566778899aabbccddeeff
+2 Words unwrap --key 000102030405060708090a0b0c0d0e0f --text 00112233445566778899aabbccddeeff
+2 Words seal --suite aes-128-gcm --key 000102030405060708090a0b0c0d0e0f
+2 Words open --suite aes-128-gcm --key 000102030405060708090a0b0c0d0e0f --nonce -
+2 Words check
+2 Words check a b
+2 Words seal-file
+2 Words help frob
+2 Words seal --version";
+
+// One path for both files.
+const OF_PATHS: &str = "\
+2 Words seal-file --suite chacha20-poly1305 --key 808182838485868788898a8b8c8d8e8f909192939495969798999a9b9c9d9e9f --nonce 070000004041424344454647 --aad 50515253c0c1c2c3c4c5c6c7 --in a --out a
+2 Words open-file --suite chacha20-poly1305 --key 808182838485868788898a8b8c8d8e8f909192939495969798999a9b9c9d9e9f --nonce 070000004041424344454647 --aad 50515253c0c1c2c3c4c5c6c7 --in a --out a";
+
+// The words of a line after the first ones.
+fn words_after<'a>(
+    rt: &(impl Abort + Alloc<A = Global>),
+    line: &'a str,
+    first: usize,
+) -> Vec<&'a str> {
+    let mut words = Vec::new(rt.alloc());
+    for word in line.split(' ').skip(first) {
+        words
+            .push(if word == "-" { "" } else { word })
+            .expect(rt, "memory");
+    }
+    words
+}
 
 #[test]
 fn refused_words(rt: HostRuntime) {
-    for (words, status, complaint) in &REFUSED {
-        runs_over(&rt, &NO_FILES, words, *status, "", complaint);
+    for table in [OF_WRAPPING, OF_PADDING, OF_BYTES, OF_WORDS, OF_PATHS] {
+        for line in table.lines() {
+            let [status, fault] = words_of::<2>(line);
+            let status = if status == "1" { 1 } else { 2 };
+            let complaint = format!(in rt.alloc(); "aeadkit: {fault}\n").expect(&rt, "memory");
+            let words = words_after(&rt, line, 2);
+            runs_over(&rt, &NO_FILES, &words, status, "", &complaint);
+        }
     }
 }
 
@@ -187,13 +110,13 @@ fn refused_words(rt: HostRuntime) {
 // value may follow `=`.
 #[test]
 fn wrapping_vectors(rt: HostRuntime) {
-    for wrapping in &WRAPPINGS {
-        let Wrapping { key, text, wrapped } = *wrapping;
+    for line in &WRAPPINGS {
+        let Wrapping { key, text, wrapped } = Wrapping::of(line);
         prints(&rt, &["wrap", "--key", key, "--text", text], wrapped);
         prints(&rt, &["unwrap", "--key", key, "--sealed", wrapped], text);
     }
-    for wrapping in &PADDED {
-        let Wrapping { key, text, wrapped } = *wrapping;
+    for line in &PADDED {
+        let Wrapping { key, text, wrapped } = Wrapping::of(line);
         let words = ["wrap", "--pad", "--key", key, "--text", text];
         prints(&rt, &words, wrapped);
         let words = ["unwrap", "--key", key, "--sealed", wrapped, "--pad"];
@@ -204,27 +127,27 @@ fn wrapping_vectors(rt: HostRuntime) {
         "--sealed=1FA68B0A8112B447AEF34BD8FB5A7B829D3E862371D2CFE5",
         "--key=000102030405060708090A0b0c0d0E0F",
     ];
-    prints(&rt, &words, TEXT);
+    prints(&rt, &words, Wrapping::of(WRAPPINGS[0]).text);
 }
 
-// Words that ask for help.
-const HELP: [&[&str]; 8] = [
-    &["--help"],
-    &["-h"],
-    &["help"],
-    &["help", "wrap"],
-    &["help", "check"],
-    &["seal", "--help"],
-    &["unwrap", "--help"],
-    &["wrap", "--key", "0", "-h"],
-];
+// Lines of words that ask for help.
+const HELP: &str = "\
+--help
+-h
+help
+help wrap
+help check
+seal --help
+unwrap --help
+wrap --key 0 -h";
 
 // Help goes to standard output, with status 0, and the version is one line there.
 #[test]
 fn help_and_version(rt: HostRuntime) {
-    for words in &HELP {
+    for line in HELP.lines() {
+        let words = words_after(&rt, line, 0);
         let mut out: Vec<u8> = Vec::new(rt.alloc());
-        runs_into(&rt, &NO_FILES, words, &mut out, 0, "");
+        runs_into(&rt, &NO_FILES, &words, &mut out, 0, "");
         assert!(rt; !out.is_empty(), "{words:?}");
     }
     let line = format!(in rt.alloc(); "aeadkit {VERSION}").expect(&rt, "memory");
@@ -273,7 +196,7 @@ fn failing_output(rt: HostRuntime) {
 fn failing_error(rt: HostRuntime) {
     let words: [(&[&str], u8); 2] = [
         (&["wrap", "--key", "0", "--text", ""], 2),
-        (&["unwrap", "--key", KEY, "--sealed", WRAPPED], 0),
+        (&["wrap", "--key", KEY, "--text", TEXT], 0),
     ];
     for (words, status) in &words {
         let mut out: Vec<u8> = Vec::new(rt.alloc());

@@ -9,7 +9,7 @@ pub mod samples;
 mod streams;
 
 use super::files::bytes;
-use super::published::{CHACHA, GCM_4, GCM_SIV, GCM_SIV_WRAPS, VECTORS};
+use super::published::{CHACHA, GCM_4, GCM_SIV, GCM_SIV_WRAPS, VECTORS, Vector};
 use aead::{Aead, ChaChaPoly, Gcm, GcmSiv, open, seal};
 use octets::{Fault, Key32, Tag};
 use samples::{Sample, are_sealed, flip, sample_of};
@@ -45,8 +45,8 @@ fn is_sealed_in_place<C: Aead>(rt: &(impl Abort + Alloc<A = Global>), cipher: &C
 // Each published vector, by the cipher of its suite's name.
 #[test]
 fn published_sealings(rt: HostRuntime) {
-    for vector in &VECTORS {
-        let sample = sample_of(&rt, vector);
+    for line in &VECTORS {
+        let sample = sample_of(&rt, line);
         is_sealed(&rt, &sample);
         is_sealed_in_place(&rt, &sample.cipher, &sample);
     }
@@ -55,18 +55,18 @@ fn published_sealings(rt: HostRuntime) {
 // The count of blocks of AES-GCM-SIV begins below 2^32, and goes on from 0.
 #[test]
 fn the_count_passes_its_end(rt: HostRuntime) {
-    is_sealed(&rt, &sample_of(&rt, &GCM_SIV_WRAPS));
+    is_sealed(&rt, &sample_of(&rt, GCM_SIV_WRAPS));
 }
 
 // A cipher of one construction seals as that of its suite does.
 #[test]
 fn ciphers_of_one_construction(rt: HostRuntime) {
-    let key = Key32::from_slice(&bytes(&rt, CHACHA.key)).expect(&rt, "a key");
-    is_sealed_in_place(&rt, &ChaChaPoly::new(&key), &sample_of(&rt, &CHACHA));
-    let gcm = Gcm::from_slice(&bytes(&rt, GCM_4.key)).expect(&rt, "a key");
-    is_sealed_in_place(&rt, &gcm, &sample_of(&rt, &GCM_4));
-    let siv = GcmSiv::from_slice(&bytes(&rt, GCM_SIV.key)).expect(&rt, "a key");
-    is_sealed_in_place(&rt, &siv, &sample_of(&rt, &GCM_SIV));
+    let key = Key32::from_slice(&bytes(&rt, Vector::of(CHACHA).key)).expect(&rt, "a key");
+    is_sealed_in_place(&rt, &ChaChaPoly::new(&key), &sample_of(&rt, CHACHA));
+    let gcm = Gcm::from_slice(&bytes(&rt, Vector::of(GCM_4).key)).expect(&rt, "a key");
+    is_sealed_in_place(&rt, &gcm, &sample_of(&rt, GCM_4));
+    let siv = GcmSiv::from_slice(&bytes(&rt, Vector::of(GCM_SIV).key)).expect(&rt, "a key");
+    is_sealed_in_place(&rt, &siv, &sample_of(&rt, GCM_SIV));
 }
 
 // Opening these bytes as a vector returns this fault.
@@ -103,7 +103,7 @@ fn is_refused_in_place(
 // Other associated data makes another sealing.
 #[test]
 fn other_associated_data(rt: HostRuntime) {
-    let mut sample = sample_of(&rt, &CHACHA);
+    let mut sample = sample_of(&rt, CHACHA);
     flip(&mut sample.aad, 0);
     let Sample { aad, sealed, .. } = &sample;
     is_refused(&rt, &sample, aad, sealed, Fault::TagMismatch);
@@ -113,8 +113,8 @@ fn other_associated_data(rt: HostRuntime) {
 // The beginnings of a sealing are none.
 #[test]
 fn cut_sealings(rt: HostRuntime) {
-    for vector in &[CHACHA, GCM_4] {
-        let sample = sample_of(&rt, vector);
+    for line in &[CHACHA, GCM_4] {
+        let sample = sample_of(&rt, line);
         let Sample { aad, sealed, .. } = &sample;
         for length in 0..sealed.len() {
             let fault = if length < 16 {
@@ -130,8 +130,8 @@ fn cut_sealings(rt: HostRuntime) {
 // A sealing with any one bit changed is none, and what was to be opened stays.
 #[test]
 fn each_bit_changed(rt: HostRuntime) {
-    let sample = sample_of(&rt, &GCM_4);
-    let mut sealed = bytes(&rt, GCM_4.sealed);
+    let sample = sample_of(&rt, GCM_4);
+    let mut sealed = bytes(&rt, Vector::of(GCM_4).sealed);
     for bit in 0..608usize {
         flip(&mut sealed, bit);
         is_refused_in_place(&rt, &sample, &sample.aad, &sealed);

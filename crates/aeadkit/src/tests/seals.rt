@@ -1,82 +1,32 @@
 //! `seal` and `open` on published vectors.
 use super::devices::NO_FILES;
-use super::published::{
-    CHACHA, CHACHA_AAD, CHACHA_KEY, CHACHA_SEALED, CHACHA_TEXT, GCM, VECTORS, Vector,
-};
+use super::published::{CHACHA, GCM, VECTORS, Vector, words_of};
 use super::{prints, runs_over};
+use std::alloc::Global;
+use std::process::Abort;
 
-const ZERO16: &str = "00000000000000000000000000000000";
-
-const ZERO24: &str = "000000000000000000000000000000000000000000000000";
-
-// A suite, a key, a nonce, associated data and a body, and the fault that they have.
-type Row = (
-    &'static str,
-    &'static str,
-    &'static str,
-    &'static str,
-    &'static str,
-    &'static str,
-);
-
-const REFUSED: [Row; 13] = [
-    ("des", "0", "07", "0", "0", "aeadkit: UnknownSuite\n"),
-    ("AES-128-GCM", "", "", "", "", "aeadkit: UnknownSuite\n"),
-    ("", "0", "07", "", "", "aeadkit: UnknownSuite\n"),
-    ("aes-128-gcm", "0", "00", "", "", "aeadkit: BadHex\n"),
-    ("aes-128-gcm", "00", "0", "", "", "aeadkit: BadHex\n"),
-    ("aes-128-gcm", "00", "00", "0", "", "aeadkit: BadHex\n"),
-    ("aes-128-gcm", "00", "00", "", "zz", "aeadkit: BadHex\n"),
-    ("aes-128-gcm", "00", "00", "", "", "aeadkit: KeyLength\n"),
-    ("aes-256-gcm", ZERO16, "00", "", "", "aeadkit: KeyLength\n"),
-    (
-        "aes-256-gcm-siv",
-        ZERO24,
-        "00",
-        "",
-        "",
-        "aeadkit: KeyLength\n",
-    ),
-    (
-        "aes-128-gcm",
-        ZERO16,
-        "00",
-        "",
-        "",
-        "aeadkit: NonceLength\n",
-    ),
-    ("aes-128-gcm", ZERO16, "", "", "", "aeadkit: NonceLength\n"),
-    (
-        "chacha20-poly1305",
-        CHACHA_KEY,
-        "07",
-        CHACHA_AAD,
-        CHACHA_TEXT,
-        "aeadkit: NonceLength\n",
-    ),
-];
-
-// Associated data and sealed bytes under the rest of a vector, and why they are no sealing.
-const WRONG: [(&str, &str, &str); 4] = [
-    (
-        CHACHA_AAD,
-        "d31a8d34648e60db7b86afbc53ef7e",
-        "aeadkit: TooShort\n",
-    ),
-    (CHACHA_AAD, "", "aeadkit: TooShort\n"),
-    ("", CHACHA_SEALED, "aeadkit: TagMismatch\n"),
-    (
-        "51515253c0c1c2c3c4c5c6c7",
-        CHACHA_SEALED,
-        "aeadkit: TagMismatch\n",
-    ),
-];
+// A fault, and a suite, a key, a nonce, associated data and a body that have it.
+const REFUSED: &str = "\
+UnknownSuite des 0 07 0 0
+UnknownSuite AES-128-GCM - - - -
+UnknownSuite - 0 07 - -
+BadHex aes-128-gcm 0 00 - -
+BadHex aes-128-gcm 00 0 - -
+BadHex aes-128-gcm 00 00 0 -
+BadHex aes-128-gcm 00 00 - zz
+KeyLength aes-128-gcm 00 00 - -
+KeyLength aes-256-gcm 00000000000000000000000000000000 00 - -
+KeyLength aes-256-gcm-siv 000000000000000000000000000000000000000000000000 00 - -
+NonceLength aes-128-gcm 00000000000000000000000000000000 00 - -
+NonceLength aes-128-gcm 00000000000000000000000000000000 - - -
+NonceLength chacha20-poly1305 808182838485868788898a8b8c8d8e8f909192939495969798999a9b9c9d9e9f 07 50515253c0c1c2c3c4c5c6c7 00";
 
 // Each vector seals and opens. An option that is not given has an empty value.
 #[test]
 fn standard_vectors(rt: HostRuntime) {
-    for vector in &VECTORS {
-        let Vector { text, sealed, .. } = *vector;
+    for line in &VECTORS {
+        let vector = Vector::of(line);
+        let Vector { text, sealed, .. } = vector;
         prints(&rt, &vector.words("seal", "--text", text), sealed);
         prints(&rt, &vector.words("open", "--sealed", sealed), text);
     }
@@ -86,7 +36,7 @@ fn standard_vectors(rt: HostRuntime) {
         nonce,
         sealed,
         ..
-    } = GCM;
+    } = Vector::of(GCM);
     let words = ["seal", "--suite", suite, "--key", key, "--nonce", nonce];
     prints(&rt, &words, sealed);
     let words = [
@@ -95,26 +45,45 @@ fn standard_vectors(rt: HostRuntime) {
     prints(&rt, &words, "");
 }
 
+// Runs `open` on sealed bytes under a vector with other associated data: they are no sealing.
+fn is_no_sealing(rt: &(impl Abort + Alloc<A = Global>), aad: &str, sealed: &str, complaint: &str) {
+    let vector = Vector {
+        aad,
+        ..Vector::of(CHACHA)
+    };
+    let words = vector.words("open", "--sealed", sealed);
+    runs_over(rt, &NO_FILES, &words, 1, "", complaint);
+}
+
 // The suite's name comes first, then the hex of key, nonce, associated data and body, then the key's
 // length, then the nonce's, for sealing and opening; then bytes are found to be no sealing.
 #[test]
 fn refusals_in_order(rt: HostRuntime) {
-    for (suite, key, nonce, aad, body, complaint) in &REFUSED {
+    for line in REFUSED.lines() {
+        let [fault, suite, key, nonce, aad, body] = words_of::<6>(line);
         let vector = Vector {
             suite,
             key,
             nonce,
             aad,
-            ..GCM
+            text: "",
+            sealed: "",
         };
+        let complaint = format!(in rt.alloc(); "aeadkit: {fault}\n").expect(&rt, "memory");
         let words = vector.words("seal", "--text", body);
-        runs_over(&rt, &NO_FILES, &words, 2, "", complaint);
+        runs_over(&rt, &NO_FILES, &words, 2, "", &complaint);
         let words = vector.words("open", "--sealed", body);
-        runs_over(&rt, &NO_FILES, &words, 2, "", complaint);
+        runs_over(&rt, &NO_FILES, &words, 2, "", &complaint);
     }
-    for (aad, sealed, complaint) in &WRONG {
-        let vector = Vector { aad, ..CHACHA };
-        let words = vector.words("open", "--sealed", sealed);
-        runs_over(&rt, &NO_FILES, &words, 1, "", complaint);
-    }
+    let Vector { aad, sealed, .. } = Vector::of(CHACHA);
+    is_no_sealing(
+        &rt,
+        aad,
+        "d31a8d34648e60db7b86afbc53ef7e",
+        "aeadkit: TooShort\n",
+    );
+    is_no_sealing(&rt, aad, "", "aeadkit: TooShort\n");
+    is_no_sealing(&rt, "", sealed, "aeadkit: TagMismatch\n");
+    let other = "51515253c0c1c2c3c4c5c6c7";
+    is_no_sealing(&rt, other, sealed, "aeadkit: TagMismatch\n");
 }

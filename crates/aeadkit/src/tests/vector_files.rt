@@ -56,7 +56,7 @@ fn published_vectors_in_both_formats(rt: HostRuntime) {
         has_18_records(&rt, &file, &[]);
         let text = from_utf8(&file).expect(&rt, "text");
         has_18_records(&rt, &changed_records(&rt, text), &[]);
-        let fifth = with_lines(&rt, text, &[(31, &[b"invalid"])]);
+        let fifth = with_lines(&rt, text, &[(31, b"invalid\n")]);
         has_18_records(&rt, &fifth, &[5]);
     }
 }

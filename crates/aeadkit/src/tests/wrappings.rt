@@ -1,6 +1,6 @@
 //! The calls of `keywrap`, without padding and with it.
 use super::files::bytes;
-use super::published::{KEY, PADDED, PADDED_KEY, PADDED_WRAPPED, WRAPPED, WRAPPINGS, Wrapping};
+use super::published::{PADDED, WRAPPINGS, Wrapping};
 use super::sealings::samples::flip;
 use aes::AesKey;
 use keywrap::{
@@ -77,7 +77,8 @@ fn key_of(rt: &(impl Abort + Alloc<A = Global>), digits: &str) -> AesKey {
 }
 
 // A text is wrapped and unwrapped, as a vector and in place.
-fn agrees(rt: &(impl Abort + Alloc<A = Global>), form: Form, published: &Wrapping<'_>) {
+fn agrees(rt: &(impl Abort + Alloc<A = Global>), form: Form, line: &str) {
+    let published = Wrapping::of(line);
     let key = key_of(rt, published.key);
     let text = bytes(rt, published.text);
     let mut room = bytes(rt, published.wrapped);
@@ -98,11 +99,11 @@ fn agrees(rt: &(impl Abort + Alloc<A = Global>), form: Form, published: &Wrappin
 // RFC 3394, 4.1 to 4.6, and RFC 5649, 6.
 #[test]
 fn published_wrappings(rt: HostRuntime) {
-    for published in &WRAPPINGS {
-        agrees(&rt, Form::Plain, published);
+    for line in &WRAPPINGS {
+        agrees(&rt, Form::Plain, line);
     }
-    for published in &PADDED {
-        agrees(&rt, Form::Padded, published);
+    for line in &PADDED {
+        agrees(&rt, Form::Padded, line);
     }
 }
 
@@ -110,11 +111,12 @@ fn published_wrappings(rt: HostRuntime) {
 // padding, and one of several blocks and one of a single block with it.
 #[test]
 fn each_bit_changed(rt: HostRuntime) {
-    for (form, published) in &[
+    for (form, line) in &[
         (Form::Plain, WRAPPINGS[0]),
         (Form::Padded, PADDED[0]),
         (Form::Padded, PADDED[1]),
     ] {
+        let published = Wrapping::of(line);
         let key = key_of(&rt, published.key);
         let wrapped = bytes(&rt, published.wrapped);
         let mut changed = bytes(&rt, published.wrapped);
@@ -134,21 +136,12 @@ fn each_bit_changed(rt: HostRuntime) {
 // A wrapping of one form is none of the other, and the beginnings of a wrapping are none.
 #[test]
 fn other_forms_and_lengths(rt: HostRuntime) {
-    for (form, key, wrapped, fault) in &[
-        (Form::Padded, KEY, WRAPPED, Fault::WrapIntegrity),
-        (
-            Form::Plain,
-            PADDED_KEY,
-            PADDED_WRAPPED,
-            Fault::WrapIntegrity,
-        ),
-        (
-            Form::Plain,
-            PADDED_KEY,
-            PADDED[1].wrapped,
-            Fault::WrapLength,
-        ),
+    for (form, line, fault) in &[
+        (Form::Padded, WRAPPINGS[0], Fault::WrapIntegrity),
+        (Form::Plain, PADDED[0], Fault::WrapIntegrity),
+        (Form::Plain, PADDED[1], Fault::WrapLength),
     ] {
+        let Wrapping { key, wrapped, .. } = Wrapping::of(line);
         let answer = made(
             rt.alloc(),
             *form,
@@ -158,8 +151,9 @@ fn other_forms_and_lengths(rt: HostRuntime) {
         );
         assert!(rt; is_due(answer, Err(*fault)), "{wrapped}");
     }
-    let key = key_of(&rt, KEY);
-    let wrapped = bytes(&rt, WRAPPED);
+    let Wrapping { key, wrapped, .. } = Wrapping::of(WRAPPINGS[0]);
+    let key = key_of(&rt, key);
+    let wrapped = bytes(&rt, wrapped);
     for length in 0..wrapped.len() {
         let answer = made(
             rt.alloc(),
@@ -203,7 +197,7 @@ const BLOCKS: [([u8; 16], Option<&[u8]>); 6] = [
 
 #[test]
 fn padding(rt: HostRuntime) {
-    let key = key_of(&rt, PADDED_KEY);
+    let key = key_of(&rt, Wrapping::of(PADDED[0]).key);
     for (block, text) in &BLOCKS {
         let wrapped = key.encrypt(&Block::new(*block));
         let answer = unwrap_padded(rt.alloc(), &key, wrapped.bytes());

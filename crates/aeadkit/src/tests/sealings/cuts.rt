@@ -41,11 +41,11 @@ fn has_pieces(
 // A text that is read once, cut at each place and at three, and one that is read twice.
 #[test]
 fn pieces_begin_at_the_cuts(rt: HostRuntime) {
-    let chacha = sample_of(&rt, &CHACHA);
+    let chacha = sample_of(&rt, CHACHA);
     for cut in 1..115u64 {
         let first = cut as usize;
         has_pieces(&rt, &chacha, &[cut], &[first, 114 - first, 16]);
     }
     has_pieces(&rt, &chacha, &[1, 5, 16], &[1, 4, 11, 98, 16]);
-    has_pieces(&rt, &sample_of(&rt, &GCM_SIV), &[3, 8], &[3, 5, 0, 16]);
+    has_pieces(&rt, &sample_of(&rt, GCM_SIV), &[3, 8], &[3, 5, 0, 16]);
 }

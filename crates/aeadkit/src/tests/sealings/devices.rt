@@ -77,7 +77,7 @@ fn opens(
 // Takes of any size make no difference.
 #[test]
 fn takes_of_each_size(rt: HostRuntime) {
-    let sample = sample_of(&rt, &CHACHA);
+    let sample = sample_of(&rt, CHACHA);
     for size in [1, 15, 17] {
         let takes = NeverFails(size);
         opens(
@@ -96,7 +96,7 @@ fn takes_of_each_size(rt: HostRuntime) {
 // outlet takes them and then fails.
 #[test]
 fn devices_that_fail(rt: HostRuntime) {
-    let sample = sample_of(&rt, &CHACHA);
+    let sample = sample_of(&rt, CHACHA);
     let w = IsWhole;
     opens(
         &rt,

@@ -21,8 +21,8 @@ fn is_right<A: Allocator + Copy>(alloc: A, sample: &Sample) -> Result<bool, Faul
 // The result is `OutOfMemory` if a request was refused, and else right. At least one is.
 #[test]
 fn requests_are_refused_in_turn(rt: HostRuntime) {
-    for vector in &[CHACHA, GCM, GCM_SIV] {
-        let sample = sample_of(&rt, vector);
+    for line in &[CHACHA, GCM, GCM_SIV] {
+        let sample = sample_of(&rt, line);
         let mut count = 0u64;
         for passed in 0..30u64 {
             let memory = RefusingMemory::after(passed, rt.alloc());

@@ -34,8 +34,8 @@ fn opens(
 // Three readings of a published sealing give its text.
 #[test]
 fn equal_readings(rt: HostRuntime) {
-    for vector in &VECTORS {
-        let sample = sample_of(&rt, vector);
+    for line in &VECTORS {
+        let sample = sample_of(&rt, line);
         let whole = sample.sealed.as_slice();
         opens(&rt, &sample, [whole, whole, whole], Ok(()), &sample.text);
     }
@@ -45,7 +45,7 @@ fn equal_readings(rt: HostRuntime) {
 // length or tag than the measured one, or is no sealing.
 #[test]
 fn readings_that_differ_before_any_byte(rt: HostRuntime) {
-    let sample = sample_of(&rt, &CHACHA);
+    let sample = sample_of(&rt, CHACHA);
     let whole = sample.sealed.as_slice();
     let body = changed(&rt, whole, 100);
     let tag = changed(&rt, whole, 129);
@@ -68,7 +68,7 @@ fn readings_that_differ_before_any_byte(rt: HostRuntime) {
 #[test]
 fn write_readings_that_differ(rt: HostRuntime) {
     let refused = Err(Fault::SourceChanged);
-    let siv = sample_of(&rt, &GCM_SIV);
+    let siv = sample_of(&rt, GCM_SIV);
     let whole = siv.sealed.as_slice();
     opens(
         &rt,
@@ -77,7 +77,7 @@ fn write_readings_that_differ(rt: HostRuntime) {
         refused,
         &[0; 8],
     );
-    let sample = sample_of(&rt, &CHACHA);
+    let sample = sample_of(&rt, CHACHA);
     let (whole, text) = (sample.sealed.as_slice(), sample.text.as_slice());
     let (body, tag) = (changed(&rt, whole, 100), changed(&rt, whole, 129));
     let mut longer = changed(&rt, whole, 130);

@@ -27,11 +27,11 @@ fn is_sealed_in_pieces(rt: &(impl Abort + Alloc<A = Global>), sample: &Sample, l
 // A text in two pieces, cut at each place, and one in pieces that end before, at and after a block boundary.
 #[test]
 fn sealer_takes_any_pieces(rt: HostRuntime) {
-    let chacha = sample_of(&rt, &CHACHA);
+    let chacha = sample_of(&rt, CHACHA);
     for cut in 0..115usize {
         is_sealed_in_pieces(&rt, &chacha, &[cut, 114 - cut]);
     }
-    is_sealed_in_pieces(&rt, &sample_of(&rt, &GCM_4), &[1, 15, 0, 17, 27]);
+    is_sealed_in_pieces(&rt, &sample_of(&rt, GCM_4), &[1, 15, 0, 17, 27]);
 }
 
 // The tag of a text in pieces of 3 and 0 bytes and the rest, and what encrypts a second reading.
@@ -67,7 +67,7 @@ fn ends(
 // A second reading of the same text agrees, and one of another or of a shorter one does not.
 #[test]
 fn second_readings(rt: HostRuntime) {
-    let sample = sample_of(&rt, &GCM_SIV);
+    let sample = sample_of(&rt, GCM_SIV);
     let text = sample.text.as_slice();
     ends(&rt, &sample, text, Ok(()));
     ends(
@@ -82,7 +82,7 @@ fn second_readings(rt: HostRuntime) {
 // A byte past the first text is refused and stays, and the second reading agrees as if it had not come.
 #[test]
 fn a_longer_second_reading(rt: HostRuntime) {
-    let mut sample = sample_of(&rt, &GCM_SIV);
+    let mut sample = sample_of(&rt, GCM_SIV);
     let (_, mut writer) = absorbed(&rt, &sample);
     assert!(rt; writer.update(&mut sample.text).is_ok());
     let mut more = [7u8];

@@ -16,8 +16,9 @@ pub struct Sample {
     pub sealed: Vec<u8>,
 }
 
-/// The bytes of a vector.
-pub fn sample_of(rt: &(impl Abort + Alloc<A = Global>), vector: &Vector<'_>) -> Sample {
+/// The bytes of a vector's line.
+pub fn sample_of(rt: &(impl Abort + Alloc<A = Global>), line: &str) -> Sample {
+    let vector = Vector::of(line);
     let suite = Suite::named(vector.suite).expect(rt, "a suite's name");
     Sample {
         cipher: AnyAead::new(suite, &bytes(rt, vector.key)).expect(rt, "a key"),

@@ -33,8 +33,8 @@ fn seals(
 // A stream is sealed as its text is.
 #[test]
 fn a_stream_has_the_sealing_of_its_text(rt: HostRuntime) {
-    for vector in &VECTORS {
-        let sample = sample_of(&rt, vector);
+    for line in &VECTORS {
+        let sample = sample_of(&rt, line);
         seals(&rt, &sample, &sample.text, Ok(()), &sample.sealed);
     }
 }
@@ -42,7 +42,7 @@ fn a_stream_has_the_sealing_of_its_text(rt: HostRuntime) {
 // The tag is not given after a second reading of another text, or of a shorter one.
 #[test]
 fn a_stream_of_another_second_text(rt: HostRuntime) {
-    let sample = sample_of(&rt, &GCM_SIV);
+    let sample = sample_of(&rt, GCM_SIV);
     let refused = Err(Fault::SourceChanged);
     let most = [0xb5, 0xd8, 0x39, 0x33, 0x0a, 0xc7, 0xb7, 0x87];
     seals(&rt, &sample, &changed(&rt, &sample.text, 7), refused, &most);

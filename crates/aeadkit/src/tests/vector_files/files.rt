@@ -1,5 +1,5 @@
 //! Files made of others, and their results.
-use super::super::published::{VECTORS, WRAPPINGS};
+use super::super::published::{VECTORS, Vector, WRAPPINGS, Wrapping};
 use std::alloc::Global;
 use std::process::Abort;
 use vectors::{VectorFault, check};
@@ -67,7 +67,8 @@ fn add_values(rt: &(impl Abort + Alloc<A = Global>), file: &mut Vec<u8>, lines: 
 pub fn published(rt: &(impl Abort + Alloc<A = Global>), format: &str) -> Vec<u8> {
     let mut file = Vec::new(rt.alloc());
     add_values(rt, &mut file, &[("format", format)]);
-    for vector in &VECTORS {
+    for line in &VECTORS {
+        let vector = Vector::of(line);
         let lines = [
             ("suite", vector.suite),
             ("key", vector.key),
@@ -78,7 +79,8 @@ pub fn published(rt: &(impl Abort + Alloc<A = Global>), format: &str) -> Vec<u8>
         ];
         add_values(rt, &mut file, &lines);
     }
-    for wrapping in &WRAPPINGS {
+    for line in &WRAPPINGS {
+        let wrapping = Wrapping::of(line);
         let suite = match wrapping.key.len() {
             32 => "aes-128-wrap",
             48 => "aes-192-wrap",
@@ -95,19 +97,17 @@ pub fn published(rt: &(impl Abort + Alloc<A = Global>), format: &str) -> Vec<u8>
     file
 }
 
-/// The number of a line, and the lines in its place.
-pub type Edit = (usize, &'static [&'static [u8]]);
+/// The number of a line, and the bytes in the place of it and its LF; no line has the number 0.
+pub type Edit = (usize, &'static [u8]);
 
-/// A file with other lines in the place of some of its own, each with a LF after it.
+/// A file with other bytes in the place of some of its lines.
 pub fn with_lines(rt: &(impl Abort + Alloc<A = Global>), file: &str, edits: &[Edit]) -> Vec<u8> {
     let mut out = Vec::new(rt.alloc());
     let mut rest = edits;
     for (i, old) in file.lines().enumerate() {
         match rest {
-            [(number, lines), behind @ ..] if i == number.saturating_sub(1) => {
-                for line in *lines {
-                    add(rt, &mut out, &[line]);
-                }
+            [(number, lines), behind @ ..] if i.saturating_add(1) == *number => {
+                out.extend_from_slice(lines).expect(rt, "memory");
                 rest = behind;
             }
             _ => add(rt, &mut out, &[old.as_bytes()]),

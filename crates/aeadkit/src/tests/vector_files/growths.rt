@@ -34,7 +34,7 @@ fn requests(rt: &(impl Abort + Alloc<A = Global>), file: &[u8], due: Answer) -> 
 fn each_refused_growth_is_out_of_memory(rt: HostRuntime) {
     let file = published(&rt, "1");
     let text = from_utf8(&file).expect(&rt, "text");
-    let fifth = with_lines(&rt, text, &[(31, &[b"invalid"])]);
+    let fifth = with_lines(&rt, text, &[(31, b"invalid\n")]);
     assert!(rt; requests(&rt, &fifth, Ok((18, 1))) == 16);
     assert!(rt; requests(&rt, FORMAT_2.as_bytes(), Ok((2, 0))) == 2);
     assert!(rt; requests(&rt, TWO_RECORDS.as_bytes(), Ok((2, 0))) == 0);
