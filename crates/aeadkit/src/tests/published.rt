@@ -1,12 +1,11 @@
 //! Published vectors: the words of each in a line, one space after the other, and `-` for the empty word.
 
-/// The words of a line.
-pub fn words_of<'a, const N: usize>(line: &'a str) -> [&'a str; N] {
-    let mut words = [""; N];
-    for (word, given) in words.iter_mut().zip(line.split(' ')) {
-        *word = if given == "-" { "" } else { given };
+/// A word of a line.
+pub fn word(given: Option<&str>) -> &str {
+    match given {
+        Some("-") | None => "",
+        Some(word) => word,
     }
-    words
 }
 
 /// A suite, its inputs, and the sealing of the text.
@@ -23,14 +22,14 @@ pub struct Vector<'a> {
 impl<'a> Vector<'a> {
     /// The vector of a line.
     pub fn of(line: &'a str) -> Vector<'a> {
-        let [suite, key, nonce, aad, text, sealed] = words_of::<6>(line);
+        let mut words = line.split(' ');
         Vector {
-            suite,
-            key,
-            nonce,
-            aad,
-            text,
-            sealed,
+            suite: word(words.next()),
+            key: word(words.next()),
+            nonce: word(words.next()),
+            aad: word(words.next()),
+            text: word(words.next()),
+            sealed: word(words.next()),
         }
     }
 
@@ -122,8 +121,12 @@ pub struct Wrapping<'a> {
 impl<'a> Wrapping<'a> {
     /// The wrapping of a line.
     pub fn of(line: &'a str) -> Wrapping<'a> {
-        let [key, text, wrapped] = words_of::<3>(line);
-        Wrapping { key, text, wrapped }
+        let mut words = line.split(' ');
+        Wrapping {
+            key: word(words.next()),
+            text: word(words.next()),
+            wrapped: word(words.next()),
+        }
     }
 }
 

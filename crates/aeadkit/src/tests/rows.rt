@@ -1,7 +1,7 @@
 //! Words that print a line, and words that are refused.
 use super::checks::CHECK;
 use super::devices::{FailsAfter, NO_FILES, OneFile};
-use super::published::{PADDED, WRAPPINGS, Wrapping, words_of};
+use super::published::{PADDED, WRAPPINGS, Wrapping, word};
 use super::vector_files::TWO_RECORDS;
 use super::{prints, runs_into, runs_over};
 use crate::run::run;
@@ -85,10 +85,8 @@ fn words_after<'a>(
     first: usize,
 ) -> Vec<&'a str> {
     let mut words = Vec::new(rt.alloc());
-    for word in line.split(' ').skip(first) {
-        words
-            .push(if word == "-" { "" } else { word })
-            .expect(rt, "memory");
+    for given in line.split(' ').skip(first) {
+        words.push(word(Some(given))).expect(rt, "memory");
     }
     words
 }
@@ -97,8 +95,9 @@ fn words_after<'a>(
 fn refused_words(rt: HostRuntime) {
     for table in [OF_WRAPPING, OF_PADDING, OF_BYTES, OF_WORDS, OF_PATHS] {
         for line in table.lines() {
-            let [status, fault] = words_of::<2>(line);
-            let status = if status == "1" { 1 } else { 2 };
+            let mut parts = line.split(' ');
+            let status = if parts.next() == Some("1") { 1 } else { 2 };
+            let fault = word(parts.next());
             let complaint = format!(in rt.alloc(); "aeadkit: {fault}\n").expect(&rt, "memory");
             let words = words_after(&rt, line, 2);
             runs_over(&rt, &NO_FILES, &words, status, "", &complaint);

@@ -1,6 +1,6 @@
 //! `seal` and `open` on published vectors.
 use super::devices::NO_FILES;
-use super::published::{CHACHA, GCM, VECTORS, Vector, words_of};
+use super::published::{CHACHA, GCM, VECTORS, Vector, word};
 use super::{prints, runs_over};
 use std::alloc::Global;
 use std::process::Abort;
@@ -60,15 +60,17 @@ fn is_no_sealing(rt: &(impl Abort + Alloc<A = Global>), aad: &str, sealed: &str,
 #[test]
 fn refusals_in_order(rt: HostRuntime) {
     for line in REFUSED.lines() {
-        let [fault, suite, key, nonce, aad, body] = words_of::<6>(line);
+        let mut parts = line.split(' ');
+        let fault = word(parts.next());
         let vector = Vector {
-            suite,
-            key,
-            nonce,
-            aad,
+            suite: word(parts.next()),
+            key: word(parts.next()),
+            nonce: word(parts.next()),
+            aad: word(parts.next()),
             text: "",
             sealed: "",
         };
+        let body = word(parts.next());
         let complaint = format!(in rt.alloc(); "aeadkit: {fault}\n").expect(&rt, "memory");
         let words = vector.words("seal", "--text", body);
         runs_over(&rt, &NO_FILES, &words, 2, "", &complaint);
