@@ -267,26 +267,17 @@ fn subcommand<'a>(alloc: Global, spec: &CommandSpec) -> Result<Command<'a>, Allo
     Ok(command)
 }
 
-// A command with more subcommands.
-fn with_subcommands<'a>(
-    alloc: Global,
-    mut command: Command<'a>,
-    specs: &[CommandSpec],
-) -> Result<Command<'a>, AllocError> {
-    for spec in specs {
-        command = command.subcommand(subcommand(alloc, spec)?)?;
-    }
-    Ok(command)
-}
-
 /// The program's command line.
 pub fn command<'a>(alloc: Global) -> Result<Command<'a>, AllocError> {
-    let program = Command::new(alloc, "aeadkit")
+    let mut program = Command::new(alloc, "aeadkit")
         .about("Authenticated encryption and key wrapping by published standards")
         .after_help(ABOUT_HEX)
         .version(VERSION)
         .no_binary_name(true)
         .subcommand_required(true)
         .bin_name("aeadkit")?;
-    with_subcommands(alloc, program, &SUBCOMMANDS)
+    for spec in &SUBCOMMANDS {
+        program = program.subcommand(subcommand(alloc, spec)?)?;
+    }
+    Ok(program)
 }

@@ -23,32 +23,52 @@ use std::alloc::Global;
 use std::io::Write;
 use std::process::Abort;
 
-// Runs the words over files and into a writer, and compares the status and standard error.
+// Ends the test if this is not so. A call of it is cheaper to prove than an assertion in its place.
+fn shows(rt: &impl Abort, is_so: bool, what: &str) {
+    assert!(rt; is_so, "{what}");
+}
+
+// Ends the test if this is not so of a number.
+fn shows_at(rt: &impl Abort, is_so: bool, what: &str, number: u64) {
+    assert!(rt; is_so, "{what} {number}");
+}
+
+// Whether standard error has the line of a fault, or nothing if it is the empty one.
+fn names(err: &[u8], fault: &str) -> bool {
+    match err.strip_prefix(b"aeadkit: ".as_slice()) {
+        Some(line) => line.split_last() == Some((&b'\n', fault.as_bytes())),
+        None => err.is_empty() && fault.is_empty(),
+    }
+}
+
+// Runs the words over files and into a writer, and compares the status and the fault.
 fn runs_into<F: Storage, W: Write>(
     rt: &(impl Abort + Alloc<A = Global>),
     files: &F,
     words: &[&str],
     out: &mut W,
     status: u8,
-    complaint: &str,
+    fault: &str,
 ) {
     let mut err: Vec<u8> = Vec::new(rt.alloc());
     let answer = run(rt.alloc(), files, words, out, &mut err);
-    let is_right = answer == status && err.as_slice() == complaint.as_bytes();
-    assert!(rt; is_right, "{answer} of {words:?}");
+    assert!(rt;
+        answer == status && names(&err, fault),
+        "{answer} of {words:?}"
+    );
 }
 
-// Runs the words over files, and compares the status and both streams.
+// Runs the words over files, and compares the status, standard output and the fault.
 fn runs_over<F: Storage>(
     rt: &(impl Abort + Alloc<A = Global>),
     files: &F,
     words: &[&str],
     status: u8,
     printed: &str,
-    complaint: &str,
+    fault: &str,
 ) {
     let mut out: Vec<u8> = Vec::new(rt.alloc());
-    runs_into(rt, files, words, &mut out, status, complaint);
+    runs_into(rt, files, words, &mut out, status, fault);
     assert!(rt; out.as_slice() == printed.as_bytes(), "{words:?}");
 }
 

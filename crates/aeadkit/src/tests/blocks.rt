@@ -1,6 +1,7 @@
 //! AES and its streams of counting blocks.
+use super::shows;
 use aes::{AesKey, CtrBe, CtrLe, round};
-use octets::{Block, Key16, Key24, Key32};
+use octets::Block;
 
 // A key of n bytes is the first n of these.
 const BYTES: [u8; 32] = [
@@ -29,19 +30,22 @@ fn is_cipher(key: &AesKey, cipher: &[u8; 16]) -> bool {
 
 #[test]
 fn published_ciphers(rt: HostRuntime) {
-    let key = AesKey::new128(&Key16::from_slice(&BYTES[..16]).expect(&rt, "16 bytes"));
-    assert!(rt; is_cipher(&key, &CIPHERS[0]));
-    let key = AesKey::new192(&Key24::from_slice(&BYTES[..24]).expect(&rt, "24 bytes"));
-    assert!(rt; is_cipher(&key, &CIPHERS[1]));
-    assert!(rt; is_cipher(&AesKey::new256(&Key32::new(BYTES)), &CIPHERS[2]));
     for (length, cipher) in [16, 24, 32usize].iter().zip(&CIPHERS) {
         let key = AesKey::from_slice(&BYTES[..(*length).min(32)]).expect(&rt, "a key");
-        assert!(rt; is_cipher(&key, cipher));
+        shows(&rt, is_cipher(&key, cipher), "a cipher");
     }
-    // FIPS 197, appendix B: the columns at the start of rounds 1 and 2, and the key of round 1.
+}
+
+// FIPS 197, appendix B: the columns at the start of rounds 1 and 2, and the key of round 1.
+#[test]
+fn a_published_round(rt: HostRuntime) {
     let state = [0xbee3_3d19, 0x2be2_f4a0, 0x2a8d_c69a, 0x0848_f8e9];
     let key = [0x17fe_faa0, 0xb12c_5488, 0x3939_a323, 0x0576_6c2a];
-    assert!(rt; round(state, key) == [0xf27f_9ca4, 0x2b35_9f68, 0x43ea_5b6b, 0x4950_6a02]);
+    shows(
+        &rt,
+        round(state, key) == [0xf27f_9ca4, 0x2b35_9f68, 0x43ea_5b6b, 0x4950_6a02],
+        "columns",
+    );
 }
 
 // SP 800-38A, F.5.1.
@@ -60,7 +64,7 @@ fn published_stream(rt: HostRuntime) {
            \x98\x06\xf6\x6b\x79\x70\xfd\xff\x86\x17\x18\x7b\xb9\xff\xfd\xff\
            \x5a\xe4\xdf\x3e\xdb\xd5\xd3\x5e\x5b\x4f\x09\x02\x0d\xb0\x3e\xab\
            \x1e\x03\x1d\xda\x2f\xbe\x03\xd1\x79\x21\x70\xa0\xf3\x00\x9c\xee";
-    assert!(rt; text == cipher);
+    shows(&rt, text == cipher, "a stream");
 }
 
 // The block of sixteen zeros comes after that of twelve zeros and ffffffff.
@@ -72,7 +76,7 @@ fn zeros_after_the_last_count(rt: HostRuntime) {
     let mut bytes = [0; 32];
     CtrBe::new(&key, &Block::new(first)).apply(&mut bytes);
     let due = *b"\x66\xe9\x4b\xd4\xef\x8a\x2c\x3b\x88\x4c\xfa\x59\xca\x34\x2b\x2e";
-    assert!(rt; bytes.ends_with(&due));
+    shows(&rt, bytes.ends_with(&due), "the last block");
 }
 
 // After the block that begins with ffffffff comes that of four zeros and the same last twelve bytes.
@@ -84,6 +88,14 @@ fn zeros_before_the_last_twelve(rt: HostRuntime) {
     second[..4].copy_from_slice(&[0; 4]);
     let mut bytes = [0; 32];
     CtrLe::new(&key, &Block::new(first)).apply(&mut bytes);
-    assert!(rt; bytes.starts_with(key.encrypt(&Block::new(first)).bytes()));
-    assert!(rt; bytes.ends_with(key.encrypt(&Block::new(second)).bytes()));
+    shows(
+        &rt,
+        bytes.starts_with(key.encrypt(&Block::new(first)).bytes()),
+        "the first block",
+    );
+    shows(
+        &rt,
+        bytes.ends_with(key.encrypt(&Block::new(second)).bytes()),
+        "the last block",
+    );
 }

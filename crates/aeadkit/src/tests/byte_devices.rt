@@ -1,4 +1,5 @@
 //! Which steps the devices of a script make, and that an outlet fails only if an allocation failed.
+use super::{shows, shows_at};
 use octets::{
     DeviceFault, Intake, Outlet, RefusingMemory, ScriptIntake, ScriptOutlet, Step, VecOutlet,
 };
@@ -19,11 +20,11 @@ fn scripts_are_followed(rt: HostRuntime) {
     let steps = [Step::Give(3), Step::Give(0), Step::Fail, Step::Give(100)];
     let mut intake = ScriptIntake::new(vector(&rt, &BYTES), vector(&rt, &steps));
     for due in [Ok(3), Ok(1), Err(DeviceFault), Ok(5), Ok(1), Ok(0)] {
-        assert!(rt; intake.take(&mut [0; 5]) == due, "{due:?}");
+        shows(&rt, intake.take(&mut [0; 5]) == due, "a take");
     }
     let mut outlet = ScriptOutlet::new(rt.alloc(), vector(&rt, &steps));
     for due in [Ok(3), Ok(1), Err(DeviceFault), Ok(5), Ok(5)] {
-        assert!(rt; outlet.give(&BYTES[..5]) == due, "{due:?}");
+        shows(&rt, outlet.give(&BYTES[..5]) == due, "a give");
     }
 }
 
@@ -49,22 +50,55 @@ fn is_right(refused: u32, bytes: &[u8], memory: &RefusingMemory<Global>) -> bool
     refused == u32::from(memory.has_refused()) && bytes == JOINED.as_slice()
 }
 
-// Each request for memory of an outlet is refused in turn, until none is. The first one always is.
+// Gives pieces to an outlet with one request for memory refused after the first `passed` ones, and returns whether it
+// came to that one.
+fn vec_outlet_refuses(rt: &(impl Abort + Alloc<A = Global>), passed: u64) -> bool {
+    let memory = RefusingMemory::after(passed, rt.alloc());
+    let mut outlet = VecOutlet::new(&memory);
+    let refused = refusals(&mut outlet);
+    shows_at(
+        rt,
+        is_right(refused, outlet.bytes(), &memory),
+        "request",
+        passed,
+    );
+    memory.has_refused()
+}
+
+// Gives pieces to an outlet of no steps in the same manner.
+fn script_outlet_refuses(rt: &(impl Abort + Alloc<A = Global>), passed: u64) -> bool {
+    let memory = RefusingMemory::after(passed, rt.alloc());
+    let mut outlet = ScriptOutlet::new(&memory, Vec::new(&memory));
+    let refused = refusals(&mut outlet);
+    shows_at(
+        rt,
+        is_right(refused, outlet.bytes(), &memory),
+        "request",
+        passed,
+    );
+    memory.has_refused()
+}
+
+// Each request for memory of an outlet is refused in turn. The first one always is, and the ninth never comes.
 #[test]
 fn outlets_fail_only_without_memory(rt: HostRuntime) {
-    let mut last = true;
     for passed in 0..9u64 {
-        let memory = RefusingMemory::after(passed, rt.alloc());
-        let mut outlet = VecOutlet::new(&memory);
-        let refused = refusals(&mut outlet);
-        assert!(rt; is_right(refused, outlet.bytes(), &memory), "{passed}");
-        last = memory.has_refused();
-        assert!(rt; last || 0 < passed);
-        let memory = RefusingMemory::after(passed, rt.alloc());
-        let mut outlet = ScriptOutlet::new(&memory, Vec::new(&memory));
-        let refused = refusals(&mut outlet);
-        assert!(rt; is_right(refused, outlet.bytes(), &memory), "{passed}");
-        assert!(rt; memory.has_refused() == last);
+        let refuses = vec_outlet_refuses(&rt, passed);
+        shows_at(
+            &rt,
+            refuses == script_outlet_refuses(&rt, passed),
+            "request",
+            passed,
+        );
+        shows_at(
+            &rt,
+            if passed == 0 {
+                refuses
+            } else {
+                passed < 8 || !refuses
+            },
+            "request",
+            passed,
+        );
     }
-    assert!(rt; !last);
 }

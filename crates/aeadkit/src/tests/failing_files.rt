@@ -2,6 +2,7 @@
 use super::files::{bytes, file_words};
 use super::published::{CHACHA, GCM_SIV, Vector};
 use super::scripted::{Log, Script, Scripted, Wrong};
+use super::{names, shows_at};
 use crate::run::run;
 use std::alloc::Global;
 use std::process::Abort;
@@ -9,11 +10,11 @@ use std::process::Abort;
 // Whether the failure names the side that went wrong, and the written file holds a beginning of what it
 // should; none was made if a reading before the last one went wrong.
 fn is_stopped(log: &Log, err: &[u8], to: &[u8], last: u8) -> bool {
-    let (complaint, may_be_made) = match log.reading.get() {
-        Some(reading) => ("aeadkit: Read\n", last <= reading),
-        None => ("aeadkit: Write\n", true),
+    let (fault, may_be_made) = match log.reading.get() {
+        Some(reading) => ("Read", last <= reading),
+        None => ("Write", true),
     };
-    err == complaint.as_bytes() && log.begins(to) && (may_be_made || !log.made.get())
+    names(err, fault) && log.begins(to) && (may_be_made || !log.made.get())
 }
 
 // Runs a file command with one call that goes wrong, and returns whether it was done before that call.
@@ -44,9 +45,9 @@ fn is_over_before(
     let is_right = if is_over || matches!(wrong, Wrong::IsShort) {
         status == 0 && err.is_empty() && log.holds(to)
     } else {
-        status == 3 && is_stopped(&log, err.as_slice(), to, last)
+        status == 3 && is_stopped(&log, &err, to, last)
     };
-    assert!(rt; is_right && out.is_empty(), "call {at}");
+    shows_at(rt, is_right && out.is_empty(), "call", u64::from(at));
     is_over
 }
 
@@ -68,7 +69,7 @@ fn each_call_goes_wrong(
             break;
         }
     }
-    assert!(rt; 4 < count && count < 999, "{count} calls");
+    shows_at(rt, 4 < count && count < 999, "calls", u64::from(count));
 }
 
 // Seals and opens a vector's text with each call going wrong in turn; sealing ends with the given reading.

@@ -1,101 +1,20 @@
 //! Each request for memory of a command is refused in turn, until a run takes all that it asks for. The
 //! result is `OutOfMemory` if one was refused, or `Write` if the making of a file asked for it; else it is right.
-use super::devices::{NO_FILES, OneFile};
 use super::files::bytes;
 use super::published::{CHACHA, GCM, GCM_SIV, PADDED, Vector, WRAPPINGS, Wrapping};
 use super::scripted::{Log, Script, Scripted, Sink, Source};
-use super::vector_files::TWO_RECORDS;
+use super::vector_files::{published, with_lines};
+use super::{names, shows, shows_at};
 use crate::run::{perform, report, write_new_file};
 use crate::storage::Storage;
-use crate::words::{FileCommand, FileRequest, Inputs, PrintRequest};
+use crate::words::{FileCommand, FileRequest, Inputs, PrintRequest, Request};
 use octets::{FromRead, RefusingMemory, ToWrite};
 use std::alloc::{Allocator, Global};
 use std::cell::Cell;
 use std::io;
 use std::io::BufReader;
 use std::process::Abort;
-
-// Performs a request with one request for memory refused after the first `passed` ones, and returns whether
-// it came to that one: then nothing is printed, and else the line is.
-fn is_refused<F: Storage>(
-    rt: &(impl Abort + Alloc<A = Global>),
-    files: &F,
-    request: &PrintRequest<'_>,
-    line: &str,
-    passed: u64,
-) -> bool {
-    let memory = RefusingMemory::after(passed, rt.alloc());
-    let mut out: Vec<u8> = Vec::new(rt.alloc());
-    let mut err: Vec<u8> = Vec::new(rt.alloc());
-    let status = match perform(&memory, files, request, &mut out) {
-        Ok(status) => status,
-        Err(failure) => report(&mut err, failure),
-    };
-    let refused = memory.has_refused();
-    let is_right = if refused {
-        status == 4 && out.is_empty() && err.as_slice() == b"aeadkit: OutOfMemory\n".as_slice()
-    } else {
-        status == 0 && out.as_slice().split_last() == Some((&b'\n', line.as_bytes()))
-    };
-    assert!(rt; is_right, "request {passed}");
-    refused
-}
-
-// Performs a request with each of its requests for memory refused in turn, until none is. At least one is.
-fn each_is_refused<F: Storage>(
-    rt: &(impl Abort + Alloc<A = Global>),
-    files: &F,
-    request: &PrintRequest<'_>,
-    line: &str,
-) {
-    let mut count = 0u64;
-    for passed in 0..100u64 {
-        if !is_refused(rt, files, request, line, passed) {
-            break;
-        }
-        count = passed.saturating_add(1);
-    }
-    assert!(rt; 0 < count && count < 100, "{count} requests for memory");
-}
-
-// The inputs of a vector, with a body.
-fn inputs<'a>(vector: &Vector<'a>, body: &'a str) -> Inputs<'a> {
-    Inputs {
-        suite: vector.suite,
-        key: vector.key,
-        nonce: vector.nonce,
-        aad: vector.aad,
-        body,
-    }
-}
-
-// Sealing and opening, wrapping and unwrapping with padding or without, and checking a vector file.
-#[test]
-fn requests_are_out_of_memory_only_if_refused(rt: HostRuntime) {
-    for line in &[CHACHA, GCM, GCM_SIV] {
-        let vector = Vector::of(line);
-        let request = PrintRequest::Seal(inputs(&vector, vector.text));
-        each_is_refused(&rt, &NO_FILES, &request, vector.sealed);
-        let request = PrintRequest::Open(inputs(&vector, vector.sealed));
-        each_is_refused(&rt, &NO_FILES, &request, vector.text);
-    }
-    for (line, pad) in &[(WRAPPINGS[0], false), (PADDED[0], true)] {
-        let Wrapping { key, text, wrapped } = Wrapping::of(line);
-        let pad = *pad;
-        let request = PrintRequest::Wrap { key, text, pad };
-        each_is_refused(&rt, &NO_FILES, &request, wrapped);
-        let sealed = wrapped;
-        let request = PrintRequest::Unwrap { key, sealed, pad };
-        each_is_refused(&rt, &NO_FILES, &request, text);
-    }
-    let files = OneFile {
-        opens: true,
-        bytes: TWO_RECORDS.as_bytes(),
-        failure: None,
-    };
-    let request = PrintRequest::Check { path: "" };
-    each_is_refused(&rt, &files, &request, "records 2");
-}
+use std::str::from_utf8;
 
 // Files in memory that ask for memory: each opening does, for a buffer, and the making of the file that is
 // written.
@@ -142,87 +61,182 @@ impl<'b, 'l, 'm, A: Allocator> Storage for AllocatingFiles<'b, 'l, 'm, A> {
     }
 }
 
-// Performs a file command with one request for memory refused after the first `passed` ones, and returns
-// the status: 4 if it came to that one, or 3 if the making of the file asked for it, and then no file is
-// made; else 0, and the file holds these bytes.
-fn file_status(
-    rt: &(impl Abort + Alloc<A = Global>),
-    request: &FileRequest<'_>,
-    from: &[u8],
-    to: &[u8],
-    passed: u64,
+// A request, the file that it reads, its status, the line that it prints, and what the file that it writes holds.
+#[derive(Drop)]
+struct Case<'a> {
+    request: Request<'a>,
+    from: &'a [u8],
+    status: u8,
+    line: &'a str,
+    to: &'a [u8],
+}
+
+// Does what a request asks for, and returns the status.
+fn status_of<A: Allocator, F: Storage>(
+    memory: &A,
+    files: &F,
+    request: &Request<'_>,
+    out: &mut Vec<u8>,
+    err: &mut Vec<u8>,
 ) -> u8 {
+    let answer = match request {
+        Request::Print(request) => perform(memory, files, request, out),
+        Request::Write(request) => write_new_file(memory, files, request),
+    };
+    match answer {
+        Ok(status) => status,
+        Err(failure) => report(err, failure),
+    }
+}
+
+// Whether a request that is done printed its line, or wrote its file.
+fn is_done(case: &Case<'_>, out: &[u8], log: &Log) -> bool {
+    match case.request {
+        Request::Print(_) => out.split_last() == Some((&b'\n', case.line.as_bytes())),
+        Request::Write(_) => out.is_empty() && log.holds(case.to),
+    }
+}
+
+// Answers a request with one request for memory refused after the first `passed` ones, and returns the status that
+// is due: if it came to that one, 3 if the making of the file asked for it, and else 4; then nothing is printed, and
+// no file is made.
+fn due_status(rt: &(impl Abort + Alloc<A = Global>), case: &Case<'_>, passed: u64) -> u8 {
     let memory = RefusingMemory::after(passed, rt.alloc());
     let log = Log::new(rt.alloc());
-    let script = Script::of_none(&log);
-    let scripted = Scripted {
-        bytes: from,
-        script,
-    };
     let files = AllocatingFiles {
-        files: scripted,
+        files: Scripted {
+            bytes: case.from,
+            script: Script::of_none(&log),
+        },
         memory: &memory,
         unmade: Cell::new(false),
     };
+    let mut out: Vec<u8> = Vec::new(rt.alloc());
     let mut err: Vec<u8> = Vec::new(rt.alloc());
-    let status = match write_new_file(&memory, &files, request) {
-        Ok(status) => status,
-        Err(failure) => report(&mut err, failure),
-    };
-    let (due, complaint) = if files.unmade.get() {
-        (3, "aeadkit: Write\n")
+    let status = status_of(&memory, &files, &case.request, &mut out, &mut err);
+    let (due, fault) = if files.unmade.get() {
+        (3, "Write")
     } else if memory.has_refused() {
-        (4, "aeadkit: OutOfMemory\n")
+        (4, "OutOfMemory")
     } else {
-        (0, "")
+        (case.status, "")
     };
-    let is_right = status == due && err.as_slice() == complaint.as_bytes();
-    let is_held = if status == 0 {
-        log.holds(to)
+    shows_at(rt, status == due && names(&err, fault), "request", passed);
+    let is_right = if fault.is_empty() {
+        is_done(case, &out, &log)
     } else {
-        !log.made.get()
+        out.is_empty() && !log.made.get()
     };
-    assert!(rt; is_right && is_held, "request {passed}");
-    status
+    shows_at(rt, is_right, "request", passed);
+    due
 }
 
-// Performs a file command with each of its requests for memory refused in turn, until none is. The making
-// of the file asks last.
-fn each_file_status(
-    rt: &(impl Abort + Alloc<A = Global>),
-    request: &FileRequest<'_>,
-    from: &[u8],
-    to: &[u8],
-) {
-    let mut before = 0u8;
-    let mut count = 0u64;
+// Answers a request with each of its requests for memory refused in turn, until none is. The last one that is
+// refused has this status.
+fn each_is_refused(rt: &(impl Abort + Alloc<A = Global>), case: &Case<'_>, last: u8) {
+    let mut before = 0;
     for passed in 0..100u64 {
-        let status = file_status(rt, request, from, to, passed);
-        if status == 0 {
+        let status = due_status(rt, case, passed);
+        if status < 3 {
             break;
         }
         before = status;
-        count = passed.saturating_add(1);
     }
-    assert_eq!(rt; before, 3);
-    assert!(rt; 1 < count && count < 100, "{count} requests for memory");
+    shows(rt, before == last, "the last request");
+    shows(rt, due_status(rt, case, 100) == case.status, "no request");
 }
 
-// Sealing a file of a vector's text, and opening one of the sealed bytes.
+// Answers a request that prints a line and reads this file.
+fn prints(
+    rt: &(impl Abort + Alloc<A = Global>),
+    request: PrintRequest<'_>,
+    from: &[u8],
+    status: u8,
+    line: &str,
+) {
+    let case = Case {
+        request: Request::Print(request),
+        from,
+        status,
+        line,
+        to: &[],
+    };
+    each_is_refused(rt, &case, 4);
+}
+
+// The inputs of a vector, with a body.
+fn inputs<'a>(vector: &Vector<'a>, body: &'a str) -> Inputs<'a> {
+    Inputs {
+        suite: vector.suite,
+        key: vector.key,
+        nonce: vector.nonce,
+        aad: vector.aad,
+        body,
+    }
+}
+
 #[test]
-fn files_are_out_of_memory_only_if_refused(rt: HostRuntime) {
-    for line in &[CHACHA, GCM, GCM_SIV] {
+fn sealing_and_opening(rt: HostRuntime) {
+    for line in [CHACHA, GCM, GCM_SIV] {
         let vector = Vector::of(line);
-        let text = bytes(&rt, vector.text);
-        let sealed = bytes(&rt, vector.sealed);
-        let mut request = FileRequest {
-            command: FileCommand::Seal,
-            inputs: inputs(&vector, ""),
-            input: "a",
-            output: "b",
-        };
-        each_file_status(&rt, &request, &text, &sealed);
-        request.command = FileCommand::Open;
-        each_file_status(&rt, &request, &sealed, &text);
+        let request = PrintRequest::Seal(inputs(&vector, vector.text));
+        prints(&rt, request, &[], 0, vector.sealed);
+        let request = PrintRequest::Open(inputs(&vector, vector.sealed));
+        prints(&rt, request, &[], 0, vector.text);
+    }
+}
+
+#[test]
+fn wrapping_and_unwrapping(rt: HostRuntime) {
+    for (line, pad) in [(WRAPPINGS[0], false), (PADDED[0], true)] {
+        let Wrapping { key, text, wrapped } = Wrapping::of(line);
+        prints(&rt, PrintRequest::Wrap { key, text, pad }, &[], 0, wrapped);
+        let sealed = wrapped;
+        prints(&rt, PrintRequest::Unwrap { key, sealed, pad }, &[], 0, text);
+    }
+}
+
+// A file of records of which the fifth disagrees.
+#[test]
+fn checking(rt: HostRuntime) {
+    let file = published(&rt, "2");
+    let text = from_utf8(&file).expect(&rt, "text");
+    let fifth = with_lines(&rt, text, "31|invalid\n");
+    let request = PrintRequest::Check { path: "" };
+    prints(&rt, request, &fifth, 1, "records 18\nbad 5");
+}
+
+// Seals a file of a vector's text, or opens one of the sealed bytes. The making of the file asks last.
+fn writes(
+    rt: &(impl Abort + Alloc<A = Global>),
+    command: FileCommand,
+    vector: &Vector<'_>,
+    from: &str,
+    to: &str,
+) {
+    let request = FileRequest {
+        command,
+        inputs: inputs(vector, ""),
+        input: "a",
+        output: "b",
+    };
+    let from = bytes(rt, from);
+    let to = bytes(rt, to);
+    let case = Case {
+        request: Request::Write(request),
+        from: &from,
+        status: 0,
+        line: "",
+        to: &to,
+    };
+    each_is_refused(rt, &case, 3);
+}
+
+#[test]
+fn sealing_and_opening_files(rt: HostRuntime) {
+    for line in [CHACHA, GCM, GCM_SIV] {
+        let vector = Vector::of(line);
+        writes(&rt, FileCommand::Seal, &vector, vector.text, vector.sealed);
+        writes(&rt, FileCommand::Open, &vector, vector.sealed, vector.text);
     }
 }

@@ -1,8 +1,9 @@
 //! ChaCha20: single blocks, and the key stream in pieces.
-ghost use Rattle.std.specs.Prelude.{◌<◌, ◌≤◌, ◌+◌, ◌^◌};
+ghost use Rattle.std.specs.Prelude.{◌<◌, ◌≤◌};
 
 use super::files::bytes;
-use chacha::{ChaStream, block, key_stream_start};
+use super::{shows, shows_at};
+use chacha::{ChaStream, block};
 use octets::{Fault, Key32, Nonce};
 use rand_chacha::ChaCha20Rng;
 use rand_chacha::rand_core::{Rng, SeedableRng};
@@ -36,7 +37,7 @@ const BLOCKS: [([u8; 32], u32, [u8; 12], &str); 2] = [
 fn published_blocks(rt: HostRuntime) {
     for (key, counter, nonce, due) in &BLOCKS {
         let made = block(&Key32::new(*key), *counter, &Nonce::new(*nonce));
-        assert!(rt; made.as_slice() == bytes(&rt, due).as_slice());
+        shows(&rt, made.as_slice() == bytes(&rt, due).as_slice(), due);
     }
 }
 
@@ -57,7 +58,12 @@ fn blocks_of_another_implementation(rt: HostRuntime) {
     other.set_stream(0x0706_0504_0302_0100);
     for counter in [0, 1, u32::MAX] {
         let made = block(&Key32::new(KEY), counter, &nonce);
-        assert!(rt; are_words(&mut other, counter, &made), "{counter}");
+        shows_at(
+            &rt,
+            are_words(&mut other, counter, &made),
+            "block",
+            u64::from(counter),
+        );
     }
 }
 
@@ -72,23 +78,6 @@ fn ten_blocks(first: u32) -> [[u8; 64]; 10] {
         );
     }
     blocks
-}
-
-// Whether the start of the key stream is the blocks that are made one by one.
-fn starts_with_blocks<const N: usize>() -> bool
-    requires { N ≤ 2 ^ 38 }
-{
-    let start: [u8; N] = key_stream_start(&Key32::new(KEY), &Nonce::new([7; 12]));
-    ten_blocks(0).as_flattened().starts_with(&start)
-}
-
-#[test]
-fn the_start_is_single_blocks(rt: HostRuntime) {
-    assert!(rt; starts_with_blocks::<128>());
-    assert!(rt; starts_with_blocks::<256>());
-    assert!(rt; starts_with_blocks::<320>());
-    assert!(rt; starts_with_blocks::<512>());
-    assert!(rt; starts_with_blocks::<576>());
 }
 
 // The key stream from a block on.
@@ -115,14 +104,14 @@ fn gives(first: u32, length: usize, size: usize) -> bool
 #[test]
 fn every_length(rt: HostRuntime) {
     for length in 0..601usize {
-        assert!(rt; gives(0, length, 640), "{length}");
+        shows_at(&rt, gives(0, length, 640), "length", length as u64);
     }
 }
 
 #[test]
 fn pieces_of_each_size(rt: HostRuntime) {
     for size in [1, 63, 64, 65, 255, 256, 257, 300, 511usize] {
-        assert!(rt; gives(0, 640, size), "{size}");
+        shows_at(&rt, gives(0, 640, size), "pieces of", size as u64);
     }
 }
 
@@ -139,7 +128,12 @@ const LAST: [(u32, usize, usize); 5] = [
 fn the_last_blocks(rt: HostRuntime) {
     for (first, length, size) in &LAST {
         let length = (*length).min(640);
-        assert!(rt; gives(*first, length, (*size).max(1)), "{length}");
+        shows_at(
+            &rt,
+            gives(*first, length, (*size).max(1)),
+            "length",
+            length as u64,
+        );
     }
 }
 
@@ -156,9 +150,21 @@ fn past_the_last_block(rt: HostRuntime) {
     for (first, before, refused, after) in &PAST {
         let mut stream = stream(*first);
         let mut bytes = [9; 640];
-        assert!(rt; stream.apply(&mut [0; 640][..(*before).min(640)]).is_ok());
+        shows(
+            &rt,
+            stream.apply(&mut [0; 640][..(*before).min(640)]).is_ok(),
+            "bytes before",
+        );
         let answer = stream.apply(&mut bytes[..(*refused).min(640)]);
-        assert!(rt; answer == Err(Fault::StreamEnd) && bytes == [9; 640]);
-        assert!(rt; stream.apply(&mut bytes[..(*after).min(640)]).is_ok());
+        shows(
+            &rt,
+            answer == Err(Fault::StreamEnd) && bytes == [9; 640],
+            "bytes past the end",
+        );
+        shows(
+            &rt,
+            stream.apply(&mut bytes[..(*after).min(640)]).is_ok(),
+            "bytes after",
+        );
     }
 }

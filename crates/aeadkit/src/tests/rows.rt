@@ -1,9 +1,9 @@
 //! Words that print a line, and words that are refused.
 use super::checks::CHECK;
 use super::devices::{FailsAfter, NO_FILES, OneFile};
-use super::published::{PADDED, WRAPPINGS, Wrapping, word};
+use super::published::{PADDED, PADDED_LENGTHS, WRAPPINGS, Wrapping, word};
 use super::vector_files::TWO_RECORDS;
-use super::{prints, runs_into, runs_over};
+use super::{prints, runs_into, runs_over, shows};
 use crate::run::run;
 use crate::version::VERSION;
 use std::alloc::Global;
@@ -13,8 +13,6 @@ use std::process::Abort;
 const KEY: &str = "000102030405060708090a0b0c0d0e0f";
 
 const TEXT: &str = "00112233445566778899aabbccddeeff";
-
-const WRITE: &str = "aeadkit: Write\n";
 
 // Each line of what follows has a status, a fault and the words that are refused with them; `-` is the empty word.
 
@@ -41,13 +39,19 @@ const OF_WRAPPING: &str = "\
 2 WrapLength unwrap --key 000102030405060708090a0b0c0d0e0f --sealed 00112233445566778899aabbccddeeff";
 
 // No text of no bytes is padded; a wrapping with padding has 16 bytes at least, in whole blocks. The two forms
-// refuse one another's wrappings.
+// refuse one another's wrappings. The last four are a block enciphered: a65959a6, a length of 0, 9 or 7 bytes, and
+// bytes that are no text of that length with zeros after it; and a65959a7 in the place of a65959a6.
 const OF_PADDING: &str = "\
 2 WrapLength wrap --pad --key 000102030405060708090a0b0c0d0e0f --text -
 2 WrapLength unwrap --pad --key 000102030405060708090a0b0c0d0e0f --sealed 0011223344556677
 2 WrapLength unwrap --pad --key 000102030405060708090a0b0c0d0e0f --sealed 00112233445566778899aabbccddeeff00112233
 1 WrapIntegrity unwrap --pad --key 000102030405060708090a0b0c0d0e0f --sealed 1fa68b0a8112b447aef34bd8fb5a7b829d3e862371d2cfe5
-1 WrapIntegrity unwrap --key 5840df6e29b02af1ab493b705bf16ea1ae8338f4dcc176a8 --sealed 138bdeaa9b8fa7fc61f97742e72248ee5ae6ae5360d1ae6a5f54f373fa543b6a";
+1 WrapIntegrity unwrap --key 5840df6e29b02af1ab493b705bf16ea1ae8338f4dcc176a8 --sealed 138bdeaa9b8fa7fc61f97742e72248ee5ae6ae5360d1ae6a5f54f373fa543b6a
+2 WrapLength unwrap --key 5840df6e29b02af1ab493b705bf16ea1ae8338f4dcc176a8 --sealed afbeb0f07dfbf5419200f2ccb50bb24f
+1 WrapIntegrity unwrap --pad --key 5840df6e29b02af1ab493b705bf16ea1ae8338f4dcc176a8 --sealed 0c61aedfd52c447a13f16a6be9443095
+1 WrapIntegrity unwrap --pad --key 5840df6e29b02af1ab493b705bf16ea1ae8338f4dcc176a8 --sealed 2158014f64091f76895d684fa53f9c09
+1 WrapIntegrity unwrap --pad --key 5840df6e29b02af1ab493b705bf16ea1ae8338f4dcc176a8 --sealed 0176a4c40ddf6166ab242832acce88d8
+1 WrapIntegrity unwrap --pad --key 5840df6e29b02af1ab493b705bf16ea1ae8338f4dcc176a8 --sealed d3bc14fb6dc0b7f3ffa6695290398efb";
 
 // Changed bytes are no wrapping.
 const OF_BYTES: &str = "\
@@ -98,35 +102,49 @@ fn refused_words(rt: HostRuntime) {
             let mut parts = line.split(' ');
             let status = if parts.next() == Some("1") { 1 } else { 2 };
             let fault = word(parts.next());
-            let complaint = format!(in rt.alloc(); "aeadkit: {fault}\n").expect(&rt, "memory");
-            let words = words_after(&rt, line, 2);
-            runs_over(&rt, &NO_FILES, &words, status, "", &complaint);
+            runs_over(
+                &rt,
+                &NO_FILES,
+                &words_after(&rt, line, 2),
+                status,
+                "",
+                fault,
+            );
         }
     }
 }
 
-// RFC 3394, sections 4.1 to 4.6, and RFC 5649, section 6, both ways. Hex digits may be of either case, and a
-// value may follow `=`.
+// Wraps and unwraps a text, with padding or without.
+fn is_wrapped(rt: &(impl Abort + Alloc<A = Global>), line: &str, pad: bool) {
+    let Wrapping { key, text, wrapped } = Wrapping::of(line);
+    let count = if pad { 6 } else { 5 };
+    let words = ["wrap", "--key", key, "--text", text, "--pad"];
+    prints(rt, &words[..count], wrapped);
+    let words = ["unwrap", "--key", key, "--sealed", wrapped, "--pad"];
+    prints(rt, &words[..count], text);
+}
+
 #[test]
 fn wrapping_vectors(rt: HostRuntime) {
     for line in &WRAPPINGS {
-        let Wrapping { key, text, wrapped } = Wrapping::of(line);
-        prints(&rt, &["wrap", "--key", key, "--text", text], wrapped);
-        prints(&rt, &["unwrap", "--key", key, "--sealed", wrapped], text);
+        is_wrapped(&rt, line, false);
     }
-    for line in &PADDED {
-        let Wrapping { key, text, wrapped } = Wrapping::of(line);
-        let words = ["wrap", "--pad", "--key", key, "--text", text];
-        prints(&rt, &words, wrapped);
-        let words = ["unwrap", "--key", key, "--sealed", wrapped, "--pad"];
-        prints(&rt, &words, text);
+    for table in [PADDED.as_slice(), PADDED_LENGTHS.as_slice()] {
+        for line in table {
+            is_wrapped(&rt, line, true);
+        }
     }
+}
+
+// Hex digits may be of either case, and a value may follow `=`.
+#[test]
+fn other_spellings(rt: HostRuntime) {
     let words = [
         "unwrap",
         "--sealed=1FA68B0A8112B447AEF34BD8FB5A7B829D3E862371D2CFE5",
         "--key=000102030405060708090A0b0c0d0E0F",
     ];
-    prints(&rt, &words, Wrapping::of(WRAPPINGS[0]).text);
+    prints(&rt, &words, TEXT);
 }
 
 // Lines of words that ask for help.
@@ -140,18 +158,24 @@ seal --help
 unwrap --help
 wrap --key 0 -h";
 
-// Help goes to standard output, with status 0, and the version is one line there.
+// Help goes to standard output, with status 0.
 #[test]
-fn help_and_version(rt: HostRuntime) {
+fn help(rt: HostRuntime) {
     for line in HELP.lines() {
         let words = words_after(&rt, line, 0);
         let mut out: Vec<u8> = Vec::new(rt.alloc());
         runs_into(&rt, &NO_FILES, &words, &mut out, 0, "");
-        assert!(rt; !out.is_empty(), "{words:?}");
+        shows(&rt, !out.is_empty(), line);
     }
+}
+
+// The version is one line there.
+#[test]
+fn version(rt: HostRuntime) {
     let line = format!(in rt.alloc(); "aeadkit {VERSION}").expect(&rt, "memory");
-    prints(&rt, &["--version"], &line);
-    prints(&rt, &["-V"], &line);
+    for word in ["--version", "-V"] {
+        prints(&rt, &[word], &line);
+    }
 }
 
 // Words, the failure of standard output, and the status and the fault.
@@ -160,17 +184,17 @@ const UNPRINTED: [(&[&str], io::ErrorKind, u8, &str); 5] = [
         &["wrap", "--key", KEY, "--text", TEXT],
         io::ErrorKind::StorageFull,
         3,
-        WRITE,
+        "Write",
     ),
     (
         &["wrap", "--key", KEY, "--text", TEXT],
         io::ErrorKind::OutOfMemory,
         4,
-        "aeadkit: OutOfMemory\n",
+        "OutOfMemory",
     ),
-    (&["--version"], io::ErrorKind::BrokenPipe, 3, WRITE),
-    (&["--help"], io::ErrorKind::BrokenPipe, 3, WRITE),
-    (&CHECK, io::ErrorKind::StorageFull, 3, WRITE),
+    (&["--version"], io::ErrorKind::BrokenPipe, 3, "Write"),
+    (&["--help"], io::ErrorKind::BrokenPipe, 3, "Write"),
+    (&CHECK, io::ErrorKind::StorageFull, 3, "Write"),
 ];
 
 // A failing standard output is `Write`, and an allocation failure there is `OutOfMemory`.
@@ -181,29 +205,26 @@ fn failing_output(rt: HostRuntime) {
         bytes: TWO_RECORDS.as_bytes(),
         failure: None,
     };
-    for (words, kind, status, complaint) in &UNPRINTED {
+    for (words, kind, status, fault) in &UNPRINTED {
         let mut out = FailsAfter {
             room: 5,
             kind: *kind,
         };
-        runs_into(&rt, &files, words, &mut out, *status, complaint);
+        runs_into(&rt, &files, words, &mut out, *status, fault);
     }
 }
 
 // A failing standard error changes no status.
 #[test]
 fn failing_error(rt: HostRuntime) {
-    let words: [(&[&str], u8); 2] = [
-        (&["wrap", "--key", "0", "--text", ""], 2),
-        (&["wrap", "--key", KEY, "--text", TEXT], 0),
-    ];
-    for (words, status) in &words {
+    for (key, status) in [("0", 2), (KEY, 0)] {
         let mut out: Vec<u8> = Vec::new(rt.alloc());
         let mut err = FailsAfter {
             room: 3,
             kind: io::ErrorKind::BrokenPipe,
         };
-        let answer = run(rt.alloc(), &NO_FILES, words, &mut out, &mut err);
-        assert_eq!(rt; answer, *status);
+        let words = ["wrap", "--key", key, "--text", TEXT];
+        let answer = run(rt.alloc(), &NO_FILES, &words, &mut out, &mut err);
+        shows(&rt, answer == status, key);
     }
 }

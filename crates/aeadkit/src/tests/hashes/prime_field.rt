@@ -2,6 +2,7 @@
 ghost use Rattle.std.specs.Prelude.{◌<◌};
 
 use super::super::files::bytes;
+use super::super::shows_at;
 use super::sixteen;
 use octets::Tag;
 use poly1305::{Multiplier, NibbleMul, PolyBy, WordMul};
@@ -95,32 +96,12 @@ fn tags(rt: HostRuntime) {
         let tag = sixteen(&rt, tag);
         let text = bytes(&rt, text);
         for size in [1, 16, 17, 34usize] {
-            assert!(rt; is_tag(key, &text, size, *pads, &tag), "{text:?}");
-        }
-    }
-}
-
-// Lengths about that from which a text is summed by halves, and the tag, worked in integers. Byte i of the text
-// is i modulo 251.
-const LONG: [(usize, &str); 5] = [
-    (1535, "823cf6c77d011a7ddade74118fa37ee0"),
-    (1536, "fddf1650d19eda75d2f350e5461da077"),
-    (1551, "89c44f979a5b34d9c2855c57a55ccbbc"),
-    (1552, "c6501fb0988339821408572c065f8da4"),
-    (4200, "f3d44b101400fb561441433023fcdd51"),
-];
-
-#[test]
-fn tags_of_long_texts(rt: HostRuntime) {
-    let mut text = [0; 4200];
-    for (i, byte) in text.iter_mut().enumerate() {
-        *byte = (i % 251) as u8;
-    }
-    for (length, tag) in &LONG {
-        let tag = sixteen(&rt, tag);
-        let part = &text[..(*length).min(4200)];
-        for size in [1000, 4200usize] {
-            assert!(rt; is_tag(&PUBLISHED, part, size, 0, &tag), "{length}");
+            shows_at(
+                &rt,
+                is_tag(key, &text, size, *pads, &tag),
+                "pieces of",
+                size as u64,
+            );
         }
     }
 }

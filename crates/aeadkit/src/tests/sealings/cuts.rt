@@ -2,6 +2,7 @@
 ghost use Rattle.aead.specs.Cuts.{Rise};
 
 use super::super::published::{CHACHA, GCM_SIV};
+use super::super::shows;
 use super::samples::*;
 use aead::seal_cut;
 use std::alloc::{Allocator, Global};
@@ -34,8 +35,8 @@ fn has_pieces(
         sealed,
     } = sample;
     let pieces = seal_cut(rt.alloc(), cipher, nonce, aad, text, cuts).expect(rt, "pieces");
-    assert!(rt; are_joined(&pieces, sealed), "{cuts:?}");
-    assert!(rt; have_lengths(&pieces, lengths), "{cuts:?}");
+    shows(rt, are_joined(&pieces, sealed), "a sealing");
+    shows(rt, have_lengths(&pieces, lengths), "lengths");
 }
 
 // A text that is read once, cut at each place and at three, and one that is read twice.

@@ -1,24 +1,108 @@
-//! Opening streams, whose three readings may differ.
-use super::super::published::{CHACHA, GCM_SIV, VECTORS};
-use super::samples::*;
+//! Opening streams, whose three readings may differ, over devices that fail or move few bytes at a time.
+use super::super::published::{CHACHA, GCM_SIV, word};
+use super::super::shows;
+use super::samples::{Sample, first, flip, sample_of};
 use aead::open_stream;
-use octets::{Fault, SliceIntake, VecOutlet};
+use octets::{Fault, ScriptIntake, ScriptOutlet, SliceIntake, Step, VecOutlet};
 use std::alloc::Global;
 use std::process::Abort;
 
-// Opening with these measure, verify and write readings has this result and gives these bytes.
-fn opens(
+// The measure, the verify and the write reading, the outlet, the result, and the text that is given, a beginning of it
+// after `Read`. Bytes are `whole`, or `changed` in the lowest bit of byte 100 or of the last, or the `first` so many of
+// them, or one `more`. A device moves what it can, or so many bytes in each of its first calls, or fails after so many.
+const OF_CHACHA: &str = "\
+whole/1 whole/1 whole/1 out done whole
+whole/15 whole/15 whole/15 out done whole
+whole/17 whole/17 whole/17 out done whole
+first0 whole whole out TooShort first0
+first15 whole whole out TooShort first0
+whole more whole out SourceChanged first0
+whole first129 whole out SourceChanged first0
+whole changed129 whole out SourceChanged first0
+whole changed100 whole out TagMismatch first0
+changed129 changed129 changed129 out TagMismatch first0
+whole whole changed100 out SourceChanged changed100
+whole whole changed129 out SourceChanged whole
+whole whole more out SourceChanged whole
+whole whole first50 out SourceChanged first50
+whole whole first0 out SourceChanged first0
+whole!0 whole whole out Read first0
+whole whole!3 whole out Read first0
+whole whole whole!3 out Read first3
+whole whole whole out!0 Write first0
+whole whole whole out!3 Write first3";
+
+// The number that digits spell.
+fn number_of(digits: &str) -> usize {
+    digits.parse().unwrap_or(0)
+}
+
+// A copy of bytes in a form.
+fn copy_of(rt: &(impl Abort + Alloc<A = Global>), bytes: &[u8], form: &str) -> Vec<u8> {
+    let count = match form.strip_prefix("first") {
+        Some(digits) => number_of(digits),
+        None => bytes.len(),
+    };
+    let mut copy = Vec::from_slice(rt.alloc(), first(bytes, count)).expect(rt, "memory");
+    if let Some(digits) = form.strip_prefix("changed") {
+        flip(&mut copy, number_of(digits).saturating_mul(8));
+    }
+    if form == "more" {
+        copy.push(0).expect(rt, "memory");
+    }
+    copy
+}
+
+// The steps of a device.
+fn steps(rt: &(impl Abort + Alloc<A = Global>), device: &str) -> Vec<Step> {
+    let mut steps = Vec::new(rt.alloc());
+    if let Some((_, digits)) = device.split_once('/') {
+        for _ in 0..200 {
+            steps
+                .push(Step::Give(number_of(digits)))
+                .expect(rt, "memory");
+        }
+    }
+    if let Some((_, digits)) = device.split_once('!') {
+        if digits != "0" {
+            steps
+                .push(Step::Give(number_of(digits)))
+                .expect(rt, "memory");
+        }
+        steps.push(Step::Fail).expect(rt, "memory");
+    }
+    steps
+}
+
+// A reading of bytes.
+fn reading(
     rt: &(impl Abort + Alloc<A = Global>),
-    sample: &Sample,
-    readings: [&[u8]; 3],
-    due: Result<(), Fault>,
-    given: &[u8],
-) {
-    let [measure, verify, write] = readings;
-    let mut measure = SliceIntake::new(measure);
-    let mut verify = SliceIntake::new(verify);
-    let mut write = SliceIntake::new(write);
-    let mut out = VecOutlet::new(rt.alloc());
+    bytes: &[u8],
+    device: &str,
+) -> ScriptIntake<Global> {
+    let form = device.split(['/', '!']).next().unwrap_or("");
+    ScriptIntake::new(copy_of(rt, bytes, form), steps(rt, device))
+}
+
+// The result of a name.
+fn result_of(name: &str) -> Result<(), Fault> {
+    match name {
+        "TooShort" => Err(Fault::TooShort),
+        "TagMismatch" => Err(Fault::TagMismatch),
+        "SourceChanged" => Err(Fault::SourceChanged),
+        "Read" => Err(Fault::Read),
+        "Write" => Err(Fault::Write),
+        _ => Ok(()),
+    }
+}
+
+// Opens sealed bytes as a row says.
+fn opens(rt: &(impl Abort + Alloc<A = Global>), sample: &Sample, row: &str) {
+    let mut words = row.split(' ');
+    let mut measure = reading(rt, &sample.sealed, word(words.next()));
+    let mut verify = reading(rt, &sample.sealed, word(words.next()));
+    let mut write = reading(rt, &sample.sealed, word(words.next()));
+    let mut out = ScriptOutlet::new(rt.alloc(), steps(rt, word(words.next())));
     let answer = open_stream(
         &sample.cipher,
         &sample.nonce,
@@ -28,68 +112,40 @@ fn opens(
         &mut write,
         &mut out,
     );
-    assert!(rt; answer == due && out.bytes() == given, "{readings:?}");
+    let due = word(words.next());
+    let text = copy_of(rt, &sample.text, word(words.next()));
+    let given = out.bytes();
+    shows(rt, answer == result_of(due) && text.starts_with(given), row);
+    shows(rt, due == "Read" || given.len() == text.len(), row);
 }
 
-// Three readings of a published sealing give its text.
+#[test]
+fn readings_and_devices(rt: HostRuntime) {
+    let sample = sample_of(&rt, CHACHA);
+    for row in OF_CHACHA.lines() {
+        opens(&rt, &sample, row);
+    }
+    let row = "whole whole changed0 out SourceChanged changed0";
+    opens(&rt, &sample_of(&rt, GCM_SIV), row);
+}
+
+// Three equal readings give the text.
 #[test]
 fn equal_readings(rt: HostRuntime) {
-    for line in &VECTORS {
-        let sample = sample_of(&rt, line);
-        let whole = sample.sealed.as_slice();
-        opens(&rt, &sample, [whole, whole, whole], Ok(()), &sample.text);
-    }
-}
-
-// Nothing is given if the measure reading is too short to be a sealing, or the verify reading has another
-// length or tag than the measured one, or is no sealing.
-#[test]
-fn readings_that_differ_before_any_byte(rt: HostRuntime) {
     let sample = sample_of(&rt, CHACHA);
-    let whole = sample.sealed.as_slice();
-    let body = changed(&rt, whole, 100);
-    let tag = changed(&rt, whole, 129);
-    let mut longer = changed(&rt, whole, 130);
-    longer.push(0).expect(&rt, "memory");
-    for (readings, fault) in [
-        ([first(whole, 0), whole, whole], Fault::TooShort),
-        ([first(whole, 15), whole, whole], Fault::TooShort),
-        ([whole, &longer, whole], Fault::SourceChanged),
-        ([whole, first(whole, 129), whole], Fault::SourceChanged),
-        ([whole, &tag, whole], Fault::SourceChanged),
-        ([whole, &body, whole], Fault::TagMismatch),
-        ([&tag, &tag, &tag], Fault::TagMismatch),
-    ] {
-        opens(&rt, &sample, readings, Err(fault), &[]);
-    }
-}
-
-// A write reading that differs is found after its bytes were given.
-#[test]
-fn write_readings_that_differ(rt: HostRuntime) {
-    let refused = Err(Fault::SourceChanged);
-    let siv = sample_of(&rt, GCM_SIV);
-    let whole = siv.sealed.as_slice();
-    opens(
-        &rt,
-        &siv,
-        [whole, whole, &changed(&rt, whole, 0)],
-        refused,
-        &[0; 8],
+    let mut out = VecOutlet::new(rt.alloc());
+    let answer = open_stream(
+        &sample.cipher,
+        &sample.nonce,
+        &sample.aad,
+        &mut SliceIntake::new(&sample.sealed),
+        &mut SliceIntake::new(&sample.sealed),
+        &mut SliceIntake::new(&sample.sealed),
+        &mut out,
     );
-    let sample = sample_of(&rt, CHACHA);
-    let (whole, text) = (sample.sealed.as_slice(), sample.text.as_slice());
-    let (body, tag) = (changed(&rt, whole, 100), changed(&rt, whole, 129));
-    let mut longer = changed(&rt, whole, 130);
-    longer.push(0).expect(&rt, "memory");
-    let other_text = changed(&rt, text, 100);
-    for (write, given) in [
-        (body.as_slice(), other_text.as_slice()),
-        (tag.as_slice(), text),
-        (longer.as_slice(), text),
-        (first(whole, 50), first(text, 50)),
-        (first(whole, 0), first(text, 0)),
-    ] {
-        opens(&rt, &sample, [whole, whole, write], refused, given);
-    }
+    shows(
+        &rt,
+        answer.is_ok() && out.bytes() == sample.text.as_slice(),
+        "a text",
+    );
 }

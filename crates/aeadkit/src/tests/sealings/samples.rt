@@ -57,13 +57,6 @@ pub fn flip(bytes: &mut [u8], bit: usize) {
     }
 }
 
-/// A copy with the lowest bit of one byte changed.
-pub fn changed(rt: &(impl Abort + Alloc<A = Global>), bytes: &[u8], at: usize) -> Vec<u8> {
-    let mut copy = Vec::from_slice(rt.alloc(), bytes).expect(rt, "memory");
-    flip(&mut copy, at.saturating_mul(8));
-    copy
-}
-
 /// Whether a ciphertext and its tag, joined, are these bytes.
 pub fn are_sealed(body: &[u8], tag: &Tag, sealed: &[u8]) -> bool {
     match sealed.strip_prefix(body) {

@@ -1,9 +1,15 @@
-//! The files of two records, cut after each line and inside it.
-use super::files::{Answer, FORMAT_2, TWO_RECORDS, cut_inside};
-use vectors::VectorFault;
+//! The file of two records, cut after each line and inside it.
+use super::super::shows;
+use super::files::TWO_RECORDS;
+use std::alloc::Global;
+use std::process::Abort;
 use vectors::VectorFault::*;
+use vectors::{VectorFault, check};
 
-// The result for the file of two records of format 1, if it is cut after a line.
+// How many records a file has, and how many of them disagree, or its fault.
+type Answer = Result<(u64, usize), VectorFault>;
+
+// The result for the file if it is cut after a line.
 fn due_after(number: u64) -> Answer {
     match number {
         0..=2 => Err(NoRecords),
@@ -28,35 +34,38 @@ fn due_inside(number: u64, kept: Option<usize>) -> VectorFault {
 }
 
 // The number of bytes after the `= ` of a line, if it has a `=`.
-fn value_length(part: &[u8]) -> Option<usize> {
-    part.iter()
-        .position(|b| *b == b'=')
-        .map(|at| part.len().saturating_sub(at.saturating_add(2)))
+fn value_length(part: &str) -> Option<usize> {
+    match part.split_once('=') {
+        Some((_, value)) => Some(value.len().saturating_sub(1)),
+        None => None,
+    }
+}
+
+// The result for the first bytes of the file, before these.
+fn due(kept: &str, rest: &str) -> Answer {
+    let number = kept.lines().count() as u64;
+    match kept.lines().last() {
+        Some(part) if !kept.ends_with('\n') && !rest.starts_with('\n') => {
+            Err(due_inside(number, value_length(part)))
+        }
+        _ => due_after(number),
+    }
+}
+
+// Whether a file has this result.
+fn is_due(rt: &(impl Abort + Alloc<A = Global>), file: &str, due: Answer) -> bool {
+    match check(rt.alloc(), file.as_bytes()) {
+        Ok(report) => due == Ok((report.records, report.bad.len())),
+        Err(fault) => due == Err(fault),
+    }
 }
 
 // After each line with its LF and without it, and at each place inside it.
 #[test]
 fn cut_at_each_place(rt: HostRuntime) {
-    assert!(rt; cut_inside(&rt, TWO_RECORDS, 0, b"") == due_after(0));
-    for (i, line) in TWO_RECORDS.lines().enumerate() {
-        let number = (i as u64).saturating_add(1);
-        let line = line.as_bytes();
-        for kept in 1..line.len() {
-            let found = cut_inside(&rt, TWO_RECORDS, i, &line[..kept]);
-            let due = due_inside(number, value_length(&line[..kept]));
-            assert!(rt; found == Err(due), "{number}, {kept}");
-        }
-        for (lines, part) in [(i, line), (i.saturating_add(1), b"".as_slice())] {
-            let found = cut_inside(&rt, TWO_RECORDS, lines, part);
-            assert!(rt; found == due_after(number), "{number}, {part:?}");
-        }
-    }
-}
-
-#[test]
-fn cut_after_cuts(rt: HostRuntime) {
-    for (lines, part) in [(7, b"".as_slice()), (6, b"cuts = 3,8".as_slice())] {
-        let found = cut_inside(&rt, FORMAT_2, lines, part);
-        assert!(rt; found == Err(Unfinished(7)), "{part:?}");
+    for end in 0..=TWO_RECORDS.len() {
+        let kept = TWO_RECORDS.get(..end).unwrap_or("");
+        let rest = TWO_RECORDS.get(end..).unwrap_or("");
+        shows(&rt, is_due(&rt, kept, due(kept, rest)), kept);
     }
 }

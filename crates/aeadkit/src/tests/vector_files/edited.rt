@@ -1,121 +1,120 @@
-//! Files with some lines in the place of others: each result is the first fault, at its line.
-use super::files::{Answer, Edit, FORMAT_2, TWO_RECORDS, answer, cut_inside, with_lines};
+//! Files with some lines in the place of others: each result is the report, or the first fault at its line.
+use super::super::checks::has_result;
+use super::files::{FORMAT_2, TWO_RECORDS, add, with_lines};
 use std::alloc::Global;
 use std::process::Abort;
-use vectors::VectorFault::*;
 
-// Two edits, or fewer, and the result for the file.
-type Row = ([Edit; 2], Answer);
-
-const NONE: Edit = (0, b"");
+// A row has the result, which ends with a LF if it is a report, and after a bar the lines that are others.
 
 // Of the file of two records.
-const OF_TWO_RECORDS: [Row; 22] = [
-    // In a comment any bytes; no format line, and a format with a zero before it or two carriage returns after.
-    ([(1, b"#\x80\xff\n"), NONE], Ok((2, 0))),
-    ([(2, b""), NONE], Err(BadFormat(2))),
-    ([(2, b"format = 01\n"), NONE], Err(BadFormat(2))),
-    ([(2, b"format = 1\r\n"), NONE], Ok((2, 0))),
-    ([(2, b"format = 1\r\r\n"), NONE], Err(BadFormat(2))),
+const OF_TWO_RECORDS: [&str; 24] = [
+    // No line is another, or the last one has no LF.
+    "records 2\n|",
+    "records 2\n|15|invalid",
+    // No format line, and a format with a zero before it or carriage returns after.
+    "BadFormat at line 2|2|",
+    "BadFormat at line 2|2|format = 01\n",
+    "records 2\n|2|format = 1\r\n",
+    "BadFormat at line 2|2|format = 1\r\r\n",
     // Spaces round the equals sign, at the end and before a name; a suite of no format.
-    ([(3, b"suite=aes-128-gcm   \n"), NONE], Ok((2, 0))),
-    ([(3, b" suite = aes-128-gcm\n"), NONE], Err(WrongName(3))),
-    ([(3, b"suite = aes-128-ccm\n"), NONE], Err(UnknownSuite(3))),
+    "records 2\n|3|suite=aes-128-gcm   \n",
+    "WrongName at line 3|3| suite = aes-128-gcm\n",
+    "UnknownSuite at line 3|3|suite = aes-128-ccm\n",
     // A letter past f, and a comment with an equals sign inside a record.
-    (
-        [(4, b"key = 0000000000000000000000000000000G\n"), NONE],
-        Err(BadHex(4)),
-    ),
-    ([(4, b"# a = b\n"), NONE], Err(BadLine(4))),
+    "BadHex at line 4|4|key = 0000000000000000000000000000000G\n",
+    "BadLine at line 4|4|# a = b\n",
     // A wrong name, also before its wrong value; a nonce of 13 bytes, or of an odd number of digits.
-    (
-        [(5, b"iv = 000000000000000000000000\n"), NONE],
-        Err(WrongName(5)),
-    ),
-    ([(5, b"iv = 000\n"), NONE], Err(WrongName(5))),
-    (
-        [(5, b"nonce = 00000000000000000000000000\n"), NONE],
-        Err(BadLength(5)),
-    ),
-    ([(5, b"nonce = 000\n"), NONE], Err(BadHex(5))),
-    // The blank line moved into a record; an empty name; a name alone; `invalid` as a name.
-    ([(6, b"\naad =\n"), (9, b"")], Err(BadLine(6))),
-    ([(6, b"= 00\n"), NONE], Err(WrongName(6))),
-    ([(8, b"text\n"), NONE], Err(BadLine(8))),
-    ([(15, b"invalid =\n"), NONE], Err(WrongName(15))),
+    "WrongName at line 5|5|iv = 000000000000000000000000\n",
+    "WrongName at line 5|5|iv = 000\n",
+    "BadLength at line 5|5|nonce = 00000000000000000000000000\n",
+    "BadHex at line 5|5|nonce = 000\n",
+    // The blank line moved into a record; an empty name; a name alone; `invalid` as a name, or without its LF.
+    "BadLine at line 6|6|\naad =\n|9|",
+    "WrongName at line 6|6|= 00\n",
+    "BadLine at line 8|8|text\n",
+    "WrongName at line 15|15|invalid =\n",
+    "BadLine at line 15|15|invalid\r",
     // The ends of the records exchanged.
-    ([(8, b"invalid\n"), (15, b"text =\n")], Ok((2, 2))),
+    "records 2\nbad 1\nbad 2\n|8|invalid\n|15|text =\n",
     // Format 2, also with cuts of an empty text.
-    ([(2, b"format = 2\n"), NONE], Ok((2, 0))),
-    (
-        [(2, b"format = 2\n"), (8, b"cuts = 1\ntext =\n")],
-        Err(BadCuts(8)),
-    ),
-    ([(2, b"format = 3\n"), NONE], Err(BadFormat(2))),
+    "records 2\n|2|format = 2\n",
+    "BadCuts at line 8|2|format = 2\n|8|cuts = 1\ntext =\n",
+    "BadFormat at line 2|2|format = 3\n",
 ];
 
 // Of the file of format 2.
-const OF_FORMAT_2: [Row; 25] = [
-    ([NONE, NONE], Ok((2, 0))),
+const OF_FORMAT_2: [&str; 27] = [
+    "records 2\n|",
     // Format 1 has no cuts and no padding, and there is no format 3.
-    ([(1, b"format = 1\n"), NONE], Err(WrongName(7))),
-    ([(1, b"format = 1\n"), (7, b"")], Err(UnknownSuite(8))),
-    ([(1, b"format = 3\n"), NONE], Err(BadFormat(1))),
+    "WrongName at line 7|1|format = 1\n",
+    "UnknownSuite at line 8|1|format = 1\n|7|",
+    "BadFormat at line 1|1|format = 3\n",
     // Values that are no cuts, and one that is.
-    ([(7, b"cuts = \n"), NONE], Err(BadCuts(7))),
-    ([(7, b"cuts = 0\n"), NONE], Err(BadCuts(7))),
-    ([(7, b"cuts = 03\n"), NONE], Err(BadCuts(7))),
-    ([(7, b"cuts = 3,3\n"), NONE], Err(BadCuts(7))),
-    ([(7, b"cuts = 8,3\n"), NONE], Err(BadCuts(7))),
-    ([(7, b"cuts = 9\n"), NONE], Err(BadCuts(7))),
-    ([(7, b"cuts = 3,\n"), NONE], Err(BadCuts(7))),
-    ([(7, b"cuts = ,3\n"), NONE], Err(BadCuts(7))),
-    ([(7, b"cuts = 1, 5\n"), NONE], Err(BadCuts(7))),
-    ([(7, b"cuts = +3\n"), NONE], Err(BadCuts(7))),
-    (
-        [(7, b"cuts = 18446744073709551616\n"), NONE],
-        Err(BadCuts(7)),
-    ),
-    ([(7, b"cuts=1,2,3,4,5,6,7,8\n"), NONE], Ok((2, 0))),
+    "BadCuts at line 7|7|cuts = \n",
+    "BadCuts at line 7|7|cuts = 0\n",
+    "BadCuts at line 7|7|cuts = 03\n",
+    "BadCuts at line 7|7|cuts = 3,3\n",
+    "BadCuts at line 7|7|cuts = 8,3\n",
+    "BadCuts at line 7|7|cuts = 9\n",
+    "BadCuts at line 7|7|cuts = 3,\n",
+    "BadCuts at line 7|7|cuts = ,3\n",
+    "BadCuts at line 7|7|cuts = 1, 5\n",
+    "BadCuts at line 7|7|cuts = +3\n",
+    "BadCuts at line 7|7|cuts = 18446744073709551616\n",
+    "records 2\n|7|cuts=1,2,3,4,5,6,7,8\n",
     // No cuts, and other lines in their place.
-    ([(7, b""), NONE], Ok((2, 0))),
-    ([(7, b""), (8, b"invalid\n")], Ok((2, 1))),
-    ([(7, b"iv = 3\n"), NONE], Err(WrongName(7))),
-    // After cuts: cuts again, `invalid`, a blank line, another text.
-    ([(7, b"cuts = 3,8\ncuts = 3,8\n"), NONE], Err(WrongName(8))),
-    ([(8, b"invalid\n"), NONE], Err(BadLine(8))),
-    ([(8, b"\n"), NONE], Err(BadLine(8))),
-    ([(8, b"text = 01000000000000\n"), NONE], Ok((2, 1))),
+    "records 2\n|7|",
+    "records 2\nbad 1\n|7||8|invalid\n",
+    "WrongName at line 7|7|iv = 3\n",
+    // After cuts: cuts again, `invalid`, a blank line, another text, and nothing.
+    "WrongName at line 8|7|cuts = 3,8\ncuts = 3,8\n",
+    "BadLine at line 8|8|invalid\n",
+    "BadLine at line 8|8|\n",
+    "records 2\nbad 1\n|8|text = 01000000000000\n",
+    "Unfinished at line 7|8||9||10||11||12|",
+    "Unfinished at line 7|7|cuts = 3,8|8||9||10||11||12|",
     // A record of key wrapping has no cuts, and its padding is part of no text.
-    (
-        [(12, b"cuts = 1\ntext = 466f7250617369\n"), NONE],
-        Err(WrongName(12)),
-    ),
-    ([(12, b"text = 466f725061736900\n"), NONE], Ok((2, 1))),
+    "WrongName at line 12|12|cuts = 1\ntext = 466f7250617369\n",
+    "records 2\nbad 2\n|12|text = 466f725061736900\n",
 ];
 
-// Each row of a file has its result.
-fn have_results(rt: &(impl Abort + Alloc<A = Global>), file: &str, rows: &[Row]) {
-    for (edits, due) in rows {
-        let edited = with_lines(rt, file, edits);
-        assert!(rt; answer(rt, &edited) == *due, "{edits:?}");
-    }
+// A row of a file has its result.
+fn has_row(rt: &(impl Abort + Alloc<A = Global>), file: &str, row: &str) {
+    let (result, edits) = row.split_once('|').unwrap_or((row, ""));
+    has_result(rt, &with_lines(rt, file, edits), result);
 }
 
 #[test]
 fn other_lines(rt: HostRuntime) {
-    have_results(&rt, TWO_RECORDS, &OF_TWO_RECORDS);
-    have_results(&rt, FORMAT_2, &OF_FORMAT_2);
+    for row in &OF_TWO_RECORDS {
+        has_row(&rt, TWO_RECORDS, row);
+    }
+    for row in &OF_FORMAT_2 {
+        has_row(&rt, FORMAT_2, row);
+    }
 }
 
-// A carriage return before each line feed makes no difference, and one without a line feed is part of its
-// line.
+#[test]
+fn no_records(rt: HostRuntime) {
+    for file in ["", "# a comment", "format = 1", "\nformat = 2\n#\n"] {
+        has_result(&rt, file.as_bytes(), "NoRecords");
+    }
+}
+
+// A carriage return before each line feed makes no difference.
 #[test]
 fn carriage_returns(rt: HostRuntime) {
-    let mut returns = Vec::new(rt.alloc());
+    let mut file = Vec::new(rt.alloc());
     for line in TWO_RECORDS.lines() {
-        super::files::add(&rt, &mut returns, &[line.as_bytes(), b"\r"]);
+        add(&rt, &mut file, &[line.as_bytes(), b"\r"]);
     }
-    assert!(rt; answer(&rt, &returns) == Ok((2, 0)));
-    assert!(rt; cut_inside(&rt, TWO_RECORDS, 14, b"invalid\r") == Err(BadLine(15)));
+    has_result(&rt, &file, "records 2\n");
+}
+
+// A comment has any bytes.
+#[test]
+fn comments(rt: HostRuntime) {
+    let mut file = Vec::new(rt.alloc());
+    add(&rt, &mut file, &[b"#\x80\xff\n", TWO_RECORDS.as_bytes()]);
+    has_result(&rt, &file, "records 2\n");
 }

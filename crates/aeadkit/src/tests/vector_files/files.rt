@@ -1,8 +1,7 @@
-//! Files made of others, and their results.
-use super::super::published::{VECTORS, Vector, WRAPPINGS, Wrapping};
+//! Vector files, and files made of others.
+use super::super::published::{VECTORS, WRAPPINGS, word};
 use std::alloc::Global;
 use std::process::Abort;
-use vectors::{VectorFault, check};
 
 /// Two records: a published vector of GCM, and the same with another last byte.
 pub const TWO_RECORDS: &str = "# two records
@@ -37,17 +36,6 @@ sealed = afbeb0f07dfbf5419200f2ccb50bb24f
 text = 466f7250617369
 ";
 
-/// How many records a file has, and how many of them disagree, or its fault.
-pub type Answer = Result<(u64, usize), VectorFault>;
-
-/// The result for a file.
-pub fn answer(rt: &(impl Abort + Alloc<A = Global>), file: &[u8]) -> Answer {
-    match check(rt.alloc(), file) {
-        Ok(report) => Ok((report.records, report.bad.len())),
-        Err(fault) => Err(fault),
-    }
-}
-
 /// Adds a line of these parts, and its LF.
 pub fn add(rt: &(impl Abort + Alloc<A = Global>), file: &mut Vec<u8>, parts: &[&[u8]]) {
     for part in parts {
@@ -56,83 +44,62 @@ pub fn add(rt: &(impl Abort + Alloc<A = Global>), file: &mut Vec<u8>, parts: &[&
     file.push(b'\n').expect(rt, "memory");
 }
 
-// Adds value lines.
-fn add_values(rt: &(impl Abort + Alloc<A = Global>), file: &mut Vec<u8>, lines: &[(&str, &str)]) {
-    for (name, value) in lines {
-        add(rt, file, &[name.as_bytes(), b" = ", value.as_bytes()]);
+// Adds a value line for each word of a published vector.
+fn add_record(
+    rt: &(impl Abort + Alloc<A = Global>),
+    file: &mut Vec<u8>,
+    vector: &str,
+    names: &[&str],
+) {
+    for (name, given) in names.iter().zip(vector.split(' ')) {
+        add(
+            rt,
+            file,
+            &[name.as_bytes(), b" = ", word(Some(given)).as_bytes()],
+        );
     }
 }
 
 /// The published vectors of sealing and of wrapping without padding, as a file of 18 records.
 pub fn published(rt: &(impl Abort + Alloc<A = Global>), format: &str) -> Vec<u8> {
     let mut file = Vec::new(rt.alloc());
-    add_values(rt, &mut file, &[("format", format)]);
-    for line in &VECTORS {
-        let vector = Vector::of(line);
-        let lines = [
-            ("suite", vector.suite),
-            ("key", vector.key),
-            ("nonce", vector.nonce),
-            ("aad", vector.aad),
-            ("sealed", vector.sealed),
-            ("text", vector.text),
-        ];
-        add_values(rt, &mut file, &lines);
+    add(rt, &mut file, &[b"format = ", format.as_bytes()]);
+    for vector in &VECTORS {
+        add_record(
+            rt,
+            &mut file,
+            vector,
+            &["suite", "key", "nonce", "aad", "sealed", "text"],
+        );
     }
-    for line in &WRAPPINGS {
-        let wrapping = Wrapping::of(line);
-        let suite = match wrapping.key.len() {
-            32 => "aes-128-wrap",
-            48 => "aes-192-wrap",
-            _ => "aes-256-wrap",
-        };
-        let lines = [
-            ("suite", suite),
-            ("key", wrapping.key),
-            ("sealed", wrapping.wrapped),
-            ("text", wrapping.text),
-        ];
-        add_values(rt, &mut file, &lines);
+    for vector in &WRAPPINGS {
+        add_record(rt, &mut file, vector, &["suite", "key", "sealed", "text"]);
     }
     file
 }
 
-/// The number of a line, and the bytes in the place of it and its LF; no line has the number 0.
-pub type Edit = (usize, &'static [u8]);
+// The number that digits spell; 0 if there are none.
+fn number_of(digits: Option<&str>) -> usize {
+    match digits {
+        Some(digits) => digits.parse().unwrap_or(0),
+        None => 0,
+    }
+}
 
-/// A file with other bytes in the place of some of its lines.
-pub fn with_lines(rt: &(impl Abort + Alloc<A = Global>), file: &str, edits: &[Edit]) -> Vec<u8> {
+/// A file with other lines: of each line that is another the number, and what stands for it and its LF, all
+/// parted by bars.
+pub fn with_lines(rt: &(impl Abort + Alloc<A = Global>), file: &str, edits: &str) -> Vec<u8> {
     let mut out = Vec::new(rt.alloc());
-    let mut rest = edits;
+    let mut parts = edits.split('|');
+    let mut next = number_of(parts.next());
     for (i, old) in file.lines().enumerate() {
-        match rest {
-            [(number, lines), behind @ ..] if i.saturating_add(1) == *number => {
-                out.extend_from_slice(lines).expect(rt, "memory");
-                rest = behind;
-            }
-            _ => add(rt, &mut out, &[old.as_bytes()]),
+        if i.saturating_add(1) == next {
+            let new = parts.next().unwrap_or("");
+            out.extend_from_slice(new.as_bytes()).expect(rt, "memory");
+            next = number_of(parts.next());
+        } else {
+            add(rt, &mut out, &[old.as_bytes()]);
         }
     }
     out
-}
-
-/// The first lines of a file, with their LFs.
-pub fn first_lines(rt: &(impl Abort + Alloc<A = Global>), file: &str, count: usize) -> Vec<u8> {
-    let mut out = Vec::new(rt.alloc());
-    for line in file.lines().take(count) {
-        add(rt, &mut out, &[line.as_bytes()]);
-    }
-    out
-}
-
-/// The result for the first lines of a file, with their LFs, and these bytes after them.
-pub fn cut_inside(
-    rt: &(impl Abort + Alloc<A = Global>),
-    file: &str,
-    count: usize,
-    part: &[u8],
-) -> Answer {
-    let mut kept = first_lines(rt, file, count);
-    kept.extend_from_slice(part).expect(rt, "memory");
-    answer(rt, &kept)
 }
