@@ -1,7 +1,7 @@
 //! AES and its streams of counting blocks.
 use super::shows;
 use aes::{AesKey, CtrBe, CtrLe, round};
-use octets::Block;
+use octets::{Block, Key16, Key24, Key32};
 
 // A key of n bytes is the first n of these.
 const BYTES: [u8; 32] = [
@@ -30,10 +30,24 @@ fn is_cipher(key: &AesKey, cipher: &[u8; 16]) -> bool {
 
 #[test]
 fn published_ciphers(rt: HostRuntime) {
-    for (length, cipher) in [16, 24, 32usize].iter().zip(&CIPHERS) {
-        let key = AesKey::from_slice(&BYTES[..(*length).min(32)]).expect(&rt, "a key");
-        shows(&rt, is_cipher(&key, cipher), "a cipher");
-    }
+    let key = Key16::from_slice(&BYTES[..16]).expect(&rt, "16 bytes");
+    shows(
+        &rt,
+        is_cipher(&AesKey::new128(&key), &CIPHERS[0]),
+        "16 bytes",
+    );
+    let key = Key24::from_slice(&BYTES[..24]).expect(&rt, "24 bytes");
+    shows(
+        &rt,
+        is_cipher(&AesKey::new192(&key), &CIPHERS[1]),
+        "24 bytes",
+    );
+    let key = Key32::new(BYTES);
+    shows(
+        &rt,
+        is_cipher(&AesKey::new256(&key), &CIPHERS[2]),
+        "32 bytes",
+    );
 }
 
 // FIPS 197, appendix B: the columns at the start of rounds 1 and 2, and the key of round 1.
