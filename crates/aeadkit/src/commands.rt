@@ -1,13 +1,14 @@
 //! The commands over values given as hexadecimal, and `check`.
 ghost use Rattle.std.specs.Prelude.{◌≡◌, ◌⊎◌, ⊤, MatchResult, IfErr};
+ghost use Rattle.aes.specs.Cipher.{IsKey};
 ghost use Rattle.aead.specs.AnyCiphers.{keyed_of};
 ghost use Rattle.aead.specs.Refusals.{WholeSealRefused, WholeOpenRefused};
 ghost use Rattle.aeadkit.specs.Aead.{IsReady, IsSealed, IsOpened, InputsRefused, IsRefused};
 ghost use Rattle.aeadkit.specs.Blames.{InputFailed, Blames};
 ghost use Rattle.aeadkit.specs.Hex.{Spells, IsBadHex};
 ghost use Rattle.aeadkit.specs.Reports.{IsReportOf, FileRefused};
-ghost use Rattle.aeadkit.specs.Keywrap.{Wraps, IsWrapped, IsUnwrapped, IsWrapRefused, WrapFault};
-ghost use Rattle.aeadkit.specs.Keywrap.{UnwrapFault};
+ghost use Rattle.aeadkit.specs.Keywrap.{Wraps, IsWrapped, IsUnwrapped, IsWrapRefused, WrapInputsRefused};
+ghost use Rattle.aeadkit.specs.Keywrap.{WrapFault, UnwrapFault};
 ghost use Rattle.aeadkit.specs.declared.failure.Failure.TheVariants.{BadHex, Fault as OfFault};
 ghost use Rattle.octets.specs.declared.fault.Fault.TheVariants.{OutOfMemory};
 
@@ -67,6 +68,32 @@ fn unwrapped<A: Allocator>(
     }
 }
 
+// A key, and a text to wrap or a wrapping.
+#[derive(Drop)]
+struct WrapInputs<A: Allocator> {
+    key: AesKey,
+    body: Vec<u8, A>,
+}
+
+// The key and the bytes that the words give. In this order: `BadHex` for the key, then for the bytes, and
+// `KeyLength`.
+fn wrap_inputs<'a, A: Allocator>(
+    alloc: &'a A,
+    key: &str,
+    body: &str,
+) -> Result<WrapInputs<&'a A>, Failure>
+    ensures { MatchResult result
+        (λ call. IsKey call.key × Spells key.now call.key × Spells body.now call.body.items)
+        (WrapInputsRefused key.now body.now) }
+{
+    let key_bytes = decoded(alloc, key)?;
+    let body = decoded(alloc, body)?;
+    Ok(WrapInputs {
+        key: AesKey::from_slice(&key_bytes)?,
+        body,
+    })
+}
+
 /// `wrap`: the wrapping of a text, with padding or without. In this order: `BadHex` for the key, then for
 /// the text, `KeyLength`, and the refusals of the call.
 pub fn wrap<'a, A: Allocator>(
@@ -78,10 +105,8 @@ pub fn wrap<'a, A: Allocator>(
     ensures { MatchResult result (λ v. IsWrapped pad key.now text.now v.items)
         (IsWrapRefused (WrapFault pad) key.now text.now) }
 {
-    let key_bytes = decoded(alloc, key)?;
-    let text_bytes = decoded(alloc, text)?;
-    let key = AesKey::from_slice(&key_bytes)?;
-    Ok(wrapped(alloc, &key, &text_bytes, pad)?)
+    let call = wrap_inputs(alloc, key, text)?;
+    Ok(wrapped(alloc, &call.key, &call.body, pad)?)
 }
 
 /// `unwrap`: the text of a wrapping, with padding or without. In this order: `BadHex` for the key, then for
@@ -95,10 +120,8 @@ pub fn unwrap<'a, A: Allocator>(
     ensures { MatchResult result (λ v. IsUnwrapped pad key.now sealed.now v.items)
         (IsWrapRefused (UnwrapFault pad) key.now sealed.now) }
 {
-    let key_bytes = decoded(alloc, key)?;
-    let sealed_bytes = decoded(alloc, sealed)?;
-    let key = AesKey::from_slice(&key_bytes)?;
-    Ok(unwrapped(alloc, &key, &sealed_bytes, pad)?)
+    let call = wrap_inputs(alloc, key, sealed)?;
+    Ok(unwrapped(alloc, &call.key, &call.body, pad)?)
 }
 
 /// The inputs of a call under a suite.
