@@ -3,7 +3,7 @@
 use super::files::bytes;
 use super::published::{CHACHA, GCM, GCM_SIV, PADDED, Vector, WRAPPINGS, Wrapping};
 use super::scripted::{Log, Script, Scripted, Sink, Source};
-use super::vector_files::{published, with_lines};
+use super::vector_files::{TWO_RECORDS, published, with_lines};
 use super::{names, shows, shows_at};
 use crate::run::{perform, report, write_new_file};
 use crate::storage::Storage;
@@ -196,9 +196,11 @@ fn wrapping_and_unwrapping(rt: HostRuntime) {
     }
 }
 
-// A file of records of which the fifth disagrees.
+// Two records, and 18 of which the fifth disagrees.
 #[test]
 fn checking(rt: HostRuntime) {
+    let request = PrintRequest::Check { path: "" };
+    prints(&rt, request, TWO_RECORDS.as_bytes(), 0, "records 2");
     let file = published(&rt, "2");
     let text = from_utf8(&file).expect(&rt, "text");
     let fifth = with_lines(&rt, text, "31|invalid\n");

@@ -29,8 +29,9 @@ fn sample_of(rt: &(impl Abort + Alloc<A = Global>), line: &str) -> Sample {
     }
 }
 
-// Wraps the text after the first eight bytes.
+// Wraps the text, which starts at offset 8.
 fn wrap(sample: &Sample, room: &mut [u8]) -> Result<(), Fault> {
+    room.fill(0);
     for (byte, given) in room.iter_mut().skip(8).zip(&sample.text) {
         *byte = *given;
     }
