@@ -27,5 +27,4 @@ pub mod SivExits
 pub mod Parts
 pub mod ByteMasks
 pub mod Stored
-pub mod Outcomes
 mod Marks

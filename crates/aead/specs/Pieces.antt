@@ -49,3 +49,9 @@ PiecesMakeASealing = (s : Setting) (text c : List ℕ) → IsCiphertext s text c
     → ((piece d : List ℕ) → ((tag : List ℕ) → d ≡ masked (mask_of s tag) (length text) piece)
     → IsCiphertext s (text ++ piece) (c ++ d))
     × (c ++ tag_of s text ≡ sealing s text)
+
+-- pieces that are masked one after the other under one tag are, joined, their text masked
+abbrev pub MaskedPiecesJoin : Type 0
+MaskedPiecesJoin = (s : Setting) (tag text piece : List ℕ)
+    → masked (mask_of s tag) 0 text ++ masked (mask_of s tag) (length text) piece
+    ≡ masked (mask_of s tag) 0 (text ++ piece)
