@@ -38,25 +38,3 @@ pends None held p x w h k = tt
 pends (Some u) None p x w h k = absurd k
 pends (Some u) (Some v) p x w h k =
     ap (λ l. v ++ l) (drop-append-le w p x h) ∙ sym (append_assoc v (drop w p) x) ∙ ap (λ l. l ++ x) k
-
--- bytes are written past nothing that is pending
-past : (old new : Option (List ℕ)) (p x : List ℕ) (w : ℕ) → p ≡ [] → Appends old new x
-    → Appends (append_known old (drop w p)) (append_known new (drop w p)) x
-past None new p x w e h = tt
-past (Some u) None p x w e h = absurd h
-past (Some u) (Some v) p x w e h =
-    let d : drop w p ≡ [] = rw e (drop_all {X = ℕ} w [] (omega arith)) in
-    rw d (append-nil v ∙ h ∙ ap (λ l. l ++ x) (sym (append-nil u)))
-
--- known bytes are kept with those that are pending
-keeps_past : (old new : Option (List ℕ)) (p : List ℕ) → Keeps old new
-    → Keeps (append_known old p) (append_known new p)
-keeps_past None new p h = tt
-keeps_past (Some u) None p h = absurd h
-keeps_past (Some u) (Some v) p h = ap (λ l. l ++ p) h
-
--- a writing past nothing that is pending
-pub past_given : {E : Type 0} (old new : Option (List ℕ)) (p x : List ℕ) (w : ℕ) (r : Result ℕ E) → p ≡ []
-    → WriteAppends old new r x → WriteAppends (append_known old (drop w p)) (append_known new (drop w p)) r x
-past_given old new p x w (Ok n) e h = past old new p (take n x) w e h
-past_given old new p x w (Err f) e h = keeps_past old new (drop w p) h

@@ -14,7 +14,7 @@ use std::alloc::{AllocError, Allocator};
 const PENDING: usize = 65536;
 
 /// A file that is made, or cut to nothing, when its first byte is given, and at the end if none was.
-/// Bytes are written once many are pending. A failure of the system, an interrupted call too, is a failure
+/// Bytes are written once 64 KiB are pending. A failure of the system, an interrupted call too, is a failure
 /// of the device.
 #[derive(Drop)]
 pub struct NewFile<'a, F: Storage, A: Allocator> {
@@ -25,6 +25,7 @@ pub struct NewFile<'a, F: Storage, A: Allocator> {
     written: usize,
     failed: u64,
     ghost in_range: { written ≤ vec_len pending },
+    ghost room: { 0 < vec_capacity pending },
     ghost blame: { 0 < failed → OutputFailed (F.make_may_fail files.now) F.Output.failures },
 }
 
@@ -122,23 +123,7 @@ impl<'a, F: Storage, A: Allocator> NewFile<'a, F, A> {
         let _ = self.pending.extend_from_slice(bytes);
     }
 
-    // Writes some bytes straight to the file.
-    fn write_past(&mut self, bytes: &[u8]) -> Result<usize, DeviceFault>
-        requires made { is_some self.old.file ≡ true }
-        requires none_pending { self.old.pending.items ≡ [] }
-        ensures bound { GivesSome result bytes.now }
-        ensures taken { WriteAppends (⟦<NewFile<'a, F, A> as Outlet>⟧.taken self.old)
-            (⟦<NewFile<'a, F, A> as Outlet>⟧.taken self.new) result bytes.now }
-        ensures failed { self.new.failed ≡ self.old.failed }
-        ensures blame { OnErr result (OutputFailed (F.make_may_fail self.new.files.now) F.Output.failures) }
-    {
-        match &mut self.file {
-            Some(file) => file.give(bytes),
-            None => Err(DeviceFault),
-        }
-    }
-
-    // Keeps the bytes if there is room for them; else writes what is pending, and some of them.
+    // Keeps as many of the bytes as there is room for, which is made if there is none.
     #[tactic(auto, using(crate::proofs::NewFileLemmas::pends, crate::proofs::NewFileLemmas::keeps_more))]
     fn keep(&mut self, bytes: &[u8]) -> Result<usize, DeviceFault>
         ensures bound { GivesSome result bytes.now }
@@ -151,12 +136,13 @@ impl<'a, F: Storage, A: Allocator> NewFile<'a, F, A> {
             return Ok(0);
         }
         self.make()?;
-        if bytes.len() <= self.pending.capacity() - self.pending.len() {
-            self.add(bytes);
-            return Ok(bytes.len());
+        if self.pending.len() == self.pending.capacity() {
+            self.write_pending()?;
         }
-        self.write_pending()?;
-        self.write_past(bytes)
+        let room = self.pending.capacity() - self.pending.len();
+        let n = bytes.len().min(room);
+        self.add(&bytes[..n]);
+        Ok(n)
     }
 
     /// Makes the file if no byte was given, writes what is pending, and has the system take it. The only

@@ -3,10 +3,10 @@ ghost use Rattle.std.specs.Prelude.{◌≡◌, ℕ, Bool, true, List, Some, None
 ghost use Rattle.std.specs.Io.KnownBytes.{Keeps};
 ghost use Rattle.std.specs.declared.option.Option.{Option};
 
-use octets::{DeviceFault, FromRead, Intake, Outlet};
+use octets::{FromRead, Intake, Outlet, ToWrite};
 use std::alloc::Allocator;
 use std::fs::OpenFile;
-use std::io::{BufReader, ErrorKind, Write};
+use std::io::{BufReader, ErrorKind};
 use std::rt::Files;
 use std::{fs, io};
 
@@ -50,30 +50,6 @@ pub trait Storage {
         ensures blame { IfErr result (λ _. make_may_fail self.now ≡ true) };
 }
 
-/// A file of the system that is written. It counts its failures; an interrupted write is one, and a write of
-/// nothing from a slice that is not empty.
-#[derive(Drop)]
-pub struct DiskOutput<W> {
-    file: W,
-    failed: u64,
-}
-
-impl<W: Write> Outlet for DiskOutput<W> {
-    ghost taken = { λ s. W.contents s.file };
-
-    ghost failures = { λ s. s.failed };
-
-    fn give(&mut self, bytes: &[u8]) -> Result<usize, DeviceFault> {
-        match self.file.write(bytes) {
-            Ok(n) if 0 < n || bytes.is_empty() => Ok(n),
-            _ => {
-                self.failed = self.failed.saturating_add(1);
-                Err(DeviceFault)
-            }
-        }
-    }
-}
-
 /// The files that a runtime reaches. Each reading allocates a buffer.
 #[derive(Drop)]
 pub struct Disk<'a, R: Files, A: Allocator> {
@@ -84,21 +60,20 @@ pub struct Disk<'a, R: Files, A: Allocator> {
 impl<R: Files, A: Allocator + Copy> Storage for Disk<'_, R, A> {
     type Input = FromRead<BufReader<R::File, A>>;
 
-    type Output = DiskOutput<R::File>;
+    type Output = ToWrite<R::File>;
 
     fn open(&self, path: &str, _reading: u8) -> io::Result<FromRead<BufReader<R::File, A>>> {
         let file = fs::open(self.runtime, path)?;
         Ok(FromRead::new(BufReader::with_capacity(self.alloc, AHEAD, file)?))
     }
 
-    fn create(&self, path: &str) -> io::Result<DiskOutput<R::File>> {
-        let file = fs::create(self.runtime, path)?;
-        Ok(DiskOutput { file, failed: 0 })
+    fn create(&self, path: &str) -> io::Result<ToWrite<R::File>> {
+        Ok(ToWrite::new(fs::create(self.runtime, path)?))
     }
 
     // An output that can't be synced, as a pipe or a terminal, is no fault.
-    fn sync(&self, output: &DiskOutput<R::File>) -> io::Result<()> {
-        match output.file.sync_all() {
+    fn sync(&self, output: &ToWrite<R::File>) -> io::Result<()> {
+        match output.get_ref().sync_all() {
             Err(error) if error.kind() == ErrorKind::InvalidInput => Ok(()),
             result => result,
         }

@@ -55,6 +55,13 @@ impl<W: Write> ToWrite<W> {
     {
         ToWrite { writer, failed: 0 }
     }
+
+    /// The writer.
+    pub fn get_ref(&self) -> &W
+        ensures { W.contents result.now ≡ ⟦<ToWrite<W> as Outlet>⟧.taken self.now }
+    {
+        &self.writer
+    }
 }
 
 impl<W: Write> Outlet for ToWrite<W> {
