@@ -38,8 +38,8 @@ impl fmt::Display for Failure {
             Failure::Words => f.write_str("Words"),
             Failure::UnknownSuite => f.write_str("UnknownSuite"),
             Failure::BadHex => f.write_str("BadHex"),
-            Failure::Fault(fault) => write!(f, "{fault}"),
-            Failure::Vector(fault) => write!(f, "{fault}"),
+            Failure::Fault(fault) => fault.fmt(f),
+            Failure::Vector(fault) => fault.fmt(f),
         }
     }
 }

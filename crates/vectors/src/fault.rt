@@ -39,18 +39,19 @@ impl fmt::Display for VectorFault {
     ghost output = { λ fault. Some (fault_text fault) };
 
     fn fmt<W: fmt::Write>(&self, f: &mut fmt::Formatter<W>) -> fmt::Result {
-        match self {
-            VectorFault::BadFormat(line) => write!(f, "BadFormat at line {line}"),
-            VectorFault::BadLine(line) => write!(f, "BadLine at line {line}"),
-            VectorFault::WrongName(line) => write!(f, "WrongName at line {line}"),
-            VectorFault::UnknownSuite(line) => write!(f, "UnknownSuite at line {line}"),
-            VectorFault::BadHex(line) => write!(f, "BadHex at line {line}"),
-            VectorFault::BadLength(line) => write!(f, "BadLength at line {line}"),
-            VectorFault::BadCuts(line) => write!(f, "BadCuts at line {line}"),
-            VectorFault::NoRecords => f.write_str("NoRecords"),
-            VectorFault::Unfinished(line) => write!(f, "Unfinished at line {line}"),
-            VectorFault::OutOfMemory => f.write_str("OutOfMemory"),
-        }
+        let (name, line) = match self {
+            VectorFault::BadFormat(line) => ("BadFormat", line),
+            VectorFault::BadLine(line) => ("BadLine", line),
+            VectorFault::WrongName(line) => ("WrongName", line),
+            VectorFault::UnknownSuite(line) => ("UnknownSuite", line),
+            VectorFault::BadHex(line) => ("BadHex", line),
+            VectorFault::BadLength(line) => ("BadLength", line),
+            VectorFault::BadCuts(line) => ("BadCuts", line),
+            VectorFault::Unfinished(line) => ("Unfinished", line),
+            VectorFault::NoRecords => return f.write_str("NoRecords"),
+            VectorFault::OutOfMemory => return f.write_str("OutOfMemory"),
+        };
+        write!(f, "{name} at line {line}")
     }
 }
 
