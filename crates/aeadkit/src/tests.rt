@@ -19,6 +19,7 @@ mod wrappings;
 use crate::run::run;
 use crate::storage::Storage;
 use devices::NO_FILES;
+use published::word;
 use std::alloc::Global;
 use std::io::Write;
 use std::process::Abort;
@@ -33,10 +34,15 @@ fn shows_at(rt: &impl Abort, is_so: bool, what: &str, number: u64) {
     assert!(rt; is_so, "{what} {number}");
 }
 
+// Whether bytes are this line and its LF.
+fn is_line(bytes: &[u8], line: &str) -> bool {
+    bytes.strip_suffix(b"\n".as_slice()) == Some(line.as_bytes())
+}
+
 // Whether standard error has the line of a fault, or nothing if it is the empty one.
 fn names(err: &[u8], fault: &str) -> bool {
     match err.strip_prefix(b"aeadkit: ".as_slice()) {
-        Some(line) => line.split_last() == Some((&b'\n', fault.as_bytes())),
+        Some(line) => is_line(line, fault),
         None => err.is_empty() && fault.is_empty(),
     }
 }
@@ -58,24 +64,46 @@ fn runs_into<F: Storage, W: Write>(
     );
 }
 
-// Runs the words over files, and compares the status, standard output and the fault.
+// Runs the words over files, and compares the status, the fault and standard output: these lines, or nothing.
 fn runs_over<F: Storage>(
     rt: &(impl Abort + Alloc<A = Global>),
     files: &F,
     words: &[&str],
     status: u8,
-    printed: &str,
+    printed: Option<&str>,
     fault: &str,
 ) {
     let mut out: Vec<u8> = Vec::new(rt.alloc());
     runs_into(rt, files, words, &mut out, status, fault);
-    assert!(rt; out.as_slice() == printed.as_bytes(), "{words:?}");
+    let is_printed = match printed {
+        Some(lines) => is_line(&out, lines),
+        None => out.is_empty(),
+    };
+    assert!(rt; is_printed, "{words:?}");
+}
+
+// The words of a line after the first ones; `-` is the empty word.
+fn words_after<'a>(
+    rt: &(impl Abort + Alloc<A = Global>),
+    line: &'a str,
+    first: usize,
+) -> Vec<&'a str> {
+    let mut words = Vec::new(rt.alloc());
+    for given in line.split(' ').skip(first) {
+        words.push(word(Some(given))).expect(rt, "memory");
+    }
+    words
+}
+
+// Runs the words of a row over files, after its status and its fault. They print nothing.
+fn runs_row<F: Storage>(rt: &(impl Abort + Alloc<A = Global>), files: &F, row: &str) {
+    let mut words = row.split(' ');
+    let status = word(words.next()).parse().unwrap_or(9);
+    let fault = word(words.next());
+    runs_over(rt, files, &words_after(rt, row, 2), status, None, fault);
 }
 
 // The words print one line, with status 0, and nothing to standard error.
 fn prints(rt: &(impl Abort + Alloc<A = Global>), words: &[&str], line: &str) {
-    let mut out: Vec<u8> = Vec::new(rt.alloc());
-    runs_into(rt, &NO_FILES, words, &mut out, 0, "");
-    let printed = out.as_slice().split_last();
-    assert!(rt; printed == Some((&b'\n', line.as_bytes())), "{words:?}");
+    runs_over(rt, &NO_FILES, words, 0, Some(line), "");
 }

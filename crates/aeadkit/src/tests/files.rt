@@ -1,7 +1,7 @@
 //! The system's files, in a folder of the test's own.
-use super::published::{CHACHA, CHANGED, GCM, Vector, word};
+use super::published::{CHACHA, CHANGED, GCM, Vector};
 use super::vector_files::TWO_RECORDS;
-use super::{runs_over, shows};
+use super::{runs_over, runs_row, shows};
 use crate::storage::Disk;
 use octets::RefusingMemory;
 use std::alloc::Global;
@@ -42,10 +42,6 @@ const FOLDER: &str = "aeadkit_files";
 
 const TEXT: &str = "aeadkit_files/text";
 
-const FORGED: &str = "aeadkit_files/forged";
-
-const EMPTY: &str = "aeadkit_files/empty";
-
 const VECTORS: &str = "aeadkit_files/vectors.txt";
 
 const UNMADE: &str = "aeadkit_files/unmade";
@@ -61,83 +57,66 @@ fn holds(rt: &(impl Abort + Alloc<A = Global> + Files), path: &str, digits: &str
     shows(rt, held.as_slice() == bytes(rt, digits).as_slice(), path);
 }
 
-// Runs words over the system's files, and compares the status, standard output and the fault.
-fn runs_on_disk(
-    rt: &(impl Abort + Alloc<A = Global> + Files),
-    words: &[&str],
-    status: u8,
-    printed: &str,
-    fault: &str,
-) {
+// A status, a fault and the words that have them: a file is sealed and opened again; bytes that are no sealing make no
+// file, and an empty text makes an empty one; a path that leads nowhere is `Read` for IN, and `Write` for OUT; a folder,
+// a path of no file and an empty one are `Read`.
+const ROWS: &str = "\
+0 - seal-file --suite chacha20-poly1305 --key 808182838485868788898a8b8c8d8e8f909192939495969798999a9b9c9d9e9f \
+    --nonce 070000004041424344454647 --aad 50515253c0c1c2c3c4c5c6c7 --in aeadkit_files/text --out aeadkit_files/sealed
+0 - open-file --suite chacha20-poly1305 --key 808182838485868788898a8b8c8d8e8f909192939495969798999a9b9c9d9e9f \
+    --nonce 070000004041424344454647 --aad 50515253c0c1c2c3c4c5c6c7 --in aeadkit_files/sealed --out aeadkit_files/opened
+1 TagMismatch open-file --suite chacha20-poly1305 --key 808182838485868788898a8b8c8d8e8f909192939495969798999a9b9c9d9e9f \
+    --nonce 070000004041424344454647 --aad 50515253c0c1c2c3c4c5c6c7 --in aeadkit_files/forged --out aeadkit_files/unmade
+0 - open-file --suite aes-128-gcm --key 00000000000000000000000000000000 --nonce 000000000000000000000000 --in aeadkit_files/empty --out aeadkit_files/nothing
+3 Read seal-file --suite aes-128-gcm --key 00000000000000000000000000000000 \
+    --nonce 000000000000000000000000 --in aeadkit_files/none/file --out aeadkit_files/text
+3 Write seal-file --suite aes-128-gcm --key 00000000000000000000000000000000 \
+    --nonce 000000000000000000000000 --in aeadkit_files/text --out aeadkit_files/none/file
+3 Read check aeadkit_files
+3 Read check aeadkit_files/unmade
+3 Read check -";
+
+// A vector file is read. A buffer that can't be allocated is `OutOfMemory`.
+fn checks(rt: &(impl Abort + Alloc<A = Global> + Files)) {
     let files = Disk {
         runtime: rt,
         alloc: rt.alloc(),
     };
-    runs_over(rt, &files, words, status, printed, fault);
-}
-
-// A command, its vector, IN and OUT, the fault, and what OUT holds then: a file sealed and opened again; bytes that are
-// no sealing make no file, and an empty text makes an empty one; a path that leads nowhere is `Read` for IN, and `Write`
-// for OUT.
-const COMMANDS: &str = "\
-seal-file chacha aeadkit_files/text aeadkit_files/sealed - sealed
-open-file chacha aeadkit_files/sealed aeadkit_files/opened - text
-open-file chacha aeadkit_files/forged aeadkit_files/unmade TagMismatch -
-open-file gcm aeadkit_files/empty aeadkit_files/opened - text
-seal-file chacha aeadkit_files/none/file aeadkit_files/text Read text
-seal-file chacha aeadkit_files/text aeadkit_files/none/file Write -";
-
-// Runs the command of a row.
-fn is_done(rt: &(impl Abort + Alloc<A = Global> + Files), row: &str) {
-    let mut words = row.split(' ');
-    let command = word(words.next());
-    let vector = match words.next() {
-        Some("chacha") => Vector::of(CHACHA),
-        _ => Vector::of(GCM),
-    };
-    let (input, output) = (word(words.next()), word(words.next()));
-    let fault = word(words.next());
-    let status = match fault {
-        "" => 0,
-        "TagMismatch" => 1,
-        _ => 3,
-    };
-    let line = file_words(command, &vector, input, output);
-    runs_on_disk(rt, &line, status, "", fault);
-    match words.next() {
-        Some("sealed") => holds(rt, output, vector.sealed),
-        Some("text") => holds(rt, output, vector.text),
-        _ => shows(rt, fs::read(rt, output).is_err(), row),
-    }
-}
-
-// A vector file is read. A folder, a path of no file and an empty one are `Read`, and a buffer that can't be
-// allocated is `OutOfMemory`.
-fn checks(rt: &(impl Abort + Alloc<A = Global> + Files)) {
-    runs_on_disk(rt, &["check", VECTORS], 0, "records 2\n", "");
-    for unreadable in [FOLDER, UNMADE, ""] {
-        runs_on_disk(rt, &["check", unreadable], 3, "", "Read");
-    }
+    runs_over(rt, &files, &["check", VECTORS], 0, Some("records 2"), "");
     let memory = RefusingMemory::after(0, rt.alloc());
     let files = Disk {
         runtime: rt,
         alloc: &memory,
     };
-    runs_over(rt, &files, &["check", VECTORS], 4, "", "OutOfMemory");
+    runs_over(rt, &files, &["check", VECTORS], 4, None, "OutOfMemory");
 }
 
 // The file commands, and `check`, on files of the system.
 #[test]
 fn system_files(rt: HostRuntime) {
+    let Vector { text, sealed, .. } = Vector::of(CHACHA);
     let _ = fs::remove_dir_all(&rt, FOLDER);
     shows(&rt, fs::create_dir(&rt, FOLDER).is_ok(), "a folder");
-    is_made(&rt, TEXT, &bytes(&rt, Vector::of(CHACHA).text));
-    is_made(&rt, FORGED, &bytes(&rt, CHANGED));
-    is_made(&rt, EMPTY, &bytes(&rt, Vector::of(GCM).sealed));
+    is_made(&rt, TEXT, &bytes(&rt, text));
+    is_made(&rt, "aeadkit_files/forged", &bytes(&rt, CHANGED));
+    is_made(
+        &rt,
+        "aeadkit_files/empty",
+        &bytes(&rt, Vector::of(GCM).sealed),
+    );
     is_made(&rt, VECTORS, TWO_RECORDS.as_bytes());
-    for row in COMMANDS.lines() {
-        is_done(&rt, row);
+    let files = Disk {
+        runtime: &rt,
+        alloc: rt.alloc(),
+    };
+    for row in ROWS.lines() {
+        runs_row(&rt, &files, row);
     }
     checks(&rt);
+    holds(&rt, "aeadkit_files/sealed", sealed);
+    holds(&rt, "aeadkit_files/opened", text);
+    holds(&rt, "aeadkit_files/nothing", "");
+    holds(&rt, TEXT, text);
+    shows(&rt, fs::read(&rt, UNMADE).is_err(), "no file");
     shows(&rt, fs::remove_dir_all(&rt, FOLDER).is_ok(), "the end");
 }

@@ -4,7 +4,7 @@ use super::files::bytes;
 use super::published::{CHACHA, GCM, GCM_SIV, PADDED, Vector, WRAPPINGS, Wrapping};
 use super::scripted::{Log, Script, Scripted, Sink, Source};
 use super::vector_files::{TWO_RECORDS, published, with_lines};
-use super::{names, shows, shows_at};
+use super::{is_line, names, shows, shows_at};
 use crate::run::{perform, report, write_new_file};
 use crate::storage::Storage;
 use crate::words::{FileCommand, FileRequest, Inputs, PrintRequest, Request};
@@ -92,7 +92,7 @@ fn status_of<A: Allocator, F: Storage>(
 // Whether a request that is done printed its line, or wrote its file.
 fn is_done(case: &Case<'_>, out: &[u8], log: &Log) -> bool {
     match case.request {
-        Request::Print(_) => out.split_last() == Some((&b'\n', case.line.as_bytes())),
+        Request::Print(_) => is_line(out, case.line),
         Request::Write(_) => out.is_empty() && log.holds(case.to),
     }
 }

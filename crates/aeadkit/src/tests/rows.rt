@@ -3,7 +3,7 @@ use super::checks::CHECK;
 use super::devices::{FailsAfter, NO_FILES, OneFile};
 use super::published::{PADDED, PADDED_LENGTHS, WRAPPINGS, Wrapping, word};
 use super::vector_files::TWO_RECORDS;
-use super::{prints, runs_into, runs_over, shows};
+use super::{prints, runs_into, runs_row, shows, words_after};
 use crate::run::run;
 use crate::version::VERSION;
 use std::alloc::Global;
@@ -79,37 +79,16 @@ const OF_WORDS: &str = "\
 
 // One path for both files.
 const OF_PATHS: &str = "\
-2 Words seal-file --suite chacha20-poly1305 --key 808182838485868788898a8b8c8d8e8f909192939495969798999a9b9c9d9e9f --nonce 070000004041424344454647 --aad 50515253c0c1c2c3c4c5c6c7 --in a --out a
-2 Words open-file --suite chacha20-poly1305 --key 808182838485868788898a8b8c8d8e8f909192939495969798999a9b9c9d9e9f --nonce 070000004041424344454647 --aad 50515253c0c1c2c3c4c5c6c7 --in a --out a";
-
-// The words of a line after the first ones.
-fn words_after<'a>(
-    rt: &(impl Abort + Alloc<A = Global>),
-    line: &'a str,
-    first: usize,
-) -> Vec<&'a str> {
-    let mut words = Vec::new(rt.alloc());
-    for given in line.split(' ').skip(first) {
-        words.push(word(Some(given))).expect(rt, "memory");
-    }
-    words
-}
+2 Words seal-file --suite chacha20-poly1305 --key 808182838485868788898a8b8c8d8e8f909192939495969798999a9b9c9d9e9f \
+    --nonce 070000004041424344454647 --aad 50515253c0c1c2c3c4c5c6c7 --in a --out a
+2 Words open-file --suite chacha20-poly1305 --key 808182838485868788898a8b8c8d8e8f909192939495969798999a9b9c9d9e9f \
+    --nonce 070000004041424344454647 --aad 50515253c0c1c2c3c4c5c6c7 --in a --out a";
 
 #[test]
 fn refused_words(rt: HostRuntime) {
     for table in [OF_WRAPPING, OF_PADDING, OF_BYTES, OF_WORDS, OF_PATHS] {
-        for line in table.lines() {
-            let mut parts = line.split(' ');
-            let status = if parts.next() == Some("1") { 1 } else { 2 };
-            let fault = word(parts.next());
-            runs_over(
-                &rt,
-                &NO_FILES,
-                &words_after(&rt, line, 2),
-                status,
-                "",
-                fault,
-            );
+        for row in table.lines() {
+            runs_row(&rt, &NO_FILES, row);
         }
     }
 }
@@ -136,15 +115,18 @@ fn wrapping_vectors(rt: HostRuntime) {
     }
 }
 
-// Hex digits may be of either case, and a value may follow `=`.
+// A line, and the words that print it: hex digits may be of either case, a value may follow `=`, and an option that is
+// not given has an empty value.
+const PRINTED: &str = "\
+00112233445566778899aabbccddeeff unwrap --sealed=1FA68B0A8112B447AEF34BD8FB5A7B829D3E862371D2CFE5 --key=000102030405060708090A0b0c0d0E0F
+58e2fccefa7e3061367f1d57a4e7455a seal --suite aes-128-gcm --key 00000000000000000000000000000000 --nonce 000000000000000000000000
+- open --suite aes-128-gcm --key 00000000000000000000000000000000 --nonce 000000000000000000000000 --sealed 58e2fccefa7e3061367f1d57a4e7455a";
+
 #[test]
-fn other_spellings(rt: HostRuntime) {
-    let words = [
-        "unwrap",
-        "--sealed=1FA68B0A8112B447AEF34BD8FB5A7B829D3E862371D2CFE5",
-        "--key=000102030405060708090A0b0c0d0E0F",
-    ];
-    prints(&rt, &words, TEXT);
+fn printed_lines(rt: HostRuntime) {
+    for row in PRINTED.lines() {
+        prints(&rt, &words_after(&rt, row, 1), word(row.split(' ').next()));
+    }
 }
 
 // Lines of words that ask for help.

@@ -1,6 +1,6 @@
 //! `seal` and `open` on published vectors.
 use super::devices::NO_FILES;
-use super::published::{CHACHA, GCM, GCM_4, GCM_SIV_WRAPS, VECTORS, Vector};
+use super::published::{CHACHA, GCM_4, GCM_SIV_WRAPS, VECTORS, Vector};
 use super::{prints, runs_over};
 use std::alloc::Global;
 use std::process::Abort;
@@ -44,27 +44,6 @@ fn standard_vectors(rt: HostRuntime) {
     is_sealed(&rt, GCM_SIV_WRAPS);
 }
 
-// An option that is not given has an empty value.
-#[test]
-fn options_left_out(rt: HostRuntime) {
-    let vector = Vector::of(GCM);
-    let words = vector.words("seal", "", "");
-    prints(&rt, &words[..7], vector.sealed);
-    let [_, suite, name, key, digits, nonce, bytes, ..] = words;
-    let words = [
-        "open",
-        suite,
-        name,
-        key,
-        digits,
-        nonce,
-        bytes,
-        "--sealed",
-        vector.sealed,
-    ];
-    prints(&rt, &words, "");
-}
-
 // The suite's name comes first, then the hex of key, nonce, associated data and body, then the key's
 // length, then the nonce's, for sealing and opening.
 #[test]
@@ -76,7 +55,7 @@ fn refusals_in_order(rt: HostRuntime) {
             vector.words("seal", "--text", vector.sealed),
             vector.words("open", "--sealed", vector.sealed),
         ] {
-            runs_over(&rt, &NO_FILES, &words, 2, "", fault);
+            runs_over(&rt, &NO_FILES, &words, 2, None, fault);
         }
     }
 }
@@ -89,7 +68,7 @@ fn is_no_sealing(
     fault: &str,
 ) {
     let words = vector.words("open", "--sealed", sealed);
-    runs_over(rt, &NO_FILES, &words, 1, "", fault);
+    runs_over(rt, &NO_FILES, &words, 1, None, fault);
 }
 
 // The beginnings of a sealing are none.

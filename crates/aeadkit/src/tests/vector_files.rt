@@ -43,10 +43,10 @@ fn changed_records(rt: &(impl Abort + Alloc<A = Global>), file: &str) -> Vec<u8>
 fn published_vectors_in_both_formats(rt: HostRuntime) {
     for format in ["1", "2"] {
         let file = published(&rt, format);
-        has_result(&rt, &file, "records 18\n");
+        has_result(&rt, &file, "records 18");
         let text = from_utf8(&file).expect(&rt, "text");
-        has_result(&rt, &changed_records(&rt, text), "records 18\n");
+        has_result(&rt, &changed_records(&rt, text), "records 18");
         let fifth = with_lines(&rt, text, "31|invalid\n");
-        has_result(&rt, &fifth, "records 18\nbad 5\n");
+        has_result(&rt, &fifth, "records 18\nbad 5");
     }
 }

@@ -1,62 +1,46 @@
 //! The file of two records, cut after each line and inside it.
-use super::super::shows;
+use super::super::checks::has_result;
 use super::files::TWO_RECORDS;
 use std::alloc::Global;
 use std::process::Abort;
-use vectors::VectorFault::*;
-use vectors::{VectorFault, check};
 
-// How many records a file has, and how many of them disagree, or its fault.
-type Answer = Result<(u64, usize), VectorFault>;
+// For each line the result if the file is cut after it, and inside it before its `=`, after an even number of digits
+// of its value and after an odd one.
+const RESULTS: &str = "\
+NoRecords|NoRecords
+NoRecords|BadFormat at line 2|BadFormat at line 2|BadFormat at line 2
+Unfinished at line 3|BadLine at line 3|UnknownSuite at line 3|UnknownSuite at line 3
+Unfinished at line 4|BadLine at line 4|BadLength at line 4|BadHex at line 4
+Unfinished at line 5|BadLine at line 5|BadLength at line 5|BadHex at line 5
+Unfinished at line 6|BadLine at line 6
+Unfinished at line 7|BadLine at line 7|Unfinished at line 7|BadHex at line 7
+records 1|BadLine at line 8
+records 1
+Unfinished at line 10|BadLine at line 10|UnknownSuite at line 10|UnknownSuite at line 10
+Unfinished at line 11|BadLine at line 11|BadLength at line 11|BadHex at line 11
+Unfinished at line 12|BadLine at line 12|BadLength at line 12|BadHex at line 12
+Unfinished at line 13|BadLine at line 13
+Unfinished at line 14|BadLine at line 14|Unfinished at line 14|BadHex at line 14
+records 2|BadLine at line 15";
 
-// The result for the file if it is cut after a line.
-fn due_after(number: u64) -> Answer {
-    match number {
-        0..=2 => Err(NoRecords),
-        8 | 9 => Ok((1, 0)),
-        15 => Ok((2, 0)),
-        _ => Err(Unfinished(number)),
-    }
-}
-
-// Its fault if it is cut inside a line of which so many bytes of the value are kept, or no `=`.
-fn due_inside(number: u64, kept: Option<usize>) -> VectorFault {
-    let is_odd = kept.unwrap_or(0) % 2 == 1;
-    match number {
-        1 => NoRecords,
-        2 => BadFormat(2),
-        _ if kept.is_none() => BadLine(number),
-        3 | 10 => UnknownSuite(number),
-        _ if is_odd => BadHex(number),
-        7 | 14 => Unfinished(number),
-        _ => BadLength(number),
-    }
-}
-
-// The number of bytes after the `= ` of a line, if it has a `=`.
-fn value_length(part: &str) -> Option<usize> {
+// The column of a beginning of the file whose last line is this, or a part of this.
+fn column(part: &str, is_whole: bool) -> usize {
     match part.split_once('=') {
-        Some((_, value)) => Some(value.len().saturating_sub(1)),
-        None => None,
+        _ if is_whole => 0,
+        None => 1,
+        Some((_, value)) => 2 + value.len().saturating_sub(1) % 2,
     }
 }
 
-// The result for the first bytes of the file, before these.
-fn due(kept: &str, rest: &str) -> Answer {
-    let number = kept.lines().count() as u64;
-    match kept.lines().last() {
-        Some(part) if !kept.ends_with('\n') && !rest.starts_with('\n') => {
-            Err(due_inside(number, value_length(part)))
-        }
-        _ => due_after(number),
-    }
-}
-
-// Whether a file has this result.
-fn is_due(rt: &(impl Abort + Alloc<A = Global>), file: &str, due: Answer) -> bool {
-    match check(rt.alloc(), file.as_bytes()) {
-        Ok(report) => due == Ok((report.records, report.bad.len())),
-        Err(fault) => due == Err(fault),
+// The result of the first bytes of the file, which end with a line or inside one.
+fn result_of(kept: &str, is_whole: bool) -> &'static str {
+    let Some(part) = kept.lines().last() else {
+        return "NoRecords";
+    };
+    let row = RESULTS.lines().nth(kept.lines().count().saturating_sub(1));
+    match row.unwrap_or("").split('|').nth(column(part, is_whole)) {
+        Some(result) => result,
+        None => "",
     }
 }
 
@@ -66,6 +50,7 @@ fn cut_at_each_place(rt: HostRuntime) {
     for end in 0..=TWO_RECORDS.len() {
         let kept = TWO_RECORDS.get(..end).unwrap_or("");
         let rest = TWO_RECORDS.get(end..).unwrap_or("");
-        shows(&rt, is_due(&rt, kept, due(kept, rest)), kept);
+        let is_whole = kept.ends_with('\n') || rest.starts_with('\n') || rest.is_empty();
+        has_result(&rt, kept.as_bytes(), result_of(kept, is_whole));
     }
 }

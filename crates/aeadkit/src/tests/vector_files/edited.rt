@@ -4,20 +4,20 @@ use super::files::{FORMAT_2, TWO_RECORDS, add, with_lines};
 use std::alloc::Global;
 use std::process::Abort;
 
-// A row has the result, which ends with a LF if it is a report, and after a bar the lines that are others.
+// A row has the result, and after a bar the lines that are others.
 
 // Of the file of two records.
 const OF_TWO_RECORDS: [&str; 24] = [
     // No line is another, or the last one has no LF.
-    "records 2\n|",
-    "records 2\n|15|invalid",
+    "records 2|",
+    "records 2|15|invalid",
     // No format line, and a format with a zero before it or carriage returns after.
     "BadFormat at line 2|2|",
     "BadFormat at line 2|2|format = 01\n",
-    "records 2\n|2|format = 1\r\n",
+    "records 2|2|format = 1\r\n",
     "BadFormat at line 2|2|format = 1\r\r\n",
     // Spaces round the equals sign, at the end and before a name; a suite of no format.
-    "records 2\n|3|suite=aes-128-gcm   \n",
+    "records 2|3|suite=aes-128-gcm   \n",
     "WrongName at line 3|3| suite = aes-128-gcm\n",
     "UnknownSuite at line 3|3|suite = aes-128-ccm\n",
     // A letter past f, and a comment with an equals sign inside a record.
@@ -35,16 +35,16 @@ const OF_TWO_RECORDS: [&str; 24] = [
     "WrongName at line 15|15|invalid =\n",
     "BadLine at line 15|15|invalid\r",
     // The ends of the records exchanged.
-    "records 2\nbad 1\nbad 2\n|8|invalid\n|15|text =\n",
+    "records 2\nbad 1\nbad 2|8|invalid\n|15|text =\n",
     // Format 2, also with cuts of an empty text.
-    "records 2\n|2|format = 2\n",
+    "records 2|2|format = 2\n",
     "BadCuts at line 8|2|format = 2\n|8|cuts = 1\ntext =\n",
     "BadFormat at line 2|2|format = 3\n",
 ];
 
 // Of the file of format 2.
 const OF_FORMAT_2: [&str; 27] = [
-    "records 2\n|",
+    "records 2|",
     // Format 1 has no cuts and no padding, and there is no format 3.
     "WrongName at line 7|1|format = 1\n",
     "UnknownSuite at line 8|1|format = 1\n|7|",
@@ -61,21 +61,21 @@ const OF_FORMAT_2: [&str; 27] = [
     "BadCuts at line 7|7|cuts = 1, 5\n",
     "BadCuts at line 7|7|cuts = +3\n",
     "BadCuts at line 7|7|cuts = 18446744073709551616\n",
-    "records 2\n|7|cuts=1,2,3,4,5,6,7,8\n",
+    "records 2|7|cuts=1,2,3,4,5,6,7,8\n",
     // No cuts, and other lines in their place.
-    "records 2\n|7|",
-    "records 2\nbad 1\n|7||8|invalid\n",
+    "records 2|7|",
+    "records 2\nbad 1|7||8|invalid\n",
     "WrongName at line 7|7|iv = 3\n",
     // After cuts: cuts again, `invalid`, a blank line, another text, and nothing.
     "WrongName at line 8|7|cuts = 3,8\ncuts = 3,8\n",
     "BadLine at line 8|8|invalid\n",
     "BadLine at line 8|8|\n",
-    "records 2\nbad 1\n|8|text = 01000000000000\n",
+    "records 2\nbad 1|8|text = 01000000000000\n",
     "Unfinished at line 7|8||9||10||11||12|",
     "Unfinished at line 7|7|cuts = 3,8|8||9||10||11||12|",
     // A record of key wrapping has no cuts, and its padding is part of no text.
     "WrongName at line 12|12|cuts = 1\ntext = 466f7250617369\n",
-    "records 2\nbad 2\n|12|text = 466f725061736900\n",
+    "records 2\nbad 2|12|text = 466f725061736900\n",
 ];
 
 // A row of a file has its result.
@@ -108,7 +108,7 @@ fn carriage_returns(rt: HostRuntime) {
     for line in TWO_RECORDS.lines() {
         add(&rt, &mut file, &[line.as_bytes(), b"\r"]);
     }
-    has_result(&rt, &file, "records 2\n");
+    has_result(&rt, &file, "records 2");
 }
 
 // A comment has any bytes.
@@ -116,5 +116,5 @@ fn carriage_returns(rt: HostRuntime) {
 fn comments(rt: HostRuntime) {
     let mut file = Vec::new(rt.alloc());
     add(&rt, &mut file, &[b"#\x80\xff\n", TWO_RECORDS.as_bytes()]);
-    has_result(&rt, &file, "records 2\n");
+    has_result(&rt, &file, "records 2");
 }
