@@ -2,7 +2,7 @@
 
 # Prints the version of a repository: version_of REPOSITORY
 version_of() {
-    sed -n 's/^pub const VERSION: &str = "\(.*\)";$/\1/p' "$1/crates/aeadkit/src/version.rt"
+    sed -n 's/^pub const VERSION: &str = "\(.*\)";$/\1/p' "$1/crates/command/src/version.rt"
 }
 
 # Prints a file with the version in the place of 0.0.0: filled FILE VERSION
@@ -29,7 +29,7 @@ crates() {
 # Copies what the library is made of to a folder outside the repository, in which crates.txt names aead and keywrap as
 # libraries of a kind and leaves out what depends on them: copy REPOSITORY ROOM KIND
 copy() {
-    grep -Ev '^(vectors|aeadkit):' "$1/crates.txt" | sed -E "s/^(aead|keywrap):/\\1 $3:/" > "$2/crates.txt"
+    grep -Ev '^(vectors|command|aeadkit):' "$1/crates.txt" | sed -E "s/^(aead|keywrap):/\\1 $3:/" > "$2/crates.txt"
     crates "$1" "$2"
 }
 

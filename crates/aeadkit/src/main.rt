@@ -1,26 +1,15 @@
-//! The program `aeadkit`: authenticated encryption and key wrapping by published standards.
+//! The program `aeadkit`: authenticated encryption and key wrapping by published standards. Its command line is the
+//! crate `command`; the tests of all crates stand here.
 #![tactic(auto)]
 
 mod arguments;
-mod commands;
-mod failure;
-mod files;
-mod help;
-mod new_file;
-mod readings;
-mod run;
-mod storage;
-mod subcommands;
 #[cfg(test)]
 mod tests;
-mod version;
-mod words;
 
 use arguments::words_given;
-use run::{report, run};
+use command::{Disk, report, run};
 use std::fs;
 use std::process::ExitCode;
-use storage::Disk;
 
 // The path that is opened in place of a standard stream that is closed: a folder, which can be neither read
 // nor written as a file.

@@ -16,8 +16,7 @@ mod seals;
 mod vector_files;
 mod wrappings;
 
-use crate::run::run;
-use crate::storage::Storage;
+use command::{Storage, run};
 use devices::NO_FILES;
 use published::word;
 use std::alloc::Global;

@@ -1,7 +1,7 @@
 //! One file in memory, and a writer that fails.
 ghost use Rattle.std.specs.Prelude.{◌≤◌, IfOk};
 
-use crate::storage::Storage;
+use command::Storage;
 use octets::{FromRead, ToWrite};
 use std::io;
 

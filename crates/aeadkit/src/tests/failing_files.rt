@@ -3,7 +3,7 @@ use super::files::{bytes, file_words};
 use super::published::{CHACHA, GCM_SIV, Vector};
 use super::scripted::{Log, Script, Scripted, Wrong};
 use super::{names, shows_at};
-use crate::run::run;
+use command::run;
 use std::alloc::Global;
 use std::process::Abort;
 

@@ -2,7 +2,7 @@
 use super::published::{CHACHA, CHANGED, GCM, Vector};
 use super::vector_files::TWO_RECORDS;
 use super::{runs_over, runs_row, shows};
-use crate::storage::Disk;
+use command::Disk;
 use octets::RefusingMemory;
 use std::alloc::Global;
 use std::fs;
@@ -51,6 +51,11 @@ fn is_made(rt: &(impl Abort + Files), path: &str, bytes: &[u8]) {
     shows(rt, fs::write(rt, path, bytes).is_ok(), path);
 }
 
+// Makes a file of the bytes that these digits spell.
+fn is_spelled(rt: &(impl Abort + Alloc<A = Global> + Files), path: &str, digits: &str) {
+    is_made(rt, path, &bytes(rt, digits));
+}
+
 // The file holds the bytes that these digits spell.
 fn holds(rt: &(impl Abort + Alloc<A = Global> + Files), path: &str, digits: &str) {
     let held = fs::read(rt, path).expect(rt, "a file");
@@ -97,13 +102,9 @@ fn system_files(rt: HostRuntime) {
     let Vector { text, sealed, .. } = Vector::of(CHACHA);
     let _ = fs::remove_dir_all(&rt, FOLDER);
     shows(&rt, fs::create_dir(&rt, FOLDER).is_ok(), "a folder");
-    is_made(&rt, TEXT, &bytes(&rt, text));
-    is_made(&rt, "aeadkit_files/forged", &bytes(&rt, CHANGED));
-    is_made(
-        &rt,
-        "aeadkit_files/empty",
-        &bytes(&rt, Vector::of(GCM).sealed),
-    );
+    is_spelled(&rt, TEXT, text);
+    is_spelled(&rt, "aeadkit_files/forged", CHANGED);
+    is_spelled(&rt, "aeadkit_files/empty", Vector::of(GCM).sealed);
     is_made(&rt, VECTORS, TWO_RECORDS.as_bytes());
     let files = Disk {
         runtime: &rt,

@@ -5,9 +5,10 @@ use super::published::{CHACHA, GCM, GCM_SIV, PADDED, Vector, WRAPPINGS, Wrapping
 use super::scripted::{Log, Script, Scripted, Sink, Source};
 use super::vector_files::{TWO_RECORDS, published, with_lines};
 use super::{is_line, names, shows, shows_at};
-use crate::run::{perform, report, write_new_file};
-use crate::storage::Storage;
-use crate::words::{FileCommand, FileRequest, Inputs, PrintRequest, Request};
+use command::{
+    FileCommand, FileRequest, Inputs, PrintRequest, Request, Storage, perform, report,
+    write_new_file,
+};
 use octets::{FromRead, RefusingMemory, ToWrite};
 use std::alloc::{Allocator, Global};
 use std::cell::Cell;

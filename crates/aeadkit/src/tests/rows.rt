@@ -4,8 +4,7 @@ use super::devices::{FailsAfter, NO_FILES, OneFile};
 use super::published::{PADDED, PADDED_LENGTHS, WRAPPINGS, Wrapping, word};
 use super::vector_files::TWO_RECORDS;
 use super::{prints, runs_into, runs_row, shows, words_after};
-use crate::run::run;
-use crate::version::VERSION;
+use command::{VERSION, run};
 use std::alloc::Global;
 use std::io;
 use std::process::Abort;
@@ -155,9 +154,8 @@ fn help(rt: HostRuntime) {
 #[test]
 fn version(rt: HostRuntime) {
     let line = format!(in rt.alloc(); "aeadkit {VERSION}").expect(&rt, "memory");
-    for word in ["--version", "-V"] {
-        prints(&rt, &[word], &line);
-    }
+    prints(&rt, &["--version"], &line);
+    prints(&rt, &["-V"], &line);
 }
 
 // Words, the failure of standard output, and the status and the fault.

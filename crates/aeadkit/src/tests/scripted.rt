@@ -1,7 +1,7 @@
 //! Files in memory, of which one call goes wrong.
 ghost use Rattle.std.specs.Prelude.{◌≤◌, IfOk};
 
-use crate::storage::Storage;
+use command::Storage;
 use octets::{FromRead, ToWrite};
 use std::alloc::Global;
 use std::cell::{Cell, RefCell};

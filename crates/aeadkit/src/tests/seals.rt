@@ -51,12 +51,10 @@ fn refusals_in_order(rt: HostRuntime) {
     for line in REFUSED.lines() {
         let (fault, inputs) = line.split_once(' ').unwrap_or(("", line));
         let vector = Vector::of(inputs);
-        for words in [
-            vector.words("seal", "--text", vector.sealed),
-            vector.words("open", "--sealed", vector.sealed),
-        ] {
-            runs_over(&rt, &NO_FILES, &words, 2, None, fault);
-        }
+        let words = vector.words("seal", "--text", vector.sealed);
+        runs_over(&rt, &NO_FILES, &words, 2, None, fault);
+        let words = vector.words("open", "--sealed", vector.sealed);
+        runs_over(&rt, &NO_FILES, &words, 2, None, fault);
     }
 }
 
@@ -91,11 +89,9 @@ fn cut_sealings(rt: HostRuntime) {
 // Other associated data makes another sealing.
 #[test]
 fn other_associated_data(rt: HostRuntime) {
+    let mut vector = Vector::of(CHACHA);
     for aad in ["", "51515253c0c1c2c3c4c5c6c7"] {
-        let vector = Vector {
-            aad,
-            ..Vector::of(CHACHA)
-        };
+        vector.aad = aad;
         is_no_sealing(&rt, &vector, vector.sealed, "TagMismatch");
     }
 }

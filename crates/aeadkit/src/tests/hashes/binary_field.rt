@@ -7,6 +7,8 @@ use gf128::{
     WideMul,
 };
 use octets::Block;
+use std::alloc::Global;
+use std::process::Abort;
 
 // The hash of a text, by the multiplier that is made of its key.
 fn hash_of<M: Keyed128, O: ByteOrder>(key: &Block, text: &[u8]) -> [u8; 16] {
@@ -89,16 +91,17 @@ const POLYVALS: [(&str, &str, &str); 3] = [
     (LONG_KEY, LONG, "d6f222e6d011417a59dc2bd5eefd4e24"),
 ];
 
+// The texts of a table have their hashes.
+fn are_hashes<O: ByteOrder>(rt: &(impl Abort + Alloc<A = Global>), table: &[(&str, &str, &str)]) {
+    for (key, text, hash) in table {
+        let key = Block::new(sixteen(rt, key));
+        let is_right = is_hash::<O>(&key, &bytes(rt, text), &sixteen(rt, hash));
+        shows(rt, is_right, hash);
+    }
+}
+
 #[test]
 fn ghashes_and_polyvals(rt: HostRuntime) {
-    for (key, text, hash) in &GHASHES {
-        let key = Block::new(sixteen(&rt, key));
-        let is_right = is_hash::<BigEndian>(&key, &bytes(&rt, text), &sixteen(&rt, hash));
-        shows(&rt, is_right, hash);
-    }
-    for (key, text, hash) in &POLYVALS {
-        let key = Block::new(sixteen(&rt, key));
-        let is_right = is_hash::<LittleEndian>(&key, &bytes(&rt, text), &sixteen(&rt, hash));
-        shows(&rt, is_right, hash);
-    }
+    are_hashes::<BigEndian>(&rt, &GHASHES);
+    are_hashes::<LittleEndian>(&rt, &POLYVALS);
 }

@@ -3,7 +3,7 @@ use super::super::published::{CHACHA, GCM_SIV, word};
 use super::super::shows;
 use super::samples::{Sample, first, flip, sample_of};
 use aead::open_stream;
-use octets::{Fault, ScriptIntake, ScriptOutlet, SliceIntake, Step, VecOutlet};
+use octets::{Fault, ScriptIntake, ScriptOutlet, Step};
 use std::alloc::Global;
 use std::process::Abort;
 
@@ -11,6 +11,7 @@ use std::process::Abort;
 // after `Read`. Bytes are `whole`, or `changed` in the lowest bit of byte 100 or of the last, or the `first` so many of
 // them, or one `more`. A device moves what it can, or so many bytes in each of its first calls, or fails after so many.
 const OF_CHACHA: &str = "\
+whole whole whole out done whole
 whole/1 whole/1 whole/1 out done whole
 whole/15 whole/15 whole/15 out done whole
 whole/17 whole/17 whole/17 out done whole
@@ -127,25 +128,4 @@ fn readings_and_devices(rt: HostRuntime) {
     }
     let row = "whole whole changed0 out SourceChanged changed0";
     opens(&rt, &sample_of(&rt, GCM_SIV), row);
-}
-
-// Three equal readings give the text.
-#[test]
-fn equal_readings(rt: HostRuntime) {
-    let sample = sample_of(&rt, CHACHA);
-    let mut out = VecOutlet::new(rt.alloc());
-    let answer = open_stream(
-        &sample.cipher,
-        &sample.nonce,
-        &sample.aad,
-        &mut SliceIntake::new(&sample.sealed),
-        &mut SliceIntake::new(&sample.sealed),
-        &mut SliceIntake::new(&sample.sealed),
-        &mut out,
-    );
-    shows(
-        &rt,
-        answer.is_ok() && out.bytes() == sample.text.as_slice(),
-        "a text",
-    );
 }

@@ -50,9 +50,8 @@ fn absorbed(rt: &impl Abort, sample: &Sample) -> (Tag, SivWriter) {
 
 // A second reading in pieces of 3 and 0 bytes and the rest ends so, with the sealing if it is `Ok`. A byte past the
 // first text is refused and stays, and the end is as if it had not come.
-fn ends(rt: &(impl Abort + Alloc<A = Global>), second: &mut [u8], due: Result<(), Fault>) {
-    let sample = sample_of(rt, GCM_SIV);
-    let (tag, mut writer) = absorbed(rt, &sample);
+fn ends(rt: &impl Abort, sample: &Sample, second: &mut [u8], due: Result<(), Fault>) {
+    let (tag, mut writer) = absorbed(rt, sample);
     let mut past = [7; 2];
     let past = &mut past[..9usize.saturating_sub(second.len()).min(2)];
     let (front, back) = second.split_at_mut(second.len().min(3));
@@ -72,8 +71,9 @@ fn ends(rt: &(impl Abort + Alloc<A = Global>), second: &mut [u8], due: Result<()
 // A second reading of the same text agrees, and one of another or of a shorter one does not.
 #[test]
 fn second_readings(rt: HostRuntime) {
+    let sample = sample_of(&rt, GCM_SIV);
     let changed = Err(Fault::SourceChanged);
-    ends(&rt, &mut [1, 0, 0, 0, 0, 0, 0, 0], Ok(()));
-    ends(&rt, &mut [1, 0, 0, 0, 0, 0, 0, 1], changed);
-    ends(&rt, &mut [1, 0, 0, 0, 0, 0, 0], changed);
+    ends(&rt, &sample, &mut [1, 0, 0, 0, 0, 0, 0, 0], Ok(()));
+    ends(&rt, &sample, &mut [1, 0, 0, 0, 0, 0, 0, 1], changed);
+    ends(&rt, &sample, &mut [1, 0, 0, 0, 0, 0, 0], changed);
 }

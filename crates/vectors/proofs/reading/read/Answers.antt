@@ -92,6 +92,9 @@ returns-then-report-eq0-clause-fault g c =
     (ap lines_of ended ∙ lines_nil) (λ F e. c.if-report-eq0.true)
     (ap (λ p. is_inside (expected (view p))) c.in-Between.is)
 
+pub returns-then-report-eq0-clause-report : goal.returns-then-report-eq0-clause-report
+returns-then-report-eq0-clause-report g c = tt
+
 pub returns-else-report-eq0-clause-report : goal.returns-else-report-eq0-clause-report
 returns-else-report-eq0-clause-report g c =
     let ended : c.loop-line.rest.now ≡ [] = search rules in

@@ -1,4 +1,4 @@
-use Rattle.std.proofs.Common.{ℕ, ◌+◌, ◌*◌, ◌^◌, ◌≤◌, List, ◌∙◌, ap, ap₂, arith, length}
+use Rattle.std.proofs.Common.{ℕ, ◌+◌, ◌*◌, ◌^◌, ◌≤◌, List, ◌∙◌, ap, ap₂, arith, length, refl}
 use Rattle.octets.specs.Masked.{masked}
 use Rattle.chacha.specs.Stream.{key_stream_byte}
 use Rattle.chacha.proofs.Masking.{masked_same, key_stream_byte-first}
@@ -25,4 +25,15 @@ returns-clause-applied g c = λ key nonce first made held.
           ∙ masked_same (key_stream_byte key nonce 0) (key_stream_byte key nonce first) (first * 64 + made)
           made c.args.bytes.now
           (key_stream_byte-first key nonce first made);
+    }
+
+pub returns-then-bytes-self-clause-applied : goal.returns-then-bytes-self-clause-applied
+returns-then-bytes-self-clause-applied g c = λ key nonce first made held. record {
+      fault_is = refl;
+      missing =
+          (omega (arith, held.place_is, c.if-bytes-self.true),
+          λ there. omega (arith, there, held.place_is, c.if-bytes-self.true));
+      past_end = omega (arith, held.place_is, c.if-bytes-self.true);
+      stream_unchanged = refl;
+      bytes_unchanged = refl;
     }

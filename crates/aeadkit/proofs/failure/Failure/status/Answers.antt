@@ -1,5 +1,0 @@
-use Rattle.std.proofs.Common.{rules}
-use Rattle.aeadkit.proofs.failure.Failure.status.Goals as goal
-
-pub returns-in-Words : goal.returns-in-Words
-returns-in-Words c = search rules

@@ -1,5 +1,0 @@
-use Rattle.std.proofs.Common.{rules}
-use Rattle.aeadkit.proofs.run.report_status.Goals as goal
-
-pub returns-else-yes-clause-yes : goal.returns-else-yes-clause-yes
-returns-else-yes-clause-yes g c = search rules

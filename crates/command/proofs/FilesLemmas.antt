@@ -1,0 +1,246 @@
+-- Results of the file commands, from those of the engines.
+use Rattle.std.proofs.Common.{◌≡◌, ℕ, ◌⊎◌, inl, inr, Bool, true, false, List, [], ◌++◌, ◌==◌}
+use Rattle.std.proofs.Common.{Option, Some, None, Ok, Err, IfSome, refl, subst, sym, ◌∙◌, ap, arith, take}
+use Rattle.std.proofs.Common.{drop, length, if◌then◌else◌}
+use Rattle.std.proofs.lemmas.List.{append-nil, drop_all}
+use Rattle.std.proofs.Math.Seq.{take-append_seam}
+use Rattle.std.specs.Io.KnownBytes.{Keeps, append_known, prepend_known}
+use Rattle.octets.specs.declared.fault.Fault.{Fault}
+use Rattle.octets.specs.declared.fault.Fault.TheVariants.{Read, Write, OutOfMemory}
+use Rattle.aead.specs.Suites.{construction_of, is_one_pass}
+use Rattle.aead.specs.Sealing.{Setting}
+use Rattle.aead.specs.Ciphers.{Keyed, setting}
+use Rattle.aead.specs.SealStream.{SealsStream, IfTextKnown}
+use Rattle.aead.specs.SealSivStream.{SealsSivStream, SivCounts, IfBothKnown}
+use Rattle.aead.specs.Verdict.{OpensStream, FailureCounts, IfAllKnown}
+use Rattle.command.specs.declared.failure.Failure.{Failure}
+use Rattle.command.specs.declared.failure.Failure.TheVariants.{Fault as OfFault}
+use Rattle.command.specs.declared.words.Inputs.{Inputs}
+use Rattle.command.specs.declared.words.FileCommand.{FileCommand}
+use Rattle.command.specs.declared.words.FileCommand.TheVariants.{Seal, Open}
+use Rattle.command.specs.Aead.{IsReady, IsCalled, CallFailed}
+use Rattle.command.specs.Files.{Answer, Giving, SealsOnce, SealsTwice, OpensThrice, SealingBy, Engine}
+use Rattle.command.specs.Files.{OutletTakes, HoldsAll, HoldsStart, HoldsNothing}
+use Rattle.command.specs.Files.{NoCall, EngineRan, Ran, FileDone, FileStopped}
+
+-- a reader that was just made has left what its file has
+pub just_opened : (contents rest left : Option (List ℕ)) (capacity : ℕ) (ahead : List ℕ)
+    → left ≡ (if capacity == 0 then None else prepend_known ahead rest) → capacity ≡ 65536 → ahead ≡ []
+    → IfSome contents (λ bytes. rest ≡ Some bytes) → IfSome contents (λ bytes. left ≡ Some bytes)
+just_opened None rest left capacity ahead e c a h = tt
+just_opened (Some x) rest left capacity ahead e c a h =
+    let P : ℕ → Type 0 = λ n. left ≡ (if n == 0 then None else prepend_known ahead rest) in
+    let Q : List ℕ → Type 0 = λ l. left ≡ prepend_known l rest in
+    let R : Option (List ℕ) → Type 0 = λ o. left ≡ prepend_known [] o in
+    subst R h (subst Q a (subst P c e))
+
+-- one reading of a text
+pub sealed_once : (a left taken taken' : Option (List ℕ)) (s : Setting) (read read' wrote wrote' : ℕ)
+    (r : Answer) → IfSome a (λ x. left ≡ Some x)
+    → IfTextKnown left taken taken' (λ x given. SealsStream s x given read read' wrote wrote' r)
+    → IfSome a (λ x. OutletTakes taken taken' (λ given. SealsOnce s x given r))
+sealed_once None left taken taken' s read read' wrote wrote' r e h = tt
+sealed_once (Some x) left None taken' s read read' wrote wrote' r e h = tt
+sealed_once (Some x) left (Some t) taken' s read read' wrote wrote' r e h =
+    let P : Option (List ℕ) → Type 0 = λ l. IfTextKnown l (Some t) taken'
+    (λ x given. SealsStream s x given read read' wrote wrote' r) in
+    let k = subst P e h in
+    (k.0, k.1, record { read = read; read' = read'; wrote = wrote; wrote' = wrote'; is = k.2 })
+
+-- two readings of a text
+pub sealed_twice : (a b left right taken taken' : Option (List ℕ)) (s : Setting) (before after : SivCounts)
+    (r : Answer) → IfSome a (λ x. left ≡ Some x) → IfSome b (λ y. right ≡ Some y)
+    → IfBothKnown left right taken taken' (λ x y given. SealsSivStream s x y given before after r)
+    → IfSome a (λ x. IfSome b (λ y. OutletTakes taken taken' (λ given. SealsTwice s x y given r)))
+sealed_twice None b left right taken taken' s before after r e f h = tt
+sealed_twice (Some x) None left right taken taken' s before after r e f h = tt
+sealed_twice (Some x) (Some y) left right None taken' s before after r e f h = tt
+sealed_twice (Some x) (Some y) left right (Some t) taken' s before after r e f h =
+    let P : Option (List ℕ) → Type 0 = λ l. IfBothKnown l right (Some t) taken'
+    (λ x y given. SealsSivStream s x y given before after r) in
+    let Q : Option (List ℕ) → Type 0 = λ l. IfBothKnown (Some x) l (Some t) taken'
+    (λ x y given. SealsSivStream s x y given before after r) in
+    let k = subst Q f (subst P e h) in
+    (k.0, k.1, record { before = before; after = after; is = k.2 })
+
+-- three readings of sealed bytes
+pub opened_thrice : (a b c measure verify write taken taken' : Option (List ℕ)) (s : Setting)
+    (before after : FailureCounts) (r : Answer) → IfSome a (λ x. measure ≡ Some x)
+    → IfSome b (λ y. verify ≡ Some y) → IfSome c (λ z. write ≡ Some z)
+    → IfAllKnown measure verify write taken taken' (λ m v w given. OpensStream s m v w given before after r)
+    → IfSome a (λ m. IfSome b
+    (λ v. IfSome c (λ w. OutletTakes taken taken' (λ given. OpensThrice s m v w given r))))
+opened_thrice None b c measure verify write taken taken' s before after r d e f h = tt
+opened_thrice (Some x) None c measure verify write taken taken' s before after r d e f h = tt
+opened_thrice (Some x) (Some y) None measure verify write taken taken' s before after r d e f h = tt
+opened_thrice (Some x) (Some y) (Some z) measure verify write None taken' s before after r d e f h = tt
+opened_thrice (Some x) (Some y) (Some z) measure verify write (Some t) taken' s before after r d e f h =
+    let T : List ℕ → List ℕ → List ℕ → List ℕ → Type 0 = λ m v w given. OpensStream s m v w given before
+    after r in
+    let P : Option (List ℕ) → Type 0 = λ l. IfAllKnown l verify write (Some t) taken' T in
+    let Q : Option (List ℕ) → Type 0 = λ l. IfAllKnown (Some x) l write (Some t) taken' T in
+    let R : Option (List ℕ) → Type 0 = λ l. IfAllKnown (Some x) (Some y) l (Some t) taken' T in
+    let k = subst R f (subst Q e (subst P d h)) in
+    (k.0, k.1, record { before = before; after = after; is = k.2 })
+
+-- dropping from no bytes leaves none
+none_left : (w : ℕ) (p : List ℕ) → p ≡ [] → drop w p ≡ []
+none_left w p e = rw e (drop_all {X = ℕ} w [] (omega arith))
+
+-- known bytes that are the same are kept
+keeps_same : (a b : Option (List ℕ)) → b ≡ a → Keeps a b
+keeps_same None b e = tt
+keeps_same (Some x) None e = absurd (cc)
+keeps_same (Some x) (Some y) e = (cc)
+
+-- a file holds all that was given, once nothing is pending
+holds_all : (P : List ℕ → Type 0) (taken taken' held : Option (List ℕ)) (pending : List ℕ)
+    → OutletTakes taken taken' P → Keeps taken' (append_known held pending) → pending ≡ [] → HoldsAll taken held P
+holds_all P None taken' held pending t k e = tt
+holds_all P (Some x) None held pending t k e = absurd t.1
+holds_all P (Some x) (Some y) None pending t k e = absurd k
+holds_all P (Some x) (Some y) (Some h) pending t k e =
+    (t.0, ap Some (sym (append-nil h) ∙ ap (λ l. h ++ l) (sym e) ∙ k ∙ t.1), t.2)
+
+-- a file holds a beginning of what was given
+holds_start : (P : List ℕ → Type 0) (taken taken' held : Option (List ℕ)) (pending : List ℕ)
+    → OutletTakes taken taken' P → Keeps taken' (append_known held pending) → HoldsStart taken held P
+holds_start P None taken' held pending t k = tt
+holds_start P (Some x) None held pending t k = absurd t.1
+holds_start P (Some x) (Some y) None pending t k = absurd k
+holds_start P (Some x) (Some y) (Some h) pending t k = (
+  t.0,
+  (h, refl, (length h, sym (take-append_seam h pending) ∙ ap (λ l. take (length h) l) (k ∙ t.1))),
+  t.2,
+)
+
+-- a file holds a beginning of what was taken before
+holds_nothing : (taken held : Option (List ℕ)) (pending : List ℕ)
+    → Keeps taken (append_known held pending) → HoldsNothing taken held
+holds_nothing None held pending k = tt
+holds_nothing (Some x) None pending k = absurd k
+holds_nothing (Some x) (Some h) pending k =
+    (h, refl, (length h, sym (take-append_seam h pending) ∙ ap (λ l. take (length h) l) k))
+
+-- an engine's result over one reading, for what is given in another way
+map_one : (a : Option (List ℕ)) (X Y : List ℕ → Type 0) → ((x : List ℕ) → X x → Y x)
+    → IfSome a (λ x. X x) → IfSome a (λ x. Y x)
+map_one None X Y f h = tt
+map_one (Some x) X Y f h = f x h
+
+-- an engine's result over two readings, for what is given in another way
+map_two : (a b : Option (List ℕ)) (X Y : List ℕ → List ℕ → Type 0) → ((x y : List ℕ) → X x y → Y x y)
+    → IfSome a (λ x. IfSome b (λ y. X x y)) → IfSome a (λ x. IfSome b (λ y. Y x y))
+map_two None b X Y f h = tt
+map_two (Some x) None X Y f h = tt
+map_two (Some x) (Some y) X Y f h = f x y h
+
+-- an engine's result over three readings, for what is given in another way
+map_three : (a b c : Option (List ℕ)) (X Y : List ℕ → List ℕ → List ℕ → Type 0)
+    → ((x y z : List ℕ) → X x y z → Y x y z) → IfSome a (λ x. IfSome b (λ y. IfSome c (λ z. X x y z)))
+    → IfSome a (λ x. IfSome b (λ y. IfSome c (λ z. Y x y z)))
+map_three None b c X Y f h = tt
+map_three (Some x) None c X Y f h = tt
+map_three (Some x) (Some y) None X Y f h = tt
+map_three (Some x) (Some y) (Some z) X Y f h = f x y z h
+
+-- an engine's relation that holds for a way of giving also holds for each weaker one
+abbrev Weakens : (Giving → Setting → Answer → Type 0) → Type 1
+Weakens engine = (G H : Giving) → ((P : List ℕ → Type 0) → G P → H P) → (s : Setting) (r : Answer)
+    → engine G s r → engine H s r
+
+-- sealing, in one reading or in two, also holds for each weaker way of giving
+sealing_by_weakens : (one : Bool) (readings : ℕ → Option (List ℕ)) → Weakens (SealingBy one readings)
+sealing_by_weakens true readings G H f s r h =
+    map_one (readings 0) (λ a. G (λ given. SealsOnce s a given r)) (λ a. H (λ given. SealsOnce s a given r))
+    (λ a. f (λ given. SealsOnce s a given r)) h
+sealing_by_weakens false readings G H f s r h =
+    map_two (readings 0) (readings 1) (λ a b. G (λ given. SealsTwice s a b given r))
+    (λ a b. H (λ given. SealsTwice s a b given r)) (λ a b. f (λ given. SealsTwice s a b given r)) h
+
+-- the engine of a file command also holds for each weaker way of giving
+engine_weakens : (command : FileCommand) (readings : ℕ → Option (List ℕ))
+    → Weakens (Engine command readings)
+engine_weakens Seal readings G H f s r h =
+    sealing_by_weakens (is_one_pass (construction_of s.suite)) readings G H f s r h
+engine_weakens Open readings G H f s r h =
+    map_three (readings 0) (readings 1) (readings 2) (λ m v w. G (λ given. OpensThrice s m v w given r))
+    (λ m v w. H (λ given. OpensThrice s m v w given r)) (λ m v w. f (λ given. OpensThrice s m v w given r)) h
+
+-- an engine that is done opened its files
+pub ran_ok : (engine : Giving → Setting → Answer → Type 0) (s : Setting) (taken taken' : Option (List ℕ))
+    (u : Unit {0}) → EngineRan engine s taken taken' (Ok u) → engine (OutletTakes taken taken') s (Ok u)
+ran_ok engine s taken taken' u (inl h) = let no : ⊥ = elim h.0 [ inl e ↦ (cc) | inr e ↦ (cc) ] in absurd no
+ran_ok engine s taken taken' u (inr h) = h
+
+-- an engine's fault, under inputs that are ready
+pub ran_err : (engine : Giving → Setting → Answer → Type 0) (words : Inputs) (keyed : Keyed)
+    (nonce aad body : List ℕ) (taken taken' : Option (List ℕ)) (f : Fault)
+    → IsReady words keyed nonce aad body → EngineRan engine (setting keyed nonce aad) taken taken' (Err f)
+    → (NoCall words (OfFault f) × (taken' ≡ taken)) ⊎ CallFailed
+    (λ s body e. engine (OutletTakes taken taken') s (Err e)) words (OfFault f)
+ran_err engine words keyed nonce aad body taken taken' f ready (inl h) =
+    let why : (OfFault f ≡ OfFault Read) ⊎ (OfFault f ≡ OfFault OutOfMemory) = elim h.0
+    [ inl e ↦ inl (cc) | inr e ↦ inr (cc) ] in
+    inl (inr why, h.1)
+ran_err engine words keyed nonce aad body taken taken' f ready (inr h) = inr (record {
+  fault = f;
+  is = refl;
+  call = record { keyed = keyed; nonce = nonce; aad = aad; body = body; ready = ready; is = h };
+})
+
+-- a call for which P holds is one for which Q holds, if P implies Q
+map_call : (words : Inputs) (P Q : Setting → List ℕ → Type 0)
+    → ((s : Setting) (body : List ℕ) → P s body → Q s body) → IsCalled words P → IsCalled words Q
+map_call words P Q f h = record {
+  keyed = h.keyed;
+  nonce = h.nonce;
+  aad = h.aad;
+  body = h.body;
+  ready = h.ready;
+  is = f (setting h.keyed h.nonce h.aad) h.body h.is;
+}
+
+-- a file command whose engine did not run, or returned a fault, is stopped
+pub exit_err : (command : FileCommand) (readings : ℕ → Option (List ℕ)) (words : Inputs)
+    (taken held : Option (List ℕ)) (pending : List ℕ) (e : Failure)
+    → Ran (Engine command readings) words taken (append_known held pending) (Err e)
+    → FileStopped (Engine command readings) words taken held e
+exit_err command readings words taken held pending e (inl h) =
+    inl (h.0, holds_nothing taken held pending (keeps_same _ _ h.1))
+exit_err command readings words taken held pending e (inr h) =
+    let given : Option (List ℕ) = append_known held pending in
+    inr (record {
+      fault = h.fault;
+      is = h.is;
+      call = map_call words _ _ (λ s body k. inl (engine_weakens command readings (OutletTakes taken given)
+          (HoldsStart taken held)
+          (λ Q t. holds_start Q taken given held pending t (keeps_same given given refl))
+          s (Err h.fault) k)) h.call;
+    })
+
+-- a file command whose last write failed is stopped with `Write`
+pub exit_write : (command : FileCommand) (readings : ℕ → Option (List ℕ)) (words : Inputs)
+    (taken given held : Option (List ℕ)) (pending : List ℕ)
+    → IsCalled words (λ s body. Engine command readings (OutletTakes taken given) s (Ok tt))
+    → Keeps given (append_known held pending)
+    → FileStopped (Engine command readings) words taken held (OfFault Write)
+exit_write command readings words taken given held pending h k = inr (record {
+  fault = Write;
+  is = refl;
+  call = map_call words _ _ (λ s body j. inr (
+    refl,
+    engine_weakens command readings (OutletTakes taken given)
+        (HoldsStart taken held) (λ Q t. holds_start Q taken given held pending t k) s (Ok tt) j,
+  )) h;
+})
+
+-- a file command whose engine is done is done once nothing is pending
+pub exit_done : (command : FileCommand) (readings : ℕ → Option (List ℕ)) (words : Inputs)
+    (taken given held : Option (List ℕ)) (w : ℕ) (pending : List ℕ)
+    → IsCalled words (λ s body. Engine command readings (OutletTakes taken given) s (Ok tt))
+    → Keeps given (append_known held (drop w pending)) → pending ≡ []
+    → FileDone (Engine command readings) words taken held
+exit_done command readings words taken given held w pending h k e =
+    map_call words _ _ (λ s body. engine_weakens command readings (OutletTakes taken given) (HoldsAll taken held)
+    (λ Q t. holds_all Q taken given held (drop w pending) t k (none_left w pending e)) s (Ok tt)) h

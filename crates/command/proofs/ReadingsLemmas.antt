@@ -1,0 +1,32 @@
+-- The bytes that were taken of a reading, and those that it has left.
+use Rattle.std.proofs.Common.{◌≡◌, ℕ, List, [], ◌++◌, Option, Some, None, IfSome, ap, sym, ◌∙◌, append_assoc}
+use Rattle.std.proofs.lemmas.List.{append-nil}
+use Rattle.command.proofs.NewFileLemmas.{keeps_more}
+use Rattle.std.specs.Io.KnownBytes.{Keeps, Consumes, IsAtEnd, prepend_known}
+
+-- none were taken
+pub took_none : (left : Option (List ℕ)) (p : List ℕ) → p ≡ []
+    → Keeps (prepend_known [] left) (prepend_known p left)
+took_none None p e = tt
+took_none (Some u) p e = ap (λ l. l ++ u) e
+
+-- more were taken
+pub took_more : (old new : Option (List ℕ)) (p q x : List ℕ) → Consumes old new x → q ≡ p ++ x
+    → Keeps (prepend_known p old) (prepend_known q new)
+took_more None new p q x h e = tt
+took_more (Some u) None p q x h e = absurd h
+took_more (Some u) (Some v) p q x h e = rw e (append_assoc p x v ∙ ap (λ l. p ++ l) (sym h))
+
+-- all were
+took_all : (old new : Option (List ℕ)) (p : List ℕ) → Keeps (prepend_known [] old) (prepend_known p new)
+    → IsAtEnd new → IfSome old (λ bytes. p ≡ bytes)
+took_all None new p h e = tt
+took_all (Some u) None p h e = absurd h
+took_all (Some u) (Some v) p h e = sym (append-nil p) ∙ ap (λ l. p ++ l) (sym e) ∙ h
+
+-- the last ones were taken
+pub took_last : (first old new : Option (List ℕ)) (p q : List ℕ)
+    → Keeps (prepend_known [] first) (prepend_known p old) → Keeps (prepend_known p old) (prepend_known q new)
+    → IsAtEnd new → IfSome first (λ bytes. q ≡ bytes)
+took_last first old new p q h k e = took_all first new q
+    (keeps_more (prepend_known [] first) (prepend_known p old) (prepend_known q new) h k) e

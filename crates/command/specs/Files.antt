@@ -1,0 +1,116 @@
+-- The results of the file commands, and the contents of the file that they write.
+use Rattle.std.specs.Prelude.{◌≡◌, ℕ, ◌⊎◌, Bool, true, false, List, ◌++◌, Option, Some, Result, Ok, Err}
+use Rattle.std.specs.Prelude.{MatchResult, IfSome}
+use Rattle.std.specs.Io.KnownBytes.{Appends}
+use Rattle.octets.specs.declared.fault.Fault.{Fault}
+use Rattle.octets.specs.declared.fault.Fault.TheVariants.{Read, Write, OutOfMemory}
+use Rattle.aead.specs.Suites.{construction_of, is_one_pass}
+use Rattle.aead.specs.Sealing.{Setting}
+use Rattle.aead.specs.SealStream.{SealsStream}
+use Rattle.aead.specs.SealSivStream.{SealsSivStream, SivCounts}
+use Rattle.aead.specs.Verdict.{OpensStream, FailureCounts, IsBeginning}
+use Rattle.command.specs.declared.failure.Failure.{Failure}
+use Rattle.command.specs.declared.failure.Failure.TheVariants.{Fault as OfFault}
+use Rattle.command.specs.declared.words.Inputs.{Inputs}
+use Rattle.command.specs.declared.words.FileCommand.{FileCommand}
+use Rattle.command.specs.declared.words.FileCommand.TheVariants.{Seal, Open}
+use Rattle.command.specs.Aead.{InputsRefused, IsCalled, CallFailed}
+
+-- an engine's result, for what it gave
+abbrev pub Answer : Type 0
+Answer = Result (Unit {0}) Fault
+
+-- the bytes given of a text whose tag is over the ciphertext, whatever the counts of failures
+pub record SealsOnce (s : Setting) (a given : List ℕ) (r : Answer) : Type 0 where
+  pub read : ℕ
+  pub read' : ℕ
+  pub wrote : ℕ
+  pub wrote' : ℕ
+  pub is : SealsStream s a given read read' wrote wrote' r
+
+-- the bytes given of two readings of a text by AES-GCM-SIV
+pub record SealsTwice (s : Setting) (a b given : List ℕ) (r : Answer) : Type 0 where
+  pub before : SivCounts
+  pub after : SivCounts
+  pub is : SealsSivStream s a b given before after r
+
+-- the bytes given of three readings of sealed bytes
+pub record OpensThrice (s : Setting) (m v w given : List ℕ) (r : Answer) : Type 0 where
+  pub before : FailureCounts
+  pub after : FailureCounts
+  pub is : OpensStream s m v w given before after r
+
+-- a relation between what is given and the result, if what was given is known
+abbrev pub Giving : Type 1
+Giving = (List ℕ → Type 0) → Type 0
+
+-- sealing in one reading, or else in two, if the bytes of the readings are known
+abbrev pub SealingBy : Bool → (ℕ → Option (List ℕ)) → Giving → Setting → Answer → Type 0
+SealingBy true readings giving s r = IfSome (readings 0) (λ a. giving (λ given. SealsOnce s a given r))
+SealingBy false readings giving s r =
+    IfSome (readings 0) (λ a. IfSome (readings 1) (λ b. giving (λ given. SealsTwice s a b given r)))
+
+-- sealing, in as many readings as the suite takes
+abbrev pub Sealing : (ℕ → Option (List ℕ)) → Giving → Setting → Answer → Type 0
+Sealing readings giving s r = SealingBy (is_one_pass (construction_of s.suite)) readings giving s r
+
+-- opening, if the bytes of the readings are known
+abbrev pub Opening : (ℕ → Option (List ℕ)) → Giving → Setting → Answer → Type 0
+Opening readings giving s r = IfSome (readings 0) (λ m. IfSome (readings 1) (λ v. IfSome (readings 2) (λ w.
+    giving (λ given. OpensThrice s m v w given r))))
+
+-- the engine of a file command
+abbrev pub Engine : FileCommand → (ℕ → Option (List ℕ)) → Giving → Setting → Answer → Type 0
+Engine Seal readings giving s r = Sealing readings giving s r
+Engine Open readings giving s r = Opening readings giving s r
+
+-- the outlet took some bytes, with this property
+abbrev pub OutletTakes : Option (List ℕ) → Option (List ℕ) → Giving
+OutletTakes taken taken' P =
+    IfSome taken (λ before. (given : List ℕ) × Appends (Some before) taken' given × P given)
+
+-- a file holds what was taken before, then all bytes that were given; these have this property
+abbrev pub HoldsAll : Option (List ℕ) → Option (List ℕ) → Giving
+HoldsAll taken held P = IfSome taken (λ before. (given : List ℕ) × (held ≡ Some (before ++ given)) × P given)
+
+-- a file holds a beginning of what was taken before and the bytes that were given; these have this property
+abbrev pub HoldsStart : Option (List ℕ) → Option (List ℕ) → Giving
+HoldsStart taken held P =
+    IfSome taken (λ before. (given : List ℕ)
+    × ((h : List ℕ) × (held ≡ Some h) × IsBeginning h (before ++ given)) × P given)
+
+-- no call was made: the words give no inputs, or a file was not opened
+abbrev pub NoCall : Inputs → Failure → Type 0
+NoCall words e = InputsRefused words e ⊎ ((e ≡ OfFault Read) ⊎ (e ≡ OfFault OutOfMemory))
+
+-- an engine returned, or a file was not opened and nothing was given
+abbrev pub EngineRan : (Giving → Setting → Answer → Type 0) → Setting → Option (List ℕ) → Option (List ℕ)
+    → Answer → Type 0
+EngineRan engine s taken taken' r =
+    (((r ≡ Err Read) ⊎ (r ≡ Err OutOfMemory)) × (taken' ≡ taken)) ⊎ engine (OutletTakes taken taken') s r
+
+-- an engine ran over readings into an outlet, or there was no call and nothing was given
+abbrev pub Ran : (Giving → Setting → Answer → Type 0) → Inputs → Option (List ℕ) → Option (List ℕ)
+    → Result (Unit {0}) Failure → Type 0
+Ran engine words taken taken' r = MatchResult r
+    (λ _. IsCalled words (λ s body. engine (OutletTakes taken taken') s (Ok tt)))
+    (λ e. (NoCall words e × (taken' ≡ taken))
+    ⊎ CallFailed (λ s body f. engine (OutletTakes taken taken') s (Err f)) words e)
+
+-- a file command is done: the file holds what the engine gave
+abbrev pub FileDone : (Giving → Setting → Answer → Type 0) → Inputs → Option (List ℕ) → Option (List ℕ)
+    → Type 0
+FileDone engine words taken held = IsCalled words (λ s body. engine (HoldsAll taken held) s (Ok tt))
+
+-- the file holds a beginning of what was taken before
+abbrev pub HoldsNothing : Option (List ℕ) → Option (List ℕ) → Type 0
+HoldsNothing taken held = IfSome taken (λ before. (h : List ℕ) × (held ≡ Some h) × IsBeginning h before)
+
+-- a file command came to nothing: the file holds a beginning of what the engine gave, which returned this
+-- fault, or was done before the last write failed
+abbrev pub FileStopped : (Giving → Setting → Answer → Type 0) → Inputs → Option (List ℕ) → Option (List ℕ)
+    → Failure → Type 0
+FileStopped engine words taken held e =
+    (NoCall words e × HoldsNothing taken held)
+    ⊎ CallFailed (λ s body f. engine (HoldsStart taken held) s (Err f)
+    ⊎ ((f ≡ Write) × engine (HoldsStart taken held) s (Ok tt))) words e

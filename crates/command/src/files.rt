@@ -1,0 +1,195 @@
+//! The file commands: a file is sealed or opened into another, in memory of a fixed size.
+ghost use Rattle.std.specs.Prelude.{◌≡◌, true, false, is_some, IfOk, IfErr, MatchResult};
+ghost use Rattle.octets.specs.Device.{Failed};
+ghost use Rattle.aead.specs.Suites.{ByGcmSiv, construction_of, is_one_pass};
+ghost use Rattle.aead.specs.Ciphers.{setting};
+ghost use Rattle.aead.specs.AnyCiphers.{one_pass_keyed, keyed_of};
+ghost use Rattle.command.specs.Blames.{InputFailed, OutputFailed, Blames};
+ghost use Rattle.command.specs.Files.{SealingBy, Opening, Engine, EngineRan, Ran};
+ghost use Rattle.command.specs.Files.{FileDone, FileStopped};
+ghost use Rattle.command.specs.NewFiles.{held};
+ghost use Rattle.command.specs.declared.failure.Failure.TheVariants.{Fault as OfFault};
+
+use crate::commands::prepare;
+use crate::failure::Failure;
+use crate::new_file::NewFile;
+use crate::readings::reading;
+use crate::storage::Storage;
+use crate::words::{FileCommand, FileRequest};
+use aead::{
+    AnyAead, AnyOnePass, GcmSiv, Sealer, SivAbsorb, open_stream, seal_siv_stream, seal_stream,
+};
+use octets::{Fault, Nonce, Outlet};
+use std::alloc::Allocator;
+
+// Seals a file into an outlet, in one reading.
+#[tactic(auto, using(crate::proofs::BlamesLemmas::unopened_blames))]
+fn seal_once<F: Storage, O: Outlet>(
+    files: &F,
+    path: &str,
+    cipher: &AnyOnePass,
+    nonce: &Nonce,
+    aad: &[u8],
+    out: &mut O,
+) -> Result<(), Fault>
+    ensures ran { EngineRan (SealingBy true (F.contents files.now path.now))
+        (setting (one_pass_keyed cipher.now) nonce.now aad.now)
+        (O.taken out.old) (O.taken out.new) result }
+    ensures blame { Blames (λ f. f) (InputFailed (F.open_may_fail files.now path.now) F.Input.failures)
+        (Failed (O.failures out.old) (O.failures out.new)) result }
+{
+    let mut text = reading(files, path, 0)?;
+    seal_stream(cipher, nonce, aad, &mut text, out)
+}
+
+// Seals a file into an outlet by AES-GCM-SIV, in two readings.
+#[tactic(auto, using(crate::proofs::BlamesLemmas::unopened_blames))]
+fn seal_twice<F: Storage, O: Outlet>(
+    files: &F,
+    path: &str,
+    cipher: &GcmSiv,
+    nonce: &Nonce,
+    aad: &[u8],
+    out: &mut O,
+) -> Result<(), Fault>
+    ensures ran { EngineRan (SealingBy false (F.contents files.now path.now))
+        (setting cipher.now nonce.now aad.now)
+        (O.taken out.old) (O.taken out.new) result }
+    ensures blame { Blames (λ f. f) (InputFailed (F.open_may_fail files.now path.now) F.Input.failures)
+        (Failed (O.failures out.old) (O.failures out.new)) result }
+{
+    let mut first = reading(files, path, 0)?;
+    let mut second = reading(files, path, 1)?;
+    seal_siv_stream(cipher, nonce, aad, &mut first, &mut second, out)
+}
+
+// The suite of such a cipher seals in one reading: the contract of a sealing state says so.
+fn takes_one_reading(cipher: &AnyOnePass, nonce: &Nonce)
+    ensures { is_one_pass (construction_of (one_pass_keyed cipher.now).suite) ≡ true }
+{
+    let _ = Sealer::new(cipher, nonce, &[]);
+}
+
+// The suite of such a cipher seals in two readings: the contract of a first reading's state says so.
+fn takes_two_readings(cipher: &GcmSiv, nonce: &Nonce)
+    ensures { construction_of cipher.now.suite ≡ ByGcmSiv }
+{
+    let _ = SivAbsorb::new(cipher, nonce, &[]);
+}
+
+// Opens a file into an outlet, in three readings.
+#[tactic(auto, using(crate::proofs::BlamesLemmas::unopened_blames))]
+fn open_thrice<F: Storage, O: Outlet>(
+    files: &F,
+    path: &str,
+    cipher: &AnyAead,
+    nonce: &Nonce,
+    aad: &[u8],
+    out: &mut O,
+) -> Result<(), Fault>
+    ensures ran { EngineRan (Opening (F.contents files.now path.now))
+        (setting (keyed_of cipher.now) nonce.now aad.now)
+        (O.taken out.old) (O.taken out.new) result }
+    ensures blame { Blames (λ f. f) (InputFailed (F.open_may_fail files.now path.now) F.Input.failures)
+        (Failed (O.failures out.old) (O.failures out.new)) result }
+{
+    let mut measure = reading(files, path, 0)?;
+    let mut verify = reading(files, path, 1)?;
+    let mut write = reading(files, path, 2)?;
+    open_stream(
+        cipher,
+        nonce,
+        aad,
+        &mut measure,
+        &mut verify,
+        &mut write,
+        out,
+    )
+}
+
+// Runs a command's engine from a file into an outlet, under any cipher.
+fn write_by<F: Storage, O: Outlet>(
+    files: &F,
+    words: &FileRequest<'_>,
+    cipher: &AnyAead,
+    nonce: &Nonce,
+    aad: &[u8],
+    out: &mut O,
+) -> Result<(), Fault>
+    ensures ran { EngineRan (Engine words.now.command (F.contents files.now words.now.input.now))
+        (setting (keyed_of cipher.now) nonce.now aad.now)
+        (O.taken out.old) (O.taken out.new) result }
+    ensures blame { Blames (λ f. f)
+        (InputFailed (F.open_may_fail files.now words.now.input.now) F.Input.failures)
+        (Failed (O.failures out.old) (O.failures out.new)) result }
+{
+    match words.command {
+        FileCommand::Seal => match cipher {
+            AnyAead::OnePass(cipher) => {
+                takes_one_reading(cipher, nonce);
+                seal_once(files, words.input, cipher, nonce, aad, out)
+            }
+            AnyAead::Siv(cipher) => {
+                takes_two_readings(cipher, nonce);
+                seal_twice(files, words.input, cipher, nonce, aad, out)
+            }
+        },
+        FileCommand::Open => open_thrice(files, words.input, cipher, nonce, aad, out),
+    }
+}
+
+// Runs a command's engine from a file into an outlet, for the inputs that the words give.
+fn write<A: Allocator, F: Storage, O: Outlet>(
+    alloc: &A,
+    files: &F,
+    words: &FileRequest<'_>,
+    out: &mut O,
+) -> Result<(), Failure>
+    ensures ran { Ran (Engine words.now.command (F.contents files.now words.now.input.now)) words.now.inputs
+        (O.taken out.old) (O.taken out.new) result }
+    ensures blame { Blames OfFault
+        (InputFailed (F.open_may_fail files.now words.now.input.now) F.Input.failures)
+        (Failed (O.failures out.old) (O.failures out.new)) result }
+{
+    let inputs = prepare(alloc, &words.inputs)?;
+    Ok(write_by(
+        files,
+        words,
+        &inputs.cipher,
+        &inputs.nonce,
+        &inputs.aad,
+        out,
+    )?)
+}
+
+/// `seal-file` and `open-file`: seals or opens a file into another, and returns status 0. Faults, in this
+/// order: those of the inputs, `Read` if the file can't be opened, and those of the engine. Of sealing these
+/// are `AadTooLong`, `TextTooLong` once more than the suite's limit was read, `Read`, `Write`, and for
+/// AES-GCM-SIV `SourceChanged`; then the written file holds a beginning of what it should hold, or was not
+/// made. Of opening they are `AadTooLong`, then those of its three readings. Nothing is written before a
+/// whole reading was found to be a sealing. After `SourceChanged`, `Read` and `Write` the written file holds
+/// a beginning of a text, which is to be thrown away, or was not made.
+pub fn write_file<'a, A: Allocator, B: Allocator, F: Storage>(
+    alloc: &A,
+    files: &F,
+    words: &FileRequest<'_>,
+    file: &mut NewFile<'a, F, B>,
+) -> Result<u8, Failure>
+    ensures answer { MatchResult result
+        (λ _. FileDone (Engine words.now.command (F.contents files.now words.now.input.now)) words.now.inputs
+        (⟦<NewFile<'a, F, B> as Outlet>⟧.taken file.old)
+        (held (F.blank file.new.files.now) F.Output.taken file.new.file))
+        (FileStopped (Engine words.now.command (F.contents files.now words.now.input.now)) words.now.inputs
+        (⟦<NewFile<'a, F, B> as Outlet>⟧.taken file.old)
+        (held (F.blank file.new.files.now) F.Output.taken file.new.file)) }
+    ensures made { IfOk result (λ _. is_some file.new.file ≡ true) }
+    // `Read` comes only if the input failed, and `Write` only if the output failed.
+    ensures blame { Blames OfFault
+        (InputFailed (F.open_may_fail files.now words.now.input.now) F.Input.failures)
+        (OutputFailed (F.make_may_fail file.new.files.now) F.Output.failures) result }
+    ensures status { IfOk result (λ status. status ≡ 0) }
+{
+    write(alloc, files, words, file)?;
+    file.finish()?;
+    Ok(0)
+}

@@ -1,0 +1,21 @@
+//! The command line of `aeadkit`: what the program does with the words after its name, over a storage of files and a
+//! writer for each standard stream.
+#![tactic(auto)]
+
+mod commands;
+mod failure;
+mod files;
+mod help;
+mod new_file;
+mod program;
+mod readings;
+mod storage;
+mod subcommands;
+mod version;
+mod words;
+
+pub use failure::Failure;
+pub use program::{perform, report, run, write_new_file};
+pub use storage::{Disk, Storage};
+pub use version::VERSION;
+pub use words::{FileCommand, FileRequest, Inputs, PrintRequest, Request};

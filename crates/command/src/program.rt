@@ -1,0 +1,206 @@
+//! The program, over a writer for each stream.
+ghost use Rattle.std.specs.Prelude.{◌≤◌, ◌≡◌, ◌↔◌, ◌⊎◌, ⊤, [], Err, IfOk, IfErr, MatchResult};
+ghost use Rattle.std.specs.Prelude.{string_bytes};
+ghost use Rattle.std.specs.Io.KnownBytes.{Appends};
+ghost use Rattle.command.specs.Answers.{Answered, Stopped, IsOutputFailure};
+ghost use Rattle.command.specs.Answers.{IsRefusedAs};
+ghost use Rattle.command.specs.Blames.{InputFailed, Blames, RequestBlames};
+ghost use Rattle.command.specs.declared.failure.Failure.TheVariants.{Fault as OfFault};
+ghost use Rattle.command.specs.Hex.{hex_line};
+ghost use Rattle.command.specs.Reports.{report_text, IsChecked, FileRefused};
+ghost use Rattle.command.specs.Statuses.{failure_status};
+
+use crate::failure::{Failure, fault_of};
+use crate::files::write_file;
+use crate::new_file::NewFile;
+use crate::storage::Storage;
+use crate::version::VERSION;
+use crate::words::{FileRequest, PrintRequest, Refusal, Request};
+use crate::{commands, words};
+use octets::Fault;
+use std::alloc::{AllocError, Allocator, Global};
+use std::convert::AsStr;
+use std::io::Write;
+use vectors::Report;
+
+// Writes text to standard output, and returns status 0. The only faults are `Write` and `OutOfMemory`.
+fn print<W: Write>(out: &mut W, text: &str) -> Result<u8, Failure>
+    ensures { MatchResult result
+        (λ status. (status ≡ 0) × Appends (W.contents out.old) (W.contents out.new) text.now)
+        IsOutputFailure }
+{
+    if let Err(error) = out.write_all(text.as_bytes()) {
+        return Err(Failure::Fault(fault_of(&error, Fault::Write)));
+    }
+    if let Err(error) = out.flush() {
+        return Err(Failure::Fault(fault_of(&error, Fault::Write)));
+    }
+    Ok(0)
+}
+
+// Prints the value that a command returns as one line of lower-case hexadecimal, and returns status 0. A refusal is
+// passed on, and else the only faults are `Write` and `OutOfMemory`.
+fn print_value<A: Allocator + Copy, W: Write>(
+    alloc: A,
+    out: &mut W,
+    value: Result<Vec<u8, A>, Failure>,
+) -> Result<u8, Failure>
+    ensures { MatchResult value
+        (λ v. MatchResult result
+        (λ status. (status ≡ 0) × Appends (W.contents out.old) (W.contents out.new) (hex_line v.items))
+        IsOutputFailure)
+        (λ e. result ≡ Err e) }
+{
+    let mut line = hex::encode(alloc, &value?)?;
+    line.push('\n')?;
+    print(out, &line)
+}
+
+// The text of a report: the number of records, then a line for each bad one.
+fn report_text<A: Allocator>(alloc: A, records: u64, bad: &[u64]) -> Result<String<A>, AllocError>
+    ensures { IfOk result (λ text. string_bytes text ≡ report_text records bad.now) }
+{
+    let mut text = String::new(alloc);
+    writeln!(text, "records {records}")?;
+    for number in bad {
+        writeln!(text, "bad {number}")?;
+    }
+    Ok(text)
+}
+
+// The status of a report: 0 if there are records and none is bad, else 1.
+fn report_status<A: Allocator>(report: &Report<A>) -> u8
+    ensures yes { (result ≡ 0) ↔ ((1 ≤ report.now.records) × (report.now.bad.items ≡ [])) }
+    ensures bound { result ≤ 1 }
+{
+    if report.yes() { 0 } else { 1 }
+}
+
+// Prints the report of a vector file, and returns status 0, or 1 if a record is bad or there are none.
+fn print_checking<A: Allocator, F: Storage, W: Write>(
+    alloc: &A,
+    files: &F,
+    path: &str,
+    out: &mut W,
+) -> Result<u8, Failure>
+    ensures answer { MatchResult result
+        (IsChecked (F.contents files.now path.now 0) (W.contents out.old) (W.contents out.new))
+        (λ e. FileRefused (F.contents files.now path.now 0) e ⊎ IsOutputFailure e) }
+    ensures blame { Blames OfFault
+        (InputFailed (F.open_may_fail files.now path.now) F.Input.failures) ⊤ result }
+    ensures status { IfOk result (λ status. status ≤ 1) }
+{
+    let report = commands::check(alloc, files, path)?;
+    let text = report_text(alloc, report.records, &report.bad)?;
+    print(out, &text)?;
+    Ok(report_status(&report))
+}
+
+/// Does what a request asks for: prints its answer, and returns the status, 0, or 1 for a file with bad
+/// records. Faults, in this order: those of its values, those of the call, `Write`; `OutOfMemory` wherever an
+/// allocation fails.
+pub fn perform<A: Allocator, F: Storage, W: Write>(
+    alloc: &A,
+    files: &F,
+    request: &PrintRequest<'_>,
+    out: &mut W,
+) -> Result<u8, Failure>
+    // On Ok the right answer was printed; on Err the failure is one that the request can have.
+    ensures answer { MatchResult result
+        (Answered (F.contents files.now) (W.contents out.old) (W.contents out.new) request.now)
+        (Stopped (F.contents files.now) request.now) }
+    // A file's `Read` comes only if the input failed.
+    ensures blame { RequestBlames
+        (λ path. InputFailed (F.open_may_fail files.now path) F.Input.failures) request.now result }
+    ensures status { IfOk result (λ status. status ≤ 1) }
+{
+    match request {
+        PrintRequest::Seal(inputs) => print_value(alloc, out, commands::seal(alloc, inputs)),
+        PrintRequest::Open(inputs) => print_value(alloc, out, commands::open(alloc, inputs)),
+        PrintRequest::Wrap { key, text, pad } => {
+            print_value(alloc, out, commands::wrap(alloc, key, text, *pad))
+        }
+        PrintRequest::Unwrap { key, sealed, pad } => {
+            print_value(alloc, out, commands::unwrap(alloc, key, sealed, *pad))
+        }
+        PrintRequest::Check { path } => print_checking(alloc, files, path, out),
+    }
+}
+
+// Prints the help or the version that was asked for, or says why the words are no request.
+fn refuse<W: Write>(alloc: Global, refusal: &Refusal, out: &mut W) -> Result<u8, Failure>
+    ensures answer { IsRefusedAs refusal.now (W.contents out.old) (W.contents out.new) result }
+    ensures status { IfOk result (λ status. status ≤ 1) }
+{
+    match refusal {
+        Refusal::Help(help) => {
+            let text = format!(in alloc; "{help}")?;
+            print(out, &text)
+        }
+        Refusal::Version => {
+            let line = format!(in alloc; "aeadkit {VERSION}\n")?;
+            print(out, &line)
+        }
+        Refusal::Words => Err(Failure::Words),
+        Refusal::OutOfMemory => Err(Failure::Fault(Fault::OutOfMemory)),
+    }
+}
+
+/// Says on standard error why the program stops, and returns the status. A failing standard error changes
+/// nothing.
+pub fn report<E: Write>(err: &mut E, failure: Failure) -> u8
+    ensures value { result ≡ failure_status failure }
+    ensures bound { result ≤ 4 }
+{
+    let _ = writeln!(err, "aeadkit: {failure}");
+    failure.status()
+}
+
+/// Writes the file that a request names, and returns status 0. The file is closed when this returns.
+pub fn write_new_file<A: Allocator, F: Storage>(
+    alloc: &A,
+    files: &F,
+    request: &FileRequest<'_>,
+) -> Result<u8, Failure>
+    ensures { IfOk result (λ status. status ≡ 0) }
+{
+    let mut file = NewFile::new(alloc, files, request.output)?;
+    write_file(alloc, files, request, &mut file)
+}
+
+// Does what the words after the program's name ask for.
+fn answer<S: AsStr, F: Storage, W: Write>(
+    alloc: Global,
+    files: &F,
+    words: &[S],
+    out: &mut W,
+) -> Result<u8, Failure>
+    ensures { IfOk result (λ status. status ≤ 1) }
+{
+    match words::read(alloc, words) {
+        Ok(Request::Print(request)) => perform(&alloc, files, &request, out),
+        Ok(Request::Write(request)) => write_new_file(&alloc, files, &request),
+        Err(refusal) => refuse(alloc, &refusal, out),
+    }
+}
+
+/// Runs the program on the words after its name, and returns its status: 0 if it is done, 1 if bytes are no
+/// sealing or wrapping, or a vector file has a fault or a bad record, 2 if the words or a value are of no
+/// use, 3 if a reading or a writing failed, 4 if an allocation failed. A failing standard error changes no
+/// status.
+pub fn run<S: AsStr, F: Storage, W: Write, E: Write>(
+    alloc: Global,
+    files: &F,
+    words: &[S],
+    out: &mut W,
+    err: &mut E,
+) -> u8
+    ensures bound { result ≤ 4 }
+    // With status 0 nothing is said on standard error.
+    ensures quiet { result ≡ 0 → E.contents err.new ≡ E.contents err.old }
+{
+    match answer(alloc, files, words, out) {
+        Ok(status) => status,
+        Err(failure) => report(err, failure),
+    }
+}
