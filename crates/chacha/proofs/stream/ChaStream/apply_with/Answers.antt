@@ -29,11 +29,12 @@ returns-clause-applied g c = λ key nonce first made held.
 
 pub returns-then-bytes-self-clause-applied : goal.returns-then-bytes-self-clause-applied
 returns-then-bytes-self-clause-applied g c = λ key nonce first made held. record {
-      fault_is = refl;
-      missing =
-          (omega (arith, held.place_is, c.if-bytes-self.true),
-          λ there. omega (arith, there, held.place_is, c.if-bytes-self.true));
-      past_end = omega (arith, held.place_is, c.if-bytes-self.true);
-      stream_unchanged = refl;
-      bytes_unchanged = refl;
-    }
+  fault_is = refl;
+  missing = (
+    omega (arith, held.place_is, c.if-bytes-self.true),
+    λ there. omega (arith, there, held.place_is, c.if-bytes-self.true),
+  );
+  past_end = omega (arith, held.place_is, c.if-bytes-self.true);
+  stream_unchanged = refl;
+  bytes_unchanged = refl;
+}
