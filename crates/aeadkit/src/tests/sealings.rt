@@ -4,15 +4,14 @@ mod growths;
 mod long;
 mod opening;
 mod pieces;
-pub mod samples;
+mod samples;
 mod streams;
 
 use super::files::bytes;
-use super::published::{GCM_4, GCM_SIV, VECTORS, Vector};
-use super::{shows, shows_at};
+use super::published::{VECTORS, Vector};
+use super::shows;
 use aead::Aead;
-use octets::{Fault, Tag};
-use samples::{Sample, are_sealed, flip, sample_of};
+use samples::{Sample, are_sealed, sample_of};
 use std::alloc::Global;
 use std::process::Abort;
 
@@ -36,36 +35,5 @@ fn published_sealings(rt: HostRuntime) {
     for line in &VECTORS {
         let mut text = bytes(&rt, Vector::of(line).text);
         is_sealed(&rt, &sample_of(&rt, line), &mut text);
-    }
-}
-
-// Whether sealed bytes with a bit changed are no sealing, and what was to be opened stays.
-fn is_refused(sample: &Sample, sealed: &mut [u8], bit: usize) -> bool {
-    flip(sealed, bit);
-    let Some((body, tag)) = sealed.split_last_chunk::<16>() else {
-        return false;
-    };
-    let (length, tag) = (body.len(), Tag::new(*tag));
-    let Sample { nonce, aad, .. } = sample;
-    let opened = sample
-        .cipher
-        .open_in_place(nonce, aad, &mut sealed[..length], &tag);
-    flip(sealed, bit);
-    opened == Err(Fault::TagMismatch) && &*sealed == sample.sealed.as_slice()
-}
-
-#[test]
-fn each_bit_changed(rt: HostRuntime) {
-    for line in [GCM_4, GCM_SIV] {
-        let sample = sample_of(&rt, line);
-        let mut sealed = bytes(&rt, Vector::of(line).sealed);
-        for bit in 0..sealed.len().saturating_mul(8) {
-            shows_at(
-                &rt,
-                is_refused(&sample, &mut sealed, bit),
-                "bit",
-                bit as u64,
-            );
-        }
     }
 }

@@ -1,8 +1,7 @@
 //! The calls of `keywrap` in place, without padding and with it.
 use super::files::bytes;
 use super::published::{PADDED, WRAPPINGS, Wrapping};
-use super::sealings::samples::flip;
-use super::{shows, shows_at};
+use super::shows;
 use aes::AesKey;
 use keywrap::{unwrap_in_place, unwrap_padded_in_place, wrap_in_place, wrap_padded_in_place};
 use octets::Fault;
@@ -69,41 +68,5 @@ fn published_wrappings(rt: HostRuntime) {
             let mut room = bytes(&rt, Wrapping::of(line).wrapped);
             shows(&rt, is_wrapped(&sample_of(&rt, line), &mut room), line);
         }
-    }
-}
-
-// Whether a wrapping with a bit changed is none, and stays.
-fn is_refused(sample: &Sample, room: &mut [u8], bit: usize) -> bool {
-    flip(room, bit);
-    let is_refused = unwrap(sample, room) == Err(Fault::WrapIntegrity);
-    flip(room, bit);
-    is_refused && &*room == sample.wrapped.as_slice()
-}
-
-// One without padding, and one of several blocks and one of a single block with it.
-#[test]
-fn each_bit_changed(rt: HostRuntime) {
-    for line in [WRAPPINGS[0], PADDED[0], PADDED[1]] {
-        let sample = sample_of(&rt, line);
-        let mut room = bytes(&rt, Wrapping::of(line).wrapped);
-        for bit in 0..room.len().saturating_mul(8) {
-            shows_at(&rt, is_refused(&sample, &mut room, bit), "bit", bit as u64);
-        }
-    }
-}
-
-// The beginnings of a wrapping are none.
-#[test]
-fn cut_wrappings(rt: HostRuntime) {
-    let sample = sample_of(&rt, WRAPPINGS[0]);
-    let mut room = bytes(&rt, Wrapping::of(WRAPPINGS[0]).wrapped);
-    for length in 0..room.len() {
-        let answer = unwrap(&sample, &mut room[..length]);
-        shows_at(
-            &rt,
-            answer == Err(Fault::WrapLength),
-            "length",
-            length as u64,
-        );
     }
 }
