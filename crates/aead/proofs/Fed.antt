@@ -1,15 +1,8 @@
 -- A text fed part by part to an authenticator, each part padded to whole blocks.
 use Rattle.std.proofs.Common.{◌≡◌, ℕ, ◌-◌, ◌%◌, List, ◌++◌, length, replicate, ap, ◌∙◌, arith, append_assoc}
 use Rattle.std.proofs.Common.{length-append}
-use Rattle.std.proofs.lemmas.List.{append-nil}
 use Rattle.octets.specs.Bytes.{padding, pad16}
 use Rattle.octets.proofs.Texts.{whole_padded}
-
--- whole blocks are not padded
-pub pad16_whole : (m : List ℕ) → length m % 16 ≡ 0 → pad16 m ≡ m
-pad16_whole m whole =
-    let none : (16 - length m % 16) % 16 ≡ 0 = omega arith in
-    ap (λ n. m ++ replicate n 0) none ∙ append-nil m
 
 -- after whole blocks, the padding is that of what follows
 pub pad16_after : (a b : List ℕ) → length a % 16 ≡ 0 → pad16 (a ++ b) ≡ a ++ pad16 b

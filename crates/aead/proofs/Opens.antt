@@ -1,23 +1,14 @@
 -- Sealing and opening by the parts of a cipher.
-use Rattle.std.proofs.Common.{◌≡◌, ℕ, ◌+◌, ◌<◌, ◌≤◌, true, false, List, ◌++◌, get_or, length}
+use Rattle.std.proofs.Common.{◌≡◌, ℕ, ◌+◌, ◌<◌, true, false, List, ◌++◌, get_or, length}
 use Rattle.std.proofs.Common.{refl, sym, ap, ap₂}
-use Rattle.std.proofs.Common.{◌∙◌, arith, true≢false, length-append, subst}
+use Rattle.std.proofs.Common.{◌∙◌, arith, true≢false, length-append}
 use Rattle.octets.specs.Masked.{masked}
 use Rattle.octets.proofs.Masks.{length-masked, masked_twice}
 use Rattle.aead.specs.declared.suite.Suite.{Suite}
 use Rattle.aead.specs.Suites.{Construction, ByChaCha, ByGcm, ByGcmSiv, construction_of, is_one_pass}
-use Rattle.aead.specs.Suites.{text_limit, aad_limit}
 use Rattle.aead.specs.Sealing.{Setting, mask_by, mask, tag_over_by, tag_over, tag_by, tag_of, sealing, Fits}
 use Rattle.aead.specs.Sealing.{Opened, IsNoSealing}
 use Rattle.aead.proofs.OneText.{length-sealing, same_front, same_back}
-
--- lengths within the limits of its suite fit a setting
-pub fits_by : (s : Setting) (suite : Suite) (text : List ℕ) → suite ≡ s.suite → length s.aad ≤ aad_limit suite
-    → length text ≤ text_limit suite → Fits s text
-fits_by s suite text is aad_fits text_fits = record {
-  aad_fits = subst (λ x. length s.aad ≤ aad_limit x) is aad_fits;
-  text_fits = subst (λ x. length text ≤ text_limit x) is text_fits;
-}
 
 -- the text that a body under a tag would open to
 abbrev pub unmasked : Setting → List ℕ → List ℕ → List ℕ

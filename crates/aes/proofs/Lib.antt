@@ -1,30 +1,30 @@
-pub mod Tested
-pub mod FieldFacts
-pub mod Sums
-pub mod Multiples
-pub mod Tables
-pub mod Grids
-pub mod Rows
-pub mod Words
-pub mod Expanded
-pub mod Linear
+mod Tested
+mod FieldFacts
+mod Sums
+mod Multiples
+mod Tables
+mod Grids
+mod Rows
+mod Words
+mod Expanded
+mod Linear
 pub mod Steps
-pub mod ColumnWords
-pub mod InverseRounds
-pub mod FourBlocks
-pub mod Substitution
-pub mod FourRounds
+mod ColumnWords
+mod InverseRounds
+mod FourBlocks
+mod Substitution
+mod FourRounds
 pub mod Permutation
-pub mod Counting
+mod Counting
 pub mod StreamSteps
 pub mod Computed
 pub mod Small
 pub mod Vectors
-pub mod Circuit
-pub mod BitPlanes
-pub mod Exchanges
-pub mod CountedBlocks
-pub mod Nibbles
-pub mod SixteenBlocks
-pub mod KeyPlanes
-pub mod Loads
+mod Circuit
+mod BitPlanes
+mod Exchanges
+mod CountedBlocks
+mod Nibbles
+mod SixteenBlocks
+mod KeyPlanes
+mod Loads

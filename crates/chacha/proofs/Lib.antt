@@ -1,8 +1,8 @@
-pub mod Vectors
-pub mod Words
+mod Vectors
+mod Words
 pub mod Masking
-pub mod SideBySide
+mod SideBySide
 pub mod Lengths
-pub mod ByRows
-pub mod Halves
-pub mod Refusals
+mod ByRows
+mod Halves
+mod Refusals

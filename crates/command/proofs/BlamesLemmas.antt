@@ -1,6 +1,6 @@
 -- Devices that the faults of the engines, of the inputs and of the written file blame.
 use Rattle.std.proofs.Common.{◌≡◌, ℕ, ◌⊎◌, inl, inr, Bool, true, false, List, [], ◌∷◌, Ok, Err, ◌<◌}
-use Rattle.std.proofs.Common.{Result, refl, sym, ◌∙◌, ap, subst, arith, true≢false}
+use Rattle.std.proofs.Common.{Result, refl, sym, ◌∙◌, ap, arith, true≢false}
 use Rattle.std.proofs.lemmas.Bool.{and_parts}
 use Rattle.std.specs.List.{list_all}
 use Rattle.octets.specs.declared.fault.Fault.{Fault}
@@ -13,7 +13,6 @@ use Rattle.aead.specs.Verdict.{BlamesRightly, counted}
 use Rattle.command.specs.declared.failure.Failure.{Failure}
 use Rattle.command.specs.declared.failure.Failure.TheVariants.{Fault as OfFault}
 use Rattle.command.specs.declared.words.Inputs.{Inputs}
-use Rattle.command.specs.Aead.{InputsRefused}
 use Rattle.command.specs.Blames.{InputFailed, Blames}
 
 -- whether a fault blames no device
@@ -108,14 +107,6 @@ pub fault_blames : (input output : Type 0) (f : Fault) → Blames {T = Unit {0}}
 fault_blames input output f h = (
   λ e. let p : f ≡ Read = (cc) in h.0 p,
   λ e. let p : f ≡ Write = (cc) in h.1 p,
-)
-
--- words that give no inputs
-pub refused_blames : (input output : Type 0) (words : Inputs) (e : Failure) → InputsRefused words e
-    → Blames {T = Unit {0}} OfFault input output (Err e)
-refused_blames input output words e h = (
-  λ p. absurd (subst (InputsRefused words) p h),
-  λ p. absurd (subst (InputsRefused words) p h),
 )
 
 -- a failed count is not 0

@@ -1,10 +1,10 @@
 -- Results of the file commands, from those of the engines.
-use Rattle.std.proofs.Common.{◌≡◌, ℕ, ◌⊎◌, inl, inr, Bool, true, false, List, [], ◌++◌, ◌==◌}
+use Rattle.std.proofs.Common.{◌≡◌, ℕ, ◌⊎◌, inl, inr, Bool, true, false, List, [], ◌++◌}
 use Rattle.std.proofs.Common.{Option, Some, None, Ok, Err, IfSome, refl, subst, sym, ◌∙◌, ap, arith, take}
-use Rattle.std.proofs.Common.{drop, length, if◌then◌else◌}
+use Rattle.std.proofs.Common.{drop, length}
 use Rattle.std.proofs.lemmas.List.{append-nil, drop_all}
 use Rattle.std.proofs.Math.Seq.{take-append_seam}
-use Rattle.std.specs.Io.KnownBytes.{Keeps, append_known, prepend_known}
+use Rattle.std.specs.Io.KnownBytes.{Keeps, append_known}
 use Rattle.octets.specs.declared.fault.Fault.{Fault}
 use Rattle.octets.specs.declared.fault.Fault.TheVariants.{Read, Write, OutOfMemory}
 use Rattle.aead.specs.Suites.{construction_of, is_one_pass}
@@ -22,17 +22,6 @@ use Rattle.command.specs.Aead.{IsReady, IsCalled, CallFailed}
 use Rattle.command.specs.Files.{Answer, Giving, SealsOnce, SealsTwice, OpensThrice, SealingBy, Engine}
 use Rattle.command.specs.Files.{OutletTakes, HoldsAll, HoldsStart, HoldsNothing}
 use Rattle.command.specs.Files.{NoCall, EngineRan, Ran, FileDone, FileStopped}
-
--- a reader that was just made has left what its file has
-pub just_opened : (contents rest left : Option (List ℕ)) (capacity : ℕ) (ahead : List ℕ)
-    → left ≡ (if capacity == 0 then None else prepend_known ahead rest) → capacity ≡ 65536 → ahead ≡ []
-    → IfSome contents (λ bytes. rest ≡ Some bytes) → IfSome contents (λ bytes. left ≡ Some bytes)
-just_opened None rest left capacity ahead e c a h = tt
-just_opened (Some x) rest left capacity ahead e c a h =
-    let P : ℕ → Type 0 = λ n. left ≡ (if n == 0 then None else prepend_known ahead rest) in
-    let Q : List ℕ → Type 0 = λ l. left ≡ prepend_known l rest in
-    let R : Option (List ℕ) → Type 0 = λ o. left ≡ prepend_known [] o in
-    subst R h (subst Q a (subst P c e))
 
 -- one reading of a text
 pub sealed_once : (a left taken taken' : Option (List ℕ)) (s : Setting) (read read' wrote wrote' : ℕ)

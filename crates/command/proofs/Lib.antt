@@ -1,7 +1,7 @@
-pub mod AeadLemmas
-pub mod AnswersLemmas
-pub mod BlamesLemmas
-pub mod FilesLemmas
-pub mod KeywrapLemmas
-pub mod NewFileLemmas
-pub mod ReadingsLemmas
+mod AeadLemmas
+mod AnswersLemmas
+mod BlamesLemmas
+mod FilesLemmas
+mod KeywrapLemmas
+mod NewFileLemmas
+mod ReadingsLemmas

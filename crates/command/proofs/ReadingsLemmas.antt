@@ -1,21 +1,14 @@
 -- The bytes that were taken of a reading, and those that it has left.
-use Rattle.std.proofs.Common.{◌≡◌, ℕ, List, [], ◌++◌, Option, Some, None, IfSome, ap, sym, ◌∙◌, append_assoc}
+use Rattle.std.proofs.Common.{◌≡◌, ℕ, List, [], ◌++◌, Option, Some, None, IfSome, ap, sym, ◌∙◌}
 use Rattle.std.proofs.lemmas.List.{append-nil}
 use Rattle.command.proofs.NewFileLemmas.{keeps_more}
-use Rattle.std.specs.Io.KnownBytes.{Keeps, Consumes, IsAtEnd, prepend_known}
+use Rattle.std.specs.Io.KnownBytes.{Keeps, IsAtEnd, prepend_known}
 
 -- none were taken
 pub took_none : (left : Option (List ℕ)) (p : List ℕ) → p ≡ []
     → Keeps (prepend_known [] left) (prepend_known p left)
 took_none None p e = tt
 took_none (Some u) p e = ap (λ l. l ++ u) e
-
--- more were taken
-pub took_more : (old new : Option (List ℕ)) (p q x : List ℕ) → Consumes old new x → q ≡ p ++ x
-    → Keeps (prepend_known p old) (prepend_known q new)
-took_more None new p q x h e = tt
-took_more (Some u) None p q x h e = absurd h
-took_more (Some u) (Some v) p q x h e = rw e (append_assoc p x v ∙ ap (λ l. p ++ l) (sym h))
 
 -- all were
 took_all : (old new : Option (List ℕ)) (p : List ℕ) → Keeps (prepend_known [] old) (prepend_known p new)

@@ -1,12 +1,12 @@
-pub mod WordLemmas
+mod WordLemmas
 pub mod Sums
-pub mod Dot
-pub mod PolyvalSums
-pub mod ByGhash
-pub mod LaneWords
-pub mod Folds
-pub mod BitParts
-pub mod Chains
-pub mod FourBlocks
-pub mod FourProducts
-pub mod Vectors
+mod Dot
+mod PolyvalSums
+mod ByGhash
+mod LaneWords
+mod Folds
+mod BitParts
+mod Chains
+mod FourBlocks
+mod FourProducts
+mod Vectors

@@ -14,4 +14,4 @@ pub mod Texts
 pub mod Masks
 pub mod Orders
 pub mod Devices
-pub mod Requests
+mod Requests

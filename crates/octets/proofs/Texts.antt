@@ -100,11 +100,6 @@ holds_padded absorbed p n k m x y blocks h some whole eb step eu ez joined =
     (holds_blocks absorbed p n k m (padding m ++ x) blocks h (omega (arith, size, whole, p.in_range))
     (eb ∙ ap (λ (z : List ℕ). z ++ x) filled ∙ append_assoc (take p.used p.buffer) (padding m) x) step eu ez)
 
--- how many bytes the buffer keeps
-pub holds_used : {A : Type 0} (absorbed : A → List ℕ → List ℕ → Type 0) (p : Pieces A) (k m : List ℕ)
-    → HoldsPieces absorbed p k m → p.used ≡ length m % 16
-holds_used absorbed p k m h = h.rest.used_is
-
 -- a padded text is whole blocks
 pub whole_padded : (m : List ℕ) → length (pad16 m) % 16 ≡ 0
 whole_padded m = omega (

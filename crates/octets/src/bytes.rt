@@ -11,6 +11,26 @@ fn tells_bytes(bytes: &[u8])
     ensures { AreBytes (length bytes.now) bytes.now }
 {}
 
+// The bytes of a slice, or this fault if they are not `N`.
+fn sized<const N: usize>(bytes: &[u8], fault: Fault) -> Result<[u8; N], Fault>
+    ensures { MatchResult result (λ a. (a ≡ bytes.now) × (length bytes.now ≡ N))
+        (λ e. (e ≡ fault) × (length bytes.now ≢ N)) }
+{
+    match <[u8; N]>::try_from(bytes) {
+        Ok(bytes) => Ok(bytes),
+        Err(_) => Err(fault),
+    }
+}
+
+// These bytes: each is below 256.
+fn shown<const N: usize>(bytes: &[u8; N]) -> &[u8; N]
+    ensures value { result.now ≡ bytes.now }
+    ensures are_bytes { AreBytes N bytes.now }
+{
+    tells_bytes(bytes);
+    bytes
+}
+
 /// A key of 16 bytes.
 #[derive(Clone, Copy)]
 pub struct Key16 {
@@ -31,9 +51,9 @@ impl Key16 {
         ensures { MatchResult result (λ k. (k ≡ bytes.now) × (length bytes.now ≡ 16))
             (λ e. (e ≡ Fault.KeyLength) × (length bytes.now ≢ 16)) }
     {
-        match <[u8; 16]>::try_from(bytes) {
+        match sized(bytes, Fault::KeyLength) {
             Ok(bytes) => Ok(Key16 { bytes }),
-            Err(_) => Err(Fault::KeyLength),
+            Err(fault) => Err(fault),
         }
     }
 
@@ -42,9 +62,7 @@ impl Key16 {
         ensures value { result.now ≡ self.now }
         ensures are_bytes { AreBytes 16 self.now }
     {
-        let Key16 { bytes } = self;
-        tells_bytes(bytes);
-        bytes
+        shown(&self.bytes)
     }
 }
 
@@ -68,9 +86,9 @@ impl Key24 {
         ensures { MatchResult result (λ k. (k ≡ bytes.now) × (length bytes.now ≡ 24))
             (λ e. (e ≡ Fault.KeyLength) × (length bytes.now ≢ 24)) }
     {
-        match <[u8; 24]>::try_from(bytes) {
+        match sized(bytes, Fault::KeyLength) {
             Ok(bytes) => Ok(Key24 { bytes }),
-            Err(_) => Err(Fault::KeyLength),
+            Err(fault) => Err(fault),
         }
     }
 
@@ -79,9 +97,7 @@ impl Key24 {
         ensures value { result.now ≡ self.now }
         ensures are_bytes { AreBytes 24 self.now }
     {
-        let Key24 { bytes } = self;
-        tells_bytes(bytes);
-        bytes
+        shown(&self.bytes)
     }
 }
 
@@ -112,9 +128,9 @@ impl Key32 {
         ensures { MatchResult result (λ k. (k ≡ bytes.now) × (length bytes.now ≡ 32))
             (λ e. (e ≡ Fault.KeyLength) × (length bytes.now ≢ 32)) }
     {
-        match <[u8; 32]>::try_from(bytes) {
+        match sized(bytes, Fault::KeyLength) {
             Ok(bytes) => Ok(Key32 { bytes }),
-            Err(_) => Err(Fault::KeyLength),
+            Err(fault) => Err(fault),
         }
     }
 
@@ -123,9 +139,7 @@ impl Key32 {
         ensures value { result.now ≡ self.now }
         ensures are_bytes { AreBytes 32 self.now }
     {
-        let Key32 { bytes } = self;
-        tells_bytes(bytes);
-        bytes
+        shown(&self.bytes)
     }
 }
 
@@ -156,9 +170,9 @@ impl Nonce {
         ensures { MatchResult result (λ k. (k ≡ bytes.now) × (length bytes.now ≡ 12))
             (λ e. (e ≡ Fault.NonceLength) × (length bytes.now ≢ 12)) }
     {
-        match <[u8; 12]>::try_from(bytes) {
+        match sized(bytes, Fault::NonceLength) {
             Ok(bytes) => Ok(Nonce { bytes }),
-            Err(_) => Err(Fault::NonceLength),
+            Err(fault) => Err(fault),
         }
     }
 
@@ -167,14 +181,12 @@ impl Nonce {
         ensures value { result.now ≡ self.now }
         ensures are_bytes { AreBytes 12 self.now }
     {
-        let Nonce { bytes } = self;
-        tells_bytes(bytes);
-        bytes
+        shown(&self.bytes)
     }
 }
 
 /// A block of 16 bytes: what AES, GHASH, POLYVAL and Poly1305 take in at a time.
-#[derive(Clone, Copy, Debug)]
+#[derive(Clone, Copy)]
 pub struct Block {
     bytes: [u8; 16],
 }
@@ -202,14 +214,12 @@ impl Block {
         ensures value { result.now ≡ self.now }
         ensures is_block { IsBlock self.now }
     {
-        let Block { bytes } = self;
-        tells_bytes(bytes);
-        bytes
+        shown(&self.bytes)
     }
 }
 
 /// A tag of 16 bytes: what authenticates a text.
-#[derive(Clone, Copy, Debug)]
+#[derive(Clone, Copy)]
 pub struct Tag {
     bytes: [u8; 16],
 }
@@ -237,8 +247,6 @@ impl Tag {
         ensures value { result.now ≡ self.now }
         ensures is_block { IsBlock self.now }
     {
-        let Tag { bytes } = self;
-        tells_bytes(bytes);
-        bytes
+        shown(&self.bytes)
     }
 }

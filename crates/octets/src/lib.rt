@@ -7,6 +7,7 @@ ghost use Rattle.octets.specs.Polynomial.{EachHasOneResidue};
 mod bytes;
 mod compare;
 mod device;
+mod failures;
 mod fault;
 mod memory;
 mod pieces;

@@ -1,11 +1,12 @@
 // Devices over memory.
 
-ghost use Rattle.std.specs.Prelude.{◌≡◌, min, length, drop, take, [], Some, MatchResult};
+ghost use Rattle.std.specs.Prelude.{◌≡◌, min, length, take, [], Some, MatchResult};
 ghost use Rattle.std.specs.Io.{ReadsAtMost};
 ghost use Rattle.std.specs.Io.KnownBytes.{ReadConsumes};
 ghost use Rattle.octets.specs.Device.{Counts};
 
 use crate::device::{DeviceFault, Intake, Outlet};
+use crate::failures::Failures;
 use std::alloc::Allocator;
 
 /// Gives the bytes of a slice: at each take as many as fit and are left. It never fails.
@@ -46,7 +47,7 @@ impl<'a> Intake for SliceIntake<'a> {
 #[derive(Drop)]
 pub struct VecOutlet<A: Allocator> {
     kept: Vec<u8, A>,
-    failed: u64,
+    failures: Failures,
 }
 
 impl<A: Allocator> VecOutlet<A> {
@@ -57,7 +58,7 @@ impl<A: Allocator> VecOutlet<A> {
     {
         VecOutlet {
             kept: Vec::new(alloc),
-            failed: 0,
+            failures: Failures::none(),
         }
     }
 
@@ -72,13 +73,13 @@ impl<A: Allocator> VecOutlet<A> {
 impl<A: Allocator> Outlet for VecOutlet<A> {
     ghost taken = { λ s. Some s.kept.items };
 
-    ghost failures = { λ s. s.failed };
+    ghost failures = { λ s. s.failures.count };
 
     fn give(&mut self, bytes: &[u8]) -> Result<usize, DeviceFault> {
         match self.kept.extend_from_slice(bytes) {
             Ok(()) => Ok(bytes.len()),
             Err(_) => {
-                self.failed = self.failed.saturating_add(1);
+                self.failures.add();
                 Err(DeviceFault)
             }
         }

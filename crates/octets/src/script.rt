@@ -3,11 +3,12 @@
 ghost use Rattle.std.specs.Prelude.{◌≡◌, ◌≤◌, [], Some, drop, IfSome, vec_len};
 
 use crate::device::{DeviceFault, Intake, Outlet};
+use crate::failures::Failures;
 use crate::memory::VecOutlet;
 use std::alloc::Allocator;
 
 /// One call of a device by a script.
-#[derive(Clone, Copy, PartialEq, Eq, Debug, Drop)]
+#[derive(Clone, Copy, Drop)]
 pub enum Step {
     /// At most so many bytes; 0 counts as 1.
     Give(usize),
@@ -22,7 +23,7 @@ pub struct ScriptIntake<A: Allocator> {
     at: usize,
     steps: Vec<Step, A>,
     call: usize,
-    failed: u64,
+    failures: Failures,
     ghost in_range: { at ≤ vec_len bytes },
 }
 
@@ -37,7 +38,7 @@ impl<A: Allocator> ScriptIntake<A> {
             at: 0,
             steps,
             call: 0,
-            failed: 0,
+            failures: Failures::none(),
         }
     }
 }
@@ -60,7 +61,7 @@ fn allowed(steps: &[Step], call: &mut usize, wanted: usize) -> Option<usize>
 impl<A: Allocator> Intake for ScriptIntake<A> {
     ghost left = { λ s. Some (drop s.at s.bytes.items) };
 
-    ghost failures = { λ s. s.failed };
+    ghost failures = { λ s. s.failures.count };
 
     fn take(&mut self, buf: &mut [u8]) -> Result<usize, DeviceFault> {
         let rest = &self.bytes.as_slice()[self.at..];
@@ -73,7 +74,7 @@ impl<A: Allocator> Intake for ScriptIntake<A> {
                 Ok(n)
             }
             None => {
-                self.failed = self.failed.saturating_add(1);
+                self.failures.add();
                 Err(DeviceFault)
             }
         }
@@ -86,7 +87,7 @@ pub struct ScriptOutlet<A: Allocator> {
     kept: VecOutlet<A>,
     steps: Vec<Step, A>,
     call: usize,
-    failed: u64,
+    failures: Failures,
 }
 
 impl<A: Allocator> ScriptOutlet<A> {
@@ -99,7 +100,7 @@ impl<A: Allocator> ScriptOutlet<A> {
             kept: VecOutlet::new(alloc),
             steps,
             call: 0,
-            failed: 0,
+            failures: Failures::none(),
         }
     }
 
@@ -114,7 +115,7 @@ impl<A: Allocator> ScriptOutlet<A> {
 impl<A: Allocator> Outlet for ScriptOutlet<A> {
     ghost taken = { λ s. ⟦<VecOutlet<A> as Outlet>⟧.taken s.kept };
 
-    ghost failures = { λ s. s.failed };
+    ghost failures = { λ s. s.failures.count };
 
     fn give(&mut self, bytes: &[u8]) -> Result<usize, DeviceFault> {
         if let Some(n) = allowed(self.steps.as_slice(), &mut self.call, bytes.len()) {
@@ -122,7 +123,7 @@ impl<A: Allocator> Outlet for ScriptOutlet<A> {
                 return Ok(given);
             }
         }
-        self.failed = self.failed.saturating_add(1);
+        self.failures.add();
         Err(DeviceFault)
     }
 }

@@ -3,6 +3,7 @@
 ghost use Rattle.std.specs.Prelude.{◌≡◌};
 
 use crate::device::{DeviceFault, Intake, Outlet};
+use crate::failures::Failures;
 use std::io::{Read, Write};
 
 /// Takes from a reader, and counts its failures; an interrupted read is one. Its bytes are known if the
@@ -10,7 +11,7 @@ use std::io::{Read, Write};
 #[derive(Drop)]
 pub struct FromRead<R> {
     reader: R,
-    failed: u64,
+    failures: Failures,
 }
 
 impl<R: Read> FromRead<R> {
@@ -19,20 +20,23 @@ impl<R: Read> FromRead<R> {
         ensures left { ⟦<FromRead<R> as Intake>⟧.left result ≡ R.remaining reader }
         ensures failed { ⟦<FromRead<R> as Intake>⟧.failures result ≡ 0 }
     {
-        FromRead { reader, failed: 0 }
+        FromRead {
+            reader,
+            failures: Failures::none(),
+        }
     }
 }
 
 impl<R: Read> Intake for FromRead<R> {
     ghost left = { λ s. R.remaining s.reader };
 
-    ghost failures = { λ s. s.failed };
+    ghost failures = { λ s. s.failures.count };
 
     fn take(&mut self, buf: &mut [u8]) -> Result<usize, DeviceFault> {
         match self.reader.read(buf) {
             Ok(n) => Ok(n),
             Err(_) => {
-                self.failed = self.failed.saturating_add(1);
+                self.failures.add();
                 Err(DeviceFault)
             }
         }
@@ -44,7 +48,7 @@ impl<R: Read> Intake for FromRead<R> {
 #[derive(Drop)]
 pub struct ToWrite<W> {
     writer: W,
-    failed: u64,
+    failures: Failures,
 }
 
 impl<W: Write> ToWrite<W> {
@@ -53,7 +57,10 @@ impl<W: Write> ToWrite<W> {
         ensures taken { ⟦<ToWrite<W> as Outlet>⟧.taken result ≡ W.contents writer }
         ensures failed { ⟦<ToWrite<W> as Outlet>⟧.failures result ≡ 0 }
     {
-        ToWrite { writer, failed: 0 }
+        ToWrite {
+            writer,
+            failures: Failures::none(),
+        }
     }
 
     /// The writer.
@@ -67,13 +74,13 @@ impl<W: Write> ToWrite<W> {
 impl<W: Write> Outlet for ToWrite<W> {
     ghost taken = { λ s. W.contents s.writer };
 
-    ghost failures = { λ s. s.failed };
+    ghost failures = { λ s. s.failures.count };
 
     fn give(&mut self, bytes: &[u8]) -> Result<usize, DeviceFault> {
         match self.writer.write(bytes) {
             Ok(n) if 0 < n || bytes.is_empty() => Ok(n),
             _ => {
-                self.failed = self.failed.saturating_add(1);
+                self.failures.add();
                 Err(DeviceFault)
             }
         }

@@ -1,5 +1,5 @@
-pub mod Products
-pub mod Halves
-pub mod Texts
-pub mod Vectors
-pub mod PartialSums
+mod Products
+mod Halves
+mod Texts
+mod Vectors
+mod PartialSums

@@ -1,14 +1,14 @@
-pub mod LineLemmas
-pub mod DigitLemmas
-pub mod FieldLemmas
-pub mod CutLemmas
-pub mod AgreeLemmas
-pub mod Runs
-pub mod Places
-pub mod OnlyExpected
-pub mod Viable
-pub mod RowLemmas
-pub mod Sizes
-pub mod Progress
-pub mod Judged
+mod LineLemmas
+mod DigitLemmas
+mod FieldLemmas
+mod CutLemmas
+mod AgreeLemmas
+mod Runs
+mod Places
+mod OnlyExpected
+mod Viable
+mod RowLemmas
+mod Sizes
+mod Progress
+mod Judged
 mod Vectors

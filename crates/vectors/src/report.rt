@@ -10,7 +10,7 @@ use std::alloc::{AllocError, Allocator};
 
 /// The report of a vector file: how many records it has, and the numbers, from 1 and rising, of those that
 /// disagree with their standard.
-#[derive(Debug, Drop)]
+#[derive(Drop)]
 pub struct Report<A: Allocator> {
     /// The number of records.
     pub records: u64,

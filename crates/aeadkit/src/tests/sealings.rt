@@ -4,14 +4,15 @@ mod growths;
 mod long;
 mod opening;
 mod pieces;
-mod samples;
+pub mod samples;
 mod streams;
 
 use super::files::bytes;
 use super::published::{VECTORS, Vector};
 use super::shows;
 use aead::Aead;
-use samples::{Sample, are_sealed, sample_of};
+use octets::{Fault, Tag};
+use samples::{Sample, are_sealed, flip, sample_of};
 use std::alloc::Global;
 use std::process::Abort;
 
@@ -29,11 +30,31 @@ fn is_sealed(rt: &impl Abort, sample: &Sample, bytes: &mut [u8]) {
     );
 }
 
+// Whether the sealing is none with any of its bits changed, and what was to be opened stays.
+fn needs_each_bit(sample: &Sample, sealed: &mut [u8]) -> bool {
+    let mut is_needed = true;
+    for bit in 0..sealed.len().saturating_mul(8) {
+        flip(sealed, bit);
+        if let Some((body, tag)) = sealed.split_last_chunk_mut::<16>() {
+            let tag = Tag::new(*tag);
+            let Sample { nonce, aad, .. } = sample;
+            let opened = sample.cipher.open_in_place(nonce, aad, body, &tag);
+            is_needed &= opened == Err(Fault::TagMismatch);
+        }
+        flip(sealed, bit);
+        is_needed &= &*sealed == sample.sealed.as_slice();
+    }
+    is_needed
+}
+
 // Each published vector, by the cipher of its suite's name.
 #[test]
 fn published_sealings(rt: HostRuntime) {
     for line in &VECTORS {
+        let sample = sample_of(&rt, line);
         let mut text = bytes(&rt, Vector::of(line).text);
-        is_sealed(&rt, &sample_of(&rt, line), &mut text);
+        is_sealed(&rt, &sample, &mut text);
+        let mut sealed = bytes(&rt, Vector::of(line).sealed);
+        shows(&rt, needs_each_bit(&sample, &mut sealed), line);
     }
 }

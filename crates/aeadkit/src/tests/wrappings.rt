@@ -1,6 +1,7 @@
 //! The calls of `keywrap` in place, without padding and with it.
 use super::files::bytes;
 use super::published::{PADDED, WRAPPINGS, Wrapping};
+use super::sealings::samples::flip;
 use super::shows;
 use aes::AesKey;
 use keywrap::{unwrap_in_place, unwrap_padded_in_place, wrap_in_place, wrap_padded_in_place};
@@ -60,13 +61,43 @@ fn is_wrapped(sample: &Sample, room: &mut [u8]) -> bool {
         && room.get(8..text.len().saturating_add(8)) == Some(text)
 }
 
+// Whether the wrapping is none with any of its bits changed, and stays.
+fn needs_each_bit(sample: &Sample, room: &mut [u8]) -> bool {
+    let mut is_needed = true;
+    for bit in 0..room.len().saturating_mul(8) {
+        flip(room, bit);
+        is_needed &= unwrap(sample, room) == Err(Fault::WrapIntegrity);
+        flip(room, bit);
+        is_needed &= &*room == sample.wrapped.as_slice();
+    }
+    is_needed
+}
+
+// Whether no beginning of the wrapping is one. Whole blocks, three or with padding two at least, might be.
+fn needs_its_end(sample: &Sample, room: &mut [u8]) -> bool {
+    let least = if sample.is_padded { 16 } else { 24 };
+    let mut is_needed = true;
+    for length in 0..room.len() {
+        let due = if length % 8 == 0 && length >= least {
+            Fault::WrapIntegrity
+        } else {
+            Fault::WrapLength
+        };
+        is_needed &= unwrap(sample, &mut room[..length]) == Err(due);
+    }
+    is_needed
+}
+
 // RFC 3394, 4.1 to 4.6, and RFC 5649, 6.
 #[test]
 fn published_wrappings(rt: HostRuntime) {
     for table in [WRAPPINGS.as_slice(), PADDED.as_slice()] {
         for line in table {
+            let sample = sample_of(&rt, line);
             let mut room = bytes(&rt, Wrapping::of(line).wrapped);
-            shows(&rt, is_wrapped(&sample_of(&rt, line), &mut room), line);
+            let are_refused = needs_each_bit(&sample, &mut room)
+                && needs_its_end(&sample, &mut room);
+            shows(&rt, are_refused && is_wrapped(&sample, &mut room), line);
         }
     }
 }

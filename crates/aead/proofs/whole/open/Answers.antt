@@ -8,3 +8,6 @@ returns-clause-found g c =
     found (λ v. v.items) c.sealing_has_one_text.ensures
     (setting (keyed_of c.args.cipher.now) c.args.nonce.now c.args.aad.now) c.args.sealed.now
     c.opened_text.result c.opened_text.ensures
+
+pub returns-clause-answer : goal.returns-clause-answer
+returns-clause-answer g c = c.opened_text.ensures

@@ -80,3 +80,8 @@ returns-in-Err-give_all-clause-seals g c =
     (λ text held. c.finish.ensures _ text held ∙ sym (one_pass_tag s [] text one))
     (subst R c.bytes.ensures.value given.2)
     (inr (refl, subst F c.in-Ok-Some.ensures.blame.1 c.in-Err-give_all.ensures.count))
+
+pub returns-in-Err-give_all-clause-blame : goal.returns-in-Err-give_all-clause-blame
+returns-in-Err-give_all-clause-blame g c =
+    let F : ℕ → Type 0 = λ n. Failed n (g.O.Outlet.failures c.give_all.new.outlet) in
+    inr (inr (refl, subst F c.in-Ok-Some.ensures.blame.1 c.in-Err-give_all.ensures.count))
