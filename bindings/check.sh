@@ -1,9 +1,12 @@
 #!/bin/sh
 # Looks at the library's names, builds and runs the examples over it, and installs each package in a fresh folder.
 set -eu
+build=no
+[ "${1:-}" != --build ] || { build=yes; shift; }
 if [ $# != 1 ]; then
-    echo "usage: check.sh PREFIX
-  PREFIX   what build.sh laid out, whole or with --library
+    echo "usage: check.sh [--build] PREFIX
+  PREFIX    what build.sh laid out, whole or with --library
+  --build   the library is laid out there first, if cc, nm, ar and objcopy are there to build it
 It prints a line for each language, 'ok: ..', or 'left out: ..' if its compiler or interpreter is not there." >&2
     exit 2
 fi
@@ -14,6 +17,15 @@ cd "$(dirname "$0")"
 . ./copy.sh
 room=$(mktemp -d)
 trap 'rm -rf "$room"' EXIT
+if [ $build = yes ]; then
+    for tool in cc nm ar objcopy; do
+        if ! "$tool" --version > "$room/log" 2>&1; then
+            echo "left out: the callers in every language, no $tool to build the library"
+            exit 0
+        fi
+    done
+    ./build.sh --library .. "$prefix"
+fi
 version=$(version_of ..)
 warnings="-Wall -Wextra -Werror -pedantic"
 sanitizers="-fsanitize=address,undefined -fno-sanitize-recover=all"
