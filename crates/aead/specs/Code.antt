@@ -2,6 +2,7 @@
 -- sealing, opening and the engines are defined without them.
 pub mod States
 pub mod Maskings
+pub mod NoSums
 pub mod AnyMaskings
 pub mod Absorbed
 pub mod Masks

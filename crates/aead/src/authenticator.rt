@@ -47,19 +47,6 @@ impl<H: TagHash> Authenticator<H> {
         self.hash.pad();
     }
 
-    // One that has taken in the associated data.
-    #[inline(always)]
-    pub(crate) fn new(hash: H, aad: &[u8]) -> Authenticator<H>
-        ensures holds { (s : Setting) → s.aad ≡ aad.now → length aad.now ≤ aad_limit s.suite
-            → H.held hash s []
-            → HoldsAuthenticator H.held result s [] }
-        ensures none { result.length ≡ 0 }
-    {
-        let mut begun = Authenticator::empty(hash);
-        begun.begin(aad);
-        begun
-    }
-
     // Takes in the next bytes.
     #[inline(always)]
     pub(crate) fn update(&mut self, bytes: &[u8])

@@ -1,6 +1,6 @@
 // The keys of a message of AES-GCM-SIV (RFC 8452, 4).
 
-ghost use Rattle.std.specs.Prelude.{◌≡◌, ℕ, ◌<◌, ◌++◌, length, take};
+ghost use Rattle.std.specs.Prelude.{◌≡◌, ℕ, ◌+◌, ◌<◌, ◌++◌, length, take};
 ghost use Rattle.std.specs.Int.{w32, to_le_bytes};
 ghost use Rattle.octets.specs.Bytes.{IsBlock, block_at};
 ghost use Rattle.aes.specs.Cipher.{IsKeyLength};
@@ -13,33 +13,15 @@ use aes::AesKey;
 use gf128::reversed_mul_x;
 use octets::{Block, Nonce};
 
-// Two halves of a block.
-pub(crate) fn joined(first: &[u8; 8], second: &[u8; 8]) -> [u8; 16]
+// Two arrays of one length, one after the other.
+pub(crate) fn joined<const N: usize, const T: usize>(first: &[u8; N], second: &[u8; N]) -> [u8; T]
+    requires { T ≡ N + N }
     ensures { result ≡ first.now ++ second.now }
 {
-    let mut both = [0; 16];
-    both[..8].copy_from_slice(first);
-    both[8..].copy_from_slice(second);
-    both
-}
-
-// Two blocks.
-pub(crate) fn joined_blocks(first: &[u8; 16], second: &[u8; 16]) -> [u8; 32]
-    ensures { result ≡ first.now ++ second.now }
-{
-    let mut both = [0; 32];
-    both[..16].copy_from_slice(first);
-    both[16..].copy_from_slice(second);
-    both
-}
-
-// Four blocks.
-fn joined_halves(first: &[u8; 32], second: &[u8; 32]) -> [u8; 64]
-    ensures { result ≡ first.now ++ second.now }
-{
-    let mut both = [0; 64];
-    both[..32].copy_from_slice(first);
-    both[32..].copy_from_slice(second);
+    let mut both = [0; T];
+    let bytes = &mut both[..];
+    bytes[..N].copy_from_slice(first);
+    bytes[N..].copy_from_slice(second);
     both
 }
 
@@ -66,19 +48,9 @@ fn numbered(i: u32, nonce: &[u8; 12]) -> [u8; 16]
 fn first_numbered(nonce: &[u8; 12]) -> [u8; 64]
     ensures { (q : ℕ) → q < 4 → block_at result q ≡ to_le_bytes w32 q ++ nonce.now }
 {
-    let front = joined_blocks(&numbered(0, nonce), &numbered(1, nonce));
-    let back = joined_blocks(&numbered(2, nonce), &numbered(3, nonce));
-    joined_halves(&front, &back)
-}
-
-// The first half of one of four blocks.
-fn half_of(blocks: &[u8; 64], q: usize) -> [u8; 8]
-    requires { q < 4 }
-    ensures { result ≡ take 8 (block_at blocks.now q) }
-{
-    let mut half = [0; 8];
-    half.copy_from_slice(&blocks[16 * q..16 * q + 8]);
-    half
+    let front: [u8; 32] = joined(&numbered(0, nonce), &numbered(1, nonce));
+    let back: [u8; 32] = joined(&numbered(2, nonce), &numbered(3, nonce));
+    joined(&front, &back)
 }
 
 // Parts 0 to 3 of the derived keys, each the first half of a block (RFC 8452, 4): four blocks are
@@ -109,7 +81,9 @@ impl<'a> KeyParts<'a> {
         requires { i < 4 }
         ensures { result ≡ key_part self.now.key.now self.now.nonce.now i }
     {
-        half_of(&self.blocks, i)
+        let mut half = [0; 8];
+        half.copy_from_slice(&self.blocks[16 * i..16 * i + 8]);
+        half
     }
 }
 
@@ -119,13 +93,6 @@ fn key_part(key: &AesKey, nonce: &Nonce, i: u32) -> [u8; 8]
 {
     let block = key.encrypt(&Block::new(numbered(i, nonce.bytes())));
     first_half(block.bytes())
-}
-
-// The key of POLYVAL: parts 0 and 1 (RFC 8452, 4).
-fn authentication_key(parts: &KeyParts) -> Block
-    ensures { result ≡ authentication_key parts.now.key.now parts.now.nonce.now }
-{
-    Block::new(joined(&parts.at(0), &parts.at(1)))
 }
 
 // The encryption key of 16 bytes: parts 2 and 3 (RFC 8452, 4).
@@ -141,12 +108,12 @@ pub(crate) fn long_encryption_key(parts: &KeyParts) -> [u8; 32]
     requires { length parts.now.key.now ≡ 32 }
     ensures { result ≡ encryption_key parts.now.key.now parts.now.nonce.now }
 {
-    let first = joined(&parts.at(2), &parts.at(3));
-    let second = joined(
+    let first: [u8; 16] = joined(&parts.at(2), &parts.at(3));
+    let second: [u8; 16] = joined(
         &key_part(parts.key, parts.nonce, 4),
         &key_part(parts.key, parts.nonce, 5),
     );
-    joined_blocks(&first, &second)
+    joined(&first, &second)
 }
 
 // The expanded key of 16 or 32 bytes.
@@ -157,12 +124,13 @@ pub(crate) fn expanded(bytes: &[u8]) -> AesKey
     AesKey::from_slice(bytes).unwrap()
 }
 
-// The key of POLYVAL's multiplier in GHASH's field (RFC 8452, appendix A).
+// The key of POLYVAL's multiplier in GHASH's field (RFC 8452, appendix A). POLYVAL's key is parts 0 and 1 (4).
 pub(crate) fn hash_key(parts: &KeyParts) -> Block
     ensures value { IsReversedMulX (authentication_key parts.now.key.now parts.now.nonce.now) result }
     ensures of_block { IsBlock (authentication_key parts.now.key.now parts.now.nonce.now) }
 {
-    reversed_mul_x(&authentication_key(parts))
+    let key = Block::new(joined(&parts.at(0), &parts.at(1)));
+    reversed_mul_x(&key)
 }
 
 // The keys of one message.

@@ -189,7 +189,7 @@ pub extern "C" fn aeadkit_sealer_init_with(
     ensures not_begun { KeepsNone kept.now → result ≡ not_begun }
     ensures refused { result ≢ 0 → sealer.new ≡ zeros }
 {
-    sealer.erase();
+    *sealer = StoredSealer::zeros();
     let Some(suite) = marked(KEY, kept.mark) else {
         return NOT_BEGUN;
     };

@@ -54,7 +54,7 @@ pub extern "C" fn aeadkit_opener_init(
     ensures unknown { ((named : Suite) → suite ≢ suite_number named) → result ≡ unknown_suite }
     ensures refused { result ≢ 0 → opener.new ≡ zero_passes }
 {
-    opener.erase();
+    *opener = StoredPasses::zeros();
     let Some(suite) = suite_numbered(u64::from(suite)) else {
         return UNKNOWN_SUITE;
     };
@@ -104,7 +104,7 @@ pub extern "C" fn aeadkit_opener_checked(opener: &mut StoredPasses) -> u32
         return NOT_BEGUN;
     };
     if !opener.is_sealing(suite) {
-        opener.erase();
+        *opener = StoredPasses::zeros();
         return outcome_number(Err(Fault::TagMismatch));
     }
     opener.mark = mark_of(OPENING, suite);
@@ -146,7 +146,7 @@ pub extern "C" fn aeadkit_opener_finish(opener: &mut StoredPasses) -> u32
         return NOT_BEGUN;
     };
     let sealing = opener.is_sealing(suite);
-    opener.erase();
+    *opener = StoredPasses::zeros();
     if sealing {
         outcome_number(Ok(()))
     } else {

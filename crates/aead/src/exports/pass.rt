@@ -283,20 +283,6 @@ fn take_by<H: StoredHash>(state: &mut StoredSealer, suite: Suite, piece: &[u8]) 
     true
 }
 
-// Takes in a piece under AES-GCM.
-fn take_gcm(state: &mut StoredSealer, suite: Suite, piece: &[u8]) -> bool
-    ensures takes { (s : Setting) (bytes : List ℕ) → s.suite ≡ suite → result ≡ true
-        → HoldsOf ByGcm state.old s bytes → HoldsOf ByGcm state.new s (bytes ++ piece.now) }
-    ensures fits { result ≡ true → state.old.length + length piece.now ≤ text_limit suite }
-    ensures past { result ≡ false → text_limit suite < state.old.length + length piece.now }
-    ensures kept { result ≡ false → state.new ≡ state.old }
-{
-    match worth(piece.len() as u64) {
-        Multiples::Few => take_by::<GhashTag<TableMul>>(state, suite, piece),
-        Multiples::OfFourPowers => take_by::<GhashTag<WideMul>>(state, suite, piece),
-    }
-}
-
 // Takes in a piece under a suite, if it is within the suite's limit. Returns whether it is.
 pub(super) fn take_piece(state: &mut StoredSealer, suite: Suite, piece: &[u8]) -> bool
     requires { is_one_pass (construction_of suite) ≡ true }
@@ -307,9 +293,11 @@ pub(super) fn take_piece(state: &mut StoredSealer, suite: Suite, piece: &[u8]) -
     ensures kept { result ≡ false → state.new ≡ state.old }
 {
     if is_chacha(suite) {
-        take_by::<Poly>(state, suite, piece)
-    } else {
-        take_gcm(state, suite, piece)
+        return take_by::<Poly>(state, suite, piece);
+    }
+    match worth(piece.len() as u64) {
+        Multiples::Few => take_by::<GhashTag<TableMul>>(state, suite, piece),
+        Multiples::OfFourPowers => take_by::<GhashTag<WideMul>>(state, suite, piece),
     }
 }
 

@@ -15,7 +15,7 @@ use super::stored::{StoredHash, StoredSealer};
 use crate::authenticator::Authenticator;
 use crate::beside::MaskFirst;
 use crate::chacha_poly::first_half;
-use crate::derived_keys::joined_blocks;
+use crate::derived_keys::joined;
 use crate::gcm::{counter_block, ghash_key_of};
 use crate::hashes::GhashTag;
 use crate::suite::Suite;
@@ -54,8 +54,9 @@ pub(super) fn begun_by<H: StoredHash>(
     keys.key = padded;
     keys.nonce = *nonce.bytes();
     keys.hash_key = hash_key;
-    let hash = H::begun(&keys, suite);
-    keys.storing(&Authenticator::new(hash, aad))
+    let mut taken = Authenticator::empty(H::resumed(&keys, suite, &[]));
+    taken.begin(aad);
+    keys.storing(&taken)
 }
 
 // The numbers of the empty text under ChaCha20-Poly1305.
@@ -85,7 +86,7 @@ pub(super) fn begun_gcm(
     ensures { HoldsBytes result (setting_of suite key.now nonce.now aad.now) [] }
 {
     let tag_mask = cipher.encrypt(&counter_block(nonce, 1));
-    let keys = joined_blocks(ghash_key.bytes(), tag_mask.bytes());
+    let keys = joined(ghash_key.bytes(), tag_mask.bytes());
     begun_by::<GhashTag<TableMul>>(suite, key, nonce, keys, aad)
 }
 
@@ -147,7 +148,7 @@ pub extern "C" fn aeadkit_sealer_init(
         → suite ≢ suite_number named) → result ≡ unknown_suite }
     ensures refused { result ≢ 0 → sealer.new ≡ zeros }
 {
-    sealer.erase();
+    *sealer = StoredSealer::zeros();
     let Some(suite) = one_pass_numbered(u64::from(suite)) else {
         return UNKNOWN_SUITE;
     };
@@ -189,7 +190,7 @@ pub extern "C" fn aeadkit_sealer_finish(sealer: &mut StoredSealer, tag: &mut [u8
         return NOT_BEGUN;
     };
     *tag = *pass_tag(sealer, suite).bytes();
-    sealer.erase();
+    *sealer = StoredSealer::zeros();
     0
 }
 

@@ -17,9 +17,7 @@ use super::pass::{mark_of, mask_siv, siv_marked, siv_numbered, tag_by, take_siv}
 use super::sealer::{NOT_BEGUN, begun_by};
 use super::stored::{StoredPasses, StoredSealer};
 use crate::beside::HashFirst;
-use crate::derived_keys::{
-    KeyParts, hash_key, joined_blocks, long_encryption_key, short_encryption_key,
-};
+use crate::derived_keys::{KeyParts, hash_key, joined, long_encryption_key, short_encryption_key};
 use crate::hashes::PolyvalTag;
 use crate::suite::Suite;
 use aes::AesKey;
@@ -51,7 +49,7 @@ pub(super) fn begun(
     suite.check_aad(aad)?;
     let cipher = AesKey::from_slice(key)?;
     let parts = KeyParts::new(&cipher, &nonce);
-    let hash_key = joined_blocks(hash_key(&parts).bytes(), &[0; 16]);
+    let hash_key = joined(hash_key(&parts).bytes(), &[0; 16]);
     if suite == Suite::Aes128GcmSiv {
         let key = short_encryption_key(&parts);
         return Ok(begun_by::<PolyvalTag<TableMul, AesKey>>(suite, &key, &nonce, hash_key, aad));
@@ -88,7 +86,7 @@ pub extern "C" fn aeadkit_siv_init(
         → suite ≢ suite_number named) → result ≡ unknown_suite }
     ensures refused { result ≢ 0 → siv.new ≡ zero_passes }
 {
-    siv.erase();
+    *siv = StoredPasses::zeros();
     let Some(suite) = siv_numbered(u64::from(suite)) else {
         return UNKNOWN_SUITE;
     };
@@ -176,7 +174,7 @@ pub extern "C" fn aeadkit_siv_finish(siv: &mut StoredPasses) -> u32
         return NOT_BEGUN;
     };
     let repeats = siv.repeats(suite);
-    siv.erase();
+    *siv = StoredPasses::zeros();
     if repeats {
         outcome_number(Ok(()))
     } else {

@@ -9,6 +9,7 @@ ghost use Rattle.aead.specs.Code.States.{HoldsAuthenticator};
 ghost use Rattle.aead.specs.Stored.{zero_sum, zeros, zero_passes, IsPolyKey, IsPolySum, IsGhashKey};
 ghost use Rattle.aead.specs.Stored.{IsGhashSum, IsPolyvalKey, IsPolyvalSum, HasKeys, HoldsBy, HoldsSealed};
 ghost use Rattle.aead.specs.Stored.{HasStart, HoldsSivText};
+ghost use Rattle.aead.specs.Code.NoSums.{no_poly_sum, no_ghash_sum, no_polyval_sum};
 
 use crate::authenticator::Authenticator;
 use crate::derived_keys::expanded;
@@ -31,18 +32,12 @@ pub struct StoredSum {
     high: u64,
 }
 
-impl StoredSum {
-    // All zeros.
-    pub(super) fn zeros() -> StoredSum
-        ensures { result ≡ zero_sum }
-    {
-        StoredSum {
-            low: 0,
-            middle: 0,
-            high: 0,
-        }
-    }
-}
+// The sum over no bytes.
+const NO_SUM: StoredSum = StoredSum {
+    low: 0,
+    middle: 0,
+    high: 0,
+};
 
 /// A sealing in pieces. Each number may have any value: a call reads them with checks, and makes again what
 /// carries a fact.
@@ -78,17 +73,10 @@ impl StoredSealer {
             used: 0,
             hash_key: [0; 32],
             rest: [0; 16],
-            sum: StoredSum::zeros(),
+            sum: NO_SUM,
             aad_length: 0,
             length: 0,
         }
-    }
-
-    // Writes zeros over every number.
-    pub(super) fn erase(&mut self)
-        ensures { self.new ≡ zeros }
-    {
-        *self = StoredSealer::zeros();
     }
 
     // The numbers of what was taken in, under the keys of these numbers.
@@ -98,7 +86,7 @@ impl StoredSealer {
             → HoldsAuthenticator H.held taken.now s bytes
             → HoldsBy H.by H.keyed H.summed result s bytes }
     {
-        let kept = taken.hash.rest();
+        let (sum, kept) = taken.hash.sum_and_rest();
         let mut rest = [0; 16];
         rest[..kept.len()].copy_from_slice(kept);
         StoredSealer {
@@ -108,7 +96,7 @@ impl StoredSealer {
             used: kept.len() as u32,
             hash_key: self.hash_key,
             rest,
-            sum: taken.hash.sum(),
+            sum,
             aad_length: taken.aad_length,
             length: taken.length,
         }
@@ -175,17 +163,10 @@ impl StoredPasses {
         StoredPasses {
             mark: 0,
             state: StoredSealer::zeros(),
-            start: StoredSum::zeros(),
+            start: NO_SUM,
             tag: [0; 16],
             first: 0,
         }
-    }
-
-    // Writes zeros over every number.
-    pub(super) fn erase(&mut self)
-        ensures { self.new ≡ zero_passes }
-    {
-        *self = StoredPasses::zeros();
     }
 }
 
@@ -202,25 +183,21 @@ pub(super) trait StoredHash: TagHash {
     // This is the sum over the whole blocks of a text, under the keys of a message.
     ghost summed: { StoredSum → Setting → List ℕ → Type 0 };
 
-    // The hash of no bytes under the keys of these numbers.
-    fn begun(keys: &StoredSealer, suite: Suite) -> Self
-        ensures { (s : Setting) → s.suite ≡ suite → HasKeys by keyed keys.now s → Self.held result s [] };
-
-    // Its sum over the whole blocks of the text.
-    fn sum(&self) -> StoredSum
-        ensures { (s : Setting) (m : List ℕ) → Self.held self.now s m → summed result s m };
-
-    // The bytes of the text after its last whole block.
-    fn rest(&self) -> &[u8]
-        ensures value { (s : Setting) (m : List ℕ) → Self.held self.now s m
-            → result.now ≡ drop (length m / 16 * 16) m }
-        ensures short { length result.now < 16 };
+    // Its sum over the whole blocks of the text, and the bytes after the last one.
+    fn sum_and_rest(&self) -> (StoredSum, &[u8])
+        ensures sum { (s : Setting) (m : List ℕ) → Self.held self.now s m → summed result.0 s m }
+        ensures rest { (s : Setting) (m : List ℕ) → Self.held self.now s m
+            → result.1.now ≡ drop (length m / 16 * 16) m }
+        ensures short { length result.1.now < 16 };
 
     // The hash of a text again, under the keys and from the sum of these numbers.
     fn resumed(stored: &StoredSealer, suite: Suite, rest: &[u8]) -> Self
         requires { length rest.now < 16 }
         ensures { (s : Setting) (m : List ℕ) → s.suite ≡ suite → HasKeys by keyed stored.now s
             → summed stored.now.sum s m → rest.now ≡ drop (length m / 16 * 16) m → Self.held result s m };
+
+    // Over no bytes the sum is zero.
+    ghost none: { (s : Setting) → summed zero_sum s [] };
 }
 
 // The lower 128 bits of a sum.
@@ -237,27 +214,22 @@ impl StoredHash for Poly {
 
     ghost summed = { IsPolySum };
 
-    fn begun(keys: &StoredSealer, _suite: Suite) -> Poly {
-        Poly::new(&keys.hash_key)
-    }
-
-    fn sum(&self) -> StoredSum {
+    fn sum_and_rest(&self) -> (StoredSum, &[u8]) {
         let (low, high) = self.sum();
-        StoredSum {
+        let sum = StoredSum {
             low: (low % WORD) as u64,
             middle: (low >> 64) as u64,
             high,
-        }
-    }
-
-    fn rest(&self) -> &[u8] {
-        self.rest()
+        };
+        (sum, self.rest())
     }
 
     fn resumed(stored: &StoredSealer, _suite: Suite, rest: &[u8]) -> Poly {
         let sum = stored.sum;
         Poly::resumed(&stored.hash_key, from_words(sum), sum.high, rest)
     }
+
+    ghost none = { no_poly_sum };
 }
 
 // ---- AES-GCM and AES-GCM-SIV
@@ -298,19 +270,8 @@ impl<M: Keyed128> StoredHash for GhashTag<M> {
 
     ghost summed = { IsGhashSum };
 
-    fn begun(keys: &StoredSealer, _suite: Suite) -> GhashTag<M> {
-        GhashTag {
-            hash: Ghash::with(M::of(&multiplier_key(&keys.hash_key))),
-            mask: tag_mask(&keys.hash_key),
-        }
-    }
-
-    fn sum(&self) -> StoredSum {
-        in_words(self.hash.sum())
-    }
-
-    fn rest(&self) -> &[u8] {
-        self.hash.rest()
+    fn sum_and_rest(&self) -> (StoredSum, &[u8]) {
+        (in_words(self.hash.sum()), self.hash.rest())
     }
 
     fn resumed(stored: &StoredSealer, _suite: Suite, rest: &[u8]) -> GhashTag<M> {
@@ -320,6 +281,8 @@ impl<M: Keyed128> StoredHash for GhashTag<M> {
             mask: tag_mask(&stored.hash_key),
         }
     }
+
+    ghost none = { no_ghash_sum };
 }
 
 impl<M: Keyed128> StoredHash for PolyvalTag<M, AesKey> {
@@ -329,20 +292,8 @@ impl<M: Keyed128> StoredHash for PolyvalTag<M, AesKey> {
 
     ghost summed = { IsPolyvalSum };
 
-    fn begun(keys: &StoredSealer, suite: Suite) -> PolyvalTag<M, AesKey> {
-        PolyvalTag {
-            hash: Polyval::with(M::of(&multiplier_key(&keys.hash_key))),
-            key: expanded(&keys.key[..suite.key_length()]),
-            nonce: Nonce::new(keys.nonce),
-        }
-    }
-
-    fn sum(&self) -> StoredSum {
-        in_words(self.hash.sum())
-    }
-
-    fn rest(&self) -> &[u8] {
-        self.hash.rest()
+    fn sum_and_rest(&self) -> (StoredSum, &[u8]) {
+        (in_words(self.hash.sum()), self.hash.rest())
     }
 
     fn resumed(stored: &StoredSealer, suite: Suite, rest: &[u8]) -> PolyvalTag<M, AesKey> {
@@ -353,4 +304,6 @@ impl<M: Keyed128> StoredHash for PolyvalTag<M, AesKey> {
             nonce: Nonce::new(stored.nonce),
         }
     }
+
+    ghost none = { no_polyval_sum };
 }

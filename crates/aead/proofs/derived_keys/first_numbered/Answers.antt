@@ -10,10 +10,10 @@ returns c =
     let f : ℕ → List ℕ = λ q. to_le_bytes w32 q ++ nonce in
     let long : (q : ℕ) → length (f q) ≡ 16 =
     λ q. length-append (to_le_bytes w32 q) nonce ∙ ap (λ n. 4 + n) c.told-nonce in
-    let front : c.joined_blocks-front.result ≡ f 0 ++ f 1 =
-    c.joined_blocks-front.ensures ∙ ap₂ (λ a b. a ++ b) c.numbered.ensures c.numbered-2.ensures in
-    let back : c.joined_blocks-back.result ≡ f 2 ++ f 3 =
-    c.joined_blocks-back.ensures ∙ ap₂ (λ a b. a ++ b) c.numbered-3.ensures c.numbered-4.ensures in
-    joined_blocks (f 0) (f 1) (f 2) (f 3) c.joined_halves.result f (long 0) (long 1) (long 2) (long 3)
-    (c.joined_halves.ensures ∙ ap₂ (λ a b. a ++ b) front back ∙ append_assoc (f 0) (f 1) (f 2 ++ f 3))
+    let front : c.joined-front.result ≡ f 0 ++ f 1 =
+    c.joined-front.ensures ∙ ap₂ (λ a b. a ++ b) c.numbered.ensures c.numbered-2.ensures in
+    let back : c.joined-back.result ≡ f 2 ++ f 3 =
+    c.joined-back.ensures ∙ ap₂ (λ a b. a ++ b) c.numbered-3.ensures c.numbered-4.ensures in
+    joined_blocks (f 0) (f 1) (f 2) (f 3) c.joined.result f (long 0) (long 1) (long 2) (long 3)
+    (c.joined.ensures ∙ ap₂ (λ a b. a ++ b) front back ∙ append_assoc (f 0) (f 1) (f 2 ++ f 3))
     refl refl refl refl

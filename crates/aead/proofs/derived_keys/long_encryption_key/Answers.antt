@@ -4,7 +4,7 @@ use Rattle.aead.proofs.derived_keys.long_encryption_key.Goals as goal
 
 pub returns : goal.returns
 returns c =
-    c.joined_blocks.ensures
+    c.joined.ensures
     ∙ ap₂ (λ a b. a ++ b)
     (c.joined-first.ensures ∙ ap₂ (λ a b. a ++ b) c.at.ensures c.at-2.ensures)
     (c.joined-second.ensures ∙ ap₂ (λ a b. a ++ b) c.key_part.ensures c.key_part-2.ensures)

@@ -62,4 +62,4 @@ returns-in-Err-clause-unknown c = λ none.
     absurd (none c.in-Some.suite (sym c.from.ensures ∙ found))
 
 pub returns-in_default-clause-refused : goal.returns-in_default-clause-refused
-returns-in_default-clause-refused c = λ _. c.erase.ensures
+returns-in_default-clause-refused c = λ _. c.zeros.ensures

@@ -22,4 +22,4 @@ returns-in_default-clause-holds c = λ s text h.
     absurd (none-some s.suite ((c.in_default.ensures s.suite).1 (f.one_pass, f.mark_is)))
 
 pub returns-clause-done : goal.returns-clause-done
-returns-clause-done c = λ _. c.erase.ensures
+returns-clause-done c = λ _. c.zeros.ensures

@@ -19,10 +19,10 @@ returns c =
     let mask : second ≡ cipher key (j0 s.nonce) =
     c.bytes-2.ensures.value ∙ c.encrypt-tag_mask.ensures.value ∙ ap (cipher c.args.cipher.now) c.counter_block.ensures.value
     ∙ ap (λ k. cipher k (j0 s.nonce)) c.requires.cipher_is in
-    let keyed : IsGhashKey c.joined_blocks-keys.result s = (
-      ap (take 16) c.joined_blocks-keys.ensures ∙ take_at first second 16 long ∙ c.bytes.ensures.value
+    let keyed : IsGhashKey c.joined-keys.result s = (
+      ap (take 16) c.joined-keys.ensures ∙ take_at first second 16 long ∙ c.bytes.ensures.value
           ∙ c.requires.hash_key_is,
-      ap (drop 16) c.joined_blocks-keys.ensures ∙ drop_at first second 16 long ∙ mask,
+      ap (drop 16) c.joined-keys.ensures ∙ drop_at first second 16 long ∙ mask,
     ) in
     let P : Construction → Type 0 = λ x. HoldsOf x p s [] in
     subst P (sym c.requires.by)

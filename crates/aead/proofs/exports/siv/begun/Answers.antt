@@ -27,8 +27,8 @@ returns-then-eq c =
     let nonce = c.in_ok-nonce.nonce in
     let s : Setting = setting_of c.args.suite key nonce c.args.aad.now in
     let key_is : c.new-parts.result.key.now ≡ key = c.new-parts.ensures.key ∙ c.in_ok-cipher.ensures.0 in
-    let keyed : IsPolyvalKey c.joined_blocks-hash_key.result s =
-    stored_key key nonce _ _ _ _ _ _ key_is c.new-parts.ensures.nonce c.joined_blocks-hash_key.ensures
+    let keyed : IsPolyvalKey c.joined-hash_key.result s =
+    stored_key key nonce _ _ _ _ _ _ key_is c.new-parts.ensures.nonce c.joined-hash_key.ensures
     c.bytes.ensures.value (ap length c.bytes.ensures.value ∙ c.bytes.ensures.is_block.length_is)
     c.hash_key.ensures.of_block c.hash_key.ensures.value in
     let long : length key ≡ key_length c.args.suite =
@@ -45,8 +45,8 @@ returns c =
     let nonce = c.in_ok-nonce.nonce in
     let s : Setting = setting_of c.args.suite key nonce c.args.aad.now in
     let key_is : c.new-parts.result.key.now ≡ key = c.new-parts.ensures.key ∙ c.in_ok-cipher.ensures.0 in
-    let keyed : IsPolyvalKey c.joined_blocks-hash_key.result s =
-    stored_key key nonce _ _ _ _ _ _ key_is c.new-parts.ensures.nonce c.joined_blocks-hash_key.ensures
+    let keyed : IsPolyvalKey c.joined-hash_key.result s =
+    stored_key key nonce _ _ _ _ _ _ key_is c.new-parts.ensures.nonce c.joined-hash_key.ensures
     c.bytes.ensures.value (ap length c.bytes.ensures.value ∙ c.bytes.ensures.is_block.length_is)
     c.hash_key.ensures.of_block c.hash_key.ensures.value in
     let long : length key ≡ key_length c.args.suite =
