@@ -2,12 +2,10 @@
 //! crate `command`; the tests of all crates stand here.
 #![tactic(auto)]
 
-mod arguments;
 #[cfg(test)]
 mod tests;
 
-use arguments::words_given;
-use command::{Disk, report, run};
+use command::{Disk, report, run, words_given};
 use std::fs;
 use std::process::ExitCode;
 

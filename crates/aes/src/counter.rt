@@ -47,13 +47,9 @@ fn add_le(first: &[u8; 16], steps: u32) -> [u8; 16]
 fn joined(a: &[u8; 16], b: &[u8; 16], c: &[u8; 16], d: &[u8; 16]) -> [u8; 64]
     ensures { result ≡ a.now ++ (b.now ++ (c.now ++ d.now)) }
 {
-    [
-        a[0], a[1], a[2], a[3], a[4], a[5], a[6], a[7], a[8], a[9], a[10], a[11], a[12], a[13],
-        a[14], a[15], b[0], b[1], b[2], b[3], b[4], b[5], b[6], b[7], b[8], b[9], b[10], b[11],
-        b[12], b[13], b[14], b[15], c[0], c[1], c[2], c[3], c[4], c[5], c[6], c[7], c[8], c[9],
-        c[10], c[11], c[12], c[13], c[14], c[15], d[0], d[1], d[2], d[3], d[4], d[5], d[6], d[7],
-        d[8], d[9], d[10], d[11], d[12], d[13], d[14], d[15],
-    ]
+    let mut four = [0; 64];
+    four.copy_from_slice([*a, *b, *c, *d].as_flattened());
+    four
 }
 
 // XORs four runs of four blocks into 256 bytes.

@@ -22,7 +22,6 @@ fn add_xor_rotate(s: &mut [u32; 16], a: usize, b: usize, d: usize, n: u32)
 }
 
 // The quarter round on four words of a state (RFC 8439, 2.1).
-#[tactic(auto, unfolding(crate::specs::Block::quarter_round))]
 #[inline(always)]
 pub(crate) fn quarter_round(s: &mut [u32; 16], a: usize, b: usize, c: usize, d: usize)
     requires places { (a < 16) × (b < 16) × (c < 16) × (d < 16) }

@@ -33,11 +33,7 @@ impl ChaStream {
     pub fn new(key: &Key32, nonce: &Nonce, first: u32) -> ChaStream
         ensures { Holds result key.now nonce.now first 0 }
     {
-        ChaStream {
-            key: *key,
-            nonce: *nonce,
-            place: first as u64 * 64,
-        }
+        ChaStream::at(key, nonce, first as u64 * 64)
     }
 
     /// The key stream whose next byte is at `place` of the key stream from counter 0 on, at most at its end.

@@ -2,6 +2,7 @@
 //! writer for each standard stream.
 #![tactic(auto)]
 
+mod arguments;
 mod commands;
 mod failure;
 mod files;
@@ -14,6 +15,7 @@ mod subcommands;
 mod version;
 mod words;
 
+pub use arguments::words_given;
 pub use failure::Failure;
 pub use program::{perform, report, run, write_new_file};
 pub use storage::{Disk, Storage};

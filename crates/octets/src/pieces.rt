@@ -59,11 +59,7 @@ impl<A: Absorb> Pieces<A> {
     pub fn new(core: A) -> Pieces<A>
         ensures { (k : List ℕ) → A.absorbed core k [] → HoldsPieces A.absorbed result k [] }
     {
-        Pieces {
-            core,
-            buffer: [0; 16],
-            used: 0,
-        }
+        Pieces::resumed(core, &[])
     }
 
     /// The text whose whole blocks `core` took in, and whose bytes after them are `rest`: fewer than 16.

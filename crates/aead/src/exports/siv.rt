@@ -13,6 +13,7 @@ ghost use Rattle.aead.specs.StoredSiv.{absorbing, writing, NotIn, HoldsAbsorbing
 ghost use Rattle.aead.specs.StoredSiv.{Absorbs, Tags, Encrypts, Ends};
 
 use super::UNKNOWN_SUITE;
+use super::opener::aeadkit_opener_size;
 use super::pass::{mark_of, mask_siv, siv_marked, siv_numbered, tag_by, take_siv};
 use super::sealer::{NOT_BEGUN, begun_by};
 use super::stored::{StoredPasses, StoredSealer};
@@ -182,10 +183,10 @@ pub extern "C" fn aeadkit_siv_finish(siv: &mut StoredPasses) -> u32
     }
 }
 
-/// The bytes of the struct that the calls of a sealing by two readings take.
+/// The bytes of the struct that the calls of a sealing by two readings take: the struct is an opener's.
 #[unsafe(no_mangle)]
 pub extern "C" fn aeadkit_siv_size() -> usize
     ensures { result ≡ 200 }
 {
-    size_of::<StoredPasses>()
+    aeadkit_opener_size()
 }

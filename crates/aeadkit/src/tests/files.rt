@@ -44,22 +44,21 @@ const TEXT: &str = "aeadkit_files/text";
 
 const VECTORS: &str = "aeadkit_files/vectors.txt";
 
+const FORGED: &str = "aeadkit_files/forged";
+
+const EMPTY: &str = "aeadkit_files/empty";
+
+const SEALED: &str = "aeadkit_files/sealed";
+
+const OPENED: &str = "aeadkit_files/opened";
+
+const NOTHING: &str = "aeadkit_files/nothing";
+
 const UNMADE: &str = "aeadkit_files/unmade";
 
 // Makes a file of these bytes.
 fn is_made(rt: &(impl Abort + Files), path: &str, bytes: &[u8]) {
     shows(rt, fs::write(rt, path, bytes).is_ok(), path);
-}
-
-// Makes a file of the bytes that these digits spell.
-fn is_spelled(rt: &(impl Abort + Alloc<A = Global> + Files), path: &str, digits: &str) {
-    is_made(rt, path, &bytes(rt, digits));
-}
-
-// The file holds the bytes that these digits spell.
-fn holds(rt: &(impl Abort + Alloc<A = Global> + Files), path: &str, digits: &str) {
-    let held = fs::read(rt, path).expect(rt, "a file");
-    shows(rt, held.as_slice() == bytes(rt, digits).as_slice(), path);
 }
 
 // A status, a fault and the words that have them: a file is sealed and opened again; bytes that are no sealing make no
@@ -102,9 +101,10 @@ fn system_files(rt: HostRuntime) {
     let Vector { text, sealed, .. } = Vector::of(CHACHA);
     let _ = fs::remove_dir_all(&rt, FOLDER);
     shows(&rt, fs::create_dir(&rt, FOLDER).is_ok(), "a folder");
-    is_spelled(&rt, TEXT, text);
-    is_spelled(&rt, "aeadkit_files/forged", CHANGED);
-    is_spelled(&rt, "aeadkit_files/empty", Vector::of(GCM).sealed);
+    let empty = Vector::of(GCM).sealed;
+    for (path, digits) in [(TEXT, text), (FORGED, CHANGED), (EMPTY, empty)] {
+        is_made(&rt, path, &bytes(&rt, digits));
+    }
     is_made(&rt, VECTORS, TWO_RECORDS.as_bytes());
     let files = Disk {
         runtime: &rt,
@@ -114,10 +114,15 @@ fn system_files(rt: HostRuntime) {
         runs_row(&rt, &files, row);
     }
     checks(&rt);
-    holds(&rt, "aeadkit_files/sealed", sealed);
-    holds(&rt, "aeadkit_files/opened", text);
-    holds(&rt, "aeadkit_files/nothing", "");
-    holds(&rt, TEXT, text);
+    for (path, digits) in [
+        (SEALED, sealed),
+        (OPENED, text),
+        (NOTHING, ""),
+        (TEXT, text),
+    ] {
+        let held = fs::read(&rt, path).expect(&rt, "a file");
+        shows(&rt, held.as_slice() == bytes(&rt, digits).as_slice(), path);
+    }
     shows(&rt, fs::read(&rt, UNMADE).is_err(), "no file");
     shows(&rt, fs::remove_dir_all(&rt, FOLDER).is_ok(), "the end");
 }

@@ -1,7 +1,7 @@
 //! The words after the program's name.
 ghost use Rattle.std.specs.Io.{WritesAtMost};
 
-use command::Failure;
+use crate::failure::Failure;
 use octets::Fault;
 use std::alloc::Global;
 use std::env::FillError;
