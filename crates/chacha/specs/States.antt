@@ -10,7 +10,7 @@ use Rattle.chacha.specs.declared.stream.ChaStream.{ChaStream}
 pub record Holds (s : ChaStream) (key nonce : List ℕ) (first made : ℕ) : Type 0 where
   pub key_is : s.key ≡ key
   pub nonce_is : s.nonce ≡ nonce
-  pub place_is : s.place ≡ first * 64 + made
+  pub offset_is : s.offset ≡ first * 64 + made
 
 -- the next bytes of the key stream were there, and are XORed in
 pub record Applied (after : ChaStream) (key nonce : List ℕ) (first made : ℕ) (was now : List ℕ) : Type 0

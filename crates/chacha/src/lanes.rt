@@ -287,7 +287,7 @@ pub(crate) fn bytes_of(lanes: u32x4) -> [u8; 16]
     lanes.to_le_bytes().to_array()
 }
 
-// XORs four words, written out, into the sixteen bytes from place `at` on.
+// XORs four words, written out, into the sixteen bytes that start at offset `at`.
 #[inline(always)]
 fn xor_at(bytes: &mut [u8], at: usize, words: u32x4)
     requires { at + 16 ≤ length bytes.old }
@@ -315,7 +315,7 @@ pub(crate) fn xor_thirty_two(bytes: &mut [u8], by: u8x32)
     sum.copy_to_slice(bytes);
 }
 
-// XORs eight words, written out, into the 32 bytes from place `at` on.
+// XORs eight words, written out, into the 32 bytes that start at offset `at`.
 #[inline(always)]
 fn xor_eight_at(bytes: &mut [u8], at: usize, words: u32x8)
     requires { at + 32 ≤ length bytes.old }

@@ -67,7 +67,7 @@ fn add(s: &mut [u32; 16], start: &[u32; 16])
     }
 }
 
-// Puts bytes into a part of `out`, from place `at` on.
+// Copies bytes into `out`, starting at offset `at`.
 #[inline(always)]
 pub(crate) fn put(out: &mut [u8], at: usize, bytes: &[u8])
     requires { at + length bytes.now ≤ length out.old }

@@ -7,7 +7,7 @@ ghost use Rattle.chacha.specs.Block.{initial_state};
 use byteorder::{ByteOrder, LittleEndian};
 use octets::{Key32, Nonce};
 
-// The word that the four bytes from place `4 * i` on spell, lowest byte first.
+// The little-endian word of the four bytes that start at offset `4 * i`.
 #[inline(always)]
 fn word(bytes: &[u8], i: usize) -> u32
     requires { 4 * i + 4 ≤ length bytes.now }

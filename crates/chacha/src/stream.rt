@@ -21,9 +21,9 @@ pub const RUN: usize = if WIDE { 512 } else { 256 };
 pub struct ChaStream {
     key: Key32,
     nonce: Nonce,
-    // The place of the next byte in the key stream from counter 0 on.
-    place: u64,
-    ghost within: { place ≤ 2 ^ 38 },
+    // The offset of the next byte in the key stream that starts at counter 0.
+    offset: u64,
+    ghost within: { offset ≤ 2 ^ 38 },
 }
 
 impl ChaStream {
@@ -36,16 +36,16 @@ impl ChaStream {
         ChaStream::at(key, nonce, first as u64 * 64)
     }
 
-    /// The key stream whose next byte is at `place` of the key stream from counter 0 on, at most at its end.
-    pub fn at(key: &Key32, nonce: &Nonce, place: u64) -> ChaStream
-        requires { place ≤ 2 ^ 38 }
-        ensures { (first made : ℕ) → place ≡ first * 64 + made
+    /// The key stream whose next byte is at `offset` of the key stream that starts at counter 0, at most at its end.
+    pub fn at(key: &Key32, nonce: &Nonce, offset: u64) -> ChaStream
+        requires { offset ≤ 2 ^ 38 }
+        ensures { (first made : ℕ) → offset ≡ first * 64 + made
             → Holds result key.now nonce.now first made }
     {
         ChaStream {
             key: *key,
             nonce: *nonce,
-            place,
+            offset,
         }
     }
 
@@ -72,11 +72,11 @@ impl ChaStream {
             (λ fault. Refused fault self.old self.new first made bytes.old bytes.new) }
         ensures work { (k m : List ℕ) → W.comes_to work.old k m → W.comes_to work.new k m }
     {
-        if bytes.len() as u64 > END - self.place {
+        if bytes.len() as u64 > END - self.offset {
             return Err(Fault::StreamEnd);
         }
-        xor_stream(&self.key, &self.nonce, self.place, bytes, work);
-        self.place += bytes.len() as u64;
+        xor_stream(&self.key, &self.nonce, self.offset, bytes, work);
+        self.offset += bytes.len() as u64;
         Ok(())
     }
 }
@@ -108,31 +108,37 @@ pub fn key_stream_start<const N: usize>(key: &Key32, nonce: &Nonce) -> [u8; N]
     start
 }
 
-// XORs the key stream into the bytes, from a place of the stream that begins at counter 0.
-fn xor_stream<W: Work>(key: &Key32, nonce: &Nonce, place: u64, bytes: &mut [u8], work: &mut W)
-    requires { place + length bytes.old ≤ 2 ^ 38 }
-    ensures masked { bytes.new ≡ masked (key_stream_byte key.now nonce.now 0) place bytes.old }
+// XORs the key stream into the bytes, from an offset of the stream that starts at counter 0.
+fn xor_stream<W: Work>(key: &Key32, nonce: &Nonce, offset: u64, bytes: &mut [u8], work: &mut W)
+    requires { offset + length bytes.old ≤ 2 ^ 38 }
+    ensures masked { bytes.new ≡ masked (key_stream_byte key.now nonce.now 0) offset bytes.old }
     ensures work { (k m : List ℕ) → W.comes_to work.old k m → W.comes_to work.new k m }
 {
     let mut done = 0;
     'runs: while done < bytes.len() {
-        done += xor_run(key, nonce, place + done as u64, &mut bytes[done..], work);
+        done += xor_run(key, nonce, offset + done as u64, &mut bytes[done..], work);
     }
 }
 
-// XORs the key stream from a place on into the first bytes, by the widest form that fits, and returns how
+// XORs the key stream from an offset on into the first bytes, by the widest form that fits, and returns how
 // many they are.
-fn xor_run<W: Work>(key: &Key32, nonce: &Nonce, place: u64, bytes: &mut [u8], work: &mut W) -> usize
+fn xor_run<W: Work>(
+    key: &Key32,
+    nonce: &Nonce,
+    offset: u64,
+    bytes: &mut [u8],
+    work: &mut W,
+) -> usize
     requires some { 0 < length bytes.old }
-    requires within { place + length bytes.old ≤ 2 ^ 38 }
+    requires within { offset + length bytes.old ≤ 2 ^ 38 }
     ensures progress { 0 < result }
     ensures in_range { result ≤ length bytes.old }
-    ensures masked { bytes.new ≡ masked (key_stream_byte key.now nonce.now 0) place (take result bytes.old)
+    ensures masked { bytes.new ≡ masked (key_stream_byte key.now nonce.now 0) offset (take result bytes.old)
         ++ drop result bytes.old }
     ensures work { (k m : List ℕ) → W.comes_to work.old k m → W.comes_to work.new k m }
 {
-    let counter = (place / 64) as u32;
-    let skip = (place % 64) as usize;
+    let counter = (offset / 64) as u32;
+    let skip = (offset % 64) as usize;
     if WIDE && skip == 0 && bytes.len() >= 512 {
         let whole = bytes.len() / 512 * 512;
         lanes::xor_eights(key, counter, nonce, &mut bytes[..whole], work);

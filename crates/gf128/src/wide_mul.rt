@@ -42,7 +42,7 @@ impl WideMul {
         self.fourth.at(a).xor(self.third.at(b).xor(low))
     }
 
-    // The sum of a half word times the fourth power of the key, and of half the words of three blocks, from place `from`
+    // The sum of a half word times the fourth power of the key, and of half the words of three blocks, from offset `from`
     // on, times the third, the second and the key, not reduced. A byte of a block is read from memory, which takes one
     // instruction; to get it from a word takes two or three.
     #[inline(always)]

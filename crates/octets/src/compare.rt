@@ -99,7 +99,7 @@ fn xor_sixteens(dst: &mut [u8], src: &[u8])
     put_lanes(&mut dst[start..], last);
 }
 
-/// XORs `src` into `dst`, place by place. The caller shows that they have one length.
+/// XORs `src` into `dst`, byte by byte. The caller shows that they have one length.
 #[inline(always)]
 pub fn xor_into(dst: &mut [u8], src: &[u8])
     requires { length dst.old ≡ length src.now }

@@ -98,9 +98,9 @@ fn is_done(case: &Case<'_>, out: &[u8], log: &Log) -> bool {
     }
 }
 
-// Answers a request with one request for memory refused after the first `passed` ones, and returns the status that
-// is due: if it came to that one, 3 if the making of the file asked for it, and else 4; then nothing is printed, and
-// no file is made.
+// Does what a request asks for, with one request for memory refused after the first `passed` ones, and returns the
+// status that is due: if it came to that one, 3 if the making of the file asked for it, and else 4; then nothing is
+// printed, and no file is made.
 fn due_status(rt: &(impl Abort + Alloc<A = Global>), case: &Case<'_>, passed: u64) -> u8 {
     let memory = RefusingMemory::after(passed, rt.alloc());
     let log = Log::new(rt.alloc());
@@ -132,8 +132,8 @@ fn due_status(rt: &(impl Abort + Alloc<A = Global>), case: &Case<'_>, passed: u6
     due
 }
 
-// Answers a request with each of its requests for memory refused in turn, until none is. The last one that is
-// refused has this status.
+// Does what a request asks for, with each of its requests for memory refused in turn, until none is. The last one
+// that is refused has this status.
 fn each_is_refused(rt: &(impl Abort + Alloc<A = Global>), case: &Case<'_>, last: u8) {
     let mut before = 0;
     for passed in 0..100u64 {
@@ -147,7 +147,7 @@ fn each_is_refused(rt: &(impl Abort + Alloc<A = Global>), case: &Case<'_>, last:
     shows(rt, due_status(rt, case, 100) == case.status, "no request");
 }
 
-// Answers a request that prints a line and reads this file.
+// Does what a request asks for, which prints a line and reads this file.
 fn prints(
     rt: &(impl Abort + Alloc<A = Global>),
     request: PrintRequest<'_>,

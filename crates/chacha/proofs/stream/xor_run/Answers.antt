@@ -7,52 +7,52 @@ returns-then-bytes-ge512-clause-masked g c =
     let n : ℕ = length c.args.bytes.now / 512 * 512 in
     ap (λ l. l ++ drop n c.args.bytes.now)
     (c.xor_eights.ensures.masked
-    ∙ whole_blocks c.args.key.now c.args.nonce.now c.args.place (take n c.args.bytes.now) (omega arith))
+    ∙ whole_blocks c.args.key.now c.args.nonce.now c.args.offset (take n c.args.bytes.now) (omega arith))
 
 pub returns-then-bytes-ge256-clause-masked : goal.returns-then-bytes-ge256-clause-masked
 returns-then-bytes-ge256-clause-masked g c =
     let n : ℕ = length c.args.bytes.now / 256 * 256 in
     ap (λ l. l ++ drop n c.args.bytes.now)
     (c.xor_fours.ensures.masked
-    ∙ whole_blocks c.args.key.now c.args.nonce.now c.args.place (take n c.args.bytes.now) (omega arith))
+    ∙ whole_blocks c.args.key.now c.args.nonce.now c.args.offset (take n c.args.bytes.now) (omega arith))
 
 pub returns-then-counter-clause-masked : goal.returns-then-counter-clause-masked
 returns-then-counter-clause-masked g c =
     let split = c.split_at_mut-front.ensures in
-    front_and_run c.args.key.now c.args.nonce.now c.args.place 256 c.xor_part.result c.args.bytes.now _ _ _ _ _
+    front_and_run c.args.key.now c.args.nonce.now c.args.offset 256 c.xor_part.result c.args.bytes.now _ _ _ _ _
     c.if-skip-eq0-3.true refl split.front_len split.value c.xor_eight.ensures.front c.xor_eight.ensures.back
     c.xor_eight.auto.back c.xor_part.ensures.count c.xor_part.ensures.xored
 
 pub returns-then-counter-2-clause-masked : goal.returns-then-counter-2-clause-masked
 returns-then-counter-2-clause-masked g c =
-    run_of_zeros c.args.key.now c.args.nonce.now c.args.place 512 c.xor_part-then-counter-2.result c.args.bytes.now
+    run_of_zeros c.args.key.now c.args.nonce.now c.args.offset 512 c.xor_part-then-counter-2.result c.args.bytes.now
     c.xor_eights-then-counter-2.new.bytes _
     c.xor_eights-then-counter-2.ensures.masked c.xor_eights-then-counter-2.auto.bytes
     c.xor_part-then-counter-2.ensures.count c.xor_part-then-counter-2.ensures.xored
 
 pub returns-then-counter-3-clause-masked : goal.returns-then-counter-3-clause-masked
 returns-then-counter-3-clause-masked g c =
-    run_of_zeros c.args.key.now c.args.nonce.now c.args.place 320 c.xor_part-then-counter-3.result
+    run_of_zeros c.args.key.now c.args.nonce.now c.args.offset 320 c.xor_part-then-counter-3.result
     c.args.bytes.now c.xor_five_blocks.new.bytes _
     c.xor_five_blocks.ensures.masked c.xor_five_blocks.auto.bytes c.xor_part-then-counter-3.ensures.count
     c.xor_part-then-counter-3.ensures.xored
 
 pub returns-then-counter-4-clause-masked : goal.returns-then-counter-4-clause-masked
 returns-then-counter-4-clause-masked g c =
-    run_of_zeros c.args.key.now c.args.nonce.now c.args.place 256 c.xor_part-then-counter-4.result
+    run_of_zeros c.args.key.now c.args.nonce.now c.args.offset 256 c.xor_part-then-counter-4.result
     c.args.bytes.now c.xor_fours-then-counter-4.new.bytes _
     c.xor_fours-then-counter-4.ensures.masked c.xor_fours-then-counter-4.auto.bytes c.xor_part-then-counter-4.ensures.count
     c.xor_part-then-counter-4.ensures.xored
 
 pub returns-then-counter-5-clause-masked : goal.returns-then-counter-5-clause-masked
 returns-then-counter-5-clause-masked g c =
-    run_of_two c.args.key.now c.args.nonce.now c.args.place c.xor_part-then-counter-5.result
+    run_of_two c.args.key.now c.args.nonce.now c.args.offset c.xor_part-then-counter-5.result
     c.two_blocks-blocks.result c.args.bytes.now c.as_flattened.result.now _
     c.two_blocks-blocks.ensures c.as_flattened.ensures.value c.as_flattened.ensures.len
     c.xor_part-then-counter-5.ensures.count c.xor_part-then-counter-5.ensures.xored
 
 pub returns-clause-masked : goal.returns-clause-masked
 returns-clause-masked g c =
-    run_of_block c.args.key.now c.args.nonce.now c.args.place c.xor_part-2.result c.args.bytes.now
+    run_of_block c.args.key.now c.args.nonce.now c.args.offset c.xor_part-2.result c.args.bytes.now
     c.block.result _
     c.block.ensures.value c.xor_part-2.ensures.count c.xor_part-2.ensures.xored

@@ -7,7 +7,7 @@ use Rattle.chacha.proofs.stream.xor_stream.Goals as goal
 pub runs-init : goal.runs-init
 runs-init g c = (
   omega arith,
-  no_run (key_stream_byte c.args.key.now c.args.nonce.now 0) c.args.place
+  no_run (key_stream_byte c.args.key.now c.args.nonce.now 0) c.args.offset
       c.args.bytes.now,
   λ k m h. h,
 )
@@ -24,7 +24,7 @@ runs-preserved g c =
     length-take-le k (drop a mid) (omega (arith, length-drop a mid)) in
     let room : r ≤ k = omega (arith, part, c.xor_run-done.ensures.in_range) in (
       omega (arith, same, c.runs.invariant.0, room),
-      run_more (key_stream_byte c.args.key.now c.args.nonce.now 0) c.args.place a k r was mid
+      run_more (key_stream_byte c.args.key.now c.args.nonce.now 0) c.args.offset a k r was mid
           c.xor_run-done.new.bytes
           (omega (arith, same, c.runs.invariant.0)) room c.runs.invariant.1 c.xor_run-done.ensures.masked,
       λ x y h. c.xor_run-done.ensures.work x y (c.runs.invariant.2 x y h),
@@ -33,7 +33,7 @@ runs-preserved g c =
 pub returns-clause-masked : goal.returns-clause-masked
 returns-clause-masked g c =
     c.runs.invariant.1
-    ∙ all_runs (key_stream_byte c.args.key.now c.args.nonce.now 0) c.args.place c.runs.done c.args.bytes.now
+    ∙ all_runs (key_stream_byte c.args.key.now c.args.nonce.now 0) c.args.offset c.runs.done c.args.bytes.now
     (omega (arith, c.runs.auto.bytes, c.runs-test.false))
 
 pub returns-clause-work : goal.returns-clause-work

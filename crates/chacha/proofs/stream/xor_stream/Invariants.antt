@@ -5,7 +5,7 @@ use Rattle.chacha.proofs.stream.xor_stream.Given as goal
 
 abbrev pub invariant-runs : goal.invariant-runs
 invariant-runs g l = (l.done ≤ length l.fn.bytes)
-    × (l.bytes ≡ masked (key_stream_byte l.key l.nonce 0) l.place (take l.done l.fn.bytes)
+    × (l.bytes ≡ masked (key_stream_byte l.key l.nonce 0) l.offset (take l.done l.fn.bytes)
     ++ drop l.done l.fn.bytes)
     × ((k m : List ℕ) → g.W.Work.comes_to l.initial.work k m → g.W.Work.comes_to l.work k m)
 
