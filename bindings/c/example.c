@@ -1,4 +1,4 @@
-/* Seals, opens, refuses, wraps and unwraps published vectors. It is C and C++. */
+/* Seals, opens, refuses, wraps and unwraps published vectors, whole and in pieces. It is C and C++. */
 #include "aeadkit.h"
 #include <stdio.h>
 #include <string.h>
@@ -86,9 +86,36 @@ static void padded(void) {
     is("nothing to unwrap", aeadkit_unwrap_padded(key, 24, NULL, 0, &length) == AEADKIT_WRAP_LENGTH);
 }
 
+/* RFC 8452, C.1, the text of eight bytes: sealed in two readings, and opened in two passes. */
+static void two_readings(void) {
+    const uint8_t text[8] = {1};
+    const uint8_t want[24] = {0xb5, 0xd8, 0x39, 0x33, 0x0a, 0xc7, 0xb7, 0x86, 0x57, 0x87, 0x82, 0xff,
+                              0xf6, 0x01, 0x3b, 0x81, 0x5b, 0x28, 0x7c, 0x22, 0x49, 0x3a, 0x36, 0x4c};
+    const uint8_t key[16] = {1}, nonce[12] = {3};
+    uint8_t bytes[24];
+    struct aeadkit_siv siv;
+    struct aeadkit_opener opener;
+    memcpy(bytes, text, 8);
+    is("begin", aeadkit_siv_init(&siv, AEADKIT_AES_128_GCM_SIV, key, 16, nonce, 12, NULL, 0) == AEADKIT_DONE);
+    is("the first reading", aeadkit_siv_absorb(&siv, bytes, 3) == AEADKIT_DONE);
+    is("its rest", aeadkit_siv_absorb(&siv, bytes + 3, 5) == AEADKIT_DONE);
+    is("a tag", aeadkit_siv_tag(&siv, bytes + 8) == AEADKIT_DONE);
+    is("the second reading", aeadkit_siv_update(&siv, bytes, 8) == AEADKIT_DONE);
+    is("one text", aeadkit_siv_finish(&siv) == AEADKIT_DONE);
+    is("the sealing of RFC 8452", !memcmp(bytes, want, 24));
+    is("begin to open", aeadkit_opener_init(&opener, AEADKIT_AES_128_GCM_SIV, key, 16, nonce, 12, NULL, 0, bytes + 8)
+                            == AEADKIT_DONE);
+    is("the first pass", aeadkit_opener_check(&opener, bytes, 8) == AEADKIT_DONE);
+    is("a sealing", aeadkit_opener_checked(&opener) == AEADKIT_DONE);
+    is("the second pass", aeadkit_opener_update(&opener, bytes, 8) == AEADKIT_DONE);
+    is("one ciphertext", aeadkit_opener_finish(&opener) == AEADKIT_DONE);
+    is("the text of RFC 8452", !memcmp(bytes, text, 8));
+}
+
 int main(void) {
     sealing();
     empty();
+    two_readings();
     wrapping();
     padded();
     return wrong;
