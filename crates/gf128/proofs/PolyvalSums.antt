@@ -1,12 +1,13 @@
 -- There is one dot, and one POLYVAL.
 use Rattle.std.proofs.Common.{◌≡◌, ℕ, zero, suc, ◌/◌, ◌≤◌, Bool, true, false, List, [], ◌∷◌, ◌++◌}
-use Rattle.std.proofs.Common.{length, replicate, refl, sym, ap, ◌∙◌}
+use Rattle.std.proofs.Common.{length, replicate, cond, ◌&&◌, inl, inr, refl, sym, ap, ap₂, ◌∙◌}
+use Rattle.std.proofs.lemmas.Bool.{cases_Bool}
 use mathlib.Core.Path.{fun_ext}
 use Rattle.octets.specs.Bytes.{block_at, IsBlock}
 use Rattle.octets.specs.Bits.{v, bytes_of_v}
-use Rattle.octets.specs.Polynomial.{coefficient, sum, product, residue, Agree}
-use Rattle.octets.proofs.Sequence.{sum_of}
-use Rattle.octets.proofs.Residue.{residue_lower}
+use Rattle.octets.specs.Polynomial.{coefficient, plus, sum, product, degree, has_one, residue, Agree}
+use Rattle.octets.proofs.Sequence.{sum_of, plus_false}
+use Rattle.octets.proofs.Residue.{residue_lower, residue_step}
 use Rattle.octets.proofs.Ring.{product_is, residue_of_lower}
 use Rattle.octets.proofs.Horner.{sum_is, product_swap, product_assoc, product_second, product_one}
 use Rattle.octets.proofs.Horner.{residue_same, times_same, times_residue}
@@ -26,15 +27,68 @@ dot_same a b c d e is =
 
 -- ---- x^128 has an inverse
 
+-- the sum of two polynomials, bit by bit
+added : List Bool → List Bool → List Bool
+added [] q = q
+added (a ∷ p) [] = a ∷ p
+added (a ∷ p) (b ∷ q) = plus a b ∷ added p q
+
+added_at : (p q : List Bool) (k : ℕ)
+    → coefficient (added p q) k ≡ plus (coefficient p k) (coefficient q k)
+unfolding added
+added_at [] q k = refl
+added_at (a ∷ p) [] k = sym (plus_false (coefficient (a ∷ p) k))
+added_at (a ∷ p) (b ∷ q) zero = refl
+added_at (a ∷ p) (b ∷ q) (suc k) = added_at p q k
+
+-- s, with m added if s has its coefficient n
+with_m : ℕ → List Bool → List Bool → List Bool
+with_m n m s = cond (coefficient s n) (added s m) s
+
+-- the long division by m of degree n, whose steps take no longer than their lists: those of `residue` look up
+-- each coefficient
+divided : ℕ → List Bool → List Bool → List Bool
+divided n m [] = []
+divided n m (b ∷ a) = with_m n m (b ∷ divided n m a)
+
+with_m_at : (n : ℕ) (m s : List Bool) (k : ℕ)
+    → coefficient (with_m n m s) k ≡ plus (coefficient s k) (coefficient s n && coefficient m k)
+unfolding with_m
+with_m_at n m s k = elim (cases_Bool (coefficient s n)) [
+  | inl e ↦ rw e (added_at s m k)
+  | inr e ↦ rw e (sym (plus_false (coefficient s k)))
+]
+
+-- a bit before two polynomials that agree
+after_bit : (b : Bool) (p q : List Bool) → Agree p q → Agree (b ∷ p) (b ∷ q)
+after_bit b p q e zero = refl
+after_bit b p q e (suc k) = e k
+
+-- it gives the residue
+divided_is : (m a : List Bool) → has_one m ≡ true → Agree (residue m a) (divided (degree m) m a)
+unfolding residue divided
+divided_is m [] one k = refl
+divided_is m (b ∷ a) one k =
+    let r : List Bool = residue m a in
+    let d : List Bool = divided (degree m) m a in
+    let same : Agree (b ∷ r) (b ∷ d) = after_bit b r d (divided_is m a one) in
+    residue_step m b a k one
+    ∙ ap₂ (λ (x y : Bool). plus x (y && coefficient m k)) (same k) (same (degree m))
+    ∙ sym (with_m_at (degree m) m (b ∷ d) k)
+
+-- the degree of the modulus
+degree_is : degree polyval_modulus ≡ 128
+degree_is = refl
+
 -- x^128 * x^-128 leaves the list of 1 and zeros
-computed : residue polyval_modulus (replicate 128 false ++ x_to_minus_128) ≡ true ∷ replicate 127 false
-unfolding residue
+computed : divided 128 polyval_modulus (replicate 128 false ++ x_to_minus_128) ≡ true ∷ replicate 255 false
+unfolding divided with_m added
 computed = refl
 
 -- which is the polynomial 1
-one_is : (k : ℕ) → coefficient (true ∷ replicate 127 false) k ≡ coefficient (true ∷ []) k
+one_is : (k : ℕ) → coefficient (true ∷ replicate 255 false) k ≡ coefficient (true ∷ []) k
 one_is zero = refl
-one_is (suc k) = none_at 127 k
+one_is (suc k) = none_at 255 k
 
 -- x^128 * x^-128 has the residue 1
 inverse_is : coefficient (residue polyval_modulus (product x_to_128 x_to_minus_128))
@@ -47,6 +101,8 @@ inverse_is =
     ∙ sym (coefficient_below 128 x_to_minus_128 k)) in
     residue_same polyval_modulus (product x_to_128 x_to_minus_128) (replicate 128 false ++ x_to_minus_128)
     refl shifted
+    ∙ fun_ext (divided_is polyval_modulus (replicate 128 false ++ x_to_minus_128) refl)
+    ∙ ap (λ n. coefficient (divided n polyval_modulus (replicate 128 false ++ x_to_minus_128))) degree_is
     ∙ ap coefficient computed ∙ fun_ext one_is
 
 -- times x^128 and its inverse
