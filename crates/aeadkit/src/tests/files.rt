@@ -95,34 +95,46 @@ fn checks(rt: &(impl Abort + Alloc<A = Global> + Files)) {
     runs_over(rt, &files, &["check", VECTORS], 4, None, "OutOfMemory");
 }
 
-// The file commands, and `check`, on files of the system.
-#[test]
-fn system_files(rt: HostRuntime) {
-    let Vector { text, sealed, .. } = Vector::of(CHACHA);
-    let _ = fs::remove_dir_all(&rt, FOLDER);
-    shows(&rt, fs::create_dir(&rt, FOLDER).is_ok(), "a folder");
+// Makes the files that the rows read.
+fn makes(rt: &(impl Abort + Alloc<A = Global> + Files)) {
+    let text = Vector::of(CHACHA).text;
     let empty = Vector::of(GCM).sealed;
     for (path, digits) in [(TEXT, text), (FORGED, CHANGED), (EMPTY, empty)] {
-        is_made(&rt, path, &bytes(&rt, digits));
+        is_made(rt, path, &bytes(rt, digits));
     }
-    is_made(&rt, VECTORS, TWO_RECORDS.as_bytes());
+    is_made(rt, VECTORS, TWO_RECORDS.as_bytes());
+}
+
+// Runs the rows.
+fn runs_rows(rt: &(impl Abort + Alloc<A = Global> + Files)) {
     let files = Disk {
-        runtime: &rt,
+        runtime: rt,
         alloc: rt.alloc(),
     };
     for row in ROWS.lines() {
-        runs_row(&rt, &files, row);
+        runs_row(rt, &files, row);
     }
+}
+
+// A file holds the bytes that digits spell.
+fn holds(rt: &(impl Abort + Alloc<A = Global> + Files), path: &str, digits: &str) {
+    let held = fs::read(rt, path).expect(rt, "a file");
+    shows(rt, held.as_slice() == bytes(rt, digits).as_slice(), path);
+}
+
+// The file commands, and `check`, on files of the system.
+#[test]
+fn system_files(rt: HostRuntime) {
+    let _ = fs::remove_dir_all(&rt, FOLDER);
+    shows(&rt, fs::create_dir(&rt, FOLDER).is_ok(), "a folder");
+    makes(&rt);
+    runs_rows(&rt);
     checks(&rt);
-    for (path, digits) in [
-        (SEALED, sealed),
-        (OPENED, text),
-        (NOTHING, ""),
-        (TEXT, text),
-    ] {
-        let held = fs::read(&rt, path).expect(&rt, "a file");
-        shows(&rt, held.as_slice() == bytes(&rt, digits).as_slice(), path);
-    }
+    let Vector { text, sealed, .. } = Vector::of(CHACHA);
+    holds(&rt, SEALED, sealed);
+    holds(&rt, OPENED, text);
+    holds(&rt, NOTHING, "");
+    holds(&rt, TEXT, text);
     shows(&rt, fs::read(&rt, UNMADE).is_err(), "no file");
     shows(&rt, fs::remove_dir_all(&rt, FOLDER).is_ok(), "the end");
 }
