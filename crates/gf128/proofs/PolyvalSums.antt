@@ -41,12 +41,11 @@ added_at (a ∷ p) [] k = sym (plus_false (coefficient (a ∷ p) k))
 added_at (a ∷ p) (b ∷ q) zero = refl
 added_at (a ∷ p) (b ∷ q) (suc k) = added_at p q k
 
--- s, with m added if s has its coefficient n
+-- s, with m added if s has coefficient n
 with_m : ℕ → List Bool → List Bool → List Bool
 with_m n m s = cond (coefficient s n) (added s m) s
 
--- the long division by m of degree n, whose steps take no longer than their lists: those of `residue` look up
--- each coefficient
+-- long division by m, of degree n, bit by bit; `residue`, which looks up each coefficient, takes far longer to compute
 divided : ℕ → List Bool → List Bool → List Bool
 divided n m [] = []
 divided n m (b ∷ a) = with_m n m (b ∷ divided n m a)
@@ -64,7 +63,7 @@ after_bit : (b : Bool) (p q : List Bool) → Agree p q → Agree (b ∷ p) (b �
 after_bit b p q e zero = refl
 after_bit b p q e (suc k) = e k
 
--- it gives the residue
+-- long division bit by bit gives the residue
 divided_is : (m a : List Bool) → has_one m ≡ true → Agree (residue m a) (divided (degree m) m a)
 unfolding residue divided
 divided_is m [] one k = refl
@@ -76,7 +75,7 @@ divided_is m (b ∷ a) one k =
     ∙ ap₂ (λ (x y : Bool). plus x (y && coefficient m k)) (same k) (same (degree m))
     ∙ sym (with_m_at (degree m) m (b ∷ d) k)
 
--- the degree of the modulus
+-- the modulus has degree 128
 degree_is : degree polyval_modulus ≡ 128
 degree_is = refl
 
