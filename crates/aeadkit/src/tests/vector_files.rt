@@ -4,7 +4,8 @@ mod edited;
 mod files;
 
 use super::checks::has_result;
-use files::add;
+use super::published::{CHACHA_A5, GCM_SIV_WRAPS, PADDED};
+use files::{add, file_of};
 pub use files::{TWO_RECORDS, published, with_lines};
 use std::alloc::Global;
 use std::process::Abort;
@@ -49,4 +50,13 @@ fn published_vectors_in_both_formats(rt: HostRuntime) {
         let fifth = with_lines(&rt, text, "31|invalid\n");
         has_result(&rt, &fifth, "records 18\nbad 5");
     }
+}
+
+// The others, of format 2: a long text, a count of blocks that passes 2^32, and texts wrapped with padding.
+#[test]
+fn more_published_vectors(rt: HostRuntime) {
+    let file = file_of(&rt, "2", &[CHACHA_A5, GCM_SIV_WRAPS], &PADDED);
+    has_result(&rt, &file, "records 4");
+    let text = from_utf8(&file).expect(&rt, "text");
+    has_result(&rt, &changed_records(&rt, text), "records 4");
 }

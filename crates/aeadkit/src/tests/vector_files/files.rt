@@ -60,11 +60,16 @@ fn add_record(
     }
 }
 
-/// The published vectors of sealing and of wrapping without padding, as a file of 18 records.
-pub fn published(rt: &(impl Abort + Alloc<A = Global>), format: &str) -> Vec<u8> {
+/// A file of these vectors of sealing and of wrapping.
+pub fn file_of(
+    rt: &(impl Abort + Alloc<A = Global>),
+    format: &str,
+    sealings: &[&str],
+    wrappings: &[&str],
+) -> Vec<u8> {
     let mut file = Vec::new(rt.alloc());
     add(rt, &mut file, &[b"format = ", format.as_bytes()]);
-    for vector in &VECTORS {
+    for vector in sealings {
         add_record(
             rt,
             &mut file,
@@ -72,10 +77,15 @@ pub fn published(rt: &(impl Abort + Alloc<A = Global>), format: &str) -> Vec<u8>
             &["suite", "key", "nonce", "aad", "sealed", "text"],
         );
     }
-    for vector in &WRAPPINGS {
+    for vector in wrappings {
         add_record(rt, &mut file, vector, &["suite", "key", "sealed", "text"]);
     }
     file
+}
+
+/// The published vectors of sealing and of wrapping without padding, as a file of 18 records.
+pub fn published(rt: &(impl Abort + Alloc<A = Global>), format: &str) -> Vec<u8> {
+    file_of(rt, format, &VECTORS, &WRAPPINGS)
 }
 
 // The number that digits spell; 0 if there are none.
