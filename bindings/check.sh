@@ -17,6 +17,7 @@ cd "$(dirname "$0")"
 . ./copy.sh
 room=$(mktemp -d)
 trap 'rm -rf "$room"' EXIT
+./quotations.sh ..
 ./published.sh .. "$prefix/bin/aeadkit"
 if [ $build = yes ]; then
     for tool in cc nm ar objcopy; do
