@@ -1,5 +1,6 @@
 #!/bin/sh
-# Looks at the library's names, builds and runs the examples over it, and installs each package in a fresh folder.
+# Compares the documents with their files, looks at the library's names, builds and runs the examples over it, and installs each package
+# in a fresh folder.
 set -eu
 build=no
 [ "${1:-}" != --build ] || { build=yes; shift; }
