@@ -1,4 +1,5 @@
-// The byte fields: keys, nonces, blocks and tags.
+//! Keys, nonces, blocks and tags: lists of bytes whose length is in their type (FIPS 197, 5; RFC 8439, 2.8; SP 800-38D, 8.2;
+//! RFC 8452, 4).
 
 ghost use Rattle.std.specs.Prelude.{◌≡◌, ◌≢◌, ℕ, List, length, MatchResult};
 ghost use Rattle.octets.specs.Bytes.{AreBytes, IsBlock};
@@ -143,7 +144,8 @@ impl Key32 {
     }
 }
 
-/// A nonce of 12 bytes, the only length here.
+/// A nonce of 12 bytes, the only length here. It must never be used twice under one key: each call that takes a nonce
+/// says what a repeat gives away.
 #[derive(Clone, Copy)]
 pub struct Nonce {
     bytes: [u8; 12],

@@ -1,4 +1,4 @@
-// Equality and XOR of lists of bytes.
+//! Equality and XOR of lists of bytes.
 
 ghost use Rattle.std.specs.Prelude.{◌≡◌, ◌↔◌, ◌≤◌, length, true};
 ghost use Rattle.octets.specs.Bytes.{xor_bytes};
@@ -6,7 +6,7 @@ ghost use Rattle.octets.specs.Bytes.{xor_bytes};
 use std::simd::Simd;
 use std::simd::prelude::*;
 
-/// Whether two runs of 16 bytes are equal.
+/// Whether two runs of 16 bytes are equal. Nothing is claimed of how long this takes: it may depend on the bytes.
 pub fn same(a: &[u8; 16], b: &[u8; 16]) -> bool
     ensures { (result ≡ true) ↔ (a.now ≡ b.now) }
 {

@@ -1,4 +1,4 @@
-// Devices that give bytes, and devices that take them.
+//! Devices: an `Intake` gives bytes, an `Outlet` takes them. The engines over streams read and write through them.
 
 ghost use Rattle.std.specs.Prelude.{ℕ, List, Option};
 ghost use Rattle.std.specs.Io.{ReadsAtMost};

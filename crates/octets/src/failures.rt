@@ -1,4 +1,4 @@
-// How often a device failed.
+//! Counts how often a device failed, so that a contract can say that a fault came from a failure of this call.
 
 ghost use Rattle.std.specs.Prelude.{◌≡◌};
 ghost use Rattle.octets.specs.Device.{Failed};

@@ -1,3 +1,5 @@
+//! The faults of every call, their names, and the numbers that they have at C.
+
 ghost use Rattle.std.specs.Prelude.{◌≡◌};
 ghost use Rattle.octets.specs.Numbers.{outcome_number};
 
@@ -16,13 +18,13 @@ pub enum Fault {
     TextTooLong,
     /// The associated data is past its limit.
     AadTooLong,
-    /// The sealed bytes are fewer than 16.
+    /// The sealed bytes are fewer than the 16 of a tag.
     TooShort,
-    /// The bytes are no sealing.
+    /// Authentication failed: the bytes are not a valid sealing under this key, nonce and associated data.
     TagMismatch,
-    /// The length is not that of a text to wrap, or not that of a wrapping.
+    /// The length is not one that can be wrapped, or not that of a wrapping.
     WrapLength,
-    /// The bytes are no wrapping.
+    /// Authentication failed: the bytes are not a valid wrapping under this key.
     WrapIntegrity,
     /// An allocation failed in this call.
     OutOfMemory,

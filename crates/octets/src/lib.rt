@@ -1,5 +1,18 @@
-//! Bytes, blocks, keys, faults and devices, and polynomials over two elements: what every layer above
-//! speaks of.
+//! Bytes, blocks, keys, faults and devices, and polynomials over two elements: what every layer above speaks of.
+//!
+//! A key or a nonce that comes as a slice has its length checked once, and carries it in its type from then on.
+//!
+//! From `crates/octets/src/uses.rt`:
+//! ```
+//! fn pair_of(key: &[u8], nonce: &[u8]) -> Result<Pair, Fault>
+//!     ensures found { IsOk result ↔ ((length key.now ≡ 32) × (length nonce.now ≡ 12)) }
+//!     ensures value { IfOk result (λ p. (p.key ≡ key.now) × (p.nonce ≡ nonce.now)) }
+//! {
+//!     let key = Key32::from_slice(key)?;
+//!     let nonce = Nonce::from_slice(nonce)?;
+//!     Ok(Pair { key, nonce })
+//! }
+//! ```
 #![tactic(auto)]
 
 ghost use Rattle.octets.specs.Polynomial.{EachHasOneResidue};

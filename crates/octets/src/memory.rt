@@ -1,4 +1,4 @@
-// Devices over memory.
+//! Devices over memory: an intake over a slice, and an outlet that is a vector.
 
 ghost use Rattle.std.specs.Prelude.{◌≡◌, min, length, take, [], Some, MatchResult};
 ghost use Rattle.std.specs.Io.{ReadsAtMost};

@@ -1,4 +1,5 @@
-// A text that comes in pieces, taken in by whole blocks of 16 bytes.
+//! A text that comes in pieces of any length, taken in by whole blocks of 16 bytes: the state under Poly1305, GHASH and
+//! POLYVAL, with the padding of RFC 8439, 2.8, SP 800-38D, 7.1, and RFC 8452, 4.
 
 ghost use Rattle.std.specs.Prelude.{◌≡◌, ℕ, ◌+◌, ◌*◌, ◌/◌, ◌%◌, ◌<◌, ◌++◌, ◌-◌, List, [], length, take, drop, replicate};
 

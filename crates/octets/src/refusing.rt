@@ -1,4 +1,4 @@
-// Memory of which one request is refused, for tests.
+//! Memory that refuses one request, for tests of what a call does when an allocation fails.
 
 use std::alloc::{AllocError, Allocator};
 use std::cell::Cell;

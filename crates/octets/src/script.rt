@@ -1,4 +1,4 @@
-// Devices that follow a script, for tests.
+//! Devices that follow a script, for tests: each step gives or takes a part, or fails.
 
 ghost use Rattle.std.specs.Prelude.{◌≡◌, ◌≤◌, [], Some, drop, IfSome, vec_len};
 

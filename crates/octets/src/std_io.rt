@@ -1,4 +1,4 @@
-// Devices over the readers and writers of std.
+//! Devices over the readers and writers of std.
 
 ghost use Rattle.std.specs.Prelude.{◌≡◌};
 

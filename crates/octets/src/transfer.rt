@@ -1,4 +1,4 @@
-// Loops over a device: a buffer filled, a slice given whole.
+//! Loops over a device: fill a buffer, give a whole slice.
 
 ghost use Rattle.std.specs.Prelude.{◌≤◌, length, IfOk};
 ghost use Rattle.octets.specs.Device.{Counts, Fills, GivesAll};

@@ -1,4 +1,5 @@
-// Numbers and their bytes, which are made as one vector: for `to_le_bytes` LLVM shifts out each byte.
+//! Numbers and their bytes, in both orders, for the length blocks of RFC 8439, SP 800-38D and RFC 8452. They are made as one
+//! vector: for `to_le_bytes` LLVM shifts out each byte.
 
 ghost use Rattle.std.specs.Prelude.{◌≡◌, ◌++◌, ◌-◌, ◌<◌, ◌^◌, length, replicate};
 ghost use Rattle.octets.specs.Bytes.{le};

@@ -1,4 +1,4 @@
-// Work in steps, and the streams that do its steps while they mask bytes.
+//! Work in steps, and the streams that do its steps while they mask bytes: so a hash runs beside a cipher.
 
 ghost use Rattle.std.specs.Prelude.{⊤, ℕ, List};
 
