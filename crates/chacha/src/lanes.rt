@@ -1,4 +1,5 @@
-// Several blocks at once, one in each lane.
+//! Four or eight blocks of ChaCha20 at once (RFC 8439, 2.3): a vector for each word of the state, a lane for each block.
+//! [`four_blocks`] is the public one.
 
 ghost use Rattle.std.specs.Prelude.{◌≡◌, ℕ, ◌+◌, ◌/◌, ◌%◌, ◌^◌, ◌<◌, ◌≤◌, ◌∷◌, ◌++◌, [], List, length};
 ghost use Rattle.std.specs.Prelude.{take, drop, slice_index, bit_xor};
@@ -6,7 +7,7 @@ ghost use Rattle.std.specs.Int.{w32, rotate_left};
 ghost use Rattle.octets.specs.Bytes.{xor_bytes};
 ghost use Rattle.octets.specs.Masked.{masked};
 ghost use Rattle.chacha.specs.Block.{add_xor_rotate, quarter_round, double_rounds, added, serialized, initial_state, block};
-ghost use Rattle.chacha.specs.Code.Lanes.{lane, HasBlocks};
+ghost use Rattle.chacha.specs.Code.Lanes.{lane, AreStarts, HasBlocks, HasStarts};
 ghost use Rattle.chacha.specs.Code.Halves.{half_columns, half_diagonals};
 ghost use Rattle.chacha.specs.Stream.{key_stream_byte};
 
@@ -187,6 +188,34 @@ pub(crate) fn four_counters(counter: u32) -> u32x4
     ensures { (j : ℕ) → j < 4 → slice_index result j ≡ counter + j }
 {
     u32x4::from_array([counter, counter + 1, counter + 2, counter + 3])
+}
+
+/// Sets the states from which the blocks with the counters `counter` to `counter + 3` start (RFC 8439, 2.3), one in each
+/// lane, for [`four_blocks`]. The nonce is as for [`crate::ChaStream::new`]. The caller shows that the last counter is below
+/// 2^32.
+#[inline(always)]
+pub fn set_four_starts(start: &mut [u32x4; 16], key: &Key32, counter: u32, nonce: &Nonce)
+    requires { counter + 3 < 2 ^ 32 }
+    ensures { HasStarts 4 start.new key.now counter nonce.now }
+{
+    set_starts(start, key, nonce, four_counters(counter));
+}
+
+/// Returns the words of four blocks at once (RFC 8439, 2.3): vector i has word i of each, and lane j is the block with the
+/// counter `counter + j`, if `start` has the states from which these start, as [`set_four_starts`] sets them. Afterwards
+/// `start` has the states of the next four, so a long text sets them once. Steps of `work` are done meanwhile.
+///
+/// The caller shows that the last of the four counters is below 2^32: no block past counter 2^32 - 1 is made.
+#[inline(always)]
+pub fn four_blocks<W: Work>(start: &mut [u32x4; 16], work: &mut W) -> [u32x4; 16]
+    requires { AreStarts 4 start.old }
+    ensures blocks { (key nonce : List ℕ) (counter : ℕ) → HasStarts 4 start.old key counter nonce
+        → counter + 3 < 2 ^ 32 → HasBlocks 4 result key counter nonce }
+    ensures next { (key nonce : List ℕ) (counter : ℕ) → HasStarts 4 start.old key counter nonce
+        → HasStarts 4 start.new key (counter + 4) nonce }
+    ensures work { (k m : List ℕ) → W.comes_to work.old k m → W.comes_to work.new k m }
+{
+    next_blocks(start, work)
 }
 
 // Eight counters, one in each lane.
@@ -459,10 +488,10 @@ pub(crate) fn xor_fours<W: Work>(
 {
     let mut own = *work;
     let mut start = [u32x4::splat(0); 16];
-    set_starts(&mut start, key, nonce, four_counters(counter));
+    set_four_starts(&mut start, key, counter, nonce);
     let mut done = 0;
     'runs: while done < bytes.len() {
-        let x = next_blocks(&mut start, &mut own);
+        let x = four_blocks(&mut start, &mut own);
         xor_written(&x, &mut bytes[done..done + 256]);
         done += 256;
     }

@@ -1,4 +1,18 @@
-//! ChaCha20 (RFC 8439, 2.1 to 2.4): the block, and the key stream in pieces.
+//! ChaCha20 (RFC 8439, 2.1 to 2.4): the block, four blocks at once, and the key stream in pieces.
+//!
+//! A text is encrypted and decrypted by the same call. It is not authenticated: for that take the crate `aead`.
+//!
+//! From `crates/chacha/src/uses.rt`:
+//! ```
+//! // Encrypts the bytes in place by the key stream from block 1 on: the nonce serves for this text alone.
+//! fn encrypt(key: &Key32, nonce: &Nonce, bytes: &mut [u8]) -> Result<(), Fault>
+//!     ensures done { OnOk result (bytes.new ≡ masked (key_stream_byte key.now nonce.now 1) 0 bytes.old) }
+//!     ensures kept { OnErr result (bytes.new ≡ bytes.old) }
+//! {
+//!     let mut stream = ChaStream::new(key, nonce, 1);
+//!     stream.apply(bytes)
+//! }
+//! ```
 #![tactic(auto)]
 
 mod lanes;
@@ -9,5 +23,6 @@ mod state;
 mod stream;
 mod uses;
 
+pub use lanes::{four_blocks, set_four_starts};
 pub use single::block;
 pub use stream::{ChaStream, RUN, key_stream_start};

@@ -1,6 +1,6 @@
 -- States side by side: vector k has word k of each, a lane for each state.
-use Rattle.std.specs.Prelude.{◌≡◌, ℕ, ◌+◌, ◌<◌, List, map, slice_index}
-use Rattle.chacha.specs.Block.{serialized, block}
+use Rattle.std.specs.Prelude.{◌≡◌, ℕ, ◌+◌, ◌%◌, ◌^◌, ◌<◌, ◌≤◌, List, map, slice_index}
+use Rattle.chacha.specs.Block.{initial_state, serialized, block}
 
 -- the state in lane j
 unfoldable pub lane : ℕ → List (List ℕ) → List ℕ
@@ -9,3 +9,13 @@ lane j x = map (λ v. slice_index v j) x
 -- the first n lanes have the words of the blocks with the counters from one on, a block in each
 abbrev pub HasBlocks : ℕ → List (List ℕ) → List ℕ → ℕ → List ℕ → Type 0
 HasBlocks n x key counter nonce = (j : ℕ) → j < n → serialized (lane j x) ≡ block key (counter + j) nonce
+
+-- the first n lanes have the states from which the blocks with the counters from one on start, modulo 2^32
+abbrev pub HasStarts : ℕ → List (List ℕ) → List ℕ → ℕ → List ℕ → Type 0
+HasStarts n x key counter nonce =
+    (j : ℕ) → j < n → lane j x ≡ initial_state key ((counter + j) % 2 ^ 32) nonce
+
+-- they are those of some key and nonce, and the last counter is below 2^32
+abbrev pub AreStarts : ℕ → List (List ℕ) → Type 0
+AreStarts n x = (key : List ℕ) × ((nonce : List ℕ) × ((counter : ℕ)
+    × ((counter + n ≤ 2 ^ 32) × HasStarts n x key counter nonce)))

@@ -1,7 +1,6 @@
-use Rattle.std.proofs.Common.{◌≡◌, ℕ, ◌+◌, ◌/◌, ◌%◌, ◌^◌, ◌≤◌, ◌∙◌, ap, arith, length}
+use Rattle.std.proofs.Common.{◌≡◌, ℕ, ◌+◌, ◌/◌, ◌%◌, ◌^◌, ◌<◌, ◌≤◌, ◌∙◌, ap, arith, length}
 use Rattle.chacha.specs.Block.{initial_state}
 use Rattle.chacha.specs.Stream.{key_stream_byte}
-use Rattle.chacha.proofs.SideBySide.{lanes_have, counter_next}
 use Rattle.chacha.proofs.Masking.{no_run, blocks_more, all_runs}
 use Rattle.chacha.proofs.lanes.xor_fours.Goals as goal
 
@@ -11,9 +10,8 @@ runs-init g c = (
   omega arith,
   λ j l.
       let n : ℕ = c.args.counter in
-      let first : n + j ≡ (n + 0 / 64 + j) % 2 ^ 32 = omega (arith, l, c.requires.counters, c.requires.some) in
-      c.set_starts.ensures j l
-      ∙ ap (λ n. initial_state c.args.key.now n c.args.nonce.now) (c.four_counters.ensures j l ∙ first),
+      let first : (n + j) % 2 ^ 32 ≡ (n + 0 / 64 + j) % 2 ^ 32 = omega arith in
+      c.set_four_starts.ensures j l ∙ ap (λ m. initial_state c.args.key.now m c.args.nonce.now) first,
   no_run (key_stream_byte c.args.key.now c.args.nonce.now c.args.counter) 0 c.args.bytes.now,
   λ k m h. h,
 )
@@ -29,15 +27,16 @@ runs-preserved g c =
     let room : a + 256 ≤ length was =
     omega (arith, i.0, c.requires.whole, c.runs-test.true, c.runs.auto.bytes) in
     let begins : a % 64 ≡ 0 = omega (arith, i.0) in
-    let has = lanes_have key nonce n a 4 (length was) c.runs.start c.next_blocks-x.result begins room
-    c.requires.counters i.2 c.next_blocks-x.ensures.blocks in (
+    let last : n + a / 64 + 3 < 2 ^ 32 = omega (arith, begins, room, c.requires.counters) in
+    let has = c.four_blocks-x.ensures.blocks key nonce (n + a / 64) i.2 last in (
       omega (arith, i.0),
       room,
-      λ j l. c.next_blocks-x.ensures.counts j l key nonce ((n + a / 64 + j) % 2 ^ 32) (i.2 j l)
-          ∙ ap (λ m. initial_state key m nonce) (counter_next n a j 4 begins),
+      λ j l.
+          let next : (n + a / 64 + 4 + j) % 2 ^ 32 ≡ (n + (a + 256) / 64 + j) % 2 ^ 32 = omega (arith, begins) in
+          c.four_blocks-x.ensures.next key nonce (n + a / 64) i.2 j l ∙ ap (λ m. initial_state key m nonce) next,
       blocks_more key nonce n a 256 was c.runs.bytes c.xor_written.new.bytes begins (omega (arith, room)) i.3
           (c.xor_written.ensures key nonce (n + a / 64) has),
-      λ x y h. c.next_blocks-x.ensures.work x y (i.4 x y h),
+      λ x y h. c.four_blocks-x.ensures.work x y (i.4 x y h),
     )
 
 pub returns-clause-masked : goal.returns-clause-masked
@@ -48,3 +47,13 @@ returns-clause-masked g c =
 
 pub returns-clause-work : goal.returns-clause-work
 returns-clause-work g c = c.runs.invariant.4
+
+pub four_blocks-x-requires : goal.four_blocks-x-requires
+four_blocks-x-requires g c =
+    let n : ℕ = c.args.counter in
+    let a : ℕ = c.runs.done in
+    let i = c.runs.invariant in
+    let room : a + 256 ≤ length c.args.bytes.now =
+    omega (arith, i.0, c.requires.whole, c.runs-test.true, c.runs.auto.bytes) in
+    let last : n + a / 64 + 4 ≤ 2 ^ 32 = omega (arith, i.0, room, c.requires.counters) in
+    (c.args.key.now, (c.args.nonce.now, (n + a / 64, (last, i.2))))
