@@ -1,4 +1,5 @@
-// A block by rows beside four or eight in lanes: in the steps of the lanes the processor has room for those of a row.
+//! One block of ChaCha20 by rows beside four or eight in lanes (RFC 8439, 2.3): in the steps of the lanes the processor has
+//! room for those of a row.
 
 ghost use Rattle.std.specs.Prelude.{◌≡◌, ℕ, ◌+◌, ◌^◌, ◌<◌, List, length, slice_index};
 ghost use Rattle.octets.specs.Masked.{masked};

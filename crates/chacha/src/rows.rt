@@ -1,4 +1,4 @@
-// Two blocks at once, each by the rows of its state: a vector for a row, a lane for a column.
+//! Two blocks of ChaCha20 at once (RFC 8439, 2.3), each by the rows of its state: a vector for a row, a lane for a column.
 
 ghost use Rattle.std.specs.Prelude.{◌≡◌, ℕ, ◌+◌, ◌%◌, ◌^◌, ◌<◌, ◌∷◌, ◌++◌, [], slice_index};
 ghost use Rattle.chacha.specs.Block.{column_round, diagonal_round, double_rounds, added, serialized, block};

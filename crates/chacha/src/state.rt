@@ -1,4 +1,4 @@
-// The state from which a block starts.
+//! The state from which a block of ChaCha20 starts (RFC 8439, 2.3).
 
 ghost use Rattle.std.specs.Prelude.{◌≡◌, ◌+◌, ◌*◌, ◌≤◌, length, take, drop};
 ghost use Rattle.octets.specs.Bytes.{le};

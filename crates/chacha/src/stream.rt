@@ -1,4 +1,5 @@
-// The key stream, in pieces.
+//! The key stream of ChaCha20 (RFC 8439, 2.4), XORed into a text that comes in pieces, by the form of `lanes`, `row_beside`,
+//! `rows` or `single` that fits.
 
 ghost use Rattle.std.specs.Prelude.{◌≡◌, ℕ, ◌+◌, ◌-◌, ◌*◌, ◌^◌, ◌<◌, ◌≤◌, ◌++◌, List, length, take, drop};
 ghost use Rattle.std.specs.Prelude.{min, slice_index, MatchResult};
@@ -16,7 +17,7 @@ const END: u64 = 0x40_0000_0000;
 /// registers, and else four.
 pub const RUN: usize = if WIDE { 512 } else { 256 };
 
-/// A ChaCha20 key stream, of which some bytes were made (RFC 8439, 2.4).
+/// A ChaCha20 key stream, of which some bytes were made (RFC 8439, 2.4). It serves for one text.
 #[derive(Clone, Copy)]
 pub struct ChaStream {
     key: Key32,
@@ -30,13 +31,17 @@ impl ChaStream {
     ghost use Rattle.chacha.specs.States.{Holds, Applied, Refused};
 
     /// The key stream from the block with counter `first` on (RFC 8439, 2.4). No byte is made yet.
+    ///
+    /// A nonce must never be used twice under one key. Two texts that are XORed with the same part of a key stream give away
+    /// their XOR, and who knows one of them knows the other. The stream authenticates nothing.
     pub fn new(key: &Key32, nonce: &Nonce, first: u32) -> ChaStream
         ensures { Holds result key.now nonce.now first 0 }
     {
         ChaStream::at(key, nonce, first as u64 * 64)
     }
 
-    /// The key stream whose next byte is at `offset` of the key stream that starts at counter 0, at most at its end.
+    /// The key stream whose next byte is at `offset` of the key stream that starts at counter 0, at most at its end. The
+    /// nonce is as for [`ChaStream::new`]: no byte of the stream may mask two texts.
     pub fn at(key: &Key32, nonce: &Nonce, offset: u64) -> ChaStream
         requires { offset ≤ 2 ^ 38 }
         ensures { (first made : ℕ) → offset ≡ first * 64 + made
@@ -49,11 +54,11 @@ impl ChaStream {
         }
     }
 
-    /// XORs the next bytes of the key stream into `bytes`, of any length (RFC 8439, 2.4). Pieces of
-    /// a text, one call each, give what the whole text gives.
+    /// XORs the next bytes of the key stream into `bytes`, of any length (RFC 8439, 2.4). The result does not depend on
+    /// how a text is split into calls.
     ///
-    /// `StreamEnd` if a block past counter 2^32 - 1 would be needed, never for no bytes. It leaves the stream
-    /// and the bytes as they were.
+    /// Returns `StreamEnd` if a block past counter 2^32 - 1 would be needed, which empty `bytes` never do. Then the
+    /// stream and the bytes are as they were.
     pub fn apply(&mut self, bytes: &mut [u8]) -> Result<(), Fault>
         ensures { (key nonce : List ℕ) (first made : ℕ) → Holds self.old key nonce first made
             → MatchResult result (λ _. Applied self.new key nonce first made bytes.old bytes.new)
@@ -91,8 +96,9 @@ impl Stream for ChaStream {
     }
 }
 
-/// The first `N` bytes of the key stream from counter 0 on (RFC 8439, 2.4). The caller shows that they are at
-/// most 2^38.
+/// Returns the first `N` bytes of the key stream from counter 0 on (RFC 8439, 2.4). The caller shows that they are at
+/// most 2^38. A nonce must never be used twice under one key, as for [`ChaStream::new`]: AEAD_CHACHA20_POLY1305 takes its
+/// one-time key from the first 32 bytes (2.6), which serve for nothing else.
 pub fn key_stream_start<const N: usize>(key: &Key32, nonce: &Nonce) -> [u8; N]
     requires { N ≤ 2 ^ 38 }
     ensures { (i : ℕ) → i < N → slice_index result i ≡ key_stream_byte key.now nonce.now 0 i }
