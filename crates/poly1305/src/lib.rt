@@ -1,5 +1,18 @@
-//! Poly1305 (RFC 8439, 2.5): the tag of 16 bytes of a text that comes in pieces, under a key of 32 bytes.
-//! It is a one-time key: it serves for one text alone. No call refuses, and none takes memory.
+//! Poly1305 (RFC 8439, 2.5): the tag of 16 bytes of a text that comes in pieces, under a key of 32 bytes. It is a one-time key:
+//! it serves for one text alone. No call refuses, and none allocates.
+//!
+//! From `crates/poly1305/src/uses.rt`:
+//! ```
+//! // The tag of a text that comes in two pieces. The key serves for this text alone.
+//! fn tag_of_two(key: &[u8; 32], first: &[u8], second: &[u8]) -> Tag
+//!     ensures { result ≡ poly1305 key.now (first.now ++ second.now) }
+//! {
+//!     let mut state = Poly::new(key);
+//!     state.update(first);
+//!     state.update(second);
+//!     state.finish()
+//! }
+//! ```
 #![tactic(auto)]
 
 mod nibble_mul;

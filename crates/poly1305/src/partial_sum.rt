@@ -1,4 +1,4 @@
-// A sum over whole blocks, to which other code adds one block a step.
+//! A sum of Poly1305 over whole blocks (RFC 8439, 2.5), to which a stream adds one block in each step beside its own.
 
 ghost use Rattle.std.specs.Prelude.{◌≡◌, ⊤, ℕ, ◌*◌, ◌%◌, List, ◌++◌, length};
 ghost use Rattle.poly1305.specs.Poly1305.{prime, block_sum, r_of};

@@ -1,4 +1,4 @@
-// The authenticator over a text that comes in pieces.
+//! The one-time authenticator Poly1305 over a text that comes in pieces (RFC 8439, 2.5).
 
 ghost use Rattle.std.specs.Prelude.{◌≡◌, ℕ, ◌<◌, ◌*◌, ◌/◌, ◌%◌, ◌++◌, List, [], length, drop};
 ghost use Rattle.poly1305.specs.Poly1305.{block_number};
@@ -101,6 +101,9 @@ impl<M: Multiplier> PolyBy<M> {
     ghost use Rattle.poly1305.specs.States.{HoldsBy, IsSum};
 
     /// A state that holds the empty text, under a key of 32 bytes: r, then s (RFC 8439, 2.5).
+    ///
+    /// It is a one-time key, which must never be used for two texts: two tags under it give away enough to forge the tags of
+    /// other texts. In AEAD_CHACHA20_POLY1305 each nonce has a key of its own (2.6).
     pub fn new(key: &[u8; 32]) -> PolyBy<M>
         ensures { HoldsBy M.factor result key.now [] }
     {
@@ -118,7 +121,7 @@ impl<M: Multiplier> PolyBy<M> {
     }
 
     /// The state that holds a text again: its sum over the whole blocks of the text is `low`, and `high`
-    /// times 2^128; the bytes after them are `rest`, fewer than 16.
+    /// times 2^128; the bytes after them are `rest`, fewer than 16. The key is a one-time key, as for [`PolyBy::new`].
     pub fn resumed(key: &[u8; 32], low: u128, high: u64, rest: &[u8]) -> PolyBy<M>
         requires { length rest.now < 16 }
         ensures { (m : List ℕ) → IsSum key.now m low high → rest.now ≡ drop (length m / 16 * 16) m
@@ -193,7 +196,7 @@ impl<M: Multiplier> PolyBy<M> {
         self.pieces.pad16_and_add(block);
     }
 
-    /// Returns the tag of the text so far (RFC 8439, 2.5).
+    /// Returns the tag of the text so far (RFC 8439, 2.5). The key serves for one tag alone: see [`PolyBy::new`].
     pub fn tag(&self) -> Tag
         ensures value { (k m : List ℕ) → HoldsBy M.factor self.now k m → result ≡ poly1305 k m }
         ensures is_block { IsBlock result }
