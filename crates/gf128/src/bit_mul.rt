@@ -1,4 +1,4 @@
-// The product by shifts, one bit after the other.
+//! The product in GHASH's field by shifts, one bit at a time (SP 800-38D, 6.3, algorithm 1).
 
 ghost use Rattle.std.specs.Prelude.{◌≡◌, ℕ};
 ghost use Rattle.std.specs.Int.{w128, to_be_bytes};
@@ -7,7 +7,8 @@ use crate::polynomial_word::{block_of, times_x, word_of};
 use crate::{Keyed128, Multiply};
 use octets::Block;
 
-/// The multiplier that takes one bit after the other.
+/// The multiplier that takes one bit at a time. Not constant time: it branches on each bit of the factor, a sum that key and
+/// text determine, and on bits of the product.
 #[derive(Drop, Clone, Copy)]
 pub struct BitMul {
     key: u128,

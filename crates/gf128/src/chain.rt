@@ -1,4 +1,4 @@
-// A sum of multiples of degree below 192, taken in a byte of the factors at a time.
+//! A sum of multiples of degree below 192, taken in a byte of the factors at a time and reduced once (SP 800-38D, 6.3).
 
 ghost use Rattle.std.specs.Prelude.{◌≡◌, ℕ, ◌+◌, ◌/◌, ◌^◌, ◌≤◌, Bool, false, List, ◌++◌, replicate};
 ghost use Rattle.octets.specs.Bytes.{le};

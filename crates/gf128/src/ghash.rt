@@ -1,4 +1,4 @@
-// GHASH: the sum of blocks whose bytes are read in order.
+//! GHASH (SP 800-38D, 6.4): the hash whose blocks are read from their first byte on.
 
 ghost use Rattle.gf128.specs.Ghash.{GhashIsTheOnly};
 ghost use Rattle.gf128.specs.Orders.{Straight};

@@ -1,4 +1,5 @@
-// GHASH and POLYVAL over a text fed piece by piece: one state, over the order of a block's bytes.
+//! GHASH and POLYVAL over a text that comes in pieces (SP 800-38D, 6.4; RFC 8452, 3): one state for both, over the order of a
+//! block's bytes.
 
 ghost use Rattle.std.specs.Prelude.{◌≡◌, ℕ, ◌*◌, ◌/◌, ◌%◌, ◌<◌, ◌++◌, List, [], length, drop};
 ghost use Rattle.octets.specs.Bytes.{IsBlock};
@@ -45,7 +46,7 @@ pub struct BlockHash<M, O> {
 impl<M: Keyed128, O: ByteOrder> BlockHash<M, O> {
     ghost use Rattle.gf128.specs.States.{HashHolds};
 
-    /// A state that holds the empty text, under a key of 16 bytes.
+    /// A state that holds the empty text, under a key of 16 bytes. Not constant time: see the multiplier.
     pub fn new(key: &Block) -> BlockHash<M, O>
         ensures { HashHolds O.order M.key_bytes result key.now [] }
     {

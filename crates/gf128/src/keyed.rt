@@ -1,4 +1,4 @@
-// Multiplication by a key in GHASH's field.
+//! Multiplication by a key in GHASH's field (SP 800-38D, 6.3): the traits that every multiplier has.
 
 ghost use Rattle.std.specs.Prelude.{◌≡◌, ℕ, List, replicate};
 ghost use Rattle.octets.specs.Bytes.{IsBlock};

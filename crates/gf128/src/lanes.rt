@@ -1,4 +1,4 @@
-// Words of 128 bits in vectors: a move by a byte is one shuffle, where LLVM takes three shifts for a number.
+//! Words of 128 bits in vectors: a move by a byte is one shuffle, where LLVM takes three shifts for a number.
 
 ghost use Rattle.std.specs.Prelude.{◌≡◌, ◌+◌, ◌*◌, ◌/◌, ◌%◌, ◌^◌, ◌<◌, bit_xor};
 ghost use Rattle.octets.specs.Bytes.{IsBlock, le};

@@ -1,5 +1,18 @@
-//! Products in GHASH's field, and GHASH (SP 800-38D, 6.3 and 6.4) and POLYVAL (RFC 8452, 3) over a text that
-//! comes in pieces. No call refuses, and none takes memory.
+//! Products in GHASH's field, and GHASH (SP 800-38D, 6.3 and 6.4) and POLYVAL (RFC 8452, 3) over a text that comes in pieces. No
+//! call refuses, and none allocates. No multiplier is constant time: each says what it looks up, or branches on.
+//!
+//! From `crates/gf128/src/uses.rt`:
+//! ```
+//! // GHASH of a text that comes in two pieces.
+//! fn ghash_of_two(key: &Block, first: &[u8], second: &[u8]) -> Block
+//!     ensures { result ≡ ghash key.now (pad16 (first.now ++ second.now)) }
+//! {
+//!     let mut state = Ghash::<Mul>::new(key);
+//!     state.update(first);
+//!     state.update(second);
+//!     state.finish()
+//! }
+//! ```
 #![tactic(auto)]
 
 mod bit_mul;

@@ -1,5 +1,5 @@
-// The multiples of a word by two, four and eight bits, each made of two smaller ones. The bit of highest
-// weight is the coefficient of x^0.
+//! The multiples of a word of GHASH's field (SP 800-38D, 6.3) by two, four and eight bits, each made of two smaller ones. The
+//! bit of highest weight is the coefficient of x^0.
 
 ghost use Rattle.std.specs.Prelude.{◌≡◌, ℕ, ◌/◌, ◌%◌, ◌^◌, ◌<◌, bit_xor, slice_index, slice_index_or};
 ghost use Rattle.std.specs.Int.{w128, to_be_bytes};

@@ -1,4 +1,4 @@
-// Words of 128 bits as polynomials: the bit of weight 2^127 is the coefficient of x^0.
+//! Words of 128 bits as polynomials of GHASH's field (SP 800-38D, 6.3): the bit of weight 2^127 is the coefficient of x^0.
 
 ghost use Rattle.std.specs.Prelude.{◌≡◌, ℕ, ◌+◌, ◌*◌, ◌/◌, ◌%◌, ◌^◌, ◌<◌, List, reverse, slice_index};
 ghost use Rattle.octets.specs.Bytes.{IsBlock};

@@ -1,4 +1,4 @@
-// POLYVAL: the sum of blocks whose bytes are read in reverse order.
+//! POLYVAL (RFC 8452, 3): the hash whose blocks are read from their last byte on, by GHASH's product (appendix A).
 
 ghost use Rattle.octets.specs.Bytes.{IsBlock};
 ghost use Rattle.gf128.specs.Orders.{Reversed};

@@ -1,4 +1,4 @@
-// The product by a table of 32 multiples of the key, a byte at a time.
+//! The product in GHASH's field (SP 800-38D, 6.3) by a table of 32 multiples of the key, a byte at a time.
 
 ghost use Rattle.std.specs.Prelude.{◌≡◌};
 ghost use Rattle.std.specs.Int.{w128, to_be_bytes};
@@ -12,6 +12,11 @@ use crate::{Keyed128, Multiply};
 use octets::Block;
 
 /// The multiplier that holds 32 multiples of the key, half a KiB, and takes a byte by two of them.
+///
+/// Not constant time. For each of the 16 bytes of the factor it looks up two tables of 16 entries of 16 bytes, one by the high
+/// and one by the low four bits. In a hash the factor is the sum so far XORed with a block, which key and text determine:
+/// code on the same processor may learn from the cache which entries were read, and from these the key. To make the tables
+/// it branches on bits of the key.
 #[derive(Drop, Clone, Copy)]
 pub struct TableMul {
     multiples: Multiples32,
@@ -47,7 +52,7 @@ impl Keyed128 for TableMul {
 }
 
 /// The multiplier by multiples that are kept as plain numbers. It takes a little longer than [`TableMul`] for each block,
-/// and needs no making.
+/// and needs no making. Not constant time: it looks up the same entries as [`TableMul`].
 #[derive(Drop, Clone, Copy)]
 pub struct KeptMul<'a> {
     word: u128,

@@ -1,4 +1,4 @@
-// Four products in one sum, by tables of multiples of the key's first four powers.
+//! Four products in GHASH's field (SP 800-38D, 6.3) in one sum, by tables of multiples of the key's first four powers.
 
 ghost use Rattle.std.specs.Prelude.{◌≡◌, ℕ, ◌+◌, ◌*◌, ◌/◌, ◌^◌, ◌≤◌, List, [], ◌∷◌};
 ghost use Rattle.std.specs.Int.{w128, to_be_bytes};
@@ -18,6 +18,12 @@ use octets::Block;
 
 /// The multiplier that holds 256 multiples of each of the key's first four powers, 16 KiB, and takes four
 /// blocks at a time. It is for a text of a KiB and more, or for a key that is kept.
+///
+/// Not constant time. Each of the four tables has 256 entries of 16 bytes. Of four blocks, the bytes of the first, XORed with
+/// the sum so far, look up the table of the fourth power; the bytes of the other three, as they are, look up those of the
+/// third, the second and the key. A block alone, added to the sum, looks up the key's table. So what is read depends on the
+/// key through the sum, and on the text where it is secret, as in POLYVAL. To make the tables it looks those of a
+/// [`TableMul`] up by the key and its powers.
 #[derive(Drop)]
 pub struct WideMul {
     first: Multiples256,
