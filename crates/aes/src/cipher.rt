@@ -1,4 +1,4 @@
-// The law of the cipher.
+//! The law of the cipher (FIPS 197, 5.1): it is one to one and onto.
 
 ghost use Rattle.aes.specs.Cipher.{IsPermutation};
 

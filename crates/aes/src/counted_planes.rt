@@ -1,4 +1,4 @@
-// Sixteen blocks that count, in eight planes of bits.
+//! Sixteen blocks that count (SP 800-38D, 6.2; RFC 8452, 4), written at once into eight planes of bits.
 
 ghost use Rattle.std.specs.Prelude.{◌≡◌, ℕ, ◌<◌, ◌+◌, ◌*◌, ◌/◌, ◌%◌, ◌==◌, if◌then◌else◌};
 ghost use Rattle.std.specs.Prelude.{List, slice_index, bit_xor, length};

@@ -1,4 +1,5 @@
-// Streams of bytes from a block that counts (SP 800-38D, 6.5; RFC 8452, 4).
+//! The key streams of AES-GCM and AES-GCM-SIV: the ciphers of blocks that count (SP 800-38D, 6.5; RFC 8452, 4), XORed into a
+//! text that comes in pieces.
 
 ghost use Rattle.std.specs.Prelude.{◌≡◌, ℕ, ◌+◌, ◌*◌, ◌%◌, ◌^◌, ◌<◌, ◌≤◌, List, ◌++◌, length, take, drop};
 ghost use Rattle.octets.specs.Bytes.{IsBlock, block_at, xor_bytes};
@@ -445,6 +446,12 @@ impl<K: KeptKey> CtrBe<K> {
     ghost use Rattle.aes.specs.Streams.{HoldsBe};
 
     /// The stream whose first block is the cipher of `first`, under a key that it keeps or borrows.
+    ///
+    /// No block may be used twice under one key: `first`, and those counted from it, belong to this stream alone. Two texts
+    /// that are XORed with the same part of a stream give away their XOR. In AES-GCM `first` is made of the nonce, and two
+    /// tags under one nonce also give away the hash key, with which anyone can forge messages.
+    ///
+    /// Not constant time: single blocks go through `AesKey::encrypt`.
     #[inline(always)]
     pub fn new(key: K, first: &Block) -> CtrBe<K>
         ensures { HoldsBe K.bytes result (K.bytes key) first.now 0 }
@@ -455,7 +462,8 @@ impl<K: KeptKey> CtrBe<K> {
         }
     }
 
-    /// The stream whose first block is the cipher of `first`, and that has made its first `made` bytes.
+    /// The stream whose first block is the cipher of `first`, and that has made its first `made` bytes. The rest must not be
+    /// used twice: see [`CtrBe::new`].
     pub fn at(key: K, first: &Block, made: u64) -> CtrBe<K>
         requires { made < 2 ^ 63 }
         ensures { HoldsBe K.bytes result (K.bytes key) first.now made }
@@ -464,8 +472,8 @@ impl<K: KeptKey> CtrBe<K> {
         CtrBe { key, counter }
     }
 
-    /// XORs the next bytes of the stream into `bytes`, of any length: two calls do what one call does for
-    /// both pieces in turn. It has no fault: after 2^32 blocks the stream begins again (SP 800-38D, 6.5).
+    /// XORs the next bytes of the stream into `bytes`, of any length. The result does not depend on how a text is split into
+    /// calls. It has no fault: after 2^32 blocks the stream begins again (SP 800-38D, 6.5), so a caller stops before.
     pub fn apply(&mut self, bytes: &mut [u8])
         ensures { (key first : List ℕ) (made : ℕ) → HoldsBe K.bytes self.old key first made
             → HoldsBe K.bytes self.new key first (made + length bytes.old)
@@ -487,6 +495,12 @@ impl<K: KeptKey> CtrLe<K> {
     ghost use Rattle.aes.specs.Streams.{HoldsLe};
 
     /// The stream whose first block is the cipher of `first`, under a key that it keeps or borrows.
+    ///
+    /// No block may be used twice under one key: `first`, and those counted from it, belong to this stream alone. Two texts
+    /// that are XORed with the same part of a stream give away their XOR. In AES-GCM-SIV `first` is made of the tag: under a
+    /// repeated nonce it is the same only if the text and the associated data are the same, and gives away only that.
+    ///
+    /// Not constant time: single blocks go through `AesKey::encrypt`.
     #[inline(always)]
     pub fn new(key: K, first: &Block) -> CtrLe<K>
         ensures { HoldsLe K.bytes result (K.bytes key) first.now 0 }
@@ -497,7 +511,8 @@ impl<K: KeptKey> CtrLe<K> {
         }
     }
 
-    /// The stream whose first block is the cipher of `first`, and that has made its first `made` bytes.
+    /// The stream whose first block is the cipher of `first`, and that has made its first `made` bytes. The rest must not be
+    /// used twice: see [`CtrLe::new`].
     pub fn at(key: K, first: &Block, made: u64) -> CtrLe<K>
         requires { made < 2 ^ 63 }
         ensures { HoldsLe K.bytes result (K.bytes key) first.now made }
@@ -506,8 +521,8 @@ impl<K: KeptKey> CtrLe<K> {
         CtrLe { key, counter }
     }
 
-    /// XORs the next bytes of the stream into `bytes`, of any length: two calls do what one call does for
-    /// both pieces in turn. It has no fault: after 2^32 blocks the stream begins again (RFC 8452, 4).
+    /// XORs the next bytes of the stream into `bytes`, of any length. The result does not depend on how a text is split into
+    /// calls. It has no fault: after 2^32 blocks the stream begins again (RFC 8452, 4), so a caller stops before.
     pub fn apply(&mut self, bytes: &mut [u8])
         ensures { (key first : List ℕ) (made : ℕ) → HoldsLe K.bytes self.old key first made
             → HoldsLe K.bytes self.new key first (made + length bytes.old)

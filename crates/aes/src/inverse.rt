@@ -1,5 +1,5 @@
-// The rounds of the cipher by columns, backwards (FIPS 197, 5.3). Each contract says which state the
-// forward step takes to the given one.
+//! The rounds of the cipher by columns, backwards (FIPS 197, 5.3). Each contract says which state the forward step takes to the
+//! given one.
 
 ghost use Rattle.std.specs.Prelude.{◌≡◌, ℕ, ◌*◌, ◌<◌, ◌≤◌, List, ◌∷◌, [], map, get_or, slice_index};
 ghost use Rattle.octets.specs.Bytes.{IsBlock};

@@ -1,4 +1,4 @@
-// The equivalent inverse cipher (FIPS 197, 5.3.5).
+//! A key made ready to decrypt: the equivalent inverse cipher (FIPS 197, 5.3.5).
 
 ghost use Rattle.std.specs.Prelude.{◌≡◌, ◌≤◌, ℕ, List};
 ghost use Rattle.octets.specs.Bytes.{IsBlock};
@@ -9,7 +9,7 @@ use crate::inverse::{inverse_round, unsub_rows};
 use octets::Block;
 
 /// A key of AES made ready to decrypt many blocks: the words of the rounds between the first and the last
-/// are those of the schedule undone by MixColumns (FIPS 197, 5.3.5).
+/// are those of the schedule undone by MixColumns (FIPS 197, 5.3.5). It is not constant time: see its call.
 #[derive(Clone, Copy)]
 pub struct InverseKey {
     words: [u32; 60],
@@ -29,7 +29,10 @@ impl InverseKey {
         InverseKey { words, size }
     }
 
-    /// The block of 16 bytes that the cipher takes to `block`; it is the only one (FIPS 197, 5.3.5).
+    /// Returns the block of 16 bytes that the cipher takes to `block`; it is the only one (FIPS 197, 5.3.5).
+    ///
+    /// Not constant time: each round but the last looks up four tables of 256 words, 4 KiB in all, by the 16 bytes of its
+    /// state, and the last looks up the inverse of the S-box, a table of 256 bytes.
     pub fn decrypt(&self, block: &Block) -> Block
         ensures value { (key : List ℕ) → IsInverse self.now key → IsPreimage key block.now result }
         ensures is_block { IsBlock result }

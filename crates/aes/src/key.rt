@@ -1,4 +1,4 @@
-// An expanded key, and the cipher under it.
+//! An expanded key, and the cipher under it (FIPS 197, 5.1 and 5.2): one block, or four, eight or sixteen at once.
 
 ghost use Rattle.std.specs.Prelude.{◌≡◌, ℕ, ◌<◌, ◌+◌, ◌*◌, ◌/◌, ◌%◌, length, slice_index, List, MatchResult};
 ghost use Rattle.octets.specs.Bytes.{IsBlock, block_at};
@@ -26,6 +26,12 @@ use std::simd::prelude::*;
 use std::simd::u8x64;
 
 /// A key of AES with its schedule (FIPS 197, 5.2). Contracts see the key's bytes: 16, 24 or 32.
+///
+/// Not constant time. Making a key looks up the S-box, a table of 256 bytes, by bytes of the schedule, and so of the key.
+/// `encrypt` looks up four tables of 256 words, 4 KiB in all, by each byte of the state in each round: that is the block XORed
+/// with a round key at first. `inverse` and `decrypt` look up tables by bytes of the schedule and of the state, see
+/// [`InverseKey`]. Code on the same processor may learn from the cache which entries were read, and from these the key.
+/// `encrypt_four` has its tables in vectors, and reads none in memory; that its time is constant is not claimed either.
 #[derive(Clone, Copy)]
 pub struct AesKey {
     words: [u32; 60],
@@ -109,7 +115,8 @@ impl AesKey {
         }
     }
 
-    /// The key with these bytes: 16, 24 or 32. Any other length is `KeyLength`, the only fault (FIPS 197, 5).
+    /// The key with these bytes: 16, 24 or 32. Any other length is `KeyLength`, the only fault (FIPS 197, 5). Not constant
+    /// time: the schedule looks up the S-box by bytes of the key.
     pub fn from_slice(key: &[u8]) -> Result<AesKey, Fault>
         ensures { MatchResult result (λ k. (k ≡ key.now) × IsKey key.now)
             (λ e. (e ≡ Fault.KeyLength) × ¬ IsKeyLength (length key.now)) }
@@ -150,7 +157,10 @@ impl AesKey {
         }
     }
 
-    /// The block of 16 bytes that the cipher takes `block` to (FIPS 197, 5.1).
+    /// Returns the block of 16 bytes that the cipher takes `block` to (FIPS 197, 5.1).
+    ///
+    /// Not constant time: each round but the last looks up four tables of 256 words by the 16 bytes of its state, and the last
+    /// reads the S-box from the same tables.
     pub fn encrypt(&self, block: &Block) -> Block
         ensures value { result ≡ cipher self.now block.now }
         ensures is_block { IsBlock result }
@@ -189,7 +199,8 @@ impl AesKey {
         last_four(lanes, spread(round_key(&self.words, count))).to_array()
     }
 
-    /// The ciphers of four blocks, one after the other, each of 16 bytes (FIPS 197, 5.1).
+    /// Returns the ciphers of four blocks, one after the other, each of 16 bytes (FIPS 197, 5.1). No table in memory is looked
+    /// up: its tables of 16 bytes are vectors, as are the bytes that index them.
     pub fn encrypt_four(&self, blocks: &[u8; 64]) -> [u8; 64]
         ensures { (q : ℕ) → q < 4 → block_at result q ≡ cipher self.now (block_at blocks.now q) }
     {
@@ -298,15 +309,16 @@ impl AesKey {
         (first.to_array(), second.to_array())
     }
 
-    /// This key made ready for `InverseKey::decrypt` (FIPS 197, 5.3.5).
+    /// Returns this key made ready for `InverseKey::decrypt` (FIPS 197, 5.3.5). Not constant time: it looks up the S-box by the
+    /// bytes of the schedule, and then four tables of 256 words by what it found.
     pub fn inverse(&self) -> InverseKey
         ensures { IsInverse result self.now }
     {
         InverseKey::new(unmix_words(&self.words, self.size + 6), self.size)
     }
 
-    /// The block of 16 bytes that the cipher takes to `block`; it is the only one (FIPS 197, 5.3). For many
-    /// blocks make the `inverse` once.
+    /// Returns the block of 16 bytes that the cipher takes to `block`; it is the only one (FIPS 197, 5.3). For many blocks
+    /// make the `inverse` once. Not constant time, as `inverse` and `InverseKey::decrypt`.
     pub fn decrypt(&self, block: &Block) -> Block
         ensures value { IsPreimage self.now block.now result }
         ensures is_block { IsBlock result }

@@ -1,4 +1,4 @@
-// The round keys of AES in eight planes of bits, each for eight blocks.
+//! The round keys of AES (FIPS 197, 5.2) in eight planes of bits, each for eight blocks.
 
 ghost use Rattle.std.specs.Prelude.{◌≡◌, ℕ, ◌<◌};
 ghost use Rattle.std.specs.Prelude.{slice_index, bit_xor, length};

@@ -1,6 +1,6 @@
-// Four blocks at once by look-ups in tables of sixteen bytes, with no table in memory. The field of 256
-// elements is seen over its subfield of 16, in which an inverse is five look-ups; 0x80 stands for the
-// inverse of 0.
+//! Four blocks at once (FIPS 197, 5.1) by look-ups in tables of sixteen bytes, which are vectors: no table in memory is read.
+//! The field of 256 elements is seen over its subfield of 16, in which an inverse is five look-ups; 0x80 stands for the
+//! inverse of 0.
 
 ghost use Rattle.std.specs.Prelude.{◌≡◌, ℕ, ◌%◌, ◌<◌, ◌≤◌, ◌/◌, List, [], slice_index, slice_index_or};
 ghost use Rattle.std.specs.Prelude.{length, bit_xor};

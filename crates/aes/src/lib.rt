@@ -1,5 +1,18 @@
-//! AES with keys of 128, 192 and 256 bits, both ways (FIPS 197), and its streams of counting blocks (SP
-//! 800-38D, RFC 8452).
+//! AES with keys of 128, 192 and 256 bits, both ways (FIPS 197), and its streams of counting blocks (SP 800-38D, RFC 8452).
+//!
+//! Most calls are not constant time: [`AesKey`] says which table is looked up by which secret bytes.
+//!
+//! From `crates/aes/src/uses.rt`:
+//! ```
+//! // The cipher of a block under a key's bytes.
+//! fn encrypted(key: &[u8], block: &Block) -> Result<Block, Fault>
+//!     ensures { MatchResult result (λ b. b ≡ cipher key.now block.now)
+//!         (λ e. (e ≡ Fault.KeyLength) × ¬ IsKeyLength (length key.now)) }
+//! {
+//!     let key = AesKey::from_slice(key)?;
+//!     Ok(key.encrypt(block))
+//! }
+//! ```
 #![tactic(auto)]
 
 mod cipher;

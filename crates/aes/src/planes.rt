@@ -1,5 +1,5 @@
-// Sixteen blocks at once in eight planes of bits: bit j of the byte in row r and column c of block q is in
-// plane j, in lane 16 (q / 8) + 4 r + c, at bit q mod 8.
+//! Sixteen blocks at once (FIPS 197, 5.1) in eight planes of bits, without tables: bit j of the byte in row r and column c of
+//! block q is in plane j, in lane 16 (q / 8) + 4 r + c, at bit q mod 8.
 
 ghost use Rattle.std.specs.Prelude.{◌≡◌, ℕ, ◌<◌, ◌+◌, ◌-◌, ◌*◌, ◌/◌, ◌%◌, ◌==◌, if◌then◌else◌};
 ghost use Rattle.std.specs.Prelude.{List, [], slice_index, slice_index_or, bit_xor, length};

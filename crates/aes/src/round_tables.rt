@@ -1,4 +1,5 @@
-// The tables of a round and of its inverse, by the byte's row.
+//! The tables of a round (FIPS 197, 5.1: SubBytes and MixColumns of one byte) and of a round of the equivalent inverse cipher
+//! (5.3.5), one for each row of the byte.
 
 // Entry x is the column 02 S(x), S(x), S(x), 03 S(x): what the byte x in row 0 adds to its column after
 // SubBytes and MixColumns.

@@ -1,4 +1,4 @@
-// The S-box and its inverse as tables (FIPS 197, 5.1.1 and 5.3.2).
+//! The S-box and its inverse as tables (FIPS 197, 5.1.1 and 5.3.2).
 
 ghost use Rattle.std.specs.Prelude.{◌≡◌, ℕ, ◌<◌};
 ghost use Rattle.aes.specs.Field.{sbox, inverse, IsInverse};

@@ -1,4 +1,4 @@
-// The key schedule (FIPS 197, 5.2). A word is a number of 32 bits, its first byte the least significant one.
+//! The key schedule (FIPS 197, 5.2). A word is a number of 32 bits, its first byte the least significant one.
 
 ghost use Rattle.std.specs.Prelude.{◌≡◌, ℕ, ◌+◌, ◌*◌, ◌^◌, ◌≤◌, ◌/◌, ◌<◌, length, take, drop, slice_index};
 ghost use Rattle.aes.specs.Columns.{column_of, columns_of};
