@@ -1,5 +1,5 @@
-// The calls for C: a slice crosses as a pointer and a length. Each call returns 0, or a fault's number:
-// `KeyLength` if the key is not 16, 24 or 32 bytes long, then as the call in place. It then changes nothing.
+//! The calls for C. A slice crosses as a pointer and a length. Each call returns 0, or the number of a fault: `KeyLength` if the
+//! key is not 16, 24 or 32 bytes long, and otherwise as the call in place. On a fault nothing is changed.
 
 ghost use Rattle.std.specs.Prelude.{◌≡◌, ℕ, List, drop, MatchResult};
 ghost use Rattle.octets.specs.Numbers.{HasOutcome};
@@ -38,7 +38,7 @@ fn unwrap_bytes(key: &[u8], bytes: &mut [u8]) -> Result<(), Fault>
     }
 }
 
-/// Wraps as `wrap_in_place`: `bytes` are eight bytes of room and a text, and become its wrapping.
+/// Wraps as `wrap_in_place`: `bytes` are eight bytes of room, whose contents are lost, and a text, and become its wrapping.
 #[unsafe(no_mangle)]
 pub extern "C" fn aeadkit_wrap(key: &[u8], bytes: &mut [u8]) -> u32
     ensures { HasOutcome result (IsKey key.now × Unwrapped key.now bytes.new (drop 8 bytes.old))

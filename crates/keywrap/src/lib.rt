@@ -1,6 +1,27 @@
-//! AES Key Wrap, with the default initial value (RFC 3394; SP 800-38F, 6.1 and 6.2) and with padding (RFC
-//! 5649). `wrap`, `unwrap`, `wrap_padded` and `unwrap_padded` make a new vector; their forms `_in_place`
-//! work in the caller's bytes and allocate nothing.
+//! AES Key Wrap, with the default initial value (RFC 3394; SP 800-38F, 6.1 and 6.2) and with padding (RFC 5649). `wrap`,
+//! `unwrap`, `wrap_padded` and `unwrap_padded` make a new vector; their forms `_in_place` work in the caller's bytes and
+//! allocate nothing.
+//!
+//! Not constant time. Each step encrypts or decrypts a block of A and 8 bytes of the text by `AesKey::encrypt` or
+//! `InverseKey::decrypt`, which look up tables of 4 KiB by bytes of that block, XORed with the wrapping key's at first, and so
+//! by bytes that the wrapping key and the wrapped text determine. The checks of the unwrapped bytes may end at the first that
+//! differs. There is no nonce: under one key the same text has the same wrapping, so wrappings show which texts are equal.
+//!
+//! From `crates/keywrap/src/uses.rt`:
+//! ```
+//! // A text comes back as it was.
+//! fn there_and_back<A: Allocator, B: Allocator>(
+//!     alloc: A,
+//!     other: B,
+//!     key: &AesKey,
+//!     text: &[u8],
+//! ) -> Result<Vec<u8, A>, Fault>
+//!     ensures { IfOk result (λ v. v.items ≡ text.now) }
+//! {
+//!     let wrapped = wrap(other, key, text)?;
+//!     unwrap(alloc, key, &wrapped)
+//! }
+//! ```
 #![tactic(auto)]
 
 ghost use Rattle.keywrap.specs.Wrapping.{HasOneText};

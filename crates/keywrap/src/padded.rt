@@ -1,4 +1,4 @@
-// Wrapping with padding (RFC 5649).
+//! Wrapping with padding into a new vector (RFC 5649, 4.1 and 4.2).
 
 ghost use Rattle.std.specs.Prelude.{◌≡◌, ◌≢◌, ◌<◌, ◌≤◌, ◌^◌, ◌%◌, ◌++◌, ◌↔◌, ◌==◌, ℕ, List, length, take};
 ghost use Rattle.std.specs.Prelude.{IsTrue, IfOk, IfSome, MatchOption, MatchResult, replicate};
@@ -145,7 +145,7 @@ pub(crate) fn has_blocks(bytes: &[u8]) -> bool
 
 /// Returns the wrapping of a text with padding, eight bytes longer than the padded text (RFC 5649, 4.1).
 /// Faults, in this order: `WrapLength` for an empty text, `TextTooLong` past 2^32 - 1 bytes, `OutOfMemory`
-/// if `alloc` refuses the result.
+/// if `alloc` refuses the result. Not constant time: see the crate's page.
 pub fn wrap_padded<A: Allocator>(alloc: A, key: &AesKey, text: &[u8]) -> Result<Vec<u8, A>, Fault>
     ensures { MatchResult result
         (λ v. UnwrappedPadded key.now v.items text.now) (PaddedWrapRefused text.now) }
@@ -162,9 +162,9 @@ pub fn wrap_padded<A: Allocator>(alloc: A, key: &AesKey, text: &[u8]) -> Result<
 }
 
 /// Returns the text of a wrapping with padding (RFC 5649, 4.2). Faults, in this order: `WrapLength` if the
-/// length is under 16 or no multiple of 8, `TextTooLong` past 2^32 + 8 bytes, `OutOfMemory` if `alloc`
-/// refuses that many bytes, `WrapIntegrity` if the bytes are the wrapping of no text with padding under this
-/// key.
+/// length is under 16 or not a multiple of 8, `TextTooLong` past 2^32 + 8 bytes, `OutOfMemory` if `alloc`
+/// refuses that many bytes, `WrapIntegrity` if the bytes are not a valid wrapping with padding under this key. Not constant
+/// time: see the crate's page.
 pub fn unwrap_padded<A: Allocator>(
     alloc: A,
     key: &AesKey,

@@ -1,4 +1,4 @@
-// Wrapping and unwrapping with padding in the caller's bytes. Nothing is allocated.
+//! Wrapping and unwrapping with padding in the caller's bytes (RFC 5649, 4.1 and 4.2). Nothing is allocated.
 
 ghost use Rattle.std.specs.Prelude.{◌≡◌, ℕ, ◌↔◌, List, take, drop, IsTrue, MatchResult, OnErr};
 ghost use Rattle.keywrap.specs.Padded.{HasPaddedRoom, UnwrappedPadded};
@@ -22,9 +22,9 @@ fn has_padded_room(bytes: &[u8], text_length: usize) -> bool
 }
 
 /// Wraps with padding (RFC 5649, 4.1). `bytes` are eight bytes of room for A, the text of `text_length`
-/// bytes, and as few bytes of room as make the length a multiple of 8; they become the wrapping. In this
-/// order: `WrapLength` if the text is empty or the room is more or less, `TextTooLong` if the text is longer
-/// than 2^32 - 1 bytes. A refusal changes no byte.
+/// bytes, and as few bytes of room as make the length a multiple of 8; they become the wrapping. What the room held is lost.
+/// Faults, in this order: `WrapLength` if the text is empty or the room is more or less, `TextTooLong` if the text is longer
+/// than 2^32 - 1 bytes. On a fault no byte is changed. Not constant time: see the crate's page.
 pub fn wrap_padded_in_place(key: &AesKey, bytes: &mut [u8], text_length: usize) -> Result<(), Fault>
     ensures answer { MatchResult result
         (λ _. WrappedPaddedInPlace key.now bytes.old text_length bytes.new)
@@ -45,10 +45,10 @@ pub fn wrap_padded_in_place(key: &AesKey, bytes: &mut [u8], text_length: usize) 
 }
 
 /// Unwraps with padding (RFC 5649, 4.2), and returns the text's length. `bytes` are a wrapping; they become
-/// the alternative initial value, the text, which starts at offset 8, and the zeros of its padding. In this
-/// order: `WrapLength` if the length is under 16 or no multiple of 8, `TextTooLong` if it is more than
-/// 2^32 + 8, `WrapIntegrity` if the bytes are the wrapping of no text with padding under this key. A refusal
-/// changes no byte.
+/// the alternative initial value, the text, which starts at offset 8, and the zeros of its padding. Faults, in this order:
+/// `WrapLength` if the length is under 16 or not a multiple of 8, `TextTooLong` if it is more than 2^32 + 8, `WrapIntegrity` if
+/// the bytes are not a valid wrapping with padding under this key. On a fault the bytes are as they were. Not constant time:
+/// see the crate's page.
 pub fn unwrap_padded_in_place(key: &AesKey, bytes: &mut [u8]) -> Result<usize, Fault>
     ensures answer { MatchResult result (λ n. UnwrappedPaddedInPlace key.now bytes.old n bytes.new)
         (PaddedUnwrapInPlaceRefused key.now bytes.old) }

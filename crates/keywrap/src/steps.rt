@@ -1,5 +1,4 @@
-// The steps of the wrapping and of its inverse (RFC 3394, 2.2.1 and 2.2.2), by index, from any first value
-// of A.
+//! The steps of the wrapping and of its inverse (RFC 3394, 2.2.1 and 2.2.2), by index, from any first value of A.
 
 ghost use Rattle.std.specs.Prelude.{◌≡◌, ℕ, List, ◌+◌, ◌-◌, ◌*◌, ◌/◌, ◌%◌, ◌≤◌, ◌++◌, ◌↔◌, take, drop};
 ghost use Rattle.std.specs.Prelude.{length, IsTrue};
