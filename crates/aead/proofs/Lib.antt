@@ -1,4 +1,5 @@
 mod OneText
+mod Composed
 mod Opens
 mod Fed
 mod DerivedKeys

@@ -1,5 +1,5 @@
 -- The state of sealings and openings in pieces that are stored as numbers in C's memory.
-use Rattle.std.specs.Prelude.{◌≡◌, ◌≢◌, ℕ, ◌+◌, ◌*◌, ◌/◌, ◌^◌, ◌<◌, true, List, ◌++◌, length, take, drop}
+use Rattle.std.specs.Prelude.{◌≡◌, ◌≢◌, ℕ, ◌+◌, ◌*◌, ◌/◌, ◌^◌, ◌<◌, ◌≤◌, true, List, ◌++◌, length, take, drop}
 use Rattle.std.specs.Prelude.{replicate}
 use Rattle.octets.specs.Bytes.{pad16}
 use Rattle.octets.specs.Masked.{masked}
@@ -151,6 +151,15 @@ abbrev pub HasStart : StoredSum → Setting → Type 0
 HasStart n s = IsSumOf (construction_of s.suite) n s (pad16 s.aad)
 
 -- ---- the outcomes of the calls
+
+-- the status of a call that adds bytes to those counted so far: all are within the limit, or past it with this fault
+abbrev pub FitsOr : Fault → (status count added limit : ℕ) → Type 0
+FitsOr fault status count added limit =
+    HasOutcome status (count + added ≤ limit) (λ e. (e ≡ fault) × (limit < count + added))
+
+-- the status is 0, or the number of this fault
+abbrev pub IsDoneOr : Fault → ℕ → Type 0
+IsDoneOr fault status = HasOutcome status (Unit {0}) (λ e. e ≡ fault)
 
 -- p becomes q, and was becomes now: if p holds the text, of which `holds` speaks, a piece is added and
 -- masked, or the text would be too long

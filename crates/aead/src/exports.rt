@@ -28,6 +28,7 @@ mod sealer;
 mod siv;
 mod stored;
 mod stored_key;
+mod uses;
 
 // The status of a call at C whose suite number is unknown.
 const UNKNOWN_SUITE: u32 = 14;

@@ -7,7 +7,7 @@ ghost use Rattle.aead.specs.Suites.{construction_of, is_one_pass, key_length};
 ghost use Rattle.aead.specs.Exports.{suite_number, unknown_suite, setting_of, key_mark, first_key};
 ghost use Rattle.aead.specs.Exports.{WasSealed, WasNotSealed, WasOpened, WasNotOpened};
 ghost use Rattle.aead.specs.Stored.{zeros, not_begun, BeginRefused, HoldsBytes, HoldsText};
-ghost use Rattle.aead.specs.StoredKey.{KeepsKey, KeepsNone, KeyRefused};
+ghost use Rattle.aead.specs.StoredKey.{KeepsKey, KeepsNone, IsCleared, KeyRefused};
 
 use super::pass::{is_chacha, is_siv, mark_of, marked};
 use super::sealer::{NOT_BEGUN, begun_chacha, begun_gcm};
@@ -112,13 +112,14 @@ fn begun_kept(
 }
 
 /// Keeps a key of a suite. What the struct was before makes no difference. `UNKNOWN_SUITE`, then `KeyLength`:
-/// both leave a struct that keeps no key.
+/// both leave zeros in the struct, which keeps no key.
 #[unsafe(no_mangle)]
 pub extern "C" fn aeadkit_key_init(kept: &mut StoredKey, suite: u32, key: &[u8]) -> u32
     ensures known { (named : Suite) → suite ≡ suite_number named
         → HasOutcome result (KeepsKey kept.new named key.now) (KeyRefused named key.now) }
     ensures unknown { ((named : Suite) → suite ≢ suite_number named) → result ≡ unknown_suite }
     ensures refused { result ≢ 0 → KeepsNone kept.new }
+    ensures cleared { result ≢ 0 → IsCleared kept.new }
 {
     *kept = StoredKey::zeros();
     let Some(suite) = suite_numbered(u64::from(suite)) else {

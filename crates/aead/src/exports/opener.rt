@@ -1,12 +1,13 @@
 // An opening in pieces at C: a first pass over the ciphertext gives nothing, and only after it was found to be a
 // sealing a second pass decrypts.
 
-ghost use Rattle.std.specs.Prelude.{◌≡◌, ◌≢◌, ◌++◌, ℕ, List, [], true, false};
+ghost use Rattle.std.specs.Prelude.{◌≡◌, ◌≢◌, ◌+◌, ◌++◌, ℕ, List, [], length, true, false};
 ghost use Rattle.octets.specs.Numbers.{HasOutcome};
 ghost use Rattle.aead.specs.declared.suite.Suite.{Suite};
+ghost use Rattle.aead.specs.Suites.{text_limit};
 ghost use Rattle.aead.specs.Sealing.{Setting, IsNoSealing};
 ghost use Rattle.aead.specs.Exports.{suite_number, unknown_suite, setting_of};
-ghost use Rattle.aead.specs.Stored.{zero_passes, not_begun, BeginRefused};
+ghost use Rattle.aead.specs.Stored.{zero_passes, not_begun, BeginRefused, FitsOr, IsDoneOr};
 ghost use Rattle.aead.specs.StoredOpener.{checking, opening, NotIn, HoldsPass, HoldsChecking};
 ghost use Rattle.aead.specs.StoredOpener.{Checks, Opens, Checked, Decrypts, Ends};
 
@@ -81,6 +82,8 @@ pub extern "C" fn aeadkit_opener_check(opener: &mut StoredPasses, piece: &[u8]) 
         → Checks opener.old opener.new piece.now result s tag bytes }
     ensures not_begun { NotIn checking opener.old → result ≡ not_begun }
     ensures kept { result ≢ 0 → opener.new ≡ opener.old }
+    ensures status { (suite : Suite) → opener.old.mark ≡ checking + suite_number suite
+        → FitsOr Fault.TextTooLong result opener.old.state.length (length piece.now) (text_limit suite) }
 {
     let Some(suite) = marked(CHECKING, opener.mark) else {
         return NOT_BEGUN;
@@ -99,6 +102,9 @@ pub extern "C" fn aeadkit_opener_checked(opener: &mut StoredPasses) -> u32
     ensures holds { (s : Setting) (tag bytes : List ℕ) → Checked opener.old opener.new result s tag bytes }
     ensures not_begun { NotIn checking opener.old → (result ≡ not_begun) × (opener.new ≡ opener.old) }
     ensures refused { result ≢ 0 → result ≢ not_begun → opener.new ≡ zero_passes }
+    ensures kept { result ≡ not_begun → opener.new ≡ opener.old }
+    ensures status { (suite : Suite) → opener.old.mark ≡ checking + suite_number suite
+        → HasOutcome result (opener.new.mark ≡ opening + suite_number suite) (λ e. e ≡ Fault.TagMismatch) }
 {
     let Some(suite) = marked(CHECKING, opener.mark) else {
         return NOT_BEGUN;
@@ -121,6 +127,8 @@ pub extern "C" fn aeadkit_opener_update(opener: &mut StoredPasses, piece: &mut [
         → Decrypts opener.old opener.new piece.old piece.new result s tag first bytes }
     ensures not_begun { NotIn opening opener.old → result ≡ not_begun }
     ensures kept { result ≢ 0 → (opener.new ≡ opener.old) × (piece.new ≡ piece.old) }
+    ensures status { (suite : Suite) → opener.old.mark ≡ opening + suite_number suite
+        → IsDoneOr Fault.SourceChanged result }
 {
     let Some(suite) = marked(OPENING, opener.mark) else {
         return NOT_BEGUN;
@@ -140,7 +148,10 @@ pub extern "C" fn aeadkit_opener_finish(opener: &mut StoredPasses) -> u32
     ensures holds { (s : Setting) (tag : List ℕ) (first : ℕ) (bytes : List ℕ)
         → Ends opener.old result s tag first bytes }
     ensures not_begun { NotIn opening opener.old → (result ≡ not_begun) × (opener.new ≡ opener.old) }
+    ensures kept { result ≡ not_begun → opener.new ≡ opener.old }
     ensures ended { result ≢ not_begun → opener.new ≡ zero_passes }
+    ensures status { (suite : Suite) → opener.old.mark ≡ opening + suite_number suite
+        → IsDoneOr Fault.SourceChanged result }
 {
     let Some(suite) = marked(OPENING, opener.mark) else {
         return NOT_BEGUN;

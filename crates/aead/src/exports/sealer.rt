@@ -3,11 +3,11 @@
 ghost use Rattle.std.specs.Prelude.{◌≡◌, ◌≢◌, ◌≤◌, ℕ, List, [], length, true, MatchResult};
 ghost use Rattle.octets.specs.Numbers.{HasOutcome};
 ghost use Rattle.aead.specs.declared.suite.Suite.{Suite};
-ghost use Rattle.aead.specs.Suites.{ByChaCha, ByGcm, construction_of, is_one_pass, key_length, aad_limit};
+ghost use Rattle.aead.specs.Suites.{ByChaCha, ByGcm, construction_of, is_one_pass, key_length, aad_limit, text_limit};
 ghost use Rattle.aead.specs.Sealing.{Setting, hash_key, tag_of};
 ghost use Rattle.aead.specs.Exports.{suite_number, unknown_suite, setting_of};
-ghost use Rattle.aead.specs.Stored.{zeros, NotBegun, not_begun, BeginRefused};
-ghost use Rattle.aead.specs.Stored.{cipher_key, HoldsBy, HoldsBytes, HoldsText, Updates};
+ghost use Rattle.aead.specs.Stored.{zeros, NotBegun, not_begun, sealer_mark, BeginRefused};
+ghost use Rattle.aead.specs.Stored.{cipher_key, HoldsBy, HoldsBytes, HoldsText, Updates, FitsOr};
 
 use super::UNKNOWN_SUITE;
 use super::pass::{is_chacha, mark_of, mask_piece, one_pass_marked, one_pass_numbered, pass_tag};
@@ -164,6 +164,9 @@ pub extern "C" fn aeadkit_sealer_update(sealer: &mut StoredSealer, piece: &mut [
         → Updates HoldsText sealer.old sealer.new piece.old piece.new result s text }
     ensures not_begun { NotBegun sealer.old → result ≡ not_begun }
     ensures kept { result ≢ 0 → (sealer.new ≡ sealer.old) × (piece.new ≡ piece.old) }
+    ensures status { (suite : Suite) → is_one_pass (construction_of suite) ≡ true
+        → sealer.old.mark ≡ sealer_mark suite
+        → FitsOr Fault.TextTooLong result sealer.old.length (length piece.old) (text_limit suite) }
 {
     let Some(suite) = one_pass_marked(SEALER, sealer.mark) else {
         return NOT_BEGUN;
@@ -185,6 +188,8 @@ pub extern "C" fn aeadkit_sealer_finish(sealer: &mut StoredSealer, tag: &mut [u8
     ensures not_begun { NotBegun sealer.old → result ≡ not_begun }
     ensures done { result ≡ 0 → sealer.new ≡ zeros }
     ensures kept { result ≢ 0 → (sealer.new ≡ sealer.old) × (tag.new ≡ tag.old) }
+    ensures status { (suite : Suite) → is_one_pass (construction_of suite) ≡ true
+        → sealer.old.mark ≡ sealer_mark suite → result ≡ 0 }
 {
     let Some(suite) = one_pass_marked(SEALER, sealer.mark) else {
         return NOT_BEGUN;

@@ -1,14 +1,14 @@
 // A sealing in pieces at C under AES-GCM-SIV: a first reading of the text gives its tag, and a second one encrypts
 // it.
 
-ghost use Rattle.std.specs.Prelude.{◌≡◌, ◌≢◌, ◌↔◌, ℕ, List, [], IsTrue, MatchResult};
+ghost use Rattle.std.specs.Prelude.{◌≡◌, ◌≢◌, ◌↔◌, ◌+◌, ℕ, List, [], length, IsTrue, MatchResult};
 ghost use Rattle.octets.specs.Numbers.{HasOutcome};
 ghost use Rattle.aead.specs.declared.suite.Suite.{Suite};
-ghost use Rattle.aead.specs.Suites.{ByGcmSiv, construction_of};
+ghost use Rattle.aead.specs.Suites.{ByGcmSiv, construction_of, text_limit};
 ghost use Rattle.aead.specs.Sealing.{Setting};
 ghost use Rattle.aead.specs.Pieces.{Repeats};
 ghost use Rattle.aead.specs.Exports.{suite_number, unknown_suite, setting_of};
-ghost use Rattle.aead.specs.Stored.{zero_passes, not_begun, HoldsSivText, BeginRefused};
+ghost use Rattle.aead.specs.Stored.{zero_passes, not_begun, HoldsSivText, BeginRefused, FitsOr, IsDoneOr};
 ghost use Rattle.aead.specs.StoredSiv.{absorbing, writing, NotIn, HoldsAbsorbing, HoldsWriting};
 ghost use Rattle.aead.specs.StoredSiv.{Absorbs, Tags, Encrypts, Ends};
 
@@ -113,6 +113,9 @@ pub extern "C" fn aeadkit_siv_absorb(siv: &mut StoredPasses, piece: &[u8]) -> u3
     ensures holds { (s : Setting) (text : List ℕ) → Absorbs siv.old siv.new piece.now result s text }
     ensures not_begun { NotIn absorbing siv.old → result ≡ not_begun }
     ensures kept { result ≢ 0 → siv.new ≡ siv.old }
+    ensures status { (suite : Suite) → construction_of suite ≡ ByGcmSiv
+        → siv.old.mark ≡ absorbing + suite_number suite
+        → FitsOr Fault.TextTooLong result siv.old.state.length (length piece.now) (text_limit suite) }
 {
     let Some(suite) = siv_marked(ABSORBING, siv.mark) else {
         return NOT_BEGUN;
@@ -131,6 +134,8 @@ pub extern "C" fn aeadkit_siv_tag(siv: &mut StoredPasses, tag: &mut [u8; 16]) ->
     ensures holds { (s : Setting) (text : List ℕ) → Tags siv.old siv.new tag.new result s text }
     ensures not_begun { NotIn absorbing siv.old → result ≡ not_begun }
     ensures kept { result ≢ 0 → (siv.new ≡ siv.old) × (tag.new ≡ tag.old) }
+    ensures status { (suite : Suite) → construction_of suite ≡ ByGcmSiv
+        → siv.old.mark ≡ absorbing + suite_number suite → result ≡ 0 }
 {
     let Some(suite) = siv_marked(ABSORBING, siv.mark) else {
         return NOT_BEGUN;
@@ -151,6 +156,8 @@ pub extern "C" fn aeadkit_siv_update(siv: &mut StoredPasses, piece: &mut [u8]) -
         → Encrypts siv.old siv.new piece.old piece.new result s first text }
     ensures not_begun { NotIn writing siv.old → result ≡ not_begun }
     ensures kept { result ≢ 0 → (siv.new ≡ siv.old) × (piece.new ≡ piece.old) }
+    ensures status { (suite : Suite) → construction_of suite ≡ ByGcmSiv
+        → siv.old.mark ≡ writing + suite_number suite → IsDoneOr Fault.SourceChanged result }
 {
     let Some(suite) = siv_marked(WRITING, siv.mark) else {
         return NOT_BEGUN;
@@ -169,7 +176,10 @@ pub extern "C" fn aeadkit_siv_update(siv: &mut StoredPasses, piece: &mut [u8]) -
 pub extern "C" fn aeadkit_siv_finish(siv: &mut StoredPasses) -> u32
     ensures holds { (s : Setting) (first text : List ℕ) → Ends siv.old result s first text }
     ensures not_begun { NotIn writing siv.old → (result ≡ not_begun) × (siv.new ≡ siv.old) }
+    ensures kept { result ≡ not_begun → siv.new ≡ siv.old }
     ensures ended { result ≢ not_begun → siv.new ≡ zero_passes }
+    ensures status { (suite : Suite) → construction_of suite ≡ ByGcmSiv
+        → siv.old.mark ≡ writing + suite_number suite → IsDoneOr Fault.SourceChanged result }
 {
     let Some(suite) = siv_marked(WRITING, siv.mark) else {
         return NOT_BEGUN;

@@ -34,9 +34,12 @@ pub struct StoredKey {
 }
 
 impl StoredKey {
+    ghost use Rattle.aead.specs.StoredKey.{IsCleared};
+
     // All zeros: it keeps no key.
     pub(super) fn zeros() -> StoredKey
-        ensures { result.mark ≡ 0 }
+        ensures mark { result.mark ≡ 0 }
+        ensures cleared { IsCleared result }
     {
         StoredKey {
             mark: 0,

@@ -61,3 +61,20 @@ returns-then-take_sealed-clause-not_begun c = λ none.
 pub returns-else-take_sealed-clause-not_begun : goal.returns-else-take_sealed-clause-not_begun
 returns-else-take_sealed-clause-not_begun c = λ none.
     absurd (none c.in-Some.suite ((c.in-Some.ensures c.in-Some.suite).0 refl))
+
+pub returns-then-take_sealed-clause-status : goal.returns-then-take_sealed-clause-status
+returns-then-take_sealed-clause-status c = λ suite is.
+    let same : c.in-Some.suite ≡ suite = same_Some _ _ ((c.in-Some.ensures suite).1 is) in (
+      Ok tt,
+      (c.outcome_number.ensures, omega (arith, ap text_limit same, c.take_sealed.ensures.fits c.if-take_sealed.true)),
+    )
+
+pub returns-else-take_sealed-clause-status : goal.returns-else-take_sealed-clause-status
+returns-else-take_sealed-clause-status c = λ suite is.
+    let same : c.in-Some.suite ≡ suite = same_Some _ _ ((c.in-Some.ensures suite).1 is) in (
+      Err TextTooLong,
+      (
+        c.outcome_number-else-take_sealed.ensures,
+        (refl, omega (arith, ap text_limit same, c.take_sealed.ensures.past c.if-take_sealed.false)),
+      ),
+    )

@@ -44,6 +44,11 @@ returns-clause-holds c = λ s tag bytes h.
             first_is = f.length_is;
             first_fits = f.fits.text_fits;
             within = omega arith;
+            passed = (
+              bytes,
+              refl,
+              c.is_sealing.ensures.sealing checking s tag bytes (sym same) h c.if-not-is_sealing.false,
+            );
           },
           c.is_sealing.ensures.sealing checking s tag bytes (sym same) h c.if-not-is_sealing.false,
         ),
@@ -54,3 +59,11 @@ pub returns-in_default-clause-holds : goal.returns-in_default-clause-holds
 returns-in_default-clause-holds c = λ s tag bytes h.
     let f = sealed (construction_of s.suite) _ s tag bytes h.state in
     absurd (none-some s.suite ((c.in_default.ensures s.suite).1 h.mark_is))
+
+pub returns-then-not-is_sealing-clause-status : goal.returns-then-not-is_sealing-clause-status
+returns-then-not-is_sealing-clause-status c = λ suite is. (Err TagMismatch, (c.outcome_number.ensures, refl))
+
+pub returns-clause-status : goal.returns-clause-status
+returns-clause-status c = λ suite is.
+    let same : c.in-Some.suite ≡ suite = same_Some _ _ ((c.in-Some.ensures suite).1 is) in
+    (Ok tt, (c.outcome_number-2.ensures, c.mark_of-opener.ensures ∙ ap (λ x. opening + suite_number x) same))

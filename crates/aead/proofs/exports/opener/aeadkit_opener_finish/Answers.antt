@@ -45,3 +45,9 @@ returns-in_default-clause-holds c = λ s tag first bytes o.
     let h = o.pass in
     let f = sealed (construction_of s.suite) _ s tag bytes h.state in
     absurd (none-some s.suite ((c.in_default.ensures s.suite).1 h.mark_is))
+
+pub returns-then-sealing-clause-status : goal.returns-then-sealing-clause-status
+returns-then-sealing-clause-status c = λ suite is. (Ok tt, (c.outcome_number.ensures, tt))
+
+pub returns-else-sealing-clause-status : goal.returns-else-sealing-clause-status
+returns-else-sealing-clause-status c = λ suite is. (Err SourceChanged, (c.outcome_number-else-sealing.ensures, refl))

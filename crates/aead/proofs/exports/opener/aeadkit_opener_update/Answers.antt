@@ -51,8 +51,10 @@ returns-then-open_piece-clause-holds c = λ s tag first bytes o.
               o.first_is,
               c.open_piece.ensures.fits c.if-open_piece.true,
             );
+            passed = o.passed;
           },
           m.1,
+          o.passed,
         ),
       ),
     )
@@ -94,3 +96,9 @@ returns-then-open_piece-clause-not_begun c = λ none.
 pub returns-else-open_piece-clause-not_begun : goal.returns-else-open_piece-clause-not_begun
 returns-else-open_piece-clause-not_begun c = λ none.
     absurd (none c.in-Some.suite ((c.in-Some.ensures c.in-Some.suite).0 refl))
+
+pub returns-then-open_piece-clause-status : goal.returns-then-open_piece-clause-status
+returns-then-open_piece-clause-status c = λ suite is. (Ok tt, (c.outcome_number.ensures, tt))
+
+pub returns-else-open_piece-clause-status : goal.returns-else-open_piece-clause-status
+returns-else-open_piece-clause-status c = λ suite is. (Err SourceChanged, (c.outcome_number-else-open_piece.ensures, refl))

@@ -1,4 +1,4 @@
-use Rattle.std.proofs.Common.{◌≡◌, ◌∙◌, [], sym, ap, arith, length, length-append, Ok, Err}
+use Rattle.std.proofs.Common.{◌≡◌, ◌∙◌, [], refl, sym, ap, arith, length, length-append, Ok, Err}
 use Rattle.std.proofs.lemmas.Option.{none-some, same_Some}
 use Rattle.octets.specs.declared.fault.Fault.TheVariants.{TextTooLong}
 use Rattle.octets.proofs.Masks.{length-masked}
@@ -52,3 +52,23 @@ returns-in_default-clause-holds c = λ s text h.
 
 pub returns-else-mask_piece-clause-kept : goal.returns-else-mask_piece-clause-kept
 returns-else-mask_piece-clause-kept c = λ _. c.mask_piece.ensures.kept c.if-mask_piece.false
+
+pub returns-then-mask_piece-clause-status : goal.returns-then-mask_piece-clause-status
+returns-then-mask_piece-clause-status c = λ suite one is.
+    let same : c.in-Some.suite ≡ suite = same_Some _ _ ((c.in-Some.ensures suite).1 (one, is)) in (
+      Ok tt,
+      (
+        c.outcome_number.ensures,
+        omega (arith, c.text_limit.ensures, ap text_limit same, c.mask_piece.ensures.fits c.if-mask_piece.true),
+      ),
+    )
+
+pub returns-else-mask_piece-clause-status : goal.returns-else-mask_piece-clause-status
+returns-else-mask_piece-clause-status c = λ suite one is.
+    let same : c.in-Some.suite ≡ suite = same_Some _ _ ((c.in-Some.ensures suite).1 (one, is)) in (
+      Err TextTooLong,
+      (
+        c.outcome_number-else-mask_piece.ensures,
+        (refl, omega (arith, c.text_limit.ensures, ap text_limit same, c.mask_piece.ensures.past c.if-mask_piece.false)),
+      ),
+    )

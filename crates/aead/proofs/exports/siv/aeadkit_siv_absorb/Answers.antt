@@ -1,4 +1,4 @@
-use Rattle.std.proofs.Common.{◌≡◌, sym, ap, arith, length-append, Ok, Err}
+use Rattle.std.proofs.Common.{◌≡◌, refl, sym, ap, arith, length-append, Ok, Err}
 use Rattle.std.proofs.lemmas.Option.{same_Some}
 use Rattle.octets.specs.declared.fault.Fault.TheVariants.{TextTooLong}
 use Rattle.aead.specs.Suites.{text_limit}
@@ -36,5 +36,22 @@ returns-else-take_siv-clause-holds c = λ s text h.
             c.take_siv.ensures.past c.if-take_siv.false,
           ),
         ),
+      ),
+    )
+
+pub returns-then-take_siv-clause-status : goal.returns-then-take_siv-clause-status
+returns-then-take_siv-clause-status c = λ suite one is.
+    let same : c.in-Some.suite ≡ suite = same_Some _ _ ((c.in-Some.ensures suite).1 (one, is)) in (
+      Ok tt,
+      (c.outcome_number.ensures, omega (arith, ap text_limit same, c.take_siv.ensures.fits c.if-take_siv.true)),
+    )
+
+pub returns-else-take_siv-clause-status : goal.returns-else-take_siv-clause-status
+returns-else-take_siv-clause-status c = λ suite one is.
+    let same : c.in-Some.suite ≡ suite = same_Some _ _ ((c.in-Some.ensures suite).1 (one, is)) in (
+      Err TextTooLong,
+      (
+        c.outcome_number-else-take_siv.ensures,
+        (refl, omega (arith, ap text_limit same, c.take_siv.ensures.past c.if-take_siv.false)),
       ),
     )

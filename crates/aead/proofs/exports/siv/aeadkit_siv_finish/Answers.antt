@@ -36,3 +36,9 @@ pub returns-else-repeats-clause-not_begun : goal.returns-else-repeats-clause-not
 returns-else-repeats-clause-not_begun c = λ none.
     let found = (c.in-Some.ensures c.in-Some.suite).0 refl in
     absurd (none c.in-Some.suite found.0 found.1)
+
+pub returns-then-repeats-clause-status : goal.returns-then-repeats-clause-status
+returns-then-repeats-clause-status c = λ suite by is. (Ok tt, (c.outcome_number.ensures, tt))
+
+pub returns-else-repeats-clause-status : goal.returns-else-repeats-clause-status
+returns-else-repeats-clause-status c = λ suite by is. (Err SourceChanged, (c.outcome_number-else-repeats.ensures, refl))

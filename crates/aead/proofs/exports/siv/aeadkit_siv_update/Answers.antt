@@ -57,3 +57,9 @@ returns-else-mask_siv-clause-holds c = λ s first text w.
         ),
       ),
     )
+
+pub returns-then-mask_siv-clause-status : goal.returns-then-mask_siv-clause-status
+returns-then-mask_siv-clause-status c = λ suite by is. (Ok tt, (c.outcome_number.ensures, tt))
+
+pub returns-else-mask_siv-clause-status : goal.returns-else-mask_siv-clause-status
+returns-else-mask_siv-clause-status c = λ suite by is. (Err SourceChanged, (c.outcome_number-else-mask_siv.ensures, refl))
