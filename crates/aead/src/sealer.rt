@@ -2,7 +2,7 @@
 
 ghost use Rattle.std.specs.Prelude.{◌≡◌, ◌≤◌, ◌++◌, ℕ, List, [], length, true, MatchResult, OnErr};
 ghost use Rattle.octets.specs.Masked.{masked};
-ghost use Rattle.aead.specs.Suites.{construction_of, is_one_pass, aad_limit};
+ghost use Rattle.aead.specs.Suites.{construction_of, is_one_pass, aad_limit, text_limit};
 ghost use Rattle.aead.specs.Sealing.{Setting, mask_of, tag_of};
 ghost use Rattle.aead.specs.Ciphers.{setting};
 ghost use Rattle.aead.specs.AnyCiphers.{one_pass_keyed};
@@ -60,9 +60,11 @@ impl Sealer {
     pub fn update(&mut self, piece: &mut [u8]) -> Result<(), Fault>
         ensures answer { (s : Setting) (text : List ℕ) → HoldsSealer self.old s text → MatchResult result
             (λ _. HoldsSealer self.new s (text ++ piece.old)
-            × ((tag : List ℕ) → piece.new ≡ masked (mask_of s tag) (length text) piece.old))
+            × ((tag : List ℕ) → piece.new ≡ masked (mask_of s tag) (length text) piece.old)
+            × (length (text ++ piece.old) ≤ text_limit s.suite))
             (λ e. SealRefused s (text ++ piece.old) e) }
         ensures kept { OnErr result ((self.new ≡ self.old) × (piece.new ≡ piece.old)) }
+        ensures fault { MatchResult result (λ _. Unit {0}) (λ e. e ≡ Fault.TextTooLong) }
     {
         if piece.len() as u64 > self.masking.room() {
             return Err(Fault::TextTooLong);

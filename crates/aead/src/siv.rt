@@ -2,7 +2,7 @@
 
 ghost use Rattle.std.specs.Prelude.{◌≡◌, ◌++◌, ◌+◌, ◌<◌, ◌≤◌, ◌^◌, ℕ, List, [], length, MatchResult, OnErr};
 ghost use Rattle.octets.specs.Masked.{masked};
-ghost use Rattle.aead.specs.Suites.{aad_limit};
+ghost use Rattle.aead.specs.Suites.{aad_limit, text_limit};
 ghost use Rattle.aead.specs.Sealing.{Setting, mask_of, tag_of};
 ghost use Rattle.aead.specs.Ciphers.{setting};
 ghost use Rattle.aead.specs.Refusals.{SealRefused};
@@ -57,8 +57,10 @@ impl SivAbsorb {
     /// state is then as it was.
     pub fn update(&mut self, piece: &[u8]) -> Result<(), Fault>
         ensures answer { (s : Setting) (text : List ℕ) → HoldsAbsorb self.old s text → MatchResult result
-            (λ _. HoldsAbsorb self.new s (text ++ piece.now)) (λ e. SealRefused s (text ++ piece.now) e) }
+            (λ _. HoldsAbsorb self.new s (text ++ piece.now)
+            × (length (text ++ piece.now) ≤ text_limit s.suite)) (λ e. SealRefused s (text ++ piece.now) e) }
         ensures kept { OnErr result (self.new ≡ self.old) }
+        ensures fault { MatchResult result (λ _. Unit {0}) (λ e. e ≡ Fault.TextTooLong) }
     {
         if piece.len() as u64 > self.limit - self.authenticator.length {
             return Err(Fault::TextTooLong);
@@ -96,9 +98,11 @@ impl SivWriter {
     pub fn update(&mut self, piece: &mut [u8]) -> Result<(), Fault>
         ensures answer { (s : Setting) (first text : List ℕ) → HoldsWriter self.old s first text →
             MatchResult result (λ _. HoldsWriter self.new s first (text ++ piece.old)
-            × (piece.new ≡ masked (mask_of s (tag_of s first)) (length text) piece.old))
+            × (piece.new ≡ masked (mask_of s (tag_of s first)) (length text) piece.old)
+            × (length text + length piece.old ≤ length first))
             (λ e. (e ≡ Fault.SourceChanged) × (length first < length text + length piece.old)) }
         ensures kept { OnErr result ((self.new ≡ self.old) × (piece.new ≡ piece.old)) }
+        ensures fault { MatchResult result (λ _. Unit {0}) (λ e. e ≡ Fault.SourceChanged) }
     {
         if piece.len() as u64 > self.masking.room() {
             return Err(Fault::SourceChanged);

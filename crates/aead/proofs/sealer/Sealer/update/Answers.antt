@@ -11,7 +11,16 @@ returns-then-piece-room-clause-answer c = λ s text h.
     )
 
 pub returns-clause-answer : goal.returns-clause-answer
-returns-clause-answer c = λ s text h. (
-  record { one_pass = h.one_pass; masking = λ tag. (c.update.ensures.masked _ text (h.masking tag)).0 },
-  λ tag. (c.update.ensures.masked _ text (h.masking tag)).1,
-)
+returns-clause-answer c = λ s text h.
+    let m = h.masking [] in (
+      record { one_pass = h.one_pass; masking = λ tag. (c.update.ensures.masked _ text (h.masking tag)).0 },
+      λ tag. (c.update.ensures.masked _ text (h.masking tag)).1,
+      omega (
+        arith,
+        length-append text c.args.piece.now,
+        fed_length _ _ text m,
+        limit_is _ _ text m,
+        c.room.ensures,
+        c.if-piece-room.false,
+      ),
+    )
