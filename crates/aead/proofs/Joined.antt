@@ -1,9 +1,9 @@
 -- Pieces that are masked one after the other are the ciphertext of their text.
-use Rattle.std.proofs.Common.{◌≡◌, ◌+◌, ◌++◌, length, sym, ap, ap₂, ◌∙◌, arith}
+use Rattle.std.proofs.Common.{◌≡◌, ◌+◌, ◌++◌, length, refl, sym, ap, ap₂, ◌∙◌, arith}
 use Rattle.octets.specs.Masked.{masked}
 use Rattle.octets.proofs.Masks.{masked-append}
 use Rattle.aead.specs.Sealing.{mask_of, tag_of, sealing}
-use Rattle.aead.specs.Pieces.{PiecesMakeASealing, MaskedPiecesJoin}
+use Rattle.aead.specs.Pieces.{PiecesMakeASealing, MaskedPiecesJoin, MaskedPiecesMakeASealing}
 
 -- masked pieces are a masked text
 pub under_one_tag : MaskedPiecesJoin
@@ -12,10 +12,17 @@ under_one_tag = λ s tag text piece.
     let from : length text ≡ 0 + length text = omega arith in
     ap (λ n. masked m 0 text ++ masked m n piece) from ∙ sym (masked-append m 0 text piece)
 
+-- a masked text and the next piece, and a masked text and its tag
+pub joined_under : MaskedPiecesMakeASealing
+unfolding sealing
+joined_under = λ s tag text c whole. (
+  λ piece d next. ap₂ (λ x y. x ++ y) whole next ∙ under_one_tag s tag text piece,
+  λ is. ap₂ (λ x y. x ++ y) (whole ∙ ap (λ t. masked (mask_of s t) 0 text) is) is,
+)
+
 -- a ciphertext and the next piece's, and a ciphertext and its tag
 pub joined : PiecesMakeASealing
-unfolding sealing
 joined = λ s text c whole. (
-  λ piece d next. λ tag. ap₂ (λ x y. x ++ y) (whole tag) (next tag) ∙ under_one_tag s tag text piece,
-  ap (λ x. x ++ tag_of s text) (whole (tag_of s text)),
+  λ piece d next. λ tag. (joined_under s tag text c (whole tag)).0 piece d (next tag),
+  (joined_under s (tag_of s text) text c (whole (tag_of s text))).1 refl,
 )

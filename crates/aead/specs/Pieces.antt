@@ -50,6 +50,18 @@ PiecesMakeASealing = (s : Setting) (text c : List ℕ) → IsCiphertext s text c
     → IsCiphertext s (text ++ piece) (c ++ d))
     × (c ++ tag_of s text ≡ sealing s text)
 
+-- c is a text masked under a tag
+abbrev pub IsMasked : Setting → (tag text c : List ℕ) → Type 0
+IsMasked s tag text c = c ≡ masked (mask_of s tag) 0 text
+
+-- a text masked under a tag and the piece after it, masked under the same tag, are, joined, both masked; followed by
+-- the tag, if it is that of the text, they are the sealing
+abbrev pub MaskedPiecesMakeASealing : Type 0
+MaskedPiecesMakeASealing = (s : Setting) (tag text c : List ℕ) → IsMasked s tag text c
+    → ((piece d : List ℕ) → d ≡ masked (mask_of s tag) (length text) piece
+    → IsMasked s tag (text ++ piece) (c ++ d))
+    × (tag ≡ tag_of s text → c ++ tag ≡ sealing s text)
+
 -- pieces that are masked one after the other under one tag are, joined, their text masked
 abbrev pub MaskedPiecesJoin : Type 0
 MaskedPiecesJoin = (s : Setting) (tag text piece : List ℕ)

@@ -2,7 +2,7 @@
 //! AES-GCM-SIV (RFC 8452), with nonces of 12 bytes and tags of 16 bytes.
 #![tactic(auto)]
 
-ghost use Rattle.aead.specs.Pieces.{PiecesMakeASealing, MaskedPiecesJoin};
+ghost use Rattle.aead.specs.Pieces.{PiecesMakeASealing, MaskedPiecesMakeASealing, MaskedPiecesJoin};
 ghost use Rattle.aead.specs.Sealing.{HasOneText};
 ghost use Rattle.aead.specs.Verdict.{ShownRepeatsTheText};
 
@@ -60,6 +60,12 @@ pub fn shown_repeats_the_text()
 /// their text, which followed by the tag of the text is its sealing.
 pub fn pieces_make_a_sealing()
     ensures { PiecesMakeASealing }
+{}
+
+/// Pieces that are masked one after the other under one tag, as [`Sealer::update`] and [`SivWriter::update`] mask
+/// them, join to their text masked under it; if the tag is that of the text, they and the tag are its sealing.
+pub fn masked_pieces_make_a_sealing()
+    ensures { MaskedPiecesMakeASealing }
 {}
 
 /// Pieces that are masked one after the other under one tag, as the second readings of AES-GCM-SIV and of an
