@@ -1,4 +1,5 @@
-// The trait of all ciphers.
+//! The trait of all ciphers: a text is sealed and opened in place, under a key, with a nonce and associated data (the
+//! interface of RFC 5116, 2).
 
 ghost use Rattle.std.specs.Prelude.{◌≡◌, ◌≤◌, ◌++◌, length};
 ghost use Rattle.aead.specs.Suites.{text_limit, aad_limit};
@@ -10,7 +11,7 @@ use crate::suite::Suite;
 use octets::{Fault, Nonce, Tag};
 
 /// A cipher under a key, which seals and opens a text in place. A sealing is the ciphertext, as long as the
-/// text, and a tag of 16 bytes.
+/// text, and a tag of 16 bytes. A nonce must never be used for two sealings under one key.
 pub trait Aead {
     // The suite and the key.
     ghost keyed: { Self → Keyed };
@@ -20,15 +21,19 @@ pub trait Aead {
         ensures { result ≡ (keyed self.now).suite };
 
     /// Seals `text` under a nonce with associated data: leaves the ciphertext in its place and returns the
-    /// tag. Faults: `AadTooLong`, then `TextTooLong`, if a length in bytes is past the suite's limit. A
-    /// refusal leaves every byte as it was. Does not allocate.
+    /// tag. Faults: `AadTooLong`, then `TextTooLong`, if a length in bytes is past the suite's limit. On
+    /// error every byte is as it was. Does not allocate.
+    ///
+    /// The nonce must never be used twice under one key. Under ChaCha20-Poly1305 and AES-GCM a repeat gives away the XOR of
+    /// the two texts, and enough to forge messages; under AES-GCM-SIV it gives away only whether the texts and the
+    /// associated data were the same.
     fn seal_in_place(&self, nonce: &Nonce, aad: &[u8], text: &mut [u8]) -> Result<Tag, Fault>
         ensures { SealsInPlace (setting (keyed self.now) nonce.now aad.now) text.old text.new result };
 
     /// Opens a ciphertext and its tag under a nonce with associated data: leaves the text in the
     /// ciphertext's place. Faults: `AadTooLong`, then `TextTooLong`, if a length in bytes is past the
-    /// suite's limit, then `TagMismatch` if ciphertext and tag are not a sealing. A refusal leaves every
-    /// byte as it was. A sealing of a text is always opened, to that text. Does not allocate.
+    /// suite's limit, then `TagMismatch` if authentication failed. On error every byte is as it
+    /// was. A sealing of a text is always opened, to that text. Does not allocate.
     fn open_in_place(
         &self,
         nonce: &Nonce,

@@ -1,4 +1,4 @@
-// A cipher of any suite.
+//! A cipher whose suite is chosen when the program runs: ChaCha20-Poly1305, AES-GCM or AES-GCM-SIV.
 
 ghost use Rattle.std.specs.Prelude.{◌≡◌, ◌≢◌, ◌≤◌, ◌++◌, length, MatchResult};
 ghost use Rattle.aead.specs.Suites.{key_length, text_limit, aad_limit};
@@ -15,7 +15,8 @@ use crate::suite::Suite;
 use aes::AesKey;
 use octets::{Fault, Key32, Nonce, Tag};
 
-/// A cipher whose tag is over the ciphertext: one reading of a text seals it.
+/// A cipher whose tag is over the ciphertext: one reading of a text seals it. Under AES-GCM it is not constant time:
+/// [`Gcm`] says which tables secret bytes index.
 #[derive(Drop)]
 pub enum AnyOnePass {
     /// ChaCha20-Poly1305.
@@ -24,7 +25,8 @@ pub enum AnyOnePass {
     Gcm(Gcm),
 }
 
-/// A cipher of any suite.
+/// A cipher of any suite. Under the suites of AES it is not constant time: [`Gcm`] and [`GcmSiv`] say which tables
+/// secret bytes index.
 #[derive(Drop)]
 pub enum AnyAead {
     /// One whose tag is over the ciphertext.

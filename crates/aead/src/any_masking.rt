@@ -1,4 +1,5 @@
-// A message masked piece by piece, whose tag is over the ciphertext.
+//! The state of a message in pieces under ChaCha20-Poly1305 or AES-GCM, which is chosen when the program runs. Under
+//! both the tag is over the ciphertext.
 
 ghost use Rattle.std.specs.Prelude.{◌≡◌, ◌+◌, ◌≤◌, ◌++◌, ℕ, List, [], length};
 ghost use Rattle.octets.specs.Masked.{masked};

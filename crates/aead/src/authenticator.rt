@@ -1,4 +1,5 @@
-// The authenticator of a message, which takes it in piece by piece.
+//! The authenticator of a message. It takes in the associated data, then the ciphertext or the text piece by piece, each
+//! padded to whole blocks, and both lengths at the end (RFC 8439, 2.8; SP 800-38D, 7.1; RFC 8452, 4).
 
 ghost use Rattle.std.specs.Prelude.{◌≡◌, ◌+◌, ◌<◌, ◌≤◌, ◌^◌, ◌++◌, ℕ, List, [], length};
 ghost use Rattle.aead.specs.Suites.{text_limit, aad_limit};

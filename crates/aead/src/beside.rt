@@ -1,4 +1,5 @@
-// A mask and a hash beside each other, in two orders, which fix what of a piece is authenticated.
+//! A mask and a hash that run beside each other over a piece, in two orders: with the mask first, the masked bytes are
+//! authenticated; with the hash first, the bytes are authenticated as they come.
 
 ghost use Rattle.std.specs.Prelude.{◌≡◌, ◌+◌, ◌<◌, ◌^◌, ℕ, List, [], length, refl};
 ghost use Rattle.aead.specs.Code.Masks.{Masks, Takes, MasksAndHashes, as_it_comes, as_it_leaves};

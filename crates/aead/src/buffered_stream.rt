@@ -1,4 +1,5 @@
-// ChaCha20's mask whose first bytes are there.
+//! The key stream of ChaCha20 (RFC 8439, 2.4) whose first blocks were made at once, with the block that holds the key of
+//! Poly1305.
 
 ghost use Rattle.std.specs.Prelude.{◌≡◌, ◌+◌, ◌*◌, ◌%◌, ◌<◌, ◌≤◌, ℕ, List, length, min, slice_index};
 ghost use Rattle.chacha.specs.Stream.{key_stream_byte};

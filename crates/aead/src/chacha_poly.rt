@@ -1,4 +1,5 @@
-// ChaCha20-Poly1305 (RFC 8439, 2.8).
+//! The cipher ChaCha20-Poly1305 (RFC 8439, 2.8). The block with counter 0 begins with the key of Poly1305, and the text is
+//! masked from counter 1 on.
 
 ghost use Rattle.std.specs.Prelude.{◌≡◌, ℕ, ◌%◌, ◌<◌, ◌≤◌, ◌++◌, length, take, slice_index, refl, MatchResult};
 ghost use Rattle.chacha.specs.Stream.{key_stream_byte};

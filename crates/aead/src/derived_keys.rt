@@ -1,4 +1,4 @@
-// The keys of a message of AES-GCM-SIV (RFC 8452, 4).
+//! The keys of a message of AES-GCM-SIV, which are derived from the key and the nonce (RFC 8452, 4).
 
 ghost use Rattle.std.specs.Prelude.{◌≡◌, ℕ, ◌+◌, ◌<◌, ◌++◌, length, take};
 ghost use Rattle.std.specs.Int.{w32, to_le_bytes};

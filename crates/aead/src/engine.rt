@@ -1,4 +1,5 @@
-// Sealing and opening of streams, in buffers of a fixed size.
+//! Sealing and opening of streams in buffers of a fixed size: three engines, and the passes over a reading that they
+//! share.
 
 mod measure;
 mod open;

@@ -1,4 +1,5 @@
-// The calls for C: a slice crosses as a pointer and a length, a suite and an outcome as their numbers.
+//! The calls for C: a slice crosses as a pointer and a length, a suite and an outcome as their numbers. The calls for a
+//! whole message stand here; those for a kept key and for pieces stand in the modules below.
 
 ghost use Rattle.std.specs.Prelude.{◌≡◌, ◌≢◌, ◌↔◌, ℕ, List, length, refl, MatchOption, MatchResult};
 ghost use Rattle.octets.specs.declared.fault.Fault.{Fault};
@@ -179,7 +180,12 @@ fn run_by_bytes<D: Direction>(
     }
 }
 
-/// Seals in place: the bytes are a text and room for a tag of 16 bytes, and become the sealing.
+/// Seals in place: the bytes are a text and, behind it, room for a tag of 16 bytes, and become the sealing. The room is
+/// overwritten: if it was forgotten, the last 16 bytes of the text are lost.
+///
+/// The nonce must never be used twice under one key. Under ChaCha20-Poly1305 and AES-GCM a repeat gives away the XOR of
+/// the two texts, and enough to forge messages; under AES-GCM-SIV it gives away only whether the texts and the
+/// associated data were the same.
 #[unsafe(no_mangle)]
 pub extern "C" fn aeadkit_seal(
     suite: u32,

@@ -1,4 +1,4 @@
-// AES-GCM (SP 800-38D).
+//! The cipher AES-GCM (SP 800-38D, 7), with nonces of 12 bytes.
 
 ghost use Rattle.std.specs.Prelude.{◌≡◌, ◌≢◌, ◌≤◌, ◌++◌, ◌∷◌, [], length, MatchResult};
 ghost use Rattle.std.proofs.Common.{ap};
@@ -22,6 +22,11 @@ use std::marker::Model;
 
 /// AES-GCM under a key of 16, 24 or 32 bytes (SP 800-38D). Opening in place authenticates before it
 /// changes a byte. Contracts see its suite and key.
+///
+/// Not constant time: secret bytes index tables. The S-box is looked up by bytes of the key schedule, and for single
+/// blocks AES's round tables, four of 256 words, by bytes of the state. GHASH looks up two tables of 16 multiples of its
+/// key by the halves of each byte of a block XORed with the sum so far; for a long text it looks up 256 multiples of each
+/// of four powers of the key by the bytes of four blocks, the first of them XORed with the sum.
 #[derive(Drop)]
 pub struct Gcm {
     key: AesKey,

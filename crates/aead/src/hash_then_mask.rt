@@ -1,4 +1,4 @@
-// The construction whose tag is over the text and begins the mask: AES-GCM-SIV.
+//! The construction whose tag is over the text and begins the mask: AES-GCM-SIV (RFC 8452, 4 and 5).
 
 ghost use Rattle.std.specs.Prelude.{◌≡◌, ◌≤◌, ◌++◌, ℕ, List, length};
 ghost use Rattle.aead.specs.Suites.{ByGcmSiv, construction_of, text_limit, aad_limit};

@@ -1,4 +1,5 @@
-// The hashes of the constructions, and the tags that they end in.
+//! The hashes of the constructions, and the tags that they end in: Poly1305 (RFC 8439, 2.8), GHASH (SP 800-38D, 7.1) and
+//! POLYVAL (RFC 8452, 4).
 
 ghost use Rattle.std.specs.Prelude.{◌≡◌, ◌<◌, ◌*◌, ◌^◌, ◌++◌, ℕ, List, length};
 ghost use Rattle.octets.specs.Bytes.{pad16};

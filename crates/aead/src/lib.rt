@@ -1,5 +1,15 @@
 //! Authenticated encryption with associated data: ChaCha20-Poly1305 (RFC 8439), AES-GCM (SP 800-38D) and
 //! AES-GCM-SIV (RFC 8452), with nonces of 12 bytes and tags of 16 bytes.
+//!
+//! A text is sealed under a key, and opened again. From `crates/aead/src/uses.rt`:
+//! ```
+//! let cipher = AnyAead::new(Suite::Aes256GcmSiv, key)?;
+//! let sealed = seal(other, &cipher, nonce, aad, text)?;
+//! open(alloc, &cipher, nonce, aad, &sealed)
+//! ```
+//! A nonce must never be used twice under one key: [`seal`] says what a repeat gives away. A message is sealed or opened
+//! in place by [`Aead`], sealed in pieces by [`Sealer`] or by [`SivAbsorb`] and [`SivWriter`], and sealed or opened over
+//! streams by [`seal_stream`], [`seal_siv_stream`] and [`open_stream`].
 #![tactic(auto)]
 
 ghost use Rattle.aead.specs.Pieces.{PiecesMakeASealing, MaskedPiecesMakeASealing, MaskedPiecesJoin};

@@ -1,4 +1,5 @@
-// The masks of the constructions, made piece by piece.
+//! The masks of the constructions, made piece by piece: the key stream of ChaCha20 (RFC 8439, 2.8), and the counter
+//! streams of AES-GCM (SP 800-38D, 7.1) and AES-GCM-SIV (RFC 8452, 4).
 
 ghost use Rattle.std.specs.Prelude.{◌≡◌, ◌+◌, ◌<◌, ◌≤◌, ℕ, List, length};
 ghost use Rattle.octets.specs.Masked.{masked};

@@ -1,4 +1,4 @@
-// A message masked piece by piece, and its tag.
+//! The state of a message that is masked and authenticated piece by piece, in either construction.
 
 ghost use Rattle.std.specs.Prelude.{◌≡◌, ◌+◌, ◌<◌, ◌≤◌, ◌^◌, ◌++◌, ℕ, List, [], length};
 ghost use Rattle.octets.specs.Masked.{masked};

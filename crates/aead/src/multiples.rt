@@ -1,4 +1,4 @@
-// How many multiples of its key a hash takes.
+//! How many multiples of its key a hash of AES-GCM or AES-GCM-SIV makes, by the length of the text or the piece.
 
 // From so many bytes on, those of four powers of the key are worth their making.
 const LONG: u64 = 704;

@@ -1,4 +1,4 @@
-// A cipher with a nonce, and the states that it begins.
+//! A cipher with a nonce, and the states that a message begins with, in either construction.
 
 ghost use Rattle.std.specs.Prelude.{◌≡◌, ◌<◌, ◌≤◌, ℕ, List, [], get_or, length};
 ghost use Rattle.aead.specs.Suites.{text_limit, aad_limit};

@@ -1,4 +1,5 @@
-// Sealing piece by piece under the suites whose tag is over the ciphertext.
+//! Sealing piece by piece in one reading, under the suites whose tag is over the ciphertext: ChaCha20-Poly1305 (RFC 8439)
+//! and AES-GCM (SP 800-38D).
 
 ghost use Rattle.std.specs.Prelude.{◌≡◌, ◌≤◌, ◌++◌, ℕ, List, [], length, true, MatchResult, OnErr};
 ghost use Rattle.octets.specs.Masked.{masked};
@@ -45,6 +46,9 @@ impl Sealer {
 
     /// Returns a state that holds the empty text, under a nonce with associated data. `AadTooLong` if the
     /// data is past the suite's limit.
+    ///
+    /// The nonce must never be used twice under one key: a repeat gives away the XOR of the two texts, and enough to
+    /// forge messages.
     pub fn new(cipher: &AnyOnePass, nonce: &Nonce, aad: &[u8]) -> Result<Sealer, Fault>
         ensures { let s = setting (one_pass_keyed cipher.now) nonce.now aad.now in
             MatchResult result (λ sealer. HoldsSealer sealer s []) (λ e. SealRefused s [] e) }

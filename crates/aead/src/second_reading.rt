@@ -1,4 +1,4 @@
-// How a second reading of a text compares with the first one.
+//! Whether the second reading of a text that is sealed under AES-GCM-SIV repeats the first one.
 
 ghost use Rattle.std.specs.Prelude.{◌≡◌, ◌↔◌, List, ℕ, IsTrue};
 ghost use Rattle.aead.specs.Suites.{construction_of, ByGcmSiv};

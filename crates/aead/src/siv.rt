@@ -1,4 +1,5 @@
-// Sealing piece by piece by two readings under AES-GCM-SIV, whose tag is over the text (RFC 8452).
+//! Sealing piece by piece in two readings under AES-GCM-SIV (RFC 8452), whose tag is over the text: the first reading gives
+//! the tag, and the second one is encrypted under it.
 
 ghost use Rattle.std.specs.Prelude.{◌≡◌, ◌++◌, ◌+◌, ◌<◌, ◌≤◌, ◌^◌, ℕ, List, [], length, MatchResult, OnErr};
 ghost use Rattle.octets.specs.Masked.{masked};
@@ -37,6 +38,9 @@ impl SivAbsorb {
 
     /// Returns a state that holds the empty text, under a nonce with associated data. `AadTooLong` if the
     /// data is past the suite's limit.
+    ///
+    /// The nonce must never be used twice under one key: a repeat gives away whether the texts and the associated data
+    /// were the same, and nothing else.
     pub fn new(cipher: &GcmSiv, nonce: &Nonce, aad: &[u8]) -> Result<SivAbsorb, Fault>
         ensures { let s = setting cipher.now nonce.now aad.now in
             MatchResult result (λ absorb. HoldsAbsorb absorb s []) (λ e. SealRefused s [] e) }

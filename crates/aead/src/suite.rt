@@ -1,4 +1,4 @@
-// The suites: their names and limits.
+//! The six suites: their names, lengths and limits (RFC 8439, 2.8; SP 800-38D, 5.2.1.1; RFC 8452, 6).
 
 ghost use Rattle.std.specs.Prelude.{◌≡◌, ◌↔◌, ◌<◌, ◌≤◌, length, MatchResult};
 ghost use Rattle.aead.specs.declared.suite.Suite.{Suite};

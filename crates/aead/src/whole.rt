@@ -1,4 +1,4 @@
-// Sealing and opening into a vector.
+//! Sealing and opening of a whole message into a vector.
 
 ghost use Rattle.std.specs.Prelude.{◌≡◌, ℕ, List, MatchResult};
 ghost use Rattle.aead.specs.Sealing.{Opened};
@@ -38,6 +38,10 @@ fn opened_text<A: Allocator>(
 /// Returns the sealing of a text under a nonce with associated data: the ciphertext, as long as the text,
 /// and the tag of 16 bytes. Faults: `AadTooLong`, then `TextTooLong`, if a length in bytes is past the
 /// suite's limit, then `OutOfMemory`. The limits are low enough that any sealing's length is a `usize`.
+///
+/// The nonce must never be used twice under one key. Under ChaCha20-Poly1305 and AES-GCM a repeat gives away the XOR of
+/// the two texts, and enough to forge messages; under AES-GCM-SIV it gives away only whether the texts and the
+/// associated data were the same.
 pub fn seal<A: Allocator>(
     alloc: A,
     cipher: &AnyAead,
@@ -60,8 +64,7 @@ pub fn seal<A: Allocator>(
 
 /// Returns the text of a sealing under a nonce with associated data. Faults, in this order: `AadTooLong` if
 /// the data is past the suite's limit, `TooShort` for fewer than 16 bytes, `TextTooLong` if there are more
-/// than 16 bytes past the suite's limit of a text, `OutOfMemory`, `TagMismatch` if the bytes are not a
-/// sealing.
+/// than 16 bytes past the suite's limit of a text, `OutOfMemory`, `TagMismatch` if authentication failed.
 pub fn open<A: Allocator>(
     alloc: A,
     cipher: &AnyAead,

@@ -1,4 +1,4 @@
-// A whole reading, opened as it goes.
+//! A whole reading of a sealing, which is decrypted and authenticated as it goes.
 
 ghost use Rattle.std.specs.Prelude.{◌+◌, ◌≤◌, [], length};
 ghost use Rattle.aead.specs.Refusals.{DueToBoth};

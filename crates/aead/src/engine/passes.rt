@@ -1,4 +1,4 @@
-// One pass over a reading: each piece is masked, authenticated and given.
+//! One pass over a reading: each piece is masked, authenticated and given before the next one is taken.
 
 ghost use Rattle.std.specs.Prelude.{◌≡◌, ℕ, ◌+◌, ◌≤◌, List, [], length, Option, IfOk};
 ghost use Rattle.aead.specs.Refusals.{DueToReading, DueToBoth};

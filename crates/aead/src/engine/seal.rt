@@ -44,8 +44,11 @@ fn seal_over<N: MaskThenHash, I: Intake, O: Outlet>(
 /// tag is given last. Does not allocate, and holds a buffer of a fixed size.
 ///
 /// Faults: `AadTooLong` before any reading, `TextTooLong` once more than the suite's limit of a text was
-/// taken, `Read` if the reading failed, `Write` if the outlet did. What was given at a refusal is a
+/// taken, `Read` if the reading failed, `Write` if the outlet did. What was given before an error is a
 /// beginning of ciphertext and tag.
+///
+/// The nonce must never be used twice under one key: a repeat gives away the XOR of the two texts, and enough to
+/// forge messages.
 pub fn seal_stream<I: Intake, O: Outlet>(
     cipher: &AnyOnePass,
     nonce: &Nonce,

@@ -152,6 +152,9 @@ fn seal_by<M: Keyed128, I: Intake, J: Intake, O: Outlet>(
 /// Faults: `AadTooLong` before any reading, `TextTooLong` once more than the suite's limit of a text was
 /// taken; nothing is given up to here. `SourceChanged` if the second reading has another length or tag,
 /// `Read` if a reading failed, `Write` if the outlet did.
+///
+/// The nonce must never be used twice under one key: a repeat gives away whether the texts and the associated data
+/// were the same, and nothing else.
 pub fn seal_siv_stream<I: Intake, J: Intake, O: Outlet>(
     cipher: &GcmSiv,
     nonce: &Nonce,

@@ -1,4 +1,4 @@
-// A whole reading authenticated, and not decrypted: its tag is over the ciphertext.
+//! A whole reading of a sealing whose tag is over the ciphertext: it is authenticated, and not decrypted.
 
 ghost use Rattle.std.specs.Prelude.{◌≡◌, ◌+◌, ◌≤◌, ◌<◌, ◌^◌, ℕ, List, [], None, length, IfOk};
 ghost use Rattle.aes.specs.Cipher.{IsKey};

@@ -1,5 +1,5 @@
-// The steps of a pass over a ciphertext under a tag, of every suite. Under AES-GCM-SIV the text is authenticated, so a
-// pass that gives none decrypts each part in memory of its own.
+//! The steps of a pass over a ciphertext under a tag, for each suite. Under AES-GCM-SIV the text is authenticated, so a
+//! pass that gives no text decrypts each part in memory of its own.
 
 ghost use Rattle.std.specs.Prelude.{◌≡◌, ◌+◌, ◌<◌, ◌≤◌, ◌^◌, ◌++◌, ℕ, List, [], length, true, false};
 ghost use Rattle.std.specs.Prelude.{MatchResult};

@@ -1,4 +1,4 @@
-// A key that is kept at C between messages: what is made of it alone is made once.
+//! The calls for C on a key that is kept between messages: what is made of the key alone is made once.
 
 ghost use Rattle.std.specs.Prelude.{◌≡◌, ◌≢◌, ℕ, List, [], length, true, false, MatchResult};
 ghost use Rattle.octets.specs.Numbers.{HasOutcome};
@@ -134,6 +134,10 @@ pub extern "C" fn aeadkit_key_init(kept: &mut StoredKey, suite: u32, key: &[u8])
 
 /// Seals in place under a kept key, as `aeadkit_seal` does under its bytes. `NOT_BEGUN` if the struct keeps no
 /// key.
+///
+/// The nonce must never be used twice under one key. Under ChaCha20-Poly1305 and AES-GCM a repeat gives away the XOR of
+/// the two texts, and enough to forge messages; under AES-GCM-SIV it gives away only whether the texts and the
+/// associated data were the same.
 #[unsafe(no_mangle)]
 pub extern "C" fn aeadkit_seal_with(
     kept: &StoredKey,
@@ -174,7 +178,10 @@ pub extern "C" fn aeadkit_open_with(
 
 /// Begins a sealing in pieces under a kept key, as `aeadkit_sealer_init` does under its bytes. `NOT_BEGUN` if the
 /// struct keeps no key, then `UNKNOWN_SUITE` if its suite reads a text twice. What the sealer was before makes no
-/// difference. A refusal leaves zeros in it.
+/// difference. On error zeros are left in it.
+///
+/// The nonce must never be used twice under one key: a repeat gives away the XOR of the two texts, and enough to
+/// forge messages.
 #[unsafe(no_mangle)]
 pub extern "C" fn aeadkit_sealer_init_with(
     sealer: &mut StoredSealer,

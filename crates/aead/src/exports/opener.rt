@@ -1,5 +1,5 @@
-// An opening in pieces at C: a first pass over the ciphertext gives nothing, and only after it was found to be a
-// sealing a second pass decrypts.
+//! The calls for C that open a sealing in pieces. A first pass over the ciphertext gives nothing; only if it was over a
+//! sealing does a second pass decrypt.
 
 ghost use Rattle.std.specs.Prelude.{◌≡◌, ◌≢◌, ◌+◌, ◌++◌, ℕ, List, [], length, true, false};
 ghost use Rattle.octets.specs.Numbers.{HasOutcome};
@@ -39,7 +39,7 @@ impl StoredPasses {
 }
 
 /// Begins an opening in pieces under the tag of the sealing: its first pass has taken in nothing yet. What the
-/// struct was before makes no difference. A refusal leaves zeros in it.
+/// struct was before makes no difference. On error zeros are left in it.
 #[unsafe(no_mangle)]
 pub extern "C" fn aeadkit_opener_init(
     opener: &mut StoredPasses,
@@ -95,8 +95,8 @@ pub extern "C" fn aeadkit_opener_check(opener: &mut StoredPasses, piece: &[u8]) 
     }
 }
 
-/// Ends the first pass, and begins the second one, which has taken in nothing yet. `TagMismatch` if what was
-/// taken in and the tag are no sealing: the struct is then zeros.
+/// Ends the first pass, and begins the second one, which has taken in nothing yet. `TagMismatch` if authentication
+/// failed: the struct is then zeros.
 #[unsafe(no_mangle)]
 pub extern "C" fn aeadkit_opener_checked(opener: &mut StoredPasses) -> u32
     ensures holds { (s : Setting) (tag bytes : List ℕ) → Checked opener.old opener.new result s tag bytes }
@@ -141,8 +141,8 @@ pub extern "C" fn aeadkit_opener_update(opener: &mut StoredPasses, piece: &mut [
     }
 }
 
-/// Ends the second pass, and leaves zeros in the struct. `SourceChanged` if what the pass took in and the tag are
-/// no sealing: what update gave is then no text of one.
+/// Ends the second pass, and leaves zeros in the struct. `SourceChanged` if authentication of what this pass took in
+/// failed: what update gave is then to be thrown away.
 #[unsafe(no_mangle)]
 pub extern "C" fn aeadkit_opener_finish(opener: &mut StoredPasses) -> u32
     ensures holds { (s : Setting) (tag : List ℕ) (first : ℕ) (bytes : List ℕ)

@@ -1,4 +1,4 @@
-// The steps of a pass over pieces that is stored as plain numbers, by its suite.
+//! The steps of a pass over pieces whose state is stored as plain numbers, by its suite.
 
 ghost use Rattle.std.specs.Prelude.{◌≡◌, ◌↔◌, ◌+◌, ◌-◌, ◌<◌, ◌≤◌, ◌^◌, ◌++◌, ℕ, List, length, true, false};
 ghost use Rattle.aes.specs.Code.ExpandedKey.{own_key};

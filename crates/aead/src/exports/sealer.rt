@@ -1,4 +1,4 @@
-// A sealing in pieces at C, under the suites whose tag is over the ciphertext.
+//! The calls for C that seal a text in pieces, under the suites whose tag is over the ciphertext.
 
 ghost use Rattle.std.specs.Prelude.{◌≡◌, ◌≢◌, ◌≤◌, ℕ, List, [], length, true, MatchResult};
 ghost use Rattle.octets.specs.Numbers.{HasOutcome};
@@ -132,7 +132,11 @@ impl StoredSealer {
     }
 }
 
-/// Begins a sealing in pieces, of no text yet. What the struct was before makes no difference.
+/// Begins a sealing in pieces, of the empty text. What the struct was before makes no difference. On error zeros are left
+/// in it.
+///
+/// The nonce must never be used twice under one key: a repeat gives away the XOR of the two texts, and enough to
+/// forge messages.
 #[unsafe(no_mangle)]
 pub extern "C" fn aeadkit_sealer_init(
     sealer: &mut StoredSealer,

@@ -1,5 +1,5 @@
-// A sealing in pieces at C under AES-GCM-SIV: a first reading of the text gives its tag, and a second one encrypts
-// it.
+//! The calls for C that seal a text in pieces under AES-GCM-SIV (RFC 8452): a first reading of the text gives its tag, and
+//! a second one encrypts it.
 
 ghost use Rattle.std.specs.Prelude.{◌≡◌, ◌≢◌, ◌↔◌, ◌+◌, ℕ, List, [], length, IsTrue, MatchResult};
 ghost use Rattle.octets.specs.Numbers.{HasOutcome};
@@ -70,8 +70,11 @@ impl StoredPasses {
     }
 }
 
-/// Begins a sealing by two readings, in its first one, of no text yet. What the struct was before makes no
-/// difference. A refusal leaves zeros in it.
+/// Begins a sealing by two readings, in its first one, of the empty text. What the struct was before makes no
+/// difference. On error zeros are left in it.
+///
+/// The nonce must never be used twice under one key: a repeat gives away whether the texts and the associated data
+/// were the same, and nothing else.
 #[unsafe(no_mangle)]
 pub extern "C" fn aeadkit_siv_init(
     siv: &mut StoredPasses,

@@ -1,4 +1,4 @@
-// Sealings and openings in pieces, stored as plain numbers in the memory of a caller in C.
+//! The states of sealings and openings in pieces, stored as plain numbers in the memory of a caller in C.
 
 ghost use Rattle.std.specs.Prelude.{◌≡◌, ◌+◌, ◌*◌, ◌-◌, ◌/◌, ◌^◌, ◌<◌, ◌≤◌, ℕ, List, [], length, take, drop};
 ghost use Rattle.std.specs.Prelude.{◌++◌, true, false};

@@ -1,4 +1,4 @@
-// A key that is stored in the memory of a caller in C.
+//! A key that is stored in the memory of a caller in C, with what is made of it alone.
 
 ghost use Rattle.std.specs.Prelude.{◌≡◌};
 ghost use Rattle.aes.specs.Cipher.{IsKey};
