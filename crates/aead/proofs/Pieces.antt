@@ -9,7 +9,8 @@ use Rattle.std.proofs.lemmas.List.{append-nil, length-take-le, map-append, take-
 use Rattle.std.proofs.Math.Seq.{take-add}
 use Rattle.std.proofs.lemmas.List.Folds.{concat-append}
 use Rattle.aead.specs.Sealing.{Setting, Opened}
-use Rattle.aead.specs.Cuts.{Rise, piece_lengths, AreCut, IsCutSealing}
+use Rattle.aead.specs.Cuts.{Rise, piece_lengths, IsCutSealing}
+use Rattle.aead.specs.Code.CutBytes.{AreCut}
 
 -- the pieces of a body before a place, after the first i cuts were taken into account
 pub record CutSoFar (body cuts : List ℕ) (i place : ℕ) (pieces : List (List ℕ)) : Type 0 where

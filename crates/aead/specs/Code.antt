@@ -1,6 +1,8 @@
 -- The code's states, and the steps of its engines. Of public words only the relations of `Pieces` go by them:
 -- sealing, opening and the engines are defined without them.
 pub mod States
+pub mod Measures
+pub mod CutBytes
 pub mod Maskings
 pub mod NoSums
 pub mod AnyMaskings

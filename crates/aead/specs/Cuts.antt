@@ -15,11 +15,6 @@ piece_lengths n place [] = (n - place) ∷ []
 piece_lengths n place (cut ∷ cuts) =
     if nat_le cut n then (cut - place) ∷ piece_lengths n cut cuts else piece_lengths n place cuts
 
--- the pieces are those that the cuts fix of the bytes
-pub record AreCut (bytes cuts : List ℕ) (pieces : List (List ℕ)) : Type 0 where
-  pub joined : concat pieces ≡ bytes
-  pub lengths : map length pieces ≡ piece_lengths (length bytes) 0 cuts
-
 -- the pieces are those that the cuts fix of the ciphertext, and then the tag; joined they are the sealing
 -- of the text
 pub record IsCutSealing (s : Setting) (text cuts : List ℕ) (pieces : List (List ℕ)) : Type 0 where

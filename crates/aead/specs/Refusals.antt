@@ -1,4 +1,5 @@
--- Why a call is refused: one case for each fault that it returns, in the order in which they are tried.
+-- Why a call is refused: one case for each fault that it returns. Lengths come first, and the case of each says that those
+-- before it fit: `AadTooLong`, `TooShort`, then `TextTooLong`. `OutOfMemory` and `TagMismatch` come only if all of them fit.
 use Rattle.std.specs.Prelude.{◌≡◌, ℕ, ◌+◌, ◌<◌, ◌≤◌, ◌⊎◌, List, [], ◌∷◌, ◌++◌, length, Result, MatchResult}
 use Rattle.octets.specs.declared.fault.Fault.{Fault}
 use Rattle.octets.specs.declared.fault.Fault.TheVariants.{TextTooLong, AadTooLong, TooShort, TagMismatch}

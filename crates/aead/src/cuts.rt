@@ -1,9 +1,10 @@
-// Sealing in pieces.
+//! A whole sealing that is returned in pieces, at offsets of the caller's choice.
 
 ghost use Rattle.std.specs.Prelude.{◌≡◌, ◌∷◌, ◌++◌, [], map, IfOk, OnOk, MatchResult};
 ghost use Rattle.aead.specs.Ciphers.{setting};
 ghost use Rattle.aead.specs.AnyCiphers.{keyed_of};
-ghost use Rattle.aead.specs.Cuts.{Rise, AreCut, IsCutSealing};
+ghost use Rattle.aead.specs.Cuts.{Rise, IsCutSealing};
+ghost use Rattle.aead.specs.Code.CutBytes.{AreCut};
 ghost use Rattle.aead.specs.Refusals.{WholeSealRefused};
 
 use crate::any::AnyAead;
@@ -53,6 +54,10 @@ fn cut_into<A: Allocator + Copy>(
 /// that is at most the text's length, and then the tag as one more. The caller shows that the cuts rise
 /// strictly and are at least 1. Allocates the sealing whole, and then in pieces. Faults: `AadTooLong`, then
 /// `TextTooLong`, if a length in bytes is past the suite's limit, then `OutOfMemory`.
+///
+/// The nonce must never be used twice under one key. Under ChaCha20-Poly1305 and AES-GCM a repeat gives away the XOR of
+/// the two texts, and enough to forge messages; under AES-GCM-SIV it gives away only whether the texts and the
+/// associated data were the same.
 pub fn seal_cut<A: Allocator + Copy>(
     alloc: A,
     cipher: &AnyAead,

@@ -1,4 +1,4 @@
-// The reading that is measured.
+//! The first of the three readings of the stream opener, which is measured: its length and its last 16 bytes.
 
 ghost use Rattle.std.specs.Prelude.{◌≡◌, ◌++◌, ◌<◌, ◌≤◌, ◌^◌, drop, length};
 ghost use Rattle.octets.specs.Bytes.{IsBlock};
@@ -28,7 +28,7 @@ fn slide(last: &mut [u8; 16], piece: &[u8])
 }
 
 impl Measured {
-    ghost use Rattle.aead.specs.Measure.{Measures};
+    ghost use Rattle.aead.specs.Code.Measures.{Measures};
 
     // Reads to the end. Faults: `TextTooLong` as soon as a byte more than `limit` and 16 was taken, and none
     // is taken after it; `TooShort` if there are fewer than 16.

@@ -2,7 +2,7 @@ use Rattle.std.proofs.Common.{ℕ, List, length, arith, ap, sym, subst, ◌∙�
 use Rattle.aead.specs.Ciphers.{setting}
 use Rattle.aead.specs.AnyCiphers.{keyed_of}
 use Rattle.aead.specs.Sealing.{Setting, Opened}
-use Rattle.aead.specs.Cuts.{AreCut}
+use Rattle.aead.specs.Code.CutBytes.{AreCut}
 use Rattle.aead.proofs.Pieces.{cut_sealing}
 use Rattle.aead.proofs.cuts.seal_cut.Goals as goal
 
