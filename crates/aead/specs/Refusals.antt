@@ -1,9 +1,10 @@
 -- Why a call is refused: one case for each fault that it returns. Lengths come first, and the case of each says that those
 -- before it fit: `AadTooLong`, `TooShort`, then `TextTooLong`. `OutOfMemory` and `TagMismatch` come only if all of them fit.
 use Rattle.std.specs.Prelude.{◌≡◌, ℕ, ◌+◌, ◌<◌, ◌≤◌, ◌⊎◌, List, [], ◌∷◌, ◌++◌, length, Result, MatchResult}
+use Rattle.std.specs.Prelude.{IfErr}
 use Rattle.octets.specs.declared.fault.Fault.{Fault}
 use Rattle.octets.specs.declared.fault.Fault.TheVariants.{TextTooLong, AadTooLong, TooShort, TagMismatch}
-use Rattle.octets.specs.declared.fault.Fault.TheVariants.{OutOfMemory, Read, Write}
+use Rattle.octets.specs.declared.fault.Fault.TheVariants.{OutOfMemory, Read, Write, SourceChanged}
 use Rattle.octets.specs.Device.{Failed}
 use Rattle.aead.specs.Suites.{text_limit, aad_limit}
 use Rattle.aead.specs.Sealing.{Setting, Fits, IsNoSealing}
@@ -60,3 +61,15 @@ DueToReading own read read' r = DueTo own (read' ≡ read) (Failed read read') �
 abbrev pub DueToBoth : {T : Type 0} → List Fault → ℕ → ℕ → ℕ → ℕ → Result T Fault → Type 0
 DueToBoth own read read' wrote wrote' r =
     DueTo own ((read' ≡ read) × (wrote' ≡ wrote)) (Failed read read') (Failed wrote wrote') r
+
+-- the faults of sealing in one reading that may come after some bytes were given
+abbrev pub late_in_one_reading : List Fault
+late_in_one_reading = TextTooLong ∷ Read ∷ Write ∷ []
+
+-- those of sealing in two readings, and of opening
+abbrev pub late_in_readings : List Fault
+late_in_readings = SourceChanged ∷ Read ∷ Write ∷ []
+
+-- after a fault that is none of the late ones the outlet is as it was
+abbrev pub UntouchedUnless : {T O : Type 0} → (late : List Fault) → (out out' : O) → Result T Fault → Type 0
+UntouchedUnless late out out' r = IfErr r (λ f. IsOneOf late f ⊎ (out' ≡ out))

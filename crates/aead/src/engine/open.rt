@@ -1,7 +1,7 @@
 // The stream opener.
 
 ghost use Rattle.std.specs.Prelude.{◌≡◌, ◌↔◌, ℕ, ◌+◌, ◌<◌, ◌≤◌, ◌∷◌, [], length, None, IfSome, IfOk};
-ghost use Rattle.aead.specs.Refusals.{DueToReading, DueToBoth};
+ghost use Rattle.aead.specs.Refusals.{DueToReading, DueToBoth, late_in_readings, UntouchedUnless};
 ghost use Rattle.aead.specs.Suites.{text_limit, aad_limit};
 ghost use Rattle.aead.specs.Ciphers.{setting};
 ghost use Rattle.aead.specs.AnyCiphers.{keyed_of};
@@ -152,8 +152,9 @@ fn write_step<I: Intake, O: Outlet>(
 /// more than the suite's limit of a text; `TooShort` if it has fewer than 16. `SourceChanged` if the second
 /// reading has another length or other last 16 bytes, then `TagMismatch` if it is not a sealing; nothing is
 /// given up to here. Then `SourceChanged` if the third reading has another length or other last 16 bytes, or
-/// is not a sealing. `Read` if a reading failed, `Write` if the outlet did. After `SourceChanged`, `Read`
-/// and `Write` what was given is to be thrown away.
+/// is not a sealing. `Read` if a reading failed, `Write` if the outlet did. After `AadTooLong`, `TextTooLong`,
+/// `TooShort` and `TagMismatch` the outlet is as it was. After `SourceChanged`, `Read` and `Write` it may have
+/// taken a beginning of a text, which is to be thrown away.
 pub fn open_stream<I: Intake, J: Intake, K: Intake, O: Outlet>(
     cipher: &AnyAead,
     nonce: &Nonce,
@@ -174,6 +175,8 @@ pub fn open_stream<I: Intake, J: Intake, K: Intake, O: Outlet>(
         (counted (I.failures measure.old) (J.failures verify.old) (K.failures write.old) (O.failures out.old))
         (counted (I.failures measure.new) (J.failures verify.new) (K.failures write.new) (O.failures out.new))
         result) }
+    // After any other fault the outlet is as it was, also if its bytes are not known.
+    ensures untouched { UntouchedUnless late_in_readings out.old out.new result }
 {
     let suite = cipher.suite();
     suite.check_aad(aad)?;

@@ -1,7 +1,7 @@
 // The engine that seals in one reading.
 
 ghost use Rattle.std.specs.Prelude.{◌≡◌, ◌↔◌, ◌<◌, ◌≤◌, ◌∷◌, [], length};
-ghost use Rattle.aead.specs.Refusals.{DueToBoth};
+ghost use Rattle.aead.specs.Refusals.{DueToBoth, late_in_one_reading, UntouchedUnless};
 ghost use Rattle.aead.specs.Suites.{aad_limit};
 ghost use Rattle.aead.specs.Ciphers.{setting};
 ghost use Rattle.aead.specs.AnyCiphers.{one_pass_keyed};
@@ -43,9 +43,9 @@ fn seal_over<N: MaskThenHash, I: Intake, O: Outlet>(
 /// Seals a stream by one reading: each piece is encrypted and given before the next one is taken, and the
 /// tag is given last. Does not allocate, and holds a buffer of a fixed size.
 ///
-/// Faults: `AadTooLong` before any reading, `TextTooLong` once more than the suite's limit of a text was
-/// taken, `Read` if the reading failed, `Write` if the outlet did. What was given before an error is a
-/// beginning of ciphertext and tag.
+/// Faults: `AadTooLong` before any reading, which leaves the outlet as it was; `TextTooLong` once more than
+/// the suite's limit of a text was taken, `Read` if the reading failed, `Write` if the outlet did. After these
+/// three the outlet may have taken a beginning of ciphertext and tag, which is to be thrown away.
 ///
 /// The nonce must never be used twice under one key: a repeat gives away the XOR of the two texts, and enough to
 /// forge messages.
@@ -63,6 +63,8 @@ pub fn seal_stream<I: Intake, O: Outlet>(
     ensures seals { IfTextKnown (I.left text.old) (O.taken out.old) (O.taken out.new)
         (λ x given. SealsStream (setting (one_pass_keyed cipher.now) nonce.now aad.now) x given
         (I.failures text.old) (I.failures text.new) (O.failures out.old) (O.failures out.new) result) }
+    // After any other fault the outlet is as it was, also if its bytes are not known.
+    ensures untouched { UntouchedUnless late_in_one_reading out.old out.new result }
 {
     cipher.suite().check_aad(aad)?;
     match cipher {

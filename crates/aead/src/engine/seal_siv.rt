@@ -1,7 +1,7 @@
 // The engine that seals in two readings.
 
 ghost use Rattle.std.specs.Prelude.{◌≡◌, ◌↔◌, ◌+◌, ◌<◌, ◌≤◌, ◌^◌, ◌∷◌, ℕ, List, [], length, IfOk, IfSome};
-ghost use Rattle.aead.specs.Refusals.{DueToReading, DueToBoth};
+ghost use Rattle.aead.specs.Refusals.{DueToReading, DueToBoth, late_in_readings, UntouchedUnless};
 ghost use Rattle.aead.specs.Suites.{ByGcmSiv, construction_of, text_limit, aad_limit};
 ghost use Rattle.aead.specs.Sealing.{Setting, tag_of};
 ghost use Rattle.aead.specs.Ciphers.{setting};
@@ -103,6 +103,7 @@ fn seal_over<N: HashThenMask, I: Intake, J: Intake, O: Outlet>(
         (record { first = I.failures first.old; second = J.failures second.old; outlet = O.failures out.old })
         (record { first = I.failures first.new; second = J.failures second.new; outlet = O.failures out.new })
         result) }
+    ensures untouched { UntouchedUnless late_in_readings out.old out.new result }
 {
     let mut reading = authenticator(nonced, aad);
     match absorb_all(first, &mut reading, nonced.suite().text_limit()) {
@@ -137,6 +138,7 @@ fn seal_by<M: Keyed128, I: Intake, J: Intake, O: Outlet>(
         (record { first = I.failures first.old; second = J.failures second.old; outlet = O.failures out.old })
         (record { first = I.failures first.new; second = J.failures second.new; outlet = O.failures out.new })
         result) }
+    ensures untouched { UntouchedUnless late_in_readings out.old out.new result }
 {
     let keys = cipher.derive(nonce);
     let made = M::of(&keys.hash_key);
@@ -150,8 +152,9 @@ fn seal_by<M: Keyed128, I: Intake, J: Intake, O: Outlet>(
 /// fixed size.
 ///
 /// Faults: `AadTooLong` before any reading, `TextTooLong` once more than the suite's limit of a text was
-/// taken; nothing is given up to here. `SourceChanged` if the second reading has another length or tag,
-/// `Read` if a reading failed, `Write` if the outlet did.
+/// taken; both leave the outlet as it was. `SourceChanged` if the second reading has another length or tag,
+/// `Read` if a reading failed, `Write` if the outlet did. After these three the outlet may have taken some
+/// bytes, which are to be thrown away.
 ///
 /// The nonce must never be used twice under one key: a repeat gives away whether the texts and the associated data
 /// were the same, and nothing else.
@@ -173,6 +176,8 @@ pub fn seal_siv_stream<I: Intake, J: Intake, O: Outlet>(
         (record { first = I.failures first.old; second = J.failures second.old; outlet = O.failures out.old })
         (record { first = I.failures first.new; second = J.failures second.new; outlet = O.failures out.new })
         result) }
+    // After any other fault the outlet is as it was, also if its bytes are not known.
+    ensures untouched { UntouchedUnless late_in_readings out.old out.new result }
 {
     cipher.suite().check_aad(aad)?;
     seal_by::<WideMul, I, J, O>(cipher, nonce, aad, first, second, out)
