@@ -1,7 +1,7 @@
 //! A cipher whose suite is chosen when the program runs: ChaCha20-Poly1305, AES-GCM or AES-GCM-SIV.
 
-ghost use Rattle.std.specs.Prelude.{◌≡◌, ◌≢◌, ◌≤◌, ◌++◌, length, MatchResult};
-ghost use Rattle.aead.specs.Suites.{key_length, text_limit, aad_limit};
+ghost use Rattle.std.specs.Prelude.{◌≡◌, ◌≢◌, ◌≤◌, ◌++◌, length, true, MatchResult};
+ghost use Rattle.aead.specs.Suites.{construction_of, is_one_pass, key_length, text_limit, aad_limit};
 ghost use Rattle.aead.specs.Sealing.{Opened};
 ghost use Rattle.aead.specs.Ciphers.{setting};
 ghost use Rattle.aead.specs.AnyCiphers.{one_pass_keyed, keyed_of};
@@ -92,7 +92,10 @@ impl AnyAead {
 impl Cipher for AnyOnePass {
     ghost keyed = { one_pass_keyed };
 
-    fn suite(&self) -> Suite {
+    fn suite(&self) -> Suite
+        ensures value { result ≡ (one_pass_keyed self.now).suite }
+        ensures one_pass { is_one_pass (construction_of result) ≡ true }
+    {
         match self {
             AnyOnePass::ChaCha(cipher) => cipher.suite(),
             AnyOnePass::Gcm(cipher) => cipher.suite(),

@@ -216,7 +216,10 @@ fn blocks_at_once(length: usize) -> usize {
 impl Cipher for ChaChaPoly {
     ghost keyed = { λ c. c };
 
-    fn suite(&self) -> Suite {
+    fn suite(&self) -> Suite
+        ensures value { result ≡ self.now.suite }
+        ensures by_chacha { result ≡ ChaCha20Poly1305 }
+    {
         // The proof sees a cipher by its fields.
         let _key = &self.key;
         Suite::ChaCha20Poly1305

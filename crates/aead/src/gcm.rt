@@ -310,7 +310,10 @@ impl<'a, M: Multiply + Copy> Cipher for KeptGcm<'a, M> {
 impl Cipher for Gcm {
     ghost keyed = { λ c. c };
 
-    fn suite(&self) -> Suite {
+    fn suite(&self) -> Suite
+        ensures value { result ≡ self.now.suite }
+        ensures by_gcm { construction_of result ≡ ByGcm }
+    {
         self.suite
     }
 

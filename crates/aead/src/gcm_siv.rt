@@ -220,7 +220,10 @@ impl<'a, M: Multiply + Copy, K: KeptKey + Copy> HashThenMask for NoncedGcmSiv<'a
 impl Cipher for GcmSiv {
     ghost keyed = { λ c. c };
 
-    fn suite(&self) -> Suite {
+    fn suite(&self) -> Suite
+        ensures value { result ≡ self.now.suite }
+        ensures by_gcm_siv { construction_of result ≡ ByGcmSiv }
+    {
         self.suite
     }
 

@@ -1,13 +1,13 @@
 // The engine that seals in one reading.
 
-ghost use Rattle.std.specs.Prelude.{◌≡◌, ◌↔◌, ◌<◌, ◌≤◌, ◌∷◌, [], length};
+ghost use Rattle.std.specs.Prelude.{◌≡◌, ◌↔◌, ◌<◌, ◌≤◌, ◌∷◌, [], length, true};
 ghost use Rattle.aead.specs.Refusals.{DueToBoth, late_in_one_reading, UntouchedUnless};
-ghost use Rattle.aead.specs.Suites.{aad_limit};
+ghost use Rattle.aead.specs.Suites.{construction_of, is_one_pass, aad_limit};
 ghost use Rattle.aead.specs.Ciphers.{setting};
 ghost use Rattle.aead.specs.AnyCiphers.{one_pass_keyed};
 ghost use Rattle.aead.specs.SealStream.{SealsStream, IfTextKnown};
 
-use crate::aead::Aead;
+use crate::aead::Cipher;
 use crate::any::AnyOnePass;
 use crate::engine::passes::pass_all;
 use crate::mask_then_hash::{MaskThenHash, sealing};
@@ -63,6 +63,8 @@ pub fn seal_stream<I: Intake, O: Outlet>(
     ensures seals { IfTextKnown (I.left text.old) (O.taken out.old) (O.taken out.new)
         (λ x given. SealsStream (setting (one_pass_keyed cipher.now) nonce.now aad.now) x given
         (I.failures text.old) (I.failures text.new) (O.failures out.old) (O.failures out.new) result) }
+    // Each suite of such a cipher is sealed in one reading.
+    ensures one_pass { is_one_pass (construction_of (one_pass_keyed cipher.now).suite) ≡ true }
     // After any other fault the outlet is as it was, also if its bytes are not known.
     ensures untouched { UntouchedUnless late_in_one_reading out.old out.new result }
 {

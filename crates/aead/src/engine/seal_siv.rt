@@ -11,7 +11,7 @@ ghost use Rattle.aead.specs.Code.Maskings.{HoldsMasking, repeating_task};
 ghost use Rattle.aead.specs.Code.Absorbed.{AbsorbReturns};
 ghost use Rattle.aead.specs.SealSivStream.{WritesAgain, SealsSivStream, SivBlames, IfBothKnown};
 
-use crate::aead::Aead;
+use crate::aead::Cipher;
 use crate::authenticator::Authenticator;
 use crate::beside::HashFirst;
 use crate::engine::passes::{has_more, pass_all};
@@ -176,6 +176,8 @@ pub fn seal_siv_stream<I: Intake, J: Intake, O: Outlet>(
         (record { first = I.failures first.old; second = J.failures second.old; outlet = O.failures out.old })
         (record { first = I.failures first.new; second = J.failures second.new; outlet = O.failures out.new })
         result) }
+    // Both suites of such a cipher are sealed in two readings.
+    ensures by_gcm_siv { construction_of cipher.now.suite ≡ ByGcmSiv }
     // After any other fault the outlet is as it was, also if its bytes are not known.
     ensures untouched { UntouchedUnless late_in_readings out.old out.new result }
 {

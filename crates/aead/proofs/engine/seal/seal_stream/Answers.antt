@@ -17,4 +17,4 @@ returns-in_err-check_aad-clause-seals g c =
     p.1 ∙ ap Err (p.2 ∙ c.in_err-check_aad.ensures.0) in
     rw e (exit_aad (g.I.Intake.left c.args.text.now) (g.O.Outlet.taken c.args.out.now) s
     (g.I.Intake.failures c.args.text.now) (g.O.Outlet.failures c.args.out.now)
-    (omega (arith, c.in_err-check_aad.ensures.1, ap aad_limit c.suite.ensures)))
+    (omega (arith, c.in_err-check_aad.ensures.1, ap aad_limit c.suite.ensures.value)))
