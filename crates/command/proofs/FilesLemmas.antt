@@ -7,7 +7,7 @@ use Rattle.std.proofs.Math.Seq.{take-append_seam}
 use Rattle.std.specs.Io.KnownBytes.{Keeps, append_known}
 use Rattle.octets.specs.declared.fault.Fault.{Fault}
 use Rattle.octets.specs.declared.fault.Fault.TheVariants.{Read, Write, OutOfMemory}
-use Rattle.aead.specs.Suites.{construction_of, is_one_pass}
+use Rattle.aead.specs.Suites.{ByGcmSiv, construction_of, is_one_pass}
 use Rattle.aead.specs.Sealing.{Setting}
 use Rattle.aead.specs.Ciphers.{Keyed, setting}
 use Rattle.aead.specs.SealStream.{SealsStream, IfTextKnown}
@@ -19,7 +19,7 @@ use Rattle.command.specs.declared.words.Inputs.{Inputs}
 use Rattle.command.specs.declared.words.FileCommand.{FileCommand}
 use Rattle.command.specs.declared.words.FileCommand.TheVariants.{Seal, Open}
 use Rattle.command.specs.Aead.{IsReady, IsCalled, CallFailed}
-use Rattle.command.specs.Files.{Answer, Giving, SealsOnce, SealsTwice, OpensThrice, SealingBy, Engine}
+use Rattle.command.specs.Files.{Answer, Giving, SealsOnce, SealsTwice, OpensThrice, SealingBy, Sealing, Engine}
 use Rattle.command.specs.Files.{OutletTakes, HoldsAll, HoldsStart, HoldsNothing}
 use Rattle.command.specs.Files.{NoCall, EngineRan, Ran, FileDone, FileStopped}
 
@@ -35,6 +35,19 @@ sealed_once (Some x) left (Some t) taken' s read read' wrote wrote' r e h =
     (λ x given. SealsStream s x given read read' wrote wrote' r) in
     let k = subst P e h in
     (k.0, k.1, record { read = read; read' = read'; wrote = wrote; wrote' = wrote'; is = k.2 })
+
+-- a suite that is sealed in one reading
+pub sealing_once : (readings : ℕ → Option (List ℕ)) (giving : Giving) (s : Setting) (r : Answer)
+    → is_one_pass (construction_of s.suite) ≡ true → SealingBy true readings giving s r
+    → Sealing readings giving s r
+sealing_once readings giving s r e h =
+    let P : Bool → Type 0 = λ one. SealingBy one readings giving s r in subst P (sym e) h
+
+-- a suite that is sealed in two readings
+pub sealing_twice : (readings : ℕ → Option (List ℕ)) (giving : Giving) (s : Setting) (r : Answer)
+    → construction_of s.suite ≡ ByGcmSiv → SealingBy false readings giving s r → Sealing readings giving s r
+sealing_twice readings giving s r e h =
+    let P : Bool → Type 0 = λ one. SealingBy one readings giving s r in subst P (sym (ap is_one_pass e)) h
 
 -- two readings of a text
 pub sealed_twice : (a b left right taken taken' : Option (List ℕ)) (s : Setting) (before after : SivCounts)

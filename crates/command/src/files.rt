@@ -1,11 +1,10 @@
 //! The file commands: a file is sealed or opened into another, in memory of a fixed size.
-ghost use Rattle.std.specs.Prelude.{◌≡◌, true, false, is_some, IfOk, IfErr, MatchResult};
+ghost use Rattle.std.specs.Prelude.{◌≡◌, true, is_some, IfOk, IfErr, MatchResult};
 ghost use Rattle.octets.specs.Device.{Failed};
-ghost use Rattle.aead.specs.Suites.{ByGcmSiv, construction_of, is_one_pass};
 ghost use Rattle.aead.specs.Ciphers.{setting};
 ghost use Rattle.aead.specs.AnyCiphers.{one_pass_keyed, keyed_of};
 ghost use Rattle.command.specs.Blames.{InputFailed, OutputFailed, Blames};
-ghost use Rattle.command.specs.Files.{SealingBy, Opening, Engine, EngineRan, Ran};
+ghost use Rattle.command.specs.Files.{Sealing, Opening, Engine, EngineRan, Ran};
 ghost use Rattle.command.specs.Files.{FileDone, FileStopped};
 ghost use Rattle.command.specs.NewFiles.{held};
 ghost use Rattle.command.specs.declared.failure.Failure.TheVariants.{Fault as OfFault};
@@ -16,9 +15,7 @@ use crate::new_file::NewFile;
 use crate::readings::reading;
 use crate::storage::Storage;
 use crate::words::{FileCommand, FileRequest};
-use aead::{
-    AnyAead, AnyOnePass, GcmSiv, Sealer, SivAbsorb, open_stream, seal_siv_stream, seal_stream,
-};
+use aead::{AnyAead, AnyOnePass, GcmSiv, open_stream, seal_siv_stream, seal_stream};
 use octets::{Fault, Nonce, Outlet};
 use std::alloc::Allocator;
 
@@ -32,7 +29,7 @@ fn seal_once<F: Storage, O: Outlet>(
     aad: &[u8],
     out: &mut O,
 ) -> Result<(), Fault>
-    ensures ran { EngineRan (SealingBy true (F.contents files.now path.now))
+    ensures ran { EngineRan (Sealing (F.contents files.now path.now))
         (setting (one_pass_keyed cipher.now) nonce.now aad.now)
         (O.taken out.old) (O.taken out.new) result }
     ensures blame { Blames (λ f. f) (InputFailed (F.open_may_fail files.now path.now) F.Input.failures)
@@ -52,7 +49,7 @@ fn seal_twice<F: Storage, O: Outlet>(
     aad: &[u8],
     out: &mut O,
 ) -> Result<(), Fault>
-    ensures ran { EngineRan (SealingBy false (F.contents files.now path.now))
+    ensures ran { EngineRan (Sealing (F.contents files.now path.now))
         (setting cipher.now nonce.now aad.now)
         (O.taken out.old) (O.taken out.new) result }
     ensures blame { Blames (λ f. f) (InputFailed (F.open_may_fail files.now path.now) F.Input.failures)
@@ -61,20 +58,6 @@ fn seal_twice<F: Storage, O: Outlet>(
     let mut first = reading(files, path, 0)?;
     let mut second = reading(files, path, 1)?;
     seal_siv_stream(cipher, nonce, aad, &mut first, &mut second, out)
-}
-
-// The suite of such a cipher seals in one reading: the contract of a sealing state says so.
-fn takes_one_reading(cipher: &AnyOnePass, nonce: &Nonce)
-    ensures { is_one_pass (construction_of (one_pass_keyed cipher.now).suite) ≡ true }
-{
-    let _ = Sealer::new(cipher, nonce, &[]);
-}
-
-// The suite of such a cipher seals in two readings: the contract of a first reading's state says so.
-fn takes_two_readings(cipher: &GcmSiv, nonce: &Nonce)
-    ensures { construction_of cipher.now.suite ≡ ByGcmSiv }
-{
-    let _ = SivAbsorb::new(cipher, nonce, &[]);
 }
 
 // Opens a file into an outlet, in three readings.
@@ -125,14 +108,8 @@ fn write_by<F: Storage, O: Outlet>(
 {
     match words.command {
         FileCommand::Seal => match cipher {
-            AnyAead::OnePass(cipher) => {
-                takes_one_reading(cipher, nonce);
-                seal_once(files, words.input, cipher, nonce, aad, out)
-            }
-            AnyAead::Siv(cipher) => {
-                takes_two_readings(cipher, nonce);
-                seal_twice(files, words.input, cipher, nonce, aad, out)
-            }
+            AnyAead::OnePass(cipher) => seal_once(files, words.input, cipher, nonce, aad, out),
+            AnyAead::Siv(cipher) => seal_twice(files, words.input, cipher, nonce, aad, out),
         },
         FileCommand::Open => open_thrice(files, words.input, cipher, nonce, aad, out),
     }

@@ -2,7 +2,8 @@ use Rattle.std.proofs.Common.{inr}
 use Rattle.aead.specs.Ciphers.{setting}
 use Rattle.aead.specs.SealSivStream.{SivCounts}
 use Rattle.command.proofs.BlamesLemmas.{siv_blames}
-use Rattle.command.proofs.FilesLemmas.{sealed_twice}
+use Rattle.command.specs.Files.{OutletTakes}
+use Rattle.command.proofs.FilesLemmas.{sealed_twice, sealing_twice}
 use Rattle.command.proofs.files.seal_twice.Goals as goal
 
 pub returns-clause-ran : goal.returns-clause-ran
@@ -17,12 +18,15 @@ returns-clause-ran g c =
       second = g.F.Input.Intake.failures c.seal_siv_stream.new.second;
       outlet = g.O.Outlet.failures c.seal_siv_stream.new.out;
     } in
-    inr (sealed_twice (g.F.Storage.contents c.args.files.now c.args.path.now 0)
+    inr (sealing_twice (g.F.Storage.contents c.args.files.now c.args.path.now)
+    (OutletTakes (g.O.Outlet.taken c.args.out.now) (g.O.Outlet.taken c.seal_siv_stream.new.out))
+    (setting c.args.cipher.now c.args.nonce.now c.args.aad.now) c.seal_siv_stream.result
+    c.seal_siv_stream.ensures.by_gcm_siv (sealed_twice (g.F.Storage.contents c.args.files.now c.args.path.now 0)
     (g.F.Storage.contents c.args.files.now c.args.path.now 1)
     (g.F.Input.Intake.left c.in_ok-first.first) (g.F.Input.Intake.left c.in_ok-second.second)
     (g.O.Outlet.taken c.args.out.now) (g.O.Outlet.taken c.seal_siv_stream.new.out)
     (setting c.args.cipher.now c.args.nonce.now c.args.aad.now) before after c.seal_siv_stream.result
-    c.in_ok-first.ensures c.in_ok-second.ensures c.seal_siv_stream.ensures.seals)
+    c.in_ok-first.ensures c.in_ok-second.ensures c.seal_siv_stream.ensures.seals))
 
 pub returns-clause-blame : goal.returns-clause-blame
 returns-clause-blame g c =
