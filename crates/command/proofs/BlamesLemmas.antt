@@ -1,6 +1,6 @@
 -- Devices that the faults of the engines, of the inputs and of the written file blame.
 use Rattle.std.proofs.Common.{◌≡◌, ℕ, ◌⊎◌, inl, inr, Bool, true, false, List, [], ◌∷◌, Ok, Err, ◌<◌}
-use Rattle.std.proofs.Common.{Result, refl, sym, ◌∙◌, ap, arith, true≢false}
+use Rattle.std.proofs.Common.{Result, IfErr, is_ok, refl, sym, ◌∙◌, ap, arith, true≢false}
 use Rattle.std.proofs.lemmas.Bool.{and_parts}
 use Rattle.std.specs.List.{list_all}
 use Rattle.octets.specs.declared.fault.Fault.{Fault}
@@ -12,8 +12,7 @@ use Rattle.aead.specs.SealSivStream.{SivCounts, SivBlames}
 use Rattle.aead.specs.Verdict.{BlamesRightly, counted}
 use Rattle.command.specs.declared.failure.Failure.{Failure}
 use Rattle.command.specs.declared.failure.Failure.TheVariants.{Fault as OfFault}
-use Rattle.command.specs.declared.words.Inputs.{Inputs}
-use Rattle.command.specs.Blames.{InputFailed, Blames}
+use Rattle.command.specs.Blames.{InputFailed, OutputFailed, Blames}
 
 -- whether a fault blames no device
 abbrev blames_none : Fault → Bool
@@ -29,7 +28,7 @@ one_of_none (g ∷ own) f clean h =
     let both = and_parts (blames_none g) (list_all blames_none own) clean in
     elim h [ inl x ↦ rw x both.0 | inr x ↦ one_of_none own f both.1 x ]
 
--- a call over devices whose own faults blame none blames those that failed
+-- a call over devices whose own faults blame none blames devices that failed
 due_blames : {T : Type 0} (own : List Fault) (none reading output input : Type 0) (r : Result T Fault)
     → list_all blames_none own ≡ true → (reading → input) → DueTo own none reading output r
     → Blames (λ f. f) input output r
@@ -118,3 +117,14 @@ pub count_blames : (input output : Type 0) (before after : ℕ) (e : Failure) �
     → Blames {T = Unit {0}} OfFault input (Failed before after) (Err e)
     → Blames {T = Unit {0}} OfFault input output (Err e)
 count_blames input output before after e to h = (h.0, λ p. to (failed_some before after (h.1 p)))
+
+-- the making of a file may fail in this storage
+pub making_may_fail : {S D : Type 0} (may_fail : S → Bool) (failures : D → ℕ) (files : S)
+    → may_fail files ≡ true → OutputFailed may_fail failures
+making_may_fail may_fail failures files h = ∣ inl (files, h) ∣₁
+
+-- a file was not synced
+pub syncing_may_fail : {S D T E : Type 0} (may_fail : S → Bool) (failures : D → ℕ) (files : S) (r : Result T E)
+    → IfErr r (λ _. may_fail files ≡ true) → is_ok r ≡ false → OutputFailed may_fail failures
+syncing_may_fail may_fail failures files (Ok x) h e = absurd (cc)
+syncing_may_fail may_fail failures files (Err x) h e = ∣ inl (files, h) ∣₁

@@ -1,7 +1,8 @@
 -- Results of the file commands, from those of the engines.
 use Rattle.std.proofs.Common.{◌≡◌, ℕ, ◌⊎◌, inl, inr, Bool, true, false, List, [], ◌++◌}
 use Rattle.std.proofs.Common.{Option, Some, None, Ok, Err, IfSome, refl, subst, sym, ◌∙◌, ap, arith, take}
-use Rattle.std.proofs.Common.{drop, length}
+use Rattle.std.specs.Prelude.{⊤}
+use Rattle.std.proofs.Common.{drop, length, is_some, MatchResult, IfOk, IfErr, Result}
 use Rattle.std.proofs.lemmas.List.{append-nil, drop_all}
 use Rattle.std.proofs.Math.Seq.{take-append_seam}
 use Rattle.std.specs.Io.KnownBytes.{Keeps, append_known}
@@ -16,12 +17,14 @@ use Rattle.aead.specs.Verdict.{OpensStream, FailureCounts, IfAllKnown}
 use Rattle.command.specs.declared.failure.Failure.{Failure}
 use Rattle.command.specs.declared.failure.Failure.TheVariants.{Fault as OfFault}
 use Rattle.command.specs.declared.words.Inputs.{Inputs}
+use Rattle.command.specs.declared.words.FileRequest.{FileRequest}
 use Rattle.command.specs.declared.words.FileCommand.{FileCommand}
 use Rattle.command.specs.declared.words.FileCommand.TheVariants.{Seal, Open}
 use Rattle.command.specs.Aead.{IsReady, IsCalled, CallFailed}
 use Rattle.command.specs.Files.{Answer, Giving, SealsOnce, SealsTwice, OpensThrice, SealingBy, Sealing, Engine}
 use Rattle.command.specs.Files.{OutletTakes, HoldsAll, HoldsStart, HoldsNothing}
-use Rattle.command.specs.Files.{NoCall, EngineRan, Ran, FileDone, FileStopped}
+use Rattle.command.specs.Files.{NoCall, EngineRan, Ran, FileDone, FileStopped, StopsLate, EngineOf, Wrote}
+use Rattle.command.specs.NewFiles.{held}
 
 -- one reading of a text
 pub sealed_once : (a left taken taken' : Option (List ℕ)) (s : Setting) (read read' wrote wrote' : ℕ)
@@ -124,6 +127,30 @@ holds_nothing (Some x) None pending k = absurd k
 holds_nothing (Some x) (Some h) pending k =
     (h, refl, (length h, sym (take-append_seam h pending) ∙ ap (λ l. take (length h) l) k))
 
+-- a file that holds what was known of it before holds a beginning of that
+holds_blank : (before : Option (List ℕ)) → HoldsNothing before before
+holds_blank None = tt
+holds_blank (Some x) =
+    (x, refl, (length x, sym (take-append_seam x []) ∙ ap (λ l. take (length x) l) (append-nil x)))
+
+-- a file that is made when it is needed holds a beginning of what was taken before
+holds_nothing_in : {O : Type 0} (taken blank : Option (List ℕ)) (contents : O → Option (List ℕ))
+    (file : Option O) (pending : List ℕ) → Keeps taken (append_known (held blank contents file) pending)
+    → HoldsNothing taken (held taken contents file)
+holds_nothing_in taken blank contents None pending k = holds_blank taken
+holds_nothing_in taken blank contents (Some o) pending k = holds_nothing taken (contents o) pending k
+
+-- a file that is made when it is needed holds a beginning of what was given
+holds_start_in : {O : Type 0} (P : List ℕ → Type 0) (taken taken' blank : Option (List ℕ))
+    (contents : O → Option (List ℕ)) (file : Option O) (pending : List ℕ) → OutletTakes taken taken' P
+    → Keeps taken' (append_known (held blank contents file) pending)
+    → HoldsStart taken (held taken contents file) P
+holds_start_in P None taken' blank contents None pending t k = tt
+holds_start_in P (Some x) taken' blank contents None pending t k =
+    (t.0, (x, refl, (length x, sym (take-append_seam x t.0))), t.2)
+holds_start_in P taken taken' blank contents (Some o) pending t k =
+    holds_start P taken taken' (contents o) pending t k
+
 -- an engine's result over one reading, for what is given in another way
 map_one : (a : Option (List ℕ)) (X Y : List ℕ → Type 0) → ((x : List ℕ) → X x → Y x)
     → IfSome a (λ x. X x) → IfSome a (λ x. Y x)
@@ -182,9 +209,16 @@ pub ran_err : (engine : Giving → Setting → Answer → Type 0) (words : Input
     → (NoCall words (OfFault f) × (taken' ≡ taken)) ⊎ CallFailed
     (λ s body e. engine (OutletTakes taken taken') s (Err e)) words (OfFault f)
 ran_err engine words keyed nonce aad body taken taken' f ready (inl h) =
-    let why : (OfFault f ≡ OfFault Read) ⊎ (OfFault f ≡ OfFault OutOfMemory) = elim h.0
-    [ inl e ↦ inl (cc) | inr e ↦ inr (cc) ] in
-    inl (inr why, h.1)
+    elim h.0 [
+      | inl e ↦
+          let p : OfFault f ≡ OfFault Read = (cc) in
+          let called : IsCalled words (λ _ _. ⊤) =
+          record { keyed = keyed; nonce = nonce; aad = aad; body = body; ready = ready; is = tt } in
+          inl (inr (p, called), h.1)
+      | inr e ↦
+          let p : f ≡ OutOfMemory = (cc) in
+          inl (inl (rw p tt), h.1)
+    ]
 ran_err engine words keyed nonce aad body taken taken' f ready (inr h) = inr (record {
   fault = f;
   is = refl;
@@ -204,45 +238,90 @@ map_call words P Q f h = record {
 }
 
 -- a file command whose engine did not run, or returned a fault, is stopped
-pub exit_err : (command : FileCommand) (readings : ℕ → Option (List ℕ)) (words : Inputs)
-    (taken held : Option (List ℕ)) (pending : List ℕ) (e : Failure)
-    → Ran (Engine command readings) words taken (append_known held pending) (Err e)
-    → FileStopped (Engine command readings) words taken held e
-exit_err command readings words taken held pending e (inl h) =
-    inl (h.0, holds_nothing taken held pending (keeps_same _ _ h.1))
-exit_err command readings words taken held pending e (inr h) =
-    let given : Option (List ℕ) = append_known held pending in
+pub exit_err : {O : Type 0} (command : FileCommand) (readings : ℕ → Option (List ℕ)) (words : Inputs)
+    (taken blank : Option (List ℕ)) (contents : O → Option (List ℕ)) (file : Option O) (pending : List ℕ)
+    (e : Failure)
+    → Ran (Engine command readings) words taken (append_known (held blank contents file) pending) (Err e)
+    → FileStopped (Engine command readings) words taken (held taken contents file) e
+exit_err command readings words taken blank contents file pending e (inl h) =
+    inl (h.0, holds_nothing_in taken blank contents file pending (keeps_same _ _ h.1))
+exit_err command readings words taken blank contents file pending e (inr h) =
+    let given : Option (List ℕ) = append_known (held blank contents file) pending in
     inr (record {
       fault = h.fault;
       is = h.is;
       call = map_call words _ _ (λ s body k. inl (engine_weakens command readings (OutletTakes taken given)
-          (HoldsStart taken held)
-          (λ Q t. holds_start Q taken given held pending t (keeps_same given given refl))
+          (HoldsStart taken (held taken contents file))
+          (λ Q t. holds_start_in Q taken given blank contents file pending t (keeps_same given given refl))
           s (Err h.fault) k)) h.call;
     })
 
 -- a file command whose last write failed is stopped with `Write`
-pub exit_write : (command : FileCommand) (readings : ℕ → Option (List ℕ)) (words : Inputs)
-    (taken given held : Option (List ℕ)) (pending : List ℕ)
+pub exit_write : {O : Type 0} (command : FileCommand) (readings : ℕ → Option (List ℕ)) (words : Inputs)
+    (taken given blank : Option (List ℕ)) (contents : O → Option (List ℕ)) (file : Option O)
+    (pending : List ℕ)
     → IsCalled words (λ s body. Engine command readings (OutletTakes taken given) s (Ok tt))
-    → Keeps given (append_known held pending)
-    → FileStopped (Engine command readings) words taken held (OfFault Write)
-exit_write command readings words taken given held pending h k = inr (record {
+    → Keeps given (append_known (held blank contents file) pending)
+    → FileStopped (Engine command readings) words taken (held taken contents file) (OfFault Write)
+exit_write command readings words taken given blank contents file pending h k = inr (record {
   fault = Write;
   is = refl;
   call = map_call words _ _ (λ s body j. inr (
     refl,
     engine_weakens command readings (OutletTakes taken given)
-        (HoldsStart taken held) (λ Q t. holds_start Q taken given held pending t k) s (Ok tt) j,
+        (HoldsStart taken (held taken contents file))
+        (λ Q t. holds_start_in Q taken given blank contents file pending t k) s (Ok tt) j,
   )) h;
 })
 
--- a file command whose engine is done is done once nothing is pending
-pub exit_done : (command : FileCommand) (readings : ℕ → Option (List ℕ)) (words : Inputs)
-    (taken given held : Option (List ℕ)) (w : ℕ) (pending : List ℕ)
+-- a file command whose engine is done is done once the file is made and nothing is pending
+pub exit_done : {O : Type 0} (command : FileCommand) (readings : ℕ → Option (List ℕ)) (words : Inputs)
+    (taken given blank : Option (List ℕ)) (contents : O → Option (List ℕ)) (file : Option O) (w : ℕ)
+    (pending : List ℕ)
     → IsCalled words (λ s body. Engine command readings (OutletTakes taken given) s (Ok tt))
-    → Keeps given (append_known held (drop w pending)) → pending ≡ []
-    → FileDone (Engine command readings) words taken held
-exit_done command readings words taken given held w pending h k e =
-    map_call words _ _ (λ s body. engine_weakens command readings (OutletTakes taken given) (HoldsAll taken held)
-    (λ Q t. holds_all Q taken given held (drop w pending) t k (none_left w pending e)) s (Ok tt)) h
+    → Keeps given (append_known (held blank contents file) (drop w pending)) → pending ≡ []
+    → is_some file ≡ true → FileDone (Engine command readings) words taken (held taken contents file)
+exit_done command readings words taken given blank contents None w pending h k e made = absurd (cc)
+exit_done command readings words taken given blank contents (Some o) w pending h k e made =
+    map_call words _ _ (λ s body. engine_weakens command readings (OutletTakes taken given)
+    (HoldsAll taken (contents o))
+    (λ Q t. holds_all Q taken given (contents o) (drop w pending) t k (none_left w pending e)) s (Ok tt)) h
+
+-- `Write` is a late fault of both commands
+pub write_is_late : (command : FileCommand) (e : Failure) → e ≡ OfFault Write → StopsLate command e
+write_is_late Seal e p = rw p (inr (inr (inr (inl refl))))
+write_is_late Open e p = rw p (inr (inr (inl refl)))
+
+-- out of memory before a file is named
+pub unwritten : {O : Type 0} (contents : List ℕ → ℕ → Option (List ℕ)) (blank : List ℕ → Option (List ℕ))
+    (taken : O → Option (List ℕ)) (request : FileRequest) (r : Result ℕ Failure)
+    → r ≡ Err (OfFault OutOfMemory) → Wrote contents blank taken request r
+unwritten contents blank taken request r e = rw e (record {
+  file = None;
+  done = tt;
+  stopped = inl (inl tt, holds_blank (blank request.output.now));
+  unmade = inr refl;
+})
+
+-- a file that was not made before its request is done
+pub wrote : {O : Type 0} (contents : List ℕ → ℕ → Option (List ℕ)) (blank : List ℕ → Option (List ℕ))
+    (taken : O → Option (List ℕ)) (request : FileRequest) (before : Option (List ℕ)) (file file' : Option O)
+    (r : Result ℕ Failure) → before ≡ blank request.output.now → file ≡ None
+    → MatchResult r
+    (λ _. FileDone (EngineOf contents request) request.inputs before (held before taken file'))
+    (FileStopped (EngineOf contents request) request.inputs before (held before taken file'))
+    → IfOk r (λ _. is_some file' ≡ true) → IfOk r (λ status. status ≡ 0)
+    → IfErr r (λ e. StopsLate request.command e ⊎ (file' ≡ file)) → Wrote contents blank taken request r
+wrote contents blank taken request before file file' (Ok n) start unmade answer made status same =
+    let P : Option (List ℕ) → Type 0 = λ b. FileDone (EngineOf contents request) request.inputs b
+    (held b taken file') in
+    record { file = file'; done = (status, made, subst P start answer); stopped = tt; unmade = tt }
+wrote contents blank taken request before file file' (Err e) start unmade answer made status same =
+    let P : Option (List ℕ) → Type 0 = λ b. FileStopped (EngineOf contents request) request.inputs b
+    (held b taken file') e in
+    record {
+      file = file';
+      done = tt;
+      stopped = subst P start answer;
+      unmade = elim same [ inl late ↦ inl late | inr p ↦ inr (p ∙ unmade) ];
+    }

@@ -1,9 +1,9 @@
 -- Bytes that are pending before they are written.
-use Rattle.std.proofs.Common.{◌≡◌, ℕ, List, [], ◌++◌, ◌+◌, ◌-◌, ◌≤◌, length, take, drop, ap, arith, ◌∙◌, sym}
-use Rattle.std.proofs.Common.{append_assoc, Option, Some, None, Result, Ok, Err, subst}
+use Rattle.std.proofs.Common.{◌≡◌, ℕ, List, [], ◌++◌, ◌+◌, ◌-◌, ◌≤◌, length, take, drop, ap, ◌∙◌, sym}
+use Rattle.std.proofs.Common.{append_assoc, Option, Some, None, subst, refl}
 use Rattle.std.proofs.lemmas.List.{append-nil, drop_all, drop-append-le, take_rest, take-append-drop}
 use Rattle.std.proofs.Math.Seq.{drop-drop}
-use Rattle.std.specs.Io.KnownBytes.{Appends, Keeps, WriteAppends, append_known}
+use Rattle.std.specs.Io.KnownBytes.{Appends, Keeps, append_known}
 
 -- if some of the pending bytes are written, the written and the pending bytes together stay the same
 pub wrote : (old new : Option (List ℕ)) (p q : List ℕ) (w n : ℕ) → q ≡ p
@@ -38,3 +38,8 @@ pends None held p x w h k = tt
 pends (Some u) None p x w h k = absurd k
 pends (Some u) (Some v) p x w h k =
     ap (λ l. v ++ l) (drop-append-le w p x h) ∙ sym (append_assoc v (drop w p) x) ∙ ap (λ l. l ++ x) k
+
+-- nothing is pending
+pub append_none : (x : Option (List ℕ)) → append_known x [] ≡ x
+append_none None = refl
+append_none (Some xs) = ap Some (append-nil xs)

@@ -1,5 +1,5 @@
 -- The effect of a request: what the program prints, with which status, or why it stops.
-use Rattle.std.specs.Prelude.{◌≡◌, ℕ, ◌⊎◌, List, [], ◌∷◌, ◌++◌, codes, Err, MatchResult}
+use Rattle.std.specs.Prelude.{◌≡◌, ℕ, ◌⊎◌, List, [], ◌∷◌, ◌++◌, codes, Ok, Err, MatchResult, IfOk}
 use Rattle.std.specs.declared.option.Option.{Option}
 use Rattle.std.specs.declared.result.Result.{Result}
 use Rattle.std.specs.Io.KnownBytes.{Appends}
@@ -8,13 +8,18 @@ use Rattle.command.specs.declared.failure.Failure.{Failure}
 use Rattle.command.specs.declared.failure.Failure.TheVariants.{Words as OfWords, Fault as OfFault}
 use Rattle.command.specs.declared.words.PrintRequest.{PrintRequest}
 use Rattle.command.specs.declared.words.PrintRequest.TheVariants.{Wrap, Unwrap, Seal, Open, Check}
+use Rattle.command.specs.declared.words.Request.{Request}
+use Rattle.command.specs.declared.words.Request.TheVariants.{Print, Write as OfWrite}
 use Rattle.command.specs.declared.words.Refusal.{Refusal}
 use Rattle.command.specs.declared.words.Refusal.TheVariants.{Help, Version, Words, OutOfMemory as NoMemory}
 use Rattle.command.specs.declared.version.TheConstants.{VERSION}
 use Rattle.aead.specs.Refusals.{WholeSealRefused, WholeOpenRefused}
 use Rattle.command.specs.Aead.{IsSealed, IsOpened, IsRefused}
+use Rattle.command.specs.Files.{Wrote}
 use Rattle.command.specs.Hex.{hex_line}
 use Rattle.command.specs.Reports.{IsChecked, FileRefused}
+use Rattle.command.specs.Requests.{HasTwoPaths}
+use Rattle.command.specs.Statuses.{failure_status}
 use Rattle.command.specs.Keywrap.{IsWrapped, IsUnwrapped, IsWrapRefused, WrapFault, UnwrapFault}
 
 -- standard output failed, or the program is out of memory
@@ -40,23 +45,63 @@ Answered files before after (Unwrap key sealed pad) status =
     Printed (IsUnwrapped pad key.now sealed.now) before after status
 Answered files before after (Check path) status = IsChecked (files path.now 0) before after status
 
--- a request came to nothing: it is refused, or standard output failed
-abbrev pub Stopped : (List ℕ → ℕ → Option (List ℕ)) → PrintRequest → Failure → Type 0
-Stopped files (Seal inputs) e = IsRefused WholeSealRefused inputs e ⊎ IsOutputFailure e
-Stopped files (Open inputs) e = IsRefused WholeOpenRefused inputs e ⊎ IsOutputFailure e
-Stopped files (Wrap key text pad) e = IsWrapRefused (WrapFault pad) key.now text.now e ⊎ IsOutputFailure e
-Stopped files (Unwrap key sealed pad) e =
-    IsWrapRefused (UnwrapFault pad) key.now sealed.now e ⊎ IsOutputFailure e
-Stopped files (Check path) e = FileRefused (files path.now 0) e ⊎ IsOutputFailure e
+-- it is refused for this reason, and nothing is printed, or standard output failed
+abbrev pub Silent : (before after : Option (List ℕ)) → (refused : Failure → Type 0) → Failure → Type 0
+Silent before after refused e = (refused e × (after ≡ before)) ⊎ IsOutputFailure e
+
+-- a request is refused, over files that give these bytes in each reading
+abbrev pub Stopped : (List ℕ → ℕ → Option (List ℕ)) → (before after : Option (List ℕ)) → PrintRequest
+    → Failure → Type 0
+Stopped files before after (Seal inputs) e = Silent before after (IsRefused WholeSealRefused inputs) e
+Stopped files before after (Open inputs) e = Silent before after (IsRefused WholeOpenRefused inputs) e
+Stopped files before after (Wrap key text pad) e =
+    Silent before after (IsWrapRefused (WrapFault pad) key.now text.now) e
+Stopped files before after (Unwrap key sealed pad) e =
+    Silent before after (IsWrapRefused (UnwrapFault pad) key.now sealed.now) e
+Stopped files before after (Check path) e = Silent before after (FileRefused (files path.now 0)) e
 
 -- the program's name and version, and LF
 abbrev pub version_line : List ℕ
 version_line = codes "aeadkit " ++ (VERSION.now ++ 10 ∷ [])
 
--- the end of words that are no request: help or the version is printed, with status 0, or they are refused
+-- the end of words that are not a request: help or the version is printed, with status 0, or they are refused and
+-- nothing is printed
 abbrev pub IsRefusedAs : Refusal → Option (List ℕ) → Option (List ℕ) → Result ℕ Failure → Type 0
 IsRefusedAs (Help text) before after result = MatchResult result (λ status. status ≡ 0) IsOutputFailure
 IsRefusedAs Version before after result =
     MatchResult result (λ status. (status ≡ 0) × Appends before after version_line) IsOutputFailure
-IsRefusedAs Words before after result = result ≡ Err OfWords
-IsRefusedAs NoMemory before after result = result ≡ Err (OfFault OutOfMemory)
+IsRefusedAs Words before after result = (result ≡ Err OfWords) × (after ≡ before)
+IsRefusedAs NoMemory before after result = (result ≡ Err (OfFault OutOfMemory)) × (after ≡ before)
+
+-- what is printed for the words' request or refusal, and the status or the failure, over files that give these
+-- bytes in each reading, that hold these once they are made, and outputs that hold these. A file command prints
+-- nothing
+abbrev pub Answers : {O : Type 0} → (contents : List ℕ → ℕ → Option (List ℕ))
+    → (blank : List ℕ → Option (List ℕ)) → (taken : O → Option (List ℕ)) → (before after : Option (List ℕ))
+    → Result Request Refusal → Result ℕ Failure → Type 0
+Answers contents blank taken before after (Ok (Print request)) result =
+    MatchResult result (Answered contents before after request) (Stopped contents before after request)
+Answers contents blank taken before after (Ok (OfWrite request)) result =
+    (after ≡ before) × Wrote contents blank taken request result
+Answers contents blank taken before after (Err refusal) result = IsRefusedAs refusal before after result
+
+-- the status that the program ends with: 0 or 1, or that of a failure
+abbrev pub status_of : Result ℕ Failure → ℕ
+status_of (Ok status) = status
+status_of (Err failure) = failure_status failure
+
+-- what is printed, and the status, if the words were read as this
+pub record Ends {O : Type 0} (contents : List ℕ → ℕ → Option (List ℕ)) (blank : List ℕ → Option (List ℕ))
+    (taken : O → Option (List ℕ)) (before after : Option (List ℕ)) (read : Result Request Refusal)
+    (status : ℕ) : Type 0 where
+  pub result : Result ℕ Failure
+  pub answers : Answers contents blank taken before after read result
+  pub status_is : status ≡ status_of result
+
+-- what is printed, and the status, for words that were read as some request or refusal
+pub record Runs {O : Type 0} (contents : List ℕ → ℕ → Option (List ℕ)) (blank : List ℕ → Option (List ℕ))
+    (taken : O → Option (List ℕ)) (before after : Option (List ℕ)) (status : ℕ) : Type 0 where
+  pub read : Result Request Refusal
+  -- a file is never written to the path that it is read from
+  pub two_paths : IfOk read HasTwoPaths
+  pub ends : Ends contents blank taken before after read status

@@ -17,9 +17,9 @@ abbrev pub InputFailed : {D : Type 0} → (ℕ → Bool) → (D → ℕ) → Typ
 InputFailed open_may_fail failures =
     ((reading : ℕ) × (open_may_fail reading ≡ true)) ⊎ ∥ DeviceFailed failures ∥₁
 
--- the making of the file may fail, or a device that is written to failed
-abbrev pub OutputFailed : {D : Type 0} → Bool → (D → ℕ) → Type 0
-OutputFailed make_may_fail failures = ∥ (make_may_fail ≡ true) ⊎ DeviceFailed failures ∥₁
+-- the making of a file may fail in some storage of this type, or a device that is written to failed
+abbrev pub OutputFailed : {S D : Type 0} → (S → Bool) → (D → ℕ) → Type 0
+OutputFailed {S} make_may_fail failures = ∥ ((s : S) × (make_may_fail s ≡ true)) ⊎ DeviceFailed failures ∥₁
 
 -- a call's error shows `Read` only if the input failed, and `Write` only if the output did
 abbrev pub Blames : {T E : Type 0} → (shows : Fault → E) → (input output : Type 0) → Result T E → Type 0

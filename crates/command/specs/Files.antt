@@ -1,9 +1,10 @@
 -- The results of the file commands, and the contents of the file that they write.
-use Rattle.std.specs.Prelude.{◌≡◌, ℕ, ◌⊎◌, Bool, true, false, List, ◌++◌, Option, Some, Result, Ok, Err}
-use Rattle.std.specs.Prelude.{MatchResult, IfSome}
+use Rattle.std.specs.Prelude.{◌≡◌, ℕ, ◌⊎◌, Bool, true, false, List, ◌∷◌, ◌++◌, Option, Some, Result, Ok, Err}
+use Rattle.std.specs.Prelude.{MatchResult, IfSome, IfOk, IfErr, None, is_some, ⊤}
 use Rattle.std.specs.Io.KnownBytes.{Appends}
 use Rattle.octets.specs.declared.fault.Fault.{Fault}
-use Rattle.octets.specs.declared.fault.Fault.TheVariants.{Read, Write, OutOfMemory}
+use Rattle.octets.specs.declared.fault.Fault.TheVariants.{Read, Write, OutOfMemory, TextTooLong}
+use Rattle.aead.specs.Refusals.{IsOneOf, late_in_readings}
 use Rattle.aead.specs.Suites.{construction_of, is_one_pass}
 use Rattle.aead.specs.Sealing.{Setting}
 use Rattle.aead.specs.SealStream.{SealsStream}
@@ -12,9 +13,11 @@ use Rattle.aead.specs.Verdict.{OpensStream, FailureCounts, IsBeginning}
 use Rattle.command.specs.declared.failure.Failure.{Failure}
 use Rattle.command.specs.declared.failure.Failure.TheVariants.{Fault as OfFault}
 use Rattle.command.specs.declared.words.Inputs.{Inputs}
+use Rattle.command.specs.declared.words.FileRequest.{FileRequest}
 use Rattle.command.specs.declared.words.FileCommand.{FileCommand}
 use Rattle.command.specs.declared.words.FileCommand.TheVariants.{Seal, Open}
 use Rattle.command.specs.Aead.{InputsRefused, IsCalled, CallFailed}
+use Rattle.command.specs.NewFiles.{held}
 
 -- an engine's result, for what it gave
 abbrev pub Answer : Type 0
@@ -79,9 +82,9 @@ HoldsStart taken held P =
     IfSome taken (λ before. (given : List ℕ)
     × ((h : List ℕ) × (held ≡ Some h) × IsBeginning h (before ++ given)) × P given)
 
--- no call was made: the words give no inputs, or a file was not opened
+-- no call was made: the words give no inputs (or memory ran out), or they do and a file was not opened
 abbrev pub NoCall : Inputs → Failure → Type 0
-NoCall words e = InputsRefused words e ⊎ ((e ≡ OfFault Read) ⊎ (e ≡ OfFault OutOfMemory))
+NoCall words e = InputsRefused words e ⊎ ((e ≡ OfFault Read) × IsCalled words (λ _ _. ⊤))
 
 -- an engine returned, or a file was not opened and nothing was given
 abbrev pub EngineRan : (Giving → Setting → Answer → Type 0) → Setting → Option (List ℕ) → Option (List ℕ)
@@ -114,3 +117,32 @@ FileStopped engine words taken held e =
     (NoCall words e × HoldsNothing taken held)
     ⊎ CallFailed (λ s body f. engine (HoldsStart taken held) s (Err f)
     ⊎ ((f ≡ Write) × engine (HoldsStart taken held) s (Ok tt))) words e
+
+-- the faults of a file command that may come after some bytes were given
+abbrev pub late_faults : FileCommand → List Fault
+late_faults Seal = TextTooLong ∷ late_in_readings
+late_faults Open = late_in_readings
+
+-- the failure is one of them
+abbrev pub StopsLate : FileCommand → Failure → Type 0
+StopsLate command (OfFault f) = IsOneOf (late_faults command) f
+StopsLate command _ = ⊥
+
+-- the engine of a request, over files that give these bytes in each reading
+abbrev pub EngineOf : (List ℕ → ℕ → Option (List ℕ)) → FileRequest → Giving → Setting → Answer → Type 0
+EngineOf contents request = Engine request.command (contents request.input.now)
+
+-- the result of a request that writes a file, and its output when it is closed, over files that give these
+-- bytes in each reading, that hold these once they are made, and outputs that hold these
+pub record Wrote {O : Type 0} (contents : List ℕ → ℕ → Option (List ℕ)) (blank : List ℕ → Option (List ℕ))
+    (taken : O → Option (List ℕ)) (request : FileRequest) (r : Result ℕ Failure) : Type 0 where
+  -- the output, if it was made
+  pub file : Option O
+  -- at Ok it was made, and holds all that the engine gave
+  pub done : IfOk r (λ status. (status ≡ 0) × (is_some file ≡ true) × FileDone (EngineOf contents request)
+      request.inputs (blank request.output.now) (held (blank request.output.now) taken file))
+  -- at a failure it holds a beginning of that, if it was made
+  pub stopped : IfErr r (FileStopped (EngineOf contents request) request.inputs (blank request.output.now)
+      (held (blank request.output.now) taken file))
+  -- it was not made at a failure that is none of the late ones
+  pub unmade : IfErr r (λ e. StopsLate request.command e ⊎ (file ≡ None))

@@ -7,4 +7,5 @@ pub mod Keywrap
 pub mod Names
 pub mod NewFiles
 pub mod Reports
+pub mod Requests
 pub mod Statuses

@@ -1,11 +1,12 @@
 //! The file commands: a file is sealed or opened into another, in memory of a fixed size.
-ghost use Rattle.std.specs.Prelude.{◌≡◌, true, is_some, IfOk, IfErr, MatchResult};
+ghost use Rattle.std.specs.Prelude.{◌≡◌, ◌⊎◌, true, is_some, IfOk, IfErr, MatchResult};
 ghost use Rattle.octets.specs.Device.{Failed};
+ghost use Rattle.aead.specs.Refusals.{UntouchedUnless, late_in_one_reading, late_in_readings};
 ghost use Rattle.aead.specs.Ciphers.{setting};
 ghost use Rattle.aead.specs.AnyCiphers.{one_pass_keyed, keyed_of};
 ghost use Rattle.command.specs.Blames.{InputFailed, OutputFailed, Blames};
 ghost use Rattle.command.specs.Files.{Sealing, Opening, Engine, EngineRan, Ran};
-ghost use Rattle.command.specs.Files.{FileDone, FileStopped};
+ghost use Rattle.command.specs.Files.{FileDone, FileStopped, late_faults, StopsLate, EngineOf, Wrote};
 ghost use Rattle.command.specs.NewFiles.{held};
 ghost use Rattle.command.specs.declared.failure.Failure.TheVariants.{Fault as OfFault};
 
@@ -34,6 +35,7 @@ fn seal_once<F: Storage, O: Outlet>(
         (O.taken out.old) (O.taken out.new) result }
     ensures blame { Blames (λ f. f) (InputFailed (F.open_may_fail files.now path.now) F.Input.failures)
         (Failed (O.failures out.old) (O.failures out.new)) result }
+    ensures untouched { UntouchedUnless late_in_one_reading out.old out.new result }
 {
     let mut text = reading(files, path, 0)?;
     seal_stream(cipher, nonce, aad, &mut text, out)
@@ -54,6 +56,7 @@ fn seal_twice<F: Storage, O: Outlet>(
         (O.taken out.old) (O.taken out.new) result }
     ensures blame { Blames (λ f. f) (InputFailed (F.open_may_fail files.now path.now) F.Input.failures)
         (Failed (O.failures out.old) (O.failures out.new)) result }
+    ensures untouched { UntouchedUnless late_in_readings out.old out.new result }
 {
     let mut first = reading(files, path, 0)?;
     let mut second = reading(files, path, 1)?;
@@ -75,6 +78,7 @@ fn open_thrice<F: Storage, O: Outlet>(
         (O.taken out.old) (O.taken out.new) result }
     ensures blame { Blames (λ f. f) (InputFailed (F.open_may_fail files.now path.now) F.Input.failures)
         (Failed (O.failures out.old) (O.failures out.new)) result }
+    ensures untouched { UntouchedUnless late_in_readings out.old out.new result }
 {
     let mut measure = reading(files, path, 0)?;
     let mut verify = reading(files, path, 1)?;
@@ -105,6 +109,7 @@ fn write_by<F: Storage, O: Outlet>(
     ensures blame { Blames (λ f. f)
         (InputFailed (F.open_may_fail files.now words.now.input.now) F.Input.failures)
         (Failed (O.failures out.old) (O.failures out.new)) result }
+    ensures untouched { UntouchedUnless (late_faults words.now.command) out.old out.new result }
 {
     match words.command {
         FileCommand::Seal => match cipher {
@@ -127,6 +132,7 @@ fn write<A: Allocator, F: Storage, O: Outlet>(
     ensures blame { Blames OfFault
         (InputFailed (F.open_may_fail files.now words.now.input.now) F.Input.failures)
         (Failed (O.failures out.old) (O.failures out.new)) result }
+    ensures untouched { IfErr result (λ e. StopsLate words.now.command e ⊎ (out.new ≡ out.old)) }
 {
     let inputs = prepare(alloc, &words.inputs)?;
     Ok(write_by(
@@ -139,34 +145,55 @@ fn write<A: Allocator, F: Storage, O: Outlet>(
     )?)
 }
 
-/// `seal-file` and `open-file`: seals or opens a file into another, and returns status 0. Faults, in this
-/// order: those of the inputs, `Read` if the file can't be opened, and those of the engine. Of sealing these
-/// are `AadTooLong`, `TextTooLong` once more than the suite's limit was read, `Read`, `Write`, and for
-/// AES-GCM-SIV `SourceChanged`; then the written file holds a beginning of what it should hold, or was not
-/// made. Of opening they are `AadTooLong`, then those of its three readings. Nothing is written before a
-/// whole reading was found to be a sealing. After `SourceChanged`, `Read` and `Write` the written file holds
-/// a beginning of a text, which is to be thrown away, or was not made.
-pub fn write_file<'a, A: Allocator, B: Allocator, F: Storage>(
+// Runs a file command into a file that is made when it is needed, and returns status 0.
+fn write_file<'a, A: Allocator, B: Allocator, F: Storage>(
     alloc: &A,
     files: &F,
     words: &FileRequest<'_>,
     file: &mut NewFile<'a, F, B>,
 ) -> Result<u8, Failure>
-    ensures answer { MatchResult result
-        (λ _. FileDone (Engine words.now.command (F.contents files.now words.now.input.now)) words.now.inputs
-        (⟦<NewFile<'a, F, B> as Outlet>⟧.taken file.old)
-        (held (F.blank file.new.files.now) F.Output.taken file.new.file))
-        (FileStopped (Engine words.now.command (F.contents files.now words.now.input.now)) words.now.inputs
-        (⟦<NewFile<'a, F, B> as Outlet>⟧.taken file.old)
-        (held (F.blank file.new.files.now) F.Output.taken file.new.file)) }
+    // What the file holds follows what it had taken before.
+    ensures answer { let before = ⟦<NewFile<'a, F, B> as Outlet>⟧.taken file.old in
+        MatchResult result
+        (λ _. FileDone (EngineOf (F.contents files.now) words.now) words.now.inputs before
+        (held before F.Output.taken file.new.file))
+        (FileStopped (EngineOf (F.contents files.now) words.now) words.now.inputs before
+        (held before F.Output.taken file.new.file)) }
     ensures made { IfOk result (λ _. is_some file.new.file ≡ true) }
-    // `Read` comes only if the input failed, and `Write` only if the output failed.
     ensures blame { Blames OfFault
         (InputFailed (F.open_may_fail files.now words.now.input.now) F.Input.failures)
-        (OutputFailed (F.make_may_fail file.new.files.now) F.Output.failures) result }
+        (OutputFailed F.make_may_fail F.Output.failures) result }
+    ensures untouched { IfErr result (λ e. StopsLate words.now.command e ⊎ (file.new.file ≡ file.old.file)) }
     ensures status { IfOk result (λ status. status ≡ 0) }
 {
     write(alloc, files, words, file)?;
     file.finish()?;
     Ok(0)
+}
+
+/// `seal-file` and `open-file`: seals or opens a file into another, and returns status 0. The written file is
+/// closed when this returns.
+///
+/// Faults, in this order: those of the inputs, `Read` if the file can't be opened, and those of the engine;
+/// `OutOfMemory` wherever an allocation fails. Of sealing these are `AadTooLong`, `TextTooLong` once more than
+/// the suite's limit was read, `Read`, `Write`, and for AES-GCM-SIV `SourceChanged`. Of opening they are
+/// `AadTooLong`, then those of its three readings: nothing is written before a whole reading was found to be a
+/// sealing.
+///
+/// After `SourceChanged`, `Read` and `Write`, and `TextTooLong` of sealing, the written file holds a beginning of
+/// what it should hold, which is to be thrown away, or was not made. After any other fault it was not made.
+pub fn write_new_file<A: Allocator, F: Storage>(
+    alloc: &A,
+    files: &F,
+    request: &FileRequest<'_>,
+) -> Result<u8, Failure>
+    ensures wrote { Wrote (F.contents files.now) (F.blank files.now) F.Output.taken request.now result }
+    // `Read` comes only if the input failed, and `Write` only if the output failed.
+    ensures blame { Blames OfFault
+        (InputFailed (F.open_may_fail files.now request.now.input.now) F.Input.failures)
+        (OutputFailed F.make_may_fail F.Output.failures) result }
+    ensures status { IfOk result (λ status. status ≡ 0) }
+{
+    let mut file = NewFile::new(alloc, files, request.output)?;
+    write_file(alloc, files, request, &mut file)
 }

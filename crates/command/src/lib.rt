@@ -17,7 +17,8 @@ mod words;
 
 pub use arguments::words_given;
 pub use failure::Failure;
-pub use program::{perform, report, run, write_new_file};
+pub use files::write_new_file;
+pub use program::{perform, report, respond, run};
 pub use storage::{Disk, Storage};
 pub use version::VERSION;
-pub use words::{FileCommand, FileRequest, Inputs, PrintRequest, Request};
+pub use words::{FileCommand, FileRequest, Inputs, PrintRequest, Refusal, Request};

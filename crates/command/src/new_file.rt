@@ -1,6 +1,6 @@
 //! The file that a command writes.
 ghost use Rattle.std.specs.Prelude.{◌≡◌, ◌<◌, ◌≤◌, ◌+◌, ◌-◌, [], true, is_some, ◌++◌, drop, length, vec_len};
-ghost use Rattle.std.specs.Prelude.{vec_capacity, OnOk, OnErr, IfOk, IfErr};
+ghost use Rattle.std.specs.Prelude.{vec_capacity, None, OnOk, OnErr, IfOk, IfErr};
 ghost use Rattle.std.specs.Io.KnownBytes.{Keeps, WriteAppends, append_known};
 ghost use Rattle.octets.specs.Device.{GivesSome};
 ghost use Rattle.command.specs.Blames.{OutputFailed};
@@ -17,7 +17,7 @@ const PENDING: usize = 65536;
 /// Bytes are written once 64 KiB are pending. A failure of the system, an interrupted call too, is a failure
 /// of the device.
 #[derive(Drop)]
-pub struct NewFile<'a, F: Storage, A: Allocator> {
+pub(crate) struct NewFile<'a, F: Storage, A: Allocator> {
     files: &'a F,
     path: &'a str,
     file: Option<F::Output>,
@@ -26,14 +26,16 @@ pub struct NewFile<'a, F: Storage, A: Allocator> {
     failed: u64,
     ghost in_range: { written ≤ vec_len pending },
     ghost room: { 0 < vec_capacity pending },
-    ghost blame: { 0 < failed → OutputFailed (F.make_may_fail files.now) F.Output.failures },
+    ghost blame: { 0 < failed → OutputFailed F.make_may_fail F.Output.failures },
 }
 
 impl<'a, F: Storage, A: Allocator> NewFile<'a, F, A> {
     /// Names a file, which is not made yet, and takes memory for what will be pending.
-    pub fn new(alloc: A, files: &'a F, path: &'a str) -> Result<Self, AllocError>
+    #[tactic(auto, using(crate::proofs::NewFileLemmas::append_none))]
+    pub(crate) fn new(alloc: A, files: &'a F, path: &'a str) -> Result<Self, AllocError>
         ensures taken { IfOk result (λ file.
-            ⟦<NewFile<'a, F, A> as Outlet>⟧.taken file ≡ append_known (F.blank files.now) []) }
+            ⟦<NewFile<'a, F, A> as Outlet>⟧.taken file ≡ F.blank files.now path.now) }
+        ensures unmade { IfOk result (λ file. file.file ≡ None) }
         ensures path { IfOk result (λ file. file.path.now ≡ path.now) }
         ensures room { IfOk result (λ file. 65536 ≤ vec_capacity file.pending) }
     {
@@ -48,6 +50,7 @@ impl<'a, F: Storage, A: Allocator> NewFile<'a, F, A> {
     }
 
     // Makes the file if it is not made yet.
+    #[tactic(auto, using(crate::proofs::BlamesLemmas::making_may_fail))]
     fn make(&mut self) -> Result<(), DeviceFault>
         ensures made { OnOk result (is_some self.new.file ≡ true) }
         ensures taken { Keeps (⟦<NewFile<'a, F, A> as Outlet>⟧.taken self.old)
@@ -55,7 +58,7 @@ impl<'a, F: Storage, A: Allocator> NewFile<'a, F, A> {
         ensures pending { self.new.pending ≡ self.old.pending }
         ensures written { self.new.written ≡ self.old.written }
         ensures failed { self.new.failed ≡ self.old.failed }
-        ensures blame { OnErr result (OutputFailed (F.make_may_fail self.new.files.now) F.Output.failures) }
+        ensures blame { OnErr result (OutputFailed F.make_may_fail F.Output.failures) }
     {
         if self.file.is_none() {
             match self.files.create(self.path) {
@@ -76,7 +79,7 @@ impl<'a, F: Storage, A: Allocator> NewFile<'a, F, A> {
         ensures pending { self.new.pending ≡ self.old.pending }
         ensures written { OnOk result (self.old.written < self.new.written) }
         ensures failed { self.new.failed ≡ self.old.failed }
-        ensures blame { OnErr result (OutputFailed (F.make_may_fail self.new.files.now) F.Output.failures) }
+        ensures blame { OnErr result (OutputFailed F.make_may_fail F.Output.failures) }
     {
         match &mut self.file {
             Some(file) => match file.give(&self.pending[self.written..]) {
@@ -100,7 +103,7 @@ impl<'a, F: Storage, A: Allocator> NewFile<'a, F, A> {
         ensures none_left { OnOk result (self.new.pending.items ≡ []) }
         ensures empty { OnOk result (vec_len self.new.pending ≡ 0) }
         ensures failed { self.new.failed ≡ self.old.failed }
-        ensures blame { OnErr result (OutputFailed (F.make_may_fail self.new.files.now) F.Output.failures) }
+        ensures blame { OnErr result (OutputFailed F.make_may_fail F.Output.failures) }
     {
         while self.written < self.pending.len() {
             self.write_some()?;
@@ -114,8 +117,8 @@ impl<'a, F: Storage, A: Allocator> NewFile<'a, F, A> {
     fn add(&mut self, bytes: &[u8])
         requires room { vec_len self.old.pending + length bytes.now ≤ vec_capacity self.old.pending }
         ensures items { self.new.pending.items ≡ self.old.pending.items ++ bytes.now }
-        ensures held { held (F.blank self.new.files.now) F.Output.taken self.new.file
-            ≡ held (F.blank self.old.files.now) F.Output.taken self.old.file }
+        ensures held { held (F.blank self.new.files.now self.new.path.now) F.Output.taken self.new.file
+            ≡ held (F.blank self.old.files.now self.old.path.now) F.Output.taken self.old.file }
         ensures written { self.new.written ≡ self.old.written }
         ensures failed { self.new.failed ≡ self.old.failed }
     {
@@ -130,7 +133,7 @@ impl<'a, F: Storage, A: Allocator> NewFile<'a, F, A> {
         ensures taken { WriteAppends (⟦<NewFile<'a, F, A> as Outlet>⟧.taken self.old)
             (⟦<NewFile<'a, F, A> as Outlet>⟧.taken self.new) result bytes.now }
         ensures failed { self.new.failed ≡ self.old.failed }
-        ensures blame { OnErr result (OutputFailed (F.make_may_fail self.new.files.now) F.Output.failures) }
+        ensures blame { OnErr result (OutputFailed F.make_may_fail F.Output.failures) }
     {
         if bytes.is_empty() {
             return Ok(0);
@@ -148,14 +151,14 @@ impl<'a, F: Storage, A: Allocator> NewFile<'a, F, A> {
     /// Makes the file if no byte was given, writes what is pending, and has the system take it. The only
     /// fault is `Write`.
     #[tactic(auto, using(crate::proofs::NewFileLemmas::keeps_more))]
-    pub fn finish(&mut self) -> Result<(), Fault>
+    pub(crate) fn finish(&mut self) -> Result<(), Fault>
         ensures taken { Keeps (⟦<NewFile<'a, F, A> as Outlet>⟧.taken self.old)
             (⟦<NewFile<'a, F, A> as Outlet>⟧.taken self.new) }
         ensures made { OnOk result (is_some self.new.file ≡ true) }
         ensures none_left { OnOk result (self.new.pending.items ≡ []) }
         ensures failed { self.new.failed ≡ self.old.failed }
         ensures fault { IfErr result (λ e. e ≡ Fault.Write) }
-        ensures blame { OnErr result (OutputFailed (F.make_may_fail self.new.files.now) F.Output.failures) }
+        ensures blame { OnErr result (OutputFailed F.make_may_fail F.Output.failures) }
     {
         if self.make().is_err() || self.write_pending().is_err() {
             return Err(Fault::Write);
@@ -168,7 +171,7 @@ impl<'a, F: Storage, A: Allocator> NewFile<'a, F, A> {
 }
 
 impl<F: Storage, A: Allocator> Outlet for NewFile<'_, F, A> {
-    ghost taken = { λ s. append_known (held (F.blank s.files.now) F.Output.taken s.file)
+    ghost taken = { λ s. append_known (held (F.blank s.files.now s.path.now) F.Output.taken s.file)
         (drop s.written s.pending.items) };
 
     ghost failures = { λ s. s.failed };

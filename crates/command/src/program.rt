@@ -2,8 +2,8 @@
 ghost use Rattle.std.specs.Prelude.{◌≤◌, ◌≡◌, ◌↔◌, ◌⊎◌, ⊤, [], Err, IfOk, IfErr, MatchResult};
 ghost use Rattle.std.specs.Prelude.{string_bytes};
 ghost use Rattle.std.specs.Io.KnownBytes.{Appends};
-ghost use Rattle.command.specs.Answers.{Answered, Stopped, IsOutputFailure};
-ghost use Rattle.command.specs.Answers.{IsRefusedAs};
+ghost use Rattle.command.specs.Answers.{Answered, Stopped, Silent, IsOutputFailure};
+ghost use Rattle.command.specs.Answers.{IsRefusedAs, Answers, Ends, Runs};
 ghost use Rattle.command.specs.Blames.{InputFailed, Blames, RequestBlames};
 ghost use Rattle.command.specs.declared.failure.Failure.TheVariants.{Fault as OfFault};
 ghost use Rattle.command.specs.Hex.{hex_line};
@@ -11,11 +11,10 @@ ghost use Rattle.command.specs.Reports.{report_text, IsChecked, FileRefused};
 ghost use Rattle.command.specs.Statuses.{failure_status};
 
 use crate::failure::{Failure, fault_of};
-use crate::files::write_file;
-use crate::new_file::NewFile;
+use crate::files::write_new_file;
 use crate::storage::Storage;
 use crate::version::VERSION;
-use crate::words::{FileRequest, PrintRequest, Refusal, Request};
+use crate::words::{PrintRequest, Refusal, Request};
 use crate::{commands, words};
 use octets::Fault;
 use std::alloc::{AllocError, Allocator, Global};
@@ -49,7 +48,7 @@ fn print_value<A: Allocator + Copy, W: Write>(
         (λ v. MatchResult result
         (λ status. (status ≡ 0) × Appends (W.contents out.old) (W.contents out.new) (hex_line v.items))
         IsOutputFailure)
-        (λ e. result ≡ Err e) }
+        (λ e. (result ≡ Err e) × (W.contents out.new ≡ W.contents out.old)) }
 {
     let mut line = hex::encode(alloc, &value?)?;
     line.push('\n')?;
@@ -85,7 +84,7 @@ fn print_checking<A: Allocator, F: Storage, W: Write>(
 ) -> Result<u8, Failure>
     ensures answer { MatchResult result
         (IsChecked (F.contents files.now path.now 0) (W.contents out.old) (W.contents out.new))
-        (λ e. FileRefused (F.contents files.now path.now 0) e ⊎ IsOutputFailure e) }
+        (Silent (W.contents out.old) (W.contents out.new) (FileRefused (F.contents files.now path.now 0))) }
     ensures blame { Blames OfFault
         (InputFailed (F.open_may_fail files.now path.now) F.Input.failures) ⊤ result }
     ensures status { IfOk result (λ status. status ≤ 1) }
@@ -108,7 +107,7 @@ pub fn perform<A: Allocator, F: Storage, W: Write>(
     // On Ok the right answer was printed; on Err the failure is one that the request can have.
     ensures answer { MatchResult result
         (Answered (F.contents files.now) (W.contents out.old) (W.contents out.new) request.now)
-        (Stopped (F.contents files.now) request.now) }
+        (Stopped (F.contents files.now) (W.contents out.old) (W.contents out.new) request.now) }
     // A file's `Read` comes only if the input failed.
     ensures blame { RequestBlames
         (λ path. InputFailed (F.open_may_fail files.now path) F.Input.failures) request.now result }
@@ -156,38 +155,48 @@ pub fn report<E: Write>(err: &mut E, failure: Failure) -> u8
     failure.status()
 }
 
-/// Writes the file that a request names, and returns status 0. The file is closed when this returns.
-pub fn write_new_file<A: Allocator, F: Storage>(
-    alloc: &A,
-    files: &F,
-    request: &FileRequest<'_>,
-) -> Result<u8, Failure>
-    ensures { IfOk result (λ status. status ≡ 0) }
-{
-    let mut file = NewFile::new(alloc, files, request.output)?;
-    write_file(alloc, files, request, &mut file)
-}
-
-// Does what the words after the program's name ask for.
-fn answer<S: AsStr, F: Storage, W: Write>(
+// Does what the words were read as.
+fn answer<F: Storage, W: Write>(
     alloc: Global,
     files: &F,
-    words: &[S],
+    read: &Result<Request<'_>, Refusal>,
     out: &mut W,
 ) -> Result<u8, Failure>
-    ensures { IfOk result (λ status. status ≤ 1) }
+    ensures answers { Answers (F.contents files.now) (F.blank files.now) F.Output.taken
+        (W.contents out.old) (W.contents out.new) read.now result }
+    ensures status { IfOk result (λ status. status ≤ 1) }
 {
-    match words::read(alloc, words) {
-        Ok(Request::Print(request)) => perform(&alloc, files, &request, out),
-        Ok(Request::Write(request)) => write_new_file(&alloc, files, &request),
-        Err(refusal) => refuse(alloc, &refusal, out),
+    match read {
+        Ok(Request::Print(request)) => perform(&alloc, files, request, out),
+        Ok(Request::Write(request)) => write_new_file(&alloc, files, request),
+        Err(refusal) => refuse(alloc, refusal, out),
     }
 }
 
-/// Runs the program on the words after its name, and returns its status: 0 if it is done, 1 if bytes are no
-/// sealing or wrapping, or a vector file has a fault or a bad record, 2 if the words or a value are of no
-/// use, 3 if a reading or a writing failed, 4 if an allocation failed. A failing standard error changes no
+/// Does what the words were read as, and returns the program's status. A failing standard error changes no
 /// status.
+pub fn respond<F: Storage, W: Write, E: Write>(
+    alloc: Global,
+    files: &F,
+    read: &Result<Request<'_>, Refusal>,
+    out: &mut W,
+    err: &mut E,
+) -> u8
+    ensures ends { Ends (F.contents files.now) (F.blank files.now) F.Output.taken
+        (W.contents out.old) (W.contents out.new) read.now result }
+    ensures bound { result ≤ 4 }
+    // With status 0 nothing is said on standard error.
+    ensures quiet { result ≡ 0 → E.contents err.new ≡ E.contents err.old }
+{
+    match answer(alloc, files, read, out) {
+        Ok(status) => status,
+        Err(failure) => report(err, failure),
+    }
+}
+
+/// Runs the program on the words after its name: does what they are read as, and returns the status, 0 if it is
+/// done, 1 if bytes are no sealing or wrapping, or a vector file has a fault or a bad record, 2 if the words or a
+/// value are of no use, 3 if a reading or a writing failed, 4 if an allocation failed.
 pub fn run<S: AsStr, F: Storage, W: Write, E: Write>(
     alloc: Global,
     files: &F,
@@ -195,12 +204,11 @@ pub fn run<S: AsStr, F: Storage, W: Write, E: Write>(
     out: &mut W,
     err: &mut E,
 ) -> u8
+    // Standard output and the status are those of a request or a refusal that words can be read as.
+    ensures runs { Runs (F.contents files.now) (F.blank files.now) F.Output.taken
+        (W.contents out.old) (W.contents out.new) result }
     ensures bound { result ≤ 4 }
-    // With status 0 nothing is said on standard error.
     ensures quiet { result ≡ 0 → E.contents err.new ≡ E.contents err.old }
 {
-    match answer(alloc, files, words, out) {
-        Ok(status) => status,
-        Err(failure) => report(err, failure),
-    }
+    respond(alloc, files, &words::read(alloc, words), out, err)
 }

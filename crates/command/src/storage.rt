@@ -24,8 +24,8 @@ pub trait Storage {
     // The bytes that a file gives in a reading, if they are known. A request's readings are counted from 0.
     ghost contents: { Self → List ℕ → ℕ → Option (List ℕ) } = { λ _ _ _. None };
 
-    // The bytes that a file holds once it was made, if they are known.
-    ghost blank: { Self → Option (List ℕ) } = { λ _. None };
+    // The bytes that the file at a path holds once it was made, if they are known.
+    ghost blank: { Self → List ℕ → Option (List ℕ) } = { λ _ _. None };
 
     // Whether the opening of a file for a reading may fail.
     ghost open_may_fail: { Self → List ℕ → ℕ → Bool } = { λ _ _ _. true };
@@ -42,7 +42,7 @@ pub trait Storage {
 
     /// Makes a file, or cuts it to nothing.
     fn create(&self, path: &str) -> io::Result<Self::Output>
-        ensures blank { IfOk result (λ output. Keeps (blank self.now) (Self.Output.taken output)) }
+        ensures blank { IfOk result (λ output. Keeps (blank self.now path.now) (Self.Output.taken output)) }
         ensures blame { IfErr result (λ _. make_may_fail self.now ≡ true) };
 
     /// Hands what was written to the device below, if there is one.

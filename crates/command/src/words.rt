@@ -1,4 +1,7 @@
 //! The command line.
+ghost use Rattle.std.specs.Prelude.{IfOk, IfSome};
+ghost use Rattle.command.specs.Requests.{HasTwoPaths};
+
 use crate::subcommands::{
     AAD, CHECK, FILE, IN, KEY, NONCE, OPEN, OPEN_FILE, OUT, PAD, SEAL, SEAL_FILE, SEALED, SUITE,
     TEXT, UNWRAP, WRAP, command,
@@ -101,7 +104,9 @@ fn inputs_of<'a>(matches: &ArgMatches<'a>, body: &'a str) -> Inputs<'a> {
 }
 
 // The request of a file command; `None` if both paths are the same text.
-fn file_request<'a>(command: FileCommand, matches: &ArgMatches<'a>) -> Option<Request<'a>> {
+fn file_request<'a>(command: FileCommand, matches: &ArgMatches<'a>) -> Option<Request<'a>>
+    ensures { IfSome result HasTwoPaths }
+{
     let input = value(matches, IN);
     let output = value(matches, OUT);
     if input == output {
@@ -116,7 +121,9 @@ fn file_request<'a>(command: FileCommand, matches: &ArgMatches<'a>) -> Option<Re
 }
 
 // The request of a command line, if it is one of the program's.
-fn request_of<'a>(matches: &ArgMatches<'a>) -> Option<Request<'a>> {
+fn request_of<'a>(matches: &ArgMatches<'a>) -> Option<Request<'a>>
+    ensures { IfSome result HasTwoPaths }
+{
     let (name, matches) = matches.subcommand()?;
     Some(Request::Print(match name {
         SEAL => PrintRequest::Seal(inputs_of(matches, value(matches, TEXT))),
@@ -141,7 +148,9 @@ fn request_of<'a>(matches: &ArgMatches<'a>) -> Option<Request<'a>> {
 }
 
 /// Returns the request that the words after the program's name make, or why they make none.
-pub fn read<'a, S: AsStr>(alloc: Global, words: &'a [S]) -> Result<Request<'a>, Refusal> {
+pub fn read<'a, S: AsStr>(alloc: Global, words: &'a [S]) -> Result<Request<'a>, Refusal>
+    ensures { IfOk result HasTwoPaths }
+{
     let Ok(command) = command(alloc) else {
         return Err(Refusal::OutOfMemory);
     };

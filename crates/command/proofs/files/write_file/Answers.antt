@@ -1,40 +1,43 @@
-use Rattle.std.proofs.Common.{ℕ, List, Option, drop}
+use Rattle.std.proofs.Common.{drop, inl, refl}
 use Rattle.std.proofs.lemmas.Result.{err_from_is_err_and}
-use Rattle.command.specs.NewFiles.{held}
 use Rattle.command.proofs.BlamesLemmas.{count_blames}
-use Rattle.command.proofs.FilesLemmas.{exit_err, exit_write, exit_done}
+use Rattle.command.proofs.FilesLemmas.{exit_err, exit_write, exit_done, write_is_late}
 use Rattle.command.proofs.files.write_file.Goals as goal
 
 pub returns-in_err-write-clause-answer : goal.returns-in_err-write-clause-answer
 returns-in_err-write-clause-answer g c =
     let p = err_from_is_err_and c.from_residual.result c.from_residual.ensures.1 in
-    let h : Option (List ℕ) = held (g.F.Storage.blank c.write.new.out.files.now) g.F.Output.Outlet.taken
-    c.write.new.out.file in
     rw (p.1, p.2) (exit_err c.args.words.now.command
-    (g.F.Storage.contents c.args.files.now c.args.words.now.input.now) c.args.words.now.inputs _ h
-    (drop c.write.new.out.written c.write.new.out.pending.items)
+    (g.F.Storage.contents c.args.files.now c.args.words.now.input.now) c.args.words.now.inputs _
+    (g.F.Storage.blank c.write.new.out.files.now c.write.new.out.path.now) g.F.Output.Outlet.taken
+    c.write.new.out.file (drop c.write.new.out.written c.write.new.out.pending.items)
     c.in_err-write.field-0.0 c.in_err-write.ensures.ran)
 
 pub returns-in_err-finish-clause-answer : goal.returns-in_err-finish-clause-answer
 returns-in_err-finish-clause-answer g c =
     let p = err_from_is_err_and c.from_residual-in_err-finish.result
     c.from_residual-in_err-finish.ensures.1 in
-    let h : Option (List ℕ) = held (g.F.Storage.blank c.finish.new.self.files.now) g.F.Output.Outlet.taken
-    c.finish.new.self.file in
     rw (p.1, p.2, c.in_err-finish.ensures.fault)
     (exit_write c.args.words.now.command
-    (g.F.Storage.contents c.args.files.now c.args.words.now.input.now) c.args.words.now.inputs _ _ h
-    (drop c.finish.new.self.written c.finish.new.self.pending.items)
+    (g.F.Storage.contents c.args.files.now c.args.words.now.input.now) c.args.words.now.inputs _ _
+    (g.F.Storage.blank c.finish.new.self.files.now c.finish.new.self.path.now) g.F.Output.Outlet.taken
+    c.finish.new.self.file (drop c.finish.new.self.written c.finish.new.self.pending.items)
     c.in_ok-write.ensures.ran c.in_err-finish.ensures.taken)
 
 pub returns-clause-answer : goal.returns-clause-answer
 returns-clause-answer g c =
-    let h : Option (List ℕ) = held (g.F.Storage.blank c.finish.new.self.files.now) g.F.Output.Outlet.taken
-    c.finish.new.self.file in
     exit_done c.args.words.now.command
-    (g.F.Storage.contents c.args.files.now c.args.words.now.input.now) c.args.words.now.inputs _ _ h
-    c.finish.new.self.written c.finish.new.self.pending.items
+    (g.F.Storage.contents c.args.files.now c.args.words.now.input.now) c.args.words.now.inputs _ _
+    (g.F.Storage.blank c.finish.new.self.files.now c.finish.new.self.path.now) g.F.Output.Outlet.taken
+    c.finish.new.self.file c.finish.new.self.written c.finish.new.self.pending.items
     c.in_ok-write.ensures.ran c.in_ok-finish.ensures.taken c.in_ok-finish.ensures.none_left
+    c.in_ok-finish.ensures.made
+
+pub returns-in_err-finish-clause-untouched : goal.returns-in_err-finish-clause-untouched
+returns-in_err-finish-clause-untouched g c =
+    let p = err_from_is_err_and c.from_residual-in_err-finish.result
+    c.from_residual-in_err-finish.ensures.1 in
+    rw (p.1, p.2, c.in_err-finish.ensures.fault) (inl (write_is_late c.args.words.now.command _ refl))
 
 pub returns-in_err-write-clause-blame : goal.returns-in_err-write-clause-blame
 returns-in_err-write-clause-blame g c =

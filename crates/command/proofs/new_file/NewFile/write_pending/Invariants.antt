@@ -6,9 +6,9 @@ use Rattle.command.proofs.new_file.NewFile.write_pending.Given as goal
 abbrev pub invariant-loop-self : goal.invariant-loop-self
 invariant-loop-self g l = record {
   kept : Keeps
-      (append_known (held (g.F.Storage.blank l.initial.self.files.now) g.F.Output.Outlet.taken
+      (append_known (held (g.F.Storage.blank l.initial.self.files.now l.initial.self.path.now) g.F.Output.Outlet.taken
       l.initial.self.file) (drop l.initial.self.written l.initial.self.pending.items))
-      (append_known (held (g.F.Storage.blank l.self.files.now) g.F.Output.Outlet.taken l.self.file)
+      (append_known (held (g.F.Storage.blank l.self.files.now l.self.path.now) g.F.Output.Outlet.taken l.self.file)
       (drop l.self.written l.self.pending.items));
   pending : l.self.pending ≡ l.initial.self.pending;
   failed : l.self.failed ≡ l.initial.self.failed;
