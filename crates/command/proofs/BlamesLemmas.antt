@@ -12,7 +12,7 @@ use Rattle.aead.specs.SealSivStream.{SivCounts, SivBlames}
 use Rattle.aead.specs.Verdict.{BlamesRightly, counted}
 use Rattle.command.specs.declared.failure.Failure.{Failure}
 use Rattle.command.specs.declared.failure.Failure.TheVariants.{Fault as OfFault}
-use Rattle.command.specs.Blames.{InputFailed, OutputFailed, Blames}
+use Rattle.command.specs.Blames.{InputMayFail, OutputMayFail, Blames}
 
 -- whether a fault blames no device
 abbrev blames_none : Fault → Bool
@@ -48,10 +48,10 @@ due_blames own none reading output input (Err f) clean to h = (
 pub seal_blames : {D : Type 0} (may_fail : ℕ → Bool) (failures : D → ℕ) (text text' : D) (wrote wrote' : ℕ)
     (r : Result (Unit {0}) Fault)
     → DueToBoth (AadTooLong ∷ TextTooLong ∷ []) (failures text) (failures text') wrote wrote' r
-    → Blames (λ f. f) (InputFailed may_fail failures) (Failed wrote wrote') r
+    → Blames (λ f. f) (InputMayFail may_fail failures) (Failed wrote wrote') r
 seal_blames may_fail failures text text' wrote wrote' r h =
     due_blames (AadTooLong ∷ TextTooLong ∷ []) ((failures text' ≡ failures text) × (wrote' ≡ wrote))
-    (Failed (failures text) (failures text')) (Failed wrote wrote') (InputFailed may_fail failures) r refl
+    (Failed (failures text) (failures text')) (Failed wrote wrote') (InputMayFail may_fail failures) r refl
     (λ x. inr ∣ (text, text', x) ∣₁) h
 
 -- sealing in two readings
@@ -60,26 +60,26 @@ pub siv_blames : {D : Type 0} (may_fail : ℕ → Bool) (failures : D → ℕ) (
     → SivBlames (AadTooLong ∷ TextTooLong ∷ SourceChanged ∷ [])
     (record { first = failures first; second = failures second; outlet = wrote })
     (record { first = failures first'; second = failures second'; outlet = wrote' }) r
-    → Blames (λ f. f) (InputFailed may_fail failures) (Failed wrote wrote') r
+    → Blames (λ f. f) (InputMayFail may_fail failures) (Failed wrote wrote') r
 siv_blames may_fail failures first first' second second' wrote wrote' r h =
     let before : SivCounts = record { first = failures first; second = failures second; outlet = wrote } in
     let after : SivCounts = record { first = failures first'; second = failures second'; outlet = wrote' } in
     let to : Failed (failures first) (failures first') ⊎ Failed (failures second) (failures second')
-    → InputFailed may_fail failures =
+    → InputMayFail may_fail failures =
     λ x. elim x [ inl y ↦ inr ∣ (first, first', y) ∣₁ | inr y ↦ inr ∣ (second, second', y) ∣₁ ] in
     due_blames (AadTooLong ∷ TextTooLong ∷ SourceChanged ∷ []) (after ≡ before)
     (Failed (failures first) (failures first') ⊎ Failed (failures second) (failures second'))
-    (Failed wrote wrote') (InputFailed may_fail failures) r refl to h
+    (Failed wrote wrote') (InputMayFail may_fail failures) r refl to h
 
 -- opening
 pub open_blames : {D : Type 0} (may_fail : ℕ → Bool) (failures : D → ℕ)
     (measure measure' verify verify' write write' : D) (wrote wrote' : ℕ) (r : Result (Unit {0}) Fault)
     → BlamesRightly (counted (failures measure) (failures verify) (failures write) wrote)
     (counted (failures measure') (failures verify') (failures write') wrote') r
-    → Blames (λ f. f) (InputFailed may_fail failures) (Failed wrote wrote') r
+    → Blames (λ f. f) (InputMayFail may_fail failures) (Failed wrote wrote') r
 open_blames may_fail failures measure measure' verify verify' write write' wrote wrote' r h =
     let to : Failed (failures measure) (failures measure') ⊎ Failed (failures verify) (failures verify')
-    ⊎ Failed (failures write) (failures write') → InputFailed may_fail failures =
+    ⊎ Failed (failures write) (failures write') → InputMayFail may_fail failures =
     λ x. elim x [
       | inl y ↦ inr ∣ (measure, measure', y) ∣₁
       | inr y ↦ elim y [ inl z ↦ inr ∣ (verify, verify', z) ∣₁ | inr z ↦ inr ∣ (write, write', z) ∣₁ ]
@@ -89,12 +89,12 @@ open_blames may_fail failures measure measure' verify verify' write write' wrote
     ≡ counted (failures measure) (failures verify) (failures write) wrote)
     (Failed (failures measure) (failures measure') ⊎ Failed (failures verify) (failures verify')
     ⊎ Failed (failures write) (failures write'))
-    (Failed wrote wrote') (InputFailed may_fail failures) r refl to h
+    (Failed wrote wrote') (InputMayFail may_fail failures) r refl to h
 
 -- a file that is not opened
 pub unopened_blames : {D : Type 0} (may_fail : ℕ → Bool) (failures : D → ℕ) (output : Type 0) (reading : ℕ)
     (f : Fault) → ((f ≡ Read) × (may_fail reading ≡ true)) ⊎ (f ≡ OutOfMemory)
-    → Blames {T = Unit {0}} (λ f. f) (InputFailed may_fail failures) output (Err f)
+    → Blames {T = Unit {0}} (λ f. f) (InputMayFail may_fail failures) output (Err f)
 unopened_blames may_fail failures output reading f h = (
   λ e. elim h [ inl x ↦ inl (reading, x.1) | inr x ↦ absurd (cc) ],
   λ e. elim h [ inl x ↦ let p : f ≡ Read = x.0 in absurd (cc) | inr x ↦ absurd (cc) ],
@@ -120,11 +120,11 @@ count_blames input output before after e to h = (h.0, λ p. to (failed_some befo
 
 -- the making of a file may fail in this storage
 pub making_may_fail : {S D : Type 0} (may_fail : S → Bool) (failures : D → ℕ) (files : S)
-    → may_fail files ≡ true → OutputFailed may_fail failures
+    → may_fail files ≡ true → OutputMayFail may_fail failures
 making_may_fail may_fail failures files h = ∣ inl (files, h) ∣₁
 
 -- a file was not synced
 pub syncing_may_fail : {S D T E : Type 0} (may_fail : S → Bool) (failures : D → ℕ) (files : S) (r : Result T E)
-    → IfErr r (λ _. may_fail files ≡ true) → is_ok r ≡ false → OutputFailed may_fail failures
+    → IfErr r (λ _. may_fail files ≡ true) → is_ok r ≡ false → OutputMayFail may_fail failures
 syncing_may_fail may_fail failures files (Ok x) h e = absurd (cc)
 syncing_may_fail may_fail failures files (Err x) h e = ∣ inl (files, h) ∣₁

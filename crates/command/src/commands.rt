@@ -4,7 +4,7 @@ ghost use Rattle.aes.specs.Cipher.{IsKey};
 ghost use Rattle.aead.specs.AnyCiphers.{keyed_of};
 ghost use Rattle.aead.specs.Refusals.{WholeSealRefused, WholeOpenRefused};
 ghost use Rattle.command.specs.Aead.{IsReady, IsSealed, IsOpened, InputsRefused, IsRefused};
-ghost use Rattle.command.specs.Blames.{InputFailed, Blames};
+ghost use Rattle.command.specs.Blames.{InputMayFail, Blames};
 ghost use Rattle.command.specs.Hex.{Spells, IsBadHex};
 ghost use Rattle.command.specs.Reports.{IsReportOf, FileRefused};
 ghost use Rattle.command.specs.Keywrap.{Wraps, IsWrapped, IsUnwrapped, IsWrapRefused, WrapInputsRefused};
@@ -184,7 +184,7 @@ pub fn check<'a, A: Allocator, F: Storage>(
         (λ r. IsReportOf (F.contents files.now path.now 0) r.records r.bad.items)
         (FileRefused (F.contents files.now path.now 0)) }
     ensures blame { Blames OfFault
-        (InputFailed (F.open_may_fail files.now path.now) F.Input.failures) ⊤ result }
+        (InputMayFail (F.open_may_fail files.now path.now) F.Input.failures) ⊤ result }
 {
     let file = file_bytes(alloc, files, path)?;
     match vectors::check(alloc, &file) {

@@ -4,7 +4,7 @@ ghost use Rattle.octets.specs.Device.{Failed};
 ghost use Rattle.aead.specs.Refusals.{UntouchedUnless, late_in_one_reading, late_in_readings};
 ghost use Rattle.aead.specs.Ciphers.{setting};
 ghost use Rattle.aead.specs.AnyCiphers.{one_pass_keyed, keyed_of};
-ghost use Rattle.command.specs.Blames.{InputFailed, OutputFailed, Blames};
+ghost use Rattle.command.specs.Blames.{InputMayFail, OutputMayFail, Blames};
 ghost use Rattle.command.specs.Files.{Sealing, Opening, Engine, EngineRan, Ran};
 ghost use Rattle.command.specs.Files.{FileDone, FileStopped, late_faults, StopsLate, EngineOf, Wrote};
 ghost use Rattle.command.specs.NewFiles.{held};
@@ -33,7 +33,7 @@ fn seal_once<F: Storage, O: Outlet>(
     ensures ran { EngineRan (Sealing (F.contents files.now path.now))
         (setting (one_pass_keyed cipher.now) nonce.now aad.now)
         (O.taken out.old) (O.taken out.new) result }
-    ensures blame { Blames (λ f. f) (InputFailed (F.open_may_fail files.now path.now) F.Input.failures)
+    ensures blame { Blames (λ f. f) (InputMayFail (F.open_may_fail files.now path.now) F.Input.failures)
         (Failed (O.failures out.old) (O.failures out.new)) result }
     ensures untouched { UntouchedUnless late_in_one_reading out.old out.new result }
 {
@@ -54,7 +54,7 @@ fn seal_twice<F: Storage, O: Outlet>(
     ensures ran { EngineRan (Sealing (F.contents files.now path.now))
         (setting cipher.now nonce.now aad.now)
         (O.taken out.old) (O.taken out.new) result }
-    ensures blame { Blames (λ f. f) (InputFailed (F.open_may_fail files.now path.now) F.Input.failures)
+    ensures blame { Blames (λ f. f) (InputMayFail (F.open_may_fail files.now path.now) F.Input.failures)
         (Failed (O.failures out.old) (O.failures out.new)) result }
     ensures untouched { UntouchedUnless late_in_readings out.old out.new result }
 {
@@ -76,7 +76,7 @@ fn open_thrice<F: Storage, O: Outlet>(
     ensures ran { EngineRan (Opening (F.contents files.now path.now))
         (setting (keyed_of cipher.now) nonce.now aad.now)
         (O.taken out.old) (O.taken out.new) result }
-    ensures blame { Blames (λ f. f) (InputFailed (F.open_may_fail files.now path.now) F.Input.failures)
+    ensures blame { Blames (λ f. f) (InputMayFail (F.open_may_fail files.now path.now) F.Input.failures)
         (Failed (O.failures out.old) (O.failures out.new)) result }
     ensures untouched { UntouchedUnless late_in_readings out.old out.new result }
 {
@@ -107,7 +107,7 @@ fn write_by<F: Storage, O: Outlet>(
         (setting (keyed_of cipher.now) nonce.now aad.now)
         (O.taken out.old) (O.taken out.new) result }
     ensures blame { Blames (λ f. f)
-        (InputFailed (F.open_may_fail files.now words.now.input.now) F.Input.failures)
+        (InputMayFail (F.open_may_fail files.now words.now.input.now) F.Input.failures)
         (Failed (O.failures out.old) (O.failures out.new)) result }
     ensures untouched { UntouchedUnless (late_faults words.now.command) out.old out.new result }
 {
@@ -130,7 +130,7 @@ fn write<A: Allocator, F: Storage, O: Outlet>(
     ensures ran { Ran (Engine words.now.command (F.contents files.now words.now.input.now)) words.now.inputs
         (O.taken out.old) (O.taken out.new) result }
     ensures blame { Blames OfFault
-        (InputFailed (F.open_may_fail files.now words.now.input.now) F.Input.failures)
+        (InputMayFail (F.open_may_fail files.now words.now.input.now) F.Input.failures)
         (Failed (O.failures out.old) (O.failures out.new)) result }
     ensures untouched { IfErr result (λ e. StopsLate words.now.command e ⊎ (out.new ≡ out.old)) }
 {
@@ -161,8 +161,8 @@ fn write_file<'a, A: Allocator, B: Allocator, F: Storage>(
         (held before F.Output.taken file.new.file)) }
     ensures made { IfOk result (λ _. is_some file.new.file ≡ true) }
     ensures blame { Blames OfFault
-        (InputFailed (F.open_may_fail files.now words.now.input.now) F.Input.failures)
-        (OutputFailed F.make_may_fail F.Output.failures) result }
+        (InputMayFail (F.open_may_fail files.now words.now.input.now) F.Input.failures)
+        (OutputMayFail F.make_may_fail F.Output.failures) result }
     ensures untouched { IfErr result (λ e. StopsLate words.now.command e ⊎ (file.new.file ≡ file.old.file)) }
     ensures status { IfOk result (λ status. status ≡ 0) }
 {
@@ -188,10 +188,10 @@ pub fn write_new_file<A: Allocator, F: Storage>(
     request: &FileRequest<'_>,
 ) -> Result<u8, Failure>
     ensures wrote { Wrote (F.contents files.now) (F.blank files.now) F.Output.taken request.now result }
-    // `Read` comes only if the input failed, and `Write` only if the output failed.
+    // `Read` comes only if its input can fail, and `Write` only if its output can.
     ensures blame { Blames OfFault
-        (InputFailed (F.open_may_fail files.now request.now.input.now) F.Input.failures)
-        (OutputFailed F.make_may_fail F.Output.failures) result }
+        (InputMayFail (F.open_may_fail files.now request.now.input.now) F.Input.failures)
+        (OutputMayFail F.make_may_fail F.Output.failures) result }
     ensures status { IfOk result (λ status. status ≡ 0) }
 {
     let mut file = NewFile::new(alloc, files, request.output)?;

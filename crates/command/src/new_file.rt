@@ -3,7 +3,7 @@ ghost use Rattle.std.specs.Prelude.{◌≡◌, ◌<◌, ◌≤◌, ◌+◌, ◌-
 ghost use Rattle.std.specs.Prelude.{vec_capacity, None, OnOk, OnErr, IfOk, IfErr};
 ghost use Rattle.std.specs.Io.KnownBytes.{Keeps, WriteAppends, append_known};
 ghost use Rattle.octets.specs.Device.{GivesSome};
-ghost use Rattle.command.specs.Blames.{OutputFailed};
+ghost use Rattle.command.specs.Blames.{OutputMayFail};
 ghost use Rattle.command.specs.NewFiles.{held};
 
 use crate::storage::Storage;
@@ -26,7 +26,7 @@ pub(crate) struct NewFile<'a, F: Storage, A: Allocator> {
     failed: u64,
     ghost in_range: { written ≤ vec_len pending },
     ghost room: { 0 < vec_capacity pending },
-    ghost blame: { 0 < failed → OutputFailed F.make_may_fail F.Output.failures },
+    ghost blame: { 0 < failed → OutputMayFail F.make_may_fail F.Output.failures },
 }
 
 impl<'a, F: Storage, A: Allocator> NewFile<'a, F, A> {
@@ -58,7 +58,7 @@ impl<'a, F: Storage, A: Allocator> NewFile<'a, F, A> {
         ensures pending { self.new.pending ≡ self.old.pending }
         ensures written { self.new.written ≡ self.old.written }
         ensures failed { self.new.failed ≡ self.old.failed }
-        ensures blame { OnErr result (OutputFailed F.make_may_fail F.Output.failures) }
+        ensures blame { OnErr result (OutputMayFail F.make_may_fail F.Output.failures) }
     {
         if self.file.is_none() {
             match self.files.create(self.path) {
@@ -79,7 +79,7 @@ impl<'a, F: Storage, A: Allocator> NewFile<'a, F, A> {
         ensures pending { self.new.pending ≡ self.old.pending }
         ensures written { OnOk result (self.old.written < self.new.written) }
         ensures failed { self.new.failed ≡ self.old.failed }
-        ensures blame { OnErr result (OutputFailed F.make_may_fail F.Output.failures) }
+        ensures blame { OnErr result (OutputMayFail F.make_may_fail F.Output.failures) }
     {
         match &mut self.file {
             Some(file) => match file.give(&self.pending[self.written..]) {
@@ -103,7 +103,7 @@ impl<'a, F: Storage, A: Allocator> NewFile<'a, F, A> {
         ensures none_left { OnOk result (self.new.pending.items ≡ []) }
         ensures empty { OnOk result (vec_len self.new.pending ≡ 0) }
         ensures failed { self.new.failed ≡ self.old.failed }
-        ensures blame { OnErr result (OutputFailed F.make_may_fail F.Output.failures) }
+        ensures blame { OnErr result (OutputMayFail F.make_may_fail F.Output.failures) }
     {
         while self.written < self.pending.len() {
             self.write_some()?;
@@ -133,7 +133,7 @@ impl<'a, F: Storage, A: Allocator> NewFile<'a, F, A> {
         ensures taken { WriteAppends (⟦<NewFile<'a, F, A> as Outlet>⟧.taken self.old)
             (⟦<NewFile<'a, F, A> as Outlet>⟧.taken self.new) result bytes.now }
         ensures failed { self.new.failed ≡ self.old.failed }
-        ensures blame { OnErr result (OutputFailed F.make_may_fail F.Output.failures) }
+        ensures blame { OnErr result (OutputMayFail F.make_may_fail F.Output.failures) }
     {
         if bytes.is_empty() {
             return Ok(0);
@@ -158,7 +158,7 @@ impl<'a, F: Storage, A: Allocator> NewFile<'a, F, A> {
         ensures none_left { OnOk result (self.new.pending.items ≡ []) }
         ensures failed { self.new.failed ≡ self.old.failed }
         ensures fault { IfErr result (λ e. e ≡ Fault.Write) }
-        ensures blame { OnErr result (OutputFailed F.make_may_fail F.Output.failures) }
+        ensures blame { OnErr result (OutputMayFail F.make_may_fail F.Output.failures) }
     {
         if self.make().is_err() || self.write_pending().is_err() {
             return Err(Fault::Write);

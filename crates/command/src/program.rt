@@ -4,7 +4,7 @@ ghost use Rattle.std.specs.Prelude.{string_bytes};
 ghost use Rattle.std.specs.Io.KnownBytes.{Appends};
 ghost use Rattle.command.specs.Answers.{Answered, Stopped, Silent, IsOutputFailure};
 ghost use Rattle.command.specs.Answers.{IsRefusedAs, Answers, Ends, Runs};
-ghost use Rattle.command.specs.Blames.{InputFailed, Blames, RequestBlames};
+ghost use Rattle.command.specs.Blames.{InputMayFail, Blames, RequestBlames};
 ghost use Rattle.command.specs.declared.failure.Failure.TheVariants.{Fault as OfFault};
 ghost use Rattle.command.specs.Hex.{hex_line};
 ghost use Rattle.command.specs.Reports.{report_text, IsChecked, FileRefused};
@@ -86,7 +86,7 @@ fn print_checking<A: Allocator, F: Storage, W: Write>(
         (IsChecked (F.contents files.now path.now 0) (W.contents out.old) (W.contents out.new))
         (Silent (W.contents out.old) (W.contents out.new) (FileRefused (F.contents files.now path.now 0))) }
     ensures blame { Blames OfFault
-        (InputFailed (F.open_may_fail files.now path.now) F.Input.failures) ⊤ result }
+        (InputMayFail (F.open_may_fail files.now path.now) F.Input.failures) ⊤ result }
     ensures status { IfOk result (λ status. status ≤ 1) }
 {
     let report = commands::check(alloc, files, path)?;
@@ -108,9 +108,9 @@ pub fn perform<A: Allocator, F: Storage, W: Write>(
     ensures answer { MatchResult result
         (Answered (F.contents files.now) (W.contents out.old) (W.contents out.new) request.now)
         (Stopped (F.contents files.now) (W.contents out.old) (W.contents out.new) request.now) }
-    // A file's `Read` comes only if the input failed.
+    // A file's `Read` comes only if its input can fail.
     ensures blame { RequestBlames
-        (λ path. InputFailed (F.open_may_fail files.now path) F.Input.failures) request.now result }
+        (λ path. InputMayFail (F.open_may_fail files.now path) F.Input.failures) request.now result }
     ensures status { IfOk result (λ status. status ≤ 1) }
 {
     match request {

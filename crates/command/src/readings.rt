@@ -2,7 +2,7 @@
 ghost use Rattle.std.specs.Prelude.{◌≡◌, ◌⊎◌, true, Some, IfOk, IfErr, IfSome, MatchResult};
 ghost use Rattle.std.specs.Io.KnownBytes.{Keeps, IsAtEnd, prepend_known};
 ghost use Rattle.octets.specs.declared.fault.Fault.TheVariants.{OutOfMemory, Read as OfRead};
-ghost use Rattle.command.specs.Blames.{InputFailed, DeviceFailed};
+ghost use Rattle.command.specs.Blames.{InputMayFail, MayFail};
 
 use crate::failure::fault_of;
 use crate::storage::Storage;
@@ -33,7 +33,7 @@ fn take_chunk<A: Allocator, I: Intake>(
     ensures taken { IfOk result (λ _. Keeps (prepend_known bytes.old.items (I.left input.old))
         (prepend_known bytes.new.items (I.left input.new))) }
     ensures all { IfOk result (λ is_last. is_last ≡ true → IsAtEnd (I.left input.new)) }
-    ensures blame { IfErr result (λ e. ((e ≡ OfRead) × ∥ DeviceFailed I.failures ∥₁) ⊎ (e ≡ OutOfMemory)) }
+    ensures blame { IfErr result (λ e. ((e ≡ OfRead) × ∥ MayFail I.failures ∥₁) ⊎ (e ≡ OutOfMemory)) }
 {
     let n = match fill(input, chunk) {
         Ok(n) => n,
@@ -51,7 +51,7 @@ fn take_all<'a, A: Allocator, I: Intake>(
 ) -> Result<Vec<u8, &'a A>, Fault>
     ensures { MatchResult result
         (λ v. IfSome (I.left input.old) (λ bytes. v.items ≡ bytes))
-        (λ e. ((e ≡ OfRead) × ∥ DeviceFailed I.failures ∥₁) ⊎ (e ≡ OutOfMemory)) }
+        (λ e. ((e ≡ OfRead) × ∥ MayFail I.failures ∥₁) ⊎ (e ≡ OutOfMemory)) }
 {
     let mut chunk = vec![in alloc; 0; CHUNK]?;
     let mut bytes = Vec::new(alloc);
@@ -72,7 +72,7 @@ pub fn file_bytes<'a, A: Allocator, F: Storage>(
 ) -> Result<Vec<u8, &'a A>, Fault>
     ensures { MatchResult result
         (λ v. IfSome (F.contents files.now path.now 0) (λ bytes. v.items ≡ bytes))
-        (λ e. ((e ≡ OfRead) × InputFailed (F.open_may_fail files.now path.now) F.Input.failures)
+        (λ e. ((e ≡ OfRead) × InputMayFail (F.open_may_fail files.now path.now) F.Input.failures)
         ⊎ (e ≡ OutOfMemory)) }
 {
     let mut input = reading(files, path, 0)?;
