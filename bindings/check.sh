@@ -57,6 +57,7 @@ if makes "$room/probe.c" cc; then
     "$room/c"
     cc -std=c11 -O2 $warnings $include c/pieces.c "$out/libaeadkit.a" -o "$room/pieces"
     "$room/pieces" 10000 100000
+    ./c-check.sh "$prefix"
     if pkg-config --version > "$room/probe.log" 2>&1; then
         words=$(PKG_CONFIG_PATH=$out/pkgconfig pkg-config --cflags --libs aeadkit)
         cc -std=c11 -O2 c/example.c $words -o "$room/c-shared"

@@ -73,9 +73,10 @@ archive() {
 }
 
 # Links an archive as FOLDER/libaeadkit.so, under the name that its version says: shared ARCHIVE FOLDER VERSION EXPORTS
+# What it calls of the C library is bound when it is loaded, and not on the stack of a first call.
 shared() {
     name=libaeadkit.so.${3%%.*}
-    cc -shared -o "$2/libaeadkit.so.$3" -Wl,-soname,"$name" -Wl,--whole-archive "$1" -Wl,--no-whole-archive \
+    cc -shared -o "$2/libaeadkit.so.$3" -Wl,-soname,"$name" -Wl,-z,now -Wl,--whole-archive "$1" -Wl,--no-whole-archive \
         -Wl,--no-undefined-version -Wl,--version-script="$4"
     ln -sf "libaeadkit.so.$3" "$2/$name"
     ln -sf "$name" "$2/libaeadkit.so"
