@@ -42,15 +42,17 @@ makes() {
 echo 'int main(void) { return 0; }' > "$room/probe.c"
 echo 'unsafe extern "C" {} fn main() {}' > "$room/probe.rs"
 
-exported=$(nm -D --defined-only "$out/libaeadkit.so" | awk '{ print $3 }' | sort | tr '\n' ' ')
-wanted=$(grep -oE 'aeadkit_[a-z_]+' exports.map | sort | tr '\n' ' ')
+# Each name is that of this major version, so that another one may live in the same process.
+node=AEADKIT_${version%%.*}
+exported=$(nm -D --defined-only "$out/libaeadkit.so" | awk -v node="$node" '$3 != node { print $3 }' | sort | tr '\n' ' ')
+wanted=$(grep -oE 'aeadkit_[a-z_]+' exports.map | sed "s/\$/@@$node/" | sort | tr '\n' ' ')
 [ "$exported" = "$wanted" ] || { echo "the library exports $exported and not $wanted" >&2; exit 1; }
 called=$(nm -D --undefined-only "$out/libaeadkit.so" | awk '$1 == "U" { print $2 }' \
     | grep -vE '^(mem(cpy|move|set|cmp)|bcmp)(@|$)' || true)
 [ -z "$called" ] || { echo "the library calls $called" >&2; exit 1; }
 soname=libaeadkit.so.${version%%.*}
 objdump -p "$out/libaeadkit.so" | grep -q "SONAME *$soname\$" || { echo "the library is not named $soname" >&2; exit 1; }
-echo "ok: $soname exports $exported"
+echo "ok: $soname exports, as names of $node, $(echo "$exported" | sed "s/@@$node//g")"
 
 if makes "$room/probe.c" cc; then
     cc -std=c11 -O2 $warnings $include c/example.c "$out/libaeadkit.a" -o "$room/c"
