@@ -81,6 +81,7 @@ else
 fi
 if makes "$room/probe.c" c++ -x c++; then
     c++ -x c++ -std=c++17 -O2 $warnings $include -c c/example.c -o "$room/c++.o"
+    c++ -x c++ -std=c++17 -O2 $warnings $include -c c/backup.c -o "$room/backup.o"
     c++ "$room/c++.o" "$out/libaeadkit.a" -o "$room/c++"
     "$room/c++"
     echo "ok: C++"
