@@ -136,4 +136,5 @@ if [ -e "$prefix/bin/aeadkit" ]; then
         fi
     done
     echo "ok: aeadkit $version, its man page, and its completions for$shells"
+    ./program-check.sh "$prefix"
 fi

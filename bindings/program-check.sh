@@ -1,0 +1,87 @@
+#!/bin/sh
+# Seals, damages and opens files with the built program by examples/files.sh.
+set -eu
+if [ $# != 1 ]; then
+    echo "usage: program-check.sh PREFIX" >&2
+    exit 2
+fi
+prefix=$(cd "$1" && pwd)
+cd "$(dirname "$0")"
+here=$PWD
+room=$(mktemp -d)
+trap 'rm -rf "$room"' EXIT
+
+# Files: want STATUS WORD.. of files.sh
+cd "$room"
+want() {
+    status=0
+    expected=$1
+    shift
+    AEADKIT=$prefix/bin/aeadkit "$here/examples/files.sh" "$@" 2> "$room/fault" || status=$?
+    [ $status = "$expected" ] || { echo "files.sh $* ends with $status and not $expected:" >&2; cat "$room/fault" >&2; exit 1; }
+}
+# A refusal makes no OUT, and leaves nothing else behind.
+refused() {
+    ls > "$room/.before"
+    want "$@"
+    ls > "$room/.after"
+    cmp "$room/.before" "$room/.after"
+}
+od -An -v -tx1 -N32 /dev/urandom | tr -d ' \n' > key
+od -An -v -tx1 -N32 /dev/urandom | tr -d ' \n' > another-key
+head -c 100000 /dev/urandom > "a text"
+head -c 100000 /dev/urandom > -other
+: > empty
+label="it's the backup \"of\" 50% \\n"
+want 0 seal key "$label" "a text" "a sealed text"
+want 0 open key "$label" "a sealed text" opened
+cmp opened "a text"
+want 0 seal key "" -other -sealed
+want 0 open key "" -sealed -opened
+cmp -- -opened -other
+want 0 seal key empty empty no-text
+want 0 open key empty no-text still-empty
+cmp still-empty empty
+cp "a sealed text" sealed
+cp "a sealed text.how" sealed.how
+refused 1 open key another-label sealed out
+refused 1 open another-key "$label" sealed out
+# a byte is changed, and the file is cut or goes on
+{ head -c 70000 "a sealed text"; printf x; tail -c +70002 "a sealed text"; } > sealed
+! cmp -s sealed "a sealed text" || { head -c 70000 "a sealed text"; printf y; tail -c +70002 "a sealed text"; } > sealed
+refused 1 open key "$label" sealed out
+head -c 65536 "a sealed text" > sealed
+refused 1 open key "$label" sealed out
+head -c 15 "a sealed text" > sealed
+refused 1 open key "$label" sealed out
+{ cat "a sealed text"; printf x; } > sealed
+refused 1 open key "$label" sealed out
+# another sealed file is in its place, alone, and with its suite, nonce and label
+want 0 seal key "$label" -other twin
+cp twin sealed
+refused 1 open key "$label" sealed out
+cp -- -sealed sealed
+cp -- -sealed.how sealed.how
+refused 1 open key "$label" sealed out
+sed "s/^label=.*/label=$(printf %s "$label" | sed 's/[\\&/]/\\&/g')/" < -sealed.how > sealed.how
+refused 1 open key "$label" sealed out
+# what stands beside it is damaged or not there
+cp "a sealed text" sealed
+sed 's/^nonce=../nonce=/' "a sealed text.how" > sealed.how
+refused 2 open key "$label" sealed out
+sed 's/^suite=.*/suite=aes/' "a sealed text.how" > sealed.how
+refused 2 open key "$label" sealed out
+sed 's/^suite=.*/suite=aes-256-gcm/' "a sealed text.how" > sealed.how
+refused 1 open key "$label" sealed out
+rm sealed.how
+refused 3 open key "$label" sealed out
+# names, keys and files that fail
+refused 2 seal key "$label" "a text" sealed
+refused 2 seal no-key "$label" "a text" out
+refused 2 seal sealed "$label" "a text" out
+refused 2 seal key "$label" "a text"
+refused 2 check key "$label" "a text" out
+refused 3 seal key "$label" no-text.txt out
+refused 3 seal key "$label" "a text" no-folder/out
+(ulimit -f 16; refused 3 seal key "$label" "a text" out)
+echo "ok: files by a script, whole, damaged, cut and exchanged"
