@@ -1,13 +1,16 @@
 #!/bin/sh
-# Writes the man page and the completions of bash, zsh and fish from the help that the program prints.
+# Writes the man page and the completions of bash, zsh and fish from the help that the program prints, and from docs/
+# the table of statuses; and lays out the documents that a user of the program needs.
 set -eu
 if [ $# != 2 ]; then
     echo "usage: pages.sh PROGRAM SHARE
-  SHARE   gets man/man1, bash-completion/completions, zsh/site-functions and fish/vendor_completions.d" >&2
+  SHARE   gets man/man1, doc/aeadkit, bash-completion/completions, zsh/site-functions and
+          fish/vendor_completions.d" >&2
     exit 2
 fi
 program=$(realpath "$1")
 share=$2
+docs=$(cd "$(dirname "$0")/../docs" && pwd)
 room=$(mktemp -d)
 trap 'rm -rf "$room"' EXIT
 names=$("$program" help | awk '/^Commands:/ { on = 1; next } /^$/ { on = 0 } on && $1 != "help" { print $1 }')
@@ -51,6 +54,36 @@ words_of() {
     table "$1" | awk -F "$between" '$1 ~ /^-/ { print $1 }' | tr '\n' ' ' | sed 's/ $//'
 }
 
+# Lines of a document as text of the man page, but requests as they are: code is bold, and a link is its name.
+roff() {
+    sed -E -e '/^\.([PT]P)$/b' -e 's/\\/\\e/g; s/-/\\-/g; s/\^/\\(ha/g' -e 's/\[([^]]*)\]\([^)]*\)/\1/g' \
+        -e 's/`([^`]*)`/\\fB\1\\fR/g' -e "s/^([.'])/\\\\\\&\\1/"
+}
+
+# The part of a document, from heading to heading, that has a table with this header, as paragraphs and, for each row, a tagged
+# paragraph: its tag is the faults, which stand in column FAULT, the first or the third: part_of FILE HEADER FAULT
+part_of() {
+    awk -v header="$2" -v fault="$3" '
+        function cell(i) { gsub(/^ +| +$/, "", part[i + 1]); return part[i + 1] }
+        /^#/ { if (found) exit; text = ""; next }
+        $0 == header { found = 1; print text; text = ""; next }
+        found && /^\|-/ { next }
+        found && /^\|/ {
+            split($0, part, "|")
+            if (fault == 3 && cell(3) == "none") next
+            print ".TP"
+            if (fault == 1) print cell(1) " (status " cell(2) ")\n" (cell(3) == "" ? "see below" : cell(3))
+            else print cell(3) "\nexpected: " cell(1) "; found: " cell(2)
+            next
+        }
+        { line = /^$/ ? ".PP" : $0 }
+        found { print line }
+        !found { text = text (text == "" ? "" : "\n") line }
+        END { exit !found }
+    ' "$1" > "$room/part" || { echo "$1 has no table $2" >&2; exit 1; }
+    roff < "$room/part"
+}
+
 manual() {
     echo ".TH AEADKIT 1 \"\" \"$("$program" --version)\" \"User Commands\""
     echo '.SH NAME'
@@ -67,45 +100,65 @@ manual() {
         sed 's/\\/\\e/g; s/-/\\-/g; s/^\([.'"'"']\)/\\\&\1/' "$room/$name.help"
         echo '.fi'
     done
+    echo '.SH EXIT STATUS'
+    part_of "$docs/COMMAND.md" '| fault | status | meaning |' 1
+    echo '.SH FAULTS OF A VECTOR FILE'
+    part_of "$docs/VECTOR-FILES.md" '| expected | found | fault |' 3
+    echo '.SH SEE ALSO'
+    echo 'COMMAND.md, the manual, and VECTOR\-FILES.md, the format of vector files, in share/doc/aeadkit.'
+}
+
+# A document, of whose links those stay that lead to a file that is laid out with it.
+document() {
+    sed -E -e 's/\]\(((COMMAND\.md|VECTOR-FILES\.md|published\.vectors)[^)]*)\)/](<\1>)/g' \
+        -e 's/\[([^]]*)\]\([^<)][^)]*\)/\1/g' -e 's/\]\(<([^>]*)>\)/](\1)/g' "$docs/$1"
 }
 
 bash_completion() {
     echo '_aeadkit() {'
-    echo '    local word=${COMP_WORDS[COMP_CWORD]} before=${COMP_WORDS[COMP_CWORD-1]}'
+    echo '    local word=${COMP_WORDS[COMP_CWORD]} option=${COMP_WORDS[COMP_CWORD-1]} joined= words= files='
     echo '    COMPREPLY=()'
-    echo '    if [ "$COMP_CWORD" = 1 ]; then'
-    echo "        COMPREPLY=(\$(compgen -W \"$(echo $names) help --help --version\" -- \"\$word\"))"
-    echo '        return'
+    echo "    # Readline cuts words at =, if COMP_WORDBREAKS has it: --suite=aes is three words then."
+    echo '    if [ "$word" = = ]; then'
+    echo '        word='
+    echo '    elif [ "$option" = = ]; then'
+    echo '        option=${COMP_WORDS[COMP_CWORD-2]}'
+    echo '    elif [[ $word == --*=* ]]; then'
+    echo '        option=${word%%=*} joined=${word%%=*}= word=${word#*=}'
     echo '    fi'
-    echo '    case ${COMP_WORDS[1]}:$before in'
+    echo '    case $COMP_CWORD:${COMP_WORDS[1]}:$option in'
+    echo "    1:*) words='$(echo $names) help --help --version' ;;"
+    echo "    *:help:*) words='$(echo $names)' ;;"
     for name in $names; do
         table "$name" | while IFS=$between read -r word value text values; do
             case $value in
-            SUITE) echo "    $name:$word) COMPREPLY=(\$(compgen -W \"$values\" -- \"\$word\")); return ;;" ;;
-            IN | OUT) echo "    $name:$word) COMPREPLY=(\$(compgen -f -- \"\$word\")); return ;;" ;;
-            HEX) echo "    $name:$word) return ;;" ;;
+            SUITE) echo "    *:$name:$word) words='$values' ;;" ;;
+            IN | OUT) echo "    *:$name:$word) files=yes ;;" ;;
+            HEX) echo "    *:$name:$word) ;;" ;;
             esac
         done
-    done
-    echo '    esac'
-    echo '    case ${COMP_WORDS[1]} in'
-    echo "    help) COMPREPLY=(\$(compgen -W \"$(echo $names)\" -- \"\$word\")) ;;"
-    for name in $names; do
         files=
-        ! table "$name" | grep -q '^<FILE>' || files=' -f'
-        echo "    $name) COMPREPLY=(\$(compgen$files -W \"$(words_of "$name")\" -- \"\$word\")) ;;"
+        ! table "$name" | grep -q '^<FILE>' || files=' files=yes'
+        echo "    *:$name:*) words='$(words_of "$name")'$files ;;"
     done
     echo '    esac'
+    echo '    [ -z "$words" ] || mapfile -t COMPREPLY < <(compgen -W "$words" -- "$word")'
+    echo '    if [ -n "$files" ]; then'
+    echo '        compopt -o filenames'
+    echo '        mapfile -t -O "${#COMPREPLY[@]}" COMPREPLY < <(compgen -f -- "$word")'
+    echo '    fi'
+    echo '    COMPREPLY=("${COMPREPLY[@]/#/$joined}")'
     echo '}'
-    echo 'complete -o filenames -F _aeadkit aeadkit'
+    echo 'complete -F _aeadkit aeadkit'
 }
 
 zsh_completion() {
+    apostrophes="s/'/'\\\\''/g"
     echo '#compdef aeadkit'
     echo 'if (( CURRENT == 2 )); then'
     echo '    local -a commands=('
     for name in $names; do
-        echo "        '$name:$(about "$name")'"
+        echo "        '$name:$(about "$name" | sed "s/:/\\\\:/g; $apostrophes")'"
     done
     echo "        'help:Print help'"
     echo '    )'
@@ -121,7 +174,7 @@ zsh_completion() {
         echo "$name)"
         echo '    _arguments \'
         table "$name" | while IFS=$between read -r word value text values; do
-            text=$(echo "$text" | sed 's/[]:[]/\\&/g')
+            text=$(echo "$text" | sed "s/[]:[]/\\\\&/g; $apostrophes")
             case $word:$value in
             '<FILE>':*) echo "        '1:$text:_files' \\" ;;
             *:SUITE) echo "        '$word=[The suite]:suite:($values)' \\" ;;
@@ -136,9 +189,10 @@ zsh_completion() {
 }
 
 fish_completion() {
+    apostrophes="s/'/\\\\'/g"
     echo 'complete -c aeadkit -f'
     for name in $names; do
-        echo "complete -c aeadkit -n __fish_use_subcommand -a $name -d '$(about "$name")'"
+        echo "complete -c aeadkit -n __fish_use_subcommand -a $name -d '$(about "$name" | sed "$apostrophes")'"
     done
     echo "complete -c aeadkit -n __fish_use_subcommand -a help -d 'Print help'"
     echo "complete -c aeadkit -s h -l help -d 'Print help'"
@@ -147,6 +201,7 @@ fish_completion() {
     for name in $names; do
         begin="complete -c aeadkit -n '__fish_seen_subcommand_from $name'"
         table "$name" | while IFS=$between read -r word value text values; do
+            text=$(echo "$text" | sed "$apostrophes")
             long="-l ${word#--} -d '$text'"
             case $word:$value in
             --help:*) ;;
@@ -160,12 +215,17 @@ fish_completion() {
     done
 }
 
-# Writes what a function prints to a file: into FUNCTION FILE
+# Writes what a function prints to a file: into FILE FUNCTION WORD..
 into() {
-    mkdir -p "$(dirname "$share/$2")"
-    "$1" > "$share/$2"
+    file=$share/$1
+    shift
+    mkdir -p "$(dirname "$file")"
+    "$@" > "$file"
 }
-into manual man/man1/aeadkit.1
-into bash_completion bash-completion/completions/aeadkit
-into zsh_completion zsh/site-functions/_aeadkit
-into fish_completion fish/vendor_completions.d/aeadkit.fish
+into man/man1/aeadkit.1 manual
+into doc/aeadkit/COMMAND.md document COMMAND.md
+into doc/aeadkit/VECTOR-FILES.md document VECTOR-FILES.md
+[ ! -e "$docs/published.vectors" ] || into doc/aeadkit/published.vectors cat "$docs/published.vectors"
+into bash-completion/completions/aeadkit bash_completion
+into zsh/site-functions/_aeadkit zsh_completion
+into fish/vendor_completions.d/aeadkit.fish fish_completion

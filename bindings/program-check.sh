@@ -1,15 +1,49 @@
 #!/bin/sh
-# Seals, damages and opens files with the built program by examples/files.sh.
+# Looks at the man page, completes command lines, and seals, damages and opens files by examples/files.sh.
 set -eu
 if [ $# != 1 ]; then
     echo "usage: program-check.sh PREFIX" >&2
     exit 2
 fi
 prefix=$(cd "$1" && pwd)
+share=$prefix/share
 cd "$(dirname "$0")"
 here=$PWD
 room=$(mktemp -d)
 trap 'rm -rf "$room"' EXIT
+
+# The man page names each fault of the documents, and the documents lead to nothing that is not laid out with them.
+page=$share/man/man1/aeadkit.1
+for document in COMMAND VECTOR-FILES; do
+    for fault in $(awk -F '|' '/^\|/ { print $2; print $4 }' "../docs/$document.md" | grep -oE '`[A-Z][A-Za-z]+`' | tr -d '`'); do
+        grep -q "^\\\\fB.*$fault" "$page" || { echo "the man page has no $fault" >&2; exit 1; }
+    done
+done
+for document in "$share/doc/aeadkit/"*.md; do
+    for link in $(grep -oE '\]\([^)#]+' "$document" | cut -c 3-); do
+        [ -e "$share/doc/aeadkit/$link" ] || { echo "$document leads to $link, which is not there" >&2; exit 1; }
+    done
+done
+if groff --version > "$room/log" 2>&1; then
+    groff -man -Tutf8 -ww "$page" > "$room/page" 2> "$room/log"
+    [ ! -s "$room/log" ] || { cat "$room/log" >&2; exit 1; }
+fi
+echo "ok: the man page has each fault"
+
+if bash --version > "$room/log" 2>&1; then
+    bash completion-check.bash "$share/bash-completion/completions/aeadkit"
+fi
+if fish --version > "$room/log" 2>&1; then
+    touch "$room/my file"
+    completed=$(cd "$room" && fish -c "source $share/fish/vendor_completions.d/aeadkit.fish
+        complete -C 'aeadkit seal --suite=ch' | string split -f 1 \t
+        complete -C 'aeadkit seal-file --in my'
+        complete -C 'aeadkit seal-file --in=my'")
+    [ "$completed" = "--suite=chacha20-poly1305
+my file
+--in=my file" ] || { echo "fish completes to $completed" >&2; exit 1; }
+    echo "ok: completion in fish keeps names with spaces, and works after ="
+fi
 
 # Files: want STATUS WORD.. of files.sh
 cd "$room"
