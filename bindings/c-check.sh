@@ -1,6 +1,6 @@
 #!/bin/sh
-# Measures the stack of each call in C, loads two versions of the library into one process, and seals, damages and opens
-# backups with c/backup.c.
+# Compiles the header for each standard of C, measures the stack of each call, loads two versions of the library into one
+# process, and seals, damages and opens backups with c/backup.c.
 set -eu
 if [ $# != 1 ]; then
     echo "usage: c-check.sh PREFIX" >&2
@@ -11,7 +11,18 @@ out=$prefix/lib
 cd "$(dirname "$0")"
 room=$(mktemp -d)
 trap 'rm -rf "$room"' EXIT
-strict="-std=c11 -O2 -Wall -Wextra -Werror -pedantic -I$prefix/include"
+warnings="-Wall -Wextra -Werror -pedantic -I$prefix/include"
+strict="-std=c11 -O2 $warnings"
+
+# The header is C from C99 on, for each compiler that is there with the headers of C.
+echo '#include <stdio.h>' > "$room/empty.c"
+for compiler in cc gcc clang; do
+    if "$compiler" -fsyntax-only "$room/empty.c" > "$room/log" 2>&1; then
+        for standard in c99 c11 c17; do
+            "$compiler" -std=$standard $warnings -fsyntax-only c/example.c
+        done
+    fi
+done
 
 # The stack, over the archive, and over the shared library, of which the loader takes the build for AVX2 if it is there and the
 # processor has it.
