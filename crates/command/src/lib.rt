@@ -5,6 +5,7 @@
 mod arguments;
 mod commands;
 mod failure;
+mod file_intake;
 mod files;
 mod help;
 mod new_file;

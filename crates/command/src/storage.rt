@@ -3,7 +3,8 @@ ghost use Rattle.std.specs.Prelude.{◌≡◌, ℕ, Bool, true, List, Some, None
 ghost use Rattle.std.specs.Io.KnownBytes.{Keeps};
 ghost use Rattle.std.specs.declared.option.Option.{Option};
 
-use octets::{FromRead, Intake, Outlet, ToWrite};
+use crate::file_intake::{FileIntake, regular_length};
+use octets::{Intake, Outlet, ToWrite};
 use std::alloc::Allocator;
 use std::fs::OpenFile;
 use std::io::{BufReader, ErrorKind};
@@ -50,7 +51,8 @@ pub trait Storage {
         ensures blame { IfErr result (λ _. make_may_fail self.now ≡ true) };
 }
 
-/// The files that a runtime reaches. Each reading allocates a buffer.
+/// The files that a runtime reaches. Each reading allocates a buffer. A reading of a regular file fails if the file
+/// ends before the length that it had when it was opened.
 #[derive(Drop)]
 pub struct Disk<'a, R: Files, A: Allocator> {
     pub runtime: &'a R,
@@ -58,13 +60,15 @@ pub struct Disk<'a, R: Files, A: Allocator> {
 }
 
 impl<R: Files, A: Allocator + Copy> Storage for Disk<'_, R, A> {
-    type Input = FromRead<BufReader<R::File, A>>;
+    type Input = FileIntake<BufReader<R::File, A>>;
 
     type Output = ToWrite<R::File>;
 
-    fn open(&self, path: &str, _reading: u8) -> io::Result<FromRead<BufReader<R::File, A>>> {
+    fn open(&self, path: &str, _reading: u8) -> io::Result<FileIntake<BufReader<R::File, A>>> {
         let file = fs::open(self.runtime, path)?;
-        Ok(FromRead::new(BufReader::with_capacity(self.alloc, AHEAD, file)?))
+        let length = regular_length(&file);
+        let reader = BufReader::with_capacity(self.alloc, AHEAD, file)?;
+        Ok(FileIntake::new(reader, length))
     }
 
     fn create(&self, path: &str) -> io::Result<ToWrite<R::File>> {

@@ -56,14 +56,19 @@ const NOTHING: &str = "aeadkit_files/nothing";
 
 const UNMADE: &str = "aeadkit_files/unmade";
 
+const LONG: &str = "aeadkit_files/long";
+
+const LONG_TWICE: &str = "aeadkit_files/long_twice";
+
 // Makes a file of these bytes.
 fn is_made(rt: &(impl Abort + Files), path: &str, bytes: &[u8]) {
     shows(rt, fs::write(rt, path, bytes).is_ok(), path);
 }
 
-// A status, a fault and the words that have them: a file is sealed and opened again; bytes that are no sealing make no
-// file, and an empty text makes an empty one; a path that leads nowhere is `Read` for IN, and `Write` for OUT; a folder,
-// a path of no file and an empty one are `Read`.
+// A status, a fault and the words that have them. A file is sealed and opened again; a forged one makes no OUT; an
+// empty text makes an empty OUT. A path that leads nowhere is `Read` for IN, and `Write` for OUT. A folder, a path of
+// no file and an empty one are `Read`; so is a long file that is sealed onto another name of it, in one reading or in
+// two, since it ends before the length that it had.
 const ROWS: &str = "\
 0 - seal-file --suite chacha20-poly1305 --key 808182838485868788898a8b8c8d8e8f909192939495969798999a9b9c9d9e9f \
     --nonce 070000004041424344454647 --aad 50515253c0c1c2c3c4c5c6c7 --in aeadkit_files/text --out aeadkit_files/sealed
@@ -76,6 +81,10 @@ const ROWS: &str = "\
     --nonce 000000000000000000000000 --in aeadkit_files/none/file --out aeadkit_files/text
 3 Write seal-file --suite aes-128-gcm --key 00000000000000000000000000000000 \
     --nonce 000000000000000000000000 --in aeadkit_files/text --out aeadkit_files/none/file
+3 Read seal-file --suite aes-128-gcm --key 00000000000000000000000000000000 \
+    --nonce 000000000000000000000000 --in aeadkit_files/long --out ./aeadkit_files/long
+3 Read seal-file --suite aes-128-gcm-siv --key 00000000000000000000000000000000 \
+    --nonce 000000000000000000000000 --in aeadkit_files/long_twice --out ./aeadkit_files/long_twice
 3 Read check aeadkit_files
 3 Read check aeadkit_files/unmade
 3 Read check -";
@@ -103,6 +112,10 @@ fn makes(rt: &(impl Abort + Alloc<A = Global> + Files)) {
         is_made(rt, path, &bytes(rt, digits));
     }
     is_made(rt, VECTORS, TWO_RECORDS.as_bytes());
+    let long = vec![in rt.alloc(); 0; 100_000].expect(rt, "memory");
+    for path in [LONG, LONG_TWICE] {
+        is_made(rt, path, &long);
+    }
 }
 
 // Runs the rows.
