@@ -1,4 +1,4 @@
-//! One file in memory, and a writer that fails.
+//! One file in memory, a writer that fails, and one that has to be flushed.
 ghost use Rattle.std.specs.Prelude.{◌≤◌, IfOk};
 
 use command::Storage;
@@ -86,6 +86,28 @@ impl io::Write for FailsAfter {
     }
 
     fn flush(&mut self) -> io::Result<()> {
+        Ok(())
+    }
+}
+
+/// A writer that takes all bytes. They wait until it is flushed, which may fail.
+#[derive(Drop)]
+pub struct Waiting {
+    pub count: usize,
+    pub flush_fails: bool,
+}
+
+impl io::Write for Waiting {
+    fn write(&mut self, buf: &[u8]) -> io::Result<usize> {
+        self.count = self.count.saturating_add(buf.len());
+        Ok(buf.len())
+    }
+
+    fn flush(&mut self) -> io::Result<()> {
+        if self.flush_fails {
+            return Err(io::Error::from(io::ErrorKind::StorageFull));
+        }
+        self.count = 0;
         Ok(())
     }
 }

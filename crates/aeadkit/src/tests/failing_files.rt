@@ -1,8 +1,9 @@
 //! The file commands, if a call to their files goes wrong.
+use super::devices::NO_FILES;
 use super::files::{bytes, file_words};
 use super::published::{CHACHA, GCM_SIV, Vector};
 use super::scripted::{Log, Script, Scripted, Wrong};
-use super::{names, shows_at};
+use super::{names, runs_over, shows_at};
 use command::run;
 use std::alloc::Global;
 use std::process::Abort;
@@ -95,5 +96,30 @@ fn calls_that_go_wrong(rt: HostRuntime) {
     ] {
         each_call_of(&rt, CHACHA, 0, how);
         each_call_of(&rt, GCM_SIV, 1, how);
+    }
+}
+
+// A fault, and a suite, a key, a nonce and associated data that have it, with an IN that can't be opened.
+const REFUSED: &str = "\
+UnknownSuite des 0 0 0
+BadHex aes-128-gcm 0 00 -
+BadHex aes-128-gcm 00 0 -
+BadHex aes-128-gcm 00 00 0
+KeyLength aes-128-gcm 00 00 -
+NonceLength aes-128-gcm 00000000000000000000000000000000 00 -
+Read aes-128-gcm 00000000000000000000000000000000 000000000000000000000000 -";
+
+// The inputs are looked at before the files: the suite's name, the hex of key, nonce and associated data, the key's
+// length, and the nonce's.
+#[test]
+fn inputs_before_files(rt: HostRuntime) {
+    for line in REFUSED.lines() {
+        let (fault, inputs) = line.split_once(' ').unwrap_or(("", line));
+        let vector = Vector::of(inputs);
+        let status = if fault == "Read" { 3 } else { 2 };
+        for name in ["seal-file", "open-file"] {
+            let words = file_words(name, &vector, "a", "b");
+            runs_over(&rt, &NO_FILES, &words, status, None, fault);
+        }
     }
 }

@@ -65,10 +65,10 @@ fn is_made(rt: &(impl Abort + Files), path: &str, bytes: &[u8]) {
     shows(rt, fs::write(rt, path, bytes).is_ok(), path);
 }
 
-// A status, a fault and the words that have them. A file is sealed and opened again; a forged one makes no OUT; an
-// empty text makes an empty OUT. A path that leads nowhere is `Read` for IN, and `Write` for OUT. A folder, a path of
-// no file and an empty one are `Read`; so is a long file that is sealed onto another name of it, in one reading or in
-// two, since it ends before the length that it had.
+// A status, a fault and the words that have them. A file is sealed and opened again; a forged one makes no OUT, and
+// leaves one that is there; an empty text makes an empty OUT. A path that leads nowhere is `Read` for IN, and `Write`
+// for OUT. A folder, a path of no file and an empty one are `Read`; so is a long file that is sealed onto another name
+// of it, in one reading or in two, since it ends before the length that it had.
 const ROWS: &str = "\
 0 - seal-file --suite chacha20-poly1305 --key 808182838485868788898a8b8c8d8e8f909192939495969798999a9b9c9d9e9f \
     --nonce 070000004041424344454647 --aad 50515253c0c1c2c3c4c5c6c7 --in aeadkit_files/text --out aeadkit_files/sealed
@@ -76,6 +76,8 @@ const ROWS: &str = "\
     --nonce 070000004041424344454647 --aad 50515253c0c1c2c3c4c5c6c7 --in aeadkit_files/sealed --out aeadkit_files/opened
 1 TagMismatch open-file --suite chacha20-poly1305 --key 808182838485868788898a8b8c8d8e8f909192939495969798999a9b9c9d9e9f \
     --nonce 070000004041424344454647 --aad 50515253c0c1c2c3c4c5c6c7 --in aeadkit_files/forged --out aeadkit_files/unmade
+1 TagMismatch open-file --suite chacha20-poly1305 --key 808182838485868788898a8b8c8d8e8f909192939495969798999a9b9c9d9e9f \
+    --nonce 070000004041424344454647 --aad 50515253c0c1c2c3c4c5c6c7 --in aeadkit_files/forged --out aeadkit_files/text
 0 - open-file --suite aes-128-gcm --key 00000000000000000000000000000000 --nonce 000000000000000000000000 --in aeadkit_files/empty --out aeadkit_files/nothing
 3 Read seal-file --suite aes-128-gcm --key 00000000000000000000000000000000 \
     --nonce 000000000000000000000000 --in aeadkit_files/none/file --out aeadkit_files/text
@@ -104,7 +106,7 @@ fn checks(rt: &(impl Abort + Alloc<A = Global> + Files)) {
     runs_over(rt, &files, &["check", VECTORS], 4, None, "OutOfMemory");
 }
 
-// Makes the files that the rows read.
+// Makes the files that the rows read, and two that they write: both are longer than what is written there.
 fn makes(rt: &(impl Abort + Alloc<A = Global> + Files)) {
     let text = Vector::of(CHACHA).text;
     let empty = Vector::of(GCM).sealed;
@@ -113,7 +115,7 @@ fn makes(rt: &(impl Abort + Alloc<A = Global> + Files)) {
     }
     is_made(rt, VECTORS, TWO_RECORDS.as_bytes());
     let long = vec![in rt.alloc(); 0; 100_000].expect(rt, "memory");
-    for path in [LONG, LONG_TWICE] {
+    for path in [LONG, LONG_TWICE, SEALED, NOTHING] {
         is_made(rt, path, &long);
     }
 }

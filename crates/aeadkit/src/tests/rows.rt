@@ -1,10 +1,10 @@
 //! Words that print a line, and words that are refused.
 use super::checks::CHECK;
-use super::devices::{FailsAfter, NO_FILES, OneFile};
+use super::devices::{FailsAfter, NO_FILES, OneFile, Waiting};
 use super::published::{PADDED, PADDED_LENGTHS, WRAPPINGS, Wrapping, word};
 use super::vector_files::TWO_RECORDS;
 use super::{prints, runs_into, runs_row, shows, words_after};
-use command::{VERSION, run};
+use command::{Storage, VERSION, run};
 use std::alloc::Global;
 use std::io;
 use std::process::Abort;
@@ -76,12 +76,14 @@ const OF_WORDS: &str = "\
 2 Words help frob
 2 Words seal --version";
 
-// One path for both files.
+// One path for both files, whatever the suite is.
 const OF_PATHS: &str = "\
 2 Words seal-file --suite chacha20-poly1305 --key 808182838485868788898a8b8c8d8e8f909192939495969798999a9b9c9d9e9f \
     --nonce 070000004041424344454647 --aad 50515253c0c1c2c3c4c5c6c7 --in a --out a
 2 Words open-file --suite chacha20-poly1305 --key 808182838485868788898a8b8c8d8e8f909192939495969798999a9b9c9d9e9f \
-    --nonce 070000004041424344454647 --aad 50515253c0c1c2c3c4c5c6c7 --in a --out a";
+    --nonce 070000004041424344454647 --aad 50515253c0c1c2c3c4c5c6c7 --in a --out a
+2 Words seal-file --suite des --key 0 --nonce 0 --in a --out a
+2 Words open-file --suite des --key 0 --nonce 0 --in a --out a";
 
 #[test]
 fn refused_words(rt: HostRuntime) {
@@ -177,7 +179,20 @@ const UNPRINTED: [(&[&str], io::ErrorKind, u8, &str); 5] = [
     (&CHECK, io::ErrorKind::StorageFull, 3, "Write"),
 ];
 
-// A failing standard output is `Write`, and an allocation failure there is `OutOfMemory`.
+// Words print to a standard output that has to be flushed, which waits for nothing in the end. A failing flush is
+// `Write`.
+fn are_flushed<F: Storage>(rt: &(impl Abort + Alloc<A = Global>), files: &F, words: &[&str]) {
+    for (flush_fails, status, fault) in [(false, 0, ""), (true, 3, "Write")] {
+        let mut out = Waiting {
+            count: 0,
+            flush_fails,
+        };
+        runs_into(rt, files, words, &mut out, status, fault);
+        shows(rt, flush_fails != (out.count == 0), "a flush");
+    }
+}
+
+// A failing standard output is `Write`, and an allocation failure there is `OutOfMemory`. It is flushed.
 #[test]
 fn failing_output(rt: HostRuntime) {
     let files = OneFile {
@@ -191,6 +206,7 @@ fn failing_output(rt: HostRuntime) {
             kind: *kind,
         };
         runs_into(&rt, &files, words, &mut out, *status, fault);
+        are_flushed(&rt, &files, words);
     }
 }
 

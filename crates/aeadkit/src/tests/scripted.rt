@@ -27,6 +27,8 @@ pub struct Log {
     pub reading: Cell<Option<u8>>,
     /// Whether the written file was made.
     pub made: Cell<bool>,
+    /// Whether it was synced after its last byte.
+    pub synced: Cell<bool>,
     /// The contents of the written file.
     pub written: RefCell<Vec<u8>>,
 }
@@ -38,14 +40,15 @@ impl Log {
             calls: Cell::new(0),
             reading: Cell::new(None),
             made: Cell::new(false),
+            synced: Cell::new(false),
             written: RefCell::new(Vec::new(alloc)),
         }
     }
 
-    /// Whether the written file was made, and holds these bytes.
+    /// Whether the written file was made and synced, and holds these bytes.
     pub fn holds(&self, bytes: &[u8]) -> bool {
         match self.written.try_borrow() {
-            Ok(held) => self.made.get() && held.as_slice() == bytes,
+            Ok(held) => self.made.get() && self.synced.get() && held.as_slice() == bytes,
             Err(_) => false,
         }
     }
@@ -153,6 +156,7 @@ impl<'b, 'l> Storage for Scripted<'b, 'l> {
 
     fn sync(&self, _output: &ToWrite<Sink<'l>>) -> io::Result<()> {
         let _ = self.script.step(None, 0)?;
+        self.script.log.synced.set(true);
         Ok(())
     }
 }
@@ -171,6 +175,7 @@ impl io::Read for Source<'_, '_> {
 impl io::Write for Sink<'_> {
     fn write(&mut self, buf: &[u8]) -> io::Result<usize> {
         let n = self.script.step(None, buf.len())?;
+        self.script.log.synced.set(false);
         let Ok(mut held) = self.script.log.written.try_borrow_mut() else {
             return Err(io::Error::from(io::ErrorKind::Other));
         };

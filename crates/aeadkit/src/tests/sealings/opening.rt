@@ -3,7 +3,7 @@ use super::super::published::{CHACHA, GCM_SIV, word};
 use super::super::shows;
 use super::samples::{Sample, first, flip, sample_of};
 use aead::open_stream;
-use octets::{Fault, ScriptIntake, ScriptOutlet, Step};
+use octets::{Fault, ScriptIntake, ScriptOutlet, SliceIntake, Step, VecOutlet};
 use std::alloc::Global;
 use std::process::Abort;
 
@@ -136,9 +136,29 @@ fn opens(rt: &(impl Abort + Alloc<A = Global>), sample: &Sample, row: &str) {
     );
 }
 
+// Opens sealed bytes of a slice into a vector.
+fn opens_slices(rt: &(impl Abort + Alloc<A = Global>), sample: &Sample) {
+    let mut out = VecOutlet::new(rt.alloc());
+    let answer = open_stream(
+        &sample.cipher,
+        &sample.nonce,
+        &sample.aad,
+        &mut SliceIntake::new(&sample.sealed),
+        &mut SliceIntake::new(&sample.sealed),
+        &mut SliceIntake::new(&sample.sealed),
+        &mut out,
+    );
+    shows(
+        rt,
+        answer.is_ok() && out.bytes() == sample.text.as_slice(),
+        "slices",
+    );
+}
+
 #[test]
 fn readings_and_devices(rt: HostRuntime) {
     let sample = sample_of(&rt, CHACHA);
+    opens_slices(&rt, &sample);
     for row in OF_CHACHA.lines() {
         opens(&rt, &sample, row);
     }
