@@ -127,6 +127,7 @@ fi
 if [ -e "$prefix/bin/aeadkit" ]; then
     [ "$("$prefix/bin/aeadkit" --version)" = "aeadkit $version" ]
     grep -q "AEADKIT 1 .*aeadkit $version" "$prefix/share/man/man1/aeadkit.1"
+    ./streams.sh "$prefix/bin/aeadkit"
     shells=
     for file in bash-completion/completions/aeadkit zsh/site-functions/_aeadkit fish/vendor_completions.d/aeadkit.fish; do
         shell=${file%%[-/]*}
