@@ -1,4 +1,5 @@
-// Whether a record agrees with its standard: what its sealed bytes hold is compared with its text.
+//! Whether a record of a vector file agrees with its standard: what its sealed bytes hold is compared with its text.
+
 ghost use Rattle.std.specs.Prelude.{◌≡◌, ◌↔◌, Some, IfOk, IsTrue, length};
 ghost use Rattle.aes.specs.Cipher.{IsKeyLength};
 ghost use Rattle.aead.specs.AnyCiphers.{keyed_of};

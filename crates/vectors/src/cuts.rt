@@ -1,4 +1,5 @@
-// The value of a `cuts` line.
+//! The value of a `cuts` line, which says where a text is cut into pieces.
+
 ghost use Rattle.std.specs.Prelude.{◌≡◌, ◌<◌, ◌==◌, [], ◌∷◌, length, IfSome, map};
 ghost use Rattle.std.specs.Option.{option_map_or};
 ghost use Rattle.std.specs.List.{slice_split};

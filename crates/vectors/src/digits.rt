@@ -1,4 +1,5 @@
-// Hexadecimal digits and the bytes that they spell.
+//! Hexadecimal digits and the bytes that they spell.
+
 ghost use Rattle.std.specs.Prelude.{◌≡◌, ◌<◌, true, Some, IsTrue};
 ghost use Rattle.hex.specs.Hex.{is_hex_digit, hex_digit_value};
 ghost use Rattle.vectors.specs.Faults.{is_hex};

@@ -1,4 +1,5 @@
-// Why a file has no report.
+//! Why a vector file has no report: the first fault and its line.
+
 ghost use Rattle.std.specs.Prelude.{◌≡◌};
 
 use std::alloc::AllocError;

@@ -1,4 +1,5 @@
-// The parts of a line.
+//! The parts of a line of a vector file: a name and a value.
+
 ghost use Rattle.std.specs.Prelude.{◌≡◌, option_map};
 ghost use Rattle.std.specs.List.{list_all};
 ghost use Rattle.hex.specs.Hex.{is_hex_digit};

@@ -1,4 +1,16 @@
 //! Vector files: which records a file lists, and whether each agrees with its standard.
+//!
+//! From `crates/vectors/src/uses.rt`:
+//! ```
+//! // Whether each record of a vector file agrees with its standard.
+//! fn all_agree<A: Allocator>(alloc: A, file: &[u8]) -> Result<bool, VectorFault>
+//!     ensures { IfOk result (λ yes. IsTrue yes
+//!         → (count : ℕ) × ((1 ≤ count) × IsReport (lines_of file.now) count [])) }
+//! {
+//!     let report = check(alloc, file)?;
+//!     Ok(report.yes())
+//! }
+//! ```
 #![tactic(auto)]
 
 ghost use Rattle.vectors.specs.Grammar.{HasOneReading};

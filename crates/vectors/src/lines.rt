@@ -1,4 +1,5 @@
-// The lines of a file, one after the other.
+//! The lines of a vector file, one after the other.
+
 ghost use Rattle.std.specs.Prelude.{◌≡◌, ◌↔◌, ◌∷◌, ◌<◌, [], IfSome, IsNone, length, position, ◌==◌};
 ghost use Rattle.std.specs.Str.Lines.{strip_carriage_return};
 ghost use Rattle.vectors.specs.Lines.{lines_of, trim_end, trim_start};

@@ -1,4 +1,5 @@
-// A place in the file: which line may come next.
+//! A place in a vector file, and the step that one line makes from it: which line may come next.
+
 ghost use Rattle.std.specs.Prelude.{◌≡◌, ◌≤◌};
 ghost use Rattle.vectors.specs.Grammar.{value_line, may_cut, unread, with_field};
 ghost use Rattle.vectors.specs.Faults.{is_named};

@@ -1,4 +1,5 @@
-// A file, read once from its first byte to its last.
+//! A vector file, read once from its first byte to its last.
+
 ghost use Rattle.std.specs.Prelude.{◌≡◌, ℕ, List, IfOk, IfErr};
 ghost use Rattle.vectors.specs.Lines.{lines_of};
 ghost use Rattle.vectors.specs.Grammar.{Record, IsFile};

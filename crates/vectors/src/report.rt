@@ -1,4 +1,5 @@
-// How many records a file has, and which of them disagree.
+//! The report of a vector file: how many records it has, and which of them disagree.
+
 ghost use Rattle.std.specs.Prelude.{◌≡◌, ◌↔◌, ◌+◌, ◌<◌, ◌≤◌, ◌^◌, [], ◌∷◌, ◌++◌, OnOk, IsTrue, if◌then◌else◌};
 ghost use Rattle.vectors.specs.Code.Views.{entry_view};
 ghost use Rattle.vectors.specs.Agreement.{IsSized};

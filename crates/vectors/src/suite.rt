@@ -1,4 +1,5 @@
-// The formats, their suites, and the fields of a suite's records.
+//! The formats of vector files, their suites, and the fields of a suite's records.
+
 ghost use Rattle.std.specs.Prelude.{◌≡◌, ◌≤◌};
 ghost use Rattle.std.specs.List.{find};
 ghost use Rattle.std.specs.Str.{bytes_eq};
