@@ -11,7 +11,8 @@ The library is the one that the variable AEADKIT names, else the package's own, 
 import ctypes
 import enum
 import os
-from typing import Optional, Union
+import threading
+from typing import NoReturn, Optional, Union
 
 __all__ = ["Suite", "Key", "Sealer", "Opener", "SivSealer", "seal", "open", "wrap", "unwrap", "wrap_padded", "unwrap_padded",
            "Refused", "KeyLength", "NonceLength", "TextTooLong", "AadTooLong", "TooShort", "TagMismatch", "WrapLength",
@@ -189,14 +190,15 @@ def _done(status):
         raise _FAULTS[status]()
 
 
-def _masked(call, state, piece):
-    """What a call on a state makes of a copy of the piece."""
+def _masked(run, call, piece):
+    """What a call on the struct that run has makes of a copy of the piece."""
     with memoryview(piece) as view:
         text = bytearray(view.cast("B") if view.c_contiguous else view.tobytes())
     place = ctypes.c_ubyte.from_buffer(text or bytearray(1))
-    status = call(ctypes.addressof(state), ctypes.addressof(place), len(text))
-    del place
-    _done(status)
+    try:
+        run(call, ctypes.addressof(place), len(text))
+    finally:
+        del place
     return text
 
 
@@ -227,115 +229,202 @@ def open(suite: int, key: Buffer, nonce: Buffer, aad: Optional[Buffer], sealed: 
     return text
 
 
+# Stands for this process: a forked child puts another object in its place.
+_process = object()
+
+
+def _enter_child() -> None:
+    global _process
+    _process = object()
+
+
+os.register_at_fork(after_in_child=_enter_child)
+
+
+class _Struct:
+    """The memory of one of the library's structs, and the lock under which a call changes it."""
+
+    def __init__(self, memory) -> None:
+        self._memory = memory
+        self.address = ctypes.addressof(memory)
+        self.lock = threading.RLock()
+        self.process = _process
+
+    def __reduce__(self) -> NoReturn:
+        raise TypeError("a struct of the library cannot be copied or pickled")
+
+
+class _InPieces:
+    """A struct of the library that its calls change, one call at a time: ctypes lets other threads run during a call.
+
+    It has no copies, and a process that was forked from its own cannot use it: two sealings that go on from one struct would
+    seal two texts under one nonce.
+    """
+
+    _struct: Optional[_Struct] = None
+
+    def _run(self, call, *arguments) -> None:
+        struct = self._struct
+        if struct is None:
+            raise NotBegun(f"{type(self).__name__}.__init__ has not begun it")
+        if struct.process is not _process:
+            raise NotBegun(f"this {type(self).__name__} belongs to the process that this one was forked from")
+        with struct.lock:
+            status = call(struct.address, *arguments)
+        _done(status)
+
+    def __reduce__(self) -> NoReturn:
+        raise TypeError(f"{type(self).__name__} objects cannot be copied or pickled: {self._no_copies}")
+
+
 class Key:
-    """A suite with a key, whose key schedule is made once. Threads may share it. The nonce of each sealing is 12 bytes long,
-    and no other sealing under the key may have it."""
+    """A suite with a key, whose key schedule is made once. Threads may share it, and so may a process that is forked: a Key
+    does not change once it is made, so its copy is the Key itself. It cannot be pickled, since the key would stand in the
+    pickle. The nonce of each sealing is 12 bytes long, and no other sealing under the key may have it."""
+
+    _struct: Optional[_Struct] = None
 
     def __init__(self, suite: int, key: Buffer) -> None:
-        self._state = _KeyState()
-        self._place = (ctypes.addressof(self._state),)
-        _done(_key_init(*self._place, _suite_of(suite), *_slices(key)))
+        if self._struct is not None:
+            raise TypeError("a Key cannot be changed: make another one")
+        struct = _Struct(_KeyState())
+        _done(_key_init(struct.address, _suite_of(suite), *_slices(key)))
+        self._struct = struct
+
+    def _place(self) -> int:
+        """The address of the struct."""
+        if self._struct is None:
+            raise NotBegun(f"{type(self).__name__}.__init__ has not made the key")
+        return self._struct.address
+
+    def __copy__(self) -> "Key":
+        return self
+
+    def __deepcopy__(self, memo: object) -> "Key":
+        return self
+
+    def __reduce__(self) -> NoReturn:
+        raise TypeError(f"{type(self).__name__} objects cannot be pickled: the key would be written to the pickle")
 
     def seal(self, nonce: Buffer, text: Buffer, aad: Optional[Buffer] = None) -> bytearray:
         """The sealing of a text: the ciphertext, then a tag of 16 bytes."""
-        return _run(_seal_with, self._place, (nonce, b"" if aad is None else aad), 0, text, _TAG_BYTES)
+        return _run(_seal_with, (self._place(),), (nonce, b"" if aad is None else aad), 0, text, _TAG_BYTES)
 
     def open(self, nonce: Buffer, sealed: Buffer, aad: Optional[Buffer] = None) -> bytearray:
         """The text that the sealed bytes are the sealing of."""
-        text = _run(_open_with, self._place, (nonce, b"" if aad is None else aad), 0, sealed, 0)
+        text = _run(_open_with, (self._place(),), (nonce, b"" if aad is None else aad), 0, sealed, 0)
         del text[-_TAG_BYTES:]
         return text
 
     def sealer(self, nonce: Buffer, aad: Optional[Buffer] = None) -> "Sealer":
         """A sealing in pieces, of no text yet. UnknownSuite for AES-GCM-SIV, which reads a text twice."""
+        struct = _Struct(_State())
+        _done(_sealer_init_with(struct.address, self._place(), *_slices(nonce, b"" if aad is None else aad)))
         sealer = Sealer.__new__(Sealer)
-        sealer._state = _State()
-        given = _slices(nonce, b"" if aad is None else aad)
-        _done(_sealer_init_with(ctypes.addressof(sealer._state), *self._place, *given))
+        sealer._struct = struct
         return sealer
 
 
-class Sealer:
+class Sealer(_InPieces):
     """A sealing in pieces, under ChaCha20-Poly1305 or AES-GCM: the ciphertext of all pieces, then the tag, is what seal makes
-    of the whole text, for any split into pieces. UnknownSuite for AES-GCM-SIV, which reads a text twice."""
+    of the whole text, for any split into pieces. UnknownSuite for AES-GCM-SIV, which reads a text twice.
+
+    Calls from several threads come one after the other, and the pieces are joined in that order. A Sealer cannot be copied or
+    pickled, and a process that is forked cannot go on with it: NotBegun."""
+
+    _no_copies = "two copies would seal two texts under one nonce"
 
     def __init__(self, suite: int, key: Buffer, nonce: Buffer, aad: Optional[Buffer] = None) -> None:
-        self._state = _State()
-        given = _slices(key, nonce, b"" if aad is None else aad)
-        _done(_sealer_init(ctypes.addressof(self._state), _suite_of(suite), *given))
+        self._struct = None
+        struct = _Struct(_State())
+        _done(_sealer_init(struct.address, _suite_of(suite), *_slices(key, nonce, b"" if aad is None else aad)))
+        self._struct = struct
 
     def update(self, piece: Buffer) -> bytearray:
         """The ciphertext of the next piece of the text, which may have any length."""
-        return _masked(_sealer_update, self._state, piece)
+        return _masked(self._run, _sealer_update, piece)
 
     def finish(self) -> bytes:
         """The tag of the text, of 16 bytes. After it the sealer takes no more: NotBegun."""
         tag = ctypes.create_string_buffer(_TAG_BYTES)
-        _done(_sealer_finish(ctypes.addressof(self._state), ctypes.addressof(tag)))
+        self._run(_sealer_finish, ctypes.addressof(tag))
         return tag.raw
 
 
-class Opener:
+class Opener(_InPieces):
     """An opening in pieces, under every suite, of a sealing with a tag of 16 bytes, in two passes over the
     ciphertext: check each piece, then checked; then update each piece again, then finish. The passes may be cut into other
-    pieces. No text comes before the first pass was found to be over a sealing."""
+    pieces. No text comes before the first pass was found to be over a sealing.
+
+    Calls from several threads come one after the other. An Opener cannot be copied or pickled, and a process that is forked
+    cannot go on with it: NotBegun."""
+
+    _no_copies = "a copy would hold the message's key too, and a pickle would write it; begin another Opener"
 
     def __init__(self, suite: int, key: Buffer, nonce: Buffer, tag: Buffer, aad: Optional[Buffer] = None) -> None:
-        self._state = _OpenerState()
+        self._struct = None
+        struct = _Struct(_OpenerState())
         last = _bytes_of(tag)
         if len(last) != _TAG_BYTES:
             raise ValueError("the tag is not 16 bytes long")
         given = _slices(key, nonce, b"" if aad is None else aad)
-        _done(_opener_init(ctypes.addressof(self._state), _suite_of(suite), *given, last))
+        _done(_opener_init(struct.address, _suite_of(suite), *given, last))
+        self._struct = struct
 
     def check(self, piece: Buffer) -> None:
         """Takes in the next piece of the ciphertext in the first pass."""
-        _done(_opener_check(ctypes.addressof(self._state), *_slices(piece)))
+        self._run(_opener_check, *_slices(piece))
 
     def checked(self) -> None:
         """Ends the first pass. TagMismatch if its pieces and the tag are the sealing of no text; that ends the opening."""
-        _done(_opener_checked(ctypes.addressof(self._state)))
+        self._run(_opener_checked)
 
     def update(self, piece: Buffer) -> bytearray:
         """The text of the next piece of the ciphertext in the second pass. SourceChanged if that would be longer than the
         first; NotBegun before the first pass is over."""
-        return _masked(_opener_update, self._state, piece)
+        return _masked(self._run, _opener_update, piece)
 
     def finish(self) -> None:
         """Ends the second pass. SourceChanged if its pieces and the tag are the sealing of no text: what update gave is then
         to be thrown away."""
-        _done(_opener_finish(ctypes.addressof(self._state)))
+        self._run(_opener_finish)
 
 
-class SivSealer:
+class SivSealer(_InPieces):
     """A sealing in pieces under AES-GCM-SIV, whose tag is over the text, by two readings of it: absorb each piece, then tag;
     then update each piece again, then finish. The readings may be cut into other pieces. The ciphertext of all pieces, then
-    the tag, is what seal makes of the whole text. UnknownSuite for ChaCha20-Poly1305 and AES-GCM."""
+    the tag, is what seal makes of the whole text. UnknownSuite for ChaCha20-Poly1305 and AES-GCM.
+
+    Calls from several threads come one after the other. A SivSealer cannot be copied or pickled, and a process that is forked
+    cannot go on with it: NotBegun."""
+
+    _no_copies = "two copies would seal two texts under one nonce"
 
     def __init__(self, suite: int, key: Buffer, nonce: Buffer, aad: Optional[Buffer] = None) -> None:
-        self._state = _SivState()
-        given = _slices(key, nonce, b"" if aad is None else aad)
-        _done(_siv_init(ctypes.addressof(self._state), _suite_of(suite), *given))
+        self._struct = None
+        struct = _Struct(_SivState())
+        _done(_siv_init(struct.address, _suite_of(suite), *_slices(key, nonce, b"" if aad is None else aad)))
+        self._struct = struct
 
     def absorb(self, piece: Buffer) -> None:
         """Takes in the next piece of the text in the first reading."""
-        _done(_siv_absorb(ctypes.addressof(self._state), *_slices(piece)))
+        self._run(_siv_absorb, *_slices(piece))
 
     def tag(self) -> bytes:
         """Ends the first reading: the tag of its text, of 16 bytes."""
         tag = ctypes.create_string_buffer(_TAG_BYTES)
-        _done(_siv_tag(ctypes.addressof(self._state), ctypes.addressof(tag)))
+        self._run(_siv_tag, ctypes.addressof(tag))
         return tag.raw
 
     def update(self, piece: Buffer) -> bytearray:
         """The ciphertext of the next piece of the text in the second reading. SourceChanged if that would be longer than the
         first; NotBegun before the first reading is over."""
-        return _masked(_siv_update, self._state, piece)
+        return _masked(self._run, _siv_update, piece)
 
     def finish(self) -> None:
         """Ends the second reading. SourceChanged if its text had another length or tag than the first: what update gave is
         then to be thrown away."""
-        _done(_siv_finish(ctypes.addressof(self._state)))
+        self._run(_siv_finish)
 
 
 def wrap(key: Buffer, text: Buffer) -> bytearray:
