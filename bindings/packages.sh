@@ -20,6 +20,7 @@ filled rust/Cargo.toml "$version" > "$rust/Cargo.toml"
 cp -R python/backend.py python/aeadkit "$python/"
 rm -rf "$python/aeadkit/__pycache__"
 filled python/pyproject.toml "$version" > "$python/pyproject.toml"
+filled python/aeadkit/__init__.py "$version" > "$python/aeadkit/__init__.py"
 if python3 --version > "$python/log" 2>&1; then
     rm -f "$prefix/share/aeadkit/"*.whl
     AEADKIT_PREFIX=$prefix PYTHONDONTWRITEBYTECODE=1 python3 "$python/backend.py" "$prefix/share/aeadkit" > "$python/log"

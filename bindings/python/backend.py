@@ -28,8 +28,8 @@ def _files():
     base = lib / "libaeadkit.so.2"
     if not base.exists():
         raise SystemExit(f"{base} is not there: set AEADKIT_PREFIX to what build.sh laid out")
-    yield "aeadkit/__init__.py", HERE / "aeadkit/__init__.py"
-    yield "aeadkit/py.typed", HERE / "aeadkit/py.typed"
+    for name in ("__init__.py", "_library.py", "py.typed"):
+        yield f"aeadkit/{name}", HERE / "aeadkit" / name
     yield "aeadkit/lib/libaeadkit.so.2", base
     fast = lib / "glibc-hwcaps/x86-64-v3/libaeadkit.so.2"
     if fast.exists():

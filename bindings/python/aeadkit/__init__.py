@@ -1,91 +1,154 @@
 """Authenticated encryption (RFC 8439, SP 800-38D, RFC 8452) and key wrapping (RFC 3394, RFC 5649), by libaeadkit.so.
 
-Keys, nonces, data and texts are bytes, or anything else that gives its bytes, as bytearray and memoryview; None stands for
-no associated data. Each call copies its text once, into the bytearray that it returns. A call that is refused raises one of
-the classes below, all of them of Refused. Never seal two texts with one nonce under one key: nothing here looks for it.
-Nothing is claimed of timing, since AES looks tables up by secret bytes, and nothing is wiped.
+>>> import os
+>>> from aeadkit import Key, Suite
+>>> key = Key(Suite.AES_256_GCM, os.urandom(32))
+>>> nonce = os.urandom(12)
+>>> sealed = key.seal(nonce, b"the text", aad=b"a label")
+>>> key.open(nonce, sealed, aad=b"a label")
+b'the text'
 
-The library is the one that the variable AEADKIT names, else the package's own, else the one that the system finds.
+The associated data, aad, is not stored in a sealing and not hidden, but opening with other associated data fails: put there
+what says which text this is. Keys, nonces, associated data and texts are bytes, or any object that gives its bytes:
+bytearray, memoryview, array.array, mmap.mmap, an array of numpy. Anything else is a TypeError. Each call copies its text
+before it works, so another thread may write to it meanwhile. Results are bytes.
+
+A call that is refused raises a subclass of Refused. Faults of a suite and of lengths are ValueErrors too.
+
+The time that a call takes may tell of its secrets, since AES looks tables up by secret bytes. Keys and texts are not wiped
+from memory.
+
+The library is the file that the environment variable AEADKIT names, else the package's own, else the one that the system
+finds. The import fails with an ImportError that names the file if it is of another major version, or its structs have other
+sizes than this package expects.
 """
 
 import ctypes
 import enum
+import io
 import os
+import sys
 import threading
-from typing import NoReturn, Optional, Union
+from typing import Any, Callable, Dict, List, NoReturn, Optional, Tuple, Type
 
-__all__ = ["Suite", "Key", "Sealer", "Opener", "SivSealer", "seal", "open", "wrap", "unwrap", "wrap_padded", "unwrap_padded",
-           "Refused", "KeyLength", "NonceLength", "TextTooLong", "AadTooLong", "TooShort", "TagMismatch", "WrapLength",
-           "WrapIntegrity", "SourceChanged", "UnknownSuite", "NotBegun"]
+from . import _library
 
-Buffer = Union[bytes, bytearray, memoryview]
+if sys.version_info >= (3, 12):
+    from collections.abc import Buffer as Buffer
+else:
+    from typing import Protocol
+
+    class Buffer(Protocol):
+        """An object that gives its bytes, as type checkers know it."""
+
+        def __buffer__(self, flags: int, /) -> memoryview: ...
+
+# There is no open in this list, so that `from aeadkit import *` leaves Python's own.
+__all__ = ["Suite", "Key", "Sealer", "Opener", "SivSealer", "seal", "wrap", "unwrap", "wrap_padded", "unwrap_padded",
+           "Refused", "KeyLength", "NonceLength", "TextTooLong", "AadTooLong", "TooShort", "TagLength", "TagMismatch",
+           "WrapLength", "WrapIntegrity", "SourceChanged", "UnknownSuite", "NotBegun"]
+
+__version__ = "0.0.0"
 
 _TAG_BYTES = 16
 _WRAP_BYTES = 8
+_TAG_ROOM = bytes(_TAG_BYTES)
+_WRAP_ROOM = bytes(_WRAP_BYTES)
 
 
 class Refused(Exception):
-    """Why a call was refused."""
+    """A call was refused: the base of all faults."""
 
-    message = ""
-
-    def __init_subclass__(cls) -> None:
-        cls.__doc__ = cls.message
+    message = "refused"
 
     def __init__(self, message: Optional[str] = None) -> None:
         super().__init__(message or self.message)
 
 
-class KeyLength(Refused):
-    message = "the key's length is not the suite's, or not one of AES"
+class KeyLength(Refused, ValueError):
+    """The key's length is not the suite's, or for key wrapping it is not 16, 24 or 32 bytes."""
+
+    message = "the key's length is not the suite's, or for key wrapping not 16, 24 or 32 bytes"
 
 
-class NonceLength(Refused):
+class NonceLength(Refused, ValueError):
+    """The nonce is not 12 bytes long."""
+
     message = "the nonce is not 12 bytes long"
 
 
-class TextTooLong(Refused):
-    message = "the text is past the suite's limit"
+class TextTooLong(Refused, ValueError):
+    """The text is longer than the suite's limit, or for wrapping with padding than 2^32 - 1 bytes."""
+
+    message = "the text is too long"
 
 
-class AadTooLong(Refused):
-    message = "the associated data is past the suite's limit"
+class AadTooLong(Refused, ValueError):
+    """The associated data is longer than the suite's limit."""
+
+    message = "the associated data is too long"
 
 
-class TooShort(Refused):
-    message = "the sealed bytes are fewer than 16"
+class TooShort(Refused, ValueError):
+    """The sealed bytes are fewer than the 16 of a tag."""
+
+    message = "the sealed bytes are shorter than a tag of 16 bytes"
+
+
+class TagLength(Refused, ValueError):
+    """The tag that an Opener is begun with is not 16 bytes long."""
+
+    message = "the tag is not 16 bytes long"
 
 
 class TagMismatch(Refused):
-    message = "the bytes are the sealing of no text under this suite, key, nonce and associated data"
+    """Authentication failed: the bytes are not a sealing under this suite, key, nonce and associated data."""
+
+    message = "authentication failed"
 
 
-class WrapLength(Refused):
-    message = "the length is none of a text to wrap, or of a wrapping"
+class WrapLength(Refused, ValueError):
+    """The length is not one that the call takes: see wrap, unwrap, wrap_padded and unwrap_padded."""
+
+    message = "the length is not a multiple of 8, or too short"
 
 
 class WrapIntegrity(Refused):
-    message = "the bytes are the wrapping of no text under this key"
+    """Authentication failed: the bytes are not a valid wrapping under this key."""
+
+    message = "not a valid wrapping under this key"
 
 
 class SourceChanged(Refused):
-    message = "the second pass or reading is over other bytes than the first"
+    """The second pass or reading was given other bytes than the first."""
+
+    message = "the second pass differs from the first"
 
 
-class UnknownSuite(Refused):
-    message = "the call does not take the suite"
+class UnknownSuite(Refused, ValueError):
+    """The number is not a suite's, or the call does not take the suite."""
+
+    message = "the call does not take this suite"
 
 
 class NotBegun(Refused):
-    message = "the sealing, the pass or the reading is over, or not begun"
+    """The call comes at the wrong time: the sealing, the opening, the pass or the reading has not begun, or is over."""
+
+    message = "not begun, or already finished"
 
 
-_FAULTS = {1: KeyLength, 2: NonceLength, 3: TextTooLong, 4: AadTooLong, 5: TooShort, 6: TagMismatch, 7: WrapLength,
-           8: WrapIntegrity, 13: SourceChanged, 14: UnknownSuite, 15: NotBegun}
+_FAULTS: Dict[int, Type[Refused]] = {
+    1: KeyLength, 2: NonceLength, 3: TextTooLong, 4: AadTooLong, 5: TooShort, 6: TagMismatch, 7: WrapLength, 8: WrapIntegrity,
+    13: SourceChanged, 14: UnknownSuite, 15: NotBegun,
+}
 
 
 class Suite(enum.IntEnum):
-    """The suites."""
+    """The suites. Every nonce is 12 bytes long, and every tag 16.
+
+    A text is at most 2^38 - 64 bytes long under ChaCha20-Poly1305, 2^36 - 32 under AES-GCM, and 2^36 under AES-GCM-SIV, which
+    takes as many bytes of associated data.
+    """
 
     CHACHA20_POLY1305 = 1
     AES_128_GCM = 2
@@ -96,137 +159,91 @@ class Suite(enum.IntEnum):
 
     @property
     def key_bytes(self) -> int:
-        """The bytes of a key."""
+        """The length of a key in bytes."""
         return (32, 16, 24, 32, 16, 32)[self - 1]
 
 
-def _has_avx2() -> bool:
-    """Whether the processor has all of x86-64-v3."""
-    try:
-        with os.fdopen(os.open("/proc/cpuinfo", os.O_RDONLY)) as file:
-            flags = next((set(line.split()) for line in file if line.startswith("flags")), set())
-    except OSError:
-        return False
-    return {"avx", "avx2", "bmi1", "bmi2", "f16c", "fma", "abm", "movbe"} <= flags
-
-
-def _found() -> str:
-    """The library's file, or the name that the system finds it by."""
-    if os.environ.get("AEADKIT"):
-        return os.environ["AEADKIT"]
-    folder = os.path.join(os.path.dirname(os.path.abspath(__file__)), "lib")
-    fast = os.path.join(folder, "x86-64-v3", "libaeadkit.so.2")
-    if os.path.exists(fast) and _has_avx2():
-        return fast
-    base = os.path.join(folder, "libaeadkit.so.2")
-    return base if os.path.exists(base) else "libaeadkit.so.2"
-
-
-def _declared(name, *arguments):
-    call = getattr(_library, name)
-    call.argtypes, call.restype = arguments, ctypes.c_uint32
-    return call
-
-
-_library = ctypes.CDLL(_found())
-_given = (ctypes.c_char_p, ctypes.c_size_t)
-_room = (ctypes.c_void_p, ctypes.c_size_t)
-_seal = _declared("aeadkit_seal", ctypes.c_uint32, *_given, *_given, *_given, *_room)
-_open = _declared("aeadkit_open", ctypes.c_uint32, *_given, *_given, *_given, *_room)
-_wrap = _declared("aeadkit_wrap", *_given, *_room)
-_unwrap = _declared("aeadkit_unwrap", *_given, *_room)
-_wrap_padded = _declared("aeadkit_wrap_padded", *_given, *_room, ctypes.c_size_t)
-_unwrap_padded = _declared("aeadkit_unwrap_padded", *_given, *_room, ctypes.POINTER(ctypes.c_size_t))
-_sealer_init = _declared("aeadkit_sealer_init", ctypes.c_void_p, ctypes.c_uint32, *_given, *_given, *_given)
-_sealer_update = _declared("aeadkit_sealer_update", ctypes.c_void_p, *_room)
-_sealer_finish = _declared("aeadkit_sealer_finish", ctypes.c_void_p, ctypes.c_void_p)
-_opener_init = _declared("aeadkit_opener_init", ctypes.c_void_p, ctypes.c_uint32, *_given, *_given, *_given, ctypes.c_char_p)
-_opener_check = _declared("aeadkit_opener_check", ctypes.c_void_p, *_given)
-_opener_checked = _declared("aeadkit_opener_checked", ctypes.c_void_p)
-_opener_update = _declared("aeadkit_opener_update", ctypes.c_void_p, *_room)
-_opener_finish = _declared("aeadkit_opener_finish", ctypes.c_void_p)
-_siv_init = _declared("aeadkit_siv_init", ctypes.c_void_p, ctypes.c_uint32, *_given, *_given, *_given)
-_siv_absorb = _declared("aeadkit_siv_absorb", ctypes.c_void_p, *_given)
-_siv_tag = _declared("aeadkit_siv_tag", ctypes.c_void_p, ctypes.c_void_p)
-_siv_update = _declared("aeadkit_siv_update", ctypes.c_void_p, *_room)
-_siv_finish = _declared("aeadkit_siv_finish", ctypes.c_void_p)
-_key_init = _declared("aeadkit_key_init", ctypes.c_void_p, ctypes.c_uint32, *_given)
-_seal_with = _declared("aeadkit_seal_with", ctypes.c_void_p, *_given, *_given, *_room)
-_open_with = _declared("aeadkit_open_with", ctypes.c_void_p, *_given, *_given, *_room)
-_sealer_init_with = _declared("aeadkit_sealer_init_with", ctypes.c_void_p, ctypes.c_void_p, *_given, *_given)
-
-
-def _words(size):
-    """An array of 64-bit words of the size in bytes that a call returns."""
-    size.argtypes, size.restype = (), ctypes.c_size_t
-    return ctypes.c_uint64 * (size() // 8)
-
-
-_State = _words(_library.aeadkit_sealer_size)
-_OpenerState = _words(_library.aeadkit_opener_size)
-_SivState = _words(_library.aeadkit_siv_size)
-_KeyState = _words(_library.aeadkit_key_size)
-
-
-def _bytes_of(data):
-    """What nobody can write during a call: data itself if it is bytes, else a copy."""
-    return data if type(data) is bytes else memoryview(data).tobytes()
-
-
-def _slices(*words):
-    """Each word's bytes and their length, as the calls take them."""
-    return [it for word in map(_bytes_of, words) for it in (word, len(word))]
-
-
-def _suite_of(suite):
+def _suite_of(suite: int) -> Suite:
+    # The message shows no other value than a number: it may be a key in the suite's place.
+    if not isinstance(suite, int):
+        raise TypeError(f"a member of Suite is required, not {type(suite).__name__!r}")
     try:
         return Suite(suite)
     except ValueError:
-        raise UnknownSuite(f"{suite!r} is none of Suite") from None
+        raise UnknownSuite(f"{suite} is not the number of a suite") from None
 
 
-def _done(status):
+def _check(status: int) -> None:
     if status:
         raise _FAULTS[status]()
 
 
-def _masked(run, call, piece):
-    """What a call on the struct that run has makes of a copy of the piece."""
-    with memoryview(piece) as view:
-        text = bytearray(view.cast("B") if view.c_contiguous else view.tobytes())
-    place = ctypes.c_ubyte.from_buffer(text or bytearray(1))
-    try:
-        run(call, ctypes.addressof(place), len(text))
-    finally:
-        del place
-    return text
+def _bytes_of(data: Buffer) -> bytes:
+    """The bytes of the data, which no other thread can write."""
+    if type(data) is bytes:
+        return data
+    with memoryview(data) as view:
+        return view.tobytes()
 
 
-def _run(call, suite, words, before, text, after, *more):
-    """Calls on a fresh bytearray, which nothing else sees: the text with room around it."""
+def _slices(*arguments: Buffer) -> List[Any]:
+    """The bytes of each argument, and their number."""
+    return [part for data in map(_bytes_of, arguments) for part in (data, len(data))]
+
+
+def _aad_of(aad: Optional[Buffer]) -> Buffer:
+    return b"" if aad is None else aad
+
+
+def _join(before: bytes, text: Buffer, after: bytes) -> bytes:
+    if type(text) is bytes:
+        return b"".join((before, text, after))
     with memoryview(text) as view:
-        size = before + view.nbytes + after
-        buffer = bytearray(size)
-        with memoryview(buffer) as room:
-            room[before : before + view.nbytes] = view.cast("B") if view.c_contiguous else view.tobytes()
-    # a place of its own if there are no bytes, since no pointer may be NULL
-    place = ctypes.c_ubyte.from_buffer(buffer if size else bytearray(1))
-    status = call(*suite, *_slices(*words), ctypes.addressof(place), size, *more)
-    del place
-    _done(status)
-    return buffer
+        if view.c_contiguous:
+            return b"".join((before, view, after))
+        return b"".join((before, view.tobytes(), after))
 
 
-def seal(suite: int, key: Buffer, nonce: Buffer, aad: Optional[Buffer], text: Buffer) -> bytearray:
-    """The sealing of a text: the ciphertext, then a tag of 16 bytes."""
-    return _run(_seal, (_suite_of(suite),), (key, nonce, b"" if aad is None else aad), 0, text, _TAG_BYTES)
+# A place for no bytes, since the library takes no NULL.
+_NOWHERE = ctypes.c_ubyte()
 
 
-def open(suite: int, key: Buffer, nonce: Buffer, aad: Optional[Buffer], sealed: Buffer) -> bytearray:
-    """The text that the sealed bytes are the sealing of."""
-    text = _run(_open, (_suite_of(suite),), (key, nonce, b"" if aad is None else aad), 0, sealed, 0)
-    del text[-_TAG_BYTES:]
-    return text
+def _in_place(call: Callable[..., int], arguments: Tuple[Any, ...], text: Buffer, *more: Any, before: bytes = b"",
+              after: bytes = b"") -> io.BytesIO:
+    """Runs a call over a copy of the text with room around it, which no other thread sees, and returns the copy. Its method
+    getvalue does not copy the bytes once more."""
+    room = io.BytesIO(_join(before, text, after))
+    with room.getbuffer() as view:
+        size = view.nbytes
+        address = ctypes.addressof(ctypes.c_ubyte.from_buffer(view) if size else _NOWHERE)
+        status = call(*arguments, address, size, *more)
+    _check(status)
+    return room
+
+
+def _without_tag(room: io.BytesIO) -> bytes:
+    room.seek(-_TAG_BYTES, io.SEEK_END)
+    room.truncate()
+    return room.getvalue()
+
+
+def seal(suite: int, key: Buffer, nonce: Buffer, text: Buffer, *, aad: Optional[Buffer] = None) -> bytes:
+    """Returns the sealing of a text: the ciphertext, then a tag of 16 bytes.
+
+    Raises UnknownSuite, KeyLength, NonceLength, AadTooLong or TextTooLong.
+    """
+    arguments = (_suite_of(suite), *_slices(key, nonce, _aad_of(aad)))
+    return _in_place(_library.aeadkit_seal, arguments, text, after=_TAG_ROOM).getvalue()
+
+
+def open(suite: int, key: Buffer, nonce: Buffer, sealed: Buffer, *, aad: Optional[Buffer] = None) -> bytes:
+    """Returns the text of a sealing.
+
+    Raises UnknownSuite, KeyLength, NonceLength, AadTooLong, TooShort, TextTooLong; or TagMismatch if the bytes are not a
+    sealing under this suite, key, nonce and associated data.
+    """
+    arguments = (_suite_of(suite), *_slices(key, nonce, _aad_of(aad)))
+    return _without_tag(_in_place(_library.aeadkit_open, arguments, sealed))
 
 
 # Stands for this process: a forked child puts another object in its place.
@@ -242,9 +259,10 @@ os.register_at_fork(after_in_child=_enter_child)
 
 
 class _Struct:
-    """The memory of one of the library's structs, and the lock under which a call changes it."""
+    """The memory of one of the library's structs, with its suite, and the lock under which a call changes it."""
 
-    def __init__(self, memory) -> None:
+    def __init__(self, memory: Any, suite: int) -> None:
+        self.suite = _suite_of(suite)
         self._memory = memory
         self.address = ctypes.addressof(memory)
         self.lock = threading.RLock()
@@ -254,48 +272,68 @@ class _Struct:
         raise TypeError("a struct of the library cannot be copied or pickled")
 
 
-class _InPieces:
+class _HasStruct:
+    """The base of Key, Sealer, Opener and SivSealer: a struct of the library, once __init__ has begun it."""
+
+    _struct: Optional[_Struct] = None
+
+    def _get_struct(self) -> _Struct:
+        struct = self._struct
+        if struct is None:
+            raise NotBegun(f"{type(self).__name__}.__init__ was not called, or raised an exception")
+        return struct
+
+    @property
+    def suite(self) -> Suite:
+        """The suite. NotBegun if __init__ raised an exception."""
+        return self._get_struct().suite
+
+    def __repr__(self) -> str:
+        struct = self._struct
+        name = f"{type(self).__module__}.{type(self).__qualname__}"
+        return f"<{name} of no suite>" if struct is None else f"<{name} of {struct.suite.name}>"
+
+
+class _InPieces(_HasStruct):
     """A struct of the library that its calls change, one call at a time: ctypes lets other threads run during a call.
 
     It has no copies, and a process that was forked from its own cannot use it: two sealings that go on from one struct would
     seal two texts under one nonce.
     """
 
-    _struct: Optional[_Struct] = None
+    _no_copies = ""
 
-    def _run(self, call, *arguments) -> None:
-        struct = self._struct
-        if struct is None:
-            raise NotBegun(f"{type(self).__name__}.__init__ has not begun it")
+    def _call(self, function: Callable[..., int], *arguments: Any) -> int:
+        struct = self._get_struct()
         if struct.process is not _process:
             raise NotBegun(f"this {type(self).__name__} belongs to the process that this one was forked from")
         with struct.lock:
-            status = call(struct.address, *arguments)
-        _done(status)
+            return function(struct.address, *arguments)
+
+    def _tag(self, function: Callable[..., int]) -> bytes:
+        tag = ctypes.create_string_buffer(_TAG_BYTES)
+        _check(self._call(function, ctypes.addressof(tag)))
+        return tag.raw
 
     def __reduce__(self) -> NoReturn:
         raise TypeError(f"{type(self).__name__} objects cannot be copied or pickled: {self._no_copies}")
 
 
-class Key:
-    """A suite with a key, whose key schedule is made once. Threads may share it, and so may a process that is forked: a Key
-    does not change once it is made, so its copy is the Key itself. It cannot be pickled, since the key would stand in the
-    pickle. The nonce of each sealing is 12 bytes long, and no other sealing under the key may have it."""
+class Key(_HasStruct):
+    """A suite with a key, whose key schedule is made once.
 
-    _struct: Optional[_Struct] = None
+    Threads may share a Key, and a forked process may use it too. It does not change once it is made, and its copy is the Key
+    itself. It cannot be pickled, since the key would be written to the pickle.
+
+    Raises UnknownSuite or KeyLength.
+    """
 
     def __init__(self, suite: int, key: Buffer) -> None:
         if self._struct is not None:
             raise TypeError("a Key cannot be changed: make another one")
-        struct = _Struct(_KeyState())
-        _done(_key_init(struct.address, _suite_of(suite), *_slices(key)))
+        struct = _Struct(_library.Key(), suite)
+        _check(_library.aeadkit_key_init(struct.address, struct.suite, *_slices(key)))
         self._struct = struct
-
-    def _place(self) -> int:
-        """The address of the struct."""
-        if self._struct is None:
-            raise NotBegun(f"{type(self).__name__}.__init__ has not made the key")
-        return self._struct.address
 
     def __copy__(self) -> "Key":
         return self
@@ -306,150 +344,203 @@ class Key:
     def __reduce__(self) -> NoReturn:
         raise TypeError(f"{type(self).__name__} objects cannot be pickled: the key would be written to the pickle")
 
-    def seal(self, nonce: Buffer, text: Buffer, aad: Optional[Buffer] = None) -> bytearray:
-        """The sealing of a text: the ciphertext, then a tag of 16 bytes."""
-        return _run(_seal_with, (self._place(),), (nonce, b"" if aad is None else aad), 0, text, _TAG_BYTES)
+    def seal(self, nonce: Buffer, text: Buffer, *, aad: Optional[Buffer] = None) -> bytes:
+        """Returns the sealing of a text: the ciphertext, then a tag of 16 bytes.
 
-    def open(self, nonce: Buffer, sealed: Buffer, aad: Optional[Buffer] = None) -> bytearray:
-        """The text that the sealed bytes are the sealing of."""
-        text = _run(_open_with, (self._place(),), (nonce, b"" if aad is None else aad), 0, sealed, 0)
-        del text[-_TAG_BYTES:]
-        return text
+        Raises NonceLength, AadTooLong or TextTooLong; or NotBegun if __init__ raised an exception.
+        """
+        arguments = (self._get_struct().address, *_slices(nonce, _aad_of(aad)))
+        return _in_place(_library.aeadkit_seal_with, arguments, text, after=_TAG_ROOM).getvalue()
 
-    def sealer(self, nonce: Buffer, aad: Optional[Buffer] = None) -> "Sealer":
-        """A sealing in pieces, of no text yet. UnknownSuite for AES-GCM-SIV, which reads a text twice."""
-        struct = _Struct(_State())
-        _done(_sealer_init_with(struct.address, self._place(), *_slices(nonce, b"" if aad is None else aad)))
+    def open(self, nonce: Buffer, sealed: Buffer, *, aad: Optional[Buffer] = None) -> bytes:
+        """Returns the text of a sealing.
+
+        Raises NonceLength, AadTooLong, TooShort, TextTooLong; TagMismatch if the bytes are not a sealing under this key, nonce
+        and associated data; or NotBegun if __init__ raised an exception.
+        """
+        arguments = (self._get_struct().address, *_slices(nonce, _aad_of(aad)))
+        return _without_tag(_in_place(_library.aeadkit_open_with, arguments, sealed))
+
+    def sealer(self, nonce: Buffer, *, aad: Optional[Buffer] = None) -> "Sealer":
+        """Begins a sealing in pieces under ChaCha20-Poly1305 or AES-GCM. The Key may be dropped meanwhile.
+
+        Raises UnknownSuite for AES-GCM-SIV, which reads a text twice; NonceLength or AadTooLong; or NotBegun if __init__ raised
+        an exception.
+        """
+        key = self._get_struct()
+        struct = _Struct(_library.Sealer(), key.suite)
+        _check(_library.aeadkit_sealer_init_with(struct.address, key.address, *_slices(nonce, _aad_of(aad))))
         sealer = Sealer.__new__(Sealer)
         sealer._struct = struct
         return sealer
 
 
 class Sealer(_InPieces):
-    """A sealing in pieces, under ChaCha20-Poly1305 or AES-GCM: the ciphertext of all pieces, then the tag, is what seal makes
-    of the whole text, for any split into pieces. UnknownSuite for AES-GCM-SIV, which reads a text twice.
+    """A sealing in pieces under ChaCha20-Poly1305 or AES-GCM: update with each piece of the text, then finish.
 
-    Calls from several threads come one after the other, and the pieces are joined in that order. A Sealer cannot be copied or
-    pickled, and a process that is forked cannot go on with it: NotBegun."""
+    The ciphertexts of the pieces and then the tag are the sealing of the whole text, however it is cut into pieces. Calls from
+    several threads come one after the other, and the pieces are joined in that order. A Sealer cannot be copied or pickled,
+    and a forked process cannot go on with it: two sealings that go on from one would seal two texts under one nonce.
+
+    Raises UnknownSuite for AES-GCM-SIV too, which reads a text twice (SivSealer); KeyLength, NonceLength or AadTooLong.
+    """
 
     _no_copies = "two copies would seal two texts under one nonce"
 
-    def __init__(self, suite: int, key: Buffer, nonce: Buffer, aad: Optional[Buffer] = None) -> None:
+    def __init__(self, suite: int, key: Buffer, nonce: Buffer, *, aad: Optional[Buffer] = None) -> None:
         self._struct = None
-        struct = _Struct(_State())
-        _done(_sealer_init(struct.address, _suite_of(suite), *_slices(key, nonce, b"" if aad is None else aad)))
+        struct = _Struct(_library.Sealer(), suite)
+        _check(_library.aeadkit_sealer_init(struct.address, struct.suite, *_slices(key, nonce, _aad_of(aad))))
         self._struct = struct
 
-    def update(self, piece: Buffer) -> bytearray:
-        """The ciphertext of the next piece of the text, which may have any length."""
-        return _masked(self._run, _sealer_update, piece)
+    def update(self, piece: Buffer) -> bytes:
+        """Returns the ciphertext of the next piece of the text, which may have any length.
+
+        Raises NotBegun after finish, or in a forked process; or TextTooLong if the whole text would be too long: a shorter
+        piece may follow.
+        """
+        return _in_place(self._call, (_library.aeadkit_sealer_update,), piece).getvalue()
 
     def finish(self) -> bytes:
-        """The tag of the text, of 16 bytes. After it the sealer takes no more: NotBegun."""
-        tag = ctypes.create_string_buffer(_TAG_BYTES)
-        self._run(_sealer_finish, ctypes.addressof(tag))
-        return tag.raw
+        """Ends the sealing, and returns its tag of 16 bytes. Raises NotBegun if it was finished before."""
+        return self._tag(_library.aeadkit_sealer_finish)
 
 
 class Opener(_InPieces):
-    """An opening in pieces, under every suite, of a sealing with a tag of 16 bytes, in two passes over the
-    ciphertext: check each piece, then checked; then update each piece again, then finish. The passes may be cut into other
-    pieces. No text comes before the first pass was found to be over a sealing.
+    """An opening in pieces, under every suite, in two passes over the ciphertext: check each piece, then checked; then update
+    with each piece again, then finish.
 
-    Calls from several threads come one after the other. An Opener cannot be copied or pickled, and a process that is forked
-    cannot go on with it: NotBegun."""
+    The last 16 bytes of a sealing are its tag, which is not part of the ciphertext. The second pass may be cut into other
+    pieces. No text is returned before the first pass is found to be over a sealing, and the text may be used once finish
+    returns. Calls from several threads come one after the other, and the pieces are joined in that order. An Opener cannot be
+    copied or pickled, and a forked process cannot go on with it.
 
-    _no_copies = "a copy would hold the message's key too, and a pickle would write it; begin another Opener"
+    Raises TagLength if the tag is not 16 bytes long; UnknownSuite, KeyLength, NonceLength or AadTooLong.
+    """
 
-    def __init__(self, suite: int, key: Buffer, nonce: Buffer, tag: Buffer, aad: Optional[Buffer] = None) -> None:
+    _no_copies = "it holds the key of the message; begin another Opener"
+
+    def __init__(self, suite: int, key: Buffer, nonce: Buffer, tag: Buffer, *, aad: Optional[Buffer] = None) -> None:
         self._struct = None
-        struct = _Struct(_OpenerState())
+        struct = _Struct(_library.Opener(), suite)
+        slices = _slices(key, nonce, _aad_of(aad))
         last = _bytes_of(tag)
         if len(last) != _TAG_BYTES:
-            raise ValueError("the tag is not 16 bytes long")
-        given = _slices(key, nonce, b"" if aad is None else aad)
-        _done(_opener_init(struct.address, _suite_of(suite), *given, last))
+            raise TagLength()
+        _check(_library.aeadkit_opener_init(struct.address, struct.suite, *slices, last))
         self._struct = struct
 
     def check(self, piece: Buffer) -> None:
-        """Takes in the next piece of the ciphertext in the first pass."""
-        self._run(_opener_check, *_slices(piece))
+        """Takes the next piece of the ciphertext in the first pass.
+
+        Raises NotBegun after checked; or TextTooLong if the whole text would be too long: a shorter piece may follow.
+        """
+        _check(self._call(_library.aeadkit_opener_check, *_slices(piece)))
 
     def checked(self) -> None:
-        """Ends the first pass. TagMismatch if its pieces and the tag are the sealing of no text; that ends the opening."""
-        self._run(_opener_checked)
+        """Ends the first pass.
 
-    def update(self, piece: Buffer) -> bytearray:
-        """The text of the next piece of the ciphertext in the second pass. SourceChanged if that would be longer than the
-        first; NotBegun before the first pass is over."""
-        return _masked(self._run, _opener_update, piece)
+        Raises TagMismatch if its pieces and the tag are not a sealing: the opening is over. Raises NotBegun if there is no
+        first pass to end.
+        """
+        _check(self._call(_library.aeadkit_opener_checked))
+
+    def update(self, piece: Buffer) -> bytes:
+        """Returns the text of the next piece of the ciphertext in the second pass.
+
+        Raises NotBegun before checked and after finish; or SourceChanged if the second pass would be longer than the first.
+        """
+        return _in_place(self._call, (_library.aeadkit_opener_update,), piece).getvalue()
 
     def finish(self) -> None:
-        """Ends the second pass. SourceChanged if its pieces and the tag are the sealing of no text: what update gave is then
-        to be thrown away."""
-        self._run(_opener_finish)
+        """Ends the second pass.
+
+        Raises SourceChanged if its pieces and the tag are not a sealing: throw away what update returned. Raises NotBegun if
+        there is no second pass to end.
+        """
+        _check(self._call(_library.aeadkit_opener_finish))
 
 
 class SivSealer(_InPieces):
-    """A sealing in pieces under AES-GCM-SIV, whose tag is over the text, by two readings of it: absorb each piece, then tag;
-    then update each piece again, then finish. The readings may be cut into other pieces. The ciphertext of all pieces, then
-    the tag, is what seal makes of the whole text. UnknownSuite for ChaCha20-Poly1305 and AES-GCM.
+    """A sealing in pieces under AES-GCM-SIV, whose tag is computed first, by two readings of the text: absorb each piece, then
+    tag; then update with each piece again, then finish.
 
-    Calls from several threads come one after the other. A SivSealer cannot be copied or pickled, and a process that is forked
-    cannot go on with it: NotBegun."""
+    The ciphertexts of the pieces and then the tag are the sealing of the whole text, once finish returns. The second reading
+    may be cut into other pieces. Calls from several threads come one after the other, and the pieces are joined in that order.
+    A SivSealer cannot be copied or pickled, and a forked process cannot go on with it.
+
+    Raises UnknownSuite for ChaCha20-Poly1305 and AES-GCM too (Sealer); KeyLength, NonceLength or AadTooLong.
+    """
 
     _no_copies = "two copies would seal two texts under one nonce"
 
-    def __init__(self, suite: int, key: Buffer, nonce: Buffer, aad: Optional[Buffer] = None) -> None:
+    def __init__(self, suite: int, key: Buffer, nonce: Buffer, *, aad: Optional[Buffer] = None) -> None:
         self._struct = None
-        struct = _Struct(_SivState())
-        _done(_siv_init(struct.address, _suite_of(suite), *_slices(key, nonce, b"" if aad is None else aad)))
+        struct = _Struct(_library.Siv(), suite)
+        _check(_library.aeadkit_siv_init(struct.address, struct.suite, *_slices(key, nonce, _aad_of(aad))))
         self._struct = struct
 
     def absorb(self, piece: Buffer) -> None:
-        """Takes in the next piece of the text in the first reading."""
-        self._run(_siv_absorb, *_slices(piece))
+        """Takes the next piece of the text in the first reading.
+
+        Raises NotBegun after tag; or TextTooLong if the whole text would be too long: a shorter piece may follow.
+        """
+        _check(self._call(_library.aeadkit_siv_absorb, *_slices(piece)))
 
     def tag(self) -> bytes:
-        """Ends the first reading: the tag of its text, of 16 bytes."""
-        tag = ctypes.create_string_buffer(_TAG_BYTES)
-        self._run(_siv_tag, ctypes.addressof(tag))
-        return tag.raw
+        """Ends the first reading, and returns the tag of its text, of 16 bytes. Raises NotBegun if there is no first reading to
+        end."""
+        return self._tag(_library.aeadkit_siv_tag)
 
-    def update(self, piece: Buffer) -> bytearray:
-        """The ciphertext of the next piece of the text in the second reading. SourceChanged if that would be longer than the
-        first; NotBegun before the first reading is over."""
-        return _masked(self._run, _siv_update, piece)
+    def update(self, piece: Buffer) -> bytes:
+        """Returns the ciphertext of the next piece of the text in the second reading.
+
+        Raises NotBegun before tag and after finish; or SourceChanged if the second reading would be longer than the first.
+        """
+        return _in_place(self._call, (_library.aeadkit_siv_update,), piece).getvalue()
 
     def finish(self) -> None:
-        """Ends the second reading. SourceChanged if its text had another length or tag than the first: what update gave is
-        then to be thrown away."""
-        self._run(_siv_finish)
+        """Ends the second reading.
+
+        Raises SourceChanged if its text has another length or tag than the first: throw away what update returned. Raises
+        NotBegun if there is no second reading to end.
+        """
+        _check(self._call(_library.aeadkit_siv_finish))
 
 
-def wrap(key: Buffer, text: Buffer) -> bytearray:
-    """The wrapping of a text, which has whole blocks of 8 bytes, at least two, under an AES key."""
-    return _run(_wrap, (), (key,), _WRAP_BYTES, text, 0)
+def wrap(key: Buffer, text: Buffer) -> bytes:
+    """Returns the wrapping of a text, such as another key, under an AES key of 16, 24 or 32 bytes. It is 8 bytes longer.
+
+    Raises KeyLength; or WrapLength if the text's length is not a multiple of 8, or less than 16.
+    """
+    return _in_place(_library.aeadkit_wrap, (*_slices(key),), text, before=_WRAP_ROOM).getvalue()
 
 
-def unwrap(key: Buffer, wrapped: Buffer) -> bytearray:
-    """The text that the bytes are the wrapping of."""
-    text = _run(_unwrap, (), (key,), 0, wrapped, 0)
-    del text[:_WRAP_BYTES]
-    return text
+def unwrap(key: Buffer, wrapped: Buffer) -> bytes:
+    """Returns the text of a wrapping.
+
+    Raises KeyLength; WrapLength if the length is not a multiple of 8, or less than 24; or WrapIntegrity if the bytes are not a
+    valid wrapping under this key.
+    """
+    return _in_place(_library.aeadkit_unwrap, (*_slices(key),), wrapped).getvalue()[_WRAP_BYTES:]
 
 
-def wrap_padded(key: Buffer, text: Buffer) -> bytearray:
-    """The wrapping with padding of a text of 1 to 2^32 - 1 bytes under an AES key."""
-    with memoryview(text) as view:
-        length = view.nbytes
-    return _run(_wrap_padded, (), (key,), _WRAP_BYTES, text, -length % 8, length)
+def wrap_padded(key: Buffer, text: Buffer) -> bytes:
+    """Returns the wrapping with padding of a text of 1 to 2^32 - 1 bytes under an AES key of 16, 24 or 32 bytes.
+
+    Raises KeyLength; WrapLength if the text is empty; or TextTooLong.
+    """
+    copy = _bytes_of(text)
+    call, padding = _library.aeadkit_wrap_padded, bytes(-len(copy) % 8)
+    return _in_place(call, (*_slices(key),), copy, len(copy), before=_WRAP_ROOM, after=padding).getvalue()
 
 
-def unwrap_padded(key: Buffer, wrapped: Buffer) -> bytearray:
-    """The text that the bytes are the wrapping with padding of."""
+def unwrap_padded(key: Buffer, wrapped: Buffer) -> bytes:
+    """Returns the text of a wrapping with padding.
+
+    Raises KeyLength; WrapLength if the length is not a multiple of 8, or less than 16; TextTooLong; or WrapIntegrity if the
+    bytes are not a valid wrapping under this key.
+    """
     length = ctypes.c_size_t()
-    text = _run(_unwrap_padded, (), (key,), 0, wrapped, 0, ctypes.byref(length))
-    del text[_WRAP_BYTES + length.value :]
-    del text[:_WRAP_BYTES]
-    return text
+    room = _in_place(_library.aeadkit_unwrap_padded, (*_slices(key),), wrapped, ctypes.byref(length))
+    return room.getvalue()[_WRAP_BYTES : _WRAP_BYTES + length.value]

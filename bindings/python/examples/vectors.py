@@ -12,10 +12,10 @@ TEXT = (b"Ladies and Gentlemen of the class of '99: If I could offer you only on
         b"sunscreen would be it.")
 
 
-def refused(fault, call, *words):
+def refused(fault, call, *words, **named):
     """The call raises this fault, and no other."""
     try:
-        call(*words)
+        call(*words, **named)
     except aeadkit.Refused as error:
         assert type(error) is fault and str(error), (fault, error)
     else:
@@ -23,18 +23,18 @@ def refused(fault, call, *words):
 
 
 # RFC 8439, 2.8.2
-sealed = aeadkit.seal(Suite.CHACHA20_POLY1305, KEY, NONCE, AAD, TEXT)
+sealed = aeadkit.seal(Suite.CHACHA20_POLY1305, KEY, NONCE, TEXT, aad=AAD)
 assert sealed[:16].hex() == "d31a8d34648e60db7b86afbc53ef7ec2"
 assert sealed[-16:].hex() == "1ae10b594f09e26a7e902ecbd0600691"
-assert aeadkit.open(Suite.CHACHA20_POLY1305, KEY, NONCE, AAD, sealed) == TEXT
-assert aeadkit.open(Suite.CHACHA20_POLY1305, bytearray(KEY), memoryview(NONCE), AAD, bytes(sealed)) == TEXT
-refused(aeadkit.TagMismatch, aeadkit.open, Suite.CHACHA20_POLY1305, KEY, NONCE, b"", sealed)
-refused(aeadkit.TooShort, aeadkit.open, Suite.CHACHA20_POLY1305, KEY, NONCE, AAD, sealed[:15])
-refused(aeadkit.TooShort, aeadkit.open, Suite.CHACHA20_POLY1305, KEY, NONCE, AAD, b"")
+assert aeadkit.open(Suite.CHACHA20_POLY1305, KEY, NONCE, sealed, aad=AAD) == TEXT
+assert aeadkit.open(Suite.CHACHA20_POLY1305, bytearray(KEY), memoryview(NONCE), bytearray(sealed), aad=AAD) == TEXT
+refused(aeadkit.TagMismatch, aeadkit.open, Suite.CHACHA20_POLY1305, KEY, NONCE, sealed)
+refused(aeadkit.TooShort, aeadkit.open, Suite.CHACHA20_POLY1305, KEY, NONCE, sealed[:15], aad=AAD)
+refused(aeadkit.TooShort, aeadkit.open, Suite.CHACHA20_POLY1305, KEY, NONCE, b"", aad=AAD)
 
 kept = aeadkit.Key(Suite.CHACHA20_POLY1305, KEY)
-assert kept.seal(NONCE, TEXT, AAD) == sealed and kept.open(NONCE, sealed, aad=AAD) == TEXT
-assert kept.seal(NONCE, TEXT) == aeadkit.seal(Suite.CHACHA20_POLY1305, KEY, NONCE, None, memoryview(TEXT))
+assert kept.seal(NONCE, TEXT, aad=AAD) == sealed and kept.open(NONCE, sealed, aad=AAD) == TEXT
+assert kept.seal(NONCE, TEXT) == aeadkit.seal(Suite.CHACHA20_POLY1305, KEY, NONCE, memoryview(TEXT), aad=None)
 refused(aeadkit.KeyLength, aeadkit.Key, Suite.AES_128_GCM, KEY)
 refused(aeadkit.UnknownSuite, aeadkit.Key, 0, KEY)
 for other in ("a text", 16, None):
@@ -49,15 +49,15 @@ for suite in Suite:
     key = bytes(suite.key_bytes)
     kept = aeadkit.Key(suite, key)
     for n in (0, 1, 15, 16, 17, 300):
-        made = aeadkit.seal(suite, key, bytes(12), b"", bytes(n))
+        made = aeadkit.seal(suite, key, bytes(12), bytes(n))
         assert len(made) == n + 16
-        assert aeadkit.open(suite, key, bytes(12), b"", made) == bytes(n)
+        assert aeadkit.open(suite, key, bytes(12), made) == bytes(n)
         assert kept.seal(bytes(12), bytes(n)) == made and kept.open(bytes(12), made) == bytes(n)
-        refused(aeadkit.TagMismatch, aeadkit.open, suite, key, bytes(12), b"x", made)
-    refused(aeadkit.KeyLength, aeadkit.seal, suite, key[1:], bytes(11), b"", b"")
-    refused(aeadkit.NonceLength, aeadkit.seal, suite, key, bytes(11), b"", b"")
-refused(aeadkit.UnknownSuite, aeadkit.seal, 7, b"", b"", b"", b"")
-refused(aeadkit.UnknownSuite, aeadkit.open, 2**32 + 1, KEY, NONCE, AAD, sealed)
+        refused(aeadkit.TagMismatch, aeadkit.open, suite, key, bytes(12), made, aad=b"x")
+    refused(aeadkit.KeyLength, aeadkit.seal, suite, key[1:], bytes(11), b"")
+    refused(aeadkit.NonceLength, aeadkit.seal, suite, key, bytes(11), b"")
+refused(aeadkit.UnknownSuite, aeadkit.seal, 7, b"", b"", b"")
+refused(aeadkit.UnknownSuite, aeadkit.open, 2**32 + 1, KEY, NONCE, sealed, aad=AAD)
 
 # a text in pieces has the sealing of the whole text
 text = bytes(range(250)) * 4
@@ -65,19 +65,19 @@ for suite in list(Suite)[:4]:
     key = bytes(suite.key_bytes)
     kept = aeadkit.Key(suite, key)
     for size in (1, 15, 16, 17, 333, 1000):
-        for sealer in (aeadkit.Sealer(suite, key, bytes(12), b"data"), kept.sealer(bytes(12), b"data")):
+        for sealer in (aeadkit.Sealer(suite, key, bytes(12), aad=b"data"), kept.sealer(bytes(12), aad=b"data")):
             made = b"".join(sealer.update(text[i : i + size]) + sealer.update(b"") for i in range(0, len(text), size))
-            assert made + sealer.finish() == aeadkit.seal(suite, key, bytes(12), b"data", text)
+            assert made + sealer.finish() == aeadkit.seal(suite, key, bytes(12), text, aad=b"data")
             refused(aeadkit.NotBegun, sealer.update, b"")
             refused(aeadkit.NotBegun, sealer.finish)
     refused(aeadkit.NonceLength, kept.sealer, bytes(11))
 # and under every suite it is opened in two passes, cut into other pieces
 for suite in Suite:
     key = bytes(suite.key_bytes)
-    made = aeadkit.seal(suite, key, bytes(12), b"data", text)
+    made = aeadkit.seal(suite, key, bytes(12), text, aad=b"data")
     body, tag = made[:-16], made[-16:]
     for size in (1, 15, 16, 17, 333, 1000):
-        opener = aeadkit.Opener(suite, key, bytes(12), tag, b"data")
+        opener = aeadkit.Opener(suite, key, bytes(12), tag, aad=b"data")
         for i in range(0, len(body), size):
             opener.check(body[i : i + size])
         refused(aeadkit.NotBegun, opener.update, body)
@@ -88,11 +88,11 @@ for suite in Suite:
         refused(aeadkit.SourceChanged, opener.update, b"x")
         opener.finish()
         refused(aeadkit.NotBegun, opener.finish)
-    opener = aeadkit.Opener(suite, key, bytes(12), tag, b"date")
+    opener = aeadkit.Opener(suite, key, bytes(12), tag, aad=b"date")
     opener.check(body)
     refused(aeadkit.TagMismatch, opener.checked)
     refused(aeadkit.NotBegun, opener.checked)
-    opener = aeadkit.Opener(suite, key, bytes(12), tag, b"data")
+    opener = aeadkit.Opener(suite, key, bytes(12), tag, aad=b"data")
     opener.check(body)
     opener.checked()
     opener.update(bytes(1000))
@@ -103,7 +103,7 @@ refused(aeadkit.NonceLength, aeadkit.Opener, Suite.AES_128_GCM, bytes(16), bytes
 for suite in list(Suite)[4:]:
     key = bytes(suite.key_bytes)
     for size in (1, 15, 16, 17, 333, 1000):
-        sealer = aeadkit.SivSealer(suite, key, bytes(12), b"data")
+        sealer = aeadkit.SivSealer(suite, key, bytes(12), aad=b"data")
         for i in range(0, len(text), size):
             sealer.absorb(text[i : i + size])
         refused(aeadkit.NotBegun, sealer.update, text)
@@ -114,7 +114,7 @@ for suite in list(Suite)[4:]:
         refused(aeadkit.SourceChanged, sealer.update, b"x")
         sealer.finish()
         refused(aeadkit.NotBegun, sealer.finish)
-        assert made + tag == aeadkit.seal(suite, key, bytes(12), b"data", text)
+        assert made + tag == aeadkit.seal(suite, key, bytes(12), text, aad=b"data")
     sealer = aeadkit.SivSealer(suite, key, bytes(12))
     sealer.absorb(text)
     sealer.tag()
@@ -125,12 +125,12 @@ refused(aeadkit.UnknownSuite, aeadkit.SivSealer, Suite.AES_128_GCM, bytes(16), b
 with tempfile.TemporaryFile() as plain, tempfile.TemporaryFile() as sealed_file:
     plain.write(text * 500)
     plain.seek(0)
-    sealer = aeadkit.Sealer(Suite.CHACHA20_POLY1305, KEY, NONCE, AAD)
+    sealer = aeadkit.Sealer(Suite.CHACHA20_POLY1305, KEY, NONCE, aad=AAD)
     while piece := plain.read(65536):
         sealed_file.write(sealer.update(piece))
     sealed_file.write(sealer.finish())
     sealed_file.seek(0)
-    assert aeadkit.open(Suite.CHACHA20_POLY1305, KEY, NONCE, AAD, sealed_file.read()) == text * 500
+    assert aeadkit.open(Suite.CHACHA20_POLY1305, KEY, NONCE, sealed_file.read(), aad=AAD) == text * 500
 
 refused(aeadkit.UnknownSuite, aeadkit.Sealer, Suite.AES_128_GCM_SIV, bytes(16), bytes(12))
 refused(aeadkit.UnknownSuite, aeadkit.Key(Suite.AES_128_GCM_SIV, bytes(16)).sealer, bytes(12))
