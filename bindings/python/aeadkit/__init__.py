@@ -13,6 +13,12 @@ what says which text this is. Keys, nonces, associated data and texts are bytes,
 bytearray, memoryview, array.array, mmap.mmap, an array of numpy. Anything else is a TypeError. Each call copies its text
 before it works, so another thread may write to it meanwhile. Results are bytes.
 
+A nonce is 12 bytes long. It is not secret, but must never be used twice under one key to seal, and nothing here looks for
+that. Two sealings with one nonce give away the XOR of their texts, and enough to forge messages under the key; under
+AES-GCM-SIV only whether the texts and the associated data are the same. A sealing in pieces uses its nonce up even if it is not
+finished. A counter does not repeat if it is stored before it is used. Random nonces serve for at most 2^32 sealings under a key
+(SP 800-38D, 8.3).
+
 A call that is refused raises a subclass of Refused. Faults of a suite and of lengths are ValueErrors too.
 
 The time that a call takes may tell of its secrets, since AES looks tables up by secret bytes. Keys and texts are not wiped
@@ -230,6 +236,9 @@ def _without_tag(room: io.BytesIO) -> bytes:
 def seal(suite: int, key: Buffer, nonce: Buffer, text: Buffer, *, aad: Optional[Buffer] = None) -> bytes:
     """Returns the sealing of a text: the ciphertext, then a tag of 16 bytes.
 
+    Never use a nonce twice under one key: two texts under one nonce give away their XOR, and enough to forge messages;
+    under AES-GCM-SIV only whether the texts and the associated data are the same.
+
     Raises UnknownSuite, KeyLength, NonceLength, AadTooLong or TextTooLong.
     """
     arguments = (_suite_of(suite), *_slices(key, nonce, _aad_of(aad)))
@@ -238,6 +247,10 @@ def seal(suite: int, key: Buffer, nonce: Buffer, text: Buffer, *, aad: Optional[
 
 def open(suite: int, key: Buffer, nonce: Buffer, sealed: Buffer, *, aad: Optional[Buffer] = None) -> bytes:
     """Returns the text of a sealing.
+
+    The nonce is the one that the text was sealed with. A nonce must never be used to seal twice under one key: two texts under
+    one nonce give away their XOR, and enough to forge messages; under AES-GCM-SIV only whether the texts and the associated
+    data are the same.
 
     Raises UnknownSuite, KeyLength, NonceLength, AadTooLong, TooShort, TextTooLong; or TagMismatch if the bytes are not a
     sealing under this suite, key, nonce and associated data.
@@ -347,6 +360,9 @@ class Key(_HasStruct):
     def seal(self, nonce: Buffer, text: Buffer, *, aad: Optional[Buffer] = None) -> bytes:
         """Returns the sealing of a text: the ciphertext, then a tag of 16 bytes.
 
+        Never use a nonce twice under one key: two texts under one nonce give away their XOR, and enough to forge messages;
+        under AES-GCM-SIV only whether the texts and the associated data are the same.
+
         Raises NonceLength, AadTooLong or TextTooLong; or NotBegun if __init__ raised an exception.
         """
         arguments = (self._get_struct().address, *_slices(nonce, _aad_of(aad)))
@@ -354,6 +370,10 @@ class Key(_HasStruct):
 
     def open(self, nonce: Buffer, sealed: Buffer, *, aad: Optional[Buffer] = None) -> bytes:
         """Returns the text of a sealing.
+
+        The nonce is the one that the text was sealed with. A nonce must never be used to seal twice under one key: two texts
+        under one nonce give away their XOR, and enough to forge messages; under AES-GCM-SIV only whether the texts and the
+        associated data are the same.
 
         Raises NonceLength, AadTooLong, TooShort, TextTooLong; TagMismatch if the bytes are not a sealing under this key, nonce
         and associated data; or NotBegun if __init__ raised an exception.
@@ -363,6 +383,8 @@ class Key(_HasStruct):
 
     def sealer(self, nonce: Buffer, *, aad: Optional[Buffer] = None) -> "Sealer":
         """Begins a sealing in pieces under ChaCha20-Poly1305 or AES-GCM. The Key may be dropped meanwhile.
+
+        Never use a nonce twice under one key: two texts under one nonce give away their XOR, and enough to forge messages.
 
         Raises UnknownSuite for AES-GCM-SIV, which reads a text twice; NonceLength or AadTooLong; or NotBegun if __init__ raised
         an exception.
@@ -381,6 +403,9 @@ class Sealer(_InPieces):
     The ciphertexts of the pieces and then the tag are the sealing of the whole text, however it is cut into pieces. Calls from
     several threads come one after the other, and the pieces are joined in that order. A Sealer cannot be copied or pickled,
     and a forked process cannot go on with it: two sealings that go on from one would seal two texts under one nonce.
+
+    Never use a nonce twice under one key, not even after a Sealer that was not finished: two texts under one nonce give away
+    their XOR, and enough to forge messages.
 
     Raises UnknownSuite for AES-GCM-SIV too, which reads a text twice (SivSealer); KeyLength, NonceLength or AadTooLong.
     """
@@ -414,6 +439,10 @@ class Opener(_InPieces):
     pieces. No text is returned before the first pass is found to be over a sealing, and the text may be used once finish
     returns. Calls from several threads come one after the other, and the pieces are joined in that order. An Opener cannot be
     copied or pickled, and a forked process cannot go on with it.
+
+    The nonce is the one that the text was sealed with. A nonce must never be used to seal twice under one key: two texts under
+    one nonce give away their XOR, and enough to forge messages; under AES-GCM-SIV only whether the texts and the associated
+    data are the same.
 
     Raises TagLength if the tag is not 16 bytes long; UnknownSuite, KeyLength, NonceLength or AadTooLong.
     """
@@ -468,6 +497,9 @@ class SivSealer(_InPieces):
     The ciphertexts of the pieces and then the tag are the sealing of the whole text, once finish returns. The second reading
     may be cut into other pieces. Calls from several threads come one after the other, and the pieces are joined in that order.
     A SivSealer cannot be copied or pickled, and a forked process cannot go on with it.
+
+    Never use a nonce twice under one key: two sealings under one nonce give away whether their texts and associated data are
+    the same.
 
     Raises UnknownSuite for ChaCha20-Poly1305 and AES-GCM too (Sealer); KeyLength, NonceLength or AadTooLong.
     """
