@@ -98,11 +98,11 @@ if ! python3 -c 'import ctypes' > "$room/log" 2>&1; then
 elif python3 -m venv "$room/venv" > "$room/log" 2>&1 && "$room/venv/bin/python" -m pip --version > "$room/log" 2>&1; then
     "$room/venv/bin/python" -m pip install --quiet --no-index --disable-pip-version-check \
         "$room/laid/share/aeadkit/"aeadkit-*.whl
-    "$room/venv/bin/python" python/examples/vectors.py
+    ./python-check.sh "$room/venv/bin/python"
     "$room/venv/bin/python" -m pip show aeadkit 2> "$room/log" | grep -q "^Version: $version\$"
     echo "ok: Python, installed by pip"
 else
-    AEADKIT="$out/libaeadkit.so" PYTHONPATH=python PYTHONDONTWRITEBYTECODE=1 python3 python/examples/vectors.py
+    AEADKIT="$out/libaeadkit.so" PYTHONPATH="$PWD/python" ./python-check.sh python3
     echo "ok: Python (left out: pip, which is not there)"
 fi
 if ! makes "$room/probe.rs" rustc --edition 2024; then

@@ -1,0 +1,174 @@
+"""Each kind of object that gives its bytes, as each argument."""
+
+import array
+import collections
+import ctypes
+import io
+import mmap
+import sys
+import tempfile
+import unittest
+
+import aeadkit
+from aeadkit import Key, Opener, Sealer, SivSealer, Suite
+
+KEY = bytes(range(32))
+NONCE = bytes(range(12))
+TEXT = bytes(range(48))
+SUITE = Suite.AES_256_GCM
+SEALED = aeadkit.seal(SUITE, KEY, NONCE, TEXT, aad=TEXT)
+SIV_SEALED = aeadkit.seal(Suite.AES_256_GCM_SIV, KEY, NONCE, TEXT, aad=TEXT)
+
+
+class Bytes(bytes):
+    pass
+
+
+def backwards(data):
+    return memoryview(data[::-1])[::-1]
+
+
+def every_second(data):
+    return memoryview(bytes(byte for one in data for byte in (one, 255)))[::2]
+
+
+def mapped(data):
+    place = mmap.mmap(-1, len(data))
+    place[:] = bytes(data)
+    return place
+
+
+def mapped_for_reading(data):
+    with tempfile.TemporaryFile() as file:
+        file.write(data)
+        file.flush()
+        return mmap.mmap(file.fileno(), len(data), access=mmap.ACCESS_READ)
+
+
+def structure(data):
+    class Pair(ctypes.Structure):
+        _fields_ = [("first", ctypes.c_uint16), ("second", ctypes.c_uint16)]
+
+    return (Pair * (len(data) // 4)).from_buffer_copy(data)
+
+
+def words(code):
+    def made(data):
+        filled = array.array(code)
+        filled.frombytes(data)
+        return filled
+
+    return made
+
+
+def rows(data):
+    return memoryview(data).cast("B", (2, len(data) // 2))
+
+
+# each makes of bytes another object that gives them; lengths are multiples of 4
+KINDS = [bytes, bytearray, memoryview, Bytes, backwards, every_second, mapped, mapped_for_reading, structure, words("B"),
+         words("b"), words("i"), words("H"), words("f"), rows, lambda data: memoryview(words("I")(data)),
+         lambda data: memoryview(words("H")(data[::-1])).cast("B")[::-1], lambda data: io.BytesIO(data).getbuffer(),
+         lambda data: (ctypes.c_char * len(data)).from_buffer_copy(data), lambda data: memoryview(bytearray(data)).toreadonly()]
+try:
+    import numpy
+except ImportError:
+    pass
+else:
+    KINDS += [lambda data: numpy.frombuffer(data, "u1"), lambda data: numpy.frombuffer(data, "u4"),
+              lambda data: numpy.frombuffer(data, "u1").reshape(2, -1), lambda data: numpy.frombuffer(data[::-1], "u1")[::-1]]
+
+
+class Buffers(unittest.TestCase):
+    def test_every_kind(self):
+        wrapped, padded = aeadkit.wrap(KEY, TEXT), aeadkit.wrap_padded(KEY, TEXT)
+        kept = Key(SUITE, KEY)
+        for kind in KINDS:
+            with self.subTest(kind=kind):
+                key, nonce, text, sealed = kind(KEY), kind(NONCE), kind(TEXT), kind(SEALED)
+                self.assertEqual(bytes(memoryview(text).tobytes()), TEXT)
+                self.assertEqual(aeadkit.seal(SUITE, key, nonce, text, aad=text), SEALED)
+                self.assertEqual(aeadkit.open(SUITE, key, nonce, sealed, aad=text), TEXT)
+                self.assertEqual(kept.seal(nonce, text, aad=text), SEALED)
+                self.assertEqual(Key(SUITE, key).open(nonce, sealed, aad=text), TEXT)
+                for sealer in (Sealer(SUITE, key, nonce, aad=text), kept.sealer(nonce, aad=text)):
+                    self.assertEqual(sealer.update(text) + sealer.finish(), SEALED)
+                body = kind(SEALED[:-16])
+                opener = Opener(SUITE, key, nonce, kind(SEALED[-16:]), aad=text)
+                opener.check(body)
+                opener.checked()
+                self.assertEqual(opener.update(body), TEXT)
+                opener.finish()
+                siv = SivSealer(Suite.AES_256_GCM_SIV, key, nonce, aad=text)
+                siv.absorb(text)
+                tag = siv.tag()
+                self.assertEqual(siv.update(text) + tag, SIV_SEALED)
+                siv.finish()
+                self.assertEqual(aeadkit.wrap(key, text), wrapped)
+                self.assertEqual(aeadkit.unwrap(key, kind(wrapped)), TEXT)
+                self.assertEqual(aeadkit.wrap_padded(key, text), padded)
+                self.assertEqual(aeadkit.unwrap_padded(key, kind(padded)), TEXT)
+
+    def test_numbers_are_counted_in_bytes(self):
+        numbers = array.array("i", [1, 2, 3])
+        sealed = aeadkit.seal(SUITE, KEY, NONCE, numbers)
+        self.assertEqual(len(sealed), 3 * numbers.itemsize + 16)
+        self.assertEqual(aeadkit.open(SUITE, KEY, NONCE, sealed), numbers.tobytes())
+        self.assertEqual(len(aeadkit.wrap_padded(KEY, array.array("H", [1, 2, 3]))), 16)
+        self.assertRaises(aeadkit.NonceLength, Key(SUITE, KEY).seal, array.array("i", range(12)), TEXT)
+        one = ctypes.c_uint32(7)
+        self.assertEqual(aeadkit.open(SUITE, KEY, NONCE, aeadkit.seal(SUITE, KEY, NONCE, one)), bytes(one))
+
+    def test_nothing_is_held_after_a_call(self):
+        """A bytearray can grow again, also while its fault is handled."""
+        key, text, sealed = Key(SUITE, KEY), bytearray(TEXT), bytearray(SEALED)
+        sealer = key.sealer(NONCE)
+        key.seal(NONCE, text)
+        sealer.update(text)
+        text += b"more"
+        try:
+            key.open(NONCE, sealed)
+        except aeadkit.TagMismatch:
+            sealed += b"more"
+        sealer.finish()
+        try:
+            sealer.update(text)
+        except aeadkit.NotBegun:
+            text += b"more"
+        with self.assertRaises(aeadkit.WrapLength):
+            aeadkit.wrap_padded(KEY, bytearray())
+
+    def test_dead_buffers(self):
+        released, closed = memoryview(TEXT), mapped(TEXT)
+        released.release()
+        closed.close()
+        for dead in (released, closed):
+            self.assertRaises(ValueError, Key(SUITE, KEY).seal, NONCE, dead)
+            self.assertRaises(ValueError, Key(SUITE, KEY).sealer(NONCE).update, dead)
+        self.assertRaises(TypeError, Key(SUITE, KEY).seal, NONCE, collections.deque(TEXT))
+
+    @unittest.skipUnless(sys.version_info >= (3, 12), "no __buffer__ in Python")
+    def test_a_piece_that_calls_the_sealer(self):
+        """The bytes of a piece are asked for before the lock is taken, and once."""
+        sealer, asked = Sealer(SUITE, KEY, NONCE), []
+
+        class Piece:
+            def __buffer__(self, flags):
+                asked.append(sealer.update(b"first"))
+                return memoryview(b"second")
+
+        made = sealer.update(Piece())
+        self.assertEqual(asked[0] + made + sealer.finish(), aeadkit.seal(SUITE, KEY, NONCE, b"firstsecond"))
+        self.assertEqual(len(asked), 1)
+
+        class Failing:
+            def __buffer__(self, flags):
+                raise KeyError("no bytes")
+
+        sealer = Sealer(SUITE, KEY, NONCE)
+        self.assertRaises(KeyError, sealer.update, Failing())
+        self.assertEqual(sealer.update(TEXT) + sealer.finish(), aeadkit.seal(SUITE, KEY, NONCE, TEXT))
+
+
+if __name__ == "__main__":
+    unittest.main()
