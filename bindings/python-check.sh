@@ -17,3 +17,25 @@ run() {
 }
 run "$python" "$here/examples/vectors.py"
 run "$python" -m unittest discover -s "$here/tests"
+run "$python" "$here/examples/keys.py"
+
+segments="$here/examples/segments.py"
+head -c 32 /dev/urandom > key
+for size in 0 1 1048576 3000000; do
+    head -c "$size" /dev/urandom > text
+    "$python" "$segments" seal key label < text | cat > sealed
+    "$python" "$segments" open key label < sealed | cmp - text
+done
+# what was cut at a segment's end, or has more behind it, or another label, is refused, after a true beginning at most
+refused() {
+    label=$1
+    if "$python" "$segments" open key "$label" > opened 2> log; then
+        echo "segments.py opened what it should refuse" >&2
+        exit 1
+    fi
+    grep -q '^segments.py: ' log
+    cmp -n "$(wc -c < opened)" opened text
+}
+head -c $((40 + 1048576 + 16)) sealed | refused label
+cat sealed sealed | refused label
+refused other < sealed
