@@ -40,7 +40,6 @@ makes() {
     "$@" "$source" -o "$room/probe" > "$room/probe.log" 2>&1 && "$room/probe" > "$room/probe.log" 2>&1
 }
 echo 'int main(void) { return 0; }' > "$room/probe.c"
-echo 'unsafe extern "C" {} fn main() {}' > "$room/probe.rs"
 
 # Each name is that of this major version, so that another one may live in the same process.
 node=AEADKIT_${version%%.*}
@@ -89,7 +88,7 @@ else
     echo "left out: C++, no c++"
 fi
 
-# The packages: pip takes the wheel, or without pip its folder is read; cargo builds the crate, or else rustc does.
+# The packages: pip takes the wheel, or without pip its folder is read; rust-check.sh builds the crate.
 mkdir "$room/laid"
 cp -a "$prefix/include" "$prefix/lib" "$room/laid/"
 ./packages.sh "$room/laid"
@@ -105,22 +104,7 @@ else
     AEADKIT="$out/libaeadkit.so" PYTHONPATH="$PWD/python" ./python-check.sh python3
     echo "ok: Python (left out: pip, which is not there)"
 fi
-if ! makes "$room/probe.rs" rustc --edition 2024; then
-    echo "left out: Rust, no rustc of edition 2024"
-elif cargo --version > "$room/log" 2>&1; then
-    mkdir -p "$room/user/src"
-    cp rust/examples/vectors.rs "$room/user/src/main.rs"
-    printf '[package]\nname = "user"\nversion = "1.0.0"\nedition = "2024"\n\n[dependencies]\naeadkit = { path = "%s" }\n' \
-        "$room/laid/share/aeadkit/rust" > "$room/user/Cargo.toml"
-    (cd "$room/user" && RUSTFLAGS="-D warnings" CARGO_TARGET_DIR="$room/target" cargo run --quiet --offline)
-    echo "ok: Rust, built by cargo"
-else
-    strict="--edition 2024 -O -D warnings"
-    rustc $strict --crate-type rlib --crate-name aeadkit -L "$out" -l static=aeadkit rust/src/lib.rs --out-dir "$room"
-    rustc $strict --extern aeadkit="$room/libaeadkit.rlib" rust/examples/vectors.rs -o "$room/rust"
-    "$room/rust"
-    echo "ok: Rust (left out: cargo, which is not there)"
-fi
+./rust-check.sh "$room/laid"
 if [ -e "$prefix/share/aeadkit/javascript" ]; then
     ./wasm-check.sh "$prefix"
 fi

@@ -9,16 +9,15 @@ use aeadkit::{
 fn sealing() -> Result<(), Fault> {
     let (key, nonce) = ([0; 16], [0; 12]);
     let mut bytes = [0; 16 + TAG_BYTES];
-    seal(Suite::Aes128Gcm, &key, &nonce, &[], &mut bytes)?;
+    seal(Suite::Aes128Gcm, &key, &nonce, &mut bytes, &[])?;
     assert_eq!(bytes[..8], [0x03, 0x88, 0xda, 0xce, 0x60, 0xb6, 0xa3, 0x92]);
     assert_eq!(bytes[24..], [0xf5, 0x3a, 0x67, 0xb2, 0x12, 0x57, 0xbd, 0xdf]);
     let before = bytes;
-    assert_eq!(open(Suite::Aes128Gcm, &key, &[1; 12], &[], &mut bytes), Err(Fault::TagMismatch));
-    assert_eq!(open(Suite::Aes128Gcm, &key, &nonce, &[], &mut bytes[..3]), Err(Fault::TooShort));
-    assert_eq!(open(Suite::Aes256Gcm, &key, &[], &[], &mut bytes), Err(Fault::KeyLength));
-    assert_eq!(open(Suite::Aes128Gcm, &key, &[], &[], &mut bytes), Err(Fault::NonceLength));
+    assert_eq!(open(Suite::Aes128Gcm, &key, &[1; 12], &mut bytes, &[]), Err(Fault::TagMismatch));
+    assert_eq!(open(Suite::Aes128Gcm, &key, &nonce, &mut bytes[..3], &[]), Err(Fault::TooShort));
+    assert_eq!(open(Suite::Aes256Gcm, &key, &nonce, &mut bytes, &[]), Err(Fault::KeyLength));
     assert_eq!(bytes, before);
-    assert_eq!(open(Suite::Aes128Gcm, &key, &nonce, &[], &mut bytes)?, &[0; 16]);
+    assert_eq!(open(Suite::Aes128Gcm, &key, &nonce, &mut bytes, &[])?, &[0; 16]);
     Ok(())
 }
 
@@ -31,16 +30,16 @@ fn keys() -> Result<(), Fault> {
         for length in [0, 1, 15, 16, 17, 300] {
             let mut bytes = vec![5; length + TAG_BYTES];
             let mut by_its_bytes = bytes.clone();
-            key.seal(&[9; 12], b"data", &mut bytes)?;
-            seal(suite, key_bytes, &[9; 12], b"data", &mut by_its_bytes)?;
+            key.seal(&[9; 12], &mut bytes, b"data")?;
+            seal(suite, key_bytes, &[9; 12], &mut by_its_bytes, b"data")?;
             assert_eq!(bytes, by_its_bytes);
-            assert_eq!(key.open(&[9; 12], b"date", &mut bytes), Err(Fault::TagMismatch));
-            assert_eq!(key.open(&[9; 12], b"data", &mut bytes)?, vec![5; length]);
+            assert_eq!(key.open(&[9; 12], &mut bytes, b"date"), Err(Fault::TagMismatch));
+            assert_eq!(key.open(&[9; 12], &mut bytes, b"data")?, vec![5; length]);
         }
         assert_eq!(Key::new(suite, &[0; 31]).err(), Some(Fault::KeyLength));
         assert_eq!(format!("{key:?}"), format!("Key({suite:?})"));
     }
-    assert_eq!(Fault::NonceLength.to_string(), "the nonce is not 12 bytes long");
+    assert_eq!(Fault::TagMismatch.to_string(), "authentication failed");
     Ok(())
 }
 
@@ -53,7 +52,7 @@ fn pieces() -> Result<(), Fault> {
         let kept = Key::new(suite, key)?;
         let mut whole = text.clone();
         whole.resize(text.len() + TAG_BYTES, 0);
-        seal(suite, key, &[9; 12], b"data", &mut whole)?;
+        seal(suite, key, &[9; 12], &mut whole, b"data")?;
         for size in [1, 15, 16, 17, 333, 1000] {
             for mut sealer in [Sealer::new(suite, key, &[9; 12], b"data")?, kept.sealer(&[9; 12], b"data")?] {
                 let mut sealed = text.clone();
@@ -61,7 +60,7 @@ fn pieces() -> Result<(), Fault> {
                     sealer.update(piece)?;
                     sealer.update(&mut [])?;
                 }
-                sealed.extend(sealer.finish());
+                sealed.extend(*sealer.finish());
                 assert_eq!(sealed, whole);
             }
         }
@@ -71,16 +70,16 @@ fn pieces() -> Result<(), Fault> {
     Ok(())
 }
 
-/// A sealing in pieces opens to its text, and only after the first pass was over all of it.
+/// A sealed text is opened in pieces, and only after the first pass was over all of it.
 fn opening() -> Result<(), Fault> {
     use Suite::*;
     for suite in [ChaCha20Poly1305, Aes128Gcm, Aes192Gcm, Aes256Gcm, Aes128GcmSiv, Aes256GcmSiv] {
         let key = &[7; 32][..suite.key_bytes()];
         let mut sealed = vec![5; 1000 + TAG_BYTES];
-        seal(suite, key, &[9; 12], b"data", &mut sealed)?;
+        seal(suite, key, &[9; 12], &mut sealed, b"data")?;
         let (body, tag) = sealed.split_last_chunk::<TAG_BYTES>().expect("a sealing has a tag");
         for size in [1, 15, 16, 17, 333, 1000] {
-            let mut opener = Opener::new(suite, key, &[9; 12], b"data", tag)?;
+            let mut opener = Opener::new(suite, key, &[9; 12], tag, b"data")?;
             for piece in body.chunks(size) {
                 opener.check(piece)?;
                 opener.check(&[])?;
@@ -94,16 +93,16 @@ fn opening() -> Result<(), Fault> {
             opener.finish()?;
             assert_eq!(text, vec![5; 1000]);
         }
-        let mut opener = Opener::new(suite, key, &[9; 12], b"date", tag)?;
+        let mut opener = Opener::new(suite, key, &[9; 12], tag, b"date")?;
         opener.check(body)?;
         assert_eq!(opener.checked().err(), Some(Fault::TagMismatch));
-        let mut opener = Opener::new(suite, key, &[9; 12], b"data", tag)?;
+        let mut opener = Opener::new(suite, key, &[9; 12], tag, b"data")?;
         opener.check(body)?;
         let mut opener = opener.checked()?;
         opener.update(&mut [0; 1000])?;
         assert_eq!(opener.finish(), Err(Fault::SourceChanged));
     }
-    assert_eq!(Opener::new(Aes128GcmSiv, &[0; 24], &[0; 12], b"", &[0; 16]).err(), Some(Fault::KeyLength));
+    assert_eq!(Opener::new(Aes128GcmSiv, &[0; 24], &[0; 12], &[0; 16], b"").err(), Some(Fault::KeyLength));
     Ok(())
 }
 
@@ -113,7 +112,7 @@ fn readings() -> Result<(), Fault> {
     for suite in [Aes128GcmSiv, Aes256GcmSiv] {
         let key = &[7; 32][..suite.key_bytes()];
         let mut whole = vec![5; 1000 + TAG_BYTES];
-        seal(suite, key, &[9; 12], b"data", &mut whole)?;
+        seal(suite, key, &[9; 12], &mut whole, b"data")?;
         for size in [1, 15, 16, 17, 333, 1000] {
             let mut sealed = vec![5; 1000];
             let mut sealer = SivSealer::new(suite, key, &[9; 12], b"data")?;
@@ -127,7 +126,7 @@ fn readings() -> Result<(), Fault> {
             }
             assert_eq!(writer.update(&mut [0]), Err(Fault::SourceChanged));
             writer.finish()?;
-            sealed.extend(tag);
+            sealed.extend(*tag);
             assert_eq!(sealed, whole);
         }
         let mut sealer = SivSealer::new(suite, key, &[9; 12], b"data")?;

@@ -1,54 +1,58 @@
+//! The faults, and the statuses of the library that they stand for.
+
 #![forbid(unsafe_code)]
 
-use std::error::Error;
-use std::fmt;
+use core::error::Error;
+use core::fmt;
 
-/// Why a call was refused.
+/// Why a call failed.
 #[derive(Clone, Copy, Debug, PartialEq, Eq, Hash)]
 #[non_exhaustive]
 pub enum Fault {
-    /// The key's length is not the suite's, or not one of AES.
+    /// The key does not have the suite's length; of key wrapping: it is not 16, 24 or 32 bytes long.
     KeyLength,
-    /// The nonce is not 12 bytes long.
+    /// The nonce is not 12 bytes long. No call returns it, since their nonces are arrays of 12 bytes. It is here for callers
+    /// that make such an array of a slice.
     NonceLength,
-    /// The text is past the suite's limit.
+    /// The text is longer than the suite's limit, which [`Suite`](crate::Suite) states; of wrapping with padding: it is longer
+    /// than 2^32 - 1 bytes.
     TextTooLong,
-    /// The associated data is past the suite's limit.
+    /// The associated data is longer than the suite's limit: 2^36 bytes under AES-GCM-SIV.
     AadTooLong,
-    /// The sealed bytes are fewer than 16.
+    /// The bytes are fewer than the 16 of a tag.
     TooShort,
-    /// The bytes are the sealing of no text.
+    /// Authentication failed: suite, key, nonce, associated data, ciphertext and tag do not belong together.
     TagMismatch,
-    /// The length is not that of a text to wrap, or of a wrapping: each call says which it takes.
+    /// The length is not a multiple of 8, or too short. Each call says which lengths it takes.
     WrapLength,
-    /// The bytes are the wrapping of no text.
+    /// The bytes are not a valid wrapping under this key.
     WrapIntegrity,
-    /// The second pass or reading is over other bytes than the first.
+    /// The second pass over a ciphertext, or the second reading of a text, had other bytes than the first.
     SourceChanged,
-    /// The call does not take the suite.
+    /// The call does not take the suite, or there is no suite of this name or number.
     UnknownSuite,
 }
 
 impl fmt::Display for Fault {
     fn fmt(&self, f: &mut fmt::Formatter<'_>) -> fmt::Result {
         f.write_str(match self {
-            Fault::KeyLength => "the key's length is not the suite's, or not one of AES",
+            Fault::KeyLength => "the key's length is not the suite's, or for key wrapping not 16, 24 or 32 bytes",
             Fault::NonceLength => "the nonce is not 12 bytes long",
-            Fault::TextTooLong => "the text is past the suite's limit",
-            Fault::AadTooLong => "the associated data is past the suite's limit",
-            Fault::TooShort => "the sealed bytes are fewer than 16",
-            Fault::TagMismatch => "the bytes are the sealing of no text under this suite, key, nonce and associated data",
-            Fault::WrapLength => "the length is none of a text to wrap, or of a wrapping",
-            Fault::WrapIntegrity => "the bytes are the wrapping of no text under this key",
-            Fault::SourceChanged => "the second pass or reading is over other bytes than the first",
-            Fault::UnknownSuite => "the call does not take the suite",
+            Fault::TextTooLong => "the text is too long",
+            Fault::AadTooLong => "the associated data is too long",
+            Fault::TooShort => "the sealed bytes are shorter than a tag of 16 bytes",
+            Fault::TagMismatch => "authentication failed",
+            Fault::WrapLength => "the length is not a multiple of 8, or too short",
+            Fault::WrapIntegrity => "not a valid wrapping under this key",
+            Fault::SourceChanged => "the second pass differs from the first",
+            Fault::UnknownSuite => "there is no such suite, or the call does not take it",
         })
     }
 }
 
 impl Error for Fault {}
 
-/// The outcome of a status.
+/// The result that a status of the library stands for.
 pub(crate) fn outcome(status: u32) -> Result<(), Fault> {
     match status {
         0 => Ok(()),
@@ -62,6 +66,6 @@ pub(crate) fn outcome(status: u32) -> Result<(), Fault> {
         8 => Err(Fault::WrapIntegrity),
         13 => Err(Fault::SourceChanged),
         14 => Err(Fault::UnknownSuite),
-        other => unreachable!("{other} is no status of a known suite"),
+        other => unreachable!("status {other} of a call with a known suite"),
     }
 }

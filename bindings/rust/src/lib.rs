@@ -1,11 +1,50 @@
-//! Authenticated encryption (RFC 8439, SP 800-38D, RFC 8452) and key wrapping (RFC 3394, RFC 5649) in place, by
-//! libaeadkit.a.
+//! Authenticated encryption (ChaCha20-Poly1305 of RFC 8439, AES-GCM of SP 800-38D, AES-GCM-SIV of RFC 8452) and key wrapping
+//! (RFC 3394, RFC 5649), by libaeadkit.a, whose code is proved.
 //!
-//! A call that returns a fault has changed no byte. None allocates. Never seal two texts with one nonce under one key:
-//! nothing here looks for it. Nothing is claimed of timing, since AES looks tables up by secret bytes, and nothing is
-//! wiped.
+//! ```
+//! use aeadkit::{Fault, Key, Suite};
+//!
+//! # fn main() -> Result<(), Fault> {
+//! let key = Key::new(Suite::Aes256GcmSiv, &[7; 32])?; // for a trial: a real key is random
+//! let nonce = [0; 12]; // of the first message under this key; count up for each further one
+//! let mut message = b"attack at dawn".to_vec();
+//! key.seal_vec(&nonce, &mut message, b"to: general")?;
+//! assert_eq!(message.len(), 14 + 16); // the ciphertext, then the tag
+//! assert_eq!(key.open_vec(&nonce, &mut message, b"to: admiral"), Err(Fault::TagMismatch));
+//! key.open_vec(&nonce, &mut message, b"to: general")?;
+//! assert_eq!(message, b"attack at dawn");
+//! # Ok(())
+//! # }
+//! ```
+//!
+//! | calls | what they take | the tag |
+//! |---|---|---|
+//! | [`seal_vec`], [`open_vec`] | a vector | is appended, and cut off |
+//! | [`seal_in_place`], [`open_in_place`] | the text or the ciphertext alone | is apart |
+//! | [`seal`], [`open`], the fastest in place | the text and 16 bytes of room behind it | stands in that room |
+//! | [`Sealer`], [`SivSealer`], [`Opener`] | a text in pieces | is apart |
+//! | [`wrap`], [`unwrap`], [`wrap_padded`], [`unwrap_padded`] | 8 bytes of room and behind it a key to wrap | |
+//!
+//! [`Key`] has the first three rows as methods, and makes its key schedule once.
+//!
+//! All calls take their arguments in one order: suite, key, nonce, the bytes that are sealed or opened, a tag that is given,
+//! and the associated data last. Associated data is authenticated and not encrypted, as the header of a message: a message
+//! opens only with the associated data that it was sealed with.
+//!
+//! Never use a nonce twice under one key: see [`seal`]. After a fault each buffer is as before; only a second pass or reading
+//! in pieces may end with [`Fault::SourceChanged`] after it changed its pieces. Nothing allocates but `seal_vec`.
+//!
+//! Nothing is claimed of timing, since AES looks tables up by secret bytes. Keys are not wiped from memory.
+//!
+//! The crate is `no_std`. Without its feature `alloc`, a default, the calls over vectors are left out. The library calls
+//! `memcpy`, `memmove`, `memset` and `bcmp`, which the C library has.
 
+#![no_std]
 #![deny(unsafe_code)]
+#![warn(missing_docs)]
+
+#[cfg(feature = "alloc")]
+extern crate alloc;
 
 mod fault;
 mod key;
@@ -14,6 +53,10 @@ mod opener;
 mod raw;
 mod sealer;
 mod siv;
+mod suite;
+mod tag;
+mod whole;
+mod wrap;
 
 pub use fault::Fault;
 use fault::outcome;
@@ -21,8 +64,14 @@ pub use key::Key;
 pub use opener::{CheckedOpener, Opener};
 pub use sealer::Sealer;
 pub use siv::{SivSealer, SivWriter};
+pub use suite::Suite;
+pub use tag::Tag;
+pub use whole::{open, open_in_place, seal, seal_in_place};
+#[cfg(feature = "alloc")]
+pub use whole::{open_vec, seal_vec};
+pub use wrap::{unwrap, unwrap_padded, wrap, wrap_padded};
 
-/// The length of a tag in bytes: a sealing is that much longer than its text.
+/// The length of a tag in bytes: a sealed text is that much longer than the text.
 pub const TAG_BYTES: usize = 16;
 
 /// A wrapping is that many bytes longer than its text.
@@ -30,71 +79,3 @@ pub const WRAP_BYTES: usize = 8;
 
 /// The length of a nonce in bytes.
 pub const NONCE_BYTES: usize = 12;
-
-/// The suites.
-#[derive(Clone, Copy, Debug, PartialEq, Eq, Hash)]
-#[repr(u32)]
-pub enum Suite {
-    ChaCha20Poly1305 = 1,
-    Aes128Gcm = 2,
-    Aes192Gcm = 3,
-    Aes256Gcm = 4,
-    Aes128GcmSiv = 5,
-    Aes256GcmSiv = 6,
-}
-
-impl Suite {
-    /// The length of a key in bytes.
-    pub const fn key_bytes(self) -> usize {
-        match self {
-            Suite::Aes128Gcm | Suite::Aes128GcmSiv => 16,
-            Suite::Aes192Gcm => 24,
-            Suite::ChaCha20Poly1305 | Suite::Aes256Gcm | Suite::Aes256GcmSiv => 32,
-        }
-    }
-}
-
-/// `bytes` are a text and room for 16 bytes; they become its sealing: the ciphertext, then the tag.
-pub fn seal(suite: Suite, key: &[u8], nonce: &[u8], aad: &[u8], bytes: &mut [u8]) -> Result<(), Fault> {
-    outcome(raw::seal(suite as u32, key, nonce, aad, bytes))
-}
-
-/// `bytes` are a sealing; they become its text, which is returned, and then the tag as it was.
-pub fn open<'a>(
-    suite: Suite,
-    key: &[u8],
-    nonce: &[u8],
-    aad: &[u8],
-    bytes: &'a mut [u8],
-) -> Result<&'a mut [u8], Fault> {
-    outcome(raw::open(suite as u32, key, nonce, aad, bytes))?;
-    let length = bytes.len() - TAG_BYTES;
-    Ok(&mut bytes[..length])
-}
-
-/// `bytes` are room for 8 bytes and then a text; they become its wrapping. The key is 16, 24 or 32 bytes long. `WrapLength`
-/// under 24 bytes, and for no multiple of 8.
-pub fn wrap(key: &[u8], bytes: &mut [u8]) -> Result<(), Fault> {
-    outcome(raw::wrap(key, bytes))
-}
-
-/// `bytes` are a wrapping; they become a6 eight times, and then its text, which is returned. `WrapLength` under 24 bytes,
-/// and for no multiple of 8.
-pub fn unwrap<'a>(key: &[u8], bytes: &'a mut [u8]) -> Result<&'a mut [u8], Fault> {
-    outcome(raw::unwrap(key, bytes))?;
-    Ok(&mut bytes[WRAP_BYTES..])
-}
-
-/// `bytes` are room for 8 bytes, then a text of `text_length` bytes, then the fewest bytes that make the length a multiple
-/// of 8; they become its wrapping with padding. `WrapLength` for no text, and for more room or less.
-pub fn wrap_padded(key: &[u8], bytes: &mut [u8], text_length: usize) -> Result<(), Fault> {
-    outcome(raw::wrap_padded(key, bytes, text_length))
-}
-
-/// `bytes` are a wrapping with padding; they become 8 bytes, then its text, which is returned, and its padding.
-/// `WrapLength` under 16 bytes, and for no multiple of 8.
-pub fn unwrap_padded<'a>(key: &[u8], bytes: &'a mut [u8]) -> Result<&'a mut [u8], Fault> {
-    let (status, length) = raw::unwrap_padded(key, bytes);
-    outcome(status)?;
-    Ok(&mut bytes[WRAP_BYTES..][..length])
-}

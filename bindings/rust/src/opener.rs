@@ -1,55 +1,90 @@
+//! Openings in pieces, in two passes.
+
 #![forbid(unsafe_code)]
 
-use crate::fault::outcome;
-use crate::{Fault, NONCE_BYTES, Suite, TAG_BYTES, raw};
-use std::fmt;
+use crate::{Fault, NONCE_BYTES, Suite, TAG_BYTES, outcome, raw};
+use core::fmt;
 
-/// The first pass of an opening in pieces, under every suite: it takes in the ciphertext and gives no text.
+/// The first pass of an opening in pieces, under every suite, which gives no text: [`Opener::check`] for each piece of the
+/// ciphertext, then [`Opener::checked`].
+#[must_use = "an opening that is not checked gives no text"]
 pub struct Opener {
     state: raw::Opener,
 }
 
-/// The second pass, which turns the ciphertext into its text, once the first was found to be over a sealing.
+/// The second pass, after the first was authenticated, which decrypts: [`CheckedOpener::update`] for each piece of the
+/// ciphertext again, then [`CheckedOpener::finish`]. The two passes may be split in different ways.
+#[must_use = "the text comes from the second pass, which `finish` ends"]
 pub struct CheckedOpener {
     state: raw::Opener,
 }
 
 impl Opener {
-    /// Begins an opening of a sealing with this tag.
+    /// Begins an opening of a ciphertext with this tag.
+    ///
+    /// # Errors
+    ///
+    /// The first of these that fits:
+    /// - `KeyLength`: `key` does not have the suite's length
+    /// - `AadTooLong`: `aad` is longer than the suite's limit
     pub fn new(
         suite: Suite,
         key: &[u8],
         nonce: &[u8; NONCE_BYTES],
-        aad: &[u8],
         tag: &[u8; TAG_BYTES],
+        aad: &[u8],
     ) -> Result<Opener, Fault> {
         let mut state = raw::Opener::default();
-        outcome(raw::opener_init(&mut state, suite as u32, key, nonce, aad, tag))?;
+        outcome(raw::opener_init(&mut state, suite as u32, key, nonce, tag, aad))?;
         Ok(Opener { state })
     }
 
-    /// Takes in a piece of the ciphertext, of any length. After `TextTooLong` nothing was changed, and a shorter piece may
-    /// follow.
+    /// Takes the next piece of the ciphertext, of any length, without a change to it. The tag is not part of the
+    /// ciphertext.
+    ///
+    /// # Errors
+    ///
+    /// `TextTooLong`: the ciphertext would be longer than the suite's limit. The piece does not count, and a shorter one
+    /// may follow.
     pub fn check(&mut self, piece: &[u8]) -> Result<(), Fault> {
         outcome(raw::opener_check(&mut self.state, piece))
     }
 
-    /// Ends the first pass. `TagMismatch` if the pieces and the tag are the sealing of no text.
+    /// Ends the first pass, and returns the second.
+    ///
+    /// # Errors
+    ///
+    /// `TagMismatch`: authentication failed.
     pub fn checked(mut self) -> Result<CheckedOpener, Fault> {
         outcome(raw::opener_checked(&mut self.state))?;
         Ok(CheckedOpener { state: self.state })
     }
+
+    /// Opens a ciphertext that is one piece.
+    pub(crate) fn open_all(mut self, bytes: &mut [u8]) -> Result<(), Fault> {
+        self.check(bytes)?;
+        let mut opener = self.checked()?;
+        opener.update(bytes)?;
+        opener.finish()
+    }
 }
 
 impl CheckedOpener {
-    /// Takes in a piece of the ciphertext, of any length; it becomes its text. `SourceChanged` if the second pass would be
-    /// longer than the first: nothing was changed then.
+    /// Takes the next piece of the ciphertext, of any length. On success `piece` is its text, which may be used once
+    /// [`CheckedOpener::finish`] returned `Ok`.
+    ///
+    /// # Errors
+    ///
+    /// `SourceChanged`: the second pass would be longer than the first. The piece is not changed and does not count.
     pub fn update(&mut self, piece: &mut [u8]) -> Result<(), Fault> {
         outcome(raw::opener_update(&mut self.state, piece))
     }
 
-    /// Ends the second pass. `SourceChanged` if its pieces and the tag are the sealing of no text: what `update` gave is then
-    /// to be thrown away.
+    /// Ends the second pass.
+    ///
+    /// # Errors
+    ///
+    /// `SourceChanged`: authentication of the second pass failed. What `update` made is to be thrown away.
     pub fn finish(mut self) -> Result<(), Fault> {
         outcome(raw::opener_finish(&mut self.state))
     }

@@ -1,4 +1,5 @@
-//! The calls of libaeadkit.a over slices, which promise what the library requires of memory. Each returns a status.
+//! The calls of libaeadkit.a over slices, which promise what the library requires of memory. Each returns a status. Their
+//! arguments come in the order of this crate, and those of the library in the order of its header.
 
 unsafe extern "C" {
     #[rustfmt::skip]
@@ -54,7 +55,7 @@ pub struct Sealer {
     private: [u64; 18],
 }
 
-pub fn sealer_init(sealer: &mut Sealer, suite: u32, key: &[u8], nonce: &[u8], aad: &[u8]) -> u32 {
+pub fn sealer_init(sealer: &mut Sealer, suite: u32, key: &[u8], nonce: &[u8; 12], aad: &[u8]) -> u32 {
     let (k, n, a) = (key.as_ptr(), nonce.as_ptr(), aad.as_ptr());
     // SAFETY: as of `seal`, and the struct has the library's size.
     unsafe { aeadkit_sealer_init(sealer, suite, k, key.len(), n, nonce.len(), a, aad.len()) }
@@ -77,7 +78,14 @@ pub struct Opener {
     private: [u64; 25],
 }
 
-pub fn opener_init(opener: &mut Opener, suite: u32, key: &[u8], nonce: &[u8], aad: &[u8], tag: &[u8; 16]) -> u32 {
+pub fn opener_init(
+    opener: &mut Opener,
+    suite: u32,
+    key: &[u8],
+    nonce: &[u8; 12],
+    tag: &[u8; 16],
+    aad: &[u8],
+) -> u32 {
     let (k, n, a) = (key.as_ptr(), nonce.as_ptr(), aad.as_ptr());
     // SAFETY: as of `seal`, and the struct has the library's size.
     unsafe { aeadkit_opener_init(opener, suite, k, key.len(), n, nonce.len(), a, aad.len(), tag) }
@@ -110,7 +118,7 @@ pub struct Siv {
     private: [u64; 25],
 }
 
-pub fn siv_init(siv: &mut Siv, suite: u32, key: &[u8], nonce: &[u8], aad: &[u8]) -> u32 {
+pub fn siv_init(siv: &mut Siv, suite: u32, key: &[u8], nonce: &[u8; 12], aad: &[u8]) -> u32 {
     let (k, n, a) = (key.as_ptr(), nonce.as_ptr(), aad.as_ptr());
     // SAFETY: as of `seal`, and the struct has the library's size.
     unsafe { aeadkit_siv_init(siv, suite, k, key.len(), n, nonce.len(), a, aad.len()) }
@@ -155,31 +163,31 @@ pub fn key_init(kept: &mut Key, suite: u32, key: &[u8]) -> u32 {
     unsafe { aeadkit_key_init(kept, suite, key.as_ptr(), key.len()) }
 }
 
-pub fn seal_with(kept: &Key, nonce: &[u8], aad: &[u8], bytes: &mut [u8]) -> u32 {
+pub fn seal_with(kept: &Key, nonce: &[u8; 12], bytes: &mut [u8], aad: &[u8]) -> u32 {
     let (n, a, room) = (nonce.as_ptr(), aad.as_ptr(), bytes.as_mut_ptr());
     // SAFETY: as of `seal`; the struct is zeros, or as `key_init` left it.
     unsafe { aeadkit_seal_with(kept, n, nonce.len(), a, aad.len(), room, bytes.len()) }
 }
 
-pub fn open_with(kept: &Key, nonce: &[u8], aad: &[u8], bytes: &mut [u8]) -> u32 {
+pub fn open_with(kept: &Key, nonce: &[u8; 12], bytes: &mut [u8], aad: &[u8]) -> u32 {
     let (n, a, room) = (nonce.as_ptr(), aad.as_ptr(), bytes.as_mut_ptr());
     // SAFETY: as of `seal_with`.
     unsafe { aeadkit_open_with(kept, n, nonce.len(), a, aad.len(), room, bytes.len()) }
 }
 
-pub fn sealer_init_with(sealer: &mut Sealer, kept: &Key, nonce: &[u8], aad: &[u8]) -> u32 {
+pub fn sealer_init_with(sealer: &mut Sealer, kept: &Key, nonce: &[u8; 12], aad: &[u8]) -> u32 {
     // SAFETY: as of `sealer_init` and of `seal_with`.
     unsafe { aeadkit_sealer_init_with(sealer, kept, nonce.as_ptr(), nonce.len(), aad.as_ptr(), aad.len()) }
 }
 
-pub fn seal(suite: u32, key: &[u8], nonce: &[u8], aad: &[u8], bytes: &mut [u8]) -> u32 {
+pub fn seal(suite: u32, key: &[u8], nonce: &[u8; 12], bytes: &mut [u8], aad: &[u8]) -> u32 {
     let (k, n, a) = (key.as_ptr(), nonce.as_ptr(), aad.as_ptr());
     let (room, length) = (bytes.as_mut_ptr(), bytes.len());
     // SAFETY: each pointer and length are those of a slice, and only the last one is written.
     unsafe { aeadkit_seal(suite, k, key.len(), n, nonce.len(), a, aad.len(), room, length) }
 }
 
-pub fn open(suite: u32, key: &[u8], nonce: &[u8], aad: &[u8], bytes: &mut [u8]) -> u32 {
+pub fn open(suite: u32, key: &[u8], nonce: &[u8; 12], bytes: &mut [u8], aad: &[u8]) -> u32 {
     let (k, n, a) = (key.as_ptr(), nonce.as_ptr(), aad.as_ptr());
     let (room, length) = (bytes.as_mut_ptr(), bytes.len());
     // SAFETY: as of `seal`.

@@ -1,41 +1,65 @@
+//! Sealings in pieces, in one reading.
+
 #![forbid(unsafe_code)]
 
-use crate::fault::outcome;
-use crate::{Fault, NONCE_BYTES, Suite, TAG_BYTES, raw};
-use std::fmt;
+use crate::{Fault, NONCE_BYTES, Suite, TAG_BYTES, Tag, outcome, raw};
+use core::fmt;
 
-/// A sealing in pieces, under ChaCha20-Poly1305 or AES-GCM: the ciphertext of all pieces, then the tag, is what `seal`
-/// makes of the whole text, for every split into pieces.
+/// A sealing in pieces, under ChaCha20-Poly1305 or AES-GCM: [`Sealer::update`] for each piece of the text, then
+/// [`Sealer::finish`].
+///
+/// The ciphertext of all pieces, and then the tag, is what [`seal`](crate::seal) makes of the whole text. The result does
+/// not depend on how the text is split.
+#[must_use = "a sealing that is not finished has no tag"]
 pub struct Sealer {
     state: raw::Sealer,
 }
 
 impl Sealer {
-    /// Begins a sealing, of no text yet. `UnknownSuite` for AES-GCM-SIV, which reads a text twice.
+    /// Begins a sealing, of an empty text so far.
+    ///
+    /// # Errors
+    ///
+    /// The first of these that fits:
+    /// - `UnknownSuite`: the suite is an AES-GCM-SIV, which reads a text twice; [`SivSealer`](crate::SivSealer) serves it
+    /// - `KeyLength`: `key` does not have the suite's length
+    /// - `AadTooLong`: `aad` is longer than the suite's limit
+    ///
+    #[doc = include_str!("never_repeat_a_nonce.md")]
     pub fn new(suite: Suite, key: &[u8], nonce: &[u8; NONCE_BYTES], aad: &[u8]) -> Result<Sealer, Fault> {
         let mut state = raw::Sealer::default();
         outcome(raw::sealer_init(&mut state, suite as u32, key, nonce, aad))?;
         Ok(Sealer { state })
     }
 
-    /// Begins a sealing under a key that is kept.
+    /// Begins a sealing under a kept key.
     pub(crate) fn under(kept: &raw::Key, nonce: &[u8; NONCE_BYTES], aad: &[u8]) -> Result<Sealer, Fault> {
         let mut state = raw::Sealer::default();
         outcome(raw::sealer_init_with(&mut state, kept, nonce, aad))?;
         Ok(Sealer { state })
     }
 
-    /// Adds a piece of any length to the text; it becomes its ciphertext. After `TextTooLong` nothing was changed, and a
-    /// shorter piece may follow.
+    /// Adds a piece of any length to the text. On success `piece` is its ciphertext.
+    ///
+    /// # Errors
+    ///
+    /// `TextTooLong`: the text would be longer than the suite's limit. The piece is not changed and does not count, and a
+    /// shorter one may follow.
     pub fn update(&mut self, piece: &mut [u8]) -> Result<(), Fault> {
         outcome(raw::sealer_update(&mut self.state, piece))
     }
 
-    /// The tag of the text.
-    pub fn finish(mut self) -> [u8; TAG_BYTES] {
+    /// Ends the sealing, and returns the tag of the text.
+    pub fn finish(mut self) -> Tag {
         let mut tag = [0; TAG_BYTES];
         outcome(raw::sealer_finish(&mut self.state, &mut tag)).expect("the sealing was begun");
-        tag
+        Tag(tag)
+    }
+
+    /// Seals a text that is one piece.
+    pub(crate) fn seal_all(mut self, text: &mut [u8]) -> Result<Tag, Fault> {
+        self.update(text)?;
+        Ok(self.finish())
     }
 }
 

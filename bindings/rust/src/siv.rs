@@ -1,49 +1,87 @@
+//! Sealings in pieces under AES-GCM-SIV, in two readings.
+
 #![forbid(unsafe_code)]
 
-use crate::fault::outcome;
-use crate::{Fault, NONCE_BYTES, Suite, TAG_BYTES, raw};
-use std::fmt;
+use crate::{Fault, NONCE_BYTES, Suite, TAG_BYTES, Tag, outcome, raw};
+use core::fmt;
 
-/// The first reading of a sealing in pieces under AES-GCM-SIV, whose tag is over the text: it takes in the text.
+/// The first reading of a sealing in pieces under AES-GCM-SIV, whose tag is over the text: [`SivSealer::absorb`] for each
+/// piece of the text, then [`SivSealer::tag`].
+#[must_use = "a sealing that is not finished has no tag"]
 pub struct SivSealer {
     state: raw::Siv,
 }
 
-/// The second reading, which turns the text into its ciphertext. The sealing is the ciphertext of all pieces, then the tag.
+/// The second reading, which encrypts the text: [`SivWriter::update`] for each piece again, then [`SivWriter::finish`].
+///
+/// The ciphertext of all pieces, and then the tag, is what [`seal`](crate::seal) makes of the whole text. The two readings
+/// may be split in different ways.
+#[must_use = "the ciphertext comes from the second reading, which `finish` ends"]
 pub struct SivWriter {
     state: raw::Siv,
 }
 
 impl SivSealer {
-    /// Begins a sealing, of no text yet. `UnknownSuite` for ChaCha20-Poly1305 and AES-GCM, which read a text once.
+    /// Begins a sealing, of an empty text so far.
+    ///
+    /// # Errors
+    ///
+    /// The first of these that fits:
+    /// - `UnknownSuite`: the suite is not an AES-GCM-SIV; [`Sealer`](crate::Sealer) serves the others, which read a text once
+    /// - `KeyLength`: `key` does not have the suite's length
+    /// - `AadTooLong`: `aad` is longer than the suite's limit
+    ///
+    #[doc = include_str!("never_repeat_a_nonce.md")]
     pub fn new(suite: Suite, key: &[u8], nonce: &[u8; NONCE_BYTES], aad: &[u8]) -> Result<SivSealer, Fault> {
         let mut state = raw::Siv::default();
         outcome(raw::siv_init(&mut state, suite as u32, key, nonce, aad))?;
         Ok(SivSealer { state })
     }
 
-    /// Takes in a piece of the text, of any length. After `TextTooLong` nothing was changed, and a shorter piece may follow.
+    /// Adds a piece of any length to the text, without a change to the piece.
+    ///
+    /// # Errors
+    ///
+    /// `TextTooLong`: the text would be longer than the suite's limit. The piece does not count, and a shorter one may
+    /// follow.
     pub fn absorb(&mut self, piece: &[u8]) -> Result<(), Fault> {
         outcome(raw::siv_absorb(&mut self.state, piece))
     }
 
-    /// Ends the first reading: the tag of its text, and the second reading.
-    pub fn tag(mut self) -> ([u8; TAG_BYTES], SivWriter) {
+    /// Ends the first reading, and returns the tag of its text and the second reading.
+    pub fn tag(mut self) -> (Tag, SivWriter) {
         let mut tag = [0; TAG_BYTES];
         outcome(raw::siv_tag(&mut self.state, &mut tag)).expect("the sealing was begun");
-        (tag, SivWriter { state: self.state })
+        (Tag(tag), SivWriter { state: self.state })
+    }
+
+    /// Seals a text that is one piece.
+    pub(crate) fn seal_all(mut self, text: &mut [u8]) -> Result<Tag, Fault> {
+        self.absorb(text)?;
+        let (tag, mut writer) = self.tag();
+        writer.update(text)?;
+        writer.finish()?;
+        Ok(tag)
     }
 }
 
 impl SivWriter {
-    /// Takes in a piece of the text, of any length; it becomes its ciphertext. `SourceChanged` if the second reading would be
-    /// longer than the first: nothing was changed then.
+    /// Takes the next piece of the text, of any length. On success `piece` is its ciphertext, which may be used once
+    /// [`SivWriter::finish`] returned `Ok`.
+    ///
+    /// # Errors
+    ///
+    /// `SourceChanged`: the second reading would be longer than the first. The piece is not changed and does not count.
     pub fn update(&mut self, piece: &mut [u8]) -> Result<(), Fault> {
         outcome(raw::siv_update(&mut self.state, piece))
     }
 
-    /// Ends the second reading. `SourceChanged` if its text had another length or tag than the first: what `update` gave is
-    /// then to be thrown away.
+    /// Ends the second reading.
+    ///
+    /// # Errors
+    ///
+    /// `SourceChanged`: its text had another length or another tag than the first. What `update` made is to be thrown
+    /// away.
     pub fn finish(mut self) -> Result<(), Fault> {
         outcome(raw::siv_finish(&mut self.state))
     }

@@ -1,0 +1,120 @@
+#!/bin/sh
+# Builds the crate that packages.sh laid out as users do, and runs its example, its tests and the example of its page.
+set -eu
+if [ $# != 1 ]; then
+    echo "usage: rust-check.sh PREFIX" >&2
+    exit 2
+fi
+prefix=$(cd "$1" && pwd)
+cd "$(dirname "$0")"
+room=$(mktemp -d)
+trap 'rm -rf "$room"' EXIT
+strict="--edition 2024 -D warnings"
+echo 'unsafe extern "C" {} fn main() {}' > "$room/probe.rs"
+if ! { rustc --edition 2024 "$room/probe.rs" -o "$room/probe" && "$room/probe"; } > "$room/log" 2>&1; then
+    echo "left out: Rust, no rustc of edition 2024"
+    exit 0
+fi
+if ! cargo --version > "$room/log" 2>&1; then
+    rustc $strict -O --crate-type rlib --crate-name aeadkit --cfg 'feature="alloc"' -L "$prefix/lib" -l static=aeadkit \
+        "$prefix/share/aeadkit/rust/src/lib.rs" --out-dir "$room"
+    rustc $strict -O --extern aeadkit="$room/libaeadkit.rlib" rust/examples/vectors.rs -o "$room/vectors"
+    "$room/vectors"
+    rustc $strict -O --test --extern aeadkit="$room/libaeadkit.rlib" rust/tests/calls.rs -o "$room/calls"
+    "$room/calls" --quiet > "$room/log" || { cat "$room/log" >&2; exit 1; }
+    echo "ok: Rust, its example and tests (left out: cargo, which is not there)"
+    exit 0
+fi
+
+export CARGO_TARGET_DIR="$room/target" RUSTFLAGS="-D warnings" RUSTDOCFLAGS="-D warnings"
+# Makes a crate that uses it: user NAME [FEATURES]
+user() {
+    mkdir -p "$room/$1/src"
+    cat > "$room/$1/Cargo.toml" <<TOML
+[package]
+name = "$1"
+version = "1.0.0"
+edition = "2024"
+
+[dependencies]
+aeadkit = { path = "$prefix/share/aeadkit/rust"${2:-} }
+
+[profile.release]
+panic = "abort"
+lto = true
+TOML
+}
+# Runs cargo in a crate, and prints what it says if it fails: in_crate NAME WORD..
+in_crate() {
+    crate=$room/$1
+    shift
+    (cd "$crate" && cargo "$@" --quiet --offline) > "$room/log" 2>&1 || { cat "$room/log" >&2; exit 1; }
+}
+
+user user
+cp -R rust/examples rust/tests "$room/user/"
+cp rust/examples/vectors.rs "$room/user/src/main.rs"
+in_crate user run
+in_crate user test
+# The crate's page, from a copy outside the prefix, since cargo writes beside the crate that it is run in.
+cp -R "$prefix/share/aeadkit/rust" "$room/aeadkit"
+(export AEADKIT_PREFIX="$prefix" && in_crate aeadkit test --doc && in_crate aeadkit doc)
+
+# What does not compile: a tag that is dropped, exchanged bytes and associated data, a nonce of another length, a copy of a state.
+user wrong
+# Whether a line compiles: compiles LINE
+compiles() {
+    printf 'fn main() -> Result<(), aeadkit::Fault> {
+    let (key, mut text) = (aeadkit::Key::new(aeadkit::Suite::Aes128Gcm, &[0; 16])?, [0; 32]);
+    %s
+    Ok(())
+}\n' "$1" > "$room/wrong/src/main.rs"
+    (cd "$room/wrong" && cargo check --quiet --offline) > "$room/log" 2>&1
+}
+# Wants a line to be refused: refused ERROR LINE
+refused() {
+    ! compiles "$2" || { echo "this compiles: $2" >&2; exit 1; }
+    grep -q "$1" "$room/log" || { cat "$room/log" >&2; exit 1; }
+}
+compiles 'key.seal(&[0; 12], &mut text, b"aad")?;' || { cat "$room/log" >&2; exit 1; }
+refused 'unused `Tag` that must be used' 'key.seal_in_place(&[0; 12], &mut text, b"aad")?;'
+refused 'unused `Tag` that must be used' 'key.sealer(&[0; 12], b"aad")?.finish();'
+refused 'unused `Sealer` that must be used' 'key.sealer(&[0; 12], b"aad")?;'
+refused E0308 'key.seal(&[0; 12], b"aad", &mut text)?;'
+refused E0308 'key.seal(&[0; 13], &mut text, b"aad")?;'
+refused E0308 'key.seal(&[0; 12][..], &mut text, b"aad")?;'
+refused E0599 'let sealer = key.sealer(&[0; 12], b"aad")?; let _ = sealer.clone().finish();'
+
+# A program without std, and without an allocator.
+user bare ', default-features = false'
+cat > "$room/bare/src/main.rs" <<'RUST'
+#![no_std]
+#![no_main]
+
+use aeadkit::{Fault, Key, Suite};
+
+#[link(name = "c")]
+unsafe extern "C" {}
+
+#[panic_handler]
+fn panic(_: &core::panic::PanicInfo<'_>) -> ! {
+    loop {}
+}
+
+fn there_and_back(key: &Key) -> Result<bool, Fault> {
+    let mut text = *b"a text of more than sixteen bytes";
+    let tag = key.seal_in_place(&[9; 12], &mut text, b"aad")?;
+    key.open_in_place(&[9; 12], &mut text, &tag, b"aad")?;
+    Ok(text == *b"a text of more than sixteen bytes")
+}
+
+#[unsafe(no_mangle)]
+extern "C" fn main() -> i32 {
+    let suites = [Suite::ChaCha20Poly1305, Suite::Aes256Gcm, Suite::Aes256GcmSiv];
+    let all = suites.iter().all(|suite| Key::new(*suite, &[7; 32]).and_then(|key| there_and_back(&key)) == Ok(true));
+    if all { 0 } else { 1 }
+}
+RUST
+in_crate bare run --release
+
+echo "ok: Rust, built by cargo: its example, tests and page, and without std"

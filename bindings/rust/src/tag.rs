@@ -1,0 +1,27 @@
+//! Tags.
+
+#![forbid(unsafe_code)]
+
+use crate::TAG_BYTES;
+use core::ops::Deref;
+
+/// The tag of a sealed text. It reads as an array: `&tag` is taken where `&[u8; 16]` is wanted, and `*tag` is the array.
+///
+/// A call whose tag is dropped warns, also behind `?`, since the text cannot be opened without its tag.
+#[must_use = "a sealed text cannot be opened without its tag"]
+#[derive(Clone, Copy, Debug, PartialEq, Eq)]
+pub struct Tag(pub [u8; TAG_BYTES]);
+
+impl Deref for Tag {
+    type Target = [u8; TAG_BYTES];
+
+    fn deref(&self) -> &[u8; TAG_BYTES] {
+        &self.0
+    }
+}
+
+impl From<Tag> for [u8; TAG_BYTES] {
+    fn from(tag: Tag) -> [u8; TAG_BYTES] {
+        tag.0
+    }
+}
