@@ -8,7 +8,8 @@ if [ $# -lt 2 ]; then
   PREFIX            gets bin, include, lib and share, as /usr/local has them
   --library         include and lib alone, for one processor, without the packages
   --cpu=x86-64-v3   rattle's flag for processors with AVX2; the default is x86-64-v2, and without the flag
-                    lib/glibc-hwcaps has a build for AVX2 too, which the system's loader takes by itself
+                    lib/glibc-hwcaps has a build for AVX2 too, which the system's loader takes by itself, and
+                    lib/x86-64-v3 its archive
 The copy that is proved is kept in PREFIX/.aeadkit, or in the folder that AEADKIT_WORK names; the next run proves
 only what has changed since." >&2
     exit 2
@@ -28,9 +29,9 @@ fast=yes
 case " $* " in *" --cpu"*) fast=no ;; esac
 if [ $whole = yes ] && [ $fast = yes ]; then
     hwcaps=$prefix/lib/glibc-hwcaps/x86-64-v3
-    mkdir -p "$hwcaps"
-    archive "$room" "$room" "$@" --cpu=x86-64-v3
-    shared "$room/libaeadkit.a" "$hwcaps" "$version" "$here/exports.map"
+    mkdir -p "$hwcaps" "$prefix/lib/x86-64-v3"
+    archive "$room" "$prefix/lib/x86-64-v3" "$@" --cpu=x86-64-v3
+    shared "$prefix/lib/x86-64-v3/libaeadkit.a" "$hwcaps" "$version" "$here/exports.map"
 fi
 archive "$room" "$prefix/lib" "$@"
 shared "$prefix/lib/libaeadkit.a" "$prefix/lib" "$version" "$here/exports.map"

@@ -117,4 +117,19 @@ extern "C" fn main() -> i32 {
 RUST
 in_crate bare run --release
 
-echo "ok: Rust, built by cargo: its example, tests and page, and without std"
+# A program for processors with AVX2 has the library's build for these, and no other program has it.
+linked() {
+    grep -q '^cargo::rustc-link-search=.*/x86-64-v3$' "$room/$1/debug/build/aeadkit-"*/output
+}
+! linked target || { echo "the build for AVX2 is linked for any processor" >&2; exit 1; }
+if [ ! -e "$prefix/lib/x86-64-v3/libaeadkit.a" ]; then
+    fast="(left out: AVX2, no archive for it)"
+elif ! { grep -qw avx2 /proc/cpuinfo && grep -qw bmi2 /proc/cpuinfo; }; then
+    fast="(left out: AVX2, which this processor lacks)"
+else
+    fast="and for AVX2"
+    export RUSTFLAGS="-D warnings -C target-cpu=x86-64-v3" CARGO_TARGET_DIR="$room/fast"
+    in_crate user run
+    linked fast || { echo "the build for AVX2 is not linked" >&2; exit 1; }
+fi
+echo "ok: Rust, built by cargo: its example, tests and page, without std, $fast"

@@ -37,7 +37,8 @@
 //! Nothing is claimed of timing, since AES looks tables up by secret bytes. Keys are not wiped from memory.
 //!
 //! The crate is `no_std`. Without its feature `alloc`, a default, the calls over vectors are left out. The library calls
-//! `memcpy`, `memmove`, `memset` and `bcmp`, which the C library has.
+//! `memcpy`, `memmove`, `memset` and `bcmp`, which the C library has. If the program is compiled for processors with AVX2, as
+//! with `RUSTFLAGS="-C target-cpu=x86-64-v3"`, the library's build for these is linked.
 
 #![no_std]
 #![deny(unsafe_code)]
