@@ -1,5 +1,5 @@
 #!/bin/sh
-# Builds the crate that packages.sh laid out as users do, and runs its example, its tests and the example of its page.
+# Builds the crate that packages.sh laid out as users do, and runs its examples, its tests and the example of its page.
 set -eu
 if [ $# != 1 ]; then
     echo "usage: rust-check.sh PREFIX" >&2
@@ -18,11 +18,13 @@ fi
 if ! cargo --version > "$room/log" 2>&1; then
     rustc $strict -O --crate-type rlib --crate-name aeadkit --cfg 'feature="alloc"' -L "$prefix/lib" -l static=aeadkit \
         "$prefix/share/aeadkit/rust/src/lib.rs" --out-dir "$room"
-    rustc $strict -O --extern aeadkit="$room/libaeadkit.rlib" rust/examples/vectors.rs -o "$room/vectors"
-    "$room/vectors"
+    for name in vectors frames; do
+        rustc $strict -O --extern aeadkit="$room/libaeadkit.rlib" rust/examples/$name.rs -o "$room/$name"
+        "$room/$name"
+    done
     rustc $strict -O --test --extern aeadkit="$room/libaeadkit.rlib" rust/tests/calls.rs -o "$room/calls"
     "$room/calls" --quiet > "$room/log" || { cat "$room/log" >&2; exit 1; }
-    echo "ok: Rust, its example and tests (left out: cargo, which is not there)"
+    echo "ok: Rust, its examples and tests (left out: cargo, which is not there)"
     exit 0
 fi
 
@@ -55,6 +57,7 @@ user user
 cp -R rust/examples rust/tests "$room/user/"
 cp rust/examples/vectors.rs "$room/user/src/main.rs"
 in_crate user run
+in_crate user run --example frames
 in_crate user test
 # The crate's page, from a copy outside the prefix, since cargo writes beside the crate that it is run in.
 cp -R "$prefix/share/aeadkit/rust" "$room/aeadkit"
@@ -132,4 +135,4 @@ else
     in_crate user run
     linked fast || { echo "the build for AVX2 is not linked" >&2; exit 1; }
 fi
-echo "ok: Rust, built by cargo: its example, tests and page, without std, $fast"
+echo "ok: Rust, built by cargo: its examples, tests and page, without std, $fast"
