@@ -1,5 +1,5 @@
 #!/bin/sh
-# Installs the JavaScript package that wasm.sh laid out in a fresh folder, and runs its example there.
+# Installs the JavaScript package that wasm.sh laid out in a fresh folder, and runs its example and tests there.
 set -eu
 if [ $# != 1 ]; then
     echo "usage: wasm-check.sh PREFIX" >&2
@@ -13,7 +13,7 @@ if ! node --version > "$room/log" 2>&1; then
     echo "left out: JavaScript, no node"
     exit 0
 fi
-cp wasm/example.mjs "$room/"
+cp wasm/example.mjs wasm/calls.mjs "$room/"
 by=npm
 if npm --version > "$room/log" 2>&1; then
     (cd "$room" && npm pack --silent "$package" && npm install --silent --offline --no-audit --no-fund ./aeadkit-*.tgz) \
@@ -29,12 +29,14 @@ else
     strict="--strict --noEmit --target es2022 --lib es2022 --module nodenext --moduleResolution nodenext"
     (cd "$room" && tsc $strict node_modules/aeadkit/node.d.mts) || exit 1
 fi
-if (cd "$room" && { node example.mjs || node --experimental-wasm-memory64 example.mjs; }) > "$room/log" 2>&1; then
-    echo "ok: JavaScript ($by)"
-else
-    cat "$room/log" >&2
-    exit 1
+flag=--experimental-wasm-memory64
+if (cd "$room" && node -e 'import("aeadkit/node")' || ! node $flag -e '') > "$room/log" 2>&1; then
+    flag=
 fi
+for name in example calls; do
+    (cd "$room" && node $flag $name.mjs) > "$room/log" 2>&1 || { cat "$room/log" >&2; exit 1; }
+done
+echo "ok: JavaScript ($by)"
 
 # The same example in a browser: a page maps its imports to a module that holds the bytes of both modules.
 browser=$(command -v chromium || command -v chromium-browser || command -v google-chrome || true)

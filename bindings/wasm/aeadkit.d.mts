@@ -1,4 +1,8 @@
-/** The numbers of the suites. */
+/**
+ * The suites, by their numbers. Each takes a nonce of 12 bytes and makes a tag of 16 bytes.
+ *
+ * Keys are 32 bytes long under ChaCha20-Poly1305, and 16, 24 or 32 bytes under AES, as the name says.
+ */
 export const Suite: {
     readonly CHACHA20_POLY1305: 1;
     readonly AES_128_GCM: 2;
@@ -9,125 +13,261 @@ export const Suite: {
 };
 export type Suite = (typeof Suite)[keyof typeof Suite];
 
+/** The names of the faults, each of which has a class. */
 export type Fault =
-    | "KeyLength" | "NonceLength" | "TextTooLong" | "AadTooLong" | "TooShort" | "TagMismatch" | "WrapLength" | "WrapIntegrity"
-    | "SourceChanged" | "UnknownSuite" | "NotBegun";
+    | "KeyLength" | "NonceLength" | "TextTooLong" | "AadTooLong" | "TooShort" | "TagMismatch" | "TagLength" | "WrapLength"
+    | "WrapIntegrity" | "SourceChanged" | "UnknownSuite" | "NotBegun";
 
-/** Why a call was refused. */
-export class Refused extends Error {
-    readonly fault: Fault;
+/** Why a call failed: each fault is a class that extends this one. */
+export abstract class Refused extends Error {
+    /** The name of the fault, which is that of its class. */
+    abstract readonly fault: Fault;
 }
+/** The key does not have the suite's length; of key wrapping: it is not 16, 24 or 32 bytes long. */
+export class KeyLength extends Refused { readonly fault: "KeyLength"; }
+/** The nonce is not 12 bytes long. */
+export class NonceLength extends Refused { readonly fault: "NonceLength"; }
+/** The text is longer than the suite's limit, or for wrapping with padding than 2^32 - 1 bytes. */
+export class TextTooLong extends Refused { readonly fault: "TextTooLong"; }
+/** The associated data is longer than the suite's limit. */
+export class AadTooLong extends Refused { readonly fault: "AadTooLong"; }
+/** The sealed bytes are shorter than a tag of 16 bytes. */
+export class TooShort extends Refused { readonly fault: "TooShort"; }
+/** Authentication failed: suite, key, nonce, associated data, ciphertext and tag do not belong together. */
+export class TagMismatch extends Refused { readonly fault: "TagMismatch"; }
+/** The tag that an `Opener` is begun with is not 16 bytes long. */
+export class TagLength extends Refused { readonly fault: "TagLength"; }
+/** The length is not a multiple of 8, or too short: each call says which lengths it takes. */
+export class WrapLength extends Refused { readonly fault: "WrapLength"; }
+/** The bytes are not a valid wrapping under this key. */
+export class WrapIntegrity extends Refused { readonly fault: "WrapIntegrity"; }
+/** The second pass or reading had other bytes than the first. */
+export class SourceChanged extends Refused { readonly fault: "SourceChanged"; }
+/** There is no suite of this number, or the call does not take it. */
+export class UnknownSuite extends Refused { readonly fault: "UnknownSuite"; }
+/** The state is finished, or is not in the pass or reading that the call belongs to. */
+export class NotBegun extends Refused { readonly fault: "NotBegun"; }
 
-/** The calls of aead.wasm, whose bytes are handed in. */
-export class Aead {
-    constructor(bytes: ArrayBuffer | ArrayBufferView);
-
-    /** The ciphertext and the tag of 16 bytes. Never seal two texts with one nonce under one key. */
-    seal(suite: Suite, key: Uint8Array, nonce: Uint8Array, aad: Uint8Array, text: Uint8Array): Uint8Array;
-
-    /** The text of a sealing. */
-    open(suite: Suite, key: Uint8Array, nonce: Uint8Array, aad: Uint8Array, sealed: Uint8Array): Uint8Array;
-}
-
-/** A key that is kept between messages: its schedule is made once. */
-export class Key {
-    /** Keeps a key of a suite, for the calls of an `Aead`. */
-    constructor(aead: Aead, suite: Suite, key: Uint8Array);
-
-    /** The ciphertext and the tag of 16 bytes. Never seal two texts with one nonce under one key. */
-    seal(nonce: Uint8Array, aad: Uint8Array, text: Uint8Array): Uint8Array;
-
-    /** The text of a sealing. */
-    open(nonce: Uint8Array, aad: Uint8Array, sealed: Uint8Array): Uint8Array;
-
-    /** Begins a sealing in pieces, of no text yet. `UnknownSuite` for AES-GCM-SIV, which reads a text twice. */
-    sealer(nonce: Uint8Array, aad: Uint8Array): Sealer;
+/** The options of a call: a plain object, its last argument. A call throws a `TypeError` if it has a key of another name. */
+export interface Options {
+    /** The associated data, which is authenticated and not encrypted, as the header of a message. It is empty if it is left out. */
+    aad?: Uint8Array | undefined;
 }
 
 /**
- * A sealing in pieces, under ChaCha20-Poly1305 or AES-GCM: the ciphertext of all pieces, then the tag, is what `seal` makes of
- * the whole text, for any split into pieces.
+ * The calls of aead.wasm, whose bytes are handed in.
+ *
+ * A call that throws has changed none of its arguments, and each result is an array of its own.
+ *
+ * Here and in the classes below, a call throws a `TypeError`, before the faults that it names, if an argument is not a Uint8Array
+ * where one is wanted, or if its options are not a plain object. In version 2.0 the associated data stood before the text or the
+ * tag, as a Uint8Array: such a call throws a `TypeError`.
+ */
+export class Aead {
+    constructor(bytes: ArrayBuffer | ArrayBufferView);
+
+    /**
+     * Returns the ciphertext and then the tag of 16 bytes.
+     *
+     * Never use a nonce twice under one key. If two texts are sealed with one nonce and key, ChaCha20-Poly1305 and AES-GCM give
+     * away the XOR of the two texts, and enough to forge messages; AES-GCM-SIV gives away only whether the texts and the
+     * associated data were the same. No call notices a repeated nonce.
+     *
+     * Throws the first of these that fits: `UnknownSuite`, `KeyLength`, `NonceLength`, `AadTooLong`, `TextTooLong`.
+     */
+    seal(suite: Suite, key: Uint8Array, nonce: Uint8Array, text: Uint8Array, options?: Options): Uint8Array;
+
+    /**
+     * Returns the text of what `seal` made, which is the ciphertext and then the tag.
+     *
+     * Throws the first of these that fits: `UnknownSuite`, `KeyLength`, `NonceLength`, `AadTooLong`, `TooShort`, `TextTooLong`,
+     * `TagMismatch`.
+     */
+    open(suite: Suite, key: Uint8Array, nonce: Uint8Array, sealed: Uint8Array, options?: Options): Uint8Array;
+}
+
+/**
+ * A suite and a key, whose key schedule is made once, for the calls of one `Aead`. It is not cloned: `structuredClone` and
+ * `postMessage` give an object that has none of its calls.
+ */
+export class Key {
+    /**
+     * Makes the schedule of a key. Throws a `TypeError` if `aead` is not an `Aead` of this module, then the first of these that
+     * fits: `UnknownSuite`, `KeyLength`.
+     */
+    constructor(aead: Aead, suite: Suite, key: Uint8Array);
+
+    /** The suite. */
+    readonly suite: Suite;
+
+    /**
+     * Returns the ciphertext and then the tag of 16 bytes.
+     *
+     * Never use a nonce twice under one key. If two texts are sealed with one nonce and key, ChaCha20-Poly1305 and AES-GCM give
+     * away the XOR of the two texts, and enough to forge messages; AES-GCM-SIV gives away only whether the texts and the
+     * associated data were the same. No call notices a repeated nonce.
+     *
+     * Throws the first of these that fits: `NonceLength`, `AadTooLong`, `TextTooLong`.
+     */
+    seal(nonce: Uint8Array, text: Uint8Array, options?: Options): Uint8Array;
+
+    /**
+     * Returns the text of what `seal` made, which is the ciphertext and then the tag.
+     *
+     * Throws the first of these that fits: `NonceLength`, `AadTooLong`, `TooShort`, `TextTooLong`, `TagMismatch`.
+     */
+    open(nonce: Uint8Array, sealed: Uint8Array, options?: Options): Uint8Array;
+
+    /**
+     * Begins a sealing in pieces, of an empty text so far.
+     *
+     * Never use a nonce twice under one key: two texts sealed with one nonce give away their XOR, and enough to forge messages.
+     *
+     * Throws the first of these that fits: `UnknownSuite` for AES-GCM-SIV, which reads a text twice (`SivSealer` serves it),
+     * `NonceLength`, `AadTooLong`.
+     */
+    sealer(nonce: Uint8Array, options?: Options): Sealer;
+}
+
+/**
+ * A sealing in pieces, under ChaCha20-Poly1305 or AES-GCM: `update` for each piece of the text, then `finish`. The ciphertext of
+ * all pieces, and then the tag, is what `seal` makes of the whole text. The result does not depend on how the text is split.
+ *
+ * A state is not cloned, since two copies would seal two texts with one nonce: `structuredClone` and `postMessage` give an
+ * object that has none of its calls.
  */
 export class Sealer {
-    /** Begins a sealing by the calls of an `Aead`, of no text yet. `UnknownSuite` for AES-GCM-SIV, which reads a text twice. */
-    constructor(aead: Aead, suite: Suite, key: Uint8Array, nonce: Uint8Array, aad: Uint8Array);
+    /**
+     * Begins a sealing by the calls of an `Aead`, of an empty text so far.
+     *
+     * Never use a nonce twice under one key: two texts sealed with one nonce give away their XOR, and enough to forge messages.
+     *
+     * Throws the first of these that fits: `UnknownSuite` for AES-GCM-SIV too, which reads a text twice (`SivSealer` serves it),
+     * `KeyLength`, `NonceLength`, `AadTooLong`.
+     */
+    constructor(aead: Aead, suite: Suite, key: Uint8Array, nonce: Uint8Array, options?: Options);
 
-    /** The ciphertext of the next piece of the text, which may have any length. */
+    /**
+     * Returns the ciphertext of the next piece of the text, of any length.
+     *
+     * Throws `NotBegun` after `finish`, and `TextTooLong`, after which the piece does not count and a shorter one may follow.
+     */
     update(piece: Uint8Array): Uint8Array;
 
-    /** The tag of the text, of 16 bytes. After it the sealer takes no more: `NotBegun`. */
+    /** Ends the sealing, and returns the tag of 16 bytes. Throws `NotBegun` if it was ended before. */
     finish(): Uint8Array;
 }
 
 /**
- * An opening in pieces, under every suite, in two passes over the ciphertext: `check` each piece, then
- * `checked`; then `update` each piece again, then `finish`. The passes may be cut into other pieces. No text comes before the
- * first pass was found to be over a sealing.
+ * An opening in pieces, under every suite, in two passes over the ciphertext: `check` for each piece, then `checked`; then
+ * `update` for each piece again, then `finish`. The passes may be split in different ways. No text comes before the whole first
+ * pass was authenticated. A state is not cloned, as that of `Sealer`.
  */
 export class Opener {
-    /** Begins an opening of a sealing with a tag of 16 bytes by the calls of an `Aead`. */
-    constructor(aead: Aead, suite: Suite, key: Uint8Array, nonce: Uint8Array, aad: Uint8Array, tag: Uint8Array);
+    /**
+     * Begins an opening of a ciphertext with a tag of 16 bytes by the calls of an `Aead`.
+     *
+     * Throws the first of these that fits: `TagLength`, `UnknownSuite`, `KeyLength`, `NonceLength`, `AadTooLong`.
+     */
+    constructor(aead: Aead, suite: Suite, key: Uint8Array, nonce: Uint8Array, tag: Uint8Array, options?: Options);
 
-    /** Takes in the next piece of the ciphertext in the first pass. */
+    /**
+     * Takes the next piece of the ciphertext in the first pass. The tag is not part of the ciphertext.
+     *
+     * Throws `NotBegun` after the first pass, and `TextTooLong`, after which the piece does not count and a shorter one may
+     * follow.
+     */
     check(piece: Uint8Array): void;
 
-    /** Ends the first pass. `TagMismatch` if its pieces and the tag are the sealing of no text; that ends the opening. */
+    /**
+     * Ends the first pass. Throws `TagMismatch` if authentication failed, which ends the opening, and `NotBegun` after the first
+     * pass.
+     */
     checked(): void;
 
     /**
-     * The text of the next piece of the ciphertext in the second pass. `SourceChanged` if that would be longer than the first;
-     * `NotBegun` before the first pass is over.
+     * Returns the text of the next piece of the ciphertext in the second pass, which may be used once `finish` has returned.
+     *
+     * Throws `NotBegun` before `checked` and after `finish`, and `SourceChanged` if the second pass would be longer than the
+     * first.
      */
     update(piece: Uint8Array): Uint8Array;
 
     /**
-     * Ends the second pass. `SourceChanged` if its pieces and the tag are the sealing of no text: what `update` gave is then to
-     * be thrown away.
+     * Ends the second pass. Throws `SourceChanged` if its authentication failed: throw away what `update` returned then. Throws
+     * `NotBegun` as `update` does.
      */
     finish(): void;
 }
 
 /**
- * A sealing in pieces under AES-GCM-SIV, whose tag is over the text, by two readings of it: `absorb` each piece, then `tag`;
- * then `update` each piece again, then `finish`. The readings may be cut into other pieces. The ciphertext of all pieces, then
- * the tag, is what `seal` makes of the whole text.
+ * A sealing in pieces under AES-GCM-SIV, whose tag is over the text, by two readings of it: `absorb` for each piece, then `tag`;
+ * then `update` for each piece again, then `finish`. The readings may be split in different ways. The ciphertext of all pieces,
+ * and then the tag, is what `seal` makes of the whole text. A state is not cloned, as that of `Sealer`.
  */
 export class SivSealer {
-    /** Begins a sealing by the calls of an `Aead`, of no text yet. `UnknownSuite` for ChaCha20-Poly1305 and AES-GCM. */
-    constructor(aead: Aead, suite: Suite, key: Uint8Array, nonce: Uint8Array, aad: Uint8Array);
+    /**
+     * Begins a sealing by the calls of an `Aead`, of an empty text so far.
+     *
+     * Never use a nonce twice under one key: two texts sealed with one nonce give away whether they and the associated data are
+     * the same.
+     *
+     * Throws the first of these that fits: `UnknownSuite` for ChaCha20-Poly1305 and AES-GCM too, `KeyLength`, `NonceLength`,
+     * `AadTooLong`.
+     */
+    constructor(aead: Aead, suite: Suite, key: Uint8Array, nonce: Uint8Array, options?: Options);
 
-    /** Takes in the next piece of the text in the first reading. */
+    /**
+     * Takes the next piece of the text in the first reading.
+     *
+     * Throws `NotBegun` after the first reading, and `TextTooLong`, after which the piece does not count and a shorter one may
+     * follow.
+     */
     absorb(piece: Uint8Array): void;
 
-    /** Ends the first reading: the tag of its text, of 16 bytes. */
+    /** Ends the first reading, and returns the tag of 16 bytes. Throws `NotBegun` after the first reading. */
     tag(): Uint8Array;
 
     /**
-     * The ciphertext of the next piece of the text in the second reading. `SourceChanged` if that would be longer than the
-     * first; `NotBegun` before the first reading is over.
+     * Returns the ciphertext of the next piece of the text in the second reading, which may be used once `finish` has returned.
+     *
+     * Throws `NotBegun` before `tag` and after `finish`, and `SourceChanged` if the second reading would be longer than the
+     * first.
      */
     update(piece: Uint8Array): Uint8Array;
 
     /**
-     * Ends the second reading. `SourceChanged` if its text had another length or tag than the first: what `update` gave is then
-     * to be thrown away.
+     * Ends the second reading. Throws `SourceChanged` if its text had another length or tag than the first: throw away what
+     * `update` returned then. Throws `NotBegun` as `update` does.
      */
     finish(): void;
 }
 
-/** The calls of keywrap.wasm, whose bytes are handed in. The key is 16, 24 or 32 bytes long. */
+/** The calls of keywrap.wasm, whose bytes are handed in. A key is 16, 24 or 32 bytes long, or the fault is `KeyLength`. */
 export class KeyWrap {
     constructor(bytes: ArrayBuffer | ArrayBufferView);
 
-    /** The wrapping of a text, which has whole blocks of 8 bytes, at least two: 8 bytes more. */
+    /**
+     * Returns the wrapping of a text, which is 8 bytes longer (RFC 3394). Throws `WrapLength` if the text is shorter than 16 bytes,
+     * or its length is not a multiple of 8.
+     */
     wrap(key: Uint8Array, text: Uint8Array): Uint8Array;
 
-    /** The text of a wrapping. */
+    /**
+     * Returns the text of what `wrap` made. Throws `WrapLength` if that is shorter than 24 bytes, or its length is not a multiple
+     * of 8; then `WrapIntegrity` if it is not a valid wrapping under this key.
+     */
     unwrap(key: Uint8Array, wrapped: Uint8Array): Uint8Array;
 
-    /** The wrapping with padding of a text of 1 to 2^32 - 1 bytes. */
+    /**
+     * Returns the wrapping with padding of a text of 1 to 2^32 - 1 bytes (RFC 5649). Throws `WrapLength` for an empty text, and
+     * `TextTooLong`.
+     */
     wrapPadded(key: Uint8Array, text: Uint8Array): Uint8Array;
 
-    /** The text of a wrapping with padding. */
+    /**
+     * Returns the text of what `wrapPadded` made. Throws `WrapLength` if that is shorter than 16 bytes, or its length is not a
+     * multiple of 8; then `TextTooLong`, then `WrapIntegrity` if it is not a valid wrapping with padding under this key.
+     */
     unwrapPadded(key: Uint8Array, wrapped: Uint8Array): Uint8Array;
 }

@@ -1,5 +1,5 @@
 import { Aead, KeyWrap } from "./aeadkit.mjs";
 
-export { Key, Opener, Refused, Sealer, SivSealer, Suite } from "./aeadkit.mjs";
+export * from "./aeadkit.mjs";
 export const aead: Aead;
 export const keywrap: KeyWrap;

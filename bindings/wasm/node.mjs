@@ -2,7 +2,7 @@
 import { readFileSync } from "node:fs";
 import { Aead, KeyWrap } from "./aeadkit.mjs";
 
-export { Key, Opener, Refused, Sealer, SivSealer, Suite } from "./aeadkit.mjs";
+export * from "./aeadkit.mjs";
 
 const bytes = (name) => readFileSync(new URL(name, import.meta.url));
 export const aead = new Aead(bytes("./aead.wasm"));

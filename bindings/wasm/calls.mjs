@@ -1,0 +1,221 @@
+// What the package promises beside the standards' bytes: arguments, results, faults and copies.
+
+import assert from "node:assert";
+import { readFileSync } from "node:fs";
+import { MessageChannel, receiveMessageOnPort } from "node:worker_threads";
+import * as aeadkit from "aeadkit/node";
+
+const { Aead, Key, Opener, Refused, Sealer, SivSealer, Suite, aead, keywrap } = aeadkit;
+const [key, nonce, tag, text, none] = [16, 12, 16, 40, 0].map((length) => new Uint8Array(length).fill(7));
+const suite = Suite.AES_128_GCM;
+const siv = Suite.AES_128_GCM_SIV;
+const kept = new Key(aead, suite, key);
+
+// Each fault is a class of its own under Refused, and has a name and a message.
+const thrown = (call) => {
+    try {
+        call();
+    } catch (error) {
+        return error;
+    }
+    return assert.fail("nothing was thrown");
+};
+const finished = new Sealer(aead, suite, key, nonce);
+finished.finish();
+const longer = new SivSealer(aead, siv, key, nonce);
+longer.tag();
+for (const [fault, message, call] of [
+    ["KeyLength", "the key's length is not the suite's, or for key wrapping not 16, 24 or 32 bytes",
+        () => new Key(aead, suite, text)],
+    ["NonceLength", "the nonce is not 12 bytes long", () => kept.seal(tag, text)],
+    ["TooShort", "the sealed bytes are shorter than a tag of 16 bytes", () => kept.open(nonce, nonce)],
+    ["TagMismatch", "authentication failed", () => kept.open(nonce, text)],
+    ["TagLength", "the tag is not 16 bytes long", () => new Opener(aead, suite, key, nonce, nonce)],
+    ["WrapLength", "the length is not a multiple of 8, or too short", () => keywrap.wrap(key, nonce)],
+    ["WrapIntegrity", "not a valid wrapping under this key", () => keywrap.unwrap(key, text)],
+    ["SourceChanged", "the second pass differs from the first", () => longer.update(text)],
+    ["UnknownSuite", "there is no such suite, or the call does not take it", () => aead.seal(7, key, nonce, text)],
+    ["NotBegun", "not begun, or already finished", () => finished.update(text)],
+]) {
+    const error = thrown(call);
+    assert(error instanceof Refused && error instanceof Error);
+    assert.equal(error.constructor, aeadkit[fault]);
+    assert.equal(error.fault, fault);
+    assert.equal(String(error), `${fault}: ${message}`);
+}
+assert.equal(new aeadkit.TextTooLong().fault, "TextTooLong");
+assert.equal(new aeadkit.AadTooLong().fault, "AadTooLong");
+
+// The first fault that fits is thrown.
+for (const [fault, call] of [
+    ["UnknownSuite", () => aead.open(9, none, none, none)],
+    ["UnknownSuite", () => aead.open("2", none, none, none)],
+    ["KeyLength", () => aead.open(suite, none, none, none)],
+    ["NonceLength", () => aead.open(suite, key, none, none)],
+    ["TooShort", () => aead.open(suite, key, nonce, none)],
+    ["UnknownSuite", () => new Sealer(aead, siv, none, none)],
+    ["UnknownSuite", () => new SivSealer(aead, suite, none, none)],
+    ["TagLength", () => new Opener(aead, "2", none, none, none)],
+    ["KeyLength", () => new Opener(aead, siv, none, none, tag)],
+    ["UnknownSuite", () => new Key(aead, siv, key).sealer(none)],
+]) {
+    assert.equal(thrown(call).fault, fault);
+}
+
+// The associated data is given by name after the text, and is empty if it is left out.
+const aad = tag;
+const tags = {
+    [Suite.CHACHA20_POLY1305]: "339e13ac16c008ecc04438ac61252ff5", [Suite.AES_128_GCM]: "8ecedfe55d538af6a4171aa85422dfde",
+    [Suite.AES_192_GCM]: "5c2d848bda01de6afd0ba9665c84201e", [Suite.AES_256_GCM]: "13ce156cc2b9a963db130005f1cc76a7",
+    [Suite.AES_128_GCM_SIV]: "7666565951104e75e7fbcdf5437cd8c2", [Suite.AES_256_GCM_SIV]: "ee71d9d53856cf76bda91240e2946af1",
+};
+for (const number of Object.values(Suite)) {
+    const bytes = new Uint8Array([0, 32, 16, 24, 32, 16, 32][number]).fill(9);
+    const key = new Key(aead, number, bytes);
+    assert.equal(key.suite, number);
+    assert.throws(() => {
+        key.suite = 1;
+    }, TypeError);
+    const sealed = aead.seal(number, bytes, nonce, text, { aad });
+    assert.equal(sealed.length, text.length + 16);
+    assert.equal(Buffer.from(sealed.subarray(-16)).toString("hex"), tags[number]);
+    assert.deepEqual(key.seal(nonce, text, { aad }), sealed);
+    assert.deepEqual(key.open(nonce, sealed, { aad }), text);
+    assert.deepEqual(aead.open(number, bytes, nonce, sealed, { aad }), text);
+    const opener = new Opener(aead, number, bytes, nonce, sealed.subarray(-16), { aad });
+    opener.check(sealed.subarray(0, -16));
+    opener.checked();
+    assert.deepEqual(opener.update(sealed.subarray(0, -16)), text);
+    opener.finish();
+    for (const options of [undefined, {}, { aad: undefined }, { aad: none }, Object.create(null), Object.freeze({})]) {
+        assert.deepEqual(key.seal(nonce, text, options), aead.seal(number, bytes, nonce, text));
+    }
+    assert.deepEqual(key.open(nonce, key.seal(nonce, none)), none);
+    assert.throws(() => key.open(nonce, sealed), aeadkit.TagMismatch);
+}
+assert.deepEqual(new Sealer(aead, suite, key, nonce).finish(), kept.sealer(nonce, { aad: none }).finish());
+assert.deepEqual(new SivSealer(aead, siv, key, nonce).tag(), new SivSealer(aead, siv, key, nonce, { aad: none }).tag());
+
+// Each call that takes associated data, with what stands in the place of its options.
+const sealed = kept.seal(nonce, text, { aad });
+const named = [
+    (options) => aead.seal(suite, key, nonce, text, options), (options) => aead.open(suite, key, nonce, sealed, options),
+    (options) => kept.seal(nonce, text, options), (options) => kept.open(nonce, sealed, options),
+    (options) => kept.sealer(nonce, options), (options) => new Sealer(aead, suite, key, nonce, options),
+    (options) => new Opener(aead, suite, key, nonce, tag, options), (options) => new SivSealer(aead, siv, key, nonce, options),
+];
+// The options are a plain object with no key but aad, or else a TypeError is thrown before any fault.
+const byName = { name: "TypeError", message: "associated data is given by name: { aad }" };
+for (const other of [
+    aad, none, Buffer.from(aad), new ArrayBuffer(16), new SharedArrayBuffer(16), new Uint16Array(16),
+    new DataView(new ArrayBuffer(16)), [], [aad], "", "aad", 0, 16, 1n, true, false, null, Symbol("aad"), () => aad,
+    new Map([["aad", aad]]), new (class { aad = aad; })(), Object.create({ aad }), { add: aad }, { AAD: aad }, { aad, add: aad },
+    { aad, tag: undefined }, { [Symbol("aad")]: aad }, Object.defineProperty({}, "add", { value: aad }),
+]) {
+    for (const call of named) {
+        assert.throws(() => call(other), byName);
+    }
+}
+named.forEach((call) => call({ aad }));
+named.forEach((call) => call({ __proto__: null, aad }));
+
+// A call in the order of version 2.0, whose associated data stood before the text or the tag, throws that TypeError.
+for (const call of [
+    () => aead.seal(suite, key, nonce, aad, text), () => aead.seal(suite, key, nonce, none, text),
+    () => aead.seal(suite, key, nonce, aad, none), () => aead.open(suite, key, nonce, aad, sealed),
+    () => aead.open(suite, key, nonce, none, sealed), () => kept.seal(nonce, aad, text), () => kept.open(nonce, aad, sealed),
+    () => kept.sealer(nonce, aad), () => kept.sealer(nonce, none), () => new Sealer(aead, suite, key, nonce, aad),
+    () => new Opener(aead, suite, key, nonce, aad, tag), () => new Opener(aead, suite, key, nonce, none, tag),
+    () => new SivSealer(aead, siv, key, nonce, aad), () => aead.seal(9, none, none, none, none),
+]) {
+    assert.throws(call, byName);
+}
+
+// Nothing but a Uint8Array is taken for bytes; a Buffer is one.
+for (const other of ["a text", [1, 2], 16, null, new ArrayBuffer(16), new Uint16Array(16), new DataView(new ArrayBuffer(16))]) {
+    for (const call of [
+        () => aead.seal(suite, key, nonce, other), () => aead.seal(suite, other, nonce, text),
+        () => aead.seal(suite, key, other, text), () => aead.open(suite, key, nonce, other),
+        () => kept.seal(other, text), () => kept.seal(nonce, other), () => kept.open(other, text),
+        () => kept.open(nonce, other), () => kept.sealer(other), () => new Key(aead, suite, other),
+        () => new Key(aead, 9, other), () => new Sealer(aead, suite, other, nonce), () => new Sealer(aead, suite, key, other),
+        () => new Sealer(aead, suite, key, nonce).update(other), () => new Opener(aead, suite, key, nonce, other),
+        () => new Opener(aead, suite, key, nonce, tag).check(other), () => new SivSealer(aead, siv, key, other),
+        () => new SivSealer(aead, siv, key, nonce).absorb(other), () => keywrap.wrap(key, other),
+        () => keywrap.wrap(other, key), () => keywrap.unwrap(key, other), () => keywrap.wrapPadded(key, other),
+        () => keywrap.unwrapPadded(key, other), ...named.map((call) => () => call({ aad: other })),
+    ]) {
+        assert.throws(call, { name: "TypeError", message: "a Uint8Array is wanted" });
+    }
+}
+assert.throws(() => kept.seal(nonce), TypeError);
+assert.throws(() => aead.seal(suite, key, nonce), TypeError);
+assert.throws(() => new Opener(aead, suite, key, nonce, none), aeadkit.TagLength);
+assert.deepEqual(kept.seal(Buffer.from(nonce), Buffer.from(text), { aad: Buffer.from(aad) }), sealed);
+
+// Each result is an array of its own, and no argument changes.
+const before = [key, nonce, tag, text].map((array) => array.slice());
+const results = [
+    () => kept.seal(nonce, text), () => kept.open(nonce, kept.seal(nonce, text)), () => aead.seal(suite, key, nonce, text),
+    () => kept.sealer(nonce).update(text), () => kept.sealer(nonce).finish(), () => new SivSealer(aead, siv, key, nonce).tag(),
+    () => keywrap.wrap(key, text), () => keywrap.wrapPadded(key, nonce),
+    () => keywrap.unwrapPadded(key, keywrap.wrapPadded(key, nonce)),
+];
+for (const result of results) {
+    const [one, again] = [result(), result()];
+    const copy = one.slice();
+    assert.equal(one.constructor, Uint8Array);
+    assert.equal(one.byteOffset, 0);
+    assert.equal(one.buffer.byteLength, one.length);
+    again.fill(0);
+    assert.deepEqual(one, copy);
+}
+assert.deepEqual([key, nonce, tag, text], before);
+
+// A copy of a key or of a state has none of its calls.
+const copies = (object) => {
+    const { port1, port2 } = new MessageChannel();
+    port1.postMessage(object);
+    const { message } = receiveMessageOnPort(port2);
+    port1.close();
+    const proto = Object.getPrototypeOf(object);
+    return [
+        structuredClone(object), message, { ...object }, JSON.parse(JSON.stringify(object)),
+        Object.assign(Object.create(proto), object), Object.create(proto, Object.getOwnPropertyDescriptors(object)),
+        Object.create(object),
+    ];
+};
+for (const [object, call] of [
+    [kept, (it) => it.seal(nonce, text)], [kept, (it) => it.open(nonce, kept.seal(nonce, text))],
+    [kept, (it) => it.sealer(nonce)], [kept.sealer(nonce), (it) => it.update(text)],
+    [new Sealer(aead, suite, key, nonce), (it) => it.finish()],
+    [new Opener(aead, suite, key, nonce, tag), (it) => it.check(text)],
+    [new SivSealer(aead, siv, key, nonce), (it) => it.absorb(text)],
+]) {
+    for (const copy of copies(object)) {
+        assert.throws(() => call(copy), TypeError);
+    }
+    call(object);
+}
+assert.equal(copies(kept).every((copy) => !JSON.stringify(copy).includes("7")), true);
+
+// What is handed in for an Aead has to be one.
+for (const other of [undefined, null, {}, "aead", keywrap, structuredClone(aead), Object.create(Aead.prototype), kept]) {
+    for (const call of [
+        () => new Key(other, suite, key), () => new Sealer(other, suite, key, nonce),
+        () => new Opener(other, suite, key, nonce, tag), () => new SivSealer(other, siv, key, nonce),
+    ]) {
+        assert.throws(call, { name: "TypeError", message: "an Aead of this module is wanted" });
+    }
+}
+
+// The keys and states of two Aeads go on side by side, each in the memory of its own.
+const second = new Aead(readFileSync(new URL(import.meta.resolve("aeadkit/aead.wasm"))));
+const [one, two] = [aead, second].map((from) => new Key(from, suite, key));
+const [here, there] = [one.sealer(nonce, { aad }), two.sealer(nonce, { aad })];
+for (const piece of [text, none, nonce]) {
+    assert.deepEqual(here.update(piece), there.update(piece));
+}
+assert.deepEqual(here.finish(), there.finish());
+assert.deepEqual(one.open(nonce, two.seal(nonce, text)), text);
+assert.throws(() => there.finish(), aeadkit.NotBegun);
