@@ -22,7 +22,7 @@ use Rattle.command.specs.declared.words.FileCommand.{FileCommand}
 use Rattle.command.specs.declared.words.FileCommand.TheVariants.{Seal, Open}
 use Rattle.command.specs.Aead.{IsReady, IsCalled, CallFailed}
 use Rattle.command.specs.Files.{Answer, Giving, SealsOnce, SealsTwice, OpensThrice, SealingBy, Sealing, Engine}
-use Rattle.command.specs.Files.{OutletTakes, HoldsAll, HoldsStart, HoldsNothing}
+use Rattle.command.specs.Files.{OutletTakes, HoldsAll, HoldsStart}
 use Rattle.command.specs.Files.{NoCall, EngineRan, Ran, FileDone, FileStopped, StopsLate, EngineOf, Wrote}
 use Rattle.command.specs.NewFiles.{held}
 
@@ -119,27 +119,6 @@ holds_start P (Some x) (Some y) (Some h) pending t k = (
   t.2,
 )
 
--- a file holds a beginning of what was taken before
-holds_nothing : (taken held : Option (List ℕ)) (pending : List ℕ)
-    → Keeps taken (append_known held pending) → HoldsNothing taken held
-holds_nothing None held pending k = tt
-holds_nothing (Some x) None pending k = absurd k
-holds_nothing (Some x) (Some h) pending k =
-    (h, refl, (length h, sym (take-append_seam h pending) ∙ ap (λ l. take (length h) l) k))
-
--- a file that holds what was known of it before holds a beginning of that
-holds_blank : (before : Option (List ℕ)) → HoldsNothing before before
-holds_blank None = tt
-holds_blank (Some x) =
-    (x, refl, (length x, sym (take-append_seam x []) ∙ ap (λ l. take (length x) l) (append-nil x)))
-
--- a file that is made when it is needed holds a beginning of what was taken before
-holds_nothing_in : {O : Type 0} (taken blank : Option (List ℕ)) (contents : O → Option (List ℕ))
-    (file : Option O) (pending : List ℕ) → Keeps taken (append_known (held blank contents file) pending)
-    → HoldsNothing taken (held taken contents file)
-holds_nothing_in taken blank contents None pending k = holds_blank taken
-holds_nothing_in taken blank contents (Some o) pending k = holds_nothing taken (contents o) pending k
-
 -- a file that is made when it is needed holds a beginning of what was given
 holds_start_in : {O : Type 0} (P : List ℕ → Type 0) (taken taken' blank : Option (List ℕ))
     (contents : O → Option (List ℕ)) (file : Option O) (pending : List ℕ) → OutletTakes taken taken' P
@@ -198,17 +177,19 @@ engine_weakens Open readings G H f s r h =
 
 -- an engine that is done opened its files
 pub ran_ok : (engine : Giving → Setting → Answer → Type 0) (s : Setting) (taken taken' : Option (List ℕ))
-    (u : Unit {0}) → EngineRan engine s taken taken' (Ok u) → engine (OutletTakes taken taken') s (Ok u)
-ran_ok engine s taken taken' u (inl h) = let no : ⊥ = elim h.0 [ inl e ↦ (cc) | inr e ↦ (cc) ] in absurd no
-ran_ok engine s taken taken' u (inr h) = h
+    (same : Type 0) (u : Unit {0}) → EngineRan engine s taken taken' same (Ok u)
+    → engine (OutletTakes taken taken') s (Ok u)
+ran_ok engine s taken taken' same u (inl h) =
+    let no : ⊥ = elim h.0 [ inl e ↦ (cc) | inr e ↦ (cc) ] in absurd no
+ran_ok engine s taken taken' same u (inr h) = h
 
 -- an engine's fault, under inputs that are ready
 pub ran_err : (engine : Giving → Setting → Answer → Type 0) (words : Inputs) (keyed : Keyed)
-    (nonce aad body : List ℕ) (taken taken' : Option (List ℕ)) (f : Fault)
-    → IsReady words keyed nonce aad body → EngineRan engine (setting keyed nonce aad) taken taken' (Err f)
-    → (NoCall words (OfFault f) × (taken' ≡ taken)) ⊎ CallFailed
+    (nonce aad body : List ℕ) (taken taken' : Option (List ℕ)) (same : Type 0) (f : Fault)
+    → IsReady words keyed nonce aad body → EngineRan engine (setting keyed nonce aad) taken taken' same (Err f)
+    → (NoCall words (OfFault f) × same) ⊎ CallFailed
     (λ s body e. engine (OutletTakes taken taken') s (Err e)) words (OfFault f)
-ran_err engine words keyed nonce aad body taken taken' f ready (inl h) =
+ran_err engine words keyed nonce aad body taken taken' same f ready (inl h) =
     elim h.0 [
       | inl e ↦
           let p : OfFault f ≡ OfFault Read = (cc) in
@@ -219,7 +200,7 @@ ran_err engine words keyed nonce aad body taken taken' f ready (inl h) =
           let p : f ≡ OutOfMemory = (cc) in
           inl (inl (rw p tt), h.1)
     ]
-ran_err engine words keyed nonce aad body taken taken' f ready (inr h) = inr (record {
+ran_err engine words keyed nonce aad body taken taken' same f ready (inr h) = inr (record {
   fault = f;
   is = refl;
   call = record { keyed = keyed; nonce = nonce; aad = aad; body = body; ready = ready; is = h };
@@ -240,12 +221,11 @@ map_call words P Q f h = record {
 -- a file command whose engine did not run, or returned a fault, is stopped
 pub exit_err : {O : Type 0} (command : FileCommand) (readings : ℕ → Option (List ℕ)) (words : Inputs)
     (taken blank : Option (List ℕ)) (contents : O → Option (List ℕ)) (file : Option O) (pending : List ℕ)
-    (e : Failure)
-    → Ran (Engine command readings) words taken (append_known (held blank contents file) pending) (Err e)
-    → FileStopped (Engine command readings) words taken (held taken contents file) e
-exit_err command readings words taken blank contents file pending e (inl h) =
-    inl (h.0, holds_nothing_in taken blank contents file pending (keeps_same _ _ h.1))
-exit_err command readings words taken blank contents file pending e (inr h) =
+    (same same' : Type 0) (e : Failure) → (same → same')
+    → Ran (Engine command readings) words taken (append_known (held blank contents file) pending) same (Err e)
+    → FileStopped (Engine command readings) words taken (held taken contents file) same' e
+exit_err command readings words taken blank contents file pending same same' e to (inl h) = inl (h.0, to h.1)
+exit_err command readings words taken blank contents file pending same same' e to (inr h) =
     let given : Option (List ℕ) = append_known (held blank contents file) pending in
     inr (record {
       fault = h.fault;
@@ -259,11 +239,11 @@ exit_err command readings words taken blank contents file pending e (inr h) =
 -- a file command whose last write failed is stopped with `Write`
 pub exit_write : {O : Type 0} (command : FileCommand) (readings : ℕ → Option (List ℕ)) (words : Inputs)
     (taken given blank : Option (List ℕ)) (contents : O → Option (List ℕ)) (file : Option O)
-    (pending : List ℕ)
+    (pending : List ℕ) (same : Type 0)
     → IsCalled words (λ s body. Engine command readings (OutletTakes taken given) s (Ok tt))
     → Keeps given (append_known (held blank contents file) pending)
-    → FileStopped (Engine command readings) words taken (held taken contents file) (OfFault Write)
-exit_write command readings words taken given blank contents file pending h k = inr (record {
+    → FileStopped (Engine command readings) words taken (held taken contents file) same (OfFault Write)
+exit_write command readings words taken given blank contents file pending same h k = inr (record {
   fault = Write;
   is = refl;
   call = map_call words _ _ (λ s body j. inr (
@@ -299,7 +279,7 @@ pub unwritten : {O : Type 0} (contents : List ℕ → ℕ → Option (List ℕ))
 unwritten contents blank taken request r e = rw e (record {
   file = None;
   done = tt;
-  stopped = inl (inl tt, holds_blank (blank request.output.now));
+  stopped = inl (inl tt, refl);
   unmade = inr refl;
 })
 
@@ -309,7 +289,7 @@ pub wrote : {O : Type 0} (contents : List ℕ → ℕ → Option (List ℕ)) (bl
     (r : Result ℕ Failure) → before ≡ blank request.output.now → file ≡ None
     → MatchResult r
     (λ _. FileDone (EngineOf contents request) request.inputs before (held before taken file'))
-    (FileStopped (EngineOf contents request) request.inputs before (held before taken file'))
+    (FileStopped (EngineOf contents request) request.inputs before (held before taken file') (file' ≡ file))
     → IfOk r (λ _. is_some file' ≡ true) → IfOk r (λ status. status ≡ 0)
     → IfErr r (λ e. StopsLate request.command e ⊎ (file' ≡ file)) → Wrote contents blank taken request r
 wrote contents blank taken request before file file' (Ok n) start unmade answer made status same =
@@ -318,10 +298,10 @@ wrote contents blank taken request before file file' (Ok n) start unmade answer 
     record { file = file'; done = (status, made, subst P start answer); stopped = tt; unmade = tt }
 wrote contents blank taken request before file file' (Err e) start unmade answer made status same =
     let P : Option (List ℕ) → Type 0 = λ b. FileStopped (EngineOf contents request) request.inputs b
-    (held b taken file') e in
+    (held b taken file') (file' ≡ file) e in
     record {
       file = file';
       done = tt;
-      stopped = subst P start answer;
+      stopped = elim (subst P start answer) [ inl h ↦ inl (h.0, h.1 ∙ unmade) | inr h ↦ inr h ];
       unmade = elim same [ inl late ↦ inl late | inr p ↦ inr (p ∙ unmade) ];
     }

@@ -86,35 +86,30 @@ HoldsStart taken held P =
 abbrev pub NoCall : Inputs → Failure → Type 0
 NoCall words e = InputsRefused words e ⊎ ((e ≡ OfFault Read) × IsCalled words (λ _ _. ⊤))
 
--- an engine returned, or a file was not opened and nothing was given
-abbrev pub EngineRan : (Giving → Setting → Answer → Type 0) → Setting → Option (List ℕ) → Option (List ℕ)
-    → Answer → Type 0
-EngineRan engine s taken taken' r =
-    (((r ≡ Err Read) ⊎ (r ≡ Err OutOfMemory)) × (taken' ≡ taken)) ⊎ engine (OutletTakes taken taken') s r
+-- an engine returned, or a file was not opened and the outlet is as it was
+abbrev pub EngineRan : (Giving → Setting → Answer → Type 0) → Setting → (taken taken' : Option (List ℕ))
+    → (same : Type 0) → Answer → Type 0
+EngineRan engine s taken taken' same r =
+    (((r ≡ Err Read) ⊎ (r ≡ Err OutOfMemory)) × same) ⊎ engine (OutletTakes taken taken') s r
 
--- an engine ran over readings into an outlet, or there was no call and nothing was given
-abbrev pub Ran : (Giving → Setting → Answer → Type 0) → Inputs → Option (List ℕ) → Option (List ℕ)
-    → Result (Unit {0}) Failure → Type 0
-Ran engine words taken taken' r = MatchResult r
+-- an engine ran over readings into an outlet, or there was no call and the outlet is as it was
+abbrev pub Ran : (Giving → Setting → Answer → Type 0) → Inputs → (taken taken' : Option (List ℕ))
+    → (same : Type 0) → Result (Unit {0}) Failure → Type 0
+Ran engine words taken taken' same r = MatchResult r
     (λ _. IsCalled words (λ s body. engine (OutletTakes taken taken') s (Ok tt)))
-    (λ e. (NoCall words e × (taken' ≡ taken))
+    (λ e. (NoCall words e × same)
     ⊎ CallFailed (λ s body f. engine (OutletTakes taken taken') s (Err f)) words e)
 
 -- a file command is done: the file holds what the engine gave
-abbrev pub FileDone : (Giving → Setting → Answer → Type 0) → Inputs → Option (List ℕ) → Option (List ℕ)
-    → Type 0
+abbrev pub FileDone : (Giving → Setting → Answer → Type 0) → Inputs → (taken held : Option (List ℕ)) → Type 0
 FileDone engine words taken held = IsCalled words (λ s body. engine (HoldsAll taken held) s (Ok tt))
 
--- the file holds a beginning of what was taken before
-abbrev pub HoldsNothing : Option (List ℕ) → Option (List ℕ) → Type 0
-HoldsNothing taken held = IfSome taken (λ before. (h : List ℕ) × (held ≡ Some h) × IsBeginning h before)
-
--- a file command came to nothing: the file holds a beginning of what the engine gave, which returned this
--- fault, or was done before the last write failed
-abbrev pub FileStopped : (Giving → Setting → Answer → Type 0) → Inputs → Option (List ℕ) → Option (List ℕ)
-    → Failure → Type 0
-FileStopped engine words taken held e =
-    (NoCall words e × HoldsNothing taken held)
+-- a file command came to nothing: there was no call and the file is as it was, or the file holds a beginning of
+-- what the engine gave, which returned this fault, or was done before the last write failed
+abbrev pub FileStopped : (Giving → Setting → Answer → Type 0) → Inputs → (taken held : Option (List ℕ))
+    → (same : Type 0) → Failure → Type 0
+FileStopped engine words taken held same e =
+    (NoCall words e × same)
     ⊎ CallFailed (λ s body f. engine (HoldsStart taken held) s (Err f)
     ⊎ ((f ≡ Write) × engine (HoldsStart taken held) s (Ok tt))) words e
 
@@ -141,8 +136,8 @@ pub record Wrote {O : Type 0} (contents : List ℕ → ℕ → Option (List ℕ)
   -- at Ok it was made, and holds all that the engine gave
   pub done : IfOk r (λ status. (status ≡ 0) × (is_some file ≡ true) × FileDone (EngineOf contents request)
       request.inputs (blank request.output.now) (held (blank request.output.now) taken file))
-  -- at a failure it holds a beginning of that, if it was made
+  -- at a failure there was no call and it was not made, or it holds a beginning of what the engine gave
   pub stopped : IfErr r (FileStopped (EngineOf contents request) request.inputs (blank request.output.now)
-      (held (blank request.output.now) taken file))
+      (held (blank request.output.now) taken file) (file ≡ None))
   -- it was not made at a failure that is none of the late ones
   pub unmade : IfErr r (λ e. StopsLate request.command e ⊎ (file ≡ None))

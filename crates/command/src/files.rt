@@ -32,7 +32,7 @@ fn seal_once<F: Storage, O: Outlet>(
 ) -> Result<(), Fault>
     ensures ran { EngineRan (Sealing (F.contents files.now path.now))
         (setting (one_pass_keyed cipher.now) nonce.now aad.now)
-        (O.taken out.old) (O.taken out.new) result }
+        (O.taken out.old) (O.taken out.new) (out.new ≡ out.old) result }
     ensures blame { Blames (λ f. f) (InputMayFail (F.open_may_fail files.now path.now) F.Input.failures)
         (Failed (O.failures out.old) (O.failures out.new)) result }
     ensures untouched { UntouchedUnless late_in_one_reading out.old out.new result }
@@ -53,7 +53,7 @@ fn seal_twice<F: Storage, O: Outlet>(
 ) -> Result<(), Fault>
     ensures ran { EngineRan (Sealing (F.contents files.now path.now))
         (setting cipher.now nonce.now aad.now)
-        (O.taken out.old) (O.taken out.new) result }
+        (O.taken out.old) (O.taken out.new) (out.new ≡ out.old) result }
     ensures blame { Blames (λ f. f) (InputMayFail (F.open_may_fail files.now path.now) F.Input.failures)
         (Failed (O.failures out.old) (O.failures out.new)) result }
     ensures untouched { UntouchedUnless late_in_readings out.old out.new result }
@@ -75,7 +75,7 @@ fn open_thrice<F: Storage, O: Outlet>(
 ) -> Result<(), Fault>
     ensures ran { EngineRan (Opening (F.contents files.now path.now))
         (setting (keyed_of cipher.now) nonce.now aad.now)
-        (O.taken out.old) (O.taken out.new) result }
+        (O.taken out.old) (O.taken out.new) (out.new ≡ out.old) result }
     ensures blame { Blames (λ f. f) (InputMayFail (F.open_may_fail files.now path.now) F.Input.failures)
         (Failed (O.failures out.old) (O.failures out.new)) result }
     ensures untouched { UntouchedUnless late_in_readings out.old out.new result }
@@ -105,7 +105,7 @@ fn write_by<F: Storage, O: Outlet>(
 ) -> Result<(), Fault>
     ensures ran { EngineRan (Engine words.now.command (F.contents files.now words.now.input.now))
         (setting (keyed_of cipher.now) nonce.now aad.now)
-        (O.taken out.old) (O.taken out.new) result }
+        (O.taken out.old) (O.taken out.new) (out.new ≡ out.old) result }
     ensures blame { Blames (λ f. f)
         (InputMayFail (F.open_may_fail files.now words.now.input.now) F.Input.failures)
         (Failed (O.failures out.old) (O.failures out.new)) result }
@@ -128,7 +128,7 @@ fn write<A: Allocator, F: Storage, O: Outlet>(
     out: &mut O,
 ) -> Result<(), Failure>
     ensures ran { Ran (Engine words.now.command (F.contents files.now words.now.input.now)) words.now.inputs
-        (O.taken out.old) (O.taken out.new) result }
+        (O.taken out.old) (O.taken out.new) (out.new ≡ out.old) result }
     ensures blame { Blames OfFault
         (InputMayFail (F.open_may_fail files.now words.now.input.now) F.Input.failures)
         (Failed (O.failures out.old) (O.failures out.new)) result }
@@ -158,7 +158,7 @@ fn write_file<'a, A: Allocator, B: Allocator, F: Storage>(
         (λ _. FileDone (EngineOf (F.contents files.now) words.now) words.now.inputs before
         (held before F.Output.taken file.new.file))
         (FileStopped (EngineOf (F.contents files.now) words.now) words.now.inputs before
-        (held before F.Output.taken file.new.file)) }
+        (held before F.Output.taken file.new.file) (file.new.file ≡ file.old.file)) }
     ensures made { IfOk result (λ _. is_some file.new.file ≡ true) }
     ensures blame { Blames OfFault
         (InputMayFail (F.open_may_fail files.now words.now.input.now) F.Input.failures)
@@ -181,14 +181,16 @@ fn write_file<'a, A: Allocator, B: Allocator, F: Storage>(
 /// sealing.
 ///
 /// After `SourceChanged`, `Read` and `Write`, and `TextTooLong` of sealing, the written file holds a beginning of
-/// what it should hold, which is to be thrown away, or was not made. After any other fault it was not made.
+/// what it should hold, which is to be thrown away, or was not made. After any other fault, and if the file that is
+/// read can't be opened, it was not made.
 pub fn write_new_file<A: Allocator, F: Storage>(
     alloc: &A,
     files: &F,
     request: &FileRequest<'_>,
 ) -> Result<u8, Failure>
+    // At Ok the written file holds all that the engine gave; at Err it was not made, or holds a beginning of that.
     ensures wrote { Wrote (F.contents files.now) (F.blank files.now) F.Output.taken request.now result }
-    // `Read` comes only if its input can fail, and `Write` only if its output can.
+    // `Read` comes only if the input can fail, and `Write` only if the output can.
     ensures blame { Blames OfFault
         (InputMayFail (F.open_may_fail files.now request.now.input.now) F.Input.failures)
         (OutputMayFail F.make_may_fail F.Output.failures) result }

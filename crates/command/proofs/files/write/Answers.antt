@@ -1,3 +1,4 @@
+use Rattle.std.proofs.Common.{◌≡◌}
 use Rattle.std.proofs.lemmas.Result.{err_from_is_err_and}
 use Rattle.aead.specs.Ciphers.{Keyed, setting}
 use Rattle.aead.specs.AnyCiphers.{keyed_of}
@@ -18,7 +19,7 @@ returns-in_err-write_by-clause-ran g c =
     (Engine c.args.words.now.command (g.F.Storage.contents c.args.files.now c.args.words.now.input.now))
     c.args.words.now.inputs keyed c.in_ok-inputs.inputs.nonce c.deref.result.now
     c.in_ok-inputs.inputs.body.items (g.O.Outlet.taken c.args.out.now) (g.O.Outlet.taken c.write_by.new.out)
-    c.in_err-write_by.field-0.0 ready c.in_err-write_by.ensures.ran)
+    (c.write_by.new.out ≡ c.args.out.now) c.in_err-write_by.field-0.0 ready c.in_err-write_by.ensures.ran)
 
 pub returns-clause-ran : goal.returns-clause-ran
 returns-clause-ran g c =
@@ -34,7 +35,7 @@ returns-clause-ran g c =
       is = ran_ok
           (Engine c.args.words.now.command (g.F.Storage.contents c.args.files.now c.args.words.now.input.now))
           (setting keyed c.in_ok-inputs.inputs.nonce c.deref.result.now) (g.O.Outlet.taken c.args.out.now)
-          (g.O.Outlet.taken c.write_by.new.out) c.in_ok-write_by.field-0 c.in_ok-write_by.ensures.ran;
+          (g.O.Outlet.taken c.write_by.new.out) (c.write_by.new.out ≡ c.args.out.now) c.in_ok-write_by.field-0 c.in_ok-write_by.ensures.ran;
     }
 
 pub returns-in_err-write_by-clause-blame : goal.returns-in_err-write_by-clause-blame

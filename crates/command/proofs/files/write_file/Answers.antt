@@ -1,4 +1,4 @@
-use Rattle.std.proofs.Common.{drop, inl, refl}
+use Rattle.std.proofs.Common.{◌≡◌, drop, inl, refl}
 use Rattle.std.proofs.lemmas.Result.{err_from_is_err_and}
 use Rattle.command.proofs.BlamesLemmas.{count_blames}
 use Rattle.command.proofs.FilesLemmas.{exit_err, exit_write, exit_done, write_is_late}
@@ -11,7 +11,8 @@ returns-in_err-write-clause-answer g c =
     (g.F.Storage.contents c.args.files.now c.args.words.now.input.now) c.args.words.now.inputs _
     (g.F.Storage.blank c.write.new.out.files.now c.write.new.out.path.now) g.F.Output.Outlet.taken
     c.write.new.out.file (drop c.write.new.out.written c.write.new.out.pending.items)
-    c.in_err-write.field-0.0 c.in_err-write.ensures.ran)
+    (c.write.new.out ≡ c.args.file.now) (c.write.new.out.file ≡ c.args.file.now.file)
+    c.in_err-write.field-0.0 (λ p. (cc)) c.in_err-write.ensures.ran)
 
 pub returns-in_err-finish-clause-answer : goal.returns-in_err-finish-clause-answer
 returns-in_err-finish-clause-answer g c =
@@ -22,6 +23,7 @@ returns-in_err-finish-clause-answer g c =
     (g.F.Storage.contents c.args.files.now c.args.words.now.input.now) c.args.words.now.inputs _ _
     (g.F.Storage.blank c.finish.new.self.files.now c.finish.new.self.path.now) g.F.Output.Outlet.taken
     c.finish.new.self.file (drop c.finish.new.self.written c.finish.new.self.pending.items)
+    (c.finish.new.self.file ≡ c.args.file.now.file)
     c.in_ok-write.ensures.ran c.in_err-finish.ensures.taken)
 
 pub returns-clause-answer : goal.returns-clause-answer
