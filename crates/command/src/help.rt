@@ -16,7 +16,27 @@ pub const ABOUT_HEX: &str =
     "HEX is an even number of hex digits of either case; an empty argument means no bytes.
 See aeadkit help SUBCOMMAND for each subcommand, and docs/COMMAND.md for the manual.
 
-Never use a nonce twice under one key.";
+Never use a nonce twice under one key.
+
+A fault is one line on standard error, 'aeadkit: NAME'. Each name, its status and its meaning:
+  Words          2  the arguments are not a command line of the program, or not UTF-8
+  UnknownSuite   2  the value of --suite is not the name of a suite
+  BadHex         2  a value given for HEX is not an even number of hex digits
+  KeyLength      2  the key is not as long as the suite says; for key wrap, not 16, 24 or 32 bytes
+  NonceLength    2  the nonce is not 12 bytes long
+  TextTooLong    2  the text is longer than the suite or the padding allows
+  AadTooLong     2  the associated data is longer than the suite allows
+  WrapLength     2  not the length of a text that can be wrapped, or of a wrapping
+  TooShort       1  the sealed bytes are shorter than a tag, which is 16 bytes long
+  TagMismatch    1  authentication failed: not a valid sealing under this suite, key, nonce and
+                    associated data
+  WrapIntegrity  1  authentication failed: not a valid wrapping under this key
+  Read           3  a file can't be opened or read, or it was truncated while it was read
+  Write          3  standard output failed, or OUT can't be created or written
+  SourceChanged  3  a later reading of IN differs from an earlier one: IN was changed
+                    meanwhile, or it is a pipe
+  OutOfMemory    4  an allocation failed
+The faults of a vector file have status 1; aeadkit help check lists them.";
 
 pub const SEAL_MORE: &str =
     "Prints the ciphertext, followed by the tag of 16 bytes, as one line of lower-case hex digits.
@@ -32,7 +52,7 @@ Status: 0 success; 2 invalid arguments; 3 standard output failed; 4 out of memor
 See also: aeadkit help open, aeadkit help seal-file, docs/COMMAND.md.";
 
 pub const OPEN_MORE: &str =
-    "Prints the text as one line of lower-case hex digits, or nothing if the bytes are not a sealing.
+    "Prints the text as one line of lower-case hex digits, or nothing if authentication fails.
 HEX is an even number of hex digits of either case. --aad is empty by default.
 
 Example:
@@ -41,7 +61,8 @@ Example:
     --sealed 0388dace60b6a392f328c2b971b2fe78ab6e47d42cec13bdf53a67b21257bddf
 prints 00000000000000000000000000000000
 
-Status: 0 success; 1 not a sealing; 2 invalid arguments; 3 standard output failed; 4 out of memory.
+Status: 0 success; 1 not a valid sealing; 2 invalid arguments; 3 standard output failed; 4 out of
+memory.
 See also: aeadkit help open-file, docs/COMMAND.md.";
 
 pub const WRAP_MORE: &str = "Prints the wrapping as one line of lower-case hex digits.
@@ -56,7 +77,7 @@ Status: 0 success; 2 invalid arguments; 3 standard output failed; 4 out of memor
 See also: aeadkit help unwrap, docs/COMMAND.md.";
 
 pub const UNWRAP_MORE: &str =
-    "Prints the text as one line of lower-case hex digits, or nothing if the bytes are not a wrapping.
+    "Prints the text as one line of lower-case hex digits, or nothing if authentication fails.
 HEX is an even number of hex digits of either case.
 The wrapping is a multiple of 8 bytes long, at least 24 (RFC 3394); with --pad 16 (RFC 5649).
 
@@ -65,13 +86,17 @@ Example:
     --sealed 1fa68b0a8112b447aef34bd8fb5a7b829d3e862371d2cfe5
 prints 00112233445566778899aabbccddeeff
 
-Status: 0 success; 1 not a wrapping; 2 invalid arguments; 3 standard output failed; 4 out of memory.
+Status: 0 success; 1 not a valid wrapping; 2 invalid arguments; 3 standard output failed; 4 out of
+memory.
 See also: aeadkit help wrap, docs/COMMAND.md.";
 
 pub const SEAL_FILE_MORE: &str =
     "Prints nothing. OUT will hold the ciphertext, followed by the tag of 16 bytes. It is created or
 truncated when its first byte is written. Discard it unless the status is 0.
-IN is read once, for AES-GCM-SIV twice.
+The sealed file does not hold the suite, the nonce or the associated data: store them beside it.
+IN is read once, for AES-GCM-SIV twice; a pipe can't be read twice.
+OUT must not be another name of IN: a file of more than 64 KiB is lost, with status 3.
+To print into a file use a pipe, --out /dev/stdout | cat > FILE: /dev/stdout truncates a file.
 HEX is an even number of hex digits of either case. --aad is empty by default.
 Never use a nonce twice under one key.
 
@@ -84,20 +109,24 @@ See also: aeadkit help open-file, docs/COMMAND.md.";
 
 pub const OPEN_FILE_MORE: &str =
     "Prints nothing. OUT will hold the text. It is created or truncated when its first byte is written,
-after all of IN was found to be a sealing. Discard it unless the status is 0.
-IN is read three times.
+after all of IN was authenticated. Discard it unless the status is 0.
+The suite, the key, the nonce and the associated data are those that the file was sealed with.
+IN is read three times; a pipe can't be.
+OUT must not be another name of IN: a file of more than 64 KiB is lost, with status 3.
+To print into a file use a pipe, --out /dev/stdout | cat > FILE: /dev/stdout truncates a file.
 HEX is an even number of hex digits of either case. --aad is empty by default.
 
 Example:
   aeadkit open-file --suite aes-128-gcm --key 00000000000000000000000000000000 \\
     --nonce 000000000000000000000000 --in letter.sealed --out letter.txt
 
-Status: 0 success; 1 not a sealing; 2 invalid arguments; 3 a file failed or
-changed; 4 out of memory.
-See also: docs/COMMAND.md.";
+Status: 0 success; 1 not a valid sealing; 2 invalid arguments; 3 a file failed or changed; 4 out of
+memory.
+See also: aeadkit help seal-file, docs/COMMAND.md.";
 
 pub const CHECK_MORE: &str =
     "Prints 'records N', and then 'bad K' for each record that disagrees with its standard.
+FILE may be /dev/stdin. A FILE that begins with - follows --, as in aeadkit check -- -FILE.
 
 Example:
   printf 'format = 1\\nsuite = aes-128-wrap\\nkey = 000102030405060708090a0b0c0d0e0f\\n' > one.txt
@@ -105,6 +134,17 @@ Example:
   printf 'text = 00112233445566778899aabbccddeeff\\n' >> one.txt
   aeadkit check one.txt
 prints records 1
+
+A vector file has one of these faults if it is not in the format; all but NoRecords name a line:
+  BadFormat     the first line that is not blank or a comment is not format = 1 or format = 2
+  BadLine       a line of a record is not NAME = VALUE, or is blank or a comment
+  WrongName     a line of a record has another name than is due there
+  UnknownSuite  the suite is not one of the format
+  BadHex        a value is not an even number of hex digits
+  BadLength     the key is not as long as the suite says, or the nonce not 12 bytes
+  BadCuts       the cuts are not rising offsets within the text
+  NoRecords     the file ends before its first record
+  Unfinished    the file ends inside a record
 
 Status: 0 all agree; 1 a record is bad, or this is not a vector file; 2 invalid arguments; 3 a file
 or standard output failed; 4 out of memory.
