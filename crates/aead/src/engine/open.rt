@@ -1,4 +1,5 @@
-// The stream opener.
+//! The stream opener: measures, verifies and decrypts in three readings, so that no byte is given before a whole reading was
+//! authenticated (RFC 8439, 2.8; SP 800-38D, 7.2; RFC 8452, 5).
 
 ghost use Rattle.std.specs.Prelude.{◌≡◌, ◌↔◌, ℕ, ◌+◌, ◌<◌, ◌≤◌, ◌∷◌, [], length, None, IfSome, IfOk};
 ghost use Rattle.aead.specs.Refusals.{DueToReading, DueToBoth, late_in_readings, UntouchedUnless};

@@ -1,4 +1,4 @@
-// The engine that seals in one reading.
+//! The engine that seals a stream in one reading, under ChaCha20-Poly1305 (RFC 8439, 2.8) and AES-GCM (SP 800-38D, 7.1).
 
 ghost use Rattle.std.specs.Prelude.{◌≡◌, ◌↔◌, ◌<◌, ◌≤◌, ◌∷◌, [], length, true};
 ghost use Rattle.aead.specs.Refusals.{DueToBoth, late_in_one_reading, UntouchedUnless};

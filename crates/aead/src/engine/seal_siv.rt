@@ -1,4 +1,5 @@
-// The engine that seals in two readings.
+//! The engine that seals a stream in two readings, under AES-GCM-SIV (RFC 8452, 4): the tag of the first begins the mask of the
+//! second.
 
 ghost use Rattle.std.specs.Prelude.{◌≡◌, ◌↔◌, ◌+◌, ◌<◌, ◌≤◌, ◌^◌, ◌∷◌, ℕ, List, [], length, IfOk, IfSome};
 ghost use Rattle.aead.specs.Refusals.{DueToReading, DueToBoth, late_in_readings, UntouchedUnless};
