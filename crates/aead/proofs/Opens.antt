@@ -4,7 +4,6 @@ use Rattle.std.proofs.Common.{refl, sym, ap, ap₂}
 use Rattle.std.proofs.Common.{◌∙◌, arith, true≢false, length-append}
 use Rattle.octets.specs.Masked.{masked}
 use Rattle.octets.proofs.Masks.{length-masked, masked_twice}
-use Rattle.aead.specs.declared.suite.Suite.{Suite}
 use Rattle.aead.specs.Suites.{Construction, ByChaCha, ByGcm, ByGcmSiv, construction_of, is_one_pass}
 use Rattle.aead.specs.Sealing.{Setting, mask_by, mask, tag_over_by, tag_over, tag_by, tag_of, sealing, Fits}
 use Rattle.aead.specs.Sealing.{Opened, IsNoSealing}
