@@ -93,8 +93,8 @@ fn is_done(
     answer.is_ok()
 }
 
-// Each call of each device fails in turn, until a sealing is done before the call that would: that is no call but of a
-// second reading that is not made.
+// Each call of each device fails in turn, until a sealing is done before the call that would fail. There are such calls
+// of each device but a second reading that the suite does not make.
 fn each_call_fails(rt: &(impl Abort + Alloc<A = Global>), line: &str) {
     let sample = sample_of(rt, line);
     let reads_twice = two_pass(&sample.cipher).is_some();
