@@ -1,5 +1,25 @@
 //! The command line of `aeadkit`: what the program does with the words after its name, over a storage of files and a
 //! writer for each standard stream.
+//!
+//! [`run`] does what the words ask for and returns the status. The program hands it the system's files and streams.
+//! From `crates/aeadkit/src/main.rt`:
+//! ```
+//! let mut out = rt.stdout();
+//! let mut err = rt.stderr();
+//! ExitCode::from(match words_given(rt.alloc(), &rt) {
+//!     Ok(words) => run(
+//!         rt.alloc(),
+//!         &Disk {
+//!             runtime: &rt,
+//!             alloc: rt.alloc(),
+//!         },
+//!         &words,
+//!         &mut out,
+//!         &mut err,
+//!     ),
+//!     Err(failure) => report(&mut err, failure),
+//! })
+//! ```
 #![tactic(auto)]
 
 mod arguments;
