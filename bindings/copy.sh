@@ -26,10 +26,10 @@ crates() {
     done
 }
 
-# Copies what the library is made of to a folder outside the repository, in which crates.txt names aead and keywrap as
-# libraries of a kind and leaves out what depends on them: copy REPOSITORY ROOM KIND
+# Copies what the library is made of to a folder outside the repository, in which crates.txt names aead and capi as
+# libraries of a kind and leaves out what depends on aead: copy REPOSITORY ROOM KIND
 copy() {
-    grep -Ev '^(vectors|command|aeadkit):' "$1/crates.txt" | sed -E "s/^(aead|keywrap):/\\1 $3:/" > "$2/crates.txt"
+    grep -Ev '^(vectors|command|aeadkit):' "$1/crates.txt" | sed -E "s/^(aead|capi)[^:]*:/\\1 $3:/" > "$2/crates.txt"
     crates "$1" "$2"
 }
 
@@ -63,13 +63,13 @@ archive() {
     folder=$2
     shift 2
     fit "$room" "$@"
-    for name in keywrap aead; do
+    for name in capi aead; do
         proved "$room" "$name" lib "$@"
         (cd "$room" && ar x "crates/$name/out/lib$name.a")
         objcopy -w --set-section-alignment '.text.*=64' "$room/$name.o"
     done
     rm -f "$folder/libaeadkit.a"
-    ar rcs "$folder/libaeadkit.a" "$room/aead.o" "$room/keywrap.o"
+    ar rcs "$folder/libaeadkit.a" "$room/aead.o" "$room/capi.o"
 }
 
 # Links an archive as FOLDER/libaeadkit.so, under the name that its version says: shared ARCHIVE FOLDER VERSION EXPORTS

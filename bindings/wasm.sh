@@ -35,11 +35,12 @@ printf '#!/bin/sh\nexec "%s" "$@" -msimd128\n' "$kit/toolchain/bin/clang" > "$cl
 chmod +x "$clang"
 PATH=$room/kit/bin:$PATH
 
-for name in keywrap aead; do
+for name in capi aead; do
     proved "$room" "$name" lib "$@"
     grep -q simd128 "$room/crates/$name/out/$name.wasm" || { echo "$name.wasm has no simd128" >&2; exit 1; }
-    cp "$room/crates/$name/out/$name.wasm" "$package/"
 done
+cp "$room/crates/capi/out/capi.wasm" "$package/keywrap.wasm"
+cp "$room/crates/aead/out/aead.wasm" "$package/"
 cp wasm/aeadkit.mjs wasm/aeadkit.d.mts wasm/node.mjs wasm/node.d.mts "$package/"
 filled wasm/package.json "$(version_of "$repository")" > "$package/package.json"
 ./wasm-check.sh "$prefix"

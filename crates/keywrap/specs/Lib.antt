@@ -2,5 +2,4 @@ pub mod Wrapping
 pub mod Padded
 pub mod Blocks
 pub mod Refusals
-pub mod Exports
 pub mod Code

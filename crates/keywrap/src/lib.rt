@@ -28,7 +28,6 @@ ghost use Rattle.keywrap.specs.Wrapping.{HasOneText};
 ghost use Rattle.keywrap.specs.Padded.{HasOnePaddedText};
 ghost use Rattle.keywrap.specs.Blocks.{WrapsByBlocks};
 
-mod exports;
 mod in_place;
 mod padded;
 mod padded_in_place;
