@@ -24,7 +24,7 @@ WRAPPED = 40
 
 
 def segments(source: BinaryIO, size: int) -> Iterator[Tuple[bytes, bytes]]:
-    """Each segment with its nonce. A text of no bytes has one segment, which is empty."""
+    """Each segment with its nonce. An empty text has one segment, which is empty too."""
     number, segment = 0, read(source, size)
     while True:
         following = read(source, size)
