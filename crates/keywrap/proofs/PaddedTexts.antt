@@ -1,7 +1,7 @@
 -- Padded texts, the registers that their wrapping starts from, and the transformation of these.
 use Rattle.std.proofs.Common.{◌≡◌, ◌≢◌, ℕ, zero, suc, ◌+◌, ◌-◌, ◌*◌, ◌/◌, ◌%◌, ◌^◌, ◌<◌, ◌≤◌, ◌==◌, Bool}
 use Rattle.std.proofs.Common.{true, false, eqb, List, [], ◌∷◌, ◌++◌, take, drop, length, replicate, refl}
-use Rattle.std.proofs.Common.{sym, ap, ap₂, ◌∙◌, arith, length-append, length-drop, append_assoc}
+use Rattle.std.proofs.Common.{sym, ap, ap₂, ◌∙◌, subst, arith, length-append, length-drop, append_assoc}
 use Rattle.std.specs.Prelude.{Option, Some, None, MatchOption, IfSome}
 use Rattle.std.specs.List.{list_all}
 use Rattle.std.specs.Int.{bytes_high_first, from_be_bytes, w32}
@@ -306,6 +306,37 @@ wrapped_in_room key bytes value zeros wrapped n room most b v z e =
           ∙ ap₂ (λ x m. x ++ (text ++ replicate ((8 - m % 8) % 8) 0)) (v ∙ ap alternative_value (sym long))
           (sym long));
     }
+
+-- a text copied to its room in an output, with A written in front and zeros past it
+pub wrapped_in_output : (key old text copied value zeros wrapped : List ℕ) → 1 ≤ length text
+    → length text < 2 ^ 32
+    → length old ≡ 8 + (length text + (8 - length text % 8) % 8) → AreBytes (length old) old
+    → AreBytes (length text) text → copied ≡ put_mid 8 (length text) old text
+    → value ≡ alternative_value (length text) → zeros
+    ≡ take {A = ℕ} (length old - 8 - length text) (0 ∷ 0 ∷ 0 ∷ 0 ∷ 0 ∷ 0 ∷ 0 ∷ 0 ∷ [])
+    → wrapped ≡ transformed key (put_mid (8 + length text)
+    (length (value ++ drop 8 copied) - (8 + length text)) (value ++ drop 8 copied) zeros)
+    → UnwrappedPadded key wrapped text
+wrapped_in_output key old text copied value zeros wrapped least most size b d is v z e =
+    let n : ℕ = length text in
+    let past : List ℕ = drop n (drop 8 old) in
+    let rest : ℕ = length old - 8 - n in
+    let laid : AreBytes (8 + (n + rest)) (put_mid 8 n old text) =
+    bytes_append 8 (n + rest) (take 8 old) (text ++ past) (bytes_take 8 (length old) old (omega arith) b)
+    (bytes_append n rest text past d
+    (bytes_drop n (length old - 8) (drop 8 old) (bytes_drop 8 (length old) old b))) in
+    let long : length copied ≡ length old = ap length is ∙ laid.length_is ∙ omega arith in
+    let all : AreBytes (length copied) copied =
+    rw is (bytes_resized (8 + (n + rest)) (length (put_mid 8 n old text)) (put_mid 8 n old text)
+    (sym laid.length_is) laid) in
+    let found : take n (drop 8 copied) ≡ text =
+    ap (λ (xs : List ℕ). take n (drop 8 xs)) is
+    ∙ ap (take n) (drop_at (take 8 old) (text ++ past) 8 (length-take-le 8 old (omega arith)))
+    ∙ take_at text past n refl in
+    subst (λ (xs : List ℕ). UnwrappedPadded key wrapped xs) found
+    (wrapped_in_room key copied value zeros wrapped n (record { least = least; room = long ∙ size }) most all
+    v
+    (z ∙ ap (λ m. take {A = ℕ} (m - 8 - n) (0 ∷ 0 ∷ 0 ∷ 0 ∷ 0 ∷ 0 ∷ 0 ∷ 0 ∷ [])) (sym long)) e)
 
 -- if a length is found, the register is that of the text of this length
 pub start_found : (first rest : List ℕ) (found : Option ℕ)

@@ -68,6 +68,12 @@ UnwrappedPaddedInPlace key wrapped n bytes = (8 + n ≤ length bytes)
     × UnwrappedPadded key wrapped (take n (drop 8 bytes))
     × (bytes ≡ alternative_value n ++ padded (take n (drop 8 bytes)))
 
+-- an output is the text of n bytes of a wrapping with padding, and the zeros after it
+abbrev pub UnwrappedPaddedTo : List ℕ → List ℕ → ℕ → List ℕ → Type 0
+UnwrappedPaddedTo key wrapped n output = (n ≤ length output)
+    × UnwrappedPadded key wrapped (take n output)
+    × (output ≡ padded (take n output))
+
 -- wrapped is the wrapping of no text with padding
 abbrev pub IsNoPaddedWrapping : List ℕ → List ℕ → Type 0
 IsNoPaddedWrapping key wrapped = (text : List ℕ) → ¬ UnwrappedPadded key wrapped text

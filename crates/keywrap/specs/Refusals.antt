@@ -1,5 +1,5 @@
 -- The cause of each refusal. A fault that a call never returns has no case of its own.
-use Rattle.std.specs.Prelude.{◌≡◌, ℕ, ◌+◌, ◌^◌, ◌<◌, ◌≤◌, List, length}
+use Rattle.std.specs.Prelude.{◌≡◌, ℕ, ◌+◌, ◌^◌, ◌<◌, ◌≤◌, List, length, replicate}
 use Rattle.octets.specs.declared.fault.Fault.{Fault}
 use Rattle.octets.specs.declared.fault.Fault.TheVariants.{TextTooLong, WrapLength, WrapIntegrity, OutOfMemory}
 use Rattle.keywrap.specs.Wrapping.{HasTextLength, HasWrappedLength, IsNoWrapping}
@@ -59,3 +59,33 @@ PaddedUnwrapInPlaceRefused key wrapped TextTooLong = HasBlocks wrapped × (2 ^ 3
 PaddedUnwrapInPlaceRefused key wrapped WrapIntegrity =
     HasBlocks wrapped × (length wrapped ≤ 2 ^ 32 + 8) × IsNoPaddedWrapping key wrapped
 PaddedUnwrapInPlaceRefused key wrapped _ = ⊥
+
+-- why a text is not wrapped into another output
+abbrev pub WrapToRefused : List ℕ → Fault → Type 0
+WrapToRefused text WrapLength = ¬ HasTextLength text
+WrapToRefused text _ = ⊥
+
+-- why bytes are not unwrapped into another output
+abbrev pub UnwrapToRefused : List ℕ → List ℕ → Fault → Type 0
+UnwrapToRefused key wrapped WrapLength = ¬ HasWrappedLength wrapped
+UnwrapToRefused key wrapped WrapIntegrity = HasWrappedLength wrapped × IsNoWrapping key wrapped
+UnwrapToRefused key wrapped _ = ⊥
+
+-- why a text is not wrapped with padding into another output
+abbrev pub PaddedWrapToRefused : List ℕ → Fault → Type 0
+PaddedWrapToRefused text WrapLength = length text ≡ 0
+PaddedWrapToRefused text TextTooLong = 2 ^ 32 ≤ length text
+PaddedWrapToRefused text _ = ⊥
+
+-- why bytes are not unwrapped to a padded text in another output
+abbrev pub PaddedUnwrapToRefused : List ℕ → List ℕ → Fault → Type 0
+PaddedUnwrapToRefused key wrapped WrapLength = ¬ HasBlocks wrapped
+PaddedUnwrapToRefused key wrapped TextTooLong = HasBlocks wrapped × (2 ^ 32 + 8 < length wrapped)
+PaddedUnwrapToRefused key wrapped WrapIntegrity =
+    HasBlocks wrapped × (length wrapped ≤ 2 ^ 32 + 8) × IsNoPaddedWrapping key wrapped
+PaddedUnwrapToRefused key wrapped _ = ⊥
+
+-- what a call that unwraps leaves in its output at a fault: zeros if the bytes are no wrapping, else what was there
+abbrev pub left_at : Fault → List ℕ → List ℕ
+left_at WrapIntegrity output = replicate (length output) 0
+left_at _ output = output

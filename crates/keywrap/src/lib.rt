@@ -1,6 +1,6 @@
 //! AES Key Wrap, with the default initial value (RFC 3394; SP 800-38F, 6.1 and 6.2) and with padding (RFC 5649). `wrap`,
-//! `unwrap`, `wrap_padded` and `unwrap_padded` make a new vector; their forms `_in_place` work in the caller's bytes and
-//! allocate nothing.
+//! `unwrap`, `wrap_padded` and `unwrap_padded` make a new vector. Their forms `_in_place` work in the caller's bytes, and their
+//! forms `_to` write to another output of the caller's; both allocate nothing.
 //!
 //! Not constant time. Each step encrypts or decrypts a block of A and 8 bytes of the text by `AesKey::encrypt` or
 //! `InverseKey::decrypt`, which look up tables of 4 KiB by bytes of that block, XORed with the wrapping key's at first, and so
@@ -29,6 +29,7 @@ ghost use Rattle.keywrap.specs.Padded.{HasOnePaddedText};
 ghost use Rattle.keywrap.specs.Blocks.{WrapsByBlocks};
 
 mod in_place;
+mod outputs;
 mod padded;
 mod padded_in_place;
 mod steps;
@@ -36,6 +37,7 @@ mod uses;
 mod whole;
 
 pub use in_place::{unwrap_in_place, wrap_in_place};
+pub use outputs::{unwrap_padded_to, unwrap_to, wrap_padded_to, wrap_to};
 pub use padded::{unwrap_padded, wrap_padded};
 pub use padded_in_place::{unwrap_padded_in_place, wrap_padded_in_place};
 pub use whole::{unwrap, wrap};
