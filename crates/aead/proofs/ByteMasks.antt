@@ -10,7 +10,7 @@ use Rattle.octets.specs.Masked.{masked}
 use Rattle.chacha.specs.Block.{block, block_from, serialized}
 use Rattle.chacha.specs.Stream.{key_stream_byte}
 use Rattle.aes.specs.Schedule.{schedule, key_words, round_count}
-use Rattle.aes.specs.Cipher.{sub_bytes, shift_rows, mix_columns, rounds, cipher, IsKey}
+use Rattle.aes.specs.Cipher.{sub_bytes, shift_rows, mix_columns, rounds, cipher, IsKey, IsKeyLength}
 use Rattle.aes.specs.Counters.{up_be, up_le, counter_byte}
 use Rattle.aes.proofs.Steps.{AreWords, sub_block, shift_block, mix_block, add_block}
 use Rattle.aes.proofs.Permutation.{words_are}
@@ -152,7 +152,13 @@ mask_small_by ByGcm key nonce tag k m i = counter_small key (up_be (j0 nonce) 1)
 mask_small_by ByGcmSiv key nonce tag k m i =
     counter_small_le (encryption_key key nonce) (counter_block tag) i (m refl)
 
--- so that of a suite whose tag is over the ciphertext
+-- so that of each suite whose cipher has a key of AES
+pub mask_of_small : (s : Setting) (tag : List ℕ) → (construction_of s.suite ≡ ByGcm → IsKey s.key)
+    → (construction_of s.suite ≡ ByGcmSiv → IsKey (encryption_key s.key s.nonce)) → (i : ℕ) → mask_of s tag i < 256
+unfolding mask
+mask_of_small s tag k m i = mask_small_by (construction_of s.suite) s.key s.nonce tag k m i
+
+-- that of a suite whose tag is over the ciphertext
 pub mask_small : (s : Setting) (tag : List ℕ) → is_one_pass (construction_of s.suite) ≡ true
     → (construction_of s.suite ≡ ByGcm → IsKey s.key) → (i : ℕ) → mask_of s tag i < 256
 unfolding mask
@@ -167,3 +173,20 @@ unfolding mask
 any_mask_small s tag k long i =
     mask_small_by (construction_of s.suite) s.key s.nonce tag (λ _. k)
     (λ e. derived_key s.suite s.key s.nonce e long k) i
+
+-- each key length is one of AES
+key_size : (suite : Suite) → IsKeyLength (key_length suite)
+key_size ChaCha20Poly1305 = inr (inr refl)
+key_size Aes128Gcm = inl refl
+key_size Aes192Gcm = inr (inl refl)
+key_size Aes256Gcm = inr (inr refl)
+key_size Aes128GcmSiv = inl refl
+key_size Aes256GcmSiv = inr (inr refl)
+
+-- so bytes of that length are a key of AES
+pub aes_key : (suite : Suite) (key : List ℕ) → length key ≡ key_length suite → ((i : ℕ) → get_or key i 0 < 256)
+    → IsKey key
+aes_key suite key long bytes = record {
+  length_is = subst IsKeyLength (sym long) (key_size suite);
+  bytes = bytes;
+}

@@ -1,5 +1,4 @@
 mod OneText
-mod Composed
 mod Opens
 mod Fed
 mod DerivedKeys
@@ -12,7 +11,6 @@ mod GcmVector
 mod GcmSivVector
 mod Pieces
 mod Maskings
-mod AnyMaskings
 mod BufferedStreams
 mod Tags
 mod Measuring
@@ -27,5 +25,7 @@ mod SealExits
 mod SivExits
 mod Parts
 mod ByteMasks
-mod Stored
-mod Marks
+mod PassStates
+mod KeyedPasses
+mod KeyedPieces
+mod Openings

@@ -4,8 +4,6 @@ pub mod States
 pub mod Measures
 pub mod CutBytes
 pub mod Maskings
-pub mod NoSums
-pub mod AnyMaskings
 pub mod Absorbed
 pub mod Masks
 pub mod Buffered
@@ -13,4 +11,4 @@ pub mod Extents
 pub mod Findings
 pub mod Passes
 pub mod Returns
-pub mod Steps
+pub mod PassSteps

@@ -5,14 +5,12 @@ pub mod AnyCiphers
 pub mod Refusals
 pub mod InPlace
 pub mod Cuts
+pub mod PassStates
 pub mod Pieces
 pub mod Measure
 pub mod Verdict
 pub mod SealStream
 pub mod SealSivStream
-pub mod Exports
-pub mod Stored
-pub mod StoredKey
-pub mod StoredOpener
-pub mod StoredSiv
+pub mod KeyedPasses
+pub mod KeyedPieces
 pub mod Code

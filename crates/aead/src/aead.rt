@@ -47,22 +47,31 @@ pub trait Aead {
             result };
 }
 
-// A cipher under a key, for lengths that were found to be within the limits of its suite.
-pub(crate) trait Cipher {
+/// A cipher under a key, for a caller that has compared the lengths with the limits of the suite: no call refuses a length.
+/// Each `Cipher` is an [`Aead`] too, whose calls compare them. A nonce must never be used for two sealings under one key.
+pub trait Cipher {
     // The suite and the key.
     ghost keyed: { Self → Keyed };
 
-    // The suite.
+    /// The suite.
     fn suite(&self) -> Suite
         ensures { result ≡ (keyed self.now).suite };
 
-    // Turns a text into its ciphertext, and returns its tag.
+    /// Seals `text` under a nonce with associated data, whose lengths in bytes are within [`Suite::text_limit`] and
+    /// [`Suite::aad_limit`]: leaves the ciphertext in the text's place and returns the tag, 16 bytes. There is no fault.
+    /// Does not allocate.
+    ///
+    /// The nonce must never be used twice under one key. Under ChaCha20-Poly1305 and AES-GCM a repeat gives away the XOR of
+    /// the two texts, and enough to forge messages; under AES-GCM-SIV it gives away only whether the texts and the
+    /// associated data were the same.
     fn seal_fitting(&self, nonce: &Nonce, aad: &[u8], text: &mut [u8]) -> Tag
         requires aad_fits { length aad.now ≤ aad_limit (keyed self.now).suite }
         requires text_fits { length text.old ≤ text_limit (keyed self.now).suite }
         ensures { Opened (setting (keyed self.now) nonce.now aad.now) (text.new ++ result) text.old };
 
-    // Turns a ciphertext into its text if the tag is its own, and else leaves every byte as it was.
+    /// Opens a ciphertext and its tag, 16 bytes, under a nonce with associated data, whose lengths in bytes are within
+    /// [`Suite::text_limit`] and [`Suite::aad_limit`]: leaves the text in the ciphertext's place. `TagMismatch`, the only
+    /// fault, if authentication failed: every byte is then as it was. Does not allocate.
     fn open_fitting(
         &self,
         nonce: &Nonce,

@@ -1,10 +1,11 @@
 //! The cipher ChaCha20-Poly1305 (RFC 8439, 2.8). The block with counter 0 begins with the key of Poly1305, and the text is
 //! masked from counter 1 on.
 
-ghost use Rattle.std.specs.Prelude.{◌≡◌, ℕ, ◌%◌, ◌<◌, ◌≤◌, ◌++◌, length, take, slice_index, refl, MatchResult};
+ghost use Rattle.std.specs.Prelude.{◌≡◌, ℕ, List, ◌-◌, ◌^◌, ◌%◌, ◌<◌, ◌≤◌, ◌++◌, length, take, slice_index, refl, MatchResult};
 ghost use Rattle.chacha.specs.Stream.{key_stream_byte};
-ghost use Rattle.aead.specs.Suites.{text_limit, aad_limit};
-ghost use Rattle.aead.specs.Sealing.{Opened, poly_key};
+ghost use Rattle.aead.specs.Suites.{ByChaCha, construction_of, text_limit, aad_limit};
+ghost use Rattle.aead.specs.Sealing.{Setting, Opened, poly_key};
+ghost use Rattle.aead.specs.Code.States.{MadeByChaCha};
 ghost use Rattle.aead.specs.Ciphers.{Keyed, setting};
 ghost use Rattle.aead.specs.Refusals.{OpenRefused};
 ghost use Rattle.aead.specs.InPlace.{OpensInPlace};
@@ -39,6 +40,14 @@ impl ChaChaPoly {
         ensures { result ≡ record { suite = ChaCha20Poly1305; key = key.now } }
     {
         ChaChaPoly { key: *key }
+    }
+
+    // Its key.
+    pub(crate) fn key(&self) -> &Key32
+        ensures key { result.now ≡ self.now.key }
+        ensures by { construction_of self.now.suite ≡ ByChaCha }
+    {
+        &self.key
     }
 
     // The cipher with a nonce, for a text in pieces.
@@ -106,6 +115,22 @@ impl ChaChaPoly {
         let start = &key_stream_start::<128>(key, nonce)[..];
         open_beside(&BufferedChaCha { key, nonce, start }, aad, body, tag)
     }
+}
+
+// The one-time key of Poly1305: the first 32 bytes of the block with counter 0 (RFC 8439, 2.6).
+pub(crate) fn one_time_key(key: &Key32, nonce: &Nonce) -> [u8; 32]
+    ensures { result ≡ poly_key key.now nonce.now }
+{
+    first_half(&block(key, 0, nonce))
+}
+
+// The key stream of a text of which so many bytes were masked.
+pub(crate) fn mask_at(key: &Key32, nonce: &Nonce, made: u64) -> ChaStream
+    requires { made ≤ 2 ^ 38 - 64 }
+    ensures { (s : Setting) (tag : List ℕ) → construction_of s.suite ≡ ByChaCha → s.key ≡ key.now
+        → s.nonce ≡ nonce.now → MadeByChaCha result s tag made }
+{
+    ChaStream::at(key, nonce, 64 + made)
 }
 
 // The first 32 bytes.

@@ -1,15 +1,18 @@
 //! The cipher AES-GCM (SP 800-38D, 7), with nonces of 12 bytes.
 
-ghost use Rattle.std.specs.Prelude.{◌≡◌, ◌≢◌, ◌≤◌, ◌++◌, ◌∷◌, [], length, MatchResult};
+ghost use Rattle.std.specs.Prelude.{◌≡◌, ◌≢◌, ◌<◌, ◌≤◌, ◌^◌, ◌++◌, ◌∷◌, ℕ, List, [], length, MatchResult};
 ghost use Rattle.std.proofs.Common.{ap};
 ghost use Rattle.aes.specs.Cipher.{cipher, IsKey};
 ghost use Rattle.aead.specs.declared.suite.Suite.{Suite};
 ghost use Rattle.aead.specs.Suites.{construction_of, is_one_pass, key_length, text_limit, aad_limit, ByGcm};
-ghost use Rattle.aead.specs.Sealing.{Opened, hash_key, j0};
+ghost use Rattle.aead.specs.Sealing.{Setting, Opened, hash_key, j0};
+ghost use Rattle.aead.specs.PassStates.{IsHashKey};
+ghost use Rattle.aead.specs.Code.States.{MadeByGcm};
 ghost use Rattle.aead.specs.Ciphers.{Keyed, setting};
 ghost use Rattle.aead.specs.InPlace.{OpensInPlace};
 
 use crate::aead::Cipher;
+use crate::derived_keys::joined;
 use crate::hashes::GhashTag;
 use crate::mask_then_hash::{MaskThenHash, open_whole, seal_whole};
 use crate::multiples::{Multiples, worth};
@@ -75,7 +78,7 @@ impl Gcm {
         requires { construction_of suite ≡ ByGcm }
         ensures { result ≡ record { suite = suite; key = key } }
     {
-        let ghash_key = ghash_key_of(&key);
+        let ghash_key = hash_subkey(&key);
         Gcm {
             key,
             ghash_key,
@@ -86,10 +89,10 @@ impl Gcm {
 
     // The cipher by what it keeps, where that is.
     #[inline(always)]
-    fn kept<'a>(&'a self) -> KeptGcm<'a, &'a TableMul>
-        ensures { ⟦<KeptGcm<'a, &'a TableMul> as Cipher>⟧.keyed result ≡ self.now }
+    fn kept<'a>(&'a self) -> BorrowedGcm<'a, &'a TableMul>
+        ensures { ⟦<BorrowedGcm<'a, &'a TableMul> as Cipher>⟧.keyed result ≡ self.now }
     {
-        KeptGcm::new(self.suite, &self.key, &self.ghash_key, &self.multiplier)
+        BorrowedGcm::new(self.suite, &self.key, &self.ghash_key, &self.multiplier)
     }
 
     // Its key.
@@ -120,6 +123,17 @@ impl Gcm {
         }
     }
 
+    // Its key, its hash key and the multiplier that is kept.
+    pub(crate) fn keys(&self) -> (&AesKey, &Block, &TableMul)
+        ensures key { result.0.now ≡ self.now.key }
+        ensures hash_key { result.1.now ≡ hash_key result.0.now }
+        ensures multiplier { ⟦<TableMul as Multiply>⟧.key_bytes result.2.now ≡ hash_key self.now.key }
+        ensures by { construction_of self.now.suite ≡ ByGcm }
+        ensures is_key { IsKey self.now.key }
+    {
+        (&self.key, &self.ghash_key, &self.multiplier)
+    }
+
     // A multiplier of its hash key. It is inlined, since a large one would be moved.
     #[inline(always)]
     pub(crate) fn multiplier_of<M: Keyed128>(&self) -> M
@@ -129,13 +143,35 @@ impl Gcm {
     }
 }
 
-// The key of GHASH (SP 800-38D, 7.1).
+/// Returns the hash subkey H of a key: the block of zeros under AES (SP 800-38D, 7.1). It is the key of GHASH, and secret.
+///
+/// Not constant time: AES looks up its round tables, four of 256 words, by bytes of the state.
 #[inline(always)]
-pub(crate) fn ghash_key_of(key: &AesKey) -> Block
+pub fn hash_subkey(key: &AesKey) -> Block
     ensures value { result ≡ hash_key key.now }
     ensures is_key { IsKey key.now }
 {
     key.encrypt(&Block::new([0; 16]))
+}
+
+// The keys of the hash of a message: that of GHASH, and the block that the tag is masked with.
+pub(crate) fn hash_keys(key: &AesKey, ghash_key: &Block, nonce: &Nonce) -> [u8; 32]
+    requires { ghash_key.now ≡ hash_key key.now }
+    ensures { (s : Setting) → s.key ≡ key.now → s.nonce ≡ nonce.now → IsHashKey ByGcm result s }
+{
+    joined(
+        ghash_key.bytes(),
+        key.encrypt(&counter_block(nonce, 1)).bytes(),
+    )
+}
+
+// The counter stream of a text of which so many bytes were masked.
+pub(crate) fn mask_at<K: KeptKey>(key: K, nonce: &Nonce, made: u64) -> CtrBe<K>
+    requires { made < 2 ^ 63 }
+    ensures { (s : Setting) (tag : List ℕ) → construction_of s.suite ≡ ByGcm → s.key ≡ K.bytes key
+        → s.nonce ≡ nonce.now → MadeByGcm K.bytes result s tag made }
+{
+    CtrBe::at(key, &counter_block(nonce, 2), made)
 }
 
 // The nonce and a counter (SP 800-38D, 7.1). The last word is written as one, since the cipher reads words.
@@ -192,9 +228,13 @@ impl<'a, M: Multiply + Copy, K: KeptKey + Copy> MaskThenHash for NoncedGcm<'a, M
     ghost one_pass = { λ n. ap is_one_pass n.by_gcm };
 }
 
-// AES-GCM by its key, its hash key and a multiplier for short texts, all kept elsewhere.
+/// AES-GCM (SP 800-38D) by a key's schedule, its hash subkey and a multiplier by that, which the caller keeps, as a [`Gcm`]
+/// keeps its own. A long message is hashed by a larger table, which is made of the hash subkey for the message. Opening in
+/// place authenticates before it changes a byte.
+///
+/// Not constant time: secret bytes index the tables that [`Gcm`] names.
 #[derive(Drop)]
-pub(crate) struct KeptGcm<'a, M: Multiply> {
+pub struct BorrowedGcm<'a, M: Multiply> {
     suite: Suite,
     key: &'a AesKey,
     ghash_key: &'a Block,
@@ -204,21 +244,22 @@ pub(crate) struct KeptGcm<'a, M: Multiply> {
     ghost multiplier_is: { M.key_bytes multiplier ≡ hash_key key.now },
 }
 
-impl<'a, M: Multiply + Copy> KeptGcm<'a, M> {
-    // The cipher of one of the three suites.
+impl<'a, M: Multiply + Copy> BorrowedGcm<'a, M> {
+    /// AES-GCM of one of its three suites, by a key of the suite's length, 16, 24 or 32 bytes, its [`hash_subkey`] and a
+    /// multiplier by that.
     #[inline(always)]
-    pub(crate) fn new(
+    pub fn new(
         suite: Suite,
         key: &'a AesKey,
         ghash_key: &'a Block,
         multiplier: M,
-    ) -> KeptGcm<'a, M>
+    ) -> BorrowedGcm<'a, M>
         requires by_gcm { construction_of suite ≡ ByGcm }
         requires ghash_key { ghash_key.now ≡ hash_key key.now }
         requires multiplier { M.key_bytes multiplier ≡ hash_key key.now }
-        ensures { ⟦<KeptGcm<'a, M> as Cipher>⟧.keyed result ≡ record { suite = suite; key = key.now } }
+        ensures { ⟦<BorrowedGcm<'a, M> as Cipher>⟧.keyed result ≡ record { suite = suite; key = key.now } }
     {
-        KeptGcm {
+        BorrowedGcm {
             suite,
             key,
             ghash_key,
@@ -235,7 +276,7 @@ impl<'a, M: Multiply + Copy> KeptGcm<'a, M> {
     ) -> NoncedGcm<'b, N, &'a AesKey>
         requires { N.key_bytes multiplier ≡ hash_key self.now.key.now }
         ensures keyed { ⟦<NoncedGcm<'b, N, &'a AesKey> as Nonced>⟧.keyed result
-            ≡ ⟦<KeptGcm<'a, M> as Cipher>⟧.keyed self.now }
+            ≡ ⟦<BorrowedGcm<'a, M> as Cipher>⟧.keyed self.now }
         ensures nonce { ⟦<NoncedGcm<'b, N, &'a AesKey> as Nonced>⟧.nonce result ≡ nonce.now }
     {
         NoncedGcm {
@@ -251,7 +292,7 @@ impl<'a, M: Multiply + Copy> KeptGcm<'a, M> {
     fn seal_by<N: Keyed128>(&self, nonce: &Nonce, aad: &[u8], text: &mut [u8]) -> Tag
         requires aad_fits { length aad.now ≤ aad_limit self.now.suite }
         requires text_fits { length text.old ≤ text_limit self.now.suite }
-        ensures { Opened (setting (⟦<KeptGcm<'a, M> as Cipher>⟧.keyed self.now) nonce.now aad.now) (text.new ++ result)
+        ensures { Opened (setting (⟦<BorrowedGcm<'a, M> as Cipher>⟧.keyed self.now) nonce.now aad.now) (text.new ++ result)
             text.old }
     {
         let mut made = N::none();
@@ -270,7 +311,7 @@ impl<'a, M: Multiply + Copy> KeptGcm<'a, M> {
     ) -> Result<(), Fault>
         requires aad_fits { length aad.now ≤ aad_limit self.now.suite }
         requires text_fits { length body.old ≤ text_limit self.now.suite }
-        ensures { OpensInPlace (setting (⟦<KeptGcm<'a, M> as Cipher>⟧.keyed self.now) nonce.now aad.now) tag.now body.old
+        ensures { OpensInPlace (setting (⟦<BorrowedGcm<'a, M> as Cipher>⟧.keyed self.now) nonce.now aad.now) tag.now body.old
             body.new result }
     {
         let mut made = N::none();
@@ -279,7 +320,7 @@ impl<'a, M: Multiply + Copy> KeptGcm<'a, M> {
     }
 }
 
-impl<'a, M: Multiply + Copy> Cipher for KeptGcm<'a, M> {
+impl<'a, M: Multiply + Copy> Cipher for BorrowedGcm<'a, M> {
     ghost keyed = { λ c. record { suite = c.suite; key = c.key.now } };
 
     fn suite(&self) -> Suite {

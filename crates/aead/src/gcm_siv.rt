@@ -1,7 +1,7 @@
 //! The cipher AES-GCM-SIV (RFC 8452, 4 and 5). Each message has its own keys; the tag is over the text, and begins the
 //! mask.
 
-ghost use Rattle.std.specs.Prelude.{◌≡◌, ◌≢◌, ◌≤◌, ◌++◌, length, MatchResult};
+ghost use Rattle.std.specs.Prelude.{◌≡◌, ◌≢◌, ◌<◌, ◌≤◌, ◌^◌, ◌++◌, length, MatchResult};
 ghost use Rattle.octets.specs.Bytes.{IsBlock};
 ghost use Rattle.gf128.specs.Polyval.{IsReversedMulX};
 ghost use Rattle.gf128.specs.States.{key_of};
@@ -67,14 +67,22 @@ impl GcmSiv {
         }
     }
 
-    // The cipher of one of the two suites under a key of its length.
+    /// AES-GCM-SIV of one of its two suites, under a key of the suite's length, 16 or 32 bytes.
     #[inline(always)]
-    pub(crate) fn new(suite: Suite, key: AesKey) -> GcmSiv
+    pub fn new(suite: Suite, key: AesKey) -> GcmSiv
         requires by_gcm_siv { construction_of suite ≡ ByGcmSiv }
         requires long { length key ≡ key_length suite }
         ensures { result ≡ record { suite = suite; key = key } }
     {
         GcmSiv { key, suite }
+    }
+
+    // Its key.
+    pub(crate) fn key(&self) -> &AesKey
+        ensures key { result.now ≡ self.now.key }
+        ensures long { length self.now.key ≡ key_length self.now.suite }
+    {
+        &self.key
     }
 
     // The keys of a message.
@@ -168,6 +176,17 @@ pub(crate) fn tag_mask<K: KeptKey>(encryption: K, tag: &Tag) -> CtrLe<K>
         → MadeByGcmSiv K.bytes result s tag.now 0 }
 {
     CtrLe::new(encryption, &Block::new(counter_block(tag.bytes())))
+}
+
+// The mask under a tag of which so many bytes were made.
+#[inline(always)]
+pub(crate) fn mask_at<K: KeptKey>(encryption: K, tag: &[u8; 16], made: u64) -> CtrLe<K>
+    requires { made < 2 ^ 63 }
+    ensures { (s : Setting) → construction_of s.suite ≡ ByGcmSiv
+        → K.bytes encryption ≡ encryption_key s.key s.nonce
+        → MadeByGcmSiv K.bytes result s tag.now made }
+{
+    CtrLe::at(encryption, &Block::new(counter_block(tag)), made)
 }
 
 // The cipher with a nonce, its encryption key, and a multiplier of its authentication key.

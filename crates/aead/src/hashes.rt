@@ -1,13 +1,16 @@
 //! The hashes of the constructions, and the tags that they end in: Poly1305 (RFC 8439, 2.8), GHASH (SP 800-38D, 7.1) and
 //! POLYVAL (RFC 8452, 4).
 
-ghost use Rattle.std.specs.Prelude.{◌≡◌, ◌<◌, ◌*◌, ◌^◌, ◌++◌, ℕ, List, length};
+ghost use Rattle.std.specs.Prelude.{◌≡◌, ◌<◌, ◌*◌, ◌/◌, ◌^◌, ◌++◌, ℕ, List, length, drop};
 ghost use Rattle.octets.specs.Bytes.{pad16};
-ghost use Rattle.aead.specs.Sealing.{Setting, Fits, tag_block, tag_over};
+ghost use Rattle.gf128.specs.Orders.{Reversed, Serves};
+ghost use Rattle.aead.specs.Suites.{ByChaCha, ByGcm, ByGcmSiv, construction_of};
+ghost use Rattle.aead.specs.Sealing.{Setting, Fits, tag_block, tag_over, hash_key, authentication_key, encryption_key};
+ghost use Rattle.aead.specs.PassStates.{IsHashKey, IsSumOf};
 ghost use Rattle.aead.specs.Code.States.{HeldByPoly, HeldByGhash, HeldByPolyval};
 
 use crate::derived_keys::joined;
-use aes::KeptKey;
+use aes::{AesKey, KeptKey};
 use gf128::{Ghash, Multiply, Polyval};
 use octets::{Block, Idle, Nonce, Stream, Tag, be_pair, xor_into, xored};
 use poly1305::Poly;
@@ -33,6 +36,17 @@ pub(crate) trait TagHash: Drop {
     // Takes in zeros up to whole blocks.
     fn pad(&mut self)
         ensures { (s : Setting) (m : List ℕ) → held self.old s m → held self.new s (pad16 m) };
+
+    // Its sum over the whole blocks of the text: the lower 128 bits, and the rest.
+    fn sum(&self) -> (u128, u64)
+        ensures { (s : Setting) (m : List ℕ) → held self.now s m
+            → IsSumOf (construction_of s.suite) result.0 result.1 s m };
+
+    // The bytes of the text after the last whole block.
+    fn rest(&self) -> &[u8]
+        ensures value { (s : Setting) (m : List ℕ) → held self.now s m
+            → result.now ≡ drop (length m / 16 * 16) m }
+        ensures short { length result.now < 16 };
 
     // The tag of padded associated data and the bytes after it: zeros up to whole blocks and both lengths are taken in
     // last. The hash is of no use after it.
@@ -65,6 +79,14 @@ impl TagHash for Poly {
         self.pad16();
     }
 
+    fn sum(&self) -> (u128, u64) {
+        self.sum()
+    }
+
+    fn rest(&self) -> &[u8] {
+        self.rest()
+    }
+
     fn tag_with_lengths(&mut self, aad_length: u64, bytes_length: u64) -> Tag {
         self.pad16_and_add(&joined(&aad_length.to_le_bytes(), &bytes_length.to_le_bytes()));
         self.tag()
@@ -88,6 +110,14 @@ impl<M: Multiply> TagHash for GhashTag<M> {
 
     fn pad(&mut self) {
         self.hash.pad16();
+    }
+
+    fn sum(&self) -> (u128, u64) {
+        (self.hash.sum(), 0)
+    }
+
+    fn rest(&self) -> &[u8] {
+        self.hash.rest()
     }
 
     fn tag_with_lengths(&mut self, aad_length: u64, bytes_length: u64) -> Tag {
@@ -127,6 +157,14 @@ impl<M: Multiply, K: KeptKey> TagHash for PolyvalTag<M, K> {
         self.hash.pad16();
     }
 
+    fn sum(&self) -> (u128, u64) {
+        (self.hash.sum(), 0)
+    }
+
+    fn rest(&self) -> &[u8] {
+        self.hash.rest()
+    }
+
     fn tag_with_lengths(&mut self, aad_length: u64, bytes_length: u64) -> Tag {
         let (first, second) = (bits(aad_length), bits(bytes_length));
         self.hash
@@ -134,4 +172,97 @@ impl<M: Multiply, K: KeptKey> TagHash for PolyvalTag<M, K> {
         let block = tag_block(self.hash.hash().bytes(), self.nonce.bytes());
         Tag::new(*self.key.kept().encrypt(&Block::new(block)).bytes())
     }
+}
+
+// ---- a hash made again from numbers
+
+// The keys of a hash, with which it is made again from numbers.
+pub(crate) trait HashKeys {
+    type Hash: TagHash;
+
+    // They are those of a message.
+    ghost serves: { Self → Setting → Type 0 };
+
+    // The hash of a text again, by the bytes of its keys, its sum over the whole blocks and the bytes after them.
+    fn resumed(&self, hash_key: &[u8; 32], low: u128, high: u64, rest: &[u8]) -> Self::Hash
+        requires { length rest.now < 16 }
+        ensures { (s : Setting) (m : List ℕ) → serves self.now s → IsHashKey (construction_of s.suite) hash_key.now s
+            → IsSumOf (construction_of s.suite) low high s m → rest.now ≡ drop (length m / 16 * 16) m
+            → Self.Hash.held result s m };
+}
+
+// Poly1305, whose key is among the numbers.
+#[derive(Drop)]
+pub(crate) struct PolyKeys;
+
+impl HashKeys for PolyKeys {
+    type Hash = Poly;
+
+    ghost serves = { λ _ s. construction_of s.suite ≡ ByChaCha };
+
+    #[inline(always)]
+    fn resumed(&self, hash_key: &[u8; 32], low: u128, high: u64, rest: &[u8]) -> Poly {
+        Poly::resumed(hash_key, low, high, rest)
+    }
+}
+
+// GHASH by a multiplier of its key. The cipher of J0 is among the numbers.
+#[derive(Drop)]
+pub(crate) struct GhashKeys<'a, M> {
+    pub(crate) multiplier: &'a M,
+}
+
+impl<'a, M: Multiply> HashKeys for GhashKeys<'a, M> {
+    type Hash = GhashTag<&'a M>;
+
+    ghost serves = { λ k s. (construction_of s.suite ≡ ByGcm)
+        × (M.key_bytes k.multiplier.now ≡ hash_key s.key) };
+
+    #[inline(always)]
+    fn resumed(&self, hash_key: &[u8; 32], low: u128, _high: u64, rest: &[u8]) -> GhashTag<&'a M> {
+        GhashTag {
+            hash: Ghash::resumed(self.multiplier, low, rest),
+            mask: last_block(hash_key),
+        }
+    }
+}
+
+// POLYVAL by a multiplier of its key, with the encryption key and the nonce.
+#[derive(Drop)]
+pub(crate) struct PolyvalKeys<'a, M> {
+    pub(crate) multiplier: &'a M,
+    pub(crate) key: &'a AesKey,
+    pub(crate) nonce: &'a Nonce,
+}
+
+impl<'a, M: Multiply> HashKeys for PolyvalKeys<'a, M> {
+    type Hash = PolyvalTag<&'a M, &'a AesKey>;
+
+    ghost serves = { λ k s. (construction_of s.suite ≡ ByGcmSiv)
+        × (Serves Reversed (authentication_key s.key s.nonce) (M.key_bytes k.multiplier.now))
+        × (k.key.now ≡ encryption_key s.key s.nonce) × (k.nonce.now ≡ s.nonce) };
+
+    #[inline(always)]
+    fn resumed(
+        &self,
+        _hash_key: &[u8; 32],
+        low: u128,
+        _high: u64,
+        rest: &[u8],
+    ) -> PolyvalTag<&'a M, &'a AesKey> {
+        PolyvalTag {
+            hash: Polyval::resumed(self.multiplier, low, rest),
+            key: self.key,
+            nonce: *self.nonce,
+        }
+    }
+}
+
+// The last 16 bytes.
+fn last_block(bytes: &[u8; 32]) -> Block
+    ensures { result ≡ drop 16 bytes.now }
+{
+    let mut last = [0; 16];
+    last.copy_from_slice(&bytes[16..]);
+    Block::new(last)
 }

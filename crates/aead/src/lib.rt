@@ -8,8 +8,8 @@
 //! open(alloc, &cipher, nonce, aad, &sealed)
 //! ```
 //! A nonce must never be used twice under one key: [`seal`] says what a repeat gives away. A message is sealed or opened
-//! in place by [`Aead`], sealed in pieces by [`Sealer`] or by [`SivAbsorb`] and [`SivWriter`], and sealed or opened over
-//! streams by [`seal_stream`], [`seal_siv_stream`] and [`open_stream`].
+//! in place by [`Aead`], sealed in pieces by [`Sealer`] or by [`SivAbsorb`] and [`SivWriter`], opened in pieces by [`Opener`]
+//! and [`OpenWriter`], and sealed or opened over streams by [`seal_stream`], [`seal_siv_stream`] and [`open_stream`].
 #![tactic(auto)]
 
 ghost use Rattle.aead.specs.Pieces.{PiecesMakeASealing, MaskedPiecesMakeASealing, MaskedPiecesJoin};
@@ -18,7 +18,6 @@ ghost use Rattle.aead.specs.Verdict.{ShownRepeatsTheText};
 
 mod aead;
 mod any;
-mod any_masking;
 mod authenticator;
 mod beside;
 mod buffered_stream;
@@ -26,33 +25,48 @@ mod chacha_poly;
 mod cuts;
 mod derived_keys;
 mod engine;
-mod exports;
 mod gcm;
 mod gcm_siv;
 mod hash_then_mask;
 mod hashes;
+mod keyed_opener;
+mod keyed_pass;
+mod keyed_passes;
+mod keyed_sealer;
+mod keyed_siv;
 mod mask;
 mod mask_then_hash;
 mod masking;
 mod multiples;
 mod nonced;
+mod opener;
+mod pass_state;
 mod sealer;
 mod second_reading;
 mod siv;
+mod siv_keys;
 mod suite;
+mod taken_text;
+mod two_pass_state;
 mod uses;
 mod whole;
 
-pub use aead::Aead;
+pub use aead::{Aead, Cipher};
 pub use any::{AnyAead, AnyOnePass};
 pub use chacha_poly::ChaChaPoly;
 pub use cuts::seal_cut;
 pub use engine::{open_stream, seal_siv_stream, seal_stream};
-pub use gcm::Gcm;
+pub use gcm::{BorrowedGcm, Gcm, hash_subkey};
 pub use gcm_siv::GcmSiv;
+pub use keyed_opener::KeyedOpener;
+pub use keyed_sealer::KeyedSealer;
+pub use keyed_siv::KeyedSiv;
+pub use opener::{OpenWriter, Opener};
+pub use pass_state::PassState;
 pub use sealer::Sealer;
 pub use siv::{SivAbsorb, SivWriter};
 pub use suite::Suite;
+pub use two_pass_state::TwoPassState;
 pub use whole::{open, seal};
 
 /// A sealing has one text, and is sixteen bytes longer: for every suite, key, nonce and associated data.
@@ -78,8 +92,8 @@ pub fn masked_pieces_make_a_sealing()
     ensures { MaskedPiecesMakeASealing }
 {}
 
-/// Pieces that are masked one after the other under one tag, as the second readings of AES-GCM-SIV and of an
-/// opening at C mask them, join to their text masked under it.
+/// Pieces that are masked one after the other under one tag, as [`SivWriter::update`] and [`OpenWriter::update`] mask
+/// them, join to their text masked under it.
 pub fn masked_pieces_join()
     ensures { MaskedPiecesJoin }
 {}

@@ -1,47 +1,120 @@
 //! Sealing piece by piece in one reading, under the suites whose tag is over the ciphertext: ChaCha20-Poly1305 (RFC 8439)
 //! and AES-GCM (SP 800-38D).
 
-ghost use Rattle.std.specs.Prelude.{◌≡◌, ◌≤◌, ◌++◌, ℕ, List, [], length, true, MatchResult, OnErr};
+ghost use Rattle.std.specs.Prelude.{◌≡◌, ◌+◌, ◌<◌, ◌≤◌, ◌^◌, ◌++◌, ℕ, List, [], length, MatchResult, OnErr};
 ghost use Rattle.octets.specs.Masked.{masked};
-ghost use Rattle.aead.specs.Suites.{construction_of, is_one_pass, aad_limit, text_limit};
-ghost use Rattle.aead.specs.Sealing.{Setting, mask_of, tag_of};
+ghost use Rattle.aead.specs.Suites.{construction_of, aad_limit, text_limit, ByGcm};
+ghost use Rattle.aead.specs.Sealing.{Setting, hash_key, mask_of, tag_of};
 ghost use Rattle.aead.specs.Ciphers.{setting};
 ghost use Rattle.aead.specs.AnyCiphers.{one_pass_keyed};
 ghost use Rattle.aead.specs.Refusals.{SealRefused};
-ghost use Rattle.aead.specs.Code.Maskings.{message_task};
-ghost use Rattle.aead.specs.Code.AnyMaskings.{HoldsAnyMasking};
+ghost use Rattle.aead.specs.PassStates.{HoldsState};
+ghost use Rattle.aead.specs.Code.Masks.{as_it_leaves};
+ghost use Rattle.aead.specs.Code.States.{MadeByGcm};
+ghost use Rattle.aead.specs.Code.PassSteps.{MasksPiece, AddsPiece};
 
 use crate::aead::Aead;
 use crate::any::AnyOnePass;
-use crate::any_masking::AnyMasking;
-use crate::mask_then_hash::sealing;
-use gf128::TableMul;
-use octets::{Fault, Nonce, Tag};
+use crate::beside::MaskFirst;
+use crate::chacha_poly::{self, one_time_key};
+use crate::gcm::{self, hash_keys};
+use crate::hashes::{GhashKeys, PolyKeys};
+use crate::multiples::{Multiples, worth};
+use crate::pass_state::PassState;
+use aes::{CtrBe, KeptKey};
+use gf128::{Keyed128, WideMul};
+use octets::{Block, Fault, Nonce, Tag};
 
-/// A text that is sealed piece by piece in one reading.
+/// A text that is sealed piece by piece in one reading: a cipher, a nonce, and the numbers of what was taken in.
 #[derive(Drop)]
-pub struct Sealer {
-    pub(crate) masking: AnyMasking,
+pub struct Sealer<'a> {
+    cipher: &'a AnyOnePass,
+    nonce: [u8; 12],
+    state: PassState,
 }
 
-// The state that masks pieces and authenticates them as they leave.
-fn any_sealing(cipher: &AnyOnePass, nonce: &Nonce, aad: &[u8]) -> AnyMasking
+// The numbers of no text.
+fn begun(cipher: &AnyOnePass, nonce: &Nonce, aad: &[u8]) -> PassState
     requires { length aad.now ≤ aad_limit (one_pass_keyed cipher.now).suite }
-    ensures one_pass { is_one_pass (construction_of (one_pass_keyed cipher.now).suite) ≡ true }
-    ensures holds { let s = setting (one_pass_keyed cipher.now) nonce.now aad.now in
-        (tag : List ℕ) → HoldsAnyMasking result (message_task s tag) [] }
+    ensures { HoldsState result (setting (one_pass_keyed cipher.now) nonce.now aad.now) [] }
 {
     match cipher {
-        AnyOnePass::ChaCha(cipher) => AnyMasking::ByChaCha(sealing(&cipher.nonced(nonce), aad)),
+        AnyOnePass::ChaCha(cipher) => {
+            PassState::begun(&PolyKeys, one_time_key(cipher.key(), nonce), aad)
+        }
         AnyOnePass::Gcm(cipher) => {
-            let multiplier = cipher.multiplier_of::<TableMul>();
-            let nonced = cipher.nonced(nonce, *cipher.key(), multiplier);
-            AnyMasking::ByGcm(sealing(&nonced, aad))
+            let (key, ghash_key, multiplier) = cipher.keys();
+            let keys = GhashKeys { multiplier };
+            PassState::begun(&keys, hash_keys(key, ghash_key, nonce), aad)
         }
     }
 }
 
-impl Sealer {
+// Masks a long piece under AES-GCM, by multiples of four powers of the hash key. They stand on the stack of this call alone.
+#[inline(never)]
+fn mask_long<K: KeptKey>(
+    state: &mut PassState,
+    ghash_key: &Block,
+    mask: &mut CtrBe<K>,
+    piece: &mut [u8],
+)
+    requires { state.old.length + length piece.old < 2 ^ 64 }
+    ensures { (s : Setting) (tag fed : List ℕ) → construction_of s.suite ≡ ByGcm → ghash_key.now ≡ hash_key s.key
+        → MadeByGcm K.bytes mask.old s tag state.old.length
+        → MasksPiece as_it_leaves state.old state.new piece.old piece.new s tag fed }
+{
+    let mut multiplier = WideMul::none();
+    multiplier.set(ghash_key);
+    let keys = GhashKeys {
+        multiplier: &multiplier,
+    };
+    state.step(&keys, mask, &MaskFirst, piece);
+}
+
+// Masks a piece.
+fn mask(cipher: &AnyOnePass, nonce: &Nonce, state: &mut PassState, piece: &mut [u8])
+    requires { state.old.length + length piece.old ≤ text_limit (one_pass_keyed cipher.now).suite }
+    ensures { (s : Setting) (text : List ℕ) → s.suite ≡ (one_pass_keyed cipher.now).suite
+        → s.key ≡ (one_pass_keyed cipher.now).key → s.nonce ≡ nonce.now
+        → AddsPiece state.old state.new piece.old piece.new s text }
+{
+    match cipher {
+        AnyOnePass::ChaCha(cipher) => {
+            let mut mask = chacha_poly::mask_at(cipher.key(), nonce, state.length);
+            state.step(&PolyKeys, &mut mask, &MaskFirst, piece);
+        }
+        AnyOnePass::Gcm(cipher) => {
+            let (key, ghash_key, multiplier) = cipher.keys();
+            let mut mask = gcm::mask_at(key, nonce, state.length);
+            match worth(piece.len() as u64) {
+                Multiples::Few => {
+                    state.step(&GhashKeys { multiplier }, &mut mask, &MaskFirst, piece)
+                }
+                Multiples::OfFourPowers => mask_long(state, ghash_key, &mut mask, piece),
+            }
+        }
+    }
+}
+
+// The tag of the text.
+fn tag(cipher: &AnyOnePass, state: &PassState) -> Tag
+    ensures { (s : Setting) (text : List ℕ) → s.suite ≡ (one_pass_keyed cipher.now).suite
+        → s.key ≡ (one_pass_keyed cipher.now).key → HoldsState state.now s text → result ≡ tag_of s text }
+{
+    match cipher {
+        AnyOnePass::ChaCha(cipher) => {
+            // The proof sees the suite.
+            let _key = cipher.key();
+            state.tag(&PolyKeys)
+        }
+        AnyOnePass::Gcm(cipher) => {
+            let (_, _, multiplier) = cipher.keys();
+            state.tag(&GhashKeys { multiplier })
+        }
+    }
+}
+
+impl<'a> Sealer<'a> {
     ghost use Rattle.aead.specs.Pieces.{HoldsSealer};
 
     /// Returns a state that holds the empty text, under a nonce with associated data. `AadTooLong` if the
@@ -49,14 +122,36 @@ impl Sealer {
     ///
     /// The nonce must never be used twice under one key: a repeat gives away the XOR of the two texts, and enough to
     /// forge messages.
-    pub fn new(cipher: &AnyOnePass, nonce: &Nonce, aad: &[u8]) -> Result<Sealer, Fault>
+    pub fn new(cipher: &'a AnyOnePass, nonce: &Nonce, aad: &[u8]) -> Result<Sealer<'a>, Fault>
         ensures { let s = setting (one_pass_keyed cipher.now) nonce.now aad.now in
             MatchResult result (λ sealer. HoldsSealer sealer s []) (λ e. SealRefused s [] e) }
     {
         cipher.suite().check_aad(aad)?;
         Ok(Sealer {
-            masking: any_sealing(cipher, nonce, aad),
+            cipher,
+            nonce: *nonce.bytes(),
+            state: begun(cipher, nonce, aad),
         })
+    }
+
+    /// Returns a state by the numbers of another one under the same cipher and nonce, as [`Sealer::state`] returns them: it
+    /// holds the text that they hold, if they hold one.
+    pub fn resumed(cipher: &'a AnyOnePass, nonce: &Nonce, state: &PassState) -> Sealer<'a>
+        ensures { (aad text : List ℕ) → let s = setting (one_pass_keyed cipher.now) nonce.now aad in
+            HoldsState state.now s text → HoldsSealer result s text }
+    {
+        Sealer {
+            cipher,
+            nonce: *nonce.bytes(),
+            state: *state,
+        }
+    }
+
+    /// Returns the numbers that hold the text, to go on from later.
+    pub fn state(&self) -> PassState
+        ensures { (s : Setting) (text : List ℕ) → HoldsSealer self.now s text → HoldsState result s text }
+    {
+        self.state
     }
 
     /// Adds `piece`, of any length, to the text, and leaves its ciphertext in its place. `TextTooLong` if the
@@ -70,17 +165,20 @@ impl Sealer {
         ensures kept { OnErr result ((self.new ≡ self.old) × (piece.new ≡ piece.old)) }
         ensures fault { MatchResult result (λ _. Unit {0}) (λ e. e ≡ Fault.TextTooLong) }
     {
-        if piece.len() as u64 > self.masking.room() {
+        let limit = self.cipher.suite().text_limit();
+        if !self.state.has_room(limit, piece) {
             return Err(Fault::TextTooLong);
         }
-        self.masking.update(piece);
+        let nonce = Nonce::new(self.nonce);
+        mask(self.cipher, &nonce, &mut self.state, piece);
         Ok(())
     }
 
     /// Returns the tag of the text, 16 bytes. Consumes the state.
     pub fn finish(self) -> Tag
-        ensures { (s : Setting) (text : List ℕ) → HoldsSealer self s text → result ≡ tag_of s text }
+        ensures { (s : Setting) (text : List ℕ) → HoldsSealer self.entry s text → result ≡ tag_of s text }
     {
-        self.masking.finish()
+        let (cipher, state) = (self.cipher, self.state);
+        tag(cipher, &state)
     }
 }

@@ -1,40 +1,28 @@
 //! Sealing piece by piece in two readings under AES-GCM-SIV (RFC 8452), whose tag is over the text: the first reading gives
 //! the tag, and the second one is encrypted under it.
 
-ghost use Rattle.std.specs.Prelude.{◌≡◌, ◌++◌, ◌+◌, ◌<◌, ◌≤◌, ◌^◌, ℕ, List, [], length, MatchResult, OnErr};
+ghost use Rattle.std.specs.Prelude.{◌≡◌, ◌↔◌, ◌++◌, ◌+◌, ◌<◌, ◌≤◌, ℕ, List, [], length, IsTrue, MatchResult, OnErr};
 ghost use Rattle.octets.specs.Masked.{masked};
-ghost use Rattle.aead.specs.Suites.{aad_limit, text_limit};
+ghost use Rattle.aead.specs.Suites.{text_limit};
 ghost use Rattle.aead.specs.Sealing.{Setting, mask_of, tag_of};
 ghost use Rattle.aead.specs.Ciphers.{setting};
 ghost use Rattle.aead.specs.Refusals.{SealRefused};
 
 use crate::aead::Aead;
-use crate::authenticator::Authenticator;
-use crate::beside::HashFirst;
-use crate::gcm_siv::{GcmSiv, tag_mask};
-use crate::hashes::PolyvalTag;
-use crate::masking::Masking;
-use crate::nonced::authenticator;
-use crate::second_reading::repeats;
-use aes::{AesKey, CtrLe};
-use gf128::{Keyed128, TableMul};
-use octets::{Fault, Nonce, Tag};
+use crate::gcm_siv::GcmSiv;
+use crate::siv_keys::SivKeys;
+use crate::two_pass_state::TwoPassState;
+use octets::{Fault, Nonce, Tag, same};
 
 /// The first reading of a text that is sealed by AES-GCM-SIV.
 #[derive(Drop)]
 pub struct SivAbsorb {
-    authenticator: Authenticator<PolyvalTag<TableMul, AesKey>>,
-    // The authenticator that the second reading begins with.
-    again: Authenticator<PolyvalTag<TableMul, AesKey>>,
-    encryption: AesKey,
-    limit: u64,
-    ghost within: { authenticator.length ≤ limit },
-    ghost none: { again.length ≡ 0 },
-    ghost limit_small: { limit < 2 ^ 64 },
+    keys: SivKeys,
+    state: TwoPassState,
 }
 
 impl SivAbsorb {
-    ghost use Rattle.aead.specs.Pieces.{HoldsAbsorb, HoldsWriter};
+    ghost use Rattle.aead.specs.Pieces.{HoldsAbsorb, HoldsWriter, IsInFirstReading};
 
     /// Returns a state that holds the empty text, under a nonce with associated data. `AadTooLong` if the
     /// data is past the suite's limit.
@@ -46,15 +34,28 @@ impl SivAbsorb {
             MatchResult result (λ absorb. HoldsAbsorb absorb s []) (λ e. SealRefused s [] e) }
     {
         cipher.suite().check_aad(aad)?;
-        let keys = cipher.derive(nonce);
-        let multiplier = TableMul::of(&keys.hash_key);
-        let nonced = cipher.nonced(nonce, keys.encryption, multiplier);
-        Ok(SivAbsorb {
-            authenticator: authenticator(&nonced, aad),
-            again: authenticator(&nonced, aad),
-            encryption: keys.encryption,
-            limit: cipher.suite().text_limit(),
-        })
+        let keys = SivKeys::new(cipher, nonce);
+        let state = TwoPassState::first(keys.begun(aad));
+        Ok(SivAbsorb { keys, state })
+    }
+
+    /// Returns a state by the numbers of another one under the same cipher and nonce, as [`SivAbsorb::state`] returns them: it
+    /// holds the text that they hold, if they hold one.
+    pub fn resumed(cipher: &GcmSiv, nonce: &Nonce, state: &TwoPassState) -> SivAbsorb
+        ensures { (aad text : List ℕ) → let s = setting cipher.now nonce.now aad in
+            IsInFirstReading state.now s text → HoldsAbsorb result s text }
+    {
+        SivAbsorb {
+            keys: SivKeys::new(cipher, nonce),
+            state: *state,
+        }
+    }
+
+    /// Returns the numbers that hold the text, to go on from later.
+    pub fn state(&self) -> TwoPassState
+        ensures { (s : Setting) (text : List ℕ) → HoldsAbsorb self.now s text → IsInFirstReading result s text }
+    {
+        self.state
     }
 
     /// Adds `piece`, of any length, to the text. `TextTooLong` if the text would be past its limit: the
@@ -66,10 +67,10 @@ impl SivAbsorb {
         ensures kept { OnErr result (self.new ≡ self.old) }
         ensures fault { MatchResult result (λ _. Unit {0}) (λ e. e ≡ Fault.TextTooLong) }
     {
-        if piece.len() as u64 > self.limit - self.authenticator.length {
+        if !self.state.pass.has_room(self.keys.text_limit(), piece) {
             return Err(Fault::TextTooLong);
         }
-        self.authenticator.update(piece);
+        self.keys.take(&mut self.state.pass, piece);
         Ok(())
     }
 
@@ -79,23 +80,47 @@ impl SivAbsorb {
         ensures { (s : Setting) (text : List ℕ) → HoldsAbsorb self s text
             → (result.0 ≡ tag_of s text) × HoldsWriter result.1 s text [] }
     {
-        let length = self.authenticator.length;
-        let tag = self.authenticator.finish();
-        let mask = tag_mask(self.encryption, &tag);
-        let masking = Masking::new(mask, self.again, HashFirst, length);
-        (tag, SivWriter { masking, tag })
+        let tag = self.keys.tag(&self.state.pass);
+        let state = self.state.second(tag.bytes());
+        (
+            tag,
+            SivWriter {
+                keys: self.keys,
+                state,
+            },
+        )
     }
 }
 
 /// The second reading of a text that is sealed by AES-GCM-SIV.
 #[derive(Drop)]
 pub struct SivWriter {
-    masking: Masking<CtrLe<AesKey>, PolyvalTag<TableMul, AesKey>, HashFirst>,
-    tag: Tag,
+    keys: SivKeys,
+    state: TwoPassState,
 }
 
 impl SivWriter {
-    ghost use Rattle.aead.specs.Pieces.{HoldsWriter, Repeats};
+    ghost use Rattle.aead.specs.Pieces.{HoldsWriter, IsInSecondReading, Repeats};
+
+    /// Returns a state by the numbers of another one under the same cipher and nonce, as [`SivWriter::state`] returns them: it
+    /// holds the texts that they hold, if they hold some.
+    pub fn resumed(cipher: &GcmSiv, nonce: &Nonce, state: &TwoPassState) -> SivWriter
+        ensures { (aad first text : List ℕ) → let s = setting cipher.now nonce.now aad in
+            IsInSecondReading state.now s first text → HoldsWriter result s first text }
+    {
+        SivWriter {
+            keys: SivKeys::new(cipher, nonce),
+            state: *state,
+        }
+    }
+
+    /// Returns the numbers that hold the first text's tag and length and the second text, to go on from later.
+    pub fn state(&self) -> TwoPassState
+        ensures { (s : Setting) (first text : List ℕ) → HoldsWriter self.now s first text
+            → IsInSecondReading result s first text }
+    {
+        self.state
+    }
 
     /// Adds `piece`, of any length, to the second text, and leaves its ciphertext in its place.
     /// `SourceChanged` if that text would be longer than the first: state and piece are then as they were.
@@ -108,11 +133,22 @@ impl SivWriter {
         ensures kept { OnErr result ((self.new ≡ self.old) × (piece.new ≡ piece.old)) }
         ensures fault { MatchResult result (λ _. Unit {0}) (λ e. e ≡ Fault.SourceChanged) }
     {
-        if piece.len() as u64 > self.masking.room() {
+        let limit = self.state.first.min(self.keys.text_limit());
+        if !self.state.pass.has_room(limit, piece) {
             return Err(Fault::SourceChanged);
         }
-        self.masking.update(piece);
+        let tag = self.state.tag;
+        self.keys.mask(&mut self.state.pass, &tag, piece);
         Ok(())
+    }
+
+    // Whether the second text has the length and the tag of the first.
+    fn repeats(&self) -> bool
+        ensures { (s : Setting) (first text : List ℕ) → HoldsWriter self.now s first text
+            → IsTrue result ↔ Repeats s first text }
+    {
+        let tag = self.keys.tag(&self.state.pass);
+        self.state.pass.length == self.state.first && same(tag.bytes(), &self.state.tag)
     }
 
     /// Returns `Ok` if the second text has the length and the tag of the first, else `SourceChanged`.
@@ -123,8 +159,7 @@ impl SivWriter {
             → MatchResult result (λ _. Repeats s first text)
             (λ e. (e ≡ Fault.SourceChanged) × ¬ (Repeats s first text)) }
     {
-        let tag = self.tag;
-        if repeats(self.masking, &tag) {
+        if self.repeats() {
             Ok(())
         } else {
             Err(Fault::SourceChanged)

@@ -95,8 +95,8 @@ impl Suite {
         }
     }
 
-    // Refuses a text past the limit.
-    pub(crate) fn check_text(self, text: &[u8]) -> Result<(), Fault>
+    /// `TextTooLong`, the only fault, if a text is longer than [`Suite::text_limit`].
+    pub fn check_text(self, text: &[u8]) -> Result<(), Fault>
         ensures { MatchResult result (λ _. length text.now ≤ text_limit self)
             (λ e. (e ≡ Fault.TextTooLong) × (text_limit self < length text.now)) }
     {
@@ -106,8 +106,8 @@ impl Suite {
         Ok(())
     }
 
-    // Refuses associated data past the limit.
-    pub(crate) fn check_aad(self, aad: &[u8]) -> Result<(), Fault>
+    /// `AadTooLong`, the only fault, if associated data is longer than [`Suite::aad_limit`].
+    pub fn check_aad(self, aad: &[u8]) -> Result<(), Fault>
         ensures { MatchResult result (λ _. length aad.now ≤ aad_limit self)
             (λ e. (e ≡ Fault.AadTooLong) × (aad_limit self < length aad.now)) }
     {

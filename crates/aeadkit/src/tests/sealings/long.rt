@@ -1,8 +1,8 @@
 //! A text of more than 1,024 bytes, as OpenSSL seals it.
 use super::super::files::bytes;
 use super::super::shows;
-use aead::{Aead, AnyAead, Suite};
-use octets::Nonce;
+use aead::{Aead, AnyAead, AnyOnePass, GcmSiv, Sealer, SivAbsorb, SivWriter, Suite};
+use octets::{Nonce, Tag};
 use std::alloc::Global;
 use std::process::Abort;
 
@@ -82,6 +82,48 @@ fn a_long_text(rt: HostRuntime) {
     for (suite, tag, digest) in &SEALINGS {
         let mut held = text();
         has_tag(&rt, *suite, &[], &mut held, tag);
+        has_tag(&rt, Suite::ChaCha20Poly1305, &held, &mut [], digest);
+    }
+}
+
+// The tag of a text in a long piece and a short one, by one reading; the state is saved between them.
+fn by_one_reading(rt: &impl Abort, cipher: &AnyOnePass, nonce: &Nonce, text: &mut [u8]) -> Tag {
+    let (front, back) = text.split_at_mut(text.len().min(721));
+    let mut sealer = Sealer::new(cipher, nonce, &[]).expect(rt, "a sealer");
+    shows(rt, sealer.update(front).is_ok(), "a long piece");
+    let mut sealer = Sealer::resumed(cipher, nonce, &sealer.state());
+    shows(rt, sealer.update(back).is_ok(), "a short piece");
+    sealer.finish()
+}
+
+// The same by two readings.
+fn by_two_readings(rt: &impl Abort, cipher: &GcmSiv, nonce: &Nonce, text: &mut [u8]) -> Tag {
+    let (front, back) = text.split_at_mut(text.len().min(721));
+    let mut absorb = SivAbsorb::new(cipher, nonce, &[]).expect(rt, "a state");
+    shows(rt, absorb.update(front).is_ok(), "a long piece");
+    let mut absorb = SivAbsorb::resumed(cipher, nonce, &absorb.state());
+    shows(rt, absorb.update(back).is_ok(), "a short piece");
+    let (tag, mut writer) = absorb.finish();
+    shows(rt, writer.update(front).is_ok(), "a long piece");
+    let mut writer = SivWriter::resumed(cipher, nonce, &writer.state());
+    shows(rt, writer.update(back).is_ok(), "a short piece");
+    shows(rt, writer.finish().is_ok(), "the end");
+    tag
+}
+
+#[test]
+fn a_long_text_in_pieces(rt: HostRuntime) {
+    for (suite, tag, digest) in &SEALINGS {
+        let key = &KEY[..suite.key_length().min(32)];
+        let cipher = AnyAead::new(*suite, key).expect(&rt, "a key");
+        let nonce = Nonce::from_slice(&KEY[..12]).expect(&rt, "a nonce");
+        let mut held = text();
+        let made = match &cipher {
+            AnyAead::OnePass(cipher) => by_one_reading(&rt, cipher, &nonce, &mut held),
+            AnyAead::Siv(cipher) => by_two_readings(&rt, cipher, &nonce, &mut held),
+        };
+        let given = bytes(&rt, tag);
+        shows(&rt, made.bytes().as_slice() == given.as_slice(), tag);
         has_tag(&rt, Suite::ChaCha20Poly1305, &held, &mut [], digest);
     }
 }

@@ -1,9 +1,9 @@
-//! Sealing piece by piece.
+//! Sealing and opening piece by piece.
 use super::super::files::bytes;
 use super::super::published::{CHACHA, GCM_4, GCM_SIV, Vector};
 use super::super::shows;
-use super::samples::{Sample, are_sealed, one_pass, sample_of, two_pass};
-use aead::{Sealer, SivAbsorb, SivWriter};
+use super::samples::{Sample, are_sealed, flip, one_pass, sample_of, two_pass};
+use aead::{Aead, OpenWriter, Opener, Sealer, SivAbsorb, SivWriter};
 use octets::{Fault, Tag};
 use std::alloc::Global;
 use std::process::Abort;
@@ -76,4 +76,59 @@ fn second_readings(rt: HostRuntime) {
     ends(&rt, &sample, &mut [1, 0, 0, 0, 0, 0, 0, 0], Ok(()));
     ends(&rt, &sample, &mut [1, 0, 0, 0, 0, 0, 0, 1], changed);
     ends(&rt, &sample, &mut [1, 0, 0, 0, 0, 0, 0], changed);
+}
+
+// The second pass over a ciphertext of which the first one took in all but the last byte and then that, with a pause between.
+fn checked<'a>(
+    rt: &impl Abort,
+    sample: &'a Sample,
+    body: &[u8],
+    tag: &Tag,
+) -> Result<OpenWriter<'a>, Fault> {
+    let mut opener = Opener::new(&sample.cipher, &sample.nonce, &sample.aad, tag).expect(
+        rt, "a state",
+    );
+    let (front, back) = body.split_at(body.len().saturating_sub(1));
+    shows(rt, opener.update(front).is_ok(), "a piece");
+    let mut resumed = Opener::resumed(&sample.cipher, &sample.nonce, &opener.state());
+    shows(rt, resumed.update(back).is_ok(), "a piece");
+    resumed.finish()
+}
+
+// A published sealing is opened in pieces to its text, with a pause between two pieces, and not if a bit was changed before the
+// first pass or between both. A byte past the first pass is refused.
+fn is_opened(rt: &(impl Abort + Alloc<A = Global>), line: &str) {
+    let sample = sample_of(rt, line);
+    let mut body = bytes(rt, Vector::of(line).text);
+    let tag = sample
+        .cipher
+        .seal_in_place(&sample.nonce, &sample.aad, &mut body)
+        .expect(rt, "a sealing");
+    shows(rt, are_sealed(&body, &tag, &sample.sealed), "a sealing");
+    flip(&mut body, 9);
+    let refused = checked(rt, &sample, &body, &tag);
+    shows(rt, refused.is_err(), "a changed ciphertext");
+    flip(&mut body, 9);
+    let mut changed = checked(rt, &sample, &body, &tag).expect(rt, "a first pass");
+    let mut writer = checked(rt, &sample, &body, &tag).expect(rt, "a first pass");
+    let length = body.len();
+    let (front, back) = body.split_at_mut(length.min(3));
+    shows(rt, writer.update(front).is_ok(), "a piece");
+    let mut resumed = OpenWriter::resumed(&sample.cipher, &sample.nonce, &writer.state());
+    shows(rt, resumed.update(back).is_ok(), "a piece");
+    let past = resumed.update(&mut [0]) == Err(Fault::SourceChanged);
+    shows(rt, past, "a byte past the ciphertext");
+    shows(rt, resumed.finish().is_ok(), "the same ciphertext");
+    shows(rt, body.as_slice() == sample.text.as_slice(), "the text");
+    shows(rt, changed.update(&mut body).is_ok(), "a piece");
+    let refused = changed.finish() == Err(Fault::SourceChanged);
+    shows(rt, refused, "another second pass");
+}
+
+// Under each construction.
+#[test]
+fn openings_in_two_passes(rt: HostRuntime) {
+    for line in [CHACHA, GCM_4, GCM_SIV] {
+        is_opened(&rt, line);
+    }
 }

@@ -1,26 +1,42 @@
-use Rattle.std.proofs.Common.{[], arith, length-append}
-use Rattle.aead.proofs.AnyMaskings.{fed_length, limit_is, fed_within}
+use Rattle.std.proofs.Common.{[], ap, sym, arith, length-append, ◌∙◌}
+use Rattle.octets.proofs.Masks.{length-masked}
+use Rattle.aead.specs.Suites.{text_limit}
+use Rattle.aead.specs.Ciphers.{Keyed}
+use Rattle.aead.specs.Sealing.{mask_of}
 use Rattle.aead.proofs.sealer.Sealer.update.Goals as goal
 
-pub returns-then-piece-room-clause-answer : goal.returns-then-piece-room-clause-answer
-returns-then-piece-room-clause-answer c = λ s text h.
-    let m = h.masking [] in
-    let long = fed_length _ _ text m in (
-      (fed_within _ _ text m).aad_fits,
-      omega (arith, length-append text c.args.piece.now, limit_is _ _ text m, long, c.room.ensures),
+pub returns-then-not-has_room-clause-answer : goal.returns-then-not-has_room-clause-answer
+returns-then-not-has_room-clause-answer c = λ s text h.
+    let n = h.state [] in
+    let suite = c.suite.ensures ∙ ap (λ (k : Keyed). k.suite) h.keyed_is in (
+      n.fits.aad_fits,
+      omega (
+        arith,
+        length-append text c.args.piece.now,
+        n.length_is,
+        length-masked (mask_of s []) 0 text,
+        c.text_limit-limit.ensures,
+        ap text_limit suite,
+        c.if-not-has_room.ensures.past,
+        c.has_room.ensures.past c.if-not-has_room.true,
+      ),
     )
 
 pub returns-clause-answer : goal.returns-clause-answer
 returns-clause-answer c = λ s text h.
-    let m = h.masking [] in (
-      record { one_pass = h.one_pass; masking = λ tag. (c.update.ensures.masked _ text (h.masking tag)).0 },
-      λ tag. (c.update.ensures.masked _ text (h.masking tag)).1,
+    let went = c.mask.ensures s text (sym (ap (λ (k : Keyed). k.suite) h.keyed_is))
+    (sym (ap (λ (k : Keyed). k.key) h.keyed_is)) (sym (c.new-nonce.ensures ∙ h.nonce_is)) h.state in
+    let n = h.state [] in
+    let suite = c.suite.ensures ∙ ap (λ (k : Keyed). k.suite) h.keyed_is in (
+      record { keyed_is = h.keyed_is; nonce_is = h.nonce_is; state = went.0 },
+      went.1,
       omega (
         arith,
         length-append text c.args.piece.now,
-        fed_length _ _ text m,
-        limit_is _ _ text m,
-        c.room.ensures,
-        c.if-piece-room.false,
+        n.length_is,
+        length-masked (mask_of s []) 0 text,
+        c.text_limit-limit.ensures,
+        ap text_limit suite,
+        c.has_room.ensures.fits c.if-not-has_room.false,
       ),
     )

@@ -1,9 +1,0 @@
-use Rattle.std.proofs.Common.{◌∙◌, arith, drop}
-use Rattle.std.proofs.lemmas.List.{take_all, length-drop}
-use Rattle.aead.proofs.exports.stored.tag_mask.Goals as goal
-
-pub returns : goal.returns
-returns c =
-    let key = c.args.key.now in
-    c.new.ensures.value ∙ c.copy_from_slice.ensures.after
-    ∙ take_all 16 (drop 16 key) (omega (arith, length-drop 16 key))

@@ -1,0 +1,29 @@
+use Rattle.std.proofs.Common.{refl, ap, sym, subst, ◌∙◌}
+use Rattle.aead.specs.Suites.{construction_of}
+use Rattle.aead.specs.Ciphers.{setting}
+use Rattle.aead.specs.AnyCiphers.{one_pass_keyed}
+use Rattle.aead.specs.Sealing.{hash_key, poly_key, mask_of}
+use Rattle.aead.specs.PassStates.{IsHashKey, HoldsNumbers}
+use Rattle.aead.specs.Code.Masks.{none_leaves}
+use Rattle.aead.proofs.sealer.begun.Goals as goal
+
+pub returns-in-ChaCha : goal.returns-in-ChaCha
+returns-in-ChaCha c = λ tag.
+    let s = setting (one_pass_keyed c.args.cipher.now) c.args.nonce.now c.args.aad.now in
+    let by = ap (λ k. construction_of (one_pass_keyed k).suite) c.in-ChaCha.is ∙ c.key.ensures.by in
+    let own = ap (λ k. (one_pass_keyed k).key) c.in-ChaCha.is ∙ sym c.key.ensures.key in
+    subst (HoldsNumbers c.begun.result s) (sym (none_leaves (mask_of s tag)))
+    (c.begun.ensures s by
+    (subst (λ x. IsHashKey x c.one_time_key.result s) (sym by)
+    (c.one_time_key.ensures ∙ ap (λ k. poly_key k c.args.nonce.now) (sym own)))
+    refl c.requires)
+
+pub returns-in-Gcm : goal.returns-in-Gcm
+returns-in-Gcm c = λ tag.
+    let s = setting (one_pass_keyed c.args.cipher.now) c.args.nonce.now c.args.aad.now in
+    let by = ap (λ k. construction_of (one_pass_keyed k).suite) c.in-Gcm.is ∙ c.keys.ensures.by in
+    let is = ap (λ k. (one_pass_keyed k).key) c.in-Gcm.is in
+    subst (HoldsNumbers c.begun-in-Gcm.result s) (sym (none_leaves (mask_of s tag)))
+    (c.begun-in-Gcm.ensures s (by, c.keys.ensures.multiplier ∙ ap hash_key (sym is))
+    (subst (λ x. IsHashKey x c.hash_keys.result s) (sym by) (c.hash_keys.ensures s (is ∙ sym c.keys.ensures.key) refl))
+    refl c.requires)

@@ -1,0 +1,59 @@
+-- A pass over a message together with the message's keys, as plain numbers.
+use Rattle.std.specs.Prelude.{◌≡◌, ◌≢◌, ℕ, ◌<◌, List, length, take, replicate}
+use Rattle.octets.specs.Masked.{masked}
+use Rattle.octets.specs.declared.fault.Fault.{Fault}
+use Rattle.octets.specs.declared.fault.Fault.TheVariants.{KeyLength, NonceLength, AadTooLong}
+use Rattle.aead.specs.declared.suite.Suite.{Suite}
+use Rattle.aead.specs.declared.keyed_pass.KeyedPass.{KeyedPass}
+use Rattle.aead.specs.Suites.{Construction, ByChaCha, ByGcm, ByGcmSiv, construction_of, key_length, aad_limit}
+use Rattle.aead.specs.Sealing.{Setting, encryption_key, mask_of}
+use Rattle.aead.specs.PassStates.{HoldsNumbers, zero_state}
+
+-- a suite with the bytes that are handed in
+abbrev pub setting_of : Suite → (key nonce aad : List ℕ) → Setting
+setting_of suite key nonce aad = record { suite = suite; key = key; nonce = nonce; aad = aad }
+
+-- the key has the suite's length, and the nonce 12 bytes
+pub record HasLengths (s : Setting) : Type 0 where
+  pub key_fits : length s.key ≡ key_length s.suite
+  pub nonce_fits : length s.nonce ≡ 12
+
+-- why nothing is begun: the first of these lengths that does not fit
+abbrev pub BeginRefused : Setting → Fault → Type 0
+BeginRefused s KeyLength = length s.key ≢ key_length s.suite
+BeginRefused s NonceLength = (length s.key ≡ key_length s.suite) × (length s.nonce ≢ 12)
+BeginRefused s AadTooLong = HasLengths s × (aad_limit s.suite < length s.aad)
+BeginRefused s _ = ⊥
+
+-- why nothing is resumed: the first of these lengths that does not fit
+abbrev pub LengthsRefused : Suite → (key nonce : List ℕ) → Fault → Type 0
+LengthsRefused suite key nonce KeyLength = length key ≢ key_length suite
+LengthsRefused suite key nonce NonceLength = (length key ≡ key_length suite) × (length nonce ≢ 12)
+LengthsRefused suite key nonce _ = ⊥
+
+-- the key of the cipher of a message
+abbrev pub cipher_key : Construction → Setting → List ℕ
+cipher_key ByChaCha s = s.key
+cipher_key ByGcm s = s.key
+cipher_key ByGcmSiv s = encryption_key s.key s.nonce
+
+-- the pass of zeros
+abbrev pub zero_pass : KeyedPass
+zero_pass = record { key = replicate 32 0; nonce = replicate 12 0; state = zero_state }
+
+-- p is under the keys of a message, and has taken in these bytes
+pub record HoldsPass (p : KeyedPass) (s : Setting) (bytes : List ℕ) : Type 0 where
+  pub lengths : HasLengths s
+  pub key_is : take (key_length s.suite) p.key ≡ cipher_key (construction_of s.suite) s
+  pub nonce_is : p.nonce ≡ s.nonce
+  pub state : HoldsNumbers p.state s bytes
+
+-- what is authenticated of a ciphertext under a mask: itself, or for AES-GCM-SIV its text
+abbrev pub authenticated_by : Construction → (mask : ℕ → ℕ) → List ℕ → List ℕ
+authenticated_by ByChaCha mask body = body
+authenticated_by ByGcm mask body = body
+authenticated_by ByGcmSiv mask body = masked mask 0 body
+
+-- p has taken in what is authenticated of this ciphertext under a tag
+abbrev pub HoldsBody : KeyedPass → Setting → (tag body : List ℕ) → Type 0
+HoldsBody p s tag body = HoldsPass p s (authenticated_by (construction_of s.suite) (mask_of s tag) body)

@@ -1,0 +1,200 @@
+//! An opening in pieces together with its keys, as plain numbers: for a caller that keeps all of it in memory of its own. A first
+//! pass over the ciphertext gives nothing; only if it was over a sealing does a second pass decrypt.
+
+ghost use Rattle.std.specs.Prelude.{◌≡◌, ◌+◌, ◌<◌, ◌≤◌, ◌++◌, ℕ, List, [], length, true, false, MatchResult, OnErr};
+ghost use Rattle.octets.specs.Masked.{masked};
+ghost use Rattle.aead.specs.Suites.{key_length, text_limit};
+ghost use Rattle.aead.specs.Sealing.{Setting, IsNoSealing, hash_key, mask_of};
+ghost use Rattle.aead.specs.Refusals.{SealRefused};
+ghost use Rattle.aead.specs.KeyedPasses.{setting_of, BeginRefused, LengthsRefused};
+ghost use Rattle.aead.specs.Pieces.{IsInFirstPass, IsInSecondPass};
+
+use crate::keyed_pass::KeyedPass;
+use crate::keyed_passes::KeyedPasses;
+use crate::suite::Suite;
+use crate::two_pass_state::TwoPassState;
+use aes::AesKey;
+use octets::{Block, Fault, same};
+
+/// A ciphertext that is opened piece by piece in two passes under the tag of its sealing, with the bytes of its keys. Each number
+/// may have any value.
+#[repr(C)]
+#[derive(Clone, Copy)]
+pub struct KeyedOpener {
+    passes: KeyedPasses,
+}
+
+impl KeyedOpener {
+    ghost use Rattle.aead.specs.KeyedPieces.{zero_opener, HoldsOpening, HoldsFirstPass, HoldsSecondPass, Opens};
+    ghost use Rattle.aead.specs.KeyedPieces.{WasOverASealing, opener_count, FitsIn};
+
+    /// All zeros.
+    pub fn zeros() -> KeyedOpener
+        ensures { result ≡ zero_opener }
+    {
+        KeyedOpener {
+            passes: KeyedPasses::zeros(),
+        }
+    }
+
+    /// Returns a state in its first pass that has taken in nothing yet, under a suite, the bytes of a key and of a nonce,
+    /// associated data and the tag of the sealing. `KeyLength` if the key has not the suite's length, `NonceLength` if the
+    /// nonce is not 12 bytes long, then `AadTooLong` if the data is past the suite's limit.
+    pub fn begin(
+        suite: Suite,
+        key: &[u8],
+        nonce: &[u8],
+        aad: &[u8],
+        tag: &[u8; 16],
+    ) -> Result<KeyedOpener, Fault>
+        ensures { let s = setting_of suite key.now nonce.now aad.now in
+            MatchResult result (λ p. HoldsFirstPass p s tag.now []) (BeginRefused s) }
+    {
+        match KeyedPass::begin(suite, key, nonce, aad) {
+            Ok(pass) => Ok(KeyedOpener {
+                passes: KeyedPasses::of(pass, tag),
+            }),
+            Err(fault) => Err(fault),
+        }
+    }
+
+    /// As [`KeyedOpener::begin`], by what was made of the key before: its schedule and the key of GHASH, which is the cipher of a
+    /// block of zeros.
+    pub fn begin_by(
+        suite: Suite,
+        key: &[u8],
+        cipher: &AesKey,
+        ghash_key: &Block,
+        nonce: &[u8],
+        aad: &[u8],
+        tag: &[u8; 16],
+    ) -> Result<KeyedOpener, Fault>
+        requires long { length key.now ≡ key_length suite }
+        requires cipher { cipher.now ≡ key.now }
+        requires ghash_key { ghash_key.now ≡ hash_key key.now }
+        ensures { let s = setting_of suite key.now nonce.now aad.now in
+            MatchResult result (λ p. HoldsFirstPass p s tag.now []) (BeginRefused s) }
+    {
+        match KeyedPass::begin_by(suite, key, cipher, ghash_key, nonce, aad) {
+            Ok(pass) => Ok(KeyedOpener {
+                passes: KeyedPasses::of(pass, tag),
+            }),
+            Err(fault) => Err(fault),
+        }
+    }
+
+    /// Returns a state by the numbers of another one under the same suite, key and nonce, as [`KeyedOpener::state`] returns
+    /// them: it is in the pass that they are of, if they are of one. `KeyLength` if the key has not the suite's length, then
+    /// `NonceLength` if the nonce is not 12 bytes long.
+    pub fn resumed(
+        suite: Suite,
+        key: &[u8],
+        nonce: &[u8],
+        state: &TwoPassState,
+    ) -> Result<KeyedOpener, Fault>
+        ensures first { MatchResult result
+            (λ p. (aad tag body : List ℕ) → let s = setting_of suite key.now nonce.now aad in
+            IsInFirstPass state.now s tag body → HoldsFirstPass p s tag body)
+            (LengthsRefused suite key.now nonce.now) }
+        ensures second { MatchResult result
+            (λ p. (aad tag : List ℕ) (first : ℕ) (body : List ℕ) → let s = setting_of suite key.now nonce.now aad in
+            IsInSecondPass state.now s tag first body → HoldsSecondPass p s tag first body)
+            (LengthsRefused suite key.now nonce.now) }
+    {
+        match KeyedPass::resumed(suite, key, nonce, state.pass) {
+            Ok(pass) => Ok(KeyedOpener {
+                passes: KeyedPasses::resumed(pass, state),
+            }),
+            Err(fault) => Err(fault),
+        }
+    }
+
+    /// Returns the numbers of the pass, without the keys and the nonce, to go on from later.
+    pub fn state(&self) -> TwoPassState
+        ensures first { (s : Setting) (tag body : List ℕ) → HoldsFirstPass self.now s tag body
+            → IsInFirstPass result s tag body }
+        ensures second { (s : Setting) (tag : List ℕ) (first : ℕ) (body : List ℕ)
+            → HoldsSecondPass self.now s tag first body → IsInSecondPass result s tag first body }
+    {
+        self.passes.numbers()
+    }
+
+    /// Takes in a piece of the ciphertext in the first pass, under its suite. `TextTooLong` if the ciphertext would be past the
+    /// suite's limit: the state is then as it was.
+    pub fn check(&mut self, suite: Suite, piece: &[u8]) -> Result<(), Fault>
+        ensures answer { (s : Setting) (tag body : List ℕ) → s.suite ≡ suite → HoldsFirstPass self.old s tag body
+            → MatchResult result (λ _. HoldsFirstPass self.new s tag (body ++ piece.now))
+            (λ e. SealRefused s (body ++ piece.now) e) }
+        ensures kept { OnErr result (self.new ≡ self.old) }
+        ensures fault { FitsIn Fault.TextTooLong result (opener_count self.old) (length piece.now) (text_limit suite) }
+    {
+        let tag = self.passes.tag;
+        if self.passes.pass.check(suite, &tag, piece) {
+            Ok(())
+        } else {
+            Err(Fault::TextTooLong)
+        }
+    }
+
+    // Whether what the pass has taken in is the ciphertext of a sealing with this tag.
+    fn is_sealing(&self, suite: Suite) -> bool
+        ensures sealing { (s : Setting) (tag body : List ℕ) → s.suite ≡ suite → HoldsOpening self.now s tag body
+            → result ≡ true → Opens s tag body }
+        ensures none { (s : Setting) (tag body : List ℕ) → s.suite ≡ suite → HoldsOpening self.now s tag body
+            → result ≡ false → IsNoSealing s (body ++ tag) }
+    {
+        same(self.passes.pass.text_tag(suite).bytes(), &self.passes.tag)
+    }
+
+    /// Ends the first pass. `Ok` if it was over a sealing: the state is then in its second pass, which has taken in nothing yet.
+    /// `TagMismatch` if authentication failed: the state is then as it was, and of no use.
+    pub fn begin_second(&mut self, suite: Suite) -> Result<(), Fault>
+        ensures answer { (s : Setting) (tag body : List ℕ) → s.suite ≡ suite → HoldsFirstPass self.old s tag body
+            → MatchResult result (λ _. HoldsSecondPass self.new s tag (length body) [] × Opens s tag body)
+            (λ e. (e ≡ Fault.TagMismatch) × IsNoSealing s (body ++ tag)) }
+        ensures kept { OnErr result (self.new ≡ self.old) }
+        ensures fault { MatchResult result (λ _. Unit {0}) (λ e. e ≡ Fault.TagMismatch) }
+    {
+        if !self.is_sealing(suite) {
+            return Err(Fault::TagMismatch);
+        }
+        self.passes.first = self.passes.pass.state.length;
+        self.passes.pass = self.passes.pass.restarted(self.passes.start);
+        Ok(())
+    }
+
+    /// Takes in a piece of the ciphertext in the second pass, under its suite, and leaves its text in its place.
+    /// `SourceChanged` if the second pass would be longer than the first: state and piece are then as they were.
+    pub fn update(&mut self, suite: Suite, piece: &mut [u8]) -> Result<(), Fault>
+        ensures answer { (s : Setting) (tag : List ℕ) (first : ℕ) (body : List ℕ) → s.suite ≡ suite
+            → HoldsSecondPass self.old s tag first body → MatchResult result
+            (λ _. HoldsSecondPass self.new s tag first (body ++ piece.old)
+            × (piece.new ≡ masked (mask_of s tag) (length body) piece.old) × WasOverASealing s tag first)
+            (λ e. (e ≡ Fault.SourceChanged) × (first < length (body ++ piece.old))) }
+        ensures kept { OnErr result ((self.new ≡ self.old) × (piece.new ≡ piece.old)) }
+        ensures fault { MatchResult result (λ _. Unit {0}) (λ e. e ≡ Fault.SourceChanged) }
+    {
+        let limit = self.passes.first.min(suite.text_limit());
+        let tag = self.passes.tag;
+        if self.passes.pass.open(suite, &tag, limit, piece) {
+            Ok(())
+        } else {
+            Err(Fault::SourceChanged)
+        }
+    }
+
+    /// Returns `Ok` if what the second pass took in is the ciphertext of the sealing, else `SourceChanged`: what `update` gave is
+    /// then to be thrown away.
+    pub fn finish(&self, suite: Suite) -> Result<(), Fault>
+        ensures answer { (s : Setting) (tag : List ℕ) (first : ℕ) (body : List ℕ) → s.suite ≡ suite
+            → HoldsSecondPass self.now s tag first body → MatchResult result (λ _. Opens s tag body)
+            (λ e. (e ≡ Fault.SourceChanged) × IsNoSealing s (body ++ tag)) }
+        ensures fault { MatchResult result (λ _. Unit {0}) (λ e. e ≡ Fault.SourceChanged) }
+    {
+        if self.is_sealing(suite) {
+            Ok(())
+        } else {
+            Err(Fault::SourceChanged)
+        }
+    }
+}

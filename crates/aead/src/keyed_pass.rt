@@ -1,0 +1,648 @@
+//! A pass over a message together with the message's keys, as plain numbers, under any suite. What a call needs of the keys
+//! beyond their bytes is made again in it: a key schedule and the multiples of the hash's key.
+
+ghost use Rattle.std.specs.Prelude.{◌≡◌, ◌+◌, ◌-◌, ◌<◌, ◌≤◌, ◌^◌, ◌++◌, ℕ, List, [], length, take, true, false, MatchResult};
+ghost use Rattle.octets.specs.Masked.{masked};
+ghost use Rattle.aes.specs.Cipher.{IsKey};
+ghost use Rattle.gf128.specs.Orders.{Reversed, Serves};
+ghost use Rattle.aead.specs.Suites.{ByChaCha, ByGcm, ByGcmSiv, construction_of, key_length, text_limit, aad_limit};
+ghost use Rattle.aead.specs.Sealing.{Setting, hash_key, authentication_key, encryption_key, mask_of, tag_of, tag_over};
+ghost use Rattle.aead.specs.PassStates.{HoldsNumbers, IsStart};
+ghost use Rattle.aead.specs.Code.PassSteps.{MasksPiece, TakesPiece, TakesPieceText};
+ghost use Rattle.aead.specs.Code.States.{MadeByGcm};
+ghost use Rattle.aead.specs.KeyedPasses.{setting_of, BeginRefused, LengthsRefused, cipher_key};
+
+use crate::beside::{HashFirst, MaskFirst, Order};
+use crate::chacha_poly::{self, one_time_key};
+use crate::derived_keys::{
+    KeyParts, expanded, hash_key, joined, long_encryption_key, short_encryption_key,
+};
+use crate::gcm::{self, hash_keys, hash_subkey};
+use crate::gcm_siv;
+use crate::hashes::{GhashKeys, PolyKeys, PolyvalKeys};
+use crate::multiples::{Multiples, worth};
+use crate::pass_state::{PassState, Sum};
+use crate::suite::Suite;
+use aes::{AesKey, CtrBe, KeptKey};
+use gf128::{Keyed128, TableMul, WideMul};
+use octets::{Block, Fault, Key32, Nonce, Tag};
+
+// Each number may have any value.
+#[repr(C)]
+#[derive(Clone, Copy)]
+pub(crate) struct KeyedPass {
+    // The key of the message's cipher, and zeros after it: under AES-GCM-SIV the message's encryption key.
+    key: [u8; 32],
+    pub(crate) nonce: [u8; 12],
+    pub(crate) state: PassState,
+}
+
+impl KeyedPass {
+    ghost use Rattle.aead.specs.KeyedPasses.{zero_pass, HoldsPass, HoldsBody};
+
+    // All zeros.
+    pub(crate) fn zeros() -> KeyedPass
+        ensures { result ≡ zero_pass }
+    {
+        KeyedPass {
+            key: [0; 32],
+            nonce: [0; 12],
+            state: PassState::zeros(),
+        }
+    }
+
+    // ---- begin
+
+    // Under the key of a message's cipher.
+    pub(crate) fn under(key: &[u8], nonce: &Nonce, state: PassState) -> KeyedPass
+        requires { length key.now ≤ 32 }
+        ensures key { take (length key.now) result.key ≡ key.now }
+        ensures nonce { result.nonce ≡ nonce.now }
+        ensures nonce_length { length nonce.now ≡ 12 }
+        ensures state { result.state ≡ state }
+    {
+        let mut padded = [0; 32];
+        padded[..key.len()].copy_from_slice(key);
+        KeyedPass {
+            key: padded,
+            nonce: *nonce.bytes(),
+            state,
+        }
+    }
+
+    // Of no bytes, under ChaCha20-Poly1305.
+    pub(crate) fn begin_chacha(suite: Suite, key: &Key32, nonce: &Nonce, aad: &[u8]) -> KeyedPass
+        requires by { construction_of suite ≡ ByChaCha }
+        requires fits { length aad.now ≤ aad_limit suite }
+        ensures { HoldsPass result (setting_of suite key.now nonce.now aad.now) [] }
+    {
+        let state = PassState::begun(&PolyKeys, one_time_key(key, nonce), aad);
+        KeyedPass::under(key.bytes(), nonce, state)
+    }
+
+    // Of no bytes, under AES-GCM.
+    fn begin_gcm(
+        suite: Suite,
+        key: &[u8],
+        cipher: &AesKey,
+        ghash_key: &Block,
+        nonce: &Nonce,
+        aad: &[u8],
+    ) -> KeyedPass
+        requires by { construction_of suite ≡ ByGcm }
+        requires long { length key.now ≡ key_length suite }
+        requires cipher { cipher.now ≡ key.now }
+        requires ghash_key { ghash_key.now ≡ hash_key key.now }
+        requires fits { length aad.now ≤ aad_limit suite }
+        ensures { HoldsPass result (setting_of suite key.now nonce.now aad.now) [] }
+    {
+        let multiplier = TableMul::of(ghash_key);
+        let keys = GhashKeys {
+            multiplier: &multiplier,
+        };
+        let state = PassState::begun(&keys, hash_keys(cipher, ghash_key, nonce), aad);
+        KeyedPass::under(key, nonce, state)
+    }
+
+    // Of no bytes, under AES-GCM-SIV and the derived keys of a message.
+    fn derived(suite: Suite, key: &[u8], hash_key: &Block, nonce: &Nonce, aad: &[u8]) -> KeyedPass
+        requires { length key.now ≡ key_length suite }
+        ensures is_key { IsKey key.now }
+        ensures holds { (s : Setting) → s.suite ≡ suite → construction_of suite ≡ ByGcmSiv
+            → length s.key ≡ key_length suite → key.now ≡ encryption_key s.key s.nonce
+            → Serves Reversed (authentication_key s.key s.nonce) hash_key.now
+            → s.nonce ≡ nonce.now → s.aad ≡ aad.now → length aad.now ≤ aad_limit suite
+            → HoldsPass result s [] }
+    {
+        let cipher = expanded(key);
+        let multiplier = TableMul::of(hash_key);
+        let keys = PolyvalKeys {
+            multiplier: &multiplier,
+            key: &cipher,
+            nonce,
+        };
+        let state = PassState::begun(&keys, joined(hash_key.bytes(), &[0; 16]), aad);
+        KeyedPass::under(key, nonce, state)
+    }
+
+    // Of no bytes, under AES-GCM-SIV.
+    pub(crate) fn begin_siv(suite: Suite, cipher: &AesKey, nonce: &Nonce, aad: &[u8]) -> KeyedPass
+        requires by { construction_of suite ≡ ByGcmSiv }
+        requires long { length cipher.now ≡ key_length suite }
+        requires fits { length aad.now ≤ aad_limit suite }
+        ensures is_key { IsKey (encryption_key cipher.now nonce.now) }
+        ensures holds { HoldsPass result (setting_of suite cipher.now nonce.now aad.now) [] }
+    {
+        let parts = KeyParts::new(cipher, nonce);
+        let hash_key = hash_key(&parts);
+        match suite {
+            Suite::Aes128GcmSiv => {
+                KeyedPass::derived(suite, &short_encryption_key(&parts), &hash_key, nonce, aad)
+            }
+            _ => KeyedPass::derived(suite, &long_encryption_key(&parts), &hash_key, nonce, aad),
+        }
+    }
+
+    // Of no bytes, under AES-GCM and the bytes of a key.
+    #[inline(never)]
+    fn begin_gcm_anew(suite: Suite, key: &[u8], nonce: &Nonce, aad: &[u8]) -> KeyedPass
+        requires by { construction_of suite ≡ ByGcm }
+        requires long { length key.now ≡ key_length suite }
+        requires fits { length aad.now ≤ aad_limit suite }
+        ensures { HoldsPass result (setting_of suite key.now nonce.now aad.now) [] }
+    {
+        let cipher = expanded(key);
+        KeyedPass::begin_gcm(suite, key, &cipher, &hash_subkey(&cipher), nonce, aad)
+    }
+
+    // Of no bytes, under AES-GCM-SIV and the bytes of a key.
+    #[inline(never)]
+    fn begin_siv_anew(suite: Suite, key: &[u8], nonce: &Nonce, aad: &[u8]) -> KeyedPass
+        requires by { construction_of suite ≡ ByGcmSiv }
+        requires long { length key.now ≡ key_length suite }
+        requires fits { length aad.now ≤ aad_limit suite }
+        ensures { HoldsPass result (setting_of suite key.now nonce.now aad.now) [] }
+    {
+        KeyedPass::begin_siv(suite, &expanded(key), nonce, aad)
+    }
+
+    // Of no bytes, under the bytes of a key and a nonce. `KeyLength`, `NonceLength`, then `AadTooLong`.
+    pub(crate) fn begin(
+        suite: Suite,
+        key: &[u8],
+        nonce: &[u8],
+        aad: &[u8],
+    ) -> Result<KeyedPass, Fault>
+        ensures { let s = setting_of suite key.now nonce.now aad.now in
+            MatchResult result (λ p. HoldsPass p s []) (BeginRefused s) }
+    {
+        if key.len() != suite.key_length() {
+            return Err(Fault::KeyLength);
+        }
+        let nonce = Nonce::from_slice(nonce)?;
+        suite.check_aad(aad)?;
+        match suite {
+            Suite::ChaCha20Poly1305 => {
+                let key = Key32::from_slice(key)?;
+                Ok(KeyedPass::begin_chacha(suite, &key, &nonce, aad))
+            }
+            Suite::Aes128Gcm | Suite::Aes192Gcm | Suite::Aes256Gcm => {
+                Ok(KeyedPass::begin_gcm_anew(suite, key, &nonce, aad))
+            }
+            Suite::Aes128GcmSiv | Suite::Aes256GcmSiv => {
+                Ok(KeyedPass::begin_siv_anew(suite, key, &nonce, aad))
+            }
+        }
+    }
+
+    // As `begin`, by what was made of the key before: its schedule and the key of GHASH.
+    pub(crate) fn begin_by(
+        suite: Suite,
+        key: &[u8],
+        cipher: &AesKey,
+        ghash_key: &Block,
+        nonce: &[u8],
+        aad: &[u8],
+    ) -> Result<KeyedPass, Fault>
+        requires long { length key.now ≡ key_length suite }
+        requires cipher { cipher.now ≡ key.now }
+        requires ghash_key { ghash_key.now ≡ hash_key key.now }
+        ensures { let s = setting_of suite key.now nonce.now aad.now in
+            MatchResult result (λ p. HoldsPass p s []) (BeginRefused s) }
+    {
+        let nonce = Nonce::from_slice(nonce)?;
+        suite.check_aad(aad)?;
+        match suite {
+            Suite::ChaCha20Poly1305 => {
+                let key = Key32::from_slice(key)?;
+                Ok(KeyedPass::begin_chacha(suite, &key, &nonce, aad))
+            }
+            Suite::Aes128Gcm | Suite::Aes192Gcm | Suite::Aes256Gcm => {
+                Ok(KeyedPass::begin_gcm(suite, key, cipher, ghash_key, &nonce, aad))
+            }
+            Suite::Aes128GcmSiv | Suite::Aes256GcmSiv => {
+                Ok(KeyedPass::begin_siv(suite, cipher, &nonce, aad))
+            }
+        }
+    }
+
+    // ---- resumption
+
+    // By the key of a message's cipher and the numbers of a pass over the message.
+    fn with_numbers(suite: Suite, key: &[u8], nonce: &Nonce, state: PassState) -> KeyedPass
+        requires { length key.now ≡ key_length suite }
+        ensures { (s : Setting) (bytes : List ℕ) → s.suite ≡ suite → length s.key ≡ key_length suite
+            → key.now ≡ cipher_key (construction_of suite) s → s.nonce ≡ nonce.now → HoldsNumbers state s bytes
+            → HoldsPass result s bytes }
+    {
+        KeyedPass::under(key, nonce, state)
+    }
+
+    // By the numbers of a pass under AES-GCM-SIV with the same key and nonce.
+    fn resumed_siv(suite: Suite, cipher: &AesKey, nonce: &Nonce, state: PassState) -> KeyedPass
+        requires by { construction_of suite ≡ ByGcmSiv }
+        requires long { length cipher.now ≡ key_length suite }
+        ensures { (aad bytes : List ℕ) → let s = setting_of suite cipher.now nonce.now aad in
+            HoldsNumbers state s bytes → HoldsPass result s bytes }
+    {
+        let parts = KeyParts::new(cipher, nonce);
+        match suite {
+            Suite::Aes128GcmSiv => {
+                KeyedPass::with_numbers(suite, &short_encryption_key(&parts), nonce, state)
+            }
+            _ => KeyedPass::with_numbers(suite, &long_encryption_key(&parts), nonce, state),
+        }
+    }
+
+    // By the numbers of a pass under the same suite, key and nonce. `KeyLength`, then `NonceLength`.
+    pub(crate) fn resumed(
+        suite: Suite,
+        key: &[u8],
+        nonce: &[u8],
+        state: PassState,
+    ) -> Result<KeyedPass, Fault>
+        ensures { MatchResult result
+            (λ p. (aad bytes : List ℕ) → let s = setting_of suite key.now nonce.now aad in
+            HoldsNumbers state s bytes → HoldsPass p s bytes)
+            (LengthsRefused suite key.now nonce.now) }
+    {
+        if key.len() != suite.key_length() {
+            return Err(Fault::KeyLength);
+        }
+        let nonce = Nonce::from_slice(nonce)?;
+        match suite {
+            Suite::ChaCha20Poly1305 | Suite::Aes128Gcm | Suite::Aes192Gcm | Suite::Aes256Gcm => {
+                Ok(KeyedPass::with_numbers(suite, key, &nonce, state))
+            }
+            Suite::Aes128GcmSiv | Suite::Aes256GcmSiv => {
+                let cipher = AesKey::from_slice(key)?;
+                Ok(KeyedPass::resumed_siv(suite, &cipher, &nonce, state))
+            }
+        }
+    }
+
+    // ---- pieces
+
+    // The schedule of the message's key.
+    fn cipher(&self, suite: Suite) -> AesKey
+        ensures { result ≡ take (key_length suite) self.now.key }
+    {
+        expanded(&self.key[..suite.key_length()])
+    }
+
+    // Masks a piece under ChaCha20-Poly1305.
+    #[inline(never)]
+    fn mask_chacha<R: Order>(&mut self, order: &R, piece: &mut [u8])
+        requires { self.old.state.length + length piece.old ≤ 2 ^ 38 - 64 }
+        ensures masks { (s : Setting) (tag fed : List ℕ) → construction_of s.suite ≡ ByChaCha
+            → self.old.key ≡ s.key → self.old.nonce ≡ s.nonce
+            → MasksPiece R.hashed self.old.state self.new.state piece.old piece.new s tag fed }
+        ensures keys { (self.new.key ≡ self.old.key) × (self.new.nonce ≡ self.old.nonce) }
+    {
+        let nonce = Nonce::new(self.nonce);
+        let mut mask = chacha_poly::mask_at(&Key32::new(self.key), &nonce, self.state.length);
+        self.state.step(&PolyKeys, &mut mask, order, piece);
+    }
+
+    // Masks a piece under AES-GCM by a multiplier of the type `M`.
+    #[inline(never)]
+    pub(crate) fn mask_gcm_by<M: Keyed128, K: KeptKey, R: Order>(
+        &mut self,
+        mask: &mut CtrBe<K>,
+        order: &R,
+        piece: &mut [u8],
+    )
+        requires { self.old.state.length + length piece.old < 2 ^ 64 }
+        ensures masks { (s : Setting) (tag fed : List ℕ) → construction_of s.suite ≡ ByGcm
+            → MadeByGcm K.bytes mask.old s tag self.old.state.length
+            → MasksPiece R.hashed self.old.state self.new.state piece.old piece.new s tag fed }
+        ensures keys { (self.new.key ≡ self.old.key) × (self.new.nonce ≡ self.old.nonce) }
+    {
+        let mut multiplier = M::none();
+        multiplier.set(&self.state.multiplier_key());
+        let keys = GhashKeys {
+            multiplier: &multiplier,
+        };
+        self.state.step(&keys, mask, order, piece);
+    }
+
+    // Masks a piece under AES-GCM.
+    #[inline(never)]
+    fn mask_gcm<R: Order>(&mut self, suite: Suite, order: &R, piece: &mut [u8])
+        requires { self.old.state.length + length piece.old ≤ 2 ^ 36 }
+        ensures masks { (s : Setting) (tag fed : List ℕ) → construction_of s.suite ≡ ByGcm
+            → take (key_length suite) self.old.key ≡ s.key → self.old.nonce ≡ s.nonce
+            → MasksPiece R.hashed self.old.state self.new.state piece.old piece.new s tag fed }
+        ensures keys { (self.new.key ≡ self.old.key) × (self.new.nonce ≡ self.old.nonce) }
+    {
+        let key = self.cipher(suite);
+        let nonce = Nonce::new(self.nonce);
+        let mut mask = gcm::mask_at(&key, &nonce, self.state.length);
+        match worth(piece.len() as u64) {
+            Multiples::Few => self.mask_gcm_by::<TableMul, &AesKey, R>(&mut mask, order, piece),
+            Multiples::OfFourPowers => {
+                self.mask_gcm_by::<WideMul, &AesKey, R>(&mut mask, order, piece)
+            }
+        }
+    }
+
+    // Masks a piece under AES-GCM-SIV by a multiplier of the type `M` and the message's encryption key.
+    #[inline(never)]
+    fn mask_siv_by<M: Keyed128, R: Order>(
+        &mut self,
+        key: &AesKey,
+        tag: &[u8; 16],
+        order: &R,
+        piece: &mut [u8],
+    )
+        requires { self.old.state.length + length piece.old ≤ 2 ^ 36 }
+        ensures masks { (s : Setting) (fed : List ℕ) → construction_of s.suite ≡ ByGcmSiv
+            → key.now ≡ encryption_key s.key s.nonce → self.old.nonce ≡ s.nonce
+            → MasksPiece R.hashed self.old.state self.new.state piece.old piece.new s tag.now fed }
+        ensures keys { (self.new.key ≡ self.old.key) × (self.new.nonce ≡ self.old.nonce) }
+    {
+        let mut multiplier = M::none();
+        multiplier.set(&self.state.multiplier_key());
+        let nonce = Nonce::new(self.nonce);
+        let keys = PolyvalKeys {
+            multiplier: &multiplier,
+            key,
+            nonce: &nonce,
+        };
+        let mut mask = gcm_siv::mask_at(key, tag, self.state.length);
+        self.state.step(&keys, &mut mask, order, piece);
+    }
+
+    // Masks a piece under AES-GCM-SIV.
+    #[inline(never)]
+    fn mask_siv<R: Order>(&mut self, suite: Suite, tag: &[u8; 16], order: &R, piece: &mut [u8])
+        requires { self.old.state.length + length piece.old ≤ 2 ^ 36 }
+        ensures masks { (s : Setting) (fed : List ℕ) → construction_of s.suite ≡ ByGcmSiv
+            → take (key_length suite) self.old.key ≡ encryption_key s.key s.nonce → self.old.nonce ≡ s.nonce
+            → MasksPiece R.hashed self.old.state self.new.state piece.old piece.new s tag.now fed }
+        ensures keys { (self.new.key ≡ self.old.key) × (self.new.nonce ≡ self.old.nonce) }
+    {
+        let key = self.cipher(suite);
+        match worth(piece.len() as u64) {
+            Multiples::Few => self.mask_siv_by::<TableMul, R>(&key, tag, order, piece),
+            Multiples::OfFourPowers => self.mask_siv_by::<WideMul, R>(&key, tag, order, piece),
+        }
+    }
+
+    // Masks a piece under a tag, and takes in what is authenticated of it, if it is within a limit. Returns whether it is.
+    // Only under AES-GCM-SIV does the mask depend on the tag. Each construction has a function of its own, since the compiler
+    // clears the locals of all arms of a `match` at its start.
+    pub(crate) fn mask<R: Order>(
+        &mut self,
+        suite: Suite,
+        order: &R,
+        tag: &[u8; 16],
+        limit: u64,
+        piece: &mut [u8],
+    ) -> bool
+        requires { limit ≤ text_limit suite }
+        ensures masks { (s : Setting) (fed : List ℕ) → s.suite ≡ suite → result ≡ true
+            → self.old.state.length ≡ length fed → HoldsPass self.old s (R.hashed (mask_of s tag.now) fed)
+            → HoldsPass self.new s (R.hashed (mask_of s tag.now) (fed ++ piece.old))
+            × (piece.new ≡ masked (mask_of s tag.now) (length fed) piece.old) }
+        ensures fits { result ≡ true → self.old.state.length + length piece.old ≤ limit }
+        ensures past { result ≡ false → limit < self.old.state.length + length piece.old }
+        ensures kept { result ≡ false → (self.new ≡ self.old) × (piece.new ≡ piece.old) }
+    {
+        if !self.state.has_room(limit, piece) {
+            return false;
+        }
+        match suite {
+            Suite::ChaCha20Poly1305 => self.mask_chacha(order, piece),
+            Suite::Aes128Gcm | Suite::Aes192Gcm | Suite::Aes256Gcm => {
+                self.mask_gcm(suite, order, piece)
+            }
+            Suite::Aes128GcmSiv | Suite::Aes256GcmSiv => self.mask_siv(suite, tag, order, piece),
+        }
+        true
+    }
+
+    // Takes in a piece under AES-GCM by a multiplier of the type `M`.
+    #[inline(never)]
+    pub(crate) fn take_gcm<M: Keyed128>(&mut self, piece: &[u8])
+        requires { self.old.state.length + length piece.now < 2 ^ 64 }
+        ensures takes { (s : Setting) (bytes : List ℕ) → construction_of s.suite ≡ ByGcm
+            → TakesPiece self.old.state self.new.state piece.now s bytes }
+        ensures keys { (self.new.key ≡ self.old.key) × (self.new.nonce ≡ self.old.nonce) }
+    {
+        let mut multiplier = M::none();
+        multiplier.set(&self.state.multiplier_key());
+        let keys = GhashKeys {
+            multiplier: &multiplier,
+        };
+        self.state.take(&keys, piece);
+    }
+
+    // Takes in a piece under AES-GCM-SIV by a multiplier of the type `M` and the message's encryption key.
+    #[inline(never)]
+    fn take_siv_by<M: Keyed128>(&mut self, key: &AesKey, piece: &[u8])
+        requires { self.old.state.length + length piece.now < 2 ^ 64 }
+        ensures takes { (s : Setting) (bytes : List ℕ) → construction_of s.suite ≡ ByGcmSiv
+            → key.now ≡ encryption_key s.key s.nonce → self.old.nonce ≡ s.nonce
+            → TakesPiece self.old.state self.new.state piece.now s bytes }
+        ensures keys { (self.new.key ≡ self.old.key) × (self.new.nonce ≡ self.old.nonce) }
+    {
+        let mut multiplier = M::none();
+        multiplier.set(&self.state.multiplier_key());
+        let nonce = Nonce::new(self.nonce);
+        let keys = PolyvalKeys {
+            multiplier: &multiplier,
+            key,
+            nonce: &nonce,
+        };
+        self.state.take(&keys, piece);
+    }
+
+    // Takes in a piece under AES-GCM-SIV.
+    #[inline(never)]
+    fn take_siv(&mut self, suite: Suite, piece: &[u8])
+        requires { self.old.state.length + length piece.now < 2 ^ 64 }
+        ensures takes { (s : Setting) (bytes : List ℕ) → construction_of s.suite ≡ ByGcmSiv
+            → take (key_length suite) self.old.key ≡ encryption_key s.key s.nonce → self.old.nonce ≡ s.nonce
+            → TakesPiece self.old.state self.new.state piece.now s bytes }
+        ensures keys { (self.new.key ≡ self.old.key) × (self.new.nonce ≡ self.old.nonce) }
+    {
+        let key = self.cipher(suite);
+        match worth(piece.len() as u64) {
+            Multiples::Few => self.take_siv_by::<TableMul>(&key, piece),
+            Multiples::OfFourPowers => self.take_siv_by::<WideMul>(&key, piece),
+        }
+    }
+
+    // Takes in a piece, if it is within the suite's limit. Returns whether it is.
+    pub(crate) fn take(&mut self, suite: Suite, piece: &[u8]) -> bool
+        ensures takes { (s : Setting) (bytes : List ℕ) → s.suite ≡ suite → result ≡ true
+            → HoldsPass self.old s bytes → HoldsPass self.new s (bytes ++ piece.now) }
+        ensures fits { result ≡ true → self.old.state.length + length piece.now ≤ text_limit suite }
+        ensures past { result ≡ false → text_limit suite < self.old.state.length + length piece.now }
+        ensures kept { result ≡ false → self.new ≡ self.old }
+    {
+        if !self.state.has_room(suite.text_limit(), piece) {
+            return false;
+        }
+        match suite {
+            Suite::ChaCha20Poly1305 => self.state.take(&PolyKeys, piece),
+            Suite::Aes128Gcm | Suite::Aes192Gcm | Suite::Aes256Gcm => {
+                match worth(piece.len() as u64) {
+                    Multiples::Few => self.take_gcm::<TableMul>(piece),
+                    Multiples::OfFourPowers => self.take_gcm::<WideMul>(piece),
+                }
+            }
+            Suite::Aes128GcmSiv | Suite::Aes256GcmSiv => self.take_siv(suite, piece),
+        }
+        true
+    }
+
+    // Takes in the text of a piece of a ciphertext under AES-GCM-SIV, by a multiplier of the type `M` and the message's
+    // encryption key.
+    #[inline(never)]
+    fn take_text_by<M: Keyed128>(&mut self, key: &AesKey, tag: &[u8; 16], piece: &[u8])
+        requires { self.old.state.length + length piece.now ≤ 2 ^ 36 }
+        ensures takes { (s : Setting) (fed : List ℕ) → construction_of s.suite ≡ ByGcmSiv
+            → key.now ≡ encryption_key s.key s.nonce → self.old.nonce ≡ s.nonce
+            → TakesPieceText self.old.state self.new.state piece.now s tag.now fed }
+        ensures keys { (self.new.key ≡ self.old.key) × (self.new.nonce ≡ self.old.nonce) }
+    {
+        let mut multiplier = M::none();
+        multiplier.set(&self.state.multiplier_key());
+        let nonce = Nonce::new(self.nonce);
+        let keys = PolyvalKeys {
+            multiplier: &multiplier,
+            key,
+            nonce: &nonce,
+        };
+        let mut mask = gcm_siv::mask_at(key, tag, self.state.length);
+        self.state.take_text(&keys, &mut mask, piece);
+    }
+
+    // Takes in the text of a piece of a ciphertext under AES-GCM-SIV.
+    #[inline(never)]
+    fn take_text(&mut self, suite: Suite, tag: &[u8; 16], piece: &[u8])
+        requires { self.old.state.length + length piece.now ≤ 2 ^ 36 }
+        ensures takes { (s : Setting) (fed : List ℕ) → construction_of s.suite ≡ ByGcmSiv
+            → take (key_length suite) self.old.key ≡ encryption_key s.key s.nonce → self.old.nonce ≡ s.nonce
+            → TakesPieceText self.old.state self.new.state piece.now s tag.now fed }
+        ensures keys { (self.new.key ≡ self.old.key) × (self.new.nonce ≡ self.old.nonce) }
+    {
+        let key = self.cipher(suite);
+        match worth(piece.len() as u64) {
+            Multiples::Few => self.take_text_by::<TableMul>(&key, tag, piece),
+            Multiples::OfFourPowers => self.take_text_by::<WideMul>(&key, tag, piece),
+        }
+    }
+
+    // Takes in what is authenticated of a piece of a ciphertext under a tag, if it is within the suite's limit: the piece, or
+    // under AES-GCM-SIV its text. Returns whether it is.
+    pub(crate) fn check(&mut self, suite: Suite, tag: &[u8; 16], piece: &[u8]) -> bool
+        ensures takes { (s : Setting) (body : List ℕ) → s.suite ≡ suite → result ≡ true
+            → HoldsBody self.old s tag.now body → HoldsBody self.new s tag.now (body ++ piece.now) }
+        ensures fits { result ≡ true → self.old.state.length + length piece.now ≤ text_limit suite }
+        ensures past { result ≡ false → text_limit suite < self.old.state.length + length piece.now }
+        ensures kept { result ≡ false → self.new ≡ self.old }
+    {
+        match suite {
+            Suite::Aes128GcmSiv | Suite::Aes256GcmSiv => {
+                if !self.state.has_room(suite.text_limit(), piece) {
+                    return false;
+                }
+                self.take_text(suite, tag, piece);
+                true
+            }
+            _ => self.take(suite, piece),
+        }
+    }
+
+    // Decrypts a piece of a ciphertext under a tag, and takes in what is authenticated of it, if it is within a limit. Returns
+    // whether it is.
+    pub(crate) fn open(
+        &mut self,
+        suite: Suite,
+        tag: &[u8; 16],
+        limit: u64,
+        piece: &mut [u8],
+    ) -> bool
+        requires { limit ≤ text_limit suite }
+        ensures opens { (s : Setting) (body : List ℕ) → s.suite ≡ suite → result ≡ true
+            → HoldsBody self.old s tag.now body → HoldsBody self.new s tag.now (body ++ piece.old)
+            × (piece.new ≡ masked (mask_of s tag.now) (length body) piece.old) }
+        ensures fits { result ≡ true → self.old.state.length + length piece.old ≤ limit }
+        ensures past { result ≡ false → limit < self.old.state.length + length piece.old }
+        ensures kept { result ≡ false → (self.new ≡ self.old) × (piece.new ≡ piece.old) }
+    {
+        match suite {
+            Suite::Aes128GcmSiv | Suite::Aes256GcmSiv => {
+                self.mask(suite, &MaskFirst, tag, limit, piece)
+            }
+            _ => self.mask(suite, &HashFirst, tag, limit, piece),
+        }
+    }
+
+    // ---- the end of a pass
+
+    // The tag over what was taken in, under AES-GCM.
+    #[inline(never)]
+    fn tag_gcm(&self) -> Tag
+        ensures { (s : Setting) (bytes : List ℕ) → construction_of s.suite ≡ ByGcm
+            → HoldsNumbers self.now.state s bytes → result ≡ tag_over s.suite s.key s.nonce s.aad bytes }
+    {
+        let multiplier = TableMul::of(&self.state.multiplier_key());
+        self.state.tag(&GhashKeys {
+            multiplier: &multiplier,
+        })
+    }
+
+    // The tag over what was taken in, under AES-GCM-SIV.
+    #[inline(never)]
+    fn tag_siv(&self, suite: Suite) -> Tag
+        ensures { (s : Setting) (bytes : List ℕ) → construction_of s.suite ≡ ByGcmSiv
+            → take (key_length suite) self.now.key ≡ encryption_key s.key s.nonce → self.now.nonce ≡ s.nonce
+            → HoldsNumbers self.now.state s bytes → result ≡ tag_over s.suite s.key s.nonce s.aad bytes }
+    {
+        let multiplier = TableMul::of(&self.state.multiplier_key());
+        let key = self.cipher(suite);
+        let nonce = Nonce::new(self.nonce);
+        self.state.tag(&PolyvalKeys {
+            multiplier: &multiplier,
+            key: &key,
+            nonce: &nonce,
+        })
+    }
+
+    // The tag over what was taken in.
+    pub(crate) fn tag(&self, suite: Suite) -> Tag
+        ensures { (s : Setting) (bytes : List ℕ) → s.suite ≡ suite → HoldsPass self.now s bytes
+            → result ≡ tag_over s.suite s.key s.nonce s.aad bytes }
+    {
+        match suite {
+            Suite::ChaCha20Poly1305 => self.state.tag(&PolyKeys),
+            Suite::Aes128Gcm | Suite::Aes192Gcm | Suite::Aes256Gcm => self.tag_gcm(),
+            Suite::Aes128GcmSiv | Suite::Aes256GcmSiv => self.tag_siv(suite),
+        }
+    }
+
+    // The tag of the text of a ciphertext that was taken in under a tag.
+    pub(crate) fn text_tag(&self, suite: Suite) -> Tag
+        ensures { (s : Setting) (tag body : List ℕ) → s.suite ≡ suite → HoldsBody self.now s tag body
+            → result ≡ tag_of s (masked (mask_of s tag) 0 body) }
+    {
+        self.tag(suite)
+    }
+
+    // The pass over no bytes of the same message, by the sum over its padded associated data.
+    pub(crate) fn restarted(&self, start: Sum) -> KeyedPass
+        ensures holds { (s : Setting) (bytes : List ℕ) → HoldsPass self.now s bytes → IsStart start s
+            → HoldsPass result s [] }
+        ensures length { result.state.length ≡ 0 }
+    {
+        KeyedPass {
+            key: self.key,
+            nonce: self.nonce,
+            state: self.state.restarted(start),
+        }
+    }
+}

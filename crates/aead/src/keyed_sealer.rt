@@ -1,0 +1,136 @@
+//! A sealing in pieces together with its keys, as plain numbers: for a caller that keeps all of it in memory of its own.
+
+ghost use Rattle.std.specs.Prelude.{◌≡◌, ◌+◌, ◌<◌, ◌≤◌, ◌++◌, ℕ, List, [], length, true, MatchResult, OnErr};
+ghost use Rattle.octets.specs.Masked.{masked};
+ghost use Rattle.aead.specs.Suites.{construction_of, is_one_pass, key_length, text_limit};
+ghost use Rattle.aead.specs.Sealing.{Setting, hash_key, mask_of, tag_of};
+ghost use Rattle.aead.specs.Refusals.{SealRefused};
+ghost use Rattle.aead.specs.PassStates.{HoldsState};
+ghost use Rattle.aead.specs.KeyedPasses.{setting_of, BeginRefused, LengthsRefused};
+
+use crate::beside::MaskFirst;
+use crate::keyed_pass::KeyedPass;
+use crate::pass_state::PassState;
+use crate::suite::Suite;
+use aes::AesKey;
+use octets::{Block, Fault, Tag};
+
+/// A text that is sealed piece by piece in one reading, with the bytes of its key and nonce. Each number may have any value.
+/// [`crate::Sealer`] is faster for short pieces: a call here makes the key's schedule anew.
+#[repr(C)]
+#[derive(Clone, Copy)]
+pub struct KeyedSealer {
+    pass: KeyedPass,
+}
+
+impl KeyedSealer {
+    ghost use Rattle.aead.specs.KeyedPieces.{zero_sealer, HoldsKeyedText, sealer_count, FitsIn};
+
+    /// All zeros.
+    pub fn zeros() -> KeyedSealer
+        ensures { result ≡ zero_sealer }
+    {
+        KeyedSealer {
+            pass: KeyedPass::zeros(),
+        }
+    }
+
+    /// Returns a state that holds the empty text, under a suite whose tag is over the ciphertext, the bytes of a key and of a
+    /// nonce, and associated data. `KeyLength` if the key has not the suite's length, `NonceLength` if the nonce is not 12
+    /// bytes long, then `AadTooLong` if the data is past the suite's limit.
+    ///
+    /// The nonce must never be used twice under one key: a repeat gives away the XOR of the two texts, and enough to
+    /// forge messages.
+    pub fn begin(suite: Suite, key: &[u8], nonce: &[u8], aad: &[u8]) -> Result<KeyedSealer, Fault>
+        requires { is_one_pass (construction_of suite) ≡ true }
+        ensures { let s = setting_of suite key.now nonce.now aad.now in
+            MatchResult result (λ p. HoldsKeyedText p s []) (BeginRefused s) }
+    {
+        match KeyedPass::begin(suite, key, nonce, aad) {
+            Ok(pass) => Ok(KeyedSealer { pass }),
+            Err(fault) => Err(fault),
+        }
+    }
+
+    /// As [`KeyedSealer::begin`], by what was made of the key before: its schedule and the key of GHASH, which is the cipher
+    /// of a block of zeros.
+    pub fn begin_by(
+        suite: Suite,
+        key: &[u8],
+        cipher: &AesKey,
+        ghash_key: &Block,
+        nonce: &[u8],
+        aad: &[u8],
+    ) -> Result<KeyedSealer, Fault>
+        requires one_pass { is_one_pass (construction_of suite) ≡ true }
+        requires long { length key.now ≡ key_length suite }
+        requires cipher { cipher.now ≡ key.now }
+        requires ghash_key { ghash_key.now ≡ hash_key key.now }
+        ensures { let s = setting_of suite key.now nonce.now aad.now in
+            MatchResult result (λ p. HoldsKeyedText p s []) (BeginRefused s) }
+    {
+        match KeyedPass::begin_by(suite, key, cipher, ghash_key, nonce, aad) {
+            Ok(pass) => Ok(KeyedSealer { pass }),
+            Err(fault) => Err(fault),
+        }
+    }
+
+    /// Returns a state by the numbers of another one under the same suite, key and nonce, as [`KeyedSealer::state`] returns
+    /// them: it holds the text that they hold, if they hold one. `KeyLength` if the key has not the suite's length, then
+    /// `NonceLength` if the nonce is not 12 bytes long.
+    pub fn resumed(
+        suite: Suite,
+        key: &[u8],
+        nonce: &[u8],
+        state: &PassState,
+    ) -> Result<KeyedSealer, Fault>
+        requires { is_one_pass (construction_of suite) ≡ true }
+        ensures { MatchResult result
+            (λ p. (aad text : List ℕ) → let s = setting_of suite key.now nonce.now aad in
+            HoldsState state.now s text → HoldsKeyedText p s text)
+            (LengthsRefused suite key.now nonce.now) }
+    {
+        match KeyedPass::resumed(suite, key, nonce, *state) {
+            Ok(pass) => Ok(KeyedSealer { pass }),
+            Err(fault) => Err(fault),
+        }
+    }
+
+    /// Returns the numbers that hold the text, without the key and the nonce, to go on from later.
+    pub fn state(&self) -> PassState
+        ensures { (s : Setting) (text : List ℕ) → HoldsKeyedText self.now s text → HoldsState result s text }
+    {
+        self.pass.state
+    }
+
+    /// Adds `piece`, of any length, to the text, under its suite, and leaves its ciphertext in its place. `TextTooLong` if the
+    /// text would be past its limit: state and piece are then as they were.
+    pub fn update(&mut self, suite: Suite, piece: &mut [u8]) -> Result<(), Fault>
+        requires { is_one_pass (construction_of suite) ≡ true }
+        ensures answer { (s : Setting) (text : List ℕ) → s.suite ≡ suite → HoldsKeyedText self.old s text
+            → MatchResult result
+            (λ _. HoldsKeyedText self.new s (text ++ piece.old)
+            × ((tag : List ℕ) → piece.new ≡ masked (mask_of s tag) (length text) piece.old))
+            (λ e. SealRefused s (text ++ piece.old) e) }
+        ensures kept { OnErr result ((self.new ≡ self.old) × (piece.new ≡ piece.old)) }
+        ensures fault { FitsIn Fault.TextTooLong result (sealer_count self.old) (length piece.old) (text_limit suite) }
+    {
+        if self
+            .pass
+            .mask(suite, &MaskFirst, &[0; 16], suite.text_limit(), piece)
+        {
+            Ok(())
+        } else {
+            Err(Fault::TextTooLong)
+        }
+    }
+
+    /// Returns the tag of the text under its suite, 16 bytes.
+    pub fn tag(&self, suite: Suite) -> Tag
+        requires { is_one_pass (construction_of suite) ≡ true }
+        ensures { (s : Setting) (text : List ℕ) → s.suite ≡ suite → HoldsKeyedText self.now s text
+            → result ≡ tag_of s text }
+    {
+        self.pass.tag(suite)
+    }
+}

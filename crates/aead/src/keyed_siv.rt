@@ -1,0 +1,186 @@
+//! A sealing in pieces under AES-GCM-SIV (RFC 8452) together with its keys, as plain numbers: for a caller that keeps all of it
+//! in memory of its own. A first reading of the text gives its tag, and a second one encrypts it.
+
+ghost use Rattle.std.specs.Prelude.{◌≡◌, ◌+◌, ◌<◌, ◌≤◌, ◌++◌, ℕ, List, [], length, MatchResult, OnErr};
+ghost use Rattle.octets.specs.Masked.{masked};
+ghost use Rattle.aead.specs.Suites.{ByGcmSiv, construction_of, key_length, text_limit};
+ghost use Rattle.aead.specs.Sealing.{Setting, hash_key, mask_of, tag_of};
+ghost use Rattle.aead.specs.Pieces.{IsInFirstReading, IsInSecondReading, Repeats};
+ghost use Rattle.aead.specs.Refusals.{SealRefused};
+ghost use Rattle.aead.specs.KeyedPasses.{setting_of, BeginRefused, LengthsRefused};
+
+use crate::beside::HashFirst;
+use crate::keyed_pass::KeyedPass;
+use crate::keyed_passes::KeyedPasses;
+use crate::suite::Suite;
+use crate::two_pass_state::TwoPassState;
+use aes::AesKey;
+use octets::{Block, Fault, Tag, same};
+
+/// A text that is sealed piece by piece in two readings under AES-GCM-SIV, with the bytes of its keys. Each number may have any
+/// value. [`crate::SivAbsorb`] is faster for short pieces: a call here makes the key's schedule anew.
+#[repr(C)]
+#[derive(Clone, Copy)]
+pub struct KeyedSiv {
+    passes: KeyedPasses,
+}
+
+impl KeyedSiv {
+    ghost use Rattle.aead.specs.KeyedPieces.{zero_siv, HoldsFirstReading, HoldsSecondReading, siv_count, FitsIn};
+
+    /// All zeros.
+    pub fn zeros() -> KeyedSiv
+        ensures { result ≡ zero_siv }
+    {
+        KeyedSiv {
+            passes: KeyedPasses::zeros(),
+        }
+    }
+
+    /// Returns a state in its first reading that holds the empty text, under a suite of AES-GCM-SIV, the bytes of a key and of a
+    /// nonce, and associated data. `KeyLength` if the key has not the suite's length, `NonceLength` if the nonce is not 12
+    /// bytes long, then `AadTooLong` if the data is past the suite's limit.
+    ///
+    /// The nonce must never be used twice under one key: a repeat gives away whether the texts and the associated data
+    /// were the same, and nothing else.
+    pub fn begin(suite: Suite, key: &[u8], nonce: &[u8], aad: &[u8]) -> Result<KeyedSiv, Fault>
+        requires { construction_of suite ≡ ByGcmSiv }
+        ensures { let s = setting_of suite key.now nonce.now aad.now in
+            MatchResult result (λ p. HoldsFirstReading p s []) (BeginRefused s) }
+    {
+        match KeyedPass::begin(suite, key, nonce, aad) {
+            Ok(pass) => Ok(KeyedSiv {
+                passes: KeyedPasses::of(pass, &[0; 16]),
+            }),
+            Err(fault) => Err(fault),
+        }
+    }
+
+    /// As [`KeyedSiv::begin`], by what was made of the key before: its schedule and the key of GHASH, which is the cipher of a
+    /// block of zeros.
+    pub fn begin_by(
+        suite: Suite,
+        key: &[u8],
+        cipher: &AesKey,
+        ghash_key: &Block,
+        nonce: &[u8],
+        aad: &[u8],
+    ) -> Result<KeyedSiv, Fault>
+        requires by { construction_of suite ≡ ByGcmSiv }
+        requires long { length key.now ≡ key_length suite }
+        requires cipher { cipher.now ≡ key.now }
+        requires ghash_key { ghash_key.now ≡ hash_key key.now }
+        ensures { let s = setting_of suite key.now nonce.now aad.now in
+            MatchResult result (λ p. HoldsFirstReading p s []) (BeginRefused s) }
+    {
+        match KeyedPass::begin_by(suite, key, cipher, ghash_key, nonce, aad) {
+            Ok(pass) => Ok(KeyedSiv {
+                passes: KeyedPasses::of(pass, &[0; 16]),
+            }),
+            Err(fault) => Err(fault),
+        }
+    }
+
+    /// Returns a state by the numbers of another one under the same suite, key and nonce, as [`KeyedSiv::state`] returns them:
+    /// it is in the reading of a text that they are of, if they are of one. `KeyLength` if the key has not the suite's length,
+    /// then `NonceLength` if the nonce is not 12 bytes long.
+    pub fn resumed(
+        suite: Suite,
+        key: &[u8],
+        nonce: &[u8],
+        state: &TwoPassState,
+    ) -> Result<KeyedSiv, Fault>
+        requires { construction_of suite ≡ ByGcmSiv }
+        ensures first { MatchResult result
+            (λ p. (aad text : List ℕ) → let s = setting_of suite key.now nonce.now aad in
+            IsInFirstReading state.now s text → HoldsFirstReading p s text)
+            (LengthsRefused suite key.now nonce.now) }
+        ensures second { MatchResult result
+            (λ p. (aad first text : List ℕ) → let s = setting_of suite key.now nonce.now aad in
+            IsInSecondReading state.now s first text → HoldsSecondReading p s first text)
+            (LengthsRefused suite key.now nonce.now) }
+    {
+        match KeyedPass::resumed(suite, key, nonce, state.pass) {
+            Ok(pass) => Ok(KeyedSiv {
+                passes: KeyedPasses::resumed(pass, state),
+            }),
+            Err(fault) => Err(fault),
+        }
+    }
+
+    /// Returns the numbers of the reading, without the keys and the nonce, to go on from later.
+    pub fn state(&self) -> TwoPassState
+        ensures first { (s : Setting) (text : List ℕ) → HoldsFirstReading self.now s text
+            → IsInFirstReading result s text }
+        ensures second { (s : Setting) (first text : List ℕ) → HoldsSecondReading self.now s first text
+            → IsInSecondReading result s first text }
+    {
+        self.passes.numbers()
+    }
+
+    /// Adds `piece`, of any length, to the text in the first reading, under its suite. `TextTooLong` if the text would be past
+    /// its limit: the state is then as it was.
+    pub fn absorb(&mut self, suite: Suite, piece: &[u8]) -> Result<(), Fault>
+        ensures answer { (s : Setting) (text : List ℕ) → s.suite ≡ suite → HoldsFirstReading self.old s text
+            → MatchResult result (λ _. HoldsFirstReading self.new s (text ++ piece.now))
+            (λ e. SealRefused s (text ++ piece.now) e) }
+        ensures kept { OnErr result (self.new ≡ self.old) }
+        ensures fault { FitsIn Fault.TextTooLong result (siv_count self.old) (length piece.now) (text_limit suite) }
+    {
+        if self.passes.pass.take(suite, piece) {
+            Ok(())
+        } else {
+            Err(Fault::TextTooLong)
+        }
+    }
+
+    /// Ends the first reading and returns the tag of its text, 16 bytes. The state is then in its second reading, which has
+    /// taken in nothing yet.
+    pub fn begin_second(&mut self, suite: Suite) -> Tag
+        ensures { (s : Setting) (text : List ℕ) → s.suite ≡ suite → HoldsFirstReading self.old s text
+            → (result ≡ tag_of s text) × HoldsSecondReading self.new s text [] }
+    {
+        let tag = self.passes.pass.tag(suite);
+        self.passes.tag = *tag.bytes();
+        self.passes.first = self.passes.pass.state.length;
+        self.passes.pass = self.passes.pass.restarted(self.passes.start);
+        tag
+    }
+
+    /// Adds `piece`, of any length, to the text in the second reading, under its suite, and leaves its ciphertext in its place.
+    /// `SourceChanged` if that text would be longer than the first: state and piece are then as they were.
+    pub fn update(&mut self, suite: Suite, piece: &mut [u8]) -> Result<(), Fault>
+        ensures answer { (s : Setting) (first text : List ℕ) → s.suite ≡ suite
+            → HoldsSecondReading self.old s first text → MatchResult result
+            (λ _. HoldsSecondReading self.new s first (text ++ piece.old)
+            × (piece.new ≡ masked (mask_of s (tag_of s first)) (length text) piece.old))
+            (λ e. (e ≡ Fault.SourceChanged) × (length first < length (text ++ piece.old))) }
+        ensures kept { OnErr result ((self.new ≡ self.old) × (piece.new ≡ piece.old)) }
+        ensures fault { MatchResult result (λ _. Unit {0}) (λ e. e ≡ Fault.SourceChanged) }
+    {
+        let limit = self.passes.first.min(suite.text_limit());
+        let tag = self.passes.tag;
+        if self.passes.pass.mask(suite, &HashFirst, &tag, limit, piece) {
+            Ok(())
+        } else {
+            Err(Fault::SourceChanged)
+        }
+    }
+
+    /// Returns `Ok` if the second text has the length and the tag of the first, else `SourceChanged`.
+    pub fn finish(&self, suite: Suite) -> Result<(), Fault>
+        ensures answer { (s : Setting) (first text : List ℕ) → s.suite ≡ suite
+            → HoldsSecondReading self.now s first text → MatchResult result (λ _. Repeats s first text)
+            (λ e. (e ≡ Fault.SourceChanged) × ¬ (Repeats s first text)) }
+        ensures fault { MatchResult result (λ _. Unit {0}) (λ e. e ≡ Fault.SourceChanged) }
+    {
+        let tag = self.passes.pass.tag(suite);
+        if self.passes.pass.state.length == self.passes.first
+            && same(tag.bytes(), &self.passes.tag)
+        {
+            Ok(())
+        } else {
+            Err(Fault::SourceChanged)
+        }
+    }
+}

@@ -1,0 +1,241 @@
+//! What a pass over a message has taken in, as plain numbers: the sum of its hash, the bytes after the last whole block, and
+//! both lengths. They are what a state in pieces is saved as, and what a caller in C keeps.
+
+ghost use Rattle.std.specs.Prelude.{◌≡◌, ◌+◌, ◌*◌, ◌<◌, ◌≤◌, ◌^◌, ◌++◌, ℕ, List, [], length, take, true, false};
+ghost use Rattle.octets.specs.Bytes.{pad16};
+ghost use Rattle.aead.specs.Suites.{construction_of, text_limit, aad_limit};
+ghost use Rattle.aead.specs.Sealing.{Setting, tag_over};
+ghost use Rattle.aead.specs.Code.States.{HoldsAuthenticator};
+
+use crate::authenticator::Authenticator;
+use crate::beside::Order;
+use crate::hashes::{HashKeys, TagHash};
+use crate::mask::MaskStream;
+use crate::taken_text::take_text;
+use octets::{Block, Tag};
+
+// 2^64.
+const WORD: u128 = 0x1_0000_0000_0000_0000;
+
+/// What a pass over a message has taken in, as plain numbers, without the message's key and nonce. Each number may have any
+/// value: they are read with checks, and what carries a fact is made again.
+///
+/// The numbers are secret: from them and the message, others can be forged under AES-GCM and AES-GCM-SIV.
+#[repr(C)]
+#[derive(Clone, Copy)]
+pub struct PassState {
+    // The one-time key of Poly1305; or the key of GHASH and the cipher of J0; or the key of POLYVAL's multiplier and zeros.
+    hash_key: [u8; 32],
+    // The bytes after the last whole block of what is hashed.
+    rest: [u8; 16],
+    // The sum over the whole blocks, in words of 64 bits.
+    low: u64,
+    middle: u64,
+    high: u64,
+    aad_length: u64,
+    pub(crate) length: u64,
+}
+
+/// The sum of a hash over whole blocks, in words of 64 bits.
+#[repr(C)]
+#[derive(Clone, Copy)]
+pub(crate) struct Sum {
+    low: u64,
+    middle: u64,
+    high: u64,
+}
+
+impl Sum {
+    ghost use Rattle.aead.specs.PassStates.{zero_sum};
+
+    // The sum over no bytes.
+    pub(crate) fn zero() -> Sum
+        ensures { result ≡ zero_sum }
+    {
+        Sum {
+            low: 0,
+            middle: 0,
+            high: 0,
+        }
+    }
+}
+
+impl PassState {
+    ghost use Rattle.aead.specs.PassStates.{zero_state, IsHashKey, IsStart, HoldsNumbers};
+    ghost use Rattle.aead.specs.Code.PassSteps.{MasksPiece, TakesPiece, TakesPieceText};
+
+    /// All zeros.
+    pub fn zeros() -> PassState
+        ensures { result ≡ zero_state }
+    {
+        PassState {
+            hash_key: [0; 32],
+            rest: [0; 16],
+            low: 0,
+            middle: 0,
+            high: 0,
+            aad_length: 0,
+            length: 0,
+        }
+    }
+
+    // The numbers of what was taken in.
+    #[inline(always)]
+    fn of<H: TagHash>(hash_key: [u8; 32], taken: &Authenticator<H>) -> PassState
+        ensures holds { (s : Setting) (bytes : List ℕ) → IsHashKey (construction_of s.suite) hash_key s
+            → HoldsAuthenticator H.held taken.now s bytes → HoldsNumbers result s bytes }
+        ensures length { result.length ≡ taken.now.length }
+    {
+        let (low, high) = taken.hash.sum();
+        let last = taken.hash.rest();
+        let mut rest = [0; 16];
+        rest[..last.len()].copy_from_slice(last);
+        PassState {
+            hash_key,
+            rest,
+            low: (low % WORD) as u64,
+            middle: (low >> 64) as u64,
+            high,
+            aad_length: taken.aad_length,
+            length: taken.length,
+        }
+    }
+
+    // The lower 128 bits of the sum.
+    fn low(&self) -> u128
+        ensures { result ≡ self.now.low + self.now.middle * 2 ^ 64 }
+    {
+        u128::from(self.low) + u128::from(self.middle) * WORD
+    }
+
+    // The authenticator that has taken in the bytes so far.
+    #[inline(always)]
+    fn taken<K: HashKeys>(&self, keys: &K) -> Authenticator<K::Hash>
+        ensures holds { (s : Setting) (bytes : List ℕ) → K.serves keys.now s → HoldsNumbers self.now s bytes
+            → HoldsAuthenticator K.Hash.held result s bytes }
+        ensures length { result.length ≡ self.now.length }
+    {
+        let used = (self.length % 16) as usize;
+        Authenticator {
+            hash: keys.resumed(&self.hash_key, self.low(), self.high, &self.rest[..used]),
+            aad_length: self.aad_length,
+            length: self.length,
+        }
+    }
+
+    // The key of the multiplier of GHASH or POLYVAL.
+    pub(crate) fn multiplier_key(&self) -> Block
+        ensures { result ≡ take 16 self.now.hash_key }
+    {
+        let mut first = [0; 16];
+        first.copy_from_slice(&self.hash_key[..16]);
+        Block::new(first)
+    }
+
+    // Whether a piece after what was taken in is within a limit.
+    pub(crate) fn has_room(&self, limit: u64, piece: &[u8]) -> bool
+        ensures fits { result ≡ true → self.now.length + length piece.now ≤ limit }
+        ensures past { result ≡ false → limit < self.now.length + length piece.now }
+    {
+        self.length <= limit && piece.len() as u64 <= limit - self.length
+    }
+
+    // The numbers of no bytes after associated data.
+    pub(crate) fn begun<K: HashKeys>(keys: &K, hash_key: [u8; 32], aad: &[u8]) -> PassState
+        ensures { (s : Setting) → K.serves keys.now s → IsHashKey (construction_of s.suite) hash_key s
+            → s.aad ≡ aad.now → length aad.now ≤ aad_limit s.suite → HoldsNumbers result s [] }
+    {
+        let mut taken = Authenticator::empty(keys.resumed(&hash_key, 0, 0, &[]));
+        taken.begin(aad);
+        PassState::of(hash_key, &taken)
+    }
+
+    // Masks a piece, by a mask of which as many bytes were made as were taken in, and takes in what is authenticated of it.
+    #[inline(never)]
+    pub(crate) fn step<K: HashKeys, S: MaskStream, R: Order>(
+        &mut self,
+        keys: &K,
+        mask: &mut S,
+        order: &R,
+        piece: &mut [u8],
+    )
+        requires { self.old.length + length piece.old < 2 ^ 64 }
+        ensures masks { (s : Setting) (tag fed : List ℕ) → K.serves keys.now s
+            → S.made mask.old s tag self.old.length
+            → MasksPiece R.hashed self.old self.new piece.old piece.new s tag fed }
+        ensures length { self.new.length ≡ self.old.length + length piece.old }
+    {
+        let mut taken = self.taken(keys);
+        order.step(mask, &mut taken, piece);
+        *self = PassState::of(self.hash_key, &taken);
+    }
+
+    // Takes in a piece.
+    #[inline(never)]
+    pub(crate) fn take<K: HashKeys>(&mut self, keys: &K, piece: &[u8])
+        requires { self.old.length + length piece.now < 2 ^ 64 }
+        ensures takes { (s : Setting) (bytes : List ℕ) → K.serves keys.now s
+            → TakesPiece self.old self.new piece.now s bytes }
+        ensures length { self.new.length ≡ self.old.length + length piece.now }
+    {
+        let mut taken = self.taken(keys);
+        taken.update(piece);
+        *self = PassState::of(self.hash_key, &taken);
+    }
+
+    // Takes in the text of a piece of a ciphertext, by a mask of which as many bytes were made as were taken in.
+    #[inline(never)]
+    pub(crate) fn take_text<K: HashKeys, S: MaskStream>(
+        &mut self,
+        keys: &K,
+        mask: &mut S,
+        piece: &[u8],
+    )
+        requires { self.old.length + length piece.now < 2 ^ 64 }
+        ensures takes { (s : Setting) (tag fed : List ℕ) → K.serves keys.now s
+            → S.made mask.old s tag self.old.length
+            → TakesPieceText self.old self.new piece.now s tag fed }
+        ensures length { self.new.length ≡ self.old.length + length piece.now }
+    {
+        let mut taken = self.taken(keys);
+        take_text(mask, &mut taken, piece);
+        *self = PassState::of(self.hash_key, &taken);
+    }
+
+    // The tag over what was taken in.
+    #[inline(never)]
+    pub(crate) fn tag<K: HashKeys>(&self, keys: &K) -> Tag
+        ensures { (s : Setting) (bytes : List ℕ) → K.serves keys.now s → HoldsNumbers self.now s bytes
+            → result ≡ tag_over s.suite s.key s.nonce s.aad bytes }
+    {
+        self.taken(keys).finish()
+    }
+
+    // The sum over the whole blocks.
+    pub(crate) fn sum(&self) -> Sum
+        ensures { (s : Setting) → HoldsNumbers self.now s [] → IsStart result s }
+    {
+        Sum {
+            low: self.low,
+            middle: self.middle,
+            high: self.high,
+        }
+    }
+
+    // The numbers of no bytes after the same associated data, of which this is the sum.
+    pub(crate) fn restarted(&self, start: Sum) -> PassState
+        ensures holds { (s : Setting) (bytes : List ℕ) → HoldsNumbers self.now s bytes → IsStart start s
+            → HoldsNumbers result s [] }
+        ensures length { result.length ≡ 0 }
+    {
+        PassState {
+            hash_key: self.hash_key,
+            rest: self.rest,
+            low: start.low,
+            middle: start.middle,
+            high: start.high,
+            aad_length: self.aad_length,
+            length: 0,
+        }
+    }
+}
