@@ -1,1 +1,11 @@
+pub mod Suites
 pub mod Refusals
+pub mod Whole
+pub mod Keys
+pub mod KeyWraps
+pub mod StoredKeys
+pub mod Sealers
+pub mod Sivs
+pub mod Openers
+pub mod Facts
+pub mod Saved

@@ -1,0 +1,24 @@
+use Rattle.std.proofs.Common.{◌≡◌, ◌∙◌, [], refl, sym, ap, ap₂, subst, List, ℕ, MatchResult}
+use Rattle.std.proofs.lemmas.Option.{same_Some}
+use Rattle.aead.specs.declared.suite.Suite.{Suite}
+use Rattle.aead.specs.KeyedPasses.{setting_of, BeginRefused}
+use Rattle.aead.specs.KeyedPieces.{HoldsFirstReading}
+use Rattle.capi.specs.Keys.{first_key}
+use Rattle.capi.proofs.key.aeadkit_siv_init_with.Goals as goal
+
+pub returns-clause-not_begun : goal.returns-clause-not_begun
+returns-clause-not_begun c = λ none.
+    absurd (none c.in-Some.suite ((c.in-Some.ensures c.in-Some.suite).0 refl))
+
+pub returns-clause-keeps : goal.returns-clause-keeps
+returns-clause-keeps c = λ suite key k two.
+    let same : c.in-Some.suite ≡ suite = same_Some _ _ ((c.in-Some.ensures suite).1 k.mark_is) in
+    let setting = λ (x : Suite) (y : List ℕ). setting_of x y c.args.nonce.now c.args.aad.now in
+    c.begin.ensures.begins (setting suite key) (sym same)
+    (subst (λ s. MatchResult c.siv_by_kept.result (λ p. HoldsFirstReading p s []) (BeginRefused s))
+    (ap₂ setting same (ap (λ x. first_key x c.args.kept.now.numbers.key) same ∙ sym k.key_is))
+    c.siv_by_kept.ensures)
+
+pub returns-then-not-is_siv-clause-not_begun : goal.returns-then-not-is_siv-clause-not_begun
+returns-then-not-is_siv-clause-not_begun c = λ none.
+    absurd (none c.in-Some.suite ((c.in-Some.ensures c.in-Some.suite).0 refl))

@@ -1,0 +1,65 @@
+use Rattle.std.proofs.Common.{◌≡◌, sym, subst, Ok, Err}
+use Rattle.std.proofs.lemmas.Option.{none-some, same_Some}
+use Rattle.aead.specs.declared.suite.Suite.{Suite}
+use Rattle.aead.specs.Pieces.{IsInFirstPass, IsInSecondPass}
+use Rattle.aead.specs.KeyedPieces.{HoldsFirstPass, HoldsSecondPass}
+use Rattle.aead.specs.KeyedPasses.{setting_of, LengthsRefused}
+use Rattle.capi.proofs.opener.aeadkit_opener_resume.Goals as goal
+
+pub returns-in-Ok-clause-first : goal.returns-in-Ok-clause-first
+returns-in-Ok-clause-first c = λ suite is.
+    let same : c.in-Some.suite ≡ suite = same_Some _ _ (c.in-Some.ensures.first suite is) in (
+      Ok tt,
+      (
+        c.outcome_number.ensures,
+        λ aad tag bytes n. record {
+          mark_is = is;
+          opener = subst (λ (x : Suite). IsInFirstPass c.args.saved.now.state
+              (setting_of x c.args.key.now c.args.nonce.now aad) tag bytes
+              → HoldsFirstPass c.in-Ok.resumed (setting_of x c.args.key.now c.args.nonce.now aad) tag bytes) same
+              (c.in-Ok.ensures.first aad tag bytes) n;
+        },
+      ),
+    )
+
+pub returns-in-Err-clause-first : goal.returns-in-Err-clause-first
+returns-in-Err-clause-first c = λ suite is.
+    let same : c.in-Some.suite ≡ suite = same_Some _ _ (c.in-Some.ensures.first suite is) in (
+      Err c.in-Err.fault,
+      (
+        c.outcome_number-in-Err.ensures,
+        subst (λ x. LengthsRefused x c.args.key.now c.args.nonce.now c.in-Err.fault) same c.in-Err.ensures.first,
+      ),
+    )
+
+pub returns-in-Ok-clause-second : goal.returns-in-Ok-clause-second
+returns-in-Ok-clause-second c = λ suite is.
+    let same : c.in-Some.suite ≡ suite = same_Some _ _ (c.in-Some.ensures.second suite is) in (
+      Ok tt,
+      (
+        c.outcome_number.ensures,
+        λ aad tag first bytes n. record {
+          mark_is = is;
+          opener = subst (λ (x : Suite). IsInSecondPass c.args.saved.now.state
+              (setting_of x c.args.key.now c.args.nonce.now aad) tag first bytes
+              → HoldsSecondPass c.in-Ok.resumed (setting_of x c.args.key.now c.args.nonce.now aad) tag first bytes) same
+              (c.in-Ok.ensures.second aad tag first bytes) n;
+        },
+      ),
+    )
+
+pub returns-in-Err-clause-second : goal.returns-in-Err-clause-second
+returns-in-Err-clause-second c = λ suite is.
+    let same : c.in-Some.suite ≡ suite = same_Some _ _ (c.in-Some.ensures.second suite is) in (
+      Err c.in-Err.fault,
+      (
+        c.outcome_number-in-Err.ensures,
+        subst (λ x. LengthsRefused x c.args.key.now c.args.nonce.now c.in-Err.fault) same c.in-Err.ensures.second,
+      ),
+    )
+
+pub returns-in-Ok-clause-not_begun : goal.returns-in-Ok-clause-not_begun
+returns-in-Ok-clause-not_begun c = λ neither nor. absurd (none-some _ (sym (c.in-Some.ensures.none neither nor)))
+
+pub returns-in-Err-clause-not_begun : goal.returns-in-Err-clause-not_begun
+returns-in-Err-clause-not_begun c = λ neither nor. absurd (none-some _ (sym (c.in-Some.ensures.none neither nor)))

@@ -1,0 +1,26 @@
+use Rattle.std.proofs.Common.{◌≡◌, refl, sym}
+use Rattle.std.proofs.lemmas.Option.{none-some, same_Some}
+use Rattle.capi.proofs.Outcomes.{done_as}
+use Rattle.capi.proofs.opener.aeadkit_opener_update.Goals as goal
+
+pub returns-clause-holds : goal.returns-clause-holds
+returns-clause-holds c = λ s tag first bytes h.
+    let same : c.in-Some.suite ≡ s.suite = same_Some _ _ ((c.in-Some.ensures s.suite).1 h.mark_is) in (
+      c.update.result,
+      (
+        c.outcome_number.ensures,
+        done_as c.update.result _ _ _ (λ d. (record { mark_is = h.mark_is; opener = d.0 }, d.1, d.2))
+            (c.update.ensures.answer s tag first bytes (sym same) h.opener),
+      ),
+    )
+
+pub returns-in_default-clause-holds : goal.returns-in_default-clause-holds
+returns-in_default-clause-holds c = λ s tag first bytes h.
+    absurd (none-some s.suite ((c.in_default.ensures s.suite).1 h.mark_is))
+
+pub returns-clause-not_begun : goal.returns-clause-not_begun
+returns-clause-not_begun c = λ none.
+    absurd (none c.in-Some.suite ((c.in-Some.ensures c.in-Some.suite).0 refl))
+
+pub returns-clause-status : goal.returns-clause-status
+returns-clause-status c = λ suite is. (c.update.result, (c.outcome_number.ensures, c.update.ensures.fault))

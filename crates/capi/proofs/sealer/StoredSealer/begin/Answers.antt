@@ -1,0 +1,26 @@
+use Rattle.std.proofs.Common.{◌∙◌, [], sym, ap, subst, Ok, Err, MatchResult}
+use Rattle.aead.specs.KeyedPasses.{BeginRefused}
+use Rattle.aead.specs.KeyedPieces.{HoldsKeyedText}
+use Rattle.capi.specs.Sealers.{sealer_mark}
+use Rattle.capi.proofs.sealer.StoredSealer.begin.Goals as goal
+
+pub returns-in-Ok-clause-begins : goal.returns-in-Ok-clause-begins
+returns-in-Ok-clause-begins c = λ s same h. (
+  Ok tt,
+  (
+    c.outcome_number.ensures,
+    record {
+      mark_is = c.mark_of.ensures ∙ ap sealer_mark (sym same);
+      sealer = subst (λ r. MatchResult r (λ p. HoldsKeyedText p s []) (BeginRefused s)) c.in-Ok.is h;
+    },
+  ),
+)
+
+pub returns-in-Err-clause-begins : goal.returns-in-Err-clause-begins
+returns-in-Err-clause-begins c = λ s same h. (
+  Err c.in-Err.fault,
+  (
+    c.outcome_number-in-Err.ensures,
+    subst (λ r. MatchResult r (λ p. HoldsKeyedText p s []) (BeginRefused s)) c.in-Err.is h,
+  ),
+)

@@ -1,0 +1,65 @@
+use Rattle.std.proofs.Common.{◌≡◌, sym, subst, Ok, Err}
+use Rattle.std.proofs.lemmas.Option.{none-some, same_Some}
+use Rattle.aead.specs.declared.suite.Suite.{Suite}
+use Rattle.aead.specs.Pieces.{IsInFirstReading, IsInSecondReading}
+use Rattle.aead.specs.KeyedPieces.{HoldsFirstReading, HoldsSecondReading}
+use Rattle.aead.specs.KeyedPasses.{setting_of, LengthsRefused}
+use Rattle.capi.proofs.siv.aeadkit_siv_resume.Goals as goal
+
+pub returns-in-Ok-clause-first : goal.returns-in-Ok-clause-first
+returns-in-Ok-clause-first c = λ suite by is.
+    let same : c.in-Some.suite ≡ suite = same_Some _ _ (c.in-Some.ensures.first suite by is) in (
+      Ok tt,
+      (
+        c.outcome_number.ensures,
+        λ aad text n. record {
+          mark_is = is;
+          siv = subst (λ (x : Suite). IsInFirstReading c.args.saved.now.state
+              (setting_of x c.args.key.now c.args.nonce.now aad) text
+              → HoldsFirstReading c.in-Ok.resumed (setting_of x c.args.key.now c.args.nonce.now aad) text) same
+              (c.in-Ok.ensures.first aad text) n;
+        },
+      ),
+    )
+
+pub returns-in-Err-clause-first : goal.returns-in-Err-clause-first
+returns-in-Err-clause-first c = λ suite by is.
+    let same : c.in-Some.suite ≡ suite = same_Some _ _ (c.in-Some.ensures.first suite by is) in (
+      Err c.in-Err.fault,
+      (
+        c.outcome_number-in-Err.ensures,
+        subst (λ x. LengthsRefused x c.args.key.now c.args.nonce.now c.in-Err.fault) same c.in-Err.ensures.first,
+      ),
+    )
+
+pub returns-in-Ok-clause-second : goal.returns-in-Ok-clause-second
+returns-in-Ok-clause-second c = λ suite by is.
+    let same : c.in-Some.suite ≡ suite = same_Some _ _ (c.in-Some.ensures.second suite by is) in (
+      Ok tt,
+      (
+        c.outcome_number.ensures,
+        λ aad first text n. record {
+          mark_is = is;
+          siv = subst (λ (x : Suite). IsInSecondReading c.args.saved.now.state
+              (setting_of x c.args.key.now c.args.nonce.now aad) first text
+              → HoldsSecondReading c.in-Ok.resumed (setting_of x c.args.key.now c.args.nonce.now aad) first text) same
+              (c.in-Ok.ensures.second aad first text) n;
+        },
+      ),
+    )
+
+pub returns-in-Err-clause-second : goal.returns-in-Err-clause-second
+returns-in-Err-clause-second c = λ suite by is.
+    let same : c.in-Some.suite ≡ suite = same_Some _ _ (c.in-Some.ensures.second suite by is) in (
+      Err c.in-Err.fault,
+      (
+        c.outcome_number-in-Err.ensures,
+        subst (λ x. LengthsRefused x c.args.key.now c.args.nonce.now c.in-Err.fault) same c.in-Err.ensures.second,
+      ),
+    )
+
+pub returns-in-Ok-clause-not_begun : goal.returns-in-Ok-clause-not_begun
+returns-in-Ok-clause-not_begun c = λ neither nor. absurd (none-some _ (sym (c.in-Some.ensures.none neither nor)))
+
+pub returns-in-Err-clause-not_begun : goal.returns-in-Err-clause-not_begun
+returns-in-Err-clause-not_begun c = λ neither nor. absurd (none-some _ (sym (c.in-Some.ensures.none neither nor)))

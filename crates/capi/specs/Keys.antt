@@ -1,0 +1,19 @@
+-- Keys that are kept in C's memory: the mark and the bytes.
+use Rattle.std.specs.Prelude.{◌≡◌, ◌≢◌, ℕ, ◌+◌, List, length, take}
+use Rattle.octets.specs.declared.fault.Fault.{Fault}
+use Rattle.octets.specs.declared.fault.Fault.TheVariants.{KeyLength}
+use Rattle.aead.specs.declared.suite.Suite.{Suite}
+use Rattle.aead.specs.Suites.{key_length}
+use Rattle.capi.specs.Suites.{suite_number}
+
+-- the mark of a kept key: `cipher` in ASCII, the version of the layout, and the suite's number
+abbrev pub key_mark : Suite → ℕ
+key_mark suite = 0x6369706865720200 + suite_number suite
+
+-- the key of a suite that the bytes begin with
+abbrev pub first_key : Suite → List ℕ → List ℕ
+first_key suite bytes = take (key_length suite) bytes
+
+-- why no key is kept
+abbrev pub KeyRefused : Suite → List ℕ → Fault → Type 0
+KeyRefused suite key fault = (fault ≡ KeyLength) × (length key ≢ key_length suite)

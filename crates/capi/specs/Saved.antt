@@ -1,0 +1,26 @@
+-- Sealings and openings in pieces that are saved and gone on from.
+use Rattle.std.specs.Prelude.{◌≡◌, ◌≢◌, ℕ, ◌+◌, true, List}
+use Rattle.octets.specs.Numbers.{HasOutcome}
+use Rattle.aead.specs.declared.suite.Suite.{Suite}
+use Rattle.aead.specs.Suites.{ByGcmSiv, construction_of, is_one_pass}
+use Rattle.aead.specs.Sealing.{Setting}
+use Rattle.aead.specs.KeyedPasses.{setting_of, LengthsRefused}
+use Rattle.capi.specs.Suites.{suite_number}
+use Rattle.capi.specs.Sealers.{sealer_mark}
+
+-- the mark is that of no suite, in this kind of struct
+abbrev pub NotMarked : (kind mark : ℕ) → Type 0
+NotMarked kind mark = (suite : Suite) → mark ≢ kind + suite_number suite
+
+-- the mark is that of no suite of one reading, in a sealing in pieces
+abbrev pub NotOfSealer : (mark : ℕ) → Type 0
+NotOfSealer mark = (suite : Suite) → is_one_pass (construction_of suite) ≡ true → mark ≢ sealer_mark suite
+
+-- the mark is that of no suite of AES-GCM-SIV, in this kind of struct
+abbrev pub NotOfSiv : (kind mark : ℕ) → Type 0
+NotOfSiv kind mark = (suite : Suite) → construction_of suite ≡ ByGcmSiv → mark ≢ kind + suite_number suite
+
+-- under the bytes of a key and of a nonce, what is saved under any associated data is gone on from; or a length is wrong
+abbrev pub Resumes : (status : ℕ) → Suite → (key nonce : List ℕ) → (Setting → Type 0) → Type 0
+Resumes status suite key nonce GoesOn =
+    HasOutcome status ((aad : List ℕ) → GoesOn (setting_of suite key nonce aad)) (LengthsRefused suite key nonce)

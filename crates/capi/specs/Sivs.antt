@@ -1,0 +1,68 @@
+-- Sealings in pieces by two readings in C's memory.
+use Rattle.std.specs.Prelude.{◌≡◌, ◌≢◌, ◌<◌, ℕ, ◌+◌, List, [], ◌++◌, length}
+use Rattle.octets.specs.Masked.{masked}
+use Rattle.octets.specs.Numbers.{HasOutcome}
+use Rattle.octets.specs.declared.fault.Fault.TheVariants.{SourceChanged}
+use Rattle.aead.specs.declared.suite.Suite.{Suite}
+use Rattle.aead.specs.Suites.{ByGcmSiv, construction_of}
+use Rattle.aead.specs.Sealing.{Setting, mask_of, tag_of}
+use Rattle.aead.specs.Refusals.{SealRefused}
+use Rattle.aead.specs.Pieces.{Repeats}
+use Rattle.aead.specs.KeyedPieces.{HoldsFirstReading, HoldsSecondReading, zero_siv}
+use Rattle.capi.specs.declared.siv.StoredSiv.{StoredSiv}
+use Rattle.capi.specs.Suites.{suite_number}
+
+-- the kind of struct in the first reading, to which its mark adds the suite's number: `sivone` in ASCII, and the
+-- version of the layout
+abbrev pub absorbing : ℕ
+absorbing = 0x7369766f6e650200
+
+-- and in the second reading: `sivtwo`
+abbrev pub writing : ℕ
+writing = 0x73697674776f0200
+
+-- the mark is that of no suite of AES-GCM-SIV, in this reading
+abbrev pub NotIn : ℕ → StoredSiv → Type 0
+NotIn kind p = (suite : Suite) → construction_of suite ≡ ByGcmSiv → p.mark ≢ kind + suite_number suite
+
+-- the struct of zeros
+abbrev pub zeros : StoredSiv
+zeros = record { mark = 0; siv = zero_siv }
+
+-- p is in the first reading, and has taken in this text
+pub record HoldsAbsorbing (p : StoredSiv) (s : Setting) (text : List ℕ) : Type 0 where
+  pub mark_is : p.mark ≡ absorbing + suite_number s.suite
+  pub siv : HoldsFirstReading p.siv s text
+
+-- p is in the second reading, after a first one of another text, and has taken in this one, which is no longer
+pub record HoldsWriting (p : StoredSiv) (s : Setting) (first text : List ℕ) : Type 0 where
+  pub mark_is : p.mark ≡ writing + suite_number s.suite
+  pub siv : HoldsSecondReading p.siv s first text
+
+-- ---- the outcomes of the calls
+
+-- p becomes q: a piece is taken in, or the text would be too long
+abbrev pub Absorbs : (p q : StoredSiv) (piece : List ℕ) (status : ℕ) → Setting → (text : List ℕ) → Type 0
+Absorbs p q piece status s text =
+    HoldsAbsorbing p s text → HasOutcome status (HoldsAbsorbing q s (text ++ piece))
+    (λ e. SealRefused s (text ++ piece) e)
+
+-- p becomes q: the tag of the first text is given, and the second reading begins
+abbrev pub BeginsSecond : (p q : StoredSiv) (tag : List ℕ) (status : ℕ) → Setting → (text : List ℕ) → Type 0
+BeginsSecond p q tag status s text =
+    HoldsAbsorbing p s text → (status ≡ 0) × (tag ≡ tag_of s text) × HoldsWriting q s text []
+
+-- p becomes q, and was becomes now: a piece is taken in and encrypted, or the second text would be longer than
+-- the first
+abbrev pub Encrypts : (p q : StoredSiv) (was now : List ℕ) (status : ℕ) → Setting → (first text : List ℕ)
+    → Type 0
+Encrypts p q was now status s first text =
+    HoldsWriting p s first text → HasOutcome status
+    (HoldsWriting q s first (text ++ was) × (now ≡ masked (mask_of s (tag_of s first)) (length text) was))
+    (λ e. (e ≡ SourceChanged) × (length first < length (text ++ was)))
+
+-- the second text has the length and the tag of the first, or not
+abbrev pub Ends : (p : StoredSiv) (status : ℕ) → Setting → (first text : List ℕ) → Type 0
+Ends p status s first text =
+    HoldsWriting p s first text → HasOutcome status (Repeats s first text)
+    (λ e. (e ≡ SourceChanged) × ¬ (Repeats s first text))

@@ -1,0 +1,387 @@
+//! The calls for C on a key that is kept between messages: what is made of the key alone is made once.
+
+ghost use Rattle.std.specs.Prelude.{◌≡◌, ◌≢◌, ℕ, List, [], true, false, MatchResult};
+ghost use Rattle.octets.specs.Numbers.{HasOutcome};
+ghost use Rattle.aead.specs.declared.suite.Suite.{Suite};
+ghost use Rattle.aead.specs.Suites.{ByGcmSiv, construction_of, is_one_pass};
+ghost use Rattle.aead.specs.KeyedPasses.{setting_of, BeginRefused};
+ghost use Rattle.aead.specs.KeyedPieces.{HoldsKeyedText, HoldsFirstReading, HoldsFirstPass};
+ghost use Rattle.capi.specs.Suites.{suite_number, unknown_suite, not_begun};
+ghost use Rattle.capi.specs.Whole.{WasSealed, WasNotSealed, WasOpened, WasNotOpened, SealsTo, OpensTo};
+ghost use Rattle.capi.specs.Keys.{key_mark, first_key, KeyRefused};
+ghost use Rattle.capi.specs.Sealers.{zeros, HoldsText};
+ghost use Rattle.capi.specs.Openers.{zeros as zero_opener, HoldsChecking};
+ghost use Rattle.capi.specs.Sivs.{zeros as zero_siv, HoldsAbsorbing};
+ghost use Rattle.capi.specs.StoredKeys.{AreOfKey, KeepsKey, KeepsNone, IsCleared};
+
+use crate::opener::StoredOpener;
+use crate::sealer::StoredSealer;
+use crate::siv::StoredSiv;
+use crate::stored_key::{KEY, KeyNumbers, StoredKey};
+use crate::suites::{NOT_BEGUN, UNKNOWN_SUITE, is_siv, marked, suite_numbered};
+use crate::whole::{Direction, Keys, Opening, Sealing, open_to, run_gcm, seal_to};
+use aead::{BorrowedGcm, ChaChaPoly, GcmSiv, KeyedOpener, KeyedSealer, KeyedSiv, Suite};
+use octets::{Fault, Key32, WIDE, outcome_number};
+
+// Whether the multiples that are kept hash a message sooner than others made for it. Made ones start at multiples of 16
+// bytes in memory, so that a sum takes one from there without a load before it; wide vectors spare that load anywhere.
+fn is_short(aad: &[u8], text: &[u8]) -> bool {
+    WIDE || aad.len() < 64 && text.len() < 96
+}
+
+// Seals or opens under a kept key and the bytes of a nonce.
+fn run_by_kept<D: Direction>(
+    kept: &StoredKey,
+    suite: Suite,
+    nonce: &[u8],
+    aad: &[u8],
+    text: &mut [u8],
+    tag: &mut [u8; 16],
+) -> Result<(), Fault>
+    requires { kept.now.numbers.mark ≡ key_mark suite }
+    ensures { let s = setting_of suite (first_key suite kept.now.numbers.key) nonce.now aad.now in
+        MatchResult result (λ _. D.done s text.old tag.old text.new tag.new)
+        (D.refused s text.old tag.old text.new tag.new) }
+{
+    match suite {
+        Suite::ChaCha20Poly1305 => {
+            let cipher = ChaChaPoly::new(&Key32::new(kept.numbers.key));
+            D::run(&cipher, nonce, aad, text, tag)
+        }
+        Suite::Aes128Gcm | Suite::Aes192Gcm | Suite::Aes256Gcm => {
+            let key = kept.aes(suite);
+            let ghash_key = kept.ghash_key(suite);
+            if is_short(aad, text) {
+                let multiplier = kept.multiplier(suite);
+                let cipher = BorrowedGcm::new(suite, &key, &ghash_key, multiplier);
+                D::run(&cipher, nonce, aad, text, tag)
+            } else {
+                run_gcm::<D>(suite, &key, &ghash_key, nonce, aad, text, tag)
+            }
+        }
+        Suite::Aes128GcmSiv | Suite::Aes256GcmSiv => {
+            let cipher = GcmSiv::new(suite, kept.aes(suite));
+            D::run(&cipher, nonce, aad, text, tag)
+        }
+    }
+}
+
+// A key that is kept, of this suite.
+#[derive(Drop)]
+struct ByKept<'a> {
+    suite: Suite,
+    kept: &'a StoredKey,
+    ghost marked: { kept.now.numbers.mark ≡ key_mark suite },
+}
+
+impl<'a> Keys for ByKept<'a> {
+    ghost keyed = { λ k. record { suite = k.suite; key = first_key k.suite k.kept.now.numbers.key } };
+
+    fn suite(&self) -> Suite {
+        self.suite
+    }
+
+    // A kept key has its suite's length, so the compiler leaves out the comparison, by which the proof sees it.
+    fn check_key(&self) -> Result<(), Fault> {
+        if self.kept.key(self.suite).len() != self.suite.key_length() {
+            return Err(Fault::KeyLength);
+        }
+        Ok(())
+    }
+
+    fn run<D: Direction>(
+        &self,
+        nonce: &[u8],
+        aad: &[u8],
+        text: &mut [u8],
+        tag: &mut [u8; 16],
+    ) -> Result<(), Fault> {
+        run_by_kept::<D>(self.kept, self.suite, nonce, aad, text, tag)
+    }
+}
+
+// The sealing that holds the empty text, under a kept key and the bytes of a nonce.
+fn sealer_by_kept(
+    kept: &StoredKey,
+    suite: Suite,
+    nonce: &[u8],
+    aad: &[u8],
+) -> Result<KeyedSealer, Fault>
+    requires marked { kept.now.numbers.mark ≡ key_mark suite }
+    requires one_pass { is_one_pass (construction_of suite) ≡ true }
+    ensures { let s = setting_of suite (first_key suite kept.now.numbers.key) nonce.now aad.now in
+        MatchResult result (λ p. HoldsKeyedText p s []) (BeginRefused s) }
+{
+    let key = &kept.numbers.key[..suite.key_length()];
+    KeyedSealer::begin_by(
+        suite,
+        key,
+        &kept.aes(suite),
+        &kept.ghash_key(suite),
+        nonce,
+        aad,
+    )
+}
+
+// The opening in its first pass that has taken in nothing yet, under a kept key, the bytes of a nonce and a tag.
+fn opener_by_kept(
+    kept: &StoredKey,
+    suite: Suite,
+    nonce: &[u8],
+    aad: &[u8],
+    tag: &[u8; 16],
+) -> Result<KeyedOpener, Fault>
+    requires { kept.now.numbers.mark ≡ key_mark suite }
+    ensures { let s = setting_of suite (first_key suite kept.now.numbers.key) nonce.now aad.now in
+        MatchResult result (λ p. HoldsFirstPass p s tag.now []) (BeginRefused s) }
+{
+    let key = &kept.numbers.key[..suite.key_length()];
+    KeyedOpener::begin_by(
+        suite,
+        key,
+        &kept.aes(suite),
+        &kept.ghash_key(suite),
+        nonce,
+        aad,
+        tag,
+    )
+}
+
+// The sealing in its first reading that holds the empty text, under a kept key and the bytes of a nonce.
+fn siv_by_kept(kept: &StoredKey, suite: Suite, nonce: &[u8], aad: &[u8]) -> Result<KeyedSiv, Fault>
+    requires marked { kept.now.numbers.mark ≡ key_mark suite }
+    requires by { construction_of suite ≡ ByGcmSiv }
+    ensures { let s = setting_of suite (first_key suite kept.now.numbers.key) nonce.now aad.now in
+        MatchResult result (λ p. HoldsFirstReading p s []) (BeginRefused s) }
+{
+    let key = &kept.numbers.key[..suite.key_length()];
+    KeyedSiv::begin_by(
+        suite,
+        key,
+        &kept.aes(suite),
+        &kept.ghash_key(suite),
+        nonce,
+        aad,
+    )
+}
+
+/// Leaves zeros in the struct, whatever it was: it keeps no key then, and nothing that was made of one.
+#[unsafe(no_mangle)]
+pub extern "C" fn aeadkit_key_wipe(kept: &mut KeyNumbers)
+    ensures none { KeepsNone kept.new }
+    ensures cleared { IsCleared kept.new }
+{
+    *kept = KeyNumbers::zeros();
+}
+
+/// Keeps a key of a suite. What the struct was before makes no difference. `UNKNOWN_SUITE`, then `KeyLength`:
+/// both leave zeros in the struct, which keeps no key.
+#[unsafe(no_mangle)]
+pub extern "C" fn aeadkit_key_init(kept: &mut KeyNumbers, suite: u32, key: &[u8]) -> u32
+    ensures known { (named : Suite) → suite ≡ suite_number named
+        → HasOutcome result (AreOfKey kept.new named key.now) (KeyRefused named key.now) }
+    ensures unknown { ((named : Suite) → suite ≢ suite_number named) → result ≡ unknown_suite }
+    ensures refused { result ≢ 0 → KeepsNone kept.new }
+    ensures cleared { result ≢ 0 → IsCleared kept.new }
+{
+    aeadkit_key_wipe(kept);
+    let Some(suite) = suite_numbered(u64::from(suite)) else {
+        return UNKNOWN_SUITE;
+    };
+    if key.len() != suite.key_length() {
+        return outcome_number(Err(Fault::KeyLength));
+    }
+    *kept = StoredKey::new(suite, key).numbers;
+    outcome_number(Ok(()))
+}
+
+/// Seals in place under a kept key, as `aeadkit_seal_in_place` does under its bytes. `NOT_BEGUN` if the struct keeps no
+/// key.
+///
+/// The nonce must never be used twice under one key. Under ChaCha20-Poly1305 and AES-GCM a repeat gives away the XOR of
+/// the two texts, and enough to forge messages; under AES-GCM-SIV it gives away only whether the texts and the
+/// associated data were the same.
+#[unsafe(no_mangle)]
+pub extern "C" fn aeadkit_seal_in_place_with(
+    kept: &StoredKey,
+    nonce: &[u8],
+    aad: &[u8],
+    text: &mut [u8],
+    tag: &mut [u8; 16],
+) -> u32
+    ensures keeps { (suite : Suite) (key : List ℕ) → KeepsKey kept.now suite key → let s =
+        setting_of suite key nonce.now aad.now in
+        HasOutcome result (WasSealed s text.old text.new tag.new)
+        (WasNotSealed s text.old tag.old text.new tag.new) }
+    ensures not_begun { KeepsNone kept.now.numbers
+        → (result ≡ not_begun) × (text.new ≡ text.old) × (tag.new ≡ tag.old) }
+{
+    match marked(KEY, kept.numbers.mark) {
+        Some(suite) => {
+            outcome_number(ByKept { suite, kept }.run::<Sealing>(nonce, aad, text, tag))
+        }
+        None => NOT_BEGUN,
+    }
+}
+
+/// Opens in place under a kept key, as `aeadkit_open_in_place` does under its bytes. `NOT_BEGUN` if the struct keeps no
+/// key.
+#[unsafe(no_mangle)]
+pub extern "C" fn aeadkit_open_in_place_with(
+    kept: &StoredKey,
+    nonce: &[u8],
+    aad: &[u8],
+    text: &mut [u8],
+    tag: &[u8; 16],
+) -> u32
+    ensures keeps { (suite : Suite) (key : List ℕ) → KeepsKey kept.now suite key → let s =
+        setting_of suite key nonce.now aad.now in
+        HasOutcome result (WasOpened s text.old tag.now text.new)
+        (WasNotOpened s text.old tag.now text.new) }
+    ensures not_begun { KeepsNone kept.now.numbers → (result ≡ not_begun) × (text.new ≡ text.old) }
+{
+    match marked(KEY, kept.numbers.mark) {
+        Some(suite) => {
+            let mut given = *tag;
+            outcome_number(ByKept { suite, kept }.run::<Opening>(nonce, aad, text, &mut given))
+        }
+        None => NOT_BEGUN,
+    }
+}
+
+/// Seals a text into another output under a kept key, as `aeadkit_seal` does under its bytes. `NOT_BEGUN` if the struct keeps
+/// no key.
+///
+/// The nonce must never be used twice under one key. Under ChaCha20-Poly1305 and AES-GCM a repeat gives away the XOR of
+/// the two texts, and enough to forge messages; under AES-GCM-SIV it gives away only whether the texts and the
+/// associated data were the same.
+#[unsafe(no_mangle)]
+pub extern "C" fn aeadkit_seal_with(
+    kept: &StoredKey,
+    nonce: &[u8],
+    aad: &[u8],
+    text: &[u8],
+    sealed: &mut [u8],
+) -> u32
+    ensures keeps { (suite : Suite) (key : List ℕ) → KeepsKey kept.now suite key
+        → SealsTo result (setting_of suite key nonce.now aad.now) text.now sealed.old sealed.new }
+    ensures not_begun { KeepsNone kept.now.numbers → (result ≡ not_begun) × (sealed.new ≡ sealed.old) }
+{
+    match marked(KEY, kept.numbers.mark) {
+        Some(suite) => seal_to(&ByKept { suite, kept }, nonce, aad, text, sealed),
+        None => NOT_BEGUN,
+    }
+}
+
+/// Opens a sealing into another output under a kept key, as `aeadkit_open` does under its bytes. `NOT_BEGUN` if the struct
+/// keeps no key.
+#[unsafe(no_mangle)]
+pub extern "C" fn aeadkit_open_with(
+    kept: &StoredKey,
+    nonce: &[u8],
+    aad: &[u8],
+    sealed: &[u8],
+    text: &mut [u8],
+) -> u32
+    ensures keeps { (suite : Suite) (key : List ℕ) → KeepsKey kept.now suite key
+        → OpensTo result (setting_of suite key nonce.now aad.now) sealed.now text.old text.new }
+    ensures not_begun { KeepsNone kept.now.numbers → (result ≡ not_begun) × (text.new ≡ text.old) }
+{
+    match marked(KEY, kept.numbers.mark) {
+        Some(suite) => open_to(&ByKept { suite, kept }, nonce, aad, sealed, text),
+        None => NOT_BEGUN,
+    }
+}
+
+/// Begins a sealing in pieces under a kept key, as `aeadkit_sealer_init` does under its bytes. `NOT_BEGUN` if the
+/// struct keeps no key, then `UNKNOWN_SUITE` if its suite reads a text twice. What the sealer was before makes no
+/// difference. On error zeros are left in it.
+///
+/// The nonce must never be used twice under one key: a repeat gives away the XOR of the two texts, and enough to
+/// forge messages.
+#[unsafe(no_mangle)]
+pub extern "C" fn aeadkit_sealer_init_with(
+    sealer: &mut StoredSealer,
+    kept: &StoredKey,
+    nonce: &[u8],
+    aad: &[u8],
+) -> u32
+    ensures keeps { (suite : Suite) (key : List ℕ) → KeepsKey kept.now suite key
+        → is_one_pass (construction_of suite) ≡ true → let s = setting_of suite key nonce.now aad.now in
+        HasOutcome result (HoldsText sealer.new s []) (BeginRefused s) }
+    ensures two_readings { (suite : Suite) (key : List ℕ) → KeepsKey kept.now suite key
+        → is_one_pass (construction_of suite) ≡ false → result ≡ unknown_suite }
+    ensures not_begun { KeepsNone kept.now.numbers → result ≡ not_begun }
+    ensures refused { result ≢ 0 → sealer.new ≡ zeros }
+{
+    *sealer = StoredSealer::zeros();
+    let Some(suite) = marked(KEY, kept.numbers.mark) else {
+        return NOT_BEGUN;
+    };
+    if is_siv(suite) {
+        return UNKNOWN_SUITE;
+    }
+    sealer.begin(suite, sealer_by_kept(kept, suite, nonce, aad))
+}
+
+/// Begins an opening in pieces under a kept key, as `aeadkit_opener_init` does under its bytes. `NOT_BEGUN` if the
+/// struct keeps no key. What the opener was before makes no difference. On error zeros are left in it.
+#[unsafe(no_mangle)]
+pub extern "C" fn aeadkit_opener_init_with(
+    opener: &mut StoredOpener,
+    kept: &StoredKey,
+    nonce: &[u8],
+    aad: &[u8],
+    tag: &[u8; 16],
+) -> u32
+    ensures keeps { (suite : Suite) (key : List ℕ) → KeepsKey kept.now suite key → let s =
+        setting_of suite key nonce.now aad.now in
+        HasOutcome result (HoldsChecking opener.new s tag.now []) (BeginRefused s) }
+    ensures not_begun { KeepsNone kept.now.numbers → result ≡ not_begun }
+    ensures refused { result ≢ 0 → opener.new ≡ zero_opener }
+{
+    *opener = StoredOpener::zeros();
+    let Some(suite) = marked(KEY, kept.numbers.mark) else {
+        return NOT_BEGUN;
+    };
+    opener.begin(suite, opener_by_kept(kept, suite, nonce, aad, tag))
+}
+
+/// Begins a sealing by two readings under a kept key, as `aeadkit_siv_init` does under its bytes. `NOT_BEGUN` if the
+/// struct keeps no key, then `UNKNOWN_SUITE` if its suite reads a text once. What the struct of the sealing was before
+/// makes no difference. On error zeros are left in it.
+///
+/// The nonce must never be used twice under one key: a repeat gives away whether the texts and the associated data
+/// were the same, and nothing else.
+#[unsafe(no_mangle)]
+pub extern "C" fn aeadkit_siv_init_with(
+    siv: &mut StoredSiv,
+    kept: &StoredKey,
+    nonce: &[u8],
+    aad: &[u8],
+) -> u32
+    ensures keeps { (suite : Suite) (key : List ℕ) → KeepsKey kept.now suite key
+        → construction_of suite ≡ ByGcmSiv → let s = setting_of suite key nonce.now aad.now in
+        HasOutcome result (HoldsAbsorbing siv.new s []) (BeginRefused s) }
+    ensures one_reading { (suite : Suite) (key : List ℕ) → KeepsKey kept.now suite key
+        → is_one_pass (construction_of suite) ≡ true → result ≡ unknown_suite }
+    ensures not_begun { KeepsNone kept.now.numbers → result ≡ not_begun }
+    ensures refused { result ≢ 0 → siv.new ≡ zero_siv }
+{
+    *siv = StoredSiv::zeros();
+    let Some(suite) = marked(KEY, kept.numbers.mark) else {
+        return NOT_BEGUN;
+    };
+    if !is_siv(suite) {
+        return UNKNOWN_SUITE;
+    }
+    siv.begin(suite, siv_by_kept(kept, suite, nonce, aad))
+}
+
+/// The bytes of a struct that keeps a key.
+#[unsafe(no_mangle)]
+pub extern "C" fn aeadkit_key_size() -> usize
+    ensures { result ≡ 808 }
+{
+    size_of::<StoredKey>()
+}

@@ -1,0 +1,198 @@
+//! The calls for C that seal a text in pieces, under the suites whose tag is over the ciphertext.
+
+ghost use Rattle.std.specs.Prelude.{◌≡◌, ◌≢◌, ℕ, List, [], length, true, MatchResult};
+ghost use Rattle.octets.specs.Numbers.{HasOutcome};
+ghost use Rattle.aead.specs.declared.suite.Suite.{Suite};
+ghost use Rattle.aead.specs.Suites.{construction_of, is_one_pass, text_limit};
+ghost use Rattle.aead.specs.Sealing.{Setting, tag_of};
+ghost use Rattle.aead.specs.PassStates.{HoldsState};
+ghost use Rattle.aead.specs.KeyedPasses.{setting_of, BeginRefused};
+ghost use Rattle.aead.specs.KeyedPieces.{HoldsKeyedText, sealer_count};
+ghost use Rattle.capi.specs.Suites.{suite_number, unknown_suite, not_begun, FitsOr};
+ghost use Rattle.capi.specs.Sealers.{sealer_mark, NotBegun, zeros, HoldsText, Updates};
+ghost use Rattle.capi.specs.Saved.{NotOfSealer, Resumes};
+
+use crate::saved::SavedSealer;
+use crate::suites::{NOT_BEGUN, UNKNOWN_SUITE, mark_of, one_pass_marked, one_pass_numbered};
+use aead::{KeyedSealer, Suite};
+use octets::{Fault, outcome_number};
+
+// The kind of struct, to which its mark adds the suite's number: `sealer` in ASCII, and the version of its layout.
+const SEALER: u64 = 0x7365_616c_6572_0200;
+
+/// A sealing in pieces. Each number may have any value.
+#[repr(C)]
+#[derive(Clone, Copy)]
+pub struct StoredSealer {
+    // The kind of struct, the version of its layout and the suite; anything else if no sealing is begun.
+    mark: u64,
+    sealer: KeyedSealer,
+}
+
+impl StoredSealer {
+    // All zeros: it holds no sealing.
+    pub(crate) fn zeros() -> StoredSealer
+        ensures { result ≡ zeros }
+    {
+        StoredSealer {
+            mark: 0,
+            sealer: KeyedSealer::zeros(),
+        }
+    }
+
+    // Becomes what was begun, or stays zeros if that was refused. Returns the status.
+    #[inline(always)]
+    pub(crate) fn begin(&mut self, suite: Suite, begun: Result<KeyedSealer, Fault>) -> u32
+        requires { self.old ≡ zeros }
+        ensures begins { (s : Setting) → s.suite ≡ suite
+            → MatchResult begun (λ p. HoldsKeyedText p s []) (BeginRefused s)
+            → HasOutcome result (HoldsText self.new s []) (BeginRefused s) }
+        ensures refused { result ≢ 0 → self.new ≡ zeros }
+    {
+        match begun {
+            Ok(sealer) => {
+                *self = StoredSealer {
+                    mark: mark_of(SEALER, suite),
+                    sealer,
+                };
+                outcome_number(Ok(()))
+            }
+            Err(fault) => outcome_number(Err(fault)),
+        }
+    }
+}
+
+/// Begins a sealing in pieces, of the empty text. What the struct was before makes no difference. On error zeros are left
+/// in it.
+///
+/// The nonce must never be used twice under one key: a repeat gives away the XOR of the two texts, and enough to
+/// forge messages.
+#[unsafe(no_mangle)]
+pub extern "C" fn aeadkit_sealer_init(
+    sealer: &mut StoredSealer,
+    suite: u32,
+    key: &[u8],
+    nonce: &[u8],
+    aad: &[u8],
+) -> u32
+    ensures known { (named : Suite) → is_one_pass (construction_of named) ≡ true
+        → suite ≡ suite_number named → let s = setting_of named key.now nonce.now aad.now in
+        HasOutcome result (HoldsText sealer.new s []) (BeginRefused s) }
+    ensures unknown { ((named : Suite) → is_one_pass (construction_of named) ≡ true
+        → suite ≢ suite_number named) → result ≡ unknown_suite }
+    ensures refused { result ≢ 0 → sealer.new ≡ zeros }
+{
+    *sealer = StoredSealer::zeros();
+    let Some(suite) = one_pass_numbered(u64::from(suite)) else {
+        return UNKNOWN_SUITE;
+    };
+    sealer.begin(suite, KeyedSealer::begin(suite, key, nonce, aad))
+}
+
+/// Adds a piece to the text, and leaves its ciphertext in its place. `TextTooLong` if the text would be past the suite's
+/// limit: struct and piece are then as before.
+#[unsafe(no_mangle)]
+pub extern "C" fn aeadkit_sealer_update(sealer: &mut StoredSealer, piece: &mut [u8]) -> u32
+    ensures holds { (s : Setting) (text : List ℕ)
+        → Updates sealer.old sealer.new piece.old piece.new result s text }
+    ensures not_begun { NotBegun sealer.old → result ≡ not_begun }
+    ensures kept { result ≢ 0 → (sealer.new ≡ sealer.old) × (piece.new ≡ piece.old) }
+    ensures status { (suite : Suite) → is_one_pass (construction_of suite) ≡ true
+        → sealer.old.mark ≡ sealer_mark suite
+        → FitsOr Fault.TextTooLong result (sealer_count sealer.old.sealer) (length piece.old)
+        (text_limit suite) }
+{
+    let Some(suite) = one_pass_marked(SEALER, sealer.mark) else {
+        return NOT_BEGUN;
+    };
+    outcome_number(sealer.sealer.update(suite, piece))
+}
+
+/// Gives the tag of the text, and leaves zeros in the struct.
+#[unsafe(no_mangle)]
+pub extern "C" fn aeadkit_sealer_finish(sealer: &mut StoredSealer, tag: &mut [u8; 16]) -> u32
+    ensures holds { (s : Setting) (text : List ℕ) → HoldsText sealer.old s text
+        → (result ≡ 0) × (tag.new ≡ tag_of s text) }
+    ensures not_begun { NotBegun sealer.old → result ≡ not_begun }
+    ensures done { result ≡ 0 → sealer.new ≡ zeros }
+    ensures kept { result ≢ 0 → (sealer.new ≡ sealer.old) × (tag.new ≡ tag.old) }
+    ensures status { (suite : Suite) → is_one_pass (construction_of suite) ≡ true
+        → sealer.old.mark ≡ sealer_mark suite → result ≡ 0 }
+{
+    let Some(suite) = one_pass_marked(SEALER, sealer.mark) else {
+        return NOT_BEGUN;
+    };
+    *tag = *sealer.sealer.tag(suite).bytes();
+    *sealer = StoredSealer::zeros();
+    0
+}
+
+/// Saves what the sealing holds, without its key and nonce, to go on from it later. The sealing itself stays as it is.
+///
+/// Only one of the two may go on, and only once: two texts that begin alike would be sealed under one nonce.
+#[unsafe(no_mangle)]
+pub extern "C" fn aeadkit_sealer_save(sealer: &StoredSealer, saved: &mut SavedSealer) -> u32
+    ensures holds { (s : Setting) (text : List ℕ) → HoldsText sealer.now s text
+        → (result ≡ 0) × (saved.new.mark ≡ sealer.now.mark) × HoldsState saved.new.state s text }
+    ensures not_begun { NotBegun sealer.now → result ≡ not_begun }
+    ensures kept { result ≢ 0 → saved.new ≡ saved.old }
+    ensures status { (suite : Suite) → is_one_pass (construction_of suite) ≡ true
+        → sealer.now.mark ≡ sealer_mark suite → result ≡ 0 }
+{
+    let Some(suite) = one_pass_marked(SEALER, sealer.mark) else {
+        return NOT_BEGUN;
+    };
+    *saved = SavedSealer {
+        mark: mark_of(SEALER, suite),
+        state: sealer.sealer.state(),
+    };
+    outcome_number(Ok(()))
+}
+
+/// Goes on from what was saved, under the key and the nonce of the sealing. `NOT_BEGUN` if no sealing in pieces was saved,
+/// then `KeyLength`, then `NonceLength`. What the struct was before makes no difference. On error zeros are left in it.
+#[unsafe(no_mangle)]
+pub extern "C" fn aeadkit_sealer_resume(
+    sealer: &mut StoredSealer,
+    key: &[u8],
+    nonce: &[u8],
+    saved: &SavedSealer,
+) -> u32
+    ensures known { (suite : Suite) → is_one_pass (construction_of suite) ≡ true → saved.now.mark ≡ sealer_mark suite
+        → Resumes result suite key.now nonce.now (λ s. (text : List ℕ)
+        → HoldsState saved.now.state s text → HoldsText sealer.new s text) }
+    ensures not_begun { NotOfSealer saved.now.mark → result ≡ not_begun }
+    ensures refused { result ≢ 0 → sealer.new ≡ zeros }
+{
+    *sealer = StoredSealer::zeros();
+    let Some(suite) = one_pass_marked(SEALER, saved.mark) else {
+        return NOT_BEGUN;
+    };
+    match KeyedSealer::resumed(suite, key, nonce, &saved.state) {
+        Ok(resumed) => {
+            *sealer = StoredSealer {
+                mark: mark_of(SEALER, suite),
+                sealer: resumed,
+            };
+            outcome_number(Ok(()))
+        }
+        Err(fault) => outcome_number(Err(fault)),
+    }
+}
+
+/// Leaves zeros in the struct, whatever it was: with them a sealing is given up, and its key is not left in memory.
+#[unsafe(no_mangle)]
+pub extern "C" fn aeadkit_sealer_wipe(sealer: &mut StoredSealer)
+    ensures { sealer.new ≡ zeros }
+{
+    sealer.mark = 0;
+    sealer.sealer = KeyedSealer::zeros();
+}
+
+/// The bytes of the struct that the calls in pieces take.
+#[unsafe(no_mangle)]
+pub extern "C" fn aeadkit_sealer_size() -> usize
+    ensures { result ≡ 144 }
+{
+    size_of::<StoredSealer>()
+}

@@ -1,0 +1,261 @@
+//! The calls for C that seal a text in pieces under AES-GCM-SIV (RFC 8452): a first reading of the text gives its tag, and
+//! a second one encrypts it.
+
+ghost use Rattle.std.specs.Prelude.{◌≡◌, ◌≢◌, ◌+◌, ℕ, List, [], length, MatchResult};
+ghost use Rattle.octets.specs.Numbers.{HasOutcome};
+ghost use Rattle.aead.specs.declared.suite.Suite.{Suite};
+ghost use Rattle.aead.specs.Suites.{ByGcmSiv, construction_of, text_limit};
+ghost use Rattle.aead.specs.Sealing.{Setting};
+ghost use Rattle.aead.specs.Pieces.{IsInFirstReading, IsInSecondReading};
+ghost use Rattle.aead.specs.KeyedPasses.{setting_of, BeginRefused};
+ghost use Rattle.aead.specs.KeyedPieces.{HoldsFirstReading, siv_count};
+ghost use Rattle.capi.specs.Suites.{suite_number, unknown_suite, not_begun, FitsOr, IsDoneOr};
+ghost use Rattle.capi.specs.Sivs.{absorbing, writing, NotIn, zeros, HoldsAbsorbing, HoldsWriting};
+ghost use Rattle.capi.specs.Sivs.{Absorbs, BeginsSecond, Encrypts, Ends};
+ghost use Rattle.capi.specs.Saved.{NotOfSiv, Resumes};
+
+use crate::saved::SavedPasses;
+use crate::suites::{NOT_BEGUN, UNKNOWN_SUITE, mark_of, siv_marked, siv_numbered};
+use aead::{KeyedSiv, Suite};
+use octets::{Fault, outcome_number};
+
+// The kind of struct in the first reading, to which its mark adds the suite's number: `sivone` in ASCII, and the
+// version of its layout.
+const ABSORBING: u64 = 0x7369_766f_6e65_0200;
+
+// The kind of struct in the second reading: `sivtwo`.
+const WRITING: u64 = 0x7369_7674_776f_0200;
+
+/// A sealing in pieces by two readings. Each number may have any value.
+#[repr(C)]
+#[derive(Clone, Copy)]
+pub struct StoredSiv {
+    // The kind of struct, its reading, the version of its layout and the suite; anything else if no sealing is begun.
+    mark: u64,
+    siv: KeyedSiv,
+}
+
+impl StoredSiv {
+    // All zeros: it holds no sealing.
+    pub(crate) fn zeros() -> StoredSiv
+        ensures { result ≡ zeros }
+    {
+        StoredSiv {
+            mark: 0,
+            siv: KeyedSiv::zeros(),
+        }
+    }
+
+    // Becomes what was begun, or stays zeros if that was refused. Returns the status.
+    pub(crate) fn begin(&mut self, suite: Suite, begun: Result<KeyedSiv, Fault>) -> u32
+        requires { self.old ≡ zeros }
+        ensures begins { (s : Setting) → s.suite ≡ suite
+            → MatchResult begun (λ p. HoldsFirstReading p s []) (BeginRefused s)
+            → HasOutcome result (HoldsAbsorbing self.new s []) (BeginRefused s) }
+        ensures refused { result ≢ 0 → self.new ≡ zeros }
+    {
+        match begun {
+            Ok(siv) => {
+                *self = StoredSiv {
+                    mark: mark_of(ABSORBING, suite),
+                    siv,
+                };
+                outcome_number(Ok(()))
+            }
+            Err(fault) => outcome_number(Err(fault)),
+        }
+    }
+}
+
+// The suite of a mark in either reading.
+fn in_a_reading(mark: u64) -> Option<Suite>
+    ensures first { (suite : Suite) → construction_of suite ≡ ByGcmSiv
+        → mark ≡ absorbing + suite_number suite → result ≡ Some suite }
+    ensures second { (suite : Suite) → construction_of suite ≡ ByGcmSiv
+        → mark ≡ writing + suite_number suite → result ≡ Some suite }
+    ensures none { NotOfSiv absorbing mark → NotOfSiv writing mark → result ≡ None }
+    ensures by { (suite : Suite) → result ≡ Some suite → construction_of suite ≡ ByGcmSiv }
+{
+    match siv_marked(ABSORBING, mark) {
+        Some(suite) => Some(suite),
+        None => siv_marked(WRITING, mark),
+    }
+}
+
+/// Begins a sealing by two readings, in its first one, of the empty text. What the struct was before makes no
+/// difference. On error zeros are left in it.
+///
+/// The nonce must never be used twice under one key: a repeat gives away whether the texts and the associated data
+/// were the same, and nothing else.
+#[unsafe(no_mangle)]
+pub extern "C" fn aeadkit_siv_init(
+    siv: &mut StoredSiv,
+    suite: u32,
+    key: &[u8],
+    nonce: &[u8],
+    aad: &[u8],
+) -> u32
+    ensures known { (named : Suite) → construction_of named ≡ ByGcmSiv
+        → suite ≡ suite_number named → let s = setting_of named key.now nonce.now aad.now in
+        HasOutcome result (HoldsAbsorbing siv.new s []) (BeginRefused s) }
+    ensures unknown { ((named : Suite) → construction_of named ≡ ByGcmSiv
+        → suite ≢ suite_number named) → result ≡ unknown_suite }
+    ensures refused { result ≢ 0 → siv.new ≡ zeros }
+{
+    *siv = StoredSiv::zeros();
+    let Some(suite) = siv_numbered(u64::from(suite)) else {
+        return UNKNOWN_SUITE;
+    };
+    siv.begin(suite, KeyedSiv::begin(suite, key, nonce, aad))
+}
+
+/// Takes in a piece of the text in the first reading. `TextTooLong` if the text would be past the suite's limit:
+/// the struct is then as before.
+#[unsafe(no_mangle)]
+pub extern "C" fn aeadkit_siv_absorb(siv: &mut StoredSiv, piece: &[u8]) -> u32
+    ensures holds { (s : Setting) (text : List ℕ) → Absorbs siv.old siv.new piece.now result s text }
+    ensures not_begun { NotIn absorbing siv.old → result ≡ not_begun }
+    ensures kept { result ≢ 0 → siv.new ≡ siv.old }
+    ensures status { (suite : Suite) → construction_of suite ≡ ByGcmSiv
+        → siv.old.mark ≡ absorbing + suite_number suite
+        → FitsOr Fault.TextTooLong result (siv_count siv.old.siv) (length piece.now) (text_limit suite) }
+{
+    let Some(suite) = siv_marked(ABSORBING, siv.mark) else {
+        return NOT_BEGUN;
+    };
+    outcome_number(siv.siv.absorb(suite, piece))
+}
+
+/// Ends the first reading, gives the tag of its text, and begins the second reading, which has taken in nothing
+/// yet.
+#[unsafe(no_mangle)]
+pub extern "C" fn aeadkit_siv_begin_second(siv: &mut StoredSiv, tag: &mut [u8; 16]) -> u32
+    ensures holds { (s : Setting) (text : List ℕ) → BeginsSecond siv.old siv.new tag.new result s text }
+    ensures not_begun { NotIn absorbing siv.old → result ≡ not_begun }
+    ensures kept { result ≢ 0 → (siv.new ≡ siv.old) × (tag.new ≡ tag.old) }
+    ensures status { (suite : Suite) → construction_of suite ≡ ByGcmSiv
+        → siv.old.mark ≡ absorbing + suite_number suite → result ≡ 0 }
+{
+    let Some(suite) = siv_marked(ABSORBING, siv.mark) else {
+        return NOT_BEGUN;
+    };
+    *tag = *siv.siv.begin_second(suite).bytes();
+    siv.mark = mark_of(WRITING, suite);
+    0
+}
+
+/// Takes in a piece of the text in the second reading, and leaves its ciphertext in its place. `SourceChanged` if
+/// the second text would be longer than the first: struct and piece are then as before.
+#[unsafe(no_mangle)]
+pub extern "C" fn aeadkit_siv_update(siv: &mut StoredSiv, piece: &mut [u8]) -> u32
+    ensures holds { (s : Setting) (first text : List ℕ)
+        → Encrypts siv.old siv.new piece.old piece.new result s first text }
+    ensures not_begun { NotIn writing siv.old → result ≡ not_begun }
+    ensures kept { result ≢ 0 → (siv.new ≡ siv.old) × (piece.new ≡ piece.old) }
+    ensures status { (suite : Suite) → construction_of suite ≡ ByGcmSiv
+        → siv.old.mark ≡ writing + suite_number suite → IsDoneOr Fault.SourceChanged result }
+{
+    let Some(suite) = siv_marked(WRITING, siv.mark) else {
+        return NOT_BEGUN;
+    };
+    outcome_number(siv.siv.update(suite, piece))
+}
+
+/// Ends the second reading, and leaves zeros in the struct. `SourceChanged` if its text has another length or
+/// another tag than that of the first one: what update gave is then of no use.
+#[unsafe(no_mangle)]
+pub extern "C" fn aeadkit_siv_finish(siv: &mut StoredSiv) -> u32
+    ensures holds { (s : Setting) (first text : List ℕ) → Ends siv.old result s first text }
+    ensures not_begun { NotIn writing siv.old → (result ≡ not_begun) × (siv.new ≡ siv.old) }
+    ensures kept { result ≡ not_begun → siv.new ≡ siv.old }
+    ensures ended { result ≢ not_begun → siv.new ≡ zeros }
+    ensures status { (suite : Suite) → construction_of suite ≡ ByGcmSiv
+        → siv.old.mark ≡ writing + suite_number suite → IsDoneOr Fault.SourceChanged result }
+{
+    let Some(suite) = siv_marked(WRITING, siv.mark) else {
+        return NOT_BEGUN;
+    };
+    let outcome = siv.siv.finish(suite);
+    *siv = StoredSiv::zeros();
+    outcome_number(outcome)
+}
+
+/// Saves what the sealing has taken in, in either reading, without its key and nonce, to go on from it later. The sealing
+/// itself stays as it is.
+#[unsafe(no_mangle)]
+pub extern "C" fn aeadkit_siv_save(siv: &StoredSiv, saved: &mut SavedPasses) -> u32
+    ensures first { (s : Setting) (text : List ℕ) → HoldsAbsorbing siv.now s text
+        → (result ≡ 0) × (saved.new.mark ≡ siv.now.mark) × IsInFirstReading saved.new.state s text }
+    ensures second { (s : Setting) (first text : List ℕ) → HoldsWriting siv.now s first text
+        → (result ≡ 0) × (saved.new.mark ≡ siv.now.mark) × IsInSecondReading saved.new.state s first text }
+    ensures not_begun { NotIn absorbing siv.now → NotIn writing siv.now → result ≡ not_begun }
+    ensures kept { result ≢ 0 → saved.new ≡ saved.old }
+    ensures absorbs { (suite : Suite) → construction_of suite ≡ ByGcmSiv
+        → siv.now.mark ≡ absorbing + suite_number suite → result ≡ 0 }
+    ensures writes { (suite : Suite) → construction_of suite ≡ ByGcmSiv
+        → siv.now.mark ≡ writing + suite_number suite → result ≡ 0 }
+{
+    let Some(_) = in_a_reading(siv.mark) else {
+        return NOT_BEGUN;
+    };
+    *saved = SavedPasses {
+        mark: siv.mark,
+        state: siv.siv.state(),
+    };
+    outcome_number(Ok(()))
+}
+
+/// Goes on from what was saved, in the reading that it was in, under the key and the nonce of the sealing. `NOT_BEGUN` if no
+/// sealing by two readings was saved, then `KeyLength`, then `NonceLength`. What the struct was before makes no difference.
+/// On error zeros are left in it.
+#[unsafe(no_mangle)]
+pub extern "C" fn aeadkit_siv_resume(
+    siv: &mut StoredSiv,
+    key: &[u8],
+    nonce: &[u8],
+    saved: &SavedPasses,
+) -> u32
+    ensures first { (suite : Suite) → construction_of suite ≡ ByGcmSiv
+        → saved.now.mark ≡ absorbing + suite_number suite
+        → Resumes result suite key.now nonce.now (λ s. (text : List ℕ)
+        → IsInFirstReading saved.now.state s text → HoldsAbsorbing siv.new s text) }
+    ensures second { (suite : Suite) → construction_of suite ≡ ByGcmSiv
+        → saved.now.mark ≡ writing + suite_number suite
+        → Resumes result suite key.now nonce.now (λ s. (first text : List ℕ)
+        → IsInSecondReading saved.now.state s first text → HoldsWriting siv.new s first text) }
+    ensures not_begun { NotOfSiv absorbing saved.now.mark → NotOfSiv writing saved.now.mark
+        → result ≡ not_begun }
+    ensures refused { result ≢ 0 → siv.new ≡ zeros }
+{
+    *siv = StoredSiv::zeros();
+    let Some(suite) = in_a_reading(saved.mark) else {
+        return NOT_BEGUN;
+    };
+    match KeyedSiv::resumed(suite, key, nonce, &saved.state) {
+        Ok(resumed) => {
+            *siv = StoredSiv {
+                mark: saved.mark,
+                siv: resumed,
+            };
+            outcome_number(Ok(()))
+        }
+        Err(fault) => outcome_number(Err(fault)),
+    }
+}
+
+/// Leaves zeros in the struct, whatever it was: with them a sealing is given up, and its key is not left in memory.
+#[unsafe(no_mangle)]
+pub extern "C" fn aeadkit_siv_wipe(siv: &mut StoredSiv)
+    ensures { siv.new ≡ zeros }
+{
+    siv.mark = 0;
+    siv.siv = KeyedSiv::zeros();
+}
+
+/// The bytes of the struct that the calls of a sealing by two readings take.
+#[unsafe(no_mangle)]
+pub extern "C" fn aeadkit_siv_size() -> usize
+    ensures { result ≡ 192 }
+{
+    size_of::<StoredSiv>()
+}

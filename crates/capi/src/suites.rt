@@ -1,0 +1,124 @@
+//! Suites by their numbers at C, and the marks of the structs.
+
+ghost use Rattle.std.specs.Prelude.{◌≡◌, ◌↔◌, ◌+◌, ◌<◌, ◌^◌, true, false};
+ghost use Rattle.aead.specs.declared.suite.Suite.{Suite};
+ghost use Rattle.aead.specs.Suites.{ByGcmSiv, construction_of, is_one_pass};
+ghost use Rattle.capi.specs.Suites.{suite_number};
+
+use aead::Suite;
+
+// The status of a call at C whose suite number is unknown.
+pub(crate) const UNKNOWN_SUITE: u32 = 14;
+
+// The status of a call at C on a struct in which nothing is begun.
+pub(crate) const NOT_BEGUN: u32 = 15;
+
+// The status of a call at C whose output is not as long as its result.
+pub(crate) const OUTPUT_LENGTH: u32 = 16;
+
+// The suite of a number.
+pub(crate) fn suite_numbered(number: u64) -> Option<Suite>
+    ensures { (suite : Suite) → (result ≡ Some suite) ↔ (number ≡ suite_number suite) }
+{
+    match number {
+        1 => Some(Suite::ChaCha20Poly1305),
+        2 => Some(Suite::Aes128Gcm),
+        3 => Some(Suite::Aes192Gcm),
+        4 => Some(Suite::Aes256Gcm),
+        5 => Some(Suite::Aes128GcmSiv),
+        6 => Some(Suite::Aes256GcmSiv),
+        _ => None,
+    }
+}
+
+// The suite of a number, if its tag is over the ciphertext.
+pub(crate) fn one_pass_numbered(number: u64) -> Option<Suite>
+    ensures { (suite : Suite) → (result ≡ Some suite)
+        ↔ (is_one_pass (construction_of suite) ≡ true × (number ≡ suite_number suite)) }
+{
+    match number {
+        1 => Some(Suite::ChaCha20Poly1305),
+        2 => Some(Suite::Aes128Gcm),
+        3 => Some(Suite::Aes192Gcm),
+        4 => Some(Suite::Aes256Gcm),
+        _ => None,
+    }
+}
+
+// The suite of a number, if it is one of AES-GCM-SIV.
+pub(crate) fn siv_numbered(number: u64) -> Option<Suite>
+    ensures { (suite : Suite) → (result ≡ Some suite)
+        ↔ ((construction_of suite ≡ ByGcmSiv) × (number ≡ suite_number suite)) }
+{
+    match number {
+        5 => Some(Suite::Aes128GcmSiv),
+        6 => Some(Suite::Aes256GcmSiv),
+        _ => None,
+    }
+}
+
+// The number of a suite.
+pub(crate) fn number_of(suite: Suite) -> u32
+    ensures { result ≡ suite_number suite }
+{
+    match suite {
+        Suite::ChaCha20Poly1305 => 1,
+        Suite::Aes128Gcm => 2,
+        Suite::Aes192Gcm => 3,
+        Suite::Aes256Gcm => 4,
+        Suite::Aes128GcmSiv => 5,
+        Suite::Aes256GcmSiv => 6,
+    }
+}
+
+// The mark of a kind of struct under a suite.
+pub(crate) fn mark_of(kind: u64, suite: Suite) -> u64
+    requires { kind < 2 ^ 63 }
+    ensures { result ≡ kind + suite_number suite }
+{
+    kind + u64::from(number_of(suite))
+}
+
+// The suite of a mark of a kind of struct.
+pub(crate) fn marked(kind: u64, mark: u64) -> Option<Suite>
+    ensures { (suite : Suite) → (result ≡ Some suite) ↔ (mark ≡ kind + suite_number suite) }
+{
+    match mark.checked_sub(kind) {
+        Some(number) => suite_numbered(number),
+        None => None,
+    }
+}
+
+// The suite of a mark of a kind of struct, if the suite's tag is over the ciphertext.
+pub(crate) fn one_pass_marked(kind: u64, mark: u64) -> Option<Suite>
+    ensures { (suite : Suite) → (result ≡ Some suite)
+        ↔ (is_one_pass (construction_of suite) ≡ true × (mark ≡ kind + suite_number suite)) }
+{
+    match mark.checked_sub(kind) {
+        Some(number) => one_pass_numbered(number),
+        None => None,
+    }
+}
+
+// The suite of a mark of a kind of struct, if it is one of AES-GCM-SIV.
+pub(crate) fn siv_marked(kind: u64, mark: u64) -> Option<Suite>
+    ensures { (suite : Suite) → (result ≡ Some suite)
+        ↔ ((construction_of suite ≡ ByGcmSiv) × (mark ≡ kind + suite_number suite)) }
+{
+    match mark.checked_sub(kind) {
+        Some(number) => siv_numbered(number),
+        None => None,
+    }
+}
+
+// Whether a suite is one of AES-GCM-SIV.
+pub(crate) fn is_siv(suite: Suite) -> bool
+    ensures yes { result ≡ true → construction_of suite ≡ ByGcmSiv }
+    ensures no { result ≡ false → is_one_pass (construction_of suite) ≡ true }
+{
+    match suite {
+        Suite::ChaCha20Poly1305 => false,
+        Suite::Aes128Gcm | Suite::Aes192Gcm | Suite::Aes256Gcm => false,
+        Suite::Aes128GcmSiv | Suite::Aes256GcmSiv => true,
+    }
+}

@@ -1,0 +1,386 @@
+//! The calls for C on whole messages: in place with the tag apart, or into another output. Each makes what it needs of the key
+//! anew.
+
+ghost use Rattle.std.specs.Prelude.{◌≡◌, ◌≢◌, ◌≤◌, ◌++◌, ℕ, List, length, refl, MatchOption, MatchResult};
+ghost use Rattle.octets.specs.declared.fault.Fault.{Fault};
+ghost use Rattle.octets.specs.declared.fault.Fault.TheVariants.{KeyLength};
+ghost use Rattle.octets.specs.Numbers.{HasOutcome};
+ghost use Rattle.aead.specs.declared.suite.Suite.{Suite};
+ghost use Rattle.aead.specs.Suites.{construction_of, key_length, aad_limit, ByGcm};
+ghost use Rattle.aead.specs.Sealing.{Setting, hash_key};
+ghost use Rattle.aead.specs.Ciphers.{Keyed, setting};
+ghost use Rattle.aead.specs.KeyedPasses.{setting_of, HasLengths, BeginRefused};
+ghost use Rattle.capi.specs.Suites.{suite_number, unknown_suite};
+ghost use Rattle.capi.specs.Whole.{WasSealed, WasNotSealed, WasOpened, WasNotOpened, SealsTo, OpensTo};
+
+use crate::suites::{OUTPUT_LENGTH, UNKNOWN_SUITE, suite_numbered};
+use aead::{BorrowedGcm, ChaChaPoly, Cipher, GcmSiv, Suite, hash_subkey};
+use aes::AesKey;
+use gf128::{Keyed128, TableMul};
+use octets::{Block, Fault, Key32, Nonce, Tag, outcome_number};
+
+// The nonce with these 12 bytes. In a `Result` it would share its first byte with the fault, and LLVM copies that byte
+// by itself, so that the cipher waits for it.
+fn nonce_of(bytes: &[u8]) -> Option<Nonce>
+    ensures { MatchOption result (length bytes.now ≢ 12) (λ n. (n ≡ bytes.now) × (length bytes.now ≡ 12)) }
+{
+    match bytes.as_array() {
+        Some(bytes) => Some(Nonce::new(*bytes)),
+        None => None,
+    }
+}
+
+// Sealing or opening a text in place, with its tag apart.
+pub(crate) trait Direction {
+    // The text and the tag before and after a call that succeeds.
+    ghost done: { Setting → (text tag text' tag' : List ℕ) → Type 0 };
+
+    // The text and the tag before and after a call that is refused, and its fault.
+    ghost refused: { Setting → (text tag text' tag' : List ℕ) → Fault → Type 0 };
+
+    // Seals or opens by a cipher, under the bytes of a nonce.
+    fn run<C: Cipher>(
+        cipher: &C,
+        nonce: &[u8],
+        aad: &[u8],
+        text: &mut [u8],
+        tag: &mut [u8; 16],
+    ) -> Result<(), Fault>
+        requires { length (C.keyed cipher.now).key ≡ key_length (C.keyed cipher.now).suite }
+        ensures { let s = setting (C.keyed cipher.now) nonce.now aad.now in
+            MatchResult result (λ _. done s text.old tag.old text.new tag.new)
+            (refused s text.old tag.old text.new tag.new) };
+
+    // A key of another length is refused.
+    ghost key: { (s : Setting) (text tag : List ℕ) → length s.key ≢ key_length s.suite
+        → refused s text tag text tag KeyLength };
+}
+
+// A text becomes its ciphertext, and its tag is written.
+pub(crate) struct Sealing;
+
+impl Direction for Sealing {
+    ghost done = { λ s text tag text' tag'. WasSealed s text text' tag' };
+
+    ghost refused = { WasNotSealed };
+
+    ghost key = { λ s text tag long. (refl, refl, long) };
+
+    fn run<C: Cipher>(
+        cipher: &C,
+        nonce: &[u8],
+        aad: &[u8],
+        text: &mut [u8],
+        tag: &mut [u8; 16],
+    ) -> Result<(), Fault> {
+        let Some(nonce) = nonce_of(nonce) else {
+            return Err(Fault::NonceLength);
+        };
+        let suite = cipher.suite();
+        suite.check_aad(aad)?;
+        suite.check_text(text)?;
+        *tag = *cipher.seal_fitting(&nonce, aad, text).bytes();
+        Ok(())
+    }
+}
+
+// A ciphertext becomes its text if the tag is its own, which stays as it is.
+pub(crate) struct Opening;
+
+impl Direction for Opening {
+    ghost done = { λ s text tag text' tag'. WasOpened s text tag text' };
+
+    ghost refused = { λ s text tag text' tag'. WasNotOpened s text tag text' };
+
+    ghost key = { λ s text tag long. (refl, long) };
+
+    fn run<C: Cipher>(
+        cipher: &C,
+        nonce: &[u8],
+        aad: &[u8],
+        text: &mut [u8],
+        tag: &mut [u8; 16],
+    ) -> Result<(), Fault> {
+        let Some(nonce) = nonce_of(nonce) else {
+            return Err(Fault::NonceLength);
+        };
+        let suite = cipher.suite();
+        suite.check_aad(aad)?;
+        suite.check_text(text)?;
+        cipher.open_fitting(&nonce, aad, text, &Tag::new(*tag))
+    }
+}
+
+// Seals or opens under AES-GCM by its key and hash subkey, with multiples that are made for the message.
+#[inline(always)]
+pub(crate) fn run_gcm<D: Direction>(
+    suite: Suite,
+    key: &AesKey,
+    ghash_key: &Block,
+    nonce: &[u8],
+    aad: &[u8],
+    text: &mut [u8],
+    tag: &mut [u8; 16],
+) -> Result<(), Fault>
+    requires by_gcm { construction_of suite ≡ ByGcm }
+    requires long { length key.now ≡ key_length suite }
+    requires ghash_key { ghash_key.now ≡ hash_key key.now }
+    ensures { let s = setting_of suite key.now nonce.now aad.now in
+        MatchResult result (λ _. D.done s text.old tag.old text.new tag.new)
+        (D.refused s text.old tag.old text.new tag.new) }
+{
+    let multiplier = TableMul::of(ghash_key);
+    let cipher = BorrowedGcm::new(suite, key, ghash_key, &multiplier);
+    D::run(&cipher, nonce, aad, text, tag)
+}
+
+// A suite and a key, as bytes or kept in a struct.
+pub(crate) trait Keys {
+    // The suite and the key.
+    ghost keyed: { Self → Keyed };
+
+    // The suite.
+    fn suite(&self) -> Suite
+        ensures { result ≡ (keyed self.now).suite };
+
+    // `KeyLength`, the only fault, if the key has another length than the suite's.
+    fn check_key(&self) -> Result<(), Fault>
+        ensures { let k = keyed self.now in MatchResult result (λ _. length k.key ≡ key_length k.suite)
+            (λ e. (e ≡ Fault.KeyLength) × (length k.key ≢ key_length k.suite)) };
+
+    // Seals or opens under the bytes of a nonce.
+    fn run<D: Direction>(
+        &self,
+        nonce: &[u8],
+        aad: &[u8],
+        text: &mut [u8],
+        tag: &mut [u8; 16],
+    ) -> Result<(), Fault>
+        ensures { let s = setting (keyed self.now) nonce.now aad.now in
+            MatchResult result (λ _. D.done s text.old tag.old text.new tag.new)
+            (D.refused s text.old tag.old text.new tag.new) };
+}
+
+// A suite and the bytes of a key.
+#[derive(Drop)]
+pub(crate) struct ByBytes<'a> {
+    suite: Suite,
+    key: &'a [u8],
+}
+
+impl<'a> Keys for ByBytes<'a> {
+    ghost keyed = { λ k. record { suite = k.suite; key = k.key.now } };
+
+    fn suite(&self) -> Suite {
+        self.suite
+    }
+
+    fn check_key(&self) -> Result<(), Fault> {
+        if self.key.len() != self.suite.key_length() {
+            return Err(Fault::KeyLength);
+        }
+        Ok(())
+    }
+
+    // A cipher of its own suite is smaller than one of any suite.
+    fn run<D: Direction>(
+        &self,
+        nonce: &[u8],
+        aad: &[u8],
+        text: &mut [u8],
+        tag: &mut [u8; 16],
+    ) -> Result<(), Fault> {
+        let suite = self.suite;
+        if self.key.len() != suite.key_length() {
+            return Err(Fault::KeyLength);
+        }
+        match suite {
+            Suite::ChaCha20Poly1305 => {
+                let cipher = ChaChaPoly::new(&Key32::from_slice(self.key)?);
+                D::run(&cipher, nonce, aad, text, tag)
+            }
+            Suite::Aes128Gcm | Suite::Aes192Gcm | Suite::Aes256Gcm => {
+                let key = AesKey::from_slice(self.key)?;
+                run_gcm::<D>(suite, &key, &hash_subkey(&key), nonce, aad, text, tag)
+            }
+            Suite::Aes128GcmSiv | Suite::Aes256GcmSiv => {
+                let cipher = GcmSiv::new(suite, AesKey::from_slice(self.key)?);
+                D::run(&cipher, nonce, aad, text, tag)
+            }
+        }
+    }
+}
+
+// `KeyLength`, then `NonceLength`, then `AadTooLong`, if a length does not fit the suite.
+fn check_lengths<K: Keys>(keys: &K, nonce: &[u8], aad: &[u8]) -> Result<(), Fault>
+    ensures { let s = setting (K.keyed keys.now) nonce.now aad.now in
+        MatchResult result (λ _. HasLengths s × (length aad.now ≤ aad_limit s.suite)) (BeginRefused s) }
+{
+    keys.check_key()?;
+    if nonce.len() != Suite::NONCE_LENGTH {
+        return Err(Fault::NonceLength);
+    }
+    keys.suite().check_aad(aad)
+}
+
+// Seals a text into an output of 16 bytes more.
+pub(crate) fn seal_to<K: Keys>(
+    keys: &K,
+    nonce: &[u8],
+    aad: &[u8],
+    text: &[u8],
+    sealed: &mut [u8],
+) -> u32
+    ensures { SealsTo result (setting (K.keyed keys.now) nonce.now aad.now) text.now sealed.old sealed.new }
+{
+    if let Err(fault) = check_lengths(keys, nonce, aad) {
+        return outcome_number(Err(fault));
+    }
+    if let Err(fault) = keys.suite().check_text(text) {
+        return outcome_number(Err(fault));
+    }
+    let Some((body, tag)) = sealed.split_last_chunk_mut() else {
+        return OUTPUT_LENGTH;
+    };
+    if body.len() != text.len() {
+        return OUTPUT_LENGTH;
+    }
+    body.copy_from_slice(text);
+    outcome_number(keys.run::<Sealing>(nonce, aad, body, tag))
+}
+
+// Opens a sealing into an output of 16 bytes less.
+pub(crate) fn open_to<K: Keys>(
+    keys: &K,
+    nonce: &[u8],
+    aad: &[u8],
+    sealed: &[u8],
+    text: &mut [u8],
+) -> u32
+    ensures { OpensTo result (setting (K.keyed keys.now) nonce.now aad.now) sealed.now text.old text.new }
+{
+    if let Err(fault) = check_lengths(keys, nonce, aad) {
+        return outcome_number(Err(fault));
+    }
+    let Some((body, tag)) = sealed.split_last_chunk() else {
+        return outcome_number(Err(Fault::TooShort));
+    };
+    if let Err(fault) = keys.suite().check_text(body) {
+        return outcome_number(Err(fault));
+    }
+    if text.len() != body.len() {
+        return OUTPUT_LENGTH;
+    }
+    text.copy_from_slice(body);
+    let mut tag = *tag;
+    match keys.run::<Opening>(nonce, aad, text, &mut tag) {
+        Ok(()) => 0,
+        Err(fault) => {
+            text.fill(0);
+            outcome_number(Err(fault))
+        }
+    }
+}
+
+/// Seals in place: a text becomes its ciphertext, and its tag is written beside it. At any status but 0 nothing is changed.
+///
+/// The nonce must never be used twice under one key. Under ChaCha20-Poly1305 and AES-GCM a repeat gives away the XOR of
+/// the two texts, and enough to forge messages; under AES-GCM-SIV it gives away only whether the texts and the
+/// associated data were the same.
+#[unsafe(no_mangle)]
+pub extern "C" fn aeadkit_seal_in_place(
+    suite: u32,
+    key: &[u8],
+    nonce: &[u8],
+    aad: &[u8],
+    text: &mut [u8],
+    tag: &mut [u8; 16],
+) -> u32
+    ensures known { (named : Suite) → suite ≡ suite_number named → let s =
+        setting_of named key.now nonce.now aad.now in
+        HasOutcome result (WasSealed s text.old text.new tag.new)
+        (WasNotSealed s text.old tag.old text.new tag.new) }
+    ensures unknown { ((named : Suite) → suite ≢ suite_number named)
+        → (result ≡ unknown_suite) × (text.new ≡ text.old) × (tag.new ≡ tag.old) }
+{
+    match suite_numbered(u64::from(suite)) {
+        Some(suite) => {
+            outcome_number(ByBytes { suite, key }.run::<Sealing>(nonce, aad, text, tag))
+        }
+        None => UNKNOWN_SUITE,
+    }
+}
+
+/// Opens in place: a ciphertext becomes its text, if the tag is its own. At any status but 0 nothing is changed.
+#[unsafe(no_mangle)]
+pub extern "C" fn aeadkit_open_in_place(
+    suite: u32,
+    key: &[u8],
+    nonce: &[u8],
+    aad: &[u8],
+    text: &mut [u8],
+    tag: &[u8; 16],
+) -> u32
+    ensures known { (named : Suite) → suite ≡ suite_number named → let s =
+        setting_of named key.now nonce.now aad.now in
+        HasOutcome result (WasOpened s text.old tag.now text.new)
+        (WasNotOpened s text.old tag.now text.new) }
+    ensures unknown { ((named : Suite) → suite ≢ suite_number named)
+        → (result ≡ unknown_suite) × (text.new ≡ text.old) }
+{
+    match suite_numbered(u64::from(suite)) {
+        Some(suite) => {
+            let mut given = *tag;
+            outcome_number(ByBytes { suite, key }.run::<Opening>(nonce, aad, text, &mut given))
+        }
+        None => UNKNOWN_SUITE,
+    }
+}
+
+/// Seals a text into another output, which is as long as the text and its tag: `OUTPUT_LENGTH` if it is not, after the other
+/// statuses. At any status but 0 nothing is written.
+///
+/// The nonce must never be used twice under one key. Under ChaCha20-Poly1305 and AES-GCM a repeat gives away the XOR of
+/// the two texts, and enough to forge messages; under AES-GCM-SIV it gives away only whether the texts and the
+/// associated data were the same.
+#[unsafe(no_mangle)]
+pub extern "C" fn aeadkit_seal(
+    suite: u32,
+    key: &[u8],
+    nonce: &[u8],
+    aad: &[u8],
+    text: &[u8],
+    sealed: &mut [u8],
+) -> u32
+    ensures known { (named : Suite) → suite ≡ suite_number named
+        → SealsTo result (setting_of named key.now nonce.now aad.now) text.now sealed.old sealed.new }
+    ensures unknown { ((named : Suite) → suite ≢ suite_number named)
+        → (result ≡ unknown_suite) × (sealed.new ≡ sealed.old) }
+{
+    match suite_numbered(u64::from(suite)) {
+        Some(suite) => seal_to(&ByBytes { suite, key }, nonce, aad, text, sealed),
+        None => UNKNOWN_SUITE,
+    }
+}
+
+/// Opens a sealing into another output, which is 16 bytes shorter: `OUTPUT_LENGTH` if it is not, after the statuses of the other
+/// lengths. At `TagMismatch` the whole output is zeros; at any other status but 0 nothing is written.
+#[unsafe(no_mangle)]
+pub extern "C" fn aeadkit_open(
+    suite: u32,
+    key: &[u8],
+    nonce: &[u8],
+    aad: &[u8],
+    sealed: &[u8],
+    text: &mut [u8],
+) -> u32
+    ensures known { (named : Suite) → suite ≡ suite_number named
+        → OpensTo result (setting_of named key.now nonce.now aad.now) sealed.now text.old text.new }
+    ensures unknown { ((named : Suite) → suite ≢ suite_number named)
+        → (result ≡ unknown_suite) × (text.new ≡ text.old) }
+{
+    match suite_numbered(u64::from(suite)) {
+        Some(suite) => open_to(&ByBytes { suite, key }, nonce, aad, sealed, text),
+        None => UNKNOWN_SUITE,
+    }
+}
