@@ -1,9 +1,9 @@
 /* How fast the library is on this machine, beside the peers of peers.h. bench.sh builds and runs it.
 
-   Each message is sealed and opened in place, with a new nonce and a new key, or under --kept with a key that
-   library and peers keep. A peer keeps its context from message to message. Library and peers take
-   turns in one process, and each figure is the best of many short rounds. Before a row is measured, each peer
-   has to give the library's bytes. Status 1 if it does not; 2 if the program cannot run. */
+   Each message is sealed and opened in place, by the library's calls in place, with a new nonce and a new key, or
+   under --kept with a key that library and peers keep. A peer keeps its context from message to message. Library
+   and peers take turns in one process, and each figure is the best of many short rounds. Before a row is
+   measured, each peer has to give the library's bytes. Status 1 if it does not; 2 if the program cannot run. */
 #include "peers.h"
 
 #include <time.h>

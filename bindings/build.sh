@@ -23,7 +23,7 @@ here=$(cd "$(dirname "$0")" && pwd)
 room=${AEADKIT_WORK:-$prefix/.aeadkit}
 version=$(version_of "$repository")
 mkdir -p "$room" "$prefix/include" "$prefix/lib/pkgconfig"
-copy "$repository" "$room" staticlib
+copy "$repository" "$room"
 
 fast=yes
 case " $* " in *" --cpu"*) fast=no ;; esac

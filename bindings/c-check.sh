@@ -1,6 +1,6 @@
 #!/bin/sh
 # Compiles the header for each standard of C, measures the stack of each call, loads two versions of the library into one
-# process, and seals, damages and opens backups with c/backup.c.
+# process, and runs the examples, also on damaged messages, files, wrappings and backups.
 set -eu
 if [ $# != 1 ]; then
     echo "usage: c-check.sh PREFIX" >&2
@@ -14,15 +14,40 @@ trap 'rm -rf "$room"' EXIT
 warnings="-Wall -Wextra -Werror -pedantic -I$prefix/include"
 strict="-std=c11 -O2 $warnings"
 
-# The header is C from C99 on, for each compiler that is there with the headers of C.
+# The header is plain C from C89 on, and C++, for each compiler that is there with the headers of C; the examples are C99.
 echo '#include <stdio.h>' > "$room/empty.c"
+echo '#include "aeadkit.h"' > "$room/header.c"
+echo 'int main(void) { return (int)(aeadkit_version() >> 31); }' >> "$room/header.c"
+plain="$warnings -Wcast-qual -Wconversion -Wstrict-prototypes"
+examples="message file wrap threads backup"
 for compiler in cc gcc clang; do
     if "$compiler" -fsyntax-only "$room/empty.c" > "$room/log" 2>&1; then
+        for standard in c89 c99 c11 c17; do
+            "$compiler" -std=$standard $plain -fsyntax-only "$room/header.c"
+        done
         for standard in c99 c11 c17; do
-            "$compiler" -std=$standard $warnings -fsyntax-only c/example.c
+            for example in calls $examples; do
+                "$compiler" -std=$standard $warnings -fsyntax-only c/$example.c
+            done
         done
     fi
 done
+for compiler in c++ g++ clang++; do
+    if "$compiler" -x c++ -fsyntax-only "$room/empty.c" > "$room/log" 2>&1; then
+        for standard in c++98 c++11 c++17; do
+            "$compiler" -x c++ -std=$standard $warnings -Wcast-qual -Wconversion -fsyntax-only "$room/header.c"
+        done
+        for example in calls $examples; do
+            "$compiler" -x c++ -std=c++17 $warnings -fsyntax-only c/$example.c
+        done
+    fi
+done
+# It declares what the library exports, and its only macros are the guard, the version and the attribute.
+grep -oE 'aeadkit_[a-z_]+\(' "$prefix/include/aeadkit.h" | tr -d '(' | sort -u > "$room/declared"
+grep -oE 'aeadkit_[a-z_]+' exports.map | sort -u | cmp - "$room/declared"
+macros=$(sed -n 's/^# *define *\([A-Za-z_]*\).*/\1/p' "$prefix/include/aeadkit.h" | sort -u | tr '\n' ' ')
+[ "$macros" = "AEADKIT_H AEADKIT_STATUS AEADKIT_VERSION " ] || { echo "the header defines $macros" >&2; exit 1; }
+echo "ok: the header, from C89 and C++98 on"
 
 # The stack, over the archive, and over the shared library, of which the loader takes the build for AVX2 if it is there and the
 # processor has it.
@@ -33,11 +58,11 @@ cc $strict -pthread c/stack.c -L"$out" -laeadkit -Wl,-z,now -Wl,-rpath,"$out" -o
 echo "ok: no call takes more stack than aeadkit.h says"
 
 # Two versions in one process: a caller of each gets its own, whichever is loaded first.
-echo 'AEADKIT_OTHER { global: aeadkit_sealer_size; local: *; };' > "$room/other.map"
+echo 'AEADKIT_2 { global: aeadkit_sealer_size; local: *; };' > "$room/other.map"
 mkdir "$room/other"
-cc -shared -fPIC -DOTHER c/versions.c -Wl,-soname,libaeadkit.so.0 -Wl,--version-script="$room/other.map" \
+cc -shared -fPIC -DOTHER c/versions.c -Wl,-soname,libaeadkit.so.2 -Wl,--version-script="$room/other.map" \
     -o "$room/other/libaeadkit.so"
-ln -s libaeadkit.so "$room/other/libaeadkit.so.0"
+ln -s libaeadkit.so "$room/other/libaeadkit.so.2"
 cc -shared -fPIC -DCALLER=by_the_other c/versions.c -L"$room/other" -laeadkit -o "$room/libby_the_other.so"
 cc -shared -fPIC -DCALLER=by_this c/versions.c -L"$out" -laeadkit -o "$room/libby_this.so"
 for order in "-lby_the_other -lby_this" "-lby_this -lby_the_other"; do
@@ -46,6 +71,136 @@ for order in "-lby_the_other -lby_this" "-lby_this -lby_the_other"; do
         || { echo "of two versions in one process ($order) a caller gets the wrong one" >&2; exit 1; }
 done
 echo "ok: two versions of the library in one process"
+
+export ASAN_OPTIONS=detect_leaks=0
+by="cc $strict -fsanitize=address,undefined -fno-sanitize-recover=all"
+echo 'int main(void) { return 0; }' > "$room/probe.c"
+if ! { $by "$room/probe.c" -o "$room/probe" && "$room/probe"; } > "$room/log" 2>&1; then
+    by="cc $strict"
+fi
+for example in $examples; do
+    $by -pthread c/$example.c "$out/libaeadkit.a" -o "$room/$example"
+done
+
+# What an example does: it ends with STATUS, and then holds: does STATUS WORD..
+does() {
+    status=0
+    expected=$1
+    shift
+    "$@" > "$room/out" 2> "$room/fault" || status=$?
+    [ $status = "$expected" ] || { echo "$* ends with $status and not $expected:" >&2; cat "$room/fault" >&2; exit 1; }
+}
+# Copies a file with one byte changed: damaged FILE PLACE COPY
+damaged() {
+    byte=$(tail -c +$(($2 + 1)) "$1" | head -c 1 | od -An -tu1)
+    { head -c "$2" "$1"; printf "\\$(printf %o $((byte ^ 1)))"; tail -c +$(($2 + 2)) "$1"; } > "$3"
+}
+
+# The message: each byte of its sealing is changed.
+does 0 "$room/message"
+[ "$(sort "$room/out" | uniq -c | tr -s ' ')" = " 2 The parcel leaves at nine." ]
+for byte in $(seq 0 41); do
+    does 1 "$room/message" "$byte"
+    [ ! -s "$room/out" ] && [ "$(grep -c 'authentication failed' "$room/fault")" = 2 ] \
+        || { echo "a message with byte $byte changed is opened" >&2; exit 1; }
+done
+
+# The file: of lengths about that of a piece; changed, cut, longer, and under another key or label.
+head -c 32 /dev/urandom > "$room/key"
+head -c 32 /dev/urandom > "$room/another-key"
+folder=$room/files
+mkdir "$folder"
+for size in 0 1 65535 65536 65537 200000; do
+    head -c $size /dev/urandom > "$room/text"
+    does 0 "$room/file" seal "$room/key" label "$room/text" "$folder/sealed"
+    [ "$(wc -c < "$folder/sealed")" = $((size + 28)) ]
+    does 0 "$room/file" open "$room/key" label "$folder/sealed" "$folder/opened"
+    cmp "$room/text" "$folder/opened"
+done
+not_opened() {
+    cp "$room/text" "$folder/opened"
+    does 1 "$room/file" open "$@" "$folder/opened"
+    cmp "$room/text" "$folder/opened"
+    grep -q "$wanted" "$room/fault" || { echo "instead of '$wanted':" >&2; cat "$room/fault" >&2; exit 1; }
+}
+wanted="authentication failed"
+not_opened "$room/another-key" label "$folder/sealed"
+not_opened "$room/key" another-label "$folder/sealed"
+for place in 0 11 12 65547 65548 131084 200011 200012 200027; do
+    damaged "$folder/sealed" $place "$room/changed"
+    not_opened "$room/key" label "$room/changed"
+done
+for size in 28 65576 200027; do
+    head -c $size "$folder/sealed" > "$room/changed"
+    not_opened "$room/key" label "$room/changed"
+done
+{ cat "$folder/sealed"; printf x; } > "$room/changed"
+not_opened "$room/key" label "$room/changed"
+wanted="than a sealing"
+for size in 0 27; do
+    head -c $size "$folder/sealed" > "$room/changed"
+    not_opened "$room/key" label "$room/changed"
+done
+not_opened "$room/changed" label "$folder/sealed"
+{ cat "$room/key"; echo; } > "$room/changed"
+not_opened "$room/changed" label "$folder/sealed"
+wanted="No such file"
+not_opened "$room/no-key" label "$folder/sealed"
+not_opened "$room/key" label "$room/no-file"
+wanted="usage"
+not_opened "$room/key" label
+does 1 "$room/file" seal "$room/key" label "$folder/opened" "$room/no-folder/sealed"
+[ "$(ls "$folder" | tr '\n' ' ')" = "opened sealed " ] || { echo "a temporary file is left" >&2; exit 1; }
+
+# The wrapping: of keys of each length, and with padding; each byte of it is changed.
+for key in 16 24 32; do
+    head -c $key /dev/urandom > "$room/user-key"
+    for size in 16 24 32 40 4088; do
+        head -c $size /dev/urandom > "$room/text"
+        does 0 "$room/wrap" wrap "$room/user-key" < "$room/text"
+        cp "$room/out" "$room/wrapped"
+        [ "$(wc -c < "$room/wrapped")" = $((size + 8)) ]
+        does 0 "$room/wrap" unwrap "$room/user-key" < "$room/wrapped"
+        cmp "$room/text" "$room/out"
+    done
+    for size in 1 7 8 9 32 4087; do
+        head -c $size /dev/urandom > "$room/text"
+        does 0 "$room/wrap" wrap-padded "$room/user-key" < "$room/text"
+        cp "$room/out" "$room/wrapped"
+        [ "$(wc -c < "$room/wrapped")" = $(((size + 7) / 8 * 8 + 8)) ]
+        does 0 "$room/wrap" unwrap-padded "$room/user-key" < "$room/wrapped"
+        cmp "$room/text" "$room/out"
+    done
+done
+head -c 32 /dev/urandom > "$room/text"
+for way in "" -padded; do
+    "$room/wrap" wrap$way "$room/user-key" < "$room/text" > "$room/wrapped"
+    for place in $(seq 0 39); do
+        damaged "$room/wrapped" "$place" "$room/changed"
+        does 1 "$room/wrap" unwrap$way "$room/user-key" < "$room/changed"
+        [ ! -s "$room/out" ] && grep -q "unwrapping failed" "$room/fault" || { echo "a changed wrapping is unwrapped" >&2; exit 1; }
+    done
+    head -c 39 "$room/wrapped" > "$room/changed"
+    does 1 "$room/wrap" unwrap$way "$room/user-key" < "$room/changed"
+    grep -q "wrong length for wrapping" "$room/fault"
+    does 1 "$room/wrap" unwrap$way "$room/text" < "$room/wrapped"
+    grep -q "unwrapping failed" "$room/fault"
+    does 1 "$room/wrap" unwrap$way "$room/changed" < "$room/wrapped"
+done
+printf seventeen-letters > "$room/text"
+does 1 "$room/wrap" wrap "$room/user-key" < "$room/text"
+grep -q "wrong length for wrapping" "$room/fault"
+does 1 "$room/wrap" wraps "$room/user-key" < "$room/text"
+grep -q "WAY is wrap" "$room/fault"
+
+# The threads.
+does 0 "$room/threads"
+[ "$(cat "$room/out")" = "4000 of 4000 records opened" ]
+for record in 0 999 1000 3999; do
+    does 1 "$room/threads" $record
+    [ "$(cat "$room/out")" = "3999 of 4000 records opened" ]
+done
+echo "ok: the examples, whole and damaged: messages, files, wrappings and threads"
 
 # The backup: want STATUS WORD.. of backup, from in to out.
 want() {
@@ -66,15 +221,6 @@ refused() {
 part() {
     tail -c +$(($1 + 1)) "$room/sealed" | head -c "$2"
 }
-export ASAN_OPTIONS=detect_leaks=0
-by="cc $strict -fsanitize=address,undefined -fno-sanitize-recover=all"
-echo 'int main(void) { return 0; }' > "$room/probe.c"
-if ! { $by "$room/probe.c" -o "$room/probe" && "$room/probe"; } > "$room/log" 2>&1; then
-    by="cc $strict"
-fi
-$by c/backup.c "$out/libaeadkit.a" -o "$room/backup"
-head -c 32 /dev/urandom > "$room/key"
-head -c 32 /dev/urandom > "$room/another-key"
 mib=1048576
 sealed=$((mib + 16))
 for size in 0 1 $((mib - 1)) $mib $((mib + 1)) $((2 * mib)); do
@@ -96,8 +242,7 @@ refused "$room/key" another-label
 refused "$room/another-key" label
 # a byte of each part is changed
 for place in 0 7 8 47 48 $((48 + mib)) $((48 + sealed)) $((48 + 3 * sealed)) $((48 + 3 * sealed + 20)); do
-    byte=$(part "$place" 1 | od -An -tu1)
-    { part 0 "$place"; printf "\\$(printf %o $((byte ^ 1)))"; part $((place + 1)) $((4 * sealed)); } > "$room/in"
+    damaged "$room/sealed" $place "$room/in"
     refused "$room/key" label
 done
 # it is cut, within a segment and between two, or goes on after its end

@@ -7,7 +7,7 @@ build=no
 if [ $# != 1 ]; then
     echo "usage: check.sh [--build] PREFIX
   PREFIX    what build.sh laid out, whole or with --library
-  --build   the library is laid out there first, if cc, nm, ar and objcopy are there to build it
+  --build   the library is laid out there first, if cc, nm and objcopy are there to build it
 It prints a line for each language, 'ok: ..', or 'left out: ..' if its compiler or interpreter is not there." >&2
     exit 2
 fi
@@ -21,7 +21,7 @@ trap 'rm -rf "$room"' EXIT
 ./quotations.sh ..
 ./published.sh .. "$prefix/bin/aeadkit"
 if [ $build = yes ]; then
-    for tool in cc nm ar objcopy; do
+    for tool in cc nm objcopy; do
         if ! "$tool" --version > "$room/log" 2>&1; then
             echo "left out: the callers in every language, no $tool to build the library"
             exit 0
@@ -54,14 +54,14 @@ objdump -p "$out/libaeadkit.so" | grep -q "SONAME *$soname\$" || { echo "the lib
 echo "ok: $soname exports, as names of $node, $(echo "$exported" | sed "s/@@$node//g")"
 
 if makes "$room/probe.c" cc; then
-    cc -std=c11 -O2 $warnings $include c/example.c "$out/libaeadkit.a" -o "$room/c"
+    cc -std=c11 -O2 $warnings $include c/calls.c "$out/libaeadkit.a" -o "$room/c"
     "$room/c"
     cc -std=c11 -O2 $warnings $include c/pieces.c "$out/libaeadkit.a" -o "$room/pieces"
     "$room/pieces" 10000 100000
     ./c-check.sh "$prefix"
     if pkg-config --version > "$room/probe.log" 2>&1; then
         words=$(PKG_CONFIG_PATH=$out/pkgconfig pkg-config --cflags --libs aeadkit)
-        cc -std=c11 -O2 c/example.c $words -o "$room/c-shared"
+        cc -std=c11 -O2 c/calls.c $words -o "$room/c-shared"
         LD_LIBRARY_PATH=$out "$room/c-shared"
         # the loader takes the build for AVX2 if it is there and the processor has it
         LD_LIBRARY_PATH=$out ldd "$room/c-shared" | sed -n "s|.*=> $prefix/\(.*/$soname\) .*|ok: C by pkg-config, over \1|p"
@@ -69,7 +69,7 @@ if makes "$room/probe.c" cc; then
         echo "left out: C by pkg-config, which is not there"
     fi
     if makes "$room/probe.c" cc $sanitizers; then
-        cc -std=c11 -g $warnings $sanitizers $include c/example.c "$out/libaeadkit.a" -o "$room/c-sanitized"
+        cc -std=c11 -g $warnings $sanitizers $include c/calls.c "$out/libaeadkit.a" -o "$room/c-sanitized"
         ASAN_OPTIONS=detect_leaks=0 "$room/c-sanitized"
         echo "ok: C, and under the sanitizers"
     else
@@ -79,8 +79,7 @@ else
     echo "left out: C, no cc"
 fi
 if makes "$room/probe.c" c++ -x c++; then
-    c++ -x c++ -std=c++17 -O2 $warnings $include -c c/example.c -o "$room/c++.o"
-    c++ -x c++ -std=c++17 -O2 $warnings $include -c c/backup.c -o "$room/backup.o"
+    c++ -x c++ -std=c++17 -O2 $warnings $include -c c/calls.c -o "$room/c++.o"
     c++ "$room/c++.o" "$out/libaeadkit.a" -o "$room/c++"
     "$room/c++"
     echo "ok: C++"

@@ -26,10 +26,9 @@ crates() {
     done
 }
 
-# Copies what the library is made of to a folder outside the repository, in which crates.txt names aead and capi as
-# libraries of a kind and leaves out what depends on aead: copy REPOSITORY ROOM KIND
+# Copies what the library is made of to a folder outside the repository: copy REPOSITORY ROOM
 copy() {
-    grep -Ev '^(vectors|command|aeadkit):' "$1/crates.txt" | sed -E "s/^(aead|capi)[^:]*:/\\1 $3:/" > "$2/crates.txt"
+    cp "$1/crates.txt" "$2/crates.txt"
     crates "$1" "$2"
 }
 
@@ -63,13 +62,8 @@ archive() {
     folder=$2
     shift 2
     fit "$room" "$@"
-    for name in capi aead; do
-        proved "$room" "$name" lib "$@"
-        (cd "$room" && ar x "crates/$name/out/lib$name.a")
-        objcopy -w --set-section-alignment '.text.*=64' "$room/$name.o"
-    done
-    rm -f "$folder/libaeadkit.a"
-    ar rcs "$folder/libaeadkit.a" "$room/aead.o" "$room/capi.o"
+    proved "$room" capi lib "$@"
+    objcopy -w --set-section-alignment '.text.*=64' "$room/crates/capi/out/libcapi.a" "$folder/libaeadkit.a"
 }
 
 # Links an archive as FOLDER/libaeadkit.so, under the name that its version says: shared ARCHIVE FOLDER VERSION EXPORTS
@@ -88,8 +82,7 @@ program() {
     room=$2
     folder=$3
     shift 3
-    cp "$repository/crates.txt" "$room/crates.txt"
-    crates "$repository" "$room"
+    copy "$repository" "$room"
     fit "$room" "$@"
     proved "$room" aeadkit run "$@" -- --version
     cp "$room/crates/aeadkit/out/aeadkit" "$folder/aeadkit.new"

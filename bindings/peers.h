@@ -67,20 +67,31 @@ static int aeadkit_has(const struct kind *kind) {
     return kind != NULL;
 }
 
+/* The calls of whole messages are those in place. Key wrap has none in place: its result is copied to where the
+   peers have theirs, which is part of the time. */
 static int by_aeadkit(const struct kind *kind, const struct message *m, enum direction direction) {
     static struct aeadkit_key keys[KINDS];
     static unsigned set[KINDS];
-    size_t n = whole(kind, m), k = kind->key_length;
-    if (kind->form == WRAP)
-        return !(direction == SEALING ? aeadkit_wrap : aeadkit_unwrap)(m->key, k, m->bytes, n);
+    static uint8_t apart[1 << 15];
+    size_t n = m->length, k = kind->key_length;
+    uint8_t *bytes = m->bytes, *tag = bytes + n;
+    if (kind->form == WRAP) {
+        uint8_t *text = text_of(kind, m);
+        if (direction == SEALING ? aeadkit_wrap(m->key, k, text, n, apart, n + 8)
+                                 : aeadkit_unwrap(m->key, k, bytes, n + 8, apart, n)) return 0;
+        memcpy(direction == SEALING ? bytes : text, apart, direction == SEALING ? n + 8 : n);
+        return 1;
+    }
     if (kept) {
         struct aeadkit_key *key = &keys[kind - kinds];
-        return (!to_set(&set[kind - kinds]) || !aeadkit_key_init(key, kind->suite, m->key, k))
-            && !(direction == SEALING ? aeadkit_seal_with : aeadkit_open_with)(key, m->nonce, 12, m->aad,
-                                                                               m->aad_length, m->bytes, n);
+        if (to_set(&set[kind - kinds]) && aeadkit_key_init(key, kind->suite, m->key, k)) return 0;
+        return !(direction == SEALING
+            ? aeadkit_seal_in_place_with(key, m->nonce, 12, m->aad, m->aad_length, bytes, n, tag)
+            : aeadkit_open_in_place_with(key, m->nonce, 12, m->aad, m->aad_length, bytes, n, tag));
     }
-    return !(direction == SEALING ? aeadkit_seal : aeadkit_open)(kind->suite, m->key, k, m->nonce, 12,
-                                                                 m->aad, m->aad_length, m->bytes, n);
+    return !(direction == SEALING
+        ? aeadkit_seal_in_place(kind->suite, m->key, k, m->nonce, 12, m->aad, m->aad_length, bytes, n, tag)
+        : aeadkit_open_in_place(kind->suite, m->key, k, m->nonce, 12, m->aad, m->aad_length, bytes, n, tag));
 }
 
 #ifdef WITH_OPENSSL

@@ -42,8 +42,10 @@ static void stop(int status, const char *why) {
 }
 
 /* Ends the program at any other status of the library than DONE. */
-static void need(uint32_t status, const char *why) {
-    if (status == AEADKIT_TAG_MISMATCH || status == AEADKIT_TOO_SHORT || status == AEADKIT_WRAP_INTEGRITY) stop(1, why);
+static void need(uint32_t status) {
+    char why[33] = "";
+    aeadkit_status_text(status, (uint8_t *)why, sizeof why - 1);
+    if (status == AEADKIT_TAG_MISMATCH || status == AEADKIT_WRAP_INTEGRITY) stop(1, why);
     if (status != AEADKIT_DONE) stop(3, why);
 }
 
@@ -69,30 +71,25 @@ static void give(const uint8_t *from, size_t length) {
     }
 }
 
-/* Makes the head, or reads it, and keeps the data key: a box is room for 8 bytes and then the key, or its wrapping. */
+/* Makes the head, or reads it, and keeps the data key. */
 static void begin(int sealing, const char *key_file, const char *label) {
-    uint8_t user_key[KEY + 1], box[BOX] = {0};
+    uint8_t user_key[KEY + 1], key[KEY], found[HEAD], *box = head + HEAD - BOX;
     int file = open(key_file, O_RDONLY);
     if (file < 0) stop(2, strerror(errno));
     if (take(file, user_key, KEY + 1) != KEY) stop(2, "a key file holds 32 bytes");
     close(file);
     if (sealing) {
-        if (getrandom(box + AEADKIT_WRAP_BYTES, KEY, 0) != KEY) stop(3, "no random bytes");
+        if (getrandom(key, KEY, 0) != KEY) stop(3, "no random bytes");
+        need(aeadkit_wrap(user_key, KEY, key, KEY, box, BOX));
+        give(head, HEAD);
     } else {
-        uint8_t found[HEAD];
         if (take(0, found, HEAD) != HEAD || memcmp(found, head, HEAD - BOX)) stop(1, "not a backup");
         memcpy(head, found, HEAD);
-        memcpy(box, found + HEAD - BOX, BOX);
-        need(aeadkit_unwrap(user_key, KEY, box, BOX), "not authentic: another key, or a changed head");
+        need(aeadkit_unwrap(user_key, KEY, box, BOX, key, KEY));
     }
-    need(aeadkit_key_init(&data_key, SUITE, box + AEADKIT_WRAP_BYTES, KEY), "the data key is refused");
-    if (sealing) {
-        need(aeadkit_wrap(user_key, KEY, box, BOX), "the data key is not wrapped");
-        memcpy(head + HEAD - BOX, box, BOX);
-        give(head, HEAD);
-    }
+    need(aeadkit_key_init(&data_key, SUITE, key, KEY));
     explicit_bzero(user_key, sizeof user_key);
-    explicit_bzero(box, BOX);
+    explicit_bzero(key, KEY);
     memcpy(aad, head, HEAD);
     memcpy(aad + HEAD, label, strlen(label));
     aad_length = HEAD + strlen(label);
@@ -114,19 +111,19 @@ int main(int count, char **words) {
         uint8_t next = bytes[whole];
         for (int i = 0; i < 8; i++) nonce[3 + i] = (uint8_t)(number >> (56 - 8 * i));
         nonce[11] = (uint8_t)last;
-        if (sealing) {
-            length += TAG; /* the room for the tag */
-            need(aeadkit_seal_with(&data_key, nonce, sizeof nonce, aad, aad_length, bytes, length), "a segment is refused");
-            give(bytes, length);
+        if (sealing) { /* the tag goes behind the text */
+            need(aeadkit_seal_in_place_with(&data_key, nonce, sizeof nonce, aad, aad_length, bytes, length, bytes + length));
+            give(bytes, length + TAG);
         } else {
-            need(aeadkit_open_with(&data_key, nonce, sizeof nonce, aad, aad_length, bytes, length),
-                 "not authentic: changed, cut, or sealed with another label");
-            give(bytes, length - TAG);
+            if (length < TAG) stop(1, "the backup was cut");
+            length -= TAG;
+            need(aeadkit_open_in_place_with(&data_key, nonce, sizeof nonce, aad, aad_length, bytes, length, bytes + length));
+            give(bytes, length);
         }
         bytes[0] = next;
         held = 1;
     }
-    explicit_bzero(&data_key, sizeof data_key);
+    aeadkit_key_wipe(&data_key);
     if ((fsync(1) && errno != EINVAL && errno != EROFS) || close(1)) stop(3, strerror(errno));
     return 0;
 }

@@ -1,5 +1,6 @@
-/* Seals and opens random texts in random pieces and compares them with aeadkit_seal and aeadkit_open, and hands structs of
-   random bytes to the calls in pieces. Prints one line, and exits with 0 if nothing differs:
+/* Seals and opens random texts in random pieces, between which the structs are moved or saved and resumed, and compares them with
+   aeadkit_seal and aeadkit_open; and hands structs of random bytes to the calls. Prints one line, and exits with 0 if nothing
+   differs:
    cc -Iinclude c/pieces.c -LOUT -laeadkit && ./a.out [SPLITS] [STRUCTS] */
 #include "aeadkit.h"
 
@@ -34,7 +35,7 @@ static int all(const uint8_t *bytes, size_t length, uint8_t value) {
 
 enum { LONGEST = 20000 };
 
-static uint8_t whole[LONGEST + 16], pieces[LONGEST + 16], text[LONGEST];
+static uint8_t whole[LONGEST + 16], pieces[LONGEST + 16], text[LONGEST], opened[LONGEST];
 
 /* A random text under random keys of a suite, in `text`, and its sealing in `whole`. */
 struct message {
@@ -54,9 +55,8 @@ static struct message message_of(long number, uint32_t suite) {
     random_bytes(m.nonce, 12);
     random_bytes(m.aad, m.aad_length);
     random_bytes(text, m.length);
-    memcpy(whole, text, m.length);
-    want(aeadkit_seal(m.suite, m.key, m.key_length, m.nonce, 12, m.aad, m.aad_length, whole, m.length + 16) == AEADKIT_DONE,
-         "seal", number);
+    want(aeadkit_seal(m.suite, m.key, m.key_length, m.nonce, 12, m.aad, m.aad_length, text, m.length, whole, m.length + 16)
+             == AEADKIT_DONE, "seal", number);
     return m;
 }
 
@@ -66,6 +66,51 @@ static size_t next_of(const struct message *m, size_t done) {
     return next > m->length - done ? m->length - done : next;
 }
 
+/* Moves a sealer, or saves it and resumes it elsewhere. */
+static void move_sealer(struct aeadkit_sealer *sealer, const struct message *m, long number) {
+    struct aeadkit_sealer moved = *sealer;
+    struct aeadkit_saved_sealer saved;
+    int resumes = random_word() % 4 == 0;
+    if (resumes) {
+        want(aeadkit_sealer_save(sealer, &saved) == AEADKIT_DONE, "sealer_save", number);
+        want(!memcmp(&moved, sealer, sizeof moved), "changed by sealer_save", number);
+    }
+    memset(sealer, 0x5a, sizeof *sealer);
+    if (resumes)
+        want(aeadkit_sealer_resume(sealer, m->key, m->key_length, m->nonce, 12, &saved) == AEADKIT_DONE, "sealer_resume", number);
+    else *sealer = moved;
+}
+
+/* The same of an opener, in either pass. */
+static void move_opener(struct aeadkit_opener *opener, const struct message *m, long number) {
+    struct aeadkit_opener moved = *opener;
+    struct aeadkit_saved_passes saved;
+    int resumes = random_word() % 4 == 0;
+    if (resumes) {
+        want(aeadkit_opener_save(opener, &saved) == AEADKIT_DONE, "opener_save", number);
+        want(!memcmp(&moved, opener, sizeof moved), "changed by opener_save", number);
+    }
+    memset(opener, 0x5a, sizeof *opener);
+    if (resumes)
+        want(aeadkit_opener_resume(opener, m->key, m->key_length, m->nonce, 12, &saved) == AEADKIT_DONE, "opener_resume", number);
+    else *opener = moved;
+}
+
+/* The same of a sealing by two readings, in either of them. */
+static void move_siv(struct aeadkit_siv *siv, const struct message *m, long number) {
+    struct aeadkit_siv moved = *siv;
+    struct aeadkit_saved_passes saved;
+    int resumes = random_word() % 4 == 0;
+    if (resumes) {
+        want(aeadkit_siv_save(siv, &saved) == AEADKIT_DONE, "siv_save", number);
+        want(!memcmp(&moved, siv, sizeof moved), "changed by siv_save", number);
+    }
+    memset(siv, 0x5a, sizeof *siv);
+    if (resumes)
+        want(aeadkit_siv_resume(siv, m->key, m->key_length, m->nonce, 12, &saved) == AEADKIT_DONE, "siv_resume", number);
+    else *siv = moved;
+}
+
 /* Seals the text of a message in random pieces, between which the struct is moved, by a sealing that was begun. */
 static void sealed_in_pieces(struct aeadkit_sealer *sealer, const struct message *m, long number) {
     size_t length = m->length;
@@ -73,9 +118,7 @@ static void sealed_in_pieces(struct aeadkit_sealer *sealer, const struct message
     memcpy(pieces, text, length);
     for (size_t done = 0; done < length;) {
         size_t next = next_of(m, done);
-        struct aeadkit_sealer moved = *sealer;
-        memset(sealer, 0x5a, sizeof *sealer);
-        *sealer = moved;
+        move_sealer(sealer, m, number);
         want(aeadkit_sealer_update(sealer, pieces + done, next) == AEADKIT_DONE, "update", number);
         done += next;
     }
@@ -109,14 +152,20 @@ static void open_in_pieces(long number) {
     if (way == CHANGED) whole[bit / 8] ^= (uint8_t)(1 << bit % 8);
     memcpy(pieces, whole, length);
     struct aeadkit_opener opener, moved;
+    struct aeadkit_key kept;
     random_bytes((uint8_t *)&opener, sizeof opener);
-    want(aeadkit_opener_init(&opener, m.suite, m.key, m.key_length, m.nonce, 12, m.aad, m.aad_length, whole + length)
-             == AEADKIT_DONE, "opener_init", number);
+    if (random_word() % 2) {
+        want(aeadkit_opener_init(&opener, m.suite, m.key, m.key_length, m.nonce, 12, m.aad, m.aad_length, whole + length)
+                 == AEADKIT_DONE, "opener_init", number);
+    } else {
+        want(aeadkit_key_init(&kept, m.suite, m.key, m.key_length) == AEADKIT_DONE, "key_init", number);
+        want(aeadkit_opener_init_with(&opener, &kept, m.nonce, 12, m.aad, m.aad_length, whole + length) == AEADKIT_DONE,
+             "opener_init_with", number);
+        aeadkit_key_wipe(&kept);
+    }
     for (size_t done = 0; done < length;) {
         size_t next = next_of(&m, done);
-        moved = opener;
-        memset(&opener, 0x5a, sizeof opener);
-        opener = moved;
+        move_opener(&opener, &m, number);
         want(aeadkit_opener_check(&opener, pieces + done, next) == AEADKIT_DONE, "check", number);
         done += next;
     }
@@ -124,9 +173,10 @@ static void open_in_pieces(long number) {
     want(aeadkit_opener_update(&opener, pieces, length) == AEADKIT_NOT_BEGUN, "text before the check", number);
     want(aeadkit_opener_finish(&opener) == AEADKIT_NOT_BEGUN, "finished before the check", number);
     want(!memcmp(pieces, whole, length) && !memcmp(&opener, &moved, sizeof opener), "changed before the check", number);
-    uint32_t status = aeadkit_opener_checked(&opener);
-    want(status == aeadkit_open(m.suite, m.key, m.key_length, m.nonce, 12, m.aad, m.aad_length, whole, length + 16),
-         "another status of checked", number);
+    uint32_t status = aeadkit_opener_begin_second(&opener);
+    want(status == aeadkit_open(m.suite, m.key, m.key_length, m.nonce, 12, m.aad, m.aad_length, whole, length + 16, opened, length),
+         "another status of begin_second", number);
+    if (status == AEADKIT_TAG_MISMATCH) want(all(opened, length, 0), "not zeros where nothing was opened", number);
     want((way == CHANGED) == (status == AEADKIT_TAG_MISMATCH), "a changed bit", number);
     if (status != AEADKIT_DONE) {
         want(all((uint8_t *)&opener, sizeof opener, 0), "not zeros after a mismatch", number);
@@ -139,9 +189,7 @@ static void open_in_pieces(long number) {
     if (changed) pieces[bit / 8] ^= (uint8_t)(1 << bit % 8);
     for (size_t done = 0; done < length;) {
         size_t next = next_of(&m, done);
-        moved = opener;
-        memset(&opener, 0x5a, sizeof opener);
-        opener = moved;
+        move_opener(&opener, &m, number);
         want(aeadkit_opener_update(&opener, pieces + done, next) == AEADKIT_DONE, "opener_update", number);
         done += next;
     }
@@ -153,7 +201,7 @@ static void open_in_pieces(long number) {
     }
     want(aeadkit_opener_finish(&opener) == (changed ? AEADKIT_SOURCE_CHANGED : AEADKIT_DONE), "opener_finish", number);
     if (changed) pieces[bit / 8] ^= (uint8_t)(1 << bit % 8);
-    want(!memcmp(pieces, text, length) && !memcmp(whole, text, length), "another text", number);
+    want(!memcmp(pieces, text, length) && !memcmp(opened, text, length), "another text", number);
     want(all((uint8_t *)&opener, sizeof opener, 0), "not zeros after finish", number);
     want(aeadkit_opener_finish(&opener) == AEADKIT_NOT_BEGUN, "finished twice", number);
 }
@@ -167,14 +215,19 @@ static void seal_by_two_readings(long number) {
     uint8_t tag[16], kept[16];
     memcpy(pieces, text, length);
     struct aeadkit_siv siv, moved;
+    struct aeadkit_key kept_key;
     random_bytes((uint8_t *)&siv, sizeof siv);
-    want(aeadkit_siv_init(&siv, m.suite, m.key, m.key_length, m.nonce, 12, m.aad, m.aad_length) == AEADKIT_DONE, "siv_init",
-         number);
+    if (random_word() % 2) {
+        want(aeadkit_siv_init(&siv, m.suite, m.key, m.key_length, m.nonce, 12, m.aad, m.aad_length) == AEADKIT_DONE, "siv_init",
+             number);
+    } else {
+        want(aeadkit_key_init(&kept_key, m.suite, m.key, m.key_length) == AEADKIT_DONE, "key_init", number);
+        want(aeadkit_siv_init_with(&siv, &kept_key, m.nonce, 12, m.aad, m.aad_length) == AEADKIT_DONE, "siv_init_with", number);
+        aeadkit_key_wipe(&kept_key);
+    }
     for (size_t done = 0; done < length;) {
         size_t next = next_of(&m, done);
-        moved = siv;
-        memset(&siv, 0x5a, sizeof siv);
-        siv = moved;
+        move_siv(&siv, &m, number);
         want(aeadkit_siv_absorb(&siv, pieces + done, next) == AEADKIT_DONE, "absorb", number);
         done += next;
     }
@@ -182,11 +235,11 @@ static void seal_by_two_readings(long number) {
     want(aeadkit_siv_update(&siv, pieces, length) == AEADKIT_NOT_BEGUN, "ciphertext before the tag", number);
     want(aeadkit_siv_finish(&siv) == AEADKIT_NOT_BEGUN, "finished before the tag", number);
     want(!memcmp(pieces, text, length) && !memcmp(&siv, &moved, sizeof siv), "changed before the tag", number);
-    want(aeadkit_siv_tag(&siv, tag) == AEADKIT_DONE && !memcmp(whole + length, tag, 16), "another tag", number);
+    want(aeadkit_siv_begin_second(&siv, tag) == AEADKIT_DONE && !memcmp(whole + length, tag, 16), "another tag", number);
     moved = siv;
     memcpy(kept, tag, 16);
     want(aeadkit_siv_absorb(&siv, pieces, length) == AEADKIT_NOT_BEGUN, "absorbed after the tag", number);
-    want(aeadkit_siv_tag(&siv, tag) == AEADKIT_NOT_BEGUN, "a second tag", number);
+    want(aeadkit_siv_begin_second(&siv, tag) == AEADKIT_NOT_BEGUN, "a second tag", number);
     want(!memcmp(kept, tag, 16) && !memcmp(&siv, &moved, sizeof siv), "changed after the tag", number);
     int changed = way == CHANGED && bit < 8 * length;
     if (changed) pieces[bit / 8] ^= (uint8_t)(1 << bit % 8);
@@ -194,9 +247,7 @@ static void seal_by_two_readings(long number) {
     for (size_t done = 0; done < again;) {
         size_t next = next_of(&m, done);
         if (next > again - done) next = again - done;
-        moved = siv;
-        memset(&siv, 0x5a, sizeof siv);
-        siv = moved;
+        move_siv(&siv, &m, number);
         want(aeadkit_siv_update(&siv, pieces + done, next) == AEADKIT_DONE, "siv_update", number);
         done += next;
     }
@@ -258,8 +309,8 @@ static void opener_rubbish(long number, const struct aeadkit_opener marks[2][6])
     random_bytes((uint8_t *)&held.opener, sizeof held.opener);
     size_t pass = random_word() % 2;
     if (number % 4) held.opener.private_[0] = marks[pass][random_word() % 6].private_[0];
-    if (number % 3) held.opener.private_[18] = (number % 3 == 1 ? 0x3fffffffc0u : 0xfffffffe0u) - random_word() % 300;
-    if (number % 5) held.opener.private_[24] = held.opener.private_[18] + random_word() % 300;
+    if (number % 3) held.opener.private_[17] = (number % 3 == 1 ? 0x3fffffffc0u : 0xfffffffe0u) - random_word() % 300;
+    if (number % 5) held.opener.private_[23] = held.opener.private_[17] + random_word() % 300;
     struct aeadkit_opener was = held.opener;
     size_t length = random_word() % 300;
     memset(piece, 0x3c, sizeof piece);
@@ -278,7 +329,7 @@ static void opener_rubbish(long number, const struct aeadkit_opener marks[2][6])
     want(status == AEADKIT_DONE || (!memcmp(piece, copy, sizeof piece) && !memcmp(&was, &held.opener, sizeof was)),
          "changed by a refused opener_update", number);
     was = held.opener;
-    status = number % 2 ? aeadkit_opener_checked(&held.opener) : aeadkit_opener_finish(&held.opener);
+    status = number % 2 ? aeadkit_opener_begin_second(&held.opener) : aeadkit_opener_finish(&held.opener);
     if (number % 2 ? first : second) {
         want(status == (number % 2 ? AEADKIT_TAG_MISMATCH : AEADKIT_SOURCE_CHANGED), "a tag of random bytes", number);
         want(all((uint8_t *)&held.opener, sizeof was, 0), "not zeros after a pass", number);
@@ -301,8 +352,8 @@ static void siv_rubbish(long number, const struct aeadkit_siv marks[2][2]) {
     random_bytes((uint8_t *)&held.siv, sizeof held.siv);
     size_t reading = random_word() % 2;
     if (number % 4) held.siv.private_[0] = marks[reading][random_word() % 2].private_[0];
-    if (number % 3) held.siv.private_[18] = 0x1000000000u - random_word() % 300;
-    if (number % 5) held.siv.private_[24] = held.siv.private_[18] + random_word() % 300;
+    if (number % 3) held.siv.private_[17] = 0x1000000000u - random_word() % 300;
+    if (number % 5) held.siv.private_[23] = held.siv.private_[17] + random_word() % 300;
     struct aeadkit_siv was = held.siv;
     size_t length = random_word() % 300;
     memset(piece, 0x3c, sizeof piece);
@@ -322,7 +373,7 @@ static void siv_rubbish(long number, const struct aeadkit_siv marks[2][2]) {
     want(status == AEADKIT_DONE || (!memcmp(piece, copy, sizeof piece) && !memcmp(&was, &held.siv, sizeof was)),
          "changed by a refused siv_update", number);
     was = held.siv;
-    status = number % 2 ? aeadkit_siv_tag(&held.siv, tag + 16) : aeadkit_siv_finish(&held.siv);
+    status = number % 2 ? aeadkit_siv_begin_second(&held.siv, tag + 16) : aeadkit_siv_finish(&held.siv);
     want(all(tag, 16, 0x3c) && all(tag + 32, 16, 0x3c), "bytes about the tag", number);
     if (number % 2 && first) {
         want(status == AEADKIT_DONE && held.siv.private_[0] != was.private_[0], "a tag of random bytes", number);
@@ -385,16 +436,29 @@ static void refusals(void) {
     }
 }
 
-/* A sealing of a message begins under a kept key as under its bytes, or is refused under the suites 5 and 6. */
+/* A sealing of a message begins under a kept key as under its bytes, or is refused under a suite that the call does not take, or
+   with a nonce of another length. An opening begins under each. */
 static void begun_by_a_kept_key(const struct aeadkit_key *kept, const struct message *m, long number) {
-    struct { uint8_t before[16]; struct aeadkit_sealer sealer; uint8_t after[16]; } held;
+    struct {
+        uint64_t before[2];
+        struct aeadkit_sealer sealer;
+        uint64_t after_sealer[2];
+        struct aeadkit_opener opener;
+        uint64_t after_opener[2];
+        struct aeadkit_siv siv;
+        uint64_t after[2];
+    } held;
     struct aeadkit_sealer *sealer = &held.sealer;
     memset(&held, 0xa5, sizeof held);
     random_bytes((uint8_t *)sealer, sizeof *sealer);
+    random_bytes((uint8_t *)&held.opener, sizeof held.opener);
+    random_bytes((uint8_t *)&held.siv, sizeof held.siv);
     uint32_t status = aeadkit_sealer_init_with(sealer, kept, m->nonce, 12, m->aad, m->aad_length);
+    uint32_t siv_status = aeadkit_siv_init_with(&held.siv, kept, m->nonce, 11, m->aad, m->aad_length);
     if (m->suite > 4) {
         want(status == AEADKIT_UNKNOWN_SUITE, "a suite of two readings", number);
         want(all((uint8_t *)sealer, sizeof *sealer, 0), "not zeros after a suite of two readings", number);
+        want(siv_status == AEADKIT_NONCE_LENGTH, "a siv with a nonce of 11 bytes", number);
     } else {
         want(status == AEADKIT_DONE, "sealer_init_with", number);
         sealed_in_pieces(sealer, m, number);
@@ -402,8 +466,15 @@ static void begun_by_a_kept_key(const struct aeadkit_key *kept, const struct mes
         want(aeadkit_sealer_init_with(sealer, kept, m->nonce, 11, NULL, 0) == AEADKIT_NONCE_LENGTH,
              "begun with a nonce of 11 bytes", number);
         want(all((uint8_t *)sealer, sizeof *sealer, 0), "not zeros after a nonce of 11 bytes", number);
+        want(siv_status == AEADKIT_UNKNOWN_SUITE, "a suite of one reading", number);
     }
-    want(all(held.before, 16, 0xa5) && all(held.after, 16, 0xa5), "written beside a sealer", number);
+    want(all((uint8_t *)&held.siv, sizeof held.siv, 0), "a siv is not zeros after a refusal", number);
+    want(aeadkit_opener_init_with(&held.opener, kept, m->nonce, 13, NULL, 0, m->key) == AEADKIT_NONCE_LENGTH,
+         "an opener with a nonce of 13 bytes", number);
+    want(all((uint8_t *)&held.opener, sizeof held.opener, 0), "an opener is not zeros after a nonce of 13 bytes", number);
+    want(all((uint8_t *)held.before, 16, 0xa5) && all((uint8_t *)held.after_sealer, 16, 0xa5)
+             && all((uint8_t *)held.after_opener, 16, 0xa5) && all((uint8_t *)held.after, 16, 0xa5),
+         "written beside the structs", number);
 }
 
 /* A kept key seals, begins and opens a message as its bytes do, and no call writes it. */
@@ -415,20 +486,30 @@ static void by_a_kept_key(long number) {
     want(aeadkit_key_init(&held.kept, m.suite, m.key, m.key_length) == AEADKIT_DONE, "key_init", number);
     struct aeadkit_key kept = held.kept;
     begun_by_a_kept_key(&held.kept, &m, number);
-    memcpy(pieces, text, m.length);
-    want(aeadkit_seal_with(&held.kept, m.nonce, 12, m.aad, m.aad_length, pieces, m.length + 16) == AEADKIT_DONE, "seal_with",
+    size_t length = m.length;
+    uint8_t tag[16];
+    want(aeadkit_seal_with(&held.kept, m.nonce, 12, m.aad, m.aad_length, text, length, pieces, length + 16) == AEADKIT_DONE,
+         "seal_with", number);
+    want(!memcmp(pieces, whole, length + 16), "another sealing by a kept key", number);
+    want(aeadkit_open_with(&held.kept, m.nonce, 12, m.aad, m.aad_length, pieces, length + 16, opened, length) == AEADKIT_DONE,
+         "open_with", number);
+    want(!memcmp(opened, text, length), "another text by a kept key", number);
+    want(aeadkit_seal_in_place_with(&held.kept, m.nonce, 12, m.aad, m.aad_length, opened, length, tag) == AEADKIT_DONE,
+         "seal_in_place_with", number);
+    want(!memcmp(opened, whole, length) && !memcmp(tag, whole + length, 16), "another sealing in place by a kept key", number);
+    want(aeadkit_open_in_place_with(&held.kept, m.nonce, 12, m.aad, m.aad_length, opened, length, tag) == AEADKIT_DONE,
+         "open_in_place_with", number);
+    want(!memcmp(opened, text, length) && !memcmp(tag, whole + length, 16), "another text in place by a kept key", number);
+    pieces[random_word() % (length + 16)] ^= 1;
+    memcpy(whole, pieces, length + 16);
+    want(aeadkit_open_with(&held.kept, m.nonce, 12, m.aad, m.aad_length, pieces, length + 16, opened, length)
+             == AEADKIT_TAG_MISMATCH, "a changed sealing opened by a kept key", number);
+    want(all(opened, length, 0) && !memcmp(pieces, whole, length + 16), "what a mismatch by a kept key leaves", number);
+    want(aeadkit_open_in_place_with(&held.kept, m.nonce, 12, m.aad, m.aad_length, pieces, length, pieces + length)
+             == AEADKIT_TAG_MISMATCH, "a changed sealing opened in place by a kept key", number);
+    want(!memcmp(pieces, whole, length + 16), "changed at a mismatch in place by a kept key", number);
+    want(aeadkit_seal_with(&held.kept, m.nonce, 11, NULL, 0, pieces, 0, pieces, 16) == AEADKIT_NONCE_LENGTH, "a nonce of 11 bytes",
          number);
-    want(memcmp(pieces, whole, m.length + 16) == 0, "another sealing by a kept key", number);
-    want(aeadkit_open_with(&held.kept, m.nonce, 12, m.aad, m.aad_length, pieces, m.length + 16) == AEADKIT_DONE, "open_with",
-         number);
-    want(memcmp(pieces, text, m.length) == 0, "another text by a kept key", number);
-    memcpy(pieces, whole, m.length + 16);
-    pieces[random_word() % (m.length + 16)] ^= 1;
-    memcpy(whole, pieces, m.length + 16);
-    want(aeadkit_open_with(&held.kept, m.nonce, 12, m.aad, m.aad_length, pieces, m.length + 16) == AEADKIT_TAG_MISMATCH,
-         "a changed sealing opened by a kept key", number);
-    want(memcmp(pieces, whole, m.length + 16) == 0, "changed at a mismatch by a kept key", number);
-    want(aeadkit_seal_with(&held.kept, m.nonce, 11, NULL, 0, pieces, 16) == AEADKIT_NONCE_LENGTH, "a nonce of 11 bytes", number);
     want(memcmp(&kept, &held.kept, sizeof kept) == 0, "a kept key was written", number);
     want(all(held.before, 16, 0xa5) && all(held.after, 16, 0xa5), "written beside a kept key", number);
 }
@@ -442,48 +523,253 @@ static void kept_key_rubbish(long number) {
     random_bytes(bytes, 64);
     memcpy(before, bytes, 64);
     random_bytes((uint8_t *)&kept, sizeof kept);
-    want(aeadkit_seal_with(&kept, nonce, 12, NULL, 0, bytes, 64) == AEADKIT_NOT_BEGUN, "sealed by no key", number);
-    want(aeadkit_open_with(&kept, nonce, 12, NULL, 0, bytes, 64) == AEADKIT_NOT_BEGUN, "opened by no key", number);
+    want(aeadkit_seal_in_place_with(&kept, nonce, 12, NULL, 0, bytes, 48, bytes + 48) == AEADKIT_NOT_BEGUN, "sealed by no key",
+         number);
+    want(aeadkit_open_in_place_with(&kept, nonce, 12, NULL, 0, bytes, 48, bytes + 48) == AEADKIT_NOT_BEGUN, "opened by no key",
+         number);
+    want(aeadkit_seal_with(&kept, nonce, 12, NULL, 0, bytes, 24, bytes + 24, 40) == AEADKIT_NOT_BEGUN, "sealed elsewhere by no key",
+         number);
+    want(aeadkit_open_with(&kept, nonce, 12, NULL, 0, bytes, 40, bytes + 40, 24) == AEADKIT_NOT_BEGUN, "opened elsewhere by no key",
+         number);
     want(aeadkit_key_init(&kept, 7, key, 32) == AEADKIT_UNKNOWN_SUITE, "a key of suite 7", number);
     want(aeadkit_key_init(&kept, 1 + (uint32_t)(number % 6), key, 33) == AEADKIT_KEY_LENGTH, "a key of 33 bytes", number);
-    want(aeadkit_seal_with(&kept, nonce, 12, NULL, 0, bytes, 64) == AEADKIT_NOT_BEGUN, "sealed by a refused key", number);
+    want(all((uint8_t *)&kept, sizeof kept, 0), "not zeros after a refused key", number);
+    want(aeadkit_seal_in_place_with(&kept, nonce, 12, NULL, 0, bytes, 48, bytes + 48) == AEADKIT_NOT_BEGUN,
+         "sealed by a refused key", number);
     want(memcmp(bytes, before, 64) == 0, "changed by no key", number);
     uint32_t suite = 1 + (uint32_t)(number % 6);
     want(aeadkit_key_init(&kept, suite, key, suite == 2 || suite == 5 ? 16 : suite == 3 ? 24 : 32) == AEADKIT_DONE, "key_init",
          number);
     random_bytes((uint8_t *)&kept + 8, sizeof kept - 8);
-    want(aeadkit_seal_with(&kept, nonce, 12, NULL, 0, bytes, 64) == AEADKIT_DONE, "sealed by a spoilt key", number);
+    want(aeadkit_seal_in_place_with(&kept, nonce, 12, NULL, 0, bytes, 48, bytes + 48) == AEADKIT_DONE, "sealed by a spoilt key",
+         number);
 }
 
-/* Such structs begin a sealing or are refused. Nothing but the sealer is written, which is zeros after a refusal. */
+/* Such structs begin a sealing or an opening, or are refused. Nothing but the struct that is begun is written, which is zeros
+   after a refusal. */
 static void kept_key_rubbish_begins(long number, const uint64_t marks[6]) {
     struct {
-        uint8_t before[64];
+        uint64_t before[8];
         struct aeadkit_sealer sealer;
-        uint8_t between[64];
+        uint64_t after_sealer[8];
+        struct aeadkit_opener opener;
+        uint64_t after_opener[8];
+        struct aeadkit_siv siv;
+        uint64_t between[8];
         struct aeadkit_key kept;
-        uint8_t after[64];
+        uint64_t after[8];
     } held;
     uint8_t nonce[13], aad[70], tag[16];
     memset(&held, 0xa5, sizeof held);
     random_bytes((uint8_t *)&held.sealer, sizeof held.sealer);
+    random_bytes((uint8_t *)&held.opener, sizeof held.opener);
+    random_bytes((uint8_t *)&held.siv, sizeof held.siv);
     random_bytes((uint8_t *)&held.kept, sizeof held.kept);
     random_bytes(nonce, sizeof nonce);
     random_bytes(aad, sizeof aad);
     if (number % 4) held.kept.private_[0] = marks[number % 6];
     struct aeadkit_key was = held.kept;
-    size_t nonce_length = number % 5 ? 12 : 11 + 2 * (size_t)(number % 2);
-    uint32_t status = aeadkit_sealer_init_with(&held.sealer, &held.kept, nonce, nonce_length, aad, random_word() % 70);
-    want(status == (number % 4 == 0 ? AEADKIT_NOT_BEGUN : number % 6 > 3 ? AEADKIT_UNKNOWN_SUITE
-                    : number % 5 ? AEADKIT_DONE : AEADKIT_NONCE_LENGTH), "a status of sealer_init_with", number);
+    size_t nonce_length = number % 5 ? 12 : 11 + 2 * (size_t)(number % 2), aad_length = random_word() % 70;
+    uint32_t status = aeadkit_sealer_init_with(&held.sealer, &held.kept, nonce, nonce_length, aad, aad_length);
+    uint32_t otherwise = number % 5 ? AEADKIT_DONE : AEADKIT_NONCE_LENGTH;
+    want(status == (number % 4 == 0 ? AEADKIT_NOT_BEGUN : number % 6 > 3 ? AEADKIT_UNKNOWN_SUITE : otherwise),
+         "a status of sealer_init_with", number);
     if (status == AEADKIT_DONE) {
         want(aeadkit_sealer_update(&held.sealer, aad, 70) == AEADKIT_DONE, "updated by a spoilt key", number);
         want(aeadkit_sealer_finish(&held.sealer, tag) == AEADKIT_DONE, "finished by a spoilt key", number);
     }
     want(all((uint8_t *)&held.sealer, sizeof held.sealer, 0), "the sealer of a spoilt key", number);
+    random_bytes(tag, sizeof tag);
+    status = aeadkit_opener_init_with(&held.opener, &held.kept, nonce, nonce_length, aad, aad_length, tag);
+    want(status == (number % 4 == 0 ? AEADKIT_NOT_BEGUN : otherwise), "a status of opener_init_with", number);
+    if (status == AEADKIT_DONE) {
+        want(aeadkit_opener_check(&held.opener, aad, 70) == AEADKIT_DONE, "checked by a spoilt key", number);
+        want(aeadkit_opener_begin_second(&held.opener) == AEADKIT_TAG_MISMATCH, "opened by a spoilt key", number);
+    }
+    want(all((uint8_t *)&held.opener, sizeof held.opener, 0), "the opener of a spoilt key", number);
+    status = aeadkit_siv_init_with(&held.siv, &held.kept, nonce, nonce_length, aad, aad_length);
+    want(status == (number % 4 == 0 ? AEADKIT_NOT_BEGUN : number % 6 < 4 ? AEADKIT_UNKNOWN_SUITE : otherwise),
+         "a status of siv_init_with", number);
+    if (status == AEADKIT_DONE) {
+        want(aeadkit_siv_begin_second(&held.siv, tag) == AEADKIT_DONE, "a tag by a spoilt key", number);
+        want(aeadkit_siv_finish(&held.siv) == AEADKIT_DONE, "a siv finished by a spoilt key", number);
+    }
+    want(all((uint8_t *)&held.siv, sizeof held.siv, 0), "the siv of a spoilt key", number);
     want(!memcmp(&was, &held.kept, sizeof was), "a spoilt key was written", number);
-    want(all(held.before, 64, 0xa5) && all(held.between, 64, 0xa5) && all(held.after, 64, 0xa5),
+    want(all((uint8_t *)held.before, 64, 0xa5) && all((uint8_t *)held.after_sealer, 64, 0xa5)
+             && all((uint8_t *)held.after_opener, 64, 0xa5) && all((uint8_t *)held.between, 64, 0xa5)
+             && all((uint8_t *)held.after, 64, 0xa5), "written beside the structs", number);
+}
+
+/* The status of a resume of a state whose mark is that of a suite, or 0. */
+static uint32_t resumed(uint32_t suite, size_t key_length, size_t nonce_length) {
+    size_t own = suite == 2 || suite == 5 ? 16 : suite == 3 ? 24 : 32;
+    return !suite ? AEADKIT_NOT_BEGUN : key_length != own ? AEADKIT_KEY_LENGTH : nonce_length != 12 ? AEADKIT_NONCE_LENGTH
+                                                                                                    : AEADKIT_DONE;
+}
+
+/* Saved states of random bytes, by the mark of a suite in three cases of four: a resume is refused, and leaves zeros, or makes a
+   struct that the calls are safe on. It writes nothing else, and a refused save writes nothing. */
+static void saved_rubbish(long number, const uint64_t sealers[4], const uint64_t openers[2][6], const uint64_t sivs[2][2]) {
+    struct {
+        uint64_t before[8];
+        struct aeadkit_sealer sealer;
+        uint64_t after_sealer[8];
+        struct aeadkit_opener opener;
+        uint64_t after_opener[8];
+        struct aeadkit_siv siv;
+        uint64_t after[8];
+    } held;
+    struct aeadkit_saved_sealer saved, saved_was;
+    struct aeadkit_saved_passes passes, passes_was;
+    uint8_t key[33], nonce[13], piece[64], tag[16];
+    size_t key_length = number % 7 ? 8 * (2 + random_word() % 3) : random_word() % 34, pass = random_word() % 2;
+    size_t nonce_length = number % 5 ? 12 : 11 + 2 * (size_t)(number % 2);
+    uint32_t suite = number % 4 ? 1 + (uint32_t)(random_word() % 4) : 0, status;
+    memset(&held, 0xa5, sizeof held);
+    random_bytes((uint8_t *)&held.sealer, sizeof held.sealer);
+    random_bytes((uint8_t *)&held.opener, sizeof held.opener);
+    random_bytes((uint8_t *)&held.siv, sizeof held.siv);
+    random_bytes((uint8_t *)&saved, sizeof saved);
+    random_bytes(key, sizeof key);
+    random_bytes(nonce, sizeof nonce);
+    random_bytes(piece, sizeof piece);
+    saved_was = saved;
+    want(aeadkit_sealer_save(&held.sealer, &saved) == AEADKIT_NOT_BEGUN, "rubbish is saved", number);
+    want(!memcmp(&saved, &saved_was, sizeof saved), "changed by a refused save", number);
+    if (suite) saved.private_[0] = sealers[suite - 1];
+    if (number % 3) saved.private_[11] = (number % 3 == 1 ? 0x3fffffffc0u : 0xfffffffe0u) - random_word() % 100;
+    saved_was = saved;
+    status = aeadkit_sealer_resume(&held.sealer, key, key_length, nonce, nonce_length, &saved);
+    want(status == resumed(suite, key_length, nonce_length), "a status of sealer_resume", number);
+    if (status == AEADKIT_DONE) {
+        status = aeadkit_sealer_update(&held.sealer, piece, sizeof piece);
+        want(status == AEADKIT_DONE || status == AEADKIT_TEXT_TOO_LONG, "a status of update after rubbish", number);
+        want(aeadkit_sealer_finish(&held.sealer, tag) == AEADKIT_DONE, "finish after rubbish", number);
+    }
+    want(all((uint8_t *)&held.sealer, sizeof held.sealer, 0), "a sealer after a saved state of random bytes", number);
+    want(!memcmp(&saved, &saved_was, sizeof saved), "a saved sealer was written", number);
+
+    random_bytes((uint8_t *)&passes, sizeof passes);
+    passes_was = passes;
+    want(aeadkit_opener_save(&held.opener, &passes) == AEADKIT_NOT_BEGUN, "rubbish of an opener is saved", number);
+    want(aeadkit_siv_save(&held.siv, &passes) == AEADKIT_NOT_BEGUN, "rubbish of a siv is saved", number);
+    want(!memcmp(&passes, &passes_was, sizeof passes), "changed by a refused save", number);
+    suite = number % 4 ? 1 + (uint32_t)(random_word() % 6) : 0;
+    if (suite) passes.private_[0] = openers[pass][suite - 1];
+    if (number % 3) passes.private_[11] = (number % 3 == 1 ? 0x3fffffffc0u : 0xfffffffe0u) - random_word() % 100;
+    passes_was = passes;
+    status = aeadkit_opener_resume(&held.opener, key, key_length, nonce, nonce_length, &passes);
+    want(status == resumed(suite, key_length, nonce_length), "a status of opener_resume", number);
+    if (status == AEADKIT_DONE) {
+        if (pass) {
+            status = aeadkit_opener_update(&held.opener, piece, sizeof piece);
+            want(status == AEADKIT_DONE || status == AEADKIT_SOURCE_CHANGED, "a status of opener_update after rubbish", number);
+            want(aeadkit_opener_finish(&held.opener) == AEADKIT_SOURCE_CHANGED, "an opening of rubbish", number);
+        } else {
+            status = aeadkit_opener_check(&held.opener, piece, sizeof piece);
+            want(status == AEADKIT_DONE || status == AEADKIT_TEXT_TOO_LONG, "a status of check after rubbish", number);
+            want(aeadkit_opener_begin_second(&held.opener) == AEADKIT_TAG_MISMATCH, "a sealing of rubbish", number);
+        }
+    }
+    want(all((uint8_t *)&held.opener, sizeof held.opener, 0), "an opener after a saved state of random bytes", number);
+    want(!memcmp(&passes, &passes_was, sizeof passes), "a saved opener was written", number);
+
+    suite = number % 4 ? 5 + (uint32_t)(random_word() % 2) : 0;
+    if (suite) passes.private_[0] = sivs[pass][suite - 5];
+    passes_was = passes;
+    status = aeadkit_siv_resume(&held.siv, key, key_length, nonce, nonce_length, &passes);
+    want(status == resumed(suite, key_length, nonce_length), "a status of siv_resume", number);
+    if (status == AEADKIT_DONE) {
+        if (!pass) want(aeadkit_siv_begin_second(&held.siv, tag) == AEADKIT_DONE, "a tag of rubbish", number);
+        status = aeadkit_siv_update(&held.siv, piece, sizeof piece);
+        want(status == AEADKIT_DONE || status == AEADKIT_SOURCE_CHANGED, "a status of siv_update after rubbish", number);
+        want(aeadkit_siv_finish(&held.siv) == AEADKIT_SOURCE_CHANGED || (!pass && status != AEADKIT_DONE),
+             "a sealing of rubbish in two readings", number);
+    }
+    want(all((uint8_t *)&held.siv, sizeof held.siv, 0), "a siv after a saved state of random bytes", number);
+    want(!memcmp(&passes, &passes_was, sizeof passes), "a saved siv was written", number);
+    want(all((uint8_t *)held.before, 64, 0xa5) && all((uint8_t *)held.after_sealer, 64, 0xa5)
+             && all((uint8_t *)held.after_opener, 64, 0xa5) && all((uint8_t *)held.after, 64, 0xa5),
          "written beside the structs", number);
+}
+
+/* Every order of five calls on each struct, with pieces of no bytes: the status is that of the state that the calls before have
+   led to, and a refused call changes nothing. */
+static void orders(void) {
+    enum { INIT, FIRST, BEGIN_SECOND, SECOND, FINISH, WIPE, SAVE, CALLS, ORDERS = 7 * 7 * 7 * 7 * 7 };
+    static const size_t key_lengths[6] = {32, 16, 24, 32, 16, 32};
+    static const uint8_t zeros[32] = {0};
+    uint8_t tag[16], other[16];
+    for (uint32_t suite = 1; suite <= 6; suite++) {
+        size_t k = key_lengths[suite - 1];
+        want(aeadkit_seal(suite, zeros, k, zeros, 12, NULL, 0, NULL, 0, tag, 16) == AEADKIT_DONE, "seal", suite);
+        for (long order = 0; order < ORDERS; order++) {
+            struct aeadkit_sealer sealer = {{0}}, sealer_was;
+            struct aeadkit_opener opener = {{0}}, opener_was;
+            struct aeadkit_siv siv = {{0}}, siv_was;
+            struct aeadkit_saved_sealer saved;
+            struct aeadkit_saved_passes passes;
+            int begun = 0, opening = 0, reading = 0; /* the sealer is begun; the pass or reading, 0 if there is none */
+            for (long calls = order, step = 0; step < 5; step++, calls /= CALLS) {
+                long call = calls % CALLS;
+                uint32_t status[3] = {AEADKIT_NOT_BEGUN, AEADKIT_NOT_BEGUN, AEADKIT_NOT_BEGUN};
+                int runs = call == FIRST || call == BEGIN_SECOND ? 1 : 2;
+                uint32_t sealer_wants = begun && (call == SECOND || call == FINISH || call == SAVE) ? AEADKIT_DONE : AEADKIT_NOT_BEGUN;
+                uint32_t opener_wants = opening && (call == SAVE || opening == runs) ? AEADKIT_DONE : AEADKIT_NOT_BEGUN;
+                uint32_t siv_wants = reading && (call == SAVE || reading == runs) ? AEADKIT_DONE : AEADKIT_NOT_BEGUN;
+                sealer_was = sealer, opener_was = opener, siv_was = siv;
+                if (call == INIT) {
+                    status[0] = aeadkit_sealer_init(&sealer, suite, zeros, k, zeros, 12, NULL, 0);
+                    status[1] = aeadkit_opener_init(&opener, suite, zeros, k, zeros, 12, NULL, 0, tag);
+                    status[2] = aeadkit_siv_init(&siv, suite, zeros, k, zeros, 12, NULL, 0);
+                    sealer_wants = suite < 5 ? AEADKIT_DONE : AEADKIT_UNKNOWN_SUITE;
+                    opener_wants = AEADKIT_DONE;
+                    siv_wants = suite < 5 ? AEADKIT_UNKNOWN_SUITE : AEADKIT_DONE;
+                    begun = suite < 5, opening = 1, reading = suite < 5 ? 0 : 1;
+                } else if (call == FIRST) {
+                    status[1] = aeadkit_opener_check(&opener, NULL, 0);
+                    status[2] = aeadkit_siv_absorb(&siv, NULL, 0);
+                } else if (call == BEGIN_SECOND) {
+                    status[1] = aeadkit_opener_begin_second(&opener);
+                    status[2] = aeadkit_siv_begin_second(&siv, other);
+                    if (opening == 1) opening = 2;
+                    if (reading == 1) reading = 2;
+                } else if (call == SECOND) {
+                    status[0] = aeadkit_sealer_update(&sealer, NULL, 0);
+                    status[1] = aeadkit_opener_update(&opener, NULL, 0);
+                    status[2] = aeadkit_siv_update(&siv, NULL, 0);
+                } else if (call == FINISH) {
+                    status[0] = aeadkit_sealer_finish(&sealer, other);
+                    status[1] = aeadkit_opener_finish(&opener);
+                    status[2] = aeadkit_siv_finish(&siv);
+                    begun = 0;
+                    if (opening == 2) opening = 0;
+                    if (reading == 2) reading = 0;
+                } else if (call == WIPE) {
+                    aeadkit_sealer_wipe(&sealer);
+                    aeadkit_opener_wipe(&opener);
+                    aeadkit_siv_wipe(&siv);
+                    begun = opening = reading = 0;
+                    sealer_wants = opener_wants = siv_wants = AEADKIT_NOT_BEGUN;
+                } else {
+                    status[0] = aeadkit_sealer_save(&sealer, &saved);
+                    if (status[0] == AEADKIT_DONE) status[0] = aeadkit_sealer_resume(&sealer, zeros, k, zeros, 12, &saved);
+                    status[1] = aeadkit_opener_save(&opener, &passes);
+                    if (status[1] == AEADKIT_DONE) status[1] = aeadkit_opener_resume(&opener, zeros, k, zeros, 12, &passes);
+                    status[2] = aeadkit_siv_save(&siv, &passes);
+                    if (status[2] == AEADKIT_DONE) status[2] = aeadkit_siv_resume(&siv, zeros, k, zeros, 12, &passes);
+                }
+                want(status[0] == sealer_wants, "a sealer's status in this order", order);
+                want(status[1] == opener_wants, "an opener's status in this order", order);
+                want(status[2] == siv_wants, "a siv's status in this order", order);
+                if (call == WIPE || call == INIT) continue;
+                want(status[0] == AEADKIT_DONE || !memcmp(&sealer, &sealer_was, sizeof sealer), "a sealer in this order", order);
+                want(status[1] == AEADKIT_DONE || !memcmp(&opener, &opener_was, sizeof opener), "an opener in this order", order);
+                want(status[2] == AEADKIT_DONE || !memcmp(&siv, &siv_was, sizeof siv), "a siv in this order", order);
+            }
+        }
+    }
 }
 
 int main(int count, char **words) {
@@ -493,25 +779,34 @@ int main(int count, char **words) {
     want(aeadkit_siv_size() == sizeof(struct aeadkit_siv), "the size of the siv", 0);
     want(aeadkit_key_size() == sizeof(struct aeadkit_key), "the size of the key", 0);
     refusals();
+    orders();
     struct aeadkit_sealer marks[4], sealer;
     struct aeadkit_opener opener_marks[2][6];
     struct aeadkit_siv siv_marks[2][2];
     static const size_t key_lengths[6] = {32, 16, 24, 32, 16, 32};
     struct aeadkit_key kept;
-    uint64_t key_marks[6];
+    uint64_t key_marks[6], saved_sealers[4], saved_openers[2][6], saved_sivs[2][2];
+    struct aeadkit_saved_sealer saved;
+    struct aeadkit_saved_passes passes;
     uint8_t zeros[32] = {0}, tag[16];
     for (uint32_t i = 0; i < 4; i++) {
         want(aeadkit_sealer_init(&marks[i], i + 1, zeros, key_lengths[i], zeros, 12, NULL, 0) == AEADKIT_DONE, "init", i);
+        want(aeadkit_sealer_save(&marks[i], &saved) == AEADKIT_DONE, "sealer_save", i);
+        saved_sealers[i] = saved.private_[0];
         sealer = marks[i];
         want(aeadkit_sealer_finish(&sealer, tag) == AEADKIT_DONE, "finish", i);
     }
     for (uint32_t i = 0; i < 6; i++) {
-        want(aeadkit_seal(i + 1, zeros, key_lengths[i], zeros, 12, NULL, 0, tag, 16) == AEADKIT_DONE, "seal", i);
+        want(aeadkit_seal(i + 1, zeros, key_lengths[i], zeros, 12, NULL, 0, NULL, 0, tag, 16) == AEADKIT_DONE, "seal", i);
         struct aeadkit_opener *first = &opener_marks[0][i], *second = &opener_marks[1][i];
         want(aeadkit_opener_init(first, i + 1, zeros, key_lengths[i], zeros, 12, NULL, 0, tag) == AEADKIT_DONE, "opener_init",
              i);
         *second = *first;
-        want(aeadkit_opener_checked(second) == AEADKIT_DONE, "checked", i);
+        want(aeadkit_opener_begin_second(second) == AEADKIT_DONE, "begin_second", i);
+        for (int pass = 0; pass < 2; pass++) {
+            want(aeadkit_opener_save(&opener_marks[pass][i], &passes) == AEADKIT_DONE, "opener_save", i);
+            saved_openers[pass][i] = passes.private_[0];
+        }
         want(aeadkit_key_init(&kept, i + 1, zeros, key_lengths[i]) == AEADKIT_DONE, "key_init", i);
         key_marks[i] = kept.private_[0];
     }
@@ -519,7 +814,11 @@ int main(int count, char **words) {
         struct aeadkit_siv *first = &siv_marks[0][i], *second = &siv_marks[1][i];
         want(aeadkit_siv_init(first, i + 5, zeros, i ? 32 : 16, zeros, 12, NULL, 0) == AEADKIT_DONE, "siv_init", i);
         *second = *first;
-        want(aeadkit_siv_tag(second, tag) == AEADKIT_DONE, "siv_tag", i);
+        want(aeadkit_siv_begin_second(second, tag) == AEADKIT_DONE, "siv_begin_second", i);
+        for (int pass = 0; pass < 2; pass++) {
+            want(aeadkit_siv_save(&siv_marks[pass][i], &passes) == AEADKIT_DONE, "siv_save", i);
+            saved_sivs[pass][i] = passes.private_[0];
+        }
     }
     for (long i = 0; i < splits; i++) {
         seal_in_pieces(i);
@@ -533,6 +832,7 @@ int main(int count, char **words) {
         siv_rubbish(i, (const struct aeadkit_siv(*)[2])siv_marks);
         kept_key_rubbish(i);
         kept_key_rubbish_begins(i, key_marks);
+        saved_rubbish(i, saved_sealers, (const uint64_t(*)[6])saved_openers, (const uint64_t(*)[2])saved_sivs);
     }
     printf("pieces: %ld texts in pieces each way, %ld structs of random bytes of each kind: nothing differs\n", splits,
            structs);
