@@ -25,15 +25,15 @@ def _files():
     """The files of the package, each with its name in the wheel."""
     prefix = pathlib.Path(os.environ.get("AEADKIT_PREFIX") or HERE.parents[2])
     lib = prefix / "lib"
-    base = lib / "libaeadkit.so.2"
+    base = lib / "libaeadkit.so.3"
     if not base.exists():
         raise SystemExit(f"{base} is not there: set AEADKIT_PREFIX to what build.sh laid out")
     for name in ("__init__.py", "_library.py", "py.typed"):
         yield f"aeadkit/{name}", HERE / "aeadkit" / name
-    yield "aeadkit/lib/libaeadkit.so.2", base
-    fast = lib / "glibc-hwcaps/x86-64-v3/libaeadkit.so.2"
+    yield "aeadkit/lib/libaeadkit.so.3", base
+    fast = lib / "glibc-hwcaps/x86-64-v3/libaeadkit.so.3"
     if fast.exists():
-        yield "aeadkit/lib/x86-64-v3/libaeadkit.so.2", fast
+        yield "aeadkit/lib/x86-64-v3/libaeadkit.so.3", fast
 
 
 def _metadata():

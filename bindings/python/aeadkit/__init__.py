@@ -7,11 +7,21 @@
 >>> sealed = key.seal(nonce, b"the text", aad=b"a label")
 >>> key.open(nonce, sealed, aad=b"a label")
 b'the text'
+>>> nonce, buffer = os.urandom(12), bytearray(b"another text")
+>>> tag = key.seal_in_place(nonce, buffer)
+>>> key.open_in_place(nonce, buffer, tag)
+>>> buffer
+bytearray(b'another text')
 
 The associated data, aad, is not stored in a sealing and not hidden, but opening with other associated data fails: put there
 what says which text this is. Keys, nonces, associated data and texts are bytes, or any object that gives its bytes:
-bytearray, memoryview, array.array, mmap.mmap, an array of numpy. Anything else is a TypeError. Each call copies its text
-before it works, so another thread may write to it meanwhile. Results are bytes.
+bytearray, memoryview, array.array, mmap.mmap, an array of numpy. Anything else is a TypeError. What is not bytes is copied
+before a call works with it, so another thread may write to it meanwhile. Results are bytes.
+
+The calls whose names end in in_place change a writable buffer where it stands, such as a bytearray, and do not copy it. No
+other thread or process may read or write the buffer during such a call: an opening could otherwise give a text that was never
+sealed. The tag of 16 bytes is apart; the ciphertext and then the tag are the sealing that open takes. If the exception of a
+signal handler, such as KeyboardInterrupt, ends the call, the buffer may be changed already, and the tag is lost.
 
 A nonce is 12 bytes long. It is not secret, but must never be used twice under one key to seal, and nothing here looks for
 that. Two sealings with one nonce give away the XOR of their texts, and enough to forge messages under the key; under
@@ -21,12 +31,13 @@ finished. A counter does not repeat if it is stored before it is used. Random no
 
 A call that is refused raises a subclass of Refused. Faults of a suite and of lengths are ValueErrors too.
 
-The time that a call takes may tell of its secrets, since AES looks tables up by secret bytes. Keys and texts are not wiped
-from memory.
+The time that a call takes may tell of its secrets, since AES looks tables up by secret bytes. A Key, a Sealer, an Opener and a
+SivSealer wipe the memory in which they hold the key when they are closed or deleted; a with statement closes them. The bytes of
+keys and texts that you pass or get are Python's own, and are not wiped.
 
 The library is the file that the environment variable AEADKIT names, else the package's own, else the one that the system
 finds. The import fails with an ImportError that names the file if it is of another major version, or its structs have other
-sizes than this package expects.
+sizes than this package expects. The version of the library that was loaded is library_version.
 """
 
 import ctypes
@@ -35,7 +46,7 @@ import io
 import os
 import sys
 import threading
-from typing import Any, Callable, Dict, List, NoReturn, Optional, Tuple, Type
+from typing import Any, Callable, Dict, List, NoReturn, Optional, Tuple, Type, TypeVar
 
 from . import _library
 
@@ -50,16 +61,16 @@ else:
         def __buffer__(self, flags: int, /) -> memoryview: ...
 
 # There is no open in this list, so that `from aeadkit import *` leaves Python's own.
-__all__ = ["Suite", "Key", "Sealer", "Opener", "SivSealer", "seal", "wrap", "unwrap", "wrap_padded", "unwrap_padded",
-           "Refused", "KeyLength", "NonceLength", "TextTooLong", "AadTooLong", "TooShort", "TagLength", "TagMismatch",
-           "WrapLength", "WrapIntegrity", "SourceChanged", "UnknownSuite", "NotBegun"]
+__all__ = ["Suite", "Key", "Sealer", "Opener", "SivSealer", "seal", "seal_in_place", "open_in_place", "wrap", "unwrap",
+           "wrap_padded", "unwrap_padded", "Refused", "KeyLength", "NonceLength", "TextTooLong", "AadTooLong", "TooShort",
+           "TagLength", "TagMismatch", "WrapLength", "WrapIntegrity", "SourceChanged", "UnknownSuite", "NotBegun", "NotSaved",
+           "library_version"]
 
 __version__ = "0.0.0"
+library_version: str = _library.VERSION
 
 _TAG_BYTES = 16
 _WRAP_BYTES = 8
-_TAG_ROOM = bytes(_TAG_BYTES)
-_WRAP_ROOM = bytes(_WRAP_BYTES)
 
 
 class Refused(Exception):
@@ -72,9 +83,9 @@ class Refused(Exception):
 
 
 class KeyLength(Refused, ValueError):
-    """The key's length is not the suite's, or for key wrapping it is not 16, 24 or 32 bytes."""
+    """The key is not as long as the suite's keys, or for key wrapping not 16, 24 or 32 bytes."""
 
-    message = "the key's length is not the suite's, or for key wrapping not 16, 24 or 32 bytes"
+    message = "the key is not as long as the suite's keys, or for key wrapping not 16, 24 or 32 bytes"
 
 
 class NonceLength(Refused, ValueError):
@@ -102,7 +113,7 @@ class TooShort(Refused, ValueError):
 
 
 class TagLength(Refused, ValueError):
-    """The tag that an Opener is begun with is not 16 bytes long."""
+    """The tag is not 16 bytes long."""
 
     message = "the tag is not 16 bytes long"
 
@@ -132,7 +143,7 @@ class SourceChanged(Refused):
 
 
 class UnknownSuite(Refused, ValueError):
-    """The number is not a suite's, or the call does not take the suite."""
+    """No suite has the number or the name, or the call does not take the suite."""
 
     message = "the call does not take this suite"
 
@@ -149,12 +160,21 @@ _FAULTS: Dict[int, Type[Refused]] = {
 }
 
 
-class Suite(enum.IntEnum):
-    """The suites. Every nonce is 12 bytes long, and every tag 16.
+def _refuse(status: int) -> NoReturn:
+    if status in _FAULTS:
+        raise _FAULTS[status]()
+    text = ctypes.create_string_buffer(64)
+    length = _library.aeadkit_status_text(status, text, len(text))
+    raise Refused(text.raw[:length].decode("ascii") or f"the library returned the unknown status {status}")
 
-    A text is at most 2^38 - 64 bytes long under ChaCha20-Poly1305, 2^36 - 32 under AES-GCM, and 2^36 under AES-GCM-SIV, which
-    takes as many bytes of associated data.
-    """
+
+def _check(status: int) -> None:
+    if status:
+        _refuse(status)
+
+
+class Suite(enum.IntEnum):
+    """The suites. Every nonce is 12 bytes long, and every tag 16."""
 
     CHACHA20_POLY1305 = 1
     AES_128_GCM = 2
@@ -166,10 +186,31 @@ class Suite(enum.IntEnum):
     @property
     def key_bytes(self) -> int:
         """The length of a key in bytes."""
-        return (32, 16, 24, 32, 16, 32)[self - 1]
+        return _library.aeadkit_key_length(self)
+
+    @property
+    def text_limit(self) -> int:
+        """The most bytes of a text."""
+        return _library.aeadkit_text_limit(self)
+
+    @property
+    def aad_limit(self) -> int:
+        """The most bytes of associated data."""
+        return _library.aeadkit_aad_limit(self)
+
+    @classmethod
+    def named(cls, name: str) -> "Suite":
+        """Returns the suite with a name of the program aeadkit, such as aes-256-gcm. Raises UnknownSuite if none has it."""
+        data = str.encode(name)
+        number = _library.aeadkit_suite_named(data, len(data))
+        if not number:
+            raise UnknownSuite(f"no suite has the name {name!r}")
+        return cls(number)
 
 
 def _suite_of(suite: int) -> Suite:
+    if type(suite) is Suite:
+        return suite
     # The message shows no other value than a number: it may be a key in the suite's place.
     if not isinstance(suite, int):
         raise TypeError(f"a member of Suite is required, not {type(suite).__name__!r}")
@@ -179,9 +220,7 @@ def _suite_of(suite: int) -> Suite:
         raise UnknownSuite(f"{suite} is not the number of a suite") from None
 
 
-def _check(status: int) -> None:
-    if status:
-        raise _FAULTS[status]()
+# ---- The arguments and the results of the library's functions
 
 
 def _bytes_of(data: Buffer) -> bytes:
@@ -194,43 +233,74 @@ def _bytes_of(data: Buffer) -> bytes:
 
 def _slices(*arguments: Buffer) -> List[Any]:
     """The bytes of each argument, and their number."""
-    return [part for data in map(_bytes_of, arguments) for part in (data, len(data))]
+    slices: List[Any] = []
+    for data in arguments:
+        part = _bytes_of(data)
+        slices += (part, len(part))
+    return slices
 
 
 def _aad_of(aad: Optional[Buffer]) -> Buffer:
     return b"" if aad is None else aad
 
 
-def _join(before: bytes, text: Buffer, after: bytes) -> bytes:
-    if type(text) is bytes:
-        return b"".join((before, text, after))
-    with memoryview(text) as view:
-        if view.c_contiguous:
-            return b"".join((before, view, after))
-        return b"".join((before, view.tobytes(), after))
+def _tag_of(tag: Buffer) -> bytes:
+    data = _bytes_of(tag)
+    if len(data) != _TAG_BYTES:
+        raise TagLength()
+    return data
 
 
-# A place for no bytes, since the library takes no NULL.
-_NOWHERE = ctypes.c_ubyte()
+# Makes a bytes object of any bytes, for a function that fills it before anybody sees it.
+_new_bytes: Callable[[None, int], bytes] = ctypes.PYFUNCTYPE(ctypes.py_object, ctypes.c_char_p, ctypes.c_ssize_t)(
+    ("PyBytes_FromStringAndSize", ctypes.pythonapi))
 
 
-def _in_place(call: Callable[..., int], arguments: Tuple[Any, ...], text: Buffer, *more: Any, before: bytes = b"",
-              after: bytes = b"") -> io.BytesIO:
-    """Runs a call over a copy of the text with room around it, which no other thread sees, and returns the copy. Its method
-    getvalue does not copy the bytes once more."""
-    room = io.BytesIO(_join(before, text, after))
-    with room.getbuffer() as view:
-        size = view.nbytes
-        address = ctypes.addressof(ctypes.c_ubyte.from_buffer(view) if size else _NOWHERE)
-        status = call(*arguments, address, size, *more)
+def _output(length: int, call: Callable[..., int], *arguments: Any) -> bytes:
+    """What a call writes to an output of this length."""
+    output = _new_bytes(None, length)
+    status = call(*arguments, output, length)
+    if status:
+        del output, arguments  # an exception keeps neither
+        _refuse(status)
+    return output
+
+
+def _changed(piece: Buffer, call: Callable[..., int], *arguments: Any) -> bytes:
+    """What a call makes of a copy of the piece."""
+    with memoryview(piece) as view:
+        copy = io.BytesIO(piece if type(piece) is bytes else view if view.c_contiguous else view.tobytes())
+    # getbuffer copies bytes that it shares with the piece, and getvalue does not copy them once more
+    with copy.getbuffer() as room:
+        status = _in_place(room, call, arguments)
     _check(status)
-    return room
+    return copy.getvalue()
 
 
-def _without_tag(room: io.BytesIO) -> bytes:
-    room.seek(-_TAG_BYTES, io.SEEK_END)
-    room.truncate()
-    return room.getvalue()
+def _in_place(text: Buffer, call: Callable[..., int], arguments: Tuple[Any, ...], *after: Any) -> int:
+    """Runs a call over the bytes of a buffer where they stand, and returns its status."""
+    with memoryview(text) as view:
+        if view.readonly or not view.c_contiguous:
+            raise TypeError("a writable and contiguous buffer is required, such as a bytearray")
+        size = view.nbytes
+        address = ctypes.addressof(ctypes.c_ubyte.from_buffer(view)) if size else None
+        return call(*arguments, address, size, *after)
+
+
+_Tag = ctypes.c_char * _TAG_BYTES
+
+
+def _tag(call: Callable[..., int], *arguments: Any) -> bytes:
+    """The tag that a call writes."""
+    tag = _Tag()
+    status = call(*arguments, tag)
+    if status:
+        del arguments
+        _refuse(status)
+    return tag.raw
+
+
+# ---- Whole messages
 
 
 def seal(suite: int, key: Buffer, nonce: Buffer, text: Buffer, *, aad: Optional[Buffer] = None) -> bytes:
@@ -241,8 +311,9 @@ def seal(suite: int, key: Buffer, nonce: Buffer, text: Buffer, *, aad: Optional[
 
     Raises UnknownSuite, KeyLength, NonceLength, AadTooLong or TextTooLong.
     """
-    arguments = (_suite_of(suite), *_slices(key, nonce, _aad_of(aad)))
-    return _in_place(_library.aeadkit_seal, arguments, text, after=_TAG_ROOM).getvalue()
+    plain = _bytes_of(text)
+    return _output(len(plain) + _TAG_BYTES, _library.aeadkit_seal, _suite_of(suite),
+                   *_slices(key, nonce, _aad_of(aad), plain))
 
 
 def open(suite: int, key: Buffer, nonce: Buffer, sealed: Buffer, *, aad: Optional[Buffer] = None) -> bytes:
@@ -255,9 +326,47 @@ def open(suite: int, key: Buffer, nonce: Buffer, sealed: Buffer, *, aad: Optiona
     Raises UnknownSuite, KeyLength, NonceLength, AadTooLong, TooShort, TextTooLong; or TagMismatch if the bytes are not a
     sealing under this suite, key, nonce and associated data.
     """
-    arguments = (_suite_of(suite), *_slices(key, nonce, _aad_of(aad)))
-    return _without_tag(_in_place(_library.aeadkit_open, arguments, sealed))
+    data = _bytes_of(sealed)
+    return _output(max(len(data) - _TAG_BYTES, 0), _library.aeadkit_open, _suite_of(suite),
+                   *_slices(key, nonce, _aad_of(aad), data))
 
+
+def seal_in_place(suite: int, key: Buffer, nonce: Buffer, text: Buffer, *, aad: Optional[Buffer] = None) -> bytes:
+    """Seals a text in a writable buffer, such as a bytearray: the text becomes its ciphertext. Returns the tag of 16 bytes,
+    without which the text cannot be opened again.
+
+    No other thread may read or write the buffer during the call. If the call is refused, the buffer is as before.
+
+    Never use a nonce twice under one key: two texts under one nonce give away their XOR, and enough to forge messages;
+    under AES-GCM-SIV only whether the texts and the associated data are the same.
+
+    Raises UnknownSuite, KeyLength, NonceLength, AadTooLong or TextTooLong; or TypeError if the buffer is not writable.
+    """
+    return _tag(_in_place, text, _library.aeadkit_seal_in_place,
+                (_suite_of(suite), *_slices(key, nonce, _aad_of(aad))))
+
+
+def open_in_place(suite: int, key: Buffer, nonce: Buffer, ciphertext: Buffer, tag: Buffer, *,
+                  aad: Optional[Buffer] = None) -> None:
+    """Opens a sealing whose ciphertext is in a writable buffer, such as a bytearray: the ciphertext becomes its text.
+
+    The tag of 16 bytes is not part of the ciphertext.
+
+    No other thread may read or write the buffer during the call. If the call is refused, the buffer is as before, and holds no
+    text.
+
+    The nonce is the one that the text was sealed with. A nonce must never be used to seal twice under one key: two texts under
+    one nonce give away their XOR, and enough to forge messages; under AES-GCM-SIV only whether the texts and the associated
+    data are the same.
+
+    Raises UnknownSuite, TagLength, KeyLength, NonceLength, AadTooLong, TextTooLong; TagMismatch if ciphertext and tag are not a
+    sealing under this suite, key, nonce and associated data; or TypeError if the buffer is not writable.
+    """
+    _check(_in_place(ciphertext, _library.aeadkit_open_in_place,
+                     (_suite_of(suite), *_slices(key, nonce, _aad_of(aad))), _tag_of(tag)))
+
+
+# ---- Structs
 
 # Stands for this process: a forked child puts another object in its place.
 _process = object()
@@ -272,17 +381,35 @@ os.register_at_fork(after_in_child=_enter_child)
 
 
 class _Struct:
-    """The memory of one of the library's structs, with its suite, and the lock under which a call changes it."""
+    """One of the library's structs, with its suite, and the lock under which a call changes it. It stands for its address in a
+    call, which therefore keeps it. It is wiped when neither an object nor a call has it any more."""
 
-    def __init__(self, memory: Any, suite: int) -> None:
-        self.suite = _suite_of(suite)
-        self._memory = memory
-        self.address = ctypes.addressof(memory)
+    def __init__(self, kind: _library.Kind, suite: Suite) -> None:
+        self._memory = kind.memory()
+        self._as_parameter_ = ctypes.addressof(self._memory)
+        self._wipe = kind.wipe
+        self.suite = suite
         self.lock = threading.RLock()
         self.process = _process
 
+    def __del__(self) -> None:
+        self._wipe(self._as_parameter_)
+
     def __reduce__(self) -> NoReturn:
         raise TypeError("a struct of the library cannot be copied or pickled")
+
+
+def _begin(kind: _library.Kind, suite: Suite, call: Callable[..., int], *arguments: Any) -> _Struct:
+    """A struct that a call has begun."""
+    struct = _Struct(kind, suite)
+    status = call(struct, *arguments)
+    if status:
+        del struct, arguments
+        _refuse(status)
+    return struct
+
+
+_Self = TypeVar("_Self", bound="_HasStruct")
 
 
 class _HasStruct:
@@ -290,16 +417,34 @@ class _HasStruct:
 
     _struct: Optional[_Struct] = None
 
+    @classmethod
+    def _of(cls: Type[_Self], struct: _Struct) -> _Self:
+        made = cls.__new__(cls)
+        made._struct = struct
+        return made
+
     def _get_struct(self) -> _Struct:
         struct = self._struct
         if struct is None:
-            raise NotBegun(f"{type(self).__name__}.__init__ was not called, or raised an exception")
+            name = type(self).__name__
+            raise NotBegun(f"this {name} is closed, or {name}.__init__ was not called or raised an exception")
         return struct
 
     @property
     def suite(self) -> Suite:
-        """The suite. NotBegun if __init__ raised an exception."""
+        """The suite. NotBegun if __init__ raised an exception, and after close."""
         return self._get_struct().suite
+
+    def close(self) -> None:
+        """Wipes the memory that holds the key, after the last call in another thread that is using it. Each later call raises
+        NotBegun. A with statement does this at its end, and so does the deletion of the object."""
+        self._struct = None
+
+    def __enter__(self: _Self) -> _Self:
+        return self
+
+    def __exit__(self, *exception: object) -> None:
+        self.close()
 
     def __repr__(self) -> str:
         struct = self._struct
@@ -321,12 +466,7 @@ class _InPieces(_HasStruct):
         if struct.process is not _process:
             raise NotBegun(f"this {type(self).__name__} belongs to the process that this one was forked from")
         with struct.lock:
-            return function(struct.address, *arguments)
-
-    def _tag(self, function: Callable[..., int]) -> bytes:
-        tag = ctypes.create_string_buffer(_TAG_BYTES)
-        _check(self._call(function, ctypes.addressof(tag)))
-        return tag.raw
+            return function(struct, *arguments)
 
     def __reduce__(self) -> NoReturn:
         raise TypeError(f"{type(self).__name__} objects cannot be copied or pickled: {self._no_copies}")
@@ -336,7 +476,7 @@ class Key(_HasStruct):
     """A suite with a key, whose key schedule is made once.
 
     Threads may share a Key, and a forked process may use it too. It does not change once it is made, and its copy is the Key
-    itself. It cannot be pickled, since the key would be written to the pickle.
+    itself. It cannot be pickled, since the key would be written to the pickle. It is wiped when it is closed or deleted.
 
     Raises UnknownSuite or KeyLength.
     """
@@ -344,9 +484,8 @@ class Key(_HasStruct):
     def __init__(self, suite: int, key: Buffer) -> None:
         if self._struct is not None:
             raise TypeError("a Key cannot be changed: make another one")
-        struct = _Struct(_library.Key(), suite)
-        _check(_library.aeadkit_key_init(struct.address, struct.suite, *_slices(key)))
-        self._struct = struct
+        member = _suite_of(suite)
+        self._struct = _begin(_library.KEY, member, _library.aeadkit_key_init, member, *_slices(key))
 
     def __copy__(self) -> "Key":
         return self
@@ -363,10 +502,11 @@ class Key(_HasStruct):
         Never use a nonce twice under one key: two texts under one nonce give away their XOR, and enough to forge messages;
         under AES-GCM-SIV only whether the texts and the associated data are the same.
 
-        Raises NonceLength, AadTooLong or TextTooLong; or NotBegun if __init__ raised an exception.
+        Raises NonceLength, AadTooLong or TextTooLong; or NotBegun if __init__ raised an exception, and after close.
         """
-        arguments = (self._get_struct().address, *_slices(nonce, _aad_of(aad)))
-        return _in_place(_library.aeadkit_seal_with, arguments, text, after=_TAG_ROOM).getvalue()
+        plain = _bytes_of(text)
+        return _output(len(plain) + _TAG_BYTES, _library.aeadkit_seal_with, self._get_struct(),
+                       *_slices(nonce, _aad_of(aad), plain))
 
     def open(self, nonce: Buffer, sealed: Buffer, *, aad: Optional[Buffer] = None) -> bytes:
         """Returns the text of a sealing.
@@ -376,28 +516,151 @@ class Key(_HasStruct):
         associated data are the same.
 
         Raises NonceLength, AadTooLong, TooShort, TextTooLong; TagMismatch if the bytes are not a sealing under this key, nonce
-        and associated data; or NotBegun if __init__ raised an exception.
+        and associated data; or NotBegun if __init__ raised an exception, and after close.
         """
-        arguments = (self._get_struct().address, *_slices(nonce, _aad_of(aad)))
-        return _without_tag(_in_place(_library.aeadkit_open_with, arguments, sealed))
+        data = _bytes_of(sealed)
+        return _output(max(len(data) - _TAG_BYTES, 0), _library.aeadkit_open_with, self._get_struct(),
+                       *_slices(nonce, _aad_of(aad), data))
+
+    def seal_in_place(self, nonce: Buffer, text: Buffer, *, aad: Optional[Buffer] = None) -> bytes:
+        """Seals a text in a writable buffer, such as a bytearray: the text becomes its ciphertext. Returns the tag of 16 bytes,
+        without which the text cannot be opened again.
+
+        No other thread may read or write the buffer during the call. If the call is refused, the buffer is as before.
+
+        Never use a nonce twice under one key: two texts under one nonce give away their XOR, and enough to forge messages;
+        under AES-GCM-SIV only whether the texts and the associated data are the same.
+
+        Raises NonceLength, AadTooLong or TextTooLong; NotBegun if __init__ raised an exception, and after close; or TypeError
+        if the buffer is not writable.
+        """
+        return _tag(_in_place, text, _library.aeadkit_seal_in_place_with,
+                    (self._get_struct(), *_slices(nonce, _aad_of(aad))))
+
+    def open_in_place(self, nonce: Buffer, ciphertext: Buffer, tag: Buffer, *, aad: Optional[Buffer] = None) -> None:
+        """Opens a sealing whose ciphertext is in a writable buffer, such as a bytearray: the ciphertext becomes its text.
+
+        The tag of 16 bytes is not part of the ciphertext.
+
+        No other thread may read or write the buffer during the call. If the call is refused, the buffer is as before, and holds
+        no text.
+
+        The nonce is the one that the text was sealed with. A nonce must never be used to seal twice under one key: two texts
+        under one nonce give away their XOR, and enough to forge messages; under AES-GCM-SIV only whether the texts and the
+        associated data are the same.
+
+        Raises TagLength, NonceLength, AadTooLong, TextTooLong; TagMismatch if ciphertext and tag are not a sealing under this
+        key, nonce and associated data; NotBegun if __init__ raised an exception, and after close; or TypeError if the buffer is
+        not writable.
+        """
+        _check(_in_place(ciphertext, _library.aeadkit_open_in_place_with,
+                         (self._get_struct(), *_slices(nonce, _aad_of(aad))), _tag_of(tag)))
 
     def sealer(self, nonce: Buffer, *, aad: Optional[Buffer] = None) -> "Sealer":
-        """Begins a sealing in pieces under ChaCha20-Poly1305 or AES-GCM. The Key may be dropped meanwhile.
+        """Begins a sealing in pieces under ChaCha20-Poly1305 or AES-GCM. The Key may be closed meanwhile.
 
         Never use a nonce twice under one key: two texts under one nonce give away their XOR, and enough to forge messages.
 
-        Raises UnknownSuite for AES-GCM-SIV, which reads a text twice; NonceLength or AadTooLong; or NotBegun if __init__ raised
-        an exception.
+        Raises UnknownSuite for AES-GCM-SIV, which reads a text twice (siv_sealer); NonceLength or AadTooLong; or NotBegun if
+        __init__ raised an exception, and after close.
         """
-        key = self._get_struct()
-        struct = _Struct(_library.Sealer(), key.suite)
-        _check(_library.aeadkit_sealer_init_with(struct.address, key.address, *_slices(nonce, _aad_of(aad))))
-        sealer = Sealer.__new__(Sealer)
-        sealer._struct = struct
-        return sealer
+        return Sealer._of(_begin(_library.SEALER, self.suite, _library.aeadkit_sealer_init_with, self._get_struct(),
+                                 *_slices(nonce, _aad_of(aad))))
+
+    def opener(self, nonce: Buffer, tag: Buffer, *, aad: Optional[Buffer] = None) -> "Opener":
+        """Begins an opening in pieces, under every suite. The tag is the last 16 bytes of the sealing. The Key may be closed
+        meanwhile.
+
+        The nonce is the one that the text was sealed with. A nonce must never be used to seal twice under one key: two texts
+        under one nonce give away their XOR, and enough to forge messages; under AES-GCM-SIV only whether the texts and the
+        associated data are the same.
+
+        Raises TagLength, NonceLength or AadTooLong; or NotBegun if __init__ raised an exception, and after close.
+        """
+        return Opener._of(_begin(_library.OPENER, self.suite, _library.aeadkit_opener_init_with, self._get_struct(),
+                                 *_slices(nonce, _aad_of(aad)), _tag_of(tag)))
+
+    def siv_sealer(self, nonce: Buffer, *, aad: Optional[Buffer] = None) -> "SivSealer":
+        """Begins a sealing in pieces under AES-GCM-SIV. The Key may be closed meanwhile.
+
+        Never use a nonce twice under one key: two sealings under one nonce give away whether their texts and associated data
+        are the same.
+
+        Raises UnknownSuite for ChaCha20-Poly1305 and AES-GCM (sealer); NonceLength or AadTooLong; or NotBegun if __init__
+        raised an exception, and after close.
+        """
+        return SivSealer._of(_begin(_library.SIV, self.suite, _library.aeadkit_siv_init_with, self._get_struct(),
+                                    *_slices(nonce, _aad_of(aad))))
 
 
-class Sealer(_InPieces):
+# ---- Saved states
+
+
+class NotSaved(Refused, ValueError):
+    """The bytes are not what save returned, for this class and suite."""
+
+    message = "not a saved state of this class and suite"
+
+
+_State = TypeVar("_State", bound="_Saves")
+
+
+class _Saves(_InPieces):
+    """A state in pieces that can be saved as bytes, and resumed from them."""
+
+    _kind: _library.Kind
+    _saved: _library.Saved
+
+    def save(self) -> bytes:
+        """Returns the state as bytes, and closes this object: resume goes on from the bytes, after a restart too.
+
+        NEVER GO ON TWICE FROM ONE SAVED STATE OF A SEALING: two texts would be sealed under one nonce, which gives away their
+        XOR, and enough to forge messages. Replace the bytes, where they are stored, before the ciphertext that follows them
+        leaves your hands.
+
+        Keep the bytes as secret as the key, since with them messages can be forged under it, and where nobody else can write:
+        nothing authenticates them. The key and the nonce are not among them, nor is the place that was reached in the text.
+
+        Raises NotBegun after finish; or NotImplementedError if the library that was loaded cannot save.
+        """
+        saved = self._saved.memory()
+
+        def save_and_wipe(struct: _Struct) -> int:
+            # in one call, so that no other thread goes on beside what is saved
+            status = self._saved.save(struct, saved)
+            if not status:
+                self._kind.wipe(struct)
+            return status
+
+        _check(self._call(save_and_wipe))
+        self.close()
+        return bytes(saved)
+
+    @classmethod
+    def resume(cls: Type[_State], suite: int, key: Buffer, nonce: Buffer, saved: Buffer) -> _State:
+        """Returns the state that was saved, which goes on where it was, in the pass or the reading that it was in.
+
+        NEVER RESUME ONE SAVED STATE OF A SEALING TWICE: two texts would be sealed under one nonce, which gives away their XOR,
+        and enough to forge messages. The suite, the key and the nonce are those that it was begun with, of which the library
+        notices only another suite: a sealing under another key or nonce cannot be opened.
+
+        Raises NotSaved if the bytes are not what save returned, for this class and suite; UnknownSuite, KeyLength or
+        NonceLength; or NotImplementedError if the library that was loaded cannot resume.
+        """
+        member, slices, data = _suite_of(suite), _slices(key, nonce), _bytes_of(saved)
+        # the first number is the mark, whose lowest byte is the suite
+        if len(data) != ctypes.sizeof(cls._saved.memory) or data[0] != member:
+            raise NotSaved()
+        try:
+            return cls._of(_begin(cls._kind, member, cls._saved.resume, *slices, cls._saved.memory.from_buffer_copy(data)))
+        except NotBegun:
+            raise NotSaved() from None
+
+
+# ---- Messages in pieces
+
+
+class Sealer(_Saves):
     """A sealing in pieces under ChaCha20-Poly1305 or AES-GCM: update with each piece of the text, then finish.
 
     The ciphertexts of the pieces and then the tag are the sealing of the whole text, however it is cut into pieces. Calls from
@@ -411,12 +674,13 @@ class Sealer(_InPieces):
     """
 
     _no_copies = "two copies would seal two texts under one nonce"
+    _kind = _library.SEALER
+    _saved = _library.SAVED_SEALER
 
     def __init__(self, suite: int, key: Buffer, nonce: Buffer, *, aad: Optional[Buffer] = None) -> None:
         self._struct = None
-        struct = _Struct(_library.Sealer(), suite)
-        _check(_library.aeadkit_sealer_init(struct.address, struct.suite, *_slices(key, nonce, _aad_of(aad))))
-        self._struct = struct
+        member = _suite_of(suite)
+        self._struct = _begin(self._kind, member, _library.aeadkit_sealer_init, member, *_slices(key, nonce, _aad_of(aad)))
 
     def update(self, piece: Buffer) -> bytes:
         """Returns the ciphertext of the next piece of the text, which may have any length.
@@ -424,16 +688,24 @@ class Sealer(_InPieces):
         Raises NotBegun after finish, or in a forked process; or TextTooLong if the whole text would be too long: a shorter
         piece may follow.
         """
-        return _in_place(self._call, (_library.aeadkit_sealer_update,), piece).getvalue()
+        return _changed(piece, self._call, _library.aeadkit_sealer_update)
+
+    def update_in_place(self, piece: Buffer) -> None:
+        """Takes the next piece of the text, in a writable buffer, which becomes its ciphertext. No other thread may read or
+        write the buffer during the call.
+
+        Raises NotBegun and TextTooLong as update does, and the buffer is as before; or TypeError if it is not writable.
+        """
+        _check(_in_place(piece, self._call, (_library.aeadkit_sealer_update,)))
 
     def finish(self) -> bytes:
         """Ends the sealing, and returns its tag of 16 bytes. Raises NotBegun if it was finished before."""
-        return self._tag(_library.aeadkit_sealer_finish)
+        return _tag(self._call, _library.aeadkit_sealer_finish)
 
 
-class Opener(_InPieces):
-    """An opening in pieces, under every suite, in two passes over the ciphertext: check each piece, then checked; then update
-    with each piece again, then finish.
+class Opener(_Saves):
+    """An opening in pieces, under every suite, in two passes over the ciphertext: check each piece, then begin_second; then
+    update with each piece again, then finish.
 
     The last 16 bytes of a sealing are its tag, which is not part of the ciphertext. The second pass may be cut into other
     pieces. No text is returned before the first pass is found to be over a sealing, and the text may be used once finish
@@ -448,51 +720,61 @@ class Opener(_InPieces):
     """
 
     _no_copies = "it holds the key of the message; begin another Opener"
+    _kind = _library.OPENER
+    _saved = _library.SAVED_OPENER
 
     def __init__(self, suite: int, key: Buffer, nonce: Buffer, tag: Buffer, *, aad: Optional[Buffer] = None) -> None:
         self._struct = None
-        struct = _Struct(_library.Opener(), suite)
-        slices = _slices(key, nonce, _aad_of(aad))
-        last = _bytes_of(tag)
-        if len(last) != _TAG_BYTES:
-            raise TagLength()
-        _check(_library.aeadkit_opener_init(struct.address, struct.suite, *slices, last))
-        self._struct = struct
+        member = _suite_of(suite)
+        self._struct = _begin(self._kind, member, _library.aeadkit_opener_init, member, *_slices(key, nonce, _aad_of(aad)),
+                              _tag_of(tag))
 
     def check(self, piece: Buffer) -> None:
         """Takes the next piece of the ciphertext in the first pass.
 
-        Raises NotBegun after checked; or TextTooLong if the whole text would be too long: a shorter piece may follow.
+        Raises NotBegun after begin_second; or TextTooLong if the whole text would be too long: a shorter piece may follow.
         """
         _check(self._call(_library.aeadkit_opener_check, *_slices(piece)))
 
-    def checked(self) -> None:
-        """Ends the first pass.
+    def begin_second(self) -> None:
+        """Ends the first pass, and begins the second one.
 
-        Raises TagMismatch if its pieces and the tag are not a sealing: the opening is over. Raises NotBegun if there is no
+        Raises TagMismatch if the pieces and the tag are not a sealing: the opening is over. Raises NotBegun if there is no
         first pass to end.
         """
-        _check(self._call(_library.aeadkit_opener_checked))
+        _check(self._call(_library.aeadkit_opener_begin_second))
+
+    # the name in version 2
+    checked = begin_second
 
     def update(self, piece: Buffer) -> bytes:
         """Returns the text of the next piece of the ciphertext in the second pass.
 
-        Raises NotBegun before checked and after finish; or SourceChanged if the second pass would be longer than the first.
+        Raises NotBegun before begin_second and after finish; or SourceChanged if the second pass would be longer than the
+        first.
         """
-        return _in_place(self._call, (_library.aeadkit_opener_update,), piece).getvalue()
+        return _changed(piece, self._call, _library.aeadkit_opener_update)
+
+    def update_in_place(self, piece: Buffer) -> None:
+        """Takes the next piece of the ciphertext in the second pass, in a writable buffer, which becomes its text. No other
+        thread may read or write the buffer during the call.
+
+        Raises NotBegun and SourceChanged as update does, and the buffer is as before; or TypeError if it is not writable.
+        """
+        _check(_in_place(piece, self._call, (_library.aeadkit_opener_update,)))
 
     def finish(self) -> None:
         """Ends the second pass.
 
-        Raises SourceChanged if its pieces and the tag are not a sealing: throw away what update returned. Raises NotBegun if
-        there is no second pass to end.
+        Raises SourceChanged if its pieces and the tag are not a sealing: throw away what update gave. Raises NotBegun if there
+        is no second pass to end.
         """
         _check(self._call(_library.aeadkit_opener_finish))
 
 
-class SivSealer(_InPieces):
+class SivSealer(_Saves):
     """A sealing in pieces under AES-GCM-SIV, whose tag is computed first, by two readings of the text: absorb each piece, then
-    tag; then update with each piece again, then finish.
+    begin_second, which returns the tag; then update with each piece again, then finish.
 
     The ciphertexts of the pieces and then the tag are the sealing of the whole text, once finish returns. The second reading
     may be cut into other pieces. Calls from several threads come one after the other, and the pieces are joined in that order.
@@ -505,39 +787,55 @@ class SivSealer(_InPieces):
     """
 
     _no_copies = "two copies would seal two texts under one nonce"
+    _kind = _library.SIV
+    _saved = _library.SAVED_SIV
 
     def __init__(self, suite: int, key: Buffer, nonce: Buffer, *, aad: Optional[Buffer] = None) -> None:
         self._struct = None
-        struct = _Struct(_library.Siv(), suite)
-        _check(_library.aeadkit_siv_init(struct.address, struct.suite, *_slices(key, nonce, _aad_of(aad))))
-        self._struct = struct
+        member = _suite_of(suite)
+        self._struct = _begin(self._kind, member, _library.aeadkit_siv_init, member, *_slices(key, nonce, _aad_of(aad)))
 
     def absorb(self, piece: Buffer) -> None:
         """Takes the next piece of the text in the first reading.
 
-        Raises NotBegun after tag; or TextTooLong if the whole text would be too long: a shorter piece may follow.
+        Raises NotBegun after begin_second; or TextTooLong if the whole text would be too long: a shorter piece may follow.
         """
         _check(self._call(_library.aeadkit_siv_absorb, *_slices(piece)))
 
-    def tag(self) -> bytes:
-        """Ends the first reading, and returns the tag of its text, of 16 bytes. Raises NotBegun if there is no first reading to
-        end."""
-        return self._tag(_library.aeadkit_siv_tag)
+    def begin_second(self) -> bytes:
+        """Ends the first reading, begins the second one, and returns the tag of the text, of 16 bytes. Raises NotBegun if there
+        is no first reading to end."""
+        return _tag(self._call, _library.aeadkit_siv_begin_second)
+
+    # the name in version 2
+    tag = begin_second
 
     def update(self, piece: Buffer) -> bytes:
         """Returns the ciphertext of the next piece of the text in the second reading.
 
-        Raises NotBegun before tag and after finish; or SourceChanged if the second reading would be longer than the first.
+        Raises NotBegun before begin_second and after finish; or SourceChanged if the second reading would be longer than the
+        first.
         """
-        return _in_place(self._call, (_library.aeadkit_siv_update,), piece).getvalue()
+        return _changed(piece, self._call, _library.aeadkit_siv_update)
+
+    def update_in_place(self, piece: Buffer) -> None:
+        """Takes the next piece of the text in the second reading, in a writable buffer, which becomes its ciphertext. No other
+        thread may read or write the buffer during the call.
+
+        Raises NotBegun and SourceChanged as update does, and the buffer is as before; or TypeError if it is not writable.
+        """
+        _check(_in_place(piece, self._call, (_library.aeadkit_siv_update,)))
 
     def finish(self) -> None:
         """Ends the second reading.
 
-        Raises SourceChanged if its text has another length or tag than the first: throw away what update returned. Raises
+        Raises SourceChanged if its text has another length or tag than the first: throw away what update gave. Raises
         NotBegun if there is no second reading to end.
         """
         _check(self._call(_library.aeadkit_siv_finish))
+
+
+# ---- Key wrapping
 
 
 def wrap(key: Buffer, text: Buffer) -> bytes:
@@ -545,7 +843,8 @@ def wrap(key: Buffer, text: Buffer) -> bytes:
 
     Raises KeyLength; or WrapLength if the text's length is not a multiple of 8, or less than 16.
     """
-    return _in_place(_library.aeadkit_wrap, (*_slices(key),), text, before=_WRAP_ROOM).getvalue()
+    plain = _bytes_of(text)
+    return _output(len(plain) + _WRAP_BYTES, _library.aeadkit_wrap, *_slices(key, plain))
 
 
 def unwrap(key: Buffer, wrapped: Buffer) -> bytes:
@@ -554,7 +853,8 @@ def unwrap(key: Buffer, wrapped: Buffer) -> bytes:
     Raises KeyLength; WrapLength if the length is not a multiple of 8, or less than 24; or WrapIntegrity if the bytes are not a
     valid wrapping under this key.
     """
-    return _in_place(_library.aeadkit_unwrap, (*_slices(key),), wrapped).getvalue()[_WRAP_BYTES:]
+    data = _bytes_of(wrapped)
+    return _output(max(len(data) - _WRAP_BYTES, 0), _library.aeadkit_unwrap, *_slices(key, data))
 
 
 def wrap_padded(key: Buffer, text: Buffer) -> bytes:
@@ -562,9 +862,8 @@ def wrap_padded(key: Buffer, text: Buffer) -> bytes:
 
     Raises KeyLength; WrapLength if the text is empty; or TextTooLong.
     """
-    copy = _bytes_of(text)
-    call, padding = _library.aeadkit_wrap_padded, bytes(-len(copy) % 8)
-    return _in_place(call, (*_slices(key),), copy, len(copy), before=_WRAP_ROOM, after=padding).getvalue()
+    plain = _bytes_of(text)
+    return _output(len(plain) + -len(plain) % 8 + _WRAP_BYTES, _library.aeadkit_wrap_padded, *_slices(key, plain))
 
 
 def unwrap_padded(key: Buffer, wrapped: Buffer) -> bytes:
@@ -574,5 +873,9 @@ def unwrap_padded(key: Buffer, wrapped: Buffer) -> bytes:
     bytes are not a valid wrapping under this key.
     """
     length = ctypes.c_size_t()
-    room = _in_place(_library.aeadkit_unwrap_padded, (*_slices(key),), wrapped, ctypes.byref(length))
-    return room.getvalue()[_WRAP_BYTES : _WRAP_BYTES + length.value]
+
+    def call(*arguments: Any) -> int:
+        return _library.aeadkit_unwrap_padded(*arguments, length)
+
+    data = _bytes_of(wrapped)
+    return _output(max(len(data) - _WRAP_BYTES, 0), call, *_slices(key, data))[: length.value]

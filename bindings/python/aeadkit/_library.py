@@ -3,9 +3,10 @@
 import ctypes
 import io
 import os
-from typing import Any, Callable, Type
+from typing import Any, Callable, NamedTuple, Type
 
-_NAME = "libaeadkit.so.2"
+_MAJOR = 3
+_NAME = f"libaeadkit.so.{_MAJOR}"
 
 
 def _has_avx2() -> bool:
@@ -31,11 +32,6 @@ def _find() -> str:
 
 
 def _load() -> ctypes.CDLL:
-    """Loads the library. A file is searched for its name, which ends in its major version: the loader does not look at it."""
-    if os.sep in _file and os.path.isfile(_file):
-        with io.open(_file, "rb") as file:
-            if _NAME.encode() + b"\0" not in file.read():
-                raise ImportError(f"{_file} is not {_NAME}, which this package needs", path=_file)
     try:
         return ctypes.CDLL(_file)
     except OSError as error:
@@ -46,55 +42,122 @@ _file = _find()
 _library = _load()
 
 
+def _unfit(reason: str) -> ImportError:
+    return ImportError(f"{_file} does not fit this package, which needs {_NAME}: {reason}", path=_file)
+
+
 def _declare(name: str, *arguments: Any, result: Any = ctypes.c_uint32) -> Callable[..., int]:
     """A function of the library. Most return a status."""
     try:
         function = getattr(_library, name)
     except AttributeError:
-        raise ImportError(f"{_file} does not fit this package: it has no function {name}", path=_file) from None
+        raise _unfit(f"it has no function {name}") from None
     function.argtypes, function.restype = arguments, result
     declared: Callable[..., int] = function
     return declared
 
 
-def _struct(name: str, size: int) -> "Type[ctypes.Array[ctypes.c_uint64]]":
-    """The type of a struct's memory. The size is the one that aeadkit.h has: the library has to have it too."""
+def _version() -> str:
+    """The version of the library, if its major version is the one that this package needs."""
+    number = _declare("aeadkit_version")()
+    version = f"{number // 10000}.{number // 100 % 100}.{number % 100}"
+    if number // 10000 != _MAJOR:
+        raise _unfit(f"its version is {version}")
+    return version
+
+
+class Kind(NamedTuple):
+    """A kind of struct of the library: its memory, and the function that leaves zeros in it."""
+
+    memory: "Type[ctypes.Array[ctypes.c_uint64]]"
+    wipe: Callable[..., object]
+
+
+def _kind(name: str, size: int) -> Kind:
+    """A kind of struct, whose size is the one in aeadkit.h. The library must have it too."""
     found = _declare(f"aeadkit_{name}_size", result=ctypes.c_size_t)()
     if found != size:
-        raise ImportError(f"{_file} does not fit this package: its struct aeadkit_{name} has {found} bytes, not {size}",
-                          path=_file)
-    return ctypes.c_uint64 * (size // 8)
+        raise _unfit(f"its struct aeadkit_{name} has {found} bytes, not {size}")
+    return Kind(ctypes.c_uint64 * (size // 8), _declare(f"aeadkit_{name}_wipe", ctypes.c_void_p, result=None))
 
 
-Sealer = _struct("sealer", 144)
-Opener = _struct("opener", 200)
-Siv = _struct("siv", 200)
-Key = _struct("key", 808)
+VERSION = _version()
+SEALER = _kind("sealer", 144)
+OPENER = _kind("opener", 192)
+SIV = _kind("siv", 192)
+KEY = _kind("key", 808)
 
 _suite = ctypes.c_uint32
-_bytes = (ctypes.c_char_p, ctypes.c_size_t)
-_room = (ctypes.c_void_p, ctypes.c_size_t)
-_address = ctypes.c_void_p
-aeadkit_seal = _declare("aeadkit_seal", _suite, *_bytes, *_bytes, *_bytes, *_room)
-aeadkit_open = _declare("aeadkit_open", _suite, *_bytes, *_bytes, *_bytes, *_room)
-aeadkit_wrap = _declare("aeadkit_wrap", *_bytes, *_room)
-aeadkit_unwrap = _declare("aeadkit_unwrap", *_bytes, *_room)
-aeadkit_wrap_padded = _declare("aeadkit_wrap_padded", *_bytes, *_room, ctypes.c_size_t)
-aeadkit_unwrap_padded = _declare("aeadkit_unwrap_padded", *_bytes, *_room, ctypes.POINTER(ctypes.c_size_t))
-aeadkit_sealer_init = _declare("aeadkit_sealer_init", _address, _suite, *_bytes, *_bytes, *_bytes)
-aeadkit_sealer_update = _declare("aeadkit_sealer_update", _address, *_room)
-aeadkit_sealer_finish = _declare("aeadkit_sealer_finish", _address, _address)
-aeadkit_opener_init = _declare("aeadkit_opener_init", _address, _suite, *_bytes, *_bytes, *_bytes, ctypes.c_char_p)
-aeadkit_opener_check = _declare("aeadkit_opener_check", _address, *_bytes)
-aeadkit_opener_checked = _declare("aeadkit_opener_checked", _address)
-aeadkit_opener_update = _declare("aeadkit_opener_update", _address, *_room)
-aeadkit_opener_finish = _declare("aeadkit_opener_finish", _address)
-aeadkit_siv_init = _declare("aeadkit_siv_init", _address, _suite, *_bytes, *_bytes, *_bytes)
-aeadkit_siv_absorb = _declare("aeadkit_siv_absorb", _address, *_bytes)
-aeadkit_siv_tag = _declare("aeadkit_siv_tag", _address, _address)
-aeadkit_siv_update = _declare("aeadkit_siv_update", _address, *_room)
-aeadkit_siv_finish = _declare("aeadkit_siv_finish", _address)
-aeadkit_key_init = _declare("aeadkit_key_init", _address, _suite, *_bytes)
-aeadkit_seal_with = _declare("aeadkit_seal_with", _address, *_bytes, *_bytes, *_room)
-aeadkit_open_with = _declare("aeadkit_open_with", _address, *_bytes, *_bytes, *_room)
-aeadkit_sealer_init_with = _declare("aeadkit_sealer_init_with", _address, _address, *_bytes, *_bytes)
+_struct = ctypes.c_void_p
+_input = (ctypes.c_char_p, ctypes.c_size_t)
+_output = (ctypes.c_char_p, ctypes.c_size_t)
+_changed = (ctypes.c_void_p, ctypes.c_size_t)
+_tag = ctypes.c_char_p
+_setting = (_suite, *_input, *_input, *_input)
+_setting_with = (_struct, *_input, *_input)
+
+aeadkit_seal = _declare("aeadkit_seal", *_setting, *_input, *_output)
+aeadkit_open = _declare("aeadkit_open", *_setting, *_input, *_output)
+aeadkit_seal_in_place = _declare("aeadkit_seal_in_place", *_setting, *_changed, _tag)
+aeadkit_open_in_place = _declare("aeadkit_open_in_place", *_setting, *_changed, _tag)
+aeadkit_seal_with = _declare("aeadkit_seal_with", *_setting_with, *_input, *_output)
+aeadkit_open_with = _declare("aeadkit_open_with", *_setting_with, *_input, *_output)
+aeadkit_seal_in_place_with = _declare("aeadkit_seal_in_place_with", *_setting_with, *_changed, _tag)
+aeadkit_open_in_place_with = _declare("aeadkit_open_in_place_with", *_setting_with, *_changed, _tag)
+aeadkit_wrap = _declare("aeadkit_wrap", *_input, *_input, *_output)
+aeadkit_unwrap = _declare("aeadkit_unwrap", *_input, *_input, *_output)
+aeadkit_wrap_padded = _declare("aeadkit_wrap_padded", *_input, *_input, *_output)
+aeadkit_unwrap_padded = _declare("aeadkit_unwrap_padded", *_input, *_input, *_output, ctypes.POINTER(ctypes.c_size_t))
+aeadkit_key_init = _declare("aeadkit_key_init", _struct, _suite, *_input)
+aeadkit_sealer_init = _declare("aeadkit_sealer_init", _struct, *_setting)
+aeadkit_sealer_init_with = _declare("aeadkit_sealer_init_with", _struct, *_setting_with)
+aeadkit_sealer_update = _declare("aeadkit_sealer_update", _struct, *_changed)
+aeadkit_sealer_finish = _declare("aeadkit_sealer_finish", _struct, _tag)
+aeadkit_opener_init = _declare("aeadkit_opener_init", _struct, *_setting, _tag)
+aeadkit_opener_init_with = _declare("aeadkit_opener_init_with", _struct, *_setting_with, _tag)
+aeadkit_opener_check = _declare("aeadkit_opener_check", _struct, *_input)
+aeadkit_opener_begin_second = _declare("aeadkit_opener_begin_second", _struct)
+aeadkit_opener_update = _declare("aeadkit_opener_update", _struct, *_changed)
+aeadkit_opener_finish = _declare("aeadkit_opener_finish", _struct)
+aeadkit_siv_init = _declare("aeadkit_siv_init", _struct, *_setting)
+aeadkit_siv_init_with = _declare("aeadkit_siv_init_with", _struct, *_setting_with)
+aeadkit_siv_absorb = _declare("aeadkit_siv_absorb", _struct, *_input)
+aeadkit_siv_begin_second = _declare("aeadkit_siv_begin_second", _struct, _tag)
+aeadkit_siv_update = _declare("aeadkit_siv_update", _struct, *_changed)
+aeadkit_siv_finish = _declare("aeadkit_siv_finish", _struct)
+aeadkit_key_length = _declare("aeadkit_key_length", _suite, result=ctypes.c_size_t)
+aeadkit_text_limit = _declare("aeadkit_text_limit", _suite, result=ctypes.c_uint64)
+aeadkit_aad_limit = _declare("aeadkit_aad_limit", _suite, result=ctypes.c_uint64)
+aeadkit_suite_named = _declare("aeadkit_suite_named", *_input)
+aeadkit_status_text = _declare("aeadkit_status_text", ctypes.c_uint32, *_output, result=ctypes.c_size_t)
+
+# ---- Saved states
+
+
+class Saved(NamedTuple):
+    """How the states of a kind are saved: the memory of the saved struct, and the functions."""
+
+    memory: "Type[ctypes.Array[ctypes.c_uint64]]"
+    save: Callable[..., int]
+    resume: Callable[..., int]
+
+
+def _declare_if_there(name: str, *arguments: Any) -> Callable[..., int]:
+    """A function that a library need not have. If it has none, the call is a NotImplementedError."""
+    if hasattr(_library, name):
+        return _declare(name, *arguments)
+
+    def missing(*_: Any) -> int:
+        raise NotImplementedError(f"{_file} cannot save states: it has no function {name}")
+
+    return missing
+
+
+def _saved(name: str, size: int) -> Saved:
+    return Saved(ctypes.c_uint64 * (size // 8), _declare_if_there(f"aeadkit_{name}_save", _struct, _struct),
+                 _declare_if_there(f"aeadkit_{name}_resume", _struct, *_input, *_input, _struct))
+
+
+SAVED_SEALER = _saved("sealer", 96)
+SAVED_OPENER = _saved("opener", 144)
+SAVED_SIV = _saved("siv", 144)

@@ -53,6 +53,14 @@ for suite in Suite:
         assert len(made) == n + 16
         assert aeadkit.open(suite, key, bytes(12), made) == bytes(n)
         assert kept.seal(bytes(12), bytes(n)) == made and kept.open(bytes(12), made) == bytes(n)
+        buffer = bytearray(n)
+        tag = aeadkit.seal_in_place(suite, key, bytes(12), buffer)
+        assert buffer + tag == made
+        refused(aeadkit.TagMismatch, kept.open_in_place, bytes(12), buffer, tag, aad=b"x")
+        kept.open_in_place(bytes(12), buffer, tag)
+        assert buffer == bytes(n) and kept.seal_in_place(bytes(12), buffer) == tag
+        aeadkit.open_in_place(suite, key, bytes(12), buffer, tag)
+        assert buffer == bytes(n)
         refused(aeadkit.TagMismatch, aeadkit.open, suite, key, bytes(12), made, aad=b"x")
     refused(aeadkit.KeyLength, aeadkit.seal, suite, key[1:], bytes(11), b"")
     refused(aeadkit.NonceLength, aeadkit.seal, suite, key, bytes(11), b"")
@@ -76,12 +84,13 @@ for suite in Suite:
     key = bytes(suite.key_bytes)
     made = aeadkit.seal(suite, key, bytes(12), text, aad=b"data")
     body, tag = made[:-16], made[-16:]
+    kept = aeadkit.Key(suite, key)
     for size in (1, 15, 16, 17, 333, 1000):
-        opener = aeadkit.Opener(suite, key, bytes(12), tag, aad=b"data")
+        opener = kept.opener(bytes(12), tag, aad=b"data")
         for i in range(0, len(body), size):
             opener.check(body[i : i + size])
         refused(aeadkit.NotBegun, opener.update, body)
-        opener.checked()
+        opener.begin_second()
         refused(aeadkit.NotBegun, opener.check, body)
         step = 1001 - size
         assert b"".join(opener.update(body[i : i + step]) for i in range(0, len(body), step)) == text
@@ -90,11 +99,11 @@ for suite in Suite:
         refused(aeadkit.NotBegun, opener.finish)
     opener = aeadkit.Opener(suite, key, bytes(12), tag, aad=b"date")
     opener.check(body)
-    refused(aeadkit.TagMismatch, opener.checked)
-    refused(aeadkit.NotBegun, opener.checked)
+    refused(aeadkit.TagMismatch, opener.begin_second)
+    refused(aeadkit.NotBegun, opener.begin_second)
     opener = aeadkit.Opener(suite, key, bytes(12), tag, aad=b"data")
     opener.check(body)
-    opener.checked()
+    opener.begin_second()
     opener.update(bytes(1000))
     refused(aeadkit.SourceChanged, opener.finish)
 refused(aeadkit.KeyLength, aeadkit.Opener, Suite.AES_128_GCM_SIV, bytes(24), bytes(12), bytes(16))
@@ -103,11 +112,11 @@ refused(aeadkit.NonceLength, aeadkit.Opener, Suite.AES_128_GCM, bytes(16), bytes
 for suite in list(Suite)[4:]:
     key = bytes(suite.key_bytes)
     for size in (1, 15, 16, 17, 333, 1000):
-        sealer = aeadkit.SivSealer(suite, key, bytes(12), aad=b"data")
+        sealer = aeadkit.Key(suite, key).siv_sealer(bytes(12), aad=b"data")
         for i in range(0, len(text), size):
             sealer.absorb(text[i : i + size])
         refused(aeadkit.NotBegun, sealer.update, text)
-        tag = sealer.tag()
+        tag = sealer.begin_second()
         refused(aeadkit.NotBegun, sealer.absorb, text)
         step = 1001 - size
         made = b"".join(sealer.update(text[i : i + step]) for i in range(0, len(text), step))
@@ -117,7 +126,7 @@ for suite in list(Suite)[4:]:
         assert made + tag == aeadkit.seal(suite, key, bytes(12), text, aad=b"data")
     sealer = aeadkit.SivSealer(suite, key, bytes(12))
     sealer.absorb(text)
-    sealer.tag()
+    sealer.begin_second()
     sealer.update(bytes(1000))
     refused(aeadkit.SourceChanged, sealer.finish)
 refused(aeadkit.UnknownSuite, aeadkit.SivSealer, Suite.AES_128_GCM, bytes(16), bytes(12))

@@ -94,20 +94,125 @@ class Buffers(unittest.TestCase):
                 for sealer in (Sealer(SUITE, key, nonce, aad=text), kept.sealer(nonce, aad=text)):
                     self.assertEqual(sealer.update(text) + sealer.finish(), SEALED)
                 body = kind(SEALED[:-16])
-                opener = Opener(SUITE, key, nonce, kind(SEALED[-16:]), aad=text)
-                opener.check(body)
-                opener.checked()
-                self.assertEqual(opener.update(body), TEXT)
-                opener.finish()
-                siv = SivSealer(Suite.AES_256_GCM_SIV, key, nonce, aad=text)
-                siv.absorb(text)
-                tag = siv.tag()
-                self.assertEqual(siv.update(text) + tag, SIV_SEALED)
-                siv.finish()
+                tag = kind(SEALED[-16:])
+                for opener in (Opener(SUITE, key, nonce, tag, aad=text), kept.opener(nonce, tag, aad=text)):
+                    opener.check(body)
+                    opener.begin_second()
+                    self.assertEqual(opener.update(body), TEXT)
+                    opener.finish()
+                for siv in (SivSealer(Suite.AES_256_GCM_SIV, key, nonce, aad=text),
+                            Key(Suite.AES_256_GCM_SIV, key).siv_sealer(nonce, aad=text)):
+                    siv.absorb(text)
+                    tag = siv.begin_second()
+                    self.assertEqual(siv.update(text) + tag, SIV_SEALED)
+                    siv.finish()
                 self.assertEqual(aeadkit.wrap(key, text), wrapped)
                 self.assertEqual(aeadkit.unwrap(key, kind(wrapped)), TEXT)
                 self.assertEqual(aeadkit.wrap_padded(key, text), padded)
                 self.assertEqual(aeadkit.unwrap_padded(key, kind(padded)), TEXT)
+
+    def test_every_kind_in_place(self):
+        """What is writable and contiguous is changed where it stands, and all else is a TypeError and is not changed."""
+        kept, changed = Key(SUITE, KEY), 0
+        for kind in KINDS:
+            with self.subTest(kind=kind):
+                text, other = kind(TEXT), kind(TEXT)
+                view = memoryview(text)
+                if view.readonly or not view.c_contiguous:
+                    for call in (lambda: kept.seal_in_place(NONCE, text), lambda: kept.sealer(NONCE).update_in_place(text),
+                                 lambda: aeadkit.open_in_place(SUITE, KEY, NONCE, text, SEALED[-16:], aad=TEXT)):
+                        self.assertRaisesRegex(TypeError, "writable and contiguous", call)
+                    self.assertEqual(view.tobytes(), TEXT)
+                    continue
+                changed += 1
+                tag = kept.seal_in_place(kind(NONCE), text, aad=other)
+                self.assertEqual(view.tobytes() + tag, SEALED)
+                kept.open_in_place(kind(NONCE), text, kind(tag), aad=other)
+                self.assertEqual(view.tobytes(), TEXT)
+                tag = aeadkit.seal_in_place(SUITE, kind(KEY), kind(NONCE), text, aad=other)
+                self.assertEqual(view.tobytes() + tag, SEALED)
+                opener = Opener(SUITE, KEY, NONCE, tag, aad=TEXT)
+                opener.check(text)
+                opener.begin_second()
+                opener.update_in_place(text)
+                opener.finish()
+                sealer = Sealer(SUITE, KEY, NONCE, aad=TEXT)
+                sealer.update_in_place(text)
+                self.assertEqual(view.tobytes() + sealer.finish(), SEALED)
+                aeadkit.open_in_place(SUITE, kind(KEY), kind(NONCE), text, kind(tag), aad=other)
+                siv = SivSealer(Suite.AES_256_GCM_SIV, KEY, NONCE, aad=TEXT)
+                siv.absorb(text)
+                tag = siv.begin_second()
+                siv.update_in_place(text)
+                siv.finish()
+                self.assertEqual(view.tobytes() + tag, SIV_SEALED)
+        self.assertGreater(changed, 5)
+
+    def test_in_place_over_one_buffer(self):
+        """Associated data, text and tag may lie in one buffer: what is only read is copied first."""
+        key, record = Key(SUITE, KEY), bytearray(b"head" + TEXT + bytes(16))
+        head, text, tag = memoryview(record)[:4], memoryview(record)[4:-16], memoryview(record)[-16:]
+        tag[:] = key.seal_in_place(NONCE, text, aad=head)
+        self.assertEqual(record, b"head" + key.seal(NONCE, TEXT, aad=b"head"))
+        key.open_in_place(NONCE, text, tag, aad=head)
+        self.assertEqual(record[4:-16], TEXT)
+        whole = bytearray(TEXT)
+        made = key.seal_in_place(NONCE, whole, aad=whole)
+        self.assertEqual(whole + made, key.seal(NONCE, TEXT, aad=TEXT))
+
+    def test_in_place_of_each_length(self):
+        for suite in Suite:
+            key = Key(suite, KEY[: suite.key_bytes])
+            for length in range(70):
+                text, sealed = bytearray(length), key.seal(NONCE, bytes(length), aad=b"aad")
+                tag = key.seal_in_place(NONCE, text, aad=b"aad")
+                self.assertEqual(text + tag, sealed)
+                for wrong in (bytes(16), bytes([tag[0] ^ 1]) + tag[1:]):
+                    self.assertRaises(aeadkit.TagMismatch, key.open_in_place, NONCE, text, wrong, aad=b"aad")
+                    self.assertEqual(text + tag, sealed)
+                key.open_in_place(NONCE, text, tag, aad=b"aad")
+                self.assertEqual(text, bytes(length))
+
+    def test_refused_in_place(self):
+        """The buffer is as before, and nothing holds it."""
+        key, text = Key(SUITE, KEY), bytearray(TEXT)
+        finished = key.sealer(NONCE)
+        finished.finish()
+        opener = key.opener(NONCE, SEALED[-16:], aad=TEXT)
+        opener.check(SEALED[:-16])
+        opener.begin_second()
+        calls = [(aeadkit.NonceLength, lambda: key.seal_in_place(b"", text)),
+                 (aeadkit.TagMismatch, lambda: key.open_in_place(NONCE, text, bytes(16))),
+                 (aeadkit.KeyLength, lambda: aeadkit.seal_in_place(SUITE, b"", NONCE, text)),
+                 (aeadkit.NotBegun, lambda: finished.update_in_place(text)),
+                 (aeadkit.SourceChanged, lambda: opener.update_in_place(text))]
+        for number, (fault, call) in enumerate(calls):
+            before = bytes(text)
+            try:
+                call()
+            except fault:
+                self.assertEqual(text, before)
+                text += b"more"
+            else:
+                self.fail(number)
+
+    def test_a_text_that_is_too_long(self):
+        """A mapped file without contents, since nothing reads it."""
+        for suite in (Suite.AES_256_GCM, Suite.AES_256_GCM_SIV):
+            with tempfile.TemporaryFile() as file:
+                file.truncate(suite.text_limit + 1)
+                try:
+                    text = mmap.mmap(file.fileno(), 0)
+                except OSError:
+                    self.skipTest("no room for addresses")
+                with text:
+                    for call in (lambda: aeadkit.seal_in_place(suite, KEY, NONCE, text),
+                                 lambda: Key(suite, KEY).open_in_place(NONCE, text, bytes(16))):
+                        self.assertRaises(aeadkit.TextTooLong, call)
+                    if suite is Suite.AES_256_GCM:
+                        sealer = Sealer(suite, KEY, NONCE)
+                        self.assertRaises(aeadkit.TextTooLong, sealer.update_in_place, text)
+                        self.assertEqual(sealer.update(TEXT) + sealer.finish(), aeadkit.seal(suite, KEY, NONCE, TEXT))
 
     def test_numbers_are_counted_in_bytes(self):
         numbers = array.array("i", [1, 2, 3])
@@ -143,6 +248,7 @@ class Buffers(unittest.TestCase):
         released.release()
         closed.close()
         for dead in (released, closed):
+            self.assertRaises(ValueError, Key(SUITE, KEY).seal_in_place, NONCE, dead)
             self.assertRaises(ValueError, Key(SUITE, KEY).seal, NONCE, dead)
             self.assertRaises(ValueError, Key(SUITE, KEY).sealer(NONCE).update, dead)
         self.assertRaises(TypeError, Key(SUITE, KEY).seal, NONCE, collections.deque(TEXT))

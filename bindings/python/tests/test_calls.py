@@ -17,15 +17,19 @@ TEXT = b"a text of more than one block of 16 bytes"
 SEALED = aeadkit.seal(Suite.AES_256_GCM, KEY, NONCE, TEXT, aad=b"aad")
 SIV_SEALED = aeadkit.seal(Suite.AES_256_GCM_SIV, KEY, NONCE, TEXT, aad=b"aad")
 LENGTHS = (aeadkit.KeyLength, aeadkit.NonceLength, aeadkit.TextTooLong, aeadkit.AadTooLong, aeadkit.TooShort,
-           aeadkit.TagLength, aeadkit.WrapLength)
+           aeadkit.TagLength, aeadkit.WrapLength, aeadkit.NotSaved)
 OTHERS = (aeadkit.TagMismatch, aeadkit.WrapIntegrity, aeadkit.SourceChanged, aeadkit.NotBegun)
 
 
 class Arguments(unittest.TestCase):
     def test_one_order(self):
         orders = [(aeadkit.seal, "suite key nonce text aad"), (aeadkit.open, "suite key nonce sealed aad"),
+                  (aeadkit.seal_in_place, "suite key nonce text aad"),
+                  (aeadkit.open_in_place, "suite key nonce ciphertext tag aad"),
                   (Key, "suite key"), (Key.seal, "self nonce text aad"), (Key.open, "self nonce sealed aad"),
-                  (Key.sealer, "self nonce aad"), (Sealer, "suite key nonce aad"), (SivSealer, "suite key nonce aad"),
+                  (Key.seal_in_place, "self nonce text aad"), (Key.open_in_place, "self nonce ciphertext tag aad"),
+                  (Key.sealer, "self nonce aad"), (Key.opener, "self nonce tag aad"), (Key.siv_sealer, "self nonce aad"),
+                  (Sealer, "suite key nonce aad"), (SivSealer, "suite key nonce aad"),
                   (Opener, "suite key nonce tag aad"), (aeadkit.wrap, "key text"), (aeadkit.unwrap, "key wrapped"),
                   (aeadkit.wrap_padded, "key text"), (aeadkit.unwrap_padded, "key wrapped")]
         for call, order in orders:
@@ -42,6 +46,9 @@ class Arguments(unittest.TestCase):
                      lambda: key.seal(NONCE, TEXT, b"aad"), lambda: key.open(NONCE, SEALED, b"aad"),
                      lambda: key.sealer(NONCE, b"aad"), lambda: Sealer(Suite.AES_256_GCM, KEY, NONCE, b"aad"),
                      lambda: SivSealer(Suite.AES_256_GCM_SIV, KEY, NONCE, b"aad"),
+                     lambda: key.opener(NONCE, SEALED[-16:], b"aad"), lambda: key.siv_sealer(NONCE, b"aad"),
+                     lambda: key.seal_in_place(NONCE, bytearray(TEXT), b"aad"),
+                     lambda: key.open_in_place(NONCE, bytearray(SEALED[:-16]), SEALED[-16:], b"aad"),
                      lambda: Opener(Suite.AES_256_GCM, KEY, NONCE, SEALED[-16:], b"aad")):
             self.assertRaises(TypeError, call)
 
@@ -57,6 +64,8 @@ class Arguments(unittest.TestCase):
                          lambda: Key(Suite.AES_256_GCM, other), lambda: aeadkit.wrap(KEY, other),
                          lambda: aeadkit.seal(Suite.AES_256_GCM, KEY, NONCE, other), lambda: key.sealer(other),
                          lambda: aeadkit.wrap_padded(KEY, other), lambda: aeadkit.unwrap_padded(other, KEY),
+                         lambda: key.seal_in_place(NONCE, other), lambda: key.open_in_place(NONCE, bytearray(16), other),
+                         lambda: key.sealer(NONCE).update_in_place(other), lambda: key.opener(NONCE, other),
                          lambda: key.sealer(NONCE).update(other), lambda: Opener(Suite.AES_256_GCM, KEY, NONCE, other)):
                 self.assertRaises(TypeError, call)
         for other in ("aad", 16, [1]):
@@ -68,6 +77,7 @@ class Arguments(unittest.TestCase):
                 with self.assertRaisesRegex(aeadkit.UnknownSuite, "is not the number of a suite"):
                     call(suite, KEY, NONCE, SEALED)
         for call in (lambda: Key(KEY, Suite.AES_256_GCM), lambda: Sealer(KEY, Suite.AES_256_GCM, NONCE),
+                     lambda: aeadkit.seal_in_place(KEY, Suite.AES_256_GCM, NONCE, bytearray(TEXT)),
                      lambda: aeadkit.seal("secret", KEY, NONCE, TEXT), lambda: Key(None, KEY)):
             with self.assertRaises(TypeError) as context:
                 call()
@@ -84,14 +94,14 @@ class Results(unittest.TestCase):
         sealer, opener = key.sealer(NONCE, aad=b"aad"), Opener(Suite.AES_256_GCM, KEY, NONCE, SEALED[-16:], aad=b"aad")
         siv = SivSealer(Suite.AES_256_GCM_SIV, KEY, NONCE)
         opener.check(SEALED[:-16])
-        opener.checked()
+        opener.begin_second()
         siv.absorb(TEXT)
         wrapped, padded = aeadkit.wrap(KEY, KEY), aeadkit.wrap_padded(KEY, TEXT)
         results = [SEALED, aeadkit.open(Suite.AES_256_GCM, KEY, NONCE, SEALED, aad=b"aad"), key.seal(NONCE, TEXT),
                    key.open(NONCE, SEALED, aad=b"aad"), sealer.update(TEXT), sealer.finish(), opener.update(SEALED[:-16]),
-                   siv.tag(), siv.update(TEXT), wrapped, padded, aeadkit.unwrap(KEY, wrapped),
+                   siv.begin_second(), siv.update(TEXT), wrapped, padded, aeadkit.unwrap(KEY, wrapped),
                    aeadkit.unwrap_padded(KEY, padded), key.seal(NONCE, b""), key.sealer(NONCE).update(b""),
-                   key.open(NONCE, key.seal(NONCE, b""))]
+                   key.open(NONCE, key.seal(NONCE, b"")), key.seal_in_place(NONCE, bytearray(TEXT))]
         self.assertEqual({type(result) for result in results}, {bytes})
         self.assertEqual(len({results[0]: 1, results[1]: 2}), 2)
 
@@ -105,9 +115,18 @@ class Results(unittest.TestCase):
         constant = b"constant bytes"
         made = key.seal(NONCE, constant)
         self.assertEqual((constant, len(made)), (bytes(bytearray(b"constant bytes")), 30))
-        # one byte has one object in Python, which nothing may write to
-        key.sealer(NONCE).update(b"x")
-        self.assertEqual(bytes([120]), b"\x78")
+        # an empty text and each single byte have one object in Python, which nothing may write to
+        for number in range(256):
+            made = key.sealer(NONCE).update(bytes([number])), key.open(NONCE, key.seal(NONCE, bytes([number])))
+            self.assertEqual((made[1], bytes([number])[0], made[1][0]), (bytes([number]), number, number))
+        key.sealer(NONCE).update(b"")
+        self.assertEqual((b"", len(b"")), (bytes(bytearray()), 0))
+
+    def test_a_result_is_not_shared(self):
+        key = Key(Suite.AES_256_GCM, KEY)
+        made = [key.open(NONCE, key.seal(NONCE, bytes([number % 256]))) for number in range(512)]
+        self.assertEqual(made, [bytes([number % 256]) for number in range(512)])
+        self.assertEqual({hash(one) for one in made}, {hash(bytes([number])) for number in range(256)})
 
     def test_texts_of_each_length(self):
         for suite in Suite:
@@ -126,13 +145,13 @@ class Results(unittest.TestCase):
         opener = Opener(Suite.AES_256_GCM, KEY, NONCE, SEALED[-16:], aad=b"aad")
         for piece in (b"", SEALED[:-16], b""):
             opener.check(piece)
-        opener.checked()
+        opener.begin_second()
         self.assertEqual(opener.update(memoryview(b"")) + opener.update(SEALED[:-16]) + opener.update(b""), TEXT)
         opener.finish()
         siv = SivSealer(Suite.AES_256_GCM_SIV, KEY, NONCE, aad=b"aad")
         for piece in (b"", TEXT, b""):
             siv.absorb(piece)
-        tag = siv.tag()
+        tag = siv.begin_second()
         self.assertEqual(siv.update(b"") + siv.update(TEXT) + siv.update(b"") + tag, SIV_SEALED)
         siv.finish()
         nothing = Sealer(Suite.AES_256_GCM, KEY, NONCE)
@@ -149,6 +168,18 @@ class Exceptions(unittest.TestCase):
                  and issubclass(getattr(aeadkit, name), aeadkit.Refused)}
         self.assertEqual(named, {fault.__name__ for fault in LENGTHS + OTHERS} | {"UnknownSuite", "Refused"})
         self.assertLessEqual(named, set(aeadkit.__all__))
+
+    def test_statuses(self):
+        """Each status of the library has a class, but that of an output's length, which the package always gives right."""
+        texts = {}
+        for status in range(1, 100):
+            with self.assertRaises(aeadkit.Refused) as context:
+                aeadkit._check(status)
+            if type(context.exception) is aeadkit.Refused:
+                texts[status] = str(context.exception)
+        self.assertEqual(texts.pop(16), "wrong output length")
+        self.assertEqual({text for status, text in texts.items()
+                          if text != f"the library returned the unknown status {status}"}, set())
 
     def test_messages(self):
         for fault in LENGTHS + OTHERS:
@@ -173,6 +204,19 @@ class Exceptions(unittest.TestCase):
                  (aeadkit.TagLength, lambda: Opener(suite, KEY, NONCE, bytes(15))),
                  (aeadkit.TagLength, lambda: Opener(suite, KEY, NONCE, bytes(17))),
                  (aeadkit.TagLength, lambda: Opener(suite, KEY, NONCE, b"")),
+                 (aeadkit.TagLength, lambda: key.opener(NONCE, bytes(15))),
+                 (aeadkit.TagLength, lambda: key.open_in_place(NONCE, bytearray(5), SEALED)),
+                 (aeadkit.TagLength, lambda: aeadkit.open_in_place(suite, KEY, NONCE, bytearray(5), b"")),
+                 (aeadkit.KeyLength, lambda: aeadkit.seal_in_place(suite, KEY[1:], NONCE, bytearray(5))),
+                 (aeadkit.KeyLength, lambda: aeadkit.open_in_place(suite, b"", NONCE, bytearray(5), bytes(16))),
+                 (aeadkit.NonceLength, lambda: key.seal_in_place(NONCE[1:], bytearray(5))),
+                 (aeadkit.NonceLength, lambda: key.open_in_place(NONCE * 2, bytearray(5), bytes(16))),
+                 (aeadkit.NonceLength, lambda: key.opener(b"", bytes(16))),
+                 (aeadkit.NonceLength, lambda: Key(Suite.AES_256_GCM_SIV, KEY).siv_sealer(bytes(11))),
+                 (aeadkit.UnknownSuite, lambda: key.siv_sealer(NONCE)),
+                 (aeadkit.UnknownSuite, lambda: aeadkit.open_in_place(7, KEY, NONCE, bytearray(5), bytes(16))),
+                 (aeadkit.UnknownSuite, lambda: Suite.named("aes-512-gcm")),
+                 (aeadkit.UnknownSuite, lambda: Suite.named("")),
                  (aeadkit.WrapLength, lambda: aeadkit.wrap(KEY, bytes(8))),
                  (aeadkit.WrapLength, lambda: aeadkit.wrap(KEY, bytes(17))),
                  (aeadkit.WrapLength, lambda: aeadkit.wrap(KEY, b"")),
@@ -194,6 +238,9 @@ class Exceptions(unittest.TestCase):
         key, padded = Key(Suite.AES_256_GCM, KEY), aeadkit.wrap_padded(KEY, TEXT)
         for fault, call in [(aeadkit.TagMismatch, lambda: key.open(NONCE, SEALED)),
                             (aeadkit.TagMismatch, lambda: key.open(bytes(12), SEALED, aad=b"aad")),
+                            (aeadkit.TagMismatch, lambda: key.open_in_place(NONCE, bytearray(SEALED[:-16]), SEALED[-16:])),
+                            (aeadkit.TagMismatch, lambda: key.open_in_place(NONCE, bytearray(SEALED), SEALED[-16:],
+                                                                            aad=b"aad")),
                             (aeadkit.WrapIntegrity, lambda: aeadkit.unwrap(bytes(32), aeadkit.wrap(KEY, KEY))),
                             (aeadkit.WrapIntegrity, lambda: aeadkit.unwrap(KEY, padded)),
                             (aeadkit.WrapIntegrity, lambda: aeadkit.unwrap_padded(KEY[:16], padded))]:
@@ -222,29 +269,29 @@ class Order(unittest.TestCase):
         self.assertRaises(aeadkit.NotBegun, opener.update, b"")
         self.assertRaises(TypeError, opener.check, "text")
         opener.check(body[7:])
-        opener.checked()
-        for call in (lambda: opener.check(b""), opener.checked):
+        opener.begin_second()
+        for call in (lambda: opener.check(b""), opener.begin_second):
             self.assertRaises(aeadkit.NotBegun, call)
         self.assertRaises(aeadkit.SourceChanged, opener.update, body + b"x")
         made = opener.update(body[:3])
         self.assertRaises(aeadkit.SourceChanged, opener.update, body)
         self.assertEqual(made + opener.update(body[3:]), TEXT)
         opener.finish()
-        for call in (lambda: opener.check(b""), opener.checked, lambda: opener.update(b""), opener.finish):
+        for call in (lambda: opener.check(b""), opener.begin_second, lambda: opener.update(b""), opener.finish):
             self.assertRaises(aeadkit.NotBegun, call)
 
     def test_opener_of_no_sealing(self):
         opener = Opener(Suite.AES_256_GCM, KEY, NONCE, SEALED[-16:])
         opener.check(SEALED[:-16])
-        self.assertRaises(aeadkit.TagMismatch, opener.checked)
-        for call in (lambda: opener.check(b""), opener.checked, lambda: opener.update(b""), opener.finish):
+        self.assertRaises(aeadkit.TagMismatch, opener.begin_second)
+        for call in (lambda: opener.check(b""), opener.begin_second, lambda: opener.update(b""), opener.finish):
             self.assertRaises(aeadkit.NotBegun, call)
 
     def test_opener_of_a_changed_source(self):
         for change in (lambda body: bytes(len(body)), lambda body: body[:-1], lambda body: b""):
             opener = Opener(Suite.AES_256_GCM, KEY, NONCE, SEALED[-16:], aad=b"aad")
             opener.check(SEALED[:-16])
-            opener.checked()
+            opener.begin_second()
             opener.update(change(SEALED[:-16]))
             self.assertRaises(aeadkit.SourceChanged, opener.finish)
             self.assertRaises(aeadkit.NotBegun, opener.finish)
@@ -255,18 +302,18 @@ class Order(unittest.TestCase):
             self.assertRaises(aeadkit.NotBegun, call)
         siv.absorb(TEXT)
         self.assertRaises(TypeError, siv.absorb, None)
-        tag = siv.tag()
-        for call in (lambda: siv.absorb(b""), siv.tag):
+        tag = siv.begin_second()
+        for call in (lambda: siv.absorb(b""), siv.begin_second):
             self.assertRaises(aeadkit.NotBegun, call)
         self.assertRaises(aeadkit.SourceChanged, siv.update, TEXT + b"x")
         self.assertEqual(siv.update(TEXT) + tag, SIV_SEALED)
         siv.finish()
-        for call in (lambda: siv.absorb(b""), siv.tag, lambda: siv.update(b""), siv.finish):
+        for call in (lambda: siv.absorb(b""), siv.begin_second, lambda: siv.update(b""), siv.finish):
             self.assertRaises(aeadkit.NotBegun, call)
         for change in (bytes(len(TEXT)), TEXT[1:]):
             siv = SivSealer(Suite.AES_256_GCM_SIV, KEY, NONCE)
             siv.absorb(TEXT)
-            siv.tag()
+            siv.begin_second()
             siv.update(change)
             self.assertRaises(aeadkit.SourceChanged, siv.finish)
 
@@ -278,7 +325,9 @@ class Order(unittest.TestCase):
         for kind in (Key, Sealer, Opener, SivSealer, Lazy):
             state = kind.__new__(kind)
             calls = [("seal", NONCE, TEXT), ("open", NONCE, SEALED), ("sealer", NONCE), ("update", TEXT), ("check", TEXT),
-                     ("absorb", TEXT), ("checked",), ("tag",), ("finish",)]
+                     ("absorb", TEXT), ("begin_second",), ("finish",), ("seal_in_place", NONCE, bytearray(5)),
+                     ("open_in_place", NONCE, bytearray(5), bytes(16)), ("opener", NONCE, bytes(16)), ("siv_sealer", NONCE),
+                     ("update_in_place", bytearray(5)), ("save",)]
             for name, *arguments in calls:
                 if hasattr(state, name):
                     self.assertRaisesRegex(aeadkit.NotBegun, "__init__", getattr(state, name), *arguments)
@@ -302,6 +351,92 @@ class Order(unittest.TestCase):
         self.assertEqual(sealer.update(TEXT) + sealer.finish(), SEALED)
 
 
+    def test_the_names_of_version_2(self):
+        opener, siv = Opener(Suite.AES_256_GCM, KEY, NONCE, SEALED[-16:], aad=b"aad"), SivSealer(5, KEY[:16], NONCE)
+        opener.check(SEALED[:-16])
+        opener.checked()
+        self.assertEqual(opener.update(SEALED[:-16]), TEXT)
+        siv.absorb(TEXT)
+        self.assertEqual(siv.tag(), aeadkit.seal(5, KEY[:16], NONCE, TEXT)[-16:])
+
+
+class Closing(unittest.TestCase):
+    """The structs are wiped, and closed objects are refused."""
+
+    def every(self):
+        return [Key(Suite.AES_256_GCM, KEY), Sealer(Suite.AES_256_GCM, KEY, NONCE), Key(1, KEY).sealer(NONCE),
+                Opener(Suite.AES_256_GCM, KEY, NONCE, bytes(16)), Key(6, KEY).opener(NONCE, bytes(16)),
+                SivSealer(Suite.AES_256_GCM_SIV, KEY, NONCE), Key(6, KEY).siv_sealer(NONCE)]
+
+    def test_closed_and_deleted(self):
+        def close(held):
+            held[0].close()
+
+        def leave(held):
+            with held[0] as entered:
+                self.assertIs(entered, held[0])
+
+        def leave_by_an_exception(held):
+            with self.assertRaises(KeyError):
+                with held[0]:
+                    raise KeyError()
+
+        for end in (close, leave, leave_by_an_exception, list.clear):
+            for number in range(len(self.every())):
+                held = [self.every()[number]]
+                memory = held[0]._struct._memory
+                self.assertNotEqual(bytes(memory), bytes(len(bytes(memory))))
+                end(held)
+                self.assertEqual(bytes(memory), bytes(len(bytes(memory))), number)
+
+    def test_calls_after_close(self):
+        for state in self.every():
+            state.close()
+            state.close()
+            calls = [("seal", NONCE, TEXT), ("open", NONCE, SEALED), ("sealer", NONCE), ("update", TEXT), ("check", TEXT),
+                     ("absorb", TEXT), ("begin_second",), ("finish",), ("seal_in_place", NONCE, bytearray(5)), ("save",)]
+            for name, *arguments in calls:
+                if hasattr(state, name):
+                    self.assertRaisesRegex(aeadkit.NotBegun, "closed", getattr(state, name), *arguments)
+            self.assertRaises(aeadkit.NotBegun, lambda: state.suite)
+            self.assertEqual(repr(state), f"<aeadkit.{type(state).__name__} of no suite>")
+
+    def test_what_a_key_began_goes_on(self):
+        with Key(Suite.AES_256_GCM, KEY) as key:
+            sealer, opener = key.sealer(NONCE, aad=b"aad"), key.opener(NONCE, SEALED[-16:], aad=b"aad")
+        self.assertEqual(sealer.update(TEXT) + sealer.finish(), SEALED)
+        opener.check(SEALED[:-16])
+        opener.begin_second()
+        self.assertEqual(opener.update(SEALED[:-16]), TEXT)
+
+    def test_an_exception_keeps_no_key(self):
+        """A struct is wiped with its object, though a traceback has the frames of a call that was refused."""
+        calls = [lambda key: key.open(NONCE, SEALED), lambda key: key.seal(b"", TEXT), lambda key: key.sealer(b""),
+                 lambda key: key.open_in_place(NONCE, bytearray(16), bytes(16)), lambda key: key.opener(b"", bytes(16)),
+                 lambda key: key.seal_in_place(b"", bytearray(16)), lambda key: key.siv_sealer(NONCE)]
+        for call in calls:
+            key = Key(Suite.AES_256_GCM, KEY)
+            memory = key._struct._memory
+            try:
+                with key:
+                    call(key)
+            except aeadkit.Refused as fault:
+                self.assertIsNotNone(fault.__traceback__)
+                self.assertEqual(bytes(memory), bytes(808))
+            else:
+                self.fail("not refused")
+
+    def test_the_end_of_a_program(self):
+        """Objects that are alive when the interpreter ends do no harm."""
+        program = ("import aeadkit\n"
+                   "key = aeadkit.Key(4, bytes(32))\n"
+                   "states = [key.sealer(bytes(12)), key.opener(bytes(12), bytes(16)), key]\n"
+                   "states.append(states)\n"
+                   "aeadkit.kept = states")
+        made = subprocess.run([sys.executable, "-B", "-W", "error", "-c", program], stderr=subprocess.PIPE, check=True)
+        self.assertEqual(made.stderr, b"")
+
+
 class Names(unittest.TestCase):
     def test_star_import_keeps_open(self):
         names = {}
@@ -322,17 +457,32 @@ class Names(unittest.TestCase):
         for state in (Key(Suite.AES_256_GCM, b"k" * 32), Sealer(Suite.AES_256_GCM, b"k" * 32, NONCE)):
             self.assertNotIn("kkk", f"{state} {state!r} {vars(state)}")
 
+    def test_facts_of_the_suites(self):
+        facts = {suite: (suite.key_bytes, suite.text_limit) for suite in Suite}
+        self.assertEqual(facts, {1: (32, 2**38 - 64), 2: (16, 2**36 - 32), 3: (24, 2**36 - 32), 4: (32, 2**36 - 32),
+                                 5: (16, 2**36), 6: (32, 2**36)})
+        self.assertEqual([suite.aad_limit for suite in (2, 3, 4, 5, 6) for suite in [Suite(suite)]],
+                         [2**61 - 1] * 3 + [2**36] * 2)
+        self.assertGreaterEqual(Suite.CHACHA20_POLY1305.aad_limit, 2**63)
+        for suite in Suite:
+            self.assertIs(Suite.named(suite.name.lower().replace("_", "-")), suite)
+        for name in ("AES-128-GCM", "aes_128_gcm", "aes-128-gcm\0", "\u212a"):
+            self.assertRaises(aeadkit.UnknownSuite, Suite.named, name)
+
     def test_version(self):
+        self.assertRegex(aeadkit.library_version, r"^[0-9]+\.[0-9]+\.[0-9]+$")
         self.assertRegex(aeadkit.__version__, r"^[0-9]+\.[0-9]+\.[0-9]+$")
 
     def test_help(self):
-        nonced = [aeadkit.seal, aeadkit.open, Key.seal, Key.open, Key.sealer, Sealer, Opener, SivSealer]
+        nonced = [aeadkit.seal, aeadkit.open, aeadkit.seal_in_place, aeadkit.open_in_place, Key.seal, Key.open,
+                  Key.seal_in_place, Key.open_in_place, Key.sealer, Key.opener, Key.siv_sealer, Sealer, Opener, SivSealer]
         for call in nonced:
             self.assertRegex(inspect.getdoc(call), "(?s)nonce.*under one key", call)
         faults = [name for name in aeadkit.__all__ if isinstance(getattr(aeadkit, name), type)]
-        others = [Sealer.update, Sealer.finish, Opener.check, Opener.checked, Opener.update, Opener.finish, SivSealer.absorb,
-                  SivSealer.tag, SivSealer.update, SivSealer.finish, aeadkit.wrap, aeadkit.unwrap, aeadkit.wrap_padded,
-                  aeadkit.unwrap_padded, Key]
+        others = [Sealer.update, Sealer.finish, Opener.check, Opener.begin_second, Opener.update, Opener.finish,
+                  SivSealer.absorb, SivSealer.begin_second, SivSealer.update, SivSealer.finish, aeadkit.wrap, aeadkit.unwrap,
+                  aeadkit.wrap_padded, aeadkit.unwrap_padded, Key, Sealer.update_in_place, Opener.update_in_place,
+                  SivSealer.update_in_place, Suite.named]
         for call in nonced + others:
             self.assertRegex(inspect.getdoc(call), f"(?s)Raises.*({'|'.join(faults)})", call)
 

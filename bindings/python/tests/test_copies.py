@@ -36,7 +36,8 @@ class LoudSealer(Sealer):
 def states():
     return [Sealer(Suite.AES_256_GCM, KEY, NONCE), Key(Suite.AES_256_GCM, KEY).sealer(NONCE),
             Opener(Suite.AES_256_GCM, KEY, NONCE, TAG), Opener(Suite.AES_256_GCM_SIV, KEY, NONCE, TAG),
-            SivSealer(Suite.AES_256_GCM_SIV, KEY, NONCE), LoudSealer(Suite.CHACHA20_POLY1305, KEY, NONCE)]
+            SivSealer(Suite.AES_256_GCM_SIV, KEY, NONCE), LoudSealer(Suite.CHACHA20_POLY1305, KEY, NONCE),
+            Key(Suite.AES_256_GCM, KEY).opener(NONCE, TAG), Key(Suite.AES_256_GCM_SIV, KEY).siv_sealer(NONCE)]
 
 
 class Keys(unittest.TestCase):
@@ -135,12 +136,14 @@ class Forks(unittest.TestCase):
 
     def test_a_state_stays_with_its_process(self):
         for state in states():
-            calls = [name for name in ("update", "check", "absorb") if hasattr(state, name)]
+            calls = [(name, *arguments) for name, *arguments in
+                     (("update", b"piece"), ("check", b"piece"), ("absorb", b"piece"), ("update_in_place", bytearray(5)),
+                      ("save",), ("finish",)) if hasattr(state, name)]
 
             def refused():
-                for name in calls:
+                for name, *arguments in calls:
                     try:
-                        getattr(state, name)(b"piece")
+                        getattr(state, name)(*arguments)
                     except aeadkit.NotBegun as fault:
                         if "forked" not in str(fault):
                             return False
@@ -164,6 +167,18 @@ class Forks(unittest.TestCase):
             return key.seal(NONCE, b"text") == expected == sealer.update(b"text") + sealer.finish()
 
         self.assertTrue(self.in_child(works))
+
+    def test_a_child_wipes_its_own_memory(self):
+        key, sealer = Key(Suite.AES_256_GCM, KEY), Sealer(Suite.AES_256_GCM, KEY, NONCE)
+        expected = key.seal(NONCE, b"text")
+
+        def closes():
+            key.close()
+            sealer.close()
+            return True
+
+        self.assertTrue(self.in_child(closes))
+        self.assertEqual((key.seal(NONCE, b"text"), sealer.update(b"text") + sealer.finish()), (expected, expected))
 
 
 if __name__ == "__main__":

@@ -10,15 +10,16 @@ import unittest
 import aeadkit
 from aeadkit import _library
 
-STATUSES = [name for name in dir(_library) if name.startswith("aeadkit_")]
-SIZES = {"sealer": 144, "opener": 200, "siv": 200, "key": 808}
+FUNCTIONS = [name for name in dir(_library) if name.startswith("aeadkit_")]
+SIZES = {"sealer": 144, "opener": 192, "siv": 192, "key": 808}
+WIPES = [f"aeadkit_{name}_wipe" for name in SIZES]
 
 
-def imported(file):
-    """The standard error of an import with this library, or None if there was no exception."""
+def run(file, program="import aeadkit"):
+    """The result of a program with this library."""
     environment = {**os.environ, "AEADKIT": file, "PYTHONPATH": os.path.dirname(os.path.dirname(aeadkit.__file__))}
-    made = subprocess.run([sys.executable, "-B", "-c", "import aeadkit"], env=environment, stderr=subprocess.PIPE)
-    return made.stderr.decode() if made.returncode else None
+    return subprocess.run([sys.executable, "-B", "-c", program], env=environment, stdout=subprocess.PIPE,
+                          stderr=subprocess.PIPE, universal_newlines=True)
 
 
 class Library(unittest.TestCase):
@@ -28,21 +29,29 @@ class Library(unittest.TestCase):
         self.file = os.path.join(folder.name, "file.so")
 
     def refused(self, *words):
-        message = imported(self.file)
-        self.assertIsNotNone(message)
-        self.assertIn("ImportError: ", message)
+        made = run(self.file)
+        self.assertEqual(made.returncode, 1)
+        last = made.stderr.splitlines()[-1]
+        self.assertTrue(last.startswith("ImportError: "), last)
         for word in (self.file, *words):
-            self.assertIn(word, message)
+            self.assertIn(word, last)
 
-    def build(self, soname="libaeadkit.so.2", sizes=SIZES, without=""):
+    def accepted(self):
+        made = run(self.file)
+        self.assertEqual((made.returncode, made.stderr), (0, ""))
+
+    def build(self, version=30000, sizes=SIZES, without="", status=1):
         source = "#include <stddef.h>\n"
-        source += "".join(f"unsigned {name}(void) {{ return 1; }}\n" for name in STATUSES if name != without)
+        source += "".join(f"size_t {name}(void) {{ return {status}; }}\n" for name in FUNCTIONS if name != without)
         source += "".join(f"size_t aeadkit_{name}_size(void) {{ return {size}; }}\n" for name, size in sizes.items())
-        subprocess.run(["cc", "-shared", "-fPIC", "-x", "c", "-", f"-Wl,-soname,{soname}", "-o", self.file],
-                       input=source.encode(), check=True)
+        source += "".join(f"void {name}(void *address) {{ }}\n" for name in WIPES if name != without)
+        if version:
+            source += f"unsigned aeadkit_version(void) {{ return {version}; }}\n"
+        subprocess.run(["cc", "-shared", "-fPIC", "-x", "c", "-", "-o", self.file], input=source.encode(), check=True)
 
     def test_the_library_that_is_loaded(self):
-        self.assertIsNone(imported(_library._file))
+        self.assertEqual(run(_library._file).returncode, 0)
+        self.assertRegex(aeadkit.library_version, r"^3\.[0-9]+\.[0-9]+$")
 
     def test_no_file(self):
         self.refused("cannot be loaded")
@@ -50,25 +59,49 @@ class Library(unittest.TestCase):
     def test_another_file(self):
         with open(self.file, "wb") as file:
             file.write(b"no library")
-        self.refused("is not libaeadkit.so.2")
-        with open(self.file, "wb") as file:
-            file.write(b"libaeadkit.so.2\0")
         self.refused("cannot be loaded")
 
     @unittest.skipUnless(shutil.which("cc"), "no cc")
     def test_libraries_that_do_not_fit(self):
         self.build()
-        self.assertIsNone(imported(self.file))
-        for major in (1, 3, 20):
-            self.build(soname=f"libaeadkit.so.{major}")
-            self.refused("is not libaeadkit.so.2")
+        self.accepted()
+        self.build(version=30102)
+        self.accepted()
+        for version, text in ((29999, "2.99.99"), (40000, "4.0.0"), (200103, "20.1.3"), (1, "0.0.1")):
+            self.build(version=version)
+            self.refused("needs libaeadkit.so.3", f"its version is {text}")
+        # as before 3.0.0
+        self.build(version=None)
+        self.refused("needs libaeadkit.so.3", "no function aeadkit_version")
         for name, size in SIZES.items():
             self.build(sizes={**SIZES, name: size + 8})
             self.refused(f"aeadkit_{name} ", str(size + 8), str(size))
-        for name in STATUSES:
-            if name in ("aeadkit_seal", "aeadkit_sealer_init_with"):
-                self.build(without=name)
-                self.refused(f"no function {name}")
+        for name in ("aeadkit_seal", "aeadkit_siv_init_with", "aeadkit_status_text", "aeadkit_opener_wipe"):
+            self.build(without=name)
+            self.refused(f"no function {name}")
+
+    @unittest.skipUnless(shutil.which("cc"), "no cc")
+    def test_a_status_that_the_package_does_not_know(self):
+        self.build(status=17)
+        program = ("import aeadkit\n"
+                   "try: aeadkit.Key(1, bytes(32))\n"
+                   "except aeadkit.Refused as fault: print(type(fault), repr(str(fault)))")
+        made = run(self.file, program)
+        self.assertEqual(made.stdout, f"<class 'aeadkit.Refused'> {chr(0) * 17!r}\n", made.stderr)
+        self.assertEqual(made.stderr, "")
+
+    @unittest.skipUnless(shutil.which("cc"), "no cc")
+    def test_a_library_without_saved_states(self):
+        self.build(status=0)
+        program = ("import aeadkit\n"
+                   "state = aeadkit.Sealer(1, bytes(32), bytes(12))\n"
+                   "for call in (state.save, lambda: state.resume(1, bytes(32), bytes(12), bytes([1]) + bytes(95))):\n"
+                   "    try: call()\n"
+                   "    except NotImplementedError as fault: print(fault)")
+        made = run(self.file, program)
+        expected = "".join(f"{self.file} cannot save states: it has no function aeadkit_sealer_{name}\n"
+                           for name in ("save", "resume"))
+        self.assertEqual((made.stdout, made.stderr), (expected, ""))
 
 
 if __name__ == "__main__":

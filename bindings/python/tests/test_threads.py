@@ -72,7 +72,7 @@ class Threads(unittest.TestCase):
             for _ in range(ROUNDS):
                 opener = Opener(suite, KEY[: suite.key_bytes], NONCE, tag)
                 at_once(*[lambda: opener.check(piece)] * 2)
-                opener.checked()
+                opener.begin_second()
                 made = at_once(*[lambda: opener.update(piece)] * 2)
                 self.same(sorted(map(bytes, made)), sorted((text[:LONG], text[LONG:])))
                 opener.finish()
@@ -83,7 +83,7 @@ class Threads(unittest.TestCase):
         for _ in range(ROUNDS):
             sealer = SivSealer(suite, KEY[:16], NONCE)
             at_once(*[lambda: sealer.absorb(piece)] * 2)
-            self.assertEqual(sealer.tag(), expected[-16:])
+            self.assertEqual(sealer.begin_second(), expected[-16:])
             made = at_once(*[lambda: sealer.update(piece)] * 2)
             self.same(sorted(map(bytes, made)), sorted((expected[:LONG], expected[LONG:-16])))
             sealer.finish()
@@ -127,6 +127,47 @@ class Threads(unittest.TestCase):
             made = at_once(update, lambda: sealer.__init__(Suite.CHACHA20_POLY1305, KEY, NONCE))[0]
             self.same(made, expected[:-16])
             self.assertEqual(len(sealer.finish()), 16)
+
+    def test_in_place(self):
+        """Pieces that are changed in place have two parts of the key stream too."""
+        suite = Suite.CHACHA20_POLY1305
+        expected = seal(suite, bytes(2 * LONG))
+        for _ in range(ROUNDS):
+            sealer, pieces = Sealer(suite, KEY, NONCE), [bytearray(LONG), bytearray(LONG)]
+            at_once(*[lambda piece=piece: sealer.update_in_place(piece) for piece in pieces])
+            self.same(sorted(map(bytes, pieces)), sorted((expected[:LONG], expected[LONG:-16])))
+            self.assertEqual(sealer.finish(), expected[-16:])
+
+    def test_closed_beside_a_call(self):
+        """A struct is wiped after the last call that is using it, and no call works with zeros for a key."""
+        for suite in Suite:
+            expected = seal(suite, bytes(LONG))
+            for _ in range(ROUNDS):
+                key, buffer = Key(suite, KEY[: suite.key_bytes]), bytearray(LONG)
+                memory = key._struct._memory
+                calls = [lambda: key.seal(NONCE, bytes(LONG)), lambda: key.seal_in_place(NONCE, buffer)]
+                if suite < Suite.AES_128_GCM_SIV:
+                    sealer = key.sealer(NONCE)
+                    calls += [lambda: sealer.update(bytes(LONG))]
+
+                def or_closed(call):
+                    try:
+                        return call()
+                    except aeadkit.NotBegun:
+                        return None
+
+                def close():
+                    time.sleep(0.001)
+                    key.close()
+                    if suite < Suite.AES_128_GCM_SIV:
+                        sealer.close()
+
+                made = at_once(*[lambda call=call: or_closed(call) for call in calls], close)
+                self.assertTrue(made[0] in (None, expected), suite)
+                self.assertTrue(bytes(buffer) == (bytes(LONG) if made[1] is None else expected[:-16]), suite)
+                if made[2:-1]:
+                    self.assertTrue(made[2] in (None, expected[:-16]), suite)
+                self.assertEqual(bytes(memory), bytes(808))
 
     @unittest.skipUnless(hasattr(signal, "setitimer"), "no timers")
     def test_a_signal_handler_that_calls_too(self):

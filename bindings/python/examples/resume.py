@@ -1,0 +1,59 @@
+"""Seals a file in pieces of 1 MiB, and goes on after a restart: resume.py KEYFILE IN OUT
+
+KEYFILE holds 32 bytes. OUT becomes the nonce, the ciphertext and the tag. If the program is stopped at any time, run it again:
+each turn of its loop begins with the step in OUT.step, so a restart is a turn like any other. A step has a piece of OUT, and
+the state that comes after the piece. The next step replaces it on the disk before its own piece is written to OUT: of what is
+sealed from one state no two pieces are ever seen, even if IN is changed between two runs.
+
+OUT.step is as secret as KEYFILE, and must lie where nobody else can write. It is removed when OUT is whole.
+"""
+
+import json
+import os
+import sys
+
+from aeadkit import Sealer, Suite
+
+SUITE, PIECE, NONCE = Suite.AES_256_GCM, 1 << 20, 12
+
+
+def store(path: str, step: object) -> None:
+    """Replaces the step on the disk, all at once."""
+    with open(path + ".new", "w") as file:
+        json.dump(step, file)
+        file.flush()
+        os.fsync(file.fileno())
+    os.replace(path + ".new", path)
+    folder = os.open(os.path.dirname(os.path.abspath(path)), os.O_RDONLY)
+    os.fsync(folder)
+    os.close(folder)
+
+
+def seal_file(key: bytes, source_name: str, target_name: str) -> None:
+    path = target_name + ".step"
+    if not os.path.exists(path):
+        open(target_name, "wb").close()
+        nonce = os.urandom(NONCE)
+        store(path, [nonce.hex(), 0, nonce.hex(), Sealer(SUITE, key, nonce).save().hex()])
+    with open(source_name, "rb") as source, open(target_name, "r+b") as target:
+        while True:
+            with open(path) as file:
+                hex_nonce, at, piece, saved = json.load(file)
+            target.seek(at)
+            target.write(bytes.fromhex(piece))
+            target.flush()
+            os.fsync(target.fileno())
+            if not saved:
+                return os.remove(path)
+            source.seek(target.tell() - NONCE)
+            text, sealer = source.read(PIECE), Sealer.resume(SUITE, key, bytes.fromhex(hex_nonce), bytes.fromhex(saved))
+            piece = sealer.update(text) if text else sealer.finish()
+            store(path, [hex_nonce, target.tell(), piece.hex(), sealer.save().hex() if text else ""])
+
+
+if __name__ == "__main__":
+    if len(sys.argv) != 4:
+        sys.exit("usage: resume.py KEYFILE IN OUT")
+    os.umask(0o077)
+    with open(sys.argv[1], "rb") as key_file:
+        seal_file(key_file.read(), *sys.argv[2:])
