@@ -22,8 +22,10 @@ if ! cargo --version > "$room/log" 2>&1; then
         rustc $strict -O --extern aeadkit="$room/libaeadkit.rlib" rust/examples/$name.rs -o "$room/$name"
         "$room/$name"
     done
-    rustc $strict -O --test --extern aeadkit="$room/libaeadkit.rlib" rust/tests/calls.rs -o "$room/calls"
-    "$room/calls" --quiet > "$room/log" || { cat "$room/log" >&2; exit 1; }
+    for test in rust/tests/*.rs; do
+        rustc $strict -O --test --extern aeadkit="$room/libaeadkit.rlib" "$test" -o "$room/test"
+        "$room/test" --quiet > "$room/log" || { cat "$room/log" >&2; exit 1; }
+    done
     echo "ok: Rust, its examples and tests (left out: cargo, which is not there)"
     exit 0
 fi
@@ -63,7 +65,8 @@ in_crate user test
 cp -R "$prefix/share/aeadkit/rust" "$room/aeadkit"
 (export AEADKIT_PREFIX="$prefix" && in_crate aeadkit test --doc && in_crate aeadkit doc)
 
-# What does not compile: a tag that is dropped, exchanged bytes and associated data, a nonce of another length, a copy of a state.
+# What does not compile: a tag or a saved sealing that is dropped, exchanged bytes and associated data in place, a nonce of another
+# length, a copy of a state, a sealing that goes on after it was saved, and the calls of 2.1 that took room for a tag.
 user wrong
 # Whether a line compiles: compiles LINE
 compiles() {
@@ -79,14 +82,23 @@ refused() {
     ! compiles "$2" || { echo "this compiles: $2" >&2; exit 1; }
     grep -q "$1" "$room/log" || { cat "$room/log" >&2; exit 1; }
 }
-compiles 'key.seal(&[0; 12], &mut text, b"aad")?;' || { cat "$room/log" >&2; exit 1; }
+compiles 'let tag = key.seal_in_place(&[0; 12], &mut text, b"aad")?; key.open_in_place(&[0; 12], &mut text, &tag, b"aad")?;' \
+    || { cat "$room/log" >&2; exit 1; }
+compiles 'key.seal(&[0; 12], b"a text", &mut text[..22], b"aad")?;' || { cat "$room/log" >&2; exit 1; }
 refused 'unused `Tag` that must be used' 'key.seal_in_place(&[0; 12], &mut text, b"aad")?;'
 refused 'unused `Tag` that must be used' 'key.sealer(&[0; 12], b"aad")?.finish();'
 refused 'unused `Sealer` that must be used' 'key.sealer(&[0; 12], b"aad")?;'
-refused E0308 'key.seal(&[0; 12], b"aad", &mut text)?;'
-refused E0308 'key.seal(&[0; 13], &mut text, b"aad")?;'
-refused E0308 'key.seal(&[0; 12][..], &mut text, b"aad")?;'
+refused 'that must be used' 'key.sealer(&[0; 12], b"aad")?.save();'
+refused E0308 'let _ = key.seal_in_place(&[0; 12], b"aad", &mut text)?;'
+refused E0308 'let _ = key.seal_in_place(&[0; 13], &mut text, b"aad")?;'
+refused E0308 'let _ = key.seal_in_place(&[0; 12][..], &mut text, b"aad")?;'
 refused E0599 'let sealer = key.sealer(&[0; 12], b"aad")?; let _ = sealer.clone().finish();'
+refused E0382 'let sealer = key.sealer(&[0; 12], b"aad")?; let _ = sealer.save(); let _ = sealer.finish();'
+refused E0061 'key.seal(&[0; 12], &mut text, b"aad")?;'
+refused E0061 'key.open(&[0; 12], &mut text, b"aad")?;'
+refused E0061 'aeadkit::wrap(&[0; 16], &mut text)?;'
+refused E0308 'aeadkit::wrap_padded(&[0; 16], &mut text, 7)?;'
+refused E0599 'let mut text = text.to_vec(); key.seal_vec(&[0; 12], &mut text, b"aad")?;'
 
 # A program without std, and without an allocator.
 user bare ', default-features = false'

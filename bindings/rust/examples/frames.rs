@@ -15,6 +15,7 @@
 use aeadkit::{Key, NONCE_BYTES, Suite, TAG_BYTES};
 use std::io::{self, Error, ErrorKind::InvalidData, ErrorKind::UnexpectedEof, Read, Write};
 
+const HEAD: usize = 4;
 const LONGEST: usize = 1 << 16;
 const LAST: u32 = 1 << 31;
 
@@ -46,9 +47,9 @@ impl End {
         }
         let (number, nonce) = self.take()?;
         let head = (text.len() as u32 | if last { LAST } else { 0 }).to_be_bytes();
-        let mut frame = [&head, text].concat();
-        let tag = self.key.seal_in_place(&nonce, &mut frame[4..], &head).map_err(Error::other)?;
-        frame.extend(*tag);
+        let mut frame = vec![0; HEAD + text.len() + TAG_BYTES];
+        frame[..HEAD].copy_from_slice(&head);
+        self.key.seal(&nonce, text, &mut frame[HEAD..], &head).map_err(Error::other)?;
         to.write_all(&frame)?;
         self.next = if last { None } else { number.checked_add(1) };
         Ok(())
@@ -57,7 +58,7 @@ impl End {
     /// The text of the next frame. After the last one `next` is none.
     pub fn receive(&mut self, from: &mut impl Read) -> io::Result<Vec<u8>> {
         let (number, nonce) = self.take()?;
-        let mut head = [0; 4];
+        let mut head = [0; HEAD];
         from.read_exact(&mut head)?;
         let (length, last) = ((u32::from_be_bytes(head) & !LAST) as usize, head[0] & 0x80 != 0);
         if length > LONGEST {
@@ -65,9 +66,9 @@ impl End {
         }
         let mut frame = vec![0; length + TAG_BYTES];
         from.read_exact(&mut frame)?;
-        self.key.open_vec(&nonce, &mut frame, &head).map_err(|fault| Error::new(InvalidData, fault))?;
+        let text = self.key.open_to_vec(&nonce, &frame, &head).map_err(|fault| Error::new(InvalidData, fault))?;
         self.next = if last { None } else { number.checked_add(1) };
-        Ok(frame)
+        Ok(text)
     }
 }
 

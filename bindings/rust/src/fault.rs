@@ -31,12 +31,16 @@ pub enum Fault {
     SourceChanged,
     /// The call does not take the suite, or there is no suite of this name or number.
     UnknownSuite,
+    /// The output is not as long as the result. Each call with an output says how long that is.
+    OutputLength,
+    /// The bytes are not a saved state of this type and suite, in the layout of the library that is linked.
+    NotSaved,
 }
 
 impl fmt::Display for Fault {
     fn fmt(&self, f: &mut fmt::Formatter<'_>) -> fmt::Result {
         f.write_str(match self {
-            Fault::KeyLength => "the key's length is not the suite's, or for key wrapping not 16, 24 or 32 bytes",
+            Fault::KeyLength => "the key is not as long as the suite's keys, or for key wrapping not 16, 24 or 32 bytes",
             Fault::NonceLength => "the nonce is not 12 bytes long",
             Fault::TextTooLong => "the text is too long",
             Fault::AadTooLong => "the associated data is too long",
@@ -46,6 +50,8 @@ impl fmt::Display for Fault {
             Fault::WrapIntegrity => "not a valid wrapping under this key",
             Fault::SourceChanged => "the second pass differs from the first",
             Fault::UnknownSuite => "there is no such suite, or the call does not take it",
+            Fault::OutputLength => "the output is not as long as the result",
+            Fault::NotSaved => "not a saved state of this type and suite",
         })
     }
 }
@@ -66,6 +72,7 @@ pub(crate) fn outcome(status: u32) -> Result<(), Fault> {
         8 => Err(Fault::WrapIntegrity),
         13 => Err(Fault::SourceChanged),
         14 => Err(Fault::UnknownSuite),
-        other => unreachable!("status {other} of a call with a known suite"),
+        16 => Err(Fault::OutputLength),
+        other => unreachable!("status {other} of a state that was begun"),
     }
 }

@@ -4,20 +4,16 @@
 
 use crate::{Fault, NONCE_BYTES, Opener, Sealer, SivSealer, Suite, TAG_BYTES, Tag, outcome, raw};
 #[cfg(feature = "alloc")]
-use alloc::vec::Vec;
+use alloc::{vec, vec::Vec};
 use core::fmt;
-
-/// The longest key of a suite in bytes.
-const LONGEST: usize = 32;
 
 /// A suite and a key, whose key schedule is made once. Threads may share it.
 ///
-/// Its memory holds the key, and is not wiped when it is dropped.
+/// Its memory holds the key, and is wiped when it is dropped. A move leaves the bytes where it stood before: a key in a `Box`
+/// or an `Arc` stays in one place.
 #[derive(Clone)]
 pub struct Key {
     suite: Suite,
-    // the key itself, then zeros: what seals or opens in two passes takes no schedule
-    bytes: [u8; LONGEST],
     kept: raw::Key,
 }
 
@@ -30,9 +26,7 @@ impl Key {
     pub fn new(suite: Suite, key: &[u8]) -> Result<Key, Fault> {
         let mut kept = raw::Key::new();
         outcome(raw::key_init(&mut kept, suite as u32, key))?;
-        let mut bytes = [0; LONGEST];
-        bytes[..key.len()].copy_from_slice(key);
-        Ok(Key { suite, bytes, kept })
+        Ok(Key { suite, kept })
     }
 
     /// The suite.
@@ -40,53 +34,9 @@ impl Key {
         self.suite
     }
 
-    /// Seals a text in place, with its tag behind it.
+    /// Seals a text where it stands, and returns its tag apart.
     ///
-    /// `bytes` is the text and behind it 16 bytes of room, whose contents do not matter. On success it is the ciphertext
-    /// and then the tag.
-    ///
-    /// The last 16 bytes are always taken as room. **If `bytes` is the text alone, the last 16 bytes of the text are lost,
-    /// and the call returns `Ok`.** [`Key::seal_in_place`] and [`Key::seal_vec`] need no room.
-    ///
-    /// # Errors
-    ///
-    /// The first of these that fits; no byte is changed then:
-    /// - `AadTooLong`: `aad` is longer than the suite's limit
-    /// - `TooShort`: `bytes` is shorter than the room of 16 bytes
-    /// - `TextTooLong`: the text is longer than the suite's limit
-    ///
-    #[doc = include_str!("never_repeat_a_nonce.md")]
-    pub fn seal(&self, nonce: &[u8; NONCE_BYTES], bytes: &mut [u8], aad: &[u8]) -> Result<(), Fault> {
-        outcome(raw::seal_with(&self.kept, nonce, bytes, aad))
-    }
-
-    /// Opens in place what [`Key::seal`] or [`Key::seal_vec`] made.
-    ///
-    /// `bytes` is the ciphertext and then the tag. On success it is the text, which is returned, and then the tag as
-    /// before.
-    ///
-    /// # Errors
-    ///
-    /// The first of these that fits; no byte is changed then:
-    /// - `AadTooLong`: `aad` is longer than the suite's limit
-    /// - `TooShort`: `bytes` is shorter than a tag
-    /// - `TextTooLong`: the text is longer than the suite's limit
-    /// - `TagMismatch`: authentication failed
-    pub fn open<'a>(
-        &self,
-        nonce: &[u8; NONCE_BYTES],
-        bytes: &'a mut [u8],
-        aad: &[u8],
-    ) -> Result<&'a mut [u8], Fault> {
-        outcome(raw::open_with(&self.kept, nonce, bytes, aad))?;
-        let length = bytes.len() - TAG_BYTES;
-        Ok(&mut bytes[..length])
-    }
-
-    /// Seals a text in place and returns its tag apart.
-    ///
-    /// On success `text` is the ciphertext, of the same length. Under AES-GCM-SIV the call hashes the text twice and makes
-    /// the schedule anew, and takes longer than [`Key::seal`].
+    /// On success `text` is the ciphertext, of the same length.
     ///
     /// # Errors
     ///
@@ -96,18 +46,14 @@ impl Key {
     ///
     #[doc = include_str!("never_repeat_a_nonce.md")]
     pub fn seal_in_place(&self, nonce: &[u8; NONCE_BYTES], text: &mut [u8], aad: &[u8]) -> Result<Tag, Fault> {
-        if self.suite.reads_twice() {
-            SivSealer::new(self.suite, self.bytes(), nonce, aad)?.seal_all(text)
-        } else {
-            self.sealer(nonce, aad)?.seal_all(text)
-        }
+        let mut tag = [0; TAG_BYTES];
+        outcome(raw::seal_in_place_with(&self.kept, nonce, text, &mut tag, aad))?;
+        Ok(Tag(tag))
     }
 
-    /// Opens in place a ciphertext whose tag stands apart.
+    /// Opens a ciphertext where it stands. Its tag is apart.
     ///
-    /// On success `bytes`, the ciphertext, is its text, of the same length. The ciphertext is authenticated before any byte
-    /// is changed, and once more while it is decrypted, and the schedule is made anew: for short messages, and under
-    /// AES-GCM-SIV, the call takes at least twice as long as [`Key::open`].
+    /// On success `ciphertext` is its text, of the same length.
     ///
     /// # Errors
     ///
@@ -118,40 +64,77 @@ impl Key {
     pub fn open_in_place(
         &self,
         nonce: &[u8; NONCE_BYTES],
-        bytes: &mut [u8],
+        ciphertext: &mut [u8],
         tag: &[u8; TAG_BYTES],
         aad: &[u8],
     ) -> Result<(), Fault> {
-        Opener::new(self.suite, self.bytes(), nonce, tag, aad)?.open_all(bytes)
+        outcome(raw::open_in_place_with(&self.kept, nonce, ciphertext, tag, aad))
     }
 
-    /// Seals the text that a vector holds, and appends its tag.
+    /// Seals a text to other memory.
     ///
-    /// On success `text` is the ciphertext and then the tag, 16 bytes longer than before. If the vector's capacity does not
-    /// suffice, the vector moves, and the memory that it leaves is not wiped of the text.
+    /// On success `sealed` is the ciphertext and then the tag.
     ///
     /// # Errors
     ///
-    /// As of [`Key::seal_in_place`]. The vector holds the text then, of its old length.
+    /// The first of these that fits; no byte is written then:
+    /// - `AadTooLong`: `aad` is longer than the suite's limit
+    /// - `TextTooLong`: the text is longer than the suite's limit
+    /// - `OutputLength`: `sealed` is not 16 bytes longer than `text`
+    ///
+    #[doc = include_str!("never_repeat_a_nonce.md")]
+    pub fn seal(&self, nonce: &[u8; NONCE_BYTES], text: &[u8], sealed: &mut [u8], aad: &[u8]) -> Result<(), Fault> {
+        outcome(raw::seal_with(&self.kept, nonce, text, sealed, aad))
+    }
+
+    /// Opens to other memory what [`Key::seal`] or [`Key::seal_to_vec`] made.
+    ///
+    /// `sealed` is the ciphertext and then the tag. On success `text` is the text.
+    ///
+    /// # Errors
+    ///
+    /// The first of these that fits. After `TagMismatch` the whole of `text` is zeros; after the others no byte is written.
+    /// - `AadTooLong`: `aad` is longer than the suite's limit
+    /// - `TooShort`: `sealed` is shorter than a tag
+    /// - `TextTooLong`: the text is longer than the suite's limit
+    /// - `OutputLength`: `text` is not 16 bytes shorter than `sealed`
+    /// - `TagMismatch`: authentication failed
+    pub fn open(&self, nonce: &[u8; NONCE_BYTES], sealed: &[u8], text: &mut [u8], aad: &[u8]) -> Result<(), Fault> {
+        outcome(raw::open_with(&self.kept, nonce, sealed, text, aad))
+    }
+
+    /// Seals a text, and returns the ciphertext and then the tag.
+    ///
+    /// # Errors
+    ///
+    /// The first of these that fits:
+    /// - `AadTooLong`: `aad` is longer than the suite's limit
+    /// - `TextTooLong`: the text is longer than the suite's limit
     ///
     #[doc = include_str!("never_repeat_a_nonce.md")]
     #[cfg(feature = "alloc")]
-    pub fn seal_vec(&self, nonce: &[u8; NONCE_BYTES], text: &mut Vec<u8>, aad: &[u8]) -> Result<(), Fault> {
-        crate::whole::seal_with_room(text, |bytes| self.seal(nonce, bytes, aad))
+    pub fn seal_to_vec(&self, nonce: &[u8; NONCE_BYTES], text: &[u8], aad: &[u8]) -> Result<Vec<u8>, Fault> {
+        let mut sealed = vec![0; text.len() + TAG_BYTES];
+        self.seal(nonce, text, &mut sealed, aad)?;
+        Ok(sealed)
     }
 
-    /// Opens what [`Key::seal_vec`] or [`Key::seal`] made, and cuts the tag off.
+    /// Opens what [`Key::seal_to_vec`] or [`Key::seal`] made, and returns the text.
     ///
-    /// `bytes` is the ciphertext and then the tag. On success it is the text alone, 16 bytes shorter than before.
+    /// `sealed` is the ciphertext and then the tag.
     ///
     /// # Errors
     ///
-    /// As of [`Key::open`]. The vector is as before then.
+    /// The first of these that fits:
+    /// - `AadTooLong`: `aad` is longer than the suite's limit
+    /// - `TooShort`: `sealed` is shorter than a tag
+    /// - `TextTooLong`: the text is longer than the suite's limit
+    /// - `TagMismatch`: authentication failed
     #[cfg(feature = "alloc")]
-    pub fn open_vec(&self, nonce: &[u8; NONCE_BYTES], bytes: &mut Vec<u8>, aad: &[u8]) -> Result<(), Fault> {
-        let length = self.open(nonce, bytes, aad)?.len();
-        bytes.truncate(length);
-        Ok(())
+    pub fn open_to_vec(&self, nonce: &[u8; NONCE_BYTES], sealed: &[u8], aad: &[u8]) -> Result<Vec<u8>, Fault> {
+        let mut text = vec![0; sealed.len().saturating_sub(TAG_BYTES)];
+        self.open(nonce, sealed, &mut text, aad)?;
+        Ok(text)
     }
 
     /// Begins a sealing in pieces, of an empty text so far.
@@ -159,7 +142,7 @@ impl Key {
     /// # Errors
     ///
     /// The first of these that fits:
-    /// - `UnknownSuite`: the suite is an AES-GCM-SIV, which reads a text twice; [`SivSealer`] serves it
+    /// - `UnknownSuite`: the suite is an AES-GCM-SIV, which reads a text twice; [`Key::siv_sealer`] serves it
     /// - `AadTooLong`: `aad` is longer than the suite's limit
     ///
     #[doc = include_str!("never_repeat_a_nonce.md")]
@@ -167,8 +150,26 @@ impl Key {
         Sealer::under(&self.kept, nonce, aad)
     }
 
-    fn bytes(&self) -> &[u8] {
-        &self.bytes[..self.suite.key_bytes()]
+    /// Begins an opening in pieces of a ciphertext with this tag.
+    ///
+    /// # Errors
+    ///
+    /// `AadTooLong`: `aad` is longer than the suite's limit.
+    pub fn opener(&self, nonce: &[u8; NONCE_BYTES], tag: &[u8; TAG_BYTES], aad: &[u8]) -> Result<Opener, Fault> {
+        Opener::under(&self.kept, nonce, tag, aad)
+    }
+
+    /// Begins a sealing in pieces under AES-GCM-SIV, of an empty text so far.
+    ///
+    /// # Errors
+    ///
+    /// The first of these that fits:
+    /// - `UnknownSuite`: the suite is not an AES-GCM-SIV; [`Key::sealer`] serves the others, which read a text once
+    /// - `AadTooLong`: `aad` is longer than the suite's limit
+    ///
+    #[doc = include_str!("never_repeat_a_nonce.md")]
+    pub fn siv_sealer(&self, nonce: &[u8; NONCE_BYTES], aad: &[u8]) -> Result<SivSealer, Fault> {
+        SivSealer::under(&self.kept, nonce, aad)
     }
 }
 

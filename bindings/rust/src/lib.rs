@@ -7,36 +7,38 @@
 //! # fn main() -> Result<(), Fault> {
 //! let key = Key::new(Suite::Aes256GcmSiv, &[7; 32])?; // for a trial: a real key is random
 //! let nonce = [0; 12]; // of the first message under this key; count up for each further one
-//! let mut message = b"attack at dawn".to_vec();
-//! key.seal_vec(&nonce, &mut message, b"to: general")?;
-//! assert_eq!(message.len(), 14 + 16); // the ciphertext, then the tag
-//! assert_eq!(key.open_vec(&nonce, &mut message, b"to: admiral"), Err(Fault::TagMismatch));
-//! key.open_vec(&nonce, &mut message, b"to: general")?;
-//! assert_eq!(message, b"attack at dawn");
+//! let sealed = key.seal_to_vec(&nonce, b"attack at dawn", b"to: general")?;
+//! assert_eq!(sealed.len(), 14 + 16); // the ciphertext, then the tag
+//! assert_eq!(key.open_to_vec(&nonce, &sealed, b"to: admiral"), Err(Fault::TagMismatch));
+//! assert_eq!(key.open_to_vec(&nonce, &sealed, b"to: general")?, b"attack at dawn");
 //! # Ok(())
 //! # }
 //! ```
 //!
-//! | calls | what they take | the tag |
+//! | calls | the result | the tag |
 //! |---|---|---|
-//! | [`seal_vec`], [`open_vec`] | a vector | is appended, and cut off |
-//! | [`seal_in_place`], [`open_in_place`] | the text or the ciphertext alone | is apart |
-//! | [`seal`], [`open`], the fastest in place | the text and 16 bytes of room behind it | stands in that room |
-//! | [`Sealer`], [`SivSealer`], [`Opener`] | a text in pieces | is apart |
-//! | [`wrap`], [`unwrap`], [`wrap_padded`], [`unwrap_padded`] | 8 bytes of room and behind it a key to wrap | |
+//! | [`seal_to_vec`], [`open_to_vec`] | is a vector | stands at the end of the sealing |
+//! | [`seal`], [`open`] | stands in a slice of the caller, beside the input | stands at the end of the sealing |
+//! | [`seal_in_place`], [`open_in_place`] | stands where the input stood | is apart |
+//! | [`Sealer`], [`SivSealer`], [`Opener`] | stands where each piece of the input stood | is apart |
+//! | [`wrap_to_vec`], [`unwrap_to_vec`], [`wrap_padded_to_vec`], [`unwrap_padded_to_vec`] | is a vector | |
+//! | [`wrap`], [`unwrap`], [`wrap_padded`], [`unwrap_padded`] | stands in a slice of the caller | |
 //!
-//! [`Key`] has the first three rows as methods, and makes its key schedule once.
+//! [`Key`] has the first four rows as methods, and makes its key schedule once. A text in pieces can be left and gone on with
+//! after a restart: see [`Sealer::save`].
 //!
-//! All calls take their arguments in one order: suite, key, nonce, the bytes that are sealed or opened, a tag that is given,
-//! and the associated data last. Associated data is authenticated and not encrypted, as the header of a message: a message
-//! opens only with the associated data that it was sealed with.
+//! All calls take their arguments in one order: suite, key, nonce, the bytes that are sealed or opened, the bytes that the result
+//! goes to, a tag that is given, and the associated data last. Associated data is authenticated and not encrypted, as the header
+//! of a message: a message opens only with the associated data that it was sealed with.
 //!
-//! Never use a nonce twice under one key: see [`seal`]. After a fault each buffer is as before; only a second pass or reading
-//! in pieces may end with [`Fault::SourceChanged`] after it changed its pieces. Nothing allocates but `seal_vec`.
+//! Never use a nonce twice under one key: see [`seal`]. After a fault each buffer is as before, with two exceptions: where
+//! [`open`], [`unwrap`] or [`unwrap_padded`] fails to authenticate, its output is all zeros; and a second pass or reading in
+//! pieces may end with [`Fault::SourceChanged`] after it changed its pieces. Nothing allocates but the calls that return a vector.
 //!
-//! Nothing is claimed of timing, since AES looks tables up by secret bytes. Keys are not wiped from memory.
+//! Nothing is claimed of timing, since AES looks tables up by secret bytes. [`Key`] and the states in pieces are wiped when they
+//! are dropped. The slices of the caller, the places that a moved key or state leaves, and the stack are not.
 //!
-//! The crate is `no_std`. Without its feature `alloc`, a default, the calls over vectors are left out. The library calls
+//! The crate is `no_std`. Without its feature `alloc`, a default, the calls that return vectors are left out. The library calls
 //! `memcpy`, `memmove`, `memset` and `bcmp`, which the C library has. If the program is compiled for processors with AVX2, as
 //! with `RUSTFLAGS="-C target-cpu=x86-64-v3"`, the library's build for these is linked.
 
@@ -52,6 +54,7 @@ mod key;
 mod opener;
 #[allow(unsafe_code)]
 mod raw;
+mod saved;
 mod sealer;
 mod siv;
 mod suite;
@@ -63,19 +66,22 @@ pub use fault::Fault;
 use fault::outcome;
 pub use key::Key;
 pub use opener::{CheckedOpener, Opener};
+pub use saved::{SAVED_PASSES_BYTES, SAVED_SEALER_BYTES};
 pub use sealer::Sealer;
 pub use siv::{SivSealer, SivWriter};
 pub use suite::Suite;
 pub use tag::Tag;
 pub use whole::{open, open_in_place, seal, seal_in_place};
 #[cfg(feature = "alloc")]
-pub use whole::{open_vec, seal_vec};
+pub use whole::{open_to_vec, seal_to_vec};
 pub use wrap::{unwrap, unwrap_padded, wrap, wrap_padded};
+#[cfg(feature = "alloc")]
+pub use wrap::{unwrap_padded_to_vec, unwrap_to_vec, wrap_padded_to_vec, wrap_to_vec};
 
-/// The length of a tag in bytes: a sealed text is that much longer than the text.
+/// The length of a tag in bytes: a sealing is that much longer than its text.
 pub const TAG_BYTES: usize = 16;
 
-/// A wrapping is that many bytes longer than its text.
+/// A wrapping is that many bytes longer than its text, or than its padded text.
 pub const WRAP_BYTES: usize = 8;
 
 /// The length of a nonce in bytes.

@@ -6,17 +6,18 @@ use crate::{Fault, NONCE_BYTES, Suite, TAG_BYTES, outcome, raw};
 use core::fmt;
 
 /// The first pass of an opening in pieces, under every suite, which gives no text: [`Opener::check`] for each piece of the
-/// ciphertext, then [`Opener::checked`].
+/// ciphertext, then [`Opener::begin_second`]. The state is wiped when it is dropped.
 #[must_use = "an opening that is not checked gives no text"]
 pub struct Opener {
-    state: raw::Opener,
+    pub(crate) state: raw::Opener,
 }
 
 /// The second pass, after the first was authenticated, which decrypts: [`CheckedOpener::update`] for each piece of the
-/// ciphertext again, then [`CheckedOpener::finish`]. The two passes may be split in different ways.
+/// ciphertext again, then [`CheckedOpener::finish`]. The two passes may be split in different ways. The state is wiped when it
+/// is dropped.
 #[must_use = "the text comes from the second pass, which `finish` ends"]
 pub struct CheckedOpener {
-    state: raw::Opener,
+    pub(crate) state: raw::Opener,
 }
 
 impl Opener {
@@ -39,6 +40,18 @@ impl Opener {
         Ok(Opener { state })
     }
 
+    /// Begins an opening under a kept key.
+    pub(crate) fn under(
+        kept: &raw::Key,
+        nonce: &[u8; NONCE_BYTES],
+        tag: &[u8; TAG_BYTES],
+        aad: &[u8],
+    ) -> Result<Opener, Fault> {
+        let mut state = raw::Opener::default();
+        outcome(raw::opener_init_with(&mut state, kept, nonce, tag, aad))?;
+        Ok(Opener { state })
+    }
+
     /// Takes the next piece of the ciphertext, of any length, without a change to it. The tag is not part of the
     /// ciphertext.
     ///
@@ -55,17 +68,9 @@ impl Opener {
     /// # Errors
     ///
     /// `TagMismatch`: authentication failed.
-    pub fn checked(mut self) -> Result<CheckedOpener, Fault> {
-        outcome(raw::opener_checked(&mut self.state))?;
+    pub fn begin_second(mut self) -> Result<CheckedOpener, Fault> {
+        outcome(raw::opener_begin_second(&mut self.state))?;
         Ok(CheckedOpener { state: self.state })
-    }
-
-    /// Opens a ciphertext that is one piece.
-    pub(crate) fn open_all(mut self, bytes: &mut [u8]) -> Result<(), Fault> {
-        self.check(bytes)?;
-        let mut opener = self.checked()?;
-        opener.update(bytes)?;
-        opener.finish()
     }
 }
 

@@ -9,10 +9,10 @@ use core::fmt;
 /// [`Sealer::finish`].
 ///
 /// The ciphertext of all pieces, and then the tag, is what [`seal`](crate::seal) makes of the whole text. The result does
-/// not depend on how the text is split.
+/// not depend on how the text is split. The state is wiped when it is dropped.
 #[must_use = "a sealing that is not finished has no tag"]
 pub struct Sealer {
-    state: raw::Sealer,
+    pub(crate) state: raw::Sealer,
 }
 
 impl Sealer {
@@ -54,12 +54,6 @@ impl Sealer {
         let mut tag = [0; TAG_BYTES];
         outcome(raw::sealer_finish(&mut self.state, &mut tag)).expect("the sealing was begun");
         Tag(tag)
-    }
-
-    /// Seals a text that is one piece.
-    pub(crate) fn seal_all(mut self, text: &mut [u8]) -> Result<Tag, Fault> {
-        self.update(text)?;
-        Ok(self.finish())
     }
 }
 

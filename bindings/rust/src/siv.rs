@@ -6,19 +6,19 @@ use crate::{Fault, NONCE_BYTES, Suite, TAG_BYTES, Tag, outcome, raw};
 use core::fmt;
 
 /// The first reading of a sealing in pieces under AES-GCM-SIV, whose tag is over the text: [`SivSealer::absorb`] for each
-/// piece of the text, then [`SivSealer::tag`].
+/// piece of the text, then [`SivSealer::begin_second`]. The state is wiped when it is dropped.
 #[must_use = "a sealing that is not finished has no tag"]
 pub struct SivSealer {
-    state: raw::Siv,
+    pub(crate) state: raw::Siv,
 }
 
 /// The second reading, which encrypts the text: [`SivWriter::update`] for each piece again, then [`SivWriter::finish`].
 ///
 /// The ciphertext of all pieces, and then the tag, is what [`seal`](crate::seal) makes of the whole text. The two readings
-/// may be split in different ways.
+/// may be split in different ways. The state is wiped when it is dropped.
 #[must_use = "the ciphertext comes from the second reading, which `finish` ends"]
 pub struct SivWriter {
-    state: raw::Siv,
+    pub(crate) state: raw::Siv,
 }
 
 impl SivSealer {
@@ -38,6 +38,13 @@ impl SivSealer {
         Ok(SivSealer { state })
     }
 
+    /// Begins a sealing under a kept key.
+    pub(crate) fn under(kept: &raw::Key, nonce: &[u8; NONCE_BYTES], aad: &[u8]) -> Result<SivSealer, Fault> {
+        let mut state = raw::Siv::default();
+        outcome(raw::siv_init_with(&mut state, kept, nonce, aad))?;
+        Ok(SivSealer { state })
+    }
+
     /// Adds a piece of any length to the text, without a change to the piece.
     ///
     /// # Errors
@@ -49,19 +56,10 @@ impl SivSealer {
     }
 
     /// Ends the first reading, and returns the tag of its text and the second reading.
-    pub fn tag(mut self) -> (Tag, SivWriter) {
+    pub fn begin_second(mut self) -> (Tag, SivWriter) {
         let mut tag = [0; TAG_BYTES];
-        outcome(raw::siv_tag(&mut self.state, &mut tag)).expect("the sealing was begun");
+        outcome(raw::siv_begin_second(&mut self.state, &mut tag)).expect("the sealing was begun");
         (Tag(tag), SivWriter { state: self.state })
-    }
-
-    /// Seals a text that is one piece.
-    pub(crate) fn seal_all(mut self, text: &mut [u8]) -> Result<Tag, Fault> {
-        self.absorb(text)?;
-        let (tag, mut writer) = self.tag();
-        writer.update(text)?;
-        writer.finish()?;
-        Ok(tag)
     }
 }
 

@@ -26,22 +26,41 @@ pub enum Suite {
     Aes256GcmSiv = 6,
 }
 
-const ALL: [Suite; 6] = [
-    Suite::ChaCha20Poly1305,
-    Suite::Aes128Gcm,
-    Suite::Aes192Gcm,
-    Suite::Aes256Gcm,
-    Suite::Aes128GcmSiv,
-    Suite::Aes256GcmSiv,
-];
-
 impl Suite {
+    /// All suites, in the order of their numbers.
+    pub const ALL: [Suite; 6] = [
+        Suite::ChaCha20Poly1305,
+        Suite::Aes128Gcm,
+        Suite::Aes192Gcm,
+        Suite::Aes256Gcm,
+        Suite::Aes128GcmSiv,
+        Suite::Aes256GcmSiv,
+    ];
+
     /// The length of a key in bytes.
     pub const fn key_bytes(self) -> usize {
         match self {
             Suite::Aes128Gcm | Suite::Aes128GcmSiv => 16,
             Suite::Aes192Gcm => 24,
             Suite::ChaCha20Poly1305 | Suite::Aes256Gcm | Suite::Aes256GcmSiv => 32,
+        }
+    }
+
+    /// The length of the longest text in bytes.
+    pub const fn text_limit(self) -> u64 {
+        match self {
+            Suite::ChaCha20Poly1305 => (1 << 38) - 64,
+            Suite::Aes128Gcm | Suite::Aes192Gcm | Suite::Aes256Gcm => (1 << 36) - 32,
+            Suite::Aes128GcmSiv | Suite::Aes256GcmSiv => 1 << 36,
+        }
+    }
+
+    /// The length of the longest associated data in bytes.
+    pub const fn aad_limit(self) -> u64 {
+        match self {
+            Suite::ChaCha20Poly1305 => u64::MAX,
+            Suite::Aes128Gcm | Suite::Aes192Gcm | Suite::Aes256Gcm => (1 << 61) - 1,
+            Suite::Aes128GcmSiv | Suite::Aes256GcmSiv => 1 << 36,
         }
     }
 
@@ -55,11 +74,6 @@ impl Suite {
             Suite::Aes128GcmSiv => "aes-128-gcm-siv",
             Suite::Aes256GcmSiv => "aes-256-gcm-siv",
         }
-    }
-
-    /// Whether a sealing reads the text twice: its tag is over the text, and the ciphertext depends on the tag.
-    pub(crate) const fn reads_twice(self) -> bool {
-        matches!(self, Suite::Aes128GcmSiv | Suite::Aes256GcmSiv)
     }
 }
 
@@ -75,7 +89,7 @@ impl FromStr for Suite {
     type Err = Fault;
 
     fn from_str(name: &str) -> Result<Suite, Fault> {
-        ALL.into_iter().find(|suite| suite.name() == name).ok_or(Fault::UnknownSuite)
+        Suite::ALL.into_iter().find(|suite| suite.name() == name).ok_or(Fault::UnknownSuite)
     }
 }
 
@@ -84,6 +98,6 @@ impl TryFrom<u32> for Suite {
     type Error = Fault;
 
     fn try_from(number: u32) -> Result<Suite, Fault> {
-        ALL.into_iter().find(|suite| *suite as u32 == number).ok_or(Fault::UnknownSuite)
+        Suite::ALL.into_iter().find(|suite| *suite as u32 == number).ok_or(Fault::UnknownSuite)
     }
 }

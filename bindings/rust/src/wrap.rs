@@ -2,66 +2,120 @@
 
 #![forbid(unsafe_code)]
 
-use crate::{Fault, WRAP_BYTES, outcome, raw};
+#[cfg(feature = "alloc")]
+use crate::WRAP_BYTES;
+use crate::{Fault, outcome, raw};
+#[cfg(feature = "alloc")]
+use alloc::{vec, vec::Vec};
 
-/// Wraps a text in place (RFC 3394).
+/// Wraps a text, as a rule a key, to other memory (RFC 3394).
 ///
-/// `bytes` is 8 bytes of room, whose contents do not matter, and then the text, which is a multiple of 8 bytes long and at
-/// least 16. On success it is the wrapping. **If `bytes` is the text alone, its first 8 bytes are lost, and the call
-/// returns `Ok`.**
+/// On success `wrapped` is the wrapping. Equal texts have equal wrappings under one key.
 ///
 /// # Errors
 ///
-/// The first of these that fits; no byte is changed then:
+/// The first of these that fits; no byte is written then:
 /// - `KeyLength`: `key` is not 16, 24 or 32 bytes long
-/// - `WrapLength`: `bytes` is shorter than 24 bytes, or its length is not a multiple of 8
-pub fn wrap(key: &[u8], bytes: &mut [u8]) -> Result<(), Fault> {
-    outcome(raw::wrap(key, bytes))
+/// - `WrapLength`: `text` is shorter than 16 bytes, or its length is not a multiple of 8
+/// - `OutputLength`: `wrapped` is not 8 bytes longer than `text`
+pub fn wrap(key: &[u8], text: &[u8], wrapped: &mut [u8]) -> Result<(), Fault> {
+    outcome(raw::wrap(key, text, wrapped))
 }
 
-/// Unwraps in place what [`wrap`] made.
+/// Unwraps to other memory what [`wrap`] made.
 ///
-/// On success `bytes` is the byte a6 eight times, and then the text, which is returned.
+/// On success `text` is the text.
 ///
 /// # Errors
 ///
-/// The first of these that fits; no byte is changed then:
+/// The first of these that fits. After `WrapIntegrity` the whole of `text` is zeros; after the others no byte is written.
 /// - `KeyLength`: `key` is not 16, 24 or 32 bytes long
-/// - `WrapLength`: `bytes` is shorter than 24 bytes, or its length is not a multiple of 8
-/// - `WrapIntegrity`: `bytes` is not a valid wrapping under this key
-pub fn unwrap<'a>(key: &[u8], bytes: &'a mut [u8]) -> Result<&'a mut [u8], Fault> {
-    outcome(raw::unwrap(key, bytes))?;
-    Ok(&mut bytes[WRAP_BYTES..])
+/// - `WrapLength`: `wrapped` is shorter than 24 bytes, or its length is not a multiple of 8
+/// - `OutputLength`: `text` is not 8 bytes shorter than `wrapped`
+/// - `WrapIntegrity`: `wrapped` is not a valid wrapping under this key
+pub fn unwrap(key: &[u8], wrapped: &[u8], text: &mut [u8]) -> Result<(), Fault> {
+    outcome(raw::unwrap(key, wrapped, text))
 }
 
-/// Wraps a text of any length from 1 to 2^32 - 1 bytes in place (RFC 5649).
+/// Wraps a text of any length from 1 to 2^32 - 1 bytes to other memory (RFC 5649).
 ///
-/// `bytes` is 8 bytes of room, then the text of `text_length` bytes, then as many bytes of room as make the length a multiple
-/// of 8, at most 7. On success it is the wrapping.
+/// On success `wrapped` is the wrapping, whose length is that of the text, rounded up to a multiple of 8, and 8 more:
+/// `text.len().next_multiple_of(8) + WRAP_BYTES`.
 ///
 /// # Errors
 ///
-/// The first of these that fits; no byte is changed then:
+/// The first of these that fits; no byte is written then:
 /// - `KeyLength`: `key` is not 16, 24 or 32 bytes long
-/// - `WrapLength`: `text_length` is 0, or `bytes` has more or less room than that
+/// - `WrapLength`: `text` is empty
 /// - `TextTooLong`: the text is longer than 2^32 - 1 bytes
-pub fn wrap_padded(key: &[u8], bytes: &mut [u8], text_length: usize) -> Result<(), Fault> {
-    outcome(raw::wrap_padded(key, bytes, text_length))
+/// - `OutputLength`: `wrapped` does not have that length
+pub fn wrap_padded(key: &[u8], text: &[u8], wrapped: &mut [u8]) -> Result<(), Fault> {
+    outcome(raw::wrap_padded(key, text, wrapped))
 }
 
-/// Unwraps in place what [`wrap_padded`] made.
+/// Unwraps to other memory what [`wrap_padded`] made, and returns the part of `text` that is the text.
 ///
-/// On success `bytes` is the initial value of 8 bytes, then the text, which is returned, then at most 7 zeros.
+/// On success `text` is the text and then at most 7 zeros.
 ///
 /// # Errors
 ///
-/// The first of these that fits; no byte is changed then:
+/// The first of these that fits. After `WrapIntegrity` the whole of `text` is zeros; after the others no byte is written.
 /// - `KeyLength`: `key` is not 16, 24 or 32 bytes long
-/// - `WrapLength`: `bytes` is shorter than 16 bytes, or its length is not a multiple of 8
+/// - `WrapLength`: `wrapped` is shorter than 16 bytes, or its length is not a multiple of 8
 /// - `TextTooLong`: the text is longer than 2^32 - 1 bytes
-/// - `WrapIntegrity`: `bytes` is not a valid wrapping with padding under this key
-pub fn unwrap_padded<'a>(key: &[u8], bytes: &'a mut [u8]) -> Result<&'a mut [u8], Fault> {
-    let (status, length) = raw::unwrap_padded(key, bytes);
+/// - `OutputLength`: `text` is not 8 bytes shorter than `wrapped`
+/// - `WrapIntegrity`: `wrapped` is not a valid wrapping with padding under this key
+pub fn unwrap_padded<'a>(key: &[u8], wrapped: &[u8], text: &'a mut [u8]) -> Result<&'a mut [u8], Fault> {
+    let (status, length) = raw::unwrap_padded(key, wrapped, text);
     outcome(status)?;
-    Ok(&mut bytes[WRAP_BYTES..][..length])
+    Ok(&mut text[..length])
+}
+
+/// Wraps a text as [`wrap`] does, and returns the wrapping.
+///
+/// # Errors
+///
+/// Those of [`wrap`], except `OutputLength`.
+#[cfg(feature = "alloc")]
+pub fn wrap_to_vec(key: &[u8], text: &[u8]) -> Result<Vec<u8>, Fault> {
+    let mut wrapped = vec![0; text.len() + WRAP_BYTES];
+    wrap(key, text, &mut wrapped)?;
+    Ok(wrapped)
+}
+
+/// Unwraps as [`unwrap`] does, and returns the text.
+///
+/// # Errors
+///
+/// Those of [`unwrap`], except `OutputLength`.
+#[cfg(feature = "alloc")]
+pub fn unwrap_to_vec(key: &[u8], wrapped: &[u8]) -> Result<Vec<u8>, Fault> {
+    let mut text = vec![0; wrapped.len().saturating_sub(WRAP_BYTES)];
+    unwrap(key, wrapped, &mut text)?;
+    Ok(text)
+}
+
+/// Wraps a text as [`wrap_padded`] does, and returns the wrapping.
+///
+/// # Errors
+///
+/// Those of [`wrap_padded`], except `OutputLength`.
+#[cfg(feature = "alloc")]
+pub fn wrap_padded_to_vec(key: &[u8], text: &[u8]) -> Result<Vec<u8>, Fault> {
+    let mut wrapped = vec![0; text.len().next_multiple_of(8) + WRAP_BYTES];
+    wrap_padded(key, text, &mut wrapped)?;
+    Ok(wrapped)
+}
+
+/// Unwraps as [`unwrap_padded`] does, and returns the text.
+///
+/// # Errors
+///
+/// Those of [`unwrap_padded`], except `OutputLength`.
+#[cfg(feature = "alloc")]
+pub fn unwrap_padded_to_vec(key: &[u8], wrapped: &[u8]) -> Result<Vec<u8>, Fault> {
+    let mut text = vec![0; wrapped.len().saturating_sub(WRAP_BYTES)];
+    let length = unwrap_padded(key, wrapped, &mut text)?.len();
+    text.truncate(length);
+    Ok(text)
 }

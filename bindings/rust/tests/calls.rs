@@ -3,10 +3,10 @@
 use Suite::*;
 use aeadkit::{
     CheckedOpener, Fault, Key, NONCE_BYTES, Opener, Sealer, SivSealer, SivWriter, Suite, TAG_BYTES, Tag, open, open_in_place,
-    open_vec, seal, seal_in_place, seal_vec,
+    open_to_vec, seal, seal_in_place, seal_to_vec, unwrap, unwrap_padded, unwrap_padded_to_vec, unwrap_to_vec, wrap,
+    wrap_padded, wrap_padded_to_vec, wrap_to_vec,
 };
 
-const SUITES: [Suite; 6] = [ChaCha20Poly1305, Aes128Gcm, Aes192Gcm, Aes256Gcm, Aes128GcmSiv, Aes256GcmSiv];
 const NONCE: [u8; NONCE_BYTES] = [9; NONCE_BYTES];
 const LENGTHS: [usize; 11] = [0, 1, 15, 16, 17, 64, 127, 1000, 4096, 4097, 70_000];
 
@@ -18,24 +18,29 @@ fn text_of(length: usize) -> Vec<u8> {
     (0..length).map(|i| (i * i) as u8).collect()
 }
 
-/// The text's ciphertext and tag by the call that the other forms are compared with.
-fn combined(suite: Suite, text: &[u8], aad: &[u8]) -> Vec<u8> {
-    let mut bytes = text.to_vec();
-    bytes.extend([0xaa; TAG_BYTES]);
-    seal(suite, &key_of(suite), &NONCE, &mut bytes, aad).unwrap();
-    bytes
-}
-
 #[test]
-fn in_place_gives_the_tag_apart() {
-    for suite in SUITES {
+fn all_forms_agree() {
+    for suite in Suite::ALL {
         let (bytes, key) = (key_of(suite), Key::new(suite, &key_of(suite)).unwrap());
         for length in LENGTHS {
             for aad in [&b""[..], b"a header of more than sixteen bytes"] {
-                let (text, sealed) = (text_of(length), combined(suite, &text_of(length), aad));
-                let (mut one, mut other) = (text.clone(), text.clone());
+                let (text, whole) = (text_of(length), seal_to_vec(suite, &bytes, &NONCE, &text_of(length), aad).unwrap());
+                assert_eq!(whole.len(), length + TAG_BYTES);
+                assert_eq!(key.seal_to_vec(&NONCE, &text, aad).unwrap(), whole);
+                assert_eq!(open_to_vec(suite, &bytes, &NONCE, &whole, aad).unwrap(), text);
+                assert_eq!(key.open_to_vec(&NONCE, &whole, aad).unwrap(), text);
+
+                let (mut one, mut other) = (vec![0xaa; length + TAG_BYTES], vec![0xaa; length + TAG_BYTES]);
+                seal(suite, &bytes, &NONCE, &text, &mut one, aad).unwrap();
+                key.seal(&NONCE, &text, &mut other, aad).unwrap();
+                assert_eq!((&one, &other), (&whole, &whole));
+                let (mut one, mut other) = (vec![0xaa; length], vec![0xaa; length]);
+                open(suite, &bytes, &NONCE, &whole, &mut one, aad).unwrap();
+                key.open(&NONCE, &whole, &mut other, aad).unwrap();
+                assert_eq!((&one, &other), (&text, &text));
+
                 let tag = seal_in_place(suite, &bytes, &NONCE, &mut one, aad).unwrap();
-                assert_eq!((&one[..], &tag[..]), sealed.split_at(length));
+                assert_eq!((&one[..], &tag[..]), whole.split_at(length));
                 assert_eq!(key.seal_in_place(&NONCE, &mut other, aad).unwrap(), tag);
                 assert_eq!(one, other);
                 open_in_place(suite, &bytes, &NONCE, &mut one, &tag, aad).unwrap();
@@ -47,37 +52,17 @@ fn in_place_gives_the_tag_apart() {
 }
 
 #[test]
-fn vectors_gain_and_lose_the_tag() {
-    for suite in SUITES {
-        let (bytes, key) = (key_of(suite), Key::new(suite, &key_of(suite)).unwrap());
-        for length in LENGTHS {
-            let (text, sealed) = (text_of(length), combined(suite, &text_of(length), b"aad"));
-            let (mut one, mut other) = (text.clone(), text.clone());
-            seal_vec(suite, &bytes, &NONCE, &mut one, b"aad").unwrap();
-            key.seal_vec(&NONCE, &mut other, b"aad").unwrap();
-            assert_eq!((&one, &other), (&sealed, &sealed));
-            open_vec(suite, &bytes, &NONCE, &mut one, b"aad").unwrap();
-            key.open_vec(&NONCE, &mut other, b"aad").unwrap();
-            assert_eq!((&one, &other), (&text, &text));
-        }
-    }
-}
-
-#[test]
-fn a_fault_leaves_every_byte() {
-    for suite in SUITES {
+fn a_fault_in_place_leaves_every_byte() {
+    for suite in Suite::ALL {
         let (bytes, key) = (key_of(suite), Key::new(suite, &key_of(suite)).unwrap());
         let short = &bytes[1..];
         for length in LENGTHS {
             let text = text_of(length);
             let mut buffer = text.clone();
             assert_eq!(seal_in_place(suite, short, &NONCE, &mut buffer, b""), Err(Fault::KeyLength));
-            assert_eq!(seal_vec(suite, short, &NONCE, &mut buffer, b""), Err(Fault::KeyLength));
-            assert_eq!(seal(suite, short, &NONCE, &mut buffer, b""), Err(Fault::KeyLength));
             assert_eq!(buffer, text);
-            let sealed = combined(suite, &text, b"aad");
-            let (body, tag) = sealed.split_last_chunk::<TAG_BYTES>().unwrap();
-            let mut buffer = body.to_vec();
+            let tag = seal_in_place(suite, &bytes, &NONCE, &mut buffer, b"aad").unwrap();
+            let body = buffer.clone();
             for bit in [0, 8, 127] {
                 let mut wrong = *tag;
                 wrong[bit / 8] ^= 1 << (bit % 8);
@@ -86,48 +71,116 @@ fn a_fault_leaves_every_byte() {
                 assert_eq!(key.open_in_place(&NONCE, &mut buffer, &wrong, b"aad"), Err(Fault::TagMismatch));
                 assert_eq!(buffer, body);
             }
-            assert_eq!(key.open_in_place(&NONCE, &mut buffer, tag, b"aaD"), Err(Fault::TagMismatch));
-            assert_eq!(key.open_in_place(&[8; 12], &mut buffer, tag, b"aad"), Err(Fault::TagMismatch));
-            assert_eq!(open_in_place(suite, short, &NONCE, &mut buffer, tag, b"aad"), Err(Fault::KeyLength));
+            assert_eq!(key.open_in_place(&NONCE, &mut buffer, &tag, b"aaD"), Err(Fault::TagMismatch));
+            assert_eq!(key.open_in_place(&[8; 12], &mut buffer, &tag, b"aad"), Err(Fault::TagMismatch));
+            assert_eq!(open_in_place(suite, short, &NONCE, &mut buffer, &tag, b"aad"), Err(Fault::KeyLength));
             assert_eq!(buffer, body);
             if length > 0 {
                 buffer[length / 2] ^= 0x10;
                 let before = buffer.clone();
-                assert_eq!(key.open_in_place(&NONCE, &mut buffer, tag, b"aad"), Err(Fault::TagMismatch));
+                assert_eq!(key.open_in_place(&NONCE, &mut buffer, &tag, b"aad"), Err(Fault::TagMismatch));
                 assert_eq!(buffer, before);
             }
-            let mut buffer = sealed.clone();
-            assert_eq!(open_vec(suite, &bytes, &NONCE, &mut buffer, b"aaD"), Err(Fault::TagMismatch));
-            assert_eq!(key.open_vec(&[8; 12], &mut buffer, b"aad"), Err(Fault::TagMismatch));
-            assert_eq!(key.open(&[8; 12], &mut buffer, b"aad"), Err(Fault::TagMismatch));
-            assert_eq!(buffer, sealed);
-        }
-        for length in 0..TAG_BYTES {
-            let mut buffer = text_of(length);
-            assert_eq!(key.open_vec(&NONCE, &mut buffer, b""), Err(Fault::TooShort));
-            assert_eq!(open_vec(suite, &bytes, &NONCE, &mut buffer, b""), Err(Fault::TooShort));
-            assert_eq!(key.seal(&NONCE, &mut buffer, b""), Err(Fault::TooShort));
-            assert_eq!(buffer, text_of(length));
         }
     }
 }
 
-/// What the documents of `seal` warn of, and what the other forms are for.
+/// An output is written on success, and is zeros if authentication failed.
 #[test]
-fn a_forgotten_room_loses_the_end_of_the_text() {
-    let key = Key::new(Aes128Gcm, &key_of(Aes128Gcm)).unwrap();
-    let text = text_of(40);
-    let mut bytes = text.clone();
-    key.seal(&NONCE, &mut bytes, b"").unwrap();
-    assert_eq!(key.open(&NONCE, &mut bytes, b"").unwrap(), &text[..24]);
-    let mut bytes = text.clone();
-    key.seal_vec(&NONCE, &mut bytes, b"").unwrap();
-    assert_eq!(key.open(&NONCE, &mut bytes, b"").unwrap(), text);
+fn a_fault_leaves_the_output_or_zeros() {
+    for suite in Suite::ALL {
+        let (bytes, key) = (key_of(suite), Key::new(suite, &key_of(suite)).unwrap());
+        let short = &bytes[1..];
+        for length in LENGTHS {
+            let (text, filled) = (text_of(length), vec![0xaa; length + TAG_BYTES + 1]);
+            let mut output = filled.clone();
+            let right = length + TAG_BYTES;
+            assert_eq!(seal(suite, short, &NONCE, &text, &mut output[..right], b""), Err(Fault::KeyLength));
+            for wrong in [0, length, right - 1, right + 1] {
+                assert_eq!(seal(suite, &bytes, &NONCE, &text, &mut output[..wrong], b""), Err(Fault::OutputLength));
+                assert_eq!(key.seal(&NONCE, &text, &mut output[..wrong], b""), Err(Fault::OutputLength));
+            }
+            let mut sealed = key.seal_to_vec(&NONCE, &text, b"aad").unwrap();
+            assert_eq!(open(suite, short, &NONCE, &sealed, &mut output[..length], b"aad"), Err(Fault::KeyLength));
+            for wrong in [length + 1, right] {
+                let fault = open(suite, &bytes, &NONCE, &sealed, &mut output[..wrong], b"aad");
+                assert_eq!(fault, Err(Fault::OutputLength));
+                assert_eq!(key.open(&NONCE, &sealed, &mut output[..wrong], b"aad"), Err(Fault::OutputLength));
+            }
+            assert_eq!(key.open(&NONCE, &sealed[..15], &mut output[..length], b"aad"), Err(Fault::TooShort));
+            assert_eq!(output, filled);
+            sealed[length / 2] ^= 0x10;
+            assert_eq!(key.open(&NONCE, &sealed, &mut output[..length], b"aad"), Err(Fault::TagMismatch));
+            assert_eq!(output, [vec![0; length], vec![0xaa; TAG_BYTES + 1]].concat());
+            let mut output = filled.clone();
+            let fault = open(suite, &bytes, &NONCE, &sealed, &mut output[..length], b"aad");
+            assert_eq!(fault, Err(Fault::TagMismatch));
+            assert_eq!(output, [vec![0; length], vec![0xaa; TAG_BYTES + 1]].concat());
+            assert_eq!(open_to_vec(suite, &bytes, &NONCE, &sealed, b"aad"), Err(Fault::TagMismatch));
+        }
+        for length in 0..TAG_BYTES {
+            assert_eq!(key.open_to_vec(&NONCE, &text_of(length), b""), Err(Fault::TooShort));
+            assert_eq!(open_to_vec(suite, &bytes, &NONCE, &text_of(length), b""), Err(Fault::TooShort));
+        }
+        assert_eq!(seal_to_vec(suite, short, &NONCE, b"", b""), Err(Fault::KeyLength));
+    }
+}
+
+#[test]
+fn wrappings() {
+    for key in [&[3; 16][..], &[3; 24], &[3; 32]] {
+        for length in [16, 24, 32, 40, 1000] {
+            let text = text_of(length);
+            let mut wrapped = wrap_to_vec(key, &text).unwrap();
+            assert_eq!(unwrap_to_vec(key, &wrapped).unwrap(), text);
+            let mut output = vec![0xaa; length + 9];
+            for wrong in [0, length, length + 7, length + 9] {
+                assert_eq!(wrap(key, &text, &mut output[..wrong]), Err(Fault::OutputLength));
+            }
+            for wrong in [length - 1, length + 1] {
+                assert_eq!(unwrap(key, &wrapped, &mut output[..wrong]), Err(Fault::OutputLength));
+            }
+            assert_eq!(output, vec![0xaa; length + 9]);
+            wrapped[length / 2] ^= 1;
+            assert_eq!(unwrap(key, &wrapped, &mut output[..length]), Err(Fault::WrapIntegrity));
+            assert_eq!(output, [vec![0; length], vec![0xaa; 9]].concat());
+            assert_eq!(unwrap_to_vec(key, &wrapped), Err(Fault::WrapIntegrity));
+        }
+        for length in (1..40).chain([1000, 1001]) {
+            let text = text_of(length);
+            let mut wrapped = wrap_padded_to_vec(key, &text).unwrap();
+            assert_eq!(wrapped.len(), length.next_multiple_of(8) + 8);
+            assert_eq!(unwrap_padded_to_vec(key, &wrapped).unwrap(), text);
+            let room = wrapped.len() - 8;
+            let mut output = vec![0xaa; room + 9];
+            for wrong in [room, room + 7, room + 9] {
+                assert_eq!(wrap_padded(key, &text, &mut output[..wrong]), Err(Fault::OutputLength));
+            }
+            for wrong in [room - 1, room + 1] {
+                assert_eq!(unwrap_padded(key, &wrapped, &mut output[..wrong]), Err(Fault::OutputLength));
+            }
+            assert_eq!(output, vec![0xaa; room + 9]);
+            assert_eq!(unwrap_padded(key, &wrapped, &mut output[..room]).unwrap(), text);
+            assert_eq!(output[..room], [text, vec![0; room - length]].concat());
+            wrapped[3] ^= 1;
+            assert_eq!(unwrap_padded(key, &wrapped, &mut output[..room]), Err(Fault::WrapIntegrity));
+            assert_eq!(output, [vec![0; room], vec![0xaa; 9]].concat());
+        }
+        for length in [0, 1, 8, 15, 17] {
+            assert_eq!(wrap_to_vec(key, &text_of(length)), Err(Fault::WrapLength));
+            assert_eq!(unwrap_to_vec(key, &text_of(length)), Err(Fault::WrapLength));
+        }
+        for length in [0, 1, 8, 15, 17] {
+            assert_eq!(unwrap_padded_to_vec(key, &text_of(length)), Err(Fault::WrapLength));
+        }
+    }
+    assert_eq!(wrap_to_vec(&[3; 15], &[0; 16]), Err(Fault::KeyLength));
+    assert_eq!(unwrap_padded_to_vec(&[3; 33], &[0; 16]), Err(Fault::KeyLength));
 }
 
 #[test]
 fn suites_have_names_and_numbers() {
-    for (suite, (number, name)) in SUITES.into_iter().zip((1..).zip([
+    for (suite, (number, name)) in Suite::ALL.into_iter().zip((1..).zip([
         "chacha20-poly1305",
         "aes-128-gcm",
         "aes-192-gcm",
@@ -155,7 +208,7 @@ fn threads_share_a_key() {
     fn both<T: Send + Sync + Unpin + 'static>() {}
     both::<(Key, Suite, Fault, Tag)>();
     both::<(Sealer, Opener, CheckedOpener, SivSealer, SivWriter)>();
-    for suite in SUITES {
+    for suite in Suite::ALL {
         let key = Key::new(suite, &key_of(suite)).unwrap();
         std::thread::scope(|scope| {
             for thread in 0..4u8 {
@@ -165,11 +218,10 @@ fn threads_share_a_key() {
                         let mut nonce = [thread; NONCE_BYTES];
                         nonce[..4].copy_from_slice(&i.to_be_bytes());
                         let mut text = vec![thread; i as usize];
+                        let whole = key.seal_to_vec(&nonce, &text, b"").unwrap();
                         let tag = key.seal_in_place(&nonce, &mut text, b"").unwrap();
-                        let mut whole = vec![thread; i as usize];
-                        key.seal_vec(&nonce, &mut whole, b"").unwrap();
                         assert_eq!(whole, [&text[..], &tag[..]].concat());
-                        assert_eq!(key.open(&nonce, &mut whole, b"").unwrap(), vec![thread; i as usize]);
+                        assert_eq!(key.open_to_vec(&nonce, &whole, b"").unwrap(), vec![thread; i as usize]);
                         key.open_in_place(&nonce, &mut text, &tag, b"").unwrap();
                         assert_eq!(text, vec![thread; i as usize]);
                     }
@@ -182,15 +234,41 @@ fn threads_share_a_key() {
 /// A copy of a key seals as the key, also when the key is gone and another has come.
 #[test]
 fn a_key_is_copied_whole() {
-    for suite in SUITES {
+    for suite in Suite::ALL {
         let copy = Box::new(Key::new(suite, &key_of(suite)).unwrap()).clone();
         let other = Box::new(Key::new(suite, &vec![0xee; suite.key_bytes()]).unwrap());
-        let mut bytes = text_of(100);
-        copy.seal_vec(&NONCE, &mut bytes, b"aad").unwrap();
-        assert_eq!(bytes, combined(suite, &text_of(100), b"aad"));
-        assert_eq!(other.open_vec(&NONCE, &mut bytes, b"aad"), Err(Fault::TagMismatch));
+        let sealed = copy.seal_to_vec(&NONCE, &text_of(100), b"aad").unwrap();
+        assert_eq!(sealed, seal_to_vec(suite, &key_of(suite), &NONCE, &text_of(100), b"aad").unwrap());
+        assert_eq!(other.open_to_vec(&NONCE, &sealed, b"aad"), Err(Fault::TagMismatch));
         let shown = format!("{copy:?} {copy:#?}");
         assert_eq!(shown, format!("Key({suite:?}) Key({suite:?})"));
+    }
+}
+
+/// The states in pieces leave zeros where they are dropped.
+#[test]
+fn what_is_dropped_is_wiped() {
+    fn left<T>(value: T) -> Vec<u8> {
+        let mut place = Box::new(std::mem::MaybeUninit::new(value));
+        let bytes = place.as_mut_ptr().cast::<u8>();
+        // SAFETY: the value is dropped once, in its place, whose bytes were all written: these types have no padding.
+        unsafe {
+            std::ptr::drop_in_place(place.as_mut_ptr());
+            std::slice::from_raw_parts(bytes, size_of::<T>()).to_vec()
+        }
+    }
+    assert!(std::mem::needs_drop::<Key>());
+    for suite in Suite::ALL {
+        let key = Key::new(suite, &key_of(suite)).unwrap();
+        let opener = key.opener(&NONCE, &[0; TAG_BYTES], b"aad").unwrap();
+        assert_eq!(left(opener), vec![0; 192]);
+        if let Ok(sealer) = key.sealer(&NONCE, b"aad") {
+            assert_eq!(left(sealer), vec![0; 144]);
+        }
+        if let Ok(sealer) = key.siv_sealer(&NONCE, b"aad") {
+            assert_eq!(left(sealer), vec![0; 192]);
+            assert_eq!(left(key.siv_sealer(&NONCE, b"aad").unwrap().begin_second().1), vec![0; 192]);
+        }
     }
 }
 
@@ -201,8 +279,9 @@ fn faults_are_errors() {
     assert_eq!(error.to_string(), "authentication failed");
     let nonce: Result<&[u8; NONCE_BYTES], Fault> = [0u8; 11][..].try_into().map_err(|_| Fault::NonceLength);
     assert_eq!(nonce.unwrap_err().to_string(), "the nonce is not 12 bytes long");
+    assert_eq!(Fault::OutputLength.to_string(), "the output is not as long as the result");
     let key = Key::new(Aes256Gcm, &[7; 32]).unwrap();
-    assert_eq!(open(Aes256Gcm, &[7; 32], &NONCE, &mut [0; 16], b""), Err(Fault::TagMismatch));
+    assert_eq!(open_to_vec(Aes256Gcm, &[7; 32], &NONCE, &[0; 16], b""), Err(Fault::TagMismatch));
     let tag: [u8; TAG_BYTES] = key.seal_in_place(&NONCE, &mut [], b"").unwrap().into();
     assert_eq!(key.open_in_place(&NONCE, &mut [], &tag, b""), Ok(()));
 }
