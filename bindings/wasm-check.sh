@@ -13,7 +13,7 @@ if ! node --version > "$room/log" 2>&1; then
     echo "left out: JavaScript, no node"
     exit 0
 fi
-cp wasm/example.mjs wasm/calls.mjs "$room/"
+cp wasm/example.mjs wasm/calls.mjs wasm/saved.mjs "$room/"
 by=npm
 if npm --version > "$room/log" 2>&1; then
     (cd "$room" && npm pack --silent "$package" && npm install --silent --offline --no-audit --no-fund ./aeadkit-*.tgz) \
@@ -33,12 +33,12 @@ flag=--experimental-wasm-memory64
 if (cd "$room" && node -e 'import("aeadkit/node")' || ! node $flag -e '') > "$room/log" 2>&1; then
     flag=
 fi
-for name in example calls; do
+for name in example calls saved; do
     (cd "$room" && node $flag $name.mjs) > "$room/log" 2>&1 || { cat "$room/log" >&2; exit 1; }
 done
 echo "ok: JavaScript ($by)"
 
-# The same example in a browser: a page maps its imports to a module that holds the bytes of both modules.
+# The same example in a browser: a page maps its imports to a module that holds the bytes of the library.
 browser=$(command -v chromium || command -v chromium-browser || command -v google-chrome || true)
 if [ -z "$browser" ]; then
     echo "left out: JavaScript in a browser, no chromium"
@@ -49,8 +49,9 @@ cp "$package/aeadkit.mjs" wasm/page.html wasm/assert.mjs "$room/"
     echo 'export * from "./aeadkit.mjs";'
     echo 'import { Aead, KeyWrap } from "./aeadkit.mjs";'
     echo 'const bytes = (text) => Uint8Array.from(atob(text), (letter) => letter.charCodeAt(0));'
-    echo "export const aead = new Aead(bytes(\"$(base64 "$package/aead.wasm" | tr -d '\n')\"));"
-    echo "export const keywrap = new KeyWrap(bytes(\"$(base64 "$package/keywrap.wasm" | tr -d '\n')\"));"
+    echo "const library = bytes(\"$(base64 "$package/aeadkit.wasm" | tr -d '\n')\");"
+    echo "export const aead = new Aead(library);"
+    echo "export const keywrap = new KeyWrap(library);"
 } > "$room/bytes.mjs"
 HOME=$room "$browser" --headless --no-sandbox --disable-gpu --allow-file-access-from-files \
     --dump-dom "file://$room/page.html" > "$room/dom" 2> "$room/log"

@@ -1,10 +1,10 @@
 #!/bin/sh
-# Proves the library crates, builds their WebAssembly modules and lays out the JavaScript package, whose example it
-# runs if node is there.
+# Proves the library, builds it as a WebAssembly module and lays out the JavaScript package, whose example it runs if node is
+# there.
 set -eu
 if [ $# -lt 2 ]; then
     echo "usage: wasm.sh REPOSITORY PREFIX [rattle's flags]
-  PREFIX   gets share/aeadkit/javascript, a package for npm. Its modules import nothing; they want a host with
+  PREFIX   gets share/aeadkit/javascript, a package for npm. Its module imports nothing; it wants a host with
            memories of 64-bit addresses" >&2
     exit 2
 fi
@@ -17,7 +17,8 @@ cd "$(dirname "$0")"
 room=${AEADKIT_WORK:-$prefix/.aeadkit}
 package=$prefix/share/aeadkit/javascript
 mkdir -p "$room" "$package"
-copy "$repository" "$room" wasm64
+copy "$repository" "$room"
+sed -i "s/^capi staticlib:/capi wasm64:/" "$room/crates.txt"
 
 # A kit like rt's own, whose clang compiles vectors to simd128, which hosts with 64-bit addresses have. Without it vectors are
 # compiled a lane at a time, and AES-GCM is 10 times slower.
@@ -35,12 +36,9 @@ printf '#!/bin/sh\nexec "%s" "$@" -msimd128\n' "$kit/toolchain/bin/clang" > "$cl
 chmod +x "$clang"
 PATH=$room/kit/bin:$PATH
 
-for name in capi aead; do
-    proved "$room" "$name" lib "$@"
-    grep -q simd128 "$room/crates/$name/out/$name.wasm" || { echo "$name.wasm has no simd128" >&2; exit 1; }
-done
-cp "$room/crates/capi/out/capi.wasm" "$package/keywrap.wasm"
-cp "$room/crates/aead/out/aead.wasm" "$package/"
+proved "$room" capi lib "$@"
+grep -q simd128 "$room/crates/capi/out/capi.wasm" || { echo "capi.wasm has no simd128" >&2; exit 1; }
+cp "$room/crates/capi/out/capi.wasm" "$package/aeadkit.wasm"
 cp wasm/aeadkit.mjs wasm/aeadkit.d.mts wasm/node.mjs wasm/node.d.mts "$package/"
 filled wasm/package.json "$(version_of "$repository")" > "$package/package.json"
 ./wasm-check.sh "$prefix"

@@ -16,7 +16,7 @@ export type Suite = (typeof Suite)[keyof typeof Suite];
 /** The names of the faults, each of which has a class. */
 export type Fault =
     | "KeyLength" | "NonceLength" | "TextTooLong" | "AadTooLong" | "TooShort" | "TagMismatch" | "TagLength" | "WrapLength"
-    | "WrapIntegrity" | "SourceChanged" | "UnknownSuite" | "NotBegun";
+    | "WrapIntegrity" | "SourceChanged" | "UnknownSuite" | "NotBegun" | "NotSaved";
 
 /** Why a call failed: each fault is a class that extends this one. */
 export abstract class Refused extends Error {
@@ -35,7 +35,7 @@ export class AadTooLong extends Refused { readonly fault: "AadTooLong"; }
 export class TooShort extends Refused { readonly fault: "TooShort"; }
 /** Authentication failed: suite, key, nonce, associated data, ciphertext and tag do not belong together. */
 export class TagMismatch extends Refused { readonly fault: "TagMismatch"; }
-/** The tag that an `Opener` is begun with is not 16 bytes long. */
+/** The tag that a call is given is not 16 bytes long. */
 export class TagLength extends Refused { readonly fault: "TagLength"; }
 /** The length is not a multiple of 8, or too short: each call says which lengths it takes. */
 export class WrapLength extends Refused { readonly fault: "WrapLength"; }
@@ -43,10 +43,12 @@ export class WrapLength extends Refused { readonly fault: "WrapLength"; }
 export class WrapIntegrity extends Refused { readonly fault: "WrapIntegrity"; }
 /** The second pass or reading had other bytes than the first. */
 export class SourceChanged extends Refused { readonly fault: "SourceChanged"; }
-/** There is no suite of this number, or the call does not take it. */
+/** There is no suite of this number or name, or the call does not take it. */
 export class UnknownSuite extends Refused { readonly fault: "UnknownSuite"; }
-/** The state is finished, or is not in the pass or reading that the call belongs to. */
+/** The key or the state is wiped, or the state is finished, or is not in the pass or reading that the call belongs to. */
 export class NotBegun extends Refused { readonly fault: "NotBegun"; }
+/** The bytes are not a saved state of this class and suite, in the layout of this module. */
+export class NotSaved extends Refused { readonly fault: "NotSaved"; }
 
 /** The options of a call: a plain object, its last argument. A call throws a `TypeError` if it has a key of another name. */
 export interface Options {
@@ -55,9 +57,10 @@ export interface Options {
 }
 
 /**
- * The calls of aead.wasm, whose bytes are handed in.
+ * The calls of aeadkit.wasm that seal and open. The bytes of that file are handed in.
  *
- * A call that throws has changed none of its arguments, and each result is an array of its own.
+ * A call that throws has changed none of its arguments. Each result is an array of its own, and the calls named InPlace alone
+ * change an argument.
  *
  * Here and in the classes below, a call throws a `TypeError`, before the faults that it names, if an argument is not a Uint8Array
  * where one is wanted, or if its options are not a plain object. In version 2.0 the associated data stood before the text or the
@@ -84,11 +87,51 @@ export class Aead {
      * `TagMismatch`.
      */
     open(suite: Suite, key: Uint8Array, nonce: Uint8Array, sealed: Uint8Array, options?: Options): Uint8Array;
+
+    /**
+     * Seals a text where it stands: `text` becomes its ciphertext. Returns the tag of 16 bytes.
+     *
+     * Never use a nonce twice under one key. If two texts are sealed with one nonce and key, ChaCha20-Poly1305 and AES-GCM give
+     * away the XOR of the two texts, and enough to forge messages; AES-GCM-SIV gives away only whether the texts and the
+     * associated data were the same. No call notices a repeated nonce.
+     *
+     * Throws the first of these that fits: `UnknownSuite`, `KeyLength`, `NonceLength`, `AadTooLong`, `TextTooLong`.
+     */
+    sealInPlace(suite: Suite, key: Uint8Array, nonce: Uint8Array, text: Uint8Array, options?: Options): Uint8Array;
+
+    /**
+     * Opens a ciphertext where it stands: `ciphertext` becomes its text. The tag is apart.
+     *
+     * Throws the first of these that fits: `TagLength`, `UnknownSuite`, `KeyLength`, `NonceLength`, `AadTooLong`, `TextTooLong`,
+     * `TagMismatch`. The ciphertext is unchanged then.
+     */
+    openInPlace(
+        suite: Suite, key: Uint8Array, nonce: Uint8Array, ciphertext: Uint8Array, tag: Uint8Array, options?: Options,
+    ): void;
+
+    /** Returns the length of a suite's keys in bytes. Throws `UnknownSuite` if no suite has the number. */
+    keyLength(suite: Suite): number;
+
+    /** Returns the length of a suite's longest text in bytes. Throws `UnknownSuite` if no suite has the number. */
+    textLimit(suite: Suite): bigint;
+
+    /** Returns the length of a suite's longest associated data in bytes. Throws `UnknownSuite` if no suite has the number. */
+    aadLimit(suite: Suite): bigint;
+
+    /**
+     * Returns the suite with a name, which is one of those that the command takes, as `aes-256-gcm-siv`. Throws `UnknownSuite` if
+     * no suite has the name, and a `TypeError` if it is not a string.
+     */
+    suiteNamed(name: string): Suite;
+
+    /** The version of the module, as `3.0.0`. */
+    readonly version: string;
 }
 
 /**
- * A suite and a key, whose key schedule is made once, for the calls of one `Aead`. It is not cloned: `structuredClone` and
- * `postMessage` give an object that has none of its calls.
+ * A suite and a key, whose key schedule is made once, for the calls of one `Aead`. Its memory holds the key until `wipe`. It is
+ * not cloned: `structuredClone` and `postMessage` give an object that has none of its calls. After `wipe` its calls throw
+ * `NotBegun`.
  */
 export class Key {
     /**
@@ -119,14 +162,54 @@ export class Key {
     open(nonce: Uint8Array, sealed: Uint8Array, options?: Options): Uint8Array;
 
     /**
+     * Seals a text where it stands: `text` becomes its ciphertext. Returns the tag of 16 bytes.
+     *
+     * Never use a nonce twice under one key. If two texts are sealed with one nonce and key, ChaCha20-Poly1305 and AES-GCM give
+     * away the XOR of the two texts, and enough to forge messages; AES-GCM-SIV gives away only whether the texts and the
+     * associated data were the same. No call notices a repeated nonce.
+     *
+     * Throws the first of these that fits: `NonceLength`, `AadTooLong`, `TextTooLong`.
+     */
+    sealInPlace(nonce: Uint8Array, text: Uint8Array, options?: Options): Uint8Array;
+
+    /**
+     * Opens a ciphertext where it stands: `ciphertext` becomes its text. The tag is apart.
+     *
+     * Throws the first of these that fits: `TagLength`, `NonceLength`, `AadTooLong`, `TextTooLong`, `TagMismatch`. The ciphertext
+     * is unchanged then.
+     */
+    openInPlace(nonce: Uint8Array, ciphertext: Uint8Array, tag: Uint8Array, options?: Options): void;
+
+    /**
      * Begins a sealing in pieces, of an empty text so far.
      *
      * Never use a nonce twice under one key: two texts sealed with one nonce give away their XOR, and enough to forge messages.
      *
-     * Throws the first of these that fits: `UnknownSuite` for AES-GCM-SIV, which reads a text twice (`SivSealer` serves it),
+     * Throws the first of these that fits: `UnknownSuite` for AES-GCM-SIV, which reads a text twice (`sivSealer` serves it),
      * `NonceLength`, `AadTooLong`.
      */
     sealer(nonce: Uint8Array, options?: Options): Sealer;
+
+    /**
+     * Begins an opening in pieces of a ciphertext with a tag of 16 bytes.
+     *
+     * Throws the first of these that fits: `TagLength`, `NonceLength`, `AadTooLong`.
+     */
+    opener(nonce: Uint8Array, tag: Uint8Array, options?: Options): Opener;
+
+    /**
+     * Begins a sealing in pieces under AES-GCM-SIV, of an empty text so far.
+     *
+     * Never use a nonce twice under one key: two texts sealed with one nonce give away whether they and the associated data are
+     * the same.
+     *
+     * Throws the first of these that fits: `UnknownSuite` for ChaCha20-Poly1305 and AES-GCM (`sealer` serves them),
+     * `NonceLength`, `AadTooLong`.
+     */
+    sivSealer(nonce: Uint8Array, options?: Options): SivSealer;
+
+    /** Leaves zeros in the key's memory. Each call after it throws `NotBegun`. What the key began goes on. */
+    wipe(): void;
 }
 
 /**
@@ -156,12 +239,36 @@ export class Sealer {
 
     /** Ends the sealing, and returns the tag of 16 bytes. Throws `NotBegun` if it was ended before. */
     finish(): Uint8Array;
+
+    /**
+     * Ends the sealing here, and returns the 96 bytes that `resume` takes to go on with it, after a restart, say. Throws
+     * `NotBegun` after `finish`.
+     *
+     * NEVER RESUME ONE SAVED STATE TWICE. Two texts would be sealed under one nonce, which gives away their XOR, and enough to
+     * forge messages. Mark the stored state as used before the first piece that follows it is sealed. If a crash leaves open
+     * whether it was used, begin a new sealing under a new nonce.
+     *
+     * Keep the bytes as secret as the key, since messages can be forged with them, and where nobody else can write, since nothing
+     * authenticates them. The key, the nonce and the place that was reached in the text are not among them.
+     */
+    save(): Uint8Array;
+
+    /**
+     * Goes on with the sealing that `save` ended. Suite, key and nonce are those that it was begun with; another key or nonce is
+     * not noticed here, and the sealing cannot be opened. Never resume one saved state twice: see `save`.
+     *
+     * Throws the first of these that fits: `UnknownSuite` if the suite is not a number, `NotSaved`, `KeyLength`, `NonceLength`.
+     */
+    static resume(aead: Aead, suite: Suite, key: Uint8Array, nonce: Uint8Array, saved: Uint8Array): Sealer;
+
+    /** Gives the sealing up, and leaves zeros in its memory, as `finish` does. */
+    wipe(): void;
 }
 
 /**
- * An opening in pieces, under every suite, in two passes over the ciphertext: `check` for each piece, then `checked`; then
- * `update` for each piece again, then `finish`. The passes may be split in different ways. No text comes before the whole first
- * pass was authenticated. A state is not cloned, as that of `Sealer`.
+ * An opening in pieces, under every suite, in two passes over the ciphertext: `check` for each piece, then `beginSecond`;
+ * then `update` for each piece again, then `finish`. The passes may be split in different ways. No text comes before the whole
+ * first pass was authenticated. A state is not cloned, as that of `Sealer`.
  */
 export class Opener {
     /**
@@ -180,15 +287,15 @@ export class Opener {
     check(piece: Uint8Array): void;
 
     /**
-     * Ends the first pass. Throws `TagMismatch` if authentication failed, which ends the opening, and `NotBegun` after the first
-     * pass.
+     * Ends the first pass and begins the second. Throws `TagMismatch` if authentication failed, which ends the opening, and
+     * `NotBegun` after the first pass.
      */
-    checked(): void;
+    beginSecond(): void;
 
     /**
      * Returns the text of the next piece of the ciphertext in the second pass, which may be used once `finish` has returned.
      *
-     * Throws `NotBegun` before `checked` and after `finish`, and `SourceChanged` if the second pass would be longer than the
+     * Throws `NotBegun` before `beginSecond` and after `finish`, and `SourceChanged` if the second pass would be longer than the
      * first.
      */
     update(piece: Uint8Array): Uint8Array;
@@ -198,12 +305,32 @@ export class Opener {
      * `NotBegun` as `update` does.
      */
     finish(): void;
+
+    /**
+     * Returns the 144 bytes that `resume` takes to go on from here, in either pass. The opening itself goes on too. Throws
+     * `NotBegun` after `finish`.
+     *
+     * Keep the bytes as secret as the key, and where nobody else can write: that the first pass was authenticated is known from
+     * them alone. The key, the nonce and the place that was reached in the ciphertext are not among them.
+     */
+    save(): Uint8Array;
+
+    /**
+     * Goes on with the opening that `save` saved, in the pass that it was in. Suite, key and nonce are those that it was begun
+     * with; another key or nonce is not noticed here, and what `update` then returns is of no use.
+     *
+     * Throws the first of these that fits: `UnknownSuite` if the suite is not a number, `NotSaved`, `KeyLength`, `NonceLength`.
+     */
+    static resume(aead: Aead, suite: Suite, key: Uint8Array, nonce: Uint8Array, saved: Uint8Array): Opener;
+
+    /** Gives the opening up, and leaves zeros in its memory, as `finish` does. */
+    wipe(): void;
 }
 
 /**
- * A sealing in pieces under AES-GCM-SIV, whose tag is over the text, by two readings of it: `absorb` for each piece, then `tag`;
- * then `update` for each piece again, then `finish`. The readings may be split in different ways. The ciphertext of all pieces,
- * and then the tag, is what `seal` makes of the whole text. A state is not cloned, as that of `Sealer`.
+ * A sealing in pieces under AES-GCM-SIV, whose tag is over the text, by two readings of it: `absorb` for each piece, then
+ * `beginSecond`; then `update` for each piece again, then `finish`. The readings may be split in different ways. The ciphertext of
+ * all pieces, and then the tag, is what `seal` makes of the whole text. A state is not cloned, as that of `Sealer`.
  */
 export class SivSealer {
     /**
@@ -225,13 +352,13 @@ export class SivSealer {
      */
     absorb(piece: Uint8Array): void;
 
-    /** Ends the first reading, and returns the tag of 16 bytes. Throws `NotBegun` after the first reading. */
-    tag(): Uint8Array;
+    /** Ends the first reading and begins the second. Returns the tag of 16 bytes. Throws `NotBegun` after the first reading. */
+    beginSecond(): Uint8Array;
 
     /**
      * Returns the ciphertext of the next piece of the text in the second reading, which may be used once `finish` has returned.
      *
-     * Throws `NotBegun` before `tag` and after `finish`, and `SourceChanged` if the second reading would be longer than the
+     * Throws `NotBegun` before `beginSecond` and after `finish`, and `SourceChanged` if the second reading would be longer than the
      * first.
      */
     update(piece: Uint8Array): Uint8Array;
@@ -241,9 +368,34 @@ export class SivSealer {
      * `update` returned then. Throws `NotBegun` as `update` does.
      */
     finish(): void;
+
+    /**
+     * Ends the sealing here, and returns the 144 bytes that `resume` takes to go on with it, after a restart, say. Throws
+     * `NotBegun` after `finish`.
+     *
+     * NEVER RESUME ONE SAVED STATE TWICE. Two texts would be encrypted with one key stream, which gives away their XOR. Mark the
+     * stored state as used before the first piece that follows it is sealed. If a crash leaves open whether it was used, begin a
+     * new sealing under a new nonce.
+     *
+     * Keep the bytes as secret as the key, since messages can be forged with them, and where nobody else can write, since nothing
+     * authenticates them. The key, the nonce and the place that was reached in the text are not among them.
+     */
+    save(): Uint8Array;
+
+    /**
+     * Goes on with the sealing that `save` ended, in the reading that it was in. Suite, key and nonce are those that it was begun
+     * with; another key or nonce is not noticed here, and the sealing cannot be opened. Never resume one saved state twice: see
+     * `save`.
+     *
+     * Throws the first of these that fits: `UnknownSuite` if the suite is not a number, `NotSaved`, `KeyLength`, `NonceLength`.
+     */
+    static resume(aead: Aead, suite: Suite, key: Uint8Array, nonce: Uint8Array, saved: Uint8Array): SivSealer;
+
+    /** Gives the sealing up, and leaves zeros in its memory, as `finish` does. */
+    wipe(): void;
 }
 
-/** The calls of keywrap.wasm, whose bytes are handed in. A key is 16, 24 or 32 bytes long, or the fault is `KeyLength`. */
+/** The calls of aeadkit.wasm that wrap and unwrap. The bytes of that file are handed in. A key is 16, 24 or 32 bytes long, or the fault is `KeyLength`. */
 export class KeyWrap {
     constructor(bytes: ArrayBuffer | ArrayBufferView);
 

@@ -1,12 +1,13 @@
-// Authenticated encryption (RFC 8439, SP 800-38D, RFC 8452) and key wrapping (RFC 3394, RFC 5649), by aead.wasm and keywrap.wasm.
+// Authenticated encryption (RFC 8439, SP 800-38D, RFC 8452) and key wrapping (RFC 3394, RFC 5649), by aeadkit.wasm.
 //
 // Keys, nonces, data and texts are Uint8Arrays, and so is each result; anything else is a TypeError. Arguments come in one order:
 // suite, key, nonce, text or sealed bytes. Associated data is given by name, { aad }, in an object that stands last, and is empty
 // if it is left out. A call that fails throws one of the classes of Refused; aeadkit.d.mts says which, and what it means.
 //
 // Never use a nonce twice under one key: nothing here notices it, and aeadkit.d.mts says what it gives away. Nothing is claimed
-// of timing, since AES looks tables up by secret bytes. Nothing is wiped but the struct of a finished sealing or opening: the
-// modules' memories keep what the last calls left. The memories have 64-bit addresses.
+// of timing, since AES looks tables up by secret bytes. A call leaves zeros where its arguments and results stood in the module's
+// memory, but not on the module's stack. A Key and the states in pieces hold their structs until they are wiped or finished. The
+// memories have 64-bit addresses.
 
 const TAG_BYTES = 16;
 const WRAP_BYTES = 8;
@@ -30,7 +31,7 @@ export class Refused extends Error {
 
 export class KeyLength extends Refused {
     static fault = "KeyLength";
-    static message = "the key's length is not the suite's, or for key wrapping not 16, 24 or 32 bytes";
+    static message = "the key is not as long as the suite's keys, or for key wrapping not 16, 24 or 32 bytes";
 }
 
 export class NonceLength extends Refused {
@@ -88,7 +89,12 @@ export class NotBegun extends Refused {
     static message = "not begun, or already finished";
 }
 
-// The faults by their statuses. The length of a tag has none, since a module takes 16 bytes.
+export class NotSaved extends Refused {
+    static fault = "NotSaved";
+    static message = "not a saved state of this class and suite";
+}
+
+// The faults by their statuses. The length of a tag has none, since the library takes 16 bytes.
 const FAULTS = {
     1: KeyLength, 2: NonceLength, 3: TextTooLong, 4: AadTooLong, 5: TooShort, 6: TagMismatch, 7: WrapLength, 8: WrapIntegrity,
     13: SourceChanged, 14: UnknownSuite, 15: NotBegun,
@@ -114,6 +120,14 @@ function aadOf(options) {
     return aad === undefined ? new Uint8Array(0) : aad;
 }
 
+// Throws if a tag is not bytes, or not as many as a tag has.
+function wantTag(tag) {
+    wantBytes(tag);
+    if (tag.length !== TAG_BYTES) {
+        throw new TagLength();
+    }
+}
+
 // Throws if a suite is not a number, which a module would read as one.
 function wantNumber(suite) {
     if (!Number.isInteger(suite) || suite < 0 || suite >= 2 ** 32) {
@@ -136,49 +150,126 @@ function grow(memory, pages) {
 // The next place that fits a struct.
 const aligned = (place) => 8 * Math.ceil(place / 8);
 
-// Bytes that a call takes by their address alone and may write: a struct, a tag or a number.
-class Struct extends Uint8Array {}
+// How a call takes bytes: by their address, and by their length unless that is known to the call. It reads what stands in `from`
+// if that is given, and what it leaves there goes to `to` if that is given. A Uint8Array by itself is an input.
+const input = (from) => ({ from, hasLength: true });
+const output = (to) => ({ to, hasLength: true });
+const inPlace = (from, to = from) => ({ from, to, hasLength: true });
+const constant = (from) => ({ from, hasLength: false });
+const result = (to) => ({ to, hasLength: false });
+const struct = (bytes) => ({ from: bytes, to: bytes, hasLength: false });
 
-// A module with a memory of its own, in which the bytes of a call stand past what the module itself uses.
+// A module with a memory of its own, in which the bytes of a call stand past what the module itself uses, between two calls zeros.
 class Module {
     constructor(bytes) {
-        this.calls = new WebAssembly.Instance(new WebAssembly.Module(bytes), {}).exports;
-        this.heap = aligned(Number(this.calls.__heap_base.value));
+        this.exports = new WebAssembly.Instance(new WebAssembly.Module(bytes), {}).exports;
+        this.heap = aligned(Number(this.exports.__heap_base.value));
     }
 
-    // Calls with each word: a pointer to a Struct, which is then as the call left it, a pointer and a length for any other
-    // array, and a number as it is. Returns the arrays as they then stand in the memory.
-    call(name, ...words) {
-        const { memory } = this.calls;
+    // Calls with bytes and numbers, and returns what the call returns.
+    invoke(name, ...words) {
+        const { memory } = this.exports;
         const placed = [];
         let end = this.heap;
         const given = words.flatMap((word) => {
-            if (!(word instanceof Uint8Array)) {
+            if (typeof word === "number") {
                 return [word];
             }
+            const { from, to, hasLength } = word instanceof Uint8Array ? input(word) : word;
+            const { length } = from ?? to;
             const place = end;
-            placed.push([word, place]);
-            end = aligned(place + word.length);
-            return word instanceof Struct ? [BigInt(place)] : [BigInt(place), BigInt(word.length)];
+            placed.push({ from, to, place, length });
+            end = aligned(place + length);
+            return hasLength ? [BigInt(place), BigInt(length)] : [BigInt(place)];
         });
         if (end > memory.buffer.byteLength) {
             grow(memory, Math.ceil((end - memory.buffer.byteLength) / 65536));
         }
-        const standing = placed.map(([array, place]) => new Uint8Array(memory.buffer, place, array.length));
-        placed.forEach(([array], i) => standing[i].set(array));
-        const status = this.calls[name](...given);
-        placed.forEach(([array], i) => array instanceof Struct && array.set(standing[i]));
-        if (status !== 0) {
-            throw new FAULTS[status]();
+        const standing = ({ place, length }) => new Uint8Array(memory.buffer, place, length);
+        placed.filter(({ from }) => from).forEach((bytes) => standing(bytes).set(bytes.from));
+        const returned = this.exports[name](...given);
+        placed.filter(({ to }) => to).forEach((bytes) => bytes.to.set(standing(bytes)));
+        new Uint8Array(memory.buffer, this.heap, end - this.heap).fill(0);
+        return returned;
+    }
+
+    // Calls with bytes and numbers. Throws the fault of any status but 0.
+    call(name, ...words) {
+        const status = this.invoke(name, ...words);
+        if (status) {
+            throw status in FAULTS ? new FAULTS[status]() : new Error(`the library returned the unknown status ${status}`);
         }
-        return standing;
+    }
+
+    // Calls with bytes and numbers, of which the last is an output of some length. Returns it.
+    made(length, name, ...words) {
+        const bytes = new Uint8Array(length);
+        this.call(name, ...words, output(bytes));
+        return bytes;
+    }
+}
+
+// A struct of the library, by the calls of the module that began it.
+class Struct {
+    #module;
+    #bytes;
+
+    // Begins a struct of a kind by a call.
+    constructor(module, kind, name, ...words) {
+        this.#module = module;
+        this.#bytes = new Uint8Array(Number(module.exports[`aeadkit_${kind}_size`]()));
+        this.call(name, ...words);
+    }
+
+    // Calls with the struct, which the call may change, and then bytes and numbers.
+    call(name, ...words) {
+        this.#module.call(name, struct(this.#bytes), ...words);
+    }
+
+    // Calls with the struct and a piece, and returns what the piece becomes.
+    changed(name, piece) {
+        const bytes = new Uint8Array(piece.length);
+        this.call(name, inPlace(piece, bytes));
+        return bytes;
+    }
+
+    // Calls with the struct, and returns the bytes that the call writes, of a length that it knows.
+    made(length, name) {
+        const bytes = new Uint8Array(length);
+        this.call(name, result(bytes));
+        return bytes;
+    }
+
+    // The struct as an argument that a call only reads.
+    get constant() {
+        return constant(this.#bytes);
     }
 }
 
 // The module of an Aead, for the classes beside it.
 let moduleOf;
 
-/** The calls of aead.wasm, whose bytes are handed in. */
+// The lengths of saved states in bytes.
+const SAVED_SEALER_BYTES = 96;
+const SAVED_PASSES_BYTES = 144;
+
+// Returns the struct of a kind that was saved as so many bytes. The first 8 are a mark, which names the kind, the pass, the version
+// of the layout and, in its lowest byte, the suite.
+function resumed(aead, kind, length, suite, key, nonce, saved) {
+    const module = moduleOf(aead);
+    wantBytes(key, nonce, saved);
+    wantNumber(suite);
+    if (saved.length !== length || saved[0] !== suite) {
+        throw new NotSaved();
+    }
+    try {
+        return new Struct(module, kind, `aeadkit_${kind}_resume`, key, nonce, constant(saved));
+    } catch (error) {
+        throw error instanceof NotBegun ? new NotSaved() : error;
+    }
+}
+
+/** The calls of aeadkit.wasm that seal and open. The bytes of that file are handed in. */
 export class Aead {
     #module;
 
@@ -200,9 +291,7 @@ export class Aead {
         const aad = aadOf(options);
         wantBytes(key, nonce, text, aad);
         wantNumber(suite);
-        const room = new Uint8Array(text.length + TAG_BYTES);
-        room.set(text);
-        return this.#module.call("aeadkit_seal", suite, key, nonce, aad, room).at(-1).slice();
+        return this.#module.made(text.length + TAG_BYTES, "aeadkit_seal", suite, key, nonce, aad, text);
     }
 
     /** Returns the text of what `seal` made. */
@@ -210,30 +299,76 @@ export class Aead {
         const aad = aadOf(options);
         wantBytes(key, nonce, sealed, aad);
         wantNumber(suite);
-        return this.#module.call("aeadkit_open", suite, key, nonce, aad, sealed).at(-1).slice(0, -TAG_BYTES);
-    }
-}
-
-// A sealing in pieces that a call of a module began, with its struct.
-class Begun {
-    #module;
-    #state;
-
-    constructor(module, name, ...words) {
-        this.#module = module;
-        this.#state = new Struct(Number(module.calls.aeadkit_sealer_size()));
-        this.call(name, ...words);
+        return this.#module.made(Math.max(0, sealed.length - TAG_BYTES), "aeadkit_open", suite, key, nonce, aad, sealed);
     }
 
-    call(name, ...words) {
-        return this.#module.call(name, this.#state, ...words);
+    /** Makes a text its ciphertext, and returns the tag of 16 bytes. Never use a nonce twice under one key. */
+    sealInPlace(suite, key, nonce, text, options = {}) {
+        const aad = aadOf(options);
+        wantBytes(key, nonce, text, aad);
+        wantNumber(suite);
+        const tag = new Uint8Array(TAG_BYTES);
+        this.#module.call("aeadkit_seal_in_place", suite, key, nonce, aad, inPlace(text), result(tag));
+        return tag;
+    }
+
+    /** Makes a ciphertext with a tag of 16 bytes its text. */
+    openInPlace(suite, key, nonce, ciphertext, tag, options = {}) {
+        const aad = aadOf(options);
+        wantBytes(key, nonce, ciphertext, aad);
+        wantTag(tag);
+        wantNumber(suite);
+        this.#module.call("aeadkit_open_in_place", suite, key, nonce, aad, inPlace(ciphertext), constant(tag));
+    }
+
+    /** Returns the length of a suite's keys in bytes. */
+    keyLength(suite) {
+        return Number(this.#fact("aeadkit_key_length", suite));
+    }
+
+    /** Returns the length of a suite's longest text in bytes, as a BigInt. */
+    textLimit(suite) {
+        return BigInt.asUintN(64, this.#fact("aeadkit_text_limit", suite));
+    }
+
+    /** Returns the length of a suite's longest associated data in bytes, as a BigInt. */
+    aadLimit(suite) {
+        return BigInt.asUintN(64, this.#fact("aeadkit_aad_limit", suite));
+    }
+
+    /** Returns the number of the suite with a name, as aes-256-gcm. */
+    suiteNamed(name) {
+        if (typeof name !== "string") {
+            throw new TypeError("a name is wanted");
+        }
+        const suite = this.#module.invoke("aeadkit_suite_named", new TextEncoder().encode(name));
+        if (suite === 0) {
+            throw new UnknownSuite();
+        }
+        return suite;
+    }
+
+    /** The version of the module. */
+    get version() {
+        const number = this.#module.invoke("aeadkit_version");
+        return [Math.floor(number / 10000), Math.floor(number / 100) % 100, number % 100].join(".");
+    }
+
+    // What the module says of a suite, which is a 0 if there is no such suite.
+    #fact(name, suite) {
+        wantNumber(suite);
+        const fact = this.#module.invoke(name, suite);
+        if (fact === 0n) {
+            throw new UnknownSuite();
+        }
+        return fact;
     }
 }
 
 /** A suite and a key, whose key schedule is made once, for the calls of one Aead. */
 export class Key {
     #module;
-    #state;
+    #struct;
     #suite;
 
     constructor(aead, suite, key) {
@@ -241,8 +376,7 @@ export class Key {
         wantBytes(key);
         wantNumber(suite);
         this.#suite = suite;
-        this.#state = new Struct(Number(this.#module.calls.aeadkit_key_size()));
-        this.#module.call("aeadkit_key_init", this.#state, suite, key);
+        this.#struct = new Struct(this.#module, "key", "aeadkit_key_init", suite, key);
     }
 
     /** The suite. */
@@ -254,142 +388,232 @@ export class Key {
     seal(nonce, text, options = {}) {
         const aad = aadOf(options);
         wantBytes(nonce, text, aad);
-        const room = new Uint8Array(text.length + TAG_BYTES);
-        room.set(text);
-        return this.#module.call("aeadkit_seal_with", this.#state, nonce, aad, room).at(-1).slice();
+        return this.#module.made(text.length + TAG_BYTES, "aeadkit_seal_with", this.#struct.constant, nonce, aad, text);
     }
 
     /** Returns the text of what `seal` made. */
     open(nonce, sealed, options = {}) {
         const aad = aadOf(options);
         wantBytes(nonce, sealed, aad);
-        return this.#module.call("aeadkit_open_with", this.#state, nonce, aad, sealed).at(-1).slice(0, -TAG_BYTES);
+        const length = Math.max(0, sealed.length - TAG_BYTES);
+        return this.#module.made(length, "aeadkit_open_with", this.#struct.constant, nonce, aad, sealed);
+    }
+
+    /** Makes a text its ciphertext, and returns the tag of 16 bytes. Never use a nonce twice under one key. */
+    sealInPlace(nonce, text, options = {}) {
+        const aad = aadOf(options);
+        wantBytes(nonce, text, aad);
+        const tag = new Uint8Array(TAG_BYTES);
+        this.#module.call("aeadkit_seal_in_place_with", this.#struct.constant, nonce, aad, inPlace(text), result(tag));
+        return tag;
+    }
+
+    /** Makes a ciphertext with a tag of 16 bytes its text. */
+    openInPlace(nonce, ciphertext, tag, options = {}) {
+        const aad = aadOf(options);
+        wantBytes(nonce, ciphertext, aad);
+        wantTag(tag);
+        this.#module.call("aeadkit_open_in_place_with", this.#struct.constant, nonce, aad, inPlace(ciphertext), constant(tag));
     }
 
     /** Begins a sealing in pieces, of an empty text so far. Never use a nonce twice under one key. */
     sealer(nonce, options = {}) {
         const aad = aadOf(options);
         wantBytes(nonce, aad);
-        return new Sealer(new Begun(this.#module, "aeadkit_sealer_init_with", this.#state, nonce, aad));
+        return new Sealer(new Struct(this.#module, "sealer", "aeadkit_sealer_init_with", this.#struct.constant, nonce, aad));
+    }
+
+    /** Begins an opening in pieces of a ciphertext with a tag of 16 bytes. */
+    opener(nonce, tag, options = {}) {
+        const aad = aadOf(options);
+        wantBytes(nonce, aad);
+        wantTag(tag);
+        const words = [this.#struct.constant, nonce, aad, constant(tag)];
+        return new Opener(new Struct(this.#module, "opener", "aeadkit_opener_init_with", ...words));
+    }
+
+    /** Begins a sealing in pieces under AES-GCM-SIV, of an empty text so far. Never use a nonce twice under one key. */
+    sivSealer(nonce, options = {}) {
+        const aad = aadOf(options);
+        wantBytes(nonce, aad);
+        return new SivSealer(new Struct(this.#module, "siv", "aeadkit_siv_init_with", this.#struct.constant, nonce, aad));
+    }
+
+    /** Leaves zeros in the key's memory. Each call after it throws `NotBegun`. */
+    wipe() {
+        this.#struct.call("aeadkit_key_wipe");
     }
 }
 
 /** A sealing in pieces, under ChaCha20-Poly1305 or AES-GCM: `update` for each piece of the text, then `finish`. */
 export class Sealer {
-    #begun;
+    #struct;
 
     /** Begins a sealing by the calls of an Aead, of an empty text so far. Never use a nonce twice under one key. */
     constructor(aead, suite, key, nonce, options = {}) {
-        // what a Key began
-        if (aead instanceof Begun) {
-            this.#begun = aead;
+        // what a Key began, or what was resumed
+        if (aead instanceof Struct) {
+            this.#struct = aead;
             return;
         }
         const module = moduleOf(aead);
         const aad = aadOf(options);
         wantBytes(key, nonce, aad);
         wantNumber(suite);
-        this.#begun = new Begun(module, "aeadkit_sealer_init", suite, key, nonce, aad);
+        this.#struct = new Struct(module, "sealer", "aeadkit_sealer_init", suite, key, nonce, aad);
     }
 
     /** Returns the ciphertext of the next piece of the text, of any length. */
     update(piece) {
         wantBytes(piece);
-        return this.#begun.call("aeadkit_sealer_update", piece).at(-1).slice();
+        return this.#struct.changed("aeadkit_sealer_update", piece);
     }
 
     /** Ends the sealing, and returns the tag of 16 bytes. */
     finish() {
-        return this.#begun.call("aeadkit_sealer_finish", new Struct(TAG_BYTES)).at(-1).slice();
+        return this.#struct.made(TAG_BYTES, "aeadkit_sealer_finish");
+    }
+
+    /** Ends the sealing here, and returns the bytes that `resume` takes. Never resume from them twice. */
+    save() {
+        const saved = this.#struct.made(SAVED_SEALER_BYTES, "aeadkit_sealer_save");
+        this.wipe();
+        return saved;
+    }
+
+    /** Goes on with the sealing that `save` ended. Never resume one saved state twice. */
+    static resume(aead, suite, key, nonce, saved) {
+        return new Sealer(resumed(aead, "sealer", SAVED_SEALER_BYTES, suite, key, nonce, saved));
+    }
+
+    /** Gives the sealing up, and leaves zeros in its memory. */
+    wipe() {
+        this.#struct.call("aeadkit_sealer_wipe");
     }
 }
 
 /**
- * An opening in pieces, under every suite, in two passes over the ciphertext: `check` for each piece, then `checked`; then
+ * An opening in pieces, under every suite, in two passes over the ciphertext: `check` for each piece, then `beginSecond`; then
  * `update` for each piece again, then `finish`.
  */
 export class Opener {
-    #module;
-    #state;
+    #struct;
 
     /** Begins an opening of a ciphertext with a tag of 16 bytes by the calls of an Aead. */
     constructor(aead, suite, key, nonce, tag, options = {}) {
-        this.#module = moduleOf(aead);
-        const aad = aadOf(options);
-        wantBytes(key, nonce, tag, aad);
-        if (tag.length !== TAG_BYTES) {
-            throw new TagLength();
+        // what a Key began, or what was resumed
+        if (aead instanceof Struct) {
+            this.#struct = aead;
+            return;
         }
+        const module = moduleOf(aead);
+        const aad = aadOf(options);
+        wantBytes(key, nonce, aad);
+        wantTag(tag);
         wantNumber(suite);
-        this.#state = new Struct(Number(this.#module.calls.aeadkit_opener_size()));
-        this.#module.call("aeadkit_opener_init", this.#state, suite, key, nonce, aad, new Struct(tag));
+        this.#struct = new Struct(module, "opener", "aeadkit_opener_init", suite, key, nonce, aad, constant(tag));
     }
 
     /** Takes the next piece of the ciphertext in the first pass. */
     check(piece) {
         wantBytes(piece);
-        this.#module.call("aeadkit_opener_check", this.#state, piece);
+        this.#struct.call("aeadkit_opener_check", piece);
     }
 
-    /** Ends the first pass. Throws `TagMismatch` if authentication failed, which ends the opening. */
-    checked() {
-        this.#module.call("aeadkit_opener_checked", this.#state);
+    /** Ends the first pass and begins the second. Throws `TagMismatch` if authentication failed, which ends the opening. */
+    beginSecond() {
+        this.#struct.call("aeadkit_opener_begin_second");
     }
 
     /** Returns the text of the next piece of the ciphertext in the second pass. */
     update(piece) {
         wantBytes(piece);
-        return this.#module.call("aeadkit_opener_update", this.#state, piece).at(-1).slice();
+        return this.#struct.changed("aeadkit_opener_update", piece);
     }
 
     /** Ends the second pass. After `SourceChanged`, if its authentication failed, throw away what `update` returned. */
     finish() {
-        this.#module.call("aeadkit_opener_finish", this.#state);
+        this.#struct.call("aeadkit_opener_finish");
+    }
+
+    /** Returns the bytes that `resume` takes to go on from here. */
+    save() {
+        return this.#struct.made(SAVED_PASSES_BYTES, "aeadkit_opener_save");
+    }
+
+    /** Goes on with the opening that `save` saved, in the pass that it was in. */
+    static resume(aead, suite, key, nonce, saved) {
+        return new Opener(resumed(aead, "opener", SAVED_PASSES_BYTES, suite, key, nonce, saved));
+    }
+
+    /** Gives the opening up, and leaves zeros in its memory. */
+    wipe() {
+        this.#struct.call("aeadkit_opener_wipe");
     }
 }
 
 /**
- * A sealing in pieces under AES-GCM-SIV, whose tag is over the text, by two readings of it: `absorb` for each piece, then `tag`;
- * then `update` for each piece again, then `finish`.
+ * A sealing in pieces under AES-GCM-SIV, whose tag is over the text, by two readings of it: `absorb` for each piece, then
+ * `beginSecond`; then `update` for each piece again, then `finish`.
  */
 export class SivSealer {
-    #module;
-    #state;
+    #struct;
 
     /** Begins a sealing by the calls of an Aead, of an empty text so far. Never use a nonce twice under one key. */
     constructor(aead, suite, key, nonce, options = {}) {
-        this.#module = moduleOf(aead);
+        // what a Key began, or what was resumed
+        if (aead instanceof Struct) {
+            this.#struct = aead;
+            return;
+        }
+        const module = moduleOf(aead);
         const aad = aadOf(options);
         wantBytes(key, nonce, aad);
         wantNumber(suite);
-        this.#state = new Struct(Number(this.#module.calls.aeadkit_siv_size()));
-        this.#module.call("aeadkit_siv_init", this.#state, suite, key, nonce, aad);
+        this.#struct = new Struct(module, "siv", "aeadkit_siv_init", suite, key, nonce, aad);
     }
 
     /** Takes the next piece of the text in the first reading. */
     absorb(piece) {
         wantBytes(piece);
-        this.#module.call("aeadkit_siv_absorb", this.#state, piece);
+        this.#struct.call("aeadkit_siv_absorb", piece);
     }
 
-    /** Ends the first reading, and returns the tag of 16 bytes. */
-    tag() {
-        return this.#module.call("aeadkit_siv_tag", this.#state, new Struct(TAG_BYTES)).at(-1).slice();
+    /** Ends the first reading and begins the second. Returns the tag of 16 bytes. */
+    beginSecond() {
+        return this.#struct.made(TAG_BYTES, "aeadkit_siv_begin_second");
     }
 
     /** Returns the ciphertext of the next piece of the text in the second reading. */
     update(piece) {
         wantBytes(piece);
-        return this.#module.call("aeadkit_siv_update", this.#state, piece).at(-1).slice();
+        return this.#struct.changed("aeadkit_siv_update", piece);
     }
 
     /** Ends the second reading. After `SourceChanged`, if it read another text, throw away what `update` returned. */
     finish() {
-        this.#module.call("aeadkit_siv_finish", this.#state);
+        this.#struct.call("aeadkit_siv_finish");
+    }
+
+    /** Ends the sealing here, and returns the bytes that `resume` takes. Never resume from them twice. */
+    save() {
+        const saved = this.#struct.made(SAVED_PASSES_BYTES, "aeadkit_siv_save");
+        this.wipe();
+        return saved;
+    }
+
+    /** Goes on with the sealing that `save` ended. Never resume one saved state twice. */
+    static resume(aead, suite, key, nonce, saved) {
+        return new SivSealer(resumed(aead, "siv", SAVED_PASSES_BYTES, suite, key, nonce, saved));
+    }
+
+    /** Gives the sealing up, and leaves zeros in its memory. */
+    wipe() {
+        this.#struct.call("aeadkit_siv_wipe");
     }
 }
 
-/** The calls of keywrap.wasm, whose bytes are handed in. */
+/** The calls of aeadkit.wasm that wrap and unwrap. The bytes of that file are handed in. */
 export class KeyWrap {
     #module;
 
@@ -400,30 +624,27 @@ export class KeyWrap {
     /** Returns the wrapping of a text, which is 8 bytes longer. */
     wrap(key, text) {
         wantBytes(key, text);
-        const room = new Uint8Array(WRAP_BYTES + text.length);
-        room.set(text, WRAP_BYTES);
-        return this.#module.call("aeadkit_wrap", key, room).at(-1).slice();
+        return this.#module.made(text.length + WRAP_BYTES, "aeadkit_wrap", key, text);
     }
 
     /** Returns the text of what `wrap` made. */
     unwrap(key, wrapped) {
         wantBytes(key, wrapped);
-        return this.#module.call("aeadkit_unwrap", key, wrapped).at(-1).slice(WRAP_BYTES);
+        return this.#module.made(Math.max(0, wrapped.length - WRAP_BYTES), "aeadkit_unwrap", key, wrapped);
     }
 
     /** Returns the wrapping with padding of a text of 1 to 2^32 - 1 bytes. */
     wrapPadded(key, text) {
         wantBytes(key, text);
-        const room = new Uint8Array(WRAP_BYTES + 8 * Math.ceil(text.length / 8));
-        room.set(text, WRAP_BYTES);
-        return this.#module.call("aeadkit_wrap_padded", key, room, BigInt(text.length)).at(-1).slice();
+        return this.#module.made(aligned(text.length) + WRAP_BYTES, "aeadkit_wrap_padded", key, text);
     }
 
     /** Returns the text of what `wrapPadded` made. */
     unwrapPadded(key, wrapped) {
         wantBytes(key, wrapped);
-        const length = new Struct(8);
-        const room = this.#module.call("aeadkit_unwrap_padded", key, wrapped, length)[1];
-        return room.slice(WRAP_BYTES, WRAP_BYTES + Number(new DataView(length.buffer).getBigUint64(0, true)));
+        const text = new Uint8Array(Math.max(0, wrapped.length - WRAP_BYTES));
+        const length = new Uint8Array(8);
+        this.#module.call("aeadkit_unwrap_padded", key, wrapped, output(text), result(length));
+        return text.slice(0, Number(new DataView(length.buffer).getBigUint64(0, true)));
     }
 }

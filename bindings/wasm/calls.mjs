@@ -23,9 +23,9 @@ const thrown = (call) => {
 const finished = new Sealer(aead, suite, key, nonce);
 finished.finish();
 const longer = new SivSealer(aead, siv, key, nonce);
-longer.tag();
+longer.beginSecond();
 for (const [fault, message, call] of [
-    ["KeyLength", "the key's length is not the suite's, or for key wrapping not 16, 24 or 32 bytes",
+    ["KeyLength", "the key is not as long as the suite's keys, or for key wrapping not 16, 24 or 32 bytes",
         () => new Key(aead, suite, text)],
     ["NonceLength", "the nonce is not 12 bytes long", () => kept.seal(tag, text)],
     ["TooShort", "the sealed bytes are shorter than a tag of 16 bytes", () => kept.open(nonce, nonce)],
@@ -56,6 +56,19 @@ for (const [fault, call] of [
     ["UnknownSuite", () => new Sealer(aead, siv, none, none)],
     ["UnknownSuite", () => new SivSealer(aead, suite, none, none)],
     ["TagLength", () => new Opener(aead, "2", none, none, none)],
+    ["TagLength", () => aead.openInPlace("2", none, none, none, none)],
+    ["UnknownSuite", () => aead.openInPlace("2", none, none, none, tag)],
+    ["KeyLength", () => aead.openInPlace(suite, none, none, none, tag)],
+    ["NonceLength", () => aead.openInPlace(suite, key, none, none, tag)],
+    ["TagMismatch", () => aead.openInPlace(suite, key, nonce, none, tag)],
+    ["TagLength", () => kept.openInPlace(none, none, none)],
+    ["TagLength", () => kept.opener(none, none)],
+    ["NonceLength", () => kept.opener(none, tag)],
+    ["UnknownSuite", () => kept.sivSealer(none)],
+    ["NonceLength", () => new Key(aead, siv, key).sivSealer(none)],
+    ["UnknownSuite", () => aead.sealInPlace(9, none, none, none)],
+    ["KeyLength", () => aead.sealInPlace(suite, none, none, none)],
+    ["NonceLength", () => kept.sealInPlace(none, none)],
     ["KeyLength", () => new Opener(aead, siv, none, none, tag)],
     ["UnknownSuite", () => new Key(aead, siv, key).sealer(none)],
 ]) {
@@ -82,11 +95,23 @@ for (const number of Object.values(Suite)) {
     assert.deepEqual(key.seal(nonce, text, { aad }), sealed);
     assert.deepEqual(key.open(nonce, sealed, { aad }), text);
     assert.deepEqual(aead.open(number, bytes, nonce, sealed, { aad }), text);
-    const opener = new Opener(aead, number, bytes, nonce, sealed.subarray(-16), { aad });
-    opener.check(sealed.subarray(0, -16));
-    opener.checked();
-    assert.deepEqual(opener.update(sealed.subarray(0, -16)), text);
-    opener.finish();
+    const [body, itsTag] = [sealed.subarray(0, -16), sealed.subarray(-16)];
+    const changed = text.slice();
+    assert.deepEqual(aead.sealInPlace(number, bytes, nonce, changed, { aad }), new Uint8Array(itsTag));
+    assert.deepEqual(changed, new Uint8Array(body));
+    assert.throws(() => key.openInPlace(nonce, changed, tag, { aad }), aeadkit.TagMismatch);
+    assert.deepEqual(changed, new Uint8Array(body));
+    key.openInPlace(nonce, changed, itsTag, { aad });
+    assert.deepEqual(changed, text);
+    assert.deepEqual(key.sealInPlace(nonce, changed, { aad }), new Uint8Array(itsTag));
+    aead.openInPlace(number, bytes, nonce, changed, itsTag, { aad });
+    assert.deepEqual(changed, text);
+    for (const opener of [new Opener(aead, number, bytes, nonce, itsTag, { aad }), key.opener(nonce, itsTag, { aad })]) {
+        opener.check(body);
+        opener.beginSecond();
+        assert.deepEqual(opener.update(body), text);
+        opener.finish();
+    }
     for (const options of [undefined, {}, { aad: undefined }, { aad: none }, Object.create(null), Object.freeze({})]) {
         assert.deepEqual(key.seal(nonce, text, options), aead.seal(number, bytes, nonce, text));
     }
@@ -94,13 +119,38 @@ for (const number of Object.values(Suite)) {
     assert.throws(() => key.open(nonce, sealed), aeadkit.TagMismatch);
 }
 assert.deepEqual(new Sealer(aead, suite, key, nonce).finish(), kept.sealer(nonce, { aad: none }).finish());
-assert.deepEqual(new SivSealer(aead, siv, key, nonce).tag(), new SivSealer(aead, siv, key, nonce, { aad: none }).tag());
+assert.deepEqual(new SivSealer(aead, siv, key, nonce).beginSecond(),
+    new Key(aead, siv, key).sivSealer(nonce, { aad: none }).beginSecond());
+
+// The facts of each suite, and of the module.
+for (const [name, number] of [
+    ["chacha20-poly1305", 1], ["aes-128-gcm", 2], ["aes-192-gcm", 3], ["aes-256-gcm", 4], ["aes-128-gcm-siv", 5],
+    ["aes-256-gcm-siv", 6],
+]) {
+    assert.equal(aead.suiteNamed(name), number);
+    assert.equal(aead.keyLength(number), [32, 16, 24, 32, 16, 32][number - 1]);
+    assert.equal(aead.textLimit(number), number === 1 ? 2n ** 38n - 64n : 2n ** 36n - (number < 5 ? 32n : 0n));
+    assert.equal(aead.aadLimit(number), number === 1 ? 2n ** 64n - 1n : 2n ** (number < 5 ? 61n : 36n) - (number < 5 ? 1n : 0n));
+}
+for (const call of [
+    () => aead.keyLength(7), () => aead.textLimit(0), () => aead.aadLimit("2"), () => aead.suiteNamed("aes-128-GCM"),
+    () => aead.suiteNamed(""),
+]) {
+    assert.throws(call, aeadkit.UnknownSuite);
+}
+assert.throws(() => aead.suiteNamed(2), TypeError);
+assert.match(aead.version, /^3\.\d+\.\d+$/);
 
 // Each call that takes associated data, with what stands in the place of its options.
 const sealed = kept.seal(nonce, text, { aad });
 const named = [
     (options) => aead.seal(suite, key, nonce, text, options), (options) => aead.open(suite, key, nonce, sealed, options),
     (options) => kept.seal(nonce, text, options), (options) => kept.open(nonce, sealed, options),
+    (options) => aead.sealInPlace(suite, key, nonce, text.slice(), options),
+    (options) => aead.openInPlace(suite, key, nonce, sealed.slice(0, -16), sealed.slice(-16), options),
+    (options) => kept.sealInPlace(nonce, text.slice(), options),
+    (options) => kept.openInPlace(nonce, sealed.slice(0, -16), sealed.slice(-16), options),
+    (options) => kept.opener(nonce, tag, options), (options) => new Key(aead, siv, key).sivSealer(nonce, options),
     (options) => kept.sealer(nonce, options), (options) => new Sealer(aead, suite, key, nonce, options),
     (options) => new Opener(aead, suite, key, nonce, tag, options), (options) => new SivSealer(aead, siv, key, nonce, options),
 ];
@@ -141,6 +191,10 @@ for (const other of ["a text", [1, 2], 16, null, new ArrayBuffer(16), new Uint16
         () => new Key(aead, 9, other), () => new Sealer(aead, suite, other, nonce), () => new Sealer(aead, suite, key, other),
         () => new Sealer(aead, suite, key, nonce).update(other), () => new Opener(aead, suite, key, nonce, other),
         () => new Opener(aead, suite, key, nonce, tag).check(other), () => new SivSealer(aead, siv, key, other),
+        () => aead.sealInPlace(suite, key, nonce, other), () => aead.openInPlace(suite, key, nonce, other, tag),
+        () => aead.openInPlace(suite, key, nonce, none, other), () => kept.sealInPlace(nonce, other),
+        () => kept.openInPlace(nonce, other, tag), () => kept.openInPlace(nonce, none, other), () => kept.opener(nonce, other),
+        () => kept.opener(other, tag), () => new Key(aead, siv, key).sivSealer(other),
         () => new SivSealer(aead, siv, key, nonce).absorb(other), () => keywrap.wrap(key, other),
         () => keywrap.wrap(other, key), () => keywrap.unwrap(key, other), () => keywrap.wrapPadded(key, other),
         () => keywrap.unwrapPadded(key, other), ...named.map((call) => () => call({ aad: other })),
@@ -157,7 +211,8 @@ assert.deepEqual(kept.seal(Buffer.from(nonce), Buffer.from(text), { aad: Buffer.
 const before = [key, nonce, tag, text].map((array) => array.slice());
 const results = [
     () => kept.seal(nonce, text), () => kept.open(nonce, kept.seal(nonce, text)), () => aead.seal(suite, key, nonce, text),
-    () => kept.sealer(nonce).update(text), () => kept.sealer(nonce).finish(), () => new SivSealer(aead, siv, key, nonce).tag(),
+    () => kept.sealer(nonce).update(text), () => kept.sealer(nonce).finish(),
+    () => new SivSealer(aead, siv, key, nonce).beginSecond(), () => kept.sealInPlace(nonce, text.slice()), () => keywrap.unwrap(key, keywrap.wrap(key, text)),
     () => keywrap.wrap(key, text), () => keywrap.wrapPadded(key, nonce),
     () => keywrap.unwrapPadded(key, keywrap.wrapPadded(key, nonce)),
 ];
@@ -171,6 +226,25 @@ for (const result of results) {
     assert.deepEqual(one, copy);
 }
 assert.deepEqual([key, nonce, tag, text], before);
+
+// What is wiped or finished has not begun. What a key began goes on without it.
+const wiped = new Key(aead, siv, key);
+const going = [wiped.sivSealer(nonce), wiped.opener(nonce, tag)];
+wiped.wipe();
+assert.equal(wiped.suite, siv);
+going[0].absorb(text);
+going[1].check(text);
+going.forEach((state) => state.wipe());
+const gone = kept.sealer(nonce);
+gone.wipe();
+for (const call of [
+    () => wiped.seal(nonce, text), () => wiped.open(nonce, text), () => wiped.sealInPlace(nonce, text.slice()),
+    () => wiped.openInPlace(nonce, text.slice(), tag), () => wiped.sivSealer(nonce), () => wiped.opener(nonce, tag),
+    () => wiped.sealer(nonce), () => going[0].absorb(text), () => going[0].beginSecond(), () => going[1].check(text),
+    () => gone.update(text), () => gone.finish(),
+]) {
+    assert.throws(call, aeadkit.NotBegun);
+}
 
 // A copy of a key or of a state has none of its calls.
 const copies = (object) => {
@@ -188,6 +262,9 @@ const copies = (object) => {
 for (const [object, call] of [
     [kept, (it) => it.seal(nonce, text)], [kept, (it) => it.open(nonce, kept.seal(nonce, text))],
     [kept, (it) => it.sealer(nonce)], [kept.sealer(nonce), (it) => it.update(text)],
+    [kept, (it) => it.sealInPlace(nonce, text.slice())], [kept, (it) => it.opener(nonce, tag)],
+    [kept.opener(nonce, tag), (it) => it.check(text)], [new Key(aead, siv, key), (it) => it.sivSealer(nonce)],
+    [new Key(aead, siv, key), (it) => it.wipe()], [kept.sealer(nonce), (it) => it.wipe()],
     [new Sealer(aead, suite, key, nonce), (it) => it.finish()],
     [new Opener(aead, suite, key, nonce, tag), (it) => it.check(text)],
     [new SivSealer(aead, siv, key, nonce), (it) => it.absorb(text)],
@@ -210,7 +287,7 @@ for (const other of [undefined, null, {}, "aead", keywrap, structuredClone(aead)
 }
 
 // The keys and states of two Aeads go on side by side, each in the memory of its own.
-const second = new Aead(readFileSync(new URL(import.meta.resolve("aeadkit/aead.wasm"))));
+const second = new Aead(readFileSync(new URL(import.meta.resolve("aeadkit/aeadkit.wasm"))));
 const [one, two] = [aead, second].map((from) => new Key(from, suite, key));
 const [here, there] = [one.sealer(nonce, { aad }), two.sealer(nonce, { aad })];
 for (const piece of [text, none, nonce]) {
@@ -219,3 +296,25 @@ for (const piece of [text, none, nonce]) {
 assert.deepEqual(here.finish(), there.finish());
 assert.deepEqual(one.open(nonce, two.seal(nonce, text)), text);
 assert.throws(() => there.finish(), aeadkit.NotBegun);
+
+// A call leaves zeros past what the module itself uses, on success and on a fault.
+const { Instance } = WebAssembly;
+let exports;
+WebAssembly.Instance = class extends Instance {
+    constructor(...words) {
+        super(...words);
+        exports = this.exports;
+    }
+};
+const watched = new Aead(readFileSync(new URL(import.meta.resolve("aeadkit/aeadkit.wasm"))));
+WebAssembly.Instance = Instance;
+const held = new Key(watched, suite, key);
+const isZero = () =>
+    new Uint8Array(exports.memory.buffer, Number(exports.__heap_base.value)).every((byte) => byte === 0);
+assert(isZero());
+assert.deepEqual(held.seal(nonce, text, { aad }), sealed);
+assert(isZero());
+assert.throws(() => held.open(nonce, text), aeadkit.TagMismatch);
+assert(isZero());
+assert.throws(() => held.openInPlace(nonce, text.slice(), tag), aeadkit.TagMismatch);
+assert(isZero());

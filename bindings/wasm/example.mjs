@@ -17,6 +17,11 @@ assert.deepEqual(aead.open(Suite.AES_128_GCM, zero, nonce, sealed), zero);
 const kept = new Key(aead, Suite.AES_128_GCM, zero);
 assert.deepEqual(kept.seal(nonce, zero), sealed);
 assert.deepEqual(kept.open(nonce, sealed), zero);
+const inPlace = zero.slice();
+const itsTag = kept.sealInPlace(nonce, inPlace);
+assert.equal(hex(inPlace) + hex(itsTag), hex(sealed));
+kept.openInPlace(nonce, inPlace, itsTag);
+assert.deepEqual(inPlace, zero);
 sealed[3] ^= 1;
 refuses("TagMismatch", () => kept.open(nonce, sealed));
 refuses("KeyLength", () => new Key(aead, Suite.AES_256_GCM, zero));
@@ -69,24 +74,26 @@ for (const [name, length] of [["CHACHA20_POLY1305", 32], ["AES_128_GCM", 16], ["
     const words = [Suite[name], new Uint8Array(length).fill(7), nonce];
     const whole = aead.seal(...words, text, { aad });
     const [body, tag] = [whole.subarray(0, -16), whole.subarray(-16)];
+    const kept = new Key(aead, words[0], words[1]);
     for (const size of [1, 15, 16, 17, 333, 1000]) {
-        const opener = new Opener(aead, ...words, tag, { aad });
-        split(body, size).forEach((piece) => opener.check(piece));
-        refuses("NotBegun", () => opener.update(body));
-        opener.checked();
-        refuses("NotBegun", () => opener.check(body));
-        assert.deepEqual(joined(split(body, 1001 - size).map((piece) => opener.update(piece))), text);
-        refuses("SourceChanged", () => opener.update(zero));
-        opener.finish();
-        refuses("NotBegun", () => opener.finish());
+        for (const opener of [new Opener(aead, ...words, tag, { aad }), kept.opener(nonce, tag, { aad })]) {
+            split(body, size).forEach((piece) => opener.check(piece));
+            refuses("NotBegun", () => opener.update(body));
+            opener.beginSecond();
+            refuses("NotBegun", () => opener.check(body));
+            assert.deepEqual(joined(split(body, 1001 - size).map((piece) => opener.update(piece))), text);
+            refuses("SourceChanged", () => opener.update(zero));
+            opener.finish();
+            refuses("NotBegun", () => opener.finish());
+        }
     }
     const mismatched = new Opener(aead, ...words, zero, { aad });
     mismatched.check(body);
-    refuses("TagMismatch", () => mismatched.checked());
-    refuses("NotBegun", () => mismatched.checked());
+    refuses("TagMismatch", () => mismatched.beginSecond());
+    refuses("NotBegun", () => mismatched.beginSecond());
     const changed = new Opener(aead, ...words, tag, { aad });
     changed.check(body);
-    changed.checked();
+    changed.beginSecond();
     changed.update(text);
     refuses("SourceChanged", () => changed.finish());
 }
@@ -104,21 +111,23 @@ refuses("NonceLength", () => new Sealer(aead, Suite.AES_128_GCM, zero, zero));
 // Under AES-GCM-SIV a text is sealed by two readings.
 for (const [name, length] of [["AES_128_GCM_SIV", 16], ["AES_256_GCM_SIV", 32]]) {
     const words = [Suite[name], new Uint8Array(length).fill(7), nonce];
+    const kept = new Key(aead, words[0], words[1]);
     for (const size of [1, 15, 16, 17, 333, 1000]) {
-        const sealer = new SivSealer(aead, ...words, { aad });
-        split(text, size).forEach((piece) => sealer.absorb(piece));
-        refuses("NotBegun", () => sealer.update(text));
-        const tag = sealer.tag();
-        refuses("NotBegun", () => sealer.absorb(text));
-        const ciphertext = split(text, 1001 - size).map((piece) => sealer.update(piece));
-        refuses("SourceChanged", () => sealer.update(zero));
-        sealer.finish();
-        refuses("NotBegun", () => sealer.finish());
-        assert.deepEqual(joined([...ciphertext, tag]), aead.seal(...words, text, { aad }));
+        for (const sealer of [new SivSealer(aead, ...words, { aad }), kept.sivSealer(nonce, { aad })]) {
+            split(text, size).forEach((piece) => sealer.absorb(piece));
+            refuses("NotBegun", () => sealer.update(text));
+            const tag = sealer.beginSecond();
+            refuses("NotBegun", () => sealer.absorb(text));
+            const ciphertext = split(text, 1001 - size).map((piece) => sealer.update(piece));
+            refuses("SourceChanged", () => sealer.update(zero));
+            sealer.finish();
+            refuses("NotBegun", () => sealer.finish());
+            assert.deepEqual(joined([...ciphertext, tag]), aead.seal(...words, text, { aad }));
+        }
     }
     const changed = new SivSealer(aead, ...words, { aad });
     changed.absorb(text);
-    changed.tag();
+    changed.beginSecond();
     changed.update(new Uint8Array(1000));
     refuses("SourceChanged", () => changed.finish());
 }

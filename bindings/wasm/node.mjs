@@ -1,9 +1,9 @@
-// The calls of the two modules, read from the package's folder.
+// The calls of the library, read from the package's folder.
 import { readFileSync } from "node:fs";
 import { Aead, KeyWrap } from "./aeadkit.mjs";
 
 export * from "./aeadkit.mjs";
 
-const bytes = (name) => readFileSync(new URL(name, import.meta.url));
-export const aead = new Aead(bytes("./aead.wasm"));
-export const keywrap = new KeyWrap(bytes("./keywrap.wasm"));
+const library = readFileSync(new URL("./aeadkit.wasm", import.meta.url));
+export const aead = new Aead(library);
+export const keywrap = new KeyWrap(library);
