@@ -317,7 +317,7 @@ export class Opener {
 
     /**
      * Goes on with the opening that `save` saved, in the pass that it was in. Suite, key and nonce are those that it was begun
-     * with; another key or nonce is not noticed here, and what `update` then returns is of no use.
+     * with; another key or nonce is not noticed here, and what `update` then returns is not the text.
      *
      * Throws the first of these that fits: `UnknownSuite` if the suite is not a number, `NotSaved`, `KeyLength`, `NonceLength`.
      */

@@ -131,7 +131,7 @@ impl CheckedOpener {
     /// Goes on with the second pass that [`CheckedOpener::save`] saved.
     ///
     /// Suite, key and nonce are those that it was begun with. Another key or nonce is not noticed here, and what
-    /// [`CheckedOpener::update`] then makes is of no use.
+    /// [`CheckedOpener::update`] then makes is not the text.
     ///
     /// # Errors
     ///
