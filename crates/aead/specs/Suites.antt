@@ -1,4 +1,4 @@
--- The suites: their names, key lengths and limits (RFC 8439, 2.8; SP 800-38D, 5.2.1.1; RFC 8452, 6).
+-- The suites: their names, numbers, key lengths and limits (RFC 8439, 2.8; SP 800-38D, 5.2.1.1; RFC 8452, 6).
 use Rattle.std.specs.Prelude.{ℕ, ◌-◌, ◌^◌, Bool, true, false, List, codes}
 use Rattle.aead.specs.declared.suite.Suite.{Suite}
 use Rattle.aead.specs.declared.suite.Suite.TheVariants.{ChaCha20Poly1305, Aes128Gcm, Aes192Gcm, Aes256Gcm}
@@ -27,6 +27,15 @@ suite_name Aes192Gcm = codes "aes-192-gcm"
 suite_name Aes256Gcm = codes "aes-256-gcm"
 suite_name Aes128GcmSiv = codes "aes-128-gcm-siv"
 suite_name Aes256GcmSiv = codes "aes-256-gcm-siv"
+
+-- the number of a suite
+abbrev pub suite_number : Suite → ℕ
+suite_number ChaCha20Poly1305 = 1
+suite_number Aes128Gcm = 2
+suite_number Aes192Gcm = 3
+suite_number Aes256Gcm = 4
+suite_number Aes128GcmSiv = 5
+suite_number Aes256GcmSiv = 6
 
 -- the bytes of a key
 abbrev pub key_length : Suite → ℕ

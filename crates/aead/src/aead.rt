@@ -12,44 +12,10 @@ use octets::{Fault, Nonce, Tag};
 
 /// A cipher under a key, which seals and opens a text in place. A sealing is the ciphertext, as long as the
 /// text, and a tag of 16 bytes. A nonce must never be used for two sealings under one key.
+///
+/// [`Aead::seal_in_place`] and [`Aead::open_in_place`] compare the lengths with the limits of the suite.
+/// [`Aead::seal_fitting`] and [`Aead::open_fitting`] are for a caller that has compared them: they refuse no length.
 pub trait Aead {
-    // The suite and the key.
-    ghost keyed: { Self → Keyed };
-
-    /// The suite.
-    fn suite(&self) -> Suite
-        ensures { result ≡ (keyed self.now).suite };
-
-    /// Seals `text` under a nonce with associated data: leaves the ciphertext in its place and returns the
-    /// tag. Faults: `AadTooLong`, then `TextTooLong`, if a length in bytes is past the suite's limit. On
-    /// error every byte is as it was. Does not allocate.
-    ///
-    /// The nonce must never be used twice under one key. Under ChaCha20-Poly1305 and AES-GCM a repeat gives away the XOR of
-    /// the two texts, and enough to forge messages; under AES-GCM-SIV it gives away only whether the texts and the
-    /// associated data were the same.
-    fn seal_in_place(&self, nonce: &Nonce, aad: &[u8], text: &mut [u8]) -> Result<Tag, Fault>
-        ensures { SealsInPlace (setting (keyed self.now) nonce.now aad.now) text.old text.new result };
-
-    /// Opens a ciphertext and its tag under a nonce with associated data: leaves the text in the
-    /// ciphertext's place. Faults: `AadTooLong`, then `TextTooLong`, if a length in bytes is past the
-    /// suite's limit, then `TagMismatch` if authentication failed. On error every byte is as it
-    /// was. A sealing of a text is always opened, to that text. Does not allocate.
-    fn open_in_place(
-        &self,
-        nonce: &Nonce,
-        aad: &[u8],
-        body: &mut [u8],
-        tag: &Tag,
-    ) -> Result<(), Fault>
-        ensures answer { OpensInPlace (setting (keyed self.now) nonce.now aad.now) tag.now body.old body.new
-            result }
-        ensures found { OpensEachSealing (setting (keyed self.now) nonce.now aad.now) tag.now body.old body.new
-            result };
-}
-
-/// A cipher under a key, for a caller that has compared the lengths with the limits of the suite: no call refuses a length.
-/// Each `Cipher` is an [`Aead`] too, whose calls compare them. A nonce must never be used for two sealings under one key.
-pub trait Cipher {
     // The suite and the key.
     ghost keyed: { Self → Keyed };
 
@@ -83,32 +49,42 @@ pub trait Cipher {
         requires text_fits { length body.old ≤ text_limit (keyed self.now).suite }
         ensures { OpensInPlace (setting (keyed self.now) nonce.now aad.now) tag.now body.old body.new
             result };
-}
 
-impl<C: Cipher> Aead for C {
-    ghost keyed = { C.keyed };
-
-    fn suite(&self) -> Suite {
-        Cipher::suite(self)
-    }
-
-    fn seal_in_place(&self, nonce: &Nonce, aad: &[u8], text: &mut [u8]) -> Result<Tag, Fault> {
-        let suite = Cipher::suite(self);
+    /// Seals `text` under a nonce with associated data: leaves the ciphertext in its place and returns the
+    /// tag. Faults: `AadTooLong`, then `TextTooLong`, if a length in bytes is past the suite's limit. On
+    /// error every byte is as it was. Does not allocate.
+    ///
+    /// The nonce must never be used twice under one key. Under ChaCha20-Poly1305 and AES-GCM a repeat gives away the XOR of
+    /// the two texts, and enough to forge messages; under AES-GCM-SIV it gives away only whether the texts and the
+    /// associated data were the same.
+    fn seal_in_place(&self, nonce: &Nonce, aad: &[u8], text: &mut [u8]) -> Result<Tag, Fault>
+        ensures { SealsInPlace (setting (keyed self.now) nonce.now aad.now) text.old text.new result }
+    {
+        let suite = self.suite();
         suite.check_aad(aad)?;
         suite.check_text(text)?;
         Ok(self.seal_fitting(nonce, aad, text))
     }
 
+    /// Opens a ciphertext and its tag under a nonce with associated data: leaves the text in the
+    /// ciphertext's place. Faults: `AadTooLong`, then `TextTooLong`, if a length in bytes is past the
+    /// suite's limit, then `TagMismatch` if authentication failed. On error every byte is as it
+    /// was. A sealing of a text is always opened, to that text. Does not allocate.
     fn open_in_place(
         &self,
         nonce: &Nonce,
         aad: &[u8],
         body: &mut [u8],
         tag: &Tag,
-    ) -> Result<(), Fault> {
+    ) -> Result<(), Fault>
+        ensures answer { OpensInPlace (setting (keyed self.now) nonce.now aad.now) tag.now body.old body.new
+            result }
+        ensures found { OpensEachSealing (setting (keyed self.now) nonce.now aad.now) tag.now body.old body.new
+            result }
+    {
         // The proof sees the tag's length.
         let _given = tag.bytes();
-        let suite = Cipher::suite(self);
+        let suite = self.suite();
         suite.check_aad(aad)?;
         suite.check_text(body)?;
         self.open_fitting(nonce, aad, body, tag)

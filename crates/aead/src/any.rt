@@ -7,7 +7,7 @@ ghost use Rattle.aead.specs.Ciphers.{setting};
 ghost use Rattle.aead.specs.AnyCiphers.{one_pass_keyed, keyed_of};
 ghost use Rattle.aead.specs.Refusals.{OpenRefused};
 
-use crate::aead::Cipher;
+use crate::aead::Aead;
 use crate::chacha_poly::ChaChaPoly;
 use crate::gcm::Gcm;
 use crate::gcm_siv::GcmSiv;
@@ -89,7 +89,7 @@ impl AnyAead {
     }
 }
 
-impl Cipher for AnyOnePass {
+impl Aead for AnyOnePass {
     ghost keyed = { one_pass_keyed };
 
     fn suite(&self) -> Suite
@@ -123,7 +123,7 @@ impl Cipher for AnyOnePass {
     }
 }
 
-impl Cipher for AnyAead {
+impl Aead for AnyAead {
     ghost keyed = { keyed_of };
 
     fn suite(&self) -> Suite {

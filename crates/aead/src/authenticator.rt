@@ -1,7 +1,7 @@
 //! The authenticator of a message. It takes in the associated data, then the ciphertext or the text piece by piece, each
 //! padded to whole blocks, and both lengths at the end (RFC 8439, 2.8; SP 800-38D, 7.1; RFC 8452, 4).
 
-ghost use Rattle.std.specs.Prelude.{◌≡◌, ◌+◌, ◌<◌, ◌≤◌, ◌^◌, ◌++◌, ℕ, List, [], length};
+ghost use Rattle.std.specs.Prelude.{◌≡◌, ◌+◌, ◌<◌, ◌≤◌, ◌^◌, ◌++◌, ℕ, List, [], get_or, length};
 ghost use Rattle.aead.specs.Suites.{text_limit, aad_limit};
 ghost use Rattle.aead.specs.Sealing.{Setting, tag_over};
 ghost use Rattle.aead.specs.Code.States.{HoldsAuthenticator};
@@ -56,6 +56,7 @@ impl<H: TagHash> Authenticator<H> {
             → length m + length bytes.now ≤ text_limit s.suite
             → HoldsAuthenticator H.held self.new s (m ++ bytes.now) }
         ensures length { self.new.length ≡ self.old.length + length bytes.now }
+        ensures bytes { (i : ℕ) → get_or bytes.now i 0 < 256 }
     {
         self.hash.take_in(bytes);
         self.length += bytes.len() as u64;

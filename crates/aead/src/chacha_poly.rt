@@ -1,7 +1,8 @@
 //! The cipher ChaCha20-Poly1305 (RFC 8439, 2.8). The block with counter 0 begins with the key of Poly1305, and the text is
 //! masked from counter 1 on.
 
-ghost use Rattle.std.specs.Prelude.{◌≡◌, ℕ, List, ◌-◌, ◌^◌, ◌%◌, ◌<◌, ◌≤◌, ◌++◌, length, take, slice_index, refl, MatchResult};
+ghost use Rattle.std.specs.Prelude.{◌≡◌, ℕ, List, ◌-◌, ◌^◌, ◌%◌, ◌<◌, ◌≤◌, ◌++◌, length, take, slice_index, refl};
+ghost use Rattle.std.specs.Prelude.{MatchResult};
 ghost use Rattle.chacha.specs.Stream.{key_stream_byte};
 ghost use Rattle.aead.specs.Suites.{ByChaCha, construction_of, text_limit, aad_limit};
 ghost use Rattle.aead.specs.Sealing.{Setting, Opened, poly_key};
@@ -11,10 +12,9 @@ ghost use Rattle.aead.specs.Refusals.{OpenRefused};
 ghost use Rattle.aead.specs.InPlace.{OpensInPlace};
 ghost use Rattle.aead.specs.declared.suite.Suite.TheVariants.{ChaCha20Poly1305};
 
-use crate::aead::Cipher;
+use crate::aead::Aead;
 use crate::buffered_stream::BufferedStream;
-use crate::mask_then_hash::{MaskThenHash, open_beside, open_whole, seal_whole};
-use crate::nonced::Nonced;
+use crate::one_pass::{OnePass, open_beside, open_whole, seal_whole};
 use crate::suite::Suite;
 use chacha::{ChaStream, block, key_stream_start};
 use octets::{Fault, Key32, Nonce, Tag, WIDE};
@@ -52,8 +52,8 @@ impl ChaChaPoly {
 
     // The cipher with a nonce, for a text in pieces.
     pub(crate) fn nonced<'a>(&'a self, nonce: &'a Nonce) -> NoncedChaCha<'a>
-        ensures keyed { ⟦<NoncedChaCha<'a> as Nonced>⟧.keyed result ≡ self.now }
-        ensures nonce { ⟦<NoncedChaCha<'a> as Nonced>⟧.nonce result ≡ nonce.now }
+        ensures keyed { ⟦<NoncedChaCha<'a> as OnePass>⟧.keyed result ≡ self.now }
+        ensures nonce { ⟦<NoncedChaCha<'a> as OnePass>⟧.nonce result ≡ nonce.now }
     {
         NoncedChaCha {
             key: &self.key,
@@ -124,7 +124,7 @@ pub(crate) fn one_time_key(key: &Key32, nonce: &Nonce) -> [u8; 32]
     first_half(&block(key, 0, nonce))
 }
 
-// The key stream of a text of which so many bytes were masked.
+// The key stream of a text of which `made` bytes were masked.
 pub(crate) fn mask_at(key: &Key32, nonce: &Nonce, made: u64) -> ChaStream
     requires { made ≤ 2 ^ 38 - 64 }
     ensures { (s : Setting) (tag : List ℕ) → construction_of s.suite ≡ ByChaCha → s.key ≡ key.now
@@ -150,7 +150,7 @@ pub(crate) struct NoncedChaCha<'a> {
     nonce: &'a Nonce,
 }
 
-impl<'a> Nonced for NoncedChaCha<'a> {
+impl<'a> OnePass for NoncedChaCha<'a> {
     type Stream = ChaStream;
 
     type Hash = Poly;
@@ -167,9 +167,7 @@ impl<'a> Nonced for NoncedChaCha<'a> {
     fn hash(&self) -> Poly {
         Poly::new(&first_half(&block(self.key, 0, self.nonce)))
     }
-}
 
-impl<'a> MaskThenHash for NoncedChaCha<'a> {
     fn mask(&self) -> ChaStream {
         ChaStream::new(self.key, self.nonce, 1)
     }
@@ -190,7 +188,7 @@ struct BufferedChaCha<'a> {
         → slice_index start.now i ≡ key_stream_byte key.now nonce.now 0 i },
 }
 
-impl<'a> Nonced for BufferedChaCha<'a> {
+impl<'a> OnePass for BufferedChaCha<'a> {
     type Stream = BufferedStream<'a>;
 
     type Hash = Poly;
@@ -206,9 +204,7 @@ impl<'a> Nonced for BufferedChaCha<'a> {
     fn hash(&self) -> Poly {
         Poly::new(&first_half(self.start))
     }
-}
 
-impl<'a> MaskThenHash for BufferedChaCha<'a> {
     fn mask(&self) -> BufferedStream<'a> {
         BufferedStream::new(self.key, self.nonce, self.start)
     }
@@ -219,7 +215,7 @@ impl<'a> MaskThenHash for BufferedChaCha<'a> {
 // The bytes of text that the blocks with the counters 1 to 7 mask.
 const SEVEN_BLOCKS: usize = 448;
 
-// How many blocks from counter 0 on are made at once for a text of so many bytes. A block beside four or eight
+// How many blocks from counter 0 on are made at once for a text of `length` bytes. A block beside four or eight
 // others costs little, and the blocks after them go by four or eight, so that few are made for a last part.
 fn blocks_at_once(length: usize) -> usize {
     if WIDE && length > 192 {
@@ -238,7 +234,7 @@ fn blocks_at_once(length: usize) -> usize {
     }
 }
 
-impl Cipher for ChaChaPoly {
+impl Aead for ChaChaPoly {
     ghost keyed = { λ c. c };
 
     fn suite(&self) -> Suite

@@ -11,12 +11,11 @@ ghost use Rattle.aead.specs.Code.States.{MadeByGcm};
 ghost use Rattle.aead.specs.Ciphers.{Keyed, setting};
 ghost use Rattle.aead.specs.InPlace.{OpensInPlace};
 
-use crate::aead::Cipher;
+use crate::aead::Aead;
 use crate::derived_keys::joined;
 use crate::hashes::GhashTag;
-use crate::mask_then_hash::{MaskThenHash, open_whole, seal_whole};
 use crate::multiples::{Multiples, worth};
-use crate::nonced::Nonced;
+use crate::one_pass::{OnePass, open_whole, seal_whole};
 use crate::suite::Suite;
 use aes::{AesKey, CtrBe, KeptKey};
 use gf128::{Ghash, Keyed128, Multiply, TableMul, WideMul};
@@ -90,7 +89,7 @@ impl Gcm {
     // The cipher by what it keeps, where that is.
     #[inline(always)]
     fn kept<'a>(&'a self) -> BorrowedGcm<'a, &'a TableMul>
-        ensures { ⟦<BorrowedGcm<'a, &'a TableMul> as Cipher>⟧.keyed result ≡ self.now }
+        ensures { ⟦<BorrowedGcm<'a, &'a TableMul> as Aead>⟧.keyed result ≡ self.now }
     {
         BorrowedGcm::new(self.suite, &self.key, &self.ghash_key, &self.multiplier)
     }
@@ -112,8 +111,8 @@ impl Gcm {
         requires key { K.bytes key ≡ self.now.key }
         requires multiplier { M.key_bytes multiplier ≡ hash_key self.now.key }
         ensures key { IsKey self.now.key }
-        ensures keyed { ⟦<NoncedGcm<'a, M, K> as Nonced>⟧.keyed result ≡ self.now }
-        ensures nonce { ⟦<NoncedGcm<'a, M, K> as Nonced>⟧.nonce result ≡ nonce.now }
+        ensures keyed { ⟦<NoncedGcm<'a, M, K> as OnePass>⟧.keyed result ≡ self.now }
+        ensures nonce { ⟦<NoncedGcm<'a, M, K> as OnePass>⟧.nonce result ≡ nonce.now }
     {
         NoncedGcm {
             suite: self.suite,
@@ -197,7 +196,7 @@ pub(crate) struct NoncedGcm<'a, M: Multiply, K: KeptKey> {
     ghost multiplier_is: { M.key_bytes multiplier ≡ hash_key (K.bytes key) },
 }
 
-impl<'a, M: Multiply + Copy, K: KeptKey + Copy> Nonced for NoncedGcm<'a, M, K> {
+impl<'a, M: Multiply + Copy, K: KeptKey + Copy> OnePass for NoncedGcm<'a, M, K> {
     type Stream = CtrBe<K>;
 
     type Hash = GhashTag<M>;
@@ -217,9 +216,7 @@ impl<'a, M: Multiply + Copy, K: KeptKey + Copy> Nonced for NoncedGcm<'a, M, K> {
             mask: self.key.kept().encrypt(&counter_block(self.nonce, 1)),
         }
     }
-}
 
-impl<'a, M: Multiply + Copy, K: KeptKey + Copy> MaskThenHash for NoncedGcm<'a, M, K> {
     #[inline(always)]
     fn mask(&self) -> CtrBe<K> {
         CtrBe::new(self.key, &counter_block(self.nonce, 2))
@@ -257,7 +254,7 @@ impl<'a, M: Multiply + Copy> BorrowedGcm<'a, M> {
         requires by_gcm { construction_of suite ≡ ByGcm }
         requires ghash_key { ghash_key.now ≡ hash_key key.now }
         requires multiplier { M.key_bytes multiplier ≡ hash_key key.now }
-        ensures { ⟦<BorrowedGcm<'a, M> as Cipher>⟧.keyed result ≡ record { suite = suite; key = key.now } }
+        ensures { ⟦<BorrowedGcm<'a, M> as Aead>⟧.keyed result ≡ record { suite = suite; key = key.now } }
     {
         BorrowedGcm {
             suite,
@@ -275,9 +272,9 @@ impl<'a, M: Multiply + Copy> BorrowedGcm<'a, M> {
         multiplier: N,
     ) -> NoncedGcm<'b, N, &'a AesKey>
         requires { N.key_bytes multiplier ≡ hash_key self.now.key.now }
-        ensures keyed { ⟦<NoncedGcm<'b, N, &'a AesKey> as Nonced>⟧.keyed result
-            ≡ ⟦<BorrowedGcm<'a, M> as Cipher>⟧.keyed self.now }
-        ensures nonce { ⟦<NoncedGcm<'b, N, &'a AesKey> as Nonced>⟧.nonce result ≡ nonce.now }
+        ensures keyed { ⟦<NoncedGcm<'b, N, &'a AesKey> as OnePass>⟧.keyed result
+            ≡ ⟦<BorrowedGcm<'a, M> as Aead>⟧.keyed self.now }
+        ensures nonce { ⟦<NoncedGcm<'b, N, &'a AesKey> as OnePass>⟧.nonce result ≡ nonce.now }
     {
         NoncedGcm {
             suite: self.suite,
@@ -292,7 +289,7 @@ impl<'a, M: Multiply + Copy> BorrowedGcm<'a, M> {
     fn seal_by<N: Keyed128>(&self, nonce: &Nonce, aad: &[u8], text: &mut [u8]) -> Tag
         requires aad_fits { length aad.now ≤ aad_limit self.now.suite }
         requires text_fits { length text.old ≤ text_limit self.now.suite }
-        ensures { Opened (setting (⟦<BorrowedGcm<'a, M> as Cipher>⟧.keyed self.now) nonce.now aad.now) (text.new ++ result)
+        ensures { Opened (setting (⟦<BorrowedGcm<'a, M> as Aead>⟧.keyed self.now) nonce.now aad.now) (text.new ++ result)
             text.old }
     {
         let mut made = N::none();
@@ -311,7 +308,7 @@ impl<'a, M: Multiply + Copy> BorrowedGcm<'a, M> {
     ) -> Result<(), Fault>
         requires aad_fits { length aad.now ≤ aad_limit self.now.suite }
         requires text_fits { length body.old ≤ text_limit self.now.suite }
-        ensures { OpensInPlace (setting (⟦<BorrowedGcm<'a, M> as Cipher>⟧.keyed self.now) nonce.now aad.now) tag.now body.old
+        ensures { OpensInPlace (setting (⟦<BorrowedGcm<'a, M> as Aead>⟧.keyed self.now) nonce.now aad.now) tag.now body.old
             body.new result }
     {
         let mut made = N::none();
@@ -320,7 +317,7 @@ impl<'a, M: Multiply + Copy> BorrowedGcm<'a, M> {
     }
 }
 
-impl<'a, M: Multiply + Copy> Cipher for BorrowedGcm<'a, M> {
+impl<'a, M: Multiply + Copy> Aead for BorrowedGcm<'a, M> {
     ghost keyed = { λ c. record { suite = c.suite; key = c.key.now } };
 
     fn suite(&self) -> Suite {
@@ -348,7 +345,7 @@ impl<'a, M: Multiply + Copy> Cipher for BorrowedGcm<'a, M> {
     }
 }
 
-impl Cipher for Gcm {
+impl Aead for Gcm {
     ghost keyed = { λ c. c };
 
     fn suite(&self) -> Suite

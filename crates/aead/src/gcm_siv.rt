@@ -12,13 +12,12 @@ ghost use Rattle.aead.specs.Ciphers.{Keyed, setting};
 ghost use Rattle.aead.specs.InPlace.{OpensInPlace};
 ghost use Rattle.aead.specs.Code.States.{MadeByGcmSiv};
 
-use crate::aead::Cipher;
+use crate::aead::Aead;
 use crate::derived_keys::DerivedKeys;
-use crate::hash_then_mask::{HashThenMask, open_whole, seal_whole};
 use crate::hashes::PolyvalTag;
 use crate::multiples::{Multiples, worth};
-use crate::nonced::Nonced;
 use crate::suite::Suite;
+use crate::two_pass::{TwoPass, open_whole, seal_whole};
 use aes::{AesKey, CtrLe, KeptKey};
 use gf128::{Keyed128, Multiply, Polyval, TableMul, WideMul};
 use octets::{Block, Fault, Nonce, Tag};
@@ -105,8 +104,8 @@ impl GcmSiv {
         requires block { IsBlock (authentication_key self.now.key nonce.now) }
         requires multiplier { IsReversedMulX (authentication_key self.now.key nonce.now)
             (M.key_bytes multiplier) }
-        ensures keyed { ⟦<NoncedGcmSiv<'a, M, K> as Nonced>⟧.keyed result ≡ self.now }
-        ensures nonce { ⟦<NoncedGcmSiv<'a, M, K> as Nonced>⟧.nonce result ≡ nonce.now }
+        ensures keyed { ⟦<NoncedGcmSiv<'a, M, K> as TwoPass>⟧.keyed result ≡ self.now }
+        ensures nonce { ⟦<NoncedGcmSiv<'a, M, K> as TwoPass>⟧.nonce result ≡ nonce.now }
     {
         NoncedGcmSiv {
             suite: self.suite,
@@ -204,7 +203,7 @@ pub(crate) struct NoncedGcmSiv<'a, M: Multiply, K: KeptKey> {
         ∥₁ },
 }
 
-impl<'a, M: Multiply + Copy, K: KeptKey + Copy> Nonced for NoncedGcmSiv<'a, M, K> {
+impl<'a, M: Multiply + Copy, K: KeptKey + Copy> TwoPass for NoncedGcmSiv<'a, M, K> {
     type Stream = CtrLe<K>;
 
     type Hash = PolyvalTag<M, K>;
@@ -225,9 +224,7 @@ impl<'a, M: Multiply + Copy, K: KeptKey + Copy> Nonced for NoncedGcmSiv<'a, M, K
             nonce: *self.nonce,
         }
     }
-}
 
-impl<'a, M: Multiply + Copy, K: KeptKey + Copy> HashThenMask for NoncedGcmSiv<'a, M, K> {
     #[inline(always)]
     fn mask(&self, tag: &Tag) -> CtrLe<K> {
         tag_mask(self.encryption, tag)
@@ -236,7 +233,7 @@ impl<'a, M: Multiply + Copy, K: KeptKey + Copy> HashThenMask for NoncedGcmSiv<'a
     ghost by_gcm_siv = { λ n. n.by_gcm_siv };
 }
 
-impl Cipher for GcmSiv {
+impl Aead for GcmSiv {
     ghost keyed = { λ c. c };
 
     fn suite(&self) -> Suite

@@ -49,14 +49,14 @@ pub(crate) trait TagHash: Drop {
         ensures short { length result.now < 16 };
 
     // The tag of padded associated data and the bytes after it: zeros up to whole blocks and both lengths are taken in
-    // last. The hash is of no use after it.
+    // last. The hash must not be used after it.
     fn tag_with_lengths(&mut self, aad_length: u64, bytes_length: u64) -> Tag
         ensures { (s : Setting) (m : List ℕ) → held self.old s (pad16 s.aad ++ m) → Fits s m
             → aad_length ≡ length s.aad
             → bytes_length ≡ length m → result ≡ tag_over s.suite s.key s.nonce s.aad m };
 }
 
-// The bits of so many bytes.
+// The number of bits in `bytes` bytes.
 fn bits(bytes: u64) -> u64
     ensures { bytes < 2 ^ 61 → result ≡ 8 * bytes }
 {

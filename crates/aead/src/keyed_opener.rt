@@ -1,4 +1,4 @@
-//! An opening in pieces together with its keys, as plain numbers: for a caller that keeps all of it in memory of its own. A first
+//! An opening in pieces together with its keys, as plain numbers: for a caller that keeps all of it in its own memory. A first
 //! pass over the ciphertext gives nothing; only if it was over a sealing does a second pass decrypt.
 
 ghost use Rattle.std.specs.Prelude.{◌≡◌, ◌+◌, ◌<◌, ◌≤◌, ◌++◌, ℕ, List, [], length, true, false, MatchResult, OnErr};
@@ -37,23 +37,27 @@ impl KeyedOpener {
         }
     }
 
-    /// Returns a state in its first pass that has taken in nothing yet, under a suite, the bytes of a key and of a nonce,
-    /// associated data and the tag of the sealing. `KeyLength` if the key has not the suite's length, `NonceLength` if the
-    /// nonce is not 12 bytes long, then `AadTooLong` if the data is past the suite's limit.
+    /// Begins the first pass, which has taken in nothing yet, under a suite, the bytes of a key and of a nonce, associated data
+    /// and the tag of the sealing. What the state was before makes no difference. `KeyLength` if the key has not the suite's
+    /// length, `NonceLength` if the nonce is not 12 bytes long, then `AadTooLong` if the data is past the suite's limit: the
+    /// state is then as it was.
     pub fn begin(
+        &mut self,
         suite: Suite,
         key: &[u8],
         nonce: &[u8],
         aad: &[u8],
         tag: &[u8; 16],
-    ) -> Result<KeyedOpener, Fault>
-        ensures { let s = setting_of suite key.now nonce.now aad.now in
-            MatchResult result (λ p. HoldsFirstPass p s tag.now []) (BeginRefused s) }
+    ) -> Result<(), Fault>
+        ensures answer { let s = setting_of suite key.now nonce.now aad.now in
+            MatchResult result (λ _. HoldsFirstPass self.new s tag.now []) (BeginRefused s) }
+        ensures kept { OnErr result (self.new ≡ self.old) }
     {
-        match KeyedPass::begin(suite, key, nonce, aad) {
-            Ok(pass) => Ok(KeyedOpener {
-                passes: KeyedPasses::of(pass, tag),
-            }),
+        match self.passes.pass.begin(suite, key, nonce, aad) {
+            Ok(()) => {
+                self.passes.begin_first(tag);
+                Ok(())
+            }
             Err(fault) => Err(fault),
         }
     }
@@ -61,6 +65,7 @@ impl KeyedOpener {
     /// As [`KeyedOpener::begin`], by what was made of the key before: its schedule and the key of GHASH, which is the cipher of a
     /// block of zeros.
     pub fn begin_by(
+        &mut self,
         suite: Suite,
         key: &[u8],
         cipher: &AesKey,
@@ -68,17 +73,23 @@ impl KeyedOpener {
         nonce: &[u8],
         aad: &[u8],
         tag: &[u8; 16],
-    ) -> Result<KeyedOpener, Fault>
+    ) -> Result<(), Fault>
         requires long { length key.now ≡ key_length suite }
         requires cipher { cipher.now ≡ key.now }
         requires ghash_key { ghash_key.now ≡ hash_key key.now }
-        ensures { let s = setting_of suite key.now nonce.now aad.now in
-            MatchResult result (λ p. HoldsFirstPass p s tag.now []) (BeginRefused s) }
+        ensures answer { let s = setting_of suite key.now nonce.now aad.now in
+            MatchResult result (λ _. HoldsFirstPass self.new s tag.now []) (BeginRefused s) }
+        ensures kept { OnErr result (self.new ≡ self.old) }
     {
-        match KeyedPass::begin_by(suite, key, cipher, ghash_key, nonce, aad) {
-            Ok(pass) => Ok(KeyedOpener {
-                passes: KeyedPasses::of(pass, tag),
-            }),
+        match self
+            .passes
+            .pass
+            .begin_by(suite, key, cipher, ghash_key, nonce, aad)
+        {
+            Ok(()) => {
+                self.passes.begin_first(tag);
+                Ok(())
+            }
             Err(fault) => Err(fault),
         }
     }
@@ -147,7 +158,7 @@ impl KeyedOpener {
     }
 
     /// Ends the first pass. `Ok` if it was over a sealing: the state is then in its second pass, which has taken in nothing yet.
-    /// `TagMismatch` if authentication failed: the state is then as it was, and of no use.
+    /// `TagMismatch` if authentication failed: the state is then as it was, and must not be used any more.
     pub fn begin_second(&mut self, suite: Suite) -> Result<(), Fault>
         ensures answer { (s : Setting) (tag body : List ℕ) → s.suite ≡ suite → HoldsFirstPass self.old s tag body
             → MatchResult result (λ _. HoldsSecondPass self.new s tag (length body) [] × Opens s tag body)

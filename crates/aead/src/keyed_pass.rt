@@ -1,13 +1,13 @@
 //! A pass over a message together with the message's keys, as plain numbers, under any suite. What a call needs of the keys
 //! beyond their bytes is made again in it: a key schedule and the multiples of the hash's key.
 
-ghost use Rattle.std.specs.Prelude.{◌≡◌, ◌+◌, ◌-◌, ◌<◌, ◌≤◌, ◌^◌, ◌++◌, ℕ, List, [], length, take, true, false, MatchResult};
+ghost use Rattle.std.specs.Prelude.{◌≡◌, ◌+◌, ◌-◌, ◌<◌, ◌≤◌, ◌^◌, ◌++◌, ℕ, List, [], length, take, true, false, MatchResult, OnErr};
 ghost use Rattle.octets.specs.Masked.{masked};
 ghost use Rattle.aes.specs.Cipher.{IsKey};
 ghost use Rattle.gf128.specs.Orders.{Reversed, Serves};
 ghost use Rattle.aead.specs.Suites.{ByChaCha, ByGcm, ByGcmSiv, construction_of, key_length, text_limit, aad_limit};
 ghost use Rattle.aead.specs.Sealing.{Setting, hash_key, authentication_key, encryption_key, mask_of, tag_of, tag_over};
-ghost use Rattle.aead.specs.PassStates.{HoldsNumbers, IsStart};
+ghost use Rattle.aead.specs.PassStates.{IsHashKey, HoldsNumbers, IsStart};
 ghost use Rattle.aead.specs.Code.PassSteps.{MasksPiece, TakesPiece, TakesPieceText};
 ghost use Rattle.aead.specs.Code.States.{MadeByGcm};
 ghost use Rattle.aead.specs.KeyedPasses.{setting_of, BeginRefused, LengthsRefused, cipher_key};
@@ -54,6 +54,7 @@ impl KeyedPass {
     // ---- begin
 
     // Under the key of a message's cipher.
+    #[inline(always)]
     pub(crate) fn under(key: &[u8], nonce: &Nonce, state: PassState) -> KeyedPass
         requires { length key.now ≤ 32 }
         ensures key { take (length key.now) result.key ≡ key.now }
@@ -70,49 +71,85 @@ impl KeyedPass {
         }
     }
 
-    // Of no bytes, under ChaCha20-Poly1305.
-    pub(crate) fn begin_chacha(suite: Suite, key: &Key32, nonce: &Nonce, aad: &[u8]) -> KeyedPass
+    // Becomes one of no bytes, under ChaCha20-Poly1305. Each construction has its own function, which is not inlined, since the
+    // compiler clears the locals of all arms of a `match` at its start.
+    #[inline(never)]
+    pub(crate) fn begin_chacha(&mut self, suite: Suite, key: &Key32, nonce: &Nonce, aad: &[u8])
         requires by { construction_of suite ≡ ByChaCha }
         requires fits { length aad.now ≤ aad_limit suite }
-        ensures { HoldsPass result (setting_of suite key.now nonce.now aad.now) [] }
+        ensures { HoldsPass self.new (setting_of suite key.now nonce.now aad.now) [] }
     {
         let state = PassState::begun(&PolyKeys, one_time_key(key, nonce), aad);
-        KeyedPass::under(key.bytes(), nonce, state)
+        *self = KeyedPass::under(key.bytes(), nonce, state);
     }
 
-    // Of no bytes, under AES-GCM.
+    // The numbers of no bytes after associated data under AES-GCM, by multiples of the hash's key that are made in this call.
+    #[inline(never)]
+    fn hashed_by_gcm(ghash_key: &Block, hash_keys: [u8; 32], aad: &[u8]) -> PassState
+        ensures { (s : Setting) → construction_of s.suite ≡ ByGcm → ghash_key.now ≡ hash_key s.key
+            → IsHashKey (construction_of s.suite) hash_keys s → s.aad ≡ aad.now → length aad.now ≤ aad_limit s.suite
+            → HoldsNumbers result s [] }
+    {
+        let multiplier = TableMul::of(ghash_key);
+        let keys = GhashKeys {
+            multiplier: &multiplier,
+        };
+        PassState::begun(&keys, hash_keys, aad)
+    }
+
+    // The numbers of no bytes under AES-GCM.
+    #[inline(always)]
+    fn begun_by_gcm(ghash_key: &Block, hash_keys: [u8; 32], aad: &[u8]) -> PassState
+        ensures { (s : Setting) → construction_of s.suite ≡ ByGcm → ghash_key.now ≡ hash_key s.key
+            → IsHashKey (construction_of s.suite) hash_keys s → s.aad ≡ aad.now → length aad.now ≤ aad_limit s.suite
+            → HoldsNumbers result s [] }
+    {
+        if aad.is_empty() {
+            PassState::empty(hash_keys)
+        } else {
+            KeyedPass::hashed_by_gcm(ghash_key, hash_keys, aad)
+        }
+    }
+
+    // Becomes one of no bytes, under AES-GCM.
+    #[inline(never)]
     fn begin_gcm(
+        &mut self,
         suite: Suite,
         key: &[u8],
         cipher: &AesKey,
         ghash_key: &Block,
         nonce: &Nonce,
         aad: &[u8],
-    ) -> KeyedPass
+    )
         requires by { construction_of suite ≡ ByGcm }
         requires long { length key.now ≡ key_length suite }
         requires cipher { cipher.now ≡ key.now }
         requires ghash_key { ghash_key.now ≡ hash_key key.now }
         requires fits { length aad.now ≤ aad_limit suite }
-        ensures { HoldsPass result (setting_of suite key.now nonce.now aad.now) [] }
+        ensures { HoldsPass self.new (setting_of suite key.now nonce.now aad.now) [] }
     {
-        let multiplier = TableMul::of(ghash_key);
-        let keys = GhashKeys {
-            multiplier: &multiplier,
-        };
-        let state = PassState::begun(&keys, hash_keys(cipher, ghash_key, nonce), aad);
-        KeyedPass::under(key, nonce, state)
+        let hash_keys = hash_keys(cipher, ghash_key, nonce);
+        let state = KeyedPass::begun_by_gcm(ghash_key, hash_keys, aad);
+        *self = KeyedPass::under(key, nonce, state);
     }
 
-    // Of no bytes, under AES-GCM-SIV and the derived keys of a message.
-    fn derived(suite: Suite, key: &[u8], hash_key: &Block, nonce: &Nonce, aad: &[u8]) -> KeyedPass
+    // Becomes one of no bytes, under AES-GCM-SIV and the derived keys of a message.
+    fn begin_derived(
+        &mut self,
+        suite: Suite,
+        key: &[u8],
+        hash_key: &Block,
+        nonce: &Nonce,
+        aad: &[u8],
+    )
         requires { length key.now ≡ key_length suite }
         ensures is_key { IsKey key.now }
         ensures holds { (s : Setting) → s.suite ≡ suite → construction_of suite ≡ ByGcmSiv
             → length s.key ≡ key_length suite → key.now ≡ encryption_key s.key s.nonce
             → Serves Reversed (authentication_key s.key s.nonce) hash_key.now
             → s.nonce ≡ nonce.now → s.aad ≡ aad.now → length aad.now ≤ aad_limit suite
-            → HoldsPass result s [] }
+            → HoldsPass self.new s [] }
     {
         let cipher = expanded(key);
         let multiplier = TableMul::of(hash_key);
@@ -122,59 +159,63 @@ impl KeyedPass {
             nonce,
         };
         let state = PassState::begun(&keys, joined(hash_key.bytes(), &[0; 16]), aad);
-        KeyedPass::under(key, nonce, state)
+        *self = KeyedPass::under(key, nonce, state);
     }
 
-    // Of no bytes, under AES-GCM-SIV.
-    pub(crate) fn begin_siv(suite: Suite, cipher: &AesKey, nonce: &Nonce, aad: &[u8]) -> KeyedPass
+    // Becomes one of no bytes, under AES-GCM-SIV.
+    #[inline(never)]
+    pub(crate) fn begin_siv(&mut self, suite: Suite, cipher: &AesKey, nonce: &Nonce, aad: &[u8])
         requires by { construction_of suite ≡ ByGcmSiv }
         requires long { length cipher.now ≡ key_length suite }
         requires fits { length aad.now ≤ aad_limit suite }
         ensures is_key { IsKey (encryption_key cipher.now nonce.now) }
-        ensures holds { HoldsPass result (setting_of suite cipher.now nonce.now aad.now) [] }
+        ensures holds { HoldsPass self.new (setting_of suite cipher.now nonce.now aad.now) [] }
     {
         let parts = KeyParts::new(cipher, nonce);
         let hash_key = hash_key(&parts);
         match suite {
             Suite::Aes128GcmSiv => {
-                KeyedPass::derived(suite, &short_encryption_key(&parts), &hash_key, nonce, aad)
+                self.begin_derived(suite, &short_encryption_key(&parts), &hash_key, nonce, aad)
             }
-            _ => KeyedPass::derived(suite, &long_encryption_key(&parts), &hash_key, nonce, aad),
+            _ => self.begin_derived(suite, &long_encryption_key(&parts), &hash_key, nonce, aad),
         }
     }
 
-    // Of no bytes, under AES-GCM and the bytes of a key.
+    // Becomes one of no bytes, under AES-GCM and the bytes of a key.
     #[inline(never)]
-    fn begin_gcm_anew(suite: Suite, key: &[u8], nonce: &Nonce, aad: &[u8]) -> KeyedPass
+    fn begin_gcm_anew(&mut self, suite: Suite, key: &[u8], nonce: &Nonce, aad: &[u8])
         requires by { construction_of suite ≡ ByGcm }
         requires long { length key.now ≡ key_length suite }
         requires fits { length aad.now ≤ aad_limit suite }
-        ensures { HoldsPass result (setting_of suite key.now nonce.now aad.now) [] }
+        ensures { HoldsPass self.new (setting_of suite key.now nonce.now aad.now) [] }
     {
         let cipher = expanded(key);
-        KeyedPass::begin_gcm(suite, key, &cipher, &hash_subkey(&cipher), nonce, aad)
+        self.begin_gcm(suite, key, &cipher, &hash_subkey(&cipher), nonce, aad);
     }
 
-    // Of no bytes, under AES-GCM-SIV and the bytes of a key.
+    // Becomes one of no bytes, under AES-GCM-SIV and the bytes of a key.
     #[inline(never)]
-    fn begin_siv_anew(suite: Suite, key: &[u8], nonce: &Nonce, aad: &[u8]) -> KeyedPass
+    fn begin_siv_anew(&mut self, suite: Suite, key: &[u8], nonce: &Nonce, aad: &[u8])
         requires by { construction_of suite ≡ ByGcmSiv }
         requires long { length key.now ≡ key_length suite }
         requires fits { length aad.now ≤ aad_limit suite }
-        ensures { HoldsPass result (setting_of suite key.now nonce.now aad.now) [] }
+        ensures { HoldsPass self.new (setting_of suite key.now nonce.now aad.now) [] }
     {
-        KeyedPass::begin_siv(suite, &expanded(key), nonce, aad)
+        self.begin_siv(suite, &expanded(key), nonce, aad);
     }
 
-    // Of no bytes, under the bytes of a key and a nonce. `KeyLength`, `NonceLength`, then `AadTooLong`.
+    // Becomes one of no bytes, under the bytes of a key and a nonce. `KeyLength`, `NonceLength`, then `AadTooLong`: it is then as
+    // it was.
     pub(crate) fn begin(
+        &mut self,
         suite: Suite,
         key: &[u8],
         nonce: &[u8],
         aad: &[u8],
-    ) -> Result<KeyedPass, Fault>
-        ensures { let s = setting_of suite key.now nonce.now aad.now in
-            MatchResult result (λ p. HoldsPass p s []) (BeginRefused s) }
+    ) -> Result<(), Fault>
+        ensures answer { let s = setting_of suite key.now nonce.now aad.now in
+            MatchResult result (λ _. HoldsPass self.new s []) (BeginRefused s) }
+        ensures kept { OnErr result (self.new ≡ self.old) }
     {
         if key.len() != suite.key_length() {
             return Err(Fault::KeyLength);
@@ -184,44 +225,52 @@ impl KeyedPass {
         match suite {
             Suite::ChaCha20Poly1305 => {
                 let key = Key32::from_slice(key)?;
-                Ok(KeyedPass::begin_chacha(suite, &key, &nonce, aad))
+                self.begin_chacha(suite, &key, &nonce, aad);
+                Ok(())
             }
             Suite::Aes128Gcm | Suite::Aes192Gcm | Suite::Aes256Gcm => {
-                Ok(KeyedPass::begin_gcm_anew(suite, key, &nonce, aad))
+                self.begin_gcm_anew(suite, key, &nonce, aad);
+                Ok(())
             }
             Suite::Aes128GcmSiv | Suite::Aes256GcmSiv => {
-                Ok(KeyedPass::begin_siv_anew(suite, key, &nonce, aad))
+                self.begin_siv_anew(suite, key, &nonce, aad);
+                Ok(())
             }
         }
     }
 
     // As `begin`, by what was made of the key before: its schedule and the key of GHASH.
     pub(crate) fn begin_by(
+        &mut self,
         suite: Suite,
         key: &[u8],
         cipher: &AesKey,
         ghash_key: &Block,
         nonce: &[u8],
         aad: &[u8],
-    ) -> Result<KeyedPass, Fault>
+    ) -> Result<(), Fault>
         requires long { length key.now ≡ key_length suite }
         requires cipher { cipher.now ≡ key.now }
         requires ghash_key { ghash_key.now ≡ hash_key key.now }
-        ensures { let s = setting_of suite key.now nonce.now aad.now in
-            MatchResult result (λ p. HoldsPass p s []) (BeginRefused s) }
+        ensures answer { let s = setting_of suite key.now nonce.now aad.now in
+            MatchResult result (λ _. HoldsPass self.new s []) (BeginRefused s) }
+        ensures kept { OnErr result (self.new ≡ self.old) }
     {
         let nonce = Nonce::from_slice(nonce)?;
         suite.check_aad(aad)?;
         match suite {
             Suite::ChaCha20Poly1305 => {
                 let key = Key32::from_slice(key)?;
-                Ok(KeyedPass::begin_chacha(suite, &key, &nonce, aad))
+                self.begin_chacha(suite, &key, &nonce, aad);
+                Ok(())
             }
             Suite::Aes128Gcm | Suite::Aes192Gcm | Suite::Aes256Gcm => {
-                Ok(KeyedPass::begin_gcm(suite, key, cipher, ghash_key, &nonce, aad))
+                self.begin_gcm(suite, key, cipher, ghash_key, &nonce, aad);
+                Ok(())
             }
             Suite::Aes128GcmSiv | Suite::Aes256GcmSiv => {
-                Ok(KeyedPass::begin_siv(suite, cipher, &nonce, aad))
+                self.begin_siv(suite, cipher, &nonce, aad);
+                Ok(())
             }
         }
     }
@@ -390,7 +439,7 @@ impl KeyedPass {
     }
 
     // Masks a piece under a tag, and takes in what is authenticated of it, if it is within a limit. Returns whether it is.
-    // Only under AES-GCM-SIV does the mask depend on the tag. Each construction has a function of its own, since the compiler
+    // Only under AES-GCM-SIV does the mask depend on the tag. Each construction has its own function, since the compiler
     // clears the locals of all arms of a `match` at its start.
     pub(crate) fn mask<R: Order>(
         &mut self,

@@ -1,5 +1,5 @@
-//! Two passes over a message together with the message's keys, as plain numbers: for a caller that keeps all of it in memory of
-//! its own.
+//! Two passes over a message together with the message's keys, as plain numbers: for a caller that keeps all of it in its
+//! own memory.
 
 ghost use Rattle.std.specs.Prelude.{◌≡◌, ℕ, List, []};
 ghost use Rattle.aead.specs.Sealing.{Setting};
@@ -38,18 +38,15 @@ impl KeyedPasses {
         }
     }
 
-    // The first pass, which has taken in nothing yet.
-    pub(crate) fn of(pass: KeyedPass, tag: &[u8; 16]) -> KeyedPasses
-        ensures pass { result.pass ≡ pass }
-        ensures start { (s : Setting) → HoldsNumbers pass.state s [] → IsStart result.start s }
-        ensures tag { result.tag ≡ tag.now }
+    // Begins the first pass, whose numbers are those of no bytes, under a tag.
+    pub(crate) fn begin_first(&mut self, tag: &[u8; 16])
+        ensures pass { self.new.pass ≡ self.old.pass }
+        ensures start { (s : Setting) → HoldsNumbers self.old.pass.state s [] → IsStart self.new.start s }
+        ensures tag { self.new.tag ≡ tag.now }
     {
-        KeyedPasses {
-            pass,
-            start: pass.state.sum(),
-            tag: *tag,
-            first: 0,
-        }
+        self.start = self.pass.state.sum();
+        self.tag = *tag;
+        self.first = 0;
     }
 
     // Without the message's key and nonce.

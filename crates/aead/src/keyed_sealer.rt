@@ -1,4 +1,4 @@
-//! A sealing in pieces together with its keys, as plain numbers: for a caller that keeps all of it in memory of its own.
+//! A sealing in pieces together with its keys, as plain numbers: for a caller that keeps all of it in its own memory.
 
 ghost use Rattle.std.specs.Prelude.{◌≡◌, ◌+◌, ◌<◌, ◌≤◌, ◌++◌, ℕ, List, [], length, true, MatchResult, OnErr};
 ghost use Rattle.octets.specs.Masked.{masked};
@@ -35,44 +35,42 @@ impl KeyedSealer {
         }
     }
 
-    /// Returns a state that holds the empty text, under a suite whose tag is over the ciphertext, the bytes of a key and of a
-    /// nonce, and associated data. `KeyLength` if the key has not the suite's length, `NonceLength` if the nonce is not 12
-    /// bytes long, then `AadTooLong` if the data is past the suite's limit.
+    /// Begins the empty text, under a suite whose tag is over the ciphertext, the bytes of a key and of a nonce, and associated
+    /// data. What the state was before makes no difference. `KeyLength` if the key has not the suite's length, `NonceLength` if
+    /// the nonce is not 12 bytes long, then `AadTooLong` if the data is past the suite's limit: the state is then as it was.
     ///
     /// The nonce must never be used twice under one key: a repeat gives away the XOR of the two texts, and enough to
     /// forge messages.
-    pub fn begin(suite: Suite, key: &[u8], nonce: &[u8], aad: &[u8]) -> Result<KeyedSealer, Fault>
+    pub fn begin(&mut self, suite: Suite, key: &[u8], nonce: &[u8], aad: &[u8]) -> Result<(), Fault>
         requires { is_one_pass (construction_of suite) ≡ true }
-        ensures { let s = setting_of suite key.now nonce.now aad.now in
-            MatchResult result (λ p. HoldsKeyedText p s []) (BeginRefused s) }
+        ensures answer { let s = setting_of suite key.now nonce.now aad.now in
+            MatchResult result (λ _. HoldsKeyedText self.new s []) (BeginRefused s) }
+        ensures kept { OnErr result (self.new ≡ self.old) }
     {
-        match KeyedPass::begin(suite, key, nonce, aad) {
-            Ok(pass) => Ok(KeyedSealer { pass }),
-            Err(fault) => Err(fault),
-        }
+        self.pass.begin(suite, key, nonce, aad)
     }
 
     /// As [`KeyedSealer::begin`], by what was made of the key before: its schedule and the key of GHASH, which is the cipher
     /// of a block of zeros.
     pub fn begin_by(
+        &mut self,
         suite: Suite,
         key: &[u8],
         cipher: &AesKey,
         ghash_key: &Block,
         nonce: &[u8],
         aad: &[u8],
-    ) -> Result<KeyedSealer, Fault>
+    ) -> Result<(), Fault>
         requires one_pass { is_one_pass (construction_of suite) ≡ true }
         requires long { length key.now ≡ key_length suite }
         requires cipher { cipher.now ≡ key.now }
         requires ghash_key { ghash_key.now ≡ hash_key key.now }
-        ensures { let s = setting_of suite key.now nonce.now aad.now in
-            MatchResult result (λ p. HoldsKeyedText p s []) (BeginRefused s) }
+        ensures answer { let s = setting_of suite key.now nonce.now aad.now in
+            MatchResult result (λ _. HoldsKeyedText self.new s []) (BeginRefused s) }
+        ensures kept { OnErr result (self.new ≡ self.old) }
     {
-        match KeyedPass::begin_by(suite, key, cipher, ghash_key, nonce, aad) {
-            Ok(pass) => Ok(KeyedSealer { pass }),
-            Err(fault) => Err(fault),
-        }
+        self.pass
+            .begin_by(suite, key, cipher, ghash_key, nonce, aad)
     }
 
     /// Returns a state by the numbers of another one under the same suite, key and nonce, as [`KeyedSealer::state`] returns

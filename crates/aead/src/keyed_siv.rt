@@ -1,5 +1,5 @@
 //! A sealing in pieces under AES-GCM-SIV (RFC 8452) together with its keys, as plain numbers: for a caller that keeps all of it
-//! in memory of its own. A first reading of the text gives its tag, and a second one encrypts it.
+//! in its own memory. A first reading of the text gives its tag, and a second one encrypts it.
 
 ghost use Rattle.std.specs.Prelude.{◌≡◌, ◌+◌, ◌<◌, ◌≤◌, ◌++◌, ℕ, List, [], length, MatchResult, OnErr};
 ghost use Rattle.octets.specs.Masked.{masked};
@@ -37,21 +37,23 @@ impl KeyedSiv {
         }
     }
 
-    /// Returns a state in its first reading that holds the empty text, under a suite of AES-GCM-SIV, the bytes of a key and of a
-    /// nonce, and associated data. `KeyLength` if the key has not the suite's length, `NonceLength` if the nonce is not 12
-    /// bytes long, then `AadTooLong` if the data is past the suite's limit.
+    /// Begins the first reading, of the empty text, under a suite of AES-GCM-SIV, the bytes of a key and of a nonce, and associated
+    /// data. What the state was before makes no difference. `KeyLength` if the key has not the suite's length, `NonceLength` if
+    /// the nonce is not 12 bytes long, then `AadTooLong` if the data is past the suite's limit: the state is then as it was.
     ///
     /// The nonce must never be used twice under one key: a repeat gives away whether the texts and the associated data
     /// were the same, and nothing else.
-    pub fn begin(suite: Suite, key: &[u8], nonce: &[u8], aad: &[u8]) -> Result<KeyedSiv, Fault>
+    pub fn begin(&mut self, suite: Suite, key: &[u8], nonce: &[u8], aad: &[u8]) -> Result<(), Fault>
         requires { construction_of suite ≡ ByGcmSiv }
-        ensures { let s = setting_of suite key.now nonce.now aad.now in
-            MatchResult result (λ p. HoldsFirstReading p s []) (BeginRefused s) }
+        ensures answer { let s = setting_of suite key.now nonce.now aad.now in
+            MatchResult result (λ _. HoldsFirstReading self.new s []) (BeginRefused s) }
+        ensures kept { OnErr result (self.new ≡ self.old) }
     {
-        match KeyedPass::begin(suite, key, nonce, aad) {
-            Ok(pass) => Ok(KeyedSiv {
-                passes: KeyedPasses::of(pass, &[0; 16]),
-            }),
+        match self.passes.pass.begin(suite, key, nonce, aad) {
+            Ok(()) => {
+                self.passes.begin_first(&[0; 16]);
+                Ok(())
+            }
             Err(fault) => Err(fault),
         }
     }
@@ -59,24 +61,31 @@ impl KeyedSiv {
     /// As [`KeyedSiv::begin`], by what was made of the key before: its schedule and the key of GHASH, which is the cipher of a
     /// block of zeros.
     pub fn begin_by(
+        &mut self,
         suite: Suite,
         key: &[u8],
         cipher: &AesKey,
         ghash_key: &Block,
         nonce: &[u8],
         aad: &[u8],
-    ) -> Result<KeyedSiv, Fault>
+    ) -> Result<(), Fault>
         requires by { construction_of suite ≡ ByGcmSiv }
         requires long { length key.now ≡ key_length suite }
         requires cipher { cipher.now ≡ key.now }
         requires ghash_key { ghash_key.now ≡ hash_key key.now }
-        ensures { let s = setting_of suite key.now nonce.now aad.now in
-            MatchResult result (λ p. HoldsFirstReading p s []) (BeginRefused s) }
+        ensures answer { let s = setting_of suite key.now nonce.now aad.now in
+            MatchResult result (λ _. HoldsFirstReading self.new s []) (BeginRefused s) }
+        ensures kept { OnErr result (self.new ≡ self.old) }
     {
-        match KeyedPass::begin_by(suite, key, cipher, ghash_key, nonce, aad) {
-            Ok(pass) => Ok(KeyedSiv {
-                passes: KeyedPasses::of(pass, &[0; 16]),
-            }),
+        match self
+            .passes
+            .pass
+            .begin_by(suite, key, cipher, ghash_key, nonce, aad)
+        {
+            Ok(()) => {
+                self.passes.begin_first(&[0; 16]);
+                Ok(())
+            }
             Err(fault) => Err(fault),
         }
     }

@@ -24,33 +24,25 @@ pub(crate) struct Masking<S, H, R> {
 }
 
 impl<S: MaskStream, H: TagHash, R: Order> Masking<S, H, R> {
-    ghost use Rattle.aead.specs.Code.States.{HoldsAuthenticator};
     ghost use Rattle.aead.specs.Code.Maskings.{Task, HoldsMasking, task_mask};
 
-    // No piece yet.
+    // One that has taken in nothing.
     #[inline(always)]
-    pub(crate) fn new(
-        mask: S,
-        authenticator: Authenticator<H>,
-        order: R,
-        limit: u64,
-    ) -> Masking<S, H, R>
-        requires { authenticator.length ≡ 0 }
-        ensures holds { (t : Task) → S.made mask t.setting t.tag 0
-            → HoldsAuthenticator H.held authenticator t.setting [] → limit ≡ t.limit
-            → t.limit ≤ text_limit t.setting.suite → HoldsMasking S.made H.held R.hashed result t [] }
+    pub(crate) fn empty(mask: S, hash: H, order: R, limit: u64) -> Masking<S, H, R>
+        ensures mask { result.mask ≡ mask }
+        ensures hash { result.authenticator.hash ≡ hash }
         ensures none { result.authenticator.length ≡ 0 }
         ensures limit { result.limit ≡ limit }
     {
         Masking {
             mask,
-            authenticator,
+            authenticator: Authenticator::empty(hash),
             order,
             limit,
         }
     }
 
-    // Takes in the associated data, before any piece.
+    // Takes in the associated data, before any piece. The state is not moved afterwards, since a move would copy it.
     #[inline(always)]
     pub(crate) fn begin(&mut self, aad: &[u8])
         requires { self.old.authenticator.length ≡ 0 }

@@ -12,7 +12,7 @@ ghost use Rattle.aead.specs.PassStates.{HoldsNumbers};
 ghost use Rattle.aead.specs.KeyedPieces.{Opens, WasOverASealing};
 ghost use Rattle.aead.specs.Pieces.{IsUnder, HasTakenIn, IsInFirstPass, IsInSecondPass, numbers_of};
 
-use crate::aead::Cipher;
+use crate::aead::Aead;
 use crate::any::{AnyAead, AnyOnePass};
 use crate::beside::HashFirst;
 use crate::chacha_poly::ChaChaPoly;
@@ -36,7 +36,9 @@ fn begun_chacha(cipher: &ChaChaPoly, nonce: &Nonce, aad: &[u8]) -> KeyedPass
     ensures under { IsUnder cipher.now result (setting cipher.now nonce.now aad.now) }
     ensures holds { HoldsNumbers result.state (setting cipher.now nonce.now aad.now) [] }
 {
-    KeyedPass::begin_chacha(cipher.suite(), cipher.key(), nonce, aad)
+    let mut pass = KeyedPass::zeros();
+    pass.begin_chacha(cipher.suite(), cipher.key(), nonce, aad);
+    pass
 }
 
 // Under AES-GCM, without the key.
@@ -57,7 +59,9 @@ fn begun_siv(cipher: &GcmSiv, nonce: &Nonce, aad: &[u8]) -> KeyedPass
     ensures under { IsUnder cipher.now result (setting cipher.now nonce.now aad.now) }
     ensures holds { HoldsNumbers result.state (setting cipher.now nonce.now aad.now) [] }
 {
-    KeyedPass::begin_siv(cipher.suite(), cipher.key(), nonce, aad)
+    let mut pass = KeyedPass::zeros();
+    pass.begin_siv(cipher.suite(), cipher.key(), nonce, aad);
+    pass
 }
 
 // Under any suite.
@@ -238,10 +242,10 @@ impl<'a> Opener<'a> {
             MatchResult result (λ opener. HoldsOpener opener s tag.now []) (λ e. SealRefused s [] e) }
     {
         cipher.suite().check_aad(aad)?;
-        Ok(Opener {
-            cipher,
-            passes: KeyedPasses::of(begun(cipher, nonce, aad), tag.bytes()),
-        })
+        let mut passes = KeyedPasses::zeros();
+        passes.pass = begun(cipher, nonce, aad);
+        passes.begin_first(tag.bytes());
+        Ok(Opener { cipher, passes })
     }
 
     /// Returns a state by the numbers of another one under the same cipher and nonce, as [`Opener::state`] returns them: it

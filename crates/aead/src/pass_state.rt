@@ -20,7 +20,8 @@ const WORD: u128 = 0x1_0000_0000_0000_0000;
 /// What a pass over a message has taken in, as plain numbers, without the message's key and nonce. Each number may have any
 /// value: they are read with checks, and what carries a fact is made again.
 ///
-/// The numbers are secret: from them and the message, others can be forged under AES-GCM and AES-GCM-SIV.
+/// Keep the numbers as secret as the key: whoever has them can forge sealings, under every suite. They give away the one-time key
+/// of ChaCha20-Poly1305; the key of GHASH and the cipher of J0 under AES-GCM; or the authentication key of AES-GCM-SIV.
 #[repr(C)]
 #[derive(Clone, Copy)]
 pub struct PassState {
@@ -140,7 +141,25 @@ impl PassState {
         self.length <= limit && piece.len() as u64 <= limit - self.length
     }
 
+    // The numbers of no bytes after no associated data: they need no multiples of the hash's key.
+    #[inline(always)]
+    pub(crate) fn empty(hash_key: [u8; 32]) -> PassState
+        ensures { (s : Setting) → IsHashKey (construction_of s.suite) hash_key s → length s.aad ≡ 0
+            → HoldsNumbers result s [] }
+    {
+        PassState {
+            hash_key,
+            rest: [0; 16],
+            low: 0,
+            middle: 0,
+            high: 0,
+            aad_length: 0,
+            length: 0,
+        }
+    }
+
     // The numbers of no bytes after associated data.
+    #[inline(always)]
     pub(crate) fn begun<K: HashKeys>(keys: &K, hash_key: [u8; 32], aad: &[u8]) -> PassState
         ensures { (s : Setting) → K.serves keys.now s → IsHashKey (construction_of s.suite) hash_key s
             → s.aad ≡ aad.now → length aad.now ≤ aad_limit s.suite → HoldsNumbers result s [] }

@@ -9,7 +9,7 @@ ghost use Rattle.aead.specs.Code.Masks.{as_it_comes};
 ghost use Rattle.aead.specs.Code.States.{MadeByGcmSiv};
 ghost use Rattle.aead.specs.Code.PassSteps.{MasksPiece, TakesPiece};
 
-use crate::aead::Cipher;
+use crate::aead::Aead;
 use crate::beside::HashFirst;
 use crate::derived_keys::joined;
 use crate::gcm_siv::{self, GcmSiv};

@@ -1,8 +1,8 @@
-//! The six suites: their names, lengths and limits (RFC 8439, 2.8; SP 800-38D, 5.2.1.1; RFC 8452, 6).
+//! The six suites: their names, numbers, lengths and limits (RFC 8439, 2.8; SP 800-38D, 5.2.1.1; RFC 8452, 6).
 
 ghost use Rattle.std.specs.Prelude.{◌≡◌, ◌↔◌, ◌<◌, ◌≤◌, length, MatchResult};
 ghost use Rattle.aead.specs.declared.suite.Suite.{Suite};
-ghost use Rattle.aead.specs.Suites.{suite_name, key_length, text_limit, aad_limit};
+ghost use Rattle.aead.specs.Suites.{suite_name, suite_number, key_length, text_limit, aad_limit};
 
 use octets::Fault;
 
@@ -57,6 +57,37 @@ impl Suite {
             Suite::Aes256Gcm => "aes-256-gcm",
             Suite::Aes128GcmSiv => "aes-128-gcm-siv",
             Suite::Aes256GcmSiv => "aes-256-gcm-siv",
+        }
+    }
+
+    /// The suite of a number: 1 to 6, in the order of this type's suites. No other number has one.
+    #[inline]
+    pub fn from_number(number: u32) -> Option<Suite>
+        ensures { (suite : Suite) → (result ≡ Some suite) ↔ (number ≡ suite_number suite) }
+    {
+        match number {
+            1 => Some(Suite::ChaCha20Poly1305),
+            2 => Some(Suite::Aes128Gcm),
+            3 => Some(Suite::Aes192Gcm),
+            4 => Some(Suite::Aes256Gcm),
+            5 => Some(Suite::Aes128GcmSiv),
+            6 => Some(Suite::Aes256GcmSiv),
+            _ => None,
+        }
+    }
+
+    /// The number of a suite, which stands for it at C and in stored states: 1 to 6.
+    #[inline]
+    pub fn number(self) -> u32
+        ensures { result ≡ suite_number self }
+    {
+        match self {
+            Suite::ChaCha20Poly1305 => 1,
+            Suite::Aes128Gcm => 2,
+            Suite::Aes192Gcm => 3,
+            Suite::Aes256Gcm => 4,
+            Suite::Aes128GcmSiv => 5,
+            Suite::Aes256GcmSiv => 6,
         }
     }
 

@@ -9,7 +9,7 @@ use crate::pass_state::{PassState, Sum};
 /// What a sealing by two readings under AES-GCM-SIV, or an opening in two passes under any suite, has taken in, as plain
 /// numbers, without the message's key and nonce. Each number may have any value.
 ///
-/// The numbers are secret: from them and the message, others can be forged.
+/// Keep the numbers as secret as the key: whoever has them can forge sealings, as with those of a [`PassState`].
 #[repr(C)]
 #[derive(Clone, Copy)]
 pub struct TwoPassState {

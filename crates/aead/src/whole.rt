@@ -6,7 +6,7 @@ ghost use Rattle.aead.specs.Ciphers.{setting};
 ghost use Rattle.aead.specs.AnyCiphers.{keyed_of};
 ghost use Rattle.aead.specs.Refusals.{WholeSealRefused, WholeOpenRefused};
 
-use crate::aead::Cipher;
+use crate::aead::Aead;
 use crate::any::AnyAead;
 use crate::sealing_has_one_text;
 use crate::suite::Suite;

@@ -1,3 +1,4 @@
 mod Outcomes
 mod Marks
 mod Names
+mod Tested

@@ -10,7 +10,7 @@ use Rattle.aead.specs.declared.suite.Suite.TheVariants.{
   Aes128GcmSiv,
   Aes256GcmSiv,
 }
-use Rattle.capi.specs.Suites.{suite_number}
+use Rattle.aead.specs.Suites.{suite_number}
 use Rattle.capi.specs.Keys.{key_mark}
 
 -- the suite of a number

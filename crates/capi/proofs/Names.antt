@@ -12,8 +12,7 @@ use Rattle.aead.specs.declared.suite.Suite.TheVariants.{
   Aes128GcmSiv,
   Aes256GcmSiv,
 }
-use Rattle.aead.specs.Suites.{suite_name}
-use Rattle.capi.specs.Suites.{suite_number}
+use Rattle.aead.specs.Suites.{suite_name, suite_number}
 
 -- a suite's name is UTF-8
 pub name_is_text : (s : Suite) → IsUtf8 (suite_name s)

@@ -3,8 +3,7 @@ use Rattle.std.specs.Prelude.{◌≡◌, ◌≢◌, ℕ, ◌+◌, List, length, 
 use Rattle.octets.specs.declared.fault.Fault.{Fault}
 use Rattle.octets.specs.declared.fault.Fault.TheVariants.{KeyLength}
 use Rattle.aead.specs.declared.suite.Suite.{Suite}
-use Rattle.aead.specs.Suites.{key_length}
-use Rattle.capi.specs.Suites.{suite_number}
+use Rattle.aead.specs.Suites.{key_length, suite_number}
 
 -- the mark of a kept key: `cipher` in ASCII, the version of the layout, and the suite's number
 abbrev pub key_mark : Suite → ℕ

@@ -8,7 +8,7 @@ use Rattle.aead.specs.Sealing.{Setting, IsNoSealing, mask_of}
 use Rattle.aead.specs.Refusals.{SealRefused}
 use Rattle.aead.specs.KeyedPieces.{HoldsFirstPass, HoldsSecondPass, Opens, WasOverASealing, zero_opener}
 use Rattle.capi.specs.declared.opener.StoredOpener.{StoredOpener}
-use Rattle.capi.specs.Suites.{suite_number}
+use Rattle.aead.specs.Suites.{suite_number}
 
 -- the kind of struct in the first pass, to which its mark adds the suite's number: `opener` in ASCII, and the
 -- version of the layout

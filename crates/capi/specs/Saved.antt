@@ -2,10 +2,9 @@
 use Rattle.std.specs.Prelude.{◌≡◌, ◌≢◌, ℕ, ◌+◌, true, List}
 use Rattle.octets.specs.Numbers.{HasOutcome}
 use Rattle.aead.specs.declared.suite.Suite.{Suite}
-use Rattle.aead.specs.Suites.{ByGcmSiv, construction_of, is_one_pass}
+use Rattle.aead.specs.Suites.{ByGcmSiv, construction_of, is_one_pass, suite_number}
 use Rattle.aead.specs.Sealing.{Setting}
 use Rattle.aead.specs.KeyedPasses.{setting_of, LengthsRefused}
-use Rattle.capi.specs.Suites.{suite_number}
 use Rattle.capi.specs.Sealers.{sealer_mark}
 
 -- the mark is that of no suite, in this kind of struct

@@ -3,12 +3,11 @@ use Rattle.std.specs.Prelude.{◌≡◌, ◌≢◌, ℕ, ◌+◌, true, List, �
 use Rattle.octets.specs.Masked.{masked}
 use Rattle.octets.specs.Numbers.{HasOutcome}
 use Rattle.aead.specs.declared.suite.Suite.{Suite}
-use Rattle.aead.specs.Suites.{construction_of, is_one_pass}
+use Rattle.aead.specs.Suites.{construction_of, is_one_pass, suite_number}
 use Rattle.aead.specs.Sealing.{Setting, mask_of}
 use Rattle.aead.specs.Refusals.{SealRefused}
 use Rattle.aead.specs.KeyedPieces.{HoldsKeyedText, zero_sealer}
 use Rattle.capi.specs.declared.sealer.StoredSealer.{StoredSealer}
-use Rattle.capi.specs.Suites.{suite_number}
 
 -- the mark of a sealing in pieces: `sealer` in ASCII, the version of the layout, and the suite's number
 abbrev pub sealer_mark : Suite → ℕ

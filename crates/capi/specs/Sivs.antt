@@ -4,13 +4,12 @@ use Rattle.octets.specs.Masked.{masked}
 use Rattle.octets.specs.Numbers.{HasOutcome}
 use Rattle.octets.specs.declared.fault.Fault.TheVariants.{SourceChanged}
 use Rattle.aead.specs.declared.suite.Suite.{Suite}
-use Rattle.aead.specs.Suites.{ByGcmSiv, construction_of}
+use Rattle.aead.specs.Suites.{ByGcmSiv, construction_of, suite_number}
 use Rattle.aead.specs.Sealing.{Setting, mask_of, tag_of}
 use Rattle.aead.specs.Refusals.{SealRefused}
 use Rattle.aead.specs.Pieces.{Repeats}
 use Rattle.aead.specs.KeyedPieces.{HoldsFirstReading, HoldsSecondReading, zero_siv}
 use Rattle.capi.specs.declared.siv.StoredSiv.{StoredSiv}
-use Rattle.capi.specs.Suites.{suite_number}
 
 -- the kind of struct in the first reading, to which its mark adds the suite's number: `sivone` in ASCII, and the
 -- version of the layout

@@ -1,25 +1,7 @@
--- The numbers of suites at C, and the statuses of calls.
+-- The statuses of calls at C.
 use Rattle.std.specs.Prelude.{◌≡◌, ◌⊎◌, ℕ, ◌+◌, ◌<◌, ◌≤◌}
 use Rattle.octets.specs.Numbers.{HasOutcome}
 use Rattle.octets.specs.declared.fault.Fault.{Fault}
-use Rattle.aead.specs.declared.suite.Suite.{Suite}
-use Rattle.aead.specs.declared.suite.Suite.TheVariants.{
-  ChaCha20Poly1305,
-  Aes128Gcm,
-  Aes192Gcm,
-  Aes256Gcm,
-  Aes128GcmSiv,
-  Aes256GcmSiv,
-}
-
--- the number of a suite
-abbrev pub suite_number : Suite → ℕ
-suite_number ChaCha20Poly1305 = 1
-suite_number Aes128Gcm = 2
-suite_number Aes192Gcm = 3
-suite_number Aes256Gcm = 4
-suite_number Aes128GcmSiv = 5
-suite_number Aes256GcmSiv = 6
 
 -- the status of a call if no suite has the given number
 abbrev pub unknown_suite : ℕ

@@ -2,11 +2,10 @@
 
 ghost use Rattle.std.specs.Prelude.{◌≡◌, ◌≢◌, ◌↔◌, ◌++◌, length, take, drop};
 ghost use Rattle.aead.specs.declared.suite.Suite.{Suite};
-ghost use Rattle.aead.specs.Suites.{suite_name, key_length, text_limit, aad_limit};
-ghost use Rattle.capi.specs.Suites.{suite_number};
+ghost use Rattle.aead.specs.Suites.{suite_name, key_length, text_limit, aad_limit, suite_number};
 ghost use Rattle.capi.specs.Facts.{status_text};
 
-use crate::suites::{number_of, suite_numbered};
+use crate::suites::suite_numbered;
 use aead::Suite;
 use std::str::from_utf8;
 
@@ -57,12 +56,12 @@ pub extern "C" fn aeadkit_suite_named(name: &[u8]) -> u32
         return 0;
     };
     match Suite::named(name) {
-        Some(suite) => number_of(suite),
+        Some(suite) => suite.number(),
         None => 0,
     }
 }
 
-// The text of a status; the empty text for a number of none.
+// The text of a status; the empty text if the number is not a status.
 fn text_of(status: u32) -> &'static str
     ensures { result.now ≡ status_text status }
 {

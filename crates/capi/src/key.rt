@@ -1,12 +1,12 @@
 //! The calls for C on a key that is kept between messages: what is made of the key alone is made once.
 
-ghost use Rattle.std.specs.Prelude.{◌≡◌, ◌≢◌, ℕ, List, [], true, false, MatchResult};
+ghost use Rattle.std.specs.Prelude.{◌≡◌, ◌≢◌, ℕ, List, [], true, false, MatchResult, OnErr};
 ghost use Rattle.octets.specs.Numbers.{HasOutcome};
 ghost use Rattle.aead.specs.declared.suite.Suite.{Suite};
-ghost use Rattle.aead.specs.Suites.{ByGcmSiv, construction_of, is_one_pass};
+ghost use Rattle.aead.specs.Suites.{ByGcmSiv, construction_of, is_one_pass, suite_number};
 ghost use Rattle.aead.specs.KeyedPasses.{setting_of, BeginRefused};
 ghost use Rattle.aead.specs.KeyedPieces.{HoldsKeyedText, HoldsFirstReading, HoldsFirstPass};
-ghost use Rattle.capi.specs.Suites.{suite_number, unknown_suite, not_begun};
+ghost use Rattle.capi.specs.Suites.{unknown_suite, not_begun};
 ghost use Rattle.capi.specs.Whole.{WasSealed, WasNotSealed, WasOpened, WasNotOpened, SealsTo, OpensTo};
 ghost use Rattle.capi.specs.Keys.{key_mark, first_key, KeyRefused};
 ghost use Rattle.capi.specs.Sealers.{zeros, HoldsText};
@@ -100,20 +100,22 @@ impl<'a> Keys for ByKept<'a> {
     }
 }
 
-// The sealing that holds the empty text, under a kept key and the bytes of a nonce.
-fn sealer_by_kept(
+// Begins the sealing of the empty text, under a kept key and the bytes of a nonce.
+fn begin_sealer(
+    sealer: &mut KeyedSealer,
     kept: &StoredKey,
     suite: Suite,
     nonce: &[u8],
     aad: &[u8],
-) -> Result<KeyedSealer, Fault>
+) -> Result<(), Fault>
     requires marked { kept.now.numbers.mark ≡ key_mark suite }
     requires one_pass { is_one_pass (construction_of suite) ≡ true }
-    ensures { let s = setting_of suite (first_key suite kept.now.numbers.key) nonce.now aad.now in
-        MatchResult result (λ p. HoldsKeyedText p s []) (BeginRefused s) }
+    ensures answer { let s = setting_of suite (first_key suite kept.now.numbers.key) nonce.now aad.now in
+        MatchResult result (λ _. HoldsKeyedText sealer.new s []) (BeginRefused s) }
+    ensures kept { OnErr result (sealer.new ≡ sealer.old) }
 {
     let key = &kept.numbers.key[..suite.key_length()];
-    KeyedSealer::begin_by(
+    sealer.begin_by(
         suite,
         key,
         &kept.aes(suite),
@@ -123,20 +125,22 @@ fn sealer_by_kept(
     )
 }
 
-// The opening in its first pass that has taken in nothing yet, under a kept key, the bytes of a nonce and a tag.
-fn opener_by_kept(
+// Begins the first pass of an opening, under a kept key, the bytes of a nonce and a tag.
+fn begin_opener(
+    opener: &mut KeyedOpener,
     kept: &StoredKey,
     suite: Suite,
     nonce: &[u8],
     aad: &[u8],
     tag: &[u8; 16],
-) -> Result<KeyedOpener, Fault>
+) -> Result<(), Fault>
     requires { kept.now.numbers.mark ≡ key_mark suite }
-    ensures { let s = setting_of suite (first_key suite kept.now.numbers.key) nonce.now aad.now in
-        MatchResult result (λ p. HoldsFirstPass p s tag.now []) (BeginRefused s) }
+    ensures answer { let s = setting_of suite (first_key suite kept.now.numbers.key) nonce.now aad.now in
+        MatchResult result (λ _. HoldsFirstPass opener.new s tag.now []) (BeginRefused s) }
+    ensures kept { OnErr result (opener.new ≡ opener.old) }
 {
     let key = &kept.numbers.key[..suite.key_length()];
-    KeyedOpener::begin_by(
+    opener.begin_by(
         suite,
         key,
         &kept.aes(suite),
@@ -147,15 +151,22 @@ fn opener_by_kept(
     )
 }
 
-// The sealing in its first reading that holds the empty text, under a kept key and the bytes of a nonce.
-fn siv_by_kept(kept: &StoredKey, suite: Suite, nonce: &[u8], aad: &[u8]) -> Result<KeyedSiv, Fault>
+// Begins the first reading of a sealing, under a kept key and the bytes of a nonce.
+fn begin_siv(
+    siv: &mut KeyedSiv,
+    kept: &StoredKey,
+    suite: Suite,
+    nonce: &[u8],
+    aad: &[u8],
+) -> Result<(), Fault>
     requires marked { kept.now.numbers.mark ≡ key_mark suite }
     requires by { construction_of suite ≡ ByGcmSiv }
-    ensures { let s = setting_of suite (first_key suite kept.now.numbers.key) nonce.now aad.now in
-        MatchResult result (λ p. HoldsFirstReading p s []) (BeginRefused s) }
+    ensures answer { let s = setting_of suite (first_key suite kept.now.numbers.key) nonce.now aad.now in
+        MatchResult result (λ _. HoldsFirstReading siv.new s []) (BeginRefused s) }
+    ensures kept { OnErr result (siv.new ≡ siv.old) }
 {
     let key = &kept.numbers.key[..suite.key_length()];
-    KeyedSiv::begin_by(
+    siv.begin_by(
         suite,
         key,
         &kept.aes(suite),
@@ -321,7 +332,8 @@ pub extern "C" fn aeadkit_sealer_init_with(
     if is_siv(suite) {
         return UNKNOWN_SUITE;
     }
-    sealer.begin(suite, sealer_by_kept(kept, suite, nonce, aad))
+    let begun = begin_sealer(&mut sealer.sealer, kept, suite, nonce, aad);
+    sealer.begin(suite, begun)
 }
 
 /// Begins an opening in pieces under a kept key, as `aeadkit_opener_init` does under its bytes. `NOT_BEGUN` if the
@@ -344,7 +356,8 @@ pub extern "C" fn aeadkit_opener_init_with(
     let Some(suite) = marked(KEY, kept.numbers.mark) else {
         return NOT_BEGUN;
     };
-    opener.begin(suite, opener_by_kept(kept, suite, nonce, aad, tag))
+    let begun = begin_opener(&mut opener.opener, kept, suite, nonce, aad, tag);
+    opener.begin(suite, begun)
 }
 
 /// Begins a sealing by two readings under a kept key, as `aeadkit_siv_init` does under its bytes. `NOT_BEGUN` if the
@@ -375,7 +388,8 @@ pub extern "C" fn aeadkit_siv_init_with(
     if !is_siv(suite) {
         return UNKNOWN_SUITE;
     }
-    siv.begin(suite, siv_by_kept(kept, suite, nonce, aad))
+    let begun = begin_siv(&mut siv.siv, kept, suite, nonce, aad);
+    siv.begin(suite, begun)
 }
 
 /// The bytes of a struct that keeps a key.

@@ -1,15 +1,15 @@
 //! The calls for C that open a sealing in pieces. A first pass over the ciphertext gives nothing; only if it was over a
 //! sealing does a second pass decrypt.
 
-ghost use Rattle.std.specs.Prelude.{◌≡◌, ◌≢◌, ◌+◌, ℕ, List, [], length, MatchResult};
+ghost use Rattle.std.specs.Prelude.{◌≡◌, ◌≢◌, ◌+◌, ℕ, List, [], length, MatchResult, OnErr};
 ghost use Rattle.octets.specs.Numbers.{HasOutcome};
 ghost use Rattle.aead.specs.declared.suite.Suite.{Suite};
-ghost use Rattle.aead.specs.Suites.{text_limit};
+ghost use Rattle.aead.specs.Suites.{text_limit, suite_number};
 ghost use Rattle.aead.specs.Sealing.{Setting};
 ghost use Rattle.aead.specs.Pieces.{IsInFirstPass, IsInSecondPass};
 ghost use Rattle.aead.specs.KeyedPasses.{setting_of, BeginRefused};
 ghost use Rattle.aead.specs.KeyedPieces.{HoldsFirstPass, opener_count};
-ghost use Rattle.capi.specs.Suites.{suite_number, unknown_suite, not_begun, FitsOr, IsDoneOr};
+ghost use Rattle.capi.specs.Suites.{unknown_suite, not_begun, FitsOr, IsDoneOr};
 ghost use Rattle.capi.specs.Openers.{checking, opening, NotIn, zeros, HoldsChecking, HoldsOpening};
 ghost use Rattle.capi.specs.Openers.{Checks, BeginsSecond, Decrypts, Ends};
 ghost use Rattle.capi.specs.Saved.{NotMarked, Resumes};
@@ -32,7 +32,7 @@ const OPENING: u64 = 0x6f70_656e_6564_0200;
 pub struct StoredOpener {
     // The kind of struct, its pass, the version of its layout and the suite; anything else if no opening is begun.
     mark: u64,
-    opener: KeyedOpener,
+    pub(crate) opener: KeyedOpener,
 }
 
 impl StoredOpener {
@@ -46,20 +46,18 @@ impl StoredOpener {
         }
     }
 
-    // Becomes what was begun, or stays zeros if that was refused. Returns the status.
-    pub(crate) fn begin(&mut self, suite: Suite, begun: Result<KeyedOpener, Fault>) -> u32
-        requires { self.old ≡ zeros }
+    // Marks what was begun in it, or stays zeros if that was refused. Returns the status.
+    #[inline(always)]
+    pub(crate) fn begin(&mut self, suite: Suite, begun: Result<(), Fault>) -> u32
+        requires { OnErr begun (self.old ≡ zeros) }
         ensures begins { (s : Setting) (tag : List ℕ) → s.suite ≡ suite
-            → MatchResult begun (λ p. HoldsFirstPass p s tag []) (BeginRefused s)
+            → MatchResult begun (λ _. HoldsFirstPass self.old.opener s tag []) (BeginRefused s)
             → HasOutcome result (HoldsChecking self.new s tag []) (BeginRefused s) }
         ensures refused { result ≢ 0 → self.new ≡ zeros }
     {
         match begun {
-            Ok(opener) => {
-                *self = StoredOpener {
-                    mark: mark_of(CHECKING, suite),
-                    opener,
-                };
+            Ok(()) => {
+                self.mark = mark_of(CHECKING, suite);
                 outcome_number(Ok(()))
             }
             Err(fault) => outcome_number(Err(fault)),
@@ -100,7 +98,8 @@ pub extern "C" fn aeadkit_opener_init(
     let Some(suite) = suite_numbered(u64::from(suite)) else {
         return UNKNOWN_SUITE;
     };
-    opener.begin(suite, KeyedOpener::begin(suite, key, nonce, aad, tag))
+    let begun = opener.opener.begin(suite, key, nonce, aad, tag);
+    opener.begin(suite, begun)
 }
 
 /// Takes in a piece of the ciphertext in the first pass. `TextTooLong` if the ciphertext would be past the

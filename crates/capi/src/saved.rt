@@ -19,3 +19,8 @@ pub struct SavedPasses {
     pub(crate) mark: u64,
     pub(crate) state: TwoPassState,
 }
+
+// The sizes that the header declares.
+const _: () = prove!(size_of::<SavedSealer>() == 96);
+
+const _: () = prove!(size_of::<SavedPasses>() == 144);

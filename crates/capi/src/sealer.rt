@@ -1,14 +1,14 @@
 //! The calls for C that seal a text in pieces, under the suites whose tag is over the ciphertext.
 
-ghost use Rattle.std.specs.Prelude.{◌≡◌, ◌≢◌, ℕ, List, [], length, true, MatchResult};
+ghost use Rattle.std.specs.Prelude.{◌≡◌, ◌≢◌, ℕ, List, [], length, true, MatchResult, OnErr};
 ghost use Rattle.octets.specs.Numbers.{HasOutcome};
 ghost use Rattle.aead.specs.declared.suite.Suite.{Suite};
-ghost use Rattle.aead.specs.Suites.{construction_of, is_one_pass, text_limit};
+ghost use Rattle.aead.specs.Suites.{construction_of, is_one_pass, text_limit, suite_number};
 ghost use Rattle.aead.specs.Sealing.{Setting, tag_of};
 ghost use Rattle.aead.specs.PassStates.{HoldsState};
 ghost use Rattle.aead.specs.KeyedPasses.{setting_of, BeginRefused};
 ghost use Rattle.aead.specs.KeyedPieces.{HoldsKeyedText, sealer_count};
-ghost use Rattle.capi.specs.Suites.{suite_number, unknown_suite, not_begun, FitsOr};
+ghost use Rattle.capi.specs.Suites.{unknown_suite, not_begun, FitsOr};
 ghost use Rattle.capi.specs.Sealers.{sealer_mark, NotBegun, zeros, HoldsText, Updates};
 ghost use Rattle.capi.specs.Saved.{NotOfSealer, Resumes};
 
@@ -26,7 +26,7 @@ const SEALER: u64 = 0x7365_616c_6572_0200;
 pub struct StoredSealer {
     // The kind of struct, the version of its layout and the suite; anything else if no sealing is begun.
     mark: u64,
-    sealer: KeyedSealer,
+    pub(crate) sealer: KeyedSealer,
 }
 
 impl StoredSealer {
@@ -40,21 +40,18 @@ impl StoredSealer {
         }
     }
 
-    // Becomes what was begun, or stays zeros if that was refused. Returns the status.
+    // Marks what was begun in it, or stays zeros if that was refused. Returns the status.
     #[inline(always)]
-    pub(crate) fn begin(&mut self, suite: Suite, begun: Result<KeyedSealer, Fault>) -> u32
-        requires { self.old ≡ zeros }
+    pub(crate) fn begin(&mut self, suite: Suite, begun: Result<(), Fault>) -> u32
+        requires { OnErr begun (self.old ≡ zeros) }
         ensures begins { (s : Setting) → s.suite ≡ suite
-            → MatchResult begun (λ p. HoldsKeyedText p s []) (BeginRefused s)
+            → MatchResult begun (λ _. HoldsKeyedText self.old.sealer s []) (BeginRefused s)
             → HasOutcome result (HoldsText self.new s []) (BeginRefused s) }
         ensures refused { result ≢ 0 → self.new ≡ zeros }
     {
         match begun {
-            Ok(sealer) => {
-                *self = StoredSealer {
-                    mark: mark_of(SEALER, suite),
-                    sealer,
-                };
+            Ok(()) => {
+                self.mark = mark_of(SEALER, suite);
                 outcome_number(Ok(()))
             }
             Err(fault) => outcome_number(Err(fault)),
@@ -86,7 +83,8 @@ pub extern "C" fn aeadkit_sealer_init(
     let Some(suite) = one_pass_numbered(u64::from(suite)) else {
         return UNKNOWN_SUITE;
     };
-    sealer.begin(suite, KeyedSealer::begin(suite, key, nonce, aad))
+    let begun = sealer.sealer.begin(suite, key, nonce, aad);
+    sealer.begin(suite, begun)
 }
 
 /// Adds a piece to the text, and leaves its ciphertext in its place. `TextTooLong` if the text would be past the suite's

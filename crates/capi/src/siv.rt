@@ -1,15 +1,15 @@
 //! The calls for C that seal a text in pieces under AES-GCM-SIV (RFC 8452): a first reading of the text gives its tag, and
 //! a second one encrypts it.
 
-ghost use Rattle.std.specs.Prelude.{◌≡◌, ◌≢◌, ◌+◌, ℕ, List, [], length, MatchResult};
+ghost use Rattle.std.specs.Prelude.{◌≡◌, ◌≢◌, ◌+◌, ℕ, List, [], length, MatchResult, OnErr};
 ghost use Rattle.octets.specs.Numbers.{HasOutcome};
 ghost use Rattle.aead.specs.declared.suite.Suite.{Suite};
-ghost use Rattle.aead.specs.Suites.{ByGcmSiv, construction_of, text_limit};
+ghost use Rattle.aead.specs.Suites.{ByGcmSiv, construction_of, text_limit, suite_number};
 ghost use Rattle.aead.specs.Sealing.{Setting};
 ghost use Rattle.aead.specs.Pieces.{IsInFirstReading, IsInSecondReading};
 ghost use Rattle.aead.specs.KeyedPasses.{setting_of, BeginRefused};
 ghost use Rattle.aead.specs.KeyedPieces.{HoldsFirstReading, siv_count};
-ghost use Rattle.capi.specs.Suites.{suite_number, unknown_suite, not_begun, FitsOr, IsDoneOr};
+ghost use Rattle.capi.specs.Suites.{unknown_suite, not_begun, FitsOr, IsDoneOr};
 ghost use Rattle.capi.specs.Sivs.{absorbing, writing, NotIn, zeros, HoldsAbsorbing, HoldsWriting};
 ghost use Rattle.capi.specs.Sivs.{Absorbs, BeginsSecond, Encrypts, Ends};
 ghost use Rattle.capi.specs.Saved.{NotOfSiv, Resumes};
@@ -32,7 +32,7 @@ const WRITING: u64 = 0x7369_7674_776f_0200;
 pub struct StoredSiv {
     // The kind of struct, its reading, the version of its layout and the suite; anything else if no sealing is begun.
     mark: u64,
-    siv: KeyedSiv,
+    pub(crate) siv: KeyedSiv,
 }
 
 impl StoredSiv {
@@ -46,20 +46,18 @@ impl StoredSiv {
         }
     }
 
-    // Becomes what was begun, or stays zeros if that was refused. Returns the status.
-    pub(crate) fn begin(&mut self, suite: Suite, begun: Result<KeyedSiv, Fault>) -> u32
-        requires { self.old ≡ zeros }
+    // Marks what was begun in it, or stays zeros if that was refused. Returns the status.
+    #[inline(always)]
+    pub(crate) fn begin(&mut self, suite: Suite, begun: Result<(), Fault>) -> u32
+        requires { OnErr begun (self.old ≡ zeros) }
         ensures begins { (s : Setting) → s.suite ≡ suite
-            → MatchResult begun (λ p. HoldsFirstReading p s []) (BeginRefused s)
+            → MatchResult begun (λ _. HoldsFirstReading self.old.siv s []) (BeginRefused s)
             → HasOutcome result (HoldsAbsorbing self.new s []) (BeginRefused s) }
         ensures refused { result ≢ 0 → self.new ≡ zeros }
     {
         match begun {
-            Ok(siv) => {
-                *self = StoredSiv {
-                    mark: mark_of(ABSORBING, suite),
-                    siv,
-                };
+            Ok(()) => {
+                self.mark = mark_of(ABSORBING, suite);
                 outcome_number(Ok(()))
             }
             Err(fault) => outcome_number(Err(fault)),
@@ -106,7 +104,8 @@ pub extern "C" fn aeadkit_siv_init(
     let Some(suite) = siv_numbered(u64::from(suite)) else {
         return UNKNOWN_SUITE;
     };
-    siv.begin(suite, KeyedSiv::begin(suite, key, nonce, aad))
+    let begun = siv.siv.begin(suite, key, nonce, aad);
+    siv.begin(suite, begun)
 }
 
 /// Takes in a piece of the text in the first reading. `TextTooLong` if the text would be past the suite's limit:
@@ -162,7 +161,7 @@ pub extern "C" fn aeadkit_siv_update(siv: &mut StoredSiv, piece: &mut [u8]) -> u
 }
 
 /// Ends the second reading, and leaves zeros in the struct. `SourceChanged` if its text has another length or
-/// another tag than that of the first one: what update gave is then of no use.
+/// another tag than that of the first one: what update gave is then to be thrown away.
 #[unsafe(no_mangle)]
 pub extern "C" fn aeadkit_siv_finish(siv: &mut StoredSiv) -> u32
     ensures holds { (s : Setting) (first text : List ℕ) → Ends siv.old result s first text }

@@ -2,8 +2,7 @@
 
 ghost use Rattle.std.specs.Prelude.{◌≡◌, ◌↔◌, ◌+◌, ◌<◌, ◌^◌, true, false};
 ghost use Rattle.aead.specs.declared.suite.Suite.{Suite};
-ghost use Rattle.aead.specs.Suites.{ByGcmSiv, construction_of, is_one_pass};
-ghost use Rattle.capi.specs.Suites.{suite_number};
+ghost use Rattle.aead.specs.Suites.{ByGcmSiv, construction_of, is_one_pass, suite_number};
 
 use aead::Suite;
 
@@ -20,14 +19,9 @@ pub(crate) const OUTPUT_LENGTH: u32 = 16;
 pub(crate) fn suite_numbered(number: u64) -> Option<Suite>
     ensures { (suite : Suite) → (result ≡ Some suite) ↔ (number ≡ suite_number suite) }
 {
-    match number {
-        1 => Some(Suite::ChaCha20Poly1305),
-        2 => Some(Suite::Aes128Gcm),
-        3 => Some(Suite::Aes192Gcm),
-        4 => Some(Suite::Aes256Gcm),
-        5 => Some(Suite::Aes128GcmSiv),
-        6 => Some(Suite::Aes256GcmSiv),
-        _ => None,
+    match u32::try_from(number) {
+        Ok(number) => Suite::from_number(number),
+        Err(_) => None,
     }
 }
 
@@ -36,12 +30,9 @@ pub(crate) fn one_pass_numbered(number: u64) -> Option<Suite>
     ensures { (suite : Suite) → (result ≡ Some suite)
         ↔ (is_one_pass (construction_of suite) ≡ true × (number ≡ suite_number suite)) }
 {
-    match number {
-        1 => Some(Suite::ChaCha20Poly1305),
-        2 => Some(Suite::Aes128Gcm),
-        3 => Some(Suite::Aes192Gcm),
-        4 => Some(Suite::Aes256Gcm),
-        _ => None,
+    match suite_numbered(number) {
+        Some(suite) if is_siv(suite) => None,
+        found => found,
     }
 }
 
@@ -50,24 +41,9 @@ pub(crate) fn siv_numbered(number: u64) -> Option<Suite>
     ensures { (suite : Suite) → (result ≡ Some suite)
         ↔ ((construction_of suite ≡ ByGcmSiv) × (number ≡ suite_number suite)) }
 {
-    match number {
-        5 => Some(Suite::Aes128GcmSiv),
-        6 => Some(Suite::Aes256GcmSiv),
+    match suite_numbered(number) {
+        Some(suite) if is_siv(suite) => Some(suite),
         _ => None,
-    }
-}
-
-// The number of a suite.
-pub(crate) fn number_of(suite: Suite) -> u32
-    ensures { result ≡ suite_number suite }
-{
-    match suite {
-        Suite::ChaCha20Poly1305 => 1,
-        Suite::Aes128Gcm => 2,
-        Suite::Aes192Gcm => 3,
-        Suite::Aes256Gcm => 4,
-        Suite::Aes128GcmSiv => 5,
-        Suite::Aes256GcmSiv => 6,
     }
 }
 
@@ -76,7 +52,7 @@ pub(crate) fn mark_of(kind: u64, suite: Suite) -> u64
     requires { kind < 2 ^ 63 }
     ensures { result ≡ kind + suite_number suite }
 {
-    kind + u64::from(number_of(suite))
+    kind + u64::from(suite.number())
 }
 
 // The suite of a mark of a kind of struct.

@@ -6,15 +6,15 @@ ghost use Rattle.octets.specs.declared.fault.Fault.{Fault};
 ghost use Rattle.octets.specs.declared.fault.Fault.TheVariants.{KeyLength};
 ghost use Rattle.octets.specs.Numbers.{HasOutcome};
 ghost use Rattle.aead.specs.declared.suite.Suite.{Suite};
-ghost use Rattle.aead.specs.Suites.{construction_of, key_length, aad_limit, ByGcm};
+ghost use Rattle.aead.specs.Suites.{construction_of, key_length, aad_limit, ByGcm, suite_number};
 ghost use Rattle.aead.specs.Sealing.{Setting, hash_key};
 ghost use Rattle.aead.specs.Ciphers.{Keyed, setting};
 ghost use Rattle.aead.specs.KeyedPasses.{setting_of, HasLengths, BeginRefused};
-ghost use Rattle.capi.specs.Suites.{suite_number, unknown_suite};
+ghost use Rattle.capi.specs.Suites.{unknown_suite};
 ghost use Rattle.capi.specs.Whole.{WasSealed, WasNotSealed, WasOpened, WasNotOpened, SealsTo, OpensTo};
 
 use crate::suites::{OUTPUT_LENGTH, UNKNOWN_SUITE, suite_numbered};
-use aead::{BorrowedGcm, ChaChaPoly, Cipher, GcmSiv, Suite, hash_subkey};
+use aead::{Aead, BorrowedGcm, ChaChaPoly, GcmSiv, Suite, hash_subkey};
 use aes::AesKey;
 use gf128::{Keyed128, TableMul};
 use octets::{Block, Fault, Key32, Nonce, Tag, outcome_number};
@@ -39,7 +39,7 @@ pub(crate) trait Direction {
     ghost refused: { Setting → (text tag text' tag' : List ℕ) → Fault → Type 0 };
 
     // Seals or opens by a cipher, under the bytes of a nonce.
-    fn run<C: Cipher>(
+    fn run<C: Aead>(
         cipher: &C,
         nonce: &[u8],
         aad: &[u8],
@@ -66,7 +66,7 @@ impl Direction for Sealing {
 
     ghost key = { λ s text tag long. (refl, refl, long) };
 
-    fn run<C: Cipher>(
+    fn run<C: Aead>(
         cipher: &C,
         nonce: &[u8],
         aad: &[u8],
@@ -84,7 +84,7 @@ impl Direction for Sealing {
     }
 }
 
-// A ciphertext becomes its text if the tag is its own, which stays as it is.
+// A ciphertext becomes its text if authentication succeeds. The tag stays as it is.
 pub(crate) struct Opening;
 
 impl Direction for Opening {
@@ -94,7 +94,7 @@ impl Direction for Opening {
 
     ghost key = { λ s text tag long. (refl, long) };
 
-    fn run<C: Cipher>(
+    fn run<C: Aead>(
         cipher: &C,
         nonce: &[u8],
         aad: &[u8],
@@ -182,7 +182,7 @@ impl<'a> Keys for ByBytes<'a> {
         Ok(())
     }
 
-    // A cipher of its own suite is smaller than one of any suite.
+    // A cipher for one suite is smaller than one for any suite.
     fn run<D: Direction>(
         &self,
         nonce: &[u8],
@@ -311,7 +311,7 @@ pub extern "C" fn aeadkit_seal_in_place(
     }
 }
 
-/// Opens in place: a ciphertext becomes its text, if the tag is its own. At any status but 0 nothing is changed.
+/// Opens in place: a ciphertext becomes its text, if authentication succeeds. At any status but 0 nothing is changed.
 #[unsafe(no_mangle)]
 pub extern "C" fn aeadkit_open_in_place(
     suite: u32,

@@ -11,49 +11,54 @@ use crate::any::{AnyAead, AnyOnePass};
 use crate::beside::{HashFirst, MaskFirst};
 use crate::engine::measure::Measured;
 use crate::engine::passes::{Finding, pass};
-use crate::hash_then_mask::HashThenMask;
-use crate::mask_then_hash::MaskThenHash;
-use crate::nonced::masking;
+use crate::masking::Masking;
+use crate::one_pass::OnePass;
+use crate::two_pass::TwoPass;
 use gf128::Keyed128;
 use octets::{Fault, Intake, Nonce, Outlet};
 
 // Opens a whole reading by a cipher with a nonce whose tag is over the ciphertext.
-fn pass_hash_first<N: MaskThenHash, I: Intake, O: Outlet>(
-    nonced: &N,
+fn open_one_pass<N: OnePass, I: Intake, O: Outlet>(
+    message: &N,
     aad: &[u8],
     intake: &mut I,
     measured: &Measured,
     outlet: &mut O,
 ) -> Result<Finding, Fault>
-    requires aad_fits { length aad.now ≤ aad_limit (N.keyed nonced.now).suite }
-    requires high { measured.now.length ≤ text_limit (N.keyed nonced.now).suite + 16 }
-    ensures passed { PassedWhole (setting (N.keyed nonced.now) (N.nonce nonced.now) aad.now)
+    requires aad_fits { length aad.now ≤ aad_limit (N.keyed message.now).suite }
+    requires high { measured.now.length ≤ text_limit (N.keyed message.now).suite + 16 }
+    ensures passed { PassedWhole (setting (N.keyed message.now) (N.nonce message.now) aad.now)
         measured.now.tag measured.now.length (I.left intake.old) (I.left intake.new)
         (O.taken outlet.old) (O.taken outlet.new) result }
     ensures blame { DueToBoth [] (I.failures intake.old) (I.failures intake.new) (O.failures outlet.old)
         (O.failures outlet.new) result }
 {
-    let opening = masking(nonced, nonced.mask(), aad, HashFirst);
+    let limit = message.suite().text_limit();
+    let mut opening = Masking::empty(message.mask(), message.hash(), HashFirst, limit);
+    opening.begin(aad);
     pass(intake, opening, measured, outlet)
 }
 
 // Opens a whole reading by a cipher with a nonce whose tag is over the text.
-fn pass_mask_first<N: HashThenMask, I: Intake, O: Outlet>(
-    nonced: &N,
+fn open_two_pass<N: TwoPass, I: Intake, O: Outlet>(
+    message: &N,
     aad: &[u8],
     intake: &mut I,
     measured: &Measured,
     outlet: &mut O,
 ) -> Result<Finding, Fault>
-    requires aad_fits { length aad.now ≤ aad_limit (N.keyed nonced.now).suite }
-    requires high { measured.now.length ≤ text_limit (N.keyed nonced.now).suite + 16 }
-    ensures passed { PassedWhole (setting (N.keyed nonced.now) (N.nonce nonced.now) aad.now)
+    requires aad_fits { length aad.now ≤ aad_limit (N.keyed message.now).suite }
+    requires high { measured.now.length ≤ text_limit (N.keyed message.now).suite + 16 }
+    ensures passed { PassedWhole (setting (N.keyed message.now) (N.nonce message.now) aad.now)
         measured.now.tag measured.now.length (I.left intake.old) (I.left intake.new)
         (O.taken outlet.old) (O.taken outlet.new) result }
     ensures blame { DueToBoth [] (I.failures intake.old) (I.failures intake.new) (O.failures outlet.old)
         (O.failures outlet.new) result }
 {
-    let opening = masking(nonced, nonced.mask(&measured.tag), aad, MaskFirst);
+    let limit = message.suite().text_limit();
+    let mask = message.mask(&measured.tag);
+    let mut opening = Masking::empty(mask, message.hash(), MaskFirst, limit);
+    opening.begin(aad);
     pass(intake, opening, measured, outlet)
 }
 
@@ -76,18 +81,18 @@ pub(crate) fn pass_opening<M: Keyed128, I: Intake, O: Outlet>(
 {
     match cipher {
         AnyAead::OnePass(AnyOnePass::ChaCha(cipher)) => {
-            pass_hash_first(&cipher.nonced(nonce), aad, intake, measured, outlet)
+            open_one_pass(&cipher.nonced(nonce), aad, intake, measured, outlet)
         }
         AnyAead::OnePass(AnyOnePass::Gcm(cipher)) => {
             let made = cipher.multiplier_of::<M>();
-            let nonced = cipher.nonced(nonce, cipher.key(), &made);
-            pass_hash_first(&nonced, aad, intake, measured, outlet)
+            let message = cipher.nonced(nonce, cipher.key(), &made);
+            open_one_pass(&message, aad, intake, measured, outlet)
         }
         AnyAead::Siv(cipher) => {
             let keys = cipher.derive(nonce);
             let made = M::of(&keys.hash_key);
-            let nonced = cipher.nonced(nonce, &keys.encryption, &made);
-            pass_mask_first(&nonced, aad, intake, measured, outlet)
+            let message = cipher.nonced(nonce, &keys.encryption, &made);
+            open_two_pass(&message, aad, intake, measured, outlet)
         }
     }
 }

@@ -7,29 +7,32 @@ ghost use Rattle.aead.specs.Ciphers.{setting};
 ghost use Rattle.aead.specs.AnyCiphers.{one_pass_keyed};
 ghost use Rattle.aead.specs.SealStream.{SealsStream, IfTextKnown};
 
-use crate::aead::Cipher;
+use crate::aead::Aead;
 use crate::any::AnyOnePass;
+use crate::beside::MaskFirst;
 use crate::engine::passes::pass_all;
-use crate::mask_then_hash::{MaskThenHash, sealing};
+use crate::masking::Masking;
+use crate::one_pass::OnePass;
 use gf128::WideMul;
 use octets::{Fault, Intake, Nonce, Outlet, give_all};
 
 // Seals a stream by a cipher with a nonce.
-fn seal_over<N: MaskThenHash, I: Intake, O: Outlet>(
-    nonced: &N,
+fn seal_over<N: OnePass, I: Intake, O: Outlet>(
+    message: &N,
     aad: &[u8],
     text: &mut I,
     out: &mut O,
 ) -> Result<(), Fault>
-    requires { length aad.now ≤ aad_limit (N.keyed nonced.now).suite }
+    requires { length aad.now ≤ aad_limit (N.keyed message.now).suite }
     ensures blame { DueToBoth (Fault.TextTooLong ∷ []) (I.failures text.old) (I.failures text.new)
         (O.failures out.old) (O.failures out.new) result }
     ensures seals { IfTextKnown (I.left text.old) (O.taken out.old) (O.taken out.new)
-        (λ x given. SealsStream (setting (N.keyed nonced.now) (N.nonce nonced.now) aad.now) x given
+        (λ x given. SealsStream (setting (N.keyed message.now) (N.nonce message.now) aad.now) x given
         (I.failures text.old) (I.failures text.new) (O.failures out.old) (O.failures out.new) result) }
 {
-    let mut sealing = sealing(nonced, aad);
-    let limit = sealing.limit;
+    let limit = message.suite().text_limit();
+    let mut sealing = Masking::empty(message.mask(), message.hash(), MaskFirst, limit);
+    sealing.begin(aad);
     match pass_all(text, &mut sealing, limit, out) {
         Ok(Some(_)) => match give_all(out, sealing.finish().bytes()) {
             Ok(()) => Ok(()),

@@ -12,18 +12,17 @@ ghost use Rattle.aead.specs.Code.Maskings.{HoldsMasking, repeating_task};
 ghost use Rattle.aead.specs.Code.Absorbed.{AbsorbReturns};
 ghost use Rattle.aead.specs.SealSivStream.{WritesAgain, SealsSivStream, SivBlames, IfBothKnown};
 
-use crate::aead::Cipher;
+use crate::aead::Aead;
 use crate::authenticator::Authenticator;
 use crate::beside::HashFirst;
 use crate::engine::passes::{has_more, pass_all};
 use crate::engine::verifying::absorb_body;
 use crate::gcm_siv::GcmSiv;
-use crate::hash_then_mask::HashThenMask;
 use crate::hashes::TagHash;
 use crate::mask::MaskStream;
 use crate::masking::Masking;
-use crate::nonced::authenticator;
 use crate::second_reading::repeats;
+use crate::two_pass::TwoPass;
 use gf128::{Keyed128, WideMul};
 use octets::{Fault, Intake, Nonce, Outlet, Tag, give_all};
 
@@ -86,33 +85,34 @@ fn write_again<J: Intake, O: Outlet, S: MaskStream, H: TagHash>(
 }
 
 // Seals a stream in two readings by a cipher with a nonce.
-fn seal_over<N: HashThenMask, I: Intake, J: Intake, O: Outlet>(
-    nonced: &N,
+fn seal_over<N: TwoPass, I: Intake, J: Intake, O: Outlet>(
+    message: &N,
     aad: &[u8],
     first: &mut I,
     second: &mut J,
     out: &mut O,
 ) -> Result<(), Fault>
-    requires { length aad.now ≤ aad_limit (N.keyed nonced.now).suite }
+    requires { length aad.now ≤ aad_limit (N.keyed message.now).suite }
     ensures blame { SivBlames (Fault.TextTooLong ∷ Fault.SourceChanged ∷ [])
         (record { first = I.failures first.old; second = J.failures second.old; outlet = O.failures out.old })
         (record { first = I.failures first.new; second = J.failures second.new; outlet = O.failures out.new })
         result }
     ensures seals { IfBothKnown (I.left first.old) (J.left second.old) (O.taken out.old) (O.taken out.new)
-        (λ a b given. SealsSivStream (setting (N.keyed nonced.now) (N.nonce nonced.now) aad.now)
+        (λ a b given. SealsSivStream (setting (N.keyed message.now) (N.nonce message.now) aad.now)
         a b given
         (record { first = I.failures first.old; second = J.failures second.old; outlet = O.failures out.old })
         (record { first = I.failures first.new; second = J.failures second.new; outlet = O.failures out.new })
         result) }
     ensures untouched { UntouchedUnless late_in_readings out.old out.new result }
 {
-    let mut reading = authenticator(nonced, aad);
-    match absorb_all(first, &mut reading, nonced.suite().text_limit()) {
+    let mut reading = Authenticator::empty(message.hash());
+    reading.begin(aad);
+    match absorb_all(first, &mut reading, message.suite().text_limit()) {
         Ok(true) => {
             let length = reading.length;
             let tag = reading.finish();
-            let again = authenticator(nonced, aad);
-            let again = Masking::new(nonced.mask(&tag), again, HashFirst, length);
+            let mut again = Masking::empty(message.mask(&tag), message.hash(), HashFirst, length);
+            again.begin(aad);
             write_again(second, again, &tag, out)
         }
         Ok(false) => Err(Fault::TextTooLong),
@@ -143,8 +143,8 @@ fn seal_by<M: Keyed128, I: Intake, J: Intake, O: Outlet>(
 {
     let keys = cipher.derive(nonce);
     let made = M::of(&keys.hash_key);
-    let nonced = cipher.nonced(nonce, &keys.encryption, &made);
-    seal_over(&nonced, aad, first, second, out)
+    let message = cipher.nonced(nonce, &keys.encryption, &made);
+    seal_over(&message, aad, first, second, out)
 }
 
 /// Seals a stream by two readings under AES-GCM-SIV: the first is authenticated, and of the second each

@@ -16,8 +16,7 @@ use crate::authenticator::Authenticator;
 use crate::engine::measure::Measured;
 use crate::engine::passes::{Finding, finding_of};
 use crate::hashes::TagHash;
-use crate::mask_then_hash::MaskThenHash;
-use crate::nonced::authenticator;
+use crate::one_pass::OnePass;
 use gf128::WideMul;
 use octets::{Fault, Intake, Nonce, fill};
 
@@ -73,20 +72,21 @@ pub(crate) fn absorb_body<I: Intake, H: TagHash>(
 }
 
 // A whole reading, by a cipher with a nonce.
-fn verify_over<N: MaskThenHash, I: Intake>(
-    nonced: &N,
+fn verify_over<N: OnePass, I: Intake>(
+    message: &N,
     aad: &[u8],
     intake: &mut I,
     measured: &Measured,
 ) -> Result<Finding, Fault>
-    requires key { construction_of (N.keyed nonced.now).suite ≡ ByGcm → IsKey (N.keyed nonced.now).key }
-    requires aad_fits { length aad.now ≤ aad_limit (N.keyed nonced.now).suite }
-    requires high { measured.now.length ≤ text_limit (N.keyed nonced.now).suite + 16 }
-    ensures passed { PassedWhole (setting (N.keyed nonced.now) (N.nonce nonced.now) aad.now)
+    requires key { construction_of (N.keyed message.now).suite ≡ ByGcm → IsKey (N.keyed message.now).key }
+    requires aad_fits { length aad.now ≤ aad_limit (N.keyed message.now).suite }
+    requires high { measured.now.length ≤ text_limit (N.keyed message.now).suite + 16 }
+    ensures passed { PassedWhole (setting (N.keyed message.now) (N.nonce message.now) aad.now)
         measured.now.tag measured.now.length (I.left intake.old) (I.left intake.new) None None result }
     ensures blame { DueToReading [] (I.failures intake.old) (I.failures intake.new) result }
 {
-    let mut reading = authenticator(nonced, aad);
+    let mut reading = Authenticator::empty(message.hash());
+    reading.begin(aad);
     match absorb_body(intake, &mut reading, measured.length - 16) {
         Ok(n) => finding_of(intake, measured, n, reading.finish()),
         Err(fault) => Err(fault),

@@ -15,6 +15,6 @@ returns-clause-keeps c = λ suite key k.
     let same : c.in-Some.suite ≡ suite = same_Some _ _ ((c.in-Some.ensures suite).1 k.mark_is) in
     let setting = λ (x : Suite) (y : List ℕ). setting_of x y c.args.nonce.now c.args.aad.now in
     c.begin.ensures.begins (setting suite key) c.args.tag.now (sym same)
-    (subst (λ s. MatchResult c.opener_by_kept.result (λ p. HoldsFirstPass p s c.args.tag.now []) (BeginRefused s))
+    (subst (λ s. MatchResult c.begin_opener-begun.result (λ _. HoldsFirstPass c.begin_opener-begun.new.opener s c.args.tag.now []) (BeginRefused s))
     (ap₂ setting same (ap (λ x. first_key x c.args.kept.now.numbers.key) same ∙ sym k.key_is))
-    c.opener_by_kept.ensures)
+    c.begin_opener-begun.ensures.answer)

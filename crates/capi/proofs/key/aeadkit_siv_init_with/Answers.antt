@@ -15,9 +15,9 @@ returns-clause-keeps c = λ suite key k two.
     let same : c.in-Some.suite ≡ suite = same_Some _ _ ((c.in-Some.ensures suite).1 k.mark_is) in
     let setting = λ (x : Suite) (y : List ℕ). setting_of x y c.args.nonce.now c.args.aad.now in
     c.begin.ensures.begins (setting suite key) (sym same)
-    (subst (λ s. MatchResult c.siv_by_kept.result (λ p. HoldsFirstReading p s []) (BeginRefused s))
+    (subst (λ s. MatchResult c.begin_siv-begun.result (λ _. HoldsFirstReading c.begin_siv-begun.new.siv s []) (BeginRefused s))
     (ap₂ setting same (ap (λ x. first_key x c.args.kept.now.numbers.key) same ∙ sym k.key_is))
-    c.siv_by_kept.ensures)
+    c.begin_siv-begun.ensures.answer)
 
 pub returns-then-not-is_siv-clause-not_begun : goal.returns-then-not-is_siv-clause-not_begun
 returns-then-not-is_siv-clause-not_begun c = λ none.

@@ -1,6 +1,6 @@
 use Rattle.std.proofs.Common.{◌≡◌, ◌+◌, ◌∙◌, refl, sym, ap, Ok, Err}
 use Rattle.std.proofs.lemmas.Option.{none-some, same_Some}
-use Rattle.capi.specs.Suites.{suite_number}
+use Rattle.aead.specs.Suites.{suite_number}
 use Rattle.capi.specs.Openers.{opening}
 use Rattle.capi.proofs.Outcomes.{begun}
 use Rattle.capi.proofs.opener.aeadkit_opener_begin_second.Goals as goal

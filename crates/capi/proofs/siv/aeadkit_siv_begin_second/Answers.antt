@@ -1,6 +1,6 @@
 use Rattle.std.proofs.Common.{◌≡◌, ◌+◌, ◌∙◌, refl, sym, ap}
 use Rattle.std.proofs.lemmas.Option.{same_Some}
-use Rattle.capi.specs.Suites.{suite_number}
+use Rattle.aead.specs.Suites.{suite_number}
 use Rattle.capi.specs.Sivs.{writing}
 use Rattle.capi.proofs.siv.aeadkit_siv_begin_second.Goals as goal
 

@@ -11,9 +11,9 @@ returns-clause-known c = λ named two is.
     let same : c.in-Some.suite ≡ named =
     same_Some _ _ ((c.in-Some.ensures named).1 (two, c.from.ensures ∙ is)) in
     let setting : Suite → Setting = λ x. setting_of x c.args.key.now c.args.nonce.now c.args.aad.now in
-    c.begin-2.ensures.begins (setting named) (sym same)
-    (subst (λ x. MatchResult c.begin.result (λ p. HoldsFirstReading p (setting x) []) (BeginRefused (setting x))) same
-    c.begin.ensures)
+    c.begin.ensures.begins (setting named) (sym same)
+    (subst (λ x. MatchResult c.begin-begun.result (λ _. HoldsFirstReading c.begin-begun.new.self (setting x) []) (BeginRefused (setting x))) same
+    c.begin-begun.ensures.answer)
 
 pub returns-clause-unknown : goal.returns-clause-unknown
 returns-clause-unknown c = λ none.

@@ -1,4 +1,4 @@
-use Rattle.std.proofs.Common.{◌≡◌, ℕ, List, [], length, take, refl, arith, inl, inr, sym, ◌∙◌, subst}
+use Rattle.std.proofs.Common.{◌≡◌, ℕ, List, [], length, take, refl, ap, arith, inl, inr, sym, ◌∙◌, subst}
 use Rattle.std.proofs.lemmas.List.{take_all}
 use Rattle.std.specs.Io.KnownBytes.{Appends}
 use Rattle.octets.specs.Device.{Failed}
@@ -11,39 +11,49 @@ use Rattle.aead.proofs.SealExits.{exit_stopped, exit_long, exit_tag}
 use Rattle.aead.proofs.engine.seal.seal_over.Goals as goal
 
 pub pass_all-requires : goal.pass_all-requires
-pass_all-requires g c = omega (arith, c.sealing-sealing.ensures.none)
+pass_all-requires g c =
+    omega (arith, c.begin.ensures.none, c.begin.ensures.limit, c.empty-sealing.ensures.limit)
 
 pub returns-in-Err-clause-seals : goal.returns-in-Err-clause-seals
 returns-in-Err-clause-seals g c =
-    let s : Setting = setting (g.N.Nonced.keyed c.args.nonced.now) (g.N.Nonced.nonce c.args.nonced.now)
+    let s : Setting = setting (g.N.OnePass.keyed c.args.message.now) (g.N.OnePass.nonce c.args.message.now)
     c.args.aad.now in
-    let one = g.met.N.MaskThenHash.one_pass c.args.nonced.now in
-    let h = c.sealing-sealing.ensures.holds [] in
-    let limit : c.sealing-sealing.result.limit ≡ text_limit s.suite =
-    c.sealing-sealing.ensures.limit in
+    let one = g.met.N.OnePass.one_pass c.args.message.now in
+    let empty = c.empty-sealing.ensures in
+    let limit : c.text_limit-limit.result ≡ text_limit s.suite =
+    c.text_limit-limit.ensures ∙ ap text_limit c.suite.ensures in
+    let mask = rw (sym empty.mask) at (c.mask.ensures c.args.aad.now []) in
+    let hash = rw (sym empty.hash) at (c.hash.ensures c.args.aad.now) in
+    let h = c.begin.ensures.holds (message_task s []) mask hash refl c.requires (empty.limit ∙ limit) (omega arith) in
     exit_stopped _ _ _ _ s _ _ _ _ _ _ limit one c.requires
     (c.in-Err.ensures.passed (message_task s []) h) c.in-Err.ensures.blame
 
 pub returns-in-Ok-None-clause-seals : goal.returns-in-Ok-None-clause-seals
 returns-in-Ok-None-clause-seals g c =
-    let s : Setting = setting (g.N.Nonced.keyed c.args.nonced.now) (g.N.Nonced.nonce c.args.nonced.now)
+    let s : Setting = setting (g.N.OnePass.keyed c.args.message.now) (g.N.OnePass.nonce c.args.message.now)
     c.args.aad.now in
-    let one = g.met.N.MaskThenHash.one_pass c.args.nonced.now in
-    let h = c.sealing-sealing.ensures.holds [] in
-    let limit : c.sealing-sealing.result.limit ≡ text_limit s.suite =
-    c.sealing-sealing.ensures.limit in
+    let one = g.met.N.OnePass.one_pass c.args.message.now in
+    let empty = c.empty-sealing.ensures in
+    let limit : c.text_limit-limit.result ≡ text_limit s.suite =
+    c.text_limit-limit.ensures ∙ ap text_limit c.suite.ensures in
+    let mask = rw (sym empty.mask) at (c.mask.ensures c.args.aad.now []) in
+    let hash = rw (sym empty.hash) at (c.hash.ensures c.args.aad.now) in
+    let h = c.begin.ensures.holds (message_task s []) mask hash refl c.requires (empty.limit ∙ limit) (omega arith) in
     let went = rw c.in-Ok-None.field-0-is at (c.in-Ok-None.ensures.passed (message_task s []) h) in
     exit_long _ _ _ _ _ s _ _ _ _ _ _ limit one c.requires went
     c.in-Ok-None.ensures.blame
 
 pub returns-in-Ok-clause-seals : goal.returns-in-Ok-clause-seals
 returns-in-Ok-clause-seals g c =
-    let s : Setting = setting (g.N.Nonced.keyed c.args.nonced.now) (g.N.Nonced.nonce c.args.nonced.now)
+    let s : Setting = setting (g.N.OnePass.keyed c.args.message.now) (g.N.OnePass.nonce c.args.message.now)
     c.args.aad.now in
-    let one = g.met.N.MaskThenHash.one_pass c.args.nonced.now in
-    let h = c.sealing-sealing.ensures.holds [] in
-    let limit : c.sealing-sealing.result.limit ≡ text_limit s.suite =
-    c.sealing-sealing.ensures.limit in
+    let one = g.met.N.OnePass.one_pass c.args.message.now in
+    let empty = c.empty-sealing.ensures in
+    let limit : c.text_limit-limit.result ≡ text_limit s.suite =
+    c.text_limit-limit.ensures ∙ ap text_limit c.suite.ensures in
+    let mask = rw (sym empty.mask) at (c.mask.ensures c.args.aad.now []) in
+    let hash = rw (sym empty.hash) at (c.hash.ensures c.args.aad.now) in
+    let h = c.begin.ensures.holds (message_task s []) mask hash refl c.requires (empty.limit ∙ limit) (omega arith) in
     let tag : List ℕ = c.finish.result in
     let size : length tag ≡ 16 = c.bytes.ensures.is_block.length_is in
     let R : List ℕ → Type 0 =
@@ -63,12 +73,15 @@ returns-in-Ok-clause-seals g c =
 
 pub returns-in-Err-give_all-clause-seals : goal.returns-in-Err-give_all-clause-seals
 returns-in-Err-give_all-clause-seals g c =
-    let s : Setting = setting (g.N.Nonced.keyed c.args.nonced.now) (g.N.Nonced.nonce c.args.nonced.now)
+    let s : Setting = setting (g.N.OnePass.keyed c.args.message.now) (g.N.OnePass.nonce c.args.message.now)
     c.args.aad.now in
-    let one = g.met.N.MaskThenHash.one_pass c.args.nonced.now in
-    let h = c.sealing-sealing.ensures.holds [] in
-    let limit : c.sealing-sealing.result.limit ≡ text_limit s.suite =
-    c.sealing-sealing.ensures.limit in
+    let one = g.met.N.OnePass.one_pass c.args.message.now in
+    let empty = c.empty-sealing.ensures in
+    let limit : c.text_limit-limit.result ≡ text_limit s.suite =
+    c.text_limit-limit.ensures ∙ ap text_limit c.suite.ensures in
+    let mask = rw (sym empty.mask) at (c.mask.ensures c.args.aad.now []) in
+    let hash = rw (sym empty.hash) at (c.hash.ensures c.args.aad.now) in
+    let h = c.begin.ensures.holds (message_task s []) mask hash refl c.requires (empty.limit ∙ limit) (omega arith) in
     let given = c.in-Err-give_all.ensures.bytes in
     let R : List ℕ → Type 0 =
     λ b. Appends (g.O.Outlet.taken c.pass_all.new.outlet) (g.O.Outlet.taken c.give_all.new.outlet)

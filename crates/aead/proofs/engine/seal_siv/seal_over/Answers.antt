@@ -1,4 +1,4 @@
-use Rattle.std.proofs.Common.{◌≡◌, ◌∙◌, ℕ, List, subst, sym, ap, arith}
+use Rattle.std.proofs.Common.{refl, ◌≡◌, ◌∙◌, ℕ, List, subst, sym, ap, arith}
 use Rattle.aead.specs.Suites.{is_one_pass, text_limit}
 use Rattle.aead.specs.Sealing.{Setting, tag_of}
 use Rattle.aead.specs.Ciphers.{setting}
@@ -9,7 +9,7 @@ use Rattle.aead.proofs.engine.seal_siv.seal_over.Goals as goal
 
 pub returns-in-Err-clause-seals : goal.returns-in-Err-clause-seals
 returns-in-Err-clause-seals g c =
-    let s : Setting = setting (g.N.Nonced.keyed c.args.nonced.now) (g.N.Nonced.nonce c.args.nonced.now)
+    let s : Setting = setting (g.N.TwoPass.keyed c.args.message.now) (g.N.TwoPass.nonce c.args.message.now)
     c.args.aad.now in
     exit_first (g.I.Intake.left c.args.first.now) (g.J.Intake.left c.args.second.now)
     (g.O.Outlet.taken c.args.out.now) s
@@ -19,9 +19,10 @@ returns-in-Err-clause-seals g c =
 
 pub returns-in-Ok-false-clause-seals : goal.returns-in-Ok-false-clause-seals
 returns-in-Ok-false-clause-seals g c =
-    let s : Setting = setting (g.N.Nonced.keyed c.args.nonced.now) (g.N.Nonced.nonce c.args.nonced.now)
+    let s : Setting = setting (g.N.TwoPass.keyed c.args.message.now) (g.N.TwoPass.nonce c.args.message.now)
     c.args.aad.now in
-    let h = c.authenticator-reading.ensures.holds in
+    let hash = rw (sym c.empty-reading.ensures.0) at (c.hash.ensures c.args.aad.now) in
+    let h = c.begin.ensures.holds s refl c.requires hash in
     let limit : c.text_limit.result ≡ text_limit s.suite =
     c.text_limit.ensures ∙ ap text_limit c.suite.ensures in
     let went = rw c.in-Ok-false.field-0-test at (c.in-Ok-false.ensures.taken s h (omega (arith, limit))) in
@@ -29,19 +30,23 @@ returns-in-Ok-false-clause-seals g c =
 
 pub returns-in-Ok-true-clause-seals : goal.returns-in-Ok-true-clause-seals
 returns-in-Ok-true-clause-seals g c =
-    let s : Setting = setting (g.N.Nonced.keyed c.args.nonced.now) (g.N.Nonced.nonce c.args.nonced.now)
+    let s : Setting = setting (g.N.TwoPass.keyed c.args.message.now) (g.N.TwoPass.nonce c.args.message.now)
     c.args.aad.now in
-    let h = c.authenticator-reading.ensures.holds in
+    let hash = rw (sym c.empty-reading.ensures.0) at (c.hash.ensures c.args.aad.now) in
+    let h = c.begin.ensures.holds s refl c.requires hash in
     let limit : c.text_limit.result ≡ text_limit s.suite =
     c.text_limit.ensures ∙ ap text_limit c.suite.ensures in
     let went = rw c.in-Ok-true.field-0-test at (c.in-Ok-true.ensures.taken s h (omega (arith, limit))) in
-    let by = g.met.N.HashThenMask.by_gcm_siv c.args.nonced.now in
+    let by = g.met.N.TwoPass.by_gcm_siv c.args.message.now in
     exit_second _ _ _ _ _ _ s _ _ _ _ _ _ _ _ _ c.in-Ok-true.ensures.blame went
     (λ a held.
     let tag_is : c.finish-tag.result ≡ tag_of s a =
     c.finish-tag.ensures s a held ∙ sym (two_pass_tag s a (ap is_one_pass by)) in
-    let made = c.mask.ensures c.args.aad.now in
-    let P : List ℕ → Type 0 = λ t. g.N.Stream.MaskStream.made c.mask.result s t 0 in
+    let empty = c.empty-again.ensures in
+    let made : g.N.Stream.MaskStream.made c.empty-again.result.mask s c.finish-tag.result 0 =
+    rw (sym empty.mask) at (c.mask.ensures c.args.aad.now) in
+    let again = rw (sym empty.hash) at (c.hash-in-Ok-true.ensures c.args.aad.now) in
+    let P : List ℕ → Type 0 = λ t. g.N.Stream.MaskStream.made c.empty-again.result.mask s t 0 in
     c.write_again.ensures.written s a by tag_is
-    (c.new-again.ensures.holds (repeating_task s a) (subst P tag_is made) c.authenticator-again.ensures.holds
-    held.length_is held.fits.text_fits))
+    (c.begin-in-Ok-true.ensures.holds (repeating_task s a) (subst P tag_is made) again refl c.requires
+    (empty.limit ∙ held.length_is) held.fits.text_fits))

@@ -1,4 +1,4 @@
-use Rattle.std.proofs.Common.{◌-◌, ◌≤◌, arith}
+use Rattle.std.proofs.Common.{refl, sym, ◌-◌, ◌≤◌, arith}
 use Rattle.aead.specs.Suites.{text_limit}
 use Rattle.aead.specs.Sealing.{Setting}
 use Rattle.aead.specs.Ciphers.{setting}
@@ -7,18 +7,22 @@ use Rattle.aead.proofs.engine.verifying.verify_over.Goals as goal
 
 pub returns-in-Ok-clause-passed : goal.returns-in-Ok-clause-passed
 returns-in-Ok-clause-passed g c =
-    let s : Setting = setting (g.N.Nonced.keyed c.args.nonced.now) (g.N.Nonced.nonce c.args.nonced.now)
+    let s : Setting = setting (g.N.OnePass.keyed c.args.message.now) (g.N.OnePass.nonce c.args.message.now)
     c.args.aad.now in
     let fits : c.args.measured.now.length - 16 ≤ text_limit s.suite = omega (arith, c.requires.high) in
-    let w = c.in-Ok.ensures.taken s c.authenticator-reading.ensures.holds fits in
+    let hash = rw (sym c.empty-reading.ensures.0) at (c.hash.ensures c.args.aad.now) in
+    let begun = c.begin.ensures.holds s refl c.requires.aad_fits hash in
+    let w = c.in-Ok.ensures.taken s begun fits in
     c.finding_of.ensures.found s _ _ _
-    (took_read g.N.Hash.TagHash.held s _ _ _ _ _ c.absorb_body.new.reading _ (g.met.N.MaskThenHash.one_pass c.args.nonced.now)
+    (took_read g.N.Hash.TagHash.held s _ _ _ _ _ c.absorb_body.new.reading _ (g.met.N.OnePass.one_pass c.args.message.now)
     c.requires.key c.in-Ok.ensures.bound w (c.finish.ensures s w.0 w.2))
 
 pub returns-in-Err-clause-passed : goal.returns-in-Err-clause-passed
 returns-in-Err-clause-passed g c =
-    let s : Setting = setting (g.N.Nonced.keyed c.args.nonced.now) (g.N.Nonced.nonce c.args.nonced.now)
+    let s : Setting = setting (g.N.OnePass.keyed c.args.message.now) (g.N.OnePass.nonce c.args.message.now)
     c.args.aad.now in
     let fits : c.args.measured.now.length - 16 ≤ text_limit s.suite = omega (arith, c.requires.high) in
-    let e = c.in-Err.ensures.taken s c.authenticator-reading.ensures.holds fits in
+    let hash = rw (sym c.empty-reading.ensures.0) at (c.hash.ensures c.args.aad.now) in
+    let begun = c.begin.ensures.holds s refl c.requires.aad_fits hash in
+    let e = c.in-Err.ensures.taken s begun fits in
     stopped_read s _ _ _ _ e.0 e.1

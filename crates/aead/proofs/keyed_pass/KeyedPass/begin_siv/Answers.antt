@@ -9,7 +9,7 @@ pub returns-in-Aes128GcmSiv-clause-is_key : goal.returns-in-Aes128GcmSiv-clause-
 returns-in-Aes128GcmSiv-clause-is_key c =
     subst IsKey
     (c.short_encryption_key.ensures ∙ ap₂ encryption_key c.new-parts.ensures.key c.new-parts.ensures.nonce)
-    c.derived.ensures.is_key
+    c.begin_derived.ensures.is_key
 
 pub returns-in-Aes128GcmSiv-clause-holds : goal.returns-in-Aes128GcmSiv-clause-holds
 returns-in-Aes128GcmSiv-clause-holds c =
@@ -18,14 +18,14 @@ returns-in-Aes128GcmSiv-clause-holds c =
     let nonce = c.new-parts.ensures.nonce in
     let serves = serves_under _ _ s.key s.nonce c.hash_key-hash_key.result key nonce
     (c.hash_key-hash_key.ensures.of_block, c.hash_key-hash_key.ensures.value) in
-    c.derived.ensures.holds s refl c.requires.by c.requires.long
+    c.begin_derived.ensures.holds s refl c.requires.by c.requires.long
     (c.short_encryption_key.ensures ∙ ap₂ encryption_key key nonce) serves refl refl c.requires.fits
 
 pub returns-in_default-clause-is_key : goal.returns-in_default-clause-is_key
 returns-in_default-clause-is_key c =
     subst IsKey
     (c.long_encryption_key.ensures ∙ ap₂ encryption_key c.new-parts.ensures.key c.new-parts.ensures.nonce)
-    c.derived-in_default.ensures.is_key
+    c.begin_derived-in_default.ensures.is_key
 
 pub returns-in_default-clause-holds : goal.returns-in_default-clause-holds
 returns-in_default-clause-holds c =
@@ -34,5 +34,5 @@ returns-in_default-clause-holds c =
     let nonce = c.new-parts.ensures.nonce in
     let serves = serves_under _ _ s.key s.nonce c.hash_key-hash_key.result key nonce
     (c.hash_key-hash_key.ensures.of_block, c.hash_key-hash_key.ensures.value) in
-    c.derived-in_default.ensures.holds s refl c.requires.by c.requires.long
+    c.begin_derived-in_default.ensures.holds s refl c.requires.by c.requires.long
     (c.long_encryption_key.ensures ∙ ap₂ encryption_key key nonce) serves refl refl c.requires.fits

@@ -1,5 +1,15 @@
+use Rattle.std.proofs.Common.{ap}
+use Rattle.std.proofs.lemmas.Result.{MatchResult-weaker, on_err_weaker}
+use Rattle.aead.specs.declared.keyed_pass.KeyedPass.{KeyedPass}
+use Rattle.aead.specs.declared.keyed_sealer.KeyedSealer.{KeyedSealer}
 use Rattle.aead.proofs.KeyedPieces.{keyed_none}
 use Rattle.aead.proofs.keyed_sealer.KeyedSealer.begin.Goals as goal
 
-pub returns-in-Ok : goal.returns-in-Ok
-returns-in-Ok c = keyed_none _ _ c.requires c.in-Ok.ensures
+pub returns-clause-answer : goal.returns-clause-answer
+returns-clause-answer c =
+    MatchResult-weaker c.begin.result c.begin.ensures.answer (λ _ h. keyed_none _ _ c.requires h) (λ _ e. e)
+
+pub returns-clause-kept : goal.returns-clause-kept
+returns-clause-kept c =
+    let whole : KeyedPass → KeyedSealer = λ p. record { pass = p } in
+    on_err_weaker c.begin.result (λ e. ap whole e) c.begin.ensures.kept

@@ -8,7 +8,7 @@ use Rattle.aead.proofs.sealer.Sealer.update.Goals as goal
 pub returns-then-not-has_room-clause-answer : goal.returns-then-not-has_room-clause-answer
 returns-then-not-has_room-clause-answer c = λ s text h.
     let n = h.state [] in
-    let suite = c.suite.ensures ∙ ap (λ (k : Keyed). k.suite) h.keyed_is in (
+    let suite = c.suite.ensures.value ∙ ap (λ (k : Keyed). k.suite) h.keyed_is in (
       n.fits.aad_fits,
       omega (
         arith,
@@ -27,7 +27,7 @@ returns-clause-answer c = λ s text h.
     let went = c.mask.ensures s text (sym (ap (λ (k : Keyed). k.suite) h.keyed_is))
     (sym (ap (λ (k : Keyed). k.key) h.keyed_is)) (sym (c.new-nonce.ensures ∙ h.nonce_is)) h.state in
     let n = h.state [] in
-    let suite = c.suite.ensures ∙ ap (λ (k : Keyed). k.suite) h.keyed_is in (
+    let suite = c.suite.ensures.value ∙ ap (λ (k : Keyed). k.suite) h.keyed_is in (
       record { keyed_is = h.keyed_is; nonce_is = h.nonce_is; state = went.0 },
       went.1,
       omega (

@@ -1,7 +1,7 @@
 use Rattle.std.proofs.Common.{◌+◌, ◌∙◌, [], sym, ap, subst, Ok, Err, MatchResult}
 use Rattle.aead.specs.KeyedPasses.{BeginRefused}
 use Rattle.aead.specs.KeyedPieces.{HoldsFirstPass}
-use Rattle.capi.specs.Suites.{suite_number}
+use Rattle.aead.specs.Suites.{suite_number}
 use Rattle.capi.specs.Openers.{checking}
 use Rattle.capi.proofs.opener.StoredOpener.begin.Goals as goal
 
@@ -11,8 +11,8 @@ returns-in-Ok-clause-begins c = λ s tag same h. (
   (
     c.outcome_number.ensures,
     record {
-      mark_is = c.mark_of.ensures ∙ ap (λ x. checking + suite_number x) (sym same);
-      opener = subst (λ r. MatchResult r (λ p. HoldsFirstPass p s tag []) (BeginRefused s)) c.in-Ok.is h;
+      mark_is = c.mark_of-self.ensures ∙ ap (λ x. checking + suite_number x) (sym same);
+      opener = subst (λ r. MatchResult r (λ _. HoldsFirstPass c.args.self.now.opener s tag []) (BeginRefused s)) c.in-Ok.is h;
     },
   ),
 )
@@ -22,6 +22,6 @@ returns-in-Err-clause-begins c = λ s tag same h. (
   Err c.in-Err.fault,
   (
     c.outcome_number-in-Err.ensures,
-    subst (λ r. MatchResult r (λ p. HoldsFirstPass p s tag []) (BeginRefused s)) c.in-Err.is h,
+    subst (λ r. MatchResult r (λ _. HoldsFirstPass c.args.self.now.opener s tag []) (BeginRefused s)) c.in-Err.is h,
   ),
 )

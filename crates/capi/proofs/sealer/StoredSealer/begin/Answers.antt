@@ -10,8 +10,8 @@ returns-in-Ok-clause-begins c = λ s same h. (
   (
     c.outcome_number.ensures,
     record {
-      mark_is = c.mark_of.ensures ∙ ap sealer_mark (sym same);
-      sealer = subst (λ r. MatchResult r (λ p. HoldsKeyedText p s []) (BeginRefused s)) c.in-Ok.is h;
+      mark_is = c.mark_of-self.ensures ∙ ap sealer_mark (sym same);
+      sealer = subst (λ r. MatchResult r (λ _. HoldsKeyedText c.args.self.now.sealer s []) (BeginRefused s)) c.in-Ok.is h;
     },
   ),
 )
@@ -21,6 +21,6 @@ returns-in-Err-clause-begins c = λ s same h. (
   Err c.in-Err.fault,
   (
     c.outcome_number-in-Err.ensures,
-    subst (λ r. MatchResult r (λ p. HoldsKeyedText p s []) (BeginRefused s)) c.in-Err.is h,
+    subst (λ r. MatchResult r (λ _. HoldsKeyedText c.args.self.now.sealer s []) (BeginRefused s)) c.in-Err.is h,
   ),
 )

@@ -1,7 +1,7 @@
 use Rattle.std.proofs.Common.{◌+◌, ◌∙◌, [], sym, ap, subst, Ok, Err, MatchResult}
 use Rattle.aead.specs.KeyedPasses.{BeginRefused}
 use Rattle.aead.specs.KeyedPieces.{HoldsFirstReading}
-use Rattle.capi.specs.Suites.{suite_number}
+use Rattle.aead.specs.Suites.{suite_number}
 use Rattle.capi.specs.Sivs.{absorbing}
 use Rattle.capi.proofs.siv.StoredSiv.begin.Goals as goal
 
@@ -11,8 +11,8 @@ returns-in-Ok-clause-begins c = λ s same h. (
   (
     c.outcome_number.ensures,
     record {
-      mark_is = c.mark_of.ensures ∙ ap (λ x. absorbing + suite_number x) (sym same);
-      siv = subst (λ r. MatchResult r (λ p. HoldsFirstReading p s []) (BeginRefused s)) c.in-Ok.is h;
+      mark_is = c.mark_of-self.ensures ∙ ap (λ x. absorbing + suite_number x) (sym same);
+      siv = subst (λ r. MatchResult r (λ _. HoldsFirstReading c.args.self.now.siv s []) (BeginRefused s)) c.in-Ok.is h;
     },
   ),
 )
@@ -22,6 +22,6 @@ returns-in-Err-clause-begins c = λ s same h. (
   Err c.in-Err.fault,
   (
     c.outcome_number-in-Err.ensures,
-    subst (λ r. MatchResult r (λ p. HoldsFirstReading p s []) (BeginRefused s)) c.in-Err.is h,
+    subst (λ r. MatchResult r (λ _. HoldsFirstReading c.args.self.now.siv s []) (BeginRefused s)) c.in-Err.is h,
   ),
 )

@@ -1,4 +1,0 @@
-use Rattle.aead.proofs.aead.AnyAead.seal_in_place.Goals as goal
-
-pub returns : goal.returns
-returns g c = c.seal_fitting.ensures

@@ -1,0 +1,108 @@
+//! The construction whose tag is over the ciphertext: ChaCha20-Poly1305 (RFC 8439, 2.8) and AES-GCM (SP 800-38D, 7).
+
+ghost use Rattle.std.specs.Prelude.{◌≡◌, ◌<◌, ◌≤◌, ◌++◌, ℕ, List, [], true, get_or, length, MatchResult};
+ghost use Rattle.aead.specs.Suites.{construction_of, is_one_pass, text_limit, aad_limit};
+ghost use Rattle.aead.specs.Sealing.{Opened};
+ghost use Rattle.aead.specs.Ciphers.{Keyed, setting};
+ghost use Rattle.aead.specs.Refusals.{OpenRefused};
+ghost use Rattle.aead.specs.InPlace.{OpensInPlace};
+
+use crate::authenticator::Authenticator;
+use crate::beside::{HashFirst, MaskFirst};
+use crate::hashes::TagHash;
+use crate::mask::MaskStream;
+use crate::masking::Masking;
+use crate::suite::Suite;
+use octets::{Fault, Tag, same};
+
+// A cipher with a nonce, by what a message under them needs: the mask of its text, and the hash of its ciphertext.
+pub(crate) trait OnePass {
+    type Stream: MaskStream;
+
+    type Hash: TagHash;
+
+    ghost keyed: { Self → Keyed };
+
+    ghost nonce: { Self → List ℕ };
+
+    fn suite(&self) -> Suite
+        ensures { result ≡ (keyed self.now).suite };
+
+    // The hash that the tag ends: no byte is taken in.
+    fn hash(&self) -> Self::Hash
+        ensures { (aad : List ℕ) → Self.Hash.held result (setting (keyed self.now) (nonce self.now) aad) [] };
+
+    // The mask, which needs no tag.
+    fn mask(&self) -> Self::Stream
+        ensures { (aad tag : List ℕ)
+            → Self.Stream.made result (setting (keyed self.now) (nonce self.now) aad) tag 0 };
+
+    ghost one_pass: { (n : Self) → is_one_pass (construction_of (keyed n).suite) ≡ true };
+}
+
+// Does nothing: a caller learns that each byte of a slice is below 256.
+fn tells_bytes(bytes: &[u8])
+    ensures { (i : ℕ) → get_or bytes.now i 0 < 256 }
+{}
+
+// Turns a text into its ciphertext, and returns the tag over that.
+pub(crate) fn seal_whole<N: OnePass>(message: &N, aad: &[u8], text: &mut [u8]) -> Tag
+    requires aad_fits { length aad.now ≤ aad_limit (N.keyed message.now).suite }
+    requires text_fits { length text.old ≤ text_limit (N.keyed message.now).suite }
+    ensures { Opened (setting (N.keyed message.now) (N.nonce message.now) aad.now) (text.new ++ result)
+        text.old }
+{
+    tells_bytes(text);
+    let limit = message.suite().text_limit();
+    let mut sealing = Masking::empty(message.mask(), message.hash(), MaskFirst, limit);
+    sealing.begin(aad);
+    sealing.update(text);
+    sealing.tag()
+}
+
+// Turns a ciphertext into its text if the tag is its own, and else leaves every byte as it was.
+pub(crate) fn open_whole<N: OnePass>(
+    message: &N,
+    aad: &[u8],
+    body: &mut [u8],
+    tag: &Tag,
+) -> Result<(), Fault>
+    requires aad_fits { length aad.now ≤ aad_limit (N.keyed message.now).suite }
+    requires text_fits { length body.old ≤ text_limit (N.keyed message.now).suite }
+    ensures { OpensInPlace (setting (N.keyed message.now) (N.nonce message.now) aad.now) tag.now body.old
+        body.new result }
+{
+    let given = tag.bytes();
+    let mut authenticator = Authenticator::empty(message.hash());
+    authenticator.begin(aad);
+    authenticator.update(body);
+    if !same(authenticator.tag().bytes(), given) {
+        return Err(Fault::TagMismatch);
+    }
+    message.mask().apply_to(body);
+    Ok(())
+}
+
+// Turns a ciphertext into its text while it is authenticated. After a refusal the bytes are of no use.
+pub(crate) fn open_beside<N: OnePass>(
+    message: &N,
+    aad: &[u8],
+    body: &mut [u8],
+    tag: &Tag,
+) -> Result<(), Fault>
+    requires aad_fits { length aad.now ≤ aad_limit (N.keyed message.now).suite }
+    requires text_fits { length body.old ≤ text_limit (N.keyed message.now).suite }
+    ensures { let s = setting (N.keyed message.now) (N.nonce message.now) aad.now in
+        MatchResult result (λ _. Opened s (body.old ++ tag.now) body.new) (OpenRefused s body.old tag.now) }
+{
+    let given = tag.bytes();
+    let limit = message.suite().text_limit();
+    let mut opening = Masking::empty(message.mask(), message.hash(), HashFirst, limit);
+    opening.begin(aad);
+    opening.update(body);
+    if same(opening.tag().bytes(), given) {
+        Ok(())
+    } else {
+        Err(Fault::TagMismatch)
+    }
+}
