@@ -11,11 +11,8 @@ use Rattle.vectors.specs.Code.Views.{view}
 use Rattle.vectors.specs.Code.Steps.{Place, step, run}
 use Rattle.vectors.specs.Faults.{IsFaultAt, IsCutOff, HasEnded, IsFaultOf, is_inside}
 use Rattle.vectors.specs.Reports.{IsReported}
-use Rattle.vectors.specs.declared.fault.Cause.TheVariants as cause
 use Rattle.vectors.specs.declared.fault.VectorFault.{VectorFault}
-use Rattle.vectors.specs.declared.fault.VectorFault.TheVariants.{BadFormat, BadLine, WrongName, UnknownSuite}
-use Rattle.vectors.specs.declared.fault.VectorFault.TheVariants.{BadHex, BadLength, BadCuts, NoRecords}
-use Rattle.vectors.specs.declared.fault.VectorFault.TheVariants.{Unfinished, OutOfMemory}
+use Rattle.vectors.specs.declared.fault.VectorFault.TheVariants.{AtLine, NoRecords, Unfinished, OutOfMemory}
 use Rattle.std.specs.Prelude.{Result, IfErr}
 use Rattle.vectors.specs.declared.suite.Format.{Format}
 use Rattle.vectors.specs.declared.suite.Field.{Field}
@@ -219,14 +216,7 @@ not_start p F f b = apart (sym f ∙ b) where
 pub reported : {R : Type 0} (lines : List (List ℕ)) (records : List Record) (r : Result R VectorFault)
     → IsFile lines records → IfErr r (IsFaultOf lines) → IsReported r
 reported lines records (Ok report) file h = tt
-reported lines records (Err (BadFormat n)) file h = absurd (no_fault lines n cause.BadFormat records h file)
-reported lines records (Err (BadLine n)) file h = absurd (no_fault lines n cause.BadLine records h file)
-reported lines records (Err (WrongName n)) file h = absurd (no_fault lines n cause.WrongName records h file)
-reported lines records (Err (UnknownSuite n)) file h =
-    absurd (no_fault lines n cause.UnknownSuite records h file)
-reported lines records (Err (BadHex n)) file h = absurd (no_fault lines n cause.BadHex records h file)
-reported lines records (Err (BadLength n)) file h = absurd (no_fault lines n cause.BadLength records h file)
-reported lines records (Err (BadCuts n)) file h = absurd (no_fault lines n cause.BadCuts records h file)
+reported lines records (Err (AtLine n why)) file h = absurd (no_fault lines n why records h file)
 reported lines records (Err NoRecords) file h = absurd (h.no_file records file)
 reported lines records (Err (Unfinished n)) file h = absurd (h.0.no_file records file)
 reported lines records (Err OutOfMemory) file h = refl

@@ -8,9 +8,7 @@ use Rattle.hex.specs.Hex.{is_hex_digit, decode_of}
 use Rattle.vectors.specs.declared.fault.Cause.{Cause}
 use Rattle.vectors.specs.declared.fault.Cause.TheVariants as cause
 use Rattle.vectors.specs.declared.fault.VectorFault.{VectorFault}
-use Rattle.vectors.specs.declared.fault.VectorFault.TheVariants.{BadFormat, BadLine, WrongName, UnknownSuite}
-use Rattle.vectors.specs.declared.fault.VectorFault.TheVariants.{BadHex, BadLength, BadCuts, NoRecords}
-use Rattle.vectors.specs.declared.fault.VectorFault.TheVariants.{Unfinished, OutOfMemory}
+use Rattle.vectors.specs.declared.fault.VectorFault.TheVariants.{AtLine, NoRecords, Unfinished, OutOfMemory}
 use Rattle.vectors.specs.declared.suite.Algorithm.{Algorithm}
 use Rattle.vectors.specs.declared.suite.Format.{Format}
 use Rattle.vectors.specs.declared.suite.Field.{Field}
@@ -178,13 +176,7 @@ pub record HasEnded (lines : List Line) : Type 0 where
 
 -- the fault is the first one of these lines; out of memory comes only if a record has ended
 abbrev pub IsFaultOf : List Line → VectorFault → Type 0
-IsFaultOf lines (BadFormat n) = IsFaultAt lines n cause.BadFormat
-IsFaultOf lines (BadLine n) = IsFaultAt lines n cause.BadLine
-IsFaultOf lines (WrongName n) = IsFaultAt lines n cause.WrongName
-IsFaultOf lines (UnknownSuite n) = IsFaultAt lines n cause.UnknownSuite
-IsFaultOf lines (BadHex n) = IsFaultAt lines n cause.BadHex
-IsFaultOf lines (BadLength n) = IsFaultAt lines n cause.BadLength
-IsFaultOf lines (BadCuts n) = IsFaultAt lines n cause.BadCuts
+IsFaultOf lines (AtLine n why) = IsFaultAt lines n why
 IsFaultOf lines (Unfinished n) = IsCutOff lines true × (n ≡ length lines)
 IsFaultOf lines NoRecords = IsCutOff lines false
 IsFaultOf lines OutOfMemory = HasEnded lines

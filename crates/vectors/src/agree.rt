@@ -75,9 +75,7 @@ fn aead_agrees<A: Allocator>(
     };
     let mut nonce = [0; 12];
     entry.nonce.write(&mut nonce);
-    let Ok(nonce) = Nonce::from_slice(&nonce) else {
-        unreachable!()
-    };
+    let nonce = Nonce::new(nonce);
     let aad = entry.aad.bytes(alloc)?;
     sealing_agrees(alloc, &cipher, &nonce, &aad, entry.sealed, entry.text)
 }

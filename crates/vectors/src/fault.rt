@@ -6,25 +6,51 @@ use std::alloc::AllocError;
 use std::error::Error;
 use std::fmt;
 
+/// What is wrong with a line. `Display` writes the name.
+#[derive(Clone, Copy, Debug, PartialEq, Eq, Drop)]
+pub enum Cause {
+    /// The format line is expected, and the line is something else.
+    BadFormat,
+    /// A line of a record is expected, and the line is not a value line.
+    BadLine,
+    /// The line is a value line with another name than the expected one.
+    WrongName,
+    /// The value is not a suite of the format.
+    UnknownSuite,
+    /// The value is not an even number of hexadecimal digits.
+    BadHex,
+    /// A key or a nonce has another length than the suite's.
+    BadLength,
+    /// The value is not a list of cuts: numbers joined by commas that are at least 1, rise, and are at most the
+    /// text's length.
+    BadCuts,
+}
+
+impl fmt::Display for Cause {
+    ghost use Rattle.std.specs.Prelude.{Some};
+    ghost use Rattle.vectors.specs.Names.{cause_name};
+
+    ghost output = { λ cause. Some (cause_name cause) };
+
+    fn fmt<W: fmt::Write>(&self, f: &mut fmt::Formatter<W>) -> fmt::Result {
+        f.write_str(match self {
+            Cause::BadFormat => "BadFormat",
+            Cause::BadLine => "BadLine",
+            Cause::WrongName => "WrongName",
+            Cause::UnknownSuite => "UnknownSuite",
+            Cause::BadHex => "BadHex",
+            Cause::BadLength => "BadLength",
+            Cause::BadCuts => "BadCuts",
+        })
+    }
+}
+
 /// Why a file has no report. Lines are numbered from 1. `Display` writes the name, and ` at line N` if the
 /// fault has a line, as `BadHex at line 4`.
 #[derive(Clone, Copy, Debug, PartialEq, Eq, Drop)]
 pub enum VectorFault {
-    /// The format line is expected, and the line is something else.
-    BadFormat(u64),
-    /// A line of a record is expected, and the line is no value line.
-    BadLine(u64),
-    /// A value line with another name than the expected one.
-    WrongName(u64),
-    /// The value is no suite.
-    UnknownSuite(u64),
-    /// The value is not an even number of hexadecimal digits.
-    BadHex(u64),
-    /// A key or a nonce of another length than the suite's.
-    BadLength(u64),
-    /// The value is no list of cuts: numbers joined by commas that are at least 1, rise, and are at most the
-    /// text's length.
-    BadCuts(u64),
+    /// The line with this number is at fault.
+    AtLine(u64, Cause),
     /// No line is at fault, and no record was begun.
     NoRecords,
     /// The file ends inside a record; the number is that of its last line.
@@ -40,19 +66,12 @@ impl fmt::Display for VectorFault {
     ghost output = { λ fault. Some (fault_text fault) };
 
     fn fmt<W: fmt::Write>(&self, f: &mut fmt::Formatter<W>) -> fmt::Result {
-        let (name, line) = match self {
-            VectorFault::BadFormat(line) => ("BadFormat", line),
-            VectorFault::BadLine(line) => ("BadLine", line),
-            VectorFault::WrongName(line) => ("WrongName", line),
-            VectorFault::UnknownSuite(line) => ("UnknownSuite", line),
-            VectorFault::BadHex(line) => ("BadHex", line),
-            VectorFault::BadLength(line) => ("BadLength", line),
-            VectorFault::BadCuts(line) => ("BadCuts", line),
-            VectorFault::Unfinished(line) => ("Unfinished", line),
-            VectorFault::NoRecords => return f.write_str("NoRecords"),
-            VectorFault::OutOfMemory => return f.write_str("OutOfMemory"),
-        };
-        write!(f, "{name} at line {line}")
+        match self {
+            VectorFault::AtLine(line, cause) => write!(f, "{cause} at line {line}"),
+            VectorFault::NoRecords => f.write_str("NoRecords"),
+            VectorFault::Unfinished(line) => write!(f, "Unfinished at line {line}"),
+            VectorFault::OutOfMemory => f.write_str("OutOfMemory"),
+        }
     }
 }
 
@@ -66,16 +85,4 @@ impl From<AllocError> for VectorFault {
     fn from(_error: AllocError) -> VectorFault {
         VectorFault::OutOfMemory
     }
-}
-
-// The reason why a line is refused.
-#[derive(Clone, Copy)]
-pub(crate) enum Cause {
-    BadFormat,
-    BadLine,
-    WrongName,
-    UnknownSuite,
-    BadHex,
-    BadLength,
-    BadCuts,
 }

@@ -27,7 +27,7 @@ mod report;
 mod suite;
 mod uses;
 
-pub use fault::VectorFault;
+pub use fault::{Cause, VectorFault};
 pub use reading::check;
 pub use report::Report;
 

@@ -1,32 +1,16 @@
 //! A vector file, read once from its first byte to its last.
 
-ghost use Rattle.std.specs.Prelude.{◌≡◌, ℕ, List, IfOk, IfErr};
+ghost use Rattle.std.specs.Prelude.{List, IfOk, IfErr};
 ghost use Rattle.vectors.specs.Lines.{lines_of};
 ghost use Rattle.vectors.specs.Grammar.{Record, IsFile};
-ghost use Rattle.vectors.specs.Faults.{IsFaultOf, IsFaultAt};
-ghost use Rattle.vectors.specs.Faults as faults;
+ghost use Rattle.vectors.specs.Faults.{IsFaultOf};
 ghost use Rattle.vectors.specs.Reports.{IsReport, IsReported};
 
-use crate::fault::{Cause, VectorFault};
+use crate::fault::VectorFault;
 use crate::lines::first_line;
 use crate::place::{Next, Place, step};
 use crate::report::Report;
 use std::alloc::Allocator;
-
-// The fault at a line.
-fn fault_at(cause: Cause, line: u64) -> VectorFault
-    ensures { (lines : List (List ℕ)) → IsFaultAt lines line cause → IsFaultOf lines result }
-{
-    match cause {
-        Cause::BadFormat => VectorFault::BadFormat(line),
-        Cause::BadLine => VectorFault::BadLine(line),
-        Cause::WrongName => VectorFault::WrongName(line),
-        Cause::UnknownSuite => VectorFault::UnknownSuite(line),
-        Cause::BadHex => VectorFault::BadHex(line),
-        Cause::BadLength => VectorFault::BadLength(line),
-        Cause::BadCuts => VectorFault::BadCuts(line),
-    }
-}
 
 // Reads a vector file and judges each record as it ends.
 fn read<A: Allocator>(alloc: A, file: &[u8]) -> Result<Report<A>, VectorFault>
@@ -44,7 +28,7 @@ fn read<A: Allocator>(alloc: A, file: &[u8]) -> Result<Report<A>, VectorFault>
         count += 1;
         rest = behind;
         match step(place, line) {
-            Err(cause) => return Err(fault_at(cause, count)),
+            Err(cause) => return Err(VectorFault::AtLine(count, cause)),
             Ok(
                 Next {
                     place: next,

@@ -18,11 +18,10 @@ loop-line-init g c = record
 
 pub returns-in-Err-clause-fault : goal.returns-in-Err-clause-fault
 returns-in-Err-clause-fault g c =
-    c.fault_at.ensures (lines_of c.args.file.now)
-    (at_fault (lines_of c.args.file.now) (lines_of c.loop-line.rest.now) c.in-Some.line.now
+    at_fault (lines_of c.args.file.now) (lines_of c.loop-line.rest.now) c.in-Some.line.now
     (lines_of c.in-Some.behind.now) c.loop-line.count (view c.loop-line.place) c.in-Err.cause
     c.loop-line.report.records c.loop-line.report.bad.items c.loop-line.invariant.so_far
-    c.in-Some.ensures.line c.in-Err.ensures)
+    c.in-Some.ensures.line c.in-Err.ensures
 
 pub loop-line-preserved-in-Ok-None : goal.loop-line-preserved-in-Ok-None
 loop-line-preserved-in-Ok-None g c =
