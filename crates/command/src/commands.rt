@@ -94,9 +94,9 @@ fn wrap_inputs<'a, A: Allocator>(
     })
 }
 
-/// `wrap`: the wrapping of a text, with padding or without. In this order: `BadHex` for the key, then for
-/// the text, `KeyLength`, and the refusals of the call.
-pub fn wrap<'a, A: Allocator>(
+// `wrap`: the wrapping of a text, with padding or without. In this order: `BadHex` for the key, then for
+// the text, `KeyLength`, and the refusals of the call.
+pub(crate) fn wrap<'a, A: Allocator>(
     alloc: &'a A,
     key: &str,
     text: &str,
@@ -109,9 +109,9 @@ pub fn wrap<'a, A: Allocator>(
     Ok(wrapped(alloc, &call.key, &call.body, pad)?)
 }
 
-/// `unwrap`: the text of a wrapping, with padding or without. In this order: `BadHex` for the key, then for
-/// the wrapping, `KeyLength`, and the refusals of the call.
-pub fn unwrap<'a, A: Allocator>(
+// `unwrap`: the text of a wrapping, with padding or without. In this order: `BadHex` for the key, then for
+// the wrapping, `KeyLength`, and the refusals of the call.
+pub(crate) fn unwrap<'a, A: Allocator>(
     alloc: &'a A,
     key: &str,
     sealed: &str,
@@ -124,18 +124,18 @@ pub fn unwrap<'a, A: Allocator>(
     Ok(unwrapped(alloc, &call.key, &call.body, pad)?)
 }
 
-/// The inputs of a call under a suite.
+// The inputs of a call under a suite.
 #[derive(Drop)]
-pub struct Prepared<A: Allocator> {
-    pub cipher: AnyAead,
-    pub nonce: Nonce,
-    pub aad: Vec<u8, A>,
-    pub body: Vec<u8, A>,
+pub(crate) struct Prepared<A: Allocator> {
+    pub(crate) cipher: AnyAead,
+    pub(crate) nonce: Nonce,
+    pub(crate) aad: Vec<u8, A>,
+    pub(crate) body: Vec<u8, A>,
 }
 
-/// The inputs that the words give. In this order: `UnknownSuite`, `BadHex` for the key, the nonce, the
-/// associated data and the body, `KeyLength`, `NonceLength`.
-pub fn prepare<'a, A: Allocator>(
+// The inputs that the words give. In this order: `UnknownSuite`, `BadHex` for the key, the nonce, the
+// associated data and the body, `KeyLength`, `NonceLength`.
+pub(crate) fn prepare<'a, A: Allocator>(
     alloc: &'a A,
     words: &Inputs<'_>,
 ) -> Result<Prepared<&'a A>, Failure>
@@ -158,24 +158,30 @@ pub fn prepare<'a, A: Allocator>(
     })
 }
 
-/// `seal`: the sealing of a text. The refusals of its inputs come first, then those of the call.
-pub fn seal<'a, A: Allocator>(alloc: &'a A, words: &Inputs<'_>) -> Result<Vec<u8, &'a A>, Failure>
+// `seal`: the sealing of a text. The refusals of its inputs come first, then those of the call.
+pub(crate) fn seal<'a, A: Allocator>(
+    alloc: &'a A,
+    words: &Inputs<'_>,
+) -> Result<Vec<u8, &'a A>, Failure>
     ensures { MatchResult result (λ v. IsSealed words.now v.items) (IsRefused WholeSealRefused words.now) }
 {
     let call = prepare(alloc, words)?;
     Ok(aead::seal(alloc, &call.cipher, &call.nonce, &call.aad, &call.body)?)
 }
 
-/// `open`: the text of sealed bytes. The refusals of its inputs come first, then those of the call.
-pub fn open<'a, A: Allocator>(alloc: &'a A, words: &Inputs<'_>) -> Result<Vec<u8, &'a A>, Failure>
+// `open`: the text of sealed bytes. The refusals of its inputs come first, then those of the call.
+pub(crate) fn open<'a, A: Allocator>(
+    alloc: &'a A,
+    words: &Inputs<'_>,
+) -> Result<Vec<u8, &'a A>, Failure>
     ensures { MatchResult result (λ v. IsOpened words.now v.items) (IsRefused WholeOpenRefused words.now) }
 {
     let call = prepare(alloc, words)?;
     Ok(aead::open(alloc, &call.cipher, &call.nonce, &call.aad, &call.body)?)
 }
 
-/// `check`: the report of a vector file. The refusals of reading it come first, then the file's first fault.
-pub fn check<'a, A: Allocator, F: Storage>(
+// `check`: the report of a vector file. The refusals of reading it come first, then the file's first fault.
+pub(crate) fn check<'a, A: Allocator, F: Storage>(
     alloc: &'a A,
     files: &F,
     path: &str,

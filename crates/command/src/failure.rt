@@ -87,8 +87,8 @@ impl From<AllocError> for Failure {
     }
 }
 
-/// Returns the fault of a failed read or write: `OutOfMemory` if that is its kind, else the given fault.
-pub fn fault_of(error: &io::Error, otherwise: Fault) -> Fault
+// Returns the fault of a failed read or write: `OutOfMemory` if that is its kind, else the given fault.
+pub(crate) fn fault_of(error: &io::Error, otherwise: Fault) -> Fault
     ensures memory { error_kind error.now ≡ ErrorKind.OutOfMemory → result ≡ Fault.OutOfMemory }
     ensures either { (result ≡ Fault.OutOfMemory) ⊎ (result ≡ otherwise) }
 {

@@ -19,8 +19,8 @@ pub struct FileIntake<R> {
 }
 
 impl<R: Read> FileIntake<R> {
-    /// A device with the bytes that the reader has left, which are at least `owed`, and no failures yet.
-    pub fn new(reader: R, owed: u64) -> Self
+    // A device with the bytes that the reader has left, which are at least `owed`, and no failures yet.
+    pub(crate) fn new(reader: R, owed: u64) -> Self
         ensures left { ⟦<FileIntake<R> as Intake>⟧.left result ≡ R.remaining reader }
         ensures failed { ⟦<FileIntake<R> as Intake>⟧.failures result ≡ 0 }
         ensures owed { result.owed ≡ owed }
@@ -59,8 +59,8 @@ impl<R: Read> Intake for FileIntake<R> {
     }
 }
 
-/// Returns the length of a regular file; 0 for any other file, or if the system tells none.
-pub fn regular_length<F: OpenFile>(file: &F) -> u64 {
+// Returns the length of a regular file; 0 for any other file, or if the system tells none.
+pub(crate) fn regular_length<F: OpenFile>(file: &F) -> u64 {
     match file.metadata() {
         Ok(about) if about.is_file() => about.len(),
         _ => 0,

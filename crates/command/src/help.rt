@@ -1,7 +1,7 @@
 //! The texts of the help.
 
-/// The suites, and how long their keys are.
-pub const SUITES: &str = "One of these; the number is its key's length in bytes:
+// The suites, and how long their keys are.
+pub(crate) const SUITES: &str = "One of these; the number is its key's length in bytes:
 chacha20-poly1305   32  (RFC 8439)
 aes-128-gcm         16  (SP 800-38D)
 aes-192-gcm         24
@@ -9,10 +9,10 @@ aes-256-gcm         32
 aes-128-gcm-siv     16  (RFC 8452)
 aes-256-gcm-siv     32";
 
-pub const WRAP_KEY: &str = "The AES key: 16, 24 or 32 bytes";
+pub(crate) const WRAP_KEY: &str = "The AES key: 16, 24 or 32 bytes";
 
-/// Where help ends.
-pub const ABOUT_HEX: &str =
+// Where help ends.
+pub(crate) const ABOUT_HEX: &str =
     "HEX is an even number of hex digits of either case; an empty argument means no bytes.
 See aeadkit help SUBCOMMAND for each subcommand, and docs/COMMAND.md for the manual.
 
@@ -38,7 +38,7 @@ A fault is one line on standard error, 'aeadkit: NAME'. Each name, its status an
   OutOfMemory    4  an allocation failed
 The faults of a vector file have status 1; aeadkit help check lists them.";
 
-pub const SEAL_MORE: &str =
+pub(crate) const SEAL_MORE: &str =
     "Prints the ciphertext, followed by the tag of 16 bytes, as one line of lower-case hex digits.
 HEX is an even number of hex digits of either case. --aad and --text are empty by default.
 Never use a nonce twice under one key.
@@ -51,7 +51,7 @@ prints 0388dace60b6a392f328c2b971b2fe78ab6e47d42cec13bdf53a67b21257bddf
 Status: 0 success; 2 invalid arguments; 3 standard output failed; 4 out of memory.
 See also: aeadkit help open, aeadkit help seal-file, docs/COMMAND.md.";
 
-pub const OPEN_MORE: &str =
+pub(crate) const OPEN_MORE: &str =
     "Prints the text as one line of lower-case hex digits, or nothing if authentication fails.
 HEX is an even number of hex digits of either case. --aad is empty by default.
 
@@ -65,7 +65,7 @@ Status: 0 success; 1 not a valid sealing; 2 invalid arguments; 3 standard output
 memory.
 See also: aeadkit help open-file, docs/COMMAND.md.";
 
-pub const WRAP_MORE: &str = "Prints the wrapping as one line of lower-case hex digits.
+pub(crate) const WRAP_MORE: &str = "Prints the wrapping as one line of lower-case hex digits.
 HEX is an even number of hex digits of either case.
 The text is a multiple of 8 bytes long, at least 16 (RFC 3394); with --pad at least 1 (RFC 5649).
 
@@ -76,7 +76,7 @@ prints 1fa68b0a8112b447aef34bd8fb5a7b829d3e862371d2cfe5
 Status: 0 success; 2 invalid arguments; 3 standard output failed; 4 out of memory.
 See also: aeadkit help unwrap, docs/COMMAND.md.";
 
-pub const UNWRAP_MORE: &str =
+pub(crate) const UNWRAP_MORE: &str =
     "Prints the text as one line of lower-case hex digits, or nothing if authentication fails.
 HEX is an even number of hex digits of either case.
 The wrapping is a multiple of 8 bytes long, at least 24 (RFC 3394); with --pad 16 (RFC 5649).
@@ -90,7 +90,7 @@ Status: 0 success; 1 not a valid wrapping; 2 invalid arguments; 3 standard outpu
 memory.
 See also: aeadkit help wrap, docs/COMMAND.md.";
 
-pub const SEAL_FILE_MORE: &str =
+pub(crate) const SEAL_FILE_MORE: &str =
     "Prints nothing. OUT will hold the ciphertext, followed by the tag of 16 bytes. It is created or
 truncated when its first byte is written. Discard it unless the status is 0.
 The sealed file does not hold the suite, the nonce or the associated data: store them beside it.
@@ -107,7 +107,7 @@ Example:
 Status: 0 success; 2 invalid arguments; 3 a file failed or changed; 4 out of memory.
 See also: aeadkit help open-file, docs/COMMAND.md.";
 
-pub const OPEN_FILE_MORE: &str =
+pub(crate) const OPEN_FILE_MORE: &str =
     "Prints nothing. OUT will hold the text. It is created or truncated when its first byte is written,
 after all of IN was authenticated. Discard it unless the status is 0.
 The suite, the key, the nonce and the associated data are those that the file was sealed with.
@@ -124,7 +124,7 @@ Status: 0 success; 1 not a valid sealing; 2 invalid arguments; 3 a file failed o
 memory.
 See also: aeadkit help seal-file, docs/COMMAND.md.";
 
-pub const CHECK_MORE: &str =
+pub(crate) const CHECK_MORE: &str =
     "Prints 'records N', and then 'bad K' for each record that disagrees with its standard.
 FILE may be /dev/stdin. A FILE that begins with - follows --, as in aeadkit check -- -FILE.
 

@@ -12,8 +12,8 @@ use std::alloc::Allocator;
 // How many bytes of a whole file are taken at a time.
 const CHUNK: usize = 65536;
 
-/// Opens a file for a reading. `Read` if it can't be opened, `OutOfMemory` if an allocation fails.
-pub fn reading<F: Storage>(files: &F, path: &str, reading: u8) -> Result<F::Input, Fault>
+// Opens a file for a reading. `Read` if it can't be opened, `OutOfMemory` if an allocation fails.
+pub(crate) fn reading<F: Storage>(files: &F, path: &str, reading: u8) -> Result<F::Input, Fault>
     ensures { MatchResult result
         (λ input. IfSome (F.contents files.now path.now reading) (λ bytes. F.Input.left input ≡ Some bytes))
         (λ e. ((e ≡ OfRead) × (F.open_may_fail files.now path.now reading ≡ true)) ⊎ (e ≡ OutOfMemory)) }
@@ -64,8 +64,8 @@ fn take_all<'a, A: Allocator, I: Intake>(
     Err(Fault::OutOfMemory)
 }
 
-/// Returns the bytes of a file. `Read` if it can't be opened or read, `OutOfMemory` if an allocation fails.
-pub fn file_bytes<'a, A: Allocator, F: Storage>(
+// Returns the bytes of a file. `Read` if it can't be opened or read, `OutOfMemory` if an allocation fails.
+pub(crate) fn file_bytes<'a, A: Allocator, F: Storage>(
     alloc: &'a A,
     files: &F,
     path: &str,

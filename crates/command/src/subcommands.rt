@@ -7,39 +7,39 @@ use crate::version::VERSION;
 use clap::{Arg, ArgAction, Command};
 use std::alloc::{AllocError, Global};
 
-pub const SEAL: &str = "seal";
+pub(crate) const SEAL: &str = "seal";
 
-pub const OPEN: &str = "open";
+pub(crate) const OPEN: &str = "open";
 
-pub const WRAP: &str = "wrap";
+pub(crate) const WRAP: &str = "wrap";
 
-pub const UNWRAP: &str = "unwrap";
+pub(crate) const UNWRAP: &str = "unwrap";
 
-pub const SEAL_FILE: &str = "seal-file";
+pub(crate) const SEAL_FILE: &str = "seal-file";
 
-pub const OPEN_FILE: &str = "open-file";
+pub(crate) const OPEN_FILE: &str = "open-file";
 
-pub const CHECK: &str = "check";
+pub(crate) const CHECK: &str = "check";
 
-pub const SUITE: &str = "suite";
+pub(crate) const SUITE: &str = "suite";
 
-pub const KEY: &str = "key";
+pub(crate) const KEY: &str = "key";
 
-pub const NONCE: &str = "nonce";
+pub(crate) const NONCE: &str = "nonce";
 
-pub const AAD: &str = "aad";
+pub(crate) const AAD: &str = "aad";
 
-pub const TEXT: &str = "text";
+pub(crate) const TEXT: &str = "text";
 
-pub const SEALED: &str = "sealed";
+pub(crate) const SEALED: &str = "sealed";
 
-pub const PAD: &str = "pad";
+pub(crate) const PAD: &str = "pad";
 
-pub const IN: &str = "in";
+pub(crate) const IN: &str = "in";
 
-pub const OUT: &str = "out";
+pub(crate) const OUT: &str = "out";
 
-pub const FILE: &str = "file";
+pub(crate) const FILE: &str = "file";
 
 // An argument: an option under its name, or a word.
 struct ArgSpec {
@@ -267,8 +267,8 @@ fn subcommand<'a>(alloc: Global, spec: &CommandSpec) -> Result<Command<'a>, Allo
     Ok(command)
 }
 
-/// The program's command line.
-pub fn command<'a>(alloc: Global) -> Result<Command<'a>, AllocError> {
+// The program's command line.
+pub(crate) fn command<'a>(alloc: Global) -> Result<Command<'a>, AllocError> {
     let mut program = Command::new(alloc, "aeadkit")
         .about("Authenticated encryption and key wrapping by published standards")
         .after_help(ABOUT_HEX)

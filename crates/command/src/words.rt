@@ -147,8 +147,8 @@ fn request_of<'a>(matches: &ArgMatches<'a>) -> Option<Request<'a>>
     }))
 }
 
-/// Returns the request that the words after the program's name make, or why they make none.
-pub fn read<'a, S: AsStr>(alloc: Global, words: &'a [S]) -> Result<Request<'a>, Refusal>
+// Returns the request that the words after the program's name make, or why they make none.
+pub(crate) fn read<'a, S: AsStr>(alloc: Global, words: &'a [S]) -> Result<Request<'a>, Refusal>
     ensures { IfOk result HasTwoPaths }
 {
     let Ok(command) = command(alloc) else {
