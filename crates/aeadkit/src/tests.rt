@@ -1,26 +1,19 @@
-//! Rows of the program, as runs on words, and the tests of the library's crates.
-mod blocks;
-mod byte_devices;
-mod checks;
+//! The tests of all crates. `of_NAME` tests the crate NAME; the other modules are what several of these use.
 mod devices;
-mod failing_files;
-mod files;
-mod growths;
-mod hashes;
-mod key_stream;
+mod digits;
+mod of_aead;
+mod of_aes;
+mod of_chacha;
+mod of_command;
+mod of_gf128;
+mod of_keywrap;
+mod of_octets;
+mod of_poly1305;
+mod of_vectors;
 mod published;
-mod rows;
-mod scripted;
-mod sealings;
-mod seals;
+mod runs;
 mod vector_files;
-mod wrappings;
 
-use command::{Storage, run};
-use devices::NO_FILES;
-use published::word;
-use std::alloc::Global;
-use std::io::Write;
 use std::process::Abort;
 
 // Ends the test if this is not so. A call of it is cheaper to prove than an assertion in its place.
@@ -31,78 +24,4 @@ fn shows(rt: &impl Abort, is_so: bool, what: &str) {
 // Ends the test if this is not so of a number.
 fn shows_at(rt: &impl Abort, is_so: bool, what: &str, number: u64) {
     assert!(rt; is_so, "{what} {number}");
-}
-
-// Whether bytes are this line and its LF.
-fn is_line(bytes: &[u8], line: &str) -> bool {
-    bytes.strip_suffix(b"\n".as_slice()) == Some(line.as_bytes())
-}
-
-// Whether standard error has the line of a fault, or nothing if it is the empty one.
-fn names(err: &[u8], fault: &str) -> bool {
-    match err.strip_prefix(b"aeadkit: ".as_slice()) {
-        Some(line) => is_line(line, fault),
-        None => err.is_empty() && fault.is_empty(),
-    }
-}
-
-// Runs the words over files and into a writer, and compares the status and the fault.
-fn runs_into<F: Storage, W: Write>(
-    rt: &(impl Abort + Alloc<A = Global>),
-    files: &F,
-    words: &[&str],
-    out: &mut W,
-    status: u8,
-    fault: &str,
-) {
-    let mut err: Vec<u8> = Vec::new(rt.alloc());
-    let answer = run(rt.alloc(), files, words, out, &mut err);
-    assert!(rt;
-        answer == status && names(&err, fault),
-        "{answer} of {words:?}"
-    );
-}
-
-// Runs the words over files, and compares the status, the fault and standard output: these lines, or nothing.
-fn runs_over<F: Storage>(
-    rt: &(impl Abort + Alloc<A = Global>),
-    files: &F,
-    words: &[&str],
-    status: u8,
-    printed: Option<&str>,
-    fault: &str,
-) {
-    let mut out: Vec<u8> = Vec::new(rt.alloc());
-    runs_into(rt, files, words, &mut out, status, fault);
-    let is_printed = match printed {
-        Some(lines) => is_line(&out, lines),
-        None => out.is_empty(),
-    };
-    assert!(rt; is_printed, "{words:?}");
-}
-
-// The words of a line after the first ones; `-` is the empty word.
-fn words_after<'a>(
-    rt: &(impl Abort + Alloc<A = Global>),
-    line: &'a str,
-    first: usize,
-) -> Vec<&'a str> {
-    let mut words = Vec::new(rt.alloc());
-    for given in line.split(' ').skip(first) {
-        words.push(word(Some(given))).expect(rt, "memory");
-    }
-    words
-}
-
-// Runs the words of a row over files, after its status and its fault. They print nothing.
-fn runs_row<F: Storage>(rt: &(impl Abort + Alloc<A = Global>), files: &F, row: &str) {
-    let mut words = row.split(' ');
-    let status = word(words.next()).parse().unwrap_or(9);
-    let fault = word(words.next());
-    runs_over(rt, files, &words_after(rt, row, 2), status, None, fault);
-}
-
-// The words print one line, with status 0, and nothing to standard error.
-fn prints(rt: &(impl Abort + Alloc<A = Global>), words: &[&str], line: &str) {
-    runs_over(rt, &NO_FILES, words, 0, Some(line), "");
 }

@@ -1,62 +1,115 @@
-//! Vector files, in both formats.
-mod cut;
-mod edited;
-mod files;
-
-use super::checks::has_result;
-use super::published::{CHACHA_A5, GCM_SIV_WRAPS, PADDED};
-use files::{add, file_of};
-pub use files::{TWO_RECORDS, published, with_lines};
+//! Vector files, and files made of others.
+use super::published::{VECTORS, WRAPPINGS, word};
 use std::alloc::Global;
 use std::process::Abort;
-use std::str::from_utf8;
 
-// The digit whose lowest bit is another.
-fn changed(digit: u8) -> u8 {
-    match digit {
-        b'a' => b'b',
-        b'b' => b'a',
-        b'c' => b'd',
-        b'd' => b'c',
-        b'e' => b'f',
-        b'f' => b'e',
-        _ => digit ^ 1,
+/// Two records: a published vector of GCM, and the same with another last byte.
+pub const TWO_RECORDS: &str = "# two records
+format = 1
+suite = aes-128-gcm
+key = 00000000000000000000000000000000
+nonce = 000000000000000000000000
+aad =
+sealed = 58e2fccefa7e3061367f1d57a4e7455a
+text =
+
+suite = aes-128-gcm
+key = 00000000000000000000000000000000
+nonce = 000000000000000000000000
+aad =
+sealed = 58e2fccefa7e3061367f1d57a4e7455b
+invalid
+";
+
+/// A record with cuts, and one of key wrapping with padding.
+pub const FORMAT_2: &str = "format = 2
+suite = aes-128-gcm-siv
+key = 01000000000000000000000000000000
+nonce = 030000000000000000000000
+aad =
+sealed = b5d839330ac7b786578782fff6013b815b287c22493a364c
+cuts = 3,8
+text = 0100000000000000
+suite = aes-192-wrap-pad
+key = 5840df6e29b02af1ab493b705bf16ea1ae8338f4dcc176a8
+sealed = afbeb0f07dfbf5419200f2ccb50bb24f
+text = 466f7250617369
+";
+
+/// Adds a line of these parts, and its LF.
+pub fn add(rt: &(impl Abort + Alloc<A = Global>), file: &mut Vec<u8>, parts: &[&[u8]]) {
+    for part in parts {
+        file.extend_from_slice(part).expect(rt, "memory");
+    }
+    file.push(b'\n').expect(rt, "memory");
+}
+
+// Adds a value line for each word of a published vector.
+fn add_record(
+    rt: &(impl Abort + Alloc<A = Global>),
+    file: &mut Vec<u8>,
+    vector: &str,
+    names: &[&str],
+) {
+    for (name, given) in names.iter().zip(vector.split(' ')) {
+        add(
+            rt,
+            file,
+            &[name.as_bytes(), b" = ", word(Some(given)).as_bytes()],
+        );
     }
 }
 
-// A file with the lowest bit of each record's sealed bytes changed, and `invalid` for its text.
-fn changed_records(rt: &(impl Abort + Alloc<A = Global>), file: &str) -> Vec<u8> {
+/// A file of these vectors of sealing and of wrapping.
+pub fn file_of(
+    rt: &(impl Abort + Alloc<A = Global>),
+    format: &str,
+    sealings: &[&str],
+    wrappings: &[&str],
+) -> Vec<u8> {
+    let mut file = Vec::new(rt.alloc());
+    add(rt, &mut file, &[b"format = ", format.as_bytes()]);
+    for vector in sealings {
+        add_record(
+            rt,
+            &mut file,
+            vector,
+            &["suite", "key", "nonce", "aad", "sealed", "text"],
+        );
+    }
+    for vector in wrappings {
+        add_record(rt, &mut file, vector, &["suite", "key", "sealed", "text"]);
+    }
+    file
+}
+
+/// The published vectors of sealing and of wrapping without padding, as a file of 18 records.
+pub fn published(rt: &(impl Abort + Alloc<A = Global>), format: &str) -> Vec<u8> {
+    file_of(rt, format, &VECTORS, &WRAPPINGS)
+}
+
+// The number that digits spell; 0 if there are none.
+fn number_of(digits: Option<&str>) -> usize {
+    match digits {
+        Some(digits) => digits.parse().unwrap_or(0),
+        None => 0,
+    }
+}
+
+/// A file with other lines: of each line that is another the number, and what stands for it and its LF, all
+/// parted by bars.
+pub fn with_lines(rt: &(impl Abort + Alloc<A = Global>), file: &str, edits: &str) -> Vec<u8> {
     let mut out = Vec::new(rt.alloc());
-    for line in file.lines() {
-        match line.as_bytes().split_last() {
-            _ if line.starts_with("text") => add(rt, &mut out, &[b"invalid"]),
-            Some((last, front)) if line.starts_with("sealed") => {
-                add(rt, &mut out, &[front, &[changed(*last)]]);
-            }
-            _ => add(rt, &mut out, &[line.as_bytes()]),
+    let mut parts = edits.split('|');
+    let mut next = number_of(parts.next());
+    for (i, old) in file.lines().enumerate() {
+        if i.saturating_add(1) == next {
+            let new = parts.next().unwrap_or("");
+            out.extend_from_slice(new.as_bytes()).expect(rt, "memory");
+            next = number_of(parts.next());
+        } else {
+            add(rt, &mut out, &[old.as_bytes()]);
         }
     }
     out
-}
-
-// The published vectors agree; changed, each is no sealing; and the fifth disagrees with `invalid`.
-#[test]
-fn published_vectors_in_both_formats(rt: HostRuntime) {
-    for format in ["1", "2"] {
-        let file = published(&rt, format);
-        has_result(&rt, &file, "records 18");
-        let text = from_utf8(&file).expect(&rt, "text");
-        has_result(&rt, &changed_records(&rt, text), "records 18");
-        let fifth = with_lines(&rt, text, "31|invalid\n");
-        has_result(&rt, &fifth, "records 18\nbad 5");
-    }
-}
-
-// The others, of format 2: a long text, a count of blocks that passes 2^32, and texts wrapped with padding.
-#[test]
-fn more_published_vectors(rt: HostRuntime) {
-    let file = file_of(&rt, "2", &[CHACHA_A5, GCM_SIV_WRAPS], &PADDED);
-    has_result(&rt, &file, "records 4");
-    let text = from_utf8(&file).expect(&rt, "text");
-    has_result(&rt, &changed_records(&rt, text), "records 4");
 }

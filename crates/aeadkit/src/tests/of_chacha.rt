@@ -1,7 +1,7 @@
 //! ChaCha20: single blocks, and the key stream in pieces.
 ghost use Rattle.std.specs.Prelude.{◌<◌, ◌≤◌};
 
-use super::files::bytes;
+use super::digits::bytes;
 use super::{shows, shows_at};
 use chacha::{ChaStream, block};
 use octets::{Fault, Key32, Nonce};

@@ -1,18 +1,18 @@
 //! The calls of `aead` on published vectors.
 mod cuts;
-mod growths;
-mod long;
-mod opening;
+mod long_text;
+mod open_streams;
 mod pieces;
-pub mod samples;
-mod streams;
+mod refused_memory;
+mod samples;
+mod seal_streams;
 
-use super::files::bytes;
+use super::digits::{bytes, flip};
 use super::published::{VECTORS, Vector};
 use super::shows;
 use aead::Aead;
 use octets::{Fault, Tag};
-use samples::{Sample, are_sealed, flip, sample_of};
+use samples::{Sample, are_sealed, sample_of};
 use std::alloc::Global;
 use std::process::Abort;
 

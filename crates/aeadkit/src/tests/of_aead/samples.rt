@@ -1,5 +1,5 @@
 //! The bytes of published vectors, with their ciphers.
-use super::super::files::bytes;
+use super::super::digits::bytes;
 use super::super::published::Vector;
 use aead::{AnyAead, AnyOnePass, GcmSiv, Suite};
 use octets::{Nonce, Tag};
@@ -48,13 +48,6 @@ pub fn two_pass(cipher: &AnyAead) -> Option<&GcmSiv> {
 /// The first bytes of these, so many.
 pub fn first(bytes: &[u8], count: usize) -> &[u8] {
     &bytes[..count.min(bytes.len())]
-}
-
-/// Changes a bit, numbered from the lowest one of the first byte on.
-pub fn flip(bytes: &mut [u8], bit: usize) {
-    if let Some(byte) = bytes.get_mut(bit / 8) {
-        *byte ^= 1 << (bit % 8);
-    }
 }
 
 /// Whether a ciphertext and its tag, joined, are these bytes.

@@ -1,7 +1,6 @@
 //! GHASH and POLYVAL.
-use super::super::files::bytes;
-use super::super::shows;
-use super::sixteen;
+use super::digits::{bytes, sixteen};
+use super::shows;
 use gf128::{
     BigEndian, BitMul, BlockHash, ByteOrder, KeptMul, Keyed128, LittleEndian, Multiply, TableMul,
     WideMul,

@@ -1,7 +1,6 @@
 //! The calls of `keywrap` in place, without padding and with it.
-use super::files::bytes;
+use super::digits::{bytes, flip};
 use super::published::{PADDED, WRAPPINGS, Wrapping};
-use super::sealings::samples::flip;
 use super::shows;
 use aes::AesKey;
 use keywrap::{unwrap_in_place, unwrap_padded_in_place, wrap_in_place, wrap_padded_in_place};

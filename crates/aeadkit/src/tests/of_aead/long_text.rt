@@ -1,5 +1,5 @@
 //! A text of more than 1,024 bytes, as OpenSSL seals it.
-use super::super::files::bytes;
+use super::super::digits::bytes;
 use super::super::shows;
 use aead::{Aead, AnyAead, AnyOnePass, GcmSiv, Sealer, SivAbsorb, SivWriter, Suite};
 use octets::{Nonce, Tag};

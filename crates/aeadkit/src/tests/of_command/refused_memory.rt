@@ -1,10 +1,11 @@
 //! Each request for memory of a command is refused in turn, until a run takes all that it asks for. The
 //! result is `OutOfMemory` if one was refused, or `Write` if the making of a file asked for it; else it is right.
-use super::files::bytes;
-use super::published::{CHACHA, GCM, GCM_SIV, PADDED, Vector, WRAPPINGS, Wrapping};
-use super::scripted::{Log, Script, Scripted, Sink, Source};
-use super::vector_files::{TWO_RECORDS, published, with_lines};
-use super::{is_line, names, shows, shows_at};
+use super::super::digits::bytes;
+use super::super::published::{CHACHA, GCM, GCM_SIV, PADDED, Vector, WRAPPINGS, Wrapping};
+use super::super::runs::{is_line, names};
+use super::super::vector_files::{TWO_RECORDS, published, with_lines};
+use super::super::{shows, shows_at};
+use super::scripted_files::{Log, Script, Scripted, Sink, Source};
 use command::{
     FileCommand, FileRequest, Inputs, PrintRequest, Request, Storage, perform, report,
     write_new_file,

@@ -1,9 +1,10 @@
 //! The file commands, if a call to their files goes wrong.
-use super::devices::NO_FILES;
-use super::files::{bytes, file_words};
-use super::published::{CHACHA, GCM_SIV, Vector};
-use super::scripted::{Log, Script, Scripted, Wrong};
-use super::{names, runs_over, shows_at};
+use super::super::devices::NO_FILES;
+use super::super::digits::bytes;
+use super::super::published::{CHACHA, GCM_SIV, Vector};
+use super::super::runs::{names, runs_row};
+use super::super::shows_at;
+use super::scripted_files::{Log, Script, Scripted, Wrong};
 use command::run;
 use std::alloc::Global;
 use std::process::Abort;
@@ -73,14 +74,33 @@ fn each_call_goes_wrong(
     shows_at(rt, 4 < count && count < 999, "calls", u64::from(count));
 }
 
+// The words of a file command from `a` to `b` under a vector's inputs.
+fn file_words<'a>(command: &'a str, vector: &Vector<'a>) -> [&'a str; 13] {
+    [
+        command,
+        "--suite",
+        vector.suite,
+        "--key",
+        vector.key,
+        "--nonce",
+        vector.nonce,
+        "--aad",
+        vector.aad,
+        "--in",
+        "a",
+        "--out",
+        "b",
+    ]
+}
+
 // Seals and opens a vector's text with each call going wrong in turn; sealing ends with the given reading.
 fn each_call_of(rt: &(impl Abort + Alloc<A = Global>), line: &str, last: u8, how: (Wrong, bool)) {
     let vector = Vector::of(line);
     let text = bytes(rt, vector.text);
     let sealed = bytes(rt, vector.sealed);
-    let words = file_words("seal-file", &vector, "a", "b");
+    let words = file_words("seal-file", &vector);
     each_call_goes_wrong(rt, &words, &text, &sealed, last, how);
-    let words = file_words("open-file", &vector, "a", "b");
+    let words = file_words("open-file", &vector);
     each_call_goes_wrong(rt, &words, &sealed, &text, 2, how);
 }
 
@@ -99,27 +119,27 @@ fn calls_that_go_wrong(rt: HostRuntime) {
     }
 }
 
-// A fault, and a suite, a key, a nonce and associated data that have it, with an IN that can't be opened.
+// A status, a fault and the words that have them, with an IN that can't be opened. The words are looked at in this order:
+// the suite's name, the hex of key, nonce and associated data, the key's length, the nonce's, and then the files.
 const REFUSED: &str = "\
-UnknownSuite des 0 0 0
-BadHex aes-128-gcm 0 00 -
-BadHex aes-128-gcm 00 0 -
-BadHex aes-128-gcm 00 00 0
-KeyLength aes-128-gcm 00 00 -
-NonceLength aes-128-gcm 00000000000000000000000000000000 00 -
-Read aes-128-gcm 00000000000000000000000000000000 000000000000000000000000 -";
+2 UnknownSuite seal-file --suite des --key 0 --nonce 0 --aad 0 --in a --out b
+2 BadHex seal-file --suite aes-128-gcm --key 0 --nonce 00 --aad - --in a --out b
+2 BadHex seal-file --suite aes-128-gcm --key 00 --nonce 0 --aad - --in a --out b
+2 BadHex seal-file --suite aes-128-gcm --key 00 --nonce 00 --aad 0 --in a --out b
+2 KeyLength seal-file --suite aes-128-gcm --key 00 --nonce 00 --aad - --in a --out b
+2 NonceLength seal-file --suite aes-128-gcm --key 00000000000000000000000000000000 --nonce 00 --aad - --in a --out b
+3 Read seal-file --suite aes-128-gcm --key 00000000000000000000000000000000 --nonce 000000000000000000000000 --aad - --in a --out b
+2 UnknownSuite open-file --suite des --key 0 --nonce 0 --aad 0 --in a --out b
+2 BadHex open-file --suite aes-128-gcm --key 0 --nonce 00 --aad - --in a --out b
+2 BadHex open-file --suite aes-128-gcm --key 00 --nonce 0 --aad - --in a --out b
+2 BadHex open-file --suite aes-128-gcm --key 00 --nonce 00 --aad 0 --in a --out b
+2 KeyLength open-file --suite aes-128-gcm --key 00 --nonce 00 --aad - --in a --out b
+2 NonceLength open-file --suite aes-128-gcm --key 00000000000000000000000000000000 --nonce 00 --aad - --in a --out b
+3 Read open-file --suite aes-128-gcm --key 00000000000000000000000000000000 --nonce 000000000000000000000000 --aad - --in a --out b";
 
-// The inputs are looked at before the files: the suite's name, the hex of key, nonce and associated data, the key's
-// length, and the nonce's.
 #[test]
 fn inputs_before_files(rt: HostRuntime) {
-    for line in REFUSED.lines() {
-        let (fault, inputs) = line.split_once(' ').unwrap_or(("", line));
-        let vector = Vector::of(inputs);
-        let status = if fault == "Read" { 3 } else { 2 };
-        for name in ["seal-file", "open-file"] {
-            let words = file_words(name, &vector, "a", "b");
-            runs_over(&rt, &NO_FILES, &words, status, None, fault);
-        }
+    for row in REFUSED.lines() {
+        runs_row(&rt, &NO_FILES, row);
     }
 }

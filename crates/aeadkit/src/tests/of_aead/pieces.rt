@@ -1,8 +1,8 @@
 //! Sealing and opening piece by piece.
-use super::super::files::bytes;
+use super::super::digits::{bytes, flip};
 use super::super::published::{CHACHA, GCM_4, GCM_SIV, Vector};
 use super::super::shows;
-use super::samples::{Sample, are_sealed, flip, one_pass, sample_of, two_pass};
+use super::samples::{Sample, are_sealed, one_pass, sample_of, two_pass};
 use aead::{Aead, OpenWriter, Opener, Sealer, SivAbsorb, SivWriter};
 use octets::{Fault, Tag};
 use std::alloc::Global;

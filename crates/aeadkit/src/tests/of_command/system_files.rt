@@ -1,42 +1,15 @@
 //! The system's files, in a folder of the test's own.
-use super::published::{CHACHA, CHANGED, GCM, Vector};
-use super::vector_files::TWO_RECORDS;
-use super::{runs_over, runs_row, shows};
+use super::super::digits::bytes;
+use super::super::published::{CHACHA, CHANGED, GCM, Vector};
+use super::super::runs::{runs_over, runs_row};
+use super::super::shows;
+use super::super::vector_files::TWO_RECORDS;
 use command::Disk;
 use octets::RefusingMemory;
 use std::alloc::Global;
 use std::fs;
 use std::process::Abort;
 use std::rt::Files;
-
-/// The words of a file command under a vector's inputs.
-pub fn file_words<'a>(
-    name: &'a str,
-    vector: &Vector<'a>,
-    input: &'a str,
-    output: &'a str,
-) -> [&'a str; 13] {
-    [
-        name,
-        "--suite",
-        vector.suite,
-        "--key",
-        vector.key,
-        "--nonce",
-        vector.nonce,
-        "--aad",
-        vector.aad,
-        "--in",
-        input,
-        "--out",
-        output,
-    ]
-}
-
-/// The bytes that hex digits spell.
-pub fn bytes(rt: &(impl Abort + Alloc<A = Global>), digits: &str) -> Vec<u8> {
-    hex::decode(rt.alloc(), digits).expect(rt, "digits")
-}
 
 const FOLDER: &str = "aeadkit_files";
 

@@ -1,9 +1,8 @@
 //! Poly1305.
 ghost use Rattle.std.specs.Prelude.{◌<◌};
 
-use super::super::files::bytes;
-use super::super::shows_at;
-use super::sixteen;
+use super::digits::{bytes, sixteen};
+use super::shows_at;
 use octets::Tag;
 use poly1305::{Multiplier, NibbleMul, PolyBy, WordMul};
 

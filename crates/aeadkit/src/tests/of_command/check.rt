@@ -1,28 +1,8 @@
-//! `check` on vector files.
-use super::devices::{NO_FILES, OneFile};
-use super::runs_over;
-use super::vector_files::TWO_RECORDS;
-use std::alloc::Global;
+//! `check` on files that can't be read.
+use super::super::devices::{NO_FILES, OneFile};
+use super::super::runs::{CHECK, runs_over};
+use super::super::vector_files::TWO_RECORDS;
 use std::io;
-use std::process::Abort;
-
-/// The words that check a vector file.
-pub const CHECK: [&str; 2] = ["check", "vectors.txt"];
-
-/// Checks a file, whose result is its report or its fault.
-pub fn has_result(rt: &(impl Abort + Alloc<A = Global>), file: &[u8], due: &str) {
-    let files = OneFile {
-        opens: true,
-        bytes: file,
-        failure: None,
-    };
-    if due.starts_with("records") {
-        let status = u8::from(due.contains('\n'));
-        runs_over(rt, &files, &CHECK, status, Some(due), "");
-    } else {
-        runs_over(rt, &files, &CHECK, 1, None, due);
-    }
-}
 
 // A file that can't be opened or read, whatever the system's error, is `Read`; an allocation failure in
 // opening it is `OutOfMemory`.

@@ -1,6 +1,6 @@
 //! Files with some lines in the place of others: each result is the report, or the first fault at its line.
-use super::super::checks::has_result;
-use super::files::{FORMAT_2, TWO_RECORDS, add, with_lines};
+use super::super::vector_files::{FORMAT_2, TWO_RECORDS, add, with_lines};
+use super::check_gives;
 use std::alloc::Global;
 use std::process::Abort;
 
@@ -81,7 +81,7 @@ const OF_FORMAT_2: [&str; 27] = [
 // A row of a file has its result.
 fn has_row(rt: &(impl Abort + Alloc<A = Global>), file: &str, row: &str) {
     let (result, edits) = row.split_once('|').unwrap_or((row, ""));
-    has_result(rt, &with_lines(rt, file, edits), result);
+    check_gives(rt, &with_lines(rt, file, edits), result);
 }
 
 #[test]
@@ -97,7 +97,7 @@ fn other_lines(rt: HostRuntime) {
 #[test]
 fn no_records(rt: HostRuntime) {
     for file in ["", "# a comment", "format = 1", "\nformat = 2\n#\n"] {
-        has_result(&rt, file.as_bytes(), "NoRecords");
+        check_gives(&rt, file.as_bytes(), "NoRecords");
     }
 }
 
@@ -108,7 +108,7 @@ fn carriage_returns(rt: HostRuntime) {
     for line in TWO_RECORDS.lines() {
         add(&rt, &mut file, &[line.as_bytes(), b"\r"]);
     }
-    has_result(&rt, &file, "records 2");
+    check_gives(&rt, &file, "records 2");
 }
 
 // A comment has any bytes.
@@ -116,5 +116,5 @@ fn carriage_returns(rt: HostRuntime) {
 fn comments(rt: HostRuntime) {
     let mut file = Vec::new(rt.alloc());
     add(&rt, &mut file, &[b"#\x80\xff\n", TWO_RECORDS.as_bytes()]);
-    has_result(&rt, &file, "records 2");
+    check_gives(&rt, &file, "records 2");
 }

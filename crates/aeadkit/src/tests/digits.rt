@@ -1,0 +1,20 @@
+//! The bytes that hex digits spell.
+use std::alloc::Global;
+use std::process::Abort;
+
+/// The bytes that hex digits spell.
+pub fn bytes(rt: &(impl Abort + Alloc<A = Global>), digits: &str) -> Vec<u8> {
+    hex::decode(rt.alloc(), digits).expect(rt, "digits")
+}
+
+/// The sixteen bytes that hex digits spell.
+pub fn sixteen(rt: &(impl Abort + Alloc<A = Global>), digits: &str) -> [u8; 16] {
+    *bytes(rt, digits).first_chunk::<16>().expect(rt, "a block")
+}
+
+/// Changes a bit, numbered from the lowest one of the first byte on.
+pub fn flip(bytes: &mut [u8], bit: usize) {
+    if let Some(byte) = bytes.get_mut(bit / 8) {
+        *byte ^= 1 << (bit % 8);
+    }
+}

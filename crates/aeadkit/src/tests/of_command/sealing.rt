@@ -1,0 +1,105 @@
+//! `seal` and `open` on published vectors.
+use super::super::devices::NO_FILES;
+use super::super::published::{CHACHA, GCM_4, GCM_SIV_WRAPS, VECTORS, Vector};
+use super::super::runs::{prints, runs_over, runs_row};
+use std::alloc::Global;
+use std::process::Abort;
+
+// A status, a fault and the words that are refused with them; `-` is the empty word.
+const REFUSED: &str = "\
+2 UnknownSuite seal --suite des --key 0 --nonce 07 --aad 0 --text 0
+2 UnknownSuite seal --suite AES-128-GCM --key - --nonce - --aad - --text -
+2 UnknownSuite seal --suite - --key 0 --nonce 07 --aad - --text -
+2 BadHex seal --suite aes-128-gcm --key 0 --nonce 00 --aad - --text -
+2 BadHex seal --suite aes-128-gcm --key 00 --nonce 0 --aad - --text -
+2 BadHex seal --suite aes-128-gcm --key 00 --nonce 00 --aad 0 --text -
+2 BadHex seal --suite aes-128-gcm --key 00 --nonce 00 --aad - --text zz
+2 KeyLength seal --suite aes-128-gcm --key 00 --nonce 00 --aad - --text -
+2 KeyLength seal --suite aes-256-gcm --key 00000000000000000000000000000000 --nonce 00 --aad - --text -
+2 KeyLength seal --suite aes-256-gcm-siv --key 000000000000000000000000000000000000000000000000 --nonce 00 --aad - --text -
+2 NonceLength seal --suite aes-128-gcm --key 00000000000000000000000000000000 --nonce 00 --aad - --text -
+2 NonceLength seal --suite aes-128-gcm --key 00000000000000000000000000000000 --nonce - --aad - --text -
+2 NonceLength seal --suite chacha20-poly1305 --key 808182838485868788898a8b8c8d8e8f909192939495969798999a9b9c9d9e9f \
+    --nonce 07 --aad 50515253c0c1c2c3c4c5c6c7 --text 00";
+
+// Seals a text, and opens its sealed bytes.
+fn is_sealed(rt: &(impl Abort + Alloc<A = Global>), line: &str) {
+    let vector = Vector::of(line);
+    prints(
+        rt,
+        &vector.words("seal", "--text", vector.text),
+        vector.sealed,
+    );
+    prints(
+        rt,
+        &vector.words("open", "--sealed", vector.sealed),
+        vector.text,
+    );
+}
+
+#[test]
+fn standard_vectors(rt: HostRuntime) {
+    for line in &VECTORS {
+        is_sealed(&rt, line);
+    }
+    is_sealed(&rt, GCM_SIV_WRAPS);
+}
+
+// A row of `seal`, and the same of `open`.
+fn is_refused_both_ways(rt: &(impl Abort + Alloc<A = Global>), row: &str) {
+    runs_row(rt, &NO_FILES, row);
+    let opening = row
+        .replace(rt.alloc(), " seal ", " open ")
+        .expect(rt, "memory");
+    let opening = opening
+        .replace(rt.alloc(), "--text", "--sealed")
+        .expect(rt, "memory");
+    runs_row(rt, &NO_FILES, &opening);
+}
+
+// The suite's name comes first, then the hex of key, nonce, associated data and body, then the key's
+// length, then the nonce's, for sealing and opening.
+#[test]
+fn refusals_in_order(rt: HostRuntime) {
+    for row in REFUSED.lines() {
+        is_refused_both_ways(&rt, row);
+    }
+}
+
+// Bytes are no sealing under a vector's inputs.
+fn is_no_sealing(
+    rt: &(impl Abort + Alloc<A = Global>),
+    vector: &Vector<'_>,
+    sealed: &str,
+    fault: &str,
+) {
+    let words = vector.words("open", "--sealed", sealed);
+    runs_over(rt, &NO_FILES, &words, 1, None, fault);
+}
+
+// The beginnings of a sealing are none.
+#[test]
+fn cut_sealings(rt: HostRuntime) {
+    for line in [CHACHA, GCM_4] {
+        let vector = Vector::of(line);
+        for count in 0..vector.sealed.len() / 2 {
+            let fault = if count < 16 {
+                "TooShort"
+            } else {
+                "TagMismatch"
+            };
+            let sealed = vector.sealed.get(..2 * count).unwrap_or("");
+            is_no_sealing(&rt, &vector, sealed, fault);
+        }
+    }
+}
+
+// Other associated data makes another sealing.
+#[test]
+fn other_associated_data(rt: HostRuntime) {
+    let mut vector = Vector::of(CHACHA);
+    for aad in ["", "51515253c0c1c2c3c4c5c6c7"] {
+        vector.aad = aad;
+        is_no_sealing(&rt, &vector, vector.sealed, "TagMismatch");
+    }
+}

@@ -1,0 +1,78 @@
+//! Standard output and standard error that fail.
+use super::super::devices::{FailsAfter, NO_FILES, OneFile, Waiting};
+use super::super::runs::{CHECK, runs_into};
+use super::super::shows;
+use super::super::vector_files::TWO_RECORDS;
+use command::{Storage, run};
+use std::alloc::Global;
+use std::io;
+use std::process::Abort;
+
+const KEY: &str = "000102030405060708090a0b0c0d0e0f";
+
+const TEXT: &str = "00112233445566778899aabbccddeeff";
+
+// Words, the failure of standard output, and the status and the fault.
+const UNPRINTED: [(&[&str], io::ErrorKind, u8, &str); 5] = [
+    (
+        &["wrap", "--key", KEY, "--text", TEXT],
+        io::ErrorKind::StorageFull,
+        3,
+        "Write",
+    ),
+    (
+        &["wrap", "--key", KEY, "--text", TEXT],
+        io::ErrorKind::OutOfMemory,
+        4,
+        "OutOfMemory",
+    ),
+    (&["--version"], io::ErrorKind::BrokenPipe, 3, "Write"),
+    (&["--help"], io::ErrorKind::BrokenPipe, 3, "Write"),
+    (&CHECK, io::ErrorKind::StorageFull, 3, "Write"),
+];
+
+// Words print to a standard output that has to be flushed, which waits for nothing in the end. A failing flush is
+// `Write`.
+fn are_flushed<F: Storage>(rt: &(impl Abort + Alloc<A = Global>), files: &F, words: &[&str]) {
+    for (flush_fails, status, fault) in [(false, 0, ""), (true, 3, "Write")] {
+        let mut out = Waiting {
+            count: 0,
+            flush_fails,
+        };
+        runs_into(rt, files, words, &mut out, status, fault);
+        shows(rt, flush_fails != (out.count == 0), "a flush");
+    }
+}
+
+// A failing standard output is `Write`, and an allocation failure there is `OutOfMemory`. It is flushed.
+#[test]
+fn failing_output(rt: HostRuntime) {
+    let files = OneFile {
+        opens: true,
+        bytes: TWO_RECORDS.as_bytes(),
+        failure: None,
+    };
+    for (words, kind, status, fault) in &UNPRINTED {
+        let mut out = FailsAfter {
+            room: 5,
+            kind: *kind,
+        };
+        runs_into(&rt, &files, words, &mut out, *status, fault);
+        are_flushed(&rt, &files, words);
+    }
+}
+
+// A failing standard error changes no status.
+#[test]
+fn failing_error(rt: HostRuntime) {
+    for (key, status) in [("0", 2), (KEY, 0)] {
+        let mut out: Vec<u8> = Vec::new(rt.alloc());
+        let mut err = FailsAfter {
+            room: 3,
+            kind: io::ErrorKind::BrokenPipe,
+        };
+        let words = ["wrap", "--key", key, "--text", TEXT];
+        let answer = run(rt.alloc(), &NO_FILES, &words, &mut out, &mut err);
+        shows(&rt, answer == status, key);
+    }
+}

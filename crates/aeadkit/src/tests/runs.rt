@@ -1,0 +1,84 @@
+//! Runs of the program on words, each compared with its status, its fault and what it prints.
+use super::devices::NO_FILES;
+use super::published::word;
+use command::{Storage, run};
+use std::alloc::Global;
+use std::io::Write;
+use std::process::Abort;
+
+/// The words that check a vector file.
+pub const CHECK: [&str; 2] = ["check", "vectors.txt"];
+
+/// Whether bytes are this line and its LF.
+pub fn is_line(bytes: &[u8], line: &str) -> bool {
+    bytes.strip_suffix(b"\n".as_slice()) == Some(line.as_bytes())
+}
+
+/// Whether standard error has the line of a fault, or nothing if it is the empty one.
+pub fn names(err: &[u8], fault: &str) -> bool {
+    match err.strip_prefix(b"aeadkit: ".as_slice()) {
+        Some(line) => is_line(line, fault),
+        None => err.is_empty() && fault.is_empty(),
+    }
+}
+
+/// Runs the words over files and into a writer, and compares the status and the fault.
+pub fn runs_into<F: Storage, W: Write>(
+    rt: &(impl Abort + Alloc<A = Global>),
+    files: &F,
+    words: &[&str],
+    out: &mut W,
+    status: u8,
+    fault: &str,
+) {
+    let mut err: Vec<u8> = Vec::new(rt.alloc());
+    let answer = run(rt.alloc(), files, words, out, &mut err);
+    assert!(rt;
+        answer == status && names(&err, fault),
+        "{answer} of {words:?}"
+    );
+}
+
+/// Runs the words over files, and compares the status, the fault and standard output: these lines, or nothing.
+pub fn runs_over<F: Storage>(
+    rt: &(impl Abort + Alloc<A = Global>),
+    files: &F,
+    words: &[&str],
+    status: u8,
+    printed: Option<&str>,
+    fault: &str,
+) {
+    let mut out: Vec<u8> = Vec::new(rt.alloc());
+    runs_into(rt, files, words, &mut out, status, fault);
+    let is_printed = match printed {
+        Some(lines) => is_line(&out, lines),
+        None => out.is_empty(),
+    };
+    assert!(rt; is_printed, "{words:?}");
+}
+
+/// The words of a line after the first ones; `-` is the empty word.
+pub fn words_after<'a>(
+    rt: &(impl Abort + Alloc<A = Global>),
+    line: &'a str,
+    first: usize,
+) -> Vec<&'a str> {
+    let mut words = Vec::new(rt.alloc());
+    for given in line.split(' ').skip(first) {
+        words.push(word(Some(given))).expect(rt, "memory");
+    }
+    words
+}
+
+/// Runs the words of a row over files, after its status and its fault. They print nothing.
+pub fn runs_row<F: Storage>(rt: &(impl Abort + Alloc<A = Global>), files: &F, row: &str) {
+    let mut words = row.split(' ');
+    let status = word(words.next()).parse().unwrap_or(9);
+    let fault = word(words.next());
+    runs_over(rt, files, &words_after(rt, row, 2), status, None, fault);
+}
+
+/// The words print one line, with status 0, and nothing to standard error.
+pub fn prints(rt: &(impl Abort + Alloc<A = Global>), words: &[&str], line: &str) {
+    runs_over(rt, &NO_FILES, words, 0, Some(line), "");
+}
