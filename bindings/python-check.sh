@@ -18,6 +18,11 @@ run() {
 run "$python" "$here/examples/vectors.py"
 run "$python" -m unittest discover -s "$here/tests"
 run "$python" "$here/examples/keys.py"
+# the types of the package, as callers see them, by a checker of any age
+if [ -z "${PYTHONPATH:-}" ] && command -v mypy > /dev/null; then
+    run mypy --strict --cache-dir=types --python-executable "$python" "$here/examples/keys.py" "$here/examples/segments.py" \
+        "$here/examples/resume.py"
+fi
 
 segments="$here/examples/segments.py"
 head -c 32 /dev/urandom > key

@@ -46,7 +46,7 @@ import io
 import os
 import sys
 import threading
-from typing import Any, Callable, Dict, List, NoReturn, Optional, Tuple, Type, TypeVar
+from typing import Any, Callable, Dict, List, NoReturn, Optional, Tuple, Type, TypeVar, Union
 
 from . import _library
 
@@ -55,10 +55,13 @@ if sys.version_info >= (3, 12):
 else:
     from typing import Protocol
 
-    class Buffer(Protocol):
+    class _GivesBytes(Protocol):
         """An object that gives its bytes, as type checkers know it."""
 
         def __buffer__(self, flags: int, /) -> memoryview: ...
+
+    # Checkers before 2023 do not know that the first three give their bytes.
+    Buffer = Union[bytes, bytearray, memoryview, _GivesBytes]
 
 # There is no open in this list, so that `from aeadkit import *` leaves Python's own.
 __all__ = ["Suite", "Key", "Sealer", "Opener", "SivSealer", "seal", "seal_in_place", "open_in_place", "wrap", "unwrap",

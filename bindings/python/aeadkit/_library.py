@@ -3,7 +3,7 @@
 import ctypes
 import io
 import os
-from typing import Any, Callable, NamedTuple, Type
+from typing import Any, Callable, NamedTuple, Set, Type
 
 _MAJOR = 3
 _NAME = f"libaeadkit.so.{_MAJOR}"
@@ -13,7 +13,7 @@ def _has_avx2() -> bool:
     """Whether the processor has all of x86-64-v3."""
     try:
         with io.open("/proc/cpuinfo") as file:
-            flags = next((set(line.split()) for line in file if line.startswith("flags")), set())
+            flags: Set[str] = next((set(line.split()) for line in file if line.startswith("flags")), set())
     except OSError:
         return False
     return {"avx", "avx2", "bmi1", "bmi2", "f16c", "fma", "abm", "movbe"} <= flags
