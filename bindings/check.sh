@@ -19,6 +19,7 @@ cd "$(dirname "$0")"
 room=$(mktemp -d)
 trap 'rm -rf "$room"' EXIT
 ./quotations.sh ..
+./believe.sh ..
 ./published.sh .. "$prefix/bin/aeadkit"
 if [ $build = yes ]; then
     for tool in cc nm objcopy; do
