@@ -19,6 +19,7 @@ cd "$(dirname "$0")"
 room=$(mktemp -d)
 trap 'rm -rf "$room"' EXIT
 ./quotations.sh ..
+./links.sh ..
 ./believe.sh ..
 ./published.sh .. "$prefix/bin/aeadkit"
 if [ $build = yes ]; then
