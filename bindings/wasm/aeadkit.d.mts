@@ -23,11 +23,11 @@ export abstract class Refused extends Error {
     /** The name of the fault, which is that of its class. */
     abstract readonly fault: Fault;
 }
-/** The key does not have the suite's length; of key wrapping: it is not 16, 24 or 32 bytes long. */
+/** The key is not as long as the suite requires, or for key wrapping not 16, 24 or 32 bytes long. */
 export class KeyLength extends Refused { readonly fault: "KeyLength"; }
 /** The nonce is not 12 bytes long. */
 export class NonceLength extends Refused { readonly fault: "NonceLength"; }
-/** The text is longer than the suite's limit, or for wrapping with padding than 2^32 - 1 bytes. */
+/** The text is longer than the suite's limit, or for wrapping with padding longer than 2^32 - 1 bytes. */
 export class TextTooLong extends Refused { readonly fault: "TextTooLong"; }
 /** The associated data is longer than the suite's limit. */
 export class AadTooLong extends Refused { readonly fault: "AadTooLong"; }
@@ -37,9 +37,9 @@ export class TooShort extends Refused { readonly fault: "TooShort"; }
 export class TagMismatch extends Refused { readonly fault: "TagMismatch"; }
 /** The tag that a call is given is not 16 bytes long. */
 export class TagLength extends Refused { readonly fault: "TagLength"; }
-/** The length is not a multiple of 8, or too short: each call says which lengths it takes. */
+/** The length is not a multiple of 8, or it is too short: each call says which lengths it takes. */
 export class WrapLength extends Refused { readonly fault: "WrapLength"; }
-/** The bytes are not a valid wrapping under this key. */
+/** Authentication failed: the bytes are not a valid wrapping under this key. */
 export class WrapIntegrity extends Refused { readonly fault: "WrapIntegrity"; }
 /** The second pass or reading had other bytes than the first. */
 export class SourceChanged extends Refused { readonly fault: "SourceChanged"; }
@@ -63,7 +63,7 @@ export interface Options {
  * change an argument.
  *
  * Here and in the classes below, a call throws a `TypeError`, before the faults that it names, if an argument is not a Uint8Array
- * where one is wanted, or if its options are not a plain object. In version 2.0 the associated data stood before the text or the
+ * where one is required, or if its options are not a plain object. In version 2.0 the associated data stood before the text or the
  * tag, as a Uint8Array: such a call throws a `TypeError`.
  */
 export class Aead {

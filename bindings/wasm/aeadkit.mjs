@@ -31,7 +31,7 @@ export class Refused extends Error {
 
 export class KeyLength extends Refused {
     static fault = "KeyLength";
-    static message = "the key is not as long as the suite's keys, or for key wrapping not 16, 24 or 32 bytes";
+    static message = "the key is not as long as the suite requires, or for key wrapping not 16, 24 or 32 bytes long";
 }
 
 export class NonceLength extends Refused {
@@ -104,7 +104,7 @@ const FAULTS = {
 function wantBytes(...arrays) {
     for (const array of arrays) {
         if (!(array instanceof Uint8Array)) {
-            throw new TypeError("a Uint8Array is wanted");
+            throw new TypeError("a Uint8Array is required");
         }
     }
 }
@@ -276,7 +276,7 @@ export class Aead {
     static {
         moduleOf = (aead) => {
             if (!(aead instanceof Aead && #module in aead)) {
-                throw new TypeError("an Aead of this module is wanted");
+                throw new TypeError("an Aead of this module is required");
             }
             return aead.#module;
         };
@@ -339,7 +339,7 @@ export class Aead {
     /** Returns the number of the suite with a name, as aes-256-gcm. */
     suiteNamed(name) {
         if (typeof name !== "string") {
-            throw new TypeError("a name is wanted");
+            throw new TypeError("the name of a suite is required");
         }
         const suite = this.#module.invoke("aeadkit_suite_named", new TextEncoder().encode(name));
         if (suite === 0) {

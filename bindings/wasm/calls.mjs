@@ -25,7 +25,7 @@ finished.finish();
 const longer = new SivSealer(aead, siv, key, nonce);
 longer.beginSecond();
 for (const [fault, message, call] of [
-    ["KeyLength", "the key is not as long as the suite's keys, or for key wrapping not 16, 24 or 32 bytes",
+    ["KeyLength", "the key is not as long as the suite requires, or for key wrapping not 16, 24 or 32 bytes long",
         () => new Key(aead, suite, text)],
     ["NonceLength", "the nonce is not 12 bytes long", () => kept.seal(tag, text)],
     ["TooShort", "the sealed bytes are shorter than a tag of 16 bytes", () => kept.open(nonce, nonce)],
@@ -199,7 +199,7 @@ for (const other of ["a text", [1, 2], 16, null, new ArrayBuffer(16), new Uint16
         () => keywrap.wrap(other, key), () => keywrap.unwrap(key, other), () => keywrap.wrapPadded(key, other),
         () => keywrap.unwrapPadded(key, other), ...named.map((call) => () => call({ aad: other })),
     ]) {
-        assert.throws(call, { name: "TypeError", message: "a Uint8Array is wanted" });
+        assert.throws(call, { name: "TypeError", message: "a Uint8Array is required" });
     }
 }
 assert.throws(() => kept.seal(nonce), TypeError);
@@ -282,7 +282,7 @@ for (const other of [undefined, null, {}, "aead", keywrap, structuredClone(aead)
         () => new Key(other, suite, key), () => new Sealer(other, suite, key, nonce),
         () => new Opener(other, suite, key, nonce, tag), () => new SivSealer(other, siv, key, nonce),
     ]) {
-        assert.throws(call, { name: "TypeError", message: "an Aead of this module is wanted" });
+        assert.throws(call, { name: "TypeError", message: "an Aead of this module is required" });
     }
 }
 

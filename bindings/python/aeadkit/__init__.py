@@ -86,9 +86,9 @@ class Refused(Exception):
 
 
 class KeyLength(Refused, ValueError):
-    """The key is not as long as the suite's keys, or for key wrapping not 16, 24 or 32 bytes."""
+    """The key is not as long as the suite requires, or for key wrapping not 16, 24 or 32 bytes long."""
 
-    message = "the key is not as long as the suite's keys, or for key wrapping not 16, 24 or 32 bytes"
+    message = "the key is not as long as the suite requires, or for key wrapping not 16, 24 or 32 bytes long"
 
 
 class NonceLength(Refused, ValueError):
@@ -98,7 +98,7 @@ class NonceLength(Refused, ValueError):
 
 
 class TextTooLong(Refused, ValueError):
-    """The text is longer than the suite's limit, or for wrapping with padding than 2^32 - 1 bytes."""
+    """The text is longer than the suite's limit, or for wrapping with padding longer than 2^32 - 1 bytes."""
 
     message = "the text is too long"
 
@@ -110,7 +110,7 @@ class AadTooLong(Refused, ValueError):
 
 
 class TooShort(Refused, ValueError):
-    """The sealed bytes are fewer than the 16 of a tag."""
+    """The sealed bytes are shorter than a tag of 16 bytes."""
 
     message = "the sealed bytes are shorter than a tag of 16 bytes"
 
@@ -122,13 +122,13 @@ class TagLength(Refused, ValueError):
 
 
 class TagMismatch(Refused):
-    """Authentication failed: the bytes are not a sealing under this suite, key, nonce and associated data."""
+    """Authentication failed: the bytes are not a valid sealing under this suite, key, nonce and associated data."""
 
     message = "authentication failed"
 
 
 class WrapLength(Refused, ValueError):
-    """The length is not one that the call takes: see wrap, unwrap, wrap_padded and unwrap_padded."""
+    """The length is not one that the call takes; wrap, unwrap, wrap_padded and unwrap_padded say which it takes."""
 
     message = "the length is not a multiple of 8, or too short"
 
@@ -326,7 +326,7 @@ def open(suite: int, key: Buffer, nonce: Buffer, sealed: Buffer, *, aad: Optiona
     one nonce give away their XOR, and enough to forge messages; under AES-GCM-SIV only whether the texts and the associated
     data are the same.
 
-    Raises UnknownSuite, KeyLength, NonceLength, AadTooLong, TooShort, TextTooLong; or TagMismatch if the bytes are not a
+    Raises UnknownSuite, KeyLength, NonceLength, AadTooLong, TooShort, TextTooLong; or TagMismatch if the bytes are not a valid
     sealing under this suite, key, nonce and associated data.
     """
     data = _bytes_of(sealed)
@@ -363,7 +363,7 @@ def open_in_place(suite: int, key: Buffer, nonce: Buffer, ciphertext: Buffer, ta
     data are the same.
 
     Raises UnknownSuite, TagLength, KeyLength, NonceLength, AadTooLong, TextTooLong; TagMismatch if ciphertext and tag are not a
-    sealing under this suite, key, nonce and associated data; or TypeError if the buffer is not writable.
+    valid sealing under this suite, key, nonce and associated data; or TypeError if the buffer is not writable.
     """
     _check(_in_place(ciphertext, _library.aeadkit_open_in_place,
                      (_suite_of(suite), *_slices(key, nonce, _aad_of(aad))), _tag_of(tag)))
@@ -518,8 +518,8 @@ class Key(_HasStruct):
         under one nonce give away their XOR, and enough to forge messages; under AES-GCM-SIV only whether the texts and the
         associated data are the same.
 
-        Raises NonceLength, AadTooLong, TooShort, TextTooLong; TagMismatch if the bytes are not a sealing under this key, nonce
-        and associated data; or NotBegun if __init__ raised an exception, and after close.
+        Raises NonceLength, AadTooLong, TooShort, TextTooLong; TagMismatch if the bytes are not a valid sealing under this key,
+        nonce and associated data; or NotBegun if __init__ raised an exception, and after close.
         """
         data = _bytes_of(sealed)
         return _output(max(len(data) - _TAG_BYTES, 0), _library.aeadkit_open_with, self._get_struct(),
@@ -552,9 +552,9 @@ class Key(_HasStruct):
         under one nonce give away their XOR, and enough to forge messages; under AES-GCM-SIV only whether the texts and the
         associated data are the same.
 
-        Raises TagLength, NonceLength, AadTooLong, TextTooLong; TagMismatch if ciphertext and tag are not a sealing under this
-        key, nonce and associated data; NotBegun if __init__ raised an exception, and after close; or TypeError if the buffer is
-        not writable.
+        Raises TagLength, NonceLength, AadTooLong, TextTooLong; TagMismatch if ciphertext and tag are not a valid sealing under
+        this key, nonce and associated data; NotBegun if __init__ raised an exception, and after close; or TypeError if the
+        buffer is not writable.
         """
         _check(_in_place(ciphertext, _library.aeadkit_open_in_place_with,
                          (self._get_struct(), *_slices(nonce, _aad_of(aad))), _tag_of(tag)))
@@ -711,7 +711,7 @@ class Opener(_Saves):
     update with each piece again, then finish.
 
     The last 16 bytes of a sealing are its tag, which is not part of the ciphertext. The second pass may be cut into other
-    pieces. No text is returned before the first pass is found to be over a sealing, and the text may be used once finish
+    pieces. No text is returned before the first pass has found a valid sealing, and the text may be used once finish
     returns. Calls from several threads come one after the other, and the pieces are joined in that order. An Opener cannot be
     copied or pickled, and a forked process cannot go on with it.
 
@@ -742,8 +742,8 @@ class Opener(_Saves):
     def begin_second(self) -> None:
         """Ends the first pass, and begins the second one.
 
-        Raises TagMismatch if the pieces and the tag are not a sealing: the opening is over. Raises NotBegun if there is no
-        first pass to end.
+        Raises TagMismatch if the pieces and the tag are not a valid sealing: the opening is over. Raises NotBegun if there is
+        no first pass to end.
         """
         _check(self._call(_library.aeadkit_opener_begin_second))
 
@@ -769,8 +769,8 @@ class Opener(_Saves):
     def finish(self) -> None:
         """Ends the second pass.
 
-        Raises SourceChanged if its pieces and the tag are not a sealing: throw away what update gave. Raises NotBegun if there
-        is no second pass to end.
+        Raises SourceChanged if its pieces and the tag are not a valid sealing: throw away what update gave. Raises NotBegun if
+        there is no second pass to end.
         """
         _check(self._call(_library.aeadkit_opener_finish))
 

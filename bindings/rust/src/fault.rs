@@ -9,23 +9,23 @@ use core::fmt;
 #[derive(Clone, Copy, Debug, PartialEq, Eq, Hash)]
 #[non_exhaustive]
 pub enum Fault {
-    /// The key does not have the suite's length; of key wrapping: it is not 16, 24 or 32 bytes long.
+    /// The key is not as long as the suite requires, or for key wrapping not 16, 24 or 32 bytes long.
     KeyLength,
-    /// The nonce is not 12 bytes long. No call returns it, since their nonces are arrays of 12 bytes. It is here for callers
-    /// that make such an array of a slice.
+    /// The nonce is not 12 bytes long. No call of this crate returns it, since every nonce is an array of 12 bytes. It is here
+    /// for callers that make such an array from a slice.
     NonceLength,
-    /// The text is longer than the suite's limit, which [`Suite`](crate::Suite) states; of wrapping with padding: it is longer
-    /// than 2^32 - 1 bytes.
+    /// The text is longer than the suite's limit, which [`Suite`](crate::Suite) states, or for wrapping with padding longer than
+    /// 2^32 - 1 bytes.
     TextTooLong,
     /// The associated data is longer than the suite's limit: 2^36 bytes under AES-GCM-SIV.
     AadTooLong,
-    /// The bytes are fewer than the 16 of a tag.
+    /// The sealed bytes are shorter than a tag of 16 bytes.
     TooShort,
     /// Authentication failed: suite, key, nonce, associated data, ciphertext and tag do not belong together.
     TagMismatch,
-    /// The length is not a multiple of 8, or too short. Each call says which lengths it takes.
+    /// The length is not a multiple of 8, or it is too short. Each call says which lengths it takes.
     WrapLength,
-    /// The bytes are not a valid wrapping under this key.
+    /// Authentication failed: the bytes are not a valid wrapping under this key.
     WrapIntegrity,
     /// The second pass over a ciphertext, or the second reading of a text, had other bytes than the first.
     SourceChanged,
@@ -40,7 +40,9 @@ pub enum Fault {
 impl fmt::Display for Fault {
     fn fmt(&self, f: &mut fmt::Formatter<'_>) -> fmt::Result {
         f.write_str(match self {
-            Fault::KeyLength => "the key is not as long as the suite's keys, or for key wrapping not 16, 24 or 32 bytes",
+            Fault::KeyLength => {
+                "the key is not as long as the suite requires, or for key wrapping not 16, 24 or 32 bytes long"
+            }
             Fault::NonceLength => "the nonce is not 12 bytes long",
             Fault::TextTooLong => "the text is too long",
             Fault::AadTooLong => "the associated data is too long",
@@ -73,6 +75,6 @@ pub(crate) fn outcome(status: u32) -> Result<(), Fault> {
         13 => Err(Fault::SourceChanged),
         14 => Err(Fault::UnknownSuite),
         16 => Err(Fault::OutputLength),
-        other => unreachable!("status {other} of a state that was begun"),
+        other => unreachable!("the library returned the status {other}"),
     }
 }
