@@ -74,7 +74,7 @@ function read_items(path,    line, head, count, word, i, name) {
         if (line ~ /^}/) head = ""
         if (line ~ /^(pub(\([a-z]+\))? )?(unsafe )?(impl|trait)[ <]/) {
             head = line
-            while (head !~ /{/ && (getline line < path) > 0) head = head " " line
+            while (head !~ /[{]/ && (getline line < path) > 0) head = head " " line
             line = head
         }
         name = line
@@ -101,7 +101,7 @@ function check_name(name, target,    path) {
 
 # Whether a path is there, which may have stars, and braces around what it has one after the other.
 function check_path(path,    start, end, count, part, i, pattern, name) {
-    if (match(path, /{[^}]*}/)) {
+    if (match(path, /[{][^}]*[}]/)) {
         start = substr(path, 1, RSTART - 1)
         end = substr(path, RSTART + RLENGTH)
         count = split(substr(path, RSTART + 1, RLENGTH - 2), part, ",")
