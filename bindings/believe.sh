@@ -263,4 +263,8 @@ elif ! diff "$page" "$room/right" >&2; then
     echo "$page (<) has other numbers than the definitions (>): bindings/believe.sh --write mends them" >&2
     exit 1
 fi
+# README names the lines of a suite, of all six, and of the vector file with its faults.
+for count in $(sed -n -e 's/^| a whole message under .*| \([0-9]*\) |$/\1/p' -e 's/^| the vector file and .*| \([0-9]*\) |$/\1/p' "$page"); do
+    grep -q "[^0-9]$count[^0-9]" README.md || { echo "README.md does not name the $count lines that $page has" >&2; exit 1; }
+done
 tail -n 1 "$room/page"
