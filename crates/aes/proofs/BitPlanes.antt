@@ -1,6 +1,6 @@
 -- Eight planes of bits: sums, doubles and moves.
-use Rattle.std.proofs.Common.{◌≡◌, ℕ, ◌+◌, ◌-◌, ◌<◌, ◌==◌, true, ltb, List, [], inl, inr}
-use Rattle.std.proofs.lemmas.Bool.{cases_lt, eqb-true}
+use Rattle.std.proofs.Common.{◌≡◌, ℕ, ◌+◌, ◌-◌, ◌<◌, ◌==◌, ◌&&◌, true, ltb, List, [], inl, inr}
+use Rattle.std.proofs.lemmas.Bool.{and_parts, cases_lt, eqb-true}
 use Rattle.std.proofs.Common.{◌∷◌, ◌++◌, map, get_or, length, bit_xor, refl, sym, ap, ap₂, ◌∙◌, arith, ltb-true}
 use Rattle.std.specs.Int.{bit_at}
 use Rattle.std.proofs.lemmas.Nat.Bits.{bit_at_xor}
@@ -26,21 +26,25 @@ each_two F p q =
     eight_cases (λ j. get_or (zip2 F (eight p) (eight q)) j [] ≡ F (get_or p j []) (get_or q j []))
     refl refl refl refl refl refl refl refl
 
--- lanes brought from places
-pub moved : (n m : ℕ) (ps : List ℕ) → length ps ≡ m → all_below (λ i. ltb (get_or ps i 0) n) m ≡ true
+-- lanes brought from places, which a function gives
+pub moved : (n m : ℕ) (ps : List ℕ) (from : ℕ → ℕ) → length ps ≡ m
+    → all_below (λ i. ltb (get_or ps i 0) n && (get_or ps i 0 == from i)) m ≡ true
     → (p : List (List ℕ)) (g : ℕ → ℕ → ℕ) → HoldsLanes n p g
-    → HoldsLanes m (map (λ v. map (λ i. get_or (v ++ v) i 0) ps) (eight p)) (λ l k. g (get_or ps l 0) k)
-moved n m ps long test p g h = record {
+    → HoldsLanes m (map (λ v. map (λ i. get_or (v ++ v) i 0) ps) (eight p)) (λ l k. g (from l) k)
+moved n m ps from long test p g h = record {
   count = refl;
   long = λ j hj. ap length (each_of (λ v. map (λ i. get_or (v ++ v) i 0) ps) p j hj)
       ∙ length-map ps (λ i. get_or (get_or p j [] ++ get_or p j []) i 0) ∙ long;
   each = λ j l k hj hl hk.
-      let small : get_or ps l 0 < n = ltb-true (get_or ps l 0) n (all_below_at (λ i. ltb (get_or ps i 0) n) m l test hl) in
+      let both = and_parts (ltb (get_or ps l 0) n) (get_or ps l 0 == from l)
+      (all_below_at (λ i. ltb (get_or ps i 0) n && (get_or ps i 0 == from i)) m l test hl) in
+      let small : get_or ps l 0 < n = ltb-true (get_or ps l 0) n both.0 in
       let wide = h.long j hj in
       ap (λ v. at l k v) (each_of (λ v. map (λ i. get_or (v ++ v) i 0) ps) p j hj)
       ∙ ap (λ n. bit_at n k) (get_or-map (λ i. get_or (get_or p j [] ++ get_or p j []) i 0) ps l 0 0 (omega (arith, long, hl))
       ∙ get_or_append_left (get_or p j []) (get_or p j []) 0 (get_or ps l 0) (omega (arith, small, wide)))
-      ∙ h.each j (get_or ps l 0) k hj small hk;
+      ∙ h.each j (get_or ps l 0) k hj small hk
+      ∙ ap (λ (i : ℕ). bit_at (g i k) j) (eqb-true (get_or ps l 0) (from l) both.1);
 }
 
 -- planes of 16 lanes and others after them

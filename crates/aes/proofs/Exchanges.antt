@@ -10,6 +10,7 @@ use Rattle.std.proofs.lemmas.Nat.Bits.{bit_at_xor, bit_at_and, bit_at-zero, bit_
 use Rattle.std.proofs.lemmas.List.{get_or-replicate, length-replicate}
 use Rattle.std.proofs.lemmas.Simd.{length-zip2, get_or-zip2}
 use lib.Lanes.{zip2}
+use Rattle.aes.specs.Code.Planes.{IsMask}
 use Rattle.aes.proofs.Circuit.{plus2}
 use Rattle.aes.proofs.Tested.{all_below, all_below_at}
 
@@ -200,6 +201,12 @@ mask_at n m k test h =
     let both = and_parts (bit_at (m * 2 ^ n % 2 ^ 8) k == k / n % 2) (bit_at m k == 1 - k / n % 2)
     (all_below_at (λ k. (bit_at (m * 2 ^ n % 2 ^ 8) k == k / n % 2) && (bit_at m k == 1 - k / n % 2)) 8 k test h) in
     (eqb-true (bit_at (m * 2 ^ n % 2 ^ 8) k) (k / n % 2) both.0, eqb-true (bit_at m k) (1 - k / n % 2) both.1)
+
+-- each mask does
+pub masks : (n m : ℕ) → IsMask n m → is_mask n m ≡ true
+masks n m (inl e) = ap₂ is_mask e.0 e.1
+masks n m (inr (inl e)) = ap₂ is_mask e.0 e.1
+masks n m (inr (inr e)) = ap₂ is_mask e.0 e.1
 
 -- a bit of the first plane
 pub first : (n m : ℕ) → is_mask n m ≡ true → (x y : List ℕ) (l k : ℕ) → length x ≡ 32 → length y ≡ 32 → l < 32 → k < 8

@@ -12,9 +12,8 @@ use Rattle.std.proofs.Common.{drop, subst, ◌≤◌}
 use Rattle.std.proofs.lemmas.List.{get_or-drop}
 use Rattle.aes.specs.Schedule.{round_count, schedule}
 use Rattle.aes.proofs.Expanded.{HasSchedule}
-use Rattle.aes.specs.Code.Planes.{HoldsEight, HoldsLanes, HoldsSixteen, HoldsWords, block_byte, spot, word_byte, masked_byte, AreReady}
-use Rattle.aes.specs.declared.planes.TheConstants.{FIRST, SECOND, TWICE, SHIFTED, SHIFTED_OUT, BELOW, TWO_BELOW}
-use Rattle.aes.specs.declared.planes.TheConstants.{HALF_SHIFTED, HALF_SHIFTED_OUT, HALF_BELOW, HALF_TWO_BELOW}
+use Rattle.aes.specs.Code.Planes.{HoldsLanes, HoldsWords, block_byte, spot, word_byte, masked_byte, AreReady}
+use Rattle.aes.specs.declared.planes.TheConstants.{SHIFTED, SHIFTED_OUT, BELOW, TWO_BELOW}
 use Rattle.aes.proofs.Tested.{all_below, all_below_at}
 use Rattle.aes.proofs.Multiples.{triple_is}
 use Rattle.aes.proofs.Sums.{times_xor, xor_exchange}
@@ -38,22 +37,6 @@ same_words words held same = record {
 }
 
 -- ---- places
--- the first 16 lanes, and the other 16
-pub in_first : (g : ℕ → ℕ → ℕ) (l k : ℕ) → l < 16 → g (get_or FIRST l 0) k ≡ g l k
-in_first g l k hl =
-    ap (λ (i : ℕ). g i k) (eqb-true (get_or FIRST l 0) l (all_below_at (λ i. get_or FIRST i 0 == i) 16 l refl hl))
-
-pub in_second : (g : ℕ → ℕ → ℕ) (l k : ℕ) → l < 16 → g (get_or SECOND l 0) k ≡ g (16 + l) k
-in_second g l k hl =
-    ap (λ (i : ℕ). g i k)
-    (eqb-true (get_or SECOND l 0) (16 + l) (all_below_at (λ i. get_or SECOND i 0 == 16 + i) 16 l refl hl))
-
--- a lane of both
-pub in_both : (g : ℕ → ℕ → ℕ) (l k : ℕ) → l < 32 → g (get_or TWICE l 0) k ≡ g (l % 16) k
-in_both g l k hl =
-    ap (λ (i : ℕ). g i k)
-    (eqb-true (get_or TWICE l 0) (l % 16) (all_below_at (λ i. get_or TWICE i 0 == i % 16) 32 l refl hl))
-
 shifted_computed : all_below
     (λ l. (get_or SHIFTED l 0 / 16 == l / 16) && (spot (get_or SHIFTED l 0) == row_source (spot l))) 32 ≡ true
 shifted_computed = refl
@@ -188,48 +171,6 @@ last_value f ws l k hl =
     (ap (λ (m : ℕ). get_or (get_or ws (m / 4) []) (m % 4) 0) same)
     ∙ sym (added_byte ws (shift_rows (sub_bytes b)) (l % 16) hi)
 
--- ---- rounds of eight blocks
--- a place in 16 lanes is that in the first 16 of 32
-same_place : (a b : ℕ → ℕ) → all_below (λ l. a l == b l) 16 ≡ true → (l : ℕ) → l < 16 → a l ≡ b l
-same_place a b test l h = eqb-true (a l) (b l) (all_below_at (λ l. a l == b l) 16 l test h)
-
--- the byte that ShiftRows brings to one of 16 lanes, by the S-box without its constant
-abbrev pub brought_half : (ℕ → List ℕ) → ℕ → ℕ → ℕ
-brought_half f l k = linear_sbox (block_byte f (get_or HALF_SHIFTED l 0) k)
-
--- a round in lane l
-pub half_value : (f : ℕ → List ℕ) (ws : List (List ℕ)) → ((q : ℕ) → IsBlock (f q)) → (l k : ℕ) → l < 16
-    → bit_xor (bit_xor (bit_xor (brought_half f (get_or HALF_BELOW l 0) k)
-    (bit_xor (brought_half f (get_or HALF_TWO_BELOW l 0) k)
-    (brought_half f (get_or HALF_BELOW (get_or HALF_TWO_BELOW l 0) 0) k)))
-    (times 2 (bit_xor (brought_half f l k) (brought_half f (get_or HALF_BELOW l 0) k))))
-    (bit_xor (key_byte ws (spot l)) 0x63)
-    ≡ block_byte (λ q. add_round_key ws 0 (mix_columns (shift_rows (sub_bytes (f q))))) l k
-half_value f ws blocks l k hl =
-    let from : ℕ → ℕ = λ place. linear_sbox (block_byte f place k) in
-    let h : ℕ → ℕ = λ i. get_or HALF_SHIFTED i 0 in
-    let w : ℕ → ℕ = λ i. get_or SHIFTED i 0 in
-    let e0 : from (h l) ≡ from (w l) = ap from (same_place h w refl l hl) in
-    let e1 : from (h (get_or HALF_BELOW l 0)) ≡ from (w (get_or BELOW l 0)) =
-    ap from (same_place (λ i. h (get_or HALF_BELOW i 0)) (λ i. w (get_or BELOW i 0)) refl l hl) in
-    let e2 : from (h (get_or HALF_TWO_BELOW l 0)) ≡ from (w (get_or TWO_BELOW l 0)) =
-    ap from (same_place (λ i. h (get_or HALF_TWO_BELOW i 0)) (λ i. w (get_or TWO_BELOW i 0)) refl l hl) in
-    let e3 : from (h (get_or HALF_BELOW (get_or HALF_TWO_BELOW l 0) 0)) ≡ from (w (get_or BELOW (get_or TWO_BELOW l 0) 0)) =
-    ap from (same_place (λ i. h (get_or HALF_BELOW (get_or HALF_TWO_BELOW i 0) 0))
-    (λ i. w (get_or BELOW (get_or TWO_BELOW i 0) 0)) refl l hl) in
-    ap (λ (u : ℕ). bit_xor u (bit_xor (key_byte ws (spot l)) 0x63))
-    (ap₂ bit_xor (ap₂ bit_xor e1 (ap₂ bit_xor e2 e3)) (ap (times 2) (ap₂ bit_xor e0 e1)))
-    ∙ round_value f ws blocks l k (omega (arith, hl))
-
--- the last round in lane l, in the order of the block
-pub last_half_value : (f : ℕ → List ℕ) (ws : List (List ℕ)) (l k : ℕ) → l < 16
-    → bit_xor (linear_sbox (block_byte f (get_or HALF_SHIFTED_OUT l 0) k)) (bit_xor (key_byte ws (l % 16)) 0x63)
-    ≡ get_or (add_round_key ws 0 (shift_rows (sub_bytes (f (l / 16 * 8 + k))))) (l % 16) 0
-last_half_value f ws l k hl =
-    ap (λ (place : ℕ). bit_xor (linear_sbox (block_byte f place k)) (bit_xor (key_byte ws (l % 16)) 0x63))
-    (same_place (λ i. get_or HALF_SHIFTED_OUT i 0) (λ i. get_or SHIFTED_OUT i 0) refl l hl)
-    ∙ last_value f ws l k (omega (arith, hl))
-
 -- the blocks of the other 16 lanes
 pub second_block : (f : ℕ → List ℕ) (l k : ℕ) → l < 16
     → block_byte f (16 + l) k ≡ block_byte (λ q. f (8 + q)) l k
@@ -240,13 +181,9 @@ second_block f l k hl =
 
 -- ---- keys
 -- planes of blocks hold equal blocks
-pub same_sixteen : (p : List (List ℕ)) (f g : ℕ → List ℕ) → ((q : ℕ) → f q ≡ g q) → HoldsSixteen p f → HoldsSixteen p g
-same_sixteen p f g same held =
-    same_bytes p held (λ l k hl hk. ap (λ b. get_or b (spot l) 0) (same (l / 16 * 8 + k)))
-
--- half the planes
-pub same_eight : (p : List (List ℕ)) (f g : ℕ → List ℕ) → ((q : ℕ) → f q ≡ g q) → HoldsEight p f → HoldsEight p g
-same_eight p f g same held =
+pub same_blocks : {n : ℕ} (p : List (List ℕ)) (f g : ℕ → List ℕ) → ((q : ℕ) → f q ≡ g q) → HoldsLanes n p (block_byte f)
+    → HoldsLanes n p (block_byte g)
+same_blocks p f g same held =
     same_bytes p held (λ l k hl hk. ap (λ b. get_or b (spot l) 0) (same (l / 16 * 8 + k)))
 
 -- a byte after the first AddRoundKey

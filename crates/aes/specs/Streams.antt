@@ -2,10 +2,9 @@
 use Rattle.std.specs.Prelude.{◌≡◌, ℕ, ◌+◌, ◌/◌, ◌%◌, ◌^◌, ◌<◌, ◌≤◌, List, length, take, drop}
 use Rattle.octets.specs.Masked.{masked}
 use Rattle.aes.specs.Cipher.{cipher}
-use Rattle.aes.specs.Counters.{up_be, up_le, counter_byte}
+use Rattle.aes.specs.Counters.{counter_byte}
 use Rattle.aes.specs.declared.counter.Counter.{Counter}
-use Rattle.aes.specs.declared.counter.CtrBe.{CtrBe}
-use Rattle.aes.specs.declared.counter.CtrLe.{CtrLe}
+use Rattle.aes.specs.declared.counter.Ctr.{Ctr}
 
 -- s has made this many bytes of the stream from the first block on under the key: it has begun their blocks, counted
 -- modulo 2^32, and if the last block is not used up, it keeps the output of the cipher for that block
@@ -32,26 +31,14 @@ pub record AdvancesFront {C : Type 0} (up : List ℕ → ℕ → List ℕ) (key 
   pub left : drop n now ≡ drop n was
   pub front : Advances up key s t (take n was) (take n now)
 
--- s has made this many bytes of the stream that counts by `up_be` from the first block on, under a key whose bytes
--- are given by `bytes`
-pub record HoldsBe {K : Type 0} (bytes : K → List ℕ) (s : CtrBe K) (key : List ℕ) (first : List ℕ) (made : ℕ) :
-    Type 0 where
+-- s has made this many bytes of the stream that counts by `up` from the first block on, under a key whose bytes are
+-- given by `bytes`
+pub record Holds {C K : Type 0} (up : List ℕ → ℕ → List ℕ) (bytes : K → List ℕ) (s : Ctr C K) (key : List ℕ)
+    (first : List ℕ) (made : ℕ) : Type 0 where
   pub key_is : bytes s.key ≡ key
-  pub makes : Makes up_be s.counter key first made
+  pub makes : Makes up s.counter key first made
 
--- s has made this many bytes of the stream that counts by `up_le` from the first block on, under a key whose bytes
--- are given by `bytes`
-pub record HoldsLe {K : Type 0} (bytes : K → List ℕ) (s : CtrLe K) (key : List ℕ) (first : List ℕ) (made : ℕ) :
-    Type 0 where
-  pub key_is : bytes s.key ≡ key
-  pub makes : Makes up_le s.counter key first made
-
--- a call beside other work XORs in the next bytes of the stream that counts by `up_be`
-abbrev pub DidBe : {K : Type 0} → (K → List ℕ) → CtrBe K → CtrBe K → List ℕ → List ℕ → Type 0
-DidBe bytes s t was now = (key first : List ℕ) (made : ℕ) → HoldsBe bytes s key first made
-    → HoldsBe bytes t key first (made + length was) × (now ≡ masked (counter_byte up_be key first) made was)
-
--- a call beside other work XORs in the next bytes of the stream that counts by `up_le`
-abbrev pub DidLe : {K : Type 0} → (K → List ℕ) → CtrLe K → CtrLe K → List ℕ → List ℕ → Type 0
-DidLe bytes s t was now = (key first : List ℕ) (made : ℕ) → HoldsLe bytes s key first made
-    → HoldsLe bytes t key first (made + length was) × (now ≡ masked (counter_byte up_le key first) made was)
+-- a call beside other work XORs in the next bytes of the stream that counts by `up`
+abbrev pub Did : {C K : Type 0} → (List ℕ → ℕ → List ℕ) → (K → List ℕ) → Ctr C K → Ctr C K → List ℕ → List ℕ → Type 0
+Did up bytes s t was now = (key first : List ℕ) (made : ℕ) → Holds up bytes s key first made
+    → Holds up bytes t key first (made + length was) × (now ≡ masked (counter_byte up key first) made was)

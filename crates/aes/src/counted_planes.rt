@@ -6,7 +6,7 @@ ghost use Rattle.std.specs.Int.{bit_at};
 ghost use Rattle.aes.specs.Code.Planes.{HoldsBits, HoldsSixteen, spot};
 
 use crate::key_planes::{rows, spread};
-use crate::planes::{Planes, add, twice};
+use crate::planes::{BitPlanes, Planes};
 use std::simd::prelude::*;
 use std::simd::{u8x16, u8x32};
 
@@ -92,7 +92,9 @@ pub(crate) fn count_blocks(a: &[u8; 16], b: &[u8; 16], first: u32, place: usize)
 {
     let before = rows(u8x16::from_array(*a));
     let after = rows(u8x16::from_array(*b));
-    let apart = twice(spread(before ^ after));
+    let apart = Planes::repeated(spread(before ^ after));
     let change = marked(apart, by_blocks(0xffff_0000 >> first));
-    add(add(twice(spread(before)), change), numbers(first, place))
+    Planes::repeated(spread(before))
+        .add(change)
+        .add(numbers(first, place))
 }

@@ -24,26 +24,6 @@ pub fn blocks_count_on()
     ensures little_endian { CountsOn up_le }
 {}
 
-// A block some steps on, counting in its last four bytes.
-fn add_be(first: &[u8; 16], steps: u32) -> [u8; 16]
-    ensures { result ≡ up_be first.now steps }
-{
-    let number = BigEndian::read_u32(&first[12..]);
-    let mut next = *first;
-    BigEndian::write_u32(&mut next[12..], number.wrapping_add(steps));
-    next
-}
-
-// A block some steps on, counting in its first four bytes.
-fn add_le(first: &[u8; 16], steps: u32) -> [u8; 16]
-    ensures { result ≡ up_le first.now steps }
-{
-    let number = LittleEndian::read_u32(first);
-    let mut next = *first;
-    LittleEndian::write_u32(&mut next, number.wrapping_add(steps));
-    next
-}
-
 // Four blocks one after the other.
 fn joined(a: &[u8; 16], b: &[u8; 16], c: &[u8; 16], d: &[u8; 16]) -> [u8; 64]
     ensures { result ≡ a.now ++ (b.now ++ (c.now ++ d.now)) }
@@ -78,8 +58,8 @@ fn block_of(blocks: &[u8], q: usize) -> Block
     Block::new(block)
 }
 
-// Where a block counts.
-trait Count {
+/// Where a block counts.
+pub trait Count {
     // The block that is some steps after the first one.
     ghost up: { List ℕ → ℕ → List ℕ };
 
@@ -98,8 +78,8 @@ trait Count {
     ghost wraps: { WrapsAround up };
 }
 
-// In its last four bytes, most significant byte first.
-struct LastFour;
+/// In its last four bytes, most significant byte first.
+pub struct LastFour;
 
 impl Count for LastFour {
     ghost up = { up_be };
@@ -111,14 +91,17 @@ impl Count for LastFour {
     ghost wraps = { up_be-wraps };
 
     fn block(first: &Block, steps: u32) -> Block {
-        Block::new(add_be(first.bytes(), steps))
+        let mut next = *first.bytes();
+        let number = BigEndian::read_u32(&next[12..]);
+        BigEndian::write_u32(&mut next[12..], number.wrapping_add(steps));
+        Block::new(next)
     }
 
     fn counts_in_nibble() {}
 }
 
-// In its first four bytes, least significant byte first.
-struct FirstFour;
+/// In its first four bytes, least significant byte first.
+pub struct FirstFour;
 
 impl Count for FirstFour {
     ghost up = { up_le };
@@ -130,7 +113,10 @@ impl Count for FirstFour {
     ghost wraps = { up_le-wraps };
 
     fn block(first: &Block, steps: u32) -> Block {
-        Block::new(add_le(first.bytes(), steps))
+        let mut next = *first.bytes();
+        let number = LittleEndian::read_u32(&next);
+        LittleEndian::write_u32(&mut next, number.wrapping_add(steps));
+        Block::new(next)
     }
 
     fn counts_in_nibble() {}
@@ -434,120 +420,70 @@ impl<C: Count> Counter<C> {
     }
 }
 
-/// The stream of AES-GCM: the ciphers of blocks that count in their last four bytes, most significant byte
-/// first, modulo 2^32 (SP 800-38D, 6.5).
+/// The stream of the ciphers of blocks that count as `C` says, under a key that it keeps or borrows: AES in counter mode.
 #[derive(Drop)]
-pub struct CtrBe<K> {
+pub struct Ctr<C, K> {
     key: K,
-    counter: Counter<LastFour>,
+    counter: Counter<C>,
 }
 
-impl<K: KeptKey> CtrBe<K> {
-    ghost use Rattle.aes.specs.Streams.{HoldsBe};
-
-    /// The stream whose first block is the cipher of `first`, under a key that it keeps or borrows.
-    ///
-    /// No block may be used twice under one key: `first`, and those counted from it, belong to this stream alone. Two texts
-    /// that are XORed with the same part of a stream give away their XOR. In AES-GCM `first` is made of the nonce, and two
-    /// tags under one nonce also give away the hash key, with which anyone can forge messages.
-    ///
-    /// Not constant time: single blocks go through `AesKey::encrypt`.
-    #[inline(always)]
-    pub fn new(key: K, first: &Block) -> CtrBe<K>
-        ensures { HoldsBe K.bytes result (K.bytes key) first.now 0 }
-    {
-        CtrBe {
-            key,
-            counter: Counter::new(first),
-        }
-    }
-
-    /// The stream whose first block is the cipher of `first`, and that has made its first `made` bytes. The rest must not be
-    /// used twice: see [`CtrBe::new`].
-    pub fn at(key: K, first: &Block, made: u64) -> CtrBe<K>
-        requires { made < 2 ^ 63 }
-        ensures { HoldsBe K.bytes result (K.bytes key) first.now made }
-    {
-        let counter = Counter::at(key.kept(), first, made);
-        CtrBe { key, counter }
-    }
-
-    /// XORs the next bytes of the stream into `bytes`, of any length. The result does not depend on how a text is split into
-    /// calls. It has no fault: after 2^32 blocks the stream begins again (SP 800-38D, 6.5), so a caller stops before.
-    pub fn apply(&mut self, bytes: &mut [u8])
-        ensures { (key first : List ℕ) (made : ℕ) → HoldsBe K.bytes self.old key first made
-            → HoldsBe K.bytes self.new key first (made + length bytes.old)
-            × (bytes.new ≡ masked (counter_byte up_be key first) made bytes.old) }
-    {
-        self.counter.apply(self.key.kept(), bytes);
-    }
-}
+/// The stream of AES-GCM: the ciphers of blocks that count in their last four bytes, most significant byte
+/// first, modulo 2^32 (SP 800-38D, 6.5). In AES-GCM the first block is made of the nonce, and two tags under one nonce also
+/// give away the hash key, with which anyone can forge messages.
+pub type CtrBe<K> = Ctr<LastFour, K>;
 
 /// The stream of AES-GCM-SIV: the ciphers of blocks that count in their first four bytes, least significant
-/// byte first, modulo 2^32 (RFC 8452, 4).
-#[derive(Drop)]
-pub struct CtrLe<K> {
-    key: K,
-    counter: Counter<FirstFour>,
-}
+/// byte first, modulo 2^32 (RFC 8452, 4). In AES-GCM-SIV the first block is made of the tag: under a repeated nonce it is the
+/// same only if the text and the associated data are the same, and gives away only that.
+pub type CtrLe<K> = Ctr<FirstFour, K>;
 
-impl<K: KeptKey> CtrLe<K> {
-    ghost use Rattle.aes.specs.Streams.{HoldsLe};
+impl<C: Count, K: KeptKey> Ctr<C, K> {
+    ghost use Rattle.aes.specs.Streams.{Holds};
 
     /// The stream whose first block is the cipher of `first`, under a key that it keeps or borrows.
     ///
     /// No block may be used twice under one key: `first`, and those counted from it, belong to this stream alone. Two texts
-    /// that are XORed with the same part of a stream give away their XOR. In AES-GCM-SIV `first` is made of the tag: under a
-    /// repeated nonce it is the same only if the text and the associated data are the same, and gives away only that.
+    /// that are XORed with the same part of a stream give away their XOR. What a repeat gives away beside it is said at
+    /// [`CtrBe`] and [`CtrLe`].
     ///
     /// Not constant time: single blocks go through `AesKey::encrypt`.
     #[inline(always)]
-    pub fn new(key: K, first: &Block) -> CtrLe<K>
-        ensures { HoldsLe K.bytes result (K.bytes key) first.now 0 }
+    pub fn new(key: K, first: &Block) -> Ctr<C, K>
+        ensures { Holds C.up K.bytes result (K.bytes key) first.now 0 }
     {
-        CtrLe {
+        Ctr {
             key,
             counter: Counter::new(first),
         }
     }
 
     /// The stream whose first block is the cipher of `first`, and that has made its first `made` bytes. The rest must not be
-    /// used twice: see [`CtrLe::new`].
-    pub fn at(key: K, first: &Block, made: u64) -> CtrLe<K>
+    /// used twice: see [`Ctr::new`].
+    pub fn at(key: K, first: &Block, made: u64) -> Ctr<C, K>
         requires { made < 2 ^ 63 }
-        ensures { HoldsLe K.bytes result (K.bytes key) first.now made }
+        ensures { Holds C.up K.bytes result (K.bytes key) first.now made }
     {
         let counter = Counter::at(key.kept(), first, made);
-        CtrLe { key, counter }
+        Ctr { key, counter }
     }
 
     /// XORs the next bytes of the stream into `bytes`, of any length. The result does not depend on how a text is split into
-    /// calls. It has no fault: after 2^32 blocks the stream begins again (RFC 8452, 4), so a caller stops before.
+    /// calls. It has no fault: after 2^32 blocks the stream begins again (SP 800-38D, 6.5; RFC 8452, 4), so a caller stops
+    /// before.
     pub fn apply(&mut self, bytes: &mut [u8])
-        ensures { (key first : List ℕ) (made : ℕ) → HoldsLe K.bytes self.old key first made
-            → HoldsLe K.bytes self.new key first (made + length bytes.old)
-            × (bytes.new ≡ masked (counter_byte up_le key first) made bytes.old) }
+        ensures { (key first : List ℕ) (made : ℕ) → Holds C.up K.bytes self.old key first made
+            → Holds C.up K.bytes self.new key first (made + length bytes.old)
+            × (bytes.new ≡ masked (counter_byte C.up key first) made bytes.old) }
     {
         self.counter.apply(self.key.kept(), bytes);
     }
 }
 
 /// The stream does no step of the work: its rounds leave no room for one.
-impl<K: KeptKey> Stream for CtrBe<K> {
-    ghost use Rattle.aes.specs.Streams.{DidBe};
+impl<C: Count, K: KeptKey> Stream for Ctr<C, K> {
+    ghost use Rattle.aes.specs.Streams.{Did};
 
-    ghost did = { DidBe K.bytes };
-
-    fn apply_beside<W: Work>(&mut self, bytes: &mut [u8], _work: &mut W) {
-        self.apply(bytes);
-    }
-}
-
-/// The stream does no step of the work: its rounds leave no room for one.
-impl<K: KeptKey> Stream for CtrLe<K> {
-    ghost use Rattle.aes.specs.Streams.{DidLe};
-
-    ghost did = { DidLe K.bytes };
+    ghost did = { Did C.up K.bytes };
 
     fn apply_beside<W: Work>(&mut self, bytes: &mut [u8], _work: &mut W) {
         self.apply(bytes);

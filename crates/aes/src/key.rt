@@ -15,10 +15,7 @@ use crate::inverse::unmix_words;
 use crate::inverse_key::InverseKey;
 use crate::key_planes::{KeyPlanes, ready_planes, unpacked};
 use crate::lanes::{first_four, last_four, ready_keys, round_four, spread};
-use crate::planes::{
-    HalfPlanes, Planes, add, add_half, both_halves, last_half, last_sixteen, lower, round_half,
-    round_sixteen, store as store_planes, twice, upper,
-};
+use crate::planes::{self, BitPlanes, HalfPlanes, Planes, both_halves, lower, upper};
 use crate::schedule::expand;
 use octets::{Block, Fault, Key16, Key24, Key32, WIDE};
 use std::marker::Model;
@@ -222,12 +219,12 @@ impl AesKey {
             (λ l k. slice_index (cipher self.now (f (l / 16 * 8 + k))) (l % 16)) }
     {
         let count = self.size + 6;
-        let mut state = add_half(*planes, unpacked(&keys[0]));
+        let mut state = planes.add(unpacked(&keys[0]));
         for done in 0..count - 1 {
-            let next = round_half(state, unpacked(&keys[done + 1]));
+            let next = planes::round(state, unpacked(&keys[done + 1]));
             state = next;
         }
-        *planes = last_half(state, unpacked(&keys[count]));
+        *planes = planes::last(state, unpacked(&keys[count]));
     }
 
     // The ciphers of sixteen blocks in planes, by the words of the rounds in planes.
@@ -238,12 +235,12 @@ impl AesKey {
             → HoldsBits result (λ l k. slice_index (cipher self.now (f (l / 16 * 8 + k))) (l % 16)) }
     {
         let count = self.size + 6;
-        let mut state = add(start, twice(unpacked(&keys[0])));
+        let mut state = start.add(Planes::repeated(unpacked(&keys[0])));
         for done in 0..count - 1 {
-            let next = round_sixteen(state, twice(unpacked(&keys[done + 1])));
+            let next = planes::round(state, Planes::repeated(unpacked(&keys[done + 1])));
             state = next;
         }
-        last_sixteen(state, twice(unpacked(&keys[count])))
+        planes::last(state, Planes::repeated(unpacked(&keys[count])))
     }
 
     // The ciphers of sixteen blocks in planes, by the words of the rounds in planes. Where a plane is two registers,
@@ -279,7 +276,7 @@ impl AesKey {
             × ((q : ℕ) → q < 4 → block_at result.3 q ≡ cipher self.now (f (12 + q))) }
     {
         self.is_key();
-        let (first, second, third, fourth) = store_planes(self.encrypt_planes(keys, start));
+        let (first, second, third, fourth) = planes::store(self.encrypt_planes(keys, start));
         (
             first.to_array(),
             second.to_array(),
@@ -305,7 +302,7 @@ impl AesKey {
         let mut half = lower(start);
         self.encrypt_half(keys, &mut half);
         // Nothing uses the other lanes, so LLVM leaves out the steps that store them.
-        let (first, second, _, _) = store_planes(twice(half));
+        let (first, second, _, _) = planes::store(Planes::repeated(half));
         (first.to_array(), second.to_array())
     }
 

@@ -2,13 +2,13 @@
 //! block q is in plane j, in lane 16 (q / 8) + 4 r + c, at bit q mod 8.
 
 ghost use Rattle.std.specs.Prelude.{◌≡◌, ℕ, ◌<◌, ◌+◌, ◌-◌, ◌*◌, ◌/◌, ◌%◌, ◌==◌, if◌then◌else◌};
-ghost use Rattle.std.specs.Prelude.{List, [], slice_index, slice_index_or, bit_xor, length};
+ghost use Rattle.std.specs.Prelude.{List, [], slice_index, slice_index_or, bit_xor, length, nat_lt, true, refl};
 ghost use Rattle.std.specs.Int.{bit_at};
 ghost use Rattle.octets.specs.Bytes.{IsBlock};
 ghost use Rattle.aes.specs.Field.{times};
 ghost use Rattle.aes.specs.Cipher.{sub_bytes, shift_rows, mix_columns, add_round_key};
 ghost use Rattle.aes.specs.Code.Lanes.{linear_sbox, key_byte, HoldsBlocks};
-ghost use Rattle.aes.specs.Code.Planes.{HoldsBits, HoldsEight, HoldsLanes, HoldsSixteen, spot, HasByteBits};
+ghost use Rattle.aes.specs.Code.Planes.{HoldsBits, HoldsLanes, IsMask, block_byte, spot, HasByteBits};
 
 use std::simd::prelude::*;
 use std::simd::{u8x16, u8x32, u8x64};
@@ -61,6 +61,22 @@ const SECOND: [usize; 16] = [
 const ALL: [usize; 32] = [
     0, 1, 2, 3, 4, 5, 6, 7, 8, 9, 10, 11, 12, 13, 14, 15, 16, 17, 18, 19, 20, 21, 22, 23, 24, 25,
     26, 27, 28, 29, 30, 31,
+];
+
+const FIRST_OF_TWO: [usize; 32] = [
+    0, 1, 2, 3, 4, 5, 6, 7, 8, 9, 10, 11, 12, 13, 14, 15, 32, 33, 34, 35, 36, 37, 38, 39, 40, 41,
+    42, 43, 44, 45, 46, 47,
+];
+
+const SECOND_OF_TWO: [usize; 32] = [
+    16, 17, 18, 19, 20, 21, 22, 23, 24, 25, 26, 27, 28, 29, 30, 31, 48, 49, 50, 51, 52, 53, 54, 55,
+    56, 57, 58, 59, 60, 61, 62, 63,
+];
+
+const BOTH: [usize; 64] = [
+    0, 1, 2, 3, 4, 5, 6, 7, 8, 9, 10, 11, 12, 13, 14, 15, 16, 17, 18, 19, 20, 21, 22, 23, 24, 25,
+    26, 27, 28, 29, 30, 31, 32, 33, 34, 35, 36, 37, 38, 39, 40, 41, 42, 43, 44, 45, 46, 47, 48, 49,
+    50, 51, 52, 53, 54, 55, 56, 57, 58, 59, 60, 61, 62, 63,
 ];
 
 const TWICE: [usize; 32] = [
@@ -247,6 +263,153 @@ macro_rules! doubles {
     };
 }
 
+// Eight planes of 16 lanes, or of 32.
+pub(crate) trait BitPlanes: Copy {
+    // How many lanes they have.
+    ghost count: { ℕ };
+
+    // The planes.
+    ghost planes: { Self → List (List ℕ) };
+
+    // Copies these 16 lanes into each half of the planes.
+    fn repeated(half: HalfPlanes) -> Self
+        ensures { (g : ℕ → ℕ → ℕ) → HoldsLanes 16 half g → HoldsLanes count (planes result) (λ l k. g (l % 16) k) };
+
+    // The S-box without its constant, on each byte.
+    fn substitute(self) -> Self
+        ensures { (g : ℕ → ℕ → ℕ) → ((l k : ℕ) → g l k < 256) → HoldsLanes count (planes self) g
+            → HoldsLanes count (planes result) (λ l k. linear_sbox (g l k)) };
+
+    // The sums of the bytes.
+    fn add(self, other: Self) -> Self
+        ensures { (g h : ℕ → ℕ → ℕ) → HoldsLanes count (planes self) g → HoldsLanes count (planes other) h
+            → HoldsLanes count (planes result) (λ l k. bit_xor (g l k) (h l k)) };
+
+    // Twice each byte.
+    fn doubled(self) -> Self
+        ensures { (g : ℕ → ℕ → ℕ) → ((l k : ℕ) → g l k < 256) → HoldsLanes count (planes self) g
+            → HoldsLanes count (planes result) (λ l k. times 2 (g l k)) };
+
+    // ShiftRows.
+    fn shift_rows(self) -> Self
+        ensures { (g : ℕ → ℕ → ℕ) → HoldsLanes count (planes self) g
+            → HoldsLanes count (planes result) (λ l k. g (slice_index SHIFTED l) k) };
+
+    // ShiftRows, to lanes in the order of the bytes of a block.
+    fn shift_out(self) -> Self
+        ensures { (g : ℕ → ℕ → ℕ) → HoldsLanes count (planes self) g
+            → HoldsLanes count (planes result) (λ l k. g (slice_index SHIFTED_OUT l) k) };
+
+    // Each row becomes the row below it.
+    fn below(self) -> Self
+        ensures { (g : ℕ → ℕ → ℕ) → HoldsLanes count (planes self) g
+            → HoldsLanes count (planes result) (λ l k. g (slice_index BELOW l) k) };
+
+    // Each row becomes the row two below it.
+    fn two_below(self) -> Self
+        ensures { (g : ℕ → ℕ → ℕ) → HoldsLanes count (planes self) g
+            → HoldsLanes count (planes result) (λ l k. g (slice_index TWO_BELOW l) k) };
+
+    // They are 32 at most.
+    ghost few: { nat_lt count 33 ≡ true };
+}
+
+impl BitPlanes for Planes {
+    ghost count = { 32 };
+
+    ghost planes = { λ p. p };
+
+    ghost few = { refl };
+
+    #[inline(always)]
+    fn repeated(half: HalfPlanes) -> Planes {
+        brought!(half, TWICE)
+    }
+
+    #[inline(always)]
+    fn substitute(self) -> Planes {
+        circuit!(self)
+    }
+
+    #[inline(always)]
+    fn add(self, other: Planes) -> Planes {
+        sums!(self, other)
+    }
+
+    #[inline(always)]
+    fn doubled(self) -> Planes {
+        doubles!(self)
+    }
+
+    #[inline(always)]
+    fn shift_rows(self) -> Planes {
+        brought!(self, SHIFTED)
+    }
+
+    #[inline(always)]
+    fn shift_out(self) -> Planes {
+        brought!(self, SHIFTED_OUT)
+    }
+
+    #[inline(always)]
+    fn below(self) -> Planes {
+        brought!(self, BELOW)
+    }
+
+    #[inline(always)]
+    fn two_below(self) -> Planes {
+        brought!(self, TWO_BELOW)
+    }
+}
+
+impl BitPlanes for HalfPlanes {
+    ghost count = { 16 };
+
+    ghost planes = { λ p. p };
+
+    ghost few = { refl };
+
+    #[inline(always)]
+    fn repeated(half: HalfPlanes) -> HalfPlanes {
+        half
+    }
+
+    #[inline(always)]
+    fn substitute(self) -> HalfPlanes {
+        circuit!(self)
+    }
+
+    #[inline(always)]
+    fn add(self, other: HalfPlanes) -> HalfPlanes {
+        sums!(self, other)
+    }
+
+    #[inline(always)]
+    fn doubled(self) -> HalfPlanes {
+        doubles!(self)
+    }
+
+    #[inline(always)]
+    fn shift_rows(self) -> HalfPlanes {
+        brought!(self, HALF_SHIFTED)
+    }
+
+    #[inline(always)]
+    fn shift_out(self) -> HalfPlanes {
+        brought!(self, HALF_SHIFTED_OUT)
+    }
+
+    #[inline(always)]
+    fn below(self) -> HalfPlanes {
+        brought!(self, HALF_BELOW)
+    }
+
+    #[inline(always)]
+    fn two_below(self) -> HalfPlanes {
+        brought!(self, HALF_TWO_BELOW)
+    }
+}
+
 // The first 16 lanes.
 #[inline(always)]
 pub(crate) fn lower(p: Planes) -> HalfPlanes
@@ -280,136 +443,57 @@ pub(crate) fn both_halves(p: HalfPlanes, q: HalfPlanes) -> Planes
     ]
 }
 
-// Copies these 16 lanes into both halves of the planes.
-#[inline(always)]
-pub(crate) fn twice(p: HalfPlanes) -> Planes
-    ensures { (g : ℕ → ℕ → ℕ) → HoldsLanes 16 p g → HoldsBits result (λ l k. g (l % 16) k) }
-{
-    brought!(p, TWICE)
-}
-
-// The S-box without its constant, on each byte of 16 lanes.
-#[inline(always)]
-fn substitute_half(p: HalfPlanes) -> HalfPlanes
-    ensures { (g : ℕ → ℕ → ℕ) → ((l k : ℕ) → g l k < 256) → HoldsLanes 16 p g
-        → HoldsLanes 16 result (λ l k. linear_sbox (g l k)) }
-{
-    circuit!(p)
-}
-
-// The S-box without its constant, on each byte.
-#[inline(always)]
-pub(crate) fn substitute(p: Planes) -> Planes
-    ensures { (g : ℕ → ℕ → ℕ) → ((l k : ℕ) → g l k < 256) → HoldsBits p g
-        → HoldsBits result (λ l k. linear_sbox (g l k)) }
-{
-    circuit!(p)
-}
-
-// The sums of the bytes.
-#[inline(always)]
-pub(crate) fn add(p: Planes, q: Planes) -> Planes
-    ensures { (g h : ℕ → ℕ → ℕ) → HoldsBits p g → HoldsBits q h
-        → HoldsBits result (λ l k. bit_xor (g l k) (h l k)) }
-{
-    sums!(p, q)
-}
-
-// Twice each byte.
-#[inline(always)]
-fn doubled(p: Planes) -> Planes
-    ensures { (g : ℕ → ℕ → ℕ) → ((l k : ℕ) → g l k < 256) → HoldsBits p g
-        → HoldsBits result (λ l k. times 2 (g l k)) }
-{
-    doubles!(p)
-}
-
-// ShiftRows.
-#[inline(always)]
-fn shift_rows(p: Planes) -> Planes
-    ensures { (g : ℕ → ℕ → ℕ) → HoldsBits p g → HoldsBits result (λ l k. g (slice_index SHIFTED l) k) }
-{
-    brought!(p, SHIFTED)
-}
-
-// ShiftRows, to lanes in the order of the bytes of a block.
-#[inline(always)]
-fn shift_out(p: Planes) -> Planes
-    ensures { (g : ℕ → ℕ → ℕ) → HoldsBits p g → HoldsBits result (λ l k. g (slice_index SHIFTED_OUT l) k) }
-{
-    brought!(p, SHIFTED_OUT)
-}
-
-// Each row becomes the row below it.
-#[inline(always)]
-fn below(p: Planes) -> Planes
-    ensures { (g : ℕ → ℕ → ℕ) → HoldsBits p g → HoldsBits result (λ l k. g (slice_index BELOW l) k) }
-{
-    brought!(p, BELOW)
-}
-
-// Each row becomes the row two below it.
-#[inline(always)]
-fn two_below(p: Planes) -> Planes
-    ensures { (g : ℕ → ℕ → ℕ) → HoldsBits p g → HoldsBits result (λ l k. g (slice_index TWO_BELOW l) k) }
-{
-    brought!(p, TWO_BELOW)
-}
-
 // MixColumns.
 #[inline(always)]
-fn mix(p: Planes) -> Planes
-    ensures { (g : ℕ → ℕ → ℕ) → ((l k : ℕ) → g l k < 256) → HoldsBits p g
-        → HoldsBits result (λ l k. bit_xor
+fn mix<P: BitPlanes>(p: P) -> P
+    ensures { (g : ℕ → ℕ → ℕ) → ((l k : ℕ) → g l k < 256) → HoldsLanes P.count (P.planes p) g
+        → HoldsLanes P.count (P.planes result) (λ l k. bit_xor
         (bit_xor (g (slice_index BELOW l) k)
         (bit_xor (g (slice_index TWO_BELOW l) k) (g (slice_index BELOW (slice_index TWO_BELOW l)) k)))
         (times 2 (bit_xor (g l k) (g (slice_index BELOW l) k)))) }
 {
-    let next = below(p);
-    let both = add(p, next);
-    add(add(next, two_below(both)), doubled(both))
+    let next = p.below();
+    let both = p.add(next);
+    next.add(both.two_below()).add(both.doubled())
 }
 
-// Exchanges bits between two planes whose numbers differ by 1: the bits of x at places with the digit of
-// weight 1 go down into y by 1, and those of y at places without it go up into x by 1.
+// A round before the last (FIPS 197, 5.1). The constant of the S-box is in the key.
 #[inline(always)]
-fn exchange_1(x: u8x32, y: u8x32) -> (u8x32, u8x32)
-    ensures long { (length result.0 ≡ 32) × (length result.1 ≡ 32) }
-    ensures first { (l k : ℕ) → l < 32 → k < 8 → bit_at (slice_index result.0 l) k
-        ≡ bit_at (slice_index (if k / 1 % 2 == 0 then x else y) l) (k - k / 1 % 2 * 1) }
-    ensures second { (l k : ℕ) → l < 32 → k < 8 → bit_at (slice_index result.1 l) k
-        ≡ bit_at (slice_index (if k / 1 % 2 == 0 then x else y) l) (k + 1 - k / 1 % 2 * 1) }
+pub(crate) fn round<P: BitPlanes>(x: P, key: P) -> P
+    ensures { (f : ℕ → List ℕ) (ws : List (List ℕ)) → ((q : ℕ) → IsBlock (f q))
+        → HoldsLanes P.count (P.planes x) (block_byte f)
+        → HoldsLanes P.count (P.planes key) (λ l k. bit_xor (key_byte ws (spot l)) 0x63)
+        → HoldsLanes P.count (P.planes result)
+        (block_byte (λ q. add_round_key ws 0 (mix_columns (shift_rows (sub_bytes (f q)))))) }
 {
-    let moved = ((x >> u8x32::splat(1)) ^ y) & u8x32::splat(0x55);
-    (x ^ (moved << u8x32::splat(1)), y ^ moved)
+    mix(x.shift_rows().substitute()).add(key)
 }
 
-// Exchanges bits between two planes whose numbers differ by 2: the bits of x at places with the digit of
-// weight 2 go down into y by 2, and those of y at places without it go up into x by 2.
+// The last round (FIPS 197, 5.1), to lanes in the order of the bytes of a block.
 #[inline(always)]
-fn exchange_2(x: u8x32, y: u8x32) -> (u8x32, u8x32)
-    ensures long { (length result.0 ≡ 32) × (length result.1 ≡ 32) }
-    ensures first { (l k : ℕ) → l < 32 → k < 8 → bit_at (slice_index result.0 l) k
-        ≡ bit_at (slice_index (if k / 2 % 2 == 0 then x else y) l) (k - k / 2 % 2 * 2) }
-    ensures second { (l k : ℕ) → l < 32 → k < 8 → bit_at (slice_index result.1 l) k
-        ≡ bit_at (slice_index (if k / 2 % 2 == 0 then x else y) l) (k + 2 - k / 2 % 2 * 2) }
+pub(crate) fn last<P: BitPlanes>(x: P, key: P) -> P
+    ensures { (f : ℕ → List ℕ) (ws : List (List ℕ)) → ((q : ℕ) → IsBlock (f q))
+        → HoldsLanes P.count (P.planes x) (block_byte f)
+        → HoldsLanes P.count (P.planes key) (λ l k. bit_xor (key_byte ws (l % 16)) 0x63)
+        → HoldsLanes P.count (P.planes result)
+        (λ l k. slice_index (add_round_key ws 0 (shift_rows (sub_bytes (f (l / 16 * 8 + k))))) (l % 16)) }
 {
-    let moved = ((x >> u8x32::splat(2)) ^ y) & u8x32::splat(0x33);
-    (x ^ (moved << u8x32::splat(2)), y ^ moved)
+    x.shift_out().substitute().add(key)
 }
 
-// Exchanges bits between two planes whose numbers differ by 4: the bits of x at places with the digit of
-// weight 4 go down into y by 4, and those of y at places without it go up into x by 4.
+// Exchanges bits between two planes whose numbers differ by `by`: the bits of x at places with the digit of weight
+// `by` go down into y by as many places, and those of y at places without it, which are those of the mask, go up into x.
 #[inline(always)]
-fn exchange_4(x: u8x32, y: u8x32) -> (u8x32, u8x32)
+fn exchange(x: u8x32, y: u8x32, by: u8, mask: u8) -> (u8x32, u8x32)
+    requires { IsMask by mask }
     ensures long { (length result.0 ≡ 32) × (length result.1 ≡ 32) }
     ensures first { (l k : ℕ) → l < 32 → k < 8 → bit_at (slice_index result.0 l) k
-        ≡ bit_at (slice_index (if k / 4 % 2 == 0 then x else y) l) (k - k / 4 % 2 * 4) }
+        ≡ bit_at (slice_index (if k / by % 2 == 0 then x else y) l) (k - k / by % 2 * by) }
     ensures second { (l k : ℕ) → l < 32 → k < 8 → bit_at (slice_index result.1 l) k
-        ≡ bit_at (slice_index (if k / 4 % 2 == 0 then x else y) l) (k + 4 - k / 4 % 2 * 4) }
+        ≡ bit_at (slice_index (if k / by % 2 == 0 then x else y) l) (k + by - k / by % 2 * by) }
 {
-    let moved = ((x >> u8x32::splat(4)) ^ y) & u8x32::splat(0x0f);
-    (x ^ (moved << u8x32::splat(4)), y ^ moved)
+    let moved = ((x >> u8x32::splat(by)) ^ y) & u8x32::splat(mask);
+    (x ^ (moved << u8x32::splat(by)), y ^ moved)
 }
 
 // The transpose of the bits of each lane: bit k of plane j becomes bit j of plane k.
@@ -417,128 +501,19 @@ fn exchange_4(x: u8x32, y: u8x32) -> (u8x32, u8x32)
 fn transpose(p: Planes) -> Planes
     ensures { HoldsBits result (λ l k. slice_index (slice_index_or p k []) l) }
 {
-    let (a0, a1) = exchange_1(p[0], p[1]);
-    let (a2, a3) = exchange_1(p[2], p[3]);
-    let (a4, a5) = exchange_1(p[4], p[5]);
-    let (a6, a7) = exchange_1(p[6], p[7]);
-    let (b0, b2) = exchange_2(a0, a2);
-    let (b1, b3) = exchange_2(a1, a3);
-    let (b4, b6) = exchange_2(a4, a6);
-    let (b5, b7) = exchange_2(a5, a7);
-    let (c0, c4) = exchange_4(b0, b4);
-    let (c1, c5) = exchange_4(b1, b5);
-    let (c2, c6) = exchange_4(b2, b6);
-    let (c3, c7) = exchange_4(b3, b7);
+    let (a0, a1) = exchange(p[0], p[1], 1, 0x55);
+    let (a2, a3) = exchange(p[2], p[3], 1, 0x55);
+    let (a4, a5) = exchange(p[4], p[5], 1, 0x55);
+    let (a6, a7) = exchange(p[6], p[7], 1, 0x55);
+    let (b0, b2) = exchange(a0, a2, 2, 0x33);
+    let (b1, b3) = exchange(a1, a3, 2, 0x33);
+    let (b4, b6) = exchange(a4, a6, 2, 0x33);
+    let (b5, b7) = exchange(a5, a7, 2, 0x33);
+    let (c0, c4) = exchange(b0, b4, 4, 0x0f);
+    let (c1, c5) = exchange(b1, b5, 4, 0x0f);
+    let (c2, c6) = exchange(b2, b6, 4, 0x0f);
+    let (c3, c7) = exchange(b3, b7, 4, 0x0f);
     [c0, c1, c2, c3, c4, c5, c6, c7]
-}
-
-// A round before the last (FIPS 197, 5.1). The constant of the S-box is in the key.
-#[inline(always)]
-pub(crate) fn round_sixteen(x: Planes, key: Planes) -> Planes
-    ensures { (f : ℕ → List ℕ) (ws : List (List ℕ)) → ((q : ℕ) → IsBlock (f q)) → HoldsSixteen x f
-        → HoldsBits key (λ l k. bit_xor (key_byte ws (spot l)) 0x63)
-        → HoldsSixteen result (λ q. add_round_key ws 0 (mix_columns (shift_rows (sub_bytes (f q))))) }
-{
-    add(mix(substitute(shift_rows(x))), key)
-}
-
-// The last round (FIPS 197, 5.1), to lanes in the order of the bytes of a block.
-#[inline(always)]
-pub(crate) fn last_sixteen(x: Planes, key: Planes) -> Planes
-    ensures { (f : ℕ → List ℕ) (ws : List (List ℕ)) → ((q : ℕ) → IsBlock (f q)) → HoldsSixteen x f
-        → HoldsBits key (λ l k. bit_xor (key_byte ws (l % 16)) 0x63)
-        → HoldsBits result (λ l k. slice_index (add_round_key ws 0 (shift_rows (sub_bytes (f (l / 16 * 8 + k))))) (l % 16)) }
-{
-    add(substitute(shift_out(x)), key)
-}
-
-// ---- rounds of eight blocks
-
-// The sums of the bytes.
-#[inline(always)]
-pub(crate) fn add_half(p: HalfPlanes, q: HalfPlanes) -> HalfPlanes
-    ensures { (g h : ℕ → ℕ → ℕ) → HoldsLanes 16 p g → HoldsLanes 16 q h
-        → HoldsLanes 16 result (λ l k. bit_xor (g l k) (h l k)) }
-{
-    sums!(p, q)
-}
-
-// Twice each byte.
-#[inline(always)]
-fn doubled_half(p: HalfPlanes) -> HalfPlanes
-    ensures { (g : ℕ → ℕ → ℕ) → ((l k : ℕ) → g l k < 256) → HoldsLanes 16 p g
-        → HoldsLanes 16 result (λ l k. times 2 (g l k)) }
-{
-    doubles!(p)
-}
-
-// ShiftRows.
-#[inline(always)]
-fn shift_rows_half(p: HalfPlanes) -> HalfPlanes
-    ensures { (g : ℕ → ℕ → ℕ) → HoldsLanes 16 p g → HoldsLanes 16 result (λ l k. g (slice_index HALF_SHIFTED l) k) }
-{
-    brought!(p, HALF_SHIFTED)
-}
-
-// ShiftRows, to lanes in the order of the bytes of a block.
-#[inline(always)]
-fn shift_out_half(p: HalfPlanes) -> HalfPlanes
-    ensures { (g : ℕ → ℕ → ℕ) → HoldsLanes 16 p g
-        → HoldsLanes 16 result (λ l k. g (slice_index HALF_SHIFTED_OUT l) k) }
-{
-    brought!(p, HALF_SHIFTED_OUT)
-}
-
-// Each row becomes the row below it.
-#[inline(always)]
-fn below_half(p: HalfPlanes) -> HalfPlanes
-    ensures { (g : ℕ → ℕ → ℕ) → HoldsLanes 16 p g → HoldsLanes 16 result (λ l k. g (slice_index HALF_BELOW l) k) }
-{
-    brought!(p, HALF_BELOW)
-}
-
-// Each row becomes the row two below it.
-#[inline(always)]
-fn two_below_half(p: HalfPlanes) -> HalfPlanes
-    ensures { (g : ℕ → ℕ → ℕ) → HoldsLanes 16 p g
-        → HoldsLanes 16 result (λ l k. g (slice_index HALF_TWO_BELOW l) k) }
-{
-    brought!(p, HALF_TWO_BELOW)
-}
-
-// MixColumns.
-#[inline(always)]
-fn mix_half(p: HalfPlanes) -> HalfPlanes
-    ensures { (g : ℕ → ℕ → ℕ) → ((l k : ℕ) → g l k < 256) → HoldsLanes 16 p g
-        → HoldsLanes 16 result (λ l k. bit_xor
-        (bit_xor (g (slice_index HALF_BELOW l) k)
-        (bit_xor (g (slice_index HALF_TWO_BELOW l) k) (g (slice_index HALF_BELOW (slice_index HALF_TWO_BELOW l)) k)))
-        (times 2 (bit_xor (g l k) (g (slice_index HALF_BELOW l) k)))) }
-{
-    let next = below_half(p);
-    let both = add_half(p, next);
-    add_half(add_half(next, two_below_half(both)), doubled_half(both))
-}
-
-// A round before the last (FIPS 197, 5.1). The constant of the S-box is in the key.
-#[inline(always)]
-pub(crate) fn round_half(x: HalfPlanes, key: HalfPlanes) -> HalfPlanes
-    ensures { (f : ℕ → List ℕ) (ws : List (List ℕ)) → ((q : ℕ) → IsBlock (f q)) → HoldsEight x f
-        → HoldsLanes 16 key (λ l k. bit_xor (key_byte ws (spot l)) 0x63)
-        → HoldsEight result (λ q. add_round_key ws 0 (mix_columns (shift_rows (sub_bytes (f q))))) }
-{
-    add_half(mix_half(substitute_half(shift_rows_half(x))), key)
-}
-
-// The last round (FIPS 197, 5.1), to lanes in the order of the bytes of a block.
-#[inline(always)]
-pub(crate) fn last_half(x: HalfPlanes, key: HalfPlanes) -> HalfPlanes
-    ensures { (f : ℕ → List ℕ) (ws : List (List ℕ)) → ((q : ℕ) → IsBlock (f q)) → HoldsEight x f
-        → HoldsLanes 16 key (λ l k. bit_xor (key_byte ws (l % 16)) 0x63)
-        → HoldsLanes 16 result (λ l k. slice_index (add_round_key ws 0 (shift_rows (sub_bytes (f (l / 16 * 8 + k)))))
-        (l % 16)) }
-{
-    add_half(substitute_half(shift_out_half(x)), key)
 }
 
 // The first halves of four planes after one another, and the second halves.
@@ -548,52 +523,11 @@ fn halves(a: u8x32, b: u8x32, c: u8x32, d: u8x32) -> (u8x64, u8x64)
         → HasByteBits c f 2 → HasByteBits d f 3
         → HoldsBlocks result.0 f × HoldsBlocks result.1 (λ q. f (8 + q)) }
 {
-    let first = a.shuffle(
-        b,
-        [
-            0, 1, 2, 3, 4, 5, 6, 7, 8, 9, 10, 11, 12, 13, 14, 15, 32, 33, 34, 35, 36, 37, 38, 39,
-            40, 41, 42, 43, 44, 45, 46, 47,
-        ],
-    );
-    let second = c.shuffle(
-        d,
-        [
-            0, 1, 2, 3, 4, 5, 6, 7, 8, 9, 10, 11, 12, 13, 14, 15, 32, 33, 34, 35, 36, 37, 38, 39,
-            40, 41, 42, 43, 44, 45, 46, 47,
-        ],
-    );
-    let third = a.shuffle(
-        b,
-        [
-            16, 17, 18, 19, 20, 21, 22, 23, 24, 25, 26, 27, 28, 29, 30, 31, 48, 49, 50, 51, 52, 53,
-            54, 55, 56, 57, 58, 59, 60, 61, 62, 63,
-        ],
-    );
-    let fourth = c.shuffle(
-        d,
-        [
-            16, 17, 18, 19, 20, 21, 22, 23, 24, 25, 26, 27, 28, 29, 30, 31, 48, 49, 50, 51, 52, 53,
-            54, 55, 56, 57, 58, 59, 60, 61, 62, 63,
-        ],
-    );
-    (
-        first.shuffle(
-            second,
-            [
-                0, 1, 2, 3, 4, 5, 6, 7, 8, 9, 10, 11, 12, 13, 14, 15, 16, 17, 18, 19, 20, 21, 22,
-                23, 24, 25, 26, 27, 28, 29, 30, 31, 32, 33, 34, 35, 36, 37, 38, 39, 40, 41, 42, 43,
-                44, 45, 46, 47, 48, 49, 50, 51, 52, 53, 54, 55, 56, 57, 58, 59, 60, 61, 62, 63,
-            ],
-        ),
-        third.shuffle(
-            fourth,
-            [
-                0, 1, 2, 3, 4, 5, 6, 7, 8, 9, 10, 11, 12, 13, 14, 15, 16, 17, 18, 19, 20, 21, 22,
-                23, 24, 25, 26, 27, 28, 29, 30, 31, 32, 33, 34, 35, 36, 37, 38, 39, 40, 41, 42, 43,
-                44, 45, 46, 47, 48, 49, 50, 51, 52, 53, 54, 55, 56, 57, 58, 59, 60, 61, 62, 63,
-            ],
-        ),
-    )
+    let first = a.shuffle(b, FIRST_OF_TWO);
+    let second = c.shuffle(d, FIRST_OF_TWO);
+    let third = a.shuffle(b, SECOND_OF_TWO);
+    let fourth = c.shuffle(d, SECOND_OF_TWO);
+    (first.shuffle(second, BOTH), third.shuffle(fourth, BOTH))
 }
 
 // Four runs of four blocks, from planes whose lanes are in the order of the bytes of a block.

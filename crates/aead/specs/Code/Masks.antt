@@ -4,9 +4,8 @@ use Rattle.std.proofs.Common.{◌∙◌, refl, sym, ap, arith}
 use Rattle.octets.specs.Masked.{masked}
 use Rattle.chacha.specs.declared.stream.ChaStream.{ChaStream}
 use Rattle.chacha.specs.States as chacha
-use Rattle.aes.specs.declared.counter.CtrBe.{CtrBe}
-use Rattle.aes.specs.declared.counter.CtrLe.{CtrLe}
-use Rattle.aes.specs.Streams.{DidBe, DidLe}
+use Rattle.aes.specs.declared.counter.Ctr.{Ctr}
+use Rattle.aes.specs.Streams.{Did}
 use Rattle.aead.specs.Suites.{text_limit, text_limit_by}
 use Rattle.aead.specs.Suites.{ByChaCha, ByGcm, ByGcmSiv, construction_of}
 use Rattle.aead.specs.Sealing.{Setting, j0, encryption_key, counter_block, mask, mask_by, mask_of}
@@ -85,14 +84,14 @@ chacha_masks a b was now did = λ s tag n h room.
       applied.masked_is ∙ sym (ap (λ f. masked f n was) (chacha_mask s tag h.0)),
     )
 
-pub gcm_masks : {K : Type 0} (kept : K → List ℕ) (a b : CtrBe K) (was now : List ℕ) → DidBe kept a b was now
-    → Masks (MadeByGcm kept) a b was now
+pub gcm_masks : {C K : Type 0} (kept : K → List ℕ) (a b : Ctr C K) (was now : List ℕ)
+    → Did up_be kept a b was now → Masks (MadeByGcm kept) a b was now
 gcm_masks kept a b was now did = λ s tag n h room.
     let applied = did _ _ n h.1 in
     ((h.0, applied.0), applied.1 ∙ sym (ap (λ f. masked f n was) (gcm_mask s tag h.0)))
 
-pub siv_masks : {K : Type 0} (kept : K → List ℕ) (a b : CtrLe K) (was now : List ℕ) → DidLe kept a b was now
-    → Masks (MadeByGcmSiv kept) a b was now
+pub siv_masks : {C K : Type 0} (kept : K → List ℕ) (a b : Ctr C K) (was now : List ℕ)
+    → Did up_le kept a b was now → Masks (MadeByGcmSiv kept) a b was now
 siv_masks kept a b was now did = λ s tag n h room.
     let applied = did _ _ n h.1 in
     ((h.0, applied.0), applied.1 ∙ sym (ap (λ f. masked f n was) (siv_mask s tag h.0)))

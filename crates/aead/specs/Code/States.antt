@@ -6,11 +6,10 @@ use Rattle.chacha.specs.States as chacha
 use Rattle.poly1305.specs.declared.poly.PolyBy.{PolyBy}
 use Rattle.poly1305.specs.declared.word_mul.WordMul.{WordMul}
 use Rattle.poly1305.specs.States as poly1305
-use Rattle.aes.specs.declared.counter.CtrBe.{CtrBe}
-use Rattle.aes.specs.declared.counter.CtrLe.{CtrLe}
+use Rattle.aes.specs.declared.counter.Ctr.{Ctr}
 use Rattle.aes.specs.Cipher.{cipher}
-use Rattle.aes.specs.Counters.{up_be}
-use Rattle.aes.specs.Streams.{HoldsBe, HoldsLe}
+use Rattle.aes.specs.Counters.{up_be, up_le}
+use Rattle.aes.specs.Streams.{Holds}
 use Rattle.gf128.specs.States as gf128
 use Rattle.aead.specs.declared.hashes.GhashTag.{GhashTag}
 use Rattle.aead.specs.declared.hashes.PolyvalTag.{PolyvalTag}
@@ -26,13 +25,13 @@ abbrev pub MadeByChaCha : ChaStream → Setting → List ℕ → ℕ → Type 0
 MadeByChaCha m s tag n = (construction_of s.suite ≡ ByChaCha) × chacha.Holds m s.key s.nonce 1 n
 
 -- of GCM
-abbrev pub MadeByGcm : {K : Type 0} → (K → List ℕ) → CtrBe K → Setting → List ℕ → ℕ → Type 0
-MadeByGcm kept m s tag n = (construction_of s.suite ≡ ByGcm) × HoldsBe kept m s.key (up_be (j0 s.nonce) 1) n
+abbrev pub MadeByGcm : {C K : Type 0} → (K → List ℕ) → Ctr C K → Setting → List ℕ → ℕ → Type 0
+MadeByGcm kept m s tag n = (construction_of s.suite ≡ ByGcm) × Holds up_be kept m s.key (up_be (j0 s.nonce) 1) n
 
 -- of GCM-SIV
-abbrev pub MadeByGcmSiv : {K : Type 0} → (K → List ℕ) → CtrLe K → Setting → List ℕ → ℕ → Type 0
+abbrev pub MadeByGcmSiv : {C K : Type 0} → (K → List ℕ) → Ctr C K → Setting → List ℕ → ℕ → Type 0
 MadeByGcmSiv kept m s tag n =
-    (construction_of s.suite ≡ ByGcmSiv) × HoldsLe kept m (encryption_key s.key s.nonce) (counter_block tag) n
+    (construction_of s.suite ≡ ByGcmSiv) × Holds up_le kept m (encryption_key s.key s.nonce) (counter_block tag) n
 
 -- ---- h holds the text m under the keys of a message
 

@@ -1,5 +1,5 @@
 -- Sixteen blocks in eight planes of bits, and the words of a key in planes.
-use Rattle.std.specs.Prelude.{◌≡◌, ℕ, ◌+◌, ◌*◌, ◌/◌, ◌%◌, ◌^◌, ◌<◌, List, [], length, slice_index, slice_index_or, bit_xor}
+use Rattle.std.specs.Prelude.{◌≡◌, ◌⊎◌, ℕ, ◌+◌, ◌*◌, ◌/◌, ◌%◌, ◌^◌, ◌<◌, List, [], length, slice_index, slice_index_or, bit_xor}
 use Rattle.std.specs.Int.{bit_at, to_le_bytes, w128}
 use Rattle.octets.specs.Bytes.{block_at}
 use Rattle.aes.specs.Cipher.{cipher}
@@ -55,6 +55,10 @@ pub record AreReady (keys : List (List ℕ)) (ws : List (List ℕ)) (last : ℕ)
 abbrev pub HasByteBits : List ℕ → (ℕ → List ℕ) → ℕ → Type 0
 HasByteBits v f q = (l k : ℕ) → l < 32 → k < 8
     → bit_at (slice_index v l) k ≡ bit_at (slice_index (f (l / 16 * 8 + q)) (l % 16)) k
+
+-- m has a bit at each place below 8 without the digit of weight n
+abbrev pub IsMask : ℕ → ℕ → Type 0
+IsMask n m = (n ≡ 1) × (m ≡ 0x55) ⊎ ((n ≡ 2) × (m ≡ 0x33) ⊎ (n ≡ 4) × (m ≡ 0x0f))
 
 -- the masks are the ciphers of the blocks that `up` counts from a number on, modulo 2^32
 abbrev pub AreMasks : (List ℕ → ℕ → List ℕ) → List ℕ → List ℕ → ℕ → List ℕ → Type 0

@@ -24,8 +24,8 @@ returns c = λ f same.
     same_bytes c.add-2.result
     (c.add-2.ensures (λ l k. bit_xor (get_or x (l % 16) 0) (bit_at (get_or m l 0) k * apart l k)) number
     (c.add.ensures (λ l k. get_or x (l % 16) 0) (λ l k. bit_at (get_or m l 0) k * apart l k)
-    (c.twice.ensures (λ l k. get_or x l 0) c.spread-2.ensures)
-    (c.marked-change.ensures apart (c.twice-apart.ensures (λ l k. get_or (zip2 bit_xor x y) l 0) c.spread.ensures)))
+    (c.repeated.ensures (λ l k. get_or x l 0) c.spread-2.ensures)
+    (c.marked-change.ensures apart (c.repeated-apart.ensures (λ l k. get_or (zip2 bit_xor x y) l 0) c.spread.ensures)))
     c.numbers.ensures)
     (λ l k hl hk.
     let q : ℕ = l / 16 * 8 + k in

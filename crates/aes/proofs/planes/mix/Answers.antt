@@ -5,11 +5,11 @@ use Rattle.aes.specs.declared.planes.TheConstants.{BELOW, TWO_BELOW}
 use Rattle.aes.proofs.planes.mix.Goals as goal
 
 pub returns : goal.returns
-returns c = λ g small h.
-    let next = c.below-next.ensures g h in
-    let both = c.add-both.ensures g (λ l k. g (get_or BELOW l 0) k) h next in
-    let t = λ (l k : ℕ). bit_xor (g l k) (g (get_or BELOW l 0) k) in
-    c.add-2.ensures (λ l k. bit_xor (g (get_or BELOW l 0) k) (t (get_or TWO_BELOW l 0) k)) (λ l k. times 2 (t l k))
-    (c.add.ensures (λ l k. g (get_or BELOW l 0) k) (λ l k. t (get_or TWO_BELOW l 0) k) next
+returns g c = λ f small h.
+    let next = c.below-next.ensures f h in
+    let both = c.add-both.ensures f (λ l k. f (get_or BELOW l 0) k) h next in
+    let t = λ (l k : ℕ). bit_xor (f l k) (f (get_or BELOW l 0) k) in
+    c.add-2.ensures (λ l k. bit_xor (f (get_or BELOW l 0) k) (t (get_or TWO_BELOW l 0) k)) (λ l k. times 2 (t l k))
+    (c.add.ensures (λ l k. f (get_or BELOW l 0) k) (λ l k. t (get_or TWO_BELOW l 0) k) next
     (c.two_below.ensures t both))
-    (c.doubled.ensures t (λ l k. xor_of_8 (g l k) (g (get_or BELOW l 0) k) (small l k) (small (get_or BELOW l 0) k)) both)
+    (c.doubled.ensures t (λ l k. xor_of_8 (f l k) (f (get_or BELOW l 0) k) (small l k) (small (get_or BELOW l 0) k)) both)

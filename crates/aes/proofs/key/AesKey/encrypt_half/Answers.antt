@@ -5,14 +5,14 @@ use Rattle.aes.specs.Cipher.{sub_bytes, shift_rows, mix_columns, add_round_key, 
 use Rattle.aes.specs.Code.Planes.{HoldsWords, block_byte, spot, word_byte, masked_byte}
 use Rattle.aes.proofs.Expanded.{rounds_start, next_round, final_round, is_key, kept_length}
 use Rattle.aes.proofs.Permutation.{words_are, rounds_block}
-use Rattle.aes.proofs.SixteenBlocks.{same_bytes, same_eight, first_value, dropped_row, dropped_last}
+use Rattle.aes.proofs.SixteenBlocks.{same_bytes, same_blocks, first_value, dropped_row, dropped_last}
 use Rattle.aes.proofs.key.AesKey.encrypt_half.Goals as goal
 
 pub loop-done-init : goal.loop-done-init
 loop-done-init c = λ f blocks held.
     let ws = schedule c.args.self.now in
-    same_bytes c.add_half-state.result
-    (c.add_half-state.ensures (block_byte f) (λ l k. word_byte ws 0 (spot l)) held
+    same_bytes c.add-state.result
+    (c.add-state.ensures (block_byte f) (λ l k. word_byte ws 0 (spot l)) held
     (c.unpacked.ensures (λ l k. word_byte ws 0 (spot l)) c.requires.first))
     (λ l k hl hk. first_value f ws l k ∙ ap (λ b. get_or b (spot l) 0) (sym (rounds_start ws (f (l / 16 * 8 + k)))))
 
@@ -26,10 +26,10 @@ loop-done-preserved c = λ f blocks held.
     let words = words_are key (4 * (round_count key + 1)) k.bytes in
     let vs = drop (4 * (n + 1)) ws in
     let state : ℕ → List ℕ = λ q. rounds ws n (f q) in
-    same_eight c.round_half-next.result
+    same_blocks c.round-next.result
     (λ q. add_round_key vs 0 (mix_columns (shift_rows (sub_bytes (state q)))))
     (λ q. rounds ws (n + 1) (f q)) (λ q. next_round key (f q) n (omega arith))
-    (c.round_half-next.ensures state vs (λ q. rounds_block ws n (f q) words (blocks q))
+    (c.round-next.ensures state vs (λ q. rounds_block ws n (f q) words (blocks q))
     (c.loop-done.invariant f blocks held)
     (same_bytes _ (c.unpacked-in-loop-done.ensures (λ l k. masked_byte ws (n + 1) (spot l))
     (c.requires.middle (n + 1) (omega arith) (omega arith)))
@@ -50,8 +50,8 @@ returns c = λ f blocks held.
     let state : ℕ → List ℕ = λ q. rounds ws n (f q) in
     let final = subst (λ i. HoldsWords (get_or c.args.keys.now i []) (λ l k. masked_byte ws last l))
     (sym count) c.requires.final in
-    same_bytes c.last_half.result
-    (c.last_half.ensures state vs (λ q. rounds_block ws n (f q) words (blocks q))
+    same_bytes c.last.result
+    (c.last.ensures state vs (λ q. rounds_block ws n (f q) words (blocks q))
     (c.loop-done.invariant f blocks held)
     (same_bytes _ (c.unpacked-2.ensures (λ l k. masked_byte ws last l) final) (λ l k hl hk.
     let same : l ≡ l % 16 = omega (arith, hl) in ap (masked_byte ws last) same ∙ dropped_last ws last l)))

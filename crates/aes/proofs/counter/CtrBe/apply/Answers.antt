@@ -1,8 +1,0 @@
-use Rattle.std.proofs.Common.{◌∙◌}
-use Rattle.aes.proofs.counter.CtrBe.apply.Goals as goal
-
-pub returns : goal.returns
-returns g c = λ key first made held.
-    let same = c.kept.ensures ∙ held.key_is in
-    let out = (rw same at c.apply.ensures) first made held.makes in
-    (record { key_is = held.key_is; makes = out.0 }, out.1)

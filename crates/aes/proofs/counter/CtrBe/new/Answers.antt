@@ -1,5 +1,0 @@
-use Rattle.std.proofs.Common.{refl}
-use Rattle.aes.proofs.counter.CtrBe.new.Goals as goal
-
-pub returns : goal.returns
-returns g c = record { key_is = refl; makes = c.new.ensures (g.K.KeptKey.bytes c.args.key) }

@@ -1,0 +1,5 @@
+use Rattle.aes.proofs.Circuit.{substituted}
+use Rattle.aes.proofs.planes.HalfPlanesBitPlanes.substitute.Goals as goal
+
+pub returns : goal.returns
+returns c = λ g small held. substituted 16 c.args.self g small held

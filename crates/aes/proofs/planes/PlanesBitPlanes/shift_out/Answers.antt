@@ -1,0 +1,7 @@
+use Rattle.std.proofs.Common.{get_or, refl}
+use Rattle.aes.specs.declared.planes.TheConstants.{SHIFTED_OUT}
+use Rattle.aes.proofs.BitPlanes.{moved}
+use Rattle.aes.proofs.planes.PlanesBitPlanes.shift_out.Goals as goal
+
+pub returns : goal.returns
+returns c = λ g held. moved 32 32 SHIFTED_OUT (λ l. get_or SHIFTED_OUT l 0) refl refl c.args.self g held

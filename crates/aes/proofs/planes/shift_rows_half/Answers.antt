@@ -1,7 +1,0 @@
-use Rattle.std.proofs.Common.{refl}
-use Rattle.aes.specs.declared.planes.TheConstants.{HALF_SHIFTED}
-use Rattle.aes.proofs.BitPlanes.{moved}
-use Rattle.aes.proofs.planes.shift_rows_half.Goals as goal
-
-pub returns : goal.returns
-returns c = λ g held. moved 16 16 HALF_SHIFTED refl refl c.args.p g held

@@ -1,5 +1,0 @@
-use Rattle.aes.proofs.Circuit.{substituted}
-use Rattle.aes.proofs.planes.substitute.Goals as goal
-
-pub returns : goal.returns
-returns c = λ g small held. substituted 32 c.args.p g small held
