@@ -4,7 +4,7 @@ use Rattle.std.proofs.Common.{nat_lt, List, [], ◌∷◌, ◌++◌, map, take, 
 use Rattle.std.proofs.Common.{bit_xor}
 use mathlib.Core.Path.{fun_ext}
 use Rattle.octets.specs.Bytes.{IsBlock}
-use Rattle.aes.specs.Schedule.{xor_word, sub_word, rot_word, rcon, key_words, round_count, changed}
+use Rattle.aes.specs.Schedule.{xor_word, sub_word, rot_word, rcon, key_words, round_count, temp}
 use Rattle.aes.specs.Schedule.{next_word, words, schedule}
 use Rattle.aes.specs.Cipher.{at, grid, sub_bytes, shift_rows, mix_column, mix_columns, add_round_key, rounds}
 use Rattle.aes.specs.Cipher.{cipher, IsKey}
@@ -29,15 +29,15 @@ sub_word_is [] h = refl
 sub_word_is (x ∷ w) h = ap₂ (λ y ys. y ∷ ys) (sym (sbox_at x (h 0))) (sub_word_is w (λ i. h (suc i)))
 
 -- the word added to the one Nk places back, with SubWord by the table
-abbrev changed_by_table : ℕ → ℕ → List ℕ → List ℕ
-changed_by_table nk i t =
+abbrev temp_by_table : ℕ → ℕ → List ℕ → List ℕ
+temp_by_table nk i t =
     cond (i % nk == 0) (xor_word (sub_word_by_table (rot_word t)) (rcon (i / nk)))
     (cond ((nk == 8) && (i % 8 == 4)) (sub_word_by_table t) t)
 
--- `changed_by_table` computes `changed` of a list of bytes
-changed_is : (nk i : ℕ) (t : List ℕ) → Small t → changed nk i t ≡ changed_by_table nk i t
-unfolding changed
-changed_is nk i t h =
+-- `temp_by_table` computes `temp` of a list of bytes
+temp_is : (nk i : ℕ) (t : List ℕ) → Small t → temp nk i t ≡ temp_by_table nk i t
+unfolding temp
+temp_is nk i t h =
     ap₂ (λ v w. cond (i % nk == 0) (xor_word v (rcon (i / nk))) (cond ((nk == 8) && (i % 8 == 4)) w t))
     (sub_word_is (rot_word t) (rot_word_is t h)) (sub_word_is t h)
 
@@ -45,7 +45,7 @@ changed_is nk i t h =
 abbrev next_by_table : List ℕ → List (List ℕ) → ℕ → List ℕ
 next_by_table key ws i =
     cond (nat_lt i (key_words key)) (take 4 (drop (4 * i) key))
-    (xor_word (get_or ws (i - key_words key) []) (changed_by_table (key_words key) i (get_or ws (i - 1) [])))
+    (xor_word (get_or ws (i - key_words key) []) (temp_by_table (key_words key) i (get_or ws (i - 1) [])))
 
 -- `next_by_table` computes `next_word`, if every byte of the words ws is below 256
 next_is : (key : List ℕ) (ws : List (List ℕ)) (i : ℕ) → AreWords ws
@@ -54,7 +54,7 @@ unfolding next_word
 next_is key ws i h =
     ap (λ w. cond (nat_lt i (key_words key)) (take 4 (drop (4 * i) key))
     (xor_word (get_or ws (i - key_words key) []) w))
-    (changed_is (key_words key) i (get_or ws (i - 1) []) (h (i - 1)))
+    (temp_is (key_words key) i (get_or ws (i - 1) []) (h (i - 1)))
 
 -- the first n words by the table
 unfoldable pub words_by_table : List ℕ → ℕ → List (List ℕ)

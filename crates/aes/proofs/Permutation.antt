@@ -11,7 +11,7 @@ use Rattle.octets.specs.Polynomial.{residue}
 use Rattle.octets.proofs.Residue.{length_residue}
 use Rattle.octets.proofs.BitFacts.{number_lt}
 use Rattle.aes.specs.Field.{modulus}
-use Rattle.aes.specs.Schedule.{xor_word, sub_word, rot_word, rcon, x_power, changed, next_word, words}
+use Rattle.aes.specs.Schedule.{xor_word, sub_word, rot_word, rcon, x_power, temp, next_word, words}
 use Rattle.aes.specs.Schedule.{schedule, key_words, round_count}
 use Rattle.octets.specs.Bytes.{IsBlock}
 use Rattle.aes.specs.Cipher.{sub_bytes, shift_rows, mix_columns, add_round_key, rounds, cipher, IsKey}
@@ -73,9 +73,9 @@ cond_word true v w hv hw = hv
 cond_word false v w hv hw = hw
 
 -- the word added to the one Nk places back is a word, if t is one
-changed_is : (nk i : ℕ) (t : List ℕ) → IsWord t → IsWord (changed nk i t)
-unfolding changed
-changed_is nk i t h =
+temp_is : (nk i : ℕ) (t : List ℕ) → IsWord t → IsWord (temp nk i t)
+unfolding temp
+temp_is nk i t h =
     let first : List ℕ = xor_word (sub_word (rot_word t)) (rcon (i / nk)) in
     let rest : List ℕ = cond ((nk == 8) && (i % 8 == 4)) (sub_word t) t in
     cond_word (i % nk == 0) first rest
@@ -101,11 +101,11 @@ unfolding next_word
 next_is key ws i hk hw =
     let first : List ℕ = take 4 (drop (4 * i) key) in
     let rest : List ℕ = xor_word (get_or ws (i - key_words key) [])
-    (changed (key_words key) i (get_or ws (i - 1) [])) in
+    (temp (key_words key) i (get_or ws (i - 1) [])) in
     cond_word (nat_lt i (key_words key)) first rest (key_part_is key (4 * i) hk)
-    (xor_word_is (get_or ws (i - key_words key) []) (changed (key_words key) i (get_or ws (i - 1) []))
+    (xor_word_is (get_or ws (i - key_words key) []) (temp (key_words key) i (get_or ws (i - 1) []))
     (hw (i - key_words key))
-    (changed_is (key_words key) i (get_or ws (i - 1) []) (hw (i - 1))))
+    (temp_is (key_words key) i (get_or ws (i - 1) []) (hw (i - 1))))
 
 -- one word more
 push_words : (ws : List (List ℕ)) (w : List ℕ) → AreWords ws → IsWord w → AreWords (ws ++ w ∷ [])

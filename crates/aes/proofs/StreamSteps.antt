@@ -65,18 +65,18 @@ block_masked up key first mask xs made used n is place room long size =
 
 -- some bytes of the block begun
 pub went_on : {C : Type 0} (up : List ℕ → ℕ → List ℕ) (key : List ℕ) (s t : Counter C) (xs ys : List ℕ) (n : ℕ)
-    → t.first ≡ s.first → t.begun ≡ s.begun → t.mask ≡ s.mask
+    → t.first ≡ s.first → t.block_count ≡ s.block_count → t.mask ≡ s.mask
     → t.used ≡ (s.used + length xs) % 16
     → 0 < s.used → s.used + length xs ≤ 16 → length s.mask ≡ 16 → n ≡ length xs
     → ys ≡ xor_bytes xs (take n (drop s.used s.mask)) → Advances up key s t xs ys
-went_on up key s t xs ys n first_stays begun_stays mask_stays used_rises some room long size xored =
+went_on up key s t xs ys n first_stays count_stays mask_stays used_rises some room long size xored =
     λ first made held.
     let place : s.used ≡ made % 16 = held.used_is in
     let mask : s.mask ≡ cipher key (up first (made / 16)) = held.mask_is (omega arith) in
     let blocks : (made + 15) / 16 ≡ (made + length xs + 15) / 16 = omega arith in (
       record {
         first_is = first_stays ∙ held.first_is;
-        begun_is = begun_stays ∙ held.begun_is ∙ ap (λ (x : ℕ). x % 2 ^ 32) blocks;
+        block_count_is = count_stays ∙ held.block_count_is ∙ ap (λ (x : ℕ). x % 2 ^ 32) blocks;
         used_is = omega arith;
         mask_is = λ left.
             let block : made / 16 ≡ (made + length xs) / 16 = omega arith in
@@ -108,10 +108,10 @@ joined_blocks a b c d m f ha hb hc hd is ea eb ec ed (suc (suc (suc (suc q)))) h
 -- the first bytes of the next blocks
 pub began : {C : Type 0} (up : List ℕ → ℕ → List ℕ) (key : List ℕ) (s t : Counter C) (masks xs ys : List ℕ)
     → WrapsAround up
-    → t.first ≡ s.first → t.begun ≡ (s.begun + (length xs + 15) / 16) % 2 ^ 32
+    → t.first ≡ s.first → t.block_count ≡ (s.block_count + (length xs + 15) / 16) % 2 ^ 32
     → t.used ≡ length xs % 16 → s.used ≡ 0 → length xs ≤ length masks → length masks % 16 ≡ 0
     → (length xs < length masks → t.mask ≡ block_at masks (length xs / 16))
-    → AreMasks up key s.first s.begun masks
+    → AreMasks up key s.first s.block_count masks
     → ys ≡ xor_bytes xs (take (length xs) masks) → Advances up key s t xs ys
 unfolding counter_byte
 began up key s t masks xs ys wraps first_stays counted used_is none room whole kept are xored =
@@ -119,8 +119,8 @@ began up key s t masks xs ys wraps first_stays counted used_is none room whole k
     let n : ℕ = length xs in
     let place : 0 ≡ made % 16 = sym none ∙ held.used_is in
     let blocks : (made + 15) / 16 ≡ made / 16 = omega arith in
-    let before : s.begun ≡ (made / 16) % 2 ^ 32 = held.begun_is ∙ ap (λ (x : ℕ). x % 2 ^ 32) blocks in
-    let next : (s.begun + (n + 15) / 16) % 2 ^ 32 ≡ (made + n + 15) / 16 % 2 ^ 32 = omega (arith, before, place) in
+    let before : s.block_count ≡ (made / 16) % 2 ^ 32 = held.block_count_is ∙ ap (λ (x : ℕ). x % 2 ^ 32) blocks in
+    let next : (s.block_count + (n + 15) / 16) % 2 ^ 32 ≡ (made + n + 15) / 16 % 2 ^ 32 = omega (arith, before, place) in
     let mask_at : (q : ℕ) → q * 16 < length masks → block_at masks q ≡ cipher key (up first (made / 16 + q)) =
     λ q within.
     let count : ((made / 16) % 2 ^ 32 + q) % 2 ^ 32 ≡ (made / 16 + q) % 2 ^ 32 = omega arith in
@@ -130,7 +130,7 @@ began up key s t masks xs ys wraps first_stays counted used_is none room whole k
     let cut : length (take n masks) ≡ n = length-take-le n masks room in (
       record {
         first_is = first_stays ∙ held.first_is;
-        begun_is = counted ∙ next;
+        block_count_is = counted ∙ next;
         used_is = omega (arith, used_is, place);
         mask_is = λ left.
             let last : made / 16 + n / 16 ≡ (made + n) / 16 = omega (arith, place) in

@@ -9,7 +9,7 @@ use Rattle.std.proofs.lemmas.List.{length-replicate, length-append, ext_get_or, 
 use Rattle.std.proofs.lemmas.List.{flat_map_more, take_more, get_or-set_same, get_or-set_other, get_or-map}
 use Rattle.std.proofs.lemmas.List.{length-map, get_or_past}
 use Rattle.aes.specs.Columns.{column_of, columns_of}
-use Rattle.aes.specs.Schedule.{schedule, xor_word, key_words, changed, next_word, words, sub_word, rot_word}
+use Rattle.aes.specs.Schedule.{schedule, xor_word, key_words, temp, next_word, words, sub_word, rot_word}
 use Rattle.aes.specs.Schedule.{rcon, round_count, MeetsRecurrence}
 use Rattle.aes.specs.KeptWords.{table}
 use Rattle.aes.specs.Code.ExpandedKey.{key_of}
@@ -46,37 +46,37 @@ unfolding next_word
 word_start key k h =
     ap (λ b. cond b (take 4 (drop (4 * k) key))
     (xor_word (get_or (words key k) (k - key_words key) [])
-    (changed (key_words key) k (get_or (words key k) (k - 1) []))))
+    (temp (key_words key) k (get_or (words key k) (k - 1) []))))
     (lt-ltb k (key_words key) h)
 
 -- a word from Nk on, by the recurrence
 pub word_rest : (key : List ℕ) (k : ℕ) → key_words key ≤ k → 0 < key_words key
-    → word key k ≡ xor_word (word key (k - key_words key)) (changed (key_words key) k (word key (k - 1)))
+    → word key k ≡ xor_word (word key (k - key_words key)) (temp (key_words key) k (word key (k - 1)))
 unfolding next_word
 word_rest key k h some =
     ap (λ b. cond b (take 4 (drop (4 * k) key))
     (xor_word (get_or (words key k) (k - key_words key) [])
-    (changed (key_words key) k (get_or (words key k) (k - 1) []))))
+    (temp (key_words key) k (get_or (words key k) (k - 1) []))))
     (le-ltb k (key_words key) h)
-    ∙ ap₂ (λ v w. xor_word v (changed (key_words key) k w))
+    ∙ ap₂ (λ v w. xor_word v (temp (key_words key) k w))
     (words_at key k (k - key_words key) (omega arith)) (words_at key k (k - 1) (omega arith))
 
--- at i mod Nk = 0, `changed` is SubWord(RotWord(t)) plus the round constant
-pub changed_first : (nk i : ℕ) (t : List ℕ) → i % nk ≡ 0
-    → xor_word (sub_word (rot_word t)) (rcon (i / nk)) ≡ changed nk i t
-unfolding changed
-changed_first nk i t h = rw (eq-eqb (i % nk) 0 h) refl
+-- at i mod Nk = 0, `temp` is SubWord(RotWord(t)) plus the round constant
+pub temp_first : (nk i : ℕ) (t : List ℕ) → i % nk ≡ 0
+    → xor_word (sub_word (rot_word t)) (rcon (i / nk)) ≡ temp nk i t
+unfolding temp
+temp_first nk i t h = rw (eq-eqb (i % nk) 0 h) refl
 
--- at i mod 8 = 4, if Nk is 8 and i mod Nk is not 0, `changed` is SubWord(t)
-pub changed_fourth : (nk i : ℕ) (t : List ℕ) → (i % nk ≡ 0 → ⊥) → nk ≡ 8 → i % 8 ≡ 4
-    → sub_word t ≡ changed nk i t
-unfolding changed
-changed_fourth nk i t h e f = rw (ne_eqb (i % nk) 0 h, eq-eqb nk 8 e, eq-eqb (i % 8) 4 f) refl
+-- at i mod 8 = 4, if Nk is 8 and i mod Nk is not 0, `temp` is SubWord(t)
+pub temp_fourth : (nk i : ℕ) (t : List ℕ) → (i % nk ≡ 0 → ⊥) → nk ≡ 8 → i % 8 ≡ 4
+    → sub_word t ≡ temp nk i t
+unfolding temp
+temp_fourth nk i t h e f = rw (ne_eqb (i % nk) 0 h, eq-eqb nk 8 e, eq-eqb (i % 8) 4 f) refl
 
--- at any other word, `changed` is t
-pub changed_other : (nk i : ℕ) (t : List ℕ) → (i % nk ≡ 0 → ⊥) → (nk ≡ 8 → i % 8 ≡ 4 → ⊥) → t ≡ changed nk i t
-unfolding changed
-changed_other nk i t h no_fourth =
+-- at any other word, `temp` is t
+pub temp_other : (nk i : ℕ) (t : List ℕ) → (i % nk ≡ 0 → ⊥) → (nk ≡ 8 → i % 8 ≡ 4 → ⊥) → t ≡ temp nk i t
+unfolding temp
+temp_other nk i t h no_fourth =
     rw (
       ne_eqb (i % nk) 0 h,
       false_from_ne_true ((nk == 8) && (i % 8 == 4))
@@ -185,7 +185,7 @@ meets_recurrence key i some within = (
   λ h. words_at key (4 * (round_count key + 1)) i within ∙ word_start key i h,
   λ h.
       words_at key (4 * (round_count key + 1)) i within ∙ word_rest key i h some
-      ∙ sym (ap₂ (λ v w. xor_word v (changed (key_words key) i w))
+      ∙ sym (ap₂ (λ v w. xor_word v (temp (key_words key) i w))
       (words_at key (4 * (round_count key + 1)) (i - key_words key) (omega arith))
       (words_at key (4 * (round_count key + 1)) (i - 1) (omega arith))),
 )

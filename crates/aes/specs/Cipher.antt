@@ -18,7 +18,7 @@ grid f = map (λ i. f (i % 4) (i / 4)) (range_with_len 0 16)
 unfoldable pub sub_bytes : List ℕ → List ℕ
 sub_bytes s = grid (λ r c. sbox (at s r c))
 
--- row r rotated left by r places (5.1.2)
+-- each row r rotated left by r places (5.1.2)
 unfoldable pub shift_rows : List ℕ → List ℕ
 shift_rows s = grid (λ r c. at s r ((c + r) % 4))
 
@@ -30,7 +30,7 @@ matrix =
     (1 ∷ 1 ∷ 2 ∷ 3 ∷ []) ∷
     (3 ∷ 1 ∷ 1 ∷ 2 ∷ []) ∷ []
 
--- the sum of the products of a row's and a column's bytes
+-- the sum of the products of the bytes of a row and of a column
 abbrev pub dot : List ℕ → List ℕ → ℕ
 dot [] v = 0
 dot (x ∷ u) [] = 0
@@ -48,7 +48,7 @@ mix_column v = map (λ u. dot u v) matrix
 unfoldable pub mix_columns : List ℕ → List ℕ
 mix_columns s = grid (λ r c. get_or (mix_column (column s c)) r 0)
 
--- the sum with the words 4n to 4n + 3 of the schedule ws, each one a column (5.1.4)
+-- the sum with the words 4n to 4n + 3 of the schedule ws, each one a column: round key n (5.1.4)
 unfoldable pub add_round_key : List (List ℕ) → ℕ → List ℕ → List ℕ
 add_round_key ws n s = grid (λ r c. bit_xor (at s r c) (get_or (get_or ws (4 * n + c) []) r 0))
 
@@ -63,11 +63,11 @@ cipher key block =
     add_round_key (schedule key) (round_count key)
     (shift_rows (sub_bytes (rounds (schedule key) (round_count key - 1) block)))
 
--- how many bytes a key may have (5)
+-- the lengths of a key in bytes (5)
 abbrev pub IsKeyLength : ℕ → Type 0
 IsKeyLength n = (n ≡ 16) ⊎ ((n ≡ 24) ⊎ (n ≡ 32))
 
--- 16, 24 or 32 bytes
+-- a key is 16, 24 or 32 bytes
 pub record IsKey (k : List ℕ) : Type 0 where
   pub length_is : IsKeyLength (length k)
   pub bytes : (i : ℕ) → get_or k i 0 < 256

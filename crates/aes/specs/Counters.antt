@@ -1,4 +1,4 @@
--- Streams of bytes from a block that counts (SP 800-38D, 6.2 and 6.5; RFC 8452, 4).
+-- Counter blocks, and the stream of bytes that they give (SP 800-38D, 6.2 and 6.5; RFC 8452, 4).
 use Rattle.std.specs.Prelude.{◌≡◌, ℕ, ◌+◌, ◌/◌, ◌%◌, ◌^◌, List, ◌++◌, take, drop, get_or}
 use Rattle.std.specs.Int.{bytes_high_first, bytes_low_first}
 use Rattle.octets.specs.Bytes.{IsBlock, le, be}

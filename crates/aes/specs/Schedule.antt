@@ -7,7 +7,7 @@ use Rattle.octets.specs.Bits.{number}
 use Rattle.octets.specs.Polynomial.{residue}
 use Rattle.aes.specs.Field.{modulus, sbox}
 
--- the sum of two words, byte by byte
+-- the XOR of two words, byte by byte
 unfoldable pub xor_word : List ℕ → List ℕ → List ℕ
 xor_word v w = map (λ i. bit_xor (get_or v i 0) (get_or w i 0)) (range_with_len 0 4)
 
@@ -34,9 +34,9 @@ key_words key = length key / 4
 abbrev pub round_count : List ℕ → ℕ
 round_count key = key_words key + 6
 
--- the word added to the one Nk places back, from the word before
-unfoldable pub changed : ℕ → ℕ → List ℕ → List ℕ
-changed nk i t =
+-- temp: the word added to the one Nk places back, from the previous word t
+unfoldable pub temp : ℕ → ℕ → List ℕ → List ℕ
+temp nk i t =
     if i % nk == 0 then xor_word (sub_word (rot_word t)) (rcon (i / nk))
     else if (nk == 8) && (i % 8 == 4) then sub_word t
     else t
@@ -45,7 +45,7 @@ changed nk i t =
 unfoldable pub next_word : List ℕ → List (List ℕ) → ℕ → List ℕ
 next_word key ws i =
     if nat_lt i (key_words key) then take 4 (drop (4 * i) key)
-    else xor_word (get_or ws (i - key_words key) []) (changed (key_words key) i (get_or ws (i - 1) []))
+    else xor_word (get_or ws (i - key_words key) []) (temp (key_words key) i (get_or ws (i - 1) []))
 
 -- the first n words of the schedule
 unfoldable pub words : List ℕ → ℕ → List (List ℕ)
@@ -60,10 +60,9 @@ schedule key = words key (4 * (round_count key + 1))
 abbrev pub word : List ℕ → ℕ → List ℕ
 word key i = get_or (schedule key) i []
 
--- a word below Nk is the key's; any other is the sum of the word Nk places back and what is made of the
--- word before
+-- a word below Nk is the key's; any other is the sum of the word Nk places back and temp
 abbrev pub MeetsRecurrence : Type 0
 MeetsRecurrence = (key : List ℕ) (i : ℕ) → 0 < key_words key → i < 4 * (round_count key + 1)
     → (i < key_words key → word key i ≡ take 4 (drop (4 * i) key))
     × (key_words key ≤ i → word key i
-    ≡ xor_word (word key (i - key_words key)) (changed (key_words key) i (word key (i - 1))))
+    ≡ xor_word (word key (i - key_words key)) (temp (key_words key) i (word key (i - 1))))

@@ -1,4 +1,4 @@
--- The states of the streams of counting blocks.
+-- The states of the counter streams.
 use Rattle.std.specs.Prelude.{◌≡◌, ℕ, ◌+◌, ◌/◌, ◌%◌, ◌^◌, ◌<◌, ◌≤◌, List, length, take, drop}
 use Rattle.octets.specs.Masked.{masked}
 use Rattle.aes.specs.Cipher.{cipher}
@@ -6,12 +6,12 @@ use Rattle.aes.specs.Counters.{counter_byte}
 use Rattle.aes.specs.declared.counter.Counter.{Counter}
 use Rattle.aes.specs.declared.counter.Ctr.{Ctr}
 
--- s has made this many bytes of the stream from the first block on under the key: it has begun their blocks, counted
--- modulo 2^32, and if the last block is not used up, it keeps the output of the cipher for that block
+-- s has made this many bytes of the stream from the first block on under the key: it counts the blocks of these bytes modulo
+-- 2^32, and if the last block is not used up, it keeps the cipher of that block
 pub record Makes {C : Type 0} (up : List ℕ → ℕ → List ℕ) (s : Counter C) (key : List ℕ) (first : List ℕ)
     (made : ℕ) : Type 0 where
   pub first_is : s.first ≡ first
-  pub begun_is : s.begun ≡ (made + 15) / 16 % 2 ^ 32
+  pub block_count_is : s.block_count ≡ (made + 15) / 16 % 2 ^ 32
   pub used_is : s.used ≡ made % 16
   pub mask_is : 0 < made % 16 → s.mask ≡ cipher key (up first (made / 16))
 
@@ -22,8 +22,8 @@ abbrev pub Advances : {C : Type 0} (up : List ℕ → ℕ → List ℕ) (key : L
 Advances up key s t was now = (first : List ℕ) (made : ℕ) → Makes up s key first made
     → Makes up t key first (made + length was) × (now ≡ masked (counter_byte up key first) made was)
 
--- s becomes t, and was becomes now: the next bytes are XORed into the first n, and the others stay; only at the
--- end may a block be begun
+-- s becomes t, and was becomes now: the next bytes of the stream are XORed into the first n, and the others stay; only if there
+-- are no others may bytes of the last block be left over
 pub record AdvancesFront {C : Type 0} (up : List ℕ → ℕ → List ℕ) (key : List ℕ) (s t : Counter C)
     (was now : List ℕ) (n : ℕ) : Type 0 where
   pub within : n ≤ length was

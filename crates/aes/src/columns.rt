@@ -9,7 +9,7 @@ ghost use Rattle.aes.specs.Columns.{column_of, columns_of, state_of};
 
 use crate::round_tables::TABLES;
 
-// The column that the byte x in row 0 adds after SubBytes and MixColumns.
+// What the byte x in row 0 adds to its column after SubBytes and MixColumns.
 #[inline(always)]
 fn entry(x: u8) -> u32
     ensures { column_of result ≡ times 2 (sbox x) ∷ sbox x ∷ sbox x ∷ times 3 (sbox x) ∷ [] }
@@ -17,7 +17,7 @@ fn entry(x: u8) -> u32
     TABLES[0][x as usize]
 }
 
-// The column that it adds from row 1.
+// What the byte x in row 1 adds to its column.
 #[inline(always)]
 fn entry_row1(x: u8) -> u32
     ensures { column_of result ≡ times 3 (sbox x) ∷ times 2 (sbox x) ∷ sbox x ∷ sbox x ∷ [] }
@@ -25,7 +25,7 @@ fn entry_row1(x: u8) -> u32
     TABLES[1][x as usize]
 }
 
-// The column that it adds from row 2.
+// What the byte x in row 2 adds to its column.
 #[inline(always)]
 fn entry_row2(x: u8) -> u32
     ensures { column_of result ≡ sbox x ∷ times 3 (sbox x) ∷ times 2 (sbox x) ∷ sbox x ∷ [] }
@@ -33,7 +33,7 @@ fn entry_row2(x: u8) -> u32
     TABLES[2][x as usize]
 }
 
-// The column that it adds from row 3.
+// What the byte x in row 3 adds to its column.
 #[inline(always)]
 fn entry_row3(x: u8) -> u32
     ensures { column_of result ≡ sbox x ∷ sbox x ∷ times 3 (sbox x) ∷ times 2 (sbox x) ∷ [] }
@@ -41,7 +41,7 @@ fn entry_row3(x: u8) -> u32
     TABLES[3][x as usize]
 }
 
-// A column of the next state, by the words that hold its rows 0 to 3 before SubBytes.
+// A column of the next state, from the words that hold its rows 0 to 3 before SubBytes.
 #[inline(always)]
 fn mixed_column(a: u32, b: u32, c: u32, d: u32, key: u32) -> u32
     ensures { column_of result ≡ xor_word (mix_column (
@@ -73,7 +73,8 @@ pub fn round(state: [u32; 4], key: [u32; 4]) -> [u32; 4]
     ]
 }
 
-// A column of the last state.
+// A column of the last state, from the words that hold its rows 0 to 3 before SubBytes. The entries of the tables have S(x)
+// unmultiplied in two of their rows.
 #[inline(always)]
 fn last_column(a: u32, b: u32, c: u32, d: u32, key: u32) -> u32
     ensures { column_of result ≡ xor_word (
@@ -118,7 +119,7 @@ pub(crate) fn add_key(state: [u32; 4], key: [u32; 4]) -> [u32; 4]
     ]
 }
 
-// The four words of a round.
+// A round key: the four words of a round.
 #[inline(always)]
 pub(crate) fn round_key(words: &[u32; 60], round: usize) -> [u32; 4]
     requires { round < 15 }

@@ -1,4 +1,4 @@
-//! Sixteen blocks that count (SP 800-38D, 6.2; RFC 8452, 4), written at once into eight planes of bits.
+//! Sixteen counter blocks (SP 800-38D, 6.2; RFC 8452, 4), written at once as eight planes of bits.
 
 ghost use Rattle.std.specs.Prelude.{◌≡◌, ℕ, ◌<◌, ◌+◌, ◌*◌, ◌/◌, ◌%◌, ◌==◌, if◌then◌else◌};
 ghost use Rattle.std.specs.Prelude.{List, slice_index, bit_xor, length};
@@ -10,9 +10,9 @@ use crate::planes::{BitPlanes, Planes};
 use std::simd::prelude::*;
 use std::simd::{u8x16, u8x32};
 
-// The bits of a number below 2^16, bit q in each lane for block q.
+// The bits of a number below 2^16: every lane has bit q at the bit of block q.
 #[inline(always)]
-fn by_blocks(number: u32) -> u8x32
+fn block_bits(number: u32) -> u8x32
     ensures long { length result ≡ 32 }
     ensures bits { (l k : ℕ) → l < 32 → k < 8
         → bit_at (slice_index result l) k ≡ bit_at number (l / 16 * 8 + k) }
@@ -28,9 +28,9 @@ fn by_blocks(number: u32) -> u8x32
     )
 }
 
-// Each byte whose bit in the mask is set, and 0 in the place of the others.
+// Keeps each byte whose bit in the mask is set, and makes the others 0.
 #[inline(always)]
-fn marked(p: Planes, mask: u8x32) -> Planes
+fn select(p: Planes, mask: u8x32) -> Planes
     requires { length mask ≡ 32 }
     ensures { (g : ℕ → ℕ → ℕ) → HoldsBits p g
         → HoldsBits result (λ l k. bit_at (slice_index mask l) k * g l k) }
@@ -47,7 +47,7 @@ fn marked(p: Planes, mask: u8x32) -> Planes
     ]
 }
 
-// All bits of the lanes of one byte of each block.
+// The lanes of the byte at this place of each block, with all their bits set.
 #[inline(always)]
 fn lanes_of(place: usize) -> u8x32
     requires { place < 16 }
@@ -61,7 +61,7 @@ fn lanes_of(place: usize) -> u8x32
     u8x32::from_array(lanes)
 }
 
-// Blocks of zeros but for one byte, which is `first` plus the number of the block, modulo 16.
+// Blocks of zeros except for the byte at `place`, which is `first` plus the number of the block, modulo 16.
 #[inline(always)]
 fn numbers(first: u32, place: usize) -> Planes
     requires { (first < 16) × (place < 16) }
@@ -70,10 +70,10 @@ fn numbers(first: u32, place: usize) -> Planes
     let lanes = lanes_of(place);
     let none = u8x32::splat(0);
     [
-        by_blocks(0xaaaa_aaaa >> first) & lanes,
-        by_blocks(0xcccc_cccc >> first) & lanes,
-        by_blocks(0xf0f0_f0f0 >> first) & lanes,
-        by_blocks(0xff00_ff00 >> first) & lanes,
+        block_bits(0xaaaa_aaaa >> first) & lanes,
+        block_bits(0xcccc_cccc >> first) & lanes,
+        block_bits(0xf0f0_f0f0 >> first) & lanes,
+        block_bits(0xff00_ff00 >> first) & lanes,
         none,
         none,
         none,
@@ -81,8 +81,8 @@ fn numbers(first: u32, place: usize) -> Planes
     ]
 }
 
-// Sixteen blocks that count by the low half of one byte: block q is `a` with `first` + q there, or from the
-// block on where this passes 16, `b` with 16 less.
+// Sixteen counter blocks, which differ in the low half of one byte: block q is `a` with `first` + q in that half while this is
+// below 16, and then `b` with `first` + q - 16.
 #[inline(always)]
 pub(crate) fn count_blocks(a: &[u8; 16], b: &[u8; 16], first: u32, place: usize) -> Planes
     requires { (first < 16) × (place < 16) }
@@ -92,9 +92,9 @@ pub(crate) fn count_blocks(a: &[u8; 16], b: &[u8; 16], first: u32, place: usize)
 {
     let before = rows(u8x16::from_array(*a));
     let after = rows(u8x16::from_array(*b));
-    let apart = Planes::repeated(spread(before ^ after));
-    let change = marked(apart, by_blocks(0xffff_0000 >> first));
-    Planes::repeated(spread(before))
+    let apart = Planes::from_half(spread(before ^ after));
+    let change = select(apart, block_bits(0xffff_0000 >> first));
+    Planes::from_half(spread(before))
         .add(change)
         .add(numbers(first, place))
 }

@@ -1,5 +1,5 @@
-//! The key streams of AES-GCM and AES-GCM-SIV: the ciphers of blocks that count (SP 800-38D, 6.5; RFC 8452, 4), XORed into a
-//! text that comes in pieces.
+//! The key streams of AES-GCM and AES-GCM-SIV: the ciphers of counter blocks (SP 800-38D, 6.5; RFC 8452, 4), XORed into a text
+//! that comes in pieces.
 
 ghost use Rattle.std.specs.Prelude.{◌≡◌, ℕ, ◌+◌, ◌*◌, ◌%◌, ◌^◌, ◌<◌, ◌≤◌, List, ◌++◌, length, take, drop};
 ghost use Rattle.octets.specs.Bytes.{IsBlock, block_at, xor_bytes};
@@ -10,7 +10,7 @@ ghost use Rattle.aes.specs.Code.Wraps.{WrapsAround, up_be-wraps, up_le-wraps};
 
 use crate::counted_planes::count_blocks;
 use crate::key::{AesKey, KeptKey};
-use crate::key_planes::{KeyPlanes, no_planes};
+use crate::key_planes::KeyPlanes;
 use crate::planes::Planes;
 use byteorder::{BigEndian, ByteOrder, LittleEndian};
 use octets::{Block, Stream, WIDE, Work, xor_into};
@@ -24,8 +24,8 @@ pub fn blocks_count_on()
     ensures little_endian { CountsOn up_le }
 {}
 
-// Four blocks one after the other.
-fn joined(a: &[u8; 16], b: &[u8; 16], c: &[u8; 16], d: &[u8; 16]) -> [u8; 64]
+// Concatenates four blocks.
+fn concat(a: &[u8; 16], b: &[u8; 16], c: &[u8; 16], d: &[u8; 16]) -> [u8; 64]
     ensures { result ≡ a.now ++ (b.now ++ (c.now ++ d.now)) }
 {
     let mut four = [0; 64];
@@ -33,7 +33,7 @@ fn joined(a: &[u8; 16], b: &[u8; 16], c: &[u8; 16], d: &[u8; 16]) -> [u8; 64]
     four
 }
 
-// XORs four runs of four blocks into 256 bytes.
+// XORs sixteen blocks, given in fours, into 256 bytes. Each length is a constant, so that the blocks stay in registers.
 #[inline(always)]
 fn xor_fours(bytes: &mut [u8], a: &[u8; 64], b: &[u8; 64], c: &[u8; 64], d: &[u8; 64])
     requires { length bytes.old ≡ 256 }
@@ -48,7 +48,7 @@ fn xor_fours(bytes: &mut [u8], a: &[u8; 64], b: &[u8; 64], c: &[u8; 64], d: &[u8
     xor_into(fourth, d);
 }
 
-// Block `q` of blocks one after the other.
+// Block `q` of concatenated blocks.
 fn block_of(blocks: &[u8], q: usize) -> Block
     requires { q * 16 + 16 ≤ length blocks.now }
     ensures { result ≡ block_at blocks.now q }
@@ -58,27 +58,28 @@ fn block_of(blocks: &[u8], q: usize) -> Block
     Block::new(block)
 }
 
-/// Where a block counts.
+/// Which bytes of a block are its counter, and in which order.
 pub trait Count {
-    // The block that is some steps after the first one.
+    // The block that is a number of steps after the given one.
     ghost up: { List ℕ → ℕ → List ℕ };
 
-    // The place of the least significant byte that counts.
+    // The place of the counter's least significant byte.
     ghost LOW: { ℕ };
 
     const LOW: usize;
 
+    // Returns the block that is `steps` after `first`.
     fn block(first: &Block, steps: u32) -> Block
         ensures { result ≡ up first.now steps };
 
-    // Tells a caller how the byte at `LOW` counts. It does nothing.
+    // A law for the caller's proof: how the low half of the byte at `LOW` counts. The call does nothing.
     fn counts_in_nibble()
         ensures { CountsInNibble up LOW };
 
     ghost wraps: { WrapsAround up };
 }
 
-/// In its last four bytes, most significant byte first.
+/// The counter is the last four bytes, most significant byte first (SP 800-38D, 6.2).
 pub struct LastFour;
 
 impl Count for LastFour {
@@ -100,7 +101,7 @@ impl Count for LastFour {
     fn counts_in_nibble() {}
 }
 
-/// In its first four bytes, least significant byte first.
+/// The counter is the first four bytes, least significant byte first (RFC 8452, 4).
 pub struct FirstFour;
 
 impl Count for FirstFour {
@@ -122,20 +123,20 @@ impl Count for FirstFour {
     fn counts_in_nibble() {}
 }
 
-// From so many bytes on, making the planes of the key pays.
+// The shortest text, in bytes, for which making the round keys in planes pays.
 const PLANES_PAY: usize = if WIDE { 193 } else { 97 };
 
-// A run of four blocks pays for more than so many bytes.
+// A run of four blocks pays for texts longer than this many bytes.
 const FOUR_PAY: usize = if WIDE { 32 } else { 48 };
 
-// Once they are made, a run of sixteen blocks pays for more than so many bytes. In the default build, where a plane is
-// two registers, a run of eight blocks does.
+// Once the planes of the key are made, a run of sixteen blocks pays for texts longer than this many bytes. In the default build,
+// where a plane is two registers, a run of eight blocks does.
 const SIXTEEN_PAY: usize = if WIDE { 96 } else { 64 };
 
-// Up to so many bytes, a run of eight blocks and then shorter ones take no longer than one of sixteen.
+// Up to this many bytes, a run of eight blocks and shorter ones after it take no longer than one run of sixteen.
 const EIGHT_PAY: usize = if WIDE { 0 } else { 192 };
 
-// How many of the bytes that are left the next run takes.
+// How many of the remaining bytes the next run masks.
 #[inline(always)]
 fn run_of(left: usize) -> usize
     ensures within { result ≤ left }
@@ -146,12 +147,12 @@ fn run_of(left: usize) -> usize
     left.min(if left > EIGHT_PAY { 256 } else { 128 })
 }
 
-// A stream from its first block on, but for its key: how many blocks were begun, modulo 2^32, and the cipher of
-// the last one with the number of its bytes that were used, 0 if all were.
+// The state of a stream without its key: the first block; how many blocks were begun, modulo 2^32; and the cipher of the last
+// of these, with the number of its bytes that are used, or 0 if all are.
 #[derive(Drop)]
 struct Counter<C> {
     first: Block,
-    begun: u32,
+    block_count: u32,
     mask: Block,
     used: usize,
     way: PhantomData<C>,
@@ -171,14 +172,14 @@ impl<C: Count> Counter<C> {
     {
         Counter {
             first: *first,
-            begun: 0,
+            block_count: 0,
             mask: *first,
             used: 0,
             way: PhantomData,
         }
     }
 
-    // The stream that has made the first `made` bytes.
+    // The stream that has made its first `made` bytes.
     fn at(key: &AesKey, first: &Block, made: u64) -> Counter<C>
         requires { made < 2 ^ 63 }
         ensures { Makes C.up result key.now first.now made }
@@ -191,16 +192,16 @@ impl<C: Count> Counter<C> {
         };
         Counter {
             first: *first,
-            begun: ((made + 15) / 16 % 0x1_0000_0000) as u32,
+            block_count: ((made + 15) / 16 % 0x1_0000_0000) as u32,
             mask,
             used,
             way: PhantomData,
         }
     }
 
-    // XORs in bytes of the block begun.
-    fn go_on(&mut self, bytes: &mut [u8])
-        requires begun { 0 < self.old.used }
+    // XORs in further bytes of the last mask.
+    fn mask_rest(&mut self, bytes: &mut [u8])
+        requires some { 0 < self.old.used }
         requires room { self.old.used + length bytes.old ≤ 16 }
         ensures advances { (key : List ℕ) → Advances C.up key self.old self.new bytes.old bytes.new }
         ensures used { self.new.used ≡ (self.old.used + length bytes.old) % 16 }
@@ -210,19 +211,19 @@ impl<C: Count> Counter<C> {
         self.used = end % 16;
     }
 
-    // XORs in the first bytes of the next blocks, whose ciphers under the key are given. No block is begun.
+    // XORs in the first bytes of the next blocks, whose ciphers are given. Every earlier block is used up.
     #[inline(always)]
-    fn take(&mut self, masks: &[u8], bytes: &mut [u8])
+    fn mask_with(&mut self, masks: &[u8], bytes: &mut [u8])
         requires whole { length masks.now % 16 ≡ 0 }
         requires none { self.old.used ≡ 0 }
         requires room { length bytes.old ≤ length masks.now }
-        ensures advances { (key : List ℕ) → AreMasks C.up key self.old.first self.old.begun masks.now
+        ensures advances { (key : List ℕ) → AreMasks C.up key self.old.first self.old.block_count masks.now
             → Advances C.up key self.old self.new bytes.old bytes.new }
         ensures used { self.new.used ≡ length bytes.old % 16 }
     {
         let count = bytes.len();
         let blocks = ((count + 15) / 16 % 0x1_0000_0000) as u32;
-        self.begun = self.begun.wrapping_add(blocks);
+        self.block_count = self.block_count.wrapping_add(blocks);
         self.used = count % 16;
         if count == masks.len() {
             xor_into(bytes, masks);
@@ -232,39 +233,39 @@ impl<C: Count> Counter<C> {
         }
     }
 
-    // XORs in the first bytes of the next block. No block is begun.
-    fn begin(&mut self, key: &AesKey, bytes: &mut [u8])
+    // XORs in the first bytes of the next block. Every earlier block is used up.
+    fn mask_block(&mut self, key: &AesKey, bytes: &mut [u8])
         requires none { self.old.used ≡ 0 }
         requires room { length bytes.old ≤ 16 }
         ensures advances { Advances C.up key.now self.old self.new bytes.old bytes.new }
         ensures used { self.new.used ≡ length bytes.old % 16 }
     {
-        let mask = key.encrypt(&C::block(&self.first, self.begun));
-        self.take(mask.bytes(), bytes);
+        let mask = key.encrypt(&C::block(&self.first, self.block_count));
+        self.mask_with(mask.bytes(), bytes);
     }
 
-    // The four blocks with the numbers from `begun` on, modulo 2^32.
+    // The next four blocks, before the cipher.
     #[inline(always)]
-    fn four(&self, begun: u32) -> [u8; 64]
-        ensures { (q : ℕ) → q < 4 → block_at result q ≡ C.up self.now.first ((begun + q) % 2 ^ 32) }
+    fn four(&self) -> [u8; 64]
+        ensures { (q : ℕ) → q < 4 → block_at result q ≡ C.up self.now.first ((self.now.block_count + q) % 2 ^ 32) }
     {
-        let first = C::block(&self.first, begun);
-        let second = C::block(&self.first, begun.wrapping_add(1));
-        let third = C::block(&self.first, begun.wrapping_add(2));
-        let fourth = C::block(&self.first, begun.wrapping_add(3));
-        joined(first.bytes(), second.bytes(), third.bytes(), fourth.bytes())
+        let first = C::block(&self.first, self.block_count);
+        let second = C::block(&self.first, self.block_count.wrapping_add(1));
+        let third = C::block(&self.first, self.block_count.wrapping_add(2));
+        let fourth = C::block(&self.first, self.block_count.wrapping_add(3));
+        concat(first.bytes(), second.bytes(), third.bytes(), fourth.bytes())
     }
 
-    // The next sixteen blocks, in planes: all have the bytes of the first one, or of the first one after the
-    // low half of the byte at `LOW` has passed 15, but for that half.
+    // The next sixteen blocks, before the cipher, in planes. Up to the block where the low half of the byte at `LOW` passes 15
+    // they differ only in that half, and so do the blocks from there on: two blocks and a number give all sixteen.
     #[inline(always)]
     fn sixteen(&self) -> Planes
-        ensures planes { HoldsSixteen result (λ q. C.up self.now.first ((self.now.begun + q) % 2 ^ 32)) }
+        ensures planes { HoldsSixteen result (λ q. C.up self.now.first ((self.now.block_count + q) % 2 ^ 32)) }
         ensures each_is_block { (j : ℕ) → IsBlock (C.up self.now.first j) }
     {
         C::counts_in_nibble();
-        let low = u32::from(self.first.bytes()[C::LOW]).wrapping_add(self.begun) % 16;
-        let whole = self.begun.wrapping_sub(low);
+        let low = u32::from(self.first.bytes()[C::LOW]).wrapping_add(self.block_count) % 16;
+        let whole = self.block_count.wrapping_sub(low);
         count_blocks(
             C::block(&self.first, whole).bytes(),
             C::block(&self.first, whole.wrapping_add(16)).bytes(),
@@ -273,22 +274,22 @@ impl<C: Count> Counter<C> {
         )
     }
 
-    // XORs in the first bytes of the next four blocks. No block is begun.
-    fn begin_four(&mut self, key: &AesKey, words: &[[u8; 16]; 15], bytes: &mut [u8])
+    // XORs in the first bytes of the next four blocks. Every earlier block is used up.
+    fn mask_four(&mut self, key: &AesKey, words: &[[u8; 16]; 15], bytes: &mut [u8])
         requires ready { IsReady words.now key.now }
         requires none { self.old.used ≡ 0 }
         requires room { length bytes.old ≤ 64 }
         ensures advances { Advances C.up key.now self.old self.new bytes.old bytes.new }
         ensures used { self.new.used ≡ length bytes.old % 16 }
     {
-        let masks = key.encrypt_ready(words, &self.four(self.begun));
-        self.take(&masks, bytes);
+        let masks = key.encrypt_ready(words, &self.four());
+        self.mask_with(&masks, bytes);
     }
 
-    // XORs in the first bytes of the next eight blocks. No block is begun. A function of its own, since runs of sixteen
-    // take longer beside it.
+    // XORs in the first bytes of the next eight blocks. Every earlier block is used up. It is not inlined, since runs of sixteen
+    // take longer beside its code.
     #[inline(never)]
-    fn begin_eight(&mut self, key: &AesKey, words: &[KeyPlanes; 15], bytes: &mut [u8])
+    fn mask_eight(&mut self, key: &AesKey, words: &[KeyPlanes; 15], bytes: &mut [u8])
         requires ready { AreReady words.now (schedule key.now) (round_count key.now) }
         requires none { self.old.used ≡ 0 }
         requires room { length bytes.old ≤ 128 }
@@ -296,13 +297,13 @@ impl<C: Count> Counter<C> {
         ensures used { self.new.used ≡ length bytes.old % 16 }
     {
         let (a, b) = key.encrypt_eight(words, self.sixteen());
-        self.take([a, b].as_flattened(), bytes);
+        self.mask_with([a, b].as_flattened(), bytes);
     }
 
-    // XORs in the first bytes of the next sixteen blocks. No block is begun. A function of its own, since whole runs
-    // would set aside room for its blocks.
+    // XORs in the first bytes of the next sixteen blocks. Every earlier block is used up. It is not inlined, since whole runs
+    // would reserve stack for its blocks.
     #[inline(never)]
-    fn begin_part(&mut self, key: &AesKey, words: &[KeyPlanes; 15], bytes: &mut [u8])
+    fn mask_part(&mut self, key: &AesKey, words: &[KeyPlanes; 15], bytes: &mut [u8])
         requires ready { AreReady words.now (schedule key.now) (round_count key.now) }
         requires none { self.old.used ≡ 0 }
         requires room { length bytes.old ≤ 256 }
@@ -310,11 +311,11 @@ impl<C: Count> Counter<C> {
         ensures used { self.new.used ≡ length bytes.old % 16 }
     {
         let (a, b, c, d) = key.encrypt_sixteen(words, self.sixteen());
-        self.take([a, b, c, d].as_flattened(), bytes);
+        self.mask_with([a, b, c, d].as_flattened(), bytes);
     }
 
-    // XORs in the first bytes of the next sixteen blocks. No block is begun.
-    fn begin_sixteen(&mut self, key: &AesKey, words: &[KeyPlanes; 15], bytes: &mut [u8])
+    // XORs in the first bytes of the next sixteen blocks. Every earlier block is used up.
+    fn mask_sixteen(&mut self, key: &AesKey, words: &[KeyPlanes; 15], bytes: &mut [u8])
         requires ready { AreReady words.now (schedule key.now) (round_count key.now) }
         requires none { self.old.used ≡ 0 }
         requires room { length bytes.old ≤ 256 }
@@ -322,39 +323,38 @@ impl<C: Count> Counter<C> {
         ensures used { self.new.used ≡ length bytes.old % 16 }
     {
         if !WIDE && bytes.len() <= 128 {
-            self.begin_eight(key, words, bytes);
+            self.mask_eight(key, words, bytes);
             return;
         }
         if bytes.len() < 256 {
-            self.begin_part(key, words, bytes);
+            self.mask_part(key, words, bytes);
             return;
         }
         let (a, b, c, d) = key.encrypt_sixteen(words, self.sixteen());
         // A whole run is XORed from registers, where its length is a constant.
-        self.begun = self.begun.wrapping_add(16);
+        self.block_count = self.block_count.wrapping_add(16);
         xor_fours(&mut bytes[..256], &a, &b, &c, &d);
     }
 
-    // XORs in runs of sixteen blocks, the last one perhaps in part, while they pay, and returns how many bytes were
-    // taken. A function of its own, since its frame would slow down short messages.
+    // XORs in runs of sixteen blocks while they pay, the last one perhaps in part, and returns how many bytes it masked. It is
+    // not inlined, since its frame would slow down short messages.
     #[inline(never)]
     fn apply_sixteens(&mut self, key: &AesKey, bytes: &mut [u8]) -> usize
         requires { self.old.used ≡ 0 }
         ensures { AdvancesFront C.up key.now self.old self.new bytes.old bytes.new result }
     {
-        let mut words = no_planes();
+        let mut words = [[0; 8]; 15];
         key.make_planes(&mut words);
         let mut done = 0;
         'sixteens: while bytes.len() - done > SIXTEEN_PAY {
             let next = run_of(bytes.len() - done);
-            self.begin_sixteen(key, &words, &mut bytes[done..done + next]);
+            self.mask_sixteen(key, &words, &mut bytes[done..done + next]);
             done += next;
         }
         done
     }
 
-    // XORs in runs of four blocks, the last one perhaps in part, while they pay, and returns how many bytes were
-    // taken.
+    // XORs in runs of four blocks while they pay, the last one perhaps in part, and returns how many bytes it masked.
     fn apply_fours(&mut self, key: &AesKey, bytes: &mut [u8]) -> usize
         requires { self.old.used ≡ 0 }
         ensures { AdvancesFront C.up key.now self.old self.new bytes.old bytes.new result }
@@ -366,18 +366,18 @@ impl<C: Count> Counter<C> {
         let mut done = 0;
         'fours: while bytes.len() - done > FOUR_PAY {
             let next = (bytes.len() - done).min(64);
-            self.begin_four(key, &words, &mut bytes[done..done + next]);
+            self.mask_four(key, &words, &mut bytes[done..done + next]);
             done += next;
         }
         done
     }
 
-    // XORs in runs of sixteen and of four blocks, and returns how many bytes were taken.
+    // XORs in runs of sixteen and then of four blocks, and returns how many bytes it masked.
     fn apply_runs(&mut self, key: &AesKey, bytes: &mut [u8]) -> usize
         requires { self.old.used ≡ 0 }
         ensures { AdvancesFront C.up key.now self.old self.new bytes.old bytes.new result }
     {
-        // A short text makes no call: `apply_fours` would take none of it.
+        // A short text makes no call: `apply_fours` would mask none of it.
         if bytes.len() <= FOUR_PAY {
             return 0;
         }
@@ -391,7 +391,7 @@ impl<C: Count> Counter<C> {
         done + self.apply_fours(key, &mut bytes[done..])
     }
 
-    // XORs in runs of blocks and single ones, the last one perhaps in part. No block is begun.
+    // XORs in runs of blocks and then single blocks, the last one perhaps in part. Every earlier block is used up.
     fn apply_blocks(&mut self, key: &AesKey, bytes: &mut [u8])
         requires { self.old.used ≡ 0 }
         ensures { Advances C.up key.now self.old self.new bytes.old bytes.new }
@@ -399,7 +399,7 @@ impl<C: Count> Counter<C> {
         let mut done = self.apply_runs(key, bytes);
         'singles: while done < bytes.len() {
             let next = (bytes.len() - done).min(16);
-            self.begin(key, &mut bytes[done..done + next]);
+            self.mask_block(key, &mut bytes[done..done + next]);
             done += next;
         }
     }
@@ -411,30 +411,31 @@ impl<C: Count> Counter<C> {
         if self.used == 0 {
             self.apply_blocks(key, bytes);
         } else if bytes.len() <= 16 - self.used {
-            self.go_on(bytes);
+            self.mask_rest(bytes);
         } else {
             let left = 16 - self.used;
-            self.go_on(&mut bytes[..left]);
+            self.mask_rest(&mut bytes[..left]);
             self.apply_blocks(key, &mut bytes[left..]);
         }
     }
 }
 
-/// The stream of the ciphers of blocks that count as `C` says, under a key that it keeps or borrows: AES in counter mode.
+/// AES in counter mode: the stream of the ciphers of counter blocks, under a key that it keeps or borrows. `C` says which bytes
+/// of a block are the counter.
 #[derive(Drop)]
 pub struct Ctr<C, K> {
     key: K,
     counter: Counter<C>,
 }
 
-/// The stream of AES-GCM: the ciphers of blocks that count in their last four bytes, most significant byte
-/// first, modulo 2^32 (SP 800-38D, 6.5). In AES-GCM the first block is made of the nonce, and two tags under one nonce also
-/// give away the hash key, with which anyone can forge messages.
+/// The stream of AES-GCM: the ciphers of blocks whose last four bytes count, most significant byte first, modulo 2^32
+/// (SP 800-38D, 6.5). In AES-GCM the first block is made of the nonce, and two tags under one nonce also give away the hash key,
+/// with which anyone can forge messages.
 pub type CtrBe<K> = Ctr<LastFour, K>;
 
-/// The stream of AES-GCM-SIV: the ciphers of blocks that count in their first four bytes, least significant
-/// byte first, modulo 2^32 (RFC 8452, 4). In AES-GCM-SIV the first block is made of the tag: under a repeated nonce it is the
-/// same only if the text and the associated data are the same, and gives away only that.
+/// The stream of AES-GCM-SIV: the ciphers of blocks whose first four bytes count, least significant byte first, modulo 2^32
+/// (RFC 8452, 4). In AES-GCM-SIV the first block is made of the tag: under a repeated nonce it is the same only if the text and
+/// the associated data are the same, and gives away only that.
 pub type CtrLe<K> = Ctr<FirstFour, K>;
 
 impl<C: Count, K: KeptKey> Ctr<C, K> {
@@ -443,8 +444,7 @@ impl<C: Count, K: KeptKey> Ctr<C, K> {
     /// The stream whose first block is the cipher of `first`, under a key that it keeps or borrows.
     ///
     /// No block may be used twice under one key: `first`, and those counted from it, belong to this stream alone. Two texts
-    /// that are XORed with the same part of a stream give away their XOR. What a repeat gives away beside it is said at
-    /// [`CtrBe`] and [`CtrLe`].
+    /// that are XORed with the same part of a stream give away their XOR. [`CtrBe`] and [`CtrLe`] say what else a repeat gives away.
     ///
     /// Not constant time: single blocks go through `AesKey::encrypt`.
     #[inline(always)]

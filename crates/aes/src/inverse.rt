@@ -11,7 +11,7 @@ ghost use Rattle.aes.specs.Columns.{column_of, columns_of, state_of};
 use crate::round_tables::INVERSE_TABLES;
 use crate::sbox::{substitute, unsubstitute};
 
-// The column that the byte y in row 0 adds to the product of its column and the inverse matrix, by x = S(y).
+// What the byte y in row 0 adds to the product of the inverse matrix and its column, where x = S(y).
 #[inline(always)]
 fn inverse_entry(x: u8) -> u32
     ensures { (y : ℕ) → y < 256 → sbox y ≡ x
@@ -20,7 +20,7 @@ fn inverse_entry(x: u8) -> u32
     INVERSE_TABLES[0][x as usize]
 }
 
-// The column that it adds from row 1.
+// What the byte y in row 1 adds to that product.
 #[inline(always)]
 fn inverse_entry_row1(x: u8) -> u32
     ensures { (y : ℕ) → y < 256 → sbox y ≡ x
@@ -29,7 +29,7 @@ fn inverse_entry_row1(x: u8) -> u32
     INVERSE_TABLES[1][x as usize]
 }
 
-// The column that it adds from row 2.
+// What the byte y in row 2 adds to that product.
 #[inline(always)]
 fn inverse_entry_row2(x: u8) -> u32
     ensures { (y : ℕ) → y < 256 → sbox y ≡ x
@@ -38,7 +38,7 @@ fn inverse_entry_row2(x: u8) -> u32
     INVERSE_TABLES[2][x as usize]
 }
 
-// The column that it adds from row 3.
+// What the byte y in row 3 adds to that product.
 #[inline(always)]
 fn inverse_entry_row3(x: u8) -> u32
     ensures { (y : ℕ) → y < 256 → sbox y ≡ x
@@ -47,7 +47,7 @@ fn inverse_entry_row3(x: u8) -> u32
     INVERSE_TABLES[3][x as usize]
 }
 
-// The sum of four entries, each of its row.
+// The sum of four entries, one from the table of each row.
 #[inline(always)]
 fn inverse_sum(row0: u8, row1: u8, row2: u8, row3: u8) -> u32
     ensures { (a b c d : ℕ) → a < 256 → b < 256 → c < 256 → d < 256 → sbox a ≡ row0 → sbox b ≡ row1
@@ -71,7 +71,7 @@ fn unmix_column(column: u32) -> u32
     )
 }
 
-// The words of a schedule, those of the rounds between the first and the last undone by MixColumns (5.3.5).
+// The words of a schedule, where MixColumns is undone in those of the rounds between the first and the last (5.3.5).
 pub(crate) fn unmix_words(words: &[u32; 60], count: usize) -> [u32; 60]
     requires some { 0 < count }
     requires below { count ≤ 14 }
@@ -87,7 +87,7 @@ pub(crate) fn unmix_words(words: &[u32; 60], count: usize) -> [u32; 60]
     unmixed
 }
 
-// A column of the state before, by the words that hold its rows 0 to 3 after SubBytes and ShiftRows.
+// A column of the state before a round, from the words that hold its rows 0 to 3 after SubBytes and ShiftRows.
 #[inline(always)]
 fn inverse_column(a: u32, b: u32, c: u32, d: u32, key: u32) -> u32
     ensures { (p q r s : ℕ) → p < 256 → q < 256 → r < 256 → s < 256

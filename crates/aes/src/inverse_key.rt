@@ -8,8 +8,8 @@ use crate::columns::{add_key, load, round_key, store};
 use crate::inverse::{inverse_round, unsub_rows};
 use octets::Block;
 
-/// A key of AES made ready to decrypt many blocks: the words of the rounds between the first and the last
-/// are those of the schedule undone by MixColumns (FIPS 197, 5.3.5). It is not constant time: see its call.
+/// A key of AES made ready to decrypt many blocks: the schedule, where MixColumns is undone in the words of the rounds between the
+/// first and the last (FIPS 197, 5.3.5). It is not constant time: see its call.
 #[derive(Clone, Copy)]
 pub struct InverseKey {
     words: [u32; 60],

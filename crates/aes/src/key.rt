@@ -13,7 +13,7 @@ ghost use Rattle.aes.specs.Schedule.{schedule, round_count};
 use crate::columns::{add_key, last_round, load, round, round_key, store};
 use crate::inverse::unmix_words;
 use crate::inverse_key::InverseKey;
-use crate::key_planes::{KeyPlanes, ready_planes, unpacked};
+use crate::key_planes::{KeyPlanes, ready_planes, unpack};
 use crate::lanes::{first_four, last_four, ready_keys, round_four, spread};
 use crate::planes::{self, BitPlanes, HalfPlanes, Planes, both_halves, lower, upper};
 use crate::schedule::expand;
@@ -172,14 +172,14 @@ impl AesKey {
         Block::new(store(last_round(state, round_key(&self.words, count))))
     }
 
-    // The words of its rounds made ready for `encrypt_ready`.
+    // The round keys in the basis that `encrypt_ready` uses.
     pub(crate) fn ready(&self) -> [[u8; 16]; 15]
         ensures { IsReady result self.now }
     {
         ready_keys(&self.words, self.size + 6)
     }
 
-    // The ciphers of four blocks, one after the other, by words made ready.
+    // Encrypts four concatenated blocks with the round keys of `ready`.
     pub(crate) fn encrypt_ready(&self, keys: &[[u8; 16]; 15], blocks: &[u8; 64]) -> [u8; 64]
         requires { IsReady keys.now self.now }
         ensures { (q : ℕ) → q < 4 → block_at result q ≡ cipher self.now (block_at blocks.now q) }
@@ -196,7 +196,7 @@ impl AesKey {
         last_four(lanes, spread(round_key(&self.words, count))).to_array()
     }
 
-    /// Returns the ciphers of four blocks, one after the other, each of 16 bytes (FIPS 197, 5.1). No table in memory is looked
+    /// Returns the ciphers of four concatenated blocks, each of 16 bytes (FIPS 197, 5.1). No table in memory is looked
     /// up: its tables of 16 bytes are vectors, as are the bytes that index them.
     pub fn encrypt_four(&self, blocks: &[u8; 64]) -> [u8; 64]
         ensures { (q : ℕ) → q < 4 → block_at result q ≡ cipher self.now (block_at blocks.now q) }
@@ -204,14 +204,14 @@ impl AesKey {
         self.encrypt_ready(&self.ready(), blocks)
     }
 
-    // Makes the words of its rounds in planes of bits, for eight blocks.
+    // Writes the round keys in planes of bits, for eight blocks.
     pub(crate) fn make_planes(&self, keys: &mut [KeyPlanes; 15])
         ensures { AreReady keys.new (schedule self.now) (round_count self.now) }
     {
         ready_planes(keys, &self.words, self.size + 6);
     }
 
-    // The ciphers of eight blocks in half of the planes, in their place, by the words of the rounds in planes.
+    // Encrypts eight blocks in planes, in place. It is a function of its own for both halves of sixteen blocks.
     fn encrypt_half(&self, keys: &[KeyPlanes; 15], planes: &mut HalfPlanes)
         requires { AreReady keys.now (schedule self.now) (round_count self.now) }
         ensures { (f : ℕ → List ℕ) → ((q : ℕ) → IsBlock (f q)) → HoldsEight planes.old f
@@ -219,15 +219,15 @@ impl AesKey {
             (λ l k. slice_index (cipher self.now (f (l / 16 * 8 + k))) (l % 16)) }
     {
         let count = self.size + 6;
-        let mut state = planes.add(unpacked(&keys[0]));
+        let mut state = planes.add(unpack(&keys[0]));
         for done in 0..count - 1 {
-            let next = planes::round(state, unpacked(&keys[done + 1]));
+            let next = planes::round(state, unpack(&keys[done + 1]));
             state = next;
         }
-        *planes = planes::last(state, unpacked(&keys[count]));
+        *planes = planes::last_round(state, unpack(&keys[count]));
     }
 
-    // The ciphers of sixteen blocks in planes, by the words of the rounds in planes.
+    // Encrypts sixteen blocks in planes, all at once.
     #[inline(always)]
     fn encrypt_whole(&self, keys: &[KeyPlanes; 15], start: Planes) -> Planes
         requires { AreReady keys.now (schedule self.now) (round_count self.now) }
@@ -235,16 +235,16 @@ impl AesKey {
             → HoldsBits result (λ l k. slice_index (cipher self.now (f (l / 16 * 8 + k))) (l % 16)) }
     {
         let count = self.size + 6;
-        let mut state = start.add(Planes::repeated(unpacked(&keys[0])));
+        let mut state = start.add(Planes::from_half(unpack(&keys[0])));
         for done in 0..count - 1 {
-            let next = planes::round(state, Planes::repeated(unpacked(&keys[done + 1])));
+            let next = planes::round(state, Planes::from_half(unpack(&keys[done + 1])));
             state = next;
         }
-        planes::last(state, Planes::repeated(unpacked(&keys[count])))
+        planes::last_round(state, Planes::from_half(unpack(&keys[count])))
     }
 
-    // The ciphers of sixteen blocks in planes, by the words of the rounds in planes. Where a plane is two registers,
-    // one half goes after the other: a round needs all registers for eight blocks.
+    // Encrypts sixteen blocks in planes. Where a plane is two registers, one half is encrypted after the other, since a round of
+    // eight blocks needs all registers.
     #[inline(always)]
     pub(crate) fn encrypt_planes(&self, keys: &[KeyPlanes; 15], start: Planes) -> Planes
         requires { AreReady keys.now (schedule self.now) (round_count self.now) }
@@ -261,7 +261,7 @@ impl AesKey {
         both_halves(first, second)
     }
 
-    // The ciphers of sixteen blocks in planes, four in each array, by the words of the rounds in planes.
+    // Returns the ciphers of sixteen blocks in planes, four in each array.
     #[inline(always)]
     pub(crate) fn encrypt_sixteen(
         &self,
@@ -285,8 +285,7 @@ impl AesKey {
         )
     }
 
-    // The ciphers of the first eight of sixteen blocks in planes, four in each array, by the words of the rounds in
-    // planes.
+    // Returns the ciphers of the first eight of sixteen blocks in planes, four in each array.
     #[inline(always)]
     pub(crate) fn encrypt_eight(
         &self,
@@ -302,7 +301,7 @@ impl AesKey {
         let mut half = lower(start);
         self.encrypt_half(keys, &mut half);
         // Nothing uses the other lanes, so LLVM leaves out the steps that store them.
-        let (first, second, _, _) = planes::store(Planes::repeated(half));
+        let (first, second, _, _) = planes::store(Planes::from_half(half));
         (first.to_array(), second.to_array())
     }
 
@@ -323,7 +322,7 @@ impl AesKey {
         self.inverse().decrypt(block)
     }
 
-    // Tells a caller that the key has 16, 24 or 32 bytes. It does nothing.
+    // A law for the caller's proof: the key has 16, 24 or 32 bytes. The call does nothing.
     fn is_key(&self)
         ensures { IsKey self.now }
     {

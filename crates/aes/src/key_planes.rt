@@ -17,7 +17,7 @@ use std::simd::u8x16;
 // bytes in memory, and so a sum takes a plane from there without a load before it; an array of vectors may start anywhere.
 pub(crate) type KeyPlanes = [u128; 8];
 
-// Bit j of each of 16 bytes of key, in all eight bits of its lane.
+// Spreads bit j of each of 16 key bytes to all eight bits of its lane.
 #[inline(always)]
 fn plane(key: u8x16, j: u8) -> u8x16
     requires { j < 8 }
@@ -28,7 +28,7 @@ fn plane(key: u8x16, j: u8) -> u8x16
     u8x16::splat(0) - ((key >> u8x16::splat(j)) & u8x16::splat(1))
 }
 
-// The planes that have 16 bytes of key for each of eight blocks.
+// The planes in which each of eight blocks has these 16 key bytes.
 #[inline(always)]
 pub(crate) fn spread(key: u8x16) -> HalfPlanes
     ensures { HoldsLanes 16 result (λ l k. slice_index key l) }
@@ -45,7 +45,7 @@ pub(crate) fn spread(key: u8x16) -> HalfPlanes
     ]
 }
 
-// The number whose bytes are the lanes, the first one least significant.
+// The number whose bytes are the lanes, the first lane least significant.
 #[inline(always)]
 fn number_of(lanes: u8x16) -> u128
     ensures { to_le_bytes w128 result ≡ lanes }
@@ -53,7 +53,7 @@ fn number_of(lanes: u8x16) -> u128
     u128::from_le_bytes(lanes.to_array())
 }
 
-// The bytes of the number as lanes, the least significant first.
+// The lanes that are the bytes of the number, the least significant first.
 #[inline(always)]
 fn lanes_in(number: u128) -> u8x16
     ensures { result ≡ to_le_bytes w128 number }
@@ -61,9 +61,9 @@ fn lanes_in(number: u128) -> u8x16
     u8x16::from_array(le_bytes(number))
 }
 
-// The planes as numbers.
+// Stores the planes as numbers.
 #[inline(always)]
-fn packed(p: HalfPlanes) -> KeyPlanes
+fn pack(p: HalfPlanes) -> KeyPlanes
     ensures { (g : ℕ → ℕ → ℕ) → HoldsLanes 16 p g → HoldsWords result g }
 {
     [
@@ -78,9 +78,9 @@ fn packed(p: HalfPlanes) -> KeyPlanes
     ]
 }
 
-// The planes whose lanes are the bytes of these numbers.
+// Loads the planes from these numbers.
 #[inline(always)]
-pub(crate) fn unpacked(words: &KeyPlanes) -> HalfPlanes
+pub(crate) fn unpack(words: &KeyPlanes) -> HalfPlanes
     ensures { (g : ℕ → ℕ → ℕ) → HoldsWords words.now g → HoldsLanes 16 result g }
 {
     [
@@ -95,7 +95,7 @@ pub(crate) fn unpacked(words: &KeyPlanes) -> HalfPlanes
     ]
 }
 
-// The 16 bytes of the words of a round.
+// The 16 bytes of a round key.
 #[inline(always)]
 fn key_bytes(words: &[u32; 60], round: usize) -> u8x16
     requires { round < 15 }
@@ -105,15 +105,15 @@ fn key_bytes(words: &[u32; 60], round: usize) -> u8x16
     u8x16::from_array(first_sixteen(spread_four(round_key(words, round))))
 }
 
-// Each byte plus the constant of the S-box.
+// Adds the constant of the S-box to each byte of a round key, since the S-box in planes leaves it out.
 #[inline(always)]
-fn masked(key: u8x16) -> u8x16
+fn with_constant(key: u8x16) -> u8x16
     ensures { (i : ℕ) → i < 16 → slice_index result i ≡ bit_xor (slice_index key i) 0x63 }
 {
     key ^ u8x16::splat(0x63)
 }
 
-// Bytes in the order of a block, put in the order of lanes.
+// Moves bytes from the order of a block to the order of lanes, row by row.
 #[inline(always)]
 pub(crate) fn rows(key: u8x16) -> u8x16
     ensures { (l : ℕ) → l < 16 → slice_index result l ≡ slice_index key (spot l) }
@@ -121,22 +121,15 @@ pub(crate) fn rows(key: u8x16) -> u8x16
     key.swizzle([0, 4, 8, 12, 1, 5, 9, 13, 2, 6, 10, 14, 3, 7, 11, 15])
 }
 
-// Room for the words of each round in planes.
-#[inline(always)]
-pub(crate) fn no_planes() -> [KeyPlanes; 15] {
-    [[0; 8]; 15]
-}
-
-// The words of each round up to the last one, in planes of eight blocks: from the second round key on plus the
-// constant of the S-box, and those of the last round in the order of the bytes of a block. They are made where they
-// stay, since they are 1,920 bytes.
+// Writes the round keys in planes for eight blocks. Every key but the first has the constant of the S-box added, and the last is
+// in the order of the bytes of a block. They are written in place: to return them would copy 1,920 bytes.
 pub(crate) fn ready_planes(keys: &mut [KeyPlanes; 15], words: &[u32; 60], last: usize)
     requires { (0 < last) × (last < 15) }
     ensures { AreReady keys.new (columns_of words.now) last }
 {
-    keys[0] = packed(spread(rows(key_bytes(words, 0))));
+    keys[0] = pack(spread(rows(key_bytes(words, 0))));
     for n in 1..last {
-        keys[n] = packed(spread(rows(masked(key_bytes(words, n)))));
+        keys[n] = pack(spread(rows(with_constant(key_bytes(words, n)))));
     }
-    keys[last] = packed(spread(masked(key_bytes(words, last))));
+    keys[last] = pack(spread(with_constant(key_bytes(words, last))));
 }

@@ -72,21 +72,21 @@ const ROW_SOURCES: [usize; 64] = [
     58, 63, 52, 57, 62, 51, 56, 61, 50, 55, 60, 49, 54, 59,
 ];
 
-// The place one row down in the same column, around the end.
+// The place one row down in the same column; row 0 is below row 3.
 const ROWS_BELOW: [usize; 64] = [
     1, 2, 3, 0, 5, 6, 7, 4, 9, 10, 11, 8, 13, 14, 15, 12, 17, 18, 19, 16, 21, 22, 23, 20, 25, 26,
     27, 24, 29, 30, 31, 28, 33, 34, 35, 32, 37, 38, 39, 36, 41, 42, 43, 40, 45, 46, 47, 44, 49, 50,
     51, 48, 53, 54, 55, 52, 57, 58, 59, 56, 61, 62, 63, 60,
 ];
 
-// The place one row up in the same column, around the end.
+// The place one row up in the same column; row 3 is above row 0.
 const ROWS_ABOVE: [usize; 64] = [
     3, 0, 1, 2, 7, 4, 5, 6, 11, 8, 9, 10, 15, 12, 13, 14, 19, 16, 17, 18, 23, 20, 21, 22, 27, 24,
     25, 26, 31, 28, 29, 30, 35, 32, 33, 34, 39, 36, 37, 38, 43, 40, 41, 42, 47, 44, 45, 46, 51, 48,
     49, 50, 55, 52, 53, 54, 59, 56, 57, 58, 63, 60, 61, 62,
 ];
 
-// Four copies of sixteen bytes.
+// Copies sixteen bytes into each block.
 #[inline(always)]
 fn four_times(bytes: u8x16) -> u8x64
     ensures { HasLanes result (λ i. slice_index bytes (i % 16)) }
@@ -98,7 +98,7 @@ fn four_times(bytes: u8x16) -> u8x64
     ])
 }
 
-// The table at each lane.
+// Looks each lane up in the table.
 #[inline(always)]
 fn look(table: [u8; 16], at: u8x64) -> u8x64
     requires { (k : ℕ) → k < 64 → IsPlace (slice_index at k) }
@@ -123,7 +123,7 @@ fn high_nibbles(x: u8x64) -> u8x64
     x >> u8x64::splat(4)
 }
 
-// The sum of each lane.
+// Adds the lanes.
 #[inline(always)]
 fn sum(x: u8x64, y: u8x64) -> u8x64
     ensures { HasLanes result (λ k. bit_xor (slice_index x k) (slice_index y k)) }
@@ -131,7 +131,7 @@ fn sum(x: u8x64, y: u8x64) -> u8x64
     x ^ y
 }
 
-// Each lane in the basis.
+// Changes each lane to the basis.
 #[inline(always)]
 fn to_basis(x: u8x64) -> u8x64
     ensures { HasLanes result (λ k. in_basis (slice_index x k)) }
@@ -139,7 +139,7 @@ fn to_basis(x: u8x64) -> u8x64
     sum(look(TO_LOW, low_nibbles(x)), look(TO_HIGH, high_nibbles(x)))
 }
 
-// The S-box without its constant, of bytes in the basis: its value, and its value and twice its value in the
+// Applies the S-box without its constant to bytes in the basis. It returns the values, and the values and their doubles in the
 // basis.
 #[inline(always)]
 fn substitute(x: u8x64) -> (u8x64, u8x64, u8x64)
@@ -165,29 +165,29 @@ fn substitute(x: u8x64) -> (u8x64, u8x64, u8x64)
 
 // ShiftRows in each block.
 #[inline(always)]
-fn shifted(x: u8x64) -> u8x64
+fn shift_rows(x: u8x64) -> u8x64
     ensures { HasLanes result (λ i. slice_index x (row_source i)) }
 {
     x.swizzle(ROW_SOURCES)
 }
 
-// Each column moved up by one row, around the end.
+// Moves each column up by one row; row 0 becomes row 3.
 #[inline(always)]
-fn moved_up(x: u8x64) -> u8x64
+fn rows_up(x: u8x64) -> u8x64
     ensures { HasLanes result (λ i. slice_index x (row_below i)) }
 {
     x.swizzle(ROWS_BELOW)
 }
 
-// Each column moved down by one row, around the end.
+// Moves each column down by one row; row 3 becomes row 0.
 #[inline(always)]
-fn moved_down(x: u8x64) -> u8x64
+fn rows_down(x: u8x64) -> u8x64
     ensures { HasLanes result (λ i. slice_index x (row_above i)) }
 {
     x.swizzle(ROWS_ABOVE)
 }
 
-// The four words of a round, for each block.
+// Copies a round key into each block.
 #[inline(always)]
 pub(crate) fn spread(key: [u32; 4]) -> u8x64
     ensures { HasLanes result (key_byte (columns_of key)) }
@@ -195,7 +195,7 @@ pub(crate) fn spread(key: [u32; 4]) -> u8x64
     four_times(u32x4::from_array([key[0], key[1], key[2], key[3]]).to_le_bytes())
 }
 
-// AddRoundKey before the first round, and the change of basis.
+// AddRoundKey before the first round, and then the change of basis.
 #[inline(always)]
 pub(crate) fn first_four(x: u8x64, key: u8x64) -> u8x64
     ensures { (f : ℕ → List ℕ) (ws : List (List ℕ)) → HoldsBlocks x f → HasLanes key (key_byte ws)
@@ -213,7 +213,7 @@ pub(crate) fn first_sixteen(x: u8x64) -> [u8; 16]
     first.to_array()
 }
 
-// The words of the rounds up to the last one in the basis, less the constant of the S-box there.
+// The round keys in the basis, with the constant of the S-box added, which `substitute` leaves out.
 pub(crate) fn ready_keys(words: &[u32; 60], last: usize) -> [[u8; 16]; 15]
     requires { last < 15 }
     ensures { (n i : ℕ) → n ≤ last → i < 16
@@ -227,7 +227,7 @@ pub(crate) fn ready_keys(words: &[u32; 60], last: usize) -> [[u8; 16]; 15]
     keys
 }
 
-// A round but the last in each block (FIPS 197, 5.1), by its key made ready.
+// Any round but the last in each block (FIPS 197, 5.1), with a round key of `ready_keys`.
 #[inline(always)]
 pub(crate) fn round_four(x: u8x64, key: [u8; 16]) -> u8x64
     ensures { (f : ℕ → List ℕ) (ws : List (List ℕ)) → ((q : ℕ) → IsBlock (f q))
@@ -235,19 +235,19 @@ pub(crate) fn round_four(x: u8x64, key: [u8; 16]) -> u8x64
         → ((i : ℕ) → i < 16 → slice_index key i ≡ ready_byte ws 0 i)
         → HoldsInBasis result (λ q. add_round_key ws 0 (mix_columns (shift_rows (sub_bytes (f q))))) }
 {
-    let (_, once, twice) = substitute(shifted(x));
-    let upper = sum(twice, moved_up(once));
-    let lower = sum(moved_up(upper), moved_down(once));
+    let (_, once, twice) = substitute(shift_rows(x));
+    let upper = sum(twice, rows_up(once));
+    let lower = sum(rows_up(upper), rows_down(once));
     sum(sum(upper, lower), four_times(u8x16::from_array(key)))
 }
 
-// The last round in each block, out of the basis.
+// The last round in each block, whose result is no longer in the basis.
 #[inline(always)]
 pub(crate) fn last_four(x: u8x64, key: u8x64) -> u8x64
     ensures { (f : ℕ → List ℕ) (ws : List (List ℕ)) → ((q : ℕ) → IsBlock (f q)) → HoldsInBasis x f
         → HasLanes key (key_byte ws)
         → HoldsBlocks result (λ q. add_round_key ws 0 (shift_rows (sub_bytes (f q)))) }
 {
-    let (plain, _, _) = substitute(shifted(x));
+    let (plain, _, _) = substitute(shift_rows(x));
     sum(plain, sum(key, u8x64::splat(0x63)))
 }

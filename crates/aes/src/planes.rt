@@ -13,9 +13,10 @@ ghost use Rattle.aes.specs.Code.Planes.{HoldsBits, HoldsLanes, IsMask, block_byt
 use std::simd::prelude::*;
 use std::simd::{u8x16, u8x32, u8x64};
 
+// The planes of sixteen blocks.
 pub(crate) type Planes = [u8x32; 8];
 
-// The first 16 lanes of them, which are eight blocks, or the last 16.
+// The planes of eight blocks: the first 16 lanes of `Planes`, or the last 16.
 pub(crate) type HalfPlanes = [u8x16; 8];
 
 // The lane from which ShiftRows brings each lane.
@@ -24,19 +25,19 @@ const SHIFTED: [usize; 32] = [
     24, 25, 31, 28, 29, 30,
 ];
 
-// The lane from which ShiftRows brings each lane, the new lanes in the order of the bytes of a block.
+// The lane from which ShiftRows brings each lane, where the new lanes are in the order of the bytes of a block.
 const SHIFTED_OUT: [usize; 32] = [
     0, 5, 10, 15, 1, 6, 11, 12, 2, 7, 8, 13, 3, 4, 9, 14, 16, 21, 26, 31, 17, 22, 27, 28, 18, 23,
     24, 29, 19, 20, 25, 30,
 ];
 
-// The lane one row down in the same column, around the end.
+// The lane one row down in the same column; row 0 is below row 3.
 const BELOW: [usize; 32] = [
     4, 5, 6, 7, 8, 9, 10, 11, 12, 13, 14, 15, 0, 1, 2, 3, 20, 21, 22, 23, 24, 25, 26, 27, 28, 29,
     30, 31, 16, 17, 18, 19,
 ];
 
-// The lane two rows down in the same column, around the end.
+// The lane two rows down in the same column.
 const TWO_BELOW: [usize; 32] = [
     8, 9, 10, 11, 12, 13, 14, 15, 0, 1, 2, 3, 4, 5, 6, 7, 24, 25, 26, 27, 28, 29, 30, 31, 16, 17,
     18, 19, 20, 21, 22, 23,
@@ -51,34 +52,40 @@ const HALF_BELOW: [usize; 16] = [4, 5, 6, 7, 8, 9, 10, 11, 12, 13, 14, 15, 0, 1,
 
 const HALF_TWO_BELOW: [usize; 16] = [8, 9, 10, 11, 12, 13, 14, 15, 0, 1, 2, 3, 4, 5, 6, 7];
 
-// The first 16 lanes, the other 16, all, and the first 16 twice.
+// The first 16 of 32 lanes.
 const FIRST: [usize; 16] = [0, 1, 2, 3, 4, 5, 6, 7, 8, 9, 10, 11, 12, 13, 14, 15];
 
+// The last 16 of 32 lanes.
 const SECOND: [usize; 16] = [
     16, 17, 18, 19, 20, 21, 22, 23, 24, 25, 26, 27, 28, 29, 30, 31,
 ];
 
+// 16 lanes and the 16 of another vector.
 const ALL: [usize; 32] = [
     0, 1, 2, 3, 4, 5, 6, 7, 8, 9, 10, 11, 12, 13, 14, 15, 16, 17, 18, 19, 20, 21, 22, 23, 24, 25,
     26, 27, 28, 29, 30, 31,
 ];
 
+// The first 16 of 32 lanes, and the first 16 of another vector.
 const FIRST_OF_TWO: [usize; 32] = [
     0, 1, 2, 3, 4, 5, 6, 7, 8, 9, 10, 11, 12, 13, 14, 15, 32, 33, 34, 35, 36, 37, 38, 39, 40, 41,
     42, 43, 44, 45, 46, 47,
 ];
 
+// The last 16 of 32 lanes, and the last 16 of another vector.
 const SECOND_OF_TWO: [usize; 32] = [
     16, 17, 18, 19, 20, 21, 22, 23, 24, 25, 26, 27, 28, 29, 30, 31, 48, 49, 50, 51, 52, 53, 54, 55,
     56, 57, 58, 59, 60, 61, 62, 63,
 ];
 
+// 32 lanes and the 32 of another vector.
 const BOTH: [usize; 64] = [
     0, 1, 2, 3, 4, 5, 6, 7, 8, 9, 10, 11, 12, 13, 14, 15, 16, 17, 18, 19, 20, 21, 22, 23, 24, 25,
     26, 27, 28, 29, 30, 31, 32, 33, 34, 35, 36, 37, 38, 39, 40, 41, 42, 43, 44, 45, 46, 47, 48, 49,
     50, 51, 52, 53, 54, 55, 56, 57, 58, 59, 60, 61, 62, 63,
 ];
 
+// 16 lanes twice.
 const TWICE: [usize; 32] = [
     0, 1, 2, 3, 4, 5, 6, 7, 8, 9, 10, 11, 12, 13, 14, 15, 0, 1, 2, 3, 4, 5, 6, 7, 8, 9, 10, 11, 12,
     13, 14, 15,
@@ -86,7 +93,7 @@ const TWICE: [usize; 32] = [
 
 // The S-box without its constant, on each byte of eight planes: a circuit of 83 XOR gates and 32 AND gates. Of the
 // orders that were tried, this one takes the least time on planes of 16 bytes.
-macro_rules! circuit {
+macro_rules! sbox_circuit {
     ($p:expr) => {{
         let x0 = $p[7];
         let x1 = $p[6];
@@ -215,8 +222,8 @@ macro_rules! circuit {
     }};
 }
 
-// The sums of the lanes of eight planes and eight others.
-macro_rules! sums {
+// XORs eight planes into eight others, which adds the bytes.
+macro_rules! xor_each {
     ($p:expr, $q:expr) => {
         [
             $p[0] ^ $q[0],
@@ -231,8 +238,8 @@ macro_rules! sums {
     };
 }
 
-// The lanes of eight planes, brought from these places.
-macro_rules! brought {
+// Moves the lanes of eight planes: each new lane comes from its place in the list.
+macro_rules! swizzle_each {
     ($p:expr, $places:expr) => {
         [
             $p[0].swizzle($places),
@@ -247,8 +254,8 @@ macro_rules! brought {
     };
 }
 
-// Twice each byte of eight planes.
-macro_rules! doubles {
+// Doubles each byte of eight planes in the field: the bits move up by one plane, and the highest is reduced.
+macro_rules! double_each {
     ($p:expr) => {
         [
             $p[7],
@@ -265,28 +272,28 @@ macro_rules! doubles {
 
 // Eight planes of 16 lanes, or of 32.
 pub(crate) trait BitPlanes: Copy {
-    // How many lanes they have.
+    // How many lanes a plane has.
     ghost count: { ℕ };
 
-    // The planes.
+    // The planes as lists of lanes.
     ghost planes: { Self → List (List ℕ) };
 
-    // Copies these 16 lanes into each half of the planes.
-    fn repeated(half: HalfPlanes) -> Self
+    // The planes whose halves are each a copy of these 16 lanes.
+    fn from_half(half: HalfPlanes) -> Self
         ensures { (g : ℕ → ℕ → ℕ) → HoldsLanes 16 half g → HoldsLanes count (planes result) (λ l k. g (l % 16) k) };
 
-    // The S-box without its constant, on each byte.
+    // Applies the S-box without its constant to each byte. The round keys have the constant.
     fn substitute(self) -> Self
         ensures { (g : ℕ → ℕ → ℕ) → ((l k : ℕ) → g l k < 256) → HoldsLanes count (planes self) g
             → HoldsLanes count (planes result) (λ l k. linear_sbox (g l k)) };
 
-    // The sums of the bytes.
+    // Adds the bytes.
     fn add(self, other: Self) -> Self
         ensures { (g h : ℕ → ℕ → ℕ) → HoldsLanes count (planes self) g → HoldsLanes count (planes other) h
             → HoldsLanes count (planes result) (λ l k. bit_xor (g l k) (h l k)) };
 
-    // Twice each byte.
-    fn doubled(self) -> Self
+    // Doubles each byte in the field.
+    fn double(self) -> Self
         ensures { (g : ℕ → ℕ → ℕ) → ((l k : ℕ) → g l k < 256) → HoldsLanes count (planes self) g
             → HoldsLanes count (planes result) (λ l k. times 2 (g l k)) };
 
@@ -310,7 +317,7 @@ pub(crate) trait BitPlanes: Copy {
         ensures { (g : ℕ → ℕ → ℕ) → HoldsLanes count (planes self) g
             → HoldsLanes count (planes result) (λ l k. g (slice_index TWO_BELOW l) k) };
 
-    // They are 32 at most.
+    // There are 32 lanes at most.
     ghost few: { nat_lt count 33 ≡ true };
 }
 
@@ -322,43 +329,43 @@ impl BitPlanes for Planes {
     ghost few = { refl };
 
     #[inline(always)]
-    fn repeated(half: HalfPlanes) -> Planes {
-        brought!(half, TWICE)
+    fn from_half(half: HalfPlanes) -> Planes {
+        swizzle_each!(half, TWICE)
     }
 
     #[inline(always)]
     fn substitute(self) -> Planes {
-        circuit!(self)
+        sbox_circuit!(self)
     }
 
     #[inline(always)]
     fn add(self, other: Planes) -> Planes {
-        sums!(self, other)
+        xor_each!(self, other)
     }
 
     #[inline(always)]
-    fn doubled(self) -> Planes {
-        doubles!(self)
+    fn double(self) -> Planes {
+        double_each!(self)
     }
 
     #[inline(always)]
     fn shift_rows(self) -> Planes {
-        brought!(self, SHIFTED)
+        swizzle_each!(self, SHIFTED)
     }
 
     #[inline(always)]
     fn shift_out(self) -> Planes {
-        brought!(self, SHIFTED_OUT)
+        swizzle_each!(self, SHIFTED_OUT)
     }
 
     #[inline(always)]
     fn below(self) -> Planes {
-        brought!(self, BELOW)
+        swizzle_each!(self, BELOW)
     }
 
     #[inline(always)]
     fn two_below(self) -> Planes {
-        brought!(self, TWO_BELOW)
+        swizzle_each!(self, TWO_BELOW)
     }
 }
 
@@ -370,43 +377,43 @@ impl BitPlanes for HalfPlanes {
     ghost few = { refl };
 
     #[inline(always)]
-    fn repeated(half: HalfPlanes) -> HalfPlanes {
+    fn from_half(half: HalfPlanes) -> HalfPlanes {
         half
     }
 
     #[inline(always)]
     fn substitute(self) -> HalfPlanes {
-        circuit!(self)
+        sbox_circuit!(self)
     }
 
     #[inline(always)]
     fn add(self, other: HalfPlanes) -> HalfPlanes {
-        sums!(self, other)
+        xor_each!(self, other)
     }
 
     #[inline(always)]
-    fn doubled(self) -> HalfPlanes {
-        doubles!(self)
+    fn double(self) -> HalfPlanes {
+        double_each!(self)
     }
 
     #[inline(always)]
     fn shift_rows(self) -> HalfPlanes {
-        brought!(self, HALF_SHIFTED)
+        swizzle_each!(self, HALF_SHIFTED)
     }
 
     #[inline(always)]
     fn shift_out(self) -> HalfPlanes {
-        brought!(self, HALF_SHIFTED_OUT)
+        swizzle_each!(self, HALF_SHIFTED_OUT)
     }
 
     #[inline(always)]
     fn below(self) -> HalfPlanes {
-        brought!(self, HALF_BELOW)
+        swizzle_each!(self, HALF_BELOW)
     }
 
     #[inline(always)]
     fn two_below(self) -> HalfPlanes {
-        brought!(self, HALF_TWO_BELOW)
+        swizzle_each!(self, HALF_TWO_BELOW)
     }
 }
 
@@ -415,7 +422,7 @@ impl BitPlanes for HalfPlanes {
 pub(crate) fn lower(p: Planes) -> HalfPlanes
     ensures { (g : ℕ → ℕ → ℕ) → HoldsBits p g → HoldsLanes 16 result g }
 {
-    brought!(p, FIRST)
+    swizzle_each!(p, FIRST)
 }
 
 // The last 16 lanes.
@@ -423,7 +430,7 @@ pub(crate) fn lower(p: Planes) -> HalfPlanes
 pub(crate) fn upper(p: Planes) -> HalfPlanes
     ensures { (g : ℕ → ℕ → ℕ) → HoldsBits p g → HoldsLanes 16 result (λ l k. g (16 + l) k) }
 {
-    brought!(p, SECOND)
+    swizzle_each!(p, SECOND)
 }
 
 // The 16 lanes of `p`, then the 16 of `q`.
@@ -445,7 +452,7 @@ pub(crate) fn both_halves(p: HalfPlanes, q: HalfPlanes) -> Planes
 
 // MixColumns.
 #[inline(always)]
-fn mix<P: BitPlanes>(p: P) -> P
+fn mix_columns<P: BitPlanes>(p: P) -> P
     ensures { (g : ℕ → ℕ → ℕ) → ((l k : ℕ) → g l k < 256) → HoldsLanes P.count (P.planes p) g
         → HoldsLanes P.count (P.planes result) (λ l k. bit_xor
         (bit_xor (g (slice_index BELOW l) k)
@@ -454,10 +461,10 @@ fn mix<P: BitPlanes>(p: P) -> P
 {
     let next = p.below();
     let both = p.add(next);
-    next.add(both.two_below()).add(both.doubled())
+    next.add(both.two_below()).add(both.double())
 }
 
-// A round before the last (FIPS 197, 5.1). The constant of the S-box is in the key.
+// Any round but the last (FIPS 197, 5.1). The constant of the S-box is in the key.
 #[inline(always)]
 pub(crate) fn round<P: BitPlanes>(x: P, key: P) -> P
     ensures { (f : ℕ → List ℕ) (ws : List (List ℕ)) → ((q : ℕ) → IsBlock (f q))
@@ -466,12 +473,12 @@ pub(crate) fn round<P: BitPlanes>(x: P, key: P) -> P
         → HoldsLanes P.count (P.planes result)
         (block_byte (λ q. add_round_key ws 0 (mix_columns (shift_rows (sub_bytes (f q)))))) }
 {
-    mix(x.shift_rows().substitute()).add(key)
+    mix_columns(x.shift_rows().substitute()).add(key)
 }
 
-// The last round (FIPS 197, 5.1), to lanes in the order of the bytes of a block.
+// The last round (FIPS 197, 5.1), which leaves the lanes in the order of the bytes of a block.
 #[inline(always)]
-pub(crate) fn last<P: BitPlanes>(x: P, key: P) -> P
+pub(crate) fn last_round<P: BitPlanes>(x: P, key: P) -> P
     ensures { (f : ℕ → List ℕ) (ws : List (List ℕ)) → ((q : ℕ) → IsBlock (f q))
         → HoldsLanes P.count (P.planes x) (block_byte f)
         → HoldsLanes P.count (P.planes key) (λ l k. bit_xor (key_byte ws (l % 16)) 0x63)
@@ -481,8 +488,9 @@ pub(crate) fn last<P: BitPlanes>(x: P, key: P) -> P
     x.shift_out().substitute().add(key)
 }
 
-// Exchanges bits between two planes whose numbers differ by `by`: the bits of x at places with the digit of weight
-// `by` go down into y by as many places, and those of y at places without it, which are those of the mask, go up into x.
+// Exchanges bits between two planes whose numbers differ by `by`, which is 1, 2 or 4. A bit of x whose place has the binary digit
+// of weight `by` goes down by `by` places into y, and a bit of y whose place lacks it goes up into x. The mask has these places
+// of y.
 #[inline(always)]
 fn exchange(x: u8x32, y: u8x32, by: u8, mask: u8) -> (u8x32, u8x32)
     requires { IsMask by mask }
@@ -496,7 +504,7 @@ fn exchange(x: u8x32, y: u8x32, by: u8, mask: u8) -> (u8x32, u8x32)
     (x ^ (moved << u8x32::splat(by)), y ^ moved)
 }
 
-// The transpose of the bits of each lane: bit k of plane j becomes bit j of plane k.
+// Transposes the bits of each lane: bit k of plane j becomes bit j of plane k.
 #[inline(always)]
 fn transpose(p: Planes) -> Planes
     ensures { HoldsBits result (λ l k. slice_index (slice_index_or p k []) l) }
@@ -516,7 +524,7 @@ fn transpose(p: Planes) -> Planes
     [c0, c1, c2, c3, c4, c5, c6, c7]
 }
 
-// The first halves of four planes after one another, and the second halves.
+// The first halves of four planes, concatenated, and their second halves.
 #[inline(always)]
 fn halves(a: u8x32, b: u8x32, c: u8x32, d: u8x32) -> (u8x64, u8x64)
     ensures { (f : ℕ → List ℕ) → ((q : ℕ) → IsBlock (f q)) → HasByteBits a f 0 → HasByteBits b f 1
@@ -530,7 +538,7 @@ fn halves(a: u8x32, b: u8x32, c: u8x32, d: u8x32) -> (u8x64, u8x64)
     (first.shuffle(second, BOTH), third.shuffle(fourth, BOTH))
 }
 
-// Four runs of four blocks, from planes whose lanes are in the order of the bytes of a block.
+// Returns sixteen blocks, in fours, from planes whose lanes are in the order of the bytes of a block.
 #[inline(always)]
 pub(crate) fn store(p: Planes) -> (u8x64, u8x64, u8x64, u8x64)
     ensures { (f : ℕ → List ℕ) → ((q : ℕ) → IsBlock (f q))

@@ -2,7 +2,7 @@
 
 ghost use Rattle.std.specs.Prelude.{◌≡◌, ℕ, ◌+◌, ◌*◌, ◌^◌, ◌≤◌, ◌/◌, ◌<◌, length, take, drop, slice_index};
 ghost use Rattle.aes.specs.Columns.{column_of, columns_of};
-ghost use Rattle.aes.specs.Schedule.{xor_word, sub_word, rot_word, rcon, changed, MeetsRecurrence};
+ghost use Rattle.aes.specs.Schedule.{xor_word, sub_word, rot_word, rcon, temp, MeetsRecurrence};
 ghost use Rattle.aes.specs.KeptWords.{table};
 ghost use Rattle.aes.specs.Code.ExpandedKey.{IsKeySize};
 
@@ -18,14 +18,14 @@ fn sub_word(w: u32) -> u32
     u32::from_le_bytes([substitute(a), substitute(b), substitute(c), substitute(d)])
 }
 
-// RotWord: the rows move up by one, around the end.
+// RotWord: (a, b, c, d) becomes (b, c, d, a).
 fn rot_word(w: u32) -> u32
     ensures { column_of result ≡ rot_word (column_of w) }
 {
     w.rotate_left(24)
 }
 
-// The first bytes of the round constants, from 1 on (5.2).
+// The first byte of each round constant; they are numbered from 1 (5.2).
 const RCON: [u8; 11] = [
     0, 0x01, 0x02, 0x04, 0x08, 0x10, 0x20, 0x40, 0x80, 0x1b, 0x36,
 ];
@@ -40,13 +40,13 @@ fn rcon(j: usize) -> u32
     u32::from_le_bytes([RCON[j], 0, 0, 0])
 }
 
-// Word i of the schedule of a key of nk words, by the word nk places back and the word before.
+// Word i of the schedule of a key of nk words, from the word nk places back and the previous word.
 #[inline(always)]
 fn next_word(nk: usize, i: usize, back: u32, previous: u32) -> u32
     requires some { 0 < nk }
     requires from { nk ≤ i }
     requires below { i / nk < 11 }
-    ensures { column_of result ≡ xor_word (column_of back) (changed nk i (column_of previous)) }
+    ensures { column_of result ≡ xor_word (column_of back) (temp nk i (column_of previous)) }
 {
     if i % nk == 0 {
         back ^ (sub_word(rot_word(previous)) ^ rcon(i / nk))
@@ -66,8 +66,8 @@ fn key_word(key: &[u8], i: usize) -> u32
     LittleEndian::read_u32(&key[4 * i..])
 }
 
-// The schedule of a key of nk words, and zero words after it. Where nk is a constant of the caller, nothing
-// is divided.
+// The schedule of a key of nk words, and zero words after it. It is inlined, so that the caller's constant nk leaves no
+// divisions.
 #[inline(always)]
 fn expand_by(key: &[u8], nk: usize) -> [u32; 60]
     requires size { IsKeySize nk }
@@ -85,7 +85,7 @@ fn expand_by(key: &[u8], nk: usize) -> [u32; 60]
     words
 }
 
-// The schedule of a key, with code of its own for each size of key.
+// The schedule of a key of nk words, and zero words after it. Each size of key has its own code, without divisions.
 pub(crate) fn expand(key: &[u8], nk: usize) -> [u32; 60]
     requires size { IsKeySize nk }
     requires long { length key.now ≡ 4 * nk }

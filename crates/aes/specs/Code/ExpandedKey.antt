@@ -1,4 +1,4 @@
--- The code's form of a key: the schedule as sixty words of 32 bits. No definition of the standard.
+-- The code's form of a key: the schedule as sixty words of 32 bits. The standard does not define it.
 use Rattle.std.specs.Prelude.{◌≡◌, ℕ, ◌*◌, ◌/◌, ◌^◌, ◌<◌, List, [], ◌∷◌, map, take, length, get_or}
 use Rattle.std.specs.Prelude.{flat_map, ◌⊎◌}
 use Rattle.std.specs.Int.{w32}
@@ -51,6 +51,6 @@ fields_of-key_of a x =
     let fields : List ℕ → ℕ → Inside = λ words size. record { words = words; size = size } in
     ap₂ fields (ap (map le) (sym x.columns_are) ∙ le_columns_of a.words x.words) size
 
--- the bytes of a key that is no reference
+-- the bytes of a key that is not a reference
 abbrev pub own_key : List ℕ → List ℕ
 own_key key = key

@@ -5,8 +5,7 @@ use Rattle.aes.specs.Schedule.{word}
 use Rattle.aes.specs.Cipher.{mix_column, IsKey}
 use Rattle.aes.specs.declared.inverse_key.InverseKey.{InverseKey}
 
--- the words of s are those of the key's schedule, but MixColumns takes those between the first and the last
--- round to them
+-- the words of s are those of the key's schedule, except that MixColumns is undone in the rounds between the first and the last
 pub record IsInverse (s : InverseKey) (key : List ℕ) : Type 0 where
   pub is_key : IsKey key
   pub size_is : length key ≡ 4 * s.size

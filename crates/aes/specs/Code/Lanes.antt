@@ -30,7 +30,7 @@ key_byte ws i = slice_index (slice_index_or ws (i % 16 / 4) []) (i % 16 % 4)
 abbrev pub row_source : ℕ → ℕ
 row_source i = i / 16 * 16 + (i % 4 + 4 * ((i % 16 / 4 + i % 4) % 4))
 
--- the place one row down in the same column, around the end
+-- the place one row down in the same column; row 0 is below row 3
 abbrev pub row_below : ℕ → ℕ
 row_below i = i / 4 * 4 + (i + 1) % 4
 
@@ -42,11 +42,11 @@ row_above i = i / 4 * 4 + (i + 3) % 4
 unfoldable pub in_basis : ℕ → ℕ
 in_basis x = bit_xor (slice_index TO_LOW (x % 16)) (slice_index TO_HIGH (x / 16))
 
--- byte i of the words of round n, in that basis and less the constant of the S-box there
+-- byte i of the round key n, in that basis and plus the constant of the S-box there
 abbrev pub ready_byte : List (List ℕ) → ℕ → ℕ → ℕ
 ready_byte ws n i = bit_xor (in_basis (slice_index (slice_index_or ws (4 * n + i / 4) []) (i % 4))) 0x7c
 
--- the keys are those of the rounds of a cipher, so made ready
+-- the keys are the round keys of a cipher in that basis
 pub record IsReady (keys : List (List ℕ)) (key : List ℕ) : Type 0 where
   pub each : (n i : ℕ) → n ≤ round_count key → i < 16
       → slice_index (slice_index_or keys n []) i ≡ ready_byte (schedule key) n i

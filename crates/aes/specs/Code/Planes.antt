@@ -37,15 +37,15 @@ HoldsSixteen p f = HoldsBits p (block_byte f)
 abbrev pub HoldsEight : List (List ℕ) → (ℕ → List ℕ) → Type 0
 HoldsEight p f = HoldsLanes 16 p (block_byte f)
 
--- byte i of the words of round n
+-- byte i of the round key n
 abbrev pub word_byte : List (List ℕ) → ℕ → ℕ → ℕ
 word_byte ws n i = slice_index (slice_index_or ws (4 * n + i / 4) []) (i % 4)
 
--- byte i of the words of round n, plus the constant of the S-box
+-- byte i of the round key n, plus the constant of the S-box
 abbrev pub masked_byte : List (List ℕ) → ℕ → ℕ → ℕ
 masked_byte ws n i = bit_xor (word_byte ws n i) 0x63
 
--- the keys are the words of the rounds up to the last one, in planes of eight blocks
+-- the keys are the round keys up to the last one, in planes of eight blocks
 pub record AreReady (keys : List (List ℕ)) (ws : List (List ℕ)) (last : ℕ) : Type 0 where
   pub first : HoldsWords (slice_index_or keys 0 []) (λ l k. word_byte ws 0 (spot l))
   pub middle : (n : ℕ) → 0 < n → n < last → HoldsWords (slice_index_or keys n []) (λ l k. masked_byte ws n (spot l))
@@ -56,11 +56,11 @@ abbrev pub HasByteBits : List ℕ → (ℕ → List ℕ) → ℕ → Type 0
 HasByteBits v f q = (l k : ℕ) → l < 32 → k < 8
     → bit_at (slice_index v l) k ≡ bit_at (slice_index (f (l / 16 * 8 + q)) (l % 16)) k
 
--- m has a bit at each place below 8 without the digit of weight n
+-- the bits of m are at the places below 8 that lack the binary digit of weight n
 abbrev pub IsMask : ℕ → ℕ → Type 0
 IsMask n m = (n ≡ 1) × (m ≡ 0x55) ⊎ ((n ≡ 2) × (m ≡ 0x33) ⊎ (n ≡ 4) × (m ≡ 0x0f))
 
 -- the masks are the ciphers of the blocks that `up` counts from a number on, modulo 2^32
 abbrev pub AreMasks : (List ℕ → ℕ → List ℕ) → List ℕ → List ℕ → ℕ → List ℕ → Type 0
-AreMasks up key first begun masks = (q : ℕ) → q * 16 < length masks
-    → block_at masks q ≡ cipher key (up first ((begun + q) % 2 ^ 32))
+AreMasks up key first number masks = (q : ℕ) → q * 16 < length masks
+    → block_at masks q ≡ cipher key (up first ((number + q) % 2 ^ 32))

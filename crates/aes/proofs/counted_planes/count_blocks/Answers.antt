@@ -18,14 +18,14 @@ returns c = λ f same.
     let hx : length x ≡ 16 = search rules in
     let hy : length y ≡ 16 = search rules in
     let first : ℕ = c.args.first in
-    let m : List ℕ = c.by_blocks.result in
+    let m : List ℕ = c.block_bits.result in
     let apart : ℕ → ℕ → ℕ = λ (l k : ℕ). get_or (zip2 bit_xor x y) (l % 16) 0 in
     let number : ℕ → ℕ → ℕ = λ (l k : ℕ). cond (spot l == c.args.place) ((first + (l / 16 * 8 + k)) % 16) 0 in
     same_bytes c.add-2.result
     (c.add-2.ensures (λ l k. bit_xor (get_or x (l % 16) 0) (bit_at (get_or m l 0) k * apart l k)) number
     (c.add.ensures (λ l k. get_or x (l % 16) 0) (λ l k. bit_at (get_or m l 0) k * apart l k)
-    (c.repeated.ensures (λ l k. get_or x l 0) c.spread-2.ensures)
-    (c.marked-change.ensures apart (c.repeated-apart.ensures (λ l k. get_or (zip2 bit_xor x y) l 0) c.spread.ensures)))
+    (c.from_half.ensures (λ l k. get_or x l 0) c.spread-2.ensures)
+    (c.select-change.ensures apart (c.from_half-apart.ensures (λ l k. get_or (zip2 bit_xor x y) l 0) c.spread.ensures)))
     c.numbers.ensures)
     (λ l k hl hk.
     let q : ℕ = l / 16 * 8 + k in
@@ -38,5 +38,5 @@ returns c = λ f same.
     (get_or-zip2 bit_xor x y j 0 0 0 (omega arith) (omega arith))
     ∙ counted_byte a b first q (get_or x j 0) (get_or y j 0) (bit_at (get_or m l 0) k) (number l k) i c.requires.0 hq
     (c.rows-before.ensures j hj ∙ ap (λ (p : ℕ). get_or a p 0) (spot_half l))
-    (c.rows-after.ensures j hj ∙ ap (λ (p : ℕ). get_or b p 0) (spot_half l)) (c.by_blocks.ensures.bits l k hl hk)
+    (c.rows-after.ensures j hj ∙ ap (λ (p : ℕ). get_or b p 0) (spot_half l)) (c.block_bits.ensures.bits l k hl hk)
     ∙ sym (same q i hq hi))

@@ -12,8 +12,8 @@ loop-n-init c =
     record {
       size = search rules;
       first = subst (λ p. HoldsWords p (λ l k. word_byte ws 0 (spot l)))
-          (sym (get_or-set_same c.args.keys.now 0 c.packed.result [] (search rules)))
-          (c.packed.ensures (λ l k. word_byte ws 0 (spot l)) (first_key c.spread.result c.rows.result c.key_bytes.result ws c.spread.ensures c.rows.ensures
+          (sym (get_or-set_same c.args.keys.now 0 c.pack.result [] (search rules)))
+          (c.pack.ensures (λ l k. word_byte ws 0 (spot l)) (first_key c.spread.result c.rows.result c.key_bytes.result ws c.spread.ensures c.rows.ensures
           c.key_bytes.ensures.bytes));
       middle = λ n h l. absurd (omega arith);
     }
@@ -23,10 +23,10 @@ loop-n-preserved c =
     let ws = columns_of c.args.words.now in
     let n = c.loop-n.n in
     let ks = c.loop-n.keys in
-    let v = c.packed-in-loop-n.result in
-    let made = c.packed-in-loop-n.ensures (λ l k. masked_byte ws n (spot l))
-    (middle_key c.spread-in-loop-n.result c.rows-in-loop-n.result c.masked.result c.key_bytes-in-loop-n.result ws n
-    c.spread-in-loop-n.ensures c.rows-in-loop-n.ensures c.masked.ensures c.key_bytes-in-loop-n.ensures.bytes) in
+    let v = c.pack-in-loop-n.result in
+    let made = c.pack-in-loop-n.ensures (λ l k. masked_byte ws n (spot l))
+    (middle_key c.spread-in-loop-n.result c.rows-in-loop-n.result c.with_constant.result c.key_bytes-in-loop-n.result ws n
+    c.spread-in-loop-n.ensures c.rows-in-loop-n.ensures c.with_constant.ensures c.key_bytes-in-loop-n.ensures.bytes) in
     record {
       size = search rules;
       first = subst (λ p. HoldsWords p (λ l k. word_byte ws 0 (spot l)))
@@ -44,7 +44,7 @@ returns c =
     let ws = columns_of c.args.words.now in
     let n = c.args.last in
     let ks = c.loop-n.keys in
-    let v = c.packed-2.result in
+    let v = c.pack-2.result in
     record {
       first = subst (λ p. HoldsWords p (λ l k. word_byte ws 0 (spot l)))
           (sym (get_or-set_other ks n 0 v [] (omega arith))) c.loop-n.invariant.first;
@@ -52,7 +52,7 @@ returns c =
           (sym (get_or-set_other ks n m v [] (omega arith))) (c.loop-n.invariant.middle m h (omega arith));
       final = subst (λ p. HoldsWords p (λ l k. masked_byte ws n l))
           (sym (get_or-set_same ks n v [] (omega arith)))
-          (c.packed-2.ensures (λ l k. masked_byte ws n l)
-          (last_key c.spread-2.result c.masked-2.result c.key_bytes-2.result ws n
-          c.spread-2.ensures c.masked-2.ensures c.key_bytes-2.ensures.bytes));
+          (c.pack-2.ensures (λ l k. masked_byte ws n l)
+          (last_key c.spread-2.result c.with_constant-2.result c.key_bytes-2.result ws n
+          c.spread-2.ensures c.with_constant-2.ensures c.key_bytes-2.ensures.bytes));
     }

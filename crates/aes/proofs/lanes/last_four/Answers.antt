@@ -7,7 +7,7 @@ use Rattle.aes.proofs.lanes.last_four.Goals as goal
 pub returns : goal.returns
 returns c = λ f ws blocks held key.
     let s : ℕ → ℕ = λ i. byte_of f (row_source i) in
-    let shifted = source_lanes (λ i. in_basis (byte_of f i)) c.shifted.result c.args.x c.shifted.ensures held
+    let shifted = source_lanes (λ i. in_basis (byte_of f i)) c.shift_rows.result c.args.x c.shift_rows.ensures held
     in
     let made = c.substitute.ensures s (λ k l. (blocks (row_source k / 16)).bytes (row_source k % 16)) shifted
     in

@@ -14,7 +14,7 @@ returns g c = λ f ws blocks held key.
     let shifted = c.shift_rows.ensures (block_byte f) held in
     let made = c.substitute.ensures (λ l k. block_byte f (get_or SHIFTED l 0) k)
     (λ l k. small (get_or SHIFTED l 0) k) shifted in
-    let mixed = c.mix.ensures (brought f)
+    let mixed = c.mix_columns.ensures (brought f)
     (λ l k. linear_small (block_byte f (get_or SHIFTED l 0) k) (small (get_or SHIFTED l 0) k)) made in
     same_bytes (g.P.BitPlanes.planes c.add.result)
     (c.add.ensures (λ l k. bit_xor

@@ -1,6 +1,6 @@
 use Rattle.std.proofs.Common.{◌≡◌, ℕ, ◌-◌, List, sym, ap₂, ◌∙◌, arith, rules}
 use Rattle.std.proofs.lemmas.List.{get_or-replicate}
-use Rattle.aes.specs.Schedule.{xor_word, key_words, changed}
+use Rattle.aes.specs.Schedule.{xor_word, key_words, temp}
 use Rattle.aes.proofs.Words.{word, word_start, word_rest, one_more_word, others_stay, small_words}
 use Rattle.aes.proofs.Words.{zero_words, is_table}
 use Rattle.aes.proofs.schedule.expand_by.Goals as goal
@@ -32,13 +32,13 @@ rest-preserved c =
     let i = c.rest.i in
     let nk = c.args.nk in
     let size : key_words key ≡ nk = omega arith in
-    let step : word key i ≡ xor_word (word key (i - nk)) (changed nk i (word key (i - 1))) =
+    let step : word key i ≡ xor_word (word key (i - nk)) (temp nk i (word key (i - 1))) =
     rw size at (word_rest key i (omega arith) (omega arith)) in
     record {
       size = search rules;
       made = one_more_word (word key) c.rest.words i c.next_word.result (omega arith) c.rest.invariant.made
           (c.next_word.ensures
-          ∙ ap₂ (λ (v w : List ℕ). xor_word v (changed nk i w))
+          ∙ ap₂ (λ (v w : List ℕ). xor_word v (temp nk i w))
           (c.rest.invariant.made (i - nk) (omega arith)) (c.rest.invariant.made (i - 1) (omega arith))
           ∙ sym step);
       after = others_stay c.rest.words i c.next_word.result c.rest.invariant.after;

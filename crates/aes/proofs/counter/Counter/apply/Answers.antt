@@ -7,10 +7,10 @@ pub returns-else-bytes-self : goal.returns-else-bytes-self
 returns-else-bytes-self g c =
     let was = c.args.bytes.now in
     let h : ℕ = 16 - c.args.self.now.used in
-    let begun = c.go_on-else-bytes-self.new.bytes in
+    let begun = c.mask_rest-else-bytes-self.new.bytes in
     let within : h ≤ length was = omega (arith, c.if-bytes-self.false) in
-    let size : length begun ≡ h = c.go_on-else-bytes-self.auto.bytes ∙ length-take-le h was within in
-    advances_two g.C.Count.up c.args.key.now c.args.self.now c.go_on-else-bytes-self.new.self
+    let size : length begun ≡ h = c.mask_rest-else-bytes-self.auto.bytes ∙ length-take-le h was within in
+    advances_two g.C.Count.up c.args.key.now c.args.self.now c.mask_rest-else-bytes-self.new.self
     c.apply_blocks-else-bytes-self.new.self was begun
     c.apply_blocks-else-bytes-self.new.bytes h within size c.apply_blocks-else-bytes-self.auto.bytes
-    (c.go_on-else-bytes-self.ensures.advances c.args.key.now) c.apply_blocks-else-bytes-self.ensures
+    (c.mask_rest-else-bytes-self.ensures.advances c.args.key.now) c.apply_blocks-else-bytes-self.ensures

@@ -16,9 +16,9 @@ singles-preserved g c =
     let room : a + k ≤ length mid = omega (arith, within, c.min-next.ensures) in
     let part : length (take k (drop a mid)) ≡ k =
     length-take-le k (drop a mid) (omega (arith, room, length-drop a mid)) in
-    front_more g.C.Count.up c.args.key.now c.args.self.now c.singles.self c.begin.new.self c.args.bytes.now mid c.begin.new.bytes a k
-    (a + c.min-next.result) same c.singles.invariant room (omega arith) (c.begin.auto.bytes ∙ part) c.begin.ensures.advances
-    (λ l. omega (arith, l, part, within, c.min-next.ensures, c.begin.ensures.used))
+    front_more g.C.Count.up c.args.key.now c.args.self.now c.singles.self c.mask_block.new.self c.args.bytes.now mid c.mask_block.new.bytes a k
+    (a + c.min-next.result) same c.singles.invariant room (omega arith) (c.mask_block.auto.bytes ∙ part) c.mask_block.ensures.advances
+    (λ l. omega (arith, l, part, within, c.min-next.ensures, c.mask_block.ensures.used))
 
 pub returns : goal.returns
 returns g c =

@@ -16,10 +16,10 @@ fours-preserved g c =
     let room : a + k ≤ length mid = omega (arith, within, c.min-next.ensures) in
     let part : length (take k (drop a mid)) ≡ k =
     length-take-le k (drop a mid) (omega (arith, room, length-drop a mid)) in
-    front_more g.C.Count.up c.args.key.now c.args.self.now c.fours.self c.begin_four.new.self c.args.bytes.now mid
-    c.begin_four.new.bytes a k (a + c.min-next.result) same c.fours.invariant room (omega arith)
-    (c.begin_four.auto.bytes ∙ part) c.begin_four.ensures.advances
-    (λ l. omega (arith, l, part, within, c.min-next.ensures, c.begin_four.ensures.used))
+    front_more g.C.Count.up c.args.key.now c.args.self.now c.fours.self c.mask_four.new.self c.args.bytes.now mid
+    c.mask_four.new.bytes a k (a + c.min-next.result) same c.fours.invariant room (omega arith)
+    (c.mask_four.auto.bytes ∙ part) c.mask_four.ensures.advances
+    (λ l. omega (arith, l, part, within, c.min-next.ensures, c.mask_four.ensures.used))
 
 pub returns-then-bytes-le-FOUR_PAY : goal.returns-then-bytes-le-FOUR_PAY
 returns-then-bytes-le-FOUR_PAY g c = front_none g.C.Count.up c.args.key.now c.args.self.now c.args.bytes.now c.requires

@@ -16,7 +16,7 @@ sixteens-preserved g c =
     let room : a + k ≤ length mid = omega (arith, within, c.run_of-next.ensures.within) in
     let part : length (take k (drop a mid)) ≡ k =
     length-take-le k (drop a mid) (omega (arith, room, length-drop a mid)) in
-    front_more g.C.Count.up c.args.key.now c.args.self.now c.sixteens.self c.begin_sixteen.new.self c.args.bytes.now mid
-    c.begin_sixteen.new.bytes a k (a + c.run_of-next.result) same c.sixteens.invariant room (omega arith)
-    (c.begin_sixteen.auto.bytes ∙ part) c.begin_sixteen.ensures.advances
-    (λ l. omega (arith, l, part, within, c.run_of-next.ensures.whole (omega (arith, l, within)), c.begin_sixteen.ensures.used))
+    front_more g.C.Count.up c.args.key.now c.args.self.now c.sixteens.self c.mask_sixteen.new.self c.args.bytes.now mid
+    c.mask_sixteen.new.bytes a k (a + c.run_of-next.result) same c.sixteens.invariant room (omega arith)
+    (c.mask_sixteen.auto.bytes ∙ part) c.mask_sixteen.ensures.advances
+    (λ l. omega (arith, l, part, within, c.run_of-next.ensures.whole (omega (arith, l, within)), c.mask_sixteen.ensures.used))

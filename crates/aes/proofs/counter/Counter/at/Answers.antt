@@ -9,7 +9,7 @@ none n l e = omega (arith, l, e)
 pub returns : goal.returns
 returns g c = record {
   first_is = refl;
-  begun_is = refl;
+  block_count_is = refl;
   used_is = refl;
   mask_is = λ some.
       let first = c.args.first.now in

@@ -5,15 +5,15 @@ use Rattle.aes.proofs.counter.Counter.four.Goals as goal
 pub returns : goal.returns
 returns g c =
     let first = c.args.self.now.first in
-    let begun = c.args.begun in
+    let begun = c.args.self.now.block_count in
     let up : List ℕ → ℕ → List ℕ = g.C.Count.up in
     joined_blocks c.bytes.result.now c.bytes-2.result.now c.bytes-3.result.now c.bytes-4.result.now
-    c.joined.result (λ q. up first ((begun + q) % 2 ^ 32))
+    c.concat.result (λ q. up first ((begun + q) % 2 ^ 32))
     (ap length c.bytes.ensures.value ∙ c.bytes.ensures.is_block.length_is)
     (ap length c.bytes-2.ensures.value ∙ c.bytes-2.ensures.is_block.length_is)
     (ap length c.bytes-3.ensures.value ∙ c.bytes-3.ensures.is_block.length_is)
     (ap length c.bytes-4.ensures.value ∙ c.bytes-4.ensures.is_block.length_is)
-    c.joined.ensures
+    c.concat.ensures
     (c.bytes.ensures.value ∙ c.block-first.ensures ∙ ap (up first) (sym (add-zero begun))
     ∙ sym (g.met.C.Count.wraps first (begun + 0)))
     (c.bytes-2.ensures.value ∙ c.block-second.ensures) (c.bytes-3.ensures.value ∙ c.block-third.ensures)

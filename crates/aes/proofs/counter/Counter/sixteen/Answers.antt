@@ -7,7 +7,7 @@ use Rattle.aes.proofs.counter.Counter.sixteen.Goals as goal
 pub returns : goal.returns
 returns g c =
     let first = c.args.self.now.first in
-    let begun = c.args.self.now.begun in
+    let begun = c.args.self.now.block_count in
     let up : List ℕ → ℕ → List ℕ = g.C.Count.up in
     let place : ℕ = g.C.Count.LOW in
     let counts = c.counts_in_nibble.ensures in

@@ -14,7 +14,7 @@ returns c = λ f blocks held.
     let again : ℕ → List ℕ = λ q. cipher key (f (q % 8)) in
     let made : (q : ℕ) → IsBlock (again q) = λ q. cipher_block key (f (q % 8)) k (blocks (q % 8)) in
     let byte : ℕ → ℕ → ℕ = λ l k. get_or (cipher key (f (l / 16 * 8 + k))) (l % 16) 0 in
-    let both = same_bytes c.repeated.result (c.repeated.ensures byte
+    let both = same_bytes c.from_half.result (c.from_half.ensures byte
     (c.encrypt_half.ensures f blocks (c.lower-half.ensures (block_byte f) held)))
     (λ l k hl hk.
     let block : l % 16 / 16 * 8 + k ≡ (l / 16 * 8 + k) % 8 = omega (arith, hl, hk) in

@@ -14,8 +14,8 @@ loop-done-init c = λ f blocks held.
     let ws = schedule c.args.self.now in
     same_bytes c.add-state.result
     (c.add-state.ensures (block_byte f) (λ l k. word_byte ws 0 (spot l)) held
-    (same_bytes _ (c.repeated.ensures (λ l k. word_byte ws 0 (spot l))
-    (c.unpacked.ensures (λ l k. word_byte ws 0 (spot l)) c.requires.first))
+    (same_bytes _ (c.from_half.ensures (λ l k. word_byte ws 0 (spot l))
+    (c.unpack.ensures (λ l k. word_byte ws 0 (spot l)) c.requires.first))
     (λ l k hl hk. ap (word_byte ws 0) (spot_half l))))
     (λ l k hl hk. first_value f ws l k ∙ ap (λ b. get_or b (spot l) 0) (sym (rounds_start ws (f (l / 16 * 8 + k)))))
 
@@ -34,8 +34,8 @@ loop-done-preserved c = λ f blocks held.
     (λ q. rounds ws (n + 1) (f q)) (λ q. next_round key (f q) n (omega arith))
     (c.round-next.ensures state vs (λ q. rounds_block ws n (f q) words (blocks q))
     (c.loop-done.invariant f blocks held)
-    (same_bytes _ (c.repeated-in-loop-done.ensures (λ l k. masked_byte ws (n + 1) (spot l))
-    (c.unpacked-in-loop-done.ensures (λ l k. masked_byte ws (n + 1) (spot l))
+    (same_bytes _ (c.from_half-in-loop-done.ensures (λ l k. masked_byte ws (n + 1) (spot l))
+    (c.unpack-in-loop-done.ensures (λ l k. masked_byte ws (n + 1) (spot l))
     (c.requires.middle (n + 1) (omega arith) (omega arith))))
     (λ l k hl hk. ap (masked_byte ws (n + 1)) (spot_half l) ∙ dropped_row ws (n + 1) l)))
 
@@ -54,9 +54,9 @@ returns c = λ f blocks held.
     let state : ℕ → List ℕ = λ q. rounds ws n (f q) in
     let final = subst (λ i. HoldsWords (get_or c.args.keys.now i []) (λ l k. masked_byte ws last l))
     (sym count) c.requires.final in
-    same_bytes c.last.result
-    (c.last.ensures state vs (λ q. rounds_block ws n (f q) words (blocks q))
+    same_bytes c.last_round.result
+    (c.last_round.ensures state vs (λ q. rounds_block ws n (f q) words (blocks q))
     (c.loop-done.invariant f blocks held)
-    (same_bytes _ (c.repeated-2.ensures (λ l k. masked_byte ws last l)
-    (c.unpacked-2.ensures (λ l k. masked_byte ws last l) final)) (λ l k hl hk. dropped_last ws last l)))
+    (same_bytes _ (c.from_half-2.ensures (λ l k. masked_byte ws last l)
+    (c.unpack-2.ensures (λ l k. masked_byte ws last l) final)) (λ l k hl hk. dropped_last ws last l)))
     (λ l k hl hk. ap (λ b. get_or b (l % 16) 0) (final_round key (f (l / 16 * 8 + k)) n before))

@@ -1,5 +1,0 @@
-use Rattle.aes.proofs.BitPlanes.{twice}
-use Rattle.aes.proofs.planes.PlanesBitPlanes.doubled.Goals as goal
-
-pub returns : goal.returns
-returns c = λ g small h. twice c.args.self g small h
