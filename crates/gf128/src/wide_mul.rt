@@ -7,8 +7,8 @@ ghost use Rattle.octets.specs.Polynomial.{power};
 ghost use Rattle.gf128.specs.Code.Words.{of_word, products, IsReduced, IsSpread};
 ghost use Rattle.gf128.specs.Orders.{reading};
 
-use crate::byte_order::ByteOrder;
 use crate::chain::Chain;
+use crate::hash_order::HashOrder;
 use crate::lanes::Lanes;
 use crate::multiples::{ByteMultiples, Multiples256};
 use crate::polynomial_word::{block_of, bytes_of, high_half, low_half, word_of};
@@ -52,7 +52,7 @@ impl WideMul {
     // on, times the third, the second and the key, not reduced. A byte of a block is read from memory, which takes one
     // instruction; to get it from a word takes two or three.
     #[inline(always)]
-    fn four_halves<O: ByteOrder>(
+    fn four_halves<O: HashOrder>(
         &self,
         a: u64,
         b: &[u8; 16],
@@ -93,7 +93,7 @@ impl Multiply for WideMul {
     }
 
     #[inline(always)]
-    fn times_blocks<O: ByteOrder>(&self, sum: u128, blocks: &[[u8; 16]; 4]) -> u128 {
+    fn times_blocks<O: HashOrder>(&self, sum: u128, blocks: &[[u8; 16]; 4]) -> u128 {
         let first = sum ^ O::word_of(&blocks[0]);
         let (b, c, d) = (&blocks[1], &blocks[2], &blocks[3]);
         let high = self.four_halves::<O>(high_half(first), b, c, d, 8);
