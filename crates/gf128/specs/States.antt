@@ -5,10 +5,10 @@ use Rattle.octets.specs.Polynomial.{Agree}
 use Rattle.octets.specs.Pieces.{HoldsPieces}
 use Rattle.gf128.specs.Code.Words.{of_word}
 use Rattle.gf128.specs.Orders.{Order, Straight, Reversed, Serves, block_sum}
-use Rattle.gf128.specs.declared.ghash.BigEndian.{BigEndian}
+use Rattle.gf128.specs.declared.ghash.GhashOrder.{GhashOrder}
 use Rattle.gf128.specs.declared.hash.BlockHash.{BlockHash}
 use Rattle.gf128.specs.declared.hash.BlockSum.{BlockSum}
-use Rattle.gf128.specs.declared.polyval.LittleEndian.{LittleEndian}
+use Rattle.gf128.specs.declared.polyval.PolyvalOrder.{PolyvalOrder}
 use Rattle.gf128.specs.declared.table_mul.TableMul.{TableMul}
 
 -- the key of the multiplier of texts in pieces
@@ -26,11 +26,11 @@ abbrev pub HashHolds : {M O : Type 0} → Order → (M → List ℕ) → BlockHa
 HashHolds order key s h m = HoldsPieces (SumHolds order key) s.pieces h m
 
 -- the state s of GHASH holds the text m under the key h
-abbrev pub Holds : {M : Type 0} → (M → List ℕ) → BlockHash M BigEndian → List ℕ → List ℕ → Type 0
+abbrev pub Holds : {M : Type 0} → (M → List ℕ) → BlockHash M GhashOrder → List ℕ → List ℕ → Type 0
 Holds key s h m = HashHolds Straight key s h m
 
 -- the state s of POLYVAL holds the text m under the key h
-abbrev pub PolyvalHolds : {M : Type 0} → (M → List ℕ) → BlockHash M LittleEndian → List ℕ → List ℕ → Type 0
+abbrev pub PolyvalHolds : {M : Type 0} → (M → List ℕ) → BlockHash M PolyvalOrder → List ℕ → List ℕ → Type 0
 PolyvalHolds key s h m = HashHolds Reversed key s h m
 
 -- the word is the sum over the whole blocks of m under the key h, by the key of any multiplier that serves it

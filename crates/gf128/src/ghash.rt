@@ -3,15 +3,15 @@
 ghost use Rattle.gf128.specs.Ghash.{GhashIsTheOnly};
 ghost use Rattle.gf128.specs.Orders.{Straight};
 
-use crate::byte_order::ByteOrder;
 use crate::hash::BlockHash;
+use crate::hash_order::HashOrder;
 use crate::polynomial_word::{block_of, word_of};
 use octets::Block;
 
 /// The order of GHASH: the first byte of a block is the highest of its word.
-pub struct BigEndian;
+pub struct GhashOrder;
 
-impl ByteOrder for BigEndian {
+impl HashOrder for GhashOrder {
     ghost order = { Straight };
 
     #[inline(always)]
@@ -35,7 +35,7 @@ impl ByteOrder for BigEndian {
 }
 
 /// GHASH over a text fed piece by piece (SP 800-38D, 6.4), by the multiplier `M`.
-pub type Ghash<M> = BlockHash<M, BigEndian>;
+pub type Ghash<M> = BlockHash<M, GhashOrder>;
 
 /// GHASH is the only block whose polynomial is the sum of the residues of the blocks times powers of the
 /// key.

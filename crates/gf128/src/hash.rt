@@ -5,7 +5,7 @@ ghost use Rattle.std.specs.Prelude.{◌≡◌, ℕ, ◌*◌, ◌/◌, ◌%◌, �
 ghost use Rattle.octets.specs.Bytes.{IsBlock};
 ghost use Rattle.gf128.specs.Orders.{Serves, hash_by};
 
-use crate::byte_order::ByteOrder;
+use crate::hash_order::HashOrder;
 use crate::{Keyed128, Multiply};
 use octets::{Absorb, Block, Pieces};
 use std::marker::PhantomData;
@@ -15,10 +15,10 @@ use std::marker::PhantomData;
 pub(crate) struct BlockSum<M, O> {
     pub(crate) multiplier: M,
     pub(crate) sum: u128,
-    pub(crate) byte_order: PhantomData<O>,
+    pub(crate) order: PhantomData<O>,
 }
 
-impl<M: Multiply, O: ByteOrder> Absorb for BlockSum<M, O> {
+impl<M: Multiply, O: HashOrder> Absorb for BlockSum<M, O> {
     ghost use Rattle.gf128.specs.States.{SumHolds};
 
     ghost absorbed = { λ s h m. SumHolds O.order M.key_bytes s h m };
@@ -43,7 +43,7 @@ pub struct BlockHash<M, O> {
     pub(crate) pieces: Pieces<BlockSum<M, O>>,
 }
 
-impl<M: Keyed128, O: ByteOrder> BlockHash<M, O> {
+impl<M: Keyed128, O: HashOrder> BlockHash<M, O> {
     ghost use Rattle.gf128.specs.States.{HashHolds};
 
     /// A state that holds the empty text, under a key of 16 bytes. Not constant time: see the multiplier.
@@ -54,7 +54,7 @@ impl<M: Keyed128, O: ByteOrder> BlockHash<M, O> {
     }
 }
 
-impl<M: Multiply, O: ByteOrder> BlockHash<M, O> {
+impl<M: Multiply, O: HashOrder> BlockHash<M, O> {
     ghost use Rattle.octets.specs.Bytes.{pad16};
     ghost use Rattle.gf128.specs.States.{HashHolds, IsSum};
 
@@ -69,7 +69,7 @@ impl<M: Multiply, O: ByteOrder> BlockHash<M, O> {
             pieces: Pieces::new(BlockSum {
                 multiplier,
                 sum: 0,
-                byte_order: PhantomData,
+                order: PhantomData,
             }),
         }
     }
@@ -81,13 +81,13 @@ impl<M: Multiply, O: ByteOrder> BlockHash<M, O> {
         ensures { (h m : List ℕ) → Serves O.order h (M.key_bytes multiplier) → IsSum O.order h m sum
             → rest.now ≡ drop (length m / 16 * 16) m → HashHolds O.order M.key_bytes result h m }
     {
-        let byte_order = PhantomData;
+        let order = PhantomData;
         BlockHash {
             pieces: Pieces::resumed(
                 BlockSum {
                     multiplier,
                     sum,
-                    byte_order,
+                    order,
                 },
                 rest,
             ),

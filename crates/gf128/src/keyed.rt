@@ -6,7 +6,7 @@ ghost use Rattle.gf128.specs.Ghash.{IsProduct};
 ghost use Rattle.gf128.specs.Code.Words.{IsFourProducts, IsWordProduct};
 ghost use Rattle.gf128.specs.Orders.{IsFourBlocks};
 
-use crate::byte_order::ByteOrder;
+use crate::hash_order::HashOrder;
 use crate::polynomial_word::{block_of, word_of};
 use octets::Block;
 
@@ -42,7 +42,7 @@ pub trait Multiply: Drop {
     }
 
     /// [`Multiply::times_four`] of the words of four blocks whose bytes `O` reads, `sum` added to the first.
-    fn times_blocks<O: ByteOrder>(&self, sum: u128, blocks: &[[u8; 16]; 4]) -> u128
+    fn times_blocks<O: HashOrder>(&self, sum: u128, blocks: &[[u8; 16]; 4]) -> u128
         ensures { IsFourBlocks O.order sum blocks.now (key_bytes self.now) result }
     {
         let first = sum ^ O::word_of(&blocks[0]);
@@ -96,7 +96,7 @@ impl<M: Multiply> Multiply for &M {
     }
 
     #[inline(always)]
-    fn times_blocks<O: ByteOrder>(&self, sum: u128, blocks: &[[u8; 16]; 4]) -> u128 {
+    fn times_blocks<O: HashOrder>(&self, sum: u128, blocks: &[[u8; 16]; 4]) -> u128 {
         (**self).times_blocks::<O>(sum, blocks)
     }
 }

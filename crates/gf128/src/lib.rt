@@ -16,10 +16,10 @@
 #![tactic(auto)]
 
 mod bit_mul;
-mod byte_order;
 mod chain;
 mod ghash;
 mod hash;
+mod hash_order;
 mod keyed;
 mod lanes;
 mod multiples;
@@ -30,13 +30,13 @@ mod uses;
 mod wide_mul;
 
 pub use bit_mul::BitMul;
-pub use byte_order::ByteOrder;
-pub use ghash::{BigEndian, Ghash, ghash_is_the_only};
+pub use ghash::{Ghash, GhashOrder, ghash_is_the_only};
 pub use hash::BlockHash;
+pub use hash_order::HashOrder;
 pub use keyed::{Keyed128, Multiply};
 pub use multiples::KeptMultiples;
 pub use polyval::{
-    LittleEndian, Polyval, dot_is_the_only, polyval_by_ghash, polyval_is_the_only, reversed_mul_x,
+    Polyval, PolyvalOrder, dot_is_the_only, polyval_by_ghash, polyval_is_the_only, reversed_mul_x,
 };
 pub use table_mul::{KeptMul, TableMul};
 pub use wide_mul::WideMul;

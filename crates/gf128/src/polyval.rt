@@ -4,8 +4,8 @@ ghost use Rattle.octets.specs.Bytes.{IsBlock};
 ghost use Rattle.gf128.specs.Orders.{Reversed};
 ghost use Rattle.gf128.specs.Polyval.{DotIsTheOnly, PolyvalIsTheOnly, PolyvalByGhash, IsReversedMulX};
 
-use crate::byte_order::ByteOrder;
 use crate::hash::BlockHash;
+use crate::hash_order::HashOrder;
 use crate::polynomial_word::{block_of, reversed_block_of, reversed_word_of, times_x};
 use octets::Block;
 
@@ -21,9 +21,9 @@ pub fn reversed_mul_x(key: &Block) -> Block
 }
 
 /// The order of POLYVAL: the first byte of a block is the lowest of its word.
-pub struct LittleEndian;
+pub struct PolyvalOrder;
 
-impl ByteOrder for LittleEndian {
+impl HashOrder for PolyvalOrder {
     ghost order = { Reversed };
 
     #[inline(always)]
@@ -47,7 +47,7 @@ impl ByteOrder for LittleEndian {
 }
 
 /// POLYVAL over a text fed piece by piece (RFC 8452, 3), by the multiplier `M` in GHASH's field.
-pub type Polyval<M> = BlockHash<M, LittleEndian>;
+pub type Polyval<M> = BlockHash<M, PolyvalOrder>;
 
 /// The dot of two polynomials is the only one of degree below 128 that times x^128 has their product's
 /// residue.

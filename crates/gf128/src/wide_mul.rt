@@ -7,12 +7,11 @@ ghost use Rattle.octets.specs.Polynomial.{power};
 ghost use Rattle.gf128.specs.Code.Words.{of_word, products, IsReduced, IsSpread};
 ghost use Rattle.gf128.specs.Orders.{reading};
 
-use crate::byte_order::ByteOrder;
 use crate::chain::Chain;
+use crate::hash_order::HashOrder;
 use crate::lanes::Lanes;
 use crate::multiples::{ByteMultiples, Multiples256};
 use crate::polynomial_word::{block_of, bytes_of, high_half, low_half, word_of};
-use crate::table_mul::TableMul;
 use crate::{Keyed128, Multiply};
 use octets::Block;
 
@@ -22,8 +21,8 @@ use octets::Block;
 /// Not constant time. Each of the four tables has 256 entries of 16 bytes. Of four blocks, the bytes of the first, XORed with
 /// the sum so far, look up the table of the fourth power; the bytes of the other three, as they are, look up those of the
 /// third, the second and the key. A block alone, added to the sum, looks up the key's table. So what is read depends on the
-/// key through the sum, and on the text where it is secret, as in POLYVAL. To make the tables it looks those of a
-/// [`TableMul`] up by the key and its powers.
+/// key through the sum, and on the text where it is secret, as in POLYVAL. To make the tables of the powers it looks the
+/// key's table up by the key and its powers.
 #[derive(Drop)]
 pub struct WideMul {
     first: Multiples256,
@@ -52,7 +51,7 @@ impl WideMul {
     // on, times the third, the second and the key, not reduced. A byte of a block is read from memory, which takes one
     // instruction; to get it from a word takes two or three.
     #[inline(always)]
-    fn four_halves<O: ByteOrder>(
+    fn four_halves<O: HashOrder>(
         &self,
         a: u64,
         b: &[u8; 16],
@@ -93,7 +92,7 @@ impl Multiply for WideMul {
     }
 
     #[inline(always)]
-    fn times_blocks<O: ByteOrder>(&self, sum: u128, blocks: &[[u8; 16]; 4]) -> u128 {
+    fn times_blocks<O: HashOrder>(&self, sum: u128, blocks: &[[u8; 16]; 4]) -> u128 {
         let first = sum ^ O::word_of(&blocks[0]);
         let (b, c, d) = (&blocks[1], &blocks[2], &blocks[3]);
         let high = self.four_halves::<O>(high_half(first), b, c, d, 8);
@@ -124,11 +123,10 @@ impl Keyed128 for WideMul {
 
     fn set(&mut self, key: &Block) {
         let word = word_of(key.bytes());
-        let by_key = TableMul::of(key);
-        let second = by_key.times_word(word);
-        let third = by_key.times_word(second);
-        let fourth = by_key.times_word(third);
         self.first.set(word);
+        let second = self.first.times_word(word);
+        let third = self.first.times_word(second);
+        let fourth = self.first.times_word(third);
         self.second.set(second);
         self.third.set(third);
         self.fourth.set(fourth);

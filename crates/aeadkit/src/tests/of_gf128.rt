@@ -2,7 +2,7 @@
 use super::digits::{bytes, sixteen};
 use super::shows;
 use gf128::{
-    BigEndian, BitMul, BlockHash, ByteOrder, KeptMul, Keyed128, LittleEndian, Multiply, TableMul,
+    BitMul, BlockHash, GhashOrder, HashOrder, KeptMul, Keyed128, Multiply, PolyvalOrder, TableMul,
     WideMul,
 };
 use octets::Block;
@@ -10,14 +10,14 @@ use std::alloc::Global;
 use std::process::Abort;
 
 // The hash of a text, by the multiplier that is made of its key.
-fn hash_of<M: Keyed128, O: ByteOrder>(key: &Block, text: &[u8]) -> [u8; 16] {
+fn hash_of<M: Keyed128, O: HashOrder>(key: &Block, text: &[u8]) -> [u8; 16] {
     let mut state = BlockHash::<M, O>::new(key);
     state.update(text);
     *state.finish().bytes()
 }
 
 // The hash of a text in two pieces, by a multiplier that is kept.
-fn hash_by<M: Multiply, O: ByteOrder>(multiplier: M, text: &[u8]) -> [u8; 16] {
+fn hash_by<M: Multiply, O: HashOrder>(multiplier: M, text: &[u8]) -> [u8; 16] {
     let (front, back) = text.split_at(text.len() / 3);
     let mut state = BlockHash::<M, O>::with(multiplier);
     state.update(front);
@@ -26,13 +26,13 @@ fn hash_by<M: Multiply, O: ByteOrder>(multiplier: M, text: &[u8]) -> [u8; 16] {
 }
 
 // The hash of a text, by the multiples of a multiplier's key that are kept as plain numbers.
-fn hash_by_kept<O: ByteOrder>(multiplied: &Block, text: &[u8]) -> [u8; 16] {
+fn hash_by_kept<O: HashOrder>(multiplied: &Block, text: &[u8]) -> [u8; 16] {
     let kept = TableMul::of(multiplied).kept();
     hash_by::<KeptMul, O>(KeptMul::new(multiplied, &kept), text)
 }
 
 // Whether each multiplier gives this hash.
-fn is_hash<O: ByteOrder>(key: &Block, text: &[u8], hash: &[u8; 16]) -> bool {
+fn is_hash<O: HashOrder>(key: &Block, text: &[u8], hash: &[u8; 16]) -> bool {
     let multiplied = O::multiplier_key(key);
     hash_of::<BitMul, O>(key, text) == *hash
         && hash_of::<TableMul, O>(key, text) == *hash
@@ -91,7 +91,7 @@ const POLYVALS: [(&str, &str, &str); 3] = [
 ];
 
 // The texts of a table have their hashes.
-fn are_hashes<O: ByteOrder>(rt: &(impl Abort + Alloc<A = Global>), table: &[(&str, &str, &str)]) {
+fn are_hashes<O: HashOrder>(rt: &(impl Abort + Alloc<A = Global>), table: &[(&str, &str, &str)]) {
     for (key, text, hash) in table {
         let key = Block::new(sixteen(rt, key));
         let is_right = is_hash::<O>(&key, &bytes(rt, text), &sixteen(rt, hash));
@@ -101,6 +101,6 @@ fn are_hashes<O: ByteOrder>(rt: &(impl Abort + Alloc<A = Global>), table: &[(&st
 
 #[test]
 fn ghashes_and_polyvals(rt: HostRuntime) {
-    are_hashes::<BigEndian>(&rt, &GHASHES);
-    are_hashes::<LittleEndian>(&rt, &POLYVALS);
+    are_hashes::<GhashOrder>(&rt, &GHASHES);
+    are_hashes::<PolyvalOrder>(&rt, &POLYVALS);
 }

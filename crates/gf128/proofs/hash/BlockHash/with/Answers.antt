@@ -6,5 +6,5 @@ pub returns : goal.returns
 returns x c = λ h serves. c.new.ensures h (record {
   serves = serves;
   sum_is =
-      block_sum_none x.O.ByteOrder.order (x.M.Multiply.key_bytes c.args.multiplier) [];
+      block_sum_none x.O.HashOrder.order (x.M.Multiply.key_bytes c.args.multiplier) [];
 })

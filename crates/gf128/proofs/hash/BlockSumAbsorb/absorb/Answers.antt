@@ -13,7 +13,7 @@ pub fours-init : goal.fours-init
 fours-init x c = λ h m whole held.
     let q : ℕ = length m / 16 in
     let e : q + 0 ≡ q = omega arith in
-    let o : Order = x.O.ByteOrder.order in
+    let o : Order = x.O.HashOrder.order in
     let k : List ℕ = x.M.Multiply.key_bytes c.args.self.now.multiplier in
     let before : block_sum o k (m ++ c.args.blocks.now) q ≡ block_sum o k m q =
     block_sum-append o k m c.args.blocks.now q (omega arith) in
@@ -26,7 +26,7 @@ fours-preserved x c = λ h m whole held.
     let q : ℕ = length m / 16 in
     let small : i < length c.as_chunks.result.0.now / 4 =
     omega (arith, c.fours-test.true, c.as_chunks-2.ensures.front_len) in
-    let o : Order = x.O.ByteOrder.order in
+    let o : Order = x.O.HashOrder.order in
     let b : ℕ → List ℕ = λ (j : ℕ). get_or (get_or c.as_chunks-2.result.0.now i []) j [] in
     let own : (j : ℕ) → j < 4 → b j ≡ block_at blocks (i * 4 + j) = λ j l.
     four_at blocks c.as_chunks.result.0.now c.as_chunks-2.result.0.now i j c.as_chunks.ensures.front
@@ -74,7 +74,7 @@ taken-preserved x c = λ h m whole held.
     let small : i < length c.as_chunks.result.0.now % 4 =
     omega (arith, c.taken-test.true, c.as_chunks-2.ensures.back_len) in
     let at : q + (n + i) ≡ q + n + i = omega arith in
-    let o : Order = x.O.ByteOrder.order in
+    let o : Order = x.O.HashOrder.order in
     let word : of_word c.word_of.result ≡ reading o (block_at (m ++ blocks) (q + n + i)) =
     c.word_of.ensures
     ∙ ap (reading o) (after_fours blocks c.as_chunks.result.0.now c.as_chunks-2.result.1.now i

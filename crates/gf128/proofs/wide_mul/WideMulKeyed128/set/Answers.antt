@@ -13,9 +13,8 @@ invariant_of-self c =
     let s : ℕ = c.times_word-second.result in
     let t : ℕ = c.times_word-third.result in
     let u : ℕ = c.times_word-fourth.result in
-    let key : to_be_bytes w128 h ≡ to_be_bytes w128 c.of-by_key.result.multiples.word =
-    bytes_of_word h c.args.key.now c.bytes.ensures.is_block (c.word_of-word.ensures ∙ ap g c.bytes.ensures.value)
-    ∙ sym c.of-by_key.ensures in
+    let key : to_be_bytes w128 h ≡ to_be_bytes w128 c.set.new.self.word =
+    ap (to_be_bytes w128) (sym c.set.ensures) in
     let second : IsReduced (power (of_word h) 2) s = next_power h 1 h s (first_power h)
     (subst (λ (k : List ℕ). IsWordProduct h k s) (sym key) c.times_word-second.ensures) in
     let third : IsReduced (power (of_word h) 3) t = next_power h 2 s t second

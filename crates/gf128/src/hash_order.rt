@@ -10,7 +10,7 @@ ghost use Rattle.gf128.specs.Orders.{Order, reading, Serves, hash_by, block_sum}
 use octets::Block;
 
 /// The order in which a hash reads the bytes of a block.
-pub trait ByteOrder {
+pub trait HashOrder {
     ghost order: { Order };
 
     /// The word of a block.

@@ -1,7 +1,7 @@
 use Rattle.gf128.specs.Code.Words.{of_word}
 use Rattle.gf128.proofs.ByGhash.{polyval_by_sum}
 use Rattle.gf128.proofs.WordLemmas.{length-of_word}
-use Rattle.gf128.proofs.polyval.LittleEndianByteOrder.hash_of.Goals as goal
+use Rattle.gf128.proofs.polyval.PolyvalOrderHashOrder.hash_of.Goals as goal
 
 pub returns-clause-value : goal.returns-clause-value
 returns-clause-value c = λ h k m serves is.

@@ -2,7 +2,7 @@ use Rattle.std.proofs.Common.{◌≡◌, ℕ, ◌-◌, List, reverse, get_or, le
 use Rattle.std.proofs.lemmas.List.{get_or-reverse}
 use Rattle.gf128.specs.Code.Words.{of_bits}
 use Rattle.gf128.proofs.FourBlocks.{byte_read}
-use Rattle.gf128.proofs.polyval.LittleEndianByteOrder.byte_at.Goals as goal
+use Rattle.gf128.proofs.polyval.PolyvalOrderHashOrder.byte_at.Goals as goal
 
 pub returns : goal.returns
 returns c = λ w e.

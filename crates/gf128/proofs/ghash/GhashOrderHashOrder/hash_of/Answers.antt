@@ -2,7 +2,7 @@ use Rattle.std.proofs.Common.{sym}
 use Rattle.gf128.specs.Ghash.{ghash_sum}
 use Rattle.gf128.specs.Orders.{block_sum}
 use Rattle.gf128.proofs.Sums.{ghash_is_the_only}
-use Rattle.gf128.proofs.ghash.BigEndianByteOrder.hash_of.Goals as goal
+use Rattle.gf128.proofs.ghash.GhashOrderHashOrder.hash_of.Goals as goal
 
 pub returns-clause-value : goal.returns-clause-value
 unfolding ghash_sum block_sum
