@@ -2,14 +2,34 @@
 # Proves the library and the program, and lays them out with their headers, pages and packages.
 set -eu
 whole=yes
-[ "${1:-}" != --library ] || { whole=no; shift; }
-if [ $# -lt 2 ]; then
-    echo "usage: build.sh [--library] REPOSITORY PREFIX [rattle's flags]
-  PREFIX            gets bin, include, lib and share, as /usr/local has them
+choice=
+usable=yes
+while :; do
+    case "${1:-}" in
+        --library) whole=no ;;
+        --program=*) choice=${1#*=} ;;
+        --program)
+            [ $# -lt 2 ] || shift
+            choice=$1
+            ;;
+        *) break ;;
+    esac
+    shift
+done
+fast=yes
+case " $* " in *" --cpu"*) fast=no ;; esac
+case "$choice" in '' | default | x86-64-v3) ;; *) usable=no ;; esac
+[ -z "$choice" ] || [ $whole$fast = yesyes ] || usable=no
+if [ $# -lt 2 ] || [ $usable = no ]; then
+    echo "usage: build.sh [--library | --program default|x86-64-v3] REPOSITORY PREFIX [rattle's flags]
+  PREFIX            gets bin, include, lib, libexec and share, as /usr/local has them
   --library         include and lib alone, for one processor, without the packages
+  --program         which build of the program becomes bin/aeadkit, the default one or the one for AVX2, for a
+                    machine other than this one. Without it this is the build for AVX2 where the system's loader
+                    takes the library for AVX2, and else the default one. libexec/aeadkit has both builds
   --cpu=x86-64-v3   rattle's flag for processors with AVX2; the default is x86-64-v2, and without the flag
                     lib/glibc-hwcaps has a build for AVX2 too, which the system's loader takes by itself, and
-                    lib/x86-64-v3 its archive
+                    lib/x86-64-v3 its archive. With the flag library and program have this one build
 The copy that is proved is kept in PREFIX/.aeadkit, or in the folder that AEADKIT_WORK names; the next run proves
 only what has changed since." >&2
     exit 2
@@ -25,13 +45,27 @@ version=$(version_of "$repository")
 mkdir -p "$room" "$prefix/include" "$prefix/lib/pkgconfig"
 copy "$repository" "$room"
 
-fast=yes
-case " $* " in *" --cpu"*) fast=no ;; esac
+builds=$prefix/libexec/aeadkit
+[ $whole = no ] || rm -rf "$builds"
+both=no
 if [ $whole = yes ] && [ $fast = yes ]; then
     hwcaps=$prefix/lib/glibc-hwcaps/x86-64-v3
     mkdir -p "$hwcaps" "$prefix/lib/x86-64-v3"
     archive "$room" "$prefix/lib/x86-64-v3" "$@" --cpu=x86-64-v3
     shared "$prefix/lib/x86-64-v3/libaeadkit.a" "$hwcaps" "$version" "$here/exports.map"
+    # rt runs the program that it builds, so this one is built only where it runs, or where it is asked for.
+    if runs_v3; then
+        choice=${choice:-x86-64-v3}
+        both=yes
+    elif [ "$choice" = x86-64-v3 ]; then
+        both=yes
+    else
+        echo "left out: the program for AVX2, which this machine does not run"
+    fi
+    if [ $both = yes ]; then
+        mkdir -p "$builds/x86-64-v3"
+        program "$repository" "$room" "$builds/x86-64-v3" "$@" --cpu=x86-64-v3
+    fi
 fi
 archive "$room" "$prefix/lib" "$@"
 shared "$prefix/lib/libaeadkit.a" "$prefix/lib" "$version" "$here/exports.map"
@@ -50,6 +84,13 @@ END
 [ $whole = yes ] || exit 0
 
 mkdir -p "$prefix/bin"
-program "$repository" "$room" "$prefix/bin" "$@"
+if [ $both = yes ]; then
+    mkdir -p "$builds/default"
+    program "$repository" "$room" "$builds/default" "$@"
+    put "$builds/$choice/aeadkit" "$prefix/bin"
+    echo "bin/aeadkit is that of libexec/aeadkit/$choice"
+else
+    program "$repository" "$room" "$prefix/bin" "$@"
+fi
 "$here/pages.sh" "$prefix/bin/aeadkit" "$prefix/share"
 "$here/packages.sh" "$prefix"

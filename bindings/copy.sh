@@ -1,4 +1,4 @@
-# Functions of build.sh, packages.sh and wasm.sh, which read it.
+# Functions of build.sh, packages.sh, wasm.sh, check.sh and program-check.sh, which read it.
 
 # Prints the version of a repository: version_of REPOSITORY
 version_of() {
@@ -85,6 +85,19 @@ program() {
     copy "$repository" "$room"
     fit "$room" "$@"
     proved "$room" aeadkit run "$@" -- --version
-    cp "$room/crates/aeadkit/out/aeadkit" "$folder/aeadkit.new"
-    mv "$folder/aeadkit.new" "$folder/aeadkit"
+    put "$room/crates/aeadkit/out/aeadkit" "$folder"
+}
+
+# Puts a program into a folder in one step, even if the one that is there is running: put PROGRAM FOLDER
+put() {
+    cp "$1" "$2/aeadkit.new"
+    mv "$2/aeadkit.new" "$2/aeadkit"
+}
+
+# Whether this machine runs what is built for x86-64-v3: runs_v3
+# The system's loader is asked, since by the same answer it takes the library for AVX2: so program and library are of one kind. It
+# knows every extension of x86-64-v3, and whether the system lets programs use it. Loaders before glibc 2.33 have no such answer,
+# and load the default library.
+runs_v3() {
+    LC_ALL=C /lib64/ld-linux-x86-64.so.2 --help 2>&1 | grep -q '^ *x86-64-v3 (supported'
 }

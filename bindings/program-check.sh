@@ -1,5 +1,6 @@
 #!/bin/sh
-# Looks at the man page, completes command lines, and seals, damages and opens files by examples/files.sh.
+# Looks at the man page, completes command lines, seals, damages and opens files by examples/files.sh, and compares the two builds
+# of the program, if both are there.
 set -eu
 if [ $# != 1 ]; then
     echo "usage: program-check.sh PREFIX" >&2
@@ -9,6 +10,7 @@ prefix=$(cd "$1" && pwd)
 share=$prefix/share
 cd "$(dirname "$0")"
 here=$PWD
+. ./copy.sh
 room=$(mktemp -d)
 trap 'rm -rf "$room"' EXIT
 
@@ -119,3 +121,35 @@ refused 3 seal key "$label" no-text.txt out
 refused 3 seal key "$label" "a text" no-folder/out
 (ulimit -f 16; refused 3 seal key "$label" "a text" out)
 echo "ok: files by a script, whole, damaged, cut and exchanged"
+
+# The two builds of the program say the same version, and seal and open a file to the same bytes. bin has one of them.
+builds=$prefix/libexec/aeadkit
+if [ ! -e "$builds/x86-64-v3/aeadkit" ]; then
+    exit 0
+fi
+if ! runs_v3; then
+    echo "left out: the program for AVX2, which this machine does not run"
+    exit 0
+fi
+default=$builds/default/aeadkit
+wide=$builds/x86-64-v3/aeadkit
+version=$("$default" --version)
+[ "$("$wide" --version)" = "$version" ] || { echo "the builds of the program say two versions" >&2; exit 1; }
+cmp -s "$prefix/bin/aeadkit" "$default" || cmp -s "$prefix/bin/aeadkit" "$wide" || {
+    echo "bin/aeadkit is neither build of libexec/aeadkit" >&2
+    exit 1
+}
+head -c 700 "a text" > "a short text"
+for suite in chacha20-poly1305:64 aes-128-gcm:32 aes-192-gcm:48 aes-256-gcm:64 aes-128-gcm-siv:32 aes-256-gcm-siv:64; do
+    words="--suite ${suite%:*} --nonce 000102030405060708090a0b --aad 6c6162656c --key $(cut -c "1-${suite#*:}" key)"
+    for file in "a text" "a short text" empty; do
+        "$default" seal-file $words --in "$file" --out sealed-by-default
+        "$wide" seal-file $words --in "$file" --out sealed-by-wide
+        cmp sealed-by-default sealed-by-wide
+        "$default" open-file $words --in sealed-by-wide --out opened-by-default
+        "$wide" open-file $words --in sealed-by-default --out opened-by-wide
+        cmp opened-by-default "$file"
+        cmp opened-by-wide "$file"
+    done
+done
+echo "ok: $version, and its build for AVX2, which seals and opens to the same bytes"
