@@ -70,10 +70,6 @@ static int agree(const struct kind *kind, const struct message *m) {
     return peers;
 }
 
-/* Seals `count` messages and opens them, and lowers `best` to the nanoseconds of a message. It does so four
-   times, since the first one finds cold caches and wide vectors that sleep, each time at another depth of the
-   stack: some depths are slow, the same ones in each 4 KiB, likely since a load waits for a store before it at
-   the same offset in another page. */
 /* Waits until the processor's clock is back from what a party's wide products held it at. */
 static void rest(void) {
     struct timespec start, now;
@@ -82,6 +78,10 @@ static void rest(void) {
     while ((now.tv_sec - start.tv_sec) * 1e9 + (now.tv_nsec - start.tv_nsec) < 700e3);
 }
 
+/* Seals `count` messages and opens them, and lowers `best` to the nanoseconds of a message. It does so four
+   times, since the first one finds cold caches and wide vectors that sleep, each time at another depth of the
+   stack: some depths are slow, the same ones in each 4 KiB, likely since a load waits for a store before it at
+   the same offset in another page. */
 static void pass(const struct party *party, const struct kind *kind, size_t count, double best[2]) {
     static size_t depth;
     if (capability != PLAIN) rest();

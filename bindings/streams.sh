@@ -77,7 +77,7 @@ for streams in '<&-' '>&-' '2>&-' '<&- >&-' '<&- 2>&-' '>&- 2>&-' '<&- >&- 2>&-'
     same out text
 done
 
-# A word that is not UTF-8; the program's own name is no word.
+# A word that is not UTF-8. The program's own name does not count as a word.
 odd=$(printf 'a\377')
 ends 2 Words '' "$odd"
 ends 2 Words '' check "$odd"

@@ -49,7 +49,7 @@ static void need(uint32_t status) {
     if (status != AEADKIT_DONE) stop(3, why);
 }
 
-/* Reads as many bytes, or fewer at the end of the file. */
+/* Reads `length` bytes, or fewer at the end of the file. */
 static size_t take(int file, uint8_t *to, size_t length) {
     size_t taken = 0;
     while (taken < length) {

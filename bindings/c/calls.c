@@ -395,11 +395,11 @@ static void facts(void) {
         is("a name and a NUL", aeadkit_suite_named(longer, strlen(name) + 1) == 0);
         if (known) is("a part of a name", aeadkit_suite_named(longer, strlen(name) - 1) == 0);
     }
-    is("the largest number is no suite", aeadkit_key_length(UINT32_MAX) == 0 && aeadkit_text_limit(UINT32_MAX) == 0
+    is("the largest number is not a suite", aeadkit_key_length(UINT32_MAX) == 0 && aeadkit_text_limit(UINT32_MAX) == 0
                                              && aeadkit_aad_limit(UINT32_MAX) == 0);
     is("no name", aeadkit_suite_named(NULL, 0) == 0);
     is("a name in capitals", aeadkit_suite_named((const uint8_t *)"AES-128-GCM", 11) == 0);
-    is("a key wrap is no suite", aeadkit_suite_named((const uint8_t *)"aes-128-wrap", 12) == 0);
+    is("a key wrap is not a suite", aeadkit_suite_named((const uint8_t *)"aes-128-wrap", 12) == 0);
     for (uint32_t status = 0; status < 18; status++) {
         size_t length = strlen(texts[status]);
         is("a status's length", aeadkit_status_text(status, NULL, 0) == length);
@@ -411,7 +411,7 @@ static void facts(void) {
             is("a status's text", !memcmp(text, texts[status], written) && all(text + written, sizeof text - written, 0xa5));
         }
     }
-    is("the largest number is no status", aeadkit_status_text(UINT32_MAX, NULL, 0) == 0);
+    is("the largest number is not a status", aeadkit_status_text(UINT32_MAX, NULL, 0) == 0);
     unsigned major = 0, minor = 0, patch = 0;
     is("the header's version", sscanf(AEADKIT_VERSION, "%u.%u.%u", &major, &minor, &patch) == 3);
     is("the library's version", aeadkit_version() == major * 10000 + minor * 100 + patch);

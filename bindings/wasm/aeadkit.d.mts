@@ -52,15 +52,15 @@ export class NotSaved extends Refused { readonly fault: "NotSaved"; }
 
 /** The options of a call: a plain object, its last argument. A call throws a `TypeError` if it has a key of another name. */
 export interface Options {
-    /** The associated data, which is authenticated and not encrypted, as the header of a message. It is empty if it is left out. */
+    /** The associated data, which is authenticated and not encrypted, like the header of a message. Left out, it is empty. */
     aad?: Uint8Array | undefined;
 }
 
 /**
- * The calls of aeadkit.wasm that seal and open. The bytes of that file are handed in.
+ * The calls of aeadkit.wasm that seal and open. The constructor takes the bytes of that file.
  *
- * A call that throws has changed none of its arguments. Each result is an array of its own, and the calls named InPlace alone
- * change an argument.
+ * A call that throws has changed none of its arguments. Each result is a new array, and only the calls named InPlace change an
+ * argument.
  *
  * Here and in the classes below, a call throws a `TypeError`, before the faults that it names, if an argument is not a Uint8Array
  * where one is required, or if its options are not a plain object. In version 2.0 the associated data stood before the text or the
@@ -76,14 +76,14 @@ export class Aead {
      * away the XOR of the two texts, and enough to forge messages; AES-GCM-SIV gives away only whether the texts and the
      * associated data were the same. No call notices a repeated nonce.
      *
-     * Throws the first of these that fits: `UnknownSuite`, `KeyLength`, `NonceLength`, `AadTooLong`, `TextTooLong`.
+     * Throws the first of these that applies: `UnknownSuite`, `KeyLength`, `NonceLength`, `AadTooLong`, `TextTooLong`.
      */
     seal(suite: Suite, key: Uint8Array, nonce: Uint8Array, text: Uint8Array, options?: Options): Uint8Array;
 
     /**
      * Returns the text of what `seal` made, which is the ciphertext and then the tag.
      *
-     * Throws the first of these that fits: `UnknownSuite`, `KeyLength`, `NonceLength`, `AadTooLong`, `TooShort`, `TextTooLong`,
+     * Throws the first of these that applies: `UnknownSuite`, `KeyLength`, `NonceLength`, `AadTooLong`, `TooShort`, `TextTooLong`,
      * `TagMismatch`.
      */
     open(suite: Suite, key: Uint8Array, nonce: Uint8Array, sealed: Uint8Array, options?: Options): Uint8Array;
@@ -95,14 +95,14 @@ export class Aead {
      * away the XOR of the two texts, and enough to forge messages; AES-GCM-SIV gives away only whether the texts and the
      * associated data were the same. No call notices a repeated nonce.
      *
-     * Throws the first of these that fits: `UnknownSuite`, `KeyLength`, `NonceLength`, `AadTooLong`, `TextTooLong`.
+     * Throws the first of these that applies: `UnknownSuite`, `KeyLength`, `NonceLength`, `AadTooLong`, `TextTooLong`.
      */
     sealInPlace(suite: Suite, key: Uint8Array, nonce: Uint8Array, text: Uint8Array, options?: Options): Uint8Array;
 
     /**
      * Opens a ciphertext where it stands: `ciphertext` becomes its text. The tag is apart.
      *
-     * Throws the first of these that fits: `TagLength`, `UnknownSuite`, `KeyLength`, `NonceLength`, `AadTooLong`, `TextTooLong`,
+     * Throws the first of these that applies: `TagLength`, `UnknownSuite`, `KeyLength`, `NonceLength`, `AadTooLong`, `TextTooLong`,
      * `TagMismatch`. The ciphertext is unchanged then.
      */
     openInPlace(
@@ -119,12 +119,12 @@ export class Aead {
     aadLimit(suite: Suite): bigint;
 
     /**
-     * Returns the suite with a name, which is one of those that the command takes, as `aes-256-gcm-siv`. Throws `UnknownSuite` if
-     * no suite has the name, and a `TypeError` if it is not a string.
+     * Returns the suite with a name, which is one of those that the command takes, such as `aes-256-gcm-siv`. Throws
+     * `UnknownSuite` if no suite has the name, and a `TypeError` if it is not a string.
      */
     suiteNamed(name: string): Suite;
 
-    /** The version of the module, as `3.0.0`. */
+    /** The version of the module, such as `3.0.0`. */
     readonly version: string;
 }
 
@@ -150,14 +150,14 @@ export class Key {
      * away the XOR of the two texts, and enough to forge messages; AES-GCM-SIV gives away only whether the texts and the
      * associated data were the same. No call notices a repeated nonce.
      *
-     * Throws the first of these that fits: `NonceLength`, `AadTooLong`, `TextTooLong`.
+     * Throws the first of these that applies: `NonceLength`, `AadTooLong`, `TextTooLong`.
      */
     seal(nonce: Uint8Array, text: Uint8Array, options?: Options): Uint8Array;
 
     /**
      * Returns the text of what `seal` made, which is the ciphertext and then the tag.
      *
-     * Throws the first of these that fits: `NonceLength`, `AadTooLong`, `TooShort`, `TextTooLong`, `TagMismatch`.
+     * Throws the first of these that applies: `NonceLength`, `AadTooLong`, `TooShort`, `TextTooLong`, `TagMismatch`.
      */
     open(nonce: Uint8Array, sealed: Uint8Array, options?: Options): Uint8Array;
 
@@ -168,15 +168,15 @@ export class Key {
      * away the XOR of the two texts, and enough to forge messages; AES-GCM-SIV gives away only whether the texts and the
      * associated data were the same. No call notices a repeated nonce.
      *
-     * Throws the first of these that fits: `NonceLength`, `AadTooLong`, `TextTooLong`.
+     * Throws the first of these that applies: `NonceLength`, `AadTooLong`, `TextTooLong`.
      */
     sealInPlace(nonce: Uint8Array, text: Uint8Array, options?: Options): Uint8Array;
 
     /**
      * Opens a ciphertext where it stands: `ciphertext` becomes its text. The tag is apart.
      *
-     * Throws the first of these that fits: `TagLength`, `NonceLength`, `AadTooLong`, `TextTooLong`, `TagMismatch`. The ciphertext
-     * is unchanged then.
+     * Throws the first of these that applies: `TagLength`, `NonceLength`, `AadTooLong`, `TextTooLong`, `TagMismatch`. The
+     * ciphertext is unchanged then.
      */
     openInPlace(nonce: Uint8Array, ciphertext: Uint8Array, tag: Uint8Array, options?: Options): void;
 
@@ -185,7 +185,7 @@ export class Key {
      *
      * Never use a nonce twice under one key: two texts sealed with one nonce give away their XOR, and enough to forge messages.
      *
-     * Throws the first of these that fits: `UnknownSuite` for AES-GCM-SIV, which reads a text twice (`sivSealer` serves it),
+     * Throws the first of these that applies: `UnknownSuite` for AES-GCM-SIV, which reads a text twice (`sivSealer` serves it),
      * `NonceLength`, `AadTooLong`.
      */
     sealer(nonce: Uint8Array, options?: Options): Sealer;
@@ -193,7 +193,7 @@ export class Key {
     /**
      * Begins an opening in pieces of a ciphertext with a tag of 16 bytes.
      *
-     * Throws the first of these that fits: `TagLength`, `NonceLength`, `AadTooLong`.
+     * Throws the first of these that applies: `TagLength`, `NonceLength`, `AadTooLong`.
      */
     opener(nonce: Uint8Array, tag: Uint8Array, options?: Options): Opener;
 
@@ -203,7 +203,7 @@ export class Key {
      * Never use a nonce twice under one key: two texts sealed with one nonce give away whether they and the associated data are
      * the same.
      *
-     * Throws the first of these that fits: `UnknownSuite` for ChaCha20-Poly1305 and AES-GCM (`sealer` serves them),
+     * Throws the first of these that applies: `UnknownSuite` for ChaCha20-Poly1305 and AES-GCM (`sealer` serves them),
      * `NonceLength`, `AadTooLong`.
      */
     sivSealer(nonce: Uint8Array, options?: Options): SivSealer;
@@ -216,16 +216,16 @@ export class Key {
  * A sealing in pieces, under ChaCha20-Poly1305 or AES-GCM: `update` for each piece of the text, then `finish`. The ciphertext of
  * all pieces, and then the tag, is what `seal` makes of the whole text. The result does not depend on how the text is split.
  *
- * A state is not cloned, since two copies would seal two texts with one nonce: `structuredClone` and `postMessage` give an
+ * A `Sealer` is not cloned, since two copies would seal two texts with one nonce: `structuredClone` and `postMessage` give an
  * object that has none of its calls.
  */
 export class Sealer {
     /**
-     * Begins a sealing by the calls of an `Aead`, of an empty text so far.
+     * Begins a sealing with the calls of an `Aead`, of an empty text so far.
      *
      * Never use a nonce twice under one key: two texts sealed with one nonce give away their XOR, and enough to forge messages.
      *
-     * Throws the first of these that fits: `UnknownSuite` for AES-GCM-SIV too, which reads a text twice (`SivSealer` serves it),
+     * Throws the first of these that applies: `UnknownSuite` for AES-GCM-SIV too, which reads a text twice (`SivSealer` serves it),
      * `KeyLength`, `NonceLength`, `AadTooLong`.
      */
     constructor(aead: Aead, suite: Suite, key: Uint8Array, nonce: Uint8Array, options?: Options);
@@ -245,8 +245,8 @@ export class Sealer {
      * `NotBegun` after `finish`.
      *
      * NEVER RESUME ONE SAVED STATE TWICE. Two texts would be sealed under one nonce, which gives away their XOR, and enough to
-     * forge messages. Mark the stored state as used before the first piece that follows it is sealed. If a crash leaves open
-     * whether it was used, begin a new sealing under a new nonce.
+     * forge messages. Mark the stored state as used before the first piece that follows it is sealed. If it is not
+     * known after a crash whether it was used, begin a new sealing under a new nonce.
      *
      * Keep the bytes as secret as the key, since messages can be forged with them, and where nobody else can write, since nothing
      * authenticates them. The key, the nonce and the place that was reached in the text are not among them.
@@ -257,7 +257,7 @@ export class Sealer {
      * Goes on with the sealing that `save` ended. Suite, key and nonce are those that it was begun with; another key or nonce is
      * not noticed here, and the sealing cannot be opened. Never resume one saved state twice: see `save`.
      *
-     * Throws the first of these that fits: `UnknownSuite` if the suite is not a number, `NotSaved`, `KeyLength`, `NonceLength`.
+     * Throws the first of these that applies: `UnknownSuite` if the suite is not a number, `NotSaved`, `KeyLength`, `NonceLength`.
      */
     static resume(aead: Aead, suite: Suite, key: Uint8Array, nonce: Uint8Array, saved: Uint8Array): Sealer;
 
@@ -268,13 +268,13 @@ export class Sealer {
 /**
  * An opening in pieces, under every suite, in two passes over the ciphertext: `check` for each piece, then `beginSecond`;
  * then `update` for each piece again, then `finish`. The passes may be split in different ways. No text comes before the whole
- * first pass was authenticated. A state is not cloned, as that of `Sealer`.
+ * first pass was authenticated. Like a `Sealer`, it is not cloned.
  */
 export class Opener {
     /**
-     * Begins an opening of a ciphertext with a tag of 16 bytes by the calls of an `Aead`.
+     * Begins an opening of a ciphertext with a tag of 16 bytes, with the calls of an `Aead`.
      *
-     * Throws the first of these that fits: `TagLength`, `UnknownSuite`, `KeyLength`, `NonceLength`, `AadTooLong`.
+     * Throws the first of these that applies: `TagLength`, `UnknownSuite`, `KeyLength`, `NonceLength`, `AadTooLong`.
      */
     constructor(aead: Aead, suite: Suite, key: Uint8Array, nonce: Uint8Array, tag: Uint8Array, options?: Options);
 
@@ -319,7 +319,7 @@ export class Opener {
      * Goes on with the opening that `save` saved, in the pass that it was in. Suite, key and nonce are those that it was begun
      * with; another key or nonce is not noticed here, and what `update` then returns is not the text.
      *
-     * Throws the first of these that fits: `UnknownSuite` if the suite is not a number, `NotSaved`, `KeyLength`, `NonceLength`.
+     * Throws the first of these that applies: `UnknownSuite` if the suite is not a number, `NotSaved`, `KeyLength`, `NonceLength`.
      */
     static resume(aead: Aead, suite: Suite, key: Uint8Array, nonce: Uint8Array, saved: Uint8Array): Opener;
 
@@ -328,18 +328,18 @@ export class Opener {
 }
 
 /**
- * A sealing in pieces under AES-GCM-SIV, whose tag is over the text, by two readings of it: `absorb` for each piece, then
+ * A sealing in pieces under AES-GCM-SIV, whose tag is over the text, in two readings: `absorb` for each piece, then
  * `beginSecond`; then `update` for each piece again, then `finish`. The readings may be split in different ways. The ciphertext of
- * all pieces, and then the tag, is what `seal` makes of the whole text. A state is not cloned, as that of `Sealer`.
+ * all pieces, and then the tag, is what `seal` makes of the whole text. Like a `Sealer`, it is not cloned.
  */
 export class SivSealer {
     /**
-     * Begins a sealing by the calls of an `Aead`, of an empty text so far.
+     * Begins a sealing with the calls of an `Aead`, of an empty text so far.
      *
      * Never use a nonce twice under one key: two texts sealed with one nonce give away whether they and the associated data are
      * the same.
      *
-     * Throws the first of these that fits: `UnknownSuite` for ChaCha20-Poly1305 and AES-GCM too, `KeyLength`, `NonceLength`,
+     * Throws the first of these that applies: `UnknownSuite` for ChaCha20-Poly1305 and AES-GCM too, `KeyLength`, `NonceLength`,
      * `AadTooLong`.
      */
     constructor(aead: Aead, suite: Suite, key: Uint8Array, nonce: Uint8Array, options?: Options);
@@ -374,8 +374,8 @@ export class SivSealer {
      * `NotBegun` after `finish`.
      *
      * NEVER RESUME ONE SAVED STATE TWICE. Two texts would be encrypted with one key stream, which gives away their XOR. Mark the
-     * stored state as used before the first piece that follows it is sealed. If a crash leaves open whether it was used, begin a
-     * new sealing under a new nonce.
+     * stored state as used before the first piece that follows it is sealed. If it is not known after a crash whether it was
+     * used, begin a new sealing under a new nonce.
      *
      * Keep the bytes as secret as the key, since messages can be forged with them, and where nobody else can write, since nothing
      * authenticates them. The key, the nonce and the place that was reached in the text are not among them.
@@ -387,7 +387,7 @@ export class SivSealer {
      * with; another key or nonce is not noticed here, and the sealing cannot be opened. Never resume one saved state twice: see
      * `save`.
      *
-     * Throws the first of these that fits: `UnknownSuite` if the suite is not a number, `NotSaved`, `KeyLength`, `NonceLength`.
+     * Throws the first of these that applies: `UnknownSuite` if the suite is not a number, `NotSaved`, `KeyLength`, `NonceLength`.
      */
     static resume(aead: Aead, suite: Suite, key: Uint8Array, nonce: Uint8Array, saved: Uint8Array): SivSealer;
 
@@ -395,7 +395,10 @@ export class SivSealer {
     wipe(): void;
 }
 
-/** The calls of aeadkit.wasm that wrap and unwrap. The bytes of that file are handed in. A key is 16, 24 or 32 bytes long, or the fault is `KeyLength`. */
+/**
+ * The calls of aeadkit.wasm that wrap and unwrap. The constructor takes the bytes of that file. A key is 16, 24 or 32 bytes
+ * long, or the fault is `KeyLength`.
+ */
 export class KeyWrap {
     constructor(bytes: ArrayBuffer | ArrayBufferView);
 

@@ -5,9 +5,9 @@
 // if it is left out. A call that fails throws one of the classes of Refused; aeadkit.d.mts says which, and what it means.
 //
 // Never use a nonce twice under one key: nothing here notices it, and aeadkit.d.mts says what it gives away. Nothing is claimed
-// of timing, since AES looks tables up by secret bytes. A call leaves zeros where its arguments and results stood in the module's
-// memory, but not on the module's stack. A Key and the states in pieces hold their structs until they are wiped or finished. The
-// memories have 64-bit addresses.
+// about timing, since AES looks tables up by secret bytes. A call leaves zeros where its arguments and results stood in the
+// module's memory, but not on the module's stack. A Key and the states in pieces hold their structs until they are wiped or
+// finished. The memories have 64-bit addresses.
 
 const TAG_BYTES = 16;
 const WRAP_BYTES = 8;
@@ -120,7 +120,7 @@ function aadOf(options) {
     return aad === undefined ? new Uint8Array(0) : aad;
 }
 
-// Throws if a tag is not bytes, or not as many as a tag has.
+// Throws if a tag is not a Uint8Array of 16 bytes.
 function wantTag(tag) {
     wantBytes(tag);
     if (tag.length !== TAG_BYTES) {
@@ -159,7 +159,7 @@ const constant = (from) => ({ from, hasLength: false });
 const result = (to) => ({ to, hasLength: false });
 const struct = (bytes) => ({ from: bytes, to: bytes, hasLength: false });
 
-// A module with a memory of its own, in which the bytes of a call stand past what the module itself uses, between two calls zeros.
+// A module with its own memory. The bytes of a call stand past what the module itself uses; between two calls there are zeros.
 class Module {
     constructor(bytes) {
         this.exports = new WebAssembly.Instance(new WebAssembly.Module(bytes), {}).exports;
@@ -253,7 +253,7 @@ let moduleOf;
 const SAVED_SEALER_BYTES = 96;
 const SAVED_PASSES_BYTES = 144;
 
-// Returns the struct of a kind that was saved as so many bytes. The first 8 are a mark, which names the kind, the pass, the version
+// Returns the struct of a kind that was saved as these bytes. The first 8 are a mark, which names the kind, the pass, the version
 // of the layout and, in its lowest byte, the suite.
 function resumed(aead, kind, length, suite, key, nonce, saved) {
     const module = moduleOf(aead);
@@ -269,7 +269,7 @@ function resumed(aead, kind, length, suite, key, nonce, saved) {
     }
 }
 
-/** The calls of aeadkit.wasm that seal and open. The bytes of that file are handed in. */
+/** The calls of aeadkit.wasm that seal and open. The constructor takes the bytes of that file. */
 export class Aead {
     #module;
 
@@ -302,7 +302,7 @@ export class Aead {
         return this.#module.made(Math.max(0, sealed.length - TAG_BYTES), "aeadkit_open", suite, key, nonce, aad, sealed);
     }
 
-    /** Makes a text its ciphertext, and returns the tag of 16 bytes. Never use a nonce twice under one key. */
+    /** Seals a text where it stands, and returns the tag of 16 bytes. Never use a nonce twice under one key. */
     sealInPlace(suite, key, nonce, text, options = {}) {
         const aad = aadOf(options);
         wantBytes(key, nonce, text, aad);
@@ -312,7 +312,7 @@ export class Aead {
         return tag;
     }
 
-    /** Makes a ciphertext with a tag of 16 bytes its text. */
+    /** Opens a ciphertext where it stands, with its tag of 16 bytes. */
     openInPlace(suite, key, nonce, ciphertext, tag, options = {}) {
         const aad = aadOf(options);
         wantBytes(key, nonce, ciphertext, aad);
@@ -336,7 +336,7 @@ export class Aead {
         return BigInt.asUintN(64, this.#fact("aeadkit_aad_limit", suite));
     }
 
-    /** Returns the number of the suite with a name, as aes-256-gcm. */
+    /** Returns the number of the suite with a name, such as aes-256-gcm. */
     suiteNamed(name) {
         if (typeof name !== "string") {
             throw new TypeError("the name of a suite is required");
@@ -399,7 +399,7 @@ export class Key {
         return this.#module.made(length, "aeadkit_open_with", this.#struct.constant, nonce, aad, sealed);
     }
 
-    /** Makes a text its ciphertext, and returns the tag of 16 bytes. Never use a nonce twice under one key. */
+    /** Seals a text where it stands, and returns the tag of 16 bytes. Never use a nonce twice under one key. */
     sealInPlace(nonce, text, options = {}) {
         const aad = aadOf(options);
         wantBytes(nonce, text, aad);
@@ -408,7 +408,7 @@ export class Key {
         return tag;
     }
 
-    /** Makes a ciphertext with a tag of 16 bytes its text. */
+    /** Opens a ciphertext where it stands, with its tag of 16 bytes. */
     openInPlace(nonce, ciphertext, tag, options = {}) {
         const aad = aadOf(options);
         wantBytes(nonce, ciphertext, aad);
@@ -449,7 +449,7 @@ export class Key {
 export class Sealer {
     #struct;
 
-    /** Begins a sealing by the calls of an Aead, of an empty text so far. Never use a nonce twice under one key. */
+    /** Begins a sealing with the calls of an Aead, of an empty text so far. Never use a nonce twice under one key. */
     constructor(aead, suite, key, nonce, options = {}) {
         // what a Key began, or what was resumed
         if (aead instanceof Struct) {
@@ -499,7 +499,7 @@ export class Sealer {
 export class Opener {
     #struct;
 
-    /** Begins an opening of a ciphertext with a tag of 16 bytes by the calls of an Aead. */
+    /** Begins an opening of a ciphertext with a tag of 16 bytes, with the calls of an Aead. */
     constructor(aead, suite, key, nonce, tag, options = {}) {
         // what a Key began, or what was resumed
         if (aead instanceof Struct) {
@@ -553,13 +553,13 @@ export class Opener {
 }
 
 /**
- * A sealing in pieces under AES-GCM-SIV, whose tag is over the text, by two readings of it: `absorb` for each piece, then
+ * A sealing in pieces under AES-GCM-SIV, whose tag is over the text, in two readings: `absorb` for each piece, then
  * `beginSecond`; then `update` for each piece again, then `finish`.
  */
 export class SivSealer {
     #struct;
 
-    /** Begins a sealing by the calls of an Aead, of an empty text so far. Never use a nonce twice under one key. */
+    /** Begins a sealing with the calls of an Aead, of an empty text so far. Never use a nonce twice under one key. */
     constructor(aead, suite, key, nonce, options = {}) {
         // what a Key began, or what was resumed
         if (aead instanceof Struct) {
@@ -613,7 +613,7 @@ export class SivSealer {
     }
 }
 
-/** The calls of aeadkit.wasm that wrap and unwrap. The bytes of that file are handed in. */
+/** The calls of aeadkit.wasm that wrap and unwrap. The constructor takes the bytes of that file. */
 export class KeyWrap {
     #module;
 

@@ -1,4 +1,4 @@
-"""Authenticated encryption (RFC 8439, SP 800-38D, RFC 8452) and key wrapping (RFC 3394, RFC 5649), by libaeadkit.so.
+"""Authenticated encryption (RFC 8439, SP 800-38D, RFC 8452) and key wrapping (RFC 3394, RFC 5649), over libaeadkit.so.
 
 >>> import os
 >>> from aeadkit import Key, Suite
@@ -13,31 +13,31 @@ b'the text'
 >>> buffer
 bytearray(b'another text')
 
-The associated data, aad, is not stored in a sealing and not hidden, but opening with other associated data fails: put there
-what says which text this is. Keys, nonces, associated data and texts are bytes, or any object that gives its bytes:
-bytearray, memoryview, array.array, mmap.mmap, an array of numpy. Anything else is a TypeError. What is not bytes is copied
-before a call works with it, so another thread may write to it meanwhile. Results are bytes.
+The associated data, aad, is neither hidden nor stored in the sealing, but opening with other associated data fails: put
+there whatever says which text it is. Keys, nonces, associated data and texts are bytes, or any object that gives its bytes:
+bytearray, memoryview, array.array, mmap.mmap, an array of numpy. Anything else is a TypeError. An argument that is not bytes
+is copied before the call uses it, so another thread may write to it meanwhile. Results are bytes.
 
 The calls whose names end in in_place change a writable buffer where it stands, such as a bytearray, and do not copy it. No
 other thread or process may read or write the buffer during such a call: an opening could otherwise give a text that was never
-sealed. The tag of 16 bytes is apart; the ciphertext and then the tag are the sealing that open takes. If the exception of a
-signal handler, such as KeyboardInterrupt, ends the call, the buffer may be changed already, and the tag is lost.
+sealed. The tag of 16 bytes is separate; the ciphertext and then the tag are the sealing that open takes. If an exception from
+a signal handler, such as KeyboardInterrupt, ends the call, the buffer may be changed already, and the tag is lost.
 
-A nonce is 12 bytes long. It is not secret, but must never be used twice under one key to seal, and nothing here looks for
-that. Two sealings with one nonce give away the XOR of their texts, and enough to forge messages under the key; under
-AES-GCM-SIV only whether the texts and the associated data are the same. A sealing in pieces uses its nonce up even if it is not
-finished. A counter does not repeat if it is stored before it is used. Random nonces serve for at most 2^32 sealings under a key
-(SP 800-38D, 8.3).
+A nonce is 12 bytes long. It is not secret, but it must never be used for two sealings under one key, and nothing here notices
+a repeat. Two sealings with one nonce give away the XOR of their texts, and enough to forge messages under the key; under
+AES-GCM-SIV only whether the texts and the associated data are the same. A sealing in pieces uses its nonce up even if it is
+not finished. A counter does not repeat if it is stored before it is used. Random nonces serve for at most 2^32 sealings under
+a key (SP 800-38D, 8.3).
 
 A call that is refused raises a subclass of Refused. Faults of a suite and of lengths are ValueErrors too.
 
-The time that a call takes may tell of its secrets, since AES looks tables up by secret bytes. A Key, a Sealer, an Opener and a
+The time that a call takes may depend on secrets, since AES looks tables up by secret bytes. A Key, a Sealer, an Opener and a
 SivSealer wipe the memory in which they hold the key when they are closed or deleted; a with statement closes them. The bytes of
 keys and texts that you pass or get are Python's own, and are not wiped.
 
-The library is the file that the environment variable AEADKIT names, else the package's own, else the one that the system
-finds. The import fails with an ImportError that names the file if it is of another major version, or its structs have other
-sizes than this package expects. The version of the library that was loaded is library_version.
+The library is the file that the environment variable AEADKIT names, or else the package's own, or else the one that the
+system finds. The import fails with an ImportError that names the file if the library has another major version, or structs of
+other sizes, than this package expects. The version of the library that was loaded is library_version.
 """
 
 import ctypes
@@ -128,7 +128,7 @@ class TagMismatch(Refused):
 
 
 class WrapLength(Refused, ValueError):
-    """The length is not one that the call takes; wrap, unwrap, wrap_padded and unwrap_padded say which it takes."""
+    """The call does not take this length; wrap, unwrap, wrap_padded and unwrap_padded say which lengths they take."""
 
     message = "the length is not a multiple of 8, or too short"
 
@@ -193,12 +193,12 @@ class Suite(enum.IntEnum):
 
     @property
     def text_limit(self) -> int:
-        """The most bytes of a text."""
+        """The length of the longest text in bytes."""
         return _library.aeadkit_text_limit(self)
 
     @property
     def aad_limit(self) -> int:
-        """The most bytes of associated data."""
+        """The length of the longest associated data in bytes."""
         return _library.aeadkit_aad_limit(self)
 
     @classmethod
@@ -645,7 +645,7 @@ class _Saves(_InPieces):
 
         NEVER RESUME ONE SAVED STATE OF A SEALING TWICE: two texts would be sealed under one nonce, which gives away their XOR,
         and enough to forge messages. The suite, the key and the nonce are those that it was begun with, of which the library
-        notices only another suite: a sealing under another key or nonce cannot be opened.
+        notices only another suite: a sealing that goes on under another key or nonce cannot be opened.
 
         Raises NotSaved if the bytes are not what save returned, for this class and suite; UnknownSuite, KeyLength or
         NonceLength; or NotImplementedError if the library that was loaded cannot resume.
@@ -710,8 +710,8 @@ class Opener(_Saves):
     """An opening in pieces, under every suite, in two passes over the ciphertext: check each piece, then begin_second; then
     update with each piece again, then finish.
 
-    The last 16 bytes of a sealing are its tag, which is not part of the ciphertext. The second pass may be cut into other
-    pieces. No text is returned before the first pass has found a valid sealing, and the text may be used once finish
+    The last 16 bytes of a sealing are its tag, which is not part of the ciphertext. The pieces of the second pass may be cut
+    differently. No text is returned before the first pass has found a valid sealing, and the text may be used once finish
     returns. Calls from several threads come one after the other, and the pieces are joined in that order. An Opener cannot be
     copied or pickled, and a forked process cannot go on with it.
 
@@ -776,12 +776,12 @@ class Opener(_Saves):
 
 
 class SivSealer(_Saves):
-    """A sealing in pieces under AES-GCM-SIV, whose tag is computed first, by two readings of the text: absorb each piece, then
+    """A sealing in pieces under AES-GCM-SIV, whose tag is computed first, in two readings of the text: absorb each piece, then
     begin_second, which returns the tag; then update with each piece again, then finish.
 
-    The ciphertexts of the pieces and then the tag are the sealing of the whole text, once finish returns. The second reading
-    may be cut into other pieces. Calls from several threads come one after the other, and the pieces are joined in that order.
-    A SivSealer cannot be copied or pickled, and a forked process cannot go on with it.
+    The ciphertexts of the pieces and then the tag are the sealing of the whole text, once finish returns. The pieces of the
+    second reading may be cut differently. Calls from several threads come one after the other, and the pieces are joined in
+    that order. A SivSealer cannot be copied or pickled, and a forked process cannot go on with it.
 
     Never use a nonce twice under one key: two sealings under one nonce give away whether their texts and associated data are
     the same.

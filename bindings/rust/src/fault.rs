@@ -1,4 +1,4 @@
-//! The faults, and the statuses of the library that they stand for.
+//! The faults, and the library's statuses for them.
 
 #![forbid(unsafe_code)]
 
@@ -60,7 +60,7 @@ impl fmt::Display for Fault {
 
 impl Error for Fault {}
 
-/// The result that a status of the library stands for.
+/// The result for a status of the library.
 pub(crate) fn outcome(status: u32) -> Result<(), Fault> {
     match status {
         0 => Ok(()),

@@ -9,8 +9,8 @@ use core::fmt;
 
 /// A suite and a key, whose key schedule is made once. Threads may share it.
 ///
-/// Its memory holds the key, and is wiped when it is dropped. A move leaves the bytes where it stood before: a key in a `Box`
-/// or an `Arc` stays in one place.
+/// Its memory holds the key, and is wiped when it is dropped. If it is moved, the bytes stay behind in the old place; in a `Box`
+/// or an `Arc` it stays in one place.
 #[derive(Clone)]
 pub struct Key {
     suite: Suite,
@@ -40,7 +40,7 @@ impl Key {
     ///
     /// # Errors
     ///
-    /// The first of these that fits; no byte is changed then:
+    /// The first of these that applies; then no byte is changed:
     /// - `AadTooLong`: `aad` is longer than the suite's limit
     /// - `TextTooLong`: the text is longer than the suite's limit
     ///
@@ -57,7 +57,7 @@ impl Key {
     ///
     /// # Errors
     ///
-    /// The first of these that fits; no byte is changed then:
+    /// The first of these that applies; then no byte is changed:
     /// - `AadTooLong`: `aad` is longer than the suite's limit
     /// - `TextTooLong`: the ciphertext is longer than the suite's limit
     /// - `TagMismatch`: authentication failed
@@ -77,7 +77,7 @@ impl Key {
     ///
     /// # Errors
     ///
-    /// The first of these that fits; no byte is written then:
+    /// The first of these that applies; then no byte is written:
     /// - `AadTooLong`: `aad` is longer than the suite's limit
     /// - `TextTooLong`: the text is longer than the suite's limit
     /// - `OutputLength`: `sealed` is not 16 bytes longer than `text`
@@ -93,7 +93,7 @@ impl Key {
     ///
     /// # Errors
     ///
-    /// The first of these that fits. After `TagMismatch` the whole of `text` is zeros; after the others no byte is written.
+    /// The first of these that applies. After `TagMismatch` the whole of `text` is zeros; after the others no byte is written.
     /// - `AadTooLong`: `aad` is longer than the suite's limit
     /// - `TooShort`: `sealed` is shorter than a tag
     /// - `TextTooLong`: the text is longer than the suite's limit
@@ -107,7 +107,7 @@ impl Key {
     ///
     /// # Errors
     ///
-    /// The first of these that fits:
+    /// The first of these that applies:
     /// - `AadTooLong`: `aad` is longer than the suite's limit
     /// - `TextTooLong`: the text is longer than the suite's limit
     ///
@@ -125,7 +125,7 @@ impl Key {
     ///
     /// # Errors
     ///
-    /// The first of these that fits:
+    /// The first of these that applies:
     /// - `AadTooLong`: `aad` is longer than the suite's limit
     /// - `TooShort`: `sealed` is shorter than a tag
     /// - `TextTooLong`: the text is longer than the suite's limit
@@ -141,7 +141,7 @@ impl Key {
     ///
     /// # Errors
     ///
-    /// The first of these that fits:
+    /// The first of these that applies:
     /// - `UnknownSuite`: the suite is an AES-GCM-SIV, which reads a text twice; [`Key::siv_sealer`] serves it
     /// - `AadTooLong`: `aad` is longer than the suite's limit
     ///
@@ -163,7 +163,7 @@ impl Key {
     ///
     /// # Errors
     ///
-    /// The first of these that fits:
+    /// The first of these that applies:
     /// - `UnknownSuite`: the suite is not an AES-GCM-SIV; [`Key::sealer`] serves the others, which read a text once
     /// - `AadTooLong`: `aad` is longer than the suite's limit
     ///

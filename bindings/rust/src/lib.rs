@@ -1,5 +1,5 @@
 //! Authenticated encryption (ChaCha20-Poly1305 of RFC 8439, AES-GCM of SP 800-38D, AES-GCM-SIV of RFC 8452) and key wrapping
-//! (RFC 3394, RFC 5649), by libaeadkit.a, whose code is proved.
+//! (RFC 3394, RFC 5649), over libaeadkit.a, whose code is proved.
 //!
 //! ```
 //! use aeadkit::{Fault, Key, Suite};
@@ -24,21 +24,21 @@
 //! | [`wrap_to_vec`], [`unwrap_to_vec`], [`wrap_padded_to_vec`], [`unwrap_padded_to_vec`] | is a vector | |
 //! | [`wrap`], [`unwrap`], [`wrap_padded`], [`unwrap_padded`] | stands in a slice of the caller | |
 //!
-//! [`Key`] has the first four rows as methods, and makes its key schedule once. A text in pieces can be left and gone on with
-//! after a restart: see [`Sealer::save`].
+//! [`Key`] has the first four rows as methods, and makes its key schedule once. A text in pieces can be saved and continued after
+//! a restart: see [`Sealer::save`].
 //!
 //! All calls take their arguments in one order: suite, key, nonce, the bytes that are sealed or opened, the bytes that the result
-//! goes to, a tag that is given, and the associated data last. Associated data is authenticated and not encrypted, as the header
+//! goes to, a tag that is given, and the associated data last. Associated data is authenticated and not encrypted, like the header
 //! of a message: a message opens only with the associated data that it was sealed with.
 //!
-//! Never use a nonce twice under one key: see [`seal`]. After a fault each buffer is as before, with two exceptions: where
+//! Never use a nonce twice under one key: see [`seal`]. After a fault each buffer is as before, with two exceptions: if
 //! [`open`], [`unwrap`] or [`unwrap_padded`] fails to authenticate, its output is all zeros; and a second pass or reading in
-//! pieces may end with [`Fault::SourceChanged`] after it changed its pieces. Nothing allocates but the calls that return a vector.
+//! pieces may end with [`Fault::SourceChanged`] after it changed its pieces. Only the calls that return a vector allocate.
 //!
-//! Nothing is claimed of timing, since AES looks tables up by secret bytes. [`Key`] and the states in pieces are wiped when they
-//! are dropped. The slices of the caller, the places that a moved key or state leaves, and the stack are not.
+//! Nothing is claimed about timing, since AES looks tables up by secret bytes. [`Key`] and the states in pieces are wiped when they
+//! are dropped. The caller's slices, the stack, and the places that a key or a state was moved from are not.
 //!
-//! The crate is `no_std`. Without its feature `alloc`, a default, the calls that return vectors are left out. The library calls
+//! The crate is `no_std`. Without its default feature `alloc` it has no calls that return vectors. The library calls
 //! `memcpy`, `memmove`, `memset` and `bcmp`, which the C library has. If the program is compiled for processors with AVX2, as
 //! with `RUSTFLAGS="-C target-cpu=x86-64-v3"`, the library's build for these is linked.
 
@@ -78,10 +78,10 @@ pub use wrap::{unwrap, unwrap_padded, wrap, wrap_padded};
 #[cfg(feature = "alloc")]
 pub use wrap::{unwrap_padded_to_vec, unwrap_to_vec, wrap_padded_to_vec, wrap_to_vec};
 
-/// The length of a tag in bytes: a sealing is that much longer than its text.
+/// The length of a tag in bytes: a sealing is longer than its text by this.
 pub const TAG_BYTES: usize = 16;
 
-/// A wrapping is that many bytes longer than its text, or than its padded text.
+/// The number of bytes by which a wrapping is longer than its text, or than its padded text.
 pub const WRAP_BYTES: usize = 8;
 
 /// The length of a nonce in bytes.

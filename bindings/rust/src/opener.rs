@@ -25,7 +25,7 @@ impl Opener {
     ///
     /// # Errors
     ///
-    /// The first of these that fits:
+    /// The first of these that applies:
     /// - `KeyLength`: `key` does not have the suite's length
     /// - `AadTooLong`: `aad` is longer than the suite's limit
     pub fn new(
@@ -52,8 +52,7 @@ impl Opener {
         Ok(Opener { state })
     }
 
-    /// Takes the next piece of the ciphertext, of any length, without a change to it. The tag is not part of the
-    /// ciphertext.
+    /// Takes the next piece of the ciphertext, of any length, and does not change it. The tag is not part of the ciphertext.
     ///
     /// # Errors
     ///
@@ -89,7 +88,7 @@ impl CheckedOpener {
     ///
     /// # Errors
     ///
-    /// `SourceChanged`: authentication of the second pass failed. What `update` made is to be thrown away.
+    /// `SourceChanged`: authentication of the second pass failed. Throw away what `update` made.
     pub fn finish(mut self) -> Result<(), Fault> {
         outcome(raw::opener_finish(&mut self.state))
     }

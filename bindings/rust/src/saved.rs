@@ -22,7 +22,7 @@ fn numbers_of<const NUMBERS: usize, const BYTES: usize>(bytes: &[u8; BYTES]) -> 
     array::from_fn(|i| u64::from_le_bytes(array::from_fn(|j| bytes[8 * i + j])))
 }
 
-/// The result that a status of a call on a resumed state stands for. The first number of a saved state is a mark, which names its
+/// The result for the status of a call on a resumed state. The first number of a saved state is a mark, which names its
 /// type, the version of the layout and, in the lowest byte, the suite.
 fn resumed(suite: Suite, saved: &[u8], status: u32) -> Result<(), Fault> {
     if status == NOT_BEGUN || u32::from(saved[0]) != suite as u32 {
@@ -49,7 +49,7 @@ impl Sealer {
     ///
     /// # Errors
     ///
-    /// The first of these that fits:
+    /// The first of these that applies:
     /// - `NotSaved`: `saved` is not a saved `Sealer` of this suite, in this version of the layout
     /// - `KeyLength`: `key` does not have the suite's length
     ///
@@ -105,7 +105,7 @@ impl Opener {
     ///
     /// # Errors
     ///
-    /// The first of these that fits:
+    /// The first of these that applies:
     /// - `NotSaved`: `saved` is not a saved `Opener` of this suite, in this version of the layout
     /// - `KeyLength`: `key` does not have the suite's length
     pub fn resume(
@@ -122,8 +122,8 @@ impl Opener {
 impl CheckedOpener {
     /// Returns the bytes that [`CheckedOpener::resume`] takes to go on from here. The opening itself goes on too.
     ///
-    /// Keep the bytes as secret as the key, and where nobody else can write: that the first pass was authenticated is known from
-    /// them alone.
+    /// Keep the bytes as secret as the key, and where nobody else can write: they alone say that the first pass was
+    /// authenticated.
     pub fn save(&self) -> [u8; SAVED_PASSES_BYTES] {
         save_opener(&self.state)
     }
@@ -135,7 +135,7 @@ impl CheckedOpener {
     ///
     /// # Errors
     ///
-    /// The first of these that fits:
+    /// The first of these that applies:
     /// - `NotSaved`: `saved` is not a saved `CheckedOpener` of this suite, in this version of the layout
     /// - `KeyLength`: `key` does not have the suite's length
     pub fn resume(
@@ -186,7 +186,7 @@ impl SivSealer {
     ///
     /// # Errors
     ///
-    /// The first of these that fits:
+    /// The first of these that applies:
     /// - `NotSaved`: `saved` is not a saved `SivSealer` of this suite, in this version of the layout
     /// - `KeyLength`: `key` does not have the suite's length
     ///
@@ -218,7 +218,7 @@ impl SivWriter {
     ///
     /// # Errors
     ///
-    /// The first of these that fits:
+    /// The first of these that applies:
     /// - `NotSaved`: `saved` is not a saved `SivWriter` of this suite, in this version of the layout
     /// - `KeyLength`: `key` does not have the suite's length
     ///

@@ -20,7 +20,7 @@ impl Sealer {
     ///
     /// # Errors
     ///
-    /// The first of these that fits:
+    /// The first of these that applies:
     /// - `UnknownSuite`: the suite is an AES-GCM-SIV, which reads a text twice; [`SivSealer`](crate::SivSealer) serves it
     /// - `KeyLength`: `key` does not have the suite's length
     /// - `AadTooLong`: `aad` is longer than the suite's limit

@@ -26,7 +26,7 @@ impl SivSealer {
     ///
     /// # Errors
     ///
-    /// The first of these that fits:
+    /// The first of these that applies:
     /// - `UnknownSuite`: the suite is not an AES-GCM-SIV; [`Sealer`](crate::Sealer) serves the others, which read a text once
     /// - `KeyLength`: `key` does not have the suite's length
     /// - `AadTooLong`: `aad` is longer than the suite's limit
@@ -45,7 +45,7 @@ impl SivSealer {
         Ok(SivSealer { state })
     }
 
-    /// Adds a piece of any length to the text, without a change to the piece.
+    /// Adds a piece of any length to the text, and does not change the piece.
     ///
     /// # Errors
     ///
@@ -78,8 +78,7 @@ impl SivWriter {
     ///
     /// # Errors
     ///
-    /// `SourceChanged`: its text had another length or another tag than the first. What `update` made is to be thrown
-    /// away.
+    /// `SourceChanged`: its text had another length or another tag than the first. Throw away what `update` made.
     pub fn finish(mut self) -> Result<(), Fault> {
         outcome(raw::siv_finish(&mut self.state))
     }

@@ -5,9 +5,9 @@
 use crate::TAG_BYTES;
 use core::ops::Deref;
 
-/// The tag of a sealed text. It reads as an array: `&tag` is taken where `&[u8; 16]` is wanted, and `*tag` is the array.
+/// The tag of a sealed text. It can be used as an array: `&tag` is a `&[u8; 16]`, and `*tag` is the array.
 ///
-/// A call whose tag is dropped warns, also behind `?`, since the text cannot be opened without its tag.
+/// The compiler warns if the tag of a call is dropped, also behind `?`, since the text cannot be opened without it.
 #[must_use = "a sealed text cannot be opened without its tag"]
 #[derive(Clone, Copy, Debug, PartialEq, Eq)]
 pub struct Tag(pub [u8; TAG_BYTES]);

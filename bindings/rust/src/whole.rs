@@ -12,7 +12,7 @@ use alloc::{vec, vec::Vec};
 ///
 /// # Errors
 ///
-/// The first of these that fits; no byte is changed then:
+/// The first of these that applies; then no byte is changed:
 /// - `KeyLength`: `key` does not have the suite's length
 /// - `AadTooLong`: `aad` is longer than the suite's limit
 /// - `TextTooLong`: the text is longer than the suite's limit
@@ -36,7 +36,7 @@ pub fn seal_in_place(
 ///
 /// # Errors
 ///
-/// The first of these that fits; no byte is changed then:
+/// The first of these that applies; then no byte is changed:
 /// - `KeyLength`: `key` does not have the suite's length
 /// - `AadTooLong`: `aad` is longer than the suite's limit
 /// - `TextTooLong`: the ciphertext is longer than the suite's limit
@@ -58,7 +58,7 @@ pub fn open_in_place(
 ///
 /// # Errors
 ///
-/// The first of these that fits; no byte is written then:
+/// The first of these that applies; then no byte is written:
 /// - `KeyLength`: `key` does not have the suite's length
 /// - `AadTooLong`: `aad` is longer than the suite's limit
 /// - `TextTooLong`: the text is longer than the suite's limit
@@ -82,7 +82,7 @@ pub fn seal(
 ///
 /// # Errors
 ///
-/// The first of these that fits. After `TagMismatch` the whole of `text` is zeros; after the others no byte is written.
+/// The first of these that applies. After `TagMismatch` the whole of `text` is zeros; after the others no byte is written.
 /// - `KeyLength`: `key` does not have the suite's length
 /// - `AadTooLong`: `aad` is longer than the suite's limit
 /// - `TooShort`: `sealed` is shorter than a tag
@@ -104,7 +104,7 @@ pub fn open(
 ///
 /// # Errors
 ///
-/// The first of these that fits:
+/// The first of these that applies:
 /// - `KeyLength`: `key` does not have the suite's length
 /// - `AadTooLong`: `aad` is longer than the suite's limit
 /// - `TextTooLong`: the text is longer than the suite's limit
@@ -129,7 +129,7 @@ pub fn seal_to_vec(
 ///
 /// # Errors
 ///
-/// The first of these that fits:
+/// The first of these that applies:
 /// - `KeyLength`: `key` does not have the suite's length
 /// - `AadTooLong`: `aad` is longer than the suite's limit
 /// - `TooShort`: `sealed` is shorter than a tag

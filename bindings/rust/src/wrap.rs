@@ -14,7 +14,7 @@ use alloc::{vec, vec::Vec};
 ///
 /// # Errors
 ///
-/// The first of these that fits; no byte is written then:
+/// The first of these that applies; then no byte is written:
 /// - `KeyLength`: `key` is not 16, 24 or 32 bytes long
 /// - `WrapLength`: `text` is shorter than 16 bytes, or its length is not a multiple of 8
 /// - `OutputLength`: `wrapped` is not 8 bytes longer than `text`
@@ -28,7 +28,7 @@ pub fn wrap(key: &[u8], text: &[u8], wrapped: &mut [u8]) -> Result<(), Fault> {
 ///
 /// # Errors
 ///
-/// The first of these that fits. After `WrapIntegrity` the whole of `text` is zeros; after the others no byte is written.
+/// The first of these that applies. After `WrapIntegrity` the whole of `text` is zeros; after the others no byte is written.
 /// - `KeyLength`: `key` is not 16, 24 or 32 bytes long
 /// - `WrapLength`: `wrapped` is shorter than 24 bytes, or its length is not a multiple of 8
 /// - `OutputLength`: `text` is not 8 bytes shorter than `wrapped`
@@ -44,7 +44,7 @@ pub fn unwrap(key: &[u8], wrapped: &[u8], text: &mut [u8]) -> Result<(), Fault> 
 ///
 /// # Errors
 ///
-/// The first of these that fits; no byte is written then:
+/// The first of these that applies; then no byte is written:
 /// - `KeyLength`: `key` is not 16, 24 or 32 bytes long
 /// - `WrapLength`: `text` is empty
 /// - `TextTooLong`: the text is longer than 2^32 - 1 bytes
@@ -59,7 +59,7 @@ pub fn wrap_padded(key: &[u8], text: &[u8], wrapped: &mut [u8]) -> Result<(), Fa
 ///
 /// # Errors
 ///
-/// The first of these that fits. After `WrapIntegrity` the whole of `text` is zeros; after the others no byte is written.
+/// The first of these that applies. After `WrapIntegrity` the whole of `text` is zeros; after the others no byte is written.
 /// - `KeyLength`: `key` is not 16, 24 or 32 bytes long
 /// - `WrapLength`: `wrapped` is shorter than 16 bytes, or its length is not a multiple of 8
 /// - `TextTooLong`: the text is longer than 2^32 - 1 bytes
