@@ -32,7 +32,9 @@ mod uses;
 mod words;
 mod work;
 
-pub use bytes::{Block, Key16, Key24, Key32, Nonce, Tag};
+pub use bytes::{
+    Block, BlockUse, Bytes, Key16, Key24, Key32, KeyUse, LengthFault, Nonce, NonceUse, Tag, TagUse,
+};
 pub use compare::{same, xor_into, xored};
 pub use device::{DeviceFault, Intake, Outlet};
 pub use fault::{Fault, outcome_number};

@@ -14,7 +14,7 @@ invariant_of-self c =
     let t : ℕ = c.times_word-third.result in
     let u : ℕ = c.times_word-fourth.result in
     let key : to_be_bytes w128 h ≡ to_be_bytes w128 c.of-by_key.result.multiples.word =
-    bytes_of_word h c.args.key.now c.bytes.ensures.is_block (c.word_of-word.ensures ∙ ap g c.bytes.ensures.value)
+    bytes_of_word h c.args.key.now c.bytes.ensures.are_bytes (c.word_of-word.ensures ∙ ap g c.bytes.ensures.value)
     ∙ sym c.of-by_key.ensures in
     let second : IsReduced (power (of_word h) 2) s = next_power h 1 h s (first_power h)
     (subst (λ (k : List ℕ). IsWordProduct h k s) (sym key) c.times_word-second.ensures) in
@@ -31,5 +31,5 @@ invariant_of-self c =
 pub returns : goal.returns
 returns c =
     ap (to_be_bytes w128) c.set.ensures
-    ∙ bytes_of_word c.word_of-word.result c.args.key.now c.bytes.ensures.is_block
+    ∙ bytes_of_word c.word_of-word.result c.args.key.now c.bytes.ensures.are_bytes
     (c.word_of-word.ensures ∙ ap g c.bytes.ensures.value)
