@@ -36,6 +36,7 @@ pub use bytes::{
     Block, BlockUse, Bytes, Key16, Key24, Key32, KeyUse, LengthFault, Nonce, NonceUse, Tag, TagUse,
 };
 pub use compare::{same, xor_into, xored};
+pub use failures::Failures;
 pub use device::{DeviceFault, Intake, Outlet};
 pub use fault::{Fault, outcome_number};
 pub use memory::{SliceIntake, VecOutlet};

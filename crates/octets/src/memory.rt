@@ -73,7 +73,7 @@ impl<A: Allocator> VecOutlet<A> {
 impl<A: Allocator> Outlet for VecOutlet<A> {
     ghost taken = { λ s. Some s.kept.items };
 
-    ghost failures = { λ s. s.failures.count };
+    ghost failures = { λ s. s.failures };
 
     fn give(&mut self, bytes: &[u8]) -> Result<usize, DeviceFault> {
         match self.kept.extend_from_slice(bytes) {

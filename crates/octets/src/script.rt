@@ -61,7 +61,7 @@ fn allowed(steps: &[Step], call: &mut usize, wanted: usize) -> Option<usize>
 impl<A: Allocator> Intake for ScriptIntake<A> {
     ghost left = { λ s. Some (drop s.at s.bytes.items) };
 
-    ghost failures = { λ s. s.failures.count };
+    ghost failures = { λ s. s.failures };
 
     fn take(&mut self, buf: &mut [u8]) -> Result<usize, DeviceFault> {
         let rest = &self.bytes.as_slice()[self.at..];
@@ -115,7 +115,7 @@ impl<A: Allocator> ScriptOutlet<A> {
 impl<A: Allocator> Outlet for ScriptOutlet<A> {
     ghost taken = { λ s. ⟦<VecOutlet<A> as Outlet>⟧.taken s.kept };
 
-    ghost failures = { λ s. s.failures.count };
+    ghost failures = { λ s. s.failures };
 
     fn give(&mut self, bytes: &[u8]) -> Result<usize, DeviceFault> {
         if let Some(n) = allowed(self.steps.as_slice(), &mut self.call, bytes.len()) {
