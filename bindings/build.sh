@@ -30,10 +30,10 @@ case " $* " in *" --cpu"*) fast=no ;; esac
 if [ $whole = yes ] && [ $fast = yes ]; then
     hwcaps=$prefix/lib/glibc-hwcaps/x86-64-v3
     mkdir -p "$hwcaps" "$prefix/lib/x86-64-v3"
-    archive "$room" "$prefix/lib/x86-64-v3" "$@" --cpu=x86-64-v3
+    archive "$repository" "$room" "$prefix/lib/x86-64-v3" "$@" --cpu=x86-64-v3
     shared "$prefix/lib/x86-64-v3/libaeadkit.a" "$hwcaps" "$version" "$here/exports.map"
 fi
-archive "$room" "$prefix/lib" "$@"
+archive "$repository" "$room" "$prefix/lib" "$@"
 shared "$prefix/lib/libaeadkit.a" "$prefix/lib" "$version" "$here/exports.map"
 filled "$here/include/aeadkit.h" "$version" > "$prefix/include/aeadkit.h"
 cat > "$prefix/lib/pkgconfig/aeadkit.pc" <<END

@@ -2,12 +2,8 @@
 
 ghost use Rattle.std.specs.Prelude.{⊤, ℕ, List};
 
-/// Whether a vector of the processor holds 32 bytes, as with AVX2. No code can ask, so `bindings/build.sh` writes `true`
-/// here for such a processor. It chooses between forms that give the same bytes and differ in speed alone.
-pub const WIDE: bool = false;
-
-/// Work in small steps, which other code does wherever the processor has room for one. It is `Copy` so that a
-/// loop can step a local copy, which stays in registers.
+/// Work in small steps, which other code does wherever the processor has room for one. It is `Copy` so that a loop can step
+/// a local copy, which stays in registers.
 pub trait Work: Copy {
     // Once all its steps are done, the work has taken in this text under this key.
     ghost comes_to: { Self → List ℕ → List ℕ → Type 0 };
