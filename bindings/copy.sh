@@ -44,24 +44,24 @@ proved() {
     grep '^logic=' "$log" | tail -n 1
 }
 
-# Tells the copy whether a vector of the processor holds 32 bytes: fit ROOM [rattle's flags]
+# Lays into the copy the crate `target` that fits the processor: fit REPOSITORY ROOM [rattle's flags]
+# For one with AVX2 it is that of bindings/avx2, else that of the repository.
 fit() {
-    work=$1/crates/octets/src/work.rt
-    wide=false
-    case " $* " in *" --cpu"[=\ ]x86-64-v[34]" "*) wide=true ;; esac
-    sed "s/^\(pub const WIDE: bool =\) .*;/\1 $wide;/" "$work" > "$work.new"
-    grep -q "^pub const WIDE: bool = $wide;" "$work.new" || { echo "no constant WIDE in $work" >&2; exit 1; }
-    mv "$work.new" "$work"
+    target=$1/crates/target
+    case " $* " in *" --cpu"[=\ ]x86-64-v[34]" "*) target=$1/bindings/avx2/target ;; esac
+    rm -rf "$2/crates/target/src"
+    cp -a "$target/src" "$2/crates/target/src"
 }
 
-# Builds FOLDER/libaeadkit.a of the copy: archive ROOM FOLDER [rattle's flags]
+# Builds FOLDER/libaeadkit.a of the copy: archive REPOSITORY ROOM FOLDER [rattle's flags]
 # `rt lib` proves before it builds, so what is linked is proved. Functions start at multiples of 64 bytes: otherwise the speed of
 # one depends on the length of those before it, since some processors are slow at a jump across a multiple of 32 bytes.
 archive() {
-    room=$1
-    folder=$2
-    shift 2
-    fit "$room" "$@"
+    repository=$1
+    room=$2
+    folder=$3
+    shift 3
+    fit "$repository" "$room" "$@"
     proved "$room" capi lib "$@"
     objcopy -w --set-section-alignment '.text.*=64' "$room/crates/capi/out/libcapi.a" "$folder/libaeadkit.a"
 }
@@ -83,7 +83,7 @@ program() {
     folder=$3
     shift 3
     copy "$repository" "$room"
-    fit "$room" "$@"
+    fit "$repository" "$room" "$@"
     proved "$room" aeadkit run "$@" -- --version
     put "$room/crates/aeadkit/out/aeadkit" "$folder"
 }

@@ -19,7 +19,7 @@ LC_ALL=C
 export LC_ALL
 room=$(mktemp -d)
 trap 'rm -rf "$room"' EXIT
-find README.md crates.txt HANDLES docs bindings crates \( -path 'crates/*/out' -o -name target -o -name __pycache__ \) -prune \
+find README.md crates.txt HANDLES docs bindings crates \( -path 'crates/*/out' -o -path 'bindings/rust/target' -o -name __pycache__ \) -prune \
     -o -print > "$room/paths"
 find README.md bindings/README.md docs -name '*.md' -type f | sort | xargs awk -v paths="$room/paths" '
 function wrong(message) { print FILENAME ":" FNR ": " message | "cat >&2"; bad = 1 }

@@ -1,6 +1,7 @@
 //! The tests of all crates. `of_NAME` tests the crate NAME; the other modules are what several of these use.
 mod devices;
 mod digits;
+mod memory;
 mod of_aead;
 mod of_aes;
 mod of_chacha;

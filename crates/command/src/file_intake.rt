@@ -4,7 +4,7 @@ ghost use Rattle.std.specs.Io.{ReadsAtMost};
 ghost use Rattle.std.specs.Io.KnownBytes.{ReadConsumes};
 ghost use Rattle.octets.specs.Device.{Counts};
 
-use octets::{DeviceFault, Intake};
+use octets::{DeviceFault, Failures, Intake};
 use std::fs::OpenFile;
 use std::io::Read;
 
@@ -15,7 +15,7 @@ pub struct FileIntake<R> {
     reader: R,
     // How many bytes of that length were not read yet.
     owed: u64,
-    failed: u64,
+    failures: Failures,
 }
 
 impl<R: Read> FileIntake<R> {
@@ -28,7 +28,7 @@ impl<R: Read> FileIntake<R> {
         FileIntake {
             reader,
             owed,
-            failed: 0,
+            failures: Failures::none(),
         }
     }
 }
@@ -36,12 +36,12 @@ impl<R: Read> FileIntake<R> {
 impl<R: Read> Intake for FileIntake<R> {
     ghost left = { λ s. R.remaining s.reader };
 
-    ghost failures = { λ s. s.failed };
+    ghost failures = { λ s. s.failures };
 
     fn take(&mut self, buf: &mut [u8]) -> Result<usize, DeviceFault>
         ensures bound { ReadsAtMost result buf.new }
         ensures bytes { ReadConsumes (R.remaining self.old.reader) (R.remaining self.new.reader) result buf.new }
-        ensures count { Counts self.old.failed self.new.failed result }
+        ensures count { Counts self.old.failures self.new.failures result }
         // Its end comes only when no byte is owed.
         ensures end { IfOk result (λ n. n ≡ 0 → 0 < length buf.new → self.old.owed ≡ 0) }
         ensures owed { IfOk result (λ n. self.new.owed ≡ self.old.owed - n) }
@@ -52,7 +52,7 @@ impl<R: Read> Intake for FileIntake<R> {
                 Ok(n)
             }
             _ => {
-                self.failed = self.failed.saturating_add(1);
+                self.failures.add();
                 Err(DeviceFault)
             }
         }

@@ -7,7 +7,7 @@ ghost use Rattle.command.specs.Blames.{OutputMayFail};
 ghost use Rattle.command.specs.NewFiles.{held};
 
 use crate::storage::Storage;
-use octets::{DeviceFault, Fault, Outlet};
+use octets::{DeviceFault, Failures, Fault, Outlet};
 use std::alloc::{AllocError, Allocator};
 
 // How many bytes are kept before they are written.
@@ -23,10 +23,10 @@ pub(crate) struct NewFile<'a, F: Storage, A: Allocator> {
     file: Option<F::Output>,
     pending: Vec<u8, A>,
     written: usize,
-    failed: u64,
+    failures: Failures,
     ghost in_range: { written ≤ vec_len pending },
     ghost room: { 0 < vec_capacity pending },
-    ghost blame: { 0 < failed → OutputMayFail F.make_may_fail F.Output.failures },
+    ghost blame: { 0 < failures → OutputMayFail F.make_may_fail F.Output.failures },
 }
 
 impl<'a, F: Storage, A: Allocator> NewFile<'a, F, A> {
@@ -45,7 +45,7 @@ impl<'a, F: Storage, A: Allocator> NewFile<'a, F, A> {
             file: None,
             pending: Vec::with_capacity(alloc, PENDING)?,
             written: 0,
-            failed: 0,
+            failures: Failures::none(),
         })
     }
 
@@ -57,7 +57,7 @@ impl<'a, F: Storage, A: Allocator> NewFile<'a, F, A> {
             (⟦<NewFile<'a, F, A> as Outlet>⟧.taken self.new) }
         ensures pending { self.new.pending ≡ self.old.pending }
         ensures written { self.new.written ≡ self.old.written }
-        ensures failed { self.new.failed ≡ self.old.failed }
+        ensures failed { self.new.failures ≡ self.old.failures }
         ensures blame { OnErr result (OutputMayFail F.make_may_fail F.Output.failures) }
     {
         if self.file.is_none() {
@@ -78,7 +78,7 @@ impl<'a, F: Storage, A: Allocator> NewFile<'a, F, A> {
             (⟦<NewFile<'a, F, A> as Outlet>⟧.taken self.new) }
         ensures pending { self.new.pending ≡ self.old.pending }
         ensures written { OnOk result (self.old.written < self.new.written) }
-        ensures failed { self.new.failed ≡ self.old.failed }
+        ensures failed { self.new.failures ≡ self.old.failures }
         ensures blame { OnErr result (OutputMayFail F.make_may_fail F.Output.failures) }
     {
         match &mut self.file {
@@ -102,7 +102,7 @@ impl<'a, F: Storage, A: Allocator> NewFile<'a, F, A> {
             (⟦<NewFile<'a, F, A> as Outlet>⟧.taken self.new) }
         ensures none_left { OnOk result (self.new.pending.items ≡ []) }
         ensures empty { OnOk result (vec_len self.new.pending ≡ 0) }
-        ensures failed { self.new.failed ≡ self.old.failed }
+        ensures failed { self.new.failures ≡ self.old.failures }
         ensures blame { OnErr result (OutputMayFail F.make_may_fail F.Output.failures) }
     {
         while self.written < self.pending.len() {
@@ -120,7 +120,7 @@ impl<'a, F: Storage, A: Allocator> NewFile<'a, F, A> {
         ensures held { held (F.blank self.new.files.now self.new.path.now) F.Output.taken self.new.file
             ≡ held (F.blank self.old.files.now self.old.path.now) F.Output.taken self.old.file }
         ensures written { self.new.written ≡ self.old.written }
-        ensures failed { self.new.failed ≡ self.old.failed }
+        ensures failed { self.new.failures ≡ self.old.failures }
     {
         // Within the capacity no allocation is made.
         let _ = self.pending.extend_from_slice(bytes);
@@ -132,7 +132,7 @@ impl<'a, F: Storage, A: Allocator> NewFile<'a, F, A> {
         ensures bound { GivesSome result bytes.now }
         ensures taken { WriteAppends (⟦<NewFile<'a, F, A> as Outlet>⟧.taken self.old)
             (⟦<NewFile<'a, F, A> as Outlet>⟧.taken self.new) result bytes.now }
-        ensures failed { self.new.failed ≡ self.old.failed }
+        ensures failed { self.new.failures ≡ self.old.failures }
         ensures blame { OnErr result (OutputMayFail F.make_may_fail F.Output.failures) }
     {
         if bytes.is_empty() {
@@ -156,7 +156,7 @@ impl<'a, F: Storage, A: Allocator> NewFile<'a, F, A> {
             (⟦<NewFile<'a, F, A> as Outlet>⟧.taken self.new) }
         ensures made { OnOk result (is_some self.new.file ≡ true) }
         ensures none_left { OnOk result (self.new.pending.items ≡ []) }
-        ensures failed { self.new.failed ≡ self.old.failed }
+        ensures failed { self.new.failures ≡ self.old.failures }
         ensures fault { IfErr result (λ e. e ≡ Fault.Write) }
         ensures blame { OnErr result (OutputMayFail F.make_may_fail F.Output.failures) }
     {
@@ -174,13 +174,13 @@ impl<F: Storage, A: Allocator> Outlet for NewFile<'_, F, A> {
     ghost taken = { λ s. append_known (held (F.blank s.files.now s.path.now) F.Output.taken s.file)
         (drop s.written s.pending.items) };
 
-    ghost failures = { λ s. s.failed };
+    ghost failures = { λ s. s.failures };
 
     fn give(&mut self, bytes: &[u8]) -> Result<usize, DeviceFault> {
         match self.keep(bytes) {
             Ok(n) => Ok(n),
             Err(_) => {
-                self.failed = self.failed.saturating_add(1);
+                self.failures.add();
                 Err(DeviceFault)
             }
         }

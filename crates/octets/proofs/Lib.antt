@@ -14,4 +14,3 @@ pub mod Texts
 pub mod Masks
 pub mod Orders
 pub mod Devices
-mod Requests

@@ -25,7 +25,7 @@ holds_kept absorbed p n k m x h short ec eb eu ez =
     record {
       taken = rw (ec, q, front) h.taken;
       rest = record
-          { used_is = omega arith; kept = rw (eu, q, rest) (eb ∙ ap (λ (y : List ℕ). y ++ x) h.rest.kept) };
+          { used_is = omega arith; rest_is = rw (eu, q, rest) (eb ∙ ap (λ (y : List ℕ). y ++ x) h.rest.rest_is) };
       zeros = ez;
     }
 
@@ -45,13 +45,13 @@ holds_blocks absorbed p n k m x blocks h whole eb step eu ez =
     ap (λ (y : ℕ). take y (m ++ x)) e ∙ take_all (length (m ++ x)) (m ++ x) (omega arith)
     ∙ ap (λ (y : List ℕ). y ++ x) (sym (take-append-drop f m))
     ∙ append_assoc (take f m) (drop f m) x
-    ∙ ap (λ (y : List ℕ). take f m ++ (y ++ x)) (sym h.rest.kept)
+    ∙ ap (λ (y : List ℕ). take f m ++ (y ++ x)) (sym h.rest.rest_is)
     ∙ ap (λ (y : List ℕ). take f m ++ y) (sym eb) in
     record {
       taken = rw all (step k (take f m) (omega arith) h.taken);
       rest = record {
         used_is = omega arith;
-        kept = rw (eu, e)
+        rest_is = rw (eu, e)
             (sym (drop_all (length (m ++ x)) (m ++ x) (omega arith)));
       };
       zeros = ez;

@@ -1,254 +1,149 @@
 //! Keys, nonces, blocks and tags: lists of bytes whose length is in their type (FIPS 197, 5; RFC 8439, 2.8; SP 800-38D, 8.2;
 //! RFC 8452, 4).
+//!
+//! All of them are one type, `Bytes`, with a marker for what the bytes are used as: a tag is never taken for a block, though
+//! both are 16 bytes long.
 
 ghost use Rattle.std.specs.Prelude.{◌≡◌, ◌≢◌, ℕ, List, length, MatchResult};
-ghost use Rattle.octets.specs.Bytes.{AreBytes, IsBlock};
+ghost use Rattle.octets.specs.Bytes.{AreBytes};
 
 use crate::fault::Fault;
-use std::marker::Model;
+use std::marker::{Model, PhantomData};
 
 // Does nothing: a caller learns that each byte of a slice is below 256.
 fn tells_bytes(bytes: &[u8])
     ensures { AreBytes (length bytes.now) bytes.now }
 {}
 
-// The bytes of a slice, or this fault if they are not `N`.
-fn sized<const N: usize>(bytes: &[u8], fault: Fault) -> Result<[u8; N], Fault>
-    ensures { MatchResult result (λ a. (a ≡ bytes.now) × (length bytes.now ≡ N))
-        (λ e. (e ≡ fault) × (length bytes.now ≢ N)) }
-{
-    match <[u8; N]>::try_from(bytes) {
-        Ok(bytes) => Ok(bytes),
-        Err(_) => Err(fault),
-    }
+/// A use whose bytes come as a slice: how a slice of a wrong length is refused.
+pub trait LengthFault {
+    ghost use Rattle.octets.specs.declared.fault.Fault.{Fault};
+
+    // The fault of a wrong length.
+    ghost length_fault: { Fault };
+
+    /// The fault of a wrong length.
+    fn length_fault() -> Fault
+        ensures { result ≡ length_fault };
 }
 
-// These bytes: each is below 256.
-fn shown<const N: usize>(bytes: &[u8; N]) -> &[u8; N]
-    ensures value { result.now ≡ bytes.now }
-    ensures are_bytes { AreBytes N bytes.now }
-{
-    tells_bytes(bytes);
-    bytes
-}
-
-/// A key of 16 bytes.
+/// Marks the bytes of a key. Keys neither print nor compare.
 #[derive(Clone, Copy)]
-pub struct Key16 {
-    bytes: [u8; 16],
-}
+pub struct KeyUse;
 
-impl Model for Key16 {
-    ghost Value = { List ℕ };
+impl LengthFault for KeyUse {
+    ghost use Rattle.octets.specs.declared.fault.Fault.{Fault};
 
-    ghost view = { λ k. k.bytes };
+    ghost length_fault = { Fault.KeyLength };
 
-    ghost inverse = { λ bytes. record { bytes = bytes } };
-}
-
-impl Key16 {
-    /// The key with these 16 bytes. Another length is `KeyLength`.
-    pub fn from_slice(bytes: &[u8]) -> Result<Key16, Fault>
-        ensures { MatchResult result (λ k. (k ≡ bytes.now) × (length bytes.now ≡ 16))
-            (λ e. (e ≡ Fault.KeyLength) × (length bytes.now ≢ 16)) }
-    {
-        match sized(bytes, Fault::KeyLength) {
-            Ok(bytes) => Ok(Key16 { bytes }),
-            Err(fault) => Err(fault),
-        }
-    }
-
-    /// Its 16 bytes.
-    pub fn bytes(&self) -> &[u8; 16]
-        ensures value { result.now ≡ self.now }
-        ensures are_bytes { AreBytes 16 self.now }
-    {
-        shown(&self.bytes)
+    fn length_fault() -> Fault {
+        Fault::KeyLength
     }
 }
 
-/// A key of 24 bytes.
-#[derive(Clone, Copy)]
-pub struct Key24 {
-    bytes: [u8; 24],
-}
+/// Marks the bytes of a nonce.
+#[derive(Clone, Copy, Debug, PartialEq, Eq)]
+pub struct NonceUse;
 
-impl Model for Key24 {
-    ghost Value = { List ℕ };
+impl LengthFault for NonceUse {
+    ghost use Rattle.octets.specs.declared.fault.Fault.{Fault};
 
-    ghost view = { λ k. k.bytes };
+    ghost length_fault = { Fault.NonceLength };
 
-    ghost inverse = { λ bytes. record { bytes = bytes } };
-}
-
-impl Key24 {
-    /// The key with these 24 bytes. Another length is `KeyLength`.
-    pub fn from_slice(bytes: &[u8]) -> Result<Key24, Fault>
-        ensures { MatchResult result (λ k. (k ≡ bytes.now) × (length bytes.now ≡ 24))
-            (λ e. (e ≡ Fault.KeyLength) × (length bytes.now ≢ 24)) }
-    {
-        match sized(bytes, Fault::KeyLength) {
-            Ok(bytes) => Ok(Key24 { bytes }),
-            Err(fault) => Err(fault),
-        }
-    }
-
-    /// Its 24 bytes.
-    pub fn bytes(&self) -> &[u8; 24]
-        ensures value { result.now ≡ self.now }
-        ensures are_bytes { AreBytes 24 self.now }
-    {
-        shown(&self.bytes)
+    fn length_fault() -> Fault {
+        Fault::NonceLength
     }
 }
 
-/// A key of 32 bytes.
-#[derive(Clone, Copy)]
-pub struct Key32 {
-    bytes: [u8; 32],
+/// Marks the bytes of a block.
+#[derive(Clone, Copy, Debug, PartialEq, Eq)]
+pub struct BlockUse;
+
+/// Marks the bytes of a tag. Tags have no `==`: `same` compares the bytes of two.
+#[derive(Clone, Copy, Debug)]
+pub struct TagUse;
+
+/// `N` bytes for one use. They print and compare only if the marker of their use does.
+#[derive(Clone, Copy, Debug, PartialEq, Eq)]
+pub struct Bytes<U, const N: usize> {
+    bytes: [u8; N],
+    used_as: PhantomData<U>,
 }
 
-impl Model for Key32 {
-    ghost Value = { List ℕ };
+/// A key of 16 bytes, for AES-128 (FIPS 197, 5). A slice of another length is refused with `KeyLength`.
+pub type Key16 = Bytes<KeyUse, 16>;
 
-    ghost view = { λ k. k.bytes };
+/// A key of 24 bytes, for AES-192 (FIPS 197, 5). A slice of another length is refused with `KeyLength`.
+pub type Key24 = Bytes<KeyUse, 24>;
 
-    ghost inverse = { λ bytes. record { bytes = bytes } };
-}
+/// A key of 32 bytes, for AES-256 (FIPS 197, 5) and ChaCha20 (RFC 8439, 2.3). A slice of another length is refused with
+/// `KeyLength`.
+pub type Key32 = Bytes<KeyUse, 32>;
 
-impl Key32 {
-    /// The key with these 32 bytes.
-    pub fn new(bytes: [u8; 32]) -> Key32
-        ensures { result ≡ bytes }
-    {
-        Key32 { bytes }
-    }
-
-    /// The key with these 32 bytes. Another length is `KeyLength`.
-    pub fn from_slice(bytes: &[u8]) -> Result<Key32, Fault>
-        ensures { MatchResult result (λ k. (k ≡ bytes.now) × (length bytes.now ≡ 32))
-            (λ e. (e ≡ Fault.KeyLength) × (length bytes.now ≢ 32)) }
-    {
-        match sized(bytes, Fault::KeyLength) {
-            Ok(bytes) => Ok(Key32 { bytes }),
-            Err(fault) => Err(fault),
-        }
-    }
-
-    /// Its 32 bytes.
-    pub fn bytes(&self) -> &[u8; 32]
-        ensures value { result.now ≡ self.now }
-        ensures are_bytes { AreBytes 32 self.now }
-    {
-        shown(&self.bytes)
-    }
-}
-
-/// A nonce of 12 bytes, the only length here. It must never be used twice under one key: each call that takes a nonce
-/// says what a repeat gives away.
-#[derive(Clone, Copy)]
-pub struct Nonce {
-    bytes: [u8; 12],
-}
-
-impl Model for Nonce {
-    ghost Value = { List ℕ };
-
-    ghost view = { λ k. k.bytes };
-
-    ghost inverse = { λ bytes. record { bytes = bytes } };
-}
-
-impl Nonce {
-    /// The nonce with these 12 bytes.
-    pub fn new(bytes: [u8; 12]) -> Nonce
-        ensures { result ≡ bytes }
-    {
-        Nonce { bytes }
-    }
-
-    /// The nonce with these 12 bytes. Another length is `NonceLength`.
-    pub fn from_slice(bytes: &[u8]) -> Result<Nonce, Fault>
-        ensures { MatchResult result (λ k. (k ≡ bytes.now) × (length bytes.now ≡ 12))
-            (λ e. (e ≡ Fault.NonceLength) × (length bytes.now ≢ 12)) }
-    {
-        match sized(bytes, Fault::NonceLength) {
-            Ok(bytes) => Ok(Nonce { bytes }),
-            Err(fault) => Err(fault),
-        }
-    }
-
-    /// Its 12 bytes.
-    pub fn bytes(&self) -> &[u8; 12]
-        ensures value { result.now ≡ self.now }
-        ensures are_bytes { AreBytes 12 self.now }
-    {
-        shown(&self.bytes)
-    }
-}
+/// A nonce of 12 bytes, the only length here (RFC 8439, 2.8; SP 800-38D, 8.2; RFC 8452, 4). A slice of another length is
+/// refused with `NonceLength`. A nonce must never be used twice for sealing under one key: the calls that seal say what a
+/// repeat gives away.
+pub type Nonce = Bytes<NonceUse, 12>;
 
 /// A block of 16 bytes: what AES, GHASH, POLYVAL and Poly1305 take in at a time.
-#[derive(Clone, Copy)]
-pub struct Block {
-    bytes: [u8; 16],
-}
+pub type Block = Bytes<BlockUse, 16>;
 
-impl Model for Block {
+/// A tag of 16 bytes: what authenticates a text (RFC 8439, 2.8; SP 800-38D, 7.1; RFC 8452, 4).
+pub type Tag = Bytes<TagUse, 16>;
+
+impl<U, const N: usize> Model for Bytes<U, N> {
     ghost Value = { List ℕ };
 
     ghost view = { λ b. b.bytes };
 
-    ghost inverse = { λ bytes. record { bytes = bytes } };
+    ghost inverse = { λ bytes. record { bytes = bytes; used_as = _ } };
 }
 
-impl Block {
-    /// The block with these 16 bytes.
-    pub fn new(bytes: [u8; 16]) -> Block
-        ensures value { result ≡ bytes }
-        ensures is_block { IsBlock result }
+impl<U, const N: usize> Bytes<U, N> {
+    /// These `N` bytes, for this use.
+    pub fn new(bytes: [u8; N]) -> Bytes<U, N>
+        ensures value { result ≡ bytes.entry }
+        ensures are_bytes { AreBytes N result }
     {
         tells_bytes(&bytes);
-        Block { bytes }
+        Bytes {
+            bytes,
+            used_as: PhantomData,
+        }
     }
 
-    /// Its 16 bytes.
-    pub fn bytes(&self) -> &[u8; 16]
+    /// The `N` bytes.
+    pub fn bytes(&self) -> &[u8; N]
         ensures value { result.now ≡ self.now }
-        ensures is_block { IsBlock self.now }
+        ensures are_bytes { AreBytes N self.now }
     {
-        shown(&self.bytes)
+        tells_bytes(&self.bytes);
+        &self.bytes
     }
 }
 
-/// A tag of 16 bytes: what authenticates a text.
-#[derive(Clone, Copy)]
-pub struct Tag {
-    bytes: [u8; 16],
-}
-
-impl Model for Tag {
-    ghost Value = { List ℕ };
-
-    ghost view = { λ b. b.bytes };
-
-    ghost inverse = { λ bytes. record { bytes = bytes } };
-}
-
-impl Tag {
-    /// The tag with these 16 bytes.
-    pub fn new(bytes: [u8; 16]) -> Tag
-        ensures value { result ≡ bytes }
-        ensures is_block { IsBlock result }
+impl<U: LengthFault, const N: usize> Bytes<U, N> {
+    /// The bytes of a slice that is `N` bytes long. Another length is refused: with `KeyLength` for a key, with
+    /// `NonceLength` for a nonce.
+    pub fn from_slice(bytes: &[u8]) -> Result<Bytes<U, N>, Fault>
+        ensures { MatchResult result (λ b. (b ≡ bytes.now) × (length bytes.now ≡ N))
+            (λ e. (e ≡ U.length_fault) × (length bytes.now ≢ N)) }
     {
-        tells_bytes(&bytes);
-        Tag { bytes }
+        match <[u8; N]>::try_from(bytes) {
+            Ok(bytes) => Ok(Bytes::new(bytes)),
+            Err(_) => Err(U::length_fault()),
+        }
     }
+}
 
-    /// Its 16 bytes.
-    pub fn bytes(&self) -> &[u8; 16]
-        ensures value { result.now ≡ self.now }
-        ensures is_block { IsBlock self.now }
-    {
-        shown(&self.bytes)
+/// As `from_slice`.
+impl<U: LengthFault, const N: usize> TryFrom<&[u8]> for Bytes<U, N> {
+    type Error = Fault;
+
+    ghost try_from_gives = { λ bytes result. MatchResult result (λ b. (b ≡ bytes.now) × (length bytes.now ≡ N))
+        (λ e. (e ≡ U.length_fault) × (length bytes.now ≢ N)) };
+
+    fn try_from(bytes: &[u8]) -> Result<Bytes<U, N>, Fault> {
+        Bytes::from_slice(bytes)
     }
 }

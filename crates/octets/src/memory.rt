@@ -16,7 +16,7 @@ pub struct SliceIntake<'a> {
 }
 
 impl<'a> SliceIntake<'a> {
-    /// All bytes of the slice are left.
+    /// A device with all bytes of the slice left.
     pub fn new(bytes: &'a [u8]) -> Self
         ensures { ⟦<SliceIntake<'a> as Intake>⟧.left result ≡ Some bytes.now }
     {
@@ -43,21 +43,21 @@ impl<'a> Intake for SliceIntake<'a> {
     }
 }
 
-/// Keeps the bytes that it is given. It fails if an allocation fails.
+/// Appends the bytes that it is given to a vector. It fails if an allocation fails.
 #[derive(Drop)]
 pub struct VecOutlet<A: Allocator> {
-    kept: Vec<u8, A>,
+    bytes: Vec<u8, A>,
     failures: Failures,
 }
 
 impl<A: Allocator> VecOutlet<A> {
-    /// Nothing is taken yet, and nothing failed.
+    /// An empty outlet, with no failures yet.
     pub fn new(alloc: A) -> Self
         ensures taken { ⟦<VecOutlet<A> as Outlet>⟧.taken result ≡ Some [] }
         ensures failed { ⟦<VecOutlet<A> as Outlet>⟧.failures result ≡ 0 }
     {
         VecOutlet {
-            kept: Vec::new(alloc),
+            bytes: Vec::new(alloc),
             failures: Failures::none(),
         }
     }
@@ -66,17 +66,17 @@ impl<A: Allocator> VecOutlet<A> {
     pub fn bytes(&self) -> &[u8]
         ensures { ⟦<VecOutlet<A> as Outlet>⟧.taken self.now ≡ Some result.now }
     {
-        self.kept.as_slice()
+        self.bytes.as_slice()
     }
 }
 
 impl<A: Allocator> Outlet for VecOutlet<A> {
-    ghost taken = { λ s. Some s.kept.items };
+    ghost taken = { λ s. Some s.bytes.items };
 
-    ghost failures = { λ s. s.failures.count };
+    ghost failures = { λ s. s.failures };
 
     fn give(&mut self, bytes: &[u8]) -> Result<usize, DeviceFault> {
-        match self.kept.extend_from_slice(bytes) {
+        match self.bytes.extend_from_slice(bytes) {
             Ok(()) => Ok(bytes.len()),
             Err(_) => {
                 self.failures.add();

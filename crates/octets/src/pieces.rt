@@ -6,9 +6,9 @@ ghost use Rattle.std.specs.Prelude.{◌≡◌, ℕ, ◌+◌, ◌*◌, ◌/◌, �
 use crate::words::{le_bytes, padded};
 use crate::work::{Idle, Stream};
 
-/// A state that takes in whole blocks of 16 bytes; how they were split into calls makes no difference to it.
+/// A state that takes in whole blocks of 16 bytes. It does not depend on how they are split into calls.
 pub trait Absorb {
-    // a value has taken in this text of whole blocks, under this key
+    // The state has taken in this text of whole blocks under this key.
     ghost absorbed: { Self → List ℕ → List ℕ → Type 0 };
 
     /// Takes in any number of whole blocks.
@@ -95,7 +95,7 @@ impl<A: Absorb> Pieces<A> {
         &self.buffer[..self.used]
     }
 
-    // Adds bytes that end no block.
+    // Buffers bytes that do not complete a block.
     fn keep(&mut self, bytes: &[u8])
         requires { self.old.used + length bytes.now < 16 }
         ensures { (k m : List ℕ) → HoldsPieces A.absorbed self.old k m
@@ -106,7 +106,7 @@ impl<A: Absorb> Pieces<A> {
         self.used = end;
     }
 
-    // Adds the bytes that end the block begun.
+    // Adds the bytes that complete the buffered block.
     fn fill(&mut self, bytes: &[u8])
         requires { self.old.used + length bytes.now ≡ 16 }
         ensures holds { (k m : List ℕ) → HoldsPieces A.absorbed self.old k m
@@ -119,7 +119,7 @@ impl<A: Absorb> Pieces<A> {
         self.used = 0;
     }
 
-    // Adds bytes if no block is begun.
+    // Adds bytes while the buffer is empty.
     #[inline(always)]
     fn update_whole(&mut self, bytes: &[u8])
         requires { self.old.used ≡ 0 }
@@ -159,7 +159,7 @@ impl<A: Absorb> Pieces<A> {
     }
 
     /// Adds `piece` to the end of the text, while `stream` XORs its next bytes into `bytes`, both of any
-    /// length. The piece runs beside the stream only if it consists of whole blocks and no block is begun.
+    /// length. The piece runs beside the stream only if it consists of whole blocks and the buffer is empty.
     pub fn update_beside<S: Stream>(&mut self, piece: &[u8], stream: &mut S, bytes: &mut [u8])
         ensures holds { (k m : List ℕ) → HoldsPieces A.absorbed self.old k m
             → HoldsPieces A.absorbed self.new k (m ++ piece.now) }

@@ -7,16 +7,16 @@ use crate::failures::Failures;
 use crate::memory::VecOutlet;
 use std::alloc::Allocator;
 
-/// One call of a device by a script.
+/// What a device does at one call.
 #[derive(Clone, Copy, Drop)]
 pub enum Step {
-    /// At most so many bytes; 0 counts as 1.
+    /// Moves at most this many bytes; 0 counts as 1.
     Give(usize),
-    /// A failure.
+    /// Fails.
     Fail,
 }
 
-/// Gives bytes by a script, and after its end as many as fit.
+/// Gives bytes as a script says, and after its end as many as fit.
 #[derive(Drop)]
 pub struct ScriptIntake<A: Allocator> {
     bytes: Vec<u8, A>,
@@ -28,7 +28,7 @@ pub struct ScriptIntake<A: Allocator> {
 }
 
 impl<A: Allocator> ScriptIntake<A> {
-    /// All bytes are left, no step is made, and nothing failed yet.
+    /// A device with all bytes left, at the first step of the script, with no failures yet.
     pub fn new(bytes: Vec<u8, A>, steps: Vec<Step, A>) -> Self
         ensures left { ⟦<ScriptIntake<A> as Intake>⟧.left result ≡ Some bytes.items }
         ensures failed { ⟦<ScriptIntake<A> as Intake>⟧.failures result ≡ 0 }
@@ -43,7 +43,7 @@ impl<A: Allocator> ScriptIntake<A> {
     }
 }
 
-// How many bytes this call may move; `None` at a failure.
+// How many bytes this call may move, or `None` if it fails.
 fn allowed(steps: &[Step], call: &mut usize, wanted: usize) -> Option<usize>
     ensures { IfSome result (λ n. (n ≤ wanted) × (n ≡ 0 → wanted ≡ 0)) }
 {
@@ -61,7 +61,7 @@ fn allowed(steps: &[Step], call: &mut usize, wanted: usize) -> Option<usize>
 impl<A: Allocator> Intake for ScriptIntake<A> {
     ghost left = { λ s. Some (drop s.at s.bytes.items) };
 
-    ghost failures = { λ s. s.failures.count };
+    ghost failures = { λ s. s.failures };
 
     fn take(&mut self, buf: &mut [u8]) -> Result<usize, DeviceFault> {
         let rest = &self.bytes.as_slice()[self.at..];
@@ -81,23 +81,23 @@ impl<A: Allocator> Intake for ScriptIntake<A> {
     }
 }
 
-/// Takes bytes by a script, and after its end all that it is given.
+/// Takes bytes as a script says, and after its end all that it is given.
 #[derive(Drop)]
 pub struct ScriptOutlet<A: Allocator> {
-    kept: VecOutlet<A>,
+    outlet: VecOutlet<A>,
     steps: Vec<Step, A>,
     call: usize,
     failures: Failures,
 }
 
 impl<A: Allocator> ScriptOutlet<A> {
-    /// Nothing is taken yet, no step is made, and nothing failed.
+    /// An empty outlet, at the first step of the script, with no failures yet.
     pub fn new(alloc: A, steps: Vec<Step, A>) -> Self
         ensures taken { ⟦<ScriptOutlet<A> as Outlet>⟧.taken result ≡ Some [] }
         ensures failed { ⟦<ScriptOutlet<A> as Outlet>⟧.failures result ≡ 0 }
     {
         ScriptOutlet {
-            kept: VecOutlet::new(alloc),
+            outlet: VecOutlet::new(alloc),
             steps,
             call: 0,
             failures: Failures::none(),
@@ -108,18 +108,18 @@ impl<A: Allocator> ScriptOutlet<A> {
     pub fn bytes(&self) -> &[u8]
         ensures { ⟦<ScriptOutlet<A> as Outlet>⟧.taken self.now ≡ Some result.now }
     {
-        self.kept.bytes()
+        self.outlet.bytes()
     }
 }
 
 impl<A: Allocator> Outlet for ScriptOutlet<A> {
-    ghost taken = { λ s. ⟦<VecOutlet<A> as Outlet>⟧.taken s.kept };
+    ghost taken = { λ s. ⟦<VecOutlet<A> as Outlet>⟧.taken s.outlet };
 
-    ghost failures = { λ s. s.failures.count };
+    ghost failures = { λ s. s.failures };
 
     fn give(&mut self, bytes: &[u8]) -> Result<usize, DeviceFault> {
         if let Some(n) = allowed(self.steps.as_slice(), &mut self.call, bytes.len()) {
-            if let Ok(given) = self.kept.give(&bytes[..n]) {
+            if let Ok(given) = self.outlet.give(&bytes[..n]) {
                 return Ok(given);
             }
         }

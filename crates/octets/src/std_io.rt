@@ -30,7 +30,7 @@ impl<R: Read> FromRead<R> {
 impl<R: Read> Intake for FromRead<R> {
     ghost left = { λ s. R.remaining s.reader };
 
-    ghost failures = { λ s. s.failures.count };
+    ghost failures = { λ s. s.failures };
 
     fn take(&mut self, buf: &mut [u8]) -> Result<usize, DeviceFault> {
         match self.reader.read(buf) {
@@ -74,7 +74,7 @@ impl<W: Write> ToWrite<W> {
 impl<W: Write> Outlet for ToWrite<W> {
     ghost taken = { λ s. W.contents s.writer };
 
-    ghost failures = { λ s. s.failures.count };
+    ghost failures = { λ s. s.failures };
 
     fn give(&mut self, bytes: &[u8]) -> Result<usize, DeviceFault> {
         match self.writer.write(bytes) {

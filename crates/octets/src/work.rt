@@ -2,27 +2,23 @@
 
 ghost use Rattle.std.specs.Prelude.{⊤, ℕ, List};
 
-/// Whether a vector of the processor holds 32 bytes, as with AVX2. No code can ask, so `bindings/build.sh` writes `true`
-/// here for such a processor. It chooses between forms that give the same bytes and differ in speed alone.
-pub const WIDE: bool = false;
-
-/// Work in small steps, which other code does wherever the processor has room for one. It is `Copy` so that a
-/// loop can step a local copy, which stays in registers.
+/// Work in small steps, which other code does wherever the processor has room for one. It is `Copy` so that a loop can step
+/// a local copy, which stays in registers.
 pub trait Work: Copy {
     // Once all its steps are done, the work has taken in this text under this key.
     ghost comes_to: { Self → List ℕ → List ℕ → Type 0 };
 
-    /// Does one step, if more than `kept` are left: a loop that keeps some at every second place spreads them evenly.
-    /// A step preserves `comes_to`, so no contract counts steps: the owner of the work does the steps that are left.
-    fn step(&mut self, kept: usize)
+    /// Does one step unless at most `reserve` are left: a loop with a reserve at every second place spreads the steps
+    /// evenly. A step preserves `comes_to`, so no contract counts steps: the owner of the work does the steps that are left.
+    fn step(&mut self, reserve: usize)
         ensures { (k m : List ℕ) → comes_to self.old k m → comes_to self.new k m };
 }
 
-/// Work without steps. Its step is a branch all the same, as that of other work is, and LLVM can't tell that it is never
-/// taken: so the code before a step stays apart from the code after it.
+/// Work without steps. Its step still compiles to a branch, as that of other work does, and LLVM can't tell that the branch is
+/// never taken: so the code before a step stays apart from the code after it.
 #[derive(Clone, Copy)]
 pub struct Idle<'a> {
-    // The work after one step more, of which there is none.
+    // The work after the next step; there is none.
     next: Option<&'a Idle<'a>>,
 }
 
@@ -37,7 +33,7 @@ impl<'a> Work for Idle<'a> {
     ghost comes_to = { λ w k m. ⊤ };
 
     #[inline(always)]
-    fn step(&mut self, _kept: usize) {
+    fn step(&mut self, _reserve: usize) {
         if let Some(next) = self.next {
             *self = *next;
         }
@@ -49,8 +45,7 @@ pub trait Stream {
     // The effect of a call, as a relation: the stream before and after it, the bytes before and after it.
     ghost did: { Self → Self → List ℕ → List ℕ → Type 0 };
 
-    /// XORs the next bytes of the stream into `bytes`, and does any number of the steps of `work`, none
-    /// included.
+    /// XORs the next bytes of the stream into `bytes`, and does any number of the steps of `work`, or none.
     fn apply_beside<W: Work>(&mut self, bytes: &mut [u8], work: &mut W)
         ensures did { did self.old self.new bytes.old bytes.new }
         ensures work { (k m : List ℕ) → W.comes_to work.old k m → W.comes_to work.new k m };

@@ -1,6 +1,7 @@
 //! Which steps the devices of a script make, and that an outlet fails only if an allocation failed.
+use super::memory::{AMPLE, ample, memory_of, smaller, taken};
 use super::{shows, shows_at};
-use octets::{Intake, Outlet, RefusingMemory, ScriptIntake, ScriptOutlet, Step, VecOutlet};
+use octets::{Intake, Outlet, ScriptIntake, ScriptOutlet, Step, VecOutlet};
 use std::alloc::Global;
 use std::process::Abort;
 
@@ -28,49 +29,42 @@ fn scripts_are_followed(rt: HostRuntime) {
     }
 }
 
-// Gives pieces of three lengths, each refused one a second time, and returns how often one was refused.
-fn refusals<O: Outlet>(outlet: &mut O) -> u32 {
-    let mut count = 0u32;
-    for length in [1, 9, 10usize] {
-        if outlet.give(&BYTES[..length]).is_err() {
-            count = count.saturating_add(1);
-            if outlet.give(&BYTES[..length]).is_err() {
-                count = count.saturating_add(1);
-            }
-        }
-    }
-    count
-}
-
-// The pieces, joined.
+// The pieces that an outlet is given, joined.
 const JOINED: [u8; 20] = [0, 0, 1, 2, 3, 4, 5, 6, 7, 8, 0, 1, 2, 3, 4, 5, 6, 7, 8, 9];
 
-// Whether one piece was refused if a request for memory was, and else none.
-fn is_right(refused: u32, bytes: &[u8], memory: &RefusingMemory<Global>) -> bool {
-    refused == u32::from(memory.has_refused()) && bytes == JOINED.as_slice()
-}
-
-// Gives pieces to an outlet with one request for memory refused after the first `passed` ones, and returns whether it
-// came to that one.
-fn vec_outlet_refuses(rt: &(impl Abort + Alloc<A = Global>), passed: u64) -> bool {
-    let memory = RefusingMemory::after(passed, rt.alloc());
+// Gives pieces of three lengths to an outlet in this room, and returns how much of it was taken until a piece was refused, or
+// in all. If this one is, a piece is refused, all memory is there from then on, and the piece is given once more.
+fn gives(rt: &(impl Abort + Alloc<A = Global>), room: usize, is_refused: bool) -> usize {
+    let memory = memory_of(rt, room);
     let mut outlet = VecOutlet::new(&memory);
-    let refused = refusals(&mut outlet);
-    shows_at(
-        rt,
-        is_right(refused, outlet.bytes(), &memory),
-        "request",
-        passed,
-    );
-    memory.has_refused()
+    let mut taken_first = None;
+    for length in [1, 9, 10usize] {
+        if outlet.give(&BYTES[..length]).is_err() {
+            shows_at(rt, taken_first.is_none(), "a second refusal", room as u64);
+            taken_first = Some(taken(&memory, room));
+            memory.set_allocation_limit(None);
+            let again = outlet.give(&BYTES[..length]);
+            shows_at(rt, again == Ok(length), "room", room as u64);
+        }
+    }
+    let is_right = taken_first.is_some() == is_refused && outlet.bytes() == JOINED.as_slice();
+    shows_at(rt, is_right, "room", room as u64);
+    taken_first.unwrap_or(taken(&memory, room))
 }
 
-// Each request for memory of an outlet is refused in turn. The first one always is, and the ninth never comes.
+// Each request for memory of an outlet is refused in turn, and a piece is refused exactly then. At least one request is.
 #[test]
 fn outlets_fail_only_without_memory(rt: HostRuntime) {
-    shows(&rt, vec_outlet_refuses(&rt, 0), "the first request");
-    for passed in 1..8u64 {
-        let _ = vec_outlet_refuses(&rt, passed);
+    let needed = gives(&rt, AMPLE, false);
+    shows(&rt, needed > 0, "a request");
+    let mut room = smaller(AMPLE, needed);
+    for _ in 0..1_000u32 {
+        if room == 0 {
+            break;
+        }
+        let needed = gives(&rt, ample(room), false);
+        room = smaller(room, gives(&rt, room, room < needed));
     }
-    shows(&rt, !vec_outlet_refuses(&rt, 8), "the ninth request");
+    shows(&rt, room == 0, "the first request");
+    let _ = gives(&rt, 0, true);
 }

@@ -9,7 +9,7 @@ unfolding j0
 returns c = λ s key nonce.
     let first = c.bytes.result.now in
     let second = c.bytes-2.result.now in
-    let long : length first ≡ 16 = ap length c.bytes.ensures.value ∙ c.bytes.ensures.is_block.length_is in
+    let long : length first ≡ 16 = ap length c.bytes.ensures.value ∙ c.bytes.ensures.are_bytes.length_is in
     let mask : second ≡ cipher s.key (j0 s.nonce) =
     c.bytes-2.ensures.value ∙ c.encrypt.ensures.value
     ∙ ap₂ cipher (sym key) (c.counter_block.ensures.value ∙ ap j0 (sym nonce)) in (

@@ -38,7 +38,7 @@ returns g c =
     let begun = c.begin.ensures.holds t mask hash refl c.requires.aad_fits limit (omega arith) in
     let fed = c.update.ensures.masked t [] begun in (
       fits,
-      no_sealing s c.args.body.now c.args.tag.now c.bytes-given.ensures.is_block.length_is
+      no_sealing s c.args.body.now c.args.tag.now c.bytes-given.ensures.are_bytes.length_is
           (λ e. true≢false
           (sym (c.same.ensures.1
           (c.bytes.ensures.value ∙ c.tag.ensures t c.args.body.now fed.0

@@ -18,7 +18,7 @@ returns-then-not-same g c =
     ∙ sym (body_tag s c.args.tag.now c.args.body.now (g.met.N.OnePass.one_pass c.args.message.now)) in (
       (
         fits,
-        no_sealing s c.args.body.now c.args.tag.now c.bytes-given.ensures.is_block.length_is
+        no_sealing s c.args.body.now c.args.tag.now c.bytes-given.ensures.are_bytes.length_is
             (λ e. true≢false (sym (c.same.ensures.1 (tag_is ∙ e ∙ sym c.bytes-given.ensures.value))
             ∙ c.if-not-same.true)),
       ),

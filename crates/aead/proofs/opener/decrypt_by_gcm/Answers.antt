@@ -11,7 +11,7 @@ returns-in-Few-clause-opens c = λ s tag body done u h.
     let suite = ap (λ (k : Keyed). k.suite) u.keyed_is in
     let by = sym (ap construction_of suite) ∙ c.keys.ensures.by in
     let key = ap (λ (k : Keyed). k.key) u.keyed_is in
-    let made = c.mask_at-mask.ensures s tag by (sym (c.keys.ensures.key ∙ key)) (sym (c.new-nonce.ensures ∙ u.nonce_is)) in
+    let made = c.mask_at-mask.ensures s tag by (sym (c.keys.ensures.key ∙ key)) (sym (c.new-nonce.ensures.value ∙ u.nonce_is)) in
     let room : p.state.length + length c.args.piece.now ≤ text_limit s.suite =
     omega (arith, c.has_room.ensures.fits c.if-not-has_room.false, c.requires, ap text_limit suite) in
     let m = c.step.ensures.masks s tag body (by, c.keys.ensures.multiplier ∙ ap hash_key key) made
@@ -24,7 +24,7 @@ returns-in-OfFourPowers-clause-opens c = λ s tag body done u h.
     let suite = ap (λ (k : Keyed). k.suite) u.keyed_is in
     let by = sym (ap construction_of suite) ∙ c.keys.ensures.by in
     let key = ap (λ (k : Keyed). k.key) u.keyed_is in
-    let made = c.mask_at-mask.ensures s tag by (sym (c.keys.ensures.key ∙ key)) (sym (c.new-nonce.ensures ∙ u.nonce_is)) in
+    let made = c.mask_at-mask.ensures s tag by (sym (c.keys.ensures.key ∙ key)) (sym (c.new-nonce.ensures.value ∙ u.nonce_is)) in
     let room : p.state.length + length c.args.piece.now ≤ text_limit s.suite =
     omega (arith, c.has_room.ensures.fits c.if-not-has_room.false, c.requires, ap text_limit suite) in
     let m = c.mask_gcm_by.ensures.masks s tag body by made (taken_length _ s tag body h) room

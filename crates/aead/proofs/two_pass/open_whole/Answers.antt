@@ -50,7 +50,7 @@ returns g c =
     omega (arith, ap length fed.1, length-masked f 0 c.args.body.now, fits.text_fits) in (
       (
         fits,
-        no_sealing s c.args.body.now c.args.tag.now c.bytes-given.ensures.is_block.length_is
+        no_sealing s c.args.body.now c.args.tag.now c.bytes-given.ensures.are_bytes.length_is
             (λ e. true≢false
             (sym (c.same.ensures.1
             (c.bytes.ensures.value ∙ sym tag_is ∙ e ∙ sym c.bytes-given.ensures.value))

@@ -1,9 +1,10 @@
 //! Each request for memory of sealing in pieces is refused in turn.
+use super::super::memory::{AMPLE, ample, memory_of, smaller, taken};
 use super::super::published::{CHACHA, GCM, GCM_SIV};
 use super::super::{shows, shows_at};
 use super::samples::*;
 use aead::seal_cut;
-use octets::{Fault, RefusingMemory};
+use octets::Fault;
 use std::alloc::{Allocator, Global};
 use std::process::Abort;
 
@@ -20,19 +21,29 @@ fn is_right<A: Allocator + Copy>(alloc: A, sample: &Sample) -> Result<bool, Faul
     Ok(are_joined(&pieces, sealed))
 }
 
-// Seals with one request refused after the first `passed` ones, and returns whether it came to that one: then the
-// result is `OutOfMemory`, and else right.
-fn is_refused(rt: &(impl Abort + Alloc<A = Global>), sample: &Sample, passed: u64) -> bool {
-    let memory = RefusingMemory::after(passed, rt.alloc());
+// Seals in this room, and returns how much of it was taken. The result is this one.
+fn seals(
+    rt: &(impl Abort + Alloc<A = Global>),
+    sample: &Sample,
+    room: usize,
+    due: Result<bool, Fault>,
+) -> usize {
+    let memory = memory_of(rt, room);
     let answer = is_right(&memory, sample);
-    let refused = memory.has_refused();
-    let due = if refused {
+    shows_at(rt, answer == due, "room", room as u64);
+    taken(&memory, room)
+}
+
+// Seals in an ample room and in this one, and returns how much of this one was taken. If a request was refused, the
+// result is `OutOfMemory`, and else right.
+fn seals_or_refuses(rt: &(impl Abort + Alloc<A = Global>), sample: &Sample, room: usize) -> usize {
+    let needed = seals(rt, sample, ample(room), Ok(true));
+    let due = if room < needed {
         Err(Fault::OutOfMemory)
     } else {
         Ok(true)
     };
-    shows_at(rt, answer == due, "request", passed);
-    refused
+    seals(rt, sample, room, due)
 }
 
 // At least one is refused.
@@ -40,12 +51,16 @@ fn is_refused(rt: &(impl Abort + Alloc<A = Global>), sample: &Sample, passed: u6
 fn requests_are_refused_in_turn(rt: HostRuntime) {
     for line in [CHACHA, GCM, GCM_SIV] {
         let sample = sample_of(&rt, line);
-        shows(&rt, is_refused(&rt, &sample, 0), "the first request");
-        for passed in 1..30u64 {
-            if !is_refused(&rt, &sample, passed) {
+        let needed = seals(&rt, &sample, AMPLE, Ok(true));
+        shows(&rt, needed > 0, "a request");
+        let mut room = smaller(AMPLE, needed);
+        for _ in 0..10_000u32 {
+            if room == 0 {
                 break;
             }
+            room = smaller(room, seals_or_refuses(&rt, &sample, room));
         }
-        shows(&rt, !is_refused(&rt, &sample, 30), "the last request");
+        shows(&rt, room == 0, "the first request");
+        let _ = seals(&rt, &sample, 0, Err(Fault::OutOfMemory));
     }
 }

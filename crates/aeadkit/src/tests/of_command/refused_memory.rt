@@ -1,6 +1,7 @@
-//! Each request for memory of a command is refused in turn, until a run takes all that it asks for. The
-//! result is `OutOfMemory` if one was refused, or `Write` if the making of a file asked for it; else it is right.
+//! Each request for memory of a command is refused in turn. The result is `OutOfMemory` if one was refused, or `Write` if
+//! the making of a file asked for it; else it is right.
 use super::super::digits::bytes;
+use super::super::memory::{AMPLE, ample, memory_of, smaller, taken};
 use super::super::published::{CHACHA, GCM, GCM_SIV, PADDED, Vector, WRAPPINGS, Wrapping};
 use super::super::runs::{is_line, names};
 use super::super::vector_files::{TWO_RECORDS, published, with_lines};
@@ -10,7 +11,7 @@ use command::{
     FileCommand, FileRequest, Inputs, PrintRequest, Request, Storage, perform, report,
     write_new_file,
 };
-use octets::{FromRead, RefusingMemory, ToWrite};
+use octets::{FromRead, ToWrite};
 use std::alloc::{Allocator, Global};
 use std::cell::Cell;
 use std::io;
@@ -99,11 +100,16 @@ fn is_done(case: &Case<'_>, out: &[u8], log: &Log) -> bool {
     }
 }
 
-// Does what a request asks for, with one request for memory refused after the first `passed` ones, and returns the
-// status that is due: if it came to that one, 3 if the making of the file asked for it, and else 4; then nothing is
+// Does what a request asks for in this room, and returns the status that is due, with how much of the room was taken. If a
+// request for memory is refused there, the status is 3 if the making of the file asked for it, and else 4; then nothing is
 // printed, and no file is made.
-fn due_status(rt: &(impl Abort + Alloc<A = Global>), case: &Case<'_>, passed: u64) -> u8 {
-    let memory = RefusingMemory::after(passed, rt.alloc());
+fn runs(
+    rt: &(impl Abort + Alloc<A = Global>),
+    case: &Case<'_>,
+    room: usize,
+    is_refused: bool,
+) -> (u8, usize) {
+    let memory = memory_of(rt, room);
     let log = Log::new(rt.alloc());
     let files = AllocatingFiles {
         files: Scripted {
@@ -116,36 +122,48 @@ fn due_status(rt: &(impl Abort + Alloc<A = Global>), case: &Case<'_>, passed: u6
     let mut out: Vec<u8> = Vec::new(rt.alloc());
     let mut err: Vec<u8> = Vec::new(rt.alloc());
     let status = status_of(&memory, &files, &case.request, &mut out, &mut err);
-    let (due, fault) = if files.unmade.get() {
-        (3, "Write")
-    } else if memory.has_refused() {
-        (4, "OutOfMemory")
-    } else {
+    let (due, fault) = if !is_refused {
         (case.status, "")
-    };
-    shows_at(rt, status == due && names(&err, fault), "request", passed);
-    let is_right = if fault.is_empty() {
-        is_done(case, &out, &log)
+    } else if files.unmade.get() {
+        (3, "Write")
     } else {
-        out.is_empty() && !log.made.get()
+        (4, "OutOfMemory")
     };
-    shows_at(rt, is_right, "request", passed);
-    due
+    shows_at(
+        rt,
+        status == due && names(&err, fault),
+        "status",
+        room as u64,
+    );
+    let is_right = if is_refused {
+        out.is_empty() && !log.made.get()
+    } else {
+        is_done(case, &out, &log)
+    };
+    shows_at(rt, is_right, "room", room as u64);
+    (due, taken(&memory, room))
 }
 
-// Does what a request asks for, with each of its requests for memory refused in turn, until none is. The last one
-// that is refused has this status.
+// Does what a request asks for, with each of its requests for memory refused in turn, from the last to the first. The last
+// one has this status.
 fn each_is_refused(rt: &(impl Abort + Alloc<A = Global>), case: &Case<'_>, last: u8) {
-    let mut before = 0;
-    for passed in 0..100u64 {
-        let status = due_status(rt, case, passed);
-        if status < 3 {
+    let (_, needed) = runs(rt, case, AMPLE, false);
+    let mut room = smaller(AMPLE, needed);
+    let mut first_status = None;
+    for _ in 0..100_000u32 {
+        let (_, needed) = runs(rt, case, ample(room), false);
+        let is_refused = room < needed;
+        let (status, taken) = runs(rt, case, room, is_refused);
+        if is_refused && first_status.is_none() {
+            first_status = Some(status);
+        }
+        if room == 0 {
             break;
         }
-        before = status;
+        room = smaller(room, taken);
     }
-    shows(rt, before == last, "the last request");
-    shows(rt, due_status(rt, case, 100) == case.status, "no request");
+    shows(rt, room == 0, "the first request");
+    shows(rt, first_status == Some(last), "the last request");
 }
 
 // Does what a request asks for, which prints a line and reads this file.

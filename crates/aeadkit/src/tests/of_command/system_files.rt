@@ -4,8 +4,8 @@ use super::super::published::{CHACHA, CHANGED, GCM, Vector};
 use super::super::runs::{runs_over, runs_row};
 use super::super::shows;
 use super::super::vector_files::TWO_RECORDS;
+use bumpalo::Bump;
 use command::Disk;
-use octets::RefusingMemory;
 use std::alloc::Global;
 use std::fs;
 use std::process::Abort;
@@ -71,7 +71,8 @@ fn checks(rt: &(impl Abort + Alloc<A = Global> + Files)) {
         alloc: rt.alloc(),
     };
     runs_over(rt, &files, &["check", VECTORS], 0, Some("records 2"), "");
-    let memory = RefusingMemory::after(0, rt.alloc());
+    let memory = Bump::new(rt.alloc());
+    memory.set_allocation_limit(Some(0));
     let files = Disk {
         runtime: rt,
         alloc: &memory,

@@ -12,7 +12,7 @@ returns-in_err-check_text-clause-found g c = λ text o.
       arith,
       size,
       length-append c.args.body.now c.args.tag.now,
-      c.bytes-given.ensures.is_block.length_is,
+      c.bytes-given.ensures.are_bytes.length_is,
       c.in_err-check_text.ensures.1,
       ap text_limit c.suite-suite.ensures,
       o.fits.text_fits,
@@ -22,4 +22,4 @@ pub returns-clause-found : goal.returns-clause-found
 returns-clause-found g c =
     found_in_place one_text (setting (g.Self.Aead.keyed c.args.self.now) c.args.nonce.now c.args.aad.now)
     c.args.body.now c.args.tag.now c.open_fitting.new.body c.open_fitting.result
-    c.bytes-given.ensures.is_block.length_is c.open_fitting.ensures
+    c.bytes-given.ensures.are_bytes.length_is c.open_fitting.ensures

@@ -55,7 +55,7 @@ returns-in-Ok-clause-seals g c =
     let hash = rw (sym empty.hash) at (c.hash.ensures c.args.aad.now) in
     let h = c.begin.ensures.holds (message_task s []) mask hash refl c.requires (empty.limit ∙ limit) (omega arith) in
     let tag : List ℕ = c.finish.result in
-    let size : length tag ≡ 16 = c.bytes.ensures.is_block.length_is in
+    let size : length tag ≡ 16 = c.bytes.ensures.are_bytes.length_is in
     let R : List ℕ → Type 0 =
     λ b. Appends (g.O.Outlet.taken c.pass_all.new.outlet) (g.O.Outlet.taken c.give_all.new.outlet) b in
     exit_tag _ _ _ _ _ _ s _ tag _ _ 16 _ _ _ _ _ limit one c.requires

@@ -49,7 +49,7 @@ pub returns-in-Ok-clause-written : goal.returns-in-Ok-clause-written
 returns-in-Ok-clause-written g c = λ s first two e h.
     let l : Option (List ℕ) = g.J.Intake.left c.args.intake.now in
     let went = rw c.in-Ok-Some.field-0-is at (c.in-Ok-Some.ensures.passed (repeating_task s first) h) in
-    let size : length c.args.tag.now ≡ 16 = c.bytes.ensures.is_block.length_is in
+    let size : length c.args.tag.now ≡ 16 = c.bytes.ensures.are_bytes.length_is in
     let R : List ℕ → Type 0 =
     λ x. Appends (g.O.Outlet.taken c.pass_all.new.outlet) (g.O.Outlet.taken c.give_all.new.outlet) x in
     if_known l _ _

@@ -18,7 +18,7 @@ returns-clause-holds c = λ s same by key_fits key serves nonce aad fits.
     let auth = authentication_key s.key s.nonce in
     let first : take 16 c.joined.result ≡ c.args.hash_key.now =
     ap (take 16) c.joined.ensures
-    ∙ take_at c.bytes.result.now _ 16 (ap length c.bytes.ensures.value ∙ c.bytes.ensures.is_block.length_is)
+    ∙ take_at c.bytes.result.now _ 16 (ap length c.bytes.ensures.value ∙ c.bytes.ensures.are_bytes.length_is)
     ∙ c.bytes.ensures.value in
     let keyed : IsHashKey (construction_of s.suite) c.joined.result s =
     subst (λ (x : Construction). IsHashKey x c.joined.result s) (sym is)

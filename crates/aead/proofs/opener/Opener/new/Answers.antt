@@ -17,7 +17,7 @@ returns c =
         pass = subst (λ p. HasTakenIn p.state s tag []) pass (taken_none _ s tag c.begun-passes.ensures.holds);
         start = c.begin_first.ensures.start s c.begun-passes.ensures.holds;
         tag_is = c.begin_first.ensures.tag ∙ c.bytes.ensures.value;
-        tag_long = c.bytes.ensures.is_block.length_is;
+        tag_long = c.bytes.ensures.are_bytes.length_is;
         small = λ i. omega arith;
       };
     }

@@ -25,7 +25,7 @@ returns-then-not-has_room-clause-answer c = λ s text h.
 pub returns-clause-answer : goal.returns-clause-answer
 returns-clause-answer c = λ s text h.
     let went = c.mask.ensures s text (sym (ap (λ (k : Keyed). k.suite) h.keyed_is))
-    (sym (ap (λ (k : Keyed). k.key) h.keyed_is)) (sym (c.new-nonce.ensures ∙ h.nonce_is)) h.state in
+    (sym (ap (λ (k : Keyed). k.key) h.keyed_is)) (sym (c.new-nonce.ensures.value ∙ h.nonce_is)) h.state in
     let n = h.state [] in
     let suite = c.suite.ensures.value ∙ ap (λ (k : Keyed). k.suite) h.keyed_is in (
       record { keyed_is = h.keyed_is; nonce_is = h.nonce_is; state = went.0 },

@@ -11,7 +11,7 @@ returns c = λ s h aad fits.
     let is = sym (ap construction_of h.suite_is) ∙ c.args.self.now.by_gcm_siv in
     let first : take 16 c.joined.result ≡ c.args.self.now.hash_key =
     ap (take 16) c.joined.ensures
-    ∙ take_at c.bytes.result.now _ 16 (ap length c.bytes.ensures.value ∙ c.bytes.ensures.is_block.length_is)
+    ∙ take_at c.bytes.result.now _ 16 (ap length c.bytes.ensures.value ∙ c.bytes.ensures.are_bytes.length_is)
     ∙ c.bytes.ensures.value in
     let keyed : IsHashKey (construction_of s.suite) c.joined.result s =
     subst (λ x. IsHashKey x c.joined.result s) (sym is)

@@ -9,10 +9,10 @@ returns g c =
     let up : List ℕ → ℕ → List ℕ = g.C.Count.up in
     joined_blocks c.bytes.result.now c.bytes-2.result.now c.bytes-3.result.now c.bytes-4.result.now
     c.concat.result (λ q. up first ((begun + q) % 2 ^ 32))
-    (ap length c.bytes.ensures.value ∙ c.bytes.ensures.is_block.length_is)
-    (ap length c.bytes-2.ensures.value ∙ c.bytes-2.ensures.is_block.length_is)
-    (ap length c.bytes-3.ensures.value ∙ c.bytes-3.ensures.is_block.length_is)
-    (ap length c.bytes-4.ensures.value ∙ c.bytes-4.ensures.is_block.length_is)
+    (ap length c.bytes.ensures.value ∙ c.bytes.ensures.are_bytes.length_is)
+    (ap length c.bytes-2.ensures.value ∙ c.bytes-2.ensures.are_bytes.length_is)
+    (ap length c.bytes-3.ensures.value ∙ c.bytes-3.ensures.are_bytes.length_is)
+    (ap length c.bytes-4.ensures.value ∙ c.bytes-4.ensures.are_bytes.length_is)
     c.concat.ensures
     (c.bytes.ensures.value ∙ c.block-first.ensures ∙ ap (up first) (sym (add-zero begun))
     ∙ sym (g.met.C.Count.wraps first (begun + 0)))

@@ -7,7 +7,7 @@ use Rattle.aes.proofs.counter.Counter.mask_block.Goals as goal
 pub returns-clause-advances : goal.returns-clause-advances
 returns-clause-advances g c = λ first made held. c.mask_with.ensures.advances c.args.key.now (λ q h.
     let s = c.args.self.now in
-    let size : length c.bytes.result.now ≡ 16 = ap length c.bytes.ensures.value ∙ c.bytes.ensures.is_block.length_is in
+    let size : length c.bytes.result.now ≡ 16 = ap length c.bytes.ensures.value ∙ c.bytes.ensures.are_bytes.length_is in
     let first : q ≡ 0 = omega (arith, h, size) in
     let count : s.block_count ≡ (s.block_count + q) % 2 ^ 32 = omega (arith, first) in
     ap (block_at c.bytes.result.now) first ∙ take_all 16 c.bytes.result.now (omega (arith, size))

@@ -10,5 +10,5 @@ returns-clause-advances g c = λ key.
     let n : ℕ = s.used + length xs - s.used in
     let size : n ≡ length xs = omega arith in
     went_on g.C.Count.up key s _ xs c.xor_into.new.dst n refl refl refl refl c.requires.some c.requires.room
-    c.bytes.ensures.is_block.length_is size
+    c.bytes.ensures.are_bytes.length_is size
     (c.xor_into.ensures ∙ ap (λ m. xor_bytes xs (take n (drop s.used m))) c.bytes.ensures.value)

@@ -14,7 +14,7 @@ loop-done-init c = (
   search rules,
   λ key x b h.
       last_added key c.args.self.now x c.args.block.now c.round_key.result (state_of c.add_key-state.result)
-      b c.bytes.ensures.is_block.length_is (search rules)
+      b c.bytes.ensures.are_bytes.length_is (search rules)
       c.round_key.ensures (c.add_key-state.ensures
       ∙ ap (add_round_key (columns_of c.round_key.result) 0) (c.load.ensures ∙ c.bytes.ensures.value)) h,
 )
@@ -47,7 +47,7 @@ returns-clause-value c = λ key x.
     (state_long c.unsub_rows.result (search rules)) (search rules) c.round_key-2.ensures
     c.add_key-first.ensures c.unsub_rows.ensures) in
     let is = c.new.ensures.value ∙ c.store.ensures in
-    let block : IsBlock first = rw is at c.new.ensures.is_block in
+    let block : IsBlock first = rw is at c.new.ensures.are_bytes in
     rw is (record {
       taken = taken;
       only = λ d b e. cipher_same key d first x.is_key b block (e ∙ sym taken);

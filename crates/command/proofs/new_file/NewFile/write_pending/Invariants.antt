@@ -11,7 +11,7 @@ invariant-loop-self g l = record {
       (append_known (held (g.F.Storage.blank l.self.files.now l.self.path.now) g.F.Output.Outlet.taken l.self.file)
       (drop l.self.written l.self.pending.items));
   pending : l.self.pending ≡ l.initial.self.pending;
-  failed : l.self.failed ≡ l.initial.self.failed;
+  failed : l.self.failures ≡ l.initial.self.failures;
   made : is_some l.self.file ≡ true;
 }
 

@@ -8,5 +8,5 @@ invariant_of-result c = record { filled = rw (c.word_of.ensures ∙ ap g c.bytes
 
 pub returns : goal.returns
 returns c =
-    bytes_of_word c.word_of.result c.args.key.now c.bytes.ensures.is_block (c.word_of.ensures
+    bytes_of_word c.word_of.result c.args.key.now c.bytes.ensures.are_bytes (c.word_of.ensures
     ∙ ap g c.bytes.ensures.value)

@@ -7,5 +7,5 @@ use Rattle.gf128.proofs.table_mul.TableMulKeyed128.of.Goals as goal
 pub returns : goal.returns
 returns c =
     ap (to_be_bytes w128) c.of.ensures
-    ∙ bytes_of_word c.word_of.result c.args.key.now c.bytes.ensures.is_block (c.word_of.ensures
+    ∙ bytes_of_word c.word_of.result c.args.key.now c.bytes.ensures.are_bytes (c.word_of.ensures
     ∙ ap g c.bytes.ensures.value)

@@ -30,5 +30,5 @@ invariant_of-self c =
 pub returns : goal.returns
 returns c =
     ap (to_be_bytes w128) c.set.ensures
-    ∙ bytes_of_word c.word_of-word.result c.args.key.now c.bytes.ensures.is_block
+    ∙ bytes_of_word c.word_of-word.result c.args.key.now c.bytes.ensures.are_bytes
     (c.word_of-word.ensures ∙ ap g c.bytes.ensures.value)

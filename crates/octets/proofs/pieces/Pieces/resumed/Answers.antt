@@ -12,7 +12,7 @@ returns g c = λ k m held e.
       taken = held;
       rest = record {
         used_is = omega (arith, ap length e, length-drop (length m / 16 * 16) m);
-        kept = take-put_mid 0 (length x) (replicate 16 0) c.copy_from_slice.new.self (length x)
+        rest_is = take-put_mid 0 (length x) (replicate 16 0) c.copy_from_slice.new.self (length x)
             (omega (arith, ap length after)) (omega arith)
             ∙ after ∙ e;
       };

@@ -1,5 +1,0 @@
-use Rattle.std.proofs.Common.{refl}
-use Rattle.octets.proofs.bytes.shown.Goals as goal
-
-pub returns-clause-value : goal.returns-clause-value
-returns-clause-value c _ = refl
