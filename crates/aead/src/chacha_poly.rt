@@ -45,7 +45,7 @@ impl ChaChaPoly {
         ChaChaPoly { key: *key }
     }
 
-    // Its key.
+    // Returns the key.
     pub(crate) fn key(&self) -> &Key32
         ensures key { result.now ≡ self.now.key }
         ensures by { construction_of self.now.suite ≡ ByChaCha }
@@ -96,8 +96,8 @@ impl ChaChaPoly {
         open_whole(&BufferedChaCha { key, nonce, start }, aad, body, tag)
     }
 
-    // Opens a ciphertext and its tag in place, and authenticates it meanwhile. After a refusal the bytes are of
-    // no use.
+    // Opens a ciphertext and its tag in place, and authenticates it meanwhile. On error the contents of the buffer are
+    // unspecified.
     pub(crate) fn open_beside(
         &self,
         nonce: &Nonce,

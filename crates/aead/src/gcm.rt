@@ -33,7 +33,7 @@ use std::marker::Model;
 pub struct Gcm {
     key: AesKey,
     ghash_key: Block,
-    // The few multiples that a short text takes: what is kept is small, since it moves with the key.
+    // The small table, for short texts: it moves with the key.
     multiplier: TableMul,
     // Behind the key: before it, the bytes between them make LLVM move the key twice.
     suite: Suite,
@@ -94,14 +94,14 @@ impl Gcm {
         BorrowedGcm::new(self.suite, &self.key, &self.ghash_key, &self.multiplier)
     }
 
-    // Its key.
+    // Returns the key.
     pub(crate) fn key(&self) -> &AesKey
         ensures { result.now ≡ self.now.key }
     {
         &self.key
     }
 
-    // The cipher with a nonce, by its key, kept or borrowed, and a multiplier of its hash key.
+    // The cipher with a nonce, by its key, which is held or borrowed, and a multiplier of its hash key.
     pub(crate) fn nonced<'a, M: Multiply + Copy, K: KeptKey + Copy>(
         &self,
         nonce: &'a Nonce,
@@ -122,7 +122,7 @@ impl Gcm {
         }
     }
 
-    // Its key, its hash key and the multiplier that is kept.
+    // Returns the key, the hash key and the multiplier that the cipher holds.
     pub(crate) fn keys(&self) -> (&AesKey, &Block, &TableMul)
         ensures key { result.0.now ≡ self.now.key }
         ensures hash_key { result.1.now ≡ hash_key result.0.now }
@@ -164,7 +164,7 @@ pub(crate) fn hash_keys(key: &AesKey, ghash_key: &Block, nonce: &Nonce) -> [u8; 
     )
 }
 
-// The counter stream of a text of which so many bytes were masked.
+// The counter stream of a text of which `made` bytes were masked.
 pub(crate) fn mask_at<K: KeptKey>(key: K, nonce: &Nonce, made: u64) -> CtrBe<K>
     requires { made < 2 ^ 63 }
     ensures { (s : Setting) (tag : List ℕ) → construction_of s.suite ≡ ByGcm → s.key ≡ K.bytes key
