@@ -1,5 +1,5 @@
-//! The key stream of ChaCha20 (RFC 8439, 2.4) whose first blocks were made at once, with the block that holds the key of
-//! Poly1305.
+//! A ChaCha20 key stream (RFC 8439, 2.4) with its first blocks precomputed: they were made together with the block that holds
+//! the key of Poly1305.
 
 ghost use Rattle.std.specs.Prelude.{◌≡◌, ◌+◌, ◌*◌, ◌%◌, ◌<◌, ◌≤◌, ℕ, List, length, min, slice_index};
 ghost use Rattle.chacha.specs.Stream.{key_stream_byte};
@@ -8,7 +8,7 @@ use crate::mask::{MaskStream, runs};
 use chacha::{ChaStream, RUN};
 use octets::{Key32, Nonce, Stream, Work, xor_into};
 
-// The key stream from counter 1 on: of the blocks that are there, and then of those after them.
+// The key stream from counter 1 on: first that of the precomputed blocks, and then that of the blocks after them.
 #[derive(Drop)]
 pub(crate) struct BufferedStream<'a> {
     // The blocks from counter 0 on.
@@ -23,7 +23,7 @@ pub(crate) struct BufferedStream<'a> {
 impl<'a> BufferedStream<'a> {
     ghost use Rattle.aead.specs.Code.Buffered.{IsBuffered};
 
-    // No byte is made yet.
+    // No byte is used yet.
     pub(crate) fn new(key: &Key32, nonce: &Nonce, start: &'a [u8]) -> BufferedStream<'a>
         requires has_a_block { 64 ≤ length start.now }
         requires short { length start.now ≤ 576 }

@@ -16,8 +16,11 @@ use crate::aead::Aead;
 use crate::buffered_stream::BufferedStream;
 use crate::one_pass::{OnePass, open_beside, open_whole, seal_whole};
 use crate::suite::Suite;
-use chacha::{ChaStream, block, key_stream_start};
-use octets::{Fault, Key32, Nonce, Tag, WIDE};
+use chacha::{
+    BlocksAtOnce, ChaStream, EightBlocks, FiveBlocks, FourBlocks, KeyStreamStart, NineBlocks,
+    SEVEN_BLOCKS, TwoBlocks, block,
+};
+use octets::{Fault, Key32, Nonce, Tag};
 use poly1305::Poly;
 use std::marker::Model;
 
@@ -42,7 +45,7 @@ impl ChaChaPoly {
         ChaChaPoly { key: *key }
     }
 
-    // Its key.
+    // Returns the key.
     pub(crate) fn key(&self) -> &Key32
         ensures key { result.now ≡ self.now.key }
         ensures by { construction_of self.now.suite ≡ ByChaCha }
@@ -61,40 +64,40 @@ impl ChaChaPoly {
         }
     }
 
-    // Seals with the first `N` bytes of the key stream made at once.
+    // Seals with the blocks `S` of the key stream made at once.
     #[inline(never)]
-    fn seal_from<const N: usize>(&self, nonce: &Nonce, aad: &[u8], text: &mut [u8]) -> Tag
-        requires blocks { (64 ≤ N) × (N ≤ 576) × (N % 64 ≡ 0) }
+    fn seal_from<S: KeyStreamStart>(&self, nonce: &Nonce, aad: &[u8], text: &mut [u8]) -> Tag
         requires aad_fits { length aad.now ≤ aad_limit self.now.suite }
         requires text_fits { length text.old ≤ text_limit self.now.suite }
         ensures { Opened (setting self.now nonce.now aad.now) (text.new ++ result) text.old }
     {
         let key = &self.key;
-        let start = &key_stream_start::<N>(key, nonce)[..];
+        let first = S::make(key, nonce);
+        let start = first.blocks();
         seal_whole(&BufferedChaCha { key, nonce, start }, aad, text)
     }
 
-    // Opens with the first `N` bytes of the key stream made at once.
+    // Opens with the blocks `S` of the key stream made at once.
     #[inline(never)]
-    fn open_from<const N: usize>(
+    fn open_from<S: KeyStreamStart>(
         &self,
         nonce: &Nonce,
         aad: &[u8],
         body: &mut [u8],
         tag: &Tag,
     ) -> Result<(), Fault>
-        requires blocks { (64 ≤ N) × (N ≤ 576) × (N % 64 ≡ 0) }
         requires aad_fits { length aad.now ≤ aad_limit self.now.suite }
         requires text_fits { length body.old ≤ text_limit self.now.suite }
         ensures { OpensInPlace (setting self.now nonce.now aad.now) tag.now body.old body.new result }
     {
         let key = &self.key;
-        let start = &key_stream_start::<N>(key, nonce)[..];
+        let first = S::make(key, nonce);
+        let start = first.blocks();
         open_whole(&BufferedChaCha { key, nonce, start }, aad, body, tag)
     }
 
-    // Opens a ciphertext and its tag in place, and authenticates it meanwhile. After a refusal the bytes are of
-    // no use.
+    // Opens a ciphertext and its tag in place, and authenticates it meanwhile. On error the contents of the buffer are
+    // unspecified.
     pub(crate) fn open_beside(
         &self,
         nonce: &Nonce,
@@ -112,7 +115,8 @@ impl ChaChaPoly {
             return self.open_fitting(nonce, aad, body, tag);
         }
         let key = &self.key;
-        let start = &key_stream_start::<128>(key, nonce)[..];
+        let first = TwoBlocks::make(key, nonce);
+        let start = first.blocks();
         open_beside(&BufferedChaCha { key, nonce, start }, aad, body, tag)
     }
 }
@@ -212,28 +216,6 @@ impl<'a> OnePass for BufferedChaCha<'a> {
     ghost one_pass = { λ _. refl };
 }
 
-// The bytes of text that the blocks with the counters 1 to 7 mask.
-const SEVEN_BLOCKS: usize = 448;
-
-// How many blocks from counter 0 on are made at once for a text of `length` bytes. A block beside four or eight
-// others costs little, and the blocks after them go by four or eight, so that few are made for a last part.
-fn blocks_at_once(length: usize) -> usize {
-    if WIDE && length > 192 {
-        return match length {
-            0..=SEVEN_BLOCKS => 8,
-            _ => match length % 512 {
-                1..=64 | 257..=320 => 2,
-                _ => 9,
-            },
-        };
-    }
-    match length.max(1) % 256 {
-        1..=64 => 2,
-        65..=192 => 4,
-        _ => 5,
-    }
-}
-
 impl Aead for ChaChaPoly {
     ghost keyed = { λ c. c };
 
@@ -247,12 +229,12 @@ impl Aead for ChaChaPoly {
     }
 
     fn seal_fitting(&self, nonce: &Nonce, aad: &[u8], text: &mut [u8]) -> Tag {
-        match blocks_at_once(text.len()) {
-            2 => self.seal_from::<128>(nonce, aad, text),
-            4 => self.seal_from::<256>(nonce, aad, text),
-            5 => self.seal_from::<320>(nonce, aad, text),
-            8 => self.seal_from::<512>(nonce, aad, text),
-            _ => self.seal_from::<576>(nonce, aad, text),
+        match BlocksAtOnce::for_text(text.len()) {
+            BlocksAtOnce::Two => self.seal_from::<TwoBlocks>(nonce, aad, text),
+            BlocksAtOnce::Four => self.seal_from::<FourBlocks>(nonce, aad, text),
+            BlocksAtOnce::Five => self.seal_from::<FiveBlocks>(nonce, aad, text),
+            BlocksAtOnce::Eight => self.seal_from::<EightBlocks>(nonce, aad, text),
+            BlocksAtOnce::Nine => self.seal_from::<NineBlocks>(nonce, aad, text),
         }
     }
 
@@ -263,12 +245,12 @@ impl Aead for ChaChaPoly {
         body: &mut [u8],
         tag: &Tag,
     ) -> Result<(), Fault> {
-        match blocks_at_once(body.len()) {
-            2 => self.open_from::<128>(nonce, aad, body, tag),
-            4 => self.open_from::<256>(nonce, aad, body, tag),
-            5 => self.open_from::<320>(nonce, aad, body, tag),
-            8 => self.open_from::<512>(nonce, aad, body, tag),
-            _ => self.open_from::<576>(nonce, aad, body, tag),
+        match BlocksAtOnce::for_text(body.len()) {
+            BlocksAtOnce::Two => self.open_from::<TwoBlocks>(nonce, aad, body, tag),
+            BlocksAtOnce::Four => self.open_from::<FourBlocks>(nonce, aad, body, tag),
+            BlocksAtOnce::Five => self.open_from::<FiveBlocks>(nonce, aad, body, tag),
+            BlocksAtOnce::Eight => self.open_from::<EightBlocks>(nonce, aad, body, tag),
+            BlocksAtOnce::Nine => self.open_from::<NineBlocks>(nonce, aad, body, tag),
         }
     }
 }

@@ -33,7 +33,7 @@ use std::marker::Model;
 pub struct Gcm {
     key: AesKey,
     ghash_key: Block,
-    // The few multiples that a short text takes: what is kept is small, since it moves with the key.
+    // The small table, for short texts: it moves with the key.
     multiplier: TableMul,
     // Behind the key: before it, the bytes between them make LLVM move the key twice.
     suite: Suite,
@@ -86,7 +86,7 @@ impl Gcm {
         }
     }
 
-    // The cipher by what it keeps, where that is.
+    // Borrows everything this cipher holds.
     #[inline(always)]
     fn kept<'a>(&'a self) -> BorrowedGcm<'a, &'a TableMul>
         ensures { ⟦<BorrowedGcm<'a, &'a TableMul> as Aead>⟧.keyed result ≡ self.now }
@@ -94,14 +94,14 @@ impl Gcm {
         BorrowedGcm::new(self.suite, &self.key, &self.ghash_key, &self.multiplier)
     }
 
-    // Its key.
+    // Returns the key.
     pub(crate) fn key(&self) -> &AesKey
         ensures { result.now ≡ self.now.key }
     {
         &self.key
     }
 
-    // The cipher with a nonce, by its key, kept or borrowed, and a multiplier of its hash key.
+    // The cipher with a nonce, by its key, which is held or borrowed, and a multiplier of its hash key.
     pub(crate) fn nonced<'a, M: Multiply + Copy, K: KeptKey + Copy>(
         &self,
         nonce: &'a Nonce,
@@ -122,7 +122,7 @@ impl Gcm {
         }
     }
 
-    // Its key, its hash key and the multiplier that is kept.
+    // Returns the key, the hash key and the multiplier that the cipher holds.
     pub(crate) fn keys(&self) -> (&AesKey, &Block, &TableMul)
         ensures key { result.0.now ≡ self.now.key }
         ensures hash_key { result.1.now ≡ hash_key result.0.now }
@@ -164,7 +164,7 @@ pub(crate) fn hash_keys(key: &AesKey, ghash_key: &Block, nonce: &Nonce) -> [u8; 
     )
 }
 
-// The counter stream of a text of which so many bytes were masked.
+// The counter stream of a text of which `made` bytes were masked.
 pub(crate) fn mask_at<K: KeptKey>(key: K, nonce: &Nonce, made: u64) -> CtrBe<K>
     requires { made < 2 ^ 63 }
     ensures { (s : Setting) (tag : List ℕ) → construction_of s.suite ≡ ByGcm → s.key ≡ K.bytes key
@@ -225,42 +225,31 @@ impl<'a, M: Multiply + Copy, K: KeptKey + Copy> OnePass for NoncedGcm<'a, M, K> 
     ghost one_pass = { λ n. ap is_one_pass n.by_gcm };
 }
 
-/// AES-GCM (SP 800-38D) by a key's schedule, its hash subkey and a multiplier by that, which the caller keeps, as a [`Gcm`]
-/// keeps its own. A long message is hashed by a larger table, which is made of the hash subkey for the message. Opening in
-/// place authenticates before it changes a byte.
+/// AES-GCM (SP 800-38D) by a key's schedule and its hash subkey, which the caller keeps. The table that hashes a message is made
+/// of the hash subkey for it, a larger one for a long message. Opening in place authenticates before it changes a byte.
 ///
 /// Not constant time: secret bytes index the tables that [`Gcm`] names.
 #[derive(Drop)]
-pub struct BorrowedGcm<'a, M: Multiply> {
+pub struct GcmKeys<'a> {
     suite: Suite,
     key: &'a AesKey,
     ghash_key: &'a Block,
-    multiplier: M,
     ghost by_gcm: { construction_of suite ≡ ByGcm },
     ghost ghash_key_is: { ghash_key.now ≡ hash_key key.now },
-    ghost multiplier_is: { M.key_bytes multiplier ≡ hash_key key.now },
 }
 
-impl<'a, M: Multiply + Copy> BorrowedGcm<'a, M> {
-    /// AES-GCM of one of its three suites, by a key of the suite's length, 16, 24 or 32 bytes, its [`hash_subkey`] and a
-    /// multiplier by that.
+impl<'a> GcmKeys<'a> {
+    /// AES-GCM of one of its three suites, by a key of the suite's length, 16, 24 or 32 bytes, and its [`hash_subkey`].
     #[inline(always)]
-    pub fn new(
-        suite: Suite,
-        key: &'a AesKey,
-        ghash_key: &'a Block,
-        multiplier: M,
-    ) -> BorrowedGcm<'a, M>
+    pub fn new(suite: Suite, key: &'a AesKey, ghash_key: &'a Block) -> GcmKeys<'a>
         requires by_gcm { construction_of suite ≡ ByGcm }
         requires ghash_key { ghash_key.now ≡ hash_key key.now }
-        requires multiplier { M.key_bytes multiplier ≡ hash_key key.now }
-        ensures { ⟦<BorrowedGcm<'a, M> as Aead>⟧.keyed result ≡ record { suite = suite; key = key.now } }
+        ensures { ⟦<GcmKeys<'a> as Aead>⟧.keyed result ≡ record { suite = suite; key = key.now } }
     {
-        BorrowedGcm {
+        GcmKeys {
             suite,
             key,
             ghash_key,
-            multiplier,
         }
     }
 
@@ -273,7 +262,7 @@ impl<'a, M: Multiply + Copy> BorrowedGcm<'a, M> {
     ) -> NoncedGcm<'b, N, &'a AesKey>
         requires { N.key_bytes multiplier ≡ hash_key self.now.key.now }
         ensures keyed { ⟦<NoncedGcm<'b, N, &'a AesKey> as OnePass>⟧.keyed result
-            ≡ ⟦<BorrowedGcm<'a, M> as Aead>⟧.keyed self.now }
+            ≡ ⟦<GcmKeys<'a> as Aead>⟧.keyed self.now }
         ensures nonce { ⟦<NoncedGcm<'b, N, &'a AesKey> as OnePass>⟧.nonce result ≡ nonce.now }
     {
         NoncedGcm {
@@ -289,7 +278,7 @@ impl<'a, M: Multiply + Copy> BorrowedGcm<'a, M> {
     fn seal_by<N: Keyed128>(&self, nonce: &Nonce, aad: &[u8], text: &mut [u8]) -> Tag
         requires aad_fits { length aad.now ≤ aad_limit self.now.suite }
         requires text_fits { length text.old ≤ text_limit self.now.suite }
-        ensures { Opened (setting (⟦<BorrowedGcm<'a, M> as Aead>⟧.keyed self.now) nonce.now aad.now) (text.new ++ result)
+        ensures { Opened (setting (⟦<GcmKeys<'a> as Aead>⟧.keyed self.now) nonce.now aad.now) (text.new ++ result)
             text.old }
     {
         let mut made = N::none();
@@ -308,7 +297,7 @@ impl<'a, M: Multiply + Copy> BorrowedGcm<'a, M> {
     ) -> Result<(), Fault>
         requires aad_fits { length aad.now ≤ aad_limit self.now.suite }
         requires text_fits { length body.old ≤ text_limit self.now.suite }
-        ensures { OpensInPlace (setting (⟦<BorrowedGcm<'a, M> as Aead>⟧.keyed self.now) nonce.now aad.now) tag.now body.old
+        ensures { OpensInPlace (setting (⟦<GcmKeys<'a> as Aead>⟧.keyed self.now) nonce.now aad.now) tag.now body.old
             body.new result }
     {
         let mut made = N::none();
@@ -317,7 +306,7 @@ impl<'a, M: Multiply + Copy> BorrowedGcm<'a, M> {
     }
 }
 
-impl<'a, M: Multiply + Copy> Aead for BorrowedGcm<'a, M> {
+impl<'a> Aead for GcmKeys<'a> {
     ghost keyed = { λ c. record { suite = c.suite; key = c.key.now } };
 
     fn suite(&self) -> Suite {
@@ -326,7 +315,10 @@ impl<'a, M: Multiply + Copy> Aead for BorrowedGcm<'a, M> {
 
     fn seal_fitting(&self, nonce: &Nonce, aad: &[u8], text: &mut [u8]) -> Tag {
         match worth((aad.len() + text.len()) as u64) {
-            Multiples::Few => seal_whole(&self.nonced(nonce, self.multiplier), aad, text),
+            Multiples::Few => {
+                let few = TableMul::of(self.ghash_key);
+                seal_whole(&self.nonced(nonce, &few), aad, text)
+            }
             Multiples::OfFourPowers => self.seal_by::<WideMul>(nonce, aad, text),
         }
     }
@@ -339,8 +331,77 @@ impl<'a, M: Multiply + Copy> Aead for BorrowedGcm<'a, M> {
         tag: &Tag,
     ) -> Result<(), Fault> {
         match worth((aad.len() + body.len()) as u64) {
-            Multiples::Few => open_whole(&self.nonced(nonce, self.multiplier), aad, body, tag),
+            Multiples::Few => {
+                let few = TableMul::of(self.ghash_key);
+                open_whole(&self.nonced(nonce, &few), aad, body, tag)
+            }
             Multiples::OfFourPowers => self.open_by::<WideMul>(nonce, aad, body, tag),
+        }
+    }
+}
+
+/// AES-GCM (SP 800-38D) by a key's schedule, its hash subkey and a multiplier by that, which the caller keeps, as a [`Gcm`]
+/// keeps its own. A long message is hashed by a larger table, which is made of the hash subkey for the message. Opening in
+/// place authenticates before it changes a byte.
+///
+/// Not constant time: secret bytes index the tables that [`Gcm`] names.
+#[derive(Drop)]
+pub struct BorrowedGcm<'a, M: Multiply> {
+    keys: GcmKeys<'a>,
+    multiplier: M,
+    ghost multiplier_is: { M.key_bytes multiplier ≡ hash_key keys.key.now },
+}
+
+impl<'a, M: Multiply + Copy> BorrowedGcm<'a, M> {
+    /// AES-GCM of one of its three suites, by a key of the suite's length, 16, 24 or 32 bytes, its [`hash_subkey`] and a
+    /// multiplier by that.
+    #[inline(always)]
+    pub fn new(
+        suite: Suite,
+        key: &'a AesKey,
+        ghash_key: &'a Block,
+        multiplier: M,
+    ) -> BorrowedGcm<'a, M>
+        requires by_gcm { construction_of suite ≡ ByGcm }
+        requires ghash_key { ghash_key.now ≡ hash_key key.now }
+        requires multiplier { M.key_bytes multiplier ≡ hash_key key.now }
+        ensures { ⟦<BorrowedGcm<'a, M> as Aead>⟧.keyed result ≡ record { suite = suite; key = key.now } }
+    {
+        BorrowedGcm {
+            keys: GcmKeys {
+                suite,
+                key,
+                ghash_key,
+            },
+            multiplier,
+        }
+    }
+}
+
+impl<'a, M: Multiply + Copy> Aead for BorrowedGcm<'a, M> {
+    ghost keyed = { λ c. record { suite = c.keys.suite; key = c.keys.key.now } };
+
+    fn suite(&self) -> Suite {
+        self.keys.suite
+    }
+
+    fn seal_fitting(&self, nonce: &Nonce, aad: &[u8], text: &mut [u8]) -> Tag {
+        match worth((aad.len() + text.len()) as u64) {
+            Multiples::Few => seal_whole(&self.keys.nonced(nonce, self.multiplier), aad, text),
+            Multiples::OfFourPowers => self.keys.seal_by::<WideMul>(nonce, aad, text),
+        }
+    }
+
+    fn open_fitting(
+        &self,
+        nonce: &Nonce,
+        aad: &[u8],
+        body: &mut [u8],
+        tag: &Tag,
+    ) -> Result<(), Fault> {
+        match worth((aad.len() + body.len()) as u64) {
+            Multiples::Few => open_whole(&self.keys.nonced(nonce, self.multiplier), aad, body, tag),
+            Multiples::OfFourPowers => self.keys.open_by::<WideMul>(nonce, aad, body, tag),
         }
     }
 }

@@ -55,7 +55,7 @@ pub use any::{AnyAead, AnyOnePass};
 pub use chacha_poly::ChaChaPoly;
 pub use cuts::seal_cut;
 pub use engine::{open_stream, seal_siv_stream, seal_stream};
-pub use gcm::{BorrowedGcm, Gcm, hash_subkey};
+pub use gcm::{BorrowedGcm, Gcm, GcmKeys, hash_subkey};
 pub use gcm_siv::GcmSiv;
 pub use keyed_opener::KeyedOpener;
 pub use keyed_sealer::KeyedSealer;

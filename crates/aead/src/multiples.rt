@@ -1,16 +1,16 @@
-//! How many multiples of its key a hash of AES-GCM or AES-GCM-SIV makes, by the length of the text or the piece.
+//! Which table of multiples of its key GHASH or POLYVAL gets, by the length of the text or the piece.
 
-// From so many bytes on, those of four powers of the key are worth their making.
+// The length in bytes from which on a table of four powers of the key saves more time than it takes to make.
 const LONG: u64 = 704;
 
-// The multiples of its key that a hash takes, made anew for a text or a piece.
+// The table of a hash: 32 multiples of its key, or 256 of each of four powers.
 #[derive(Clone, Copy)]
 pub(crate) enum Multiples {
     Few,
     OfFourPowers,
 }
 
-// Those that so many bytes are worth.
+// Picks the table for an input of this length.
 #[inline(always)]
 pub(crate) fn worth(length: u64) -> Multiples {
     if length < LONG {

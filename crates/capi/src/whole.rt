@@ -14,9 +14,8 @@ ghost use Rattle.capi.specs.Suites.{unknown_suite};
 ghost use Rattle.capi.specs.Whole.{WasSealed, WasNotSealed, WasOpened, WasNotOpened, SealsTo, OpensTo};
 
 use crate::suites::{OUTPUT_LENGTH, UNKNOWN_SUITE, suite_numbered};
-use aead::{Aead, BorrowedGcm, ChaChaPoly, GcmSiv, Suite, hash_subkey};
+use aead::{Aead, ChaChaPoly, GcmKeys, GcmSiv, Suite, hash_subkey};
 use aes::AesKey;
-use gf128::{Keyed128, TableMul};
 use octets::{Block, Fault, Key32, Nonce, Tag, outcome_number};
 
 // The nonce with these 12 bytes. In a `Result` it would share its first byte with the fault, and LLVM copies that byte
@@ -129,9 +128,7 @@ pub(crate) fn run_gcm<D: Direction>(
         MatchResult result (λ _. D.done s text.old tag.old text.new tag.new)
         (D.refused s text.old tag.old text.new tag.new) }
 {
-    let multiplier = TableMul::of(ghash_key);
-    let cipher = BorrowedGcm::new(suite, key, ghash_key, &multiplier);
-    D::run(&cipher, nonce, aad, text, tag)
+    D::run(&GcmKeys::new(suite, key, ghash_key), nonce, aad, text, tag)
 }
 
 // A suite and a key, as bytes or kept in a struct.

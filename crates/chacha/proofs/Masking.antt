@@ -201,6 +201,14 @@ bytes_of_zeros f size i l =
     masked_zero f 0 i i (replicate size 0) (omega (arith, l, length-replicate {A = ℕ} size 0))
     (get_or-replicate size i 0 0 l) (omega arith)
 
+-- bytes that were zeros are the key stream that was XORed in
+pub bytes_from_zeros : (f : ℕ → ℕ) (size : ℕ) (bytes : List ℕ) → bytes ≡ masked f 0 (replicate size 0)
+    → (i : ℕ) → i < length bytes → get_or bytes i 0 ≡ f i
+bytes_from_zeros f size bytes are i l =
+    let long : length bytes ≡ size =
+    ap length are ∙ length-masked f 0 (replicate size 0) ∙ length-replicate {A = ℕ} size 0 in
+    ap (λ bs. get_or bs i 0) are ∙ bytes_of_zeros f size i (omega (arith, l, long))
+
 -- a run of bytes is masked in its place if the stream is zeros with the key stream XORed in
 pub run_of_zeros : (key nonce : List ℕ) (p size n : ℕ) (bytes stream now : List ℕ)
     → stream ≡ masked (key_stream_byte key nonce (p / 64)) 0 (replicate size 0) → length stream ≡ size

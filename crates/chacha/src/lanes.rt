@@ -1,5 +1,5 @@
 //! Four or eight blocks of ChaCha20 at once (RFC 8439, 2.3): a vector for each word of the state, a lane for each block.
-//! [`four_blocks`] is the public one.
+//! [`four_blocks`] is the public function.
 
 ghost use Rattle.std.specs.Prelude.{◌≡◌, ℕ, ◌+◌, ◌/◌, ◌%◌, ◌^◌, ◌<◌, ◌≤◌, ◌∷◌, ◌++◌, [], List, length};
 ghost use Rattle.std.specs.Prelude.{take, drop, slice_index, bit_xor};
@@ -105,11 +105,10 @@ pub(crate) fn half_diagonals<const N: usize>(x: &mut [Simd<u32, N>; 16], n: u32,
     add_xor_rotate(x, 9, 14, 4, m);
 }
 
-// How many steps of other work are kept after the second half of a round. A run of four blocks has 40 places for a step
-// and about 16 steps beside it: done at the first places, they would fill the processor there and leave it idle at the
-// others. So it does none at every second place, unless more are left than a part of a text has. A run of eight blocks
-// has 32 steps.
-pub(crate) const KEPT: usize = if WIDE { 0 } else { 512 };
+// How many steps of other work are left for later after the second half of a round. A run of four blocks has 40 places for a
+// step and about 16 steps to do: done at the first places, they would fill the processor there and leave it idle at the others.
+// So it does none at every second place, unless more are left than a part of a text has. A run of eight blocks has 32 steps.
+pub(crate) const RESERVE: usize = if WIDE { 0 } else { 512 };
 
 // Ten double rounds in halves of rounds, with a step of other work after each half. The steps are done on a copy: it
 // stays in registers, which a reference would not. A step is a branch, and so keeps the halves of a round apart: if
@@ -124,11 +123,11 @@ fn ten_rounds<const N: usize, W: Work>(x: &mut [Simd<u32, N>; 16], work: &mut W)
         half_columns(x, 16, 12);
         own.step(0);
         half_columns(x, 8, 7);
-        own.step(KEPT);
+        own.step(RESERVE);
         half_diagonals(x, 16, 12);
         own.step(0);
         half_diagonals(x, 8, 7);
-        own.step(KEPT);
+        own.step(RESERVE);
     }
     *work = own;
 }
@@ -143,7 +142,7 @@ pub(crate) fn add<const N: usize>(x: &mut [Simd<u32, N>; 16], start: &[Simd<u32,
     }
 }
 
-// Each lane gets the state from which the block of its counter starts.
+// Sets each lane to the initial state of the block of its counter.
 #[inline(always)]
 pub(crate) fn set_starts<const N: usize>(
     x: &mut [Simd<u32, N>; 16],
@@ -161,7 +160,8 @@ pub(crate) fn set_starts<const N: usize>(
     x[12] = counters;
 }
 
-// The words of the blocks that start from the states in the lanes, which then count on by as many as there are lanes.
+// Computes the words of the blocks that start from the states in the lanes. The counters in these states then rise by the number
+// of lanes.
 #[inline(always)]
 fn next_blocks<const N: usize, W: Work>(
     start: &mut [Simd<u32, N>; 16],
@@ -316,7 +316,7 @@ pub(crate) fn bytes_of(lanes: u32x4) -> [u8; 16]
     lanes.to_le_bytes().to_array()
 }
 
-// XORs four words, written out, into the sixteen bytes that start at offset `at`.
+// XORs four words, serialized, into the 16 bytes that start at offset `at`.
 #[inline(always)]
 fn xor_at(bytes: &mut [u8], at: usize, words: u32x4)
     requires { at + 16 ≤ length bytes.old }
@@ -334,7 +334,7 @@ fn bytes_of_eight(lanes: u32x8) -> u8x32
     lanes.to_le_bytes()
 }
 
-// XORs 32 bytes into as many, all at once.
+// XORs 32 bytes into 32 others, all at once.
 #[inline(always)]
 pub(crate) fn xor_thirty_two(bytes: &mut [u8], by: u8x32)
     requires { length bytes.old ≡ 32 }
@@ -344,7 +344,7 @@ pub(crate) fn xor_thirty_two(bytes: &mut [u8], by: u8x32)
     sum.copy_to_slice(bytes);
 }
 
-// XORs eight words, written out, into the 32 bytes that start at offset `at`.
+// XORs eight words, serialized, into the 32 bytes that start at offset `at`.
 #[inline(always)]
 fn xor_eight_at(bytes: &mut [u8], at: usize, words: u32x8)
     requires { at + 32 ≤ length bytes.old }
@@ -354,7 +354,7 @@ fn xor_eight_at(bytes: &mut [u8], at: usize, words: u32x8)
     xor_thirty_two(&mut bytes[at..at + 32], bytes_of_eight(words));
 }
 
-// XORs the words of each lane, written out, into the block of bytes of that lane.
+// XORs the words of each lane, serialized, into the block of bytes of that lane.
 #[inline(always)]
 fn xor_lanes(
     x: &[u32x4; 16],
@@ -379,9 +379,9 @@ fn xor_lanes(
     }
 }
 
-// XORs the words of the lanes, written out one lane after the other, into 256 bytes.
+// XORs the words of the lanes, serialized one lane after the other, into 256 bytes.
 #[inline(always)]
-pub(crate) fn xor_written(x: &[u32x4; 16], bytes: &mut [u8])
+pub(crate) fn xor_serialized(x: &[u32x4; 16], bytes: &mut [u8])
     requires { length bytes.old ≡ 256 }
     ensures { (key nonce : List ℕ) (counter : ℕ) → HasBlocks 4 x.now key counter nonce
         → bytes.new ≡ masked (key_stream_byte key nonce counter) 0 bytes.old }
@@ -392,7 +392,7 @@ pub(crate) fn xor_written(x: &[u32x4; 16], bytes: &mut [u8])
     xor_lanes(x, first, second, third, fourth);
 }
 
-// XORs the words of each of eight lanes, written out, into the block of bytes of that lane.
+// XORs the words of each of eight lanes, serialized, into the block of bytes of that lane.
 #[inline(always)]
 fn xor_eight_lanes(
     x: &[u32x8; 16],
@@ -437,7 +437,7 @@ fn xor_eight_lanes(
     }
 }
 
-// XORs the words of eight lanes, written out one lane after the other, into twice 256 bytes.
+// XORs the words of eight lanes, serialized one lane after the other, into twice 256 bytes.
 #[inline(always)]
 fn xor_halves(x: &[u32x8; 16], front: &mut [u8], back: &mut [u8])
     requires front { length front.old ≡ 256 }
@@ -458,9 +458,9 @@ fn xor_halves(x: &[u32x8; 16], front: &mut [u8], back: &mut [u8])
     );
 }
 
-// XORs the words of eight lanes, written out one lane after the other, into 512 bytes.
+// XORs the words of eight lanes, serialized one lane after the other, into 512 bytes.
 #[inline(always)]
-pub(crate) fn xor_eight_written(x: &[u32x8; 16], bytes: &mut [u8])
+pub(crate) fn xor_eight_serialized(x: &[u32x8; 16], bytes: &mut [u8])
     requires { length bytes.old ≡ 512 }
     ensures { (key nonce : List ℕ) (counter : ℕ) → HasBlocks 8 x.now key counter nonce
         → bytes.new ≡ masked (key_stream_byte key nonce counter) 0 bytes.old }
@@ -492,7 +492,7 @@ pub(crate) fn xor_fours<W: Work>(
     let mut done = 0;
     'runs: while done < bytes.len() {
         let x = four_blocks(&mut start, &mut own);
-        xor_written(&x, &mut bytes[done..done + 256]);
+        xor_serialized(&x, &mut bytes[done..done + 256]);
         done += 256;
     }
     *work = own;
@@ -518,7 +518,7 @@ pub(crate) fn xor_eights<W: Work>(
     let mut done = 0;
     'runs: while done < bytes.len() {
         let x = next_blocks(&mut start, &mut own);
-        xor_eight_written(&x, &mut bytes[done..done + 512]);
+        xor_eight_serialized(&x, &mut bytes[done..done + 512]);
         done += 512;
     }
     *work = own;

@@ -1,4 +1,4 @@
-//! ChaCha20 (RFC 8439, 2.1 to 2.4): the block, four blocks at once, and the key stream in pieces.
+//! ChaCha20 (RFC 8439, 2.1 to 2.4): the block, four blocks at once, the key stream in pieces, and its first blocks.
 //!
 //! A text is encrypted and decrypted by the same call. It is not authenticated: for that take the crate `aead`.
 //!
@@ -19,10 +19,15 @@ mod lanes;
 mod row_beside;
 mod rows;
 mod single;
+mod start;
 mod state;
 mod stream;
 mod uses;
 
 pub use lanes::{four_blocks, set_four_starts};
 pub use single::block;
-pub use stream::{ChaStream, RUN, key_stream_start};
+pub use start::{
+    BlocksAtOnce, EightBlocks, FiveBlocks, FourBlocks, KeyStreamStart, NineBlocks, SEVEN_BLOCKS,
+    TwoBlocks,
+};
+pub use stream::{ChaStream, RUN};

@@ -1,5 +1,5 @@
-//! One block of ChaCha20 by rows beside four or eight in lanes (RFC 8439, 2.3): in the steps of the lanes the processor has
-//! room for those of a row.
+//! One block of ChaCha20 by rows beside four or eight in lanes (RFC 8439, 2.3): the instructions of a row fit into idle slots
+//! of the lanes.
 
 ghost use Rattle.std.specs.Prelude.{◌≡◌, ℕ, ◌+◌, ◌^◌, ◌<◌, List, length, slice_index};
 ghost use Rattle.octets.specs.Masked.{masked};
@@ -9,10 +9,10 @@ ghost use Rattle.chacha.specs.Code.Rows.{read_by_rows};
 ghost use Rattle.chacha.specs.Stream.{key_stream_byte};
 
 use crate::lanes::{
-    KEPT, add, eight_counters, four_counters, half_columns, half_diagonals, set_starts,
-    xor_eight_written, xor_written,
+    RESERVE, add, eight_counters, four_counters, half_columns, half_diagonals, set_starts,
+    xor_eight_serialized, xor_serialized,
 };
-use crate::rows::{column_round, diagonal_round, rows_of, written};
+use crate::rows::{column_round, diagonal_round, rows_of, serialized_rows};
 use crate::state::initial_state;
 use octets::{Idle, Key32, Nonce, Work, xor_into};
 use std::simd::{Simd, u32x4, u32x8};
@@ -35,17 +35,17 @@ fn ten_rounds<const N: usize, W: Work>(
         column_round(row);
         own.step(0);
         half_columns(x, 8, 7);
-        own.step(KEPT);
+        own.step(RESERVE);
         half_diagonals(x, 16, 12);
         diagonal_round(row);
         own.step(0);
         half_diagonals(x, 8, 7);
-        own.step(KEPT);
+        own.step(RESERVE);
     }
     *work = own;
 }
 
-// Each lane gets the words of the block of its counter. Returns the block with one more counter.
+// Computes the words of one block in each lane, by the counter of the lane. Returns the block of one more counter beside them.
 #[inline(always)]
 fn set_blocks<const N: usize, W: Work>(
     x: &mut [Simd<u32, N>; 16],
@@ -66,7 +66,7 @@ fn set_blocks<const N: usize, W: Work>(
     let mut row = row_start;
     ten_rounds(x, &mut row, work);
     add(x, &start);
-    written(&row, &row_start)
+    serialized_rows(&row, &row_start)
 }
 
 // XORs the first 320 bytes of the key stream from a counter on, and does forty steps of other work. It is a
@@ -95,7 +95,7 @@ pub(crate) fn xor_five_blocks<W: Work>(
     );
     let (front, back) = bytes.split_at_mut(64);
     xor_into(front, &first);
-    xor_written(&x, back);
+    xor_serialized(&x, back);
 }
 
 // XORs the first 576 bytes of the key stream from a counter on.
@@ -115,5 +115,5 @@ pub(crate) fn xor_nine_blocks(key: &Key32, counter: u32, nonce: &Nonce, bytes: &
     );
     let (front, back) = bytes.split_at_mut(64);
     xor_into(front, &first);
-    xor_eight_written(&x, back);
+    xor_eight_serialized(&x, back);
 }

@@ -90,32 +90,32 @@ pub(crate) fn rows_of(words: &[u32; 16]) -> [u32x4; 4]
     ]
 }
 
-// The words of a row, each written with its lowest byte first.
+// Serializes the words of a row, each with its lowest byte first.
 #[inline(always)]
-fn written_row(row: u32x4) -> [u8; 16]
+fn serialized_row(row: u32x4) -> [u8; 16]
     ensures { result ≡ serialized (four_of row) }
 {
     bytes_of(row)
 }
 
-// The sums of the words of two rows, written out.
+// Adds the words of two rows and serializes the sums.
 #[inline(always)]
-fn written_sum(row: u32x4, start: u32x4) -> [u8; 16]
+fn serialized_sum(row: u32x4, start: u32x4) -> [u8; 16]
     ensures { result ≡ serialized (added (four_of row) (four_of start)) }
 {
-    written_row(sum(row, start))
+    serialized_row(sum(row, start))
 }
 
-// The state with the start added, written out.
+// Adds the start to the state and serializes the sum.
 #[inline(always)]
-pub(crate) fn written(x: &[u32x4; 4], start: &[u32x4; 4]) -> [u8; 64]
+pub(crate) fn serialized_rows(x: &[u32x4; 4], start: &[u32x4; 4]) -> [u8; 64]
     ensures { result ≡ serialized (added (read_by_rows x.now) (read_by_rows start.now)) }
 {
     let mut out = [0; 64];
-    put(&mut out, 0, &written_sum(x[0], start[0]));
-    put(&mut out, 16, &written_sum(x[1], start[1]));
-    put(&mut out, 32, &written_sum(x[2], start[2]));
-    put(&mut out, 48, &written_sum(x[3], start[3]));
+    put(&mut out, 0, &serialized_sum(x[0], start[0]));
+    put(&mut out, 16, &serialized_sum(x[1], start[1]));
+    put(&mut out, 32, &serialized_sum(x[2], start[2]));
+    put(&mut out, 48, &serialized_sum(x[3], start[3]));
     out
 }
 
@@ -129,5 +129,5 @@ pub(crate) fn two_blocks(key: &Key32, counter: u32, nonce: &Nonce) -> [[u8; 64];
     let mut x = first;
     let mut y = second;
     ten_rounds(&mut x, &mut y);
-    [written(&x, &first), written(&y, &second)]
+    [serialized_rows(&x, &first), serialized_rows(&y, &second)]
 }

@@ -2,7 +2,7 @@
 //! `rows` or `single` that fits.
 
 ghost use Rattle.std.specs.Prelude.{◌≡◌, ℕ, ◌+◌, ◌-◌, ◌*◌, ◌^◌, ◌<◌, ◌≤◌, ◌++◌, List, length, take, drop};
-ghost use Rattle.std.specs.Prelude.{min, slice_index, MatchResult};
+ghost use Rattle.std.specs.Prelude.{min, MatchResult};
 ghost use Rattle.octets.specs.Bytes.{xor_bytes};
 ghost use Rattle.octets.specs.Masked.{masked};
 ghost use Rattle.chacha.specs.Stream.{key_stream_byte};
@@ -10,14 +10,14 @@ ghost use Rattle.chacha.specs.Stream.{key_stream_byte};
 use crate::{lanes, row_beside, rows, single};
 use octets::{Fault, Idle, Key32, Nonce, Stream, WIDE, Work, xor_into};
 
-// The end of the key stream from counter 0 on: 2^32 blocks of 64 bytes.
+// The length in bytes of the key stream from counter 0 on: 2^32 blocks of 64 bytes.
 const END: u64 = 0x40_0000_0000;
 
 /// The length in bytes of a run, whose blocks are made side by side and beside other work: eight blocks where they fit the
 /// registers, and else four.
 pub const RUN: usize = if WIDE { 512 } else { 256 };
 
-/// A ChaCha20 key stream, of which some bytes were made (RFC 8439, 2.4). It serves for one text.
+/// A ChaCha20 key stream, of which some bytes were used (RFC 8439, 2.4). It serves for one text.
 #[derive(Clone, Copy)]
 pub struct ChaStream {
     key: Key32,
@@ -30,7 +30,7 @@ pub struct ChaStream {
 impl ChaStream {
     ghost use Rattle.chacha.specs.States.{Holds, Applied, Refused};
 
-    /// The key stream from the block with counter `first` on (RFC 8439, 2.4). No byte is made yet.
+    /// The key stream from the block with counter `first` on (RFC 8439, 2.4), of which no byte is used yet.
     ///
     /// A nonce must never be used twice under one key. Two texts that are XORed with the same part of a key stream give away
     /// their XOR, and who knows one of them knows the other. The stream authenticates nothing.
@@ -96,24 +96,6 @@ impl Stream for ChaStream {
     }
 }
 
-/// Returns the first `N` bytes of the key stream from counter 0 on (RFC 8439, 2.4). The caller shows that they are at
-/// most 2^38. A nonce must never be used twice under one key, as for [`ChaStream::new`]: AEAD_CHACHA20_POLY1305 takes its
-/// one-time key from the first 32 bytes (2.6), which serve for nothing else.
-pub fn key_stream_start<const N: usize>(key: &Key32, nonce: &Nonce) -> [u8; N]
-    requires { N ≤ 2 ^ 38 }
-    ensures { (i : ℕ) → i < N → slice_index result i ≡ key_stream_byte key.now nonce.now 0 i }
-{
-    let mut start = [0; N];
-    match N {
-        128 => start.copy_from_slice(rows::two_blocks(key, 0, nonce).as_flattened()),
-        256 => lanes::xor_fours(key, 0, nonce, &mut start, &mut Idle::new()),
-        320 => row_beside::xor_five_blocks(key, 0, nonce, &mut start, &mut Idle::new()),
-        576 => row_beside::xor_nine_blocks(key, 0, nonce, &mut start),
-        _ => xor_stream(key, nonce, 0, &mut start, &mut Idle::new()),
-    }
-    start
-}
-
 // XORs the key stream into the bytes, from an offset of the stream that starts at counter 0.
 fn xor_stream<W: Work>(key: &Key32, nonce: &Nonce, offset: u64, bytes: &mut [u8], work: &mut W)
     requires { offset + length bytes.old ≤ 2 ^ 38 }
@@ -126,8 +108,8 @@ fn xor_stream<W: Work>(key: &Key32, nonce: &Nonce, offset: u64, bytes: &mut [u8]
     }
 }
 
-// XORs the key stream from an offset on into the first bytes, by the widest form that fits, and returns how
-// many they are.
+// XORs the key stream from an offset on into the first bytes, by the widest form that fits, and returns the number of these
+// bytes.
 fn xor_run<W: Work>(
     key: &Key32,
     nonce: &Nonce,
@@ -156,7 +138,7 @@ fn xor_run<W: Work>(
         return whole;
     }
     if WIDE && skip == 0 && bytes.len() >= 256 && counter <= u32::MAX - 7 {
-        // Half of the run goes into its place, and only the other half through a stream of its own.
+        // Half of the run is masked in place, and only the other half through a buffer.
         let mut stream = [0; 256];
         let (front, back) = bytes.split_at_mut(256);
         lanes::xor_eight(key, counter, nonce, front, &mut stream, work);

@@ -1,4 +1,4 @@
-//! The product in GHASH's field by shifts, one bit at a time (SP 800-38D, 6.3, algorithm 1).
+//! Multiplication in GHASH's field by shifts, one bit at a time (SP 800-38D, 6.3, algorithm 1).
 
 ghost use Rattle.std.specs.Prelude.{◌≡◌, ℕ};
 ghost use Rattle.std.specs.Int.{w128, to_be_bytes};

@@ -8,7 +8,7 @@ ghost use Rattle.gf128.specs.Code.Words.{folded, IsReduced, IsSpread};
 use crate::lanes::Lanes;
 use crate::polynomial_word::{high_half, low_half};
 
-// The word and x^128 times the half word that fell out below it, reduced.
+// Reduces the sum of a word and x^128 times the half word below it.
 #[inline(always)]
 fn folded(word: u128, spill: u64) -> u128
     ensures { result ≡ folded word spill }
@@ -26,7 +26,7 @@ pub(crate) struct Chain {
 }
 
 impl Chain {
-    // The sum of nothing.
+    // The empty sum.
     #[inline(always)]
     pub(crate) fn empty() -> Chain
         ensures { (p : List Bool) → ((k : ℕ) → coefficient p k ≡ false)
@@ -38,7 +38,7 @@ impl Chain {
         }
     }
 
-    // The sum times x^8, and a multiple by eight bits more.
+    // Multiplies the sum by x^8 and adds a multiple by eight bits.
     #[inline(always)]
     pub(crate) fn take_eight(self, multiple: Lanes) -> Chain
         ensures { (d : ℕ) (p q : List Bool) → 8 + d ≤ 64 → IsSpread d p (le self.word.bytes) (le self.spill.bytes / 2 ^ 64)
@@ -51,7 +51,7 @@ impl Chain {
         }
     }
 
-    // The sum, reduced.
+    // Reduces the sum.
     #[inline(always)]
     pub(crate) fn reduced(self) -> u128
         ensures { (d : ℕ) (p : List Bool) → IsSpread d p (le self.word.bytes) (le self.spill.bytes / 2 ^ 64) → IsReduced p result }

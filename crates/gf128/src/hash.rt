@@ -59,8 +59,7 @@ impl<M: Multiply, O: HashOrder> BlockHash<M, O> {
     ghost use Rattle.gf128.specs.States.{HashHolds, IsSum};
 
     /// A state that holds the empty text, under each key that the multiplier serves: for GHASH its own key,
-    /// for POLYVAL the one of which its key is [`crate::reversed_mul_x`]. The multiplier may be a reference
-    /// to one that is kept.
+    /// for POLYVAL the one of which its key is [`crate::reversed_mul_x`]. The multiplier may be borrowed.
     pub fn with(multiplier: M) -> BlockHash<M, O>
         ensures { (h : List ℕ) → Serves O.order h (M.key_bytes multiplier)
             → HashHolds O.order M.key_bytes result h [] }

@@ -13,23 +13,23 @@ use octets::Block;
 pub trait HashOrder {
     ghost order: { Order };
 
-    /// The word of a block.
+    /// Returns the word of a block.
     fn word_of(block: &[u8; 16]) -> u128
         ensures { of_word result ≡ reading order block.now };
 
-    /// The byte of a block that is at a place in its word: 0 is the lowest byte, 15 the highest.
+    /// Returns the byte of a block at a place in its word: place 0 is the lowest byte, place 15 the highest.
     fn byte_at(block: &[u8; 16], place: usize) -> u8
         requires { place < 16 }
         ensures { (w : ℕ) → of_word w ≡ reading order block.now
             → of_bits 8 result ≡ of_bits 8 (w / 2 ^ (8 * place)) };
 
-    /// The hash of blocks whose sum is a word.
+    /// Returns the hash of blocks by their sum, which is a word.
     fn hash_of(sum: u128) -> Block
         ensures value { (h k m : List ℕ) → Serves order h k
             → Agree (of_word sum) (block_sum order k m (length m / 16)) → result ≡ hash_by order h m }
         ensures is_block { IsBlock result };
 
-    /// The key of a multiplier that serves the hash under `key`.
+    /// Returns the key of the multiplier that serves the hash under `key`.
     fn multiplier_key(key: &Block) -> Block
         ensures { Serves order key.now result };
 }

@@ -11,7 +11,7 @@ use crate::polynomial_word::{block_of, word_of};
 use octets::Block;
 
 /// Multiplication by a key of 16 bytes in GHASH's field (SP 800-38D, 6.3). An implementor gives `times`, and
-/// may give faster methods on words.
+/// may give faster methods on words. A reference to a multiplier is one too, so that a hash can borrow a table.
 pub trait Multiply: Drop {
     // The key's bytes.
     ghost key_bytes: { Self → List ℕ };
@@ -55,13 +55,13 @@ pub trait Multiply: Drop {
     }
 }
 
-/// A multiplier that is made of its key.
+/// A multiplier that is made from its key. A borrowed one is not: see [`Multiply`].
 pub trait Keyed128: Multiply + Sized {
     /// The multiplier of `key`.
     fn of(key: &Block) -> Self
         ensures { Self.key_bytes result ≡ key.now };
 
-    /// The multiplier of the key of 16 zeros, for [`Keyed128::set`].
+    /// The multiplier of the key of 16 zeros, which [`Keyed128::set`] replaces.
     fn none() -> Self
         ensures { Self.key_bytes result ≡ replicate 16 0 }
     {
@@ -76,7 +76,7 @@ pub trait Keyed128: Multiply + Sized {
     }
 }
 
-/// A multiplier that is kept elsewhere.
+/// A borrowed multiplier.
 impl<M: Multiply> Multiply for &M {
     ghost key_bytes = { λ s. M.key_bytes s.now };
 

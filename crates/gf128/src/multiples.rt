@@ -17,7 +17,7 @@ use crate::polynomial_word::{
 };
 use octets::Block;
 
-// The word times x^2.
+// Multiplies a word by x^2.
 #[inline(always)]
 fn times_x2(word: u128) -> u128
     ensures { IsMoved 2 word result }
@@ -26,7 +26,7 @@ fn times_x2(word: u128) -> u128
     times_x(by_x)
 }
 
-// The word times x^4.
+// Multiplies a word by x^4.
 #[inline(always)]
 fn times_x4(word: u128) -> u128
     ensures { IsMoved 4 word result }
@@ -95,7 +95,8 @@ impl Multiples8 {
     }
 }
 
-// The 16 multiples of a word by four bits. They are written out, since LLVM would look the smaller ones up in memory.
+// The 16 multiples of a word by four bits. They are written out one by one: in a loop, LLVM would look the smaller multiples
+// up in memory.
 #[inline(always)]
 fn sixteen_multiples(word: u128) -> [u128; 16]
     ensures { (j : ℕ) → j < 16 → IsBitsProduct 4 j word (slice_index result j) }
@@ -121,7 +122,7 @@ fn sixteen_multiples(word: u128) -> [u128; 16]
     ]
 }
 
-// The halves of these numbers.
+// Splits each number into its low and its high half.
 fn halves_of(numbers: &[u128; 16]) -> [u64; 32]
     ensures { (j : ℕ) → j < 16 → kept_number result j ≡ slice_index numbers.now j }
 {
@@ -135,14 +136,14 @@ fn halves_of(numbers: &[u128; 16]) -> [u64; 32]
 
 // The multiples of a word by eight bits.
 pub(crate) trait ByteMultiples {
-    // The word whose multiples they are.
+    // The word that is multiplied.
     ghost factor: { Self → ℕ };
 
     // The multiple by a byte.
     fn at(&self, byte: u8) -> Lanes
         ensures { IsBitsProduct 8 byte (factor self.now) (le result.bytes) };
 
-    // The product of a half word and the word, not reduced.
+    // Multiplies the word by a half word, and does not reduce the product.
     #[inline(always)]
     fn times_half(&self, half: u64) -> Chain
         ensures { IsSpread 64 (product (of_bits 64 half) (of_word (factor self.now))) (le result.word.bytes)
@@ -156,7 +157,7 @@ pub(crate) trait ByteMultiples {
         sum
     }
 
-    // The product of another word and the word.
+    // Multiplies the word by another word.
     #[inline(always)]
     fn times_word(&self, x: u128) -> u128
         ensures { IsWordProduct x (to_be_bytes w128 (factor self.now)) result }
@@ -166,7 +167,7 @@ pub(crate) trait ByteMultiples {
         high.reduced_with(low.reduced())
     }
 
-    // The product of a block and the word.
+    // Multiplies the word by a block.
     fn times_block(&self, x: &Block) -> Block
         ensures value { IsProduct x.now (to_be_bytes w128 (factor self.now)) result }
         ensures is_block { IsBlock result }
@@ -175,8 +176,8 @@ pub(crate) trait ByteMultiples {
     }
 }
 
-/// The 32 multiples of a key as plain numbers, for a caller that stores them.
-// C has no numbers of 128 bits.
+/// The 32 multiples of a key as plain numbers, for a caller that stores them. Each is two halves of 64 bits, since C has no
+/// numbers of 128 bits.
 #[repr(C)]
 #[derive(Clone, Copy)]
 pub struct KeptMultiples {
@@ -185,7 +186,7 @@ pub struct KeptMultiples {
 }
 
 impl KeptMultiples {
-    // The sum of a number of each table, as a byte says.
+    // The multiple for `byte`: one entry from each table, XORed.
     #[inline(always)]
     pub(crate) fn sum_at(&self, byte: u8) -> Lanes
         ensures { le result.bytes
@@ -197,9 +198,9 @@ impl KeptMultiples {
     }
 }
 
-// The multiples of a word by eight bits, each the sum of two by four: 32 are held. A table is one of numbers: an array of
-// them starts at a multiple of 16 bytes in memory, and so a sum takes an entry from there without a load before it; an
-// array of vectors may start anywhere.
+// The multiples of a word by eight bits, each the sum of two multiples by four bits: it holds 32 of these. The tables are arrays
+// of numbers, which start at multiples of 16 bytes in memory: so an XOR reads an entry from memory itself. An array of vectors
+// may start anywhere, and an entry of it is loaded first.
 #[derive(Drop, Clone, Copy)]
 pub(crate) struct Multiples32 {
     pub(crate) word: u128,
@@ -221,7 +222,7 @@ impl Multiples32 {
         }
     }
 
-    // Its numbers, to be kept.
+    // Returns its multiples as plain numbers.
     pub(crate) fn kept(&self) -> KeptMultiples
         ensures { AreMultiples (of_word self.now.word) (kept_number result.high) (kept_number result.low) }
     {
@@ -276,7 +277,7 @@ impl Multiples256 {
         }
     }
 
-    // They become the multiples of a word.
+    // Replaces them by the multiples of a word.
     pub(crate) fn set(&mut self, word: u128)
         ensures { self.new.word ≡ word }
     {

@@ -9,8 +9,8 @@ use crate::hash_order::HashOrder;
 use crate::polynomial_word::{block_of, reversed_block_of, reversed_word_of, times_x};
 use octets::Block;
 
-/// The key by which GHASH's product gives POLYVAL's: mulX of the reversed key (RFC 8452, appendix A). A
-/// multiplier of it serves [`Polyval::with`].
+/// Returns the key under which GHASH's product computes POLYVAL's: mulX of the reversed key (RFC 8452, appendix A). A
+/// multiplier of that key serves [`Polyval::with`].
 pub fn reversed_mul_x(key: &Block) -> Block
     ensures value { IsReversedMulX key.now result }
     ensures of_block { IsBlock key.now }
@@ -49,8 +49,8 @@ impl HashOrder for PolyvalOrder {
 /// POLYVAL over a text fed piece by piece (RFC 8452, 3), by the multiplier `M` in GHASH's field.
 pub type Polyval<M> = BlockHash<M, PolyvalOrder>;
 
-/// The dot of two polynomials is the only one of degree below 128 that times x^128 has their product's
-/// residue.
+/// The dot of two polynomials is the only polynomial of degree below 128 whose product with x^128 has the residue of their
+/// product.
 pub fn dot_is_the_only()
     ensures { DotIsTheOnly }
 {}

@@ -1,4 +1,4 @@
-//! The product in GHASH's field (SP 800-38D, 6.3) by a table of 32 multiples of the key, a byte at a time.
+//! Multiplication in GHASH's field (SP 800-38D, 6.3) by a table of 32 multiples of the key, one byte at a time.
 
 ghost use Rattle.std.specs.Prelude.{◌≡◌};
 ghost use Rattle.std.specs.Int.{w128, to_be_bytes};
@@ -23,7 +23,7 @@ pub struct TableMul {
 }
 
 impl TableMul {
-    /// Its multiples, to be kept as plain numbers.
+    /// Returns its multiples as plain numbers, for [`KeptMul`].
     pub fn kept(&self) -> KeptMultiples
         ensures { KeepsMultiples result (⟦<TableMul as Multiply>⟧.key_bytes self.now) }
     {
@@ -51,8 +51,8 @@ impl Keyed128 for TableMul {
     }
 }
 
-/// The multiplier by multiples that are kept as plain numbers. It takes a little longer than [`TableMul`] for each block,
-/// and needs no making. Not constant time: it looks up the same entries as [`TableMul`].
+/// The multiplier that borrows multiples, which [`TableMul::kept`] returned, as plain numbers. It takes a little longer than
+/// [`TableMul`] for each block, and makes no table. Not constant time: it looks up the same entries as [`TableMul`].
 #[derive(Drop, Clone, Copy)]
 pub struct KeptMul<'a> {
     word: u128,

@@ -35,7 +35,7 @@ pub struct WideMul {
 }
 
 impl WideMul {
-    // The sum of the multiples by four bytes, that of the fourth power first.
+    // XORs the multiples of the four powers by four bytes, the fourth power first.
     #[inline(always)]
     fn four_multiples(&self, a: u8, b: u8, c: u8, d: u8) -> Lanes
         ensures { let s = self.now in
@@ -102,7 +102,7 @@ impl Multiply for WideMul {
 }
 
 impl Keyed128 for WideMul {
-    // A move that is inlined is one of 16 KiB, and one that is not is two.
+    // Inlined, it moves 16 KiB once; called, it would move them twice.
     #[inline(always)]
     fn of(key: &Block) -> WideMul {
         let mut made = WideMul::none();

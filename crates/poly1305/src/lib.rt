@@ -1,5 +1,5 @@
 //! Poly1305 (RFC 8439, 2.5): the tag of 16 bytes of a text that comes in pieces, under a key of 32 bytes. It is a one-time key:
-//! it serves for one text alone. No call refuses, and none allocates.
+//! it serves for one text alone. No call fails, and none allocates.
 //!
 //! From `crates/poly1305/src/uses.rt`:
 //! ```
@@ -42,7 +42,7 @@ pub trait Multiplier: Drop {
         requires { IsClamped r }
         ensures { factor result ≡ r };
 
-    /// Returns the sum with one block more, times the factor. `mark` is 1 for a whole block, whose added bit
+    /// Adds a block to the sum and multiplies by the factor. `mark` is 1 for a whole block, whose added bit
     /// is past its 16 bytes, and 0 for a shorter one, which has that bit within `block`.
     fn step(&self, sum: Sum, block: u128, mark: u64) -> Sum
         requires { mark ≤ 1 }

@@ -54,8 +54,8 @@ impl<'a, 'b, M: Multiplier> Work for PartialSum<'a, 'b, M> {
     ghost comes_to = { λ t k m. PartialSumHolds M.factor t k m };
 
     #[inline(always)]
-    fn step(&mut self, kept: usize) {
-        if self.left.len() / 16 <= kept {
+    fn step(&mut self, reserve: usize) {
+        if self.left.len() / 16 <= reserve {
             return;
         }
         if let Some((block, rest)) = self.left.split_first_chunk::<16>() {

@@ -6,7 +6,7 @@ ghost use Rattle.poly1305.specs.Poly1305.{block_number};
 use crate::Multiplier;
 use crate::partial_sum::PartialSum;
 use crate::residue::{Residue, Sum};
-use crate::side_by_side::{PAYS, far_factor, over_halves};
+use crate::side_by_side::{TWO_SUMS_FROM, far_factor, over_halves};
 use octets::{Absorb, Pieces, Stream, Tag, le_bytes};
 
 // The bits of r that the clamping keeps (RFC 8439, 2.5).
@@ -26,7 +26,7 @@ impl<M: Multiplier> Absorb for PolySum<M> {
     ghost absorbed = { λ c k m. PolySumHolds M.factor c k m };
 
     fn absorb(&mut self, blocks: &[u8]) {
-        if blocks.len() < PAYS {
+        if blocks.len() < TWO_SUMS_FROM {
             self.absorb_blocks(blocks);
             return;
         }
@@ -47,7 +47,7 @@ impl<M: Multiplier> Absorb for PolySum<M> {
 impl<M: Multiplier> PolySum<M> {
     ghost use Rattle.poly1305.specs.States.{PolySumHolds};
 
-    // Takes in whole blocks.
+    // Adds whole blocks to the sum.
     #[inline(always)]
     fn absorb_blocks(&mut self, blocks: &[u8])
         requires { length blocks.now % 16 ≡ 0 }
@@ -63,7 +63,7 @@ impl<M: Multiplier> PolySum<M> {
         self.sum = sum.residue();
     }
 
-    // Takes in the whole blocks of two halves, which are equally long.
+    // Adds the whole blocks of two halves of equal length to the sum.
     #[inline(never)]
     fn absorb_halves(&mut self, front: &[u8], back: &[u8])
         requires some { 0 < length front.now }
@@ -78,7 +78,7 @@ impl<M: Multiplier> PolySum<M> {
     }
 }
 
-// The number of a block of fewer than 16 bytes: its bytes, then one bit more.
+// The number of a block of fewer than 16 bytes: its bytes, and one more bit above them.
 fn short_block_number(bytes: &[u8]) -> u128
     requires { length bytes.now < 16 }
     ensures { result ≡ block_number bytes.now }
@@ -171,7 +171,7 @@ impl<M: Multiplier> PolyBy<M> {
     }
 
     /// Adds `piece`, of any length, to the text, while `stream` XORs its next bytes into `bytes`, of any
-    /// length. A piece runs beside the stream only if it consists of whole blocks and no block is begun.
+    /// length. A piece runs beside the stream only if it consists of whole blocks and the text so far does too.
     pub fn update_beside<S: Stream>(&mut self, piece: &[u8], stream: &mut S, bytes: &mut [u8])
         ensures holds { (k m : List ℕ) → HoldsBy M.factor self.old k m
             → HoldsBy M.factor self.new k (m ++ piece.now) }

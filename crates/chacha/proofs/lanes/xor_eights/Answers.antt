@@ -35,8 +35,8 @@ runs-preserved g c =
       room,
       λ j l. c.next_blocks-x.ensures.counts j l key nonce ((n + a / 64 + j) % 2 ^ 32) (i.2 j l)
           ∙ ap (λ m. initial_state key m nonce) (counter_next n a j 8 begins),
-      blocks_more key nonce n a 512 was c.runs.bytes c.xor_eight_written.new.bytes begins (omega (arith, room)) i.3
-          (c.xor_eight_written.ensures key nonce (n + a / 64) has),
+      blocks_more key nonce n a 512 was c.runs.bytes c.xor_eight_serialized.new.bytes begins (omega (arith, room)) i.3
+          (c.xor_eight_serialized.ensures key nonce (n + a / 64) has),
       λ x y h. c.next_blocks-x.ensures.work x y (i.4 x y h),
     )
 

@@ -34,8 +34,8 @@ runs-preserved g c =
       λ j l.
           let next : (n + a / 64 + 4 + j) % 2 ^ 32 ≡ (n + (a + 256) / 64 + j) % 2 ^ 32 = omega (arith, begins) in
           c.four_blocks-x.ensures.next key nonce (n + a / 64) i.2 j l ∙ ap (λ m. initial_state key m nonce) next,
-      blocks_more key nonce n a 256 was c.runs.bytes c.xor_written.new.bytes begins (omega (arith, room)) i.3
-          (c.xor_written.ensures key nonce (n + a / 64) has),
+      blocks_more key nonce n a 256 was c.runs.bytes c.xor_serialized.new.bytes begins (omega (arith, room)) i.3
+          (c.xor_serialized.ensures key nonce (n + a / 64) has),
       λ x y h. c.four_blocks-x.ensures.work x y (i.4 x y h),
     )
 

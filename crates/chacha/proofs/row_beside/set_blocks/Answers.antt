@@ -15,4 +15,4 @@ pub returns-clause-row : goal.returns-clause-row
 unfolding block block_from
 returns-clause-row g c =
     let start = c.rows_of-row_start.ensures ∙ c.initial_state.ensures in
-    c.written.ensures ∙ ap serialized (ap₂ added (c.ten_rounds.ensures.row ∙ ap (double_rounds 10) start) start)
+    c.serialized_rows.ensures ∙ ap serialized (ap₂ added (c.ten_rounds.ensures.row ∙ ap (double_rounds 10) start) start)

@@ -13,6 +13,6 @@ returns c =
     let cut = c.split_at_mut-front.ensures in
     joined_block key nonce n c.split_at_mut-front.result.0.now c.split_at_mut-front.result.1.now
     c.set_blocks-first.result _ _ cut.front_len c.set_blocks-first.ensures.row c.xor_into.ensures
-    (c.xor_eight_written.ensures key nonce (n + 1) (λ j l. c.set_blocks-first.ensures.lanes j l
+    (c.xor_eight_serialized.ensures key nonce (n + 1) (λ j l. c.set_blocks-first.ensures.lanes j l
     ∙ ap (λ m. block key m nonce) (c.eight_counters.ensures j l)))
     ∙ ap (masked (key_stream_byte key nonce n) 0) (sym cut.value)

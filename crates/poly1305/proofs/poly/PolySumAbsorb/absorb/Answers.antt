@@ -4,8 +4,8 @@ use Rattle.std.proofs.lemmas.List.{drop-drop, length-append, length-drop, length
 use Rattle.poly1305.specs.States.{PolySumHolds}
 use Rattle.poly1305.proofs.poly.PolySumAbsorb.absorb.Goals as goal
 
-pub returns-then-blocks-lt-PAYS : goal.returns-then-blocks-lt-PAYS
-returns-then-blocks-lt-PAYS g c = c.absorb_blocks.ensures
+pub returns-then-blocks-lt-TWO_SUMS_FROM : goal.returns-then-blocks-lt-TWO_SUMS_FROM
+returns-then-blocks-lt-TWO_SUMS_FROM g c = c.absorb_blocks.ensures
 
 pub returns : goal.returns
 returns g c = λ k m whole held.

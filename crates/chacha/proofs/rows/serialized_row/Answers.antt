@@ -1,7 +1,7 @@
 use Rattle.std.proofs.Common.{◌∙◌, ap}
 use Rattle.chacha.specs.Block.{serialized}
 use Rattle.chacha.proofs.ByRows.{four_items}
-use Rattle.chacha.proofs.rows.written_row.Goals as goal
+use Rattle.chacha.proofs.rows.serialized_row.Goals as goal
 
 pub returns : goal.returns
 returns c = c.bytes_of.ensures ∙ ap serialized (four_items c.args.row c.fits-row.0)

@@ -3,7 +3,7 @@ use Rattle.octets.specs.Masked.{masked}
 use Rattle.chacha.specs.Stream.{key_stream_byte}
 use Rattle.chacha.specs.Code.Lanes.{lane}
 use Rattle.chacha.proofs.Masking.{four_masked}
-use Rattle.chacha.proofs.lanes.xor_written.Goals as goal
+use Rattle.chacha.proofs.lanes.xor_serialized.Goals as goal
 
 pub returns : goal.returns
 returns c = λ key nonce counter has.

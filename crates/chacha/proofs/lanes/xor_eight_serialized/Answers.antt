@@ -2,7 +2,7 @@ use Rattle.std.proofs.Common.{◌∙◌, ap, sym}
 use Rattle.octets.specs.Masked.{masked}
 use Rattle.chacha.specs.Stream.{key_stream_byte}
 use Rattle.chacha.proofs.Masking.{joined}
-use Rattle.chacha.proofs.lanes.xor_eight_written.Goals as goal
+use Rattle.chacha.proofs.lanes.xor_eight_serialized.Goals as goal
 
 pub returns : goal.returns
 returns c = λ key nonce n has.

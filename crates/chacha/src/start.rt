@@ -1,0 +1,169 @@
+//! The first blocks of a key stream (RFC 8439, 2.4), made at once: how many of them a text takes, how long they are, and the
+//! form that makes them.
+
+ghost use Rattle.std.specs.Prelude.{◌≡◌, ◌%◌, ◌<◌, ◌≤◌, ℕ, List, length, slice_index};
+ghost use Rattle.chacha.specs.Stream.{key_stream_byte};
+
+use crate::{lanes, row_beside, rows};
+use octets::{Idle, Key32, Nonce, WIDE};
+
+/// The length in bytes of a text that the blocks with the counters 1 to 7 mask.
+pub const SEVEN_BLOCKS: usize = 448;
+
+/// How many blocks of a key stream are made at once, from counter 0 on.
+#[derive(Clone, Copy)]
+pub enum BlocksAtOnce {
+    /// As [`TwoBlocks`].
+    Two,
+    /// As [`FourBlocks`].
+    Four,
+    /// As [`FiveBlocks`].
+    Five,
+    /// As [`EightBlocks`].
+    Eight,
+    /// As [`NineBlocks`].
+    Nine,
+}
+
+impl BlocksAtOnce {
+    /// How many are made for a text of `length` bytes that is masked from counter 1 on. A block beside four or eight others
+    /// costs little, and the blocks after them go by four or eight, so that few are made for a last part.
+    pub fn for_text(length: usize) -> BlocksAtOnce {
+        if WIDE && length > 192 {
+            return match length {
+                0..=SEVEN_BLOCKS => BlocksAtOnce::Eight,
+                _ => match length % 512 {
+                    1..=64 | 257..=320 => BlocksAtOnce::Two,
+                    _ => BlocksAtOnce::Nine,
+                },
+            };
+        }
+        match length.max(1) % 256 {
+            1..=64 => BlocksAtOnce::Two,
+            65..=192 => BlocksAtOnce::Four,
+            _ => BlocksAtOnce::Five,
+        }
+    }
+}
+
+/// The first blocks of a key stream, from counter 0 on (RFC 8439, 2.4).
+pub trait KeyStreamStart: Drop + Sized {
+    // The bytes of the blocks.
+    ghost bytes: { Self → List ℕ };
+
+    /// Makes the first blocks of the key stream. A nonce must never be used twice under one key, as for
+    /// [`crate::ChaStream::new`]: AEAD_CHACHA20_POLY1305 takes its one-time key from the first 32 bytes (2.6), which serve for
+    /// nothing else.
+    fn make(key: &Key32, nonce: &Nonce) -> Self
+        ensures { (i : ℕ) → i < length (bytes result)
+            → slice_index (bytes result) i ≡ key_stream_byte key.now nonce.now 0 i };
+
+    /// Returns the bytes of the blocks: 64 for each of two to nine.
+    fn blocks(&self) -> &[u8]
+        ensures value { result.now ≡ bytes self.now }
+        ensures whole { length result.now % 64 ≡ 0 }
+        ensures some { 64 ≤ length result.now }
+        ensures at_most_nine { length result.now ≤ 576 };
+}
+
+/// The two blocks with the counters 0 and 1.
+#[derive(Drop)]
+pub struct TwoBlocks {
+    bytes: [u8; 128],
+}
+
+impl KeyStreamStart for TwoBlocks {
+    ghost bytes = { λ s. s.bytes };
+
+    fn make(key: &Key32, nonce: &Nonce) -> TwoBlocks {
+        let mut start = TwoBlocks { bytes: [0; 128] };
+        start
+            .bytes
+            .copy_from_slice(rows::two_blocks(key, 0, nonce).as_flattened());
+        start
+    }
+
+    fn blocks(&self) -> &[u8] {
+        &self.bytes
+    }
+}
+
+/// The four blocks with the counters 0 to 3.
+#[derive(Drop)]
+pub struct FourBlocks {
+    bytes: [u8; 256],
+}
+
+impl KeyStreamStart for FourBlocks {
+    ghost bytes = { λ s. s.bytes };
+
+    fn make(key: &Key32, nonce: &Nonce) -> FourBlocks {
+        let mut start = FourBlocks { bytes: [0; 256] };
+        lanes::xor_fours(key, 0, nonce, &mut start.bytes, &mut Idle::new());
+        start
+    }
+
+    fn blocks(&self) -> &[u8] {
+        &self.bytes
+    }
+}
+
+/// The five blocks with the counters 0 to 4.
+#[derive(Drop)]
+pub struct FiveBlocks {
+    bytes: [u8; 320],
+}
+
+impl KeyStreamStart for FiveBlocks {
+    ghost bytes = { λ s. s.bytes };
+
+    fn make(key: &Key32, nonce: &Nonce) -> FiveBlocks {
+        let mut start = FiveBlocks { bytes: [0; 320] };
+        row_beside::xor_five_blocks(key, 0, nonce, &mut start.bytes, &mut Idle::new());
+        start
+    }
+
+    fn blocks(&self) -> &[u8] {
+        &self.bytes
+    }
+}
+
+/// The eight blocks with the counters 0 to 7.
+#[derive(Drop)]
+pub struct EightBlocks {
+    bytes: [u8; 512],
+}
+
+impl KeyStreamStart for EightBlocks {
+    ghost bytes = { λ s. s.bytes };
+
+    fn make(key: &Key32, nonce: &Nonce) -> EightBlocks {
+        let mut start = EightBlocks { bytes: [0; 512] };
+        lanes::xor_eights(key, 0, nonce, &mut start.bytes, &mut Idle::new());
+        start
+    }
+
+    fn blocks(&self) -> &[u8] {
+        &self.bytes
+    }
+}
+
+/// The nine blocks with the counters 0 to 8.
+#[derive(Drop)]
+pub struct NineBlocks {
+    bytes: [u8; 576],
+}
+
+impl KeyStreamStart for NineBlocks {
+    ghost bytes = { λ s. s.bytes };
+
+    fn make(key: &Key32, nonce: &Nonce) -> NineBlocks {
+        let mut start = NineBlocks { bytes: [0; 576] };
+        row_beside::xor_nine_blocks(key, 0, nonce, &mut start.bytes);
+        start
+    }
+
+    fn blocks(&self) -> &[u8] {
+        &self.bytes
+    }
+}
