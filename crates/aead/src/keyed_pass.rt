@@ -8,11 +8,12 @@ ghost use Rattle.gf128.specs.Orders.{Reversed, Serves};
 ghost use Rattle.aead.specs.Suites.{ByChaCha, ByGcm, ByGcmSiv, construction_of, key_length, text_limit, aad_limit};
 ghost use Rattle.aead.specs.Sealing.{Setting, hash_key, authentication_key, encryption_key, mask_of, tag_of, tag_over};
 ghost use Rattle.aead.specs.PassStates.{IsHashKey, HoldsNumbers, IsStart};
+ghost use Rattle.aead.specs.Code.Masks.{hashed_by};
 ghost use Rattle.aead.specs.Code.PassSteps.{MasksPiece, TakesPiece, TakesPieceText};
 ghost use Rattle.aead.specs.Code.States.{MadeByGcm};
 ghost use Rattle.aead.specs.KeyedPasses.{setting_of, BeginRefused, LengthsRefused, cipher_key};
 
-use crate::beside::{HashFirst, MaskFirst, Order};
+use crate::beside::Order;
 use crate::chacha_poly::{self, one_time_key};
 use crate::derived_keys::{
     KeyParts, expanded, hash_key, joined, long_encryption_key, short_encryption_key,
@@ -341,11 +342,11 @@ impl KeyedPass {
 
     // Masks a piece under ChaCha20-Poly1305.
     #[inline(never)]
-    fn mask_chacha<R: Order>(&mut self, order: &R, piece: &mut [u8])
+    fn mask_chacha(&mut self, order: Order, piece: &mut [u8])
         requires { self.old.state.length + length piece.old ≤ 2 ^ 38 - 64 }
         ensures masks { (s : Setting) (tag fed : List ℕ) → construction_of s.suite ≡ ByChaCha
             → self.old.key ≡ s.key → self.old.nonce ≡ s.nonce
-            → MasksPiece R.hashed self.old.state self.new.state piece.old piece.new s tag fed }
+            → MasksPiece (hashed_by order) self.old.state self.new.state piece.old piece.new s tag fed }
         ensures keys { (self.new.key ≡ self.old.key) × (self.new.nonce ≡ self.old.nonce) }
     {
         let nonce = Nonce::new(self.nonce);
@@ -355,16 +356,16 @@ impl KeyedPass {
 
     // Masks a piece under AES-GCM by a multiplier of the type `M`.
     #[inline(never)]
-    pub(crate) fn mask_gcm_by<M: Keyed128, K: KeptKey, R: Order>(
+    pub(crate) fn mask_gcm_by<M: Keyed128, K: KeptKey>(
         &mut self,
         mask: &mut CtrBe<K>,
-        order: &R,
+        order: Order,
         piece: &mut [u8],
     )
         requires { self.old.state.length + length piece.old < 2 ^ 64 }
         ensures masks { (s : Setting) (tag fed : List ℕ) → construction_of s.suite ≡ ByGcm
             → MadeByGcm K.bytes mask.old s tag self.old.state.length
-            → MasksPiece R.hashed self.old.state self.new.state piece.old piece.new s tag fed }
+            → MasksPiece (hashed_by order) self.old.state self.new.state piece.old piece.new s tag fed }
         ensures keys { (self.new.key ≡ self.old.key) × (self.new.nonce ≡ self.old.nonce) }
     {
         let mut multiplier = M::none();
@@ -377,37 +378,37 @@ impl KeyedPass {
 
     // Masks a piece under AES-GCM.
     #[inline(never)]
-    fn mask_gcm<R: Order>(&mut self, suite: Suite, order: &R, piece: &mut [u8])
+    fn mask_gcm(&mut self, suite: Suite, order: Order, piece: &mut [u8])
         requires { self.old.state.length + length piece.old ≤ 2 ^ 36 }
         ensures masks { (s : Setting) (tag fed : List ℕ) → construction_of s.suite ≡ ByGcm
             → take (key_length suite) self.old.key ≡ s.key → self.old.nonce ≡ s.nonce
-            → MasksPiece R.hashed self.old.state self.new.state piece.old piece.new s tag fed }
+            → MasksPiece (hashed_by order) self.old.state self.new.state piece.old piece.new s tag fed }
         ensures keys { (self.new.key ≡ self.old.key) × (self.new.nonce ≡ self.old.nonce) }
     {
         let key = self.cipher(suite);
         let nonce = Nonce::new(self.nonce);
         let mut mask = gcm::mask_at(&key, &nonce, self.state.length);
         match worth(piece.len() as u64) {
-            Multiples::Few => self.mask_gcm_by::<TableMul, &AesKey, R>(&mut mask, order, piece),
+            Multiples::Few => self.mask_gcm_by::<TableMul, &AesKey>(&mut mask, order, piece),
             Multiples::OfFourPowers => {
-                self.mask_gcm_by::<WideMul, &AesKey, R>(&mut mask, order, piece)
+                self.mask_gcm_by::<WideMul, &AesKey>(&mut mask, order, piece)
             }
         }
     }
 
     // Masks a piece under AES-GCM-SIV by a multiplier of the type `M` and the message's encryption key.
     #[inline(never)]
-    fn mask_siv_by<M: Keyed128, R: Order>(
+    fn mask_siv_by<M: Keyed128>(
         &mut self,
         key: &AesKey,
         tag: &[u8; 16],
-        order: &R,
+        order: Order,
         piece: &mut [u8],
     )
         requires { self.old.state.length + length piece.old ≤ 2 ^ 36 }
         ensures masks { (s : Setting) (fed : List ℕ) → construction_of s.suite ≡ ByGcmSiv
             → key.now ≡ encryption_key s.key s.nonce → self.old.nonce ≡ s.nonce
-            → MasksPiece R.hashed self.old.state self.new.state piece.old piece.new s tag.now fed }
+            → MasksPiece (hashed_by order) self.old.state self.new.state piece.old piece.new s tag.now fed }
         ensures keys { (self.new.key ≡ self.old.key) × (self.new.nonce ≡ self.old.nonce) }
     {
         let mut multiplier = M::none();
@@ -424,35 +425,35 @@ impl KeyedPass {
 
     // Masks a piece under AES-GCM-SIV.
     #[inline(never)]
-    fn mask_siv<R: Order>(&mut self, suite: Suite, tag: &[u8; 16], order: &R, piece: &mut [u8])
+    fn mask_siv(&mut self, suite: Suite, tag: &[u8; 16], order: Order, piece: &mut [u8])
         requires { self.old.state.length + length piece.old ≤ 2 ^ 36 }
         ensures masks { (s : Setting) (fed : List ℕ) → construction_of s.suite ≡ ByGcmSiv
             → take (key_length suite) self.old.key ≡ encryption_key s.key s.nonce → self.old.nonce ≡ s.nonce
-            → MasksPiece R.hashed self.old.state self.new.state piece.old piece.new s tag.now fed }
+            → MasksPiece (hashed_by order) self.old.state self.new.state piece.old piece.new s tag.now fed }
         ensures keys { (self.new.key ≡ self.old.key) × (self.new.nonce ≡ self.old.nonce) }
     {
         let key = self.cipher(suite);
         match worth(piece.len() as u64) {
-            Multiples::Few => self.mask_siv_by::<TableMul, R>(&key, tag, order, piece),
-            Multiples::OfFourPowers => self.mask_siv_by::<WideMul, R>(&key, tag, order, piece),
+            Multiples::Few => self.mask_siv_by::<TableMul>(&key, tag, order, piece),
+            Multiples::OfFourPowers => self.mask_siv_by::<WideMul>(&key, tag, order, piece),
         }
     }
 
     // Masks a piece under a tag, and takes in what is authenticated of it, if it is within a limit. Returns whether it is.
     // Only under AES-GCM-SIV does the mask depend on the tag. Each construction has its own function, since the compiler
     // clears the locals of all arms of a `match` at its start.
-    pub(crate) fn mask<R: Order>(
+    pub(crate) fn mask(
         &mut self,
         suite: Suite,
-        order: &R,
+        order: Order,
         tag: &[u8; 16],
         limit: u64,
         piece: &mut [u8],
     ) -> bool
         requires { limit ≤ text_limit suite }
         ensures masks { (s : Setting) (fed : List ℕ) → s.suite ≡ suite → result ≡ true
-            → self.old.state.length ≡ length fed → HoldsPass self.old s (R.hashed (mask_of s tag.now) fed)
-            → HoldsPass self.new s (R.hashed (mask_of s tag.now) (fed ++ piece.old))
+            → self.old.state.length ≡ length fed → HoldsPass self.old s (hashed_by order (mask_of s tag.now) fed)
+            → HoldsPass self.new s (hashed_by order (mask_of s tag.now) (fed ++ piece.old))
             × (piece.new ≡ masked (mask_of s tag.now) (length fed) piece.old) }
         ensures fits { result ≡ true → self.old.state.length + length piece.old ≤ limit }
         ensures past { result ≡ false → limit < self.old.state.length + length piece.old }
@@ -625,9 +626,9 @@ impl KeyedPass {
     {
         match suite {
             Suite::Aes128GcmSiv | Suite::Aes256GcmSiv => {
-                self.mask(suite, &MaskFirst, tag, limit, piece)
+                self.mask(suite, Order::MaskFirst, tag, limit, piece)
             }
-            _ => self.mask(suite, &HashFirst, tag, limit, piece),
+            _ => self.mask(suite, Order::HashFirst, tag, limit, piece),
         }
     }
 

@@ -13,22 +13,23 @@ use octets::Tag;
 
 // Pieces are masked in place, and authenticated as they come or as they leave.
 #[derive(Drop)]
-pub(crate) struct Masking<S, H, R> {
+pub(crate) struct Masking<S, H> {
     pub(crate) mask: S,
     pub(crate) authenticator: Authenticator<H>,
-    pub(crate) order: R,
     // The most bytes of all pieces.
     pub(crate) limit: u64,
     ghost within: { authenticator.length ≤ limit },
     ghost limit_small: { limit < 2 ^ 64 },
 }
 
-impl<S: MaskStream, H: TagHash, R: Order> Masking<S, H, R> {
+impl<S: MaskStream, H: TagHash> Masking<S, H> {
+    ghost use Rattle.aead.specs.Code.Masks.{hashed_by};
     ghost use Rattle.aead.specs.Code.Maskings.{Task, HoldsMasking, task_mask};
+    ghost use Rattle.aead.specs.declared.beside.Order.{Order};
 
     // One that has taken in nothing.
     #[inline(always)]
-    pub(crate) fn empty(mask: S, hash: H, order: R, limit: u64) -> Masking<S, H, R>
+    pub(crate) fn empty(mask: S, hash: H, limit: u64) -> Masking<S, H>
         ensures mask { result.mask ≡ mask }
         ensures hash { result.authenticator.hash ≡ hash }
         ensures none { result.authenticator.length ≡ 0 }
@@ -37,7 +38,6 @@ impl<S: MaskStream, H: TagHash, R: Order> Masking<S, H, R> {
         Masking {
             mask,
             authenticator: Authenticator::empty(hash),
-            order,
             limit,
         }
     }
@@ -46,10 +46,10 @@ impl<S: MaskStream, H: TagHash, R: Order> Masking<S, H, R> {
     #[inline(always)]
     pub(crate) fn begin(&mut self, aad: &[u8])
         requires { self.old.authenticator.length ≡ 0 }
-        ensures holds { (t : Task) → S.made self.old.mask t.setting t.tag 0
+        ensures holds { (o : Order) (t : Task) → S.made self.old.mask t.setting t.tag 0
             → H.held self.old.authenticator.hash t.setting [] → t.setting.aad ≡ aad.now
             → length aad.now ≤ aad_limit t.setting.suite → self.old.limit ≡ t.limit
-            → t.limit ≤ text_limit t.setting.suite → HoldsMasking S.made H.held R.hashed self.new t [] }
+            → t.limit ≤ text_limit t.setting.suite → HoldsMasking S.made H.held (hashed_by o) self.new t [] }
         ensures none { self.new.authenticator.length ≡ 0 }
         ensures limit { self.new.limit ≡ self.old.limit }
     {
@@ -63,26 +63,26 @@ impl<S: MaskStream, H: TagHash, R: Order> Masking<S, H, R> {
         self.limit - self.authenticator.length
     }
 
-    // Masks the next piece.
+    // Masks the next piece and authenticates it. Every piece of a message has the same order.
     #[inline(always)]
-    pub(crate) fn update(&mut self, piece: &mut [u8])
+    pub(crate) fn update(&mut self, order: Order, piece: &mut [u8])
         requires { self.old.authenticator.length + length piece.old ≤ self.old.limit }
-        ensures masked { (t : Task) (fed : List ℕ) → HoldsMasking S.made H.held R.hashed self.old t fed
-            → HoldsMasking S.made H.held R.hashed self.new t (fed ++ piece.old)
+        ensures masked { (t : Task) (fed : List ℕ) → HoldsMasking S.made H.held (hashed_by order) self.old t fed
+            → HoldsMasking S.made H.held (hashed_by order) self.new t (fed ++ piece.old)
             × (piece.new ≡ masked (task_mask t) (length fed) piece.old) }
         ensures length { self.new.authenticator.length ≡ self.old.authenticator.length + length piece.old }
         ensures limit { self.new.limit ≡ self.old.limit }
     {
-        self.order
-            .step(&mut self.mask, &mut self.authenticator, piece);
+        order.step(&mut self.mask, &mut self.authenticator, piece);
     }
 
     // The tag of all pieces. The state is of no use after it.
     #[inline(always)]
     pub(crate) fn tag(&mut self) -> Tag
-        ensures { (t : Task) (fed : List ℕ) → HoldsMasking S.made H.held R.hashed self.old t fed
+        ensures { (hashed : (ℕ → ℕ) → List ℕ → List ℕ) (t : Task) (fed : List ℕ)
+            → HoldsMasking S.made H.held hashed self.old t fed
             → result ≡ tag_over t.setting.suite t.setting.key t.setting.nonce t.setting.aad
-            (R.hashed (task_mask t) fed) }
+            (hashed (task_mask t) fed) }
     {
         self.authenticator.tag()
     }
@@ -90,9 +90,10 @@ impl<S: MaskStream, H: TagHash, R: Order> Masking<S, H, R> {
     // The tag of all pieces.
     #[inline(always)]
     pub(crate) fn finish(self) -> Tag
-        ensures { (t : Task) (fed : List ℕ) → HoldsMasking S.made H.held R.hashed self t fed
+        ensures { (hashed : (ℕ → ℕ) → List ℕ → List ℕ) (t : Task) (fed : List ℕ)
+            → HoldsMasking S.made H.held hashed self t fed
             → result ≡ tag_over t.setting.suite t.setting.key t.setting.nonce t.setting.aad
-            (R.hashed (task_mask t) fed) }
+            (hashed (task_mask t) fed) }
     {
         self.authenticator.finish()
     }

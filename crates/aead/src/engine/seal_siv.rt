@@ -14,7 +14,7 @@ ghost use Rattle.aead.specs.SealSivStream.{WritesAgain, SealsSivStream, SivBlame
 
 use crate::aead::Aead;
 use crate::authenticator::Authenticator;
-use crate::beside::HashFirst;
+use crate::beside::Order;
 use crate::engine::passes::{has_more, pass_all};
 use crate::engine::verifying::absorb_body;
 use crate::gcm_siv::GcmSiv;
@@ -54,7 +54,7 @@ fn absorb_all<I: Intake, H: TagHash>(
 // Encrypts and gives a second reading, and then the tag if it repeats the first one.
 fn write_again<J: Intake, O: Outlet, S: MaskStream, H: TagHash>(
     intake: &mut J,
-    mut again: Masking<S, H, HashFirst>,
+    mut again: Masking<S, H>,
     tag: &Tag,
     outlet: &mut O,
 ) -> Result<(), Fault>
@@ -68,7 +68,7 @@ fn write_again<J: Intake, O: Outlet, S: MaskStream, H: TagHash>(
         (O.failures outlet.old) (O.failures outlet.new) result }
 {
     let length = again.limit;
-    match pass_all(intake, &mut again, length, outlet) {
+    match pass_all(Order::HashFirst, intake, &mut again, length, outlet) {
         Ok(Some(_)) => {
             if repeats(again, tag) {
                 match give_all(outlet, tag.bytes()) {
@@ -111,7 +111,7 @@ fn seal_over<N: TwoPass, I: Intake, J: Intake, O: Outlet>(
         Ok(true) => {
             let length = reading.length;
             let tag = reading.finish();
-            let mut again = Masking::empty(message.mask(&tag), message.hash(), HashFirst, length);
+            let mut again = Masking::empty(message.mask(&tag), message.hash(), length);
             again.begin(aad);
             write_again(second, again, &tag, out)
         }
