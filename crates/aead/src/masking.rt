@@ -1,4 +1,4 @@
-//! The state of a message that is masked and authenticated piece by piece, in either construction.
+//! The state of a message that is masked and authenticated piece by piece, under any construction.
 
 ghost use Rattle.std.specs.Prelude.{◌≡◌, ◌+◌, ◌<◌, ◌≤◌, ◌^◌, ◌++◌, ℕ, List, [], length};
 ghost use Rattle.octets.specs.Masked.{masked};
@@ -11,12 +11,13 @@ use crate::hashes::TagHash;
 use crate::mask::MaskStream;
 use octets::Tag;
 
-// Pieces are masked in place, and authenticated as they come or as they leave.
+// The mask and the authenticator of a message. Each piece is masked in place and authenticated, in the order of the message:
+// before it is masked or after.
 #[derive(Drop)]
 pub(crate) struct Masking<S, H> {
     pub(crate) mask: S,
     pub(crate) authenticator: Authenticator<H>,
-    // The most bytes of all pieces.
+    // The most bytes that all pieces may have together.
     pub(crate) limit: u64,
     ghost within: { authenticator.length ≤ limit },
     ghost limit_small: { limit < 2 ^ 64 },
@@ -27,7 +28,7 @@ impl<S: MaskStream, H: TagHash> Masking<S, H> {
     ghost use Rattle.aead.specs.Code.Maskings.{Task, HoldsMasking, task_mask};
     ghost use Rattle.aead.specs.declared.beside.Order.{Order};
 
-    // One that has taken in nothing.
+    // Returns the state of a message of which nothing was masked or authenticated.
     #[inline(always)]
     pub(crate) fn empty(mask: S, hash: H, limit: u64) -> Masking<S, H>
         ensures mask { result.mask ≡ mask }
@@ -42,7 +43,8 @@ impl<S: MaskStream, H: TagHash> Masking<S, H> {
         }
     }
 
-    // Takes in the associated data, before any piece. The state is not moved afterwards, since a move would copy it.
+    // Authenticates the associated data, which comes before any piece. This is a method of a state that is in its place already,
+    // since a state that is returned is copied.
     #[inline(always)]
     pub(crate) fn begin(&mut self, aad: &[u8])
         requires { self.old.authenticator.length ≡ 0 }
@@ -56,14 +58,7 @@ impl<S: MaskStream, H: TagHash> Masking<S, H> {
         self.authenticator.begin(aad);
     }
 
-    // How many bytes more are within the limit.
-    pub(crate) fn room(&self) -> u64
-        ensures { result + self.now.authenticator.length ≡ self.now.limit }
-    {
-        self.limit - self.authenticator.length
-    }
-
-    // Masks the next piece and authenticates it. Every piece of a message has the same order.
+    // Masks the next piece and authenticates it. All pieces of a message are given in one order.
     #[inline(always)]
     pub(crate) fn update(&mut self, order: Order, piece: &mut [u8])
         requires { self.old.authenticator.length + length piece.old ≤ self.old.limit }
@@ -76,7 +71,7 @@ impl<S: MaskStream, H: TagHash> Masking<S, H> {
         order.step(&mut self.mask, &mut self.authenticator, piece);
     }
 
-    // The tag of all pieces. The state is of no use after it.
+    // Returns the tag of all pieces. The state must not be used afterwards.
     #[inline(always)]
     pub(crate) fn tag(&mut self) -> Tag
         ensures { (hashed : (ℕ → ℕ) → List ℕ → List ℕ) (t : Task) (fed : List ℕ)
@@ -87,7 +82,7 @@ impl<S: MaskStream, H: TagHash> Masking<S, H> {
         self.authenticator.tag()
     }
 
-    // The tag of all pieces.
+    // Returns the tag of all pieces, and consumes the state.
     #[inline(always)]
     pub(crate) fn finish(self) -> Tag
         ensures { (hashed : (ℕ → ℕ) → List ℕ → List ℕ) (t : Task) (fed : List ℕ)

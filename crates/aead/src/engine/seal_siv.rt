@@ -1,7 +1,7 @@
 //! The engine that seals a stream in two readings, under AES-GCM-SIV (RFC 8452, 4): the tag of the first begins the mask of the
 //! second.
 
-ghost use Rattle.std.specs.Prelude.{◌≡◌, ◌↔◌, ◌+◌, ◌<◌, ◌≤◌, ◌^◌, ◌∷◌, ℕ, List, [], length, IfOk, IfSome};
+ghost use Rattle.std.specs.Prelude.{◌≡◌, ◌↔◌, ◌+◌, ◌<◌, ◌≤◌, ◌^◌, ◌∷◌, ℕ, List, [], length, IfOk, IfSome, IsTrue};
 ghost use Rattle.aead.specs.Refusals.{DueToReading, DueToBoth, late_in_readings, UntouchedUnless};
 ghost use Rattle.aead.specs.Suites.{ByGcmSiv, construction_of, text_limit, aad_limit};
 ghost use Rattle.aead.specs.Sealing.{Setting, tag_of};
@@ -10,6 +10,7 @@ ghost use Rattle.aead.specs.Code.States.{HoldsAuthenticator};
 ghost use Rattle.aead.specs.Code.Masks.{as_it_comes};
 ghost use Rattle.aead.specs.Code.Maskings.{HoldsMasking, repeating_task};
 ghost use Rattle.aead.specs.Code.Absorbed.{AbsorbReturns};
+ghost use Rattle.aead.specs.Pieces.{Repeats};
 ghost use Rattle.aead.specs.SealSivStream.{WritesAgain, SealsSivStream, SivBlames, IfBothKnown};
 
 use crate::aead::Aead;
@@ -21,10 +22,9 @@ use crate::gcm_siv::GcmSiv;
 use crate::hashes::TagHash;
 use crate::mask::MaskStream;
 use crate::masking::Masking;
-use crate::second_reading::repeats;
 use crate::two_pass::TwoPass;
 use gf128::{Keyed128, WideMul};
-use octets::{Fault, Intake, Nonce, Outlet, Tag, give_all};
+use octets::{Fault, Intake, Nonce, Outlet, Tag, give_all, same};
 
 // Takes in a reading to its end, and returns whether that was within a limit.
 fn absorb_all<I: Intake, H: TagHash>(
@@ -49,6 +49,17 @@ fn absorb_all<I: Intake, H: TagHash>(
         Ok(false) => Ok(true),
         Err(fault) => Err(fault),
     }
+}
+
+// Whether a second reading had the length of the first one, and has its tag.
+fn repeats<S: MaskStream, H: TagHash>(again: Masking<S, H>, tag: &Tag) -> bool
+    ensures { (s : Setting) (first text : List ℕ) → construction_of s.suite ≡ ByGcmSiv
+        → tag.now ≡ tag_of s first
+        → HoldsMasking S.made H.held as_it_comes again (repeating_task s first) text
+        → IsTrue result ↔ Repeats s first text }
+{
+    let missing = again.limit - again.authenticator.length;
+    missing == 0 && same(again.finish().bytes(), tag.bytes())
 }
 
 // Encrypts and gives a second reading, and then the tag if it repeats the first one.
