@@ -26,9 +26,9 @@ use Rattle.aead.proofs.ByteMasks.{masked_small, mask_small}
 use Rattle.aead.proofs.Opens.{unmasked, no_sealing, opened_as, body_tag}
 
 -- the lengths that an opening was fed are allowed
-pub opening_fits : {S H R : Type 0} (made : S → Setting → List ℕ → ℕ → Type 0)
+pub opening_fits : {S H : Type 0} (made : S → Setting → List ℕ → ℕ → Type 0)
     (held : H → Setting → List ℕ → Type 0)
-    (hashed : (ℕ → ℕ) → List ℕ → List ℕ) (k : Masking S H R) (s : Setting) (tag body : List ℕ)
+    (hashed : (ℕ → ℕ) → List ℕ → List ℕ) (k : Masking S H) (s : Setting) (tag body : List ℕ)
     → HoldsMasking made held hashed k (message_task s tag) body → Fits s body
 opening_fits made held hashed k s tag body h =
     record { aad_fits = h.taken.fits.aad_fits; text_fits = omega (arith, h.within, h.limit_fits) }
@@ -65,9 +65,9 @@ unsealed_found s tag body y len long size equal other =
 -- ---- a whole pass
 
 -- a body that was decrypted
-pub took_masked : {S H R : Type 0} (made : S → Setting → List ℕ → ℕ → Type 0)
+pub took_masked : {S H : Type 0} (made : S → Setting → List ℕ → ℕ → Type 0)
     (held : H → Setting → List ℕ → Type 0) (hashed : (ℕ → ℕ) → List ℕ → List ℕ) (s : Setting) (tag : List ℕ)
-    (len n : ℕ) (l l' o o' : Option (List ℕ)) (k : Masking S H R) (t : List ℕ)
+    (len n : ℕ) (l l' o o' : Option (List ℕ)) (k : Masking S H) (t : List ℕ)
     → (q : HasFilledRoom (HoldsMasking made held hashed) (message_task s tag) [] (len - 16) l l' o o' k n)
     → t ≡ tag_of s (masked (mask_of s tag) 0 q.bytes) → PassesBody s tag len l l' o o' n t
 took_masked made held hashed s tag len n l l' o o' k t q is = record {

@@ -15,8 +15,8 @@ use crate::suite::Suite;
 use aes::AesKey;
 use octets::{Fault, Key32, Nonce, Tag};
 
-/// A cipher whose tag is over the ciphertext: one reading of a text seals it. Under AES-GCM it is not constant time:
-/// [`Gcm`] says which tables secret bytes index.
+/// A cipher of a suite whose tag is over the ciphertext, so that one reading of a text seals it. Under AES-GCM it is not
+/// constant time: [`Gcm`] says which tables are indexed by secret bytes.
 #[derive(Drop)]
 pub enum AnyOnePass {
     /// ChaCha20-Poly1305.
@@ -25,19 +25,19 @@ pub enum AnyOnePass {
     Gcm(Gcm),
 }
 
-/// A cipher of any suite. Under the suites of AES it is not constant time: [`Gcm`] and [`GcmSiv`] say which tables
-/// secret bytes index.
+/// A cipher of any suite. Under the suites of AES it is not constant time: [`Gcm`] and [`GcmSiv`] say which tables are
+/// indexed by secret bytes.
 #[derive(Drop)]
 pub enum AnyAead {
-    /// One whose tag is over the ciphertext.
+    /// ChaCha20-Poly1305 or AES-GCM, whose tag is over the ciphertext.
     OnePass(AnyOnePass),
     /// AES-GCM-SIV, whose tag is over the text.
     Siv(GcmSiv),
 }
 
 impl AnyAead {
-    /// The cipher of a suite under a key: 32 bytes for ChaCha20-Poly1305 and the suites of AES-256, 24
-    /// for AES-192 and 16 for AES-128. Any other length is `KeyLength`, the only fault.
+    /// Returns the cipher of a suite under a key. The key has 32 bytes for ChaCha20-Poly1305 and the suites of AES-256, 24 for
+    /// AES-192 and 16 for AES-128; any other length is `KeyLength`, the only fault.
     #[inline(always)]
     pub fn new(suite: Suite, key: &[u8]) -> Result<AnyAead, Fault>
         ensures { MatchResult result
@@ -63,7 +63,8 @@ impl AnyAead {
         }
     }
 
-    // Opens a ciphertext and its tag in place, the fastest way. After a refusal the bytes are of no use.
+    // Opens a ciphertext and its tag in place, for a caller that drops the bytes if authentication fails: they are unspecified
+    // then. So ChaCha20-Poly1305 may decrypt while it authenticates.
     pub(crate) fn open_beside(
         &self,
         nonce: &Nonce,

@@ -1,5 +1,6 @@
-//! The authenticator of a message. It takes in the associated data, then the ciphertext or the text piece by piece, each
-//! padded to whole blocks, and both lengths at the end (RFC 8439, 2.8; SP 800-38D, 7.1; RFC 8452, 4).
+//! The authenticator of a message, which makes its tag. It hashes the associated data, padded with zeros to whole blocks; then
+//! the ciphertext, or under AES-GCM-SIV the text, which may come in pieces and is padded in the same way; and at the end both
+//! lengths (RFC 8439, 2.8; SP 800-38D, 7.1; RFC 8452, 4).
 
 ghost use Rattle.std.specs.Prelude.{◌≡◌, ◌+◌, ◌<◌, ◌≤◌, ◌^◌, ◌++◌, ℕ, List, [], get_or, length};
 ghost use Rattle.aead.specs.Suites.{text_limit, aad_limit};
@@ -9,7 +10,7 @@ ghost use Rattle.aead.specs.Code.States.{HoldsAuthenticator};
 use crate::hashes::TagHash;
 use octets::{Stream, Tag};
 
-// Associated data and the bytes after it: the ciphertext, or for GCM-SIV the text.
+// The hash of the associated data and of the bytes after it, and both lengths so far.
 #[derive(Drop)]
 pub(crate) struct Authenticator<H> {
     pub(crate) hash: H,
@@ -19,7 +20,7 @@ pub(crate) struct Authenticator<H> {
 }
 
 impl<H: TagHash> Authenticator<H> {
-    // One that has taken in nothing.
+    // Returns the authenticator of a message of which nothing was hashed.
     #[inline(always)]
     pub(crate) fn empty(hash: H) -> Authenticator<H>
         ensures { (result.hash ≡ hash) × (result.length ≡ 0) }
@@ -31,7 +32,8 @@ impl<H: TagHash> Authenticator<H> {
         }
     }
 
-    // Takes in the associated data, before all else. The state is not moved afterwards, since a move would copy it.
+    // Hashes the associated data, which comes first. This is a method of a state that is in its place already, since a state
+    // that is returned is copied.
     #[inline(always)]
     pub(crate) fn begin(&mut self, aad: &[u8])
         requires { self.old.length ≡ 0 }
@@ -48,7 +50,7 @@ impl<H: TagHash> Authenticator<H> {
         self.hash.pad();
     }
 
-    // Takes in the next bytes.
+    // Hashes the next bytes of the ciphertext or the text.
     #[inline(always)]
     pub(crate) fn update(&mut self, bytes: &[u8])
         requires { self.old.length + length bytes.now < 2 ^ 64 }
@@ -62,7 +64,7 @@ impl<H: TagHash> Authenticator<H> {
         self.length += bytes.len() as u64;
     }
 
-    // Takes in bytes while `stream` XORs its next ones into `piece`.
+    // Hashes bytes while `stream` XORs its next bytes into `piece`.
     #[inline(always)]
     pub(crate) fn update_beside<S: Stream>(
         &mut self,
@@ -81,7 +83,7 @@ impl<H: TagHash> Authenticator<H> {
         self.length += bytes.len() as u64;
     }
 
-    // The tag of what was taken in. The authenticator is of no use after it.
+    // Returns the tag of what was hashed. The authenticator must not be used afterwards.
     #[inline(always)]
     pub(crate) fn tag(&mut self) -> Tag
         ensures tag { (s : Setting) (m : List ℕ) → HoldsAuthenticator H.held self.old s m
@@ -91,7 +93,7 @@ impl<H: TagHash> Authenticator<H> {
         self.hash.tag_with_lengths(self.aad_length, self.length)
     }
 
-    // The tag of what was taken in.
+    // Returns the tag of what was hashed, and consumes the authenticator.
     #[inline(always)]
     pub(crate) fn finish(mut self) -> Tag
         ensures { (s : Setting) (m : List ℕ) → HoldsAuthenticator H.held self s m

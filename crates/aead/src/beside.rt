@@ -1,33 +1,42 @@
-//! A mask and a hash that run beside each other over a piece, in two orders: with the mask first, the masked bytes are
-//! authenticated; with the hash first, the bytes are authenticated as they come.
+//! A mask and a hash that run beside each other over a piece, in one of two orders.
 
-ghost use Rattle.std.specs.Prelude.{◌≡◌, ◌+◌, ◌<◌, ◌^◌, ℕ, List, [], length, refl};
+ghost use Rattle.std.specs.Prelude.{◌≡◌, ◌+◌, ◌<◌, ◌^◌, length};
 ghost use Rattle.aead.specs.Code.Masks.{Masks, Takes, MasksAndHashes, as_it_comes, as_it_leaves};
-ghost use Rattle.aead.specs.Code.Masks.{none_leaves};
 
 use crate::authenticator::Authenticator;
 use crate::hashes::TagHash;
 use crate::mask::MaskStream;
 
-// An order of mask and hash.
-pub(crate) trait Order: Drop {
-    // The bytes that are authenticated, by the mask and the bytes before it.
-    ghost hashed: { (ℕ → ℕ) → List ℕ → List ℕ };
+// Which of the two comes first: with the mask first, the masked bytes are authenticated; with the hash first, the bytes as they
+// come.
+#[derive(Clone, Copy)]
+pub(crate) enum Order {
+    MaskFirst,
+    HashFirst,
+}
 
-    // Masks a piece and authenticates it.
-    fn step<S: MaskStream, H: TagHash>(
-        &self,
+impl Order {
+    ghost use Rattle.aead.specs.Code.Masks.{hashed_by};
+
+    // Masks a piece and authenticates it. Where the order is a constant, as it is in every call on a whole message, nothing of
+    // the choice is left in the program.
+    #[inline(always)]
+    pub(crate) fn step<S: MaskStream, H: TagHash>(
+        self,
         mask: &mut S,
         authenticator: &mut Authenticator<H>,
         piece: &mut [u8],
     )
         requires { authenticator.old.length + length piece.old < 2 ^ 64 }
-        ensures step { MasksAndHashes S.made H.held hashed mask.old mask.new authenticator.old
+        ensures step { MasksAndHashes S.made H.held (hashed_by self) mask.old mask.new authenticator.old
             authenticator.new piece.old piece.new }
-        ensures length { authenticator.new.length ≡ authenticator.old.length + length piece.old };
-
-    // Of no bytes nothing is authenticated.
-    ghost none: { (mask : ℕ → ℕ) → hashed mask [] ≡ [] };
+        ensures length { authenticator.new.length ≡ authenticator.old.length + length piece.old }
+    {
+        match self {
+            Order::MaskFirst => mask_then_hash(mask, authenticator, piece),
+            Order::HashFirst => hash_then_mask(mask, authenticator, piece),
+        }
+    }
 }
 
 // Masks a piece and takes it in as it leaves, each part while the next one is masked: 1 KiB, or a sixteenth of what is left
@@ -58,29 +67,24 @@ fn mask_then_take_by_parts<S: MaskStream, H: TagHash>(
     authenticator.update(&piece[taken..]);
 }
 
-// A piece is masked, and authenticated as it leaves.
-#[derive(Drop)]
-pub(crate) struct MaskFirst;
-
-impl Order for MaskFirst {
-    ghost hashed = { as_it_leaves };
-
-    #[inline(always)]
-    fn step<S: MaskStream, H: TagHash>(
-        &self,
-        mask: &mut S,
-        authenticator: &mut Authenticator<H>,
-        piece: &mut [u8],
-    ) {
-        if mask.part(piece.len(), 0) == piece.len() {
-            mask.apply_to(piece);
-            authenticator.update(piece);
-        } else {
-            mask_then_take_by_parts(mask, authenticator, piece);
-        }
+// Masks a piece, and authenticates it as it leaves.
+#[inline(always)]
+fn mask_then_hash<S: MaskStream, H: TagHash>(
+    mask: &mut S,
+    authenticator: &mut Authenticator<H>,
+    piece: &mut [u8],
+)
+    requires { authenticator.old.length + length piece.old < 2 ^ 64 }
+    ensures step { MasksAndHashes S.made H.held as_it_leaves mask.old mask.new authenticator.old
+        authenticator.new piece.old piece.new }
+    ensures length { authenticator.new.length ≡ authenticator.old.length + length piece.old }
+{
+    if mask.part(piece.len(), 0) == piece.len() {
+        mask.apply_to(piece);
+        authenticator.update(piece);
+    } else {
+        mask_then_take_by_parts(mask, authenticator, piece);
     }
-
-    ghost none = { none_leaves };
 }
 
 // Takes in a piece as it comes and masks it, each part while the next one is taken in. Nothing runs beside the hash of
@@ -108,27 +112,22 @@ fn take_then_mask_by_parts<S: MaskStream, H: TagHash>(
     mask.apply_to(&mut piece[done..]);
 }
 
-// A piece is authenticated as it comes, and masked.
-#[derive(Drop)]
-pub(crate) struct HashFirst;
-
-impl Order for HashFirst {
-    ghost hashed = { as_it_comes };
-
-    #[inline(always)]
-    fn step<S: MaskStream, H: TagHash>(
-        &self,
-        mask: &mut S,
-        authenticator: &mut Authenticator<H>,
-        piece: &mut [u8],
-    ) {
-        if mask.part(piece.len(), 0) == piece.len() {
-            authenticator.update(piece);
-            mask.apply_to(piece);
-        } else {
-            take_then_mask_by_parts(mask, authenticator, piece);
-        }
+// Authenticates a piece as it comes, and masks it.
+#[inline(always)]
+fn hash_then_mask<S: MaskStream, H: TagHash>(
+    mask: &mut S,
+    authenticator: &mut Authenticator<H>,
+    piece: &mut [u8],
+)
+    requires { authenticator.old.length + length piece.old < 2 ^ 64 }
+    ensures step { MasksAndHashes S.made H.held as_it_comes mask.old mask.new authenticator.old
+        authenticator.new piece.old piece.new }
+    ensures length { authenticator.new.length ≡ authenticator.old.length + length piece.old }
+{
+    if mask.part(piece.len(), 0) == piece.len() {
+        authenticator.update(piece);
+        mask.apply_to(piece);
+    } else {
+        take_then_mask_by_parts(mask, authenticator, piece);
     }
-
-    ghost none = { λ _. refl };
 }

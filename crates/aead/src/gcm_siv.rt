@@ -1,5 +1,5 @@
-//! The cipher AES-GCM-SIV (RFC 8452, 4 and 5). Each message has its own keys; the tag is over the text, and begins the
-//! mask.
+//! The cipher AES-GCM-SIV (RFC 8452, 4 and 5). An authentication key and an encryption key are derived for each message. The
+//! tag is over the text, and the first counter block of the mask is made from the tag.
 
 ghost use Rattle.std.specs.Prelude.{◌≡◌, ◌≢◌, ◌<◌, ◌≤◌, ◌^◌, ◌++◌, length, MatchResult};
 ghost use Rattle.octets.specs.Bytes.{IsBlock};
@@ -76,7 +76,7 @@ impl GcmSiv {
         GcmSiv { key, suite }
     }
 
-    // Its key.
+    // Returns the key from which those of the messages are derived.
     pub(crate) fn key(&self) -> &AesKey
         ensures key { result.now ≡ self.now.key }
         ensures long { length self.now.key ≡ key_length self.now.suite }
@@ -84,7 +84,7 @@ impl GcmSiv {
         &self.key
     }
 
-    // The keys of a message.
+    // Derives the keys of a message.
     pub(crate) fn derive(&self, nonce: &Nonce) -> DerivedKeys
         ensures block { IsBlock (authentication_key self.now.key nonce.now) }
         ensures hash_key { IsReversedMulX (authentication_key self.now.key nonce.now) result.hash_key }
@@ -93,7 +93,8 @@ impl GcmSiv {
         DerivedKeys::new(self.suite, &self.key, nonce)
     }
 
-    // The cipher with a nonce, its encryption key, and a multiplier of its authentication key.
+    // Returns what a message needs: the cipher, the nonce, the message's encryption key, and a multiplier by its
+    // authentication key.
     pub(crate) fn nonced<'a, M: Multiply + Copy, K: KeptKey + Copy>(
         &'a self,
         nonce: &'a Nonce,
@@ -116,7 +117,8 @@ impl GcmSiv {
         }
     }
 
-    // Seals by a multiplier of the type `M`.
+    // Seals a text, and multiplies by the hash key with a multiplier of the type `M`. It is not inlined, so that the large table
+    // is on the stack only for a long text.
     #[inline(never)]
     fn seal_by<M: Keyed128>(&self, nonce: &Nonce, aad: &[u8], text: &mut [u8]) -> Tag
         requires aad_fits { length aad.now ≤ aad_limit self.now.suite }
@@ -133,7 +135,7 @@ impl GcmSiv {
         )
     }
 
-    // Opens by a multiplier of the type `M`.
+    // Opens a ciphertext, and multiplies by the hash key with a multiplier of the type `M`. It is not inlined, for the same reason.
     #[inline(never)]
     fn open_by<M: Keyed128>(
         &self,
@@ -158,7 +160,7 @@ impl GcmSiv {
     }
 }
 
-// The first counter block of a tag (RFC 8452, 4).
+// Returns the first counter block of the message with this tag (RFC 8452, 4).
 pub(crate) fn counter_block(tag: &[u8; 16]) -> [u8; 16]
     ensures { result ≡ counter_block tag.now }
 {
@@ -167,7 +169,7 @@ pub(crate) fn counter_block(tag: &[u8; 16]) -> [u8; 16]
     block
 }
 
-// The mask under a tag (RFC 8452, 4).
+// Returns the mask of the message with this tag (RFC 8452, 4).
 #[inline(always)]
 pub(crate) fn tag_mask<K: KeptKey>(encryption: K, tag: &Tag) -> CtrLe<K>
     ensures { (s : Setting) → construction_of s.suite ≡ ByGcmSiv
@@ -177,7 +179,7 @@ pub(crate) fn tag_mask<K: KeptKey>(encryption: K, tag: &Tag) -> CtrLe<K>
     CtrLe::new(encryption, &Block::new(counter_block(tag.bytes())))
 }
 
-// The mask under a tag of which so many bytes were made.
+// Returns the mask of the message with this tag, after its first `made` bytes.
 #[inline(always)]
 pub(crate) fn mask_at<K: KeptKey>(encryption: K, tag: &[u8; 16], made: u64) -> CtrLe<K>
     requires { made < 2 ^ 63 }
@@ -188,7 +190,7 @@ pub(crate) fn mask_at<K: KeptKey>(encryption: K, tag: &[u8; 16], made: u64) -> C
     CtrLe::at(encryption, &Block::new(counter_block(tag)), made)
 }
 
-// The cipher with a nonce, its encryption key, and a multiplier of its authentication key.
+// A cipher with a nonce, the message's encryption key, and a multiplier by its authentication key.
 #[derive(Drop)]
 pub(crate) struct NoncedGcmSiv<'a, M: Multiply, K: KeptKey> {
     suite: Suite,

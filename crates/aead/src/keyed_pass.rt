@@ -1,18 +1,20 @@
-//! A pass over a message together with the message's keys, as plain numbers, under any suite. What a call needs of the keys
-//! beyond their bytes is made again in it: a key schedule and the multiples of the hash's key.
+//! A pass over a message together with the message's keys, as plain numbers, under any suite. Of the keys only the bytes are
+//! kept: each call makes the key schedule and the multiples of the hash key that it needs.
 
-ghost use Rattle.std.specs.Prelude.{◌≡◌, ◌+◌, ◌-◌, ◌<◌, ◌≤◌, ◌^◌, ◌++◌, ℕ, List, [], length, take, true, false, MatchResult, OnErr};
+ghost use Rattle.std.specs.Prelude.{◌≡◌, ◌+◌, ◌-◌, ◌<◌, ◌≤◌, ◌^◌, ◌++◌, ℕ, List, [], length, take};
+ghost use Rattle.std.specs.Prelude.{true, false, MatchResult, OnErr};
 ghost use Rattle.octets.specs.Masked.{masked};
 ghost use Rattle.aes.specs.Cipher.{IsKey};
 ghost use Rattle.gf128.specs.Orders.{Reversed, Serves};
 ghost use Rattle.aead.specs.Suites.{ByChaCha, ByGcm, ByGcmSiv, construction_of, key_length, text_limit, aad_limit};
 ghost use Rattle.aead.specs.Sealing.{Setting, hash_key, authentication_key, encryption_key, mask_of, tag_of, tag_over};
 ghost use Rattle.aead.specs.PassStates.{IsHashKey, HoldsNumbers, IsStart};
+ghost use Rattle.aead.specs.Code.Masks.{hashed_by};
 ghost use Rattle.aead.specs.Code.PassSteps.{MasksPiece, TakesPiece, TakesPieceText};
 ghost use Rattle.aead.specs.Code.States.{MadeByGcm};
 ghost use Rattle.aead.specs.KeyedPasses.{setting_of, BeginRefused, LengthsRefused, cipher_key};
 
-use crate::beside::{HashFirst, MaskFirst, Order};
+use crate::beside::Order;
 use crate::chacha_poly::{self, one_time_key};
 use crate::derived_keys::{
     KeyParts, expanded, hash_key, joined, long_encryption_key, short_encryption_key,
@@ -27,11 +29,11 @@ use aes::{AesKey, CtrBe, KeptKey};
 use gf128::{Keyed128, TableMul, WideMul};
 use octets::{Block, Fault, Key32, Nonce, Tag};
 
-// Each number may have any value.
+// A pass with its keys. Each number may have any value.
 #[repr(C)]
 #[derive(Clone, Copy)]
 pub(crate) struct KeyedPass {
-    // The key of the message's cipher, and zeros after it: under AES-GCM-SIV the message's encryption key.
+    // The key that the message is encrypted with, and zeros after it. Under AES-GCM-SIV this is the message's own encryption key.
     key: [u8; 32],
     pub(crate) nonce: [u8; 12],
     pub(crate) state: PassState,
@@ -40,7 +42,7 @@ pub(crate) struct KeyedPass {
 impl KeyedPass {
     ghost use Rattle.aead.specs.KeyedPasses.{zero_pass, HoldsPass, HoldsBody};
 
-    // All zeros.
+    // Returns a pass whose numbers are all zeros.
     pub(crate) fn zeros() -> KeyedPass
         ensures { result ≡ zero_pass }
     {
@@ -53,7 +55,7 @@ impl KeyedPass {
 
     // ---- begin
 
-    // Under the key of a message's cipher.
+    // Returns a pass of a message by the key that the message is encrypted with, its nonce, and the numbers of the pass.
     #[inline(always)]
     pub(crate) fn under(key: &[u8], nonce: &Nonce, state: PassState) -> KeyedPass
         requires { length key.now ≤ 32 }
@@ -71,8 +73,8 @@ impl KeyedPass {
         }
     }
 
-    // Becomes one of no bytes, under ChaCha20-Poly1305. Each construction has its own function, which is not inlined, since the
-    // compiler clears the locals of all arms of a `match` at its start.
+    // Begins a pass under ChaCha20-Poly1305. Each construction has a function of its own, which is not inlined, since the compiler
+    // clears the locals of all arms of a `match` when the function is entered.
     #[inline(never)]
     pub(crate) fn begin_chacha(&mut self, suite: Suite, key: &Key32, nonce: &Nonce, aad: &[u8])
         requires by { construction_of suite ≡ ByChaCha }
@@ -83,7 +85,7 @@ impl KeyedPass {
         *self = KeyedPass::under(key.bytes(), nonce, state);
     }
 
-    // The numbers of no bytes after associated data under AES-GCM, by multiples of the hash's key that are made in this call.
+    // Returns the numbers of a pass under AES-GCM after the associated data, with multiples of the hash key that are made here.
     #[inline(never)]
     fn hashed_by_gcm(ghash_key: &Block, hash_keys: [u8; 32], aad: &[u8]) -> PassState
         ensures { (s : Setting) → construction_of s.suite ≡ ByGcm → ghash_key.now ≡ hash_key s.key
@@ -97,7 +99,7 @@ impl KeyedPass {
         PassState::begun(&keys, hash_keys, aad)
     }
 
-    // The numbers of no bytes under AES-GCM.
+    // Returns the numbers of a pass under AES-GCM after the associated data. If there is none, no multiples are needed.
     #[inline(always)]
     fn begun_by_gcm(ghash_key: &Block, hash_keys: [u8; 32], aad: &[u8]) -> PassState
         ensures { (s : Setting) → construction_of s.suite ≡ ByGcm → ghash_key.now ≡ hash_key s.key
@@ -111,7 +113,7 @@ impl KeyedPass {
         }
     }
 
-    // Becomes one of no bytes, under AES-GCM.
+    // Begins a pass under AES-GCM.
     #[inline(never)]
     fn begin_gcm(
         &mut self,
@@ -134,7 +136,7 @@ impl KeyedPass {
         *self = KeyedPass::under(key, nonce, state);
     }
 
-    // Becomes one of no bytes, under AES-GCM-SIV and the derived keys of a message.
+    // Begins a pass under AES-GCM-SIV, by the encryption key and the hash key of the message.
     fn begin_derived(
         &mut self,
         suite: Suite,
@@ -162,7 +164,7 @@ impl KeyedPass {
         *self = KeyedPass::under(key, nonce, state);
     }
 
-    // Becomes one of no bytes, under AES-GCM-SIV.
+    // Begins a pass under AES-GCM-SIV, by the key that the message's keys are derived from.
     #[inline(never)]
     pub(crate) fn begin_siv(&mut self, suite: Suite, cipher: &AesKey, nonce: &Nonce, aad: &[u8])
         requires by { construction_of suite ≡ ByGcmSiv }
@@ -181,7 +183,7 @@ impl KeyedPass {
         }
     }
 
-    // Becomes one of no bytes, under AES-GCM and the bytes of a key.
+    // Begins a pass under AES-GCM, by the bytes of a key.
     #[inline(never)]
     fn begin_gcm_anew(&mut self, suite: Suite, key: &[u8], nonce: &Nonce, aad: &[u8])
         requires by { construction_of suite ≡ ByGcm }
@@ -193,7 +195,7 @@ impl KeyedPass {
         self.begin_gcm(suite, key, &cipher, &hash_subkey(&cipher), nonce, aad);
     }
 
-    // Becomes one of no bytes, under AES-GCM-SIV and the bytes of a key.
+    // Begins a pass under AES-GCM-SIV, by the bytes of the key that the message's keys are derived from.
     #[inline(never)]
     fn begin_siv_anew(&mut self, suite: Suite, key: &[u8], nonce: &Nonce, aad: &[u8])
         requires by { construction_of suite ≡ ByGcmSiv }
@@ -204,8 +206,8 @@ impl KeyedPass {
         self.begin_siv(suite, &expanded(key), nonce, aad);
     }
 
-    // Becomes one of no bytes, under the bytes of a key and a nonce. `KeyLength`, `NonceLength`, then `AadTooLong`: it is then as
-    // it was.
+    // Begins a pass by the bytes of a key and a nonce. Faults: `KeyLength`, `NonceLength`, then `AadTooLong`. On error the pass is
+    // as it was.
     pub(crate) fn begin(
         &mut self,
         suite: Suite,
@@ -239,7 +241,7 @@ impl KeyedPass {
         }
     }
 
-    // As `begin`, by what was made of the key before: its schedule and the key of GHASH.
+    // Begins a pass as `begin` does, by what was made of the key before: its schedule and the key of GHASH.
     pub(crate) fn begin_by(
         &mut self,
         suite: Suite,
@@ -277,7 +279,7 @@ impl KeyedPass {
 
     // ---- resumption
 
-    // By the key of a message's cipher and the numbers of a pass over the message.
+    // Returns a pass by the key that the message is encrypted with and the numbers of a pass over the message.
     fn with_numbers(suite: Suite, key: &[u8], nonce: &Nonce, state: PassState) -> KeyedPass
         requires { length key.now ≡ key_length suite }
         ensures { (s : Setting) (bytes : List ℕ) → s.suite ≡ suite → length s.key ≡ key_length suite
@@ -287,7 +289,7 @@ impl KeyedPass {
         KeyedPass::under(key, nonce, state)
     }
 
-    // By the numbers of a pass under AES-GCM-SIV with the same key and nonce.
+    // Returns a pass by the numbers of another one under AES-GCM-SIV and the same key and nonce.
     fn resumed_siv(suite: Suite, cipher: &AesKey, nonce: &Nonce, state: PassState) -> KeyedPass
         requires by { construction_of suite ≡ ByGcmSiv }
         requires long { length cipher.now ≡ key_length suite }
@@ -303,7 +305,7 @@ impl KeyedPass {
         }
     }
 
-    // By the numbers of a pass under the same suite, key and nonce. `KeyLength`, then `NonceLength`.
+    // Returns a pass by the numbers of another one under the same suite, key and nonce. Faults: `KeyLength`, then `NonceLength`.
     pub(crate) fn resumed(
         suite: Suite,
         key: &[u8],
@@ -332,20 +334,20 @@ impl KeyedPass {
 
     // ---- pieces
 
-    // The schedule of the message's key.
+    // Returns the schedule of the key that the message is encrypted with.
     fn cipher(&self, suite: Suite) -> AesKey
         ensures { result ≡ take (key_length suite) self.now.key }
     {
         expanded(&self.key[..suite.key_length()])
     }
 
-    // Masks a piece under ChaCha20-Poly1305.
+    // Masks and authenticates a piece under ChaCha20-Poly1305.
     #[inline(never)]
-    fn mask_chacha<R: Order>(&mut self, order: &R, piece: &mut [u8])
+    fn mask_chacha(&mut self, order: Order, piece: &mut [u8])
         requires { self.old.state.length + length piece.old ≤ 2 ^ 38 - 64 }
         ensures masks { (s : Setting) (tag fed : List ℕ) → construction_of s.suite ≡ ByChaCha
             → self.old.key ≡ s.key → self.old.nonce ≡ s.nonce
-            → MasksPiece R.hashed self.old.state self.new.state piece.old piece.new s tag fed }
+            → MasksPiece (hashed_by order) self.old.state self.new.state piece.old piece.new s tag fed }
         ensures keys { (self.new.key ≡ self.old.key) × (self.new.nonce ≡ self.old.nonce) }
     {
         let nonce = Nonce::new(self.nonce);
@@ -353,18 +355,18 @@ impl KeyedPass {
         self.state.step(&PolyKeys, &mut mask, order, piece);
     }
 
-    // Masks a piece under AES-GCM by a multiplier of the type `M`.
+    // Masks and authenticates a piece under AES-GCM, with a multiplier of the type `M`.
     #[inline(never)]
-    pub(crate) fn mask_gcm_by<M: Keyed128, K: KeptKey, R: Order>(
+    pub(crate) fn mask_gcm_by<M: Keyed128, K: KeptKey>(
         &mut self,
         mask: &mut CtrBe<K>,
-        order: &R,
+        order: Order,
         piece: &mut [u8],
     )
         requires { self.old.state.length + length piece.old < 2 ^ 64 }
         ensures masks { (s : Setting) (tag fed : List ℕ) → construction_of s.suite ≡ ByGcm
             → MadeByGcm K.bytes mask.old s tag self.old.state.length
-            → MasksPiece R.hashed self.old.state self.new.state piece.old piece.new s tag fed }
+            → MasksPiece (hashed_by order) self.old.state self.new.state piece.old piece.new s tag fed }
         ensures keys { (self.new.key ≡ self.old.key) × (self.new.nonce ≡ self.old.nonce) }
     {
         let mut multiplier = M::none();
@@ -375,39 +377,39 @@ impl KeyedPass {
         self.state.step(&keys, mask, order, piece);
     }
 
-    // Masks a piece under AES-GCM.
+    // Masks and authenticates a piece under AES-GCM.
     #[inline(never)]
-    fn mask_gcm<R: Order>(&mut self, suite: Suite, order: &R, piece: &mut [u8])
+    fn mask_gcm(&mut self, suite: Suite, order: Order, piece: &mut [u8])
         requires { self.old.state.length + length piece.old ≤ 2 ^ 36 }
         ensures masks { (s : Setting) (tag fed : List ℕ) → construction_of s.suite ≡ ByGcm
             → take (key_length suite) self.old.key ≡ s.key → self.old.nonce ≡ s.nonce
-            → MasksPiece R.hashed self.old.state self.new.state piece.old piece.new s tag fed }
+            → MasksPiece (hashed_by order) self.old.state self.new.state piece.old piece.new s tag fed }
         ensures keys { (self.new.key ≡ self.old.key) × (self.new.nonce ≡ self.old.nonce) }
     {
         let key = self.cipher(suite);
         let nonce = Nonce::new(self.nonce);
         let mut mask = gcm::mask_at(&key, &nonce, self.state.length);
         match worth(piece.len() as u64) {
-            Multiples::Few => self.mask_gcm_by::<TableMul, &AesKey, R>(&mut mask, order, piece),
+            Multiples::Few => self.mask_gcm_by::<TableMul, &AesKey>(&mut mask, order, piece),
             Multiples::OfFourPowers => {
-                self.mask_gcm_by::<WideMul, &AesKey, R>(&mut mask, order, piece)
+                self.mask_gcm_by::<WideMul, &AesKey>(&mut mask, order, piece)
             }
         }
     }
 
-    // Masks a piece under AES-GCM-SIV by a multiplier of the type `M` and the message's encryption key.
+    // Masks and authenticates a piece under AES-GCM-SIV, by the message's encryption key and with a multiplier of the type `M`.
     #[inline(never)]
-    fn mask_siv_by<M: Keyed128, R: Order>(
+    fn mask_siv_by<M: Keyed128>(
         &mut self,
         key: &AesKey,
         tag: &[u8; 16],
-        order: &R,
+        order: Order,
         piece: &mut [u8],
     )
         requires { self.old.state.length + length piece.old ≤ 2 ^ 36 }
         ensures masks { (s : Setting) (fed : List ℕ) → construction_of s.suite ≡ ByGcmSiv
             → key.now ≡ encryption_key s.key s.nonce → self.old.nonce ≡ s.nonce
-            → MasksPiece R.hashed self.old.state self.new.state piece.old piece.new s tag.now fed }
+            → MasksPiece (hashed_by order) self.old.state self.new.state piece.old piece.new s tag.now fed }
         ensures keys { (self.new.key ≡ self.old.key) × (self.new.nonce ≡ self.old.nonce) }
     {
         let mut multiplier = M::none();
@@ -422,37 +424,36 @@ impl KeyedPass {
         self.state.step(&keys, &mut mask, order, piece);
     }
 
-    // Masks a piece under AES-GCM-SIV.
+    // Masks and authenticates a piece under AES-GCM-SIV.
     #[inline(never)]
-    fn mask_siv<R: Order>(&mut self, suite: Suite, tag: &[u8; 16], order: &R, piece: &mut [u8])
+    fn mask_siv(&mut self, suite: Suite, tag: &[u8; 16], order: Order, piece: &mut [u8])
         requires { self.old.state.length + length piece.old ≤ 2 ^ 36 }
         ensures masks { (s : Setting) (fed : List ℕ) → construction_of s.suite ≡ ByGcmSiv
             → take (key_length suite) self.old.key ≡ encryption_key s.key s.nonce → self.old.nonce ≡ s.nonce
-            → MasksPiece R.hashed self.old.state self.new.state piece.old piece.new s tag.now fed }
+            → MasksPiece (hashed_by order) self.old.state self.new.state piece.old piece.new s tag.now fed }
         ensures keys { (self.new.key ≡ self.old.key) × (self.new.nonce ≡ self.old.nonce) }
     {
         let key = self.cipher(suite);
         match worth(piece.len() as u64) {
-            Multiples::Few => self.mask_siv_by::<TableMul, R>(&key, tag, order, piece),
-            Multiples::OfFourPowers => self.mask_siv_by::<WideMul, R>(&key, tag, order, piece),
+            Multiples::Few => self.mask_siv_by::<TableMul>(&key, tag, order, piece),
+            Multiples::OfFourPowers => self.mask_siv_by::<WideMul>(&key, tag, order, piece),
         }
     }
 
-    // Masks a piece under a tag, and takes in what is authenticated of it, if it is within a limit. Returns whether it is.
-    // Only under AES-GCM-SIV does the mask depend on the tag. Each construction has its own function, since the compiler
-    // clears the locals of all arms of a `match` at its start.
-    pub(crate) fn mask<R: Order>(
+    // Masks a piece of the message with this tag and authenticates it, if all pieces together are within `limit`, and returns
+    // whether they are. Only under AES-GCM-SIV does the mask depend on the tag.
+    pub(crate) fn mask(
         &mut self,
         suite: Suite,
-        order: &R,
+        order: Order,
         tag: &[u8; 16],
         limit: u64,
         piece: &mut [u8],
     ) -> bool
         requires { limit ≤ text_limit suite }
         ensures masks { (s : Setting) (fed : List ℕ) → s.suite ≡ suite → result ≡ true
-            → self.old.state.length ≡ length fed → HoldsPass self.old s (R.hashed (mask_of s tag.now) fed)
-            → HoldsPass self.new s (R.hashed (mask_of s tag.now) (fed ++ piece.old))
+            → self.old.state.length ≡ length fed → HoldsPass self.old s (hashed_by order (mask_of s tag.now) fed)
+            → HoldsPass self.new s (hashed_by order (mask_of s tag.now) (fed ++ piece.old))
             × (piece.new ≡ masked (mask_of s tag.now) (length fed) piece.old) }
         ensures fits { result ≡ true → self.old.state.length + length piece.old ≤ limit }
         ensures past { result ≡ false → limit < self.old.state.length + length piece.old }
@@ -471,7 +472,7 @@ impl KeyedPass {
         true
     }
 
-    // Takes in a piece under AES-GCM by a multiplier of the type `M`.
+    // Authenticates a piece under AES-GCM, with a multiplier of the type `M`.
     #[inline(never)]
     pub(crate) fn take_gcm<M: Keyed128>(&mut self, piece: &[u8])
         requires { self.old.state.length + length piece.now < 2 ^ 64 }
@@ -487,7 +488,7 @@ impl KeyedPass {
         self.state.take(&keys, piece);
     }
 
-    // Takes in a piece under AES-GCM-SIV by a multiplier of the type `M` and the message's encryption key.
+    // Authenticates a piece under AES-GCM-SIV, by the message's encryption key and with a multiplier of the type `M`.
     #[inline(never)]
     fn take_siv_by<M: Keyed128>(&mut self, key: &AesKey, piece: &[u8])
         requires { self.old.state.length + length piece.now < 2 ^ 64 }
@@ -507,7 +508,7 @@ impl KeyedPass {
         self.state.take(&keys, piece);
     }
 
-    // Takes in a piece under AES-GCM-SIV.
+    // Authenticates a piece under AES-GCM-SIV.
     #[inline(never)]
     fn take_siv(&mut self, suite: Suite, piece: &[u8])
         requires { self.old.state.length + length piece.now < 2 ^ 64 }
@@ -523,7 +524,7 @@ impl KeyedPass {
         }
     }
 
-    // Takes in a piece, if it is within the suite's limit. Returns whether it is.
+    // Authenticates a piece, if all pieces together are within the suite's limit, and returns whether they are.
     pub(crate) fn take(&mut self, suite: Suite, piece: &[u8]) -> bool
         ensures takes { (s : Setting) (bytes : List ℕ) → s.suite ≡ suite → result ≡ true
             → HoldsPass self.old s bytes → HoldsPass self.new s (bytes ++ piece.now) }
@@ -547,8 +548,8 @@ impl KeyedPass {
         true
     }
 
-    // Takes in the text of a piece of a ciphertext under AES-GCM-SIV, by a multiplier of the type `M` and the message's
-    // encryption key.
+    // Authenticates the text of a piece of a ciphertext under AES-GCM-SIV, by the message's encryption key and with a multiplier
+    // of the type `M`.
     #[inline(never)]
     fn take_text_by<M: Keyed128>(&mut self, key: &AesKey, tag: &[u8; 16], piece: &[u8])
         requires { self.old.state.length + length piece.now ≤ 2 ^ 36 }
@@ -569,7 +570,7 @@ impl KeyedPass {
         self.state.take_text(&keys, &mut mask, piece);
     }
 
-    // Takes in the text of a piece of a ciphertext under AES-GCM-SIV.
+    // Authenticates the text of a piece of a ciphertext under AES-GCM-SIV.
     #[inline(never)]
     fn take_text(&mut self, suite: Suite, tag: &[u8; 16], piece: &[u8])
         requires { self.old.state.length + length piece.now ≤ 2 ^ 36 }
@@ -585,8 +586,8 @@ impl KeyedPass {
         }
     }
 
-    // Takes in what is authenticated of a piece of a ciphertext under a tag, if it is within the suite's limit: the piece, or
-    // under AES-GCM-SIV its text. Returns whether it is.
+    // Authenticates a piece of the ciphertext with this tag, or under AES-GCM-SIV the piece's text, if all pieces together are
+    // within the suite's limit, and returns whether they are. The piece stays as it is.
     pub(crate) fn check(&mut self, suite: Suite, tag: &[u8; 16], piece: &[u8]) -> bool
         ensures takes { (s : Setting) (body : List ℕ) → s.suite ≡ suite → result ≡ true
             → HoldsBody self.old s tag.now body → HoldsBody self.new s tag.now (body ++ piece.now) }
@@ -606,8 +607,8 @@ impl KeyedPass {
         }
     }
 
-    // Decrypts a piece of a ciphertext under a tag, and takes in what is authenticated of it, if it is within a limit. Returns
-    // whether it is.
+    // Decrypts a piece of the ciphertext with this tag and authenticates it, if all pieces together are within `limit`, and returns
+    // whether they are.
     pub(crate) fn open(
         &mut self,
         suite: Suite,
@@ -625,15 +626,15 @@ impl KeyedPass {
     {
         match suite {
             Suite::Aes128GcmSiv | Suite::Aes256GcmSiv => {
-                self.mask(suite, &MaskFirst, tag, limit, piece)
+                self.mask(suite, Order::MaskFirst, tag, limit, piece)
             }
-            _ => self.mask(suite, &HashFirst, tag, limit, piece),
+            _ => self.mask(suite, Order::HashFirst, tag, limit, piece),
         }
     }
 
     // ---- the end of a pass
 
-    // The tag over what was taken in, under AES-GCM.
+    // Returns the tag of what was authenticated under AES-GCM.
     #[inline(never)]
     fn tag_gcm(&self) -> Tag
         ensures { (s : Setting) (bytes : List ℕ) → construction_of s.suite ≡ ByGcm
@@ -645,7 +646,7 @@ impl KeyedPass {
         })
     }
 
-    // The tag over what was taken in, under AES-GCM-SIV.
+    // Returns the tag of what was authenticated under AES-GCM-SIV.
     #[inline(never)]
     fn tag_siv(&self, suite: Suite) -> Tag
         ensures { (s : Setting) (bytes : List ℕ) → construction_of s.suite ≡ ByGcmSiv
@@ -662,7 +663,7 @@ impl KeyedPass {
         })
     }
 
-    // The tag over what was taken in.
+    // Returns the tag of what was authenticated.
     pub(crate) fn tag(&self, suite: Suite) -> Tag
         ensures { (s : Setting) (bytes : List ℕ) → s.suite ≡ suite → HoldsPass self.now s bytes
             → result ≡ tag_over s.suite s.key s.nonce s.aad bytes }
@@ -674,7 +675,7 @@ impl KeyedPass {
         }
     }
 
-    // The tag of the text of a ciphertext that was taken in under a tag.
+    // Returns the tag of the text of the ciphertext that was authenticated.
     pub(crate) fn text_tag(&self, suite: Suite) -> Tag
         ensures { (s : Setting) (tag body : List ℕ) → s.suite ≡ suite → HoldsBody self.now s tag body
             → result ≡ tag_of s (masked (mask_of s tag) 0 body) }
@@ -682,7 +683,7 @@ impl KeyedPass {
         self.tag(suite)
     }
 
-    // The pass over no bytes of the same message, by the sum over its padded associated data.
+    // Returns a pass over the same message that begins again, after its associated data, of which `start` is the sum.
     pub(crate) fn restarted(&self, start: Sum) -> KeyedPass
         ensures holds { (s : Setting) (bytes : List ℕ) → HoldsPass self.now s bytes → IsStart start s
             → HoldsPass result s [] }

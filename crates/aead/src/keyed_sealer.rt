@@ -8,7 +8,7 @@ ghost use Rattle.aead.specs.Refusals.{SealRefused};
 ghost use Rattle.aead.specs.PassStates.{HoldsState};
 ghost use Rattle.aead.specs.KeyedPasses.{setting_of, BeginRefused, LengthsRefused};
 
-use crate::beside::MaskFirst;
+use crate::beside::Order;
 use crate::keyed_pass::KeyedPass;
 use crate::pass_state::PassState;
 use crate::suite::Suite;
@@ -113,10 +113,7 @@ impl KeyedSealer {
         ensures kept { OnErr result ((self.new ≡ self.old) × (piece.new ≡ piece.old)) }
         ensures fault { FitsIn Fault.TextTooLong result (sealer_count self.old) (length piece.old) (text_limit suite) }
     {
-        if self
-            .pass
-            .mask(suite, &MaskFirst, &[0; 16], suite.text_limit(), piece)
-        {
+        if self.pass.mask(suite, Order::MaskFirst, &[0; 16], suite.text_limit(), piece) {
             Ok(())
         } else {
             Err(Fault::TextTooLong)

@@ -9,7 +9,7 @@ ghost use Rattle.aead.specs.Pieces.{IsInFirstReading, IsInSecondReading, Repeats
 ghost use Rattle.aead.specs.Refusals.{SealRefused};
 ghost use Rattle.aead.specs.KeyedPasses.{setting_of, BeginRefused, LengthsRefused};
 
-use crate::beside::HashFirst;
+use crate::beside::Order;
 use crate::keyed_pass::KeyedPass;
 use crate::keyed_passes::KeyedPasses;
 use crate::suite::Suite;
@@ -169,7 +169,11 @@ impl KeyedSiv {
     {
         let limit = self.passes.first.min(suite.text_limit());
         let tag = self.passes.tag;
-        if self.passes.pass.mask(suite, &HashFirst, &tag, limit, piece) {
+        if self
+            .passes
+            .pass
+            .mask(suite, Order::HashFirst, &tag, limit, piece)
+        {
             Ok(())
         } else {
             Err(Fault::SourceChanged)

@@ -40,7 +40,6 @@ mod one_pass;
 mod opener;
 mod pass_state;
 mod sealer;
-mod second_reading;
 mod siv;
 mod siv_keys;
 mod suite;

@@ -1,5 +1,5 @@
-//! The masks of the constructions, made piece by piece: the key stream of ChaCha20 (RFC 8439, 2.8), and the counter
-//! streams of AES-GCM (SP 800-38D, 7.1) and AES-GCM-SIV (RFC 8452, 4).
+//! The masks that texts are XORed with, each of which is made piece by piece: the key stream of ChaCha20 (RFC 8439, 2.8), and
+//! the counter streams of AES-GCM (SP 800-38D, 7.1) and AES-GCM-SIV (RFC 8452, 4).
 
 ghost use Rattle.std.specs.Prelude.{◌≡◌, ◌+◌, ◌<◌, ◌≤◌, ℕ, List, length};
 ghost use Rattle.octets.specs.Masked.{masked};
@@ -12,17 +12,17 @@ use aes::{CtrBe, CtrLe, KeptKey};
 use chacha::{ChaStream, RUN};
 use octets::{Idle, Stream};
 
-// A mask of which some bytes were made.
+// The mask of a message, of which some bytes were made.
 pub(crate) trait MaskStream: Stream + Drop {
-    // It has made so many bytes of the mask of a message under a tag.
+    // The mask is that of a message with a tag, and this many bytes of it were made.
     ghost made: { Self → Setting → List ℕ → ℕ → Type 0 };
 
-    // How many of so many bytes are masked at once, while a hash takes in others: about `most`, or all.
+    // Returns how many of the next `length` bytes are masked at once, while others are hashed: about `most`, or all of them.
     fn part(&self, length: usize, most: usize) -> usize
         ensures some { 0 < length → 0 < result }
         ensures within { result ≤ length };
 
-    // XORs the next bytes of the mask into a piece.
+    // XORs the next bytes of the mask into `piece`.
     fn apply_to(&mut self, piece: &mut [u8])
         ensures { (s : Setting) (tag : List ℕ) (n : ℕ) → made self.old s tag n
             → n + length piece.old ≤ text_limit s.suite
@@ -31,14 +31,14 @@ pub(crate) trait MaskStream: Stream + Drop {
         self.apply_beside(piece, &mut Idle::new());
     }
 
-    // A call beside other work masks as one without it.
+    // A stream that does other work beside it masks as it does without.
     ghost masks: { (a b : Self) (was now : List ℕ) → Self.did a b was now → Masks made a b was now };
 }
 
-// The longest part: it and the one before it fit the processor's first cache.
+// The longest part. It fits the processor's first cache together with the part before it, which is hashed meanwhile.
 const LONGEST: usize = 8192;
 
-// The whole runs of ChaCha20 within so many bytes: one at least, and no more than a part may have.
+// Returns the number of bytes in the whole runs of ChaCha20 within `most` bytes: at least one run, and at most the longest part.
 pub(crate) fn runs(most: usize) -> usize
     ensures some { 0 < result }
     ensures few { result ≤ 8192 }
@@ -46,7 +46,7 @@ pub(crate) fn runs(most: usize) -> usize
     (most.min(LONGEST) / RUN * RUN).max(RUN)
 }
 
-// The key stream from counter 1 on (RFC 8439, 2.8).
+// Under ChaCha20-Poly1305 the mask is the key stream from counter 1 on (RFC 8439, 2.8).
 impl MaskStream for ChaStream {
     ghost made = { MadeByChaCha };
 
@@ -57,7 +57,7 @@ impl MaskStream for ChaStream {
     ghost masks = { chacha_masks };
 }
 
-// The counter stream from inc32(J0) on (SP 800-38D, 7.1).
+// Under AES-GCM the mask is the counter stream from inc32(J0) on (SP 800-38D, 7.1).
 impl<K: KeptKey> MaskStream for CtrBe<K> {
     ghost made = { MadeByGcm K.bytes };
 
@@ -68,7 +68,7 @@ impl<K: KeptKey> MaskStream for CtrBe<K> {
     ghost masks = { gcm_masks K.bytes };
 }
 
-// The counter stream that the tag begins (RFC 8452, 4).
+// Under AES-GCM-SIV the mask is the counter stream whose first block is made from the tag (RFC 8452, 4).
 impl<K: KeptKey> MaskStream for CtrLe<K> {
     ghost made = { MadeByGcmSiv K.bytes };
 

@@ -1,4 +1,4 @@
-//! The state of a message that is masked and authenticated piece by piece, in either construction.
+//! The state of a message that is masked and authenticated piece by piece, under any construction.
 
 ghost use Rattle.std.specs.Prelude.{◌≡◌, ◌+◌, ◌<◌, ◌≤◌, ◌^◌, ◌++◌, ℕ, List, [], length};
 ghost use Rattle.octets.specs.Masked.{masked};
@@ -11,24 +11,26 @@ use crate::hashes::TagHash;
 use crate::mask::MaskStream;
 use octets::Tag;
 
-// Pieces are masked in place, and authenticated as they come or as they leave.
+// The mask and the authenticator of a message. Each piece is masked in place and authenticated, in the order of the message:
+// before it is masked or after.
 #[derive(Drop)]
-pub(crate) struct Masking<S, H, R> {
+pub(crate) struct Masking<S, H> {
     pub(crate) mask: S,
     pub(crate) authenticator: Authenticator<H>,
-    pub(crate) order: R,
-    // The most bytes of all pieces.
+    // The most bytes that all pieces may have together.
     pub(crate) limit: u64,
     ghost within: { authenticator.length ≤ limit },
     ghost limit_small: { limit < 2 ^ 64 },
 }
 
-impl<S: MaskStream, H: TagHash, R: Order> Masking<S, H, R> {
+impl<S: MaskStream, H: TagHash> Masking<S, H> {
+    ghost use Rattle.aead.specs.Code.Masks.{hashed_by};
     ghost use Rattle.aead.specs.Code.Maskings.{Task, HoldsMasking, task_mask};
+    ghost use Rattle.aead.specs.declared.beside.Order.{Order};
 
-    // One that has taken in nothing.
+    // Returns the state of a message of which nothing was masked or authenticated.
     #[inline(always)]
-    pub(crate) fn empty(mask: S, hash: H, order: R, limit: u64) -> Masking<S, H, R>
+    pub(crate) fn empty(mask: S, hash: H, limit: u64) -> Masking<S, H>
         ensures mask { result.mask ≡ mask }
         ensures hash { result.authenticator.hash ≡ hash }
         ensures none { result.authenticator.length ≡ 0 }
@@ -37,62 +39,56 @@ impl<S: MaskStream, H: TagHash, R: Order> Masking<S, H, R> {
         Masking {
             mask,
             authenticator: Authenticator::empty(hash),
-            order,
             limit,
         }
     }
 
-    // Takes in the associated data, before any piece. The state is not moved afterwards, since a move would copy it.
+    // Authenticates the associated data, which comes before any piece. This is a method of a state that is in its place already,
+    // since a state that is returned is copied.
     #[inline(always)]
     pub(crate) fn begin(&mut self, aad: &[u8])
         requires { self.old.authenticator.length ≡ 0 }
-        ensures holds { (t : Task) → S.made self.old.mask t.setting t.tag 0
+        ensures holds { (o : Order) (t : Task) → S.made self.old.mask t.setting t.tag 0
             → H.held self.old.authenticator.hash t.setting [] → t.setting.aad ≡ aad.now
             → length aad.now ≤ aad_limit t.setting.suite → self.old.limit ≡ t.limit
-            → t.limit ≤ text_limit t.setting.suite → HoldsMasking S.made H.held R.hashed self.new t [] }
+            → t.limit ≤ text_limit t.setting.suite → HoldsMasking S.made H.held (hashed_by o) self.new t [] }
         ensures none { self.new.authenticator.length ≡ 0 }
         ensures limit { self.new.limit ≡ self.old.limit }
     {
         self.authenticator.begin(aad);
     }
 
-    // How many bytes more are within the limit.
-    pub(crate) fn room(&self) -> u64
-        ensures { result + self.now.authenticator.length ≡ self.now.limit }
-    {
-        self.limit - self.authenticator.length
-    }
-
-    // Masks the next piece.
+    // Masks the next piece and authenticates it. All pieces of a message are given in one order.
     #[inline(always)]
-    pub(crate) fn update(&mut self, piece: &mut [u8])
+    pub(crate) fn update(&mut self, order: Order, piece: &mut [u8])
         requires { self.old.authenticator.length + length piece.old ≤ self.old.limit }
-        ensures masked { (t : Task) (fed : List ℕ) → HoldsMasking S.made H.held R.hashed self.old t fed
-            → HoldsMasking S.made H.held R.hashed self.new t (fed ++ piece.old)
+        ensures masked { (t : Task) (fed : List ℕ) → HoldsMasking S.made H.held (hashed_by order) self.old t fed
+            → HoldsMasking S.made H.held (hashed_by order) self.new t (fed ++ piece.old)
             × (piece.new ≡ masked (task_mask t) (length fed) piece.old) }
         ensures length { self.new.authenticator.length ≡ self.old.authenticator.length + length piece.old }
         ensures limit { self.new.limit ≡ self.old.limit }
     {
-        self.order
-            .step(&mut self.mask, &mut self.authenticator, piece);
+        order.step(&mut self.mask, &mut self.authenticator, piece);
     }
 
-    // The tag of all pieces. The state is of no use after it.
+    // Returns the tag of all pieces. The state must not be used afterwards.
     #[inline(always)]
     pub(crate) fn tag(&mut self) -> Tag
-        ensures { (t : Task) (fed : List ℕ) → HoldsMasking S.made H.held R.hashed self.old t fed
+        ensures { (hashed : (ℕ → ℕ) → List ℕ → List ℕ) (t : Task) (fed : List ℕ)
+            → HoldsMasking S.made H.held hashed self.old t fed
             → result ≡ tag_over t.setting.suite t.setting.key t.setting.nonce t.setting.aad
-            (R.hashed (task_mask t) fed) }
+            (hashed (task_mask t) fed) }
     {
         self.authenticator.tag()
     }
 
-    // The tag of all pieces.
+    // Returns the tag of all pieces, and consumes the state.
     #[inline(always)]
     pub(crate) fn finish(self) -> Tag
-        ensures { (t : Task) (fed : List ℕ) → HoldsMasking S.made H.held R.hashed self t fed
+        ensures { (hashed : (ℕ → ℕ) → List ℕ → List ℕ) (t : Task) (fed : List ℕ)
+            → HoldsMasking S.made H.held hashed self t fed
             → result ≡ tag_over t.setting.suite t.setting.key t.setting.nonce t.setting.aad
-            (R.hashed (task_mask t) fed) }
+            (hashed (task_mask t) fed) }
     {
         self.authenticator.finish()
     }

@@ -8,7 +8,7 @@ ghost use Rattle.aead.specs.Refusals.{OpenRefused};
 ghost use Rattle.aead.specs.InPlace.{OpensInPlace};
 
 use crate::authenticator::Authenticator;
-use crate::beside::{HashFirst, MaskFirst};
+use crate::beside::Order;
 use crate::hashes::TagHash;
 use crate::mask::MaskStream;
 use crate::masking::Masking;
@@ -54,9 +54,9 @@ pub(crate) fn seal_whole<N: OnePass>(message: &N, aad: &[u8], text: &mut [u8]) -
 {
     tells_bytes(text);
     let limit = message.suite().text_limit();
-    let mut sealing = Masking::empty(message.mask(), message.hash(), MaskFirst, limit);
+    let mut sealing = Masking::empty(message.mask(), message.hash(), limit);
     sealing.begin(aad);
-    sealing.update(text);
+    sealing.update(Order::MaskFirst, text);
     sealing.tag()
 }
 
@@ -97,9 +97,9 @@ pub(crate) fn open_beside<N: OnePass>(
 {
     let given = tag.bytes();
     let limit = message.suite().text_limit();
-    let mut opening = Masking::empty(message.mask(), message.hash(), HashFirst, limit);
+    let mut opening = Masking::empty(message.mask(), message.hash(), limit);
     opening.begin(aad);
-    opening.update(body);
+    opening.update(Order::HashFirst, body);
     if same(opening.tag().bytes(), given) {
         Ok(())
     } else {

@@ -14,7 +14,7 @@ ghost use Rattle.aead.specs.Pieces.{IsUnder, HasTakenIn, IsInFirstPass, IsInSeco
 
 use crate::aead::Aead;
 use crate::any::{AnyAead, AnyOnePass};
-use crate::beside::HashFirst;
+use crate::beside::Order;
 use crate::chacha_poly::ChaChaPoly;
 use crate::gcm::{self, Gcm, hash_keys};
 use crate::gcm_siv::GcmSiv;
@@ -124,10 +124,10 @@ fn decrypt_by_gcm(cipher: &Gcm, pass: &mut KeyedPass, limit: u64, piece: &mut [u
     match worth(piece.len() as u64) {
         Multiples::Few => {
             let keys = GhashKeys { multiplier };
-            pass.state.step(&keys, &mut mask, &HashFirst, piece);
+            pass.state.step(&keys, &mut mask, Order::HashFirst, piece);
         }
         Multiples::OfFourPowers => {
-            pass.mask_gcm_by::<WideMul, &AesKey, HashFirst>(&mut mask, &HashFirst, piece)
+            pass.mask_gcm_by::<WideMul, &AesKey>(&mut mask, Order::HashFirst, piece)
         }
     }
     true

@@ -63,6 +63,7 @@ impl Sum {
 
 impl PassState {
     ghost use Rattle.aead.specs.PassStates.{zero_state, IsHashKey, IsStart, HoldsNumbers};
+    ghost use Rattle.aead.specs.Code.Masks.{hashed_by};
     ghost use Rattle.aead.specs.Code.PassSteps.{MasksPiece, TakesPiece, TakesPieceText};
 
     /// All zeros.
@@ -171,17 +172,17 @@ impl PassState {
 
     // Masks a piece, by a mask of which as many bytes were made as were taken in, and takes in what is authenticated of it.
     #[inline(never)]
-    pub(crate) fn step<K: HashKeys, S: MaskStream, R: Order>(
+    pub(crate) fn step<K: HashKeys, S: MaskStream>(
         &mut self,
         keys: &K,
         mask: &mut S,
-        order: &R,
+        order: Order,
         piece: &mut [u8],
     )
         requires { self.old.length + length piece.old < 2 ^ 64 }
         ensures masks { (s : Setting) (tag fed : List ℕ) → K.serves keys.now s
             → S.made mask.old s tag self.old.length
-            → MasksPiece R.hashed self.old self.new piece.old piece.new s tag fed }
+            → MasksPiece (hashed_by order) self.old self.new piece.old piece.new s tag fed }
         ensures length { self.new.length ≡ self.old.length + length piece.old }
     {
         let mut taken = self.taken(keys);

@@ -15,7 +15,7 @@ ghost use Rattle.aead.specs.Code.PassSteps.{MasksPiece, AddsPiece};
 
 use crate::aead::Aead;
 use crate::any::AnyOnePass;
-use crate::beside::MaskFirst;
+use crate::beside::Order;
 use crate::chacha_poly::{self, one_time_key};
 use crate::gcm::{self, hash_keys};
 use crate::hashes::{GhashKeys, PolyKeys};
@@ -68,7 +68,7 @@ fn mask_long<K: KeptKey>(
     let keys = GhashKeys {
         multiplier: &multiplier,
     };
-    state.step(&keys, mask, &MaskFirst, piece);
+    state.step(&keys, mask, Order::MaskFirst, piece);
 }
 
 // Masks a piece.
@@ -81,14 +81,19 @@ fn mask(cipher: &AnyOnePass, nonce: &Nonce, state: &mut PassState, piece: &mut [
     match cipher {
         AnyOnePass::ChaCha(cipher) => {
             let mut mask = chacha_poly::mask_at(cipher.key(), nonce, state.length);
-            state.step(&PolyKeys, &mut mask, &MaskFirst, piece);
+            state.step(&PolyKeys, &mut mask, Order::MaskFirst, piece);
         }
         AnyOnePass::Gcm(cipher) => {
             let (key, ghash_key, multiplier) = cipher.keys();
             let mut mask = gcm::mask_at(key, nonce, state.length);
             match worth(piece.len() as u64) {
                 Multiples::Few => {
-                    state.step(&GhashKeys { multiplier }, &mut mask, &MaskFirst, piece)
+                    state.step(
+                        &GhashKeys { multiplier },
+                        &mut mask,
+                        Order::MaskFirst,
+                        piece,
+                    )
                 }
                 Multiples::OfFourPowers => mask_long(state, ghash_key, &mut mask, piece),
             }

@@ -10,7 +10,7 @@ ghost use Rattle.aead.specs.Code.States.{MadeByGcmSiv};
 ghost use Rattle.aead.specs.Code.PassSteps.{MasksPiece, TakesPiece};
 
 use crate::aead::Aead;
-use crate::beside::HashFirst;
+use crate::beside::Order;
 use crate::derived_keys::joined;
 use crate::gcm_siv::{self, GcmSiv};
 use crate::hashes::{HashKeys, PolyvalKeys};
@@ -116,7 +116,7 @@ impl SivKeys {
     {
         let mut multiplier = WideMul::none();
         multiplier.set(&self.hash_key);
-        state.step(&self.of_hash(&multiplier), mask, &HashFirst, piece);
+        state.step(&self.of_hash(&multiplier), mask, Order::HashFirst, piece);
     }
 
     // Takes in a piece and masks it under a tag.
@@ -129,7 +129,7 @@ impl SivKeys {
         match worth(piece.len() as u64) {
             Multiples::Few => {
                 let keys = self.of_hash(&self.multiplier);
-                state.step(&keys, &mut mask, &HashFirst, piece);
+                state.step(&keys, &mut mask, Order::HashFirst, piece);
             }
             Multiples::OfFourPowers => self.mask_long(state, &mut mask, piece),
         }

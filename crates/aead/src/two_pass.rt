@@ -7,7 +7,7 @@ ghost use Rattle.aead.specs.Ciphers.{Keyed, setting};
 ghost use Rattle.aead.specs.InPlace.{OpensInPlace};
 
 use crate::authenticator::Authenticator;
-use crate::beside::MaskFirst;
+use crate::beside::Order;
 use crate::hashes::TagHash;
 use crate::mask::MaskStream;
 use crate::masking::Masking;
@@ -68,9 +68,9 @@ pub(crate) fn open_whole<N: TwoPass>(
 {
     let given = tag.bytes();
     let limit = message.suite().text_limit();
-    let mut opening = Masking::empty(message.mask(tag), message.hash(), MaskFirst, limit);
+    let mut opening = Masking::empty(message.mask(tag), message.hash(), limit);
     opening.begin(aad);
-    opening.update(body);
+    opening.update(Order::MaskFirst, body);
     if same(opening.tag().bytes(), given) {
         return Ok(());
     }

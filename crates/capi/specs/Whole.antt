@@ -1,7 +1,9 @@
 -- The outcomes of C's calls on whole messages.
 use Rattle.std.specs.Prelude.{◌≡◌, ◌≢◌, ℕ, ◌+◌, ◌<◌, ◌≤◌, List, ◌++◌, length, replicate}
 use Rattle.octets.specs.declared.fault.Fault.{Fault}
-use Rattle.octets.specs.declared.fault.Fault.TheVariants.{TextTooLong, TooShort, TagMismatch}
+use Rattle.octets.specs.declared.fault.Fault.TheVariants.{KeyLength, NonceLength, TextTooLong, AadTooLong}
+use Rattle.octets.specs.declared.fault.Fault.TheVariants.{TooShort, TagMismatch, WrapLength, WrapIntegrity}
+use Rattle.octets.specs.declared.fault.Fault.TheVariants.{OutOfMemory, StreamEnd, Read, Write, SourceChanged}
 use Rattle.aead.specs.Suites.{text_limit, aad_limit}
 use Rattle.aead.specs.Sealing.{Setting, Fits, Opened, IsNoSealing}
 use Rattle.aead.specs.Refusals.{FitsSealed}
@@ -32,6 +34,23 @@ WasOpened s text tag text' = HasLengths s × Opened s (text ++ tag) text'
 abbrev pub BodyRefused : Setting → (text tag : List ℕ) → Fault → Type 0
 BodyRefused s text tag TagMismatch = HasLengths s × Fits s text × IsNoSealing s (text ++ tag)
 BodyRefused s text tag fault = LengthRefused s text fault
+
+-- a length that refuses a text refuses a ciphertext
+pub length_refuses : (s : Setting) (text tag : List ℕ) (fault : Fault) → LengthRefused s text fault
+    → BodyRefused s text tag fault
+length_refuses s text tag KeyLength h = h
+length_refuses s text tag NonceLength h = h
+length_refuses s text tag TextTooLong h = h
+length_refuses s text tag AadTooLong h = h
+length_refuses s text tag TooShort h = h
+length_refuses s text tag TagMismatch h = absurd h
+length_refuses s text tag WrapLength h = h
+length_refuses s text tag WrapIntegrity h = h
+length_refuses s text tag OutOfMemory h = h
+length_refuses s text tag StreamEnd h = h
+length_refuses s text tag Read h = h
+length_refuses s text tag Write h = h
+length_refuses s text tag SourceChanged h = h
 
 -- they were not opened, and none of the bytes was changed
 abbrev pub WasNotOpened : Setting → (text tag text' : List ℕ) → Fault → Type 0

@@ -1,10 +1,10 @@
 //! The calls for C on a key that is kept between messages: what is made of the key alone is made once.
 
-ghost use Rattle.std.specs.Prelude.{◌≡◌, ◌≢◌, ℕ, List, [], true, false, MatchResult, OnErr};
+ghost use Rattle.std.specs.Prelude.{◌≡◌, ◌≢◌, ◌≤◌, ℕ, List, [], length, true, false, MatchResult, OnErr};
 ghost use Rattle.octets.specs.Numbers.{HasOutcome};
 ghost use Rattle.aead.specs.declared.suite.Suite.{Suite};
-ghost use Rattle.aead.specs.Suites.{ByGcmSiv, construction_of, is_one_pass, suite_number};
-ghost use Rattle.aead.specs.KeyedPasses.{setting_of, BeginRefused};
+ghost use Rattle.aead.specs.Suites.{ByGcmSiv, construction_of, is_one_pass, aad_limit, text_limit, suite_number};
+ghost use Rattle.aead.specs.KeyedPasses.{setting_of, HasLengths, BeginRefused};
 ghost use Rattle.aead.specs.KeyedPieces.{HoldsKeyedText, HoldsFirstReading, HoldsFirstPass};
 ghost use Rattle.capi.specs.Suites.{unknown_suite, not_begun};
 ghost use Rattle.capi.specs.Whole.{WasSealed, WasNotSealed, WasOpened, WasNotOpened, SealsTo, OpensTo};
@@ -19,9 +19,9 @@ use crate::sealer::StoredSealer;
 use crate::siv::StoredSiv;
 use crate::stored_key::{KEY, KeyNumbers, StoredKey};
 use crate::suites::{NOT_BEGUN, UNKNOWN_SUITE, is_siv, marked, suite_numbered};
-use crate::whole::{Direction, Keys, Opening, Sealing, open_to, run_gcm, seal_to};
+use crate::whole::{Direction, Keys, Opening, Sealing, open_to, run_gcm, run_in_place, seal_to};
 use aead::{BorrowedGcm, ChaChaPoly, GcmSiv, KeyedOpener, KeyedSealer, KeyedSiv, Suite};
-use octets::{Fault, Key32, WIDE, outcome_number};
+use octets::{Fault, Key32, Nonce, WIDE, outcome_number};
 
 // Whether the multiples that are kept hash a message sooner than others made for it. Made ones start at multiples of 16
 // bytes in memory, so that a sum takes one from there without a load before it; wide vectors spare that load anywhere.
@@ -29,16 +29,19 @@ fn is_short(aad: &[u8], text: &[u8]) -> bool {
     WIDE || aad.len() < 64 && text.len() < 96
 }
 
-// Seals or opens under a kept key and the bytes of a nonce.
+// Seals or opens under a kept key with a nonce, once all lengths are known to fit.
 fn run_by_kept<D: Direction>(
     kept: &StoredKey,
     suite: Suite,
-    nonce: &[u8],
+    nonce: &Nonce,
     aad: &[u8],
     text: &mut [u8],
     tag: &mut [u8; 16],
 ) -> Result<(), Fault>
-    requires { kept.now.numbers.mark ≡ key_mark suite }
+    requires marked { kept.now.numbers.mark ≡ key_mark suite }
+    requires lengths { HasLengths (setting_of suite (first_key suite kept.now.numbers.key) nonce.now aad.now) }
+    requires aad_fits { length aad.now ≤ aad_limit suite }
+    requires text_fits { length text.old ≤ text_limit suite }
     ensures { let s = setting_of suite (first_key suite kept.now.numbers.key) nonce.now aad.now in
         MatchResult result (λ _. D.done s text.old tag.old text.new tag.new)
         (D.refused s text.old tag.old text.new tag.new) }
@@ -91,7 +94,7 @@ impl<'a> Keys for ByKept<'a> {
 
     fn run<D: Direction>(
         &self,
-        nonce: &[u8],
+        nonce: &Nonce,
         aad: &[u8],
         text: &mut [u8],
         tag: &mut [u8; 16],
@@ -229,7 +232,8 @@ pub extern "C" fn aeadkit_seal_in_place_with(
 {
     match marked(KEY, kept.numbers.mark) {
         Some(suite) => {
-            outcome_number(ByKept { suite, kept }.run::<Sealing>(nonce, aad, text, tag))
+            let keys = ByKept { suite, kept };
+            outcome_number(run_in_place::<Sealing, ByKept>(&keys, nonce, aad, text, tag))
         }
         None => NOT_BEGUN,
     }
@@ -253,8 +257,9 @@ pub extern "C" fn aeadkit_open_in_place_with(
 {
     match marked(KEY, kept.numbers.mark) {
         Some(suite) => {
+            let keys = ByKept { suite, kept };
             let mut given = *tag;
-            outcome_number(ByKept { suite, kept }.run::<Opening>(nonce, aad, text, &mut given))
+            outcome_number(run_in_place::<Opening, ByKept>(&keys, nonce, aad, text, &mut given))
         }
         None => NOT_BEGUN,
     }

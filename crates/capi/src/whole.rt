@@ -1,35 +1,34 @@
 //! The calls for C on whole messages: in place with the tag apart, or into another output. Each makes what it needs of the key
 //! anew.
 
-ghost use Rattle.std.specs.Prelude.{◌≡◌, ◌≢◌, ◌≤◌, ◌++◌, ℕ, List, length, refl, MatchOption, MatchResult};
+ghost use Rattle.std.specs.Prelude.{◌≡◌, ◌≢◌, ◌≤◌, ◌++◌, ℕ, List, length, refl, MatchResult};
 ghost use Rattle.octets.specs.declared.fault.Fault.{Fault};
-ghost use Rattle.octets.specs.declared.fault.Fault.TheVariants.{KeyLength};
 ghost use Rattle.octets.specs.Numbers.{HasOutcome};
 ghost use Rattle.aead.specs.declared.suite.Suite.{Suite};
-ghost use Rattle.aead.specs.Suites.{construction_of, key_length, aad_limit, ByGcm, suite_number};
+ghost use Rattle.aead.specs.Suites.{construction_of, key_length, aad_limit, text_limit, ByGcm, suite_number};
 ghost use Rattle.aead.specs.Sealing.{Setting, hash_key};
 ghost use Rattle.aead.specs.Ciphers.{Keyed, setting};
 ghost use Rattle.aead.specs.KeyedPasses.{setting_of, HasLengths, BeginRefused};
 ghost use Rattle.capi.specs.Suites.{unknown_suite};
-ghost use Rattle.capi.specs.Whole.{WasSealed, WasNotSealed, WasOpened, WasNotOpened, SealsTo, OpensTo};
+ghost use Rattle.capi.specs.Whole.{WasSealed, WasNotSealed, WasOpened, WasNotOpened, SealsTo, OpensTo, LengthRefused};
+ghost use Rattle.capi.specs.Whole.{length_refuses};
 
 use crate::suites::{OUTPUT_LENGTH, UNKNOWN_SUITE, suite_numbered};
 use aead::{Aead, ChaChaPoly, GcmKeys, GcmSiv, Suite, hash_subkey};
 use aes::AesKey;
 use octets::{Block, Fault, Key32, Nonce, Tag, outcome_number};
 
-// The nonce with these 12 bytes. In a `Result` it would share its first byte with the fault, and LLVM copies that byte
-// by itself, so that the cipher waits for it.
-fn nonce_of(bytes: &[u8]) -> Option<Nonce>
-    ensures { MatchOption result (length bytes.now ≢ 12) (λ n. (n ≡ bytes.now) × (length bytes.now ≡ 12)) }
+// Returns the nonce with these 12 bytes. It is not taken out of a `Result`: there it would share its first byte with the fault, and
+// LLVM copies that byte by itself, so that the cipher waits for it.
+#[inline(always)]
+pub(crate) fn nonce_of(bytes: &[u8]) -> Nonce
+    requires { length bytes.now ≡ 12 }
+    ensures { result ≡ bytes.now }
 {
-    match bytes.as_array() {
-        Some(bytes) => Some(Nonce::new(*bytes)),
-        None => None,
-    }
+    Nonce::new(*bytes.as_array().unwrap())
 }
 
-// Sealing or opening a text in place, with its tag apart.
+// Sealing or opening a text in place, with its tag apart, once all lengths are known to fit.
 pub(crate) trait Direction {
     // The text and the tag before and after a call that succeeds.
     ghost done: { Setting → (text tag text' tag' : List ℕ) → Type 0 };
@@ -37,22 +36,24 @@ pub(crate) trait Direction {
     // The text and the tag before and after a call that is refused, and its fault.
     ghost refused: { Setting → (text tag text' tag' : List ℕ) → Fault → Type 0 };
 
-    // Seals or opens by a cipher, under the bytes of a nonce.
+    // Seals or opens by a cipher with a nonce.
     fn run<C: Aead>(
         cipher: &C,
-        nonce: &[u8],
+        nonce: &Nonce,
         aad: &[u8],
         text: &mut [u8],
         tag: &mut [u8; 16],
     ) -> Result<(), Fault>
-        requires { length (C.keyed cipher.now).key ≡ key_length (C.keyed cipher.now).suite }
+        requires lengths { HasLengths (setting (C.keyed cipher.now) nonce.now aad.now) }
+        requires aad_fits { length aad.now ≤ aad_limit (C.keyed cipher.now).suite }
+        requires text_fits { length text.old ≤ text_limit (C.keyed cipher.now).suite }
         ensures { let s = setting (C.keyed cipher.now) nonce.now aad.now in
             MatchResult result (λ _. done s text.old tag.old text.new tag.new)
             (refused s text.old tag.old text.new tag.new) };
 
-    // A key of another length is refused.
-    ghost key: { (s : Setting) (text tag : List ℕ) → length s.key ≢ key_length s.suite
-        → refused s text tag text tag KeyLength };
+    // A length that does not fit is refused before anything is changed.
+    ghost lengths: { (s : Setting) (text tag : List ℕ) (fault : Fault) → LengthRefused s text fault
+        → refused s text tag text tag fault };
 }
 
 // A text becomes its ciphertext, and its tag is written.
@@ -63,22 +64,16 @@ impl Direction for Sealing {
 
     ghost refused = { WasNotSealed };
 
-    ghost key = { λ s text tag long. (refl, refl, long) };
+    ghost lengths = { λ s text tag fault long. (refl, refl, long) };
 
     fn run<C: Aead>(
         cipher: &C,
-        nonce: &[u8],
+        nonce: &Nonce,
         aad: &[u8],
         text: &mut [u8],
         tag: &mut [u8; 16],
     ) -> Result<(), Fault> {
-        let Some(nonce) = nonce_of(nonce) else {
-            return Err(Fault::NonceLength);
-        };
-        let suite = cipher.suite();
-        suite.check_aad(aad)?;
-        suite.check_text(text)?;
-        *tag = *cipher.seal_fitting(&nonce, aad, text).bytes();
+        *tag = *cipher.seal_fitting(nonce, aad, text).bytes();
         Ok(())
     }
 }
@@ -91,22 +86,16 @@ impl Direction for Opening {
 
     ghost refused = { λ s text tag text' tag'. WasNotOpened s text tag text' };
 
-    ghost key = { λ s text tag long. (refl, long) };
+    ghost lengths = { λ s text tag fault long. (refl, length_refuses s text tag fault long) };
 
     fn run<C: Aead>(
         cipher: &C,
-        nonce: &[u8],
+        nonce: &Nonce,
         aad: &[u8],
         text: &mut [u8],
         tag: &mut [u8; 16],
     ) -> Result<(), Fault> {
-        let Some(nonce) = nonce_of(nonce) else {
-            return Err(Fault::NonceLength);
-        };
-        let suite = cipher.suite();
-        suite.check_aad(aad)?;
-        suite.check_text(text)?;
-        cipher.open_fitting(&nonce, aad, text, &Tag::new(*tag))
+        cipher.open_fitting(nonce, aad, text, &Tag::new(*tag))
     }
 }
 
@@ -116,7 +105,7 @@ pub(crate) fn run_gcm<D: Direction>(
     suite: Suite,
     key: &AesKey,
     ghash_key: &Block,
-    nonce: &[u8],
+    nonce: &Nonce,
     aad: &[u8],
     text: &mut [u8],
     tag: &mut [u8; 16],
@@ -124,6 +113,9 @@ pub(crate) fn run_gcm<D: Direction>(
     requires by_gcm { construction_of suite ≡ ByGcm }
     requires long { length key.now ≡ key_length suite }
     requires ghash_key { ghash_key.now ≡ hash_key key.now }
+    requires nonce { length nonce.now ≡ 12 }
+    requires aad_fits { length aad.now ≤ aad_limit suite }
+    requires text_fits { length text.old ≤ text_limit suite }
     ensures { let s = setting_of suite key.now nonce.now aad.now in
         MatchResult result (λ _. D.done s text.old tag.old text.new tag.new)
         (D.refused s text.old tag.old text.new tag.new) }
@@ -145,14 +137,17 @@ pub(crate) trait Keys {
         ensures { let k = keyed self.now in MatchResult result (λ _. length k.key ≡ key_length k.suite)
             (λ e. (e ≡ Fault.KeyLength) × (length k.key ≢ key_length k.suite)) };
 
-    // Seals or opens under the bytes of a nonce.
+    // Seals or opens with a nonce, once all lengths are known to fit.
     fn run<D: Direction>(
         &self,
-        nonce: &[u8],
+        nonce: &Nonce,
         aad: &[u8],
         text: &mut [u8],
         tag: &mut [u8; 16],
     ) -> Result<(), Fault>
+        requires lengths { HasLengths (setting (keyed self.now) nonce.now aad.now) }
+        requires aad_fits { length aad.now ≤ aad_limit (keyed self.now).suite }
+        requires text_fits { length text.old ≤ text_limit (keyed self.now).suite }
         ensures { let s = setting (keyed self.now) nonce.now aad.now in
             MatchResult result (λ _. D.done s text.old tag.old text.new tag.new)
             (D.refused s text.old tag.old text.new tag.new) };
@@ -182,26 +177,23 @@ impl<'a> Keys for ByBytes<'a> {
     // A cipher for one suite is smaller than one for any suite.
     fn run<D: Direction>(
         &self,
-        nonce: &[u8],
+        nonce: &Nonce,
         aad: &[u8],
         text: &mut [u8],
         tag: &mut [u8; 16],
     ) -> Result<(), Fault> {
         let suite = self.suite;
-        if self.key.len() != suite.key_length() {
-            return Err(Fault::KeyLength);
-        }
         match suite {
             Suite::ChaCha20Poly1305 => {
-                let cipher = ChaChaPoly::new(&Key32::from_slice(self.key)?);
+                let cipher = ChaChaPoly::new(&Key32::from_slice(self.key).unwrap());
                 D::run(&cipher, nonce, aad, text, tag)
             }
             Suite::Aes128Gcm | Suite::Aes192Gcm | Suite::Aes256Gcm => {
-                let key = AesKey::from_slice(self.key)?;
+                let key = AesKey::from_slice(self.key).unwrap();
                 run_gcm::<D>(suite, &key, &hash_subkey(&key), nonce, aad, text, tag)
             }
             Suite::Aes128GcmSiv | Suite::Aes256GcmSiv => {
-                let cipher = GcmSiv::new(suite, AesKey::from_slice(self.key)?);
+                let cipher = GcmSiv::new(suite, AesKey::from_slice(self.key).unwrap());
                 D::run(&cipher, nonce, aad, text, tag)
             }
         }
@@ -218,6 +210,28 @@ fn check_lengths<K: Keys>(keys: &K, nonce: &[u8], aad: &[u8]) -> Result<(), Faul
         return Err(Fault::NonceLength);
     }
     keys.suite().check_aad(aad)
+}
+
+// Seals or opens in place under the bytes of a nonce. `KeyLength`, `NonceLength`, `AadTooLong`, then `TextTooLong`, if a length does
+// not fit the suite: nothing is changed then.
+pub(crate) fn run_in_place<D: Direction, K: Keys>(
+    keys: &K,
+    nonce: &[u8],
+    aad: &[u8],
+    text: &mut [u8],
+    tag: &mut [u8; 16],
+) -> Result<(), Fault>
+    ensures { let s = setting (K.keyed keys.now) nonce.now aad.now in
+        MatchResult result (λ _. D.done s text.old tag.old text.new tag.new)
+        (D.refused s text.old tag.old text.new tag.new) }
+{
+    if let Err(fault) = check_lengths(keys, nonce, aad) {
+        return Err(fault);
+    }
+    if let Err(fault) = keys.suite().check_text(text) {
+        return Err(fault);
+    }
+    keys.run::<D>(&nonce_of(nonce), aad, text, tag)
 }
 
 // Seals a text into an output of 16 bytes more.
@@ -243,7 +257,7 @@ pub(crate) fn seal_to<K: Keys>(
         return OUTPUT_LENGTH;
     }
     body.copy_from_slice(text);
-    outcome_number(keys.run::<Sealing>(nonce, aad, body, tag))
+    outcome_number(keys.run::<Sealing>(&nonce_of(nonce), aad, body, tag))
 }
 
 // Opens a sealing into an output of 16 bytes less.
@@ -270,7 +284,7 @@ pub(crate) fn open_to<K: Keys>(
     }
     text.copy_from_slice(body);
     let mut tag = *tag;
-    match keys.run::<Opening>(nonce, aad, text, &mut tag) {
+    match keys.run::<Opening>(&nonce_of(nonce), aad, text, &mut tag) {
         Ok(()) => 0,
         Err(fault) => {
             text.fill(0);
@@ -302,7 +316,8 @@ pub extern "C" fn aeadkit_seal_in_place(
 {
     match suite_numbered(u64::from(suite)) {
         Some(suite) => {
-            outcome_number(ByBytes { suite, key }.run::<Sealing>(nonce, aad, text, tag))
+            let keys = ByBytes { suite, key };
+            outcome_number(run_in_place::<Sealing, ByBytes>(&keys, nonce, aad, text, tag))
         }
         None => UNKNOWN_SUITE,
     }
@@ -327,8 +342,9 @@ pub extern "C" fn aeadkit_open_in_place(
 {
     match suite_numbered(u64::from(suite)) {
         Some(suite) => {
+            let keys = ByBytes { suite, key };
             let mut given = *tag;
-            outcome_number(ByBytes { suite, key }.run::<Opening>(nonce, aad, text, &mut given))
+            outcome_number(run_in_place::<Opening, ByBytes>(&keys, nonce, aad, text, &mut given))
         }
         None => UNKNOWN_SUITE,
     }

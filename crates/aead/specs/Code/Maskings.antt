@@ -18,10 +18,10 @@ task_mask t = mask_of t.setting t.tag
 
 -- m was made for this task and was fed these pieces, by a mask and a hash of which `made` and `held` speak;
 -- `hashed` of them is authenticated
-pub record HoldsMasking {S H R : Type 0} (made : S → Setting → List ℕ → ℕ → Type 0)
+pub record HoldsMasking {S H : Type 0} (made : S → Setting → List ℕ → ℕ → Type 0)
     (held : H → Setting → List ℕ → Type 0)
     (hashed : (ℕ → ℕ) → List ℕ → List ℕ)
-    (m : Masking S H R) (t : Task) (fed : List ℕ) : Type 0 where
+    (m : Masking S H) (t : Task) (fed : List ℕ) : Type 0 where
   pub limit_is : m.limit ≡ t.limit
   pub mask_is : made m.mask t.setting t.tag (length fed)
   pub taken : HoldsAuthenticator held m.authenticator t.setting (hashed (task_mask t) fed)

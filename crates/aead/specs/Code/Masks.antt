@@ -11,6 +11,8 @@ use Rattle.aead.specs.Suites.{ByChaCha, ByGcm, ByGcmSiv, construction_of}
 use Rattle.aead.specs.Sealing.{Setting, j0, encryption_key, counter_block, mask, mask_by, mask_of}
 use Rattle.aead.specs.Code.States.{MadeByChaCha, MadeByGcm, MadeByGcmSiv, HoldsAuthenticator}
 use Rattle.aead.specs.declared.authenticator.Authenticator.{Authenticator}
+use Rattle.aead.specs.declared.beside.Order.{Order}
+use Rattle.aead.specs.declared.beside.Order.TheVariants.{MaskFirst, HashFirst}
 use Rattle.chacha.specs.Stream.{key_stream_byte}
 use Rattle.aes.specs.Counters.{up_be, up_le, counter_byte}
 
@@ -35,9 +37,19 @@ as_it_comes mask bytes = bytes
 abbrev pub as_it_leaves : (ℕ → ℕ) → List ℕ → List ℕ
 as_it_leaves mask bytes = masked mask 0 bytes
 
+-- the bytes authenticated in an order, by the mask and the bytes before it
+abbrev pub hashed_by : Order → (ℕ → ℕ) → List ℕ → List ℕ
+hashed_by MaskFirst mask bytes = as_it_leaves mask bytes
+hashed_by HashFirst mask bytes = as_it_comes mask bytes
+
 pub none_leaves : (mask : ℕ → ℕ) → as_it_leaves mask [] ≡ []
 unfolding masked
 none_leaves mask = refl
+
+-- of no bytes nothing is authenticated
+pub none_hashed : (order : Order) (mask : ℕ → ℕ) → hashed_by order mask [] ≡ []
+none_hashed MaskFirst mask = none_leaves mask
+none_hashed HashFirst mask = refl
 
 -- m and a become m' and a': the next piece is masked and authenticated, within the limit of a text
 abbrev pub MasksAndHashes : {S H : Type 0} (made : S → Setting → List ℕ → ℕ → Type 0)

@@ -8,7 +8,7 @@ ghost use Rattle.aead.specs.AnyCiphers.{keyed_of};
 ghost use Rattle.aead.specs.Code.Findings.{PassedWhole};
 
 use crate::any::{AnyAead, AnyOnePass};
-use crate::beside::{HashFirst, MaskFirst};
+use crate::beside::Order;
 use crate::engine::measure::Measured;
 use crate::engine::passes::{Finding, pass};
 use crate::masking::Masking;
@@ -34,9 +34,9 @@ fn open_one_pass<N: OnePass, I: Intake, O: Outlet>(
         (O.failures outlet.new) result }
 {
     let limit = message.suite().text_limit();
-    let mut opening = Masking::empty(message.mask(), message.hash(), HashFirst, limit);
+    let mut opening = Masking::empty(message.mask(), message.hash(), limit);
     opening.begin(aad);
-    pass(intake, opening, measured, outlet)
+    pass(Order::HashFirst, intake, opening, measured, outlet)
 }
 
 // Opens a whole reading by a cipher with a nonce whose tag is over the text.
@@ -57,9 +57,9 @@ fn open_two_pass<N: TwoPass, I: Intake, O: Outlet>(
 {
     let limit = message.suite().text_limit();
     let mask = message.mask(&measured.tag);
-    let mut opening = Masking::empty(mask, message.hash(), MaskFirst, limit);
+    let mut opening = Masking::empty(mask, message.hash(), limit);
     opening.begin(aad);
-    pass(intake, opening, measured, outlet)
+    pass(Order::MaskFirst, intake, opening, measured, outlet)
 }
 
 // Opens a whole reading by a cipher of any suite, with a multiplier of the type `M`.

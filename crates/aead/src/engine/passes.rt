@@ -4,6 +4,7 @@ ghost use Rattle.std.specs.Prelude.{◌≡◌, ℕ, ◌+◌, ◌≤◌, List, []
 ghost use Rattle.aead.specs.Refusals.{DueToReading, DueToBoth};
 ghost use Rattle.aead.specs.Suites.{text_limit};
 ghost use Rattle.aead.specs.Sealing.{Setting};
+ghost use Rattle.aead.specs.Code.Masks.{hashed_by};
 ghost use Rattle.aead.specs.Code.Maskings.{Task, HoldsMasking, message_task};
 ghost use Rattle.aead.specs.Code.Passes.{Passed};
 
@@ -29,16 +30,17 @@ ghost use Rattle.aead.specs.Code.Findings.{PassedWhole, PassesBody, MakesTextTag
 ghost use Rattle.aead.specs.Code.Extents.{PassedAll, HasMore};
 
 // One piece: at most what the buffer holds.
-fn pass_piece<I: Intake, O: Outlet, S: MaskStream, H: TagHash, R: Order>(
+fn pass_piece<I: Intake, O: Outlet, S: MaskStream, H: TagHash>(
+    order: Order,
     intake: &mut I,
-    masking: &mut Masking<S, H, R>,
+    masking: &mut Masking<S, H>,
     buf: &mut [u8],
     outlet: &mut O,
 ) -> Result<usize, Fault>
     requires { masking.old.authenticator.length + length buf.old ≤ masking.old.limit }
     ensures bound { IfOk result (λ n. n ≤ length buf.old) }
-    ensures passed { (t : Task) (fed : List ℕ) → HoldsMasking S.made H.held R.hashed masking.old t fed →
-        Passed (HoldsMasking S.made H.held R.hashed) t fed (length buf.old)
+    ensures passed { (t : Task) (fed : List ℕ) → HoldsMasking S.made H.held (hashed_by order) masking.old t fed →
+        Passed (HoldsMasking S.made H.held (hashed_by order)) t fed (length buf.old)
         (I.left intake.old) (I.left intake.new) (O.taken outlet.old) (O.taken outlet.new) masking.new result }
     ensures blame { DueToBoth [] (I.failures intake.old) (I.failures intake.new) (O.failures outlet.old)
         (O.failures outlet.new) result }
@@ -51,7 +53,7 @@ fn pass_piece<I: Intake, O: Outlet, S: MaskStream, H: TagHash, R: Order>(
         Err(_) => return Err(Fault::Read),
     };
     let piece = &mut buf[..n];
-    masking.update(piece);
+    masking.update(order, piece);
     match give_all(outlet, piece) {
         Ok(()) => Ok(n),
         Err(_) => Err(Fault::Write),
@@ -59,15 +61,16 @@ fn pass_piece<I: Intake, O: Outlet, S: MaskStream, H: TagHash, R: Order>(
 }
 
 // At most `length` bytes.
-pub(crate) fn pass_body<I: Intake, O: Outlet, S: MaskStream, H: TagHash, R: Order>(
+pub(crate) fn pass_body<I: Intake, O: Outlet, S: MaskStream, H: TagHash>(
+    order: Order,
     intake: &mut I,
-    masking: &mut Masking<S, H, R>,
+    masking: &mut Masking<S, H>,
     length: u64,
     outlet: &mut O,
 ) -> Result<u64, Fault>
     requires { masking.old.authenticator.length + length ≤ masking.old.limit }
-    ensures passed { (t : Task) → HoldsMasking S.made H.held R.hashed masking.old t [] →
-        Passed (HoldsMasking S.made H.held R.hashed) t [] length
+    ensures passed { (t : Task) → HoldsMasking S.made H.held (hashed_by order) masking.old t [] →
+        Passed (HoldsMasking S.made H.held (hashed_by order)) t [] length
         (I.left intake.old) (I.left intake.new) (O.taken outlet.old) (O.taken outlet.new) masking.new result }
     ensures blame { DueToBoth [] (I.failures intake.old) (I.failures intake.new) (O.failures outlet.old)
         (O.failures outlet.new) result }
@@ -76,7 +79,7 @@ pub(crate) fn pass_body<I: Intake, O: Outlet, S: MaskStream, H: TagHash, R: Orde
     let mut done = 0;
     while done < length {
         let want = (length - done).min(4096) as usize;
-        let n = pass_piece(intake, masking, &mut buf[..want], outlet)?;
+        let n = pass_piece(order, intake, masking, &mut buf[..want], outlet)?;
         done += n as u64;
         if n < want {
             return Ok(done);
@@ -127,22 +130,23 @@ pub(crate) fn finding_of<I: Intake>(
 }
 
 // A whole reading: the body of the measured length, the measured tag, the end.
-pub(crate) fn pass<I: Intake, O: Outlet, S: MaskStream, H: TagHash, R: Order>(
+pub(crate) fn pass<I: Intake, O: Outlet, S: MaskStream, H: TagHash>(
+    order: Order,
     intake: &mut I,
-    mut opening: Masking<S, H, R>,
+    mut opening: Masking<S, H>,
     measured: &Measured,
     outlet: &mut O,
 ) -> Result<Finding, Fault>
     requires { opening.authenticator.length + measured.now.length ≤ opening.limit + 16 }
     ensures passed { (s : Setting)
-        → HoldsMasking S.made H.held R.hashed opening (message_task s measured.now.tag) []
-        → MakesTextTag R.hashed s measured.now.tag →
+        → HoldsMasking S.made H.held (hashed_by order) opening (message_task s measured.now.tag) []
+        → MakesTextTag (hashed_by order) s measured.now.tag →
         PassedWhole s measured.now.tag measured.now.length (I.left intake.old) (I.left intake.new)
         (O.taken outlet.old) (O.taken outlet.new) result }
     ensures blame { DueToBoth [] (I.failures intake.old) (I.failures intake.new) (O.failures outlet.old)
         (O.failures outlet.new) result }
 {
-    match pass_body(intake, &mut opening, measured.length - 16, outlet) {
+    match pass_body(order, intake, &mut opening, measured.length - 16, outlet) {
         Ok(n) => finding_of(intake, measured, n, opening.finish()),
         Err(fault) => Err(fault),
     }
@@ -161,20 +165,21 @@ pub(crate) fn has_more<I: Intake>(intake: &mut I) -> Result<bool, Fault>
 }
 
 // A reading to its end, and how many bytes it has; of more than `length` the first ones, and `None`.
-pub(crate) fn pass_all<I: Intake, O: Outlet, S: MaskStream, H: TagHash, R: Order>(
+pub(crate) fn pass_all<I: Intake, O: Outlet, S: MaskStream, H: TagHash>(
+    order: Order,
     intake: &mut I,
-    masking: &mut Masking<S, H, R>,
+    masking: &mut Masking<S, H>,
     length: u64,
     outlet: &mut O,
 ) -> Result<Option<u64>, Fault>
     requires { masking.old.authenticator.length + length ≤ masking.old.limit }
-    ensures passed { (t : Task) → HoldsMasking S.made H.held R.hashed masking.old t [] →
-        PassedAll (HoldsMasking S.made H.held R.hashed) t length
+    ensures passed { (t : Task) → HoldsMasking S.made H.held (hashed_by order) masking.old t [] →
+        PassedAll (HoldsMasking S.made H.held (hashed_by order)) t length
         (I.left intake.old) (I.left intake.new) (O.taken outlet.old) (O.taken outlet.new) masking.new result }
     ensures blame { DueToBoth [] (I.failures intake.old) (I.failures intake.new) (O.failures outlet.old)
         (O.failures outlet.new) result }
 {
-    let n = match pass_body(intake, masking, length, outlet) {
+    let n = match pass_body(order, intake, masking, length, outlet) {
         Ok(n) => n,
         Err(fault) => return Err(fault),
     };

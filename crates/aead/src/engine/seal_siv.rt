@@ -1,7 +1,7 @@
 //! The engine that seals a stream in two readings, under AES-GCM-SIV (RFC 8452, 4): the tag of the first begins the mask of the
 //! second.
 
-ghost use Rattle.std.specs.Prelude.{◌≡◌, ◌↔◌, ◌+◌, ◌<◌, ◌≤◌, ◌^◌, ◌∷◌, ℕ, List, [], length, IfOk, IfSome};
+ghost use Rattle.std.specs.Prelude.{◌≡◌, ◌↔◌, ◌+◌, ◌<◌, ◌≤◌, ◌^◌, ◌∷◌, ℕ, List, [], length, IfOk, IfSome, IsTrue};
 ghost use Rattle.aead.specs.Refusals.{DueToReading, DueToBoth, late_in_readings, UntouchedUnless};
 ghost use Rattle.aead.specs.Suites.{ByGcmSiv, construction_of, text_limit, aad_limit};
 ghost use Rattle.aead.specs.Sealing.{Setting, tag_of};
@@ -10,21 +10,21 @@ ghost use Rattle.aead.specs.Code.States.{HoldsAuthenticator};
 ghost use Rattle.aead.specs.Code.Masks.{as_it_comes};
 ghost use Rattle.aead.specs.Code.Maskings.{HoldsMasking, repeating_task};
 ghost use Rattle.aead.specs.Code.Absorbed.{AbsorbReturns};
+ghost use Rattle.aead.specs.Pieces.{Repeats};
 ghost use Rattle.aead.specs.SealSivStream.{WritesAgain, SealsSivStream, SivBlames, IfBothKnown};
 
 use crate::aead::Aead;
 use crate::authenticator::Authenticator;
-use crate::beside::HashFirst;
+use crate::beside::Order;
 use crate::engine::passes::{has_more, pass_all};
 use crate::engine::verifying::absorb_body;
 use crate::gcm_siv::GcmSiv;
 use crate::hashes::TagHash;
 use crate::mask::MaskStream;
 use crate::masking::Masking;
-use crate::second_reading::repeats;
 use crate::two_pass::TwoPass;
 use gf128::{Keyed128, WideMul};
-use octets::{Fault, Intake, Nonce, Outlet, Tag, give_all};
+use octets::{Fault, Intake, Nonce, Outlet, Tag, give_all, same};
 
 // Takes in a reading to its end, and returns whether that was within a limit.
 fn absorb_all<I: Intake, H: TagHash>(
@@ -51,10 +51,21 @@ fn absorb_all<I: Intake, H: TagHash>(
     }
 }
 
+// Whether a second reading had the length of the first one, and has its tag.
+fn repeats<S: MaskStream, H: TagHash>(again: Masking<S, H>, tag: &Tag) -> bool
+    ensures { (s : Setting) (first text : List ℕ) → construction_of s.suite ≡ ByGcmSiv
+        → tag.now ≡ tag_of s first
+        → HoldsMasking S.made H.held as_it_comes again (repeating_task s first) text
+        → IsTrue result ↔ Repeats s first text }
+{
+    let missing = again.limit - again.authenticator.length;
+    missing == 0 && same(again.finish().bytes(), tag.bytes())
+}
+
 // Encrypts and gives a second reading, and then the tag if it repeats the first one.
 fn write_again<J: Intake, O: Outlet, S: MaskStream, H: TagHash>(
     intake: &mut J,
-    mut again: Masking<S, H, HashFirst>,
+    mut again: Masking<S, H>,
     tag: &Tag,
     outlet: &mut O,
 ) -> Result<(), Fault>
@@ -68,7 +79,7 @@ fn write_again<J: Intake, O: Outlet, S: MaskStream, H: TagHash>(
         (O.failures outlet.old) (O.failures outlet.new) result }
 {
     let length = again.limit;
-    match pass_all(intake, &mut again, length, outlet) {
+    match pass_all(Order::HashFirst, intake, &mut again, length, outlet) {
         Ok(Some(_)) => {
             if repeats(again, tag) {
                 match give_all(outlet, tag.bytes()) {
@@ -111,7 +122,7 @@ fn seal_over<N: TwoPass, I: Intake, J: Intake, O: Outlet>(
         Ok(true) => {
             let length = reading.length;
             let tag = reading.finish();
-            let mut again = Masking::empty(message.mask(&tag), message.hash(), HashFirst, length);
+            let mut again = Masking::empty(message.mask(&tag), message.hash(), length);
             again.begin(aad);
             write_again(second, again, &tag, out)
         }

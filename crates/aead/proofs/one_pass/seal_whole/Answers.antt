@@ -2,6 +2,7 @@ use Rattle.std.proofs.Common.{◌∙◌, [], sym, refl, ap, arith}
 use Rattle.aead.specs.Suites.{text_limit}
 use Rattle.aead.specs.Sealing.{Setting, Fits}
 use Rattle.aead.specs.Ciphers.{setting}
+use Rattle.aead.specs.declared.beside.Order.TheVariants.{MaskFirst}
 use Rattle.aead.specs.Code.Maskings.{message_task}
 use Rattle.aead.proofs.Opens.{seals_one_pass}
 use Rattle.aead.proofs.one_pass.seal_whole.Goals as goal
@@ -17,8 +18,8 @@ returns g c =
     let mask = rw (sym empty.mask) at (c.mask.ensures c.args.aad.now []) in
     let hash = rw (sym empty.hash) at (c.hash.ensures c.args.aad.now) in
     let limit = empty.limit ∙ c.text_limit-limit.ensures ∙ ap text_limit c.suite.ensures in
-    let begun = c.begin.ensures.holds t mask hash refl c.requires.aad_fits limit (omega arith) in
+    let begun = c.begin.ensures.holds MaskFirst t mask hash refl c.requires.aad_fits limit (omega arith) in
     let fed = c.update.ensures.masked t [] begun in
     seals_one_pass s [] c.args.text.now c.update.new.piece c.tag.result
     (g.met.N.OnePass.one_pass c.args.message.now) fits c.tells_bytes.ensures fed.1
-    (c.tag.ensures t c.args.text.now fed.0)
+    (c.tag.ensures _ t c.args.text.now fed.0)

@@ -4,6 +4,7 @@ use Rattle.octets.proofs.Masks.{length-masked, masked_twice}
 use Rattle.aead.specs.Suites.{is_one_pass, text_limit}
 use Rattle.aead.specs.Sealing.{Setting, Fits, mask_of, tag_of}
 use Rattle.aead.specs.Ciphers.{setting}
+use Rattle.aead.specs.declared.beside.Order.TheVariants.{MaskFirst}
 use Rattle.aead.specs.Code.Maskings.{message_task}
 use Rattle.aead.proofs.Opens.{unmasked, no_sealing, opened_as, two_pass_tag}
 use Rattle.aead.proofs.two_pass.open_whole.Goals as goal
@@ -20,11 +21,11 @@ returns-then-same g c =
     let mask = rw (sym empty.mask) at (c.mask.ensures c.args.aad.now) in
     let hash = rw (sym empty.hash) at (c.hash.ensures c.args.aad.now) in
     let limit = empty.limit ∙ c.text_limit-limit.ensures ∙ ap text_limit c.suite.ensures in
-    let begun = c.begin.ensures.holds t mask hash refl c.requires.aad_fits limit (omega arith) in
+    let begun = c.begin.ensures.holds MaskFirst t mask hash refl c.requires.aad_fits limit (omega arith) in
     let fed = c.update.ensures.masked t [] begun in
     let tag_is : tag_of s (unmasked s c.args.tag.now c.args.body.now) ≡ c.tag.result =
     two_pass_tag s (unmasked s c.args.tag.now c.args.body.now) two
-    ∙ sym (c.tag.ensures t c.args.body.now fed.0) in
+    ∙ sym (c.tag.ensures _ t c.args.body.now fed.0) in
     opened_as s c.args.body.now c.args.tag.now c.update.new.piece fits (λ i. (c.type_inv.body i).fits) fed.1
     (tag_is ∙ sym c.bytes.ensures.value ∙ c.same.ensures.0 c.if-same.true ∙ c.bytes-given.ensures.value)
 
@@ -41,11 +42,11 @@ returns g c =
     let mask = rw (sym empty.mask) at (c.mask.ensures c.args.aad.now) in
     let hash = rw (sym empty.hash) at (c.hash.ensures c.args.aad.now) in
     let limit = empty.limit ∙ c.text_limit-limit.ensures ∙ ap text_limit c.suite.ensures in
-    let begun = c.begin.ensures.holds t mask hash refl c.requires.aad_fits limit (omega arith) in
+    let begun = c.begin.ensures.holds MaskFirst t mask hash refl c.requires.aad_fits limit (omega arith) in
     let fed = c.update.ensures.masked t [] begun in
     let tag_is : tag_of s (unmasked s c.args.tag.now c.args.body.now) ≡ c.tag.result =
     two_pass_tag s (unmasked s c.args.tag.now c.args.body.now) two
-    ∙ sym (c.tag.ensures t c.args.body.now fed.0) in
+    ∙ sym (c.tag.ensures _ t c.args.body.now fed.0) in
     let long : length c.update.new.piece ≤ text_limit s.suite =
     omega (arith, ap length fed.1, length-masked f 0 c.args.body.now, fits.text_fits) in (
       (

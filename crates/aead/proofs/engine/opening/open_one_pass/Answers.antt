@@ -2,6 +2,7 @@ use Rattle.std.proofs.Common.{◌∙◌, sym, refl, ap, arith}
 use Rattle.aead.specs.Suites.{text_limit}
 use Rattle.aead.specs.Sealing.{Setting}
 use Rattle.aead.specs.Ciphers.{setting}
+use Rattle.aead.specs.declared.beside.Order.TheVariants.{HashFirst}
 use Rattle.aead.specs.Code.Maskings.{message_task}
 use Rattle.aead.proofs.Opens.{body_tag}
 use Rattle.aead.proofs.engine.opening.open_one_pass.Goals as goal
@@ -16,5 +17,5 @@ returns-clause-passed g c =
     let hash = rw (sym empty.hash) at (c.hash.ensures c.args.aad.now) in
     let limit = empty.limit ∙ c.text_limit-limit.ensures ∙ ap text_limit c.suite.ensures in
     c.pass.ensures.passed s
-    (c.begin.ensures.holds (message_task s tag) mask hash refl c.requires.aad_fits limit (omega arith))
+    (c.begin.ensures.holds HashFirst (message_task s tag) mask hash refl c.requires.aad_fits limit (omega arith))
     (λ body. sym (body_tag s tag body (g.met.N.OnePass.one_pass c.args.message.now)))

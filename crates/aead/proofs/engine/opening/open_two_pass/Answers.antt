@@ -2,6 +2,7 @@ use Rattle.std.proofs.Common.{◌∙◌, sym, refl, ap, arith}
 use Rattle.aead.specs.Suites.{is_one_pass, text_limit}
 use Rattle.aead.specs.Sealing.{Setting}
 use Rattle.aead.specs.Ciphers.{setting}
+use Rattle.aead.specs.declared.beside.Order.TheVariants.{MaskFirst}
 use Rattle.aead.specs.Code.Maskings.{message_task}
 use Rattle.aead.proofs.Opens.{unmasked, two_pass_tag}
 use Rattle.aead.proofs.engine.opening.open_two_pass.Goals as goal
@@ -17,5 +18,5 @@ returns-clause-passed g c =
     let hash = rw (sym empty.hash) at (c.hash.ensures c.args.aad.now) in
     let limit = empty.limit ∙ c.text_limit-limit.ensures ∙ ap text_limit c.suite.ensures in
     c.pass.ensures.passed s
-    (c.begin.ensures.holds (message_task s tag) mask hash refl c.requires.aad_fits limit (omega arith))
+    (c.begin.ensures.holds MaskFirst (message_task s tag) mask hash refl c.requires.aad_fits limit (omega arith))
     (λ body. sym (two_pass_tag s (unmasked s tag body) two))

@@ -6,4 +6,4 @@ pub returns-in-Ok-clause-passed : goal.returns-in-Ok-clause-passed
 returns-in-Ok-clause-passed g c = λ s h makes.
     let q = c.in-Ok.ensures.passed _ h in
     c.finding_of.ensures.found s _ _ _
-    (took_masked _ _ _ s _ _ _ _ _ _ _ c.pass_body.new.masking _ q (c.finish.ensures _ q.bytes q.went.held ∙ makes q.bytes))
+    (took_masked _ _ _ s _ _ _ _ _ _ _ c.pass_body.new.masking _ q (c.finish.ensures _ _ q.bytes q.went.held ∙ makes q.bytes))

@@ -5,6 +5,7 @@ use Rattle.octets.specs.Device.{Failed}
 use Rattle.aead.specs.Suites.{text_limit}
 use Rattle.aead.specs.Sealing.{Setting}
 use Rattle.aead.specs.Ciphers.{setting}
+use Rattle.aead.specs.declared.beside.Order.TheVariants.{MaskFirst}
 use Rattle.aead.specs.Code.Maskings.{message_task}
 use Rattle.aead.proofs.Opens.{one_pass_tag}
 use Rattle.aead.proofs.SealExits.{exit_stopped, exit_long, exit_tag}
@@ -24,7 +25,7 @@ returns-in-Err-clause-seals g c =
     c.text_limit-limit.ensures ∙ ap text_limit c.suite.ensures in
     let mask = rw (sym empty.mask) at (c.mask.ensures c.args.aad.now []) in
     let hash = rw (sym empty.hash) at (c.hash.ensures c.args.aad.now) in
-    let h = c.begin.ensures.holds (message_task s []) mask hash refl c.requires (empty.limit ∙ limit) (omega arith) in
+    let h = c.begin.ensures.holds MaskFirst (message_task s []) mask hash refl c.requires (empty.limit ∙ limit) (omega arith) in
     exit_stopped _ _ _ _ s _ _ _ _ _ _ limit one c.requires
     (c.in-Err.ensures.passed (message_task s []) h) c.in-Err.ensures.blame
 
@@ -38,7 +39,7 @@ returns-in-Ok-None-clause-seals g c =
     c.text_limit-limit.ensures ∙ ap text_limit c.suite.ensures in
     let mask = rw (sym empty.mask) at (c.mask.ensures c.args.aad.now []) in
     let hash = rw (sym empty.hash) at (c.hash.ensures c.args.aad.now) in
-    let h = c.begin.ensures.holds (message_task s []) mask hash refl c.requires (empty.limit ∙ limit) (omega arith) in
+    let h = c.begin.ensures.holds MaskFirst (message_task s []) mask hash refl c.requires (empty.limit ∙ limit) (omega arith) in
     let went = rw c.in-Ok-None.field-0-is at (c.in-Ok-None.ensures.passed (message_task s []) h) in
     exit_long _ _ _ _ _ s _ _ _ _ _ _ limit one c.requires went
     c.in-Ok-None.ensures.blame
@@ -53,14 +54,14 @@ returns-in-Ok-clause-seals g c =
     c.text_limit-limit.ensures ∙ ap text_limit c.suite.ensures in
     let mask = rw (sym empty.mask) at (c.mask.ensures c.args.aad.now []) in
     let hash = rw (sym empty.hash) at (c.hash.ensures c.args.aad.now) in
-    let h = c.begin.ensures.holds (message_task s []) mask hash refl c.requires (empty.limit ∙ limit) (omega arith) in
+    let h = c.begin.ensures.holds MaskFirst (message_task s []) mask hash refl c.requires (empty.limit ∙ limit) (omega arith) in
     let tag : List ℕ = c.finish.result in
     let size : length tag ≡ 16 = c.bytes.ensures.are_bytes.length_is in
     let R : List ℕ → Type 0 =
     λ b. Appends (g.O.Outlet.taken c.pass_all.new.outlet) (g.O.Outlet.taken c.give_all.new.outlet) b in
     exit_tag _ _ _ _ _ _ s _ tag _ _ 16 _ _ _ _ _ limit one c.requires
     (rw c.in-Ok-Some.field-0-is at (c.in-Ok-Some.ensures.passed (message_task s []) h))
-    (λ text held. c.finish.ensures _ text held ∙ sym (one_pass_tag s [] text one))
+    (λ text held. c.finish.ensures _ _ text held ∙ sym (one_pass_tag s [] text one))
     (subst R (c.bytes.ensures.value ∙ sym (take_all 16 tag (omega (arith, size))))
     c.in-Ok.ensures.bytes)
     (inl (
@@ -81,7 +82,7 @@ returns-in-Err-give_all-clause-seals g c =
     c.text_limit-limit.ensures ∙ ap text_limit c.suite.ensures in
     let mask = rw (sym empty.mask) at (c.mask.ensures c.args.aad.now []) in
     let hash = rw (sym empty.hash) at (c.hash.ensures c.args.aad.now) in
-    let h = c.begin.ensures.holds (message_task s []) mask hash refl c.requires (empty.limit ∙ limit) (omega arith) in
+    let h = c.begin.ensures.holds MaskFirst (message_task s []) mask hash refl c.requires (empty.limit ∙ limit) (omega arith) in
     let given = c.in-Err-give_all.ensures.bytes in
     let R : List ℕ → Type 0 =
     λ b. Appends (g.O.Outlet.taken c.pass_all.new.outlet) (g.O.Outlet.taken c.give_all.new.outlet)
@@ -90,7 +91,7 @@ returns-in-Err-give_all-clause-seals g c =
     exit_tag _ _ _ _ _ _ s _ c.finish.result _ _ given.0 _ _ _ _ _ limit one
     c.requires
     (rw c.in-Ok-Some.field-0-is at (c.in-Ok-Some.ensures.passed (message_task s []) h))
-    (λ text held. c.finish.ensures _ text held ∙ sym (one_pass_tag s [] text one))
+    (λ text held. c.finish.ensures _ _ text held ∙ sym (one_pass_tag s [] text one))
     (subst R c.bytes.ensures.value given.2)
     (inr (refl, subst F c.in-Ok-Some.ensures.blame.1 c.in-Err-give_all.ensures.count))
 

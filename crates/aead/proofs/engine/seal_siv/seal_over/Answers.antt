@@ -2,6 +2,7 @@ use Rattle.std.proofs.Common.{refl, ◌≡◌, ◌∙◌, ℕ, List, subst, sym,
 use Rattle.aead.specs.Suites.{is_one_pass, text_limit}
 use Rattle.aead.specs.Sealing.{Setting, tag_of}
 use Rattle.aead.specs.Ciphers.{setting}
+use Rattle.aead.specs.declared.beside.Order.TheVariants.{HashFirst}
 use Rattle.aead.specs.Code.Maskings.{repeating_task}
 use Rattle.aead.proofs.Opens.{two_pass_tag}
 use Rattle.aead.proofs.SivExits.{exit_first, exit_long, exit_second}
@@ -48,5 +49,5 @@ returns-in-Ok-true-clause-seals g c =
     let again = rw (sym empty.hash) at (c.hash-in-Ok-true.ensures c.args.aad.now) in
     let P : List ℕ → Type 0 = λ t. g.N.Stream.MaskStream.made c.empty-again.result.mask s t 0 in
     c.write_again.ensures.written s a by tag_is
-    (c.begin-in-Ok-true.ensures.holds (repeating_task s a) (subst P tag_is made) again refl c.requires
+    (c.begin-in-Ok-true.ensures.holds HashFirst (repeating_task s a) (subst P tag_is made) again refl c.requires
     (empty.limit ∙ held.length_is) held.fits.text_fits))

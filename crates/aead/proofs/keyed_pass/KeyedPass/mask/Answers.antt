@@ -5,7 +5,7 @@ use Rattle.aead.proofs.KeyedPasses.{by_gcm, by_siv, chacha_key, gcm_key, siv_key
 use Rattle.aead.proofs.keyed_pass.KeyedPass.mask.Goals as goal
 
 pub returns-in-ChaCha20Poly1305-clause-masks : goal.returns-in-ChaCha20Poly1305-clause-masks
-returns-in-ChaCha20Poly1305-clause-masks g c = λ s fed same done long h.
+returns-in-ChaCha20Poly1305-clause-masks c = λ s fed same done long h.
     let p = c.args.self.now in
     let by = ap construction_of (same ∙ c.in-ChaCha20Poly1305.is) in
     let room : p.state.length + length c.args.piece.now ≤ text_limit s.suite =
@@ -15,7 +15,7 @@ returns-in-ChaCha20Poly1305-clause-masks g c = λ s fed same done long h.
     (with_state p c.mask_chacha.new.self s _ _ c.mask_chacha.ensures.keys m.0 h, m.1)
 
 pub returns-in-Aes128Gcm-clause-masks : goal.returns-in-Aes128Gcm-clause-masks
-returns-in-Aes128Gcm-clause-masks g c = λ s fed same done long h.
+returns-in-Aes128Gcm-clause-masks c = λ s fed same done long h.
     let p = c.args.self.now in
     let by = ap construction_of same ∙ by_gcm c.args.suite c.in-Aes128Gcm.is in
     let room : p.state.length + length c.args.piece.now ≤ text_limit s.suite =
@@ -25,7 +25,7 @@ returns-in-Aes128Gcm-clause-masks g c = λ s fed same done long h.
     (with_state p c.mask_gcm.new.self s _ _ c.mask_gcm.ensures.keys m.0 h, m.1)
 
 pub returns-in-Aes128GcmSiv-clause-masks : goal.returns-in-Aes128GcmSiv-clause-masks
-returns-in-Aes128GcmSiv-clause-masks g c = λ s fed same done long h.
+returns-in-Aes128GcmSiv-clause-masks c = λ s fed same done long h.
     let p = c.args.self.now in
     let by = ap construction_of same ∙ by_siv c.args.suite c.in-Aes128GcmSiv.is in
     let room : p.state.length + length c.args.piece.now ≤ text_limit s.suite =

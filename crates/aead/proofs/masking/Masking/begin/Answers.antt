@@ -1,15 +1,16 @@
 use Rattle.std.proofs.Common.{ℕ, List, sym, subst, arith}
 use Rattle.aead.specs.Code.States.{HoldsAuthenticator}
+use Rattle.aead.specs.Code.Masks.{none_hashed}
 use Rattle.aead.specs.Code.Maskings.{task_mask}
 use Rattle.aead.proofs.masking.Masking.begin.Goals as goal
 
 pub returns-clause-holds : goal.returns-clause-holds
-returns-clause-holds g c = λ t made held same aad_fits limit fits.
+returns-clause-holds g c = λ o t made held same aad_fits limit fits.
     let P : List ℕ → Type 0 = λ x. HoldsAuthenticator g.H.TagHash.held c.begin.new.self t.setting x in
     record {
       limit_is = limit;
       mask_is = made;
-      taken = subst P (sym (g.met.R.Order.none (task_mask t))) (c.begin.ensures.holds t.setting same aad_fits held);
+      taken = subst P (sym (none_hashed o (task_mask t))) (c.begin.ensures.holds t.setting same aad_fits held);
       count_is = c.begin.ensures.none;
       within = omega arith;
       limit_fits = fits;

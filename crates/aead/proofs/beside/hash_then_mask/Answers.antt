@@ -1,5 +1,5 @@
 use Rattle.aead.proofs.Maskings.{hash_first}
-use Rattle.aead.proofs.beside.HashFirstOrder.step.Goals as goal
+use Rattle.aead.proofs.beside.hash_then_mask.Goals as goal
 
 pub returns-then-part-piece-clause-step : goal.returns-then-part-piece-clause-step
 returns-then-part-piece-clause-step g c =

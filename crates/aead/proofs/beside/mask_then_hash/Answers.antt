@@ -1,5 +1,5 @@
 use Rattle.aead.proofs.Maskings.{mask_first}
-use Rattle.aead.proofs.beside.MaskFirstOrder.step.Goals as goal
+use Rattle.aead.proofs.beside.mask_then_hash.Goals as goal
 
 pub returns-then-part-piece-clause-step : goal.returns-then-part-piece-clause-step
 returns-then-part-piece-clause-step g c =
