@@ -44,13 +44,12 @@ proved() {
     grep '^logic=' "$log" | tail -n 1
 }
 
-# Lays into the copy the crate `target` that fits the processor: fit REPOSITORY ROOM [rattle's flags]
-# For one with AVX2 it is that of bindings/avx2, else that of the repository.
+# Lays into the copy the one source file of the crate `target` that fits the processor: fit REPOSITORY ROOM [rattle's flags]
+# For one with AVX2 it is bindings/avx2/target.txt, else that of the repository. The gate lets no .rt file stand outside a crate.
 fit() {
-    target=$1/crates/target
-    case " $* " in *" --cpu"[=\ ]x86-64-v[34]" "*) target=$1/bindings/avx2/target ;; esac
-    rm -rf "$2/crates/target/src"
-    cp -a "$target/src" "$2/crates/target/src"
+    source=$1/crates/target/src/lib.rt
+    case " $* " in *" --cpu"[=\ ]x86-64-v[34]" "*) source=$1/bindings/avx2/target.txt ;; esac
+    cp "$source" "$2/crates/target/src/lib.rt"
 }
 
 # Builds FOLDER/libaeadkit.a of the copy: archive REPOSITORY ROOM FOLDER [rattle's flags]

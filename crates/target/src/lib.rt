@@ -1,5 +1,5 @@
 //! What the build says of the processor. No code can ask, so this crate is one constant, and a build for processors with AVX2
-//! takes the crate of the same name in `bindings/avx2` in place of this one.
+//! takes `bindings/avx2/target.txt` in place of this file.
 #![tactic(auto)]
 
 /// Whether a vector of the processor holds 32 bytes, as with AVX2. It chooses between forms that give the same bytes and
