@@ -18,10 +18,10 @@ use aead::{Aead, ChaChaPoly, GcmKeys, GcmSiv, Suite, hash_subkey};
 use aes::AesKey;
 use octets::{Block, Fault, Key32, Nonce, Tag, outcome_number};
 
-// Returns the nonce with these 12 bytes. It is not taken out of a `Result`: there it would share its first byte with the fault, and
-// LLVM copies that byte by itself, so that the cipher waits for it.
+// Returns the nonce with these 12 bytes. It is not taken out of a `Result`: there it would share its first byte with the fault,
+// and LLVM copies that byte by itself, so that the cipher waits for it.
 #[inline(always)]
-pub(crate) fn nonce_of(bytes: &[u8]) -> Nonce
+fn nonce_of(bytes: &[u8]) -> Nonce
     requires { length bytes.now ≡ 12 }
     ensures { result ≡ bytes.now }
 {
@@ -214,8 +214,8 @@ fn check_lengths<K: Keys>(keys: &K, nonce: &[u8], aad: &[u8]) -> Result<(), Faul
     keys.suite().check_aad(aad)
 }
 
-// Seals or opens in place under the bytes of a nonce. `KeyLength`, `NonceLength`, `AadTooLong`, then `TextTooLong`, if a length does
-// not fit the suite: nothing is changed then.
+// Seals or opens in place under the bytes of a nonce. `KeyLength`, `NonceLength`, `AadTooLong`, then `TextTooLong`, if a length
+// does not fit the suite: nothing is changed then.
 pub(crate) fn run_in_place<D: Direction, K: Keys>(
     keys: &K,
     nonce: &[u8],
