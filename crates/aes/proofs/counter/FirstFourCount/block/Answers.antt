@@ -8,5 +8,5 @@ returns c =
     let same = c.bytes.ensures.value in
     c.new.ensures.value ∙ c.write_u32.ensures
     ∙ up_le_written c.bytes.result.now c.read_u32-number.result c.args.steps
-    (ap length same ∙ c.bytes.ensures.is_block.length_is) c.read_u32-number.ensures
+    (ap length same ∙ c.bytes.ensures.are_bytes.length_is) c.read_u32-number.ensures
     ∙ ap (λ b. up_le b c.args.steps) same
