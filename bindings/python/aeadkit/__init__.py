@@ -15,13 +15,16 @@ bytearray(b'another text')
 
 The associated data, aad, is neither hidden nor stored in the sealing, but opening with other associated data fails: put
 there whatever says which text it is. Keys, nonces, associated data and texts are bytes, or any object that gives its bytes:
-bytearray, memoryview, array.array, mmap.mmap, an array of numpy. Anything else is a TypeError. An argument that is not bytes
-is copied before the call uses it, so another thread may write to it meanwhile. Results are bytes.
+bytearray, memoryview, array.array, mmap.mmap, an array of numpy. Anything else is a TypeError, and so is an object whose bytes
+are addresses, such as a ctypes.c_char_p or an array of objects: for a c_char_p take its value. An argument that is not bytes is
+copied before the call uses it, so another thread may write to it meanwhile. Results are bytes.
 
 The calls whose names end in in_place change a writable buffer where it stands, such as a bytearray, and do not copy it. No
 other thread or process may read or write the buffer during such a call: an opening could otherwise give a text that was never
 sealed. The tag of 16 bytes is separate; the ciphertext and then the tag are the sealing that open takes. If an exception from
-a signal handler, such as KeyboardInterrupt, ends the call, the buffer may be changed already, and the tag is lost.
+a signal handler, such as KeyboardInterrupt, ends the call, the buffer may be changed already, and the tag is lost: do not seal
+the buffer again. A sealing or an opening in pieces is closed if such an exception ends its call on a piece, since nobody knows
+whether the piece was taken.
 
 A nonce is 12 bytes long. It is not secret, but it must never be used for two sealings under one key, and nothing here notices
 a repeat. Two sealings with one nonce give away the XOR of their texts, and enough to forge messages under the key; under
@@ -44,6 +47,7 @@ import ctypes
 import enum
 import io
 import os
+import re
 import sys
 import threading
 from typing import Any, Callable, Dict, List, NoReturn, Optional, Tuple, Type, TypeVar, Union
@@ -226,11 +230,26 @@ def _suite_of(suite: int) -> Suite:
 # ---- The arguments and the results of the library's functions
 
 
+# What stands for an address in the format of a buffer; Zf, Zd and Zg are complex numbers. Fields of structs have names.
+_has_addresses = re.compile("[&OPXz]|Z(?![fdg])").search
+_field_name = re.compile(":[^:]*:")
+
+
+def _view_of(data: Buffer) -> memoryview:
+    """The memory of the data, if it holds the bytes that the caller means: no addresses of something else."""
+    view = memoryview(data)
+    form = view.format
+    if form != "B" and _has_addresses(_field_name.sub("", form)):
+        view.release()
+        raise TypeError(f"the bytes of a {type(data).__name__!r} are addresses, and not what stands there")
+    return view
+
+
 def _bytes_of(data: Buffer) -> bytes:
     """The bytes of the data, which no other thread can write."""
     if type(data) is bytes:
         return data
-    with memoryview(data) as view:
+    with _view_of(data) as view:
         return view.tobytes()
 
 
@@ -269,22 +288,24 @@ def _output(length: int, call: Callable[..., int], *arguments: Any) -> bytes:
     return output
 
 
-def _changed(piece: Buffer, call: Callable[..., int], *arguments: Any) -> bytes:
-    """What a call makes of a copy of the piece."""
-    with memoryview(piece) as view:
-        copy = io.BytesIO(piece if type(piece) is bytes else view if view.c_contiguous else view.tobytes())
-    # getbuffer copies bytes that it shares with the piece, and getvalue does not copy them once more
-    with copy.getbuffer() as room:
-        status = _in_place(room, call, arguments)
-    _check(status)
-    return copy.getvalue()
+def _copy_of(piece: Buffer) -> io.BytesIO:
+    """A copy of the piece: getbuffer copies bytes that it shares with the piece, and getvalue does not copy them once more."""
+    with _view_of(piece) as view:
+        return io.BytesIO(piece if type(piece) is bytes else view if view.c_contiguous else view.tobytes())
+
+
+def _writable(text: Buffer) -> memoryview:
+    """The memory of a text that is changed where it stands."""
+    view = _view_of(text)
+    if view.readonly or not view.c_contiguous:
+        view.release()
+        raise TypeError("a writable and contiguous buffer is required, such as a bytearray")
+    return view
 
 
 def _in_place(text: Buffer, call: Callable[..., int], arguments: Tuple[Any, ...], *after: Any) -> int:
     """Runs a call over the bytes of a buffer where they stand, and returns its status."""
-    with memoryview(text) as view:
-        if view.readonly or not view.c_contiguous:
-            raise TypeError("a writable and contiguous buffer is required, such as a bytearray")
+    with _writable(text) as view:
         size = view.nbytes
         address = ctypes.addressof(ctypes.c_ubyte.from_buffer(view)) if size else None
         return call(*arguments, address, size, *after)
@@ -460,9 +481,13 @@ class _InPieces(_HasStruct):
 
     It has no copies, and a process that was forked from its own cannot use it: two sealings that go on from one struct would
     seal two texts under one nonce.
+
+    If an exception from a signal handler ends a call on a piece, nobody knows whether the piece was taken. So the object is
+    closed: with a piece too many, or without what the call made of one, a sealing could not be opened.
     """
 
     _no_copies = ""
+    _kind: _library.Kind
 
     def _call(self, function: Callable[..., int], *arguments: Any) -> int:
         struct = self._get_struct()
@@ -470,6 +495,46 @@ class _InPieces(_HasStruct):
             raise NotBegun(f"this {type(self).__name__} belongs to the process that this one was forked from")
         with struct.lock:
             return function(struct, *arguments)
+
+    def _take(self, function: Callable[..., int], piece: Buffer) -> None:
+        """A call that only reads the piece."""
+        slices = _slices(piece)
+        try:
+            _check(self._call(function, *slices))
+        except BaseException as error:
+            self._end(error)
+            raise
+
+    def _change(self, function: Callable[..., int], piece: Buffer) -> bytes:
+        """What a call makes of a copy of the piece."""
+        copy = _copy_of(piece)
+        room = copy.getbuffer()
+        try:
+            with room:
+                status = _in_place(room, self._call, (function,))
+            _check(status)
+            return copy.getvalue()
+        except BaseException as error:
+            self._end(error)
+            raise
+
+    def _change_in_place(self, function: Callable[..., int], piece: Buffer) -> None:
+        """A call that changes the piece where it stands."""
+        with _writable(piece) as room:
+            try:
+                _check(_in_place(room, self._call, (function,)))
+            except BaseException as error:
+                self._end(error)
+                raise
+
+    def _end(self, error: BaseException) -> None:
+        """Closes the object, also for the calls of other threads, unless the library or the package refused a call."""
+        struct = self._struct
+        if struct is None or isinstance(error, Refused):
+            return
+        self._struct = None
+        with struct.lock:
+            self._kind.wipe(struct)
 
     def __reduce__(self) -> NoReturn:
         raise TypeError(f"{type(self).__name__} objects cannot be copied or pickled: {self._no_copies}")
@@ -611,7 +676,6 @@ _State = TypeVar("_State", bound="_Saves")
 class _Saves(_InPieces):
     """A state in pieces that can be saved as bytes, and resumed from them."""
 
-    _kind: _library.Kind
     _saved: _library.Saved
 
     def save(self) -> bytes:
@@ -691,7 +755,7 @@ class Sealer(_Saves):
         Raises NotBegun after finish, or in a forked process; or TextTooLong if the whole text would be too long: a shorter
         piece may follow.
         """
-        return _changed(piece, self._call, _library.aeadkit_sealer_update)
+        return self._change(_library.aeadkit_sealer_update, piece)
 
     def update_in_place(self, piece: Buffer) -> None:
         """Takes the next piece of the text, in a writable buffer, which becomes its ciphertext. No other thread may read or
@@ -699,7 +763,7 @@ class Sealer(_Saves):
 
         Raises NotBegun and TextTooLong as update does, and the buffer is as before; or TypeError if it is not writable.
         """
-        _check(_in_place(piece, self._call, (_library.aeadkit_sealer_update,)))
+        self._change_in_place(_library.aeadkit_sealer_update, piece)
 
     def finish(self) -> bytes:
         """Ends the sealing, and returns its tag of 16 bytes. Raises NotBegun if it was finished before."""
@@ -737,7 +801,7 @@ class Opener(_Saves):
 
         Raises NotBegun after begin_second; or TextTooLong if the whole text would be too long: a shorter piece may follow.
         """
-        _check(self._call(_library.aeadkit_opener_check, *_slices(piece)))
+        self._take(_library.aeadkit_opener_check, piece)
 
     def begin_second(self) -> None:
         """Ends the first pass, and begins the second one.
@@ -756,7 +820,7 @@ class Opener(_Saves):
         Raises NotBegun before begin_second and after finish; or SourceChanged if the second pass would be longer than the
         first.
         """
-        return _changed(piece, self._call, _library.aeadkit_opener_update)
+        return self._change(_library.aeadkit_opener_update, piece)
 
     def update_in_place(self, piece: Buffer) -> None:
         """Takes the next piece of the ciphertext in the second pass, in a writable buffer, which becomes its text. No other
@@ -764,7 +828,7 @@ class Opener(_Saves):
 
         Raises NotBegun and SourceChanged as update does, and the buffer is as before; or TypeError if it is not writable.
         """
-        _check(_in_place(piece, self._call, (_library.aeadkit_opener_update,)))
+        self._change_in_place(_library.aeadkit_opener_update, piece)
 
     def finish(self) -> None:
         """Ends the second pass.
@@ -803,7 +867,7 @@ class SivSealer(_Saves):
 
         Raises NotBegun after begin_second; or TextTooLong if the whole text would be too long: a shorter piece may follow.
         """
-        _check(self._call(_library.aeadkit_siv_absorb, *_slices(piece)))
+        self._take(_library.aeadkit_siv_absorb, piece)
 
     def begin_second(self) -> bytes:
         """Ends the first reading, begins the second one, and returns the tag of the text, of 16 bytes. Raises NotBegun if there
@@ -819,7 +883,7 @@ class SivSealer(_Saves):
         Raises NotBegun before begin_second and after finish; or SourceChanged if the second reading would be longer than the
         first.
         """
-        return _changed(piece, self._call, _library.aeadkit_siv_update)
+        return self._change(_library.aeadkit_siv_update, piece)
 
     def update_in_place(self, piece: Buffer) -> None:
         """Takes the next piece of the text in the second reading, in a writable buffer, which becomes its ciphertext. No other
@@ -827,7 +891,7 @@ class SivSealer(_Saves):
 
         Raises NotBegun and SourceChanged as update does, and the buffer is as before; or TypeError if it is not writable.
         """
-        _check(_in_place(piece, self._call, (_library.aeadkit_siv_update,)))
+        self._change_in_place(_library.aeadkit_siv_update, piece)
 
     def finish(self) -> None:
         """Ends the second reading.

@@ -7,6 +7,7 @@ import pickle
 import subprocess
 import sys
 import unittest
+import unittest.mock
 
 import aeadkit
 from aeadkit import Key, Opener, Sealer, SivSealer, Suite
@@ -408,6 +409,42 @@ class Closing(unittest.TestCase):
         opener.check(SEALED[:-16])
         opener.begin_second()
         self.assertEqual(opener.update(SEALED[:-16]), TEXT)
+
+    def test_an_exception_that_ends_a_call_on_a_piece(self):
+        """As one of a signal handler does: nobody knows whether the piece was taken, so nothing goes on, and no tag comes."""
+        opener = Opener(Suite.AES_256_GCM, KEY, NONCE, SEALED[-16:], aad=b"aad")
+        opener.check(SEALED[:-16])
+        opener.begin_second()
+        second = opener.save()
+        siv = SivSealer(Suite.AES_256_GCM_SIV, KEY, NONCE)
+        siv.absorb(TEXT)
+        siv.begin_second()
+        reading = siv.save()
+        begin = {"sealer_update": lambda: Sealer(Suite.AES_256_GCM, KEY, NONCE),
+                 "opener_check": lambda: Opener(Suite.AES_256_GCM, KEY, NONCE, SEALED[-16:]),
+                 "opener_update": lambda: Opener.resume(Suite.AES_256_GCM, KEY, NONCE, second),
+                 "siv_absorb": lambda: SivSealer(Suite.AES_256_GCM_SIV, KEY, NONCE),
+                 "siv_update": lambda: SivSealer.resume(Suite.AES_256_GCM_SIV, KEY, NONCE, reading)}
+        for name, call in begin.items():
+            method = name.split("_")[1]
+            for way, piece in ((method, b"a piece"), (method, bytearray(b"a piece")), (f"{method}_in_place", bytearray(b"a piece"))):
+                state = call()
+                if not hasattr(state, way):
+                    continue
+                real, held = getattr(aeadkit._library, f"aeadkit_{name}"), state._struct
+
+                def interrupted(*arguments):
+                    real(*arguments)
+                    raise KeyboardInterrupt()
+
+                with unittest.mock.patch.object(aeadkit._library, f"aeadkit_{name}", interrupted):
+                    self.assertRaises(KeyboardInterrupt, getattr(state, way), piece)
+                # also for a call of another thread that waits for the struct
+                self.assertEqual(bytes(held._memory), bytes(len(bytes(held._memory))))
+                self.assertRaisesRegex(aeadkit.NotBegun, "closed", getattr(state, way), piece)
+                self.assertRaisesRegex(aeadkit.NotBegun, "closed", state.finish)
+                if type(piece) is bytearray:
+                    piece += b"more"
 
     def test_an_exception_keeps_no_key(self):
         """A struct is wiped with its object, though a traceback has the frames of a call that was refused."""
