@@ -45,6 +45,7 @@ other sizes, than this package expects. The version of the library that was load
 
 import ctypes
 import enum
+import hmac
 import io
 import os
 import re
@@ -665,9 +666,9 @@ class Key(_HasStruct):
 
 
 class NotSaved(Refused, ValueError):
-    """The bytes are not what save returned, for this class and suite."""
+    """The bytes are not what save returned, for this class, suite, key and nonce."""
 
-    message = "not a saved state of this class and suite"
+    message = "not a saved state of this class, suite, key and nonce"
 
 
 _State = TypeVar("_State", bound="_Saves")
@@ -677,6 +678,8 @@ class _Saves(_InPieces):
     """A state in pieces that can be saved as bytes, and resumed from them."""
 
     _saved: _library.Saved
+    _init: Callable[..., int]
+    _init_tag: Tuple[bytes, ...] = ()
 
     def save(self) -> bytes:
         """Returns the state as bytes, and closes this object: resume goes on from the bytes, after a restart too.
@@ -708,20 +711,27 @@ class _Saves(_InPieces):
         """Returns the state that was saved, which goes on where it was, in the pass or the reading that it was in.
 
         NEVER RESUME ONE SAVED STATE OF A SEALING TWICE: two texts would be sealed under one nonce, which gives away their XOR,
-        and enough to forge messages. The suite, the key and the nonce are those that it was begun with, of which the library
-        notices only another suite: a sealing that goes on under another key or nonce cannot be opened.
+        and enough to forge messages. The suite, the key and the nonce are those that it was begun with.
 
-        Raises NotSaved if the bytes are not what save returned, for this class and suite; UnknownSuite, KeyLength or
-        NonceLength; or NotImplementedError if the library that was loaded cannot resume.
+        Raises NotSaved if the bytes are not what save returned, for this class, suite, key and nonce: a sealing that went on
+        under another key or nonce could not be opened. Raises UnknownSuite, KeyLength or NonceLength; or NotImplementedError
+        if the library that was loaded cannot resume.
         """
         member, slices, data = _suite_of(suite), _slices(key, nonce), _bytes_of(saved)
         # the first number is the mark, whose lowest byte is the suite
         if len(data) != ctypes.sizeof(cls._saved.memory) or data[0] != member:
             raise NotSaved()
         try:
-            return cls._of(_begin(cls._kind, member, cls._saved.resume, *slices, cls._saved.memory.from_buffer_copy(data)))
+            struct = _begin(cls._kind, member, cls._saved.resume, *slices, cls._saved.memory.from_buffer_copy(data))
         except NotBegun:
             raise NotSaved() from None
+        # The next four numbers are the key of the message's hash, which the key and the nonce make. The library does not
+        # compare them: here they are those of a state that has just begun.
+        begun, numbers = _begin(cls._kind, member, cls._init, member, *slices, None, 0, *cls._init_tag), cls._saved.memory()
+        _check(cls._saved.save(begun, numbers))
+        if not hmac.compare_digest(bytes(numbers)[8:40], data[8:40]):
+            raise NotSaved()
+        return cls._of(struct)
 
 
 # ---- Messages in pieces
@@ -743,11 +753,12 @@ class Sealer(_Saves):
     _no_copies = "two copies would seal two texts under one nonce"
     _kind = _library.SEALER
     _saved = _library.SAVED_SEALER
+    _init = staticmethod(_library.aeadkit_sealer_init)
 
     def __init__(self, suite: int, key: Buffer, nonce: Buffer, *, aad: Optional[Buffer] = None) -> None:
         self._struct = None
         member = _suite_of(suite)
-        self._struct = _begin(self._kind, member, _library.aeadkit_sealer_init, member, *_slices(key, nonce, _aad_of(aad)))
+        self._struct = _begin(self._kind, member, self._init, member, *_slices(key, nonce, _aad_of(aad)))
 
     def update(self, piece: Buffer) -> bytes:
         """Returns the ciphertext of the next piece of the text, which may have any length.
@@ -789,11 +800,13 @@ class Opener(_Saves):
     _no_copies = "it holds the key of the message; begin another Opener"
     _kind = _library.OPENER
     _saved = _library.SAVED_OPENER
+    _init = staticmethod(_library.aeadkit_opener_init)
+    _init_tag = (bytes(_TAG_BYTES),)
 
     def __init__(self, suite: int, key: Buffer, nonce: Buffer, tag: Buffer, *, aad: Optional[Buffer] = None) -> None:
         self._struct = None
         member = _suite_of(suite)
-        self._struct = _begin(self._kind, member, _library.aeadkit_opener_init, member, *_slices(key, nonce, _aad_of(aad)),
+        self._struct = _begin(self._kind, member, self._init, member, *_slices(key, nonce, _aad_of(aad)),
                               _tag_of(tag))
 
     def check(self, piece: Buffer) -> None:
@@ -856,11 +869,12 @@ class SivSealer(_Saves):
     _no_copies = "two copies would seal two texts under one nonce"
     _kind = _library.SIV
     _saved = _library.SAVED_SIV
+    _init = staticmethod(_library.aeadkit_siv_init)
 
     def __init__(self, suite: int, key: Buffer, nonce: Buffer, *, aad: Optional[Buffer] = None) -> None:
         self._struct = None
         member = _suite_of(suite)
-        self._struct = _begin(self._kind, member, _library.aeadkit_siv_init, member, *_slices(key, nonce, _aad_of(aad)))
+        self._struct = _begin(self._kind, member, self._init, member, *_slices(key, nonce, _aad_of(aad)))
 
     def absorb(self, piece: Buffer) -> None:
         """Takes the next piece of the text in the first reading.
