@@ -32,7 +32,8 @@ AES-GCM-SIV only whether the texts and the associated data are the same. A seali
 not finished. A counter does not repeat if it is stored before it is used. Random nonces serve for at most 2^32 sealings under
 a key (SP 800-38D, 8.3).
 
-A call that is refused raises a subclass of Refused. Faults of a suite and of lengths are ValueErrors too.
+A call that is refused raises a subclass of Refused. Faults of a suite and of lengths are ValueErrors too. A with statement over
+a sealing or an opening in pieces raises NotFinished if it ends before finish, save or close, and without another exception.
 
 The time that a call takes may depend on secrets, since AES looks tables up by secret bytes. A Key, a Sealer, an Opener and a
 SivSealer wipe the memory in which they hold the key when they are closed or deleted; a with statement closes them. The bytes of
@@ -72,7 +73,7 @@ else:
 __all__ = ["Suite", "Key", "Sealer", "Opener", "SivSealer", "seal", "seal_in_place", "open_in_place", "wrap", "unwrap",
            "wrap_padded", "unwrap_padded", "Refused", "KeyLength", "NonceLength", "TextTooLong", "AadTooLong", "TooShort",
            "TagLength", "TagMismatch", "WrapLength", "WrapIntegrity", "SourceChanged", "UnknownSuite", "NotBegun", "NotSaved",
-           "library_version"]
+           "NotFinished", "library_version"]
 
 __version__ = "0.0.0"
 library_version: str = _library.VERSION
@@ -160,6 +161,13 @@ class NotBegun(Refused):
     """The call comes at the wrong time: the sealing, the opening, the pass or the reading has not begun, or is over."""
 
     message = "not begun, or already finished"
+
+
+class NotFinished(Refused):
+    """A with statement ended without an exception, and what it began was neither finished nor saved nor closed: a sealing has no
+    tag, a ciphertext was not authenticated, or a text of the second pass is not to be used."""
+
+    message = "the with statement ended before finish, save or close"
 
 
 _FAULTS: Dict[int, Type[Refused]] = {
@@ -462,7 +470,8 @@ class _HasStruct:
 
     def close(self) -> None:
         """Wipes the memory that holds the key, after the last call in another thread that is using it. Each later call raises
-        NotBegun. A with statement does this at its end, and so does the deletion of the object."""
+        NotBegun. A with statement does this at its end, and so does the deletion of the object. A sealing or an opening in pieces
+        is given up by this; a with statement that ends without an exception, and before finish, raises NotFinished."""
         self._struct = None
 
     def __enter__(self: _Self) -> _Self:
@@ -489,6 +498,8 @@ class _InPieces(_HasStruct):
 
     _no_copies = ""
     _kind: _library.Kind
+    # whether pieces were taken, and the pass or the reading did not end
+    _unfinished = False
 
     def _call(self, function: Callable[..., int], *arguments: Any) -> int:
         struct = self._get_struct()
@@ -502,6 +513,7 @@ class _InPieces(_HasStruct):
         slices = _slices(piece)
         try:
             _check(self._call(function, *slices))
+            self._unfinished = True
         except BaseException as error:
             self._end(error)
             raise
@@ -514,6 +526,7 @@ class _InPieces(_HasStruct):
             with room:
                 status = _in_place(room, self._call, (function,))
             _check(status)
+            self._unfinished = True
             return copy.getvalue()
         except BaseException as error:
             self._end(error)
@@ -524,9 +537,22 @@ class _InPieces(_HasStruct):
         with _writable(piece) as room:
             try:
                 _check(_in_place(room, self._call, (function,)))
+                self._unfinished = True
             except BaseException as error:
                 self._end(error)
                 raise
+
+    def _finish(self, function: Callable[..., int], *arguments: Any) -> int:
+        """A call that ends a pass or a reading, by any status but that of a call at the wrong time."""
+        status = self._call(function, *arguments)
+        self._unfinished = self._unfinished and _FAULTS.get(status) is NotBegun
+        return status
+
+    def __exit__(self, kind: object = None, *exception: object) -> None:
+        unfinished = self._unfinished and self._struct is not None
+        self.close()
+        if kind is None and unfinished:
+            raise NotFinished()
 
     def _end(self, error: BaseException) -> None:
         """Closes the object, also for the calls of other threads, unless the library or the package refused a call."""
@@ -756,7 +782,7 @@ class Sealer(_Saves):
     _init = staticmethod(_library.aeadkit_sealer_init)
 
     def __init__(self, suite: int, key: Buffer, nonce: Buffer, *, aad: Optional[Buffer] = None) -> None:
-        self._struct = None
+        self._struct, self._unfinished = None, False
         member = _suite_of(suite)
         self._struct = _begin(self._kind, member, self._init, member, *_slices(key, nonce, _aad_of(aad)))
 
@@ -778,7 +804,7 @@ class Sealer(_Saves):
 
     def finish(self) -> bytes:
         """Ends the sealing, and returns its tag of 16 bytes. Raises NotBegun if it was finished before."""
-        return _tag(self._call, _library.aeadkit_sealer_finish)
+        return _tag(self._finish, _library.aeadkit_sealer_finish)
 
 
 class Opener(_Saves):
@@ -804,7 +830,7 @@ class Opener(_Saves):
     _init_tag = (bytes(_TAG_BYTES),)
 
     def __init__(self, suite: int, key: Buffer, nonce: Buffer, tag: Buffer, *, aad: Optional[Buffer] = None) -> None:
-        self._struct = None
+        self._struct, self._unfinished = None, False
         member = _suite_of(suite)
         self._struct = _begin(self._kind, member, self._init, member, *_slices(key, nonce, _aad_of(aad)),
                               _tag_of(tag))
@@ -822,7 +848,7 @@ class Opener(_Saves):
         Raises TagMismatch if the pieces and the tag are not a valid sealing: the opening is over. Raises NotBegun if there is
         no first pass to end.
         """
-        _check(self._call(_library.aeadkit_opener_begin_second))
+        _check(self._finish(_library.aeadkit_opener_begin_second))
 
     # the name in version 2
     checked = begin_second
@@ -849,7 +875,7 @@ class Opener(_Saves):
         Raises SourceChanged if its pieces and the tag are not a valid sealing: throw away what update gave. Raises NotBegun if
         there is no second pass to end.
         """
-        _check(self._call(_library.aeadkit_opener_finish))
+        _check(self._finish(_library.aeadkit_opener_finish))
 
 
 class SivSealer(_Saves):
@@ -872,7 +898,7 @@ class SivSealer(_Saves):
     _init = staticmethod(_library.aeadkit_siv_init)
 
     def __init__(self, suite: int, key: Buffer, nonce: Buffer, *, aad: Optional[Buffer] = None) -> None:
-        self._struct = None
+        self._struct, self._unfinished = None, False
         member = _suite_of(suite)
         self._struct = _begin(self._kind, member, self._init, member, *_slices(key, nonce, _aad_of(aad)))
 
@@ -913,7 +939,7 @@ class SivSealer(_Saves):
         Raises SourceChanged if its text has another length or tag than the first: throw away what update gave. Raises
         NotBegun if there is no second reading to end.
         """
-        _check(self._call(_library.aeadkit_siv_finish))
+        _check(self._finish(_library.aeadkit_siv_finish))
 
 
 # ---- Key wrapping
