@@ -317,6 +317,29 @@ class Example(unittest.TestCase):
                 continue
         self.assertEqual(self.opened(), TEXT)
 
+    def test_two_runs_at_once(self):
+        """They would go on from one state, and seal two texts under one nonce if IN changes in between."""
+        self.source.write_bytes(TEXT)
+        refused = []
+
+        def store(path, step):
+            self.assertRaises(BlockingIOError, self.seal)
+            refused.append(step)
+            self.store(path, step)
+
+        self.example.store = store
+        self.seal()
+        self.assertGreater(len(refused), 5)
+        self.assertEqual(self.opened(), TEXT)
+
+    def test_one_file(self):
+        """IN in the place of OUT would be overwritten before it is read."""
+        self.source.write_bytes(TEXT)
+        os.link(str(self.source), str(self.target))
+        for target in (self.source, self.target):
+            self.assertRaises(ValueError, self.example.seal_file, KEY, str(self.source), str(target))
+            self.assertEqual(self.source.read_bytes(), TEXT)
+
     def test_another_key(self):
         """A key file that was exchanged between two runs ends the second one, and the first key goes on."""
         self.source.write_bytes(TEXT)
