@@ -280,7 +280,8 @@ export class Opener {
     constructor(aead: Aead, suite: Suite, key: Uint8Array, nonce: Uint8Array, tag: Uint8Array, options?: Options);
 
     /**
-     * Takes the next piece of the ciphertext in the first pass. The tag is not part of the ciphertext.
+     * Takes the next piece of the ciphertext in the first pass. The tag is not part of the ciphertext. Whether the sealing is
+     * valid is known from `beginSecond` alone.
      *
      * Throws `NotBegun` after the first pass, and `TextTooLong`, after which the piece does not count and a shorter one may
      * follow.

@@ -836,7 +836,7 @@ class Opener(_Saves):
                               _tag_of(tag))
 
     def check(self, piece: Buffer) -> None:
-        """Takes the next piece of the ciphertext in the first pass.
+        """Takes the next piece of the ciphertext in the first pass. Whether the sealing is valid is known from begin_second alone.
 
         Raises NotBegun after begin_second; or TextTooLong if the whole text would be too long: a shorter piece may follow.
         """
