@@ -498,7 +498,9 @@ class _InPieces(_HasStruct):
 
     _no_copies = ""
     _kind: _library.Kind
-    # whether pieces were taken, and the pass or the reading did not end
+    # the functions that end it, or a pass after which nothing has to follow
+    _ends: Tuple[Callable[..., int], ...] = ()
+    # whether a call was done since it was begun or such an end
     _unfinished = False
 
     def _call(self, function: Callable[..., int], *arguments: Any) -> int:
@@ -506,14 +508,17 @@ class _InPieces(_HasStruct):
         if struct.process is not _process:
             raise NotBegun(f"this {type(self).__name__} belongs to the process that this one was forked from")
         with struct.lock:
-            return function(struct, *arguments)
+            status = function(struct, *arguments)
+            ends = function in self._ends
+            if not status or (ends and _FAULTS.get(status) is not NotBegun):
+                self._unfinished = not ends
+            return status
 
     def _take(self, function: Callable[..., int], piece: Buffer) -> None:
         """A call that only reads the piece."""
         slices = _slices(piece)
         try:
             _check(self._call(function, *slices))
-            self._unfinished = True
         except BaseException as error:
             self._end(error)
             raise
@@ -526,7 +531,6 @@ class _InPieces(_HasStruct):
             with room:
                 status = _in_place(room, self._call, (function,))
             _check(status)
-            self._unfinished = True
             return copy.getvalue()
         except BaseException as error:
             self._end(error)
@@ -537,21 +541,14 @@ class _InPieces(_HasStruct):
         with _writable(piece) as room:
             try:
                 _check(_in_place(room, self._call, (function,)))
-                self._unfinished = True
             except BaseException as error:
                 self._end(error)
                 raise
 
-    def _finish(self, function: Callable[..., int], *arguments: Any) -> int:
-        """A call that ends a pass or a reading, by any status but that of a call at the wrong time."""
-        status = self._call(function, *arguments)
-        self._unfinished = self._unfinished and _FAULTS.get(status) is NotBegun
-        return status
-
     def __exit__(self, kind: object = None, *exception: object) -> None:
-        unfinished = self._unfinished and self._struct is not None
+        struct = self._struct
         self.close()
-        if kind is None and unfinished:
+        if kind is None and self._unfinished and struct is not None and struct.process is _process:
             raise NotFinished()
 
     def _end(self, error: BaseException) -> None:
@@ -780,6 +777,7 @@ class Sealer(_Saves):
     _kind = _library.SEALER
     _saved = _library.SAVED_SEALER
     _init = staticmethod(_library.aeadkit_sealer_init)
+    _ends = (_library.aeadkit_sealer_finish,)
 
     def __init__(self, suite: int, key: Buffer, nonce: Buffer, *, aad: Optional[Buffer] = None) -> None:
         self._struct, self._unfinished = None, False
@@ -804,7 +802,7 @@ class Sealer(_Saves):
 
     def finish(self) -> bytes:
         """Ends the sealing, and returns its tag of 16 bytes. Raises NotBegun if it was finished before."""
-        return _tag(self._finish, _library.aeadkit_sealer_finish)
+        return _tag(self._call, _library.aeadkit_sealer_finish)
 
 
 class Opener(_Saves):
@@ -827,6 +825,7 @@ class Opener(_Saves):
     _kind = _library.OPENER
     _saved = _library.SAVED_OPENER
     _init = staticmethod(_library.aeadkit_opener_init)
+    _ends = (_library.aeadkit_opener_begin_second, _library.aeadkit_opener_finish)
     _init_tag = (bytes(_TAG_BYTES),)
 
     def __init__(self, suite: int, key: Buffer, nonce: Buffer, tag: Buffer, *, aad: Optional[Buffer] = None) -> None:
@@ -848,7 +847,7 @@ class Opener(_Saves):
         Raises TagMismatch if the pieces and the tag are not a valid sealing: the opening is over. Raises NotBegun if there is
         no first pass to end.
         """
-        _check(self._finish(_library.aeadkit_opener_begin_second))
+        _check(self._call(_library.aeadkit_opener_begin_second))
 
     # the name in version 2
     checked = begin_second
@@ -875,7 +874,7 @@ class Opener(_Saves):
         Raises SourceChanged if its pieces and the tag are not a valid sealing: throw away what update gave. Raises NotBegun if
         there is no second pass to end.
         """
-        _check(self._finish(_library.aeadkit_opener_finish))
+        _check(self._call(_library.aeadkit_opener_finish))
 
 
 class SivSealer(_Saves):
@@ -896,6 +895,7 @@ class SivSealer(_Saves):
     _kind = _library.SIV
     _saved = _library.SAVED_SIV
     _init = staticmethod(_library.aeadkit_siv_init)
+    _ends = (_library.aeadkit_siv_finish,)
 
     def __init__(self, suite: int, key: Buffer, nonce: Buffer, *, aad: Optional[Buffer] = None) -> None:
         self._struct, self._unfinished = None, False
@@ -939,7 +939,7 @@ class SivSealer(_Saves):
         Raises SourceChanged if its text has another length or tag than the first: throw away what update gave. Raises
         NotBegun if there is no second reading to end.
         """
-        _check(self._finish(_library.aeadkit_siv_finish))
+        _check(self._call(_library.aeadkit_siv_finish))
 
 
 # ---- Key wrapping
