@@ -82,7 +82,19 @@ for order in "-lby_the_other -lby_this" "-lby_this -lby_the_other"; do
     LD_LIBRARY_PATH=$room:$room/other:$out "$room/versions" \
         || { echo "of two versions in one process ($order) a caller gets the wrong one" >&2; exit 1; }
 done
-echo "ok: two versions of the library in one process"
+# Archives in two shared objects: each gets its own if it keeps the names of its archive to itself, as bindings/README.md says.
+cc -c -fPIC -DOTHER c/versions.c -o "$room/other.o"
+ar rc "$room/other/libaeadkit.a" "$room/other.o"
+cc -shared -fPIC -DCALLER=by_the_other c/versions.c "$room/other/libaeadkit.a" -Wl,--exclude-libs,libaeadkit.a \
+    -o "$room/libby_the_other.so"
+cc -shared -fPIC -DCALLER=by_this c/versions.c "$out/libaeadkit.a" -Wl,--exclude-libs,libaeadkit.a -o "$room/libby_this.so"
+grep -q -e "-Wl,--exclude-libs,libaeadkit.a" README.md
+for order in "-lby_the_other -lby_this" "-lby_this -lby_the_other"; do
+    cc c/versions.c -L"$room" $order -o "$room/versions"
+    LD_LIBRARY_PATH=$room "$room/versions" \
+        || { echo "of two archives in one process ($order) a caller gets the wrong one" >&2; exit 1; }
+done
+echo "ok: two versions of the library in one process, shared and as archives"
 
 export ASAN_OPTIONS=detect_leaks=0
 by="cc $strict -fsanitize=address,undefined -fno-sanitize-recover=all"
