@@ -22,9 +22,9 @@ copied before the call uses it, so another thread may write to it meanwhile. Res
 The calls whose names end in in_place change a writable buffer where it stands, such as a bytearray, and do not copy it. No
 other thread or process may read or write the buffer during such a call: an opening could otherwise give a text that was never
 sealed. The tag of 16 bytes is separate; the ciphertext and then the tag are the sealing that open takes. If an exception from
-a signal handler, such as KeyboardInterrupt, ends the call, the buffer may be changed already, and the tag is lost: do not seal
-the buffer again. A sealing or an opening in pieces is closed if such an exception ends its call on a piece, since nobody knows
-whether the piece was taken.
+a signal handler, such as KeyboardInterrupt, ends the call, the buffer of seal_in_place is as before, and that of open_in_place
+may hold the text already. A sealing or an opening in pieces is closed if such an exception ends its call on a piece, since
+nobody knows whether the piece was taken.
 
 A nonce is 12 bytes long. It is not secret, but it must never be used for two sealings under one key, and nothing here notices
 a repeat. Two sealings with one nonce give away the XOR of their texts, and enough to forge messages under the key; under
@@ -333,6 +333,25 @@ def _tag(call: Callable[..., int], *arguments: Any) -> bytes:
     return tag.raw
 
 
+def _sealed_in_place(text: Buffer, seal_call: Callable[..., int], open_call: Callable[..., int],
+                     arguments: Tuple[Any, ...]) -> bytes:
+    """Seals the bytes of a buffer where they stand, and returns the tag."""
+    tag = _Tag()
+    with _writable(text) as room:
+        try:
+            status = _in_place(room, seal_call, arguments, tag)
+            if not status:
+                return tag.raw
+        except BaseException:
+            # Nobody gets the tag. If there is one, the buffer is sealed, and sealed once more it could be the text again.
+            if any(tag.raw):
+                _in_place(room, open_call, arguments, tag)
+            del arguments
+            raise
+    del arguments  # an exception does not keep a key
+    _refuse(status)
+
+
 # ---- Whole messages
 
 
@@ -375,8 +394,8 @@ def seal_in_place(suite: int, key: Buffer, nonce: Buffer, text: Buffer, *, aad: 
 
     Raises UnknownSuite, KeyLength, NonceLength, AadTooLong or TextTooLong; or TypeError if the buffer is not writable.
     """
-    return _tag(_in_place, text, _library.aeadkit_seal_in_place,
-                (_suite_of(suite), *_slices(key, nonce, _aad_of(aad))))
+    return _sealed_in_place(text, _library.aeadkit_seal_in_place, _library.aeadkit_open_in_place,
+                            (_suite_of(suite), *_slices(key, nonce, _aad_of(aad))))
 
 
 def open_in_place(suite: int, key: Buffer, nonce: Buffer, ciphertext: Buffer, tag: Buffer, *,
@@ -626,8 +645,8 @@ class Key(_HasStruct):
         Raises NonceLength, AadTooLong or TextTooLong; NotBegun if __init__ raised an exception, and after close; or TypeError
         if the buffer is not writable.
         """
-        return _tag(_in_place, text, _library.aeadkit_seal_in_place_with,
-                    (self._get_struct(), *_slices(nonce, _aad_of(aad))))
+        return _sealed_in_place(text, _library.aeadkit_seal_in_place_with, _library.aeadkit_open_in_place_with,
+                                (self._get_struct(), *_slices(nonce, _aad_of(aad))))
 
     def open_in_place(self, nonce: Buffer, ciphertext: Buffer, tag: Buffer, *, aad: Optional[Buffer] = None) -> None:
         """Opens a sealing whose ciphertext is in a writable buffer, such as a bytearray: the ciphertext becomes its text.

@@ -503,6 +503,32 @@ class Closing(unittest.TestCase):
                 use(state)
                 state.finish()
 
+    def test_an_exception_that_ends_a_sealing_in_place(self):
+        """The tag is lost, so the sealing is undone: what is sealed twice under one nonce may be the text again."""
+        for suite in Suite:
+            key = Key(suite, KEY[: suite.key_bytes])
+            calls = {"aeadkit_seal_in_place_with": lambda text: key.seal_in_place(NONCE, text, aad=b"aad"),
+                     "aeadkit_seal_in_place": lambda text: aeadkit.seal_in_place(suite, KEY[: suite.key_bytes], NONCE, text,
+                                                                                 aad=b"aad")}
+            for name, call in calls.items():
+                real = getattr(aeadkit._library, name)
+
+                def before(*arguments):
+                    raise KeyboardInterrupt()
+
+                def after(*arguments):
+                    real(*arguments)
+                    raise KeyboardInterrupt()
+
+                for interrupted in (before, after):
+                    for text in (TEXT, b""):
+                        buffer = bytearray(text)
+                        with unittest.mock.patch.object(aeadkit._library, name, interrupted):
+                            self.assertRaises(KeyboardInterrupt, call, buffer)
+                        self.assertEqual(buffer, text)
+                        tag = call(buffer)
+                        self.assertEqual(buffer + tag, key.seal(NONCE, text, aad=b"aad"))
+
     def test_an_exception_that_ends_a_call_on_a_piece(self):
         """As one of a signal handler does: nobody knows whether the piece was taken, so nothing goes on, and no tag comes."""
         opener = Opener(Suite.AES_256_GCM, KEY, NONCE, SEALED[-16:], aad=b"aad")
