@@ -239,7 +239,8 @@ def _suite_of(suite: int) -> Suite:
 # ---- The arguments and the results of the library's functions
 
 
-# What stands for an address in the format of a buffer; Zf, Zd and Zg are complex numbers. Fields of structs have names.
+# What stands for an address in the format of a buffer: of anything, an object, a function or a string of ctypes. Zf, Zd and Zg
+# are complex numbers. Fields of structs have names.
 _has_addresses = re.compile("[&OPXz]|Z(?![fdg])").search
 _field_name = re.compile(":[^:]*:")
 
