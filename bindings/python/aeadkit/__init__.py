@@ -574,7 +574,7 @@ class _InPieces(_HasStruct):
     def _end(self, error: BaseException) -> None:
         """Closes the object, also for the calls of other threads, unless the library or the package refused a call."""
         struct = self._struct
-        if struct is None or isinstance(error, Refused):
+        if struct is None or struct.process is not _process or isinstance(error, Refused):
             return
         self._struct = None
         with struct.lock:
