@@ -443,7 +443,12 @@ class _Struct:
         self._wipe = kind.wipe
         self.suite = suite
         self.lock = threading.RLock()
-        self.process = _process
+        self._process = _process
+        self._process_number = os.getpid()
+
+    def is_forked(self) -> bool:
+        """Whether this process was forked from the struct's own: by Python, or by a library that does not tell Python."""
+        return self._process is not _process or self._process_number != os.getpid()
 
     def __del__(self) -> None:
         self._wipe(self._as_parameter_)
@@ -525,7 +530,7 @@ class _InPieces(_HasStruct):
 
     def _call(self, function: Callable[..., int], *arguments: Any) -> int:
         struct = self._get_struct()
-        if struct.process is not _process:
+        if struct.is_forked():
             raise NotBegun(f"this {type(self).__name__} belongs to the process that this one was forked from")
         with struct.lock:
             status = function(struct, *arguments)
@@ -568,13 +573,13 @@ class _InPieces(_HasStruct):
     def __exit__(self, kind: object = None, *exception: object) -> None:
         struct = self._struct
         self.close()
-        if kind is None and self._unfinished and struct is not None and struct.process is _process:
+        if kind is None and self._unfinished and struct is not None and not struct.is_forked():
             raise NotFinished()
 
     def _end(self, error: BaseException) -> None:
         """Closes the object, also for the calls of other threads, unless the library or the package refused a call."""
         struct = self._struct
-        if struct is None or struct.process is not _process or isinstance(error, Refused):
+        if struct is None or struct.is_forked() or isinstance(error, Refused):
             return
         self._struct = None
         with struct.lock:
