@@ -27,7 +27,8 @@ class Segments(unittest.TestCase):
                 for call in (segments.seal, segments.open_sealed):
                     target = io.BytesIO()
                     self.assertRaises(BlockingIOError, call, master, b"label", source, target)
-                    self.assertNotIn(given or b"x", target.getvalue())
+                    # the wrapped key at most, and no segment
+                    self.assertLessEqual(len(target.getvalue()), 40)
 
 
 if __name__ == "__main__":
