@@ -42,6 +42,18 @@ for compiler in c++ g++ clang++; do
         done
     fi
 done
+# A status that nobody looks at is warned of, whichever call it comes from.
+sed 's|/\*.*\*/||; /\/\*/,/\*\//d' "$prefix/include/aeadkit.h" | tr '\n' ' ' | tr ';' '\n' \
+    | sed -nE 's/.*uint32_t (aeadkit_[a-z_]*\(.*\))$/\1;/p' | sed -E 's/([(,])[^,()]+/\10/g' \
+    | grep -vE '^aeadkit_(version|suite_named)\(' > "$room/calls"
+{ echo '#include "aeadkit.h"'; echo 'void calls(void) {'; cat "$room/calls"; echo '}'; } > "$room/statuses.c"
+for compiler in cc gcc clang; do
+    if "$compiler" -fsyntax-only "$room/empty.c" > "$room/log" 2>&1; then
+        LC_ALL=C "$compiler" -std=c11 -I"$prefix/include" -c "$room/statuses.c" -o "$room/statuses.o" > "$room/log" 2>&1
+        [ "$(grep -c 'warning: ignoring return value' "$room/log")" = "$(wc -l < "$room/calls")" ] \
+            || { echo "$compiler says nothing of a status that is ignored:" >&2; cat "$room/log" >&2; exit 1; }
+    fi
+done
 # It declares what the library exports, and its only macros are the guard, the version and the attribute.
 grep -oE 'aeadkit_[a-z_]+\(' "$prefix/include/aeadkit.h" | tr -d '(' | sort -u > "$room/declared"
 grep -oE 'aeadkit_[a-z_]+' exports.map | sort -u | cmp - "$room/declared"
@@ -70,7 +82,19 @@ for order in "-lby_the_other -lby_this" "-lby_this -lby_the_other"; do
     LD_LIBRARY_PATH=$room:$room/other:$out "$room/versions" \
         || { echo "of two versions in one process ($order) a caller gets the wrong one" >&2; exit 1; }
 done
-echo "ok: two versions of the library in one process"
+# Archives in two shared objects: each gets its own if it keeps the names of its archive to itself, as bindings/README.md says.
+cc -c -fPIC -DOTHER c/versions.c -o "$room/other.o"
+ar rc "$room/other/libaeadkit.a" "$room/other.o"
+cc -shared -fPIC -DCALLER=by_the_other c/versions.c "$room/other/libaeadkit.a" -Wl,--exclude-libs,libaeadkit.a \
+    -o "$room/libby_the_other.so"
+cc -shared -fPIC -DCALLER=by_this c/versions.c "$out/libaeadkit.a" -Wl,--exclude-libs,libaeadkit.a -o "$room/libby_this.so"
+grep -q -e "-Wl,--exclude-libs,libaeadkit.a" README.md
+for order in "-lby_the_other -lby_this" "-lby_this -lby_the_other"; do
+    cc c/versions.c -L"$room" $order -o "$room/versions"
+    LD_LIBRARY_PATH=$room "$room/versions" \
+        || { echo "of two archives in one process ($order) a caller gets the wrong one" >&2; exit 1; }
+done
+echo "ok: two versions of the library in one process, shared and as archives"
 
 export ASAN_OPTIONS=detect_leaks=0
 by="cc $strict -fsanitize=address,undefined -fno-sanitize-recover=all"
@@ -150,6 +174,10 @@ not_opened "$room/key" label "$room/no-file"
 wanted="usage"
 not_opened "$room/key" label
 does 1 "$room/file" seal "$room/key" label "$folder/opened" "$room/no-folder/sealed"
+# what has more bytes than its length says would be cut
+does 1 "$room/file" seal "$room/key" label /dev/zero "$folder/opened"
+grep -q "longer than it was" "$room/fault"
+cmp "$room/text" "$folder/opened"
 [ "$(ls "$folder" | tr '\n' ' ')" = "opened sealed " ] || { echo "a temporary file is left" >&2; exit 1; }
 
 # The wrapping: of keys of each length, and with padding; each byte of it is changed.
@@ -200,6 +228,14 @@ for record in 0 999 1000 3999; do
     does 1 "$room/threads" $record
     [ "$(cat "$room/out")" = "3999 of 4000 records opened" ]
 done
+# What cannot be written is not done.
+if [ -e /dev/full ]; then
+    for example in message threads; do
+        status=0
+        "$room/$example" > /dev/full 2> "$room/fault" || status=$?
+        [ $status = 1 ] || { echo "$example writes nothing and ends with $status" >&2; exit 1; }
+    done
+fi
 echo "ok: the examples, whole and damaged: messages, files, wrappings and threads"
 
 # The backup: want STATUS WORD.. of backup, from in to out.

@@ -100,6 +100,26 @@ refused E0061 'aeadkit::wrap(&[0; 16], &mut text)?;'
 refused E0308 'aeadkit::wrap_padded(&[0; 16], &mut text, 7)?;'
 refused E0599 'let mut text = text.to_vec(); key.seal_vec(&[0; 12], &mut text, b"aad")?;'
 
+# A library of another version: one that says so, and one as before 3.0, whose calls have the same names and other arguments.
+user other
+echo 'fn main() { println!("{:?}", aeadkit::seal_to_vec(aeadkit::Suite::Aes128Gcm, &[0; 16], &[0; 12], b"a text", b"")); }' \
+    > "$room/other/src/main.rs"
+not_linked() {
+    ! (cd "$room/other" && AEADKIT_PREFIX="$room/$1" cargo build --quiet --offline) > "$room/log" 2>&1 \
+        || { echo "the crate is linked with a library of another version" >&2; exit 1; }
+    grep -q "$2" "$room/log" || { cat "$room/log" >&2; exit 1; }
+}
+mkdir -p "$room/older/lib" "$room/newer"
+cp -R "$prefix/lib" "$room/newer/"
+sed -i 's/^Version: .*/Version: 4.1.2/' "$room/newer/lib/pkgconfig/aeadkit.pc"
+not_linked newer "has version 4.1.2, and this crate"
+echo 'int aeadkit_seal(void) { return 0; } int aeadkit_open(void) { return 0; }' > "$room/older.c"
+cc -c "$room/older.c" -o "$room/older.o"
+ar rc "$room/older/lib/libaeadkit.a" "$room/older.o"
+not_linked older "aeadkit_version"
+mv "$room/newer/lib/pkgconfig/aeadkit.pc" "$room/older/"
+(export AEADKIT_PREFIX="$room/newer" && in_crate other run)
+
 # A program without std, and without an allocator.
 user bare ', default-features = false'
 cat > "$room/bare/src/main.rs" <<'RUST'

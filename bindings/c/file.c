@@ -51,6 +51,7 @@ int main(int count, char **words) {
             else done(last ? aeadkit_opener_update(&o, piece, n) : aeadkit_opener_check(&o, piece, n));
             need(!last || fwrite(piece, 1, n, out) == n, NULL);
         }
+        need(!sealing || fgetc(in) == EOF, "IN is longer than it was, or has no length"); /* the rest would not be sealed */
         done(sealing ? aeadkit_sealer_finish(&s, tag) : last ? aeadkit_opener_finish(&o) : aeadkit_opener_begin_second(&o));
     }
     need((!sealing || fwrite(tag, 1, TAG, out) == TAG) && !fflush(out) && !fsync(file) && !fclose(out)

@@ -1,6 +1,7 @@
 //! Finds libaeadkit.a: in the folder `lib` of the prefix that AEADKIT_PREFIX names; else in the prefix that this crate was
 //! laid out in; else where pkg-config says. If the program is compiled for processors with AVX2, the archive comes from the
-//! folder `x86-64-v3` there, if it has one.
+//! folder `x86-64-v3` there, if it has one. An archive of another major version is refused: its calls have the same names and may
+//! take other arguments, which no linker notices.
 
 use std::path::{Path, PathBuf};
 use std::process::Command;
@@ -30,6 +31,15 @@ fn is_fast() -> bool {
     FAST.iter().all(|wanted| features.split(',').any(|feature| feature == *wanted))
 }
 
+/// The version of the library in a folder, if pkg-config's file there names one of another major version than this crate has.
+fn other_version(lib: &Path) -> Option<String> {
+    let words = fs::read_to_string(lib.join("pkgconfig/aeadkit.pc")).ok()?;
+    let version = words.lines().find_map(|line| line.strip_prefix("Version:"))?.trim();
+    let major = env::var("CARGO_PKG_VERSION_MAJOR").ok()?;
+    // the sources in the repository have no version
+    (major != "0" && version.split('.').next() != Some(&major)).then(|| version.into())
+}
+
 fn main() {
     for name in ["AEADKIT_PREFIX", "PKG_CONFIG", "PKG_CONFIG_PATH"] {
         println!("cargo::rerun-if-env-changed={name}");
@@ -39,6 +49,11 @@ fn main() {
         .or_else(from_layout)
         .or_else(from_pkg_config)
         .and_then(|lib| fs::canonicalize(lib).ok());
+    if let Some((lib, version)) = lib.as_ref().and_then(|lib| Some((lib, other_version(lib)?))) {
+        let own = env::var("CARGO_PKG_VERSION").unwrap_or_default();
+        println!("cargo::error=the library in {} has version {version}, and this crate {own}", lib.display());
+        return;
+    }
     let fast = lib.as_ref().map(|lib| lib.join("x86-64-v3")).filter(|fast| fast.join("libaeadkit.a").exists());
     match fast.filter(|_| is_fast()).or(lib) {
         Some(lib) => {

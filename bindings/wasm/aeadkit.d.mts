@@ -47,7 +47,7 @@ export class SourceChanged extends Refused { readonly fault: "SourceChanged"; }
 export class UnknownSuite extends Refused { readonly fault: "UnknownSuite"; }
 /** The key or the state is wiped, or the state is finished, or is not in the pass or reading that the call belongs to. */
 export class NotBegun extends Refused { readonly fault: "NotBegun"; }
-/** The bytes are not a saved state of this class and suite, in the layout of this module. */
+/** The bytes are not a saved state of this class, suite, key and nonce, in the layout of this module. */
 export class NotSaved extends Refused { readonly fault: "NotSaved"; }
 
 /** The options of a call: a plain object, its last argument. A call throws a `TypeError` if it has a key of another name. */
@@ -254,10 +254,11 @@ export class Sealer {
     save(): Uint8Array;
 
     /**
-     * Goes on with the sealing that `save` ended. Suite, key and nonce are those that it was begun with; another key or nonce is
-     * not noticed here, and the sealing cannot be opened. Never resume one saved state twice: see `save`.
+     * Goes on with the sealing that `save` ended. Suite, key and nonce are those that it was begun with. Never resume one saved
+     * state twice: see `save`.
      *
-     * Throws the first of these that applies: `UnknownSuite` if the suite is not a number, `NotSaved`, `KeyLength`, `NonceLength`.
+     * Throws the first of these that applies: `UnknownSuite` if the suite is not a number, `NotSaved`, `KeyLength`, `NonceLength`,
+     * `NotSaved` if the saved state is one of another key or nonce.
      */
     static resume(aead: Aead, suite: Suite, key: Uint8Array, nonce: Uint8Array, saved: Uint8Array): Sealer;
 
@@ -279,7 +280,8 @@ export class Opener {
     constructor(aead: Aead, suite: Suite, key: Uint8Array, nonce: Uint8Array, tag: Uint8Array, options?: Options);
 
     /**
-     * Takes the next piece of the ciphertext in the first pass. The tag is not part of the ciphertext.
+     * Takes the next piece of the ciphertext in the first pass. The tag is not part of the ciphertext. Whether the sealing is
+     * valid is known from `beginSecond` alone.
      *
      * Throws `NotBegun` after the first pass, and `TextTooLong`, after which the piece does not count and a shorter one may
      * follow.
@@ -317,9 +319,10 @@ export class Opener {
 
     /**
      * Goes on with the opening that `save` saved, in the pass that it was in. Suite, key and nonce are those that it was begun
-     * with; another key or nonce is not noticed here, and what `update` then returns is not the text.
+     * with.
      *
-     * Throws the first of these that applies: `UnknownSuite` if the suite is not a number, `NotSaved`, `KeyLength`, `NonceLength`.
+     * Throws the first of these that applies: `UnknownSuite` if the suite is not a number, `NotSaved`, `KeyLength`, `NonceLength`,
+     * `NotSaved` if the saved state is one of another key or nonce.
      */
     static resume(aead: Aead, suite: Suite, key: Uint8Array, nonce: Uint8Array, saved: Uint8Array): Opener;
 
@@ -384,10 +387,10 @@ export class SivSealer {
 
     /**
      * Goes on with the sealing that `save` ended, in the reading that it was in. Suite, key and nonce are those that it was begun
-     * with; another key or nonce is not noticed here, and the sealing cannot be opened. Never resume one saved state twice: see
-     * `save`.
+     * with. Never resume one saved state twice: see `save`.
      *
-     * Throws the first of these that applies: `UnknownSuite` if the suite is not a number, `NotSaved`, `KeyLength`, `NonceLength`.
+     * Throws the first of these that applies: `UnknownSuite` if the suite is not a number, `NotSaved`, `KeyLength`, `NonceLength`,
+     * `NotSaved` if the saved state is one of another key or nonce.
      */
     static resume(aead: Aead, suite: Suite, key: Uint8Array, nonce: Uint8Array, saved: Uint8Array): SivSealer;
 

@@ -91,7 +91,7 @@ export class NotBegun extends Refused {
 
 export class NotSaved extends Refused {
     static fault = "NotSaved";
-    static message = "not a saved state of this class and suite";
+    static message = "not a saved state of this class, suite, key and nonce";
 }
 
 // The faults by their statuses. The length of a tag has none, since the library takes 16 bytes.
@@ -100,11 +100,19 @@ const FAULTS = {
     13: SourceChanged, 14: UnknownSuite, 15: NotBegun,
 };
 
-// Throws if an argument is not bytes.
+// Throws if an argument is not bytes. An array whose memory is gone has the length 0, but is no empty text: its buffer was
+// transferred, as to a worker, or became shorter.
 function wantBytes(...arrays) {
     for (const array of arrays) {
         if (!(array instanceof Uint8Array)) {
             throw new TypeError("a Uint8Array is required");
+        }
+        if (array.length === 0) {
+            try {
+                Uint8Array.prototype.keys.call(array);
+            } catch {
+                throw new TypeError("the memory of a Uint8Array is gone: its buffer was transferred or became shorter");
+            }
         }
     }
 }
@@ -262,11 +270,27 @@ function resumed(aead, kind, length, suite, key, nonce, saved) {
     if (saved.length !== length || saved[0] !== suite) {
         throw new NotSaved();
     }
+    let struct;
     try {
-        return new Struct(module, kind, `aeadkit_${kind}_resume`, key, nonce, constant(saved));
+        struct = new Struct(module, kind, `aeadkit_${kind}_resume`, key, nonce, constant(saved));
     } catch (error) {
         throw error instanceof NotBegun ? new NotSaved() : error;
     }
+    // The next 32 bytes are the key of the message's hash, which the key and the nonce make. The module does not compare them:
+    // here they are those of a state that has just begun. What went on under another key or nonce could not be opened.
+    const tag = kind === "opener" ? [constant(new Uint8Array(TAG_BYTES))] : [];
+    const begun = new Struct(module, kind, `aeadkit_${kind}_init`, suite, key, nonce, new Uint8Array(0), ...tag);
+    const alike = begun.made(length, `aeadkit_${kind}_save`);
+    begun.call(`aeadkit_${kind}_wipe`);
+    let differ = 0;
+    for (let i = 8; i < 40; i++) {
+        differ |= saved[i] ^ alike[i];
+    }
+    if (differ) {
+        struct.call(`aeadkit_${kind}_wipe`);
+        throw new NotSaved();
+    }
+    return struct;
 }
 
 /** The calls of aeadkit.wasm that seal and open. The constructor takes the bytes of that file. */

@@ -318,3 +318,21 @@ assert.throws(() => held.open(nonce, text), aeadkit.TagMismatch);
 assert(isZero());
 assert.throws(() => held.openInPlace(nonce, text.slice(), tag), aeadkit.TagMismatch);
 assert(isZero());
+
+// An array whose memory is gone has the length 0 and is no empty text. It is refused before any bytes are placed.
+const transferred = text.slice();
+structuredClone(transferred, { transfer: [transferred.buffer] });
+const shortened = new Uint8Array(new ArrayBuffer(40, { maxByteLength: 80 }), 8, 16);
+shortened.buffer.resize(10);
+for (const other of [transferred, shortened]) {
+    assert.equal(other.length, 0);
+    for (const call of [
+        () => held.seal(nonce, other), () => held.seal(nonce, text, { aad: other }), () => held.open(nonce, other),
+        () => held.sealInPlace(nonce, other), () => held.openInPlace(nonce, other, tag), () => held.sealer(nonce).update(other),
+        () => held.opener(nonce, tag).check(other), () => new SivSealer(watched, siv, key, nonce).absorb(other),
+        () => watched.seal(suite, key, nonce, other), () => new Key(watched, suite, other), () => keywrap.wrapPadded(key, other),
+    ]) {
+        assert.throws(call, { name: "TypeError", message: /^the memory of a Uint8Array is gone/ });
+        assert(isZero());
+    }
+}

@@ -75,6 +75,25 @@ for (const suite of Object.values(Suite)) {
         changed[i] ^= 0x40;
         assert.throws(() => Opener.resume(aead, suite, key, nonce, changed), NotSaved);
     }
+    // A saved state goes on under its own key and nonce alone: what went on under others could not be opened.
+    const flipped = (bytes, place) => bytes.map((byte, i) => (i === place ? byte ^ 1 : byte));
+    const second = kept.opener(nonce, tag, { aad });
+    second.check(body);
+    second.beginSecond();
+    const begun = siv(suite) ? kept.sivSealer(nonce, { aad }) : kept.sealer(nonce, { aad });
+    for (const [state, Class] of [[kept.opener(nonce, tag), Opener], [second, Opener], [begun, begun.constructor]]) {
+        const bytes = state.save();
+        for (const other of [flipped(key, 0), flipped(key, key.length - 1)]) {
+            assert.throws(() => Class.resume(aead, suite, other, nonce, bytes), NotSaved);
+        }
+        for (const other of [flipped(nonce, 0), flipped(nonce, 11)]) {
+            assert.throws(() => Class.resume(aead, suite, key, other, bytes), NotSaved);
+        }
+        for (let i = 8; i < 40; i++) {
+            assert.throws(() => Class.resume(aead, suite, key, nonce, flipped(bytes, i)), NotSaved);
+        }
+        assert.deepEqual(Class.resume(aead, suite, key, nonce, bytes).save(), bytes);
+    }
     assert.throws(() => Opener.resume(aead, suite, key.subarray(1), nonce, saved), aeadkit.KeyLength);
     assert.throws(() => Opener.resume(aead, suite, key, aad, saved), aeadkit.NonceLength);
     assert.throws(() => Opener.resume(aead, "2", key, nonce, saved), aeadkit.UnknownSuite);
@@ -86,4 +105,4 @@ for (const suite of Object.values(Suite)) {
     assert.equal(resumed.constructor, Opener);
     assert.deepEqual(saved, before);
 }
-assert.equal(String(new NotSaved()), "NotSaved: not a saved state of this class and suite");
+assert.equal(String(new NotSaved()), "NotSaved: not a saved state of this class, suite, key and nonce");

@@ -15,13 +15,16 @@ bytearray(b'another text')
 
 The associated data, aad, is neither hidden nor stored in the sealing, but opening with other associated data fails: put
 there whatever says which text it is. Keys, nonces, associated data and texts are bytes, or any object that gives its bytes:
-bytearray, memoryview, array.array, mmap.mmap, an array of numpy. Anything else is a TypeError. An argument that is not bytes
-is copied before the call uses it, so another thread may write to it meanwhile. Results are bytes.
+bytearray, memoryview, array.array, mmap.mmap, an array of numpy. Anything else is a TypeError, and so is an object whose bytes
+are addresses, such as a ctypes.c_char_p or an array of objects: for a c_char_p take its value. An argument that is not bytes is
+copied before the call uses it, so another thread may write to it meanwhile. Results are bytes.
 
 The calls whose names end in in_place change a writable buffer where it stands, such as a bytearray, and do not copy it. No
 other thread or process may read or write the buffer during such a call: an opening could otherwise give a text that was never
 sealed. The tag of 16 bytes is separate; the ciphertext and then the tag are the sealing that open takes. If an exception from
-a signal handler, such as KeyboardInterrupt, ends the call, the buffer may be changed already, and the tag is lost.
+a signal handler, such as KeyboardInterrupt, ends the call, the buffer of seal_in_place is as before, and that of open_in_place
+may hold the text already. A sealing or an opening in pieces is closed if such an exception ends its call on a piece, since
+nobody knows whether the piece was taken.
 
 A nonce is 12 bytes long. It is not secret, but it must never be used for two sealings under one key, and nothing here notices
 a repeat. Two sealings with one nonce give away the XOR of their texts, and enough to forge messages under the key; under
@@ -29,7 +32,8 @@ AES-GCM-SIV only whether the texts and the associated data are the same. A seali
 not finished. A counter does not repeat if it is stored before it is used. Random nonces serve for at most 2^32 sealings under
 a key (SP 800-38D, 8.3).
 
-A call that is refused raises a subclass of Refused. Faults of a suite and of lengths are ValueErrors too.
+A call that is refused raises a subclass of Refused. Faults of a suite and of lengths are ValueErrors too. A with statement over
+a sealing or an opening in pieces raises NotFinished if it ends before finish, save or close, and without another exception.
 
 The time that a call takes may depend on secrets, since AES looks tables up by secret bytes. A Key, a Sealer, an Opener and a
 SivSealer wipe the memory in which they hold the key when they are closed or deleted; a with statement closes them. The bytes of
@@ -42,8 +46,10 @@ other sizes, than this package expects. The version of the library that was load
 
 import ctypes
 import enum
+import hmac
 import io
 import os
+import re
 import sys
 import threading
 from typing import Any, Callable, Dict, List, NoReturn, Optional, Tuple, Type, TypeVar, Union
@@ -67,7 +73,7 @@ else:
 __all__ = ["Suite", "Key", "Sealer", "Opener", "SivSealer", "seal", "seal_in_place", "open_in_place", "wrap", "unwrap",
            "wrap_padded", "unwrap_padded", "Refused", "KeyLength", "NonceLength", "TextTooLong", "AadTooLong", "TooShort",
            "TagLength", "TagMismatch", "WrapLength", "WrapIntegrity", "SourceChanged", "UnknownSuite", "NotBegun", "NotSaved",
-           "library_version"]
+           "NotFinished", "library_version"]
 
 __version__ = "0.0.0"
 library_version: str = _library.VERSION
@@ -157,6 +163,13 @@ class NotBegun(Refused):
     message = "not begun, or already finished"
 
 
+class NotFinished(Refused):
+    """A with statement ended without an exception, and what it began was neither finished nor saved nor closed: a sealing has no
+    tag, a ciphertext was not authenticated, or a text of the second pass is not to be used."""
+
+    message = "the with statement ended before finish, save or close"
+
+
 _FAULTS: Dict[int, Type[Refused]] = {
     1: KeyLength, 2: NonceLength, 3: TextTooLong, 4: AadTooLong, 5: TooShort, 6: TagMismatch, 7: WrapLength, 8: WrapIntegrity,
     13: SourceChanged, 14: UnknownSuite, 15: NotBegun,
@@ -226,11 +239,27 @@ def _suite_of(suite: int) -> Suite:
 # ---- The arguments and the results of the library's functions
 
 
+# What stands for an address in the format of a buffer: of anything, an object, a function or a string of ctypes. Zf, Zd and Zg
+# are complex numbers. Fields of structs have names.
+_has_addresses = re.compile("[&OPXz]|Z(?![fdg])").search
+_field_name = re.compile(":[^:]*:")
+
+
+def _view_of(data: Buffer) -> memoryview:
+    """The memory of the data, if it holds the bytes that the caller means: no addresses of something else."""
+    view = memoryview(data)
+    form = view.format
+    if form != "B" and _has_addresses(_field_name.sub("", form)):
+        view.release()
+        raise TypeError(f"the bytes of a {type(data).__name__!r} are addresses, and not what stands there")
+    return view
+
+
 def _bytes_of(data: Buffer) -> bytes:
     """The bytes of the data, which no other thread can write."""
     if type(data) is bytes:
         return data
-    with memoryview(data) as view:
+    with _view_of(data) as view:
         return view.tobytes()
 
 
@@ -269,22 +298,24 @@ def _output(length: int, call: Callable[..., int], *arguments: Any) -> bytes:
     return output
 
 
-def _changed(piece: Buffer, call: Callable[..., int], *arguments: Any) -> bytes:
-    """What a call makes of a copy of the piece."""
-    with memoryview(piece) as view:
-        copy = io.BytesIO(piece if type(piece) is bytes else view if view.c_contiguous else view.tobytes())
-    # getbuffer copies bytes that it shares with the piece, and getvalue does not copy them once more
-    with copy.getbuffer() as room:
-        status = _in_place(room, call, arguments)
-    _check(status)
-    return copy.getvalue()
+def _copy_of(piece: Buffer) -> io.BytesIO:
+    """A copy of the piece: getbuffer copies bytes that it shares with the piece, and getvalue does not copy them once more."""
+    with _view_of(piece) as view:
+        return io.BytesIO(piece if type(piece) is bytes else view if view.c_contiguous else view.tobytes())
+
+
+def _writable(text: Buffer) -> memoryview:
+    """The memory of a text that is changed where it stands."""
+    view = _view_of(text)
+    if view.readonly or not view.c_contiguous:
+        view.release()
+        raise TypeError("a writable and contiguous buffer is required, such as a bytearray")
+    return view
 
 
 def _in_place(text: Buffer, call: Callable[..., int], arguments: Tuple[Any, ...], *after: Any) -> int:
     """Runs a call over the bytes of a buffer where they stand, and returns its status."""
-    with memoryview(text) as view:
-        if view.readonly or not view.c_contiguous:
-            raise TypeError("a writable and contiguous buffer is required, such as a bytearray")
+    with _writable(text) as view:
         size = view.nbytes
         address = ctypes.addressof(ctypes.c_ubyte.from_buffer(view)) if size else None
         return call(*arguments, address, size, *after)
@@ -301,6 +332,25 @@ def _tag(call: Callable[..., int], *arguments: Any) -> bytes:
         del arguments
         _refuse(status)
     return tag.raw
+
+
+def _sealed_in_place(text: Buffer, seal_call: Callable[..., int], open_call: Callable[..., int],
+                     arguments: Tuple[Any, ...]) -> bytes:
+    """Seals the bytes of a buffer where they stand, and returns the tag."""
+    tag = _Tag()
+    with _writable(text) as room:
+        try:
+            status = _in_place(room, seal_call, arguments, tag)
+            if not status:
+                return tag.raw
+        except BaseException:
+            # Nobody gets the tag. If there is one, the buffer is sealed, and sealed once more it could be the text again.
+            if any(tag.raw):
+                _in_place(room, open_call, arguments, tag)
+            del arguments
+            raise
+    del arguments  # an exception does not keep a key
+    _refuse(status)
 
 
 # ---- Whole messages
@@ -345,8 +395,8 @@ def seal_in_place(suite: int, key: Buffer, nonce: Buffer, text: Buffer, *, aad: 
 
     Raises UnknownSuite, KeyLength, NonceLength, AadTooLong or TextTooLong; or TypeError if the buffer is not writable.
     """
-    return _tag(_in_place, text, _library.aeadkit_seal_in_place,
-                (_suite_of(suite), *_slices(key, nonce, _aad_of(aad))))
+    return _sealed_in_place(text, _library.aeadkit_seal_in_place, _library.aeadkit_open_in_place,
+                            (_suite_of(suite), *_slices(key, nonce, _aad_of(aad))))
 
 
 def open_in_place(suite: int, key: Buffer, nonce: Buffer, ciphertext: Buffer, tag: Buffer, *,
@@ -393,7 +443,12 @@ class _Struct:
         self._wipe = kind.wipe
         self.suite = suite
         self.lock = threading.RLock()
-        self.process = _process
+        self._process = _process
+        self._process_number = os.getpid()
+
+    def is_forked(self) -> bool:
+        """Whether this process was forked from the struct's own: by Python, or by a library that does not tell Python."""
+        return self._process is not _process or self._process_number != os.getpid()
 
     def __del__(self) -> None:
         self._wipe(self._as_parameter_)
@@ -440,7 +495,8 @@ class _HasStruct:
 
     def close(self) -> None:
         """Wipes the memory that holds the key, after the last call in another thread that is using it. Each later call raises
-        NotBegun. A with statement does this at its end, and so does the deletion of the object."""
+        NotBegun. A with statement does this at its end, and so does the deletion of the object. A sealing or an opening in pieces
+        is given up by this; a with statement that ends without an exception, and before finish, raises NotFinished."""
         self._struct = None
 
     def __enter__(self: _Self) -> _Self:
@@ -460,16 +516,74 @@ class _InPieces(_HasStruct):
 
     It has no copies, and a process that was forked from its own cannot use it: two sealings that go on from one struct would
     seal two texts under one nonce.
+
+    If an exception from a signal handler ends a call on a piece, nobody knows whether the piece was taken. So the object is
+    closed: with a piece too many, or without what the call made of one, a sealing could not be opened.
     """
 
     _no_copies = ""
+    _kind: _library.Kind
+    # the functions that end it, or a pass after which nothing has to follow
+    _ends: Tuple[Callable[..., int], ...] = ()
+    # whether a call was done since it was begun or such an end
+    _unfinished = False
 
     def _call(self, function: Callable[..., int], *arguments: Any) -> int:
         struct = self._get_struct()
-        if struct.process is not _process:
+        if struct.is_forked():
             raise NotBegun(f"this {type(self).__name__} belongs to the process that this one was forked from")
         with struct.lock:
-            return function(struct, *arguments)
+            status = function(struct, *arguments)
+            ends = function in self._ends
+            if not status or (ends and _FAULTS.get(status) is not NotBegun):
+                self._unfinished = not ends
+            return status
+
+    def _take(self, function: Callable[..., int], piece: Buffer) -> None:
+        """A call that only reads the piece."""
+        slices = _slices(piece)
+        try:
+            _check(self._call(function, *slices))
+        except BaseException as error:
+            self._end(error)
+            raise
+
+    def _change(self, function: Callable[..., int], piece: Buffer) -> bytes:
+        """What a call makes of a copy of the piece."""
+        copy = _copy_of(piece)
+        room = copy.getbuffer()
+        try:
+            with room:
+                status = _in_place(room, self._call, (function,))
+            _check(status)
+            return copy.getvalue()
+        except BaseException as error:
+            self._end(error)
+            raise
+
+    def _change_in_place(self, function: Callable[..., int], piece: Buffer) -> None:
+        """A call that changes the piece where it stands."""
+        with _writable(piece) as room:
+            try:
+                _check(_in_place(room, self._call, (function,)))
+            except BaseException as error:
+                self._end(error)
+                raise
+
+    def __exit__(self, kind: object = None, *exception: object) -> None:
+        struct = self._struct
+        self.close()
+        if kind is None and self._unfinished and struct is not None and not struct.is_forked():
+            raise NotFinished()
+
+    def _end(self, error: BaseException) -> None:
+        """Closes the object, also for the calls of other threads, unless the library or the package refused a call."""
+        struct = self._struct
+        if struct is None or struct.is_forked() or isinstance(error, Refused):
+            return
+        self._struct = None
+        with struct.lock:
+            self._kind.wipe(struct)
 
     def __reduce__(self) -> NoReturn:
         raise TypeError(f"{type(self).__name__} objects cannot be copied or pickled: {self._no_copies}")
@@ -537,8 +651,8 @@ class Key(_HasStruct):
         Raises NonceLength, AadTooLong or TextTooLong; NotBegun if __init__ raised an exception, and after close; or TypeError
         if the buffer is not writable.
         """
-        return _tag(_in_place, text, _library.aeadkit_seal_in_place_with,
-                    (self._get_struct(), *_slices(nonce, _aad_of(aad))))
+        return _sealed_in_place(text, _library.aeadkit_seal_in_place_with, _library.aeadkit_open_in_place_with,
+                                (self._get_struct(), *_slices(nonce, _aad_of(aad))))
 
     def open_in_place(self, nonce: Buffer, ciphertext: Buffer, tag: Buffer, *, aad: Optional[Buffer] = None) -> None:
         """Opens a sealing whose ciphertext is in a writable buffer, such as a bytearray: the ciphertext becomes its text.
@@ -600,9 +714,9 @@ class Key(_HasStruct):
 
 
 class NotSaved(Refused, ValueError):
-    """The bytes are not what save returned, for this class and suite."""
+    """The bytes are not what save returned, for this class, suite, key and nonce."""
 
-    message = "not a saved state of this class and suite"
+    message = "not a saved state of this class, suite, key and nonce"
 
 
 _State = TypeVar("_State", bound="_Saves")
@@ -611,8 +725,9 @@ _State = TypeVar("_State", bound="_Saves")
 class _Saves(_InPieces):
     """A state in pieces that can be saved as bytes, and resumed from them."""
 
-    _kind: _library.Kind
     _saved: _library.Saved
+    _init: Callable[..., int]
+    _init_tag: Tuple[bytes, ...] = ()
 
     def save(self) -> bytes:
         """Returns the state as bytes, and closes this object: resume goes on from the bytes, after a restart too.
@@ -644,20 +759,27 @@ class _Saves(_InPieces):
         """Returns the state that was saved, which goes on where it was, in the pass or the reading that it was in.
 
         NEVER RESUME ONE SAVED STATE OF A SEALING TWICE: two texts would be sealed under one nonce, which gives away their XOR,
-        and enough to forge messages. The suite, the key and the nonce are those that it was begun with, of which the library
-        notices only another suite: a sealing that goes on under another key or nonce cannot be opened.
+        and enough to forge messages. The suite, the key and the nonce are those that it was begun with.
 
-        Raises NotSaved if the bytes are not what save returned, for this class and suite; UnknownSuite, KeyLength or
-        NonceLength; or NotImplementedError if the library that was loaded cannot resume.
+        Raises NotSaved if the bytes are not what save returned, for this class, suite, key and nonce: a sealing that went on
+        under another key or nonce could not be opened. Raises UnknownSuite, KeyLength or NonceLength; or NotImplementedError
+        if the library that was loaded cannot resume.
         """
         member, slices, data = _suite_of(suite), _slices(key, nonce), _bytes_of(saved)
         # the first number is the mark, whose lowest byte is the suite
         if len(data) != ctypes.sizeof(cls._saved.memory) or data[0] != member:
             raise NotSaved()
         try:
-            return cls._of(_begin(cls._kind, member, cls._saved.resume, *slices, cls._saved.memory.from_buffer_copy(data)))
+            struct = _begin(cls._kind, member, cls._saved.resume, *slices, cls._saved.memory.from_buffer_copy(data))
         except NotBegun:
             raise NotSaved() from None
+        # The next four numbers are the key of the message's hash, which the key and the nonce make. The library does not
+        # compare them: here they are those of a state that has just begun.
+        begun, numbers = _begin(cls._kind, member, cls._init, member, *slices, None, 0, *cls._init_tag), cls._saved.memory()
+        _check(cls._saved.save(begun, numbers))
+        if not hmac.compare_digest(bytes(numbers)[8:40], data[8:40]):
+            raise NotSaved()
+        return cls._of(struct)
 
 
 # ---- Messages in pieces
@@ -679,11 +801,13 @@ class Sealer(_Saves):
     _no_copies = "two copies would seal two texts under one nonce"
     _kind = _library.SEALER
     _saved = _library.SAVED_SEALER
+    _init = staticmethod(_library.aeadkit_sealer_init)
+    _ends = (_library.aeadkit_sealer_finish,)
 
     def __init__(self, suite: int, key: Buffer, nonce: Buffer, *, aad: Optional[Buffer] = None) -> None:
-        self._struct = None
+        self._struct, self._unfinished = None, False
         member = _suite_of(suite)
-        self._struct = _begin(self._kind, member, _library.aeadkit_sealer_init, member, *_slices(key, nonce, _aad_of(aad)))
+        self._struct = _begin(self._kind, member, self._init, member, *_slices(key, nonce, _aad_of(aad)))
 
     def update(self, piece: Buffer) -> bytes:
         """Returns the ciphertext of the next piece of the text, which may have any length.
@@ -691,7 +815,7 @@ class Sealer(_Saves):
         Raises NotBegun after finish, or in a forked process; or TextTooLong if the whole text would be too long: a shorter
         piece may follow.
         """
-        return _changed(piece, self._call, _library.aeadkit_sealer_update)
+        return self._change(_library.aeadkit_sealer_update, piece)
 
     def update_in_place(self, piece: Buffer) -> None:
         """Takes the next piece of the text, in a writable buffer, which becomes its ciphertext. No other thread may read or
@@ -699,7 +823,7 @@ class Sealer(_Saves):
 
         Raises NotBegun and TextTooLong as update does, and the buffer is as before; or TypeError if it is not writable.
         """
-        _check(_in_place(piece, self._call, (_library.aeadkit_sealer_update,)))
+        self._change_in_place(_library.aeadkit_sealer_update, piece)
 
     def finish(self) -> bytes:
         """Ends the sealing, and returns its tag of 16 bytes. Raises NotBegun if it was finished before."""
@@ -725,19 +849,22 @@ class Opener(_Saves):
     _no_copies = "it holds the key of the message; begin another Opener"
     _kind = _library.OPENER
     _saved = _library.SAVED_OPENER
+    _init = staticmethod(_library.aeadkit_opener_init)
+    _ends = (_library.aeadkit_opener_begin_second, _library.aeadkit_opener_finish)
+    _init_tag = (bytes(_TAG_BYTES),)
 
     def __init__(self, suite: int, key: Buffer, nonce: Buffer, tag: Buffer, *, aad: Optional[Buffer] = None) -> None:
-        self._struct = None
+        self._struct, self._unfinished = None, False
         member = _suite_of(suite)
-        self._struct = _begin(self._kind, member, _library.aeadkit_opener_init, member, *_slices(key, nonce, _aad_of(aad)),
+        self._struct = _begin(self._kind, member, self._init, member, *_slices(key, nonce, _aad_of(aad)),
                               _tag_of(tag))
 
     def check(self, piece: Buffer) -> None:
-        """Takes the next piece of the ciphertext in the first pass.
+        """Takes the next piece of the ciphertext in the first pass. Whether the sealing is valid is known from begin_second alone.
 
         Raises NotBegun after begin_second; or TextTooLong if the whole text would be too long: a shorter piece may follow.
         """
-        _check(self._call(_library.aeadkit_opener_check, *_slices(piece)))
+        self._take(_library.aeadkit_opener_check, piece)
 
     def begin_second(self) -> None:
         """Ends the first pass, and begins the second one.
@@ -756,7 +883,7 @@ class Opener(_Saves):
         Raises NotBegun before begin_second and after finish; or SourceChanged if the second pass would be longer than the
         first.
         """
-        return _changed(piece, self._call, _library.aeadkit_opener_update)
+        return self._change(_library.aeadkit_opener_update, piece)
 
     def update_in_place(self, piece: Buffer) -> None:
         """Takes the next piece of the ciphertext in the second pass, in a writable buffer, which becomes its text. No other
@@ -764,7 +891,7 @@ class Opener(_Saves):
 
         Raises NotBegun and SourceChanged as update does, and the buffer is as before; or TypeError if it is not writable.
         """
-        _check(_in_place(piece, self._call, (_library.aeadkit_opener_update,)))
+        self._change_in_place(_library.aeadkit_opener_update, piece)
 
     def finish(self) -> None:
         """Ends the second pass.
@@ -792,18 +919,20 @@ class SivSealer(_Saves):
     _no_copies = "two copies would seal two texts under one nonce"
     _kind = _library.SIV
     _saved = _library.SAVED_SIV
+    _init = staticmethod(_library.aeadkit_siv_init)
+    _ends = (_library.aeadkit_siv_finish,)
 
     def __init__(self, suite: int, key: Buffer, nonce: Buffer, *, aad: Optional[Buffer] = None) -> None:
-        self._struct = None
+        self._struct, self._unfinished = None, False
         member = _suite_of(suite)
-        self._struct = _begin(self._kind, member, _library.aeadkit_siv_init, member, *_slices(key, nonce, _aad_of(aad)))
+        self._struct = _begin(self._kind, member, self._init, member, *_slices(key, nonce, _aad_of(aad)))
 
     def absorb(self, piece: Buffer) -> None:
         """Takes the next piece of the text in the first reading.
 
         Raises NotBegun after begin_second; or TextTooLong if the whole text would be too long: a shorter piece may follow.
         """
-        _check(self._call(_library.aeadkit_siv_absorb, *_slices(piece)))
+        self._take(_library.aeadkit_siv_absorb, piece)
 
     def begin_second(self) -> bytes:
         """Ends the first reading, begins the second one, and returns the tag of the text, of 16 bytes. Raises NotBegun if there
@@ -819,7 +948,7 @@ class SivSealer(_Saves):
         Raises NotBegun before begin_second and after finish; or SourceChanged if the second reading would be longer than the
         first.
         """
-        return _changed(piece, self._call, _library.aeadkit_siv_update)
+        return self._change(_library.aeadkit_siv_update, piece)
 
     def update_in_place(self, piece: Buffer) -> None:
         """Takes the next piece of the text in the second reading, in a writable buffer, which becomes its ciphertext. No other
@@ -827,7 +956,7 @@ class SivSealer(_Saves):
 
         Raises NotBegun and SourceChanged as update does, and the buffer is as before; or TypeError if it is not writable.
         """
-        _check(_in_place(piece, self._call, (_library.aeadkit_siv_update,)))
+        self._change_in_place(_library.aeadkit_siv_update, piece)
 
     def finish(self) -> None:
         """Ends the second reading.

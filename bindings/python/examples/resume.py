@@ -3,11 +3,13 @@
 KEYFILE holds 32 bytes. OUT becomes the nonce, the ciphertext and the tag. If the program is stopped at any time, run it again:
 each turn of its loop begins with the step in OUT.step, so a restart is a turn like any other. A step has a piece of OUT, and
 the state that comes after the piece. The next step replaces it on the disk before its own piece is written to OUT: of what is
-sealed from one state no two pieces are ever seen, even if IN is changed between two runs.
+sealed from one state no two pieces are ever seen, even if IN is changed between two runs. Two runs at once would go on from one
+state: the second one is refused.
 
 OUT.step is as secret as KEYFILE, and must lie where nobody else can write. It is removed when OUT is whole.
 """
 
+import fcntl
 import json
 import os
 import sys
@@ -31,11 +33,15 @@ def store(path: str, step: object) -> None:
 
 def seal_file(key: bytes, source_name: str, target_name: str) -> None:
     path = target_name + ".step"
-    if not os.path.exists(path):
-        open(target_name, "wb").close()
-        nonce = os.urandom(NONCE)
-        store(path, [nonce.hex(), 0, nonce.hex(), Sealer(SUITE, key, nonce).save().hex()])
-    with open(source_name, "rb") as source, open(target_name, "r+b") as target:
+    flags = os.O_RDWR | os.O_CREAT
+    with open(source_name, "rb") as source, os.fdopen(os.open(target_name, flags, 0o600), "r+b") as target:
+        if os.path.sameopenfile(source.fileno(), target.fileno()):
+            raise ValueError("IN and OUT are one file, which would be lost")
+        fcntl.flock(target, fcntl.LOCK_EX | fcntl.LOCK_NB)
+        if not os.path.exists(path):
+            target.truncate()
+            nonce = os.urandom(NONCE)
+            store(path, [nonce.hex(), 0, nonce.hex(), Sealer(SUITE, key, nonce).save().hex()])
         while True:
             with open(path) as file:
                 hex_nonce, at, piece, saved = json.load(file)

@@ -37,7 +37,12 @@ def segments(source: BinaryIO, size: int) -> Iterator[Tuple[bytes, bytes]]:
 def read(source: BinaryIO, size: int) -> bytes:
     """The next bytes: fewer only at the end, though a pipe gives what it has."""
     parts = []
-    while size and (part := source.read(size)):
+    while size:
+        part = source.read(size)
+        if part is None:  # a pipe that does not wait, and is not at its end: what comes later would be cut off
+            raise BlockingIOError("the input does not wait for more")
+        if not part:
+            break
         parts.append(part)
         size -= len(part)
     return b"".join(parts)
@@ -66,7 +71,7 @@ def main() -> None:
     try:
         calls[sys.argv[1]](master, os.fsencode(sys.argv[3]), sys.stdin.buffer, sys.stdout.buffer)
         sys.stdout.buffer.flush()
-    except Refused as fault:
+    except (Refused, OSError) as fault:
         sys.exit(f"segments.py: {fault}")
 
 

@@ -224,6 +224,38 @@ class Buffers(unittest.TestCase):
         one = ctypes.c_uint32(7)
         self.assertEqual(aeadkit.open(SUITE, KEY, NONCE, aeadkit.seal(SUITE, KEY, NONCE, one)), bytes(one))
 
+    def test_addresses(self):
+        """The bytes of a pointer say where a text stands. Sealed instead of the text, they are all that an opening would give."""
+
+        class Record(ctypes.Structure):
+            _fields_ = [("number", ctypes.c_uint32), ("text", ctypes.c_char_p)]
+
+        class Numbers(ctypes.Structure):
+            _fields_ = [("P", ctypes.c_uint32), ("zO", ctypes.c_uint32)]
+
+        objects = [ctypes.c_char_p(TEXT), ctypes.c_wchar_p("a text"), ctypes.c_void_p(1), ctypes.py_object(TEXT),
+                   ctypes.pointer(ctypes.c_uint32(7)), (ctypes.c_char_p * 2)(TEXT, TEXT), (ctypes.py_object * 2)(TEXT, TEXT),
+                   Record(1, TEXT), (Record * 2)(), ctypes.CFUNCTYPE(None)(print), memoryview(ctypes.c_char_p(TEXT))]
+        plain = [Numbers(1, 2), (Numbers * 2)(), ctypes.create_string_buffer(TEXT), ctypes.create_unicode_buffer("a text")]
+        if "numpy" in sys.modules:
+            objects += [numpy.array([TEXT, TEXT], dtype=object), numpy.zeros(2, dtype=[("a", "i4"), ("b", object)])]
+            plain += [numpy.zeros(4, dtype="c16"), numpy.zeros(2, dtype=[("Z", "i4"), ("O", "c8")]), numpy.array(["text"])]
+        key = Key(SUITE, KEY)
+        for data in objects:
+            before = bytes(memoryview(data).tobytes())
+            for call in (lambda: key.seal(NONCE, data), lambda: key.seal(NONCE, TEXT, aad=data),
+                         lambda: aeadkit.seal(SUITE, KEY, NONCE, data), lambda: aeadkit.seal_in_place(SUITE, KEY, NONCE, data),
+                         lambda: key.seal_in_place(NONCE, data), lambda: key.open_in_place(NONCE, data, bytes(16)),
+                         lambda: key.sealer(NONCE).update(data), lambda: key.sealer(NONCE).update_in_place(data),
+                         lambda: key.opener(NONCE, bytes(16)).check(data), lambda: aeadkit.wrap_padded(KEY, data),
+                         lambda: Key(SUITE, data), lambda: key.open(NONCE, data)):
+                self.assertRaisesRegex(TypeError, "are addresses", call)
+            self.assertEqual(memoryview(data).tobytes(), before)
+        for data in plain:
+            text = memoryview(data).tobytes()
+            self.assertEqual(key.seal(NONCE, data), key.seal(NONCE, text))
+            self.assertEqual(key.sealer(NONCE).update(data), key.seal(NONCE, text)[:-16])
+
     def test_nothing_is_held_after_a_call(self):
         """A bytearray can grow again, also while its fault is handled."""
         key, text, sealed = Key(SUITE, KEY), bytearray(TEXT), bytearray(SEALED)

@@ -7,6 +7,7 @@ import pickle
 import subprocess
 import sys
 import unittest
+import unittest.mock
 
 import aeadkit
 from aeadkit import Key, Opener, Sealer, SivSealer, Suite
@@ -18,7 +19,7 @@ SEALED = aeadkit.seal(Suite.AES_256_GCM, KEY, NONCE, TEXT, aad=b"aad")
 SIV_SEALED = aeadkit.seal(Suite.AES_256_GCM_SIV, KEY, NONCE, TEXT, aad=b"aad")
 LENGTHS = (aeadkit.KeyLength, aeadkit.NonceLength, aeadkit.TextTooLong, aeadkit.AadTooLong, aeadkit.TooShort,
            aeadkit.TagLength, aeadkit.WrapLength, aeadkit.NotSaved)
-OTHERS = (aeadkit.TagMismatch, aeadkit.WrapIntegrity, aeadkit.SourceChanged, aeadkit.NotBegun)
+OTHERS = (aeadkit.TagMismatch, aeadkit.WrapIntegrity, aeadkit.SourceChanged, aeadkit.NotBegun, aeadkit.NotFinished)
 
 
 class Arguments(unittest.TestCase):
@@ -408,6 +409,161 @@ class Closing(unittest.TestCase):
         opener.check(SEALED[:-16])
         opener.begin_second()
         self.assertEqual(opener.update(SEALED[:-16]), TEXT)
+
+    def test_a_with_statement_that_ends_before_finish(self):
+        """A forgotten call would lose the tag, or leave a ciphertext or a text that nobody authenticated."""
+        body, tag = SEALED[:-16], SEALED[-16:]
+
+        def sealer(state):
+            state.update(TEXT)
+
+        def sealer_in_place(state):
+            state.update_in_place(bytearray(TEXT))
+
+        def check(state):
+            state.check(body)
+
+        def second(state):
+            check(state)
+            state.begin_second()
+            state.update(body)
+
+        def out_of_order(state):
+            check(state)
+            self.assertRaises(aeadkit.NotBegun, state.finish)
+
+        def out_of_second_order(state):
+            second(state)
+            self.assertRaises(aeadkit.NotBegun, state.begin_second)
+
+        def too_long(state):
+            second(state)
+            self.assertRaises(aeadkit.SourceChanged, state.update, b"more")
+
+        def absorb(state):
+            state.absorb(TEXT)
+
+        def reading(state):
+            absorb(state)
+            state.begin_second()
+
+        def writing(state):
+            reading(state)
+            state.update_in_place(bytearray(TEXT))
+
+        def checked(state):
+            check(state)
+            state.begin_second()
+
+        def mismatch(state):
+            state.check(TEXT)
+            self.assertRaises(aeadkit.TagMismatch, state.begin_second)
+
+        def changed(state):
+            checked(state)
+            state.update(TEXT)
+            self.assertRaises(aeadkit.SourceChanged, state.finish)
+
+        def nothing(state):
+            pass
+
+        begin = {"sealer": lambda: Sealer(Suite.AES_256_GCM, KEY, NONCE, aad=b"aad"),
+                 "opener": lambda: Key(Suite.AES_256_GCM, KEY).opener(NONCE, tag, aad=b"aad"),
+                 "siv": lambda: SivSealer(Suite.AES_256_GCM_SIV, KEY, NONCE)}
+        unfinished = [("sealer", sealer), ("sealer", sealer_in_place), ("opener", check), ("opener", second),
+                      ("opener", out_of_order), ("opener", out_of_second_order), ("opener", too_long), ("siv", absorb),
+                      ("siv", reading), ("siv", writing)]
+        for kind, use in unfinished:
+            state = begin[kind]()
+            with self.assertRaisesRegex(aeadkit.NotFinished, "before finish"):
+                with state:
+                    use(state)
+            self.assertRaisesRegex(aeadkit.NotBegun, "closed", state.finish)
+            # another exception is not replaced, and who gives up, saves or begins anew says so
+            with self.assertRaises(KeyError):
+                with begin[kind]() as state:
+                    use(state)
+                    raise KeyError()
+            for end in ("close", "save"):
+                with begin[kind]() as state:
+                    use(state)
+                    getattr(state, end)()
+            with begin[kind]() as state:
+                use(state)
+                state.__init__(state.suite, KEY, NONCE, *((tag,) if kind == "opener" else ()))
+            saved = begin[kind]()
+            use(saved)
+            with type(saved).resume(saved.suite, KEY, NONCE, saved.save()) as state:
+                pass
+        for kind, use in [(kind, nothing) for kind in begin] + [("opener", checked), ("opener", mismatch), ("opener", changed)]:
+            with begin[kind]() as state:
+                use(state)
+        for kind, use in unfinished[:2] + [unfinished[3], unfinished[5], unfinished[9]]:
+            with begin[kind]() as state:
+                use(state)
+                state.finish()
+
+    def test_an_exception_that_ends_a_sealing_in_place(self):
+        """The tag is lost, so the sealing is undone: what is sealed twice under one nonce may be the text again."""
+        for suite in Suite:
+            key = Key(suite, KEY[: suite.key_bytes])
+            calls = {"aeadkit_seal_in_place_with": lambda text: key.seal_in_place(NONCE, text, aad=b"aad"),
+                     "aeadkit_seal_in_place": lambda text: aeadkit.seal_in_place(suite, KEY[: suite.key_bytes], NONCE, text,
+                                                                                 aad=b"aad")}
+            for name, call in calls.items():
+                real = getattr(aeadkit._library, name)
+
+                def before(*arguments):
+                    raise KeyboardInterrupt()
+
+                def after(*arguments):
+                    real(*arguments)
+                    raise KeyboardInterrupt()
+
+                for interrupted in (before, after):
+                    for text in (TEXT, b""):
+                        buffer = bytearray(text)
+                        with unittest.mock.patch.object(aeadkit._library, name, interrupted):
+                            self.assertRaises(KeyboardInterrupt, call, buffer)
+                        self.assertEqual(buffer, text)
+                        tag = call(buffer)
+                        self.assertEqual(buffer + tag, key.seal(NONCE, text, aad=b"aad"))
+
+    def test_an_exception_that_ends_a_call_on_a_piece(self):
+        """As one of a signal handler does: nobody knows whether the piece was taken, so nothing goes on, and no tag comes."""
+        opener = Opener(Suite.AES_256_GCM, KEY, NONCE, SEALED[-16:], aad=b"aad")
+        opener.check(SEALED[:-16])
+        opener.begin_second()
+        second = opener.save()
+        siv = SivSealer(Suite.AES_256_GCM_SIV, KEY, NONCE)
+        siv.absorb(TEXT)
+        siv.begin_second()
+        reading = siv.save()
+        begin = {"sealer_update": lambda: Sealer(Suite.AES_256_GCM, KEY, NONCE),
+                 "opener_check": lambda: Opener(Suite.AES_256_GCM, KEY, NONCE, SEALED[-16:]),
+                 "opener_update": lambda: Opener.resume(Suite.AES_256_GCM, KEY, NONCE, second),
+                 "siv_absorb": lambda: SivSealer(Suite.AES_256_GCM_SIV, KEY, NONCE),
+                 "siv_update": lambda: SivSealer.resume(Suite.AES_256_GCM_SIV, KEY, NONCE, reading)}
+        for name, call in begin.items():
+            method = name.split("_")[1]
+            for way, piece in ((method, b"a piece"), (method, bytearray(b"a piece")), (f"{method}_in_place", bytearray(b"a piece"))):
+                state = call()
+                if not hasattr(state, way):
+                    continue
+                real, held = getattr(aeadkit._library, f"aeadkit_{name}"), state._struct
+
+                def interrupted(*arguments):
+                    real(*arguments)
+                    raise KeyboardInterrupt()
+
+                with unittest.mock.patch.object(aeadkit._library, f"aeadkit_{name}", interrupted):
+                    self.assertRaises(KeyboardInterrupt, getattr(state, way), piece)
+                # also for a call of another thread that waits for the struct
+                self.assertEqual(bytes(held._memory), bytes(len(bytes(held._memory))))
+                self.assertRaisesRegex(aeadkit.NotBegun, "closed", getattr(state, way), piece)
+                self.assertRaisesRegex(aeadkit.NotBegun, "closed", state.finish)
+                if type(piece) is bytearray:
+                    piece += b"more"
 
     def test_an_exception_keeps_no_key(self):
         """A struct is wiped with its object, though a traceback has the frames of a call that was refused."""

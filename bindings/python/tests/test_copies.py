@@ -1,6 +1,7 @@
 """Copies of keys and of sealings and openings in pieces: copy, pickle, dataclasses and fork."""
 
 import copy
+import ctypes
 import dataclasses
 import os
 import pickle
@@ -123,16 +124,29 @@ class States(unittest.TestCase):
 
 @unittest.skipUnless(hasattr(os, "fork"), "no fork")
 class Forks(unittest.TestCase):
-    def in_child(self, call):
+    def in_child(self, call, fork=os.fork):
         """Whether the call returns true in a forked process."""
         sys.stdout.flush()
-        child = os.fork()
+        child = fork()
         if child == 0:
             try:
                 os._exit(0 if call() else 1)
             except BaseException:
                 os._exit(2)
         return os.waitpid(child, 0)[1] == 0
+
+    def test_a_fork_that_python_does_not_know(self):
+        """As by a library of C, which runs none of Python's hooks."""
+        for state in states():
+
+            def refused():
+                try:
+                    state.save()
+                except aeadkit.NotBegun as fault:
+                    return "forked" in str(fault)
+                return False
+
+            self.assertTrue(self.in_child(refused, ctypes.PyDLL(None).fork), state)
 
     def test_a_state_stays_with_its_process(self):
         for state in states():
@@ -157,6 +171,18 @@ class Forks(unittest.TestCase):
         made = sealer.update(b"te")
         self.in_child(lambda: sealer.update(b"XX"))
         self.assertEqual(made + sealer.update(b"xt") + sealer.finish(), Key(Suite.AES_256_GCM, KEY).seal(NONCE, b"text"))
+
+    def test_a_child_may_leave_a_with_statement(self):
+        """What its parent has to finish is not the child's."""
+        with Sealer(Suite.AES_256_GCM, KEY, NONCE) as sealer:
+            made = sealer.update(b"text")
+
+            def leaves():
+                sealer.__exit__(None, None, None)
+                return True
+
+            self.assertTrue(self.in_child(leaves))
+            self.assertEqual(made + sealer.finish(), Key(Suite.AES_256_GCM, KEY).seal(NONCE, b"text"))
 
     def test_a_child_has_keys_and_states_of_its_own(self):
         key = Key(Suite.AES_256_GCM, KEY)

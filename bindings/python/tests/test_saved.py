@@ -145,12 +145,27 @@ class Saved(unittest.TestCase):
                 self.assertRaises(TypeError, cls.resume, suite, key, NONCE, data)
             self.assertEqual(cls.resume(suite, key, NONCE, bytearray(saved)).save(), saved)
 
+    def test_another_key_or_nonce_is_refused(self):
+        """What goes on under another key or nonce could never be opened, and nobody would notice before."""
+        for state in kinds():
+            cls, suite, key, saved = type(state), state.suite, key_of(state.suite), state.save()
+            for place in (0, len(key) - 1):
+                other = key[:place] + bytes([key[place] ^ 0x80]) + key[place + 1:]
+                self.assertRaises(aeadkit.NotSaved, cls.resume, suite, other, NONCE, saved)
+            for place in (0, 11):
+                other = NONCE[:place] + bytes([NONCE[place] ^ 1]) + NONCE[place + 1:]
+                self.assertRaises(aeadkit.NotSaved, cls.resume, suite, key, other, saved)
+            for place in range(8, 40):
+                changed = saved[:place] + bytes([saved[place] ^ 1]) + saved[place + 1:]
+                self.assertRaises(aeadkit.NotSaved, cls.resume, suite, key, NONCE, changed)
+            self.assertEqual(cls.resume(suite, key, NONCE, saved).save(), saved)
+
     def test_any_numbers_are_safe(self):
-        """Behind a true mark any bytes may stand: a call returns, or refuses."""
+        """Behind a true mark and the key of the hash any bytes may stand: a call returns, or refuses."""
         for state in kinds():
             suite, saved = state.suite, state.save()
             for filler in (b"\0", b"\xff", b"\x80", os.urandom(1)):
-                resumed = type(state).resume(suite, key_of(suite), NONCE, saved[:8] + filler * (len(saved) - 8))
+                resumed = type(state).resume(suite, key_of(suite), NONCE, saved[:40] + filler * (len(saved) - 40))
                 for name, *arguments in (("check", TEXT), ("absorb", TEXT), ("update", TEXT), ("begin_second",), ("update", TEXT),
                                          ("finish",)):
                     try:
@@ -300,6 +315,39 @@ class Example(unittest.TestCase):
                 self.seal()
             except Stopped:
                 continue
+        self.assertEqual(self.opened(), TEXT)
+
+    def test_two_runs_at_once(self):
+        """They would go on from one state, and seal two texts under one nonce if IN changes in between."""
+        self.source.write_bytes(TEXT)
+        refused = []
+
+        def store(path, step):
+            self.assertRaises(BlockingIOError, self.seal)
+            refused.append(step)
+            self.store(path, step)
+
+        self.example.store = store
+        self.seal()
+        self.assertGreater(len(refused), 5)
+        self.assertEqual(self.opened(), TEXT)
+
+    def test_one_file(self):
+        """IN in the place of OUT would be overwritten before it is read."""
+        self.source.write_bytes(TEXT)
+        os.link(str(self.source), str(self.target))
+        for target in (self.source, self.target):
+            self.assertRaises(ValueError, self.example.seal_file, KEY, str(self.source), str(target))
+            self.assertEqual(self.source.read_bytes(), TEXT)
+
+    def test_another_key(self):
+        """A key file that was exchanged between two runs ends the second one, and the first key goes on."""
+        self.source.write_bytes(TEXT)
+        self.stop_at(2, True)
+        self.assertRaises(Stopped, self.seal)
+        self.example.store = self.store
+        self.assertRaises(aeadkit.NotSaved, self.example.seal_file, bytes(32), str(self.source), str(self.target))
+        self.seal()
         self.assertEqual(self.opened(), TEXT)
 
     def test_a_source_that_changes(self):

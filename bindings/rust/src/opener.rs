@@ -53,6 +53,7 @@ impl Opener {
     }
 
     /// Takes the next piece of the ciphertext, of any length, and does not change it. The tag is not part of the ciphertext.
+    /// Whether the sealing is valid is known from [`Opener::begin_second`] alone.
     ///
     /// # Errors
     ///

@@ -7,7 +7,13 @@
 
 pub mod saved;
 
+/// A library before 3.0 has calls of the same names with other arguments. It lacks this one, and is not linked.
+#[used]
+static OF_THIS_MAJOR_VERSION: unsafe extern "C" fn() -> u32 = aeadkit_version;
+
 unsafe extern "C" {
+    fn aeadkit_version() -> u32;
+
     #[rustfmt::skip]
     fn aeadkit_seal_in_place(suite: u32, key: *const u8, key_length: usize, nonce: *const u8, nonce_length: usize,
                              aad: *const u8, aad_length: usize, text: *mut u8, text_length: usize,

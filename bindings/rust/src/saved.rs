@@ -2,7 +2,7 @@
 
 #![forbid(unsafe_code)]
 
-use crate::{CheckedOpener, Fault, NONCE_BYTES, Opener, Sealer, SivSealer, SivWriter, Suite, outcome, raw};
+use crate::{CheckedOpener, Fault, NONCE_BYTES, Opener, Sealer, SivSealer, SivWriter, Suite, TAG_BYTES, outcome, raw};
 use core::array;
 
 /// The length of a saved [`Sealer`] in bytes.
@@ -31,6 +31,14 @@ fn resumed(suite: Suite, saved: &[u8], status: u32) -> Result<(), Fault> {
     outcome(status)
 }
 
+/// Refuses a saved state of another key or nonce, with which a sealing would go on and could not be opened. The four numbers
+/// behind the mark are the key of the message's hash, which the key and the nonce make; the library does not compare them. Here
+/// they are those of a state that has just begun.
+fn begun_alike(begun: &[u8], saved: &[u8]) -> Result<(), Fault> {
+    let differ = begun[8..40].iter().zip(&saved[8..40]).fold(0, |differ, (one, other)| differ | (one ^ other));
+    if differ == 0 { Ok(()) } else { Err(Fault::NotSaved) }
+}
+
 impl Sealer {
     /// Ends the sealing here, and returns the bytes that [`Sealer::resume`] takes to go on with it.
     ///
@@ -44,14 +52,14 @@ impl Sealer {
 
     /// Goes on with the sealing that [`Sealer::save`] ended.
     ///
-    /// Suite, key and nonce are those that it was begun with. Another key or nonce is not noticed here, and the sealing cannot
-    /// be opened.
+    /// Suite, key and nonce are those that it was begun with. A sealing that went on with others could not be opened.
     ///
     /// # Errors
     ///
     /// The first of these that applies:
     /// - `NotSaved`: `saved` is not a saved `Sealer` of this suite, in this version of the layout
     /// - `KeyLength`: `key` does not have the suite's length
+    /// - `NotSaved`: it is one of another key or nonce
     ///
     #[doc = include_str!("never_resume_twice.md")]
     pub fn resume(
@@ -64,6 +72,7 @@ impl Sealer {
         resumed(suite, saved, raw::saved::sealer_resume(&mut state, key, nonce, &numbers_of(saved)))?;
         // an empty piece changes nothing, and is refused unless the state takes pieces
         resumed(suite, saved, raw::sealer_update(&mut state, &mut []))?;
+        begun_alike(&Sealer::new(suite, key, nonce, &[])?.save(), saved)?;
         Ok(Sealer { state })
     }
 }
@@ -86,6 +95,7 @@ fn resume_opener(
     let mut state = raw::Opener::default();
     resumed(suite, saved, raw::saved::opener_resume(&mut state, key, nonce, &numbers_of(saved)))?;
     resumed(suite, saved, empty_piece(&mut state))?;
+    begun_alike(&Opener::new(suite, key, nonce, &[0; TAG_BYTES], &[])?.save(), saved)?;
     Ok(state)
 }
 
@@ -100,14 +110,14 @@ impl Opener {
 
     /// Goes on with the opening that [`Opener::save`] saved.
     ///
-    /// Suite, key and nonce are those that it was begun with. Another key or nonce is not noticed here, and authentication
-    /// fails.
+    /// Suite, key and nonce are those that it was begun with.
     ///
     /// # Errors
     ///
     /// The first of these that applies:
     /// - `NotSaved`: `saved` is not a saved `Opener` of this suite, in this version of the layout
     /// - `KeyLength`: `key` does not have the suite's length
+    /// - `NotSaved`: it is one of another key or nonce
     pub fn resume(
         suite: Suite,
         key: &[u8],
@@ -130,14 +140,14 @@ impl CheckedOpener {
 
     /// Goes on with the second pass that [`CheckedOpener::save`] saved.
     ///
-    /// Suite, key and nonce are those that it was begun with. Another key or nonce is not noticed here, and what
-    /// [`CheckedOpener::update`] then makes is not the text.
+    /// Suite, key and nonce are those that it was begun with.
     ///
     /// # Errors
     ///
     /// The first of these that applies:
     /// - `NotSaved`: `saved` is not a saved `CheckedOpener` of this suite, in this version of the layout
     /// - `KeyLength`: `key` does not have the suite's length
+    /// - `NotSaved`: it is one of another key or nonce
     pub fn resume(
         suite: Suite,
         key: &[u8],
@@ -167,6 +177,7 @@ fn resume_siv(
     let mut state = raw::Siv::default();
     resumed(suite, saved, raw::saved::siv_resume(&mut state, key, nonce, &numbers_of(saved)))?;
     resumed(suite, saved, empty_piece(&mut state))?;
+    begun_alike(&SivSealer::new(suite, key, nonce, &[])?.save(), saved)?;
     Ok(state)
 }
 
@@ -181,14 +192,14 @@ impl SivSealer {
 
     /// Goes on with the first reading that [`SivSealer::save`] ended.
     ///
-    /// Suite, key and nonce are those that it was begun with. Another key or nonce is not noticed here, and the sealing cannot
-    /// be opened.
+    /// Suite, key and nonce are those that it was begun with. A sealing that went on with others could not be opened.
     ///
     /// # Errors
     ///
     /// The first of these that applies:
     /// - `NotSaved`: `saved` is not a saved `SivSealer` of this suite, in this version of the layout
     /// - `KeyLength`: `key` does not have the suite's length
+    /// - `NotSaved`: it is one of another key or nonce
     ///
     #[doc = include_str!("never_resume_twice.md")]
     pub fn resume(
@@ -213,14 +224,14 @@ impl SivWriter {
 
     /// Goes on with the second reading that [`SivWriter::save`] ended.
     ///
-    /// Suite, key and nonce are those that it was begun with. Another key or nonce is not noticed here, and the sealing cannot
-    /// be opened.
+    /// Suite, key and nonce are those that it was begun with. A sealing that went on with others could not be opened.
     ///
     /// # Errors
     ///
     /// The first of these that applies:
     /// - `NotSaved`: `saved` is not a saved `SivWriter` of this suite, in this version of the layout
     /// - `KeyLength`: `key` does not have the suite's length
+    /// - `NotSaved`: it is one of another key or nonce
     ///
     #[doc = include_str!("never_resume_twice.md")]
     pub fn resume(

@@ -108,10 +108,8 @@ fn other_bytes_are_refused() {
             changed[byte] ^= 0x40;
             assert_eq!(Opener::resume(suite, &key, &NONCE, &changed).err(), Some(Fault::NotSaved));
         }
-        // a resumed opening notices another key, nonce or tag by its authentication
-        let mut other_key = key.clone();
-        other_key[0] ^= 1;
-        let mut opener = Opener::resume(suite, &other_key, &NONCE, &saved).unwrap();
+        // a resumed opening notices another tag by its authentication
+        let mut opener = Opener::resume(suite, &key, &NONCE, &saved).unwrap();
         opener.check(&text()).unwrap();
         assert_eq!(opener.begin_second().err(), Some(Fault::TagMismatch));
     }
@@ -129,10 +127,49 @@ fn other_bytes_are_refused() {
         assert_eq!(SivSealer::resume(suite, &key, &NONCE, &second).err(), Some(Fault::NotSaved));
         assert_eq!(SivWriter::resume(suite, &key[1..], &NONCE, &second).err(), Some(Fault::KeyLength));
     }
-    assert_eq!(Fault::NotSaved.to_string(), "not a saved state of this type and suite");
+    assert_eq!(Fault::NotSaved.to_string(), "not a saved state of this type, suite, key and nonce");
 }
 
-/// Nothing that is resumed panics, whatever the bytes are.
+/// What would go on under another key or nonce, and could not be opened.
+#[test]
+fn another_key_or_nonce_is_refused() {
+    for suite in Suite::ALL {
+        let (key, sealed, refused) = (key_of(suite), sealed(suite), Some(Fault::NotSaved));
+        let (body, tag) = sealed.split_last_chunk::<TAG_BYTES>().unwrap();
+        let mut others = vec![];
+        for place in [0, key.len() - 1] {
+            let mut other = key.clone();
+            other[place] ^= 0x80;
+            others.push((other, NONCE));
+        }
+        for place in [0, 11] {
+            let mut other = NONCE;
+            other[place] ^= 1;
+            others.push((key.clone(), other));
+        }
+        let mut opener = Opener::new(suite, &key, &NONCE, tag, b"aad").unwrap();
+        opener.check(body).unwrap();
+        let first = opener.save();
+        let second = opener.begin_second().unwrap().save();
+        for (key, nonce) in &others {
+            assert_eq!(Opener::resume(suite, key, nonce, &first).err(), refused);
+            assert_eq!(CheckedOpener::resume(suite, key, nonce, &second).err(), refused);
+            if let Ok(mut sealer) = Sealer::new(suite, &key_of(suite), &NONCE, b"aad") {
+                sealer.update(&mut text()).unwrap();
+                assert_eq!(Sealer::resume(suite, key, nonce, &sealer.save()).err(), refused);
+            }
+            if let Ok(mut sealer) = SivSealer::new(suite, &key_of(suite), &NONCE, b"aad") {
+                sealer.absorb(&text()).unwrap();
+                let saved = sealer.save();
+                assert_eq!(SivSealer::resume(suite, key, nonce, &saved).err(), refused);
+                let writer = SivSealer::resume(suite, &key_of(suite), &NONCE, &saved).unwrap().begin_second().1;
+                assert_eq!(SivWriter::resume(suite, key, nonce, &writer.save()).err(), refused);
+            }
+        }
+    }
+}
+
+/// Nothing that is resumed panics, whatever the bytes behind the key of the hash are.
 #[test]
 fn any_bytes_are_taken() {
     let mut random = 1u64;
@@ -144,7 +181,7 @@ fn any_bytes_are_taken() {
         let key = key_of(suite);
         for _ in 0..500 {
             let mut saved = Sealer::new(suite, &key, &NONCE, b"").unwrap().save();
-            saved[8..].fill_with(&mut byte);
+            saved[40..].fill_with(&mut byte);
             if let Ok(mut sealer) = Sealer::resume(suite, &key, &NONCE, &saved) {
                 sealer.update(&mut text()).ok();
                 let _ = sealer.finish();
@@ -155,7 +192,7 @@ fn any_bytes_are_taken() {
         let key = key_of(suite);
         for _ in 0..500 {
             let mut saved = Opener::new(suite, &key, &NONCE, &[0; 16], b"").unwrap().save();
-            saved[8..].fill_with(&mut byte);
+            saved[40..].fill_with(&mut byte);
             if let Ok(mut opener) = Opener::resume(suite, &key, &NONCE, &saved) {
                 opener.check(&text()).ok();
                 opener.begin_second().ok();
@@ -166,7 +203,7 @@ fn any_bytes_are_taken() {
         let key = key_of(suite);
         for _ in 0..500 {
             let mut saved = SivSealer::new(suite, &key, &NONCE, b"").unwrap().save();
-            saved[8..].fill_with(&mut byte);
+            saved[40..].fill_with(&mut byte);
             if let Ok(mut sealer) = SivSealer::resume(suite, &key, &NONCE, &saved) {
                 sealer.absorb(&text()).ok();
                 let (_, mut writer) = sealer.begin_second();
