@@ -206,11 +206,7 @@ fn numbers(passes: &KeyedPasses) -> TwoPassState
 }
 
 // The passes by their numbers, with the message's key and nonce. `TagMismatch` if the numbers are of another key or nonce.
-fn resumed(
-    cipher: &AnyAead,
-    nonce: &Nonce,
-    state: &TwoPassState,
-) -> Result<KeyedPasses, Fault>
+fn resumed(cipher: &AnyAead, nonce: &Nonce, state: &TwoPassState) -> Result<KeyedPasses, Fault>
     ensures answer { MatchResult result
         (λ passes. ((aad : List ℕ)
         → IsUnder (keyed_of cipher.now) passes.pass (setting (keyed_of cipher.now) nonce.now aad))

@@ -42,11 +42,7 @@ impl SivAbsorb {
 
     /// Returns a state by the numbers of another one under the same cipher and nonce, as [`SivAbsorb::state`] returns them: it
     /// holds the text that they hold, if they hold one. `TagMismatch` if the numbers are of another key or nonce.
-    pub fn resumed(
-        cipher: &GcmSiv,
-        nonce: &Nonce,
-        state: &TwoPassState,
-    ) -> Result<SivAbsorb, Fault>
+    pub fn resumed(cipher: &GcmSiv, nonce: &Nonce, state: &TwoPassState) -> Result<SivAbsorb, Fault>
         ensures answer { MatchResult result
             (λ absorb. (aad text : List ℕ) → let s = setting cipher.now nonce.now aad in
             IsInFirstReading state.now s text → HoldsAbsorb absorb s text)
@@ -54,7 +50,10 @@ impl SivAbsorb {
         ensures key { IfOk result (λ _. HasHashKey state.now.pass (setting cipher.now nonce.now)) }
     {
         match SivKeys::resumed(cipher, nonce, &state.pass) {
-            Ok(keys) => Ok(SivAbsorb { keys, state: *state }),
+            Ok(keys) => Ok(SivAbsorb {
+                keys,
+                state: *state,
+            }),
             Err(fault) => Err(fault),
         }
     }
@@ -112,11 +111,7 @@ impl SivWriter {
 
     /// Returns a state by the numbers of another one under the same cipher and nonce, as [`SivWriter::state`] returns them: it
     /// holds the texts that they hold, if they hold some. `TagMismatch` if the numbers are of another key or nonce.
-    pub fn resumed(
-        cipher: &GcmSiv,
-        nonce: &Nonce,
-        state: &TwoPassState,
-    ) -> Result<SivWriter, Fault>
+    pub fn resumed(cipher: &GcmSiv, nonce: &Nonce, state: &TwoPassState) -> Result<SivWriter, Fault>
         ensures answer { MatchResult result
             (λ writer. (aad first text : List ℕ) → let s = setting cipher.now nonce.now aad in
             IsInSecondReading state.now s first text → HoldsWriter writer s first text)
@@ -124,7 +119,10 @@ impl SivWriter {
         ensures key { IfOk result (λ _. HasHashKey state.now.pass (setting cipher.now nonce.now)) }
     {
         match SivKeys::resumed(cipher, nonce, &state.pass) {
-            Ok(keys) => Ok(SivWriter { keys, state: *state }),
+            Ok(keys) => Ok(SivWriter {
+                keys,
+                state: *state,
+            }),
             Err(fault) => Err(fault),
         }
     }

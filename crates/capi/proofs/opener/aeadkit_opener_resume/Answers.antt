@@ -13,15 +13,17 @@ returns-in-Ok-clause-first c = λ suite is.
       Ok tt,
       (
         c.outcome_number.ensures,
-        subst (λ (x : Suite). HasHashKey c.args.saved.now.state.pass (setting_of x c.args.key.now c.args.nonce.now)) same
-            c.in-Ok.ensures.key,
-        λ aad tag bytes n. record {
-          mark_is = is;
-          opener = subst (λ (x : Suite). IsInFirstPass c.args.saved.now.state
-              (setting_of x c.args.key.now c.args.nonce.now aad) tag bytes
-              → HoldsFirstPass c.in-Ok.resumed (setting_of x c.args.key.now c.args.nonce.now aad) tag bytes) same
-              (c.in-Ok.ensures.first aad tag bytes) n;
-        },
+        (
+          subst (λ (x : Suite). HasHashKey c.args.saved.now.state.pass (setting_of x c.args.key.now c.args.nonce.now)) same
+              c.in-Ok.ensures.key,
+          λ aad tag bytes n. record {
+            mark_is = is;
+            opener = subst (λ (x : Suite). IsInFirstPass c.args.saved.now.state
+                (setting_of x c.args.key.now c.args.nonce.now aad) tag bytes
+                → HoldsFirstPass c.in-Ok.resumed (setting_of x c.args.key.now c.args.nonce.now aad) tag bytes) same
+                (c.in-Ok.ensures.first aad tag bytes) n;
+          },
+        ),
       ),
     )
 
@@ -42,15 +44,17 @@ returns-in-Ok-clause-second c = λ suite is.
       Ok tt,
       (
         c.outcome_number.ensures,
-        subst (λ (x : Suite). HasHashKey c.args.saved.now.state.pass (setting_of x c.args.key.now c.args.nonce.now)) same
-            c.in-Ok.ensures.key,
-        λ aad tag first bytes n. record {
-          mark_is = is;
-          opener = subst (λ (x : Suite). IsInSecondPass c.args.saved.now.state
-              (setting_of x c.args.key.now c.args.nonce.now aad) tag first bytes
-              → HoldsSecondPass c.in-Ok.resumed (setting_of x c.args.key.now c.args.nonce.now aad) tag first bytes) same
-              (c.in-Ok.ensures.second aad tag first bytes) n;
-        },
+        (
+          subst (λ (x : Suite). HasHashKey c.args.saved.now.state.pass (setting_of x c.args.key.now c.args.nonce.now)) same
+              c.in-Ok.ensures.key,
+          λ aad tag first bytes n. record {
+            mark_is = is;
+            opener = subst (λ (x : Suite). IsInSecondPass c.args.saved.now.state
+                (setting_of x c.args.key.now c.args.nonce.now aad) tag first bytes
+                → HoldsSecondPass c.in-Ok.resumed (setting_of x c.args.key.now c.args.nonce.now aad) tag first bytes) same
+                (c.in-Ok.ensures.second aad tag first bytes) n;
+          },
+        ),
       ),
     )
 

@@ -14,12 +14,14 @@ returns-in-Ok-clause-known c = λ suite one is.
       Ok tt,
       (
         c.outcome_number.ensures,
-        subst (λ (x : Suite). HasHashKey c.args.saved.now.state (setting_of x c.args.key.now c.args.nonce.now)) same
-            c.in-Ok.ensures.key,
-        subst (λ (x : Suite). (aad text : List ℕ)
-            → HoldsState c.args.saved.now.state (setting_of x c.args.key.now c.args.nonce.now aad) text
-            → HoldsText new (setting_of x c.args.key.now c.args.nonce.now aad) text) same
-            (λ aad text n. record { mark_is = c.mark_of.ensures; sealer = c.in-Ok.ensures.answer aad text n }),
+        (
+          subst (λ (x : Suite). HasHashKey c.args.saved.now.state (setting_of x c.args.key.now c.args.nonce.now)) same
+              c.in-Ok.ensures.key,
+          subst (λ (x : Suite). (aad text : List ℕ)
+              → HoldsState c.args.saved.now.state (setting_of x c.args.key.now c.args.nonce.now aad) text
+              → HoldsText new (setting_of x c.args.key.now c.args.nonce.now aad) text) same
+              (λ aad text n. record { mark_is = c.mark_of.ensures; sealer = c.in-Ok.ensures.answer aad text n }),
+        ),
       ),
     )
 

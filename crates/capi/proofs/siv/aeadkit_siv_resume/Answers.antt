@@ -13,15 +13,17 @@ returns-in-Ok-clause-first c = λ suite by is.
       Ok tt,
       (
         c.outcome_number.ensures,
-        subst (λ (x : Suite). HasHashKey c.args.saved.now.state.pass (setting_of x c.args.key.now c.args.nonce.now)) same
-            c.in-Ok.ensures.key,
-        λ aad text n. record {
-          mark_is = is;
-          siv = subst (λ (x : Suite). IsInFirstReading c.args.saved.now.state
-              (setting_of x c.args.key.now c.args.nonce.now aad) text
-              → HoldsFirstReading c.in-Ok.resumed (setting_of x c.args.key.now c.args.nonce.now aad) text) same
-              (c.in-Ok.ensures.first aad text) n;
-        },
+        (
+          subst (λ (x : Suite). HasHashKey c.args.saved.now.state.pass (setting_of x c.args.key.now c.args.nonce.now)) same
+              c.in-Ok.ensures.key,
+          λ aad text n. record {
+            mark_is = is;
+            siv = subst (λ (x : Suite). IsInFirstReading c.args.saved.now.state
+                (setting_of x c.args.key.now c.args.nonce.now aad) text
+                → HoldsFirstReading c.in-Ok.resumed (setting_of x c.args.key.now c.args.nonce.now aad) text) same
+                (c.in-Ok.ensures.first aad text) n;
+          },
+        ),
       ),
     )
 
@@ -42,15 +44,17 @@ returns-in-Ok-clause-second c = λ suite by is.
       Ok tt,
       (
         c.outcome_number.ensures,
-        subst (λ (x : Suite). HasHashKey c.args.saved.now.state.pass (setting_of x c.args.key.now c.args.nonce.now)) same
-            c.in-Ok.ensures.key,
-        λ aad first text n. record {
-          mark_is = is;
-          siv = subst (λ (x : Suite). IsInSecondReading c.args.saved.now.state
-              (setting_of x c.args.key.now c.args.nonce.now aad) first text
-              → HoldsSecondReading c.in-Ok.resumed (setting_of x c.args.key.now c.args.nonce.now aad) first text) same
-              (c.in-Ok.ensures.second aad first text) n;
-        },
+        (
+          subst (λ (x : Suite). HasHashKey c.args.saved.now.state.pass (setting_of x c.args.key.now c.args.nonce.now)) same
+              c.in-Ok.ensures.key,
+          λ aad first text n. record {
+            mark_is = is;
+            siv = subst (λ (x : Suite). IsInSecondReading c.args.saved.now.state
+                (setting_of x c.args.key.now c.args.nonce.now aad) first text
+                → HoldsSecondReading c.in-Ok.resumed (setting_of x c.args.key.now c.args.nonce.now aad) first text) same
+                (c.in-Ok.ensures.second aad first text) n;
+          },
+        ),
       ),
     )
 
