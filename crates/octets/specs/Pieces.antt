@@ -3,8 +3,8 @@ use Rattle.std.specs.Prelude.{◌≡◌, ℕ, ◌-◌, ◌*◌, ◌/◌, List, l
 use Rattle.octets.specs.Bytes.{KeepsRest}
 use Rattle.octets.specs.declared.pieces.Pieces.{Pieces}
 
--- p holds the text m under the key k: the core has taken in the whole blocks of m, and the buffer keeps
--- the rest, with zeros after it
+-- p holds the text m under the key k: the core has absorbed the whole blocks of m, and the buffer holds the rest,
+-- followed by zeros
 pub record HoldsPieces {A : Type 0} (absorbed : A → List ℕ → List ℕ → Type 0) (p : Pieces A) (k : List ℕ)
     (m : List ℕ) : Type 0 where
   pub taken : absorbed p.core k (take (length m / 16 * 16) m)
