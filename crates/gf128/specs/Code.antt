@@ -1,3 +1,2 @@
--- How the code holds polynomials in words and sums their products. GHASH and POLYVAL are defined without
--- it.
+-- How the code represents polynomials as words and sums their products. GHASH and POLYVAL are defined without it.
 pub mod Words

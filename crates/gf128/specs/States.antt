@@ -1,4 +1,4 @@
--- The text that a state in pieces holds, where its multiplier shows its key by `key`.
+-- The text that a state in pieces holds. `key` gives the key of its multiplier.
 use Rattle.std.specs.Prelude.{ℕ, ◌*◌, ◌/◌, List, length, take}
 use Rattle.std.specs.Int.{w128, to_be_bytes}
 use Rattle.octets.specs.Polynomial.{Agree}
@@ -15,7 +15,7 @@ use Rattle.gf128.specs.declared.table_mul.TableMul.{TableMul}
 abbrev pub key_of : TableMul → List ℕ
 key_of s = to_be_bytes w128 s.multiples.word
 
--- s has taken in the whole blocks m under the key h
+-- s has absorbed the whole blocks m under the key h
 pub record SumHolds {M O : Type 0} (order : Order) (key : M → List ℕ) (s : BlockSum M O) (h : List ℕ)
     (m : List ℕ) : Type 0 where
   pub serves : Serves order h (key s.multiplier)
@@ -33,7 +33,7 @@ Holds key s h m = HashHolds Straight key s h m
 abbrev pub PolyvalHolds : {M : Type 0} → (M → List ℕ) → BlockHash M PolyvalOrder → List ℕ → List ℕ → Type 0
 PolyvalHolds key s h m = HashHolds Reversed key s h m
 
--- the word is the sum over the whole blocks of m under the key h, by the key of any multiplier that serves it
+-- the word is the sum over the whole blocks of m under the key h, with the key of any multiplier that serves h
 abbrev pub IsSum : Order → List ℕ → List ℕ → ℕ → Type 0
 IsSum order h m sum =
     (k : List ℕ) → Serves order h k → Agree (of_word sum)

@@ -41,5 +41,5 @@ pub use polyval::{
 pub use table_mul::{KeptMul, TableMul};
 pub use wide_mul::WideMul;
 
-/// The multiplier to take where nothing is known of the length of the text: its table is small and quickly made.
+/// The multiplier to take if the length of the text is not known: its table is small and quickly made.
 pub type Mul = TableMul;

@@ -7,7 +7,7 @@ use Rattle.poly1305.specs.declared.poly.PolySum.{PolySum}
 use Rattle.poly1305.specs.declared.poly.PolyBy.{PolyBy}
 use Rattle.poly1305.specs.declared.word_mul.WordMul.{WordMul}
 
--- c has taken in the whole blocks m under the key, and keeps a pair of words below 2^130 - 5
+-- c has absorbed the whole blocks m under the key, and its sum is a pair of words below 2^130 - 5
 pub record PolySumHolds {M : Type 0} (factor : M → ℕ) (c : PolySum M) (key : List ℕ) (m : List ℕ) : Type 0
   where
     pub factor_is : factor c.multiplier ≡ r_of key
