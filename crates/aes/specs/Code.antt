@@ -1,5 +1,5 @@
--- How the code keeps a key and encrypts several blocks at once, and what the proofs of its counters need. The cipher and the
--- streams are defined without it.
+-- How the code represents a key and several blocks that are encrypted at once, and facts about counters that its proofs need. The
+-- cipher and the streams are defined without it.
 pub mod ExpandedKey
 pub mod InverseKey
 pub mod Lanes

@@ -6,8 +6,8 @@ use Rattle.aes.specs.Counters.{counter_byte}
 use Rattle.aes.specs.declared.counter.Counter.{Counter}
 use Rattle.aes.specs.declared.counter.Ctr.{Ctr}
 
--- s has made this many bytes of the stream from the first block on under the key: it counts the blocks of these bytes modulo
--- 2^32, and if the last block is not used up, it keeps the cipher of that block
+-- s has produced this many bytes of the stream that begins with the first block, under the key: it counts the blocks of these
+-- bytes modulo 2^32, and if the last block is not used up, it holds the cipher of that block
 pub record Makes {C : Type 0} (up : List ℕ → ℕ → List ℕ) (s : Counter C) (key : List ℕ) (first : List ℕ)
     (made : ℕ) : Type 0 where
   pub first_is : s.first ≡ first
@@ -15,15 +15,15 @@ pub record Makes {C : Type 0} (up : List ℕ → ℕ → List ℕ) (s : Counter 
   pub used_is : s.used ≡ made % 16
   pub mask_is : 0 < made % 16 → s.mask ≡ cipher key (up first (made / 16))
 
--- s becomes t, and was becomes now: if s has made a number of bytes under the key, the next ones are XORed
--- in, and t has made them too
+-- s becomes t, and was becomes now: after any number of bytes that s has produced under the key, the next ones are XORed in, and t
+-- has produced these too
 abbrev pub Advances : {C : Type 0} (up : List ℕ → ℕ → List ℕ) (key : List ℕ) (s t : Counter C) (was now : List ℕ)
     → Type 0
 Advances up key s t was now = (first : List ℕ) (made : ℕ) → Makes up s key first made
     → Makes up t key first (made + length was) × (now ≡ masked (counter_byte up key first) made was)
 
--- s becomes t, and was becomes now: the next bytes of the stream are XORed into the first n, and the others stay; only if there
--- are no others may bytes of the last block be left over
+-- s becomes t, and was becomes now: the next bytes of the stream are XORed into the first n, and the others are unchanged. If there
+-- are others, the last block is used up
 pub record AdvancesFront {C : Type 0} (up : List ℕ → ℕ → List ℕ) (key : List ℕ) (s t : Counter C)
     (was now : List ℕ) (n : ℕ) : Type 0 where
   pub within : n ≤ length was
@@ -31,14 +31,13 @@ pub record AdvancesFront {C : Type 0} (up : List ℕ → ℕ → List ℕ) (key 
   pub left : drop n now ≡ drop n was
   pub front : Advances up key s t (take n was) (take n now)
 
--- s has made this many bytes of the stream that counts by `up` from the first block on, under a key whose bytes are
--- given by `bytes`
+-- s has produced this many bytes of the stream that counts with `up` from the first block on, under the key that `bytes` gives
 pub record Holds {C K : Type 0} (up : List ℕ → ℕ → List ℕ) (bytes : K → List ℕ) (s : Ctr C K) (key : List ℕ)
     (first : List ℕ) (made : ℕ) : Type 0 where
   pub key_is : bytes s.key ≡ key
   pub makes : Makes up s.counter key first made
 
--- a call beside other work XORs in the next bytes of the stream that counts by `up`
+-- a call beside other work XORs in the next bytes of the stream that counts with `up`
 abbrev pub Did : {C K : Type 0} → (List ℕ → ℕ → List ℕ) → (K → List ℕ) → Ctr C K → Ctr C K → List ℕ → List ℕ → Type 0
 Did up bytes s t was now = (key first : List ℕ) (made : ℕ) → Holds up bytes s key first made
     → Holds up bytes t key first (made + length was) × (now ≡ masked (counter_byte up key first) made was)
