@@ -32,7 +32,7 @@ pub fn wrap_to(key: &AesKey, text: &[u8], wrapped: &mut [u8]) -> Result<(), Faul
 
 /// Unwraps into `text`, which is eight bytes shorter than the wrapping (RFC 3394, 2.2.2). Faults, in this order: `WrapLength`
 /// if the wrapping's length is under 24 or not a multiple of 8, `WrapIntegrity` if the bytes are not a valid wrapping under
-/// this key. At `WrapIntegrity` the whole of `text` is zeros; at `WrapLength` nothing is written. Not constant time: see the
+/// this key. On `WrapIntegrity` the whole of `text` is zeros; on `WrapLength` nothing is written. Not constant time: see the
 /// crate's page.
 pub fn unwrap_to(key: &AesKey, wrapped: &[u8], text: &mut [u8]) -> Result<(), Fault>
     requires { length wrapped.now ≡ length text.old + 8 }
@@ -80,7 +80,7 @@ pub fn wrap_padded_to(key: &AesKey, text: &[u8], wrapped: &mut [u8]) -> Result<(
 /// Unwraps with padding into `text`, which is eight bytes shorter than the wrapping (RFC 5649, 4.2), and returns the text's
 /// length: `text` becomes the text and the zeros of its padding. Faults, in this order: `WrapLength` if the wrapping's length
 /// is under 16 or not a multiple of 8, `TextTooLong` past 2^32 + 8 bytes, `WrapIntegrity` if the bytes are not a valid
-/// wrapping with padding under this key. At `WrapIntegrity` the whole of `text` is zeros; at another fault nothing is written.
+/// wrapping with padding under this key. On `WrapIntegrity` the whole of `text` is zeros; on another fault nothing is written.
 /// Not constant time: see the crate's page.
 pub fn unwrap_padded_to(key: &AesKey, wrapped: &[u8], text: &mut [u8]) -> Result<usize, Fault>
     requires { length wrapped.now ≡ length text.old + 8 }
