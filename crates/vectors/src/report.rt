@@ -9,8 +9,8 @@ use crate::agree::agrees;
 use crate::place::Entry;
 use std::alloc::{AllocError, Allocator};
 
-/// The report of a vector file: how many records it has, and the numbers, from 1 and rising, of those that
-/// disagree with their standard.
+/// The report of a vector file: how many records it has, and the numbers of those that disagree with their standard, in rising
+/// order. Records are numbered from 1.
 #[derive(Drop)]
 pub struct Report<A: Allocator> {
     /// The number of records.
