@@ -1,4 +1,4 @@
-//! The commands over values given as hexadecimal, and `check`.
+//! The commands on values given in hexadecimal, and `check`.
 ghost use Rattle.std.specs.Prelude.{◌≡◌, ◌⊎◌, ⊤, MatchResult, IfErr};
 ghost use Rattle.aes.specs.Cipher.{IsKey};
 ghost use Rattle.aead.specs.AnyCiphers.{keyed_of};
@@ -23,7 +23,7 @@ use octets::{Fault, Nonce};
 use std::alloc::Allocator;
 use vectors::Report;
 
-// The bytes that a value given for hexadecimal spells. `BadHex` if it is not an even number of hex digits.
+// Returns the bytes that a hexadecimal value spells. `BadHex` if it is not an even number of hex digits.
 fn decoded<A: Allocator>(alloc: A, digits: &str) -> Result<Vec<u8, A>, Failure>
     ensures { MatchResult result (λ v. Spells digits.now v.items)
         (λ e. (e ≡ OfFault OutOfMemory) ⊎ ((e ≡ BadHex) × IsBadHex digits.now)) }
@@ -35,7 +35,7 @@ fn decoded<A: Allocator>(alloc: A, digits: &str) -> Result<Vec<u8, A>, Failure>
     }
 }
 
-// The wrapping of a text, with padding or without.
+// Returns the wrapping of a text, with padding or without.
 fn wrapped<A: Allocator>(
     alloc: A,
     key: &AesKey,
@@ -51,7 +51,7 @@ fn wrapped<A: Allocator>(
     }
 }
 
-// The text of a wrapping, with padding or without.
+// Returns the text of a wrapping, with padding or without.
 fn unwrapped<A: Allocator>(
     alloc: A,
     key: &AesKey,
@@ -75,7 +75,7 @@ struct WrapInputs<A: Allocator> {
     body: Vec<u8, A>,
 }
 
-// The key and the bytes that the words give. In this order: `BadHex` for the key, then for the bytes, and
+// Returns the key and the bytes that the words spell. Faults, in this order: `BadHex` for the key, then for the bytes, and
 // `KeyLength`.
 fn wrap_inputs<'a, A: Allocator>(
     alloc: &'a A,
@@ -94,8 +94,8 @@ fn wrap_inputs<'a, A: Allocator>(
     })
 }
 
-// `wrap`: the wrapping of a text, with padding or without. In this order: `BadHex` for the key, then for
-// the text, `KeyLength`, and the refusals of the call.
+// `wrap`: returns the wrapping of a text, with padding or without. Faults, in this order: `BadHex` for the key, then for the text,
+// `KeyLength`, and those of the call.
 pub(crate) fn wrap<'a, A: Allocator>(
     alloc: &'a A,
     key: &str,
@@ -109,8 +109,8 @@ pub(crate) fn wrap<'a, A: Allocator>(
     Ok(wrapped(alloc, &call.key, &call.body, pad)?)
 }
 
-// `unwrap`: the text of a wrapping, with padding or without. In this order: `BadHex` for the key, then for
-// the wrapping, `KeyLength`, and the refusals of the call.
+// `unwrap`: returns the text of a wrapping, with padding or without. Faults, in this order: `BadHex` for the key, then for the
+// wrapping, `KeyLength`, and those of the call.
 pub(crate) fn unwrap<'a, A: Allocator>(
     alloc: &'a A,
     key: &str,
@@ -133,8 +133,8 @@ pub(crate) struct Prepared<A: Allocator> {
     pub(crate) body: Vec<u8, A>,
 }
 
-// The inputs that the words give. In this order: `UnknownSuite`, `BadHex` for the key, the nonce, the
-// associated data and the body, `KeyLength`, `NonceLength`.
+// Returns the inputs that the words spell. Faults, in this order: `UnknownSuite`, `BadHex` for the key, the nonce, the associated
+// data and the body, `KeyLength`, `NonceLength`.
 pub(crate) fn prepare<'a, A: Allocator>(
     alloc: &'a A,
     words: &Inputs<'_>,
@@ -158,7 +158,7 @@ pub(crate) fn prepare<'a, A: Allocator>(
     })
 }
 
-// `seal`: the sealing of a text. The refusals of its inputs come first, then those of the call.
+// `seal`: returns the sealing of a text. The faults of its inputs come first, then those of the call.
 pub(crate) fn seal<'a, A: Allocator>(
     alloc: &'a A,
     words: &Inputs<'_>,
@@ -169,7 +169,7 @@ pub(crate) fn seal<'a, A: Allocator>(
     Ok(aead::seal(alloc, &call.cipher, &call.nonce, &call.aad, &call.body)?)
 }
 
-// `open`: the text of sealed bytes. The refusals of its inputs come first, then those of the call.
+// `open`: returns the text of sealed bytes. The faults of its inputs come first, then those of the call.
 pub(crate) fn open<'a, A: Allocator>(
     alloc: &'a A,
     words: &Inputs<'_>,
@@ -180,7 +180,7 @@ pub(crate) fn open<'a, A: Allocator>(
     Ok(aead::open(alloc, &call.cipher, &call.nonce, &call.aad, &call.body)?)
 }
 
-// `check`: the report of a vector file. The refusals of reading it come first, then the file's first fault.
+// `check`: returns the report of a vector file. The faults of reading it come first, then the first fault of its lines.
 pub(crate) fn check<'a, A: Allocator, F: Storage>(
     alloc: &'a A,
     files: &F,
