@@ -6,7 +6,7 @@ ghost use Rattle.poly1305.specs.Poly1305.{block_number};
 use crate::Multiplier;
 use crate::partial_sum::PartialSum;
 use crate::residue::{Residue, Sum};
-use crate::side_by_side::{TWO_SUMS_FROM, far_factor, over_halves};
+use crate::side_by_side::{TWO_SUMS_FROM, add_halves, far_factor};
 use octets::{Absorb, Pieces, Stream, Tag, le_bytes};
 
 // The bits of r that clamping does not clear (RFC 8439, 2.5).
@@ -73,7 +73,7 @@ impl<M: Multiplier> PolySum<M> {
             → PolySumHolds M.factor self.new k (m ++ (front.now ++ back.now)) }
     {
         let far = far_factor(&self.multiplier, front.len() / 16);
-        let sum = over_halves(&self.multiplier, self.sum.sum(), far, front, back);
+        let sum = add_halves(&self.multiplier, self.sum.sum(), far, front, back);
         self.sum = sum.residue();
     }
 }
