@@ -11,7 +11,7 @@ use crate::polynomial_word::{high_half, low_half};
 
 // Reduces the sum of a word and x^128 times a half word, `spill`.
 #[inline(always)]
-fn folded(word: u128, spill: u64) -> u128
+fn fold(word: u128, spill: u64) -> u128
     ensures { result ≡ folded word spill }
 {
     let high = u128::from(spill) << 64;
@@ -54,19 +54,19 @@ impl Chain {
 
     // Reduces the sum.
     #[inline(always)]
-    pub(crate) fn reduced(self) -> u128
+    pub(crate) fn reduce(self) -> u128
         ensures { (d : ℕ) (p : List Bool) → IsSpread d p (le self.word.bytes) (le self.spill.bytes / 2 ^ 64) → IsReduced p result }
     {
-        folded(self.word.word(), high_half(self.spill.word()))
+        fold(self.word.word(), high_half(self.spill.word()))
     }
 
     // Returns the sum plus x^64 times a word, reduced. The bits that are shifted out of both are folded in together.
     #[inline(always)]
-    pub(crate) fn reduced_with(self, low: u128) -> u128
+    pub(crate) fn reduce_with(self, low: u128) -> u128
         ensures { (d : ℕ) (p q : List Bool) → IsSpread d p (le self.word.bytes) (le self.spill.bytes / 2 ^ 64)
             → IsReduced q low → IsReduced (sum p (replicate 64 false ++ q)) result }
     {
         let spill = high_half(self.spill.word()) ^ low_half(low);
-        folded(self.word.word() ^ (low >> 64), spill)
+        fold(self.word.word() ^ (low >> 64), spill)
     }
 }

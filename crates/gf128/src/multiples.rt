@@ -8,7 +8,7 @@ ghost use Rattle.octets.specs.Polynomial.{product};
 ghost use Rattle.gf128.specs.declared.lanes.Lanes.{Lanes};
 ghost use Rattle.gf128.specs.Ghash.{IsProduct};
 ghost use Rattle.gf128.specs.Code.Words.{of_bits, of_word, IsBitsProduct, IsMoved, IsSpread, IsWordProduct};
-ghost use Rattle.gf128.specs.Code.Words.{AreMultiples, kept_number};
+ghost use Rattle.gf128.specs.Code.Words.{AreMultiples, stored_number};
 
 use crate::chain::Chain;
 use crate::lanes::Lanes;
@@ -124,7 +124,7 @@ fn sixteen_multiples(word: u128) -> [u128; 16]
 
 // Splits each number into its low and its high half.
 fn halves_of(numbers: &[u128; 16]) -> [u64; 32]
-    ensures { (j : ℕ) → j < 16 → kept_number result j ≡ slice_index numbers.now j }
+    ensures { (j : ℕ) → j < 16 → stored_number result j ≡ slice_index numbers.now j }
 {
     let mut halves = [0; 32];
     'numbers: for i in 0..16usize {
@@ -164,7 +164,7 @@ pub(crate) trait ByteMultiples {
     {
         let high = self.times_half(high_half(x));
         let low = self.times_half(low_half(x));
-        high.reduced_with(low.reduced())
+        high.reduce_with(low.reduce())
     }
 
     // Multiplies the word by a block.
@@ -190,7 +190,7 @@ impl KeptMultiples {
     #[inline(always)]
     pub(crate) fn sum_at(&self, byte: u8) -> Lanes
         ensures { le result.bytes
-            ≡ bit_xor (kept_number self.now.high (byte / 16)) (kept_number self.now.low (byte % 16)) }
+            ≡ bit_xor (stored_number self.now.high (byte / 16)) (stored_number self.now.low (byte % 16)) }
     {
         let (i, j) = (usize::from(byte / 16) * 2, usize::from(byte % 16) * 2);
         let high = Lanes::of(of_halves(self.high[i + 1], self.high[i]));
@@ -223,8 +223,8 @@ impl Multiples32 {
     }
 
     // Returns the 32 multiples as plain numbers.
-    pub(crate) fn kept(&self) -> KeptMultiples
-        ensures { AreMultiples (of_word self.now.word) (kept_number result.high) (kept_number result.low) }
+    pub(crate) fn numbers(&self) -> KeptMultiples
+        ensures { AreMultiples (of_word self.now.word) (stored_number result.high) (stored_number result.low) }
     {
         KeptMultiples {
             high: halves_of(&self.high),

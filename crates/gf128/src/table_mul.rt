@@ -2,7 +2,7 @@
 
 ghost use Rattle.std.specs.Prelude.{◌≡◌};
 ghost use Rattle.std.specs.Int.{w128, to_be_bytes};
-ghost use Rattle.gf128.specs.Code.Words.{of_word, AreMultiples, kept_number};
+ghost use Rattle.gf128.specs.Code.Words.{of_word, AreMultiples, stored_number};
 ghost use Rattle.gf128.specs.KeptMultiples.{KeepsMultiples};
 
 use crate::lanes::Lanes;
@@ -27,7 +27,7 @@ impl TableMul {
     pub fn kept(&self) -> KeptMultiples
         ensures { KeepsMultiples result (⟦<TableMul as Multiply>⟧.key_bytes self.now) }
     {
-        self.multiples.kept()
+        self.multiples.numbers()
     }
 }
 
@@ -56,21 +56,21 @@ impl Keyed128 for TableMul {
 #[derive(Drop, Clone, Copy)]
 pub struct KeptMul<'a> {
     word: u128,
-    kept: &'a KeptMultiples,
-    ghost filled: { AreMultiples (of_word word) (kept_number kept.now.high) (kept_number kept.now.low) },
+    numbers: &'a KeptMultiples,
+    ghost filled: { AreMultiples (of_word word) (stored_number numbers.now.high) (stored_number numbers.now.low) },
 }
 
 impl<'a> KeptMul<'a> {
     /// Makes the multiplier of `key`, with the multiples that [`TableMul::kept`] returned for it. The caller shows that the numbers
     /// are the multiples of the key.
     #[inline(always)]
-    pub fn new(key: &Block, kept: &'a KeptMultiples) -> KeptMul<'a>
-        requires { KeepsMultiples kept.now key.now }
+    pub fn new(key: &Block, numbers: &'a KeptMultiples) -> KeptMul<'a>
+        requires { KeepsMultiples numbers.now key.now }
         ensures { ⟦<KeptMul<'a> as Multiply>⟧.key_bytes result ≡ key.now }
     {
         KeptMul {
             word: word_of(key.bytes()),
-            kept,
+            numbers,
         }
     }
 }
@@ -80,7 +80,7 @@ impl<'a> ByteMultiples for KeptMul<'a> {
 
     #[inline(always)]
     fn at(&self, byte: u8) -> Lanes {
-        self.kept.sum_at(byte)
+        self.numbers.sum_at(byte)
     }
 }
 

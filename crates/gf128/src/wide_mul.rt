@@ -97,7 +97,7 @@ impl Multiply for WideMul {
         let (b, c, d) = (&blocks[1], &blocks[2], &blocks[3]);
         let high = self.four_halves::<O>(high_half(first), b, c, d, 8);
         let low = self.four_halves::<O>(low_half(first), b, c, d, 0);
-        high.reduced_with(low.reduced())
+        high.reduce_with(low.reduce())
     }
 }
 
@@ -105,9 +105,9 @@ impl Keyed128 for WideMul {
     // Inlined, since a call would move the 16 KiB twice.
     #[inline(always)]
     fn of(key: &Block) -> WideMul {
-        let mut made = WideMul::none();
-        made.set(key);
-        made
+        let mut multiplier = WideMul::none();
+        multiplier.set(key);
+        multiplier
     }
 
     // Inlined, so that the tables are cleared where they stay.

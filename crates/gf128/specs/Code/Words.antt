@@ -33,8 +33,8 @@ AreMultiples p high low =
     (n : ℕ) → n < 256 → IsReduced (product (of_bits 8 n) p) (bit_xor (high (n / 16)) (low (n % 16)))
 
 -- number i of a table that is stored in halves of 64 bits, the low half of each number first
-abbrev pub kept_number : List ℕ → ℕ → ℕ
-kept_number halves i = slice_index halves (2 * i + 1) * 2 ^ 64 + slice_index halves (2 * i)
+abbrev pub stored_number : List ℕ → ℕ → ℕ
+stored_number halves i = slice_index halves (2 * i + 1) * 2 ^ 64 + slice_index halves (2 * i)
 
 -- the word z is x^w times the word h
 abbrev pub IsMoved : ℕ → ℕ → ℕ → Type 0

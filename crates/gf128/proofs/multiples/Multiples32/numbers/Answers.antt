@@ -1,5 +1,5 @@
 use Rattle.std.proofs.Common.{◌/◌, ◌%◌, arith}
-use Rattle.gf128.proofs.multiples.Multiples32.kept.Goals as goal
+use Rattle.gf128.proofs.multiples.Multiples32.numbers.Goals as goal
 
 pub returns : goal.returns
 returns c =
