@@ -17,7 +17,7 @@ use octets::Fault;
 pub fn wrap_in_place(key: &AesKey, bytes: &mut [u8]) -> Result<(), Fault>
     ensures answer { MatchResult result (λ _. Unwrapped key.now bytes.new (drop 8 bytes.old))
         (WrapInPlaceRefused bytes.old) }
-    ensures kept { OnErr result (bytes.new ≡ bytes.old) }
+    ensures unchanged { OnErr result (bytes.new ≡ bytes.old) }
 {
     if has_wrapped_length(bytes) {
         bytes[..8].copy_from_slice(&INITIAL_VALUE);
@@ -37,7 +37,7 @@ pub fn unwrap_in_place(key: &AesKey, bytes: &mut [u8]) -> Result<(), Fault>
         (UnwrapInPlaceRefused key.now bytes.old) }
     ensures found { (text : List ℕ) → Unwrapped key.now bytes.old text
         → IsOk result × (drop 8 bytes.new ≡ text) }
-    ensures kept { OnErr result (bytes.new ≡ bytes.old) }
+    ensures unchanged { OnErr result (bytes.new ≡ bytes.old) }
 {
     if !has_wrapped_length(bytes) {
         return Err(Fault::WrapLength);

@@ -6,7 +6,7 @@ ghost use Rattle.keywrap.specs.Padded.{UnwrappedPadded, UnwrappedPaddedTo};
 ghost use Rattle.keywrap.specs.Refusals.{left_at, WrapToRefused, UnwrapToRefused};
 ghost use Rattle.keywrap.specs.Refusals.{PaddedWrapToRefused, PaddedUnwrapToRefused};
 
-use crate::padded::{alternative_value, has_blocks, transform, unwrap_start};
+use crate::padded::{alternative_value, encrypt_register, has_blocks, unwrap_padded_register};
 use crate::steps::{
     INITIAL_VALUE, first_eight, has_wrapped_length, is_initial_value, unwrap_blocks, wrap_register,
 };
@@ -19,7 +19,7 @@ pub fn wrap_to(key: &AesKey, text: &[u8], wrapped: &mut [u8]) -> Result<(), Faul
     requires { length wrapped.old ≡ length text.now + 8 }
     ensures answer { MatchResult result (λ _. Unwrapped key.now wrapped.new text.now)
         (WrapToRefused text.now) }
-    ensures kept { OnErr result (wrapped.new ≡ wrapped.old) }
+    ensures unchanged { OnErr result (wrapped.new ≡ wrapped.old) }
 {
     if !has_wrapped_length(wrapped) {
         return Err(Fault::WrapLength);
@@ -61,7 +61,7 @@ pub fn wrap_padded_to(key: &AesKey, text: &[u8], wrapped: &mut [u8]) -> Result<(
     requires { length wrapped.old ≡ 8 + (length text.now + (8 - length text.now % 8) % 8) }
     ensures answer { MatchResult result (λ _. UnwrappedPadded key.now wrapped.new text.now)
         (PaddedWrapToRefused text.now) }
-    ensures kept { OnErr result (wrapped.new ≡ wrapped.old) }
+    ensures unchanged { OnErr result (wrapped.new ≡ wrapped.old) }
 {
     if text.is_empty() {
         return Err(Fault::WrapLength);
@@ -73,7 +73,7 @@ pub fn wrap_padded_to(key: &AesKey, text: &[u8], wrapped: &mut [u8]) -> Result<(
     wrapped[8..8 + text.len()].copy_from_slice(text);
     wrapped[..8].copy_from_slice(&alternative_value(text.len() as u32));
     wrapped[8 + text.len()..].copy_from_slice(&[0; 8][..zeros]);
-    transform(key, wrapped);
+    encrypt_register(key, wrapped);
     Ok(())
 }
 
@@ -97,7 +97,7 @@ pub fn unwrap_padded_to(key: &AesKey, wrapped: &[u8], text: &mut [u8]) -> Result
     }
     let mut first = first_eight(wrapped);
     text.copy_from_slice(&wrapped[8..]);
-    match unwrap_start(key, &mut first, text) {
+    match unwrap_padded_register(key, &mut first, text) {
         Some(length) => Ok(length),
         None => {
             text.fill(0);

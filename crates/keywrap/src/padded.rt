@@ -9,7 +9,7 @@ ghost use Rattle.keywrap.specs.Padded.{alternative_value, padded, transformed, H
 ghost use Rattle.keywrap.specs.Padded.{UnwrappedPadded, IsNoPaddedWrapping};
 ghost use Rattle.keywrap.specs.Refusals.{PaddedWrapRefused, PaddedUnwrapRefused};
 
-use crate::steps::{first_eight, halves, joined, unwrap_blocks, wrap_register};
+use crate::steps::{first_eight, halves, join_halves, unwrap_blocks, wrap_register};
 use aes::AesKey;
 use octets::{Block, Fault};
 use std::alloc::{AllocError, Allocator};
@@ -28,7 +28,7 @@ fn only_block(bytes: &[u8]) -> Block
 }
 
 // Encrypts A and the blocks in place: one AES block, or six rounds of steps.
-pub(crate) fn transform(key: &AesKey, bytes: &mut [u8])
+pub(crate) fn encrypt_register(key: &AesKey, bytes: &mut [u8])
     requires least { 16 ≤ length bytes.old }
     requires whole { length bytes.old % 8 ≡ 0 }
     ensures { bytes.new ≡ transformed key.now bytes.old }
@@ -40,8 +40,8 @@ pub(crate) fn transform(key: &AesKey, bytes: &mut [u8])
     }
 }
 
-// Undoes `transform` on A and the blocks.
-fn untransform(key: &AesKey, first: &mut [u8; 8], blocks: &mut [u8])
+// Decrypts A and the blocks: undoes `encrypt_register`.
+fn decrypt_register(key: &AesKey, first: &mut [u8; 8], blocks: &mut [u8])
     requires least { 8 ≤ length blocks.old }
     requires whole { length blocks.old % 8 ≡ 0 }
     ensures undone { transformed key.now (first.new ++ blocks.new) ≡ first.old ++ blocks.old }
@@ -50,7 +50,7 @@ fn untransform(key: &AesKey, first: &mut [u8; 8], blocks: &mut [u8])
     ensures rest { AreBytes (length blocks.new) blocks.new }
 {
     if blocks.len() == 8 {
-        let block = Block::new(joined(first, blocks));
+        let block = Block::new(join_halves(first, blocks));
         let (half, second) = halves(key.inverse().decrypt(&block).bytes());
         *first = half;
         blocks.copy_from_slice(&second);
@@ -98,7 +98,11 @@ fn text_length(first: &[u8; 8], blocks: &[u8]) -> Option<usize>
 }
 
 // Decrypts A and the blocks. If they were the wrapping of a text, returns its length, and the blocks begin with the text.
-pub(crate) fn unwrap_start(key: &AesKey, first: &mut [u8; 8], blocks: &mut [u8]) -> Option<usize>
+pub(crate) fn unwrap_padded_register(
+    key: &AesKey,
+    first: &mut [u8; 8],
+    blocks: &mut [u8],
+) -> Option<usize>
     requires least { 8 ≤ length blocks.old }
     requires whole { length blocks.old % 8 ≡ 0 }
     ensures found { MatchOption result (IsNoPaddedWrapping key.now (first.old ++ blocks.old))
@@ -108,7 +112,7 @@ pub(crate) fn unwrap_start(key: &AesKey, first: &mut [u8; 8], blocks: &mut [u8])
     ensures undone { transformed key.now (first.new ++ blocks.new) ≡ first.old ++ blocks.old }
     ensures key { IsKey key.now }
 {
-    untransform(key, first, blocks);
+    decrypt_register(key, first, blocks);
     text_length(first, blocks)
 }
 
@@ -123,7 +127,7 @@ pub(crate) fn alternative_value(n: u32) -> [u8; 8]
 }
 
 // The register before the first step: A and the padded text.
-fn start<A: Allocator>(alloc: A, text: &[u8]) -> Result<Vec<u8, A>, AllocError>
+fn padded_register<A: Allocator>(alloc: A, text: &[u8]) -> Result<Vec<u8, A>, AllocError>
     requires { length text.now < 2 ^ 32 }
     ensures { IfOk result (λ v. v.items ≡ alternative_value (length text.now) ++ padded text.now) }
 {
@@ -155,8 +159,8 @@ pub fn wrap_padded<A: Allocator>(alloc: A, key: &AesKey, text: &[u8]) -> Result<
     if text.len() as u64 >= 1 << 32 {
         return Err(Fault::TextTooLong);
     }
-    let mut wrapped = start(alloc, text)?;
-    transform(key, &mut wrapped);
+    let mut wrapped = padded_register(alloc, text)?;
+    encrypt_register(key, &mut wrapped);
     Ok(wrapped)
 }
 
@@ -181,7 +185,7 @@ pub fn unwrap_padded<A: Allocator>(
     }
     let mut first = first_eight(wrapped);
     let mut text = Vec::from_slice(alloc, &wrapped[8..])?;
-    match unwrap_start(key, &mut first, &mut text) {
+    match unwrap_padded_register(key, &mut first, &mut text) {
         Some(length) => {
             text.truncate(length);
             Ok(text)

@@ -5,7 +5,7 @@ ghost use Rattle.keywrap.specs.Padded.{HasPaddedRoom, UnwrappedPadded};
 ghost use Rattle.keywrap.specs.Padded.{WrappedPaddedInPlace, UnwrappedPaddedInPlace};
 ghost use Rattle.keywrap.specs.Refusals.{PaddedWrapInPlaceRefused, PaddedUnwrapInPlaceRefused};
 
-use crate::padded::{alternative_value, has_blocks, transform, unwrap_start};
+use crate::padded::{alternative_value, encrypt_register, has_blocks, unwrap_padded_register};
 use crate::steps::first_eight;
 use aes::AesKey;
 use octets::Fault;
@@ -29,7 +29,7 @@ pub fn wrap_padded_in_place(key: &AesKey, bytes: &mut [u8], text_length: usize) 
     ensures answer { MatchResult result
         (λ _. WrappedPaddedInPlace key.now bytes.old text_length bytes.new)
         (PaddedWrapInPlaceRefused bytes.old text_length) }
-    ensures kept { OnErr result (bytes.new ≡ bytes.old) }
+    ensures unchanged { OnErr result (bytes.new ≡ bytes.old) }
 {
     if !has_padded_room(bytes, text_length) {
         return Err(Fault::WrapLength);
@@ -40,7 +40,7 @@ pub fn wrap_padded_in_place(key: &AesKey, bytes: &mut [u8], text_length: usize) 
     let zeros = bytes.len() - 8 - text_length;
     bytes[..8].copy_from_slice(&alternative_value(text_length as u32));
     bytes[8 + text_length..].copy_from_slice(&[0; 8][..zeros]);
-    transform(key, bytes);
+    encrypt_register(key, bytes);
     Ok(())
 }
 
@@ -54,7 +54,7 @@ pub fn unwrap_padded_in_place(key: &AesKey, bytes: &mut [u8]) -> Result<usize, F
         (PaddedUnwrapInPlaceRefused key.now bytes.old) }
     ensures found { (text : List ℕ) → UnwrappedPadded key.now bytes.old text
         → MatchResult result (λ n. take n (drop 8 bytes.new) ≡ text) (λ _. ⊥) }
-    ensures kept { OnErr result (bytes.new ≡ bytes.old) }
+    ensures unchanged { OnErr result (bytes.new ≡ bytes.old) }
 {
     if !has_blocks(bytes) {
         return Err(Fault::WrapLength);
@@ -63,12 +63,12 @@ pub fn unwrap_padded_in_place(key: &AesKey, bytes: &mut [u8]) -> Result<usize, F
         return Err(Fault::TextTooLong);
     }
     let mut first = first_eight(bytes);
-    let found = unwrap_start(key, &mut first, &mut bytes[8..]);
+    let found = unwrap_padded_register(key, &mut first, &mut bytes[8..]);
     bytes[..8].copy_from_slice(&first);
     match found {
         Some(length) => Ok(length),
         None => {
-            transform(key, bytes);
+            encrypt_register(key, bytes);
             Err(Fault::WrapIntegrity)
         }
     }

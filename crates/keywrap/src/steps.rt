@@ -40,7 +40,7 @@ pub(crate) fn first_eight(bytes: &[u8]) -> [u8; 8]
 }
 
 // The XOR of half a block with the number of a step.
-fn numbered(half: &[u8; 8], t: u64) -> [u8; 8]
+fn xor_number(half: &[u8; 8], t: u64) -> [u8; 8]
     ensures { result ≡ xor_bytes half.now (bytes_high_first 8 t) }
 {
     let mut sum = *half;
@@ -49,7 +49,7 @@ fn numbered(half: &[u8; 8], t: u64) -> [u8; 8]
 }
 
 // The block with these two halves.
-pub(crate) fn joined(first: &[u8; 8], second: &[u8]) -> [u8; 16]
+pub(crate) fn join_halves(first: &[u8; 8], second: &[u8]) -> [u8; 16]
     requires { length second.now ≡ 8 }
     ensures { result ≡ first.now ++ second.now }
 {
@@ -78,9 +78,9 @@ fn wrap_step(key: &AesKey, t: u64, place: usize, first: &mut [u8; 8], blocks: &m
     ensures { register (place + 8) first.new blocks.new
         ≡ step key.now t (register place first.old blocks.old) }
 {
-    let block = joined(first, &blocks[place..place + 8]);
+    let block = join_halves(first, &blocks[place..place + 8]);
     let (half, second) = halves(key.encrypt(&Block::new(block)).bytes());
-    *first = numbered(&half, t);
+    *first = xor_number(&half, t);
     blocks[place..place + 8].copy_from_slice(&second);
 }
 
@@ -92,7 +92,7 @@ fn unwrap_step(inverse: &InverseKey, t: u64, place: usize, first: &mut [u8; 8], 
     ensures first { AreBytes (length first.new) first.new }
     ensures rest { AreBytes (length blocks.new) blocks.new }
 {
-    let block = joined(&numbered(first, t), &blocks[place..place + 8]);
+    let block = join_halves(&xor_number(first, t), &blocks[place..place + 8]);
     let (half, second) = halves(inverse.decrypt(&Block::new(block)).bytes());
     *first = half;
     blocks[place..place + 8].copy_from_slice(&second);

@@ -1,6 +1,6 @@
 use Rattle.std.proofs.Common.{◌∷◌, [], refl}
 use Rattle.keywrap.proofs.Pieces.{halves}
-use Rattle.keywrap.proofs.steps.joined.Goals as goal
+use Rattle.keywrap.proofs.steps.join_halves.Goals as goal
 
 pub returns : goal.returns
 returns c =

@@ -4,7 +4,7 @@ use Rattle.std.proofs.lemmas.List.{take-append-drop}
 use Rattle.aes.specs.Cipher.{cipher}
 use Rattle.keywrap.specs.Wrapping.{steps}
 use Rattle.keywrap.proofs.PaddedTexts.{transformed_one, transformed_more}
-use Rattle.keywrap.proofs.padded.untransform.Goals as goal
+use Rattle.keywrap.proofs.padded.decrypt_register.Goals as goal
 
 pub returns-then-blocks-eq8-clause-undone : goal.returns-then-blocks-eq8-clause-undone
 returns-then-blocks-eq8-clause-undone c =
@@ -16,7 +16,7 @@ returns-then-blocks-eq8-clause-undone c =
     (ap length both ∙ c.halves.ensures.long)
     ∙ ap (cipher c.args.key.now) (both ∙ c.bytes.ensures.value)
     ∙ (c.decrypt.ensures.value c.args.key.now c.inverse.ensures).taken ∙ c.new-block.ensures.value
-    ∙ c.joined.ensures
+    ∙ c.join_halves.ensures
 
 pub returns-else-blocks-eq8-clause-undone : goal.returns-else-blocks-eq8-clause-undone
 returns-else-blocks-eq8-clause-undone c =

@@ -1,6 +1,6 @@
 use Rattle.std.proofs.Common.{ap, ◌∙◌, ◌++◌}
 use Rattle.keywrap.proofs.PaddedTexts.{started}
-use Rattle.keywrap.proofs.padded.start.Goals as goal
+use Rattle.keywrap.proofs.padded.padded_register.Goals as goal
 
 pub returns : goal.returns
 returns g c =

@@ -1,7 +1,7 @@
 use Rattle.std.proofs.Common.{sym, ap, ◌∙◌}
 use Rattle.aes.specs.Cipher.{cipher}
 use Rattle.keywrap.proofs.PaddedTexts.{transformed_one, transformed_more}
-use Rattle.keywrap.proofs.padded.transform.Goals as goal
+use Rattle.keywrap.proofs.padded.encrypt_register.Goals as goal
 
 pub returns-then-bytes-eq16 : goal.returns-then-bytes-eq16
 returns-then-bytes-eq16 c =
