@@ -179,20 +179,20 @@ impl<C: Count> Counter<C> {
         }
     }
 
-    // The state of the stream after its first `made` bytes.
-    fn at(key: &AesKey, first: &Block, made: u64) -> Counter<C>
-        requires { made < 2 ^ 63 }
-        ensures { Makes C.up result key.now first.now made }
+    // The state of the stream after its first `position` bytes.
+    fn at(key: &AesKey, first: &Block, position: u64) -> Counter<C>
+        requires { position < 2 ^ 63 }
+        ensures { Makes C.up result key.now first.now position }
     {
-        let used = (made % 16) as usize;
+        let used = (position % 16) as usize;
         let mask = if used == 0 {
             *first
         } else {
-            key.encrypt(&C::block(first, (made / 16 % 0x1_0000_0000) as u32))
+            key.encrypt(&C::block(first, (position / 16 % 0x1_0000_0000) as u32))
         };
         Counter {
             first: *first,
-            block_count: ((made + 15) / 16 % 0x1_0000_0000) as u32,
+            block_count: ((position + 15) / 16 % 0x1_0000_0000) as u32,
             mask,
             used,
             way: PhantomData,
@@ -458,13 +458,13 @@ impl<C: Count, K: KeptKey> Ctr<C, K> {
         }
     }
 
-    /// Makes the stream whose first block is the cipher of `first`, after its first `made` bytes. The rest must never be used
+    /// Makes the stream whose first block is the cipher of `first`, after its first `position` bytes. The rest must never be used
     /// twice: see [`Ctr::new`].
-    pub fn at(key: K, first: &Block, made: u64) -> Ctr<C, K>
-        requires { made < 2 ^ 63 }
-        ensures { Holds C.up K.bytes result (K.bytes key) first.now made }
+    pub fn at(key: K, first: &Block, position: u64) -> Ctr<C, K>
+        requires { position < 2 ^ 63 }
+        ensures { Holds C.up K.bytes result (K.bytes key) first.now position }
     {
-        let counter = Counter::at(key.kept(), first, made);
+        let counter = Counter::at(key.kept(), first, position);
         Ctr { key, counter }
     }
 
@@ -472,9 +472,9 @@ impl<C: Count, K: KeptKey> Ctr<C, K> {
     /// calls. There is no fault: after 2^32 blocks the stream begins again (SP 800-38D, 6.5; RFC 8452, 4), so a caller has to stop
     /// before that.
     pub fn apply(&mut self, bytes: &mut [u8])
-        ensures { (key first : List ℕ) (made : ℕ) → Holds C.up K.bytes self.old key first made
-            → Holds C.up K.bytes self.new key first (made + length bytes.old)
-            × (bytes.new ≡ masked (counter_byte C.up key first) made bytes.old) }
+        ensures { (key first : List ℕ) (position : ℕ) → Holds C.up K.bytes self.old key first position
+            → Holds C.up K.bytes self.new key first (position + length bytes.old)
+            × (bytes.new ≡ masked (counter_byte C.up key first) position bytes.old) }
     {
         self.counter.apply(self.key.kept(), bytes);
     }

@@ -100,7 +100,7 @@ fn four_times(bytes: u8x16) -> u8x64
 
 // Looks each lane up in the table.
 #[inline(always)]
-fn look(table: [u8; 16], at: u8x64) -> u8x64
+fn look_up(table: [u8; 16], at: u8x64) -> u8x64
     requires { (k : ℕ) → k < 64 → IsPlace (slice_index at k) }
     ensures { HasLanes result (λ k. entry table (slice_index at k)) }
 {
@@ -136,7 +136,10 @@ fn sum(x: u8x64, y: u8x64) -> u8x64
 fn to_basis(x: u8x64) -> u8x64
     ensures { HasLanes result (λ k. in_basis (slice_index x k)) }
 {
-    sum(look(TO_LOW, low_nibbles(x)), look(TO_HIGH, high_nibbles(x)))
+    sum(
+        look_up(TO_LOW, low_nibbles(x)),
+        look_up(TO_HIGH, high_nibbles(x)),
+    )
 }
 
 // Applies the S-box without its constant to bytes in the basis. Returns the values, the values in the basis, and their doubles in
@@ -151,15 +154,15 @@ fn substitute(x: u8x64) -> (u8x64, u8x64, u8x64)
     let low = low_nibbles(x);
     let high = high_nibbles(x);
     let both = sum(low, high);
-    let scaled = look(SCALED, low);
-    let first = sum(look(INVERSE, high), scaled);
-    let second = sum(look(INVERSE, both), scaled);
-    let u = sum(look(INVERSE, first), both);
-    let t = sum(look(INVERSE, second), high);
+    let scaled = look_up(SCALED, low);
+    let first = sum(look_up(INVERSE, high), scaled);
+    let second = sum(look_up(INVERSE, both), scaled);
+    let u = sum(look_up(INVERSE, first), both);
+    let t = sum(look_up(INVERSE, second), high);
     (
-        sum(look(PLAIN_BY_FIRST, u), look(PLAIN_BY_SECOND, t)),
-        sum(look(ONCE_BY_FIRST, u), look(ONCE_BY_SECOND, t)),
-        sum(look(TWICE_BY_FIRST, u), look(TWICE_BY_SECOND, t)),
+        sum(look_up(PLAIN_BY_FIRST, u), look_up(PLAIN_BY_SECOND, t)),
+        sum(look_up(ONCE_BY_FIRST, u), look_up(ONCE_BY_SECOND, t)),
+        sum(look_up(TWICE_BY_FIRST, u), look_up(TWICE_BY_SECOND, t)),
     )
 }
 

@@ -546,8 +546,8 @@ pub(crate) fn store(p: Planes) -> (u8x64, u8x64, u8x64, u8x64)
         → HoldsBlocks result.0 f × HoldsBlocks result.1 (λ q. f (4 + q))
         × HoldsBlocks result.2 (λ q. f (8 + q)) × HoldsBlocks result.3 (λ q. f (12 + q)) }
 {
-    let made = transpose(p);
-    let (first, third) = halves(made[0], made[1], made[2], made[3]);
-    let (second, fourth) = halves(made[4], made[5], made[6], made[7]);
+    let blocks = transpose(p);
+    let (first, third) = halves(blocks[0], blocks[1], blocks[2], blocks[3]);
+    let (second, fourth) = halves(blocks[4], blocks[5], blocks[6], blocks[7]);
     (first, second, third, fourth)
 }

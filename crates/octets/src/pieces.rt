@@ -145,9 +145,9 @@ impl<A: Absorb> Pieces<A> {
             → HoldsPieces A.absorbed self.new k (m ++ piece.now) }
     {
         let mut rest = piece;
-        let begun = self.used;
-        if begun > 0 {
-            let room = 16 - begun;
+        let used = self.used;
+        if used > 0 {
+            let room = 16 - used;
             if piece.len() < room {
                 self.keep(piece);
                 return;

@@ -119,8 +119,8 @@ impl<A: Allocator> Outlet for ScriptOutlet<A> {
 
     fn give(&mut self, bytes: &[u8]) -> Result<usize, DeviceFault> {
         if let Some(n) = allowed(self.steps.as_slice(), &mut self.call, bytes.len()) {
-            if let Ok(given) = self.outlet.give(&bytes[..n]) {
-                return Ok(given);
+            if let Ok(count) = self.outlet.give(&bytes[..n]) {
+                return Ok(count);
             }
         }
         self.failures.add();

@@ -1,5 +1,5 @@
 use Rattle.aes.proofs.FourBlocks.{places_ok, looked_up}
-use Rattle.aes.proofs.lanes.look.Goals as goal
+use Rattle.aes.proofs.lanes.look_up.Goals as goal
 
 pub swizzle : goal.swizzle
 swizzle c = places_ok c.args.at c.fits-at.0 c.requires
