@@ -160,7 +160,7 @@ struct Counter<C> {
 }
 
 impl<C: Count> Counter<C> {
-    ghost use Rattle.aes.specs.Streams.{Makes, Advances, AdvancesFront};
+    ghost use Rattle.aes.specs.Code.Streams.{Makes, Advances, AdvancesFront};
     ghost use Rattle.aes.specs.Code.Lanes.{IsReady};
     ghost use Rattle.aes.specs.Code.Planes.{AreReady, AreMasks, HoldsSixteen};
     ghost use Rattle.aes.specs.Schedule.{schedule, round_count};
@@ -439,7 +439,7 @@ pub type CtrBe<K> = Ctr<LastFour, K>;
 pub type CtrLe<K> = Ctr<FirstFour, K>;
 
 impl<C: Count, K: KeptKey> Ctr<C, K> {
-    ghost use Rattle.aes.specs.Streams.{Holds};
+    ghost use Rattle.aes.specs.Code.Streams.{Holds};
 
     /// Makes the stream whose first block is the cipher of `first`, under a key that it owns or borrows.
     ///
@@ -482,7 +482,7 @@ impl<C: Count, K: KeptKey> Ctr<C, K> {
 
 /// The stream does none of the work's steps: its rounds leave no room for one.
 impl<C: Count, K: KeptKey> Stream for Ctr<C, K> {
-    ghost use Rattle.aes.specs.Streams.{Did};
+    ghost use Rattle.aes.specs.Code.Streams.{Did};
 
     ghost did = { Did C.up K.bytes };
 

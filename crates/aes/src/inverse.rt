@@ -6,7 +6,7 @@ ghost use Rattle.octets.specs.Bytes.{IsBlock};
 ghost use Rattle.aes.specs.Schedule.{xor_word};
 ghost use Rattle.aes.specs.Field.{times, sbox};
 ghost use Rattle.aes.specs.Cipher.{mix_column, sub_bytes, shift_rows, mix_columns, add_round_key};
-ghost use Rattle.aes.specs.Columns.{column_of, columns_of, state_of};
+ghost use Rattle.aes.specs.Code.Columns.{column_of, columns_of, state_of};
 
 use crate::round_tables::INVERSE_TABLES;
 use crate::sbox::{substitute, unsubstitute};

@@ -6,7 +6,7 @@ ghost use Rattle.aes.specs.Cipher.{cipher, IsKey, IsKeyLength, IsPreimage};
 ghost use Rattle.aes.specs.Code.ExpandedKey.{own_key};
 ghost use Rattle.aes.specs.Code.InverseKey.{IsInverse};
 ghost use Rattle.aes.specs.Code.Lanes.{IsReady};
-ghost use Rattle.aes.specs.KeptWords.{KeepsSchedule};
+ghost use Rattle.aes.specs.Code.KeptWords.{KeepsSchedule};
 ghost use Rattle.aes.specs.Code.Planes.{AreReady, HoldsBits, HoldsEight, HoldsLanes, HoldsSixteen};
 ghost use Rattle.aes.specs.Schedule.{schedule, round_count};
 
@@ -40,7 +40,7 @@ impl Model for AesKey {
 
     ghost Value = { List ℕ };
 
-    ghost use Rattle.aes.specs.Columns.{columns_of};
+    ghost use Rattle.aes.specs.Code.Columns.{columns_of};
     ghost use Rattle.aes.specs.Code.ExpandedKey.{key_of, IsExpanded, fields_of, fields_of-key_of};
 
     ghost view = { λ a. key_of (columns_of a.words) a.size };

@@ -3,7 +3,7 @@
 ghost use Rattle.std.specs.Prelude.{◌≡◌, ℕ, ◌<◌};
 ghost use Rattle.std.specs.Prelude.{slice_index, bit_xor, length};
 ghost use Rattle.std.specs.Int.{bit_at, to_le_bytes, w128};
-ghost use Rattle.aes.specs.Columns.{columns_of};
+ghost use Rattle.aes.specs.Code.Columns.{columns_of};
 ghost use Rattle.aes.specs.Code.Planes.{HoldsLanes, HoldsWords, spot, word_byte, AreReady};
 
 use crate::columns::round_key;

@@ -7,7 +7,7 @@ ghost use Rattle.std.specs.Prelude.{length, bit_xor};
 ghost use Rattle.octets.specs.Bytes.{IsBlock};
 ghost use Rattle.aes.specs.Field.{times, sbox};
 ghost use Rattle.aes.specs.Cipher.{sub_bytes, shift_rows, mix_columns, add_round_key};
-ghost use Rattle.aes.specs.Columns.{columns_of};
+ghost use Rattle.aes.specs.Code.Columns.{columns_of};
 ghost use Rattle.aes.specs.Code.Lanes.{HasLanes, IsPlace, entry, key_byte, row_source, row_below, row_above};
 ghost use Rattle.aes.specs.Code.Lanes.{in_basis, linear_sbox, HoldsBlocks, HoldsInBasis, ready_byte};
 

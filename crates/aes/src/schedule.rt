@@ -1,9 +1,9 @@
 //! The key schedule (FIPS 197, 5.2). A word is a number of 32 bits, its first byte the least significant one.
 
 ghost use Rattle.std.specs.Prelude.{◌≡◌, ℕ, ◌+◌, ◌*◌, ◌^◌, ◌≤◌, ◌/◌, ◌<◌, length, take, drop, slice_index};
-ghost use Rattle.aes.specs.Columns.{column_of, columns_of};
+ghost use Rattle.aes.specs.Code.Columns.{column_of, columns_of};
 ghost use Rattle.aes.specs.Schedule.{xor_word, sub_word, rot_word, rcon, temp, MeetsRecurrence};
-ghost use Rattle.aes.specs.KeptWords.{table};
+ghost use Rattle.aes.specs.Code.KeptWords.{table};
 ghost use Rattle.aes.specs.Code.ExpandedKey.{IsKeySize};
 
 use crate::sbox::substitute;

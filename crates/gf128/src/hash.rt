@@ -19,7 +19,7 @@ pub(crate) struct BlockSum<M, O> {
 }
 
 impl<M: Multiply, O: HashOrder> Absorb for BlockSum<M, O> {
-    ghost use Rattle.gf128.specs.States.{SumHolds};
+    ghost use Rattle.gf128.specs.Code.States.{SumHolds};
 
     ghost absorbed = { λ s h m. SumHolds O.order M.key_bytes s h m };
 
@@ -44,7 +44,7 @@ pub struct BlockHash<M, O> {
 }
 
 impl<M: Keyed128, O: HashOrder> BlockHash<M, O> {
-    ghost use Rattle.gf128.specs.States.{HashHolds};
+    ghost use Rattle.gf128.specs.Code.States.{HashHolds};
 
     /// Makes a state that holds the empty text, under a key of 16 bytes. Not constant time: see the multiplier.
     pub fn new(key: &Block) -> BlockHash<M, O>
@@ -56,7 +56,7 @@ impl<M: Keyed128, O: HashOrder> BlockHash<M, O> {
 
 impl<M: Multiply, O: HashOrder> BlockHash<M, O> {
     ghost use Rattle.octets.specs.Bytes.{pad16};
-    ghost use Rattle.gf128.specs.States.{HashHolds, IsSum};
+    ghost use Rattle.gf128.specs.Code.States.{HashHolds, IsSum};
 
     /// Makes a state that holds the empty text. For GHASH the key is that of the multiplier; for POLYVAL it is the key of which
     /// [`crate::reversed_mul_x`] is that of the multiplier. The multiplier may be borrowed.

@@ -3,7 +3,7 @@
 ghost use Rattle.std.specs.Prelude.{◌≡◌};
 ghost use Rattle.std.specs.Int.{w128, to_be_bytes};
 ghost use Rattle.gf128.specs.Code.Words.{of_word, AreMultiples, stored_number};
-ghost use Rattle.gf128.specs.KeptMultiples.{KeepsMultiples};
+ghost use Rattle.gf128.specs.Code.KeptMultiples.{KeepsMultiples};
 
 use crate::lanes::Lanes;
 use crate::multiples::{ByteMultiples, KeptMultiples, Multiples32};

@@ -53,7 +53,7 @@ pub struct Pieces<A> {
 
 impl<A: Absorb> Pieces<A> {
     ghost use Rattle.octets.specs.Bytes.{pad16};
-    ghost use Rattle.octets.specs.Pieces.{HoldsPieces};
+    ghost use Rattle.octets.specs.Code.Pieces.{HoldsPieces};
 
     /// Makes a state that holds the empty text. `core` has absorbed nothing yet.
     pub fn new(core: A) -> Pieces<A>

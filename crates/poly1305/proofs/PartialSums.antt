@@ -8,7 +8,7 @@ use Rattle.octets.specs.Bytes.{block_at}
 use Rattle.poly1305.specs.Poly1305.{prime, block_number, block_sum, r_of, s_of}
 use Rattle.poly1305.specs.Code.Residue.{pair}
 use Rattle.poly1305.specs.Code.PartialSums.{PartialSumHolds}
-use Rattle.poly1305.specs.States.{PolySumHolds}
+use Rattle.poly1305.specs.Code.States.{PolySumHolds}
 use Rattle.poly1305.specs.declared.poly.PolySum.{PolySum}
 use Rattle.poly1305.specs.declared.partial_sum.PartialSum.{PartialSum}
 use Rattle.poly1305.proofs.Texts.{block_sum-append, block_taken, whole_number}

@@ -21,7 +21,7 @@ struct PolySum<M> {
 }
 
 impl<M: Multiplier> Absorb for PolySum<M> {
-    ghost use Rattle.poly1305.specs.States.{PolySumHolds};
+    ghost use Rattle.poly1305.specs.Code.States.{PolySumHolds};
 
     ghost absorbed = { λ c k m. PolySumHolds M.factor c k m };
 
@@ -45,7 +45,7 @@ impl<M: Multiplier> Absorb for PolySum<M> {
 }
 
 impl<M: Multiplier> PolySum<M> {
-    ghost use Rattle.poly1305.specs.States.{PolySumHolds};
+    ghost use Rattle.poly1305.specs.Code.States.{PolySumHolds};
 
     // Adds whole blocks to the sum.
     #[inline(always)]
@@ -98,7 +98,7 @@ pub struct PolyBy<M> {
 impl<M: Multiplier> PolyBy<M> {
     ghost use Rattle.octets.specs.Bytes.{pad16, IsBlock};
     ghost use Rattle.poly1305.specs.Poly1305.{poly1305};
-    ghost use Rattle.poly1305.specs.States.{HoldsBy, IsSum};
+    ghost use Rattle.poly1305.specs.Code.States.{HoldsBy, IsSum};
 
     /// Makes a state that holds the empty text, under a key of 32 bytes: r, then s (RFC 8439, 2.5).
     ///

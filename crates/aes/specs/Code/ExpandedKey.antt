@@ -7,8 +7,8 @@ use Rattle.std.proofs.lemmas.Nat.{from_le_bytes-to_le_bytes_4}
 use Rattle.std.proofs.Math.Nat.{mul-div_cancel_left}
 use Rattle.octets.specs.Bytes.{le}
 use Rattle.octets.proofs.Numbers.{le_is}
-use Rattle.aes.specs.Columns.{column_of, columns_of}
-use Rattle.aes.specs.KeptWords.{table}
+use Rattle.aes.specs.Code.Columns.{column_of, columns_of}
+use Rattle.aes.specs.Code.KeptWords.{table}
 use Rattle.aes.specs.declared.key.AesKey.TheInside.{Inside}
 
 -- the number of words in a key

@@ -1,6 +1,6 @@
 -- The schedule of a key as sixty words of 32 bits, for a caller that stores it.
 use Rattle.std.specs.Prelude.{◌≡◌, ℕ, ◌-◌, ◌^◌, ◌<◌, List, ◌++◌, length, get_or, replicate}
-use Rattle.aes.specs.Columns.{columns_of}
+use Rattle.aes.specs.Code.Columns.{columns_of}
 use Rattle.aes.specs.Schedule.{schedule}
 
 -- the words of the schedule, and zero words after them

@@ -2,7 +2,7 @@
 use Rattle.std.specs.Prelude.{ℕ, ◌*◌, ◌/◌, List, length, take}
 use Rattle.std.specs.Int.{w128, to_be_bytes}
 use Rattle.octets.specs.Polynomial.{Agree}
-use Rattle.octets.specs.Pieces.{HoldsPieces}
+use Rattle.octets.specs.Code.Pieces.{HoldsPieces}
 use Rattle.gf128.specs.Code.Words.{of_word}
 use Rattle.gf128.specs.Orders.{Order, Straight, Reversed, Serves, block_sum}
 use Rattle.gf128.specs.declared.ghash.GhashOrder.{GhashOrder}

@@ -1,6 +1,6 @@
 -- The text that a state in pieces holds.
 use Rattle.std.specs.Prelude.{◌≡◌, ℕ, ◌+◌, ◌*◌, ◌/◌, ◌%◌, ◌^◌, ◌<◌, List, length, take}
-use Rattle.octets.specs.Pieces.{HoldsPieces}
+use Rattle.octets.specs.Code.Pieces.{HoldsPieces}
 use Rattle.poly1305.specs.Poly1305.{prime, block_sum, r_of, s_of}
 use Rattle.poly1305.specs.Code.Residue.{pair}
 use Rattle.poly1305.specs.declared.poly.PolySum.{PolySum}
