@@ -14,7 +14,8 @@ use Rattle.octets.specs.Bytes.{AreBytes}
 use Rattle.aes.specs.Cipher.{cipher, IsKey, IsPermutation}
 use Rattle.keywrap.specs.Wrapping.{steps}
 use Rattle.keywrap.specs.Padded.{constant, alternative_value, padded, transformed, HasPaddableLength}
-use Rattle.keywrap.specs.Padded.{HasBlocks, HasPaddedRoom, IsStartOf, UnwrappedPadded, IsNoPaddedWrapping}
+use Rattle.keywrap.specs.Padded.{HasBlocks, HasPaddedRoom, UnwrappedPadded, IsNoPaddedWrapping}
+use Rattle.keywrap.specs.Code.Padded.{IsStartOf}
 use Rattle.keywrap.specs.Padded.{HasOnePaddedText}
 use borrow.Rule.Slice.PartMut.{put_mid}
 use Rattle.keywrap.proofs.Blocks.{length_cipher}

@@ -41,12 +41,6 @@ pub record HasPaddedRoom (bytes : List ℕ) (n : ℕ) : Type 0 where
   pub least : 1 ≤ n
   pub room : length bytes ≡ 8 + (n + (8 - n % 8) % 8)
 
--- A and the blocks are what the wrapping of the text encrypts
-pub record IsStartOf (text first blocks : List ℕ) : Type 0 where
-  pub length_is : HasPaddableLength text
-  pub first_is : first ≡ alternative_value (length text)
-  pub blocks_are : blocks ≡ padded text
-
 -- text is a text to pad, and wrapped is its wrapping with padding
 pub record UnwrappedPadded (key : List ℕ) (wrapped : List ℕ) (text : List ℕ) : Type 0 where
   pub length_is : HasPaddableLength text

@@ -5,7 +5,8 @@ ghost use Rattle.std.specs.Prelude.{IsTrue, IfOk, IfSome, MatchOption, MatchResu
 ghost use Rattle.std.specs.List.{list_all};
 ghost use Rattle.octets.specs.Bytes.{AreBytes};
 ghost use Rattle.aes.specs.Cipher.{IsKey};
-ghost use Rattle.keywrap.specs.Padded.{alternative_value, padded, transformed, HasBlocks, IsStartOf};
+ghost use Rattle.keywrap.specs.Padded.{alternative_value, padded, transformed, HasBlocks};
+ghost use Rattle.keywrap.specs.Code.Padded.{IsStartOf};
 ghost use Rattle.keywrap.specs.Padded.{UnwrappedPadded, IsNoPaddedWrapping};
 ghost use Rattle.keywrap.specs.Refusals.{PaddedWrapRefused, PaddedUnwrapRefused};
 
