@@ -20,11 +20,6 @@ pub record IsReport (lines : List (List ℕ)) (count : ℕ) (bad : List ℕ) : T
   pub count_is : count ≡ length records
   pub judged : IsBad 1 records bad
 
--- a report becomes that of one more record
-abbrev pub Judges : ℕ → List ℕ → Record → ℕ → List ℕ → Type 0
-Judges count bad r more worse =
-    (more ≡ count + 1) × ((Agrees r × (worse ≡ bad)) ⊎ ((¬ Agrees r) × (worse ≡ bad ++ more ∷ [])))
-
 -- a report, or `OutOfMemory`
 abbrev pub IsReported : {R : Type 0} → Result R VectorFault → Type 0
 IsReported (Ok report) = Unit {0}

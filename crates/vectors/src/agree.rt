@@ -10,7 +10,8 @@ ghost use Rattle.keywrap.specs.Wrapping.{Unwrapped};
 ghost use Rattle.keywrap.specs.Padded.{UnwrappedPadded};
 ghost use Rattle.vectors.specs.declared.suite.Algorithm.TheVariants as suites;
 ghost use Rattle.vectors.specs.Code.Views.{bytes_in, entry_view, text_view};
-ghost use Rattle.vectors.specs.Agreement.{Agrees, IsSized, TextIs};
+ghost use Rattle.vectors.specs.Agreement.{Agrees, TextIs};
+ghost use Rattle.vectors.specs.Code.Judging.{IsSized};
 
 use crate::digits::Digits;
 use crate::place::Entry;

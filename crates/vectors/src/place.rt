@@ -99,7 +99,7 @@ impl<'a> Next<'a> {
     }
 
     // The place after the last line of a record.
-    fn behind(format: Format, entry: Entry<'a>) -> Next<'a>
+    fn after_record(format: Format, entry: Entry<'a>) -> Next<'a>
         ensures { next_view result ≡ (view (places.Between format), entry_view entry.entry ∷ []) }
     {
         Next {
@@ -209,7 +209,7 @@ fn text_at<'a>(format: Format, entry: Entry<'a>, line: &'a [u8]) -> Result<Next<
         (text_at format (entry_view entry.entry) line.entry.now) }
 {
     let text = Some(hex_at(b"text", line)?);
-    Ok(Next::behind(format, Entry { text, ..entry }))
+    Ok(Next::after_record(format, Entry { text, ..entry }))
 }
 
 // Handles a line of cuts.
@@ -233,7 +233,7 @@ fn end_at<'a>(format: Format, entry: Entry<'a>, line: &'a [u8]) -> Result<Next<'
         (end_at format (entry_view entry.entry) line.entry.now) }
 {
     if line == b"invalid".as_slice() {
-        return Ok(Next::behind(
+        return Ok(Next::after_record(
             format,
             Entry {
                 text: None,

@@ -2,8 +2,8 @@
 
 ghost use Rattle.std.specs.Prelude.{◌≡◌, ◌↔◌, ◌+◌, ◌<◌, ◌≤◌, ◌^◌, [], ◌∷◌, ◌++◌, OnOk, IsTrue, if◌then◌else◌};
 ghost use Rattle.vectors.specs.Code.Views.{entry_view};
-ghost use Rattle.vectors.specs.Agreement.{IsSized};
-ghost use Rattle.vectors.specs.Reports.{Judges};
+ghost use Rattle.vectors.specs.Code.Judging.{IsSized};
+ghost use Rattle.vectors.specs.Code.Judging.{Judges};
 
 use crate::agree::agrees;
 use crate::place::Entry;
