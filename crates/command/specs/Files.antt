@@ -1,9 +1,8 @@
 -- The results of the file commands, and the contents of the file that they write.
 use Rattle.std.specs.Prelude.{◌≡◌, ℕ, ◌⊎◌, Bool, true, false, List, ◌∷◌, ◌++◌, Option, Some, Result, Ok, Err}
-use Rattle.std.specs.Prelude.{MatchResult, IfSome, IfOk, IfErr, None, is_some, ⊤}
-use Rattle.std.specs.Io.KnownBytes.{Appends}
+use Rattle.std.specs.Prelude.{IfSome, IfOk, IfErr, None, is_some, ⊤}
 use Rattle.octets.specs.declared.fault.Fault.{Fault}
-use Rattle.octets.specs.declared.fault.Fault.TheVariants.{Read, Write, OutOfMemory, TextTooLong}
+use Rattle.octets.specs.declared.fault.Fault.TheVariants.{Read, Write, TextTooLong}
 use Rattle.aead.specs.Refusals.{IsOneOf, late_in_readings}
 use Rattle.aead.specs.Suites.{construction_of, is_one_pass}
 use Rattle.aead.specs.Sealing.{Setting}
@@ -67,11 +66,6 @@ abbrev pub Engine : FileCommand → (ℕ → Option (List ℕ)) → Giving → S
 Engine Seal readings giving s r = Sealing readings giving s r
 Engine Open readings giving s r = Opening readings giving s r
 
--- the outlet took some bytes, which have this property
-abbrev pub OutletTakes : Option (List ℕ) → Option (List ℕ) → Giving
-OutletTakes taken taken' P =
-    IfSome taken (λ before. (given : List ℕ) × Appends (Some before) taken' given × P given)
-
 -- a file holds what was taken before, followed by all bytes that were given, which have this property
 abbrev pub HoldsAll : Option (List ℕ) → Option (List ℕ) → Giving
 HoldsAll taken held P = IfSome taken (λ before. (given : List ℕ) × (held ≡ Some (before ++ given)) × P given)
@@ -85,20 +79,6 @@ HoldsStart taken held P =
 -- no call was made: the words don't give inputs, memory ran out, or a file was not opened
 abbrev pub NoCall : Inputs → Failure → Type 0
 NoCall words e = InputsRefused words e ⊎ ((e ≡ OfFault Read) × IsCalled words (λ _ _. ⊤))
-
--- an engine returned, or a file was not opened and the outlet is unchanged
-abbrev pub EngineRan : (Giving → Setting → Answer → Type 0) → Setting → (taken taken' : Option (List ℕ))
-    → (same : Type 0) → Answer → Type 0
-EngineRan engine s taken taken' same r =
-    (((r ≡ Err Read) ⊎ (r ≡ Err OutOfMemory)) × same) ⊎ engine (OutletTakes taken taken') s r
-
--- an engine ran over readings into an outlet, or no call was made and the outlet is unchanged
-abbrev pub Ran : (Giving → Setting → Answer → Type 0) → Inputs → (taken taken' : Option (List ℕ))
-    → (same : Type 0) → Result (Unit {0}) Failure → Type 0
-Ran engine words taken taken' same r = MatchResult r
-    (λ _. IsCalled words (λ s body. engine (OutletTakes taken taken') s (Ok tt)))
-    (λ e. (NoCall words e × same)
-    ⊎ CallFailed (λ s body f. engine (OutletTakes taken taken') s (Err f)) words e)
 
 -- a file command succeeded: the file holds what the engine gave
 abbrev pub FileDone : (Giving → Setting → Answer → Type 0) → Inputs → (taken held : Option (List ℕ)) → Type 0

@@ -24,7 +24,7 @@ use std::alloc::Allocator;
 use vectors::Report;
 
 // Returns the bytes that a hexadecimal value spells. `BadHex` if it is not an even number of hex digits.
-fn decoded<A: Allocator>(alloc: A, digits: &str) -> Result<Vec<u8, A>, Failure>
+fn decode<A: Allocator>(alloc: A, digits: &str) -> Result<Vec<u8, A>, Failure>
     ensures { MatchResult result (λ v. Spells digits.now v.items)
         (λ e. (e ≡ OfFault OutOfMemory) ⊎ ((e ≡ BadHex) × IsBadHex digits.now)) }
 {
@@ -36,7 +36,7 @@ fn decoded<A: Allocator>(alloc: A, digits: &str) -> Result<Vec<u8, A>, Failure>
 }
 
 // Returns the wrapping of a text, with padding or without.
-fn wrapped<A: Allocator>(
+fn wrap_text<A: Allocator>(
     alloc: A,
     key: &AesKey,
     text: &[u8],
@@ -52,7 +52,7 @@ fn wrapped<A: Allocator>(
 }
 
 // Returns the text of a wrapping, with padding or without.
-fn unwrapped<A: Allocator>(
+fn unwrap_text<A: Allocator>(
     alloc: A,
     key: &AesKey,
     sealed: &[u8],
@@ -86,8 +86,8 @@ fn wrap_inputs<'a, A: Allocator>(
         (λ call. IsKey call.key × Spells key.now call.key × Spells body.now call.body.items)
         (WrapInputsRefused key.now body.now) }
 {
-    let key_bytes = decoded(alloc, key)?;
-    let body = decoded(alloc, body)?;
+    let key_bytes = decode(alloc, key)?;
+    let body = decode(alloc, body)?;
     Ok(WrapInputs {
         key: AesKey::from_slice(&key_bytes)?,
         body,
@@ -106,7 +106,7 @@ pub(crate) fn wrap<'a, A: Allocator>(
         (IsWrapRefused (WrapFault pad) key.now text.now) }
 {
     let call = wrap_inputs(alloc, key, text)?;
-    Ok(wrapped(alloc, &call.key, &call.body, pad)?)
+    Ok(wrap_text(alloc, &call.key, &call.body, pad)?)
 }
 
 // `unwrap`: returns the text of a wrapping, with padding or without. Faults, in this order: `BadHex` for the key, then for the
@@ -121,12 +121,12 @@ pub(crate) fn unwrap<'a, A: Allocator>(
         (IsWrapRefused (UnwrapFault pad) key.now sealed.now) }
 {
     let call = wrap_inputs(alloc, key, sealed)?;
-    Ok(unwrapped(alloc, &call.key, &call.body, pad)?)
+    Ok(unwrap_text(alloc, &call.key, &call.body, pad)?)
 }
 
 // The inputs of a call under a suite.
 #[derive(Drop)]
-pub(crate) struct Prepared<A: Allocator> {
+pub(crate) struct AeadInputs<A: Allocator> {
     pub(crate) cipher: AnyAead,
     pub(crate) nonce: Nonce,
     pub(crate) aad: Vec<u8, A>,
@@ -135,10 +135,10 @@ pub(crate) struct Prepared<A: Allocator> {
 
 // Returns the inputs that the words spell. Faults, in this order: `UnknownSuite`, `BadHex` for the key, the nonce, the associated
 // data and the body, `KeyLength`, `NonceLength`.
-pub(crate) fn prepare<'a, A: Allocator>(
+pub(crate) fn aead_inputs<'a, A: Allocator>(
     alloc: &'a A,
     words: &Inputs<'_>,
-) -> Result<Prepared<&'a A>, Failure>
+) -> Result<AeadInputs<&'a A>, Failure>
     ensures { MatchResult result
         (λ p. IsReady words.now (keyed_of p.cipher) p.nonce p.aad.items p.body.items)
         (InputsRefused words.now) }
@@ -146,11 +146,11 @@ pub(crate) fn prepare<'a, A: Allocator>(
     let Some(suite) = Suite::named(words.suite) else {
         return Err(Failure::UnknownSuite);
     };
-    let key = decoded(alloc, words.key)?;
-    let nonce = decoded(alloc, words.nonce)?;
-    let aad = decoded(alloc, words.aad)?;
-    let body = decoded(alloc, words.body)?;
-    Ok(Prepared {
+    let key = decode(alloc, words.key)?;
+    let nonce = decode(alloc, words.nonce)?;
+    let aad = decode(alloc, words.aad)?;
+    let body = decode(alloc, words.body)?;
+    Ok(AeadInputs {
         cipher: AnyAead::new(suite, &key)?,
         nonce: Nonce::from_slice(&nonce)?,
         aad,
@@ -165,7 +165,7 @@ pub(crate) fn seal<'a, A: Allocator>(
 ) -> Result<Vec<u8, &'a A>, Failure>
     ensures { MatchResult result (λ v. IsSealed words.now v.items) (IsRefused WholeSealRefused words.now) }
 {
-    let call = prepare(alloc, words)?;
+    let call = aead_inputs(alloc, words)?;
     Ok(aead::seal(alloc, &call.cipher, &call.nonce, &call.aad, &call.body)?)
 }
 
@@ -176,7 +176,7 @@ pub(crate) fn open<'a, A: Allocator>(
 ) -> Result<Vec<u8, &'a A>, Failure>
     ensures { MatchResult result (λ v. IsOpened words.now v.items) (IsRefused WholeOpenRefused words.now) }
 {
-    let call = prepare(alloc, words)?;
+    let call = aead_inputs(alloc, words)?;
     Ok(aead::open(alloc, &call.cipher, &call.nonce, &call.aad, &call.body)?)
 }
 

@@ -5,12 +5,13 @@ ghost use Rattle.aead.specs.Refusals.{UntouchedUnless, late_in_one_reading, late
 ghost use Rattle.aead.specs.Ciphers.{setting};
 ghost use Rattle.aead.specs.AnyCiphers.{one_pass_keyed, keyed_of};
 ghost use Rattle.command.specs.Blames.{InputMayFail, OutputMayFail, Blames};
-ghost use Rattle.command.specs.Files.{Sealing, Opening, Engine, EngineRan, Ran};
+ghost use Rattle.command.specs.Files.{Sealing, Opening, Engine};
+ghost use Rattle.command.specs.Code.Engines.{EngineRan, Ran};
 ghost use Rattle.command.specs.Files.{FileDone, FileStopped, late_faults, StopsLate, EngineOf, Wrote};
 ghost use Rattle.command.specs.NewFiles.{held};
 ghost use Rattle.command.specs.declared.failure.Failure.TheVariants.{Fault as OfFault};
 
-use crate::commands::prepare;
+use crate::commands::aead_inputs;
 use crate::failure::Failure;
 use crate::new_file::NewFile;
 use crate::readings::reading;
@@ -95,7 +96,7 @@ fn open_thrice<F: Storage, O: Outlet>(
 }
 
 // Runs a command's engine from a file into an outlet, under any cipher.
-fn write_by<F: Storage, O: Outlet>(
+fn run_engine<F: Storage, O: Outlet>(
     files: &F,
     words: &FileRequest<'_>,
     cipher: &AnyAead,
@@ -121,7 +122,7 @@ fn write_by<F: Storage, O: Outlet>(
 }
 
 // Runs a command's engine from a file into an outlet, on the inputs that the words spell.
-fn write<A: Allocator, F: Storage, O: Outlet>(
+fn run_command<A: Allocator, F: Storage, O: Outlet>(
     alloc: &A,
     files: &F,
     words: &FileRequest<'_>,
@@ -134,8 +135,8 @@ fn write<A: Allocator, F: Storage, O: Outlet>(
         (Failed (O.failures out.old) (O.failures out.new)) result }
     ensures untouched { IfErr result (λ e. StopsLate words.now.command e ⊎ (out.new ≡ out.old)) }
 {
-    let inputs = prepare(alloc, &words.inputs)?;
-    Ok(write_by(
+    let inputs = aead_inputs(alloc, &words.inputs)?;
+    Ok(run_engine(
         files,
         words,
         &inputs.cipher,
@@ -166,7 +167,7 @@ fn write_file<'a, A: Allocator, B: Allocator, F: Storage>(
     ensures untouched { IfErr result (λ e. StopsLate words.now.command e ⊎ (file.new.file ≡ file.old.file)) }
     ensures status { IfOk result (λ status. status ≡ 0) }
 {
-    write(alloc, files, words, file)?;
+    run_command(alloc, files, words, file)?;
     file.finish()?;
     Ok(0)
 }

@@ -6,20 +6,20 @@ use Rattle.command.specs.Aead.{IsReady}
 use Rattle.command.specs.Files.{Engine}
 use Rattle.command.proofs.BlamesLemmas.{fault_blames}
 use Rattle.command.proofs.FilesLemmas.{ran_ok, ran_err}
-use Rattle.command.proofs.files.write.Goals as goal
+use Rattle.command.proofs.files.run_command.Goals as goal
 
-pub returns-in_err-write_by-clause-ran : goal.returns-in_err-write_by-clause-ran
-returns-in_err-write_by-clause-ran g c =
-    let p = err_from_is_err_and c.from_residual-in_err-write_by.result
-    c.from_residual-in_err-write_by.ensures.1 in
+pub returns-in_err-run_engine-clause-ran : goal.returns-in_err-run_engine-clause-ran
+returns-in_err-run_engine-clause-ran g c =
+    let p = err_from_is_err_and c.from_residual-in_err-run_engine.result
+    c.from_residual-in_err-run_engine.ensures.1 in
     let keyed : Keyed = keyed_of c.in_ok-inputs.inputs.cipher in
     let ready : IsReady c.args.words.now.inputs keyed c.in_ok-inputs.inputs.nonce c.deref.result.now
     c.in_ok-inputs.inputs.body.items = rw c.deref.ensures.value c.in_ok-inputs.ensures in
     rw (p.1, p.2) (ran_err
     (Engine c.args.words.now.command (g.F.Storage.contents c.args.files.now c.args.words.now.input.now))
     c.args.words.now.inputs keyed c.in_ok-inputs.inputs.nonce c.deref.result.now
-    c.in_ok-inputs.inputs.body.items (g.O.Outlet.taken c.args.out.now) (g.O.Outlet.taken c.write_by.new.out)
-    (c.write_by.new.out ≡ c.args.out.now) c.in_err-write_by.field-0.0 ready c.in_err-write_by.ensures.ran)
+    c.in_ok-inputs.inputs.body.items (g.O.Outlet.taken c.args.out.now) (g.O.Outlet.taken c.run_engine.new.out)
+    (c.run_engine.new.out ≡ c.args.out.now) c.in_err-run_engine.field-0.0 ready c.in_err-run_engine.ensures.ran)
 
 pub returns-clause-ran : goal.returns-clause-ran
 returns-clause-ran g c =
@@ -35,11 +35,11 @@ returns-clause-ran g c =
       is = ran_ok
           (Engine c.args.words.now.command (g.F.Storage.contents c.args.files.now c.args.words.now.input.now))
           (setting keyed c.in_ok-inputs.inputs.nonce c.deref.result.now) (g.O.Outlet.taken c.args.out.now)
-          (g.O.Outlet.taken c.write_by.new.out) (c.write_by.new.out ≡ c.args.out.now) c.in_ok-write_by.field-0 c.in_ok-write_by.ensures.ran;
+          (g.O.Outlet.taken c.run_engine.new.out) (c.run_engine.new.out ≡ c.args.out.now) c.in_ok-run_engine.field-0 c.in_ok-run_engine.ensures.ran;
     }
 
-pub returns-in_err-write_by-clause-blame : goal.returns-in_err-write_by-clause-blame
-returns-in_err-write_by-clause-blame g c =
-    let p = err_from_is_err_and c.from_residual-in_err-write_by.result
-    c.from_residual-in_err-write_by.ensures.1 in
-    rw (p.1, p.2) (fault_blames _ _ c.in_err-write_by.field-0.0 c.in_err-write_by.ensures.blame)
+pub returns-in_err-run_engine-clause-blame : goal.returns-in_err-run_engine-clause-blame
+returns-in_err-run_engine-clause-blame g c =
+    let p = err_from_is_err_and c.from_residual-in_err-run_engine.result
+    c.from_residual-in_err-run_engine.ensures.1 in
+    rw (p.1, p.2) (fault_blames _ _ c.in_err-run_engine.field-0.0 c.in_err-run_engine.ensures.blame)

@@ -2,7 +2,7 @@ use Rattle.std.proofs.Common.{rules, ◌≡◌}
 use Rattle.std.proofs.lemmas.Result.{err_from_is_err_and}
 use Rattle.aead.specs.Suites.{suite_name}
 use Rattle.command.proofs.AeadLemmas.{wrong_key, wrong_nonce}
-use Rattle.command.proofs.commands.prepare.Goals as goal
+use Rattle.command.proofs.commands.aead_inputs.Goals as goal
 
 pub returns-in_err-new : goal.returns-in_err-new
 returns-in_err-new g c =
