@@ -136,7 +136,7 @@ key_length key n (inl e) h = inl (omega arith)
 key_length key n (inr (inl e)) h = inr (inl (omega arith))
 key_length key n (inr (inr e)) h = inr (inr (omega arith))
 
--- and a key of so many bytes has a fourth as many words
+-- a key of 16, 24 or 32 bytes has 4, 6 or 8 words
 pub key_size : (key : List ℕ) → IsKeyLength (length key)
     → IsKeySize (length key / 4) × (length key ≡ 4 * (length key / 4))
 key_size key (inl e) = (inl (omega arith), omega arith)

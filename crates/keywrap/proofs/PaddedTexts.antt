@@ -230,7 +230,7 @@ unwrapped_by key wrapped first rest n l b s e = record {
   is = sym e ∙ ap (transformed key) (ap₂ (λ x y. x ++ y) s.first_is s.blocks_are);
 }
 
--- if the register found is that of no text, the bytes are the wrapping of no text
+-- if the register found is not that of a text, the bytes are not a valid wrapping
 pub no_wrapping : (key wrapped first rest : List ℕ) → IsPermutation → IsKey key
     → AreBytes (length wrapped) (first ++ rest) → length first ≡ 8
     → transformed key (first ++ rest) ≡ wrapped → ((text : List ℕ) → IsStartOf text first rest → ⊥)

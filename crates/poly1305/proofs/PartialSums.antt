@@ -1,4 +1,4 @@
--- A sum to which one block a step is added.
+-- A sum to which each step adds one block.
 use Rattle.std.proofs.Common.{◌≡◌, ℕ, ◌+◌, ◌*◌, ◌/◌, ◌%◌, ◌^◌, ◌<◌, List, ◌++◌, length, take, drop, sym, ap}
 use Rattle.std.proofs.Common.{◌∙◌, arith}
 use Rattle.std.proofs.Math.Seq.{drop-append_seam}
@@ -58,7 +58,7 @@ stepped factor t u k m block w h f eb el size ew step =
           ∙ ap (λ (x : ℕ). (s + (w + 1 * 2 ^ 128)) * x % prime) h.factor_is);
     }
 
--- a state with the partial sum has taken in the blocks that were added
+-- a state with the partial sum has absorbed the blocks that were added
 pub taken_holds : {M : Type 0} (factor : M → ℕ) (t : PartialSum M) (c : PolySum M) (k m : List ℕ)
     → (h : PartialSumHolds factor t k m)
     → factor c.multiplier ≡ r_of k → c.addend ≡ s_of k

@@ -65,7 +65,7 @@ start lines bad e = record {
   room = omega arith;
 }
 
--- a line that ends no record
+-- a line that doesn't end a record
 pub after_line : (lines other : List (List ℕ)) (l : List ℕ) (rest : List (List ℕ)) (n : ℕ) (p q : Place)
     (records : ℕ) (bad : List ℕ)
     → Judged lines other n p records bad → other ≡ l ∷ rest → step p l ≡ Ok (q, [])
