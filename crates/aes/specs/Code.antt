@@ -1,5 +1,5 @@
--- How the code represents a key, the columns of a state and several blocks that are encrypted at once, the position of a stream, and
--- facts about counters that its proofs need. The cipher and the streams are defined without it.
+-- How the code represents a key, the columns of a state and several blocks that are encrypted at once, the position of a
+-- stream, and facts about counters that its proofs need. The cipher and the streams are defined without it.
 pub mod ExpandedKey
 pub mod InverseKey
 pub mod Lanes

@@ -1,5 +1,5 @@
-//! The rounds of the cipher on columns (FIPS 197, 5.1): each byte is looked up in a table of `round_tables`. A column is a word of
-//! 32 bits, row 0 its least significant byte.
+//! The rounds of the cipher on columns (FIPS 197, 5.1): each byte is looked up in a table of `round_tables`. A column is a word
+//! of 32 bits, row 0 its least significant byte.
 
 ghost use Rattle.std.specs.Prelude.{◌≡◌, ℕ, ◌<◌, ◌+◌, ◌*◌, ◌∷◌, [], get_or};
 ghost use Rattle.aes.specs.Field.{times, sbox};
@@ -55,8 +55,8 @@ fn mixed_column(a: u32, b: u32, c: u32, d: u32, key: u32) -> u32
     (entry(row0) ^ (entry_row1(row1) ^ (entry_row2(row2) ^ entry_row3(row3)))) ^ key
 }
 
-/// Any round but the last: SubBytes, ShiftRows, MixColumns and AddRoundKey with these four words (FIPS 197, 5.1). Each word is a
-/// column, row 0 its least significant byte.
+/// Any round but the last: SubBytes, ShiftRows, MixColumns and AddRoundKey with these four words (FIPS 197, 5.1). Each word is
+/// a column, row 0 its least significant byte.
 ///
 /// Not constant time: it looks up four tables of 256 words, one for each row, by the 16 bytes of the state.
 #[inline(always)]

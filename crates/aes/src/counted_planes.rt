@@ -81,8 +81,8 @@ fn numbers(first: u32, place: usize) -> Planes
     ]
 }
 
-// Sixteen counter blocks, of which only the low half of the byte at `place` counts: block q is `a` with `first` + q in that half if
-// that is below 16, and else `b` with `first` + q - 16.
+// Sixteen counter blocks, of which only the low half of the byte at `place` counts: block q is `a` with `first` + q in that
+// half if that is below 16, and else `b` with `first` + q - 16.
 #[inline(always)]
 pub(crate) fn count_blocks(a: &[u8; 16], b: &[u8; 16], first: u32, place: usize) -> Planes
     requires { (first < 16) × (place < 16) }

@@ -286,8 +286,8 @@ impl<C: Count> Counter<C> {
         self.mask_with(&masks, bytes);
     }
 
-    // XORs in the first bytes of the next eight blocks. Every earlier block is used up. Inlined, it would slow down runs of sixteen
-    // blocks.
+    // XORs in the first bytes of the next eight blocks. Every earlier block is used up. Inlined, it would slow down runs of
+    // sixteen blocks.
     #[inline(never)]
     fn mask_eight(&mut self, key: &AesKey, words: &[KeyPlanes; 15], bytes: &mut [u8])
         requires ready { AreReady words.now (schedule key.now) (round_count key.now) }
@@ -300,8 +300,8 @@ impl<C: Count> Counter<C> {
         self.mask_with([a, b].as_flattened(), bytes);
     }
 
-    // XORs in the first bytes of the next sixteen blocks. Every earlier block is used up. Inlined, it would make whole runs reserve
-    // stack for its blocks.
+    // XORs in the first bytes of the next sixteen blocks. Every earlier block is used up. Inlined, it would make whole runs
+    // reserve stack for its blocks.
     #[inline(never)]
     fn mask_part(&mut self, key: &AesKey, words: &[KeyPlanes; 15], bytes: &mut [u8])
         requires ready { AreReady words.now (schedule key.now) (round_count key.now) }
@@ -336,8 +336,8 @@ impl<C: Count> Counter<C> {
         xor_fours(&mut bytes[..256], &a, &b, &c, &d);
     }
 
-    // XORs in runs of sixteen blocks while they pay, the last one perhaps in part, and returns how many bytes it masked. Inlined,
-    // its frame would slow down short messages.
+    // XORs in runs of sixteen blocks while they pay, the last one perhaps in part, and returns how many bytes it masked.
+    // Inlined, its frame would slow down short messages.
     #[inline(never)]
     fn apply_sixteens(&mut self, key: &AesKey, bytes: &mut [u8]) -> usize
         requires { self.old.used ≡ 0 }
@@ -429,13 +429,13 @@ pub struct Ctr<C, K> {
 }
 
 /// The stream of AES-GCM: the ciphers of blocks whose last four bytes count, most significant byte first, modulo 2^32
-/// (SP 800-38D, 6.5). In AES-GCM the first block is made from the nonce, and two tags under one nonce also give away the hash key,
-/// with which anyone can forge messages.
+/// (SP 800-38D, 6.5). In AES-GCM the first block is made from the nonce, and two tags under one nonce also give away the hash
+/// key, with which anyone can forge messages.
 pub type CtrBe<K> = Ctr<LastFour, K>;
 
 /// The stream of AES-GCM-SIV: the ciphers of blocks whose first four bytes count, least significant byte first, modulo 2^32
-/// (RFC 8452, 4). In AES-GCM-SIV the first block is made from the tag: under a repeated nonce it is the same only if the text and
-/// the associated data are the same, and gives away only that.
+/// (RFC 8452, 4). In AES-GCM-SIV the first block is made from the tag: under a repeated nonce it is the same only if the text
+/// and the associated data are the same, and gives away only that.
 pub type CtrLe<K> = Ctr<FirstFour, K>;
 
 impl<C: Count, K: KeptKey> Ctr<C, K> {
@@ -443,9 +443,9 @@ impl<C: Count, K: KeptKey> Ctr<C, K> {
 
     /// Makes the stream whose first block is the cipher of `first`, under a key that it owns or borrows.
     ///
-    /// A counter block must never be used twice under one key: `first` and the blocks counted from it belong to this stream alone.
-    /// Two texts that are XORed with the same part of a stream give away their XOR. [`CtrBe`] and [`CtrLe`] say what else a repeat
-    /// gives away.
+    /// A counter block must never be used twice under one key: `first` and the blocks counted from it belong to this stream
+    /// alone. Two texts that are XORed with the same part of a stream give away their XOR. [`CtrBe`] and [`CtrLe`] say what
+    /// else a repeat gives away.
     ///
     /// Not constant time: single blocks go through `AesKey::encrypt`.
     #[inline(always)]
@@ -458,8 +458,8 @@ impl<C: Count, K: KeptKey> Ctr<C, K> {
         }
     }
 
-    /// Makes the stream whose first block is the cipher of `first`, after its first `position` bytes. The rest must never be used
-    /// twice: see [`Ctr::new`].
+    /// Makes the stream whose first block is the cipher of `first`, after its first `position` bytes. The rest must never be
+    /// used twice: see [`Ctr::new`].
     pub fn at(key: K, first: &Block, position: u64) -> Ctr<C, K>
         requires { position < 2 ^ 63 }
         ensures { Holds C.up K.bytes result (K.bytes key) first.now position }
@@ -469,8 +469,8 @@ impl<C: Count, K: KeptKey> Ctr<C, K> {
     }
 
     /// XORs the next bytes of the stream into `bytes`, of any length. The result does not depend on how a text is split into
-    /// calls. There is no fault: after 2^32 blocks the stream begins again (SP 800-38D, 6.5; RFC 8452, 4), so a caller has to stop
-    /// before that.
+    /// calls. There is no fault: after 2^32 blocks the stream begins again (SP 800-38D, 6.5; RFC 8452, 4), so a caller has to
+    /// stop before that.
     pub fn apply(&mut self, bytes: &mut [u8])
         ensures { (key first : List ℕ) (position : ℕ) → Holds C.up K.bytes self.old key first position
             → Holds C.up K.bytes self.new key first (position + length bytes.old)

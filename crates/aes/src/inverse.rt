@@ -1,5 +1,5 @@
-//! The rounds of the cipher on columns, in reverse (FIPS 197, 5.3). Each contract says that the forward step takes the result to
-//! the argument.
+//! The rounds of the cipher on columns, in reverse (FIPS 197, 5.3). Each contract says that the forward step takes the result
+//! to the argument.
 
 ghost use Rattle.std.specs.Prelude.{◌≡◌, ℕ, ◌*◌, ◌<◌, ◌≤◌, List, ◌∷◌, [], map, get_or, slice_index};
 ghost use Rattle.octets.specs.Bytes.{IsBlock};
@@ -102,8 +102,8 @@ fn inverse_column(a: u32, b: u32, c: u32, d: u32, key: u32) -> u32
     inverse_sum(row0, row1, row2, row3) ^ key
 }
 
-// A round of the equivalent inverse cipher (5.3.5): if SubBytes and ShiftRows take s to this state, MixColumns takes the result to
-// the sum of s and the round key, to which MixColumns is applied as well.
+// A round of the equivalent inverse cipher (5.3.5): if SubBytes and ShiftRows take s to this state, MixColumns takes the result
+// to the sum of s and the round key, to which MixColumns is applied as well.
 #[inline(always)]
 pub(crate) fn inverse_round(state: [u32; 4], key: [u32; 4]) -> [u32; 4]
     ensures { (s : List ℕ) → IsBlock s → shift_rows (sub_bytes s) ≡ state_of state

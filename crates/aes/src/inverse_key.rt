@@ -8,8 +8,8 @@ use crate::columns::{add_key, load, round_key, store};
 use crate::inverse::{inverse_round, unsub_rows};
 use octets::Block;
 
-/// A key of AES made ready to decrypt many blocks: its schedule, with InvMixColumns applied to all round keys but the first and the
-/// last (FIPS 197, 5.3.5). Not constant time: see [`InverseKey::decrypt`].
+/// A key of AES made ready to decrypt many blocks: its schedule, with InvMixColumns applied to all round keys but the first and
+/// the last (FIPS 197, 5.3.5). Not constant time: see [`InverseKey::decrypt`].
 #[derive(Clone, Copy)]
 pub struct InverseKey {
     words: [u32; 60],

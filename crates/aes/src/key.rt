@@ -25,10 +25,10 @@ use std::simd::u8x64;
 /// A key of AES with its schedule (FIPS 197, 5.2). Contracts see the key's bytes: 16, 24 or 32.
 ///
 /// Not constant time. Making a key looks up the S-box, a table of 256 bytes, by bytes of the schedule, and so of the key.
-/// `encrypt` looks up four tables of 256 words, 4 KiB in all, by each byte of the state in each round; the first state is the block
-/// XORed with a round key. `inverse` and `decrypt` look up tables by bytes of the schedule and of the state: see [`InverseKey`].
-/// Code on the same processor may learn from the cache which entries were read, and from these the key. `encrypt_four` has its
-/// tables in vectors and reads none from memory, but its time is not claimed to be constant either.
+/// `encrypt` looks up four tables of 256 words, 4 KiB in all, by each byte of the state in each round; the first state is the
+/// block XORed with a round key. `inverse` and `decrypt` look up tables by bytes of the schedule and of the state: see
+/// [`InverseKey`]. Code on the same processor may learn from the cache which entries were read, and from these the key.
+/// `encrypt_four` has its tables in vectors and reads none from memory, but its time is not claimed to be constant either.
 #[derive(Clone, Copy)]
 pub struct AesKey {
     words: [u32; 60],
@@ -52,7 +52,8 @@ impl Model for AesKey {
     ghost inverse_ok = { fields_of-key_of };
 }
 
-/// A key of AES, or a reference to one: a state for one message borrows its key, and a state that outlives the call owns a copy.
+/// A key of AES, or a reference to one: a state for one message borrows its key, and a state that outlives the call owns a
+/// copy.
 pub trait KeptKey: Drop {
     // The key's bytes.
     ghost bytes: { Self → List ℕ };
@@ -111,8 +112,8 @@ impl AesKey {
         }
     }
 
-    /// Makes the key with these bytes: 16, 24 or 32. Any other length is `KeyLength`, the only fault (FIPS 197, 5). Not constant
-    /// time: the schedule looks up the S-box by bytes of the key.
+    /// Makes the key with these bytes: 16, 24 or 32. Any other length is `KeyLength`, the only fault (FIPS 197, 5). Not
+    /// constant time: the schedule looks up the S-box by bytes of the key.
     pub fn from_slice(key: &[u8]) -> Result<AesKey, Fault>
         ensures { MatchResult result (λ k. (k ≡ key.now) × IsKey key.now)
             (λ e. (e ≡ Fault.KeyLength) × ¬ IsKeyLength (length key.now)) }
@@ -129,8 +130,8 @@ impl AesKey {
         })
     }
 
-    /// Returns the words of the schedule, each with its first byte least significant, and zeros after them (FIPS 197, 5.2), for a
-    /// caller that stores plain numbers.
+    /// Returns the words of the schedule, each with its first byte least significant, and zeros after them (FIPS 197, 5.2), for
+    /// a caller that stores plain numbers.
     pub fn words(&self) -> [u32; 60]
         ensures { KeepsSchedule result self.now }
     {
@@ -241,8 +242,8 @@ impl AesKey {
         planes::last_round(state, Planes::from_half(unpack(&keys[count])))
     }
 
-    // Encrypts sixteen blocks in planes. Where a plane takes two registers, one half is encrypted after the other, since a round of
-    // eight blocks needs all registers.
+    // Encrypts sixteen blocks in planes. Where a plane takes two registers, one half is encrypted after the other, since a
+    // round of eight blocks needs all registers.
     #[inline(always)]
     pub(crate) fn encrypt_planes(&self, keys: &[KeyPlanes; 15], start: Planes) -> Planes
         requires { AreReady keys.now (schedule self.now) (round_count self.now) }
@@ -311,8 +312,8 @@ impl AesKey {
         InverseKey::new(unmix_words(&self.words, self.size + 6), self.size)
     }
 
-    /// Returns the block of 16 bytes that the cipher takes to `block`; it is the only one (FIPS 197, 5.3). To decrypt many blocks,
-    /// make the `inverse` once. Not constant time: see `inverse` and `InverseKey::decrypt`.
+    /// Returns the block of 16 bytes that the cipher takes to `block`; it is the only one (FIPS 197, 5.3). To decrypt many
+    /// blocks, make the `inverse` once. Not constant time: see `inverse` and `InverseKey::decrypt`.
     pub fn decrypt(&self, block: &Block) -> Block
         ensures value { IsPreimage self.now block.now result }
         ensures is_block { IsBlock result }

@@ -121,8 +121,8 @@ pub(crate) fn rows(key: u8x16) -> u8x16
     key.swizzle([0, 4, 8, 12, 1, 5, 9, 13, 2, 6, 10, 14, 3, 7, 11, 15])
 }
 
-// Writes the round keys as planes for eight blocks. Every key but the first has the constant of the S-box added, and the last is
-// in the order of the bytes of a block. They are written in place, since returning them would copy 1,920 bytes.
+// Writes the round keys as planes for eight blocks. Every key but the first has the constant of the S-box added, and the last
+// is in the order of the bytes of a block. They are written in place, since returning them would copy 1,920 bytes.
 pub(crate) fn ready_planes(keys: &mut [KeyPlanes; 15], words: &[u32; 60], last: usize)
     requires { (0 < last) × (last < 15) }
     ensures { AreReady keys.new (columns_of words.now) last }

@@ -1,6 +1,6 @@
-//! Four blocks at once (FIPS 197, 5.1), with look-ups in tables of sixteen bytes. The tables are vectors: none is read from memory.
-//! The field of 256 elements is seen as an extension of its subfield of 16, so that an inverse takes five look-ups. 0x80 stands
-//! for the inverse of 0.
+//! Four blocks at once (FIPS 197, 5.1), with look-ups in tables of sixteen bytes. The tables are vectors: none is read from
+//! memory. The field of 256 elements is seen as an extension of its subfield of 16, so that an inverse takes five look-ups.
+//! 0x80 stands for the inverse of 0.
 
 ghost use Rattle.std.specs.Prelude.{◌≡◌, ℕ, ◌%◌, ◌<◌, ◌≤◌, ◌/◌, List, [], slice_index, slice_index_or};
 ghost use Rattle.std.specs.Prelude.{length, bit_xor};
@@ -142,8 +142,8 @@ fn to_basis(x: u8x64) -> u8x64
     )
 }
 
-// Applies the S-box without its constant to bytes in the basis. Returns the values, the values in the basis, and their doubles in
-// the basis.
+// Applies the S-box without its constant to bytes in the basis. Returns the values, the values in the basis, and their doubles
+// in the basis.
 #[inline(always)]
 fn substitute(x: u8x64) -> (u8x64, u8x64, u8x64)
     ensures { (s : ℕ → ℕ) → ((k : ℕ) → k < 64 → s k < 256) → HasLanes x (λ k. in_basis (s k))

@@ -91,8 +91,8 @@ const TWICE: [usize; 32] = [
     13, 14, 15,
 ];
 
-// The S-box without its constant, on each byte of eight planes: a circuit of 83 XOR gates and 32 AND gates. They are in the order
-// that took the least time on planes of 16 bytes, of those that were tried.
+// The S-box without its constant, on each byte of eight planes: a circuit of 83 XOR gates and 32 AND gates. They are in the
+// order that took the least time on planes of 16 bytes, of those that were tried.
 macro_rules! sbox_circuit {
     ($p:expr) => {{
         let x0 = $p[7];
@@ -488,9 +488,9 @@ pub(crate) fn last_round<P: BitPlanes>(x: P, key: P) -> P
     x.shift_out().substitute().add(key)
 }
 
-// Exchanges bits between two planes whose numbers differ by `by`, which is 1, 2 or 4. A bit of x at a place whose binary digit of
-// weight `by` is 1 moves down by `by` places into y, and a bit of y at a place where that digit is 0 moves up into x. The mask has
-// these places of y.
+// Exchanges bits between two planes whose numbers differ by `by`, which is 1, 2 or 4. A bit of x at a place whose binary digit
+// of weight `by` is 1 moves down by `by` places into y, and a bit of y at a place where that digit is 0 moves up into x. The
+// mask has these places of y.
 #[inline(always)]
 fn exchange(x: u8x32, y: u8x32, by: u8, mask: u8) -> (u8x32, u8x32)
     requires { IsMask by mask }

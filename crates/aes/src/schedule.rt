@@ -66,8 +66,8 @@ fn key_word(key: &[u8], i: usize) -> u32
     LittleEndian::read_u32(&key[4 * i..])
 }
 
-// The schedule of a key of nk words, and zero words after it. It is inlined because the caller's nk is a constant: no division is
-// left.
+// The schedule of a key of nk words, and zero words after it. It is inlined because the caller's nk is a constant: no division
+// is left.
 #[inline(always)]
 fn expand_by(key: &[u8], nk: usize) -> [u32; 60]
     requires size { IsKeySize nk }

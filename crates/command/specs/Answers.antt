@@ -33,8 +33,8 @@ pub record Printed (property : List ℕ → Type 0) (before after : Option (List
   pub line : Appends before after (hex_line bytes)
   pub done : status ≡ 0
 
--- a request was answered, where each file gives these bytes in each reading: the contents of standard output before and after, and
--- the status
+-- a request was answered, where each file gives these bytes in each reading: the contents of standard output before and after,
+-- and the status
 abbrev pub Answered : (List ℕ → ℕ → Option (List ℕ)) → (before after : Option (List ℕ)) → PrintRequest → ℕ
     → Type 0
 Answered files before after (Seal inputs) status = Printed (IsSealed inputs) before after status
@@ -64,8 +64,8 @@ Stopped files before after (Check path) e = Silent before after (FileRefused (fi
 abbrev pub version_line : List ℕ
 version_line = codes "aeadkit " ++ (VERSION.now ++ 10 ∷ [])
 
--- the answer to words that are not a request: help or the version is printed, with status 0, or the words are refused and nothing
--- is printed
+-- the answer to words that are not a request: help or the version is printed, with status 0, or the words are refused and
+-- nothing is printed
 abbrev pub IsRefusedAs : Refusal → Option (List ℕ) → Option (List ℕ) → Result ℕ Failure → Type 0
 IsRefusedAs (Help text) before after result = MatchResult result (λ status. status ≡ 0) IsOutputFailure
 IsRefusedAs Version before after result =
@@ -73,8 +73,8 @@ IsRefusedAs Version before after result =
 IsRefusedAs Words before after result = (result ≡ Err OfWords) × (after ≡ before)
 IsRefusedAs NoMemory before after result = (result ≡ Err (OfFault OutOfMemory)) × (after ≡ before)
 
--- what is printed for a request or a refusal, and the status or the failure. `contents` are the bytes that each file gives in each
--- reading, `blank` those that it holds once it is made, and `taken` those of an output. A file command prints nothing
+-- what is printed for a request or a refusal, and the status or the failure. `contents` are the bytes that each file gives in
+-- each reading, `blank` those that it holds once it is made, and `taken` those of an output. A file command prints nothing
 abbrev pub Answers : {O : Type 0} → (contents : List ℕ → ℕ → Option (List ℕ))
     → (blank : List ℕ → Option (List ℕ)) → (taken : O → Option (List ℕ)) → (before after : Option (List ℕ))
     → Result Request Refusal → Result ℕ Failure → Type 0

@@ -107,8 +107,8 @@ StopsLate command _ = ⊥
 abbrev pub EngineOf : (List ℕ → ℕ → Option (List ℕ)) → FileRequest → Giving → Setting → Answer → Type 0
 EngineOf contents request = Engine request.command (contents request.input.now)
 
--- the result of a request that writes a file, and the file when it is closed. `contents` are the bytes that each file gives in each
--- reading, `blank` those that it holds once it is made, and `taken` those of an output
+-- the result of a request that writes a file, and the file when it is closed. `contents` are the bytes that each file gives in
+-- each reading, `blank` those that it holds once it is made, and `taken` those of an output
 pub record Wrote {O : Type 0} (contents : List ℕ → ℕ → Option (List ℕ)) (blank : List ℕ → Option (List ℕ))
     (taken : O → Option (List ℕ)) (request : FileRequest) (r : Result ℕ Failure) : Type 0 where
   -- the output, if it was made

@@ -94,8 +94,8 @@ fn wrap_inputs<'a, A: Allocator>(
     })
 }
 
-// `wrap`: returns the wrapping of a text, with padding or without. Faults, in this order: `BadHex` for the key, then for the text,
-// `KeyLength`, and those of the call.
+// `wrap`: returns the wrapping of a text, with padding or without. Faults, in this order: `BadHex` for the key, then for the
+// text, `KeyLength`, and those of the call.
 pub(crate) fn wrap<'a, A: Allocator>(
     alloc: &'a A,
     key: &str,
@@ -133,8 +133,8 @@ pub(crate) struct AeadInputs<A: Allocator> {
     pub(crate) body: Vec<u8, A>,
 }
 
-// Returns the inputs that the words spell. Faults, in this order: `UnknownSuite`, `BadHex` for the key, the nonce, the associated
-// data and the body, `KeyLength`, `NonceLength`.
+// Returns the inputs that the words spell. Faults, in this order: `UnknownSuite`, `BadHex` for the key, the nonce, the
+// associated data and the body, `KeyLength`, `NonceLength`.
 pub(crate) fn aead_inputs<'a, A: Allocator>(
     alloc: &'a A,
     words: &Inputs<'_>,

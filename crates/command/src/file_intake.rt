@@ -8,8 +8,8 @@ use octets::{DeviceFault, Failures, Intake};
 use std::fs::OpenFile;
 use std::io::Read;
 
-/// Takes from a reader of a file. If the file ends before the length that it had when it was opened, it was truncated meanwhile,
-/// and that is a failure; so is an interrupted read. Contracts know the bytes left if they know those of the reader.
+/// Takes from a reader of a file. If the file ends before the length that it had when it was opened, it was truncated
+/// meanwhile, and that is a failure; so is an interrupted read. Contracts know the bytes left if they know those of the reader.
 #[derive(Drop)]
 pub struct FileIntake<R> {
     reader: R,

@@ -13,8 +13,8 @@ use std::alloc::{AllocError, Allocator};
 // How many bytes may be pending before they are written.
 const PENDING: usize = 65536;
 
-/// A file that is created or truncated when its first byte is given, or at the end if none was. Bytes are written once 64 KiB are
-/// pending. A failure of the system, including an interrupted call, is a failure of the device.
+/// A file that is created or truncated when its first byte is given, or at the end if none was. Bytes are written once 64 KiB
+/// are pending. A failure of the system, including an interrupted call, is a failure of the device.
 #[derive(Drop)]
 pub(crate) struct NewFile<'a, F: Storage, A: Allocator> {
     files: &'a F,

@@ -37,8 +37,8 @@ fn print<W: Write>(out: &mut W, text: &str) -> Result<u8, Failure>
     Ok(0)
 }
 
-// Prints the value that a command returns as one line of lower-case hexadecimal, and returns status 0. A failure of the command is
-// passed on; the only other faults are `Write` and `OutOfMemory`.
+// Prints the value that a command returns as one line of lower-case hexadecimal, and returns status 0. A failure of the command
+// is passed on; the only other faults are `Write` and `OutOfMemory`.
 fn print_value<A: Allocator + Copy, W: Write>(
     alloc: A,
     out: &mut W,
@@ -95,8 +95,8 @@ fn print_checking<A: Allocator, F: Storage, W: Write>(
     Ok(report_status(&report))
 }
 
-/// Does what a request asks for: prints its answer and returns the status, which is 0, or 1 for a file with bad records. Faults, in
-/// this order: those of its values, those of the call, `Write`; `OutOfMemory` wherever an allocation fails.
+/// Does what a request asks for: prints its answer and returns the status, which is 0, or 1 for a file with bad records.
+/// Faults, in this order: those of its values, those of the call, `Write`; `OutOfMemory` wherever an allocation fails.
 pub fn perform<A: Allocator, F: Storage, W: Write>(
     alloc: &A,
     files: &F,
@@ -171,8 +171,8 @@ fn answer<F: Storage, W: Write>(
     }
 }
 
-/// Carries out the request or the refusal that the words were read as, and returns the program's status. If standard error fails,
-/// the status is the same.
+/// Carries out the request or the refusal that the words were read as, and returns the program's status. If standard error
+/// fails, the status is the same.
 pub fn respond<F: Storage, W: Write, E: Write>(
     alloc: Global,
     files: &F,

@@ -43,8 +43,8 @@ fn take_chunk<A: Allocator, I: Intake>(
     Ok(n < chunk.len())
 }
 
-// Takes all bytes that are left. `Read` if the device fails, `OutOfMemory` if an allocation fails. No vector holds 2^64 chunks, so
-// the loop always returns before its end.
+// Takes all bytes that are left. `Read` if the device fails, `OutOfMemory` if an allocation fails. No vector holds 2^64 chunks,
+// so the loop always returns before its end.
 fn take_all<'a, A: Allocator, I: Intake>(
     alloc: &'a A,
     input: &mut I,

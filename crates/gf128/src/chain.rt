@@ -18,8 +18,8 @@ fn fold(word: u128, spill: u64) -> u128
     word ^ (high ^ ((high >> 1) ^ ((high >> 2) ^ (high >> 7))))
 }
 
-// The sum of a word and x^128 times the bits that were shifted out of it. They are in the high half of `spill`, and are folded in
-// at the end.
+// The sum of a word and x^128 times the bits that were shifted out of it. They are in the high half of `spill`, and are folded
+// in at the end.
 #[derive(Drop, Clone, Copy)]
 pub(crate) struct Chain {
     word: Lanes,

@@ -37,8 +37,8 @@ impl HashOrder for GhashOrder {
 /// GHASH over a text that comes in pieces (SP 800-38D, 6.4), with the multiplier `M`.
 pub type Ghash<M> = BlockHash<M, GhashOrder>;
 
-/// The law of GHASH (SP 800-38D, 6.4): it is the only block whose polynomial is the sum of the residues of the blocks times powers
-/// of the key. The call does nothing; its contract is the law.
+/// The law of GHASH (SP 800-38D, 6.4): it is the only block whose polynomial is the sum of the residues of the blocks times
+/// powers of the key. The call does nothing; its contract is the law.
 pub fn ghash_is_the_only()
     ensures { GhashIsTheOnly }
 {}

@@ -1,5 +1,5 @@
-//! GHASH and POLYVAL over a text that comes in pieces (SP 800-38D, 6.4; RFC 8452, 3). Both have the same state, with the order of
-//! a block's bytes as a type parameter.
+//! GHASH and POLYVAL over a text that comes in pieces (SP 800-38D, 6.4; RFC 8452, 3). Both have the same state, with the order
+//! of a block's bytes as a type parameter.
 
 ghost use Rattle.std.specs.Prelude.{◌≡◌, ℕ, ◌*◌, ◌/◌, ◌%◌, ◌<◌, ◌++◌, List, [], length, drop};
 ghost use Rattle.octets.specs.Bytes.{IsBlock};
@@ -73,8 +73,8 @@ impl<M: Multiply, O: HashOrder> BlockHash<M, O> {
         }
     }
 
-    /// Resumes the state that holds a text: `sum` is the sum over the whole blocks of the text, and `rest` the bytes after them,
-    /// fewer than 16. The multiplier is as for [`BlockHash::with`].
+    /// Resumes the state that holds a text: `sum` is the sum over the whole blocks of the text, and `rest` the bytes after
+    /// them, fewer than 16. The multiplier is as for [`BlockHash::with`].
     pub fn resumed(multiplier: M, sum: u128, rest: &[u8]) -> BlockHash<M, O>
         requires { length rest.now < 16 }
         ensures { (h m : List ℕ) → Serves O.order h (M.key_bytes multiplier) → IsSum O.order h m sum

@@ -1,5 +1,5 @@
-//! The order in which a hash reads the bytes of a block: GHASH begins with the first byte (SP 800-38D, 6.3), POLYVAL with the last
-//! (RFC 8452, 3).
+//! The order in which a hash reads the bytes of a block: GHASH begins with the first byte (SP 800-38D, 6.3), POLYVAL with the
+//! last (RFC 8452, 3).
 
 ghost use Rattle.std.specs.Prelude.{◌≡◌, ℕ, ◌*◌, ◌/◌, ◌^◌, ◌<◌, List, length};
 ghost use Rattle.octets.specs.Bytes.{IsBlock};

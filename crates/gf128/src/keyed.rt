@@ -10,8 +10,8 @@ use crate::hash_order::HashOrder;
 use crate::polynomial_word::{block_of, word_of};
 use octets::Block;
 
-/// Multiplication by a key of 16 bytes in GHASH's field (SP 800-38D, 6.3). An implementor has to give `times`, and may give faster
-/// methods on words. A reference to a multiplier is a multiplier too, so that a hash can borrow a table.
+/// Multiplication by a key of 16 bytes in GHASH's field (SP 800-38D, 6.3). An implementor has to give `times`, and may give
+/// faster methods on words. A reference to a multiplier is a multiplier too, so that a hash can borrow a table.
 pub trait Multiply: Drop {
     // The key's bytes.
     ghost key_bytes: { Self → List ℕ };
@@ -21,8 +21,8 @@ pub trait Multiply: Drop {
         ensures value { IsProduct x.now (key_bytes self.now) result }
         ensures is_block { IsBlock result };
 
-    /// Returns the product of a word and the key. A word is the number that a block spells, most significant byte first, so the bit
-    /// of weight 2^127 is the coefficient of x^0.
+    /// Returns the product of a word and the key. A word is the number that a block spells, most significant byte first, so the
+    /// bit of weight 2^127 is the coefficient of x^0.
     fn times_word(&self, x: u128) -> u128
         ensures { IsWordProduct x (key_bytes self.now) result }
     {
@@ -30,7 +30,8 @@ pub trait Multiply: Drop {
         word_of(product.bytes())
     }
 
-    /// Returns the sum of `a` times the fourth power of the key, `b` times its third, `c` times its second, and `d` times the key.
+    /// Returns the sum of `a` times the fourth power of the key, `b` times its third, `c` times its second, and `d` times the
+    /// key.
     fn times_four(&self, a: u128, b: u128, c: u128, d: u128) -> u128
         ensures { IsFourProducts a b c d (key_bytes self.now) result }
     {

@@ -1,5 +1,5 @@
-//! The multiples of a word of GHASH's field (SP 800-38D, 6.3) by all polynomials of two, four and eight bits. Each multiple is made
-//! of two smaller ones. The bit of highest weight is the coefficient of x^0.
+//! The multiples of a word of GHASH's field (SP 800-38D, 6.3) by all polynomials of two, four and eight bits. Each multiple is
+//! made of two smaller ones. The bit of highest weight is the coefficient of x^0.
 
 ghost use Rattle.std.specs.Prelude.{◌≡◌, ℕ, ◌/◌, ◌%◌, ◌^◌, ◌<◌, bit_xor, slice_index, slice_index_or};
 ghost use Rattle.std.specs.Int.{w128, to_be_bytes};
@@ -198,9 +198,9 @@ impl KeptMultiples {
     }
 }
 
-// The multiples of a word by eight bits, each the sum of two multiples by four bits, of which there are 32. The tables are arrays
-// of numbers and not of vectors: numbers are aligned to 16 bytes, so an XOR can read an entry from memory. An entry of an array of
-// vectors, which may be unaligned, would have to be loaded first.
+// The multiples of a word by eight bits, each the sum of two multiples by four bits, of which there are 32. The tables are
+// arrays of numbers and not of vectors: numbers are aligned to 16 bytes, so an XOR can read an entry from memory. An entry of
+// an array of vectors, which may be unaligned, would have to be loaded first.
 #[derive(Drop, Clone, Copy)]
 pub(crate) struct Multiples32 {
     pub(crate) word: u128,

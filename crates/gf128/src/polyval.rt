@@ -1,4 +1,5 @@
-//! POLYVAL (RFC 8452, 3), which reads a block from its last byte to its first. It is computed with GHASH's product (appendix A).
+//! POLYVAL (RFC 8452, 3), which reads a block from its last byte to its first. It is computed with GHASH's product (appendix
+//! A).
 
 ghost use Rattle.octets.specs.Bytes.{IsBlock};
 ghost use Rattle.gf128.specs.Orders.{Reversed};
@@ -49,20 +50,20 @@ impl HashOrder for PolyvalOrder {
 /// POLYVAL over a text that comes in pieces (RFC 8452, 3), with the multiplier `M` in GHASH's field.
 pub type Polyval<M> = BlockHash<M, PolyvalOrder>;
 
-/// The law of `dot` (RFC 8452, 3): the dot of two polynomials is the only polynomial of degree below 128 whose product with x^128
-/// has the residue of their product. The call does nothing; its contract is the law.
+/// The law of `dot` (RFC 8452, 3): the dot of two polynomials is the only polynomial of degree below 128 whose product with
+/// x^128 has the residue of their product. The call does nothing; its contract is the law.
 pub fn dot_is_the_only()
     ensures { DotIsTheOnly }
 {}
 
-/// The law of POLYVAL (RFC 8452, 3): it is the only block that the sums S_j, made with `dot`, lead to. The call does nothing; its
-/// contract is the law.
+/// The law of POLYVAL (RFC 8452, 3): it is the only block that the sums S_j, made with `dot`, lead to. The call does nothing;
+/// its contract is the law.
 pub fn polyval_is_the_only()
     ensures { PolyvalIsTheOnly }
 {}
 
-/// The law of RFC 8452, appendix A: POLYVAL is the byte reverse of GHASH under mulX of the reversed key over the reversed blocks.
-/// The call does nothing; its contract is the law.
+/// The law of RFC 8452, appendix A: POLYVAL is the byte reverse of GHASH under mulX of the reversed key over the reversed
+/// blocks. The call does nothing; its contract is the law.
 pub fn polyval_by_ghash()
     ensures { PolyvalByGhash }
 {}

@@ -61,8 +61,8 @@ pub struct KeptMul<'a> {
 }
 
 impl<'a> KeptMul<'a> {
-    /// Makes the multiplier of `key`, with the multiples that [`TableMul::kept`] returned for it. The caller shows that the numbers
-    /// are the multiples of the key.
+    /// Makes the multiplier of `key`, with the multiples that [`TableMul::kept`] returned for it. The caller shows that the
+    /// numbers are the multiples of the key.
     #[inline(always)]
     pub fn new(key: &Block, numbers: &'a KeptMultiples) -> KeptMul<'a>
         requires { KeepsMultiples numbers.now key.now }

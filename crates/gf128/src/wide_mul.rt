@@ -15,14 +15,14 @@ use crate::polynomial_word::{block_of, bytes_of, high_half, low_half, word_of};
 use crate::{Keyed128, Multiply};
 use octets::Block;
 
-/// The multiplier that holds 256 multiples of each of the key's first four powers, 16 KiB, and takes four blocks at a time. It is
-/// for a text of at least 1 KiB, or for a key that is used for several texts.
+/// The multiplier that holds 256 multiples of each of the key's first four powers, 16 KiB, and takes four blocks at a time. It
+/// is for a text of at least 1 KiB, or for a key that is used for several texts.
 ///
 /// Not constant time. Each of the four tables has 256 entries of 16 bytes. Of four blocks, the bytes of the first, XORed with
 /// the sum so far, look up the table of the fourth power; the bytes of the other three, as they are, look up the tables of the
-/// third power, the second and the key. A single block is XORed with the sum and looks up the key's table. So the entries that are
-/// read depend on the key through the sum, and on the text where it is secret, as in POLYVAL. To make the tables of the powers it
-/// looks up the key's table by the bytes of the key and its powers.
+/// third power, the second and the key. A single block is XORed with the sum and looks up the key's table. So the entries that
+/// are read depend on the key through the sum, and on the text where it is secret, as in POLYVAL. To make the tables of the
+/// powers it looks up the key's table by the bytes of the key and its powers.
 #[derive(Drop)]
 pub struct WideMul {
     first: Multiples256,
@@ -47,9 +47,9 @@ impl WideMul {
         self.fourth.at(a).xor(self.third.at(b).xor(low))
     }
 
-    // The sum, not reduced, of a half word times the fourth power of the key, and of half words of three blocks, from byte `from`
-    // on, times the third power, the second and the key. A byte of a block is read from memory, which takes one instruction; to
-    // get it from a word takes two or three.
+    // The sum, not reduced, of a half word times the fourth power of the key, and of half words of three blocks, from byte
+    // `from` on, times the third power, the second and the key. A byte of a block is read from memory, which takes one
+    // instruction; to get it from a word takes two or three.
     #[inline(always)]
     fn four_halves<O: HashOrder>(
         &self,

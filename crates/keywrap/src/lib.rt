@@ -1,11 +1,11 @@
 //! AES Key Wrap, with the default initial value (RFC 3394; SP 800-38F, 6.1 and 6.2) and with padding (RFC 5649). `wrap`,
-//! `unwrap`, `wrap_padded` and `unwrap_padded` return a new vector. Their forms `_in_place` work in the caller's bytes, and their
-//! forms `_to` write to another output of the caller's; neither form allocates.
+//! `unwrap`, `wrap_padded` and `unwrap_padded` return a new vector. Their forms `_in_place` work in the caller's bytes, and
+//! their forms `_to` write to another output of the caller's; neither form allocates.
 //!
 //! Not constant time. Each step encrypts or decrypts a block, A and 8 bytes of the text, with `AesKey::encrypt` or
-//! `InverseKey::decrypt`. These look up tables of 4 KiB by the bytes of the cipher's state, which the wrapping key and the wrapped
-//! text determine. The checks of the unwrapped bytes may end at the first byte that differs. There is no nonce: under one key the
-//! same text has the same wrapping, so wrappings show which texts are equal.
+//! `InverseKey::decrypt`. These look up tables of 4 KiB by the bytes of the cipher's state, which the wrapping key and the
+//! wrapped text determine. The checks of the unwrapped bytes may end at the first byte that differs. There is no nonce: under
+//! one key the same text has the same wrapping, so wrappings show which texts are equal.
 //!
 //! From `crates/keywrap/src/uses.rt`:
 //! ```

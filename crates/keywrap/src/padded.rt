@@ -165,8 +165,8 @@ pub fn wrap_padded<A: Allocator>(alloc: A, key: &AesKey, text: &[u8]) -> Result<
     Ok(wrapped)
 }
 
-/// Returns the text of a wrapping with padding (RFC 5649, 4.2). Faults, in this order: `WrapLength` if the length is under 16 or
-/// not a multiple of 8, `TextTooLong` past 2^32 + 8 bytes, `OutOfMemory` if the allocation of the padded text fails,
+/// Returns the text of a wrapping with padding (RFC 5649, 4.2). Faults, in this order: `WrapLength` if the length is under 16
+/// or not a multiple of 8, `TextTooLong` past 2^32 + 8 bytes, `OutOfMemory` if the allocation of the padded text fails,
 /// `WrapIntegrity` if the bytes are not a valid wrapping with padding under this key. Not constant time: see the crate's page.
 pub fn unwrap_padded<A: Allocator>(
     alloc: A,

@@ -22,9 +22,9 @@ fn has_padded_room(bytes: &[u8], text_length: usize) -> bool
 }
 
 /// Wraps a text with padding in place (RFC 5649, 4.1). `bytes` are eight bytes of room for A, the text of `text_length` bytes,
-/// and the fewest bytes of room that make the length a multiple of 8; they become the wrapping. The room is overwritten. Faults,
-/// in this order: `WrapLength` if the text is empty or the room has another length, `TextTooLong` if the text is longer than
-/// 2^32 - 1 bytes. On a fault no byte is changed. Not constant time: see the crate's page.
+/// and the fewest bytes of room that make the length a multiple of 8; they become the wrapping. The room is overwritten.
+/// Faults, in this order: `WrapLength` if the text is empty or the room has another length, `TextTooLong` if the text is longer
+/// than 2^32 - 1 bytes. On a fault no byte is changed. Not constant time: see the crate's page.
 pub fn wrap_padded_in_place(key: &AesKey, bytes: &mut [u8], text_length: usize) -> Result<(), Fault>
     ensures answer { MatchResult result
         (λ _. WrappedPaddedInPlace key.now bytes.old text_length bytes.new)

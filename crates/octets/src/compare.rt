@@ -82,8 +82,9 @@ fn xor_fifteen(dst: &mut [u8], src: &[u8])
     xor_seven(back, &src[8..]);
 }
 
-// XORs `src` into `dst`, 16 bytes or more, sixteen at a time. The last 16 are read before the others are written and may overlap
-// them. The overlap is written twice, but no byte is written alone: a later read of a whole vector would have to wait for it.
+// XORs `src` into `dst`, 16 bytes or more, sixteen at a time. The last 16 are read before the others are written and may
+// overlap them. The overlap is written twice, but no byte is written alone: a later read of a whole vector would have to wait
+// for it.
 #[inline(always)]
 fn xor_sixteens(dst: &mut [u8], src: &[u8])
     requires { (length dst.old ≡ length src.now) × (16 ≤ length src.now) }

@@ -43,8 +43,8 @@ impl<R: Read> Intake for FromRead<R> {
     }
 }
 
-/// Gives to a writer, and counts its failures. An interrupted write is a failure, and so is a write of 0 bytes from a slice that
-/// is not empty. Contracts know the bytes taken if they know those of the writer.
+/// Gives to a writer, and counts its failures. An interrupted write is a failure, and so is a write of 0 bytes from a slice
+/// that is not empty. Contracts know the bytes taken if they know those of the writer.
 #[derive(Drop)]
 pub struct ToWrite<W> {
     writer: W,

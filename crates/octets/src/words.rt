@@ -1,5 +1,5 @@
-//! Numbers and their bytes, in both orders, for the length blocks of RFC 8439, SP 800-38D and RFC 8452. The bytes are made as one
-//! vector: of `to_le_bytes` LLVM makes a shift for each byte.
+//! Numbers and their bytes, in both orders, for the length blocks of RFC 8439, SP 800-38D and RFC 8452. The bytes are made as
+//! one vector: of `to_le_bytes` LLVM makes a shift for each byte.
 
 ghost use Rattle.std.specs.Prelude.{◌≡◌, ◌++◌, ◌-◌, ◌<◌, ◌^◌, length, replicate};
 ghost use Rattle.octets.specs.Bytes.{le};

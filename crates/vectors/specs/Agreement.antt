@@ -7,8 +7,8 @@ use Rattle.vectors.specs.declared.suite.Algorithm.{Algorithm}
 use Rattle.vectors.specs.declared.suite.Algorithm.TheVariants.{Aead, Wrap, WrapPad}
 use Rattle.vectors.specs.Grammar.{Record}
 
--- the record's sealed bytes are the sealing or the wrapping of the text, under a suite and the record's key, nonce and associated
--- data
+-- the record's sealed bytes are the sealing or the wrapping of the text, under a suite and the record's key, nonce and
+-- associated data
 abbrev pub HoldsBy : Algorithm → Record → List ℕ → Type 0
 HoldsBy (Aead suite) r text =
     Opened (record { suite = suite; key = r.key; nonce = r.nonce; aad = r.aad }) r.sealed text

@@ -19,8 +19,8 @@ use Rattle.vectors.specs.Grammar.{IsSuiteLine, IsCutsLine, unread, Fills, Format
 
 -- ---- the expected line
 
--- the format line; the first line of a record; or a later one: a field, the end, the end or a line of cuts up to some number, or
--- the text line after cuts
+-- the format line; the first line of a record; or a later one: a field, the end, the end or a line of cuts up to some number,
+-- or the text line after cuts
 pub data Expected : Type 0 where
   format_line : Expected
   suite_line : Format → Expected

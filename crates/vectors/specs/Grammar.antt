@@ -35,7 +35,8 @@ is_gap (b ∷ bs) = b == 35
 abbrev pub is_equals : ℕ → Bool
 is_equals b = b == 61
 
--- the parts of a line before and after its first `=`, without the spaces at the end of the first and at the beginning of the second
+-- the parts of a line before and after its first `=`, without the spaces at the end of the first and at the beginning of the
+-- second
 unfoldable pub field_of : Line → Option (List ℕ × List ℕ)
 field_of line =
     if nat_lt (position_or_len is_equals line) (length line)

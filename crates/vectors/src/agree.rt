@@ -1,5 +1,5 @@
-//! Whether a record of a vector file agrees with its standard: its sealed bytes are opened or unwrapped, and the result is compared
-//! with its text.
+//! Whether a record of a vector file agrees with its standard: its sealed bytes are opened or unwrapped, and the result is
+//! compared with its text.
 
 ghost use Rattle.std.specs.Prelude.{◌≡◌, ◌↔◌, Some, IfOk, IsTrue, length};
 ghost use Rattle.aes.specs.Cipher.{IsKeyLength};
@@ -96,7 +96,8 @@ fn aes_key(digits: Digits<'_>) -> AesKey
     key
 }
 
-// Whether the bytes are the wrapping of the text (RFC 3394), or not a valid wrapping if there is no text. Unwraps them in place.
+// Whether the bytes are the wrapping of the text (RFC 3394), or not a valid wrapping if there is no text. Unwraps them in
+// place.
 fn wrapping_agrees(key: &AesKey, sealed: &mut [u8], text: Option<Digits<'_>>) -> bool
     ensures { IsTrue result ↔ TextIs (Unwrapped key.now sealed.old) (text_view text.entry) }
 {
@@ -106,8 +107,8 @@ fn wrapping_agrees(key: &AesKey, sealed: &mut [u8], text: Option<Digits<'_>>) ->
     }
 }
 
-// Whether the bytes are the wrapping of the text with padding (RFC 5649), or not a valid wrapping if there is no text. Unwraps them
-// in place.
+// Whether the bytes are the wrapping of the text with padding (RFC 5649), or not a valid wrapping if there is no text. Unwraps
+// them in place.
 fn padded_wrapping_agrees(key: &AesKey, sealed: &mut [u8], text: Option<Digits<'_>>) -> bool
     ensures { IsTrue result ↔ TextIs (UnwrappedPadded key.now sealed.old) (text_view text.entry) }
 {

@@ -15,15 +15,15 @@ pub record Makes {C : Type 0} (up : List ℕ → ℕ → List ℕ) (s : Counter 
   pub used_is : s.used ≡ position % 16
   pub mask_is : 0 < position % 16 → s.mask ≡ cipher key (up first (position / 16))
 
--- s becomes t, and was becomes now: after any number of bytes that s has produced under the key, the next ones are XORed in, and t
--- has produced these too
+-- s becomes t, and was becomes now: after any number of bytes that s has produced under the key, the next ones are XORed in,
+-- and t has produced these too
 abbrev pub Advances : {C : Type 0} (up : List ℕ → ℕ → List ℕ) (key : List ℕ) (s t : Counter C) (was now : List ℕ)
     → Type 0
 Advances up key s t was now = (first : List ℕ) (position : ℕ) → Makes up s key first position
     → Makes up t key first (position + length was) × (now ≡ masked (counter_byte up key first) position was)
 
--- s becomes t, and was becomes now: the next bytes of the stream are XORed into the first n, and the others are unchanged. If there
--- are others, the last block is used up
+-- s becomes t, and was becomes now: the next bytes of the stream are XORed into the first n, and the others are unchanged. If
+-- there are others, the last block is used up
 pub record AdvancesFront {C : Type 0} (up : List ℕ → ℕ → List ℕ) (key : List ℕ) (s t : Counter C)
     (was now : List ℕ) (n : ℕ) : Type 0 where
   pub within : n ≤ length was
