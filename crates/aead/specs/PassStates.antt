@@ -2,10 +2,10 @@
 use Rattle.std.specs.Prelude.{◌≡◌, ℕ, ◌+◌, ◌*◌, ◌/◌, ◌%◌, ◌^◌, List, ◌++◌, length, take, drop, replicate}
 use Rattle.octets.specs.Bytes.{pad16}
 use Rattle.octets.specs.Masked.{masked}
-use Rattle.poly1305.specs.States as poly1305
+use Rattle.poly1305.specs.Code.States as poly1305
 use Rattle.aes.specs.Cipher.{cipher}
 use Rattle.gf128.specs.Orders.{Straight, Reversed, Serves}
-use Rattle.gf128.specs.States as gf128
+use Rattle.gf128.specs.Code.States as gf128
 use Rattle.aead.specs.declared.pass_state.PassState.{PassState}
 use Rattle.aead.specs.declared.pass_state.Sum.{Sum}
 use Rattle.aead.specs.Suites.{Construction, ByChaCha, ByGcm, ByGcmSiv, construction_of}
