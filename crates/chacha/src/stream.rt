@@ -75,7 +75,7 @@ impl ChaStream {
         ensures applied { (key nonce : List ℕ) (first made : ℕ) → Holds self.old key nonce first made
             → MatchResult result (λ _. Applied self.new key nonce first made bytes.old bytes.new)
             (λ fault. Refused fault self.old self.new first made bytes.old bytes.new) }
-        ensures work { (k m : List ℕ) → W.comes_to work.old k m → W.comes_to work.new k m }
+        ensures work { (w : W) → W.reaches w work.old → W.reaches w work.new }
     {
         if bytes.len() as u64 > END - self.offset {
             return Err(Fault::StreamEnd);
@@ -100,7 +100,7 @@ impl Stream for ChaStream {
 fn xor_stream<W: Work>(key: &Key32, nonce: &Nonce, offset: u64, bytes: &mut [u8], work: &mut W)
     requires { offset + length bytes.old ≤ 2 ^ 38 }
     ensures masked { bytes.new ≡ masked (key_stream_byte key.now nonce.now 0) offset bytes.old }
-    ensures work { (k m : List ℕ) → W.comes_to work.old k m → W.comes_to work.new k m }
+    ensures work { (w : W) → W.reaches w work.old → W.reaches w work.new }
 {
     let mut done = 0;
     'runs: while done < bytes.len() {
@@ -123,7 +123,7 @@ fn xor_run<W: Work>(
     ensures in_range { result ≤ length bytes.old }
     ensures masked { bytes.new ≡ masked (key_stream_byte key.now nonce.now 0) offset (take result bytes.old)
         ++ drop result bytes.old }
-    ensures work { (k m : List ℕ) → W.comes_to work.old k m → W.comes_to work.new k m }
+    ensures work { (w : W) → W.reaches w work.old → W.reaches w work.new }
 {
     let counter = (offset / 64) as u32;
     let skip = (offset % 64) as usize;
