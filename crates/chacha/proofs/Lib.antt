@@ -6,3 +6,4 @@ pub mod Lengths
 mod ByRows
 mod Halves
 mod Refusals
+mod BesideHash

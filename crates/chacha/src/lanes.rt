@@ -163,7 +163,7 @@ pub(crate) fn set_starts<const N: usize>(
 // Computes the words of the blocks that start from the states in the lanes. The counters in these states then rise by the number
 // of lanes.
 #[inline(always)]
-fn next_blocks<const N: usize, W: Work>(
+pub(crate) fn next_blocks<const N: usize, W: Work>(
     start: &mut [Simd<u32, N>; 16],
     work: &mut W,
 ) -> [Simd<u32, N>; 16]

@@ -18,6 +18,7 @@
 mod lanes;
 mod row_beside;
 mod rows;
+mod runs;
 mod single;
 mod start;
 mod state;

@@ -91,8 +91,8 @@ impl Stream for ChaStream {
 
     ghost did = { Did };
 
-    fn apply_beside<W: Work>(&mut self, bytes: &mut [u8], work: &mut W) {
-        let _ = self.apply_with(bytes, work);
+    fn apply_next(&mut self, bytes: &mut [u8]) {
+        let _ = self.apply(bytes);
     }
 }
 
