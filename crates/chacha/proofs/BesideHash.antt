@@ -2,19 +2,13 @@
 use Rattle.std.proofs.Common.{◌≡◌, ℕ, ◌+◌, ◌-◌, ◌*◌, ◌/◌, ◌%◌, ◌≤◌, List, ◌++◌, length, take, drop, sym, ap, ap₂, subst, ◌∙◌, arith}
 use Rattle.std.proofs.Math.Seq.{take-add, take-append-add, drop-append-add}
 use Rattle.std.proofs.lemmas.List.{append_assoc, length-append, length-take-le, length-drop, take_at, drop_at, drop-drop}
-use Rattle.std.proofs.lemmas.List.{drop-append-le, take_all}
-use Rattle.octets.specs.Ends.{IsEnd}
+use Rattle.std.proofs.lemmas.List.{drop-append-le, take-append-drop}
+use Rattle.octets.specs.Ends.{IsEnd, whole_blocks}
 use Rattle.octets.specs.declared.work.Beside.{Beside}
 use Rattle.octets.specs.Masked.{masked}
 use Rattle.octets.proofs.Masks.{length-masked, masked-append}
 use Rattle.chacha.specs.Stream.{key_stream_byte}
-use Rattle.chacha.proofs.Masking.{later}
-
--- of all bytes, all are left
-pub all_left : (xs : List ℕ) → IsEnd xs xs
-all_left xs =
-    let none : length xs - length xs ≡ 0 = omega arith in
-    record { shorter = omega arith; whole = omega arith; rest_is = ap (λ (n : ℕ). drop n xs) (sym none) }
+use Rattle.chacha.proofs.Masking.{later, no_run}
 
 -- a hash with the bytes that it takes in next, wherever these stand
 abbrev pub beside : {W : Type 0} → W → List ℕ → Beside W
@@ -42,18 +36,18 @@ length-begun f n was le =
     ∙ omega (arith, le, length-masked f 0 (take n was), length-take-le n was le, length-drop n was)
 
 -- a text whose first bytes stay, and of which the next ones are masked
-pub front_is : (f : ℕ → ℕ) (b rest bytes : List ℕ) (a d : ℕ) → d ≡ length b + a → a ≤ length rest
-    → bytes ≡ b ++ (masked f 0 (take a rest) ++ drop a rest) → take d bytes ≡ b ++ masked f 0 (take a rest)
-front_is f b rest bytes a d e le is =
-    let m : List ℕ = masked f 0 (take a rest) in
-    let size : length m ≡ a = length-masked f 0 (take a rest) ∙ length-take-le a rest le in
+pub front_is : (f : ℕ → ℕ) (p : ℕ) (b rest bytes : List ℕ) (a d : ℕ) → d ≡ length b + a → a ≤ length rest
+    → bytes ≡ b ++ (masked f p (take a rest) ++ drop a rest) → take d bytes ≡ b ++ masked f p (take a rest)
+front_is f p b rest bytes a d e le is =
+    let m : List ℕ = masked f p (take a rest) in
+    let size : length m ≡ a = length-masked f p (take a rest) ∙ length-take-le a rest le in
     ap₂ take e is ∙ take-append-add b (m ++ drop a rest) a ∙ ap (λ x. b ++ x) (take_at m (drop a rest) a size)
 
-pub back_is : (f : ℕ → ℕ) (b rest bytes : List ℕ) (a d : ℕ) → d ≡ length b + a → a ≤ length rest
-    → bytes ≡ b ++ (masked f 0 (take a rest) ++ drop a rest) → drop d bytes ≡ drop a rest
-back_is f b rest bytes a d e le is =
-    let m : List ℕ = masked f 0 (take a rest) in
-    let size : length m ≡ a = length-masked f 0 (take a rest) ∙ length-take-le a rest le in
+pub back_is : (f : ℕ → ℕ) (p : ℕ) (b rest bytes : List ℕ) (a d : ℕ) → d ≡ length b + a → a ≤ length rest
+    → bytes ≡ b ++ (masked f p (take a rest) ++ drop a rest) → drop d bytes ≡ drop a rest
+back_is f p b rest bytes a d e le is =
+    let m : List ℕ = masked f p (take a rest) in
+    let size : length m ≡ a = length-masked f p (take a rest) ∙ length-take-le a rest le in
     ap₂ drop e is ∙ drop-append-add b (m ++ drop a rest) a ∙ drop_at m (drop a rest) a size
 
 -- another run is masked
@@ -104,3 +98,34 @@ run_came f a k was bytes m le is =
     ap₂ (λ (n : ℕ) (z : List ℕ). (m ++ take a was) ++ take n z) same
     (ap (drop a) is ∙ drop_at (masked f 0 (take a was)) (drop a was) a size)
     ∙ append_assoc m (take a was) (take k (drop a was)) ∙ ap (λ z. m ++ z) (sym (take-add a k was))
+
+-- no byte is masked after the first ones
+pub none_masked : (f : ℕ → ℕ) (p b : ℕ) (was : List ℕ)
+    → was ≡ take b was ++ (masked f p (take (b - b) (drop b was)) ++ drop (b - b) (drop b was))
+none_masked f p b was =
+    let none : b - b ≡ 0 = omega arith in
+    let rest : List ℕ = drop b was in
+    sym (take-append-drop b was) ∙ ap (λ x. take b was ++ x) (no_run f p rest)
+    ∙ ap (λ (n : ℕ). take b was ++ (masked f p (take n rest) ++ drop n rest)) (sym none)
+
+-- the whole blocks of a text that begins with whole blocks
+pub whole_split : (x y : List ℕ) → length x % 16 ≡ 0 → whole_blocks (x ++ y) ≡ x ++ whole_blocks y
+whole_split x y whole =
+    let size : length (x ++ y) / 16 * 16 ≡ length x + length y / 16 * 16 = omega (arith, whole, length-append x y) in
+    ap (λ (n : ℕ). take n (x ++ y)) size ∙ take-append-add x y (length y / 16 * 16)
+
+-- the whole blocks after the first t bytes of a text that begins with whole blocks
+pub whole_left : (before new : List ℕ) (t : ℕ) → length before % 16 ≡ 0 → t ≤ length before
+    → take (length (before ++ new) / 16 * 16 - t) (drop t (before ++ new)) ≡ drop t before ++ whole_blocks new
+whole_left before new t whole le =
+    let size : length (before ++ new) / 16 * 16 - t ≡ length (drop t before) + length new / 16 * 16 =
+    omega (arith, whole, le, length-append before new, length-drop t before) in
+    ap₂ take size (left_grows before new t le) ∙ take-append-add (drop t before) new (length new / 16 * 16)
+
+-- the bytes after the first runs are masked too
+pub all_masked : (f : ℕ → ℕ) (p n : ℕ) (was front back new : List ℕ) → n ≤ length was
+    → front ≡ masked f p (take n was) → back ≡ drop n was → new ≡ masked f (p + n) back → front ++ new ≡ masked f p was
+all_masked f p n was front back new le is_front is_back is_new =
+    let place : p + n ≡ p + length (take n was) = omega (arith, length-take-le n was le) in
+    ap₂ (λ x y. x ++ y) is_front (is_new ∙ ap₂ (masked f) place is_back)
+    ∙ sym (ap (masked f p) (sym (take-append-drop n was)) ∙ masked-append f p (take n was) (drop n was))

@@ -7,3 +7,4 @@ mod ByRows
 mod Halves
 mod Refusals
 mod BesideHash
+mod Applied

@@ -15,6 +15,7 @@
 //! ```
 #![tactic(auto)]
 
+mod beside;
 mod lanes;
 mod row_beside;
 mod rows;

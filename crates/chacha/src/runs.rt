@@ -121,7 +121,7 @@ pub(crate) fn mask_then_hash<R: Run, W: BlockWork>(
 ) -> (usize, usize)
     requires some { begun + R.SIZE ≤ length bytes.old }
     requires counters { counter + (length bytes.old - begun) / 64 ≤ 2 ^ 32 }
-    ensures done { (begun ≤ result.0) × (result.0 ≤ length bytes.old) }
+    ensures done { (begun ≤ result.0) × (result.0 ≤ length bytes.old) × ((result.0 - begun) % 64 ≡ 0) }
     ensures taken { (result.1 ≤ result.0) × (result.1 % 16 ≡ 0) }
     ensures masked { let rest = drop begun bytes.old in let n = result.0 - begun in
         bytes.new ≡ take begun bytes.old

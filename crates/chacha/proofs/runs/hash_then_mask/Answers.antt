@@ -1,9 +1,10 @@
 use Rattle.std.proofs.Common.{◌≡◌, ℕ, ◌+◌, ◌-◌, ◌/◌, ◌%◌, ◌^◌, ◌≤◌, List, [], ◌++◌, length, take, drop, sym, ap, subst, ◌∙◌, arith}
 use Rattle.std.proofs.lemmas.List.{append-nil}
+use Rattle.octets.proofs.Ends.{all_left}
 use Rattle.octets.specs.Ends.{IsEnd}
 use Rattle.chacha.specs.Stream.{key_stream_byte}
 use Rattle.chacha.proofs.Masking.{no_run, blocks_more}
-use Rattle.chacha.proofs.BesideHash.{beside, all_left, length-begun, length-run, run_came}
+use Rattle.chacha.proofs.BesideHash.{beside, length-begun, length-run, run_came}
 use Rattle.chacha.proofs.runs.hash_then_mask.Goals as goal
 
 pub runs-init : goal.runs-init

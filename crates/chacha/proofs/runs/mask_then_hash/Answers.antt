@@ -1,17 +1,16 @@
 use Rattle.std.proofs.Common.{◌≡◌, ℕ, ◌+◌, ◌-◌, ◌/◌, ◌%◌, ◌^◌, ◌≤◌, List, [], ◌++◌, length, take, drop, sym, ap, ap₂, subst, ◌∙◌, arith}
-use Rattle.std.proofs.lemmas.List.{append_assoc, take-append-drop, length-take-le, length-drop, take_all}
+use Rattle.std.proofs.lemmas.List.{append_assoc, length-take-le, length-drop, take_all}
+use Rattle.octets.proofs.Ends.{all_left}
 use Rattle.octets.specs.Ends.{IsEnd}
 use Rattle.octets.specs.Masked.{masked}
 use Rattle.chacha.specs.Stream.{key_stream_byte}
-use Rattle.chacha.proofs.BesideHash.{beside, all_left, carried, left_of, front_is, back_is, run_masked, run_ends, left_grows}
-use Rattle.chacha.proofs.Masking.{no_run}
+use Rattle.chacha.proofs.BesideHash.{beside, carried, left_of, front_is, back_is, run_masked, run_ends, left_grows, none_masked}
 use Rattle.chacha.proofs.runs.mask_then_hash.Goals as goal
 
 pub runs-init : goal.runs-init
 runs-init g c =
     let b : ℕ = c.args.begun in
     let was : List ℕ = c.args.bytes.now in
-    let rest : List ℕ = drop b was in
     let none : b - b ≡ 0 = omega arith in
     let f = key_stream_byte c.args.key.now c.args.nonce.now c.args.counter in (
       omega arith,
@@ -21,8 +20,7 @@ runs-init g c =
       omega arith,
       subst (λ n. g.R.Run.starts c.starts_at-start.result c.args.key.now n c.args.nonce.now) (omega (arith, none))
           c.starts_at-start.ensures,
-      sym (take-append-drop b was) ∙ ap (λ x. take b was ++ x) (no_run f 0 rest)
-          ∙ ap (λ (n : ℕ). take b was ++ (masked f 0 (take n rest) ++ drop n rest)) (sym none),
+      none_masked f 0 b was,
       λ k m h. g.met.W.BlockWork.grows c.args.hash.now [] (take b was) k m h,
     )
 
@@ -67,8 +65,8 @@ runs-preserved g c =
     let eb : length before ≡ d = halves.front_len in
     let en : length new ≡ s =
     c.xor_serialized.auto.bytes ∙ length-take-le s after (omega (arith, room, halves.back_len, c.runs.auto.bytes)) in
-    let is_before = halves.front ∙ front_is f b rest p a d place le i.6 in
-    let is_after = halves.back ∙ back_is f b rest p a d place le i.6 in
+    let is_before = halves.front ∙ front_is f 0 b rest p a d place le i.6 in
+    let is_after = halves.back ∙ back_is f 0 b rest p a d place le i.6 in
     let next : n + a / 64 + g.R.Run.SIZE / 64 ≡ n + (d + s - c.args.begun) / 64 =
     omega (arith, e, i.0, i.2, g.met.R.Run.whole.1) in
     let last : n + a / 64 + g.R.Run.SIZE / 64 ≤ 2 ^ 32 = omega (arith, next, room, c.requires.counters) in
