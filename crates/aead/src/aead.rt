@@ -50,6 +50,24 @@ pub trait Aead {
         ensures { OpensInPlace (setting (keyed self.now) nonce.now aad.now) tag.now body.old body.new
             result };
 
+    /// Opens as [`Aead::open_fitting`] does, with the same fault, but may decrypt while it authenticates, which takes less time. If
+    /// authentication fails, the bytes are encrypted again, so that every byte is as it was. Until it returns, the buffer may hold
+    /// a text that is not authenticated: no one else may read it meanwhile.
+    fn open_and_restore(
+        &self,
+        nonce: &Nonce,
+        aad: &[u8],
+        body: &mut [u8],
+        tag: &Tag,
+    ) -> Result<(), Fault>
+        requires aad_fits { length aad.now ≤ aad_limit (keyed self.now).suite }
+        requires text_fits { length body.old ≤ text_limit (keyed self.now).suite }
+        ensures { OpensInPlace (setting (keyed self.now) nonce.now aad.now) tag.now body.old body.new
+            result }
+    {
+        self.open_fitting(nonce, aad, body, tag)
+    }
+
     /// Seals `text` under a nonce with associated data: leaves the ciphertext in its place and returns the
     /// tag. Faults: `AadTooLong`, then `TextTooLong`, if a length in bytes is past the suite's limit. On
     /// error every byte is as it was. Does not allocate.

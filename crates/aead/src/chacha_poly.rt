@@ -14,7 +14,7 @@ ghost use Rattle.aead.specs.declared.suite.Suite.TheVariants.{ChaCha20Poly1305};
 
 use crate::aead::Aead;
 use crate::buffered_stream::BufferedStream;
-use crate::one_pass::{OnePass, open_beside, open_whole, seal_whole};
+use crate::one_pass::{OnePass, open_and_restore, open_beside, open_whole, seal_whole};
 use crate::suite::Suite;
 use chacha::{
     BlocksAtOnce, ChaStream, EightBlocks, FiveBlocks, FourBlocks, KeyStreamStart, NineBlocks,
@@ -249,5 +249,18 @@ impl Aead for ChaChaPoly {
             BlocksAtOnce::Eight => self.open_from::<EightBlocks>(nonce, aad, body, tag),
             BlocksAtOnce::Nine => self.open_from::<NineBlocks>(nonce, aad, body, tag),
         }
+    }
+
+    fn open_and_restore(
+        &self,
+        nonce: &Nonce,
+        aad: &[u8],
+        body: &mut [u8],
+        tag: &Tag,
+    ) -> Result<(), Fault> {
+        if body.len() <= SEVEN_BLOCKS {
+            return self.open_fitting(nonce, aad, body, tag);
+        }
+        open_and_restore(&self.nonced(nonce), aad, body, tag)
     }
 }

@@ -2,7 +2,8 @@
 
 ghost use Rattle.std.specs.Prelude.{◌≡◌, ◌<◌, ◌≤◌, ◌++◌, ℕ, List, [], true, get_or, length, MatchResult};
 ghost use Rattle.aead.specs.Suites.{construction_of, is_one_pass, text_limit, aad_limit};
-ghost use Rattle.aead.specs.Sealing.{Opened};
+ghost use Rattle.octets.specs.Masked.{masked};
+ghost use Rattle.aead.specs.Sealing.{Opened, mask_of};
 ghost use Rattle.aead.specs.Ciphers.{Keyed, setting};
 ghost use Rattle.aead.specs.Refusals.{OpenRefused};
 ghost use Rattle.aead.specs.InPlace.{OpensInPlace};
@@ -83,7 +84,7 @@ pub(crate) fn open_whole<N: OnePass>(
     Ok(())
 }
 
-// Turns a ciphertext into its text while it is authenticated. After a refusal the bytes are of no use.
+// Turns a ciphertext into its text while it is authenticated. On error the bytes are what the ciphertext would open to.
 pub(crate) fn open_beside<N: OnePass>(
     message: &N,
     aad: &[u8],
@@ -92,8 +93,10 @@ pub(crate) fn open_beside<N: OnePass>(
 ) -> Result<(), Fault>
     requires aad_fits { length aad.now ≤ aad_limit (N.keyed message.now).suite }
     requires text_fits { length body.old ≤ text_limit (N.keyed message.now).suite }
-    ensures { let s = setting (N.keyed message.now) (N.nonce message.now) aad.now in
+    ensures opened { let s = setting (N.keyed message.now) (N.nonce message.now) aad.now in
         MatchResult result (λ _. Opened s (body.old ++ tag.now) body.new) (OpenRefused s body.old tag.now) }
+    ensures masked { let s = setting (N.keyed message.now) (N.nonce message.now) aad.now in
+        body.new ≡ masked (mask_of s tag.now) 0 body.old }
 {
     let given = tag.bytes();
     let limit = message.suite().text_limit();
@@ -104,5 +107,27 @@ pub(crate) fn open_beside<N: OnePass>(
         Ok(())
     } else {
         Err(Fault::TagMismatch)
+    }
+}
+
+// Turns a ciphertext into its text while it is authenticated. If authentication fails, the mask is XORed in again, and every
+// byte is as it was.
+pub(crate) fn open_and_restore<N: OnePass>(
+    message: &N,
+    aad: &[u8],
+    body: &mut [u8],
+    tag: &Tag,
+) -> Result<(), Fault>
+    requires aad_fits { length aad.now ≤ aad_limit (N.keyed message.now).suite }
+    requires text_fits { length body.old ≤ text_limit (N.keyed message.now).suite }
+    ensures { OpensInPlace (setting (N.keyed message.now) (N.nonce message.now) aad.now) tag.now body.old
+        body.new result }
+{
+    match open_beside(message, aad, body, tag) {
+        Ok(()) => Ok(()),
+        Err(fault) => {
+            message.mask().apply_to(body);
+            Err(fault)
+        }
     }
 }

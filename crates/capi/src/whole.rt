@@ -95,7 +95,7 @@ impl Direction for Opening {
         text: &mut [u8],
         tag: &mut [u8; 16],
     ) -> Result<(), Fault> {
-        cipher.open_fitting(nonce, aad, text, &Tag::new(*tag))
+        cipher.open_and_restore(nonce, aad, text, &Tag::new(*tag))
     }
 }
 

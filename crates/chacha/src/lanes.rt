@@ -107,8 +107,8 @@ pub(crate) fn half_diagonals<const N: usize>(x: &mut [Simd<u32, N>; 16], n: u32,
 
 // How many steps of other work are left for later after the second half of a round. A run of four blocks has 40 places for a
 // step and about 16 steps to do: done at the first places, they would fill the processor there and leave it idle at the others.
-// So it does none at every second place, unless more are left than a part of a text has. A run of eight blocks has 32 steps.
-pub(crate) const RESERVE: usize = if WIDE { 0 } else { 512 };
+// So it does none at every second place, unless more are left than there are other places. A run of eight blocks has 32 steps.
+pub(crate) const RESERVE: usize = if WIDE { 0 } else { 20 };
 
 // Ten double rounds in halves of rounds, with a step of other work after each half. The steps are done on a copy: it
 // stays in registers, which a reference would not. A step is a branch, and so keeps the halves of a round apart: if

@@ -7,8 +7,8 @@ use Rattle.aead.specs.Code.Maskings.{message_task}
 use Rattle.aead.proofs.Opens.{no_sealing, opened_as, body_tag}
 use Rattle.aead.proofs.one_pass.open_beside.Goals as goal
 
-pub returns-then-same : goal.returns-then-same
-returns-then-same g c =
+pub returns-then-same-clause-opened : goal.returns-then-same-clause-opened
+returns-then-same-clause-opened g c =
     let s : Setting = setting (g.N.OnePass.keyed c.args.message.now) (g.N.OnePass.nonce c.args.message.now)
     c.args.aad.now in
     let fits : Fits s c.args.body.now =
@@ -25,8 +25,8 @@ returns-then-same g c =
     ∙ sym (c.tag.ensures _ t c.args.body.now fed.0) ∙ sym c.bytes.ensures.value
     ∙ c.same.ensures.0 c.if-same.true ∙ c.bytes-given.ensures.value)
 
-pub returns : goal.returns
-returns g c =
+pub returns-clause-opened : goal.returns-clause-opened
+returns-clause-opened g c =
     let s : Setting = setting (g.N.OnePass.keyed c.args.message.now) (g.N.OnePass.nonce c.args.message.now)
     c.args.aad.now in
     let fits : Fits s c.args.body.now =
@@ -47,3 +47,27 @@ returns g c =
           ∙ e ∙ sym c.bytes-given.ensures.value))
           ∙ c.if-same.false)),
     )
+
+pub returns-then-same-clause-masked : goal.returns-then-same-clause-masked
+returns-then-same-clause-masked g c =
+    let s : Setting = setting (g.N.OnePass.keyed c.args.message.now) (g.N.OnePass.nonce c.args.message.now)
+    c.args.aad.now in
+    let t = message_task s c.args.tag.now in
+    let empty = c.empty-opening.ensures in
+    let mask = rw (sym empty.mask) at (c.mask.ensures c.args.aad.now c.args.tag.now) in
+    let hash = rw (sym empty.hash) at (c.hash.ensures c.args.aad.now) in
+    let limit = empty.limit ∙ c.text_limit-limit.ensures ∙ ap text_limit c.suite.ensures in
+    (c.update.ensures.masked t []
+    (c.begin.ensures.holds HashFirst t mask hash refl c.requires.aad_fits limit (omega arith))).1
+
+pub returns-clause-masked : goal.returns-clause-masked
+returns-clause-masked g c =
+    let s : Setting = setting (g.N.OnePass.keyed c.args.message.now) (g.N.OnePass.nonce c.args.message.now)
+    c.args.aad.now in
+    let t = message_task s c.args.tag.now in
+    let empty = c.empty-opening.ensures in
+    let mask = rw (sym empty.mask) at (c.mask.ensures c.args.aad.now c.args.tag.now) in
+    let hash = rw (sym empty.hash) at (c.hash.ensures c.args.aad.now) in
+    let limit = empty.limit ∙ c.text_limit-limit.ensures ∙ ap text_limit c.suite.ensures in
+    (c.update.ensures.masked t []
+    (c.begin.ensures.holds HashFirst t mask hash refl c.requires.aad_fits limit (omega arith))).1
