@@ -2,7 +2,9 @@
 
 #![forbid(unsafe_code)]
 
-use crate::{CheckedOpener, Fault, NONCE_BYTES, Opener, Sealer, SivSealer, SivWriter, Suite, TAG_BYTES, outcome, raw};
+use crate::{
+    Aad, CheckedOpener, Fault, NONCE_BYTES, Opener, Sealer, SivSealer, SivWriter, Suite, TAG_BYTES, outcome, raw,
+};
 use core::array;
 
 /// The length of a saved [`Sealer`] in bytes.
@@ -72,7 +74,7 @@ impl Sealer {
         resumed(suite, saved, raw::saved::sealer_resume(&mut state, key, nonce, &numbers_of(saved)))?;
         // an empty piece changes nothing, and is refused unless the state takes pieces
         resumed(suite, saved, raw::sealer_update(&mut state, &mut []))?;
-        begun_alike(&Sealer::new(suite, key, nonce, &[])?.save(), saved)?;
+        begun_alike(&Sealer::new(suite, key, nonce, Aad::empty())?.save(), saved)?;
         Ok(Sealer { state })
     }
 }
@@ -95,7 +97,7 @@ fn resume_opener(
     let mut state = raw::Opener::default();
     resumed(suite, saved, raw::saved::opener_resume(&mut state, key, nonce, &numbers_of(saved)))?;
     resumed(suite, saved, empty_piece(&mut state))?;
-    begun_alike(&Opener::new(suite, key, nonce, &[0; TAG_BYTES], &[])?.save(), saved)?;
+    begun_alike(&Opener::new(suite, key, nonce, &[0; TAG_BYTES], Aad::empty())?.save(), saved)?;
     Ok(state)
 }
 
@@ -177,7 +179,7 @@ fn resume_siv(
     let mut state = raw::Siv::default();
     resumed(suite, saved, raw::saved::siv_resume(&mut state, key, nonce, &numbers_of(saved)))?;
     resumed(suite, saved, empty_piece(&mut state))?;
-    begun_alike(&SivSealer::new(suite, key, nonce, &[])?.save(), saved)?;
+    begun_alike(&SivSealer::new(suite, key, nonce, Aad::empty())?.save(), saved)?;
     Ok(state)
 }
 
