@@ -71,7 +71,7 @@ cp -R "$prefix/share/aeadkit/rust" "$room/aeadkit"
 user wrong
 # Whether a line compiles: compiles LINE
 compiles() {
-    printf '#[allow(unused_imports)]
+    printf '#![allow(unused_imports, unused_mut)]
 use aeadkit::{Aad, WrappingKey};
 fn main() -> Result<(), aeadkit::Fault> {
     let (key, mut text) = (aeadkit::Key::new(aeadkit::Suite::Aes128Gcm, &[0; 16])?, [0; 32]);

@@ -95,5 +95,7 @@ fn main() -> io::Result<()> {
     fails(1, &[one, two, &three[..three.len() - 1]], UnexpectedEof); // cut in a frame
     fails(1, &[one, two], UnexpectedEof); // cut before the last one
     assert!(sender.send(&mut vec![], b"more", false).is_err());
+    let mut full = io::BufWriter::new(&mut [][..]); // takes a frame, and finds when it is flushed that it cannot write it
+    assert!(End::new(&key, 2).send(&mut full, b"lost", true).is_err());
     Ok(())
 }
