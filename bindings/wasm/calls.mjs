@@ -423,11 +423,11 @@ const atTheEndOfTheStack = (call) => {
 const long = new Uint8Array(3000).fill(5);
 const [longSealed, longSealer] = [kept.seal(nonce, long), kept.sealer(nonce)];
 let cuts = 0;
-const parts = Array.from({ length: 1000 }, (_, i) => {
-    const [cut, part] = atTheEndOfTheStack(() => longSealer.update(long.subarray(3 * i, 3 * i + 3)));
+const parts = Array.from({ length: 100 }, (_, i) => {
+    const [cut, part] = atTheEndOfTheStack(() => longSealer.update(long.subarray(30 * i, 30 * i + 30)));
     cuts += cut;
     return part;
 });
-assert(cuts > 1000);
+assert(cuts > 100);
 assert.deepEqual(Buffer.concat([...parts, longSealer.finish()]), Buffer.from(longSealed));
 assert.deepEqual(kept.open(nonce, longSealed), long);
