@@ -82,8 +82,8 @@ for order in "-lby_the_other -lby_this" "-lby_this -lby_the_other"; do
     LD_LIBRARY_PATH=$room:$room/other:$out "$room/versions" \
         || { echo "of two versions in one process ($order) a caller gets the wrong one" >&2; exit 1; }
 done
-# The archive keeps its names to what links it, as bindings/README.md says. Two shared objects that link archives get each their own,
-# and a shared object that was linked with another version gets that one, though the program links the archive.
+# The archive keeps its names to what links it, as bindings/README.md says. Two shared objects that link archives get each their
+# own, and a shared object that was linked with another version gets that one, though the program links the archive.
 cc -c -fPIC -DOTHER c/versions.c -o "$room/other.o"
 ar rc "$room/other/libaeadkit.a" "$room/other.o"
 cc -shared -fPIC -DCALLER=by_this c/versions.c "$out/libaeadkit.a" -o "$room/libby_this.so"

@@ -68,9 +68,9 @@ archive() {
 }
 
 # Makes FOLDER/libaeadkit.a of ROOM/aeadkit.a: hidden ROOM FOLDER EXPORTS
-# Its only global names are the exported ones, and here they become hidden: a program or a plug-in that links the archive keeps them to
-# itself. Otherwise other libraries in the process would call it, whichever version they were linked with. A name is hidden if one of the
-# objects that are linked says so.
+# Its only global names are the exported ones, and here they become hidden: a program or a plug-in that links the archive keeps
+# them to itself. Otherwise other libraries in the process would call it, whichever version they were linked with. A name is
+# hidden if one of the objects that are linked says so.
 hidden() {
     {
         grep -oE 'aeadkit_[a-z_]+' "$3" | sed 's/.*/.globl &\n.hidden &/'

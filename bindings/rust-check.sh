@@ -65,9 +65,9 @@ in_crate user test
 cp -R "$prefix/share/aeadkit/rust" "$room/aeadkit"
 (export AEADKIT_PREFIX="$prefix" && in_crate aeadkit test --doc && in_crate aeadkit doc)
 
-# What does not compile: a tag or a saved sealing that is dropped, a text exchanged with its associated data, a key to wrap exchanged
-# with the key that wraps it, a nonce of another length, a copy of a state, a sealing that goes on after it was saved, and the calls
-# of 2.1 that took room for a tag.
+# What does not compile: a tag or a saved sealing that is dropped, a text exchanged with its associated data, a key to wrap
+# exchanged with the key that wraps it, a nonce of another length, a copy of a state, a sealing that goes on after it was saved,
+# and the calls of 2.1 that took room for a tag.
 user wrong
 # Whether a line compiles: compiles LINE
 compiles() {
@@ -85,7 +85,8 @@ refused() {
     ! compiles "$2" || { echo "this compiles: $2" >&2; exit 1; }
     grep -q "$1" "$room/log" || { cat "$room/log" >&2; exit 1; }
 }
-compiles 'let tag = key.seal_in_place(&[0; 12], &mut text, Aad(b"aad"))?; key.open_in_place(&[0; 12], &mut text, &tag, Aad(b"aad"))?;' \
+compiles 'let (nonce, aad) = ([0; 12], Aad(b"aad"));
+    let tag = key.seal_in_place(&nonce, &mut text, aad)?; key.open_in_place(&nonce, &mut text, &tag, aad)?;' \
     || { cat "$room/log" >&2; exit 1; }
 compiles 'key.seal(&[0; 12], b"a text", &mut text[..22], Aad(b"aad"))?;' || { cat "$room/log" >&2; exit 1; }
 compiles 'let wrapped = aeadkit::wrap_to_vec(WrappingKey(&[0; 16]), &text)?; key.seal_to_vec(&[0; 12], &wrapped, Aad::empty())?;' \

@@ -100,14 +100,14 @@ const FAULTS = {
     13: SourceChanged, 14: UnknownSuite, 15: NotBegun,
 };
 
-// What every typed array says of itself. A subclass, a property of an array or a Proxy may say something else: another length, another one
-// each time, or after a call to the same module, whose memory holds the bytes of this call.
+// What every typed array says of itself. A subclass, a property of an array or a Proxy may say something else: another length,
+// another one each time, or after a call to the same module, whose memory holds the bytes of this call.
 const TypedArray = Object.getPrototypeOf(Uint8Array.prototype);
 const [kindOf, lengthOf, bufferOf, offsetOf] = [Symbol.toStringTag, "length", "buffer", "byteOffset"]
     .map((name) => Object.getOwnPropertyDescriptor(TypedArray, name).get);
 
-// Returns the arguments as plain Uint8Arrays over the same memory. Throws if one is not a Uint8Array. An array whose memory is gone has the
-// length 0, but is no empty text: its buffer was transferred, as to a worker, or became shorter.
+// Returns the arguments as plain Uint8Arrays over the same memory. Throws if one is not a Uint8Array. An array whose memory is
+// gone has the length 0, but is no empty text: its buffer was transferred, as to a worker, or became shorter.
 function wantBytes(...arrays) {
     return arrays.map((array) => {
         if (kindOf.call(array) !== "Uint8Array") {
@@ -125,8 +125,9 @@ function wantBytes(...arrays) {
     });
 }
 
-// Returns the associated data that options name, which is empty if they name none. Throws if they are not a plain object, as in a
-// call of version 2.0, whose last argument was a Uint8Array, or if they have a key of another name, or if it is not a Uint8Array.
+// Returns the associated data that options name, which is empty if they name none. Throws if they are not a plain object, as in
+// a call of version 2.0, whose last argument was a Uint8Array, or if they have a key of another name, or if it is not a
+// Uint8Array.
 function aadOf(options) {
     if (options === null || ![Object.prototype, null].includes(Object.getPrototypeOf(options))
         || Reflect.ownKeys(options).some((name) => name !== "aad")) {
@@ -210,8 +211,8 @@ class Module {
             grow(memory, Math.ceil((end - memory.buffer.byteLength) / 65536));
         }
         const standing = ({ place, length }) => new Uint8Array(memory.buffer, place, length);
-        // What does not return, as where the host's stack is full, leaves its bytes in the memory, and the module's stack pointer
-        // where it was. So the next call begins with a new memory. A state is in its struct, which is changed last of all.
+        // What does not return, as where the host's stack is full, leaves the module in the middle of a call: it would trap at each
+        // later one. So the next call begins with a new memory. A state is in its struct, which is changed last of all.
         this.#exports = undefined;
         placed.filter(({ from }) => from).forEach((bytes) => standing(bytes).set(bytes.from));
         const returned = exports[name](...given);

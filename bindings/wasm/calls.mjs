@@ -338,8 +338,8 @@ for (const other of [transferred, shortened]) {
     }
 }
 
-// What an array says of itself does not count: a subclass and a property may say another length, or keep the results to themselves. An
-// array of another realm, as of a frame, is a Uint8Array too.
+// What an array says of itself does not count: a subclass and a property may say another length, or keep the results to
+// themselves. An array of another realm, as of a frame, is a Uint8Array too.
 class Odd extends Uint8Array {
     get length() {
         return 5;

@@ -229,8 +229,8 @@ class Suite(enum.IntEnum):
 def _suite_of(suite: int) -> Suite:
     if type(suite) is Suite:
         return suite
-    # The message shows no other value than a number: it may be a key in the suite's place. True is no number of a suite, and a member
-    # of another enumeration stands for something else.
+    # The message shows no other value than a number: it may be a key in the suite's place. True is no number of a suite, and a
+    # member of another enumeration stands for something else.
     if not isinstance(suite, int) or isinstance(suite, (bool, enum.Enum)):
         raise TypeError(f"a member of Suite is required, not {type(suite).__name__!r}")
     try:

@@ -577,7 +577,7 @@ class Closing(unittest.TestCase):
                     piece += b"more"
 
     def test_an_exception_at_each_line(self):
-        """As of a signal handler. A sealing in place is undone; an object in pieces is closed, or goes on as if the call had not been."""
+        """As of a signal handler. A sealing in place is undone; an object in pieces is closed, or goes on as if nobody had called."""
 
         class Stop(BaseException):
             pass
@@ -651,12 +651,14 @@ class Closing(unittest.TestCase):
             calls = [(lambda: key.opener(NONCE, sealed[-16:], aad=b"aad"), "check", sealed[:-16], checked),
                      (opening, "update", sealed[:-16], opened), (opening, "update_in_place", sealed[:-16], opened)]
             if suite is Suite.AES_256_GCM:
-                calls += [(lambda: key.sealer(NONCE, aad=b"aad"), name, TEXT, resumed) for name in ("update", "update_in_place", "save")]
+                calls += [(lambda: key.sealer(NONCE, aad=b"aad"), name, TEXT, resumed)
+                          for name in ("update", "update_in_place", "save")]
             else:
                 calls += [(lambda: key.siv_sealer(NONCE, aad=b"aad"), "absorb", TEXT, absorbed), (reading, "update", TEXT, written),
                           (reading, "update_in_place", TEXT, written)]
             for begin, name, piece, goes_on in calls:
-                for state in raised_at_each_line(begin, lambda state: getattr(state, name)(*([bytearray(piece)] * (name != "save")))):
+                arguments = () if name == "save" else (bytearray(piece),)
+                for state in raised_at_each_line(begin, lambda state: getattr(state, name)(*arguments)):
                     try:
                         goes_on(state)
                     except aeadkit.NotBegun:

@@ -66,8 +66,8 @@ class Segments(unittest.TestCase):
         self.assertRaises(BlockingIOError, segments.seal, master, b"label", io.BytesIO(text), Full())
 
     def test_an_output_that_ends(self):
-        """A file past the limit on sizes takes a part of the last bytes, and so does one on a full disk. Without a buffer nobody else
-        writes the rest."""
+        """A file at the limit on sizes takes a part of the last bytes, as one on a full disk does. Without a buffer nobody
+        else writes the rest."""
         with tempfile.TemporaryDirectory() as folder:
             key, sealed = os.path.join(folder, "key"), os.path.join(folder, "sealed")
             with open(key, "wb") as file:

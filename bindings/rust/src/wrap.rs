@@ -11,8 +11,8 @@ use core::fmt;
 
 /// A key that wraps other keys, of 16, 24 or 32 bytes, written as `WrappingKey(&bytes)`.
 ///
-/// A call takes it as this type, and what it wraps as a slice. Both are keys as a rule, often of one length: a call with the two
-/// exchanged would wrap the wrong key under the one that is then lost, and so does not compile.
+/// A call takes it as this type, and what it wraps as a slice. Both are keys as a rule, often of one length: a call with the
+/// two exchanged would wrap the wrong key under the one that is then lost, and so does not compile.
 #[derive(Clone, Copy)]
 pub struct WrappingKey<'a>(pub &'a [u8]);
 
