@@ -35,7 +35,8 @@ not finished. A counter does not repeat if it is stored before it is used. Rando
 a key (SP 800-38D, 8.3).
 
 A call that is refused raises a subclass of Refused. Faults of a suite and of lengths are ValueErrors too. A with statement over
-a sealing or an opening in pieces raises NotFinished if it ends before finish, save or close, and without another exception.
+a sealing or an opening in pieces raises NotFinished if it ends before finish, save or close, and without another exception. If
+such an object is deleted before that, without a with statement, there is a ResourceWarning, which python -X dev shows.
 
 The time that a call takes may depend on secrets, since AES looks tables up by secret bytes. A Key, a Sealer, an Opener and a
 SivSealer wipe the memory in which they hold the key when they are closed or deleted; a with statement closes them. The bytes of
@@ -54,6 +55,7 @@ import os
 import re
 import sys
 import threading
+import warnings
 from typing import Any, Callable, Dict, List, NoReturn, Optional, Tuple, Type, TypeVar, Union
 
 from . import _library
@@ -585,6 +587,12 @@ class _InPieces(_HasStruct):
         self.close()
         if kind is None and self._unfinished and struct is not None and not struct.is_forked():
             raise NotFinished()
+
+    def __del__(self, _warn: Callable[..., None] = warnings.warn) -> None:
+        # as of a file that was not closed: python -X dev and test runners show it
+        struct = self._struct
+        if self._unfinished and struct is not None and not struct.is_forked():
+            _warn(f"a {type(self).__name__} was given up before finish, save or close", ResourceWarning, source=self)
 
     def _end(self, error: BaseException) -> None:
         """Closes the object, also for the calls of other threads, unless the library or the package refused a call."""

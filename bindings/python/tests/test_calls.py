@@ -11,6 +11,7 @@ import subprocess
 import sys
 import unittest
 import unittest.mock
+import warnings
 
 import aeadkit
 from aeadkit import Key, Opener, Sealer, SivSealer, Suite
@@ -506,6 +507,24 @@ class Closing(unittest.TestCase):
             use(saved)
             with type(saved).resume(saved.suite, KEY, NONCE, saved.save()) as state:
                 pass
+        for kind, use in unfinished:
+            with warnings.catch_warnings(record=True) as caught:
+                warnings.simplefilter("always")
+                state = begin[kind]()
+                use(state)
+                name = type(state).__name__
+                del state
+                for end in ("close", "save"):
+                    state = begin[kind]()
+                    use(state)
+                    getattr(state, end)()
+                    del state
+                state = begin[kind]()
+                use(state)
+                self.assertRaises(aeadkit.NotFinished, state.__exit__)
+                del state
+            self.assertEqual([(one.category, str(one.message)) for one in caught],
+                             [(ResourceWarning, f"a {name} was given up before finish, save or close")])
         for kind, use in [(kind, nothing) for kind in begin] + [("opener", checked), ("opener", mismatch), ("opener", changed)]:
             with begin[kind]() as state:
                 use(state)
@@ -513,6 +532,17 @@ class Closing(unittest.TestCase):
             with begin[kind]() as state:
                 use(state)
                 state.finish()
+        with warnings.catch_warnings():
+            warnings.simplefilter("error")
+            for kind, use in [(kind, nothing) for kind in begin] + [("opener", checked), ("opener", mismatch), ("opener", changed)]:
+                state = begin[kind]()
+                use(state)
+                state.__del__()
+            for kind, use in unfinished[:2] + [unfinished[3], unfinished[5], unfinished[9]]:
+                state = begin[kind]()
+                use(state)
+                state.finish()
+                state.__del__()
 
     def test_an_exception_that_ends_a_sealing_in_place(self):
         """The tag is lost, so the sealing is undone: what is sealed twice under one nonce may be the text again."""
