@@ -97,6 +97,15 @@ for order in "-lby_the_other -lby_this" "-lby_this -lby_the_other"; do
     LD_LIBRARY_PATH=$room "$room/versions" \
         || { echo "of two archives in one process ($order) a caller gets the wrong one" >&2; exit 1; }
 done
+# Two versions in one program, without a library: a caller is joined with its archive, whose hidden names are then made local.
+cc -c -DCALLER=by_the_other c/versions.c -o "$room/by_the_other.o"
+ld -r "$room/by_this.o" "$out/libaeadkit.a" -o "$room/joined.o"
+objcopy --localize-hidden "$room/joined.o"
+grep -q -e "objcopy --localize-hidden" README.md
+for order in "$room/joined.o $room/by_the_other.o" "$room/by_the_other.o $room/joined.o"; do
+    cc c/versions.c $order "$room/other/libaeadkit.a" -o "$room/versions"
+    "$room/versions" || { echo "of two archives in one program ($order) a caller gets the wrong one" >&2; exit 1; }
+done
 echo "ok: two versions of the library in one process, shared and as archives"
 
 export ASAN_OPTIONS=detect_leaks=0
