@@ -51,8 +51,8 @@ both=no
 if [ $whole = yes ] && [ $fast = yes ]; then
     hwcaps=$prefix/lib/glibc-hwcaps/x86-64-v3
     mkdir -p "$hwcaps" "$prefix/lib/x86-64-v3"
-    archive "$repository" "$room" "$prefix/lib/x86-64-v3" "$@" --cpu=x86-64-v3
-    shared "$prefix/lib/x86-64-v3/libaeadkit.a" "$hwcaps" "$version" "$here/exports.map"
+    archive "$repository" "$room" "$prefix/lib/x86-64-v3" "$here/exports.map" "$@" --cpu=x86-64-v3
+    shared "$room" "$hwcaps" "$version" "$here/exports.map"
     # rt runs the program that it builds, so this one is built only where it runs, or where it is asked for.
     if runs_v3; then
         choice=${choice:-x86-64-v3}
@@ -67,8 +67,8 @@ if [ $whole = yes ] && [ $fast = yes ]; then
         program "$repository" "$room" "$builds/x86-64-v3" "$@" --cpu=x86-64-v3
     fi
 fi
-archive "$repository" "$room" "$prefix/lib" "$@"
-shared "$prefix/lib/libaeadkit.a" "$prefix/lib" "$version" "$here/exports.map"
+archive "$repository" "$room" "$prefix/lib" "$here/exports.map" "$@"
+shared "$room" "$prefix/lib" "$version" "$here/exports.map"
 filled "$here/include/aeadkit.h" "$version" > "$prefix/include/aeadkit.h"
 cat > "$prefix/lib/pkgconfig/aeadkit.pc" <<END
 prefix=\${pcfiledir}/../..

@@ -82,17 +82,29 @@ for order in "-lby_the_other -lby_this" "-lby_this -lby_the_other"; do
     LD_LIBRARY_PATH=$room:$room/other:$out "$room/versions" \
         || { echo "of two versions in one process ($order) a caller gets the wrong one" >&2; exit 1; }
 done
-# Archives in two shared objects: each gets its own if it keeps the names of its archive to itself, as bindings/README.md says.
+# The archive keeps its names to what links it, as bindings/README.md says. Two shared objects that link archives get each their
+# own, and a shared object that was linked with another version gets that one, though the program links the archive.
 cc -c -fPIC -DOTHER c/versions.c -o "$room/other.o"
 ar rc "$room/other/libaeadkit.a" "$room/other.o"
-cc -shared -fPIC -DCALLER=by_the_other c/versions.c "$room/other/libaeadkit.a" -Wl,--exclude-libs,libaeadkit.a \
-    -o "$room/libby_the_other.so"
-cc -shared -fPIC -DCALLER=by_this c/versions.c "$out/libaeadkit.a" -Wl,--exclude-libs,libaeadkit.a -o "$room/libby_this.so"
-grep -q -e "-Wl,--exclude-libs,libaeadkit.a" README.md
+cc -shared -fPIC -DCALLER=by_this c/versions.c "$out/libaeadkit.a" -o "$room/libby_this.so"
+cc -c -DCALLER=by_this c/versions.c -o "$room/by_this.o"
+cc c/versions.c "$room/by_this.o" "$out/libaeadkit.a" -L"$room" -lby_the_other -Wl,-rpath-link,"$room/other" -o "$room/versions"
+LD_LIBRARY_PATH=$room:$room/other "$room/versions" \
+    || { echo "a library calls the archive of the program and not the version that it was linked with" >&2; exit 1; }
+cc -shared -fPIC -DCALLER=by_the_other c/versions.c "$room/other/libaeadkit.a" -o "$room/libby_the_other.so"
 for order in "-lby_the_other -lby_this" "-lby_this -lby_the_other"; do
     cc c/versions.c -L"$room" $order -o "$room/versions"
     LD_LIBRARY_PATH=$room "$room/versions" \
         || { echo "of two archives in one process ($order) a caller gets the wrong one" >&2; exit 1; }
+done
+# Two versions in one program, without a library: a caller is joined with its archive, whose hidden names are then made local.
+cc -c -DCALLER=by_the_other c/versions.c -o "$room/by_the_other.o"
+ld -r "$room/by_this.o" "$out/libaeadkit.a" -o "$room/joined.o"
+objcopy --localize-hidden "$room/joined.o"
+grep -q -e "objcopy --localize-hidden" README.md
+for order in "$room/joined.o $room/by_the_other.o" "$room/by_the_other.o $room/joined.o"; do
+    cc c/versions.c $order "$room/other/libaeadkit.a" -o "$room/versions"
+    "$room/versions" || { echo "of two archives in one program ($order) a caller gets the wrong one" >&2; exit 1; }
 done
 echo "ok: two versions of the library in one process, shared and as archives"
 

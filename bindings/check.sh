@@ -53,6 +53,13 @@ called=$(nm -D --undefined-only "$out/libaeadkit.so" | awk '$1 == "U" { print $2
 [ -z "$called" ] || { echo "the library calls $called" >&2; exit 1; }
 soname=libaeadkit.so.${version%%.*}
 objdump -p "$out/libaeadkit.so" | grep -q "SONAME *$soname\$" || { echo "the library is not named $soname" >&2; exit 1; }
+# The archive has the same names, which are hidden from whoever does not link it, and no others.
+wanted=$(grep -oE 'aeadkit_[a-z_]+' exports.map | sort | sed 's/$/ HIDDEN/')
+for archive in "$out/libaeadkit.a" "$out/x86-64-v3/libaeadkit.a"; do
+    [ -e "$archive" ] || continue
+    named=$(readelf -sW "$archive" | awk '($5 == "GLOBAL" || $5 == "WEAK") && $7 != "UND" { print $8, $6 }' | sort)
+    [ "$named" = "$wanted" ] || { echo "$archive has the names $named" >&2; exit 1; }
+done
 echo "ok: $soname exports, as names of $node, $(echo "$exported" | sed "s/@@$node//g")"
 
 if makes "$room/probe.c" cc; then

@@ -52,24 +52,40 @@ fit() {
     cp "$source" "$2/crates/target/src/lib.rt"
 }
 
-# Builds FOLDER/libaeadkit.a of the copy: archive REPOSITORY ROOM FOLDER [rattle's flags]
+# Builds ROOM/aeadkit.a of the copy, and FOLDER/libaeadkit.a from it: archive REPOSITORY ROOM FOLDER EXPORTS [rattle's flags]
 # `rt lib` proves before it builds, so what is linked is proved. Functions start at multiples of 64 bytes: otherwise the speed of
 # one depends on the length of those before it, since some processors are slow at a jump across a multiple of 32 bytes.
 archive() {
     repository=$1
     room=$2
     folder=$3
-    shift 3
+    exports=$4
+    shift 4
     fit "$repository" "$room" "$@"
     proved "$room" capi lib "$@"
-    objcopy -w --set-section-alignment '.text.*=64' "$room/crates/capi/out/libcapi.a" "$folder/libaeadkit.a"
+    objcopy -w --set-section-alignment '.text.*=64' "$room/crates/capi/out/libcapi.a" "$room/aeadkit.a"
+    hidden "$room" "$folder" "$exports"
 }
 
-# Links an archive as FOLDER/libaeadkit.so, under the name that its version says: shared ARCHIVE FOLDER VERSION EXPORTS
+# Makes FOLDER/libaeadkit.a of ROOM/aeadkit.a: hidden ROOM FOLDER EXPORTS
+# Its only global names are the exported ones, and here they become hidden: a program or a plug-in that links the archive keeps
+# them to itself. Otherwise other libraries in the process would call it, whichever version they were linked with. A name is
+# hidden if one of the objects that are linked says so.
+hidden() {
+    {
+        grep -oE 'aeadkit_[a-z_]+' "$3" | sed 's/.*/.globl &\n.hidden &/'
+        echo '.section .note.GNU-stack,"",@progbits'
+    } | cc -x assembler -c - -o "$1/hidden.o"
+    ld -r -o "$1/aeadkit.o" --whole-archive "$1/aeadkit.a" "$1/hidden.o"
+    rm -f "$2/libaeadkit.a"
+    ar rcs "$2/libaeadkit.a" "$1/aeadkit.o"
+}
+
+# Links ROOM/aeadkit.a as FOLDER/libaeadkit.so, under the name that its version says: shared ROOM FOLDER VERSION EXPORTS
 # What it calls of the C library is bound when it is loaded, and not on the stack of a first call.
 shared() {
     name=libaeadkit.so.${3%%.*}
-    cc -shared -o "$2/libaeadkit.so.$3" -Wl,-soname,"$name" -Wl,-z,now -Wl,--whole-archive "$1" -Wl,--no-whole-archive \
+    cc -shared -o "$2/libaeadkit.so.$3" -Wl,-soname,"$name" -Wl,-z,now -Wl,--whole-archive "$1/aeadkit.a" -Wl,--no-whole-archive \
         -Wl,--no-undefined-version -Wl,--version-script="$4"
     ln -sf "libaeadkit.so.$3" "$2/$name"
     ln -sf "$name" "$2/libaeadkit.so"

@@ -120,6 +120,23 @@ refused 2 check key "$label" "a text" out
 refused 3 seal key "$label" no-text.txt out
 refused 3 seal key "$label" "a text" no-folder/out
 (ulimit -f 16; refused 3 seal key "$label" "a text" out)
+# two runs at once with one OUT, of two texts: one of them is refused, and what the other made opens
+cat > slow <<END
+#!/bin/sh
+sleep 1
+exec "$prefix/bin/aeadkit" "\$@"
+END
+chmod +x slow
+for text in "a text" -other; do
+    {
+        AEADKIT=./slow "$here/examples/files.sh" seal key "$label" "$text" both 2> "$text.fault" && status=0 || status=$?
+        echo $status > "$text.status"
+    } &
+done
+wait
+[ "$(sort -- "a text.status" ./-other.status | tr '\n' ' ')" = "0 2 " ] || { echo "two runs at once made one file" >&2; exit 1; }
+want 0 open key "$label" both opened-both
+cmp -s opened-both "a text" || cmp -- opened-both -other
 echo "ok: files by a script, whole, damaged, cut and exchanged"
 
 # The two builds of the program say the same version, and seal and open a file to the same bytes. bin has one of them.

@@ -65,12 +65,15 @@ in_crate user test
 cp -R "$prefix/share/aeadkit/rust" "$room/aeadkit"
 (export AEADKIT_PREFIX="$prefix" && in_crate aeadkit test --doc && in_crate aeadkit doc)
 
-# What does not compile: a tag or a saved sealing that is dropped, exchanged bytes and associated data in place, a nonce of another
-# length, a copy of a state, a sealing that goes on after it was saved, and the calls of 2.1 that took room for a tag.
+# What does not compile: a tag or a saved sealing that is dropped, a text exchanged with its associated data, a key to wrap
+# exchanged with the key that wraps it, a nonce of another length, a copy of a state, a sealing that goes on after it was saved,
+# and the calls of 2.1 that took room for a tag.
 user wrong
 # Whether a line compiles: compiles LINE
 compiles() {
-    printf 'fn main() -> Result<(), aeadkit::Fault> {
+    printf '#![allow(unused_imports, unused_mut)]
+use aeadkit::{Aad, WrappingKey};
+fn main() -> Result<(), aeadkit::Fault> {
     let (key, mut text) = (aeadkit::Key::new(aeadkit::Suite::Aes128Gcm, &[0; 16])?, [0; 32]);
     %s
     Ok(())
@@ -82,18 +85,30 @@ refused() {
     ! compiles "$2" || { echo "this compiles: $2" >&2; exit 1; }
     grep -q "$1" "$room/log" || { cat "$room/log" >&2; exit 1; }
 }
-compiles 'let tag = key.seal_in_place(&[0; 12], &mut text, b"aad")?; key.open_in_place(&[0; 12], &mut text, &tag, b"aad")?;' \
+compiles 'let (nonce, aad) = ([0; 12], Aad(b"aad"));
+    let tag = key.seal_in_place(&nonce, &mut text, aad)?; key.open_in_place(&nonce, &mut text, &tag, aad)?;' \
     || { cat "$room/log" >&2; exit 1; }
-compiles 'key.seal(&[0; 12], b"a text", &mut text[..22], b"aad")?;' || { cat "$room/log" >&2; exit 1; }
-refused 'unused `Tag` that must be used' 'key.seal_in_place(&[0; 12], &mut text, b"aad")?;'
-refused 'unused `Tag` that must be used' 'key.sealer(&[0; 12], b"aad")?.finish();'
-refused 'unused `Sealer` that must be used' 'key.sealer(&[0; 12], b"aad")?;'
-refused 'that must be used' 'key.sealer(&[0; 12], b"aad")?.save();'
+compiles 'key.seal(&[0; 12], b"a text", &mut text[..22], Aad(b"aad"))?;' || { cat "$room/log" >&2; exit 1; }
+compiles 'let wrapped = aeadkit::wrap_to_vec(WrappingKey(&[0; 16]), &text)?; key.seal_to_vec(&[0; 12], &wrapped, Aad::empty())?;' \
+    || { cat "$room/log" >&2; exit 1; }
+refused 'unused `Tag` that must be used' 'key.seal_in_place(&[0; 12], &mut text, Aad(b"aad"))?;'
+refused 'unused `Tag` that must be used' 'key.sealer(&[0; 12], Aad(b"aad"))?.finish();'
+refused 'unused `Sealer` that must be used' 'key.sealer(&[0; 12], Aad(b"aad"))?;'
+refused 'that must be used' 'key.sealer(&[0; 12], Aad(b"aad"))?.save();'
 refused E0308 'let _ = key.seal_in_place(&[0; 12], b"aad", &mut text)?;'
-refused E0308 'let _ = key.seal_in_place(&[0; 13], &mut text, b"aad")?;'
-refused E0308 'let _ = key.seal_in_place(&[0; 12][..], &mut text, b"aad")?;'
-refused E0599 'let sealer = key.sealer(&[0; 12], b"aad")?; let _ = sealer.clone().finish();'
-refused E0382 'let sealer = key.sealer(&[0; 12], b"aad")?; let _ = sealer.save(); let _ = sealer.finish();'
+refused E0308 'key.seal_to_vec(&[0; 12], Aad(b"aad"), &text)?;'
+for call in seal_to_vec open_to_vec; do
+    refused E0308 "key.$call(&[0; 12], b\"aad\", &text)?;"
+    refused E0308 "aeadkit::$call(key.suite(), &[0; 16], &[0; 12], b\"aad\", &text)?;"
+done
+for call in wrap_to_vec unwrap_to_vec wrap_padded_to_vec unwrap_padded_to_vec; do
+    refused E0308 "aeadkit::$call(&text, &[0; 16])?;"
+    refused E0308 "aeadkit::$call(&text, WrappingKey(&[0; 16]))?;"
+done
+refused E0308 'let _ = key.seal_in_place(&[0; 13], &mut text, Aad(b"aad"))?;'
+refused E0308 'let _ = key.seal_in_place(&[0; 12][..], &mut text, Aad(b"aad"))?;'
+refused E0599 'let sealer = key.sealer(&[0; 12], Aad(b"aad"))?; let _ = sealer.clone().finish();'
+refused E0382 'let sealer = key.sealer(&[0; 12], Aad(b"aad"))?; let _ = sealer.save(); let _ = sealer.finish();'
 refused E0061 'key.seal(&[0; 12], &mut text, b"aad")?;'
 refused E0061 'key.open(&[0; 12], &mut text, b"aad")?;'
 refused E0061 'aeadkit::wrap(&[0; 16], &mut text)?;'
@@ -102,8 +117,11 @@ refused E0599 'let mut text = text.to_vec(); key.seal_vec(&[0; 12], &mut text, b
 
 # A library of another version: one that says so, and one as before 3.0, whose calls have the same names and other arguments.
 user other
-echo 'fn main() { println!("{:?}", aeadkit::seal_to_vec(aeadkit::Suite::Aes128Gcm, &[0; 16], &[0; 12], b"a text", b"")); }' \
-    > "$room/other/src/main.rs"
+cat > "$room/other/src/main.rs" <<'RUST'
+fn main() {
+    println!("{:?}", aeadkit::seal_to_vec(aeadkit::Suite::Aes128Gcm, &[0; 16], &[0; 12], b"a text", aeadkit::Aad::empty()));
+}
+RUST
 not_linked() {
     ! (cd "$room/other" && AEADKIT_PREFIX="$room/$1" cargo build --quiet --offline) > "$room/log" 2>&1 \
         || { echo "the crate is linked with a library of another version" >&2; exit 1; }
@@ -126,7 +144,7 @@ cat > "$room/bare/src/main.rs" <<'RUST'
 #![no_std]
 #![no_main]
 
-use aeadkit::{Fault, Key, Suite};
+use aeadkit::{Aad, Fault, Key, Suite};
 
 #[link(name = "c")]
 unsafe extern "C" {}
@@ -138,8 +156,8 @@ fn panic(_: &core::panic::PanicInfo<'_>) -> ! {
 
 fn there_and_back(key: &Key) -> Result<bool, Fault> {
     let mut text = *b"a text of more than sixteen bytes";
-    let tag = key.seal_in_place(&[9; 12], &mut text, b"aad")?;
-    key.open_in_place(&[9; 12], &mut text, &tag, b"aad")?;
+    let tag = key.seal_in_place(&[9; 12], &mut text, Aad(b"aad"))?;
+    key.open_in_place(&[9; 12], &mut text, &tag, Aad(b"aad"))?;
     Ok(text == *b"a text of more than sixteen bytes")
 }
 

@@ -61,12 +61,15 @@ trap 'exit 3' HUP INT TERM
 case $1 in
 seal)
     how=$out.how
-    [ ! -e "$how" ] || fail 2 "$how exists"
+    # made at once or not at all: of two runs with one OUT, each could otherwise leave one of the two files
+    (set -C && : > "$how") 2> /dev/null || fail 2 "$how exists"
+    trap 'rm -f "$new" "$new.how" "$how"' EXIT
     nonce=$(od -An -v -tx1 -N12 /dev/urandom | tr -d ' \n')
     run seal-file
     printf 'suite=%s\nnonce=%s\nlabel=%s\n' "$suite" "$nonce" "$label" > "$new.how" || fail 3 "$how can't be written"
     sync # a sealed file whose nonce is lost is lost too
     mv "$new.how" "$how" || fail 3 "$how can't be written"
+    trap 'rm -f "$new"' EXIT
     ;;
 open)
     how=$in.how

@@ -406,8 +406,9 @@ export class KeyWrap {
     constructor(bytes: ArrayBuffer | ArrayBufferView);
 
     /**
-     * Returns the wrapping of a text, which is 8 bytes longer (RFC 3394). Throws `WrapLength` if the text is shorter than 16 bytes,
-     * or its length is not a multiple of 8.
+     * Returns the wrapping of a text, which is 8 bytes longer (RFC 3394). The key that wraps comes first: if two keys of one length
+     * are exchanged, the wrong one is wrapped, and nothing shows it before the unwrapping. Throws `WrapLength` if the text is
+     * shorter than 16 bytes, or its length is not a multiple of 8.
      */
     wrap(key: Uint8Array, text: Uint8Array): Uint8Array;
 

@@ -100,40 +100,50 @@ const FAULTS = {
     13: SourceChanged, 14: UnknownSuite, 15: NotBegun,
 };
 
-// Throws if an argument is not bytes. An array whose memory is gone has the length 0, but is no empty text: its buffer was
-// transferred, as to a worker, or became shorter.
+// What every typed array says of itself. A subclass, a property of an array or a Proxy may say something else: another length,
+// another one each time, or after a call to the same module, whose memory holds the bytes of this call.
+const TypedArray = Object.getPrototypeOf(Uint8Array.prototype);
+const [kindOf, lengthOf, bufferOf, offsetOf] = [Symbol.toStringTag, "length", "buffer", "byteOffset"]
+    .map((name) => Object.getOwnPropertyDescriptor(TypedArray, name).get);
+
+// Returns the arguments as plain Uint8Arrays over the same memory. Throws if one is not a Uint8Array. An array whose memory is
+// gone has the length 0, but is no empty text: its buffer was transferred, as to a worker, or became shorter.
 function wantBytes(...arrays) {
-    for (const array of arrays) {
-        if (!(array instanceof Uint8Array)) {
+    return arrays.map((array) => {
+        if (kindOf.call(array) !== "Uint8Array") {
             throw new TypeError("a Uint8Array is required");
         }
-        if (array.length === 0) {
+        const length = lengthOf.call(array);
+        if (length === 0) {
             try {
                 Uint8Array.prototype.keys.call(array);
             } catch {
                 throw new TypeError("the memory of a Uint8Array is gone: its buffer was transferred or became shorter");
             }
         }
-    }
+        return new Uint8Array(bufferOf.call(array), offsetOf.call(array), length);
+    });
 }
 
-// Returns the associated data that options name, which is empty if they name none. Throws if they are not a plain object, as in a
-// call of version 2.0, whose last argument was a Uint8Array, or if they have a key of another name.
+// Returns the associated data that options name, which is empty if they name none. Throws if they are not a plain object, as in
+// a call of version 2.0, whose last argument was a Uint8Array, or if they have a key of another name, or if it is not a
+// Uint8Array.
 function aadOf(options) {
     if (options === null || ![Object.prototype, null].includes(Object.getPrototypeOf(options))
         || Reflect.ownKeys(options).some((name) => name !== "aad")) {
         throw new TypeError("associated data is given by name: { aad }");
     }
     const aad = Object.hasOwn(options, "aad") ? options.aad : undefined;
-    return aad === undefined ? new Uint8Array(0) : aad;
+    return aad === undefined ? new Uint8Array(0) : wantBytes(aad)[0];
 }
 
-// Throws if a tag is not a Uint8Array of 16 bytes.
+// Returns a tag as a plain Uint8Array. Throws if it is not a Uint8Array of 16 bytes.
 function wantTag(tag) {
-    wantBytes(tag);
-    if (tag.length !== TAG_BYTES) {
+    const [bytes] = wantBytes(tag);
+    if (bytes.length !== TAG_BYTES) {
         throw new TagLength();
     }
+    return bytes;
 }
 
 // Throws if a suite is not a number, which a module would read as one.
@@ -169,16 +179,23 @@ const struct = (bytes) => ({ from: bytes, to: bytes, hasLength: false });
 
 // A module with its own memory. The bytes of a call stand past what the module itself uses; between two calls there are zeros.
 class Module {
+    #begin;
+    #exports;
+    #heap;
+
     constructor(bytes) {
-        this.exports = new WebAssembly.Instance(new WebAssembly.Module(bytes), {}).exports;
-        this.heap = aligned(Number(this.exports.__heap_base.value));
+        const module = new WebAssembly.Module(bytes);
+        this.#begin = () => new WebAssembly.Instance(module, {}).exports;
+        this.#exports = this.#begin();
+        this.#heap = aligned(Number(this.#exports.__heap_base.value));
     }
 
     // Calls with bytes and numbers, and returns what the call returns.
     invoke(name, ...words) {
-        const { memory } = this.exports;
+        const exports = this.#exports ??= this.#begin();
+        const { memory } = exports;
         const placed = [];
-        let end = this.heap;
+        let end = this.#heap;
         const given = words.flatMap((word) => {
             if (typeof word === "number") {
                 return [word];
@@ -194,10 +211,14 @@ class Module {
             grow(memory, Math.ceil((end - memory.buffer.byteLength) / 65536));
         }
         const standing = ({ place, length }) => new Uint8Array(memory.buffer, place, length);
+        // What does not return, as where the host's stack is full, leaves the module in the middle of a call: it would trap at each
+        // later one. So the next call begins with a new memory. A state is in its struct, which is changed last of all.
+        this.#exports = undefined;
         placed.filter(({ from }) => from).forEach((bytes) => standing(bytes).set(bytes.from));
-        const returned = this.exports[name](...given);
-        placed.filter(({ to }) => to).forEach((bytes) => bytes.to.set(standing(bytes)));
-        new Uint8Array(memory.buffer, this.heap, end - this.heap).fill(0);
+        const returned = exports[name](...given);
+        placed.filter(({ to }) => to).reverse().forEach((bytes) => bytes.to.set(standing(bytes)));
+        new Uint8Array(memory.buffer, this.#heap, end - this.#heap).fill(0);
+        this.#exports = exports;
         return returned;
     }
 
@@ -225,7 +246,7 @@ class Struct {
     // Begins a struct of a kind by a call.
     constructor(module, kind, name, ...words) {
         this.#module = module;
-        this.#bytes = new Uint8Array(Number(module.exports[`aeadkit_${kind}_size`]()));
+        this.#bytes = new Uint8Array(Number(module.invoke(`aeadkit_${kind}_size`)));
         this.call(name, ...words);
     }
 
@@ -297,7 +318,7 @@ export class Aead {
     /** Returns the ciphertext and then the tag of 16 bytes. Never use a nonce twice under one key. */
     seal(suite, key, nonce, text, options = {}) {
         const aad = aadOf(options);
-        wantBytes(key, nonce, text, aad);
+        [key, nonce, text] = wantBytes(key, nonce, text);
         wantNumber(suite);
         return this.#module.made(text.length + TAG_BYTES, "aeadkit_seal", suite, key, nonce, aad, text);
     }
@@ -305,7 +326,7 @@ export class Aead {
     /** Returns the text of what `seal` made. */
     open(suite, key, nonce, sealed, options = {}) {
         const aad = aadOf(options);
-        wantBytes(key, nonce, sealed, aad);
+        [key, nonce, sealed] = wantBytes(key, nonce, sealed);
         wantNumber(suite);
         return this.#module.made(Math.max(0, sealed.length - TAG_BYTES), "aeadkit_open", suite, key, nonce, aad, sealed);
     }
@@ -313,7 +334,7 @@ export class Aead {
     /** Seals a text where it stands, and returns the tag of 16 bytes. Never use a nonce twice under one key. */
     sealInPlace(suite, key, nonce, text, options = {}) {
         const aad = aadOf(options);
-        wantBytes(key, nonce, text, aad);
+        [key, nonce, text] = wantBytes(key, nonce, text);
         wantNumber(suite);
         const tag = new Uint8Array(TAG_BYTES);
         this.#module.call("aeadkit_seal_in_place", suite, key, nonce, aad, inPlace(text), result(tag));
@@ -323,8 +344,8 @@ export class Aead {
     /** Opens a ciphertext where it stands, with its tag of 16 bytes. */
     openInPlace(suite, key, nonce, ciphertext, tag, options = {}) {
         const aad = aadOf(options);
-        wantBytes(key, nonce, ciphertext, aad);
-        wantTag(tag);
+        [key, nonce, ciphertext] = wantBytes(key, nonce, ciphertext);
+        tag = wantTag(tag);
         wantNumber(suite);
         this.#module.call("aeadkit_open_in_place", suite, key, nonce, aad, inPlace(ciphertext), constant(tag));
     }
@@ -381,7 +402,7 @@ export class Key {
 
     constructor(aead, suite, key) {
         this.#module = moduleOf(aead);
-        wantBytes(key);
+        [key] = wantBytes(key);
         wantNumber(suite);
         this.#suite = suite;
         this.#struct = new Struct(this.#module, "key", "aeadkit_key_init", suite, key);
@@ -395,14 +416,14 @@ export class Key {
     /** Returns the ciphertext and then the tag of 16 bytes. Never use a nonce twice under one key. */
     seal(nonce, text, options = {}) {
         const aad = aadOf(options);
-        wantBytes(nonce, text, aad);
+        [nonce, text] = wantBytes(nonce, text);
         return this.#module.made(text.length + TAG_BYTES, "aeadkit_seal_with", this.#struct.constant, nonce, aad, text);
     }
 
     /** Returns the text of what `seal` made. */
     open(nonce, sealed, options = {}) {
         const aad = aadOf(options);
-        wantBytes(nonce, sealed, aad);
+        [nonce, sealed] = wantBytes(nonce, sealed);
         const length = Math.max(0, sealed.length - TAG_BYTES);
         return this.#module.made(length, "aeadkit_open_with", this.#struct.constant, nonce, aad, sealed);
     }
@@ -410,7 +431,7 @@ export class Key {
     /** Seals a text where it stands, and returns the tag of 16 bytes. Never use a nonce twice under one key. */
     sealInPlace(nonce, text, options = {}) {
         const aad = aadOf(options);
-        wantBytes(nonce, text, aad);
+        [nonce, text] = wantBytes(nonce, text);
         const tag = new Uint8Array(TAG_BYTES);
         this.#module.call("aeadkit_seal_in_place_with", this.#struct.constant, nonce, aad, inPlace(text), result(tag));
         return tag;
@@ -419,23 +440,23 @@ export class Key {
     /** Opens a ciphertext where it stands, with its tag of 16 bytes. */
     openInPlace(nonce, ciphertext, tag, options = {}) {
         const aad = aadOf(options);
-        wantBytes(nonce, ciphertext, aad);
-        wantTag(tag);
+        [nonce, ciphertext] = wantBytes(nonce, ciphertext);
+        tag = wantTag(tag);
         this.#module.call("aeadkit_open_in_place_with", this.#struct.constant, nonce, aad, inPlace(ciphertext), constant(tag));
     }
 
     /** Begins a sealing in pieces, of an empty text so far. Never use a nonce twice under one key. */
     sealer(nonce, options = {}) {
         const aad = aadOf(options);
-        wantBytes(nonce, aad);
+        [nonce] = wantBytes(nonce);
         return new Sealer(new Struct(this.#module, "sealer", "aeadkit_sealer_init_with", this.#struct.constant, nonce, aad));
     }
 
     /** Begins an opening in pieces of a ciphertext with a tag of 16 bytes. */
     opener(nonce, tag, options = {}) {
         const aad = aadOf(options);
-        wantBytes(nonce, aad);
-        wantTag(tag);
+        [nonce] = wantBytes(nonce);
+        tag = wantTag(tag);
         const words = [this.#struct.constant, nonce, aad, constant(tag)];
         return new Opener(new Struct(this.#module, "opener", "aeadkit_opener_init_with", ...words));
     }
@@ -443,7 +464,7 @@ export class Key {
     /** Begins a sealing in pieces under AES-GCM-SIV, of an empty text so far. Never use a nonce twice under one key. */
     sivSealer(nonce, options = {}) {
         const aad = aadOf(options);
-        wantBytes(nonce, aad);
+        [nonce] = wantBytes(nonce);
         return new SivSealer(new Struct(this.#module, "siv", "aeadkit_siv_init_with", this.#struct.constant, nonce, aad));
     }
 
@@ -466,14 +487,14 @@ export class Sealer {
         }
         const module = moduleOf(aead);
         const aad = aadOf(options);
-        wantBytes(key, nonce, aad);
+        [key, nonce] = wantBytes(key, nonce);
         wantNumber(suite);
         this.#struct = new Struct(module, "sealer", "aeadkit_sealer_init", suite, key, nonce, aad);
     }
 
     /** Returns the ciphertext of the next piece of the text, of any length. */
     update(piece) {
-        wantBytes(piece);
+        [piece] = wantBytes(piece);
         return this.#struct.changed("aeadkit_sealer_update", piece);
     }
 
@@ -516,15 +537,15 @@ export class Opener {
         }
         const module = moduleOf(aead);
         const aad = aadOf(options);
-        wantBytes(key, nonce, aad);
-        wantTag(tag);
+        [key, nonce] = wantBytes(key, nonce);
+        tag = wantTag(tag);
         wantNumber(suite);
         this.#struct = new Struct(module, "opener", "aeadkit_opener_init", suite, key, nonce, aad, constant(tag));
     }
 
     /** Takes the next piece of the ciphertext in the first pass. */
     check(piece) {
-        wantBytes(piece);
+        [piece] = wantBytes(piece);
         this.#struct.call("aeadkit_opener_check", piece);
     }
 
@@ -535,7 +556,7 @@ export class Opener {
 
     /** Returns the text of the next piece of the ciphertext in the second pass. */
     update(piece) {
-        wantBytes(piece);
+        [piece] = wantBytes(piece);
         return this.#struct.changed("aeadkit_opener_update", piece);
     }
 
@@ -576,14 +597,14 @@ export class SivSealer {
         }
         const module = moduleOf(aead);
         const aad = aadOf(options);
-        wantBytes(key, nonce, aad);
+        [key, nonce] = wantBytes(key, nonce);
         wantNumber(suite);
         this.#struct = new Struct(module, "siv", "aeadkit_siv_init", suite, key, nonce, aad);
     }
 
     /** Takes the next piece of the text in the first reading. */
     absorb(piece) {
-        wantBytes(piece);
+        [piece] = wantBytes(piece);
         this.#struct.call("aeadkit_siv_absorb", piece);
     }
 
@@ -594,7 +615,7 @@ export class SivSealer {
 
     /** Returns the ciphertext of the next piece of the text in the second reading. */
     update(piece) {
-        wantBytes(piece);
+        [piece] = wantBytes(piece);
         return this.#struct.changed("aeadkit_siv_update", piece);
     }
 
@@ -631,25 +652,25 @@ export class KeyWrap {
 
     /** Returns the wrapping of a text, which is 8 bytes longer. */
     wrap(key, text) {
-        wantBytes(key, text);
+        [key, text] = wantBytes(key, text);
         return this.#module.made(text.length + WRAP_BYTES, "aeadkit_wrap", key, text);
     }
 
     /** Returns the text of what `wrap` made. */
     unwrap(key, wrapped) {
-        wantBytes(key, wrapped);
+        [key, wrapped] = wantBytes(key, wrapped);
         return this.#module.made(Math.max(0, wrapped.length - WRAP_BYTES), "aeadkit_unwrap", key, wrapped);
     }
 
     /** Returns the wrapping with padding of a text of 1 to 2^32 - 1 bytes. */
     wrapPadded(key, text) {
-        wantBytes(key, text);
+        [key, text] = wantBytes(key, text);
         return this.#module.made(aligned(text.length) + WRAP_BYTES, "aeadkit_wrap_padded", key, text);
     }
 
     /** Returns the text of what `wrapPadded` made. */
     unwrapPadded(key, wrapped) {
-        wantBytes(key, wrapped);
+        [key, wrapped] = wantBytes(key, wrapped);
         const text = new Uint8Array(Math.max(0, wrapped.length - WRAP_BYTES));
         const length = new Uint8Array(8);
         this.#module.call("aeadkit_unwrap_padded", key, wrapped, output(text), result(length));

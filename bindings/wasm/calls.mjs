@@ -2,6 +2,7 @@
 
 import assert from "node:assert";
 import { readFileSync } from "node:fs";
+import { runInNewContext } from "node:vm";
 import { MessageChannel, receiveMessageOnPort } from "node:worker_threads";
 import * as aeadkit from "aeadkit/node";
 
@@ -336,3 +337,97 @@ for (const other of [transferred, shortened]) {
         assert(isZero());
     }
 }
+
+// What an array says of itself does not count: a subclass and a property may say another length, or keep the results to
+// themselves. An array of another realm, as of a frame, is a Uint8Array too.
+class Odd extends Uint8Array {
+    get length() {
+        return 5;
+    }
+
+    set() {}
+}
+for (const kind of [
+    (bytes) => {
+        const made = new Odd(bytes.length);
+        Uint8Array.prototype.set.call(made, bytes);
+        return made;
+    },
+    (bytes) => Object.defineProperty(bytes.slice(), "length", { value: 99 }),
+    (bytes) => Object.defineProperty(bytes.slice(), "set", { value: () => {} }),
+    (bytes) => runInNewContext("Uint8Array.from(bytes)", { bytes }),
+]) {
+    assert.deepEqual(kept.seal(kind(nonce), kind(text), { aad: kind(aad) }), sealed);
+    assert.deepEqual(new Key(aead, suite, kind(key)).open(kind(nonce), kind(sealed), { aad: kind(aad) }), text);
+    const changed = kind(text);
+    const itsTag = kept.sealInPlace(nonce, changed, { aad });
+    assert.deepEqual([...new Uint8Array(changed.buffer), ...itsTag], [...sealed]);
+    kept.openInPlace(nonce, changed, kind(itsTag), { aad });
+    assert.deepEqual(new Uint8Array(changed.buffer), text);
+    const sealer = kept.sealer(nonce, { aad });
+    assert.deepEqual([...sealer.update(kind(text)), ...sealer.finish()], [...sealed]);
+    const opener = kept.opener(nonce, kind(itsTag), { aad });
+    opener.check(kind(sealed.slice(0, -16)));
+    opener.beginSecond();
+    assert.deepEqual(opener.update(kind(sealed.slice(0, -16))), text);
+    opener.finish();
+    assert.deepEqual(keywrap.unwrapPadded(kind(key), keywrap.wrapPadded(key, kind(text))), text);
+}
+
+// A Proxy is refused: what it says may change from one look to the next, and a look may call the module, whose memory has the key then.
+const calling = new Proxy(text.slice(), {
+    get(target, name) {
+        aead.seal(suite, new Uint8Array(16), nonce, text);
+        return Reflect.get(target, name);
+    },
+});
+for (const call of [
+    () => kept.seal(nonce, calling), () => kept.seal(nonce, text, { aad: calling }), () => kept.sealInPlace(nonce, calling),
+    () => new Key(aead, suite, calling), () => kept.sealer(nonce).update(calling), () => keywrap.wrap(key, calling),
+    () => kept.seal(nonce, Object.create(text)), () => kept.seal(nonce, Object.create(Uint8Array.prototype)),
+]) {
+    assert.throws(call, { name: "TypeError", message: "a Uint8Array is required" });
+}
+// Options may call the module: what they name is looked at before anything else.
+const options = {
+    get aad() {
+        return kept.seal(nonce, text).subarray(-16);
+    },
+};
+assert.deepEqual(kept.seal(nonce, text, options), kept.seal(nonce, text, { aad: options.aad }));
+
+// A call that the host cuts off, since its stack is full, changes nothing, and what comes after it is right.
+const atTheEndOfTheStack = (call) => {
+    let cut = 0;
+    let made;
+    const deeper = () => {
+        try {
+            deeper();
+        } catch (error) {
+            if (!(error instanceof RangeError)) {
+                throw error;
+            }
+            if (made === undefined) {
+                try {
+                    made = call();
+                } catch (again) {
+                    cut++;
+                    throw again;
+                }
+            }
+        }
+    };
+    deeper();
+    return [cut, made];
+};
+const long = new Uint8Array(3000).fill(5);
+const [longSealed, longSealer] = [kept.seal(nonce, long), kept.sealer(nonce)];
+let cuts = 0;
+const parts = Array.from({ length: 100 }, (_, i) => {
+    const [cut, part] = atTheEndOfTheStack(() => longSealer.update(long.subarray(30 * i, 30 * i + 30)));
+    cuts += cut;
+    return part;
+});
+assert(cuts > 100);
+assert.deepEqual(Buffer.concat([...parts, longSealer.finish()]), Buffer.from(longSealed));
+assert.deepEqual(kept.open(nonce, longSealed), long);

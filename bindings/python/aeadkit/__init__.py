@@ -24,7 +24,9 @@ other thread or process may read or write the buffer during such a call: an open
 sealed. The tag of 16 bytes is separate; the ciphertext and then the tag are the sealing that open takes. If an exception from
 a signal handler, such as KeyboardInterrupt, ends the call, the buffer of seal_in_place is as before, and that of open_in_place
 may hold the text already. A sealing or an opening in pieces is closed if such an exception ends its call on a piece, since
-nobody knows whether the piece was taken.
+nobody knows whether the piece was taken. Python before 3.11 may also raise it between the end of a call and the next step of the
+caller, and a task that is cancelled while it waits for a call in another thread does not get the result either. The result is lost
+then, though the call was done: close the object, and begin anew under another nonce.
 
 A nonce is 12 bytes long. It is not secret, but it must never be used for two sealings under one key, and nothing here notices
 a repeat. Two sealings with one nonce give away the XOR of their texts, and enough to forge messages under the key; under
@@ -33,7 +35,8 @@ not finished. A counter does not repeat if it is stored before it is used. Rando
 a key (SP 800-38D, 8.3).
 
 A call that is refused raises a subclass of Refused. Faults of a suite and of lengths are ValueErrors too. A with statement over
-a sealing or an opening in pieces raises NotFinished if it ends before finish, save or close, and without another exception.
+a sealing or an opening in pieces raises NotFinished if it ends before finish, save or close, and without another exception. If
+such an object is deleted before that, without a with statement, there is a ResourceWarning, which python -X dev shows.
 
 The time that a call takes may depend on secrets, since AES looks tables up by secret bytes. A Key, a Sealer, an Opener and a
 SivSealer wipe the memory in which they hold the key when they are closed or deleted; a with statement closes them. The bytes of
@@ -51,6 +54,7 @@ import os
 import re
 import sys
 import threading
+import warnings
 from typing import Any, Callable, Dict, List, NoReturn, Optional, Tuple, Type, TypeVar, Union
 
 from . import _library
@@ -226,8 +230,9 @@ class Suite(enum.IntEnum):
 def _suite_of(suite: int) -> Suite:
     if type(suite) is Suite:
         return suite
-    # The message shows no other value than a number: it may be a key in the suite's place.
-    if not isinstance(suite, int):
+    # The message shows no other value than a number: it may be a key in the suite's place. True is no number of a suite, and a
+    # member of another enumeration stands for something else.
+    if not isinstance(suite, int) or isinstance(suite, (bool, enum.Enum)):
         raise TypeError(f"a member of Suite is required, not {type(suite).__name__!r}")
     try:
         return Suite(suite)
@@ -337,17 +342,22 @@ def _sealed_in_place(text: Buffer, seal_call: Callable[..., int], open_call: Cal
                      arguments: Tuple[Any, ...]) -> bytes:
     """Seals the bytes of a buffer where they stand, and returns the tag."""
     tag = _Tag()
-    with _writable(text) as room:
+    room = _writable(text)
+    try:
+        status = _in_place(room, seal_call, arguments, tag)
+        if not status:
+            # Nothing comes after this in which a signal handler could run: room is let go of with this frame.
+            return tag.raw
+    except BaseException:
+        # Nobody gets the tag. If there is one, the buffer is sealed, and sealed once more it could be the text again.
         try:
-            status = _in_place(room, seal_call, arguments, tag)
-            if not status:
-                return tag.raw
-        except BaseException:
-            # Nobody gets the tag. If there is one, the buffer is sealed, and sealed once more it could be the text again.
             if any(tag.raw):
                 _in_place(room, open_call, arguments, tag)
+        finally:
+            room.release()
             del arguments
-            raise
+        raise
+    room.release()
     del arguments  # an exception does not keep a key
     _refuse(status)
 
@@ -562,18 +572,26 @@ class _InPieces(_HasStruct):
 
     def _change_in_place(self, function: Callable[..., int], piece: Buffer) -> None:
         """A call that changes the piece where it stands."""
-        with _writable(piece) as room:
-            try:
-                _check(_in_place(room, self._call, (function,)))
-            except BaseException as error:
-                self._end(error)
-                raise
+        room = _writable(piece)
+        try:
+            _check(_in_place(room, self._call, (function,)))
+            room.release()
+        except BaseException as error:
+            room.release()
+            self._end(error)
+            raise
 
     def __exit__(self, kind: object = None, *exception: object) -> None:
         struct = self._struct
         self.close()
         if kind is None and self._unfinished and struct is not None and not struct.is_forked():
             raise NotFinished()
+
+    def __del__(self, _warn: Callable[..., None] = warnings.warn) -> None:
+        # as of a file that was not closed: python -X dev and test runners show it
+        struct = self._struct
+        if self._unfinished and struct is not None and not struct.is_forked():
+            _warn(f"a {type(self).__name__} was given up before finish, save or close", ResourceWarning, source=self)
 
     def _end(self, error: BaseException) -> None:
         """Closes the object, also for the calls of other threads, unless the library or the package refused a call."""
@@ -963,6 +981,9 @@ class SivSealer(_Saves):
 
 def wrap(key: Buffer, text: Buffer) -> bytes:
     """Returns the wrapping of a text, such as another key, under an AES key of 16, 24 or 32 bytes. It is 8 bytes longer.
+
+    The key that wraps comes first. If two keys of one length are exchanged, the wrong one is wrapped, and nothing shows it before
+    the unwrapping: wrap(key=.., text=..) says which is which.
 
     Raises KeyLength; or WrapLength if the text's length is not a multiple of 8, or less than 16.
     """

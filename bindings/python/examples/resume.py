@@ -3,8 +3,9 @@
 KEYFILE holds 32 bytes. OUT becomes the nonce, the ciphertext and the tag. If the program is stopped at any time, run it again:
 each turn of its loop begins with the step in OUT.step, so a restart is a turn like any other. A step has a piece of OUT, and
 the state that comes after the piece. The next step replaces it on the disk before its own piece is written to OUT: of what is
-sealed from one state no two pieces are ever seen, even if IN is changed between two runs. Two runs at once would go on from one
-state: the second one is refused.
+sealed from one state no two pieces are ever seen, even if IN is changed between two runs. But OUT would then be the sealing of
+a text that never was: if IN has another length or time of change than at first, it is refused. Two runs at once would go on
+from one state: the second one is refused.
 
 OUT.step is as secret as KEYFILE, and must lie where nobody else can write. It is removed when OUT is whole.
 """
@@ -13,6 +14,7 @@ import fcntl
 import json
 import os
 import sys
+from typing import BinaryIO, List
 
 from aeadkit import Sealer, Suite
 
@@ -31,6 +33,12 @@ def store(path: str, step: object) -> None:
     os.close(folder)
 
 
+def state_of(file: BinaryIO) -> List[int]:
+    """What differs after a file was changed, or if it is another one."""
+    found = os.fstat(file.fileno())
+    return [found.st_size, found.st_mtime_ns]
+
+
 def seal_file(key: bytes, source_name: str, target_name: str) -> None:
     path = target_name + ".step"
     flags = os.O_RDWR | os.O_CREAT
@@ -41,20 +49,22 @@ def seal_file(key: bytes, source_name: str, target_name: str) -> None:
         if not os.path.exists(path):
             target.truncate()
             nonce = os.urandom(NONCE)
-            store(path, [nonce.hex(), 0, nonce.hex(), Sealer(SUITE, key, nonce).save().hex()])
+            store(path, [state_of(source), nonce.hex(), 0, nonce.hex(), Sealer(SUITE, key, nonce).save().hex()])
         while True:
             with open(path) as file:
-                hex_nonce, at, piece, saved = json.load(file)
+                first_state, hex_nonce, at, piece, saved = json.load(file)
             target.seek(at)
             target.write(bytes.fromhex(piece))
             target.flush()
             os.fsync(target.fileno())
             if not saved:
                 return os.remove(path)
+            if state_of(source) != first_state:
+                raise ValueError("IN is not as it was: remove OUT.step to begin anew")
             source.seek(target.tell() - NONCE)
             text, sealer = source.read(PIECE), Sealer.resume(SUITE, key, bytes.fromhex(hex_nonce), bytes.fromhex(saved))
             piece = sealer.update(text) if text else sealer.finish()
-            store(path, [hex_nonce, target.tell(), piece.hex(), sealer.save().hex() if text else ""])
+            store(path, [first_state, hex_nonce, target.tell(), piece.hex(), sealer.save().hex() if text else ""])
 
 
 if __name__ == "__main__":

@@ -48,18 +48,28 @@ def read(source: BinaryIO, size: int) -> bytes:
     return b"".join(parts)
 
 
+def write(target: BinaryIO, data: bytes) -> None:
+    """Writes all of the bytes: a stream without a buffer, such as the output of python -u, may take fewer of them."""
+    left = memoryview(data)
+    while left:
+        taken = target.write(left)
+        if taken is None:  # a pipe that does not wait, and is full
+            raise BlockingIOError("the output does not wait for more")
+        left = left[taken:]
+
+
 def seal(master: bytes, label: bytes, source: BinaryIO, target: BinaryIO) -> None:
     secret = os.urandom(32)
-    target.write(wrap(master, secret))
+    write(target, wrap(master, secret))
     key = Key(Suite.CHACHA20_POLY1305, secret)
     for nonce, text in segments(source, SEGMENT):
-        target.write(key.seal(nonce, text, aad=label))
+        write(target, key.seal(nonce, text, aad=label))
 
 
 def open_sealed(master: bytes, label: bytes, source: BinaryIO, target: BinaryIO) -> None:
     key = Key(Suite.CHACHA20_POLY1305, unwrap(master, read(source, WRAPPED)))
     for nonce, sealed in segments(source, SEGMENT + TAG):
-        target.write(key.open(nonce, sealed, aad=label))
+        write(target, key.open(nonce, sealed, aad=label))
 
 
 def main() -> None:

@@ -2,12 +2,16 @@
 
 import builtins
 import doctest
+import enum
 import inspect
+import itertools
+import numbers
 import pickle
 import subprocess
 import sys
 import unittest
 import unittest.mock
+import warnings
 
 import aeadkit
 from aeadkit import Key, Opener, Sealer, SivSealer, Suite
@@ -87,6 +91,14 @@ class Arguments(unittest.TestCase):
             self.assertNotIn("secret", shown)
             self.assertIsNone(context.exception.__context__)
         self.assertEqual(aeadkit.seal(4, KEY, NONCE, TEXT, aad=b"aad"), SEALED)
+
+    def test_what_counts_as_a_number_but_stands_for_something_else(self):
+        other = enum.IntEnum("Other", "AES_256_GCM CHACHA20_POLY1305")
+        for suite in (True, False, other.AES_256_GCM, enum.IntFlag("Flag", "ONE").ONE, 1.0, 4 + 0j, "4", numbers.Number()):
+            for call in (lambda: aeadkit.seal(suite, KEY, NONCE, TEXT), lambda: Key(suite, KEY), lambda: Sealer(suite, KEY, NONCE),
+                         lambda: aeadkit.open(suite, KEY, NONCE, SEALED), lambda: Opener(suite, KEY, NONCE, bytes(16)),
+                         lambda: SivSealer(suite, KEY, NONCE), lambda: Sealer.resume(suite, KEY, NONCE, bytes(96))):
+                self.assertRaisesRegex(TypeError, "a member of Suite is required", call)
 
 
 class Results(unittest.TestCase):
@@ -495,6 +507,24 @@ class Closing(unittest.TestCase):
             use(saved)
             with type(saved).resume(saved.suite, KEY, NONCE, saved.save()) as state:
                 pass
+        for kind, use in unfinished:
+            with warnings.catch_warnings(record=True) as caught:
+                warnings.simplefilter("always")
+                state = begin[kind]()
+                use(state)
+                name = type(state).__name__
+                del state
+                for end in ("close", "save"):
+                    state = begin[kind]()
+                    use(state)
+                    getattr(state, end)()
+                    del state
+                state = begin[kind]()
+                use(state)
+                self.assertRaises(aeadkit.NotFinished, state.__exit__)
+                del state
+            self.assertEqual([(one.category, str(one.message)) for one in caught],
+                             [(ResourceWarning, f"a {name} was given up before finish, save or close")])
         for kind, use in [(kind, nothing) for kind in begin] + [("opener", checked), ("opener", mismatch), ("opener", changed)]:
             with begin[kind]() as state:
                 use(state)
@@ -502,6 +532,17 @@ class Closing(unittest.TestCase):
             with begin[kind]() as state:
                 use(state)
                 state.finish()
+        with warnings.catch_warnings():
+            warnings.simplefilter("error")
+            for kind, use in [(kind, nothing) for kind in begin] + [("opener", checked), ("opener", mismatch), ("opener", changed)]:
+                state = begin[kind]()
+                use(state)
+                state.__del__()
+            for kind, use in unfinished[:2] + [unfinished[3], unfinished[5], unfinished[9]]:
+                state = begin[kind]()
+                use(state)
+                state.finish()
+                state.__del__()
 
     def test_an_exception_that_ends_a_sealing_in_place(self):
         """The tag is lost, so the sealing is undone: what is sealed twice under one nonce may be the text again."""
@@ -564,6 +605,94 @@ class Closing(unittest.TestCase):
                 self.assertRaisesRegex(aeadkit.NotBegun, "closed", state.finish)
                 if type(piece) is bytearray:
                     piece += b"more"
+
+    def test_an_exception_at_each_line(self):
+        """As of a signal handler. A sealing in place is undone; an object in pieces is closed, or goes on as if nobody had called."""
+
+        class Stop(BaseException):
+            pass
+
+        def raised_at_each_line(begin, call):
+            """What was begun, after the call was ended at the first line of the package, the second, and so on."""
+            number = 0
+            while True:
+                state, number, lines = begin(), number + 1, itertools.count(1)
+
+                def trace(frame, event, argument):
+                    if frame.f_code.co_filename != aeadkit.__file__ or frame.f_code.co_name == "__del__":
+                        return None
+                    if event == "line" and next(lines) == number:
+                        raise Stop()
+                    return trace
+
+                before = sys.gettrace()
+                try:
+                    sys.settrace(trace)
+                    call(state)
+                except Stop:
+                    is_done = False
+                else:
+                    is_done = True
+                finally:
+                    sys.settrace(before)
+                if is_done:
+                    return self.assertGreater(number, 10)
+                yield state
+
+        for suite in (Suite.AES_256_GCM, Suite.AES_256_GCM_SIV):
+            key, sealed = Key(suite, KEY), {Suite.AES_256_GCM: SEALED, Suite.AES_256_GCM_SIV: SIV_SEALED}[suite]
+            for call in (lambda text: key.seal_in_place(NONCE, text, aad=b"aad"),
+                         lambda text: aeadkit.seal_in_place(suite, KEY, NONCE, text, aad=b"aad")):
+                for text in raised_at_each_line(lambda: bytearray(TEXT), call):
+                    self.assertEqual(text, TEXT)
+                    text += b"nothing holds it"
+
+            def opening():
+                opener = key.opener(NONCE, sealed[-16:], aad=b"aad")
+                opener.check(sealed[:-16])
+                opener.begin_second()
+                return opener
+
+            def reading():
+                siv = key.siv_sealer(NONCE, aad=b"aad")
+                siv.absorb(TEXT)
+                siv.begin_second()
+                return siv
+
+            def resumed(state):
+                self.assertEqual(state.update(TEXT) + state.finish(), SEALED)
+
+            def checked(opener):
+                opener.check(sealed[:-16])
+                opener.begin_second()
+
+            def opened(opener):
+                self.assertEqual(opener.update(sealed[:-16]), TEXT)
+                opener.finish()
+
+            def absorbed(siv):
+                siv.absorb(TEXT)
+                self.assertEqual(siv.begin_second(), SIV_SEALED[-16:])
+
+            def written(siv):
+                self.assertEqual(siv.update(TEXT), SIV_SEALED[:-16])
+                siv.finish()
+
+            calls = [(lambda: key.opener(NONCE, sealed[-16:], aad=b"aad"), "check", sealed[:-16], checked),
+                     (opening, "update", sealed[:-16], opened), (opening, "update_in_place", sealed[:-16], opened)]
+            if suite is Suite.AES_256_GCM:
+                calls += [(lambda: key.sealer(NONCE, aad=b"aad"), name, TEXT, resumed)
+                          for name in ("update", "update_in_place", "save")]
+            else:
+                calls += [(lambda: key.siv_sealer(NONCE, aad=b"aad"), "absorb", TEXT, absorbed), (reading, "update", TEXT, written),
+                          (reading, "update_in_place", TEXT, written)]
+            for begin, name, piece, goes_on in calls:
+                arguments = () if name == "save" else (bytearray(piece),)
+                for state in raised_at_each_line(begin, lambda state: getattr(state, name)(*arguments)):
+                    try:
+                        goes_on(state)
+                    except aeadkit.NotBegun:
+                        pass
 
     def test_an_exception_keeps_no_key(self):
         """A struct is wiped with its object, though a traceback has the frames of a call that was refused."""

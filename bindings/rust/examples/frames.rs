@@ -12,7 +12,7 @@
 //!
 //! After an error the direction is over, and its stream is to be closed. The lengths of the texts can be seen.
 
-use aeadkit::{Key, NONCE_BYTES, Suite, TAG_BYTES};
+use aeadkit::{Aad, Key, NONCE_BYTES, Suite, TAG_BYTES};
 use std::io::{self, Error, ErrorKind::InvalidData, ErrorKind::UnexpectedEof, Read, Write};
 
 const HEAD: usize = 4;
@@ -49,8 +49,9 @@ impl End {
         let head = (text.len() as u32 | if last { LAST } else { 0 }).to_be_bytes();
         let mut frame = vec![0; HEAD + text.len() + TAG_BYTES];
         frame[..HEAD].copy_from_slice(&head);
-        self.key.seal(&nonce, text, &mut frame[HEAD..], &head).map_err(Error::other)?;
+        self.key.seal(&nonce, text, &mut frame[HEAD..], Aad(&head)).map_err(Error::other)?;
         to.write_all(&frame)?;
+        to.flush()?; // a buffer that is dropped hides that it could not write
         self.next = if last { None } else { number.checked_add(1) };
         Ok(())
     }
@@ -66,7 +67,7 @@ impl End {
         }
         let mut frame = vec![0; length + TAG_BYTES];
         from.read_exact(&mut frame)?;
-        let text = self.key.open_to_vec(&nonce, &frame, &head).map_err(|fault| Error::new(InvalidData, fault))?;
+        let text = self.key.open_to_vec(&nonce, &frame, Aad(&head)).map_err(|fault| Error::new(InvalidData, fault))?;
         self.next = if last { None } else { number.checked_add(1) };
         Ok(text)
     }
@@ -94,5 +95,7 @@ fn main() -> io::Result<()> {
     fails(1, &[one, two, &three[..three.len() - 1]], UnexpectedEof); // cut in a frame
     fails(1, &[one, two], UnexpectedEof); // cut before the last one
     assert!(sender.send(&mut vec![], b"more", false).is_err());
+    let mut full = io::BufWriter::new(&mut [][..]); // takes a frame, and finds when it is flushed that it cannot write it
+    assert!(End::new(&key, 2).send(&mut full, b"lost", true).is_err());
     Ok(())
 }

@@ -2,7 +2,7 @@
 
 #![forbid(unsafe_code)]
 
-use crate::{Fault, NONCE_BYTES, Opener, Sealer, SivSealer, Suite, TAG_BYTES, Tag, outcome, raw};
+use crate::{Aad, Fault, NONCE_BYTES, Opener, Sealer, SivSealer, Suite, TAG_BYTES, Tag, outcome, raw};
 #[cfg(feature = "alloc")]
 use alloc::{vec, vec::Vec};
 use core::fmt;
@@ -45,9 +45,9 @@ impl Key {
     /// - `TextTooLong`: the text is longer than the suite's limit
     ///
     #[doc = include_str!("never_repeat_a_nonce.md")]
-    pub fn seal_in_place(&self, nonce: &[u8; NONCE_BYTES], text: &mut [u8], aad: &[u8]) -> Result<Tag, Fault> {
+    pub fn seal_in_place(&self, nonce: &[u8; NONCE_BYTES], text: &mut [u8], aad: Aad<'_>) -> Result<Tag, Fault> {
         let mut tag = [0; TAG_BYTES];
-        outcome(raw::seal_in_place_with(&self.kept, nonce, text, &mut tag, aad))?;
+        outcome(raw::seal_in_place_with(&self.kept, nonce, text, &mut tag, aad.0))?;
         Ok(Tag(tag))
     }
 
@@ -66,9 +66,9 @@ impl Key {
         nonce: &[u8; NONCE_BYTES],
         ciphertext: &mut [u8],
         tag: &[u8; TAG_BYTES],
-        aad: &[u8],
+        aad: Aad<'_>,
     ) -> Result<(), Fault> {
-        outcome(raw::open_in_place_with(&self.kept, nonce, ciphertext, tag, aad))
+        outcome(raw::open_in_place_with(&self.kept, nonce, ciphertext, tag, aad.0))
     }
 
     /// Seals a text to other memory.
@@ -83,8 +83,8 @@ impl Key {
     /// - `OutputLength`: `sealed` is not 16 bytes longer than `text`
     ///
     #[doc = include_str!("never_repeat_a_nonce.md")]
-    pub fn seal(&self, nonce: &[u8; NONCE_BYTES], text: &[u8], sealed: &mut [u8], aad: &[u8]) -> Result<(), Fault> {
-        outcome(raw::seal_with(&self.kept, nonce, text, sealed, aad))
+    pub fn seal(&self, nonce: &[u8; NONCE_BYTES], text: &[u8], sealed: &mut [u8], aad: Aad<'_>) -> Result<(), Fault> {
+        outcome(raw::seal_with(&self.kept, nonce, text, sealed, aad.0))
     }
 
     /// Opens to other memory what [`Key::seal`] or [`Key::seal_to_vec`] made.
@@ -99,8 +99,8 @@ impl Key {
     /// - `TextTooLong`: the text is longer than the suite's limit
     /// - `OutputLength`: `text` is not 16 bytes shorter than `sealed`
     /// - `TagMismatch`: authentication failed
-    pub fn open(&self, nonce: &[u8; NONCE_BYTES], sealed: &[u8], text: &mut [u8], aad: &[u8]) -> Result<(), Fault> {
-        outcome(raw::open_with(&self.kept, nonce, sealed, text, aad))
+    pub fn open(&self, nonce: &[u8; NONCE_BYTES], sealed: &[u8], text: &mut [u8], aad: Aad<'_>) -> Result<(), Fault> {
+        outcome(raw::open_with(&self.kept, nonce, sealed, text, aad.0))
     }
 
     /// Seals a text, and returns the ciphertext and then the tag.
@@ -113,7 +113,7 @@ impl Key {
     ///
     #[doc = include_str!("never_repeat_a_nonce.md")]
     #[cfg(feature = "alloc")]
-    pub fn seal_to_vec(&self, nonce: &[u8; NONCE_BYTES], text: &[u8], aad: &[u8]) -> Result<Vec<u8>, Fault> {
+    pub fn seal_to_vec(&self, nonce: &[u8; NONCE_BYTES], text: &[u8], aad: Aad<'_>) -> Result<Vec<u8>, Fault> {
         let mut sealed = vec![0; text.len() + TAG_BYTES];
         self.seal(nonce, text, &mut sealed, aad)?;
         Ok(sealed)
@@ -131,7 +131,7 @@ impl Key {
     /// - `TextTooLong`: the text is longer than the suite's limit
     /// - `TagMismatch`: authentication failed
     #[cfg(feature = "alloc")]
-    pub fn open_to_vec(&self, nonce: &[u8; NONCE_BYTES], sealed: &[u8], aad: &[u8]) -> Result<Vec<u8>, Fault> {
+    pub fn open_to_vec(&self, nonce: &[u8; NONCE_BYTES], sealed: &[u8], aad: Aad<'_>) -> Result<Vec<u8>, Fault> {
         let mut text = vec![0; sealed.len().saturating_sub(TAG_BYTES)];
         self.open(nonce, sealed, &mut text, aad)?;
         Ok(text)
@@ -146,7 +146,7 @@ impl Key {
     /// - `AadTooLong`: `aad` is longer than the suite's limit
     ///
     #[doc = include_str!("never_repeat_a_nonce.md")]
-    pub fn sealer(&self, nonce: &[u8; NONCE_BYTES], aad: &[u8]) -> Result<Sealer, Fault> {
+    pub fn sealer(&self, nonce: &[u8; NONCE_BYTES], aad: Aad<'_>) -> Result<Sealer, Fault> {
         Sealer::under(&self.kept, nonce, aad)
     }
 
@@ -155,7 +155,7 @@ impl Key {
     /// # Errors
     ///
     /// `AadTooLong`: `aad` is longer than the suite's limit.
-    pub fn opener(&self, nonce: &[u8; NONCE_BYTES], tag: &[u8; TAG_BYTES], aad: &[u8]) -> Result<Opener, Fault> {
+    pub fn opener(&self, nonce: &[u8; NONCE_BYTES], tag: &[u8; TAG_BYTES], aad: Aad<'_>) -> Result<Opener, Fault> {
         Opener::under(&self.kept, nonce, tag, aad)
     }
 
@@ -168,7 +168,7 @@ impl Key {
     /// - `AadTooLong`: `aad` is longer than the suite's limit
     ///
     #[doc = include_str!("never_repeat_a_nonce.md")]
-    pub fn siv_sealer(&self, nonce: &[u8; NONCE_BYTES], aad: &[u8]) -> Result<SivSealer, Fault> {
+    pub fn siv_sealer(&self, nonce: &[u8; NONCE_BYTES], aad: Aad<'_>) -> Result<SivSealer, Fault> {
         SivSealer::under(&self.kept, nonce, aad)
     }
 }

@@ -2,15 +2,15 @@
 //! (RFC 3394, RFC 5649), over libaeadkit.a, whose code is proved.
 //!
 //! ```
-//! use aeadkit::{Fault, Key, Suite};
+//! use aeadkit::{Aad, Fault, Key, Suite};
 //!
 //! # fn main() -> Result<(), Fault> {
 //! let key = Key::new(Suite::Aes256GcmSiv, &[7; 32])?; // for a trial: a real key is random
 //! let nonce = [0; 12]; // of the first message under this key; count up for each further one
-//! let sealed = key.seal_to_vec(&nonce, b"attack at dawn", b"to: general")?;
+//! let sealed = key.seal_to_vec(&nonce, b"attack at dawn", Aad(b"to: general"))?;
 //! assert_eq!(sealed.len(), 14 + 16); // the ciphertext, then the tag
-//! assert_eq!(key.open_to_vec(&nonce, &sealed, b"to: admiral"), Err(Fault::TagMismatch));
-//! assert_eq!(key.open_to_vec(&nonce, &sealed, b"to: general")?, b"attack at dawn");
+//! assert_eq!(key.open_to_vec(&nonce, &sealed, Aad(b"to: admiral")), Err(Fault::TagMismatch));
+//! assert_eq!(key.open_to_vec(&nonce, &sealed, Aad(b"to: general"))?, b"attack at dawn");
 //! # Ok(())
 //! # }
 //! ```
@@ -28,8 +28,9 @@
 //! a restart: see [`Sealer::save`].
 //!
 //! All calls take their arguments in one order: suite, key, nonce, the bytes that are sealed or opened, the bytes that the result
-//! goes to, a tag that is given, and the associated data last. Associated data is authenticated and not encrypted, like the header
-//! of a message: a message opens only with the associated data that it was sealed with.
+//! goes to, a tag that is given, and the associated data last, as an [`Aad`]. Associated data is authenticated and not encrypted,
+//! like the header of a message: a message opens only with the associated data that it was sealed with. A key that wraps others is
+//! a [`WrappingKey`]. So a call that exchanges a text with its associated data, or two keys, does not compile.
 //!
 //! Never use a nonce twice under one key: see [`seal`]. After a fault each buffer is as before, with two exceptions: if
 //! [`open`], [`unwrap`] or [`unwrap_padded`] fails to authenticate, its output is all zeros; and a second pass or reading in
@@ -49,6 +50,7 @@
 #[cfg(feature = "alloc")]
 extern crate alloc;
 
+mod aad;
 mod fault;
 mod key;
 mod opener;
@@ -62,6 +64,7 @@ mod tag;
 mod whole;
 mod wrap;
 
+pub use aad::Aad;
 pub use fault::Fault;
 use fault::outcome;
 pub use key::Key;
@@ -74,7 +77,7 @@ pub use tag::Tag;
 pub use whole::{open, open_in_place, seal, seal_in_place};
 #[cfg(feature = "alloc")]
 pub use whole::{open_to_vec, seal_to_vec};
-pub use wrap::{unwrap, unwrap_padded, wrap, wrap_padded};
+pub use wrap::{WrappingKey, unwrap, unwrap_padded, wrap, wrap_padded};
 #[cfg(feature = "alloc")]
 pub use wrap::{unwrap_padded_to_vec, unwrap_to_vec, wrap_padded_to_vec, wrap_to_vec};
 

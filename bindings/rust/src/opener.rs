@@ -2,7 +2,7 @@
 
 #![forbid(unsafe_code)]
 
-use crate::{Fault, NONCE_BYTES, Suite, TAG_BYTES, outcome, raw};
+use crate::{Aad, Fault, NONCE_BYTES, Suite, TAG_BYTES, outcome, raw};
 use core::fmt;
 
 /// The first pass of an opening in pieces, under every suite, which gives no text: [`Opener::check`] for each piece of the
@@ -33,10 +33,10 @@ impl Opener {
         key: &[u8],
         nonce: &[u8; NONCE_BYTES],
         tag: &[u8; TAG_BYTES],
-        aad: &[u8],
+        aad: Aad<'_>,
     ) -> Result<Opener, Fault> {
         let mut state = raw::Opener::default();
-        outcome(raw::opener_init(&mut state, suite as u32, key, nonce, tag, aad))?;
+        outcome(raw::opener_init(&mut state, suite as u32, key, nonce, tag, aad.0))?;
         Ok(Opener { state })
     }
 
@@ -45,10 +45,10 @@ impl Opener {
         kept: &raw::Key,
         nonce: &[u8; NONCE_BYTES],
         tag: &[u8; TAG_BYTES],
-        aad: &[u8],
+        aad: Aad<'_>,
     ) -> Result<Opener, Fault> {
         let mut state = raw::Opener::default();
-        outcome(raw::opener_init_with(&mut state, kept, nonce, tag, aad))?;
+        outcome(raw::opener_init_with(&mut state, kept, nonce, tag, aad.0))?;
         Ok(Opener { state })
     }
 

@@ -2,7 +2,7 @@
 
 #![forbid(unsafe_code)]
 
-use crate::{Fault, NONCE_BYTES, Suite, TAG_BYTES, Tag, outcome, raw};
+use crate::{Aad, Fault, NONCE_BYTES, Suite, TAG_BYTES, Tag, outcome, raw};
 use core::fmt;
 
 /// A sealing in pieces, under ChaCha20-Poly1305 or AES-GCM: [`Sealer::update`] for each piece of the text, then
@@ -26,16 +26,16 @@ impl Sealer {
     /// - `AadTooLong`: `aad` is longer than the suite's limit
     ///
     #[doc = include_str!("never_repeat_a_nonce.md")]
-    pub fn new(suite: Suite, key: &[u8], nonce: &[u8; NONCE_BYTES], aad: &[u8]) -> Result<Sealer, Fault> {
+    pub fn new(suite: Suite, key: &[u8], nonce: &[u8; NONCE_BYTES], aad: Aad<'_>) -> Result<Sealer, Fault> {
         let mut state = raw::Sealer::default();
-        outcome(raw::sealer_init(&mut state, suite as u32, key, nonce, aad))?;
+        outcome(raw::sealer_init(&mut state, suite as u32, key, nonce, aad.0))?;
         Ok(Sealer { state })
     }
 
     /// Begins a sealing under a kept key.
-    pub(crate) fn under(kept: &raw::Key, nonce: &[u8; NONCE_BYTES], aad: &[u8]) -> Result<Sealer, Fault> {
+    pub(crate) fn under(kept: &raw::Key, nonce: &[u8; NONCE_BYTES], aad: Aad<'_>) -> Result<Sealer, Fault> {
         let mut state = raw::Sealer::default();
-        outcome(raw::sealer_init_with(&mut state, kept, nonce, aad))?;
+        outcome(raw::sealer_init_with(&mut state, kept, nonce, aad.0))?;
         Ok(Sealer { state })
     }
 

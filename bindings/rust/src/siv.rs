@@ -2,7 +2,7 @@
 
 #![forbid(unsafe_code)]
 
-use crate::{Fault, NONCE_BYTES, Suite, TAG_BYTES, Tag, outcome, raw};
+use crate::{Aad, Fault, NONCE_BYTES, Suite, TAG_BYTES, Tag, outcome, raw};
 use core::fmt;
 
 /// The first reading of a sealing in pieces under AES-GCM-SIV, whose tag is over the text: [`SivSealer::absorb`] for each
@@ -32,16 +32,16 @@ impl SivSealer {
     /// - `AadTooLong`: `aad` is longer than the suite's limit
     ///
     #[doc = include_str!("never_repeat_a_nonce.md")]
-    pub fn new(suite: Suite, key: &[u8], nonce: &[u8; NONCE_BYTES], aad: &[u8]) -> Result<SivSealer, Fault> {
+    pub fn new(suite: Suite, key: &[u8], nonce: &[u8; NONCE_BYTES], aad: Aad<'_>) -> Result<SivSealer, Fault> {
         let mut state = raw::Siv::default();
-        outcome(raw::siv_init(&mut state, suite as u32, key, nonce, aad))?;
+        outcome(raw::siv_init(&mut state, suite as u32, key, nonce, aad.0))?;
         Ok(SivSealer { state })
     }
 
     /// Begins a sealing under a kept key.
-    pub(crate) fn under(kept: &raw::Key, nonce: &[u8; NONCE_BYTES], aad: &[u8]) -> Result<SivSealer, Fault> {
+    pub(crate) fn under(kept: &raw::Key, nonce: &[u8; NONCE_BYTES], aad: Aad<'_>) -> Result<SivSealer, Fault> {
         let mut state = raw::Siv::default();
-        outcome(raw::siv_init_with(&mut state, kept, nonce, aad))?;
+        outcome(raw::siv_init_with(&mut state, kept, nonce, aad.0))?;
         Ok(SivSealer { state })
     }
 

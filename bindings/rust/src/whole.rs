@@ -2,7 +2,7 @@
 
 #![forbid(unsafe_code)]
 
-use crate::{Fault, NONCE_BYTES, Suite, TAG_BYTES, Tag, outcome, raw};
+use crate::{Aad, Fault, NONCE_BYTES, Suite, TAG_BYTES, Tag, outcome, raw};
 #[cfg(feature = "alloc")]
 use alloc::{vec, vec::Vec};
 
@@ -23,10 +23,10 @@ pub fn seal_in_place(
     key: &[u8],
     nonce: &[u8; NONCE_BYTES],
     text: &mut [u8],
-    aad: &[u8],
+    aad: Aad<'_>,
 ) -> Result<Tag, Fault> {
     let mut tag = [0; TAG_BYTES];
-    outcome(raw::seal_in_place(suite as u32, key, nonce, text, &mut tag, aad))?;
+    outcome(raw::seal_in_place(suite as u32, key, nonce, text, &mut tag, aad.0))?;
     Ok(Tag(tag))
 }
 
@@ -47,9 +47,9 @@ pub fn open_in_place(
     nonce: &[u8; NONCE_BYTES],
     ciphertext: &mut [u8],
     tag: &[u8; TAG_BYTES],
-    aad: &[u8],
+    aad: Aad<'_>,
 ) -> Result<(), Fault> {
-    outcome(raw::open_in_place(suite as u32, key, nonce, ciphertext, tag, aad))
+    outcome(raw::open_in_place(suite as u32, key, nonce, ciphertext, tag, aad.0))
 }
 
 /// Seals a text to other memory.
@@ -71,9 +71,9 @@ pub fn seal(
     nonce: &[u8; NONCE_BYTES],
     text: &[u8],
     sealed: &mut [u8],
-    aad: &[u8],
+    aad: Aad<'_>,
 ) -> Result<(), Fault> {
-    outcome(raw::seal(suite as u32, key, nonce, text, sealed, aad))
+    outcome(raw::seal(suite as u32, key, nonce, text, sealed, aad.0))
 }
 
 /// Opens to other memory what [`seal`] or [`seal_to_vec`] made.
@@ -95,9 +95,9 @@ pub fn open(
     nonce: &[u8; NONCE_BYTES],
     sealed: &[u8],
     text: &mut [u8],
-    aad: &[u8],
+    aad: Aad<'_>,
 ) -> Result<(), Fault> {
-    outcome(raw::open(suite as u32, key, nonce, sealed, text, aad))
+    outcome(raw::open(suite as u32, key, nonce, sealed, text, aad.0))
 }
 
 /// Seals a text, and returns the ciphertext and then the tag.
@@ -116,7 +116,7 @@ pub fn seal_to_vec(
     key: &[u8],
     nonce: &[u8; NONCE_BYTES],
     text: &[u8],
-    aad: &[u8],
+    aad: Aad<'_>,
 ) -> Result<Vec<u8>, Fault> {
     let mut sealed = vec![0; text.len() + TAG_BYTES];
     seal(suite, key, nonce, text, &mut sealed, aad)?;
@@ -141,7 +141,7 @@ pub fn open_to_vec(
     key: &[u8],
     nonce: &[u8; NONCE_BYTES],
     sealed: &[u8],
-    aad: &[u8],
+    aad: Aad<'_>,
 ) -> Result<Vec<u8>, Fault> {
     let mut text = vec![0; sealed.len().saturating_sub(TAG_BYTES)];
     open(suite, key, nonce, sealed, &mut text, aad)?;

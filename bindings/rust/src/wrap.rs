@@ -7,6 +7,21 @@ use crate::WRAP_BYTES;
 use crate::{Fault, outcome, raw};
 #[cfg(feature = "alloc")]
 use alloc::{vec, vec::Vec};
+use core::fmt;
+
+/// A key that wraps other keys, of 16, 24 or 32 bytes, written as `WrappingKey(&bytes)`.
+///
+/// A call takes it as this type, and what it wraps as a slice. Both are keys as a rule, often of one length: a call with the
+/// two exchanged would wrap the wrong key under the one that is then lost, and so does not compile.
+#[derive(Clone, Copy)]
+pub struct WrappingKey<'a>(pub &'a [u8]);
+
+/// Shows nothing of the key.
+impl fmt::Debug for WrappingKey<'_> {
+    fn fmt(&self, f: &mut fmt::Formatter<'_>) -> fmt::Result {
+        f.write_str("WrappingKey")
+    }
+}
 
 /// Wraps a text, as a rule a key, to other memory (RFC 3394).
 ///
@@ -18,8 +33,8 @@ use alloc::{vec, vec::Vec};
 /// - `KeyLength`: `key` is not 16, 24 or 32 bytes long
 /// - `WrapLength`: `text` is shorter than 16 bytes, or its length is not a multiple of 8
 /// - `OutputLength`: `wrapped` is not 8 bytes longer than `text`
-pub fn wrap(key: &[u8], text: &[u8], wrapped: &mut [u8]) -> Result<(), Fault> {
-    outcome(raw::wrap(key, text, wrapped))
+pub fn wrap(key: WrappingKey<'_>, text: &[u8], wrapped: &mut [u8]) -> Result<(), Fault> {
+    outcome(raw::wrap(key.0, text, wrapped))
 }
 
 /// Unwraps to other memory what [`wrap`] made.
@@ -33,8 +48,8 @@ pub fn wrap(key: &[u8], text: &[u8], wrapped: &mut [u8]) -> Result<(), Fault> {
 /// - `WrapLength`: `wrapped` is shorter than 24 bytes, or its length is not a multiple of 8
 /// - `OutputLength`: `text` is not 8 bytes shorter than `wrapped`
 /// - `WrapIntegrity`: `wrapped` is not a valid wrapping under this key
-pub fn unwrap(key: &[u8], wrapped: &[u8], text: &mut [u8]) -> Result<(), Fault> {
-    outcome(raw::unwrap(key, wrapped, text))
+pub fn unwrap(key: WrappingKey<'_>, wrapped: &[u8], text: &mut [u8]) -> Result<(), Fault> {
+    outcome(raw::unwrap(key.0, wrapped, text))
 }
 
 /// Wraps a text of any length from 1 to 2^32 - 1 bytes to other memory (RFC 5649).
@@ -49,8 +64,8 @@ pub fn unwrap(key: &[u8], wrapped: &[u8], text: &mut [u8]) -> Result<(), Fault> 
 /// - `WrapLength`: `text` is empty
 /// - `TextTooLong`: the text is longer than 2^32 - 1 bytes
 /// - `OutputLength`: `wrapped` does not have that length
-pub fn wrap_padded(key: &[u8], text: &[u8], wrapped: &mut [u8]) -> Result<(), Fault> {
-    outcome(raw::wrap_padded(key, text, wrapped))
+pub fn wrap_padded(key: WrappingKey<'_>, text: &[u8], wrapped: &mut [u8]) -> Result<(), Fault> {
+    outcome(raw::wrap_padded(key.0, text, wrapped))
 }
 
 /// Unwraps to other memory what [`wrap_padded`] made, and returns the part of `text` that is the text.
@@ -65,8 +80,8 @@ pub fn wrap_padded(key: &[u8], text: &[u8], wrapped: &mut [u8]) -> Result<(), Fa
 /// - `TextTooLong`: the text is longer than 2^32 - 1 bytes
 /// - `OutputLength`: `text` is not 8 bytes shorter than `wrapped`
 /// - `WrapIntegrity`: `wrapped` is not a valid wrapping with padding under this key
-pub fn unwrap_padded<'a>(key: &[u8], wrapped: &[u8], text: &'a mut [u8]) -> Result<&'a mut [u8], Fault> {
-    let (status, length) = raw::unwrap_padded(key, wrapped, text);
+pub fn unwrap_padded<'a>(key: WrappingKey<'_>, wrapped: &[u8], text: &'a mut [u8]) -> Result<&'a mut [u8], Fault> {
+    let (status, length) = raw::unwrap_padded(key.0, wrapped, text);
     outcome(status)?;
     Ok(&mut text[..length])
 }
@@ -77,7 +92,7 @@ pub fn unwrap_padded<'a>(key: &[u8], wrapped: &[u8], text: &'a mut [u8]) -> Resu
 ///
 /// Those of [`wrap`], except `OutputLength`.
 #[cfg(feature = "alloc")]
-pub fn wrap_to_vec(key: &[u8], text: &[u8]) -> Result<Vec<u8>, Fault> {
+pub fn wrap_to_vec(key: WrappingKey<'_>, text: &[u8]) -> Result<Vec<u8>, Fault> {
     let mut wrapped = vec![0; text.len() + WRAP_BYTES];
     wrap(key, text, &mut wrapped)?;
     Ok(wrapped)
@@ -89,7 +104,7 @@ pub fn wrap_to_vec(key: &[u8], text: &[u8]) -> Result<Vec<u8>, Fault> {
 ///
 /// Those of [`unwrap`], except `OutputLength`.
 #[cfg(feature = "alloc")]
-pub fn unwrap_to_vec(key: &[u8], wrapped: &[u8]) -> Result<Vec<u8>, Fault> {
+pub fn unwrap_to_vec(key: WrappingKey<'_>, wrapped: &[u8]) -> Result<Vec<u8>, Fault> {
     let mut text = vec![0; wrapped.len().saturating_sub(WRAP_BYTES)];
     unwrap(key, wrapped, &mut text)?;
     Ok(text)
@@ -101,7 +116,7 @@ pub fn unwrap_to_vec(key: &[u8], wrapped: &[u8]) -> Result<Vec<u8>, Fault> {
 ///
 /// Those of [`wrap_padded`], except `OutputLength`.
 #[cfg(feature = "alloc")]
-pub fn wrap_padded_to_vec(key: &[u8], text: &[u8]) -> Result<Vec<u8>, Fault> {
+pub fn wrap_padded_to_vec(key: WrappingKey<'_>, text: &[u8]) -> Result<Vec<u8>, Fault> {
     let mut wrapped = vec![0; text.len().next_multiple_of(8) + WRAP_BYTES];
     wrap_padded(key, text, &mut wrapped)?;
     Ok(wrapped)
@@ -113,7 +128,7 @@ pub fn wrap_padded_to_vec(key: &[u8], text: &[u8]) -> Result<Vec<u8>, Fault> {
 ///
 /// Those of [`unwrap_padded`], except `OutputLength`.
 #[cfg(feature = "alloc")]
-pub fn unwrap_padded_to_vec(key: &[u8], wrapped: &[u8]) -> Result<Vec<u8>, Fault> {
+pub fn unwrap_padded_to_vec(key: WrappingKey<'_>, wrapped: &[u8]) -> Result<Vec<u8>, Fault> {
     let mut text = vec![0; wrapped.len().saturating_sub(WRAP_BYTES)];
     let length = unwrap_padded(key, wrapped, &mut text)?.len();
     text.truncate(length);

@@ -2,9 +2,9 @@
 
 use Suite::*;
 use aeadkit::{
-    CheckedOpener, Fault, Key, NONCE_BYTES, Opener, Sealer, SivSealer, SivWriter, Suite, TAG_BYTES, Tag, open, open_in_place,
-    open_to_vec, seal, seal_in_place, seal_to_vec, unwrap, unwrap_padded, unwrap_padded_to_vec, unwrap_to_vec, wrap,
-    wrap_padded, wrap_padded_to_vec, wrap_to_vec,
+    Aad, CheckedOpener, Fault, Key, NONCE_BYTES, Opener, Sealer, SivSealer, SivWriter, Suite, TAG_BYTES, Tag,
+    WrappingKey, open, open_in_place, open_to_vec, seal, seal_in_place, seal_to_vec, unwrap, unwrap_padded,
+    unwrap_padded_to_vec, unwrap_to_vec, wrap, wrap_padded, wrap_padded_to_vec, wrap_to_vec,
 };
 
 const NONCE: [u8; NONCE_BYTES] = [9; NONCE_BYTES];
@@ -23,8 +23,9 @@ fn all_forms_agree() {
     for suite in Suite::ALL {
         let (bytes, key) = (key_of(suite), Key::new(suite, &key_of(suite)).unwrap());
         for length in LENGTHS {
-            for aad in [&b""[..], b"a header of more than sixteen bytes"] {
-                let (text, whole) = (text_of(length), seal_to_vec(suite, &bytes, &NONCE, &text_of(length), aad).unwrap());
+            for aad in [Aad::empty(), Aad(b"a header of more than sixteen bytes")] {
+                let (text, whole) =
+                    (text_of(length), seal_to_vec(suite, &bytes, &NONCE, &text_of(length), aad).unwrap());
                 assert_eq!(whole.len(), length + TAG_BYTES);
                 assert_eq!(key.seal_to_vec(&NONCE, &text, aad).unwrap(), whole);
                 assert_eq!(open_to_vec(suite, &bytes, &NONCE, &whole, aad).unwrap(), text);
@@ -59,26 +60,26 @@ fn a_fault_in_place_leaves_every_byte() {
         for length in LENGTHS {
             let text = text_of(length);
             let mut buffer = text.clone();
-            assert_eq!(seal_in_place(suite, short, &NONCE, &mut buffer, b""), Err(Fault::KeyLength));
+            assert_eq!(seal_in_place(suite, short, &NONCE, &mut buffer, Aad::empty()), Err(Fault::KeyLength));
             assert_eq!(buffer, text);
-            let tag = seal_in_place(suite, &bytes, &NONCE, &mut buffer, b"aad").unwrap();
+            let tag = seal_in_place(suite, &bytes, &NONCE, &mut buffer, Aad(b"aad")).unwrap();
             let body = buffer.clone();
             for bit in [0, 8, 127] {
                 let mut wrong = *tag;
                 wrong[bit / 8] ^= 1 << (bit % 8);
-                let fault = open_in_place(suite, &bytes, &NONCE, &mut buffer, &wrong, b"aad");
+                let fault = open_in_place(suite, &bytes, &NONCE, &mut buffer, &wrong, Aad(b"aad"));
                 assert_eq!(fault, Err(Fault::TagMismatch));
-                assert_eq!(key.open_in_place(&NONCE, &mut buffer, &wrong, b"aad"), Err(Fault::TagMismatch));
+                assert_eq!(key.open_in_place(&NONCE, &mut buffer, &wrong, Aad(b"aad")), Err(Fault::TagMismatch));
                 assert_eq!(buffer, body);
             }
-            assert_eq!(key.open_in_place(&NONCE, &mut buffer, &tag, b"aaD"), Err(Fault::TagMismatch));
-            assert_eq!(key.open_in_place(&[8; 12], &mut buffer, &tag, b"aad"), Err(Fault::TagMismatch));
-            assert_eq!(open_in_place(suite, short, &NONCE, &mut buffer, &tag, b"aad"), Err(Fault::KeyLength));
+            assert_eq!(key.open_in_place(&NONCE, &mut buffer, &tag, Aad(b"aaD")), Err(Fault::TagMismatch));
+            assert_eq!(key.open_in_place(&[8; 12], &mut buffer, &tag, Aad(b"aad")), Err(Fault::TagMismatch));
+            assert_eq!(open_in_place(suite, short, &NONCE, &mut buffer, &tag, Aad(b"aad")), Err(Fault::KeyLength));
             assert_eq!(buffer, body);
             if length > 0 {
                 buffer[length / 2] ^= 0x10;
                 let before = buffer.clone();
-                assert_eq!(key.open_in_place(&NONCE, &mut buffer, &tag, b"aad"), Err(Fault::TagMismatch));
+                assert_eq!(key.open_in_place(&NONCE, &mut buffer, &tag, Aad(b"aad")), Err(Fault::TagMismatch));
                 assert_eq!(buffer, before);
             }
         }
@@ -95,34 +96,37 @@ fn a_fault_leaves_the_output_or_zeros() {
             let (text, filled) = (text_of(length), vec![0xaa; length + TAG_BYTES + 1]);
             let mut output = filled.clone();
             let right = length + TAG_BYTES;
-            assert_eq!(seal(suite, short, &NONCE, &text, &mut output[..right], b""), Err(Fault::KeyLength));
+            assert_eq!(seal(suite, short, &NONCE, &text, &mut output[..right], Aad::empty()), Err(Fault::KeyLength));
             for wrong in [0, length, right - 1, right + 1] {
-                assert_eq!(seal(suite, &bytes, &NONCE, &text, &mut output[..wrong], b""), Err(Fault::OutputLength));
-                assert_eq!(key.seal(&NONCE, &text, &mut output[..wrong], b""), Err(Fault::OutputLength));
+                assert_eq!(
+                    seal(suite, &bytes, &NONCE, &text, &mut output[..wrong], Aad::empty()),
+                    Err(Fault::OutputLength)
+                );
+                assert_eq!(key.seal(&NONCE, &text, &mut output[..wrong], Aad::empty()), Err(Fault::OutputLength));
             }
-            let mut sealed = key.seal_to_vec(&NONCE, &text, b"aad").unwrap();
-            assert_eq!(open(suite, short, &NONCE, &sealed, &mut output[..length], b"aad"), Err(Fault::KeyLength));
+            let mut sealed = key.seal_to_vec(&NONCE, &text, Aad(b"aad")).unwrap();
+            assert_eq!(open(suite, short, &NONCE, &sealed, &mut output[..length], Aad(b"aad")), Err(Fault::KeyLength));
             for wrong in [length + 1, right] {
-                let fault = open(suite, &bytes, &NONCE, &sealed, &mut output[..wrong], b"aad");
+                let fault = open(suite, &bytes, &NONCE, &sealed, &mut output[..wrong], Aad(b"aad"));
                 assert_eq!(fault, Err(Fault::OutputLength));
-                assert_eq!(key.open(&NONCE, &sealed, &mut output[..wrong], b"aad"), Err(Fault::OutputLength));
+                assert_eq!(key.open(&NONCE, &sealed, &mut output[..wrong], Aad(b"aad")), Err(Fault::OutputLength));
             }
-            assert_eq!(key.open(&NONCE, &sealed[..15], &mut output[..length], b"aad"), Err(Fault::TooShort));
+            assert_eq!(key.open(&NONCE, &sealed[..15], &mut output[..length], Aad(b"aad")), Err(Fault::TooShort));
             assert_eq!(output, filled);
             sealed[length / 2] ^= 0x10;
-            assert_eq!(key.open(&NONCE, &sealed, &mut output[..length], b"aad"), Err(Fault::TagMismatch));
+            assert_eq!(key.open(&NONCE, &sealed, &mut output[..length], Aad(b"aad")), Err(Fault::TagMismatch));
             assert_eq!(output, [vec![0; length], vec![0xaa; TAG_BYTES + 1]].concat());
             let mut output = filled.clone();
-            let fault = open(suite, &bytes, &NONCE, &sealed, &mut output[..length], b"aad");
+            let fault = open(suite, &bytes, &NONCE, &sealed, &mut output[..length], Aad(b"aad"));
             assert_eq!(fault, Err(Fault::TagMismatch));
             assert_eq!(output, [vec![0; length], vec![0xaa; TAG_BYTES + 1]].concat());
-            assert_eq!(open_to_vec(suite, &bytes, &NONCE, &sealed, b"aad"), Err(Fault::TagMismatch));
+            assert_eq!(open_to_vec(suite, &bytes, &NONCE, &sealed, Aad(b"aad")), Err(Fault::TagMismatch));
         }
         for length in 0..TAG_BYTES {
-            assert_eq!(key.open_to_vec(&NONCE, &text_of(length), b""), Err(Fault::TooShort));
-            assert_eq!(open_to_vec(suite, &bytes, &NONCE, &text_of(length), b""), Err(Fault::TooShort));
+            assert_eq!(key.open_to_vec(&NONCE, &text_of(length), Aad::empty()), Err(Fault::TooShort));
+            assert_eq!(open_to_vec(suite, &bytes, &NONCE, &text_of(length), Aad::empty()), Err(Fault::TooShort));
         }
-        assert_eq!(seal_to_vec(suite, short, &NONCE, b"", b""), Err(Fault::KeyLength));
+        assert_eq!(seal_to_vec(suite, short, &NONCE, b"", Aad::empty()), Err(Fault::KeyLength));
     }
 }
 
@@ -131,51 +135,51 @@ fn wrappings() {
     for key in [&[3; 16][..], &[3; 24], &[3; 32]] {
         for length in [16, 24, 32, 40, 1000] {
             let text = text_of(length);
-            let mut wrapped = wrap_to_vec(key, &text).unwrap();
-            assert_eq!(unwrap_to_vec(key, &wrapped).unwrap(), text);
+            let mut wrapped = wrap_to_vec(WrappingKey(key), &text).unwrap();
+            assert_eq!(unwrap_to_vec(WrappingKey(key), &wrapped).unwrap(), text);
             let mut output = vec![0xaa; length + 9];
             for wrong in [0, length, length + 7, length + 9] {
-                assert_eq!(wrap(key, &text, &mut output[..wrong]), Err(Fault::OutputLength));
+                assert_eq!(wrap(WrappingKey(key), &text, &mut output[..wrong]), Err(Fault::OutputLength));
             }
             for wrong in [length - 1, length + 1] {
-                assert_eq!(unwrap(key, &wrapped, &mut output[..wrong]), Err(Fault::OutputLength));
+                assert_eq!(unwrap(WrappingKey(key), &wrapped, &mut output[..wrong]), Err(Fault::OutputLength));
             }
             assert_eq!(output, vec![0xaa; length + 9]);
             wrapped[length / 2] ^= 1;
-            assert_eq!(unwrap(key, &wrapped, &mut output[..length]), Err(Fault::WrapIntegrity));
+            assert_eq!(unwrap(WrappingKey(key), &wrapped, &mut output[..length]), Err(Fault::WrapIntegrity));
             assert_eq!(output, [vec![0; length], vec![0xaa; 9]].concat());
-            assert_eq!(unwrap_to_vec(key, &wrapped), Err(Fault::WrapIntegrity));
+            assert_eq!(unwrap_to_vec(WrappingKey(key), &wrapped), Err(Fault::WrapIntegrity));
         }
         for length in (1..40).chain([1000, 1001]) {
             let text = text_of(length);
-            let mut wrapped = wrap_padded_to_vec(key, &text).unwrap();
+            let mut wrapped = wrap_padded_to_vec(WrappingKey(key), &text).unwrap();
             assert_eq!(wrapped.len(), length.next_multiple_of(8) + 8);
-            assert_eq!(unwrap_padded_to_vec(key, &wrapped).unwrap(), text);
+            assert_eq!(unwrap_padded_to_vec(WrappingKey(key), &wrapped).unwrap(), text);
             let room = wrapped.len() - 8;
             let mut output = vec![0xaa; room + 9];
             for wrong in [room, room + 7, room + 9] {
-                assert_eq!(wrap_padded(key, &text, &mut output[..wrong]), Err(Fault::OutputLength));
+                assert_eq!(wrap_padded(WrappingKey(key), &text, &mut output[..wrong]), Err(Fault::OutputLength));
             }
             for wrong in [room - 1, room + 1] {
-                assert_eq!(unwrap_padded(key, &wrapped, &mut output[..wrong]), Err(Fault::OutputLength));
+                assert_eq!(unwrap_padded(WrappingKey(key), &wrapped, &mut output[..wrong]), Err(Fault::OutputLength));
             }
             assert_eq!(output, vec![0xaa; room + 9]);
-            assert_eq!(unwrap_padded(key, &wrapped, &mut output[..room]).unwrap(), text);
+            assert_eq!(unwrap_padded(WrappingKey(key), &wrapped, &mut output[..room]).unwrap(), text);
             assert_eq!(output[..room], [text, vec![0; room - length]].concat());
             wrapped[3] ^= 1;
-            assert_eq!(unwrap_padded(key, &wrapped, &mut output[..room]), Err(Fault::WrapIntegrity));
+            assert_eq!(unwrap_padded(WrappingKey(key), &wrapped, &mut output[..room]), Err(Fault::WrapIntegrity));
             assert_eq!(output, [vec![0; room], vec![0xaa; 9]].concat());
         }
         for length in [0, 1, 8, 15, 17] {
-            assert_eq!(wrap_to_vec(key, &text_of(length)), Err(Fault::WrapLength));
-            assert_eq!(unwrap_to_vec(key, &text_of(length)), Err(Fault::WrapLength));
+            assert_eq!(wrap_to_vec(WrappingKey(key), &text_of(length)), Err(Fault::WrapLength));
+            assert_eq!(unwrap_to_vec(WrappingKey(key), &text_of(length)), Err(Fault::WrapLength));
         }
         for length in [0, 1, 8, 15, 17] {
-            assert_eq!(unwrap_padded_to_vec(key, &text_of(length)), Err(Fault::WrapLength));
+            assert_eq!(unwrap_padded_to_vec(WrappingKey(key), &text_of(length)), Err(Fault::WrapLength));
         }
     }
-    assert_eq!(wrap_to_vec(&[3; 15], &[0; 16]), Err(Fault::KeyLength));
-    assert_eq!(unwrap_padded_to_vec(&[3; 33], &[0; 16]), Err(Fault::KeyLength));
+    assert_eq!(wrap_to_vec(WrappingKey(&[3; 15]), &[0; 16]), Err(Fault::KeyLength));
+    assert_eq!(unwrap_padded_to_vec(WrappingKey(&[3; 33]), &[0; 16]), Err(Fault::KeyLength));
 }
 
 #[test]
@@ -218,11 +222,11 @@ fn threads_share_a_key() {
                         let mut nonce = [thread; NONCE_BYTES];
                         nonce[..4].copy_from_slice(&i.to_be_bytes());
                         let mut text = vec![thread; i as usize];
-                        let whole = key.seal_to_vec(&nonce, &text, b"").unwrap();
-                        let tag = key.seal_in_place(&nonce, &mut text, b"").unwrap();
+                        let whole = key.seal_to_vec(&nonce, &text, Aad::empty()).unwrap();
+                        let tag = key.seal_in_place(&nonce, &mut text, Aad::empty()).unwrap();
                         assert_eq!(whole, [&text[..], &tag[..]].concat());
-                        assert_eq!(key.open_to_vec(&nonce, &whole, b"").unwrap(), vec![thread; i as usize]);
-                        key.open_in_place(&nonce, &mut text, &tag, b"").unwrap();
+                        assert_eq!(key.open_to_vec(&nonce, &whole, Aad::empty()).unwrap(), vec![thread; i as usize]);
+                        key.open_in_place(&nonce, &mut text, &tag, Aad::empty()).unwrap();
                         assert_eq!(text, vec![thread; i as usize]);
                     }
                 });
@@ -237,9 +241,9 @@ fn a_key_is_copied_whole() {
     for suite in Suite::ALL {
         let copy = Box::new(Key::new(suite, &key_of(suite)).unwrap()).clone();
         let other = Box::new(Key::new(suite, &vec![0xee; suite.key_bytes()]).unwrap());
-        let sealed = copy.seal_to_vec(&NONCE, &text_of(100), b"aad").unwrap();
-        assert_eq!(sealed, seal_to_vec(suite, &key_of(suite), &NONCE, &text_of(100), b"aad").unwrap());
-        assert_eq!(other.open_to_vec(&NONCE, &sealed, b"aad"), Err(Fault::TagMismatch));
+        let sealed = copy.seal_to_vec(&NONCE, &text_of(100), Aad(b"aad")).unwrap();
+        assert_eq!(sealed, seal_to_vec(suite, &key_of(suite), &NONCE, &text_of(100), Aad(b"aad")).unwrap());
+        assert_eq!(other.open_to_vec(&NONCE, &sealed, Aad(b"aad")), Err(Fault::TagMismatch));
         let shown = format!("{copy:?} {copy:#?}");
         assert_eq!(shown, format!("Key({suite:?}) Key({suite:?})"));
     }
@@ -260,16 +264,27 @@ fn what_is_dropped_is_wiped() {
     assert!(std::mem::needs_drop::<Key>());
     for suite in Suite::ALL {
         let key = Key::new(suite, &key_of(suite)).unwrap();
-        let opener = key.opener(&NONCE, &[0; TAG_BYTES], b"aad").unwrap();
+        let opener = key.opener(&NONCE, &[0; TAG_BYTES], Aad(b"aad")).unwrap();
         assert_eq!(left(opener), vec![0; 192]);
-        if let Ok(sealer) = key.sealer(&NONCE, b"aad") {
+        if let Ok(sealer) = key.sealer(&NONCE, Aad(b"aad")) {
             assert_eq!(left(sealer), vec![0; 144]);
         }
-        if let Ok(sealer) = key.siv_sealer(&NONCE, b"aad") {
+        if let Ok(sealer) = key.siv_sealer(&NONCE, Aad(b"aad")) {
             assert_eq!(left(sealer), vec![0; 192]);
-            assert_eq!(left(key.siv_sealer(&NONCE, b"aad").unwrap().begin_second().1), vec![0; 192]);
+            assert_eq!(left(key.siv_sealer(&NONCE, Aad(b"aad")).unwrap().begin_second().1), vec![0; 192]);
         }
     }
+}
+
+/// Associated data may come from whatever gives bytes, and a key that wraps is not shown.
+#[test]
+fn roles_of_bytes() {
+    let (name, header) = (String::from("to: general"), b"to: general".to_vec());
+    for aad in [Aad::from("to: general"), Aad::from(&name), Aad::from(&header), Aad::from(b"to: general"), Aad(&header)] {
+        assert_eq!(aad, Aad(b"to: general"));
+    }
+    assert_eq!((Aad::empty(), Aad::default()), (Aad(b""), Aad(b"")));
+    assert_eq!(format!("{:?} {:#?}", WrappingKey(&[7; 32]), WrappingKey(b"")), "WrappingKey WrappingKey");
 }
 
 #[test]
@@ -281,7 +296,7 @@ fn faults_are_errors() {
     assert_eq!(nonce.unwrap_err().to_string(), "the nonce is not 12 bytes long");
     assert_eq!(Fault::OutputLength.to_string(), "the output is not as long as the result");
     let key = Key::new(Aes256Gcm, &[7; 32]).unwrap();
-    assert_eq!(open_to_vec(Aes256Gcm, &[7; 32], &NONCE, &[0; 16], b""), Err(Fault::TagMismatch));
-    let tag: [u8; TAG_BYTES] = key.seal_in_place(&NONCE, &mut [], b"").unwrap().into();
-    assert_eq!(key.open_in_place(&NONCE, &mut [], &tag, b""), Ok(()));
+    assert_eq!(open_to_vec(Aes256Gcm, &[7; 32], &NONCE, &[0; 16], Aad::empty()), Err(Fault::TagMismatch));
+    let tag: [u8; TAG_BYTES] = key.seal_in_place(&NONCE, &mut [], Aad::empty()).unwrap().into();
+    assert_eq!(key.open_in_place(&NONCE, &mut [], &tag, Aad::empty()), Ok(()));
 }

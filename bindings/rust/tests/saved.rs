@@ -1,6 +1,6 @@
 //! States that are saved and resumed.
 
-use aeadkit::{CheckedOpener, Fault, Key, Opener, Sealer, SivSealer, SivWriter, Suite, TAG_BYTES};
+use aeadkit::{Aad, CheckedOpener, Fault, Key, Opener, Sealer, SivSealer, SivWriter, Suite, TAG_BYTES};
 
 const NONCE: [u8; 12] = [9; 12];
 const SPLITS: [usize; 9] = [0, 1, 15, 16, 17, 100, 255, 256, 300];
@@ -14,15 +14,15 @@ fn text() -> Vec<u8> {
 }
 
 fn sealed(suite: Suite) -> Vec<u8> {
-    aeadkit::seal_to_vec(suite, &key_of(suite), &NONCE, &text(), b"aad").unwrap()
+    aeadkit::seal_to_vec(suite, &key_of(suite), &NONCE, &text(), Aad(b"aad")).unwrap()
 }
 
 fn reads_once() -> impl Iterator<Item = Suite> {
-    Suite::ALL.into_iter().filter(|suite| Sealer::new(*suite, &key_of(*suite), &NONCE, b"").is_ok())
+    Suite::ALL.into_iter().filter(|suite| Sealer::new(*suite, &key_of(*suite), &NONCE, Aad::empty()).is_ok())
 }
 
 fn reads_twice() -> impl Iterator<Item = Suite> {
-    Suite::ALL.into_iter().filter(|suite| SivSealer::new(*suite, &key_of(*suite), &NONCE, b"").is_ok())
+    Suite::ALL.into_iter().filter(|suite| SivSealer::new(*suite, &key_of(*suite), &NONCE, Aad::empty()).is_ok())
 }
 
 #[test]
@@ -32,7 +32,7 @@ fn a_sealing_goes_on() {
         for split in SPLITS {
             let mut bytes = text();
             let (first, second) = bytes.split_at_mut(split);
-            let mut sealer = Sealer::new(suite, &key, &NONCE, b"aad").unwrap();
+            let mut sealer = Sealer::new(suite, &key, &NONCE, Aad(b"aad")).unwrap();
             sealer.update(first).unwrap();
             let saved = sealer.save();
             assert!(!saved.windows(key.len()).any(|part| part == key));
@@ -41,7 +41,7 @@ fn a_sealing_goes_on() {
             bytes.extend(*sealer.finish());
             assert_eq!(bytes, sealed(suite));
         }
-        let sealer = Key::new(suite, &key).unwrap().sealer(&NONCE, b"aad").unwrap();
+        let sealer = Key::new(suite, &key).unwrap().sealer(&NONCE, Aad(b"aad")).unwrap();
         assert!(Sealer::resume(suite, &key, &NONCE, &sealer.save()).is_ok());
     }
 }
@@ -52,7 +52,7 @@ fn a_sealing_of_two_readings_goes_on() {
         let key = key_of(suite);
         for split in SPLITS {
             let mut bytes = text();
-            let mut sealer = SivSealer::new(suite, &key, &NONCE, b"aad").unwrap();
+            let mut sealer = SivSealer::new(suite, &key, &NONCE, Aad(b"aad")).unwrap();
             sealer.absorb(&bytes[..split]).unwrap();
             let mut sealer = SivSealer::resume(suite, &key, &NONCE, &sealer.save()).unwrap();
             sealer.absorb(&bytes[split..]).unwrap();
@@ -74,7 +74,7 @@ fn an_opening_goes_on() {
         let (key, sealed) = (key_of(suite), sealed(suite));
         let (body, tag) = sealed.split_last_chunk::<TAG_BYTES>().unwrap();
         for split in SPLITS {
-            let mut opener = Opener::new(suite, &key, &NONCE, tag, b"aad").unwrap();
+            let mut opener = Opener::new(suite, &key, &NONCE, tag, Aad(b"aad")).unwrap();
             opener.check(&body[..split]).unwrap();
             let mut again = Opener::resume(suite, &key, &NONCE, &opener.save()).unwrap();
             again.check(&body[split..]).unwrap();
@@ -97,7 +97,7 @@ fn an_opening_goes_on() {
 fn other_bytes_are_refused() {
     for suite in Suite::ALL {
         let (key, other) = (key_of(suite), Suite::try_from(suite as u32 % 6 + 1).unwrap());
-        let opener = || Opener::new(suite, &key, &NONCE, &[0; 16], b"").unwrap();
+        let opener = || Opener::new(suite, &key, &NONCE, &[0; 16], Aad::empty()).unwrap();
         let saved = opener().save();
         assert_eq!(Opener::resume(other, &key_of(other), &NONCE, &saved).err(), Some(Fault::NotSaved));
         assert_eq!(Opener::resume(suite, &key[1..], &NONCE, &saved).err(), Some(Fault::KeyLength));
@@ -116,13 +116,13 @@ fn other_bytes_are_refused() {
     for suite in reads_once() {
         let key = key_of(suite);
         assert_eq!(Sealer::resume(suite, &key, &NONCE, &[0; 96]).err(), Some(Fault::NotSaved));
-        let saved = Sealer::new(suite, &key, &NONCE, b"").unwrap().save();
+        let saved = Sealer::new(suite, &key, &NONCE, Aad::empty()).unwrap().save();
         assert_eq!(Sealer::resume(suite, &key[1..], &NONCE, &saved).err(), Some(Fault::KeyLength));
     }
     for suite in reads_twice() {
         let key = key_of(suite);
-        let first = SivSealer::new(suite, &key, &NONCE, b"").unwrap().save();
-        let second = SivSealer::new(suite, &key, &NONCE, b"").unwrap().begin_second().1.save();
+        let first = SivSealer::new(suite, &key, &NONCE, Aad::empty()).unwrap().save();
+        let second = SivSealer::new(suite, &key, &NONCE, Aad::empty()).unwrap().begin_second().1.save();
         assert_eq!(SivWriter::resume(suite, &key, &NONCE, &first).err(), Some(Fault::NotSaved));
         assert_eq!(SivSealer::resume(suite, &key, &NONCE, &second).err(), Some(Fault::NotSaved));
         assert_eq!(SivWriter::resume(suite, &key[1..], &NONCE, &second).err(), Some(Fault::KeyLength));
@@ -147,18 +147,18 @@ fn another_key_or_nonce_is_refused() {
             other[place] ^= 1;
             others.push((key.clone(), other));
         }
-        let mut opener = Opener::new(suite, &key, &NONCE, tag, b"aad").unwrap();
+        let mut opener = Opener::new(suite, &key, &NONCE, tag, Aad(b"aad")).unwrap();
         opener.check(body).unwrap();
         let first = opener.save();
         let second = opener.begin_second().unwrap().save();
         for (key, nonce) in &others {
             assert_eq!(Opener::resume(suite, key, nonce, &first).err(), refused);
             assert_eq!(CheckedOpener::resume(suite, key, nonce, &second).err(), refused);
-            if let Ok(mut sealer) = Sealer::new(suite, &key_of(suite), &NONCE, b"aad") {
+            if let Ok(mut sealer) = Sealer::new(suite, &key_of(suite), &NONCE, Aad(b"aad")) {
                 sealer.update(&mut text()).unwrap();
                 assert_eq!(Sealer::resume(suite, key, nonce, &sealer.save()).err(), refused);
             }
-            if let Ok(mut sealer) = SivSealer::new(suite, &key_of(suite), &NONCE, b"aad") {
+            if let Ok(mut sealer) = SivSealer::new(suite, &key_of(suite), &NONCE, Aad(b"aad")) {
                 sealer.absorb(&text()).unwrap();
                 let saved = sealer.save();
                 assert_eq!(SivSealer::resume(suite, key, nonce, &saved).err(), refused);
@@ -180,7 +180,7 @@ fn any_bytes_are_taken() {
     for suite in reads_once() {
         let key = key_of(suite);
         for _ in 0..500 {
-            let mut saved = Sealer::new(suite, &key, &NONCE, b"").unwrap().save();
+            let mut saved = Sealer::new(suite, &key, &NONCE, Aad::empty()).unwrap().save();
             saved[40..].fill_with(&mut byte);
             if let Ok(mut sealer) = Sealer::resume(suite, &key, &NONCE, &saved) {
                 sealer.update(&mut text()).ok();
@@ -191,7 +191,7 @@ fn any_bytes_are_taken() {
     for suite in Suite::ALL {
         let key = key_of(suite);
         for _ in 0..500 {
-            let mut saved = Opener::new(suite, &key, &NONCE, &[0; 16], b"").unwrap().save();
+            let mut saved = Opener::new(suite, &key, &NONCE, &[0; 16], Aad::empty()).unwrap().save();
             saved[40..].fill_with(&mut byte);
             if let Ok(mut opener) = Opener::resume(suite, &key, &NONCE, &saved) {
                 opener.check(&text()).ok();
@@ -202,7 +202,7 @@ fn any_bytes_are_taken() {
     for suite in reads_twice() {
         let key = key_of(suite);
         for _ in 0..500 {
-            let mut saved = SivSealer::new(suite, &key, &NONCE, b"").unwrap().save();
+            let mut saved = SivSealer::new(suite, &key, &NONCE, Aad::empty()).unwrap().save();
             saved[40..].fill_with(&mut byte);
             if let Ok(mut sealer) = SivSealer::resume(suite, &key, &NONCE, &saved) {
                 sealer.absorb(&text()).ok();
