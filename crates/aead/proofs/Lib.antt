@@ -28,4 +28,3 @@ mod ByteMasks
 mod PassStates
 mod KeyedPasses
 mod KeyedPieces
-mod Openings
