@@ -26,5 +26,6 @@ mod SivExits
 mod Parts
 mod ByteMasks
 mod PassStates
+mod Resumption
 mod KeyedPasses
 mod KeyedPieces

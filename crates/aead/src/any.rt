@@ -46,6 +46,7 @@ impl AnyOnePass {
     // Lends the keys of a message with this nonce.
     pub(crate) fn keys<'a>(&'a self, nonce: &Nonce) -> MessageKeys<'a>
         ensures keys { (aad : List ℕ) → AreKeysOf result (setting (one_pass_keyed self.now) nonce.now aad) }
+        ensures one_pass { is_one_pass (construction_of (one_pass_keyed self.now).suite) ≡ true }
         ensures bytes { (aad : List ℕ) → MasksByBytes (setting (one_pass_keyed self.now) nonce.now aad) }
     {
         match self {

@@ -1,13 +1,13 @@
 //! The key and the nonce of a message as plain numbers, under any suite, for a caller that keeps its state in its own memory. Of
 //! the key only the bytes are kept: each step makes the key schedule and the multiples of the hash key that it needs.
 
-ghost use Rattle.std.specs.Prelude.{◌≡◌, ◌≤◌, ℕ, List, [], length, take, MatchResult, OnErr};
+ghost use Rattle.std.specs.Prelude.{◌≡◌, ◌≤◌, ℕ, List, [], length, take, MatchResult, IfOk, OnErr};
 ghost use Rattle.aes.specs.Cipher.{IsKey};
 ghost use Rattle.gf128.specs.Orders.{Reversed, Serves};
 ghost use Rattle.aead.specs.Suites.{ByChaCha, ByGcm, ByGcmSiv, construction_of, key_length, aad_limit};
 ghost use Rattle.aead.specs.Sealing.{Setting, hash_key, authentication_key, encryption_key};
-ghost use Rattle.aead.specs.PassStates.{HoldsNumbers};
-ghost use Rattle.aead.specs.KeyedPasses.{setting_of, BeginRefused, LengthsRefused, cipher_key};
+ghost use Rattle.aead.specs.PassStates.{HasHashKey, HoldsNumbers};
+ghost use Rattle.aead.specs.KeyedPasses.{setting_of, BeginRefused, ResumeRefused};
 ghost use Rattle.aead.specs.Code.MessageKeys.{construction_by, AreKeysOf};
 
 use crate::chacha_poly::one_time_key;
@@ -303,46 +303,28 @@ impl KeyAndNonce {
 
     // ---- resumption
 
-    // Returns a key of the suite's length that a message is encrypted with, and its nonce.
-    fn of_suite(suite: Suite, key: &[u8], nonce: &Nonce) -> KeyAndNonce
-        requires { length key.now ≡ key_length suite }
-        ensures { (s : Setting) → s.suite ≡ suite → length s.key ≡ key_length suite
-            → key.now ≡ cipher_key (construction_of suite) s → s.nonce ≡ nonce.now → HasKeys result s }
-    {
-        KeyAndNonce::of(key, nonce)
-    }
-
-    // Returns the message's own encryption key and its nonce, under AES-GCM-SIV.
-    fn derived(suite: Suite, cipher: &AesKey, nonce: &Nonce) -> KeyAndNonce
-        requires by { construction_of suite ≡ ByGcmSiv }
-        requires long { length cipher.now ≡ key_length suite }
-        ensures { (aad : List ℕ) → HasKeys result (setting_of suite cipher.now nonce.now aad) }
-    {
-        let parts = KeyParts::new(cipher, nonce);
-        match suite {
-            Suite::Aes128GcmSiv => KeyAndNonce::of_suite(suite, &short_encryption_key(&parts), nonce),
-            _ => KeyAndNonce::of_suite(suite, &long_encryption_key(&parts), nonce),
-        }
-    }
-
-    // Returns the keys of a message that is resumed. Faults: `KeyLength`, then `NonceLength`.
-    pub(crate) fn resumed(suite: Suite, key: &[u8], nonce: &[u8]) -> Result<KeyAndNonce, Fault>
-        ensures { MatchResult result
+    // Returns the key and the nonce of a message, for numbers of a pass over it. Faults: `KeyLength`, `NonceLength`, then
+    // `TagMismatch` if the numbers are of another key or nonce.
+    pub(crate) fn resumed(
+        suite: Suite,
+        key: &[u8],
+        nonce: &[u8],
+        state: &PassState,
+    ) -> Result<KeyAndNonce, Fault>
+        ensures answer { MatchResult result
             (λ p. (aad : List ℕ) → HasKeys p (setting_of suite key.now nonce.now aad))
-            (LengthsRefused suite key.now nonce.now) }
+            (ResumeRefused state.now suite key.now nonce.now) }
+        ensures key { IfOk result (λ _. HasHashKey state.now (setting_of suite key.now nonce.now)) }
     {
-        if key.len() != suite.key_length() {
-            return Err(Fault::KeyLength);
+        let mut keys = KeyAndNonce::zeros();
+        let mut fresh = PassState::zeros();
+        match keys.begin(&mut fresh, suite, key, nonce, &[]) {
+            Ok(()) => {}
+            Err(fault) => return Err(fault),
         }
-        let nonce = Nonce::from_slice(nonce)?;
-        match suite {
-            Suite::ChaCha20Poly1305 | Suite::Aes128Gcm | Suite::Aes192Gcm | Suite::Aes256Gcm => {
-                Ok(KeyAndNonce::of_suite(suite, key, &nonce))
-            }
-            Suite::Aes128GcmSiv | Suite::Aes256GcmSiv => {
-                let cipher = AesKey::from_slice(key)?;
-                Ok(KeyAndNonce::derived(suite, &cipher, &nonce))
-            }
+        if !state.has_hash_key_of(&fresh) {
+            return Err(Fault::TagMismatch);
         }
+        Ok(keys)
     }
 }

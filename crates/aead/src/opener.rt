@@ -1,14 +1,14 @@
 //! Opening piece by piece in two passes, under any suite. A first pass over the ciphertext gives nothing; only if it was over a
 //! sealing does a second pass decrypt.
 
-ghost use Rattle.std.specs.Prelude.{◌≡◌, ◌<◌, ◌≤◌, ◌++◌, ℕ, List, [], length, MatchResult, OnErr};
+ghost use Rattle.std.specs.Prelude.{◌≡◌, ◌<◌, ◌≤◌, ◌++◌, ℕ, List, [], length, MatchResult, IfOk, OnErr};
 ghost use Rattle.octets.specs.Masked.{masked};
 ghost use Rattle.aead.specs.Suites.{text_limit, aad_limit};
 ghost use Rattle.aead.specs.Sealing.{Setting, IsNoSealing, mask_of};
 ghost use Rattle.aead.specs.Ciphers.{setting};
 ghost use Rattle.aead.specs.AnyCiphers.{keyed_of};
 ghost use Rattle.aead.specs.Refusals.{SealRefused};
-ghost use Rattle.aead.specs.PassStates.{HoldsNumbers};
+ghost use Rattle.aead.specs.PassStates.{HasHashKey, HoldsNone, HoldsNumbers};
 ghost use Rattle.aead.specs.Code.MessageKeys.{AreKeysOf};
 ghost use Rattle.aead.specs.Pieces.{Opens, WasOverASealing, IsInFirstPass, IsInSecondPass, MasksByBytes, OpensUnder};
 
@@ -69,6 +69,28 @@ fn begun<'a>(cipher: &'a AnyAead, nonce: &Nonce, aad: &[u8]) -> (OpenerKeys<'a>,
     }
 }
 
+// The keys of a message under a cipher with this nonce, for numbers of a pass under them. `TagMismatch` if the numbers are of
+// another key or nonce.
+fn resumed<'a>(
+    cipher: &'a AnyAead,
+    nonce: &Nonce,
+    state: &TwoPassState,
+) -> Result<OpenerKeys<'a>, Fault>
+    ensures answer { MatchResult result
+        (λ keys. (aad : List ℕ) → let s = setting (keyed_of cipher.now) nonce.now aad in
+        OpensUnder keys s × MasksByBytes s)
+        (λ e. (e ≡ Fault.TagMismatch)
+        × HoldsNone state.now.pass (setting (keyed_of cipher.now) nonce.now)) }
+    ensures key { IfOk result (λ _. HasHashKey state.now.pass (setting (keyed_of cipher.now) nonce.now)) }
+{
+    let (keys, fresh) = begun(cipher, nonce, &[]);
+    if state.pass.has_hash_key_of(&fresh) {
+        Ok(keys)
+    } else {
+        Err(Fault::TagMismatch)
+    }
+}
+
 /// The first pass over a ciphertext that is opened under the tag of its sealing.
 #[derive(Drop)]
 pub struct Opener<'a> {
@@ -97,15 +119,22 @@ impl<'a> Opener<'a> {
     }
 
     /// Returns a state by the numbers of another one under the same cipher and nonce, as [`Opener::state`] returns them: it
-    /// has taken in the bytes that they hold, if they hold some.
-    pub fn resumed(cipher: &'a AnyAead, nonce: &Nonce, state: &TwoPassState) -> Opener<'a>
-        ensures { (aad tag body : List ℕ) → let s = setting (keyed_of cipher.now) nonce.now aad in
-            IsInFirstPass state.now s tag body → HoldsOpener result s tag body }
+    /// has taken in the bytes that they hold, if they hold some. `TagMismatch` if the numbers are of another key or nonce.
+    pub fn resumed(
+        cipher: &'a AnyAead,
+        nonce: &Nonce,
+        state: &TwoPassState,
+    ) -> Result<Opener<'a>, Fault>
+        ensures answer { MatchResult result
+            (λ opener. (aad tag body : List ℕ) → let s = setting (keyed_of cipher.now) nonce.now aad in
+            IsInFirstPass state.now s tag body → HoldsOpener opener s tag body)
+            (λ e. (e ≡ Fault.TagMismatch)
+            × HoldsNone state.now.pass (setting (keyed_of cipher.now) nonce.now)) }
+        ensures key { IfOk result (λ _. HasHashKey state.now.pass (setting (keyed_of cipher.now) nonce.now)) }
     {
-        let (keys, _) = begun(cipher, nonce, &[]);
-        Opener {
-            keys,
-            state: *state,
+        match resumed(cipher, nonce, state) {
+            Ok(keys) => Ok(Opener { keys, state: *state }),
+            Err(fault) => Err(fault),
         }
     }
 
@@ -156,15 +185,23 @@ impl<'a> OpenWriter<'a> {
     ghost use Rattle.aead.specs.Pieces.{HoldsOpenWriter};
 
     /// Returns a state by the numbers of another one under the same cipher and nonce, as [`OpenWriter::state`] returns them: it
-    /// has taken in the bytes that they hold, if they hold some.
-    pub fn resumed(cipher: &'a AnyAead, nonce: &Nonce, state: &TwoPassState) -> OpenWriter<'a>
-        ensures { (aad tag : List ℕ) (first : ℕ) (body : List ℕ) → let s = setting (keyed_of cipher.now) nonce.now aad in
-            IsInSecondPass state.now s tag first body → HoldsOpenWriter result s tag first body }
+    /// has taken in the bytes that they hold, if they hold some. `TagMismatch` if the numbers are of another key or nonce.
+    pub fn resumed(
+        cipher: &'a AnyAead,
+        nonce: &Nonce,
+        state: &TwoPassState,
+    ) -> Result<OpenWriter<'a>, Fault>
+        ensures answer { MatchResult result
+            (λ writer. (aad tag : List ℕ) (first : ℕ) (body : List ℕ)
+            → let s = setting (keyed_of cipher.now) nonce.now aad in
+            IsInSecondPass state.now s tag first body → HoldsOpenWriter writer s tag first body)
+            (λ e. (e ≡ Fault.TagMismatch)
+            × HoldsNone state.now.pass (setting (keyed_of cipher.now) nonce.now)) }
+        ensures key { IfOk result (λ _. HasHashKey state.now.pass (setting (keyed_of cipher.now) nonce.now)) }
     {
-        let (keys, _) = begun(cipher, nonce, &[]);
-        OpenWriter {
-            keys,
-            state: *state,
+        match resumed(cipher, nonce, state) {
+            Ok(keys) => Ok(OpenWriter { keys, state: *state }),
+            Err(fault) => Err(fault),
         }
     }
 

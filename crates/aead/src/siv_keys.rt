@@ -1,10 +1,10 @@
 //! The keys of a message of AES-GCM-SIV (RFC 8452, 4) with its nonce, and what is made of them once.
 
-ghost use Rattle.std.specs.Prelude.{◌≡◌, ◌≤◌, ℕ, List, [], length};
+ghost use Rattle.std.specs.Prelude.{◌≡◌, ◌≤◌, ℕ, List, [], length, MatchResult, IfOk};
 ghost use Rattle.aead.specs.Suites.{aad_limit};
 ghost use Rattle.aead.specs.Sealing.{Setting};
 ghost use Rattle.aead.specs.Ciphers.{setting};
-ghost use Rattle.aead.specs.PassStates.{HoldsNumbers};
+ghost use Rattle.aead.specs.PassStates.{HasHashKey, HoldsNone, HoldsNumbers};
 
 use crate::aead::Aead;
 use crate::gcm_siv::GcmSiv;
@@ -13,7 +13,7 @@ use crate::pass_state::PassState;
 use crate::siv_pass;
 use aes::AesKey;
 use gf128::{Keyed128, TableMul};
-use octets::{Block, Nonce};
+use octets::{Block, Fault, Nonce};
 
 // The keys of a message and its nonce.
 #[derive(Drop)]
@@ -42,6 +42,27 @@ impl SivKeys {
             hash_key: keys.hash_key,
             multiplier: TableMul::of(&keys.hash_key),
             nonce: *nonce,
+        }
+    }
+
+    // Those under a cipher with a nonce, for numbers of a reading under them. `TagMismatch` if the numbers are of another key or
+    // nonce.
+    pub(crate) fn resumed(
+        cipher: &GcmSiv,
+        nonce: &Nonce,
+        state: &PassState,
+    ) -> Result<SivKeys, Fault>
+        ensures answer { MatchResult result
+            (λ keys. (aad : List ℕ) → AreKeys keys (setting cipher.now nonce.now aad))
+            (λ e. (e ≡ Fault.TagMismatch) × HoldsNone state.now (setting cipher.now nonce.now)) }
+        ensures key { IfOk result (λ _. HasHashKey state.now (setting cipher.now nonce.now)) }
+    {
+        let keys = SivKeys::new(cipher, nonce);
+        let fresh = keys.begun(&[]);
+        if state.has_hash_key_of(&fresh) {
+            Ok(keys)
+        } else {
+            Err(Fault::TagMismatch)
         }
     }
 

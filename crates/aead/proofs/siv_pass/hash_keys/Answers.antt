@@ -1,5 +1,5 @@
-use Rattle.std.proofs.Common.{◌≡◌, ℕ, List, length, take, sym, ap, subst, ◌∙◌}
-use Rattle.std.proofs.lemmas.List.{take_at}
+use Rattle.std.proofs.Common.{◌≡◌, ℕ, List, length, take, drop, replicate, sym, ap, subst, ◌∙◌}
+use Rattle.std.proofs.lemmas.List.{take_at, drop_at}
 use Rattle.gf128.specs.Orders.{Reversed, Serves}
 use Rattle.aead.specs.Suites.{Construction}
 use Rattle.aead.specs.Sealing.{authentication_key}
@@ -13,5 +13,8 @@ returns c = λ s by serves.
     ap (take 16) c.joined.ensures
     ∙ take_at c.bytes.result.now _ 16 (ap length c.bytes.ensures.value ∙ c.bytes.ensures.are_bytes.length_is)
     ∙ c.bytes.ensures.value in
+    let zeros : drop 16 c.joined.result ≡ replicate 16 0 =
+    ap (drop 16) c.joined.ensures
+    ∙ drop_at c.bytes.result.now _ 16 (ap length c.bytes.ensures.value ∙ c.bytes.ensures.are_bytes.length_is) in
     subst (λ (x : Construction). IsHashKey x c.joined.result s) (sym by)
-    (subst (λ (k : List ℕ). Serves Reversed auth k) (sym first) serves)
+    (subst (λ (k : List ℕ). Serves Reversed auth k) (sym first) serves, zeros)

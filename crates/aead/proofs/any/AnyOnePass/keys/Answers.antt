@@ -38,3 +38,11 @@ returns-in-Gcm-clause-bytes c = λ aad tag i.
     let by = ap (λ k. construction_of (one_pass_keyed k).suite) c.in-Gcm.is ∙ c.keys.ensures.by in
     let is = ap (λ k. (one_pass_keyed k).key) c.in-Gcm.is in
     mask_small s tag (ap is_one_pass by) (λ e. subst IsKey (sym is) c.keys.ensures.is_key) i
+
+pub returns-in-ChaCha-clause-one_pass : goal.returns-in-ChaCha-clause-one_pass
+returns-in-ChaCha-clause-one_pass c =
+    ap is_one_pass (ap (λ k. construction_of (one_pass_keyed k).suite) c.in-ChaCha.is ∙ c.key.ensures.by)
+
+pub returns-in-Gcm-clause-one_pass : goal.returns-in-Gcm-clause-one_pass
+returns-in-Gcm-clause-one_pass c =
+    ap is_one_pass (ap (λ k. construction_of (one_pass_keyed k).suite) c.in-Gcm.is ∙ c.keys.ensures.by)

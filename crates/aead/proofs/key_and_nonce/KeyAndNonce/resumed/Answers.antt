@@ -1,18 +1,23 @@
-use Rattle.std.proofs.Common.{refl, sym, arith, ap₂, subst}
-use Rattle.aead.specs.Sealing.{Setting}
-use Rattle.aead.specs.KeyedPasses.{setting_of, HasKeys}
-use Rattle.aead.proofs.KeyedPasses.{own_cipher_key}
+use Rattle.std.proofs.Common.{[], sym, ◌∙◌, true≢false}
+use Rattle.aead.specs.KeyedPasses.{setting_of}
+use Rattle.aead.proofs.KeyedPasses.{has_keys_with}
+use Rattle.aead.proofs.Resumption.{has_key, holds_none}
 use Rattle.aead.proofs.key_and_nonce.KeyAndNonce.resumed.Goals as goal
 
-pub returns-in-ChaCha20Poly1305 : goal.returns-in-ChaCha20Poly1305
-returns-in-ChaCha20Poly1305 c = λ aad.
-    let s : Setting = setting_of c.args.suite c.args.key.now c.args.nonce.now aad in
-    c.of_suite.ensures s refl (omega (arith, c.if-key-key_length.false, c.key_length.ensures))
-    (sym (own_cipher_key c.args.suite s c.in-ChaCha20Poly1305.is)) (sym c.in_ok-nonce.ensures.0)
+pub returns-then-not-has_hash_key_of-clause-answer : goal.returns-then-not-has_hash_key_of-clause-answer
+returns-then-not-has_hash_key_of-clause-answer c =
+    let fresh = c.in-Ok.ensures.answer in
+    let found = c.has_hash_key_of.ensures in (
+      fresh.0.lengths,
+      holds_none c.args.state.now c.begin.new.state c.args.suite c.args.key.now c.args.nonce.now _ found.are_blocks.0
+          found.are_blocks.1 fresh.1 (λ e. true≢false (sym (found.same.1 e) ∙ c.if-not-has_hash_key_of.true)),
+    )
 
-pub returns-in_ok-cipher-in-Aes128GcmSiv : goal.returns-in_ok-cipher-in-Aes128GcmSiv
-returns-in_ok-cipher-in-Aes128GcmSiv c = λ aad.
-    subst (λ (x : Setting). HasKeys c.derived.result x)
-    (ap₂ (λ key nonce. setting_of c.args.suite key nonce aad) c.in_ok-cipher-in-Aes128GcmSiv.ensures.0
-    c.in_ok-nonce.ensures.0)
-    (c.derived.ensures aad)
+pub returns-clause-answer : goal.returns-clause-answer
+returns-clause-answer c = λ aad.
+    has_keys_with _ (setting_of c.args.suite c.args.key.now c.args.nonce.now []) aad c.in-Ok.ensures.answer.0
+
+pub returns-clause-key : goal.returns-clause-key
+returns-clause-key c =
+    has_key c.args.state.now c.begin.new.state c.args.suite c.args.key.now c.args.nonce.now _ c.in-Ok.ensures.answer.1
+    (c.has_hash_key_of.ensures.same.0 c.if-not-has_hash_key_of.false)

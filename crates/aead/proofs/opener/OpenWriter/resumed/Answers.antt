@@ -1,5 +1,6 @@
 use Rattle.aead.proofs.opener.OpenWriter.resumed.Goals as goal
 
-pub returns : goal.returns
-returns c = λ aad tag first body h.
-    record { keys = c.begun.ensures.keys aad; bytes = c.begun.ensures.bytes aad; state = h }
+pub returns-in-Ok-clause-answer : goal.returns-in-Ok-clause-answer
+returns-in-Ok-clause-answer c = λ aad tag first body h.
+    let k = c.in-Ok.ensures.answer aad in
+    record { keys = k.0; bytes = k.1; state = h }

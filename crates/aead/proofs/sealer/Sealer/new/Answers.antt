@@ -1,5 +1,3 @@
-use Rattle.std.proofs.Common.{sym, ap, ◌∙◌}
-use Rattle.aead.specs.Suites.{construction_of, is_one_pass}
 use Rattle.aead.specs.Ciphers.{setting}
 use Rattle.aead.specs.AnyCiphers.{one_pass_keyed}
 use Rattle.aead.proofs.KeyedPieces.{empty_text}
@@ -10,6 +8,6 @@ returns c =
     let s = setting (one_pass_keyed c.args.cipher.now) c.args.nonce.now c.args.aad.now in
     record {
       keys = c.keys.ensures.keys c.args.aad.now;
-      one_pass = ap (λ x. is_one_pass (construction_of x)) (sym c.suite.ensures.value) ∙ c.suite.ensures.one_pass;
+      one_pass = c.keys.ensures.one_pass;
       state = empty_text _ s c.begun.ensures;
     }
