@@ -1,4 +1,4 @@
--- Facts about a pass with its keys.
+-- Facts about the key and the nonce of a message, and about what is authenticated of it.
 use Rattle.std.proofs.Common.{◌≡◌, ℕ, ◌-◌, ◌^◌, ◌≤◌, List, length, take, refl, sym, ap, subst, ◌∙◌, arith}
 use Rattle.std.proofs.Common.{◌⊎◌, inl, inr, ap₂, true, true≢false}
 use Rattle.std.proofs.lemmas.List.{take_all}
@@ -8,12 +8,11 @@ use Rattle.gf128.specs.Orders.{Reversed, Serves}
 use Rattle.aead.specs.declared.suite.Suite.{Suite}
 use Rattle.aead.specs.declared.suite.Suite.TheVariants.{ChaCha20Poly1305, Aes128Gcm, Aes192Gcm, Aes256Gcm}
 use Rattle.aead.specs.declared.suite.Suite.TheVariants.{Aes128GcmSiv, Aes256GcmSiv}
-use Rattle.aead.specs.declared.keyed_pass.KeyedPass.{KeyedPass}
+use Rattle.aead.specs.declared.key_and_nonce.KeyAndNonce.{KeyAndNonce}
 use Rattle.aead.specs.Suites.{Construction, ByChaCha, ByGcm, ByGcmSiv, construction_of, is_one_pass, key_length}
 use Rattle.aead.specs.Suites.{text_limit_by}
 use Rattle.aead.specs.Sealing.{Setting, authentication_key, encryption_key, mask_of, tag_over, tag_of}
-use Rattle.aead.specs.PassStates.{HoldsNumbers}
-use Rattle.aead.specs.KeyedPasses.{cipher_key, HoldsPass, authenticated_by}
+use Rattle.aead.specs.KeyedPasses.{setting_of, cipher_key, HasKeys, authenticated_by}
 use Rattle.aead.proofs.Opens.{body_tag, two_pass_tag}
 
 -- neither construction of AES is that of ChaCha20-Poly1305: it has another limit
@@ -32,41 +31,45 @@ chacha_key_length Aes256Gcm e = refl
 chacha_key_length Aes128GcmSiv e = absurd (not_chacha_either e)
 chacha_key_length Aes256GcmSiv e = refl
 
--- a pass is under the keys of a message
-pub under_key : (p : KeyedPass) (s : Setting) (key bytes : List ℕ) → key ≡ cipher_key (construction_of s.suite) s
+-- a key with zeros after it and a nonce are those of a message
+pub has_keys : (p : KeyAndNonce) (s : Setting) (key : List ℕ) → key ≡ cipher_key (construction_of s.suite) s
     → length key ≡ key_length s.suite → length s.key ≡ key_length s.suite → length s.nonce ≡ 12
-    → take (length key) p.key ≡ key → p.nonce ≡ s.nonce → HoldsNumbers p.state s bytes → HoldsPass p s bytes
-under_key p s key bytes is long key_fits nonce_fits padded nonce numbers = record {
+    → take (length key) p.key ≡ key → p.nonce ≡ s.nonce → HasKeys p s
+has_keys p s key is long key_fits nonce_fits padded nonce = record {
   lengths = record { key_fits = key_fits; nonce_fits = nonce_fits };
   key_is = ap (λ (n : ℕ). take n p.key) (sym long) ∙ padded ∙ is;
   nonce_is = nonce;
-  state = numbers;
 }
 
--- with other numbers and the same keys, it holds what the numbers hold
-pub with_state : (p q : KeyedPass) (s : Setting) (bytes more : List ℕ) → (q.key ≡ p.key) × (q.nonce ≡ p.nonce)
-    → HoldsNumbers q.state s more → HoldsPass p s bytes → HoldsPass q s more
-with_state p q s bytes more same numbers h = record {
-  lengths = h.lengths;
-  key_is = ap (take (key_length s.suite)) same.0 ∙ h.key_is;
-  nonce_is = same.1 ∙ h.nonce_is;
-  state = numbers;
+-- they are whatever the associated data
+same_cipher_key : (by : Construction) (s : Setting) (aad : List ℕ)
+    → cipher_key by s ≡ cipher_key by (setting_of s.suite s.key s.nonce aad)
+same_cipher_key ByChaCha s aad = refl
+same_cipher_key ByGcm s aad = refl
+same_cipher_key ByGcmSiv s aad = refl
+
+pub has_keys_with : (p : KeyAndNonce) (s : Setting) (aad : List ℕ) → HasKeys p s
+    → HasKeys p (setting_of s.suite s.key s.nonce aad)
+has_keys_with p s aad h = record {
+  lengths = record { key_fits = h.lengths.key_fits; nonce_fits = h.lengths.nonce_fits };
+  key_is = h.key_is ∙ same_cipher_key (construction_of s.suite) s aad;
+  nonce_is = h.nonce_is;
 }
 
--- the key of the cipher of a message in a pass
-pub chacha_key : (p : KeyedPass) (s : Setting) (bytes : List ℕ) → construction_of s.suite ≡ ByChaCha
-    → length p.key ≤ 32 → HoldsPass p s bytes → p.key ≡ s.key
-chacha_key p s bytes by long h =
+-- the key of the cipher of a message, by construction
+pub chacha_key : (p : KeyAndNonce) (s : Setting) → construction_of s.suite ≡ ByChaCha → length p.key ≤ 32
+    → HasKeys p s → p.key ≡ s.key
+chacha_key p s by long h =
     sym (take_all 32 p.key long) ∙ ap (λ (n : ℕ). take n p.key) (sym (chacha_key_length s.suite by)) ∙ h.key_is
     ∙ ap (λ (x : Construction). cipher_key x s) by
 
-pub gcm_key : (p : KeyedPass) (s : Setting) (bytes : List ℕ) → construction_of s.suite ≡ ByGcm → HoldsPass p s bytes
+pub gcm_key : (p : KeyAndNonce) (s : Setting) → construction_of s.suite ≡ ByGcm → HasKeys p s
     → take (key_length s.suite) p.key ≡ s.key
-gcm_key p s bytes by h = h.key_is ∙ ap (λ (x : Construction). cipher_key x s) by
+gcm_key p s by h = h.key_is ∙ ap (λ (x : Construction). cipher_key x s) by
 
-pub siv_key : (p : KeyedPass) (s : Setting) (bytes : List ℕ) → construction_of s.suite ≡ ByGcmSiv
-    → HoldsPass p s bytes → take (key_length s.suite) p.key ≡ encryption_key s.key s.nonce
-siv_key p s bytes by h = h.key_is ∙ ap (λ (x : Construction). cipher_key x s) by
+pub siv_key : (p : KeyAndNonce) (s : Setting) → construction_of s.suite ≡ ByGcmSiv → HasKeys p s
+    → take (key_length s.suite) p.key ≡ encryption_key s.key s.nonce
+siv_key p s by h = h.key_is ∙ ap (λ (x : Construction). cipher_key x s) by
 
 -- what is authenticated of a ciphertext has its length
 pub length_authenticated : (by : Construction) (mask : ℕ → ℕ) (body : List ℕ)

@@ -10,11 +10,10 @@ use Rattle.gf128.specs.Orders.{Reversed, Serves}
 use Rattle.gf128.specs.Polyval.{IsMulX}
 use Rattle.aead.specs.declared.suite.Suite.{Suite}
 use Rattle.aead.specs.declared.pass_state.PassState.{PassState}
-use Rattle.aead.specs.declared.keyed_pass.KeyedPass.{KeyedPass}
-use Rattle.aead.specs.Suites.{Construction, ByChaCha, ByGcm, ByGcmSiv, construction_of, key_length}
+use Rattle.aead.specs.Suites.{Construction, ByChaCha, ByGcm, ByGcmSiv, construction_of}
 use Rattle.aead.specs.Sealing.{Setting, authentication_key}
 use Rattle.aead.specs.PassStates.{IsHashKey, HoldsNumbers, HoldsNone, HasHashKey}
-use Rattle.aead.specs.KeyedPasses.{setting_of, BeginRefused, ResumeRefused, cipher_key, HoldsPass}
+use Rattle.aead.specs.KeyedPasses.{setting_of, BeginRefused, ResumeRefused}
 
 -- one block alone is the key of a multiplier that serves POLYVAL under a key
 one_reversed : (h k l : List ℕ) → IsBlock k → IsBlock l → Serves Reversed h k → Serves Reversed h l → k ≡ l
@@ -56,24 +55,6 @@ pub holds_none : (n fresh : PassState) (suite : Suite) (key nonce some : List �
 holds_none n fresh suite key nonce some nb fb h other = λ aad bytes held.
     other (one_hash_key (construction_of suite) n.hash_key fresh.hash_key (setting_of suite key nonce aad) nb fb
     held.hash_key_is (other_aad (construction_of suite) fresh.hash_key suite key nonce [] aad h.hash_key_is))
-
--- the key and the nonce of a message do not depend on them either
-own_key : (by : Construction) (suite : Suite) (key nonce aad other : List ℕ)
-    → cipher_key by (setting_of suite key nonce aad) ≡ cipher_key by (setting_of suite key nonce other)
-own_key ByChaCha suite key nonce aad other = refl
-own_key ByGcm suite key nonce aad other = refl
-own_key ByGcmSiv suite key nonce aad other = refl
-
--- a pass that has just begun, with other numbers, holds the bytes that they hold
-pub resumed_pass : (p q : KeyedPass) (suite : Suite) (key nonce aad bytes : List ℕ) → q.key ≡ p.key → q.nonce ≡ p.nonce
-    → HoldsPass p (setting_of suite key nonce []) [] → HoldsNumbers q.state (setting_of suite key nonce aad) bytes
-    → HoldsPass q (setting_of suite key nonce aad) bytes
-resumed_pass p q suite key nonce aad bytes same_key same_nonce h numbers = record {
-  lengths = record { key_fits = h.lengths.key_fits; nonce_fits = h.lengths.nonce_fits };
-  key_is = ap (take (key_length suite)) same_key ∙ h.key_is ∙ own_key (construction_of suite) suite key nonce [] aad;
-  nonce_is = same_nonce ∙ h.nonce_is;
-  state = numbers;
-}
 
 -- nothing is begun after no associated data for the reasons for which nothing is resumed
 pub begin_refused : (n : PassState) (suite : Suite) (key nonce : List ℕ) (e : Fault)

@@ -6,6 +6,7 @@ pub mod CutBytes
 pub mod Maskings
 pub mod Absorbed
 pub mod Masks
+pub mod MessageKeys
 pub mod Buffered
 pub mod Extents
 pub mod Findings

@@ -1,14 +1,14 @@
--- A pass over a message together with the message's keys, as plain numbers.
+-- The key and the nonce of a message, as plain numbers.
 use Rattle.std.specs.Prelude.{◌≡◌, ◌≢◌, ℕ, ◌<◌, List, [], length, take, replicate}
 use Rattle.octets.specs.Masked.{masked}
 use Rattle.octets.specs.declared.fault.Fault.{Fault}
 use Rattle.octets.specs.declared.fault.Fault.TheVariants.{KeyLength, NonceLength, AadTooLong, TagMismatch}
 use Rattle.aead.specs.declared.suite.Suite.{Suite}
-use Rattle.aead.specs.declared.keyed_pass.KeyedPass.{KeyedPass}
+use Rattle.aead.specs.declared.key_and_nonce.KeyAndNonce.{KeyAndNonce}
 use Rattle.aead.specs.declared.pass_state.PassState.{PassState}
 use Rattle.aead.specs.Suites.{Construction, ByChaCha, ByGcm, ByGcmSiv, construction_of, key_length, aad_limit}
-use Rattle.aead.specs.Sealing.{Setting, encryption_key, mask_of}
-use Rattle.aead.specs.PassStates.{HoldsNumbers, HoldsNone, zero_state}
+use Rattle.aead.specs.Sealing.{Setting, encryption_key}
+use Rattle.aead.specs.PassStates.{HoldsNone}
 
 -- a suite with the bytes that are handed in
 abbrev pub setting_of : Suite → (key nonce aad : List ℕ) → Setting
@@ -40,23 +40,18 @@ cipher_key ByChaCha s = s.key
 cipher_key ByGcm s = s.key
 cipher_key ByGcmSiv s = encryption_key s.key s.nonce
 
--- the pass of zeros
-abbrev pub zero_pass : KeyedPass
-zero_pass = record { key = replicate 32 0; nonce = replicate 12 0; state = zero_state }
+-- those of zeros
+abbrev pub zero_keys : KeyAndNonce
+zero_keys = record { key = replicate 32 0; nonce = replicate 12 0 }
 
--- p is under the keys of a message, and has taken in these bytes
-pub record HoldsPass (p : KeyedPass) (s : Setting) (bytes : List ℕ) : Type 0 where
+-- p is the key of the cipher of a message, and its nonce
+pub record HasKeys (p : KeyAndNonce) (s : Setting) : Type 0 where
   pub lengths : HasLengths s
   pub key_is : take (key_length s.suite) p.key ≡ cipher_key (construction_of s.suite) s
   pub nonce_is : p.nonce ≡ s.nonce
-  pub state : HoldsNumbers p.state s bytes
 
 -- what is authenticated of a ciphertext under a mask: itself, or for AES-GCM-SIV its text
 abbrev pub authenticated_by : Construction → (mask : ℕ → ℕ) → List ℕ → List ℕ
 authenticated_by ByChaCha mask body = body
 authenticated_by ByGcm mask body = body
 authenticated_by ByGcmSiv mask body = masked mask 0 body
-
--- p has taken in what is authenticated of this ciphertext under a tag
-abbrev pub HoldsBody : KeyedPass → Setting → (tag body : List ℕ) → Type 0
-HoldsBody p s tag body = HoldsPass p s (authenticated_by (construction_of s.suite) (mask_of s tag) body)

@@ -1,35 +1,33 @@
 -- The state of a sealing or an opening in pieces, by what it was fed.
-use Rattle.std.specs.Prelude.{◌≡◌, ℕ, ◌<◌, ◌≤◌, List, ◌++◌, length, take, get_or}
+use Rattle.std.specs.Prelude.{◌≡◌, ℕ, ◌<◌, ◌≤◌, true, List, ◌++◌, length, get_or}
 use Rattle.octets.specs.Masked.{masked}
 use Rattle.gf128.specs.Orders.{Reversed, Serves}
 use Rattle.gf128.specs.Code.States.{key_of}
 use Rattle.aead.specs.declared.pass_state.PassState.{PassState}
-use Rattle.aead.specs.declared.keyed_pass.KeyedPass.{KeyedPass}
-use Rattle.aead.specs.declared.keyed_passes.KeyedPasses.{KeyedPasses}
 use Rattle.aead.specs.declared.opener.Opener.{Opener}
 use Rattle.aead.specs.declared.opener.OpenWriter.{OpenWriter}
+use Rattle.aead.specs.declared.opener.OpenerKeys.{OpenerKeys}
+use Rattle.aead.specs.declared.opener.OpenerKeys.TheVariants.{OnePass, Siv}
 use Rattle.aead.specs.declared.sealer.Sealer.{Sealer}
 use Rattle.aead.specs.declared.siv.SivAbsorb.{SivAbsorb}
 use Rattle.aead.specs.declared.siv.SivWriter.{SivWriter}
 use Rattle.aead.specs.declared.siv_keys.SivKeys.{SivKeys}
 use Rattle.aead.specs.declared.two_pass_state.TwoPassState.{TwoPassState}
-use Rattle.aead.specs.Suites.{Construction, ByChaCha, ByGcm, ByGcmSiv, construction_of, key_length, text_limit}
-use Rattle.aead.specs.Sealing.{Setting, authentication_key, encryption_key, mask_of, tag_of, sealing}
-use Rattle.aead.specs.Ciphers.{Keyed}
-use Rattle.aead.specs.AnyCiphers.{one_pass_keyed, keyed_of}
+use Rattle.aead.specs.Suites.{ByGcmSiv, construction_of, is_one_pass, text_limit}
+use Rattle.aead.specs.Sealing.{Setting, Opened, authentication_key, encryption_key, mask_of, tag_of, sealing}
 use Rattle.aead.specs.PassStates.{HoldsNumbers, HoldsState, IsStart}
-use Rattle.aead.specs.KeyedPasses.{HasLengths, cipher_key, authenticated_by}
-use Rattle.aead.specs.KeyedPieces.{WasOverASealing}
+use Rattle.aead.specs.KeyedPasses.{HasKeys, authenticated_by}
+use Rattle.aead.specs.Code.MessageKeys.{AreKeysOf}
 
 -- a sealer was fed this text
 pub record HoldsSealer (sealer : Sealer) (s : Setting) (text : List ℕ) : Type 0 where
-  pub keyed_is : one_pass_keyed sealer.cipher.now ≡ record { suite = s.suite; key = s.key }
-  pub nonce_is : sealer.nonce ≡ s.nonce
+  pub keys : AreKeysOf sealer.keys s
+  pub one_pass : is_one_pass (construction_of s.suite) ≡ true
   pub state : HoldsState sealer.state s text
 
 -- k are the keys of a message of AES-GCM-SIV, and its nonce
 pub record AreKeys (k : SivKeys) (s : Setting) : Type 0 where
-  pub suite_is : k.suite ≡ s.suite
+  pub by : construction_of s.suite ≡ ByGcmSiv
   pub encryption_is : k.encryption ≡ encryption_key s.key s.nonce
   pub hash_key_is : Serves Reversed (authentication_key s.key s.nonce) k.hash_key
   pub multiplier_is : key_of k.multiplier ≡ k.hash_key
@@ -61,6 +59,14 @@ pub record HoldsWriter (w : SivWriter) (s : Setting) (first text : List ℕ) : T
 
 -- ---- an opening in two passes
 
+-- the ciphertext and the tag are the sealing of what the ciphertext decrypts to
+abbrev pub Opens : Setting → (tag body : List ℕ) → Type 0
+Opens s tag body = Opened s (body ++ tag) (masked (mask_of s tag) 0 body)
+
+-- a first pass of this many bytes was over a sealing with this tag
+abbrev pub WasOverASealing : Setting → (tag : List ℕ) → (first : ℕ) → Type 0
+WasOverASealing s tag first = (body : List ℕ) × (length body ≡ first) × Opens s tag body
+
 -- the numbers have taken in what is authenticated of this ciphertext under a tag
 abbrev pub HasTakenIn : PassState → Setting → (tag body : List ℕ) → Type 0
 HasTakenIn n s tag body = HoldsNumbers n s (authenticated_by (construction_of s.suite) (mask_of s tag) body)
@@ -81,36 +87,26 @@ pub record IsInSecondPass (n : TwoPassState) (s : Setting) (tag : List ℕ) (fir
   pub within : length body ≤ first
   pub passed : WasOverASealing s tag first
 
--- the lengths fit, and a pass keeps the key of the message's cipher
-abbrev pub HasKey : (key : List ℕ) → Setting → Type 0
-HasKey key s = HasLengths s × (take (key_length s.suite) key ≡ cipher_key (construction_of s.suite) s)
+-- the masks of a message are bytes
+abbrev pub MasksByBytes : Setting → Type 0
+MasksByBytes s = (tag : List ℕ) (i : ℕ) → mask_of s tag i < 256
 
--- under AES-GCM it is without the key
-abbrev pub KeepsKey : Construction → (key : List ℕ) → Setting → Type 0
-KeepsKey ByChaCha key s = HasKey key s
-KeepsKey ByGcm key s = Unit {0}
-KeepsKey ByGcmSiv key s = HasKey key s
-
--- p is a pass over a message of a cipher of this suite and key
-pub record IsUnder (k : Keyed) (p : KeyedPass) (s : Setting) : Type 0 where
-  pub keyed_is : k ≡ record { suite = s.suite; key = s.key }
-  pub nonce_is : p.nonce ≡ s.nonce
-  pub keeps : KeepsKey (construction_of s.suite) p.key s
-  pub mask_small : (tag : List ℕ) (i : ℕ) → mask_of s tag i < 256
-
--- two passes without the message's key and nonce
-abbrev pub numbers_of : KeyedPasses → TwoPassState
-numbers_of p = record { pass = p.pass.state; start = p.start; tag = p.tag; first = p.first }
+-- the keys of an opening are those of a message: they are lent by a cipher, or are its own
+abbrev pub OpensUnder : OpenerKeys → Setting → Type 0
+OpensUnder (OnePass k) s = AreKeysOf k s
+OpensUnder (Siv k) s = (k.suite ≡ s.suite) × HasKeys k.own s
 
 -- the first pass has taken in these bytes of a ciphertext under this tag
 pub record HoldsOpener (o : Opener) (s : Setting) (tag body : List ℕ) : Type 0 where
-  pub under : IsUnder (keyed_of o.cipher.now) o.passes.pass s
-  pub state : IsInFirstPass (numbers_of o.passes) s tag body
+  pub keys : OpensUnder o.keys s
+  pub bytes : MasksByBytes s
+  pub state : IsInFirstPass o.state s tag body
 
 -- the second pass has taken in these, after a first one of this many bytes that was over a sealing
 pub record HoldsOpenWriter (w : OpenWriter) (s : Setting) (tag : List ℕ) (first : ℕ) (body : List ℕ) : Type 0 where
-  pub under : IsUnder (keyed_of w.cipher.now) w.passes.pass s
-  pub state : IsInSecondPass (numbers_of w.passes) s tag first body
+  pub keys : OpensUnder w.keys s
+  pub bytes : MasksByBytes s
+  pub state : IsInSecondPass w.state s tag first body
 
 -- ---- pieces that are joined
 

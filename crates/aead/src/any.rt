@@ -1,16 +1,23 @@
 //! A cipher whose suite is chosen when the program runs: ChaCha20-Poly1305, AES-GCM or AES-GCM-SIV.
 
-ghost use Rattle.std.specs.Prelude.{◌≡◌, ◌≢◌, ◌≤◌, ◌++◌, length, true, MatchResult};
+ghost use Rattle.std.specs.Prelude.{◌≡◌, ◌≢◌, ◌≤◌, ◌++◌, ℕ, List, [], length, true, MatchResult};
 ghost use Rattle.aead.specs.Suites.{construction_of, is_one_pass, key_length, text_limit, aad_limit};
 ghost use Rattle.aead.specs.Sealing.{Opened};
 ghost use Rattle.aead.specs.Ciphers.{setting};
 ghost use Rattle.aead.specs.AnyCiphers.{one_pass_keyed, keyed_of};
 ghost use Rattle.aead.specs.Refusals.{OpenRefused};
+ghost use Rattle.aead.specs.PassStates.{HoldsNumbers};
+ghost use Rattle.aead.specs.Pieces.{MasksByBytes};
+ghost use Rattle.aead.specs.Code.MessageKeys.{AreKeysOf};
 
 use crate::aead::Aead;
-use crate::chacha_poly::ChaChaPoly;
+use crate::chacha_poly::{ChaChaPoly, one_time_key};
 use crate::gcm::Gcm;
+use crate::gcm_pass;
 use crate::gcm_siv::GcmSiv;
+use crate::hashes::PolyKeys;
+use crate::keys::{AesKeys, CipherKeys, KeptKeys, MessageKeys};
+use crate::pass_state::PassState;
 use crate::suite::Suite;
 use aes::AesKey;
 use octets::{Fault, Key32, Nonce, Tag};
@@ -33,6 +40,45 @@ pub enum AnyAead {
     OnePass(AnyOnePass),
     /// AES-GCM-SIV, whose tag is over the text.
     Siv(GcmSiv),
+}
+
+impl AnyOnePass {
+    // Lends the keys of a message with this nonce.
+    pub(crate) fn keys<'a>(&'a self, nonce: &Nonce) -> MessageKeys<'a>
+        ensures keys { (aad : List ℕ) → AreKeysOf result (setting (one_pass_keyed self.now) nonce.now aad) }
+        ensures one_pass { is_one_pass (construction_of (one_pass_keyed self.now).suite) ≡ true }
+        ensures bytes { (aad : List ℕ) → MasksByBytes (setting (one_pass_keyed self.now) nonce.now aad) }
+    {
+        match self {
+            AnyOnePass::ChaCha(cipher) => MessageKeys {
+                cipher: CipherKeys::ChaCha(cipher.key().bytes()),
+                nonce: *nonce.bytes(),
+            },
+            AnyOnePass::Gcm(cipher) => {
+                let (key, _, few) = cipher.keys();
+                MessageKeys {
+                    cipher: CipherKeys::Gcm(AesKeys::Kept(KeptKeys { key, few })),
+                    nonce: *nonce.bytes(),
+                }
+            }
+        }
+    }
+
+    // The numbers of no bytes after associated data.
+    pub(crate) fn begun(&self, nonce: &Nonce, aad: &[u8]) -> PassState
+        requires { length aad.now ≤ aad_limit (one_pass_keyed self.now).suite }
+        ensures { HoldsNumbers result (setting (one_pass_keyed self.now) nonce.now aad.now) [] }
+    {
+        match self {
+            AnyOnePass::ChaCha(cipher) => {
+                PassState::begun(&PolyKeys, one_time_key(cipher.key(), nonce), aad)
+            }
+            AnyOnePass::Gcm(cipher) => {
+                let (key, ghash_key, few) = cipher.keys();
+                gcm_pass::begun(KeptKeys { key, few }, ghash_key, nonce, aad)
+            }
+        }
+    }
 }
 
 impl AnyAead {

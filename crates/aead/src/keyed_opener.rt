@@ -1,40 +1,40 @@
 //! An opening in pieces together with its keys, as plain numbers: for a caller that keeps all of it in its own memory. A first
 //! pass over the ciphertext gives nothing; only if it was over a sealing does a second pass decrypt.
 
-ghost use Rattle.std.specs.Prelude.{◌≡◌, ◌+◌, ◌<◌, ◌≤◌, ◌++◌, ℕ, List, [], length, true, false, MatchResult, IfOk, OnErr};
+ghost use Rattle.std.specs.Prelude.{◌≡◌, ◌+◌, ◌<◌, ◌≤◌, ◌++◌, ℕ, List, [], length, MatchResult, IfOk, OnErr};
 ghost use Rattle.octets.specs.Masked.{masked};
 ghost use Rattle.aead.specs.Suites.{key_length, text_limit};
 ghost use Rattle.aead.specs.Sealing.{Setting, IsNoSealing, hash_key, mask_of};
 ghost use Rattle.aead.specs.Refusals.{SealRefused};
 ghost use Rattle.aead.specs.KeyedPasses.{setting_of, BeginRefused, ResumeRefused};
 ghost use Rattle.aead.specs.PassStates.{HasHashKey};
-ghost use Rattle.aead.specs.Pieces.{IsInFirstPass, IsInSecondPass};
+ghost use Rattle.aead.specs.Pieces.{IsInFirstPass, IsInSecondPass, Opens, WasOverASealing};
 
-use crate::keyed_pass::KeyedPass;
-use crate::keyed_passes::KeyedPasses;
+use crate::key_and_nonce::KeyAndNonce;
 use crate::suite::Suite;
 use crate::two_pass_state::TwoPassState;
 use aes::AesKey;
-use octets::{Block, Fault, same};
+use octets::{Block, Fault};
 
 /// A ciphertext that is opened piece by piece in two passes under the tag of its sealing, with the bytes of its keys. Each number
 /// may have any value.
 #[repr(C)]
 #[derive(Clone, Copy)]
 pub struct KeyedOpener {
-    passes: KeyedPasses,
+    keys: KeyAndNonce,
+    state: TwoPassState,
 }
 
 impl KeyedOpener {
-    ghost use Rattle.aead.specs.KeyedPieces.{zero_opener, HoldsOpening, HoldsFirstPass, HoldsSecondPass, Opens};
-    ghost use Rattle.aead.specs.KeyedPieces.{WasOverASealing, opener_count, FitsIn};
+    ghost use Rattle.aead.specs.KeyedPieces.{zero_opener, HoldsFirstPass, HoldsSecondPass, opener_count, FitsIn};
 
     /// All zeros.
     pub fn zeros() -> KeyedOpener
         ensures { result ≡ zero_opener }
     {
         KeyedOpener {
-            passes: KeyedPasses::zeros(),
+            keys: KeyAndNonce::zeros(),
+            state: TwoPassState::zeros(),
         }
     }
 
@@ -54,9 +54,12 @@ impl KeyedOpener {
             MatchResult result (λ _. HoldsFirstPass self.new s tag.now []) (BeginRefused s) }
         ensures kept { OnErr result (self.new ≡ self.old) }
     {
-        match self.passes.pass.begin(suite, key, nonce, aad) {
+        match self
+            .keys
+            .begin(&mut self.state.pass, suite, key, nonce, aad)
+        {
             Ok(()) => {
-                self.passes.begin_first(tag);
+                self.state = TwoPassState::first(self.state.pass, tag);
                 Ok(())
             }
             Err(fault) => Err(fault),
@@ -83,12 +86,11 @@ impl KeyedOpener {
         ensures kept { OnErr result (self.new ≡ self.old) }
     {
         match self
-            .passes
-            .pass
-            .begin_by(suite, key, cipher, ghash_key, nonce, aad)
+            .keys
+            .begin_by(&mut self.state.pass, suite, key, cipher, ghash_key, nonce, aad)
         {
             Ok(()) => {
-                self.passes.begin_first(tag);
+                self.state = TwoPassState::first(self.state.pass, tag);
                 Ok(())
             }
             Err(fault) => Err(fault),
@@ -114,9 +116,10 @@ impl KeyedOpener {
             (ResumeRefused state.now.pass suite key.now nonce.now) }
         ensures key { IfOk result (λ _. HasHashKey state.now.pass (setting_of suite key.now nonce.now)) }
     {
-        match KeyedPass::resumed(suite, key, nonce, state.pass) {
-            Ok(pass) => Ok(KeyedOpener {
-                passes: KeyedPasses::resumed(pass, state),
+        match KeyAndNonce::resumed(suite, key, nonce, &state.pass) {
+            Ok(keys) => Ok(KeyedOpener {
+                keys,
+                state: *state,
             }),
             Err(fault) => Err(fault),
         }
@@ -129,7 +132,7 @@ impl KeyedOpener {
         ensures second { (s : Setting) (tag : List ℕ) (first : ℕ) (body : List ℕ)
             → HoldsSecondPass self.now s tag first body → IsInSecondPass result s tag first body }
     {
-        self.passes.numbers()
+        self.state
     }
 
     /// Takes in a piece of the ciphertext in the first pass, under its suite. `TextTooLong` if the ciphertext would be past the
@@ -141,22 +144,7 @@ impl KeyedOpener {
         ensures kept { OnErr result (self.new ≡ self.old) }
         ensures fault { FitsIn Fault.TextTooLong result (opener_count self.old) (length piece.now) (text_limit suite) }
     {
-        let tag = self.passes.tag;
-        if self.passes.pass.check(suite, &tag, piece) {
-            Ok(())
-        } else {
-            Err(Fault::TextTooLong)
-        }
-    }
-
-    // Whether what the pass has taken in is the ciphertext of a sealing with this tag.
-    fn is_sealing(&self, suite: Suite) -> bool
-        ensures sealing { (s : Setting) (tag body : List ℕ) → s.suite ≡ suite → HoldsOpening self.now s tag body
-            → result ≡ true → Opens s tag body }
-        ensures none { (s : Setting) (tag body : List ℕ) → s.suite ≡ suite → HoldsOpening self.now s tag body
-            → result ≡ false → IsNoSealing s (body ++ tag) }
-    {
-        same(self.passes.pass.text_tag(suite).bytes(), &self.passes.tag)
+        self.state.check(&self.keys.keys(suite), piece)
     }
 
     /// Ends the first pass. `Ok` if it was over a sealing: the state is then in its second pass, which has taken in nothing yet.
@@ -168,12 +156,7 @@ impl KeyedOpener {
         ensures kept { OnErr result (self.new ≡ self.old) }
         ensures fault { MatchResult result (λ _. Unit {0}) (λ e. e ≡ Fault.TagMismatch) }
     {
-        if !self.is_sealing(suite) {
-            return Err(Fault::TagMismatch);
-        }
-        self.passes.first = self.passes.pass.state.length;
-        self.passes.pass = self.passes.pass.restarted(self.passes.start);
-        Ok(())
+        self.state.begin_second_pass(&self.keys.keys(suite))
     }
 
     /// Takes in a piece of the ciphertext in the second pass, under its suite, and leaves its text in its place.
@@ -187,13 +170,7 @@ impl KeyedOpener {
         ensures kept { OnErr result ((self.new ≡ self.old) × (piece.new ≡ piece.old)) }
         ensures fault { MatchResult result (λ _. Unit {0}) (λ e. e ≡ Fault.SourceChanged) }
     {
-        let limit = self.passes.first.min(suite.text_limit());
-        let tag = self.passes.tag;
-        if self.passes.pass.open(suite, &tag, limit, piece) {
-            Ok(())
-        } else {
-            Err(Fault::SourceChanged)
-        }
+        self.state.open(&self.keys.keys(suite), piece)
     }
 
     /// Returns `Ok` if what the second pass took in is the ciphertext of the sealing, else `SourceChanged`: what `update` gave is
@@ -204,10 +181,6 @@ impl KeyedOpener {
             (λ e. (e ≡ Fault.SourceChanged) × IsNoSealing s (body ++ tag)) }
         ensures fault { MatchResult result (λ _. Unit {0}) (λ e. e ≡ Fault.SourceChanged) }
     {
-        if self.is_sealing(suite) {
-            Ok(())
-        } else {
-            Err(Fault::SourceChanged)
-        }
+        self.state.end_pass(&self.keys.keys(suite))
     }
 }

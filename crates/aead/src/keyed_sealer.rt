@@ -8,8 +8,7 @@ ghost use Rattle.aead.specs.Refusals.{SealRefused};
 ghost use Rattle.aead.specs.PassStates.{HasHashKey, HoldsState};
 ghost use Rattle.aead.specs.KeyedPasses.{setting_of, BeginRefused, ResumeRefused};
 
-use crate::beside::Order;
-use crate::keyed_pass::KeyedPass;
+use crate::key_and_nonce::KeyAndNonce;
 use crate::pass_state::PassState;
 use crate::suite::Suite;
 use aes::AesKey;
@@ -20,7 +19,8 @@ use octets::{Block, Fault, Tag};
 #[repr(C)]
 #[derive(Clone, Copy)]
 pub struct KeyedSealer {
-    pass: KeyedPass,
+    keys: KeyAndNonce,
+    state: PassState,
 }
 
 impl KeyedSealer {
@@ -31,7 +31,8 @@ impl KeyedSealer {
         ensures { result ≡ zero_sealer }
     {
         KeyedSealer {
-            pass: KeyedPass::zeros(),
+            keys: KeyAndNonce::zeros(),
+            state: PassState::zeros(),
         }
     }
 
@@ -47,7 +48,7 @@ impl KeyedSealer {
             MatchResult result (λ _. HoldsKeyedText self.new s []) (BeginRefused s) }
         ensures kept { OnErr result (self.new ≡ self.old) }
     {
-        self.pass.begin(suite, key, nonce, aad)
+        self.keys.begin(&mut self.state, suite, key, nonce, aad)
     }
 
     /// As [`KeyedSealer::begin`], by what was made of the key before: its schedule and the key of GHASH, which is the cipher
@@ -69,8 +70,8 @@ impl KeyedSealer {
             MatchResult result (λ _. HoldsKeyedText self.new s []) (BeginRefused s) }
         ensures kept { OnErr result (self.new ≡ self.old) }
     {
-        self.pass
-            .begin_by(suite, key, cipher, ghash_key, nonce, aad)
+        self.keys
+            .begin_by(&mut self.state, suite, key, cipher, ghash_key, nonce, aad)
     }
 
     /// Returns a state by the numbers of another one under the same suite, key and nonce, as [`KeyedSealer::state`] returns
@@ -89,8 +90,11 @@ impl KeyedSealer {
             (ResumeRefused state.now suite key.now nonce.now) }
         ensures key { IfOk result (λ _. HasHashKey state.now (setting_of suite key.now nonce.now)) }
     {
-        match KeyedPass::resumed(suite, key, nonce, *state) {
-            Ok(pass) => Ok(KeyedSealer { pass }),
+        match KeyAndNonce::resumed(suite, key, nonce, state) {
+            Ok(keys) => Ok(KeyedSealer {
+                keys,
+                state: *state,
+            }),
             Err(fault) => Err(fault),
         }
     }
@@ -99,7 +103,7 @@ impl KeyedSealer {
     pub fn state(&self) -> PassState
         ensures { (s : Setting) (text : List ℕ) → HoldsKeyedText self.now s text → HoldsState result s text }
     {
-        self.pass.state
+        self.state
     }
 
     /// Adds `piece`, of any length, to the text, under its suite, and leaves its ciphertext in its place. `TextTooLong` if the
@@ -114,11 +118,7 @@ impl KeyedSealer {
         ensures kept { OnErr result ((self.new ≡ self.old) × (piece.new ≡ piece.old)) }
         ensures fault { FitsIn Fault.TextTooLong result (sealer_count self.old) (length piece.old) (text_limit suite) }
     {
-        if self.pass.mask(suite, Order::MaskFirst, &[0; 16], suite.text_limit(), piece) {
-            Ok(())
-        } else {
-            Err(Fault::TextTooLong)
-        }
+        self.state.seal(&self.keys.keys(suite), piece)
     }
 
     /// Returns the tag of the text under its suite, 16 bytes.
@@ -127,6 +127,6 @@ impl KeyedSealer {
         ensures { (s : Setting) (text : List ℕ) → s.suite ≡ suite → HoldsKeyedText self.now s text
             → result ≡ tag_of s text }
     {
-        self.pass.tag(suite)
+        self.state.text_tag(&self.keys.keys(suite))
     }
 }

@@ -10,20 +10,19 @@ ghost use Rattle.aead.specs.Refusals.{SealRefused};
 ghost use Rattle.aead.specs.KeyedPasses.{setting_of, BeginRefused, ResumeRefused};
 ghost use Rattle.aead.specs.PassStates.{HasHashKey};
 
-use crate::beside::Order;
-use crate::keyed_pass::KeyedPass;
-use crate::keyed_passes::KeyedPasses;
+use crate::key_and_nonce::KeyAndNonce;
 use crate::suite::Suite;
 use crate::two_pass_state::TwoPassState;
 use aes::AesKey;
-use octets::{Block, Fault, Tag, same};
+use octets::{Block, Fault, Tag};
 
 /// A text that is sealed piece by piece in two readings under AES-GCM-SIV, with the bytes of its keys. Each number may have any
 /// value. [`crate::SivAbsorb`] is faster for short pieces: a call here makes the key's schedule anew.
 #[repr(C)]
 #[derive(Clone, Copy)]
 pub struct KeyedSiv {
-    passes: KeyedPasses,
+    keys: KeyAndNonce,
+    state: TwoPassState,
 }
 
 impl KeyedSiv {
@@ -34,7 +33,8 @@ impl KeyedSiv {
         ensures { result ≡ zero_siv }
     {
         KeyedSiv {
-            passes: KeyedPasses::zeros(),
+            keys: KeyAndNonce::zeros(),
+            state: TwoPassState::zeros(),
         }
     }
 
@@ -50,9 +50,12 @@ impl KeyedSiv {
             MatchResult result (λ _. HoldsFirstReading self.new s []) (BeginRefused s) }
         ensures kept { OnErr result (self.new ≡ self.old) }
     {
-        match self.passes.pass.begin(suite, key, nonce, aad) {
+        match self
+            .keys
+            .begin(&mut self.state.pass, suite, key, nonce, aad)
+        {
             Ok(()) => {
-                self.passes.begin_first(&[0; 16]);
+                self.state = TwoPassState::first(self.state.pass, &[0; 16]);
                 Ok(())
             }
             Err(fault) => Err(fault),
@@ -79,12 +82,11 @@ impl KeyedSiv {
         ensures kept { OnErr result (self.new ≡ self.old) }
     {
         match self
-            .passes
-            .pass
-            .begin_by(suite, key, cipher, ghash_key, nonce, aad)
+            .keys
+            .begin_by(&mut self.state.pass, suite, key, cipher, ghash_key, nonce, aad)
         {
             Ok(()) => {
-                self.passes.begin_first(&[0; 16]);
+                self.state = TwoPassState::first(self.state.pass, &[0; 16]);
                 Ok(())
             }
             Err(fault) => Err(fault),
@@ -111,9 +113,10 @@ impl KeyedSiv {
             (ResumeRefused state.now.pass suite key.now nonce.now) }
         ensures key { IfOk result (λ _. HasHashKey state.now.pass (setting_of suite key.now nonce.now)) }
     {
-        match KeyedPass::resumed(suite, key, nonce, state.pass) {
-            Ok(pass) => Ok(KeyedSiv {
-                passes: KeyedPasses::resumed(pass, state),
+        match KeyAndNonce::resumed(suite, key, nonce, &state.pass) {
+            Ok(keys) => Ok(KeyedSiv {
+                keys,
+                state: *state,
             }),
             Err(fault) => Err(fault),
         }
@@ -126,7 +129,7 @@ impl KeyedSiv {
         ensures second { (s : Setting) (first text : List ℕ) → HoldsSecondReading self.now s first text
             → IsInSecondReading result s first text }
     {
-        self.passes.numbers()
+        self.state
     }
 
     /// Adds `piece`, of any length, to the text in the first reading, under its suite. `TextTooLong` if the text would be past
@@ -138,11 +141,7 @@ impl KeyedSiv {
         ensures kept { OnErr result (self.new ≡ self.old) }
         ensures fault { FitsIn Fault.TextTooLong result (siv_count self.old) (length piece.now) (text_limit suite) }
     {
-        if self.passes.pass.take(suite, piece) {
-            Ok(())
-        } else {
-            Err(Fault::TextTooLong)
-        }
+        self.state.absorb(&self.keys.keys(suite), piece)
     }
 
     /// Ends the first reading and returns the tag of its text, 16 bytes. The state is then in its second reading, which has
@@ -151,11 +150,7 @@ impl KeyedSiv {
         ensures { (s : Setting) (text : List ℕ) → s.suite ≡ suite → HoldsFirstReading self.old s text
             → (result ≡ tag_of s text) × HoldsSecondReading self.new s text [] }
     {
-        let tag = self.passes.pass.tag(suite);
-        self.passes.tag = *tag.bytes();
-        self.passes.first = self.passes.pass.state.length;
-        self.passes.pass = self.passes.pass.restarted(self.passes.start);
-        tag
+        self.state.begin_second_reading(&self.keys.keys(suite))
     }
 
     /// Adds `piece`, of any length, to the text in the second reading, under its suite, and leaves its ciphertext in its place.
@@ -169,17 +164,7 @@ impl KeyedSiv {
         ensures kept { OnErr result ((self.new ≡ self.old) × (piece.new ≡ piece.old)) }
         ensures fault { MatchResult result (λ _. Unit {0}) (λ e. e ≡ Fault.SourceChanged) }
     {
-        let limit = self.passes.first.min(suite.text_limit());
-        let tag = self.passes.tag;
-        if self
-            .passes
-            .pass
-            .mask(suite, Order::HashFirst, &tag, limit, piece)
-        {
-            Ok(())
-        } else {
-            Err(Fault::SourceChanged)
-        }
+        self.state.write(&self.keys.keys(suite), piece)
     }
 
     /// Returns `Ok` if the second text has the length and the tag of the first, else `SourceChanged`.
@@ -189,13 +174,6 @@ impl KeyedSiv {
             (λ e. (e ≡ Fault.SourceChanged) × ¬ (Repeats s first text)) }
         ensures fault { MatchResult result (λ _. Unit {0}) (λ e. e ≡ Fault.SourceChanged) }
     {
-        let tag = self.passes.pass.tag(suite);
-        if self.passes.pass.state.length == self.passes.first
-            && same(tag.bytes(), &self.passes.tag)
-        {
-            Ok(())
-        } else {
-            Err(Fault::SourceChanged)
-        }
+        self.state.end_reading(&self.keys.keys(suite))
     }
 }

@@ -1,238 +1,101 @@
 //! Opening piece by piece in two passes, under any suite. A first pass over the ciphertext gives nothing; only if it was over a
 //! sealing does a second pass decrypt.
 
-ghost use Rattle.std.specs.Prelude.{◌≡◌, ◌+◌, ◌<◌, ◌≤◌, ◌++◌, ℕ, List, [], length, true, false, MatchResult, IfOk, OnErr};
+ghost use Rattle.std.specs.Prelude.{◌≡◌, ◌<◌, ◌≤◌, ◌++◌, ℕ, List, [], length, MatchResult, IfOk, OnErr};
 ghost use Rattle.octets.specs.Masked.{masked};
 ghost use Rattle.aead.specs.Suites.{text_limit, aad_limit};
-ghost use Rattle.aead.specs.Sealing.{Setting, IsNoSealing, mask_of, tag_of};
+ghost use Rattle.aead.specs.Sealing.{Setting, IsNoSealing, mask_of};
 ghost use Rattle.aead.specs.Ciphers.{setting};
 ghost use Rattle.aead.specs.AnyCiphers.{keyed_of};
 ghost use Rattle.aead.specs.Refusals.{SealRefused};
 ghost use Rattle.aead.specs.PassStates.{HasHashKey, HoldsNone, HoldsNumbers};
-ghost use Rattle.aead.specs.KeyedPieces.{Opens, WasOverASealing};
-ghost use Rattle.aead.specs.Pieces.{IsUnder, HasTakenIn, IsInFirstPass, IsInSecondPass, numbers_of};
+ghost use Rattle.aead.specs.Code.MessageKeys.{AreKeysOf};
+ghost use Rattle.aead.specs.Pieces.{Opens, WasOverASealing, IsInFirstPass, IsInSecondPass, MasksByBytes, OpensUnder};
 
 use crate::aead::Aead;
-use crate::any::{AnyAead, AnyOnePass};
-use crate::beside::Order;
-use crate::chacha_poly::ChaChaPoly;
-use crate::gcm::{self, Gcm, hash_keys};
-use crate::gcm_siv::GcmSiv;
-use crate::hashes::GhashKeys;
-use crate::keyed_pass::KeyedPass;
-use crate::keyed_passes::KeyedPasses;
-use crate::multiples::{Multiples, worth};
+use crate::any::AnyAead;
+use crate::key_and_nonce::KeyAndNonce;
+use crate::keys::MessageKeys;
 use crate::pass_state::PassState;
+use crate::suite::Suite;
 use crate::two_pass_state::TwoPassState;
-use aes::AesKey;
-use gf128::WideMul;
-use octets::{Fault, Nonce, Tag, same};
+use octets::{Fault, Nonce, Tag};
 
-// ---- a pass under a cipher: as that with its keys, but under AES-GCM the cipher's own schedule and multiples serve
-
-// A pass over no bytes under ChaCha20-Poly1305.
-fn begun_chacha(cipher: &ChaChaPoly, nonce: &Nonce, aad: &[u8]) -> KeyedPass
-    requires { length aad.now ≤ aad_limit cipher.now.suite }
-    ensures under { IsUnder cipher.now result (setting cipher.now nonce.now aad.now) }
-    ensures holds { HoldsNumbers result.state (setting cipher.now nonce.now aad.now) [] }
-{
-    let mut pass = KeyedPass::zeros();
-    pass.begin_chacha(cipher.suite(), cipher.key(), nonce, aad);
-    pass
+// The encryption key of a message of AES-GCM-SIV, with its suite and nonce.
+#[derive(Drop, Clone, Copy)]
+pub(crate) struct OwnKey {
+    suite: Suite,
+    own: KeyAndNonce,
 }
 
-// Under AES-GCM, without the key.
-fn begun_gcm(cipher: &Gcm, nonce: &Nonce, aad: &[u8]) -> KeyedPass
-    requires { length aad.now ≤ aad_limit cipher.now.suite }
-    ensures under { IsUnder cipher.now result (setting cipher.now nonce.now aad.now) }
-    ensures holds { HoldsNumbers result.state (setting cipher.now nonce.now aad.now) [] }
-{
-    let (key, ghash_key, multiplier) = cipher.keys();
-    let keys = GhashKeys { multiplier };
-    let state = PassState::begun(&keys, hash_keys(key, ghash_key, nonce), aad);
-    KeyedPass::under(&[], nonce, state)
+// The keys of a message that is opened: those that its cipher lends, or the message's own.
+#[derive(Drop, Clone, Copy)]
+pub(crate) enum OpenerKeys<'a> {
+    OnePass(MessageKeys<'a>),
+    Siv(OwnKey),
 }
 
-// Under AES-GCM-SIV.
-fn begun_siv(cipher: &GcmSiv, nonce: &Nonce, aad: &[u8]) -> KeyedPass
-    requires { length aad.now ≤ aad_limit cipher.now.suite }
-    ensures under { IsUnder cipher.now result (setting cipher.now nonce.now aad.now) }
-    ensures holds { HoldsNumbers result.state (setting cipher.now nonce.now aad.now) [] }
-{
-    let mut pass = KeyedPass::zeros();
-    pass.begin_siv(cipher.suite(), cipher.key(), nonce, aad);
-    pass
+impl<'a> OpenerKeys<'a> {
+    // Lends the keys for a step.
+    fn keys<'b>(&'b self) -> MessageKeys<'b>
+        ensures { (s : Setting) → OpensUnder self.now s → AreKeysOf result s }
+    {
+        match self {
+            OpenerKeys::OnePass(keys) => *keys,
+            OpenerKeys::Siv(key) => key.own.keys(key.suite),
+        }
+    }
 }
 
-// Under any suite.
-fn begun(cipher: &AnyAead, nonce: &Nonce, aad: &[u8]) -> KeyedPass
+// The keys of a message under a cipher with this nonce, and the numbers of no bytes after associated data.
+fn begun<'a>(cipher: &'a AnyAead, nonce: &Nonce, aad: &[u8]) -> (OpenerKeys<'a>, PassState)
     requires { length aad.now ≤ aad_limit (keyed_of cipher.now).suite }
-    ensures under { IsUnder (keyed_of cipher.now) result (setting (keyed_of cipher.now) nonce.now aad.now) }
-    ensures holds { HoldsNumbers result.state (setting (keyed_of cipher.now) nonce.now aad.now) [] }
+    ensures keys { (any : List ℕ) → OpensUnder result.0 (setting (keyed_of cipher.now) nonce.now any) }
+    ensures bytes { (any : List ℕ) → MasksByBytes (setting (keyed_of cipher.now) nonce.now any) }
+    ensures holds { HoldsNumbers result.1 (setting (keyed_of cipher.now) nonce.now aad.now) [] }
 {
     match cipher {
-        AnyAead::OnePass(AnyOnePass::ChaCha(cipher)) => begun_chacha(cipher, nonce, aad),
-        AnyAead::OnePass(AnyOnePass::Gcm(cipher)) => begun_gcm(cipher, nonce, aad),
-        AnyAead::Siv(cipher) => begun_siv(cipher, nonce, aad),
-    }
-}
-
-// Takes in what is authenticated of a piece of a ciphertext under a tag, if it is within the suite's limit. Returns whether
-// it is.
-fn check(cipher: &AnyAead, pass: &mut KeyedPass, tag: &[u8; 16], piece: &[u8]) -> bool
-    ensures takes { (s : Setting) (body : List ℕ) → result ≡ true → IsUnder (keyed_of cipher.now) pass.old s
-        → HasTakenIn pass.old.state s tag.now body
-        → IsUnder (keyed_of cipher.now) pass.new s × HasTakenIn pass.new.state s tag.now (body ++ piece.now) }
-    ensures fits { result ≡ true → pass.old.state.length + length piece.now ≤ text_limit (keyed_of cipher.now).suite }
-    ensures past { result ≡ false → text_limit (keyed_of cipher.now).suite < pass.old.state.length + length piece.now }
-    ensures kept { result ≡ false → pass.new ≡ pass.old }
-{
-    match cipher {
-        AnyAead::OnePass(AnyOnePass::ChaCha(cipher)) => pass.check(cipher.suite(), tag, piece),
-        AnyAead::OnePass(AnyOnePass::Gcm(cipher)) => {
-            if !pass.state.has_room(cipher.suite().text_limit(), piece) {
-                return false;
-            }
-            let (_, _, multiplier) = cipher.keys();
-            match worth(piece.len() as u64) {
-                Multiples::Few => pass.state.take(&GhashKeys { multiplier }, piece),
-                Multiples::OfFourPowers => pass.take_gcm::<WideMul>(piece),
-            }
-            true
-        }
-        AnyAead::Siv(cipher) => pass.check(cipher.suite(), tag, piece),
-    }
-}
-
-// Decrypts a piece of a ciphertext under AES-GCM, and takes it in, if it is within a limit. Returns whether it is.
-fn decrypt_by_gcm(cipher: &Gcm, pass: &mut KeyedPass, limit: u64, piece: &mut [u8]) -> bool
-    requires { limit ≤ text_limit cipher.now.suite }
-    ensures opens { (s : Setting) (tag body : List ℕ) → result ≡ true → IsUnder cipher.now pass.old s
-        → HasTakenIn pass.old.state s tag body
-        → IsUnder cipher.now pass.new s × HasTakenIn pass.new.state s tag (body ++ piece.old)
-        × (piece.new ≡ masked (mask_of s tag) (length body) piece.old) }
-    ensures fits { result ≡ true → pass.old.state.length + length piece.old ≤ limit }
-    ensures past { result ≡ false → limit < pass.old.state.length + length piece.old }
-    ensures kept { result ≡ false → (pass.new ≡ pass.old) × (piece.new ≡ piece.old) }
-{
-    if !pass.state.has_room(limit, piece) {
-        return false;
-    }
-    let (key, _, multiplier) = cipher.keys();
-    let nonce = Nonce::new(pass.nonce);
-    let mut mask = gcm::mask_at(key, &nonce, pass.state.length);
-    match worth(piece.len() as u64) {
-        Multiples::Few => {
-            let keys = GhashKeys { multiplier };
-            pass.state.step(&keys, &mut mask, Order::HashFirst, piece);
-        }
-        Multiples::OfFourPowers => {
-            pass.mask_gcm_by::<WideMul, &AesKey>(&mut mask, Order::HashFirst, piece)
+        AnyAead::OnePass(cipher) => (
+            OpenerKeys::OnePass(cipher.keys(nonce)),
+            cipher.begun(nonce, aad),
+        ),
+        AnyAead::Siv(cipher) => {
+            let suite = cipher.suite();
+            let mut own = KeyAndNonce::zeros();
+            let mut state = PassState::zeros();
+            own.begin_siv(&mut state, suite, cipher.key(), nonce, aad);
+            (OpenerKeys::Siv(OwnKey { suite, own }), state)
         }
     }
-    true
 }
 
-// Decrypts a piece of a ciphertext under a tag, and takes in what is authenticated of it, if it is within a limit. Returns
-// whether it is.
-fn decrypt(
-    cipher: &AnyAead,
-    pass: &mut KeyedPass,
-    tag: &[u8; 16],
-    limit: u64,
-    piece: &mut [u8],
-) -> bool
-    requires { limit ≤ text_limit (keyed_of cipher.now).suite }
-    ensures opens { (s : Setting) (body : List ℕ) → result ≡ true → IsUnder (keyed_of cipher.now) pass.old s
-        → HasTakenIn pass.old.state s tag.now body
-        → IsUnder (keyed_of cipher.now) pass.new s × HasTakenIn pass.new.state s tag.now (body ++ piece.old)
-        × (piece.new ≡ masked (mask_of s tag.now) (length body) piece.old) }
-    ensures fits { result ≡ true → pass.old.state.length + length piece.old ≤ limit }
-    ensures past { result ≡ false → limit < pass.old.state.length + length piece.old }
-    ensures kept { result ≡ false → (pass.new ≡ pass.old) × (piece.new ≡ piece.old) }
-{
-    match cipher {
-        AnyAead::OnePass(AnyOnePass::ChaCha(cipher)) => {
-            pass.open(cipher.suite(), tag, limit, piece)
-        }
-        AnyAead::OnePass(AnyOnePass::Gcm(cipher)) => decrypt_by_gcm(cipher, pass, limit, piece),
-        AnyAead::Siv(cipher) => pass.open(cipher.suite(), tag, limit, piece),
-    }
-}
-
-// The tag of the text of a ciphertext that was taken in under AES-GCM.
-fn text_tag_by_gcm(cipher: &Gcm, pass: &KeyedPass) -> Tag
-    ensures { (s : Setting) (tag body : List ℕ) → IsUnder cipher.now pass.now s
-        → HasTakenIn pass.now.state s tag body → result ≡ tag_of s (masked (mask_of s tag) 0 body) }
-{
-    let (_, _, multiplier) = cipher.keys();
-    pass.state.tag(&GhashKeys { multiplier })
-}
-
-// The tag of the text of a ciphertext that was taken in under a tag.
-fn text_tag(cipher: &AnyAead, pass: &KeyedPass) -> Tag
-    ensures { (s : Setting) (tag body : List ℕ) → IsUnder (keyed_of cipher.now) pass.now s
-        → HasTakenIn pass.now.state s tag body → result ≡ tag_of s (masked (mask_of s tag) 0 body) }
-{
-    match cipher {
-        AnyAead::OnePass(AnyOnePass::ChaCha(cipher)) => pass.text_tag(cipher.suite()),
-        AnyAead::OnePass(AnyOnePass::Gcm(cipher)) => text_tag_by_gcm(cipher, pass),
-        AnyAead::Siv(cipher) => pass.text_tag(cipher.suite()),
-    }
-}
-
-// ---- both passes
-
-// Whether what the pass has taken in is the ciphertext of a sealing with this tag.
-fn is_sealing(cipher: &AnyAead, passes: &KeyedPasses) -> bool
-    ensures sealing { (s : Setting) (tag body : List ℕ) → IsUnder (keyed_of cipher.now) passes.now.pass s
-        → IsInFirstPass (numbers_of passes.now) s tag body → result ≡ true → Opens s tag body }
-    ensures none { (s : Setting) (tag body : List ℕ) → IsUnder (keyed_of cipher.now) passes.now.pass s
-        → IsInFirstPass (numbers_of passes.now) s tag body → result ≡ false → IsNoSealing s (body ++ tag) }
-{
-    same(text_tag(cipher, &passes.pass).bytes(), &passes.tag)
-}
-
-// The numbers without the message's key and nonce.
-fn numbers(passes: &KeyedPasses) -> TwoPassState
-    ensures { result ≡ numbers_of passes.now }
-{
-    TwoPassState {
-        pass: passes.pass.state,
-        start: passes.start,
-        tag: passes.tag,
-        first: passes.first,
-    }
-}
-
-// The passes by their numbers, with the message's key and nonce. `TagMismatch` if the numbers are of another key or nonce.
-fn resumed(cipher: &AnyAead, nonce: &Nonce, state: &TwoPassState) -> Result<KeyedPasses, Fault>
+// The keys of a message under a cipher with this nonce, for numbers of a pass under them. `TagMismatch` if the numbers are of
+// another key or nonce.
+fn resumed<'a>(
+    cipher: &'a AnyAead,
+    nonce: &Nonce,
+    state: &TwoPassState,
+) -> Result<OpenerKeys<'a>, Fault>
     ensures answer { MatchResult result
-        (λ passes. ((aad : List ℕ)
-        → IsUnder (keyed_of cipher.now) passes.pass (setting (keyed_of cipher.now) nonce.now aad))
-        × (numbers_of passes ≡ state.now))
+        (λ keys. (aad : List ℕ) → let s = setting (keyed_of cipher.now) nonce.now aad in
+        OpensUnder keys s × MasksByBytes s)
         (λ e. (e ≡ Fault.TagMismatch)
         × HoldsNone state.now.pass (setting (keyed_of cipher.now) nonce.now)) }
     ensures key { IfOk result (λ _. HasHashKey state.now.pass (setting (keyed_of cipher.now) nonce.now)) }
 {
-    let mut pass = begun(cipher, nonce, &[]);
-    if !state.pass.has_hash_key_of(&pass.state) {
-        return Err(Fault::TagMismatch);
+    let (keys, fresh) = begun(cipher, nonce, &[]);
+    if state.pass.has_hash_key_of(&fresh) {
+        Ok(keys)
+    } else {
+        Err(Fault::TagMismatch)
     }
-    pass.state = state.pass;
-    Ok(KeyedPasses {
-        pass,
-        start: state.start,
-        tag: state.tag,
-        first: state.first,
-    })
 }
 
 /// The first pass over a ciphertext that is opened under the tag of its sealing.
 #[derive(Drop)]
 pub struct Opener<'a> {
-    cipher: &'a AnyAead,
-    passes: KeyedPasses,
+    keys: OpenerKeys<'a>,
+    state: TwoPassState,
 }
 
 impl<'a> Opener<'a> {
@@ -250,10 +113,9 @@ impl<'a> Opener<'a> {
             MatchResult result (λ opener. HoldsOpener opener s tag.now []) (λ e. SealRefused s [] e) }
     {
         cipher.suite().check_aad(aad)?;
-        let mut passes = KeyedPasses::zeros();
-        passes.pass = begun(cipher, nonce, aad);
-        passes.begin_first(tag.bytes());
-        Ok(Opener { cipher, passes })
+        let (keys, pass) = begun(cipher, nonce, aad);
+        let state = TwoPassState::first(pass, tag.bytes());
+        Ok(Opener { keys, state })
     }
 
     /// Returns a state by the numbers of another one under the same cipher and nonce, as [`Opener::state`] returns them: it
@@ -271,7 +133,7 @@ impl<'a> Opener<'a> {
         ensures key { IfOk result (λ _. HasHashKey state.now.pass (setting (keyed_of cipher.now) nonce.now)) }
     {
         match resumed(cipher, nonce, state) {
-            Ok(passes) => Ok(Opener { cipher, passes }),
+            Ok(keys) => Ok(Opener { keys, state: *state }),
             Err(fault) => Err(fault),
         }
     }
@@ -281,7 +143,7 @@ impl<'a> Opener<'a> {
         ensures { (s : Setting) (tag body : List ℕ) → HoldsOpener self.now s tag body
             → IsInFirstPass result s tag body }
     {
-        numbers(&self.passes)
+        self.state
     }
 
     /// Takes in a piece of the ciphertext, of any length. `TextTooLong` if the ciphertext would be past the suite's limit: the
@@ -293,12 +155,7 @@ impl<'a> Opener<'a> {
         ensures kept { OnErr result (self.new ≡ self.old) }
         ensures fault { MatchResult result (λ _. Unit {0}) (λ e. e ≡ Fault.TextTooLong) }
     {
-        let tag = self.passes.tag;
-        if check(self.cipher, &mut self.passes.pass, &tag, piece) {
-            Ok(())
-        } else {
-            Err(Fault::TextTooLong)
-        }
+        self.state.check(&self.keys.keys(), piece)
     }
 
     /// Returns the state of the second pass, which has taken in nothing yet, if what the first one took in is the ciphertext of
@@ -309,21 +166,19 @@ impl<'a> Opener<'a> {
             (λ e. (e ≡ Fault.TagMismatch) × IsNoSealing s (body ++ tag)) }
         ensures fault { MatchResult result (λ _. Unit {0}) (λ e. e ≡ Fault.TagMismatch) }
     {
-        let (cipher, mut passes) = (self.cipher, self.passes);
-        if !is_sealing(cipher, &passes) {
-            return Err(Fault::TagMismatch);
+        let (keys, mut state) = (self.keys, self.state);
+        match state.begin_second_pass(&keys.keys()) {
+            Ok(()) => Ok(OpenWriter { keys, state }),
+            Err(fault) => Err(fault),
         }
-        passes.first = passes.pass.state.length;
-        passes.pass.state = passes.pass.state.restarted(passes.start);
-        Ok(OpenWriter { cipher, passes })
     }
 }
 
 /// The second pass over a ciphertext that is opened, after a first one that was over a sealing.
 #[derive(Drop)]
 pub struct OpenWriter<'a> {
-    cipher: &'a AnyAead,
-    passes: KeyedPasses,
+    keys: OpenerKeys<'a>,
+    state: TwoPassState,
 }
 
 impl<'a> OpenWriter<'a> {
@@ -345,7 +200,7 @@ impl<'a> OpenWriter<'a> {
         ensures key { IfOk result (λ _. HasHashKey state.now.pass (setting (keyed_of cipher.now) nonce.now)) }
     {
         match resumed(cipher, nonce, state) {
-            Ok(passes) => Ok(OpenWriter { cipher, passes }),
+            Ok(keys) => Ok(OpenWriter { keys, state: *state }),
             Err(fault) => Err(fault),
         }
     }
@@ -356,7 +211,7 @@ impl<'a> OpenWriter<'a> {
         ensures { (s : Setting) (tag : List ℕ) (first : ℕ) (body : List ℕ) → HoldsOpenWriter self.now s tag first body
             → IsInSecondPass result s tag first body }
     {
-        numbers(&self.passes)
+        self.state
     }
 
     /// Takes in a piece of the ciphertext, of any length, and leaves its text in its place. `SourceChanged` if the second pass
@@ -371,13 +226,7 @@ impl<'a> OpenWriter<'a> {
         ensures kept { OnErr result ((self.new ≡ self.old) × (piece.new ≡ piece.old)) }
         ensures fault { MatchResult result (λ _. Unit {0}) (λ e. e ≡ Fault.SourceChanged) }
     {
-        let limit = self.passes.first.min(self.cipher.suite().text_limit());
-        let tag = self.passes.tag;
-        if decrypt(self.cipher, &mut self.passes.pass, &tag, limit, piece) {
-            Ok(())
-        } else {
-            Err(Fault::SourceChanged)
-        }
+        self.state.open(&self.keys.keys(), piece)
     }
 
     /// Returns `Ok` if what the second pass took in is the ciphertext of the sealing, else `SourceChanged`: what `update` gave is
@@ -388,11 +237,7 @@ impl<'a> OpenWriter<'a> {
             (λ e. (e ≡ Fault.SourceChanged) × IsNoSealing s (body ++ tag)) }
         ensures fault { MatchResult result (λ _. Unit {0}) (λ e. e ≡ Fault.SourceChanged) }
     {
-        let (cipher, passes) = (self.cipher, self.passes);
-        if is_sealing(cipher, &passes) {
-            Ok(())
-        } else {
-            Err(Fault::SourceChanged)
-        }
+        let (keys, state) = (self.keys, self.state);
+        state.end_pass(&keys.keys())
     }
 }

@@ -2,17 +2,21 @@
 //! both lengths. They are what a state in pieces is saved as, and what a caller in C keeps.
 
 ghost use Rattle.std.specs.Prelude.{◌≡◌, ◌↔◌, ◌+◌, ◌*◌, ◌<◌, ◌≤◌, ◌^◌, ◌++◌, ℕ, List, [], length, take, true, false};
+ghost use Rattle.std.specs.Prelude.{MatchResult, OnErr};
 ghost use Rattle.octets.specs.Bytes.{IsBlock, pad16};
-ghost use Rattle.aead.specs.Suites.{construction_of, text_limit, aad_limit};
-ghost use Rattle.aead.specs.Sealing.{Setting, tag_over};
+ghost use Rattle.octets.specs.Masked.{masked};
+ghost use Rattle.aead.specs.Suites.{construction_of, is_one_pass, text_limit, text_limit_by, aad_limit};
+ghost use Rattle.aead.specs.Sealing.{Setting, mask_of, tag_of, tag_over};
+ghost use Rattle.aead.specs.Refusals.{SealRefused};
 ghost use Rattle.aead.specs.Code.States.{HoldsAuthenticator};
 
 use crate::authenticator::Authenticator;
 use crate::beside::{Order, step};
 use crate::hashes::{HashKeys, TagHash, last_block};
+use crate::keys::MessageKeys;
 use crate::mask::MaskStream;
 use crate::taken_text::take_text;
-use octets::{Block, Tag, same};
+use octets::{Block, Fault, Tag, same};
 
 // 2^64.
 const WORD: u128 = 0x1_0000_0000_0000_0000;
@@ -62,8 +66,10 @@ impl Sum {
 }
 
 impl PassState {
-    ghost use Rattle.aead.specs.PassStates.{zero_state, IsHashKey, IsStart, HoldsNumbers};
+    ghost use Rattle.aead.specs.PassStates.{zero_state, IsHashKey, IsStart, HoldsNumbers, HoldsState};
+    ghost use Rattle.aead.specs.KeyedPieces.{FitsIn};
     ghost use Rattle.aead.specs.Code.Masks.{hashed_by};
+    ghost use Rattle.aead.specs.Code.MessageKeys.{construction_by, AreKeysOf};
     ghost use Rattle.aead.specs.Code.PassSteps.{MasksPiece, TakesPiece, TakesPieceText};
 
     /// All zeros.
@@ -267,5 +273,35 @@ impl PassState {
             aad_length: self.aad_length,
             length: 0,
         }
+    }
+
+    // ---- a text that is sealed in one reading
+
+    // Adds a piece to the text, and leaves its ciphertext in its place. `TextTooLong` if the text would be past its limit: state
+    // and piece are then as they were.
+    pub(crate) fn seal(&mut self, keys: &MessageKeys, piece: &mut [u8]) -> Result<(), Fault>
+        ensures answer { (s : Setting) (text : List ℕ) → AreKeysOf keys.now s
+            → is_one_pass (construction_of s.suite) ≡ true → HoldsState self.old s text → MatchResult result
+            (λ _. HoldsState self.new s (text ++ piece.old)
+            × ((tag : List ℕ) → piece.new ≡ masked (mask_of s tag) (length text) piece.old)
+            × (length (text ++ piece.old) ≤ text_limit s.suite))
+            (λ e. SealRefused s (text ++ piece.old) e) }
+        ensures kept { OnErr result ((self.new ≡ self.old) × (piece.new ≡ piece.old)) }
+        ensures fault { FitsIn Fault.TextTooLong result self.old.length (length piece.old)
+            (text_limit_by (construction_by keys.now.cipher)) }
+    {
+        if !self.has_room(keys.text_limit(), piece) {
+            return Err(Fault::TextTooLong);
+        }
+        keys.mask(self, Order::MaskFirst, &[0; 16], piece);
+        Ok(())
+    }
+
+    // The tag of the text.
+    pub(crate) fn text_tag(&self, keys: &MessageKeys) -> Tag
+        ensures { (s : Setting) (text : List ℕ) → AreKeysOf keys.now s → is_one_pass (construction_of s.suite) ≡ true
+            → HoldsState self.now s text → result ≡ tag_of s text }
+    {
+        keys.tag(self)
     }
 }

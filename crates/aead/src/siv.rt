@@ -1,7 +1,7 @@
 //! Sealing piece by piece in two readings under AES-GCM-SIV (RFC 8452), whose tag is over the text: the first reading gives
 //! the tag, and the second one is encrypted under it.
 
-ghost use Rattle.std.specs.Prelude.{◌≡◌, ◌↔◌, ◌++◌, ◌+◌, ◌<◌, ◌≤◌, ℕ, List, [], length, IsTrue, MatchResult, IfOk, OnErr};
+ghost use Rattle.std.specs.Prelude.{◌≡◌, ◌++◌, ◌+◌, ◌<◌, ◌≤◌, ℕ, List, [], length, MatchResult, IfOk, OnErr};
 ghost use Rattle.octets.specs.Masked.{masked};
 ghost use Rattle.aead.specs.Suites.{text_limit};
 ghost use Rattle.aead.specs.Sealing.{Setting, mask_of, tag_of};
@@ -13,7 +13,7 @@ use crate::aead::Aead;
 use crate::gcm_siv::GcmSiv;
 use crate::siv_keys::SivKeys;
 use crate::two_pass_state::TwoPassState;
-use octets::{Fault, Nonce, Tag, same};
+use octets::{Fault, Nonce, Tag};
 
 /// The first reading of a text that is sealed by AES-GCM-SIV.
 #[derive(Drop)]
@@ -36,7 +36,7 @@ impl SivAbsorb {
     {
         cipher.suite().check_aad(aad)?;
         let keys = SivKeys::new(cipher, nonce);
-        let state = TwoPassState::first(keys.begun(aad));
+        let state = TwoPassState::first(keys.begun(aad), &[0; 16]);
         Ok(SivAbsorb { keys, state })
     }
 
@@ -74,11 +74,7 @@ impl SivAbsorb {
         ensures kept { OnErr result (self.new ≡ self.old) }
         ensures fault { MatchResult result (λ _. Unit {0}) (λ e. e ≡ Fault.TextTooLong) }
     {
-        if !self.state.pass.has_room(self.keys.text_limit(), piece) {
-            return Err(Fault::TextTooLong);
-        }
-        self.keys.take(&mut self.state.pass, piece);
-        Ok(())
+        self.state.absorb(&self.keys.keys(), piece)
     }
 
     /// Returns the tag of the text, 16 bytes, and the state that encrypts the second reading. Consumes this
@@ -87,15 +83,9 @@ impl SivAbsorb {
         ensures { (s : Setting) (text : List ℕ) → HoldsAbsorb self s text
             → (result.0 ≡ tag_of s text) × HoldsWriter result.1 s text [] }
     {
-        let tag = self.keys.tag(&self.state.pass);
-        let state = self.state.second(tag.bytes());
-        (
-            tag,
-            SivWriter {
-                keys: self.keys,
-                state,
-            },
-        )
+        let SivAbsorb { keys, mut state } = self;
+        let tag = state.begin_second_reading(&keys.keys());
+        (tag, SivWriter { keys, state })
     }
 }
 
@@ -146,22 +136,7 @@ impl SivWriter {
         ensures kept { OnErr result ((self.new ≡ self.old) × (piece.new ≡ piece.old)) }
         ensures fault { MatchResult result (λ _. Unit {0}) (λ e. e ≡ Fault.SourceChanged) }
     {
-        let limit = self.state.first.min(self.keys.text_limit());
-        if !self.state.pass.has_room(limit, piece) {
-            return Err(Fault::SourceChanged);
-        }
-        let tag = self.state.tag;
-        self.keys.mask(&mut self.state.pass, &tag, piece);
-        Ok(())
-    }
-
-    // Whether the second text has the length and the tag of the first.
-    fn repeats(&self) -> bool
-        ensures { (s : Setting) (first text : List ℕ) → HoldsWriter self.now s first text
-            → IsTrue result ↔ Repeats s first text }
-    {
-        let tag = self.keys.tag(&self.state.pass);
-        self.state.pass.length == self.state.first && same(tag.bytes(), &self.state.tag)
+        self.state.write(&self.keys.keys(), piece)
     }
 
     /// Returns `Ok` if the second text has the length and the tag of the first, else `SourceChanged`.
@@ -172,10 +147,6 @@ impl SivWriter {
             → MatchResult result (λ _. Repeats s first text)
             (λ e. (e ≡ Fault.SourceChanged) × ¬ (Repeats s first text)) }
     {
-        if self.repeats() {
-            Ok(())
-        } else {
-            Err(Fault::SourceChanged)
-        }
+        self.state.end_reading(&self.keys.keys())
     }
 }

@@ -1,49 +1,43 @@
-//! The keys of a message of AES-GCM-SIV (RFC 8452, 4), and the steps of a reading of its text by them.
+//! The keys of a message of AES-GCM-SIV (RFC 8452, 4) with its nonce, and what is made of them once.
 
-ghost use Rattle.std.specs.Prelude.{◌≡◌, ◌+◌, ◌<◌, ◌≤◌, ◌^◌, ℕ, List, [], length, MatchResult, IfOk};
-ghost use Rattle.aead.specs.Suites.{ByGcmSiv, construction_of, aad_limit, text_limit};
-ghost use Rattle.aead.specs.Sealing.{Setting, tag_of};
+ghost use Rattle.std.specs.Prelude.{◌≡◌, ◌≤◌, ℕ, List, [], length, MatchResult, IfOk};
+ghost use Rattle.aead.specs.Suites.{aad_limit};
+ghost use Rattle.aead.specs.Sealing.{Setting};
 ghost use Rattle.aead.specs.Ciphers.{setting};
 ghost use Rattle.aead.specs.PassStates.{HasHashKey, HoldsNone, HoldsNumbers};
-ghost use Rattle.aead.specs.Code.Masks.{as_it_comes};
-ghost use Rattle.aead.specs.Code.States.{MadeByGcmSiv};
-ghost use Rattle.aead.specs.Code.PassSteps.{MasksPiece, TakesPiece};
 
 use crate::aead::Aead;
-use crate::beside::Order;
-use crate::derived_keys::joined;
-use crate::gcm_siv::{self, GcmSiv};
-use crate::hashes::{HashKeys, PolyvalKeys};
-use crate::multiples::{Multiples, worth};
+use crate::gcm_siv::GcmSiv;
+use crate::keys::{AesKeys, CipherKeys, KeptKeys, MessageKeys};
 use crate::pass_state::PassState;
-use crate::suite::Suite;
-use aes::{AesKey, CtrLe, KeptKey};
-use gf128::{Keyed128, Multiply, TableMul, WideMul};
-use octets::{Block, Fault, Nonce, Tag};
+use crate::siv_pass;
+use aes::AesKey;
+use gf128::{Keyed128, TableMul};
+use octets::{Block, Fault, Nonce};
 
 // The keys of a message and its nonce.
 #[derive(Drop)]
 pub(crate) struct SivKeys {
-    suite: Suite,
     encryption: AesKey,
     // Of POLYVAL's multiplier in GHASH's field.
     hash_key: Block,
     // The few multiples that a short piece takes.
     multiplier: TableMul,
     nonce: Nonce,
-    ghost by_gcm_siv: { construction_of suite ≡ ByGcmSiv },
 }
 
 impl SivKeys {
     ghost use Rattle.aead.specs.Pieces.{AreKeys};
+    ghost use Rattle.aead.specs.Code.MessageKeys.{AreKeysOf};
 
     // Those under a cipher with a nonce.
     pub(crate) fn new(cipher: &GcmSiv, nonce: &Nonce) -> SivKeys
         ensures { (aad : List ℕ) → AreKeys result (setting cipher.now nonce.now aad) }
     {
+        // The proof sees the construction.
+        let _suite = cipher.suite();
         let keys = cipher.derive(nonce);
         SivKeys {
-            suite: cipher.suite(),
             encryption: keys.encryption,
             hash_key: keys.hash_key,
             multiplier: TableMul::of(&keys.hash_key),
@@ -72,24 +66,24 @@ impl SivKeys {
         }
     }
 
-    // The most bytes of a text.
-    pub(crate) fn text_limit(&self) -> u64
-        ensures value { result ≡ text_limit self.now.suite }
-        ensures small { result ≤ 2 ^ 36 }
+    // What a step makes use of without making it.
+    fn kept<'a>(&'a self) -> KeptKeys<'a>
+        ensures key { result.key.now ≡ self.now.encryption }
+        ensures few { result.few.now ≡ self.now.multiplier }
     {
-        self.suite.text_limit()
+        KeptKeys {
+            key: &self.encryption,
+            few: &self.multiplier,
+        }
     }
 
-    // The keys of the hash, by a multiplier.
-    #[inline(always)]
-    fn of_hash<'a, M: Multiply>(&'a self, multiplier: &'a M) -> PolyvalKeys<'a, M>
-        ensures { (s : Setting) → AreKeys self.now s → M.key_bytes multiplier.now ≡ self.now.hash_key
-            → ⟦<PolyvalKeys<'a, M> as HashKeys>⟧.serves result s }
+    // Lends the keys for a step.
+    pub(crate) fn keys<'a>(&'a self) -> MessageKeys<'a>
+        ensures { (s : Setting) → AreKeys self.now s → AreKeysOf result s }
     {
-        PolyvalKeys {
-            multiplier,
-            key: &self.encryption,
-            nonce: &self.nonce,
+        MessageKeys {
+            cipher: CipherKeys::Siv(AesKeys::Kept(self.kept())),
+            nonce: *self.nonce.bytes(),
         }
     }
 
@@ -98,69 +92,6 @@ impl SivKeys {
         ensures { (s : Setting) → AreKeys self.now s → s.aad ≡ aad.now → length aad.now ≤ aad_limit s.suite
             → HoldsNumbers result s [] }
     {
-        let keys = self.of_hash(&self.multiplier);
-        PassState::begun(&keys, joined(self.hash_key.bytes(), &[0; 16]), aad)
-    }
-
-    // Takes in a long piece, by multiples of four powers of the hash key. They stand on the stack of this call alone.
-    #[inline(never)]
-    fn take_long(&self, state: &mut PassState, piece: &[u8])
-        requires { state.old.length + length piece.now < 2 ^ 64 }
-        ensures { (s : Setting) (text : List ℕ) → AreKeys self.now s
-            → TakesPiece state.old state.new piece.now s text }
-    {
-        let mut multiplier = WideMul::none();
-        multiplier.set(&self.hash_key);
-        state.take(&self.of_hash(&multiplier), piece);
-    }
-
-    // Takes in a piece.
-    pub(crate) fn take(&self, state: &mut PassState, piece: &[u8])
-        requires { state.old.length + length piece.now < 2 ^ 64 }
-        ensures { (s : Setting) (text : List ℕ) → AreKeys self.now s
-            → TakesPiece state.old state.new piece.now s text }
-    {
-        match worth(piece.len() as u64) {
-            Multiples::Few => state.take(&self.of_hash(&self.multiplier), piece),
-            Multiples::OfFourPowers => self.take_long(state, piece),
-        }
-    }
-
-    // Takes in and masks a long piece, by multiples of four powers of the hash key. They stand on the stack of this call
-    // alone.
-    #[inline(never)]
-    fn mask_long<K: KeptKey>(&self, state: &mut PassState, mask: &mut CtrLe<K>, piece: &mut [u8])
-        requires { state.old.length + length piece.old < 2 ^ 64 }
-        ensures { (s : Setting) (tag text : List ℕ) → AreKeys self.now s
-            → MadeByGcmSiv K.bytes mask.old s tag state.old.length
-            → MasksPiece as_it_comes state.old state.new piece.old piece.new s tag text }
-    {
-        let mut multiplier = WideMul::none();
-        multiplier.set(&self.hash_key);
-        state.step(&self.of_hash(&multiplier), mask, Order::HashFirst, piece);
-    }
-
-    // Takes in a piece and masks it under a tag.
-    pub(crate) fn mask(&self, state: &mut PassState, tag: &[u8; 16], piece: &mut [u8])
-        requires { state.old.length + length piece.old ≤ 2 ^ 36 }
-        ensures { (s : Setting) (text : List ℕ) → AreKeys self.now s
-            → MasksPiece as_it_comes state.old state.new piece.old piece.new s tag.now text }
-    {
-        let mut mask = gcm_siv::mask_at(&self.encryption, tag, state.length);
-        match worth(piece.len() as u64) {
-            Multiples::Few => {
-                let keys = self.of_hash(&self.multiplier);
-                state.step(&keys, &mut mask, Order::HashFirst, piece);
-            }
-            Multiples::OfFourPowers => self.mask_long(state, &mut mask, piece),
-        }
-    }
-
-    // The tag of a text.
-    pub(crate) fn tag(&self, state: &PassState) -> Tag
-        ensures { (s : Setting) (text : List ℕ) → AreKeys self.now s → HoldsNumbers state.now s text
-            → result ≡ tag_of s text }
-    {
-        state.tag(&self.of_hash(&self.multiplier))
+        siv_pass::begun(self.kept(), &self.hash_key, &self.nonce, aad)
     }
 }

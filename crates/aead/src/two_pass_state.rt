@@ -1,10 +1,18 @@
 //! What a sealing by two readings or an opening in two passes has taken in, as plain numbers: what a state in pieces is saved as.
+//! A message in pieces goes on by the same steps whether its keys are lent by a cipher or kept as bytes.
 
-ghost use Rattle.std.specs.Prelude.{◌≡◌, ℕ, List, []};
-ghost use Rattle.aead.specs.Sealing.{Setting};
+ghost use Rattle.std.specs.Prelude.{◌≡◌, ◌↔◌, ◌+◌, ◌<◌, ◌≤◌, ◌++◌, ℕ, List, [], length, true, false};
+ghost use Rattle.std.specs.Prelude.{IsTrue, MatchResult, OnErr};
+ghost use Rattle.octets.specs.Masked.{masked};
+ghost use Rattle.aead.specs.Suites.{ByGcmSiv, construction_of, text_limit, text_limit_by};
+ghost use Rattle.aead.specs.Sealing.{Setting, IsNoSealing, mask_of, tag_of};
+ghost use Rattle.aead.specs.Refusals.{SealRefused};
 ghost use Rattle.aead.specs.PassStates.{HoldsNumbers, IsStart};
 
+use crate::beside::Order;
+use crate::keys::MessageKeys;
 use crate::pass_state::{PassState, Sum};
+use octets::{Fault, Tag, same};
 
 /// What a sealing by two readings under AES-GCM-SIV, or an opening in two passes under any suite, has taken in, as plain
 /// numbers, without the message's key and nonce. Each number may have any value.
@@ -24,21 +32,39 @@ pub struct TwoPassState {
 }
 
 impl TwoPassState {
-    // The first reading, by a pass that has taken in nothing yet.
-    pub(crate) fn first(pass: PassState) -> TwoPassState
-        ensures pass { result.pass ≡ pass }
-        ensures start { (s : Setting) → HoldsNumbers pass s [] → IsStart result.start s }
+    ghost use Rattle.aead.specs.KeyedPieces.{zero_passes, FitsIn};
+    ghost use Rattle.aead.specs.Code.MessageKeys.{construction_by, AreKeysOf};
+    ghost use Rattle.aead.specs.Pieces.{IsInFirstReading, IsInSecondReading, Repeats};
+    ghost use Rattle.aead.specs.Pieces.{IsInFirstPass, IsInSecondPass, Opens, WasOverASealing, MasksByBytes};
+
+    // All zeros.
+    pub(crate) fn zeros() -> TwoPassState
+        ensures { result ≡ zero_passes }
     {
         TwoPassState {
-            pass,
-            start: pass.sum(),
+            pass: PassState::zeros(),
+            start: Sum::zero(),
             tag: [0; 16],
             first: 0,
         }
     }
 
-    // The second reading, which has taken in nothing yet, after a first one with this tag.
-    pub(crate) fn second(&self, tag: &[u8; 16]) -> TwoPassState
+    // The first reading or pass, by numbers that have taken in nothing yet.
+    pub(crate) fn first(pass: PassState, tag: &[u8; 16]) -> TwoPassState
+        ensures pass { result.pass ≡ pass }
+        ensures start { (s : Setting) → HoldsNumbers pass s [] → IsStart result.start s }
+        ensures tag { result.tag ≡ tag.now }
+    {
+        TwoPassState {
+            pass,
+            start: pass.sum(),
+            tag: *tag,
+            first: 0,
+        }
+    }
+
+    // The second reading or pass, which has taken in nothing yet, after a first one with this tag.
+    fn second(&self, tag: &[u8; 16]) -> TwoPassState
         ensures pass { (s : Setting) (text : List ℕ) → HoldsNumbers self.now.pass s text → IsStart self.now.start s
             → HoldsNumbers result.pass s [] }
         ensures start { result.start ≡ self.now.start }
@@ -50,6 +76,170 @@ impl TwoPassState {
             start: self.start,
             tag: *tag,
             first: self.pass.length,
+        }
+    }
+
+    // ---- a sealing in two readings
+
+    // Adds a piece to the text in the first reading. `TextTooLong` if the text would be past its limit: the state is then as it was.
+    pub(crate) fn absorb(&mut self, keys: &MessageKeys, piece: &[u8]) -> Result<(), Fault>
+        ensures answer { (s : Setting) (text : List ℕ) → AreKeysOf keys.now s → IsInFirstReading self.old s text
+            → MatchResult result (λ _. IsInFirstReading self.new s (text ++ piece.now)
+            × (length (text ++ piece.now) ≤ text_limit s.suite)) (λ e. SealRefused s (text ++ piece.now) e) }
+        ensures kept { OnErr result (self.new ≡ self.old) }
+        ensures fault { FitsIn Fault.TextTooLong result self.old.pass.length (length piece.now)
+            (text_limit_by (construction_by keys.now.cipher)) }
+    {
+        if !self.pass.has_room(keys.text_limit(), piece) {
+            return Err(Fault::TextTooLong);
+        }
+        keys.take(&mut self.pass, piece);
+        Ok(())
+    }
+
+    // The tag of the text of a reading.
+    fn reading_tag(&self, keys: &MessageKeys) -> Tag
+        ensures { (s : Setting) (text : List ℕ) → construction_of s.suite ≡ ByGcmSiv → AreKeysOf keys.now s
+            → HoldsNumbers self.now.pass s text → result ≡ tag_of s text }
+    {
+        keys.tag(&self.pass)
+    }
+
+    // Ends the first reading, and returns the tag of its text. The second reading has taken in nothing yet.
+    pub(crate) fn begin_second_reading(&mut self, keys: &MessageKeys) -> Tag
+        ensures { (s : Setting) (text : List ℕ) → construction_of s.suite ≡ ByGcmSiv → AreKeysOf keys.now s
+            → IsInFirstReading self.old s text
+            → (result ≡ tag_of s text) × IsInSecondReading self.new s text [] }
+    {
+        let tag = self.reading_tag(keys);
+        *self = self.second(tag.bytes());
+        tag
+    }
+
+    // Adds a piece to the text in the second reading, and leaves its ciphertext in its place. `SourceChanged` if that text would be
+    // longer than the first: state and piece are then as they were.
+    pub(crate) fn write(&mut self, keys: &MessageKeys, piece: &mut [u8]) -> Result<(), Fault>
+        ensures answer { (s : Setting) (first text : List ℕ) → AreKeysOf keys.now s
+            → IsInSecondReading self.old s first text → MatchResult result
+            (λ _. IsInSecondReading self.new s first (text ++ piece.old)
+            × (piece.new ≡ masked (mask_of s (tag_of s first)) (length text) piece.old)
+            × (length text + length piece.old ≤ length first))
+            (λ e. (e ≡ Fault.SourceChanged) × (length first < length text + length piece.old)) }
+        ensures kept { OnErr result ((self.new ≡ self.old) × (piece.new ≡ piece.old)) }
+        ensures fault { MatchResult result (λ _. Unit {0}) (λ e. e ≡ Fault.SourceChanged) }
+    {
+        let limit = self.first.min(keys.text_limit());
+        if !self.pass.has_room(limit, piece) {
+            return Err(Fault::SourceChanged);
+        }
+        let tag = self.tag;
+        keys.mask(&mut self.pass, Order::HashFirst, &tag, piece);
+        Ok(())
+    }
+
+    // Whether the second text has the length and the tag of the first.
+    fn repeats(&self, keys: &MessageKeys) -> bool
+        ensures { (s : Setting) (first text : List ℕ) → construction_of s.suite ≡ ByGcmSiv → AreKeysOf keys.now s
+            → IsInSecondReading self.now s first text → IsTrue result ↔ Repeats s first text }
+    {
+        let tag = self.reading_tag(keys);
+        self.pass.length == self.first && same(tag.bytes(), &self.tag)
+    }
+
+    // Returns `Ok` if the second text has the length and the tag of the first, else `SourceChanged`.
+    pub(crate) fn end_reading(&self, keys: &MessageKeys) -> Result<(), Fault>
+        ensures answer { (s : Setting) (first text : List ℕ) → construction_of s.suite ≡ ByGcmSiv
+            → AreKeysOf keys.now s → IsInSecondReading self.now s first text
+            → MatchResult result (λ _. Repeats s first text)
+            (λ e. (e ≡ Fault.SourceChanged) × ¬ (Repeats s first text)) }
+        ensures fault { MatchResult result (λ _. Unit {0}) (λ e. e ≡ Fault.SourceChanged) }
+    {
+        if self.repeats(keys) {
+            Ok(())
+        } else {
+            Err(Fault::SourceChanged)
+        }
+    }
+
+    // ---- an opening in two passes
+
+    // Takes in a piece of the ciphertext in the first pass. `TextTooLong` if the ciphertext would be past the suite's limit: the
+    // state is then as it was.
+    pub(crate) fn check(&mut self, keys: &MessageKeys, piece: &[u8]) -> Result<(), Fault>
+        ensures answer { (s : Setting) (tag body : List ℕ) → AreKeysOf keys.now s → IsInFirstPass self.old s tag body
+            → MatchResult result (λ _. IsInFirstPass self.new s tag (body ++ piece.now)
+            × (length (body ++ piece.now) ≤ text_limit s.suite)) (λ e. SealRefused s (body ++ piece.now) e) }
+        ensures kept { OnErr result (self.new ≡ self.old) }
+        ensures fault { FitsIn Fault.TextTooLong result self.old.pass.length (length piece.now)
+            (text_limit_by (construction_by keys.now.cipher)) }
+    {
+        if !self.pass.has_room(keys.text_limit(), piece) {
+            return Err(Fault::TextTooLong);
+        }
+        let tag = self.tag;
+        keys.check(&mut self.pass, &tag, piece);
+        Ok(())
+    }
+
+    // Whether what the pass has taken in is the ciphertext of a sealing with the tag.
+    fn is_sealing(&self, keys: &MessageKeys) -> bool
+        ensures sealing { (s : Setting) (tag body : List ℕ) → AreKeysOf keys.now s → MasksByBytes s
+            → IsInFirstPass self.now s tag body → result ≡ true → Opens s tag body }
+        ensures none { (s : Setting) (tag body : List ℕ) → AreKeysOf keys.now s → MasksByBytes s
+            → IsInFirstPass self.now s tag body → result ≡ false → IsNoSealing s (body ++ tag) }
+    {
+        same(keys.tag(&self.pass).bytes(), &self.tag)
+    }
+
+    // Ends the first pass. `Ok` if it was over a sealing: the second pass has taken in nothing yet. `TagMismatch` if authentication
+    // failed: the state is then as it was.
+    pub(crate) fn begin_second_pass(&mut self, keys: &MessageKeys) -> Result<(), Fault>
+        ensures answer { (s : Setting) (tag body : List ℕ) → AreKeysOf keys.now s → MasksByBytes s
+            → IsInFirstPass self.old s tag body
+            → MatchResult result (λ _. IsInSecondPass self.new s tag (length body) [] × Opens s tag body)
+            (λ e. (e ≡ Fault.TagMismatch) × IsNoSealing s (body ++ tag)) }
+        ensures kept { OnErr result (self.new ≡ self.old) }
+        ensures fault { MatchResult result (λ _. Unit {0}) (λ e. e ≡ Fault.TagMismatch) }
+    {
+        if !self.is_sealing(keys) {
+            return Err(Fault::TagMismatch);
+        }
+        *self = self.second(&self.tag);
+        Ok(())
+    }
+
+    // Takes in a piece of the ciphertext in the second pass, and leaves its text in its place. `SourceChanged` if the second pass
+    // would be longer than the first: state and piece are then as they were.
+    pub(crate) fn open(&mut self, keys: &MessageKeys, piece: &mut [u8]) -> Result<(), Fault>
+        ensures answer { (s : Setting) (tag : List ℕ) (first : ℕ) (body : List ℕ) → AreKeysOf keys.now s
+            → MasksByBytes s → IsInSecondPass self.old s tag first body → MatchResult result
+            (λ _. IsInSecondPass self.new s tag first (body ++ piece.old)
+            × (piece.new ≡ masked (mask_of s tag) (length body) piece.old) × WasOverASealing s tag first
+            × (length (body ++ piece.old) ≤ first))
+            (λ e. (e ≡ Fault.SourceChanged) × (first < length (body ++ piece.old))) }
+        ensures kept { OnErr result ((self.new ≡ self.old) × (piece.new ≡ piece.old)) }
+        ensures fault { MatchResult result (λ _. Unit {0}) (λ e. e ≡ Fault.SourceChanged) }
+    {
+        let limit = self.first.min(keys.text_limit());
+        if !self.pass.has_room(limit, piece) {
+            return Err(Fault::SourceChanged);
+        }
+        let tag = self.tag;
+        keys.open(&mut self.pass, &tag, piece);
+        Ok(())
+    }
+
+    // Returns `Ok` if what the second pass took in is the ciphertext of the sealing, else `SourceChanged`.
+    pub(crate) fn end_pass(&self, keys: &MessageKeys) -> Result<(), Fault>
+        ensures answer { (s : Setting) (tag : List ℕ) (first : ℕ) (body : List ℕ) → AreKeysOf keys.now s
+            → MasksByBytes s → IsInSecondPass self.now s tag first body → MatchResult result (λ _. Opens s tag body)
+            (λ e. (e ≡ Fault.SourceChanged) × IsNoSealing s (body ++ tag)) }
+        ensures fault { MatchResult result (λ _. Unit {0}) (λ e. e ≡ Fault.SourceChanged) }
+    {
+        if self.is_sealing(keys) {
+            Ok(())
+        } else {
+            Err(Fault::SourceChanged)
         }
     }
 }

@@ -4,7 +4,8 @@ use Rattle.octets.specs.Masked.{masked}
 use Rattle.aead.specs.declared.pass_state.PassState.{PassState}
 use Rattle.aead.specs.Suites.{text_limit}
 use Rattle.aead.specs.Sealing.{Setting, mask_of}
-use Rattle.aead.specs.PassStates.{HoldsNumbers, HoldsState}
+use Rattle.aead.specs.PassStates.{HoldsNumbers}
+use Rattle.aead.specs.Pieces.{HasTakenIn}
 
 -- p becomes q, and was becomes now: if p holds what of these bytes is authenticated, a piece within the limit is added and
 -- masked
@@ -27,8 +28,13 @@ abbrev pub TakesPiece : (p q : PassState) (piece : List ℕ) → Setting → (by
 TakesPiece p q piece s bytes =
     p.length + length piece ≤ text_limit s.suite → HoldsNumbers p s bytes → HoldsNumbers q s (bytes ++ piece)
 
--- p becomes q, and was becomes now: if p holds this text, a piece is added and masked
-abbrev pub AddsPiece : (p q : PassState) (was now : List ℕ) → Setting → (text : List ℕ) → Type 0
-AddsPiece p q was now s text =
-    HoldsState p s text
-    → HoldsState q s (text ++ was) × ((tag : List ℕ) → now ≡ masked (mask_of s tag) (length text) was)
+-- p becomes q: if p has taken in this ciphertext under a tag, a piece within the limit is added
+abbrev pub ChecksPiece : (p q : PassState) (piece : List ℕ) → Setting → (tag body : List ℕ) → Type 0
+ChecksPiece p q piece s tag body =
+    p.length + length piece ≤ text_limit s.suite → HasTakenIn p s tag body → HasTakenIn q s tag (body ++ piece)
+
+-- p becomes q, and was becomes now: so, and the piece is decrypted
+abbrev pub OpensPiece : (p q : PassState) (was now : List ℕ) → Setting → (tag body : List ℕ) → Type 0
+OpensPiece p q was now s tag body =
+    p.length + length was ≤ text_limit s.suite → HasTakenIn p s tag body
+    → HasTakenIn q s tag (body ++ was) × (now ≡ masked (mask_of s tag) (length body) was)

@@ -1,12 +1,25 @@
-use Rattle.std.proofs.Common.{arith}
+use Rattle.std.proofs.Common.{[], sym, subst, arith}
 use Rattle.aead.specs.Sealing.{Setting}
 use Rattle.aead.specs.KeyedPasses.{setting_of}
-use Rattle.aead.proofs.KeyedPieces.{first_pass}
+use Rattle.aead.specs.Pieces.{HasTakenIn}
+use Rattle.aead.proofs.ByteMasks.{any_mask_small, aes_key}
+use Rattle.aead.proofs.KeyedPieces.{taken_none}
 use Rattle.aead.proofs.keyed_opener.KeyedOpener.begin_by.Goals as goal
 
 pub returns-in-Ok-clause-answer : goal.returns-in-Ok-clause-answer
 returns-in-Ok-clause-answer c =
     let s : Setting = setting_of c.args.suite c.args.key.now c.args.nonce.now c.args.aad.now in
+    let tag = c.args.tag.now in
     let begun = c.in-Ok.ensures.answer in
-    first_pass _ s c.args.tag.now c.begin_by.new.self c.begin_first.ensures.pass begun
-    (c.begin_first.ensures.start s begun.state) c.begin_first.ensures.tag (omega arith) (λ i. (c.type_inv.key i).fits)
+    let long = begun.0.lengths.key_fits in
+    record {
+      keys = begun.0;
+      bytes = λ any. any_mask_small s any (aes_key s.suite s.key long (λ i. (c.type_inv.key i).fits)) long;
+      state = record {
+        pass = subst (λ n. HasTakenIn n s tag []) (sym c.first-self.ensures.pass) (taken_none _ s tag begun.1);
+        start = c.first-self.ensures.start s begun.1;
+        tag_is = c.first-self.ensures.tag;
+        tag_long = omega arith;
+        small = λ i. omega arith;
+      };
+    }

@@ -1,16 +1,20 @@
-use Rattle.std.proofs.Common.{ap, arith, length-append}
-use Rattle.aead.specs.Suites.{text_limit}
-use Rattle.aead.proofs.KeyedPieces.{body_fits, body_length}
+use Rattle.std.proofs.Common.{ap, sym}
+use Rattle.std.proofs.lemmas.Result.{MatchResult-weaker, on_err_weaker}
+use Rattle.aead.specs.Suites.{text_limit_by}
+use Rattle.aead.specs.declared.two_pass_state.TwoPassState.{TwoPassState}
+use Rattle.aead.specs.declared.keyed_opener.KeyedOpener.{KeyedOpener}
 use Rattle.aead.proofs.keyed_opener.KeyedOpener.check.Goals as goal
 
-pub returns-else-check-clause-answer : goal.returns-else-check-clause-answer
-returns-else-check-clause-answer c = λ s tag body same h. (
-  (body_fits _ s tag body h.pass).aad_fits,
-  omega (
-    arith,
-    length-append body c.args.piece.now,
-    body_length _ s tag body h.pass,
-    ap text_limit same,
-    c.check.ensures.past c.if-check.false,
-  ),
-)
+pub returns-clause-answer : goal.returns-clause-answer
+returns-clause-answer c = λ s tag body same h.
+    MatchResult-weaker c.check.result
+    (c.check.ensures.answer s tag body (c.keys.ensures.keys s same h.keys) h.state)
+    (λ _ m. record { keys = h.keys; bytes = h.bytes; state = m.0 }) (λ _ e. e)
+
+pub returns-clause-kept : goal.returns-clause-kept
+returns-clause-kept c =
+    let whole : TwoPassState → KeyedOpener = λ n. record { keys = c.args.self.now.keys; state = n } in
+    on_err_weaker c.check.result (λ e. ap whole e) c.check.ensures.kept
+
+pub returns-clause-fault : goal.returns-clause-fault
+returns-clause-fault c = rw (sym (ap text_limit_by c.keys.ensures.by)) c.check.ensures.fault

@@ -1,7 +1,4 @@
-use Rattle.std.proofs.Common.{◌∙◌, [], sym}
-use Rattle.aead.proofs.Opens.{one_pass_tag}
 use Rattle.aead.proofs.keyed_sealer.KeyedSealer.tag.Goals as goal
 
 pub returns : goal.returns
-returns c = λ s text same h.
-    c.tag.ensures s _ same (h.pass []) ∙ sym (one_pass_tag s [] text h.one_pass)
+returns c = λ s text same h. c.text_tag.ensures s text (c.keys.ensures.keys s same h.keys) h.one_pass h.state

@@ -1,27 +1,20 @@
-use Rattle.std.proofs.Common.{◌++◌, ◌∙◌, [], ap, arith, length, length-append, replicate}
-use Rattle.octets.specs.Masked.{masked}
-use Rattle.aead.specs.Suites.{text_limit}
-use Rattle.aead.proofs.Opens.{same_mask}
-use Rattle.aead.proofs.KeyedPieces.{keyed_text, keyed_length}
+use Rattle.std.proofs.Common.{ap, sym}
+use Rattle.std.proofs.lemmas.Result.{MatchResult-weaker, on_err_weaker}
+use Rattle.aead.specs.Suites.{text_limit_by}
+use Rattle.aead.specs.declared.pass_state.PassState.{PassState}
+use Rattle.aead.specs.declared.keyed_sealer.KeyedSealer.{KeyedSealer}
 use Rattle.aead.proofs.keyed_sealer.KeyedSealer.update.Goals as goal
 
-pub returns-then-mask-clause-answer : goal.returns-then-mask-clause-answer
-returns-then-mask-clause-answer c = λ s text same h.
-    let zeros = replicate 16 0 in
-    let m = c.mask.ensures.masks s text same c.if-mask.true (keyed_length c.args.self.now s text h) (h.pass zeros) in (
-      keyed_text _ s zeros (text ++ c.args.piece.now) h.one_pass m.0,
-      λ tag. m.1 ∙ ap (λ f. masked f (length text) c.args.piece.now) (same_mask s zeros tag h.one_pass),
-    )
+pub returns-clause-answer : goal.returns-clause-answer
+returns-clause-answer c = λ s text same h.
+    MatchResult-weaker c.seal.result
+    (c.seal.ensures.answer s text (c.keys.ensures.keys s same h.keys) h.one_pass h.state)
+    (λ _ m. (record { one_pass = h.one_pass; keys = h.keys; state = m.0 }, m.1)) (λ _ e. e)
 
-pub returns-else-mask-clause-answer : goal.returns-else-mask-clause-answer
-returns-else-mask-clause-answer c = λ s text same h. (
-  (h.pass []).state.fits.aad_fits,
-  omega (
-    arith,
-    length-append text c.args.piece.now,
-    keyed_length c.args.self.now s text h,
-    ap text_limit same,
-    c.text_limit.ensures,
-    c.mask.ensures.past c.if-mask.false,
-  ),
-)
+pub returns-clause-kept : goal.returns-clause-kept
+returns-clause-kept c =
+    let whole : PassState → KeyedSealer = λ n. record { keys = c.args.self.now.keys; state = n } in
+    on_err_weaker c.seal.result (λ e. (ap whole e.0, e.1)) c.seal.ensures.kept
+
+pub returns-clause-fault : goal.returns-clause-fault
+returns-clause-fault c = rw (sym (ap text_limit_by c.keys.ensures.by)) c.seal.ensures.fault

@@ -1,45 +1,18 @@
-use Rattle.std.proofs.Common.{◌++◌, sym, ap, subst, arith, length-append}
-use Rattle.aead.specs.Suites.{text_limit}
-use Rattle.aead.specs.Ciphers.{Keyed}
-use Rattle.aead.specs.Pieces.{HasTakenIn}
-use Rattle.aead.proofs.Openings.{taken_length}
-use Rattle.aead.proofs.Passing.{small-append}
+use Rattle.std.proofs.Common.{ap}
+use Rattle.std.proofs.lemmas.Result.{MatchResult-weaker, on_err_weaker}
+use Rattle.aead.specs.declared.two_pass_state.TwoPassState.{TwoPassState}
+use Rattle.aead.specs.declared.opener.Opener.{Opener}
 use Rattle.aead.proofs.opener.Opener.update.Goals as goal
 
-pub returns-then-check-clause-answer : goal.returns-then-check-clause-answer
-returns-then-check-clause-answer c = λ s tag body o.
-    let h = o.state in
-    let suite = ap (λ (k : Keyed). k.suite) o.under.keyed_is in
-    let m = c.check.ensures.takes s body c.if-check.true o.under
-    (subst (λ t. HasTakenIn c.args.self.now.passes.pass.state s t body) (sym h.tag_is) h.pass) in (
-      record {
-        under = m.0;
-        state = record {
-          pass = subst (λ t. HasTakenIn c.check.new.pass.state s t (body ++ c.args.piece.now)) h.tag_is m.1;
-          start = h.start;
-          tag_is = h.tag_is;
-          tag_long = h.tag_long;
-          small = small-append body c.args.piece.now h.small (λ i. (c.type_inv.piece i).fits);
-        };
-      },
-      omega (
-        arith,
-        length-append body c.args.piece.now,
-        taken_length _ s tag body h.pass,
-        ap text_limit suite,
-        c.check.ensures.fits c.if-check.true,
-      ),
-    )
+pub returns-clause-answer : goal.returns-clause-answer
+returns-clause-answer c = λ s tag body h.
+    MatchResult-weaker c.check.result (c.check.ensures.answer s tag body (c.keys.ensures s h.keys) h.state)
+    (λ _ m. (record { keys = h.keys; bytes = h.bytes; state = m.0 }, m.1)) (λ _ e. e)
 
-pub returns-else-check-clause-answer : goal.returns-else-check-clause-answer
-returns-else-check-clause-answer c = λ s tag body o.
-    let suite = ap (λ (k : Keyed). k.suite) o.under.keyed_is in (
-      o.state.pass.fits.aad_fits,
-      omega (
-        arith,
-        length-append body c.args.piece.now,
-        taken_length _ s tag body o.state.pass,
-        ap text_limit suite,
-        c.check.ensures.past c.if-check.false,
-      ),
-    )
+pub returns-clause-kept : goal.returns-clause-kept
+returns-clause-kept c =
+    let whole : TwoPassState → Opener = λ n. record { keys = c.args.self.now.keys; state = n } in
+    on_err_weaker c.check.result (λ e. ap whole e) c.check.ensures.kept
+
+pub returns-clause-fault : goal.returns-clause-fault
+returns-clause-fault c = MatchResult-weaker c.check.result c.check.ensures.fault (λ _ _. tt) (λ _ e. e.0)

@@ -1,42 +1,18 @@
-use Rattle.std.proofs.Common.{[], ap, sym, arith, length-append, ◌∙◌}
-use Rattle.octets.proofs.Masks.{length-masked}
-use Rattle.aead.specs.Suites.{text_limit}
-use Rattle.aead.specs.Ciphers.{Keyed}
-use Rattle.aead.specs.Sealing.{mask_of}
+use Rattle.std.proofs.Common.{ap}
+use Rattle.std.proofs.lemmas.Result.{MatchResult-weaker, on_err_weaker}
+use Rattle.aead.specs.declared.pass_state.PassState.{PassState}
+use Rattle.aead.specs.declared.sealer.Sealer.{Sealer}
 use Rattle.aead.proofs.sealer.Sealer.update.Goals as goal
-
-pub returns-then-not-has_room-clause-answer : goal.returns-then-not-has_room-clause-answer
-returns-then-not-has_room-clause-answer c = λ s text h.
-    let n = h.state [] in
-    let suite = c.suite.ensures.value ∙ ap (λ (k : Keyed). k.suite) h.keyed_is in (
-      n.fits.aad_fits,
-      omega (
-        arith,
-        length-append text c.args.piece.now,
-        n.length_is,
-        length-masked (mask_of s []) 0 text,
-        c.text_limit-limit.ensures,
-        ap text_limit suite,
-        c.if-not-has_room.ensures.past,
-        c.has_room.ensures.past c.if-not-has_room.true,
-      ),
-    )
 
 pub returns-clause-answer : goal.returns-clause-answer
 returns-clause-answer c = λ s text h.
-    let went = c.mask.ensures s text (sym (ap (λ (k : Keyed). k.suite) h.keyed_is))
-    (sym (ap (λ (k : Keyed). k.key) h.keyed_is)) (sym (c.new-nonce.ensures.value ∙ h.nonce_is)) h.state in
-    let n = h.state [] in
-    let suite = c.suite.ensures.value ∙ ap (λ (k : Keyed). k.suite) h.keyed_is in (
-      record { keyed_is = h.keyed_is; nonce_is = h.nonce_is; state = went.0 },
-      went.1,
-      omega (
-        arith,
-        length-append text c.args.piece.now,
-        n.length_is,
-        length-masked (mask_of s []) 0 text,
-        c.text_limit-limit.ensures,
-        ap text_limit suite,
-        c.has_room.ensures.fits c.if-not-has_room.false,
-      ),
-    )
+    MatchResult-weaker c.seal.result (c.seal.ensures.answer s text h.keys h.one_pass h.state)
+    (λ _ m. (record { keys = h.keys; one_pass = h.one_pass; state = m.0 }, m.1, m.2)) (λ _ e. e)
+
+pub returns-clause-kept : goal.returns-clause-kept
+returns-clause-kept c =
+    let whole : PassState → Sealer = λ n. record { keys = c.args.self.now.keys; state = n } in
+    on_err_weaker c.seal.result (λ e. (ap whole e.0, e.1)) c.seal.ensures.kept
+
+pub returns-clause-fault : goal.returns-clause-fault
+returns-clause-fault c = MatchResult-weaker c.seal.result c.seal.ensures.fault (λ _ _. tt) (λ _ e. e.0)

@@ -1,18 +1,18 @@
-use Rattle.std.proofs.Common.{◌≡◌, ◌+◌, ◌≤◌, length, ap, arith, length-append}
-use Rattle.aead.specs.Suites.{text_limit}
+use Rattle.std.proofs.Common.{ap}
+use Rattle.std.proofs.lemmas.Result.{MatchResult-weaker, on_err_weaker}
+use Rattle.aead.specs.declared.two_pass_state.TwoPassState.{TwoPassState}
+use Rattle.aead.specs.declared.siv.SivAbsorb.{SivAbsorb}
 use Rattle.aead.proofs.siv.SivAbsorb.update.Goals as goal
 
 pub returns-clause-answer : goal.returns-clause-answer
 returns-clause-answer c = λ s text h.
-    let read = h.state in
-    let long : c.args.self.now.state.pass.length ≡ length text = read.pass.length_is in
-    let room : c.args.self.now.state.pass.length + length c.args.piece.now ≤ text_limit s.suite =
-    omega (
-      arith,
-      c.has_room.ensures.fits c.if-not-has_room.false,
-      c.text_limit.ensures.value,
-      ap text_limit h.keys.suite_is,
-    ) in (
-      record { keys = h.keys; state = record { pass = c.take.ensures s text h.keys room read.pass; start = read.start } },
-      omega (arith, length-append text c.args.piece.now, long, room),
-    )
+    MatchResult-weaker c.absorb.result (c.absorb.ensures.answer s text (c.keys.ensures s h.keys) h.state)
+    (λ _ m. (record { keys = h.keys; state = m.0 }, m.1)) (λ _ e. e)
+
+pub returns-clause-kept : goal.returns-clause-kept
+returns-clause-kept c =
+    let whole : TwoPassState → SivAbsorb = λ n. record { keys = c.args.self.now.keys; state = n } in
+    on_err_weaker c.absorb.result (λ e. ap whole e) c.absorb.ensures.kept
+
+pub returns-clause-fault : goal.returns-clause-fault
+returns-clause-fault c = MatchResult-weaker c.absorb.result c.absorb.ensures.fault (λ _ _. tt) (λ _ e. e.0)

@@ -1,0 +1,13 @@
+use Rattle.aead.specs.Ciphers.{setting}
+use Rattle.aead.specs.AnyCiphers.{one_pass_keyed}
+use Rattle.aead.proofs.KeyedPieces.{empty_text}
+use Rattle.aead.proofs.sealer.Sealer.new.Goals as goal
+
+pub returns : goal.returns
+returns c =
+    let s = setting (one_pass_keyed c.args.cipher.now) c.args.nonce.now c.args.aad.now in
+    record {
+      keys = c.keys.ensures.keys c.args.aad.now;
+      one_pass = c.keys.ensures.one_pass;
+      state = empty_text _ s c.begun.ensures;
+    }

@@ -1,0 +1,209 @@
+//! The steps of a pass over a message under AES-GCM (SP 800-38D, 7).
+
+ghost use Rattle.std.specs.Prelude.{◌≡◌, ◌+◌, ◌<◌, ◌≤◌, ◌^◌, ◌++◌, ℕ, List, [], length};
+ghost use Rattle.aead.specs.Suites.{ByGcm, construction_of, aad_limit};
+ghost use Rattle.aead.specs.Sealing.{Setting, hash_key, tag_over};
+ghost use Rattle.aead.specs.PassStates.{HoldsNumbers};
+ghost use Rattle.aead.specs.Code.Masks.{hashed_by};
+ghost use Rattle.aead.specs.Code.MessageKeys.{AreGcmKeys};
+ghost use Rattle.aead.specs.Code.PassSteps.{MasksPiece, TakesPiece};
+
+use crate::beside::Order;
+use crate::gcm::{hash_keys, mask_at};
+use crate::hashes::GhashKeys;
+use crate::keys::{AesKeys, KeptKeys, KeyBytes};
+use crate::multiples::{Multiples, worth};
+use crate::pass_state::PassState;
+use aes::AesKey;
+use gf128::{Keyed128, TableMul, WideMul};
+use octets::{Block, Nonce, Tag};
+
+// The numbers of no bytes after associated data.
+pub(crate) fn begun(keys: KeptKeys, ghash_key: &Block, nonce: &Nonce, aad: &[u8]) -> PassState
+    requires { ghash_key.now ≡ hash_key keys.key.now }
+    ensures { (s : Setting) → construction_of s.suite ≡ ByGcm → AreGcmKeys (AesKeys.Kept keys.entry) s
+        → s.nonce ≡ nonce.now
+        → s.aad ≡ aad.now → length aad.now ≤ aad_limit s.suite → HoldsNumbers result s [] }
+{
+    let hash_keys = hash_keys(keys.key, ghash_key, nonce);
+    PassState::begun(
+        &GhashKeys {
+            multiplier: keys.few,
+        },
+        hash_keys,
+        aad,
+    )
+}
+
+// Those by multiples that are made here. They stand on the stack of this call alone.
+#[inline(never)]
+fn hashed_anew(key: &AesKey, ghash_key: &Block, nonce: &Nonce, aad: &[u8]) -> PassState
+    requires { ghash_key.now ≡ hash_key key.now }
+    ensures { (s : Setting) → construction_of s.suite ≡ ByGcm → s.key ≡ key.now → s.nonce ≡ nonce.now
+        → s.aad ≡ aad.now → length aad.now ≤ aad_limit s.suite → HoldsNumbers result s [] }
+{
+    let few = TableMul::of(ghash_key);
+    begun(KeptKeys { key, few: &few }, ghash_key, nonce, aad)
+}
+
+// Those without kept multiples. If there is no associated data, none are needed.
+pub(crate) fn begun_anew(key: &AesKey, ghash_key: &Block, nonce: &Nonce, aad: &[u8]) -> PassState
+    requires { ghash_key.now ≡ hash_key key.now }
+    ensures { (s : Setting) → construction_of s.suite ≡ ByGcm → s.key ≡ key.now → s.nonce ≡ nonce.now
+        → s.aad ≡ aad.now → length aad.now ≤ aad_limit s.suite → HoldsNumbers result s [] }
+{
+    if aad.is_empty() {
+        PassState::empty(hash_keys(key, ghash_key, nonce))
+    } else {
+        hashed_anew(key, ghash_key, nonce, aad)
+    }
+}
+
+// Masks and authenticates a piece by a multiplier of the type `M`, which is made here: it stands on the stack of this call
+// alone.
+#[inline(never)]
+fn mask_by<M: Keyed128>(
+    state: &mut PassState,
+    key: &AesKey,
+    nonce: &Nonce,
+    order: Order,
+    piece: &mut [u8],
+)
+    requires { state.old.length + length piece.old ≤ 2 ^ 36 }
+    ensures { (s : Setting) (tag fed : List ℕ) → construction_of s.suite ≡ ByGcm → key.now ≡ s.key
+        → nonce.now ≡ s.nonce
+        → MasksPiece (hashed_by order) state.old state.new piece.old piece.new s tag fed }
+{
+    let mut multiplier = M::none();
+    multiplier.set(&state.multiplier_key());
+    let keys = GhashKeys {
+        multiplier: &multiplier,
+    };
+    let mut mask = mask_at(key, nonce, state.length);
+    state.step(&keys, &mut mask, order, piece);
+}
+
+// Masks and authenticates a piece by the bytes of a key, whose schedule stands on the stack of this call alone.
+#[inline(never)]
+fn mask_anew(
+    state: &mut PassState,
+    bytes: KeyBytes,
+    nonce: &Nonce,
+    order: Order,
+    piece: &mut [u8],
+)
+    requires { state.old.length + length piece.old ≤ 2 ^ 36 }
+    ensures { (s : Setting) (tag fed : List ℕ) → construction_of s.suite ≡ ByGcm
+        → AreGcmKeys (AesKeys.Bytes bytes.entry) s → nonce.now ≡ s.nonce
+        → MasksPiece (hashed_by order) state.old state.new piece.old piece.new s tag fed }
+{
+    let key = bytes.schedule();
+    match worth(piece.len() as u64) {
+        Multiples::Few => mask_by::<TableMul>(state, &key, nonce, order, piece),
+        Multiples::OfFourPowers => mask_by::<WideMul>(state, &key, nonce, order, piece),
+    }
+}
+
+// Masks and authenticates a piece by the schedule of a key, with its kept multiples if it is short.
+fn mask_kept(
+    state: &mut PassState,
+    keys: KeptKeys,
+    nonce: &Nonce,
+    order: Order,
+    piece: &mut [u8],
+)
+    requires { state.old.length + length piece.old ≤ 2 ^ 36 }
+    ensures { (s : Setting) (tag fed : List ℕ) → construction_of s.suite ≡ ByGcm
+        → AreGcmKeys (AesKeys.Kept keys.entry) s → nonce.now ≡ s.nonce
+        → MasksPiece (hashed_by order) state.old state.new piece.old piece.new s tag fed }
+{
+    match worth(piece.len() as u64) {
+        Multiples::Few => {
+            let hash_keys = GhashKeys {
+                multiplier: keys.few,
+            };
+            let mut mask = mask_at(keys.key, nonce, state.length);
+            state.step(&hash_keys, &mut mask, order, piece);
+        }
+        Multiples::OfFourPowers => mask_by::<WideMul>(state, keys.key, nonce, order, piece),
+    }
+}
+
+// Masks and authenticates a piece.
+pub(crate) fn mask(
+    state: &mut PassState,
+    keys: AesKeys,
+    nonce: &Nonce,
+    order: Order,
+    piece: &mut [u8],
+)
+    requires { state.old.length + length piece.old ≤ 2 ^ 36 }
+    ensures { (s : Setting) (tag fed : List ℕ) → construction_of s.suite ≡ ByGcm → AreGcmKeys keys.entry s
+        → nonce.now ≡ s.nonce
+        → MasksPiece (hashed_by order) state.old state.new piece.old piece.new s tag fed }
+{
+    match keys {
+        AesKeys::Kept(keys) => mask_kept(state, keys, nonce, order, piece),
+        AesKeys::Bytes(bytes) => mask_anew(state, bytes, nonce, order, piece),
+    }
+}
+
+// Authenticates a piece by a multiplier of the type `M`, which is made here: it stands on the stack of this call alone.
+#[inline(never)]
+fn take_by<M: Keyed128>(state: &mut PassState, piece: &[u8])
+    requires { state.old.length + length piece.now < 2 ^ 64 }
+    ensures { (s : Setting) (bytes : List ℕ) → construction_of s.suite ≡ ByGcm
+        → TakesPiece state.old state.new piece.now s bytes }
+{
+    let mut multiplier = M::none();
+    multiplier.set(&state.multiplier_key());
+    let keys = GhashKeys {
+        multiplier: &multiplier,
+    };
+    state.take(&keys, piece);
+}
+
+// Authenticates a piece. No schedule is needed.
+pub(crate) fn take(state: &mut PassState, keys: AesKeys, piece: &[u8])
+    requires { state.old.length + length piece.now < 2 ^ 64 }
+    ensures { (s : Setting) (bytes : List ℕ) → construction_of s.suite ≡ ByGcm → AreGcmKeys keys.entry s
+        → TakesPiece state.old state.new piece.now s bytes }
+{
+    match worth(piece.len() as u64) {
+        Multiples::Few => match keys {
+            AesKeys::Kept(keys) => {
+                let hash_keys = GhashKeys {
+                    multiplier: keys.few,
+                };
+                state.take(&hash_keys, piece);
+            }
+            AesKeys::Bytes(_) => take_by::<TableMul>(state, piece),
+        },
+        Multiples::OfFourPowers => take_by::<WideMul>(state, piece),
+    }
+}
+
+// The tag of what was authenticated, by multiples that are made here.
+#[inline(never)]
+fn tag_anew(state: &PassState) -> Tag
+    ensures { (s : Setting) (bytes : List ℕ) → construction_of s.suite ≡ ByGcm → HoldsNumbers state.now s bytes
+        → result ≡ tag_over s.suite s.key s.nonce s.aad bytes }
+{
+    let multiplier = TableMul::of(&state.multiplier_key());
+    state.tag(&GhashKeys {
+        multiplier: &multiplier,
+    })
+}
+
+// The tag of what was authenticated.
+pub(crate) fn tag(state: &PassState, keys: AesKeys) -> Tag
+    ensures { (s : Setting) (bytes : List ℕ) → construction_of s.suite ≡ ByGcm → AreGcmKeys keys.entry s
+        → HoldsNumbers state.now s bytes → result ≡ tag_over s.suite s.key s.nonce s.aad bytes }
+{
+    match keys {
+        AesKeys::Kept(keys) => state.tag(&GhashKeys {
+            multiplier: keys.few,
+        }),
+        AesKeys::Bytes(_) => tag_anew(state),
+    }
+}

@@ -1,0 +1,330 @@
+//! The key and the nonce of a message as plain numbers, under any suite, for a caller that keeps its state in its own memory. Of
+//! the key only the bytes are kept: each step makes the key schedule and the multiples of the hash key that it needs.
+
+ghost use Rattle.std.specs.Prelude.{◌≡◌, ◌≤◌, ℕ, List, [], length, take, MatchResult, IfOk, OnErr};
+ghost use Rattle.aes.specs.Cipher.{IsKey};
+ghost use Rattle.gf128.specs.Orders.{Reversed, Serves};
+ghost use Rattle.aead.specs.Suites.{ByChaCha, ByGcm, ByGcmSiv, construction_of, key_length, aad_limit};
+ghost use Rattle.aead.specs.Sealing.{Setting, hash_key, authentication_key, encryption_key};
+ghost use Rattle.aead.specs.PassStates.{HasHashKey, HoldsNumbers};
+ghost use Rattle.aead.specs.KeyedPasses.{setting_of, BeginRefused, ResumeRefused};
+ghost use Rattle.aead.specs.Code.MessageKeys.{construction_by, AreKeysOf};
+
+use crate::chacha_poly::one_time_key;
+use crate::derived_keys::{
+    KeyParts, expanded, hash_key, long_encryption_key, short_encryption_key,
+};
+use crate::gcm::hash_subkey;
+use crate::gcm_pass;
+use crate::hashes::PolyKeys;
+use crate::keys::{AesKeys, CipherKeys, KeyBytes, MessageKeys};
+use crate::pass_state::PassState;
+use crate::siv_pass;
+use crate::suite::Suite;
+use aes::AesKey;
+use octets::{Block, Fault, Key32, Nonce};
+
+// A key and a nonce. Each number may have any value.
+#[repr(C)]
+#[derive(Clone, Copy)]
+pub(crate) struct KeyAndNonce {
+    // The key that the message is encrypted with, and zeros after it. Under AES-GCM-SIV this is the message's own encryption key.
+    key: [u8; 32],
+    nonce: [u8; 12],
+}
+
+impl KeyAndNonce {
+    ghost use Rattle.aead.specs.KeyedPasses.{zero_keys, HasKeys};
+
+    // All zeros.
+    pub(crate) fn zeros() -> KeyAndNonce
+        ensures { result ≡ zero_keys }
+    {
+        KeyAndNonce {
+            key: [0; 32],
+            nonce: [0; 12],
+        }
+    }
+
+    // The key that the message is encrypted with, and its nonce.
+    #[inline(always)]
+    fn of(key: &[u8], nonce: &Nonce) -> KeyAndNonce
+        requires { length key.now ≤ 32 }
+        ensures key { take (length key.now) result.key ≡ key.now }
+        ensures nonce { result.nonce ≡ nonce.now }
+        ensures nonce_length { length nonce.now ≡ 12 }
+    {
+        let mut padded = [0; 32];
+        padded[..key.len()].copy_from_slice(key);
+        KeyAndNonce {
+            key: padded,
+            nonce: *nonce.bytes(),
+        }
+    }
+
+    // Lends the keys for a step.
+    #[inline(always)]
+    pub(crate) fn keys<'a>(&'a self, suite: Suite) -> MessageKeys<'a>
+        ensures by { construction_by result.cipher ≡ construction_of suite }
+        ensures keys { (s : Setting) → s.suite ≡ suite → HasKeys self.now s → AreKeysOf result s }
+    {
+        let key = &self.key;
+        let bytes = AesKeys::Bytes(KeyBytes { suite, key });
+        let nonce = self.nonce;
+        match suite {
+            Suite::ChaCha20Poly1305 => MessageKeys {
+                cipher: CipherKeys::ChaCha(key),
+                nonce,
+            },
+            Suite::Aes128Gcm | Suite::Aes192Gcm | Suite::Aes256Gcm => MessageKeys {
+                cipher: CipherKeys::Gcm(bytes),
+                nonce,
+            },
+            Suite::Aes128GcmSiv | Suite::Aes256GcmSiv => MessageKeys {
+                cipher: CipherKeys::Siv(bytes),
+                nonce,
+            },
+        }
+    }
+
+    // ---- begin
+
+    // Begins a pass under ChaCha20-Poly1305. Each construction has a function of its own, which is not inlined, since the compiler
+    // clears the locals of all arms of a `match` when the function is entered.
+    #[inline(never)]
+    fn begin_chacha(
+        &mut self,
+        state: &mut PassState,
+        suite: Suite,
+        key: &Key32,
+        nonce: &Nonce,
+        aad: &[u8],
+    )
+        requires by { construction_of suite ≡ ByChaCha }
+        requires fits { length aad.now ≤ aad_limit suite }
+        ensures keys { HasKeys self.new (setting_of suite key.now nonce.now aad.now) }
+        ensures holds { HoldsNumbers state.new (setting_of suite key.now nonce.now aad.now) [] }
+    {
+        *self = KeyAndNonce::of(key.bytes(), nonce);
+        *state = PassState::begun(&PolyKeys, one_time_key(key, nonce), aad);
+    }
+
+    // Begins a pass under AES-GCM.
+    #[inline(never)]
+    fn begin_gcm(
+        &mut self,
+        state: &mut PassState,
+        suite: Suite,
+        key: &[u8],
+        cipher: &AesKey,
+        ghash_key: &Block,
+        nonce: &Nonce,
+        aad: &[u8],
+    )
+        requires by { construction_of suite ≡ ByGcm }
+        requires long { length key.now ≡ key_length suite }
+        requires cipher { cipher.now ≡ key.now }
+        requires ghash_key { ghash_key.now ≡ hash_key key.now }
+        requires fits { length aad.now ≤ aad_limit suite }
+        ensures keys { HasKeys self.new (setting_of suite key.now nonce.now aad.now) }
+        ensures holds { HoldsNumbers state.new (setting_of suite key.now nonce.now aad.now) [] }
+    {
+        *self = KeyAndNonce::of(key, nonce);
+        *state = gcm_pass::begun_anew(cipher, ghash_key, nonce, aad);
+    }
+
+    // Begins a pass under AES-GCM, by the bytes of a key.
+    #[inline(never)]
+    fn begin_gcm_anew(
+        &mut self,
+        state: &mut PassState,
+        suite: Suite,
+        key: &[u8],
+        nonce: &Nonce,
+        aad: &[u8],
+    )
+        requires by { construction_of suite ≡ ByGcm }
+        requires long { length key.now ≡ key_length suite }
+        requires fits { length aad.now ≤ aad_limit suite }
+        ensures keys { HasKeys self.new (setting_of suite key.now nonce.now aad.now) }
+        ensures holds { HoldsNumbers state.new (setting_of suite key.now nonce.now aad.now) [] }
+    {
+        let cipher = expanded(key);
+        self.begin_gcm(state, suite, key, &cipher, &hash_subkey(&cipher), nonce, aad);
+    }
+
+    // Begins a pass under AES-GCM-SIV, by the encryption key and the hash key of the message.
+    fn begin_derived(
+        &mut self,
+        state: &mut PassState,
+        suite: Suite,
+        key: &[u8],
+        hash_key: &Block,
+        nonce: &Nonce,
+        aad: &[u8],
+    )
+        requires { length key.now ≡ key_length suite }
+        ensures is_key { IsKey key.now }
+        ensures keys { (s : Setting) → s.suite ≡ suite → construction_of suite ≡ ByGcmSiv
+            → length s.key ≡ key_length suite → key.now ≡ encryption_key s.key s.nonce
+            → s.nonce ≡ nonce.now → HasKeys self.new s }
+        ensures holds { (s : Setting) → s.suite ≡ suite → construction_of suite ≡ ByGcmSiv
+            → key.now ≡ encryption_key s.key s.nonce
+            → Serves Reversed (authentication_key s.key s.nonce) hash_key.now
+            → s.nonce ≡ nonce.now → s.aad ≡ aad.now → length aad.now ≤ aad_limit suite
+            → HoldsNumbers state.new s [] }
+    {
+        *self = KeyAndNonce::of(key, nonce);
+        *state = siv_pass::begun_anew(key, hash_key, nonce, aad);
+    }
+
+    // Begins a pass under AES-GCM-SIV, by the key that the message's keys are derived from.
+    #[inline(never)]
+    pub(crate) fn begin_siv(
+        &mut self,
+        state: &mut PassState,
+        suite: Suite,
+        cipher: &AesKey,
+        nonce: &Nonce,
+        aad: &[u8],
+    )
+        requires by { construction_of suite ≡ ByGcmSiv }
+        requires long { length cipher.now ≡ key_length suite }
+        requires fits { length aad.now ≤ aad_limit suite }
+        ensures is_key { IsKey (encryption_key cipher.now nonce.now) }
+        ensures keys { HasKeys self.new (setting_of suite cipher.now nonce.now aad.now) }
+        ensures holds { HoldsNumbers state.new (setting_of suite cipher.now nonce.now aad.now) [] }
+    {
+        let parts = KeyParts::new(cipher, nonce);
+        let hash_key = hash_key(&parts);
+        match suite {
+            Suite::Aes128GcmSiv => {
+                let key = short_encryption_key(&parts);
+                self.begin_derived(state, suite, &key, &hash_key, nonce, aad);
+            }
+            _ => {
+                let key = long_encryption_key(&parts);
+                self.begin_derived(state, suite, &key, &hash_key, nonce, aad);
+            }
+        }
+    }
+
+    // Begins a pass under AES-GCM-SIV, by the bytes of the key that the message's keys are derived from.
+    #[inline(never)]
+    fn begin_siv_anew(
+        &mut self,
+        state: &mut PassState,
+        suite: Suite,
+        key: &[u8],
+        nonce: &Nonce,
+        aad: &[u8],
+    )
+        requires by { construction_of suite ≡ ByGcmSiv }
+        requires long { length key.now ≡ key_length suite }
+        requires fits { length aad.now ≤ aad_limit suite }
+        ensures keys { HasKeys self.new (setting_of suite key.now nonce.now aad.now) }
+        ensures holds { HoldsNumbers state.new (setting_of suite key.now nonce.now aad.now) [] }
+    {
+        self.begin_siv(state, suite, &expanded(key), nonce, aad);
+    }
+
+    // Begins a pass by the bytes of a key and a nonce. Faults: `KeyLength`, `NonceLength`, then `AadTooLong`. On error keys and
+    // state are as they were.
+    pub(crate) fn begin(
+        &mut self,
+        state: &mut PassState,
+        suite: Suite,
+        key: &[u8],
+        nonce: &[u8],
+        aad: &[u8],
+    ) -> Result<(), Fault>
+        ensures answer { let s = setting_of suite key.now nonce.now aad.now in
+            MatchResult result (λ _. HasKeys self.new s × HoldsNumbers state.new s []) (BeginRefused s) }
+        ensures kept { OnErr result ((self.new ≡ self.old) × (state.new ≡ state.old)) }
+    {
+        if key.len() != suite.key_length() {
+            return Err(Fault::KeyLength);
+        }
+        let nonce = Nonce::from_slice(nonce)?;
+        suite.check_aad(aad)?;
+        match suite {
+            Suite::ChaCha20Poly1305 => {
+                let key = Key32::from_slice(key)?;
+                self.begin_chacha(state, suite, &key, &nonce, aad);
+                Ok(())
+            }
+            Suite::Aes128Gcm | Suite::Aes192Gcm | Suite::Aes256Gcm => {
+                self.begin_gcm_anew(state, suite, key, &nonce, aad);
+                Ok(())
+            }
+            Suite::Aes128GcmSiv | Suite::Aes256GcmSiv => {
+                self.begin_siv_anew(state, suite, key, &nonce, aad);
+                Ok(())
+            }
+        }
+    }
+
+    // Begins a pass as `begin` does, by what was made of the key before: its schedule and the key of GHASH.
+    pub(crate) fn begin_by(
+        &mut self,
+        state: &mut PassState,
+        suite: Suite,
+        key: &[u8],
+        cipher: &AesKey,
+        ghash_key: &Block,
+        nonce: &[u8],
+        aad: &[u8],
+    ) -> Result<(), Fault>
+        requires long { length key.now ≡ key_length suite }
+        requires cipher { cipher.now ≡ key.now }
+        requires ghash_key { ghash_key.now ≡ hash_key key.now }
+        ensures answer { let s = setting_of suite key.now nonce.now aad.now in
+            MatchResult result (λ _. HasKeys self.new s × HoldsNumbers state.new s []) (BeginRefused s) }
+        ensures kept { OnErr result ((self.new ≡ self.old) × (state.new ≡ state.old)) }
+    {
+        let nonce = Nonce::from_slice(nonce)?;
+        suite.check_aad(aad)?;
+        match suite {
+            Suite::ChaCha20Poly1305 => {
+                let key = Key32::from_slice(key)?;
+                self.begin_chacha(state, suite, &key, &nonce, aad);
+                Ok(())
+            }
+            Suite::Aes128Gcm | Suite::Aes192Gcm | Suite::Aes256Gcm => {
+                self.begin_gcm(state, suite, key, cipher, ghash_key, &nonce, aad);
+                Ok(())
+            }
+            Suite::Aes128GcmSiv | Suite::Aes256GcmSiv => {
+                self.begin_siv(state, suite, cipher, &nonce, aad);
+                Ok(())
+            }
+        }
+    }
+
+    // ---- resumption
+
+    // Returns the key and the nonce of a message, for numbers of a pass over it. Faults: `KeyLength`, `NonceLength`, then
+    // `TagMismatch` if the numbers are of another key or nonce.
+    pub(crate) fn resumed(
+        suite: Suite,
+        key: &[u8],
+        nonce: &[u8],
+        state: &PassState,
+    ) -> Result<KeyAndNonce, Fault>
+        ensures answer { MatchResult result
+            (λ p. (aad : List ℕ) → HasKeys p (setting_of suite key.now nonce.now aad))
+            (ResumeRefused state.now suite key.now nonce.now) }
+        ensures key { IfOk result (λ _. HasHashKey state.now (setting_of suite key.now nonce.now)) }
+    {
+        let mut keys = KeyAndNonce::zeros();
+        let mut fresh = PassState::zeros();
+        match keys.begin(&mut fresh, suite, key, nonce, &[]) {
+            Ok(()) => {}
+            Err(fault) => return Err(fault),
+        }
+        if !state.has_hash_key_of(&fresh) {
+            return Err(Fault::TagMismatch);
+        }
+        Ok(keys)
+    }
+}

@@ -1,0 +1,186 @@
+//! The keys of a message with its nonce, and the steps of a pass over the message by them, under any suite. A cipher or a state
+//! lends the keys for a step, whether it keeps a schedule and multiples or bytes alone.
+
+ghost use Rattle.std.specs.Prelude.{◌≡◌, ◌+◌, ◌-◌, ◌≤◌, ◌^◌, ◌++◌, ℕ, List, length, take};
+ghost use Rattle.aead.specs.Suites.{ByChaCha, construction_of, key_length, text_limit_by};
+ghost use Rattle.aead.specs.Sealing.{Setting, tag_over};
+ghost use Rattle.aead.specs.PassStates.{HoldsNumbers};
+ghost use Rattle.aead.specs.KeyedPasses.{authenticated_by};
+ghost use Rattle.aead.specs.Code.Masks.{hashed_by};
+ghost use Rattle.aead.specs.Code.PassSteps.{MasksPiece, TakesPiece, ChecksPiece, OpensPiece};
+
+use crate::beside::Order;
+use crate::chacha_poly;
+use crate::derived_keys::expanded;
+use crate::gcm_pass;
+use crate::hashes::PolyKeys;
+use crate::pass_state::PassState;
+use crate::siv_pass;
+use crate::suite::Suite;
+use aes::AesKey;
+use gf128::TableMul;
+use octets::{Key32, Nonce, Tag};
+
+// A key of AES whose schedule is kept, with the few multiples of the hash key that a short piece takes.
+#[derive(Drop, Clone, Copy)]
+pub(crate) struct KeptKeys<'a> {
+    pub(crate) key: &'a AesKey,
+    pub(crate) few: &'a TableMul,
+}
+
+// The bytes of a key, and others after it.
+#[derive(Drop, Clone, Copy)]
+pub(crate) struct KeyBytes<'a> {
+    pub(crate) suite: Suite,
+    pub(crate) key: &'a [u8; 32],
+}
+
+impl<'a> KeyBytes<'a> {
+    // The schedule of the key.
+    pub(crate) fn schedule(&self) -> AesKey
+        ensures { result ≡ take (key_length self.now.suite) self.now.key.now }
+    {
+        expanded(&self.key[..self.suite.key_length()])
+    }
+}
+
+// A key of AES for a step: of bytes alone the step makes the schedule and the multiples that it needs.
+#[derive(Drop, Clone, Copy)]
+pub(crate) enum AesKeys<'a> {
+    Kept(KeptKeys<'a>),
+    Bytes(KeyBytes<'a>),
+}
+
+// The key that a message is encrypted with. Under AES-GCM-SIV it is the message's own.
+#[derive(Drop, Clone, Copy)]
+pub(crate) enum CipherKeys<'a> {
+    ChaCha(&'a [u8; 32]),
+    Gcm(AesKeys<'a>),
+    Siv(AesKeys<'a>),
+}
+
+// That with the nonce of the message.
+#[derive(Drop, Clone, Copy)]
+pub(crate) struct MessageKeys<'a> {
+    pub(crate) cipher: CipherKeys<'a>,
+    pub(crate) nonce: [u8; 12],
+}
+
+// Masks and authenticates a piece under ChaCha20-Poly1305.
+#[inline(never)]
+fn mask_chacha(
+    state: &mut PassState,
+    key: &[u8; 32],
+    nonce: &Nonce,
+    order: Order,
+    piece: &mut [u8],
+)
+    requires { state.old.length + length piece.old ≤ 2 ^ 38 - 64 }
+    ensures { (s : Setting) (tag fed : List ℕ) → construction_of s.suite ≡ ByChaCha → key.now ≡ s.key
+        → nonce.now ≡ s.nonce
+        → MasksPiece (hashed_by order) state.old state.new piece.old piece.new s tag fed }
+{
+    let mut mask = chacha_poly::mask_at(&Key32::new(*key), nonce, state.length);
+    state.step(&PolyKeys, &mut mask, order, piece);
+}
+
+impl<'a> MessageKeys<'a> {
+    ghost use Rattle.aead.specs.Code.MessageKeys.{construction_by, AreKeysOf};
+
+    // The most bytes of a text.
+    pub(crate) fn text_limit(&self) -> u64
+        ensures { result ≡ text_limit_by (construction_by self.now.cipher) }
+    {
+        match self.cipher {
+            CipherKeys::ChaCha(_) => Suite::ChaCha20Poly1305.text_limit(),
+            CipherKeys::Gcm(_) => Suite::Aes128Gcm.text_limit(),
+            CipherKeys::Siv(_) => Suite::Aes128GcmSiv.text_limit(),
+        }
+    }
+
+    // Masks a piece of the message with this tag and authenticates it. Only under AES-GCM-SIV does the mask depend on the tag.
+    pub(crate) fn mask(
+        &self,
+        state: &mut PassState,
+        order: Order,
+        tag: &[u8; 16],
+        piece: &mut [u8],
+    )
+        requires { state.old.length + length piece.old ≤ text_limit_by (construction_by self.now.cipher) }
+        ensures { (s : Setting) (fed : List ℕ) → AreKeysOf self.now s
+            → MasksPiece (hashed_by order) state.old state.new piece.old piece.new s tag.now fed }
+    {
+        let nonce = Nonce::new(self.nonce);
+        match self.cipher {
+            CipherKeys::ChaCha(key) => mask_chacha(state, key, &nonce, order, piece),
+            CipherKeys::Gcm(keys) => gcm_pass::mask(state, keys, &nonce, order, piece),
+            CipherKeys::Siv(keys) => siv_pass::mask(state, keys, &nonce, tag, order, piece),
+        }
+    }
+
+    // Authenticates a piece.
+    pub(crate) fn take(&self, state: &mut PassState, piece: &[u8])
+        requires { state.old.length + length piece.now ≤ text_limit_by (construction_by self.now.cipher) }
+        ensures { (s : Setting) (bytes : List ℕ) → AreKeysOf self.now s
+            → TakesPiece state.old state.new piece.now s bytes }
+    {
+        match self.cipher {
+            CipherKeys::ChaCha(_) => state.take(&PolyKeys, piece),
+            CipherKeys::Gcm(keys) => gcm_pass::take(state, keys, piece),
+            CipherKeys::Siv(keys) => {
+                let nonce = Nonce::new(self.nonce);
+                siv_pass::take(state, keys, &nonce, piece);
+            }
+        }
+    }
+
+    // Authenticates a piece of the ciphertext with this tag, or under AES-GCM-SIV the piece's text. The piece stays as it is.
+    pub(crate) fn check(&self, state: &mut PassState, tag: &[u8; 16], piece: &[u8])
+        requires { state.old.length + length piece.now ≤ text_limit_by (construction_by self.now.cipher) }
+        ensures { (s : Setting) (body : List ℕ) → AreKeysOf self.now s
+            → ChecksPiece state.old state.new piece.now s tag.now body }
+    {
+        match self.cipher {
+            CipherKeys::Siv(keys) => {
+                let nonce = Nonce::new(self.nonce);
+                siv_pass::take_text(state, keys, &nonce, tag, piece);
+            }
+            _ => self.take(state, piece),
+        }
+    }
+
+    // The order in which a ciphertext is decrypted and authenticated.
+    fn order_of_opening(&self) -> Order
+        ensures { (mask : ℕ → ℕ) (body : List ℕ)
+            → hashed_by result mask body ≡ authenticated_by (construction_by self.now.cipher) mask body }
+    {
+        match self.cipher {
+            CipherKeys::Siv(_) => Order::MaskFirst,
+            _ => Order::HashFirst,
+        }
+    }
+
+    // Decrypts a piece of the ciphertext with this tag, and authenticates it.
+    pub(crate) fn open(&self, state: &mut PassState, tag: &[u8; 16], piece: &mut [u8])
+        requires { state.old.length + length piece.old ≤ text_limit_by (construction_by self.now.cipher) }
+        ensures { (s : Setting) (body : List ℕ) → AreKeysOf self.now s
+            → OpensPiece state.old state.new piece.old piece.new s tag.now body }
+    {
+        self.mask(state, self.order_of_opening(), tag, piece);
+    }
+
+    // The tag of what was authenticated.
+    pub(crate) fn tag(&self, state: &PassState) -> Tag
+        ensures { (s : Setting) (bytes : List ℕ) → AreKeysOf self.now s → HoldsNumbers state.now s bytes
+            → result ≡ tag_over s.suite s.key s.nonce s.aad bytes }
+    {
+        match self.cipher {
+            CipherKeys::ChaCha(_) => state.tag(&PolyKeys),
+            CipherKeys::Gcm(keys) => gcm_pass::tag(state, keys),
+            CipherKeys::Siv(keys) => {
+                let nonce = Nonce::new(self.nonce);
+                siv_pass::tag(state, keys, &nonce)
+            }
+        }
+    }
+}

@@ -1,0 +1,337 @@
+//! The steps of a pass over a message under AES-GCM-SIV (RFC 8452, 4), by the message's own encryption key.
+
+ghost use Rattle.std.specs.Prelude.{◌≡◌, ◌+◌, ◌<◌, ◌≤◌, ◌^◌, ◌++◌, ℕ, List, [], length};
+ghost use Rattle.gf128.specs.Orders.{Reversed, Serves};
+ghost use Rattle.aes.specs.Cipher.{IsKeyLength};
+ghost use Rattle.aead.specs.Suites.{ByGcmSiv, construction_of, aad_limit};
+ghost use Rattle.aead.specs.Sealing.{Setting, authentication_key, encryption_key, tag_over};
+ghost use Rattle.aead.specs.PassStates.{IsHashKey, HoldsNumbers};
+ghost use Rattle.aead.specs.Code.Masks.{hashed_by};
+ghost use Rattle.aead.specs.Code.MessageKeys.{AreSivKeys};
+ghost use Rattle.aead.specs.Code.PassSteps.{MasksPiece, TakesPiece, TakesPieceText};
+
+use crate::beside::Order;
+use crate::derived_keys::{expanded, joined};
+use crate::gcm_siv::mask_at;
+use crate::hashes::PolyvalKeys;
+use crate::keys::{AesKeys, KeptKeys, KeyBytes};
+use crate::multiples::{Multiples, worth};
+use crate::pass_state::PassState;
+use aes::AesKey;
+use gf128::{Keyed128, TableMul, WideMul};
+use octets::{Block, Nonce, Tag};
+
+// The numbers that hold the hash key: that of POLYVAL's multiplier, and zeros.
+fn hash_keys(hash_key: &Block) -> [u8; 32]
+    ensures { (s : Setting) → construction_of s.suite ≡ ByGcmSiv
+        → Serves Reversed (authentication_key s.key s.nonce) hash_key.now
+        → IsHashKey (construction_of s.suite) result s }
+{
+    joined(hash_key.bytes(), &[0; 16])
+}
+
+// The numbers of no bytes after associated data.
+pub(crate) fn begun(keys: KeptKeys, hash_key: &Block, nonce: &Nonce, aad: &[u8]) -> PassState
+    ensures { (s : Setting) → construction_of s.suite ≡ ByGcmSiv → AreSivKeys (AesKeys.Kept keys.entry) s
+        → Serves Reversed (authentication_key s.key s.nonce) hash_key.now → nonce.now ≡ s.nonce
+        → s.aad ≡ aad.now → length aad.now ≤ aad_limit s.suite → HoldsNumbers result s [] }
+{
+    let hash_keys = hash_keys(hash_key);
+    PassState::begun(
+        &PolyvalKeys {
+            multiplier: keys.few,
+            key: keys.key,
+            nonce,
+        },
+        hash_keys,
+        aad,
+    )
+}
+
+// Those by the bytes of the encryption key. Its schedule and multiples stand on the stack of this call alone.
+#[inline(never)]
+fn hashed_anew(key: &[u8], hash_key: &Block, nonce: &Nonce, aad: &[u8]) -> PassState
+    requires { IsKeyLength (length key.now) }
+    ensures { (s : Setting) → construction_of s.suite ≡ ByGcmSiv → key.now ≡ encryption_key s.key s.nonce
+        → Serves Reversed (authentication_key s.key s.nonce) hash_key.now → nonce.now ≡ s.nonce
+        → s.aad ≡ aad.now → length aad.now ≤ aad_limit s.suite → HoldsNumbers result s [] }
+{
+    let key = expanded(key);
+    let few = TableMul::of(hash_key);
+    begun(KeptKeys { key: &key, few: &few }, hash_key, nonce, aad)
+}
+
+// Those by the bytes of the encryption key. If there is no associated data, neither schedule nor multiples are needed.
+pub(crate) fn begun_anew(key: &[u8], hash_key: &Block, nonce: &Nonce, aad: &[u8]) -> PassState
+    requires { IsKeyLength (length key.now) }
+    ensures { (s : Setting) → construction_of s.suite ≡ ByGcmSiv → key.now ≡ encryption_key s.key s.nonce
+        → Serves Reversed (authentication_key s.key s.nonce) hash_key.now → nonce.now ≡ s.nonce
+        → s.aad ≡ aad.now → length aad.now ≤ aad_limit s.suite → HoldsNumbers result s [] }
+{
+    if aad.is_empty() {
+        PassState::empty(hash_keys(hash_key))
+    } else {
+        hashed_anew(key, hash_key, nonce, aad)
+    }
+}
+
+// Masks and authenticates a piece by a multiplier of the type `M`, which is made here: it stands on the stack of this call
+// alone.
+#[inline(never)]
+fn mask_by<M: Keyed128>(
+    state: &mut PassState,
+    key: &AesKey,
+    nonce: &Nonce,
+    tag: &[u8; 16],
+    order: Order,
+    piece: &mut [u8],
+)
+    requires { state.old.length + length piece.old ≤ 2 ^ 36 }
+    ensures { (s : Setting) (fed : List ℕ) → construction_of s.suite ≡ ByGcmSiv
+        → key.now ≡ encryption_key s.key s.nonce → nonce.now ≡ s.nonce
+        → MasksPiece (hashed_by order) state.old state.new piece.old piece.new s tag.now fed }
+{
+    let mut multiplier = M::none();
+    multiplier.set(&state.multiplier_key());
+    let keys = PolyvalKeys {
+        multiplier: &multiplier,
+        key,
+        nonce,
+    };
+    let mut mask = mask_at(key, tag, state.length);
+    state.step(&keys, &mut mask, order, piece);
+}
+
+// Masks and authenticates a piece by the bytes of a key, whose schedule stands on the stack of this call alone.
+#[inline(never)]
+fn mask_anew(
+    state: &mut PassState,
+    bytes: KeyBytes,
+    nonce: &Nonce,
+    tag: &[u8; 16],
+    order: Order,
+    piece: &mut [u8],
+)
+    requires { state.old.length + length piece.old ≤ 2 ^ 36 }
+    ensures { (s : Setting) (fed : List ℕ) → construction_of s.suite ≡ ByGcmSiv
+        → AreSivKeys (AesKeys.Bytes bytes.entry) s → nonce.now ≡ s.nonce
+        → MasksPiece (hashed_by order) state.old state.new piece.old piece.new s tag.now fed }
+{
+    let key = bytes.schedule();
+    match worth(piece.len() as u64) {
+        Multiples::Few => mask_by::<TableMul>(state, &key, nonce, tag, order, piece),
+        Multiples::OfFourPowers => mask_by::<WideMul>(state, &key, nonce, tag, order, piece),
+    }
+}
+
+// Masks and authenticates a piece by the schedule of a key, with its kept multiples if it is short.
+fn mask_kept(
+    state: &mut PassState,
+    keys: KeptKeys,
+    nonce: &Nonce,
+    tag: &[u8; 16],
+    order: Order,
+    piece: &mut [u8],
+)
+    requires { state.old.length + length piece.old ≤ 2 ^ 36 }
+    ensures { (s : Setting) (fed : List ℕ) → construction_of s.suite ≡ ByGcmSiv
+        → AreSivKeys (AesKeys.Kept keys.entry) s → nonce.now ≡ s.nonce
+        → MasksPiece (hashed_by order) state.old state.new piece.old piece.new s tag.now fed }
+{
+    match worth(piece.len() as u64) {
+        Multiples::Few => {
+            let hash_keys = PolyvalKeys {
+                multiplier: keys.few,
+                key: keys.key,
+                nonce,
+            };
+            let mut mask = mask_at(keys.key, tag, state.length);
+            state.step(&hash_keys, &mut mask, order, piece);
+        }
+        Multiples::OfFourPowers => {
+            mask_by::<WideMul>(state, keys.key, nonce, tag, order, piece)
+        }
+    }
+}
+
+// Masks and authenticates a piece.
+pub(crate) fn mask(
+    state: &mut PassState,
+    keys: AesKeys,
+    nonce: &Nonce,
+    tag: &[u8; 16],
+    order: Order,
+    piece: &mut [u8],
+)
+    requires { state.old.length + length piece.old ≤ 2 ^ 36 }
+    ensures { (s : Setting) (fed : List ℕ) → construction_of s.suite ≡ ByGcmSiv → AreSivKeys keys.entry s
+        → nonce.now ≡ s.nonce
+        → MasksPiece (hashed_by order) state.old state.new piece.old piece.new s tag.now fed }
+{
+    match keys {
+        AesKeys::Kept(keys) => mask_kept(state, keys, nonce, tag, order, piece),
+        AesKeys::Bytes(bytes) => mask_anew(state, bytes, nonce, tag, order, piece),
+    }
+}
+
+// Authenticates a piece by a multiplier of the type `M`, which is made here: it stands on the stack of this call alone.
+#[inline(never)]
+fn take_by<M: Keyed128>(state: &mut PassState, key: &AesKey, nonce: &Nonce, piece: &[u8])
+    requires { state.old.length + length piece.now < 2 ^ 64 }
+    ensures { (s : Setting) (bytes : List ℕ) → construction_of s.suite ≡ ByGcmSiv
+        → key.now ≡ encryption_key s.key s.nonce → nonce.now ≡ s.nonce
+        → TakesPiece state.old state.new piece.now s bytes }
+{
+    let mut multiplier = M::none();
+    multiplier.set(&state.multiplier_key());
+    let keys = PolyvalKeys {
+        multiplier: &multiplier,
+        key,
+        nonce,
+    };
+    state.take(&keys, piece);
+}
+
+// Authenticates a piece by the bytes of a key, whose schedule stands on the stack of this call alone.
+#[inline(never)]
+fn take_anew(state: &mut PassState, bytes: KeyBytes, nonce: &Nonce, piece: &[u8])
+    requires { state.old.length + length piece.now < 2 ^ 64 }
+    ensures { (s : Setting) (fed : List ℕ) → construction_of s.suite ≡ ByGcmSiv
+        → AreSivKeys (AesKeys.Bytes bytes.entry) s → nonce.now ≡ s.nonce
+        → TakesPiece state.old state.new piece.now s fed }
+{
+    let key = bytes.schedule();
+    match worth(piece.len() as u64) {
+        Multiples::Few => take_by::<TableMul>(state, &key, nonce, piece),
+        Multiples::OfFourPowers => take_by::<WideMul>(state, &key, nonce, piece),
+    }
+}
+
+// Authenticates a piece by the schedule of a key, with its kept multiples if it is short.
+fn take_kept(state: &mut PassState, keys: KeptKeys, nonce: &Nonce, piece: &[u8])
+    requires { state.old.length + length piece.now < 2 ^ 64 }
+    ensures { (s : Setting) (fed : List ℕ) → construction_of s.suite ≡ ByGcmSiv
+        → AreSivKeys (AesKeys.Kept keys.entry) s → nonce.now ≡ s.nonce
+        → TakesPiece state.old state.new piece.now s fed }
+{
+    match worth(piece.len() as u64) {
+        Multiples::Few => {
+            let hash_keys = PolyvalKeys {
+                multiplier: keys.few,
+                key: keys.key,
+                nonce,
+            };
+            state.take(&hash_keys, piece);
+        }
+        Multiples::OfFourPowers => take_by::<WideMul>(state, keys.key, nonce, piece),
+    }
+}
+
+// Authenticates a piece.
+pub(crate) fn take(state: &mut PassState, keys: AesKeys, nonce: &Nonce, piece: &[u8])
+    requires { state.old.length + length piece.now < 2 ^ 64 }
+    ensures { (s : Setting) (bytes : List ℕ) → construction_of s.suite ≡ ByGcmSiv → AreSivKeys keys.entry s
+        → nonce.now ≡ s.nonce → TakesPiece state.old state.new piece.now s bytes }
+{
+    match keys {
+        AesKeys::Kept(keys) => take_kept(state, keys, nonce, piece),
+        AesKeys::Bytes(bytes) => take_anew(state, bytes, nonce, piece),
+    }
+}
+
+// Authenticates the text of a piece of a ciphertext by a multiplier of the type `M`, which is made here: it stands on the stack
+// of this call alone.
+#[inline(never)]
+fn take_text_by<M: Keyed128>(
+    state: &mut PassState,
+    key: &AesKey,
+    nonce: &Nonce,
+    tag: &[u8; 16],
+    piece: &[u8],
+)
+    requires { state.old.length + length piece.now ≤ 2 ^ 36 }
+    ensures { (s : Setting) (fed : List ℕ) → construction_of s.suite ≡ ByGcmSiv
+        → key.now ≡ encryption_key s.key s.nonce → nonce.now ≡ s.nonce
+        → TakesPieceText state.old state.new piece.now s tag.now fed }
+{
+    let mut multiplier = M::none();
+    multiplier.set(&state.multiplier_key());
+    let keys = PolyvalKeys {
+        multiplier: &multiplier,
+        key,
+        nonce,
+    };
+    let mut mask = mask_at(key, tag, state.length);
+    state.take_text(&keys, &mut mask, piece);
+}
+
+// Authenticates the text of a piece of a ciphertext by a schedule.
+fn take_text_under(
+    state: &mut PassState,
+    key: &AesKey,
+    nonce: &Nonce,
+    tag: &[u8; 16],
+    piece: &[u8],
+)
+    requires { state.old.length + length piece.now ≤ 2 ^ 36 }
+    ensures { (s : Setting) (fed : List ℕ) → construction_of s.suite ≡ ByGcmSiv
+        → key.now ≡ encryption_key s.key s.nonce → nonce.now ≡ s.nonce
+        → TakesPieceText state.old state.new piece.now s tag.now fed }
+{
+    match worth(piece.len() as u64) {
+        Multiples::Few => take_text_by::<TableMul>(state, key, nonce, tag, piece),
+        Multiples::OfFourPowers => take_text_by::<WideMul>(state, key, nonce, tag, piece),
+    }
+}
+
+// Authenticates the text of a piece of a ciphertext.
+#[inline(never)]
+pub(crate) fn take_text(
+    state: &mut PassState,
+    keys: AesKeys,
+    nonce: &Nonce,
+    tag: &[u8; 16],
+    piece: &[u8],
+)
+    requires { state.old.length + length piece.now ≤ 2 ^ 36 }
+    ensures { (s : Setting) (fed : List ℕ) → construction_of s.suite ≡ ByGcmSiv → AreSivKeys keys.entry s
+        → nonce.now ≡ s.nonce
+        → TakesPieceText state.old state.new piece.now s tag.now fed }
+{
+    match keys {
+        AesKeys::Kept(keys) => take_text_under(state, keys.key, nonce, tag, piece),
+        AesKeys::Bytes(bytes) => take_text_under(state, &bytes.schedule(), nonce, tag, piece),
+    }
+}
+
+// The tag of what was authenticated, by a schedule and multiples that are made here.
+#[inline(never)]
+fn tag_anew(state: &PassState, bytes: KeyBytes, nonce: &Nonce) -> Tag
+    ensures { (s : Setting) (bytes' : List ℕ) → construction_of s.suite ≡ ByGcmSiv
+        → AreSivKeys (AesKeys.Bytes bytes.entry) s → nonce.now ≡ s.nonce → HoldsNumbers state.now s bytes'
+        → result ≡ tag_over s.suite s.key s.nonce s.aad bytes' }
+{
+    let multiplier = TableMul::of(&state.multiplier_key());
+    let key = bytes.schedule();
+    state.tag(&PolyvalKeys {
+        multiplier: &multiplier,
+        key: &key,
+        nonce,
+    })
+}
+
+// The tag of what was authenticated.
+pub(crate) fn tag(state: &PassState, keys: AesKeys, nonce: &Nonce) -> Tag
+    ensures { (s : Setting) (bytes : List ℕ) → construction_of s.suite ≡ ByGcmSiv → AreSivKeys keys.entry s
+        → nonce.now ≡ s.nonce → HoldsNumbers state.now s bytes
+        → result ≡ tag_over s.suite s.key s.nonce s.aad bytes }
+{
+    match keys {
+        AesKeys::Kept(keys) => state.tag(&PolyvalKeys {
+            multiplier: keys.few,
+            key: keys.key,
+            nonce,
+        }),
+        AesKeys::Bytes(bytes) => tag_anew(state, bytes, nonce),
+    }
+}
