@@ -1,5 +1,5 @@
 -- Facts about numbers from which a pass goes on.
-use Rattle.std.proofs.Common.{◌≡◌, ℕ, ◌++◌, ◌∙◌, List, [], take, drop, refl, sym, ap, ap₂, subst, arith}
+use Rattle.std.proofs.Common.{◌≡◌, ℕ, ◌++◌, ◌∙◌, List, [], take, drop, sym, ap₂, subst, arith}
 use Rattle.std.proofs.lemmas.List.{take-append-drop}
 use Rattle.octets.specs.Bytes.{IsBlock}
 use Rattle.octets.specs.Bits.{g}

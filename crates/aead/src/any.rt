@@ -16,7 +16,7 @@ use crate::gcm::Gcm;
 use crate::gcm_pass;
 use crate::gcm_siv::GcmSiv;
 use crate::hashes::PolyKeys;
-use crate::keys::{AesKeys, CipherKeys, KeptKeys, MessageKeys};
+use crate::keys::{AesKeys, CipherKeys, ExpandedKey, MessageKeys};
 use crate::pass_state::PassState;
 use crate::suite::Suite;
 use aes::AesKey;
@@ -57,7 +57,7 @@ impl AnyOnePass {
             AnyOnePass::Gcm(cipher) => {
                 let (key, _, few) = cipher.keys();
                 MessageKeys {
-                    cipher: CipherKeys::Gcm(AesKeys::Kept(KeptKeys { key, few })),
+                    cipher: CipherKeys::Gcm(AesKeys::Expanded(ExpandedKey { key, few })),
                     nonce: *nonce.bytes(),
                 }
             }
@@ -75,7 +75,7 @@ impl AnyOnePass {
             }
             AnyOnePass::Gcm(cipher) => {
                 let (key, ghash_key, few) = cipher.keys();
-                gcm_pass::begun(KeptKeys { key, few }, ghash_key, nonce, aad)
+                gcm_pass::begun(ExpandedKey { key, few }, ghash_key, nonce, aad)
             }
         }
     }

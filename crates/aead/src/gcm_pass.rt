@@ -11,7 +11,7 @@ ghost use Rattle.aead.specs.Code.PassSteps.{MasksPiece, TakesPiece};
 use crate::beside::Order;
 use crate::gcm::{hash_keys, mask_at};
 use crate::hashes::GhashKeys;
-use crate::keys::{AesKeys, KeptKeys, KeyBytes};
+use crate::keys::{AesKeys, ExpandedKey, KeyBytes};
 use crate::multiples::{Multiples, worth};
 use crate::pass_state::PassState;
 use aes::AesKey;
@@ -19,9 +19,9 @@ use gf128::{Keyed128, TableMul, WideMul};
 use octets::{Block, Nonce, Tag};
 
 // The numbers of no bytes after associated data.
-pub(crate) fn begun(keys: KeptKeys, ghash_key: &Block, nonce: &Nonce, aad: &[u8]) -> PassState
+pub(crate) fn begun(keys: ExpandedKey, ghash_key: &Block, nonce: &Nonce, aad: &[u8]) -> PassState
     requires { ghash_key.now ≡ hash_key keys.key.now }
-    ensures { (s : Setting) → construction_of s.suite ≡ ByGcm → AreGcmKeys (AesKeys.Kept keys.entry) s
+    ensures { (s : Setting) → construction_of s.suite ≡ ByGcm → AreGcmKeys (AesKeys.Expanded keys.entry) s
         → s.nonce ≡ nonce.now
         → s.aad ≡ aad.now → length aad.now ≤ aad_limit s.suite → HoldsNumbers result s [] }
 {
@@ -43,10 +43,10 @@ fn hashed_anew(key: &AesKey, ghash_key: &Block, nonce: &Nonce, aad: &[u8]) -> Pa
         → s.aad ≡ aad.now → length aad.now ≤ aad_limit s.suite → HoldsNumbers result s [] }
 {
     let few = TableMul::of(ghash_key);
-    begun(KeptKeys { key, few: &few }, ghash_key, nonce, aad)
+    begun(ExpandedKey { key, few: &few }, ghash_key, nonce, aad)
 }
 
-// Those without kept multiples. If there is no associated data, none are needed.
+// Those by the schedule alone. If there is no associated data, no multiples are needed.
 pub(crate) fn begun_anew(key: &AesKey, ghash_key: &Block, nonce: &Nonce, aad: &[u8]) -> PassState
     requires { ghash_key.now ≡ hash_key key.now }
     ensures { (s : Setting) → construction_of s.suite ≡ ByGcm → s.key ≡ key.now → s.nonce ≡ nonce.now
@@ -85,13 +85,7 @@ fn mask_by<M: Keyed128>(
 
 // Masks and authenticates a piece by the bytes of a key, whose schedule stands on the stack of this call alone.
 #[inline(never)]
-fn mask_anew(
-    state: &mut PassState,
-    bytes: KeyBytes,
-    nonce: &Nonce,
-    order: Order,
-    piece: &mut [u8],
-)
+fn mask_anew(state: &mut PassState, bytes: KeyBytes, nonce: &Nonce, order: Order, piece: &mut [u8])
     requires { state.old.length + length piece.old ≤ 2 ^ 36 }
     ensures { (s : Setting) (tag fed : List ℕ) → construction_of s.suite ≡ ByGcm
         → AreGcmKeys (AesKeys.Bytes bytes.entry) s → nonce.now ≡ s.nonce
@@ -104,17 +98,17 @@ fn mask_anew(
     }
 }
 
-// Masks and authenticates a piece by the schedule of a key, with its kept multiples if it is short.
-fn mask_kept(
+// Masks and authenticates a piece by the schedule of a key, with the few multiples if it is short.
+fn mask_expanded(
     state: &mut PassState,
-    keys: KeptKeys,
+    keys: ExpandedKey,
     nonce: &Nonce,
     order: Order,
     piece: &mut [u8],
 )
     requires { state.old.length + length piece.old ≤ 2 ^ 36 }
     ensures { (s : Setting) (tag fed : List ℕ) → construction_of s.suite ≡ ByGcm
-        → AreGcmKeys (AesKeys.Kept keys.entry) s → nonce.now ≡ s.nonce
+        → AreGcmKeys (AesKeys.Expanded keys.entry) s → nonce.now ≡ s.nonce
         → MasksPiece (hashed_by order) state.old state.new piece.old piece.new s tag fed }
 {
     match worth(piece.len() as u64) {
@@ -143,7 +137,7 @@ pub(crate) fn mask(
         → MasksPiece (hashed_by order) state.old state.new piece.old piece.new s tag fed }
 {
     match keys {
-        AesKeys::Kept(keys) => mask_kept(state, keys, nonce, order, piece),
+        AesKeys::Expanded(keys) => mask_expanded(state, keys, nonce, order, piece),
         AesKeys::Bytes(bytes) => mask_anew(state, bytes, nonce, order, piece),
     }
 }
@@ -171,7 +165,7 @@ pub(crate) fn take(state: &mut PassState, keys: AesKeys, piece: &[u8])
 {
     match worth(piece.len() as u64) {
         Multiples::Few => match keys {
-            AesKeys::Kept(keys) => {
+            AesKeys::Expanded(keys) => {
                 let hash_keys = GhashKeys {
                     multiplier: keys.few,
                 };
@@ -201,7 +195,7 @@ pub(crate) fn tag(state: &PassState, keys: AesKeys) -> Tag
         → HoldsNumbers state.now s bytes → result ≡ tag_over s.suite s.key s.nonce s.aad bytes }
 {
     match keys {
-        AesKeys::Kept(keys) => state.tag(&GhashKeys {
+        AesKeys::Expanded(keys) => state.tag(&GhashKeys {
             multiplier: keys.few,
         }),
         AesKeys::Bytes(_) => tag_anew(state),

@@ -15,12 +15,11 @@ use crate::derived_keys::{
     KeyParts, expanded, hash_key, long_encryption_key, short_encryption_key,
 };
 use crate::gcm::hash_subkey;
-use crate::gcm_pass;
 use crate::hashes::PolyKeys;
 use crate::keys::{AesKeys, CipherKeys, KeyBytes, MessageKeys};
 use crate::pass_state::PassState;
-use crate::siv_pass;
 use crate::suite::Suite;
+use crate::{gcm_pass, siv_pass};
 use aes::AesKey;
 use octets::{Block, Fault, Key32, Nonce};
 
@@ -150,7 +149,15 @@ impl KeyAndNonce {
         ensures holds { HoldsNumbers state.new (setting_of suite key.now nonce.now aad.now) [] }
     {
         let cipher = expanded(key);
-        self.begin_gcm(state, suite, key, &cipher, &hash_subkey(&cipher), nonce, aad);
+        self.begin_gcm(
+            state,
+            suite,
+            key,
+            &cipher,
+            &hash_subkey(&cipher),
+            nonce,
+            aad,
+        );
     }
 
     // Begins a pass under AES-GCM-SIV, by the encryption key and the hash key of the message.

@@ -85,10 +85,15 @@ impl KeyedOpener {
             MatchResult result (λ _. HoldsFirstPass self.new s tag.now []) (BeginRefused s) }
         ensures kept { OnErr result (self.new ≡ self.old) }
     {
-        match self
-            .keys
-            .begin_by(&mut self.state.pass, suite, key, cipher, ghash_key, nonce, aad)
-        {
+        match self.keys.begin_by(
+            &mut self.state.pass,
+            suite,
+            key,
+            cipher,
+            ghash_key,
+            nonce,
+            aad,
+        ) {
             Ok(()) => {
                 self.state = TwoPassState::first(self.state.pass, tag);
                 Ok(())
@@ -132,7 +137,8 @@ impl KeyedOpener {
         ensures second { (s : Setting) (tag : List ℕ) (first : ℕ) (body : List ℕ)
             → HoldsSecondPass self.now s tag first body → IsInSecondPass result s tag first body }
     {
-        self.state
+        let KeyedOpener { state, .. } = self;
+        *state
     }
 
     /// Takes in a piece of the ciphertext in the first pass, under its suite. `TextTooLong` if the ciphertext would be past the

@@ -103,7 +103,8 @@ impl KeyedSealer {
     pub fn state(&self) -> PassState
         ensures { (s : Setting) (text : List ℕ) → HoldsKeyedText self.now s text → HoldsState result s text }
     {
-        self.state
+        let KeyedSealer { state, .. } = self;
+        *state
     }
 
     /// Adds `piece`, of any length, to the text, under its suite, and leaves its ciphertext in its place. `TextTooLong` if the

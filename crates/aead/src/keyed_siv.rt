@@ -81,10 +81,15 @@ impl KeyedSiv {
             MatchResult result (λ _. HoldsFirstReading self.new s []) (BeginRefused s) }
         ensures kept { OnErr result (self.new ≡ self.old) }
     {
-        match self
-            .keys
-            .begin_by(&mut self.state.pass, suite, key, cipher, ghash_key, nonce, aad)
-        {
+        match self.keys.begin_by(
+            &mut self.state.pass,
+            suite,
+            key,
+            cipher,
+            ghash_key,
+            nonce,
+            aad,
+        ) {
             Ok(()) => {
                 self.state = TwoPassState::first(self.state.pass, &[0; 16]);
                 Ok(())
@@ -129,7 +134,8 @@ impl KeyedSiv {
         ensures second { (s : Setting) (first text : List ℕ) → HoldsSecondReading self.now s first text
             → IsInSecondReading result s first text }
     {
-        self.state
+        let KeyedSiv { state, .. } = self;
+        *state
     }
 
     /// Adds `piece`, of any length, to the text in the first reading, under its suite. `TextTooLong` if the text would be past

@@ -10,20 +10,18 @@ ghost use Rattle.aead.specs.Code.Masks.{hashed_by};
 ghost use Rattle.aead.specs.Code.PassSteps.{MasksPiece, TakesPiece, ChecksPiece, OpensPiece};
 
 use crate::beside::Order;
-use crate::chacha_poly;
 use crate::derived_keys::expanded;
-use crate::gcm_pass;
 use crate::hashes::PolyKeys;
 use crate::pass_state::PassState;
-use crate::siv_pass;
 use crate::suite::Suite;
+use crate::{chacha_poly, gcm_pass, siv_pass};
 use aes::AesKey;
 use gf128::TableMul;
 use octets::{Key32, Nonce, Tag};
 
-// A key of AES whose schedule is kept, with the few multiples of the hash key that a short piece takes.
+// The schedule of a key of AES, with the few multiples of the hash key that a short piece takes.
 #[derive(Drop, Clone, Copy)]
-pub(crate) struct KeptKeys<'a> {
+pub(crate) struct ExpandedKey<'a> {
     pub(crate) key: &'a AesKey,
     pub(crate) few: &'a TableMul,
 }
@@ -47,7 +45,7 @@ impl<'a> KeyBytes<'a> {
 // A key of AES for a step: of bytes alone the step makes the schedule and the multiples that it needs.
 #[derive(Drop, Clone, Copy)]
 pub(crate) enum AesKeys<'a> {
-    Kept(KeptKeys<'a>),
+    Expanded(ExpandedKey<'a>),
     Bytes(KeyBytes<'a>),
 }
 
@@ -68,13 +66,7 @@ pub(crate) struct MessageKeys<'a> {
 
 // Masks and authenticates a piece under ChaCha20-Poly1305.
 #[inline(never)]
-fn mask_chacha(
-    state: &mut PassState,
-    key: &[u8; 32],
-    nonce: &Nonce,
-    order: Order,
-    piece: &mut [u8],
-)
+fn mask_chacha(state: &mut PassState, key: &[u8; 32], nonce: &Nonce, order: Order, piece: &mut [u8])
     requires { state.old.length + length piece.old ≤ 2 ^ 38 - 64 }
     ensures { (s : Setting) (tag fed : List ℕ) → construction_of s.suite ≡ ByChaCha → key.now ≡ s.key
         → nonce.now ≡ s.nonce
@@ -99,13 +91,7 @@ impl<'a> MessageKeys<'a> {
     }
 
     // Masks a piece of the message with this tag and authenticates it. Only under AES-GCM-SIV does the mask depend on the tag.
-    pub(crate) fn mask(
-        &self,
-        state: &mut PassState,
-        order: Order,
-        tag: &[u8; 16],
-        piece: &mut [u8],
-    )
+    pub(crate) fn mask(&self, state: &mut PassState, order: Order, tag: &[u8; 16], piece: &mut [u8])
         requires { state.old.length + length piece.old ≤ text_limit_by (construction_by self.now.cipher) }
         ensures { (s : Setting) (fed : List ℕ) → AreKeysOf self.now s
             → MasksPiece (hashed_by order) state.old state.new piece.old piece.new s tag.now fed }

@@ -133,7 +133,10 @@ impl<'a> Opener<'a> {
         ensures key { IfOk result (λ _. HasHashKey state.now.pass (setting (keyed_of cipher.now) nonce.now)) }
     {
         match resumed(cipher, nonce, state) {
-            Ok(keys) => Ok(Opener { keys, state: *state }),
+            Ok(keys) => Ok(Opener {
+                keys,
+                state: *state,
+            }),
             Err(fault) => Err(fault),
         }
     }
@@ -200,7 +203,10 @@ impl<'a> OpenWriter<'a> {
         ensures key { IfOk result (λ _. HasHashKey state.now.pass (setting (keyed_of cipher.now) nonce.now)) }
     {
         match resumed(cipher, nonce, state) {
-            Ok(keys) => Ok(OpenWriter { keys, state: *state }),
+            Ok(keys) => Ok(OpenWriter {
+                keys,
+                state: *state,
+            }),
             Err(fault) => Err(fault),
         }
     }
@@ -211,7 +217,8 @@ impl<'a> OpenWriter<'a> {
         ensures { (s : Setting) (tag : List ℕ) (first : ℕ) (body : List ℕ) → HoldsOpenWriter self.now s tag first body
             → IsInSecondPass result s tag first body }
     {
-        self.state
+        let OpenWriter { state, .. } = self;
+        *state
     }
 
     /// Takes in a piece of the ciphertext, of any length, and leaves its text in its place. `SourceChanged` if the second pass

@@ -8,7 +8,7 @@ ghost use Rattle.aead.specs.PassStates.{HasHashKey, HoldsNone, HoldsNumbers};
 
 use crate::aead::Aead;
 use crate::gcm_siv::GcmSiv;
-use crate::keys::{AesKeys, CipherKeys, KeptKeys, MessageKeys};
+use crate::keys::{AesKeys, CipherKeys, ExpandedKey, MessageKeys};
 use crate::pass_state::PassState;
 use crate::siv_pass;
 use aes::AesKey;
@@ -67,11 +67,11 @@ impl SivKeys {
     }
 
     // What a step makes use of without making it.
-    fn kept<'a>(&'a self) -> KeptKeys<'a>
+    fn expanded<'a>(&'a self) -> ExpandedKey<'a>
         ensures key { result.key.now ≡ self.now.encryption }
         ensures few { result.few.now ≡ self.now.multiplier }
     {
-        KeptKeys {
+        ExpandedKey {
             key: &self.encryption,
             few: &self.multiplier,
         }
@@ -82,7 +82,7 @@ impl SivKeys {
         ensures { (s : Setting) → AreKeys self.now s → AreKeysOf result s }
     {
         MessageKeys {
-            cipher: CipherKeys::Siv(AesKeys::Kept(self.kept())),
+            cipher: CipherKeys::Siv(AesKeys::Expanded(self.expanded())),
             nonce: *self.nonce.bytes(),
         }
     }
@@ -92,6 +92,6 @@ impl SivKeys {
         ensures { (s : Setting) → AreKeys self.now s → s.aad ≡ aad.now → length aad.now ≤ aad_limit s.suite
             → HoldsNumbers result s [] }
     {
-        siv_pass::begun(self.kept(), &self.hash_key, &self.nonce, aad)
+        siv_pass::begun(self.expanded(), &self.hash_key, &self.nonce, aad)
     }
 }

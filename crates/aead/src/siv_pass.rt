@@ -14,7 +14,7 @@ use crate::beside::Order;
 use crate::derived_keys::{expanded, joined};
 use crate::gcm_siv::mask_at;
 use crate::hashes::PolyvalKeys;
-use crate::keys::{AesKeys, KeptKeys, KeyBytes};
+use crate::keys::{AesKeys, ExpandedKey, KeyBytes};
 use crate::multiples::{Multiples, worth};
 use crate::pass_state::PassState;
 use aes::AesKey;
@@ -31,8 +31,8 @@ fn hash_keys(hash_key: &Block) -> [u8; 32]
 }
 
 // The numbers of no bytes after associated data.
-pub(crate) fn begun(keys: KeptKeys, hash_key: &Block, nonce: &Nonce, aad: &[u8]) -> PassState
-    ensures { (s : Setting) → construction_of s.suite ≡ ByGcmSiv → AreSivKeys (AesKeys.Kept keys.entry) s
+pub(crate) fn begun(keys: ExpandedKey, hash_key: &Block, nonce: &Nonce, aad: &[u8]) -> PassState
+    ensures { (s : Setting) → construction_of s.suite ≡ ByGcmSiv → AreSivKeys (AesKeys.Expanded keys.entry) s
         → Serves Reversed (authentication_key s.key s.nonce) hash_key.now → nonce.now ≡ s.nonce
         → s.aad ≡ aad.now → length aad.now ≤ aad_limit s.suite → HoldsNumbers result s [] }
 {
@@ -58,7 +58,15 @@ fn hashed_anew(key: &[u8], hash_key: &Block, nonce: &Nonce, aad: &[u8]) -> PassS
 {
     let key = expanded(key);
     let few = TableMul::of(hash_key);
-    begun(KeptKeys { key: &key, few: &few }, hash_key, nonce, aad)
+    begun(
+        ExpandedKey {
+            key: &key,
+            few: &few,
+        },
+        hash_key,
+        nonce,
+        aad,
+    )
 }
 
 // Those by the bytes of the encryption key. If there is no associated data, neither schedule nor multiples are needed.
@@ -124,10 +132,10 @@ fn mask_anew(
     }
 }
 
-// Masks and authenticates a piece by the schedule of a key, with its kept multiples if it is short.
-fn mask_kept(
+// Masks and authenticates a piece by the schedule of a key, with the few multiples if it is short.
+fn mask_expanded(
     state: &mut PassState,
-    keys: KeptKeys,
+    keys: ExpandedKey,
     nonce: &Nonce,
     tag: &[u8; 16],
     order: Order,
@@ -135,7 +143,7 @@ fn mask_kept(
 )
     requires { state.old.length + length piece.old ≤ 2 ^ 36 }
     ensures { (s : Setting) (fed : List ℕ) → construction_of s.suite ≡ ByGcmSiv
-        → AreSivKeys (AesKeys.Kept keys.entry) s → nonce.now ≡ s.nonce
+        → AreSivKeys (AesKeys.Expanded keys.entry) s → nonce.now ≡ s.nonce
         → MasksPiece (hashed_by order) state.old state.new piece.old piece.new s tag.now fed }
 {
     match worth(piece.len() as u64) {
@@ -148,9 +156,7 @@ fn mask_kept(
             let mut mask = mask_at(keys.key, tag, state.length);
             state.step(&hash_keys, &mut mask, order, piece);
         }
-        Multiples::OfFourPowers => {
-            mask_by::<WideMul>(state, keys.key, nonce, tag, order, piece)
-        }
+        Multiples::OfFourPowers => { mask_by::<WideMul>(state, keys.key, nonce, tag, order, piece) }
     }
 }
 
@@ -169,7 +175,7 @@ pub(crate) fn mask(
         → MasksPiece (hashed_by order) state.old state.new piece.old piece.new s tag.now fed }
 {
     match keys {
-        AesKeys::Kept(keys) => mask_kept(state, keys, nonce, tag, order, piece),
+        AesKeys::Expanded(keys) => mask_expanded(state, keys, nonce, tag, order, piece),
         AesKeys::Bytes(bytes) => mask_anew(state, bytes, nonce, tag, order, piece),
     }
 }
@@ -207,11 +213,11 @@ fn take_anew(state: &mut PassState, bytes: KeyBytes, nonce: &Nonce, piece: &[u8]
     }
 }
 
-// Authenticates a piece by the schedule of a key, with its kept multiples if it is short.
-fn take_kept(state: &mut PassState, keys: KeptKeys, nonce: &Nonce, piece: &[u8])
+// Authenticates a piece by the schedule of a key, with the few multiples if it is short.
+fn take_expanded(state: &mut PassState, keys: ExpandedKey, nonce: &Nonce, piece: &[u8])
     requires { state.old.length + length piece.now < 2 ^ 64 }
     ensures { (s : Setting) (fed : List ℕ) → construction_of s.suite ≡ ByGcmSiv
-        → AreSivKeys (AesKeys.Kept keys.entry) s → nonce.now ≡ s.nonce
+        → AreSivKeys (AesKeys.Expanded keys.entry) s → nonce.now ≡ s.nonce
         → TakesPiece state.old state.new piece.now s fed }
 {
     match worth(piece.len() as u64) {
@@ -234,7 +240,7 @@ pub(crate) fn take(state: &mut PassState, keys: AesKeys, nonce: &Nonce, piece: &
         → nonce.now ≡ s.nonce → TakesPiece state.old state.new piece.now s bytes }
 {
     match keys {
-        AesKeys::Kept(keys) => take_kept(state, keys, nonce, piece),
+        AesKeys::Expanded(keys) => take_expanded(state, keys, nonce, piece),
         AesKeys::Bytes(bytes) => take_anew(state, bytes, nonce, piece),
     }
 }
@@ -266,13 +272,7 @@ fn take_text_by<M: Keyed128>(
 }
 
 // Authenticates the text of a piece of a ciphertext by a schedule.
-fn take_text_under(
-    state: &mut PassState,
-    key: &AesKey,
-    nonce: &Nonce,
-    tag: &[u8; 16],
-    piece: &[u8],
-)
+fn take_text_under(state: &mut PassState, key: &AesKey, nonce: &Nonce, tag: &[u8; 16], piece: &[u8])
     requires { state.old.length + length piece.now ≤ 2 ^ 36 }
     ensures { (s : Setting) (fed : List ℕ) → construction_of s.suite ≡ ByGcmSiv
         → key.now ≡ encryption_key s.key s.nonce → nonce.now ≡ s.nonce
@@ -299,7 +299,7 @@ pub(crate) fn take_text(
         → TakesPieceText state.old state.new piece.now s tag.now fed }
 {
     match keys {
-        AesKeys::Kept(keys) => take_text_under(state, keys.key, nonce, tag, piece),
+        AesKeys::Expanded(keys) => take_text_under(state, keys.key, nonce, tag, piece),
         AesKeys::Bytes(bytes) => take_text_under(state, &bytes.schedule(), nonce, tag, piece),
     }
 }
@@ -327,7 +327,7 @@ pub(crate) fn tag(state: &PassState, keys: AesKeys, nonce: &Nonce) -> Tag
         → result ≡ tag_over s.suite s.key s.nonce s.aad bytes }
 {
     match keys {
-        AesKeys::Kept(keys) => state.tag(&PolyvalKeys {
+        AesKeys::Expanded(keys) => state.tag(&PolyvalKeys {
             multiplier: keys.few,
             key: keys.key,
             nonce,

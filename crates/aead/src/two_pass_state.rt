@@ -220,7 +220,7 @@ impl TwoPassState {
         ensures kept { OnErr result ((self.new ≡ self.old) × (piece.new ≡ piece.old)) }
         ensures fault { MatchResult result (λ _. Unit {0}) (λ e. e ≡ Fault.SourceChanged) }
     {
-        let limit = self.first.min(keys.text_limit());
+        let limit = keys.text_limit().min(self.first);
         if !self.pass.has_room(limit, piece) {
             return Err(Fault::SourceChanged);
         }

@@ -3,7 +3,7 @@ use Rattle.std.specs.Prelude.{◌≡◌, take}
 use Rattle.gf128.specs.Orders.{Reversed, Serves}
 use Rattle.gf128.specs.States.{key_of}
 use Rattle.aead.specs.declared.keys.AesKeys.{AesKeys}
-use Rattle.aead.specs.declared.keys.AesKeys.TheVariants.{Kept, Bytes}
+use Rattle.aead.specs.declared.keys.AesKeys.TheVariants.{Expanded, Bytes}
 use Rattle.aead.specs.declared.keys.CipherKeys.{CipherKeys}
 use Rattle.aead.specs.declared.keys.CipherKeys.TheVariants.{ChaCha, Gcm, Siv}
 use Rattle.aead.specs.declared.keys.MessageKeys.{MessageKeys}
@@ -18,12 +18,12 @@ construction_by (Siv keys) = ByGcmSiv
 
 -- keys of AES under AES-GCM: the schedule, and multiples of the hash key; or the key's bytes
 abbrev pub AreGcmKeys : AesKeys → Setting → Type 0
-AreGcmKeys (Kept k) s = (k.key.now ≡ s.key) × (key_of k.few.now ≡ hash_key s.key)
+AreGcmKeys (Expanded k) s = (k.key.now ≡ s.key) × (key_of k.few.now ≡ hash_key s.key)
 AreGcmKeys (Bytes b) s = take (key_length b.suite) b.key.now ≡ s.key
 
 -- under AES-GCM-SIV: those of the encryption key, and multiples that serve POLYVAL
 abbrev pub AreSivKeys : AesKeys → Setting → Type 0
-AreSivKeys (Kept k) s =
+AreSivKeys (Expanded k) s =
     (k.key.now ≡ encryption_key s.key s.nonce)
     × Serves Reversed (authentication_key s.key s.nonce) (key_of k.few.now)
 AreSivKeys (Bytes b) s = take (key_length b.suite) b.key.now ≡ encryption_key s.key s.nonce

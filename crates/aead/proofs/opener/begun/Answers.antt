@@ -35,8 +35,8 @@ returns-in-Siv-clause-keys c = λ any.
     let key = c.key.ensures.key ∙ sym (ap (λ k. (keyed_of k).key) c.in-Siv.is) in (
       suite,
       subst (λ (s : Setting). HasKeys c.begin_siv.new.self s)
-      (ap₂ (λ (x : Suite) (y : List ℕ). setting_of x y c.args.nonce.now any) suite key)
-      (has_keys_with _ _ any c.begin_siv.ensures.keys),
+          (ap₂ (λ (x : Suite) (y : List ℕ). setting_of x y c.args.nonce.now any) suite key)
+          (has_keys_with _ _ any c.begin_siv.ensures.keys),
     )
 
 pub returns-in-Siv-clause-bytes : goal.returns-in-Siv-clause-bytes

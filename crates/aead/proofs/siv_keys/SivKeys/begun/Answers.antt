@@ -6,6 +6,6 @@ use Rattle.aead.proofs.siv_keys.SivKeys.begun.Goals as goal
 
 pub returns : goal.returns
 returns c = λ s k aad fits.
-    let few = ap key_of c.kept.ensures.few ∙ k.multiplier_is in
+    let few = ap key_of c.expanded.ensures.few ∙ k.multiplier_is in
     let serves = subst (λ (x : List ℕ). Serves Reversed (authentication_key s.key s.nonce) x) (sym few) k.hash_key_is in
-    c.begun.ensures s k.by (c.kept.ensures.key ∙ k.encryption_is, serves) k.hash_key_is k.nonce_is aad fits
+    c.begun.ensures s k.by (c.expanded.ensures.key ∙ k.encryption_is, serves) k.hash_key_is k.nonce_is aad fits

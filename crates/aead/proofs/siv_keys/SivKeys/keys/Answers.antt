@@ -6,11 +6,11 @@ use Rattle.aead.proofs.siv_keys.SivKeys.keys.Goals as goal
 
 pub returns : goal.returns
 returns c = λ s k.
-    let few = ap key_of c.kept.ensures.few ∙ k.multiplier_is in
+    let few = ap key_of c.expanded.ensures.few ∙ k.multiplier_is in
     record {
       by = k.by;
       cipher = (
-        c.kept.ensures.key ∙ k.encryption_is,
+        c.expanded.ensures.key ∙ k.encryption_is,
         subst (λ (x : List ℕ). Serves Reversed (authentication_key s.key s.nonce) x) (sym few) k.hash_key_is,
       );
       nonce_is = c.bytes.ensures.value ∙ k.nonce_is;

@@ -1,4 +1,4 @@
-use Rattle.aead.proofs.siv_pass.mask_kept.Goals as goal
+use Rattle.aead.proofs.siv_pass.mask_expanded.Goals as goal
 
 pub returns-in-Few : goal.returns-in-Few
 returns-in-Few c = λ s fed by keys nonce.

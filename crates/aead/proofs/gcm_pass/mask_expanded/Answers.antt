@@ -1,5 +1,5 @@
 use Rattle.std.proofs.Common.{sym}
-use Rattle.aead.proofs.gcm_pass.mask_kept.Goals as goal
+use Rattle.aead.proofs.gcm_pass.mask_expanded.Goals as goal
 
 pub returns-in-Few : goal.returns-in-Few
 returns-in-Few c = λ s tag fed by keys nonce.
