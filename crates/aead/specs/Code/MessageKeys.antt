@@ -1,7 +1,7 @@
 -- The keys of a message, as the steps of a pass find them.
 use Rattle.std.specs.Prelude.{◌≡◌, take}
 use Rattle.gf128.specs.Orders.{Reversed, Serves}
-use Rattle.gf128.specs.States.{key_of}
+use Rattle.gf128.specs.Code.States.{key_of}
 use Rattle.aead.specs.declared.keys.AesKeys.{AesKeys}
 use Rattle.aead.specs.declared.keys.AesKeys.TheVariants.{Expanded, Bytes}
 use Rattle.aead.specs.declared.keys.CipherKeys.{CipherKeys}

@@ -1,6 +1,6 @@
 use Rattle.std.proofs.Common.{ℕ, List, ap, sym, subst, ◌∙◌}
 use Rattle.gf128.specs.Orders.{Reversed, Serves}
-use Rattle.gf128.specs.States.{key_of}
+use Rattle.gf128.specs.Code.States.{key_of}
 use Rattle.aead.specs.Sealing.{authentication_key}
 use Rattle.aead.proofs.siv_keys.SivKeys.begun.Goals as goal
 
