@@ -29,3 +29,4 @@ mod PassStates
 mod Resumption
 mod KeyedPasses
 mod KeyedPieces
+mod MessageKeys

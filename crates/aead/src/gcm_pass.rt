@@ -11,7 +11,7 @@ ghost use Rattle.aead.specs.Code.PassSteps.{MasksPiece, TakesPiece};
 use crate::beside::Order;
 use crate::gcm::{hash_keys, mask_at};
 use crate::hashes::GhashKeys;
-use crate::keys::{AesKeys, ExpandedKey, KeyBytes};
+use crate::keys::{AesKeys, ExpandedKey};
 use crate::multiples::{Multiples, worth};
 use crate::pass_state::PassState;
 use aes::AesKey;
@@ -60,67 +60,28 @@ pub(crate) fn begun_anew(key: &AesKey, ghash_key: &Block, nonce: &Nonce, aad: &[
 }
 
 // Masks and authenticates a piece by a multiplier of the type `M`, which is made here: it stands on the stack of this call
-// alone.
+// alone, as does the schedule of a key that comes as bytes.
 #[inline(never)]
 fn mask_by<M: Keyed128>(
     state: &mut PassState,
-    key: &AesKey,
+    keys: AesKeys,
     nonce: &Nonce,
     order: Order,
     piece: &mut [u8],
 )
     requires { state.old.length + length piece.old ≤ 2 ^ 36 }
-    ensures { (s : Setting) (tag fed : List ℕ) → construction_of s.suite ≡ ByGcm → key.now ≡ s.key
+    ensures { (s : Setting) (tag fed : List ℕ) → construction_of s.suite ≡ ByGcm → AreGcmKeys keys.entry s
         → nonce.now ≡ s.nonce
         → MasksPiece (hashed_by order) state.old state.new piece.old piece.new s tag fed }
 {
     let mut multiplier = M::none();
     multiplier.set(&state.multiplier_key());
-    let keys = GhashKeys {
+    let hash_keys = GhashKeys {
         multiplier: &multiplier,
     };
-    let mut mask = mask_at(key, nonce, state.length);
-    state.step(&keys, &mut mask, order, piece);
-}
-
-// Masks and authenticates a piece by the bytes of a key, whose schedule stands on the stack of this call alone.
-#[inline(never)]
-fn mask_anew(state: &mut PassState, bytes: KeyBytes, nonce: &Nonce, order: Order, piece: &mut [u8])
-    requires { state.old.length + length piece.old ≤ 2 ^ 36 }
-    ensures { (s : Setting) (tag fed : List ℕ) → construction_of s.suite ≡ ByGcm
-        → AreGcmKeys (AesKeys.Bytes bytes.entry) s → nonce.now ≡ s.nonce
-        → MasksPiece (hashed_by order) state.old state.new piece.old piece.new s tag fed }
-{
-    let key = bytes.schedule();
-    match worth(piece.len() as u64) {
-        Multiples::Few => mask_by::<TableMul>(state, &key, nonce, order, piece),
-        Multiples::OfFourPowers => mask_by::<WideMul>(state, &key, nonce, order, piece),
-    }
-}
-
-// Masks and authenticates a piece by the schedule of a key, with the few multiples if it is short.
-fn mask_expanded(
-    state: &mut PassState,
-    keys: ExpandedKey,
-    nonce: &Nonce,
-    order: Order,
-    piece: &mut [u8],
-)
-    requires { state.old.length + length piece.old ≤ 2 ^ 36 }
-    ensures { (s : Setting) (tag fed : List ℕ) → construction_of s.suite ≡ ByGcm
-        → AreGcmKeys (AesKeys.Expanded keys.entry) s → nonce.now ≡ s.nonce
-        → MasksPiece (hashed_by order) state.old state.new piece.old piece.new s tag fed }
-{
-    match worth(piece.len() as u64) {
-        Multiples::Few => {
-            let hash_keys = GhashKeys {
-                multiplier: keys.few,
-            };
-            let mut mask = mask_at(keys.key, nonce, state.length);
-            state.step(&hash_keys, &mut mask, order, piece);
-        }
-        Multiples::OfFourPowers => mask_by::<WideMul>(state, keys.key, nonce, order, piece),
-    }
+    let schedule = keys.schedule();
+    let mut mask = mask_at(schedule.key(), nonce, state.length);
+    state.step(&hash_keys, &mut mask, order, piece);
 }
 
 // Masks and authenticates a piece.
@@ -136,9 +97,18 @@ pub(crate) fn mask(
         → nonce.now ≡ s.nonce
         → MasksPiece (hashed_by order) state.old state.new piece.old piece.new s tag fed }
 {
-    match keys {
-        AesKeys::Expanded(keys) => mask_expanded(state, keys, nonce, order, piece),
-        AesKeys::Bytes(bytes) => mask_anew(state, bytes, nonce, order, piece),
+    match worth(piece.len() as u64) {
+        Multiples::Few => match keys {
+            AesKeys::Expanded(key) => {
+                let hash_keys = GhashKeys {
+                    multiplier: key.few,
+                };
+                let mut mask = mask_at(key.key, nonce, state.length);
+                state.step(&hash_keys, &mut mask, order, piece);
+            }
+            AesKeys::Bytes(_) => mask_by::<TableMul>(state, keys, nonce, order, piece),
+        },
+        Multiples::OfFourPowers => mask_by::<WideMul>(state, keys, nonce, order, piece),
     }
 }
 

@@ -128,6 +128,6 @@ impl KeyedSealer {
         ensures { (s : Setting) (text : List ℕ) → s.suite ≡ suite → HoldsKeyedText self.now s text
             → result ≡ tag_of s text }
     {
-        self.state.text_tag(&self.keys.keys(suite))
+        self.keys.keys(suite).tag(&self.state)
     }
 }

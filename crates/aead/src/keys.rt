@@ -33,20 +33,51 @@ pub(crate) struct KeyBytes<'a> {
     pub(crate) key: &'a [u8; 32],
 }
 
-impl<'a> KeyBytes<'a> {
-    // The schedule of the key.
-    pub(crate) fn schedule(&self) -> AesKey
-        ensures { result ≡ take (key_length self.now.suite) self.now.key.now }
-    {
-        expanded(&self.key[..self.suite.key_length()])
-    }
-}
-
 // A key of AES for a step: of bytes alone the step makes the schedule and the multiples that it needs.
 #[derive(Drop, Clone, Copy)]
 pub(crate) enum AesKeys<'a> {
     Expanded(ExpandedKey<'a>),
     Bytes(KeyBytes<'a>),
+}
+
+// The schedule of a key of AES, lent or made for a step.
+#[derive(Drop)]
+pub(crate) enum Schedule<'a> {
+    Lent(&'a AesKey),
+    Own(AesKey),
+}
+
+impl<'a> AesKeys<'a> {
+    ghost use Rattle.aead.specs.Code.MessageKeys.{key_bytes, scheduled};
+
+    // The schedule of the key.
+    #[inline(always)]
+    pub(crate) fn schedule(&self) -> Schedule<'a>
+        ensures { scheduled result ≡ key_bytes self.now }
+    {
+        match self {
+            AesKeys::Expanded(key) => Schedule::Lent(key.key),
+            AesKeys::Bytes(bytes) => {
+                let key = bytes.key;
+                Schedule::Own(expanded(&key[..bytes.suite.key_length()]))
+            }
+        }
+    }
+}
+
+impl<'a> Schedule<'a> {
+    ghost use Rattle.aead.specs.Code.MessageKeys.{scheduled};
+
+    // The key that has this schedule.
+    #[inline(always)]
+    pub(crate) fn key(&self) -> &AesKey
+        ensures { result.now ≡ scheduled self.now }
+    {
+        match self {
+            Schedule::Lent(key) => key,
+            Schedule::Own(key) => key,
+        }
+    }
 }
 
 // The key that a message is encrypted with. Under AES-GCM-SIV it is the message's own.

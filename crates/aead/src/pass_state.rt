@@ -6,7 +6,7 @@ ghost use Rattle.std.specs.Prelude.{MatchResult, OnErr};
 ghost use Rattle.octets.specs.Bytes.{IsBlock, pad16};
 ghost use Rattle.octets.specs.Masked.{masked};
 ghost use Rattle.aead.specs.Suites.{construction_of, is_one_pass, text_limit, text_limit_by, aad_limit};
-ghost use Rattle.aead.specs.Sealing.{Setting, mask_of, tag_of, tag_over};
+ghost use Rattle.aead.specs.Sealing.{Setting, mask_of, tag_over};
 ghost use Rattle.aead.specs.Refusals.{SealRefused};
 ghost use Rattle.aead.specs.Code.States.{HoldsAuthenticator};
 
@@ -295,13 +295,5 @@ impl PassState {
         }
         keys.mask(self, Order::MaskFirst, &[0; 16], piece);
         Ok(())
-    }
-
-    // The tag of the text.
-    pub(crate) fn text_tag(&self, keys: &MessageKeys) -> Tag
-        ensures { (s : Setting) (text : List ℕ) → AreKeysOf keys.now s → is_one_pass (construction_of s.suite) ≡ true
-            → HoldsState self.now s text → result ≡ tag_of s text }
-    {
-        keys.tag(self)
     }
 }

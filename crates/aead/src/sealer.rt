@@ -93,6 +93,6 @@ impl<'a> Sealer<'a> {
         ensures { (s : Setting) (text : List ℕ) → HoldsSealer self.entry s text → result ≡ tag_of s text }
     {
         let (keys, state) = (self.keys, self.state);
-        state.text_tag(&keys)
+        keys.tag(&state)
     }
 }

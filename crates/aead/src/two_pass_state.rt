@@ -1,8 +1,8 @@
 //! What a sealing by two readings or an opening in two passes has taken in, as plain numbers: what a state in pieces is saved as.
 //! A message in pieces goes on by the same steps whether its keys are lent by a cipher or kept as bytes.
 
-ghost use Rattle.std.specs.Prelude.{◌≡◌, ◌↔◌, ◌+◌, ◌<◌, ◌≤◌, ◌++◌, ℕ, List, [], length, true, false};
-ghost use Rattle.std.specs.Prelude.{IsTrue, MatchResult, OnErr};
+ghost use Rattle.std.specs.Prelude.{◌≡◌, ◌+◌, ◌<◌, ◌≤◌, ◌++◌, ℕ, List, [], length, true, false};
+ghost use Rattle.std.specs.Prelude.{MatchResult, OnErr};
 ghost use Rattle.octets.specs.Masked.{masked};
 ghost use Rattle.aead.specs.Suites.{ByGcmSiv, construction_of, text_limit, text_limit_by};
 ghost use Rattle.aead.specs.Sealing.{Setting, IsNoSealing, mask_of, tag_of};
@@ -137,15 +137,6 @@ impl TwoPassState {
         Ok(())
     }
 
-    // Whether the second text has the length and the tag of the first.
-    fn repeats(&self, keys: &MessageKeys) -> bool
-        ensures { (s : Setting) (first text : List ℕ) → construction_of s.suite ≡ ByGcmSiv → AreKeysOf keys.now s
-            → IsInSecondReading self.now s first text → IsTrue result ↔ Repeats s first text }
-    {
-        let tag = self.reading_tag(keys);
-        self.pass.length == self.first && same(tag.bytes(), &self.tag)
-    }
-
     // Returns `Ok` if the second text has the length and the tag of the first, else `SourceChanged`.
     pub(crate) fn end_reading(&self, keys: &MessageKeys) -> Result<(), Fault>
         ensures answer { (s : Setting) (first text : List ℕ) → construction_of s.suite ≡ ByGcmSiv
@@ -154,7 +145,8 @@ impl TwoPassState {
             (λ e. (e ≡ Fault.SourceChanged) × ¬ (Repeats s first text)) }
         ensures fault { MatchResult result (λ _. Unit {0}) (λ e. e ≡ Fault.SourceChanged) }
     {
-        if self.repeats(keys) {
+        let tag = self.reading_tag(keys);
+        if self.pass.length == self.first && same(tag.bytes(), &self.tag) {
             Ok(())
         } else {
             Err(Fault::SourceChanged)
