@@ -286,7 +286,7 @@ static void wrap_lengths(void) {
 /* ---- NULL with length 0, wherever a pointer has a length ---- */
 
 static void nothing(void) {
-    static const uint8_t zeros[32] = {0};
+    static const uint8_t zeros[32] = {0}, ones[32] = {1};
     uint8_t tag[16] = {0}, sealed[16];
     size_t length = 99;
     struct aeadkit_key kept;
@@ -331,6 +331,9 @@ static void nothing(void) {
             is("save", aeadkit_sealer_save(&sealer, &saved) == AEADKIT_DONE);
             is("resume under no key", aeadkit_sealer_resume(&sealer, NULL, 0, NULL, 0, &saved) == AEADKIT_KEY_LENGTH);
             is("resume with no nonce", aeadkit_sealer_resume(&sealer, zeros, k, NULL, 0, &saved) == AEADKIT_NONCE_LENGTH);
+            is("resume under another key", aeadkit_sealer_resume(&sealer, ones, k, zeros, 12, &saved) == AEADKIT_TAG_MISMATCH);
+            is("resume with another nonce", aeadkit_sealer_resume(&sealer, zeros, k, ones, 12, &saved) == AEADKIT_TAG_MISMATCH);
+            is("refused states are zeros", aeadkit_sealer_update(&sealer, NULL, 0) == AEADKIT_NOT_BEGUN);
             is("resume", aeadkit_sealer_resume(&sealer, zeros, k, zeros, 12, &saved) == AEADKIT_DONE);
             is("finish", aeadkit_sealer_finish(&sealer, sealed) == AEADKIT_DONE && !memcmp(sealed, tag, 16));
         } else {
@@ -341,6 +344,9 @@ static void nothing(void) {
             is("nothing to absorb", aeadkit_siv_absorb(&siv, NULL, 0) == AEADKIT_DONE);
             is("siv_save", aeadkit_siv_save(&siv, &passes) == AEADKIT_DONE);
             is("a siv resumes under no key", aeadkit_siv_resume(&siv, NULL, 0, NULL, 0, &passes) == AEADKIT_KEY_LENGTH);
+            is("a siv resumes under another key", aeadkit_siv_resume(&siv, ones, k, zeros, 12, &passes) == AEADKIT_TAG_MISMATCH);
+            is("a siv resumes with another nonce", aeadkit_siv_resume(&siv, zeros, k, ones, 12, &passes) == AEADKIT_TAG_MISMATCH);
+            is("a refused siv is zeros", aeadkit_siv_absorb(&siv, NULL, 0) == AEADKIT_NOT_BEGUN);
             is("siv_resume", aeadkit_siv_resume(&siv, zeros, k, zeros, 12, &passes) == AEADKIT_DONE);
             is("siv_begin_second", aeadkit_siv_begin_second(&siv, sealed) == AEADKIT_DONE && !memcmp(sealed, tag, 16));
             is("nothing to update", aeadkit_siv_update(&siv, NULL, 0) == AEADKIT_DONE);
@@ -353,6 +359,10 @@ static void nothing(void) {
         is("nothing to check", aeadkit_opener_check(&opener, NULL, 0) == AEADKIT_DONE);
         is("opener_save", aeadkit_opener_save(&opener, &passes) == AEADKIT_DONE);
         is("an opener resumes under no key", aeadkit_opener_resume(&opener, NULL, 0, NULL, 0, &passes) == AEADKIT_KEY_LENGTH);
+        is("an opener resumes under another key", aeadkit_opener_resume(&opener, ones, k, zeros, 12, &passes) == AEADKIT_TAG_MISMATCH);
+        is("an opener resumes with another nonce",
+           aeadkit_opener_resume(&opener, zeros, k, ones, 12, &passes) == AEADKIT_TAG_MISMATCH);
+        is("a refused opener is zeros", aeadkit_opener_check(&opener, NULL, 0) == AEADKIT_NOT_BEGUN);
         is("opener_resume", aeadkit_opener_resume(&opener, zeros, k, zeros, 12, &passes) == AEADKIT_DONE);
         is("opener_begin_second", aeadkit_opener_begin_second(&opener) == AEADKIT_DONE);
         is("no piece to open", aeadkit_opener_update(&opener, NULL, 0) == AEADKIT_DONE);

@@ -608,6 +608,22 @@ static uint32_t resumed(uint32_t suite, size_t key_length, size_t nonce_length) 
                                                                                                     : AEADKIT_DONE;
 }
 
+/* Puts the key of the message's hash under this key and nonce into a saved state of random bytes, in one case of two, and returns
+   the status of its resume. The four numbers behind the mark are that key. */
+static uint32_t keyed(uint64_t *numbers, uint32_t suite, const uint8_t *key, size_t key_length, const uint8_t *nonce,
+                      size_t nonce_length, long number) {
+    struct aeadkit_opener opener;
+    struct aeadkit_saved_passes own;
+    uint8_t tag[16] = {0};
+    uint32_t status = resumed(suite, key_length, nonce_length);
+    if (status != AEADKIT_DONE) return status;
+    if (random_word() % 2) return AEADKIT_TAG_MISMATCH;
+    want(aeadkit_opener_init(&opener, suite, key, key_length, nonce, nonce_length, NULL, 0, tag) == AEADKIT_DONE, "init", number);
+    want(aeadkit_opener_save(&opener, &own) == AEADKIT_DONE, "save", number);
+    memcpy(numbers + 1, own.private_ + 1, 32);
+    return AEADKIT_DONE;
+}
+
 /* Saved states of random bytes, by the mark of a suite in three cases of four: a resume is refused, and leaves zeros, or makes a
    struct that the calls are safe on. It writes nothing else, and a refused save writes nothing. */
 static void saved_rubbish(long number, const uint64_t sealers[4], const uint64_t openers[2][6], const uint64_t sivs[2][2]) {
@@ -625,7 +641,7 @@ static void saved_rubbish(long number, const uint64_t sealers[4], const uint64_t
     uint8_t key[33], nonce[13], piece[64], tag[16];
     size_t key_length = number % 7 ? 8 * (2 + random_word() % 3) : random_word() % 34, pass = random_word() % 2;
     size_t nonce_length = number % 5 ? 12 : 11 + 2 * (size_t)(number % 2);
-    uint32_t suite = number % 4 ? 1 + (uint32_t)(random_word() % 4) : 0, status;
+    uint32_t suite = number % 4 ? 1 + (uint32_t)(random_word() % 4) : 0, status, due;
     memset(&held, 0xa5, sizeof held);
     random_bytes((uint8_t *)&held.sealer, sizeof held.sealer);
     random_bytes((uint8_t *)&held.opener, sizeof held.opener);
@@ -639,9 +655,10 @@ static void saved_rubbish(long number, const uint64_t sealers[4], const uint64_t
     want(!memcmp(&saved, &saved_was, sizeof saved), "changed by a refused save", number);
     if (suite) saved.private_[0] = sealers[suite - 1];
     if (number % 3) saved.private_[11] = (number % 3 == 1 ? 0x3fffffffc0u : 0xfffffffe0u) - random_word() % 100;
+    due = keyed(saved.private_, suite, key, key_length, nonce, nonce_length, number);
     saved_was = saved;
     status = aeadkit_sealer_resume(&held.sealer, key, key_length, nonce, nonce_length, &saved);
-    want(status == resumed(suite, key_length, nonce_length), "a status of sealer_resume", number);
+    want(status == due, "a status of sealer_resume", number);
     if (status == AEADKIT_DONE) {
         status = aeadkit_sealer_update(&held.sealer, piece, sizeof piece);
         want(status == AEADKIT_DONE || status == AEADKIT_TEXT_TOO_LONG, "a status of update after rubbish", number);
@@ -658,9 +675,10 @@ static void saved_rubbish(long number, const uint64_t sealers[4], const uint64_t
     suite = number % 4 ? 1 + (uint32_t)(random_word() % 6) : 0;
     if (suite) passes.private_[0] = openers[pass][suite - 1];
     if (number % 3) passes.private_[11] = (number % 3 == 1 ? 0x3fffffffc0u : 0xfffffffe0u) - random_word() % 100;
+    due = keyed(passes.private_, suite, key, key_length, nonce, nonce_length, number);
     passes_was = passes;
     status = aeadkit_opener_resume(&held.opener, key, key_length, nonce, nonce_length, &passes);
-    want(status == resumed(suite, key_length, nonce_length), "a status of opener_resume", number);
+    want(status == due, "a status of opener_resume", number);
     if (status == AEADKIT_DONE) {
         if (pass) {
             status = aeadkit_opener_update(&held.opener, piece, sizeof piece);
@@ -677,9 +695,10 @@ static void saved_rubbish(long number, const uint64_t sealers[4], const uint64_t
 
     suite = number % 4 ? 5 + (uint32_t)(random_word() % 2) : 0;
     if (suite) passes.private_[0] = sivs[pass][suite - 5];
+    due = keyed(passes.private_, suite, key, key_length, nonce, nonce_length, number);
     passes_was = passes;
     status = aeadkit_siv_resume(&held.siv, key, key_length, nonce, nonce_length, &passes);
-    want(status == resumed(suite, key_length, nonce_length), "a status of siv_resume", number);
+    want(status == due, "a status of siv_resume", number);
     if (status == AEADKIT_DONE) {
         if (!pass) want(aeadkit_siv_begin_second(&held.siv, tag) == AEADKIT_DONE, "a tag of rubbish", number);
         status = aeadkit_siv_update(&held.siv, piece, sizeof piece);

@@ -286,32 +286,16 @@ const SAVED_PASSES_BYTES = 144;
 // of the layout and, in its lowest byte, the suite.
 function resumed(aead, kind, length, suite, key, nonce, saved) {
     const module = moduleOf(aead);
-    wantBytes(key, nonce, saved);
+    [key, nonce, saved] = wantBytes(key, nonce, saved);
     wantNumber(suite);
     if (saved.length !== length || saved[0] !== suite) {
         throw new NotSaved();
     }
-    let struct;
     try {
-        struct = new Struct(module, kind, `aeadkit_${kind}_resume`, key, nonce, constant(saved));
+        return new Struct(module, kind, `aeadkit_${kind}_resume`, key, nonce, constant(saved));
     } catch (error) {
-        throw error instanceof NotBegun ? new NotSaved() : error;
+        throw error instanceof NotBegun || error instanceof TagMismatch ? new NotSaved() : error;
     }
-    // The next 32 bytes are the key of the message's hash, which the key and the nonce make. The module does not compare them:
-    // here they are those of a state that has just begun. What went on under another key or nonce could not be opened.
-    const tag = kind === "opener" ? [constant(new Uint8Array(TAG_BYTES))] : [];
-    const begun = new Struct(module, kind, `aeadkit_${kind}_init`, suite, key, nonce, new Uint8Array(0), ...tag);
-    const alike = begun.made(length, `aeadkit_${kind}_save`);
-    begun.call(`aeadkit_${kind}_wipe`);
-    let differ = 0;
-    for (let i = 8; i < 40; i++) {
-        differ |= saved[i] ^ alike[i];
-    }
-    if (differ) {
-        struct.call(`aeadkit_${kind}_wipe`);
-        throw new NotSaved();
-    }
-    return struct;
 }
 
 /** The calls of aeadkit.wasm that seal and open. The constructor takes the bytes of that file. */

@@ -49,7 +49,6 @@ other sizes, than this package expects. The version of the library that was load
 
 import ctypes
 import enum
-import hmac
 import io
 import os
 import re
@@ -745,7 +744,6 @@ class _Saves(_InPieces):
 
     _saved: _library.Saved
     _init: Callable[..., int]
-    _init_tag: Tuple[bytes, ...] = ()
 
     def save(self) -> bytes:
         """Returns the state as bytes, and closes this object: resume goes on from the bytes, after a restart too.
@@ -789,14 +787,8 @@ class _Saves(_InPieces):
             raise NotSaved()
         try:
             struct = _begin(cls._kind, member, cls._saved.resume, *slices, cls._saved.memory.from_buffer_copy(data))
-        except NotBegun:
+        except (NotBegun, TagMismatch):
             raise NotSaved() from None
-        # The next four numbers are the key of the message's hash, which the key and the nonce make. The library does not
-        # compare them: here they are those of a state that has just begun.
-        begun, numbers = _begin(cls._kind, member, cls._init, member, *slices, None, 0, *cls._init_tag), cls._saved.memory()
-        _check(cls._saved.save(begun, numbers))
-        if not hmac.compare_digest(bytes(numbers)[8:40], data[8:40]):
-            raise NotSaved()
         return cls._of(struct)
 
 
@@ -869,7 +861,6 @@ class Opener(_Saves):
     _saved = _library.SAVED_OPENER
     _init = staticmethod(_library.aeadkit_opener_init)
     _ends = (_library.aeadkit_opener_begin_second, _library.aeadkit_opener_finish)
-    _init_tag = (bytes(_TAG_BYTES),)
 
     def __init__(self, suite: int, key: Buffer, nonce: Buffer, tag: Buffer, *, aad: Optional[Buffer] = None) -> None:
         self._struct, self._unfinished = None, False

@@ -2,9 +2,7 @@
 
 #![forbid(unsafe_code)]
 
-use crate::{
-    Aad, CheckedOpener, Fault, NONCE_BYTES, Opener, Sealer, SivSealer, SivWriter, Suite, TAG_BYTES, outcome, raw,
-};
+use crate::{CheckedOpener, Fault, NONCE_BYTES, Opener, Sealer, SivSealer, SivWriter, Suite, outcome, raw};
 use core::array;
 
 /// The length of a saved [`Sealer`] in bytes.
@@ -13,6 +11,7 @@ pub const SAVED_SEALER_BYTES: usize = 96;
 /// The length of a saved [`Opener`] or [`SivSealer`] in bytes, in either pass or reading.
 pub const SAVED_PASSES_BYTES: usize = 144;
 
+const TAG_MISMATCH: u32 = 6;
 const NOT_BEGUN: u32 = 15;
 
 /// The numbers of a saved state in their order as bytes: each 8 bytes, the lowest first.
@@ -25,20 +24,12 @@ fn numbers_of<const NUMBERS: usize, const BYTES: usize>(bytes: &[u8; BYTES]) -> 
 }
 
 /// The result for the status of a call on a resumed state. The first number of a saved state is a mark, which names its
-/// type, the version of the layout and, in the lowest byte, the suite.
+/// type, the version of the layout and, in the lowest byte, the suite. `TAG_MISMATCH` is a state of another key or nonce.
 fn resumed(suite: Suite, saved: &[u8], status: u32) -> Result<(), Fault> {
-    if status == NOT_BEGUN || u32::from(saved[0]) != suite as u32 {
+    if status == NOT_BEGUN || status == TAG_MISMATCH || u32::from(saved[0]) != suite as u32 {
         return Err(Fault::NotSaved);
     }
     outcome(status)
-}
-
-/// Refuses a saved state of another key or nonce, with which a sealing would go on and could not be opened. The four numbers
-/// behind the mark are the key of the message's hash, which the key and the nonce make; the library does not compare them. Here
-/// they are those of a state that has just begun.
-fn begun_alike(begun: &[u8], saved: &[u8]) -> Result<(), Fault> {
-    let differ = begun[8..40].iter().zip(&saved[8..40]).fold(0, |differ, (one, other)| differ | (one ^ other));
-    if differ == 0 { Ok(()) } else { Err(Fault::NotSaved) }
 }
 
 impl Sealer {
@@ -74,7 +65,6 @@ impl Sealer {
         resumed(suite, saved, raw::saved::sealer_resume(&mut state, key, nonce, &numbers_of(saved)))?;
         // an empty piece changes nothing, and is refused unless the state takes pieces
         resumed(suite, saved, raw::sealer_update(&mut state, &mut []))?;
-        begun_alike(&Sealer::new(suite, key, nonce, Aad::empty())?.save(), saved)?;
         Ok(Sealer { state })
     }
 }
@@ -97,7 +87,6 @@ fn resume_opener(
     let mut state = raw::Opener::default();
     resumed(suite, saved, raw::saved::opener_resume(&mut state, key, nonce, &numbers_of(saved)))?;
     resumed(suite, saved, empty_piece(&mut state))?;
-    begun_alike(&Opener::new(suite, key, nonce, &[0; TAG_BYTES], Aad::empty())?.save(), saved)?;
     Ok(state)
 }
 
@@ -179,7 +168,6 @@ fn resume_siv(
     let mut state = raw::Siv::default();
     resumed(suite, saved, raw::saved::siv_resume(&mut state, key, nonce, &numbers_of(saved)))?;
     resumed(suite, saved, empty_piece(&mut state))?;
-    begun_alike(&SivSealer::new(suite, key, nonce, Aad::empty())?.save(), saved)?;
     Ok(state)
 }
 

@@ -113,15 +113,6 @@ pub by_siv : (suite : Suite) → (suite ≡ Aes128GcmSiv) ⊎ (suite ≡ Aes256G
 by_siv suite (inl e) = ap construction_of e
 by_siv suite (inr e) = ap construction_of e
 
--- under the suites of one pass, the key of the cipher of a message is that which is handed in
-pub own_cipher_key : (suite : Suite) (s : Setting)
-    → (suite ≡ ChaCha20Poly1305) ⊎ ((suite ≡ Aes128Gcm) ⊎ ((suite ≡ Aes192Gcm) ⊎ (suite ≡ Aes256Gcm)))
-    → cipher_key (construction_of suite) s ≡ s.key
-own_cipher_key suite s (inl e) = ap (λ (x : Suite). cipher_key (construction_of x) s) e
-own_cipher_key suite s (inr (inl e)) = ap (λ (x : Suite). cipher_key (construction_of x) s) e
-own_cipher_key suite s (inr (inr (inl e))) = ap (λ (x : Suite). cipher_key (construction_of x) s) e
-own_cipher_key suite s (inr (inr (inr e))) = ap (λ (x : Suite). cipher_key (construction_of x) s) e
-
 -- the derived keys of a message serve under its own key and nonce
 pub serves_under : (own_key own_nonce key nonce hash : List ℕ) → own_key ≡ key → own_nonce ≡ nonce
     → Serves Reversed (authentication_key own_key own_nonce) hash → Serves Reversed (authentication_key key nonce) hash

@@ -26,6 +26,7 @@ mod SivExits
 mod Parts
 mod ByteMasks
 mod PassStates
+mod Resumption
 mod KeyedPasses
 mod KeyedPieces
 mod Openings

@@ -1,13 +1,14 @@
 -- A pass over a message together with the message's keys, as plain numbers.
-use Rattle.std.specs.Prelude.{◌≡◌, ◌≢◌, ℕ, ◌<◌, List, length, take, replicate}
+use Rattle.std.specs.Prelude.{◌≡◌, ◌≢◌, ℕ, ◌<◌, List, [], length, take, replicate}
 use Rattle.octets.specs.Masked.{masked}
 use Rattle.octets.specs.declared.fault.Fault.{Fault}
-use Rattle.octets.specs.declared.fault.Fault.TheVariants.{KeyLength, NonceLength, AadTooLong}
+use Rattle.octets.specs.declared.fault.Fault.TheVariants.{KeyLength, NonceLength, AadTooLong, TagMismatch}
 use Rattle.aead.specs.declared.suite.Suite.{Suite}
 use Rattle.aead.specs.declared.keyed_pass.KeyedPass.{KeyedPass}
+use Rattle.aead.specs.declared.pass_state.PassState.{PassState}
 use Rattle.aead.specs.Suites.{Construction, ByChaCha, ByGcm, ByGcmSiv, construction_of, key_length, aad_limit}
 use Rattle.aead.specs.Sealing.{Setting, encryption_key, mask_of}
-use Rattle.aead.specs.PassStates.{HoldsNumbers, zero_state}
+use Rattle.aead.specs.PassStates.{HoldsNumbers, HoldsNone, zero_state}
 
 -- a suite with the bytes that are handed in
 abbrev pub setting_of : Suite → (key nonce aad : List ℕ) → Setting
@@ -25,11 +26,13 @@ BeginRefused s NonceLength = (length s.key ≡ key_length s.suite) × (length s.
 BeginRefused s AadTooLong = HasLengths s × (aad_limit s.suite < length s.aad)
 BeginRefused s _ = ⊥
 
--- why nothing is resumed: the first of these lengths that does not fit
-abbrev pub LengthsRefused : Suite → (key nonce : List ℕ) → Fault → Type 0
-LengthsRefused suite key nonce KeyLength = length key ≢ key_length suite
-LengthsRefused suite key nonce NonceLength = (length key ≡ key_length suite) × (length nonce ≢ 12)
-LengthsRefused suite key nonce _ = ⊥
+-- why numbers are not resumed: the first of these lengths that does not fit; or they are of another key or nonce
+abbrev pub ResumeRefused : PassState → Suite → (key nonce : List ℕ) → Fault → Type 0
+ResumeRefused n suite key nonce KeyLength = length key ≢ key_length suite
+ResumeRefused n suite key nonce NonceLength = (length key ≡ key_length suite) × (length nonce ≢ 12)
+ResumeRefused n suite key nonce TagMismatch = HasLengths (setting_of suite key nonce [])
+    × HoldsNone n (setting_of suite key nonce)
+ResumeRefused n suite key nonce _ = ⊥
 
 -- the key of the cipher of a message
 abbrev pub cipher_key : Construction → Setting → List ℕ

@@ -2,21 +2,21 @@
 use Rattle.std.specs.Prelude.{◌≡◌, ℕ, ◌+◌, ◌*◌, ◌/◌, ◌%◌, ◌^◌, List, ◌++◌, length, take, drop, replicate}
 use Rattle.octets.specs.Bytes.{pad16}
 use Rattle.octets.specs.Masked.{masked}
-use Rattle.poly1305.specs.States as poly1305
+use Rattle.poly1305.specs.Code.States as poly1305
 use Rattle.aes.specs.Cipher.{cipher}
 use Rattle.gf128.specs.Orders.{Straight, Reversed, Serves}
-use Rattle.gf128.specs.States as gf128
+use Rattle.gf128.specs.Code.States as gf128
 use Rattle.aead.specs.declared.pass_state.PassState.{PassState}
 use Rattle.aead.specs.declared.pass_state.Sum.{Sum}
 use Rattle.aead.specs.Suites.{Construction, ByChaCha, ByGcm, ByGcmSiv, construction_of}
 use Rattle.aead.specs.Sealing.{Setting, Fits, mask_of, poly_key, hash_key, j0, authentication_key}
 
--- the keys of the hash of a message: the one-time key of Poly1305; or the key of GHASH and the cipher of J0; or first the
--- key of a multiplier that serves POLYVAL
+-- the keys of the hash of a message: the one-time key of Poly1305; or the key of GHASH and the cipher of J0; or the key of a
+-- multiplier that serves POLYVAL, and zeros
 abbrev pub IsHashKey : Construction → List ℕ → Setting → Type 0
 IsHashKey ByChaCha k s = k ≡ poly_key s.key s.nonce
 IsHashKey ByGcm k s = (take 16 k ≡ hash_key s.key) × (drop 16 k ≡ cipher s.key (j0 s.nonce))
-IsHashKey ByGcmSiv k s = Serves Reversed (authentication_key s.key s.nonce) (take 16 k)
+IsHashKey ByGcmSiv k s = Serves Reversed (authentication_key s.key s.nonce) (take 16 k) × (drop 16 k ≡ replicate 16 0)
 
 -- the sum of the hash of a construction over the whole blocks of m: that of POLYVAL is stated as a fact alone
 abbrev pub IsSumOf : Construction → (low high : ℕ) → Setting → List ℕ → Type 0
@@ -33,6 +33,14 @@ pub record HoldsNumbers (n : PassState) (s : Setting) (bytes : List ℕ) : Type 
   pub aad_length_is : n.aad_length ≡ length s.aad
   pub length_is : n.length ≡ length bytes
   pub fits : Fits s bytes
+
+-- the numbers hold no bytes after any associated data, of messages that differ in it alone
+abbrev pub HoldsNone : PassState → (under : List ℕ → Setting) → Type 0
+HoldsNone n under = (aad bytes : List ℕ) → ¬ (HoldsNumbers n (under aad) bytes)
+
+-- the numbers have the keys of the hash of these messages
+abbrev pub HasHashKey : PassState → (under : List ℕ → Setting) → Type 0
+HasHashKey n under = (aad : List ℕ) → IsHashKey (construction_of (under aad).suite) n.hash_key (under aad)
 
 -- the numbers of this text under a suite of one reading: of its ciphertext, whose mask does not depend on the tag
 abbrev pub HoldsState : PassState → Setting → List ℕ → Type 0

@@ -2,7 +2,7 @@
 use Rattle.std.specs.Prelude.{◌≡◌, ℕ, ◌<◌, ◌≤◌, List, ◌++◌, length, take, get_or}
 use Rattle.octets.specs.Masked.{masked}
 use Rattle.gf128.specs.Orders.{Reversed, Serves}
-use Rattle.gf128.specs.States.{key_of}
+use Rattle.gf128.specs.Code.States.{key_of}
 use Rattle.aead.specs.declared.pass_state.PassState.{PassState}
 use Rattle.aead.specs.declared.keyed_pass.KeyedPass.{KeyedPass}
 use Rattle.aead.specs.declared.keyed_passes.KeyedPasses.{KeyedPasses}

@@ -4,7 +4,7 @@
 ghost use Rattle.std.specs.Prelude.{◌≡◌, ◌≢◌, ◌<◌, ◌≤◌, ◌^◌, ◌++◌, length, MatchResult};
 ghost use Rattle.octets.specs.Bytes.{IsBlock};
 ghost use Rattle.gf128.specs.Polyval.{IsReversedMulX};
-ghost use Rattle.gf128.specs.States.{key_of};
+ghost use Rattle.gf128.specs.Code.States.{key_of};
 ghost use Rattle.aead.specs.declared.suite.Suite.{Suite};
 ghost use Rattle.aead.specs.Suites.{construction_of, key_length, text_limit, aad_limit, ByGcmSiv};
 ghost use Rattle.aead.specs.Sealing.{Setting, Opened, authentication_key, encryption_key, counter_block};

@@ -259,7 +259,7 @@ impl<'a, M: Multiply> HashKeys for PolyvalKeys<'a, M> {
 }
 
 // The last 16 bytes.
-fn last_block(bytes: &[u8; 32]) -> Block
+pub(crate) fn last_block(bytes: &[u8; 32]) -> Block
     ensures { result ≡ drop 16 bytes.now }
 {
     let mut last = [0; 16];

@@ -1,12 +1,13 @@
 //! An opening in pieces together with its keys, as plain numbers: for a caller that keeps all of it in its own memory. A first
 //! pass over the ciphertext gives nothing; only if it was over a sealing does a second pass decrypt.
 
-ghost use Rattle.std.specs.Prelude.{◌≡◌, ◌+◌, ◌<◌, ◌≤◌, ◌++◌, ℕ, List, [], length, true, false, MatchResult, OnErr};
+ghost use Rattle.std.specs.Prelude.{◌≡◌, ◌+◌, ◌<◌, ◌≤◌, ◌++◌, ℕ, List, [], length, true, false, MatchResult, IfOk, OnErr};
 ghost use Rattle.octets.specs.Masked.{masked};
 ghost use Rattle.aead.specs.Suites.{key_length, text_limit};
 ghost use Rattle.aead.specs.Sealing.{Setting, IsNoSealing, hash_key, mask_of};
 ghost use Rattle.aead.specs.Refusals.{SealRefused};
-ghost use Rattle.aead.specs.KeyedPasses.{setting_of, BeginRefused, LengthsRefused};
+ghost use Rattle.aead.specs.KeyedPasses.{setting_of, BeginRefused, ResumeRefused};
+ghost use Rattle.aead.specs.PassStates.{HasHashKey};
 ghost use Rattle.aead.specs.Pieces.{IsInFirstPass, IsInSecondPass};
 
 use crate::keyed_pass::KeyedPass;
@@ -95,8 +96,8 @@ impl KeyedOpener {
     }
 
     /// Returns a state by the numbers of another one under the same suite, key and nonce, as [`KeyedOpener::state`] returns
-    /// them: it is in the pass that they are of, if they are of one. `KeyLength` if the key has not the suite's length, then
-    /// `NonceLength` if the nonce is not 12 bytes long.
+    /// them: it is in the pass that they are of, if they are of one. `KeyLength` if the key has not the suite's length,
+    /// `NonceLength` if the nonce is not 12 bytes long, then `TagMismatch` if the numbers are of another key or nonce.
     pub fn resumed(
         suite: Suite,
         key: &[u8],
@@ -106,11 +107,12 @@ impl KeyedOpener {
         ensures first { MatchResult result
             (λ p. (aad tag body : List ℕ) → let s = setting_of suite key.now nonce.now aad in
             IsInFirstPass state.now s tag body → HoldsFirstPass p s tag body)
-            (LengthsRefused suite key.now nonce.now) }
+            (ResumeRefused state.now.pass suite key.now nonce.now) }
         ensures second { MatchResult result
             (λ p. (aad tag : List ℕ) (first : ℕ) (body : List ℕ) → let s = setting_of suite key.now nonce.now aad in
             IsInSecondPass state.now s tag first body → HoldsSecondPass p s tag first body)
-            (LengthsRefused suite key.now nonce.now) }
+            (ResumeRefused state.now.pass suite key.now nonce.now) }
+        ensures key { IfOk result (λ _. HasHashKey state.now.pass (setting_of suite key.now nonce.now)) }
     {
         match KeyedPass::resumed(suite, key, nonce, state.pass) {
             Ok(pass) => Ok(KeyedOpener {

@@ -2,17 +2,17 @@
 //! kept: each call makes the key schedule and the multiples of the hash key that it needs.
 
 ghost use Rattle.std.specs.Prelude.{◌≡◌, ◌+◌, ◌-◌, ◌<◌, ◌≤◌, ◌^◌, ◌++◌, ℕ, List, [], length, take};
-ghost use Rattle.std.specs.Prelude.{true, false, MatchResult, OnErr};
+ghost use Rattle.std.specs.Prelude.{true, false, MatchResult, IfOk, OnErr};
 ghost use Rattle.octets.specs.Masked.{masked};
 ghost use Rattle.aes.specs.Cipher.{IsKey};
 ghost use Rattle.gf128.specs.Orders.{Reversed, Serves};
 ghost use Rattle.aead.specs.Suites.{ByChaCha, ByGcm, ByGcmSiv, construction_of, key_length, text_limit, aad_limit};
 ghost use Rattle.aead.specs.Sealing.{Setting, hash_key, authentication_key, encryption_key, mask_of, tag_of, tag_over};
-ghost use Rattle.aead.specs.PassStates.{IsHashKey, HoldsNumbers, IsStart};
+ghost use Rattle.aead.specs.PassStates.{IsHashKey, HasHashKey, HoldsNumbers, IsStart};
 ghost use Rattle.aead.specs.Code.Masks.{hashed_by};
 ghost use Rattle.aead.specs.Code.PassSteps.{MasksPiece, TakesPiece, TakesPieceText};
 ghost use Rattle.aead.specs.Code.States.{MadeByGcm};
-ghost use Rattle.aead.specs.KeyedPasses.{setting_of, BeginRefused, LengthsRefused, cipher_key};
+ghost use Rattle.aead.specs.KeyedPasses.{setting_of, BeginRefused, ResumeRefused};
 
 use crate::beside::Order;
 use crate::chacha_poly::{self, one_time_key};
@@ -279,57 +279,30 @@ impl KeyedPass {
 
     // ---- resumption
 
-    // Returns a pass by the key that the message is encrypted with and the numbers of a pass over the message.
-    fn with_numbers(suite: Suite, key: &[u8], nonce: &Nonce, state: PassState) -> KeyedPass
-        requires { length key.now ≡ key_length suite }
-        ensures { (s : Setting) (bytes : List ℕ) → s.suite ≡ suite → length s.key ≡ key_length suite
-            → key.now ≡ cipher_key (construction_of suite) s → s.nonce ≡ nonce.now → HoldsNumbers state s bytes
-            → HoldsPass result s bytes }
-    {
-        KeyedPass::under(key, nonce, state)
-    }
-
-    // Returns a pass by the numbers of another one under AES-GCM-SIV and the same key and nonce.
-    fn resumed_siv(suite: Suite, cipher: &AesKey, nonce: &Nonce, state: PassState) -> KeyedPass
-        requires by { construction_of suite ≡ ByGcmSiv }
-        requires long { length cipher.now ≡ key_length suite }
-        ensures { (aad bytes : List ℕ) → let s = setting_of suite cipher.now nonce.now aad in
-            HoldsNumbers state s bytes → HoldsPass result s bytes }
-    {
-        let parts = KeyParts::new(cipher, nonce);
-        match suite {
-            Suite::Aes128GcmSiv => {
-                KeyedPass::with_numbers(suite, &short_encryption_key(&parts), nonce, state)
-            }
-            _ => KeyedPass::with_numbers(suite, &long_encryption_key(&parts), nonce, state),
-        }
-    }
-
-    // Returns a pass by the numbers of another one under the same suite, key and nonce. Faults: `KeyLength`, then `NonceLength`.
+    // Returns a pass by the numbers of another one under the same suite, key and nonce. Faults: `KeyLength`, `NonceLength`, then
+    // `TagMismatch` if the numbers are of another key or nonce.
     pub(crate) fn resumed(
         suite: Suite,
         key: &[u8],
         nonce: &[u8],
         state: PassState,
     ) -> Result<KeyedPass, Fault>
-        ensures { MatchResult result
+        ensures answer { MatchResult result
             (λ p. (aad bytes : List ℕ) → let s = setting_of suite key.now nonce.now aad in
             HoldsNumbers state s bytes → HoldsPass p s bytes)
-            (LengthsRefused suite key.now nonce.now) }
+            (ResumeRefused state suite key.now nonce.now) }
+        ensures key { IfOk result (λ _. HasHashKey state (setting_of suite key.now nonce.now)) }
     {
-        if key.len() != suite.key_length() {
-            return Err(Fault::KeyLength);
+        let mut pass = KeyedPass::zeros();
+        match pass.begin(suite, key, nonce, &[]) {
+            Ok(()) => {}
+            Err(fault) => return Err(fault),
         }
-        let nonce = Nonce::from_slice(nonce)?;
-        match suite {
-            Suite::ChaCha20Poly1305 | Suite::Aes128Gcm | Suite::Aes192Gcm | Suite::Aes256Gcm => {
-                Ok(KeyedPass::with_numbers(suite, key, &nonce, state))
-            }
-            Suite::Aes128GcmSiv | Suite::Aes256GcmSiv => {
-                let cipher = AesKey::from_slice(key)?;
-                Ok(KeyedPass::resumed_siv(suite, &cipher, &nonce, state))
-            }
+        if !state.has_hash_key_of(&pass.state) {
+            return Err(Fault::TagMismatch);
         }
+        pass.state = state;
+        Ok(pass)
     }
 
     // ---- pieces

@@ -1,12 +1,12 @@
 //! A sealing in pieces together with its keys, as plain numbers: for a caller that keeps all of it in its own memory.
 
-ghost use Rattle.std.specs.Prelude.{◌≡◌, ◌+◌, ◌<◌, ◌≤◌, ◌++◌, ℕ, List, [], length, true, MatchResult, OnErr};
+ghost use Rattle.std.specs.Prelude.{◌≡◌, ◌+◌, ◌<◌, ◌≤◌, ◌++◌, ℕ, List, [], length, true, MatchResult, IfOk, OnErr};
 ghost use Rattle.octets.specs.Masked.{masked};
 ghost use Rattle.aead.specs.Suites.{construction_of, is_one_pass, key_length, text_limit};
 ghost use Rattle.aead.specs.Sealing.{Setting, hash_key, mask_of, tag_of};
 ghost use Rattle.aead.specs.Refusals.{SealRefused};
-ghost use Rattle.aead.specs.PassStates.{HoldsState};
-ghost use Rattle.aead.specs.KeyedPasses.{setting_of, BeginRefused, LengthsRefused};
+ghost use Rattle.aead.specs.PassStates.{HasHashKey, HoldsState};
+ghost use Rattle.aead.specs.KeyedPasses.{setting_of, BeginRefused, ResumeRefused};
 
 use crate::beside::Order;
 use crate::keyed_pass::KeyedPass;
@@ -74,8 +74,8 @@ impl KeyedSealer {
     }
 
     /// Returns a state by the numbers of another one under the same suite, key and nonce, as [`KeyedSealer::state`] returns
-    /// them: it holds the text that they hold, if they hold one. `KeyLength` if the key has not the suite's length, then
-    /// `NonceLength` if the nonce is not 12 bytes long.
+    /// them: it holds the text that they hold, if they hold one. `KeyLength` if the key has not the suite's length,
+    /// `NonceLength` if the nonce is not 12 bytes long, then `TagMismatch` if the numbers are of another key or nonce.
     pub fn resumed(
         suite: Suite,
         key: &[u8],
@@ -83,10 +83,11 @@ impl KeyedSealer {
         state: &PassState,
     ) -> Result<KeyedSealer, Fault>
         requires { is_one_pass (construction_of suite) ≡ true }
-        ensures { MatchResult result
+        ensures answer { MatchResult result
             (λ p. (aad text : List ℕ) → let s = setting_of suite key.now nonce.now aad in
             HoldsState state.now s text → HoldsKeyedText p s text)
-            (LengthsRefused suite key.now nonce.now) }
+            (ResumeRefused state.now suite key.now nonce.now) }
+        ensures key { IfOk result (λ _. HasHashKey state.now (setting_of suite key.now nonce.now)) }
     {
         match KeyedPass::resumed(suite, key, nonce, *state) {
             Ok(pass) => Ok(KeyedSealer { pass }),

@@ -1,13 +1,14 @@
 //! A sealing in pieces under AES-GCM-SIV (RFC 8452) together with its keys, as plain numbers: for a caller that keeps all of it
 //! in its own memory. A first reading of the text gives its tag, and a second one encrypts it.
 
-ghost use Rattle.std.specs.Prelude.{◌≡◌, ◌+◌, ◌<◌, ◌≤◌, ◌++◌, ℕ, List, [], length, MatchResult, OnErr};
+ghost use Rattle.std.specs.Prelude.{◌≡◌, ◌+◌, ◌<◌, ◌≤◌, ◌++◌, ℕ, List, [], length, MatchResult, IfOk, OnErr};
 ghost use Rattle.octets.specs.Masked.{masked};
 ghost use Rattle.aead.specs.Suites.{ByGcmSiv, construction_of, key_length, text_limit};
 ghost use Rattle.aead.specs.Sealing.{Setting, hash_key, mask_of, tag_of};
 ghost use Rattle.aead.specs.Pieces.{IsInFirstReading, IsInSecondReading, Repeats};
 ghost use Rattle.aead.specs.Refusals.{SealRefused};
-ghost use Rattle.aead.specs.KeyedPasses.{setting_of, BeginRefused, LengthsRefused};
+ghost use Rattle.aead.specs.KeyedPasses.{setting_of, BeginRefused, ResumeRefused};
+ghost use Rattle.aead.specs.PassStates.{HasHashKey};
 
 use crate::beside::Order;
 use crate::keyed_pass::KeyedPass;
@@ -92,7 +93,7 @@ impl KeyedSiv {
 
     /// Returns a state by the numbers of another one under the same suite, key and nonce, as [`KeyedSiv::state`] returns them:
     /// it is in the reading of a text that they are of, if they are of one. `KeyLength` if the key has not the suite's length,
-    /// then `NonceLength` if the nonce is not 12 bytes long.
+    /// `NonceLength` if the nonce is not 12 bytes long, then `TagMismatch` if the numbers are of another key or nonce.
     pub fn resumed(
         suite: Suite,
         key: &[u8],
@@ -103,11 +104,12 @@ impl KeyedSiv {
         ensures first { MatchResult result
             (λ p. (aad text : List ℕ) → let s = setting_of suite key.now nonce.now aad in
             IsInFirstReading state.now s text → HoldsFirstReading p s text)
-            (LengthsRefused suite key.now nonce.now) }
+            (ResumeRefused state.now.pass suite key.now nonce.now) }
         ensures second { MatchResult result
             (λ p. (aad first text : List ℕ) → let s = setting_of suite key.now nonce.now aad in
             IsInSecondReading state.now s first text → HoldsSecondReading p s first text)
-            (LengthsRefused suite key.now nonce.now) }
+            (ResumeRefused state.now.pass suite key.now nonce.now) }
+        ensures key { IfOk result (λ _. HasHashKey state.now.pass (setting_of suite key.now nonce.now)) }
     {
         match KeyedPass::resumed(suite, key, nonce, state.pass) {
             Ok(pass) => Ok(KeyedSiv {

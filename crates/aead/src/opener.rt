@@ -1,14 +1,14 @@
 //! Opening piece by piece in two passes, under any suite. A first pass over the ciphertext gives nothing; only if it was over a
 //! sealing does a second pass decrypt.
 
-ghost use Rattle.std.specs.Prelude.{◌≡◌, ◌+◌, ◌<◌, ◌≤◌, ◌++◌, ℕ, List, [], length, true, false, MatchResult, OnErr};
+ghost use Rattle.std.specs.Prelude.{◌≡◌, ◌+◌, ◌<◌, ◌≤◌, ◌++◌, ℕ, List, [], length, true, false, MatchResult, IfOk, OnErr};
 ghost use Rattle.octets.specs.Masked.{masked};
 ghost use Rattle.aead.specs.Suites.{text_limit, aad_limit};
 ghost use Rattle.aead.specs.Sealing.{Setting, IsNoSealing, mask_of, tag_of};
 ghost use Rattle.aead.specs.Ciphers.{setting};
 ghost use Rattle.aead.specs.AnyCiphers.{keyed_of};
 ghost use Rattle.aead.specs.Refusals.{SealRefused};
-ghost use Rattle.aead.specs.PassStates.{HoldsNumbers};
+ghost use Rattle.aead.specs.PassStates.{HasHashKey, HoldsNone, HoldsNumbers};
 ghost use Rattle.aead.specs.KeyedPieces.{Opens, WasOverASealing};
 ghost use Rattle.aead.specs.Pieces.{IsUnder, HasTakenIn, IsInFirstPass, IsInSecondPass, numbers_of};
 
@@ -205,19 +205,27 @@ fn numbers(passes: &KeyedPasses) -> TwoPassState
     }
 }
 
-// The passes by their numbers, with the message's key and nonce.
-fn resumed(cipher: &AnyAead, nonce: &Nonce, state: &TwoPassState) -> KeyedPasses
-    ensures under { (aad : List ℕ) → IsUnder (keyed_of cipher.now) result.pass (setting (keyed_of cipher.now) nonce.now aad) }
-    ensures numbers { numbers_of result ≡ state.now }
+// The passes by their numbers, with the message's key and nonce. `TagMismatch` if the numbers are of another key or nonce.
+fn resumed(cipher: &AnyAead, nonce: &Nonce, state: &TwoPassState) -> Result<KeyedPasses, Fault>
+    ensures answer { MatchResult result
+        (λ passes. ((aad : List ℕ)
+        → IsUnder (keyed_of cipher.now) passes.pass (setting (keyed_of cipher.now) nonce.now aad))
+        × (numbers_of passes ≡ state.now))
+        (λ e. (e ≡ Fault.TagMismatch)
+        × HoldsNone state.now.pass (setting (keyed_of cipher.now) nonce.now)) }
+    ensures key { IfOk result (λ _. HasHashKey state.now.pass (setting (keyed_of cipher.now) nonce.now)) }
 {
     let mut pass = begun(cipher, nonce, &[]);
+    if !state.pass.has_hash_key_of(&pass.state) {
+        return Err(Fault::TagMismatch);
+    }
     pass.state = state.pass;
-    KeyedPasses {
+    Ok(KeyedPasses {
         pass,
         start: state.start,
         tag: state.tag,
         first: state.first,
-    }
+    })
 }
 
 /// The first pass over a ciphertext that is opened under the tag of its sealing.
@@ -249,14 +257,22 @@ impl<'a> Opener<'a> {
     }
 
     /// Returns a state by the numbers of another one under the same cipher and nonce, as [`Opener::state`] returns them: it
-    /// has taken in the bytes that they hold, if they hold some.
-    pub fn resumed(cipher: &'a AnyAead, nonce: &Nonce, state: &TwoPassState) -> Opener<'a>
-        ensures { (aad tag body : List ℕ) → let s = setting (keyed_of cipher.now) nonce.now aad in
-            IsInFirstPass state.now s tag body → HoldsOpener result s tag body }
+    /// has taken in the bytes that they hold, if they hold some. `TagMismatch` if the numbers are of another key or nonce.
+    pub fn resumed(
+        cipher: &'a AnyAead,
+        nonce: &Nonce,
+        state: &TwoPassState,
+    ) -> Result<Opener<'a>, Fault>
+        ensures answer { MatchResult result
+            (λ opener. (aad tag body : List ℕ) → let s = setting (keyed_of cipher.now) nonce.now aad in
+            IsInFirstPass state.now s tag body → HoldsOpener opener s tag body)
+            (λ e. (e ≡ Fault.TagMismatch)
+            × HoldsNone state.now.pass (setting (keyed_of cipher.now) nonce.now)) }
+        ensures key { IfOk result (λ _. HasHashKey state.now.pass (setting (keyed_of cipher.now) nonce.now)) }
     {
-        Opener {
-            cipher,
-            passes: resumed(cipher, nonce, state),
+        match resumed(cipher, nonce, state) {
+            Ok(passes) => Ok(Opener { cipher, passes }),
+            Err(fault) => Err(fault),
         }
     }
 
@@ -314,14 +330,23 @@ impl<'a> OpenWriter<'a> {
     ghost use Rattle.aead.specs.Pieces.{HoldsOpenWriter};
 
     /// Returns a state by the numbers of another one under the same cipher and nonce, as [`OpenWriter::state`] returns them: it
-    /// has taken in the bytes that they hold, if they hold some.
-    pub fn resumed(cipher: &'a AnyAead, nonce: &Nonce, state: &TwoPassState) -> OpenWriter<'a>
-        ensures { (aad tag : List ℕ) (first : ℕ) (body : List ℕ) → let s = setting (keyed_of cipher.now) nonce.now aad in
-            IsInSecondPass state.now s tag first body → HoldsOpenWriter result s tag first body }
+    /// has taken in the bytes that they hold, if they hold some. `TagMismatch` if the numbers are of another key or nonce.
+    pub fn resumed(
+        cipher: &'a AnyAead,
+        nonce: &Nonce,
+        state: &TwoPassState,
+    ) -> Result<OpenWriter<'a>, Fault>
+        ensures answer { MatchResult result
+            (λ writer. (aad tag : List ℕ) (first : ℕ) (body : List ℕ)
+            → let s = setting (keyed_of cipher.now) nonce.now aad in
+            IsInSecondPass state.now s tag first body → HoldsOpenWriter writer s tag first body)
+            (λ e. (e ≡ Fault.TagMismatch)
+            × HoldsNone state.now.pass (setting (keyed_of cipher.now) nonce.now)) }
+        ensures key { IfOk result (λ _. HasHashKey state.now.pass (setting (keyed_of cipher.now) nonce.now)) }
     {
-        OpenWriter {
-            cipher,
-            passes: resumed(cipher, nonce, state),
+        match resumed(cipher, nonce, state) {
+            Ok(passes) => Ok(OpenWriter { cipher, passes }),
+            Err(fault) => Err(fault),
         }
     }
 

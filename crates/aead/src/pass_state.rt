@@ -1,18 +1,18 @@
 //! What a pass over a message has taken in, as plain numbers: the sum of its hash, the bytes after the last whole block, and
 //! both lengths. They are what a state in pieces is saved as, and what a caller in C keeps.
 
-ghost use Rattle.std.specs.Prelude.{◌≡◌, ◌+◌, ◌*◌, ◌<◌, ◌≤◌, ◌^◌, ◌++◌, ℕ, List, [], length, take, true, false};
-ghost use Rattle.octets.specs.Bytes.{pad16};
+ghost use Rattle.std.specs.Prelude.{◌≡◌, ◌↔◌, ◌+◌, ◌*◌, ◌<◌, ◌≤◌, ◌^◌, ◌++◌, ℕ, List, [], length, take, true, false};
+ghost use Rattle.octets.specs.Bytes.{IsBlock, pad16};
 ghost use Rattle.aead.specs.Suites.{construction_of, text_limit, aad_limit};
 ghost use Rattle.aead.specs.Sealing.{Setting, tag_over};
 ghost use Rattle.aead.specs.Code.States.{HoldsAuthenticator};
 
 use crate::authenticator::Authenticator;
 use crate::beside::Order;
-use crate::hashes::{HashKeys, TagHash};
+use crate::hashes::{HashKeys, TagHash, last_block};
 use crate::mask::MaskStream;
 use crate::taken_text::take_text;
-use octets::{Block, Tag};
+use octets::{Block, Tag, same};
 
 // 2^64.
 const WORD: u128 = 0x1_0000_0000_0000_0000;
@@ -132,6 +132,16 @@ impl PassState {
         let mut first = [0; 16];
         first.copy_from_slice(&self.hash_key[..16]);
         Block::new(first)
+    }
+
+    // Whether the keys of the hash are those of another state.
+    pub(crate) fn has_hash_key_of(&self, other: &PassState) -> bool
+        ensures same { (result ≡ true) ↔ (self.now.hash_key ≡ other.now.hash_key) }
+        ensures are_blocks { IsBlock (take 16 self.now.hash_key) × IsBlock (take 16 other.now.hash_key) }
+    {
+        let (first, last) = (self.multiplier_key(), last_block(&self.hash_key));
+        let (other_first, other_last) = (other.multiplier_key(), last_block(&other.hash_key));
+        same(first.bytes(), other_first.bytes()) && same(last.bytes(), other_last.bytes())
     }
 
     // Whether a piece after what was taken in is within a limit.

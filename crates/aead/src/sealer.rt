@@ -1,14 +1,14 @@
 //! Sealing piece by piece in one reading, under the suites whose tag is over the ciphertext: ChaCha20-Poly1305 (RFC 8439)
 //! and AES-GCM (SP 800-38D).
 
-ghost use Rattle.std.specs.Prelude.{◌≡◌, ◌+◌, ◌<◌, ◌≤◌, ◌^◌, ◌++◌, ℕ, List, [], length, MatchResult, OnErr};
+ghost use Rattle.std.specs.Prelude.{◌≡◌, ◌+◌, ◌<◌, ◌≤◌, ◌^◌, ◌++◌, ℕ, List, [], length, MatchResult, IfOk, OnErr};
 ghost use Rattle.octets.specs.Masked.{masked};
 ghost use Rattle.aead.specs.Suites.{construction_of, aad_limit, text_limit, ByGcm};
 ghost use Rattle.aead.specs.Sealing.{Setting, hash_key, mask_of, tag_of};
 ghost use Rattle.aead.specs.Ciphers.{setting};
 ghost use Rattle.aead.specs.AnyCiphers.{one_pass_keyed};
 ghost use Rattle.aead.specs.Refusals.{SealRefused};
-ghost use Rattle.aead.specs.PassStates.{HoldsState};
+ghost use Rattle.aead.specs.PassStates.{HasHashKey, HoldsNone, HoldsState};
 ghost use Rattle.aead.specs.Code.Masks.{as_it_leaves};
 ghost use Rattle.aead.specs.Code.States.{MadeByGcm};
 ghost use Rattle.aead.specs.Code.PassSteps.{MasksPiece, AddsPiece};
@@ -140,16 +140,28 @@ impl<'a> Sealer<'a> {
     }
 
     /// Returns a state by the numbers of another one under the same cipher and nonce, as [`Sealer::state`] returns them: it
-    /// holds the text that they hold, if they hold one.
-    pub fn resumed(cipher: &'a AnyOnePass, nonce: &Nonce, state: &PassState) -> Sealer<'a>
-        ensures { (aad text : List ℕ) → let s = setting (one_pass_keyed cipher.now) nonce.now aad in
-            HoldsState state.now s text → HoldsSealer result s text }
+    /// holds the text that they hold, if they hold one. `TagMismatch` if the numbers are of another key or nonce.
+    pub fn resumed(
+        cipher: &'a AnyOnePass,
+        nonce: &Nonce,
+        state: &PassState,
+    ) -> Result<Sealer<'a>, Fault>
+        ensures answer { MatchResult result
+            (λ sealer. (aad text : List ℕ) → let s = setting (one_pass_keyed cipher.now) nonce.now aad in
+            HoldsState state.now s text → HoldsSealer sealer s text)
+            (λ e. (e ≡ Fault.TagMismatch)
+            × HoldsNone state.now (setting (one_pass_keyed cipher.now) nonce.now)) }
+        ensures key { IfOk result (λ _. HasHashKey state.now (setting (one_pass_keyed cipher.now) nonce.now)) }
     {
-        Sealer {
+        let fresh = begun(cipher, nonce, &[]);
+        if !state.has_hash_key_of(&fresh) {
+            return Err(Fault::TagMismatch);
+        }
+        Ok(Sealer {
             cipher,
             nonce: *nonce.bytes(),
             state: *state,
-        }
+        })
     }
 
     /// Returns the numbers that hold the text, to go on from later.

@@ -1,12 +1,13 @@
 //! Sealing piece by piece in two readings under AES-GCM-SIV (RFC 8452), whose tag is over the text: the first reading gives
 //! the tag, and the second one is encrypted under it.
 
-ghost use Rattle.std.specs.Prelude.{◌≡◌, ◌↔◌, ◌++◌, ◌+◌, ◌<◌, ◌≤◌, ℕ, List, [], length, IsTrue, MatchResult, OnErr};
+ghost use Rattle.std.specs.Prelude.{◌≡◌, ◌↔◌, ◌++◌, ◌+◌, ◌<◌, ◌≤◌, ℕ, List, [], length, IsTrue, MatchResult, IfOk, OnErr};
 ghost use Rattle.octets.specs.Masked.{masked};
 ghost use Rattle.aead.specs.Suites.{text_limit};
 ghost use Rattle.aead.specs.Sealing.{Setting, mask_of, tag_of};
 ghost use Rattle.aead.specs.Ciphers.{setting};
 ghost use Rattle.aead.specs.Refusals.{SealRefused};
+ghost use Rattle.aead.specs.PassStates.{HasHashKey, HoldsNone};
 
 use crate::aead::Aead;
 use crate::gcm_siv::GcmSiv;
@@ -40,14 +41,20 @@ impl SivAbsorb {
     }
 
     /// Returns a state by the numbers of another one under the same cipher and nonce, as [`SivAbsorb::state`] returns them: it
-    /// holds the text that they hold, if they hold one.
-    pub fn resumed(cipher: &GcmSiv, nonce: &Nonce, state: &TwoPassState) -> SivAbsorb
-        ensures { (aad text : List ℕ) → let s = setting cipher.now nonce.now aad in
-            IsInFirstReading state.now s text → HoldsAbsorb result s text }
+    /// holds the text that they hold, if they hold one. `TagMismatch` if the numbers are of another key or nonce.
+    pub fn resumed(cipher: &GcmSiv, nonce: &Nonce, state: &TwoPassState) -> Result<SivAbsorb, Fault>
+        ensures answer { MatchResult result
+            (λ absorb. (aad text : List ℕ) → let s = setting cipher.now nonce.now aad in
+            IsInFirstReading state.now s text → HoldsAbsorb absorb s text)
+            (λ e. (e ≡ Fault.TagMismatch) × HoldsNone state.now.pass (setting cipher.now nonce.now)) }
+        ensures key { IfOk result (λ _. HasHashKey state.now.pass (setting cipher.now nonce.now)) }
     {
-        SivAbsorb {
-            keys: SivKeys::new(cipher, nonce),
-            state: *state,
+        match SivKeys::resumed(cipher, nonce, &state.pass) {
+            Ok(keys) => Ok(SivAbsorb {
+                keys,
+                state: *state,
+            }),
+            Err(fault) => Err(fault),
         }
     }
 
@@ -103,14 +110,20 @@ impl SivWriter {
     ghost use Rattle.aead.specs.Pieces.{HoldsWriter, IsInSecondReading, Repeats};
 
     /// Returns a state by the numbers of another one under the same cipher and nonce, as [`SivWriter::state`] returns them: it
-    /// holds the texts that they hold, if they hold some.
-    pub fn resumed(cipher: &GcmSiv, nonce: &Nonce, state: &TwoPassState) -> SivWriter
-        ensures { (aad first text : List ℕ) → let s = setting cipher.now nonce.now aad in
-            IsInSecondReading state.now s first text → HoldsWriter result s first text }
+    /// holds the texts that they hold, if they hold some. `TagMismatch` if the numbers are of another key or nonce.
+    pub fn resumed(cipher: &GcmSiv, nonce: &Nonce, state: &TwoPassState) -> Result<SivWriter, Fault>
+        ensures answer { MatchResult result
+            (λ writer. (aad first text : List ℕ) → let s = setting cipher.now nonce.now aad in
+            IsInSecondReading state.now s first text → HoldsWriter writer s first text)
+            (λ e. (e ≡ Fault.TagMismatch) × HoldsNone state.now.pass (setting cipher.now nonce.now)) }
+        ensures key { IfOk result (λ _. HasHashKey state.now.pass (setting cipher.now nonce.now)) }
     {
-        SivWriter {
-            keys: SivKeys::new(cipher, nonce),
-            state: *state,
+        match SivKeys::resumed(cipher, nonce, &state.pass) {
+            Ok(keys) => Ok(SivWriter {
+                keys,
+                state: *state,
+            }),
+            Err(fault) => Err(fault),
         }
     }
 

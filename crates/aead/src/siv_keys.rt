@@ -1,10 +1,10 @@
 //! The keys of a message of AES-GCM-SIV (RFC 8452, 4), and the steps of a reading of its text by them.
 
-ghost use Rattle.std.specs.Prelude.{◌≡◌, ◌+◌, ◌<◌, ◌≤◌, ◌^◌, ℕ, List, [], length};
+ghost use Rattle.std.specs.Prelude.{◌≡◌, ◌+◌, ◌<◌, ◌≤◌, ◌^◌, ℕ, List, [], length, MatchResult, IfOk};
 ghost use Rattle.aead.specs.Suites.{ByGcmSiv, construction_of, aad_limit, text_limit};
 ghost use Rattle.aead.specs.Sealing.{Setting, tag_of};
 ghost use Rattle.aead.specs.Ciphers.{setting};
-ghost use Rattle.aead.specs.PassStates.{HoldsNumbers};
+ghost use Rattle.aead.specs.PassStates.{HasHashKey, HoldsNone, HoldsNumbers};
 ghost use Rattle.aead.specs.Code.Masks.{as_it_comes};
 ghost use Rattle.aead.specs.Code.States.{MadeByGcmSiv};
 ghost use Rattle.aead.specs.Code.PassSteps.{MasksPiece, TakesPiece};
@@ -19,7 +19,7 @@ use crate::pass_state::PassState;
 use crate::suite::Suite;
 use aes::{AesKey, CtrLe, KeptKey};
 use gf128::{Keyed128, Multiply, TableMul, WideMul};
-use octets::{Block, Nonce, Tag};
+use octets::{Block, Fault, Nonce, Tag};
 
 // The keys of a message and its nonce.
 #[derive(Drop)]
@@ -48,6 +48,27 @@ impl SivKeys {
             hash_key: keys.hash_key,
             multiplier: TableMul::of(&keys.hash_key),
             nonce: *nonce,
+        }
+    }
+
+    // Those under a cipher with a nonce, for numbers of a reading under them. `TagMismatch` if the numbers are of another key or
+    // nonce.
+    pub(crate) fn resumed(
+        cipher: &GcmSiv,
+        nonce: &Nonce,
+        state: &PassState,
+    ) -> Result<SivKeys, Fault>
+        ensures answer { MatchResult result
+            (λ keys. (aad : List ℕ) → AreKeys keys (setting cipher.now nonce.now aad))
+            (λ e. (e ≡ Fault.TagMismatch) × HoldsNone state.now (setting cipher.now nonce.now)) }
+        ensures key { IfOk result (λ _. HasHashKey state.now (setting cipher.now nonce.now)) }
+    {
+        let keys = SivKeys::new(cipher, nonce);
+        let fresh = keys.begun(&[]);
+        if state.has_hash_key_of(&fresh) {
+            Ok(keys)
+        } else {
+            Err(Fault::TagMismatch)
         }
     }
 

@@ -10,7 +10,7 @@ use Rattle.octets.specs.Bytes.{IsBlock}
 use Rattle.aes.specs.Field.{times, sbox}
 use Rattle.aes.specs.Schedule.{xor_word}
 use Rattle.aes.specs.Cipher.{dot, sub_bytes, shift_rows, mix_column, mix_columns, add_round_key}
-use Rattle.aes.specs.Columns.{column_of, columns_of, state_of}
+use Rattle.aes.specs.Code.Columns.{column_of, columns_of, state_of}
 use Rattle.aes.specs.declared.sbox.TheConstants.{SBOX}
 use Rattle.aes.specs.declared.round_tables.TheConstants.{TABLE, TABLE_ROW1, TABLE_ROW2, TABLE_ROW3}
 use Rattle.aes.specs.declared.round_tables.TheConstants.{INVERSE_TABLE, INVERSE_ROW1, INVERSE_ROW2}

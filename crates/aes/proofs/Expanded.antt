@@ -3,9 +3,9 @@ use Rattle.std.proofs.Common.{◌≡◌, ℕ, suc, ◌+◌, ◌-◌, ◌*◌, �
 use Rattle.std.proofs.Common.{refl, sym, ap, ap₂, ◌∙◌, arith, inl, inr, take_all, zero-add, bit_xor, add-one, subst}
 use Rattle.std.proofs.lemmas.List.FromFn.{get_or-map-range_with_len}
 use Rattle.std.proofs.lemmas.List.{length-map, get_or-map, get_or-drop}
-use Rattle.aes.specs.Columns.{column_of, columns_of}
+use Rattle.aes.specs.Code.Columns.{column_of, columns_of}
 use Rattle.aes.specs.Schedule.{round_count, schedule}
-use Rattle.aes.specs.KeptWords.{table}
+use Rattle.aes.specs.Code.KeptWords.{table}
 use Rattle.aes.specs.Code.ExpandedKey.{key_of, IsKeySize, IsExpanded}
 use Rattle.aes.specs.Cipher.{at, grid, sub_bytes, shift_rows, mix_columns, add_round_key, rounds, cipher}
 use Rattle.aes.specs.Cipher.{IsKey, IsKeyLength}
@@ -136,7 +136,7 @@ key_length key n (inl e) h = inl (omega arith)
 key_length key n (inr (inl e)) h = inr (inl (omega arith))
 key_length key n (inr (inr e)) h = inr (inr (omega arith))
 
--- and a key of so many bytes has a fourth as many words
+-- a key of 16, 24 or 32 bytes has 4, 6 or 8 words
 pub key_size : (key : List ℕ) → IsKeyLength (length key)
     → IsKeySize (length key / 4) × (length key ≡ 4 * (length key / 4))
 key_size key (inl e) = (inl (omega arith), omega arith)

@@ -14,7 +14,7 @@ use Rattle.octets.specs.Bytes.{IsBlock, block_at}
 use Rattle.octets.specs.Polynomial.{product, residue}
 use Rattle.aes.specs.Field.{times, sbox}
 use Rattle.aes.specs.Cipher.{at, grid, column, mix_column, sub_bytes, shift_rows, mix_columns, add_round_key}
-use Rattle.aes.specs.Columns.{column_of, columns_of}
+use Rattle.aes.specs.Code.Columns.{column_of, columns_of}
 use Rattle.aes.specs.Code.Lanes.{HasLanes, HoldsBlocks, HoldsInBasis, byte_of, key_byte, ready_byte}
 use Rattle.aes.specs.Code.Lanes.{row_source, row_below, row_above, in_basis, linear_sbox}
 use Rattle.aes.specs.Schedule.{round_count, schedule}

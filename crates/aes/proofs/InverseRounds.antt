@@ -4,7 +4,7 @@ use Rattle.std.proofs.Common.{ap, ◌∙◌, arith}
 use Rattle.std.proofs.lemmas.List.{get_or-map, length-map}
 use Rattle.aes.specs.Schedule.{round_count, schedule}
 use Rattle.aes.specs.Cipher.{shift_rows, sub_bytes, mix_column, mix_columns, add_round_key, rounds, cipher}
-use Rattle.aes.specs.Columns.{column_of, columns_of}
+use Rattle.aes.specs.Code.Columns.{column_of, columns_of}
 use Rattle.aes.specs.Code.InverseKey.{IsInverse}
 use Rattle.aes.specs.declared.inverse_key.InverseKey.{InverseKey}
 use Rattle.aes.proofs.Expanded.{round_key_is, rounds_start, rounds_suc, cipher_is}

@@ -18,7 +18,7 @@ use Rattle.aes.specs.Counters.{up_be, up_le, counter_byte}
 use Rattle.aes.specs.Code.Wraps.{WrapsAround}
 use Rattle.octets.proofs.Blocks.{block_at-append}
 use Rattle.aes.specs.Code.Planes.{AreMasks}
-use Rattle.aes.specs.Streams.{Makes, Advances, AdvancesFront}
+use Rattle.aes.specs.Code.Streams.{Makes, Advances, AdvancesFront}
 use Rattle.aes.specs.declared.counter.Counter.{Counter}
 
 -- the number in the last four bytes, counted on and written over them

@@ -8,10 +8,10 @@ use Rattle.std.proofs.lemmas.List.{get_or_append_left, get_or_push, get_or-appen
 use Rattle.std.proofs.lemmas.List.{length-replicate, length-append, ext_get_or, length_push, drop_more}
 use Rattle.std.proofs.lemmas.List.{flat_map_more, take_more, get_or-set_same, get_or-set_other, get_or-map}
 use Rattle.std.proofs.lemmas.List.{length-map, get_or_past}
-use Rattle.aes.specs.Columns.{column_of, columns_of}
+use Rattle.aes.specs.Code.Columns.{column_of, columns_of}
 use Rattle.aes.specs.Schedule.{schedule, xor_word, key_words, temp, next_word, words, sub_word, rot_word}
 use Rattle.aes.specs.Schedule.{rcon, round_count, MeetsRecurrence}
-use Rattle.aes.specs.KeptWords.{table}
+use Rattle.aes.specs.Code.KeptWords.{table}
 use Rattle.aes.specs.Code.ExpandedKey.{key_of}
 
 -- the number of words

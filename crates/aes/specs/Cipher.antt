@@ -48,7 +48,7 @@ mix_column v = map (λ u. dot u v) matrix
 unfoldable pub mix_columns : List ℕ → List ℕ
 mix_columns s = grid (λ r c. get_or (mix_column (column s c)) r 0)
 
--- the sum with the words 4n to 4n + 3 of the schedule ws, each one a column: round key n (5.1.4)
+-- the sum with round key n, which is the words 4n to 4n + 3 of the schedule ws, each of them a column (5.1.4)
 unfoldable pub add_round_key : List (List ℕ) → ℕ → List ℕ → List ℕ
 add_round_key ws n s = grid (λ r c. bit_xor (at s r c) (get_or (get_or ws (4 * n + c) []) r 0))
 
@@ -63,11 +63,11 @@ cipher key block =
     add_round_key (schedule key) (round_count key)
     (shift_rows (sub_bytes (rounds (schedule key) (round_count key - 1) block)))
 
--- the lengths of a key in bytes (5)
+-- the length of a key in bytes is 16, 24 or 32 (5)
 abbrev pub IsKeyLength : ℕ → Type 0
 IsKeyLength n = (n ≡ 16) ⊎ ((n ≡ 24) ⊎ (n ≡ 32))
 
--- a key is 16, 24 or 32 bytes
+-- a key is 16, 24 or 32 bytes (5)
 pub record IsKey (k : List ℕ) : Type 0 where
   pub length_is : IsKeyLength (length k)
   pub bytes : (i : ℕ) → get_or k i 0 < 256

@@ -1,8 +1,11 @@
--- How the code keeps a key and encrypts several blocks at once, and what the proofs of its counters need. The cipher and the
--- streams are defined without it.
+-- How the code represents a key, the columns of a state and several blocks that are encrypted at once, the position of a
+-- stream, and facts about counters that its proofs need. The cipher and the streams are defined without it.
 pub mod ExpandedKey
 pub mod InverseKey
 pub mod Lanes
 pub mod Nibbles
 pub mod Planes
 pub mod Wraps
+pub mod Columns
+pub mod KeptWords
+pub mod Streams

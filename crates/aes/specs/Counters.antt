@@ -4,13 +4,12 @@ use Rattle.std.specs.Int.{bytes_high_first, bytes_low_first}
 use Rattle.octets.specs.Bytes.{IsBlock, le, be}
 use Rattle.aes.specs.Cipher.{cipher}
 
--- b with its last four bytes replaced by their number, most significant byte first, plus j modulo 2^32:
--- inc32 j times (SP 800-38D, 6.2)
+-- b after j times inc32: the number that its last four bytes spell, most significant byte first, plus j modulo 2^32
+-- (SP 800-38D, 6.2)
 unfoldable pub up_be : List ℕ → ℕ → List ℕ
 up_be b j = take 12 b ++ bytes_high_first 4 ((be (drop 12 b) + j) % 2 ^ 32)
 
--- b with its first four bytes replaced by their number, least significant byte first, plus j modulo 2^32
--- (RFC 8452, 4)
+-- b after j steps of the number that its first four bytes spell, least significant byte first, modulo 2^32 (RFC 8452, 4)
 unfoldable pub up_le : List ℕ → ℕ → List ℕ
 up_le b j = bytes_low_first 0 4 ((le (take 4 b) + j) % 2 ^ 32) ++ drop 4 b
 

@@ -27,14 +27,14 @@ x_power n = replicate n false ++ true ∷ []
 unfoldable pub rcon : ℕ → List ℕ
 rcon j = number (residue modulus (x_power (j - 1))) ∷ 0 ∷ 0 ∷ 0 ∷ []
 
--- Nk and Nr: how many words a key has, and how many rounds its cipher (5)
+-- Nk, the number of words in a key, and Nr, the number of rounds of its cipher (5)
 abbrev pub key_words : List ℕ → ℕ
 key_words key = length key / 4
 
 abbrev pub round_count : List ℕ → ℕ
 round_count key = key_words key + 6
 
--- temp: the word added to the one Nk places back, from the previous word t
+-- temp, made of the previous word t: it is added to the word Nk places back
 unfoldable pub temp : ℕ → ℕ → List ℕ → List ℕ
 temp nk i t =
     if i % nk == 0 then xor_word (sub_word (rot_word t)) (rcon (i / nk))

@@ -1,15 +1,15 @@
-//! The rounds of the cipher by columns (FIPS 197, 5.1), each byte looked up in a table of `round_tables`. A column is a word of
-//! 32 bits, row 0 its least significant byte.
+//! The rounds of the cipher on columns (FIPS 197, 5.1): each byte is looked up in a table of `round_tables`. A column is a word
+//! of 32 bits, row 0 its least significant byte.
 
 ghost use Rattle.std.specs.Prelude.{◌≡◌, ℕ, ◌<◌, ◌+◌, ◌*◌, ◌∷◌, [], get_or};
 ghost use Rattle.aes.specs.Field.{times, sbox};
 ghost use Rattle.aes.specs.Schedule.{xor_word};
 ghost use Rattle.aes.specs.Cipher.{mix_column, sub_bytes, shift_rows, mix_columns, add_round_key};
-ghost use Rattle.aes.specs.Columns.{column_of, columns_of, state_of};
+ghost use Rattle.aes.specs.Code.Columns.{column_of, columns_of, state_of};
 
 use crate::round_tables::TABLES;
 
-// What the byte x in row 0 adds to its column after SubBytes and MixColumns.
+// The column that the byte x in row 0 adds to the result of SubBytes and MixColumns.
 #[inline(always)]
 fn entry(x: u8) -> u32
     ensures { column_of result ≡ times 2 (sbox x) ∷ sbox x ∷ sbox x ∷ times 3 (sbox x) ∷ [] }
@@ -17,7 +17,7 @@ fn entry(x: u8) -> u32
     TABLES[0][x as usize]
 }
 
-// What the byte x in row 1 adds to its column.
+// The column that the byte x in row 1 adds to that result.
 #[inline(always)]
 fn entry_row1(x: u8) -> u32
     ensures { column_of result ≡ times 3 (sbox x) ∷ times 2 (sbox x) ∷ sbox x ∷ sbox x ∷ [] }
@@ -25,7 +25,7 @@ fn entry_row1(x: u8) -> u32
     TABLES[1][x as usize]
 }
 
-// What the byte x in row 2 adds to its column.
+// The column that the byte x in row 2 adds to that result.
 #[inline(always)]
 fn entry_row2(x: u8) -> u32
     ensures { column_of result ≡ sbox x ∷ times 3 (sbox x) ∷ times 2 (sbox x) ∷ sbox x ∷ [] }
@@ -33,7 +33,7 @@ fn entry_row2(x: u8) -> u32
     TABLES[2][x as usize]
 }
 
-// What the byte x in row 3 adds to its column.
+// The column that the byte x in row 3 adds to that result.
 #[inline(always)]
 fn entry_row3(x: u8) -> u32
     ensures { column_of result ≡ sbox x ∷ sbox x ∷ times 3 (sbox x) ∷ times 2 (sbox x) ∷ [] }
@@ -41,7 +41,7 @@ fn entry_row3(x: u8) -> u32
     TABLES[3][x as usize]
 }
 
-// A column of the next state, from the words that hold its rows 0 to 3 before SubBytes.
+// A column of the next state. Before SubBytes and ShiftRows its rows 0 to 3 were in these four words.
 #[inline(always)]
 fn mixed_column(a: u32, b: u32, c: u32, d: u32, key: u32) -> u32
     ensures { column_of result ≡ xor_word (mix_column (
@@ -55,8 +55,8 @@ fn mixed_column(a: u32, b: u32, c: u32, d: u32, key: u32) -> u32
     (entry(row0) ^ (entry_row1(row1) ^ (entry_row2(row2) ^ entry_row3(row3)))) ^ key
 }
 
-/// Any round but the last: SubBytes, ShiftRows, MixColumns and AddRoundKey with these four words (FIPS 197, 5.1). The words
-/// are the columns, row 0 in the least significant byte.
+/// Any round but the last: SubBytes, ShiftRows, MixColumns and AddRoundKey with these four words (FIPS 197, 5.1). Each word is
+/// a column, row 0 its least significant byte.
 ///
 /// Not constant time: it looks up four tables of 256 words, one for each row, by the 16 bytes of the state.
 #[inline(always)]
@@ -73,8 +73,8 @@ pub fn round(state: [u32; 4], key: [u32; 4]) -> [u32; 4]
     ]
 }
 
-// A column of the last state, from the words that hold its rows 0 to 3 before SubBytes. The entries of the tables have S(x)
-// unmultiplied in two of their rows.
+// A column of the last state. Before SubBytes and ShiftRows its rows 0 to 3 were in these four words. Each entry of a table has
+// S(x) itself in two of its rows.
 #[inline(always)]
 fn last_column(a: u32, b: u32, c: u32, d: u32, key: u32) -> u32
     ensures { column_of result ≡ xor_word (
@@ -92,7 +92,7 @@ fn last_column(a: u32, b: u32, c: u32, d: u32, key: u32) -> u32
     u32::from_le_bytes([at0, at1, at2, at3]) ^ key
 }
 
-// The last round: it has no MixColumns.
+// The last round, which has no MixColumns.
 #[inline(always)]
 pub(crate) fn last_round(state: [u32; 4], key: [u32; 4]) -> [u32; 4]
     ensures { state_of result ≡ add_round_key (columns_of key) 0 (shift_rows (sub_bytes (state_of state))) }

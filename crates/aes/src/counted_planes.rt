@@ -1,4 +1,4 @@
-//! Sixteen counter blocks (SP 800-38D, 6.2; RFC 8452, 4), written at once as eight planes of bits.
+//! Sixteen counter blocks (SP 800-38D, 6.2; RFC 8452, 4), made directly as eight planes of bits.
 
 ghost use Rattle.std.specs.Prelude.{◌≡◌, ℕ, ◌<◌, ◌+◌, ◌*◌, ◌/◌, ◌%◌, ◌==◌, if◌then◌else◌};
 ghost use Rattle.std.specs.Prelude.{List, slice_index, bit_xor, length};
@@ -10,7 +10,7 @@ use crate::planes::{BitPlanes, Planes};
 use std::simd::prelude::*;
 use std::simd::{u8x16, u8x32};
 
-// The bits of a number below 2^16: every lane has bit q at the bit of block q.
+// A plane for a number below 2^16, one bit for each block: every lane has bit q of the number at the bit of block q.
 #[inline(always)]
 fn block_bits(number: u32) -> u8x32
     ensures long { length result ≡ 32 }
@@ -28,7 +28,7 @@ fn block_bits(number: u32) -> u8x32
     )
 }
 
-// Keeps each byte whose bit in the mask is set, and makes the others 0.
+// Clears each byte whose bit in the mask is not set.
 #[inline(always)]
 fn select(p: Planes, mask: u8x32) -> Planes
     requires { length mask ≡ 32 }
@@ -47,7 +47,7 @@ fn select(p: Planes, mask: u8x32) -> Planes
     ]
 }
 
-// The lanes of the byte at this place of each block, with all their bits set.
+// The plane with all bits set in the lanes of the byte at this index of each block, and no others.
 #[inline(always)]
 fn lanes_of(place: usize) -> u8x32
     requires { place < 16 }
@@ -61,7 +61,7 @@ fn lanes_of(place: usize) -> u8x32
     u8x32::from_array(lanes)
 }
 
-// Blocks of zeros except for the byte at `place`, which is `first` plus the number of the block, modulo 16.
+// Sixteen blocks of zeros, except that the byte at `place` is `first` plus the block's number, modulo 16.
 #[inline(always)]
 fn numbers(first: u32, place: usize) -> Planes
     requires { (first < 16) × (place < 16) }
@@ -81,8 +81,8 @@ fn numbers(first: u32, place: usize) -> Planes
     ]
 }
 
-// Sixteen counter blocks, which differ in the low half of one byte: block q is `a` with `first` + q in that half while this is
-// below 16, and then `b` with `first` + q - 16.
+// Sixteen counter blocks, of which only the low half of the byte at `place` counts: block q is `a` with `first` + q in that
+// half if that is below 16, and else `b` with `first` + q - 16.
 #[inline(always)]
 pub(crate) fn count_blocks(a: &[u8; 16], b: &[u8; 16], first: u32, place: usize) -> Planes
     requires { (first < 16) × (place < 16) }

@@ -33,7 +33,7 @@ fn concat(a: &[u8; 16], b: &[u8; 16], c: &[u8; 16], d: &[u8; 16]) -> [u8; 64]
     four
 }
 
-// XORs sixteen blocks, given in fours, into 256 bytes. Each length is a constant, so that the blocks stay in registers.
+// XORs sixteen blocks, given in fours, into 256 bytes. All lengths are constants, so that the blocks stay in registers.
 #[inline(always)]
 fn xor_fours(bytes: &mut [u8], a: &[u8; 64], b: &[u8; 64], c: &[u8; 64], d: &[u8; 64])
     requires { length bytes.old ≡ 256 }
@@ -60,10 +60,10 @@ fn block_of(blocks: &[u8], q: usize) -> Block
 
 /// Which bytes of a block are its counter, and in which order.
 pub trait Count {
-    // The block that is a number of steps after the given one.
+    // The block that is a number of steps after a block.
     ghost up: { List ℕ → ℕ → List ℕ };
 
-    // The place of the counter's least significant byte.
+    // The index of the counter's least significant byte.
     ghost LOW: { ℕ };
 
     const LOW: usize;
@@ -129,11 +129,11 @@ const PLANES_PAY: usize = if WIDE { 193 } else { 97 };
 // A run of four blocks pays for texts longer than this many bytes.
 const FOUR_PAY: usize = if WIDE { 32 } else { 48 };
 
-// Once the planes of the key are made, a run of sixteen blocks pays for texts longer than this many bytes. In the default build,
-// where a plane is two registers, a run of eight blocks does.
+// Once the key is in planes, a run of sixteen blocks pays for texts longer than this many bytes. In the default build, where a
+// plane takes two registers, it is a run of eight blocks that pays.
 const SIXTEEN_PAY: usize = if WIDE { 96 } else { 64 };
 
-// Up to this many bytes, a run of eight blocks and shorter ones after it take no longer than one run of sixteen.
+// Up to this many bytes, a run of eight blocks followed by shorter runs takes no longer than one run of sixteen.
 const EIGHT_PAY: usize = if WIDE { 0 } else { 192 };
 
 // How many of the remaining bytes the next run masks.
@@ -147,8 +147,8 @@ fn run_of(left: usize) -> usize
     left.min(if left > EIGHT_PAY { 256 } else { 128 })
 }
 
-// The state of a stream without its key: the first block; how many blocks were begun, modulo 2^32; and the cipher of the last
-// of these, with the number of its bytes that are used, or 0 if all are.
+// The state of a stream without its key: the first block; the number of blocks of which bytes were used, modulo 2^32; and the
+// cipher of the last of these, with the number of its used bytes, or 0 if all are used.
 #[derive(Drop)]
 struct Counter<C> {
     first: Block,
@@ -160,12 +160,12 @@ struct Counter<C> {
 }
 
 impl<C: Count> Counter<C> {
-    ghost use Rattle.aes.specs.Streams.{Makes, Advances, AdvancesFront};
+    ghost use Rattle.aes.specs.Code.Streams.{Makes, Advances, AdvancesFront};
     ghost use Rattle.aes.specs.Code.Lanes.{IsReady};
     ghost use Rattle.aes.specs.Code.Planes.{AreReady, AreMasks, HoldsSixteen};
     ghost use Rattle.aes.specs.Schedule.{schedule, round_count};
 
-    // The stream whose first block is the cipher of `first`.
+    // The state at the beginning of the stream whose first block is the cipher of `first`.
     #[inline(always)]
     fn new(first: &Block) -> Counter<C>
         ensures { (key : List ℕ) → Makes C.up result key first.now 0 }
@@ -179,27 +179,27 @@ impl<C: Count> Counter<C> {
         }
     }
 
-    // The stream that has made its first `made` bytes.
-    fn at(key: &AesKey, first: &Block, made: u64) -> Counter<C>
-        requires { made < 2 ^ 63 }
-        ensures { Makes C.up result key.now first.now made }
+    // The state of the stream after its first `position` bytes.
+    fn at(key: &AesKey, first: &Block, position: u64) -> Counter<C>
+        requires { position < 2 ^ 63 }
+        ensures { Makes C.up result key.now first.now position }
     {
-        let used = (made % 16) as usize;
+        let used = (position % 16) as usize;
         let mask = if used == 0 {
             *first
         } else {
-            key.encrypt(&C::block(first, (made / 16 % 0x1_0000_0000) as u32))
+            key.encrypt(&C::block(first, (position / 16 % 0x1_0000_0000) as u32))
         };
         Counter {
             first: *first,
-            block_count: ((made + 15) / 16 % 0x1_0000_0000) as u32,
+            block_count: ((position + 15) / 16 % 0x1_0000_0000) as u32,
             mask,
             used,
             way: PhantomData,
         }
     }
 
-    // XORs in further bytes of the last mask.
+    // XORs in the next bytes of the current mask.
     fn mask_rest(&mut self, bytes: &mut [u8])
         requires some { 0 < self.old.used }
         requires room { self.old.used + length bytes.old ≤ 16 }
@@ -211,7 +211,7 @@ impl<C: Count> Counter<C> {
         self.used = end % 16;
     }
 
-    // XORs in the first bytes of the next blocks, whose ciphers are given. Every earlier block is used up.
+    // XORs in the first bytes of the next blocks, whose ciphers are `masks`. Every earlier block is used up.
     #[inline(always)]
     fn mask_with(&mut self, masks: &[u8], bytes: &mut [u8])
         requires whole { length masks.now % 16 ≡ 0 }
@@ -244,7 +244,7 @@ impl<C: Count> Counter<C> {
         self.mask_with(mask.bytes(), bytes);
     }
 
-    // The next four blocks, before the cipher.
+    // The next four counter blocks.
     #[inline(always)]
     fn four(&self) -> [u8; 64]
         ensures { (q : ℕ) → q < 4 → block_at result q ≡ C.up self.now.first ((self.now.block_count + q) % 2 ^ 32) }
@@ -256,8 +256,8 @@ impl<C: Count> Counter<C> {
         concat(first.bytes(), second.bytes(), third.bytes(), fourth.bytes())
     }
 
-    // The next sixteen blocks, before the cipher, in planes. Up to the block where the low half of the byte at `LOW` passes 15
-    // they differ only in that half, and so do the blocks from there on: two blocks and a number give all sixteen.
+    // The next sixteen counter blocks, in planes. Up to the block where the low half of the byte at `LOW` passes 15 they differ
+    // only in that half, and so do the blocks from there on. So two blocks and a number determine all sixteen.
     #[inline(always)]
     fn sixteen(&self) -> Planes
         ensures planes { HoldsSixteen result (λ q. C.up self.now.first ((self.now.block_count + q) % 2 ^ 32)) }
@@ -286,8 +286,8 @@ impl<C: Count> Counter<C> {
         self.mask_with(&masks, bytes);
     }
 
-    // XORs in the first bytes of the next eight blocks. Every earlier block is used up. It is not inlined, since runs of sixteen
-    // take longer beside its code.
+    // XORs in the first bytes of the next eight blocks. Every earlier block is used up. Inlined, it would slow down runs of
+    // sixteen blocks.
     #[inline(never)]
     fn mask_eight(&mut self, key: &AesKey, words: &[KeyPlanes; 15], bytes: &mut [u8])
         requires ready { AreReady words.now (schedule key.now) (round_count key.now) }
@@ -300,8 +300,8 @@ impl<C: Count> Counter<C> {
         self.mask_with([a, b].as_flattened(), bytes);
     }
 
-    // XORs in the first bytes of the next sixteen blocks. Every earlier block is used up. It is not inlined, since whole runs
-    // would reserve stack for its blocks.
+    // XORs in the first bytes of the next sixteen blocks. Every earlier block is used up. Inlined, it would make whole runs
+    // reserve stack for its blocks.
     #[inline(never)]
     fn mask_part(&mut self, key: &AesKey, words: &[KeyPlanes; 15], bytes: &mut [u8])
         requires ready { AreReady words.now (schedule key.now) (round_count key.now) }
@@ -331,13 +331,13 @@ impl<C: Count> Counter<C> {
             return;
         }
         let (a, b, c, d) = key.encrypt_sixteen(words, self.sixteen());
-        // A whole run is XORed from registers, where its length is a constant.
+        // The length of a whole run is a constant, so it is XORed from registers.
         self.block_count = self.block_count.wrapping_add(16);
         xor_fours(&mut bytes[..256], &a, &b, &c, &d);
     }
 
-    // XORs in runs of sixteen blocks while they pay, the last one perhaps in part, and returns how many bytes it masked. It is
-    // not inlined, since its frame would slow down short messages.
+    // XORs in runs of sixteen blocks while they pay, the last one perhaps in part, and returns how many bytes it masked.
+    // Inlined, its frame would slow down short messages.
     #[inline(never)]
     fn apply_sixteens(&mut self, key: &AesKey, bytes: &mut [u8]) -> usize
         requires { self.old.used ≡ 0 }
@@ -377,7 +377,7 @@ impl<C: Count> Counter<C> {
         requires { self.old.used ≡ 0 }
         ensures { AdvancesFront C.up key.now self.old self.new bytes.old bytes.new result }
     {
-        // A short text makes no call: `apply_fours` would mask none of it.
+        // A short text returns here, without the call: `apply_fours` would mask nothing.
         if bytes.len() <= FOUR_PAY {
             return 0;
         }
@@ -420,7 +420,7 @@ impl<C: Count> Counter<C> {
     }
 }
 
-/// AES in counter mode: the stream of the ciphers of counter blocks, under a key that it keeps or borrows. `C` says which bytes
+/// AES in counter mode: the stream of the ciphers of counter blocks, under a key that it owns or borrows. `C` says which bytes
 /// of a block are the counter.
 #[derive(Drop)]
 pub struct Ctr<C, K> {
@@ -429,22 +429,23 @@ pub struct Ctr<C, K> {
 }
 
 /// The stream of AES-GCM: the ciphers of blocks whose last four bytes count, most significant byte first, modulo 2^32
-/// (SP 800-38D, 6.5). In AES-GCM the first block is made of the nonce, and two tags under one nonce also give away the hash key,
-/// with which anyone can forge messages.
+/// (SP 800-38D, 6.5). In AES-GCM the first block is made from the nonce, and two tags under one nonce also give away the hash
+/// key, with which anyone can forge messages.
 pub type CtrBe<K> = Ctr<LastFour, K>;
 
 /// The stream of AES-GCM-SIV: the ciphers of blocks whose first four bytes count, least significant byte first, modulo 2^32
-/// (RFC 8452, 4). In AES-GCM-SIV the first block is made of the tag: under a repeated nonce it is the same only if the text and
-/// the associated data are the same, and gives away only that.
+/// (RFC 8452, 4). In AES-GCM-SIV the first block is made from the tag: under a repeated nonce it is the same only if the text
+/// and the associated data are the same, and gives away only that.
 pub type CtrLe<K> = Ctr<FirstFour, K>;
 
 impl<C: Count, K: KeptKey> Ctr<C, K> {
-    ghost use Rattle.aes.specs.Streams.{Holds};
+    ghost use Rattle.aes.specs.Code.Streams.{Holds};
 
-    /// The stream whose first block is the cipher of `first`, under a key that it keeps or borrows.
+    /// Makes the stream whose first block is the cipher of `first`, under a key that it owns or borrows.
     ///
-    /// No block may be used twice under one key: `first`, and those counted from it, belong to this stream alone. Two texts
-    /// that are XORed with the same part of a stream give away their XOR. [`CtrBe`] and [`CtrLe`] say what else a repeat gives away.
+    /// A counter block must never be used twice under one key: `first` and the blocks counted from it belong to this stream
+    /// alone. Two texts that are XORed with the same part of a stream give away their XOR. [`CtrBe`] and [`CtrLe`] say what
+    /// else a repeat gives away.
     ///
     /// Not constant time: single blocks go through `AesKey::encrypt`.
     #[inline(always)]
@@ -457,31 +458,31 @@ impl<C: Count, K: KeptKey> Ctr<C, K> {
         }
     }
 
-    /// The stream whose first block is the cipher of `first`, and that has made its first `made` bytes. The rest must not be
+    /// Makes the stream whose first block is the cipher of `first`, after its first `position` bytes. The rest must never be
     /// used twice: see [`Ctr::new`].
-    pub fn at(key: K, first: &Block, made: u64) -> Ctr<C, K>
-        requires { made < 2 ^ 63 }
-        ensures { Holds C.up K.bytes result (K.bytes key) first.now made }
+    pub fn at(key: K, first: &Block, position: u64) -> Ctr<C, K>
+        requires { position < 2 ^ 63 }
+        ensures { Holds C.up K.bytes result (K.bytes key) first.now position }
     {
-        let counter = Counter::at(key.kept(), first, made);
+        let counter = Counter::at(key.kept(), first, position);
         Ctr { key, counter }
     }
 
     /// XORs the next bytes of the stream into `bytes`, of any length. The result does not depend on how a text is split into
-    /// calls. It has no fault: after 2^32 blocks the stream begins again (SP 800-38D, 6.5; RFC 8452, 4), so a caller stops
-    /// before.
+    /// calls. There is no fault: after 2^32 blocks the stream begins again (SP 800-38D, 6.5; RFC 8452, 4), so a caller has to
+    /// stop before that.
     pub fn apply(&mut self, bytes: &mut [u8])
-        ensures { (key first : List ℕ) (made : ℕ) → Holds C.up K.bytes self.old key first made
-            → Holds C.up K.bytes self.new key first (made + length bytes.old)
-            × (bytes.new ≡ masked (counter_byte C.up key first) made bytes.old) }
+        ensures { (key first : List ℕ) (position : ℕ) → Holds C.up K.bytes self.old key first position
+            → Holds C.up K.bytes self.new key first (position + length bytes.old)
+            × (bytes.new ≡ masked (counter_byte C.up key first) position bytes.old) }
     {
         self.counter.apply(self.key.kept(), bytes);
     }
 }
 
-/// The stream does no step of the work: its rounds leave no room for one.
+/// The stream does none of the work's steps: its rounds leave no room for one.
 impl<C: Count, K: KeptKey> Stream for Ctr<C, K> {
-    ghost use Rattle.aes.specs.Streams.{Did};
+    ghost use Rattle.aes.specs.Code.Streams.{Did};
 
     ghost did = { Did C.up K.bytes };
 

@@ -1,17 +1,17 @@
-//! The rounds of the cipher by columns, backwards (FIPS 197, 5.3). Each contract says which state the forward step takes to the
-//! given one.
+//! The rounds of the cipher on columns, in reverse (FIPS 197, 5.3). Each contract says that the forward step takes the result
+//! to the argument.
 
 ghost use Rattle.std.specs.Prelude.{◌≡◌, ℕ, ◌*◌, ◌<◌, ◌≤◌, List, ◌∷◌, [], map, get_or, slice_index};
 ghost use Rattle.octets.specs.Bytes.{IsBlock};
 ghost use Rattle.aes.specs.Schedule.{xor_word};
 ghost use Rattle.aes.specs.Field.{times, sbox};
 ghost use Rattle.aes.specs.Cipher.{mix_column, sub_bytes, shift_rows, mix_columns, add_round_key};
-ghost use Rattle.aes.specs.Columns.{column_of, columns_of, state_of};
+ghost use Rattle.aes.specs.Code.Columns.{column_of, columns_of, state_of};
 
 use crate::round_tables::INVERSE_TABLES;
 use crate::sbox::{substitute, unsubstitute};
 
-// What the byte y in row 0 adds to the product of the inverse matrix and its column, where x = S(y).
+// The column that the byte y in row 0 adds to the product of the inverse matrix and its column, where x = S(y).
 #[inline(always)]
 fn inverse_entry(x: u8) -> u32
     ensures { (y : ℕ) → y < 256 → sbox y ≡ x
@@ -20,7 +20,7 @@ fn inverse_entry(x: u8) -> u32
     INVERSE_TABLES[0][x as usize]
 }
 
-// What the byte y in row 1 adds to that product.
+// The column that the byte y in row 1 adds to that product.
 #[inline(always)]
 fn inverse_entry_row1(x: u8) -> u32
     ensures { (y : ℕ) → y < 256 → sbox y ≡ x
@@ -29,7 +29,7 @@ fn inverse_entry_row1(x: u8) -> u32
     INVERSE_TABLES[1][x as usize]
 }
 
-// What the byte y in row 2 adds to that product.
+// The column that the byte y in row 2 adds to that product.
 #[inline(always)]
 fn inverse_entry_row2(x: u8) -> u32
     ensures { (y : ℕ) → y < 256 → sbox y ≡ x
@@ -38,7 +38,7 @@ fn inverse_entry_row2(x: u8) -> u32
     INVERSE_TABLES[2][x as usize]
 }
 
-// What the byte y in row 3 adds to that product.
+// The column that the byte y in row 3 adds to that product.
 #[inline(always)]
 fn inverse_entry_row3(x: u8) -> u32
     ensures { (y : ℕ) → y < 256 → sbox y ≡ x
@@ -47,7 +47,7 @@ fn inverse_entry_row3(x: u8) -> u32
     INVERSE_TABLES[3][x as usize]
 }
 
-// The sum of four entries, one from the table of each row.
+// The sum of four entries, one from the table of each row: the product of the inverse matrix and a column.
 #[inline(always)]
 fn inverse_sum(row0: u8, row1: u8, row2: u8, row3: u8) -> u32
     ensures { (a b c d : ℕ) → a < 256 → b < 256 → c < 256 → d < 256 → sbox a ≡ row0 → sbox b ≡ row1
@@ -58,7 +58,7 @@ fn inverse_sum(row0: u8, row1: u8, row2: u8, row3: u8) -> u32
         ^ (inverse_entry_row1(row1) ^ (inverse_entry_row2(row2) ^ inverse_entry_row3(row3)))
 }
 
-// The column that the matrix of MixColumns takes to this one: its product with the inverse matrix.
+// InvMixColumns on one column: the matrix of MixColumns takes the result to this column.
 fn unmix_column(column: u32) -> u32
     ensures { mix_column (column_of result) ≡ column_of column }
 {
@@ -71,7 +71,7 @@ fn unmix_column(column: u32) -> u32
     )
 }
 
-// The words of a schedule, where MixColumns is undone in those of the rounds between the first and the last (5.3.5).
+// The words of a schedule with InvMixColumns applied to all round keys but the first and the last (5.3.5).
 pub(crate) fn unmix_words(words: &[u32; 60], count: usize) -> [u32; 60]
     requires some { 0 < count }
     requires below { count ≤ 14 }
@@ -87,7 +87,7 @@ pub(crate) fn unmix_words(words: &[u32; 60], count: usize) -> [u32; 60]
     unmixed
 }
 
-// A column of the state before a round, from the words that hold its rows 0 to 3 after SubBytes and ShiftRows.
+// A column of the state before a round. After SubBytes and ShiftRows its rows 0 to 3 are in these four words.
 #[inline(always)]
 fn inverse_column(a: u32, b: u32, c: u32, d: u32, key: u32) -> u32
     ensures { (p q r s : ℕ) → p < 256 → q < 256 → r < 256 → s < 256
@@ -102,8 +102,8 @@ fn inverse_column(a: u32, b: u32, c: u32, d: u32, key: u32) -> u32
     inverse_sum(row0, row1, row2, row3) ^ key
 }
 
-// A round of the equivalent inverse cipher (5.3.5): if SubBytes and ShiftRows take s to this state,
-// MixColumns takes the result to the sum of s and the words that MixColumns makes of the key's.
+// A round of the equivalent inverse cipher (5.3.5): if SubBytes and ShiftRows take s to this state, MixColumns takes the result
+// to the sum of s and the round key, to which MixColumns is applied as well.
 #[inline(always)]
 pub(crate) fn inverse_round(state: [u32; 4], key: [u32; 4]) -> [u32; 4]
     ensures { (s : List ℕ) → IsBlock s → shift_rows (sub_bytes s) ≡ state_of state
@@ -118,7 +118,7 @@ pub(crate) fn inverse_round(state: [u32; 4], key: [u32; 4]) -> [u32; 4]
     ]
 }
 
-// The column that SubBytes takes to the one with rows 0 to 3 of these words.
+// InvSubBytes on one column, whose rows 0 to 3 are in these four words: SubBytes takes the result to that column.
 #[inline(always)]
 fn unsub_column(a: u32, b: u32, c: u32, d: u32) -> u32
     ensures { map sbox (column_of result)

@@ -8,8 +8,8 @@ use crate::columns::{add_key, load, round_key, store};
 use crate::inverse::{inverse_round, unsub_rows};
 use octets::Block;
 
-/// A key of AES made ready to decrypt many blocks: the schedule, where MixColumns is undone in the words of the rounds between the
-/// first and the last (FIPS 197, 5.3.5). It is not constant time: see its call.
+/// A key of AES made ready to decrypt many blocks: its schedule, with InvMixColumns applied to all round keys but the first and
+/// the last (FIPS 197, 5.3.5). Not constant time: see [`InverseKey::decrypt`].
 #[derive(Clone, Copy)]
 pub struct InverseKey {
     words: [u32; 60],
@@ -20,7 +20,7 @@ pub struct InverseKey {
 impl InverseKey {
     ghost use Rattle.aes.specs.Code.InverseKey.{IsInverse};
 
-    // The key with these words.
+    // Makes the key of these words.
     pub(crate) fn new(words: [u32; 60], size: usize) -> InverseKey
         requires { size ≤ 8 }
         ensures words { result.words ≡ words }

@@ -1,4 +1,4 @@
-//! An expanded key, and the cipher under it (FIPS 197, 5.1 and 5.2): one block, or four, eight or sixteen at once.
+//! An expanded key, and the cipher under it (FIPS 197, 5.1 and 5.2), on one block, or four, eight or sixteen at once.
 
 ghost use Rattle.std.specs.Prelude.{◌≡◌, ℕ, ◌<◌, ◌+◌, ◌*◌, ◌/◌, ◌%◌, length, slice_index, List, MatchResult};
 ghost use Rattle.octets.specs.Bytes.{IsBlock, block_at};
@@ -6,7 +6,7 @@ ghost use Rattle.aes.specs.Cipher.{cipher, IsKey, IsKeyLength, IsPreimage};
 ghost use Rattle.aes.specs.Code.ExpandedKey.{own_key};
 ghost use Rattle.aes.specs.Code.InverseKey.{IsInverse};
 ghost use Rattle.aes.specs.Code.Lanes.{IsReady};
-ghost use Rattle.aes.specs.KeptWords.{KeepsSchedule};
+ghost use Rattle.aes.specs.Code.KeptWords.{KeepsSchedule};
 ghost use Rattle.aes.specs.Code.Planes.{AreReady, HoldsBits, HoldsEight, HoldsLanes, HoldsSixteen};
 ghost use Rattle.aes.specs.Schedule.{schedule, round_count};
 
@@ -25,10 +25,10 @@ use std::simd::u8x64;
 /// A key of AES with its schedule (FIPS 197, 5.2). Contracts see the key's bytes: 16, 24 or 32.
 ///
 /// Not constant time. Making a key looks up the S-box, a table of 256 bytes, by bytes of the schedule, and so of the key.
-/// `encrypt` looks up four tables of 256 words, 4 KiB in all, by each byte of the state in each round: that is the block XORed
-/// with a round key at first. `inverse` and `decrypt` look up tables by bytes of the schedule and of the state, see
+/// `encrypt` looks up four tables of 256 words, 4 KiB in all, by each byte of the state in each round; the first state is the
+/// block XORed with a round key. `inverse` and `decrypt` look up tables by bytes of the schedule and of the state: see
 /// [`InverseKey`]. Code on the same processor may learn from the cache which entries were read, and from these the key.
-/// `encrypt_four` has its tables in vectors, and reads none in memory; that its time is constant is not claimed either.
+/// `encrypt_four` has its tables in vectors and reads none from memory, but its time is not claimed to be constant either.
 #[derive(Clone, Copy)]
 pub struct AesKey {
     words: [u32; 60],
@@ -40,7 +40,7 @@ impl Model for AesKey {
 
     ghost Value = { List ℕ };
 
-    ghost use Rattle.aes.specs.Columns.{columns_of};
+    ghost use Rattle.aes.specs.Code.Columns.{columns_of};
     ghost use Rattle.aes.specs.Code.ExpandedKey.{key_of, IsExpanded, fields_of, fields_of-key_of};
 
     ghost view = { λ a. key_of (columns_of a.words) a.size };
@@ -52,13 +52,13 @@ impl Model for AesKey {
     ghost inverse_ok = { fields_of-key_of };
 }
 
-/// A key of AES, or a reference to one: a state that is made for one message borrows its key, and one that outlives
-/// the call keeps a copy.
+/// A key of AES, or a reference to one: a state for one message borrows its key, and a state that outlives the call owns a
+/// copy.
 pub trait KeptKey: Drop {
     // The key's bytes.
     ghost bytes: { Self → List ℕ };
 
-    /// The key.
+    /// Returns the key.
     fn kept(&self) -> &AesKey
         ensures { result.now ≡ bytes self.now };
 }
@@ -82,7 +82,7 @@ impl KeptKey for &AesKey {
 }
 
 impl AesKey {
-    /// The key of AES-128 with these 16 bytes; its cipher has 10 rounds (FIPS 197, 5).
+    /// Makes the key of AES-128 with these 16 bytes. Its cipher has 10 rounds (FIPS 197, 5).
     pub fn new128(key: &Key16) -> AesKey
         ensures { result ≡ key.now }
     {
@@ -92,7 +92,7 @@ impl AesKey {
         }
     }
 
-    /// The key of AES-192 with these 24 bytes; its cipher has 12 rounds (FIPS 197, 5).
+    /// Makes the key of AES-192 with these 24 bytes. Its cipher has 12 rounds (FIPS 197, 5).
     pub fn new192(key: &Key24) -> AesKey
         ensures { result ≡ key.now }
     {
@@ -102,7 +102,7 @@ impl AesKey {
         }
     }
 
-    /// The key of AES-256 with these 32 bytes; its cipher has 14 rounds (FIPS 197, 5).
+    /// Makes the key of AES-256 with these 32 bytes. Its cipher has 14 rounds (FIPS 197, 5).
     pub fn new256(key: &Key32) -> AesKey
         ensures { result ≡ key.now }
     {
@@ -112,8 +112,8 @@ impl AesKey {
         }
     }
 
-    /// The key with these bytes: 16, 24 or 32. Any other length is `KeyLength`, the only fault (FIPS 197, 5). Not constant
-    /// time: the schedule looks up the S-box by bytes of the key.
+    /// Makes the key with these bytes: 16, 24 or 32. Any other length is `KeyLength`, the only fault (FIPS 197, 5). Not
+    /// constant time: the schedule looks up the S-box by bytes of the key.
     pub fn from_slice(key: &[u8]) -> Result<AesKey, Fault>
         ensures { MatchResult result (λ k. (k ≡ key.now) × IsKey key.now)
             (λ e. (e ≡ Fault.KeyLength) × ¬ IsKeyLength (length key.now)) }
@@ -130,16 +130,15 @@ impl AesKey {
         })
     }
 
-    /// The words of the schedule, each with its first byte least significant, and zeros after them (FIPS 197,
-    /// 5.2), for a caller that stores plain numbers.
+    /// Returns the words of the schedule, each with its first byte least significant, and zeros after them (FIPS 197, 5.2), for
+    /// a caller that stores plain numbers.
     pub fn words(&self) -> [u32; 60]
         ensures { KeepsSchedule result self.now }
     {
         self.words
     }
 
-    /// The key with these bytes, of which `words` returned these words. The caller shows that they keep its
-    /// schedule.
+    /// Makes the key with these bytes, for which `words` returned these words. The caller shows that they are its schedule.
     // Inlined, so that the words are copied once.
     #[inline(always)]
     pub fn from_words(words: &[u32; 60], key: &[u8]) -> AesKey
@@ -157,7 +156,7 @@ impl AesKey {
     /// Returns the block of 16 bytes that the cipher takes `block` to (FIPS 197, 5.1).
     ///
     /// Not constant time: each round but the last looks up four tables of 256 words by the 16 bytes of its state, and the last
-    /// reads the S-box from the same tables.
+    /// looks up the S-box in the same tables.
     pub fn encrypt(&self, block: &Block) -> Block
         ensures value { result ≡ cipher self.now block.now }
         ensures is_block { IsBlock result }
@@ -179,7 +178,7 @@ impl AesKey {
         ready_keys(&self.words, self.size + 6)
     }
 
-    // Encrypts four concatenated blocks with the round keys of `ready`.
+    // Encrypts four concatenated blocks with the round keys that `ready` returned.
     pub(crate) fn encrypt_ready(&self, keys: &[[u8; 16]; 15], blocks: &[u8; 64]) -> [u8; 64]
         requires { IsReady keys.now self.now }
         ensures { (q : ℕ) → q < 4 → block_at result q ≡ cipher self.now (block_at blocks.now q) }
@@ -196,22 +195,22 @@ impl AesKey {
         last_four(lanes, spread(round_key(&self.words, count))).to_array()
     }
 
-    /// Returns the ciphers of four concatenated blocks, each of 16 bytes (FIPS 197, 5.1). No table in memory is looked
-    /// up: its tables of 16 bytes are vectors, as are the bytes that index them.
+    /// Returns the ciphers of four concatenated blocks, each of 16 bytes (FIPS 197, 5.1). It looks up no table in memory: its
+    /// tables of 16 bytes are vectors, as are the bytes that index them.
     pub fn encrypt_four(&self, blocks: &[u8; 64]) -> [u8; 64]
         ensures { (q : ℕ) → q < 4 → block_at result q ≡ cipher self.now (block_at blocks.now q) }
     {
         self.encrypt_ready(&self.ready(), blocks)
     }
 
-    // Writes the round keys in planes of bits, for eight blocks.
+    // Writes the round keys as planes of bits, for eight blocks.
     pub(crate) fn make_planes(&self, keys: &mut [KeyPlanes; 15])
         ensures { AreReady keys.new (schedule self.now) (round_count self.now) }
     {
         ready_planes(keys, &self.words, self.size + 6);
     }
 
-    // Encrypts eight blocks in planes, in place. It is a function of its own for both halves of sixteen blocks.
+    // Encrypts eight blocks in planes, in place. Both halves of sixteen blocks call it.
     fn encrypt_half(&self, keys: &[KeyPlanes; 15], planes: &mut HalfPlanes)
         requires { AreReady keys.now (schedule self.now) (round_count self.now) }
         ensures { (f : ℕ → List ℕ) → ((q : ℕ) → IsBlock (f q)) → HoldsEight planes.old f
@@ -227,7 +226,7 @@ impl AesKey {
         *planes = planes::last_round(state, unpack(&keys[count]));
     }
 
-    // Encrypts sixteen blocks in planes, all at once.
+    // Encrypts sixteen blocks in planes, all sixteen in each step.
     #[inline(always)]
     fn encrypt_whole(&self, keys: &[KeyPlanes; 15], start: Planes) -> Planes
         requires { AreReady keys.now (schedule self.now) (round_count self.now) }
@@ -243,8 +242,8 @@ impl AesKey {
         planes::last_round(state, Planes::from_half(unpack(&keys[count])))
     }
 
-    // Encrypts sixteen blocks in planes. Where a plane is two registers, one half is encrypted after the other, since a round of
-    // eight blocks needs all registers.
+    // Encrypts sixteen blocks in planes. Where a plane takes two registers, one half is encrypted after the other, since a
+    // round of eight blocks needs all registers.
     #[inline(always)]
     pub(crate) fn encrypt_planes(&self, keys: &[KeyPlanes; 15], start: Planes) -> Planes
         requires { AreReady keys.now (schedule self.now) (round_count self.now) }
@@ -300,21 +299,21 @@ impl AesKey {
         self.is_key();
         let mut half = lower(start);
         self.encrypt_half(keys, &mut half);
-        // Nothing uses the other lanes, so LLVM leaves out the steps that store them.
+        // The other lanes are not used, so LLVM leaves out the steps that store them.
         let (first, second, _, _) = planes::store(Planes::from_half(half));
         (first.to_array(), second.to_array())
     }
 
     /// Returns this key made ready for `InverseKey::decrypt` (FIPS 197, 5.3.5). Not constant time: it looks up the S-box by the
-    /// bytes of the schedule, and then four tables of 256 words by what it found.
+    /// bytes of the schedule, and four tables of 256 words by the bytes that it finds there.
     pub fn inverse(&self) -> InverseKey
         ensures { IsInverse result self.now }
     {
         InverseKey::new(unmix_words(&self.words, self.size + 6), self.size)
     }
 
-    /// Returns the block of 16 bytes that the cipher takes to `block`; it is the only one (FIPS 197, 5.3). For many blocks
-    /// make the `inverse` once. Not constant time, as `inverse` and `InverseKey::decrypt`.
+    /// Returns the block of 16 bytes that the cipher takes to `block`; it is the only one (FIPS 197, 5.3). To decrypt many
+    /// blocks, make the `inverse` once. Not constant time: see `inverse` and `InverseKey::decrypt`.
     pub fn decrypt(&self, block: &Block) -> Block
         ensures value { IsPreimage self.now block.now result }
         ensures is_block { IsBlock result }

@@ -1,9 +1,9 @@
-//! The round keys of AES (FIPS 197, 5.2) in eight planes of bits, each for eight blocks.
+//! The round keys of AES (FIPS 197, 5.2) as eight planes of bits each, for eight blocks.
 
 ghost use Rattle.std.specs.Prelude.{◌≡◌, ℕ, ◌<◌};
 ghost use Rattle.std.specs.Prelude.{slice_index, bit_xor, length};
 ghost use Rattle.std.specs.Int.{bit_at, to_le_bytes, w128};
-ghost use Rattle.aes.specs.Columns.{columns_of};
+ghost use Rattle.aes.specs.Code.Columns.{columns_of};
 ghost use Rattle.aes.specs.Code.Planes.{HoldsLanes, HoldsWords, spot, word_byte, AreReady};
 
 use crate::columns::round_key;
@@ -13,8 +13,8 @@ use octets::le_bytes;
 use std::simd::prelude::*;
 use std::simd::u8x16;
 
-// Eight planes of 16 lanes as numbers, the first lane least significant. An array of numbers starts at a multiple of 16
-// bytes in memory, and so a sum takes a plane from there without a load before it; an array of vectors may start anywhere.
+// Eight planes of 16 lanes as numbers, the first lane least significant. Numbers are aligned to 16 bytes, so an XOR can read a
+// plane from memory. A plane of an array of vectors, which may be unaligned, would have to be loaded first.
 pub(crate) type KeyPlanes = [u128; 8];
 
 // Spreads bit j of each of 16 key bytes to all eight bits of its lane.
@@ -28,7 +28,7 @@ fn plane(key: u8x16, j: u8) -> u8x16
     u8x16::splat(0) - ((key >> u8x16::splat(j)) & u8x16::splat(1))
 }
 
-// The planes in which each of eight blocks has these 16 key bytes.
+// The planes of eight blocks that all have these 16 key bytes.
 #[inline(always)]
 pub(crate) fn spread(key: u8x16) -> HalfPlanes
     ensures { HoldsLanes 16 result (λ l k. slice_index key l) }
@@ -53,7 +53,7 @@ fn number_of(lanes: u8x16) -> u128
     u128::from_le_bytes(lanes.to_array())
 }
 
-// The lanes that are the bytes of the number, the least significant first.
+// The lanes that are the bytes of a number, the least significant first.
 #[inline(always)]
 fn lanes_in(number: u128) -> u8x16
     ensures { result ≡ to_le_bytes w128 number }
@@ -105,7 +105,7 @@ fn key_bytes(words: &[u32; 60], round: usize) -> u8x16
     u8x16::from_array(first_sixteen(spread_four(round_key(words, round))))
 }
 
-// Adds the constant of the S-box to each byte of a round key, since the S-box in planes leaves it out.
+// Adds the constant of the S-box, which the S-box in planes leaves out, to each byte of a round key.
 #[inline(always)]
 fn with_constant(key: u8x16) -> u8x16
     ensures { (i : ℕ) → i < 16 → slice_index result i ≡ bit_xor (slice_index key i) 0x63 }
@@ -121,8 +121,8 @@ pub(crate) fn rows(key: u8x16) -> u8x16
     key.swizzle([0, 4, 8, 12, 1, 5, 9, 13, 2, 6, 10, 14, 3, 7, 11, 15])
 }
 
-// Writes the round keys in planes for eight blocks. Every key but the first has the constant of the S-box added, and the last is
-// in the order of the bytes of a block. They are written in place: to return them would copy 1,920 bytes.
+// Writes the round keys as planes for eight blocks. Every key but the first has the constant of the S-box added, and the last
+// is in the order of the bytes of a block. They are written in place, since returning them would copy 1,920 bytes.
 pub(crate) fn ready_planes(keys: &mut [KeyPlanes; 15], words: &[u32; 60], last: usize)
     requires { (0 < last) × (last < 15) }
     ensures { AreReady keys.new (columns_of words.now) last }

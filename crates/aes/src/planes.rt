@@ -1,4 +1,4 @@
-//! Sixteen blocks at once (FIPS 197, 5.1) in eight planes of bits, without tables: bit j of the byte in row r and column c of
+//! Sixteen blocks at once (FIPS 197, 5.1) as eight planes of bits, without tables: bit j of the byte in row r and column c of
 //! block q is in plane j, in lane 16 (q / 8) + 4 r + c, at bit q mod 8.
 
 ghost use Rattle.std.specs.Prelude.{◌≡◌, ℕ, ◌<◌, ◌+◌, ◌-◌, ◌*◌, ◌/◌, ◌%◌, ◌==◌, if◌then◌else◌};
@@ -19,13 +19,13 @@ pub(crate) type Planes = [u8x32; 8];
 // The planes of eight blocks: the first 16 lanes of `Planes`, or the last 16.
 pub(crate) type HalfPlanes = [u8x16; 8];
 
-// The lane from which ShiftRows brings each lane.
+// The lane from which ShiftRows moves each lane.
 const SHIFTED: [usize; 32] = [
     0, 1, 2, 3, 5, 6, 7, 4, 10, 11, 8, 9, 15, 12, 13, 14, 16, 17, 18, 19, 21, 22, 23, 20, 26, 27,
     24, 25, 31, 28, 29, 30,
 ];
 
-// The lane from which ShiftRows brings each lane, where the new lanes are in the order of the bytes of a block.
+// The lane from which ShiftRows moves each lane, if the new lanes are in the order of the bytes of a block.
 const SHIFTED_OUT: [usize; 32] = [
     0, 5, 10, 15, 1, 6, 11, 12, 2, 7, 8, 13, 3, 4, 9, 14, 16, 21, 26, 31, 17, 22, 27, 28, 18, 23,
     24, 29, 19, 20, 25, 30,
@@ -91,8 +91,8 @@ const TWICE: [usize; 32] = [
     13, 14, 15,
 ];
 
-// The S-box without its constant, on each byte of eight planes: a circuit of 83 XOR gates and 32 AND gates. Of the
-// orders that were tried, this one takes the least time on planes of 16 bytes.
+// The S-box without its constant, on each byte of eight planes: a circuit of 83 XOR gates and 32 AND gates. They are in the
+// order that took the least time on planes of 16 bytes, of those that were tried.
 macro_rules! sbox_circuit {
     ($p:expr) => {{
         let x0 = $p[7];
@@ -222,7 +222,7 @@ macro_rules! sbox_circuit {
     }};
 }
 
-// XORs eight planes into eight others, which adds the bytes.
+// XORs eight planes with eight others, which adds the bytes.
 macro_rules! xor_each {
     ($p:expr, $q:expr) => {
         [
@@ -278,11 +278,11 @@ pub(crate) trait BitPlanes: Copy {
     // The planes as lists of lanes.
     ghost planes: { Self → List (List ℕ) };
 
-    // The planes whose halves are each a copy of these 16 lanes.
+    // The planes of which each half is a copy of these 16 lanes.
     fn from_half(half: HalfPlanes) -> Self
         ensures { (g : ℕ → ℕ → ℕ) → HoldsLanes 16 half g → HoldsLanes count (planes result) (λ l k. g (l % 16) k) };
 
-    // Applies the S-box without its constant to each byte. The round keys have the constant.
+    // Applies the S-box without its constant to each byte. The constant is part of the round keys.
     fn substitute(self) -> Self
         ensures { (g : ℕ → ℕ → ℕ) → ((l k : ℕ) → g l k < 256) → HoldsLanes count (planes self) g
             → HoldsLanes count (planes result) (λ l k. linear_sbox (g l k)) };
@@ -464,7 +464,7 @@ fn mix_columns<P: BitPlanes>(p: P) -> P
     next.add(both.two_below()).add(both.double())
 }
 
-// Any round but the last (FIPS 197, 5.1). The constant of the S-box is in the key.
+// Any round but the last (FIPS 197, 5.1). The constant of the S-box is part of the key.
 #[inline(always)]
 pub(crate) fn round<P: BitPlanes>(x: P, key: P) -> P
     ensures { (f : ℕ → List ℕ) (ws : List (List ℕ)) → ((q : ℕ) → IsBlock (f q))
@@ -488,9 +488,9 @@ pub(crate) fn last_round<P: BitPlanes>(x: P, key: P) -> P
     x.shift_out().substitute().add(key)
 }
 
-// Exchanges bits between two planes whose numbers differ by `by`, which is 1, 2 or 4. A bit of x whose place has the binary digit
-// of weight `by` goes down by `by` places into y, and a bit of y whose place lacks it goes up into x. The mask has these places
-// of y.
+// Exchanges bits between two planes whose numbers differ by `by`, which is 1, 2 or 4. A bit of x at a place whose binary digit
+// of weight `by` is 1 moves down by `by` places into y, and a bit of y at a place where that digit is 0 moves up into x. The
+// mask has these places of y.
 #[inline(always)]
 fn exchange(x: u8x32, y: u8x32, by: u8, mask: u8) -> (u8x32, u8x32)
     requires { IsMask by mask }
@@ -546,8 +546,8 @@ pub(crate) fn store(p: Planes) -> (u8x64, u8x64, u8x64, u8x64)
         → HoldsBlocks result.0 f × HoldsBlocks result.1 (λ q. f (4 + q))
         × HoldsBlocks result.2 (λ q. f (8 + q)) × HoldsBlocks result.3 (λ q. f (12 + q)) }
 {
-    let made = transpose(p);
-    let (first, third) = halves(made[0], made[1], made[2], made[3]);
-    let (second, fourth) = halves(made[4], made[5], made[6], made[7]);
+    let blocks = transpose(p);
+    let (first, third) = halves(blocks[0], blocks[1], blocks[2], blocks[3]);
+    let (second, fourth) = halves(blocks[4], blocks[5], blocks[6], blocks[7]);
     (first, second, third, fourth)
 }

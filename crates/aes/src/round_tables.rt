@@ -1,8 +1,7 @@
 //! The tables of a round (FIPS 197, 5.1: SubBytes and MixColumns of one byte) and of a round of the equivalent inverse cipher
 //! (5.3.5), one for each row of the byte.
 
-// Entry x is the column 02 S(x), S(x), S(x), 03 S(x): what the byte x in row 0 adds to its column after
-// SubBytes and MixColumns.
+// Entry x is the column 02 S(x), S(x), S(x), 03 S(x), which the byte x in row 0 adds to the result of SubBytes and MixColumns.
 const TABLE: [u32; 256] = [
     0xa56363c6, 0x847c7cf8, 0x997777ee, 0x8d7b7bf6, 0x0df2f2ff, 0xbd6b6bd6, 0xb16f6fde, 0x54c5c591,
     0x50303060, 0x03010102, 0xa96767ce, 0x7d2b2b56, 0x19fefee7, 0x62d7d7b5, 0xe6abab4d, 0x9a7676ec,
@@ -38,7 +37,7 @@ const TABLE: [u32; 256] = [
     0xc3414182, 0xb0999929, 0x772d2d5a, 0x110f0f1e, 0xcbb0b07b, 0xfc5454a8, 0xd6bbbb6d, 0x3a16162c,
 ];
 
-// The table of row 1: each column is moved down by one row, around the end.
+// The table of row 1: each column is rotated down by one row.
 const TABLE_ROW1: [u32; 256] = [
     0x6363c6a5, 0x7c7cf884, 0x7777ee99, 0x7b7bf68d, 0xf2f2ff0d, 0x6b6bd6bd, 0x6f6fdeb1, 0xc5c59154,
     0x30306050, 0x01010203, 0x6767cea9, 0x2b2b567d, 0xfefee719, 0xd7d7b562, 0xabab4de6, 0x7676ec9a,
@@ -74,7 +73,7 @@ const TABLE_ROW1: [u32; 256] = [
     0x414182c3, 0x999929b0, 0x2d2d5a77, 0x0f0f1e11, 0xb0b07bcb, 0x5454a8fc, 0xbbbb6dd6, 0x16162c3a,
 ];
 
-// The table of row 2: each column is moved down by two rows, around the end.
+// The table of row 2: each column is rotated down by two rows.
 const TABLE_ROW2: [u32; 256] = [
     0x63c6a563, 0x7cf8847c, 0x77ee9977, 0x7bf68d7b, 0xf2ff0df2, 0x6bd6bd6b, 0x6fdeb16f, 0xc59154c5,
     0x30605030, 0x01020301, 0x67cea967, 0x2b567d2b, 0xfee719fe, 0xd7b562d7, 0xab4de6ab, 0x76ec9a76,
@@ -110,7 +109,7 @@ const TABLE_ROW2: [u32; 256] = [
     0x4182c341, 0x9929b099, 0x2d5a772d, 0x0f1e110f, 0xb07bcbb0, 0x54a8fc54, 0xbb6dd6bb, 0x162c3a16,
 ];
 
-// The table of row 3: each column is moved down by three rows, around the end.
+// The table of row 3: each column is rotated down by three rows.
 const TABLE_ROW3: [u32; 256] = [
     0xc6a56363, 0xf8847c7c, 0xee997777, 0xf68d7b7b, 0xff0df2f2, 0xd6bd6b6b, 0xdeb16f6f, 0x9154c5c5,
     0x60503030, 0x02030101, 0xcea96767, 0x567d2b2b, 0xe719fefe, 0xb562d7d7, 0x4de6abab, 0xec9a7676,
@@ -146,11 +145,11 @@ const TABLE_ROW3: [u32; 256] = [
     0x82c34141, 0x29b09999, 0x5a772d2d, 0x1e110f0f, 0x7bcbb0b0, 0xa8fc5454, 0x6dd6bbbb, 0x2c3a1616,
 ];
 
-// The four of them, one after the other: one address reaches each entry.
+// The four tables in one array, so that each entry is reached from one address.
 pub(crate) const TABLES: [[u32; 256]; 4] = [TABLE, TABLE_ROW1, TABLE_ROW2, TABLE_ROW3];
 
-// Entry S(y) is the column 0e y, 09 y, 0d y, 0b y: what the byte y in row 0 adds to the product of its
-// column and the inverse matrix.
+// Entry S(y) is the column 0e y, 09 y, 0d y, 0b y, which the byte y in row 0 adds to the product of the inverse matrix and its
+// column.
 const INVERSE_TABLE: [u32; 256] = [
     0x50a7f451, 0x5365417e, 0xc3a4171a, 0x965e273a, 0xcb6bab3b, 0xf1459d1f, 0xab58faac, 0x9303e34b,
     0x55fa3020, 0xf66d76ad, 0x9176cc88, 0x254c02f5, 0xfcd7e54f, 0xd7cb2ac5, 0x80443526, 0x8fa362b5,
@@ -186,7 +185,7 @@ const INVERSE_TABLE: [u32; 256] = [
     0x7101a839, 0xdeb30c08, 0x9ce4b4d8, 0x90c15664, 0x6184cb7b, 0x70b632d5, 0x745c6c48, 0x4257b8d0,
 ];
 
-// The inverse table of row 1: each column is moved down by one row, around the end.
+// The inverse table of row 1: each column is rotated down by one row.
 const INVERSE_ROW1: [u32; 256] = [
     0xa7f45150, 0x65417e53, 0xa4171ac3, 0x5e273a96, 0x6bab3bcb, 0x459d1ff1, 0x58faacab, 0x03e34b93,
     0xfa302055, 0x6d76adf6, 0x76cc8891, 0x4c02f525, 0xd7e54ffc, 0xcb2ac5d7, 0x44352680, 0xa362b58f,
@@ -222,7 +221,7 @@ const INVERSE_ROW1: [u32; 256] = [
     0x01a83971, 0xb30c08de, 0xe4b4d89c, 0xc1566490, 0x84cb7b61, 0xb632d570, 0x5c6c4874, 0x57b8d042,
 ];
 
-// The inverse table of row 2: each column is moved down by two rows, around the end.
+// The inverse table of row 2: each column is rotated down by two rows.
 const INVERSE_ROW2: [u32; 256] = [
     0xf45150a7, 0x417e5365, 0x171ac3a4, 0x273a965e, 0xab3bcb6b, 0x9d1ff145, 0xfaacab58, 0xe34b9303,
     0x302055fa, 0x76adf66d, 0xcc889176, 0x02f5254c, 0xe54ffcd7, 0x2ac5d7cb, 0x35268044, 0x62b58fa3,
@@ -258,7 +257,7 @@ const INVERSE_ROW2: [u32; 256] = [
     0xa8397101, 0x0c08deb3, 0xb4d89ce4, 0x566490c1, 0xcb7b6184, 0x32d570b6, 0x6c48745c, 0xb8d04257,
 ];
 
-// The inverse table of row 3: each column is moved down by three rows, around the end.
+// The inverse table of row 3: each column is rotated down by three rows.
 const INVERSE_ROW3: [u32; 256] = [
     0x5150a7f4, 0x7e536541, 0x1ac3a417, 0x3a965e27, 0x3bcb6bab, 0x1ff1459d, 0xacab58fa, 0x4b9303e3,
     0x2055fa30, 0xadf66d76, 0x889176cc, 0xf5254c02, 0x4ffcd7e5, 0xc5d7cb2a, 0x26804435, 0xb58fa362,
@@ -294,7 +293,7 @@ const INVERSE_ROW3: [u32; 256] = [
     0x397101a8, 0x08deb30c, 0xd89ce4b4, 0x6490c156, 0x7b6184cb, 0xd570b632, 0x48745c6c, 0xd04257b8,
 ];
 
-// The four of the inverse, one after the other.
+// The four inverse tables in one array.
 pub(crate) const INVERSE_TABLES: [[u32; 256]; 4] = [
     INVERSE_TABLE,
     INVERSE_ROW1,

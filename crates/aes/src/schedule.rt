@@ -1,9 +1,9 @@
 //! The key schedule (FIPS 197, 5.2). A word is a number of 32 bits, its first byte the least significant one.
 
 ghost use Rattle.std.specs.Prelude.{◌≡◌, ℕ, ◌+◌, ◌*◌, ◌^◌, ◌≤◌, ◌/◌, ◌<◌, length, take, drop, slice_index};
-ghost use Rattle.aes.specs.Columns.{column_of, columns_of};
+ghost use Rattle.aes.specs.Code.Columns.{column_of, columns_of};
 ghost use Rattle.aes.specs.Schedule.{xor_word, sub_word, rot_word, rcon, temp, MeetsRecurrence};
-ghost use Rattle.aes.specs.KeptWords.{table};
+ghost use Rattle.aes.specs.Code.KeptWords.{table};
 ghost use Rattle.aes.specs.Code.ExpandedKey.{IsKeySize};
 
 use crate::sbox::substitute;
@@ -25,7 +25,7 @@ fn rot_word(w: u32) -> u32
     w.rotate_left(24)
 }
 
-// The first byte of each round constant; they are numbered from 1 (5.2).
+// The first byte of each round constant. The constants are numbered from 1 (5.2), and entry 0 is not used.
 const RCON: [u8; 11] = [
     0, 0x01, 0x02, 0x04, 0x08, 0x10, 0x20, 0x40, 0x80, 0x1b, 0x36,
 ];
@@ -66,8 +66,8 @@ fn key_word(key: &[u8], i: usize) -> u32
     LittleEndian::read_u32(&key[4 * i..])
 }
 
-// The schedule of a key of nk words, and zero words after it. It is inlined, so that the caller's constant nk leaves no
-// divisions.
+// The schedule of a key of nk words, and zero words after it. It is inlined because the caller's nk is a constant: no division
+// is left.
 #[inline(always)]
 fn expand_by(key: &[u8], nk: usize) -> [u32; 60]
     requires size { IsKeySize nk }
@@ -85,7 +85,7 @@ fn expand_by(key: &[u8], nk: usize) -> [u32; 60]
     words
 }
 
-// The schedule of a key of nk words, and zero words after it. Each size of key has its own code, without divisions.
+// The schedule of a key of nk words, and zero words after it. Each size of key has code without divisions.
 pub(crate) fn expand(key: &[u8], nk: usize) -> [u32; 60]
     requires size { IsKeySize nk }
     requires long { length key.now ≡ 4 * nk }
@@ -101,9 +101,8 @@ pub(crate) fn expand(key: &[u8], nk: usize) -> [u32; 60]
     }
 }
 
-/// The law of the key schedule (FIPS 197, 5.2): a word below Nk is the key's; any other is the sum of the
-/// word Nk places back and what is made of the word before it. The call does nothing; its contract is the
-/// law.
+/// The law of the key schedule (FIPS 197, 5.2): the first Nk words are the key's, and any other word is the sum of the word Nk
+/// places back and temp, which is made of the word before it. The call does nothing; its contract is the law.
 pub fn schedule_recurs()
     ensures { MeetsRecurrence }
 {}

@@ -2,9 +2,11 @@
 use Rattle.std.specs.Prelude.{◌≡◌, ◌≢◌, ℕ, ◌+◌, true, List}
 use Rattle.octets.specs.Numbers.{HasOutcome}
 use Rattle.aead.specs.declared.suite.Suite.{Suite}
+use Rattle.aead.specs.declared.pass_state.PassState.{PassState}
 use Rattle.aead.specs.Suites.{ByGcmSiv, construction_of, is_one_pass, suite_number}
 use Rattle.aead.specs.Sealing.{Setting}
-use Rattle.aead.specs.KeyedPasses.{setting_of, LengthsRefused}
+use Rattle.aead.specs.PassStates.{HasHashKey}
+use Rattle.aead.specs.KeyedPasses.{setting_of, ResumeRefused}
 use Rattle.capi.specs.Sealers.{sealer_mark}
 
 -- the mark is that of no suite, in this kind of struct
@@ -19,7 +21,9 @@ NotOfSealer mark = (suite : Suite) → is_one_pass (construction_of suite) ≡ t
 abbrev pub NotOfSiv : (kind mark : ℕ) → Type 0
 NotOfSiv kind mark = (suite : Suite) → construction_of suite ≡ ByGcmSiv → mark ≢ kind + suite_number suite
 
--- under the bytes of a key and of a nonce, what is saved under any associated data is gone on from; or a length is wrong
-abbrev pub Resumes : (status : ℕ) → Suite → (key nonce : List ℕ) → (Setting → Type 0) → Type 0
-Resumes status suite key nonce GoesOn =
-    HasOutcome status ((aad : List ℕ) → GoesOn (setting_of suite key nonce aad)) (LengthsRefused suite key nonce)
+-- under the bytes of a key and of a nonce, from which the keys of the hash in these numbers come, what is saved under any
+-- associated data is gone on from; or a length is wrong, or the numbers are of another key or nonce
+abbrev pub Resumes : (status : ℕ) → PassState → Suite → (key nonce : List ℕ) → (Setting → Type 0) → Type 0
+Resumes status n suite key nonce GoesOn = HasOutcome status
+    (HasHashKey n (setting_of suite key nonce) × ((aad : List ℕ) → GoesOn (setting_of suite key nonce aad)))
+    (ResumeRefused n suite key nonce)

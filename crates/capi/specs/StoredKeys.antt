@@ -1,6 +1,6 @@
 -- A key that is kept in C's memory between messages.
 use Rattle.std.specs.Prelude.{◌≡◌, ◌≢◌, ℕ, ◌-◌, List, drop, replicate}
-use Rattle.gf128.specs.KeptMultiples.{KeepsMultiples}
+use Rattle.gf128.specs.Code.KeptMultiples.{KeepsMultiples}
 use Rattle.aead.specs.declared.suite.Suite.{Suite}
 use Rattle.aead.specs.Suites.{key_length}
 use Rattle.capi.specs.declared.stored_key.KeyNumbers.{KeyNumbers}

@@ -208,8 +208,8 @@ pub extern "C" fn aeadkit_opener_save(opener: &StoredOpener, saved: &mut SavedPa
 }
 
 /// Goes on from what was saved, in the pass that it was in, under the key and the nonce of the opening. `NOT_BEGUN` if no
-/// opening was saved, then `KeyLength`, then `NonceLength`. What the struct was before makes no difference. On error zeros
-/// are left in it.
+/// opening was saved, `KeyLength`, `NonceLength`, then `TagMismatch` if it was saved under another key or nonce. What the
+/// struct was before makes no difference. On error zeros are left in it.
 #[unsafe(no_mangle)]
 pub extern "C" fn aeadkit_opener_resume(
     opener: &mut StoredOpener,
@@ -218,10 +218,10 @@ pub extern "C" fn aeadkit_opener_resume(
     saved: &SavedPasses,
 ) -> u32
     ensures first { (suite : Suite) → saved.now.mark ≡ checking + suite_number suite
-        → Resumes result suite key.now nonce.now (λ s. (tag bytes : List ℕ)
+        → Resumes result saved.now.state.pass suite key.now nonce.now (λ s. (tag bytes : List ℕ)
         → IsInFirstPass saved.now.state s tag bytes → HoldsChecking opener.new s tag bytes) }
     ensures second { (suite : Suite) → saved.now.mark ≡ opening + suite_number suite
-        → Resumes result suite key.now nonce.now (λ s. (tag : List ℕ) (first : ℕ) (bytes : List ℕ)
+        → Resumes result saved.now.state.pass suite key.now nonce.now (λ s. (tag : List ℕ) (first : ℕ) (bytes : List ℕ)
         → IsInSecondPass saved.now.state s tag first bytes → HoldsOpening opener.new s tag first bytes) }
     ensures not_begun { NotMarked checking saved.now.mark → NotMarked opening saved.now.mark
         → result ≡ not_begun }

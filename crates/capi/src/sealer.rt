@@ -148,7 +148,8 @@ pub extern "C" fn aeadkit_sealer_save(sealer: &StoredSealer, saved: &mut SavedSe
 }
 
 /// Goes on from what was saved, under the key and the nonce of the sealing. `NOT_BEGUN` if no sealing in pieces was saved,
-/// then `KeyLength`, then `NonceLength`. What the struct was before makes no difference. On error zeros are left in it.
+/// `KeyLength`, `NonceLength`, then `TagMismatch` if it was saved under another key or nonce. What the struct was before makes
+/// no difference. On error zeros are left in it.
 #[unsafe(no_mangle)]
 pub extern "C" fn aeadkit_sealer_resume(
     sealer: &mut StoredSealer,
@@ -157,7 +158,7 @@ pub extern "C" fn aeadkit_sealer_resume(
     saved: &SavedSealer,
 ) -> u32
     ensures known { (suite : Suite) → is_one_pass (construction_of suite) ≡ true → saved.now.mark ≡ sealer_mark suite
-        → Resumes result suite key.now nonce.now (λ s. (text : List ℕ)
+        → Resumes result saved.now.state suite key.now nonce.now (λ s. (text : List ℕ)
         → HoldsState saved.now.state s text → HoldsText sealer.new s text) }
     ensures not_begun { NotOfSealer saved.now.mark → result ≡ not_begun }
     ensures refused { result ≢ 0 → sealer.new ≡ zeros }

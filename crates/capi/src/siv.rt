@@ -205,8 +205,8 @@ pub extern "C" fn aeadkit_siv_save(siv: &StoredSiv, saved: &mut SavedPasses) -> 
 }
 
 /// Goes on from what was saved, in the reading that it was in, under the key and the nonce of the sealing. `NOT_BEGUN` if no
-/// sealing by two readings was saved, then `KeyLength`, then `NonceLength`. What the struct was before makes no difference.
-/// On error zeros are left in it.
+/// sealing by two readings was saved, `KeyLength`, `NonceLength`, then `TagMismatch` if it was saved under another key or nonce.
+/// What the struct was before makes no difference. On error zeros are left in it.
 #[unsafe(no_mangle)]
 pub extern "C" fn aeadkit_siv_resume(
     siv: &mut StoredSiv,
@@ -216,11 +216,11 @@ pub extern "C" fn aeadkit_siv_resume(
 ) -> u32
     ensures first { (suite : Suite) → construction_of suite ≡ ByGcmSiv
         → saved.now.mark ≡ absorbing + suite_number suite
-        → Resumes result suite key.now nonce.now (λ s. (text : List ℕ)
+        → Resumes result saved.now.state.pass suite key.now nonce.now (λ s. (text : List ℕ)
         → IsInFirstReading saved.now.state s text → HoldsAbsorbing siv.new s text) }
     ensures second { (suite : Suite) → construction_of suite ≡ ByGcmSiv
         → saved.now.mark ≡ writing + suite_number suite
-        → Resumes result suite key.now nonce.now (λ s. (first text : List ℕ)
+        → Resumes result saved.now.state.pass suite key.now nonce.now (λ s. (first text : List ℕ)
         → IsInSecondReading saved.now.state s first text → HoldsWriting siv.new s first text) }
     ensures not_begun { NotOfSiv absorbing saved.now.mark → NotOfSiv writing saved.now.mark
         → result ≡ not_begun }

@@ -2,8 +2,8 @@
 
 ghost use Rattle.std.specs.Prelude.{◌≡◌, ◌-◌, length, drop, replicate};
 ghost use Rattle.aes.specs.Cipher.{IsKey, IsKeyLength};
-ghost use Rattle.aes.specs.KeptWords.{KeepsSchedule};
-ghost use Rattle.gf128.specs.KeptMultiples.{KeepsMultiples};
+ghost use Rattle.aes.specs.Code.KeptWords.{KeepsSchedule};
+ghost use Rattle.gf128.specs.Code.KeptMultiples.{KeepsMultiples};
 ghost use Rattle.aead.specs.declared.suite.Suite.{Suite};
 ghost use Rattle.aead.specs.Suites.{key_length};
 ghost use Rattle.aead.specs.Sealing.{hash_key};

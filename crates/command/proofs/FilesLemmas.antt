@@ -22,8 +22,10 @@ use Rattle.command.specs.declared.words.FileCommand.{FileCommand}
 use Rattle.command.specs.declared.words.FileCommand.TheVariants.{Seal, Open}
 use Rattle.command.specs.Aead.{IsReady, IsCalled, CallFailed}
 use Rattle.command.specs.Files.{Answer, Giving, SealsOnce, SealsTwice, OpensThrice, SealingBy, Sealing, Engine}
-use Rattle.command.specs.Files.{OutletTakes, HoldsAll, HoldsStart}
-use Rattle.command.specs.Files.{NoCall, EngineRan, Ran, FileDone, FileStopped, StopsLate, EngineOf, Wrote}
+use Rattle.command.specs.Files.{HoldsAll, HoldsStart}
+use Rattle.command.specs.Code.Engines.{OutletTakes}
+use Rattle.command.specs.Files.{NoCall, FileDone, FileStopped, StopsLate, EngineOf, Wrote}
+use Rattle.command.specs.Code.Engines.{EngineRan, Ran}
 use Rattle.command.specs.NewFiles.{held}
 
 -- one reading of a text

@@ -1,4 +1,4 @@
--- The results of `seal` and `open` on a suite's name and values given as digits.
+-- The results of `seal` and `open` for a suite's name and values given as digits.
 use Rattle.std.specs.Prelude.{◌≡◌, ◌≢◌, ℕ, ◌⊎◌, List, length, ⊤}
 use Rattle.octets.specs.declared.fault.Fault.{Fault}
 use Rattle.octets.specs.declared.fault.Fault.TheVariants.{KeyLength, NonceLength, OutOfMemory}
@@ -16,8 +16,7 @@ pub record IsSuite (word : List ℕ) : Type 0 where
   pub suite : Suite
   pub is : word ≡ suite_name suite
 
--- the words name a suite and spell a key, whatever its length, a nonce, associated data, and a text or
--- sealed bytes
+-- the words name a suite and spell a key and a nonce of any length, associated data, and a text or sealed bytes
 pub record IsSpelled (words : Inputs) (keyed : Keyed) (nonce aad body : List ℕ) : Type 0 where
   pub suite_is : words.suite.now ≡ suite_name keyed.suite
   pub key_is : Spells words.key.now keyed.key
@@ -31,7 +30,7 @@ pub record IsReady (words : Inputs) (keyed : Keyed) (nonce aad body : List ℕ) 
   pub key_long : length keyed.key ≡ key_length keyed.suite
   pub nonce_long : length nonce ≡ 12
 
--- the words spell the inputs of a call, for which this holds
+-- the words spell the inputs of a call, and P holds of these
 pub record IsCalled (words : Inputs) (P : Setting → List ℕ → Type 0) : Type 0 where
   pub keyed : Keyed
   pub nonce : List ℕ
@@ -40,7 +39,7 @@ pub record IsCalled (words : Inputs) (P : Setting → List ℕ → Type 0) : Typ
   pub ready : IsReady words keyed nonce aad body
   pub is : P (setting keyed nonce aad) body
 
--- the call returned a fault, for which this holds
+-- the call returned a fault, and P holds of the inputs and the fault
 pub record CallFailed (P : Setting → List ℕ → Fault → Type 0) (words : Inputs) (e : Failure) : Type 0 where
   pub fault : Fault
   pub is : e ≡ OfFault fault
@@ -50,11 +49,11 @@ pub record CallFailed (P : Setting → List ℕ → Fault → Type 0) (words : I
 abbrev pub IsSealed : Inputs → List ℕ → Type 0
 IsSealed words sealed = IsCalled words (λ s text. Opened s sealed text)
 
--- text is what the sealed bytes that are spelled seal
+-- the sealed bytes that are spelled are the sealing of the text
 abbrev pub IsOpened : Inputs → List ℕ → Type 0
 IsOpened words text = IsCalled words (λ s sealed. Opened s sealed text)
 
--- the key that is spelled is none of the suite's
+-- the length of the key that is spelled is not that of the suite
 pub record HasWrongKey (words : Inputs) : Type 0 where
   pub keyed : Keyed
   pub nonce : List ℕ
@@ -63,7 +62,7 @@ pub record HasWrongKey (words : Inputs) : Type 0 where
   pub spelled : IsSpelled words keyed nonce aad body
   pub key_long : length keyed.key ≢ key_length keyed.suite
 
--- the key is one of the suite's, and the nonce that is spelled is not 12 bytes long
+-- the key has the suite's length, but the nonce that is spelled is not 12 bytes long
 pub record HasWrongNonce (words : Inputs) : Type 0 where
   pub keyed : Keyed
   pub nonce : List ℕ
@@ -73,12 +72,12 @@ pub record HasWrongNonce (words : Inputs) : Type 0 where
   pub key_long : length keyed.key ≡ key_length keyed.suite
   pub nonce_long : length nonce ≢ 12
 
--- some value is no hex
+-- some value is not hexadecimal
 abbrev pub HasBadHex : Inputs → Type 0
 HasBadHex words = IsBadHex words.key.now
     ⊎ (IsBadHex words.nonce.now ⊎ (IsBadHex words.aad.now ⊎ IsBadHex words.body.now))
 
--- why the words give no inputs of a call
+-- why the words don't give the inputs of a call
 abbrev pub InputsRefused : Inputs → Failure → Type 0
 InputsRefused words UnknownSuite = ¬ IsSuite words.suite.now
 InputsRefused words BadHex = IsSuite words.suite.now × HasBadHex words
@@ -87,6 +86,6 @@ InputsRefused words (OfFault NonceLength) = HasWrongNonce words
 InputsRefused words (OfFault OutOfMemory) = ⊤
 InputsRefused words _ = ⊥
 
--- why the words have no result: they give no inputs, or the call is refused by its own rule
+-- why the words have no result: they don't give inputs, or the call refuses them for this reason
 abbrev pub IsRefused : (Setting → List ℕ → Fault → Type 0) → Inputs → Failure → Type 0
 IsRefused refused words e = InputsRefused words e ⊎ CallFailed refused words e

@@ -33,8 +33,8 @@ pub record Printed (property : List ℕ → Type 0) (before after : Option (List
   pub line : Appends before after (hex_line bytes)
   pub done : status ≡ 0
 
--- a request was answered, over files that give these bytes in each reading: what standard output held
--- before, and holds after, and the status
+-- a request was answered, where each file gives these bytes in each reading: the contents of standard output before and after,
+-- and the status
 abbrev pub Answered : (List ℕ → ℕ → Option (List ℕ)) → (before after : Option (List ℕ)) → PrintRequest → ℕ
     → Type 0
 Answered files before after (Seal inputs) status = Printed (IsSealed inputs) before after status
@@ -45,11 +45,11 @@ Answered files before after (Unwrap key sealed pad) status =
     Printed (IsUnwrapped pad key.now sealed.now) before after status
 Answered files before after (Check path) status = IsChecked (files path.now 0) before after status
 
--- it is refused for this reason, and nothing is printed, or standard output failed
+-- the request is refused for this reason and nothing is printed, or standard output failed
 abbrev pub Silent : (before after : Option (List ℕ)) → (refused : Failure → Type 0) → Failure → Type 0
 Silent before after refused e = (refused e × (after ≡ before)) ⊎ IsOutputFailure e
 
--- a request is refused, over files that give these bytes in each reading
+-- a request is refused, where each file gives these bytes in each reading
 abbrev pub Stopped : (List ℕ → ℕ → Option (List ℕ)) → (before after : Option (List ℕ)) → PrintRequest
     → Failure → Type 0
 Stopped files before after (Seal inputs) e = Silent before after (IsRefused WholeSealRefused inputs) e
@@ -64,7 +64,7 @@ Stopped files before after (Check path) e = Silent before after (FileRefused (fi
 abbrev pub version_line : List ℕ
 version_line = codes "aeadkit " ++ (VERSION.now ++ 10 ∷ [])
 
--- the end of words that are not a request: help or the version is printed, with status 0, or they are refused and
+-- the answer to words that are not a request: help or the version is printed, with status 0, or the words are refused and
 -- nothing is printed
 abbrev pub IsRefusedAs : Refusal → Option (List ℕ) → Option (List ℕ) → Result ℕ Failure → Type 0
 IsRefusedAs (Help text) before after result = MatchResult result (λ status. status ≡ 0) IsOutputFailure
@@ -73,9 +73,8 @@ IsRefusedAs Version before after result =
 IsRefusedAs Words before after result = (result ≡ Err OfWords) × (after ≡ before)
 IsRefusedAs NoMemory before after result = (result ≡ Err (OfFault OutOfMemory)) × (after ≡ before)
 
--- what is printed for the words' request or refusal, and the status or the failure, over files that give these
--- bytes in each reading, that hold these once they are made, and outputs that hold these. A file command prints
--- nothing
+-- what is printed for a request or a refusal, and the status or the failure. `contents` are the bytes that each file gives in
+-- each reading, `blank` those that it holds once it is made, and `taken` those of an output. A file command prints nothing
 abbrev pub Answers : {O : Type 0} → (contents : List ℕ → ℕ → Option (List ℕ))
     → (blank : List ℕ → Option (List ℕ)) → (taken : O → Option (List ℕ)) → (before after : Option (List ℕ))
     → Result Request Refusal → Result ℕ Failure → Type 0
@@ -90,7 +89,7 @@ abbrev pub status_of : Result ℕ Failure → ℕ
 status_of (Ok status) = status
 status_of (Err failure) = failure_status failure
 
--- what is printed, and the status, if the words were read as this
+-- what is printed, and the status, if the words are read as this
 pub record Ends {O : Type 0} (contents : List ℕ → ℕ → Option (List ℕ)) (blank : List ℕ → Option (List ℕ))
     (taken : O → Option (List ℕ)) (before after : Option (List ℕ)) (read : Result Request Refusal)
     (status : ℕ) : Type 0 where
@@ -98,7 +97,7 @@ pub record Ends {O : Type 0} (contents : List ℕ → ℕ → Option (List ℕ))
   pub answers : Answers contents blank taken before after read result
   pub status_is : status ≡ status_of result
 
--- what is printed, and the status, for words that were read as some request or refusal
+-- what is printed, and the status, for words that are read as some request or refusal
 pub record Runs {O : Type 0} (contents : List ℕ → ℕ → Option (List ℕ)) (blank : List ℕ → Option (List ℕ))
     (taken : O → Option (List ℕ)) (before after : Option (List ℕ)) (status : ℕ) : Type 0 where
   pub read : Result Request Refusal

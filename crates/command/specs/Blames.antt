@@ -1,4 +1,4 @@
--- When a file command's `Read` and `Write` can come.
+-- When a file command can return `Read` and `Write`.
 use Rattle.std.specs.Prelude.{◌≡◌, ℕ, ◌⊎◌, Bool, true, List, Result, IfErr, ⊤}
 use Rattle.octets.specs.declared.fault.Fault.{Fault}
 use Rattle.octets.specs.declared.fault.Fault.TheVariants.{Read, Write}
@@ -8,7 +8,7 @@ use Rattle.command.specs.declared.failure.Failure.TheVariants.{Fault as OfFault}
 use Rattle.command.specs.declared.words.PrintRequest.{PrintRequest}
 use Rattle.command.specs.declared.words.PrintRequest.TheVariants.{Check}
 
--- devices of this type can fail: from some state to another the count of failures rises, or is at its maximum
+-- devices of this type can fail: between some two states the count of failures rises, or is at its maximum
 abbrev pub MayFail : {D : Type 0} → (D → ℕ) → Type 0
 MayFail {D} failures = (before : D) × (after : D) × Failed (failures before) (failures after)
 
@@ -26,7 +26,7 @@ OutputMayFail {S} make_may_fail failures = ∥ ((s : S) × (make_may_fail s ≡ 
 abbrev pub Blames : {T E : Type 0} → (shows : Fault → E) → (input output : Type 0) → Result T E → Type 0
 Blames shows input output r = IfErr r (λ e. (e ≡ shows Read → input) × (e ≡ shows Write → output))
 
--- a fault that stops a request that reads a file blames its input
+-- `check` returns `Read` only if its input can fail
 abbrev pub RequestBlames : {T : Type 0} → (List ℕ → Type 0) → PrintRequest → Result T Failure → Type 0
 RequestBlames input (Check path) r = Blames OfFault (input path.now) ⊤ r
 RequestBlames input _ r = ⊤

@@ -1,9 +1,8 @@
 -- The results of the file commands, and the contents of the file that they write.
 use Rattle.std.specs.Prelude.{◌≡◌, ℕ, ◌⊎◌, Bool, true, false, List, ◌∷◌, ◌++◌, Option, Some, Result, Ok, Err}
-use Rattle.std.specs.Prelude.{MatchResult, IfSome, IfOk, IfErr, None, is_some, ⊤}
-use Rattle.std.specs.Io.KnownBytes.{Appends}
+use Rattle.std.specs.Prelude.{IfSome, IfOk, IfErr, None, is_some, ⊤}
 use Rattle.octets.specs.declared.fault.Fault.{Fault}
-use Rattle.octets.specs.declared.fault.Fault.TheVariants.{Read, Write, OutOfMemory, TextTooLong}
+use Rattle.octets.specs.declared.fault.Fault.TheVariants.{Read, Write, TextTooLong}
 use Rattle.aead.specs.Refusals.{IsOneOf, late_in_readings}
 use Rattle.aead.specs.Suites.{construction_of, is_one_pass}
 use Rattle.aead.specs.Sealing.{Setting}
@@ -19,11 +18,11 @@ use Rattle.command.specs.declared.words.FileCommand.TheVariants.{Seal, Open}
 use Rattle.command.specs.Aead.{InputsRefused, IsCalled, CallFailed}
 use Rattle.command.specs.NewFiles.{held}
 
--- an engine's result, for what it gave
+-- the result of an engine
 abbrev pub Answer : Type 0
 Answer = Result (Unit {0}) Fault
 
--- the bytes given of a text whose tag is over the ciphertext, whatever the counts of failures
+-- the bytes given for one reading of a text, under a suite with the tag over the ciphertext, for any counts of failures
 pub record SealsOnce (s : Setting) (a given : List ℕ) (r : Answer) : Type 0 where
   pub read : ℕ
   pub read' : ℕ
@@ -31,23 +30,23 @@ pub record SealsOnce (s : Setting) (a given : List ℕ) (r : Answer) : Type 0 wh
   pub wrote' : ℕ
   pub is : SealsStream s a given read read' wrote wrote' r
 
--- the bytes given of two readings of a text by AES-GCM-SIV
+-- the bytes given for two readings of a text, under AES-GCM-SIV
 pub record SealsTwice (s : Setting) (a b given : List ℕ) (r : Answer) : Type 0 where
   pub before : SivCounts
   pub after : SivCounts
   pub is : SealsSivStream s a b given before after r
 
--- the bytes given of three readings of sealed bytes
+-- the bytes given for three readings of sealed bytes
 pub record OpensThrice (s : Setting) (m v w given : List ℕ) (r : Answer) : Type 0 where
   pub before : FailureCounts
   pub after : FailureCounts
   pub is : OpensStream s m v w given before after r
 
--- a relation between what is given and the result, if what was given is known
+-- a statement about what an engine gave, from a property of the given bytes
 abbrev pub Giving : Type 1
 Giving = (List ℕ → Type 0) → Type 0
 
--- sealing in one reading, or else in two, if the bytes of the readings are known
+-- sealing in one reading or in two, if the bytes of the readings are known
 abbrev pub SealingBy : Bool → (ℕ → Option (List ℕ)) → Giving → Setting → Answer → Type 0
 SealingBy true readings giving s r = IfSome (readings 0) (λ a. giving (λ given. SealsOnce s a given r))
 SealingBy false readings giving s r =
@@ -67,45 +66,26 @@ abbrev pub Engine : FileCommand → (ℕ → Option (List ℕ)) → Giving → S
 Engine Seal readings giving s r = Sealing readings giving s r
 Engine Open readings giving s r = Opening readings giving s r
 
--- the outlet took some bytes, with this property
-abbrev pub OutletTakes : Option (List ℕ) → Option (List ℕ) → Giving
-OutletTakes taken taken' P =
-    IfSome taken (λ before. (given : List ℕ) × Appends (Some before) taken' given × P given)
-
--- a file holds what was taken before, then all bytes that were given; these have this property
+-- a file holds what was taken before, followed by all bytes that were given, which have this property
 abbrev pub HoldsAll : Option (List ℕ) → Option (List ℕ) → Giving
 HoldsAll taken held P = IfSome taken (λ before. (given : List ℕ) × (held ≡ Some (before ++ given)) × P given)
 
--- a file holds a beginning of what was taken before and the bytes that were given; these have this property
+-- a file holds a prefix of what was taken before followed by the bytes that were given, which have this property
 abbrev pub HoldsStart : Option (List ℕ) → Option (List ℕ) → Giving
 HoldsStart taken held P =
     IfSome taken (λ before. (given : List ℕ)
     × ((h : List ℕ) × (held ≡ Some h) × IsBeginning h (before ++ given)) × P given)
 
--- no call was made: the words give no inputs (or memory ran out), or they do and a file was not opened
+-- no call was made: the words don't give inputs, memory ran out, or a file was not opened
 abbrev pub NoCall : Inputs → Failure → Type 0
 NoCall words e = InputsRefused words e ⊎ ((e ≡ OfFault Read) × IsCalled words (λ _ _. ⊤))
 
--- an engine returned, or a file was not opened and the outlet is as it was
-abbrev pub EngineRan : (Giving → Setting → Answer → Type 0) → Setting → (taken taken' : Option (List ℕ))
-    → (same : Type 0) → Answer → Type 0
-EngineRan engine s taken taken' same r =
-    (((r ≡ Err Read) ⊎ (r ≡ Err OutOfMemory)) × same) ⊎ engine (OutletTakes taken taken') s r
-
--- an engine ran over readings into an outlet, or there was no call and the outlet is as it was
-abbrev pub Ran : (Giving → Setting → Answer → Type 0) → Inputs → (taken taken' : Option (List ℕ))
-    → (same : Type 0) → Result (Unit {0}) Failure → Type 0
-Ran engine words taken taken' same r = MatchResult r
-    (λ _. IsCalled words (λ s body. engine (OutletTakes taken taken') s (Ok tt)))
-    (λ e. (NoCall words e × same)
-    ⊎ CallFailed (λ s body f. engine (OutletTakes taken taken') s (Err f)) words e)
-
--- a file command is done: the file holds what the engine gave
+-- a file command succeeded: the file holds what the engine gave
 abbrev pub FileDone : (Giving → Setting → Answer → Type 0) → Inputs → (taken held : Option (List ℕ)) → Type 0
 FileDone engine words taken held = IsCalled words (λ s body. engine (HoldsAll taken held) s (Ok tt))
 
--- a file command came to nothing: there was no call and the file is as it was, or the file holds a beginning of
--- what the engine gave, which returned this fault, or was done before the last write failed
+-- a file command failed: no call was made and the file is unchanged, or the file holds a prefix of what the engine gave, which
+-- returned this fault, or succeeded before the last write failed
 abbrev pub FileStopped : (Giving → Setting → Answer → Type 0) → Inputs → (taken held : Option (List ℕ))
     → (same : Type 0) → Failure → Type 0
 FileStopped engine words taken held same e =
@@ -113,31 +93,31 @@ FileStopped engine words taken held same e =
     ⊎ CallFailed (λ s body f. engine (HoldsStart taken held) s (Err f)
     ⊎ ((f ≡ Write) × engine (HoldsStart taken held) s (Ok tt))) words e
 
--- the faults of a file command that may come after some bytes were given
+-- the faults that a file command may return after some bytes were given
 abbrev pub late_faults : FileCommand → List Fault
 late_faults Seal = TextTooLong ∷ late_in_readings
 late_faults Open = late_in_readings
 
--- the failure is one of them
+-- the failure is one of these faults
 abbrev pub StopsLate : FileCommand → Failure → Type 0
 StopsLate command (OfFault f) = IsOneOf (late_faults command) f
 StopsLate command _ = ⊥
 
--- the engine of a request, over files that give these bytes in each reading
+-- the engine of a request, where each file gives these bytes in each reading
 abbrev pub EngineOf : (List ℕ → ℕ → Option (List ℕ)) → FileRequest → Giving → Setting → Answer → Type 0
 EngineOf contents request = Engine request.command (contents request.input.now)
 
--- the result of a request that writes a file, and its output when it is closed, over files that give these
--- bytes in each reading, that hold these once they are made, and outputs that hold these
+-- the result of a request that writes a file, and the file when it is closed. `contents` are the bytes that each file gives in
+-- each reading, `blank` those that it holds once it is made, and `taken` those of an output
 pub record Wrote {O : Type 0} (contents : List ℕ → ℕ → Option (List ℕ)) (blank : List ℕ → Option (List ℕ))
     (taken : O → Option (List ℕ)) (request : FileRequest) (r : Result ℕ Failure) : Type 0 where
   -- the output, if it was made
   pub file : Option O
-  -- at Ok it was made, and holds all that the engine gave
+  -- on `Ok` it was made, and holds all that the engine gave
   pub done : IfOk r (λ status. (status ≡ 0) × (is_some file ≡ true) × FileDone (EngineOf contents request)
       request.inputs (blank request.output.now) (held (blank request.output.now) taken file))
-  -- at a failure there was no call and it was not made, or it holds a beginning of what the engine gave
+  -- on a failure no call was made and neither was the output, or it holds a prefix of what the engine gave
   pub stopped : IfErr r (FileStopped (EngineOf contents request) request.inputs (blank request.output.now)
       (held (blank request.output.now) taken file) (file ≡ None))
-  -- it was not made at a failure that is none of the late ones
+  -- on a failure other than the late ones it was not made
   pub unmade : IfErr r (λ e. StopsLate request.command e ⊎ (file ≡ None))

@@ -9,3 +9,4 @@ pub mod NewFiles
 pub mod Reports
 pub mod Requests
 pub mod Statuses
+pub mod Code

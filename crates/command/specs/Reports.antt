@@ -1,4 +1,4 @@
--- The result of `check` on a file, and the lines that it prints.
+-- The result of `check` for a file, and the lines that it prints.
 use Rattle.std.specs.Prelude.{◌≡◌, ℕ, ◌≤◌, List, [], ◌∷◌, ◌++◌, codes, flat_map, IfSome, ⊤, ◌↔◌}
 use Rattle.std.specs.declared.option.Option.{Option}
 use Rattle.std.specs.Fmt.{decimal}
@@ -14,7 +14,7 @@ use Rattle.command.specs.declared.failure.Failure.TheVariants.{Fault as OfFault,
 abbrev pub bad_line : ℕ → List ℕ
 bad_line number = codes "bad " ++ (decimal number ++ 10 ∷ [])
 
--- the number of records, then the bad ones
+-- the number of records, then a line for each bad one
 abbrev pub report_text : ℕ → List ℕ → List ℕ
 report_text records bad = codes "records " ++ (decimal records ++ 10 ∷ flat_map bad_line bad)
 
@@ -30,7 +30,7 @@ pub record IsChecked (file before after : Option (List ℕ)) (status : ℕ) : Ty
   pub text : Appends before after (report_text records bad)
   pub yes : (status ≡ 0) ↔ ((1 ≤ records) × (bad ≡ []))
 
--- why a file has no report: it is not read, or its first fault, if its bytes are known
+-- why a file has no report: it could not be read, memory ran out, or its first fault, if its bytes are known
 abbrev pub FileRefused : Option (List ℕ) → Failure → Type 0
 FileRefused file (OfFault Read) = ⊤
 FileRefused file (OfFault OutOfMemory) = ⊤

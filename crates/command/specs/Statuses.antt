@@ -8,8 +8,7 @@ use Rattle.command.specs.declared.failure.Failure.{Failure}
 use Rattle.command.specs.declared.failure.Failure.TheVariants.{Words, UnknownSuite, BadHex, Fault as OfFault}
 use Rattle.command.specs.declared.failure.Failure.TheVariants.{Vector as OfVector}
 
--- 1: the bytes are no sealing or wrapping; 2: an input is of no use; 3: a reading or a writing failed;
--- 4: out of memory
+-- 1: authentication failed; 2: an input is invalid; 3: a read or a write failed, or a file changed; 4: out of memory
 abbrev pub fault_status : Fault → ℕ
 fault_status fault.TooShort = 1
 fault_status fault.TagMismatch = 1
@@ -25,13 +24,12 @@ fault_status fault.Write = 3
 fault_status fault.SourceChanged = 3
 fault_status fault.OutOfMemory = 4
 
--- a file that is no vector file has status 1
+-- the status for a file that is not a vector file is 1
 abbrev pub vector_status : VectorFault → ℕ
 vector_status vector.OutOfMemory = 4
 vector_status _ = 1
 
--- the status of a failure: a call's fault has its own, and words, names and digits of no use are an input of
--- no use
+-- the status of a failure: a fault has its own, and invalid words, names and digits are an invalid input
 abbrev pub failure_status : Failure → ℕ
 failure_status Words = 2
 failure_status UnknownSuite = 2

@@ -31,7 +31,7 @@ impl<R: Env> Env for WithoutName<'_, R> {
     }
 }
 
-/// Returns the words after the program's name. `Words` if one is not UTF-8, `OutOfMemory` if an allocation
+/// Returns the words after the program's name. Faults: `Words` if one of them is not UTF-8, `OutOfMemory` if an allocation
 /// fails.
 pub fn words_given<R: Env>(alloc: Global, runtime: &R) -> Result<Vec<String>, Failure> {
     match env::args(&(WithoutName { runtime }, alloc)) {

@@ -1,4 +1,4 @@
-//! The commands over values given as hexadecimal, and `check`.
+//! The commands on values given in hexadecimal, and `check`.
 ghost use Rattle.std.specs.Prelude.{◌≡◌, ◌⊎◌, ⊤, MatchResult, IfErr};
 ghost use Rattle.aes.specs.Cipher.{IsKey};
 ghost use Rattle.aead.specs.AnyCiphers.{keyed_of};
@@ -23,8 +23,8 @@ use octets::{Fault, Nonce};
 use std::alloc::Allocator;
 use vectors::Report;
 
-// The bytes that a value given for hexadecimal spells. `BadHex` if it is not an even number of hex digits.
-fn decoded<A: Allocator>(alloc: A, digits: &str) -> Result<Vec<u8, A>, Failure>
+// Returns the bytes that a hexadecimal value spells. `BadHex` if it is not an even number of hex digits.
+fn decode<A: Allocator>(alloc: A, digits: &str) -> Result<Vec<u8, A>, Failure>
     ensures { MatchResult result (λ v. Spells digits.now v.items)
         (λ e. (e ≡ OfFault OutOfMemory) ⊎ ((e ≡ BadHex) × IsBadHex digits.now)) }
 {
@@ -35,8 +35,8 @@ fn decoded<A: Allocator>(alloc: A, digits: &str) -> Result<Vec<u8, A>, Failure>
     }
 }
 
-// The wrapping of a text, with padding or without.
-fn wrapped<A: Allocator>(
+// Returns the wrapping of a text, with padding or without.
+fn wrap_text<A: Allocator>(
     alloc: A,
     key: &AesKey,
     text: &[u8],
@@ -51,8 +51,8 @@ fn wrapped<A: Allocator>(
     }
 }
 
-// The text of a wrapping, with padding or without.
-fn unwrapped<A: Allocator>(
+// Returns the text of a wrapping, with padding or without.
+fn unwrap_text<A: Allocator>(
     alloc: A,
     key: &AesKey,
     sealed: &[u8],
@@ -75,7 +75,7 @@ struct WrapInputs<A: Allocator> {
     body: Vec<u8, A>,
 }
 
-// The key and the bytes that the words give. In this order: `BadHex` for the key, then for the bytes, and
+// Returns the key and the bytes that the words spell. Faults, in this order: `BadHex` for the key, then for the bytes, and
 // `KeyLength`.
 fn wrap_inputs<'a, A: Allocator>(
     alloc: &'a A,
@@ -86,16 +86,16 @@ fn wrap_inputs<'a, A: Allocator>(
         (λ call. IsKey call.key × Spells key.now call.key × Spells body.now call.body.items)
         (WrapInputsRefused key.now body.now) }
 {
-    let key_bytes = decoded(alloc, key)?;
-    let body = decoded(alloc, body)?;
+    let key_bytes = decode(alloc, key)?;
+    let body = decode(alloc, body)?;
     Ok(WrapInputs {
         key: AesKey::from_slice(&key_bytes)?,
         body,
     })
 }
 
-// `wrap`: the wrapping of a text, with padding or without. In this order: `BadHex` for the key, then for
-// the text, `KeyLength`, and the refusals of the call.
+// `wrap`: returns the wrapping of a text, with padding or without. Faults, in this order: `BadHex` for the key, then for the
+// text, `KeyLength`, and those of the call.
 pub(crate) fn wrap<'a, A: Allocator>(
     alloc: &'a A,
     key: &str,
@@ -106,11 +106,11 @@ pub(crate) fn wrap<'a, A: Allocator>(
         (IsWrapRefused (WrapFault pad) key.now text.now) }
 {
     let call = wrap_inputs(alloc, key, text)?;
-    Ok(wrapped(alloc, &call.key, &call.body, pad)?)
+    Ok(wrap_text(alloc, &call.key, &call.body, pad)?)
 }
 
-// `unwrap`: the text of a wrapping, with padding or without. In this order: `BadHex` for the key, then for
-// the wrapping, `KeyLength`, and the refusals of the call.
+// `unwrap`: returns the text of a wrapping, with padding or without. Faults, in this order: `BadHex` for the key, then for the
+// wrapping, `KeyLength`, and those of the call.
 pub(crate) fn unwrap<'a, A: Allocator>(
     alloc: &'a A,
     key: &str,
@@ -121,24 +121,24 @@ pub(crate) fn unwrap<'a, A: Allocator>(
         (IsWrapRefused (UnwrapFault pad) key.now sealed.now) }
 {
     let call = wrap_inputs(alloc, key, sealed)?;
-    Ok(unwrapped(alloc, &call.key, &call.body, pad)?)
+    Ok(unwrap_text(alloc, &call.key, &call.body, pad)?)
 }
 
 // The inputs of a call under a suite.
 #[derive(Drop)]
-pub(crate) struct Prepared<A: Allocator> {
+pub(crate) struct AeadInputs<A: Allocator> {
     pub(crate) cipher: AnyAead,
     pub(crate) nonce: Nonce,
     pub(crate) aad: Vec<u8, A>,
     pub(crate) body: Vec<u8, A>,
 }
 
-// The inputs that the words give. In this order: `UnknownSuite`, `BadHex` for the key, the nonce, the
+// Returns the inputs that the words spell. Faults, in this order: `UnknownSuite`, `BadHex` for the key, the nonce, the
 // associated data and the body, `KeyLength`, `NonceLength`.
-pub(crate) fn prepare<'a, A: Allocator>(
+pub(crate) fn aead_inputs<'a, A: Allocator>(
     alloc: &'a A,
     words: &Inputs<'_>,
-) -> Result<Prepared<&'a A>, Failure>
+) -> Result<AeadInputs<&'a A>, Failure>
     ensures { MatchResult result
         (λ p. IsReady words.now (keyed_of p.cipher) p.nonce p.aad.items p.body.items)
         (InputsRefused words.now) }
@@ -146,11 +146,11 @@ pub(crate) fn prepare<'a, A: Allocator>(
     let Some(suite) = Suite::named(words.suite) else {
         return Err(Failure::UnknownSuite);
     };
-    let key = decoded(alloc, words.key)?;
-    let nonce = decoded(alloc, words.nonce)?;
-    let aad = decoded(alloc, words.aad)?;
-    let body = decoded(alloc, words.body)?;
-    Ok(Prepared {
+    let key = decode(alloc, words.key)?;
+    let nonce = decode(alloc, words.nonce)?;
+    let aad = decode(alloc, words.aad)?;
+    let body = decode(alloc, words.body)?;
+    Ok(AeadInputs {
         cipher: AnyAead::new(suite, &key)?,
         nonce: Nonce::from_slice(&nonce)?,
         aad,
@@ -158,29 +158,29 @@ pub(crate) fn prepare<'a, A: Allocator>(
     })
 }
 
-// `seal`: the sealing of a text. The refusals of its inputs come first, then those of the call.
+// `seal`: returns the sealing of a text. The faults of its inputs come first, then those of the call.
 pub(crate) fn seal<'a, A: Allocator>(
     alloc: &'a A,
     words: &Inputs<'_>,
 ) -> Result<Vec<u8, &'a A>, Failure>
     ensures { MatchResult result (λ v. IsSealed words.now v.items) (IsRefused WholeSealRefused words.now) }
 {
-    let call = prepare(alloc, words)?;
+    let call = aead_inputs(alloc, words)?;
     Ok(aead::seal(alloc, &call.cipher, &call.nonce, &call.aad, &call.body)?)
 }
 
-// `open`: the text of sealed bytes. The refusals of its inputs come first, then those of the call.
+// `open`: returns the text of sealed bytes. The faults of its inputs come first, then those of the call.
 pub(crate) fn open<'a, A: Allocator>(
     alloc: &'a A,
     words: &Inputs<'_>,
 ) -> Result<Vec<u8, &'a A>, Failure>
     ensures { MatchResult result (λ v. IsOpened words.now v.items) (IsRefused WholeOpenRefused words.now) }
 {
-    let call = prepare(alloc, words)?;
+    let call = aead_inputs(alloc, words)?;
     Ok(aead::open(alloc, &call.cipher, &call.nonce, &call.aad, &call.body)?)
 }
 
-// `check`: the report of a vector file. The refusals of reading it come first, then the file's first fault.
+// `check`: returns the report of a vector file. The faults of reading it come first, then the first fault of its lines.
 pub(crate) fn check<'a, A: Allocator, F: Storage>(
     alloc: &'a A,
     files: &F,

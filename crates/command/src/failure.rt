@@ -1,4 +1,4 @@
-//! Why the program stops, and with which status.
+//! Why the program stops without doing what was asked, and with which status.
 ghost use Rattle.std.specs.Prelude.{◌≡◌, ◌≤◌, ◌⊎◌};
 ghost use Rattle.std.specs.IoError.{error_kind};
 ghost use Rattle.command.specs.Statuses.{failure_status};
@@ -11,19 +11,18 @@ use std::io::ErrorKind;
 use std::{fmt, io};
 use vectors::VectorFault;
 
-/// Why the program stops. `Display` writes what follows `aeadkit: ` on standard error: a name, or the text
-/// of a fault.
+/// Why the program stops. `Display` writes the text that follows `aeadkit: ` on standard error: a name, or the text of a fault.
 #[derive(Clone, Copy)]
 pub enum Failure {
-    /// The words are not a command line of the program.
+    /// The words are not a valid command line.
     Words,
-    /// No suite has the name.
+    /// No suite has this name.
     UnknownSuite,
-    /// A value given for hexadecimal is not an even number of hex digits.
+    /// A hexadecimal value is not an even number of hex digits.
     BadHex,
     /// A call was refused, a read or a write failed, or an allocation failed.
     Fault(Fault),
-    /// A file has no report.
+    /// A file is not a vector file, so it has no report.
     Vector(VectorFault),
 }
 
@@ -45,7 +44,7 @@ impl fmt::Display for Failure {
 }
 
 impl Failure {
-    /// The status that the program ends with, from 1 to 4.
+    /// Returns the status that the program ends with, from 1 to 4.
     pub fn status(self) -> u8
         ensures value { result ≡ failure_status self }
         ensures bound { result ≤ 4 }

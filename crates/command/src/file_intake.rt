@@ -1,4 +1,4 @@
-//! Readings of the system's files.
+//! The intake over a file of the system.
 ghost use Rattle.std.specs.Prelude.{◌≡◌, ◌-◌, ◌<◌, length, IfOk};
 ghost use Rattle.std.specs.Io.{ReadsAtMost};
 ghost use Rattle.std.specs.Io.KnownBytes.{ReadConsumes};
@@ -8,18 +8,18 @@ use octets::{DeviceFault, Failures, Intake};
 use std::fs::OpenFile;
 use std::io::Read;
 
-/// Takes from a reader of a file. An end before the length that the file had when it was opened is a failure, since
-/// the file was truncated meanwhile; so is an interrupted read. Its bytes are known if the reader's are.
+/// Takes from a reader of a file. If the file ends before the length that it had when it was opened, it was truncated
+/// meanwhile, and that is a failure; so is an interrupted read. Contracts know the bytes left if they know those of the reader.
 #[derive(Drop)]
 pub struct FileIntake<R> {
     reader: R,
-    // How many bytes of that length were not read yet.
+    // How many bytes of that length have not been read yet.
     owed: u64,
     failures: Failures,
 }
 
 impl<R: Read> FileIntake<R> {
-    // A device with the bytes that the reader has left, which are at least `owed`, and no failures yet.
+    // Makes a device with the bytes that the reader has left, which are at least `owed`, and no failures yet.
     pub(crate) fn new(reader: R, owed: u64) -> Self
         ensures left { ⟦<FileIntake<R> as Intake>⟧.left result ≡ R.remaining reader }
         ensures failed { ⟦<FileIntake<R> as Intake>⟧.failures result ≡ 0 }
@@ -42,7 +42,7 @@ impl<R: Read> Intake for FileIntake<R> {
         ensures bound { ReadsAtMost result buf.new }
         ensures bytes { ReadConsumes (R.remaining self.old.reader) (R.remaining self.new.reader) result buf.new }
         ensures count { Counts self.old.failures self.new.failures result }
-        // Its end comes only when no byte is owed.
+        // The end comes only once no byte is owed.
         ensures end { IfOk result (λ n. n ≡ 0 → 0 < length buf.new → self.old.owed ≡ 0) }
         ensures owed { IfOk result (λ n. self.new.owed ≡ self.old.owed - n) }
     {
@@ -59,7 +59,7 @@ impl<R: Read> Intake for FileIntake<R> {
     }
 }
 
-// Returns the length of a regular file; 0 for any other file, or if the system tells none.
+// Returns the length of a regular file, or 0 for any other file and if the system doesn't tell the length.
 pub(crate) fn regular_length<F: OpenFile>(file: &F) -> u64 {
     match file.metadata() {
         Ok(about) if about.is_file() => about.len(),

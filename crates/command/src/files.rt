@@ -1,16 +1,17 @@
-//! The file commands: a file is sealed or opened into another, in memory of a fixed size.
+//! The file commands: they seal or open a file into another one, in memory of a fixed size.
 ghost use Rattle.std.specs.Prelude.{◌≡◌, ◌⊎◌, true, is_some, IfOk, IfErr, MatchResult};
 ghost use Rattle.octets.specs.Device.{Failed};
 ghost use Rattle.aead.specs.Refusals.{UntouchedUnless, late_in_one_reading, late_in_readings};
 ghost use Rattle.aead.specs.Ciphers.{setting};
 ghost use Rattle.aead.specs.AnyCiphers.{one_pass_keyed, keyed_of};
 ghost use Rattle.command.specs.Blames.{InputMayFail, OutputMayFail, Blames};
-ghost use Rattle.command.specs.Files.{Sealing, Opening, Engine, EngineRan, Ran};
+ghost use Rattle.command.specs.Files.{Sealing, Opening, Engine};
+ghost use Rattle.command.specs.Code.Engines.{EngineRan, Ran};
 ghost use Rattle.command.specs.Files.{FileDone, FileStopped, late_faults, StopsLate, EngineOf, Wrote};
 ghost use Rattle.command.specs.NewFiles.{held};
 ghost use Rattle.command.specs.declared.failure.Failure.TheVariants.{Fault as OfFault};
 
-use crate::commands::prepare;
+use crate::commands::aead_inputs;
 use crate::failure::Failure;
 use crate::new_file::NewFile;
 use crate::readings::reading;
@@ -41,7 +42,7 @@ fn seal_once<F: Storage, O: Outlet>(
     seal_stream(cipher, nonce, aad, &mut text, out)
 }
 
-// Seals a file into an outlet by AES-GCM-SIV, in two readings.
+// Seals a file into an outlet under AES-GCM-SIV, in two readings.
 #[tactic(auto, using(crate::proofs::BlamesLemmas::unopened_blames))]
 fn seal_twice<F: Storage, O: Outlet>(
     files: &F,
@@ -95,7 +96,7 @@ fn open_thrice<F: Storage, O: Outlet>(
 }
 
 // Runs a command's engine from a file into an outlet, under any cipher.
-fn write_by<F: Storage, O: Outlet>(
+fn run_engine<F: Storage, O: Outlet>(
     files: &F,
     words: &FileRequest<'_>,
     cipher: &AnyAead,
@@ -120,8 +121,8 @@ fn write_by<F: Storage, O: Outlet>(
     }
 }
 
-// Runs a command's engine from a file into an outlet, for the inputs that the words give.
-fn write<A: Allocator, F: Storage, O: Outlet>(
+// Runs a command's engine from a file into an outlet, on the inputs that the words spell.
+fn run_command<A: Allocator, F: Storage, O: Outlet>(
     alloc: &A,
     files: &F,
     words: &FileRequest<'_>,
@@ -134,8 +135,8 @@ fn write<A: Allocator, F: Storage, O: Outlet>(
         (Failed (O.failures out.old) (O.failures out.new)) result }
     ensures untouched { IfErr result (λ e. StopsLate words.now.command e ⊎ (out.new ≡ out.old)) }
 {
-    let inputs = prepare(alloc, &words.inputs)?;
-    Ok(write_by(
+    let inputs = aead_inputs(alloc, &words.inputs)?;
+    Ok(run_engine(
         files,
         words,
         &inputs.cipher,
@@ -145,14 +146,14 @@ fn write<A: Allocator, F: Storage, O: Outlet>(
     )?)
 }
 
-// Runs a file command into a file that is made when it is needed, and returns status 0.
+// Runs a file command into a file that is not made before it is needed, and returns status 0.
 fn write_file<'a, A: Allocator, B: Allocator, F: Storage>(
     alloc: &A,
     files: &F,
     words: &FileRequest<'_>,
     file: &mut NewFile<'a, F, B>,
 ) -> Result<u8, Failure>
-    // What the file holds follows what it had taken before.
+    // The new bytes in the file follow those that it had taken before.
     ensures answer { let before = ⟦<NewFile<'a, F, B> as Outlet>⟧.taken file.old in
         MatchResult result
         (λ _. FileDone (EngineOf (F.contents files.now) words.now) words.now.inputs before
@@ -166,29 +167,28 @@ fn write_file<'a, A: Allocator, B: Allocator, F: Storage>(
     ensures untouched { IfErr result (λ e. StopsLate words.now.command e ⊎ (file.new.file ≡ file.old.file)) }
     ensures status { IfOk result (λ status. status ≡ 0) }
 {
-    write(alloc, files, words, file)?;
+    run_command(alloc, files, words, file)?;
     file.finish()?;
     Ok(0)
 }
 
-/// `seal-file` and `open-file`: seals or opens a file into another, and returns status 0. The written file is
+/// `seal-file` and `open-file`: seals or opens a file into another one, and returns status 0. The written file is
 /// closed when this returns.
 ///
 /// Faults, in this order: those of the inputs, `Read` if the file can't be opened, and those of the engine;
-/// `OutOfMemory` wherever an allocation fails. Of sealing these are `AadTooLong`, `TextTooLong` once more than
-/// the suite's limit was read, `Read`, `Write`, and for AES-GCM-SIV `SourceChanged`. Of opening they are
-/// `AadTooLong`, then those of its three readings: nothing is written before a whole reading was found to be a
-/// sealing.
+/// `OutOfMemory` wherever an allocation fails. The engine's faults for sealing are `AadTooLong`, `TextTooLong` once more than
+/// the suite's limit was read, `Read`, `Write`, and for AES-GCM-SIV `SourceChanged`. For opening they are `AadTooLong`, then
+/// those of its three readings: nothing is written before authentication of a whole reading has succeeded.
 ///
-/// After `SourceChanged`, `Read` and `Write`, and `TextTooLong` of sealing, the written file holds a beginning of
-/// what it should hold, which is to be thrown away, or was not made. After any other fault, and if the file that is
-/// read can't be opened, it was not made.
+/// On `SourceChanged`, `Read` and `Write`, and on `TextTooLong` when sealing, the written file was not made, or holds a prefix
+/// of its intended contents, which has to be thrown away. On any other fault, and if the file to read can't be opened, the
+/// written file was not made.
 pub fn write_new_file<A: Allocator, F: Storage>(
     alloc: &A,
     files: &F,
     request: &FileRequest<'_>,
 ) -> Result<u8, Failure>
-    // At Ok the written file holds all that the engine gave; at Err it was not made, or holds a beginning of that.
+    // On `Ok` the written file holds all that the engine gave; on `Err` it was not made, or holds a prefix of that.
     ensures wrote { Wrote (F.contents files.now) (F.blank files.now) F.Output.taken request.now result }
     // `Read` comes only if the input can fail, and `Write` only if the output can.
     ensures blame { Blames OfFault

@@ -1,6 +1,6 @@
 //! The texts of the help.
 
-// The suites, and how long their keys are.
+// The suites, and the lengths of their keys.
 pub(crate) const SUITES: &str = "One of these; the number is its key's length in bytes:
 chacha20-poly1305   32  (RFC 8439)
 aes-128-gcm         16  (SP 800-38D)
@@ -11,7 +11,7 @@ aes-256-gcm-siv     32";
 
 pub(crate) const WRAP_KEY: &str = "The AES key: 16, 24 or 32 bytes";
 
-// Where help ends.
+// The end of the help.
 pub(crate) const ABOUT_HEX: &str =
     "HEX is an even number of hex digits of either case; an empty argument means no bytes.
 See aeadkit help SUBCOMMAND for each subcommand, and docs/COMMAND.md for the manual.

@@ -1,7 +1,7 @@
-//! The command line of `aeadkit`: what the program does with the words after its name, over a storage of files and a
+//! The command line of `aeadkit`: what the program does with the words after its name, given a storage of files and a
 //! writer for each standard stream.
 //!
-//! [`run`] does what the words ask for and returns the status. The program hands it the system's files and streams.
+//! [`run`] does what the words ask for and returns the status. The program calls it with the system's files and streams.
 //! From `crates/aeadkit/src/main.rt`:
 //! ```
 //! let mut out = rt.stdout();

@@ -10,12 +10,11 @@ use crate::storage::Storage;
 use octets::{DeviceFault, Failures, Fault, Outlet};
 use std::alloc::{AllocError, Allocator};
 
-// How many bytes are kept before they are written.
+// How many bytes may be pending before they are written.
 const PENDING: usize = 65536;
 
-/// A file that is made, or cut to nothing, when its first byte is given, and at the end if none was.
-/// Bytes are written once 64 KiB are pending. A failure of the system, an interrupted call too, is a failure
-/// of the device.
+/// A file that is created or truncated when its first byte is given, or at the end if none was. Bytes are written once 64 KiB
+/// are pending. A failure of the system, including an interrupted call, is a failure of the device.
 #[derive(Drop)]
 pub(crate) struct NewFile<'a, F: Storage, A: Allocator> {
     files: &'a F,
@@ -30,7 +29,7 @@ pub(crate) struct NewFile<'a, F: Storage, A: Allocator> {
 }
 
 impl<'a, F: Storage, A: Allocator> NewFile<'a, F, A> {
-    /// Names a file, which is not made yet, and takes memory for what will be pending.
+    /// Makes a device for a file, without making the file, and allocates memory for the pending bytes.
     #[tactic(auto, using(crate::proofs::NewFileLemmas::append_none))]
     pub(crate) fn new(alloc: A, files: &'a F, path: &'a str) -> Result<Self, AllocError>
         ensures taken { IfOk result (λ file.
@@ -69,7 +68,7 @@ impl<'a, F: Storage, A: Allocator> NewFile<'a, F, A> {
         Ok(())
     }
 
-    // Writes some of what is pending.
+    // Writes some of the pending bytes.
     fn write_some(&mut self) -> Result<(), DeviceFault>
         requires pending { self.old.written < vec_len self.old.pending }
         requires made { is_some self.old.file ≡ true }
@@ -93,7 +92,7 @@ impl<'a, F: Storage, A: Allocator> NewFile<'a, F, A> {
         }
     }
 
-    // Writes what is pending.
+    // Writes all pending bytes.
     #[tactic(auto, using(crate::proofs::NewFileLemmas::none_pending, crate::proofs::NewFileLemmas::keeps_more))]
     fn write_pending(&mut self) -> Result<(), DeviceFault>
         requires made { is_some self.old.file ≡ true }
@@ -113,7 +112,7 @@ impl<'a, F: Storage, A: Allocator> NewFile<'a, F, A> {
         Ok(())
     }
 
-    // Adds to what is pending, within its room.
+    // Adds bytes to the pending ones, if there is room for them.
     fn add(&mut self, bytes: &[u8])
         requires room { vec_len self.old.pending + length bytes.now ≤ vec_capacity self.old.pending }
         ensures items { self.new.pending.items ≡ self.old.pending.items ++ bytes.now }
@@ -122,11 +121,11 @@ impl<'a, F: Storage, A: Allocator> NewFile<'a, F, A> {
         ensures written { self.new.written ≡ self.old.written }
         ensures failed { self.new.failures ≡ self.old.failures }
     {
-        // Within the capacity no allocation is made.
+        // This can't fail: within the capacity nothing is allocated.
         let _ = self.pending.extend_from_slice(bytes);
     }
 
-    // Keeps as many of the bytes as there is room for, which is made if there is none.
+    // Adds as many of the bytes to the pending ones as there is room for. If there is no room, writes the pending bytes first.
     #[tactic(auto, using(crate::proofs::NewFileLemmas::pends, crate::proofs::NewFileLemmas::keeps_more))]
     fn keep(&mut self, bytes: &[u8]) -> Result<usize, DeviceFault>
         ensures bound { GivesSome result bytes.now }
@@ -148,8 +147,7 @@ impl<'a, F: Storage, A: Allocator> NewFile<'a, F, A> {
         Ok(n)
     }
 
-    /// Makes the file if no byte was given, writes what is pending, and has the system take it. The only
-    /// fault is `Write`.
+    /// Makes the file if no byte was given, writes the pending bytes, and syncs the file. The only fault is `Write`.
     #[tactic(auto, using(crate::proofs::NewFileLemmas::keeps_more))]
     pub(crate) fn finish(&mut self) -> Result<(), Fault>
         ensures taken { Keeps (⟦<NewFile<'a, F, A> as Outlet>⟧.taken self.old)

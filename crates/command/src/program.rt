@@ -1,4 +1,4 @@
-//! The program, over a writer for each stream.
+//! The program, with a writer for each stream.
 ghost use Rattle.std.specs.Prelude.{◌≤◌, ◌≡◌, ◌↔◌, ◌⊎◌, ⊤, [], Err, IfOk, IfErr, MatchResult};
 ghost use Rattle.std.specs.Prelude.{string_bytes};
 ghost use Rattle.std.specs.Io.KnownBytes.{Appends};
@@ -37,8 +37,8 @@ fn print<W: Write>(out: &mut W, text: &str) -> Result<u8, Failure>
     Ok(0)
 }
 
-// Prints the value that a command returns as one line of lower-case hexadecimal, and returns status 0. A refusal is
-// passed on, and else the only faults are `Write` and `OutOfMemory`.
+// Prints the value that a command returns as one line of lower-case hexadecimal, and returns status 0. A failure of the command
+// is passed on; the only other faults are `Write` and `OutOfMemory`.
 fn print_value<A: Allocator + Copy, W: Write>(
     alloc: A,
     out: &mut W,
@@ -55,7 +55,7 @@ fn print_value<A: Allocator + Copy, W: Write>(
     print(out, &line)
 }
 
-// The text of a report: the number of records, then a line for each bad one.
+// Returns the text of a report: the number of records, then a line for each bad one.
 fn report_text<A: Allocator>(alloc: A, records: u64, bad: &[u64]) -> Result<String<A>, AllocError>
     ensures { IfOk result (λ text. string_bytes text ≡ report_text records bad.now) }
 {
@@ -67,7 +67,7 @@ fn report_text<A: Allocator>(alloc: A, records: u64, bad: &[u64]) -> Result<Stri
     Ok(text)
 }
 
-// The status of a report: 0 if there are records and none is bad, else 1.
+// Returns the status of a report: 0 if there are records and none is bad, else 1.
 fn report_status<A: Allocator>(report: &Report<A>) -> u8
     ensures yes { (result ≡ 0) ↔ ((1 ≤ report.now.records) × (report.now.bad.items ≡ [])) }
     ensures bound { result ≤ 1 }
@@ -75,7 +75,7 @@ fn report_status<A: Allocator>(report: &Report<A>) -> u8
     if report.yes() { 0 } else { 1 }
 }
 
-// Prints the report of a vector file, and returns status 0, or 1 if a record is bad or there are none.
+// Prints the report of a vector file, and returns status 0, or 1 if a record is bad or there is none.
 fn print_checking<A: Allocator, F: Storage, W: Write>(
     alloc: &A,
     files: &F,
@@ -95,20 +95,19 @@ fn print_checking<A: Allocator, F: Storage, W: Write>(
     Ok(report_status(&report))
 }
 
-/// Does what a request asks for: prints its answer, and returns the status, 0, or 1 for a file with bad
-/// records. Faults, in this order: those of its values, those of the call, `Write`; `OutOfMemory` wherever an
-/// allocation fails.
+/// Does what a request asks for: prints its answer and returns the status, which is 0, or 1 for a file with bad records.
+/// Faults, in this order: those of its values, those of the call, `Write`; `OutOfMemory` wherever an allocation fails.
 pub fn perform<A: Allocator, F: Storage, W: Write>(
     alloc: &A,
     files: &F,
     request: &PrintRequest<'_>,
     out: &mut W,
 ) -> Result<u8, Failure>
-    // On Ok the right answer was printed; on Err the failure is one that the request can have.
+    // On `Ok` the right answer was printed; on `Err` the failure is one that the request can have.
     ensures answer { MatchResult result
         (Answered (F.contents files.now) (W.contents out.old) (W.contents out.new) request.now)
         (Stopped (F.contents files.now) (W.contents out.old) (W.contents out.new) request.now) }
-    // A file's `Read` comes only if its input can fail.
+    // `Read` comes only if the input can fail.
     ensures blame { RequestBlames
         (λ path. InputMayFail (F.open_may_fail files.now path) F.Input.failures) request.now result }
     ensures status { IfOk result (λ status. status ≤ 1) }
@@ -126,7 +125,7 @@ pub fn perform<A: Allocator, F: Storage, W: Write>(
     }
 }
 
-// Prints the help or the version that was asked for, or says why the words are no request.
+// Prints the help or the version that was asked for, or returns why the words are not a request.
 fn refuse<W: Write>(alloc: Global, refusal: &Refusal, out: &mut W) -> Result<u8, Failure>
     ensures answer { IsRefusedAs refusal.now (W.contents out.old) (W.contents out.new) result }
     ensures status { IfOk result (λ status. status ≤ 1) }
@@ -145,8 +144,7 @@ fn refuse<W: Write>(alloc: Global, refusal: &Refusal, out: &mut W) -> Result<u8,
     }
 }
 
-/// Says on standard error why the program stops, and returns the status. A failing standard error changes
-/// nothing.
+/// Prints on standard error why the program stops, and returns the status. If standard error fails, the status is the same.
 pub fn report<E: Write>(err: &mut E, failure: Failure) -> u8
     ensures value { result ≡ failure_status failure }
     ensures bound { result ≤ 4 }
@@ -155,7 +153,7 @@ pub fn report<E: Write>(err: &mut E, failure: Failure) -> u8
     failure.status()
 }
 
-// Does what the words were read as.
+// Carries out the request or the refusal that the words were read as.
 fn answer<F: Storage, W: Write>(
     alloc: Global,
     files: &F,
@@ -173,8 +171,8 @@ fn answer<F: Storage, W: Write>(
     }
 }
 
-/// Does what the words were read as, and returns the program's status. A failing standard error changes no
-/// status.
+/// Carries out the request or the refusal that the words were read as, and returns the program's status. If standard error
+/// fails, the status is the same.
 pub fn respond<F: Storage, W: Write, E: Write>(
     alloc: Global,
     files: &F,
@@ -185,7 +183,7 @@ pub fn respond<F: Storage, W: Write, E: Write>(
     ensures ends { Ends (F.contents files.now) (F.blank files.now) F.Output.taken
         (W.contents out.old) (W.contents out.new) read.now result }
     ensures bound { result ≤ 4 }
-    // With status 0 nothing is said on standard error.
+    // With status 0 nothing is printed on standard error.
     ensures quiet { result ≡ 0 → E.contents err.new ≡ E.contents err.old }
 {
     match answer(alloc, files, read, out) {
@@ -194,9 +192,9 @@ pub fn respond<F: Storage, W: Write, E: Write>(
     }
 }
 
-/// Runs the program on the words after its name: does what they are read as, and returns the status, 0 if it is
-/// done, 1 if bytes are no sealing or wrapping, or a vector file has a fault or a bad record, 2 if the words or a
-/// value are of no use, 3 if a reading or a writing failed, 4 if an allocation failed.
+/// Runs the command line, which is the words after the program's name, and returns the status: 0 if it succeeded, 1 if
+/// authentication failed or a vector file has a fault or a bad record, 2 if the words or a value are invalid, 3 if a read or a
+/// write failed or a file changed between two readings, 4 if an allocation failed.
 pub fn run<S: AsStr, F: Storage, W: Write, E: Write>(
     alloc: Global,
     files: &F,
@@ -204,7 +202,7 @@ pub fn run<S: AsStr, F: Storage, W: Write, E: Write>(
     out: &mut W,
     err: &mut E,
 ) -> u8
-    // Standard output and the status are those of a request or a refusal that words can be read as.
+    // Standard output and the status are those of a request or a refusal that the words can be read as.
     ensures runs { Runs (F.contents files.now) (F.blank files.now) F.Output.taken
         (W.contents out.old) (W.contents out.new) result }
     ensures bound { result ≤ 4 }

@@ -9,7 +9,7 @@ use crate::storage::Storage;
 use octets::{Fault, Intake, fill};
 use std::alloc::Allocator;
 
-// How many bytes of a whole file are taken at a time.
+// How many bytes are taken at a time when a whole file is read.
 const CHUNK: usize = 65536;
 
 // Opens a file for a reading. `Read` if it can't be opened, `OutOfMemory` if an allocation fails.
@@ -24,7 +24,7 @@ pub(crate) fn reading<F: Storage>(files: &F, path: &str, reading: u8) -> Result<
     }
 }
 
-// Takes a chunk after the bytes taken so far, and returns whether it was the last.
+// Takes a chunk and appends it to the bytes taken so far. Returns whether it was the last.
 fn take_chunk<A: Allocator, I: Intake>(
     input: &mut I,
     chunk: &mut [u8],
@@ -43,8 +43,8 @@ fn take_chunk<A: Allocator, I: Intake>(
     Ok(n < chunk.len())
 }
 
-// Takes all bytes that are left. `Read` if the device fails, `OutOfMemory` if an allocation fails. No vector
-// holds 2^64 chunks, so the loop ends by a return.
+// Takes all bytes that are left. `Read` if the device fails, `OutOfMemory` if an allocation fails. No vector holds 2^64 chunks,
+// so the loop always returns before its end.
 fn take_all<'a, A: Allocator, I: Intake>(
     alloc: &'a A,
     input: &mut I,

@@ -11,10 +11,10 @@ use std::io::{BufReader, ErrorKind};
 use std::rt::Files;
 use std::{fs, io};
 
-// How many bytes a reading asks the system for at a time.
+// How many bytes a reading requests from the system at a time.
 const AHEAD: usize = 65536;
 
-/// Where the program's files are.
+/// A place for the files of the program.
 pub trait Storage {
     /// A file that is open for reading.
     type Input: Intake + Drop;
@@ -22,16 +22,16 @@ pub trait Storage {
     /// A file that is open for writing.
     type Output: Outlet + Drop;
 
-    // The bytes that a file gives in a reading, if they are known. A request's readings are counted from 0.
+    // The bytes that a file gives in a reading, if they are known. The readings of a request are counted from 0.
     ghost contents: { Self → List ℕ → ℕ → Option (List ℕ) } = { λ _ _ _. None };
 
-    // The bytes that the file at a path holds once it was made, if they are known.
+    // The bytes that the file at a path holds just after it was made, if they are known.
     ghost blank: { Self → List ℕ → Option (List ℕ) } = { λ _ _. None };
 
-    // Whether the opening of a file for a reading may fail.
+    // Whether opening a file for a reading may fail.
     ghost open_may_fail: { Self → List ℕ → ℕ → Bool } = { λ _ _ _. true };
 
-    // Whether the making of a file, or its syncing, may fail.
+    // Whether making or syncing a file may fail.
     ghost make_may_fail: { Self → Bool } = { λ _. true };
 
     /// Opens a file for a reading, at its beginning.
@@ -41,17 +41,17 @@ pub trait Storage {
             (λ bytes. Self.Input.left input ≡ Some bytes)) }
         ensures blame { IfErr result (λ _. open_may_fail self.now path.now reading ≡ true) };
 
-    /// Makes a file, or cuts it to nothing.
+    /// Creates a file, or truncates it.
     fn create(&self, path: &str) -> io::Result<Self::Output>
         ensures blank { IfOk result (λ output. Keeps (blank self.now path.now) (Self.Output.taken output)) }
         ensures blame { IfErr result (λ _. make_may_fail self.now ≡ true) };
 
-    /// Hands what was written to the device below, if there is one.
+    /// Waits until the bytes that were written have reached the device that stores them, if there is one.
     fn sync(&self, output: &Self::Output) -> io::Result<()>
         ensures blame { IfErr result (λ _. make_may_fail self.now ≡ true) };
 }
 
-/// The files that a runtime reaches. Each reading allocates a buffer. A reading of a regular file fails if the file
+/// The files that a runtime has access to. Each reading allocates a buffer. A reading of a regular file fails if the file
 /// ends before the length that it had when it was opened.
 #[derive(Drop)]
 pub struct Disk<'a, R: Files, A: Allocator> {
@@ -75,7 +75,7 @@ impl<R: Files, A: Allocator + Copy> Storage for Disk<'_, R, A> {
         Ok(ToWrite::new(fs::create(self.runtime, path)?))
     }
 
-    // An output that can't be synced, as a pipe or a terminal, is no fault.
+    // An output that can't be synced, such as a pipe or a terminal, is not a fault.
     fn sync(&self, output: &ToWrite<R::File>) -> io::Result<()> {
         match output.get_ref().sync_all() {
             Err(error) if error.kind() == ErrorKind::InvalidInput => Ok(()),

@@ -130,7 +130,7 @@ const WRAPPING_ARG: ArgSpec = ArgSpec {
     ..SEALED_ARG
 };
 
-// It has no value.
+// This option has no value.
 const PAD_ARG: ArgSpec = ArgSpec {
     name: PAD,
     value: "",
@@ -189,7 +189,7 @@ fn spec_of(argument: Argument) -> &'static ArgSpec {
     }
 }
 
-// A subcommand: what it does, in a line, what else its help says, and its arguments.
+// A subcommand: its description in one line, the rest of its help, and its arguments.
 struct CommandSpec {
     name: &'static str,
     about: &'static str,

@@ -11,7 +11,7 @@ use clap::{ArgMatches, Error};
 use std::alloc::Global;
 use std::convert::AsStr;
 
-/// A suite's name and the inputs of a call, each as it was written; the body is a text or sealed bytes.
+/// A suite's name and the inputs of a call, as they stand on the command line. The body is a text or sealed bytes.
 #[derive(Drop)]
 pub struct Inputs<'a> {
     pub suite: &'a str,
@@ -21,26 +21,26 @@ pub struct Inputs<'a> {
     pub body: &'a str,
 }
 
-/// A request that prints its answer, with each value as it was written.
+/// A request that prints its answer, with each value as it stands on the command line.
 #[derive(Drop)]
 pub enum PrintRequest<'a> {
-    /// The sealing of a text.
+    /// Prints the sealing of a text.
     Seal(Inputs<'a>),
-    /// The text of sealed bytes.
+    /// Prints the text of sealed bytes.
     Open(Inputs<'a>),
-    /// The wrapping of a text, with padding or without.
+    /// Prints the wrapping of a text, with padding or without.
     Wrap {
         key: &'a str,
         text: &'a str,
         pad: bool,
     },
-    /// The text of a wrapping, with padding or without.
+    /// Prints the text of a wrapping, with padding or without.
     Unwrap {
         key: &'a str,
         sealed: &'a str,
         pad: bool,
     },
-    /// The report of a vector file.
+    /// Prints the report of a vector file.
     Check {
         path: &'a str,
     },
@@ -49,14 +49,13 @@ pub enum PrintRequest<'a> {
 /// A command that writes a file.
 #[derive(Drop)]
 pub enum FileCommand {
-    /// The sealing of a file.
+    /// Seals a file.
     Seal,
-    /// The text of a sealed file.
+    /// Opens a sealed file.
     Open,
 }
 
-/// A request that writes a file: the inputs, without a body, and the paths of the file that is read and of
-/// the one that is written.
+/// A request that writes a file: the inputs, without a body, and the paths of the file to read and the file to write.
 #[derive(Drop)]
 pub struct FileRequest<'a> {
     pub command: FileCommand,
@@ -68,26 +67,26 @@ pub struct FileRequest<'a> {
 /// A request.
 #[derive(Drop)]
 pub enum Request<'a> {
-    /// It prints its answer.
+    /// A request that prints its answer.
     Print(PrintRequest<'a>),
-    /// It writes a file.
+    /// A request that writes a file.
     Write(FileRequest<'a>),
 }
 
-/// Why words are no request.
+/// Why words are not a request.
 #[derive(Drop)]
 pub enum Refusal {
-    /// Help was asked for: this is its text.
+    /// Help was asked for. This is its text.
     Help(Error),
     /// The version was asked for.
     Version,
-    /// They are no command line of the program.
+    /// The words are not a valid command line.
     Words,
     /// An allocation failed.
     OutOfMemory,
 }
 
-// The value of an option, or no bytes if it is not given.
+// The value of an option, or an empty text if it is not given.
 fn value<'a>(matches: &ArgMatches<'a>, name: &str) -> &'a str {
     matches.get_str(name).unwrap_or("")
 }
@@ -120,7 +119,7 @@ fn file_request<'a>(command: FileCommand, matches: &ArgMatches<'a>) -> Option<Re
     }))
 }
 
-// The request of a command line, if it is one of the program's.
+// The request of a command line, or `None` if it is not valid.
 fn request_of<'a>(matches: &ArgMatches<'a>) -> Option<Request<'a>>
     ensures { IfSome result HasTwoPaths }
 {
@@ -147,7 +146,7 @@ fn request_of<'a>(matches: &ArgMatches<'a>) -> Option<Request<'a>>
     }))
 }
 
-// Returns the request that the words after the program's name make, or why they make none.
+// Returns the request that the words after the program's name make, or why they don't make one.
 pub(crate) fn read<'a, S: AsStr>(alloc: Global, words: &'a [S]) -> Result<Request<'a>, Refusal>
     ensures { IfOk result HasTwoPaths }
 {

@@ -1,5 +1,4 @@
--- GHASH and POLYVAL by one sum in GHASH's field: they differ in the order in which the bytes of a block are
--- read.
+-- GHASH and POLYVAL as one sum in GHASH's field. They differ in the order in which they read the bytes of a block.
 use Rattle.std.specs.Prelude.{◌≡◌, ℕ, ◌-◌, Bool, List, [], reverse, get_or, bit_xor}
 use Rattle.octets.specs.Bytes.{block_at, IsBlock}
 use Rattle.octets.specs.Bits.{g}
@@ -8,7 +7,7 @@ use Rattle.gf128.specs.Ghash.{ghash_modulus, ghash}
 use Rattle.gf128.specs.Polyval.{IsReversedMulX, polyval}
 use Rattle.gf128.specs.Code.Words.{of_word, IsFourProducts}
 
--- GHASH reads the bytes in order, POLYVAL from the last to the first
+-- GHASH reads the bytes of a block from the first to the last, POLYVAL from the last to the first
 pub data Order : Type 0 where
   Straight : Order
   Reversed : Order
@@ -18,12 +17,12 @@ abbrev pub reading : Order → List ℕ → List Bool
 reading Straight b = g b
 reading Reversed b = g (reverse b)
 
--- the hash under h is computed by products with k
+-- the hash under h is computed with products by k
 abbrev pub Serves : Order → List ℕ → List ℕ → Type 0
 Serves Straight h k = k ≡ h
 Serves Reversed h k = IsBlock h × IsReversedMulX h k
 
--- the hash under h of the blocks of m, which are whole
+-- the hash under h of m, which is whole blocks
 abbrev pub hash_by : Order → List ℕ → List ℕ → List ℕ
 hash_by Straight h m = ghash h m
 hash_by Reversed h m = polyval h m
@@ -33,7 +32,7 @@ unfoldable pub block_sum : Order → List ℕ → List ℕ → ℕ → List Bool
 block_sum o k m n = sum_of_first n
     (λ i. residue ghash_modulus (product (reading o (block_at m i)) (power (g k) (n - i))))
 
--- the word z is the sum of the words of four blocks times y^4, y^3, y^2 and y, the word s added to the first of them
+-- the word z is the sum of the words of four blocks times y^4, y^3, y^2 and y, where s is added to the first word
 abbrev pub IsFourBlocks : Order → ℕ → List (List ℕ) → List ℕ → ℕ → Type 0
 IsFourBlocks o s blocks y z = (a b c d : ℕ) → of_word a ≡ reading o (get_or blocks 0 [])
     → of_word b ≡ reading o (get_or blocks 1 []) → of_word c ≡ reading o (get_or blocks 2 [])

@@ -36,15 +36,15 @@ unfoldable pub polyval_sum : List ℕ → List ℕ → ℕ → List Bool
 polyval_sum h m zero = []
 polyval_sum h m (suc n) = dot (sum (polyval_sum h m n) (v (block_at m n))) (v h)
 
--- POLYVAL under h of the blocks of m, which are whole
+-- POLYVAL under h of m, which is whole blocks
 unfoldable pub polyval : List ℕ → List ℕ → List ℕ
 polyval h m = bytes_of_v 16 (polyval_sum h m (length m / 16))
 
--- h times x, in GHASH's reading
+-- h times x, where h is read as GHASH reads a block
 unfoldable pub mul_x : List ℕ → List ℕ
 mul_x h = bytes_of_g 16 (residue ghash_modulus (false ∷ g h))
 
--- s is S_n, by any dot
+-- s is S_n, for any `dot` that has the defining property
 unfoldable pub IsPolyvalSum : List ℕ → List ℕ → ℕ → List Bool → Type 0
 IsPolyvalSum h m zero s = Agree s []
 IsPolyvalSum h m (suc n) s = (t : List Bool) × IsPolyvalSum h m n t × IsDot (sum t (v (block_at m n)))

@@ -7,8 +7,8 @@ use crate::polynomial_word::{block_of, times_x, word_of};
 use crate::{Keyed128, Multiply};
 use octets::Block;
 
-/// The multiplier that takes one bit at a time. Not constant time: it branches on each bit of the factor, a sum that key and
-/// text determine, and on bits of the product.
+/// The multiplier that takes one bit at a time. Not constant time: it branches on each bit of the factor, which is a sum that
+/// key and text determine, and on bits of the product.
 #[derive(Drop, Clone, Copy)]
 pub struct BitMul {
     key: u128,

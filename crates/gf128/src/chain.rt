@@ -1,4 +1,5 @@
-//! A sum of multiples of degree below 192, taken in a byte of the factors at a time and reduced once (SP 800-38D, 6.3).
+//! A sum of multiples, made one byte of the factors at a time and reduced once at the end (SP 800-38D, 6.3). Its degree stays
+//! below 192.
 
 ghost use Rattle.std.specs.Prelude.{◌≡◌, ℕ, ◌+◌, ◌/◌, ◌^◌, ◌≤◌, Bool, false, List, ◌++◌, replicate};
 ghost use Rattle.octets.specs.Bytes.{le};
@@ -8,17 +9,17 @@ ghost use Rattle.gf128.specs.Code.Words.{folded, IsReduced, IsSpread};
 use crate::lanes::Lanes;
 use crate::polynomial_word::{high_half, low_half};
 
-// Reduces the sum of a word and x^128 times the half word below it.
+// Reduces the sum of a word and x^128 times a half word, `spill`.
 #[inline(always)]
-fn folded(word: u128, spill: u64) -> u128
+fn fold(word: u128, spill: u64) -> u128
     ensures { result ≡ folded word spill }
 {
     let high = u128::from(spill) << 64;
     word ^ (high ^ ((high >> 1) ^ ((high >> 2) ^ (high >> 7))))
 }
 
-// The sum of a word and x^128 times what fell out below it, which is kept in the high half of `spill` and folded in
-// at the end.
+// The sum of a word and x^128 times the bits that were shifted out of it. They are in the high half of `spill`, and are folded
+// in at the end.
 #[derive(Drop, Clone, Copy)]
 pub(crate) struct Chain {
     word: Lanes,
@@ -38,7 +39,7 @@ impl Chain {
         }
     }
 
-    // Multiplies the sum by x^8 and adds a multiple by eight bits.
+    // Multiplies the sum by x^8 and adds the multiple by the next byte.
     #[inline(always)]
     pub(crate) fn take_eight(self, multiple: Lanes) -> Chain
         ensures { (d : ℕ) (p q : List Bool) → 8 + d ≤ 64 → IsSpread d p (le self.word.bytes) (le self.spill.bytes / 2 ^ 64)
@@ -53,19 +54,19 @@ impl Chain {
 
     // Reduces the sum.
     #[inline(always)]
-    pub(crate) fn reduced(self) -> u128
+    pub(crate) fn reduce(self) -> u128
         ensures { (d : ℕ) (p : List Bool) → IsSpread d p (le self.word.bytes) (le self.spill.bytes / 2 ^ 64) → IsReduced p result }
     {
-        folded(self.word.word(), high_half(self.spill.word()))
+        fold(self.word.word(), high_half(self.spill.word()))
     }
 
-    // The sum and x^64 times a word, reduced: what falls out below both is folded in at once.
+    // Returns the sum plus x^64 times a word, reduced. The bits that are shifted out of both are folded in together.
     #[inline(always)]
-    pub(crate) fn reduced_with(self, low: u128) -> u128
+    pub(crate) fn reduce_with(self, low: u128) -> u128
         ensures { (d : ℕ) (p q : List Bool) → IsSpread d p (le self.word.bytes) (le self.spill.bytes / 2 ^ 64)
             → IsReduced q low → IsReduced (sum p (replicate 64 false ++ q)) result }
     {
         let spill = high_half(self.spill.word()) ^ low_half(low);
-        folded(self.word.word() ^ (low >> 64), spill)
+        fold(self.word.word() ^ (low >> 64), spill)
     }
 }

@@ -1,4 +1,4 @@
-//! GHASH (SP 800-38D, 6.4): the hash whose blocks are read from their first byte on.
+//! GHASH (SP 800-38D, 6.4), which reads a block from its first byte to its last.
 
 ghost use Rattle.gf128.specs.Ghash.{GhashIsTheOnly};
 ghost use Rattle.gf128.specs.Orders.{Straight};
@@ -8,7 +8,7 @@ use crate::hash_order::HashOrder;
 use crate::polynomial_word::{block_of, word_of};
 use octets::Block;
 
-/// The order of GHASH: the first byte of a block is the highest of its word.
+/// The order of GHASH: the first byte of a block is the highest byte of its word.
 pub struct GhashOrder;
 
 impl HashOrder for GhashOrder {
@@ -34,11 +34,11 @@ impl HashOrder for GhashOrder {
     }
 }
 
-/// GHASH over a text fed piece by piece (SP 800-38D, 6.4), by the multiplier `M`.
+/// GHASH over a text that comes in pieces (SP 800-38D, 6.4), with the multiplier `M`.
 pub type Ghash<M> = BlockHash<M, GhashOrder>;
 
-/// GHASH is the only block whose polynomial is the sum of the residues of the blocks times powers of the
-/// key.
+/// The law of GHASH (SP 800-38D, 6.4): it is the only block whose polynomial is the sum of the residues of the blocks times
+/// powers of the key. The call does nothing; its contract is the law.
 pub fn ghash_is_the_only()
     ensures { GhashIsTheOnly }
 {}

@@ -1,5 +1,5 @@
-//! GHASH and POLYVAL over a text that comes in pieces (SP 800-38D, 6.4; RFC 8452, 3): one state for both, over the order of a
-//! block's bytes.
+//! GHASH and POLYVAL over a text that comes in pieces (SP 800-38D, 6.4; RFC 8452, 3). Both have the same state, with the order
+//! of a block's bytes as a type parameter.
 
 ghost use Rattle.std.specs.Prelude.{◌≡◌, ℕ, ◌*◌, ◌/◌, ◌%◌, ◌<◌, ◌++◌, List, [], length, drop};
 ghost use Rattle.octets.specs.Bytes.{IsBlock};
@@ -19,7 +19,7 @@ pub(crate) struct BlockSum<M, O> {
 }
 
 impl<M: Multiply, O: HashOrder> Absorb for BlockSum<M, O> {
-    ghost use Rattle.gf128.specs.States.{SumHolds};
+    ghost use Rattle.gf128.specs.Code.States.{SumHolds};
 
     ghost absorbed = { λ s h m. SumHolds O.order M.key_bytes s h m };
 
@@ -37,16 +37,16 @@ impl<M: Multiply, O: HashOrder> Absorb for BlockSum<M, O> {
     }
 }
 
-/// GHASH or POLYVAL over a text fed piece by piece, by the multiplier `M` in GHASH's field.
+/// GHASH or POLYVAL over a text that comes in pieces, with the multiplier `M` in GHASH's field.
 #[derive(Drop)]
 pub struct BlockHash<M, O> {
     pub(crate) pieces: Pieces<BlockSum<M, O>>,
 }
 
 impl<M: Keyed128, O: HashOrder> BlockHash<M, O> {
-    ghost use Rattle.gf128.specs.States.{HashHolds};
+    ghost use Rattle.gf128.specs.Code.States.{HashHolds};
 
-    /// A state that holds the empty text, under a key of 16 bytes. Not constant time: see the multiplier.
+    /// Makes a state that holds the empty text, under a key of 16 bytes. Not constant time: see the multiplier.
     pub fn new(key: &Block) -> BlockHash<M, O>
         ensures { HashHolds O.order M.key_bytes result key.now [] }
     {
@@ -56,10 +56,10 @@ impl<M: Keyed128, O: HashOrder> BlockHash<M, O> {
 
 impl<M: Multiply, O: HashOrder> BlockHash<M, O> {
     ghost use Rattle.octets.specs.Bytes.{pad16};
-    ghost use Rattle.gf128.specs.States.{HashHolds, IsSum};
+    ghost use Rattle.gf128.specs.Code.States.{HashHolds, IsSum};
 
-    /// A state that holds the empty text, under each key that the multiplier serves: for GHASH its own key,
-    /// for POLYVAL the one of which its key is [`crate::reversed_mul_x`]. The multiplier may be borrowed.
+    /// Makes a state that holds the empty text. For GHASH the key is that of the multiplier; for POLYVAL it is the key of which
+    /// [`crate::reversed_mul_x`] is that of the multiplier. The multiplier may be borrowed.
     pub fn with(multiplier: M) -> BlockHash<M, O>
         ensures { (h : List ℕ) → Serves O.order h (M.key_bytes multiplier)
             → HashHolds O.order M.key_bytes result h [] }
@@ -73,8 +73,8 @@ impl<M: Multiply, O: HashOrder> BlockHash<M, O> {
         }
     }
 
-    /// The state that holds a text again: `sum` is its sum over the whole blocks of the text, and `rest` the
-    /// bytes after them, fewer than 16. The multiplier is as for [`BlockHash::with`].
+    /// Resumes the state that holds a text: `sum` is the sum over the whole blocks of the text, and `rest` the bytes after
+    /// them, fewer than 16. The multiplier is as for [`BlockHash::with`].
     pub fn resumed(multiplier: M, sum: u128, rest: &[u8]) -> BlockHash<M, O>
         requires { length rest.now < 16 }
         ensures { (h m : List ℕ) → Serves O.order h (M.key_bytes multiplier) → IsSum O.order h m sum
@@ -117,7 +117,7 @@ impl<M: Multiply, O: HashOrder> BlockHash<M, O> {
         self.pieces.update(piece);
     }
 
-    /// Feeds zeros up to a multiple of 16 bytes fed.
+    /// Adds the fewest zero bytes that make the text's length a multiple of 16.
     pub fn pad16(&mut self)
         ensures { (h m : List ℕ) → HashHolds O.order M.key_bytes self.old h m
             → HashHolds O.order M.key_bytes self.new h (pad16 m) }
@@ -125,7 +125,7 @@ impl<M: Multiply, O: HashOrder> BlockHash<M, O> {
         self.pieces.pad16();
     }
 
-    /// Feeds zeros up to a multiple of 16 bytes fed, and then a block.
+    /// Adds the fewest zero bytes that make the text's length a multiple of 16, and then a block.
     pub fn pad16_and_add(&mut self, block: &[u8; 16])
         ensures { (h m : List ℕ) → HashHolds O.order M.key_bytes self.old h m
             → HashHolds O.order M.key_bytes self.new h (pad16 m ++ block.now) }
@@ -133,7 +133,7 @@ impl<M: Multiply, O: HashOrder> BlockHash<M, O> {
         self.pieces.pad16_and_add(block);
     }
 
-    /// Returns the hash of the text fed so far, if that is whole blocks of 16 bytes.
+    /// Returns the hash of the text so far, if the text is whole blocks of 16 bytes.
     pub fn hash(&self) -> Block
         ensures value { (h m : List ℕ) → HashHolds O.order M.key_bytes self.now h m → length m % 16 ≡ 0
             → result ≡ hash_by O.order h m }
@@ -142,7 +142,7 @@ impl<M: Multiply, O: HashOrder> BlockHash<M, O> {
         O::hash_of(self.pieces.core().sum)
     }
 
-    /// Returns the hash of the text fed, padded by zeros to whole blocks: 16 bytes. Consumes the state.
+    /// Returns the hash of the text, padded with zeros to whole blocks. Consumes the state.
     pub fn finish(mut self) -> Block
         ensures value { (h m : List ℕ) → HashHolds O.order M.key_bytes self h m
             → result ≡ hash_by O.order h (pad16 m) }

@@ -1,5 +1,5 @@
-//! The order in which a hash reads the bytes of a block: GHASH from the first (SP 800-38D, 6.3), POLYVAL from the last
-//! (RFC 8452, 3).
+//! The order in which a hash reads the bytes of a block: GHASH begins with the first byte (SP 800-38D, 6.3), POLYVAL with the
+//! last (RFC 8452, 3).
 
 ghost use Rattle.std.specs.Prelude.{◌≡◌, ℕ, ◌*◌, ◌/◌, ◌^◌, ◌<◌, List, length};
 ghost use Rattle.octets.specs.Bytes.{IsBlock};
@@ -17,13 +17,13 @@ pub trait HashOrder {
     fn word_of(block: &[u8; 16]) -> u128
         ensures { of_word result ≡ reading order block.now };
 
-    /// Returns the byte of a block at a place in its word: place 0 is the lowest byte, place 15 the highest.
+    /// Returns the byte of a block at an index in its word: index 0 is the lowest byte, index 15 the highest.
     fn byte_at(block: &[u8; 16], place: usize) -> u8
         requires { place < 16 }
         ensures { (w : ℕ) → of_word w ≡ reading order block.now
             → of_bits 8 result ≡ of_bits 8 (w / 2 ^ (8 * place)) };
 
-    /// Returns the hash of blocks by their sum, which is a word.
+    /// Returns the hash of blocks from their sum, which is a word.
     fn hash_of(sum: u128) -> Block
         ensures value { (h k m : List ℕ) → Serves order h k
             → Agree (of_word sum) (block_sum order k m (length m / 16)) → result ≡ hash_by order h m }

@@ -10,19 +10,19 @@ use crate::hash_order::HashOrder;
 use crate::polynomial_word::{block_of, word_of};
 use octets::Block;
 
-/// Multiplication by a key of 16 bytes in GHASH's field (SP 800-38D, 6.3). An implementor gives `times`, and
-/// may give faster methods on words. A reference to a multiplier is one too, so that a hash can borrow a table.
+/// Multiplication by a key of 16 bytes in GHASH's field (SP 800-38D, 6.3). An implementor has to give `times`, and may give
+/// faster methods on words. A reference to a multiplier is a multiplier too, so that a hash can borrow a table.
 pub trait Multiply: Drop {
     // The key's bytes.
     ghost key_bytes: { Self → List ℕ };
 
-    /// The product of a block and the key.
+    /// Returns the product of a block and the key.
     fn times(&self, x: &Block) -> Block
         ensures value { IsProduct x.now (key_bytes self.now) result }
         ensures is_block { IsBlock result };
 
-    /// The product of a word and the key. A word is the number that a block spells, its first byte the
-    /// highest, so the bit of weight 2^127 is the coefficient of x^0.
+    /// Returns the product of a word and the key. A word is the number that a block spells, most significant byte first, so the
+    /// bit of weight 2^127 is the coefficient of x^0.
     fn times_word(&self, x: u128) -> u128
         ensures { IsWordProduct x (key_bytes self.now) result }
     {
@@ -30,8 +30,8 @@ pub trait Multiply: Drop {
         word_of(product.bytes())
     }
 
-    /// The sum of `a` times the fourth power of the key, `b` times its third, `c` times its second, and `d`
-    /// times the key.
+    /// Returns the sum of `a` times the fourth power of the key, `b` times its third, `c` times its second, and `d` times the
+    /// key.
     fn times_four(&self, a: u128, b: u128, c: u128, d: u128) -> u128
         ensures { IsFourProducts a b c d (key_bytes self.now) result }
     {
@@ -41,7 +41,7 @@ pub trait Multiply: Drop {
         self.times_word(third ^ d)
     }
 
-    /// [`Multiply::times_four`] of the words of four blocks whose bytes `O` reads, `sum` added to the first.
+    /// Returns [`Multiply::times_four`] of the words of four blocks, as `O` reads them, with `sum` added to the first.
     fn times_blocks<O: HashOrder>(&self, sum: u128, blocks: &[[u8; 16]; 4]) -> u128
         ensures { IsFourBlocks O.order sum blocks.now (key_bytes self.now) result }
     {
@@ -57,18 +57,18 @@ pub trait Multiply: Drop {
 
 /// A multiplier that is made from its key. A borrowed one is not: see [`Multiply`].
 pub trait Keyed128: Multiply + Sized {
-    /// The multiplier of `key`.
+    /// Makes the multiplier of `key`.
     fn of(key: &Block) -> Self
         ensures { Self.key_bytes result ≡ key.now };
 
-    /// The multiplier of the key of 16 zeros, which [`Keyed128::set`] replaces.
+    /// Makes the multiplier of a key of 16 zeros, to be replaced by [`Keyed128::set`].
     fn none() -> Self
         ensures { Self.key_bytes result ≡ replicate 16 0 }
     {
         Self::of(&Block::new([0; 16]))
     }
 
-    /// Becomes the multiplier of `key` in place, since a large multiplier takes long to move.
+    /// Makes this the multiplier of `key`, in place: to move a large multiplier takes long.
     fn set(&mut self, key: &Block)
         ensures { Self.key_bytes self.new ≡ key.now }
     {

@@ -1,4 +1,4 @@
-//! Words of 128 bits in vectors: a move by a byte is one shuffle, where LLVM takes three shifts for a number.
+//! Words of 128 bits as vectors of bytes: a shift by one byte is one shuffle, where LLVM makes three shifts for a number.
 
 ghost use Rattle.std.specs.Prelude.{◌≡◌, ◌+◌, ◌*◌, ◌/◌, ◌%◌, ◌^◌, ◌<◌, bit_xor};
 ghost use Rattle.octets.specs.Bytes.{IsBlock, le};
@@ -7,7 +7,7 @@ use octets::le_bytes;
 use std::simd::prelude::*;
 use std::simd::u8x16;
 
-// A word in the vector of its bytes, the least significant one first.
+// A word as the vector of its bytes, the least significant one first.
 #[derive(Drop, Clone, Copy)]
 pub(crate) struct Lanes {
     bytes: u8x16,
@@ -15,7 +15,7 @@ pub(crate) struct Lanes {
 }
 
 impl Lanes {
-    // A word.
+    // The vector of a word.
     #[inline(always)]
     pub(crate) fn of(word: u128) -> Lanes
         ensures { le result.bytes ≡ word }
@@ -43,7 +43,7 @@ impl Lanes {
         }
     }
 
-    // The word moved down by a byte, with the lowest byte of another word above it.
+    // The word shifted down by one byte, with the lowest byte of `above` as its highest.
     #[inline(always)]
     pub(crate) fn down_below(self, above: Lanes) -> Lanes
         ensures value { le result.bytes ≡ le above.bytes % 256 * 2 ^ 120 + le self.bytes / 256 }

@@ -1,5 +1,5 @@
-//! Products in GHASH's field, and GHASH (SP 800-38D, 6.3 and 6.4) and POLYVAL (RFC 8452, 3) over a text that comes in pieces. No
-//! call fails, and none allocates. No multiplier is constant time: each says what it looks up, or branches on.
+//! Products in GHASH's field, and GHASH (SP 800-38D, 6.3 and 6.4) and POLYVAL (RFC 8452, 3) over a text that comes in pieces.
+//! No call fails, and none allocates. No multiplier is constant time: each says what it looks up, or branches on.
 //!
 //! From `crates/gf128/src/uses.rt`:
 //! ```
@@ -41,5 +41,5 @@ pub use polyval::{
 pub use table_mul::{KeptMul, TableMul};
 pub use wide_mul::WideMul;
 
-/// The multiplier to take where nothing is known of the length of the text: its table is small and quickly made.
+/// The multiplier to take if the length of the text is not known: its table is small and quickly made.
 pub type Mul = TableMul;

@@ -1,5 +1,5 @@
-//! The multiples of a word of GHASH's field (SP 800-38D, 6.3) by two, four and eight bits, each made of two smaller ones. The
-//! bit of highest weight is the coefficient of x^0.
+//! The multiples of a word of GHASH's field (SP 800-38D, 6.3) by all polynomials of two, four and eight bits. Each multiple is
+//! made of two smaller ones. The bit of highest weight is the coefficient of x^0.
 
 ghost use Rattle.std.specs.Prelude.{◌≡◌, ℕ, ◌/◌, ◌%◌, ◌^◌, ◌<◌, bit_xor, slice_index, slice_index_or};
 ghost use Rattle.std.specs.Int.{w128, to_be_bytes};
@@ -8,7 +8,7 @@ ghost use Rattle.octets.specs.Polynomial.{product};
 ghost use Rattle.gf128.specs.declared.lanes.Lanes.{Lanes};
 ghost use Rattle.gf128.specs.Ghash.{IsProduct};
 ghost use Rattle.gf128.specs.Code.Words.{of_bits, of_word, IsBitsProduct, IsMoved, IsSpread, IsWordProduct};
-ghost use Rattle.gf128.specs.Code.Words.{AreMultiples, kept_number};
+ghost use Rattle.gf128.specs.Code.Words.{AreMultiples, stored_number};
 
 use crate::chain::Chain;
 use crate::lanes::Lanes;
@@ -66,7 +66,7 @@ impl Multiples4 {
     }
 }
 
-// The multiples of a word by four bits, each the sum of two by two.
+// The 16 multiples of a word by four bits, each the sum of two multiples by two bits.
 #[derive(Drop)]
 struct Multiples8 {
     high: Multiples4,
@@ -95,8 +95,8 @@ impl Multiples8 {
     }
 }
 
-// The 16 multiples of a word by four bits. They are written out one by one: in a loop, LLVM would look the smaller multiples
-// up in memory.
+// The 16 multiples of a word by four bits. They are written out one by one: in a loop, LLVM would read the smaller multiples
+// from memory.
 #[inline(always)]
 fn sixteen_multiples(word: u128) -> [u128; 16]
     ensures { (j : ℕ) → j < 16 → IsBitsProduct 4 j word (slice_index result j) }
@@ -124,7 +124,7 @@ fn sixteen_multiples(word: u128) -> [u128; 16]
 
 // Splits each number into its low and its high half.
 fn halves_of(numbers: &[u128; 16]) -> [u64; 32]
-    ensures { (j : ℕ) → j < 16 → kept_number result j ≡ slice_index numbers.now j }
+    ensures { (j : ℕ) → j < 16 → stored_number result j ≡ slice_index numbers.now j }
 {
     let mut halves = [0; 32];
     'numbers: for i in 0..16usize {
@@ -136,14 +136,14 @@ fn halves_of(numbers: &[u128; 16]) -> [u64; 32]
 
 // The multiples of a word by eight bits.
 pub(crate) trait ByteMultiples {
-    // The word that is multiplied.
+    // The word of which these are the multiples.
     ghost factor: { Self → ℕ };
 
     // The multiple by a byte.
     fn at(&self, byte: u8) -> Lanes
         ensures { IsBitsProduct 8 byte (factor self.now) (le result.bytes) };
 
-    // Multiplies the word by a half word, and does not reduce the product.
+    // Multiplies the word by a half word, without reducing the product.
     #[inline(always)]
     fn times_half(&self, half: u64) -> Chain
         ensures { IsSpread 64 (product (of_bits 64 half) (of_word (factor self.now))) (le result.word.bytes)
@@ -164,7 +164,7 @@ pub(crate) trait ByteMultiples {
     {
         let high = self.times_half(high_half(x));
         let low = self.times_half(low_half(x));
-        high.reduced_with(low.reduced())
+        high.reduce_with(low.reduce())
     }
 
     // Multiplies the word by a block.
@@ -190,7 +190,7 @@ impl KeptMultiples {
     #[inline(always)]
     pub(crate) fn sum_at(&self, byte: u8) -> Lanes
         ensures { le result.bytes
-            ≡ bit_xor (kept_number self.now.high (byte / 16)) (kept_number self.now.low (byte % 16)) }
+            ≡ bit_xor (stored_number self.now.high (byte / 16)) (stored_number self.now.low (byte % 16)) }
     {
         let (i, j) = (usize::from(byte / 16) * 2, usize::from(byte % 16) * 2);
         let high = Lanes::of(of_halves(self.high[i + 1], self.high[i]));
@@ -198,9 +198,9 @@ impl KeptMultiples {
     }
 }
 
-// The multiples of a word by eight bits, each the sum of two multiples by four bits: it holds 32 of these. The tables are arrays
-// of numbers, which start at multiples of 16 bytes in memory: so an XOR reads an entry from memory itself. An array of vectors
-// may start anywhere, and an entry of it is loaded first.
+// The multiples of a word by eight bits, each the sum of two multiples by four bits, of which there are 32. The tables are
+// arrays of numbers and not of vectors: numbers are aligned to 16 bytes, so an XOR can read an entry from memory. An entry of
+// an array of vectors, which may be unaligned, would have to be loaded first.
 #[derive(Drop, Clone, Copy)]
 pub(crate) struct Multiples32 {
     pub(crate) word: u128,
@@ -222,9 +222,9 @@ impl Multiples32 {
         }
     }
 
-    // Returns its multiples as plain numbers.
-    pub(crate) fn kept(&self) -> KeptMultiples
-        ensures { AreMultiples (of_word self.now.word) (kept_number result.high) (kept_number result.low) }
+    // Returns the 32 multiples as plain numbers.
+    pub(crate) fn numbers(&self) -> KeptMultiples
+        ensures { AreMultiples (of_word self.now.word) (stored_number result.high) (stored_number result.low) }
     {
         KeptMultiples {
             high: halves_of(&self.high),
@@ -251,8 +251,7 @@ pub(crate) struct Multiples256 {
     ghost filled: { (j : ℕ) → j < 256 → IsBitsProduct 8 j word (slice_index entries j) },
 }
 
-// Fills a table in place with the multiples of a word by eight bits: a table of 4 KiB takes longer to move than to
-// fill.
+// Fills a table with the multiples of a word by eight bits, in place: a table of 4 KiB takes longer to move than to fill.
 fn fill(entries: &mut [u128; 256], word: u128)
     ensures { (k : ℕ) → k < 256 → IsBitsProduct 8 k word (slice_index entries.new k) }
 {
@@ -277,7 +276,7 @@ impl Multiples256 {
         }
     }
 
-    // Replaces them by the multiples of a word.
+    // Replaces the multiples by those of another word.
     pub(crate) fn set(&mut self, word: u128)
         ensures { self.new.word ≡ word }
     {

@@ -50,7 +50,7 @@ pub(crate) fn of_halves(high: u64, low: u64) -> u128
     u128::from(high) << 64 | u128::from(low)
 }
 
-// The bytes of a half word, that of the lowest bits first.
+// The bytes of a half word, the least significant one first.
 #[inline(always)]
 pub(crate) fn bytes_of(half: u64) -> [u8; 8]
     ensures { (i : ℕ) → i < 8 → of_bits 8 (slice_index result i) ≡ of_bits 8 (half / 2 ^ (8 * i)) }

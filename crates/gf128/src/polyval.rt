@@ -1,4 +1,5 @@
-//! POLYVAL (RFC 8452, 3): the hash whose blocks are read from their last byte on, by GHASH's product (appendix A).
+//! POLYVAL (RFC 8452, 3), which reads a block from its last byte to its first. It is computed with GHASH's product (appendix
+//! A).
 
 ghost use Rattle.octets.specs.Bytes.{IsBlock};
 ghost use Rattle.gf128.specs.Orders.{Reversed};
@@ -20,7 +21,7 @@ pub fn reversed_mul_x(key: &Block) -> Block
     block_of(times)
 }
 
-/// The order of POLYVAL: the first byte of a block is the lowest of its word.
+/// The order of POLYVAL: the first byte of a block is the lowest byte of its word.
 pub struct PolyvalOrder;
 
 impl HashOrder for PolyvalOrder {
@@ -46,22 +47,23 @@ impl HashOrder for PolyvalOrder {
     }
 }
 
-/// POLYVAL over a text fed piece by piece (RFC 8452, 3), by the multiplier `M` in GHASH's field.
+/// POLYVAL over a text that comes in pieces (RFC 8452, 3), with the multiplier `M` in GHASH's field.
 pub type Polyval<M> = BlockHash<M, PolyvalOrder>;
 
-/// The dot of two polynomials is the only polynomial of degree below 128 whose product with x^128 has the residue of their
-/// product.
+/// The law of `dot` (RFC 8452, 3): the dot of two polynomials is the only polynomial of degree below 128 whose product with
+/// x^128 has the residue of their product. The call does nothing; its contract is the law.
 pub fn dot_is_the_only()
     ensures { DotIsTheOnly }
 {}
 
-/// POLYVAL is the only block that the sums by dot give.
+/// The law of POLYVAL (RFC 8452, 3): it is the only block that the sums S_j, made with `dot`, lead to. The call does nothing;
+/// its contract is the law.
 pub fn polyval_is_the_only()
     ensures { PolyvalIsTheOnly }
 {}
 
-/// POLYVAL is the byte reverse of GHASH under mulX of the reversed key over the reversed blocks (RFC 8452,
-/// appendix A).
+/// The law of RFC 8452, appendix A: POLYVAL is the byte reverse of GHASH under mulX of the reversed key over the reversed
+/// blocks. The call does nothing; its contract is the law.
 pub fn polyval_by_ghash()
     ensures { PolyvalByGhash }
 {}

@@ -2,8 +2,8 @@
 
 ghost use Rattle.std.specs.Prelude.{◌≡◌};
 ghost use Rattle.std.specs.Int.{w128, to_be_bytes};
-ghost use Rattle.gf128.specs.Code.Words.{of_word, AreMultiples, kept_number};
-ghost use Rattle.gf128.specs.KeptMultiples.{KeepsMultiples};
+ghost use Rattle.gf128.specs.Code.Words.{of_word, AreMultiples, stored_number};
+ghost use Rattle.gf128.specs.Code.KeptMultiples.{KeepsMultiples};
 
 use crate::lanes::Lanes;
 use crate::multiples::{ByteMultiples, KeptMultiples, Multiples32};
@@ -11,7 +11,7 @@ use crate::polynomial_word::word_of;
 use crate::{Keyed128, Multiply};
 use octets::Block;
 
-/// The multiplier that holds 32 multiples of the key, half a KiB, and takes a byte by two of them.
+/// The multiplier that holds 32 multiples of the key, half a KiB, and multiplies by a byte with two of them.
 ///
 /// Not constant time. For each of the 16 bytes of the factor it looks up two tables of 16 entries of 16 bytes, one by the high
 /// and one by the low four bits. In a hash the factor is the sum so far XORed with a block, which key and text determine:
@@ -23,11 +23,11 @@ pub struct TableMul {
 }
 
 impl TableMul {
-    /// Returns its multiples as plain numbers, for [`KeptMul`].
+    /// Returns the multiples of the key as plain numbers, for [`KeptMul`].
     pub fn kept(&self) -> KeptMultiples
         ensures { KeepsMultiples result (⟦<TableMul as Multiply>⟧.key_bytes self.now) }
     {
-        self.multiples.kept()
+        self.multiples.numbers()
     }
 }
 
@@ -51,25 +51,26 @@ impl Keyed128 for TableMul {
     }
 }
 
-/// The multiplier that borrows multiples, which [`TableMul::kept`] returned, as plain numbers. It takes a little longer than
-/// [`TableMul`] for each block, and makes no table. Not constant time: it looks up the same entries as [`TableMul`].
+/// The multiplier that borrows the plain numbers that [`TableMul::kept`] returned. It makes no table, and takes a little longer
+/// than [`TableMul`] for each block. Not constant time: it looks up the same entries as [`TableMul`].
 #[derive(Drop, Clone, Copy)]
 pub struct KeptMul<'a> {
     word: u128,
-    kept: &'a KeptMultiples,
-    ghost filled: { AreMultiples (of_word word) (kept_number kept.now.high) (kept_number kept.now.low) },
+    numbers: &'a KeptMultiples,
+    ghost filled: { AreMultiples (of_word word) (stored_number numbers.now.high) (stored_number numbers.now.low) },
 }
 
 impl<'a> KeptMul<'a> {
-    /// The multiplier of `key`, of which [`TableMul::kept`] returned these multiples. The caller shows that they keep them.
+    /// Makes the multiplier of `key`, with the multiples that [`TableMul::kept`] returned for it. The caller shows that the
+    /// numbers are the multiples of the key.
     #[inline(always)]
-    pub fn new(key: &Block, kept: &'a KeptMultiples) -> KeptMul<'a>
-        requires { KeepsMultiples kept.now key.now }
+    pub fn new(key: &Block, numbers: &'a KeptMultiples) -> KeptMul<'a>
+        requires { KeepsMultiples numbers.now key.now }
         ensures { ⟦<KeptMul<'a> as Multiply>⟧.key_bytes result ≡ key.now }
     {
         KeptMul {
             word: word_of(key.bytes()),
-            kept,
+            numbers,
         }
     }
 }
@@ -79,7 +80,7 @@ impl<'a> ByteMultiples for KeptMul<'a> {
 
     #[inline(always)]
     fn at(&self, byte: u8) -> Lanes {
-        self.kept.sum_at(byte)
+        self.numbers.sum_at(byte)
     }
 }
 

@@ -15,14 +15,14 @@ use crate::polynomial_word::{block_of, bytes_of, high_half, low_half, word_of};
 use crate::{Keyed128, Multiply};
 use octets::Block;
 
-/// The multiplier that holds 256 multiples of each of the key's first four powers, 16 KiB, and takes four
-/// blocks at a time. It is for a text of a KiB and more, or for a key that is kept.
+/// The multiplier that holds 256 multiples of each of the key's first four powers, 16 KiB, and takes four blocks at a time. It
+/// is for a text of at least 1 KiB, or for a key that is used for several texts.
 ///
 /// Not constant time. Each of the four tables has 256 entries of 16 bytes. Of four blocks, the bytes of the first, XORed with
-/// the sum so far, look up the table of the fourth power; the bytes of the other three, as they are, look up those of the
-/// third, the second and the key. A block alone, added to the sum, looks up the key's table. So what is read depends on the
-/// key through the sum, and on the text where it is secret, as in POLYVAL. To make the tables of the powers it looks the
-/// key's table up by the key and its powers.
+/// the sum so far, look up the table of the fourth power; the bytes of the other three, as they are, look up the tables of the
+/// third power, the second and the key. A single block is XORed with the sum and looks up the key's table. So the entries that
+/// are read depend on the key through the sum, and on the text where it is secret, as in POLYVAL. To make the tables of the
+/// powers it looks up the key's table by the bytes of the key and its powers.
 #[derive(Drop)]
 pub struct WideMul {
     first: Multiples256,
@@ -47,8 +47,8 @@ impl WideMul {
         self.fourth.at(a).xor(self.third.at(b).xor(low))
     }
 
-    // The sum of a half word times the fourth power of the key, and of half the words of three blocks, from offset `from`
-    // on, times the third, the second and the key, not reduced. A byte of a block is read from memory, which takes one
+    // The sum, not reduced, of a half word times the fourth power of the key, and of half words of three blocks, from byte
+    // `from` on, times the third power, the second and the key. A byte of a block is read from memory, which takes one
     // instruction; to get it from a word takes two or three.
     #[inline(always)]
     fn four_halves<O: HashOrder>(
@@ -97,20 +97,20 @@ impl Multiply for WideMul {
         let (b, c, d) = (&blocks[1], &blocks[2], &blocks[3]);
         let high = self.four_halves::<O>(high_half(first), b, c, d, 8);
         let low = self.four_halves::<O>(low_half(first), b, c, d, 0);
-        high.reduced_with(low.reduced())
+        high.reduce_with(low.reduce())
     }
 }
 
 impl Keyed128 for WideMul {
-    // Inlined, it moves 16 KiB once; called, it would move them twice.
+    // Inlined, since a call would move the 16 KiB twice.
     #[inline(always)]
     fn of(key: &Block) -> WideMul {
-        let mut made = WideMul::none();
-        made.set(key);
-        made
+        let mut multiplier = WideMul::none();
+        multiplier.set(key);
+        multiplier
     }
 
-    // Inlined, the tables are cleared where they stay.
+    // Inlined, so that the tables are cleared where they stay.
     #[inline(always)]
     fn none() -> WideMul {
         WideMul {

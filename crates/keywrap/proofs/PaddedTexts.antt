@@ -14,7 +14,8 @@ use Rattle.octets.specs.Bytes.{AreBytes}
 use Rattle.aes.specs.Cipher.{cipher, IsKey, IsPermutation}
 use Rattle.keywrap.specs.Wrapping.{steps}
 use Rattle.keywrap.specs.Padded.{constant, alternative_value, padded, transformed, HasPaddableLength}
-use Rattle.keywrap.specs.Padded.{HasBlocks, HasPaddedRoom, IsStartOf, UnwrappedPadded, IsNoPaddedWrapping}
+use Rattle.keywrap.specs.Padded.{HasBlocks, HasPaddedRoom, UnwrappedPadded, IsNoPaddedWrapping}
+use Rattle.keywrap.specs.Code.Padded.{IsStartOf}
 use Rattle.keywrap.specs.Padded.{HasOnePaddedText}
 use borrow.Rule.Slice.PartMut.{put_mid}
 use Rattle.keywrap.proofs.Blocks.{length_cipher}
@@ -229,7 +230,7 @@ unwrapped_by key wrapped first rest n l b s e = record {
   is = sym e ∙ ap (transformed key) (ap₂ (λ x y. x ++ y) s.first_is s.blocks_are);
 }
 
--- if the register found is that of no text, the bytes are the wrapping of no text
+-- if the register found is not that of a text, the bytes are not a valid wrapping
 pub no_wrapping : (key wrapped first rest : List ℕ) → IsPermutation → IsKey key
     → AreBytes (length wrapped) (first ++ rest) → length first ≡ 8
     → transformed key (first ++ rest) ≡ wrapped → ((text : List ℕ) → IsStartOf text first rest → ⊥)

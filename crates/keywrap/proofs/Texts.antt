@@ -85,7 +85,7 @@ one_text law key k wrapped text u = (
       (ap (λ n. steps key (6 * (n / 8)) (initial_value ++ other)) blocks ∙ sym v.is) u),
 )
 
--- if the steps lead from another first value to the bytes, these are the wrapping of no text
+-- if the steps lead to the bytes from another first value, the bytes are not a valid wrapping
 pub no_wrapping : (key wrapped start : List ℕ) → IsPermutation → IsKey key → AreBytes (length wrapped) start
     → steps key (6 * ((length wrapped - 8) / 8)) start ≡ wrapped → (take 8 start ≡ initial_value → ⊥)
     → IsNoWrapping key wrapped

@@ -9,8 +9,8 @@ pub record Register : Type 0 where
   pub first : List ℕ
   pub blocks : List (List ℕ)
 
--- step t: with B the cipher of A and R[1], A becomes the first half of B XOR t, each further block moves
--- down one place, and R[n] becomes the second half of B
+-- step t: with B the cipher of A and R[1], A becomes the first half of B XOR t, each other block moves down one place, and R[n]
+-- becomes the second half of B
 abbrev pub block_step : List ℕ → ℕ → List ℕ → List (List ℕ) → Register
 block_step key t a [] = record { first = a; blocks = [] }
 block_step key t a (r ∷ rs) =
@@ -22,12 +22,12 @@ unfoldable pub block_steps : List ℕ → ℕ → Register → Register
 block_steps key zero s = s
 block_steps key (suc t) s = let u = block_steps key t s in block_step key (suc t) u.first u.blocks
 
--- the blocks as one list of bytes
+-- the concatenation of the blocks
 abbrev pub joined_blocks : List (List ℕ) → List ℕ
 joined_blocks [] = []
 joined_blocks (r ∷ rs) = r ++ joined_blocks rs
 
--- each block has eight bytes
+-- each block is eight bytes long
 abbrev pub AreBlocks : List (List ℕ) → Type 0
 AreBlocks [] = Unit {0}
 AreBlocks (r ∷ rs) = (length r ≡ 8) × AreBlocks rs

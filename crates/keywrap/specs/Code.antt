@@ -1,2 +1,3 @@
--- How the code keeps the register. Wrapping is defined without it.
+-- How the code represents the register. Wrapping is defined without it.
 pub mod Places
+pub mod Padded

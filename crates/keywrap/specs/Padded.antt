@@ -10,17 +10,15 @@ use Rattle.keywrap.specs.Wrapping.{steps}
 abbrev pub constant : List ℕ
 constant = 0xa6 ∷ 0x59 ∷ 0x59 ∷ 0xa6 ∷ []
 
--- the alternative initial value for a text of n bytes: the constant, then n in 32 bits, most significant
--- byte first (3)
+-- the alternative initial value for a text of n bytes: the constant, then n in four bytes, most significant byte first (3)
 abbrev pub alternative_value : ℕ → List ℕ
 alternative_value n = constant ++ bytes_high_first 4 n
 
--- a text followed by the fewest zero bytes that make whole blocks of eight (4.1)
+-- a text followed by the fewest zero bytes that make its length a multiple of 8 (4.1)
 abbrev pub padded : List ℕ → List ℕ
 padded text = text ++ replicate ((8 - length text % 8) % 8) 0
 
--- the bytes made of A and n blocks: the cipher of both if there is one block, and else the register after the
--- 6n steps of RFC 3394 (4.1)
+-- A and n blocks, encrypted: their cipher if n is 1, and else the register after the 6n steps of RFC 3394 (4.1)
 unfoldable pub transformed : List ℕ → List ℕ → List ℕ
 transformed key s = if length s == 16 then cipher key s else steps key (6 * ((length s - 8) / 8)) s
 
@@ -28,26 +26,20 @@ transformed key s = if length s == 16 then cipher key s else steps key (6 * ((le
 abbrev pub padded_wrapping : List ℕ → List ℕ → List ℕ
 padded_wrapping key text = transformed key (alternative_value (length text) ++ padded text)
 
--- a text to pad has a length from 1 on that 32 bits can hold
+-- the length of a text to pad is at least 1 and fits in 32 bits
 pub record HasPaddableLength (text : List ℕ) : Type 0 where
   pub least : 1 ≤ length text
   pub most : length text < 2 ^ 32
 
--- A and whole blocks of eight bytes, at least one
+-- bytes are A and at least one whole block of eight bytes
 pub record HasBlocks (wrapped : List ℕ) : Type 0 where
   pub least : 16 ≤ length wrapped
   pub whole : length wrapped % 8 ≡ 0
 
--- bytes are room for A and for a text of n bytes with its padding
+-- bytes have room for A and for a text of n bytes with its padding
 pub record HasPaddedRoom (bytes : List ℕ) (n : ℕ) : Type 0 where
   pub least : 1 ≤ n
   pub room : length bytes ≡ 8 + (n + (8 - n % 8) % 8)
-
--- A and the blocks are those that the wrapping of the text begins with
-pub record IsStartOf (text first blocks : List ℕ) : Type 0 where
-  pub length_is : HasPaddableLength text
-  pub first_is : first ≡ alternative_value (length text)
-  pub blocks_are : blocks ≡ padded text
 
 -- text is a text to pad, and wrapped is its wrapping with padding
 pub record UnwrappedPadded (key : List ℕ) (wrapped : List ℕ) (text : List ℕ) : Type 0 where
@@ -55,14 +47,13 @@ pub record UnwrappedPadded (key : List ℕ) (wrapped : List ℕ) (text : List �
   pub bytes : AreBytes (length text) text
   pub is : wrapped ≡ padded_wrapping key text
 
--- bytes that were room for A and for a text of n bytes, which started at offset 8, are its wrapping with
--- padding
+-- the bytes had room for A and for a text of n bytes, which began at offset 8, and are now its wrapping with padding
 abbrev pub WrappedPaddedInPlace : List ℕ → List ℕ → ℕ → List ℕ → Type 0
 WrappedPaddedInPlace key room n bytes =
     HasPaddedRoom room n × UnwrappedPadded key bytes (take n (drop 8 room))
 
--- bytes that were a wrapping with padding are the alternative initial value for n, its text of n bytes, and
--- the zeros after it
+-- the bytes were a wrapping with padding, and are now the alternative initial value for n, its text of n bytes, and the zeros
+-- after it
 abbrev pub UnwrappedPaddedInPlace : List ℕ → List ℕ → ℕ → List ℕ → Type 0
 UnwrappedPaddedInPlace key wrapped n bytes = (8 + n ≤ length bytes)
     × UnwrappedPadded key wrapped (take n (drop 8 bytes))
@@ -74,7 +65,7 @@ UnwrappedPaddedTo key wrapped n output = (n ≤ length output)
     × UnwrappedPadded key wrapped (take n output)
     × (output ≡ padded (take n output))
 
--- wrapped is the wrapping of no text with padding
+-- wrapped is not a valid wrapping with padding: it is the wrapping of no text
 abbrev pub IsNoPaddedWrapping : List ℕ → List ℕ → Type 0
 IsNoPaddedWrapping key wrapped = (text : List ℕ) → ¬ UnwrappedPadded key wrapped text
 

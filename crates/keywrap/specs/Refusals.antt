@@ -1,11 +1,11 @@
--- The cause of each refusal. A fault that a call never returns has no case of its own.
+-- The cause of each refusal. A fault that a call never returns has no row.
 use Rattle.std.specs.Prelude.{◌≡◌, ℕ, ◌+◌, ◌^◌, ◌<◌, ◌≤◌, List, length, replicate}
 use Rattle.octets.specs.declared.fault.Fault.{Fault}
 use Rattle.octets.specs.declared.fault.Fault.TheVariants.{TextTooLong, WrapLength, WrapIntegrity, OutOfMemory}
 use Rattle.keywrap.specs.Wrapping.{HasTextLength, HasWrappedLength, IsNoWrapping}
 use Rattle.keywrap.specs.Padded.{HasPaddableLength, HasBlocks, HasPaddedRoom, IsNoPaddedWrapping}
 
--- why a text is not wrapped into a vector of at most so many bytes
+-- why a text is not wrapped into a vector, which holds at most `most` bytes
 abbrev pub WrapRefused : ℕ → List ℕ → Fault → Type 0
 WrapRefused most text WrapLength = ¬ HasTextLength text
 WrapRefused most text TextTooLong = HasTextLength text × (most < length text + 8)
@@ -19,7 +19,7 @@ UnwrapRefused key wrapped OutOfMemory = HasWrappedLength wrapped
 UnwrapRefused key wrapped WrapIntegrity = HasWrappedLength wrapped × IsNoWrapping key wrapped
 UnwrapRefused key wrapped _ = ⊥
 
--- why bytes, room for A and a text, are not wrapped in place
+-- why a text is not wrapped in place, in bytes that begin with room for A
 abbrev pub WrapInPlaceRefused : List ℕ → Fault → Type 0
 WrapInPlaceRefused bytes WrapLength = ¬ HasWrappedLength bytes
 WrapInPlaceRefused bytes _ = ⊥
@@ -37,7 +37,7 @@ PaddedWrapRefused text TextTooLong = 2 ^ 32 ≤ length text
 PaddedWrapRefused text OutOfMemory = HasPaddableLength text
 PaddedWrapRefused text _ = ⊥
 
--- why bytes are not unwrapped to a padded text
+-- why bytes are not unwrapped with padding
 abbrev pub PaddedUnwrapRefused : List ℕ → List ℕ → Fault → Type 0
 PaddedUnwrapRefused key wrapped WrapLength = ¬ HasBlocks wrapped
 PaddedUnwrapRefused key wrapped TextTooLong = HasBlocks wrapped × (2 ^ 32 + 8 < length wrapped)
@@ -46,13 +46,13 @@ PaddedUnwrapRefused key wrapped WrapIntegrity =
     HasBlocks wrapped × (length wrapped ≤ 2 ^ 32 + 8) × IsNoPaddedWrapping key wrapped
 PaddedUnwrapRefused key wrapped _ = ⊥
 
--- why bytes, room for the wrapping of a text of n bytes, are not wrapped with padding in place
+-- why a text of n bytes is not wrapped with padding in place
 abbrev pub PaddedWrapInPlaceRefused : List ℕ → ℕ → Fault → Type 0
 PaddedWrapInPlaceRefused bytes n WrapLength = ¬ HasPaddedRoom bytes n
 PaddedWrapInPlaceRefused bytes n TextTooLong = HasPaddedRoom bytes n × (2 ^ 32 ≤ n)
 PaddedWrapInPlaceRefused bytes n _ = ⊥
 
--- why bytes are not unwrapped to a padded text in place
+-- why bytes are not unwrapped with padding in place
 abbrev pub PaddedUnwrapInPlaceRefused : List ℕ → List ℕ → Fault → Type 0
 PaddedUnwrapInPlaceRefused key wrapped WrapLength = ¬ HasBlocks wrapped
 PaddedUnwrapInPlaceRefused key wrapped TextTooLong = HasBlocks wrapped × (2 ^ 32 + 8 < length wrapped)
@@ -77,7 +77,7 @@ PaddedWrapToRefused text WrapLength = length text ≡ 0
 PaddedWrapToRefused text TextTooLong = 2 ^ 32 ≤ length text
 PaddedWrapToRefused text _ = ⊥
 
--- why bytes are not unwrapped to a padded text in another output
+-- why bytes are not unwrapped with padding into another output
 abbrev pub PaddedUnwrapToRefused : List ℕ → List ℕ → Fault → Type 0
 PaddedUnwrapToRefused key wrapped WrapLength = ¬ HasBlocks wrapped
 PaddedUnwrapToRefused key wrapped TextTooLong = HasBlocks wrapped × (2 ^ 32 + 8 < length wrapped)
@@ -85,7 +85,7 @@ PaddedUnwrapToRefused key wrapped WrapIntegrity =
     HasBlocks wrapped × (length wrapped ≤ 2 ^ 32 + 8) × IsNoPaddedWrapping key wrapped
 PaddedUnwrapToRefused key wrapped _ = ⊥
 
--- what a call that unwraps leaves in its output at a fault: zeros if the bytes are no wrapping, else what was there
+-- the output of a call that unwraps, on a fault: zeros if the bytes are not a valid wrapping, else unchanged
 abbrev pub left_at : Fault → List ℕ → List ℕ
 left_at WrapIntegrity output = replicate (length output) 0
 left_at _ output = output

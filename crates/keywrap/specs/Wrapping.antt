@@ -6,9 +6,8 @@ use Rattle.std.specs.Int.{bytes_high_first}
 use Rattle.octets.specs.Bytes.{AreBytes, xor_bytes}
 use Rattle.aes.specs.Cipher.{cipher, IsKey}
 
--- step t (2.2.1): with B the cipher of A and R[1], A becomes the first half of B XOR t, written in eight
--- bytes, most significant first; each further block moves down one place, and R[n] becomes the second half
--- of B
+-- step t (2.2.1): with B the cipher of A and R[1], A becomes the first half of B XOR t, where t is written in eight bytes, most
+-- significant first; each other block moves down one place, and R[n] becomes the second half of B
 unfoldable pub step : List ℕ → ℕ → List ℕ → List ℕ
 step key t s =
     let b = cipher key (take 16 s) in
@@ -19,7 +18,7 @@ unfoldable pub steps : List ℕ → ℕ → List ℕ → List ℕ
 steps key zero s = s
 steps key (suc t) s = step key (suc t) (steps key t s)
 
--- the register after the 6n steps for a text of n blocks, where A starts as first
+-- the register after the 6n steps for a text of n blocks, where A begins as `first`
 abbrev pub wrapping_from : List ℕ → List ℕ → List ℕ → List ℕ
 wrapping_from first key text = steps key (6 * (length text / 8)) (first ++ text)
 
@@ -36,22 +35,22 @@ pub record HasTextLength (text : List ℕ) : Type 0 where
   pub least : 16 ≤ length text
   pub whole : length text % 8 ≡ 0
 
--- a wrapping has one block more
+-- a wrapping has one more block than a text
 pub record HasWrappedLength (wrapped : List ℕ) : Type 0 where
   pub least : 24 ≤ length wrapped
   pub whole : length wrapped % 8 ≡ 0
 
--- text is a text, and wrapped is its wrapping
+-- text can be wrapped, and wrapped is its wrapping
 pub record Unwrapped (key : List ℕ) (wrapped : List ℕ) (text : List ℕ) : Type 0 where
   pub length_is : HasTextLength text
   pub bytes : AreBytes (length text) text
   pub is : wrapped ≡ wrapping key text
 
--- bytes that were a wrapping are the default initial value and its text
+-- the bytes were a wrapping, and are now the default initial value and its text
 abbrev pub UnwrappedInPlace : List ℕ → List ℕ → List ℕ → Type 0
 UnwrappedInPlace key wrapped bytes = Unwrapped key wrapped (drop 8 bytes) × (take 8 bytes ≡ initial_value)
 
--- wrapped is the wrapping of no text
+-- wrapped is not a valid wrapping: it is the wrapping of no text
 abbrev pub IsNoWrapping : List ℕ → List ℕ → Type 0
 IsNoWrapping key wrapped = (text : List ℕ) → ¬ Unwrapped key wrapped text
 

@@ -11,13 +11,13 @@ use crate::steps::{
 use aes::AesKey;
 use octets::Fault;
 
-/// Wraps (RFC 3394, 2.2.1). `bytes` are eight bytes of room for A, whose contents are lost, and then the text; they become
-/// its wrapping. Returns `WrapLength` if the length is under 24 or not a multiple of 8; then no byte is changed. Not constant
-/// time: see the crate's page.
+/// Wraps a text in place (RFC 3394, 2.2.1). `bytes` are eight bytes of room for A, which are overwritten, and then the text;
+/// they become its wrapping. Returns `WrapLength` if the length is under 24 or not a multiple of 8; then no byte is changed.
+/// Not constant time: see the crate's page.
 pub fn wrap_in_place(key: &AesKey, bytes: &mut [u8]) -> Result<(), Fault>
     ensures answer { MatchResult result (λ _. Unwrapped key.now bytes.new (drop 8 bytes.old))
         (WrapInPlaceRefused bytes.old) }
-    ensures kept { OnErr result (bytes.new ≡ bytes.old) }
+    ensures unchanged { OnErr result (bytes.new ≡ bytes.old) }
 {
     if has_wrapped_length(bytes) {
         bytes[..8].copy_from_slice(&INITIAL_VALUE);
@@ -28,16 +28,16 @@ pub fn wrap_in_place(key: &AesKey, bytes: &mut [u8]) -> Result<(), Fault>
     }
 }
 
-/// Unwraps (RFC 3394, 2.2.2). `bytes` are a wrapping; they become the default initial value, a6 eight times,
-/// and the text, which starts at offset 8. Faults, in this order: `WrapLength` if the length is under 24 or not a multiple of
-/// 8, `WrapIntegrity` if the bytes are not a valid wrapping under this key. On a fault the bytes are as they were. Not constant
+/// Unwraps in place (RFC 3394, 2.2.2). `bytes` are a wrapping; they become the default initial value, a6 eight times, and the
+/// text, which begins at offset 8. Faults, in this order: `WrapLength` if the length is under 24 or not a multiple of 8,
+/// `WrapIntegrity` if the bytes are not a valid wrapping under this key. On a fault the bytes are as they were. Not constant
 /// time: see the crate's page.
 pub fn unwrap_in_place(key: &AesKey, bytes: &mut [u8]) -> Result<(), Fault>
     ensures answer { MatchResult result (λ _. UnwrappedInPlace key.now bytes.old bytes.new)
         (UnwrapInPlaceRefused key.now bytes.old) }
     ensures found { (text : List ℕ) → Unwrapped key.now bytes.old text
         → IsOk result × (drop 8 bytes.new ≡ text) }
-    ensures kept { OnErr result (bytes.new ≡ bytes.old) }
+    ensures unchanged { OnErr result (bytes.new ≡ bytes.old) }
 {
     if !has_wrapped_length(bytes) {
         return Err(Fault::WrapLength);

@@ -1,11 +1,11 @@
 //! AES Key Wrap, with the default initial value (RFC 3394; SP 800-38F, 6.1 and 6.2) and with padding (RFC 5649). `wrap`,
-//! `unwrap`, `wrap_padded` and `unwrap_padded` make a new vector. Their forms `_in_place` work in the caller's bytes, and their
-//! forms `_to` write to another output of the caller's; both allocate nothing.
+//! `unwrap`, `wrap_padded` and `unwrap_padded` return a new vector. Their forms `_in_place` work in the caller's bytes, and
+//! their forms `_to` write to another output of the caller's; neither form allocates.
 //!
-//! Not constant time. Each step encrypts or decrypts a block of A and 8 bytes of the text by `AesKey::encrypt` or
-//! `InverseKey::decrypt`, which look up tables of 4 KiB by bytes of that block, XORed with the wrapping key's at first, and so
-//! by bytes that the wrapping key and the wrapped text determine. The checks of the unwrapped bytes may end at the first that
-//! differs. There is no nonce: under one key the same text has the same wrapping, so wrappings show which texts are equal.
+//! Not constant time. Each step encrypts or decrypts a block, A and 8 bytes of the text, with `AesKey::encrypt` or
+//! `InverseKey::decrypt`. These look up tables of 4 KiB by the bytes of the cipher's state, which the wrapping key and the
+//! wrapped text determine. The checks of the unwrapped bytes may end at the first byte that differs. There is no nonce: under
+//! one key the same text has the same wrapping, so wrappings show which texts are equal.
 //!
 //! From `crates/keywrap/src/uses.rt`:
 //! ```
@@ -42,13 +42,13 @@ pub use padded::{unwrap_padded, wrap_padded};
 pub use padded_in_place::{unwrap_padded_in_place, wrap_padded_in_place};
 pub use whole::{unwrap, wrap};
 
-/// The law of wrapping (RFC 3394): a wrapping has one text, and is eight bytes longer. The call does
+/// The law of wrapping (RFC 3394): a wrapping has only one text, and is eight bytes longer. The call does
 /// nothing; its contract is the law.
 pub fn wrapping_has_one_text()
     ensures { HasOneText }
 {}
 
-/// The law of wrapping with padding (RFC 5649): a wrapping has one text, and is eight bytes longer than the
+/// The law of wrapping with padding (RFC 5649): a wrapping has only one text, and is eight bytes longer than the
 /// padded text. The call does nothing; its contract is the law.
 pub fn padded_wrapping_has_one_text()
     ensures { HasOnePaddedText }

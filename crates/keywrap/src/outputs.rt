@@ -6,7 +6,7 @@ ghost use Rattle.keywrap.specs.Padded.{UnwrappedPadded, UnwrappedPaddedTo};
 ghost use Rattle.keywrap.specs.Refusals.{left_at, WrapToRefused, UnwrapToRefused};
 ghost use Rattle.keywrap.specs.Refusals.{PaddedWrapToRefused, PaddedUnwrapToRefused};
 
-use crate::padded::{alternative_value, has_blocks, transform, unwrap_start};
+use crate::padded::{alternative_value, encrypt_register, has_blocks, unwrap_padded_register};
 use crate::steps::{
     INITIAL_VALUE, first_eight, has_wrapped_length, is_initial_value, unwrap_blocks, wrap_register,
 };
@@ -19,7 +19,7 @@ pub fn wrap_to(key: &AesKey, text: &[u8], wrapped: &mut [u8]) -> Result<(), Faul
     requires { length wrapped.old ≡ length text.now + 8 }
     ensures answer { MatchResult result (λ _. Unwrapped key.now wrapped.new text.now)
         (WrapToRefused text.now) }
-    ensures kept { OnErr result (wrapped.new ≡ wrapped.old) }
+    ensures unchanged { OnErr result (wrapped.new ≡ wrapped.old) }
 {
     if !has_wrapped_length(wrapped) {
         return Err(Fault::WrapLength);
@@ -32,7 +32,7 @@ pub fn wrap_to(key: &AesKey, text: &[u8], wrapped: &mut [u8]) -> Result<(), Faul
 
 /// Unwraps into `text`, which is eight bytes shorter than the wrapping (RFC 3394, 2.2.2). Faults, in this order: `WrapLength`
 /// if the wrapping's length is under 24 or not a multiple of 8, `WrapIntegrity` if the bytes are not a valid wrapping under
-/// this key. At `WrapIntegrity` the whole of `text` is zeros; at `WrapLength` nothing is written. Not constant time: see the
+/// this key. On `WrapIntegrity` the whole of `text` is zeros; on `WrapLength` nothing is written. Not constant time: see the
 /// crate's page.
 pub fn unwrap_to(key: &AesKey, wrapped: &[u8], text: &mut [u8]) -> Result<(), Fault>
     requires { length wrapped.now ≡ length text.old + 8 }
@@ -61,7 +61,7 @@ pub fn wrap_padded_to(key: &AesKey, text: &[u8], wrapped: &mut [u8]) -> Result<(
     requires { length wrapped.old ≡ 8 + (length text.now + (8 - length text.now % 8) % 8) }
     ensures answer { MatchResult result (λ _. UnwrappedPadded key.now wrapped.new text.now)
         (PaddedWrapToRefused text.now) }
-    ensures kept { OnErr result (wrapped.new ≡ wrapped.old) }
+    ensures unchanged { OnErr result (wrapped.new ≡ wrapped.old) }
 {
     if text.is_empty() {
         return Err(Fault::WrapLength);
@@ -73,14 +73,14 @@ pub fn wrap_padded_to(key: &AesKey, text: &[u8], wrapped: &mut [u8]) -> Result<(
     wrapped[8..8 + text.len()].copy_from_slice(text);
     wrapped[..8].copy_from_slice(&alternative_value(text.len() as u32));
     wrapped[8 + text.len()..].copy_from_slice(&[0; 8][..zeros]);
-    transform(key, wrapped);
+    encrypt_register(key, wrapped);
     Ok(())
 }
 
 /// Unwraps with padding into `text`, which is eight bytes shorter than the wrapping (RFC 5649, 4.2), and returns the text's
 /// length: `text` becomes the text and the zeros of its padding. Faults, in this order: `WrapLength` if the wrapping's length
 /// is under 16 or not a multiple of 8, `TextTooLong` past 2^32 + 8 bytes, `WrapIntegrity` if the bytes are not a valid
-/// wrapping with padding under this key. At `WrapIntegrity` the whole of `text` is zeros; at another fault nothing is written.
+/// wrapping with padding under this key. On `WrapIntegrity` the whole of `text` is zeros; on another fault nothing is written.
 /// Not constant time: see the crate's page.
 pub fn unwrap_padded_to(key: &AesKey, wrapped: &[u8], text: &mut [u8]) -> Result<usize, Fault>
     requires { length wrapped.now ≡ length text.old + 8 }
@@ -97,7 +97,7 @@ pub fn unwrap_padded_to(key: &AesKey, wrapped: &[u8], text: &mut [u8]) -> Result
     }
     let mut first = first_eight(wrapped);
     text.copy_from_slice(&wrapped[8..]);
-    match unwrap_start(key, &mut first, text) {
+    match unwrap_padded_register(key, &mut first, text) {
         Some(length) => Ok(length),
         None => {
             text.fill(0);

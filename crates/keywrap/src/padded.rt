@@ -5,11 +5,12 @@ ghost use Rattle.std.specs.Prelude.{IsTrue, IfOk, IfSome, MatchOption, MatchResu
 ghost use Rattle.std.specs.List.{list_all};
 ghost use Rattle.octets.specs.Bytes.{AreBytes};
 ghost use Rattle.aes.specs.Cipher.{IsKey};
-ghost use Rattle.keywrap.specs.Padded.{alternative_value, padded, transformed, HasBlocks, IsStartOf};
+ghost use Rattle.keywrap.specs.Padded.{alternative_value, padded, transformed, HasBlocks};
+ghost use Rattle.keywrap.specs.Code.Padded.{IsStartOf};
 ghost use Rattle.keywrap.specs.Padded.{UnwrappedPadded, IsNoPaddedWrapping};
 ghost use Rattle.keywrap.specs.Refusals.{PaddedWrapRefused, PaddedUnwrapRefused};
 
-use crate::steps::{first_eight, halves, joined, unwrap_blocks, wrap_register};
+use crate::steps::{first_eight, halves, join_halves, unwrap_blocks, wrap_register};
 use aes::AesKey;
 use octets::{Block, Fault};
 use std::alloc::{AllocError, Allocator};
@@ -17,7 +18,7 @@ use std::alloc::{AllocError, Allocator};
 // The constant of the alternative initial value (RFC 5649, 3).
 const CONSTANT: [u8; 4] = [0xa6, 0x59, 0x59, 0xa6];
 
-// The one block of a register.
+// The register as a block, if it is one block long.
 fn only_block(bytes: &[u8]) -> Block
     requires { length bytes.now ≡ 16 }
     ensures { result ≡ bytes.now }
@@ -27,8 +28,8 @@ fn only_block(bytes: &[u8]) -> Block
     Block::new(block)
 }
 
-// Makes of A and the blocks what the padded form makes of them.
-pub(crate) fn transform(key: &AesKey, bytes: &mut [u8])
+// Encrypts A and the blocks in place: one AES block, or six rounds of steps.
+pub(crate) fn encrypt_register(key: &AesKey, bytes: &mut [u8])
     requires least { 16 ≤ length bytes.old }
     requires whole { length bytes.old % 8 ≡ 0 }
     ensures { bytes.new ≡ transformed key.now bytes.old }
@@ -40,8 +41,8 @@ pub(crate) fn transform(key: &AesKey, bytes: &mut [u8])
     }
 }
 
-// Undoes `transform` on A and the blocks.
-fn untransform(key: &AesKey, first: &mut [u8; 8], blocks: &mut [u8])
+// Decrypts A and the blocks: undoes `encrypt_register`.
+fn decrypt_register(key: &AesKey, first: &mut [u8; 8], blocks: &mut [u8])
     requires least { 8 ≤ length blocks.old }
     requires whole { length blocks.old % 8 ≡ 0 }
     ensures undone { transformed key.now (first.new ++ blocks.new) ≡ first.old ++ blocks.old }
@@ -50,7 +51,7 @@ fn untransform(key: &AesKey, first: &mut [u8; 8], blocks: &mut [u8])
     ensures rest { AreBytes (length blocks.new) blocks.new }
 {
     if blocks.len() == 8 {
-        let block = Block::new(joined(first, blocks));
+        let block = Block::new(join_halves(first, blocks));
         let (half, second) = halves(key.inverse().decrypt(&block).bytes());
         *first = half;
         blocks.copy_from_slice(&second);
@@ -59,7 +60,7 @@ fn untransform(key: &AesKey, first: &mut [u8; 8], blocks: &mut [u8])
     }
 }
 
-// The length in an alternative initial value, or none if `first` is not one.
+// The length in an alternative initial value, or `None` if `first` is not one.
 fn stated_length(first: &[u8; 8]) -> Option<u32>
     ensures { MatchOption result ((n : ℕ) → n < 2 ^ 32 → first.now ≢ alternative_value n)
         (λ n. (n < 2 ^ 32) × (first.now ≡ alternative_value n)) }
@@ -82,7 +83,7 @@ fn are_zero(bytes: &[u8]) -> bool
     bytes.iter().all(|b| *b == 0)
 }
 
-// The length of the text that A and the blocks were made from, if there is one.
+// The length of the text of which A and the blocks are the register, or `None` if there is none.
 fn text_length(first: &[u8; 8], blocks: &[u8]) -> Option<usize>
     requires least { 8 ≤ length blocks.now }
     requires whole { length blocks.now % 8 ≡ 0 }
@@ -97,9 +98,12 @@ fn text_length(first: &[u8; 8], blocks: &[u8]) -> Option<usize>
     }
 }
 
-// Undoes the wrapping of A and the blocks. If they are the wrapping of a text, returns the text's length, and
-// the text is at the front of the blocks.
-pub(crate) fn unwrap_start(key: &AesKey, first: &mut [u8; 8], blocks: &mut [u8]) -> Option<usize>
+// Decrypts A and the blocks. If they were the wrapping of a text, returns its length, and the blocks begin with the text.
+pub(crate) fn unwrap_padded_register(
+    key: &AesKey,
+    first: &mut [u8; 8],
+    blocks: &mut [u8],
+) -> Option<usize>
     requires least { 8 ≤ length blocks.old }
     requires whole { length blocks.old % 8 ≡ 0 }
     ensures found { MatchOption result (IsNoPaddedWrapping key.now (first.old ++ blocks.old))
@@ -109,7 +113,7 @@ pub(crate) fn unwrap_start(key: &AesKey, first: &mut [u8; 8], blocks: &mut [u8])
     ensures undone { transformed key.now (first.new ++ blocks.new) ≡ first.old ++ blocks.old }
     ensures key { IsKey key.now }
 {
-    untransform(key, first, blocks);
+    decrypt_register(key, first, blocks);
     text_length(first, blocks)
 }
 
@@ -123,8 +127,8 @@ pub(crate) fn alternative_value(n: u32) -> [u8; 8]
     value
 }
 
-// The register that the wrapping of a text begins with: A and the padded text.
-fn start<A: Allocator>(alloc: A, text: &[u8]) -> Result<Vec<u8, A>, AllocError>
+// The register before the first step: A and the padded text.
+fn padded_register<A: Allocator>(alloc: A, text: &[u8]) -> Result<Vec<u8, A>, AllocError>
     requires { length text.now < 2 ^ 32 }
     ensures { IfOk result (λ v. v.items ≡ alternative_value (length text.now) ++ padded text.now) }
 {
@@ -136,7 +140,7 @@ fn start<A: Allocator>(alloc: A, text: &[u8]) -> Result<Vec<u8, A>, AllocError>
     Ok(bytes)
 }
 
-// Whether the bytes are A and whole blocks of eight, at least one.
+// Whether the bytes are A and at least one whole block of eight bytes.
 pub(crate) fn has_blocks(bytes: &[u8]) -> bool
     ensures { IsTrue result ↔ HasBlocks bytes.now }
 {
@@ -145,7 +149,7 @@ pub(crate) fn has_blocks(bytes: &[u8]) -> bool
 
 /// Returns the wrapping of a text with padding, eight bytes longer than the padded text (RFC 5649, 4.1).
 /// Faults, in this order: `WrapLength` for an empty text, `TextTooLong` past 2^32 - 1 bytes, `OutOfMemory`
-/// if `alloc` refuses the result. Not constant time: see the crate's page.
+/// if the allocation of the result fails. Not constant time: see the crate's page.
 pub fn wrap_padded<A: Allocator>(alloc: A, key: &AesKey, text: &[u8]) -> Result<Vec<u8, A>, Fault>
     ensures { MatchResult result
         (λ v. UnwrappedPadded key.now v.items text.now) (PaddedWrapRefused text.now) }
@@ -156,15 +160,14 @@ pub fn wrap_padded<A: Allocator>(alloc: A, key: &AesKey, text: &[u8]) -> Result<
     if text.len() as u64 >= 1 << 32 {
         return Err(Fault::TextTooLong);
     }
-    let mut wrapped = start(alloc, text)?;
-    transform(key, &mut wrapped);
+    let mut wrapped = padded_register(alloc, text)?;
+    encrypt_register(key, &mut wrapped);
     Ok(wrapped)
 }
 
-/// Returns the text of a wrapping with padding (RFC 5649, 4.2). Faults, in this order: `WrapLength` if the
-/// length is under 16 or not a multiple of 8, `TextTooLong` past 2^32 + 8 bytes, `OutOfMemory` if `alloc`
-/// refuses that many bytes, `WrapIntegrity` if the bytes are not a valid wrapping with padding under this key. Not constant
-/// time: see the crate's page.
+/// Returns the text of a wrapping with padding (RFC 5649, 4.2). Faults, in this order: `WrapLength` if the length is under 16
+/// or not a multiple of 8, `TextTooLong` past 2^32 + 8 bytes, `OutOfMemory` if the allocation of the padded text fails,
+/// `WrapIntegrity` if the bytes are not a valid wrapping with padding under this key. Not constant time: see the crate's page.
 pub fn unwrap_padded<A: Allocator>(
     alloc: A,
     key: &AesKey,
@@ -183,7 +186,7 @@ pub fn unwrap_padded<A: Allocator>(
     }
     let mut first = first_eight(wrapped);
     let mut text = Vec::from_slice(alloc, &wrapped[8..])?;
-    match unwrap_start(key, &mut first, &mut text) {
+    match unwrap_padded_register(key, &mut first, &mut text) {
         Some(length) => {
             text.truncate(length);
             Ok(text)

@@ -5,12 +5,12 @@ ghost use Rattle.keywrap.specs.Padded.{HasPaddedRoom, UnwrappedPadded};
 ghost use Rattle.keywrap.specs.Padded.{WrappedPaddedInPlace, UnwrappedPaddedInPlace};
 ghost use Rattle.keywrap.specs.Refusals.{PaddedWrapInPlaceRefused, PaddedUnwrapInPlaceRefused};
 
-use crate::padded::{alternative_value, has_blocks, transform, unwrap_start};
+use crate::padded::{alternative_value, encrypt_register, has_blocks, unwrap_padded_register};
 use crate::steps::first_eight;
 use aes::AesKey;
 use octets::Fault;
 
-// Whether the bytes are room for A and for a text of this length with its padding.
+// Whether the bytes have exactly the room for A and for a text of this length with its padding.
 fn has_padded_room(bytes: &[u8], text_length: usize) -> bool
     ensures { IsTrue result ↔ HasPaddedRoom bytes.now text_length }
 {
@@ -21,15 +21,15 @@ fn has_padded_room(bytes: &[u8], text_length: usize) -> bool
         && bytes.len() - 8 - text_length < 8
 }
 
-/// Wraps with padding (RFC 5649, 4.1). `bytes` are eight bytes of room for A, the text of `text_length`
-/// bytes, and as few bytes of room as make the length a multiple of 8; they become the wrapping. What the room held is lost.
-/// Faults, in this order: `WrapLength` if the text is empty or the room is more or less, `TextTooLong` if the text is longer
+/// Wraps a text with padding in place (RFC 5649, 4.1). `bytes` are eight bytes of room for A, the text of `text_length` bytes,
+/// and the fewest bytes of room that make the length a multiple of 8; they become the wrapping. The room is overwritten.
+/// Faults, in this order: `WrapLength` if the text is empty or the room has another length, `TextTooLong` if the text is longer
 /// than 2^32 - 1 bytes. On a fault no byte is changed. Not constant time: see the crate's page.
 pub fn wrap_padded_in_place(key: &AesKey, bytes: &mut [u8], text_length: usize) -> Result<(), Fault>
     ensures answer { MatchResult result
         (λ _. WrappedPaddedInPlace key.now bytes.old text_length bytes.new)
         (PaddedWrapInPlaceRefused bytes.old text_length) }
-    ensures kept { OnErr result (bytes.new ≡ bytes.old) }
+    ensures unchanged { OnErr result (bytes.new ≡ bytes.old) }
 {
     if !has_padded_room(bytes, text_length) {
         return Err(Fault::WrapLength);
@@ -40,12 +40,12 @@ pub fn wrap_padded_in_place(key: &AesKey, bytes: &mut [u8], text_length: usize) 
     let zeros = bytes.len() - 8 - text_length;
     bytes[..8].copy_from_slice(&alternative_value(text_length as u32));
     bytes[8 + text_length..].copy_from_slice(&[0; 8][..zeros]);
-    transform(key, bytes);
+    encrypt_register(key, bytes);
     Ok(())
 }
 
-/// Unwraps with padding (RFC 5649, 4.2), and returns the text's length. `bytes` are a wrapping; they become
-/// the alternative initial value, the text, which starts at offset 8, and the zeros of its padding. Faults, in this order:
+/// Unwraps with padding in place (RFC 5649, 4.2), and returns the text's length. `bytes` are a wrapping; they become the
+/// alternative initial value, the text, which begins at offset 8, and the zeros of its padding. Faults, in this order:
 /// `WrapLength` if the length is under 16 or not a multiple of 8, `TextTooLong` if it is more than 2^32 + 8, `WrapIntegrity` if
 /// the bytes are not a valid wrapping with padding under this key. On a fault the bytes are as they were. Not constant time:
 /// see the crate's page.
@@ -54,7 +54,7 @@ pub fn unwrap_padded_in_place(key: &AesKey, bytes: &mut [u8]) -> Result<usize, F
         (PaddedUnwrapInPlaceRefused key.now bytes.old) }
     ensures found { (text : List ℕ) → UnwrappedPadded key.now bytes.old text
         → MatchResult result (λ n. take n (drop 8 bytes.new) ≡ text) (λ _. ⊥) }
-    ensures kept { OnErr result (bytes.new ≡ bytes.old) }
+    ensures unchanged { OnErr result (bytes.new ≡ bytes.old) }
 {
     if !has_blocks(bytes) {
         return Err(Fault::WrapLength);
@@ -63,12 +63,12 @@ pub fn unwrap_padded_in_place(key: &AesKey, bytes: &mut [u8]) -> Result<usize, F
         return Err(Fault::TextTooLong);
     }
     let mut first = first_eight(bytes);
-    let found = unwrap_start(key, &mut first, &mut bytes[8..]);
+    let found = unwrap_padded_register(key, &mut first, &mut bytes[8..]);
     bytes[..8].copy_from_slice(&first);
     match found {
         Some(length) => Ok(length),
         None => {
-            transform(key, bytes);
+            encrypt_register(key, bytes);
             Err(Fault::WrapIntegrity)
         }
     }

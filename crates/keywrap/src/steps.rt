@@ -1,4 +1,4 @@
-//! The steps of the wrapping and of its inverse (RFC 3394, 2.2.1 and 2.2.2), by index, from any first value of A.
+//! The steps of wrapping and unwrapping by index (RFC 3394, 2.2.1 and 2.2.2), from any first value of A.
 
 ghost use Rattle.std.specs.Prelude.{◌≡◌, ℕ, List, ◌+◌, ◌-◌, ◌*◌, ◌/◌, ◌%◌, ◌≤◌, ◌++◌, ◌↔◌, take, drop};
 ghost use Rattle.std.specs.Prelude.{length, IsTrue};
@@ -40,7 +40,7 @@ pub(crate) fn first_eight(bytes: &[u8]) -> [u8; 8]
 }
 
 // The XOR of half a block with the number of a step.
-fn numbered(half: &[u8; 8], t: u64) -> [u8; 8]
+fn xor_number(half: &[u8; 8], t: u64) -> [u8; 8]
     ensures { result ≡ xor_bytes half.now (bytes_high_first 8 t) }
 {
     let mut sum = *half;
@@ -48,8 +48,8 @@ fn numbered(half: &[u8; 8], t: u64) -> [u8; 8]
     sum
 }
 
-// The block of two halves.
-pub(crate) fn joined(first: &[u8; 8], second: &[u8]) -> [u8; 16]
+// The block with these two halves.
+pub(crate) fn join_halves(first: &[u8; 8], second: &[u8]) -> [u8; 16]
     requires { length second.now ≡ 8 }
     ensures { result ≡ first.now ++ second.now }
 {
@@ -72,19 +72,19 @@ pub(crate) fn halves(block: &[u8; 16]) -> ([u8; 8], [u8; 8])
     (first, second)
 }
 
-// Step t, on the block at a place.
+// Step t, on the block at `place`.
 fn wrap_step(key: &AesKey, t: u64, place: usize, first: &mut [u8; 8], blocks: &mut [u8])
     requires { place + 8 ≤ length blocks.old }
     ensures { register (place + 8) first.new blocks.new
         ≡ step key.now t (register place first.old blocks.old) }
 {
-    let block = joined(first, &blocks[place..place + 8]);
+    let block = join_halves(first, &blocks[place..place + 8]);
     let (half, second) = halves(key.encrypt(&Block::new(block)).bytes());
-    *first = numbered(&half, t);
+    *first = xor_number(&half, t);
     blocks[place..place + 8].copy_from_slice(&second);
 }
 
-// Step t undone, on the block at a place.
+// Undoes step t, on the block at `place`.
 fn unwrap_step(inverse: &InverseKey, t: u64, place: usize, first: &mut [u8; 8], blocks: &mut [u8])
     requires { place + 8 ≤ length blocks.old }
     ensures step { (key : List ℕ) → IsInverse inverse.now key
@@ -92,13 +92,13 @@ fn unwrap_step(inverse: &InverseKey, t: u64, place: usize, first: &mut [u8; 8], 
     ensures first { AreBytes (length first.new) first.new }
     ensures rest { AreBytes (length blocks.new) blocks.new }
 {
-    let block = joined(&numbered(first, t), &blocks[place..place + 8]);
+    let block = join_halves(&xor_number(first, t), &blocks[place..place + 8]);
     let (half, second) = halves(inverse.decrypt(&Block::new(block)).bytes());
     *first = half;
     blocks[place..place + 8].copy_from_slice(&second);
 }
 
-// The steps of all six rounds.
+// Does the steps of all six rounds.
 pub(crate) fn wrap_blocks(key: &AesKey, first: &mut [u8; 8], blocks: &mut [u8])
     requires { length blocks.old % 8 ≡ 0 }
     ensures { first.new ++ blocks.new
@@ -112,7 +112,7 @@ pub(crate) fn wrap_blocks(key: &AesKey, first: &mut [u8; 8], blocks: &mut [u8])
     }
 }
 
-// The steps of all six rounds undone, the last one first.
+// Undoes the steps of all six rounds, the last one first.
 pub(crate) fn unwrap_blocks(key: &AesKey, first: &mut [u8; 8], blocks: &mut [u8])
     requires { length blocks.old % 8 ≡ 0 }
     ensures undone { steps key.now (6 * (length blocks.old / 8)) (first.new ++ blocks.new)
@@ -130,7 +130,7 @@ pub(crate) fn unwrap_blocks(key: &AesKey, first: &mut [u8; 8], blocks: &mut [u8]
     }
 }
 
-// The steps on one run of bytes, A first.
+// Does the steps of all six rounds on a register in one slice, A first.
 pub(crate) fn wrap_register(key: &AesKey, bytes: &mut [u8])
     requires least { 8 ≤ length bytes.old }
     requires whole { length bytes.old % 8 ≡ 0 }
@@ -141,7 +141,7 @@ pub(crate) fn wrap_register(key: &AesKey, bytes: &mut [u8])
     bytes[..8].copy_from_slice(&first);
 }
 
-// The steps undone on one run of bytes, A first.
+// Undoes the steps of all six rounds on a register in one slice, A first.
 pub(crate) fn unwrap_register(key: &AesKey, bytes: &mut [u8])
     requires least { 8 ≤ length bytes.old }
     requires whole { length bytes.old % 8 ≡ 0 }

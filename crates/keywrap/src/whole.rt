@@ -11,10 +11,9 @@ use aes::AesKey;
 use octets::Fault;
 use std::alloc::Allocator;
 
-/// Returns the wrapping of a text, eight bytes longer than it (RFC 3394, 2.2.1). Faults, in this order:
-/// `WrapLength` if the text is not at least two whole blocks of eight bytes, `OutOfMemory` if `alloc` refuses
-/// the result. A result that no vector could hold would be `TextTooLong`; no slice is so long. Not constant time: see the
-/// crate's page.
+/// Returns the wrapping of a text, eight bytes longer than it (RFC 3394, 2.2.1). Faults, in this order: `WrapLength` if the
+/// text is not at least two whole blocks of eight bytes, `OutOfMemory` if the allocation of the result fails. A result too long
+/// for a vector would be `TextTooLong`, but no slice is that long. Not constant time: see the crate's page.
 pub fn wrap<A: Allocator>(alloc: A, key: &AesKey, text: &[u8]) -> Result<Vec<u8, A>, Fault>
     ensures { MatchResult result (λ v. Unwrapped key.now v.items text.now) (WrapRefused usize.MAX text.now) }
 {
@@ -28,9 +27,9 @@ pub fn wrap<A: Allocator>(alloc: A, key: &AesKey, text: &[u8]) -> Result<Vec<u8,
     Ok(wrapped)
 }
 
-/// Returns the text of a wrapping, eight bytes shorter than it (RFC 3394, 2.2.2). Faults, in this order:
-/// `WrapLength` if the length is under 24 or not a multiple of 8, `OutOfMemory` if `alloc` refuses the text,
-/// `WrapIntegrity` if the bytes are not a valid wrapping under this key. Not constant time: see the crate's page.
+/// Returns the text of a wrapping, eight bytes shorter than it (RFC 3394, 2.2.2). Faults, in this order: `WrapLength` if the
+/// length is under 24 or not a multiple of 8, `OutOfMemory` if the allocation of the text fails, `WrapIntegrity` if the bytes
+/// are not a valid wrapping under this key. Not constant time: see the crate's page.
 pub fn unwrap<A: Allocator>(alloc: A, key: &AesKey, wrapped: &[u8]) -> Result<Vec<u8, A>, Fault>
     ensures answer { MatchResult result (λ v. Unwrapped key.now wrapped.now v.items)
         (UnwrapRefused key.now wrapped.now) }

@@ -4,7 +4,7 @@ use Rattle.std.proofs.Common.{◌-◌, arith, replicate, refl}
 use Rattle.std.proofs.lemmas.List.{length-append, length-take-le, take-append-le, drop-append-le}
 use Rattle.std.proofs.lemmas.List.{take-append-drop, take_all, drop_all, append_assoc, length-replicate, append-nil}
 use Rattle.octets.specs.Bytes.{padding, pad16}
-use Rattle.octets.specs.Pieces.{HoldsPieces}
+use Rattle.octets.specs.Code.Pieces.{HoldsPieces}
 use Rattle.octets.specs.declared.pieces.Pieces.{Pieces}
 
 -- bytes that end no block

@@ -1,4 +1,4 @@
--- A list of bytes XORed with a stream of bytes: how every cipher here that makes a stream uses it.
+-- A list of bytes XORed with a stream of bytes, which is how every stream cipher here encrypts and decrypts.
 use Rattle.std.specs.Prelude.{ℕ, suc, List, [], ◌∷◌, bit_xor}
 
 -- xs XORed with the bytes of the stream from offset `at` on

@@ -1,8 +1,8 @@
 //! Keys, nonces, blocks and tags: lists of bytes whose length is in their type (FIPS 197, 5; RFC 8439, 2.8; SP 800-38D, 8.2;
 //! RFC 8452, 4).
 //!
-//! All of them are one type, `Bytes`, with a marker for what the bytes are used as: a tag is never taken for a block, though
-//! both are 16 bytes long.
+//! All of them are one type, `Bytes`, with a marker for the use of the bytes: a tag is never mistaken for a block, though both
+//! are 16 bytes long.
 
 ghost use Rattle.std.specs.Prelude.{◌≡◌, ◌≢◌, ℕ, List, length, MatchResult};
 ghost use Rattle.octets.specs.Bytes.{AreBytes};
@@ -10,24 +10,24 @@ ghost use Rattle.octets.specs.Bytes.{AreBytes};
 use crate::fault::Fault;
 use std::marker::{Model, PhantomData};
 
-// Does nothing: a caller learns that each byte of a slice is below 256.
+// A law for the caller's proof: each byte of a slice is below 256. The call does nothing.
 fn tells_bytes(bytes: &[u8])
     ensures { AreBytes (length bytes.now) bytes.now }
 {}
 
-/// A use whose bytes come as a slice: how a slice of a wrong length is refused.
+/// A use whose bytes may come as a slice. It says which fault a slice of the wrong length gives.
 pub trait LengthFault {
     ghost use Rattle.octets.specs.declared.fault.Fault.{Fault};
 
-    // The fault of a wrong length.
+    // The fault of a slice of the wrong length.
     ghost length_fault: { Fault };
 
-    /// The fault of a wrong length.
+    /// Returns the fault of a slice of the wrong length.
     fn length_fault() -> Fault
         ensures { result ≡ length_fault };
 }
 
-/// Marks the bytes of a key. Keys neither print nor compare.
+/// Marks the bytes of a key. Keys have neither `Debug` nor `==`.
 #[derive(Clone, Copy)]
 pub struct KeyUse;
 
@@ -59,11 +59,11 @@ impl LengthFault for NonceUse {
 #[derive(Clone, Copy, Debug, PartialEq, Eq)]
 pub struct BlockUse;
 
-/// Marks the bytes of a tag. Tags have no `==`: `same` compares the bytes of two.
+/// Marks the bytes of a tag. Tags have no `==`: use `same` to compare their bytes.
 #[derive(Clone, Copy, Debug)]
 pub struct TagUse;
 
-/// `N` bytes for one use. They print and compare only if the marker of their use does.
+/// `N` bytes for one use. They have `Debug` and `==` only if the marker of their use has.
 #[derive(Clone, Copy, Debug, PartialEq, Eq)]
 pub struct Bytes<U, const N: usize> {
     bytes: [u8; N],
@@ -85,10 +85,10 @@ pub type Key32 = Bytes<KeyUse, 32>;
 /// repeat gives away.
 pub type Nonce = Bytes<NonceUse, 12>;
 
-/// A block of 16 bytes: what AES, GHASH, POLYVAL and Poly1305 take in at a time.
+/// A block of 16 bytes, the unit that AES, GHASH, POLYVAL and Poly1305 work on.
 pub type Block = Bytes<BlockUse, 16>;
 
-/// A tag of 16 bytes: what authenticates a text (RFC 8439, 2.8; SP 800-38D, 7.1; RFC 8452, 4).
+/// A tag of 16 bytes, which authenticates a text (RFC 8439, 2.8; SP 800-38D, 7.1; RFC 8452, 4).
 pub type Tag = Bytes<TagUse, 16>;
 
 impl<U, const N: usize> Model for Bytes<U, N> {
@@ -100,7 +100,7 @@ impl<U, const N: usize> Model for Bytes<U, N> {
 }
 
 impl<U, const N: usize> Bytes<U, N> {
-    /// These `N` bytes, for this use.
+    /// Makes the value with these `N` bytes, for this use.
     pub fn new(bytes: [u8; N]) -> Bytes<U, N>
         ensures value { result ≡ bytes.entry }
         ensures are_bytes { AreBytes N result }
@@ -112,7 +112,7 @@ impl<U, const N: usize> Bytes<U, N> {
         }
     }
 
-    /// The `N` bytes.
+    /// Returns the `N` bytes.
     pub fn bytes(&self) -> &[u8; N]
         ensures value { result.now ≡ self.now }
         ensures are_bytes { AreBytes N self.now }
@@ -123,8 +123,8 @@ impl<U, const N: usize> Bytes<U, N> {
 }
 
 impl<U: LengthFault, const N: usize> Bytes<U, N> {
-    /// The bytes of a slice that is `N` bytes long. Another length is refused: with `KeyLength` for a key, with
-    /// `NonceLength` for a nonce.
+    /// Makes the value with the bytes of a slice, which has to be `N` bytes long. Any other length is refused: with
+    /// `KeyLength` for a key, with `NonceLength` for a nonce.
     pub fn from_slice(bytes: &[u8]) -> Result<Bytes<U, N>, Fault>
         ensures { MatchResult result (λ b. (b ≡ bytes.now) × (length bytes.now ≡ N))
             (λ e. (e ≡ U.length_fault) × (length bytes.now ≢ N)) }
@@ -136,7 +136,7 @@ impl<U: LengthFault, const N: usize> Bytes<U, N> {
     }
 }
 
-/// As `from_slice`.
+/// The conversion is `from_slice`.
 impl<U: LengthFault, const N: usize> TryFrom<&[u8]> for Bytes<U, N> {
     type Error = Fault;
 

@@ -6,7 +6,7 @@ ghost use Rattle.octets.specs.Bytes.{xor_bytes};
 use std::simd::Simd;
 use std::simd::prelude::*;
 
-/// Whether two runs of 16 bytes are equal. Nothing is claimed of how long this takes: it may depend on the bytes.
+/// Returns whether two arrays of 16 bytes are equal. Not constant time: the time may depend on the bytes.
 pub fn same(a: &[u8; 16], b: &[u8; 16]) -> bool
     ensures { (result ≡ true) ↔ (a.now ≡ b.now) }
 {
@@ -24,7 +24,7 @@ fn xor_each(dst: &mut [u8], src: &[u8])
     }
 }
 
-// The XOR of `N` bytes and `N` others, made at once.
+// Returns the XOR of two slices of `N` bytes, computed as one vector.
 #[inline(always)]
 fn xored_lanes<const N: usize>(a: &[u8], b: &[u8]) -> Simd<u8, N>
     requires { (length a.now ≡ N) × (length b.now ≡ N) }
@@ -33,7 +33,7 @@ fn xored_lanes<const N: usize>(a: &[u8], b: &[u8]) -> Simd<u8, N>
     Simd::from_slice(a) ^ Simd::from_slice(b)
 }
 
-// Writes `N` bytes at once.
+// Writes a vector of `N` bytes.
 #[inline(always)]
 fn put_lanes<const N: usize>(dst: &mut [u8], lanes: Simd<u8, N>)
     requires { length dst.old ≡ N }
@@ -42,7 +42,7 @@ fn put_lanes<const N: usize>(dst: &mut [u8], lanes: Simd<u8, N>)
     lanes.copy_to_slice(dst);
 }
 
-// XORs `N` bytes into `N` others at once.
+// XORs `N` bytes into `N` others as one vector.
 #[inline(always)]
 fn xor_lanes<const N: usize>(dst: &mut [u8], src: &[u8])
     requires { (length dst.old ≡ N) × (length src.now ≡ N) }
@@ -52,7 +52,7 @@ fn xor_lanes<const N: usize>(dst: &mut [u8], src: &[u8])
     put_lanes(dst, sum);
 }
 
-// XORs `src` into `dst`, fewer than 8 bytes: four at once, if there are so many, and the rest one by one.
+// XORs `src` into `dst`, fewer than 8 bytes: four at once if there are at least four, and the rest one by one.
 #[inline(always)]
 fn xor_seven(dst: &mut [u8], src: &[u8])
     requires { length dst.old ≡ length src.now }
@@ -67,7 +67,7 @@ fn xor_seven(dst: &mut [u8], src: &[u8])
     xor_each(back, &src[4..]);
 }
 
-// XORs `src` into `dst`, fewer than 16 bytes: eight at once, if there are so many.
+// XORs `src` into `dst`, fewer than 16 bytes: eight at once if there are at least eight, and then the rest.
 #[inline(always)]
 fn xor_fifteen(dst: &mut [u8], src: &[u8])
     requires { length dst.old ≡ length src.now }
@@ -82,8 +82,9 @@ fn xor_fifteen(dst: &mut [u8], src: &[u8])
     xor_seven(back, &src[8..]);
 }
 
-// XORs `src` into `dst`, 16 bytes or more, by sixteen. The last 16 are read before the others are written: bytes that
-// they share with a block are written twice, but none alone, for which a read of several would have to wait.
+// XORs `src` into `dst`, 16 bytes or more, sixteen at a time. The last 16 are read before the others are written and may
+// overlap them. The overlap is written twice, but no byte is written alone: a later read of a whole vector would have to wait
+// for it.
 #[inline(always)]
 fn xor_sixteens(dst: &mut [u8], src: &[u8])
     requires { (length dst.old ≡ length src.now) × (16 ≤ length src.now) }
@@ -99,7 +100,7 @@ fn xor_sixteens(dst: &mut [u8], src: &[u8])
     put_lanes(&mut dst[start..], last);
 }
 
-/// XORs `src` into `dst`, byte by byte. The caller shows that they have one length.
+/// XORs `src` into `dst`. The caller shows that they have the same length.
 #[inline(always)]
 pub fn xor_into(dst: &mut [u8], src: &[u8])
     requires { length dst.old ≡ length src.now }
@@ -112,7 +113,7 @@ pub fn xor_into(dst: &mut [u8], src: &[u8])
     }
 }
 
-/// The XOR of two runs of 16 bytes.
+/// Returns the XOR of two arrays of 16 bytes.
 pub fn xored(a: &[u8; 16], b: &[u8; 16]) -> [u8; 16]
     ensures { result ≡ xor_bytes a.now b.now }
 {

@@ -5,7 +5,7 @@ ghost use Rattle.std.specs.Io.{ReadsAtMost};
 ghost use Rattle.std.specs.Io.KnownBytes.{ReadConsumes, WriteAppends};
 ghost use Rattle.octets.specs.Device.{Counts, GivesSome};
 
-/// A device's own refusal.
+/// A failure of a device.
 #[derive(Clone, Copy, Debug, PartialEq, Eq, Drop)]
 pub struct DeviceFault;
 
@@ -18,8 +18,7 @@ pub trait Intake {
     ghost failures: { Self → ℕ };
 
     /// Takes the next bytes into the beginning of `buf` and returns their number, which is 0 only at the end
-    /// or for an empty `buf`. The rest of `buf` may hold anything. After a fault the bytes left are as
-    /// before.
+    /// or for an empty `buf`. The rest of `buf` is unspecified. On a fault the bytes left are as before.
     fn take(&mut self, buf: &mut [u8]) -> Result<usize, DeviceFault>
         ensures bound { ReadsAtMost result buf.new }
         ensures bytes { ReadConsumes (left self.old) (left self.new) result buf.new }
@@ -34,8 +33,8 @@ pub trait Outlet {
     // How many gives have failed, up to 2^64 - 1.
     ghost failures: { Self → ℕ };
 
-    /// Gives the first of `bytes`, and returns how many they are: none only for no bytes. A fault gives
-    /// nothing.
+    /// Gives a prefix of `bytes` to the device and returns its length, which is 0 only for empty `bytes`. On a fault nothing is
+    /// given.
     fn give(&mut self, bytes: &[u8]) -> Result<usize, DeviceFault>
         ensures bound { GivesSome result bytes.now }
         ensures bytes { WriteAppends (taken self.old) (taken self.new) result bytes.now }

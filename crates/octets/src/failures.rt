@@ -1,15 +1,15 @@
-//! Counts how often a device failed, so that a contract can say that a fault came from a failure of this call.
+//! Counts the failures of a device, so that a contract can say that a fault came from a failure during this call.
 //!
-//! A device of your own keeps a `Failures` in a field, begins with `Failures::none()`, calls `add` at each failure, and names
-//! the field as its count: `ghost failures = { λ device. device.failures };`. A call that succeeds leaves the count as it is.
-//! This is all that the `count` clauses of `Intake` and `Outlet` ask for.
+//! A device of your own has a field of type `Failures`, which begins as `Failures::none()`. It calls `add` at each failure, and
+//! names the field as its count: `ghost failures = { λ device. device.failures };`. A call that succeeds leaves the count as it
+//! is. This is all that the `count` clauses of `Intake` and `Outlet` ask for.
 
 ghost use Rattle.std.specs.Prelude.{◌≡◌, ℕ};
 ghost use Rattle.octets.specs.Device.{Failed};
 
 use std::marker::Model;
 
-/// How often a device failed, up to 2^64 - 1. Contracts see the count as a number.
+/// The number of failures of a device, up to 2^64 - 1. Contracts see it as a number.
 #[derive(Clone, Copy, Debug, PartialEq, Eq)]
 pub struct Failures {
     count: u64,
@@ -24,7 +24,7 @@ impl Model for Failures {
 }
 
 impl Failures {
-    /// No failure yet.
+    /// Makes a count of no failures.
     pub fn none() -> Failures
         ensures { result ≡ 0 }
     {

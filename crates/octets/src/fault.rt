@@ -1,4 +1,4 @@
-//! The faults of every call, their names, and the numbers that they have at C.
+//! The faults of every call, their names, and the numbers that stand for them at C.
 
 ghost use Rattle.std.specs.Prelude.{◌≡◌};
 ghost use Rattle.octets.specs.Numbers.{outcome_number};
@@ -7,18 +7,18 @@ use std::alloc::AllocError;
 use std::error::Error;
 use std::fmt;
 
-/// Why a call was refused. `Display` writes the fault's name, as `TagMismatch`.
+/// Why a call was refused. `Display` writes the fault's name, such as `TagMismatch`.
 #[derive(Clone, Copy, Debug, PartialEq, Eq, Drop)]
 pub enum Fault {
     /// The key length is invalid for this cipher.
     KeyLength,
     /// The nonce is not 12 bytes long.
     NonceLength,
-    /// The text is past its limit.
+    /// The text is longer than its limit.
     TextTooLong,
-    /// The associated data is past its limit.
+    /// The associated data is longer than its limit.
     AadTooLong,
-    /// The sealed bytes are fewer than the 16 of a tag.
+    /// The sealed bytes are shorter than a tag, which is 16 bytes long.
     TooShort,
     /// Authentication failed: the bytes are not a valid sealing under this key, nonce and associated data.
     TagMismatch,
@@ -28,11 +28,11 @@ pub enum Fault {
     WrapIntegrity,
     /// An allocation failed in this call.
     OutOfMemory,
-    /// A block past counter 2^32 - 1 would be needed.
+    /// A block with a counter above 2^32 - 1 would be needed.
     StreamEnd,
-    /// A reading failed in this call.
+    /// A read failed in this call.
     Read,
-    /// The outlet failed in this call.
+    /// A write failed in this call.
     Write,
     /// A later reading of an input differs from an earlier one.
     SourceChanged,
@@ -65,7 +65,7 @@ impl fmt::Display for Fault {
 
 impl Error for Fault {}
 
-/// An allocation failed.
+/// A failed allocation is `OutOfMemory`.
 impl From<AllocError> for Fault {
     ghost use Rattle.octets.specs.declared.fault.Fault.TheVariants.{OutOfMemory};
 
@@ -76,7 +76,7 @@ impl From<AllocError> for Fault {
     }
 }
 
-/// Returns the number of an outcome at C: 0 if the call was done, else the fault's place in `Fault`, counted
+/// Returns the number that stands for an outcome at C: 0 if the call succeeded, else the fault's position in `Fault`, counted
 /// from 1.
 pub fn outcome_number(outcome: Result<(), Fault>) -> u32
     ensures { result ≡ outcome_number outcome }

@@ -1,6 +1,6 @@
-//! Bytes, blocks, keys, faults and devices, and polynomials over two elements: what every layer above speaks of.
+//! The vocabulary of every layer above: bytes, blocks, keys, faults and devices, and polynomials over two elements.
 //!
-//! A key or a nonce that comes as a slice has its length checked once, and carries it in its type from then on.
+//! The length of a key or a nonce that comes as a slice is checked once, and is part of its type from then on.
 //!
 //! From `crates/octets/src/uses.rt`:
 //! ```

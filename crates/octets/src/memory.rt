@@ -9,14 +9,14 @@ use crate::device::{DeviceFault, Intake, Outlet};
 use crate::failures::Failures;
 use std::alloc::Allocator;
 
-/// Gives the bytes of a slice: at each take as many as fit and are left. It never fails.
+/// Gives the bytes of a slice. Each take fills the buffer, or gives all that is left. It never fails.
 #[derive(Drop)]
 pub struct SliceIntake<'a> {
     rest: &'a [u8],
 }
 
 impl<'a> SliceIntake<'a> {
-    /// A device with all bytes of the slice left.
+    /// Makes a device with all bytes of the slice left.
     pub fn new(bytes: &'a [u8]) -> Self
         ensures { ⟦<SliceIntake<'a> as Intake>⟧.left result ≡ Some bytes.now }
     {
@@ -51,7 +51,7 @@ pub struct VecOutlet<A: Allocator> {
 }
 
 impl<A: Allocator> VecOutlet<A> {
-    /// An empty outlet, with no failures yet.
+    /// Makes an empty outlet, with no failures yet.
     pub fn new(alloc: A) -> Self
         ensures taken { ⟦<VecOutlet<A> as Outlet>⟧.taken result ≡ Some [] }
         ensures failed { ⟦<VecOutlet<A> as Outlet>⟧.failures result ≡ 0 }

@@ -1,4 +1,4 @@
-//! A text that comes in pieces of any length, taken in by whole blocks of 16 bytes: the state under Poly1305, GHASH and
+//! A text that comes in pieces of any length and is absorbed in whole blocks of 16 bytes: the state under Poly1305, GHASH and
 //! POLYVAL, with the padding of RFC 8439, 2.8, SP 800-38D, 7.1, and RFC 8452, 4.
 
 ghost use Rattle.std.specs.Prelude.{◌≡◌, ℕ, ◌+◌, ◌*◌, ◌/◌, ◌%◌, ◌<◌, ◌++◌, ◌-◌, List, [], length, take, drop, replicate};
@@ -6,19 +6,19 @@ ghost use Rattle.std.specs.Prelude.{◌≡◌, ℕ, ◌+◌, ◌*◌, ◌/◌, �
 use crate::words::{le_bytes, padded};
 use crate::work::{Idle, Stream};
 
-/// A state that takes in whole blocks of 16 bytes. It does not depend on how they are split into calls.
+/// A state that absorbs whole blocks of 16 bytes. It does not depend on how they are split into calls.
 pub trait Absorb {
-    // The state has taken in this text of whole blocks under this key.
+    // The state has absorbed this text of whole blocks under this key.
     ghost absorbed: { Self → List ℕ → List ℕ → Type 0 };
 
-    /// Takes in any number of whole blocks.
+    /// Absorbs any number of whole blocks.
     fn absorb(&mut self, blocks: &[u8])
         requires { length blocks.now % 16 ≡ 0 }
         ensures { (k m : List ℕ) → length m % 16 ≡ 0 → absorbed self.old k m
             → absorbed self.new k (m ++ blocks.now) };
 
-    /// Takes in any number of whole blocks, while `stream` XORs its next bytes into `bytes`, of any length.
-    /// The default masks first and takes in the blocks afterwards.
+    /// Absorbs any number of whole blocks, while `stream` XORs its next bytes into `bytes`, of any length.
+    /// The default masks first and absorbs the blocks afterwards.
     fn absorb_beside<S: Stream>(&mut self, blocks: &[u8], stream: &mut S, bytes: &mut [u8])
         requires { length blocks.now % 16 ≡ 0 }
         ensures absorbed { (k m : List ℕ) → length m % 16 ≡ 0 → absorbed self.old k m
@@ -30,8 +30,8 @@ pub trait Absorb {
     }
 }
 
-// The last `count` of 16 bytes, then zeros. They are moved within a word: a block that is copied by parts is read only
-// after all of them reached the cache.
+// The last `count` of 16 bytes, followed by zeros. The bytes are shifted within a word: if they were copied in parts, a read of
+// the whole block would wait until every part has reached the cache.
 fn last_bytes(bytes: &[u8], count: usize) -> [u8; 16]
     requires { (length bytes.now ≡ 16) × (0 < count) × (count < 16) }
     ensures { result ≡ drop (16 - count) bytes.now ++ replicate (16 - count) 0 }
@@ -42,8 +42,7 @@ fn last_bytes(bytes: &[u8], count: usize) -> [u8; 16]
 }
 
 /// A text that comes in pieces of any length: the state that absorbed its whole blocks of 16 bytes, and the bytes
-/// after them, padded with zeros. Whole blocks are handed on many at a time; only the ends of a piece are
-/// copied.
+/// after them, padded with zeros. Whole blocks are passed on many at a time, and only the two ends of a piece are copied.
 #[derive(Drop)]
 pub struct Pieces<A> {
     core: A,
@@ -54,16 +53,17 @@ pub struct Pieces<A> {
 
 impl<A: Absorb> Pieces<A> {
     ghost use Rattle.octets.specs.Bytes.{pad16};
-    ghost use Rattle.octets.specs.Pieces.{HoldsPieces};
+    ghost use Rattle.octets.specs.Code.Pieces.{HoldsPieces};
 
-    /// No text yet.
+    /// Makes a state that holds the empty text. `core` has absorbed nothing yet.
     pub fn new(core: A) -> Pieces<A>
         ensures { (k : List ℕ) → A.absorbed core k [] → HoldsPieces A.absorbed result k [] }
     {
         Pieces::resumed(core, &[])
     }
 
-    /// The text whose whole blocks `core` took in, and whose bytes after them are `rest`: fewer than 16.
+    /// Makes a state that holds the text whose whole blocks `core` absorbed, and whose bytes after them are `rest`: fewer than
+    /// 16.
     pub fn resumed(core: A, rest: &[u8]) -> Pieces<A>
         requires { length rest.now < 16 }
         ensures { (k m : List ℕ) → A.absorbed core k (take (length m / 16 * 16) m)
@@ -78,7 +78,7 @@ impl<A: Absorb> Pieces<A> {
         }
     }
 
-    /// The state that took in the whole blocks of the text.
+    /// Returns the state that absorbed the whole blocks of the text.
     pub fn core(&self) -> &A
         ensures { (k m : List ℕ) → HoldsPieces A.absorbed self.now k m
             → A.absorbed result.now k (take (length m / 16 * 16) m) }
@@ -86,7 +86,7 @@ impl<A: Absorb> Pieces<A> {
         &self.core
     }
 
-    /// The bytes of the text after its last whole block: fewer than 16.
+    /// Returns the bytes of the text after its last whole block: fewer than 16.
     pub fn rest(&self) -> &[u8]
         ensures value { (k m : List ℕ) → HoldsPieces A.absorbed self.now k m
             → result.now ≡ drop (length m / 16 * 16) m }
@@ -145,9 +145,9 @@ impl<A: Absorb> Pieces<A> {
             → HoldsPieces A.absorbed self.new k (m ++ piece.now) }
     {
         let mut rest = piece;
-        let begun = self.used;
-        if begun > 0 {
-            let room = 16 - begun;
+        let used = self.used;
+        if used > 0 {
+            let room = 16 - used;
             if piece.len() < room {
                 self.keep(piece);
                 return;
@@ -173,7 +173,7 @@ impl<A: Absorb> Pieces<A> {
         }
     }
 
-    /// Adds the fewest zero bytes that make the length of the text a multiple of 16: none if it is one.
+    /// Adds the fewest zero bytes that make the length of the text a multiple of 16: none if it already is.
     pub fn pad16(&mut self)
         ensures { (k m : List ℕ) → HoldsPieces A.absorbed self.old k m
             → HoldsPieces A.absorbed self.new k (pad16 m) }

@@ -7,7 +7,7 @@ use crate::failures::Failures;
 use crate::memory::VecOutlet;
 use std::alloc::Allocator;
 
-/// What a device does at one call.
+/// The behaviour of a device in one call.
 #[derive(Clone, Copy, Drop)]
 pub enum Step {
     /// Moves at most this many bytes; 0 counts as 1.
@@ -16,7 +16,7 @@ pub enum Step {
     Fail,
 }
 
-/// Gives bytes as a script says, and after its end as many as fit.
+/// Gives bytes as a script says. After the end of the script each take fills the buffer, or gives all that is left.
 #[derive(Drop)]
 pub struct ScriptIntake<A: Allocator> {
     bytes: Vec<u8, A>,
@@ -28,7 +28,7 @@ pub struct ScriptIntake<A: Allocator> {
 }
 
 impl<A: Allocator> ScriptIntake<A> {
-    /// A device with all bytes left, at the first step of the script, with no failures yet.
+    /// Makes a device with all bytes left, at the first step of the script, with no failures yet.
     pub fn new(bytes: Vec<u8, A>, steps: Vec<Step, A>) -> Self
         ensures left { ⟦<ScriptIntake<A> as Intake>⟧.left result ≡ Some bytes.items }
         ensures failed { ⟦<ScriptIntake<A> as Intake>⟧.failures result ≡ 0 }
@@ -43,7 +43,7 @@ impl<A: Allocator> ScriptIntake<A> {
     }
 }
 
-// How many bytes this call may move, or `None` if it fails.
+// Returns how many bytes this call may move, or `None` if it fails.
 fn allowed(steps: &[Step], call: &mut usize, wanted: usize) -> Option<usize>
     ensures { IfSome result (λ n. (n ≤ wanted) × (n ≡ 0 → wanted ≡ 0)) }
 {
@@ -81,7 +81,7 @@ impl<A: Allocator> Intake for ScriptIntake<A> {
     }
 }
 
-/// Takes bytes as a script says, and after its end all that it is given.
+/// Takes bytes as a script says. After the end of the script it takes all that it is given.
 #[derive(Drop)]
 pub struct ScriptOutlet<A: Allocator> {
     outlet: VecOutlet<A>,
@@ -91,7 +91,7 @@ pub struct ScriptOutlet<A: Allocator> {
 }
 
 impl<A: Allocator> ScriptOutlet<A> {
-    /// An empty outlet, at the first step of the script, with no failures yet.
+    /// Makes an empty outlet, at the first step of the script, with no failures yet.
     pub fn new(alloc: A, steps: Vec<Step, A>) -> Self
         ensures taken { ⟦<ScriptOutlet<A> as Outlet>⟧.taken result ≡ Some [] }
         ensures failed { ⟦<ScriptOutlet<A> as Outlet>⟧.failures result ≡ 0 }
@@ -119,8 +119,8 @@ impl<A: Allocator> Outlet for ScriptOutlet<A> {
 
     fn give(&mut self, bytes: &[u8]) -> Result<usize, DeviceFault> {
         if let Some(n) = allowed(self.steps.as_slice(), &mut self.call, bytes.len()) {
-            if let Ok(given) = self.outlet.give(&bytes[..n]) {
-                return Ok(given);
+            if let Ok(count) = self.outlet.give(&bytes[..n]) {
+                return Ok(count);
             }
         }
         self.failures.add();

@@ -6,8 +6,8 @@ use crate::device::{DeviceFault, Intake, Outlet};
 use crate::failures::Failures;
 use std::io::{Read, Write};
 
-/// Takes from a reader, and counts its failures; an interrupted read is one. Its bytes are known if the
-/// reader's are.
+/// Takes from a reader, and counts its failures. An interrupted read is a failure. Contracts know the bytes left if they know
+/// those of the reader.
 #[derive(Drop)]
 pub struct FromRead<R> {
     reader: R,
@@ -15,7 +15,7 @@ pub struct FromRead<R> {
 }
 
 impl<R: Read> FromRead<R> {
-    /// A device with the bytes that the reader has left, and no failures yet.
+    /// Makes a device with the bytes that the reader has left, and no failures yet.
     pub fn new(reader: R) -> Self
         ensures left { ⟦<FromRead<R> as Intake>⟧.left result ≡ R.remaining reader }
         ensures failed { ⟦<FromRead<R> as Intake>⟧.failures result ≡ 0 }
@@ -43,8 +43,8 @@ impl<R: Read> Intake for FromRead<R> {
     }
 }
 
-/// Gives to a writer, and counts its failures; an interrupted write is one, and a write of nothing from a
-/// slice that is not empty. Its bytes are known if the writer's are.
+/// Gives to a writer, and counts its failures. An interrupted write is a failure, and so is a write of 0 bytes from a slice
+/// that is not empty. Contracts know the bytes taken if they know those of the writer.
 #[derive(Drop)]
 pub struct ToWrite<W> {
     writer: W,
@@ -52,7 +52,7 @@ pub struct ToWrite<W> {
 }
 
 impl<W: Write> ToWrite<W> {
-    /// A device that took the bytes that the writer holds, with no failures yet.
+    /// Makes a device that has taken the bytes that the writer holds, with no failures yet.
     pub fn new(writer: W) -> Self
         ensures taken { ⟦<ToWrite<W> as Outlet>⟧.taken result ≡ W.contents writer }
         ensures failed { ⟦<ToWrite<W> as Outlet>⟧.failures result ≡ 0 }
@@ -63,7 +63,7 @@ impl<W: Write> ToWrite<W> {
         }
     }
 
-    /// The writer.
+    /// Returns the writer.
     pub fn get_ref(&self) -> &W
         ensures { W.contents result.now ≡ ⟦<ToWrite<W> as Outlet>⟧.taken self.now }
     {

@@ -1,5 +1,5 @@
-//! Numbers and their bytes, in both orders, for the length blocks of RFC 8439, SP 800-38D and RFC 8452. They are made as one
-//! vector: for `to_le_bytes` LLVM shifts out each byte.
+//! Numbers and their bytes, in both orders, for the length blocks of RFC 8439, SP 800-38D and RFC 8452. The bytes are made as
+//! one vector: of `to_le_bytes` LLVM makes a shift for each byte.
 
 ghost use Rattle.std.specs.Prelude.{◌≡◌, ◌++◌, ◌-◌, ◌<◌, ◌^◌, length, replicate};
 ghost use Rattle.octets.specs.Bytes.{le};
@@ -8,7 +8,7 @@ ghost use Rattle.std.specs.Int.{w64, w128, to_le_bytes, to_be_bytes};
 use std::simd::prelude::*;
 use std::simd::{u8x16, u64x2};
 
-// Its bytes, the least significant one first.
+// The bytes of a number, the least significant one first.
 #[inline(always)]
 fn lanes_of(word: u128) -> u8x16
     ensures { result ≡ to_le_bytes w128 word }
@@ -34,7 +34,7 @@ pub fn be_bytes(word: u128) -> [u8; 16]
     lanes_of(word).reverse().to_array()
 }
 
-// The bytes of two numbers, one after the other, each with the least significant one first.
+// The bytes of two numbers, concatenated, each with the least significant one first.
 #[inline(always)]
 fn lanes_of_two(first: u64, second: u64) -> u8x16
     ensures { result ≡ to_le_bytes w64 first ++ to_le_bytes w64 second }
@@ -42,7 +42,7 @@ fn lanes_of_two(first: u64, second: u64) -> u8x16
     u64x2::from_array([first, second]).to_le_bytes()
 }
 
-/// The 8 bytes of a number and the 8 of another, each with the most significant one first.
+/// The 8 bytes of a number and then the 8 of another, each with the most significant one first.
 #[inline(always)]
 pub fn be_pair(first: u64, second: u64) -> [u8; 16]
     ensures { result ≡ to_be_bytes w64 first ++ to_be_bytes w64 second }
@@ -50,7 +50,7 @@ pub fn be_pair(first: u64, second: u64) -> [u8; 16]
     lanes_of_two(second, first).reverse().to_array()
 }
 
-// The number that at most 3 bytes spell, the least significant one first.
+// The number that at most 3 bytes spell, the least significant byte first.
 #[inline(always)]
 fn number_of_three(bytes: &[u8]) -> u32
     requires { length bytes.now < 4 }
@@ -65,7 +65,7 @@ fn number_of_three(bytes: &[u8]) -> u32
     }
 }
 
-// The number that at most 7 bytes spell.
+// The number that at most 7 bytes spell, the least significant byte first.
 #[inline(always)]
 fn number_of_seven(bytes: &[u8]) -> u64
     requires { length bytes.now < 8 }
@@ -79,7 +79,7 @@ fn number_of_seven(bytes: &[u8]) -> u64
     }
 }
 
-// Fewer than 16 bytes, and zeros up to 16. They are read by eight and four, and written at once.
+// Fewer than 16 bytes, padded with zeros to 16. They are read eight and four at a time, and written at once.
 #[inline(always)]
 pub(crate) fn padded(bytes: &[u8]) -> [u8; 16]
     requires { length bytes.now < 16 }

@@ -1,11 +1,11 @@
-//! Work in steps, and the streams that do its steps while they mask bytes: so a hash runs beside a cipher.
+//! Work in steps, and the streams that do these steps while they mask bytes. This is how a hash runs beside a cipher.
 
 ghost use Rattle.std.specs.Prelude.{⊤, ℕ, List};
 
-/// Work in small steps, which other code does wherever the processor has room for one. It is `Copy` so that a loop can step
+/// Work in small steps. Other code does a step wherever the processor has room for one. It is `Copy` so that a loop can step
 /// a local copy, which stays in registers.
 pub trait Work: Copy {
-    // Once all its steps are done, the work has taken in this text under this key.
+    // Once all its steps are done, the work has absorbed this text under this key.
     ghost comes_to: { Self → List ℕ → List ℕ → Type 0 };
 
     /// Does one step unless at most `reserve` are left: a loop with a reserve at every second place spreads the steps
@@ -18,12 +18,12 @@ pub trait Work: Copy {
 /// never taken: so the code before a step stays apart from the code after it.
 #[derive(Clone, Copy)]
 pub struct Idle<'a> {
-    // The work after the next step; there is none.
+    // The work after the next step: there never is one.
     next: Option<&'a Idle<'a>>,
 }
 
 impl<'a> Idle<'a> {
-    /// No work.
+    /// Makes work without steps.
     pub fn new() -> Idle<'a> {
         Idle { next: None }
     }
@@ -42,7 +42,7 @@ impl<'a> Work for Idle<'a> {
 
 /// A stream of bytes that is XORed into pieces of any length, and may do steps of other work meanwhile.
 pub trait Stream {
-    // The effect of a call, as a relation: the stream before and after it, the bytes before and after it.
+    // The effect of a call, as a relation of the stream before and after it and the bytes before and after it.
     ghost did: { Self → Self → List ℕ → List ℕ → Type 0 };
 
     /// XORs the next bytes of the stream into `bytes`, and does any number of the steps of `work`, or none.

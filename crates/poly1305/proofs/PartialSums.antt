@@ -1,4 +1,4 @@
--- A sum to which one block a step is added.
+-- A sum to which each step adds one block.
 use Rattle.std.proofs.Common.{◌≡◌, ℕ, ◌+◌, ◌*◌, ◌/◌, ◌%◌, ◌^◌, ◌<◌, List, ◌++◌, length, take, drop, sym, ap}
 use Rattle.std.proofs.Common.{◌∙◌, arith}
 use Rattle.std.proofs.Math.Seq.{drop-append_seam}
@@ -8,7 +8,7 @@ use Rattle.octets.specs.Bytes.{block_at}
 use Rattle.poly1305.specs.Poly1305.{prime, block_number, block_sum, r_of, s_of}
 use Rattle.poly1305.specs.Code.Residue.{pair}
 use Rattle.poly1305.specs.Code.PartialSums.{PartialSumHolds}
-use Rattle.poly1305.specs.States.{PolySumHolds}
+use Rattle.poly1305.specs.Code.States.{PolySumHolds}
 use Rattle.poly1305.specs.declared.poly.PolySum.{PolySum}
 use Rattle.poly1305.specs.declared.partial_sum.PartialSum.{PartialSum}
 use Rattle.poly1305.proofs.Texts.{block_sum-append, block_taken, whole_number}
@@ -58,7 +58,7 @@ stepped factor t u k m block w h f eb el size ew step =
           ∙ ap (λ (x : ℕ). (s + (w + 1 * 2 ^ 128)) * x % prime) h.factor_is);
     }
 
--- a state with the partial sum has taken in the blocks that were added
+-- a state with the partial sum has absorbed the blocks that were added
 pub taken_holds : {M : Type 0} (factor : M → ℕ) (t : PartialSum M) (c : PolySum M) (k m : List ℕ)
     → (h : PartialSumHolds factor t k m)
     → factor c.multiplier ≡ r_of k → c.addend ≡ s_of k

@@ -15,7 +15,7 @@ use Rattle.octets.proofs.Blocks.{block_at-append, next_block, chunk_at}
 use Rattle.octets.proofs.Numbers.{le_ended, le_word, power_of_bytes}
 use Rattle.poly1305.specs.Poly1305.{prime, block_number, block_sum, r_of}
 use Rattle.poly1305.specs.Code.Residue.{pair, IsClamped}
-use Rattle.poly1305.specs.States.{PolySumHolds}
+use Rattle.poly1305.specs.Code.States.{PolySumHolds}
 use Rattle.poly1305.specs.declared.poly.PolySum.{PolySum}
 
 -- the sum over one block more

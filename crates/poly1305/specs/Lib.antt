@@ -1,3 +1,2 @@
 pub mod Poly1305
-pub mod States
 pub mod Code

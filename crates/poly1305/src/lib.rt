@@ -1,9 +1,9 @@
 //! Poly1305 (RFC 8439, 2.5): the tag of 16 bytes of a text that comes in pieces, under a key of 32 bytes. It is a one-time key:
-//! it serves for one text alone. No call fails, and none allocates.
+//! it must never be used for two texts. No call fails, and none allocates.
 //!
 //! From `crates/poly1305/src/uses.rt`:
 //! ```
-//! // The tag of a text that comes in two pieces. The key serves for this text alone.
+//! // The tag of a text that comes in two pieces. The key must not be used for another text.
 //! fn tag_of_two(key: &[u8; 32], first: &[u8], second: &[u8]) -> Tag
 //!     ensures { result ≡ poly1305 key.now (first.now ++ second.now) }
 //! {
@@ -34,22 +34,22 @@ pub use word_mul::WordMul;
 
 /// A way to multiply by the key's clamped number r, modulo 2^130 - 5.
 pub trait Multiplier: Drop {
-    // The number that it multiplies by.
+    // The factor r.
     ghost factor: { Self → ℕ };
 
-    /// The multiplier by `r`, a number that RFC 8439, 2.5 leaves of 16 bytes of key.
+    /// Makes the multiplier by `r`, 16 bytes of the key after clamping (RFC 8439, 2.5).
     fn new(r: u128) -> Self
         requires { IsClamped r }
         ensures { factor result ≡ r };
 
-    /// Adds a block to the sum and multiplies by the factor. `mark` is 1 for a whole block, whose added bit
-    /// is past its 16 bytes, and 0 for a shorter one, which has that bit within `block`.
+    /// Adds a block to the sum and multiplies by the factor. `mark` is 1 for a whole block, whose extra bit stands above its 16
+    /// bytes, and 0 for a shorter one, which has that bit within `block`.
     fn step(&self, sum: Sum, block: u128, mark: u64) -> Sum
         requires { mark ≤ 1 }
         ensures { pair result.low result.high % prime
             ≡ (pair sum.low sum.high + block + mark * 2 ^ 128) * factor self.now % prime };
 }
 
-/// The one-time authenticator (RFC 8439, 2.5) with the multiplier in use: `new`, `update` and `pad16` in any
-/// order, `finish`.
+/// The one-time authenticator (RFC 8439, 2.5) with the multiplier that is used here: `new`, then `update` and `pad16` in any
+/// order, then `finish`.
 pub type Poly = PolyBy<WordMul>;

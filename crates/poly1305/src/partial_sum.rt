@@ -1,4 +1,4 @@
-//! A sum of Poly1305 over whole blocks (RFC 8439, 2.5), to which a stream adds one block in each step beside its own.
+//! A sum of Poly1305 over whole blocks (RFC 8439, 2.5). A stream adds one block to it in each step, beside its own work.
 
 ghost use Rattle.std.specs.Prelude.{◌≡◌, ⊤, ℕ, ◌*◌, ◌%◌, List, ◌++◌, length};
 ghost use Rattle.poly1305.specs.Poly1305.{prime, block_sum, r_of};
@@ -32,7 +32,7 @@ impl<'a, 'b, M> Copy for PartialSum<'a, 'b, M> {}
 impl<'a, 'b, M: Multiplier> PartialSum<'a, 'b, M> {
     ghost use Rattle.poly1305.specs.Code.PartialSums.{PartialSumHolds};
 
-    // The sum with all of the blocks `left` to be added.
+    // Makes the sum to which all of the blocks `left` are still to be added.
     #[inline(always)]
     pub(crate) fn new(multiplier: &'a M, sum: Sum, left: &'b [u8]) -> PartialSum<'a, 'b, M>
         requires { length left.now % 16 ≡ 0 }

@@ -6,13 +6,13 @@ ghost use Rattle.poly1305.specs.Poly1305.{block_number};
 use crate::Multiplier;
 use crate::partial_sum::PartialSum;
 use crate::residue::{Residue, Sum};
-use crate::side_by_side::{TWO_SUMS_FROM, far_factor, over_halves};
+use crate::side_by_side::{TWO_SUMS_FROM, add_halves, far_factor};
 use octets::{Absorb, Pieces, Stream, Tag, le_bytes};
 
-// The bits of r that the clamping keeps (RFC 8439, 2.5).
+// The bits of r that clamping does not clear (RFC 8439, 2.5).
 const R_MASK: u128 = 0x0ffffffc0ffffffc0ffffffc0fffffff;
 
-// The sum over whole blocks, with both numbers of the key.
+// The sum over whole blocks, with both numbers of the key: the multiplier by r, and s.
 #[derive(Drop)]
 struct PolySum<M> {
     multiplier: M,
@@ -21,7 +21,7 @@ struct PolySum<M> {
 }
 
 impl<M: Multiplier> Absorb for PolySum<M> {
-    ghost use Rattle.poly1305.specs.States.{PolySumHolds};
+    ghost use Rattle.poly1305.specs.Code.States.{PolySumHolds};
 
     ghost absorbed = { λ c k m. PolySumHolds M.factor c k m };
 
@@ -45,7 +45,7 @@ impl<M: Multiplier> Absorb for PolySum<M> {
 }
 
 impl<M: Multiplier> PolySum<M> {
-    ghost use Rattle.poly1305.specs.States.{PolySumHolds};
+    ghost use Rattle.poly1305.specs.Code.States.{PolySumHolds};
 
     // Adds whole blocks to the sum.
     #[inline(always)]
@@ -55,7 +55,7 @@ impl<M: Multiplier> PolySum<M> {
             → PolySumHolds M.factor self.new k (m ++ blocks.now) }
     {
         let (whole, _) = blocks.as_chunks::<16>();
-        // Partly reduced from block to block, and wholly at the end.
+        // The sum is partly reduced at each block, and completely at the end.
         let mut sum = self.sum.sum();
         'taken: for block in whole {
             sum = self.multiplier.step(sum, u128::from_le_bytes(*block), 1);
@@ -73,12 +73,12 @@ impl<M: Multiplier> PolySum<M> {
             → PolySumHolds M.factor self.new k (m ++ (front.now ++ back.now)) }
     {
         let far = far_factor(&self.multiplier, front.len() / 16);
-        let sum = over_halves(&self.multiplier, self.sum.sum(), far, front, back);
+        let sum = add_halves(&self.multiplier, self.sum.sum(), far, front, back);
         self.sum = sum.residue();
     }
 }
 
-// The number of a block of fewer than 16 bytes: its bytes, and one more bit above them.
+// The number of a block of fewer than 16 bytes: its bytes, and an extra bit above them.
 fn short_block_number(bytes: &[u8]) -> u128
     requires { length bytes.now < 16 }
     ensures { result ≡ block_number bytes.now }
@@ -89,7 +89,7 @@ fn short_block_number(bytes: &[u8]) -> u128
     u128::from_le_bytes(block)
 }
 
-/// A one-time authenticator over a text that comes in pieces, by the multiplier `M`.
+/// A one-time authenticator over a text that comes in pieces, with the multiplier `M`.
 #[derive(Drop)]
 pub struct PolyBy<M> {
     pieces: Pieces<PolySum<M>>,
@@ -98,12 +98,12 @@ pub struct PolyBy<M> {
 impl<M: Multiplier> PolyBy<M> {
     ghost use Rattle.octets.specs.Bytes.{pad16, IsBlock};
     ghost use Rattle.poly1305.specs.Poly1305.{poly1305};
-    ghost use Rattle.poly1305.specs.States.{HoldsBy, IsSum};
+    ghost use Rattle.poly1305.specs.Code.States.{HoldsBy, IsSum};
 
-    /// A state that holds the empty text, under a key of 32 bytes: r, then s (RFC 8439, 2.5).
+    /// Makes a state that holds the empty text, under a key of 32 bytes: r, then s (RFC 8439, 2.5).
     ///
     /// It is a one-time key, which must never be used for two texts: two tags under it give away enough to forge the tags of
-    /// other texts. In AEAD_CHACHA20_POLY1305 each nonce has a key of its own (2.6).
+    /// other texts. AEAD_CHACHA20_POLY1305 derives a new one-time key from each nonce (2.6).
     pub fn new(key: &[u8; 32]) -> PolyBy<M>
         ensures { HoldsBy M.factor result key.now [] }
     {
@@ -120,8 +120,8 @@ impl<M: Multiplier> PolyBy<M> {
         }
     }
 
-    /// The state that holds a text again: its sum over the whole blocks of the text is `low`, and `high`
-    /// times 2^128; the bytes after them are `rest`, fewer than 16. The key is a one-time key, as for [`PolyBy::new`].
+    /// Resumes the state that holds a text. The sum over the whole blocks of the text is `low` plus 2^128 times `high`, and the
+    /// bytes after them are `rest`, fewer than 16. The key is a one-time key, as for [`PolyBy::new`].
     pub fn resumed(key: &[u8; 32], low: u128, high: u64, rest: &[u8]) -> PolyBy<M>
         requires { length rest.now < 16 }
         ensures { (m : List ℕ) → IsSum key.now m low high → rest.now ≡ drop (length m / 16 * 16) m
@@ -145,7 +145,7 @@ impl<M: Multiplier> PolyBy<M> {
         }
     }
 
-    /// Returns the sum over the whole blocks of the text: `low`, and `high` times 2^128.
+    /// Returns the sum over the whole blocks of the text, as `low` and `high`: it is `low` plus 2^128 times `high`.
     pub fn sum(&self) -> (u128, u64)
         ensures { (k m : List ℕ) → HoldsBy M.factor self.now k m → IsSum k m result.0 result.1 }
     {
@@ -196,7 +196,7 @@ impl<M: Multiplier> PolyBy<M> {
         self.pieces.pad16_and_add(block);
     }
 
-    /// Returns the tag of the text so far (RFC 8439, 2.5). The key serves for one tag alone: see [`PolyBy::new`].
+    /// Returns the tag of the text so far (RFC 8439, 2.5). The key must not be used for a second tag: see [`PolyBy::new`].
     pub fn tag(&self) -> Tag
         ensures value { (k m : List ℕ) → HoldsBy M.factor self.now k m → result ≡ poly1305 k m }
         ensures is_block { IsBlock result }

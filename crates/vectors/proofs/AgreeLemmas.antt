@@ -7,7 +7,7 @@ use Rattle.vectors.specs.Agreement.{HoldsBy, Agrees, TextIs}
 use Rattle.vectors.specs.declared.suite.Algorithm.{Algorithm}
 use Rattle.vectors.specs.declared.digits.Digits.{Digits}
 use Rattle.vectors.specs.Code.Views.{bytes_in, text_view}
-use Rattle.vectors.specs.Reports.{Judges}
+use Rattle.vectors.specs.Code.Judging.{Judges}
 
 -- a record that was judged and counted makes the report of one more record
 pub judges : {E : Type 0} (result : Result (Unit {0}) E) (count more : ℕ) (bad worse : List ℕ) (r : Record)

@@ -74,7 +74,7 @@ value_grows text i =
     sym (number_after_append 10 0 front back) ∙ ap (number_from_digits_after 10 0) whole in
     omega (arith, number_after_ge 10 (number_from_digits_after 10 0 front) back (omega arith), sum)
 
--- an empty text, or one that begins with a zero, spells no number
+-- an empty text, or one that begins with a zero, does not spell a number
 pub none_zero : (text : List ℕ) → has_no_leading_zero text ≡ false → number_of text ≡ None
 unfolding number_of
 none_zero text h = rw h refl
@@ -84,7 +84,7 @@ behind_test : (a b : Bool) (n : ℕ) → b ≡ false → cond {A = Option ℕ} (
 behind_test true b n h = rw h refl
 behind_test false b n h = refl
 
--- a text with a byte that is no digit spells no number
+-- a text with a byte that is not a digit does not spell a number
 pub none_digit : (text : List ℕ) (i : ℕ) → i < length text → is_digit (get_or text i 0) ≡ false
     → number_of text ≡ None
 unfolding number_of
@@ -107,7 +107,7 @@ both_pass false b e f = e
 no_less : (m n : ℕ) → n ≤ m → nat_lt m n ≡ false
 no_less m n h = grind arith
 
--- a text whose first digits are past 64 bits spells no number
+-- a text whose first digits exceed 64 bits does not spell a number
 pub none_large : (text : List ℕ) (i : ℕ) → 2 ^ 64 ≤ decimal_value (take i text) → number_of text ≡ None
 unfolding number_of
 none_large text i h =

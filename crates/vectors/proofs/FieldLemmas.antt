@@ -214,7 +214,7 @@ end_ok F r line x e = by_word (bytes_eq line (codes "invalid")) refl e where
       (ok_is (steps.between F, with_text None r ∷ []) x e)
   by_word false is e = by_name (may_cut F r.suite && is_named (codes "cuts") (value_line line)) refl e
 
--- the word `invalid` is no value line
+-- the word `invalid` is not a value line
 no_field : value_line (codes "invalid") ≡ None
 unfolding value_line field_of
 no_field = refl

@@ -7,12 +7,14 @@ use Rattle.vectors.specs.Grammar.{Record}
 use Rattle.vectors.specs.Code.Steps as steps
 use Rattle.vectors.specs.Code.Steps.{Place, step}
 use Rattle.vectors.specs.Faults.{IsFaultAt, IsCutOff, HasEnded, is_inside}
-use Rattle.vectors.specs.Agreement.{Agrees, IsSized}
+use Rattle.vectors.specs.Agreement.{Agrees}
+use Rattle.vectors.specs.Code.Judging.{IsSized}
 use Rattle.vectors.proofs.Sizes.{last_read_sized}
 use Rattle.vectors.specs.Reports.IsBad.{ends, agrees, disagrees}
 use Rattle.vectors.specs.declared.suite.Format.{Format}
 use Rattle.vectors.proofs.Places.{expected}
-use Rattle.vectors.specs.Reports.{IsBad, Judges, IsReport}
+use Rattle.vectors.specs.Reports.{IsBad, IsReport}
+use Rattle.vectors.specs.Code.Judging.{Judges}
 use Rattle.vectors.proofs.Progress.{Progress, begins, goes_on, shift, same, fault, is_file, cut_off}
 use Rattle.vectors.proofs.Progress.{count_is, ended}
 use Rattle.std.proofs.lemmas.List.{append-nil}
@@ -63,7 +65,7 @@ start lines bad e = record {
   room = omega arith;
 }
 
--- a line that ends no record
+-- a line that doesn't end a record
 pub after_line : (lines other : List (List ℕ)) (l : List ℕ) (rest : List (List ℕ)) (n : ℕ) (p q : Place)
     (records : ℕ) (bad : List ℕ)
     → Judged lines other n p records bad → other ≡ l ∷ rest → step p l ≡ Ok (q, [])

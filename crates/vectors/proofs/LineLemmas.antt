@@ -19,7 +19,7 @@ trim_last (b ∷ []) (suc n) e h = absurd (omega arith)
 trim_last (b ∷ c ∷ cs) zero e h = absurd (omega arith)
 trim_last (b ∷ c ∷ cs) (suc n) e h = ap (before_trimmed b) (trim_last (c ∷ cs) n (omega arith) h)
 
--- if the last byte is no space, nothing is trimmed
+-- if the last byte is not a space, nothing is trimmed
 pub trim_none : (xs : List ℕ) (n : ℕ) → length xs ≡ suc n → get_or xs n 0 ≢ 32 → trim_end xs ≡ xs
 trim_none [] n e h = absurd cc
 trim_none (b ∷ []) zero e h = grind (arith, common_steps)
@@ -79,7 +79,7 @@ one_part : (bs : List ℕ) → bs ≢ [] → lines_of_parts (bs ∷ []) ≡ bs �
 one_part [] h = absurd (h refl)
 one_part (b ∷ bs) h = rw (eqb_suc (length bs)) refl
 
--- with no line feed, the bytes are the one line
+-- without a line feed, the bytes are one line
 lines_none : (bs : List ℕ) → bs ≢ [] → length bs ≤ position_or_len is_lf bs → lines bs ≡ bs ∷ []
 lines_none bs h e = ap lines_of_parts (slice_split_none is_lf bs (none_passes bs e)) ∙ one_part bs h
 
@@ -120,7 +120,7 @@ first_is bs i line e is =
     ap (map trim_end) (lines_some bs i e)
     ∙ ap (λ (x : List ℕ). x ∷ map trim_end (lines (take (length bs - (i + 1)) (drop (i + 1) bs)))) (sym is)
 
--- the only line of a file with no line feed
+-- the only line of a file without a line feed
 pub only_is : (bs line : List ℕ) → bs ≢ [] → None ≡ position is_lf bs → line ≡ trim_end bs
     → lines_of bs ≡ line ∷ lines_of (take (length bs - length bs) (drop (length bs) bs))
 unfolding lines_of

@@ -58,7 +58,7 @@ At (steps.text F r) ls rs = BehindCuts F r ls rs
 abbrev AtNext : List (List ℕ) → List Record → Next → Type 0
 AtNext ls rs x = At x.0 ls (rs ++ x.1)
 
--- if the next place ends no record, the records before it stay the same
+-- if the next place doesn't end a record, the records before it stay the same
 moved : (q : Place) (ls : List (List ℕ)) (rs : List Record) (x : Next) → ◌≡◌ {A = Next} (q, []) x
     → At q ls rs → AtNext ls rs x
 moved q ls rs x e h = subst (λ (y : Next). AtNext ls rs y) e

@@ -60,7 +60,7 @@ no_read : (rs : List Record) (read : Read) (c : Cause) (x : Place × List Record
 no_read rs (Ok y) c x e h = cc
 no_read rs (Err d) c x e h = cc
 
--- a line at which the step fails is no line of a viable front
+-- a line at which the step fails is not part of a viable front
 stuck : (before : List (List ℕ)) (l : List ℕ) (p : Place) (rs : List Record) (c : Cause)
     → run steps.start before ≡ Ok (p, rs) → step p l ≡ Err c → IsViable (before ++ l ∷ []) → ⊥
 stuck before l p rs c h e v =

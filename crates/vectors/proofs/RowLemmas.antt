@@ -160,7 +160,7 @@ end_rows F r false f c e =
     (bind_err (named_value (codes "text") f >>= bytes_at)
     (λ bytes. (steps.between F, with_text (Some bytes) r ∷ [])) c e)
 
--- a line of cuts is no text line
+-- a line of cuts is not a text line
 no_text : (name : List ℕ) (t : Bool) → bytes_eq name (codes "cuts") ≡ true
     → bytes_eq name (codes "text") ≡ t → t ≡ false
 no_text name t k e = sym e

@@ -101,7 +101,7 @@ pub one : (p q : Place) (l : List ℕ) (rs : List Record) → step p l ≡ Ok (q
 one p q l rs e = run-cons p l [] (q, rs) e ∙ behind-Ok rs (run q []) (q, []) (run-empty q)
     ∙ ap (λ (ss : List Record). Ok (q, ss)) (append-nil rs)
 
--- a line that ends no record, and then others, lead to the place and the records of the others
+-- a line that doesn't end a record, and then other lines, lead to the place and the records of the others
 pub first : (p q : Place) (l : List ℕ) (ls : List (List ℕ)) (x : Place) (rs : List Record)
     → step p l ≡ Ok (q, []) → run q ls ≡ Ok (x, rs) → run p (l ∷ ls) ≡ Ok (x, rs)
 first p q l ls x rs e f = run-cons p l ls (q, []) e ∙ behind-Ok [] (run q ls) (x, rs) f

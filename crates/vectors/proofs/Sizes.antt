@@ -7,7 +7,7 @@ use Rattle.vectors.specs.declared.suite.Algorithm.TheVariants.{Aead, Wrap, WrapP
 use Rattle.vectors.specs.Suites.{fields_of}
 use Rattle.vectors.specs.Grammar as grammar
 use Rattle.vectors.specs.Grammar.{Record, unread, with_text, Fills, IsRecord, Formatted}
-use Rattle.vectors.specs.Agreement.{IsSized}
+use Rattle.vectors.specs.Code.Judging.{IsSized}
 use Rattle.vectors.specs.Code.Steps as steps
 use Rattle.vectors.specs.Code.Steps.{Place, run}
 use Rattle.vectors.proofs.Places.{At, lines_at}

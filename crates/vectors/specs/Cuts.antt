@@ -8,7 +8,7 @@ use Rattle.std.specs.Int.Digits.{number_from_digits}
 abbrev pub is_digit : ℕ → Bool
 is_digit b = nat_le 48 b && nat_le b 57
 
--- at least one digit, and no zero before the others
+-- there is a first digit, and it is not zero
 abbrev pub has_no_leading_zero : List ℕ → Bool
 has_no_leading_zero [] = false
 has_no_leading_zero (b ∷ bs) = not (b == 48)
@@ -17,19 +17,19 @@ has_no_leading_zero (b ∷ bs) = not (b == 48)
 unfoldable pub decimal_value : List ℕ → ℕ
 decimal_value digits = number_from_digits 10 (map (λ b. b - 48) digits)
 
--- the number that a text spells: decimal digits without a leading zero, that fit in 64 bits
+-- the number that a text spells, if it is decimal digits without a leading zero and fits in 64 bits
 unfoldable pub number_of : List ℕ → Option ℕ
 number_of text =
     if has_no_leading_zero text && (list_all is_digit text && nat_lt (decimal_value text) (2 ^ 64))
     then Some (decimal_value text)
     else None
 
--- these texts spell numbers that rise, from above the last one up to the most
+-- these texts spell rising numbers, which are above `last` and at most `most`
 abbrev pub rise : ℕ → ℕ → List (List ℕ) → Bool
 rise most last [] = true
 rise most last (text ∷ texts) =
     elim (number_of text) [ None ↦ false | Some n ↦ nat_lt last n && (nat_le n most && rise most n texts) ]
 
--- one or more numbers, joined by single commas, that are at least 1, rise, and are at most this one
+-- one or more rising numbers from 1 to `most`, joined by single commas
 unfoldable pub are_cuts : ℕ → List ℕ → Bool
 are_cuts most value = rise most 0 (slice_split (λ b. b == 44) value)

@@ -19,8 +19,8 @@ use Rattle.vectors.specs.Grammar.{IsSuiteLine, IsCutsLine, unread, Fills, Format
 
 -- ---- the expected line
 
--- the format line, the first line of a record, or one of a record that was begun: a field, the end, the
--- end or a line of cuts up to some number, or the text line after cuts
+-- the format line; the first line of a record; or a later one: a field, the end, the end or a line of cuts up to some number,
+-- or the text line after cuts
 pub data Expected : Type 0 where
   format_line : Expected
   suite_line : Format → Expected
@@ -33,7 +33,7 @@ pub data Expected : Type 0 where
 abbrev pub behind_fields : Format → Record → Expected
 behind_fields format r = if may_cut format r.suite then cuts_or_end (most_cut r) else end_line
 
--- the first lines of a record that isn't ended, and what is expected after them
+-- the first lines of a record that has not ended, and the line expected after them
 pub data Begun (format : Format) : List Line → Expected → Type 0 where
   some_fields : {suite : Algorithm} {l : Line} {ms : List Line} {r : Record} {f : Field} {fs : List Field}
       (gs : List Field)
@@ -47,7 +47,7 @@ pub data Begun (format : Format) : List Line → Expected → Type 0 where
       → may_cut format r.suite ≡ true → IsCutsLine r c
       → Begun format (l ∷ (ms ++ c ∷ [])) text_line
 
--- this is expected after these lines
+-- this line is expected after these lines
 pub data Expects : List Line → Expected → Type 0 where
   unformatted : {ls : List Line} → list_all is_gap ls ≡ true → Expects ls format_line
   formatted : {F : Format} {ls : List Line} {rs : List Record} → Formatted F ls rs → Expects ls (suite_line F)
@@ -57,35 +57,35 @@ pub data Expects : List Line → Expected → Type 0 where
 
 -- ---- the faults of a line, by what is expected there
 
--- a list of faults, each with whether it fits: the first that fits
+-- the first fault that applies, of a list that says of each whether it does
 abbrev pub first_fitting : List (Bool × Cause) → Option Cause
 first_fitting [] = None
 first_fitting (row ∷ rows) = if row.0 then Some row.1 else first_fitting rows
 
--- an even number of digits, of either case
+-- an even number of hexadecimal digits, of either case
 unfoldable pub is_hex : List ℕ → Bool
 is_hex text = (length text % 2 == 0) && list_all is_hex_digit text
 
--- the bytes that digits spell
+-- the bytes that hexadecimal digits spell
 unfoldable pub bytes_of : List ℕ → List ℕ
 bytes_of digits = result_unwrap_or (decode_of digits) []
 
--- whether a value line has this name
+-- whether a line is a value line with this name
 abbrev pub is_named : List ℕ → Option (List ℕ × List ℕ) → Bool
 is_named name None = false
 is_named name (Some f) = bytes_eq f.0 name
 
--- a value line with another name
+-- whether a line is a value line with another name
 abbrev pub is_misnamed : List ℕ → Option (List ℕ × List ℕ) → Bool
 is_misnamed name None = false
 is_misnamed name (Some f) = not (bytes_eq f.0 name)
 
--- the format line
+-- whether a line is a format line
 abbrev pub is_format : Option (List ℕ × List ℕ) → Bool
 is_format None = false
 is_format (Some f) = bytes_eq f.0 (codes "format") && is_some (format_named f.1)
 
--- a value line whose value doesn't pass a test
+-- whether a line is a value line whose value doesn't pass a test
 abbrev pub value_fails : (List ℕ → Bool) → Option (List ℕ × List ℕ) → Bool
 value_fails test None = false
 value_fails test (Some f) = not (test f.1)
@@ -98,7 +98,7 @@ value_rows name f =
     ∷ (value_fails is_hex f, cause.BadHex)
     ∷ []
 
--- the table of faults, by what is expected
+-- the table of faults of a line, for each line that may be expected
 abbrev pub rows : Expected → Line → List (Bool × Cause)
 rows format_line line = (not (is_gap line || is_format (value_line line)), cause.BadFormat) ∷ []
 rows (suite_line F) line =
@@ -134,7 +134,7 @@ rows text_line line = value_rows (codes "text") (value_line line)
 
 -- ---- the fault of a file
 
--- n is the least number such that the first n lines are not viable, and this is what is wrong with line n
+-- n is the least number such that the first n lines are not viable, and `why` is the fault of line n
 pub record IsFaultAt (lines : List Line) (n : ℕ) (why : Cause) : Type 0 where
   pub before : List Line
   pub line : Line
@@ -148,7 +148,7 @@ pub record IsFaultAt (lines : List Line) (n : ℕ) (why : Cause) : Type 0 where
   pub only : (e : Expected) → Expects before e → e ≡ expected
   pub wrong : first_fitting (rows expected line) ≡ Some why
 
--- whether a record was begun and not ended
+-- whether the expected line is inside a record
 abbrev pub is_inside : Expected → Bool
 is_inside format_line = false
 is_inside (suite_line F) = false
@@ -157,7 +157,7 @@ is_inside end_line = true
 is_inside (cuts_or_end most) = true
 is_inside text_line = true
 
--- no line is at fault, but the lines are no file: they end inside a record, or no record was begun
+-- no line is at fault, but the lines are not a file: they end inside a record, or no record has begun
 pub record IsCutOff (lines : List Line) (begun : Bool) : Type 0 where
   pub viable : (front rest : List Line) → lines ≡ front ++ rest → IsViable front
   pub no_file : (records : List Record) → ¬ IsFile lines records
@@ -166,7 +166,7 @@ pub record IsCutOff (lines : List Line) (begun : Bool) : Type 0 where
   pub only : (e : Expected) → Expects lines e → e ≡ expected
   pub is : is_inside expected ≡ begun
 
--- the first of these lines are a file: a record has ended
+-- some first lines of these are a file: a record has ended
 pub record HasEnded (lines : List Line) : Type 0 where
   pub front : List Line
   pub rest : List Line
@@ -174,7 +174,7 @@ pub record HasEnded (lines : List Line) : Type 0 where
   pub records : List Record
   pub file : IsFile front records
 
--- the fault is the first one of these lines; out of memory comes only if a record has ended
+-- the fault is the first one of these lines; `OutOfMemory` comes only if a record has ended
 abbrev pub IsFaultOf : List Line → VectorFault → Type 0
 IsFaultOf lines (AtLine n why) = IsFaultAt lines n why
 IsFaultOf lines (Unfinished n) = IsCutOff lines true × (n ≡ length lines)

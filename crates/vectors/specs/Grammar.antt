@@ -12,8 +12,7 @@ use Rattle.vectors.specs.Suites.{format_named, suite_named, is_aead, fields_of, 
 use Rattle.vectors.specs.Lines.{trim_end, trim_start}
 use Rattle.vectors.specs.Cuts.{are_cuts}
 
--- a record of the file; key wrapping has no nonce and no associated data, and a record that says
--- `invalid` has no text
+-- a record of the file; a record of key wrapping has no nonce and no associated data, and one that says `invalid` has no text
 pub record Record : Type 0 where
   pub suite : Algorithm
   pub key : List ℕ
@@ -36,15 +35,15 @@ is_gap (b ∷ bs) = b == 35
 abbrev pub is_equals : ℕ → Bool
 is_equals b = b == 61
 
--- the parts of a line before and after its first `=`: the one without the spaces at its end, the other without
--- the spaces at its beginning
+-- the parts of a line before and after its first `=`, without the spaces at the end of the first and at the beginning of the
+-- second
 unfoldable pub field_of : Line → Option (List ℕ × List ℕ)
 field_of line =
     if nat_lt (position_or_len is_equals line) (length line)
     then Some (trim_end (before_first is_equals line), trim_start (after_first is_equals line))
     else None
 
--- the name and the value of a value line; a comment is none
+-- the name and the value of a value line; a comment is not a value line
 unfoldable pub value_line : Line → Option (List ℕ × List ℕ)
 value_line line = if is_gap line then None else field_of line
 
@@ -52,8 +51,7 @@ value_line line = if is_gap line then None else field_of line
 abbrev pub IsField : Line → List ℕ → List ℕ → Type 0
 IsField line name value = value_line line ≡ Some (name, value)
 
--- The link from digits to bytes: the text has two hexadecimal digits, of either case, for each of these
--- bytes.
+-- The digits spell the bytes: two hexadecimal digits, of either case, for each byte.
 abbrev pub Spells : List ℕ → List ℕ → Type 0
 Spells digits bytes = decode_of digits ≡ Ok bytes
 
@@ -63,12 +61,12 @@ pub record IsHexField (line : Line) (name bytes : List ℕ) : Type 0 where
   pub field : IsField line name digits
   pub spelled : Spells digits bytes
 
--- whether the bytes have the length that is asked for, if one is
+-- whether the bytes have the required length, if there is one
 abbrev pub has_length : Option ℕ → List ℕ → Bool
 has_length None bytes = true
 has_length (Some n) bytes = length bytes == n
 
--- a value line with a field's name, whose value spells these bytes, as many as the suite asks for
+-- a value line with a field's name, whose value spells these bytes, which have the length that the suite requires
 pub record IsFieldLine (suite : Algorithm) (field : Field) (line : Line) (bytes : List ℕ) : Type 0 where
   pub hex : IsHexField line (field_name field) bytes
   pub size : has_length (field_length suite field) bytes ≡ true
@@ -87,7 +85,7 @@ pub record IsSuiteLine (format : Format) (line : Line) (suite : Algorithm) : Typ
 
 -- ---- cuts
 
--- whether a record may have a line of cuts: one of an AEAD suite, in format 2
+-- whether a record may have a line of cuts: it is of an AEAD suite, in format 2
 abbrev pub may_cut : Format → Algorithm → Bool
 may_cut One suite = false
 may_cut Two suite = is_aead suite
@@ -96,7 +94,7 @@ may_cut Two suite = is_aead suite
 abbrev pub most_cut : Record → ℕ
 most_cut r = length r.sealed - 16
 
--- a value line with the name `cuts`, whose value is cuts of the record's text
+-- a value line with the name `cuts`, whose value is cuts that fit the record's text
 pub record IsCutsLine (r : Record) (line : Line) : Type 0 where
   pub value : List ℕ
   pub field : IsField line (codes "cuts") value
@@ -104,7 +102,7 @@ pub record IsCutsLine (r : Record) (line : Line) : Type 0 where
 
 -- ---- records
 
--- a record of which the suite alone is known
+-- a record of which only the suite is known
 abbrev pub unread : Algorithm → Record
 unread suite = record { suite = suite; key = []; nonce = []; aad = []; sealed = []; text = None }
 
@@ -119,7 +117,7 @@ with_field Sealed bytes r = record r { sealed = bytes }
 abbrev pub with_text : Option (List ℕ) → Record → Record
 with_text text r = record r { text = text }
 
--- a line for each of these fields, in this order, makes of the first record the second
+-- with a line for each of these fields, in this order, the first record becomes the second
 pub data Fills : List Field → Record → List Line → Record → Type 0 where
   nothing : {r : Record} → Fills [] r [] r
   field : {f : Field} {fs : List Field} {r s : Record} {l : Line} {ls : List Line} {bytes : List ℕ}
@@ -142,8 +140,7 @@ pub data IsRecord (format : Format) : List Line → Record → Type 0 where
 
 -- ---- the file
 
--- the format line, with blank lines and comments before it; and then, one after the other, records and
--- further blank lines and comments
+-- blank lines and comments, then the format line, and then records, blank lines and comments in any order
 pub data Formatted (format : Format) : List Line → List Record → Type 0 where
   starts : (gaps : List Line) {l : Line} → list_all is_gap gaps ≡ true → IsFormatLine l format
       → Formatted format (gaps ++ l ∷ []) []
@@ -158,12 +155,12 @@ pub record IsFile (lines : List Line) (records : List Record) : Type 0 where
   pub formatted : Formatted format lines records
   pub some : records ≢ []
 
--- lines are a file of one list of records alone
+-- lines are a file of only one list of records
 abbrev pub HasOneReading : Type 0
 HasOneReading = (lines : List Line) (records others : List Record) → IsFile lines records
     → IsFile lines others → records ≡ others
 
--- some lines after these, at most five, make a file
+-- at most five more lines make these a file
 pub record IsViable (lines : List Line) : Type 0 where
   pub more : List Line
   pub few : length more ≤ 5

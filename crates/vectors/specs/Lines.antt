@@ -2,7 +2,7 @@
 use Rattle.std.specs.Prelude.{ℕ, List, [], ◌∷◌, ◌==◌, if◌then◌else◌, map}
 use Rattle.std.specs.Str.Lines.{lines}
 
--- A byte before the trimmed bytes after it: a space is left out if there are none.
+-- A byte and the trimmed bytes after it: a space with no bytes after it is left out.
 abbrev pub before_trimmed : ℕ → List ℕ → List ℕ
 before_trimmed b [] = if b == 32 then [] else b ∷ []
 before_trimmed b (c ∷ cs) = b ∷ c ∷ cs
@@ -17,8 +17,7 @@ abbrev pub trim_start : List ℕ → List ℕ
 trim_start [] = []
 trim_start (b ∷ bs) = if b == 32 then trim_start bs else b ∷ bs
 
--- The lines of a file. The file is cut at each LF, and the bytes after the last LF are a line if there are
--- any; one CR directly before a LF is dropped (`lines` does both), then all spaces at the line's
--- end.
+-- The lines of a file. The file is cut at each LF, and the bytes after the last LF are a line if there are any. One CR directly
+-- before a LF is dropped (`lines` does both), and then all spaces at the line's end.
 unfoldable pub lines_of : List ℕ → List (List ℕ)
 lines_of file = map trim_end (lines file)

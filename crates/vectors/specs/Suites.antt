@@ -52,7 +52,7 @@ suites Two = common_suites ++ padded_suites
 unfoldable pub suite_named : Format → List ℕ → Option Algorithm
 suite_named format name = find (λ s. bytes_eq name (suite_name s)) (suites format)
 
--- whether a suite is one of authenticated encryption
+-- whether a suite is for authenticated encryption
 abbrev pub is_aead : Algorithm → Bool
 is_aead (Aead suite) = true
 is_aead (Wrap aes) = false
@@ -85,7 +85,7 @@ field_name Nonce = codes "nonce"
 field_name Aad = codes "aad"
 field_name Sealed = codes "sealed"
 
--- how many bytes a field has; nothing is asked of associated data and of sealed bytes
+-- the length of a field in bytes; associated data and sealed bytes may have any length
 abbrev pub field_length : Algorithm → Field → Option ℕ
 field_length suite Key = Some (suite_key_length suite)
 field_length suite Nonce = Some 12

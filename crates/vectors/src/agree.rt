@@ -1,4 +1,5 @@
-//! Whether a record of a vector file agrees with its standard: what its sealed bytes hold is compared with its text.
+//! Whether a record of a vector file agrees with its standard: its sealed bytes are opened or unwrapped, and the result is
+//! compared with its text.
 
 ghost use Rattle.std.specs.Prelude.{◌≡◌, ◌↔◌, Some, IfOk, IsTrue, length};
 ghost use Rattle.aes.specs.Cipher.{IsKeyLength};
@@ -9,7 +10,8 @@ ghost use Rattle.keywrap.specs.Wrapping.{Unwrapped};
 ghost use Rattle.keywrap.specs.Padded.{UnwrappedPadded};
 ghost use Rattle.vectors.specs.declared.suite.Algorithm.TheVariants as suites;
 ghost use Rattle.vectors.specs.Code.Views.{bytes_in, entry_view, text_view};
-ghost use Rattle.vectors.specs.Agreement.{Agrees, IsSized, TextIs};
+ghost use Rattle.vectors.specs.Agreement.{Agrees, TextIs};
+ghost use Rattle.vectors.specs.Code.Judging.{IsSized};
 
 use crate::digits::Digits;
 use crate::place::Entry;
@@ -30,7 +32,7 @@ fn is_text(text: Option<Digits<'_>>, bytes: &[u8]) -> bool
     }
 }
 
-// Whether the sealed bytes are the sealing of the text, or of no text for `invalid`.
+// Whether the sealed bytes are the sealing of the text, or not a valid sealing if there is no text.
 fn sealing_agrees<A: Allocator>(
     alloc: &A,
     cipher: &AnyAead,
@@ -94,7 +96,8 @@ fn aes_key(digits: Digits<'_>) -> AesKey
     key
 }
 
-// Whether the bytes are the wrapping of the text, or of no text for `invalid` (RFC 3394). Unwraps them in place.
+// Whether the bytes are the wrapping of the text (RFC 3394), or not a valid wrapping if there is no text. Unwraps them in
+// place.
 fn wrapping_agrees(key: &AesKey, sealed: &mut [u8], text: Option<Digits<'_>>) -> bool
     ensures { IsTrue result ↔ TextIs (Unwrapped key.now sealed.old) (text_view text.entry) }
 {
@@ -104,8 +107,8 @@ fn wrapping_agrees(key: &AesKey, sealed: &mut [u8], text: Option<Digits<'_>>) ->
     }
 }
 
-// Whether the bytes are the padded wrapping of the text, or of no text for `invalid` (RFC 5649). Unwraps them in
-// place.
+// Whether the bytes are the wrapping of the text with padding (RFC 5649), or not a valid wrapping if there is no text. Unwraps
+// them in place.
 fn padded_wrapping_agrees(key: &AesKey, sealed: &mut [u8], text: Option<Digits<'_>>) -> bool
     ensures { IsTrue result ↔ TextIs (UnwrappedPadded key.now sealed.old) (text_view text.entry) }
 {
@@ -115,7 +118,7 @@ fn padded_wrapping_agrees(key: &AesKey, sealed: &mut [u8], text: Option<Digits<'
     }
 }
 
-// Whether a record agrees: its sealed bytes hold its text, or no text if it says `invalid`.
+// Whether a record agrees: its sealed bytes are those of its text, or not valid if it says `invalid`.
 pub(crate) fn agrees<A: Allocator>(alloc: &A, entry: &Entry<'_>) -> Result<bool, AllocError>
     requires { IsSized (entry_view entry.now) }
     ensures { IfOk result (λ b. IsTrue b ↔ Agrees (entry_view entry.now)) }

@@ -33,7 +33,7 @@ fn has_no_leading_zero(text: &[u8]) -> bool
     !matches!(text, [] | [b'0', ..])
 }
 
-// The number that a text spells.
+// The number that a text spells: decimal digits without a leading zero, that fit in 64 bits. `None` for any other text.
 fn number_of(text: &[u8]) -> Option<u64>
     ensures { result ≡ number_of text.now }
 {
@@ -56,7 +56,7 @@ fn number_of(text: &[u8]) -> Option<u64>
     Some(number)
 }
 
-// Whether a value is numbers, joined by single commas, that are at least 1, rise, and are at most this one.
+// Whether a value is rising numbers from 1 to `most`, joined by single commas.
 pub(crate) fn are_cuts(most: u64, value: &[u8]) -> bool
     ensures { result ≡ are_cuts most value.now }
 {

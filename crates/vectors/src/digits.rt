@@ -7,7 +7,7 @@ ghost use Rattle.vectors.specs.Faults.{is_hex};
 use crate::field::is_hex;
 use std::alloc::{AllocError, Allocator};
 
-// The value of a hexadecimal digit of either case, from its bits.
+// The value of a hexadecimal digit of either case, computed from its bits.
 fn digit_value(digit: u8) -> u8
     ensures value { IsTrue (is_hex_digit digit) → hex_digit_value digit ≡ Some result }
     ensures small { IsTrue (is_hex_digit digit) → result < 16 }
@@ -40,7 +40,7 @@ impl<'a> Digits<'a> {
         }
     }
 
-    /// No digits.
+    /// Returns an empty list of digits.
     pub fn none() -> Digits<'a>
         ensures { bytes_in result ≡ [] }
     {
@@ -55,7 +55,7 @@ impl<'a> Digits<'a> {
         self.text.len() / 2
     }
 
-    /// Splits the digits after those of the first `count` bytes.
+    /// Splits the digits after the first `count` bytes.
     #[tactic(auto, using(crate::proofs::DigitLemmas::digits_length))]
     pub fn split_at(self, count: usize) -> (Digits<'a>, Digits<'a>)
         requires { count ≤ length (bytes_in self) }
@@ -82,7 +82,7 @@ impl<'a> Digits<'a> {
         if bytes.len() != self.byte_count() {
             return false;
         }
-        // No early exit, so that many bytes are compared at once.
+        // Without an early exit, many bytes are compared at once.
         let mut same = true;
         'bytes: for i in 0..bytes.len() {
             same &= self.byte(i) == bytes[i];

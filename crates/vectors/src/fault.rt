@@ -6,12 +6,12 @@ use std::alloc::AllocError;
 use std::error::Error;
 use std::fmt;
 
-/// What is wrong with a line. `Display` writes the name.
+/// The fault of a line. `Display` writes its name.
 #[derive(Clone, Copy, Debug, PartialEq, Eq, Drop)]
 pub enum Cause {
-    /// The format line is expected, and the line is something else.
+    /// The format line is expected, but the line is something else.
     BadFormat,
-    /// A line of a record is expected, and the line is not a value line.
+    /// A line of a record is expected, but the line is not a value line.
     BadLine,
     /// The line is a value line with another name than the expected one.
     WrongName,
@@ -19,10 +19,9 @@ pub enum Cause {
     UnknownSuite,
     /// The value is not an even number of hexadecimal digits.
     BadHex,
-    /// A key or a nonce has another length than the suite's.
+    /// The length of a key or a nonce is not that of the suite.
     BadLength,
-    /// The value is not a list of cuts: numbers joined by commas that are at least 1, rise, and are at most the
-    /// text's length.
+    /// The value is not a list of cuts: rising numbers from 1 to the text's length, joined by commas.
     BadCuts,
 }
 
@@ -51,7 +50,7 @@ impl fmt::Display for Cause {
 pub enum VectorFault {
     /// The line with this number is at fault.
     AtLine(u64, Cause),
-    /// No line is at fault, and no record was begun.
+    /// No line is at fault, but there is no record.
     NoRecords,
     /// The file ends inside a record; the number is that of its last line.
     Unfinished(u64),

@@ -44,7 +44,7 @@ fn is_digit(byte: u8) -> bool
     byte.is_ascii_hexdigit()
 }
 
-// Whether all bytes are hexadecimal digits. None is skipped, so that many are looked at together.
+// Whether all bytes are hexadecimal digits. Without an early exit, many bytes are looked at together.
 fn are_digits(text: &[u8]) -> bool
     ensures { result ≡ list_all is_hex_digit text.now }
 {

@@ -1,4 +1,4 @@
-//! Vector files: which records a file lists, and whether each agrees with its standard.
+//! Vector files: the records that a file lists, and whether each agrees with its standard.
 //!
 //! From `crates/vectors/src/uses.rt`:
 //! ```
@@ -31,7 +31,8 @@ pub use fault::{Cause, VectorFault};
 pub use reading::check;
 pub use report::Report;
 
-/// The lines of a file have one reading: they are a file of one list of records, so a file has one report.
+/// The law of reading: lines are a file of only one list of records, so a file has only one report. The call does nothing; its
+/// contract is the law.
 pub fn has_one_reading()
     ensures { HasOneReading }
 {}

@@ -28,7 +28,7 @@ pub(crate) fn without_start_spaces(value: &[u8]) -> &[u8]
     rest
 }
 
-// A line without the one carriage return at its end.
+// A line without a carriage return at its end, of which only one is dropped.
 fn without_carriage_return(line: &[u8]) -> &[u8]
     ensures { result.now ≡ strip_carriage_return line.now }
 {
@@ -38,7 +38,7 @@ fn without_carriage_return(line: &[u8]) -> &[u8]
     }
 }
 
-// The place of the first byte that is this one.
+// The index of the first occurrence of a byte.
 pub(crate) fn first_place(byte: u8, bytes: &[u8]) -> Option<usize>
     ensures { result ≡ position (λ b. b == byte) bytes.now }
 {

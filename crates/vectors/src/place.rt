@@ -1,4 +1,4 @@
-//! A place in a vector file, and the step that one line makes from it: which line may come next.
+//! A place in a vector file, which says what line may come next, and the step that a line makes from it.
 
 ghost use Rattle.std.specs.Prelude.{◌≡◌, ◌≤◌};
 ghost use Rattle.vectors.specs.Grammar.{value_line, may_cut, unread, with_field};
@@ -14,7 +14,7 @@ use crate::fault::Cause;
 use crate::field::{is_gap, value_line};
 use crate::suite::{Algorithm, Field, Format};
 
-// A record as the file writes it, or what was read of it.
+// A record as the file writes it, or the part of it that was read so far.
 #[derive(Clone, Copy)]
 pub(crate) struct Entry<'a> {
     pub suite: Algorithm,
@@ -26,7 +26,7 @@ pub(crate) struct Entry<'a> {
 }
 
 impl<'a> Entry<'a> {
-    // A record of which the suite alone was read.
+    // A record of which only the suite was read.
     fn unread(suite: Algorithm) -> Entry<'a>
         ensures { entry_view result ≡ unread suite }
     {
@@ -60,14 +60,14 @@ impl<'a> Entry<'a> {
     }
 }
 
-// Which line is expected, with what was read of the record.
+// Which line is expected, with the part of the record that was read so far.
 #[derive(Clone, Copy)]
 pub(crate) enum Place<'a> {
     // The format line, or a line before it.
     Start,
     // The first line of a record, or a line between records.
     Between(Format),
-    // The first of the fields that are left, or the end if there are none.
+    // The first of the fields that are left, or the end of the record if none is left.
     Fields {
         format: Format,
         left: &'static [Field],
@@ -80,18 +80,18 @@ pub(crate) enum Place<'a> {
     },
 }
 
-// The place after a line, and the record that it ends.
+// The place after a line, and the record that the line ends, if it ends one.
 pub(crate) struct Next<'a> {
-    /// Which line is expected after it.
+    /// The place after the line.
     pub place: Place<'a>,
-    /// The record that it ends.
+    /// The record that the line ends.
     pub ended: Option<Entry<'a>>,
 }
 
 impl<'a> Next<'a> {
     ghost use Rattle.std.specs.Prelude.{[], ◌∷◌};
 
-    // The place after a line that ends no record.
+    // The place after a line that doesn't end a record.
     fn at(place: Place<'a>) -> Next<'a>
         ensures { next_view result ≡ (view place.entry, []) }
     {
@@ -99,7 +99,7 @@ impl<'a> Next<'a> {
     }
 
     // The place after the last line of a record.
-    fn behind(format: Format, entry: Entry<'a>) -> Next<'a>
+    fn after_record(format: Format, entry: Entry<'a>) -> Next<'a>
         ensures { next_view result ≡ (view (places.Between format), entry_view entry.entry ∷ []) }
     {
         Next {
@@ -182,7 +182,7 @@ fn suite_at(format: Format, line: &[u8]) -> Result<Algorithm, Cause>
     Algorithm::named(format, name).ok_or(Cause::UnknownSuite)
 }
 
-// Whether a value line has this name.
+// Whether a line is a value line with this name.
 fn is_named(name: &[u8], line: &[u8]) -> bool
     ensures { result ≡ is_named name.now (value_line line.now) }
 {
@@ -202,17 +202,17 @@ fn may_cut(format: Format, suite: Algorithm) -> bool
     }
 }
 
-// The place after a text line, and the record that it ends.
+// Handles a text line, which ends its record.
 #[tactic(auto, unfolding(crate::specs::Code::Steps::text_at))]
 fn text_at<'a>(format: Format, entry: Entry<'a>, line: &'a [u8]) -> Result<Next<'a>, Cause>
     ensures { Gives next_view result
         (text_at format (entry_view entry.entry) line.entry.now) }
 {
     let text = Some(hex_at(b"text", line)?);
-    Ok(Next::behind(format, Entry { text, ..entry }))
+    Ok(Next::after_record(format, Entry { text, ..entry }))
 }
 
-// The place after a line of cuts.
+// Handles a line of cuts.
 #[tactic(auto, unfolding(crate::specs::Code::Steps::cuts_at))]
 fn cuts_at<'a>(format: Format, entry: Entry<'a>, line: &'a [u8]) -> Result<Next<'a>, Cause>
     ensures { Gives next_view result
@@ -226,14 +226,14 @@ fn cuts_at<'a>(format: Format, entry: Entry<'a>, line: &'a [u8]) -> Result<Next<
     }
 }
 
-// The place after the line that follows all fields, and the record that it ends.
+// Handles the line after the last field.
 #[tactic(auto, unfolding(crate::specs::Code::Steps::end_at))]
 fn end_at<'a>(format: Format, entry: Entry<'a>, line: &'a [u8]) -> Result<Next<'a>, Cause>
     ensures { Gives next_view result
         (end_at format (entry_view entry.entry) line.entry.now) }
 {
     if line == b"invalid".as_slice() {
-        return Ok(Next::behind(
+        return Ok(Next::after_record(
             format,
             Entry {
                 text: None,
@@ -247,7 +247,7 @@ fn end_at<'a>(format: Format, entry: Entry<'a>, line: &'a [u8]) -> Result<Next<'
     text_at(format, entry, line)
 }
 
-// The place after any line, and the record that it ends.
+// Handles a line at a place.
 #[tactic(auto, unfolding(crate::specs::Code::Steps::step))]
 pub(crate) fn step<'a>(place: Place<'a>, line: &'a [u8]) -> Result<Next<'a>, Cause>
     ensures { Gives next_view result (step (view place.entry) line.entry.now) }

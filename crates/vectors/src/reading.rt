@@ -60,19 +60,19 @@ fn read<A: Allocator>(alloc: A, file: &[u8]) -> Result<Report<A>, VectorFault>
 }
 
 /// Returns the report of a vector file of format 1 or 2: how many records it has, and which of them disagree
-/// with their standard. The file is any bytes, and is read once. If it is not in the grammar, returns its
-/// first fault: the number of a line is the least one such that the lines up to it cannot begin a file.
+/// with their standard. The file may be any bytes, and is read once. If it does not follow the grammar, returns its
+/// first fault: the line with the least number such that the lines up to it cannot begin a file.
 /// `OutOfMemory` comes only if a record has ended and an allocation failed in this call. Memory is allocated
 /// for the sealed bytes and the associated data of one record at a time, while it is judged, and for the
 /// numbers in the report.
 pub fn check<A: Allocator>(alloc: A, file: &[u8]) -> Result<Report<A>, VectorFault>
-    // A report is that of the records which the file's lines make.
+    // A report is that of the records of the file.
     ensures report { IfOk result (λ report. IsReport (lines_of file.now) report.records report.bad.items) }
 
-    // Anything else is the first fault of the file, at its line.
+    // An error is the first fault of the file, with its line.
     ensures fault { IfErr result (IsFaultOf (lines_of file.now)) }
 
-    // A file in the grammar has a report, or an allocation failed.
+    // A file that follows the grammar gets a report, or an allocation failed.
     ensures found { (records : List Record) → IsFile (lines_of file.now) records → IsReported result }
 {
     read(alloc, file)

@@ -2,15 +2,15 @@
 
 ghost use Rattle.std.specs.Prelude.{◌≡◌, ◌↔◌, ◌+◌, ◌<◌, ◌≤◌, ◌^◌, [], ◌∷◌, ◌++◌, OnOk, IsTrue, if◌then◌else◌};
 ghost use Rattle.vectors.specs.Code.Views.{entry_view};
-ghost use Rattle.vectors.specs.Agreement.{IsSized};
-ghost use Rattle.vectors.specs.Reports.{Judges};
+ghost use Rattle.vectors.specs.Code.Judging.{IsSized};
+ghost use Rattle.vectors.specs.Code.Judging.{Judges};
 
 use crate::agree::agrees;
 use crate::place::Entry;
 use std::alloc::{AllocError, Allocator};
 
-/// The report of a vector file: how many records it has, and the numbers, from 1 and rising, of those that
-/// disagree with their standard.
+/// The report of a vector file: how many records it has, and the numbers of those that disagree with their standard, in rising
+/// order. Records are numbered from 1.
 #[derive(Drop)]
 pub struct Report<A: Allocator> {
     /// The number of records.

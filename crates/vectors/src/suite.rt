@@ -10,11 +10,11 @@ ghost use Rattle.vectors.specs.Suites.{suite_key_length, is_aead, fields_of, fie
 #[derive(Clone, Copy)]
 pub(crate) enum Format {
     One,
-    // It knows key wrapping with padding, and cuts.
+    // Format 2 adds key wrapping with padding, and cuts.
     Two,
 }
 
-// The length of a key of AES.
+// The length of an AES key.
 #[derive(Clone, Copy)]
 pub(crate) enum Aes {
     Bits128,
@@ -22,7 +22,7 @@ pub(crate) enum Aes {
     Bits256,
 }
 
-// The algorithm that a record's bytes are sealed or wrapped by.
+// The algorithm with which a record's bytes are sealed or wrapped.
 #[derive(Clone, Copy)]
 pub(crate) enum Algorithm {
     Aead(aead::Suite),
@@ -72,7 +72,7 @@ impl Format {
         }
     }
 
-    /// The format of that name.
+    /// The format with this name.
     pub fn named(name: &[u8]) -> Option<Format>
         ensures { result ≡ format_named name.now }
     {
@@ -87,7 +87,7 @@ impl Format {
 }
 
 impl Field {
-    /// The name before its value.
+    /// The name on its line.
     pub fn name(self) -> &'static [u8]
         ensures { result.now ≡ field_name self }
     {
@@ -113,7 +113,7 @@ impl Aes {
     }
 }
 
-// The first of some suites that has that name.
+// The first of some suites with this name.
 fn first_named(suites: &[Algorithm], name: &[u8]) -> Option<Algorithm>
     ensures { result ≡ find (λ s. bytes_eq name.now (suite_name s)) suites.now }
 {
@@ -121,7 +121,7 @@ fn first_named(suites: &[Algorithm], name: &[u8]) -> Option<Algorithm>
 }
 
 impl Algorithm {
-    /// The suite of a format with that name.
+    /// The suite of a format with this name.
     #[tactic(auto, unfolding(crate::specs::Suites::suite_named))]
     pub fn named(format: Format, name: &[u8]) -> Option<Algorithm>
         ensures { result ≡ suite_named format name.now }
@@ -129,7 +129,7 @@ impl Algorithm {
         first_named(format.suites(), name)
     }
 
-    // Whether that is its name.
+    // Whether this is its name.
     fn is_named(self, name: &[u8]) -> bool
         ensures { result ≡ bytes_eq name.now (suite_name self) }
     {
@@ -161,7 +161,7 @@ impl Algorithm {
         }
     }
 
-    /// Whether it is a suite of authenticated encryption.
+    /// Whether the suite is for authenticated encryption.
     pub fn is_aead(self) -> bool
         ensures { result ≡ is_aead self }
     {
@@ -178,7 +178,7 @@ impl Algorithm {
         }
     }
 
-    /// Returns how many bytes a field has, if the format says so.
+    /// Returns the length of a field in bytes, or `None` if it may have any length.
     pub fn field_length(self, field: Field) -> Option<usize>
         ensures { result ≡ field_length self field }
     {

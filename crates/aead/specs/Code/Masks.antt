@@ -5,7 +5,7 @@ use Rattle.octets.specs.Masked.{masked}
 use Rattle.chacha.specs.declared.stream.ChaStream.{ChaStream}
 use Rattle.chacha.specs.States as chacha
 use Rattle.aes.specs.declared.counter.Ctr.{Ctr}
-use Rattle.aes.specs.Streams.{Did}
+use Rattle.aes.specs.Code.Streams.{Did}
 use Rattle.aead.specs.Suites.{text_limit, text_limit_by}
 use Rattle.aead.specs.Suites.{ByChaCha, ByGcm, ByGcmSiv, construction_of}
 use Rattle.aead.specs.Sealing.{Setting, j0, encryption_key, counter_block, mask, mask_by, mask_of}

@@ -5,12 +5,12 @@ use Rattle.chacha.specs.declared.stream.ChaStream.{ChaStream}
 use Rattle.chacha.specs.States as chacha
 use Rattle.poly1305.specs.declared.poly.PolyBy.{PolyBy}
 use Rattle.poly1305.specs.declared.word_mul.WordMul.{WordMul}
-use Rattle.poly1305.specs.States as poly1305
+use Rattle.poly1305.specs.Code.States as poly1305
 use Rattle.aes.specs.declared.counter.Ctr.{Ctr}
 use Rattle.aes.specs.Cipher.{cipher}
 use Rattle.aes.specs.Counters.{up_be, up_le}
-use Rattle.aes.specs.Streams.{Holds}
-use Rattle.gf128.specs.States as gf128
+use Rattle.aes.specs.Code.Streams.{Holds}
+use Rattle.gf128.specs.Code.States as gf128
 use Rattle.aead.specs.declared.hashes.GhashTag.{GhashTag}
 use Rattle.aead.specs.declared.hashes.PolyvalTag.{PolyvalTag}
 use Rattle.aead.specs.declared.authenticator.Authenticator.{Authenticator}

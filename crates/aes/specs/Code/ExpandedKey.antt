@@ -7,11 +7,11 @@ use Rattle.std.proofs.lemmas.Nat.{from_le_bytes-to_le_bytes_4}
 use Rattle.std.proofs.Math.Nat.{mul-div_cancel_left}
 use Rattle.octets.specs.Bytes.{le}
 use Rattle.octets.proofs.Numbers.{le_is}
-use Rattle.aes.specs.Columns.{column_of, columns_of}
-use Rattle.aes.specs.KeptWords.{table}
+use Rattle.aes.specs.Code.Columns.{column_of, columns_of}
+use Rattle.aes.specs.Code.KeptWords.{table}
 use Rattle.aes.specs.declared.key.AesKey.TheInside.{Inside}
 
--- 4, 6 or 8
+-- the number of words in a key
 abbrev pub IsKeySize : ℕ → Type 0
 IsKeySize nk = (nk ≡ 4) ⊎ ((nk ≡ 6) ⊎ (nk ≡ 8))
 
@@ -19,7 +19,7 @@ IsKeySize nk = (nk ≡ 4) ⊎ ((nk ≡ 6) ⊎ (nk ≡ 8))
 abbrev pub key_of : List (List ℕ) → ℕ → List ℕ
 key_of ws nk = flat_map (λ w. w) (take nk ws)
 
--- the words of an expanded key: they spell the columns of the table of the key that they begin with
+-- the words of an expanded key: as columns, they are the `table` of the key that they begin with
 pub record IsExpanded (ws : List ℕ) (nk : ℕ) : Type 0 where
   pub size : IsKeySize nk
   pub length_is : length (key_of (columns_of ws) nk) ≡ 4 * nk
@@ -27,16 +27,16 @@ pub record IsExpanded (ws : List ℕ) (nk : ℕ) : Type 0 where
   pub columns_are : columns_of ws ≡ table (key_of (columns_of ws) nk)
   pub words : (i : ℕ) → get_or ws i 0 < 2 ^ 32
 
--- the table of the key, and how many words the key has
+-- the `table` of the key as words, and the number of words in the key
 abbrev pub fields_of : List ℕ → Inside
 fields_of key = record { words = map le (table key); size = length key / 4 }
 
--- the number that a word's column spells is the word
+-- the column of a word spells the word
 le_column_of : (w : ℕ) → w < 2 ^ 32 → le (column_of w) ≡ w
 unfolding column_of
 le_column_of w h = le_is w32 (column_of w) (lit≤ tt) refl ∙ from_le_bytes-to_le_bytes_4 w h
 
--- words read from the bytes of their columns are themselves
+-- the columns of words spell the words
 le_columns_of : (ws : List ℕ) → ((i : ℕ) → get_or ws i 0 < 2 ^ 32) → map le (columns_of ws) ≡ ws
 le_columns_of [] h = refl
 le_columns_of (w ∷ ws) h =
@@ -51,6 +51,6 @@ fields_of-key_of a x =
     let fields : List ℕ → ℕ → Inside = λ words size. record { words = words; size = size } in
     ap₂ fields (ap (map le) (sym x.columns_are) ∙ le_columns_of a.words x.words) size
 
--- the bytes of a key that is not a reference
+-- the bytes of an owned key
 abbrev pub own_key : List ℕ → List ℕ
 own_key key = key

@@ -1,6 +1,6 @@
 -- A key made ready for the equivalent inverse cipher (FIPS 197, 5.3.5).
 use Rattle.std.specs.Prelude.{◌≡◌, ℕ, ◌+◌, ◌*◌, ◌<◌, ◌≤◌, List, length, slice_index}
-use Rattle.aes.specs.Columns.{column_of}
+use Rattle.aes.specs.Code.Columns.{column_of}
 use Rattle.aes.specs.Schedule.{word}
 use Rattle.aes.specs.Cipher.{mix_column, IsKey}
 use Rattle.aes.specs.declared.inverse_key.InverseKey.{InverseKey}

@@ -10,7 +10,7 @@ pub record HasLanes (v : List ℕ) (f : ℕ → ℕ) : Type 0 where
   pub long : length v ≡ 64
   pub each : (k : ℕ) → k < 64 → slice_index v k ≡ f k
 
--- a place of a table of sixteen bytes, or one from 128 on, which reads 0
+-- an index below 16 into a table of sixteen bytes, or one from 128 on, which reads 0
 abbrev pub IsPlace : ℕ → Type 0
 IsPlace j = (nat_le 128 j || nat_lt j 16) ≡ true
 
@@ -26,27 +26,27 @@ byte_of f i = slice_index (f (i / 16)) (i % 16)
 abbrev pub key_byte : List (List ℕ) → ℕ → ℕ
 key_byte ws i = slice_index (slice_index_or ws (i % 16 / 4) []) (i % 16 % 4)
 
--- the place from which ShiftRows brings byte i, in each of four blocks
+-- the index of the byte that ShiftRows moves to index i, in each of four blocks
 abbrev pub row_source : ℕ → ℕ
 row_source i = i / 16 * 16 + (i % 4 + 4 * ((i % 16 / 4 + i % 4) % 4))
 
--- the place one row down in the same column; row 0 is below row 3
+-- the index one row down in the same column; row 0 is below row 3
 abbrev pub row_below : ℕ → ℕ
 row_below i = i / 4 * 4 + (i + 1) % 4
 
--- the place one row up
+-- the index one row up in the same column
 abbrev pub row_above : ℕ → ℕ
 row_above i = i / 4 * 4 + (i + 3) % 4
 
--- the coordinates of a byte in a basis in which inverses are found by nibbles
+-- the coordinates of a byte in a basis in which an inverse is found from the two nibbles
 unfoldable pub in_basis : ℕ → ℕ
 in_basis x = bit_xor (slice_index TO_LOW (x % 16)) (slice_index TO_HIGH (x / 16))
 
--- byte i of the round key n, in that basis and plus the constant of the S-box there
+-- byte i of round key n, in that basis, plus the constant of the S-box
 abbrev pub ready_byte : List (List ℕ) → ℕ → ℕ → ℕ
 ready_byte ws n i = bit_xor (in_basis (slice_index (slice_index_or ws (4 * n + i / 4) []) (i % 4))) 0x7c
 
--- the keys are the round keys of a cipher in that basis
+-- the keys are the round keys of a cipher in that basis, plus the constant of the S-box
 pub record IsReady (keys : List (List ℕ)) (key : List ℕ) : Type 0 where
   pub each : (n i : ℕ) → n ≤ round_count key → i < 16
       → slice_index (slice_index_or keys n []) i ≡ ready_byte (schedule key) n i

@@ -1,9 +1,9 @@
--- A counter of 32 bits, by the low half of its least significant byte.
+-- How the low half of the least significant byte of a 32-bit counter counts.
 use Rattle.std.specs.Prelude.{◌≡◌, ℕ, ◌+◌, ◌%◌, ◌<◌, ◌==◌, if◌then◌else◌, List, slice_index, bit_xor}
 use Rattle.octets.specs.Bytes.{IsBlock}
 
--- blocks stay blocks, the low half of the byte at a place counts modulo 16, and fewer than 16 steps from 0
--- there change nothing else
+-- blocks stay blocks; the low half of the byte at `place` counts modulo 16; and while it is 0, fewer than 16 steps change
+-- nothing else
 pub record CountsInNibble (up : List ℕ → ℕ → List ℕ) (place : ℕ) : Type 0 where
   pub within : place < 16
   pub blocks : (b : List ℕ) (j : ℕ) → IsBlock b → IsBlock (up b j)

@@ -22,7 +22,7 @@ pub record HoldsWords (words : List ℕ) (g : ℕ → ℕ → ℕ) : Type 0 wher
   pub each : (j l k : ℕ) → j < 8 → l < 16 → k < 8
       → bit_at (slice_index (to_le_bytes w128 (slice_index words j)) l) k ≡ bit_at (g l k) j
 
--- the place in its block of the byte in lane l
+-- the index in its block of the byte in lane l
 abbrev pub spot : ℕ → ℕ
 spot l = l % 4 * 4 + l % 16 / 4
 
@@ -38,11 +38,11 @@ HoldsSixteen p f = HoldsBits p (block_byte f)
 abbrev pub HoldsEight : List (List ℕ) → (ℕ → List ℕ) → Type 0
 HoldsEight p f = HoldsLanes 16 p (block_byte f)
 
--- byte i of the round key n
+-- byte i of round key n
 abbrev pub word_byte : List (List ℕ) → ℕ → ℕ → ℕ
 word_byte ws n i = slice_index (slice_index_or ws (4 * n + i / 4) []) (i % 4)
 
--- byte i of the round key n, plus the constant of the S-box
+-- byte i of round key n, plus the constant of the S-box
 abbrev pub masked_byte : List (List ℕ) → ℕ → ℕ → ℕ
 masked_byte ws n i = bit_xor (word_byte ws n i) 0x63
 
@@ -52,16 +52,16 @@ pub record AreReady (keys : List (List ℕ)) (ws : List (List ℕ)) (last : ℕ)
   pub middle : (n : ℕ) → 0 < n → n < last → HoldsWords (slice_index_or keys n []) (λ l k. masked_byte ws n (spot l))
   pub final : HoldsWords (slice_index_or keys last []) (λ l k. masked_byte ws last l)
 
--- lane l of v has the bits of byte l mod 16 of the block f (8 (l / 16) + q)
+-- lane l of v has the bits of byte l mod 16 of block 8 (l / 16) + q of f
 abbrev pub HasByteBits : List ℕ → (ℕ → List ℕ) → ℕ → Type 0
 HasByteBits v f q = (l k : ℕ) → l < 32 → k < 8
     → bit_at (slice_index v l) k ≡ bit_at (slice_index (f (l / 16 * 8 + q)) (l % 16)) k
 
--- the bits of m are at the places below 8 that lack the binary digit of weight n
+-- the bits of m are those at the places below 8 whose binary digit of weight n is 0
 abbrev pub IsMask : ℕ → ℕ → Type 0
 IsMask n m = (n ≡ 1) × (m ≡ 0x55) ⊎ ((n ≡ 2) × (m ≡ 0x33) ⊎ (n ≡ 4) × (m ≡ 0x0f))
 
--- the masks are the ciphers of the blocks that `up` counts from a number on, modulo 2^32
+-- the masks are the ciphers of the blocks that `up` counts, from this number on, modulo 2^32
 abbrev pub AreMasks : (List ℕ → ℕ → List ℕ) → List ℕ → List ℕ → ℕ → List ℕ → Type 0
 AreMasks up key first number masks = (q : ℕ) → q * 16 < length masks
     → block_at masks q ≡ cipher key (up first ((number + q) % 2 ^ 32))

@@ -32,9 +32,9 @@ abbrev pub AreMultiples : List Bool → (ℕ → ℕ) → (ℕ → ℕ) → Type
 AreMultiples p high low =
     (n : ℕ) → n < 256 → IsReduced (product (of_bits 8 n) p) (bit_xor (high (n / 16)) (low (n % 16)))
 
--- a number of a table that is kept as halves of 64 bits, of each number the low half first
-abbrev pub kept_number : List ℕ → ℕ → ℕ
-kept_number halves i = slice_index halves (2 * i + 1) * 2 ^ 64 + slice_index halves (2 * i)
+-- number i of a table that is stored in halves of 64 bits, the low half of each number first
+abbrev pub stored_number : List ℕ → ℕ → ℕ
+stored_number halves i = slice_index halves (2 * i + 1) * 2 ^ 64 + slice_index halves (2 * i)
 
 -- the word z is x^w times the word h
 abbrev pub IsMoved : ℕ → ℕ → ℕ → Type 0
@@ -70,7 +70,7 @@ folded z s =
 abbrev pub wide : ℕ → ℕ → List Bool
 wide z s = of_word z ++ of_bits 64 s
 
--- it has the residue of p, and is of degree below 128 + d
+-- the word and x^128 times the half word have the residue of p, and together are of degree below 128 + d
 abbrev pub IsSpread : ℕ → List Bool → ℕ → ℕ → Type 0
 IsSpread d p z s = ((k : ℕ) → 128 + d ≤ k → coefficient (wide z s) k ≡ false)
     × (coefficient (residue ghash_modulus (wide z s)) ≡ coefficient (residue ghash_modulus p))

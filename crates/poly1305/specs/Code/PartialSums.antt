@@ -1,10 +1,10 @@
--- A sum over whole blocks, to which one block a step is added.
+-- A sum over whole blocks, to which each step adds one block.
 use Rattle.std.specs.Prelude.{◌≡◌, ℕ, ◌+◌, ◌*◌, ◌%◌, List, length, drop}
 use Rattle.poly1305.specs.Poly1305.{prime, block_sum, r_of}
 use Rattle.poly1305.specs.Code.Residue.{pair}
 use Rattle.poly1305.specs.declared.partial_sum.PartialSum.{PartialSum}
 
--- t is the sum over the first blocks of m under the key, and the blocks of m after them are left
+-- t is the sum over the first blocks of m under the key, and the other blocks of m are left to be added
 pub record PartialSumHolds {M : Type 0} (factor : M → ℕ) (t : PartialSum M) (key : List ℕ) (m : List ℕ) : Type 0
   where
     pub taken : ℕ

@@ -42,7 +42,7 @@ ended_view (Some e) = entry_view e ∷ []
 abbrev pub next_view : Next → steps.Place × List Record
 next_view n = (view n.place, ended_view n.ended)
 
--- the result of a call, seen by f, is the result of reading
+-- a call returns this result, where f says what a value means
 abbrev pub Gives : {X Y : Type 0} → (X → Y) → Result X Cause → Result Y Cause → Type 0
 Gives f (Ok x) read = read ≡ Ok (f x)
 Gives f (Err e) read = read ≡ Err e

@@ -19,11 +19,11 @@ returns c =
     let body : List ℕ = c.args.first.now ++ c.args.second.now in
     let one = c.in_ok-update.ensures.answer s tag _ c.in_ok-opener.ensures in
     let checked = c.state-checked.ensures s tag _ one.0 in
-    let two = c.in_ok-update-2.ensures.answer s tag _ (c.resumed-resumed.ensures c.args.aad.now tag _ checked) in
+    let two = c.in_ok-update-2.ensures.answer s tag _ (c.in_ok-resumed.ensures.answer c.args.aad.now tag _ checked) in
     let passed = c.in_ok-writer.ensures.answer s tag _ two.0 in
     let three = c.in_ok-update-3.ensures.answer s tag _ _ passed.0 in
     let opened = c.state-opened.ensures s tag _ _ three.0 in
-    let four = c.in_ok-update-4.ensures.answer s tag _ _ (c.resumed-last.ensures c.args.aad.now tag _ _ opened) in
+    let four = c.in_ok-update-4.ensures.answer s tag _ _ (c.in_ok-last.ensures.answer c.args.aad.now tag _ _ opened) in
     let text : masked (mask_of s tag) 0 body ≡ c.update-3.new.piece ++ c.update-4.new.piece =
     sym (ap₂ (λ x y. x ++ y) three.1 four.1 ∙ c.masked_pieces_join.ensures s tag c.args.first.now c.args.second.now) in
     subst (λ t. OnOk c.finish-2.result (Opened s (body ++ tag) t)) text

@@ -11,11 +11,11 @@ returns c =
     let join = c.masked_pieces_make_a_sealing.ensures s in
     let one = c.in_ok-update.ensures.answer s _ c.in_ok-before.ensures in
     let saved = c.state-saved.ensures s _ one.0 in
-    let two = c.in_ok-update-2.ensures.answer s _ (c.resumed-after.ensures c.args.aad.now _ saved) in
+    let two = c.in_ok-update-2.ensures.answer s _ (c.in_ok-after.ensures.answer c.args.aad.now _ saved) in
     let tag = c.finish-tag.ensures s read two.0 in
     let three = c.in_ok-update-3.ensures.answer s read _ tag.1 in
     let again = c.state-again.ensures s read _ three.0 in
-    let four = c.in_ok-update-4.ensures.answer s read _ (c.resumed-later.ensures c.args.aad.now read _ again) in
+    let four = c.in_ok-update-4.ensures.answer s read _ (c.in_ok-later.ensures.answer c.args.aad.now read _ again) in
     let repeats = c.in_ok-finish.ensures.answer s read _ four.0 in
     let both = (join (tag_of s read) _ _ three.1).0 _ _ four.1 in
     ap (λ t. (c.update-3.new.piece ++ c.update-4.new.piece) ++ t) tag.0

@@ -90,7 +90,7 @@ fn checked<'a>(
     );
     let (front, back) = body.split_at(body.len().saturating_sub(1));
     shows(rt, opener.update(front).is_ok(), "a piece");
-    let mut resumed = Opener::resumed(&sample.cipher, &sample.nonce, &opener.state());
+    let mut resumed = Opener::resumed(&sample.cipher, &sample.nonce, &opener.state())?;
     shows(rt, resumed.update(back).is_ok(), "a piece");
     resumed.finish()
 }
@@ -114,7 +114,9 @@ fn is_opened(rt: &(impl Abort + Alloc<A = Global>), line: &str) {
     let length = body.len();
     let (front, back) = body.split_at_mut(length.min(3));
     shows(rt, writer.update(front).is_ok(), "a piece");
-    let mut resumed = OpenWriter::resumed(&sample.cipher, &sample.nonce, &writer.state());
+    let mut resumed = OpenWriter::resumed(&sample.cipher, &sample.nonce, &writer.state()).expect(
+        rt, "a state",
+    );
     shows(rt, resumed.update(back).is_ok(), "a piece");
     let past = resumed.update(&mut [0]) == Err(Fault::SourceChanged);
     shows(rt, past, "a byte past the ciphertext");

@@ -1,6 +1,6 @@
 use Rattle.std.proofs.Common.{◌≡◌, ℕ, List, get_or, length, ap₂, ◌∙◌, rules}
 use Rattle.aes.specs.Cipher.{add_round_key}
-use Rattle.aes.specs.Columns.{columns_of, state_of}
+use Rattle.aes.specs.Code.Columns.{columns_of, state_of}
 use Rattle.aes.proofs.Steps.{quad}
 use Rattle.aes.proofs.ColumnWords.{added_is}
 use Rattle.aes.proofs.columns.add_key.Goals as goal

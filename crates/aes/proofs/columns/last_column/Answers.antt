@@ -1,7 +1,7 @@
 use Rattle.std.proofs.Common.{ℕ, List, get_or, ap, ◌∙◌}
 use Rattle.aes.specs.Field.{sbox}
 use Rattle.aes.specs.Schedule.{xor_word}
-use Rattle.aes.specs.Columns.{column_of}
+use Rattle.aes.specs.Code.Columns.{column_of}
 use Rattle.aes.proofs.Rows.{four}
 use Rattle.aes.proofs.ColumnWords.{column_xor, column_row, column_small, column_back}
 use Rattle.aes.proofs.columns.last_column.Goals as goal

@@ -2,7 +2,7 @@ use Rattle.std.proofs.Common.{ℕ, get_or, ap, ◌∙◌, List}
 use Rattle.aes.specs.Field.{sbox}
 use Rattle.aes.specs.Schedule.{xor_word}
 use Rattle.aes.specs.Cipher.{mix_column}
-use Rattle.aes.specs.Columns.{column_of}
+use Rattle.aes.specs.Code.Columns.{column_of}
 use Rattle.aes.proofs.Rows.{four}
 use Rattle.aes.proofs.Steps.{sbox_small}
 use Rattle.aes.proofs.ColumnWords.{column_row, column_small, mixed_is}

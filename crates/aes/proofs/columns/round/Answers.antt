@@ -1,6 +1,6 @@
 use Rattle.std.proofs.Common.{◌≡◌, ℕ, List, get_or, length, ap₂, ◌∙◌, rules}
 use Rattle.aes.specs.Cipher.{sub_bytes, shift_rows, mix_columns, add_round_key}
-use Rattle.aes.specs.Columns.{columns_of, state_of}
+use Rattle.aes.specs.Code.Columns.{columns_of, state_of}
 use Rattle.aes.proofs.Steps.{quad}
 use Rattle.aes.proofs.ColumnWords.{round_is}
 use Rattle.aes.proofs.columns.round.Goals as goal

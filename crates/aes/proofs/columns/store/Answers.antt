@@ -1,5 +1,5 @@
 use Rattle.std.proofs.Common.{◌≡◌, length, get_or, ap, ◌∙◌, rules}
-use Rattle.aes.specs.Columns.{state_of}
+use Rattle.aes.specs.Code.Columns.{state_of}
 use Rattle.aes.proofs.Steps.{quad}
 use Rattle.aes.proofs.ColumnWords.{column_rows, joined}
 use Rattle.aes.proofs.columns.store.Goals as goal

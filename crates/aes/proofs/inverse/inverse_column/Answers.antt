@@ -1,7 +1,7 @@
 use Rattle.std.proofs.Common.{List, ℕ, sym, ap, ◌∙◌}
 use Rattle.aes.specs.Schedule.{xor_word}
 use Rattle.aes.specs.Cipher.{mix_column}
-use Rattle.aes.specs.Columns.{column_of}
+use Rattle.aes.specs.Code.Columns.{column_of}
 use Rattle.aes.proofs.ColumnWords.{column_row, mix_xor}
 use Rattle.aes.proofs.inverse.inverse_column.Goals as goal
 

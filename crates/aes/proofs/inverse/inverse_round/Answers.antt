@@ -1,6 +1,6 @@
 use Rattle.std.proofs.Common.{◌≡◌, ℕ, List, map, get_or, length, ap, sym, ◌∙◌, rules}
 use Rattle.aes.specs.Cipher.{mix_column, add_round_key}
-use Rattle.aes.specs.Columns.{columns_of, state_of}
+use Rattle.aes.specs.Code.Columns.{columns_of, state_of}
 use Rattle.aes.proofs.Steps.{quad}
 use Rattle.aes.proofs.ColumnWords.{before_rows, inverse_state}
 use Rattle.aes.proofs.inverse.inverse_round.Goals as goal

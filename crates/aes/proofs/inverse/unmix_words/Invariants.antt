@@ -1,6 +1,6 @@
 use Rattle.std.proofs.Common.{◌≡◌, ℕ, ◌<◌, ◌≤◌, get_or, length}
 use Rattle.aes.specs.Cipher.{mix_column}
-use Rattle.aes.specs.Columns.{column_of}
+use Rattle.aes.specs.Code.Columns.{column_of}
 use Rattle.aes.proofs.inverse.unmix_words.Given as goal
 
 abbrev pub invariant-middle : goal.invariant-middle

@@ -1,5 +1,5 @@
 use Rattle.std.proofs.Common.{◌∙◌, arith, rules}
-use Rattle.aes.specs.Columns.{columns_of}
+use Rattle.aes.specs.Code.Columns.{columns_of}
 use Rattle.aes.proofs.KeyPlanes.{word_of}
 use Rattle.aes.proofs.key_planes.key_bytes.Goals as goal
 

@@ -1,7 +1,7 @@
 use Rattle.std.proofs.Common.{[], sym, subst, arith, rules, inl, inr, get_or-set_same}
 use Rattle.std.proofs.Common.{get_or-set_other}
 use Rattle.std.proofs.lemmas.Bool.{cases_eq}
-use Rattle.aes.specs.Columns.{columns_of}
+use Rattle.aes.specs.Code.Columns.{columns_of}
 use Rattle.aes.specs.Code.Planes.{HoldsWords, spot, word_byte, masked_byte}
 use Rattle.aes.proofs.KeyPlanes.{first_key, middle_key, last_key}
 use Rattle.aes.proofs.key_planes.ready_planes.Goals as goal

@@ -1,5 +1,5 @@
 use Rattle.std.proofs.Common.{◌≡◌, ℕ, ◌<◌, [], get_or, length}
-use Rattle.aes.specs.Columns.{columns_of}
+use Rattle.aes.specs.Code.Columns.{columns_of}
 use Rattle.aes.specs.Code.Planes.{HoldsWords, spot, word_byte, masked_byte}
 use Rattle.aes.proofs.key_planes.ready_planes.Given as goal
 

@@ -1,7 +1,7 @@
 use Rattle.std.proofs.Common.{[], get_or, ap, ◌∙◌, arith, rules, inl, inr, bit_xor, get_or-set_same}
 use Rattle.std.proofs.Common.{get_or-set_other}
 use Rattle.std.proofs.lemmas.Bool.{cases_eq}
-use Rattle.aes.specs.Columns.{columns_of}
+use Rattle.aes.specs.Code.Columns.{columns_of}
 use Rattle.aes.specs.Code.Lanes.{in_basis, key_byte}
 use Rattle.aes.proofs.FourBlocks.{via, via_two}
 use Rattle.aes.proofs.FourRounds.{splat_lanes, ready_of}

@@ -1,5 +1,5 @@
 use Rattle.std.proofs.Common.{◌≡◌, ℕ, ◌<◌, [], get_or, length}
-use Rattle.aes.specs.Columns.{columns_of}
+use Rattle.aes.specs.Code.Columns.{columns_of}
 use Rattle.aes.specs.Code.Lanes.{ready_byte}
 use Rattle.aes.proofs.lanes.ready_keys.Given as goal
 

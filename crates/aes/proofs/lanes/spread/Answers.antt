@@ -1,5 +1,5 @@
 use Rattle.std.proofs.Common.{◌≡◌, List, ℕ, length, get_or, refl, subst, rules, ◌∷◌, []}
-use Rattle.aes.specs.Columns.{columns_of}
+use Rattle.aes.specs.Code.Columns.{columns_of}
 use Rattle.aes.specs.Code.Lanes.{HasLanes, key_byte}
 use Rattle.aes.proofs.Steps.{quad}
 use Rattle.aes.proofs.FourRounds.{key_lanes}

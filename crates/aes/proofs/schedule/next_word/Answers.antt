@@ -1,6 +1,6 @@
 use Rattle.std.proofs.Common.{ap, ap₂, ◌∙◌}
 use Rattle.aes.specs.Schedule.{xor_word, sub_word}
-use Rattle.aes.specs.Columns.{column_of}
+use Rattle.aes.specs.Code.Columns.{column_of}
 use Rattle.aes.proofs.Words.{temp_first, temp_fourth, temp_other}
 use Rattle.aes.proofs.ColumnWords.{column_xor}
 use Rattle.aes.proofs.schedule.next_word.Goals as goal

@@ -3,7 +3,8 @@ use Rattle.std.proofs.lemmas.Option.{none-some, same_Some}
 use Rattle.aead.specs.declared.suite.Suite.{Suite}
 use Rattle.aead.specs.Pieces.{IsInFirstPass, IsInSecondPass}
 use Rattle.aead.specs.KeyedPieces.{HoldsFirstPass, HoldsSecondPass}
-use Rattle.aead.specs.KeyedPasses.{setting_of, LengthsRefused}
+use Rattle.aead.specs.KeyedPasses.{setting_of, ResumeRefused}
+use Rattle.aead.specs.PassStates.{HasHashKey}
 use Rattle.capi.proofs.opener.aeadkit_opener_resume.Goals as goal
 
 pub returns-in-Ok-clause-first : goal.returns-in-Ok-clause-first
@@ -12,13 +13,17 @@ returns-in-Ok-clause-first c = λ suite is.
       Ok tt,
       (
         c.outcome_number.ensures,
-        λ aad tag bytes n. record {
-          mark_is = is;
-          opener = subst (λ (x : Suite). IsInFirstPass c.args.saved.now.state
-              (setting_of x c.args.key.now c.args.nonce.now aad) tag bytes
-              → HoldsFirstPass c.in-Ok.resumed (setting_of x c.args.key.now c.args.nonce.now aad) tag bytes) same
-              (c.in-Ok.ensures.first aad tag bytes) n;
-        },
+        (
+          subst (λ (x : Suite). HasHashKey c.args.saved.now.state.pass (setting_of x c.args.key.now c.args.nonce.now)) same
+              c.in-Ok.ensures.key,
+          λ aad tag bytes n. record {
+            mark_is = is;
+            opener = subst (λ (x : Suite). IsInFirstPass c.args.saved.now.state
+                (setting_of x c.args.key.now c.args.nonce.now aad) tag bytes
+                → HoldsFirstPass c.in-Ok.resumed (setting_of x c.args.key.now c.args.nonce.now aad) tag bytes) same
+                (c.in-Ok.ensures.first aad tag bytes) n;
+          },
+        ),
       ),
     )
 
@@ -28,7 +33,8 @@ returns-in-Err-clause-first c = λ suite is.
       Err c.in-Err.fault,
       (
         c.outcome_number-in-Err.ensures,
-        subst (λ x. LengthsRefused x c.args.key.now c.args.nonce.now c.in-Err.fault) same c.in-Err.ensures.first,
+        subst (λ x. ResumeRefused c.args.saved.now.state.pass x c.args.key.now c.args.nonce.now c.in-Err.fault) same
+            c.in-Err.ensures.first,
       ),
     )
 
@@ -38,13 +44,17 @@ returns-in-Ok-clause-second c = λ suite is.
       Ok tt,
       (
         c.outcome_number.ensures,
-        λ aad tag first bytes n. record {
-          mark_is = is;
-          opener = subst (λ (x : Suite). IsInSecondPass c.args.saved.now.state
-              (setting_of x c.args.key.now c.args.nonce.now aad) tag first bytes
-              → HoldsSecondPass c.in-Ok.resumed (setting_of x c.args.key.now c.args.nonce.now aad) tag first bytes) same
-              (c.in-Ok.ensures.second aad tag first bytes) n;
-        },
+        (
+          subst (λ (x : Suite). HasHashKey c.args.saved.now.state.pass (setting_of x c.args.key.now c.args.nonce.now)) same
+              c.in-Ok.ensures.key,
+          λ aad tag first bytes n. record {
+            mark_is = is;
+            opener = subst (λ (x : Suite). IsInSecondPass c.args.saved.now.state
+                (setting_of x c.args.key.now c.args.nonce.now aad) tag first bytes
+                → HoldsSecondPass c.in-Ok.resumed (setting_of x c.args.key.now c.args.nonce.now aad) tag first bytes) same
+                (c.in-Ok.ensures.second aad tag first bytes) n;
+          },
+        ),
       ),
     )
 
@@ -54,7 +64,8 @@ returns-in-Err-clause-second c = λ suite is.
       Err c.in-Err.fault,
       (
         c.outcome_number-in-Err.ensures,
-        subst (λ x. LengthsRefused x c.args.key.now c.args.nonce.now c.in-Err.fault) same c.in-Err.ensures.second,
+        subst (λ x. ResumeRefused c.args.saved.now.state.pass x c.args.key.now c.args.nonce.now c.in-Err.fault) same
+            c.in-Err.ensures.second,
       ),
     )
 

@@ -1,8 +1,8 @@
 use Rattle.std.proofs.Common.{◌≡◌, ℕ, List, refl, subst, Ok, Err}
 use Rattle.std.proofs.lemmas.Option.{same_Some}
 use Rattle.aead.specs.declared.suite.Suite.{Suite}
-use Rattle.aead.specs.PassStates.{HoldsState}
-use Rattle.aead.specs.KeyedPasses.{setting_of, LengthsRefused}
+use Rattle.aead.specs.PassStates.{HasHashKey, HoldsState}
+use Rattle.aead.specs.KeyedPasses.{setting_of, ResumeRefused}
 use Rattle.capi.specs.declared.sealer.StoredSealer.{StoredSealer}
 use Rattle.capi.specs.Sealers.{HoldsText}
 use Rattle.capi.proofs.sealer.aeadkit_sealer_resume.Goals as goal
@@ -14,10 +14,14 @@ returns-in-Ok-clause-known c = λ suite one is.
       Ok tt,
       (
         c.outcome_number.ensures,
-        subst (λ (x : Suite). (aad text : List ℕ)
-            → HoldsState c.args.saved.now.state (setting_of x c.args.key.now c.args.nonce.now aad) text
-            → HoldsText new (setting_of x c.args.key.now c.args.nonce.now aad) text) same
-            (λ aad text n. record { mark_is = c.mark_of.ensures; sealer = c.in-Ok.ensures aad text n }),
+        (
+          subst (λ (x : Suite). HasHashKey c.args.saved.now.state (setting_of x c.args.key.now c.args.nonce.now)) same
+              c.in-Ok.ensures.key,
+          subst (λ (x : Suite). (aad text : List ℕ)
+              → HoldsState c.args.saved.now.state (setting_of x c.args.key.now c.args.nonce.now aad) text
+              → HoldsText new (setting_of x c.args.key.now c.args.nonce.now aad) text) same
+              (λ aad text n. record { mark_is = c.mark_of.ensures; sealer = c.in-Ok.ensures.answer aad text n }),
+        ),
       ),
     )
 
@@ -27,7 +31,8 @@ returns-in-Err-clause-known c = λ suite one is.
       Err c.in-Err.fault,
       (
         c.outcome_number-in-Err.ensures,
-        subst (λ x. LengthsRefused x c.args.key.now c.args.nonce.now c.in-Err.fault) same c.in-Err.ensures,
+        subst (λ x. ResumeRefused c.args.saved.now.state x c.args.key.now c.args.nonce.now c.in-Err.fault) same
+            c.in-Err.ensures.answer,
       ),
     )
 

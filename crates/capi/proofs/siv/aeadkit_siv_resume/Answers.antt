@@ -3,7 +3,8 @@ use Rattle.std.proofs.lemmas.Option.{none-some, same_Some}
 use Rattle.aead.specs.declared.suite.Suite.{Suite}
 use Rattle.aead.specs.Pieces.{IsInFirstReading, IsInSecondReading}
 use Rattle.aead.specs.KeyedPieces.{HoldsFirstReading, HoldsSecondReading}
-use Rattle.aead.specs.KeyedPasses.{setting_of, LengthsRefused}
+use Rattle.aead.specs.KeyedPasses.{setting_of, ResumeRefused}
+use Rattle.aead.specs.PassStates.{HasHashKey}
 use Rattle.capi.proofs.siv.aeadkit_siv_resume.Goals as goal
 
 pub returns-in-Ok-clause-first : goal.returns-in-Ok-clause-first
@@ -12,13 +13,17 @@ returns-in-Ok-clause-first c = λ suite by is.
       Ok tt,
       (
         c.outcome_number.ensures,
-        λ aad text n. record {
-          mark_is = is;
-          siv = subst (λ (x : Suite). IsInFirstReading c.args.saved.now.state
-              (setting_of x c.args.key.now c.args.nonce.now aad) text
-              → HoldsFirstReading c.in-Ok.resumed (setting_of x c.args.key.now c.args.nonce.now aad) text) same
-              (c.in-Ok.ensures.first aad text) n;
-        },
+        (
+          subst (λ (x : Suite). HasHashKey c.args.saved.now.state.pass (setting_of x c.args.key.now c.args.nonce.now)) same
+              c.in-Ok.ensures.key,
+          λ aad text n. record {
+            mark_is = is;
+            siv = subst (λ (x : Suite). IsInFirstReading c.args.saved.now.state
+                (setting_of x c.args.key.now c.args.nonce.now aad) text
+                → HoldsFirstReading c.in-Ok.resumed (setting_of x c.args.key.now c.args.nonce.now aad) text) same
+                (c.in-Ok.ensures.first aad text) n;
+          },
+        ),
       ),
     )
 
@@ -28,7 +33,8 @@ returns-in-Err-clause-first c = λ suite by is.
       Err c.in-Err.fault,
       (
         c.outcome_number-in-Err.ensures,
-        subst (λ x. LengthsRefused x c.args.key.now c.args.nonce.now c.in-Err.fault) same c.in-Err.ensures.first,
+        subst (λ x. ResumeRefused c.args.saved.now.state.pass x c.args.key.now c.args.nonce.now c.in-Err.fault) same
+            c.in-Err.ensures.first,
       ),
     )
 
@@ -38,13 +44,17 @@ returns-in-Ok-clause-second c = λ suite by is.
       Ok tt,
       (
         c.outcome_number.ensures,
-        λ aad first text n. record {
-          mark_is = is;
-          siv = subst (λ (x : Suite). IsInSecondReading c.args.saved.now.state
-              (setting_of x c.args.key.now c.args.nonce.now aad) first text
-              → HoldsSecondReading c.in-Ok.resumed (setting_of x c.args.key.now c.args.nonce.now aad) first text) same
-              (c.in-Ok.ensures.second aad first text) n;
-        },
+        (
+          subst (λ (x : Suite). HasHashKey c.args.saved.now.state.pass (setting_of x c.args.key.now c.args.nonce.now)) same
+              c.in-Ok.ensures.key,
+          λ aad first text n. record {
+            mark_is = is;
+            siv = subst (λ (x : Suite). IsInSecondReading c.args.saved.now.state
+                (setting_of x c.args.key.now c.args.nonce.now aad) first text
+                → HoldsSecondReading c.in-Ok.resumed (setting_of x c.args.key.now c.args.nonce.now aad) first text) same
+                (c.in-Ok.ensures.second aad first text) n;
+          },
+        ),
       ),
     )
 
@@ -54,7 +64,8 @@ returns-in-Err-clause-second c = λ suite by is.
       Err c.in-Err.fault,
       (
         c.outcome_number-in-Err.ensures,
-        subst (λ x. LengthsRefused x c.args.key.now c.args.nonce.now c.in-Err.fault) same c.in-Err.ensures.second,
+        subst (λ x. ResumeRefused c.args.saved.now.state.pass x c.args.key.now c.args.nonce.now c.in-Err.fault) same
+            c.in-Err.ensures.second,
       ),
     )
 

@@ -12,7 +12,7 @@ returns c = λ named one is zero.
     let v = c.aeadkit_sealer_save-kept.ensures.holds s c.args.first.now u1.0 in
     let r = done _ _ _ (c.aeadkit_sealer_resume-again.ensures.known named one (v.1 ∙ u1.0.mark_is))
     c.if-again-ne0.false in
-    let h1 = r c.args.aad.now c.args.first.now v.2 in
+    let h1 = r.1 c.args.aad.now c.args.first.now v.2 in
     let u2 = done _ _ _ (c.aeadkit_sealer_update-two.ensures.holds s c.args.first.now h1) c.if-two-ne0.false in
     let f = c.aeadkit_sealer_finish.ensures.holds s (c.args.first.now ++ c.args.second.now) u2.0 in
     let join = c.pieces_make_a_sealing.ensures s in

@@ -4,15 +4,15 @@ use Rattle.command.specs.Keywrap.{UnwrapFault}
 use Rattle.command.proofs.KeywrapLemmas.{spelled_pair, call_refused}
 use Rattle.command.proofs.commands.unwrap.Goals as goal
 
-pub returns-in_err-unwrapped : goal.returns-in_err-unwrapped
-returns-in_err-unwrapped g c =
-    let p = err_from_is_err_and c.from_residual-in_err-unwrapped.result
-    c.from_residual-in_err-unwrapped.ensures.1 in
+pub returns-in_err-unwrap_text : goal.returns-in_err-unwrap_text
+returns-in_err-unwrap_text g c =
+    let p = err_from_is_err_and c.from_residual-in_err-unwrap_text.result
+    c.from_residual-in_err-unwrap_text.ensures.1 in
     let is = c.in_ok-call.ensures in
     rw (p.1, p.2) (inr (call_refused (UnwrapFault c.args.pad) _ _ _ (spelled_pair _ _ _ _ _ _ _
-    is.1 is.2 refl c.deref.ensures.value (is.0, c.in_err-unwrapped.ensures))))
+    is.1 is.2 refl c.deref.ensures.value (is.0, c.in_err-unwrap_text.ensures))))
 
 pub returns : goal.returns
 returns g c =
     let is = c.in_ok-call.ensures in
-    spelled_pair _ _ _ _ _ _ _ is.1 is.2 refl c.deref.ensures.value (is.0, c.in_ok-unwrapped.ensures)
+    spelled_pair _ _ _ _ _ _ _ is.1 is.2 refl c.deref.ensures.value (is.0, c.in_ok-unwrap_text.ensures)

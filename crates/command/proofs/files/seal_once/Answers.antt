@@ -2,7 +2,7 @@ use Rattle.std.proofs.Common.{inr}
 use Rattle.aead.specs.Ciphers.{setting}
 use Rattle.aead.specs.AnyCiphers.{one_pass_keyed}
 use Rattle.command.proofs.BlamesLemmas.{seal_blames}
-use Rattle.command.specs.Files.{OutletTakes}
+use Rattle.command.specs.Code.Engines.{OutletTakes}
 use Rattle.command.proofs.FilesLemmas.{sealed_once, sealing_once}
 use Rattle.command.proofs.files.seal_once.Goals as goal
 

@@ -2,7 +2,7 @@ use Rattle.std.proofs.Common.{inr}
 use Rattle.aead.specs.Ciphers.{setting}
 use Rattle.aead.specs.SealSivStream.{SivCounts}
 use Rattle.command.proofs.BlamesLemmas.{siv_blames}
-use Rattle.command.specs.Files.{OutletTakes}
+use Rattle.command.specs.Code.Engines.{OutletTakes}
 use Rattle.command.proofs.FilesLemmas.{sealed_twice, sealing_twice}
 use Rattle.command.proofs.files.seal_twice.Goals as goal
 

@@ -4,15 +4,15 @@ use Rattle.command.proofs.BlamesLemmas.{count_blames}
 use Rattle.command.proofs.FilesLemmas.{exit_err, exit_write, exit_done, write_is_late}
 use Rattle.command.proofs.files.write_file.Goals as goal
 
-pub returns-in_err-write-clause-answer : goal.returns-in_err-write-clause-answer
-returns-in_err-write-clause-answer g c =
+pub returns-in_err-run_command-clause-answer : goal.returns-in_err-run_command-clause-answer
+returns-in_err-run_command-clause-answer g c =
     let p = err_from_is_err_and c.from_residual.result c.from_residual.ensures.1 in
     rw (p.1, p.2) (exit_err c.args.words.now.command
     (g.F.Storage.contents c.args.files.now c.args.words.now.input.now) c.args.words.now.inputs _
-    (g.F.Storage.blank c.write.new.out.files.now c.write.new.out.path.now) g.F.Output.Outlet.taken
-    c.write.new.out.file (drop c.write.new.out.written c.write.new.out.pending.items)
-    (c.write.new.out ≡ c.args.file.now) (c.write.new.out.file ≡ c.args.file.now.file)
-    c.in_err-write.field-0.0 (λ p. (cc)) c.in_err-write.ensures.ran)
+    (g.F.Storage.blank c.run_command.new.out.files.now c.run_command.new.out.path.now) g.F.Output.Outlet.taken
+    c.run_command.new.out.file (drop c.run_command.new.out.written c.run_command.new.out.pending.items)
+    (c.run_command.new.out ≡ c.args.file.now) (c.run_command.new.out.file ≡ c.args.file.now.file)
+    c.in_err-run_command.field-0.0 (λ p. (cc)) c.in_err-run_command.ensures.ran)
 
 pub returns-in_err-finish-clause-answer : goal.returns-in_err-finish-clause-answer
 returns-in_err-finish-clause-answer g c =
@@ -24,7 +24,7 @@ returns-in_err-finish-clause-answer g c =
     (g.F.Storage.blank c.finish.new.self.files.now c.finish.new.self.path.now) g.F.Output.Outlet.taken
     c.finish.new.self.file (drop c.finish.new.self.written c.finish.new.self.pending.items)
     (c.finish.new.self.file ≡ c.args.file.now.file)
-    c.in_ok-write.ensures.ran c.in_err-finish.ensures.taken)
+    c.in_ok-run_command.ensures.ran c.in_err-finish.ensures.taken)
 
 pub returns-clause-answer : goal.returns-clause-answer
 returns-clause-answer g c =
@@ -32,7 +32,7 @@ returns-clause-answer g c =
     (g.F.Storage.contents c.args.files.now c.args.words.now.input.now) c.args.words.now.inputs _ _
     (g.F.Storage.blank c.finish.new.self.files.now c.finish.new.self.path.now) g.F.Output.Outlet.taken
     c.finish.new.self.file c.finish.new.self.written c.finish.new.self.pending.items
-    c.in_ok-write.ensures.ran c.in_ok-finish.ensures.taken c.in_ok-finish.ensures.none_left
+    c.in_ok-run_command.ensures.ran c.in_ok-finish.ensures.taken c.in_ok-finish.ensures.none_left
     c.in_ok-finish.ensures.made
 
 pub returns-in_err-finish-clause-untouched : goal.returns-in_err-finish-clause-untouched
@@ -41,11 +41,11 @@ returns-in_err-finish-clause-untouched g c =
     c.from_residual-in_err-finish.ensures.1 in
     rw (p.1, p.2, c.in_err-finish.ensures.fault) (inl (write_is_late c.args.words.now.command _ refl))
 
-pub returns-in_err-write-clause-blame : goal.returns-in_err-write-clause-blame
-returns-in_err-write-clause-blame g c =
+pub returns-in_err-run_command-clause-blame : goal.returns-in_err-run_command-clause-blame
+returns-in_err-run_command-clause-blame g c =
     let p = err_from_is_err_and c.from_residual.result c.from_residual.ensures.1 in
-    rw (p.1, p.2) (count_blames _ _ _ _ c.in_err-write.field-0.0 c.write.new.out.blame
-    c.in_err-write.ensures.blame)
+    rw (p.1, p.2) (count_blames _ _ _ _ c.in_err-run_command.field-0.0 c.run_command.new.out.blame
+    c.in_err-run_command.ensures.blame)
 
 pub returns-in_err-finish-clause-blame : goal.returns-in_err-finish-clause-blame
 returns-in_err-finish-clause-blame g c =

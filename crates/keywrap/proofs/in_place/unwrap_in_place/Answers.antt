@@ -43,8 +43,8 @@ returns-then-is_initial_value-clause-found c text u = (
 pub returns-clause-found : goal.returns-clause-found
 returns-clause-found c text u = absurd ((returns-clause-answer c).1 text u)
 
-pub returns-clause-kept : goal.returns-clause-kept
-returns-clause-kept c =
+pub returns-clause-unchanged : goal.returns-clause-unchanged
+returns-clause-unchanged c =
     let new : List ℕ = c.unwrap_register.new.bytes in
     let same : length new ≡ length c.args.bytes.now = omega arith in
     c.wrap_register.ensures ∙ ap (λ n. steps c.args.key.now (6 * ((n - 8) / 8)) new) same

@@ -19,5 +19,5 @@ returns-then-has_wrapped_length-clause-answer c =
     lengths
     (ap (λ x. x ++ text) c.copy_from_slice.ensures.after) c.wrap_register.ensures
 
-pub returns-else-has_wrapped_length-clause-kept : goal.returns-else-has_wrapped_length-clause-kept
-returns-else-has_wrapped_length-clause-kept c = refl
+pub returns-else-has_wrapped_length-clause-unchanged : goal.returns-else-has_wrapped_length-clause-unchanged
+returns-else-has_wrapped_length-clause-unchanged c = refl

@@ -16,10 +16,10 @@ returns-then-wrapped-clause-found c text u =
 
 pub returns-in-Some-clause-found : goal.returns-in-Some-clause-found
 returns-in-Some-clause-found c text u =
-    let rest : List ℕ = c.unwrap_start.new.blocks in
+    let rest : List ℕ = c.unwrap_padded_register.new.blocks in
     let whole = parts c.args.wrapped.now c.first_eight-first.result c.copy_from_slice.new.self
     c.first_eight-first.ensures c.copy_from_slice.ensures.after in
-    sym ((one_text is_permutation c.args.key.now c.unwrap_start.ensures.key c.args.wrapped.now
+    sym ((one_text is_permutation c.args.key.now c.unwrap_padded_register.ensures.key c.args.wrapped.now
     (take c.in-Some.length rest)
     (subst (λ (xs : List ℕ). UnwrappedPadded c.args.key.now xs (take c.in-Some.length rest)) whole
     c.in-Some.ensures.found.1)).1 text u)

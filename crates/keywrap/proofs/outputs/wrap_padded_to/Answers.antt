@@ -15,8 +15,8 @@ returns-clause-answer c =
     let count : 8 + length text - 8 ≡ length text = omega arith in
     wrapped_in_output c.args.key.now old text
     (put_mid 8 (8 + length text - 8) old c.copy_from_slice.new.self) c.copy_from_slice-2.new.self
-    c.copy_from_slice-3.new.self c.transform.new.bytes least (omega arith) c.requires old_bytes
+    c.copy_from_slice-3.new.self c.encrypt_register.new.bytes least (omega arith) c.requires old_bytes
     text_bytes
     (ap₂ (λ k x. put_mid 8 k old x) count c.copy_from_slice.ensures.after)
     (c.copy_from_slice-2.ensures.after ∙ c.alternative_value.ensures) c.copy_from_slice-3.ensures.after
-    c.transform.ensures
+    c.encrypt_register.ensures

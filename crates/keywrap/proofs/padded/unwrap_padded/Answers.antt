@@ -17,7 +17,7 @@ returns-then-wrapped-clause-found g c text u =
 
 pub returns-in-Some-clause-answer : goal.returns-in-Some-clause-answer
 returns-in-Some-clause-answer g c =
-    let rest : List ℕ = c.unwrap_start.new.blocks in
+    let rest : List ℕ = c.unwrap_padded_register.new.blocks in
     let kept : take c.in_ok-text.text.len (rest ++ drop (length rest) c.in_ok-text.text.items) ≡ rest =
     take_at rest (drop (length rest) c.in_ok-text.text.items) c.in_ok-text.text.len
     (omega (arith, c.deref_mut.ensures.len)) in
@@ -30,7 +30,7 @@ returns-in-Some-clause-answer g c =
 
 pub returns-in-Some-clause-found : goal.returns-in-Some-clause-found
 returns-in-Some-clause-found g c text u =
-    sym ((one_text is_permutation c.args.key.now c.unwrap_start.ensures.key c.args.wrapped.now
+    sym ((one_text is_permutation c.args.key.now c.unwrap_padded_register.ensures.key c.args.wrapped.now
     c.truncate.new.self.items (returns-in-Some-clause-answer g c)).1 text u)
 
 pub returns-in-None-clause-answer : goal.returns-in-None-clause-answer

@@ -21,15 +21,15 @@ pub returns-in-Some-clause-answer : goal.returns-in-Some-clause-answer
 returns-in-Some-clause-answer c =
     let key : List ℕ = c.args.key.now in
     let wrapped : List ℕ = c.args.bytes.now in
-    let rest : List ℕ = c.unwrap_start-found.new.blocks in
+    let rest : List ℕ = c.unwrap_padded_register-found.new.blocks in
     let n : ℕ = c.in-Some.length in
     let found : List ℕ = take n rest in
     let new : List ℕ = c.copy_from_slice.new.self ++ drop 8 (put_mid 8 (length wrapped - 8) wrapped rest) in
     let blocks : HasBlocks wrapped = c.if-not-has_blocks.ensures.0 refl in
     let rest_long : length rest ≡ length wrapped - 8 =
-    c.unwrap_start-found.auto.blocks ∙ length-take-le (length wrapped - 8) (drop 8 wrapped)
+    c.unwrap_padded_register-found.auto.blocks ∙ length-take-le (length wrapped - 8) (drop 8 wrapped)
     (omega (arith, length-drop 8 wrapped)) in
-    let first_long : length c.unwrap_start-found.new.first ≡ 8 = omega arith in
+    let first_long : length c.unwrap_padded_register-found.new.first ≡ 8 = omega arith in
     let same : drop 8 new ≡ rest =
     rest_in_place c.copy_from_slice.new.self wrapped rest
     (ap length c.copy_from_slice.ensures.after ∙ first_long) blocks.least rest_long in
@@ -50,9 +50,9 @@ returns-in-Some-clause-answer c =
 
 pub returns-in-Some-clause-found : goal.returns-in-Some-clause-found
 returns-in-Some-clause-found c text u =
-    sym ((one_text is_permutation c.args.key.now c.unwrap_start-found.ensures.key c.args.bytes.now
+    sym ((one_text is_permutation c.args.key.now c.unwrap_padded_register-found.ensures.key c.args.bytes.now
     (take c.in-Some.length (drop 8 (c.copy_from_slice.new.self
-    ++ drop 8 (put_mid 8 (length c.args.bytes.now - 8) c.args.bytes.now c.unwrap_start-found.new.blocks))))
+    ++ drop 8 (put_mid 8 (length c.args.bytes.now - 8) c.args.bytes.now c.unwrap_padded_register-found.new.blocks))))
     (returns-in-Some-clause-answer c).1).1 text u)
 
 pub returns-in-None-clause-answer : goal.returns-in-None-clause-answer
@@ -68,16 +68,16 @@ returns-in-None-clause-answer c =
 pub returns-in-None-clause-found : goal.returns-in-None-clause-found
 returns-in-None-clause-found c text u = (returns-in-None-clause-answer c).2 text u
 
-pub returns-in-None-clause-kept : goal.returns-in-None-clause-kept
-returns-in-None-clause-kept c =
+pub returns-in-None-clause-unchanged : goal.returns-in-None-clause-unchanged
+returns-in-None-clause-unchanged c =
     let key : List ℕ = c.args.key.now in
     let wrapped : List ℕ = c.args.bytes.now in
-    let rest : List ℕ = c.unwrap_start-found.new.blocks in
+    let rest : List ℕ = c.unwrap_padded_register-found.new.blocks in
     let blocks : HasBlocks wrapped = c.if-not-has_blocks.ensures.0 refl in
     let rest_long : length rest ≡ length wrapped - 8 =
-    c.unwrap_start-found.auto.blocks ∙ length-take-le (length wrapped - 8) (drop 8 wrapped)
+    c.unwrap_padded_register-found.auto.blocks ∙ length-take-le (length wrapped - 8) (drop 8 wrapped)
     (omega (arith, length-drop 8 wrapped)) in
     let whole = parts wrapped c.first_eight-first.result (take (length wrapped - 8) (drop 8 wrapped))
     c.first_eight-first.ensures refl in
-    c.transform.ensures ∙ ap (transformed key) (ap₂ (λ x y. x ++ y) c.copy_from_slice.ensures.after
-    (blocks_in_place wrapped rest blocks.least rest_long)) ∙ c.unwrap_start-found.ensures.undone ∙ whole
+    c.encrypt_register.ensures ∙ ap (transformed key) (ap₂ (λ x y. x ++ y) c.copy_from_slice.ensures.after
+    (blocks_in_place wrapped rest blocks.least rest_long)) ∙ c.unwrap_padded_register-found.ensures.undone ∙ whole

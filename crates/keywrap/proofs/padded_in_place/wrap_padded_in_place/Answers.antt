@@ -10,7 +10,7 @@ returns-clause-answer c =
     let room : HasPaddedRoom c.args.bytes.now c.args.text_length = c.if-not-has_padded_room.ensures.0 refl in (
       room,
       wrapped_in_room c.args.key.now c.args.bytes.now c.copy_from_slice.new.self
-          c.copy_from_slice-2.new.self c.transform.new.bytes c.args.text_length room (omega arith) bytes
+          c.copy_from_slice-2.new.self c.encrypt_register.new.bytes c.args.text_length room (omega arith) bytes
           (c.copy_from_slice.ensures.after ∙ c.alternative_value.ensures) c.copy_from_slice-2.ensures.after
-          c.transform.ensures,
+          c.encrypt_register.ensures,
     )

@@ -17,8 +17,8 @@ returns-clause-step c = λ key x.
     let eight : p + 8 - p ≡ 8 = omega arith in
     let taken : cipher key d ≡ xor_bytes a (bytes_high_first 8 c.args.t) ++ take (p + 8 - p) (drop p s) =
     ap (cipher key) c.bytes.ensures.value ∙ (c.decrypt.ensures.value key x).taken ∙ c.new.ensures.value
-    ∙ c.joined-block.ensures
-    ∙ ap (λ y. y ++ take (p + 8 - p) (drop p s)) c.numbered.ensures in
+    ∙ c.join_halves-block.ensures
+    ∙ ap (λ y. y ++ take (p + 8 - p) (drop p s)) c.xor_number.ensures in
     ap (λ y. step key c.args.t (register p y (put_mid p (p + 8 - p) s c.copy_from_slice.new.self)))
     c.halves.ensures.first
     ∙ unwrapped_at key c.args.t p (p + 8 - p) a s d c.copy_from_slice.new.self

@@ -4,7 +4,7 @@ use Rattle.vectors.specs.Lines.{lines_of}
 use Rattle.vectors.specs.Code.Steps.{Place, step}
 use Rattle.vectors.specs.Faults.{is_inside}
 use Rattle.vectors.specs.Code.Views.{entry_view, view}
-use Rattle.vectors.specs.Reports.{Judges}
+use Rattle.vectors.specs.Code.Judging.{Judges}
 use Rattle.vectors.proofs.Places.{expected}
 use Rattle.vectors.proofs.LineLemmas.{lines_nil}
 use Rattle.vectors.proofs.Progress.{inside_is, not_between, not_start}

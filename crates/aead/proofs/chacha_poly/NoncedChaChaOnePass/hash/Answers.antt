@@ -1,5 +1,5 @@
 use Rattle.std.proofs.Common.{ℕ, List, [], refl, ap, subst, take, ◌∙◌}
-use Rattle.poly1305.specs.States.{Holds}
+use Rattle.poly1305.specs.Code.States.{Holds}
 use Rattle.aead.specs.Sealing.{poly_key}
 use Rattle.aead.proofs.chacha_poly.NoncedChaChaOnePass.hash.Goals as goal
 

@@ -1,6 +1,6 @@
 use Rattle.std.proofs.Common.{◌≡◌, ℕ, List, subst, sym, ◌∙◌}
 use Rattle.aes.specs.Counters.{up_be}
-use Rattle.aes.specs.Streams.{Holds}
+use Rattle.aes.specs.Code.Streams.{Holds}
 use Rattle.aead.specs.Sealing.{j0}
 use Rattle.aead.proofs.Streams.{first_block}
 use Rattle.aead.proofs.gcm.NoncedGcmOnePass.mask.Goals as goal

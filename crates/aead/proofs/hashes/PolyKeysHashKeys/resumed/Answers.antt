@@ -1,5 +1,5 @@
 use Rattle.std.proofs.Common.{List, ℕ, subst, sym}
-use Rattle.poly1305.specs.States.{Holds, IsSum}
+use Rattle.poly1305.specs.Code.States.{Holds, IsSum}
 use Rattle.aead.specs.PassStates.{IsHashKey, IsSumOf}
 use Rattle.aead.proofs.hashes.PolyKeysHashKeys.resumed.Goals as goal
 

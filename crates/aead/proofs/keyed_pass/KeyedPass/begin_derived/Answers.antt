@@ -1,5 +1,5 @@
-use Rattle.std.proofs.Common.{◌≡◌, ℕ, List, [], length, take, sym, ap, subst, arith, ◌∙◌}
-use Rattle.std.proofs.lemmas.List.{take_at}
+use Rattle.std.proofs.Common.{◌≡◌, ℕ, List, [], length, take, drop, replicate, sym, ap, subst, arith, ◌∙◌}
+use Rattle.std.proofs.lemmas.List.{take_at, drop_at}
 use Rattle.gf128.specs.Orders.{Reversed, Serves}
 use Rattle.aead.specs.Suites.{Construction, construction_of, key_length, aad_limit}
 use Rattle.aead.specs.Sealing.{authentication_key}
@@ -20,9 +20,12 @@ returns-clause-holds c = λ s same by key_fits key serves nonce aad fits.
     ap (take 16) c.joined.ensures
     ∙ take_at c.bytes.result.now _ 16 (ap length c.bytes.ensures.value ∙ c.bytes.ensures.are_bytes.length_is)
     ∙ c.bytes.ensures.value in
+    let zeros : drop 16 c.joined.result ≡ replicate 16 0 =
+    ap (drop 16) c.joined.ensures
+    ∙ drop_at c.bytes.result.now _ 16 (ap length c.bytes.ensures.value ∙ c.bytes.ensures.are_bytes.length_is) in
     let keyed : IsHashKey (construction_of s.suite) c.joined.result s =
     subst (λ (x : Construction). IsHashKey x c.joined.result s) (sym is)
-    (subst (λ (k : List ℕ). Serves Reversed auth k) (sym first) serves) in
+    (subst (λ (k : List ℕ). Serves Reversed auth k) (sym first) serves, zeros) in
     let multiplier = subst (λ (k : List ℕ). Serves Reversed auth k) (sym c.of-multiplier.ensures) serves in
     let numbers = c.begun-state.ensures s (is, multiplier, c.expanded-cipher.ensures ∙ key, sym nonce) keyed aad
     (omega (arith, fits, ap aad_limit same)) in

@@ -1,5 +1,5 @@
 use Rattle.std.proofs.Common.{◌-◌, length}
-use Rattle.aes.specs.Streams.{AdvancesFront}
+use Rattle.aes.specs.Code.Streams.{AdvancesFront}
 use Rattle.aes.proofs.counter.Counter.apply_blocks.Given as goal
 
 abbrev pub invariant-singles : goal.invariant-singles

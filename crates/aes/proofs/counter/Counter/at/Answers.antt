@@ -15,8 +15,8 @@ returns g c = record {
       let first = c.args.first.now in
       let key = c.args.key.now in
       elim c.if-used-eq0.branch [
-        | then-used-eq0 w ↦ absurd (none (c.args.made % 16) some w.if-used-eq0.true)
+        | then-used-eq0 w ↦ absurd (none (c.args.position % 16) some w.if-used-eq0.true)
         | else-used-eq0 w ↦ w.mask-is ∙ w.encrypt-mask.ensures.value ∙ ap (cipher key) (w.block.ensures
-            ∙ g.met.C.Count.wraps first (c.args.made / 16))
+            ∙ g.met.C.Count.wraps first (c.args.position / 16))
       ];
 }

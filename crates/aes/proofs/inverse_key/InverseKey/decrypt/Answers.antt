@@ -2,7 +2,7 @@ use Rattle.std.proofs.Common.{◌≡◌, ℕ, List, length, ◌*◌, ◌-◌, sy
 use Rattle.octets.specs.Bytes.{IsBlock}
 use Rattle.aes.specs.Schedule.{round_count}
 use Rattle.aes.specs.Cipher.{shift_rows, sub_bytes, add_round_key, cipher}
-use Rattle.aes.specs.Columns.{columns_of, state_of}
+use Rattle.aes.specs.Code.Columns.{columns_of, state_of}
 use Rattle.aes.proofs.Steps.{unsub, unshift, unsub_block, unshift_block, sub_unsub, shift_unshift}
 use Rattle.aes.proofs.ColumnWords.{state_long, state_block}
 use Rattle.aes.proofs.Permutation.{cipher_same}

@@ -1,7 +1,7 @@
 use Rattle.std.proofs.Common.{◌≡◌, ℕ, ◌-◌, List, length}
 use Rattle.aes.specs.Schedule.{schedule, round_count}
 use Rattle.aes.specs.Cipher.{shift_rows, sub_bytes, rounds, cipher}
-use Rattle.aes.specs.Columns.{state_of}
+use Rattle.aes.specs.Code.Columns.{state_of}
 use Rattle.aes.specs.Code.InverseKey.{IsInverse}
 use Rattle.aes.proofs.inverse_key.InverseKey.decrypt.Given as goal
 

@@ -1,5 +1,5 @@
 use Rattle.std.proofs.Common.{◌+◌, ◌∙◌, arith}
-use Rattle.aes.specs.Columns.{columns_of}
+use Rattle.aes.specs.Code.Columns.{columns_of}
 use Rattle.aes.proofs.Expanded.{has_schedule, kept_length, first_state, next_state, last_state}
 use Rattle.aes.proofs.key.AesKey.encrypt.Goals as goal
 

@@ -4,7 +4,7 @@ use Rattle.std.proofs.lemmas.List.{get_or-drop}
 use Rattle.octets.specs.Bytes.{IsBlock, block_at}
 use Rattle.aes.specs.Schedule.{round_count, schedule}
 use Rattle.aes.specs.Cipher.{sub_bytes, shift_rows, mix_columns, add_round_key, rounds, cipher}
-use Rattle.aes.specs.Columns.{columns_of}
+use Rattle.aes.specs.Code.Columns.{columns_of}
 use Rattle.aes.proofs.Expanded.{has_schedule, kept_length, round_key_is, rounds_start, rounds_more, cipher_is, is_key}
 use Rattle.aes.proofs.Permutation.{words_are, rounds_block, cipher_block}
 use Rattle.aes.proofs.FourRounds.{ready_first, holds_self, block_at_is, block_held, basis_same, blocks_same}

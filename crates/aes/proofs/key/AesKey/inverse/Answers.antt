@@ -1,6 +1,6 @@
 use Rattle.std.proofs.Common.{◌≡◌, ℕ, ◌+◌, ◌*◌, ◌<◌, get_or, length, ap, ◌∙◌, arith, rules}
 use Rattle.aes.specs.Cipher.{mix_column}
-use Rattle.aes.specs.Columns.{column_of}
+use Rattle.aes.specs.Code.Columns.{column_of}
 use Rattle.aes.specs.Schedule.{word}
 use Rattle.aes.proofs.Expanded.{has_schedule, has_word, is_key, kept_length}
 use Rattle.aes.proofs.key.AesKey.inverse.Goals as goal

@@ -1,6 +1,6 @@
 use Rattle.std.proofs.Common.{◌≡◌, ◌+◌, arith}
 use Rattle.aes.specs.Schedule.{round_count}
-use Rattle.aes.specs.Columns.{columns_of}
+use Rattle.aes.specs.Code.Columns.{columns_of}
 use Rattle.aes.proofs.Expanded.{has_schedule, kept_length}
 use Rattle.aes.proofs.SixteenBlocks.{ready_same_planes}
 use Rattle.aes.proofs.key.AesKey.make_planes.Goals as goal

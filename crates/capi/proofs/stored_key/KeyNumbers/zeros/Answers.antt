@@ -1,5 +1,5 @@
 use Rattle.std.proofs.Common.{refl, subst}
-use Rattle.gf128.specs.KeptMultiples.{KeepsMultiples}
+use Rattle.gf128.specs.Code.KeptMultiples.{KeepsMultiples}
 use Rattle.capi.proofs.stored_key.KeyNumbers.zeros.Goals as goal
 
 pub returns-clause-cleared : goal.returns-clause-cleared

@@ -1,8 +1,8 @@
 use Rattle.std.proofs.Common.{◌≡◌, ◌∙◌, sym, ap, subst, arith, length, replicate}
 use Rattle.std.proofs.lemmas.List.{drop-replicate}
 use Rattle.std.proofs.lemmas.Slice.{take-put_mid, drop-put_mid}
-use Rattle.aes.specs.KeptWords.{KeepsSchedule}
-use Rattle.gf128.specs.KeptMultiples.{KeepsMultiples}
+use Rattle.aes.specs.Code.KeptWords.{KeepsSchedule}
+use Rattle.gf128.specs.Code.KeptMultiples.{KeepsMultiples}
 use Rattle.aead.specs.declared.suite.Suite.{Suite}
 use Rattle.aead.specs.Suites.{key_length}
 use Rattle.capi.specs.Keys.{key_mark}

@@ -1,6 +1,6 @@
 use Rattle.std.proofs.Common.{◌≡◌, ℕ, ◌*◌, ◌/◌, ◌%◌, ◌≤◌, List, length, arith}
 use Rattle.std.proofs.lemmas.List.{take_all}
-use Rattle.gf128.specs.States.{SumHolds}
+use Rattle.gf128.specs.Code.States.{SumHolds}
 use Rattle.gf128.proofs.hash.BlockHash.hash.Goals as goal
 
 whole : (m : List ℕ) → length m % 16 ≡ 0 → length m ≤ length m / 16 * 16

@@ -2,7 +2,7 @@ use Rattle.std.proofs.Common.{◌≡◌, ℕ, ◌++◌, List, ◌+◌, ◌*◌, 
 use Rattle.octets.specs.Polynomial.{Agree}
 use Rattle.gf128.specs.Code.Words.{of_word}
 use Rattle.gf128.specs.Orders.{block_sum}
-use Rattle.gf128.specs.States.{SumHolds}
+use Rattle.gf128.specs.Code.States.{SumHolds}
 use Rattle.gf128.proofs.hash.BlockSumAbsorb.absorb.Given as goal
 
 abbrev pub invariant-fours : goal.invariant-fours

@@ -21,14 +21,14 @@ returns g c = λ a b c' d ea eb ec ed.
     let x : ℕ = bit_xor c.args.sum c.word_of.result in
     let all : List (ℕ × ℕ) = (x, u) ∷ (b, t) ∷ (c', s) ∷ (d, h) ∷ [] in
     let up : ℕ → ℕ = λ (n : ℕ). n / 2 ^ 64 in
-    let z : ℕ = c.reduced_with.result in
+    let z : ℕ = c.reduce_with.result in
     let high = subst (λ l. IsSpread 64 l (le c.four_halves-high.result.word.bytes)
     (le c.four_halves-high.result.spill.bytes / 2 ^ 64))
     (four_parts 64 (up x) (up b) (up c') (up d) c.high_half.result (up b) (up c') (up d) h s t u
     (ap (of_bits 64) c.high_half.ensures) refl refl refl) (c.four_halves-high.ensures b c' d eb ec ed) in
     let whole : (n : ℕ) → of_bits 64 (n / 1) ≡ of_bits 64 n = λ n. ap (of_bits 64) (div-one n) in
-    let low : IsReduced (products 64 all) c.reduced.result =
-    c.reduced.ensures 64 (products 64 all) (subst (λ l. IsSpread 64 l (le c.four_halves-low.result.word.bytes)
+    let low : IsReduced (products 64 all) c.reduce.result =
+    c.reduce.ensures 64 (products 64 all) (subst (λ l. IsSpread 64 l (le c.four_halves-low.result.word.bytes)
     (le c.four_halves-low.result.spill.bytes / 2 ^ 64))
     (four_parts 64 x b c' d c.low_half.result (b / 1) (c' / 1) (d / 1) h s t u
     (low_bits x c.low_half.result c.low_half.ensures) (whole b) (whole c') (whole d))
@@ -36,4 +36,4 @@ returns g c = λ a b c' d ea eb ec ed.
     four_same (bit_xor c.args.sum a) b c' d x b c' d z _
     (same_sum c.args.sum c.word_of.result a (c.word_of.ensures ∙ sym ea)) refl refl refl
     (four_products x b c' d h s t u z self.second_power self.third_power self.fourth_power
-    (products_halves all z (c.reduced_with.ensures 64 (products 64 (shortened 64 all)) (products 64 all) high low)))
+    (products_halves all z (c.reduce_with.ensures 64 (products 64 (shortened 64 all)) (products 64 all) high low)))

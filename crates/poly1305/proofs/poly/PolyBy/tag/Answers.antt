@@ -4,7 +4,7 @@ use Rattle.octets.specs.Bytes.{block_count}
 use Rattle.poly1305.specs.Poly1305.{prime, block_number, block_sum, r_of, s_of, poly1305}
 use Rattle.poly1305.specs.Code.Residue.{pair}
 use Rattle.poly1305.specs.declared.residue.Residue.{Residue}
-use Rattle.poly1305.specs.States.{PolySumHolds}
+use Rattle.poly1305.specs.Code.States.{PolySumHolds}
 use Rattle.poly1305.proofs.Texts.{holds_whole, holds_partial}
 use Rattle.poly1305.proofs.poly.PolyBy.tag.Goals as goal
 use Rattle.poly1305.proofs.poly.PolyBy.tag.Goals.{then-rest-gt0, else-rest-gt0}

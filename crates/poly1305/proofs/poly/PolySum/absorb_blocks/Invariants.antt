@@ -1,7 +1,7 @@
 use Rattle.std.proofs.Common.{◌≡◌, ℕ, ◌++◌, List, ◌+◌, ◌/◌, ◌%◌, length}
 use Rattle.poly1305.specs.Poly1305.{prime, block_sum, r_of}
 use Rattle.poly1305.specs.Code.Residue.{pair}
-use Rattle.poly1305.specs.States.{PolySumHolds}
+use Rattle.poly1305.specs.Code.States.{PolySumHolds}
 use Rattle.poly1305.proofs.poly.PolySum.absorb_blocks.Given as goal
 
 abbrev pub invariant-taken : goal.invariant-taken

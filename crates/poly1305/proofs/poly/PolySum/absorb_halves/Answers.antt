@@ -12,7 +12,7 @@ returns g c = λ k m whole held.
     let q : ℕ = length m / 16 in
     let n : ℕ = length c.args.front.now / 16 in
     let s = c.sum.result in
-    let v = c.over_halves-sum.result in
+    let v = c.add_halves-sum.result in
     let before : pair s.low s.high % prime ≡ block_sum (r_of k) m q % prime =
     ap (λ (y : ℕ). y % prime) (c.sum.ensures ∙ held.sum_is) ∙ mod-mod (block_sum (r_of k) m q) prime in
     let end : q + (n + n) ≡ length (m ++ x) / 16 =
@@ -22,7 +22,7 @@ returns g c = λ k m whole held.
       addend_is = held.addend_is;
       sum_is = c.residue-self.ensures
           ∙ blocks_taken (r_of k) (g.M.Multiplier.factor c.args.self.now.multiplier) m x (n + n) (pair s.low s.high)
-          (pair v.low v.high) whole held.factor_is before c.over_halves-sum.ensures
+          (pair v.low v.high) whole held.factor_is before c.add_halves-sum.ensures
           ∙ ap (λ (y : ℕ). block_sum (r_of k) (m ++ x) y % prime) end;
       sum_below_prime = c.residue-self.result.below;
     }

@@ -1,7 +1,7 @@
 use Rattle.std.proofs.Common.{◌≡◌, ℕ, ◌+◌, ◌-◌, ◌*◌, ◌/◌, ◌∙◌, List, ◌++◌}
 use Rattle.std.proofs.Common.{append_assoc, ap, arith, drop, length, subst, sym, take}
 use Rattle.std.proofs.lemmas.List.{drop-drop, length-append, length-drop, length-take-le, take-append-drop, take_all}
-use Rattle.poly1305.specs.States.{PolySumHolds}
+use Rattle.poly1305.specs.Code.States.{PolySumHolds}
 use Rattle.poly1305.proofs.poly.PolySumAbsorb.absorb.Goals as goal
 
 pub returns-then-blocks-lt-TWO_SUMS_FROM : goal.returns-then-blocks-lt-TWO_SUMS_FROM

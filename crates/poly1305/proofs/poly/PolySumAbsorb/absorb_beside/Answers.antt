@@ -2,7 +2,7 @@ use Rattle.std.proofs.Common.{◌≡◌, ℕ, ◌*◌, ◌/◌, ◌%◌, ◌∙�
 use Rattle.std.proofs.Math.Nat.{mod-mod}
 use Rattle.std.proofs.lemmas.List.{length-take-le, take-append-drop}
 use Rattle.poly1305.specs.Poly1305.{prime, block_sum, r_of}
-use Rattle.poly1305.specs.States.{PolySumHolds}
+use Rattle.poly1305.specs.Code.States.{PolySumHolds}
 use Rattle.poly1305.proofs.PartialSums.{taken_holds}
 use Rattle.poly1305.proofs.poly.PolySumAbsorb.absorb_beside.Goals as goal
 

@@ -1,0 +1,84 @@
+-- Facts about numbers from which a pass goes on.
+use Rattle.std.proofs.Common.{◌≡◌, ℕ, ◌++◌, ◌∙◌, List, [], take, drop, refl, sym, ap, ap₂, subst, arith}
+use Rattle.std.proofs.lemmas.List.{take-append-drop}
+use Rattle.octets.specs.Bytes.{IsBlock}
+use Rattle.octets.specs.Bits.{g}
+use Rattle.octets.specs.declared.fault.Fault.{Fault}
+use Rattle.octets.specs.declared.fault.Fault.TheVariants.{KeyLength, NonceLength, AadTooLong}
+use Rattle.octets.proofs.Readings.{g_injective}
+use Rattle.gf128.specs.Orders.{Reversed, Serves}
+use Rattle.gf128.specs.Polyval.{IsMulX}
+use Rattle.aead.specs.declared.suite.Suite.{Suite}
+use Rattle.aead.specs.declared.pass_state.PassState.{PassState}
+use Rattle.aead.specs.declared.keyed_pass.KeyedPass.{KeyedPass}
+use Rattle.aead.specs.Suites.{Construction, ByChaCha, ByGcm, ByGcmSiv, construction_of, key_length}
+use Rattle.aead.specs.Sealing.{Setting, authentication_key}
+use Rattle.aead.specs.PassStates.{IsHashKey, HoldsNumbers, HoldsNone, HasHashKey}
+use Rattle.aead.specs.KeyedPasses.{setting_of, BeginRefused, ResumeRefused, cipher_key, HoldsPass}
+
+-- one block alone is the key of a multiplier that serves POLYVAL under a key
+one_reversed : (h k l : List ℕ) → IsBlock k → IsBlock l → Serves Reversed h k → Serves Reversed h l → k ≡ l
+unfolding IsMulX
+one_reversed h k l kb lb sk sl = g_injective 16 k l kb lb (sl.1.1 (g k) sk.1.0)
+
+-- two lists with the same first 16 elements and the same others are one
+pub halves : (k l : List ℕ) → take 16 k ≡ take 16 l → drop 16 k ≡ drop 16 l → k ≡ l
+halves k l t d =
+    sym (take-append-drop 16 k) ∙ ap₂ (λ (x y : List ℕ). x ++ y) t d ∙ take-append-drop 16 l
+
+-- the keys of the hash of a message are one list
+one_hash_key : (by : Construction) (k l : List ℕ) (s : Setting) → IsBlock (take 16 k) → IsBlock (take 16 l)
+    → IsHashKey by k s → IsHashKey by l s → k ≡ l
+one_hash_key ByChaCha k l s kb lb x y = x ∙ sym y
+one_hash_key ByGcm k l s kb lb x y = halves k l (x.0 ∙ sym y.0) (x.1 ∙ sym y.1)
+one_hash_key ByGcmSiv k l s kb lb x y =
+    halves k l (one_reversed (authentication_key s.key s.nonce) (take 16 k) (take 16 l) kb lb x.0 y.0) (x.1 ∙ sym y.1)
+
+-- they do not depend on the associated data
+other_aad : (by : Construction) (k : List ℕ) (suite : Suite) (key nonce aad other : List ℕ)
+    → IsHashKey by k (setting_of suite key nonce aad) → IsHashKey by k (setting_of suite key nonce other)
+other_aad ByChaCha k suite key nonce aad other h = h
+other_aad ByGcm k suite key nonce aad other h = h
+other_aad ByGcmSiv k suite key nonce aad other h = h
+
+-- with the keys of the hash of a pass that has just begun, numbers have those of its messages
+pub has_key : (n fresh : PassState) (suite : Suite) (key nonce bytes : List ℕ)
+    → HoldsNumbers fresh (setting_of suite key nonce []) bytes → n.hash_key ≡ fresh.hash_key
+    → HasHashKey n (setting_of suite key nonce)
+has_key n fresh suite key nonce bytes h e = λ aad.
+    other_aad (construction_of suite) n.hash_key suite key nonce [] aad
+    (subst (λ (k : List ℕ). IsHashKey (construction_of suite) k (setting_of suite key nonce [])) (sym e) h.hash_key_is)
+
+-- with others they hold no bytes
+pub holds_none : (n fresh : PassState) (suite : Suite) (key nonce some : List ℕ) → IsBlock (take 16 n.hash_key)
+    → IsBlock (take 16 fresh.hash_key) → HoldsNumbers fresh (setting_of suite key nonce []) some
+    → (n.hash_key ≡ fresh.hash_key → ⊥) → HoldsNone n (setting_of suite key nonce)
+holds_none n fresh suite key nonce some nb fb h other = λ aad bytes held.
+    other (one_hash_key (construction_of suite) n.hash_key fresh.hash_key (setting_of suite key nonce aad) nb fb
+    held.hash_key_is (other_aad (construction_of suite) fresh.hash_key suite key nonce [] aad h.hash_key_is))
+
+-- the key and the nonce of a message do not depend on them either
+own_key : (by : Construction) (suite : Suite) (key nonce aad other : List ℕ)
+    → cipher_key by (setting_of suite key nonce aad) ≡ cipher_key by (setting_of suite key nonce other)
+own_key ByChaCha suite key nonce aad other = refl
+own_key ByGcm suite key nonce aad other = refl
+own_key ByGcmSiv suite key nonce aad other = refl
+
+-- a pass that has just begun, with other numbers, holds the bytes that they hold
+pub resumed_pass : (p q : KeyedPass) (suite : Suite) (key nonce aad bytes : List ℕ) → q.key ≡ p.key → q.nonce ≡ p.nonce
+    → HoldsPass p (setting_of suite key nonce []) [] → HoldsNumbers q.state (setting_of suite key nonce aad) bytes
+    → HoldsPass q (setting_of suite key nonce aad) bytes
+resumed_pass p q suite key nonce aad bytes same_key same_nonce h numbers = record {
+  lengths = record { key_fits = h.lengths.key_fits; nonce_fits = h.lengths.nonce_fits };
+  key_is = ap (take (key_length suite)) same_key ∙ h.key_is ∙ own_key (construction_of suite) suite key nonce [] aad;
+  nonce_is = same_nonce ∙ h.nonce_is;
+  state = numbers;
+}
+
+-- nothing is begun after no associated data for the reasons for which nothing is resumed
+pub begin_refused : (n : PassState) (suite : Suite) (key nonce : List ℕ) (e : Fault)
+    → BeginRefused (setting_of suite key nonce []) e → ResumeRefused n suite key nonce e
+begin_refused n suite key nonce KeyLength h = h
+begin_refused n suite key nonce NonceLength h = h
+begin_refused n suite key nonce AadTooLong h = omega (arith, h.1)
+begin_refused n suite key nonce _ h = absurd h

@@ -1,0 +1,9 @@
+-- The multiples of a key as plain numbers, for a caller that stores them.
+use Rattle.std.specs.Prelude.{ℕ, List}
+use Rattle.octets.specs.Bits.{g}
+use Rattle.gf128.specs.Code.Words.{AreMultiples, stored_number}
+use Rattle.gf128.specs.declared.multiples.KeptMultiples.{KeptMultiples}
+
+-- the numbers are the multiples of the key
+abbrev pub KeepsMultiples : KeptMultiples → List ℕ → Type 0
+KeepsMultiples m key = AreMultiples (g key) (stored_number m.high) (stored_number m.low)

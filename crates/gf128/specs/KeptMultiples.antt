@@ -1,9 +1,0 @@
--- A key's multiples as plain numbers, for code that keeps them.
-use Rattle.std.specs.Prelude.{ℕ, List}
-use Rattle.octets.specs.Bits.{g}
-use Rattle.gf128.specs.Code.Words.{AreMultiples, kept_number}
-use Rattle.gf128.specs.declared.multiples.KeptMultiples.{KeptMultiples}
-
--- the numbers keep the multiples of the key
-abbrev pub KeepsMultiples : KeptMultiples → List ℕ → Type 0
-KeepsMultiples m key = AreMultiples (g key) (kept_number m.high) (kept_number m.low)
