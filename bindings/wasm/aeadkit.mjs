@@ -286,7 +286,7 @@ const SAVED_PASSES_BYTES = 144;
 // of the layout and, in its lowest byte, the suite.
 function resumed(aead, kind, length, suite, key, nonce, saved) {
     const module = moduleOf(aead);
-    wantBytes(key, nonce, saved);
+    [key, nonce, saved] = wantBytes(key, nonce, saved);
     wantNumber(suite);
     if (saved.length !== length || saved[0] !== suite) {
         throw new NotSaved();

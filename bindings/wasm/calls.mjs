@@ -365,7 +365,9 @@ for (const kind of [
     kept.openInPlace(nonce, changed, kind(itsTag), { aad });
     assert.deepEqual(new Uint8Array(changed.buffer), text);
     const sealer = kept.sealer(nonce, { aad });
-    assert.deepEqual([...sealer.update(kind(text)), ...sealer.finish()], [...sealed]);
+    const head = sealer.update(kind(text.slice(0, 20)));
+    const resumed = Sealer.resume(aead, suite, kind(key), kind(nonce), kind(sealer.save()));
+    assert.deepEqual([...head, ...resumed.update(kind(text.slice(20))), ...resumed.finish()], [...sealed]);
     const opener = kept.opener(nonce, kind(itsTag), { aad });
     opener.check(kind(sealed.slice(0, -16)));
     opener.beginSecond();
@@ -384,7 +386,8 @@ const calling = new Proxy(text.slice(), {
 for (const call of [
     () => kept.seal(nonce, calling), () => kept.seal(nonce, text, { aad: calling }), () => kept.sealInPlace(nonce, calling),
     () => new Key(aead, suite, calling), () => kept.sealer(nonce).update(calling), () => keywrap.wrap(key, calling),
-    () => kept.seal(nonce, Object.create(text)), () => kept.seal(nonce, Object.create(Uint8Array.prototype)),
+    () => Sealer.resume(aead, suite, key, nonce, calling), () => kept.seal(nonce, Object.create(text)),
+    () => kept.seal(nonce, Object.create(Uint8Array.prototype)),
 ]) {
     assert.throws(call, { name: "TypeError", message: "a Uint8Array is required" });
 }

@@ -346,7 +346,8 @@ def _sealed_in_place(text: Buffer, seal_call: Callable[..., int], open_call: Cal
     try:
         status = _in_place(room, seal_call, arguments, tag)
         if not status:
-            # Nothing comes after this in which a signal handler could run: room is let go of with this frame.
+            # From Python 3.11 on no signal handler runs after this: a with statement would have an end in which one could, so the
+            # room is let go of with this frame.
             return tag.raw
     except BaseException:
         # Nobody gets the tag. If there is one, the buffer is sealed, and sealed once more it could be the text again.
