@@ -5,7 +5,10 @@ use Rattle.octets.proofs.Masks.{length-masked, masked-append}
 use Rattle.aead.specs.declared.authenticator.Authenticator.{Authenticator}
 use Rattle.aead.specs.Sealing.{Setting, mask_of}
 use Rattle.aead.specs.Code.States.{HoldsAuthenticator}
-use Rattle.aead.specs.Code.Masks.{Masks, Takes, MasksAndHashes, as_it_comes, as_it_leaves}
+use Rattle.octets.specs.Ends.{hashed_of}
+use Rattle.octets.specs.declared.work.Order.{Order}
+use Rattle.octets.specs.declared.work.Order.TheVariants.{MaskFirst, HashFirst}
+use Rattle.aead.specs.Code.Masks.{Masks, Takes, MasksAndHashes, as_it_comes, as_it_leaves, hashed_by}
 
 -- as it comes
 pub hash_first : {S H : Type 0} (made : S → Setting → List ℕ → ℕ → Type 0)
@@ -36,3 +39,11 @@ mask_first made held m m' a a' was now masks takes = λ s tag fed h k fits.
       subst R both (takes s before k (omega (arith, fits, long, length-masked mask 0 fed))),
       next.1,
     )
+
+-- in either order
+pub in_order : {S H : Type 0} (made : S → Setting → List ℕ → ℕ → Type 0)
+    (held : H → Setting → List ℕ → Type 0) (o : Order) (m m' : S) (a a' : Authenticator H) (was now : List ℕ)
+    → Masks made m m' was now → Takes held a a' (hashed_of o was now)
+    → MasksAndHashes made held (hashed_by o) m m' a a' was now
+in_order made held MaskFirst m m' a a' was now masks takes = mask_first made held m m' a a' was now masks takes
+in_order made held HashFirst m m' a a' was now masks takes = hash_first made held m m' a a' was now masks takes

@@ -3,12 +3,13 @@
 //! lengths (RFC 8439, 2.8; SP 800-38D, 7.1; RFC 8452, 4).
 
 ghost use Rattle.std.specs.Prelude.{◌≡◌, ◌+◌, ◌<◌, ◌≤◌, ◌^◌, ◌++◌, ℕ, List, [], get_or, length};
+ghost use Rattle.octets.specs.Ends.{hashed_of};
 ghost use Rattle.aead.specs.Suites.{text_limit, aad_limit};
 ghost use Rattle.aead.specs.Sealing.{Setting, tag_over};
 ghost use Rattle.aead.specs.Code.States.{HoldsAuthenticator};
 
 use crate::hashes::TagHash;
-use octets::{Stream, Tag};
+use octets::{Order, Stream, Tag};
 
 // The hash of the associated data and of the bytes after it, and both lengths so far.
 #[derive(Drop)]
@@ -64,23 +65,18 @@ impl<H: TagHash> Authenticator<H> {
         self.length += bytes.len() as u64;
     }
 
-    // Hashes bytes while `stream` XORs its next bytes into `piece`.
+    // Hashes the next bytes, as they come or as they leave, and XORs the next bytes of `stream` into them.
     #[inline(always)]
-    pub(crate) fn update_beside<S: Stream>(
-        &mut self,
-        bytes: &[u8],
-        stream: &mut S,
-        piece: &mut [u8],
-    )
-        requires { self.old.length + length bytes.now < 2 ^ 64 }
+    pub(crate) fn update_beside<S: Stream>(&mut self, order: Order, stream: &mut S, piece: &mut [u8])
+        requires { self.old.length + length piece.old < 2 ^ 64 }
         ensures holds { (s : Setting) (m : List ℕ) → HoldsAuthenticator H.held self.old s m
-            → length m + length bytes.now ≤ text_limit s.suite
-            → HoldsAuthenticator H.held self.new s (m ++ bytes.now) }
-        ensures length { self.new.length ≡ self.old.length + length bytes.now }
+            → length m + length piece.old ≤ text_limit s.suite
+            → HoldsAuthenticator H.held self.new s (m ++ hashed_of order piece.old piece.new) }
+        ensures length { self.new.length ≡ self.old.length + length piece.old }
         ensures did { S.did stream.old stream.new piece.old piece.new }
     {
-        self.hash.take_in_beside(bytes, stream, piece);
-        self.length += bytes.len() as u64;
+        self.hash.take_in_beside(order, stream, piece);
+        self.length += piece.len() as u64;
     }
 
     // Returns the tag of what was hashed. The authenticator must not be used afterwards.

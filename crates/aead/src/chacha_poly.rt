@@ -114,10 +114,7 @@ impl ChaChaPoly {
         if body.len() <= SEVEN_BLOCKS {
             return self.open_fitting(nonce, aad, body, tag);
         }
-        let key = &self.key;
-        let first = TwoBlocks::make(key, nonce);
-        let start = first.blocks();
-        open_beside(&BufferedChaCha { key, nonce, start }, aad, body, tag)
+        open_beside(&self.nonced(nonce), aad, body, tag)
     }
 }
 

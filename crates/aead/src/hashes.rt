@@ -3,6 +3,7 @@
 
 ghost use Rattle.std.specs.Prelude.{◌≡◌, ◌<◌, ◌*◌, ◌/◌, ◌^◌, ◌++◌, ℕ, List, length, drop};
 ghost use Rattle.octets.specs.Bytes.{pad16};
+ghost use Rattle.octets.specs.Ends.{hashed_of};
 ghost use Rattle.gf128.specs.Orders.{Reversed, Serves};
 ghost use Rattle.aead.specs.Suites.{ByChaCha, ByGcm, ByGcmSiv, construction_of};
 ghost use Rattle.aead.specs.Sealing.{Setting, Fits, tag_block, tag_over, hash_key, authentication_key, encryption_key};
@@ -12,7 +13,7 @@ ghost use Rattle.aead.specs.Code.States.{HeldByPoly, HeldByGhash, HeldByPolyval}
 use crate::derived_keys::joined;
 use aes::{AesKey, KeptKey};
 use gf128::{Ghash, Multiply, Polyval};
-use octets::{Block, Idle, Nonce, Stream, Tag, be_pair, xor_into, xored};
+use octets::{Block, Nonce, Order, Stream, Tag, be_pair, xor_into, xored};
 use poly1305::Poly;
 
 // The hash of a construction under the keys of a message, and the tag that it ends in.
@@ -24,13 +25,22 @@ pub(crate) trait TagHash: Drop {
     fn take_in(&mut self, bytes: &[u8])
         ensures { (s : Setting) (m : List ℕ) → held self.old s m → held self.new s (m ++ bytes.now) };
 
-    // Takes in bytes while `stream` XORs its next ones into `piece`.
-    fn take_in_beside<S: Stream>(&mut self, bytes: &[u8], stream: &mut S, piece: &mut [u8])
-        ensures held { (s : Setting) (m : List ℕ) → held self.old s m → held self.new s (m ++ bytes.now) }
+    // Takes in the next bytes, as they come or as they leave, and XORs the next bytes of `stream` into them.
+    fn take_in_beside<S: Stream>(&mut self, order: Order, stream: &mut S, piece: &mut [u8])
+        ensures held { (s : Setting) (m : List ℕ) → held self.old s m
+            → held self.new s (m ++ hashed_of order piece.old piece.new) }
         ensures did { S.did stream.old stream.new piece.old piece.new }
     {
-        stream.apply_beside(piece, &mut Idle::new());
-        self.take_in(bytes);
+        match order {
+            Order::MaskFirst => {
+                stream.apply_next(piece);
+                self.take_in(piece);
+            }
+            Order::HashFirst => {
+                self.take_in(piece);
+                stream.apply_next(piece);
+            }
+        }
     }
 
     // Takes in zeros up to whole blocks.
@@ -71,8 +81,8 @@ impl TagHash for Poly {
         self.update(bytes);
     }
 
-    fn take_in_beside<S: Stream>(&mut self, bytes: &[u8], stream: &mut S, piece: &mut [u8]) {
-        self.update_beside(bytes, stream, piece);
+    fn take_in_beside<S: Stream>(&mut self, order: Order, stream: &mut S, piece: &mut [u8]) {
+        self.update_beside(order, stream, piece);
     }
 
     fn pad(&mut self) {

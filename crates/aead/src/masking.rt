@@ -6,7 +6,7 @@ ghost use Rattle.aead.specs.Suites.{text_limit, aad_limit};
 ghost use Rattle.aead.specs.Sealing.{tag_over};
 
 use crate::authenticator::Authenticator;
-use crate::beside::Order;
+use crate::beside::{Order, step};
 use crate::hashes::TagHash;
 use crate::mask::MaskStream;
 use octets::Tag;
@@ -26,7 +26,7 @@ pub(crate) struct Masking<S, H> {
 impl<S: MaskStream, H: TagHash> Masking<S, H> {
     ghost use Rattle.aead.specs.Code.Masks.{hashed_by};
     ghost use Rattle.aead.specs.Code.Maskings.{Task, HoldsMasking, task_mask};
-    ghost use Rattle.aead.specs.declared.beside.Order.{Order};
+    ghost use Rattle.octets.specs.declared.work.Order.{Order};
 
     // Returns the state of a message of which nothing was masked or authenticated.
     #[inline(always)]
@@ -68,7 +68,7 @@ impl<S: MaskStream, H: TagHash> Masking<S, H> {
         ensures length { self.new.authenticator.length ≡ self.old.authenticator.length + length piece.old }
         ensures limit { self.new.limit ≡ self.old.limit }
     {
-        order.step(&mut self.mask, &mut self.authenticator, piece);
+        step(order, &mut self.mask, &mut self.authenticator, piece);
     }
 
     // Returns the tag of all pieces. The state must not be used afterwards.

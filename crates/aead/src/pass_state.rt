@@ -8,7 +8,7 @@ ghost use Rattle.aead.specs.Sealing.{Setting, tag_over};
 ghost use Rattle.aead.specs.Code.States.{HoldsAuthenticator};
 
 use crate::authenticator::Authenticator;
-use crate::beside::Order;
+use crate::beside::{Order, step};
 use crate::hashes::{HashKeys, TagHash, last_block};
 use crate::mask::MaskStream;
 use crate::taken_text::take_text;
@@ -196,7 +196,7 @@ impl PassState {
         ensures length { self.new.length ≡ self.old.length + length piece.old }
     {
         let mut taken = self.taken(keys);
-        order.step(mask, &mut taken, piece);
+        step(order, mask, &mut taken, piece);
         *self = PassState::of(self.hash_key, &taken);
     }
 

@@ -5,7 +5,7 @@ ghost use Rattle.std.specs.Prelude.{◌≡◌, ◌+◌, ◌<◌, ◌≤◌, ◌^
 ghost use Rattle.aead.specs.Code.Masks.{TakesText};
 
 use crate::authenticator::Authenticator;
-use crate::beside::Order;
+use crate::beside::{Order, step};
 use crate::hashes::TagHash;
 use crate::mask::MaskStream;
 
@@ -22,7 +22,7 @@ fn take_part<S: MaskStream, H: TagHash>(mask: &mut S, taken: &mut Authenticator<
     let mut buf = [0; PART];
     let text = &mut buf[..part.len()];
     text.copy_from_slice(part);
-    Order::MaskFirst.step(mask, taken, text);
+    step(Order::MaskFirst, mask, taken, text);
 }
 
 // Takes in the text of a piece of a ciphertext.

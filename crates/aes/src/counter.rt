@@ -13,7 +13,7 @@ use crate::key::{AesKey, KeptKey};
 use crate::key_planes::KeyPlanes;
 use crate::planes::Planes;
 use byteorder::{BigEndian, ByteOrder, LittleEndian};
-use octets::{Block, Stream, WIDE, Work, xor_into};
+use octets::{Block, Stream, WIDE, xor_into};
 use std::marker::PhantomData;
 
 /// The law of counting blocks (SP 800-38D, 6.2; RFC 8452, 4): 0 steps lead from a block of 16 bytes to
@@ -480,13 +480,13 @@ impl<C: Count, K: KeptKey> Ctr<C, K> {
     }
 }
 
-/// The stream does none of the work's steps: its rounds leave no room for one.
+/// Nothing runs beside the stream: its rounds leave no room.
 impl<C: Count, K: KeptKey> Stream for Ctr<C, K> {
     ghost use Rattle.aes.specs.Code.Streams.{Did};
 
     ghost did = { Did C.up K.bytes };
 
-    fn apply_beside<W: Work>(&mut self, bytes: &mut [u8], _work: &mut W) {
+    fn apply_next(&mut self, bytes: &mut [u8]) {
         self.apply(bytes);
     }
 }

@@ -116,7 +116,7 @@ pub(crate) const RESERVE: usize = if WIDE { 0 } else { 512 };
 #[inline(always)]
 fn ten_rounds<const N: usize, W: Work>(x: &mut [Simd<u32, N>; 16], work: &mut W)
     ensures lanes { (j : ℕ) → j < N → lane j x.new ≡ double_rounds 10 (lane j x.old) }
-    ensures work { (k m : List ℕ) → W.comes_to work.old k m → W.comes_to work.new k m }
+    ensures work { (w : W) → W.reaches w work.old → W.reaches w work.new }
 {
     let mut own = *work;
     'rounds: for _ in 0..10u32 {
@@ -163,7 +163,7 @@ pub(crate) fn set_starts<const N: usize>(
 // Computes the words of the blocks that start from the states in the lanes. The counters in these states then rise by the number
 // of lanes.
 #[inline(always)]
-fn next_blocks<const N: usize, W: Work>(
+pub(crate) fn next_blocks<const N: usize, W: Work>(
     start: &mut [Simd<u32, N>; 16],
     work: &mut W,
 ) -> [Simd<u32, N>; 16]
@@ -172,7 +172,7 @@ fn next_blocks<const N: usize, W: Work>(
         → serialized (lane j result) ≡ block key n nonce }
     ensures counts { (j : ℕ) → j < N → (key nonce : List ℕ) (n : ℕ) → lane j start.old ≡ initial_state key n nonce
         → lane j start.new ≡ initial_state key ((n + N) % 2 ^ 32) nonce }
-    ensures work { (k m : List ℕ) → W.comes_to work.old k m → W.comes_to work.new k m }
+    ensures work { (w : W) → W.reaches w work.old → W.reaches w work.new }
 {
     let mut x = *start;
     ten_rounds(&mut x, work);
@@ -213,7 +213,7 @@ pub fn four_blocks<W: Work>(start: &mut [u32x4; 16], work: &mut W) -> [u32x4; 16
         → counter + 3 < 2 ^ 32 → HasBlocks 4 result key counter nonce }
     ensures next { (key nonce : List ℕ) (counter : ℕ) → HasStarts 4 start.old key counter nonce
         → HasStarts 4 start.new key (counter + 4) nonce }
-    ensures work { (k m : List ℕ) → W.comes_to work.old k m → W.comes_to work.new k m }
+    ensures work { (w : W) → W.reaches w work.old → W.reaches w work.new }
 {
     next_blocks(start, work)
 }
@@ -484,7 +484,7 @@ pub(crate) fn xor_fours<W: Work>(
     requires whole { length bytes.old % 256 ≡ 0 }
     requires counters { counter + length bytes.old / 64 ≤ 2 ^ 32 }
     ensures masked { bytes.new ≡ masked (key_stream_byte key.now nonce.now counter) 0 bytes.old }
-    ensures work { (k m : List ℕ) → W.comes_to work.old k m → W.comes_to work.new k m }
+    ensures work { (w : W) → W.reaches w work.old → W.reaches w work.new }
 {
     let mut own = *work;
     let mut start = [u32x4::splat(0); 16];
@@ -510,7 +510,7 @@ pub(crate) fn xor_eights<W: Work>(
     requires whole { length bytes.old % 512 ≡ 0 }
     requires counters { counter + length bytes.old / 64 ≤ 2 ^ 32 }
     ensures masked { bytes.new ≡ masked (key_stream_byte key.now nonce.now counter) 0 bytes.old }
-    ensures work { (k m : List ℕ) → W.comes_to work.old k m → W.comes_to work.new k m }
+    ensures work { (w : W) → W.reaches w work.old → W.reaches w work.new }
 {
     let mut own = *work;
     let mut start = [u32x8::splat(0); 16];
@@ -540,7 +540,7 @@ pub(crate) fn xor_eight<W: Work>(
     requires back { length back.old ≡ 256 }
     ensures front { front.new ≡ masked (key_stream_byte key.now nonce.now counter) 0 front.old }
     ensures back { back.new ≡ masked (key_stream_byte key.now nonce.now (counter + 4)) 0 back.old }
-    ensures work { (k m : List ℕ) → W.comes_to work.old k m → W.comes_to work.new k m }
+    ensures work { (w : W) → W.reaches w work.old → W.reaches w work.new }
 {
     let mut start = [u32x8::splat(0); 16];
     set_starts(&mut start, key, nonce, eight_counters(counter));

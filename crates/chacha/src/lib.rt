@@ -15,9 +15,11 @@
 //! ```
 #![tactic(auto)]
 
+mod beside;
 mod lanes;
 mod row_beside;
 mod rows;
+mod runs;
 mod single;
 mod start;
 mod state;

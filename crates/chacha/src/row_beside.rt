@@ -27,7 +27,7 @@ fn ten_rounds<const N: usize, W: Work>(
 )
     ensures lanes { (j : ℕ) → j < N → lane j x.new ≡ double_rounds 10 (lane j x.old) }
     ensures row { read_by_rows row.new ≡ double_rounds 10 (read_by_rows row.old) }
-    ensures work { (k m : List ℕ) → W.comes_to work.old k m → W.comes_to work.new k m }
+    ensures work { (w : W) → W.reaches w work.old → W.reaches w work.new }
 {
     let mut own = *work;
     'rounds: for _ in 0..10u32 {
@@ -58,7 +58,7 @@ fn set_blocks<const N: usize, W: Work>(
     ensures lanes { (j : ℕ) → j < N
         → serialized (lane j x.new) ≡ block key.now (slice_index counters.entry j) nonce.now }
     ensures row { result ≡ block key.now counter nonce.now }
-    ensures work { (k m : List ℕ) → W.comes_to work.old k m → W.comes_to work.new k m }
+    ensures work { (w : W) → W.reaches w work.old → W.reaches w work.new }
 {
     set_starts(x, key, nonce, counters);
     let start = *x;
@@ -82,7 +82,7 @@ pub(crate) fn xor_five_blocks<W: Work>(
     requires counters { counter + 4 < 2 ^ 32 }
     requires size { length bytes.old ≡ 320 }
     ensures masked { bytes.new ≡ masked (key_stream_byte key.now nonce.now counter) 0 bytes.old }
-    ensures work { (k m : List ℕ) → W.comes_to work.old k m → W.comes_to work.new k m }
+    ensures work { (w : W) → W.reaches w work.old → W.reaches w work.new }
 {
     let mut x = [u32x4::splat(0); 16];
     let first = set_blocks(

@@ -1,14 +1,15 @@
 //! The key stream of ChaCha20 (RFC 8439, 2.4), XORed into a text that comes in pieces, by the form of `lanes`, `row_beside`,
 //! `rows` or `single` that fits.
 
-ghost use Rattle.std.specs.Prelude.{◌≡◌, ℕ, ◌+◌, ◌-◌, ◌*◌, ◌^◌, ◌<◌, ◌≤◌, ◌++◌, List, length, take, drop};
+ghost use Rattle.std.specs.Prelude.{◌≡◌, ℕ, ◌+◌, ◌-◌, ◌*◌, ◌^◌, ◌<◌, ◌≤◌, ◌++◌, List, [], length, take, drop};
 ghost use Rattle.std.specs.Prelude.{min, MatchResult};
 ghost use Rattle.octets.specs.Bytes.{xor_bytes};
 ghost use Rattle.octets.specs.Masked.{masked};
 ghost use Rattle.chacha.specs.Stream.{key_stream_byte};
 
+use crate::beside::{hash_beside, mask_beside};
 use crate::{lanes, row_beside, rows, single};
-use octets::{Fault, Idle, Key32, Nonce, Stream, WIDE, Work, xor_into};
+use octets::{BlockWork, Fault, Idle, Key32, Nonce, Order, Stream, WIDE, Work, xor_into};
 
 // The length in bytes of the key stream from counter 0 on: 2^32 blocks of 64 bytes.
 const END: u64 = 0x40_0000_0000;
@@ -28,7 +29,8 @@ pub struct ChaStream {
 }
 
 impl ChaStream {
-    ghost use Rattle.chacha.specs.States.{Holds, Applied, Refused};
+    ghost use Rattle.chacha.specs.States.{Holds, Applied, Refused, Did};
+    ghost use Rattle.octets.specs.Ends.{whole_blocks};
 
     /// The key stream from the block with counter `first` on (RFC 8439, 2.4), of which no byte is used yet.
     ///
@@ -64,25 +66,45 @@ impl ChaStream {
             → MatchResult result (λ _. Applied self.new key nonce first made bytes.old bytes.new)
             (λ fault. Refused fault self.old self.new first made bytes.old bytes.new) }
     {
-        self.apply_with(bytes, &mut Idle::new())
-    }
-
-    /// XORs the next bytes of the key stream into `bytes`, of any length, as `apply` does, and does steps of
-    /// `work` meanwhile.
-    ///
-    /// `StreamEnd` exactly if `apply` returns it. It leaves the stream, the bytes and the work as they were.
-    pub fn apply_with<W: Work>(&mut self, bytes: &mut [u8], work: &mut W) -> Result<(), Fault>
-        ensures applied { (key nonce : List ℕ) (first made : ℕ) → Holds self.old key nonce first made
-            → MatchResult result (λ _. Applied self.new key nonce first made bytes.old bytes.new)
-            (λ fault. Refused fault self.old self.new first made bytes.old bytes.new) }
-        ensures work { (k m : List ℕ) → W.comes_to work.old k m → W.comes_to work.new k m }
-    {
         if bytes.len() as u64 > END - self.offset {
             return Err(Fault::StreamEnd);
         }
-        xor_stream(&self.key, &self.nonce, self.offset, bytes, work);
+        xor_stream(&self.key, &self.nonce, self.offset, bytes, &mut Idle::new());
         self.offset += bytes.len() as u64;
         Ok(())
+    }
+
+    /// XORs the next bytes of the key stream into `bytes` after the first `begun`, while `hash` takes in the whole blocks of all
+    /// `bytes`, as they leave.
+    ///
+    /// Where a block past counter 2^32 - 1 would be needed, it XORs nothing in, and all is hashed as it is.
+    pub fn apply_after<W: BlockWork>(&mut self, bytes: &mut [u8], begun: usize, hash: &mut W)
+        requires { begun ≤ length bytes.old }
+        ensures did { Did self.old self.new (drop begun bytes.old) (drop begun bytes.new) }
+        ensures begun { take begun bytes.new ≡ take begun bytes.old }
+        ensures hashed { (k m : List ℕ) → W.comes_to hash.old [] k m
+            → W.comes_to hash.new [] k (m ++ whole_blocks bytes.new) }
+    {
+        if (bytes.len() - begun) as u64 > END - self.offset {
+            hash.take_all(&bytes[..bytes.len() / 16 * 16]);
+            return;
+        }
+        mask_beside(&self.key, &self.nonce, self.offset, bytes, begun, hash);
+        self.offset += (bytes.len() - begun) as u64;
+    }
+
+    // XORs the next bytes of the key stream into `bytes`, while `hash` takes in their whole blocks, as they come.
+    fn apply_to_hashed<W: BlockWork>(&mut self, bytes: &mut [u8], hash: &mut W)
+        ensures did { Did self.old self.new bytes.old bytes.new }
+        ensures hashed { (k m : List ℕ) → W.comes_to hash.old [] k m
+            → W.comes_to hash.new [] k (m ++ whole_blocks bytes.old) }
+    {
+        if bytes.len() as u64 > END - self.offset {
+            hash.take_all(&bytes[..bytes.len() / 16 * 16]);
+            return;
+        }
+        hash_beside(&self.key, &self.nonce, self.offset, bytes, hash);
+        self.offset += bytes.len() as u64;
     }
 }
 
@@ -91,16 +113,23 @@ impl Stream for ChaStream {
 
     ghost did = { Did };
 
-    fn apply_beside<W: Work>(&mut self, bytes: &mut [u8], work: &mut W) {
-        let _ = self.apply_with(bytes, work);
+    fn apply_next(&mut self, bytes: &mut [u8]) {
+        let _ = self.apply(bytes);
+    }
+
+    fn apply_beside<W: BlockWork>(&mut self, order: Order, bytes: &mut [u8], hash: &mut W) {
+        match order {
+            Order::MaskFirst => self.apply_after(bytes, 0, hash),
+            Order::HashFirst => self.apply_to_hashed(bytes, hash),
+        }
     }
 }
 
 // XORs the key stream into the bytes, from an offset of the stream that starts at counter 0.
-fn xor_stream<W: Work>(key: &Key32, nonce: &Nonce, offset: u64, bytes: &mut [u8], work: &mut W)
+pub(crate) fn xor_stream<W: Work>(key: &Key32, nonce: &Nonce, offset: u64, bytes: &mut [u8], work: &mut W)
     requires { offset + length bytes.old ≤ 2 ^ 38 }
     ensures masked { bytes.new ≡ masked (key_stream_byte key.now nonce.now 0) offset bytes.old }
-    ensures work { (k m : List ℕ) → W.comes_to work.old k m → W.comes_to work.new k m }
+    ensures work { (w : W) → W.reaches w work.old → W.reaches w work.new }
 {
     let mut done = 0;
     'runs: while done < bytes.len() {
@@ -123,7 +152,7 @@ fn xor_run<W: Work>(
     ensures in_range { result ≤ length bytes.old }
     ensures masked { bytes.new ≡ masked (key_stream_byte key.now nonce.now 0) offset (take result bytes.old)
         ++ drop result bytes.old }
-    ensures work { (k m : List ℕ) → W.comes_to work.old k m → W.comes_to work.new k m }
+    ensures work { (w : W) → W.reaches w work.old → W.reaches w work.new }
 {
     let counter = (offset / 64) as u32;
     let skip = (offset % 64) as usize;

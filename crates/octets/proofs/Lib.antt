@@ -12,5 +12,6 @@ pub mod Horner
 pub mod Reversal
 pub mod Texts
 pub mod Masks
+pub mod Ends
 pub mod Orders
 pub mod Devices

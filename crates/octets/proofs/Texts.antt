@@ -1,7 +1,8 @@
 -- A text that comes in pieces, as it grows.
 use Rattle.std.proofs.Common.{◌≡◌, ℕ, ◌+◌, ◌*◌, ◌/◌, ◌%◌, ◌<◌, List, ◌++◌, length, take, drop, sym, ap, ◌∙◌}
 use Rattle.std.proofs.Common.{◌-◌, arith, replicate, refl}
-use Rattle.std.proofs.lemmas.List.{length-append, length-take-le, take-append-le, drop-append-le}
+use Rattle.std.proofs.Math.Seq.{take-append_seam, drop-append_seam}
+use Rattle.std.proofs.lemmas.List.{length-append, length-take-le, length-drop, take-append-le, drop-append-le}
 use Rattle.std.proofs.lemmas.List.{take-append-drop, take_all, drop_all, append_assoc, length-replicate, append-nil}
 use Rattle.octets.specs.Bytes.{padding, pad16}
 use Rattle.octets.specs.Code.Pieces.{HoldsPieces}
@@ -74,6 +75,22 @@ holds_more absorbed p n k m x blocks rest h none whole short step eb eu ez joine
     rw (← all)
     (holds_kept absorbed mid n k (m ++ blocks) rest first (omega arith) refl
     (rw (size, none) eb) (eu ∙ sym size) ez)
+
+-- bytes of any length, if the buffer is empty and then has those after the last whole block, with zeros after them
+pub holds_rest : {A : Type 0} (absorbed : A → List ℕ → List ℕ → Type 0) (p n : Pieces A) (k m x rest : List ℕ)
+    → HoldsPieces absorbed p k m → p.used ≡ 0 → rest ≡ drop (length x / 16 * 16) x
+    → ((j t : List ℕ) → length t % 16 ≡ 0 → absorbed p.core j t
+    → absorbed n.core j (t ++ take (length x / 16 * 16) x))
+    → n.buffer ≡ rest ++ replicate (16 - length rest) 0 → n.used ≡ length rest → HoldsPieces absorbed n k (m ++ x)
+holds_rest absorbed p n k m x rest h none is step eb eu =
+    let w : ℕ = length x / 16 * 16 in
+    let zeros : List ℕ = replicate (16 - length rest) 0 in
+    let front : length (take w x) ≡ w = length-take-le w x (omega arith) in
+    let size : length rest ≡ length x - w = ap length is ∙ length-drop w x in
+    holds_more absorbed p n k m x (take w x) rest h none (omega (arith, front)) (omega (arith, size)) step
+    (ap (take (length rest)) eb ∙ take-append_seam rest zeros) eu
+    (rw eu (ap (drop (length rest)) eb ∙ drop-append_seam rest zeros))
+    (ap (λ (r : List ℕ). take w x ++ r) is ∙ take-append-drop w x)
 
 -- whole blocks need no zeros
 pub pad16_none : (m : List ℕ) → length m % 16 ≡ 0 → pad16 m ≡ m

@@ -1,4 +1,5 @@
 pub mod Bytes
+pub mod Ends
 pub mod Bits
 pub mod Polynomial
 pub mod Masked

@@ -45,7 +45,7 @@ pub use std_io::{FromRead, ToWrite};
 pub use target::WIDE;
 pub use transfer::{fill, give_all};
 pub use words::{be_bytes, be_pair, le_bytes};
-pub use work::{Idle, Stream, Work};
+pub use work::{Beside, BlockWork, Idle, Order, Stream, Work};
 
 /// Every polynomial has exactly one residue modulo a polynomial of degree at least 1.
 pub fn each_has_one_residue()

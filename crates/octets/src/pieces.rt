@@ -4,10 +4,12 @@
 ghost use Rattle.std.specs.Prelude.{◌≡◌, ℕ, ◌+◌, ◌*◌, ◌/◌, ◌%◌, ◌<◌, ◌++◌, ◌-◌, List, [], length, take, drop, replicate};
 
 use crate::words::{le_bytes, padded};
-use crate::work::{Idle, Stream};
+use crate::work::{Order, Stream};
 
 /// A state that absorbs whole blocks of 16 bytes. It does not depend on how they are split into calls.
 pub trait Absorb {
+    ghost use Rattle.octets.specs.Ends.{whole_blocks, hashed_of};
+
     // The state has absorbed this text of whole blocks under this key.
     ghost absorbed: { Self → List ℕ → List ℕ → Type 0 };
 
@@ -17,16 +19,24 @@ pub trait Absorb {
         ensures { (k m : List ℕ) → length m % 16 ≡ 0 → absorbed self.old k m
             → absorbed self.new k (m ++ blocks.now) };
 
-    /// Absorbs any number of whole blocks, while `stream` XORs its next bytes into `bytes`, of any length.
-    /// The default masks first and absorbs the blocks afterwards.
-    fn absorb_beside<S: Stream>(&mut self, blocks: &[u8], stream: &mut S, bytes: &mut [u8])
-        requires { length blocks.now % 16 ≡ 0 }
+    /// XORs the next bytes of `stream` into `bytes`, of any length, and absorbs their whole blocks, as they come or as they
+    /// leave. By default one is done after the other.
+    fn absorb_beside<S: Stream>(&mut self, order: Order, stream: &mut S, bytes: &mut [u8])
         ensures absorbed { (k m : List ℕ) → length m % 16 ≡ 0 → absorbed self.old k m
-            → absorbed self.new k (m ++ blocks.now) }
+            → absorbed self.new k (m ++ whole_blocks (hashed_of order bytes.old bytes.new)) }
         ensures did { S.did stream.old stream.new bytes.old bytes.new }
     {
-        stream.apply_beside(bytes, &mut Idle::new());
-        self.absorb(blocks);
+        let whole = bytes.len() / 16 * 16;
+        match order {
+            Order::MaskFirst => {
+                stream.apply_next(bytes);
+                self.absorb(&bytes[..whole]);
+            }
+            Order::HashFirst => {
+                self.absorb(&bytes[..whole]);
+                stream.apply_next(bytes);
+            }
+        }
     }
 }
 
@@ -53,6 +63,7 @@ pub struct Pieces<A> {
 
 impl<A: Absorb> Pieces<A> {
     ghost use Rattle.octets.specs.Bytes.{pad16};
+    ghost use Rattle.octets.specs.Ends.{hashed_of};
     ghost use Rattle.octets.specs.Code.Pieces.{HoldsPieces};
 
     /// Makes a state that holds the empty text. `core` has absorbed nothing yet.
@@ -158,18 +169,43 @@ impl<A: Absorb> Pieces<A> {
         self.update_whole(rest);
     }
 
-    /// Adds `piece` to the end of the text, while `stream` XORs its next bytes into `bytes`, both of any
-    /// length. The piece runs beside the stream only if it consists of whole blocks and the buffer is empty.
-    pub fn update_beside<S: Stream>(&mut self, piece: &[u8], stream: &mut S, bytes: &mut [u8])
+    // Adds bytes while the buffer is empty, as they come or as they leave, and XORs the next bytes of `stream` into them.
+    fn update_whole_beside<S: Stream>(&mut self, order: Order, stream: &mut S, bytes: &mut [u8])
+        requires { self.old.used ≡ 0 }
         ensures holds { (k m : List ℕ) → HoldsPieces A.absorbed self.old k m
-            → HoldsPieces A.absorbed self.new k (m ++ piece.now) }
+            → HoldsPieces A.absorbed self.new k (m ++ hashed_of order bytes.old bytes.new) }
         ensures did { S.did stream.old stream.new bytes.old bytes.new }
     {
-        if self.used == 0 && piece.len() % 16 == 0 {
-            self.core.absorb_beside(piece, stream, bytes);
-        } else {
-            stream.apply_beside(bytes, &mut Idle::new());
-            self.update(piece);
+        let whole = bytes.len() / 16 * 16;
+        let came = padded(&bytes[whole..]);
+        self.core.absorb_beside(order, stream, bytes);
+        self.buffer = match order {
+            Order::MaskFirst => padded(&bytes[whole..]),
+            Order::HashFirst => came,
+        };
+        self.used = bytes.len() - whole;
+    }
+
+    /// Adds `bytes` to the end of the text, as they come or as they leave, and XORs the next bytes of `stream` into them. Both
+    /// run beside each other only if the text so far consists of whole blocks.
+    pub fn update_beside<S: Stream>(&mut self, order: Order, stream: &mut S, bytes: &mut [u8])
+        ensures holds { (k m : List ℕ) → HoldsPieces A.absorbed self.old k m
+            → HoldsPieces A.absorbed self.new k (m ++ hashed_of order bytes.old bytes.new) }
+        ensures did { S.did stream.old stream.new bytes.old bytes.new }
+    {
+        if self.used == 0 {
+            self.update_whole_beside(order, stream, bytes);
+            return;
+        }
+        match order {
+            Order::MaskFirst => {
+                stream.apply_next(bytes);
+                self.update(bytes);
+            }
+            Order::HashFirst => {
+                self.update(bytes);
+                stream.apply_next(bytes);
+            }
         }
     }
 

@@ -7,7 +7,7 @@ use crate::Multiplier;
 use crate::partial_sum::PartialSum;
 use crate::residue::{Residue, Sum};
 use crate::side_by_side::{TWO_SUMS_FROM, add_halves, far_factor};
-use octets::{Absorb, Pieces, Stream, Tag, le_bytes};
+use octets::{Absorb, Order, Pieces, Stream, Tag, le_bytes};
 
 // The bits of r that clamping does not clear (RFC 8439, 2.5).
 const R_MASK: u128 = 0x0ffffffc0ffffffc0ffffffc0fffffff;
@@ -35,12 +35,14 @@ impl<M: Multiplier> Absorb for PolySum<M> {
         self.absorb_blocks(&blocks[2 * half..]);
     }
 
-    fn absorb_beside<S: Stream>(&mut self, blocks: &[u8], stream: &mut S, bytes: &mut [u8]) {
-        let mut partial = PartialSum::new(&self.multiplier, self.sum.sum(), blocks);
-        stream.apply_beside(bytes, &mut partial);
-        let PartialSum { sum, left, .. } = partial;
+    fn absorb_beside<S: Stream>(&mut self, order: Order, stream: &mut S, bytes: &mut [u8]) {
+        let mut partial = PartialSum {
+            multiplier: &self.multiplier,
+            sum: self.sum.sum(),
+        };
+        stream.apply_beside(order, bytes, &mut partial);
+        let PartialSum { sum, .. } = partial;
         self.sum = sum.residue();
-        self.absorb(left);
     }
 }
 
@@ -97,6 +99,7 @@ pub struct PolyBy<M> {
 
 impl<M: Multiplier> PolyBy<M> {
     ghost use Rattle.octets.specs.Bytes.{pad16, IsBlock};
+    ghost use Rattle.octets.specs.Ends.{hashed_of};
     ghost use Rattle.poly1305.specs.Poly1305.{poly1305};
     ghost use Rattle.poly1305.specs.Code.States.{HoldsBy, IsSum};
 
@@ -170,14 +173,14 @@ impl<M: Multiplier> PolyBy<M> {
         self.pieces.update(piece);
     }
 
-    /// Adds `piece`, of any length, to the text, while `stream` XORs its next bytes into `bytes`, of any
-    /// length. A piece runs beside the stream only if it consists of whole blocks and the text so far does too.
-    pub fn update_beside<S: Stream>(&mut self, piece: &[u8], stream: &mut S, bytes: &mut [u8])
+    /// Adds `bytes`, of any length, to the text, as they come or as they leave, and XORs the next bytes of `stream` into them. Both
+    /// run beside each other only if the text so far consists of whole blocks.
+    pub fn update_beside<S: Stream>(&mut self, order: Order, stream: &mut S, bytes: &mut [u8])
         ensures holds { (k m : List ℕ) → HoldsBy M.factor self.old k m
-            → HoldsBy M.factor self.new k (m ++ piece.now) }
+            → HoldsBy M.factor self.new k (m ++ hashed_of order bytes.old bytes.new) }
         ensures did { S.did stream.old stream.new bytes.old bytes.new }
     {
-        self.pieces.update_beside(piece, stream, bytes);
+        self.pieces.update_beside(order, stream, bytes);
     }
 
     /// Adds the fewest zero bytes that make the text's length a multiple of 16 bytes (RFC 8439, 2.8.1).

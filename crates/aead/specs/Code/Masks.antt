@@ -11,8 +11,8 @@ use Rattle.aead.specs.Suites.{ByChaCha, ByGcm, ByGcmSiv, construction_of}
 use Rattle.aead.specs.Sealing.{Setting, j0, encryption_key, counter_block, mask, mask_by, mask_of}
 use Rattle.aead.specs.Code.States.{MadeByChaCha, MadeByGcm, MadeByGcmSiv, HoldsAuthenticator}
 use Rattle.aead.specs.declared.authenticator.Authenticator.{Authenticator}
-use Rattle.aead.specs.declared.beside.Order.{Order}
-use Rattle.aead.specs.declared.beside.Order.TheVariants.{MaskFirst, HashFirst}
+use Rattle.octets.specs.declared.work.Order.{Order}
+use Rattle.octets.specs.declared.work.Order.TheVariants.{MaskFirst, HashFirst}
 use Rattle.chacha.specs.Stream.{key_stream_byte}
 use Rattle.aes.specs.Counters.{up_be, up_le, counter_byte}
 

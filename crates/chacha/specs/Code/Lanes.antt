@@ -1,5 +1,6 @@
 -- States side by side: vector k has word k of each, a lane for each state.
 use Rattle.std.specs.Prelude.{◌≡◌, ℕ, ◌+◌, ◌%◌, ◌^◌, ◌<◌, ◌≤◌, List, map, slice_index}
+use Rattle.std.proofs.Common.{arith}
 use Rattle.chacha.specs.Block.{initial_state, serialized, block}
 
 -- the state in lane j
@@ -19,3 +20,10 @@ HasStarts n x key counter nonce =
 abbrev pub AreStarts : ℕ → List (List ℕ) → Type 0
 AreStarts n x = (key : List ℕ) × ((nonce : List ℕ) × ((counter : ℕ)
     × ((counter + n ≤ 2 ^ 32) × HasStarts n x key counter nonce)))
+
+-- the bytes of four blocks, and of eight
+pub four_size : (0 < 256) × (256 % 64 ≡ 0)
+four_size = (omega arith, omega arith)
+
+pub eight_size : (0 < 512) × (512 % 64 ≡ 0)
+eight_size = (omega arith, omega arith)

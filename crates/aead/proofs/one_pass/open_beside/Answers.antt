@@ -2,7 +2,7 @@ use Rattle.std.proofs.Common.{◌∙◌, [], sym, refl, ap, arith, true≢false}
 use Rattle.aead.specs.Suites.{text_limit}
 use Rattle.aead.specs.Sealing.{Setting, Fits}
 use Rattle.aead.specs.Ciphers.{setting}
-use Rattle.aead.specs.declared.beside.Order.TheVariants.{HashFirst}
+use Rattle.octets.specs.declared.work.Order.TheVariants.{HashFirst}
 use Rattle.aead.specs.Code.Maskings.{message_task}
 use Rattle.aead.proofs.Opens.{no_sealing, opened_as, body_tag}
 use Rattle.aead.proofs.one_pass.open_beside.Goals as goal

@@ -2,7 +2,7 @@ use Rattle.std.proofs.Common.{◌∙◌, [], sym, refl, ap, arith}
 use Rattle.aead.specs.Suites.{text_limit}
 use Rattle.aead.specs.Sealing.{Setting, Fits}
 use Rattle.aead.specs.Ciphers.{setting}
-use Rattle.aead.specs.declared.beside.Order.TheVariants.{MaskFirst}
+use Rattle.octets.specs.declared.work.Order.TheVariants.{MaskFirst}
 use Rattle.aead.specs.Code.Maskings.{message_task}
 use Rattle.aead.proofs.Opens.{seals_one_pass}
 use Rattle.aead.proofs.one_pass.seal_whole.Goals as goal

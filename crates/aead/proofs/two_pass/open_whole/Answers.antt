@@ -4,7 +4,7 @@ use Rattle.octets.proofs.Masks.{length-masked, masked_twice}
 use Rattle.aead.specs.Suites.{is_one_pass, text_limit}
 use Rattle.aead.specs.Sealing.{Setting, Fits, mask_of, tag_of}
 use Rattle.aead.specs.Ciphers.{setting}
-use Rattle.aead.specs.declared.beside.Order.TheVariants.{MaskFirst}
+use Rattle.octets.specs.declared.work.Order.TheVariants.{MaskFirst}
 use Rattle.aead.specs.Code.Maskings.{message_task}
 use Rattle.aead.proofs.Opens.{unmasked, no_sealing, opened_as, two_pass_tag}
 use Rattle.aead.proofs.two_pass.open_whole.Goals as goal

@@ -9,7 +9,7 @@ use Rattle.chacha.proofs.lanes.ten_rounds.Goals as goal
 
 pub rounds-init : goal.rounds-init
 unfolding double_rounds
-rounds-init g c = (λ j l. refl, λ k m h. h)
+rounds-init g c = (λ j l. refl, λ w h. h)
 
 pub rounds-preserved : goal.rounds-preserved
 unfolding double_rounds
@@ -24,9 +24,9 @@ rounds-preserved g c = (
       ∙ ap (half_diagonals 16 12) (c.half_columns-in-rounds.ensures j l
       ∙ ap (half_columns 8 7) (c.half_columns.ensures j l ∙ ap (half_columns 16 12) (c.rounds.invariant.0 j l))))
       ∙ double_round_in_halves s long),
-  λ k m h.
-      c.step-in-rounds-3.ensures k m (c.step-in-rounds-2.ensures k m
-      (c.step-in-rounds.ensures k m (c.step.ensures k m (c.rounds.invariant.1 k m h)))),
+  λ w h.
+      c.step-in-rounds-3.ensures w (c.step-in-rounds-2.ensures w
+      (c.step-in-rounds.ensures w (c.step.ensures w (c.rounds.invariant.1 w h)))),
 )
 
 pub returns-clause-lanes : goal.returns-clause-lanes

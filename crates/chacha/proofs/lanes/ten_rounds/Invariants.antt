@@ -5,4 +5,4 @@ use Rattle.chacha.proofs.lanes.ten_rounds.Given as goal
 
 abbrev pub invariant-rounds : goal.invariant-rounds
 invariant-rounds g l = ((j : ℕ) → j < g.row.N → lane j l.x ≡ double_rounds l.counter (lane j l.initial.x))
-    × ((k m : List ℕ) → g.W.Work.comes_to l.initial.own k m → g.W.Work.comes_to l.own k m)
+    × ((w : g.row.W.Denot) → g.W.Work.reaches w l.initial.own → g.W.Work.reaches w l.own)

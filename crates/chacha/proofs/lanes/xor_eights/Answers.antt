@@ -15,7 +15,7 @@ runs-init g c = (
       c.set_starts.ensures j l
       ∙ ap (λ n. initial_state c.args.key.now n c.args.nonce.now) (c.eight_counters.ensures j l ∙ first),
   no_run (key_stream_byte c.args.key.now c.args.nonce.now c.args.counter) 0 c.args.bytes.now,
-  λ k m h. h,
+  λ w h. h,
 )
 
 pub runs-preserved : goal.runs-preserved
@@ -37,7 +37,7 @@ runs-preserved g c =
           ∙ ap (λ m. initial_state key m nonce) (counter_next n a j 8 begins),
       blocks_more key nonce n a 512 was c.runs.bytes c.xor_eight_serialized.new.bytes begins (omega (arith, room)) i.3
           (c.xor_eight_serialized.ensures key nonce (n + a / 64) has),
-      λ x y h. c.next_blocks-x.ensures.work x y (i.4 x y h),
+      λ w h. c.next_blocks-x.ensures.work w (i.4 w h),
     )
 
 pub returns-clause-masked : goal.returns-clause-masked

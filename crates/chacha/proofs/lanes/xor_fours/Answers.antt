@@ -13,7 +13,7 @@ runs-init g c = (
       let first : (n + j) % 2 ^ 32 ≡ (n + 0 / 64 + j) % 2 ^ 32 = omega arith in
       c.set_four_starts.ensures j l ∙ ap (λ m. initial_state c.args.key.now m c.args.nonce.now) first,
   no_run (key_stream_byte c.args.key.now c.args.nonce.now c.args.counter) 0 c.args.bytes.now,
-  λ k m h. h,
+  λ w h. h,
 )
 
 pub runs-preserved : goal.runs-preserved
@@ -36,7 +36,7 @@ runs-preserved g c =
           c.four_blocks-x.ensures.next key nonce (n + a / 64) i.2 j l ∙ ap (λ m. initial_state key m nonce) next,
       blocks_more key nonce n a 256 was c.runs.bytes c.xor_serialized.new.bytes begins (omega (arith, room)) i.3
           (c.xor_serialized.ensures key nonce (n + a / 64) has),
-      λ x y h. c.four_blocks-x.ensures.work x y (i.4 x y h),
+      λ w h. c.four_blocks-x.ensures.work w (i.4 w h),
     )
 
 pub returns-clause-masked : goal.returns-clause-masked

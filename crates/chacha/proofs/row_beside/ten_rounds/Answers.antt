@@ -10,7 +10,7 @@ use Rattle.chacha.proofs.row_beside.ten_rounds.Goals as goal
 
 pub rounds-init : goal.rounds-init
 unfolding double_rounds
-rounds-init g c = (λ j l. refl, refl, λ k m h. h)
+rounds-init g c = (λ j l. refl, refl, λ w h. h)
 
 pub rounds-preserved : goal.rounds-preserved
 unfolding double_rounds
@@ -27,9 +27,9 @@ rounds-preserved g c = (
       ∙ double_round_in_halves s long),
   rw add-one
       (c.diagonal_round.ensures ∙ ap diagonal_round (c.column_round.ensures ∙ ap column_round c.rounds.invariant.1)),
-  λ k m h.
-      c.step-in-rounds-3.ensures k m (c.step-in-rounds-2.ensures k m
-      (c.step-in-rounds.ensures k m (c.step.ensures k m (c.rounds.invariant.2 k m h)))),
+  λ w h.
+      c.step-in-rounds-3.ensures w (c.step-in-rounds-2.ensures w
+      (c.step-in-rounds.ensures w (c.step.ensures w (c.rounds.invariant.2 w h)))),
 )
 
 pub returns-clause-lanes : goal.returns-clause-lanes

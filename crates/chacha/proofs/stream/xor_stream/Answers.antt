@@ -9,7 +9,7 @@ runs-init g c = (
   omega arith,
   no_run (key_stream_byte c.args.key.now c.args.nonce.now 0) c.args.offset
       c.args.bytes.now,
-  λ k m h. h,
+  λ w h. h,
 )
 
 pub runs-preserved : goal.runs-preserved
@@ -27,7 +27,7 @@ runs-preserved g c =
       run_more (key_stream_byte c.args.key.now c.args.nonce.now 0) c.args.offset a k r was mid
           c.xor_run-done.new.bytes
           (omega (arith, same, c.runs.invariant.0)) room c.runs.invariant.1 c.xor_run-done.ensures.masked,
-      λ x y h. c.xor_run-done.ensures.work x y (c.runs.invariant.2 x y h),
+      λ w h. c.xor_run-done.ensures.work w (c.runs.invariant.2 w h),
     )
 
 pub returns-clause-masked : goal.returns-clause-masked

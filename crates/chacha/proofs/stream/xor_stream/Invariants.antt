@@ -7,7 +7,7 @@ abbrev pub invariant-runs : goal.invariant-runs
 invariant-runs g l = (l.done ≤ length l.fn.bytes)
     × (l.bytes ≡ masked (key_stream_byte l.key l.nonce 0) l.offset (take l.done l.fn.bytes)
     ++ drop l.done l.fn.bytes)
-    × ((k m : List ℕ) → g.W.Work.comes_to l.initial.work k m → g.W.Work.comes_to l.work k m)
+    × ((w : g.row.W.Denot) → g.W.Work.reaches w l.initial.work → g.W.Work.reaches w l.work)
 
 abbrev pub decreases-runs : goal.decreases-runs
 decreases-runs g l = length l.initial.bytes - l.done

@@ -2,7 +2,7 @@ use Rattle.std.proofs.Common.{◌∙◌, sym, refl, ap, arith}
 use Rattle.aead.specs.Suites.{is_one_pass, text_limit}
 use Rattle.aead.specs.Sealing.{Setting}
 use Rattle.aead.specs.Ciphers.{setting}
-use Rattle.aead.specs.declared.beside.Order.TheVariants.{MaskFirst}
+use Rattle.octets.specs.declared.work.Order.TheVariants.{MaskFirst}
 use Rattle.aead.specs.Code.Maskings.{message_task}
 use Rattle.aead.proofs.Opens.{unmasked, two_pass_tag}
 use Rattle.aead.proofs.engine.opening.open_two_pass.Goals as goal

@@ -5,7 +5,7 @@ use Rattle.octets.specs.Device.{Failed}
 use Rattle.aead.specs.Suites.{text_limit}
 use Rattle.aead.specs.Sealing.{Setting}
 use Rattle.aead.specs.Ciphers.{setting}
-use Rattle.aead.specs.declared.beside.Order.TheVariants.{MaskFirst}
+use Rattle.octets.specs.declared.work.Order.TheVariants.{MaskFirst}
 use Rattle.aead.specs.Code.Maskings.{message_task}
 use Rattle.aead.proofs.Opens.{one_pass_tag}
 use Rattle.aead.proofs.SealExits.{exit_stopped, exit_long, exit_tag}

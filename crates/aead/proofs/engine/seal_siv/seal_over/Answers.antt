@@ -2,7 +2,7 @@ use Rattle.std.proofs.Common.{refl, ◌≡◌, ◌∙◌, ℕ, List, subst, sym,
 use Rattle.aead.specs.Suites.{is_one_pass, text_limit}
 use Rattle.aead.specs.Sealing.{Setting, tag_of}
 use Rattle.aead.specs.Ciphers.{setting}
-use Rattle.aead.specs.declared.beside.Order.TheVariants.{HashFirst}
+use Rattle.octets.specs.declared.work.Order.TheVariants.{HashFirst}
 use Rattle.aead.specs.Code.Maskings.{repeating_task}
 use Rattle.aead.proofs.Opens.{two_pass_tag}
 use Rattle.aead.proofs.SivExits.{exit_first, exit_long, exit_second}

@@ -1,0 +1,33 @@
+use Rattle.std.proofs.Common.{ℕ, ◌-◌, List, [], ◌++◌, ◌∙◌, ap, take, drop}
+use Rattle.chacha.specs.Stream.{key_stream_byte}
+use Rattle.chacha.proofs.Masking.{whole_blocks}
+use Rattle.chacha.proofs.BesideHash.{none_masked}
+use Rattle.chacha.proofs.beside.mask_runs.Goals as goal
+
+pub returns-then-left-ge512-clause-masked : goal.returns-then-left-ge512-clause-masked
+returns-then-left-ge512-clause-masked g c =
+    let was = c.args.bytes.now in
+    let b : ℕ = c.args.begun in
+    let rest : List ℕ = drop b was in
+    let n : ℕ = c.mask_then_hash.result.0 - b in
+    c.mask_then_hash.ensures.masked
+    ∙ ap (λ l. take b was ++ (l ++ drop n rest))
+    (whole_blocks c.args.key.now c.args.nonce.now c.args.offset (take n rest) c.if-offset-eq0.true)
+
+pub returns-then-left-ge256-clause-masked : goal.returns-then-left-ge256-clause-masked
+returns-then-left-ge256-clause-masked g c =
+    let was = c.args.bytes.now in
+    let b : ℕ = c.args.begun in
+    let rest : List ℕ = drop b was in
+    let n : ℕ = c.mask_then_hash-then-left-ge256.result.0 - b in
+    c.mask_then_hash-then-left-ge256.ensures.masked
+    ∙ ap (λ l. take b was ++ (l ++ drop n rest))
+    (whole_blocks c.args.key.now c.args.nonce.now c.args.offset (take n rest) c.if-offset-eq0-2.true)
+
+pub returns-clause-masked : goal.returns-clause-masked
+returns-clause-masked g c =
+    none_masked (key_stream_byte c.args.key.now c.args.nonce.now 0) c.args.offset c.args.begun c.args.bytes.now
+
+pub returns-clause-hashed : goal.returns-clause-hashed
+returns-clause-hashed g c = λ k m h.
+    g.met.W.BlockWork.grows c.args.hash.now [] (take c.args.begun c.args.bytes.now) k m h

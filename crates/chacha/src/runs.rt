@@ -1,0 +1,189 @@
+//! Whole runs of blocks of ChaCha20 (RFC 8439, 2.4) beside a hash of the same text: a sealing hashes bytes that are masked, an
+//! opening those that are not yet.
+
+ghost use Rattle.std.specs.Prelude.{◌≡◌, ℕ, ◌+◌, ◌-◌, ◌/◌, ◌%◌, ◌^◌, ◌<◌, ◌≤◌, ◌++◌, [], List, length, take, drop};
+ghost use Rattle.octets.specs.Masked.{masked};
+ghost use Rattle.chacha.specs.Code.Lanes.{HasBlocks, HasStarts, four_size, eight_size};
+ghost use Rattle.chacha.specs.Stream.{key_stream_byte};
+
+use crate::lanes::{
+    eight_counters, four_counters, next_blocks, set_starts, xor_eight_serialized, xor_serialized,
+};
+use octets::{Beside, BlockWork, Key32, Nonce, Work};
+use std::simd::{u32x4, u32x8};
+
+// Blocks that are made side by side, one in each lane: the states from which they start, or their words.
+pub(crate) trait Run: Copy {
+    // It has the states of the blocks with the counters from one on.
+    ghost starts: { Self → (key : List ℕ) → (counter : ℕ) → (nonce : List ℕ) → Type 0 };
+
+    // It has the words of the blocks with the counters from one on.
+    ghost blocks: { Self → (key : List ℕ) → (counter : ℕ) → (nonce : List ℕ) → Type 0 };
+
+    // The bytes of its blocks.
+    ghost SIZE: { ℕ };
+
+    const SIZE: usize;
+
+    // The states of the blocks with the counters from one on.
+    fn starts_at(key: &Key32, counter: u32, nonce: &Nonce) -> Self
+        requires { counter + SIZE / 64 ≤ 2 ^ 32 }
+        ensures { starts result key.now counter nonce.now };
+
+    // Returns the words of the blocks that start from these states, and does steps of other work meanwhile. The states are then
+    // those of the next blocks.
+    fn next<W: Work>(&mut self, work: &mut W) -> Self
+        ensures made { (key nonce : List ℕ) (counter : ℕ) → starts self.old key counter nonce
+            → counter + SIZE / 64 ≤ 2 ^ 32 → blocks result key counter nonce }
+        ensures next { (key nonce : List ℕ) (counter : ℕ) → starts self.old key counter nonce
+            → starts self.new key (counter + SIZE / 64) nonce }
+        ensures work { (w : W) → W.reaches w work.old → W.reaches w work.new };
+
+    // XORs the blocks with these words, serialized one after the other, into as many bytes.
+    fn xor_serialized(&self, bytes: &mut [u8])
+        requires { length bytes.old ≡ SIZE }
+        ensures { (key nonce : List ℕ) (counter : ℕ) → blocks self.now key counter nonce
+            → bytes.new ≡ masked (key_stream_byte key nonce counter) 0 bytes.old };
+
+    // A run is whole blocks.
+    ghost whole: { (0 < SIZE) × (SIZE % 64 ≡ 0) };
+}
+
+impl Run for [u32x4; 16] {
+    ghost starts = { HasStarts 4 };
+
+    ghost blocks = { HasBlocks 4 };
+
+    ghost SIZE = { 256 };
+
+    const SIZE: usize = 256;
+
+    ghost whole = { four_size };
+
+    #[inline(always)]
+    fn starts_at(key: &Key32, counter: u32, nonce: &Nonce) -> [u32x4; 16] {
+        let mut start = [u32x4::splat(0); 16];
+        set_starts(&mut start, key, nonce, four_counters(counter));
+        start
+    }
+
+    #[inline(always)]
+    fn next<W: Work>(&mut self, work: &mut W) -> [u32x4; 16] {
+        next_blocks(self, work)
+    }
+
+    #[inline(always)]
+    fn xor_serialized(&self, bytes: &mut [u8]) {
+        xor_serialized(self, bytes);
+    }
+}
+
+impl Run for [u32x8; 16] {
+    ghost starts = { HasStarts 8 };
+
+    ghost blocks = { HasBlocks 8 };
+
+    ghost SIZE = { 512 };
+
+    const SIZE: usize = 512;
+
+    ghost whole = { eight_size };
+
+    #[inline(always)]
+    fn starts_at(key: &Key32, counter: u32, nonce: &Nonce) -> [u32x8; 16] {
+        let mut start = [u32x8::splat(0); 16];
+        set_starts(&mut start, key, nonce, eight_counters(counter));
+        start
+    }
+
+    #[inline(always)]
+    fn next<W: Work>(&mut self, work: &mut W) -> [u32x8; 16] {
+        next_blocks(self, work)
+    }
+
+    #[inline(always)]
+    fn xor_serialized(&self, bytes: &mut [u8]) {
+        xor_eight_serialized(self, bytes);
+    }
+}
+
+// XORs the key stream from a counter on into the bytes after the first `begun`, as many whole runs as there are. `hash` takes
+// in the bytes from the first on, each after it is masked: in a run those that were masked before it. Returns how many bytes
+// are masked now, and how many of them are hashed.
+#[inline(never)]
+pub(crate) fn mask_then_hash<R: Run, W: BlockWork>(
+    key: &Key32,
+    counter: u32,
+    nonce: &Nonce,
+    bytes: &mut [u8],
+    begun: usize,
+    hash: &mut W,
+) -> (usize, usize)
+    requires some { begun + R.SIZE ≤ length bytes.old }
+    requires counters { counter + (length bytes.old - begun) / 64 ≤ 2 ^ 32 }
+    ensures done { (begun ≤ result.0) × (result.0 ≤ length bytes.old) × ((result.0 - begun) % 64 ≡ 0) }
+    ensures taken { (result.1 ≤ result.0) × (result.1 % 16 ≡ 0) }
+    ensures masked { let rest = drop begun bytes.old in let n = result.0 - begun in
+        bytes.new ≡ take begun bytes.old
+        ++ (masked (key_stream_byte key.now nonce.now counter) 0 (take n rest) ++ drop n rest) }
+    ensures hashed { let before = take result.0 bytes.new in
+        (k m : List ℕ) → W.comes_to hash.old [] k m → W.comes_to hash.new (drop result.1 before) k (m ++ before) }
+{
+    let size = R::SIZE;
+    let mut own = *hash;
+    let mut start = R::starts_at(key, counter, nonce);
+    let mut taken = 0;
+    let mut done = begun;
+    'runs: while bytes.len() - done >= size {
+        let (before, after) = bytes.split_at_mut(done);
+        let mut beside = Beside {
+            hash: own,
+            left: &before[taken..],
+        };
+        let x = start.next(&mut beside);
+        own = beside.hash;
+        taken = done - beside.left.len();
+        x.xor_serialized(&mut after[..size]);
+        done += size;
+    }
+    *hash = own;
+    (done, taken)
+}
+
+// XORs the key stream from a counter on into as many whole runs as there are. `hash` takes in each run while its blocks are
+// made, before they are XORed in. Returns how many bytes that is.
+#[inline(never)]
+pub(crate) fn hash_then_mask<R: Run, W: BlockWork>(
+    key: &Key32,
+    counter: u32,
+    nonce: &Nonce,
+    bytes: &mut [u8],
+    hash: &mut W,
+) -> usize
+    requires some { R.SIZE ≤ length bytes.old }
+    requires counters { counter + length bytes.old / 64 ≤ 2 ^ 32 }
+    ensures done { result ≤ length bytes.old }
+    ensures whole { result % 64 ≡ 0 }
+    ensures masked { bytes.new ≡ masked (key_stream_byte key.now nonce.now counter) 0 (take result bytes.old)
+        ++ drop result bytes.old }
+    ensures hashed { (k m : List ℕ) → W.comes_to hash.old [] k m
+        → W.comes_to hash.new [] k (m ++ take result bytes.old) }
+{
+    let size = R::SIZE;
+    let mut own = *hash;
+    let mut start = R::starts_at(key, counter, nonce);
+    let mut done = 0;
+    'runs: while bytes.len() - done >= size {
+        let mut beside = Beside {
+            hash: own,
+            left: &bytes[done..done + size],
+        };
+        let x = start.next(&mut beside);
+        own = beside.hash;
+        own.take_all(beside.left);
+        x.xor_serialized(&mut bytes[done..done + size]);
+        done += size;
+    }
+    *hash = own;
+    done
+}
