@@ -19,6 +19,7 @@ use Rattle.aead.specs.declared.suite.Suite.TheVariants.{ChaCha20Poly1305, Aes128
 use Rattle.aead.specs.declared.suite.Suite.TheVariants.{Aes128GcmSiv, Aes256GcmSiv}
 use Rattle.aead.specs.Suites.{Construction, ByChaCha, ByGcm, ByGcmSiv, construction_of, is_one_pass, key_length}
 use Rattle.aead.specs.Sealing.{Setting, j0, key_part, encryption_key, counter_block, mask_by, mask, mask_of}
+use Rattle.aead.specs.Pieces.{MasksByBytes}
 use Rattle.aead.proofs.DerivedKeys.{short_key, long_key}
 use Rattle.aead.proofs.Passing.{small-append}
 
@@ -190,3 +191,8 @@ aes_key suite key long bytes = record {
   length_is = subst IsKeyLength (sym long) (key_size suite);
   bytes = bytes;
 }
+
+-- so the masks under bytes of that length are bytes
+pub masks_by_bytes : (s : Setting) → length s.key ≡ key_length s.suite → ((i : ℕ) → get_or s.key i 0 < 256)
+    → MasksByBytes s
+masks_by_bytes s long bytes = λ tag. any_mask_small s tag (aes_key s.suite s.key long bytes) long

@@ -45,9 +45,8 @@ pub enum AnyAead {
 impl AnyOnePass {
     // Lends the keys of a message with this nonce.
     pub(crate) fn keys<'a>(&'a self, nonce: &Nonce) -> MessageKeys<'a>
-        ensures keys { (aad : List ℕ) → AreKeysOf result (setting (one_pass_keyed self.now) nonce.now aad) }
-        ensures one_pass { is_one_pass (construction_of (one_pass_keyed self.now).suite) ≡ true }
-        ensures bytes { (aad : List ℕ) → MasksByBytes (setting (one_pass_keyed self.now) nonce.now aad) }
+        ensures { (aad : List ℕ) → let s = setting (one_pass_keyed self.now) nonce.now aad in
+            AreKeysOf result s × MasksByBytes s × (is_one_pass (construction_of s.suite) ≡ true) }
     {
         match self {
             AnyOnePass::ChaCha(cipher) => MessageKeys {

@@ -101,8 +101,7 @@ impl KeyAndNonce {
     )
         requires by { construction_of suite ≡ ByChaCha }
         requires fits { length aad.now ≤ aad_limit suite }
-        ensures keys { HasKeys self.new (setting_of suite key.now nonce.now aad.now) }
-        ensures holds { HoldsNumbers state.new (setting_of suite key.now nonce.now aad.now) [] }
+        ensures { let s = setting_of suite key.now nonce.now aad.now in HasKeys self.new s × HoldsNumbers state.new s [] }
     {
         *self = KeyAndNonce::of(key.bytes(), nonce);
         *state = PassState::begun(&PolyKeys, one_time_key(key, nonce), aad);
@@ -125,8 +124,7 @@ impl KeyAndNonce {
         requires cipher { cipher.now ≡ key.now }
         requires ghash_key { ghash_key.now ≡ hash_key key.now }
         requires fits { length aad.now ≤ aad_limit suite }
-        ensures keys { HasKeys self.new (setting_of suite key.now nonce.now aad.now) }
-        ensures holds { HoldsNumbers state.new (setting_of suite key.now nonce.now aad.now) [] }
+        ensures { let s = setting_of suite key.now nonce.now aad.now in HasKeys self.new s × HoldsNumbers state.new s [] }
     {
         *self = KeyAndNonce::of(key, nonce);
         *state = gcm_pass::begun_anew(cipher, ghash_key, nonce, aad);
@@ -145,8 +143,7 @@ impl KeyAndNonce {
         requires by { construction_of suite ≡ ByGcm }
         requires long { length key.now ≡ key_length suite }
         requires fits { length aad.now ≤ aad_limit suite }
-        ensures keys { HasKeys self.new (setting_of suite key.now nonce.now aad.now) }
-        ensures holds { HoldsNumbers state.new (setting_of suite key.now nonce.now aad.now) [] }
+        ensures { let s = setting_of suite key.now nonce.now aad.now in HasKeys self.new s × HoldsNumbers state.new s [] }
     {
         let cipher = expanded(key);
         self.begin_gcm(
@@ -172,14 +169,11 @@ impl KeyAndNonce {
     )
         requires { length key.now ≡ key_length suite }
         ensures is_key { IsKey key.now }
-        ensures keys { (s : Setting) → s.suite ≡ suite → construction_of suite ≡ ByGcmSiv
-            → length s.key ≡ key_length suite → key.now ≡ encryption_key s.key s.nonce
-            → s.nonce ≡ nonce.now → HasKeys self.new s }
         ensures holds { (s : Setting) → s.suite ≡ suite → construction_of suite ≡ ByGcmSiv
-            → key.now ≡ encryption_key s.key s.nonce
+            → length s.key ≡ key_length suite → key.now ≡ encryption_key s.key s.nonce
             → Serves Reversed (authentication_key s.key s.nonce) hash_key.now
             → s.nonce ≡ nonce.now → s.aad ≡ aad.now → length aad.now ≤ aad_limit suite
-            → HoldsNumbers state.new s [] }
+            → HasKeys self.new s × HoldsNumbers state.new s [] }
     {
         *self = KeyAndNonce::of(key, nonce);
         *state = siv_pass::begun_anew(key, hash_key, nonce, aad);
@@ -199,8 +193,8 @@ impl KeyAndNonce {
         requires long { length cipher.now ≡ key_length suite }
         requires fits { length aad.now ≤ aad_limit suite }
         ensures is_key { IsKey (encryption_key cipher.now nonce.now) }
-        ensures keys { HasKeys self.new (setting_of suite cipher.now nonce.now aad.now) }
-        ensures holds { HoldsNumbers state.new (setting_of suite cipher.now nonce.now aad.now) [] }
+        ensures holds { let s = setting_of suite cipher.now nonce.now aad.now in
+            HasKeys self.new s × HoldsNumbers state.new s [] }
     {
         let parts = KeyParts::new(cipher, nonce);
         let hash_key = hash_key(&parts);
@@ -229,8 +223,7 @@ impl KeyAndNonce {
         requires by { construction_of suite ≡ ByGcmSiv }
         requires long { length key.now ≡ key_length suite }
         requires fits { length aad.now ≤ aad_limit suite }
-        ensures keys { HasKeys self.new (setting_of suite key.now nonce.now aad.now) }
-        ensures holds { HoldsNumbers state.new (setting_of suite key.now nonce.now aad.now) [] }
+        ensures { let s = setting_of suite key.now nonce.now aad.now in HasKeys self.new s × HoldsNumbers state.new s [] }
     {
         self.begin_siv(state, suite, &expanded(key), nonce, aad);
     }

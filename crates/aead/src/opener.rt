@@ -50,8 +50,8 @@ impl<'a> OpenerKeys<'a> {
 // The keys of a message under a cipher with this nonce, and the numbers of no bytes after associated data.
 fn begun<'a>(cipher: &'a AnyAead, nonce: &Nonce, aad: &[u8]) -> (OpenerKeys<'a>, PassState)
     requires { length aad.now ≤ aad_limit (keyed_of cipher.now).suite }
-    ensures keys { (any : List ℕ) → OpensUnder result.0 (setting (keyed_of cipher.now) nonce.now any) }
-    ensures bytes { (any : List ℕ) → MasksByBytes (setting (keyed_of cipher.now) nonce.now any) }
+    ensures keys { (any : List ℕ) → let s = setting (keyed_of cipher.now) nonce.now any in
+        OpensUnder result.0 s × MasksByBytes s }
     ensures holds { HoldsNumbers result.1 (setting (keyed_of cipher.now) nonce.now aad.now) [] }
 {
     match cipher {

@@ -6,7 +6,8 @@ use Rattle.octets.specs.declared.fault.Fault.TheVariants.{TagMismatch, SourceCha
 use Rattle.aead.specs.declared.suite.Suite.{Suite}
 use Rattle.aead.specs.Sealing.{Setting, IsNoSealing, mask_of}
 use Rattle.aead.specs.Refusals.{SealRefused}
-use Rattle.aead.specs.KeyedPieces.{HoldsFirstPass, HoldsSecondPass, Opens, WasOverASealing, zero_opener}
+use Rattle.aead.specs.Pieces.{Opens, WasOverASealing}
+use Rattle.aead.specs.KeyedPieces.{HoldsFirstPass, HoldsSecondPass, zero_opener}
 use Rattle.capi.specs.declared.opener.StoredOpener.{StoredOpener}
 use Rattle.aead.specs.Suites.{suite_number}
 

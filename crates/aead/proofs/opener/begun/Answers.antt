@@ -16,13 +16,9 @@ use Rattle.aead.proofs.opener.begun.Goals as goal
 
 pub returns-in-OnePass-clause-keys : goal.returns-in-OnePass-clause-keys
 returns-in-OnePass-clause-keys c = λ any.
-    subst (λ (k : Keyed). AreKeysOf c.keys.result (setting k c.args.nonce.now any)) (sym (ap keyed_of c.in-OnePass.is))
-    (c.keys.ensures.keys any)
-
-pub returns-in-OnePass-clause-bytes : goal.returns-in-OnePass-clause-bytes
-returns-in-OnePass-clause-bytes c = λ any.
-    subst (λ (k : Keyed). MasksByBytes (setting k c.args.nonce.now any)) (sym (ap keyed_of c.in-OnePass.is))
-    (c.keys.ensures.bytes any)
+    let lent = c.keys.ensures any in
+    subst (λ (k : Keyed). let s = setting k c.args.nonce.now any in AreKeysOf c.keys.result s × MasksByBytes s)
+    (sym (ap keyed_of c.in-OnePass.is)) (lent.0, lent.1)
 
 pub returns-in-OnePass-clause-holds : goal.returns-in-OnePass-clause-holds
 returns-in-OnePass-clause-holds c =
@@ -31,26 +27,23 @@ returns-in-OnePass-clause-holds c =
 
 pub returns-in-Siv-clause-keys : goal.returns-in-Siv-clause-keys
 returns-in-Siv-clause-keys c = λ any.
-    let suite = c.suite-suite.ensures.value ∙ sym (ap (λ k. (keyed_of k).suite) c.in-Siv.is) in
-    let key = c.key.ensures.key ∙ sym (ap (λ k. (keyed_of k).key) c.in-Siv.is) in (
-      suite,
-      subst (λ (s : Setting). HasKeys c.begin_siv.new.self s)
-          (ap₂ (λ (x : Suite) (y : List ℕ). setting_of x y c.args.nonce.now any) suite key)
-          (has_keys_with _ _ any c.begin_siv.ensures.keys),
-    )
-
-pub returns-in-Siv-clause-bytes : goal.returns-in-Siv-clause-bytes
-returns-in-Siv-clause-bytes c = λ any tag.
     let s : Setting = setting (keyed_of c.args.cipher.now) c.args.nonce.now any in
-    let by = ap (λ k. construction_of (keyed_of k).suite) c.in-Siv.is ∙ ap construction_of (sym c.suite-suite.ensures.value)
-    ∙ c.suite-suite.ensures.by_gcm_siv in
-    let key = c.key.ensures.key ∙ sym (ap (λ k. (keyed_of k).key) c.in-Siv.is) in
-    mask_of_small s tag (λ e. absurd (true≢false (ap is_one_pass (sym e ∙ by))))
-    (λ e. subst (λ (x : List ℕ). IsKey (encryption_key x c.args.nonce.now)) key c.begin_siv.ensures.is_key)
+    let suite = c.suite-suite.ensures.value ∙ sym (ap (λ k. (keyed_of k).suite) c.in-Siv.is) in
+    let by = ap construction_of (sym suite) ∙ c.suite-suite.ensures.by_gcm_siv in
+    let key = c.key.ensures.key ∙ sym (ap (λ k. (keyed_of k).key) c.in-Siv.is) in (
+      (
+        suite,
+        subst (λ (s : Setting). HasKeys c.begin_siv.new.self s)
+            (ap₂ (λ (x : Suite) (y : List ℕ). setting_of x y c.args.nonce.now any) suite key)
+            (has_keys_with _ _ any c.begin_siv.ensures.holds.0),
+      ),
+      λ tag. mask_of_small s tag (λ e. absurd (true≢false (ap is_one_pass (sym e ∙ by))))
+          (λ e. subst (λ (x : List ℕ). IsKey (encryption_key x c.args.nonce.now)) key c.begin_siv.ensures.is_key),
+    )
 
 pub returns-in-Siv-clause-holds : goal.returns-in-Siv-clause-holds
 returns-in-Siv-clause-holds c =
     let suite = c.suite-suite.ensures.value ∙ sym (ap (λ k. (keyed_of k).suite) c.in-Siv.is) in
     let key = c.key.ensures.key ∙ sym (ap (λ k. (keyed_of k).key) c.in-Siv.is) in
     subst (λ (s : Setting). HoldsNumbers c.begin_siv.new.state s [])
-    (ap₂ (λ (x : Suite) (y : List ℕ). setting_of x y c.args.nonce.now c.args.aad.now) suite key) c.begin_siv.ensures.holds
+    (ap₂ (λ (x : Suite) (y : List ℕ). setting_of x y c.args.nonce.now c.args.aad.now) suite key) c.begin_siv.ensures.holds.1

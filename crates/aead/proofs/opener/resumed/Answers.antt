@@ -4,7 +4,7 @@ use Rattle.aead.proofs.Resumption.{has_key, holds_none}
 use Rattle.aead.proofs.opener.resumed.Goals as goal
 
 pub returns-then-has_hash_key_of-clause-answer : goal.returns-then-has_hash_key_of-clause-answer
-returns-then-has_hash_key_of-clause-answer c = λ aad. (c.begun.ensures.keys aad, c.begun.ensures.bytes aad)
+returns-then-has_hash_key_of-clause-answer c = λ aad. c.begun.ensures.keys aad
 
 pub returns-then-has_hash_key_of-clause-key : goal.returns-then-has_hash_key_of-clause-key
 returns-then-has_hash_key_of-clause-key c =

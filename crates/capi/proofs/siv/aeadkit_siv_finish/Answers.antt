@@ -6,7 +6,7 @@ use Rattle.capi.proofs.siv.aeadkit_siv_finish.Goals as goal
 pub returns-clause-holds : goal.returns-clause-holds
 returns-clause-holds c = λ s first text h.
     let same : c.in-Some.suite ≡ s.suite =
-    same_Some _ _ ((c.in-Some.ensures s.suite).1 (h.siv.reading.by_gcm_siv, h.mark_is)) in
+    same_Some _ _ ((c.in-Some.ensures s.suite).1 (h.siv.by_gcm_siv, h.mark_is)) in
     (c.finish-outcome.result, (c.outcome_number.ensures, c.finish-outcome.ensures.answer s first text (sym same) h.siv))
 
 pub returns-clause-not_begun : goal.returns-clause-not_begun

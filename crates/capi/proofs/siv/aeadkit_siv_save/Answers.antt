@@ -17,4 +17,4 @@ returns-in_default-clause-first c = λ s text h.
 
 pub returns-in_default-clause-second : goal.returns-in_default-clause-second
 returns-in_default-clause-second c = λ s first text h.
-    absurd (none-some s.suite (c.in_default.ensures.second s.suite h.siv.reading.by_gcm_siv h.mark_is))
+    absurd (none-some s.suite (c.in_default.ensures.second s.suite h.siv.by_gcm_siv h.mark_is))

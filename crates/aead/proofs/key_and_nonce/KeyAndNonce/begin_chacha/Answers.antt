@@ -6,21 +6,18 @@ use Rattle.aead.specs.PassStates.{IsHashKey}
 use Rattle.aead.proofs.KeyedPasses.{chacha_key_length, has_keys}
 use Rattle.aead.proofs.key_and_nonce.KeyAndNonce.begin_chacha.Goals as goal
 
-pub returns-clause-keys : goal.returns-clause-keys
-returns-clause-keys c =
+pub returns : goal.returns
+returns c =
     let suite = c.args.suite in
     let key = c.args.key.now in
+    let by = sym c.requires.by in
     let s : Setting = setting_of suite key c.args.nonce.now c.args.aad.now in
     let long : length key ≡ key_length suite =
     c.bytes.ensures.are_bytes.length_is ∙ sym (chacha_key_length suite c.requires.by) in
-    has_keys c.of.result s c.bytes.result.now
-    (c.bytes.ensures.value ∙ ap (λ (x : Construction). cipher_key x s) (sym c.requires.by))
-    (ap length c.bytes.ensures.value ∙ long) long c.of.ensures.nonce_length c.of.ensures.key c.of.ensures.nonce
-
-pub returns-clause-holds : goal.returns-clause-holds
-returns-clause-holds c =
-    let suite = c.args.suite in
-    let s : Setting = setting_of suite c.args.key.now c.args.nonce.now c.args.aad.now in
     let keyed : IsHashKey (construction_of suite) c.one_time_key.result s =
-    subst (λ (x : Construction). IsHashKey x c.one_time_key.result s) (sym c.requires.by) c.one_time_key.ensures in
-    c.begun.ensures s c.requires.by keyed refl c.requires.fits
+    subst (λ (x : Construction). IsHashKey x c.one_time_key.result s) by c.one_time_key.ensures in (
+      has_keys c.of.result s c.bytes.result.now
+          (c.bytes.ensures.value ∙ ap (λ (x : Construction). cipher_key x s) by) (ap length c.bytes.ensures.value ∙ long)
+          long c.of.ensures.nonce_length c.of.ensures.key c.of.ensures.nonce,
+      c.begun.ensures s c.requires.by keyed refl c.requires.fits,
+    )

@@ -8,14 +8,11 @@ use Rattle.aead.proofs.key_and_nonce.KeyAndNonce.begin_derived.Goals as goal
 pub returns-clause-is_key : goal.returns-clause-is_key
 returns-clause-is_key c = aes_key c.args.suite c.args.key.now c.requires (λ i. (c.type_inv.key i).fits)
 
-pub returns-clause-keys : goal.returns-clause-keys
-returns-clause-keys c = λ s same by key_fits key nonce.
-    let is = ap construction_of same ∙ by in
-    has_keys c.of.result s c.args.key.now (key ∙ ap (λ (x : Construction). cipher_key x s) (sym is))
-    (c.requires ∙ ap key_length (sym same)) (key_fits ∙ ap key_length (sym same))
-    (ap length nonce ∙ c.of.ensures.nonce_length) c.of.ensures.key (c.of.ensures.nonce ∙ sym nonce)
-
 pub returns-clause-holds : goal.returns-clause-holds
-returns-clause-holds c = λ s same by key serves nonce aad fits.
-    c.begun_anew.ensures s (ap construction_of same ∙ by) key serves (sym nonce) aad
-    (omega (arith, fits, ap aad_limit same))
+returns-clause-holds c = λ s same by key_fits key serves nonce aad fits.
+    let is = ap construction_of same ∙ by in (
+      has_keys c.of.result s c.args.key.now (key ∙ ap (λ (x : Construction). cipher_key x s) (sym is))
+          (c.requires ∙ ap key_length (sym same)) (key_fits ∙ ap key_length (sym same))
+          (ap length nonce ∙ c.of.ensures.nonce_length) c.of.ensures.key (c.of.ensures.nonce ∙ sym nonce),
+      c.begun_anew.ensures s is key serves (sym nonce) aad (omega (arith, fits, ap aad_limit same)),
+    )

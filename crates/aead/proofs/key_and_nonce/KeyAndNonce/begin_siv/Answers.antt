@@ -11,12 +11,6 @@ returns-in-Aes128GcmSiv-clause-is_key c =
     (c.short_encryption_key-key.ensures ∙ ap₂ encryption_key c.new-parts.ensures.key c.new-parts.ensures.nonce)
     c.begin_derived.ensures.is_key
 
-pub returns-in-Aes128GcmSiv-clause-keys : goal.returns-in-Aes128GcmSiv-clause-keys
-returns-in-Aes128GcmSiv-clause-keys c =
-    let s : Setting = setting_of c.args.suite c.args.cipher.now c.args.nonce.now c.args.aad.now in
-    c.begin_derived.ensures.keys s refl c.requires.by c.requires.long
-    (c.short_encryption_key-key.ensures ∙ ap₂ encryption_key c.new-parts.ensures.key c.new-parts.ensures.nonce) refl
-
 pub returns-in-Aes128GcmSiv-clause-holds : goal.returns-in-Aes128GcmSiv-clause-holds
 returns-in-Aes128GcmSiv-clause-holds c =
     let s : Setting = setting_of c.args.suite c.args.cipher.now c.args.nonce.now c.args.aad.now in
@@ -24,7 +18,8 @@ returns-in-Aes128GcmSiv-clause-holds c =
     let nonce = c.new-parts.ensures.nonce in
     let serves = serves_under _ _ s.key s.nonce c.hash_key-hash_key.result key nonce
     (c.hash_key-hash_key.ensures.of_block, c.hash_key-hash_key.ensures.value) in
-    c.begin_derived.ensures.holds s refl c.requires.by (c.short_encryption_key-key.ensures ∙ ap₂ encryption_key key nonce)
+    c.begin_derived.ensures.holds s refl c.requires.by c.requires.long
+    (c.short_encryption_key-key.ensures ∙ ap₂ encryption_key key nonce)
     serves refl refl c.requires.fits
 
 pub returns-in_default-clause-is_key : goal.returns-in_default-clause-is_key
@@ -33,12 +28,6 @@ returns-in_default-clause-is_key c =
     (c.long_encryption_key-key.ensures ∙ ap₂ encryption_key c.new-parts.ensures.key c.new-parts.ensures.nonce)
     c.begin_derived-in_default.ensures.is_key
 
-pub returns-in_default-clause-keys : goal.returns-in_default-clause-keys
-returns-in_default-clause-keys c =
-    let s : Setting = setting_of c.args.suite c.args.cipher.now c.args.nonce.now c.args.aad.now in
-    c.begin_derived-in_default.ensures.keys s refl c.requires.by c.requires.long
-    (c.long_encryption_key-key.ensures ∙ ap₂ encryption_key c.new-parts.ensures.key c.new-parts.ensures.nonce) refl
-
 pub returns-in_default-clause-holds : goal.returns-in_default-clause-holds
 returns-in_default-clause-holds c =
     let s : Setting = setting_of c.args.suite c.args.cipher.now c.args.nonce.now c.args.aad.now in
@@ -46,5 +35,5 @@ returns-in_default-clause-holds c =
     let nonce = c.new-parts.ensures.nonce in
     let serves = serves_under _ _ s.key s.nonce c.hash_key-hash_key.result key nonce
     (c.hash_key-hash_key.ensures.of_block, c.hash_key-hash_key.ensures.value) in
-    c.begin_derived-in_default.ensures.holds s refl c.requires.by
+    c.begin_derived-in_default.ensures.holds s refl c.requires.by c.requires.long
     (c.long_encryption_key-key.ensures ∙ ap₂ encryption_key key nonce) serves refl refl c.requires.fits

@@ -2,7 +2,7 @@ use Rattle.std.proofs.Common.{[], sym, subst, arith}
 use Rattle.aead.specs.Sealing.{Setting}
 use Rattle.aead.specs.KeyedPasses.{setting_of}
 use Rattle.aead.specs.Pieces.{HasTakenIn}
-use Rattle.aead.proofs.ByteMasks.{any_mask_small, aes_key}
+use Rattle.aead.proofs.ByteMasks.{masks_by_bytes}
 use Rattle.aead.proofs.KeyedPieces.{taken_none}
 use Rattle.aead.proofs.keyed_opener.KeyedOpener.begin.Goals as goal
 
@@ -11,10 +11,9 @@ returns-in-Ok-clause-answer c =
     let s : Setting = setting_of c.args.suite c.args.key.now c.args.nonce.now c.args.aad.now in
     let tag = c.args.tag.now in
     let begun = c.in-Ok.ensures.answer in
-    let long = begun.0.lengths.key_fits in
     record {
       keys = begun.0;
-      bytes = λ any. any_mask_small s any (aes_key s.suite s.key long (λ i. (c.type_inv.key i).fits)) long;
+      bytes = masks_by_bytes s begun.0.lengths.key_fits (λ i. (c.type_inv.key i).fits);
       state = record {
         pass = subst (λ n. HasTakenIn n s tag []) (sym c.first-self.ensures.pass) (taken_none _ s tag begun.1);
         start = c.first-self.ensures.start s begun.1;

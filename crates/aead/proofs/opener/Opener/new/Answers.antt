@@ -12,8 +12,8 @@ returns c =
     let tag = c.args.tag.now in
     let begun = c.begun.ensures in
     record {
-      keys = begun.keys c.args.aad.now;
-      bytes = begun.bytes c.args.aad.now;
+      keys = (begun.keys c.args.aad.now).0;
+      bytes = (begun.keys c.args.aad.now).1;
       state = record {
         pass = subst (λ p. HasTakenIn p s tag []) (sym c.first-state.ensures.pass) (taken_none _ s tag begun.holds);
         start = c.first-state.ensures.start s begun.holds;

@@ -7,7 +7,7 @@ pub returns : goal.returns
 returns c =
     let s = setting (one_pass_keyed c.args.cipher.now) c.args.nonce.now c.args.aad.now in
     record {
-      keys = c.keys.ensures.keys c.args.aad.now;
-      one_pass = c.keys.ensures.one_pass;
+      keys = (c.keys.ensures c.args.aad.now).0;
+      one_pass = (c.keys.ensures c.args.aad.now).2;
       state = empty_text _ s c.begun.ensures;
     }

@@ -1,4 +1,4 @@
-use Rattle.std.proofs.Common.{◌≡◌, ◌∙◌, refl, sym, arith, true≢false}
+use Rattle.std.proofs.Common.{◌∙◌, refl, sym, arith, true≢false}
 use Rattle.aead.proofs.two_pass_state.TwoPassState.end_reading.Goals.{else-self-via-then-self+else-same, else-self-via-else-self}
 use Rattle.aead.proofs.two_pass_state.TwoPassState.end_reading.Goals as goal
 
