@@ -99,7 +99,7 @@ impl ChaStream {
         ensures hashed { (k m : List ℕ) → W.comes_to hash.old [] k m
             → W.comes_to hash.new [] k (m ++ whole_blocks bytes.old) }
     {
-        if bytes.len() as u64 > END - self.offset {
+        if self.offset + bytes.len() as u64 > END {
             hash.take_all(&bytes[..bytes.len() / 16 * 16]);
             return;
         }

@@ -1,4 +1,4 @@
-use Rattle.std.proofs.Common.{◌≡◌, ℕ, ◌-◌, ◌*◌, ◌/◌, ◌%◌, ◌≤◌, List, [], ◌++◌, ◌∙◌, ap, sym, arith, length, take, drop}
+use Rattle.std.proofs.Common.{◌≡◌, ℕ, ◌-◌, ◌*◌, ◌/◌, ◌%◌, ◌≤◌, List, ◌++◌, ◌∙◌, ap, sym, arith, length, take, drop}
 use Rattle.std.proofs.lemmas.List.{append_assoc, length-append, length-drop, length-take-le, take_all}
 use Rattle.octets.proofs.Ends.{all_left}
 use Rattle.octets.specs.Ends.{IsEnd, whole_blocks}

@@ -1,4 +1,4 @@
-use Rattle.std.proofs.Common.{◌≡◌, ℕ, ◌<◌, List}
+use Rattle.std.proofs.Common.{◌≡◌, ℕ, ◌<◌}
 use Rattle.chacha.specs.Block.{double_rounds}
 use Rattle.chacha.specs.Code.Lanes.{lane}
 use Rattle.chacha.proofs.lanes.ten_rounds.Given as goal

@@ -1,4 +1,4 @@
-use Rattle.std.proofs.Common.{◌+◌, arith, refl}
+use Rattle.std.proofs.Common.{arith, refl}
 use Rattle.chacha.proofs.Applied.{applied}
 use Rattle.chacha.proofs.stream.ChaStream.apply.Goals as goal
 

@@ -1,4 +1,4 @@
-use Rattle.std.proofs.Common.{ℕ, ◌-◌, List, [], ◌∙◌, ap, arith, length, refl, take, drop}
+use Rattle.std.proofs.Common.{ℕ, List, [], ◌∙◌, ap, arith, refl, take, drop}
 use Rattle.std.proofs.lemmas.List.{length-drop, length-take-le, drop_at}
 use Rattle.chacha.proofs.Applied.{applied}
 use Rattle.chacha.proofs.stream.ChaStream.apply_after.Goals as goal

@@ -2,8 +2,8 @@ use Rattle.std.proofs.Common.{[], arith, refl}
 use Rattle.chacha.proofs.Applied.{applied}
 use Rattle.chacha.proofs.stream.ChaStream.apply_to_hashed.Goals as goal
 
-pub returns-then-bytes-self-clause-hashed : goal.returns-then-bytes-self-clause-hashed
-returns-then-bytes-self-clause-hashed g c = λ k m h.
+pub returns-then-self-bytes-gt-END-clause-hashed : goal.returns-then-self-bytes-gt-END-clause-hashed
+returns-then-self-bytes-gt-END-clause-hashed g c = λ k m h.
     c.take_all.ensures k _ (g.met.W.BlockWork.grows c.args.hash.now [] _ k m h)
 
 pub returns-clause-did : goal.returns-clause-did
