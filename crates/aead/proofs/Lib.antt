@@ -29,4 +29,3 @@ mod PassStates
 mod Resumption
 mod KeyedPasses
 mod KeyedPieces
-mod MessageKeys

@@ -11,7 +11,7 @@ ghost use Rattle.aead.specs.Code.PassSteps.{MasksPiece, TakesPiece};
 use crate::beside::Order;
 use crate::gcm::{hash_keys, mask_at};
 use crate::hashes::GhashKeys;
-use crate::keys::{AesKeys, ExpandedKey};
+use crate::keys::{AesKeys, ExpandedKey, KeyBytes};
 use crate::multiples::{Multiples, worth};
 use crate::pass_state::PassState;
 use aes::AesKey;
@@ -60,31 +60,71 @@ pub(crate) fn begun_anew(key: &AesKey, ghash_key: &Block, nonce: &Nonce, aad: &[
 }
 
 // Masks and authenticates a piece by a multiplier of the type `M`, which is made here: it stands on the stack of this call
-// alone, as does the schedule of a key that comes as bytes.
+// alone.
 #[inline(never)]
 fn mask_by<M: Keyed128>(
     state: &mut PassState,
-    keys: AesKeys,
+    key: &AesKey,
     nonce: &Nonce,
     order: Order,
     piece: &mut [u8],
 )
     requires { state.old.length + length piece.old ≤ 2 ^ 36 }
-    ensures { (s : Setting) (tag fed : List ℕ) → construction_of s.suite ≡ ByGcm → AreGcmKeys keys.entry s
+    ensures { (s : Setting) (tag fed : List ℕ) → construction_of s.suite ≡ ByGcm → key.now ≡ s.key
         → nonce.now ≡ s.nonce
         → MasksPiece (hashed_by order) state.old state.new piece.old piece.new s tag fed }
 {
     let mut multiplier = M::none();
     multiplier.set(&state.multiplier_key());
-    let hash_keys = GhashKeys {
+    let keys = GhashKeys {
         multiplier: &multiplier,
     };
-    let schedule = keys.schedule();
-    let mut mask = mask_at(schedule.key(), nonce, state.length);
-    state.step(&hash_keys, &mut mask, order, piece);
+    let mut mask = mask_at(key, nonce, state.length);
+    state.step(&keys, &mut mask, order, piece);
+}
+
+// Masks and authenticates a piece by the bytes of a key, whose schedule stands on the stack of this call alone.
+#[inline(never)]
+fn mask_anew(state: &mut PassState, bytes: KeyBytes, nonce: &Nonce, order: Order, piece: &mut [u8])
+    requires { state.old.length + length piece.old ≤ 2 ^ 36 }
+    ensures { (s : Setting) (tag fed : List ℕ) → construction_of s.suite ≡ ByGcm
+        → AreGcmKeys (AesKeys.Bytes bytes.entry) s → nonce.now ≡ s.nonce
+        → MasksPiece (hashed_by order) state.old state.new piece.old piece.new s tag fed }
+{
+    let key = bytes.schedule();
+    match worth(piece.len() as u64) {
+        Multiples::Few => mask_by::<TableMul>(state, &key, nonce, order, piece),
+        Multiples::OfFourPowers => mask_by::<WideMul>(state, &key, nonce, order, piece),
+    }
+}
+
+// Masks and authenticates a piece by the schedule of a key, with the few multiples if it is short.
+fn mask_expanded(
+    state: &mut PassState,
+    keys: ExpandedKey,
+    nonce: &Nonce,
+    order: Order,
+    piece: &mut [u8],
+)
+    requires { state.old.length + length piece.old ≤ 2 ^ 36 }
+    ensures { (s : Setting) (tag fed : List ℕ) → construction_of s.suite ≡ ByGcm
+        → AreGcmKeys (AesKeys.Expanded keys.entry) s → nonce.now ≡ s.nonce
+        → MasksPiece (hashed_by order) state.old state.new piece.old piece.new s tag fed }
+{
+    match worth(piece.len() as u64) {
+        Multiples::Few => {
+            let hash_keys = GhashKeys {
+                multiplier: keys.few,
+            };
+            let mut mask = mask_at(keys.key, nonce, state.length);
+            state.step(&hash_keys, &mut mask, order, piece);
+        }
+        Multiples::OfFourPowers => mask_by::<WideMul>(state, keys.key, nonce, order, piece),
+    }
 }
 
 // Masks and authenticates a piece.
+#[inline(always)]
 pub(crate) fn mask(
     state: &mut PassState,
     keys: AesKeys,
@@ -97,18 +137,9 @@ pub(crate) fn mask(
         → nonce.now ≡ s.nonce
         → MasksPiece (hashed_by order) state.old state.new piece.old piece.new s tag fed }
 {
-    match worth(piece.len() as u64) {
-        Multiples::Few => match keys {
-            AesKeys::Expanded(key) => {
-                let hash_keys = GhashKeys {
-                    multiplier: key.few,
-                };
-                let mut mask = mask_at(key.key, nonce, state.length);
-                state.step(&hash_keys, &mut mask, order, piece);
-            }
-            AesKeys::Bytes(_) => mask_by::<TableMul>(state, keys, nonce, order, piece),
-        },
-        Multiples::OfFourPowers => mask_by::<WideMul>(state, keys, nonce, order, piece),
+    match keys {
+        AesKeys::Expanded(keys) => mask_expanded(state, keys, nonce, order, piece),
+        AesKeys::Bytes(bytes) => mask_anew(state, bytes, nonce, order, piece),
     }
 }
 
@@ -128,6 +159,7 @@ fn take_by<M: Keyed128>(state: &mut PassState, piece: &[u8])
 }
 
 // Authenticates a piece. No schedule is needed.
+#[inline(always)]
 pub(crate) fn take(state: &mut PassState, keys: AesKeys, piece: &[u8])
     requires { state.old.length + length piece.now < 2 ^ 64 }
     ensures { (s : Setting) (bytes : List ℕ) → construction_of s.suite ≡ ByGcm → AreGcmKeys keys.entry s
@@ -160,6 +192,7 @@ fn tag_anew(state: &PassState) -> Tag
 }
 
 // The tag of what was authenticated.
+#[inline(always)]
 pub(crate) fn tag(state: &PassState, keys: AesKeys) -> Tag
     ensures { (s : Setting) (bytes : List ℕ) → construction_of s.suite ≡ ByGcm → AreGcmKeys keys.entry s
         → HoldsNumbers state.now s bytes → result ≡ tag_over s.suite s.key s.nonce s.aad bytes }

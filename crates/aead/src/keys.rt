@@ -33,51 +33,20 @@ pub(crate) struct KeyBytes<'a> {
     pub(crate) key: &'a [u8; 32],
 }
 
+impl<'a> KeyBytes<'a> {
+    // The schedule of the key.
+    pub(crate) fn schedule(&self) -> AesKey
+        ensures { result ≡ take (key_length self.now.suite) self.now.key.now }
+    {
+        expanded(&self.key[..self.suite.key_length()])
+    }
+}
+
 // A key of AES for a step: of bytes alone the step makes the schedule and the multiples that it needs.
 #[derive(Drop, Clone, Copy)]
 pub(crate) enum AesKeys<'a> {
     Expanded(ExpandedKey<'a>),
     Bytes(KeyBytes<'a>),
-}
-
-// The schedule of a key of AES, lent or made for a step.
-#[derive(Drop)]
-pub(crate) enum Schedule<'a> {
-    Lent(&'a AesKey),
-    Own(AesKey),
-}
-
-impl<'a> AesKeys<'a> {
-    ghost use Rattle.aead.specs.Code.MessageKeys.{key_bytes, scheduled};
-
-    // The schedule of the key.
-    #[inline(always)]
-    pub(crate) fn schedule(&self) -> Schedule<'a>
-        ensures { scheduled result ≡ key_bytes self.now }
-    {
-        match self {
-            AesKeys::Expanded(key) => Schedule::Lent(key.key),
-            AesKeys::Bytes(bytes) => {
-                let key = bytes.key;
-                Schedule::Own(expanded(&key[..bytes.suite.key_length()]))
-            }
-        }
-    }
-}
-
-impl<'a> Schedule<'a> {
-    ghost use Rattle.aead.specs.Code.MessageKeys.{scheduled};
-
-    // The key that has this schedule.
-    #[inline(always)]
-    pub(crate) fn key(&self) -> &AesKey
-        ensures { result.now ≡ scheduled self.now }
-    {
-        match self {
-            Schedule::Lent(key) => key,
-            Schedule::Own(key) => key,
-        }
-    }
 }
 
 // The key that a message is encrypted with. Under AES-GCM-SIV it is the message's own.
@@ -111,6 +80,7 @@ impl<'a> MessageKeys<'a> {
     ghost use Rattle.aead.specs.Code.MessageKeys.{construction_by, AreKeysOf};
 
     // The most bytes of a text.
+    #[inline(always)]
     pub(crate) fn text_limit(&self) -> u64
         ensures { result ≡ text_limit_by (construction_by self.now.cipher) }
     {
@@ -122,6 +92,7 @@ impl<'a> MessageKeys<'a> {
     }
 
     // Masks a piece of the message with this tag and authenticates it. Only under AES-GCM-SIV does the mask depend on the tag.
+    #[inline(always)]
     pub(crate) fn mask(&self, state: &mut PassState, order: Order, tag: &[u8; 16], piece: &mut [u8])
         requires { state.old.length + length piece.old ≤ text_limit_by (construction_by self.now.cipher) }
         ensures { (s : Setting) (fed : List ℕ) → AreKeysOf self.now s
@@ -136,6 +107,7 @@ impl<'a> MessageKeys<'a> {
     }
 
     // Authenticates a piece.
+    #[inline(always)]
     pub(crate) fn take(&self, state: &mut PassState, piece: &[u8])
         requires { state.old.length + length piece.now ≤ text_limit_by (construction_by self.now.cipher) }
         ensures { (s : Setting) (bytes : List ℕ) → AreKeysOf self.now s
@@ -152,6 +124,7 @@ impl<'a> MessageKeys<'a> {
     }
 
     // Authenticates a piece of the ciphertext with this tag, or under AES-GCM-SIV the piece's text. The piece stays as it is.
+    #[inline(always)]
     pub(crate) fn check(&self, state: &mut PassState, tag: &[u8; 16], piece: &[u8])
         requires { state.old.length + length piece.now ≤ text_limit_by (construction_by self.now.cipher) }
         ensures { (s : Setting) (body : List ℕ) → AreKeysOf self.now s
@@ -167,6 +140,7 @@ impl<'a> MessageKeys<'a> {
     }
 
     // The order in which a ciphertext is decrypted and authenticated.
+    #[inline(always)]
     fn order_of_opening(&self) -> Order
         ensures { (mask : ℕ → ℕ) (body : List ℕ)
             → hashed_by result mask body ≡ authenticated_by (construction_by self.now.cipher) mask body }
@@ -178,6 +152,7 @@ impl<'a> MessageKeys<'a> {
     }
 
     // Decrypts a piece of the ciphertext with this tag, and authenticates it.
+    #[inline(always)]
     pub(crate) fn open(&self, state: &mut PassState, tag: &[u8; 16], piece: &mut [u8])
         requires { state.old.length + length piece.old ≤ text_limit_by (construction_by self.now.cipher) }
         ensures { (s : Setting) (body : List ℕ) → AreKeysOf self.now s
@@ -187,6 +162,7 @@ impl<'a> MessageKeys<'a> {
     }
 
     // The tag of what was authenticated.
+    #[inline(always)]
     pub(crate) fn tag(&self, state: &PassState) -> Tag
         ensures { (s : Setting) (bytes : List ℕ) → AreKeysOf self.now s → HoldsNumbers state.now s bytes
             → result ≡ tag_over s.suite s.key s.nonce s.aad bytes }

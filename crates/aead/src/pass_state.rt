@@ -279,6 +279,7 @@ impl PassState {
 
     // Adds a piece to the text, and leaves its ciphertext in its place. `TextTooLong` if the text would be past its limit: state
     // and piece are then as they were.
+    #[inline(always)]
     pub(crate) fn seal(&mut self, keys: &MessageKeys, piece: &mut [u8]) -> Result<(), Fault>
         ensures answer { (s : Setting) (text : List ℕ) → AreKeysOf keys.now s
             → is_one_pass (construction_of s.suite) ≡ true → HoldsState self.old s text → MatchResult result

@@ -13,10 +13,11 @@ ghost use Rattle.aead.specs.Code.PassSteps.{MasksPiece, TakesPiece, TakesPieceTe
 use crate::beside::Order;
 use crate::derived_keys::{expanded, joined};
 use crate::gcm_siv::mask_at;
-use crate::hashes::{HashKeys, PolyvalKeys};
-use crate::keys::{AesKeys, ExpandedKey};
+use crate::hashes::PolyvalKeys;
+use crate::keys::{AesKeys, ExpandedKey, KeyBytes};
 use crate::multiples::{Multiples, worth};
 use crate::pass_state::PassState;
+use aes::AesKey;
 use gf128::{Keyed128, TableMul, WideMul};
 use octets::{Block, Nonce, Tag};
 
@@ -29,26 +30,22 @@ fn hash_keys(hash_key: &Block) -> [u8; 32]
     joined(hash_key.bytes(), &[0; 16])
 }
 
-// The keys of the hash by a schedule and the few multiples.
-#[inline(always)]
-fn polyval_keys<'a>(key: ExpandedKey<'a>, nonce: &'a Nonce) -> PolyvalKeys<'a, TableMul>
-    ensures { (s : Setting) → construction_of s.suite ≡ ByGcmSiv → AreSivKeys (AesKeys.Expanded key.entry) s
-        → nonce.now ≡ s.nonce → ⟦<PolyvalKeys<'a, TableMul> as HashKeys>⟧.serves result s }
-{
-    PolyvalKeys {
-        multiplier: key.few,
-        key: key.key,
-        nonce,
-    }
-}
-
 // The numbers of no bytes after associated data.
 pub(crate) fn begun(keys: ExpandedKey, hash_key: &Block, nonce: &Nonce, aad: &[u8]) -> PassState
     ensures { (s : Setting) → construction_of s.suite ≡ ByGcmSiv → AreSivKeys (AesKeys.Expanded keys.entry) s
         → Serves Reversed (authentication_key s.key s.nonce) hash_key.now → nonce.now ≡ s.nonce
         → s.aad ≡ aad.now → length aad.now ≤ aad_limit s.suite → HoldsNumbers result s [] }
 {
-    PassState::begun(&polyval_keys(keys, nonce), hash_keys(hash_key), aad)
+    let hash_keys = hash_keys(hash_key);
+    PassState::begun(
+        &PolyvalKeys {
+            multiplier: keys.few,
+            key: keys.key,
+            nonce,
+        },
+        hash_keys,
+        aad,
+    )
 }
 
 // Those by the bytes of the encryption key. Its schedule and multiples stand on the stack of this call alone.
@@ -87,35 +84,84 @@ pub(crate) fn begun_anew(key: &[u8], hash_key: &Block, nonce: &Nonce, aad: &[u8]
 }
 
 // Masks and authenticates a piece by a multiplier of the type `M`, which is made here: it stands on the stack of this call
-// alone, as does the schedule of a key that comes as bytes.
+// alone.
 #[inline(never)]
 fn mask_by<M: Keyed128>(
     state: &mut PassState,
-    keys: AesKeys,
+    key: &AesKey,
     nonce: &Nonce,
     tag: &[u8; 16],
     order: Order,
     piece: &mut [u8],
 )
     requires { state.old.length + length piece.old ≤ 2 ^ 36 }
-    ensures { (s : Setting) (fed : List ℕ) → construction_of s.suite ≡ ByGcmSiv → AreSivKeys keys.entry s
-        → nonce.now ≡ s.nonce
+    ensures { (s : Setting) (fed : List ℕ) → construction_of s.suite ≡ ByGcmSiv
+        → key.now ≡ encryption_key s.key s.nonce → nonce.now ≡ s.nonce
         → MasksPiece (hashed_by order) state.old state.new piece.old piece.new s tag.now fed }
 {
     let mut multiplier = M::none();
     multiplier.set(&state.multiplier_key());
-    let schedule = keys.schedule();
-    let key = schedule.key();
-    let hash_keys = PolyvalKeys {
+    let keys = PolyvalKeys {
         multiplier: &multiplier,
         key,
         nonce,
     };
     let mut mask = mask_at(key, tag, state.length);
-    state.step(&hash_keys, &mut mask, order, piece);
+    state.step(&keys, &mut mask, order, piece);
+}
+
+// Masks and authenticates a piece by the bytes of a key, whose schedule stands on the stack of this call alone.
+#[inline(never)]
+fn mask_anew(
+    state: &mut PassState,
+    bytes: KeyBytes,
+    nonce: &Nonce,
+    tag: &[u8; 16],
+    order: Order,
+    piece: &mut [u8],
+)
+    requires { state.old.length + length piece.old ≤ 2 ^ 36 }
+    ensures { (s : Setting) (fed : List ℕ) → construction_of s.suite ≡ ByGcmSiv
+        → AreSivKeys (AesKeys.Bytes bytes.entry) s → nonce.now ≡ s.nonce
+        → MasksPiece (hashed_by order) state.old state.new piece.old piece.new s tag.now fed }
+{
+    let key = bytes.schedule();
+    match worth(piece.len() as u64) {
+        Multiples::Few => mask_by::<TableMul>(state, &key, nonce, tag, order, piece),
+        Multiples::OfFourPowers => mask_by::<WideMul>(state, &key, nonce, tag, order, piece),
+    }
+}
+
+// Masks and authenticates a piece by the schedule of a key, with the few multiples if it is short.
+fn mask_expanded(
+    state: &mut PassState,
+    keys: ExpandedKey,
+    nonce: &Nonce,
+    tag: &[u8; 16],
+    order: Order,
+    piece: &mut [u8],
+)
+    requires { state.old.length + length piece.old ≤ 2 ^ 36 }
+    ensures { (s : Setting) (fed : List ℕ) → construction_of s.suite ≡ ByGcmSiv
+        → AreSivKeys (AesKeys.Expanded keys.entry) s → nonce.now ≡ s.nonce
+        → MasksPiece (hashed_by order) state.old state.new piece.old piece.new s tag.now fed }
+{
+    match worth(piece.len() as u64) {
+        Multiples::Few => {
+            let hash_keys = PolyvalKeys {
+                multiplier: keys.few,
+                key: keys.key,
+                nonce,
+            };
+            let mut mask = mask_at(keys.key, tag, state.length);
+            state.step(&hash_keys, &mut mask, order, piece);
+        }
+        Multiples::OfFourPowers => { mask_by::<WideMul>(state, keys.key, nonce, tag, order, piece) }
+    }
 }
 
 // Masks and authenticates a piece.
+#[inline(always)]
 pub(crate) fn mask(
     state: &mut PassState,
     keys: AesKeys,
@@ -129,80 +175,119 @@ pub(crate) fn mask(
         → nonce.now ≡ s.nonce
         → MasksPiece (hashed_by order) state.old state.new piece.old piece.new s tag.now fed }
 {
-    match worth(piece.len() as u64) {
-        Multiples::Few => match keys {
-            AesKeys::Expanded(key) => {
-                let hash_keys = polyval_keys(key, nonce);
-                let mut mask = mask_at(key.key, tag, state.length);
-                state.step(&hash_keys, &mut mask, order, piece);
-            }
-            AesKeys::Bytes(_) => mask_by::<TableMul>(state, keys, nonce, tag, order, piece),
-        },
-        Multiples::OfFourPowers => mask_by::<WideMul>(state, keys, nonce, tag, order, piece),
+    match keys {
+        AesKeys::Expanded(keys) => mask_expanded(state, keys, nonce, tag, order, piece),
+        AesKeys::Bytes(bytes) => mask_anew(state, bytes, nonce, tag, order, piece),
     }
 }
 
-// Authenticates a piece by a multiplier of the type `M`, which is made here, as the schedule of a key that comes as bytes.
+// Authenticates a piece by a multiplier of the type `M`, which is made here: it stands on the stack of this call alone.
 #[inline(never)]
-fn take_by<M: Keyed128>(state: &mut PassState, keys: AesKeys, nonce: &Nonce, piece: &[u8])
+fn take_by<M: Keyed128>(state: &mut PassState, key: &AesKey, nonce: &Nonce, piece: &[u8])
     requires { state.old.length + length piece.now < 2 ^ 64 }
-    ensures { (s : Setting) (bytes : List ℕ) → construction_of s.suite ≡ ByGcmSiv → AreSivKeys keys.entry s
-        → nonce.now ≡ s.nonce → TakesPiece state.old state.new piece.now s bytes }
+    ensures { (s : Setting) (bytes : List ℕ) → construction_of s.suite ≡ ByGcmSiv
+        → key.now ≡ encryption_key s.key s.nonce → nonce.now ≡ s.nonce
+        → TakesPiece state.old state.new piece.now s bytes }
 {
     let mut multiplier = M::none();
     multiplier.set(&state.multiplier_key());
-    let schedule = keys.schedule();
-    let hash_keys = PolyvalKeys {
+    let keys = PolyvalKeys {
         multiplier: &multiplier,
-        key: schedule.key(),
+        key,
         nonce,
     };
-    state.take(&hash_keys, piece);
+    state.take(&keys, piece);
+}
+
+// Authenticates a piece by the bytes of a key, whose schedule stands on the stack of this call alone.
+#[inline(never)]
+fn take_anew(state: &mut PassState, bytes: KeyBytes, nonce: &Nonce, piece: &[u8])
+    requires { state.old.length + length piece.now < 2 ^ 64 }
+    ensures { (s : Setting) (fed : List ℕ) → construction_of s.suite ≡ ByGcmSiv
+        → AreSivKeys (AesKeys.Bytes bytes.entry) s → nonce.now ≡ s.nonce
+        → TakesPiece state.old state.new piece.now s fed }
+{
+    let key = bytes.schedule();
+    match worth(piece.len() as u64) {
+        Multiples::Few => take_by::<TableMul>(state, &key, nonce, piece),
+        Multiples::OfFourPowers => take_by::<WideMul>(state, &key, nonce, piece),
+    }
+}
+
+// Authenticates a piece by the schedule of a key, with the few multiples if it is short.
+fn take_expanded(state: &mut PassState, keys: ExpandedKey, nonce: &Nonce, piece: &[u8])
+    requires { state.old.length + length piece.now < 2 ^ 64 }
+    ensures { (s : Setting) (fed : List ℕ) → construction_of s.suite ≡ ByGcmSiv
+        → AreSivKeys (AesKeys.Expanded keys.entry) s → nonce.now ≡ s.nonce
+        → TakesPiece state.old state.new piece.now s fed }
+{
+    match worth(piece.len() as u64) {
+        Multiples::Few => {
+            let hash_keys = PolyvalKeys {
+                multiplier: keys.few,
+                key: keys.key,
+                nonce,
+            };
+            state.take(&hash_keys, piece);
+        }
+        Multiples::OfFourPowers => take_by::<WideMul>(state, keys.key, nonce, piece),
+    }
 }
 
 // Authenticates a piece.
+#[inline(always)]
 pub(crate) fn take(state: &mut PassState, keys: AesKeys, nonce: &Nonce, piece: &[u8])
     requires { state.old.length + length piece.now < 2 ^ 64 }
     ensures { (s : Setting) (bytes : List ℕ) → construction_of s.suite ≡ ByGcmSiv → AreSivKeys keys.entry s
         → nonce.now ≡ s.nonce → TakesPiece state.old state.new piece.now s bytes }
 {
-    match worth(piece.len() as u64) {
-        Multiples::Few => match keys {
-            AesKeys::Expanded(key) => state.take(&polyval_keys(key, nonce), piece),
-            AesKeys::Bytes(_) => take_by::<TableMul>(state, keys, nonce, piece),
-        },
-        Multiples::OfFourPowers => take_by::<WideMul>(state, keys, nonce, piece),
+    match keys {
+        AesKeys::Expanded(keys) => take_expanded(state, keys, nonce, piece),
+        AesKeys::Bytes(bytes) => take_anew(state, bytes, nonce, piece),
     }
 }
 
-// Authenticates the text of a piece of a ciphertext by a multiplier of the type `M`, which is made here, as the schedule of a
-// key that comes as bytes.
+// Authenticates the text of a piece of a ciphertext by a multiplier of the type `M`, which is made here: it stands on the stack
+// of this call alone.
 #[inline(never)]
 fn take_text_by<M: Keyed128>(
     state: &mut PassState,
-    keys: AesKeys,
+    key: &AesKey,
     nonce: &Nonce,
     tag: &[u8; 16],
     piece: &[u8],
 )
     requires { state.old.length + length piece.now ≤ 2 ^ 36 }
-    ensures { (s : Setting) (fed : List ℕ) → construction_of s.suite ≡ ByGcmSiv → AreSivKeys keys.entry s
-        → nonce.now ≡ s.nonce → TakesPieceText state.old state.new piece.now s tag.now fed }
+    ensures { (s : Setting) (fed : List ℕ) → construction_of s.suite ≡ ByGcmSiv
+        → key.now ≡ encryption_key s.key s.nonce → nonce.now ≡ s.nonce
+        → TakesPieceText state.old state.new piece.now s tag.now fed }
 {
     let mut multiplier = M::none();
     multiplier.set(&state.multiplier_key());
-    let schedule = keys.schedule();
-    let key = schedule.key();
-    let hash_keys = PolyvalKeys {
+    let keys = PolyvalKeys {
         multiplier: &multiplier,
         key,
         nonce,
     };
     let mut mask = mask_at(key, tag, state.length);
-    state.take_text(&hash_keys, &mut mask, piece);
+    state.take_text(&keys, &mut mask, piece);
+}
+
+// Authenticates the text of a piece of a ciphertext by a schedule.
+fn take_text_under(state: &mut PassState, key: &AesKey, nonce: &Nonce, tag: &[u8; 16], piece: &[u8])
+    requires { state.old.length + length piece.now ≤ 2 ^ 36 }
+    ensures { (s : Setting) (fed : List ℕ) → construction_of s.suite ≡ ByGcmSiv
+        → key.now ≡ encryption_key s.key s.nonce → nonce.now ≡ s.nonce
+        → TakesPieceText state.old state.new piece.now s tag.now fed }
+{
+    match worth(piece.len() as u64) {
+        Multiples::Few => take_text_by::<TableMul>(state, key, nonce, tag, piece),
+        Multiples::OfFourPowers => take_text_by::<WideMul>(state, key, nonce, tag, piece),
+    }
 }
 
 // Authenticates the text of a piece of a ciphertext.
+#[inline(never)]
 pub(crate) fn take_text(
     state: &mut PassState,
     keys: AesKeys,
@@ -212,38 +297,44 @@ pub(crate) fn take_text(
 )
     requires { state.old.length + length piece.now ≤ 2 ^ 36 }
     ensures { (s : Setting) (fed : List ℕ) → construction_of s.suite ≡ ByGcmSiv → AreSivKeys keys.entry s
-        → nonce.now ≡ s.nonce → TakesPieceText state.old state.new piece.now s tag.now fed }
+        → nonce.now ≡ s.nonce
+        → TakesPieceText state.old state.new piece.now s tag.now fed }
 {
-    match worth(piece.len() as u64) {
-        Multiples::Few => take_text_by::<TableMul>(state, keys, nonce, tag, piece),
-        Multiples::OfFourPowers => take_text_by::<WideMul>(state, keys, nonce, tag, piece),
+    match keys {
+        AesKeys::Expanded(keys) => take_text_under(state, keys.key, nonce, tag, piece),
+        AesKeys::Bytes(bytes) => take_text_under(state, &bytes.schedule(), nonce, tag, piece),
     }
 }
 
-// The tag of what was authenticated, by multiples that are made here, as the schedule of a key that comes as bytes.
+// The tag of what was authenticated, by a schedule and multiples that are made here.
 #[inline(never)]
-fn tag_anew(state: &PassState, keys: AesKeys, nonce: &Nonce) -> Tag
-    ensures { (s : Setting) (bytes : List ℕ) → construction_of s.suite ≡ ByGcmSiv → AreSivKeys keys.entry s
-        → nonce.now ≡ s.nonce → HoldsNumbers state.now s bytes
-        → result ≡ tag_over s.suite s.key s.nonce s.aad bytes }
+fn tag_anew(state: &PassState, bytes: KeyBytes, nonce: &Nonce) -> Tag
+    ensures { (s : Setting) (bytes' : List ℕ) → construction_of s.suite ≡ ByGcmSiv
+        → AreSivKeys (AesKeys.Bytes bytes.entry) s → nonce.now ≡ s.nonce → HoldsNumbers state.now s bytes'
+        → result ≡ tag_over s.suite s.key s.nonce s.aad bytes' }
 {
     let multiplier = TableMul::of(&state.multiplier_key());
-    let schedule = keys.schedule();
+    let key = bytes.schedule();
     state.tag(&PolyvalKeys {
         multiplier: &multiplier,
-        key: schedule.key(),
+        key: &key,
         nonce,
     })
 }
 
 // The tag of what was authenticated.
+#[inline(always)]
 pub(crate) fn tag(state: &PassState, keys: AesKeys, nonce: &Nonce) -> Tag
     ensures { (s : Setting) (bytes : List ℕ) → construction_of s.suite ≡ ByGcmSiv → AreSivKeys keys.entry s
         → nonce.now ≡ s.nonce → HoldsNumbers state.now s bytes
         → result ≡ tag_over s.suite s.key s.nonce s.aad bytes }
 {
     match keys {
-        AesKeys::Expanded(key) => state.tag(&polyval_keys(key, nonce)),
-        AesKeys::Bytes(_) => tag_anew(state, keys, nonce),
+        AesKeys::Expanded(keys) => state.tag(&PolyvalKeys {
+            multiplier: keys.few,
+            key: keys.key,
+            nonce,
+        }),
+        AesKeys::Bytes(bytes) => tag_anew(state, bytes, nonce),
     }
 }

@@ -82,6 +82,7 @@ impl TwoPassState {
     // ---- a sealing in two readings
 
     // Adds a piece to the text in the first reading. `TextTooLong` if the text would be past its limit: the state is then as it was.
+    #[inline(always)]
     pub(crate) fn absorb(&mut self, keys: &MessageKeys, piece: &[u8]) -> Result<(), Fault>
         ensures answer { (s : Setting) (text : List ℕ) → AreKeysOf keys.now s → IsInFirstReading self.old s text
             → MatchResult result (λ _. IsInFirstReading self.new s (text ++ piece.now)
@@ -118,6 +119,7 @@ impl TwoPassState {
 
     // Adds a piece to the text in the second reading, and leaves its ciphertext in its place. `SourceChanged` if that text would be
     // longer than the first: state and piece are then as they were.
+    #[inline(always)]
     pub(crate) fn write(&mut self, keys: &MessageKeys, piece: &mut [u8]) -> Result<(), Fault>
         ensures answer { (s : Setting) (first text : List ℕ) → AreKeysOf keys.now s
             → IsInSecondReading self.old s first text → MatchResult result
@@ -157,6 +159,7 @@ impl TwoPassState {
 
     // Takes in a piece of the ciphertext in the first pass. `TextTooLong` if the ciphertext would be past the suite's limit: the
     // state is then as it was.
+    #[inline(always)]
     pub(crate) fn check(&mut self, keys: &MessageKeys, piece: &[u8]) -> Result<(), Fault>
         ensures answer { (s : Setting) (tag body : List ℕ) → AreKeysOf keys.now s → IsInFirstPass self.old s tag body
             → MatchResult result (λ _. IsInFirstPass self.new s tag (body ++ piece.now)
@@ -202,6 +205,7 @@ impl TwoPassState {
 
     // Takes in a piece of the ciphertext in the second pass, and leaves its text in its place. `SourceChanged` if the second pass
     // would be longer than the first: state and piece are then as they were.
+    #[inline(always)]
     pub(crate) fn open(&mut self, keys: &MessageKeys, piece: &mut [u8]) -> Result<(), Fault>
         ensures answer { (s : Setting) (tag : List ℕ) (first : ℕ) (body : List ℕ) → AreKeysOf keys.now s
             → MasksByBytes s → IsInSecondPass self.old s tag first body → MatchResult result

@@ -1,11 +1,9 @@
 -- The keys of a message, as the steps of a pass find them.
-use Rattle.std.specs.Prelude.{◌≡◌, ℕ, List, take}
+use Rattle.std.specs.Prelude.{◌≡◌, take}
 use Rattle.gf128.specs.Orders.{Reversed, Serves}
 use Rattle.gf128.specs.Code.States.{key_of}
 use Rattle.aead.specs.declared.keys.AesKeys.{AesKeys}
 use Rattle.aead.specs.declared.keys.AesKeys.TheVariants.{Expanded, Bytes}
-use Rattle.aead.specs.declared.keys.Schedule.{Schedule}
-use Rattle.aead.specs.declared.keys.Schedule.TheVariants.{Lent, Own}
 use Rattle.aead.specs.declared.keys.CipherKeys.{CipherKeys}
 use Rattle.aead.specs.declared.keys.CipherKeys.TheVariants.{ChaCha, Gcm, Siv}
 use Rattle.aead.specs.declared.keys.MessageKeys.{MessageKeys}
@@ -17,15 +15,6 @@ abbrev pub construction_by : CipherKeys → Construction
 construction_by (ChaCha key) = ByChaCha
 construction_by (Gcm keys) = ByGcm
 construction_by (Siv keys) = ByGcmSiv
-
--- the bytes of a key of AES, and of that which has a schedule
-abbrev pub key_bytes : AesKeys → List ℕ
-key_bytes (Expanded k) = k.key.now
-key_bytes (Bytes b) = take (key_length b.suite) b.key.now
-
-abbrev pub scheduled : Schedule → List ℕ
-scheduled (Lent k) = k.now
-scheduled (Own k) = k
 
 -- keys of AES under AES-GCM: the schedule, and multiples of the hash key; or the key's bytes
 abbrev pub AreGcmKeys : AesKeys → Setting → Type 0

@@ -1,9 +1,13 @@
-use Rattle.std.proofs.Common.{◌∙◌}
-use Rattle.aead.proofs.MessageKeys.{siv_bytes, siv_multiples}
+use Rattle.std.proofs.Common.{ℕ, List, sym, subst, ◌∙◌}
+use Rattle.gf128.specs.Orders.{Reversed, Serves}
+use Rattle.aead.specs.Suites.{Construction}
+use Rattle.aead.specs.Sealing.{authentication_key}
+use Rattle.aead.specs.PassStates.{IsHashKey}
 use Rattle.aead.proofs.siv_pass.take_by.Goals as goal
 
 pub returns : goal.returns
-returns g c = λ s bytes by keys nonce fits h.
-    let made = siv_multiples _ s _ _ by (c.set.ensures ∙ c.multiplier_key.ensures) h in
-    let key = c.key.ensures ∙ c.schedule-schedule.ensures ∙ siv_bytes c.args.keys s keys in
-    c.take.ensures.takes s bytes (by, made, key, nonce) fits h
+returns g c = λ s bytes by key nonce fits h.
+    let hash = subst (λ (x : Construction). IsHashKey x c.args.state.now.hash_key s) by h.hash_key_is in
+    let serves = subst (λ (k : List ℕ). Serves Reversed (authentication_key s.key s.nonce) k)
+    (sym (c.set.ensures ∙ c.multiplier_key.ensures)) hash.0 in
+    c.take.ensures.takes s bytes (by, serves, key, nonce) fits h
