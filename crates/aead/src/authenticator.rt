@@ -67,7 +67,12 @@ impl<H: TagHash> Authenticator<H> {
 
     // Hashes the next bytes, as they come or as they leave, and XORs the next bytes of `stream` into them.
     #[inline(always)]
-    pub(crate) fn update_beside<S: Stream>(&mut self, order: Order, stream: &mut S, piece: &mut [u8])
+    pub(crate) fn update_beside<S: Stream>(
+        &mut self,
+        order: Order,
+        stream: &mut S,
+        piece: &mut [u8],
+    )
         requires { self.old.length + length piece.old < 2 ^ 64 }
         ensures holds { (s : Setting) (m : List ℕ) → HoldsAuthenticator H.held self.old s m
             → length m + length piece.old ≤ text_limit s.suite

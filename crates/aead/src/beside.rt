@@ -8,7 +8,6 @@ ghost use Rattle.aead.specs.Code.Masks.{Masks, Takes, MasksAndHashes, hashed_by}
 use crate::authenticator::Authenticator;
 use crate::hashes::TagHash;
 use crate::mask::MaskStream;
-
 pub(crate) use octets::Order;
 
 // Masks a piece and authenticates it, both beside each other. This is a separate function, since its frame would slow down

@@ -34,10 +34,24 @@ fn mask_runs<W: BlockWork>(
 {
     let left = bytes.len() - begun;
     if WIDE && offset % 64 == 0 && left >= 512 {
-        return mask_then_hash::<[u32x8; 16], W>(key, (offset / 64) as u32, nonce, bytes, begun, hash);
+        return mask_then_hash::<[u32x8; 16], W>(
+            key,
+            (offset / 64) as u32,
+            nonce,
+            bytes,
+            begun,
+            hash,
+        );
     }
     if !WIDE && offset % 64 == 0 && left >= 256 {
-        return mask_then_hash::<[u32x4; 16], W>(key, (offset / 64) as u32, nonce, bytes, begun, hash);
+        return mask_then_hash::<[u32x4; 16], W>(
+            key,
+            (offset / 64) as u32,
+            nonce,
+            bytes,
+            begun,
+            hash,
+        );
     }
     (begun, 0)
 }
@@ -118,7 +132,15 @@ pub(crate) fn mask_beside<W: BlockWork>(
         return;
     }
     let (done, taken) = mask_runs(key, nonce, offset, bytes, begun, hash);
-    mask_last(key, nonce, offset + (done - begun) as u64, bytes, done, taken, hash);
+    mask_last(
+        key,
+        nonce,
+        offset + (done - begun) as u64,
+        bytes,
+        done,
+        taken,
+        hash,
+    );
 }
 
 // XORs whole runs of the key stream from an offset on into the bytes, while `hash` takes in those bytes, each before it is
@@ -147,13 +169,7 @@ fn hash_runs<W: BlockWork>(
 }
 
 // Hashes the whole blocks of the bytes, and then XORs the key stream from an offset on into the bytes.
-fn hash_last<W: BlockWork>(
-    key: &Key32,
-    nonce: &Nonce,
-    offset: u64,
-    bytes: &mut [u8],
-    hash: &mut W,
-)
+fn hash_last<W: BlockWork>(key: &Key32, nonce: &Nonce, offset: u64, bytes: &mut [u8], hash: &mut W)
     requires within { offset + length bytes.old ≤ 2 ^ 38 }
     ensures masked { bytes.new ≡ masked (key_stream_byte key.now nonce.now 0) offset bytes.old }
     ensures hashed { (k m : List ℕ) → W.comes_to hash.old [] k m

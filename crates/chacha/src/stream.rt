@@ -126,7 +126,13 @@ impl Stream for ChaStream {
 }
 
 // XORs the key stream into the bytes, from an offset of the stream that starts at counter 0.
-pub(crate) fn xor_stream<W: Work>(key: &Key32, nonce: &Nonce, offset: u64, bytes: &mut [u8], work: &mut W)
+pub(crate) fn xor_stream<W: Work>(
+    key: &Key32,
+    nonce: &Nonce,
+    offset: u64,
+    bytes: &mut [u8],
+    work: &mut W,
+)
     requires { offset + length bytes.old ≤ 2 ^ 38 }
     ensures masked { bytes.new ≡ masked (key_stream_byte key.now nonce.now 0) offset bytes.old }
     ensures work { (w : W) → W.reaches w work.old → W.reaches w work.new }
