@@ -1,4 +1,4 @@
--- ChaCha20's mask whose first bytes are there.
+-- ChaCha20's mask whose first bytes are computed in advance.
 use Rattle.std.proofs.Common.{◌≡◌, ℕ, suc, ◌+◌, ◌-◌, ◌*◌, ◌<◌, inl, inr, List, [], ◌∷◌, ◌++◌, length, take}
 use Rattle.std.proofs.Common.{drop, get_or, min, max, bit_xor, refl, sym, ap, ap₂, ◌∙◌, arith}
 use Rattle.std.proofs.lemmas.Bool.{cases_lt}
@@ -10,7 +10,7 @@ use Rattle.octets.proofs.Masks.{xor_bytes-masked, masked-append}
 use Rattle.chacha.specs.Stream.{key_stream_byte}
 use Rattle.chacha.proofs.Masking.{key_stream_byte-first}
 
--- a mask and another that goes on alike
+-- two masks with equal bytes from their places on mask a list alike
 shifted : (f h : ℕ → ℕ) (a b : ℕ) (xs : List ℕ) → ((i : ℕ) → f (a + i) ≡ h (b + i))
     → masked f a xs ≡ masked h b xs
 unfolding masked
@@ -24,7 +24,7 @@ shifted f h a b (x ∷ xs) e =
     let next_b : b + suc i ≡ suc b + i = omega arith in
     ap f next_a ∙ e (suc i) ∙ ap h next_b))
 
--- the key stream from counter 1 on is that from counter 0 on, 64 bytes later
+-- the key stream from counter 1 on is the key stream from counter 0 on, 64 bytes later
 from_one : (key nonce : List ℕ) (n p : ℕ) (xs : List ℕ) → p ≡ 64 + n
     → masked (key_stream_byte key nonce 0) p xs ≡ masked (key_stream_byte key nonce 1) n xs
 from_one key nonce n p xs e =
@@ -32,7 +32,8 @@ from_one key nonce n p xs e =
     let place : p + i ≡ 1 * 64 + n + i = omega arith in
     ap (key_stream_byte key nonce 0) place ∙ key_stream_byte-first key nonce 1 n i)
 
--- a piece whose first bytes are masked by those that are there, and the others by the rest of the key stream
+-- if its first bytes are XORed with those computed in advance, and the others masked with the rest of the key stream, a piece is
+-- masked with the key stream from counter 1 on
 pub buffered_masked : (key nonce start piece first last : List ℕ) (n used count rest : ℕ)
     → ((i : ℕ) → i < length start → get_or start i 0 ≡ key_stream_byte key nonce 0 i)
     → used ≡ min (64 + n) (length start) → count ≡ min (length piece) (length start - used)

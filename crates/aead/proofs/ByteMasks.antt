@@ -1,4 +1,4 @@
--- Masks whose bytes are bytes.
+-- The masks of all suites consist of bytes.
 use Rattle.std.proofs.Common.{◌≡◌, ℕ, zero, suc, ◌+◌, ◌-◌, ◌*◌, ◌/◌, ◌%◌, ◌<◌, true, List, [], ◌∷◌, get_or}
 use Rattle.std.proofs.Common.{flat_map, refl, sym, subst, arith, true≢false}
 use Rattle.std.proofs.Common.{◌∙◌, ◌++◌, ap, take, length, length-append, inl, inr}
@@ -31,7 +31,7 @@ masked_small f at [] small bytes i = omega arith
 masked_small f at (x ∷ xs) small bytes zero = xor_of_8 x (f at) (small 0) (bytes at)
 masked_small f at (x ∷ xs) small bytes (suc i) = masked_small f (suc at) xs (λ j. small (suc j)) bytes i
 
--- a byte of a number
+-- a byte of a number is below 256
 byte_small : (i n : ℕ) → byte_at i n < 256
 byte_small zero n = omega arith
 byte_small (suc i) n = omega arith
@@ -41,7 +41,7 @@ low_first_small zero i n j = omega arith
 low_first_small (suc k) i n zero = byte_small i n
 low_first_small (suc k) i n (suc j) = low_first_small k (suc i) n j
 
--- the key stream of ChaCha20
+-- the bytes of words, such as the blocks of the key stream of ChaCha20, are below 256
 words_small : (words : List ℕ) (i : ℕ) → get_or (flat_map (to_le_bytes w32) words) i 0 < 256
 words_small [] i = omega arith
 words_small (w ∷ words) i =
@@ -52,7 +52,7 @@ key_stream_small : (key nonce : List ℕ) (first i : ℕ) → key_stream_byte ke
 unfolding key_stream_byte block block_from serialized
 key_stream_small key nonce first i = words_small _ (i % 64)
 
--- the cipher takes anything to a block
+-- after a round, whatever came in, the state is a block
 rounds_any : (ws : List (List ℕ)) (n : ℕ) (b : List ℕ) → AreWords ws → IsBlock (rounds ws (suc n) b)
 unfolding rounds
 rounds_any ws n b words =
@@ -79,7 +79,7 @@ counter_small_le : (key b : List ℕ) (i : ℕ) → IsKey key → counter_byte u
 unfolding counter_byte
 counter_small_le key b i k = (cipher_any key (up_le b (i / 16)) k).bytes (i % 16)
 
--- the first bytes of bytes
+-- if all numbers of a list are below 256, so are its first ones
 take_small : (n : ℕ) (xs : List ℕ) → ((i : ℕ) → get_or xs i 0 < 256) → (i : ℕ) → get_or (take n xs) i 0 < 256
 take_small zero xs p i = omega arith
 take_small (suc n) [] p i = omega arith
@@ -113,7 +113,7 @@ two_parts_small : (key nonce : List ℕ) (i j : ℕ) → IsKey key → (n : ℕ)
 two_parts_small key nonce i j k =
     small-append (key_part key nonce i) (key_part key nonce j) (part_small key nonce i k) (part_small key nonce j k)
 
--- the derived key of the cipher is a key of AES
+-- the encryption key that is derived from a key of AES is a key of AES
 short_derived : (key nonce : List ℕ) → length key ≡ 16 → IsKey key → IsKey (encryption_key key nonce)
 short_derived key nonce long k =
     subst IsKey (sym (short_key key nonce long)) (record {
@@ -144,7 +144,7 @@ derived_key Aes256Gcm key nonce e long k = long_derived key nonce long k
 derived_key Aes128GcmSiv key nonce e long k = short_derived key nonce long k
 derived_key Aes256GcmSiv key nonce e long k = long_derived key nonce long k
 
--- the mask of each construction is one of bytes
+-- the mask of each construction consists of bytes, if its cipher has a key of AES
 mask_small_by : (by : Construction) (key nonce tag : List ℕ) → (by ≡ ByGcm → IsKey key)
     → (by ≡ ByGcmSiv → IsKey (encryption_key key nonce)) → (i : ℕ) → mask_by by key nonce tag i < 256
 unfolding mask_by
@@ -153,13 +153,13 @@ mask_small_by ByGcm key nonce tag k m i = counter_small key (up_be (j0 nonce) 1)
 mask_small_by ByGcmSiv key nonce tag k m i =
     counter_small_le (encryption_key key nonce) (counter_block tag) i (m refl)
 
--- so that of each suite whose cipher has a key of AES
+-- the mask of each suite consists of bytes, if its cipher has a key of AES
 pub mask_of_small : (s : Setting) (tag : List ℕ) → (construction_of s.suite ≡ ByGcm → IsKey s.key)
     → (construction_of s.suite ≡ ByGcmSiv → IsKey (encryption_key s.key s.nonce)) → (i : ℕ) → mask_of s tag i < 256
 unfolding mask
 mask_of_small s tag k m i = mask_small_by (construction_of s.suite) s.key s.nonce tag k m i
 
--- that of a suite whose tag is over the ciphertext
+-- the mask of a suite whose tag is over the ciphertext consists of bytes, if GCM has a key of AES
 pub mask_small : (s : Setting) (tag : List ℕ) → is_one_pass (construction_of s.suite) ≡ true
     → (construction_of s.suite ≡ ByGcm → IsKey s.key) → (i : ℕ) → mask_of s tag i < 256
 unfolding mask
@@ -167,7 +167,7 @@ mask_small s tag one k i =
     mask_small_by (construction_of s.suite) s.key s.nonce tag k
     (λ e. absurd (true≢false (sym one ∙ ap is_one_pass e))) i
 
--- that of each suite under a key of its length
+-- the mask of each suite consists of bytes, if the key is a key of AES and has the suite's length
 pub any_mask_small : (s : Setting) (tag : List ℕ) → IsKey s.key → length s.key ≡ key_length s.suite → (i : ℕ)
     → mask_of s tag i < 256
 unfolding mask
@@ -175,7 +175,7 @@ any_mask_small s tag k long i =
     mask_small_by (construction_of s.suite) s.key s.nonce tag (λ _. k)
     (λ e. derived_key s.suite s.key s.nonce e long k) i
 
--- each key length is one of AES
+-- the key length of each suite is 16, 24 or 32
 key_size : (suite : Suite) → IsKeyLength (key_length suite)
 key_size ChaCha20Poly1305 = inr (inr refl)
 key_size Aes128Gcm = inl refl
@@ -184,7 +184,7 @@ key_size Aes256Gcm = inr (inr refl)
 key_size Aes128GcmSiv = inl refl
 key_size Aes256GcmSiv = inr (inr refl)
 
--- so bytes of that length are a key of AES
+-- bytes of a suite's key length are a key of AES
 pub aes_key : (suite : Suite) (key : List ℕ) → length key ≡ key_length suite → ((i : ℕ) → get_or key i 0 < 256)
     → IsKey key
 aes_key suite key long bytes = record {
@@ -192,7 +192,7 @@ aes_key suite key long bytes = record {
   bytes = bytes;
 }
 
--- so the masks under bytes of that length are bytes
+-- the masks under bytes of a suite's key length consist of bytes
 pub masks_by_bytes : (s : Setting) → length s.key ≡ key_length s.suite → ((i : ℕ) → get_or s.key i 0 < 256)
     → MasksByBytes s
 masks_by_bytes s long bytes = λ tag. any_mask_small s tag (aes_key s.suite s.key long bytes) long

@@ -11,40 +11,40 @@ use Rattle.octets.proofs.Residue.{residue_lower}
 use Rattle.octets.proofs.Horner.{sum_is, product_first, residue_same, times_same, times_residue}
 use Rattle.gf128.specs.Polyval.{polyval_modulus, x_to_minus_128, dot}
 
--- the sum of two lists, bit by bit
+-- the sum of two polynomials, bit by bit
 abbrev added : List Bool → List Bool → List Bool
 added [] q = q
 added (a ∷ p) [] = a ∷ p
 added (a ∷ p) (b ∷ q) = plus a b ∷ added p q
 
--- it has the sums of the coefficients
+-- the coefficients of `added p q` are the sums of the coefficients of p and q
 added_at : (p q : List Bool) (k : ℕ) → coefficient (added p q) k ≡ plus (coefficient p k) (coefficient q k)
 added_at [] q k = refl
 added_at (a ∷ p) [] k = sym (plus_false (coefficient (a ∷ p) k))
 added_at (a ∷ p) (b ∷ q) zero = refl
 added_at (a ∷ p) (b ∷ q) (suc k) = added_at p q k
 
--- a list that a bit chooses, at a place
+-- a coefficient of a list that is chosen by a bit, or left out, is that of the list times the bit
 chosen_at : (b : Bool) (h : List Bool) (k : ℕ) → coefficient (cond b h []) k ≡ (b && coefficient h k)
 chosen_at true h k = refl
 chosen_at false h k = refl
 
--- lists that agree, moved up by one place
+-- lists with equal coefficients have equal coefficients when they are moved up by one place
 moved_at : (p q : List Bool) (k : ℕ) → ((i : ℕ) → coefficient p i ≡ coefficient q i)
     → coefficient (false ∷ p) k ≡ coefficient (false ∷ q) k
 moved_at p q zero same = refl
 moved_at p q (suc k) same = same k
 
--- a list r with m of degree n added if coefficient n of r is one
+-- the list r, with m of degree n added if coefficient n of r is one
 abbrev reduced_by : List Bool → ℕ → List Bool → List Bool
 reduced_by m n r = added r (cond (coefficient r n) m [])
 
--- p times h reduced by m of degree n, from the highest coefficient of p on
+-- p times h, reduced by m of degree n at each step, from the highest coefficient of p on
 abbrev times_by : List Bool → ℕ → List Bool → List Bool → List Bool
 times_by m n [] h = []
 times_by m n (b ∷ p) h = added (cond b h []) (reduced_by m n (false ∷ times_by m n p h))
 
--- it agrees with the residue of the product
+-- `times_by` has the coefficients of the residue of the product
 times_at : (m : List Bool) (n : ℕ) (p h : List Bool) (k : ℕ) → has_one m ≡ true → degree m ≡ n
     → ((i : ℕ) → degree m ≤ i → coefficient h i ≡ false)
     → coefficient (residue m (product p h)) k ≡ coefficient (times_by m n p h) k
@@ -64,18 +64,18 @@ times_at m n (b ∷ p) h k one d low =
     ∙ sym (added_at t (cond (coefficient t n) m []) k))
     ∙ sym (added_at (cond b h []) (reduced_by m n t) k)
 
--- the first n bits of a list have its coefficients below n
+-- the first n items of a list have its coefficients below n
 taken_at : (n : ℕ) (xs : List Bool) (k : ℕ) → k < n → coefficient (take n xs) k ≡ coefficient xs k
 taken_at zero xs k l = absurd (omega arith)
 taken_at (suc n) [] k l = refl
 taken_at (suc n) (x ∷ xs) zero l = refl
 taken_at (suc n) (x ∷ xs) (suc k) l = taken_at n xs k (omega arith)
 
--- the first n bits of a list are at most n bits
+-- the first n items of a list are at most n
 length-take-most : (n : ℕ) (xs : List Bool) → length (take n xs) ≤ n
 length-take-most n xs = omega (arith, length-take n xs)
 
--- the first n bits that `times_by` computes are the residue of the product
+-- the first n items of `times_by` are the residue of the product
 pub computed : (m : List Bool) (n : ℕ) (p h t : List Bool) → has_one m ≡ true → degree m ≡ n
     → length h ≤ n → length t ≤ n → take n (times_by m n p h) ≡ t
     → coefficient (residue m (product p h)) ≡ coefficient t
@@ -103,7 +103,7 @@ dot_computed a h t short long is =
     ∙ times_same m (residue m (product a h)) r x_to_minus_128 refl first
     ∙ computed m 128 r x_to_minus_128 t refl refl (omega arith) long is
 
--- if two sums so far agree, so do the dots of h with each plus the next block
+-- if two sums so far agree, so do the dots of h and each sum with the next block added
 pub dot_same : (s t x h : List Bool) → coefficient s ≡ coefficient t
     → coefficient (dot (sum s x) h) ≡ coefficient (dot (sum t x) h)
 unfolding dot

@@ -6,7 +6,7 @@ use Rattle.std.specs.List.{range_with_len}
 use Rattle.aead.specs.Sealing.{key_part, encryption_key}
 use borrow.Rule.Slice.PartMut.{put_mid}
 
--- bytes written in two parts
+-- two parts that are written one after the other into x and z are both there
 pub two_parts : (n m : ℕ) (x z y a b : List ℕ) → x ≡ a → y ≡ b → length a ≡ n → length z ≡ m
     → put_mid n m (x ++ z) y ≡ a ++ b
 two_parts n m x z y a b e f long rest =
@@ -15,7 +15,7 @@ two_parts n m x z y a b e f long rest =
     (ap (drop m) (drop_at x z n l) ∙ drop_all m z (omega arith))
     ∙ ap (λ v. a ++ v) (append-nil y ∙ f)
 
--- for a key of 16 bytes
+-- the encryption key for a key of 16 bytes consists of parts 2 and 3
 pub short_key : (key nonce : List ℕ) → length key ≡ 16
     → encryption_key key nonce ≡ key_part key nonce 2 ++ key_part key nonce 3
 unfolding encryption_key
@@ -23,7 +23,7 @@ short_key key nonce h =
     ap (λ n. flat_map (λ i. key_part key nonce (2 + i)) (range_with_len 0 (n / 8))) h
     ∙ ap (λ l. key_part key nonce 2 ++ l) (append-nil (key_part key nonce 3))
 
--- for a key of 32 bytes
+-- the encryption key for a key of 32 bytes consists of parts 2, 3, 4 and 5
 pub long_key : (key nonce : List ℕ) → length key ≡ 32
     → encryption_key key nonce
     ≡ (key_part key nonce 2 ++ key_part key nonce 3) ++ (key_part key nonce 4 ++ key_part key nonce 5)

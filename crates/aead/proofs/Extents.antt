@@ -1,4 +1,4 @@
--- The findings of a reading to its end.
+-- What is found when a reading is taken to its end.
 use Rattle.std.proofs.Common.{◌≡◌, ℕ, List, [], ◌++◌, ◌≤◌, ◌<◌, inl, inr, Bool, false, length, take, refl}
 use Rattle.std.proofs.Common.{ap, ◌∙◌, sym, arith, Option, Some, None, subst, length-append}
 use Rattle.std.specs.Io.KnownBytes.{Consumes, Appends}
@@ -11,7 +11,7 @@ use Rattle.aead.specs.Code.Passes.{HasFilledRoom, Stopped}
 use Rattle.aead.specs.Code.Extents.{IsExtent, HasPassedAll, More}
 use Rattle.aead.proofs.Findings.{front_of}
 
--- the reading ended before the length
+-- a reading that ended before the length was taken to its end
 pub all_short : {M : Type 0} (holds : M → Task → List ℕ → Type 0) (t : Task) (len n : ℕ)
     (l l' o o' : Option (List ℕ)) (k : M)
     → HasFilledRoom holds t [] len l l' o o' k n → n < len → HasPassedAll holds t len l l' o o' k (Some n)
@@ -28,7 +28,7 @@ all_short holds t len n l l' o o' k q less =
       end = λ _. q.end less;
     }
 
--- the reading came to the length, and then had more bytes or not
+-- a reading that came to the length, and then had more bytes or no more, was taken to its end or past the length
 pub all_more : {M : Type 0} (holds : M → Task → List ℕ → Type 0) (t : Task) (len n : ℕ)
     (l l' l'' o o' : Option (List ℕ)) (k : M) (extent : Option ℕ) (b : Bool)
     → (q : HasFilledRoom holds t [] len l l' o o' k n) → len ≤ n →
@@ -50,7 +50,7 @@ all_more holds t len n l l' l'' o o' k extent b q full more found =
       end = λ h. (more.none ((found size).1 h)).1;
     }
 
--- a device failed as it was asked for more
+-- if a device fails when it is asked for more, the pass has stopped
 pub all_stopped : {M : Type 0} (holds : M → Task → List ℕ → Type 0) (t : Task) (len n : ℕ)
     (l l' l'' o o' : Option (List ℕ)) (k : M) (y : List ℕ)
     → HasFilledRoom holds t [] len l l' o o' k n → Consumes l' l'' y → Stopped t [] len l l'' o o'
@@ -71,13 +71,13 @@ all_stopped holds t len n l l' l'' o o' k y q more =
 
 -- ---- if the bytes of the reading are known
 
--- an extent past the length is that of any other such list
+-- if two lists are longer than the length, they have the same extent
 extent_of : (len : ℕ) (x y : List ℕ) (e : Option ℕ) → len < length x → len < length y → IsExtent len x e
     → IsExtent len y e
 extent_of len x y None p q h = q
 extent_of len x y (Some n) p q h = absurd (omega (arith, p, h.0, h.1))
 
--- the bytes given, the bytes held and the extent are those of the reading
+-- the bytes written, the bytes held and the extent are those of the reading
 pub all_known : {M : Type 0} (holds : M → Task → List ℕ → Type 0) (t : Task) (len : ℕ) (x : List ℕ)
     (l' o o' : Option (List ℕ)) (k : M) (e : Option ℕ) → HasPassedAll holds t len (Some x) l' o o' k e →
     Appends o o' (masked (task_mask t) 0 (take len x)) × holds k t (take len x) × IsExtent len x e
@@ -96,7 +96,7 @@ all_known holds t len x (Some rest) o o' k e w =
           (subst P e w.given, subst Q e w.held, extent_of len w.bytes x _ long.0 long.1 w.is)
     ]
 
--- after a device failed, the bytes given are a beginning of the masked reading, within the length
+-- after a device failed, the bytes written are a beginning of the masked reading, within the length
 pub all_stopped_known : (t : Task) (len : ℕ) (x : List ℕ) (l' o o' : Option (List ℕ))
     → Stopped t [] len (Some x) l' o o' →
     (k : ℕ) × (k ≤ length x) × (k ≤ len) × Appends o o' (take k (masked (task_mask t) 0 x))

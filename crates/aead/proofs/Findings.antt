@@ -1,4 +1,4 @@
--- The findings of a whole pass.
+-- What is found when a whole reading has passed.
 use Rattle.std.proofs.Common.{◌≡◌, ℕ, List, [], ◌++◌, ◌≤◌, ◌<◌, ◌-◌, ◌⊎◌, inl, inr, Bool, true, false}
 use Rattle.std.proofs.Common.{length, take, drop, get_or, refl, ap, ◌∙◌, sym, arith, true≢false, Option}
 use Rattle.std.proofs.Common.{Some, None, subst, length-append}
@@ -25,7 +25,7 @@ use Rattle.aead.specs.Code.Findings.{IsFinding, MakesTag, PassesBody, HasPassedR
 use Rattle.aead.proofs.ByteMasks.{masked_small, mask_small}
 use Rattle.aead.proofs.Opens.{unmasked, no_sealing, opened_as, body_tag}
 
--- the lengths that an opening was fed are allowed
+-- the lengths that an opening has taken in are allowed
 pub opening_fits : {S H : Type 0} (made : S → Setting → List ℕ → ℕ → Type 0)
     (held : H → Setting → List ℕ → Type 0)
     (hashed : (ℕ → ℕ) → List ℕ → List ℕ) (k : Masking S H) (s : Setting) (tag body : List ℕ)
@@ -64,7 +64,7 @@ unsealed_found s tag body y len long size equal other =
 
 -- ---- a whole pass
 
--- a body that was decrypted
+-- if the body was taken and decrypted, and t is the tag of its text, the body has passed with the tag t
 pub took_masked : {S H : Type 0} (made : S → Setting → List ℕ → ℕ → Type 0)
     (held : H → Setting → List ℕ → Type 0) (hashed : (ℕ → ℕ) → List ℕ → List ℕ) (s : Setting) (tag : List ℕ)
     (len n : ℕ) (l l' o o' : Option (List ℕ)) (k : Masking S H) (t : List ℕ)
@@ -83,7 +83,7 @@ took_masked made held hashed s tag len n l l' o o' k t q is = record {
   end = q.end;
 }
 
--- a body that was authenticated, and not decrypted
+-- if the body was taken and authenticated but not decrypted, and t is the tag over it, the body has passed with the tag t
 pub took_read : {H : Type 0} (held : H → Setting → List ℕ → Type 0) (s : Setting) (tag : List ℕ) (len n : ℕ)
     (l l' : Option (List ℕ)) (k : Authenticator H) (t : List ℕ) → is_one_pass (construction_of s.suite) ≡ true
     → (construction_of s.suite ≡ ByGcm → IsKey s.key) → n ≤ len - 16
@@ -103,7 +103,7 @@ took_read held s tag len n l l' k t one key short w is = record {
   end = w.4;
 }
 
--- the reading ended within the body
+-- if the reading ended within the body, it differs
 pub whole_short : (s : Setting) (tag : List ℕ) (len n : ℕ) (l l' o o' : Option (List ℕ)) (t : List ℕ)
     → length tag ≡ 16 → PassesBody s tag len l l' o o' n t → n < len - 16 → HasPassedReading s tag len l l' o o' Differs
 whole_short s tag len n l l' o o' t size q less =
@@ -118,7 +118,7 @@ whole_short s tag len n l l' o o' t size q less =
       end = λ _. q.end less;
     }
 
--- or a reading of it failed
+-- if the reading failed while it was authenticated, the pass has stopped
 pub stopped_read : (s : Setting) (tag : List ℕ) (room : ℕ) (l l' : Option (List ℕ)) (bytes : List ℕ)
     → Consumes l l' bytes → Stopped (message_task s tag) [] room l l' None None
 stopped_read s tag room l l' bytes consumed = record {
@@ -130,7 +130,7 @@ stopped_read s tag room l l' bytes consumed = record {
   given = tt;
 }
 
--- the body came whole, and then a tail
+-- if the whole body came and then a tail, the reading has passed with the finding for both joined
 pub whole_tail : (s : Setting) (tag : List ℕ) (len n : ℕ) (l l' l'' o o' : Option (List ℕ)) (t : List ℕ)
     (b : Bool) (f : Finding) → 16 ≤ len →
     (q : PassesBody s tag len l l' o o' n t) → len - 16 ≤ n → (tail : Tail tag l' l'' b) →
@@ -147,7 +147,7 @@ whole_tail s tag len n l l' l'' o o' t b f low q full tail found =
       end = λ h. tail.end (omega (arith, length-append q.bytes tail.bytes, h, size));
     }
 
--- the body came whole, and then a device failed
+-- if the whole body came and then a device failed, the pass has stopped
 pub stopped_tail : (s : Setting) (tag : List ℕ) (len n : ℕ) (l l' l'' o o' : Option (List ℕ)) (t y : List ℕ)
     → PassesBody s tag len l l' o o' n t → Consumes l' l'' y
     → Stopped (message_task s tag) [] (len - 16) l l'' o o'
@@ -168,7 +168,7 @@ stopped_tail s tag len n l l' l'' o o' t y q more =
 
 -- ---- if the bytes of the reading are known
 
--- the reading is what was taken, or both are longer than the measure
+-- the reading is the bytes that were taken, or both are longer than the measured length
 pub front_of : (v x rest : List ℕ) (len : ℕ) → v ≡ x ++ rest → (length x ≤ len → rest ≡ [])
     → (v ≡ x) ⊎ ((len < length x) × (len < length v))
 front_of v x rest len e end =
@@ -182,7 +182,7 @@ too_long : (tag x : List ℕ) (len : ℕ) → length tag ≡ 16 → 16 ≤ len �
     → ⊥
 too_long tag x len size low more e = omega (arith, ap length e, length-drop (len - 16) x, size, low, more)
 
--- two readings longer than the measure have the same finding
+-- two readings that are longer than the measured length have the same finding
 long_found : (s : Setting) (tag x y : List ℕ) (len : ℕ) (f : Finding) → length tag ≡ 16 → 16 ≤ len
     → len < length x → len < length y
     → IsFinding s tag len x f → IsFinding s tag len y f

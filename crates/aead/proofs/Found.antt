@@ -1,4 +1,4 @@
--- A sealing is refused only with `OutOfMemory`.
+-- A valid sealing is refused only with `OutOfMemory`.
 use Rattle.std.proofs.Common.{◌≡◌, ℕ, List, ◌++◌, length, refl, arith, length-append, Result, Ok, Err}
 use Rattle.std.proofs.Common.{MatchResult}
 use Rattle.octets.specs.declared.fault.Fault.{Fault}
@@ -8,7 +8,7 @@ use Rattle.octets.specs.declared.fault.Fault.TheVariants.{OutOfMemory, StreamEnd
 use Rattle.aead.specs.Sealing.{Setting, Opened, HasOneText}
 use Rattle.aead.specs.Refusals.{OpenRefused, WholeOpenRefused}
 
--- no other refusal fits a sealing
+-- the only fault whose cause fits a valid sealing is `OutOfMemory`
 refused_only : HasOneText → (s : Setting) (sealed text : List ℕ) → Opened s sealed text → (e : Fault)
     → WholeOpenRefused s sealed e → e ≡ OutOfMemory
 refused_only law s sealed text o AadTooLong h = let fits = o.fits.aad_fits in absurd (omega arith)
@@ -36,7 +36,7 @@ pub found : {T : Type 0} (items : T → List ℕ) → HasOneText
 found items law s sealed (Ok v) m text o = (law s sealed text o).1 (items v) m
 found items law s sealed (Err e) m text o = refused_only law s sealed text o e m
 
--- no refusal of opening in place fits a sealing
+-- no fault of opening in place has a cause that fits a valid sealing
 never_refused : HasOneText → (s : Setting) (body tag text : List ℕ) → length tag ≡ 16
     → Opened s (body ++ tag) text → (e : Fault) → OpenRefused s body tag e → ⊥
 never_refused law s body tag text long o AadTooLong h = let fits = o.fits.aad_fits in omega (arith, h, fits)
@@ -55,7 +55,7 @@ never_refused law s body tag text long o Read h = h
 never_refused law s body tag text long o Write h = h
 never_refused law s body tag text long o SourceChanged h = h
 
--- so a sealing is opened in place, to its text
+-- a valid sealing is opened in place, to its text
 pub found_in_place : HasOneText → (s : Setting) (body tag opened : List ℕ) (r : Result (Unit {0}) Fault)
     → length tag ≡ 16
     → MatchResult r (λ _. Opened s (body ++ tag) opened) (λ e. OpenRefused s body tag e × (opened ≡ body))

@@ -1,6 +1,5 @@
--- A sealing of AES-128-GCM with associated data, computed by the definitions (NIST's test vectors for SP
--- 800-38D,
--- 96 bits of nonce, 128 of text, of associated data and of tag, the first).
+-- A sealing of AES-128-GCM with associated data, computed by the definitions: the first of NIST's test vectors for SP 800-38D
+-- with a nonce of 96 bits and text, associated data and tag of 128 bits each.
 use Rattle.std.proofs.Common.{◌≡◌, ℕ, suc, Bool, List, [], ◌∷◌, ◌++◌, get_or, refl, sym, ap, ap₂, ◌∙◌, inl}
 use Rattle.std.proofs.Common.{arith}
 use Rattle.octets.specs.Bits.{g}
@@ -30,7 +29,7 @@ key =
     0xc9 ∷ 0x39 ∷ 0xcc ∷ 0x13 ∷ 0x39 ∷ 0x7c ∷ 0x1d ∷ 0x37 ∷ 0xde ∷ 0x6a ∷ 0xe0 ∷ 0xe1 ∷ 0xcb ∷ 0x7c ∷ 0x42
     ∷ 0x3c ∷ []
 
--- the words of its schedule
+-- the words of the key's schedule
 unfoldable key_words : List (List ℕ)
 key_words =
     (0xc9 ∷ 0x39 ∷ 0xcc ∷ 0x13 ∷ []) ∷ (0x39 ∷ 0x7c ∷ 0x1d ∷ 0x37 ∷ []) ∷
@@ -56,12 +55,12 @@ key_words =
     (0x9d ∷ 0x63 ∷ 0xf3 ∷ 0xf7 ∷ []) ∷ (0x0e ∷ 0xf0 ∷ 0x77 ∷ 0x27 ∷ []) ∷
     (0x22 ∷ 0x13 ∷ 0x6a ∷ 0xdb ∷ []) ∷ (0xc3 ∷ 0x40 ∷ 0x0b ∷ 0xe8 ∷ []) ∷ []
 
--- as the definition makes them
+-- the schedule of the key, as the definition computes it, consists of these words
 key_schedule : schedule_by_table key ≡ key_words
 unfolding key key_words words_by_table xor_word rcon residue
 key_schedule = refl
 
--- it is a key
+-- the key is a key of AES
 key_is_key : IsKey key
 unfolding key
 key_is_key = record { length_is = inl refl; bytes = all_small key refl }
@@ -82,13 +81,13 @@ text =
     0xc3 ∷ 0xb3 ∷ 0xc4 ∷ 0x1f ∷ 0x11 ∷ 0x3a ∷ 0x31 ∷ 0xb7 ∷ 0x3d ∷ 0x9a ∷ 0x5c ∷ 0xd4 ∷ 0x32 ∷ 0x10 ∷ 0x30
     ∷ 0x69 ∷ []
 
--- its ciphertext
+-- the ciphertext of the text
 unfoldable ciphertext : List ℕ
 ciphertext =
     0x93 ∷ 0xfe ∷ 0x7d ∷ 0x9e ∷ 0x9b ∷ 0xfd ∷ 0x10 ∷ 0x34 ∷ 0x8a ∷ 0x56 ∷ 0x06 ∷ 0xe5 ∷ 0xca ∷ 0xfa ∷ 0x73
     ∷ 0x54 ∷ []
 
--- the tag
+-- the tag of the text
 unfoldable tag : List ℕ
 tag =
     0x00 ∷ 0x32 ∷ 0xa1 ∷ 0xdc ∷ 0x85 ∷ 0xf1 ∷ 0xc9 ∷ 0x78 ∷ 0x69 ∷ 0x25 ∷ 0xa2 ∷ 0xe7 ∷ 0x1d ∷ 0x82 ∷ 0x72
@@ -100,13 +99,13 @@ zero_block =
     0x00 ∷ 0x00 ∷ 0x00 ∷ 0x00 ∷ 0x00 ∷ 0x00 ∷ 0x00 ∷ 0x00 ∷ 0x00 ∷ 0x00 ∷ 0x00 ∷ 0x00 ∷ 0x00 ∷ 0x00 ∷ 0x00
     ∷ 0x00 ∷ []
 
--- its cipher
+-- the cipher of that block
 zero_ciphered : List ℕ
 zero_ciphered =
     0x30 ∷ 0x70 ∷ 0xd7 ∷ 0xac ∷ 0xed ∷ 0xe7 ∷ 0x8a ∷ 0x3f ∷ 0xb0 ∷ 0xe0 ∷ 0x21 ∷ 0x73 ∷ 0x93 ∷ 0xc5 ∷ 0xfb
     ∷ 0xc6 ∷ []
 
--- as the definition makes it
+-- the definition computes that cipher
 zero_is : cipher key zero_block ≡ zero_ciphered
 unfolding key key_words zero_block zero_ciphered cipher_computed rounds_computed add_round_key shift_rows
     sub_by_table mix_by_doubling
@@ -120,13 +119,13 @@ first_block =
     0xb3 ∷ 0xd8 ∷ 0xcc ∷ 0x01 ∷ 0x7c ∷ 0xbb ∷ 0x89 ∷ 0xb3 ∷ 0x9e ∷ 0x0f ∷ 0x67 ∷ 0xe2 ∷ 0x00 ∷ 0x00 ∷ 0x00
     ∷ 0x01 ∷ []
 
--- its cipher
+-- the cipher of J0
 first_ciphered : List ℕ
 first_ciphered =
     0x67 ∷ 0x7e ∷ 0xc2 ∷ 0x16 ∷ 0xa3 ∷ 0xa8 ∷ 0x29 ∷ 0x87 ∷ 0x14 ∷ 0xe6 ∷ 0xed ∷ 0xa6 ∷ 0x3f ∷ 0x80 ∷ 0xef
     ∷ 0xb9 ∷ []
 
--- as the definition makes it
+-- the definition computes that cipher
 first_is : cipher key first_block ≡ first_ciphered
 unfolding key key_words first_block first_ciphered cipher_computed rounds_computed add_round_key shift_rows
     sub_by_table mix_by_doubling
@@ -140,13 +139,13 @@ second_block =
     0xb3 ∷ 0xd8 ∷ 0xcc ∷ 0x01 ∷ 0x7c ∷ 0xbb ∷ 0x89 ∷ 0xb3 ∷ 0x9e ∷ 0x0f ∷ 0x67 ∷ 0xe2 ∷ 0x00 ∷ 0x00 ∷ 0x00
     ∷ 0x02 ∷ []
 
--- its cipher
+-- the cipher of inc32(J0)
 second_ciphered : List ℕ
 second_ciphered =
     0x50 ∷ 0x4d ∷ 0xb9 ∷ 0x81 ∷ 0x8a ∷ 0xc7 ∷ 0x21 ∷ 0x83 ∷ 0xb7 ∷ 0xcc ∷ 0x5a ∷ 0x31 ∷ 0xf8 ∷ 0xea ∷ 0x43
     ∷ 0x3d ∷ []
 
--- as the definition makes it
+-- the definition computes that cipher
 second_is : cipher key second_block ≡ second_ciphered
 unfolding key key_words second_block second_ciphered cipher_computed rounds_computed add_round_key shift_rows
     sub_by_table mix_by_doubling
@@ -154,17 +153,17 @@ second_is =
     let block : IsBlock second_block = record { length_is = refl; bytes = all_small second_block refl } in
     cipher_is_computed key second_block key_words key_is_key block key_schedule ∙ refl
 
--- the ciphertext is that of the text
+-- the definition computes this ciphertext of the text
 ciphertext_is : masked (gcm_mask key nonce) 0 text ≡ ciphertext
 unfolding counter_byte up_be be j0 masked nonce text ciphertext second_block second_ciphered
 ciphertext_is = ap (λ b. masked (λ i. get_or b i 0) 0 text) second_is ∙ refl
 
--- the key of GHASH
+-- the key of GHASH is the cipher of the zero block
 hash_key_is : hash_key key ≡ zero_ciphered
 unfolding hash_key zero_block
 hash_key_is = zero_is
 
--- the sum over one more block is t, if the sum so far is s, the block is x, and t is their sum times the key
+-- if the sum so far is s, the next block is x, and t is s plus x, times the key, then t is the sum over one block more
 ghash_next : (h m s x t : List ℕ) (n : ℕ) → coefficient (ghash_sum h m n) ≡ coefficient (g s)
     → block_at m n ≡ x
     → coefficient (residue ghash_modulus (product (sum (g s) (g x)) (g h))) ≡ coefficient (g t)
@@ -187,18 +186,18 @@ authenticated =
     0x00 ∷ 0x00 ∷ 0x00 ∷ 0x00 ∷ 0x00 ∷ 0x00 ∷ 0x00 ∷ 0x80 ∷ 0x00 ∷ 0x00 ∷ 0x00 ∷ 0x00 ∷ 0x00 ∷ 0x00 ∷ 0x00
     ∷ 0x80 ∷ []
 
--- the authenticated bytes as the definition joins them are these
+-- the definition joins the authenticated bytes to these
 authenticated_is : gcm_authenticated aad ciphertext ≡ authenticated
 unfolding gcm_authenticated aad ciphertext authenticated
 authenticated_is = refl
 
--- the sum over 1 block
+-- the sum over the first block
 unfoldable sum1 : List ℕ
 sum1 =
     0x0e ∷ 0x3d ∷ 0x45 ∷ 0x18 ∷ 0xe3 ∷ 0x65 ∷ 0x63 ∷ 0x7e ∷ 0xe2 ∷ 0x5b ∷ 0xf5 ∷ 0xa6 ∷ 0x33 ∷ 0x3a ∷ 0x92
     ∷ 0xcd ∷ []
 
--- block 1
+-- the first block of the authenticated bytes
 unfoldable block1 : List ℕ
 block1 =
     0x24 ∷ 0x82 ∷ 0x56 ∷ 0x02 ∷ 0xbd ∷ 0x12 ∷ 0xa9 ∷ 0x84 ∷ 0xe0 ∷ 0x09 ∷ 0x2d ∷ 0x3e ∷ 0x44 ∷ 0x8e ∷ 0xda
@@ -212,18 +211,18 @@ step1 =
     computed ghash_modulus 128 (sum (g []) (g block1)) (g zero_ciphered) (g sum1) refl refl
     (omega arith) (omega arith) refl
 
--- the sum over 1 block is sum1
+-- the definition's sum over the first block is sum1
 sum1_is : coefficient (ghash_sum zero_ciphered authenticated 1) ≡ coefficient (g sum1)
 unfolding authenticated block1 ghash_sum sum_of_first g
 sum1_is = ghash_next zero_ciphered authenticated [] block1 sum1 0 refl refl step1
 
--- the sum over 2 blocks
+-- the sum over the first 2 blocks
 unfoldable sum2 : List ℕ
 sum2 =
     0x0b ∷ 0x9f ∷ 0x6e ∷ 0xa7 ∷ 0x91 ∷ 0x3e ∷ 0x32 ∷ 0xfe ∷ 0x65 ∷ 0x72 ∷ 0x12 ∷ 0xde ∷ 0xab ∷ 0xb3 ∷ 0xd3
     ∷ 0x83 ∷ []
 
--- block 2
+-- the second block of the authenticated bytes
 unfoldable block2 : List ℕ
 block2 =
     0x93 ∷ 0xfe ∷ 0x7d ∷ 0x9e ∷ 0x9b ∷ 0xfd ∷ 0x10 ∷ 0x34 ∷ 0x8a ∷ 0x56 ∷ 0x06 ∷ 0xe5 ∷ 0xca ∷ 0xfa ∷ 0x73
@@ -237,18 +236,18 @@ step2 =
     computed ghash_modulus 128 (sum (g sum1) (g block2)) (g zero_ciphered) (g sum2) refl refl
     (omega arith) (omega arith) refl
 
--- the sum over 2 blocks is sum2
+-- the definition's sum over the first 2 blocks is sum2
 sum2_is : coefficient (ghash_sum zero_ciphered authenticated 2) ≡ coefficient (g sum2)
 unfolding authenticated block2
 sum2_is = ghash_next zero_ciphered authenticated sum1 block2 sum2 1 sum1_is refl step2
 
--- the sum over 3 blocks
+-- the sum over the first 3 blocks
 unfoldable sum3 : List ℕ
 sum3 =
     0x67 ∷ 0x4c ∷ 0x63 ∷ 0xca ∷ 0x26 ∷ 0x59 ∷ 0xe0 ∷ 0xff ∷ 0x7d ∷ 0xc3 ∷ 0x4f ∷ 0x41 ∷ 0x22 ∷ 0x02 ∷ 0x9d
     ∷ 0x64 ∷ []
 
--- block 3
+-- the third block of the authenticated bytes
 unfoldable block3 : List ℕ
 block3 =
     0x00 ∷ 0x00 ∷ 0x00 ∷ 0x00 ∷ 0x00 ∷ 0x00 ∷ 0x00 ∷ 0x80 ∷ 0x00 ∷ 0x00 ∷ 0x00 ∷ 0x00 ∷ 0x00 ∷ 0x00 ∷ 0x00
@@ -262,7 +261,7 @@ step3 =
     computed ghash_modulus 128 (sum (g sum2) (g block3)) (g zero_ciphered) (g sum3) refl refl
     (omega arith) (omega arith) refl
 
--- the sum over 3 blocks is sum3
+-- the definition's sum over the first 3 blocks is sum3
 sum3_is : coefficient (ghash_sum zero_ciphered authenticated 3) ≡ coefficient (g sum3)
 unfolding authenticated block3
 sum3_is = ghash_next zero_ciphered authenticated sum2 block3 sum3 2 sum2_is refl step3
@@ -276,12 +275,12 @@ ghash_is =
     record { is_block = block; sum_is = λ k. ap (λ f. f k) (sym sum3_is) } in
     sym ((ghash_is_the_only zero_ciphered authenticated).1 sum3 same)
 
--- XORed with the cipher of J0 it is the tag
+-- sum3 XORed with the cipher of J0 is the tag
 last_is : xor_bytes first_ciphered sum3 ≡ tag
 unfolding first_ciphered sum3 tag xor_bytes
 last_is = refl
 
--- the tag is that of the text
+-- the definition computes this tag of the text
 tag_is : tag_by ByGcm key nonce aad text ≡ tag
 unfolding tag_by tag_over_by j0 nonce first_block
 tag_is =
@@ -291,7 +290,7 @@ tag_is =
     ∙ ap (xor_bytes first_ciphered) ghash_is
     ∙ last_is
 
--- the sealing
+-- the sealing of the text is this ciphertext and this tag
 one_sealing : sealing (record { suite = Aes128Gcm; key = key; nonce = nonce; aad = aad }) text
     ≡ ciphertext ++ tag
 unfolding sealing tag_of mask mask_by

@@ -1,18 +1,18 @@
--- Pieces that are masked one after the other are the ciphertext of their text.
+-- Pieces that are masked one after the other are, joined, the ciphertext of their text.
 use Rattle.std.proofs.Common.{◌≡◌, ◌+◌, ◌++◌, length, refl, sym, ap, ap₂, ◌∙◌, arith}
 use Rattle.octets.specs.Masked.{masked}
 use Rattle.octets.proofs.Masks.{masked-append}
 use Rattle.aead.specs.Sealing.{mask_of, tag_of, sealing}
 use Rattle.aead.specs.Pieces.{PiecesMakeASealing, MaskedPiecesJoin, MaskedPiecesMakeASealing}
 
--- masked pieces are a masked text
+-- the law `MaskedPiecesJoin`
 pub under_one_tag : MaskedPiecesJoin
 under_one_tag = λ s tag text piece.
     let m = mask_of s tag in
     let from : length text ≡ 0 + length text = omega arith in
     ap (λ n. masked m 0 text ++ masked m n piece) from ∙ sym (masked-append m 0 text piece)
 
--- a masked text and the next piece, and a masked text and its tag
+-- the law `MaskedPiecesMakeASealing`
 pub joined_under : MaskedPiecesMakeASealing
 unfolding sealing
 joined_under = λ s tag text c whole. (
@@ -20,7 +20,7 @@ joined_under = λ s tag text c whole. (
   λ is. ap₂ (λ x y. x ++ y) (whole ∙ ap (λ t. masked (mask_of s t) 0 text) is) is,
 )
 
--- a ciphertext and the next piece's, and a ciphertext and its tag
+-- the law `PiecesMakeASealing`
 pub joined : PiecesMakeASealing
 joined = λ s text c whole. (
   λ piece d next. λ tag. (joined_under s tag text c (whole tag)).0 piece d (next tag),

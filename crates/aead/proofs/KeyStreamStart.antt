@@ -8,7 +8,7 @@ use Rattle.chacha.proofs.Lengths.{length-block}
 use Rattle.chacha.proofs.Masking.{block_bytes}
 use Rattle.aead.specs.Sealing.{poly_key}
 
--- its first 32 bytes are the key of the authenticator
+-- the first 32 bytes of the key stream from counter 0 on are the key of the authenticator
 pub poly_key_first : (key nonce start : List ℕ) → 64 ≤ length start
     → ((i : ℕ) → i < length start → get_or start i 0 ≡ key_stream_byte key nonce 0 i)
     → take 32 start ≡ poly_key key nonce

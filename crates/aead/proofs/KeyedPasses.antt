@@ -1,4 +1,4 @@
--- Facts about the key and the nonce of a message, and about what is authenticated of it.
+-- Facts about the key and the nonce of a message, and about the bytes of it that are authenticated.
 use Rattle.std.proofs.Common.{◌≡◌, ℕ, ◌-◌, ◌^◌, ◌≤◌, List, length, take, refl, sym, ap, subst, ◌∙◌, arith}
 use Rattle.std.proofs.Common.{◌⊎◌, inl, inr, ap₂, true, true≢false}
 use Rattle.std.proofs.lemmas.List.{take_all}
@@ -15,7 +15,7 @@ use Rattle.aead.specs.Sealing.{Setting, authentication_key, encryption_key, mask
 use Rattle.aead.specs.KeyedPasses.{setting_of, cipher_key, HasKeys, authenticated_by}
 use Rattle.aead.proofs.Opens.{body_tag, two_pass_tag}
 
--- neither construction of AES is that of ChaCha20-Poly1305: it has another limit
+-- neither construction of AES is that of ChaCha20-Poly1305, since their limits differ
 pub not_chacha : ByGcm ≡ ByChaCha → ⊥
 not_chacha e = let z : 2 ^ 36 - 32 ≡ 2 ^ 38 - 64 = ap text_limit_by e in omega (arith, z)
 
@@ -31,7 +31,7 @@ chacha_key_length Aes256Gcm e = refl
 chacha_key_length Aes128GcmSiv e = absurd (not_chacha_either e)
 chacha_key_length Aes256GcmSiv e = refl
 
--- a key with zeros after it and a nonce are those of a message
+-- if p has the key that the cipher uses, filled up with zeros, and the nonce of a message, p has the keys of that message
 pub has_keys : (p : KeyAndNonce) (s : Setting) (key : List ℕ) → key ≡ cipher_key (construction_of s.suite) s
     → length key ≡ key_length s.suite → length s.key ≡ key_length s.suite → length s.nonce ≡ 12
     → take (length key) p.key ≡ key → p.nonce ≡ s.nonce → HasKeys p s
@@ -41,7 +41,7 @@ has_keys p s key is long key_fits nonce_fits padded nonce = record {
   nonce_is = nonce;
 }
 
--- they are whatever the associated data
+-- the key that the cipher uses does not depend on the associated data
 same_cipher_key : (by : Construction) (s : Setting) (aad : List ℕ)
     → cipher_key by s ≡ cipher_key by (setting_of s.suite s.key s.nonce aad)
 same_cipher_key ByChaCha s aad = refl
@@ -56,7 +56,7 @@ has_keys_with p s aad h = record {
   nonce_is = h.nonce_is;
 }
 
--- the key of the cipher of a message, by construction
+-- if p has the keys of a message, its key is the one that the cipher of the construction uses
 pub chacha_key : (p : KeyAndNonce) (s : Setting) → construction_of s.suite ≡ ByChaCha → length p.key ≤ 32
     → HasKeys p s → p.key ≡ s.key
 chacha_key p s by long h =
@@ -71,26 +71,26 @@ pub siv_key : (p : KeyAndNonce) (s : Setting) → construction_of s.suite ≡ By
     → take (key_length s.suite) p.key ≡ encryption_key s.key s.nonce
 siv_key p s by h = h.key_is ∙ ap (λ (x : Construction). cipher_key x s) by
 
--- what is authenticated of a ciphertext has its length
+-- the authenticated bytes of a ciphertext are as long as the ciphertext
 pub length_authenticated : (by : Construction) (mask : ℕ → ℕ) (body : List ℕ)
     → length (authenticated_by by mask body) ≡ length body
 length_authenticated ByChaCha mask body = refl
 length_authenticated ByGcm mask body = refl
 length_authenticated ByGcmSiv mask body = length-masked mask 0 body
 
--- if the tag is over the ciphertext, it is what is authenticated
+-- if the tag is over the ciphertext, the authenticated bytes are the ciphertext
 pub one_pass_authenticated : (by : Construction) (mask : ℕ → ℕ) (body : List ℕ) → is_one_pass by ≡ true
     → authenticated_by by mask body ≡ body
 one_pass_authenticated ByChaCha mask body one = refl
 one_pass_authenticated ByGcm mask body one = refl
 one_pass_authenticated ByGcmSiv mask body one = absurd (true≢false (sym one))
 
--- under AES-GCM-SIV, what is authenticated of a ciphertext is its text
+-- under AES-GCM-SIV, the authenticated bytes of a ciphertext are its text
 pub siv_authenticated : (by : Construction) (mask : ℕ → ℕ) (body : List ℕ) → by ≡ ByGcmSiv
     → authenticated_by by mask body ≡ masked mask 0 body
 siv_authenticated by mask body is = ap (λ (x : Construction). authenticated_by x mask body) is
 
--- the tag over what is authenticated of a ciphertext is that of its text
+-- the tag over the authenticated bytes of a ciphertext is the tag of its text
 tag_authenticated_by : (by : Construction) (s : Setting) (tag body : List ℕ) → construction_of s.suite ≡ by
     → tag_over s.suite s.key s.nonce s.aad (authenticated_by by (mask_of s tag) body)
     ≡ tag_of s (masked (mask_of s tag) 0 body)
@@ -104,19 +104,19 @@ pub tag_authenticated : (s : Setting) (tag body : List ℕ)
     ≡ tag_of s (masked (mask_of s tag) 0 body)
 tag_authenticated s tag body = tag_authenticated_by (construction_of s.suite) s tag body refl
 
--- the suites of AES-GCM
+-- the suites of AES-GCM are of the construction GCM
 pub by_gcm : (suite : Suite) → (suite ≡ Aes128Gcm) ⊎ ((suite ≡ Aes192Gcm) ⊎ (suite ≡ Aes256Gcm))
     → construction_of suite ≡ ByGcm
 by_gcm suite (inl e) = ap construction_of e
 by_gcm suite (inr (inl e)) = ap construction_of e
 by_gcm suite (inr (inr e)) = ap construction_of e
 
--- the suites of AES-GCM-SIV
+-- the suites of AES-GCM-SIV are of the construction GCM-SIV
 pub by_siv : (suite : Suite) → (suite ≡ Aes128GcmSiv) ⊎ (suite ≡ Aes256GcmSiv) → construction_of suite ≡ ByGcmSiv
 by_siv suite (inl e) = ap construction_of e
 by_siv suite (inr e) = ap construction_of e
 
--- the derived keys of a message serve under its own key and nonce
+-- a key that serves POLYVAL under one key and nonce serves it under an equal key and nonce
 pub serves_under : (own_key own_nonce key nonce hash : List ℕ) → own_key ≡ key → own_nonce ≡ nonce
     → Serves Reversed (authentication_key own_key own_nonce) hash → Serves Reversed (authentication_key key nonce) hash
 serves_under own_key own_nonce key nonce hash k n serves =

@@ -14,33 +14,33 @@ use Rattle.aead.proofs.Opens.{same_mask}
 
 -- ---- a sealing in one reading
 
--- under a suite of one pass, a ciphertext by the mask of one tag is that by the mask of each
+-- in a suite of one pass, numbers that hold a ciphertext masked for one tag hold it for every tag
 pub any_tag : (n : PassState) (s : Setting) (some text : List ℕ) → is_one_pass (construction_of s.suite) ≡ true
     → HoldsNumbers n s (masked (mask_of s some) 0 text) → HoldsState n s text
 any_tag n s some text one h =
     λ tag. subst (λ (f : ℕ → ℕ). HoldsNumbers n s (masked f 0 text)) (same_mask s some tag one) h
 
--- numbers of no bytes hold the empty text
+-- numbers that hold no bytes hold the empty text
 pub empty_text : (n : PassState) (s : Setting) → HoldsNumbers n s [] → HoldsState n s []
 empty_text n s h = λ tag. subst (HoldsNumbers n s) (sym (none_leaves (mask_of s tag))) h
 
--- the bytes that were counted are those of the text
+-- the count of bytes is the length of the text
 pub text_length : (n : PassState) (s : Setting) (text : List ℕ) → HoldsState n s text → n.length ≡ length text
 text_length n s text h = (h []).length_is ∙ length-masked (mask_of s []) 0 text
 
 -- ---- an opening
 
--- of no bytes nothing is authenticated
+-- the authenticated bytes of the empty ciphertext are none
 none_authenticated : (by : Construction) (f : ℕ → ℕ) → authenticated_by by f [] ≡ []
 none_authenticated ByChaCha f = refl
 none_authenticated ByGcm f = refl
 none_authenticated ByGcmSiv f = none_leaves f
 
--- numbers of no bytes have taken in the empty ciphertext
+-- numbers that hold no bytes have taken in the empty ciphertext
 pub taken_none : (n : PassState) (s : Setting) (tag : List ℕ) → HoldsNumbers n s [] → HasTakenIn n s tag []
 taken_none n s tag h = subst (HoldsNumbers n s) (sym (none_authenticated (construction_of s.suite) (mask_of s tag))) h
 
--- the bytes that were counted are those of the ciphertext, and they fit
+-- the count of bytes is the length of the ciphertext
 pub taken_length : (n : PassState) (s : Setting) (tag body : List ℕ) → HasTakenIn n s tag body → n.length ≡ length body
 taken_length n s tag body h = h.length_is ∙ length_authenticated (construction_of s.suite) (mask_of s tag) body
 

@@ -1,4 +1,4 @@
--- A piece masked and authenticated.
+-- A piece is masked and authenticated, in either order.
 use Rattle.std.proofs.Common.{◌≡◌, ℕ, List, ◌++◌, length, subst, sym, ap, ◌∙◌, arith, length-append, zero-add}
 use Rattle.octets.specs.Masked.{masked}
 use Rattle.octets.proofs.Masks.{length-masked, masked-append}
@@ -10,7 +10,7 @@ use Rattle.octets.specs.declared.work.Order.{Order}
 use Rattle.octets.specs.declared.work.Order.TheVariants.{MaskFirst, HashFirst}
 use Rattle.aead.specs.Code.Masks.{Masks, Takes, MasksAndHashes, as_it_comes, as_it_leaves, hashed_by}
 
--- as it comes
+-- if a piece is masked, and the piece as it comes in is hashed, it is masked and authenticated
 pub hash_first : {S H : Type 0} (made : S → Setting → List ℕ → ℕ → Type 0)
     (held : H → Setting → List ℕ → Type 0) (m m' : S) (a a' : Authenticator H) (was now : List ℕ)
     → Masks made m m' was now → Takes held a a' was
@@ -20,7 +20,7 @@ hash_first made held m m' a a' was now masks takes = λ s tag fed h k fits.
     let next = masks s tag (length fed) h fits in
     (subst M (sym (length-append fed was)) next.0, takes s fed k fits, next.1)
 
--- as it leaves
+-- if a piece is masked, and the piece as it leaves is hashed, it is masked and authenticated
 pub mask_first : {S H : Type 0} (made : S → Setting → List ℕ → ℕ → Type 0)
     (held : H → Setting → List ℕ → Type 0) (m m' : S) (a a' : Authenticator H) (was now : List ℕ)
     → Masks made m m' was now → Takes held a a' now
@@ -40,7 +40,7 @@ mask_first made held m m' a a' was now masks takes = λ s tag fed h k fits.
       next.1,
     )
 
--- in either order
+-- if a piece is masked and hashed in the given order, it is masked and authenticated
 pub in_order : {S H : Type 0} (made : S → Setting → List ℕ → ℕ → Type 0)
     (held : H → Setting → List ℕ → Type 0) (o : Order) (m m' : S) (a a' : Authenticator H) (was now : List ℕ)
     → Masks made m m' was now → Takes held a a' (hashed_of o was now)

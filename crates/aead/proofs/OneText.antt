@@ -1,4 +1,4 @@
--- A sealing has one text.
+-- A sealing has only one text.
 use Rattle.std.proofs.Common.{◌≡◌, ℕ, ◌+◌, ◌-◌, ◌*◌, ◌%◌, ◌/◌, false, List, [], ◌++◌, take, drop, get_or}
 use Rattle.std.proofs.Common.{length, map, bit_xor, refl, sym, ap, ap₂, ◌∙◌, arith, length-append}
 use Rattle.std.specs.List.{range_with_len}
@@ -20,26 +20,26 @@ use Rattle.aead.specs.Sealing.{HasOneText}
 
 -- ---- a tag has 16 bytes
 
--- a state with a round key added
+-- a state to which a round key is added has 16 bytes
 length-add_round_key : (ws : List (List ℕ)) (n : ℕ) (s : List ℕ) → length (add_round_key ws n s) ≡ 16
 unfolding add_round_key
 length-add_round_key ws n s =
     length-map-range_with_len
     (λ i. bit_xor (at s (i % 4) (i / 4)) (get_or (get_or ws (4 * n + i / 4) []) (i % 4) 0)) 0 16
 
--- a block of the cipher
+-- a block of the cipher has 16 bytes
 pub length-cipher : (key b : List ℕ) → length (cipher key b) ≡ 16
 unfolding cipher
 length-cipher key b =
     length-add_round_key (schedule key) (round_count key)
     (shift_rows (sub_bytes (rounds (schedule key) (round_count key - 1) b)))
 
--- a tag of Poly1305
+-- a tag of Poly1305 has 16 bytes
 length-poly1305 : (key m : List ℕ) → length (poly1305 key m) ≡ 16
 unfolding poly1305
 length-poly1305 key m = refl
 
--- a block of GHASH
+-- a block of GHASH has 16 bytes
 length-ghash : (h m : List ℕ) → length (ghash h m) ≡ 16
 unfolding ghash bytes_of_g
 length-ghash h m =
@@ -47,7 +47,7 @@ length-ghash h m =
     (λ i. number (map (λ j. get_or (ghash_sum h m (length m / 16)) (8 * i + (7 - j)) false)
     (range_with_len 0 8))) 0 16
 
--- the tag of what is authenticated
+-- the tag of a construction over the authenticated bytes has 16 bytes
 length-tag_over_by : (by : Construction) (key nonce aad c : List ℕ)
     → length (tag_over_by by key nonce aad c) ≡ 16
 unfolding tag_over_by
@@ -59,7 +59,7 @@ length-tag_over_by ByGcm key nonce aad c =
     ∙ length-cipher key (j0 nonce)
 length-tag_over_by ByGcmSiv key nonce aad c = length-cipher (encryption_key key nonce) _
 
--- the tag of a text, by construction
+-- the tag of a text under a construction has 16 bytes
 length-tag_by : (by : Construction) (key nonce aad text : List ℕ) → length (tag_by by key nonce aad text) ≡ 16
 unfolding tag_by
 length-tag_by ByChaCha key nonce aad text =
@@ -68,18 +68,18 @@ length-tag_by ByGcm key nonce aad text =
     length-tag_over_by ByGcm key nonce aad (masked (gcm_mask key nonce) 0 text)
 length-tag_by ByGcmSiv key nonce aad text = length-tag_over_by ByGcmSiv key nonce aad text
 
--- and by suite
+-- the tag of a text in a setting has 16 bytes
 pub length-tag_of : (s : Setting) (text : List ℕ) → length (tag_of s text) ≡ 16
 unfolding tag_of
 length-tag_of s text = length-tag_by (construction_of s.suite) s.key s.nonce s.aad text
 
 -- ---- two joined lists are equal only where their parts of one length are
 
--- the first parts
+-- if two joined lists are equal, and their first parts have one length, the first parts are equal
 pub same_front : (a b x y : List ℕ) → length a ≡ length b → a ++ x ≡ b ++ y → a ≡ b
 same_front a b x y l e = sym (take_at a x (length b) l) ∙ ap (take (length b)) e ∙ take_at b y (length b) refl
 
--- the second parts
+-- if two joined lists are equal, and their first parts have one length, the second parts are equal
 pub same_back : (a b x y : List ℕ) → length a ≡ length b → a ++ x ≡ b ++ y → x ≡ y
 same_back a b x y l e = sym (drop_at a x (length b) l) ∙ ap (drop (length b)) e ∙ drop_at b y (length b) refl
 
@@ -111,7 +111,7 @@ sealing_one_to_one s text other e =
     ∙ ap (λ t. masked (mask s.suite s.key s.nonce t) 0 (masked h 0 other)) tags
     ∙ masked_twice h 0 other
 
--- both
+-- the law `HasOneText`
 pub one_text : HasOneText
 one_text s sealed text o = (
   ap length o.is ∙ length-sealing s text,

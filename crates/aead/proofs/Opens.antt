@@ -1,4 +1,4 @@
--- Sealing and opening by the parts of a cipher.
+-- Sealing and opening in terms of the mask and the tag.
 use Rattle.std.proofs.Common.{◌≡◌, ℕ, ◌+◌, ◌<◌, true, false, List, ◌++◌, get_or, length}
 use Rattle.std.proofs.Common.{refl, sym, ap, ap₂}
 use Rattle.std.proofs.Common.{◌∙◌, arith, true≢false, length-append}
@@ -9,11 +9,11 @@ use Rattle.aead.specs.Sealing.{Setting, mask_by, mask, tag_over_by, tag_over, ta
 use Rattle.aead.specs.Sealing.{Opened, IsNoSealing}
 use Rattle.aead.proofs.OneText.{length-sealing, same_front, same_back}
 
--- the text that a body under a tag would open to
+-- the text that a body decrypts to under a tag
 abbrev pub unmasked : Setting → List ℕ → List ℕ → List ℕ
 unmasked s tag body = masked (mask s.suite s.key s.nonce tag) 0 body
 
--- a body and a tag are the sealing of the text that the body would open to, if it has the tag
+-- a body and a tag are the sealing of the text that the body decrypts to, if that text has the tag
 pub sealed_if : (s : Setting) (body tag : List ℕ) → tag_of s (unmasked s tag body) ≡ tag
     → body ++ tag ≡ sealing s (unmasked s tag body)
 unfolding sealing
@@ -23,7 +23,7 @@ sealed_if s body tag e =
     ∙ ap (λ t. masked (mask s.suite s.key s.nonce t) 0 (unmasked s tag body)) (sym e))
     (sym e)
 
--- a body and a tag are the sealing of a text only if the body would open to it and it has the tag
+-- a body and a tag are the sealing of a text only if the body decrypts to it and it has the tag
 pub sealed_only_if : (s : Setting) (body tag text : List ℕ) → length tag ≡ 16 → body ++ tag ≡ sealing s text
     → (tag_of s (unmasked s tag body) ≡ tag) × (text ≡ unmasked s tag body)
 unfolding sealing
@@ -49,7 +49,7 @@ same_mask_by ByChaCha key nonce tag other h = refl
 same_mask_by ByGcm key nonce tag other h = refl
 same_mask_by ByGcmSiv key nonce tag other h = absurd (true≢false (sym h))
 
--- if the tag is over the ciphertext, it is over the one that any tag's mask makes
+-- if the tag is over the ciphertext, it is over the ciphertext that the mask for any tag gives
 one_pass_tag_by : (by : Construction) (key nonce aad tag text : List ℕ) → is_one_pass by ≡ true
     → tag_by by key nonce aad text ≡ tag_over_by by key nonce aad (masked (mask_by by key nonce tag) 0 text)
 unfolding tag_by mask_by
@@ -71,7 +71,7 @@ pub same_mask : (s : Setting) (tag other : List ℕ) → is_one_pass (constructi
 unfolding mask
 same_mask s tag other one = same_mask_by (construction_of s.suite) s.key s.nonce tag other one
 
--- if the tag of a suite is over the ciphertext, it is over the one that any tag's mask makes
+-- if the tag of a suite is over the ciphertext, it is over the ciphertext that the mask for any tag gives
 pub one_pass_tag : (s : Setting) (tag text : List ℕ) → is_one_pass (construction_of s.suite) ≡ true
     → tag_of s text ≡ tag_over s.suite s.key s.nonce s.aad (masked (mask s.suite s.key s.nonce tag) 0 text)
 unfolding tag_of tag_over mask
@@ -83,7 +83,7 @@ pub two_pass_tag : (s : Setting) (text : List ℕ) → is_one_pass (construction
 unfolding tag_of tag_over
 two_pass_tag s text two = two_pass_tag_by (construction_of s.suite) s.key s.nonce s.aad text two
 
--- if the tag is over the ciphertext, the tag of the text that a body would open to is the tag over the body
+-- if the tag is over the ciphertext, the tag of the text that a body decrypts to is the tag over the body
 pub body_tag : (s : Setting) (tag body : List ℕ) → is_one_pass (construction_of s.suite) ≡ true
     → tag_of s (unmasked s tag body) ≡ tag_over s.suite s.key s.nonce s.aad body
 body_tag s tag body one =
@@ -121,7 +121,7 @@ seals_two_pass s text out tag two fits bytes f e =
       is = ap₂ (λ b t. b ++ t) (e ∙ ap (λ t. masked (mask s.suite s.key s.nonce t) 0 text) tag_is) tag_is;
     }
 
--- a body and a tag that its text does not have are no sealing
+-- a body and a tag that is not the tag of its text are not a valid sealing
 pub no_sealing : (s : Setting) (body tag : List ℕ) → length tag ≡ 16
     → (tag_of s (unmasked s tag body) ≡ tag → ⊥) → IsNoSealing s (body ++ tag)
 no_sealing s body tag long other text o = other (sealed_only_if s body tag text long o.is).0

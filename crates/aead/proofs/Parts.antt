@@ -1,4 +1,4 @@
--- The text of a ciphertext taken in part by part.
+-- The text of a ciphertext that is taken in part by part.
 use Rattle.std.proofs.Common.{◌≡◌, ℕ, ◌+◌, ◌-◌, ◌≤◌, List, [], ◌++◌, length, take, drop, refl, sym, ap, ap₂, subst, ◌∙◌}
 use Rattle.std.proofs.Common.{arith, length-append}
 use Rattle.std.proofs.Math.Seq.{drop-append-add, drop-append_seam, take-append-add, take-append_seam, drop-drop, take-add}
@@ -11,7 +11,7 @@ use Rattle.aead.specs.Code.States.{HoldsAuthenticator}
 use Rattle.aead.specs.Code.Masks.{Masks, Takes, TakesText}
 use Rattle.aead.specs.declared.authenticator.Authenticator.{Authenticator}
 
--- no text is taken in
+-- the text of no bytes is taken in by doing nothing
 pub no_text : {S H : Type 0} (made : S → Setting → List ℕ → ℕ → Type 0) (held : H → Setting → List ℕ → Type 0)
     (m : S) (a : Authenticator H) → TakesText made held m m a a []
 no_text made held m a = λ s tag fed h k room.
@@ -20,7 +20,7 @@ no_text made held m a = λ s tag fed h k room.
       subst (λ x. HoldsAuthenticator held a s (masked (mask_of s tag) 0 x)) same k,
     )
 
--- taking in the text of two parts one after the other takes in that of both joined
+-- if the texts of two parts are taken in one after the other, the text of both joined is taken in
 pub more_text : {S H : Type 0} (made : S → Setting → List ℕ → ℕ → Type 0) (held : H → Setting → List ℕ → Type 0)
     (m n o : S) (a b c : Authenticator H) (x y both : List ℕ) → TakesText made held m n a b x
     → TakesText made held n o b c y → x ++ y ≡ both → TakesText made held m o a c both

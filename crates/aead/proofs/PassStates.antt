@@ -8,7 +8,7 @@ use Rattle.aead.specs.Suites.{Construction, ByChaCha, ByGcm, ByGcmSiv}
 use Rattle.aead.specs.Sealing.{Setting}
 use Rattle.aead.specs.PassStates.{IsSumOf}
 
--- the sums of the hashes over no bytes
+-- the sum of each hash over no bytes is 0
 pub no_sum : (by : Construction) (s : Setting) → IsSumOf by 0 0 s []
 unfolding block_sum sum_below
 no_sum ByChaCha s = refl

@@ -1,4 +1,4 @@
--- Pieces of a pass, one after another.
+-- Pieces of a pass, one after the other.
 use Rattle.std.proofs.Common.{◌≡◌, ℕ, zero, suc, List, [], ◌∷◌, ◌++◌, ◌≤◌, ◌<◌, ◌+◌, length, take, get_or}
 use Rattle.std.proofs.Common.{ap, ◌∙◌, sym, arith, append_assoc, Option, subst, length-append}
 use Rattle.std.proofs.lemmas.List.{append-nil}
@@ -17,7 +17,7 @@ small-append [] y p q i = q i
 small-append (b ∷ x) y p q zero = p 0
 small-append (b ∷ x) y p q (suc i) = small-append x y (λ j. p (suc j)) q i
 
--- a state that is fed nothing more has passed no bytes
+-- a state that takes in nothing more has passed no bytes
 pub passed_none : {M : Type 0} (holds : M → Task → List ℕ → Type 0) (t : Task) (fed : List ℕ)
     (l o : Option (List ℕ)) (k : M) → holds k t fed → HasPassed holds t fed l l o o k []
 unfolding masked
@@ -76,7 +76,7 @@ stopped_more holds t fed x room room' l l' l'' o o' o'' k p q fits =
       given = subst Q (sym texts) (appends_more o o' o'' _ _ p.given q.given);
     }
 
--- a piece that was the last
+-- if the piece after x does not fill its room, x and that piece are all that the reading had left
 pub far_more : {M : Type 0} (holds : M → Task → List ℕ → Type 0) (t : Task) (x : List ℕ)
     (room room' n done : ℕ) (l l' l'' o o' o'' : Option (List ℕ)) (k k' : M) →
     HasPassed holds t [] l l' o o' k x → length x ≡ done → HasFilledRoom holds t x room l' l'' o' o'' k' n → n < room
@@ -91,7 +91,7 @@ far_more holds t x room room' n done l l' l'' o o' o'' k k' p size q less fits =
       end = λ _. q.end less;
     }
 
--- a give that stopped
+-- if only the first bytes of a masked piece were written, the pass has stopped there
 pub stopped : (t : Task) (fed bytes out : List ℕ) (room n : ℕ) (l l' o o' : Option (List ℕ))
     → Consumes l l' bytes → length bytes ≤ room →
     out ≡ masked (task_mask t) (length fed) bytes → n ≤ length out → Appends o o' (take n out)

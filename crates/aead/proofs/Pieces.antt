@@ -1,4 +1,4 @@
--- Pieces that cuts fix.
+-- Pieces into which cuts divide a body.
 use Rattle.std.proofs.Common.{◌≡◌, ℕ, suc, ◌+◌, ◌-◌, ◌<◌, ◌≤◌, Bool, false, cond, List, [], ◌∷◌, ◌++◌}
 use Rattle.std.proofs.Common.{length, map, take, drop, get_or, refl, sym, ap, ap₂, ◌∙◌, subst, arith}
 use Rattle.std.proofs.Common.{append_assoc, length-drop, drop-cons, take_all}
@@ -12,7 +12,7 @@ use Rattle.aead.specs.Sealing.{Setting, Opened}
 use Rattle.aead.specs.Cuts.{Rise, piece_lengths, IsCutSealing}
 use Rattle.aead.specs.Code.CutBytes.{AreCut}
 
--- the pieces of a body before a place, after the first i cuts were taken into account
+-- the pieces of a body up to `place`, after the first i cuts were taken into account
 pub record CutSoFar (body cuts : List ℕ) (i place : ℕ) (pieces : List (List ℕ)) : Type 0 where
   pub joined : concat pieces ≡ take place body
   pub lengths : map length pieces ++ piece_lengths (length body) place (drop i cuts)
@@ -24,18 +24,18 @@ pub record CutSoFar (body cuts : List ℕ) (i place : ℕ) (pieces : List (List 
 pub starts : (body cuts : List ℕ) → Rise 0 cuts → CutSoFar body cuts 0 0 []
 starts body cuts h = record { joined = refl; lengths = refl; rising = h; within = omega arith }
 
--- pieces and one more join to the joined pieces followed by that one
+-- pieces and one more, joined, are the joined pieces followed by that one
 joined_more : (pieces : List (List ℕ)) (piece : List ℕ)
     → concat (pieces ++ piece ∷ []) ≡ concat pieces ++ piece
 joined_more pieces piece = concat-append pieces (piece ∷ []) ∙ ap (λ x. concat pieces ++ x) (append-nil piece)
 
--- a list up to a later place
+-- a list up to a place and the items up to a later place are the list up to the later place
 longer : (body : List ℕ) (a b : ℕ) → a ≤ b → take a body ++ take (b - a) (drop a body) ≡ take b body
 longer body a b l =
     let sum : a + (b - a) ≡ b = omega arith in
     sym (take-add a (b - a) body) ∙ ap (λ n. take n body) sum
 
--- the cut at a place, and the others
+-- the cuts from cut i on are cut i and the cuts after it
 cut_at : (cuts : List ℕ) (i : ℕ) → i < length cuts → drop i cuts ≡ get_or cuts i 0 ∷ drop (i + 1) cuts
 cut_at cuts i l = let one : suc i ≡ i + 1 = omega arith in
     drop-cons cuts i 0 l ∙ ap (λ j. get_or cuts i 0 ∷ drop j cuts) one
@@ -44,11 +44,11 @@ cut_at cuts i l = let one : suc i ≡ i + 1 = omega arith in
 no_more : (m n : ℕ) → n < m → nat_le m n ≡ false
 no_more m n h = grind arith
 
--- the lengths of the pieces after a place, by whether the next cut fits
+-- the lengths of the pieces after a place; the bit says whether the next cut is within the body
 abbrev by_fit : ℕ → ℕ → ℕ → List ℕ → Bool → List ℕ
 by_fit n place c rest b = cond b ((c - place) ∷ piece_lengths n c rest) (piece_lengths n place rest)
 
--- a cut at which a piece ends
+-- if the next cut is within the body, one more piece ends there
 pub taken : (body cuts : List ℕ) (i place : ℕ) (pieces : List (List ℕ)) → i < length cuts
     → get_or cuts i 0 ≤ length body → CutSoFar body cuts i place pieces
     → CutSoFar body cuts (i + 1) (get_or cuts i 0)
@@ -77,12 +77,12 @@ taken body cuts i place pieces l fits h =
       within = fits;
     }
 
--- places that rise above another rise above one before it
+-- if cuts rise above b, they rise above every a that is at most b
 rise_from : (a b : ℕ) (cuts : List ℕ) → a ≤ b → Rise b cuts → Rise a cuts
 rise_from a b [] l h = tt
 rise_from a b (c ∷ cuts) l h = (omega (arith, h.0), h.1)
 
--- a cut past the end
+-- if the next cut is past the end of the body, the pieces stay as they are
 pub passed : (body cuts : List ℕ) (i place : ℕ) (pieces : List (List ℕ)) → i < length cuts
     → length body < get_or cuts i 0 → CutSoFar body cuts i place pieces
     → CutSoFar body cuts (i + 1) place pieces
@@ -121,14 +121,14 @@ completed body cuts i place pieces all l h made =
           ∙ ap (λ m. map length pieces ++ m ∷ []) (length-drop place body) ∙ before;
     }
 
--- equal places and pieces are as far
+-- `CutSoFar` holds of equal places and pieces
 pub same_so_far : (body cuts : List ℕ) (i p q : ℕ) (ps qs : List (List ℕ)) → p ≡ q → ps ≡ qs
     → CutSoFar body cuts i q qs → CutSoFar body cuts i p ps
 same_so_far body cuts i p q ps qs f g h =
     subst (λ (x : ℕ). CutSoFar body cuts i x ps) (sym f)
     (subst (λ (x : List (List ℕ)). CutSoFar body cuts i q x) (sym g) h)
 
--- the pieces of the ciphertext and the tag are a sealing with these cuts
+-- the pieces of the ciphertext, and then the tag, are a sealing with these cuts
 pub cut_sealing : (s : Setting) (text cuts sealed : List ℕ) (pieces all : List (List ℕ))
     → Opened s sealed text → length sealed ≡ length text + 16
     → AreCut (take (length text) sealed) cuts pieces → all ≡ pieces ++ drop (length text) sealed ∷ []

@@ -1,4 +1,4 @@
--- If the write reading repeats the verify reading, the bytes that may be given repeat the text.
+-- If the write reading repeats the verify reading, the bytes that may be written repeat the text.
 use Rattle.std.proofs.Common.{◌≡◌, ℕ, zero, suc, List, [], ◌∷◌, ◌≤◌, ◌<◌, ◌+◌, ◌-◌, length, take, get_or, ap}
 use Rattle.std.proofs.Common.{ap₂, ◌∙◌, sym, arith, bit_xor}
 use Rattle.std.proofs.lemmas.List.{get_or-take, length-take, take-append-drop, length-drop}
@@ -11,7 +11,7 @@ use Rattle.aead.proofs.OneText.{length-sealing}
 use Rattle.aead.proofs.Opens.{sealed_only_if}
 use Rattle.aead.proofs.StreamExits.{shown_is}
 
--- one place of a masked list
+-- item i of a masked list is item i of the list, XORed with its byte of the mask
 get_or-masked : (f : ℕ → ℕ) (at : ℕ) (xs : List ℕ) (i : ℕ) → i < length xs
     → get_or (masked f at xs) i 0 ≡ bit_xor (get_or xs i 0) (f (at + i))
 unfolding masked

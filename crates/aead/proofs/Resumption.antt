@@ -1,4 +1,4 @@
--- Facts about numbers from which a pass goes on.
+-- Facts about stored numbers with which a pass is resumed.
 use Rattle.std.proofs.Common.{◌≡◌, ℕ, ◌++◌, ◌∙◌, List, [], take, drop, sym, ap₂, subst, arith}
 use Rattle.std.proofs.lemmas.List.{take-append-drop}
 use Rattle.octets.specs.Bytes.{IsBlock}
@@ -15,17 +15,17 @@ use Rattle.aead.specs.Sealing.{Setting, authentication_key}
 use Rattle.aead.specs.PassStates.{IsHashKey, HoldsNumbers, HoldsNone, HasHashKey}
 use Rattle.aead.specs.KeyedPasses.{setting_of, BeginRefused, ResumeRefused}
 
--- one block alone is the key of a multiplier that serves POLYVAL under a key
+-- only one block is the key of a multiplier that serves POLYVAL under a key
 one_reversed : (h k l : List ℕ) → IsBlock k → IsBlock l → Serves Reversed h k → Serves Reversed h l → k ≡ l
 unfolding IsMulX
 one_reversed h k l kb lb sk sl = g_injective 16 k l kb lb (sl.1.1 (g k) sk.1.0)
 
--- two lists with the same first 16 elements and the same others are one
+-- two lists with equal first 16 items and equal other items are equal
 pub halves : (k l : List ℕ) → take 16 k ≡ take 16 l → drop 16 k ≡ drop 16 l → k ≡ l
 halves k l t d =
     sym (take-append-drop 16 k) ∙ ap₂ (λ (x y : List ℕ). x ++ y) t d ∙ take-append-drop 16 l
 
--- the keys of the hash of a message are one list
+-- a message has only one hash key
 one_hash_key : (by : Construction) (k l : List ℕ) (s : Setting) → IsBlock (take 16 k) → IsBlock (take 16 l)
     → IsHashKey by k s → IsHashKey by l s → k ≡ l
 one_hash_key ByChaCha k l s kb lb x y = x ∙ sym y
@@ -33,14 +33,14 @@ one_hash_key ByGcm k l s kb lb x y = halves k l (x.0 ∙ sym y.0) (x.1 ∙ sym y
 one_hash_key ByGcmSiv k l s kb lb x y =
     halves k l (one_reversed (authentication_key s.key s.nonce) (take 16 k) (take 16 l) kb lb x.0 y.0) (x.1 ∙ sym y.1)
 
--- they do not depend on the associated data
+-- the hash key does not depend on the associated data
 other_aad : (by : Construction) (k : List ℕ) (suite : Suite) (key nonce aad other : List ℕ)
     → IsHashKey by k (setting_of suite key nonce aad) → IsHashKey by k (setting_of suite key nonce other)
 other_aad ByChaCha k suite key nonce aad other h = h
 other_aad ByGcm k suite key nonce aad other h = h
 other_aad ByGcmSiv k suite key nonce aad other h = h
 
--- with the keys of the hash of a pass that has just begun, numbers have those of its messages
+-- numbers with the hash key of a pass that has just begun have the hash key of its messages
 pub has_key : (n fresh : PassState) (suite : Suite) (key nonce bytes : List ℕ)
     → HoldsNumbers fresh (setting_of suite key nonce []) bytes → n.hash_key ≡ fresh.hash_key
     → HasHashKey n (setting_of suite key nonce)
@@ -48,7 +48,7 @@ has_key n fresh suite key nonce bytes h e = λ aad.
     other_aad (construction_of suite) n.hash_key suite key nonce [] aad
     (subst (λ (k : List ℕ). IsHashKey (construction_of suite) k (setting_of suite key nonce [])) (sym e) h.hash_key_is)
 
--- with others they hold no bytes
+-- numbers with any other hash key are not the state of any of its messages
 pub holds_none : (n fresh : PassState) (suite : Suite) (key nonce some : List ℕ) → IsBlock (take 16 n.hash_key)
     → IsBlock (take 16 fresh.hash_key) → HoldsNumbers fresh (setting_of suite key nonce []) some
     → (n.hash_key ≡ fresh.hash_key → ⊥) → HoldsNone n (setting_of suite key nonce)
@@ -56,7 +56,7 @@ holds_none n fresh suite key nonce some nb fb h other = λ aad bytes held.
     other (one_hash_key (construction_of suite) n.hash_key fresh.hash_key (setting_of suite key nonce aad) nb fb
     held.hash_key_is (other_aad (construction_of suite) fresh.hash_key suite key nonce [] aad h.hash_key_is))
 
--- nothing is begun after no associated data for the reasons for which nothing is resumed
+-- a fault that refuses to begin without associated data refuses to resume, for the same cause
 pub begin_refused : (n : PassState) (suite : Suite) (key nonce : List ℕ) (e : Fault)
     → BeginRefused (setting_of suite key nonce []) e → ResumeRefused n suite key nonce e
 begin_refused n suite key nonce KeyLength h = h

@@ -1,4 +1,4 @@
--- The exits of the engine that seals in one reading.
+-- The exits of the engine that seals in one reading, each with its result.
 use Rattle.std.proofs.Common.{◌≡◌, ℕ, List, [], ◌++◌, ◌≤◌, ◌<◌, ◌+◌, ◌⊎◌, inl, inr, true, length, take, refl}
 use Rattle.std.proofs.Common.{ap, ◌∙◌, sym, arith, Option, Some, None, Result, Ok, Err, subst, IfSome}
 use Rattle.std.proofs.lemmas.Bool.{le-leb, lt-leb}
@@ -22,9 +22,9 @@ use Rattle.aead.specs.SealStream.{may_seal, SealVerdict, SealsStream, IfTextKnow
 use Rattle.aead.proofs.Opens.{same_mask}
 use Rattle.aead.proofs.Extents.{all_known, all_stopped_known}
 
--- ---- the bytes that may be given
+-- ---- the bytes that may be written
 
--- of a text within the limit, the ciphertext and the tag
+-- for a text within the limit, the bytes that may be written are the ciphertext and the tag
 pub may_seal_is : (s : Setting) (x : List ℕ) → is_one_pass (construction_of s.suite) ≡ true
     → length x ≤ text_limit s.suite
     → may_seal s x ≡ masked (mask_of s []) 0 x ++ tag_of s x
@@ -33,7 +33,7 @@ may_seal_is s x one fits =
     rw (le-leb (length x) (text_limit s.suite) fits)
     (ap (λ f. masked f 0 x ++ tag_of s x) (same_mask s (tag_of s x) [] one))
 
--- of a longer one, the ciphertext of its beginning
+-- for a longer text, the bytes that may be written are the ciphertext of its first bytes, up to the limit
 pub may_seal_long : (s : Setting) (x : List ℕ) → is_one_pass (construction_of s.suite) ≡ true
     → text_limit s.suite < length x
     → may_seal s x ≡ masked (mask_of s []) 0 (take (text_limit s.suite) x)
@@ -46,7 +46,7 @@ pub may_seal_sealing : (s : Setting) (x : List ℕ) → length x ≤ text_limit 
 unfolding may_seal
 may_seal_sealing s x fits = rw (le-leb (length x) (text_limit s.suite) fits) refl
 
--- a beginning of the ciphertext within the limit is one of the bytes that may be given
+-- a beginning of the ciphertext within the limit is a beginning of the bytes that may be written
 pub begun : (s : Setting) (x : List ℕ) (k : ℕ) → is_one_pass (construction_of s.suite) ≡ true → k ≤ length x
     → k ≤ text_limit s.suite
     → take k (masked (mask_of s []) 0 x) ≡ take k (may_seal s x)
@@ -65,30 +65,31 @@ begun s x k one within short =
 
 -- ---- the exits
 
--- a fact about the known bytes of the reading gives one about the bytes given, if the outlet's are known too
+-- if something holds of the reading's bytes where they are known, and gives the bytes written, it holds of both where the
+-- outlet's bytes are known too
 if_text_known : (l o o' : Option (List ℕ)) (A : List ℕ → Type 0) (Q : List ℕ → List ℕ → Type 0) → IfSome l A
     → ((x : List ℕ) → A x → (given : List ℕ) × Appends o o' given × Q x given) → IfTextKnown l o o' Q
 if_text_known None o o' A Q a f = tt
 if_text_known (Some x) None o' A Q a f = tt
 if_text_known (Some x) (Some y) o' A Q a f = f x a
 
--- a fact about what is known of a text holds of its bytes, if they are known
+-- if P holds of what is known of a reading, it holds of its bytes where they are known
 pub told : (l : Option (List ℕ)) (P : Option (List ℕ) → Type 0) → P l → IfSome l (λ x. P (Some x))
 told None P p = tt
 told (Some x) P p = p
 
--- if a fact holds of the bytes, if known, so does what follows from it
+-- if A holds of the bytes where they are known, so does every B that follows from A
 pub if_known : (l : Option (List ℕ)) (A B : List ℕ → Type 0) → IfSome l A → ((x : List ℕ) → A x → B x)
     → IfSome l B
 if_known None A B a f = tt
 if_known (Some x) A B a f = f x a
 
--- the empty condition holds of any text
+-- the empty condition holds of every text
 any_text : (l : Option (List ℕ)) → IfSome l (λ _. Unit {0})
 any_text None = tt
 any_text (Some x) = tt
 
--- the associated data are too long
+-- the exit with `AadTooLong`: nothing was written
 pub exit_aad : (l o : Option (List ℕ)) (s : Setting) (read wrote : ℕ) → aad_limit s.suite < length s.aad
     → IfTextKnown l o o (λ x given. SealsStream s x given read read wrote wrote (Err AadTooLong))
 exit_aad l o s read wrote past =
@@ -103,7 +104,7 @@ exit_aad l o s read wrote past =
       },
     ))
 
--- a device failed before the tag
+-- the exit after a device failed before the tag: a beginning of the ciphertext was written
 pub exit_stopped : (l l' o o' : Option (List ℕ)) (s : Setting) (limit read read' wrote wrote' : ℕ)
     (f : Fault) → limit ≡ text_limit s.suite
     → is_one_pass (construction_of s.suite) ≡ true → length s.aad ≤ aad_limit s.suite
@@ -123,7 +124,7 @@ exit_stopped l l' o o' s limit read read' wrote wrote' f same one fits stop blam
       },
     ))
 
--- the text is too long
+-- the exit with `TextTooLong`: the ciphertext up to the limit was written
 pub exit_long : {M : Type 0} (holds : M → Task → List ℕ → Type 0) (l l' o o' : Option (List ℕ))
     (s : Setting) (k : M) (limit read read' wrote wrote' : ℕ) → limit ≡ text_limit s.suite
     → is_one_pass (construction_of s.suite) ≡ true → length s.aad ≤ aad_limit s.suite
@@ -151,7 +152,7 @@ exit_long holds l l' o o' s k limit read read' wrote wrote' same one fits went k
       },
     ))
 
--- the whole text is held
+-- if a reading was taken to its end, the state holds its whole text
 pub holds_all : {M : Type 0} (holds : M → Task → List ℕ → Type 0) (k : M) (s : Setting) (limit n : ℕ)
     (x : List ℕ) (l' o o' : Option (List ℕ)) → limit ≡ text_limit s.suite
     → HasPassedAll holds (message_task s []) limit (Some x) l' o o' k (Some n)
@@ -162,7 +163,7 @@ holds_all holds k s limit n x l' o o' same went =
     let P : List ℕ → Type 0 = λ y. holds k (message_task s []) y in
     (subst P all t.1, omega (arith, t.2.0, t.2.1, same))
 
--- the tag was given, or begun
+-- the exit after the tag was written, or a beginning of it because the outlet failed
 pub exit_tag : {M : Type 0} (holds : M → Task → List ℕ → Type 0) (l l' o o' o'' : Option (List ℕ))
     (s : Setting) (k : M) (tag : List ℕ) (limit n i read read' wrote wrote' : ℕ)
     (r : Result (Unit {0}) Fault) → limit ≡ text_limit s.suite

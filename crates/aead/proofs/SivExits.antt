@@ -1,4 +1,4 @@
--- The exits of the engine that seals in two readings.
+-- The exits of the engine that seals in two readings, each with its result.
 use Rattle.std.proofs.Common.{◌≡◌, ℕ, List, [], ◌++◌, ◌≤◌, ◌<◌, ◌+◌, ◌⊎◌, inl, inr, Bool, true, false}
 use Rattle.std.proofs.Common.{length, take, refl, ap, ◌∙◌, sym, arith, Option, Some, None, Result, Ok, Err}
 use Rattle.std.proofs.Common.{subst, IfSome, length-append}
@@ -31,7 +31,7 @@ use Rattle.aead.proofs.SealExits.{told}
 
 -- ---- the second reading
 
--- the ciphertext of the second reading up to the first one's length was given, and that much of it is held
+-- the ciphertext of the second reading up to the first one's length was written, and the state has taken in that part of it
 again_known : {M : Type 0} (holds : M → Task → List ℕ → Type 0) (s : Setting) (a b : List ℕ) (len : ℕ)
     (l' o o' : Option (List ℕ)) (k : M) (e : Option ℕ) → len ≡ length a
     → HasPassedAll holds (repeating_task s a) len (Some b) l' o o' k e
@@ -42,7 +42,7 @@ again_known holds s a b len l' o o' k e same w =
     let Q : ℕ → Type 0 = λ n. holds k (repeating_task s a) (take n b) in
     (subst P same t.0, subst Q same t.1)
 
--- if its length was found, it is no longer than the first one
+-- if its length was found, the second reading is no longer than the first
 whole_again : {M : Type 0} (holds : M → Task → List ℕ → Type 0) (s : Setting) (a b : List ℕ)
     (len n : ℕ) (l' o o' : Option (List ℕ)) (k : M) → len ≡ length a
     → HasPassedAll holds (repeating_task s a) len (Some b) l' o o' k (Some n) → take (length a) b ≡ b
@@ -50,7 +50,7 @@ whole_again holds s a b len n l' o o' k same w =
     let t = all_known holds (repeating_task s a) len b l' o o' k (Some n) w in
     take_all (length a) b (omega (arith, t.2.0, t.2.1, same))
 
--- a device failed before the tag
+-- the exit after a device failed before the tag: a beginning of the ciphertext was written
 pub again_stopped : (s : Setting) (a b : List ℕ) (len read read' wrote wrote' : ℕ)
     (l' o o' : Option (List ℕ)) (f : Fault) → len ≡ length a
     → Stopped (repeating_task s a) [] len (Some b) l' o o'
@@ -70,7 +70,7 @@ again_stopped s a b len read read' wrote wrote' l' o o' f same stop blame =
       elim blame [ inl x ↦ absurd x.0 | inr (inl x) ↦ inl (ap Err x.0, x.1) | inr (inr x) ↦ inr (ap Err x.0, x.1) ],
     )))
 
--- it is longer than the first one
+-- the exit after the second reading was found to be longer than the first
 pub again_long : {M : Type 0} (holds : M → Task → List ℕ → Type 0) (s : Setting) (a b : List ℕ)
     (len read read' wrote wrote' : ℕ) (l' o o' : Option (List ℕ)) (k : M) → len ≡ length a
     → HasPassedAll holds (repeating_task s a) len (Some b) l' o o' k None → (read' ≡ read) × (wrote' ≡ wrote)
@@ -85,7 +85,7 @@ again_long holds s a b len read read' wrote wrote' l' o o' k same w kept =
       kept.1,
     ))
 
--- it does not repeat the first one
+-- the exit after the second reading was found not to repeat the first
 pub again_differs : {M : Type 0} (holds : M → Task → List ℕ → Type 0) (s : Setting) (a b : List ℕ)
     (len n read read' wrote wrote' : ℕ) (l' o o' : Option (List ℕ)) (k : M) → len ≡ length a
     → HasPassedAll holds (repeating_task s a) len (Some b) l' o o' k (Some n) → (read' ≡ read) × (wrote' ≡ wrote)
@@ -97,7 +97,7 @@ again_differs holds s a b len n read read' wrote wrote' l' o o' k same w kept ot
     let P : List ℕ → Type 0 = λ x. ¬ (Repeats s a x) in
     inr (inl (refl, subst P e (other (take (length a) b) t.1), t.0, kept.0, kept.1))
 
--- it repeats the first one, and the tag was given, or begun
+-- the exit after the second reading repeated the first, and the tag was written, or a beginning of it because the outlet failed
 pub again_tag : {M : Type 0} (holds : M → Task → List ℕ → Type 0) (s : Setting) (a b tag : List ℕ)
     (len n i read read' wrote wrote' : ℕ) (l' o o' o'' : Option (List ℕ)) (k : M)
     (r : Result (Unit {0}) Fault) → len ≡ length a
@@ -121,7 +121,8 @@ again_tag holds s a b tag len n i read read' wrote wrote' l' o o' o'' k r same w
 
 -- ---- both readings
 
--- facts about the known bytes of both readings give one about the bytes given, if the outlet's are known too
+-- if something holds of both readings' bytes where they are known, and gives the bytes written, it holds of all where the
+-- outlet's bytes are known too
 if_both_known : (la lb o o' : Option (List ℕ)) (A B : List ℕ → Type 0)
     (Q : List ℕ → List ℕ → List ℕ → Type 0) → IfSome la A → IfSome lb B
     → ((a b : List ℕ) → A a → B b → (given : List ℕ) × Appends o o' given × Q a b given)
@@ -131,7 +132,7 @@ if_both_known (Some a) None o o' A B Q p q f = tt
 if_both_known (Some a) (Some b) None o' A B Q p q f = tt
 if_both_known (Some a) (Some b) (Some y) o' A B Q p q f = f a b p q
 
--- the empty condition holds of the bytes of any device
+-- the empty condition holds of the bytes of every device
 any_bytes : (l : Option (List ℕ)) → IfSome l (λ _. Unit {0})
 any_bytes None = tt
 any_bytes (Some x) = tt
@@ -149,7 +150,7 @@ absorbed_known held s room a (Some rest) after all w =
       λ e. omega (arith, w.long e, ap length w.consumed, length-append w.bytes rest),
     )
 
--- a refusal of the empty text is the verdict for any readings, and is `AadTooLong`
+-- a fault that refuses the empty text is the verdict for any two readings, and it is `AadTooLong`
 refused_at_all : (s : Setting) (a b : List ℕ) (f : Fault) → SealRefused s [] f
     → SivVerdict s a b (Err f) × (f ≡ AadTooLong)
 refused_at_all s a b AadTooLong h = (h, refl)
@@ -166,7 +167,7 @@ refused_at_all s a b Read h = absurd h
 refused_at_all s a b Write h = absurd h
 refused_at_all s a b SourceChanged h = absurd h
 
--- nothing was given
+-- the results if nothing was written
 nothing : (s : Setting) (a b : List ℕ) (before after : SivCounts) (f : Fault) →
     (SivVerdict s a b (Err f) × (after ≡ before))
     ⊎ ((f ≡ Read) × (Failed before.first after.first ⊎ Failed before.second after.second))
@@ -226,7 +227,7 @@ exit_long held la lb o l' s after room x x' y z same fits kept w =
           (inl ((fits, past), ap counts kept)),
     ))
 
--- the second reading was begun
+-- the results after the second reading was begun
 wrote : (s : Setting) (a b : List ℕ) (o o' : Option (List ℕ)) (x x' y y' z z' : ℕ)
     (r : Result (Unit {0}) Fault) → Fits s a → x' ≡ x → WritesAgain s a b o o' y y' z z' r
     → (given : List ℕ) × Appends o o' given

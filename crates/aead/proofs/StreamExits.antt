@@ -1,4 +1,4 @@
--- The exits of the stream opener.
+-- The exits of the stream opener, each with its result.
 use Rattle.std.proofs.Common.{◌≡◌, ℕ, List, [], ◌≤◌, ◌<◌, ◌+◌, ◌-◌, ◌⊎◌, inl, inr, length, take, drop, refl}
 use Rattle.std.proofs.Common.{ap, ◌∙◌, sym, arith, Option, Some, None, Result, Ok, Err, subst, IfSome}
 use Rattle.std.proofs.lemmas.Bool.{le-leb}
@@ -22,7 +22,7 @@ use Rattle.aead.specs.Code.Returns.{MeasureReturns, VerifyReturns, WriteReturns,
 use Rattle.aead.specs.Verdict.{Agrees, OnlyWriteDiffers, Verdict, shown, FailureCounts, OpensStream}
 use Rattle.aead.specs.Verdict.{IfAllKnown}
 
--- ---- agreeing, as it is tested
+-- ---- how the engine tests that two readings agree
 
 pub agrees_from : (m x : List ℕ) → 16 ≤ length m → drop (length m - 16) x ≡ last_16 m → Agrees m x
 agrees_from m x low e =
@@ -33,7 +33,7 @@ agrees_from m x low e =
 agrees_to : (m x : List ℕ) → Agrees m x → drop (length m - 16) x ≡ last_16 m
 agrees_to m x a = ap (λ n. drop (n - 16) x) (sym a.0) ∙ a.1
 
--- within the limits, the bytes that may be given are the body of the write reading under the measured tag's mask
+-- within the limits, the bytes that may be written are the body of the write reading, masked for the measured tag
 pub shown_is : (s : Setting) (m w : List ℕ) → length m ≤ text_limit s.suite + 16
     → shown s m w ≡ masked (mask_of s (last_16 m)) 0 (take (length m - 16) w)
 unfolding shown
@@ -52,12 +52,12 @@ if_known (Some m) (Some v) None o o' A B C Q a b d f = tt
 if_known (Some m) (Some v) (Some w) None o' A B C Q a b d f = tt
 if_known (Some m) (Some v) (Some w) (Some x) o' A B C Q a b d f = f m v w a b d
 
--- the empty condition holds of the bytes of any device
+-- the empty condition holds of the bytes of every device
 pub any_bytes : (l : Option (List ℕ)) → IfSome l (λ _. Unit {0})
 any_bytes None = tt
 any_bytes (Some x) = tt
 
--- ---- nothing was given
+-- ---- nothing was written
 
 opens_nothing : (s : Setting) (m v w : List ℕ) (before after : FailureCounts) (f : Fault) →
     (f ≡ SourceChanged → OnlyWriteDiffers s m v w → ⊥) →
@@ -78,18 +78,18 @@ opens_nothing s m v w before after f not_last answer =
       answer = elim answer [ inl a ↦ inl a | inr a ↦ inr (inl (ap Err a.0, a.1)) ];
     }
 
--- the fault of a verdict by another name
+-- the verdict of a fault is the verdict of an equal fault
 verdict_at : (s : Setting) (m v w : List ℕ) (f g : Fault) → f ≡ g → Verdict s m v w (Err g)
     → Verdict s m v w (Err f)
 verdict_at s m v w f g e h = let P : Fault → Type 0 = λ x. Verdict s m v w (Err x) in subst P (sym e) h
 
--- the associated data is too long
+-- the result if the associated data is too long
 opens_aad : (s : Setting) (m v w : List ℕ) (before : FailureCounts) → aad_limit s.suite < length s.aad
     → OpensStream s m v w [] before before (Err AadTooLong)
 opens_aad s m v w before a =
     opens_nothing s m v w before before AadTooLong (λ e _. absurd (cc)) (inl (a, refl))
 
--- the measure reading is refused
+-- the result if the measure reading is refused
 opens_measure : (s : Setting) (m v w : List ℕ) (x x' y z u : ℕ) (f : Fault)
     → length s.aad ≤ aad_limit s.suite → MeasureReturns (text_limit s.suite) m x x' (Err f) →
     OpensStream s m v w [] (record { measure = x; verify = y; write = z; outlet = u })
@@ -110,7 +110,7 @@ opens_measure s m v w x x' y z u f a told =
       ]
     ]
 
--- the steps' length and tag are the measured ones
+-- the length and the tag with which the verify step was called are the measured ones
 verify_at : (s : Setting) (m v tag : List ℕ) (len y y' : ℕ) (r : Result (Unit {0}) Fault) → len ≡ length m
     → tag ≡ last_16 m →
     VerifyReturns s tag len v y y' r → VerifyReturns s (last_16 m) (length m) v y y' r
@@ -127,7 +127,7 @@ write_at s m w tag o o' len z z' u u' r e d told =
     let Q : List ℕ → Type 0 = λ x. WriteReturns s x len w o o' z z' u u' r in
     subst P e (subst Q d told)
 
--- the verify reading is refused by what was found of it
+-- if the verify reading is refused, the fault is the verdict, and it is not that only the write reading differs
 refused_by : (s : Setting) (m v w : List ℕ) (f : Fault) (found : Finding) → FitsSealed s m
     → Err f ≡ verify_answer found →
     IsFinding s (last_16 m) (length m) v found
@@ -165,19 +165,19 @@ opens_verify s m v w x x' y y' z u f fits kept told =
 
 -- ---- the write reading was begun
 
--- the verify reading is a sealing that agrees
+-- if the verify step returns `Ok`, the verify reading is a valid sealing that agrees
 verified : (s : Setting) (m v : List ℕ) (found : Finding) → FitsSealed s m → Ok tt ≡ verify_answer found →
     IsFinding s (last_16 m) (length m) v found → Agrees m v × IsSealing s v
 verified s m v Differs fits e h = absurd (cc)
 verified s m v Unsealed fits e h = absurd (cc)
 verified s m v Sealed fits e h = (agrees_from m v fits.long h.0, (_, h.1))
 
--- a result with a device's fault is neither `Ok` nor `SourceChanged`
+-- the fault of a device is neither `Ok` nor `SourceChanged`
 no_answer : (r : Result (Unit {0}) Fault) (X Y : Type 0) → ((r ≡ Err Read) × X) ⊎ ((r ≡ Err Write) × Y)
     → (r ≡ Ok tt → ⊥) × (r ≡ Err SourceChanged → ⊥)
 no_answer r X Y h = elim h [ inl b ↦ (λ e. cc (b.0), λ e. cc (b.0)) | inr b ↦ (λ e. cc (b.0), λ e. cc (b.0)) ]
 
--- the result for a finding of the write reading is the verdict, and at Ok the reading opens to its unmasked body
+-- the result for what was found in the write reading is the verdict, and at Ok the reading opens to its unmasked body
 written : (s : Setting) (m v w : List ℕ) (r : Result (Unit {0}) Fault) (found : Finding) → FitsSealed s m
     → Agrees m v × IsSealing s v →
     r ≡ write_answer found → IsFinding s (last_16 m) (length m) w found →
@@ -251,7 +251,7 @@ exit_measure lm lv lw o s x x' y z u f a told =
     if_known lm lv lw o o _ (λ _. Unit {0}) (λ _. Unit {0}) _ told (any_bytes lv) (any_bytes lw)
     (λ m v w p _ _. ([], appends_none o, opens_measure s m v w x x' y z u f a p))
 
--- a measured reading has a length of sealed bytes
+-- a reading that was measured has the length of a sealing
 fits_measured : (s : Setting) (m : List ℕ) (x x' : ℕ) (a : Measured) → length s.aad ≤ aad_limit s.suite
     → MeasureReturns (text_limit s.suite) m x x' (Ok a) → FitsSealed s m
 fits_measured s m x x' a fits told = record { aad_fits = fits; long = told.2; text_fits = told.3 }

@@ -8,13 +8,13 @@ use Rattle.octets.specs.Bytes.{be}
 use Rattle.aes.specs.Counters.{up_be}
 use Rattle.aead.specs.Sealing.{j0}
 
--- a result with no fault that fits is Ok
+-- if no fault fits, the result is Ok
 pub surely_ok : {T E : Type 0} (r : Result T E) (P : Type 0) (Q : E → Type 0) → MatchResult r (λ _. P) Q
     → ((e : E) → Q e → ⊥) → IsOk r × P
 surely_ok (Ok v) P Q m none = (refl, m)
 surely_ok (Err e) P Q m none = absurd (none e m)
 
--- the first block of GCM's mask
+-- the first counter block of GCM's mask is the nonce and a counter of 2
 pub first_block : (nonce : List ℕ) → length nonce ≡ 12 → up_be (j0 nonce) 1 ≡ nonce ++ 0 ∷ 0 ∷ 0 ∷ 2 ∷ []
 unfolding up_be j0 be
 first_block nonce h =

@@ -1,4 +1,4 @@
--- The tags of the constructions, as their hashes make them.
+-- The tags of the constructions, as the code computes them from its hashes.
 use Rattle.std.proofs.Common.{◌≡◌, ℕ, ◌*◌, List, ◌++◌, length, ap, ap₂, sym, ◌∙◌}
 use Rattle.std.specs.Int.{w64, to_le_bytes, to_be_bytes}
 use Rattle.octets.specs.Bytes.{xor_bytes, pad16}
@@ -12,7 +12,7 @@ use Rattle.aead.specs.Sealing.{authentication_key, encryption_key, siv_authentic
 use Rattle.aead.specs.Sealing.{tag_over}
 use Rattle.aead.proofs.Fed.{fed}
 
--- Poly1305 of what was taken in and the lengths
+-- Poly1305 of the bytes taken in, padded, and the lengths is the tag of ChaCha20-Poly1305
 pub by_poly1305 : (s : Setting) (m result : List ℕ) (a n : ℕ) → construction_of s.suite ≡ ByChaCha
     → a ≡ length s.aad → n ≡ length m
     → result ≡ poly1305 (poly_key s.key s.nonce)
@@ -26,7 +26,7 @@ by_poly1305 s m result a n by e f h =
     (pad16 s.aad ++ (pad16 m ++ (to_le_bytes w64 i ++ to_le_bytes w64 j)))) e f
     ∙ sym (ap (λ c. tag_over_by c s.key s.nonce s.aad m) by)
 
--- GHASH of the same
+-- GHASH of the bytes taken in, padded, and the lengths, XORed with the cipher of J0, is the tag of GCM
 pub by_ghash : (s : Setting) (m mask result : List ℕ) (a n : ℕ) → construction_of s.suite ≡ ByGcm
     → mask ≡ cipher s.key (j0 s.nonce)
     → a ≡ length s.aad → n ≡ length m
@@ -44,7 +44,7 @@ by_ghash s m mask result a n by under e f h =
     ++ (pad16 m ++ (to_be_bytes w64 (8 * i) ++ to_be_bytes w64 (8 * j)))))) e f
     ∙ sym (ap (λ c. tag_over_by c s.key s.nonce s.aad m) by)
 
--- POLYVAL of the same
+-- the cipher of the block that POLYVAL of the bytes taken in, padded, and the lengths gives is the tag of GCM-SIV
 pub by_polyval : (s : Setting) (m key nonce result : List ℕ) (a n : ℕ) → construction_of s.suite ≡ ByGcmSiv
     → key ≡ encryption_key s.key s.nonce → nonce ≡ s.nonce → a ≡ length s.aad → n ≡ length m
     → result ≡ cipher key (tag_block

@@ -30,7 +30,7 @@ unfoldable text : List ℕ
 text = codes "Ladies and Gentlemen of the class of '99: If I could offer you only one tip for "
     ++ codes "the future, sunscreen would be it."
 
--- its ciphertext
+-- the ciphertext of the text
 unfoldable ciphertext : List ℕ
 ciphertext =
     211 ∷ 26 ∷ 141 ∷ 52 ∷ 100 ∷ 142 ∷ 96 ∷ 219 ∷ 123 ∷ 134 ∷ 175 ∷ 188 ∷ 83 ∷ 239 ∷ 126 ∷ 194 ∷
@@ -42,7 +42,7 @@ ciphertext =
     63 ∷ 244 ∷ 222 ∷ 240 ∷ 142 ∷ 75 ∷ 122 ∷ 157 ∷ 229 ∷ 118 ∷ 210 ∷ 101 ∷ 134 ∷ 206 ∷ 198 ∷ 75 ∷
     97 ∷ 22 ∷ []
 
--- the tag
+-- the tag of the text
 unfoldable tag : List ℕ
 tag =
     26 ∷ 225 ∷ 11 ∷ 89 ∷ 79 ∷ 9 ∷ 226 ∷ 106 ∷ 126 ∷ 144 ∷ 46 ∷ 203 ∷ 208 ∷ 96 ∷ 6 ∷ 145 ∷ []
@@ -55,7 +55,7 @@ block1 =
     78 ∷ 158 ∷ 203 ∷ 56 ∷ 172 ∷ 142 ∷ 94 ∷ 43 ∷ 184 ∷ 218 ∷ 178 ∷ 15 ∷ 250 ∷ 219 ∷ 82 ∷ 232 ∷
     117 ∷ 4 ∷ 178 ∷ 110 ∷ 190 ∷ 105 ∷ 109 ∷ 79 ∷ 96 ∷ 164 ∷ 133 ∷ 207 ∷ 17 ∷ 184 ∷ 27 ∷ 89 ∷ []
 
--- as the definition makes it
+-- the definition computes that block
 block1_is : block key 1 nonce ≡ block1
 unfolding key nonce block1 block block_from initial_state double_rounds column_round diagonal_round
     quarter_round add_xor_rotate added serialized le
@@ -69,40 +69,40 @@ block2 =
     92 ∷ 134 ∷ 187 ∷ 149 ∷ 224 ∷ 107 ∷ 13 ∷ 242 ∷ 144 ∷ 26 ∷ 182 ∷ 69 ∷ 228 ∷ 171 ∷ 230 ∷ 34 ∷
     21 ∷ 56 ∷ 12 ∷ 3 ∷ 206 ∷ 53 ∷ 108 ∷ 215 ∷ 166 ∷ 118 ∷ 99 ∷ 251 ∷ 221 ∷ 239 ∷ 255 ∷ 100 ∷ []
 
--- as the definition makes it
+-- the definition computes that block
 block2_is : block key 2 nonce ≡ block2
 unfolding key nonce block2 block block_from initial_state double_rounds column_round diagonal_round
     quarter_round add_xor_rotate added serialized le
 block2_is = refl
 
--- byte i of two blocks
+-- byte i of two blocks, one after the other
 abbrev byte_of_two : List ℕ → List ℕ → ℕ → ℕ
 byte_of_two a b i = slice_index (cond (nat_le 64 i) b a) (i % 64)
 
--- the ciphertext is that of the text
+-- the definition computes this ciphertext of the text
 ciphertext_is : masked (chacha_mask key nonce) 0 text ≡ ciphertext
 unfolding masked key_stream_byte text ciphertext block1 block2
 ciphertext_is = ap₂ (λ a b. masked (byte_of_two a b) 0 text) block1_is block2_is ∙ refl
 
--- the tag of the ciphertext
+-- the definition computes this tag over the ciphertext
 last_is : tag_over_by ByChaCha key nonce aad ciphertext ≡ tag
 unfolding key nonce aad ciphertext tag tag_over_by poly_key chacha_authenticated block block_from
     initial_state double_rounds column_round diagonal_round quarter_round add_xor_rotate added serialized
     poly1305 block_sum sum_below le
 last_is = refl
 
--- the tag is that of the text
+-- the tag of the text is this tag
 tag_is : tag_by ByChaCha key nonce aad text ≡ tag
 unfolding tag_by
 tag_is = ap (tag_over_by ByChaCha key nonce aad) ciphertext_is ∙ last_is
 
--- ciphertext and tag are the sealing
+-- the ciphertext and the tag are the sealing of the text
 both_are : sealing (record { suite = ChaCha20Poly1305; key = key; nonce = nonce; aad = aad }) text
     ≡ ciphertext ++ tag
 unfolding sealing tag_of mask mask_by
 both_are = ap₂ (λ c t. c ++ t) ciphertext_is tag_is
 
--- the sealing, written out
+-- the sealing with its key, nonce, associated data, text and result written out
 pub one_sealing : sealing
     (record {
       suite = ChaCha20Poly1305;

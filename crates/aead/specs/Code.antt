@@ -1,4 +1,4 @@
--- The code's states, and the steps of its engines. Of public words only the relations of `Pieces` go by them:
+-- The states of the code and the steps of its engines. Of the public definitions only the relations of `Pieces` use them:
 -- sealing, opening and the engines are defined without them.
 pub mod States
 pub mod Measures

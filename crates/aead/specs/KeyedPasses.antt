@@ -10,23 +10,24 @@ use Rattle.aead.specs.Suites.{Construction, ByChaCha, ByGcm, ByGcmSiv, construct
 use Rattle.aead.specs.Sealing.{Setting, encryption_key}
 use Rattle.aead.specs.PassStates.{HoldsNone}
 
--- a suite with the bytes that are handed in
+-- the setting of a message, from a suite and the bytes that the caller hands in
 abbrev pub setting_of : Suite → (key nonce aad : List ℕ) → Setting
 setting_of suite key nonce aad = record { suite = suite; key = key; nonce = nonce; aad = aad }
 
--- the key has the suite's length, and the nonce 12 bytes
+-- the key has the length that the suite requires, and the nonce is 12 bytes long
 pub record HasLengths (s : Setting) : Type 0 where
   pub key_fits : length s.key ≡ key_length s.suite
   pub nonce_fits : length s.nonce ≡ 12
 
--- why nothing is begun: the first of these lengths that does not fit
+-- why a message does not begin: the length of the key, the nonce or the associated data is wrong, checked in this order
 abbrev pub BeginRefused : Setting → Fault → Type 0
 BeginRefused s KeyLength = length s.key ≢ key_length s.suite
 BeginRefused s NonceLength = (length s.key ≡ key_length s.suite) × (length s.nonce ≢ 12)
 BeginRefused s AadTooLong = HasLengths s × (aad_limit s.suite < length s.aad)
 BeginRefused s _ = ⊥
 
--- why numbers are not resumed: the first of these lengths that does not fit; or they are of another key or nonce
+-- why stored numbers are not resumed: the length of the key or the nonce is wrong, checked in this order, or the numbers are
+-- not the state of any message under this key and nonce
 abbrev pub ResumeRefused : PassState → Suite → (key nonce : List ℕ) → Fault → Type 0
 ResumeRefused n suite key nonce KeyLength = length key ≢ key_length suite
 ResumeRefused n suite key nonce NonceLength = (length key ≡ key_length suite) × (length nonce ≢ 12)
@@ -34,23 +35,23 @@ ResumeRefused n suite key nonce TagMismatch = HasLengths (setting_of suite key n
     × HoldsNone n (setting_of suite key nonce)
 ResumeRefused n suite key nonce _ = ⊥
 
--- the key of the cipher of a message
+-- the key that the cipher of a message uses: for AES-GCM-SIV it is the derived message-encryption key
 abbrev pub cipher_key : Construction → Setting → List ℕ
 cipher_key ByChaCha s = s.key
 cipher_key ByGcm s = s.key
 cipher_key ByGcmSiv s = encryption_key s.key s.nonce
 
--- those of zeros
+-- a key and a nonce that are all zeros
 abbrev pub zero_keys : KeyAndNonce
 zero_keys = record { key = replicate 32 0; nonce = replicate 12 0 }
 
--- p is the key of the cipher of a message, and its nonce
+-- p holds the key that the cipher of a message uses, and the nonce of the message
 pub record HasKeys (p : KeyAndNonce) (s : Setting) : Type 0 where
   pub lengths : HasLengths s
   pub key_is : take (key_length s.suite) p.key ≡ cipher_key (construction_of s.suite) s
   pub nonce_is : p.nonce ≡ s.nonce
 
--- what is authenticated of a ciphertext under a mask: itself, or for AES-GCM-SIV its text
+-- the bytes of a ciphertext that are authenticated: the ciphertext itself, or for AES-GCM-SIV the text that the mask gives
 abbrev pub authenticated_by : Construction → (mask : ℕ → ℕ) → List ℕ → List ℕ
 authenticated_by ByChaCha mask body = body
 authenticated_by ByGcm mask body = body

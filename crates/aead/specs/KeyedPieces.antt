@@ -11,22 +11,22 @@ use Rattle.aead.specs.PassStates.{HoldsState, zero_state, zero_sum}
 use Rattle.aead.specs.Pieces.{IsInFirstReading, IsInSecondReading, IsInFirstPass, IsInSecondPass, MasksByBytes}
 use Rattle.aead.specs.KeyedPasses.{HasKeys, zero_keys}
 
--- the result of a call that adds bytes to those counted so far: all are within the limit, or past it with this fault
+-- a call that adds bytes to a count returns `Ok` if the sum is within the limit, and this fault if it is past the limit
 abbrev pub FitsIn : Fault → Result (Unit {0}) Fault → (count added limit : ℕ) → Type 0
 FitsIn fault r count added limit =
     MatchResult r (λ _. count + added ≤ limit) (λ e. (e ≡ fault) × (limit < count + added))
 
 -- ---- a sealing in one reading
 
--- the one of zeros
+-- the sealing whose key, nonce and state are all zeros
 abbrev pub zero_sealer : KeyedSealer
 zero_sealer = record { keys = zero_keys; state = zero_state }
 
--- how many bytes it counted
+-- how many bytes of the text the sealing has counted
 abbrev pub sealer_count : KeyedSealer → ℕ
 sealer_count p = p.state.length
 
--- p holds this text
+-- p has the keys of a message in one reading, and has taken in this text
 pub record HoldsKeyedText (p : KeyedSealer) (s : Setting) (text : List ℕ) : Type 0 where
   pub one_pass : is_one_pass (construction_of s.suite) ≡ true
   pub keys : HasKeys p.keys s
@@ -34,7 +34,7 @@ pub record HoldsKeyedText (p : KeyedSealer) (s : Setting) (text : List ℕ) : Ty
 
 -- ---- two passes
 
--- those of zeros
+-- the state of two passes that is all zeros
 abbrev pub zero_passes : TwoPassState
 zero_passes = record { pass = zero_state; start = zero_sum; tag = replicate 16 0; first = 0 }
 
@@ -43,17 +43,17 @@ zero_passes = record { pass = zero_state; start = zero_sum; tag = replicate 16 0
 abbrev pub zero_siv : KeyedSiv
 zero_siv = record { keys = zero_keys; state = zero_passes }
 
--- how many bytes the reading counted
+-- how many bytes the current reading has counted
 abbrev pub siv_count : KeyedSiv → ℕ
 siv_count p = p.state.pass.length
 
--- p is in the first reading, and has taken in this text
+-- p is in the first reading of a message and has taken in this text
 pub record HoldsFirstReading (p : KeyedSiv) (s : Setting) (text : List ℕ) : Type 0 where
   pub by_gcm_siv : construction_of s.suite ≡ ByGcmSiv
   pub keys : HasKeys p.keys s
   pub state : IsInFirstReading p.state s text
 
--- p is in the second reading, after a first one of another text, and has taken in this one, which is no longer
+-- p is in the second reading of a message and has taken in this text, which is no longer than the text of the first reading
 pub record HoldsSecondReading (p : KeyedSiv) (s : Setting) (first text : List ℕ) : Type 0 where
   pub by_gcm_siv : construction_of s.suite ≡ ByGcmSiv
   pub keys : HasKeys p.keys s
@@ -64,17 +64,17 @@ pub record HoldsSecondReading (p : KeyedSiv) (s : Setting) (first text : List �
 abbrev pub zero_opener : KeyedOpener
 zero_opener = record { keys = zero_keys; state = zero_passes }
 
--- how many bytes the pass counted
+-- how many bytes the current pass has counted
 abbrev pub opener_count : KeyedOpener → ℕ
 opener_count p = p.state.pass.length
 
--- p is in the first pass of opening a ciphertext under this tag, and has taken in these bytes of it
+-- p is in the first pass of an opening under this tag and has taken in these bytes of the ciphertext
 pub record HoldsFirstPass (p : KeyedOpener) (s : Setting) (tag body : List ℕ) : Type 0 where
   pub keys : HasKeys p.keys s
   pub bytes : MasksByBytes s
   pub state : IsInFirstPass p.state s tag body
 
--- p is in the second pass, after a first one of this many bytes that was over a sealing, and has taken in these
+-- p is in the second pass and has taken in these bytes of the ciphertext; the first pass was over `first` bytes, a valid sealing
 pub record HoldsSecondPass (p : KeyedOpener) (s : Setting) (tag : List ℕ) (first : ℕ) (body : List ℕ) : Type 0 where
   pub keys : HasKeys p.keys s
   pub bytes : MasksByBytes s

@@ -1,4 +1,4 @@
--- What a pass over a message has taken in, as plain numbers.
+-- The state of a pass over a message, as plain numbers.
 use Rattle.std.specs.Prelude.{◌≡◌, ℕ, ◌+◌, ◌*◌, ◌/◌, ◌%◌, ◌^◌, List, ◌++◌, length, take, drop, replicate}
 use Rattle.octets.specs.Bytes.{pad16}
 use Rattle.octets.specs.Masked.{masked}
@@ -11,20 +11,20 @@ use Rattle.aead.specs.declared.pass_state.Sum.{Sum}
 use Rattle.aead.specs.Suites.{Construction, ByChaCha, ByGcm, ByGcmSiv, construction_of}
 use Rattle.aead.specs.Sealing.{Setting, Fits, mask_of, poly_key, hash_key, j0, authentication_key}
 
--- the keys of the hash of a message: the one-time key of Poly1305; or the key of GHASH and the cipher of J0; or the key of a
--- multiplier that serves POLYVAL, and zeros
+-- k is the key of the hash of a message, in 32 bytes: the one-time key of Poly1305; the key of GHASH and the cipher of J0; or
+-- the key of a multiplier that serves POLYVAL, and zeros
 abbrev pub IsHashKey : Construction → List ℕ → Setting → Type 0
 IsHashKey ByChaCha k s = k ≡ poly_key s.key s.nonce
 IsHashKey ByGcm k s = (take 16 k ≡ hash_key s.key) × (drop 16 k ≡ cipher s.key (j0 s.nonce))
 IsHashKey ByGcmSiv k s = Serves Reversed (authentication_key s.key s.nonce) (take 16 k) × (drop 16 k ≡ replicate 16 0)
 
--- the sum of the hash of a construction over the whole blocks of m: that of POLYVAL is stated as a fact alone
+-- low and high are the sum of the hash over the whole blocks of m. For POLYVAL only the fact is stated (`∥ .. ∥₁`).
 abbrev pub IsSumOf : Construction → (low high : ℕ) → Setting → List ℕ → Type 0
 IsSumOf ByChaCha low high s m = poly1305.IsSum (poly_key s.key s.nonce) m low high
 IsSumOf ByGcm low high s m = gf128.IsSum Straight (hash_key s.key) m low
 IsSumOf ByGcmSiv low high s m = ∥ gf128.IsSum Reversed (authentication_key s.key s.nonce) m low ∥₁
 
--- the numbers of these bytes after the associated data
+-- the numbers are the state after the associated data and these bytes
 pub record HoldsNumbers (n : PassState) (s : Setting) (bytes : List ℕ) : Type 0 where
   pub hash_key_is : IsHashKey (construction_of s.suite) n.hash_key s
   pub sum_is : IsSumOf (construction_of s.suite) (n.low + n.middle * 2 ^ 64) n.high s (pad16 s.aad ++ bytes)
@@ -34,27 +34,28 @@ pub record HoldsNumbers (n : PassState) (s : Setting) (bytes : List ℕ) : Type 
   pub length_is : n.length ≡ length bytes
   pub fits : Fits s bytes
 
--- the numbers hold no bytes after any associated data, of messages that differ in it alone
+-- the numbers are not the state of any of these messages, whatever their associated data and bytes
 abbrev pub HoldsNone : PassState → (under : List ℕ → Setting) → Type 0
 HoldsNone n under = (aad bytes : List ℕ) → ¬ (HoldsNumbers n (under aad) bytes)
 
--- the numbers have the keys of the hash of these messages
+-- the numbers contain the hash key of these messages, whatever the associated data
 abbrev pub HasHashKey : PassState → (under : List ℕ → Setting) → Type 0
 HasHashKey n under = (aad : List ℕ) → IsHashKey (construction_of (under aad).suite) n.hash_key (under aad)
 
--- the numbers of this text under a suite of one reading: of its ciphertext, whose mask does not depend on the tag
+-- the numbers are the state after this text in a suite of one reading: the state of its ciphertext, whose mask does not depend
+-- on the tag
 abbrev pub HoldsState : PassState → Setting → List ℕ → Type 0
 HoldsState n s text = (tag : List ℕ) → HoldsNumbers n s (masked (mask_of s tag) 0 text)
 
--- the sum over the padded associated data, with which a pass begins
+-- n is the sum over the padded associated data, with which a pass begins
 abbrev pub IsStart : Sum → Setting → Type 0
 IsStart n s = IsSumOf (construction_of s.suite) (n.low + n.middle * 2 ^ 64) n.high s (pad16 s.aad)
 
--- the sum of zeros
+-- the sum that is 0
 abbrev pub zero_sum : Sum
 zero_sum = record { low = 0; middle = 0; high = 0 }
 
--- the numbers that are all zeros
+-- the state whose numbers are all zeros
 abbrev pub zero_state : PassState
 zero_state = record {
   hash_key = replicate 32 0;

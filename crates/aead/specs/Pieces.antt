@@ -1,4 +1,4 @@
--- The state of a sealing or an opening in pieces, by what it was fed.
+-- The state of a sealing or an opening in pieces, in terms of the bytes that it has taken in.
 use Rattle.std.specs.Prelude.{◌≡◌, ℕ, ◌<◌, ◌≤◌, true, List, ◌++◌, length, get_or}
 use Rattle.octets.specs.Masked.{masked}
 use Rattle.gf128.specs.Orders.{Reversed, Serves}
@@ -19,13 +19,13 @@ use Rattle.aead.specs.PassStates.{HoldsNumbers, HoldsState, IsStart}
 use Rattle.aead.specs.KeyedPasses.{HasKeys, authenticated_by}
 use Rattle.aead.specs.Code.MessageKeys.{AreKeysOf}
 
--- a sealer was fed this text
+-- the sealer has the keys of a message and has taken in this text
 pub record HoldsSealer (sealer : Sealer) (s : Setting) (text : List ℕ) : Type 0 where
   pub keys : AreKeysOf sealer.keys s
   pub one_pass : is_one_pass (construction_of s.suite) ≡ true
   pub state : HoldsState sealer.state s text
 
--- k are the keys of a message of AES-GCM-SIV, and its nonce
+-- k holds the derived keys of a message of AES-GCM-SIV, and its nonce
 pub record AreKeys (k : SivKeys) (s : Setting) : Type 0 where
   pub by : construction_of s.suite ≡ ByGcmSiv
   pub encryption_is : k.encryption ≡ encryption_key s.key s.nonce
@@ -33,12 +33,12 @@ pub record AreKeys (k : SivKeys) (s : Setting) : Type 0 where
   pub multiplier_is : key_of k.multiplier ≡ k.hash_key
   pub nonce_is : k.nonce ≡ s.nonce
 
--- the numbers of a first reading of this text
+-- n is the state of a first reading that has taken in this text
 pub record IsInFirstReading (n : TwoPassState) (s : Setting) (text : List ℕ) : Type 0 where
   pub pass : HoldsNumbers n.pass s text
   pub start : IsStart n.start s
 
--- the numbers of a second reading of this text, after a first one of another, which is no shorter
+-- n is the state of a second reading that has taken in this text, after a first reading of another text, which is no shorter
 pub record IsInSecondReading (n : TwoPassState) (s : Setting) (first text : List ℕ) : Type 0 where
   pub pass : HoldsNumbers n.pass s text
   pub start : IsStart n.start s
@@ -47,31 +47,31 @@ pub record IsInSecondReading (n : TwoPassState) (s : Setting) (first text : List
   pub first_fits : length first ≤ text_limit s.suite
   pub within : length text ≤ length first
 
--- the first reading was fed this text
+-- the first reading has the keys of a message and has taken in this text
 pub record HoldsAbsorb (a : SivAbsorb) (s : Setting) (text : List ℕ) : Type 0 where
   pub keys : AreKeys a.keys s
   pub state : IsInFirstReading a.state s text
 
--- the second reading was fed this text, after the first one gave another
+-- the second reading has the keys of a message and has taken in this text, after a first reading of `first`
 pub record HoldsWriter (w : SivWriter) (s : Setting) (first text : List ℕ) : Type 0 where
   pub keys : AreKeys w.keys s
   pub state : IsInSecondReading w.state s first text
 
 -- ---- an opening in two passes
 
--- the ciphertext and the tag are the sealing of what the ciphertext decrypts to
+-- the ciphertext and the tag are the sealing of the text that the ciphertext decrypts to
 abbrev pub Opens : Setting → (tag body : List ℕ) → Type 0
 Opens s tag body = Opened s (body ++ tag) (masked (mask_of s tag) 0 body)
 
--- a first pass of this many bytes was over a sealing with this tag
+-- some ciphertext of `first` bytes with this tag is a valid sealing
 abbrev pub WasOverASealing : Setting → (tag : List ℕ) → (first : ℕ) → Type 0
 WasOverASealing s tag first = (body : List ℕ) × (length body ≡ first) × Opens s tag body
 
--- the numbers have taken in what is authenticated of this ciphertext under a tag
+-- the numbers have taken in the bytes of this ciphertext that are authenticated, with the mask for this tag
 abbrev pub HasTakenIn : PassState → Setting → (tag body : List ℕ) → Type 0
 HasTakenIn n s tag body = HoldsNumbers n s (authenticated_by (construction_of s.suite) (mask_of s tag) body)
 
--- the numbers of a first pass over these bytes of a ciphertext under this tag
+-- n is the state of a first pass that has taken in these bytes of a ciphertext under this tag
 pub record IsInFirstPass (n : TwoPassState) (s : Setting) (tag body : List ℕ) : Type 0 where
   pub pass : HasTakenIn n.pass s tag body
   pub start : IsStart n.start s
@@ -79,7 +79,7 @@ pub record IsInFirstPass (n : TwoPassState) (s : Setting) (tag body : List ℕ) 
   pub tag_long : length tag ≡ 16
   pub small : (i : ℕ) → get_or body i 0 < 256
 
--- the numbers of a second pass over these bytes, after a first one of this many bytes that was over a sealing
+-- n is the state of a second pass that has taken in these bytes; the first pass was over `first` bytes, a valid sealing
 pub record IsInSecondPass (n : TwoPassState) (s : Setting) (tag : List ℕ) (first : ℕ) (body : List ℕ) : Type 0 where
   pub pass : IsInFirstPass n s tag body
   pub first_is : n.first ≡ first
@@ -87,22 +87,22 @@ pub record IsInSecondPass (n : TwoPassState) (s : Setting) (tag : List ℕ) (fir
   pub within : length body ≤ first
   pub passed : WasOverASealing s tag first
 
--- the masks of a message are bytes
+-- every number of the masks of a message is a byte
 abbrev pub MasksByBytes : Setting → Type 0
 MasksByBytes s = (tag : List ℕ) (i : ℕ) → mask_of s tag i < 256
 
--- the keys of an opening are those of a message: they are lent by a cipher, or are its own
+-- the keys of an opening are those of a message: a cipher lends them, or the opening has them itself
 abbrev pub OpensUnder : OpenerKeys → Setting → Type 0
 OpensUnder (OnePass k) s = AreKeysOf k s
 OpensUnder (Siv k) s = (k.suite ≡ s.suite) × HasKeys k.own s
 
--- the first pass has taken in these bytes of a ciphertext under this tag
+-- the first pass has the keys of a message and has taken in these bytes of a ciphertext under this tag
 pub record HoldsOpener (o : Opener) (s : Setting) (tag body : List ℕ) : Type 0 where
   pub keys : OpensUnder o.keys s
   pub bytes : MasksByBytes s
   pub state : IsInFirstPass o.state s tag body
 
--- the second pass has taken in these, after a first one of this many bytes that was over a sealing
+-- the second pass has the keys of a message and has taken in these bytes; the first pass was over `first` bytes, a valid sealing
 pub record HoldsOpenWriter (w : OpenWriter) (s : Setting) (tag : List ℕ) (first : ℕ) (body : List ℕ) : Type 0 where
   pub keys : OpensUnder w.keys s
   pub bytes : MasksByBytes s
@@ -110,7 +110,7 @@ pub record HoldsOpenWriter (w : OpenWriter) (s : Setting) (tag : List ℕ) (firs
 
 -- ---- pieces that are joined
 
--- a text has the length and the tag of the first one
+-- the text has the length and the tag of the first text
 abbrev pub Repeats : Setting → List ℕ → List ℕ → Type 0
 Repeats s first text = (length text ≡ length first) × (tag_of s text ≡ tag_of s first)
 
@@ -118,27 +118,27 @@ Repeats s first text = (length text ≡ length first) × (tag_of s text ≡ tag_
 abbrev pub IsCiphertext : Setting → List ℕ → List ℕ → Type 0
 IsCiphertext s text c = (tag : List ℕ) → c ≡ masked (mask_of s tag) 0 text
 
--- the ciphertexts of a text and of the piece after it, joined, are the ciphertext of both; a ciphertext
--- followed by the tag of its text is the sealing
+-- if c is the ciphertext of a text, and d that of the piece after it, c ++ d is the ciphertext of both; and c followed by the
+-- tag of its text is the sealing of the text
 abbrev pub PiecesMakeASealing : Type 0
 PiecesMakeASealing = (s : Setting) (text c : List ℕ) → IsCiphertext s text c
     → ((piece d : List ℕ) → ((tag : List ℕ) → d ≡ masked (mask_of s tag) (length text) piece)
     → IsCiphertext s (text ++ piece) (c ++ d))
     × (c ++ tag_of s text ≡ sealing s text)
 
--- c is a text masked under a tag
+-- c is the text, masked under this tag
 abbrev pub IsMasked : Setting → (tag text c : List ℕ) → Type 0
 IsMasked s tag text c = c ≡ masked (mask_of s tag) 0 text
 
--- a text masked under a tag and the piece after it, masked under the same tag, are, joined, both masked; followed by
--- the tag, if it is that of the text, they are the sealing
+-- if c is a text masked under a tag, and d the piece after it masked under the same tag, c ++ d is both of them masked; and
+-- c followed by the tag is the sealing of the text, if the tag is that of the text
 abbrev pub MaskedPiecesMakeASealing : Type 0
 MaskedPiecesMakeASealing = (s : Setting) (tag text c : List ℕ) → IsMasked s tag text c
     → ((piece d : List ℕ) → d ≡ masked (mask_of s tag) (length text) piece
     → IsMasked s tag (text ++ piece) (c ++ d))
     × (tag ≡ tag_of s text → c ++ tag ≡ sealing s text)
 
--- pieces that are masked one after the other under one tag are, joined, their text masked
+-- a text and the piece after it, masked one after the other under one tag and joined, are both of them masked
 abbrev pub MaskedPiecesJoin : Type 0
 MaskedPiecesJoin = (s : Setting) (tag text piece : List ℕ)
     → masked (mask_of s tag) 0 text ++ masked (mask_of s tag) (length text) piece

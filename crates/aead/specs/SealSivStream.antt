@@ -1,4 +1,4 @@
--- The result of the engine that seals in two readings, and what it gives.
+-- The result of the engine that seals in two readings, and the bytes that it writes.
 use Rattle.std.specs.Prelude.{◌≡◌, ℕ, ◌<◌, ◌⊎◌, List, [], ◌++◌, length, take, Option, Some, Result, Ok, Err}
 use Rattle.std.specs.Prelude.{IfSome}
 use Rattle.std.specs.Io.KnownBytes.{Appends}
@@ -12,12 +12,12 @@ use Rattle.aead.specs.Refusals.{SealRefused, DueTo}
 use Rattle.aead.specs.Pieces.{Repeats}
 use Rattle.aead.specs.Verdict.{IsBeginning}
 
--- the ciphertext of a second reading b, under the tag of the first one a and up to its length
+-- the ciphertext of the second reading b, up to the length of the first reading a and under the tag of a
 abbrev pub again : Setting → List ℕ → List ℕ → List ℕ
 again s a b = masked (mask_of s (tag_of s a)) 0 (take (length a) b)
 
--- the bytes given of the second reading b after the first one a: all and the tag, all if it differs, or a
--- beginning if a device failed
+-- what is written of the second reading b after the first reading a: the ciphertext and the tag at `Ok`, the ciphertext at
+-- `SourceChanged`, and a beginning of them if a device failed
 abbrev pub WritesAgain : Setting → List ℕ → List ℕ → Option (List ℕ) → Option (List ℕ) → ℕ → ℕ → ℕ → ℕ
     → Result (Unit {0}) Fault → Type 0
 WritesAgain s a b taken taken' read read' wrote wrote' r =
@@ -30,7 +30,7 @@ WritesAgain s a b taken taken' read read' wrote wrote' r =
     ⊎ ((k : ℕ) × Appends taken taken' (again s a b ++ take k (tag_of s a)) × Repeats s a b × (r ≡ Err Write)
     × Failed wrote wrote')
 
--- the result that the two readings fix
+-- the result that the two readings determine
 abbrev pub SivVerdict : Setting → List ℕ → List ℕ → Result (Unit {0}) Fault → Type 0
 SivVerdict s a b (Ok _) = Fits s a × Repeats s a b
 SivVerdict s a b (Err SourceChanged) = Fits s a × ¬ (Repeats s a b)
@@ -42,30 +42,29 @@ pub record SivCounts : Type 0 where
   pub second : ℕ
   pub outlet : ℕ
 
--- at `Ok` and at a fault of the call's own no device failed, at `Read` a reading did, and at `Write` the outlet
--- did; there is no other fault
+-- at `Ok` and at a fault of the call's own no device failed, at `Read` a reading failed, and at `Write` the outlet failed;
+-- there is no other fault
 abbrev pub SivBlames : List Fault → SivCounts → SivCounts → Result (Unit {0}) Fault → Type 0
 SivBlames own before after r =
     DueTo own (after ≡ before) (Failed before.first after.first ⊎ Failed before.second after.second)
     (Failed before.outlet after.outlet) r
 
--- the bytes given of the second reading b after the first one a, and the result
+-- the bytes written of the second reading b after the first reading a, and the result
 pub record SealsSivStream (s : Setting) (a b given : List ℕ) (before after : SivCounts)
     (r : Result (Unit {0}) Fault) : Type 0 where
-  -- nothing is given if the associated data or the first reading is past its limit
+  -- nothing is written if the associated data or the first reading is past its limit
   pub early : (aad_limit s.suite < length s.aad) ⊎ (text_limit s.suite < length a) → given ≡ []
-  -- the bytes given are a beginning of the ciphertext, and of the tag after it only if the second
-  -- reading repeats the first
+  -- the bytes written are a beginning of the ciphertext; the tag begins after it only if the second reading repeats the first
   pub beginning : IsBeginning given (again s a b)
       ⊎ (Repeats s a b × IsBeginning given (again s a b ++ tag_of s a))
-  -- at Ok it is all of both
+  -- at Ok the second reading repeats the first, and the bytes written are the ciphertext and the tag
   pub whole : r ≡ Ok tt → Repeats s a b × (given ≡ again s a b ++ tag_of s a)
-  -- the result is the verdict, and no device failed, or it names a device that failed
+  -- the result is the verdict and no device failed, or the result names a device that failed
   pub answer : (SivVerdict s a b r × (after ≡ before))
       ⊎ ((r ≡ Err Read) × (Failed before.first after.first ⊎ Failed before.second after.second))
       ⊎ ((r ≡ Err Write) × Failed before.outlet after.outlet)
 
--- if the bytes of both readings and of the outlet are known: P of the readings' bytes and of those given
+-- if the bytes of both readings and of the outlet are known, P holds of the readings' bytes and of the bytes written
 abbrev pub IfBothKnown : Option (List ℕ) → Option (List ℕ) → Option (List ℕ) → Option (List ℕ)
     → (List ℕ → List ℕ → List ℕ → Type 0) → Type 0
 IfBothKnown first second taken taken' P =

@@ -21,7 +21,7 @@ use Rattle.aead.specs.Suites.{Construction, ByChaCha, ByGcm, ByGcmSiv, construct
 unfoldable pub poly_key : List ℕ → List ℕ → List ℕ
 poly_key key nonce = take 32 (block key 0 nonce)
 
--- the authenticated bytes: the padded data, the padded ciphertext, and their lengths in bytes
+-- the authenticated bytes: the padded associated data, the padded ciphertext, and their lengths in bytes
 unfoldable pub chacha_authenticated : List ℕ → List ℕ → List ℕ
 chacha_authenticated aad c =
     pad16 aad ++ (pad16 c ++ (to_le_bytes w64 (length aad) ++ to_le_bytes w64 (length c)))
@@ -32,35 +32,35 @@ chacha_authenticated aad c =
 unfoldable pub hash_key : List ℕ → List ℕ
 hash_key key = cipher key (replicate 16 0)
 
--- J0, the block that the tag is masked with: the nonce and a counter of 1
+-- J0, the block whose cipher masks the tag: the nonce and a counter of 1
 unfoldable pub j0 : List ℕ → List ℕ
 j0 nonce = nonce ++ (0 ∷ 0 ∷ 0 ∷ 1 ∷ [])
 
--- the authenticated bytes: the padded data, the padded ciphertext, and their lengths in bits
+-- the authenticated bytes: the padded associated data, the padded ciphertext, and their lengths in bits
 unfoldable pub gcm_authenticated : List ℕ → List ℕ → List ℕ
 gcm_authenticated aad c =
     pad16 aad ++ (pad16 c ++ (to_be_bytes w64 (8 * length aad) ++ to_be_bytes w64 (8 * length c)))
 
 -- ---- GCM-SIV (RFC 8452, 4)
 
--- part i of the derived keys: the first half of the cipher of i and the nonce
+-- part i of the derived keys: the first half of the cipher of the block that is i in four bytes and the nonce
 unfoldable pub key_part : List ℕ → List ℕ → ℕ → List ℕ
 key_part key nonce i = take 8 (cipher key (to_le_bytes w32 i ++ nonce))
 
--- parts 0 and 1
+-- the message-authentication key: parts 0 and 1
 unfoldable pub authentication_key : List ℕ → List ℕ → List ℕ
 authentication_key key nonce = key_part key nonce 0 ++ key_part key nonce 1
 
--- parts 2 and 3, and for a key of 32 bytes 4 and 5
+-- the message-encryption key: parts 2 and 3, and, if the key has 32 bytes, also parts 4 and 5
 unfoldable pub encryption_key : List ℕ → List ℕ → List ℕ
 encryption_key key nonce = flat_map (λ i. key_part key nonce (2 + i)) (range_with_len 0 (length key / 8))
 
--- the authenticated bytes: the padded data, the padded text, and their lengths in bits
+-- the authenticated bytes: the padded associated data, the padded text, and their lengths in bits
 unfoldable pub siv_authenticated : List ℕ → List ℕ → List ℕ
 siv_authenticated aad text =
     pad16 aad ++ (pad16 text ++ (to_le_bytes w64 (8 * length aad) ++ to_le_bytes w64 (8 * length text)))
 
--- a block whose byte 15 is changed by f
+-- the block b with its byte 15 changed by f
 unfoldable pub last_byte_by : (ℕ → ℕ) → List ℕ → List ℕ
 last_byte_by f b = slice_set b 15 (f (get_or b 15 0))
 
@@ -83,7 +83,7 @@ chacha_mask key nonce = key_stream_byte key nonce 1
 abbrev pub gcm_mask : List ℕ → List ℕ → ℕ → ℕ
 gcm_mask key nonce = counter_byte up_be key (up_be (j0 nonce) 1)
 
--- byte i of the mask that the text is XORed with. Only that of GCM-SIV depends on the tag.
+-- byte i of the mask that the text is XORed with. Only the mask of GCM-SIV depends on the tag.
 unfoldable pub mask_by : Construction → List ℕ → List ℕ → List ℕ → ℕ → ℕ
 mask_by ByChaCha key nonce tag = chacha_mask key nonce
 mask_by ByGcm key nonce tag = gcm_mask key nonce
@@ -93,7 +93,7 @@ mask_by ByGcmSiv key nonce tag = counter_byte up_le (encryption_key key nonce) (
 unfoldable pub mask : Suite → List ℕ → List ℕ → List ℕ → ℕ → ℕ
 mask suite = mask_by (construction_of suite)
 
--- the tag of what is authenticated: the ciphertext, or for GCM-SIV the text
+-- the tag over the associated data and the ciphertext, or, for GCM-SIV, the text
 unfoldable pub tag_over_by : Construction → List ℕ → List ℕ → List ℕ → List ℕ → List ℕ
 tag_over_by ByChaCha key nonce aad c = poly1305 (poly_key key nonce) (chacha_authenticated aad c)
 tag_over_by ByGcm key nonce aad c =
@@ -102,11 +102,11 @@ tag_over_by ByGcmSiv key nonce aad text =
     cipher (encryption_key key nonce)
     (tag_block (polyval (authentication_key key nonce) (siv_authenticated aad text)) nonce)
 
--- the tag over authenticated bytes, by suite
+-- the tag of a suite over the associated data and the ciphertext, or, for GCM-SIV, the text
 unfoldable pub tag_over : Suite → List ℕ → List ℕ → List ℕ → List ℕ → List ℕ
 tag_over suite = tag_over_by (construction_of suite)
 
--- the tag of a text
+-- the tag of a message with this text, by its construction
 unfoldable pub tag_by : Construction → List ℕ → List ℕ → List ℕ → List ℕ → List ℕ
 tag_by ByChaCha key nonce aad text =
     tag_over_by ByChaCha key nonce aad (masked (chacha_mask key nonce) 0 text)
@@ -124,15 +124,15 @@ pub record Setting : Type 0 where
 abbrev pub mask_of : Setting → List ℕ → ℕ → ℕ
 mask_of s tag = mask s.suite s.key s.nonce tag
 
--- the tag of a text
+-- the tag of a message with this text
 unfoldable pub tag_of : Setting → List ℕ → List ℕ
 tag_of s text = tag_by (construction_of s.suite) s.key s.nonce s.aad text
 
--- the sealing of a text: the ciphertext, which is the text XORed with the mask, and the tag
+-- the sealing of a text: the ciphertext, which is the text XORed with the mask, and then the tag
 unfoldable pub sealing : Setting → List ℕ → List ℕ
 sealing s text = masked (mask_of s (tag_of s text)) 0 text ++ tag_of s text
 
--- the lengths that have a sealing
+-- the associated data and the text have lengths that the suite allows
 pub record Fits (s : Setting) (text : List ℕ) : Type 0 where
   pub aad_fits : length s.aad ≤ aad_limit s.suite
   pub text_fits : length text ≤ text_limit s.suite
@@ -143,15 +143,15 @@ pub record Opened (s : Setting) (sealed : List ℕ) (text : List ℕ) : Type 0 w
   pub bytes : (i : ℕ) → get_or text i 0 < 256
   pub is : sealed ≡ sealing s text
 
--- sealed is the sealing of some text
+-- sealed is a valid sealing: it is the sealing of some text
 abbrev pub IsSealing : Setting → List ℕ → Type 0
 IsSealing s sealed = (text : List ℕ) × Opened s sealed text
 
--- sealed is the sealing of no text
+-- sealed is not a valid sealing: whatever the text, it is not the sealing of it
 abbrev pub IsNoSealing : Setting → List ℕ → Type 0
 IsNoSealing s sealed = (text : List ℕ) → ¬ Opened s sealed text
 
--- a sealing has one text, and sixteen bytes more
+-- a sealing has only one text, which is sixteen bytes shorter
 abbrev pub HasOneText : Type 0
 HasOneText = (s : Setting) (sealed text : List ℕ) → Opened s sealed text
     → (length sealed ≡ length text + 16) × ((other : List ℕ) → Opened s sealed other → other ≡ text)

@@ -4,7 +4,7 @@ use Rattle.aead.specs.declared.suite.Suite.{Suite}
 use Rattle.aead.specs.declared.suite.Suite.TheVariants.{ChaCha20Poly1305, Aes128Gcm, Aes192Gcm, Aes256Gcm}
 use Rattle.aead.specs.declared.suite.Suite.TheVariants.{Aes128GcmSiv, Aes256GcmSiv}
 
--- the constructions: a suite is one of them with a key length
+-- the constructions: a suite is a construction with a length of the key
 pub data Construction : Type 0 where
   ByChaCha : Construction
   ByGcm : Construction
@@ -19,7 +19,7 @@ construction_of Aes256Gcm = ByGcm
 construction_of Aes128GcmSiv = ByGcmSiv
 construction_of Aes256GcmSiv = ByGcmSiv
 
--- the bytes of a suite's name
+-- the name of a suite, in bytes
 abbrev pub suite_name : Suite → List ℕ
 suite_name ChaCha20Poly1305 = codes "chacha20-poly1305"
 suite_name Aes128Gcm = codes "aes-128-gcm"
@@ -37,7 +37,7 @@ suite_number Aes256Gcm = 4
 suite_number Aes128GcmSiv = 5
 suite_number Aes256GcmSiv = 6
 
--- the bytes of a key
+-- the length of a suite's key in bytes
 abbrev pub key_length : Suite → ℕ
 key_length ChaCha20Poly1305 = 32
 key_length Aes128Gcm = 16
@@ -46,25 +46,25 @@ key_length Aes256Gcm = 32
 key_length Aes128GcmSiv = 16
 key_length Aes256GcmSiv = 32
 
--- whether the tag is over the ciphertext; else it is over the text
+-- whether the tag is over the ciphertext; otherwise it is over the text
 abbrev pub is_one_pass : Construction → Bool
 is_one_pass ByChaCha = true
 is_one_pass ByGcm = true
 is_one_pass ByGcmSiv = false
 
--- the most bytes of a text
+-- the greatest length of a text in bytes
 abbrev pub text_limit_by : Construction → ℕ
 text_limit_by ByChaCha = 2 ^ 38 - 64
 text_limit_by ByGcm = 2 ^ 36 - 32
 text_limit_by ByGcmSiv = 2 ^ 36
 
--- the most bytes of associated data
+-- the greatest length of associated data in bytes
 abbrev pub aad_limit_by : Construction → ℕ
 aad_limit_by ByChaCha = 2 ^ 64 - 1
 aad_limit_by ByGcm = 2 ^ 61 - 1
 aad_limit_by ByGcmSiv = 2 ^ 36
 
--- both by suite
+-- the limits of a suite, which are those of its construction
 abbrev pub text_limit : Suite → ℕ
 text_limit suite = text_limit_by (construction_of suite)
 

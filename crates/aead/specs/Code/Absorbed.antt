@@ -6,7 +6,7 @@ use Rattle.aead.specs.declared.authenticator.Authenticator.{Authenticator}
 use Rattle.aead.specs.Sealing.{Setting}
 use Rattle.aead.specs.Code.States.{HoldsAuthenticator}
 
--- after this text, a piece was taken in by a hash of which `held` speaks, of the room's length but at the end
+-- the hash, of which `held` speaks, has taken in a piece after this text; the piece fills the room unless the reading ended
 abbrev pub AbsorbsPiece : {H : Type 0} → (H → Setting → List ℕ → Type 0) → Setting → List ℕ → ℕ
     → Option (List ℕ) → Option (List ℕ) → Authenticator H → Result ℕ Fault → Type 0
 AbsorbsPiece held s text room left left' after r =
@@ -15,7 +15,7 @@ AbsorbsPiece held s text room left left' after r =
     × (length bytes ≡ n) × (n < room → IsAtEnd left') × ((i : ℕ) → get_or bytes i 0 < 256))
     (λ _. (bytes : List ℕ) × Consumes left left' bytes)
 
--- a first reading was taken in to its end, or is longer than the room
+-- a first reading was taken in to its end, or it is longer than the room
 pub record AbsorbedAll {H : Type 0} (held : H → Setting → List ℕ → Type 0) (s : Setting) (room : ℕ)
     (left left' : Option (List ℕ)) (after : Authenticator H) (all : Bool) : Type 0 where
   pub bytes : List ℕ

@@ -1,4 +1,4 @@
--- A reading to its end, but for what it has past a length.
+-- A reading that is taken to its end, except for what it has past a length.
 use Rattle.std.specs.Prelude.{◌≡◌, ℕ, ◌≤◌, ◌<◌, List, [], Bool, true, false, length, take, Option, Some}
 use Rattle.std.specs.Prelude.{None, Result, MatchResult}
 use Rattle.std.specs.Io.KnownBytes.{Consumes, Appends, IsAtEnd}
@@ -7,12 +7,13 @@ use Rattle.octets.specs.Masked.{masked}
 use Rattle.aead.specs.Code.Maskings.{Task, task_mask}
 use Rattle.aead.specs.Code.Passes.{Stopped}
 
--- how many bytes x has, or that it has more than a length
+-- x has n bytes, no more than a length, or, if there is no n, x has more bytes than the length
 abbrev pub IsExtent : ℕ → List ℕ → Option ℕ → Type 0
 IsExtent len x None = len < length x
 IsExtent len x (Some n) = (length x ≡ n) × (n ≤ len)
 
--- all was taken, or more than the length; the state is one of which `holds` speaks
+-- a reading was taken to its end or past the length; its bytes up to the length were written, masked, and taken in by a state
+-- of which `holds` speaks
 pub record HasPassedAll {M : Type 0} (holds : M → Task → List ℕ → Type 0) (t : Task) (len : ℕ)
     (left left' taken taken' : Option (List ℕ)) (after : M) (extent : Option ℕ) : Type 0 where
   pub bytes : List ℕ
@@ -28,7 +29,7 @@ PassedAll holds t len left left' taken taken' after r =
     MatchResult r (λ e. HasPassedAll holds t len left left' taken taken' after e)
     (λ _. Stopped t [] len left left' taken taken')
 
--- some byte came, or the reading is at its end
+-- b says whether some bytes came; if none came, the reading is at its end
 pub record More (left left' : Option (List ℕ)) (b : Bool) : Type 0 where
   pub bytes : List ℕ
   pub consumed : Consumes left left' bytes

@@ -12,15 +12,14 @@ use Rattle.aead.specs.Sealing.{tag_over}
 use Rattle.aead.specs.Code.Maskings.{Task, task_mask, message_task}
 use Rattle.aead.specs.Code.Passes.{Stopped, HasFilledRoom}
 
--- x has this length and ends in this tag, and is a sealing or none; or it has another length or ends
--- otherwise
+-- x has this length and ends in this tag, and it is a valid sealing or is not one; or x differs in its length or its end
 abbrev pub IsFinding : Setting → List ℕ → ℕ → List ℕ → Finding → Type 0
 IsFinding s tag len x Differs = ¬ (drop (len - 16) x ≡ tag)
 IsFinding s tag len x Unsealed = (drop (len - 16) x ≡ tag) × IsNoSealing s x
 IsFinding s tag len x Sealed =
     (drop (len - 16) x ≡ tag) × Opened s x (masked (mask_of s tag) 0 (take (len - 16) x))
 
--- a whole reading was taken, as far as it can matter
+-- a reading was taken to its end, or past the measured length, and f is what was found
 pub record HasPassedReading (s : Setting) (tag : List ℕ) (len : ℕ) (left left' taken taken' : Option (List ℕ))
     (f : Finding) : Type 0 where
   pub bytes : List ℕ
@@ -35,23 +34,23 @@ PassedWhole s tag len left left' taken taken' r =
     MatchResult r (λ f. HasPassedReading s tag len left left' taken taken' f)
     (λ _. Stopped (message_task s tag) [] (len - 16) left left' taken taken')
 
--- a body of an allowed length would open to a text with this tag
+-- the body has an allowed length, and `made` is the tag of the text that it decrypts to
 abbrev pub MakesTag : List ℕ → Task → List ℕ → Type 0
 MakesTag made t body = Fits t.setting body × (made ≡ tag_of t.setting (masked (task_mask t) 0 body))
 
--- the tag over the authenticated bytes of a body is that of what it would open to
+-- the tag over the authenticated bytes of a body is the tag of the text that the body decrypts to
 abbrev pub MakesTextTag : ((ℕ → ℕ) → List ℕ → List ℕ) → Setting → List ℕ → Type 0
 MakesTextTag hashed s tag =
     (body : List ℕ) → tag_over s.suite s.key s.nonce s.aad (hashed (mask_of s tag) body)
     ≡ tag_of s (masked (mask_of s tag) 0 body)
 
--- the n bytes of the body that a reading had were taken, and they make this tag
+-- the body of a reading, n bytes of it, was taken, and `made` is the tag of the text that it decrypts to
 abbrev pub PassesBody : Setting → List ℕ → ℕ → Option (List ℕ) → Option (List ℕ) → Option (List ℕ)
     → Option (List ℕ) → ℕ → List ℕ → Type 0
 PassesBody s tag len left left' taken taken' n made =
     HasFilledRoom MakesTag (message_task s tag) [] (len - 16) left left' taken taken' made n
 
--- this tag came and nothing more, or something else
+-- b says whether the bytes that came were this tag and nothing more
 pub record Tail (tag : List ℕ) (left left' : Option (List ℕ)) (b : Bool) : Type 0 where
   pub bytes : List ℕ
   pub consumed : Consumes left left' bytes

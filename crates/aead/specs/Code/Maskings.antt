@@ -1,23 +1,23 @@
--- The state of a message in pieces, by what it was fed.
+-- The state of a message in pieces, in terms of the pieces that it has taken in.
 use Rattle.std.specs.Prelude.{◌≡◌, ℕ, ◌≤◌, List, length}
 use Rattle.aead.specs.declared.masking.Masking.{Masking}
 use Rattle.aead.specs.Suites.{text_limit}
 use Rattle.aead.specs.Sealing.{Setting, mask_of, tag_of}
 use Rattle.aead.specs.Code.States.{HoldsAuthenticator}
 
--- the message whose pieces are masked
+-- a message whose pieces are masked, and the limit of its length
 pub record Task : Type 0 where
-  -- the most bytes of all pieces
+  -- the greatest length of all pieces together
   pub limit : ℕ
   pub setting : Setting
   pub tag : List ℕ
 
--- its mask
+-- the mask of a task
 abbrev pub task_mask : Task → ℕ → ℕ
 task_mask t = mask_of t.setting t.tag
 
--- m was made for this task and was fed these pieces, by a mask and a hash of which `made` and `held` speak;
--- `hashed` of them is authenticated
+-- m belongs to this task and has taken in these pieces. `made` and `held` say what its mask and its hash have done, and
+-- `hashed` gives the bytes of the pieces that are authenticated.
 pub record HoldsMasking {S H : Type 0} (made : S → Setting → List ℕ → ℕ → Type 0)
     (held : H → Setting → List ℕ → Type 0)
     (hashed : (ℕ → ℕ) → List ℕ → List ℕ)
@@ -33,6 +33,6 @@ pub record HoldsMasking {S H : Type 0} (made : S → Setting → List ℕ → �
 abbrev pub message_task : Setting → List ℕ → Task
 message_task s tag = record { limit = text_limit s.suite; setting = s; tag = tag }
 
--- the task of encrypting a text again whose tag is known
+-- the task of encrypting again a text whose tag is known
 abbrev pub repeating_task : Setting → List ℕ → Task
 repeating_task s first = record { limit = length first; setting = s; tag = tag_of s first }

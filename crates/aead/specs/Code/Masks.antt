@@ -29,7 +29,7 @@ Takes held a b bytes =
     (s : Setting) (m : List ℕ) → HoldsAuthenticator held a s m → length m + length bytes ≤ text_limit s.suite
     → HoldsAuthenticator held b s (m ++ bytes)
 
--- the bytes authenticated if pieces are hashed first: the pieces as they come
+-- the bytes authenticated if pieces are hashed first: the pieces as they come in
 abbrev pub as_it_comes : (ℕ → ℕ) → List ℕ → List ℕ
 as_it_comes mask bytes = bytes
 
@@ -37,7 +37,7 @@ as_it_comes mask bytes = bytes
 abbrev pub as_it_leaves : (ℕ → ℕ) → List ℕ → List ℕ
 as_it_leaves mask bytes = masked mask 0 bytes
 
--- the bytes authenticated in an order, by the mask and the bytes before it
+-- the bytes of these pieces that are authenticated, in either order of masking and hashing
 abbrev pub hashed_by : Order → (ℕ → ℕ) → List ℕ → List ℕ
 hashed_by MaskFirst mask bytes = as_it_leaves mask bytes
 hashed_by HashFirst mask bytes = as_it_comes mask bytes
@@ -46,7 +46,7 @@ pub none_leaves : (mask : ℕ → ℕ) → as_it_leaves mask [] ≡ []
 unfolding masked
 none_leaves mask = refl
 
--- of no bytes nothing is authenticated
+-- no pieces have no authenticated bytes
 pub none_hashed : (order : Order) (mask : ℕ → ℕ) → hashed_by order mask [] ≡ []
 none_hashed MaskFirst mask = none_leaves mask
 none_hashed HashFirst mask = refl
@@ -71,7 +71,7 @@ TakesText made held m m' a a' bytes =
     → length fed + length bytes ≤ text_limit s.suite
     → made m' s tag (length (fed ++ bytes)) × HoldsAuthenticator held a' s (masked (mask_of s tag) 0 (fed ++ bytes))
 
--- the mask of each construction
+-- the masks of the three constructions, each as a stream of its cipher
 pub chacha_mask : (s : Setting) (tag : List ℕ) → construction_of s.suite ≡ ByChaCha
     → mask_of s tag ≡ key_stream_byte s.key s.nonce 1
 unfolding mask mask_by
@@ -87,7 +87,7 @@ siv_mask : (s : Setting) (tag : List ℕ) → construction_of s.suite ≡ ByGcmS
 unfolding mask mask_by
 siv_mask s tag e = ap (λ by. mask_by by s.key s.nonce tag) e
 
--- so do those of the constructions
+-- if the stream of a construction is applied to the next bytes, the next bytes of the mask are XORed in
 pub chacha_masks : (a b : ChaStream) (was now : List ℕ) → chacha.Did a b was now → Masks MadeByChaCha a b was now
 chacha_masks a b was now did = λ s tag n h room.
     let limit : text_limit s.suite ≡ 2 ^ 38 - 64 = ap text_limit_by h.0 in

@@ -7,8 +7,8 @@ use Rattle.aead.specs.Sealing.{Setting, mask_of}
 use Rattle.aead.specs.PassStates.{HoldsNumbers}
 use Rattle.aead.specs.Pieces.{HasTakenIn}
 
--- p becomes q, and was becomes now: if p holds what of these bytes is authenticated, a piece within the limit is added and
--- masked
+-- p becomes q, and was becomes now: if p has taken in the authenticated bytes of `fed`, q has taken in those of one more piece
+-- too, which is within the limit and is masked
 abbrev pub MasksPiece : (hashed : (ℕ → ℕ) → List ℕ → List ℕ) (p q : PassState) (was now : List ℕ)
     → Setting → (tag fed : List ℕ) → Type 0
 MasksPiece hashed p q was now s tag fed =
@@ -16,24 +16,25 @@ MasksPiece hashed p q was now s tag fed =
     → HoldsNumbers p s (hashed (mask_of s tag) fed)
     → HoldsNumbers q s (hashed (mask_of s tag) (fed ++ was)) × (now ≡ masked (mask_of s tag) (length fed) was)
 
--- p becomes q: if p holds the text of these bytes of a ciphertext, the text of a piece within the limit is added
+-- p becomes q: if p has taken in the text of these bytes of a ciphertext, q has taken in that of one more piece, within the limit
 abbrev pub TakesPieceText : (p q : PassState) (piece : List ℕ) → Setting → (tag fed : List ℕ) → Type 0
 TakesPieceText p q piece s tag fed =
     p.length ≡ length fed → p.length + length piece ≤ text_limit s.suite
     → HoldsNumbers p s (masked (mask_of s tag) 0 fed)
     → HoldsNumbers q s (masked (mask_of s tag) 0 (fed ++ piece))
 
--- p becomes q: if p holds these bytes, a piece within the limit is added
+-- p becomes q: if p has taken in these bytes, q has taken in one more piece, within the limit
 abbrev pub TakesPiece : (p q : PassState) (piece : List ℕ) → Setting → (bytes : List ℕ) → Type 0
 TakesPiece p q piece s bytes =
     p.length + length piece ≤ text_limit s.suite → HoldsNumbers p s bytes → HoldsNumbers q s (bytes ++ piece)
 
--- p becomes q: if p has taken in this ciphertext under a tag, a piece within the limit is added
+-- p becomes q: if p has taken in this ciphertext under a tag, q has taken in one more piece, within the limit
 abbrev pub ChecksPiece : (p q : PassState) (piece : List ℕ) → Setting → (tag body : List ℕ) → Type 0
 ChecksPiece p q piece s tag body =
     p.length + length piece ≤ text_limit s.suite → HasTakenIn p s tag body → HasTakenIn q s tag (body ++ piece)
 
--- p becomes q, and was becomes now: so, and the piece is decrypted
+-- p becomes q, and was becomes now: if p has taken in this ciphertext under a tag, q has taken in one more piece, within the
+-- limit, which is decrypted
 abbrev pub OpensPiece : (p q : PassState) (was now : List ℕ) → Setting → (tag body : List ℕ) → Type 0
 OpensPiece p q was now s tag body =
     p.length + length was ≤ text_limit s.suite → HasTakenIn p s tag body

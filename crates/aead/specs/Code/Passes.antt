@@ -6,7 +6,7 @@ use Rattle.octets.specs.declared.fault.Fault.{Fault}
 use Rattle.octets.specs.Masked.{masked}
 use Rattle.aead.specs.Code.Maskings.{Task, task_mask}
 
--- after these bytes, more were taken, fed to a state of which `holds` speaks and, masked, given
+-- after `fed`, more bytes were read; they were written, masked, and taken in by a state of which `holds` speaks
 pub record HasPassed {M : Type 0} (holds : M → Task → List ℕ → Type 0) (t : Task) (fed : List ℕ)
     (left left' taken taken' : Option (List ℕ)) (after : M) (bytes : List ℕ) : Type 0 where
   pub consumed : Consumes left left' bytes
@@ -14,7 +14,7 @@ pub record HasPassed {M : Type 0} (holds : M → Task → List ℕ → Type 0) (
   pub held : holds after t (fed ++ bytes)
   pub small : (i : ℕ) → get_or (masked (task_mask t) (length fed) bytes) i 0 < 256
 
--- after these bytes, a device failed: more were taken, and the first of them, masked, were given
+-- after `fed`, a device failed: more bytes were read, and the first of them were written, masked
 pub record Stopped (t : Task) (fed : List ℕ) (room : ℕ) (left left' taken taken' : Option (List ℕ)) : Type 0
   where
     pub bytes : List ℕ
@@ -24,7 +24,7 @@ pub record Stopped (t : Task) (fed : List ℕ) (room : ℕ) (left left' taken ta
     pub short : shown ≤ room
     pub given : Appends taken taken' (take shown (masked (task_mask t) (length fed) bytes))
 
--- all of the room, or all that was left
+-- the bytes that passed fill the room, or they are all that the reading had left
 pub record HasFilledRoom {M : Type 0} (holds : M → Task → List ℕ → Type 0) (t : Task) (fed : List ℕ) (room : ℕ)
     (left left' taken taken' : Option (List ℕ)) (after : M) (n : ℕ) : Type 0 where
   pub bytes : List ℕ

@@ -22,13 +22,13 @@ MeasureReturns limit m read read' r =
     ⊎ ((f ≡ TooShort) × (length m < 16) × (read' ≡ read))
     ⊎ ((f ≡ Read) × Failed read read'))
 
--- the result for what the verify reading showed
+-- the result for what was found in the verify reading
 abbrev pub verify_answer : Finding → Result (Unit {0}) Fault
 verify_answer Sealed = Ok tt
 verify_answer Unsealed = Err TagMismatch
 verify_answer Differs = Err SourceChanged
 
--- the result for what the write reading showed
+-- the result for what was found in the write reading
 abbrev pub write_answer : Finding → Result (Unit {0}) Fault
 write_answer Sealed = Ok tt
 write_answer Unsealed = Err SourceChanged

@@ -20,32 +20,33 @@ use Rattle.aead.specs.Sealing.{encryption_key, counter_block}
 
 -- ---- m has made n bytes of the mask of a message under this tag
 
--- of ChaCha20-Poly1305
+-- m has made n bytes of the mask of a message of ChaCha20-Poly1305
 abbrev pub MadeByChaCha : ChaStream → Setting → List ℕ → ℕ → Type 0
 MadeByChaCha m s tag n = (construction_of s.suite ≡ ByChaCha) × chacha.Holds m s.key s.nonce 1 n
 
--- of GCM
+-- m has made n bytes of the mask of a message of GCM
 abbrev pub MadeByGcm : {C K : Type 0} → (K → List ℕ) → Ctr C K → Setting → List ℕ → ℕ → Type 0
 MadeByGcm kept m s tag n = (construction_of s.suite ≡ ByGcm) × Holds up_be kept m s.key (up_be (j0 s.nonce) 1) n
 
--- of GCM-SIV
+-- m has made n bytes of the mask of a message of GCM-SIV under this tag
 abbrev pub MadeByGcmSiv : {C K : Type 0} → (K → List ℕ) → Ctr C K → Setting → List ℕ → ℕ → Type 0
 MadeByGcmSiv kept m s tag n =
     (construction_of s.suite ≡ ByGcmSiv) × Holds up_le kept m (encryption_key s.key s.nonce) (counter_block tag) n
 
 -- ---- h holds the text m under the keys of a message
 
--- Poly1305
+-- h is a Poly1305 that holds m under the one-time key of a message
 abbrev pub HeldByPoly : PolyBy WordMul → Setting → List ℕ → Type 0
 HeldByPoly h s m = (construction_of s.suite ≡ ByChaCha) × poly1305.Holds h (poly_key s.key s.nonce) m
 
--- GHASH, with the cipher of J0
+-- h is a GHASH that holds m under the hash key of a message, together with the cipher of J0
 abbrev pub HeldByGhash : {M : Type 0} → (M → List ℕ) → GhashTag M → Setting → List ℕ → Type 0
 HeldByGhash key_bytes h s m =
     (construction_of s.suite ≡ ByGcm) × gf128.Holds key_bytes h.hash (hash_key s.key) m
     × (h.mask ≡ cipher s.key (j0 s.nonce))
 
--- POLYVAL, with the encryption key and the nonce; what it holds is stated as a fact alone
+-- h is a POLYVAL that holds m under the authentication key of a message, together with the encryption key and the nonce.
+-- For POLYVAL only the fact is stated (`∥ .. ∥₁`).
 abbrev pub HeldByPolyval : {M K : Type 0} → (M → List ℕ) → (K → List ℕ) → PolyvalTag M K → Setting → List ℕ
     → Type 0
 HeldByPolyval key_bytes kept h s m =
@@ -55,7 +56,7 @@ HeldByPolyval key_bytes kept h s m =
 
 -- ---- whole parts
 
--- a has taken in the associated data and these bytes after it, by a hash of which `held` speaks
+-- a has taken in the associated data and these bytes after it, with a hash of which `held` speaks
 pub record HoldsAuthenticator {H : Type 0} (held : H → Setting → List ℕ → Type 0) (a : Authenticator H)
     (s : Setting) (bytes : List ℕ) : Type 0 where
   pub hashed : held a.hash s (pad16 s.aad ++ bytes)

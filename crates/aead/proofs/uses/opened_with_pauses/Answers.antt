@@ -6,7 +6,7 @@ use Rattle.aead.specs.Ciphers.{setting}
 use Rattle.aead.specs.AnyCiphers.{keyed_of}
 use Rattle.aead.proofs.uses.opened_with_pauses.Goals as goal
 
--- what is known of a result that is Ok
+-- if a result is Ok, what holds of the value holds
 if_ok : (r : Result (Unit {0}) Fault) (P : Type 0) (Q : Fault → Type 0) → MatchResult r (λ _. P) Q → OnOk r P
 if_ok (Ok v) P Q m = m
 if_ok (Err e) P Q m = tt

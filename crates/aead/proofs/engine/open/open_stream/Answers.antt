@@ -29,7 +29,7 @@ returns-in_err-check_aad-clause-opens g c =
     (g.K.Intake.failures c.args.write.now) (g.O.Outlet.failures c.args.out.now))
     long)
 
--- the result of the measure reading, by another name of its suite
+-- the result of the measure reading holds for an equal suite
 known_at : (x y : Suite) (lm : Option (List ℕ)) (before after : ℕ) (r : Result Measured Fault) → x ≡ y
     → IfSome lm (λ m. MeasureReturns (text_limit x) m before after r)
     → IfSome lm (λ m. MeasureReturns (text_limit y) m before after r)
