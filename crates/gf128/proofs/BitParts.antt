@@ -1,4 +1,4 @@
--- Products of some bits of a number and a word.
+-- Products of a word and some bits of a number.
 use Rattle.std.proofs.Common.{◌≡◌, ℕ, zero, suc, ◌+◌, ◌-◌, ◌*◌, ◌/◌, ◌%◌, ◌^◌, ◌<◌, ◌≤◌, Bool, true, false}
 use Rattle.std.proofs.Common.{◌==◌, List, [], ◌∷◌, ◌++◌, length, get_or, reverse, replicate, bit_xor, inl}
 use Rattle.std.proofs.Common.{inr, refl, sym, subst, ap, ap₂, ◌∙◌, arith, zero-add}
@@ -27,7 +27,7 @@ use Rattle.gf128.proofs.WordLemmas.{of_word_past, of_word_xor, of_word_zero, g-t
 
 -- ---- bits of numbers
 
--- a bit of a number that was moved down
+-- bit j of a number that is shifted down by i places is bit i + j of the number
 pub bit_shr : (n i j : ℕ) → bit (n / 2 ^ i) j ≡ bit n (i + j)
 bit_shr n i j = ap is_odd (shr-shr n i j)
 
@@ -35,39 +35,39 @@ bit_shr n i j = ap is_odd (shr-shr n i j)
 pub bit_above : (n k j : ℕ) → n < 2 ^ k → k ≤ j → bit n j ≡ false
 bit_above n k j small h = ap (λ (x : ℕ). x == 1) (bit_at_above n k j small h)
 
--- the low bits of two numbers put together
+-- in a * 2^k + b, the bits below place k are those of b
 pub bit_low : (a k b j : ℕ) → j < k → bit (a * 2 ^ k + b) j ≡ bit b j
 bit_low a k b j h = ap (λ (x : ℕ). x == 1) (bit_at_cat_low a k b j h)
 
--- the high bits of two numbers put together
+-- in a * 2^k + b, the bits from place k on are those of a, if b is below 2^k
 pub bit_high : (a k b j : ℕ) → b < 2 ^ k → k ≤ j → bit (a * 2 ^ k + b) j ≡ bit a (j - k)
 bit_high a k b j small h = ap (λ (x : ℕ). x == 1) (bit_at_cat_high a k b j small h)
 
--- ---- the places of some bits
+-- ---- the coefficients of some bits
 pub of_bits_at : (w n k : ℕ) → k < w → coefficient (of_bits w n) k ≡ bit n (w - 1 - k)
 unfolding of_bits
 of_bits_at w n k h = get_or-map-range_with_len (λ i. bit n (w - 1 - i)) 0 w k k false h (zero-add k)
 
--- as many as there are bits
+-- the polynomial of w bits has w coefficients
 length-of_bits : (w n : ℕ) → length (of_bits w n) ≡ w
 unfolding of_bits
 length-of_bits w n = length-map-range_with_len (λ i. bit n (w - 1 - i)) 0 w
 
--- no coefficient from x^w on
+-- the polynomial of w bits has no coefficient from x^w on
 pub of_bits_past : (w n k : ℕ) → w ≤ k → coefficient (of_bits w n) k ≡ false
 of_bits_past w n k h = get_or_past (of_bits w n) k false (omega (arith, length-of_bits w n))
 
--- equal bits
+-- numbers with the same w lowest bits have the same polynomial of w bits
 pub bits_same : (w n m : ℕ) → ((j : ℕ) → j < w → bit n j ≡ bit m j) → of_bits w n ≡ of_bits w m
 unfolding of_bits
 bits_same w n m e = made_same (λ k. bit n (w - 1 - k)) (λ k. bit m (w - 1 - k)) w
     (λ k l. e (w - 1 - k) (omega arith))
 
--- the lowest bits alone count
+-- a number a * 2^w + b has the same polynomial of w bits as b
 pub bits_low : (w a b n : ℕ) → a * 2 ^ w + b ≡ n → of_bits w b ≡ of_bits w n
 bits_low w a b n e = bits_same w b n (λ j l. sym (bit_low a w b j l) ∙ ap (λ (x : ℕ). bit x j) e)
 
--- the byte of a half word from the bit of weight 2^(8 i)
+-- byte i of a half word has the same polynomial as the half word shifted down by 8 i places
 pub byte_of_half : (n i : ℕ) → i < 8 → of_bits 8 (get_or (to_le_bytes w64 n) i 0)
     ≡ of_bits 8 (n / 2 ^ (8 * i))
 byte_of_half n i l =
@@ -80,7 +80,7 @@ byte_of_half n i l =
     bits_same 8 (get_or (to_le_bytes w64 n) i 0) (n / 2 ^ (8 * i)) (λ j h.
     ap (λ (x : ℕ). bit x j) byte ∙ ap (λ (x : ℕ). x == 1) (byte_bit n i j h) ∙ sym (bit_shr n (8 * i) j))
 
--- bits put together
+-- the polynomial of w + d bits is that of the upper w bits, plus x^w times that of the lower d bits
 pub bits_joined : (w d n : ℕ) → coefficient (of_bits (w + d) n)
     ≡ sum_of (coefficient (of_bits w (n / 2 ^ d))) (raised w (coefficient (of_bits d n)))
 bits_joined w d n =
@@ -105,7 +105,7 @@ bits_joined w d n =
 
 -- ---- words as residues
 
--- the coefficients of a residue
+-- the word z has the coefficients of the residue of p, if it is the residue
 pub reduced_is : (p : List Bool) (z : ℕ) → IsReduced p z
     → coefficient (of_word z) ≡ coefficient (residue ghash_modulus p)
 reduced_is p z is = fun_ext is
@@ -114,26 +114,26 @@ reduced_is p z is = fun_ext is
 pub reduced_same : (p q : List Bool) (z : ℕ) → coefficient p ≡ coefficient q → IsReduced p z → IsReduced q z
 reduced_same p q z e is k = is k ∙ ap (λ f. f k) (residue_same ghash_modulus p q refl e)
 
--- the residue of a sum
+-- the residue of a sum is the sum of the residues
 pub residue_parts : (p q : List Bool) → coefficient (residue ghash_modulus (sum p q))
     ≡ sum_of (coefficient (residue ghash_modulus p)) (coefficient (residue ghash_modulus q))
 residue_parts p q = fun_ext (residue_sum ghash_modulus p q refl) ∙ sum_is (residue ghash_modulus p)
     (residue ghash_modulus q)
 
--- an XOR is the residue of a sum
+-- the XOR of the residues of p and q is the residue of their sum
 pub reduced_sum : (p q : List Bool) (a b : ℕ) → IsReduced p a → IsReduced q b
     → IsReduced (sum p q) (bit_xor a b)
 reduced_sum p q a b ha hb k =
     of_word_xor a b k ∙ ap₂ plus (ha k) (hb k)
     ∙ sym (ap (λ f. f k) (residue_parts p q))
 
--- x^w times a polynomial, as a product
+-- w places before a polynomial multiply it by x^w
 x_times : (w : ℕ) (p : List Bool) → coefficient (replicate w false ++ p)
     ≡ coefficient (product (replicate w false ++ true ∷ []) p)
 x_times w p = fun_ext (coefficient_below w p) ∙ sym (product_is (replicate w false ++ true ∷ []) p
     ∙ fun_ext (times_power w (coefficient p)))
 
--- x^w times a product, by its first factor
+-- x^w may be taken out of the first factor of a product
 x_first : (w : ℕ) (p q : List Bool) → coefficient (product (replicate w false ++ p) q)
     ≡ coefficient (replicate w false ++ product p q)
 x_first w p q =
@@ -141,7 +141,7 @@ x_first w p q =
     product_first (replicate w false ++ p) (product power p) q (x_times w p) ∙ product_assoc power p q
     ∙ sym (x_times w (product p q))
 
--- x^w times a product, by its second factor
+-- x^w may be taken out of the second factor of a product
 x_second : (w : ℕ) (p q : List Bool) → coefficient (product p (replicate w false ++ q))
     ≡ coefficient (replicate w false ++ product p q)
 x_second w p q =
@@ -150,7 +150,7 @@ x_second w p q =
     (product q p) (product p q) (product_swap q p)
     ∙ sym (x_times w (product p q))
 
--- x^w times a residue
+-- x^w times the residue of p has the same residue as x^w times p
 pub x_residue : (w : ℕ) (p : List Bool)
     → coefficient (residue ghash_modulus (replicate w false ++ residue ghash_modulus p))
     ≡ coefficient (residue ghash_modulus (replicate w false ++ p))
@@ -162,7 +162,7 @@ x_residue w p =
     ∙ fun_ext (residue_product m power p refl)
     ∙ sym (residue_same m (replicate w false ++ p) (product power p) refl (x_times w p))
 
--- x^w times polynomials whose residues agree
+-- if p and q have the same residue, so have x^w times p and x^w times q
 pub x_same : (w : ℕ) (p q : List Bool) → coefficient (residue ghash_modulus p)
     ≡ coefficient (residue ghash_modulus q)
     → coefficient (residue ghash_modulus (replicate w false ++ p))
@@ -175,7 +175,7 @@ x_same w p q e =
     ∙ ap (raised w) e ∙ sym (fun_ext (coefficient_below w (residue m q))))
     ∙ x_residue w q
 
--- a residue of p moved by w places is the residue of x^w times p
+-- if z is x^w times b, and b is the residue of p, then z is the residue of x^w times p
 pub moved_is : (w b z : ℕ) (p : List Bool) → IsReduced p b → IsMoved w b z
     → IsReduced (replicate w false ++ p) z
 moved_is w b z p is moved k =
@@ -190,21 +190,21 @@ moved_is w b z p is moved k =
 pub own_residue : (z : ℕ) → IsReduced (of_word z) z
 own_residue z k = sym (residue_of_lower ghash_modulus (of_word z) refl (λ i h. of_word_past z i h) k)
 
--- times x is a move by one place
+-- `times_x` multiplies a word by x
 pub times_x_moves : (n : ℕ) → n < 2 ^ 128 → IsMoved 1 n (times_x n)
 times_x_moves n small k = times_x_at n k small
 
--- a move by two places
+-- a word that is multiplied by x twice is multiplied by x^2
 pub two_moves : (n a b : ℕ) → IsMoved 1 n a → IsMoved 1 a b → IsMoved 2 n b
 two_moves n a b ha hb = moved_is 1 a b (replicate 1 false ++ of_word n) ha hb
 
--- a move by four places
+-- a word that is multiplied by x^2 twice is multiplied by x^4
 pub four_moves : (n a b : ℕ) → IsMoved 2 n a → IsMoved 2 a b → IsMoved 4 n b
 four_moves n a b ha hb = moved_is 2 a b (replicate 2 false ++ of_word n) ha hb
 
 -- ---- products of some bits
 
--- the product by more bits, from those of its parts
+-- the product of w + d bits and a word is that of the upper w bits, plus x^w times that of the lower d bits
 pub product_joined : (w d n h : ℕ) → coefficient (product (of_bits (w + d) n) (of_word h))
     ≡ coefficient (sum (product (of_bits w (n / 2 ^ d)) (of_word h)) (replicate w false
     ++ product (of_bits d n) (of_word h)))
@@ -218,7 +218,7 @@ product_joined w d n h =
     ∙ ap (sum_of (coefficient (product a (of_word h)))) (x_first w (of_bits d n) (of_word h))
     ∙ sym (sum_is (product a (of_word h)) (replicate w false ++ product (of_bits d n) (of_word h)))
 
--- a product by a moved word
+-- the product with x^w times a word has the same residue as x^w times the product with the word
 moved_product : (w h moved : ℕ) (q : List Bool) → IsMoved w h moved
     → coefficient (residue ghash_modulus (product q (of_word moved)))
     ≡ coefficient (residue ghash_modulus (replicate w false ++ product q (of_word h)))
@@ -230,7 +230,8 @@ moved_product w h moved q mv =
     ∙ fun_ext (residue_product m q up refl) ∙ residue_same m (product q up) (replicate w false
     ++ product q (of_word h)) refl (x_second w q (of_word h))
 
--- two products joined, the second by a moved word
+-- the XOR of the product of the upper w bits with h, and of the lower d bits with x^w times h, is the product of all the bits
+-- with h
 pub joined : (w d n h moved a b : ℕ) → IsMoved w h moved → IsBitsProduct w (n / 2 ^ d) h a
     → IsBitsProduct d n moved b
     → IsBitsProduct (w + d) n h (bit_xor a b)
@@ -242,11 +243,11 @@ joined w d n h moved a b mv ha hb =
     (sym (product_joined w d n h))
     (reduced_sum high low a b ha (λ k. hb k ∙ ap (λ f. f k) (moved_product w h moved q mv)))
 
--- the lowest bits alone count
+-- the product of the w lowest bits of a * 2^w + b is that of b
 pub product_low : (w a b n h z : ℕ) → a * 2 ^ w + b ≡ n → IsBitsProduct w b h z → IsBitsProduct w n h z
 product_low w a b n h z e is = rw (bits_low w a b n e) at is
 
--- one bit
+-- the product of one bit b and a word is b times the word
 pub product_bit : (b h : ℕ) → b < 2 → IsBitsProduct 1 b h (b * h)
 unfolding of_bits
 product_bit zero h l = λ k.
@@ -263,7 +264,7 @@ product_bit (suc zero) h l = λ k.
     (sym (product_one (of_word h))))
 product_bit (suc (suc b)) h l = absurd (omega arith)
 
--- the sums of a word or 0 and another or 0
+-- the entry at place j of 0, m, h and their XOR is the XOR of the multiples by the two bits of j
 two_entries : (h m j : ℕ) → j < 4 → get_or (0 ∷ m ∷ h ∷ bit_xor h m ∷ []) j 0 ≡ bit_xor (j / 2 * h)
     (j % 2 * m)
 two_entries h m zero l = rw (zero-mul h, zero-mul m) refl
@@ -272,7 +273,7 @@ two_entries h m (suc (suc zero)) l = rw (one-mul h, zero-mul m) (sym (xor_zero_r
 two_entries h m (suc (suc (suc zero))) l = rw (one-mul h, one-mul m) refl
 two_entries h m (suc (suc (suc (suc j)))) l = absurd (omega arith)
 
--- the multiples by two bits
+-- the entry at place j of 0, m, h and their XOR is the product of the two bits of j and h, if m is x times h
 pub two_bits : (h m j : ℕ) → IsMoved 1 h m → j < 4
     → IsBitsProduct 2 j h (get_or (0 ∷ m ∷ h ∷ bit_xor h m ∷ []) j 0)
 two_bits h m j moved l =
@@ -282,7 +283,7 @@ two_bits h m j moved l =
     (product_bit (j % 2) m (omega arith))) in
     rw (two_entries h m j l) by
 
--- all the bits of a word
+-- the product of all 128 bits of x and the word h is the product of the words
 pub word_product_is : (x h z : ℕ) → IsBitsProduct 128 x h z → IsWordProduct x (to_be_bytes w128 h) z
 unfolding IsWordProduct of_word
 word_product_is x h z is =
@@ -292,12 +293,12 @@ word_product_is x h z is =
 
 -- ---- tables
 
--- the entries of a table, from place k on
+-- P holds of each entry of a list, the first of which has the number k
 abbrev pub AllFrom : {A : Type 0} → (ℕ → A → Type 0) → ℕ → List A → Type 0
 AllFrom P k [] = Unit {0}
 AllFrom P k (x ∷ xs) = P k x × AllFrom P (suc k) xs
 
--- an entry of a table
+-- P holds of the entry at place j, if it holds of all entries
 pub entry_at : {A : Type 0} (P : ℕ → A → Type 0) (k j n : ℕ) (xs : List A) (d : A) → k + j ≡ n → j < length xs
     → AllFrom P k xs → P n (get_or xs j d)
 entry_at P k j n [] d e l all = absurd (omega arith)

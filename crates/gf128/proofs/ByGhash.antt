@@ -1,4 +1,4 @@
--- POLYVAL by way of GHASH (RFC 8452, appendix A), on the definitions alone.
+-- POLYVAL computed by GHASH (RFC 8452, appendix A), in terms of the definitions alone.
 use Rattle.std.proofs.Common.{◌≡◌, ℕ, zero, suc, ◌-◌, ◌*◌, ◌/◌, ◌≤◌, Bool, false, List, map, max, length}
 use Rattle.std.proofs.Common.{reverse, drop, refl, sym, ap, ap₂, ◌∙◌, arith, inl, inr, ◌∷◌}
 use mathlib.Core.Path.{fun_ext}
@@ -24,7 +24,7 @@ use Rattle.gf128.proofs.Sums.{sum_of_first_same, block_sum_step, block_sum_low, 
 use Rattle.gf128.proofs.Dot.{dot_turned, mul_x_residue, bits_of_block}
 use Rattle.gf128.proofs.PolyvalSums.{dot_same, polyval_is_the_only}
 
--- GHASH's sum as a list of 128 bits
+-- a polynomial as a list of its first 128 coefficients
 bits_of : List Bool → List Bool
 bits_of p = map (coefficient p) (range_with_len 0 128)
 
@@ -38,13 +38,13 @@ bits_of_same : (p : List Bool) → ((k : ℕ) → 128 ≤ k → coefficient p k 
 unfolding bits_of
 bits_of_same p low k = made_at (coefficient p) 128 k (low k)
 
--- a sum is as long as the longer list
+-- the sum of two polynomials is as long as the longer list
 length-sum : (p q : List Bool) → length (sum p q) ≡ max (length p) (length q)
 unfolding sum
 length-sum p q = length-map-range_with_len (λ i. plus (coefficient p i) (coefficient q i)) 0
     (max (length p) (length q))
 
--- the reverse of a sum of lists of 128 bits
+-- the sum of two lists of 128 bits, read from the end, is the sum of both read from the end
 reverse-sum : (t x : List Bool) → length t ≡ 128 → length x ≡ 128
     → Agree (reverse (sum t x)) (sum (reverse t) (reverse x))
 reverse-sum t x lt lx k =
@@ -64,7 +64,7 @@ reverse-sum t x lt lx k =
           none w lw ∙ sym (coefficient_sum (reverse t) (reverse x) k ∙ ap₂ plus (none t lt) (none x lx))
     ]
 
--- POLYVAL's sum is that of the reversed blocks with its bits reversed
+-- POLYVAL's sum over n blocks is the sum over the reversed blocks in GHASH's field, read from the end
 sum_turned : (h k m : List ℕ) → length h ≡ 16 → IsMulX (reverse h) k → (n : ℕ) → n ≤ length m / 16
     → (s : List Bool) → length s ≡ 128 → Agree s (block_sum Reversed k m n) → IsPolyvalSum h m n (reverse s)
 unfolding IsPolyvalSum block_sum sum_of_first
@@ -98,7 +98,7 @@ sum_turned h k m lh hk (suc n) small s ls hs =
           (sum (reverse t) (reverse x)) (reverse-sum t x lt lx) dot),
     )
 
--- POLYVAL is the block of that sum from its end
+-- POLYVAL is the block whose polynomial is the sum over the reversed blocks, read from the end
 pub polyval_by_sum : (h k m : List ℕ) (s : List Bool) (y : List ℕ) → IsBlock h → IsMulX (reverse h) k
     → length s ≡ 128
     → Agree s (block_sum Reversed k m (length m / 16)) → IsBlock y → v y ≡ reverse s → y ≡ polyval h m
@@ -107,7 +107,7 @@ polyval_by_sum h k m s y hh hk ls hs block vy =
     rw vy (sum_turned h k m hh.length_is hk (length m / 16) (omega arith) s ls hs) in
     (polyval_is_the_only h m).1 y (record { is_block = block; sum_is = is })
 
--- the sum of reversed blocks is GHASH's
+-- the sum over the blocks of m, each reversed, is GHASH's sum over r, which has the reversed blocks
 reversed_sum : (k m r : List ℕ) → AreReversed m r
     → block_sum Reversed k m (length m / 16) ≡ ghash_sum k r (length r / 16)
 unfolding block_sum ghash_sum
@@ -120,7 +120,7 @@ reversed_sum k m r turn =
     (λ i l. ap (λ (b : List ℕ). residue ghash_modulus (product (g b) (power (g k) (n - i))))
     (sym (turn.1 i l))))
 
--- mulX is the product with x
+-- `mul_x h` is h times x
 mul_x_is : (h : List ℕ) → IsMulX h (mul_x h)
 unfolding mul_x IsMulX
 mul_x_is h =
@@ -128,7 +128,7 @@ mul_x_is h =
     the_residue ghash_modulus (false ∷ g h) (g (bytes_of_g 16 r)) refl
     (g_bytes_of 16 r (λ k l. residue_lower ghash_modulus (false ∷ g h) k l))
 
--- the law
+-- the law `PolyvalByGhash`
 pub polyval_by_ghash : PolyvalByGhash
 polyval_by_ghash h m r hh whole turn =
     let k : List ℕ = mul_x (reverse h) in

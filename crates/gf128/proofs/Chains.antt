@@ -1,4 +1,4 @@
--- A sum of multiples taken in a few bits at a time, its low end collected and folded in at the end.
+-- A sum of multiples, some bits at a time, whose low end is collected in a half word and folded in at the end.
 use Rattle.std.proofs.Common.{◌≡◌, ℕ, ◌+◌, ◌-◌, ◌*◌, ◌/◌, ◌%◌, ◌^◌, ◌<◌, ◌≤◌, Bool, false, List, [], ◌++◌}
 use Rattle.std.proofs.Common.{replicate, bit_xor, inl, inr, refl, sym, ap, ap₂, ◌∙◌, arith}
 use mathlib.Core.Path.{fun_ext}
@@ -18,7 +18,7 @@ use Rattle.gf128.proofs.BitParts.{own_residue, residue_parts, x_same}
 use Rattle.gf128.proofs.Folds.{of_word_shr, wide_low, wide_high, wide_more, wide_none, wide_xor}
 use Rattle.gf128.proofs.Folds.{folded_at}
 
--- nothing taken in
+-- the word 0 and the half word 0 spread a polynomial without coefficients
 pub spread_none : (p : List Bool) → ((k : ℕ) → coefficient p k ≡ false) → IsSpread 0 p 0 0
 spread_none p none = (
   λ k l. wide_none k,
@@ -31,7 +31,7 @@ pub spread_same : (d : ℕ) (p q : List Bool) (z s : ℕ) → coefficient p ≡ 
     → IsSpread d q z s
 spread_same d p q z s e held = (held.0, held.1 ∙ residue_same ghash_modulus p q refl e)
 
--- w bits more
+-- if z and s spread p, then z and s, shifted by w places, with the residue of q added to z, spread the sum of q and x^w times p
 pub spread_more : (w d : ℕ) (p q : List Bool) (z s t : ℕ) → w ≤ 64 → d + w ≤ 64 → z < 2 ^ 128
     → s / 2 ^ w < 2 ^ (64 - w) → z / 2 ^ w * 2 ^ w + z % 2 ^ w ≡ z
     → IsReduced q t → IsSpread d p z s → IsSpread (w + d) (sum q (replicate w false ++ p))
@@ -62,12 +62,12 @@ pub spread_all : (d : ℕ) (p : List Bool) (z s : ℕ) → z < 2 ^ 128 → s < 2
     → IsReduced p (folded z s)
 spread_all d p z s lz ls held k = ap (λ f. f k) (folded_at z s lz ls ∙ held.1)
 
--- no bits of a factor
+-- the product of no bits and a word is 0
 pub no_bits : (n h k : ℕ) → coefficient (product (of_bits 0 n) (of_word h)) k ≡ false
 unfolding of_bits
 no_bits n h k = ap (λ f. f k) (product_is [] (of_word h))
 
--- a few bits more of a factor
+-- if z and s spread the sum for the upper w bits and x^w times the lower d bits, they spread the product of all the bits
 pub factor_more : (w d e n h z s : ℕ) → w + d ≡ e
     → IsSpread (w + d) (sum (product (of_bits w (n / 2 ^ d)) (of_word h)) (replicate w false
     ++ product (of_bits d n) (of_word h))) z s
@@ -79,7 +79,7 @@ factor_more w d e n h z s at held =
 
 -- ---- two chains
 
--- a word times x^64, before it is reduced
+-- the upper and the lower half of a word, written as a word and a half word, are x^64 times the word before it is reduced
 moved_half : (n k : ℕ) → n < 2 ^ 128 → coefficient (wide (n / 2 ^ 64) (n % 2 ^ 64)) k
     ≡ raised 64 (coefficient (of_word n)) k
 moved_half n k small =
@@ -102,7 +102,8 @@ moved_half n k small =
           ∙ sym (raised_high 64 (coefficient (of_word n)) k (omega arith))
     ]
 
--- a sum and x^64 times a word
+-- if z and s spread p, and n is the residue of q, then folding in z, s and the halves of n gives the residue of the sum of p
+-- and x^64 times q
 pub spread_with : (d : ℕ) (p q : List Bool) (z s n : ℕ) → n < 2 ^ 128 → bit_xor z (n / 2 ^ 64) < 2 ^ 128
     → bit_xor s (n % 2 ^ 64) < 2 ^ 64 → IsSpread d p z s → IsReduced q n
     → IsReduced (sum p (replicate 64 false ++ q)) (folded (bit_xor z (n / 2 ^ 64)) (bit_xor s (n % 2 ^ 64)))
@@ -121,7 +122,7 @@ spread_with d p q z s n small lz ls held is k =
     ∙ residue_same m (wide (bit_xor z a) (bit_xor s b)) (sum (wide z s) (wide a b)) refl parts
     ∙ residue_parts (wide z s) (wide a b) ∙ ap₂ sum_of held.1 low ∙ sym (residue_parts p (up q)))
 
--- a product by its two half words
+-- the product of a word is the product of its upper half, plus x^64 times that of its lower half
 pub halves_product : (x h z : ℕ) → IsReduced (sum (product (of_bits 64 (x / 2 ^ 64)) (of_word h))
     (replicate 64 false ++ product (of_bits 64 x) (of_word h))) z → IsBitsProduct 128 x h z
 halves_product x h z is =

@@ -1,4 +1,4 @@
--- POLYVAL's product by way of GHASH's.
+-- POLYVAL's product in terms of GHASH's.
 use Rattle.std.proofs.Common.{◌≡◌, ℕ, ◌+◌, ◌-◌, ◌≤◌, Bool, false, List, [], ◌∷◌, ◌++◌, map, length, reverse}
 use Rattle.std.proofs.Common.{refl, sym, ap, ap₂, ◌∙◌, arith, inl, inr}
 use mathlib.Core.Path.{fun_ext}
@@ -18,11 +18,11 @@ use Rattle.octets.proofs.Reversal.{times_power, coefficient_end, vanishes_from, 
 use Rattle.gf128.specs.Ghash.{ghash_modulus}
 use Rattle.gf128.specs.Polyval.{polyval_modulus, x_to_128, IsDot, IsMulX}
 
--- a term of a sum of bits that is 0
+-- if a = b + c, and a and c are 0, then b is 0
 swapped : (a b c : Bool) → a ≡ plus b c → c ≡ false → a ≡ false → b ≡ false
 swapped a b c e none nil = sym (plus_false b) ∙ ap (plus b) (sym none) ∙ sym e ∙ nil
 
--- a * (x * b) and c differ by a multiple of GHASH's modulus: read from the top, a * b and c * x^128 by one
+-- if a * (x * b) and c differ by a multiple of GHASH's modulus, then, read from the top, a * b and c * x^128 differ by a multiple
 -- of POLYVAL's
 pub turned : (a b c q : List Bool) → length a ≡ 128 → length b ≡ 128 → length c ≡ 128
     → ((k : ℕ) → mult a (coefficient (false ∷ b)) k ≡ plus (mult q (coefficient ghash_modulus) k)
@@ -98,7 +98,7 @@ dot_turned a b k c la lb lc hk hc =
       same = λ i. ap (λ f. f i) (sym same);
     }
 
--- the coefficients of mulX
+-- the coefficients of k are those of the residue of x times h, if k is mulX of h
 pub mul_x_residue : (h k : List ℕ) → IsMulX h k
     → coefficient (g k) ≡ coefficient (residue ghash_modulus (false ∷ g h))
 unfolding IsMulX

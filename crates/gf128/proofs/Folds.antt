@@ -1,4 +1,4 @@
--- The bits that fall out below a word, kept in a half word and folded in at the end.
+-- The bits that are shifted out below a word are collected in a half word and folded in at the end.
 use Rattle.std.proofs.Common.{◌≡◌, ℕ, zero, suc, ◌+◌, ◌-◌, ◌*◌, ◌/◌, ◌%◌, ◌^◌, ◌<◌, ◌≤◌, Bool, true, false}
 use Rattle.std.proofs.Common.{List, [], ◌∷◌, ◌++◌, replicate, bit_xor, inl, inr, refl, sym, ap, ap₂, ◌∙◌}
 use Rattle.std.proofs.Common.{arith}
@@ -16,7 +16,7 @@ use Rattle.gf128.specs.Code.Words.{of_bits, of_word, folded, wide}
 use Rattle.gf128.proofs.BitParts.{bit_shr, bit_above, bit_low, bit_high, of_bits_at, of_bits_past}
 use Rattle.gf128.proofs.WordLemmas.{of_word_at, of_word_past, of_word_xor, of_word_zero, length-of_word}
 
--- a word moved down, below x^128
+-- shifting a word down by i places multiplies it by x^i, below x^128
 pub of_word_shr : (n i k : ℕ) → n < 2 ^ 128 → k < 128 → coefficient (of_word (n / 2 ^ i)) k
     ≡ raised i (coefficient (of_word n)) k
 of_word_shr n i k small l =
@@ -32,15 +32,15 @@ of_word_shr n i k small l =
 
 -- ---- a word and x^128 times a half word
 
--- the coefficients below x^128
+-- below x^128 the coefficients are those of the word
 pub wide_low : (z s k : ℕ) → k < 128 → coefficient (wide z s) k ≡ coefficient (of_word z) k
 wide_low z s k h = get_or_append_left (of_word z) (of_bits 64 s) false k (omega (arith, length-of_word z))
 
--- those from x^128 on
+-- from x^128 on the coefficients are those of the half word
 pub wide_high : (z s k : ℕ) → 128 ≤ k → coefficient (wide z s) k ≡ coefficient (of_bits 64 s) (k - 128)
 wide_high z s k h = get_or-append_right (of_word z) (of_bits 64 s) 128 k false (length-of_word z) h
 
--- a word and the half word 0
+-- a word with the half word 0 has the coefficients of the word
 pub wide_alone : (n k : ℕ) → coefficient (wide n 0) k ≡ coefficient (of_word n) k
 wide_alone n k = elim (cases_lt k 128) [
   | inl l ↦ wide_low n 0 k l
@@ -50,11 +50,11 @@ wide_alone n k = elim (cases_lt k 128) [
   ] ∙ sym (of_word_past n k l)
 ]
 
--- the word 0 and the half word 0
+-- the word 0 with the half word 0 has no coefficients
 pub wide_none : (k : ℕ) → coefficient (wide 0 0) k ≡ false
 wide_none k = wide_alone 0 k ∙ of_word_zero k
 
--- sums of words and of half words
+-- the XOR of two words and that of two half words have the sums of the coefficients
 pub wide_xor : (z s a b k : ℕ) → coefficient (wide (bit_xor z a) (bit_xor s b)) k
     ≡ plus (coefficient (wide z s) k) (coefficient (wide a b) k)
 wide_xor z s a b k = elim (cases_lt k 128) [
@@ -72,14 +72,14 @@ wide_xor z s a b k = elim (cases_lt k 128) [
       ∙ sym (ap₂ plus (wide_high z s k l) (wide_high a b k l))
 ]
 
--- sequences that agree up to a place
+-- x^n times each of two sequences that agree up to place k agree at place k
 raised_agree : (n : ℕ) (e f : Sequence) (k : ℕ) → ((j : ℕ) → j ≤ k → e j ≡ f j)
     → raised n e k ≡ raised n f k
 raised_agree zero e f k h = h k (omega arith)
 raised_agree (suc n) e f zero h = refl
 raised_agree (suc n) e f (suc k) h = raised_agree n e f k (λ j l. h j (omega arith))
 
--- times x^w, and one more sum of multiples
+-- shifting the word and the half word by w places and adding t gives x^w times their polynomial, plus that of t
 pub wide_more : (w z s t : ℕ) → w ≤ 64 → z < 2 ^ 128 → s / 2 ^ w < 2 ^ (64 - w)
     → z / 2 ^ w * 2 ^ w + z % 2 ^ w ≡ z
     → ((k : ℕ) → 192 - w ≤ k → coefficient (wide z s) k ≡ false) → (k : ℕ)
@@ -126,16 +126,16 @@ wide_more w z s t lw lz small whole low k =
 
 -- ---- the modulus times a polynomial
 
--- x^n times a sum
+-- x^n times a sum is the sum of x^n times each term
 pub raised_sum : (n : ℕ) (e f : Sequence) → raised n (sum_of e f) ≡ sum_of (raised n e) (raised n f)
 raised_sum zero e f = refl
 raised_sum (suc n) e f = ap shift (raised_sum n e f) ∙ shift_sum (raised n e) (raised n f)
 
--- q + x q + x^2 q + x^7 q
+-- q + x q + x^2 q + x^7 q, which is q times the modulus without x^128
 abbrev pub low_multiple : Sequence → Sequence
 low_multiple q = sum_of q (sum_of (raised 1 q) (sum_of (raised 2 q) (raised 7 q)))
 
--- q times the modulus x^128+x^7+x^2+x+1
+-- q times the modulus is the sum of q shifted to each of the places of x^128+x^7+x^2+x+1
 modulus_times : (q : Sequence) → mult ghash_modulus q
     ≡ sum_of q (sum_of (raised 1 q) (sum_of (raised 2 q) (sum_of (raised 7 q) (raised 128 q))))
 modulus_times q =
@@ -161,14 +161,14 @@ modulus_times q =
 
 -- ---- folding
 
--- a bit added twice
+-- a bit that is added twice cancels
 cancel : (a b : Bool) → a ≡ plus b (plus a b)
 cancel true true = refl
 cancel true false = refl
 cancel false true = refl
 cancel false false = refl
 
--- the half word s as the high half of a word
+-- the half word s, shifted up by 64 places, is the upper half of a word
 high_at : (s k : ℕ) → k < 128 → coefficient (of_word (s * 2 ^ 64)) k ≡ coefficient (of_bits 64 s) k
 high_at s k l =
     let whole : s * 2 ^ 64 + 0 ≡ s * 2 ^ 64 = omega arith in

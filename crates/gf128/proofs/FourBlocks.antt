@@ -1,4 +1,4 @@
--- The words of four blocks, by the bytes of the blocks.
+-- The words of four blocks, in terms of the bytes of the blocks.
 use Rattle.std.proofs.Common.{◌≡◌, ℕ, ◌+◌, ◌-◌, ◌*◌, ◌/◌, ◌%◌, ◌^◌, ◌<◌, ◌≤◌, Bool, List, [], length, take, drop}
 use Rattle.std.proofs.Common.{get_or, bit_xor, inl, inr, ap, ap₂, sym, ◌∙◌, arith}
 use Rattle.std.specs.Int.{w128, from_be_bytes, from_le_bytes}
@@ -16,7 +16,7 @@ use Rattle.gf128.specs.Orders.{Order, Straight, Reversed, reading}
 use Rattle.gf128.proofs.BitParts.{bit_shr, bits_same, of_bits_at}
 use Rattle.gf128.proofs.WordLemmas.{of_word-be, of_word-le}
 
--- a byte of a block has the bits of its word
+-- a byte of a block has the same bits as its word, shifted down by 8 p places
 pub byte_read : (bs : List ℕ) (w p : ℕ) → p < 16 → of_word w ≡ g bs
     → of_bits 8 (get_or bs (15 - p) 0) ≡ of_bits 8 (w / 2 ^ (8 * p))
 unfolding of_word
@@ -29,14 +29,14 @@ byte_read bs w p small e =
     ap₂ (λ x i. bit (get_or bs x 0) i) byte place ∙ sym (g_at bs k) ∙ ap (λ q. coefficient q k) (sym e)
     ∙ of_bits_at 128 w k (omega (arith, small, h)) ∙ ap (bit w) at ∙ sym (bit_shr w (8 * p) j))
 
--- so has a byte further up
+-- a byte further up has the same bits as the word, shifted down twice
 pub byte_above : (n p q r w : ℕ) → p + q ≡ r → of_bits 8 n ≡ of_bits 8 (w / 2 ^ (8 * r))
     → of_bits 8 n ≡ of_bits 8 (w / 2 ^ (8 * p) / 2 ^ (8 * q))
 byte_above n p q r w e is =
     let at : 8 * r ≡ 8 * p + 8 * q = omega (arith, e) in
     is ∙ ap (λ i. of_bits 8 (w / 2 ^ i)) at ∙ ap (of_bits 8) (sym (shr-shr w (8 * p) (8 * q)))
 
--- words of one polynomial have the same bits
+-- two words with one polynomial have the same bits
 same_bit : (a b j : ℕ) → j < 128 → of_word a ≡ of_word b → bit a j ≡ bit b j
 unfolding of_word
 same_bit a b j h e =
@@ -45,14 +45,14 @@ same_bit a b j h e =
     ap (bit a) at ∙ sym (of_bits_at 128 a k (omega arith)) ∙ ap (λ q. coefficient q k) e
     ∙ of_bits_at 128 b k (omega arith) ∙ ap (bit b) (sym at)
 
--- and so have their sums with one word
+-- two words with one polynomial, each XORed with s, have one polynomial
 pub same_sum : (s a b : ℕ) → of_word a ≡ of_word b → of_word (bit_xor s a) ≡ of_word (bit_xor s b)
 unfolding of_word
 same_sum s a b e =
     bits_same 128 (bit_xor s a) (bit_xor s b) (λ j h. bit_of_xor s a j ∙ ap (plus (bit s j)) (same_bit a b j h e)
     ∙ sym (bit_of_xor s b j))
 
--- products of words of the same polynomials
+-- four products of words are those of other words with the same polynomials
 pub four_same : (a b c d p q r t z : ℕ) (y : List ℕ) → of_word p ≡ of_word a → of_word q ≡ of_word b
     → of_word r ≡ of_word c → of_word t ≡ of_word d → IsFourProducts p q r t y z → IsFourProducts a b c d y z
 unfolding IsFourProducts sum_of_first
@@ -61,18 +61,18 @@ four_same a b c d p q r t z y ea eb ec ed is =
     let all : Agree (of_word z) (sum (sum (sum (sum [] (term p 4)) (term q 3)) (term r 2)) (term t 1)) = is in
     rw (ea, eb, ec, ed) at all
 
--- a block has a word
+-- the word of a block, as an order reads it
 pub word_for : Order → List ℕ → ℕ
 word_for Straight b = from_be_bytes w128 b
 word_for Reversed b = from_le_bytes w128 b
 
--- it is one
+-- the polynomial of that word is the block as the order reads it
 pub word_for_reads : (o : Order) (b : List ℕ) → IsBlock b → of_word (word_for o b) ≡ reading o b
 unfolding word_for
 word_for_reads Straight b is = of_word-be b is
 word_for_reads Reversed b is = of_word-le b is
 
--- a text has whole blocks
+-- block q of a text that has q + 1 whole blocks is a block
 pub block_within : (m : List ℕ) (q : ℕ) → (q + 1) * 16 ≤ length m → ((i : ℕ) → get_or m i 0 < 256)
     → IsBlock (block_at m q)
 block_within m q long small = record {

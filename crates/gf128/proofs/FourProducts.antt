@@ -1,4 +1,4 @@
--- Several products in one sum.
+-- The sum of several products.
 use Rattle.std.proofs.Common.{◌≡◌, ℕ, suc, ◌+◌, ◌-◌, ◌/◌, ◌^◌, Bool, true, false, List, [], ◌∷◌, ◌++◌}
 use Rattle.std.proofs.Common.{get_or, replicate, bit_xor, inl, inr, refl, sym, ap, ap₂, ◌∙◌}
 use mathlib.Core.Path.{fun_ext}
@@ -26,12 +26,12 @@ use Rattle.gf128.proofs.Chains.{spread_same, no_bits}
 
 -- ---- sums of products, some bits at a time
 
--- the numbers without their d lowest bits
+-- the numbers of a list of pairs without their d lowest bits
 abbrev pub shortened : ℕ → List (ℕ × ℕ) → List (ℕ × ℕ)
 shortened d [] = []
 shortened d (p ∷ rest) = (p.0 / 2 ^ d, p.1) ∷ shortened d rest
 
--- x^w times nothing
+-- the empty polynomial is the sum of itself and x^w times itself
 raised_none : (w : ℕ) → coefficient [] ≡ coefficient (sum [] (replicate w false ++ []))
 raised_none w = fun_ext (λ k.
     let none : raised w (coefficient []) k ≡ false = elim (cases_lt k w) [
@@ -41,7 +41,7 @@ raised_none w = fun_ext (λ k.
     ] in
     sym (coefficient_sum [] (replicate w false ++ []) k ∙ coefficient_below w [] k ∙ none))
 
--- w bits more of each number
+-- the sum of products of w + d bits is that of the upper w bits, plus x^w times that of the lower d bits
 pub products_joined : (w d : ℕ) (l : List (ℕ × ℕ)) → coefficient (products (w + d) l)
     ≡ coefficient (sum (products w (shortened d l)) (replicate w false ++ products d l))
 products_joined w d [] = raised_none w
@@ -65,14 +65,14 @@ products_joined w d (p ∷ rest) =
     ∙ ap (raised w) (sym (sum_is b f)) ∙ sym (raise (sum b f)))
     ∙ sym (sum_is (sum a e) (up (sum b f)))
 
--- no bits of any number
+-- the sum of products of no bits is 0
 pub products_none : (l : List (ℕ × ℕ)) (k : ℕ) → coefficient (products 0 l) k ≡ false
 products_none [] k = refl
 products_none (p ∷ rest) k =
     coefficient_sum (product (of_bits 0 p.0) (of_word p.1)) (products 0 rest) k
     ∙ ap₂ plus (no_bits p.0 p.1 k) (products_none rest k)
 
--- a few bits more in a chain
+-- if z and s spread the sum for the upper w bits and x^w times the lower d bits, they spread the sum for all the bits
 pub products_more : (w d e : ℕ) (l : List (ℕ × ℕ)) (z s : ℕ) → w + d ≡ e
     → IsSpread (w + d) (sum (products w (shortened d l)) (replicate w false ++ products d l)) z s
     → IsSpread e (products e l) z s
@@ -80,13 +80,13 @@ products_more w d e l z s at held =
     rw at at (spread_same (w + d) (sum (products w (shortened d l)) (replicate w false ++ products d l))
     (products (w + d) l) z s (sym (products_joined w d l)) held)
 
--- the last of a sum
+-- if t is the residue of p, it is the residue of p plus the empty polynomial
 pub last_product : (p : List Bool) (t : ℕ) → IsReduced p t → IsReduced (sum p []) t
 last_product p t is =
     reduced_same p (sum p []) t (fun_ext (λ k. sym (coefficient_sum p [] k ∙ plus_false (coefficient p k))))
     is
 
--- all the bits, from the chains of the two half words
+-- the sum of products of 128 bits is that of the upper halves, plus x^64 times that of the lower halves
 pub products_halves : (l : List (ℕ × ℕ)) (z : ℕ)
     → IsReduced (sum (products 64 (shortened 64 l)) (replicate 64 false ++ products 64 l)) z
     → IsReduced (products 128 l) z
@@ -94,7 +94,7 @@ products_halves l z is =
     reduced_same (sum (products 64 (shortened 64 l)) (replicate 64 false ++ products 64 l)) (products 128 l)
     z (sym (products_joined 64 64 l)) is
 
--- numbers with the same bits
+-- the sum of four products depends only on the w lowest bits of the numbers
 pub four_parts : (w a b c d p q r e h s t u : ℕ) → of_bits w p ≡ of_bits w a → of_bits w q ≡ of_bits w b
     → of_bits w r ≡ of_bits w c → of_bits w e ≡ of_bits w d
     → products w ((p, u) ∷ (q, t) ∷ (r, s) ∷ (e, h) ∷ []) ≡ products w ((a, u) ∷ (b, t) ∷ (c, s) ∷ (d, h) ∷ [])
@@ -102,13 +102,13 @@ four_parts w a b c d p q r e h s t u ea eb ec ed = rw (ea, eb, ec, ed) refl
 
 -- ---- powers of the key
 
--- the key
+-- the first power of the key is the key
 pub first_power : (h : ℕ) → IsReduced (power (of_word h) 1) h
 unfolding power
 first_power h = reduced_same (of_word h) (product (true ∷ []) (of_word h)) h (sym (product_one (of_word h)))
     (own_residue h)
 
--- the next power
+-- power n + 1 of the key is the product of power n and the key
 pub next_power : (h n s t : ℕ) → IsReduced (power (of_word h) n) s → IsWordProduct s (to_be_bytes w128 h) t
     → IsReduced (power (of_word h) (suc n)) t
 unfolding power
@@ -121,7 +121,7 @@ next_power h n s t is by k =
     ap (λ f. f k) (times ∙ times_same m (of_word s) (residue m p) (of_word h) refl (reduced_is p s is)
     ∙ times_residue m p (of_word h) refl)
 
--- a product by a power
+-- a product with the residue of a power of the key has the residue of the product with the power
 by_power : (x h n s : ℕ) → IsReduced (power (of_word h) n) s
     → coefficient (residue ghash_modulus (product (of_word x) (of_word s)))
     ≡ coefficient (residue ghash_modulus (product (of_word x) (power (of_word h) n)))
@@ -132,14 +132,14 @@ by_power x h n s is =
     (product_second (of_word x) (of_word s) (residue m p) (reduced_is p s is))
     ∙ fun_ext (residue_product m (of_word x) p refl)
 
--- the order of four terms
+-- four terms that are added from the right are those terms added from the left
 in_order : (a b c d : Bool) → plus a (plus b (plus c (plus d false)))
     ≡ plus (plus (plus (plus false a) b) c) d
 in_order a b c d =
     ap (λ e. plus a (plus b (plus c e))) (plus_false d) ∙ sym (plus_assoc a b (plus c d))
     ∙ sym (plus_assoc (plus a b) c d)
 
--- four products by the powers of the key
+-- the sum of the products with the powers of the key, from the fourth to the first, is `IsFourProducts`
 pub four_products : (a b c d h s t u z : ℕ) → IsReduced (power (of_word h) 2) s
     → IsReduced (power (of_word h) 3) t → IsReduced (power (of_word h) 4) u
     → IsReduced (products 128 ((a, u) ∷ (b, t) ∷ (c, s) ∷ (d, h) ∷ [])) z
@@ -176,11 +176,11 @@ four_products a b c d h s t u z hs ht hu is =
 
 -- ---- four products one after the other
 
--- there is a product of words
+-- the product of a word and a block, as a word
 pub product_of : ℕ → List ℕ → ℕ
 product_of x y = from_be_bytes w128 (bytes_of_g 16 (residue ghash_modulus (product (of_word x) (g y))))
 
--- it is one
+-- `product_of x y` is that product
 pub product_of_is : (x : ℕ) (y : List ℕ) → IsWordProduct x y (product_of x y)
 unfolding IsWordProduct product_of
 product_of_is x y =
@@ -191,7 +191,7 @@ product_of_is x y =
     rw (of_word-be (bytes_of_g 16 r) block) (g_bytes_of 16 r (λ k l. residue_lower ghash_modulus p k l)) in
     the_residue ghash_modulus p (of_word (from_be_bytes w128 (bytes_of_g 16 r))) refl agree
 
--- a sum by powers of the key, and one term more
+-- if s is the sum of n terms by Horner's rule, then s plus the next term, times the key, is the sum of n + 1 terms
 pub horner_more : (x : ℕ → List Bool) (y : List ℕ) (s w z n : ℕ)
     → Agree (of_word s) (sum_of_first n (λ i. residue ghash_modulus (product (x i) (power (g y) (n - i)))))
     → of_word w ≡ x n → IsWordProduct (bit_xor s w) y z
@@ -205,7 +205,7 @@ horner_more x y s w z n held ew is k =
     ap (λ f. f k) (word_product (bit_xor s w) z y is ∙ times_same m (of_word (bit_xor s w))
     (sum before (x n)) (g y) refl same ∙ sym (horner m x (g y) n refl))
 
--- the sum of four products, by one after the other
+-- four products by Horner's rule, one after the other, are the sum of four products
 pub four_more : (a b c d s t u z : ℕ) (y : List ℕ) → IsWordProduct a y s → IsWordProduct (bit_xor s b) y t
     → IsWordProduct (bit_xor t c) y u
     → IsWordProduct (bit_xor u d) y z → IsFourProducts a b c d y z
@@ -217,7 +217,7 @@ four_more a b c d s t u z y ha hb hc hd =
     (horner_more x y t c u 2 (horner_more x y s b t 1 (horner_more x y 0 a s 0 of_word_zero refl first)
     refl hb) refl hc) refl hd
 
--- the last of four products whose sum is known
+-- the last of four products by Horner's rule is the word z, if z is their sum
 pub four_steps : (a b c d z : ℕ) (y : List ℕ) → IsFourProducts a b c d y z
     → IsWordProduct (bit_xor (product_of (bit_xor (product_of (bit_xor (product_of a y) b) y) c) y) d) y z
 unfolding IsFourProducts IsWordProduct

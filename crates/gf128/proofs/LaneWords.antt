@@ -1,4 +1,4 @@
--- Words in vectors of sixteen bytes, the least significant one first.
+-- Words as vectors of sixteen bytes, the least significant one first.
 use Rattle.std.proofs.Common.{◌≡◌, ℕ, zero, suc, ◌+◌, ◌*◌, ◌/◌, ◌%◌, ◌^◌, ◌<◌}
 use Rattle.std.proofs.Common.{List, [], ◌∷◌, ◌++◌, length, take, drop}
 use Rattle.std.proofs.Common.{◌-◌, ◌≤◌, inl, inr, get_or, reverse, bit_xor, refl, sym, ap, ap₂, ◌∙◌, arith, subst}
@@ -16,7 +16,7 @@ use Rattle.octets.proofs.Numbers.{le_halves, le_small, le-append, le_one, power_
 use Rattle.octets.proofs.Xors.{length-xor_bytes, xor_bytes_at}
 use Rattle.gf128.proofs.WordLemmas.{to_be_block, reverse_block}
 
--- the number that its digits spell
+-- a number below 256^k is the number that its k digits to base 256 spell
 le_digits : (k n : ℕ) → n < 256 ^ k → le (digits_l 256 k n) ≡ n
 unfolding le
 le_digits zero n small = let one : 256 ^ 0 ≡ 1 = pow-zero 256 in omega arith
@@ -25,26 +25,26 @@ le_digits (suc k) n small =
     let rest : le (digits_l 256 k (n / 256)) ≡ n / 256 = le_digits k (n / 256) (omega arith) in
     omega arith
 
--- the number that its bytes spell
+-- a word is the number that its bytes spell
 pub le_of_word : (n : ℕ) → n < 2 ^ 128 → le (to_le_bytes w128 n) ≡ n
 le_of_word n small =
     let whole : number_l (2 ^ 64) (n % 2 ^ 64 ∷ n / 2 ^ 64 ∷ []) ≡ n = omega arith in
     ap le (sym (le_halves n) ∙ ap (digits_l 256 16) whole) ∙ le_digits 16 n (omega arith)
 
--- a word has 16 bytes
+-- the bytes of a word are a block
 pub to_le_block : (n : ℕ) → IsBlock (to_le_bytes w128 n)
 to_le_block n =
     let back : reverse (to_be_bytes w128 n) ≡ to_le_bytes w128 n = refl in
     subst IsBlock back (reverse_block (to_be_bytes w128 n) (to_be_block n))
 
--- a word is below 2^128
+-- the number that a block spells is below 2^128
 pub le_block : (bs : List ℕ) → IsBlock bs → le bs < 2 ^ 128
 le_block bs is =
     let small : le bs < 256 ^ length bs = le_small bs is.bytes in
     let long : 256 ^ length bs ≡ 2 ^ 128 = ap (λ (n : ℕ). 256 ^ n) is.length_is ∙ power_of_bytes 16 in
     omega arith
 
--- the XOR of two numbers, by their bytes
+-- the XOR of two lists of bytes spells the XOR of their numbers
 pub le_xor : (xs ys : List ℕ) → length xs ≡ length ys → ((i : ℕ) → get_or xs i 0 < 256)
     → ((i : ℕ) → get_or ys i 0 < 256) → le (xor_bytes xs ys) ≡ bit_xor (le xs) (le ys)
 unfolding le xor_bytes
@@ -62,7 +62,8 @@ le_xor (x ∷ xs) (y ∷ ys) e hx hy =
     let sum : bit_xor x y + 256 * le (xor_bytes xs ys) ≡ bit_xor a b * 2 ^ 8 + bit_xor x y = omega (arith, rest) in
     sum ∙ sym block ∙ ap₂ bit_xor first second
 
--- moved down by a byte, with the lowest byte of another number above
+-- a block that is moved down by a byte, with the first byte of another after it, spells its number shifted down by 8 places,
+-- with that byte on top
 pub le_moved : (xs ys : List ℕ) → IsBlock xs → IsBlock ys
     → le (take 16 (drop 1 (xs ++ ys))) ≡ le ys % 256 * 2 ^ 120 + le xs / 256
 unfolding le
@@ -83,7 +84,7 @@ le_moved (x ∷ xs) (y ∷ ys) hx hy =
     ap le taken ∙ spelled ∙ ap₂ (λ (p z : ℕ). le xs + p * z) power alone
     ∙ sym (ap₂ (λ (u v : ℕ). u * 2 ^ 120 + v) above below ∙ omega arith)
 
--- two blocks, one after the other, have bytes
+-- two blocks, one after the other, consist of bytes
 two_blocks : (xs ys : List ℕ) (i : ℕ) → IsBlock xs → IsBlock ys → get_or (xs ++ ys) i 0 < 256
 two_blocks xs ys i hx hy = elim (cases_lt i 16) [
   | inl l ↦
@@ -96,13 +97,13 @@ two_blocks xs ys i hx hy = elim (cases_lt i 16) [
       omega arith
 ]
 
--- the lanes of a shuffle that moves by one byte
+-- the shuffle that picks lanes 1 to 16 of two blocks gives the sixteen bytes after the first
 pub picked : (xs ys : List ℕ) → IsBlock xs → IsBlock ys
     → pick_l 0 (xs ++ ys) (range_with_len 1 16) ≡ take 16 (drop 1 (xs ++ ys))
 picked xs ys hx hy =
     pick_l-range_with_len 0 (xs ++ ys) 1 16 (omega (arith, length-append xs ys, hx.length_is, hy.length_is))
 
--- they are bytes
+-- the sixteen bytes after the first of two blocks are a block
 pub moved_block : (xs ys : List ℕ) → IsBlock xs → IsBlock ys → IsBlock (take 16 (drop 1 (xs ++ ys)))
 moved_block xs ys hx hy =
     let all : List ℕ = xs ++ ys in
@@ -121,7 +122,7 @@ moved_block xs ys hx hy =
       ];
     }
 
--- the XOR of two blocks is one
+-- the XOR of two blocks is a block
 pub xor_block_of : (xs ys : List ℕ) → IsBlock xs → IsBlock ys → IsBlock (xor_bytes xs ys)
 xor_block_of xs ys hx hy =
     let same : length xs ≡ length ys = omega (arith, hx.length_is, hy.length_is) in

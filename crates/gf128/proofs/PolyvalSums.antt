@@ -1,4 +1,4 @@
--- There is one dot, and one POLYVAL.
+-- There is only one dot of two polynomials, and only one POLYVAL of a text.
 use Rattle.std.proofs.Common.{◌≡◌, ℕ, zero, suc, ◌/◌, ◌≤◌, Bool, true, false, List, [], ◌∷◌, ◌++◌}
 use Rattle.std.proofs.Common.{length, replicate, cond, ◌&&◌, inl, inr, refl, sym, ap, ap₂, ◌∙◌}
 use Rattle.std.proofs.lemmas.Bool.{cases_Bool}
@@ -17,7 +17,7 @@ use Rattle.octets.proofs.Reversal.{none_at, times_power, coefficient_below}
 use Rattle.gf128.specs.Polyval.{polyval_modulus, x_to_128, x_to_minus_128, dot, polyval_sum, polyval, IsDot}
 use Rattle.gf128.specs.Polyval.{IsPolyvalSum, DotIsTheOnly, PolyvalIsTheOnly}
 
--- dot sees its first factor by its coefficients
+-- a dot of a is a dot of every list with the same coefficients
 pub dot_same : (a b c d : List Bool) → Agree a d → IsDot a b c → IsDot d b c
 dot_same a b c d e is =
     let same : coefficient (residue polyval_modulus (product a b))
@@ -41,7 +41,7 @@ added_at (a ∷ p) [] k = sym (plus_false (coefficient (a ∷ p) k))
 added_at (a ∷ p) (b ∷ q) zero = refl
 added_at (a ∷ p) (b ∷ q) (suc k) = added_at p q k
 
--- s, with m added if s has coefficient n
+-- s, with m added if the coefficient n of s is one
 with_m : ℕ → List Bool → List Bool → List Bool
 with_m n m s = cond (coefficient s n) (added s m) s
 
@@ -58,7 +58,7 @@ with_m_at n m s k = elim (cases_Bool (coefficient s n)) [
   | inr e ↦ rw e (sym (plus_false (coefficient s k)))
 ]
 
--- a bit before two polynomials that agree
+-- if two polynomials agree, they agree with a bit before each
 after_bit : (b : Bool) (p q : List Bool) → Agree p q → Agree (b ∷ p) (b ∷ q)
 after_bit b p q e zero = refl
 after_bit b p q e (suc k) = e k
@@ -75,16 +75,16 @@ divided_is m (b ∷ a) one k =
     ∙ ap₂ (λ (x y : Bool). plus x (y && coefficient m k)) (same k) (same (degree m))
     ∙ sym (with_m_at (degree m) m (b ∷ d) k)
 
--- the modulus has degree 128
+-- POLYVAL's modulus has degree 128
 degree_is : degree polyval_modulus ≡ 128
 degree_is = refl
 
--- x^128 * x^-128 leaves the list of 1 and zeros
+-- long division of x^128 * x^-128 leaves a list of 1 and zeros
 computed : divided 128 polyval_modulus (replicate 128 false ++ x_to_minus_128) ≡ true ∷ replicate 255 false
 unfolding divided with_m added
 computed = refl
 
--- which is the polynomial 1
+-- the list of 1 and zeros is the polynomial 1
 one_is : (k : ℕ) → coefficient (true ∷ replicate 255 false) k ≡ coefficient (true ∷ []) k
 one_is zero = refl
 one_is (suc k) = none_at 255 k
@@ -104,7 +104,7 @@ inverse_is =
     ∙ ap (λ n. coefficient (divided n polyval_modulus (replicate 128 false ++ x_to_minus_128))) degree_is
     ∙ ap coefficient computed ∙ fun_ext one_is
 
--- times x^128 and its inverse
+-- if c is multiplied by x^128 and then by its inverse, the residue is that of c
 pub undone : (c : List Bool)
     → coefficient (residue polyval_modulus (product (residue polyval_modulus (product c x_to_128))
     x_to_minus_128)) ≡ coefficient (residue polyval_modulus c)
@@ -123,7 +123,7 @@ lower_is : (c : List Bool) → ((k : ℕ) → 128 ≤ k → coefficient c k ≡ 
     → coefficient (residue polyval_modulus c) ≡ coefficient c
 lower_is c low = fun_ext (residue_of_lower polyval_modulus c refl low)
 
--- two dots agree
+-- two dots of the same polynomials agree
 dots_agree : (a b c d : List Bool) → IsDot a b c → IsDot a b d → Agree c d
 dots_agree a b c d hc hd k =
     let m : List Bool = polyval_modulus in
@@ -134,7 +134,7 @@ dots_agree a b c d hc hd k =
     same
     ∙ undone d ∙ lower_is d hd.low)
 
--- the product by the inverse is a dot
+-- the residue of a * b * x^-128 is a dot of a and b
 dot_is : (a b : List Bool) → IsDot a b (dot a b)
 unfolding dot
 dot_is a b =
@@ -152,16 +152,16 @@ dot_is a b =
     ∙ residue_same m (product (true ∷ []) p) p refl (product_one p) in
     record { low = λ k h. residue_lower m (product p x_to_minus_128) k h; same = λ k. ap (λ f. f k) whole }
 
--- there is one dot
+-- the law `DotIsTheOnly`
 pub dot_is_the_only : DotIsTheOnly
 dot_is_the_only a b = (dot_is a b, λ c is. dots_agree a b c (dot a b) is (dot_is a b))
 
--- ---- a text has one POLYVAL
+-- ---- a text has only one POLYVAL
 sum_first : (s t x : List Bool) → Agree s t → Agree (sum s x) (sum t x)
 sum_first s t x e k = ap (λ f. f k) (sum_is s x ∙ ap (λ f. sum_of f (coefficient x)) (fun_ext e)
     ∙ sym (sum_is t x))
 
--- two sums agree
+-- two sums S_n of the same blocks agree
 sums_agree : (h m : List ℕ) (n : ℕ) (s t : List Bool) → IsPolyvalSum h m n s → IsPolyvalSum h m n t
     → Agree s t
 unfolding IsPolyvalSum
@@ -172,20 +172,20 @@ sums_agree h m (suc n) s t hs ht =
     dots_agree (sum ht.0 x) (v h) s t (dot_same (sum hs.0 x) (v h) s (sum ht.0 x)
     (sum_first hs.0 ht.0 x before) hs.2) ht.2
 
--- the computed sum is one by any dot
+-- `polyval_sum` is a sum S_n
 sum_is_one : (h m : List ℕ) (n : ℕ) → IsPolyvalSum h m n (polyval_sum h m n)
 unfolding IsPolyvalSum polyval_sum
 sum_is_one h m zero = λ k. refl
 sum_is_one h m (suc n) =
     (polyval_sum h m n, sum_is_one h m n, dot_is (sum (polyval_sum h m n) (v (block_at m n))) (v h))
 
--- it is of degree below 128
+-- `polyval_sum` is of degree below 128
 sum_low : (h m : List ℕ) (n k : ℕ) → 128 ≤ k → coefficient (polyval_sum h m n) k ≡ false
 unfolding polyval_sum
 sum_low h m zero k l = refl
 sum_low h m (suc n) k l = (dot_is (sum (polyval_sum h m n) (v (block_at m n))) (v h)).low k l
 
--- a sum is seen by its coefficients
+-- a list with the coefficients of a sum S_n is that sum
 sum_same : (h m : List ℕ) (n : ℕ) (s t : List Bool) → Agree t s → IsPolyvalSum h m n s
     → IsPolyvalSum h m n t
 unfolding IsPolyvalSum
@@ -203,7 +203,7 @@ sum_same h m (suc n) s t e is =
       },
     )
 
--- there is one POLYVAL
+-- the law `PolyvalIsTheOnly`
 pub polyval_is_the_only : PolyvalIsTheOnly
 unfolding polyval
 polyval_is_the_only h m =

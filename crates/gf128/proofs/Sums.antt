@@ -1,4 +1,4 @@
--- The sum of one block more, and the text's padding.
+-- The sum with one block more, and the padding of the text.
 use Rattle.std.proofs.Common.{◌≡◌, ℕ, zero, suc, ◌-◌, ◌*◌, ◌/◌, ◌<◌, ◌≤◌, Bool, false, List}
 use Rattle.std.proofs.Common.{◌++◌, length, bit_xor, refl, sym, ap, ap₂, ◌∙◌, arith}
 use Rattle.octets.specs.Bytes.{block_at, IsBlock}
@@ -19,7 +19,7 @@ use Rattle.gf128.specs.Code.Words.{of_word, IsWordProduct, IsFourProducts}
 use Rattle.gf128.proofs.FourProducts.{product_of, product_of_is, four_steps, horner_more}
 use Rattle.gf128.proofs.WordLemmas.{of_word_zero}
 
--- sums of equal terms
+-- sums of equal terms are equal
 pub sum_of_first_same : (f e : ℕ → List Bool) (n : ℕ) → ((i : ℕ) → i < n → f i ≡ e i)
     → sum_of_first n f ≡ sum_of_first n e
 unfolding sum_of_first
@@ -40,20 +40,20 @@ block_sum-append o k m x n small =
     (λ i l. ap (λ (b : List ℕ). residue ghash_modulus (product (reading o b) (power (g k) (n - i))))
     (block_at-append m x i (omega arith)))
 
--- the sum so far and the next block, times the key
+-- the sum over n + 1 blocks is the sum over n blocks plus the next block, times the key
 pub block_sum_step : (o : Order) (k m : List ℕ) (n : ℕ)
     → coefficient (block_sum o k m (suc n))
     ≡ coefficient (residue ghash_modulus (product (sum (block_sum o k m n) (reading o (block_at m n))) (g k)))
 unfolding block_sum
 block_sum_step o k m n = horner ghash_modulus (λ i. reading o (block_at m i)) (g k) n refl
 
--- keys that serve one hash are the same polynomial
+-- two keys that serve one hash are the same polynomial
 serving_key : (o : Order) (h k l : List ℕ) → Serves o h k → Serves o h l → coefficient (g k) ≡ coefficient (g l)
 unfolding IsMulX
 serving_key Straight h k l a b = ap (λ x. coefficient (g x)) (a ∙ sym b)
 serving_key Reversed h k l a b = fun_ext (b.1.1 (g k) a.1.0)
 
--- so they have one sum
+-- two keys that serve one hash give the same sum
 pub block_sum_serves : (o : Order) (h k l m : List ℕ) (n : ℕ) → Serves o h k → Serves o h l
     → coefficient (block_sum o k m n) ≡ coefficient (block_sum o l m n)
 unfolding block_sum sum_of_first
@@ -70,14 +70,14 @@ block_sum_serves o h k l m (suc n) a b =
     (product_first p q (g k) same ∙ product_second q (g k) (g l) (serving_key o h k l a b))
     ∙ sym (block_sum_step o l m n)
 
--- GHASH's sum so far and the next block, times the key
+-- GHASH's sum over n + 1 blocks is the sum over n blocks plus the next block, times the key
 pub ghash_step : (h m : List ℕ) (n : ℕ)
     → coefficient (ghash_sum h m (suc n))
     ≡ coefficient (residue ghash_modulus (product (sum (ghash_sum h m n) (g (block_at m n))) (g h)))
 unfolding ghash_sum block_sum
 ghash_step h m n = block_sum_step Straight h m n
 
--- the product of the sum so far and the next block
+-- if s is the sum over n blocks, x the word of the next block, and z their XOR times the key, z is the sum over n + 1 blocks
 pub block_sum_more : (o : Order) (k m : List ℕ) (s x z n : ℕ) → Agree (of_word s) (block_sum o k m n)
     → of_word x ≡ reading o (block_at m n)
     → IsWordProduct (bit_xor s x) k z → Agree (of_word z) (block_sum o k m (suc n))
@@ -85,7 +85,7 @@ unfolding block_sum
 block_sum_more o k m s x z n held ex is =
     horner_more (λ i. reading o (block_at m i)) k s x z n held ex is
 
--- four blocks
+-- if s is the sum over n blocks, and z the four products of s and the next four blocks, z is the sum over n + 4 blocks
 pub block_sum_four : (o : Order) (k m : List ℕ) (s a b c d z n : ℕ) → Agree (of_word s) (block_sum o k m n)
     → of_word a ≡ reading o (block_at m n) → of_word b ≡ reading o (block_at m (suc n))
     → of_word c ≡ reading o (block_at m (suc (suc n))) → of_word d ≡ reading o (block_at m (suc (suc (suc n))))
@@ -101,12 +101,12 @@ block_sum_four o k m s a b c d z n held ea eb ec ed is =
     (block_sum_more o k m s a t n held ea (product_of_is p k)) eb (product_of_is (bit_xor t b) k))
     ec (product_of_is (bit_xor u c) k)) ed (four_steps p b c d z k is)
 
--- no block
+-- the sum over no blocks is 0
 pub block_sum_none : (o : Order) (k m : List ℕ) → Agree (of_word 0) (block_sum o k m 0)
 unfolding block_sum sum_of_first
 block_sum_none o k m i = of_word_zero i
 
--- the sum has a degree below 128
+-- if no term of a sum has coefficient k, the sum does not have it
 low_sum : (f : ℕ → List Bool) (n k : ℕ) → ((i : ℕ) → coefficient (f i) k ≡ false)
     → coefficient (sum_of_first n f) k ≡ false
 unfolding sum_of_first
@@ -120,7 +120,7 @@ block_sum_low o h m n k l =
     low_sum (λ i. residue ghash_modulus (product (reading o (block_at m i)) (power (g h) (n - i)))) n k
     (λ i. residue_lower ghash_modulus (product (reading o (block_at m i)) (power (g h) (n - i))) k l)
 
--- there is one GHASH
+-- the law `GhashIsTheOnly`
 pub ghash_is_the_only : GhashIsTheOnly
 unfolding ghash ghash_sum block_sum
 ghash_is_the_only h m =

@@ -1,4 +1,4 @@
--- Published vectors of the definitions, computed in words, a product bit by bit.
+-- Published vectors, computed by the definitions on words, each product bit by bit.
 use Rattle.std.proofs.Common.{◌≡◌, ℕ, zero, suc, ◌+◌, ◌/◌, ◌%◌, ◌*◌, ◌^◌, ◌<◌, ◌≤◌, Bool, true, false, ◌&&◌}
 use Rattle.std.proofs.Common.{List, [], ◌∷◌, ◌++◌, reverse, bit_xor, refl, sym, ap, ◌∙◌, arith, subst}
 use Rattle.std.specs.Int.{w128, to_be_bytes, to_le_bytes}
@@ -17,7 +17,7 @@ use Rattle.gf128.proofs.WordLemmas.{IsSoFar, so_far_none, so_far_more, so_far_al
 use Rattle.gf128.proofs.Sums.{block_sum_more, block_sum_none, ghash_is_the_only}
 use Rattle.gf128.proofs.ByGhash.{polyval_by_sum}
 
--- a number, or 0
+-- the number h, or 0
 either : Bool → ℕ → ℕ
 either true h = h
 either false h = 0
@@ -27,17 +27,17 @@ by_bits : ℕ → ℕ → ℕ → ℕ
 by_bits f h zero = 0
 by_bits f h (suc i) = bit_xor (times_x (by_bits f h i)) (either (bit f i) h)
 
--- which is below 2^128
+-- h or 0 is below 2^128, if h is
 either_lt : (b : Bool) (h : ℕ) → h < 2 ^ 128 → either b h < 2 ^ 128
 unfolding either
 either_lt true h small = small
 either_lt false h small = omega arith
 
--- a word times x is a word
+-- a word times x is below 2^128
 times_x_lt : (n : ℕ) → n < 2 ^ 128 → times_x n < 2 ^ 128
 times_x_lt n small = xor_lt 128 (n / 2) (n % 2 * reduction) (omega arith) (omega arith)
 
--- so is the product
+-- the product of some bits of f and the word h is below 2^128
 by_bits_lt : (f h i : ℕ) → h < 2 ^ 128 → by_bits f h i < 2 ^ 128
 unfolding by_bits
 by_bits_lt f h zero small = omega arith
@@ -45,13 +45,13 @@ by_bits_lt f h (suc i) small =
     xor_lt 128 (times_x (by_bits f h i)) (either (bit f i) h)
     (times_x_lt (by_bits f h i) (by_bits_lt f h i small)) (either_lt (bit f i) h small)
 
--- the coefficients of a word, or of 0
+-- the coefficients of h, or of 0, are those of h, or false
 either_at : (b : Bool) (h k : ℕ) → coefficient (of_word (either b h)) k ≡ (b && coefficient (of_word h) k)
 unfolding either
 either_at true h k = refl
 either_at false h k = of_word_zero k
 
--- it is the product so far
+-- `by_bits` gives the product of the bits so far
 by_bits_is : (f h i : ℕ) → i ≤ 128 → h < 2 ^ 128 → IsSoFar f h i (by_bits f h i)
 unfolding by_bits
 by_bits_is f h zero l small = so_far_none f h
@@ -66,19 +66,19 @@ by_bits_is f h (suc i) l small =
     ∙ ap (λ b. plus b (coefficient (of_word t) k)) (either_at (bit f i) h k))
     (by_bits_is f h i (omega arith) small))
 
--- a product of words
+-- `by_bits` of all 128 bits is the product of the words
 product_is : (f h z : ℕ) → h < 2 ^ 128 → by_bits f h 128 ≡ z → IsWordProduct f (to_be_bytes w128 h) z
 product_is f h z small e =
     so_far_all f h 128 z refl (subst (IsSoFar f h 128) e (by_bits_is f h 128 (omega arith) small))
 
--- the sum of two blocks
+-- the sum over two blocks comes from two products, one after the other
 sum_of_two : (o : Order) (k m : List ℕ) (a b s t : ℕ) → of_word a ≡ reading o (block_at m 0)
     → of_word b ≡ reading o (block_at m 1) → IsWordProduct (bit_xor 0 a) k s → IsWordProduct (bit_xor s b) k t
     → Agree (of_word t) (block_sum o k m 2)
 sum_of_two o k m a b s t ea eb first second =
     block_sum_more o k m s b t 1 (block_sum_more o k m 0 a s 0 (block_sum_none o k m) ea first) eb second
 
--- GHASH of two blocks
+-- GHASH of two blocks is the word that two products give
 ghash_of_two : (h a b s t : ℕ) → IsWordProduct (bit_xor 0 a) (to_be_bytes w128 h) s
     → IsWordProduct (bit_xor s b) (to_be_bytes w128 h) t
     → ghash (to_be_bytes w128 h) (to_be_bytes w128 a ++ to_be_bytes w128 b) ≡ to_be_bytes w128 t
@@ -90,7 +90,7 @@ ghash_of_two h a b s t first second =
     rw (g-to_be t) (sum_of_two Straight k m a b s t (sym (g-to_be a)) (sym (g-to_be b)) first second) in
     sym ((ghash_is_the_only k m).1 (to_be_bytes w128 t) (record { is_block = to_be_block t; sum_is = same }))
 
--- POLYVAL of two blocks
+-- POLYVAL of two blocks is the word that two products with x times the key give
 polyval_of_two : (h a b s t : ℕ) → h < 2 ^ 128
     → IsWordProduct (bit_xor 0 a) (to_be_bytes w128 (times_x h)) s
     → IsWordProduct (bit_xor s b) (to_be_bytes w128 (times_x h)) t
@@ -106,7 +106,7 @@ polyval_of_two h a b s t small first second =
     (sum_of_two Reversed k m a b s t (sym (g-to_be a)) (sym (g-to_be b)) first second)
     (reverse_block (to_be_bytes w128 t) (to_be_block t)) (v-to_le t))
 
--- the blocks of ciphertext and of lengths of test case 2 of the GCM specification
+-- GHASH of the block of ciphertext and the block of lengths in test case 2 of the GCM specification
 ghash_of_blocks : ghash (0x66 ∷ 0xe9 ∷ 0x4b ∷ 0xd4 ∷ 0xef ∷ 0x8a ∷ 0x2c ∷ 0x3b
     ∷ 0x88 ∷ 0x4c ∷ 0xfa ∷ 0x59 ∷ 0xca ∷ 0x34 ∷ 0x2b ∷ 0x2e ∷ [])
     (0x03 ∷ 0x88 ∷ 0xda ∷ 0xce ∷ 0x60 ∷ 0xb6 ∷ 0xa3 ∷ 0x92
@@ -124,7 +124,7 @@ ghash_of_blocks =
     ghash_of_two h a 0x80 s t (product_is (bit_xor 0 a) h s (omega arith) refl)
     (product_is (bit_xor s 0x80) h t (omega arith) refl)
 
--- RFC 8452, appendix A
+-- POLYVAL of the two blocks of RFC 8452, appendix A
 polyval_of_blocks : polyval (0x25 ∷ 0x62 ∷ 0x93 ∷ 0x47 ∷ 0x58 ∷ 0x92 ∷ 0x42 ∷ 0x76
     ∷ 0x1d ∷ 0x31 ∷ 0xf8 ∷ 0x26 ∷ 0xba ∷ 0x4b ∷ 0x75 ∷ 0x7b ∷ [])
     (0x4f ∷ 0x4f ∷ 0x95 ∷ 0x66 ∷ 0x8c ∷ 0x83 ∷ 0xdf ∷ 0xb6

@@ -41,7 +41,7 @@ of_word-be bs block =
     ∙ ap (λ (x : ℕ). x == 1) (be_bit bs 16 k block.bytes (omega arith) (omega arith)))
     ∙ ap (λ (c : ℕ). map (λ k. bit (get_or bs (k / 8) 0) (7 - k % 8)) (range_with_len 0 c)) count
 
--- the polynomial of a word's bytes
+-- the bytes of a word have the polynomial of the word
 pub g-to_be : (n : ℕ) → g (to_be_bytes w128 n) ≡ of_word n
 unfolding of_word of_bits g
 g-to_be n =
@@ -51,12 +51,12 @@ g-to_be n =
     ap (λ (x : ℕ). bit x (7 - k % 8)) (bytes_high_at 16 n (k / 8) (omega arith))
     ∙ ap (λ (x : ℕ). x == 1) (byte_bit n (16 - suc (k / 8)) (7 - k % 8) (omega arith)) ∙ ap (bit n) at)
 
--- a word's bytes are a block
+-- byte i of a number is below 256
 byte_lt : (i n : ℕ) → byte_at i n < 256
 byte_lt zero n = mod-lt n (omega arith)
 byte_lt (suc i) n = mod-lt (n / 256 ^ suc i) (omega arith)
 
--- a word has 16 bytes
+-- the bytes of a word are a block
 pub to_be_block : (n : ℕ) → IsBlock (to_be_bytes w128 n)
 to_be_block n = record {
   length_is = refl;
@@ -70,7 +70,7 @@ to_be_block n = record {
   ];
 }
 
--- a block is the bytes of its word
+-- if a word and a block have one polynomial, the block is the bytes of the word
 pub bytes_of_word : (n : ℕ) (k : List ℕ) → IsBlock k → of_word n ≡ g k → to_be_bytes w128 n ≡ k
 bytes_of_word n k block e =
     g_injective 16 (to_be_bytes w128 n) k (to_be_block n) block
@@ -88,7 +88,7 @@ reverse_block y b = record {
   ];
 }
 
--- the number of a list, from its end
+-- a list that is read least significant byte first spells the number of the reversed list, read most significant byte first
 le_reversed : (bs : List ℕ) → le bs ≡ be (reverse bs)
 unfolding le be
 le_reversed [] = refl
@@ -98,37 +98,37 @@ le_reversed (b ∷ bs) =
     let all : be (reverse bs ++ b ∷ []) ≡ be (reverse bs) * 256 + b = be_push (reverse bs) b in
     rw (e, all, ← rest) (omega arith)
 
--- the word of a block from its end
+-- the number of a block, read least significant byte first, has the polynomial of the reversed block
 pub of_word-le : (bs : List ℕ) → IsBlock bs → of_word (from_le_bytes w128 bs) ≡ g (reverse bs)
 of_word-le bs block =
     ap of_word (sym (le_word bs block.length_is) ∙ le_reversed bs ∙ be_word (reverse bs) (length-reverse bs
     ∙ block.length_is))
     ∙ of_word-be (reverse bs) (reverse_block bs block)
 
--- a word's bytes from its end
+-- the bytes of a word, least significant first and then reversed, are those most significant first
 to_le_reversed : (n : ℕ) → reverse (to_le_bytes w128 n) ≡ to_be_bytes w128 n
 to_le_reversed n = refl
 
--- the polynomial of a word's bytes, from its end, in POLYVAL's reading
+-- POLYVAL reads the bytes of a word, least significant first, as the word's polynomial from its end
 pub v-to_le : (n : ℕ) → v (to_le_bytes w128 n) ≡ reverse (of_word n)
 v-to_le n = v_is (to_le_bytes w128 n) ∙ ap (λ (x : List ℕ). reverse (g x)) (to_le_reversed n)
     ∙ ap reverse (g-to_be n)
 
--- ---- the places of a word
+-- ---- the coefficients of a word
 pub of_word_at : (n k : ℕ) → k < 128 → coefficient (of_word n) k ≡ bit n (127 - k)
 unfolding of_word of_bits
 of_word_at n k h = get_or-map-range_with_len (λ i. bit n (127 - i)) 0 128 k k false h (zero-add k)
 
--- a word has 128 places
+-- the polynomial of a word has 128 coefficients
 pub length-of_word : (n : ℕ) → length (of_word n) ≡ 128
 unfolding of_word of_bits
 length-of_word n = length-map-range_with_len (λ i. bit n (127 - i)) 0 128
 
--- none from x^128 on
+-- the polynomial of a word has no coefficient from x^128 on
 pub of_word_past : (n k : ℕ) → 128 ≤ k → coefficient (of_word n) k ≡ false
 of_word_past n k h = get_or_past (of_word n) k false (omega (arith, length-of_word n))
 
--- an XOR is a sum
+-- the polynomial of an XOR is the sum of the polynomials
 pub of_word_xor : (a b k : ℕ) → coefficient (of_word (bit_xor a b)) k ≡ plus (coefficient (of_word a) k)
     (coefficient (of_word b) k)
 of_word_xor a b k = elim (cases_lt k 128) [
@@ -137,7 +137,7 @@ of_word_xor a b k = elim (cases_lt k 128) [
   | inr l ↦ of_word_past (bit_xor a b) k l ∙ ap₂ plus (sym (of_word_past a k l)) (sym (of_word_past b k l))
 ]
 
--- the word 0
+-- the word 0 has no coefficients
 pub of_word_zero : (k : ℕ) → coefficient (of_word 0) k ≡ false
 of_word_zero k = elim (cases_lt k 128) [
   | inl h ↦ of_word_at 0 k h ∙ bit_of_zero (127 - k)
@@ -149,37 +149,37 @@ of_word_zero k = elim (cases_lt k 128) [
 bit_past : (n : ℕ) → n < 2 ^ 128 → bit n 128 ≡ false
 bit_past n h = let e : n / 2 ^ 128 ≡ 0 = omega arith in ap is_odd e
 
--- a word moved down by one
+-- below x^128, a word shifted down by one place is x times the word
 half_at : (n k : ℕ) → n < 2 ^ 128 → k < 128 → bit (n / 2) (127 - k) ≡ coefficient (false ∷ of_word n) k
 half_at n zero small h = sym (bit_suc n 127) ∙ bit_past n small
 half_at n (suc k) small h =
     let e : suc (127 - suc k) ≡ 127 - k = omega arith in
     sym (bit_suc n (127 - suc k)) ∙ ap (bit n) e ∙ sym (of_word_at n k (omega arith))
 
--- the coefficient that falls out
+-- the coefficient of x^128 in x times a word is the lowest bit of the word
 top_at : (n : ℕ) → coefficient (false ∷ of_word n) 128 ≡ is_odd n
 top_at n = of_word_at n 127 (omega arith) ∙ bit_zero n
 
--- the modulus by its low word
+-- GHASH's modulus is the word `reduction` and x^128
 modulus_is : ghash_modulus ≡ of_word reduction ++ true ∷ []
 unfolding of_word of_bits
 modulus_is = refl
 
--- its coefficients below x^128
+-- below x^128, the coefficients of the modulus are the bits of `reduction`
 modulus_at : (k : ℕ) → k < 128 → coefficient ghash_modulus k ≡ bit reduction (127 - k)
 modulus_at k h =
     ap (λ (p : List Bool). coefficient p k) modulus_is
     ∙ get_or_append_left (of_word reduction) (true ∷ []) false k (omega (arith, length-of_word reduction))
     ∙ of_word_at reduction k h
 
--- the low word, or 0
+-- the coefficients of `reduction` or 0 are those of the modulus, or false
 reduction_at : (c k : ℕ) → c < 2 → k < 128 → bit (c * reduction) (127 - k)
     ≡ ((c == 1) && coefficient ghash_modulus k)
 reduction_at zero k h l = ap (λ (x : ℕ). bit x (127 - k)) (zero-mul reduction) ∙ bit_of_zero (127 - k)
 reduction_at (suc zero) k h l = ap (λ (x : ℕ). bit x (127 - k)) (one-mul reduction) ∙ sym (modulus_at k l)
 reduction_at (suc (suc c)) k h l = absurd (omega arith)
 
--- the coefficients of x times a word
+-- the coefficients of x times a word are those of the shifted word, plus those of the modulus if a coefficient of x^128 came out
 pub stepped_at : (n k : ℕ) → n < 2 ^ 128 → k < 128
     → coefficient (of_word (times_x n)) k ≡ plus (coefficient (false ∷ of_word n) k)
     (coefficient (false ∷ of_word n) 128 && coefficient ghash_modulus k)
@@ -190,29 +190,29 @@ stepped_at n k small l =
 
 -- ---- a product bit by bit
 
--- p is the product so far, of the coefficients of f from place 128 - i on and h
+-- p is the product of h and the coefficients of f from place 128 - i on, which are its i lowest bits
 abbrev pub IsSoFar : ℕ → ℕ → ℕ → ℕ → Type 0
 IsSoFar f h i p = Agree (of_word p) (residue ghash_modulus (product (drop (128 - i) (of_word f))
     (of_word h)))
 
--- the residue of 0
+-- the residue of 0 has no coefficients
 residue_zero : (k : ℕ) → coefficient (residue ghash_modulus []) k ≡ false
 unfolding residue
 residue_zero k = refl
 
--- a product by 0 is 0
+-- a product with 0 has no coefficients
 product_zero : (p : List Bool) → Agree (product p (of_word 0)) []
 product_zero p k =
     coefficient_product p (of_word 0) k ∙ ap (λ f. mult p f k) (fun_ext of_word_zero) ∙ ap (λ f. f k) (mult_comm p [])
 
--- every multiple of the word 0 is 0
+-- the product of any bits and the word 0 is 0
 pub multiple_of_zero : (w n : ℕ) → IsBitsProduct w n 0 0
 multiple_of_zero w n k =
     let p : List Bool = of_bits w n in
     of_word_zero k
     ∙ sym (residue_agree ghash_modulus (product p (of_word 0)) [] refl (product_zero p) k ∙ residue_zero k)
 
--- before the first bit
+-- the product of no bits is 0
 pub so_far_none : (f h : ℕ) → IsSoFar f h 0 0
 so_far_none f h k =
     of_word_zero k
@@ -221,12 +221,12 @@ so_far_none f h k =
     ∙ residue_agree ghash_modulus (product [] (of_word h)) [] refl (coefficient_product [] (of_word h)) k
     ∙ residue_zero k)
 
--- x times equal polynomials
+-- if two polynomials agree, x times each of them agree
 pub next_same : (p q : List Bool) → Agree p q → Agree (false ∷ p) (false ∷ q)
 next_same p q same zero = refl
 next_same p q same (suc i) = same i
 
--- one bit more
+-- if p is the product of i bits, then x times p, plus h if bit i of f is set, is the product of i + 1 bits
 pub so_far_more : (f h i p q : ℕ) → i < 128 → p < 2 ^ 128
     → ((k : ℕ) → k < 128 → coefficient (of_word q) k ≡ plus (bit f i && coefficient (of_word h) k)
     (coefficient (of_word (times_x p)) k))
@@ -252,11 +252,11 @@ so_far_more f h i p q l small next held k =
           ∙ sym (residue_lower ghash_modulus (product (drop j (of_word f)) (of_word h)) k high)
     ]
 
--- a bit as a truth value
+-- if b is f / 2^i modulo 2, bit i of f as a truth value is whether b is 1
 bit_is : (f i b : ℕ) → f / 2 ^ i % 2 ≡ b → bit f i ≡ (b == 1)
 bit_is f i b e = ap (λ (x : ℕ). x == 1) e
 
--- one bit more, that is set
+-- if bit i is set, x times p plus h is the product of i + 1 bits
 pub so_far_set : (f h i p : ℕ) → i < 128 → p < 2 ^ 128 → bit_and (f / 2 ^ i) 1 ≡ 1 → IsSoFar f h i p
     → IsSoFar f h (i + 1) (bit_xor (times_x p) h)
 so_far_set f h i p l small set =
@@ -266,7 +266,7 @@ so_far_set f h i p l small set =
     (coefficient (of_word h) k)
     ∙ ap (λ x. plus (x && coefficient (of_word h) k) (coefficient (of_word (times_x p)) k)) (sym b))
 
--- one bit more, that is not
+-- if bit i is not set, x times p is the product of i + 1 bits
 pub so_far_clear : (f h i p : ℕ) → i < 128 → p < 2 ^ 128 → bit_and (f / 2 ^ i) 1 ≢ 1 → IsSoFar f h i p
     → IsSoFar f h (i + 1) (times_x p)
 so_far_clear f h i p l small clear =
@@ -276,7 +276,7 @@ so_far_clear f h i p l small clear =
     (λ k low. ap (λ x. plus (x && coefficient (of_word h) k) (coefficient (of_word (times_x p)) k))
     (sym b))
 
--- after the last bit
+-- the product of all 128 bits is the product of the words
 pub so_far_all : (f h i p : ℕ) → i ≡ 128 → IsSoFar f h i p → IsWordProduct f (to_be_bytes w128 h) p
 unfolding IsWordProduct
 so_far_all f h i p e held =
@@ -287,19 +287,19 @@ so_far_all f h i p e held =
 
 -- ---- products of words
 
--- a product of words as one of blocks
+-- a product of words is the product of the blocks with the same polynomials
 pub block_product : (f p : ℕ) (x y z : List ℕ) → of_word f ≡ g x → IsWordProduct f y p → g z ≡ of_word p
     → IsProduct x y z
 unfolding IsProduct IsWordProduct
 block_product f p x y z ex is ez = rw (← ex, ez) is
 
--- a product of blocks as one of words
+-- a product of blocks is the product of the words with the same polynomials
 pub product_block : (f p : ℕ) (x y z : List ℕ) → g x ≡ of_word f → IsProduct x y z → of_word p ≡ g z
     → IsWordProduct f y p
 unfolding IsProduct IsWordProduct
 product_block f p x y z ex is ez = rw (← ex, ez) is
 
--- the coefficients of a product
+-- the coefficients of a product of words are those of the residue of the product
 pub word_product : (x z : ℕ) (y : List ℕ) → IsWordProduct x y z
     → coefficient (of_word z) ≡ coefficient (residue ghash_modulus (product (of_word x) (g y)))
 unfolding IsWordProduct
@@ -307,7 +307,7 @@ word_product x z y h =
     let p : List Bool = product (of_word x) (g y) in
     sym (fun_ext (h.1 (residue ghash_modulus p) (residue_is ghash_modulus p refl)))
 
--- ---- a word times x is that of the polynomial times x
+-- ---- `times_x` multiplies a word by x
 pub times_x_at : (n k : ℕ) → n < 2 ^ 128 → coefficient (of_word (times_x n)) k
     ≡ coefficient (residue ghash_modulus (false ∷ of_word n)) k
 times_x_at n k small =
@@ -323,7 +323,7 @@ times_x_at n k small =
       | inr l ↦ of_word_past (times_x n) k l ∙ sym (residue_lower ghash_modulus (false ∷ p) k l)
     ]
 
--- x times a block
+-- if a block has the polynomial of a word, x times the block has that of `times_x` of the word
 pub times_x_is : (n s : ℕ) (x z : List ℕ) → n < 2 ^ 128 → of_word n ≡ g x → s ≡ times_x n → g z ≡ of_word s
     → IsMulX x z
 unfolding IsMulX

@@ -7,7 +7,7 @@ use Rattle.octets.specs.Bits.{g, v, bytes_of_g, bytes_of_v}
 use Rattle.octets.specs.Polynomial.{coefficient, sum, product, residue, Agree, IsTheResidue}
 use Rattle.gf128.specs.Ghash.{ghash_modulus, ghash}
 
--- x^128+x^127+x^126+x^121+1
+-- the modulus of POLYVAL's field: x^128+x^127+x^126+x^121+1
 abbrev pub polyval_modulus : List Bool
 polyval_modulus =
     true ∷ (replicate 120 false ++ true ∷ false ∷ false ∷ false ∷ false ∷ true ∷ true ∷ true ∷ [])
@@ -27,7 +27,7 @@ x_to_minus_128 =
     true ∷ (replicate 113 false ++ true ∷ (replicate 6 false ++ true ∷ false ∷ false ∷ true ∷ false ∷ false
     ∷ true ∷ []))
 
--- a * b * x^-128
+-- dot(a, b), which is a * b * x^-128
 unfoldable pub dot : List Bool → List Bool → List Bool
 dot a b = residue polyval_modulus (product (product a b) x_to_minus_128)
 
@@ -40,7 +40,7 @@ polyval_sum h m (suc n) = dot (sum (polyval_sum h m n) (v (block_at m n))) (v h)
 unfoldable pub polyval : List ℕ → List ℕ → List ℕ
 polyval h m = bytes_of_v 16 (polyval_sum h m (length m / 16))
 
--- h times x, where h is read as GHASH reads a block
+-- mulX of h: h times x, where h is read as GHASH reads a block (appendix A)
 unfoldable pub mul_x : List ℕ → List ℕ
 mul_x h = bytes_of_g 16 (residue ghash_modulus (false ∷ g h))
 
@@ -50,7 +50,7 @@ IsPolyvalSum h m zero s = Agree s []
 IsPolyvalSum h m (suc n) s = (t : List Bool) × IsPolyvalSum h m n t × IsDot (sum t (v (block_at m n)))
     (v h) s
 
--- y is a block whose polynomial is the last S_n
+-- y is a block whose polynomial is S_n for the n blocks of m
 pub record IsPolyval (h : List ℕ) (m : List ℕ) (y : List ℕ) : Type 0 where
   pub is_block : IsBlock y
   pub sum_is : IsPolyvalSum h m (length m / 16) (v y)
@@ -72,7 +72,7 @@ AreReversed m r = (length r ≡ length m) × ((i : ℕ) → i < length m / 16
 abbrev pub DotIsTheOnly : Type 0
 DotIsTheOnly = (a b : List Bool) → IsDot a b (dot a b) × ((c : List Bool) → IsDot a b c → Agree c (dot a b))
 
--- POLYVAL is the only block that S_n gives
+-- POLYVAL is the only block whose polynomial is S_n for the n blocks of m
 abbrev pub PolyvalIsTheOnly : Type 0
 PolyvalIsTheOnly = (h m : List ℕ) → IsPolyval h m (polyval h m) × ((y : List ℕ) → IsPolyval h m y
     → y ≡ polyval h m)

@@ -11,7 +11,7 @@ use Rattle.gf128.specs.declared.hash.BlockSum.{BlockSum}
 use Rattle.gf128.specs.declared.polyval.PolyvalOrder.{PolyvalOrder}
 use Rattle.gf128.specs.declared.table_mul.TableMul.{TableMul}
 
--- the key of the multiplier of texts in pieces
+-- the key of a `TableMul`, as a block
 abbrev pub key_of : TableMul → List ℕ
 key_of s = to_be_bytes w128 s.multiples.word
 
@@ -33,7 +33,7 @@ Holds key s h m = HashHolds Straight key s h m
 abbrev pub PolyvalHolds : {M : Type 0} → (M → List ℕ) → BlockHash M PolyvalOrder → List ℕ → List ℕ → Type 0
 PolyvalHolds key s h m = HashHolds Reversed key s h m
 
--- the word is the sum over the whole blocks of m under the key h, with the key of any multiplier that serves h
+-- the word is the sum over the whole blocks of m under the key h, computed with any key that serves h
 abbrev pub IsSum : Order → List ℕ → List ℕ → ℕ → Type 0
 IsSum order h m sum =
     (k : List ℕ) → Serves order h k → Agree (of_word sum)

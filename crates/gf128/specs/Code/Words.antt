@@ -27,7 +27,7 @@ IsReduced p z = Agree (of_word z) (residue ghash_modulus p)
 abbrev pub IsBitsProduct : ℕ → ℕ → ℕ → ℕ → Type 0
 IsBitsProduct w n h z = IsReduced (product (of_bits w n) (of_word h)) z
 
--- the multiple of the polynomial p by each byte is the sum of a number of each table
+-- the product of each byte and the polynomial p is the sum of an entry of each table
 abbrev pub AreMultiples : List Bool → (ℕ → ℕ) → (ℕ → ℕ) → Type 0
 AreMultiples p high low =
     (n : ℕ) → n < 256 → IsReduced (product (of_bits 8 n) p) (bit_xor (high (n / 16)) (low (n % 16)))

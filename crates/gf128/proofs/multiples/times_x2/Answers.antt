@@ -3,7 +3,7 @@ use Rattle.gf128.specs.Code.Words.{IsMoved, times_x}
 use Rattle.gf128.proofs.BitParts.{two_moves, times_x_moves}
 use Rattle.gf128.proofs.multiples.times_x2.Goals as goal
 
--- the word times x
+-- `times_x` multiplies a word by x
 moves : (n m : ℕ) → n < 2 ^ 128 → m ≡ times_x n → IsMoved 1 n m
 moves n m small e = rw e (times_x_moves n small)
 

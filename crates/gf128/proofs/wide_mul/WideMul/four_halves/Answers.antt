@@ -5,7 +5,7 @@ use Rattle.gf128.proofs.FourBlocks.{byte_above}
 use Rattle.gf128.proofs.FourProducts.{shortened, products_none, products_more, four_parts}
 use Rattle.gf128.proofs.wide_mul.WideMul.four_halves.Goals as goal
 
--- the half words and the powers of the key, the highest first
+-- the four half words, each with the power of the key by which it is multiplied, the highest first
 abbrev factors : ℕ → ℕ → ℕ → ℕ → ℕ → ℕ → ℕ → ℕ → List (ℕ × ℕ)
 factors a b c d u t s h = (a, u) ∷ (b, t) ∷ (c, s) ∷ (d, h) ∷ []
 

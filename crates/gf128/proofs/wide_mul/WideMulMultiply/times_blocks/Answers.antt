@@ -7,7 +7,7 @@ use Rattle.gf128.proofs.FourBlocks.{four_same, same_sum}
 use Rattle.gf128.proofs.FourProducts.{shortened, products_halves, four_parts, four_products}
 use Rattle.gf128.proofs.wide_mul.WideMulMultiply.times_blocks.Goals as goal
 
--- the bits of a low half word
+-- the low half of a word has its 64 lowest bits
 low_bits : (x n : ℕ) → n ≡ x % 2 ^ 64 → of_bits 64 n ≡ of_bits 64 x
 low_bits x n e = rw e (bits_low 64 (x / 2 ^ 64) (x % 2 ^ 64) x (omega arith))
 
