@@ -1,4 +1,4 @@
--- A key stream of which more bytes are used.
+-- A key stream after more of its bytes were used.
 use Rattle.std.proofs.Common.{◌≡◌, ℕ, ◌+◌, ◌*◌, ◌^◌, ◌≤◌, List, ◌∙◌, ap, ap₂, arith, length}
 use Rattle.octets.specs.Masked.{masked}
 use Rattle.chacha.specs.Stream.{key_stream_byte}
@@ -6,7 +6,7 @@ use Rattle.chacha.specs.States.{Holds, Applied}
 use Rattle.chacha.specs.declared.stream.ChaStream.{ChaStream}
 use Rattle.chacha.proofs.Masking.{masked_same, key_stream_byte-first}
 
--- bytes that were masked at the offset of the stream, which then moved on by as many
+-- `Applied` holds if bytes were masked at the offset of a stream, and the offset moved on by their number
 pub applied : (a b : ChaStream) (was now : List ℕ) → b.key ≡ a.key → b.nonce ≡ a.nonce
     → b.offset ≡ a.offset + length was → now ≡ masked (key_stream_byte a.key a.nonce 0) a.offset was
     → (key nonce : List ℕ) (first made : ℕ) → Holds a key nonce first made

@@ -1,4 +1,4 @@
--- A state read by rows, whose columns are lanes.
+-- A state as four rows, whose columns are lanes.
 use Rattle.std.proofs.Common.{◌≡◌, ℕ, ◌+◌, ◌<◌, ◌≤◌, refl, sym, ap, ap₂, ◌∙◌, arith}
 use Rattle.std.proofs.Common.{List, [], ◌∷◌, ◌++◌, length, get_or, take, drop}
 use Rattle.std.proofs.lemmas.List.{take_all}
@@ -9,12 +9,12 @@ use Rattle.chacha.specs.Code.Rows.{read_by_rows}
 use Rattle.chacha.proofs.Words.{four_bytes, length-put, take-put}
 use Rattle.chacha.proofs.SideBySide.{length-lane, get_or-lane}
 
--- a list of four items by its items
+-- a list of four items consists of its items
 pub four_items : (v : List ℕ) → length v ≡ 4
     → v ≡ get_or v 0 0 ∷ get_or v 1 0 ∷ get_or v 2 0 ∷ get_or v 3 0 ∷ []
 four_items v h = sym (take_all 4 v (omega arith)) ∙ four_bytes v 0 (omega arith)
 
--- a list of sixteen items by its items
+-- a list of sixteen items consists of its items
 pub sixteen_items : (v : List ℕ) → length v ≡ 16
     → get_or v 0 0 ∷ get_or v 1 0 ∷ get_or v 2 0 ∷ get_or v 3 0 ∷ get_or v 4 0 ∷ get_or v 5 0 ∷ get_or v 6 0
     ∷ get_or v 7 0 ∷ get_or v 8 0 ∷ get_or v 9 0 ∷ get_or v 10 0 ∷ get_or v 11 0 ∷ get_or v 12 0
@@ -30,7 +30,7 @@ sixteen_items v h =
     (four_bytes v 12 (omega arith))
     )
 
--- the round of the columns, column by column
+-- a round of the columns is a quarter round of each column
 columns_apart : (a0 a1 a2 a3 b0 b1 b2 b3 c0 c1 c2 c3 d0 d1 d2 d3 : ℕ)
     → column_round (a0 ∷ a1 ∷ a2 ∷ a3 ∷ b0 ∷ b1 ∷ b2 ∷ b3 ∷ c0 ∷ c1 ∷ c2 ∷ c3 ∷ d0 ∷ d1 ∷ d2 ∷ d3 ∷ [])
     ≡ get_or (quarter_round 0 1 2 3 (a0 ∷ b0 ∷ c0 ∷ d0 ∷ [])) 0 0
@@ -52,7 +52,7 @@ columns_apart : (a0 a1 a2 a3 b0 b1 b2 b3 c0 c1 c2 c3 d0 d1 d2 d3 : ℕ)
 unfolding column_round quarter_round add_xor_rotate
 columns_apart a0 a1 a2 a3 b0 b1 b2 b3 c0 c1 c2 c3 d0 d1 d2 d3 = refl
 
--- the round of the diagonals, diagonal by diagonal
+-- a round of the diagonals is a quarter round of each diagonal
 diagonals_apart : (a0 a1 a2 a3 b0 b1 b2 b3 c0 c1 c2 c3 d0 d1 d2 d3 : ℕ)
     → diagonal_round (a0 ∷ a1 ∷ a2 ∷ a3 ∷ b0 ∷ b1 ∷ b2 ∷ b3 ∷ c0 ∷ c1 ∷ c2 ∷ c3 ∷ d0 ∷ d1 ∷ d2 ∷ d3 ∷ [])
     ≡ get_or (quarter_round 0 1 2 3 (a0 ∷ b1 ∷ c2 ∷ d3 ∷ [])) 0 0
@@ -74,7 +74,7 @@ diagonals_apart : (a0 a1 a2 a3 b0 b1 b2 b3 c0 c1 c2 c3 d0 d1 d2 d3 : ℕ)
 unfolding diagonal_round quarter_round add_xor_rotate
 diagonals_apart a0 a1 a2 a3 b0 b1 b2 b3 c0 c1 c2 c3 d0 d1 d2 d3 = refl
 
--- a quarter round in each lane is the round of the columns
+-- if each lane undergoes a quarter round, the state undergoes a round of the columns
 pub columns : (x y : List (List ℕ)) → length x ≡ 4
     → ((j : ℕ) → j < 4 → lane j y ≡ quarter_round 0 1 2 3 (lane j x))
     → read_by_rows y ≡ column_round (read_by_rows x)
@@ -95,7 +95,8 @@ columns x y long h =
     ∙ sym (columns_apart (w 0 0) (w 0 1) (w 0 2) (w 0 3) (w 1 0) (w 1 1) (w 1 2) (w 1 3) (w 2 0) (w 2 1)
     (w 2 2) (w 2 3) (w 3 0) (w 3 1) (w 3 2) (w 3 3))
 
--- a quarter round in each lane of the moved rows, moved back, is the round of the diagonals
+-- if the rows are moved, each lane undergoes a quarter round, and the rows are moved back, the state undergoes a round of the
+-- diagonals
 pub diagonals : (x n : List (List ℕ)) (m1 m2 m3 y1 y2 y3 : List ℕ)
     → m1 ≡ get_or (get_or x 1 []) 1 0 ∷ get_or (get_or x 1 []) 2 0 ∷ get_or (get_or x 1 []) 3 0
     ∷ get_or (get_or x 1 []) 0 0 ∷ []
@@ -140,7 +141,7 @@ diagonals x n m1 m2 m3 y1 y2 y3 e1 e2 e3 h f1 f2 f3 =
     ∙ sym (diagonals_apart (w 0 0) (w 0 1) (w 0 2) (w 0 3) (w 1 0) (w 1 1) (w 1 2) (w 1 3) (w 2 0) (w 2 1)
     (w 2 2) (w 2 3) (w 3 0) (w 3 1) (w 3 2) (w 3 3))
 
--- sixteen bytes more are put after those that are there
+-- if sixteen bytes are put after those that are there, the output begins with all of them
 pub put_more : (out bytes done now : List ℕ) (at : ℕ) → length out ≡ 64 → length bytes ≡ 16 → at + 16 ≤ 64
     → take at out ≡ done
     → now ≡ take at out ++ bytes ++ drop (at + length bytes) out

@@ -1,11 +1,11 @@
--- The rounds in halves are the rounds.
+-- The rounds in halves are the rounds of the standard.
 use Rattle.std.proofs.Common.{◌≡◌, ℕ, List, [], ◌∷◌, length, refl, ap, sym, ◌∙◌}
 use Rattle.chacha.specs.Block.{add_xor_rotate, quarter_round, column_round, diagonal_round}
 use Rattle.chacha.specs.Code.Halves.{half_columns, half_diagonals}
 use Rattle.chacha.proofs.ByRows.{sixteen_items}
 use Rattle.chacha.proofs.Lengths.{length-column_round}
 
--- both halves of each column, of sixteen words
+-- both halves of the column quarter rounds, one after the other, are a round of the columns, on sixteen words
 columns_of : (a0 a1 a2 a3 b0 b1 b2 b3 c0 c1 c2 c3 d0 d1 d2 d3 : ℕ)
     → half_columns 8 7 (half_columns 16 12
     (a0 ∷ a1 ∷ a2 ∷ a3 ∷ b0 ∷ b1 ∷ b2 ∷ b3 ∷ c0 ∷ c1 ∷ c2 ∷ c3 ∷ d0 ∷ d1 ∷ d2 ∷ d3 ∷ []))
@@ -13,7 +13,7 @@ columns_of : (a0 a1 a2 a3 b0 b1 b2 b3 c0 c1 c2 c3 d0 d1 d2 d3 : ℕ)
 unfolding half_columns column_round quarter_round add_xor_rotate
 columns_of a0 a1 a2 a3 b0 b1 b2 b3 c0 c1 c2 c3 d0 d1 d2 d3 = refl
 
--- and of each diagonal
+-- both halves of the diagonal quarter rounds, one after the other, are a round of the diagonals, on sixteen words
 diagonals_of : (a0 a1 a2 a3 b0 b1 b2 b3 c0 c1 c2 c3 d0 d1 d2 d3 : ℕ)
     → half_diagonals 8 7 (half_diagonals 16 12
     (a0 ∷ a1 ∷ a2 ∷ a3 ∷ b0 ∷ b1 ∷ b2 ∷ b3 ∷ c0 ∷ c1 ∷ c2 ∷ c3 ∷ d0 ∷ d1 ∷ d2 ∷ d3 ∷ []))
@@ -21,14 +21,14 @@ diagonals_of : (a0 a1 a2 a3 b0 b1 b2 b3 c0 c1 c2 c3 d0 d1 d2 d3 : ℕ)
 unfolding half_diagonals diagonal_round quarter_round add_xor_rotate
 diagonals_of a0 a1 a2 a3 b0 b1 b2 b3 c0 c1 c2 c3 d0 d1 d2 d3 = refl
 
--- both halves of each column are the round of the columns
+-- both halves of the column quarter rounds are a round of the columns of every state
 columns_in_halves : (s : List ℕ) → length s ≡ 16 → half_columns 8 7 (half_columns 16 12 s) ≡ column_round s
 columns_in_halves s long =
     ap (λ t. half_columns 8 7 (half_columns 16 12 t)) (sym (sixteen_items s long))
     ∙ columns_of _ _ _ _ _ _ _ _ _ _ _ _ _ _ _ _
     ∙ ap column_round (sixteen_items s long)
 
--- and of each diagonal that of the diagonals
+-- both halves of the diagonal quarter rounds are a round of the diagonals of every state
 diagonals_in_halves : (s : List ℕ) → length s ≡ 16
     → half_diagonals 8 7 (half_diagonals 16 12 s) ≡ diagonal_round s
 diagonals_in_halves s long =
@@ -36,7 +36,7 @@ diagonals_in_halves s long =
     ∙ diagonals_of _ _ _ _ _ _ _ _ _ _ _ _ _ _ _ _
     ∙ ap diagonal_round (sixteen_items s long)
 
--- all four are a double round
+-- the four halves, one after the other, are a double round
 pub double_round_in_halves : (s : List ℕ) → length s ≡ 16
     → half_diagonals 8 7 (half_diagonals 16 12 (half_columns 8 7 (half_columns 16 12 s)))
     ≡ diagonal_round (column_round s)

@@ -1,4 +1,4 @@
--- Bytes with the key stream XORed in, one run after the other.
+-- Bytes into which the key stream is XORed, one run after the other.
 use Rattle.std.proofs.Common.{◌≡◌, ℕ, suc, ◌+◌, ◌-◌, ◌*◌, ◌/◌, ◌%◌, ◌<◌, ◌≤◌, bit_xor, refl, sym, ap, ap₂}
 use Rattle.std.proofs.Common.{◌∙◌, arith}
 use Rattle.std.proofs.Common.{zero, List, [], ◌∷◌, ◌++◌, length, length-append, take, drop, get_or, min}
@@ -18,7 +18,7 @@ use Rattle.chacha.specs.Block.{serialized, block}
 use Rattle.chacha.specs.Stream.{key_stream_byte}
 use Rattle.chacha.proofs.Lengths.{length-block}
 
--- streams that agree from two places on
+-- two streams that agree from places p and q on mask a list alike
 pub masked_same : (f g : ℕ → ℕ) (p q : ℕ) (xs : List ℕ) → ((j : ℕ) → f (p + j) ≡ g (q + j))
     → masked f p xs ≡ masked g q xs
 unfolding masked
@@ -32,7 +32,7 @@ masked_same f g p q (x ∷ xs) same =
     let q1 : suc q + j ≡ q + suc j = omega arith in
     ap f p1 ∙ same (suc j) ∙ ap g (sym q1)))
 
--- a place of the key stream from counter first on
+-- a byte of the key stream from counter `first` on is the byte 64 * `first` places later in the key stream from counter 0 on
 pub key_stream_byte-first : (key nonce : List ℕ) (first made i : ℕ)
     → key_stream_byte key nonce 0 (first * 64 + made + i) ≡ key_stream_byte key nonce first (made + i)
 unfolding key_stream_byte
@@ -64,7 +64,7 @@ byte_of_blocks (b ∷ bs) (suc q) r long there below =
     ∙ ap (λ (n : ℕ). get_or (flat_map (λ x. x) bs) n 0) rest ∙ byte_of_blocks bs q r long.1 (omega arith)
     below
 
--- one of two blocks
+-- block q of two blocks has the counter c + q
 block_of_two : (key nonce : List ℕ) (c q : ℕ) → q < 2
     → get_or (block key c nonce ∷ block key (c + 1) nonce ∷ []) q [] ≡ block key (c + q) nonce
 block_of_two key nonce c zero h =
@@ -85,7 +85,7 @@ two_blocks_bytes key nonce c i below =
     (omega arith) (omega arith)
     ∙ ap (λ (b : List ℕ). get_or b (i % 64) 0) (block_of_two key nonce c (i / 64) (omega arith))
 
--- a zero becomes the byte of the stream
+-- a byte that was 0 becomes the byte of the stream
 masked_zero : (f : ℕ → ℕ) (at i k : ℕ) (xs : List ℕ) → i < length xs → get_or xs i 0 ≡ 0 → k ≡ at + i
     → get_or (masked f at xs) i 0 ≡ f k
 unfolding masked
@@ -96,7 +96,7 @@ masked_zero f at zero k (x ∷ xs) below is_zero e =
 masked_zero f at (suc i) k (x ∷ xs) below is_zero e = masked_zero f (suc at) i k xs (omega arith) is_zero
     (omega arith)
 
--- the words of a block, written out, are XORed into the bytes at its place in the key stream
+-- XORing a block into 64 bytes masks them at the place of the block in the key stream
 block_masked : (key nonce : List ℕ) (c j at : ℕ) (xs words : List ℕ) → length xs ≡ 64 → at ≡ 64 * j
     → words ≡ block key (c + j) nonce
     → xor_bytes xs words ≡ masked (key_stream_byte key nonce c) at xs
@@ -108,7 +108,7 @@ block_masked key nonce c j at xs words size is_at is_block =
     let place : i ≡ (at + i) % 64 = omega arith in
     ap (λ b. get_or b i 0) is_block ∙ ap₂ (λ (n k : ℕ). get_or (block key n nonce) k 0) counter place)
 
--- four blocks, one after the other
+-- XORing four blocks into 256 bytes masks them with the key stream from the first counter on
 pub four_masked : (key nonce : List ℕ) (c : ℕ) (l : ℕ → List ℕ) (a b d e now_a now_b now_d now_e : List ℕ)
     → ((j : ℕ) → j < 4 → serialized (l j) ≡ block key (c + j) nonce)
     → length a ≡ 64 → length b ≡ 64 → length d ≡ 64 → length e ≡ 64
@@ -146,7 +146,7 @@ later key nonce c k xs =
     let place : (0 + j) % 64 ≡ (64 * k + j) % 64 = omega arith in
     ap₂ (λ (n i : ℕ). get_or (block key n nonce) i 0) counter place)
 
--- the first k blocks and those after them
+-- if the first k blocks are masked, and the bytes after them from the counter c + k on, all are masked from the counter c on
 pub joined : (key nonce : List ℕ) (c k : ℕ) (front back a b : List ℕ) → length front ≡ 64 * k
     → a ≡ masked (key_stream_byte key nonce c) 0 front
     → b ≡ masked (key_stream_byte key nonce (c + k)) 0 back
@@ -157,7 +157,7 @@ joined key nonce c k front back a b long is_a is_b =
     ap₂ (λ (y z : List ℕ). y ++ z) is_a (is_b ∙ later key nonce c k back)
     ∙ sym (masked-append f 0 front back ∙ ap (λ (n : ℕ). masked f 0 front ++ masked f n back) at)
 
--- the first block and those after it
+-- if the first block is masked, and the bytes after it from the next counter on, all are masked from the counter c on
 pub joined_block : (key nonce : List ℕ) (c : ℕ) (front back first a b : List ℕ) → length front ≡ 64
     → first ≡ block key c nonce → a ≡ xor_bytes front first
     → b ≡ masked (key_stream_byte key nonce (c + 1)) 0 back
@@ -167,7 +167,7 @@ joined_block key nonce c front back first a b long is_first is_a =
     joined key nonce c 1 front back a b long
     (is_a ∙ block_masked key nonce c 0 0 front first long refl (is_first ∙ ap (λ n. block key n nonce) same))
 
--- the key stream from the counter of a place on that begins a block
+-- the key stream from the counter p / 64 on is the key stream from counter 0 on, at place p, if p begins a block
 pub whole_blocks : (key nonce : List ℕ) (p : ℕ) (xs : List ℕ) → p % 64 ≡ 0
     → masked (key_stream_byte key nonce (p / 64)) 0 xs ≡ masked (key_stream_byte key nonce 0) p xs
 whole_blocks key nonce p xs begins =
@@ -175,8 +175,8 @@ whole_blocks key nonce p xs begins =
     let place : p / 64 * 64 + 0 + j ≡ p + j = omega arith in
     sym (key_stream_byte-first key nonce (p / 64) 0 j) ∙ ap (key_stream_byte key nonce 0) place)
 
--- XORing in bytes p mod 64 and on of a stream that agrees with the key stream from the counter p / 64 on masks a run
--- of bytes in its place
+-- if a stream agrees with the key stream from the counter p / 64 on, XORing in its bytes from place p mod 64 on masks a run of
+-- bytes at place p
 run_of_stream : (key nonce : List ℕ) (p size n : ℕ) (bytes stream now : List ℕ) → length stream ≡ size
     → ((i : ℕ) → i < size → get_or stream i 0 ≡ key_stream_byte key nonce (p / 64) i)
     → n ≡ min (length stream - p % 64) (length bytes)
@@ -195,13 +195,13 @@ run_of_stream key nonce p size n bytes stream now long same least is_now =
     ∙ same (s + j) (omega (arith, l, whole))
     ∙ sym (key_stream_byte-first key nonce (p / 64) s j) ∙ ap (key_stream_byte key nonce 0) place))
 
--- zeros with the key stream XORed in are its bytes
+-- if the key stream is XORed into zeros, the result is the bytes of the key stream
 pub bytes_of_zeros : (f : ℕ → ℕ) (size i : ℕ) → i < size → get_or (masked f 0 (replicate size 0)) i 0 ≡ f i
 bytes_of_zeros f size i l =
     masked_zero f 0 i i (replicate size 0) (omega (arith, l, length-replicate {A = ℕ} size 0))
     (get_or-replicate size i 0 0 l) (omega arith)
 
--- bytes that were zeros are the key stream that was XORed in
+-- bytes that result from zeros into which the key stream was XORed are the bytes of the key stream
 pub bytes_from_zeros : (f : ℕ → ℕ) (size : ℕ) (bytes : List ℕ) → bytes ≡ masked f 0 (replicate size 0)
     → (i : ℕ) → i < length bytes → get_or bytes i 0 ≡ f i
 bytes_from_zeros f size bytes are i l =
@@ -209,7 +209,7 @@ bytes_from_zeros f size bytes are i l =
     ap length are ∙ length-masked f 0 (replicate size 0) ∙ length-replicate {A = ℕ} size 0 in
     ap (λ bs. get_or bs i 0) are ∙ bytes_of_zeros f size i (omega (arith, l, long))
 
--- a run of bytes is masked in its place if the stream is zeros with the key stream XORed in
+-- a run of bytes is masked at place p, if the stream is zeros into which the key stream was XORed
 pub run_of_zeros : (key nonce : List ℕ) (p size n : ℕ) (bytes stream now : List ℕ)
     → stream ≡ masked (key_stream_byte key nonce (p / 64)) 0 (replicate size 0) → length stream ≡ size
     → n ≡ min (length stream - p % 64) (length bytes)
@@ -219,7 +219,7 @@ run_of_zeros key nonce p size n bytes stream now is_stream long =
     run_of_stream key nonce p size n bytes stream now long (λ i l.
     ap (λ s. get_or s i 0) is_stream ∙ bytes_of_zeros (key_stream_byte key nonce (p / 64)) size i l)
 
--- k bytes masked in their place, and bytes of the run after them, which begins a block
+-- if k bytes are masked at place p, which begins a block, and then the first n bytes after them, k + n bytes are masked
 pub front_and_run : (key nonce : List ℕ) (p k n : ℕ) (bytes xs ys now stream rest : List ℕ) → p % 64 ≡ 0
     → k % 64 ≡ 0 → length xs ≡ k → bytes ≡ xs ++ ys
     → now ≡ masked (key_stream_byte key nonce (p / 64)) 0 xs
@@ -249,7 +249,7 @@ front_and_run key nonce p k n bytes xs ys now stream rest begins whole long spli
     (sym (ap (masked f p) taken ∙ masked-append f p xs (take n ys)
     ∙ ap (λ i. masked f p xs ++ masked f i (take n ys)) place)) (sym dropped)
 
--- the bytes of two blocks, one after the other
+-- two blocks, one after the other, are the first bytes of the key stream from their counter on
 pub bytes_of_two : (key nonce : List ℕ) (c : ℕ) (blocks : List (List ℕ)) (stream : List ℕ)
     → blocks ≡ block key c nonce ∷ block key (c + 1) nonce ∷ [] → stream ≡ flat_map (λ b. b) blocks
     → (i : ℕ) → i < 128 → get_or stream i 0 ≡ key_stream_byte key nonce c i
@@ -257,7 +257,7 @@ bytes_of_two key nonce c blocks stream are is_stream i l =
     ap (λ s. get_or s i 0) (is_stream ∙ ap (λ bs. flat_map (λ (b : List ℕ). b) bs) are)
     ∙ two_blocks_bytes key nonce c i l
 
--- a run of bytes is masked in its place if the stream is two blocks, one after the other
+-- a run of bytes is masked at place p, if the stream is two blocks, one after the other
 pub run_of_two : (key nonce : List ℕ) (p n : ℕ) (blocks : List (List ℕ)) (bytes stream now : List ℕ)
     → blocks ≡ block key (p / 64) nonce ∷ block key (p / 64 + 1) nonce ∷ []
     → stream ≡ flat_map (λ b. b) blocks → length stream ≡ length blocks * 64
@@ -269,7 +269,7 @@ run_of_two key nonce p n blocks bytes stream now are is_stream long =
     run_of_stream key nonce p 128 n bytes stream now (omega (arith, long, two))
     (bytes_of_two key nonce (p / 64) blocks stream are is_stream)
 
--- a run of bytes is masked in its place if the stream is a block
+-- a run of bytes is masked at place p, if the stream is one block
 pub run_of_block : (key nonce : List ℕ) (p n : ℕ) (bytes stream now : List ℕ)
     → stream ≡ block key (p / 64) nonce
     → n ≡ min (length stream - p % 64) (length bytes)
@@ -280,12 +280,12 @@ run_of_block key nonce p n bytes stream now is_block =
     (λ i l.
     ap (λ s. get_or s i 0) is_block ∙ block_bytes key nonce (p / 64) i l)
 
--- no run yet
+-- before the first run, no bytes are masked
 pub no_run : (f : ℕ → ℕ) (p : ℕ) (was : List ℕ) → was ≡ masked f p (take 0 was) ++ drop 0 was
 unfolding masked
 no_run f p was = refl
 
--- a run more: r bytes of those after the first a
+-- if r of the bytes after the first a are masked, the first a + r bytes are masked
 pub run_more : (f : ℕ → ℕ) (p a k r : ℕ) (was mid now : List ℕ) → a + k ≡ length was → r ≤ k
     → mid ≡ masked f p (take a was) ++ drop a was
     → now ≡ masked f (p + a) (take r (take k (drop a mid))) ++ drop r (take k (drop a mid))
@@ -311,7 +311,7 @@ run_more f p a k r was mid now whole room held done =
     ∙ sym (append_assoc (masked f p u) (masked f (p + a) (take r d)) (drop r d))
     ∙ ap₂ (λ (x y : List ℕ). x ++ y) (sym taken) (drop-drop r a was)
 
--- a run more: the k bytes after the first a
+-- if the k bytes after the first a are masked, the first a + k bytes are masked
 whole_run_more : (f : ℕ → ℕ) (p a k : ℕ) (was mid now : List ℕ) → a ≤ length was
     → mid ≡ masked f p (take a was) ++ drop a was
     → now ≡ masked f (p + a) (take k (drop a mid))
@@ -331,7 +331,7 @@ whole_run_more f p a k was mid now within held done =
     ∙ sym (append_assoc (masked f p u) (masked f (p + a) (take k d)) (drop k d))
     ∙ ap₂ (λ (x y : List ℕ). x ++ y) (sym taken) (drop-drop k a was)
 
--- a run more of k blocks, of a text whose first block has the counter c
+-- if k bytes of the next blocks are masked, of a text whose first block has the counter c, the first a + k bytes are masked
 pub blocks_more : (key nonce : List ℕ) (c a k : ℕ) (was mid now : List ℕ) → a % 64 ≡ 0 → a ≤ length was
     → mid ≡ masked (key_stream_byte key nonce c) 0 (take a was) ++ drop a was
     → now ≡ masked (key_stream_byte key nonce (c + a / 64)) 0 (take (a + k - a) (drop a mid))
@@ -346,7 +346,7 @@ blocks_more key nonce c a k was mid now begins within held done =
     (done ∙ later key nonce c (a / 64) run ∙ ap (λ p. masked f p run) place)
     ∙ ap (λ m. masked f 0 (take m was) ++ drop m was) part
 
--- all runs
+-- if the runs reach the end, the whole text is masked
 pub all_runs : (f : ℕ → ℕ) (p n : ℕ) (was : List ℕ) → length was ≤ n → masked f p (take n was) ++ drop n was
     ≡ masked f p was
 all_runs f p n was whole =

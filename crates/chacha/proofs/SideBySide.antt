@@ -1,4 +1,4 @@
--- States side by side, lane by lane.
+-- States side by side: one in each lane.
 use Rattle.std.proofs.Common.{◌≡◌, ℕ, zero, suc, ◌+◌, ◌-◌, ◌*◌, ◌/◌, ◌%◌, ◌^◌, ◌<◌, ◌≤◌, Fits, bit_or, bit_xor}
 use Rattle.std.proofs.Common.{refl, sym, ap, ap₂, ◌∙◌, arith}
 use Rattle.std.proofs.Common.{List, [], ◌∷◌, ◌++◌, length, get_or, set, take, drop, map, replicate}
@@ -19,7 +19,7 @@ use Rattle.chacha.specs.Code.Lanes.{lane, HasBlocks}
 use Rattle.chacha.proofs.Words.{serialized-append, four_bytes}
 use Rattle.chacha.proofs.Lengths.{length-serialized}
 
--- a shift up, a shift down and an or of each lane are a rotation
+-- an OR of each lane shifted up by n places and shifted down by 32 - n places is a rotation by n places
 pub shifts_rotate : (v : List ℕ) (lanes n j : ℕ) → length v ≡ lanes → j < lanes → 0 < n → n < 32
     → get_or (zip2 bit_or (zip2 (λ (x k : ℕ). x * 2 ^ k % 2 ^ 32) v (replicate lanes n))
     (zip2 (λ (x k : ℕ). x / 2 ^ k) v (replicate lanes (32 - n)))) j 0
@@ -36,7 +36,7 @@ shifts_rotate v lanes n j long below low high =
     ∙ get_or-map (λ (x : ℕ). bit_or (up x) (down x)) v j 0 0 (omega arith)
     ∙ ap₂ (λ (s t : ℕ). bit_or (get_or v j 0 * 2 ^ s % 2 ^ 32) (get_or v j 0 / 2 ^ t)) left right
 
--- the sum, the XOR and the rotation of one step, in one lane
+-- if the vectors have the sum and the rotated XOR of one lane, that lane undergoes a step of the quarter round
 pub lane-step : (x : List (List ℕ)) (sum turned : List ℕ) (a b d n j : ℕ)
     → get_or sum j 0 ≡ (get_or (get_or x a []) j 0 + get_or (get_or x b []) j 0) % 2 ^ 32
     → get_or turned j 0 ≡ rotate_left w32 (bit_xor (get_or (get_or x d []) j 0) (get_or sum j 0)) n
@@ -61,13 +61,13 @@ pub get_or-lane : (j : ℕ) (x : List (List ℕ)) (i : ℕ) → get_or (lane j x
 unfolding lane
 get_or-lane j x i = get_or-map_any (λ (v : List ℕ). get_or v j 0) x i []
 
--- a vector is replaced
+-- replacing vector i replaces word i of the state in each lane
 pub lane-set : (j : ℕ) (x : List (List ℕ)) (i : ℕ) (v : List ℕ)
     → lane j (set x i v) ≡ set (lane j x) i (get_or v j 0)
 unfolding lane
 lane-set j x i v = map-set (λ (w : List ℕ). get_or w j 0) x i v
 
--- a sum of two words, in one lane
+-- if vector i has the sum of two words in one lane, word i of the state in that lane becomes their sum
 pub lane-sum : (x start : List (List ℕ)) (sum : List ℕ) (i j : ℕ)
     → get_or sum j 0 ≡ (get_or (get_or x i []) j 0 + get_or (get_or start i []) j 0) % 2 ^ 32
     → lane j (set x i sum) ≡ set (lane j x) i ((get_or (lane j x) i 0 + get_or (lane j start) i 0) % 2 ^ 32)
@@ -76,7 +76,7 @@ lane-sum x start sum i j is_sum =
     ∙ ap (set (lane j x) i) (is_sum ∙ ap₂ (λ (y z : ℕ). (y + z) % 2 ^ 32) (sym (get_or-lane j x i))
     (sym (get_or-lane j start i)))
 
--- the lowest four digits to the base 256 of a number whose lowest 32 bits are a word
+-- the lowest digits to base 256 of a number whose lowest 32 bits are a word are the word's four bytes
 word_digits : (w r n : ℕ) → w < 2 ^ 32 → digits_l 256 (suc (suc (suc (suc n)))) (w + 2 ^ 32 * r)
     ≡ to_le_bytes w32 w ++ digits_l 256 n r
 word_digits w r n small =
@@ -88,7 +88,7 @@ word_digits w r n small =
     let e4 : x / 256 / 256 / 256 / 256 ≡ r = omega arith in
     λ k. e0 k ∷ e1 k ∷ e2 k ∷ e3 k ∷ digits_l 256 n (e4 k)
 
--- any number of them
+-- the digits to base 256 of words that are put together into one number are the serialized words
 digits-serialized : (v : List ℕ) → Each1 (Fits w32) v → digits_l 256 (4 * length v) (number_l (2 ^ 32) v)
     ≡ serialized v
 unfolding serialized
@@ -99,14 +99,14 @@ digits-serialized (w ∷ v) fit =
     ∙ word_digits w (number_l (2 ^ 32) v) (4 * length v) fit.0.fits
     ∙ ap (λ l. to_le_bytes w32 w ++ l) (digits-serialized v fit.1)
 
--- lanes of words written out as bytes
+-- the bytes of a vector of n words are the serialized words
 pub lanes_serialized : (v : List ℕ) (n m : ℕ) → length v ≡ n → m ≡ 4 * n → Each1 (Fits w32) v
     → digits_l 256 m (number_l (2 ^ 32) v) ≡ serialized v
 lanes_serialized v n m long size fit =
     let whole : m ≡ 4 * length v = omega arith in
     ap (λ (k : ℕ). digits_l 256 k (number_l (2 ^ 32) v)) whole ∙ digits-serialized v fit
 
--- two XORs, one after the other
+-- the XOR of two joined lists is the XOR of the first parts and then that of the second parts
 xor_bytes-append : (xs ys zs ws : List ℕ) → length xs ≡ length ys → xor_bytes (xs ++ zs) (ys ++ ws)
     ≡ xor_bytes xs ys ++ xor_bytes zs ws
 unfolding xor_bytes
@@ -116,7 +116,7 @@ xor_bytes-append (x ∷ xs) [] zs ws same = absurd (omega arith)
 xor_bytes-append (x ∷ xs) (y ∷ ys) zs ws same =
     ap (λ l. bit_xor x y ∷ l) (xor_bytes-append xs ys zs ws (omega arith))
 
--- zeros become what is XORed into them
+-- XORing a list into zeros gives the list
 pub xor_bytes-zeros : (ys : List ℕ) (n : ℕ) → length ys ≡ n → xor_bytes (replicate n 0) ys ≡ ys
 unfolding xor_bytes
 xor_bytes-zeros [] zero same = refl
@@ -125,16 +125,16 @@ xor_bytes-zeros (y ∷ ys) zero same = absurd (omega arith)
 xor_bytes-zeros (y ∷ ys) (suc n) same = ap₂ (λ (z : ℕ) (zs : List ℕ). z ∷ zs) (xor_zero_l y)
     (xor_bytes-zeros ys n (omega arith))
 
--- the first n words of a state are XORed, written out, into bytes
+-- the first n words of a state, serialized, are XORed into a list, and the rest of the list stays as it was
 abbrev pub Xored : List ℕ → ℕ → List ℕ → List ℕ → Type 0
 Xored words n was now = now ≡ xor_bytes (take (4 * n) was) (serialized (take n words)) ++ drop (4 * n) was
 
--- no word yet
+-- before the first word, the list is as it was
 pub xored_none : (words was : List ℕ) → Xored words 0 was was
 unfolding serialized xor_bytes
 xored_none words was = refl
 
--- four neighbouring words of the state in a lane
+-- one lane of four neighbouring vectors has four neighbouring words of its state
 pub lane_four : (x : List (List ℕ)) (j n : ℕ) → length x ≡ 16 → n + 4 ≤ 16
     → get_or (get_or x n []) j 0 ∷ get_or (get_or x (n + 1) []) j 0 ∷ get_or (get_or x (n + 2) []) j 0
     ∷ get_or (get_or x (n + 3) []) j 0 ∷ [] ≡ take 4 (drop n (lane j x))
@@ -143,7 +143,7 @@ lane_four x j n sixteen room =
     (λ k. at n k ∷ at (n + 1) k ∷ at (n + 2) k ∷ at (n + 3) k ∷ [])
     ∙ sym (four_bytes (lane j x) n (omega (arith, length-lane j x)))
 
--- eight of them
+-- one lane of eight neighbouring vectors has eight neighbouring words of its state
 pub lane_eight : (x : List (List ℕ)) (j n : ℕ) → length x ≡ 16 → n + 8 ≤ 16
     → (get_or (get_or x n []) j 0 ∷ get_or (get_or x (n + 1) []) j 0 ∷ get_or (get_or x (n + 2) []) j 0
     ∷ get_or (get_or x (n + 3) []) j 0 ∷ []) ++ (get_or (get_or x (n + 4) []) j 0
@@ -159,7 +159,7 @@ lane_eight x j n sixteen room =
     ∙ lane_four x j (n + 4) sixteen (omega arith))
     ∙ ap (λ l. take 4 (drop n words) ++ take 4 l) (sym (drop-drop 4 n words)) ∙ sym (take-add 4 4 (drop n words))
 
--- k words more of the block in a lane, from byte a on
+-- if n words of a lane's block were XORed in, and then k words more from byte a on, n + k words are XORed in
 pub xored_more : (x : List (List ℕ)) (j : ℕ) (was mid now part : List ℕ) (n k m a : ℕ) → length x ≡ 16
     → length was ≡ 64 → n + k ≤ 16 → m ≡ n + k → a ≡ 4 * n
     → Xored (lane j x) n was mid → part ≡ take k (drop n (lane j x))
@@ -196,7 +196,7 @@ xored_more x j was mid now part n k m a sixteen long room sum place held is_part
     ∙ ap₂ xor_bytes (sym bytes_more) (sym words_more))
     past
 
--- all words of the block in a lane
+-- if all 16 words of a lane's block were XORed in, the whole block was
 pub xored_all : (x : List (List ℕ)) (j : ℕ) (was now : List ℕ) (n : ℕ) → length x ≡ 16 → length was ≡ 64
     → n ≡ 16 → Xored (lane j x) n was now → now ≡ xor_bytes was (serialized (lane j x))
 xored_all x j was now n sixteen long end held =
@@ -209,7 +209,7 @@ xored_all x j was now n sixteen long end held =
     (drop_all 64 was (omega arith))
     ∙ append-nil (xor_bytes was (serialized words))
 
--- one vector more, whose lane has the next word
+-- if one more vector has the next word in a lane, the lane has one word more
 pub lane_more : (j : ℕ) (x : List (List ℕ)) (v words : List ℕ) (i : ℕ) → i < length x → i < length words
     → get_or v j 0 ≡ get_or words i 0
     → take i (lane j x) ≡ take i words → take (i + 1) (lane j (set x i v)) ≡ take (i + 1) words
@@ -218,7 +218,7 @@ lane_more j x v words i there in_words is same =
     ∙ take_more_set (lane j x) i (get_or v j 0) (omega (arith, length-lane j x))
     ∙ ap₂ (λ (l : List ℕ) (y : ℕ). l ++ y ∷ []) same is ∙ sym (take_more words i 0 in_words)
 
--- all vectors
+-- if all 16 vectors have their words in a lane, the lane has the whole state
 pub lane_all : (j : ℕ) (x : List (List ℕ)) (words : List ℕ) (i : ℕ) → length x ≡ 16 → length words ≡ 16
     → i ≡ 16
     → take i (lane j x) ≡ take i words → lane j x ≡ words
@@ -243,17 +243,17 @@ unfolding block block_from
 lane_block key nonce start x rounds n begins is_rounds is_x =
     ap serialized (is_x ∙ ap (λ s. added s start) is_rounds ∙ ap (λ s. added (double_rounds 10 s) s) begins)
 
--- a lane's counter does not wrap within the text
+-- the counter of a lane does not wrap around within the text
 pub counter_now : (n a j k size : ℕ) → j < k → a % 64 ≡ 0 → a + 64 * k ≤ size → n + size / 64 ≤ 2 ^ 32
     → (n + a / 64 + j) % 2 ^ 32 ≡ n + a / 64 + j
 counter_now n a j k size below begins room limit = omega (arith, below, begins, room, limit)
 
--- its counter in the next run of k lanes
+-- the counter of a lane in the next run of k lanes is larger by k
 pub counter_next : (n a j k : ℕ) → a % 64 ≡ 0 → ((n + a / 64 + j) % 2 ^ 32 + k) % 2 ^ 32
     ≡ (n + (a + 64 * k) / 64 + j) % 2 ^ 32
 counter_next n a j k begins = omega (arith, begins)
 
--- a run of k lanes whose blocks have their counters
+-- if each lane begins with the initial state of its counter, k lanes have the blocks of the counters from n + a / 64 on
 pub lanes_have : (key nonce : List ℕ) (n a k size : ℕ) (start x : List (List ℕ)) → a % 64 ≡ 0 → a + 64 * k ≤ size
     → n + size / 64 ≤ 2 ^ 32
     → ((j : ℕ) → j < k → lane j start ≡ initial_state key ((n + a / 64 + j) % 2 ^ 32) nonce)
@@ -264,7 +264,7 @@ lanes_have key nonce n a k size start x begins room limit starts made j l =
     made j l key nonce ((n + a / 64 + j) % 2 ^ 32) (starts j l)
     ∙ ap (λ (m : ℕ). block key m nonce) (counter_now n a j k size l begins room limit)
 
--- four counters from one on
+-- item j of four numbers from c on is c + j
 pub four_counters : (c j : ℕ) → j < 4 → get_or (c ∷ (c + 1) ∷ (c + 2) ∷ (c + 3) ∷ []) j 0 ≡ c + j
 four_counters c zero h = omega arith
 four_counters c (suc zero) h = refl
@@ -272,7 +272,7 @@ four_counters c (suc (suc zero)) h = refl
 four_counters c (suc (suc (suc zero))) h = refl
 four_counters c (suc (suc (suc (suc j)))) h = absurd (omega arith)
 
--- eight counters from one on
+-- item j of eight numbers from c on is c + j
 pub eight_counters : (c j : ℕ) → j < 8
     → get_or (c ∷ (c + 1) ∷ (c + 2) ∷ (c + 3) ∷ (c + 4) ∷ (c + 5) ∷ (c + 6) ∷ (c + 7) ∷ []) j 0 ≡ c + j
 eight_counters c zero h = omega arith

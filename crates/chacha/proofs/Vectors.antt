@@ -4,7 +4,7 @@ use Rattle.octets.specs.Bytes.{le}
 use Rattle.chacha.specs.Block.{add_xor_rotate, quarter_round, column_round, diagonal_round, double_rounds}
 use Rattle.chacha.specs.Block.{added, serialized, block_from, initial_state, block}
 
--- RFC 8439, 2.1.1
+-- the quarter round of RFC 8439, 2.1.1
 quarter_round_vector : quarter_round 0 1 2 3 (0x11111111 ∷ 0x01020304 ∷ 0x9b8d6f43 ∷ 0x01234567 ∷ [])
     ≡ 0xea2a92f4 ∷ 0xcb1cf8ce ∷ 0x4581472e ∷ 0x5881c4bb ∷ []
 unfolding quarter_round add_xor_rotate
@@ -18,7 +18,7 @@ key =
     ∷ 0x10 ∷ 0x11 ∷ 0x12 ∷ 0x13 ∷ 0x14 ∷ 0x15 ∷ 0x16 ∷ 0x17
     ∷ 0x18 ∷ 0x19 ∷ 0x1a ∷ 0x1b ∷ 0x1c ∷ 0x1d ∷ 0x1e ∷ 0x1f ∷ []
 
--- RFC 8439, 2.3.2
+-- the block of RFC 8439, 2.3.2
 block_vector : block key 1 (0x00 ∷ 0x00 ∷ 0x00 ∷ 0x09 ∷ 0x00 ∷ 0x00 ∷ 0x00 ∷ 0x4a
     ∷ 0x00 ∷ 0x00 ∷ 0x00 ∷ 0x00 ∷ [])
     ≡ 0x10 ∷ 0xf1 ∷ 0xe7 ∷ 0xe4 ∷ 0xd1 ∷ 0x3b ∷ 0x59 ∷ 0x15
