@@ -1,4 +1,4 @@
--- Eight planes of bits: sums, doubles and moves.
+-- Eight planes of bits: sums, doubles and moved lanes.
 use Rattle.std.proofs.Common.{◌≡◌, ℕ, ◌+◌, ◌-◌, ◌<◌, ◌==◌, ◌&&◌, true, ltb, List, [], inl, inr}
 use Rattle.std.proofs.lemmas.Bool.{and_parts, cases_lt, eqb-true}
 use Rattle.std.proofs.Common.{◌∷◌, ◌++◌, map, get_or, length, bit_xor, refl, sym, ap, ap₂, ◌∙◌, arith, ltb-true}
@@ -14,19 +14,19 @@ use Rattle.aes.proofs.Tested.{all_below, all_below_at, eight_cases}
 use Rattle.aes.proofs.Multiples.{double, double_is}
 use Rattle.aes.proofs.Circuit.{eight, at, at_sum, plus2, bits8, bits_at, same_list, same_at}
 
--- an operation on each of eight planes
+-- an operation on eight planes acts on each of them
 pub each_of : (F : List ℕ → List ℕ) (p : List (List ℕ)) (j : ℕ) → j < 8
     → get_or (map F (eight p)) j [] ≡ F (get_or p j [])
 each_of F p = eight_cases (λ j. get_or (map F (eight p)) j [] ≡ F (get_or p j [])) refl refl refl refl refl refl refl refl
 
--- an operation on each two of sixteen planes
+-- an operation on two lists of eight planes acts on each pair
 each_two : (F : List ℕ → List ℕ → List ℕ) (p q : List (List ℕ)) (j : ℕ) → j < 8
     → get_or (zip2 F (eight p) (eight q)) j [] ≡ F (get_or p j []) (get_or q j [])
 each_two F p q =
     eight_cases (λ j. get_or (zip2 F (eight p) (eight q)) j [] ≡ F (get_or p j []) (get_or q j []))
     refl refl refl refl refl refl refl refl
 
--- lanes brought from places, which a function gives
+-- planes whose lanes are brought from other places hold the bytes of those places, if the places are tested to be `from`
 pub moved : (n m : ℕ) (ps : List ℕ) (from : ℕ → ℕ) → length ps ≡ m
     → all_below (λ i. ltb (get_or ps i 0) n && (get_or ps i 0 == from i)) m ≡ true
     → (p : List (List ℕ)) (g : ℕ → ℕ → ℕ) → HoldsLanes n p g
@@ -47,7 +47,7 @@ moved n m ps from long test p g h = record {
       ∙ ap (λ (i : ℕ). bit_at (g i k) j) (eqb-true (get_or ps l 0) (from l) both.1);
 }
 
--- planes of 16 lanes and others after them
+-- planes of 16 lanes that are put after others of 16 lanes hold the bytes of both
 pub both : (p q : List (List ℕ)) (g : ℕ → ℕ → ℕ) → HoldsLanes 16 p g → HoldsLanes 16 q (λ l k. g (16 + l) k)
     → HoldsBits (zip2 (λ v w. map (λ i. get_or (v ++ w) i 0) ALL) (eight p) (eight q)) g
 both p q g hp hq =
@@ -72,7 +72,7 @@ both p q g hp hq =
           ];
     }
 
--- the sums of bytes
+-- the XOR of the planes of two lists of bytes holds the XORs of the bytes
 pub added : {n : ℕ} (p q : List (List ℕ)) (g h : ℕ → ℕ → ℕ) → HoldsLanes n p g → HoldsLanes n q h
     → HoldsLanes n (zip2 (zip2 bit_xor) (eight p) (eight q)) (λ l k. bit_xor (g l k) (h l k))
 added p q g h hp hq = record {
@@ -87,7 +87,7 @@ added p q g h hp hq = record {
 }
 
 -- ---- doubles
--- the bits of twice a byte
+-- the bits of twice the byte whose bits are b
 abbrev doubled_bits : List ℕ → List ℕ
 doubled_bits b =
     get_or b 7 0 ∷ plus2 (get_or b 0 0) (get_or b 7 0) ∷ get_or b 1 0 ∷ plus2 (get_or b 2 0) (get_or b 7 0) ∷
@@ -96,28 +96,28 @@ doubled_bits b =
 doubles_computed : all_below (λ x. same_list (doubled_bits (bits8 x)) (bits8 (double x))) 256 ≡ true
 doubles_computed = refl
 
--- a bit of twice a byte
+-- `doubled_bits` gives the bits of twice a byte
 doubled_bit : (x j : ℕ) → x < 256 → j < 8 → get_or (doubled_bits (bits8 x)) j 0 ≡ bit_at (times 2 x) j
 doubled_bit x j hx hj =
     same_at (doubled_bits (bits8 x)) (bits8 (double x)) j
     (all_below_at (λ x. same_list (doubled_bits (bits8 x)) (bits8 (double x))) 256 x doubles_computed hx)
     ∙ bits_at (double x) j hj ∙ ap (λ n. bit_at n j) (sym (double_is x hx))
 
--- the planes of doubles
+-- the planes of twice each byte
 abbrev pub doubled_planes : List (List ℕ) → List (List ℕ)
 doubled_planes p =
     get_or p 7 [] ∷ zip2 bit_xor (get_or p 0 []) (get_or p 7 []) ∷ get_or p 1 [] ∷
     zip2 bit_xor (get_or p 2 []) (get_or p 7 []) ∷ zip2 bit_xor (get_or p 3 []) (get_or p 7 []) ∷ get_or p 4 [] ∷
     get_or p 5 [] ∷ get_or p 6 [] ∷ []
 
--- a sum with the last plane
+-- a bit of the XOR of plane i and the last plane is the sum of those bits of the byte
 with_last : {n : ℕ} (p : List (List ℕ)) (g : ℕ → ℕ → ℕ) → HoldsLanes n p g → (i l k : ℕ) → i < 8 → l < n → k < 8
     → at l k (zip2 bit_xor (get_or p i []) (get_or p 7 [])) ≡ plus2 (bit_at (g l k) i) (bit_at (g l k) 7)
 with_last p g h i l k hi hl hk =
     at_sum l k (get_or p i []) (get_or p 7 []) (h.long i hi) (h.long 7 (omega arith)) hl
     ∙ ap₂ plus2 (h.each i l k hi hl hk) (h.each 7 l k (omega arith) hl hk)
 
--- a plane of doubles
+-- a bit of a plane of doubles is that of `doubled_bits` of the byte
 plane_doubled : {n : ℕ} (p : List (List ℕ)) (g : ℕ → ℕ → ℕ) → HoldsLanes n p g → (j l k : ℕ) → j < 8 → l < n → k < 8
     → at l k (get_or (doubled_planes p) j []) ≡ get_or (doubled_bits (bits8 (g l k))) j 0
 plane_doubled p g h j l k hj hl hk =
@@ -126,7 +126,7 @@ plane_doubled p g h j l k hj hl hk =
     (with_last p g h 2 l k (omega arith) hl hk) (with_last p g h 3 l k (omega arith) hl hk)
     (h.each 4 l k (omega arith) hl hk) (h.each 5 l k (omega arith) hl hk) (h.each 6 l k (omega arith) hl hk) j hj
 
--- its length
+-- planes of doubles have as many lanes as the planes from which they are computed
 long_doubled : (n : ℕ) (p : List (List ℕ)) → ((j : ℕ) → j < 8 → length (get_or p j []) ≡ n) → (j : ℕ) → j < 8
     → length (get_or (doubled_planes p) j []) ≡ n
 long_doubled n p h =
@@ -136,7 +136,7 @@ long_doubled n p h =
     (h 1 (omega arith)) (with_last 2 (omega arith)) (with_last 3 (omega arith)) (h 4 (omega arith)) (h 5 (omega arith))
     (h 6 (omega arith))
 
--- twice each byte
+-- planes of doubles hold twice each byte
 pub twice : {n : ℕ} (p : List (List ℕ)) (g : ℕ → ℕ → ℕ) → ((l k : ℕ) → g l k < 256) → HoldsLanes n p g
     → HoldsLanes n (doubled_planes p) (λ l k. times 2 (g l k))
 twice {n} p g small h = record {

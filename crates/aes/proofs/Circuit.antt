@@ -1,4 +1,4 @@
--- The circuit of the S-box, over any values that have sums and products.
+-- The circuit of the S-box, over any values that can be added and multiplied.
 use Rattle.std.proofs.Common.{◌≡◌, ℕ, zero, suc, ◌+◌, ◌%◌, ◌<◌, Bool, true, false, cond, ◌&&◌, ◌==◌, List, []}
 use Rattle.std.proofs.Common.{rules}
 use Rattle.std.proofs.Common.{◌∷◌, map, get_or, length, min, bit_and, bit_xor, refl, sym, ap, ap₂, ◌∙◌, arith, replicate}
@@ -14,7 +14,7 @@ use Rattle.aes.proofs.Tables.{sbox_at}
 use Rattle.aes.specs.declared.sbox.TheConstants.{SBOX}
 use Rattle.aes.proofs.Tested.{all_below, all_below_at, eight_cases}
 
--- a gate: whether it is a product, and how far back its operands were made
+-- a gate: whether it is a product or a sum, and how far back in the list of values its two operands stand
 abbrev pub Gate : Type 0
 Gate = Bool × ℕ × ℕ
 
@@ -22,12 +22,12 @@ Gate = Bool × ℕ × ℕ
 abbrev pub made : {A : Type 0} → (A → A → A) → (A → A → A) → A → Gate → List A → A
 made mul add d g env = cond g.0 (mul (get_or env g.1 d) (get_or env g.2 d)) (add (get_or env g.1 d) (get_or env g.2 d))
 
--- every value made, the last one first
+-- the values of all gates and inputs, the last one first
 abbrev pub run : {A : Type 0} → (A → A → A) → (A → A → A) → A → List Gate → List A → List A
 run mul add d [] env = env
 run mul add d (g ∷ gs) env = run mul add d gs (made mul add d g env ∷ env)
 
--- the gates
+-- the gates of the S-box's circuit
 abbrev pub gates : List Gate
 gates =
     (false, 1, 7) ∷ (false, 6, 7) ∷ (false, 6, 4) ∷ (false, 0, 2) ∷ (false, 2, 4) ∷ (false, 6, 0) ∷
@@ -51,11 +51,11 @@ gates =
     (false, 21, 7) ∷ (false, 17, 14) ∷ (false, 26, 2) ∷ (false, 5, 12) ∷ (false, 2, 7) ∷ (false, 30, 5) ∷
     (false, 16, 0) ∷ []
 
--- the positions of the eight result bits in the final list of values
+-- the places of the eight result bits in the list of values
 abbrev pub places : List ℕ
 places = 11 ∷ 3 ∷ 8 ∷ 4 ∷ 1 ∷ 2 ∷ 0 ∷ 6 ∷ []
 
--- the eight values at the end
+-- the eight results of the circuit
 abbrev pub outcome : {A : Type 0} → (A → A → A) → (A → A → A) → A → List A → List A
 outcome mul add d env = map (λ i. get_or (run mul add d gates env) i d) places
 
@@ -63,7 +63,7 @@ outcome mul add d env = map (λ i. get_or (run mul add d gates env) i d) places
 abbrev pub plus2 : ℕ → ℕ → ℕ
 plus2 a b = (a + b) % 2
 
--- the bits of a number
+-- the eight lowest bits of a number
 abbrev pub bits8 : ℕ → List ℕ
 bits8 x = map (bit_at x) (0 ∷ 1 ∷ 2 ∷ 3 ∷ 4 ∷ 5 ∷ 6 ∷ 7 ∷ [])
 
@@ -73,11 +73,11 @@ same_list [] (y ∷ ys) = false
 same_list (x ∷ xs) [] = false
 same_list (x ∷ xs) (y ∷ ys) = (x == y) && same_list xs ys
 
--- the circuit is the S-box without its constant, at each byte
+-- the circuit computes the S-box without its constant, tested at each byte
 computed : all_below (λ x. same_list (outcome min plus2 0 (bits8 x)) (bits8 (bit_xor (get_or SBOX x 0) 0x63))) 256 ≡ true
 computed = refl
 
--- two lists that are tested equal have the same members
+-- two lists that are tested equal have equal items
 pub same_at : (xs ys : List ℕ) (i : ℕ) → same_list xs ys ≡ true → get_or xs i 0 ≡ get_or ys i 0
 same_at [] [] i h = refl
 same_at [] (y ∷ ys) i h = search rules
@@ -85,16 +85,16 @@ same_at (x ∷ xs) [] i h = search rules
 same_at (x ∷ xs) (y ∷ ys) zero h = eqb-true x y (and_parts (x == y) (same_list xs ys) h).0
 same_at (x ∷ xs) (y ∷ ys) (suc i) h = same_at xs ys i (and_parts (x == y) (same_list xs ys) h).1
 
--- a bit of a number
+-- item j of `bits8 x` is bit j of x
 pub bits_at : (x j : ℕ) → j < 8 → get_or (bits8 x) j 0 ≡ bit_at x j
 bits_at x = eight_cases (λ j. get_or (bits8 x) j 0 ≡ bit_at x j) refl refl refl refl refl refl refl refl
 
 -- ---- bits of planes
--- a plane of n lanes without bits
+-- a plane of n lanes that are all 0
 abbrev pub none : ℕ → List ℕ
 none n = replicate n 0
 
--- bit k of lane l
+-- bit k of lane l of a plane
 abbrev pub at : ℕ → ℕ → List ℕ → ℕ
 at l k v = bit_at (get_or v l 0) k
 
@@ -102,14 +102,14 @@ at l k v = bit_at (get_or v l 0) k
 abbrev pub Long : ℕ → List (List ℕ) → Type 0
 Long n env = (i : ℕ) → length (get_or env i (none n)) ≡ n
 
--- a member of a mapped list, whatever its place
+-- an item of a mapped list is the image of the item, also past the end
 mapped : {A B : Type 0} (h : A → B) (d : A) (e : B) → h d ≡ e → (xs : List A) (i : ℕ)
     → get_or (map h xs) i e ≡ h (get_or xs i d)
 mapped h d e same [] i = sym same
 mapped h d e same (x ∷ xs) zero = refl
 mapped h d e same (x ∷ xs) (suc i) = mapped h d e same xs i
 
--- a bit of no bits
+-- a plane of zeros has no bits
 pub at_none : (n l k : ℕ) → l < n → at l k (none n) ≡ 0
 at_none n l k h = ap (λ m. bit_at m k) (get_or-replicate {A = ℕ} n l 0 0 h) ∙ bit_at-zero k
 
@@ -125,7 +125,7 @@ at_product l k x y hx hy h =
     ap (λ m. bit_at m k) (get_or-zip2 bit_and x y l 0 0 0 (omega (arith, hx, h)) (omega (arith, hy, h)))
     ∙ bit_at_and (get_or x l 0) (get_or y l 0) k
 
--- the gates on planes of n lanes
+-- the gates as operations on planes of n lanes
 module _ (n : ℕ) where
   abbrev make : Gate → List (List ℕ) → List ℕ
   make = made (zip2 bit_and) (zip2 bit_xor) (none n)
@@ -152,7 +152,7 @@ module _ (n : ℕ) where
       ∙ sym (ap₂ plus2 (mapped (at l k) (none n) 0 (at_none n l k h) env i)
       (mapped (at l k) (none n) 0 (at_none n l k h) env j))
 
-  -- one plane more
+  -- if planes have n lanes, and one more has n lanes, all of them have
   longer : (v : List ℕ) (env : List (List ℕ)) → length v ≡ n → Long n env → Long n (v ∷ env)
   longer v env h long zero = h
   longer v env h long (suc i) = long i
@@ -172,7 +172,7 @@ module _ (n : ℕ) where
       (longer (make (b, i, j) env) env (made_long b i j env long) long)
       ∙ ap (λ m. run min plus2 0 gs (m ∷ map (at l k) env)) (made_bits l k h b i j env long)
 
--- eight planes
+-- the first eight planes of a list
 abbrev pub eight : List (List ℕ) → List (List ℕ)
 eight p =
     get_or p 0 [] ∷ get_or p 1 [] ∷ get_or p 2 [] ∷ get_or p 3 [] ∷ get_or p 4 [] ∷ get_or p 5 [] ∷
@@ -189,7 +189,7 @@ eight_long n p h (suc (suc (suc (suc (suc (suc zero)))))) = h 6 (omega arith)
 eight_long n p h (suc (suc (suc (suc (suc (suc (suc zero))))))) = h 7 (omega arith)
 eight_long n p h (suc (suc (suc (suc (suc (suc (suc (suc i)))))))) = length-replicate {A = ℕ} n 0
 
--- the bits of eight planes are those of a byte
+-- bit k of lane l of each of eight planes, together, are the bits of the byte that they hold there
 eight_bits : (n : ℕ) (p : List (List ℕ)) (g : ℕ → ℕ → ℕ) (l k : ℕ) → HoldsLanes n p g → l < n → k < 8
     → map (at l k) (eight p) ≡ bits8 (g l k)
 eight_bits n p g l k h hl hk =
@@ -202,17 +202,17 @@ eight_bits n p g l k h hl hk =
     ap₂ ◌∷◌ (h.each 6 l k (omega arith) hl hk) (
     ap₂ ◌∷◌ (h.each 7 l k (omega arith) hl hk) refl)))))))
 
--- the planes of n lanes that the circuit makes
+-- the planes of n lanes that the circuit computes
 abbrev pub planes_out : ℕ → List (List ℕ) → List (List ℕ)
 planes_out n p = outcome (zip2 bit_and) (zip2 bit_xor) (none n) (eight p)
 
--- a plane that it makes
+-- plane j of the results is the value of the gates at the result's place
 plane_out : (n : ℕ) (p : List (List ℕ)) (j : ℕ) → j < 8
     → get_or (planes_out n p) j [] ≡ get_or (run_planes n gates (eight p)) (get_or places j 0) (none n)
 plane_out n p j h =
     get_or-map (λ i. get_or (run_planes n gates (eight p)) i (none n)) places j 0 [] (omega arith)
 
--- the S-box at each byte
+-- the circuit computes the S-box without its constant of each byte in the planes
 pub substituted : (n : ℕ) (p : List (List ℕ)) (g : ℕ → ℕ → ℕ) → ((l k : ℕ) → g l k < 256) → HoldsLanes n p g
     → HoldsLanes n (planes_out n p) (λ l k. linear_sbox (g l k))
 unfolding linear_sbox

@@ -1,4 +1,4 @@
--- Columns as words: sums, moves and bytes.
+-- Columns as words: their sums, rotations and bytes.
 use Rattle.std.proofs.Common.{◌≡◌, ℕ, ◌+◌, ◌*◌, ◌/◌, ◌%◌, ◌^◌, ◌<◌, ◌≤◌, true, ◌==◌, ◌&&◌, ltb, ltb-true}
 use Rattle.std.proofs.Common.{List, [], ◌∷◌, ◌++◌, map, get_or, length, zero, suc, refl, sym, ap, ap₂, ◌∙◌}
 use Rattle.std.proofs.Common.{arith, bit_or, bit_xor, w32, lit<}
@@ -24,16 +24,16 @@ use Rattle.aes.proofs.Sums.{times_xor, xor_exchange}
 use Rattle.aes.proofs.Linear.{unmix_written}
 use Rattle.aes.proofs.Steps.{sbox_small, times_small, quad}
 
--- byte k of a sum
+-- byte k of an XOR is the XOR of the bytes
 xor_byte : (x y k : ℕ) → bit_xor x y / 2 ^ k % 256 ≡ bit_xor (x / 2 ^ k % 256) (y / 2 ^ k % 256)
 xor_byte x y k = ap (λ (z : ℕ). z % 2 ^ 8) (xor_shr x y k) ∙ xor_mod (x / 2 ^ k) (y / 2 ^ k) 8
 
--- the column of a sum
+-- the column of the XOR of two words is the sum of their columns
 pub column_xor : (x y : ℕ) → column_of (bit_xor x y) ≡ xor_word (column_of x) (column_of y)
 unfolding column_of xor_word
 column_xor x y = four (xor_mod x y 8) (xor_byte x y 8) (xor_byte x y 16) (xor_byte x y 24)
 
--- a word moved down by one row, around the end
+-- rotating a word left by 8 bits moves its column down by one row, around the end
 pub moved_one : (x : ℕ) → x < 2 ^ 32
     → column_of (rotate_left w32 x 8)
     ≡ get_or (column_of x) 3 0 ∷ get_or (column_of x) 0 0 ∷ get_or (column_of x) 1 0
@@ -46,7 +46,7 @@ moved_one x h =
     ap (λ (z : ℕ). bit_or z (x / 2 ^ 24)) rest ∙ or_shifted (x % 2 ^ 24) 8 (x / 2 ^ 24) top in
     four (omega arith) (omega arith) (omega arith) (omega arith)
 
--- by two rows
+-- rotating a word left by 16 bits moves its column down by two rows
 pub moved_two : (x : ℕ) → x < 2 ^ 32
     → column_of (rotate_left w32 x 16)
     ≡ get_or (column_of x) 2 0 ∷ get_or (column_of x) 3 0 ∷ get_or (column_of x) 0 0
@@ -59,7 +59,7 @@ moved_two x h =
     ap (λ (z : ℕ). bit_or z (x / 2 ^ 16)) rest ∙ or_shifted (x % 2 ^ 16) 16 (x / 2 ^ 16) top in
     four (omega arith) (omega arith) (omega arith) (omega arith)
 
--- by three rows
+-- rotating a word left by 24 bits moves its column down by three rows
 pub moved_three : (x : ℕ) → x < 2 ^ 32
     → column_of (rotate_left w32 x 24)
     ≡ get_or (column_of x) 1 0 ∷ get_or (column_of x) 2 0 ∷ get_or (column_of x) 3 0
@@ -72,25 +72,25 @@ moved_three x h =
     ap (λ (z : ℕ). bit_or z (x / 2 ^ 8)) rest ∙ or_shifted (x % 2 ^ 8) 24 (x / 2 ^ 8) top in
     four (omega arith) (omega arith) (omega arith) (omega arith)
 
--- a word that four bytes spell has them as its column
+-- the column of a word that four bytes spell is these bytes
 pub column_back : (a b c d n : ℕ) → a < 256 → b < 256 → c < 256 → d < 256
     → n ≡ from_le_bytes w32 (a ∷ b ∷ c ∷ d ∷ []) → column_of n ≡ a ∷ b ∷ c ∷ d ∷ []
 unfolding column_of
 column_back a b c d n ha hb hc hd e = four (omega arith) (omega arith) (omega arith) (omega arith)
 
--- a byte of a column, as `to_le_bytes` gives it
+-- byte k of a word, as `to_le_bytes` gives it, is row k of its column
 pub column_row : (w k : ℕ) (bs : List ℕ) → bs ≡ bytes_low_first 0 4 w
     → get_or bs k 0 ≡ get_or (column_of w) k 0
 unfolding column_of
 column_row w k bs e = ap (λ l. get_or l k 0) e
 
--- the four of them
+-- the four bytes of a word, as `to_le_bytes` gives them, are its column
 pub column_rows : (w : ℕ) (bs : List ℕ) → bs ≡ bytes_low_first 0 4 w
     → get_or bs 0 0 ∷ get_or bs 1 0 ∷ get_or bs 2 0 ∷ get_or bs 3 0 ∷ [] ≡ column_of w
 unfolding column_of
 column_rows w bs e = ap (λ l. get_or l 0 0 ∷ get_or l 1 0 ∷ get_or l 2 0 ∷ get_or l 3 0 ∷ []) e
 
--- a row of a column is a byte
+-- every row of a column is a byte
 pub column_small : (w k : ℕ) → get_or (column_of w) k 0 < 256
 unfolding column_of
 column_small w zero = omega arith
@@ -100,15 +100,15 @@ column_small w (suc (suc (suc zero))) = omega arith
 column_small w (suc (suc (suc (suc k)))) = omega arith
 
 -- ---- the table
--- the word of an entry
+-- the word of a table entry: the column 2s, s, s, 3s of the S-box value s
 abbrev mixed_entry : ℕ → ℕ
 mixed_entry s = from_le_bytes w32 (double s ∷ s ∷ s ∷ triple s ∷ [])
 
--- the table, tested at each entry
+-- each entry of the table is the word of its S-box value, tested at each entry
 table_computed : all_below (λ x. get_or TABLE x 0 == mixed_entry (get_or SBOX x 0)) 256 ≡ true
 table_computed = refl
 
--- an entry as a column
+-- an entry of the table has the column 2s, s, s, 3s of the S-box value s
 pub table_at : (x : ℕ) → x < 256
     → column_of (get_or TABLE x 0) ≡ times 2 (sbox x) ∷ sbox x ∷ sbox x ∷ times 3 (sbox x) ∷ []
 table_at x h =
@@ -120,14 +120,14 @@ table_at x h =
     ∙ ap mixed_entry (sbox_at x h)
     ∙ ap (from_le_bytes w32) (four (sym (double_is s small)) refl refl (sym (triple_by s small))))
 
--- ---- tables whose columns are those of another, moved down
--- the entries of one table are those of another moved by some bits, and below 2^32
+-- ---- tables whose columns are those of another table, moved down
+-- the entries of one table are those of another, rotated left by n bits, and those are below 2^32
 abbrev IsMoved : List ℕ → List ℕ → ℕ → Type 0
 IsMoved moved table n = all_below
     (λ x. (get_or moved x 0 == rotate_left w32 (get_or table x 0) n) && ltb (get_or table x 0) (2 ^ 32)) 256
     ≡ true
 
--- an entry of such a table
+-- an entry of such a table is the entry of the other one, rotated
 moved_at : (moved table : List ℕ) (n x : ℕ) → IsMoved moved table n → x < 256
     → (get_or moved x 0 ≡ rotate_left w32 (get_or table x 0) n) × (get_or table x 0 < 2 ^ 32)
 moved_at moved table n x h l =
@@ -137,7 +137,7 @@ moved_at moved table n x h l =
     (2 ^ 32)) 256 x h l) in
     (eqb-true (get_or moved x 0) (rotate_left w32 t n) both.0, ltb-true t (2 ^ 32) both.1)
 
--- moved by one row
+-- an entry that is rotated by 8 bits has the column moved down by one row
 moved_once : (moved table : List ℕ) (x a b c d : ℕ) → IsMoved moved table 8 → x < 256
     → column_of (get_or table x 0) ≡ a ∷ b ∷ c ∷ d ∷ [] → column_of (get_or moved x 0) ≡ d ∷ a ∷ b ∷ c ∷ []
 moved_once moved table x a b c d h l e =
@@ -145,7 +145,7 @@ moved_once moved table x a b c d h l e =
     ap column_of at.0 ∙ moved_one (get_or table x 0) at.1
     ∙ ap (λ l. get_or l 3 0 ∷ get_or l 0 0 ∷ get_or l 1 0 ∷ get_or l 2 0 ∷ []) e
 
--- by two
+-- an entry that is rotated by 16 bits has the column moved down by two rows
 moved_twice : (moved table : List ℕ) (x a b c d : ℕ) → IsMoved moved table 16 → x < 256
     → column_of (get_or table x 0) ≡ a ∷ b ∷ c ∷ d ∷ [] → column_of (get_or moved x 0) ≡ c ∷ d ∷ a ∷ b ∷ []
 moved_twice moved table x a b c d h l e =
@@ -153,7 +153,7 @@ moved_twice moved table x a b c d h l e =
     ap column_of at.0 ∙ moved_two (get_or table x 0) at.1
     ∙ ap (λ l. get_or l 2 0 ∷ get_or l 3 0 ∷ get_or l 0 0 ∷ get_or l 1 0 ∷ []) e
 
--- by three
+-- an entry that is rotated by 24 bits has the column moved down by three rows
 moved_thrice : (moved table : List ℕ) (x a b c d : ℕ) → IsMoved moved table 24 → x < 256
     → column_of (get_or table x 0) ≡ a ∷ b ∷ c ∷ d ∷ [] → column_of (get_or moved x 0) ≡ b ∷ c ∷ d ∷ a ∷ []
 moved_thrice moved table x a b c d h l e =
@@ -161,37 +161,37 @@ moved_thrice moved table x a b c d h l e =
     ap column_of at.0 ∙ moved_three (get_or table x 0) at.1
     ∙ ap (λ l. get_or l 1 0 ∷ get_or l 2 0 ∷ get_or l 3 0 ∷ get_or l 0 0 ∷ []) e
 
--- the table of row 1, tested at each entry
+-- the table of row 1 is the table moved down by one row, tested at each entry
 table_row1 : IsMoved TABLE_ROW1 TABLE 8
 table_row1 = refl
 
--- of row 2
+-- the table of row 2 is the table moved down by two rows, tested at each entry
 table_row2 : IsMoved TABLE_ROW2 TABLE 16
 table_row2 = refl
 
--- of row 3
+-- the table of row 3 is the table moved down by three rows, tested at each entry
 table_row3 : IsMoved TABLE_ROW3 TABLE 24
 table_row3 = refl
 
--- an entry of the table of row 1 as a column
+-- an entry of the table of row 1 has the column 3s, 2s, s, s of the S-box value s
 pub table_row1_at : (x : ℕ) → x < 256
     → column_of (get_or TABLE_ROW1 x 0) ≡ times 3 (sbox x) ∷ times 2 (sbox x) ∷ sbox x ∷ sbox x ∷ []
 table_row1_at x h = moved_once TABLE_ROW1 TABLE x (times 2 (sbox x)) (sbox x) (sbox x) (times 3 (sbox x))
     table_row1 h (table_at x h)
 
--- of row 2
+-- an entry of the table of row 2 has the column s, 3s, 2s, s of the S-box value s
 pub table_row2_at : (x : ℕ) → x < 256
     → column_of (get_or TABLE_ROW2 x 0) ≡ sbox x ∷ times 3 (sbox x) ∷ times 2 (sbox x) ∷ sbox x ∷ []
 table_row2_at x h = moved_twice TABLE_ROW2 TABLE x (times 2 (sbox x)) (sbox x) (sbox x) (times 3 (sbox x))
     table_row2 h (table_at x h)
 
--- of row 3
+-- an entry of the table of row 3 has the column s, s, 3s, 2s of the S-box value s
 pub table_row3_at : (x : ℕ) → x < 256
     → column_of (get_or TABLE_ROW3 x 0) ≡ sbox x ∷ sbox x ∷ times 3 (sbox x) ∷ times 2 (sbox x) ∷ []
 table_row3_at x h = moved_thrice TABLE_ROW3 TABLE x (times 2 (sbox x)) (sbox x) (sbox x) (times 3 (sbox x))
     table_row3 h (table_at x h)
 
--- ---- a column of the next state: the entries of its rows, and the key
+-- ---- a column of the next state is the XOR of four table entries and the key's word
 pub mixed_is : (a b c d key s t u v : ℕ) → a < 256 → b < 256 → c < 256 → d < 256
     → column_of s ≡ times 2 a ∷ a ∷ a ∷ times 3 a ∷ [] → column_of t ≡ times 3 b ∷ times 2 b ∷ b ∷ b ∷ []
     → column_of u ≡ c ∷ times 3 c ∷ times 2 c ∷ c ∷ [] → column_of v ≡ d ∷ d ∷ times 3 d ∷ times 2 d ∷ []
@@ -214,7 +214,7 @@ mixed_is a b c d key s t u v ha hb hc hd es et eu ev =
     (dot_is 3 1 1 2 a b c d (times 3 a) b c (times 2 d) refl b1 c1 refl))
 
 -- ---- four columns
--- four columns, each equal to another
+-- four columns that are equal to four others are, joined, equal to the others joined
 pub joined : {p q r s a b c d : List ℕ} → p ≡ a → q ≡ b → r ≡ c → s ≡ d
     → p ++ (q ++ (r ++ (s ++ []))) ≡ a ++ (b ++ (c ++ (d ++ [])))
 joined e f g h = ap₂ (λ x y. x ++ y) e (ap₂ (λ x y. x ++ y) f (ap₂ (λ x y. x ++ y) g (ap (λ x. x ++ []) h)))
@@ -224,7 +224,7 @@ abbrev pub subbed : ℕ → ℕ → ℕ → ℕ → List ℕ
 subbed a b c d = sbox (get_or (column_of a) 0 0) ∷ sbox (get_or (column_of b) 1 0)
     ∷ sbox (get_or (column_of c) 2 0) ∷ sbox (get_or (column_of d) 3 0) ∷ []
 
--- a round by its columns
+-- if each column is that of a round, the state is that of a round
 pub round_is : (a b c d k l m n p q r s : ℕ)
     → column_of p ≡ xor_word (mix_column (subbed a b c d)) (column_of k)
     → column_of q ≡ xor_word (mix_column (subbed b c d a)) (column_of l)
@@ -236,7 +236,7 @@ pub round_is : (a b c d k l m n p q r s : ℕ)
 unfolding column_of xor_word mix_column sub_bytes shift_rows mix_columns add_round_key
 round_is a b c d k l m n p q r s e f g h = joined e f g h
 
--- the last round by its columns
+-- if each column is that of the last round, the state is that of the last round
 pub last_is : (a b c d k l m n p q r s : ℕ)
     → column_of p ≡ xor_word (subbed a b c d) (column_of k)
     → column_of q ≡ xor_word (subbed b c d a) (column_of l)
@@ -248,14 +248,14 @@ pub last_is : (a b c d k l m n p q r s : ℕ)
 unfolding column_of xor_word sub_bytes shift_rows add_round_key
 last_is a b c d k l m n p q r s e f g h = joined e f g h
 
--- AddRoundKey by its columns
+-- XORing the words of a state with those of a key is AddRoundKey
 pub added_is : (a b c d k l m n : ℕ)
     → state_of (bit_xor a k ∷ bit_xor b l ∷ bit_xor c m ∷ bit_xor d n ∷ [])
     ≡ add_round_key (columns_of (k ∷ l ∷ m ∷ n ∷ [])) 0 (state_of (a ∷ b ∷ c ∷ d ∷ []))
 unfolding column_of xor_word add_round_key
 added_is a b c d k l m n = joined (column_xor a k) (column_xor b l) (column_xor c m) (column_xor d n)
 
--- the columns of the words of a round
+-- the columns of the four words of round n are columns 4n to 4n + 3 of all words
 pub key_columns : (ws : List ℕ) (n c : ℕ) → 4 * n + 4 ≤ length ws → c < 4
     → get_or (columns_of (get_or ws (4 * n) 0 ∷ get_or ws (4 * n + 1) 0 ∷ get_or ws (4 * n + 2) 0
     ∷ get_or ws (4 * n + 3) 0 ∷ [])) c [] ≡ get_or (columns_of ws) (4 * n + c) []
@@ -268,21 +268,21 @@ key_columns ws n (suc (suc zero)) h l = sym (get_or-map column_of ws (4 * n + 2)
 key_columns ws n (suc (suc (suc zero))) h l = sym (get_or-map column_of ws (4 * n + 3) 0 [] (omega arith))
 key_columns ws n (suc (suc (suc (suc c)))) h l = absurd (omega arith)
 
--- ---- backwards
+-- ---- the inverse cipher
 abbrev unmixed_entry : ℕ → ℕ
 unmixed_entry y = from_le_bytes w32
     (product_of 4 y 14 ∷ product_of 4 y 9 ∷ product_of 4 y 13 ∷ product_of 4 y 11 ∷ [])
 
--- the inverse table, tested at each byte
+-- the inverse table has at the S-box value of y the word of y, tested at each byte
 inverse_computed : all_below (λ y. get_or INVERSE_TABLE (get_or SBOX y 0) 0 == unmixed_entry y) 256 ≡ true
 unfolding product_of
 inverse_computed = refl
 
--- a product with a number of four bits
+-- the product with a number below 16 is `product_of`
 times_by : (k y : ℕ) → y < 256 → k < 16 → times k y ≡ product_of 4 y k
 times_by k y h l = times_comm k y ∙ times_is 4 y k h (omega (arith, l)) l
 
--- an entry of the inverse table as a column
+-- an entry of the inverse table has the column 14y, 9y, 13y, 11y of the byte y whose S-box value is its index
 pub inverse_at : (x y : ℕ) → y < 256 → sbox y ≡ x
     → column_of (get_or INVERSE_TABLE x 0) ≡ times 14 y ∷ times 9 y ∷ times 13 y ∷ times 11 y ∷ []
 inverse_at x y h e =
@@ -296,40 +296,40 @@ inverse_at x y h e =
     (four (sym (times_by 14 y h (lit< tt))) (sym (times_by 9 y h (lit< tt))) (sym (times_by 13 y h (lit< tt)))
     (sym (times_by 11 y h (lit< tt)))))
 
--- the inverse table of row 1, tested at each entry
+-- the inverse table of row 1 is the inverse table moved down by one row, tested at each entry
 inverse_row1 : IsMoved INVERSE_ROW1 INVERSE_TABLE 8
 inverse_row1 = refl
 
--- of row 2
+-- the inverse table of row 2 is the inverse table moved down by two rows, tested at each entry
 inverse_row2 : IsMoved INVERSE_ROW2 INVERSE_TABLE 16
 inverse_row2 = refl
 
--- of row 3
+-- the inverse table of row 3 is the inverse table moved down by three rows, tested at each entry
 inverse_row3 : IsMoved INVERSE_ROW3 INVERSE_TABLE 24
 inverse_row3 = refl
 
--- an entry of the inverse table of row 1 as a column
+-- an entry of the inverse table of row 1 has the column 11y, 14y, 9y, 13y
 pub inverse_row1_at : (x y : ℕ) → x < 256 → y < 256 → sbox y ≡ x
     → column_of (get_or INVERSE_ROW1 x 0) ≡ times 11 y ∷ times 14 y ∷ times 9 y ∷ times 13 y ∷ []
 inverse_row1_at x y l h e =
     moved_once INVERSE_ROW1 INVERSE_TABLE x (times 14 y) (times 9 y) (times 13 y) (times 11 y) inverse_row1 l
     (inverse_at x y h e)
 
--- of row 2
+-- an entry of the inverse table of row 2 has the column 13y, 11y, 14y, 9y
 pub inverse_row2_at : (x y : ℕ) → x < 256 → y < 256 → sbox y ≡ x
     → column_of (get_or INVERSE_ROW2 x 0) ≡ times 13 y ∷ times 11 y ∷ times 14 y ∷ times 9 y ∷ []
 inverse_row2_at x y l h e =
     moved_twice INVERSE_ROW2 INVERSE_TABLE x (times 14 y) (times 9 y) (times 13 y) (times 11 y) inverse_row2
     l (inverse_at x y h e)
 
--- of row 3
+-- an entry of the inverse table of row 3 has the column 9y, 13y, 11y, 14y
 pub inverse_row3_at : (x y : ℕ) → x < 256 → y < 256 → sbox y ≡ x
     → column_of (get_or INVERSE_ROW3 x 0) ≡ times 9 y ∷ times 13 y ∷ times 11 y ∷ times 14 y ∷ []
 inverse_row3_at x y l h e =
     moved_thrice INVERSE_ROW3 INVERSE_TABLE x (times 14 y) (times 9 y) (times 13 y) (times 11 y) inverse_row3
     l (inverse_at x y h e)
 
--- a column and the inverse matrix: the entries of its rows
+-- MixColumns takes the XOR of four entries of the inverse tables back to the column of their bytes
 pub unmixed_is : (a b c d s t u v : ℕ) → a < 256 → b < 256 → c < 256 → d < 256
     → column_of s ≡ times 14 a ∷ times 9 a ∷ times 13 a ∷ times 11 a ∷ []
     → column_of t ≡ times 11 b ∷ times 14 b ∷ times 9 b ∷ times 13 b ∷ []
@@ -348,7 +348,7 @@ unmixed_is a b c d s t u v ha hb hc hd es et eu ev =
     (dot_is 11 13 9 14 a b c d (times 11 a) (times 13 b) (times 9 c) (times 14 d) refl refl refl refl))
     ∙ unmix_written a b c d ha hb hc hd
 
--- MixColumns keeps sums, row by row
+-- a row of MixColumns takes the sum of two columns to the sum of its values
 row_xor : (k l m n a b c d p q r s : ℕ)
     → dot (k ∷ l ∷ m ∷ n ∷ []) (bit_xor a p ∷ bit_xor b q ∷ bit_xor c r ∷ bit_xor d s ∷ [])
     ≡ bit_xor (dot (k ∷ l ∷ m ∷ n ∷ []) (a ∷ b ∷ c ∷ d ∷ [])) (dot (k ∷ l ∷ m ∷ n ∷ []) (p ∷ q ∷ r ∷ s ∷ []))
@@ -365,7 +365,7 @@ row_xor k l m n a b c d p q r s =
     (bit_xor (times l b) (bit_xor (times m c) (bit_xor (times n d) 0)))
     (bit_xor (times l q) (bit_xor (times m r) (bit_xor (times n s) 0)))
 
--- MixColumns keeps sums
+-- MixColumns takes the sum of two columns to the sum of their images
 pub mix_xor : (v w : ℕ) → mix_column (column_of (bit_xor v w))
     ≡ xor_word (mix_column (column_of v)) (mix_column (column_of w))
 unfolding column_of mix_column xor_word
@@ -378,17 +378,17 @@ mix_xor v w =
     (row_xor 1 1 2 3 (a 0) (a 1) (a 2) (a 3) (p 0) (p 1) (p 2) (p 3))
     (row_xor 3 1 1 2 (a 0) (a 1) (a 2) (a 3) (p 0) (p 1) (p 2) (p 3))
 
--- the rows of a column, one from each of four words
+-- a column whose rows come from four words, one row from each
 abbrev pub rows_of : ℕ → ℕ → ℕ → ℕ → List ℕ
 rows_of a b c d = get_or (column_of a) 0 0 ∷ get_or (column_of b) 1 0 ∷ get_or (column_of c) 2 0
     ∷ get_or (column_of d) 3 0 ∷ []
 
--- the S-box at four bytes of a block
+-- the S-box values of four bytes of a block
 abbrev pub sub_of : List ℕ → ℕ → List ℕ
 sub_of s i = sbox (get_or s i 0) ∷ sbox (get_or s (i + 1) 0) ∷ sbox (get_or s (i + 2) 0)
     ∷ sbox (get_or s (i + 3) 0) ∷ []
 
--- the bytes of a block before SubBytes and ShiftRows, column by column
+-- if SubBytes and ShiftRows take s to a state of four columns, the S-box values of each column of s are rows of these columns
 pub before_rows : (a b c d : ℕ) (s : List ℕ) → shift_rows (sub_bytes s) ≡ state_of (a ∷ b ∷ c ∷ d ∷ [])
     → (sub_of s 0 ≡ rows_of a d c b) × (sub_of s 4 ≡ rows_of b a d c) × (sub_of s 8 ≡ rows_of c b a d)
     × (sub_of s 12 ≡ rows_of d c b a)
@@ -404,11 +404,11 @@ before_rows a b c d s e = (
       (ap (λ l. get_or l 3 0) e),
 )
 
--- four bytes of a block
+-- four neighbouring bytes of a block
 abbrev pub quad_at : List ℕ → ℕ → List ℕ
 quad_at s i = get_or s i 0 ∷ get_or s (i + 1) 0 ∷ get_or s (i + 2) 0 ∷ get_or s (i + 3) 0 ∷ []
 
--- a round of the inverse by its columns
+-- if MixColumns takes each column to a column of s plus the mixed key, it takes the state to s plus the mixed round key
 pub inverse_state : (k l m n p q r t : ℕ) (s : List ℕ)
     → mix_column (column_of p) ≡ xor_word (quad_at s 0) (mix_column (column_of k))
     → mix_column (column_of q) ≡ xor_word (quad_at s 4) (mix_column (column_of l))
@@ -419,7 +419,7 @@ pub inverse_state : (k l m n p q r t : ℕ) (s : List ℕ)
 unfolding column_of mix_column mix_columns xor_word add_round_key
 inverse_state k l m n p q r t s e f g h = joined e f g h
 
--- a state by its columns before SubBytes and ShiftRows
+-- if the S-box takes each column to rows of four columns, SubBytes and ShiftRows take the state to these columns
 pub unsubbed_state : (a b c d p q r s : ℕ) → map sbox (column_of p) ≡ rows_of a d c b
     → map sbox (column_of q) ≡ rows_of b a d c
     → map sbox (column_of r) ≡ rows_of c b a d → map sbox (column_of s) ≡ rows_of d c b a
@@ -436,19 +436,19 @@ unsubbed_state a b c d p q r s e f g h =
     (four (ap (λ l. get_or l 0 0) h) (ap (λ l. get_or l 1 0) e) (ap (λ l. get_or l 2 0) f)
     (ap (λ l. get_or l 3 0) g))
 
--- the S-box at the rows of a column
+-- the S-box values of the four rows of a column are the S-box at each byte of the column
 pub sub_column : (w : ℕ)
     → sbox (get_or (column_of w) 0 0) ∷ sbox (get_or (column_of w) 1 0) ∷ sbox (get_or (column_of w) 2 0)
     ∷ sbox (get_or (column_of w) 3 0) ∷ [] ≡ map sbox (column_of w)
 unfolding column_of
 sub_column w = refl
 
--- a state has sixteen bytes
+-- the state of four words has sixteen bytes
 pub state_long : (ws : List ℕ) → length ws ≡ 4 → length (state_of ws) ≡ 16
 unfolding column_of
 state_long ws h = ap (λ l. length (state_of l)) (sym (quad ws h))
 
--- the bytes of a state are bytes
+-- every byte of a state is below 256
 state_small : (ws : List ℕ) (i : ℕ) → get_or (state_of ws) i 0 < 256
 unfolding column_of
 state_small [] i = omega arith
@@ -458,6 +458,6 @@ state_small (w ∷ ws) (suc (suc zero)) = omega arith
 state_small (w ∷ ws) (suc (suc (suc zero))) = omega arith
 state_small (w ∷ ws) (suc (suc (suc (suc i)))) = state_small ws i
 
--- a state is a block
+-- the state of four words is a block
 pub state_block : (ws : List ℕ) → length ws ≡ 4 → IsBlock (state_of ws)
 state_block ws h = record { length_is = state_long ws h; bytes = λ i. state_small ws i }

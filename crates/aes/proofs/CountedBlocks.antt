@@ -1,4 +1,4 @@
--- Sixteen blocks that count, in planes of bits.
+-- Sixteen counter blocks, one after the other, in planes of bits.
 use Rattle.std.proofs.Common.{◌≡◌, ℕ, zero, suc, ◌+◌, ◌-◌, ◌*◌, ◌/◌, ◌%◌, ◌^◌, ◌<◌, ◌≤◌}
 use Rattle.std.proofs.Common.{Bool, true, false, cond, ◌==◌, List, []}
 use Rattle.std.proofs.Common.{◌∷◌, ◌++◌, map, get_or, length, replicate, slice_set, min, bit_and, bit_xor, refl, sym, ap}
@@ -19,7 +19,7 @@ use Rattle.aes.proofs.Circuit.{eight, at, at_product, at_none, none}
 use Rattle.aes.proofs.Exchanges.{down, low_bit}
 use Rattle.aes.proofs.Tested.{all_below, all_below_at, eight_cases}
 
--- the bits of a number, one for each block
+-- two bytes of a number, repeated over the lanes of each half, have bit q of the number at the place of block q
 pub by_blocks_bit : (n l k : ℕ) → l < 32 → k < 8
     → bit_at (get_or (replicate 16 (n % 256) ++ replicate 16 (n / 256 % 256)) l 0) k ≡ bit_at n (l / 16 * 8 + k)
 by_blocks_bit n l k hl hk =
@@ -39,7 +39,7 @@ by_blocks_bit n l k hl hk =
           ∙ low_bit (n / 256) k hk ∙ down n 8 k ∙ ap (bit_at n) place
     ]
 
--- ---- bytes that a mask marks
+-- ---- bytes that a mask selects
 times_bit : (b x j : ℕ) → b < 2 → min (bit_at x j) b ≡ bit_at (b * x) j
 times_bit zero x j h =
     let none : min (bit_at x j) 0 ≡ 0 = omega arith in
@@ -65,7 +65,7 @@ marked_planes p mask g long h = record {
 }
 
 -- ---- a byte of each block
--- zeros but for the lanes of the byte at place p
+-- a plane whose lanes are 0, except those of the byte at place p, which have all bits
 abbrev pub lit_lanes : ℕ → List ℕ
 lit_lanes p = slice_set (slice_set (replicate 32 0) (p % 4 * 4 + p / 4) 255) (16 + (p % 4 * 4 + p / 4)) 255
 
@@ -79,7 +79,7 @@ lanes_at p l hp hl =
     (all_below_at (λ l. get_or (lit_lanes p) l 0 == cond (spot l == p) 255 0) 32 l
     (all_below_at (λ p. all_below (λ l. get_or (lit_lanes p) l 0 == cond (spot l == p) 255 0) 32) 16 p lanes_computed hp) hl)
 
--- a bit under all bits or none
+-- a bit under a mask of all bits or none is the bit or 0
 chosen_bit : (b : Bool) (x j k : ℕ) → k < 8 → min (bit_at x j) (bit_at (cond b 255 0) k) ≡ bit_at (cond b x 0) j
 chosen_bit true x j k h =
     let one : bit_at 255 k ≡ 1 = bit_at_ones 8 k h in
@@ -89,16 +89,16 @@ chosen_bit false x j k h =
     let none : min (bit_at x j) 0 ≡ 0 = omega arith in
     ap (min (bit_at x j)) (bit_at-zero k) ∙ none ∙ sym (bit_at-zero j)
 
--- no bit from 4 on
+-- a number below 16, or 0, has no bit from place 4 on
 no_bit : (b : Bool) (x j : ℕ) → 4 ≤ j → bit_at (cond b (x % 16) 0) j ≡ 0
 no_bit true x j h = bit_at_above (x % 16) 4 j (omega arith) h
 no_bit false x j h = bit_at-zero j
 
--- whether bit q of c moved down by f is bit j of f + q, modulo 16
+-- whether bit q of c, shifted down by f, is bit j of f + q modulo 16, for all f and q below 16
 abbrev pub turns : ℕ → ℕ → Bool
 turns c j = all_below (λ f. all_below (λ q. bit_at (c / 2 ^ f) q == bit_at ((f + q) % 16) j) 16) 16
 
--- a plane of the numbers
+-- if c passes that test, one plane holds bit j of f + q modulo 16 in the byte at `place` of each block q, and 0 elsewhere
 number_plane : (c j : ℕ) → turns c j ≡ true → (b m : List ℕ) (f place : ℕ) → length b ≡ 32 → length m ≡ 32 → f < 16
     → ((l k : ℕ) → l < 32 → k < 8 → bit_at (get_or b l 0) k ≡ bit_at (c / 2 ^ f) (l / 16 * 8 + k))
     → ((l : ℕ) → l < 32 → get_or m l 0 ≡ cond (spot l == place) 255 0) → (l k : ℕ) → l < 32 → k < 8
@@ -114,7 +114,7 @@ number_plane c j test b m f place hb hm hf bits lanes l k hl hk =
     (ap (λ (v : ℕ). bit_at v k) (lanes l hl))
     ∙ chosen_bit (spot l == place) ((f + q) % 16) j k hk
 
--- the planes of the numbers
+-- four such planes, and empty ones, hold f + q modulo 16 in the byte at `place` of each block q, and 0 elsewhere
 pub number_planes : (a b c d m : List ℕ) (f place : ℕ) → length a ≡ 32 → length b ≡ 32 → length c ≡ 32 → length d ≡ 32
     → length m ≡ 32 → f < 16
     → ((l k : ℕ) → l < 32 → k < 8 → bit_at (get_or a l 0) k ≡ bit_at (0xaaaaaaaa / 2 ^ f) (l / 16 * 8 + k))
@@ -155,7 +155,7 @@ passed_bit f q hf hq =
     (all_below_at (λ q. bit_at (0xffff0000 / 2 ^ f) q == (f + q) / 16) 16 q
     (all_below_at (λ f. all_below (λ q. bit_at (0xffff0000 / 2 ^ f) q == (f + q) / 16) 16) 16 f passed_computed hf) hq)
 
--- a byte changed by what it and another have apart, or not
+-- a is XORed with d times the difference of a and b: it stays a if d is 0, and becomes b if d is 1
 changed : (d a b : ℕ) (x y : List ℕ) (i : ℕ) → d < 2 → a ≡ get_or x i 0 → b ≡ get_or y i 0
     → bit_xor a (d * bit_xor a b) ≡ get_or (cond (d == 0) x y) i 0
 changed zero a b x y i h ea eb =
@@ -166,7 +166,7 @@ changed (suc zero) a b x y i h ea eb =
     ap (bit_xor a) whole ∙ sym (xor_assoc a a b) ∙ ap (λ (v : ℕ). bit_xor v b) (xor_self a) ∙ xor_zero_l b ∙ eb
 changed (suc (suc d)) a b x y i h ea eb = absurd (omega arith)
 
--- a byte of a block that counts
+-- a byte of block q is that of x, or, if f + q is 16 or more, that of y, each XORed with n
 pub counted_byte : (x y : List ℕ) (f q a b m n i : ℕ) → f < 16 → q < 16 → a ≡ get_or x i 0 → b ≡ get_or y i 0
     → m ≡ bit_at (0xffff0000 / 2 ^ f) q
     → bit_xor (bit_xor a (m * bit_xor a b)) n ≡ bit_xor (get_or (cond ((f + q) / 16 == 0) x y) i 0) n
@@ -176,7 +176,7 @@ counted_byte x y f q a b m n i hf hq ea eb em =
     ∙ changed ((f + q) / 16) a b x y i few ea eb)
 
 -- ---- blocks
--- a block s steps after one that counts from a multiple of 16 on
+-- s steps after a block whose nibble is 0, the byte at `place` is XORed with s, and the other bytes are those of the block
 one_block : (up : List ℕ → ℕ → List ℕ) (place : ℕ) → WrapsAround up → CountsInNibble up place → (b : List ℕ) → IsBlock b
     → (w s j i : ℕ) → (get_or b place 0 + w) % 16 ≡ 0 → (w + s) % 2 ^ 32 ≡ j % 2 ^ 32 → s < 16 → i < 16
     → get_or (up b (j % 2 ^ 32)) i 0 ≡ bit_xor (get_or (up b w) i 0) (cond (i == place) s 0)
@@ -184,7 +184,7 @@ one_block up place wraps counts b block w s j i whole same hs hi =
     ap (λ x. get_or x i 0) (ap (up b) (sym same) ∙ wraps b (w + s))
     ∙ counts.near b w s i block (counts.nibble b w block ∙ whole) hs hi
 
--- sixteen blocks from one on, by the block that counts from a multiple of 16 on and the next such block
+-- each of sixteen blocks has the bytes of x, whose nibble is 0, or of y, which is 16 steps after x, with the nibble XORed in
 pub sixteen_blocks : (up : List ℕ → ℕ → List ℕ) (place : ℕ) → WrapsAround up → CountsInNibble up place
     → (b x y : List ℕ) → IsBlock b → (begun low whole : ℕ)
     → low ≡ (get_or b place 0 + begun) % 2 ^ 32 % 16 → (whole + low) % 2 ^ 32 ≡ begun % 2 ^ 32

@@ -1,4 +1,4 @@
--- Blocks that count.
+-- Counter blocks, one after the other.
 use Rattle.std.proofs.Common.{◌≡◌, ℕ, ◌+◌, ◌*◌, ◌%◌, ◌^◌, ◌<◌, ◌≤◌, List, ◌++◌, length, take, drop, get_or}
 use Rattle.std.proofs.Common.{zero, suc, add-one, inl, inr, refl, sym, ap, ap₂, ◌∙◌, arith}
 use Rattle.std.proofs.lemmas.List.{take_at, drop_at, take-append-drop, length-take-le, length-drop}
@@ -12,15 +12,15 @@ use Rattle.octets.specs.Bytes.{IsBlock, le, be}
 use Rattle.octets.proofs.Numbers.{be_is, be_push, le_is, le_small}
 use Rattle.aes.specs.Counters.{up_be, up_le, CountsOn}
 
--- four bytes that spell a number, read again
+-- reading four bytes that were written as a number, most significant byte first, gives the number
 be_number : (n : ℕ) → n < 2 ^ 32 → be (bytes_high_first 4 n) ≡ n
 be_number n h = be_is w32 (bytes_high_first 4 n) (omega arith) refl ∙ from_be_bytes-to_be_bytes_4 n h
 
--- four bytes that spell a number least significant byte first, read again
+-- reading four bytes that were written as a number, least significant byte first, gives the number
 le_number : (n : ℕ) → n < 2 ^ 32 → le (bytes_low_first 0 4 n) ≡ n
 le_number n h = le_is w32 (bytes_low_first 0 4 n) (omega arith) refl ∙ from_le_bytes-to_le_bytes_4 n h
 
--- the first items of bytes are bytes
+-- if all items of a list are below 256, so are its first ones
 pub small_take : (n : ℕ) (bs : List ℕ) → ((i : ℕ) → get_or bs i 0 < 256) → (i : ℕ) → get_or (take n bs) i 0 < 256
 small_take n bs small i =
     elim (cases_lt i n) [
@@ -30,7 +30,7 @@ small_take n bs small i =
           rw (get_or_past (take n bs) i 0 short) (omega arith)
     ]
 
--- i steps and then j
+-- i steps and then j steps are i + j steps
 up_be-up_be : (b : List ℕ) (i j : ℕ) → length b ≡ 16 → up_be (up_be b i) j ≡ up_be b (i + j)
 unfolding up_be
 up_be-up_be b i j long =
@@ -44,7 +44,7 @@ up_be-up_be b i j long =
     ap₂ (λ (x y : List ℕ). x ++ y) (take_at front four 12 size)
     (ap (λ (x : ℕ). bytes_high_first 4 ((x + j) % 2 ^ 32)) number ∙ ap (bytes_high_first 4) sum)
 
--- i steps and then j, in the first four bytes
+-- i steps and then j steps in the first four bytes are i + j steps
 up_le-up_le : (b : List ℕ) (i j : ℕ) → length b ≡ 16 → up_le (up_le b i) j ≡ up_le b (i + j)
 unfolding up_le
 up_le-up_le b i j long =
@@ -70,7 +70,7 @@ be_small bs (suc n) h small =
     ∙ be_push (take n bs) (get_or bs n 0) in
     omega arith
 
--- no step
+-- no step leaves a block as it is
 up_be-zero : (b : List ℕ) → IsBlock b → up_be b 0 ≡ b
 unfolding up_be
 up_be-zero b x =
@@ -86,7 +86,7 @@ up_be-zero b x =
     (be_bytes_4 last ((be last + 0) % 2 ^ 32) size small (number ∙ be_is w32 last (omega arith) size))
     ∙ take-append-drop 12 b
 
--- no step, in the first four bytes
+-- no step in the first four bytes leaves a block as it is
 up_le-zero : (b : List ℕ) → IsBlock b → up_le b 0 ≡ b
 unfolding up_le
 up_le-zero b x =
@@ -101,10 +101,10 @@ up_le-zero b x =
     (number ∙ le_is w32 first (omega arith) size))
     ∙ take-append-drop 4 b
 
--- the two ways of counting
+-- counting in the last four bytes is counting on
 pub up_be_counts_on : CountsOn up_be
 up_be_counts_on b x = (up_be-zero b x, λ j. sym (up_be-up_be b j 1 x.length_is))
 
--- counting in the first four bytes
+-- counting in the first four bytes is counting on
 pub up_le_counts_on : CountsOn up_le
 up_le_counts_on b x = (up_le-zero b x, λ j. sym (up_le-up_le b j 1 x.length_is))

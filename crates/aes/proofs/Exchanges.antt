@@ -1,4 +1,4 @@
--- Bits that change places between two planes.
+-- Exchanging bits between two planes.
 use Rattle.std.proofs.Common.{◌≡◌, ℕ, zero, suc, ◌+◌, ◌-◌, ◌*◌, ◌/◌, ◌%◌, ◌^◌, ◌<◌, Bool, true, false, cond, ◌==◌}
 use Rattle.std.proofs.Common.{◌&&◌, List, get_or, length, replicate, min, bit_and, bit_xor, refl, sym, ap, ap₂, ◌∙◌}
 use Rattle.std.proofs.Common.{arith, inl, inr, add-zero}
@@ -30,7 +30,7 @@ min_none u v e = omega arith
 min_one : (u v : ℕ) → u < 2 → v ≡ 1 → min u v ≡ u
 min_one u v h e = omega arith
 
--- a bit of a number moved down
+-- bit k of a number that is shifted down by n places is bit k + n of the number
 pub down : (x n k : ℕ) → bit_at (x / 2 ^ n) k ≡ bit_at x (k + n)
 down x n k =
     let whole : x / 2 ^ n * 2 ^ n + x % 2 ^ n ≡ x =
@@ -40,18 +40,18 @@ down x n k =
     ∙ bit_at_cat_high (x / 2 ^ n) n (x % 2 ^ n) (k + n) (mod-lt x (pow_pos n)) (omega arith)
     ∙ ap (bit_at (x / 2 ^ n)) back)
 
--- a bit of the low byte of a number
+-- the bits of the low byte of a number are the lowest bits of the number
 pub low_bit : (v k : ℕ) → k < 8 → bit_at (v % 2 ^ 8) k ≡ bit_at v k
 low_bit v k h =
     let whole : v / 2 ^ 8 * 2 ^ 8 + v % 2 ^ 8 ≡ v = omega arith in
     sym (bit_at_cat_low (v / 2 ^ 8) 8 (v % 2 ^ 8) k h) ∙ ap (λ (w : ℕ). bit_at w k) whole
 
--- a bit of a number moved up in eight bits
+-- below place 8, the bits of a number that is shifted up, cut to a byte, are those of the shifted number
 up : (x n k : ℕ) → k < 8 → bit_at (x * 2 ^ n % 2 ^ 8) k ≡ bit_at (x * 2 ^ n + 0) k
 up x n k h = low_bit (x * 2 ^ n) k h ∙ ap (λ (v : ℕ). bit_at v k) (sym (add-zero (x * 2 ^ n)))
 
 -- ---- lanes
--- an operator on a plane and a number in each lane
+-- an operator on a plane and one number in each lane acts on each lane with that number
 with_number : (f : ℕ → ℕ → ℕ) (x : List ℕ) (n l : ℕ) → length x ≡ 32 → l < 32
     → get_or (zip2 f x (replicate 32 n)) l 0 ≡ f (get_or x l 0) n
 with_number f x n l hx h =
@@ -123,20 +123,20 @@ second_at n m x y l hx hy h =
     of_two bit_xor y (over n m x y) l hy (long_over n m x y hx hy) h
     ∙ ap (bit_xor (get_or y l 0)) (over_at n m x y l hx hy h)
 
--- a choice of planes is one of bits
+-- choosing between two planes chooses between their bits
 chosen : (b : Bool) (x y : List ℕ) (l i : ℕ)
     → cond b (bit_at (get_or x l 0) i) (bit_at (get_or y l 0) i) ≡ bit_at (get_or (cond b x y) l 0) i
 chosen true x y l i = refl
 chosen false x y l i = refl
 
 -- ---- a byte
--- a bit that goes over
+-- a bit of `over_byte` is set if the mask has it, and x, shifted down by n, and y differ in it
 over_bit : (n m x y k : ℕ) → bit_at (over_byte n m x y) k ≡ min (plus2 (bit_at x (k + n)) (bit_at y k)) (bit_at m k)
 over_bit n m x y k =
     bit_at_and (bit_xor (x / 2 ^ n) y) m k
     ∙ ap (λ u. min u (bit_at m k)) (bit_at_xor (x / 2 ^ n) y k ∙ ap (λ u. plus2 u (bit_at y k)) (down x n k))
 
--- a bit that goes over, moved up
+-- a bit of `over_byte`, shifted up by n, is set if the shifted mask has it, and x, and y shifted up by n, differ in it
 back_bit : (n m x y k : ℕ) → k < 8 → bit_at (over_byte n m x y * 2 ^ n % 2 ^ 8) k
     ≡ min (plus2 (bit_at x k) (bit_at y (k - n))) (bit_at (m * 2 ^ n % 2 ^ 8) k)
 back_bit n m x y k h =
@@ -152,7 +152,7 @@ back_bit n m x y k h =
           (sym (up m n k h ∙ bit_at_cat_high m n 0 k (pow_pos n) high))
     ]
 
--- a bit of what x becomes, whose place has the digit d of weight n
+-- bit k of the new x is bit k of x, if the shifted mask has no bit there, and bit k - n of y if it has one
 first_bit : (n m x y k d : ℕ) → k < 8 → bit_at (m * 2 ^ n % 2 ^ 8) k ≡ d
     → bit_at (bit_xor x (over_byte n m x y * 2 ^ n % 2 ^ 8)) k ≡ cond (d == 0) (bit_at x (k - d * n)) (bit_at y (k - d * n))
 first_bit n m x y k zero h e =
@@ -170,7 +170,7 @@ first_bit n m x y k (suc zero) h e =
     ∙ ap (bit_at y) place
 first_bit n m x y k (suc (suc d)) h e = absurd (omega (arith, bit_at-lt (m * 2 ^ n % 2 ^ 8) k))
 
--- a bit of what y becomes
+-- bit k of the new y is bit k + n of x, if the mask has a bit there, and bit k of y if it has none
 second_bit : (n m x y k d : ℕ) → d < 2 → bit_at m k ≡ 1 - d
     → bit_at (bit_xor y (over_byte n m x y)) k ≡ cond (d == 0) (bit_at x (k + n - d * n)) (bit_at y (k + n - d * n))
 second_bit n m x y k zero h e =
@@ -202,13 +202,13 @@ mask_at n m k test h =
     (all_below_at (λ k. (bit_at (m * 2 ^ n % 2 ^ 8) k == k / n % 2) && (bit_at m k == 1 - k / n % 2)) 8 k test h) in
     (eqb-true (bit_at (m * 2 ^ n % 2 ^ 8) k) (k / n % 2) both.0, eqb-true (bit_at m k) (1 - k / n % 2) both.1)
 
--- each mask does
+-- each of the three masks passes `is_mask`
 pub masks : (n m : ℕ) → IsMask n m → is_mask n m ≡ true
 masks n m (inl e) = ap₂ is_mask e.0 e.1
 masks n m (inr (inl e)) = ap₂ is_mask e.0 e.1
 masks n m (inr (inr e)) = ap₂ is_mask e.0 e.1
 
--- a bit of the first plane
+-- after an exchange, bit k of the first plane is bit k of x, or, if the digit of weight n of k is 1, bit k - n of y
 pub first : (n m : ℕ) → is_mask n m ≡ true → (x y : List ℕ) (l k : ℕ) → length x ≡ 32 → length y ≡ 32 → l < 32 → k < 8
     → bit_at (get_or (first_of n m x y) l 0) k ≡ bit_at (get_or (cond (k / n % 2 == 0) x y) l 0) (k - k / n % 2 * n)
 first n m test x y l k hx hy hl hk =
@@ -216,7 +216,7 @@ first n m test x y l k hx hy hl hk =
     ∙ first_bit n m (get_or x l 0) (get_or y l 0) k (k / n % 2) hk (mask_at n m k test hk).0
     ∙ chosen (k / n % 2 == 0) x y l (k - k / n % 2 * n)
 
--- a bit of the second plane
+-- after an exchange, bit k of the second plane is bit k of y, or, if the digit of weight n of k is 0, bit k + n of x
 pub second : (n m : ℕ) → is_mask n m ≡ true → (x y : List ℕ) (l k : ℕ) → length x ≡ 32 → length y ≡ 32 → l < 32 → k < 8
     → bit_at (get_or (second_of n m x y) l 0) k
     ≡ bit_at (get_or (cond (k / n % 2 == 0) x y) l 0) (k + n - k / n % 2 * n)

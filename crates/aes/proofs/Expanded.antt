@@ -1,4 +1,4 @@
--- An expanded key, and the rounds with its words.
+-- An expanded key, and the rounds that use its words.
 use Rattle.std.proofs.Common.{◌≡◌, ℕ, suc, ◌+◌, ◌-◌, ◌*◌, ◌/◌, ◌%◌, ◌^◌, ◌<◌, ◌≤◌, List, [], get_or, length, drop}
 use Rattle.std.proofs.Common.{refl, sym, ap, ap₂, ◌∙◌, arith, inl, inr, take_all, zero-add, bit_xor, add-one, subst}
 use Rattle.std.proofs.lemmas.List.FromFn.{get_or-map-range_with_len}
@@ -16,7 +16,7 @@ use Rattle.aes.proofs.Grids.{grid_is}
 abbrev pub HasSchedule : List (List ℕ) → List ℕ → Type 0
 HasSchedule ws key = (k : ℕ) → k < 4 * (round_count key + 1) → get_or ws k [] ≡ get_or (schedule key) k []
 
--- a table begins with the schedule
+-- the `table` of a key begins with its schedule
 table_has : (ws : List (List ℕ)) (key : List ℕ) → ws ≡ table key → HasSchedule ws key
 table_has ws key e k h = ap (λ v. get_or v k []) e ∙ table_start key k h
 
@@ -30,7 +30,7 @@ spelled ws key n long size len e =
     ∙ words_at key (4 * (round_count key + 1)) k (omega arith) ∙ word_start key k (omega arith))
     ∙ take_all (4 * n) key (omega arith)
 
--- the fields of a new expanded key
+-- sixty words that are the `table` of a key are an expanded key
 pub expanded : (ws key : List ℕ) (n : ℕ) → ((i : ℕ) → get_or key i 0 < 256) → length ws ≡ 60 → IsKeySize n
     → length key ≡ 4 * n
     → columns_of ws ≡ table key → ((i : ℕ) → get_or ws i 0 < 2 ^ 32) → IsExpanded ws n
@@ -45,12 +45,12 @@ expanded ws key n small long size len e words =
       words = words;
     }
 
--- an expanded key begins with the schedule of the key that it is seen as
+-- an expanded key begins with the schedule of the key that its first words spell
 pub has_schedule : (ws : List ℕ) (n : ℕ) (key : List ℕ) → IsExpanded ws n → key_of (columns_of ws) n ≡ key
     → HasSchedule (columns_of ws) key
 has_schedule ws n key x e = table_has (columns_of ws) key (x.columns_are ∙ ap table e)
 
--- a word of it as a number
+-- word k of an expanded key has the column that is word k of the schedule
 pub has_word : (ws key : List ℕ) (k : ℕ) → length ws ≡ 60 → HasSchedule (columns_of ws) key
     → k < 4 * (round_count key + 1) × (k < 60) → column_of (get_or ws k 0) ≡ get_or (schedule key) k []
 has_word ws key k long has h =
@@ -64,7 +64,7 @@ grid_same f h same =
     grid_is h (grid f) refl (λ k l.
     get_or-map-range_with_len (λ i. f (i % 4) (i / 4)) 0 16 k k 0 l (zero-add k) ∙ same k l)
 
--- AddRoundKey with the four words of a round
+-- AddRoundKey with the four words of round n is AddRoundKey with round key n of the schedule
 pub round_key_is : (vs ws : List (List ℕ)) (key : List ℕ) (n : ℕ) (s : List ℕ)
     → ((c : ℕ) → c < 4 → get_or vs c [] ≡ get_or ws (4 * n + c) [])
     → HasSchedule ws key → n ≤ round_count key → add_round_key vs 0 s ≡ add_round_key (schedule key) n s
@@ -77,31 +77,31 @@ round_key_is vs ws key n s four has within =
     ap (λ w. bit_xor (at s (k % 4) (k / 4)) (get_or w (k % 4) 0))
     (ap (λ i. get_or vs i []) first ∙ four (k / 4) (omega arith) ∙ has (4 * n + k / 4) (omega arith)))
 
--- the state before the first round
+-- the state before the first round is AddRoundKey with round key 0
 pub rounds_start : (ws : List (List ℕ)) (s : List ℕ) → rounds ws 0 s ≡ add_round_key ws 0 s
 unfolding rounds
 rounds_start ws s = refl
 
--- the state after one round more
+-- the state after n + 1 rounds is one round of the state after n rounds
 pub rounds_more : (ws : List (List ℕ)) (n : ℕ) (s : List ℕ)
     → rounds ws (n + 1) s ≡ add_round_key ws (n + 1) (mix_columns (shift_rows (sub_bytes (rounds ws n s))))
 unfolding rounds
 rounds_more ws n s = rw add-one refl
 
--- the cipher by its rounds
+-- the cipher is the last round of the state after the other rounds
 pub cipher_is : (key s : List ℕ) → cipher key s
     ≡ add_round_key (schedule key) (round_count key)
     (shift_rows (sub_bytes (rounds (schedule key) (round_count key - 1) s)))
 unfolding cipher
 cipher_is key s = refl
 
--- one round more, as the definition writes it
+-- the state after n + 1 rounds, with `suc n` as in the definition
 pub rounds_suc : (ws : List (List ℕ)) (n : ℕ) (s : List ℕ)
     → rounds ws (suc n) s ≡ add_round_key ws (suc n) (mix_columns (shift_rows (sub_bytes (rounds ws n s))))
 unfolding rounds
 rounds_suc ws n s = refl
 
--- ---- a state by its words, where vs are those of a round
+-- ---- the state that the code has after each round, where vs has the words of that round
 pub first_state : (vs ws : List (List ℕ)) (key b s t : List ℕ) → HasSchedule ws key
     → ((c : ℕ) → c < 4 → get_or vs c [] ≡ get_or ws (4 * 0 + c) [])
     → s ≡ b → t ≡ add_round_key vs 0 s → t ≡ rounds (schedule key) 0 b
@@ -109,7 +109,7 @@ first_state vs ws key b s t has four e f =
     f ∙ ap (add_round_key vs 0) e ∙ round_key_is vs ws key 0 b four has (omega arith)
     ∙ sym (rounds_start (schedule key) b)
 
--- after one round more
+-- if s is the state after n rounds, one round more gives the state after n + 1 rounds
 pub next_state : (vs ws : List (List ℕ)) (key : List ℕ) (n : ℕ) (b s t : List ℕ) → HasSchedule ws key
     → n + 1 ≤ round_count key
     → ((c : ℕ) → c < 4 → get_or vs c [] ≡ get_or ws (4 * (n + 1) + c) []) → s ≡ rounds (schedule key) n b
@@ -119,7 +119,7 @@ next_state vs ws key n b s t has within four e f =
     ∙ ap (add_round_key (schedule key) (n + 1)) (ap mix_columns (ap shift_rows (ap sub_bytes e)))
     ∙ sym (rounds_more (schedule key) n b)
 
--- after the last round
+-- if s is the state before the last round, the last round gives the cipher
 pub last_state : (vs ws : List (List ℕ)) (key : List ℕ) (n m : ℕ) (b s t : List ℕ) → HasSchedule ws key
     → m ≡ round_count key → n ≡ round_count key - 1
     → ((c : ℕ) → c < 4 → get_or vs c [] ≡ get_or ws (4 * m + c) []) → s ≡ rounds (schedule key) n b
@@ -143,17 +143,17 @@ key_size key (inl e) = (inl (omega arith), omega arith)
 key_size key (inr (inl e)) = (inr (inl (omega arith)), omega arith)
 key_size key (inr (inr e)) = (inr (inr (omega arith)), omega arith)
 
--- the fields spell a key
+-- the key that the words of an expanded key spell is a key of AES
 pub is_key : (ws : List ℕ) (n : ℕ) (key : List ℕ) → IsExpanded ws n → key_of (columns_of ws) n ≡ key → IsKey key
 is_key ws n key x e =
     subst IsKey e (record { length_is = key_length (key_of (columns_of ws) n) n x.size x.length_is; bytes = x.bytes })
 
--- a key that the fields spell has four bytes for each of its words
+-- the key that the words of an expanded key spell has four bytes for each of its words
 pub kept_length : (ws : List ℕ) (n : ℕ) (key : List ℕ) → IsExpanded ws n → key_of (columns_of ws) n ≡ key
     → length key ≡ 4 * n
 kept_length ws n key x e = sym (ap length e) ∙ x.length_is
 
--- a round by the words from its own on
+-- a round that uses the words from its own ones on is a round of the schedule
 pub next_round : (key b : List ℕ) (n : ℕ) → n + 1 ≤ round_count key
     → add_round_key (drop (4 * (n + 1)) (schedule key)) 0
     (mix_columns (shift_rows (sub_bytes (rounds (schedule key) n b)))) ≡ rounds (schedule key) (n + 1) b
@@ -162,7 +162,7 @@ next_round key b n within =
     next_state (drop (4 * (n + 1)) ws) ws key n b (rounds ws n b) _ (λ i h. refl) within
     (λ c l. get_or-drop (4 * (n + 1)) ws c []) refl refl
 
--- and the last one
+-- the last round that uses the words from its own ones on gives the cipher
 pub final_round : (key b : List ℕ) (n : ℕ) → n ≡ round_count key - 1
     → add_round_key (drop (4 * round_count key) (schedule key)) 0
     (shift_rows (sub_bytes (rounds (schedule key) n b))) ≡ cipher key b

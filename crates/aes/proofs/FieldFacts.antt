@@ -9,19 +9,19 @@ use Rattle.octets.proofs.Ring.{product_is, residue_agree, residue_product}
 use Rattle.octets.proofs.BitFacts.{number_agree, bits_number}
 use Rattle.aes.specs.Field.{modulus, times}
 
--- the bits of a product
+-- the bits of a product of bytes are those of the residue of the product of their polynomials
 pub bits_times : (x y : ℕ) → Agree (bits (times x y)) (residue modulus (product (bits x) (bits y)))
 unfolding times
 bits_times x y = bits_number (residue modulus (product (bits x) (bits y)))
     (λ i h. residue_lower modulus (product (bits x) (bits y)) i h)
 
--- products agree where their second factors do
+-- products with polynomials that agree, agree
 product_agree : (p q r : List Bool) → Agree q r → Agree (product p q) (product p r)
 product_agree p q r same k =
     ap (λ h. h k) (product_is p q) ∙ ap (λ h. mult p h k) (fun_ext same)
     ∙ sym (ap (λ h. h k) (product_is p r))
 
--- a product of three bytes is that of their polynomials
+-- a product of three bytes is the residue of the product of their polynomials
 pub times_through : (z x y : ℕ)
     → times z (times x y) ≡ number (residue modulus (product (bits z) (product (bits x) (bits y))))
 unfolding times

@@ -1,4 +1,4 @@
--- Four blocks in a vector: lanes, look-ups and the basis.
+-- Four blocks in a vector: lanes, look-ups and the other basis.
 use Rattle.std.proofs.Common.{◌≡◌, ℕ, zero, suc, ◌+◌, ◌*◌, ◌/◌, ◌%◌, ◌<◌, Bool, true, false, cond, ◌&&◌}
 use Rattle.std.proofs.Common.{◌||◌, ◌==◌, T, ltb, leb, List, [], ◌∷◌, ◌++◌, map, get_or, length, replicate}
 use Rattle.std.proofs.Common.{refl, sym, ap, ap₂, subst, ◌∙◌, arith, bit_and, bit_xor, w8, Fits, ltb-true}
@@ -26,13 +26,13 @@ use Rattle.aes.proofs.Steps.{sbox_small}
 pub same_lanes : {f g : ℕ → ℕ} (v : List ℕ) → HasLanes v f → ((k : ℕ) → k < 64 → f k ≡ g k) → HasLanes v g
 same_lanes v h same = record { long = h.long; each = λ k l. h.each k l ∙ same k l }
 
--- a lane of bytes is a byte
+-- each lane of a vector of bytes is below 256
 pub lane_fits : (v : List ℕ) (i : ℕ) → Each1 (Fits w8) v → get_or v i 0 < 256
 lane_fits [] i h = omega arith
 lane_fits (x ∷ xs) zero h = h.0.fits
 lane_fits (x ∷ xs) (suc i) h = lane_fits xs i h.1
 
--- an operator on two vectors
+-- an operator on two vectors acts on each pair of lanes
 pub lanes-zip2 : (g : ℕ → ℕ → ℕ) (x y : List ℕ) → length x ≡ 64 → length y ≡ 64
     → HasLanes (zip2 g x y) (λ k. g (get_or x k 0) (get_or y k 0))
 lanes-zip2 g x y hx hy = record {
@@ -40,7 +40,7 @@ lanes-zip2 g x y hx hy = record {
   each = λ k l. get_or-zip2 g x y k 0 0 0 (omega arith) (omega arith);
 }
 
--- an operator on a vector and a number in each lane
+-- an operator on a vector and one number in each lane acts on each lane with that number
 pub lanes-splat : (g : ℕ → ℕ → ℕ) (x : List ℕ) (n : ℕ) → length x ≡ 64
     → HasLanes (zip2 g x (replicate 64 n)) (λ k. g (get_or x k 0) n)
 lanes-splat g x n hx =
@@ -48,15 +48,15 @@ lanes-splat g x n hx =
     (λ k l. ap (g (get_or x k 0)) (get_or-replicate {A = ℕ} 64 k n 0 l))
 
 -- ---- look-ups
--- whether a look-up may have this place
+-- whether a look-up may have this index
 abbrev is_place : ℕ → Bool
 is_place j = leb 128 j || ltb j 16
 
--- a test that holds, as a fact
+-- if a test is true, it holds
 true_T : (b : Bool) → b ≡ true → T b
 true_T b e = subst T (sym e) tt
 
--- places that a look-up may have
+-- a look-up is allowed if each lane of a vector is a place
 pub places_ok : (at : List ℕ) → length at ≡ 64 → ((k : ℕ) → k < 64 → IsPlace (get_or at k 0))
     → SwzOk w8 16 64 0 at
 places_ok at long ok =
@@ -64,7 +64,7 @@ places_ok at long ok =
     (Each1-from_get_or (λ j. T (leb 128 j || ltb j 16)) at 0
     (λ i h. true_T (leb 128 (get_or at i 0) || ltb (get_or at i 0) 16) (ok i (omega arith))))
 
--- a place in the block of lane k
+-- the entry that a look-up finds in the copy of the table in lane k's block is the entry of the table
 entry_at : (t four : List ℕ) (k j : ℕ) → HasLanes four (λ i. get_or t (i % 16) 0) → k < 64 → (b : Bool)
     → leb 128 j ≡ b → (b || ltb j 16) ≡ true
     → cond b 0 (get_or four (16 * ((0 + k) / 16) + j) 0) ≡ cond b 0 (get_or t j 0)
@@ -75,7 +75,7 @@ entry_at t four k j h l false e ok =
     let same : (16 * ((0 + k) / 16) + j) % 16 ≡ j = omega arith in
     h.each (16 * ((0 + k) / 16) + j) place ∙ ap (λ i. get_or t i 0) same
 
--- four copies of a table, read at places
+-- a look-up in four copies of a table gives each lane the entry of the table
 pub looked_up : (t four at : List ℕ) → HasLanes four (λ i. get_or t (i % 16) 0) → length at ≡ 64
     → ((k : ℕ) → k < 64 → IsPlace (get_or at k 0))
     → HasLanes (swz_l w8 16 four 0 at) (λ k. entry t (get_or at k 0))
@@ -86,27 +86,27 @@ looked_up t four at h long ok = record {
       ∙ entry_at t four k (get_or at k 0) h l (leb 128 (get_or at k 0)) refl (ok k l);
 }
 
--- the low nibble by a mask
+-- masking a byte with 15 gives its low nibble
 pub low_is : (x : ℕ) → bit_and x 15 ≡ x % 16
 low_is x = and_mask x 4
 
 -- ---- places of rows
--- the sources of ShiftRows, tested at each place
+-- ROW_SOURCES is `row_source`, tested at each place
 sources_computed : all_below
     (λ i. (get_or ROW_SOURCES i 0 == row_source i) && ltb (get_or ROW_SOURCES i 0) 64) 64 ≡ true
 sources_computed = refl
 
--- the rows below, tested at each place
+-- ROWS_BELOW is `row_below`, tested at each place
 below_computed : all_below (λ i. (get_or ROWS_BELOW i 0 == row_below i) && ltb (get_or ROWS_BELOW i 0) 64) 64
     ≡ true
 below_computed = refl
 
--- the rows above, tested at each place
+-- ROWS_ABOVE is `row_above`, tested at each place
 above_computed : all_below (λ i. (get_or ROWS_ABOVE i 0 == row_above i) && ltb (get_or ROWS_ABOVE i 0) 64) 64
     ≡ true
 above_computed = refl
 
--- a vector's lanes at places
+-- a vector whose lanes are picked at places has the lanes of those places
 pub picked : (x ps : List ℕ) (f : ℕ → ℕ) (k : ℕ) → length x ≡ 64 → length ps ≡ 64 → k < 64
     → all_below (λ i. (get_or ps i 0 == f i) && ltb (get_or ps i 0) 64) 64 ≡ true
     → get_or (map (λ p. get_or (x ++ x) p 0) ps) k 0 ≡ get_or x (f k) 0
@@ -118,47 +118,47 @@ picked x ps f k hx hp l test =
     ∙ get_or_append_left x x 0 (get_or ps k 0) (omega arith)
     ∙ ap (λ p. get_or x p 0) (eqb-true (get_or ps k 0) (f k) both.0)
 
--- lanes brought by ShiftRows
+-- picking lanes at ROW_SOURCES gives each lane that of `row_source`
 pub sources : (x : List ℕ) (k : ℕ) → length x ≡ 64 → k < 64
     → get_or (map (λ p. get_or (x ++ x) p 0) ROW_SOURCES) k 0 ≡ get_or x (row_source k) 0
 sources x k hx l = picked x ROW_SOURCES row_source k hx refl l sources_computed
 
--- lanes moved up by one row
+-- picking lanes at ROWS_BELOW gives each lane that of `row_below`
 pub belows : (x : List ℕ) (k : ℕ) → length x ≡ 64 → k < 64
     → get_or (map (λ p. get_or (x ++ x) p 0) ROWS_BELOW) k 0 ≡ get_or x (row_below k) 0
 belows x k hx l = picked x ROWS_BELOW row_below k hx refl l below_computed
 
--- lanes moved down by one row
+-- picking lanes at ROWS_ABOVE gives each lane that of `row_above`
 pub aboves : (x : List ℕ) (k : ℕ) → length x ≡ 64 → k < 64
     → get_or (map (λ p. get_or (x ++ x) p 0) ROWS_ABOVE) k 0 ≡ get_or x (row_above k) 0
 aboves x k hx l = picked x ROWS_ABOVE row_above k hx refl l above_computed
 
--- ---- lanes made of lanes
--- lanes made of those of one vector
+-- ---- lanes that are computed from lanes
+-- if the lanes of v are F of the lanes of a, and those are g, the lanes of v are F of g
 pub via : (F g : ℕ → ℕ) (v a : List ℕ) → HasLanes v (λ k. F (get_or a k 0)) → HasLanes a g
     → HasLanes v (λ k. F (g k))
 via F g v a h e = same_lanes v h (λ k l. ap F (e.each k l))
 
--- made of those of two
+-- if the lanes of v are F of the lanes of a and b, and those are g and h, the lanes of v are F of g and h
 pub via_two : (F : ℕ → ℕ → ℕ) (g h : ℕ → ℕ) (v a b : List ℕ)
     → HasLanes v (λ k. F (get_or a k 0) (get_or b k 0)) → HasLanes a g → HasLanes b h
     → HasLanes v (λ k. F (g k) (h k))
 via_two F g h v a b e x y = same_lanes v e (λ k l. ap₂ F (x.each k l) (y.each k l))
 
 -- ---- the basis
--- the low table keeps sums, tested at each pair of nibbles
+-- the low table takes sums to sums, tested at each pair of nibbles
 low_linear : all_below (λ k.
     get_or TO_LOW (bit_xor (k / 16) (k % 16)) 0 == bit_xor (get_or TO_LOW (k / 16) 0)
     (get_or TO_LOW (k % 16) 0)) 256 ≡ true
 low_linear = refl
 
--- the high table keeps sums, tested at each pair of nibbles
+-- the high table takes sums to sums, tested at each pair of nibbles
 high_linear : all_below (λ k.
     get_or TO_HIGH (bit_xor (k / 16) (k % 16)) 0 == bit_xor (get_or TO_HIGH (k / 16) 0)
     (get_or TO_HIGH (k % 16) 0)) 256 ≡ true
 high_linear = refl
 
--- a table of nibbles that is linear wherever the test says so
+-- a table of nibbles that passes that test takes sums to sums
 linear_at : (t : List ℕ) (a b : ℕ) → a < 16 → b < 16
     → all_below (λ k. get_or t (bit_xor (k / 16) (k % 16)) 0 == bit_xor (get_or t (k / 16) 0)
     (get_or t (k % 16) 0)) 256 ≡ true
@@ -174,7 +174,7 @@ linear_at t a b ha hb test =
     sym (ap₂ (λ (x y : ℕ). get_or t (bit_xor x y) 0) first second) ∙ at_k
     ∙ ap₂ (λ (x y : ℕ). bit_xor (get_or t x 0) (get_or t y 0)) first second
 
--- the basis keeps sums
+-- the coordinates in the basis of a sum are the sum of the coordinates
 pub in_basis_xor : (x y : ℕ) → x < 256 → y < 256 → bit_xor (in_basis x) (in_basis y) ≡ in_basis (bit_xor x y)
 unfolding in_basis
 in_basis_xor x y hx hy =
@@ -186,7 +186,7 @@ in_basis_xor x y hx hy =
     (sym (linear_at TO_HIGH (x / 16) (y / 16) (omega arith) (omega arith) high_linear)
     ∙ ap (λ i. get_or TO_HIGH i 0) (sym (xor_shr x y 4)))
 
--- the two look-ups of the basis
+-- the XOR of the two look-ups of the nibbles of a byte is its coordinates in the basis
 pub basis_entries : (x : ℕ) → x < 256 → bit_xor (entry TO_LOW (x % 16)) (entry TO_HIGH (x / 16)) ≡ in_basis x
 unfolding in_basis
 basis_entries x h =
@@ -195,7 +195,7 @@ basis_entries x h =
     ap₂ bit_xor (ap (λ b. cond b 0 (get_or TO_LOW (x % 16) 0)) (lt-leb 128 (x % 16) low))
     (ap (λ b. cond b 0 (get_or TO_HIGH (x / 16) 0)) (lt-leb 128 (x / 16) high))
 
--- ---- the S-box by nibbles of a byte in the basis
+-- ---- the S-box in terms of the nibbles of a byte in the basis
 -- the scaled inverse of the low nibble
 abbrev pub scaled_at : ℕ → ℕ
 scaled_at y = entry SCALED (y % 16)
@@ -220,14 +220,14 @@ u_at y = bit_xor (entry INVERSE (first_at y)) (both_at y)
 abbrev pub t_at : ℕ → ℕ
 t_at y = bit_xor (entry INVERSE (second_at y)) (y / 16)
 
--- each is a place of a look-up, tested at each byte
+-- all five are places of a look-up, tested at each byte
 places_computed : all_below
     (λ y. is_place (both_at y) &&
     (is_place (first_at y) && (is_place (second_at y) && (is_place (u_at y) && is_place (t_at y))))) 256
     ≡ true
 places_computed = refl
 
--- at a byte
+-- all five are places of a look-up, at any byte
 places_at : (y : ℕ) → y < 256
     → IsPlace (both_at y) × IsPlace (first_at y) × IsPlace (second_at y) × IsPlace (u_at y)
     × IsPlace (t_at y)
@@ -248,7 +248,7 @@ pub shown : (g : ℕ → ℕ) (v x : List ℕ) → Each1 (Fits w8) x → HasLane
     → ((y : ℕ) → y < 256 → IsPlace (g y)) → (k : ℕ) → k < 64 → IsPlace (get_or v k 0)
 shown g v x fits h ok k l = subst IsPlace (sym (h.each k l)) (ok (get_or x k 0) (lane_fits x k fits))
 
--- the sum of the nibbles is a place
+-- `both_at` of a byte is a place of a look-up
 pub both_place : (y : ℕ) → y < 256 → IsPlace (both_at y)
 both_place y h = (places_at y h).0
 
@@ -260,32 +260,32 @@ first_place y h = (places_at y h).1
 pub second_place : (y : ℕ) → y < 256 → IsPlace (second_at y)
 second_place y h = (places_at y h).2
 
--- the first part is a place
+-- `u_at` of a byte is a place of a look-up
 pub u_place : (y : ℕ) → y < 256 → IsPlace (u_at y)
 u_place y h = (places_at y h).3
 
--- the second part is a place
+-- `t_at` of a byte is a place of a look-up
 pub t_place : (y : ℕ) → y < 256 → IsPlace (t_at y)
 t_place y h = (places_at y h).4
 
--- two tables at the parts of an inverse
+-- the XOR of two tables' entries at the two parts of an inverse
 abbrev pub by_parts : List ℕ → List ℕ → ℕ → ℕ
 by_parts p q y = bit_xor (entry p (u_at y)) (entry q (t_at y))
 
--- the S-box without its constant, tested at each byte
+-- the PLAIN tables give the S-box without its constant, tested at each byte
 plain_computed : all_below
     (λ b. by_parts PLAIN_BY_FIRST PLAIN_BY_SECOND (in_basis b) == bit_xor (get_or SBOX b 0) 0x63) 256 ≡ true
 unfolding in_basis
 plain_computed = refl
 
--- the S-box without its constant in the basis, tested at each byte
+-- the ONCE tables give the S-box without its constant, in the basis, tested at each byte
 once_computed : all_below
     (λ b. by_parts ONCE_BY_FIRST ONCE_BY_SECOND (in_basis b) == in_basis (bit_xor (get_or SBOX b 0) 0x63))
     256 ≡ true
 unfolding in_basis
 once_computed = refl
 
--- twice it in the basis, tested at each byte
+-- the TWICE tables give twice the S-box without its constant, in the basis, tested at each byte
 twice_computed : all_below
     (λ b. by_parts TWICE_BY_FIRST TWICE_BY_SECOND (in_basis b) == in_basis
     (double (bit_xor (get_or SBOX b 0) 0x63))) 256 ≡ true
@@ -297,7 +297,7 @@ pub linear_small : (x : ℕ) → x < 256 → linear_sbox x < 256
 unfolding linear_sbox
 linear_small x h = xor_of_8 (sbox x) 0x63 (sbox_small x h) (omega arith)
 
--- a function of the table's entry is that of the S-box
+-- a function that is tested against h of the S-box table's entry is h of `linear_sbox`
 by_sbox : (g h : ℕ → ℕ) (b : ℕ) → b < 256
     → all_below (λ b. g b == h (bit_xor (get_or SBOX b 0) 0x63)) 256 ≡ true → g b ≡ h (linear_sbox b)
 unfolding linear_sbox
@@ -306,7 +306,7 @@ by_sbox g h b l test =
     (all_below_at (λ b. g b == h (bit_xor (get_or SBOX b 0) 0x63)) 256 b test l)
     ∙ ap (λ (s : ℕ). h (bit_xor s 0x63)) (sbox_at b l)
 
--- lanes by parts of bytes in the basis
+-- if the lanes are two tables' entries at bytes in the basis, which were tested against h, they are h of `linear_sbox`
 substituted : (p q v x : List ℕ) (s h : ℕ → ℕ) → HasLanes v (λ k. by_parts p q (get_or x k 0))
     → ((k : ℕ) → k < 64 → s k < 256) → HasLanes x (λ k. in_basis (s k))
     → all_below (λ b. by_parts p q (in_basis b) == h (bit_xor (get_or SBOX b 0) 0x63)) 256 ≡ true
@@ -315,21 +315,21 @@ substituted p q v x s h made small held test =
     same_lanes v made (λ k l. ap (by_parts p q) (held.each k l)
     ∙ by_sbox (λ b. by_parts p q (in_basis b)) h (s k) (small k l) test)
 
--- lanes of the S-box without its constant
+-- the lanes of the PLAIN tables' entries are the S-box without its constant
 pub plain_lanes : (v x : List ℕ) (s : ℕ → ℕ)
     → HasLanes v (λ k. by_parts PLAIN_BY_FIRST PLAIN_BY_SECOND (get_or x k 0))
     → ((k : ℕ) → k < 64 → s k < 256) → HasLanes x (λ k. in_basis (s k)) → HasLanes v (λ k. linear_sbox (s k))
 plain_lanes v x s made small held =
     substituted PLAIN_BY_FIRST PLAIN_BY_SECOND v x s (λ y. y) made small held plain_computed
 
--- lanes of the S-box without its constant in the basis
+-- the lanes of the ONCE tables' entries are the S-box without its constant, in the basis
 pub once_lanes : (v x : List ℕ) (s : ℕ → ℕ)
     → HasLanes v (λ k. by_parts ONCE_BY_FIRST ONCE_BY_SECOND (get_or x k 0)) → ((k : ℕ) → k < 64 → s k < 256)
     → HasLanes x (λ k. in_basis (s k)) → HasLanes v (λ k. in_basis (linear_sbox (s k)))
 once_lanes v x s made small held =
     substituted ONCE_BY_FIRST ONCE_BY_SECOND v x s in_basis made small held once_computed
 
--- twice it in the basis
+-- the lanes of the TWICE tables' entries are twice the S-box without its constant, in the basis
 pub twice_lanes : (v x : List ℕ) (s : ℕ → ℕ)
     → HasLanes v (λ k. by_parts TWICE_BY_FIRST TWICE_BY_SECOND (get_or x k 0))
     → ((k : ℕ) → k < 64 → s k < 256) → HasLanes x (λ k. in_basis (s k))

@@ -27,15 +27,15 @@ use Rattle.aes.proofs.Steps.{sbox_small, times_small, sub_block, shift_block}
 use Rattle.aes.proofs.FourBlocks.{same_lanes, in_basis_xor, linear_small}
 
 -- ---- bytes of the steps
--- a byte of a grid
+-- byte p of a grid is that of its row and column
 byte_grid : (f : ℕ → ℕ → ℕ) (p : ℕ) → p < 16 → get_or (grid f) p 0 ≡ f (p % 4) (p / 4)
 byte_grid f p h = get_or-map-range_with_len (λ i. f (i % 4) (i / 4)) 0 16 p p 0 h (zero-add p)
 
--- a byte by its row and column
+-- the byte in row p mod 4 of column p / 4 is byte p
 at_byte : (s : List ℕ) (p : ℕ) → at s (p % 4) (p / 4) ≡ get_or s p 0
 at_byte s p = ap (λ i. get_or s i 0) (omega arith)
 
--- a byte after AddRoundKey
+-- byte p after AddRoundKey is byte p, XORed with its byte of the round key
 pub added_byte : (ws : List (List ℕ)) (s : List ℕ) (p : ℕ) → p < 16
     → get_or (add_round_key ws 0 s) p 0 ≡ bit_xor (get_or s p 0) (get_or (get_or ws (p / 4) []) (p % 4) 0)
 unfolding add_round_key
@@ -44,13 +44,13 @@ added_byte ws s p h =
     byte_grid (λ r c. bit_xor (at s r c) (get_or (get_or ws (4 * 0 + c) []) r 0)) p h
     ∙ ap₂ bit_xor (at_byte s p) (ap (λ i. get_or (get_or ws i []) (p % 4) 0) first)
 
--- the place from which ShiftRows brings a byte
+-- the place from which ShiftRows moves a byte to place p is `row_source p`
 source_row : (p : ℕ) → p < 16 → p % 4 + 4 * ((p / 4 + p % 4) % 4) ≡ row_source p
 source_row p h =
     eqb-true (p % 4 + 4 * ((p / 4 + p % 4) % 4)) (row_source p)
     (all_below_at (λ p. p % 4 + 4 * ((p / 4 + p % 4) % 4) == row_source p) 16 p refl h)
 
--- a byte after SubBytes and ShiftRows
+-- byte p after SubBytes and ShiftRows is the S-box value of the byte at `row_source p`
 pub shifted_byte : (s : List ℕ) (p : ℕ) → p < 16
     → get_or (shift_rows (sub_bytes s)) p 0 ≡ sbox (get_or s (row_source p) 0)
 unfolding shift_rows sub_bytes
@@ -61,11 +61,11 @@ shifted_byte s p h =
     ∙ byte_grid (λ r c. sbox (at s r c)) q place
     ∙ ap sbox (at_byte s q ∙ ap (λ i. get_or s i 0) (source_row p h))
 
--- a row of MixColumns from its own row down, around the end
+-- a row of MixColumns: 2a + 3b + c + d, where a is in this row, and b, c and d are below it, around the end
 abbrev pub mixed : ℕ → ℕ → ℕ → ℕ → ℕ
 mixed a b c d = bit_xor (times 2 a) (bit_xor (times 3 b) (bit_xor c d))
 
--- a row of a column after MixColumns
+-- row r of a column after MixColumns is `mixed` of that row and the rows below it
 mixed_row : (g : ℕ → ℕ) (r : ℕ) → r < 4 → ((i : ℕ) → g i < 256)
     → get_or (mix_column (g 0 ∷ g 1 ∷ g 2 ∷ g 3 ∷ [])) r 0
     ≡ mixed (g r) (g ((r + 1) % 4)) (g ((r + 2) % 4)) (g ((r + 3) % 4))
@@ -93,14 +93,14 @@ mixed_row g (suc (suc (suc zero))) h small =
     ∙ xor_comm (bit_xor (times 3 (g 0)) (bit_xor (g 1) (g 2))) (times 2 (g 3))
 mixed_row g (suc (suc (suc (suc r)))) h small = absurd (omega arith)
 
--- the rows below a byte
+-- `row_below`, once, twice and three times, is the place of the rows below, tested at each place
 rows_computed : all_below
     (λ p. ((p % 4 + 1) % 4 + 4 * (p / 4) == row_below p) &&
     (((p % 4 + 2) % 4 + 4 * (p / 4) == row_below (row_below p)) &&
     ((p % 4 + 3) % 4 + 4 * (p / 4) == row_below (row_below (row_below p))))) 16 ≡ true
 rows_computed = refl
 
--- the rows below a byte of a block
+-- `row_below`, once, twice and three times, is the place of the rows below
 rows_at : (p : ℕ) → p < 16
     → ((p % 4 + 1) % 4 + 4 * (p / 4) ≡ row_below p)
     × ((p % 4 + 2) % 4 + 4 * (p / 4) ≡ row_below (row_below p))
@@ -119,7 +119,7 @@ rows_at p h =
       eqb-true ((p % 4 + 3) % 4 + 4 * (p / 4)) (row_below (row_below (row_below p))) b.1,
     )
 
--- a byte after MixColumns
+-- byte p after MixColumns is `mixed` of that byte and the bytes below it
 mixed_byte : (s : List ℕ) (p : ℕ) → ((i : ℕ) → get_or s i 0 < 256) → p < 16
     → get_or (mix_columns s) p 0
     ≡ mixed (get_or s p 0) (get_or s (row_below p) 0) (get_or s (row_below (row_below p)) 0)
@@ -152,17 +152,17 @@ constants_out x y z c d k =
     ∙ ap (bit_xor x) (ap (bit_xor z) (xor_assoc y c d) ∙ sym (xor_assoc z y (bit_xor c d))
     ∙ ap (λ (m : ℕ). bit_xor m (bit_xor c d)) (xor_comm z y)))
 
--- twice the constant of the S-box
+-- twice the constant of the S-box is 0xc6
 twice_constant : times 2 0x63 ≡ 0xc6
 unfolding times product residue
 twice_constant = refl
 
--- twice the S-box without its constant
+-- twice the S-box without its constant is twice the S-box plus 0xc6
 twice_linear : (x : ℕ) → times 2 (linear_sbox x) ≡ bit_xor (times 2 (sbox x)) 0xc6
 unfolding linear_sbox
 twice_linear x = times_xor 2 (sbox x) 0x63 ∙ ap (bit_xor (times 2 (sbox x))) twice_constant
 
--- the constant in the basis
+-- the constant of the S-box in the basis is 0x7c
 constant_in_basis : in_basis 0x63 ≡ 0x7c
 unfolding in_basis
 constant_in_basis = refl
@@ -236,7 +236,7 @@ three_computed : all_below
     (row_below (row_below (row_below (i % 16)))))) 64 ≡ true
 three_computed = refl
 
--- a byte of a block, where two places of lanes lie in one block
+-- if g is tested to stay in the block of a lane, the byte of lane g i is a byte of that block
 same_byte : (f : ℕ → List ℕ) (g h : ℕ → ℕ) (i : ℕ) → i < 64
     → all_below (λ i. (g i / 16 == i / 16) && (g i % 16 == h i)) 64 ≡ true
     → byte_of f (g i) ≡ get_or (f (i / 16)) (h i) 0
@@ -246,7 +246,7 @@ same_byte f g h i l test =
     ap₂ (λ (q p : ℕ). get_or (f q) p 0) (eqb-true (g i / 16) (i / 16) both.0)
     (eqb-true (g i % 16) (h i) both.1)
 
--- the row above is three rows below
+-- the row above is three rows below, tested at each lane
 above_computed : all_below (λ i. row_above i == row_below (row_below (row_below i))) 64 ≡ true
 above_computed = refl
 
@@ -255,26 +255,26 @@ above_at : (i : ℕ) → i < 64 → row_above i ≡ row_below (row_below (row_be
 above_at i l = eqb-true (row_above i) (row_below (row_below (row_below i)))
     (all_below_at (λ i. row_above i == row_below (row_below (row_below i))) 64 i above_computed l)
 
--- lanes moved down by one row
+-- lanes that are moved down by one row have the values of the row above
 pub lowered_lanes : (g : ℕ → ℕ) (v a : List ℕ) → HasLanes v (λ i. get_or a (row_above i) 0) → HasLanes a g
     → HasLanes v (λ i. g (row_above i))
 lowered_lanes g v a h e = same_lanes v h (λ i l. e.each (row_above i) (omega arith))
 
--- lanes moved up by one row
+-- lanes that are moved up by one row have the values of the row below
 pub moved_lanes : (g : ℕ → ℕ) (v a : List ℕ) → HasLanes v (λ i. get_or a (row_below i) 0) → HasLanes a g
     → HasLanes v (λ i. g (row_below i))
 moved_lanes g v a h e = same_lanes v h (λ i l. e.each (row_below i) (omega arith))
 
--- lanes brought by ShiftRows
+-- lanes that are brought by ShiftRows have the values of their sources
 pub source_lanes : (g : ℕ → ℕ) (v a : List ℕ) → HasLanes v (λ i. get_or a (row_source i) 0) → HasLanes a g
     → HasLanes v (λ i. g (row_source i))
 source_lanes g v a h e = same_lanes v h (λ i l. e.each (row_source i) (omega arith))
 
--- one number in each lane
+-- a vector of one number in each lane holds that number
 pub splat_lanes : (n : ℕ) → HasLanes (replicate 64 n) (λ i. n)
 splat_lanes n = record { long = length-replicate 64 n; each = λ k l. get_or-replicate {A = ℕ} 64 k n 0 l }
 
--- the byte of a round in lane i, by the bytes from which it comes
+-- the byte of lane i after a round, in terms of the bytes from which it comes
 pub round_byte : (f : ℕ → List ℕ) (ws : List (List ℕ)) (i : ℕ) → ((q : ℕ) → IsBlock (f q)) → i < 64
     → byte_of (λ q. add_round_key ws 0 (mix_columns (shift_rows (sub_bytes (f q))))) i
     ≡ bit_xor (mixed (sbox (byte_of f (row_source i))) (sbox (byte_of f (row_source (row_below i))))
@@ -308,7 +308,7 @@ round_byte f ws i blocks l =
     ∙ ap sbox (sym (same_byte f (λ i. row_source (row_below (row_below (row_below i))))
     (λ i. row_source (row_below (row_below (row_below (i % 16))))) i l three_computed))))))
 
--- a round of four blocks in the basis
+-- if the lanes are the sums of a round's terms in the basis, the vector holds the blocks after a round, in the basis
 pub round_lanes : (v : List ℕ) (f : ℕ → List ℕ) (ws : List (List ℕ)) → ((q : ℕ) → IsBlock (f q))
     → ((i : ℕ) → i < 64 → key_byte ws i < 256)
     → HasLanes v (λ i.
@@ -333,7 +333,7 @@ round_lanes v f ws blocks keys made =
     (key_byte ws i)) (above_at i l)
     ∙ sym (round_byte f ws i blocks l)))
 
--- the last round of four blocks
+-- if the lanes are the sums of the last round's terms, the vector holds the blocks after the last round
 pub last_lanes : (v : List ℕ) (f : ℕ → List ℕ) (ws : List (List ℕ))
     → HasLanes v (λ i. bit_xor (linear_sbox (byte_of f (row_source i))) (bit_xor (key_byte ws i) 0x63))
     → HoldsBlocks v (λ q. add_round_key ws 0 (shift_rows (sub_bytes (f q))))
@@ -346,7 +346,7 @@ last_lanes v f ws made =
     (shifted_byte (f (i / 16)) (i % 16) hp
     ∙ ap sbox (sym (same_byte f row_source (λ i. row_source (i % 16)) i l own_computed)))))
 
--- AddRoundKey of four blocks in the basis
+-- if the lanes are the blocks plus the round key in the basis, the vector holds the blocks after AddRoundKey, in the basis
 pub first_lanes : (v : List ℕ) (f : ℕ → List ℕ) (ws : List (List ℕ))
     → HasLanes v (λ i. in_basis (bit_xor (byte_of f i) (key_byte ws i)))
     → HoldsInBasis v (λ q. add_round_key ws 0 (f q))
@@ -354,7 +354,7 @@ first_lanes v f ws made =
     same_lanes v made (λ i l. ap in_basis (sym (added_byte ws (f (i / 16)) (i % 16) (omega arith))))
 
 -- ---- the words of a round
--- a byte of a word
+-- byte i of a word is row i of its column
 column_byte : (w i : ℕ) → i < 4 → w / 256 ^ i % 256 ≡ get_or (column_of w) i 0
 unfolding column_of
 column_byte w zero h = omega arith
@@ -363,7 +363,7 @@ column_byte w (suc (suc zero)) h = refl
 column_byte w (suc (suc (suc zero))) h = refl
 column_byte w (suc (suc (suc (suc i)))) h = absurd (omega arith)
 
--- the bytes of four words
+-- the bytes of four words, repeated for each block, are the bytes of the round key
 pub key_lanes : (v ws : List ℕ) → length ws ≡ 4 → Each1 (λ x. x < 2 ^ 32) ws
     → HasLanes v (λ i. get_or (digits_l 256 16 (number_l (2 ^ 32) ws)) (i % 16) 0)
     → HasLanes v (key_byte (columns_of ws))
@@ -377,7 +377,7 @@ key_lanes v ws long small made =
     ∙ ap (λ c. get_or c (i % 16 % 4) 0) (sym (get_or-map column_of ws j 0 [] (omega arith))))
 
 -- ---- four blocks of a list
--- a list of four blocks holds its blocks
+-- a list of 64 bytes holds its four blocks
 pub holds_self : (m : List ℕ) → length m ≡ 64 → HoldsBlocks m (λ q. block_at m (q % 4))
 holds_self m long = record {
   long = long;
@@ -389,7 +389,7 @@ holds_self m long = record {
       ∙ ap (λ i. get_or (block_at m i) (k % 16) 0) (sym q);
 }
 
--- each is a block
+-- each of the four blocks of 64 bytes is a block
 pub block_at_is : (m : List ℕ) (q : ℕ) → length m ≡ 64 → ((i : ℕ) → get_or m i 0 < 256)
     → IsBlock (block_at m (q % 4))
 block_at_is m q long small = record {
@@ -402,7 +402,7 @@ block_at_is m q long small = record {
   ];
 }
 
--- a block of a vector that holds blocks
+-- block q of a vector that holds blocks is the block that it holds
 pub block_held : (v : List ℕ) (f : ℕ → List ℕ) (q : ℕ) → HoldsBlocks v f → q < 4 → length (f q) ≡ 16
     → block_at v q ≡ f q
 block_held v f q held h long =
@@ -425,7 +425,7 @@ basis_same v f g same held =
 pub blocks_same : (v : List ℕ) (f g : ℕ → List ℕ) → ((q : ℕ) → f q ≡ g q) → HoldsBlocks v f → HoldsBlocks v g
 blocks_same v f g same held = same_lanes v held (λ k l. ap (λ b. get_or b (k % 16) 0) (same (k / 16)))
 
--- ---- keys made ready
+-- ---- prepared round keys
 pub ready_lanes : (v k : List ℕ) (ws : List (List ℕ)) → HasLanes v (λ i. get_or k (i % 16) 0)
     → ((i : ℕ) → i < 16 → get_or k i 0 ≡ ready_byte ws 0 i)
     → HasLanes v (λ i. bit_xor (in_basis (key_byte ws i)) 0x7c)
@@ -435,14 +435,14 @@ ready_lanes v k ws held is =
     is (i % 16) (omega arith)
     ∙ ap (λ (j : ℕ). bit_xor (in_basis (get_or (get_or ws j []) (i % 16 % 4) 0)) 0x7c) first)
 
--- the words of round n, as those of the first round of what is left
+-- a byte of the prepared round key n is that of the first prepared round key after 4n words are dropped
 pub ready_first : (ws : List (List ℕ)) (n i : ℕ) → ready_byte ws n i ≡ ready_byte (drop (4 * n) ws) 0 i
 ready_first ws n i =
     let first : 4 * 0 + i / 4 ≡ i / 4 = omega arith in
     ap (λ w. bit_xor (in_basis (get_or w (i % 4) 0)) 0x7c)
     (sym (get_or-drop (4 * n) ws (i / 4) []) ∙ ap (λ (j : ℕ). get_or (drop (4 * n) ws) j []) (sym first))
 
--- a byte of four words made ready
+-- a byte of a round key in the basis, plus the constant, is a byte of the prepared round key
 pub ready_of : (k ws : List (List ℕ)) (n i : ℕ) → i < 16
     → ((c : ℕ) → c < 4 → get_or k c [] ≡ get_or ws (4 * n + c) [])
     → bit_xor (in_basis (key_byte k i)) 0x7c ≡ ready_byte ws n i
@@ -451,7 +451,7 @@ ready_of k ws n i l same =
     ap (λ (p : ℕ). bit_xor (in_basis (get_or (get_or k (p / 4) []) (p % 4) 0)) 0x7c) place
     ∙ ap (λ w. bit_xor (in_basis (get_or w (i % 4) 0)) 0x7c) (same (i / 4) (omega arith))
 
--- words that begin with the schedule make it ready
+-- words that begin with the schedule give its prepared round keys
 pub ready_same : (ws : List (List ℕ)) (key : List ℕ) (n i : ℕ) → HasSchedule ws key → n ≤ round_count key
     → i < 16 → ready_byte ws n i ≡ ready_byte (schedule key) n i
 ready_same ws key n i has h l =

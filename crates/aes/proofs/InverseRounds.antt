@@ -10,13 +10,13 @@ use Rattle.aes.specs.declared.inverse_key.InverseKey.{InverseKey}
 use Rattle.aes.proofs.Expanded.{round_key_is, rounds_start, rounds_suc, cipher_is}
 use Rattle.aes.proofs.Steps.{add_twice}
 
--- a word among the four of a round
+-- the column of one of the four words of round n is that of word 4n + c
 own_word : (s : InverseKey) (k : List ℕ) (n c : ℕ) → length s.words ≡ 60 → n < 15 → c < 4
     → ((c : ℕ) → c < 4 → get_or (columns_of k) c [] ≡ get_or (columns_of s.words) (4 * n + c) [])
     → get_or (columns_of k) c [] ≡ column_of (get_or s.words (4 * n + c) 0)
 own_word s k n c long h l same = same c l ∙ get_or-map column_of s.words (4 * n + c) 0 [] (omega arith)
 
--- the state that comes to a block by the last AddRoundKey
+-- if b comes to t before the last AddRoundKey, and t is c plus the last round key, the cipher takes b to c
 pub last_added : (key : List ℕ) (s : InverseKey) (x : IsInverse s key) (c k t b : List ℕ) → length c ≡ 16
     → s.size ≤ 8
     → ((i : ℕ) → i < 4 → get_or (columns_of k) i [] ≡ get_or (columns_of s.words) (4 * (s.size + 6) + i) [])
@@ -36,7 +36,7 @@ last_added key s x c k t b long small same e h =
     ∙ ap (λ (i : ℕ). add_round_key (schedule key) (round_count key) (add_round_key (schedule key) i c)) count
     ∙ add_twice (schedule key) (round_count key) c long
 
--- one round back
+-- one round is undone, from t to v: if b comes to v, it comes to t one round later
 pub one_back : (key : List ℕ) (s : InverseKey) (x : IsInverse s key) (k u t v b : List ℕ) (d : ℕ)
     → length u ≡ 16 → length k ≡ 4 → s.size ≤ 8 × (d < s.size + 6 - 1)
     → ((i : ℕ) → i < 4 → get_or (columns_of k) i []

@@ -1,4 +1,4 @@
--- Keys in planes of bits.
+-- Round keys in planes of bits.
 use Rattle.std.proofs.Common.{◌≡◌, ℕ, zero, suc, ◌+◌, ◌-◌, ◌*◌, ◌/◌, ◌%◌, ◌^◌, ◌<◌, true, ◌&&◌, ◌==◌, ltb, List, []}
 use Rattle.std.proofs.Common.{◌∷◌, ◌++◌, map, get_or, length, replicate, refl, sym, ap, ◌∙◌, arith, bit_and, bit_xor}
 use Rattle.std.proofs.Common.{ltb-true}
@@ -19,7 +19,7 @@ use Rattle.aes.specs.Code.Planes.{HoldsLanes, masked_byte}
 use Rattle.aes.proofs.SixteenBlocks.{same_bytes}
 use Rattle.aes.proofs.Tested.{all_below, all_below_at}
 
--- an operator on sixteen lanes and a number in each
+-- an operator on sixteen lanes and one number in each lane acts on each lane with that number
 pub number_lane : (f : ℕ → ℕ → ℕ) (x : List ℕ) (n i : ℕ) → length x ≡ 16 → i < 16
     → get_or (zip2 f x (replicate 16 n)) i 0 ≡ f (get_or x i 0) n
 number_lane f x n i hx h =
@@ -30,7 +30,7 @@ number_lane f x n i hx h =
 long_number : (f : ℕ → ℕ → ℕ) (x : List ℕ) (n : ℕ) → length x ≡ 16 → length (zip2 f x (replicate 16 n)) ≡ 16
 long_number f x n hx = length-zip2 f x (replicate 16 n) (hx ∙ sym (length-replicate {A = ℕ} 16 n)) ∙ hx
 
--- lanes of sixteen at places
+-- a vector whose lanes are picked from sixteen at places has the lanes of those places
 picked : (x ps : List ℕ) (f : ℕ → ℕ) (n l : ℕ) → length x ≡ 16 → length ps ≡ n → l < n
     → all_below (λ i. (get_or ps i 0 == f i) && ltb (get_or ps i 0) 16) n ≡ true
     → get_or (map (λ p. get_or (x ++ x) p 0) ps) l 0 ≡ get_or x (f l) 0
@@ -42,25 +42,25 @@ picked x ps f n l hx hp h test =
     ∙ get_or_append_left x x 0 (get_or ps l 0) (omega arith)
     ∙ ap (λ p. get_or x p 0) (eqb-true (get_or ps l 0) (f l) both.0)
 
--- the places of rows
+-- the places of the bytes of a block, row by row
 abbrev row_places : List ℕ
 row_places = 0 ∷ 4 ∷ 8 ∷ 12 ∷ 1 ∷ 5 ∷ 9 ∷ 13 ∷ 2 ∷ 6 ∷ 10 ∷ 14 ∷ 3 ∷ 7 ∷ 11 ∷ 15 ∷ []
 
 rows_computed : all_below (λ i. (get_or row_places i 0 == spot i) && ltb (get_or row_places i 0) 16) 16 ≡ true
 rows_computed = refl
 
--- the bytes of a key by rows
+-- picking lanes at `row_places` gives each lane that of `spot`
 pub rows_lane : (x : List ℕ) (l : ℕ) → length x ≡ 16 → l < 16
     → get_or (map (λ p. get_or (x ++ x) p 0) row_places) l 0 ≡ get_or x (spot l) 0
 rows_lane x l hx h = picked x row_places spot 16 l hx refl h rows_computed
 
--- a bit through a whole byte
+-- 0 - b in a byte has the bit b at every place
 full_bit : (b k : ℕ) → b < 2 → k < 8 → bit_at ((0 + (2 ^ 8 - b)) % 2 ^ 8) k ≡ b
 full_bit zero k hb hk = bit_at-zero k
 full_bit (suc zero) k hb hk = bit_at_ones 8 k hk
 full_bit (suc (suc b)) k hb hk = absurd (omega arith)
 
--- a bit of each byte through its lane
+-- bit j of each byte, repeated over all bits of its lane
 abbrev pub full : List ℕ → ℕ → List ℕ
 full x j =
     zip2 (λ a b. (a + (2 ^ 8 - b)) % 2 ^ 8) (replicate 16 0)
@@ -92,7 +92,7 @@ pub plane_bits : (x : List ℕ) (j : ℕ) → length x ≡ 16 → (l k : ℕ) �
 plane_bits x j hx l k hl hk =
     ap (λ n. bit_at n k) (full_at x j l hx hl) ∙ full_bit (bit_at (get_or x l 0) j) k (bit_at-lt (get_or x l 0) j) hk
 
--- lanes read as a number, and the number's bytes
+-- the bytes of the number that a vector of bytes spells are the vector
 pub written_back : (v : List ℕ) (n : ℕ) → length v ≡ 16 → Each1 (Fits w8) v → n ≡ from_le_bytes w128 v
     → to_le_bytes w128 n ≡ v
 written_back v n long fits read =
@@ -100,7 +100,7 @@ written_back v n long fits read =
     ap (to_le_bytes w128) (read ∙ sym (le_word v long)) ∙ le_padded v (omega arith) (λ i. lane_fits v i fits)
     ∙ ap (λ (m : ℕ). v ++ replicate m 0) none ∙ append-nil v
 
--- a byte of four words
+-- byte i of the four words of round n is byte i of round key n
 pub word_of : (k ws : List (List ℕ)) (n i : ℕ) → i < 16
     → ((c : ℕ) → c < 4 → get_or k c [] ≡ get_or ws (4 * n + c) []) → key_byte k i ≡ word_byte ws n i
 word_of k ws n i l same =
@@ -108,11 +108,11 @@ word_of k ws n i l same =
     ap (λ (p : ℕ). get_or (get_or k (p / 4) []) (p % 4) 0) place
     ∙ ap (λ w. get_or w (i % 4) 0) (same (i / 4) (omega arith))
 
--- the place of a lane is that of the lane in its half
+-- a lane and the same lane of the first half have the same place
 pub spot_half : (l : ℕ) → spot (l % 16) ≡ spot l
 spot_half l = omega arith
 
--- planes of a key by rows
+-- planes of a key's bytes, row by row, hold the bytes of round key 0
 pub first_key : (v : List (List ℕ)) (key bytes : List ℕ) (ws : List (List ℕ))
     → HoldsLanes 16 v (λ l k. get_or key l 0)
     → ((l : ℕ) → l < 16 → get_or key l 0 ≡ get_or bytes (spot l) 0)

@@ -1,4 +1,4 @@
--- Blocks that come out of planes.
+-- Blocks that are read out of planes.
 use Rattle.std.proofs.Common.{◌≡◌, ℕ, ◌+◌, ◌*◌, ◌/◌, ◌%◌, ◌<◌, true, ◌&&◌, ◌==◌, ltb, List, []}
 use Rattle.std.proofs.Common.{◌∷◌, ◌++◌, map, get_or, length, refl, ap, ap₂, ◌∙◌, arith, inl, inr}
 use Rattle.std.specs.Int.{bit_at}
@@ -14,7 +14,7 @@ use Rattle.aes.specs.Code.Planes.{HoldsBits, HasByteBits}
 use Rattle.aes.proofs.Tested.{all_below, all_below_at}
 use Rattle.aes.proofs.FourBlocks.{lane_fits, same_lanes}
 
--- lanes of two vectors at places
+-- a vector whose lanes are picked from two vectors at places has the lanes of those places
 picked_two : (x y ps : List ℕ) (f : ℕ → ℕ) (n m l : ℕ) → length x ≡ n → length y ≡ n → length ps ≡ m → l < m
     → all_below (λ i. (get_or ps i 0 == f i) && ltb (get_or ps i 0) (n + n)) m ≡ true
     → get_or (map (λ p. get_or (x ++ y) p 0) ps) l 0 ≡ get_or (x ++ y) (f l) 0
@@ -24,14 +24,14 @@ picked_two x y ps f n m l hx hy hp h test =
     get_or-map (λ p. get_or (x ++ y) p 0) ps l 0 0 (omega arith)
     ∙ ap (λ p. get_or (x ++ y) p 0) (eqb-true (get_or ps l 0) (f l) both.0)
 
--- a lane by its bits
+-- a vector that has the bits of a byte in each lane has the bytes
 by_bits : (v : List ℕ) (f : ℕ → List ℕ) (q l : ℕ) → Each1 (Fits w8) v → ((q : ℕ) → IsBlock (f q)) → HasByteBits v f q
     → l < 32 → get_or v l 0 ≡ get_or (f (l / 16 * 8 + q)) (l % 16) 0
 by_bits v f q l fits blocks h hl =
     same_from_bits_below 8 (get_or v l 0) (get_or (f (l / 16 * 8 + q)) (l % 16) 0) (lane_fits v l fits)
     ((blocks (l / 16 * 8 + q)).bytes (l % 16)) (λ k hk. h l k hl hk)
 
--- a plane that comes out
+-- after the planes are transposed, plane q has the bytes of blocks q and 8 + q
 pub stored_low : (p r : List (List ℕ)) (f : ℕ → List ℕ) (q : ℕ) → q < 4
     → HoldsBits r (λ l k. get_or (get_or p k []) l 0) → HoldsBits p (λ l k. get_or (f (l / 16 * 8 + k)) (l % 16) 0)
     → HasByteBits (get_or r q []) f q
@@ -50,19 +50,19 @@ pub fours_same : (v : List ℕ) (f : ℕ → List ℕ) → HoldsBlocks v (λ q. 
 fours_same v f h = same_lanes v h (λ i l.
     let e : 4 + (8 + i / 16) ≡ 12 + i / 16 = omega arith in ap (λ (a : ℕ). get_or (f a) (i % 16) 0) e)
 
--- the first halves of two planes
+-- the places of the first halves of two planes
 abbrev low_places : List ℕ
 low_places =
     0 ∷ 1 ∷ 2 ∷ 3 ∷ 4 ∷ 5 ∷ 6 ∷ 7 ∷ 8 ∷ 9 ∷ 10 ∷ 11 ∷ 12 ∷ 13 ∷ 14 ∷ 15 ∷ 32 ∷ 33 ∷ 34 ∷ 35 ∷ 36 ∷ 37 ∷
     38 ∷ 39 ∷ 40 ∷ 41 ∷ 42 ∷ 43 ∷ 44 ∷ 45 ∷ 46 ∷ 47 ∷ []
 
--- the second halves
+-- the places of the second halves of two planes
 abbrev high_places : List ℕ
 high_places =
     16 ∷ 17 ∷ 18 ∷ 19 ∷ 20 ∷ 21 ∷ 22 ∷ 23 ∷ 24 ∷ 25 ∷ 26 ∷ 27 ∷ 28 ∷ 29 ∷ 30 ∷ 31 ∷ 48 ∷ 49 ∷ 50 ∷ 51 ∷
     52 ∷ 53 ∷ 54 ∷ 55 ∷ 56 ∷ 57 ∷ 58 ∷ 59 ∷ 60 ∷ 61 ∷ 62 ∷ 63 ∷ []
 
--- all of two halves
+-- the places of all lanes of two planes
 abbrev all_places : List ℕ
 all_places =
     0 ∷ 1 ∷ 2 ∷ 3 ∷ 4 ∷ 5 ∷ 6 ∷ 7 ∷ 8 ∷ 9 ∷ 10 ∷ 11 ∷ 12 ∷ 13 ∷ 14 ∷ 15 ∷ 16 ∷ 17 ∷ 18 ∷ 19 ∷ 20 ∷ 21 ∷
@@ -70,7 +70,7 @@ all_places =
     42 ∷ 43 ∷ 44 ∷ 45 ∷ 46 ∷ 47 ∷ 48 ∷ 49 ∷ 50 ∷ 51 ∷ 52 ∷ 53 ∷ 54 ∷ 55 ∷ 56 ∷ 57 ∷ 58 ∷ 59 ∷ 60 ∷ 61 ∷
     62 ∷ 63 ∷ []
 
--- a lane of two halves
+-- picking the halves h of two planes gives those lanes of both
 half_lane : (ps : List ℕ) (h : ℕ) → h < 2 → length ps ≡ 32
     → all_below (λ i. (get_or ps i 0 == i / 16 * 32 + (16 * h + i % 16)) && ltb (get_or ps i 0) (32 + 32)) 32 ≡ true
     → (a b : List ℕ) (j : ℕ) → length a ≡ 32 → length b ≡ 32 → j < 16
@@ -85,7 +85,7 @@ half_lane ps h hh long test a b j ha hb hj =
           ∙ ap (λ p. get_or (a ++ b) p 0) high ∙ get_or-append-add a b (16 * h + j) 0,
     )
 
--- a byte in a half of a plane
+-- a byte in half h of a plane is a byte of block 8h + q
 quarter : (v : List ℕ) (f : ℕ → List ℕ) (q h j : ℕ) → Each1 (Fits w8) v → ((q : ℕ) → IsBlock (f q)) → HasByteBits v f q
     → h < 2 → j < 16 → get_or v (16 * h + j) 0 ≡ get_or (f (8 * h + q)) j 0
 quarter v f q h j fits blocks bits hh hj =
@@ -94,7 +94,7 @@ quarter v f q h j fits blocks bits hh hj =
     by_bits v f q (16 * h + j) fits blocks bits (omega arith)
     ∙ ap₂ (λ (a b : ℕ). get_or (f a) b 0) block byte
 
--- all lanes of two halves
+-- `all_places` picks every lane, tested at each place
 all_computed : all_below (λ i. (get_or all_places i 0 == i) && ltb (get_or all_places i 0) (32 + 32)) 64 ≡ true
 all_computed = refl
 
@@ -106,12 +106,12 @@ high_computed : all_below
     (λ i. (get_or high_places i 0 == i / 16 * 32 + (16 * 1 + i % 16)) && ltb (get_or high_places i 0) (32 + 32)) 32 ≡ true
 high_computed = refl
 
--- four halves, one after the other
+-- the halves of four planes, one after the other
 abbrev pub four_halves : List ℕ → List ℕ → List ℕ → List ℕ → List ℕ → List ℕ
 four_halves ps a b c d =
     map (λ p. get_or (map (λ p. get_or (a ++ b) p 0) ps ++ map (λ p. get_or (c ++ d) p 0) ps) p 0) all_places
 
--- they hold four blocks
+-- the halves h of four planes hold four blocks
 four_hold : (ps : List ℕ) (h : ℕ) → h < 2 → length ps ≡ 32
     → all_below (λ i. (get_or ps i 0 == i / 16 * 32 + (16 * h + i % 16)) && ltb (get_or ps i 0) (32 + 32)) 32 ≡ true
     → (a b c d : List ℕ) → length a ≡ 32 → length b ≡ 32 → length c ≡ 32 → length d ≡ 32

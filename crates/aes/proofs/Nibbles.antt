@@ -1,4 +1,4 @@
--- The low half of the byte that counts first.
+-- The low half of the least significant byte of a counter.
 use Rattle.std.proofs.Common.{◌≡◌, ℕ, zero, suc, ◌+◌, ◌-◌, ◌*◌, ◌/◌, ◌%◌, ◌^◌, ◌<◌}
 use Rattle.std.proofs.Common.{Bool, true, false, cond, ◌==◌, List, []}
 use Rattle.std.proofs.Common.{◌∷◌, ◌++◌, length, take, drop, get_or, bit_xor, refl, sym, ap, ap₂, ◌∙◌, arith, inl, inr}
@@ -14,7 +14,7 @@ use Rattle.aes.specs.Code.Nibbles.{CountsInNibble}
 use Rattle.aes.proofs.Tested.{all_below, all_below_at}
 use Rattle.aes.proofs.Counting.{small_take}
 
--- a sum with a multiple of 16
+-- XORing s, below 16, into a multiple of 16 is adding it, tested at each pair
 nibbles_computed : all_below (λ a. all_below (λ s. bit_xor (16 * a) s == 16 * a + s) 16) 16 ≡ true
 nibbles_computed = refl
 
@@ -29,12 +29,12 @@ nibble_sum v s hv hm hs =
     (all_below_at (λ a. all_below (λ s. bit_xor (16 * a) s == 16 * a + s) 16) 16 a nibbles_computed below) hs))
     ∙ ap (λ (w : ℕ). bit_xor w s) whole
 
--- a byte at another place stays
+-- a byte at another place stays as it is
 unlike : (b : Bool) (u s : ℕ) → ◌≡◌ {A = ℕ} (cond b 1 0) 0 → u ≡ bit_xor u (cond b s 0)
 unlike true u s h = absurd (omega (arith, h))
 unlike false u s h = sym (xor_zero_r u)
 
--- bytes before bytes
+-- if the items of two lists are below 256, so are those of both joined
 small_append : (xs ys : List ℕ) → ((i : ℕ) → get_or xs i 0 < 256) → ((i : ℕ) → get_or ys i 0 < 256)
     → (i : ℕ) → get_or (xs ++ ys) i 0 < 256
 small_append xs ys hx hy i =
@@ -66,7 +66,7 @@ four_be n s (suc (suc (suc zero))) hn hs ht =
     let e : (n + s) % 256 ≡ n % 256 + s = omega arith in e ∙ nibble_sum (n % 256) s (omega arith) hn hs
 four_be n s (suc (suc (suc (suc t)))) hn hs ht = absurd (omega arith)
 
--- the number that the last four bytes spell, by the last byte
+-- the number that the last four bytes spell is that of the three before the last, times 256, plus the last byte
 last_be : (b : List ℕ) → length b ≡ 16 → be (drop 12 b) ≡ be (take 3 (drop 12 b)) * 256 + get_or b 15 0
 last_be b long =
     let d : List ℕ = drop 12 b in
@@ -74,7 +74,7 @@ last_be b long =
     ap be (sym (take_all 4 d (omega arith)) ∙ take_more d 3 0 (omega arith)) ∙ be_push (take 3 d) (get_or d 3 0)
     ∙ ap (λ (x : ℕ). be (take 3 d) * 256 + x) (get_or-drop 12 b 3 0)
 
--- the byte at place 15
+-- byte 12 + t of twelve bytes and a number's four bytes is byte t of the number
 byte_be : (front : List ℕ) (n t : ℕ) → length front ≡ 12
     → get_or (front ++ bytes_high_first 4 n) (12 + t) 0 ≡ get_or (bytes_high_first 4 n) t 0
 byte_be front n t size =
@@ -148,7 +148,7 @@ four_le n s (suc (suc (suc zero))) hn hs ht =
     let e : (n + s) / 16777216 % 256 ≡ n / 16777216 % 256 = omega arith in e ∙ sym (xor_zero_r (n / 16777216 % 256))
 four_le n s (suc (suc (suc (suc t)))) hn hs ht = absurd (omega arith)
 
--- the number that the first four bytes spell, by the first byte
+-- the low half of the number in the first four bytes plus j is the low half of the first byte plus j
 first_le : (b : List ℕ) (j : ℕ) → length b ≡ 16
     → (le (take 4 b) + j) % 2 ^ 32 % 256 % 16 ≡ (get_or b 0 0 + j) % 16
 unfolding le

@@ -1,4 +1,4 @@
--- Under every key the cipher is one to one and onto.
+-- The cipher is one to one and onto under every key.
 use Rattle.std.proofs.Common.{◌≡◌, ℕ, zero, suc, ◌+◌, ◌-◌, ◌*◌, ◌/◌, ◌%◌, ◌<◌, ◌≤◌, Bool, true, false, cond}
 use Rattle.std.proofs.Common.{◌&&◌, ◌==◌, nat_lt, List, [], ◌∷◌, ◌++◌, take, drop, get_or, length, inl, inr}
 use Rattle.std.proofs.Common.{sym, ap, ◌∙◌, arith, bit_xor, lt_of_lt_of_le, pow_mono, get_or-drop}
@@ -20,15 +20,15 @@ use Rattle.aes.proofs.Steps.{AreWords, sbox_small, sub_block, unsub, unsub_block
 use Rattle.aes.proofs.Steps.{shift_block, unshift, unshift_block, shift_unshift, unshift_shift, unmix}
 use Rattle.aes.proofs.Steps.{mix_block, unmix_block, mix_unmix_block, unmix_mix_block, add_twice, add_block}
 
--- ---- the words of a schedule have bytes
+-- ---- the words of a schedule consist of bytes
 abbrev IsWord : List ℕ → Type 0
 IsWord w = (r : ℕ) → get_or w r 0 < 256
 
--- no bytes are bytes
+-- the empty word consists of bytes
 nil_word : IsWord []
 nil_word r = omega arith
 
--- four bytes are bytes
+-- a word of four bytes consists of bytes
 four_word : (a b c d : ℕ) → a < 256 → b < 256 → c < 256 → d < 256 → IsWord (a ∷ b ∷ c ∷ d ∷ [])
 four_word a b c d ha hb hc hd zero = ha
 four_word a b c d ha hb hc hd (suc zero) = hb
@@ -36,7 +36,7 @@ four_word a b c d ha hb hc hd (suc (suc zero)) = hc
 four_word a b c d ha hb hc hd (suc (suc (suc zero))) = hd
 four_word a b c d ha hb hc hd (suc (suc (suc (suc r)))) = omega arith
 
--- a sum of words
+-- the sum of two words of bytes consists of bytes
 xor_word_is : (v w : List ℕ) → IsWord v → IsWord w → IsWord (xor_word v w)
 unfolding xor_word
 xor_word_is v w hv hw =
@@ -47,18 +47,18 @@ xor_word_is v w hv hw =
     (xor_of_8 (get_or v 2 0) (get_or w 2 0) (hv 2) (hw 2))
     (xor_of_8 (get_or v 3 0) (get_or w 3 0) (hv 3) (hw 3))
 
--- the S-box at each byte of a word
+-- SubWord of a word of bytes consists of bytes
 sub_word_is : (w : List ℕ) → IsWord w → IsWord (sub_word w)
 sub_word_is [] h r = omega arith
 sub_word_is (x ∷ w) h zero = sbox_small x (h 0)
 sub_word_is (x ∷ w) h (suc r) = sub_word_is w (λ i. h (suc i)) r
 
--- a rotated word
+-- RotWord of a word of bytes consists of bytes
 pub rot_word_is : (w : List ℕ) → IsWord w → IsWord (rot_word w)
 rot_word_is w h = four_word (get_or w 1 0) (get_or w 2 0) (get_or w 3 0) (get_or w 0 0) (h 1) (h 2) (h 3)
     (h 0)
 
--- a round constant
+-- a round constant consists of bytes
 rcon_is_word : (j : ℕ) → IsWord (rcon j)
 unfolding rcon
 rcon_is_word j =
@@ -67,12 +67,12 @@ rcon_is_word j =
     four_word (number p) 0 0 0 (lt_of_lt_of_le (number_lt p) (pow_mono short)) (omega arith) (omega arith)
     (omega arith)
 
--- one word of two
+-- either of two words of bytes consists of bytes
 cond_word : (b : Bool) (v w : List ℕ) → IsWord v → IsWord w → IsWord (cond b v w)
 cond_word true v w hv hw = hv
 cond_word false v w hv hw = hw
 
--- the word added to the one Nk places back is a word, if t is one
+-- temp consists of bytes, if the previous word t does
 temp_is : (nk i : ℕ) (t : List ℕ) → IsWord t → IsWord (temp nk i t)
 unfolding temp
 temp_is nk i t h =
@@ -83,11 +83,11 @@ temp_is nk i t h =
     (rcon_is_word (i / nk)))
     (cond_word ((nk == 8) && (i % 8 == 4)) (sub_word t) t (sub_word_is t h) h)
 
--- past the fourth byte of a word
+-- past its fourth item, a list of at most four items reads 0, which is a byte
 past_four : (xs : List ℕ) (r : ℕ) → 4 ≤ r → get_or (take 4 xs) r 0 < 256
 past_four xs r l = rw (get_or_past (take 4 xs) r 0 (omega (arith, length-take {A = ℕ}))) (omega arith)
 
--- a word of the key
+-- a word of a key of bytes consists of bytes
 key_part_is : (key : List ℕ) (n : ℕ) → IsWord key → IsWord (take 4 (drop n key))
 key_part_is key n h r =
     elim (cases_lt r 4) [
@@ -95,7 +95,7 @@ key_part_is key n h r =
       | inr l ↦ past_four (drop n key) r l
     ]
 
--- the next word of the schedule
+-- the next word of the schedule consists of bytes
 next_is : (key : List ℕ) (ws : List (List ℕ)) (i : ℕ) → IsWord key → AreWords ws → IsWord (next_word key ws i)
 unfolding next_word
 next_is key ws i hk hw =
@@ -107,14 +107,14 @@ next_is key ws i hk hw =
     (hw (i - key_words key))
     (temp_is (key_words key) i (get_or ws (i - 1) []) (hw (i - 1))))
 
--- one word more
+-- if words consist of bytes, and one more does, all of them do
 push_words : (ws : List (List ℕ)) (w : List ℕ) → AreWords ws → IsWord w → AreWords (ws ++ w ∷ [])
 push_words [] w h hw zero = hw
 push_words [] w h hw (suc k) = nil_word
 push_words (v ∷ ws) w h hw zero = h 0
 push_words (v ∷ ws) w h hw (suc k) = push_words ws w (λ i. h (suc i)) hw k
 
--- the words of the schedule are words
+-- the words of the schedule consist of bytes
 pub words_are : (key : List ℕ) (n : ℕ) → IsWord key → AreWords (words key n)
 unfolding words
 words_are key zero h k = nil_word
@@ -131,7 +131,7 @@ rounds_block ws (suc n) b hw h =
     add_block ws (suc n) (mix_columns (shift_rows (sub_bytes (rounds ws n b)))) hw
     (mix_block (shift_rows (sub_bytes (rounds ws n b))))
 
--- from the state after SubBytes and ShiftRows back
+-- if SubBytes and ShiftRows take two blocks to one, the blocks are equal
 same_before_shift : (s t : List ℕ) → IsBlock s → IsBlock t
     → shift_rows (sub_bytes s) ≡ shift_rows (sub_bytes t) → s ≡ t
 same_before_shift s t hs ht e =
@@ -140,12 +140,12 @@ same_before_shift s t hs ht e =
     ∙ unshift_shift (sub_bytes t) (sub_block t ht))
     ∙ unsub_sub t ht
 
--- AddRoundKey is one to one
+-- if AddRoundKey takes two blocks to one, the blocks are equal
 same_before_add : (ws : List (List ℕ)) (n : ℕ) (s t : List ℕ) → length s ≡ 16 → length t ≡ 16
     → add_round_key ws n s ≡ add_round_key ws n t → s ≡ t
 same_before_add ws n s t hs ht e = sym (add_twice ws n s hs) ∙ ap (add_round_key ws n) e ∙ add_twice ws n t ht
 
--- the rounds are one to one
+-- if n rounds take two blocks to one, the blocks are equal
 pub rounds_same : (ws : List (List ℕ)) (n : ℕ) (b d : List ℕ) → AreWords ws → IsBlock b → IsBlock d
     → rounds ws n b ≡ rounds ws n d → b ≡ d
 unfolding rounds
@@ -164,12 +164,12 @@ rounds_same ws (suc n) b d hw hb hd e =
     rounds_same ws n b d hw hb hd
     (same_before_shift s t sb tb (sym (unmix_mix_block s2 sb2) ∙ ap unmix mixed ∙ unmix_mix_block t2 tb2))
 
--- the block from which n rounds come to c
+-- the block that n rounds take to c
 unrounds : List (List ℕ) → ℕ → List ℕ → List ℕ
 unrounds ws zero c = add_round_key ws 0 c
 unrounds ws (suc n) c = unrounds ws n (unsub (unshift (unmix (add_round_key ws (suc n) c))))
 
--- the rounds undone give a block
+-- `unrounds` gives a block
 unrounds_block : (ws : List (List ℕ)) (n : ℕ) (c : List ℕ) → AreWords ws → IsBlock c
     → IsBlock (unrounds ws n c)
 unfolding unrounds
@@ -179,7 +179,7 @@ unrounds_block ws (suc n) c hw h =
     unrounds_block ws n (unsub (unshift m)) hw
     (unsub_block (unshift m) (unshift_block m (unmix_block (add_round_key ws (suc n) c))))
 
--- the rounds undo the rounds undone
+-- n rounds take `unrounds` of a block to the block
 rounds_unrounds : (ws : List (List ℕ)) (n : ℕ) (c : List ℕ) → AreWords ws → IsBlock c
     → rounds ws n (unrounds ws n c) ≡ c
 unfolding rounds unrounds
@@ -208,7 +208,7 @@ cipher_block key b k h =
     let sb : IsBlock s = rounds_block ws (round_count key - 1) b hw h in
     add_block ws (round_count key) (shift_rows (sub_bytes s)) hw (shift_block (sub_bytes s) (sub_block s sb))
 
--- the cipher is one to one
+-- if the cipher takes two blocks to one, the blocks are equal
 pub cipher_same : (key b d : List ℕ) → IsKey key → IsBlock b → IsBlock d → cipher key b ≡ cipher key d → b ≡ d
 unfolding cipher
 cipher_same key b d k hb hd e =
@@ -225,7 +225,7 @@ cipher_same key b d k hb hd e =
     (shift_block (sub_bytes s) (sub_block s sb)).length_is
     (shift_block (sub_bytes t) (sub_block t tb)).length_is e))
 
--- the cipher is onto
+-- each block is the cipher of some block
 pub cipher_onto : (key c : List ℕ) → IsKey key → IsBlock c → (b : List ℕ) × IsBlock b × (cipher key b ≡ c)
 unfolding cipher
 cipher_onto key c k h =
@@ -245,7 +245,7 @@ cipher_onto key c k h =
           ∙ add_twice ws (round_count key) c h.length_is,
     )
 
--- the cipher is one to one and onto
+-- the law `IsPermutation`
 pub is_permutation : IsPermutation
 is_permutation key k = (
   λ b h. cipher_block key b k h,

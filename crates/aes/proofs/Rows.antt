@@ -10,44 +10,44 @@ use Rattle.aes.specs.Schedule.{x_power, rcon}
 use Rattle.aes.specs.Cipher.{dot}
 use Rattle.aes.proofs.Tested.{all_below, all_below_at}
 
--- a dot product of four terms
+-- the XOR of four products is the dot product of a row and a column
 pub dot_is : (k l m n a b c d p q r s : ℕ) → p ≡ times k a → q ≡ times l b → r ≡ times m c → s ≡ times n d
     → bit_xor p (bit_xor q (bit_xor r s)) ≡ dot (k ∷ l ∷ m ∷ n ∷ []) (a ∷ b ∷ c ∷ d ∷ [])
 dot_is k l m n a b c d p q r s e f g h =
     ap₂ bit_xor e (ap₂ bit_xor f (ap₂ bit_xor g (h ∙ sym (xor_zero_r (times n d)))))
 
--- four equal items
+-- two lists of four items are equal if their items are
 pub four : {a b c d p q r s : ℕ} → a ≡ p → b ≡ q → c ≡ r → d ≡ s
     → ◌≡◌ {A = List ℕ} (a ∷ b ∷ c ∷ d ∷ []) (p ∷ q ∷ r ∷ s ∷ [])
 four e f g h = ap₂ (λ x y. x ∷ y) e (ap₂ (λ x y. x ∷ y) f (ap₂ (λ x y. x ∷ y) g (ap (λ x. x ∷ []) h)))
 
--- the first bytes of the round constants
+-- the first bytes of the round constants, from Rcon[1] on, with 0 before them
 abbrev constants : List ℕ
 constants = 0 ∷ 1 ∷ 2 ∷ 4 ∷ 8 ∷ 16 ∷ 32 ∷ 64 ∷ 128 ∷ 27 ∷ 54 ∷ []
 
--- each one is a byte
+-- each of the constants is below 256, tested at each one
 constants_small : all_below (λ j. ltb (get_or constants j 0) 256) 11 ≡ true
 constants_small = refl
 
--- a constant is a byte
+-- each of the constants is below 256
 pub constant_small : (j : ℕ) → j < 11 → get_or constants j 0 < 256
 constant_small j h = ltb-true (get_or constants j 0) 256
     (all_below_at (λ j. ltb (get_or constants j 0) 256) 11 j constants_small h)
 
--- the round constants, tested at each number
+-- each constant after the first is a power of x, tested at each one
 constants_computed : all_below (λ j. get_or constants (j + 1) 0 == number (residue modulus (x_power j))) 10
     ≡ true
 unfolding residue
 constants_computed = refl
 
--- a round constant
+-- each constant after the first is a power of x
 constant_at : (j : ℕ) → j < 10 → get_or constants (j + 1) 0 ≡ number (residue modulus (x_power j))
 constant_at j h =
     eqb-true (get_or constants (j + 1) 0) (number (residue modulus (x_power j)))
     (all_below_at (λ j. get_or constants (j + 1) 0 == number (residue modulus (x_power j))) 10 j
     constants_computed h)
 
--- a round constant as a word
+-- a constant and three zeros are the round constant
 pub rcon_is : (j : ℕ) → 0 < j → j < 11 → ◌≡◌ {A = List ℕ} (get_or constants j 0 ∷ 0 ∷ 0 ∷ 0 ∷ []) (rcon j)
 unfolding rcon
 rcon_is j low high =

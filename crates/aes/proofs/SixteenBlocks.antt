@@ -20,7 +20,7 @@ use Rattle.aes.proofs.Sums.{times_xor, xor_exchange}
 use Rattle.aes.proofs.Steps.{sbox_small}
 use Rattle.aes.proofs.FourRounds.{round_byte, lane_last, mixed, added_byte, shifted_byte}
 
--- planes of bytes hold equal bytes
+-- planes that hold bytes hold equal bytes
 pub same_bytes : {n : ℕ} {g h : ℕ → ℕ → ℕ} (p : List (List ℕ)) → HoldsLanes n p g
     → ((l k : ℕ) → l < n → k < 8 → g l k ≡ h l k) → HoldsLanes n p h
 same_bytes p held same = record {
@@ -29,7 +29,7 @@ same_bytes p held same = record {
   each = λ j l k hj hl hk. held.each j l k hj hl hk ∙ ap (λ n. bit_at n j) (same l k hl hk);
 }
 
--- and numbers
+-- words that hold the planes of bytes hold those of equal bytes
 pub same_words : {g h : ℕ → ℕ → ℕ} (words : List ℕ) → HoldsWords words g
     → ((l k : ℕ) → l < 16 → k < 8 → g l k ≡ h l k) → HoldsWords words h
 same_words words held same = record {
@@ -61,7 +61,7 @@ out_computed : all_below
     (λ l. (get_or SHIFTED_OUT l 0 / 16 == l / 16) && (spot (get_or SHIFTED_OUT l 0) == row_source (l % 16))) 32 ≡ true
 out_computed = refl
 
--- a byte of a block, from a lane of its half
+-- if lane `from l` is tested to be in the half of lane l, at the place `to l`, its bytes are those of the same blocks at that place
 place : (f : ℕ → List ℕ) (from to : ℕ → ℕ) (l k : ℕ) → l < 32
     → all_below (λ l. (from l / 16 == l / 16) && (spot (from l) == to l)) 32 ≡ true
     → block_byte f (from l) k ≡ get_or (f (l / 16 * 8 + k)) (to l) 0
@@ -72,11 +72,11 @@ place f from to l k h test =
     (eqb-true (spot (from l)) (to l) both.1)
 
 -- ---- bytes
--- a constant that two bytes share goes
+-- the constant of the S-box cancels in a sum of two values
 constants_go : (a b : ℕ) → bit_xor (bit_xor a 0x63) (bit_xor b 0x63) ≡ bit_xor a b
 constants_go a b = xor_exchange a 0x63 b 0x63 ∙ xor_zero_r (bit_xor a b)
 
--- a constant goes out of a sum
+-- the constant of the S-box may be moved out of a sum
 constant_out : (a b : ℕ) → bit_xor (bit_xor a 0x63) b ≡ bit_xor (bit_xor a b) 0x63
 constant_out a b = ap (bit_xor (bit_xor a 0x63)) (sym (xor_zero_r b)) ∙ xor_exchange a 0x63 b 0
 
@@ -103,11 +103,11 @@ value a b c d k hb =
     ∙ ap (λ u. bit_xor u r) (sym (triple_is q (sbox_small b hb)))))
 
 -- ---- rounds
--- the byte that ShiftRows brings to a lane, by the S-box without its constant
+-- the byte that ShiftRows brings to lane l, after the S-box without its constant
 abbrev pub brought : (ℕ → List ℕ) → ℕ → ℕ → ℕ
 brought f l k = linear_sbox (block_byte f (get_or SHIFTED l 0) k)
 
--- a byte after a round of one block
+-- byte i after a round of one block, in terms of the bytes from which it comes
 one_round : (b : List ℕ) (ws : List (List ℕ)) (i : ℕ) → IsBlock b → i < 16
     → get_or (add_round_key ws 0 (mix_columns (shift_rows (sub_bytes b)))) i 0
     ≡ bit_xor (mixed (sbox (get_or b (row_source i) 0)) (sbox (get_or b (row_source (row_below i)) 0))
@@ -127,7 +127,7 @@ one_round b ws i block h =
     (ap₂ bit_xor (ap (λ (p : ℕ). times 3 (sbox (get_or b p 0))) s1)
     (ap₂ bit_xor (ap (λ (p : ℕ). sbox (get_or b p 0)) s2) (ap (λ (p : ℕ). sbox (get_or b p 0)) s3))))
 
--- a round in lane l
+-- the sum of a round's terms in lane l is the byte after the round
 pub round_value : (f : ℕ → List ℕ) (ws : List (List ℕ)) → ((q : ℕ) → IsBlock (f q)) → (l k : ℕ) → l < 32
     → bit_xor (bit_xor (bit_xor (brought f (get_or BELOW l 0) k)
     (bit_xor (brought f (get_or TWO_BELOW l 0) k) (brought f (get_or BELOW (get_or TWO_BELOW l 0) 0) k)))
@@ -157,7 +157,7 @@ round_value f ws blocks l k hl =
     (λ l. row_source (row_below (row_below (row_below (spot l))))) l k hl three_computed)))))
     ∙ sym (one_round b ws i (blocks (l / 16 * 8 + k)) hi)
 
--- the last round in lane l, in the order of the block
+-- the sum of the last round's terms in lane l is the byte after the last round, in the order of the block
 pub last_value : (f : ℕ → List ℕ) (ws : List (List ℕ)) (l k : ℕ) → l < 32
     → bit_xor (linear_sbox (block_byte f (get_or SHIFTED_OUT l 0) k)) (bit_xor (key_byte ws (l % 16)) 0x63)
     ≡ get_or (add_round_key ws 0 (shift_rows (sub_bytes (f (l / 16 * 8 + k))))) (l % 16) 0
@@ -171,7 +171,7 @@ last_value f ws l k hl =
     (ap (λ (m : ℕ). get_or (get_or ws (m / 4) []) (m % 4) 0) same)
     ∙ sym (added_byte ws (shift_rows (sub_bytes b)) (l % 16) hi)
 
--- the blocks of the other 16 lanes
+-- lanes 16 to 31 hold the bytes of the blocks from 8 on
 pub second_block : (f : ℕ → List ℕ) (l k : ℕ) → l < 16
     → block_byte f (16 + l) k ≡ block_byte (λ q. f (8 + q)) l k
 second_block f l k hl =
@@ -180,13 +180,13 @@ second_block f l k hl =
     ap₂ (λ (q i : ℕ). get_or (f q) i 0) block at
 
 -- ---- keys
--- planes of blocks hold equal blocks
+-- planes that hold blocks hold equal blocks
 pub same_blocks : {n : ℕ} (p : List (List ℕ)) (f g : ℕ → List ℕ) → ((q : ℕ) → f q ≡ g q) → HoldsLanes n p (block_byte f)
     → HoldsLanes n p (block_byte g)
 same_blocks p f g same held =
     same_bytes p held (λ l k hl hk. ap (λ b. get_or b (spot l) 0) (same (l / 16 * 8 + k)))
 
--- a byte after the first AddRoundKey
+-- the byte of a block plus that of round key 0 is the byte after the first AddRoundKey
 pub first_value : (f : ℕ → List ℕ) (ws : List (List ℕ)) (l k : ℕ)
     → bit_xor (block_byte f l k) (word_byte ws 0 (spot l)) ≡ block_byte (λ q. add_round_key ws 0 (f q)) l k
 first_value f ws l k =
@@ -210,12 +210,12 @@ pub dropped_last : (ws : List (List ℕ)) (n l : ℕ)
     → masked_byte ws n (l % 16) ≡ bit_xor (key_byte (drop (4 * n) ws) (l % 16)) 0x63
 dropped_last ws n l = ap (λ b. bit_xor b 0x63) (dropped ws n (l % 16) (omega arith))
 
--- words that begin with the schedule
+-- words that begin with the schedule have the bytes of its round keys
 word_same : (ws : List (List ℕ)) (key : List ℕ) (n i : ℕ) → HasSchedule ws key → n ≤ round_count key → i < 16
     → word_byte ws n i ≡ word_byte (schedule key) n i
 word_same ws key n i has h l = ap (λ w. get_or w (i % 4) 0) (has (4 * n + i / 4) (omega arith))
 
--- planes of such words are those of the schedule
+-- planes of the round keys of such words are planes of the round keys of the schedule
 pub ready_same_planes : (keys : List (List ℕ)) (ws : List (List ℕ)) (key : List ℕ) (last : ℕ)
     → last ≡ round_count key → HasSchedule ws key → AreReady keys ws last → AreReady keys (schedule key) (round_count key)
 ready_same_planes keys ws key last e has ready = subst (λ n. AreReady keys (schedule key) n) e (record {

@@ -62,16 +62,16 @@ back_computed : all_below (λ x. (get_or INVERSE_SBOX (get_or SBOX x 0) 0 == x) 
     256 ≡ true
 back_computed = refl
 
--- the inverse of the S-box
+-- the inverse of the S-box, from its table
 pub unsbox : ℕ → ℕ
 unsbox y = get_or INVERSE_SBOX y 0
 
--- it is the table
+-- `unsbox` is the entry of the inverse table
 pub unsbox_is : (y : ℕ) → unsbox y ≡ get_or INVERSE_SBOX y 0
 unfolding unsbox
 unsbox_is y = refl
 
--- it gives bytes
+-- `unsbox` of a byte is a byte
 pub unsbox_small : (y : ℕ) → y < 256 → unsbox y < 256
 unfolding unsbox
 unsbox_small y h = ltb-true (get_or INVERSE_SBOX y 0) 256
@@ -79,7 +79,7 @@ unsbox_small y h = ltb-true (get_or INVERSE_SBOX y 0) 256
     (all_below_at (λ y. (get_or SBOX (get_or INVERSE_SBOX y 0) 0 == y) && ltb (get_or INVERSE_SBOX y 0) 256)
     256 y onto_computed h)).1
 
--- the S-box undoes it
+-- the S-box undoes `unsbox`
 pub sbox_unsbox : (y : ℕ) → y < 256 → sbox (unsbox y) ≡ y
 unfolding unsbox
 sbox_unsbox y h =
@@ -89,7 +89,7 @@ sbox_unsbox y h =
     (all_below_at (λ y. (get_or SBOX (get_or INVERSE_SBOX y 0) 0 == y) && ltb (get_or INVERSE_SBOX y 0) 256)
     256 y onto_computed h)).0
 
--- the inverse table at an entry of the S-box
+-- the inverse table undoes the S-box's table, whose entries are bytes
 back_parts : (x : ℕ) → x < 256 → (get_or INVERSE_SBOX (get_or SBOX x 0) 0 ≡ x) × (get_or SBOX x 0 < 256)
 back_parts x h =
     let both = and_parts (get_or INVERSE_SBOX (get_or SBOX x 0) 0 == x) (ltb (get_or SBOX x 0) 256)
@@ -97,11 +97,11 @@ back_parts x h =
     back_computed h) in
     (eqb-true (get_or INVERSE_SBOX (get_or SBOX x 0) 0) x both.0, ltb-true (get_or SBOX x 0) 256 both.1)
 
--- the S-box gives bytes
+-- the S-box of a byte is a byte
 pub sbox_small : (x : ℕ) → x < 256 → sbox x < 256
 sbox_small x h = rw (← (sbox_at x h)) (back_parts x h).1
 
--- it undoes the S-box
+-- `unsbox` undoes the S-box
 pub unsbox_sbox : (x : ℕ) → x < 256 → unsbox (sbox x) ≡ x
 unfolding unsbox
 unsbox_sbox x h = ap (λ y. get_or INVERSE_SBOX y 0) (sym (sbox_at x h)) ∙ (back_parts x h).0
@@ -115,13 +115,13 @@ pub sub_block : (s : List ℕ) → IsBlock s → IsBlock (sub_bytes s)
 unfolding sub_bytes
 sub_block s b = grid_block (λ r c. sbox (at s r c)) (λ r c hr hc. sbox_small (at s r c) (b.bytes (r + 4 * c)))
 
--- SubBytes undone gives a block
+-- `unsub` gives a block
 pub unsub_block : (s : List ℕ) → IsBlock s → IsBlock (unsub s)
 unfolding unsub
 unsub_block s b = grid_block (λ r c. unsbox (at s r c))
     (λ r c hr hc. unsbox_small (at s r c) (b.bytes (r + 4 * c)))
 
--- SubBytes after SubBytes undone
+-- SubBytes undoes `unsub`
 pub sub_unsub : (s : List ℕ) → IsBlock s → sub_bytes (unsub s) ≡ s
 unfolding sub_bytes unsub
 sub_unsub s b =
@@ -129,7 +129,7 @@ sub_unsub s b =
     (λ r c hr hc. ap sbox (at_grid (λ r c. unsbox (at s r c)) r c hr hc)
     ∙ sbox_unsbox (at s r c) (b.bytes (r + 4 * c)))
 
--- SubBytes undone after SubBytes
+-- `unsub` undoes SubBytes
 pub unsub_sub : (s : List ℕ) → IsBlock s → unsub (sub_bytes s) ≡ s
 unfolding sub_bytes unsub
 unsub_sub s b =
@@ -146,13 +146,13 @@ pub shift_block : (s : List ℕ) → IsBlock s → IsBlock (shift_rows s)
 unfolding shift_rows
 shift_block s b = grid_block (λ r c. at s r ((c + r) % 4)) (λ r c hr hc. b.bytes (r + 4 * ((c + r) % 4)))
 
--- ShiftRows undone gives a block
+-- `unshift` gives a block
 pub unshift_block : (s : List ℕ) → IsBlock s → IsBlock (unshift s)
 unfolding unshift
 unshift_block s b = grid_block (λ r c. at s r ((c + (4 - r)) % 4))
     (λ r c hr hc. b.bytes (r + 4 * ((c + (4 - r)) % 4)))
 
--- ShiftRows after ShiftRows undone
+-- ShiftRows undoes `unshift`
 pub shift_unshift : (s : List ℕ) → IsBlock s → shift_rows (unshift s) ≡ s
 unfolding shift_rows unshift
 shift_unshift s b =
@@ -161,7 +161,7 @@ shift_unshift s b =
     let back : ((c + r) % 4 + (4 - r)) % 4 ≡ c = omega arith in
     at_grid (λ r c. at s r ((c + (4 - r)) % 4)) r ((c + r) % 4) hr (omega arith) ∙ ap (at s r) back)
 
--- ShiftRows undone after ShiftRows
+-- `unshift` undoes ShiftRows
 pub unshift_shift : (s : List ℕ) → IsBlock s → unshift (shift_rows s) ≡ s
 unfolding shift_rows unshift
 unshift_shift s b =
@@ -178,19 +178,19 @@ times_small x y =
     let short : length p ≤ 8 = length_residue modulus (product (bits x) (bits y)) in
     lt_of_lt_of_le (number_lt p) (pow_mono short)
 
--- a dot product is a byte
+-- a dot product of bytes is a byte
 pub dot_small : (u v : List ℕ) → dot u v < 256
 dot_small [] v = omega arith
 dot_small (x ∷ u) [] = omega arith
 dot_small (x ∷ u) (y ∷ v) = xor_of_8 (times x y) (dot u v) (times_small x y) (dot_small u v)
 
--- the rows of a product are bytes
+-- every item of the product of a matrix and a column is a byte
 row_small : (us : List (List ℕ)) (v : List ℕ) (r : ℕ) → get_or (map (λ u. dot u v) us) r 0 < 256
 row_small [] v r = omega arith
 row_small (u ∷ us) v zero = dot_small u v
 row_small (u ∷ us) v (suc r) = row_small us v r
 
--- an item of a column
+-- item r of a column is the byte in row r
 column_at : (s : List ℕ) (r c : ℕ) → r < 4 → get_or (column s c) r 0 ≡ at s r c
 column_at s zero c h = refl
 column_at s (suc zero) c h = refl
@@ -198,7 +198,7 @@ column_at s (suc (suc zero)) c h = refl
 column_at s (suc (suc (suc zero))) c h = refl
 column_at s (suc (suc (suc (suc r)))) c h = absurd (omega arith)
 
--- MixColumns undone
+-- the inverse of MixColumns
 pub unmix : List ℕ → List ℕ
 unmix s = grid (λ r c. get_or (unmix_column (column s c)) r 0)
 
@@ -208,34 +208,34 @@ unfolding mix_columns mix_column
 mix_block s = grid_block (λ r c. get_or (mix_column (column s c)) r 0)
     (λ r c hr hc. row_small matrix (column s c) r)
 
--- the rows of the inverse product are bytes
+-- every item of `unmix_column` is a byte
 inverse_row_small : (v : List ℕ) (r : ℕ) → get_or (unmix_column v) r 0 < 256
 inverse_row_small v r = rw (unmix_column_is v) (row_small inverse_matrix v r)
 
--- MixColumns undone gives a block
+-- `unmix` gives a block
 pub unmix_block : (s : List ℕ) → IsBlock (unmix s)
 unfolding unmix
 unmix_block s = grid_block (λ r c. get_or (unmix_column (column s c)) r 0)
     (λ r c hr hc. inverse_row_small (column s c) r)
 
--- the column of a grid
+-- a column of a grid has the grid's values
 column_grid : (f : ℕ → ℕ → ℕ) (c : ℕ) → c < 4 → column (grid f) c ≡ f 0 c ∷ f 1 c ∷ f 2 c ∷ f 3 c ∷ []
 column_grid f c h =
     four (at_grid f 0 c (omega arith) h) (at_grid f 1 c (omega arith) h) (at_grid f 2 c (omega arith) h)
     (at_grid f 3 c (omega arith) h)
 
--- a column after MixColumns
+-- a column after MixColumns is the product of the matrix and the column
 column_mix : (s : List ℕ) (c : ℕ) → c < 4 → column (mix_columns s) c ≡ mix_column (column s c)
 unfolding mix_columns mix_column
 column_mix s c h = column_grid (λ r c. get_or (mix_column (column s c)) r 0) c h
 
--- a column after MixColumns undone
+-- a column after `unmix` is the product of the inverse matrix and the column
 column_unmix : (s : List ℕ) (c : ℕ) → c < 4 → column (unmix s) c ≡ unmix_column (column s c)
 unfolding unmix
 column_unmix s c h =
     column_grid (λ r c. get_or (unmix_column (column s c)) r 0) c h ∙ unmix_column_whole (column s c)
 
--- MixColumns after MixColumns undone
+-- MixColumns undoes `unmix`
 pub mix_unmix_block : (s : List ℕ) → IsBlock s → mix_columns (unmix s) ≡ s
 unfolding mix_columns
 mix_unmix_block s b =
@@ -247,7 +247,7 @@ mix_unmix_block s b =
     (b.bytes (2 + 4 * c)) (b.bytes (3 + 4 * c)))
     ∙ column_at s r c hr)
 
--- MixColumns undone after MixColumns
+-- `unmix` undoes MixColumns
 pub unmix_mix_block : (s : List ℕ) → IsBlock s → unmix (mix_columns s) ≡ s
 unfolding unmix
 unmix_mix_block s b =
@@ -284,11 +284,11 @@ add_block ws n s small b =
     (λ r c hr hc. xor_of_8 (at s r c) (get_or (get_or ws (4 * n + c) []) r 0) (b.bytes (r + 4 * c))
     (small (4 * n + c) r))
 
--- sixteen places of a block, written out
+-- the grid of the sixteen bytes of a block is the block
 pub sixteen : (s : List ℕ) → length s ≡ 16 → grid (at s) ≡ s
 sixteen s long = grid_of (at s) s long (λ r c hr hc. refl)
 
--- a list of four items by its items
+-- a list of four items consists of its items
 pub quad : (a : List ℕ) → length a ≡ 4 → get_or a 0 0 ∷ get_or a 1 0 ∷ get_or a 2 0 ∷ get_or a 3 0 ∷ [] ≡ a
 quad [] h = absurd (omega arith)
 quad (a ∷ []) h = absurd (omega arith)

@@ -1,4 +1,4 @@
--- Streams of counting blocks, one piece after the other.
+-- The steps of the counter streams, one piece after the other.
 use Rattle.std.proofs.Common.{◌≡◌, ℕ, ◌+◌, ◌-◌, ◌*◌, ◌/◌, ◌%◌, zero, suc, ◌^◌, ◌<◌, ◌≤◌, List, [], ◌++◌}
 use Rattle.std.proofs.Common.{length, take, drop, get_or, append_assoc, refl, sym, ap, ap₂, subst, ◌∙◌, arith, take-add}
 use Rattle.std.proofs.Common.{add-zero}
@@ -21,7 +21,7 @@ use Rattle.aes.specs.Code.Planes.{AreMasks}
 use Rattle.aes.specs.Code.Streams.{Makes, Advances, AdvancesFront}
 use Rattle.aes.specs.declared.counter.Counter.{Counter}
 
--- the number in the last four bytes, counted on and written over them
+-- writing the number in the last four bytes plus j back over them is j steps of the counter
 pub up_be_written : (b ys : List ℕ) (n j : ℕ) → length b ≡ 16 → n ≡ big_number 4 (take 4 (drop 12 b))
     → ys ≡ big_bytes 4 ((n + j) % 2 ^ 32) ++ drop 4 (take 4 (drop 12 b)) → put_mid 12 4 b ys ≡ up_be b j
 unfolding up_be
@@ -38,7 +38,7 @@ up_be_written b ys n j long read written =
     ∙ ap (λ (x : ℕ). big_bytes 4 ((x + j) % 2 ^ 32)) number in
     ap (λ x. take 12 b ++ x) (ap (λ x. ys ++ x) none ∙ append-nil ys ∙ bytes)
 
--- the number in the first four bytes, counted on and written over them
+-- writing the number in the first four bytes plus j back over them is j steps of the counter
 pub up_le_written : (b : List ℕ) (n j : ℕ) → length b ≡ 16 → n ≡ little_number 4 b
     → little_bytes 4 ((n + j) % 2 ^ 32) ++ drop 4 b ≡ up_le b j
 unfolding up_le
@@ -46,7 +46,7 @@ up_le_written b n j long read =
     let number : n ≡ le (take 4 b) = read ∙ little_number_is 4 b (omega arith) in
     ap (λ (x : ℕ). little_bytes 4 ((x + j) % 2 ^ 32) ++ drop 4 b) number
 
--- the XOR with a part of the cipher of one block
+-- XORing in a part of the cipher of one block masks the bytes at their place in the stream
 block_masked : (up : List ℕ → ℕ → List ℕ) (key first mask xs : List ℕ) (made used n : ℕ)
     → mask ≡ cipher key (up first (made / 16)) → used ≡ made % 16 → used + length xs ≤ 16 → length mask ≡ 16
     → n ≡ length xs
@@ -63,7 +63,7 @@ block_masked up key first mask xs made used n is place room long size =
     ∙ ap (λ m. get_or m (used + i) 0) is
     ∙ sym (ap₂ (λ (q r : ℕ). get_or (cipher key (up first q)) r 0) block byte))
 
--- some bytes of the block begun
+-- if the bytes fit in the block that is begun, XORing in the next ones of its cipher advances the stream
 pub went_on : {C : Type 0} (up : List ℕ → ℕ → List ℕ) (key : List ℕ) (s t : Counter C) (xs ys : List ℕ) (n : ℕ)
     → t.first ≡ s.first → t.block_count ≡ s.block_count → t.mask ≡ s.mask
     → t.used ≡ (s.used + length xs) % 16
@@ -85,7 +85,7 @@ went_on up key s t xs ys n first_stays count_stays mask_stays used_rises some ro
       xored ∙ block_masked up key first s.mask xs made s.used n mask place room long size,
     )
 
--- four blocks one after the other
+-- the four blocks of four lists of 16 bytes, joined, are these lists
 pub joined_blocks : (a b c d m : List ℕ) (f : ℕ → List ℕ) → length a ≡ 16 → length b ≡ 16 → length c ≡ 16
     → length d ≡ 16 → m ≡ a ++ (b ++ (c ++ d))
     → a ≡ f 0 → b ≡ f 1 → c ≡ f 2 → d ≡ f 3 → (q : ℕ) → q < 4 → block_at m q ≡ f q
@@ -105,7 +105,7 @@ joined_blocks a b c d m f ha hb hc hd is ea eb ec ed (suc (suc (suc zero))) h =
     ∙ take_all 16 d (omega arith) ∙ ed
 joined_blocks a b c d m f ha hb hc hd is ea eb ec ed (suc (suc (suc (suc q)))) h = absurd (omega arith)
 
--- the first bytes of the next blocks
+-- if no block is begun, XORing in the first bytes of the ciphers of the next blocks advances the stream
 pub began : {C : Type 0} (up : List ℕ → ℕ → List ℕ) (key : List ℕ) (s t : Counter C) (masks xs ys : List ℕ)
     → WrapsAround up
     → t.first ≡ s.first → t.block_count ≡ (s.block_count + (length xs + 15) / 16) % 2 ^ 32
@@ -150,7 +150,7 @@ began up key s t masks xs ys wraps first_stays counted used_is none room whole k
           ∙ sym (ap₂ (λ (b r : ℕ). get_or (cipher key (up first b)) r 0) block byte)),
     )
 
--- four blocks, and those after them
+-- the blocks of 64 bytes and of others after them are the first four blocks and then the others
 pub joined_after : (a x : List ℕ) (f : ℕ → List ℕ) (n : ℕ) → length a ≡ 64 → ((q : ℕ) → q < 4 → block_at a q ≡ f q)
     → ((q : ℕ) → q < n → block_at x q ≡ f (4 + q)) → (q : ℕ) → q < 4 + n → block_at (a ++ x) q ≡ f q
 joined_after a x f n long front back zero h = block_at-append a x 0 (omega (arith, long)) ∙ front 0 (omega arith)
@@ -166,7 +166,7 @@ joined_after a x f n long front back (suc (suc (suc (suc q)))) h =
     ap (block_at (a ++ x)) next ∙ ap (λ (i : ℕ). take 16 (drop i (a ++ x))) place ∙ ap (take 16) (sym (drop-drop (q * 16) 64 (a ++ x)))
     ∙ ap (λ l. take 16 (drop (q * 16) l)) (drop_at a x 64 long) ∙ back q (omega (arith, h)) ∙ ap f (sym next)
 
--- sixteen blocks, four after four
+-- the blocks of four lists of 64 bytes, joined, are the sixteen blocks of these lists
 pub joined_fours : (a b c d : List ℕ) (f : ℕ → List ℕ) → length a ≡ 64 → length b ≡ 64 → length c ≡ 64
     → ((q : ℕ) → q < 4 → block_at a q ≡ f q) → ((q : ℕ) → q < 4 → block_at b q ≡ f (4 + q))
     → ((q : ℕ) → q < 4 → block_at c q ≡ f (8 + q)) → ((q : ℕ) → q < 4 → block_at d q ≡ f (12 + q))
@@ -178,12 +178,12 @@ joined_fours a b c d f la lb lc fa fb fc fd q h =
     (joined_after c d (λ k. f (4 + (4 + k))) 4 lc (λ k l. fc k l ∙ ap f (omega arith))
     (λ k l. fd k l ∙ ap f (omega arith)))) q h
 
--- no bytes
+-- a stream advances over no bytes by doing nothing
 pub advances-nil : {C : Type 0} (up : List ℕ → ℕ → List ℕ) (key : List ℕ) (s : Counter C) → Advances up key s s [] []
 unfolding masked
 advances-nil up key s = λ first made held. (subst (Makes up s key first) (sym (add-zero made)) held, refl)
 
--- one piece and then another
+-- if a stream advances over one piece and then another, it advances over both joined
 pub advances-append : {C : Type 0} (up : List ℕ → ℕ → List ℕ) (key : List ℕ) (s t u : Counter C) (a x b y : List ℕ)
     → Advances up key s t a x → Advances up key t u b y → Advances up key s u (a ++ b) (x ++ y)
 advances-append up key s t u a x b y front back = λ first made held.
@@ -194,7 +194,7 @@ advances-append up key s t u a x b y front back = λ first made held.
       ap₂ (λ (v w : List ℕ). v ++ w) one.1 two.1 ∙ sym (masked-append (counter_byte up key first) made a b),
     )
 
--- a piece more, written from place a on
+-- if a stream advanced over the first a bytes, and then over k bytes that are written after them, it advanced over a + k bytes
 pub advances_more : {C : Type 0} (up : List ℕ → ℕ → List ℕ) (key : List ℕ) (s t u : Counter C) (was mid ys : List ℕ)
     (a k b : ℕ)
     → a + k ≤ length mid → a + k ≡ b → length ys ≡ k → drop a mid ≡ drop a was
@@ -212,12 +212,12 @@ advances_more up key s t u was mid ys a k b room sum size rest front back =
     let joined = advances-append up key s t u (take a was) (take a mid) (take k (drop a mid)) ys front back in
     (rw (now, old) joined, left)
 
--- the last piece
+-- if a stream advanced over the first b bytes, and there are no others, it advanced over all
 pub advances_all : {C : Type 0} (up : List ℕ → ℕ → List ℕ) (key : List ℕ) (s t : Counter C) (was now : List ℕ) (b : ℕ)
     → length was ≤ b → length now ≤ b → Advances up key s t (take b was) (take b now) → Advances up key s t was now
 advances_all up key s t was now b h k all = rw (take_all b was h, take_all b now k) at all
 
--- the rest of a block, and then all that is left
+-- if a stream advanced over the rest of a block, and then over all that was left, it advanced over all
 pub advances_two : {C : Type 0} (up : List ℕ → ℕ → List ℕ) (key : List ℕ) (s t u : Counter C) (was begun ys : List ℕ) (h : ℕ)
     → h ≤ length was → length begun ≡ h
     → length ys ≡ length (take (length (begun ++ drop h was) - h) (drop h (begun ++ drop h was)))
@@ -237,7 +237,7 @@ advances_two up key s t u was begun ys h within size same front back =
     advances_all up key s u was (put_mid h k mid ys) (length was) (omega arith)
     (omega (arith, length-put_mid h k mid ys (omega arith) (same ∙ part))) more.0
 
--- no bytes at all
+-- a stream with no block begun has advanced over the first 0 bytes
 pub front_none : {C : Type 0} (up : List ℕ → ℕ → List ℕ) (key : List ℕ) (s : Counter C) (was : List ℕ) → s.used ≡ 0
     → AdvancesFront up key s s was was 0
 front_none up key s was none = record {
@@ -247,7 +247,7 @@ front_none up key s was none = record {
   front = advances-nil up key s;
 }
 
--- a piece more of the bytes, written from place a on
+-- if a stream advanced over the first a bytes, and then over k bytes that are written after them, it advanced over the first b
 pub front_more : {C : Type 0} (up : List ℕ → ℕ → List ℕ) (key : List ℕ) (s t u : Counter C) (was mid ys : List ℕ) (a k b : ℕ)
     → length mid ≡ length was → AdvancesFront up key s t was mid a → a + k ≤ length mid → a + k ≡ b → length ys ≡ k
     → Advances up key t u (take k (drop a mid)) ys → (b < length mid → u.used ≡ 0)
@@ -261,7 +261,7 @@ front_more up key s t u was mid ys a k b same begun room sum size more none =
       front = both.0;
     }
 
--- the first bytes of all that is left, written from place a on
+-- if a stream advanced over the first a bytes, and then over the first r of all the others, it advanced over the first a + r
 pub front_then : {C : Type 0} (up : List ℕ → ℕ → List ℕ) (key : List ℕ) (s t u : Counter C) (was mid ys : List ℕ) (a k r : ℕ)
     → length mid ≡ length was → AdvancesFront up key s t was mid a → k ≡ length mid - a → length ys ≡ k
     → AdvancesFront up key t u (take k (drop a mid)) ys r → AdvancesFront up key s u was (put_mid a k mid ys) (a + r)
@@ -288,7 +288,7 @@ front_then up key s t u was mid ys a k r same begun whole size more =
           (take r ys) begun.front more.front);
     }
 
--- all bytes
+-- if a stream advanced over the first n bytes, and there are no others, it advanced over all
 pub front_all : {C : Type 0} (up : List ℕ → ℕ → List ℕ) (key : List ℕ) (s t : Counter C) (was now : List ℕ) (n : ℕ)
     → length now ≡ length was → AdvancesFront up key s t was now n → length was ≤ n → Advances up key s t was now
 front_all up key s t was now n same begun all =

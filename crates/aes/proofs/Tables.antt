@@ -1,4 +1,4 @@
--- Tables, and that they are the definitions at every entry.
+-- The tables have the values of the definitions at every entry.
 use Rattle.std.proofs.Common.{◌≡◌, ℕ, zero, suc, ◌+◌, ◌<◌, Bool, true, ◌&&◌, ◌==◌, cond, List, [], ◌∷◌}
 use Rattle.std.proofs.Common.{get_or, inl, inr, refl, sym, ap, ◌∙◌, arith, position, unwrap_or, ltb, nat_lt}
 use Rattle.std.proofs.Common.{Some, None, ne_of_lt, lt-ltb, ltb-true, add-one, zero-add}
@@ -14,7 +14,7 @@ use Rattle.aes.proofs.Sums.{zero_times}
 use Rattle.aes.proofs.Multiples.{times_one, product_of, times_is}
 use Rattle.aes.specs.declared.sbox.TheConstants.{SBOX}
 
--- the inverses
+-- the inverse of each byte, and 0 for 0
 abbrev pub inverses : List ℕ
 inverses =
     0x00 ∷ 0x01 ∷ 0x8d ∷ 0xf6 ∷ 0xcb ∷ 0x52 ∷ 0x7b ∷ 0xd1 ∷ 0xe8 ∷ 0x4f ∷ 0x29 ∷ 0xc0 ∷ 0xb0 ∷ 0xe1 ∷ 0xe5
@@ -50,7 +50,7 @@ inverses =
     0x5b ∷ 0x23 ∷ 0x38 ∷ 0x34 ∷ 0x68 ∷ 0x46 ∷ 0x03 ∷ 0x8c ∷ 0xdd ∷ 0x9c ∷ 0x7d ∷ 0xa0 ∷ 0xcd ∷ 0x1a ∷ 0x41
     ∷ 0x1c ∷ []
 
--- ---- computed
+-- ---- tests at each entry
 inverses_computed : all_below
     (λ x. (product_of 8 (x + 1) (get_or inverses (x + 1) 0) == 1) && ltb (get_or inverses (x + 1) 0) 256) 255
     ≡ true
@@ -62,8 +62,8 @@ affine_computed : all_below (λ x. get_or SBOX x 0 == affine (get_or inverses x 
 unfolding affine
 affine_computed = refl
 
--- ---- at each entry
--- no two bytes invert one
+-- ---- the tables at each entry
+-- two bytes whose products with x are 1 are equal
 pub inverse_unique : (x y z : ℕ) → y < 256 → z < 256 → times x y ≡ 1 → times x z ≡ 1 → z ≡ y
 inverse_unique x y z hy hz ey ez =
     sym (times_one z hz) ∙ ap (times z) (sym ey) ∙ times_swap z x y ∙ ap (times y) ez ∙ times_one y hy
@@ -79,7 +79,7 @@ position_only t y h here only =
     (λ l. ap t (get_or-range_with_len 0 256 y 0 h ∙ zero-add y) ∙ here) in
     ap (λ n. cond (nat_lt n 256) (Some n) None) at ∙ ap (λ b. cond b (Some y) None) (lt-ltb y 256 h)
 
--- at a byte other than 0
+-- at every byte but 0, the inverse is the entry of the table, a byte whose product with the byte is 1
 inverse_at : (x : ℕ) → x < 255
     → (inverse (suc x) ≡ get_or inverses (suc x) 0) × (get_or inverses (suc x) 0 < 256)
     × (times (suc x) (get_or inverses (suc x) 0) ≡ 1)
@@ -105,19 +105,19 @@ unfolding inverse
 inverse_zero =
     ap (λ t. unwrap_or (position t (range_with_len 0 256)) 0) (fun_ext (λ y. ap (λ n. n == 1) (zero_times y)))
 
--- the inverse is the table of inverses
+-- the inverse of a byte is the entry of the table
 pub inverse_is : (x : ℕ) → x < 256 → inverse x ≡ get_or inverses x 0
 inverse_is zero h = inverse_zero
 inverse_is (suc x) h = (inverse_at x (omega arith)).0
 
--- the inverse is as the standard says
+-- the inverse of a byte is the only byte whose product with it is 1, or 0 for 0
 pub inverse_law : (x : ℕ) → x < 256 → IsInverse x (inverse x)
 inverse_law zero h = inl (refl, inverse_zero)
 inverse_law (suc x) h =
     let at = inverse_at x (omega arith) in
     rw at.0 (inr (at.1, at.2, λ z l e. inverse_unique (suc x) (get_or inverses (suc x) 0) z at.1 l at.2 e))
 
--- the S-box is its table
+-- the entry of SBOX at a byte is the S-box of the byte
 pub sbox_at : (x : ℕ) → x < 256 → get_or SBOX x 0 ≡ sbox x
 unfolding sbox
 sbox_at x h =

@@ -8,12 +8,12 @@ use Rattle.aes.proofs.Small.{all_small}
 use Rattle.aes.proofs.Computed.{words_by_table, schedule_by_table, sub_by_table, mix_by_doubling}
 use Rattle.aes.proofs.Computed.{rounds_computed, cipher_computed, cipher_is_computed}
 
--- the block of all three
+-- the block of all three vectors
 unfoldable pub text : List ℕ
 text = 0x00 ∷ 0x11 ∷ 0x22 ∷ 0x33 ∷ 0x44 ∷ 0x55 ∷ 0x66 ∷ 0x77 ∷ 0x88 ∷ 0x99 ∷ 0xaa ∷ 0xbb ∷ 0xcc ∷ 0xdd ∷ 0xee
     ∷ 0xff ∷ []
 
--- it is a block
+-- the text is a block
 text_block : IsBlock text
 unfolding text
 text_block = record { length_is = refl; bytes = all_small text refl }
@@ -23,7 +23,7 @@ unfoldable pub key128 : List ℕ
 key128 = 0x00 ∷ 0x01 ∷ 0x02 ∷ 0x03 ∷ 0x04 ∷ 0x05 ∷ 0x06 ∷ 0x07 ∷ 0x08 ∷ 0x09 ∷ 0x0a ∷ 0x0b ∷ 0x0c ∷ 0x0d
     ∷ 0x0e ∷ 0x0f ∷ []
 
--- the words of its schedule
+-- the words of the schedule of the 16-byte key
 unfoldable pub words128 : List (List ℕ)
 words128 =
     (0x00 ∷ 0x01 ∷ 0x02 ∷ 0x03 ∷ []) ∷ (0x04 ∷ 0x05 ∷ 0x06 ∷ 0x07 ∷ []) ∷
@@ -49,17 +49,17 @@ words128 =
     (0x13 ∷ 0x11 ∷ 0x1d ∷ 0x7f ∷ []) ∷ (0xe3 ∷ 0x94 ∷ 0x4a ∷ 0x17 ∷ []) ∷
     (0xf3 ∷ 0x07 ∷ 0xa7 ∷ 0x8b ∷ []) ∷ (0x4d ∷ 0x2b ∷ 0x30 ∷ 0xc5 ∷ []) ∷ []
 
--- as the definition makes them
+-- the schedule of this key, as the definition computes it, consists of these words
 pub schedule128 : schedule_by_table key128 ≡ words128
 unfolding key128 words128 words_by_table xor_word rcon residue
 schedule128 = refl
 
--- it is a key
+-- these 16 bytes are a key of AES
 pub is_key128 : IsKey key128
 unfolding key128
 is_key128 = record { length_is = inl refl; bytes = all_small key128 refl }
 
--- the cipher of the block
+-- the definition computes this cipher of the block
 cipher128 : cipher key128 text
     ≡ 0x69 ∷ 0xc4 ∷ 0xe0 ∷ 0xd8 ∷ 0x6a ∷ 0x7b ∷ 0x04 ∷ 0x30 ∷ 0xd8 ∷ 0xcd ∷ 0xb7 ∷ 0x80 ∷ 0x70 ∷ 0xb4 ∷ 0xc5
     ∷ 0x5a ∷ []
@@ -72,7 +72,7 @@ unfoldable pub key192 : List ℕ
 key192 = 0x00 ∷ 0x01 ∷ 0x02 ∷ 0x03 ∷ 0x04 ∷ 0x05 ∷ 0x06 ∷ 0x07 ∷ 0x08 ∷ 0x09 ∷ 0x0a ∷ 0x0b ∷ 0x0c ∷ 0x0d
     ∷ 0x0e ∷ 0x0f ∷ 0x10 ∷ 0x11 ∷ 0x12 ∷ 0x13 ∷ 0x14 ∷ 0x15 ∷ 0x16 ∷ 0x17 ∷ []
 
--- the words of its schedule
+-- the words of the schedule of the 24-byte key
 unfoldable pub words192 : List (List ℕ)
 words192 =
     (0x00 ∷ 0x01 ∷ 0x02 ∷ 0x03 ∷ []) ∷ (0x04 ∷ 0x05 ∷ 0x06 ∷ 0x07 ∷ []) ∷
@@ -102,17 +102,17 @@ words192 =
     (0xa4 ∷ 0x97 ∷ 0x0a ∷ 0x33 ∷ []) ∷ (0x1a ∷ 0x78 ∷ 0xdc ∷ 0x09 ∷ []) ∷
     (0xc4 ∷ 0x18 ∷ 0xc2 ∷ 0x71 ∷ []) ∷ (0xe3 ∷ 0xa4 ∷ 0x1d ∷ 0x5d ∷ []) ∷ []
 
--- as the definition makes them
+-- the schedule of this key, as the definition computes it, consists of these words
 pub schedule192 : schedule_by_table key192 ≡ words192
 unfolding key192 words192 words_by_table xor_word rcon residue
 schedule192 = refl
 
--- it is a key
+-- these 24 bytes are a key of AES
 pub is_key192 : IsKey key192
 unfolding key192
 is_key192 = record { length_is = inr (inl refl); bytes = all_small key192 refl }
 
--- the cipher of the block
+-- the definition computes this cipher of the block
 cipher192 : cipher key192 text
     ≡ 0xdd ∷ 0xa9 ∷ 0x7c ∷ 0xa4 ∷ 0x86 ∷ 0x4c ∷ 0xdf ∷ 0xe0 ∷ 0x6e ∷ 0xaf ∷ 0x70 ∷ 0xa0 ∷ 0xec ∷ 0x0d ∷ 0x71
     ∷ 0x91 ∷ []
@@ -126,7 +126,7 @@ key256 = 0x00 ∷ 0x01 ∷ 0x02 ∷ 0x03 ∷ 0x04 ∷ 0x05 ∷ 0x06 ∷ 0x07 ∷
     ∷ 0x0e ∷ 0x0f ∷ 0x10 ∷ 0x11 ∷ 0x12 ∷ 0x13 ∷ 0x14 ∷ 0x15 ∷ 0x16 ∷ 0x17 ∷ 0x18 ∷ 0x19 ∷ 0x1a ∷ 0x1b ∷ 0x1c
     ∷ 0x1d ∷ 0x1e ∷ 0x1f ∷ []
 
--- the words of its schedule
+-- the words of the schedule of the 32-byte key
 unfoldable pub words256 : List (List ℕ)
 words256 =
     (0x00 ∷ 0x01 ∷ 0x02 ∷ 0x03 ∷ []) ∷ (0x04 ∷ 0x05 ∷ 0x06 ∷ 0x07 ∷ []) ∷
@@ -160,17 +160,17 @@ words256 =
     (0x24 ∷ 0xfc ∷ 0x79 ∷ 0xcc ∷ []) ∷ (0xbf ∷ 0x09 ∷ 0x79 ∷ 0xe9 ∷ []) ∷
     (0x37 ∷ 0x1a ∷ 0xc2 ∷ 0x3c ∷ []) ∷ (0x6d ∷ 0x68 ∷ 0xde ∷ 0x36 ∷ []) ∷ []
 
--- as the definition makes them
+-- the schedule of this key, as the definition computes it, consists of these words
 pub schedule256 : schedule_by_table key256 ≡ words256
 unfolding key256 words256 words_by_table xor_word rcon residue
 schedule256 = refl
 
--- it is a key
+-- these 32 bytes are a key of AES
 pub is_key256 : IsKey key256
 unfolding key256
 is_key256 = record { length_is = inr (inr refl); bytes = all_small key256 refl }
 
--- the cipher of the block
+-- the definition computes this cipher of the block
 cipher256 : cipher key256 text
     ≡ 0x8e ∷ 0xa2 ∷ 0xb7 ∷ 0xca ∷ 0x51 ∷ 0x67 ∷ 0x45 ∷ 0xbf ∷ 0xea ∷ 0xfc ∷ 0x49 ∷ 0x90 ∷ 0x4b ∷ 0x49 ∷ 0x60
     ∷ 0x89 ∷ []

@@ -14,7 +14,7 @@ use Rattle.aes.specs.Schedule.{rcon, round_count, MeetsRecurrence}
 use Rattle.aes.specs.Code.KeptWords.{table}
 use Rattle.aes.specs.Code.ExpandedKey.{key_of}
 
--- the number of words
+-- the first n words are n words
 pub length_words : (key : List ℕ) (n : ℕ) → length (words key n) ≡ n
 unfolding words
 length_words key zero = refl
@@ -26,7 +26,7 @@ length_words key (suc n) =
 abbrev pub word : List ℕ → ℕ → List ℕ
 word key k = next_word key (words key k) k
 
--- word k among the first n
+-- word k among the first n words is word k
 pub words_at : (key : List ℕ) (n k : ℕ) → k < n → get_or (words key n) k [] ≡ word key k
 unfolding words
 words_at key zero k h = absurd (omega arith)
@@ -40,7 +40,7 @@ words_at key (suc n) k h =
           get_or_push (words key n) (word key n) [] k (length_words key n ∙ e) ∙ ap (word key) e
     ]
 
--- a word below Nk is the key's
+-- a word before word Nk is the key's
 pub word_start : (key : List ℕ) (k : ℕ) → k < key_words key → word key k ≡ take 4 (drop (4 * k) key)
 unfolding next_word
 word_start key k h =
@@ -49,7 +49,7 @@ word_start key k h =
     (temp (key_words key) k (get_or (words key k) (k - 1) []))))
     (lt-ltb k (key_words key) h)
 
--- a word from Nk on, by the recurrence
+-- a word from word Nk on is the sum of the word Nk places back and temp
 pub word_rest : (key : List ℕ) (k : ℕ) → key_words key ≤ k → 0 < key_words key
     → word key k ≡ xor_word (word key (k - key_words key)) (temp (key_words key) k (word key (k - 1)))
 unfolding next_word
@@ -84,7 +84,7 @@ temp_other nk i t h no_fourth =
           no_fourth (eqb-true nk 8 p.0) (eqb-true (i % 8) 4 p.1)),
     ) refl
 
--- four places of a list
+-- four neighbouring items of a list are the items at their places
 pub take_four : (s : List ℕ) (n : ℕ) → n + 4 ≤ length s
     → take 4 (drop n s) ≡ get_or s n 0 ∷ get_or s (n + 1) 0 ∷ get_or s (n + 2) 0 ∷ get_or s (n + 3) 0 ∷ []
 take_four s n h =
@@ -97,7 +97,7 @@ take_four s n h =
     ap (take 2) (drop_more s (n + 2) 0 (omega arith) ∙ ap (λ i. get_or s (n + 2) 0 ∷ drop i s) up2)
     ∙ ap (λ x. get_or s (n + 2) 0 ∷ x) (ap (take 1) (drop_more s (n + 3) 0 (omega arith)))))
 
--- one more word written, each of which spells the column that f says
+-- if the first i words spell the columns of f, writing one that spells the next column makes i + 1 of them
 pub one_more_word : (f : ℕ → List ℕ) (ws : List ℕ) (i v : ℕ) → i < length ws
     → ((k : ℕ) → k < i → column_of (get_or ws k 0) ≡ f k) → column_of v ≡ f i → (k : ℕ) → k < i + 1
     → column_of (get_or (set ws i v) k 0) ≡ f k
@@ -107,7 +107,7 @@ one_more_word f ws i v h before e k l =
       | inr g ↦ ap column_of (get_or-set_other ws i k v 0 g) ∙ before k (omega arith)
     ]
 
--- and the words after it as they were
+-- writing word i leaves the words after it 0
 pub others_stay : (ws : List ℕ) (i v : ℕ)
     → ((k : ℕ) → i ≤ k → k < 60 → get_or ws k 0 ≡ 0) → (k : ℕ) → i + 1 ≤ k → k < 60
     → get_or (set ws i v) k 0 ≡ 0
@@ -115,7 +115,7 @@ others_stay ws i v after k h l =
     let other : k ≡ i → ⊥ = λ e. omega arith in
     get_or-set_other ws i k v 0 other ∙ after k (omega arith) l
 
--- words of 32 bits, one of them written
+-- writing a word of 32 bits leaves all words of 32 bits
 pub small_words : (ws : List ℕ) (i v : ℕ) → v < 2 ^ 32 → ((k : ℕ) → get_or ws k 0 < 2 ^ 32) → (k : ℕ)
     → get_or (set ws i v) k 0 < 2 ^ 32
 small_words [] i v h small k = small k
@@ -124,7 +124,7 @@ small_words (w ∷ ws) zero v h small (suc k) = small (suc k)
 small_words (w ∷ ws) (suc i) v h small zero = small zero
 small_words (w ∷ ws) (suc i) v h small (suc k) = small_words ws i v h (λ k. small (suc k)) k
 
--- sixty zero words
+-- each of sixty zero words has 32 bits
 pub zero_words : (k : ℕ) → get_or (replicate 60 0) k 0 < 2 ^ 32
 zero_words k =
     elim (cases_lt k 60) [
@@ -132,7 +132,7 @@ zero_words k =
       | inr g ↦ rw (get_or_past (replicate {A = ℕ} 60 0) k 0 g) (omega arith)
     ]
 
--- the words of a table
+-- the `table` of a key begins with its schedule
 pub table_start : (key : List ℕ) (k : ℕ) → k < 4 * (round_count key + 1)
     → get_or (table key) k [] ≡ get_or (schedule key) k []
 unfolding table
@@ -166,7 +166,7 @@ is_table ws key long short start after =
           ∙ get_or-replicate m (k - n) (replicate 4 0) [] (omega arith))
     ])
 
--- the first words spell the key
+-- if the first n words are those of the key, they spell the first 4n bytes of the key
 pub key_of_words : (ws : List (List ℕ)) (key : List ℕ) (n : ℕ) → n ≤ length ws
     → ((k : ℕ) → k < n → get_or ws k [] ≡ take 4 (drop (4 * k) key)) → key_of ws n ≡ take (4 * n) key
 key_of_words ws key zero h same = refl
@@ -179,7 +179,7 @@ key_of_words ws key (suc n) h same =
     (same n (omega arith))
     ∙ sym (ap (λ i. take i key) four_more ∙ take-add (4 * n) 4 key)
 
--- the words of the schedule itself
+-- the law `MeetsRecurrence`
 pub meets_recurrence : MeetsRecurrence
 meets_recurrence key i some within = (
   λ h. words_at key (4 * (round_count key + 1)) i within ∙ word_start key i h,

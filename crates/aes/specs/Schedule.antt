@@ -34,7 +34,7 @@ key_words key = length key / 4
 abbrev pub round_count : List ℕ → ℕ
 round_count key = key_words key + 6
 
--- temp, made of the previous word t: it is added to the word Nk places back
+-- temp, computed from the previous word t: word i is the sum of temp and the word Nk places back
 unfoldable pub temp : ℕ → ℕ → List ℕ → List ℕ
 temp nk i t =
     if i % nk == 0 then xor_word (sub_word (rot_word t)) (rcon (i / nk))
@@ -60,7 +60,7 @@ schedule key = words key (4 * (round_count key + 1))
 abbrev pub word : List ℕ → ℕ → List ℕ
 word key i = get_or (schedule key) i []
 
--- a word below Nk is the key's; any other is the sum of the word Nk places back and temp
+-- a word before word Nk is the key's; any other is the sum of the word Nk places back and temp
 abbrev pub MeetsRecurrence : Type 0
 MeetsRecurrence = (key : List ℕ) (i : ℕ) → 0 < key_words key → i < 4 * (round_count key + 1)
     → (i < key_words key → word key i ≡ take 4 (drop (4 * i) key))

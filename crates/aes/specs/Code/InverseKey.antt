@@ -1,4 +1,4 @@
--- A key made ready for the equivalent inverse cipher (FIPS 197, 5.3.5).
+-- A key that is prepared for the equivalent inverse cipher (FIPS 197, 5.3.5).
 use Rattle.std.specs.Prelude.{◌≡◌, ℕ, ◌+◌, ◌*◌, ◌<◌, ◌≤◌, List, length, slice_index}
 use Rattle.aes.specs.Code.Columns.{column_of}
 use Rattle.aes.specs.Schedule.{word}

@@ -12,7 +12,7 @@ pub record HoldsLanes (n : ℕ) (p : List (List ℕ)) (g : ℕ → ℕ → ℕ) 
   pub each : (j l k : ℕ) → j < 8 → l < n → k < 8
       → bit_at (slice_index (slice_index_or p j []) l) k ≡ bit_at (g l k) j
 
--- eight planes of 32 lanes
+-- p has eight planes of 32 lanes, and bit k of lane l of plane j is bit j of g l k
 abbrev pub HoldsBits : List (List ℕ) → (ℕ → ℕ → ℕ) → Type 0
 HoldsBits p g = HoldsLanes 32 p g
 

@@ -37,7 +37,7 @@ pub record Holds {C K : Type 0} (up : List ℕ → ℕ → List ℕ) (bytes : K 
   pub key_is : bytes s.key ≡ key
   pub makes : Makes up s.counter key first position
 
--- a call beside other work XORs in the next bytes of the stream that counts with `up`
+-- s becomes t, and was becomes now: the next bytes of the stream that counts with `up` are XORed in, beside other work
 abbrev pub Did : {C K : Type 0} → (List ℕ → ℕ → List ℕ) → (K → List ℕ) → Ctr C K → Ctr C K → List ℕ → List ℕ → Type 0
 Did up bytes s t was now = (key first : List ℕ) (position : ℕ) → Holds up bytes s key first position
     → Holds up bytes t key first (position + length was) × (now ≡ masked (counter_byte up key first) position was)

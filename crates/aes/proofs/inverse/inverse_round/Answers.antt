@@ -5,7 +5,7 @@ use Rattle.aes.proofs.Steps.{quad}
 use Rattle.aes.proofs.ColumnWords.{before_rows, inverse_state}
 use Rattle.aes.proofs.inverse.inverse_round.Goals as goal
 
--- an item of equal lists
+-- equal lists have equal items
 row : (i : ℕ) {v w : List ℕ} → v ≡ w → get_or v i 0 ≡ get_or w i 0
 row i e = ap (λ l. get_or l i 0) e
 

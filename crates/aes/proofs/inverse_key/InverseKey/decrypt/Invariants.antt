@@ -5,8 +5,8 @@ use Rattle.aes.specs.Code.Columns.{state_of}
 use Rattle.aes.specs.Code.InverseKey.{IsInverse}
 use Rattle.aes.proofs.inverse_key.InverseKey.decrypt.Given as goal
 
--- a block whose state after the rounds that are left comes by SubBytes and ShiftRows to the state at hand
--- is taken to the given one
+-- a block that comes to the state at hand by the rounds that are left, and then SubBytes and ShiftRows, is taken to the given block
+-- by the cipher
 abbrev pub invariant-loop-done : goal.invariant-loop-done
 invariant-loop-done l = (length l.state ≡ 4)
     × ((key : List ℕ) → IsInverse l.self key → (b : List ℕ)
