@@ -159,7 +159,7 @@ pub mask_of_small : (s : Setting) (tag : List ℕ) → (construction_of s.suite 
 unfolding mask
 mask_of_small s tag k m i = mask_small_by (construction_of s.suite) s.key s.nonce tag k m i
 
--- the mask of a suite whose tag is over the ciphertext consists of bytes, if GCM has a key of AES
+-- the mask of a suite whose tag is over the ciphertext consists of bytes, for GCM under a key of AES
 pub mask_small : (s : Setting) (tag : List ℕ) → is_one_pass (construction_of s.suite) ≡ true
     → (construction_of s.suite ≡ ByGcm → IsKey s.key) → (i : ℕ) → mask_of s tag i < 256
 unfolding mask

@@ -6,7 +6,7 @@ use Rattle.std.specs.List.{range_with_len}
 use Rattle.aead.specs.Sealing.{key_part, encryption_key}
 use borrow.Rule.Slice.PartMut.{put_mid}
 
--- two parts that are written one after the other into x and z are both there
+-- if the first n bytes are a, writing b over the others gives a and then b
 pub two_parts : (n m : ℕ) (x z y a b : List ℕ) → x ≡ a → y ≡ b → length a ≡ n → length z ≡ m
     → put_mid n m (x ++ z) y ≡ a ++ b
 two_parts n m x z y a b e f long rest =

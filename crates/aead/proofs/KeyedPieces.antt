@@ -30,7 +30,7 @@ text_length n s text h = (h []).length_is ∙ length-masked (mask_of s []) 0 tex
 
 -- ---- an opening
 
--- the authenticated bytes of the empty ciphertext are none
+-- the empty ciphertext has no authenticated bytes
 none_authenticated : (by : Construction) (f : ℕ → ℕ) → authenticated_by by f [] ≡ []
 none_authenticated ByChaCha f = refl
 none_authenticated ByGcm f = refl

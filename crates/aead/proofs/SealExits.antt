@@ -65,8 +65,7 @@ begun s x k one within short =
 
 -- ---- the exits
 
--- if something holds of the reading's bytes where they are known, and gives the bytes written, it holds of both where the
--- outlet's bytes are known too
+-- if A holds of the reading's bytes, and Q of these and the bytes written follows from A, `IfTextKnown` holds of Q
 if_text_known : (l o o' : Option (List ℕ)) (A : List ℕ → Type 0) (Q : List ℕ → List ℕ → Type 0) → IfSome l A
     → ((x : List ℕ) → A x → (given : List ℕ) × Appends o o' given × Q x given) → IfTextKnown l o o' Q
 if_text_known None o o' A Q a f = tt

@@ -121,8 +121,7 @@ again_tag holds s a b tag len n i read read' wrote wrote' l' o o' o'' k r same w
 
 -- ---- both readings
 
--- if something holds of both readings' bytes where they are known, and gives the bytes written, it holds of all where the
--- outlet's bytes are known too
+-- if A and B hold of the readings' bytes, and Q of these and the bytes written follows, `IfBothKnown` holds of Q
 if_both_known : (la lb o o' : Option (List ℕ)) (A B : List ℕ → Type 0)
     (Q : List ℕ → List ℕ → List ℕ → Type 0) → IfSome la A → IfSome lb B
     → ((a b : List ℕ) → A a → B b → (given : List ℕ) × Appends o o' given × Q a b given)

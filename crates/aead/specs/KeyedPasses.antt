@@ -19,7 +19,7 @@ pub record HasLengths (s : Setting) : Type 0 where
   pub key_fits : length s.key ≡ key_length s.suite
   pub nonce_fits : length s.nonce ≡ 12
 
--- why a message does not begin: the length of the key, the nonce or the associated data is wrong, checked in this order
+-- why a pass over a message is not begun: the length of the key, the nonce or the associated data is wrong, checked in this order
 abbrev pub BeginRefused : Setting → Fault → Type 0
 BeginRefused s KeyLength = length s.key ≢ key_length s.suite
 BeginRefused s NonceLength = (length s.key ≡ key_length s.suite) × (length s.nonce ≢ 12)

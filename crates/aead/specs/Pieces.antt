@@ -91,7 +91,7 @@ pub record IsInSecondPass (n : TwoPassState) (s : Setting) (tag : List ℕ) (fir
 abbrev pub MasksByBytes : Setting → Type 0
 MasksByBytes s = (tag : List ℕ) (i : ℕ) → mask_of s tag i < 256
 
--- the keys of an opening are those of a message: a cipher lends them, or the opening has them itself
+-- the keys of an opening, borrowed from a cipher or its own, are those of a message
 abbrev pub OpensUnder : OpenerKeys → Setting → Type 0
 OpensUnder (OnePass k) s = AreKeysOf k s
 OpensUnder (Siv k) s = (k.suite ≡ s.suite) × HasKeys k.own s

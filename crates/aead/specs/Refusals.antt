@@ -1,4 +1,4 @@
--- Why a call is refused: one case for each fault that it returns. Lengths are checked first, `AadTooLong`, `TooShort`, then
+-- Why a call is refused: one case for each fault that it returns. Lengths come first, in the order `AadTooLong`, `TooShort`,
 -- `TextTooLong`, and the case of each says that the lengths before it fit. `OutOfMemory` and `TagMismatch` come only if all fit.
 use Rattle.std.specs.Prelude.{◌≡◌, ℕ, ◌+◌, ◌<◌, ◌≤◌, ◌⊎◌, List, [], ◌∷◌, ◌++◌, length, Result, MatchResult}
 use Rattle.std.specs.Prelude.{IfErr}

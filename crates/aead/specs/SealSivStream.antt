@@ -16,7 +16,7 @@ use Rattle.aead.specs.Verdict.{IsBeginning}
 abbrev pub again : Setting → List ℕ → List ℕ → List ℕ
 again s a b = masked (mask_of s (tag_of s a)) 0 (take (length a) b)
 
--- what is written of the second reading b after the first reading a: the ciphertext and the tag at `Ok`, the ciphertext at
+-- what is written for the second reading b after the first reading a: the ciphertext and the tag at `Ok`, the ciphertext at
 -- `SourceChanged`, and a beginning of them if a device failed
 abbrev pub WritesAgain : Setting → List ℕ → List ℕ → Option (List ℕ) → Option (List ℕ) → ℕ → ℕ → ℕ → ℕ
     → Result (Unit {0}) Fault → Type 0
@@ -49,12 +49,13 @@ SivBlames own before after r =
     DueTo own (after ≡ before) (Failed before.first after.first ⊎ Failed before.second after.second)
     (Failed before.outlet after.outlet) r
 
--- the bytes written of the second reading b after the first reading a, and the result
+-- the bytes written for the second reading b after the first reading a, and the result
 pub record SealsSivStream (s : Setting) (a b given : List ℕ) (before after : SivCounts)
     (r : Result (Unit {0}) Fault) : Type 0 where
   -- nothing is written if the associated data or the first reading is past its limit
   pub early : (aad_limit s.suite < length s.aad) ⊎ (text_limit s.suite < length a) → given ≡ []
-  -- the bytes written are a beginning of the ciphertext; the tag begins after it only if the second reading repeats the first
+  -- the bytes written are a beginning of the ciphertext, or, only if the second reading repeats the first, of the ciphertext and
+  -- the tag
   pub beginning : IsBeginning given (again s a b)
       ⊎ (Repeats s a b × IsBeginning given (again s a b ++ tag_of s a))
   -- at Ok the second reading repeats the first, and the bytes written are the ciphertext and the tag

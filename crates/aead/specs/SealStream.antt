@@ -11,7 +11,7 @@ use Rattle.aead.specs.Sealing.{Setting, Fits, mask_of, tag_of, sealing}
 use Rattle.aead.specs.Refusals.{SealRefused}
 use Rattle.aead.specs.Verdict.{IsBeginning}
 
--- the bytes that may be written of a text whose tag is over the ciphertext: its sealing, or, if the text is past the limit, the
+-- the bytes that may be written for a text whose tag is over the ciphertext: its sealing, or, if the text is past the limit, the
 -- ciphertext of its first bytes up to the limit
 unfoldable pub may_seal : Setting → List ℕ → List ℕ
 may_seal s x =
@@ -23,7 +23,7 @@ may_seal s x =
 abbrev pub SealVerdict : Setting → List ℕ → Result (Unit {0}) Fault → Type 0
 SealVerdict s x r = MatchResult r (λ _. Fits s x) (λ e. SealRefused s x e)
 
--- the bytes written of a text, and the result
+-- the bytes written for a text, and the result
 pub record SealsStream (s : Setting) (x given : List ℕ) (read read' wrote wrote' : ℕ)
     (r : Result (Unit {0}) Fault) : Type 0 where
   -- nothing is written if the associated data is past its limit

@@ -43,7 +43,7 @@ gcm_authenticated aad c =
 
 -- ---- GCM-SIV (RFC 8452, 4)
 
--- part i of the derived keys: the first half of the cipher of the block that is i in four bytes and the nonce
+-- part i of the derived keys: the first half of the cipher of a block, which is i in four bytes and then the nonce
 unfoldable pub key_part : List ℕ → List ℕ → ℕ → List ℕ
 key_part key nonce i = take 8 (cipher key (to_le_bytes w32 i ++ nonce))
 
@@ -106,7 +106,7 @@ tag_over_by ByGcmSiv key nonce aad text =
 unfoldable pub tag_over : Suite → List ℕ → List ℕ → List ℕ → List ℕ → List ℕ
 tag_over suite = tag_over_by (construction_of suite)
 
--- the tag of a message with this text, by its construction
+-- the tag of a message with this text under a construction
 unfoldable pub tag_by : Construction → List ℕ → List ℕ → List ℕ → List ℕ → List ℕ
 tag_by ByChaCha key nonce aad text =
     tag_over_by ByChaCha key nonce aad (masked (chacha_mask key nonce) 0 text)
@@ -147,7 +147,7 @@ pub record Opened (s : Setting) (sealed : List ℕ) (text : List ℕ) : Type 0 w
 abbrev pub IsSealing : Setting → List ℕ → Type 0
 IsSealing s sealed = (text : List ℕ) × Opened s sealed text
 
--- sealed is not a valid sealing: whatever the text, it is not the sealing of it
+-- sealed is not a valid sealing: there is no text whose sealing it is
 abbrev pub IsNoSealing : Setting → List ℕ → Type 0
 IsNoSealing s sealed = (text : List ℕ) → ¬ Opened s sealed text
 

@@ -4,7 +4,7 @@ use Rattle.aead.specs.declared.suite.Suite.{Suite}
 use Rattle.aead.specs.declared.suite.Suite.TheVariants.{ChaCha20Poly1305, Aes128Gcm, Aes192Gcm, Aes256Gcm}
 use Rattle.aead.specs.declared.suite.Suite.TheVariants.{Aes128GcmSiv, Aes256GcmSiv}
 
--- the constructions: a suite is a construction with a length of the key
+-- the constructions: a suite is a construction with a key length
 pub data Construction : Type 0 where
   ByChaCha : Construction
   ByGcm : Construction

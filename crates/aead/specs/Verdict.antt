@@ -70,7 +70,7 @@ pub record OpensStream (s : Setting) (m v w given : List ℕ) (before after : Fa
       × (after.verify ≡ before.verify)
   -- the bytes written are a beginning of those that may be written
   pub beginning : IsBeginning given (shown s m w)
-  -- they are all of those at Ok, and if only the write reading differs
+  -- all bytes that may be written are written at Ok, and if only the write reading differs
   pub whole : (r ≡ Ok tt) ⊎ ((r ≡ Err SourceChanged) × OnlyWriteDiffers s m v w) → given ≡ shown s m w
   -- at Ok the bytes written are the text of the write reading
   pub text : r ≡ Ok tt → Opened s w given

@@ -7,7 +7,7 @@ use Rattle.octets.specs.Masked.{masked}
 use Rattle.aead.specs.Code.Maskings.{Task, task_mask}
 use Rattle.aead.specs.Code.Passes.{Stopped}
 
--- x has n bytes, no more than a length, or, if there is no n, x has more bytes than the length
+-- at `Some(n)`, x has n bytes, which are within the length; at `None`, x has more bytes than the length
 abbrev pub IsExtent : ℕ → List ℕ → Option ℕ → Type 0
 IsExtent len x None = len < length x
 IsExtent len x (Some n) = (length x ≡ n) × (n ≤ len)

@@ -12,7 +12,8 @@ use Rattle.aead.specs.Sealing.{tag_over}
 use Rattle.aead.specs.Code.Maskings.{Task, task_mask, message_task}
 use Rattle.aead.specs.Code.Passes.{Stopped, HasFilledRoom}
 
--- x has this length and ends in this tag, and it is a valid sealing or is not one; or x differs in its length or its end
+-- what a reading x was found to be: it differs in its length or its last 16 bytes; or it agrees in both and is not a valid sealing,
+-- or is one
 abbrev pub IsFinding : Setting → List ℕ → ℕ → List ℕ → Finding → Type 0
 IsFinding s tag len x Differs = ¬ (drop (len - 16) x ≡ tag)
 IsFinding s tag len x Unsealed = (drop (len - 16) x ≡ tag) × IsNoSealing s x

@@ -33,6 +33,6 @@ pub record HoldsMasking {S H : Type 0} (made : S → Setting → List ℕ → �
 abbrev pub message_task : Setting → List ℕ → Task
 message_task s tag = record { limit = text_limit s.suite; setting = s; tag = tag }
 
--- the task of encrypting again a text whose tag is known
+-- the task of encrypting a text for the second time, when its tag is known
 abbrev pub repeating_task : Setting → List ℕ → Task
 repeating_task s first = record { limit = length first; setting = s; tag = tag_of s first }

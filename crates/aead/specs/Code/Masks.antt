@@ -46,7 +46,7 @@ pub none_leaves : (mask : ℕ → ℕ) → as_it_leaves mask [] ≡ []
 unfolding masked
 none_leaves mask = refl
 
--- no pieces have no authenticated bytes
+-- if there are no pieces, no bytes are authenticated
 pub none_hashed : (order : Order) (mask : ℕ → ℕ) → hashed_by order mask [] ≡ []
 none_hashed MaskFirst mask = none_leaves mask
 none_hashed HashFirst mask = refl

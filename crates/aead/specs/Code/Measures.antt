@@ -8,7 +8,7 @@ use Rattle.octets.specs.Device.{Failed}
 use Rattle.aead.specs.declared.engine.measure.Measured.{Measured}
 use Rattle.aead.specs.Measure.{last_16}
 
--- a whole reading has an allowed length, which is this one, and these last 16 bytes
+-- a whole reading has a length within the limits, and m is this length and the last 16 bytes
 pub record IsMeasure (limit : ℕ) (left left' : Option (List ℕ)) (m : Measured) : Type 0 where
   pub bytes : List ℕ
   pub consumed : Consumes left left' bytes
@@ -18,7 +18,7 @@ pub record IsMeasure (limit : ℕ) (left left' : Option (List ℕ)) (m : Measure
   pub count : m.length ≡ length bytes
   pub last : m.tag ≡ last_16 bytes
 
--- a reading has no measure: it is too long, too short or it failed; one that is too long is read to one byte past the limit
+-- a reading has no measure because it is too long, is too short or failed; one that is too long is read to one byte past the limit
 pub record HasNoMeasure (limit : ℕ) (left left' : Option (List ℕ)) (read read' : ℕ) (f : Fault) : Type 0 where
   pub bytes : List ℕ
   pub consumed : Consumes left left' bytes

@@ -28,7 +28,7 @@ AreSivKeys (Expanded k) s =
     × Serves Reversed (authentication_key s.key s.nonce) (key_of k.few.now)
 AreSivKeys (Bytes b) s = take (key_length b.suite) b.key.now ≡ encryption_key s.key s.nonce
 
--- the cipher's keys of a message, for each construction
+-- the keys of the cipher are those of a message, for each construction
 abbrev pub AreCipherKeys : CipherKeys → Setting → Type 0
 AreCipherKeys (ChaCha key) s = key.now ≡ s.key
 AreCipherKeys (Gcm keys) s = AreGcmKeys keys s
