@@ -47,7 +47,7 @@ moved n m ps from long test p g h = record {
       ∙ ap (λ (i : ℕ). bit_at (g i k) j) (eqb-true (get_or ps l 0) (from l) both.1);
 }
 
--- planes of 16 lanes that are put after others of 16 lanes hold the bytes of both
+-- planes of 16 lanes, with others of 16 lanes put after them, hold the bytes of both
 pub both : (p q : List (List ℕ)) (g : ℕ → ℕ → ℕ) → HoldsLanes 16 p g → HoldsLanes 16 q (λ l k. g (16 + l) k)
     → HoldsBits (zip2 (λ v w. map (λ i. get_or (v ++ w) i 0) ALL) (eight p) (eight q)) g
 both p q g hp hq =

@@ -273,7 +273,7 @@ abbrev unmixed_entry : ℕ → ℕ
 unmixed_entry y = from_le_bytes w32
     (product_of 4 y 14 ∷ product_of 4 y 9 ∷ product_of 4 y 13 ∷ product_of 4 y 11 ∷ [])
 
--- the inverse table has at the S-box value of y the word of y, tested at each byte
+-- the entry of the inverse table at the S-box value of y is the word of y, tested at each byte y
 inverse_computed : all_below (λ y. get_or INVERSE_TABLE (get_or SBOX y 0) 0 == unmixed_entry y) 256 ≡ true
 unfolding product_of
 inverse_computed = refl

@@ -70,7 +70,7 @@ be_small bs (suc n) h small =
     ∙ be_push (take n bs) (get_or bs n 0) in
     omega arith
 
--- no step leaves a block as it is
+-- zero steps leave a block as it is
 up_be-zero : (b : List ℕ) → IsBlock b → up_be b 0 ≡ b
 unfolding up_be
 up_be-zero b x =
@@ -86,7 +86,7 @@ up_be-zero b x =
     (be_bytes_4 last ((be last + 0) % 2 ^ 32) size small (number ∙ be_is w32 last (omega arith) size))
     ∙ take-append-drop 12 b
 
--- no step in the first four bytes leaves a block as it is
+-- zero steps in the first four bytes leave a block as it is
 up_le-zero : (b : List ℕ) → IsBlock b → up_le b 0 ≡ b
 unfolding up_le
 up_le-zero b x =
@@ -101,10 +101,10 @@ up_le-zero b x =
     (number ∙ le_is w32 first (omega arith) size))
     ∙ take-append-drop 4 b
 
--- counting in the last four bytes is counting on
+-- counting in the last four bytes has the property `CountsOn`
 pub up_be_counts_on : CountsOn up_be
 up_be_counts_on b x = (up_be-zero b x, λ j. sym (up_be-up_be b j 1 x.length_is))
 
--- counting in the first four bytes is counting on
+-- counting in the first four bytes has the property `CountsOn`
 pub up_le_counts_on : CountsOn up_le
 up_le_counts_on b x = (up_le-zero b x, λ j. sym (up_le-up_le b j 1 x.length_is))

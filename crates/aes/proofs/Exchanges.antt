@@ -190,7 +190,7 @@ second_bit n m x y k (suc zero) h e =
 second_bit n m x y k (suc (suc d)) h e = absurd (omega arith)
 
 -- ---- planes
--- whether m marks the places below 8 without the digit of weight n, and, moved up by n, those with it
+-- whether m has the bits at the places below 8 whose digit of weight n is 0, and, shifted up by n, at those whose digit is 1
 abbrev pub is_mask : ℕ → ℕ → Bool
 is_mask n m = all_below (λ k. (bit_at (m * 2 ^ n % 2 ^ 8) k == k / n % 2) && (bit_at m k == 1 - k / n % 2)) 8
 

@@ -58,7 +58,7 @@ has_word ws key k long has h =
     let below : k < 60 = h.1 in
     sym (get_or-map column_of ws k 0 [] (omega arith)) ∙ has k within
 
--- grids that agree at their sixteen places
+-- grids that agree at their sixteen places are equal
 grid_same : (f h : ℕ → ℕ → ℕ) → ((k : ℕ) → k < 16 → f (k % 4) (k / 4) ≡ h (k % 4) (k / 4)) → grid f ≡ grid h
 grid_same f h same =
     grid_is h (grid f) refl (λ k l.
@@ -82,20 +82,20 @@ pub rounds_start : (ws : List (List ℕ)) (s : List ℕ) → rounds ws 0 s ≡ a
 unfolding rounds
 rounds_start ws s = refl
 
--- the state after n + 1 rounds is one round of the state after n rounds
+-- n + 1 rounds are n rounds and then one round more
 pub rounds_more : (ws : List (List ℕ)) (n : ℕ) (s : List ℕ)
     → rounds ws (n + 1) s ≡ add_round_key ws (n + 1) (mix_columns (shift_rows (sub_bytes (rounds ws n s))))
 unfolding rounds
 rounds_more ws n s = rw add-one refl
 
--- the cipher is the last round of the state after the other rounds
+-- the cipher is all rounds but the last, and then the last round
 pub cipher_is : (key s : List ℕ) → cipher key s
     ≡ add_round_key (schedule key) (round_count key)
     (shift_rows (sub_bytes (rounds (schedule key) (round_count key - 1) s)))
 unfolding cipher
 cipher_is key s = refl
 
--- the state after n + 1 rounds, with `suc n` as in the definition
+-- n + 1 rounds are n rounds and then one round more, with `suc n` as in the definition
 pub rounds_suc : (ws : List (List ℕ)) (n : ℕ) (s : List ℕ)
     → rounds ws (suc n) s ≡ add_round_key ws (suc n) (mix_columns (shift_rows (sub_bytes (rounds ws n s))))
 unfolding rounds

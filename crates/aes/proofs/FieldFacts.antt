@@ -15,7 +15,7 @@ unfolding times
 bits_times x y = bits_number (residue modulus (product (bits x) (bits y)))
     (λ i h. residue_lower modulus (product (bits x) (bits y)) i h)
 
--- products with polynomials that agree, agree
+-- if q and r agree, so do the products of p with q and with r
 product_agree : (p q r : List Bool) → Agree q r → Agree (product p q) (product p r)
 product_agree p q r same k =
     ap (λ h. h k) (product_is p q) ∙ ap (λ h. mult p h k) (fun_ext same)

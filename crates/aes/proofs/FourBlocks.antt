@@ -52,7 +52,7 @@ lanes-splat g x n hx =
 abbrev is_place : ℕ → Bool
 is_place j = leb 128 j || ltb j 16
 
--- if a test is true, it holds
+-- a test that is true holds as a fact
 true_T : (b : Bool) → b ≡ true → T b
 true_T b e = subst T (sym e) tt
 

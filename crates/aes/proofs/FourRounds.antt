@@ -206,7 +206,7 @@ lane_mixed a b c d k ha hb hc hd hk =
     ∙ ap (λ (u : ℕ). bit_xor (bit_xor (times 2 (sbox a)) (bit_xor u (bit_xor (sbox c) (sbox d)))) k)
     (sym (triple_is (sbox b) (sbox_small b hb))))
 
--- in the last round, the S-box without its constant plus the key byte with it is the S-box plus the key byte
+-- in the last round, the S-box without its constant, plus the key byte with the constant, is the S-box plus the key byte
 pub lane_last : (a k : ℕ) → bit_xor (linear_sbox a) (bit_xor k 0x63) ≡ bit_xor (sbox a) k
 unfolding linear_sbox
 lane_last a k = xor_exchange (sbox a) 0x63 k 0x63 ∙ xor_zero_r (bit_xor (sbox a) k)

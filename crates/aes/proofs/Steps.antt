@@ -288,7 +288,7 @@ add_block ws n s small b =
 pub sixteen : (s : List ℕ) → length s ≡ 16 → grid (at s) ≡ s
 sixteen s long = grid_of (at s) s long (λ r c hr hc. refl)
 
--- a list of four items consists of its items
+-- a list of four items is the list of its items 0 to 3
 pub quad : (a : List ℕ) → length a ≡ 4 → get_or a 0 0 ∷ get_or a 1 0 ∷ get_or a 2 0 ∷ get_or a 3 0 ∷ [] ≡ a
 quad [] h = absurd (omega arith)
 quad (a ∷ []) h = absurd (omega arith)

@@ -99,7 +99,7 @@ inverse_at x h =
       is_one,
     )
 
--- the inverse of 0
+-- the inverse of 0 is 0
 inverse_zero : inverse 0 ≡ 0
 unfolding inverse
 inverse_zero =

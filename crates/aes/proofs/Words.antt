@@ -14,7 +14,7 @@ use Rattle.aes.specs.Schedule.{rcon, round_count, MeetsRecurrence}
 use Rattle.aes.specs.Code.KeptWords.{table}
 use Rattle.aes.specs.Code.ExpandedKey.{key_of}
 
--- the first n words are n words
+-- `words key n` has n words
 pub length_words : (key : List ℕ) (n : ℕ) → length (words key n) ≡ n
 unfolding words
 length_words key zero = refl
@@ -84,7 +84,7 @@ temp_other nk i t h no_fourth =
           no_fourth (eqb-true nk 8 p.0) (eqb-true (i % 8) 4 p.1)),
     ) refl
 
--- four neighbouring items of a list are the items at their places
+-- the four items of a list from place n on are those at n, n + 1, n + 2 and n + 3
 pub take_four : (s : List ℕ) (n : ℕ) → n + 4 ≤ length s
     → take 4 (drop n s) ≡ get_or s n 0 ∷ get_or s (n + 1) 0 ∷ get_or s (n + 2) 0 ∷ get_or s (n + 3) 0 ∷ []
 take_four s n h =
@@ -115,7 +115,7 @@ others_stay ws i v after k h l =
     let other : k ≡ i → ⊥ = λ e. omega arith in
     get_or-set_other ws i k v 0 other ∙ after k (omega arith) l
 
--- writing a word of 32 bits leaves all words of 32 bits
+-- if all words are below 2^32, they still are after writing one that is below 2^32
 pub small_words : (ws : List ℕ) (i v : ℕ) → v < 2 ^ 32 → ((k : ℕ) → get_or ws k 0 < 2 ^ 32) → (k : ℕ)
     → get_or (set ws i v) k 0 < 2 ^ 32
 small_words [] i v h small k = small k
@@ -124,7 +124,7 @@ small_words (w ∷ ws) zero v h small (suc k) = small (suc k)
 small_words (w ∷ ws) (suc i) v h small zero = small zero
 small_words (w ∷ ws) (suc i) v h small (suc k) = small_words ws i v h (λ k. small (suc k)) k
 
--- each of sixty zero words has 32 bits
+-- each of sixty zero words is below 2^32
 pub zero_words : (k : ℕ) → get_or (replicate 60 0) k 0 < 2 ^ 32
 zero_words k =
     elim (cases_lt k 60) [
