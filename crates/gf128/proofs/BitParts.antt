@@ -127,7 +127,7 @@ reduced_sum p q a b ha hb k =
     of_word_xor a b k ∙ ap₂ plus (ha k) (hb k)
     ∙ sym (ap (λ f. f k) (residue_parts p q))
 
--- w places before a polynomial multiply it by x^w
+-- w zeros before the coefficients of a polynomial multiply it by x^w
 x_times : (w : ℕ) (p : List Bool) → coefficient (replicate w false ++ p)
     ≡ coefficient (product (replicate w false ++ true ∷ []) p)
 x_times w p = fun_ext (coefficient_below w p) ∙ sym (product_is (replicate w false ++ true ∷ []) p
@@ -264,7 +264,7 @@ product_bit (suc zero) h l = λ k.
     (sym (product_one (of_word h))))
 product_bit (suc (suc b)) h l = absurd (omega arith)
 
--- the entry at place j of 0, m, h and their XOR is the XOR of the multiples by the two bits of j
+-- the entry at place j of 0, m, h and their XOR is the upper bit of j times h, XORed with the lower bit times m
 two_entries : (h m j : ℕ) → j < 4 → get_or (0 ∷ m ∷ h ∷ bit_xor h m ∷ []) j 0 ≡ bit_xor (j / 2 * h)
     (j % 2 * m)
 two_entries h m zero l = rw (zero-mul h, zero-mul m) refl

@@ -18,7 +18,7 @@ use Rattle.gf128.proofs.BitParts.{own_residue, residue_parts, x_same}
 use Rattle.gf128.proofs.Folds.{of_word_shr, wide_low, wide_high, wide_more, wide_none, wide_xor}
 use Rattle.gf128.proofs.Folds.{folded_at}
 
--- the word 0 and the half word 0 spread a polynomial without coefficients
+-- the word 0 and the half word 0 spread a polynomial whose coefficients are all 0
 pub spread_none : (p : List Bool) → ((k : ℕ) → coefficient p k ≡ false) → IsSpread 0 p 0 0
 spread_none p none = (
   λ k l. wide_none k,
@@ -102,7 +102,7 @@ moved_half n k small =
           ∙ sym (raised_high 64 (coefficient (of_word n)) k (omega arith))
     ]
 
--- if z and s spread p, and n is the residue of q, then folding in z, s and the halves of n gives the residue of the sum of p
+-- if z and s spread p, and n is the residue of q, folding z and s, with the halves of n XORed in, gives the residue of the sum of p
 -- and x^64 times q
 pub spread_with : (d : ℕ) (p q : List Bool) (z s n : ℕ) → n < 2 ^ 128 → bit_xor z (n / 2 ^ 64) < 2 ^ 128
     → bit_xor s (n % 2 ^ 64) < 2 ^ 64 → IsSpread d p z s → IsReduced q n
@@ -122,7 +122,7 @@ spread_with d p q z s n small lz ls held is k =
     ∙ residue_same m (wide (bit_xor z a) (bit_xor s b)) (sum (wide z s) (wide a b)) refl parts
     ∙ residue_parts (wide z s) (wide a b) ∙ ap₂ sum_of held.1 low ∙ sym (residue_parts p (up q)))
 
--- the product of a word is the product of its upper half, plus x^64 times that of its lower half
+-- the product of two words is the product of the upper half of the first word, plus x^64 times that of its lower half
 pub halves_product : (x h z : ℕ) → IsReduced (sum (product (of_bits 64 (x / 2 ^ 64)) (of_word h))
     (replicate 64 false ++ product (of_bits 64 x) (of_word h))) z → IsBitsProduct 128 x h z
 halves_product x h z is =

@@ -50,7 +50,7 @@ wide_alone n k = elim (cases_lt k 128) [
   ] ∙ sym (of_word_past n k l)
 ]
 
--- the word 0 with the half word 0 has no coefficients
+-- every coefficient of the word 0 with the half word 0 is 0
 pub wide_none : (k : ℕ) → coefficient (wide 0 0) k ≡ false
 wide_none k = wide_alone 0 k ∙ of_word_zero k
 
@@ -168,7 +168,7 @@ cancel true false = refl
 cancel false true = refl
 cancel false false = refl
 
--- the half word s, shifted up by 64 places, is the upper half of a word
+-- a half word that is shifted up by 64 places has the same polynomial
 high_at : (s k : ℕ) → k < 128 → coefficient (of_word (s * 2 ^ 64)) k ≡ coefficient (of_bits 64 s) k
 high_at s k l =
     let whole : s * 2 ^ 64 + 0 ≡ s * 2 ^ 64 = omega arith in

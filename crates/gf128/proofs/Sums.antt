@@ -29,7 +29,7 @@ sum_of_first_same f e (suc n) h =
     let b : f n ≡ e n = h n (omega arith) in
     rw (a, b) refl
 
--- the sum over the whole blocks of a text is that of a longer text
+-- the sum over n whole blocks of a text is the same if more bytes follow
 pub block_sum-append : (o : Order) (k m x : List ℕ) (n : ℕ) → n * 16 ≤ length m
     → block_sum o k (m ++ x) n ≡ block_sum o k m n
 unfolding block_sum

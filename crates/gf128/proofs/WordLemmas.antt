@@ -137,7 +137,7 @@ of_word_xor a b k = elim (cases_lt k 128) [
   | inr l ↦ of_word_past (bit_xor a b) k l ∙ ap₂ plus (sym (of_word_past a k l)) (sym (of_word_past b k l))
 ]
 
--- the word 0 has no coefficients
+-- every coefficient of the word 0 is 0
 pub of_word_zero : (k : ℕ) → coefficient (of_word 0) k ≡ false
 of_word_zero k = elim (cases_lt k 128) [
   | inl h ↦ of_word_at 0 k h ∙ bit_of_zero (127 - k)
@@ -195,12 +195,12 @@ abbrev pub IsSoFar : ℕ → ℕ → ℕ → ℕ → Type 0
 IsSoFar f h i p = Agree (of_word p) (residue ghash_modulus (product (drop (128 - i) (of_word f))
     (of_word h)))
 
--- the residue of 0 has no coefficients
+-- every coefficient of the residue of 0 is 0
 residue_zero : (k : ℕ) → coefficient (residue ghash_modulus []) k ≡ false
 unfolding residue
 residue_zero k = refl
 
--- a product with 0 has no coefficients
+-- every coefficient of a product with 0 is 0
 product_zero : (p : List Bool) → Agree (product p (of_word 0)) []
 product_zero p k =
     coefficient_product p (of_word 0) k ∙ ap (λ f. mult p f k) (fun_ext of_word_zero) ∙ ap (λ f. f k) (mult_comm p [])

@@ -17,7 +17,7 @@ abbrev pub reading : Order → List ℕ → List Bool
 reading Straight b = g b
 reading Reversed b = g (reverse b)
 
--- the hash under h is computed with products by k
+-- products with k compute the hash under h: k is h for GHASH, and mulX of the reversed h for POLYVAL
 abbrev pub Serves : Order → List ℕ → List ℕ → Type 0
 Serves Straight h k = k ≡ h
 Serves Reversed h k = IsBlock h × IsReversedMulX h k
