@@ -9,12 +9,12 @@ use Rattle.chacha.specs.Code.Rows.{read_by_rows}
 use Rattle.chacha.proofs.Words.{four_bytes, length-put, take-put}
 use Rattle.chacha.proofs.SideBySide.{length-lane, get_or-lane}
 
--- a list of four items consists of its items
+-- a list of four items is the list of its items 0 to 3
 pub four_items : (v : List ℕ) → length v ≡ 4
     → v ≡ get_or v 0 0 ∷ get_or v 1 0 ∷ get_or v 2 0 ∷ get_or v 3 0 ∷ []
 four_items v h = sym (take_all 4 v (omega arith)) ∙ four_bytes v 0 (omega arith)
 
--- a list of sixteen items consists of its items
+-- a list of sixteen items is the list of its items 0 to 15
 pub sixteen_items : (v : List ℕ) → length v ≡ 16
     → get_or v 0 0 ∷ get_or v 1 0 ∷ get_or v 2 0 ∷ get_or v 3 0 ∷ get_or v 4 0 ∷ get_or v 5 0 ∷ get_or v 6 0
     ∷ get_or v 7 0 ∷ get_or v 8 0 ∷ get_or v 9 0 ∷ get_or v 10 0 ∷ get_or v 11 0 ∷ get_or v 12 0
