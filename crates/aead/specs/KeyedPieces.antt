@@ -40,6 +40,7 @@ zero_passes = record { pass = zero_state; start = zero_sum; tag = replicate 16 0
 
 -- ---- a sealing in two readings
 
+-- the sealing in two readings whose key, nonce and state are all zeros
 abbrev pub zero_siv : KeyedSiv
 zero_siv = record { keys = zero_keys; state = zero_passes }
 
@@ -61,6 +62,7 @@ pub record HoldsSecondReading (p : KeyedSiv) (s : Setting) (first text : List â„
 
 -- ---- an opening
 
+-- the opening whose key, nonce and state are all zeros
 abbrev pub zero_opener : KeyedOpener
 zero_opener = record { keys = zero_keys; state = zero_passes }
 

@@ -64,9 +64,10 @@ aad_limit_by ByChaCha = 2 ^ 64 - 1
 aad_limit_by ByGcm = 2 ^ 61 - 1
 aad_limit_by ByGcmSiv = 2 ^ 36
 
--- the limits of a suite, which are those of its construction
+-- the greatest length of a text of a suite in bytes
 abbrev pub text_limit : Suite → ℕ
 text_limit suite = text_limit_by (construction_of suite)
 
+-- the greatest length of associated data of a suite in bytes
 abbrev pub aad_limit : Suite → ℕ
 aad_limit suite = aad_limit_by (construction_of suite)

@@ -23,6 +23,7 @@ pub record AbsorbedAll {H : Type 0} (held : H → Setting → List ℕ → Type 
   pub held_all : all ≡ true → HoldsAuthenticator held after s bytes × IsAtEnd left'
   pub long : all ≡ false → room < length bytes
 
+-- at `Ok` the result says whether a first reading was taken in to its end; at a fault some bytes of it were read, or none
 abbrev pub AbsorbReturns : {H : Type 0} → (H → Setting → List ℕ → Type 0) → Setting → ℕ → Option (List ℕ)
     → Option (List ℕ) → Authenticator H → Result Bool Fault → Type 0
 AbsorbReturns held s room left left' after r =

@@ -22,5 +22,6 @@ MadeByBuffered m s tag n = (construction_of s.suite ≡ ByChaCha) × IsBuffered 
 abbrev pub DidBuffered : BufferedStream → BufferedStream → List ℕ → List ℕ → Type 0
 DidBuffered a b was now = Masks MadeByBuffered a b was now
 
+-- a call that masks the next bytes does what `Masks` says
 pub buffered_masks : (a b : BufferedStream) (was now : List ℕ) → DidBuffered a b was now → Masks MadeByBuffered a b was now
 buffered_masks a b was now d = d

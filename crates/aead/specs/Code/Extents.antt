@@ -23,6 +23,7 @@ pub record HasPassedAll {M : Type 0} (holds : M → Task → List ℕ → Type 0
   pub is : IsExtent len bytes extent
   pub end : length bytes ≤ len → IsAtEnd left'
 
+-- at `Ok` a reading was taken to its end or past the length, and the result is its extent; at a fault the pass has stopped
 abbrev pub PassedAll : {M : Type 0} → (M → Task → List ℕ → Type 0) → Task → ℕ → Option (List ℕ)
     → Option (List ℕ) → Option (List ℕ) → Option (List ℕ) → M → Result (Option ℕ) Fault → Type 0
 PassedAll holds t len left left' taken taken' after r =
@@ -36,6 +37,7 @@ pub record More (left left' : Option (List ℕ)) (b : Bool) : Type 0 where
   pub some : b ≡ true → 0 < length bytes
   pub none : b ≡ false → (bytes ≡ []) × IsAtEnd left'
 
+-- at `Ok` the result says whether some bytes came; at a fault some bytes were read, or none
 abbrev pub HasMore : Option (List ℕ) → Option (List ℕ) → Result Bool Fault → Type 0
 HasMore left left' r = MatchResult r (λ b. More left left' b)
     (λ _. (bytes : List ℕ) × Consumes left left' bytes)

@@ -29,6 +29,7 @@ pub record HasPassedReading (s : Setting) (tag : List ℕ) (len : ℕ) (left lef
   pub found : IsFinding s tag len bytes f
   pub end : length bytes ≤ len → IsAtEnd left'
 
+-- at `Ok` the result is what was found when a whole reading had passed; at a fault the pass has stopped
 abbrev pub PassedWhole : Setting → List ℕ → ℕ → Option (List ℕ) → Option (List ℕ) → Option (List ℕ)
     → Option (List ℕ) → Result Finding Fault → Type 0
 PassedWhole s tag len left left' taken taken' r =
@@ -58,6 +59,7 @@ pub record Tail (tag : List ℕ) (left left' : Option (List ℕ)) (b : Bool) : T
   pub equal : b ≡ bytes_eq bytes tag
   pub end : length bytes < 17 → IsAtEnd left'
 
+-- at `Ok` the result says whether the bytes that came were this tag and nothing more; at a fault some bytes were read, or none
 abbrev pub Ends : List ℕ → Option (List ℕ) → Option (List ℕ) → Result Bool Fault → Type 0
 Ends tag left left' r = MatchResult r (λ b. Tail tag left left' b)
     (λ _. (bytes : List ℕ) × Consumes left left' bytes)

@@ -42,6 +42,7 @@ abbrev pub hashed_by : Order → (ℕ → ℕ) → List ℕ → List ℕ
 hashed_by MaskFirst mask bytes = as_it_leaves mask bytes
 hashed_by HashFirst mask bytes = as_it_comes mask bytes
 
+-- masking no bytes gives no bytes
 pub none_leaves : (mask : ℕ → ℕ) → as_it_leaves mask [] ≡ []
 unfolding masked
 none_leaves mask = refl

@@ -26,6 +26,7 @@ pub record HasNoMeasure (limit : ℕ) (left left' : Option (List ℕ)) (read rea
       ⊎ ((f ≡ TooShort) × (length bytes < 16) × IsAtEnd left' × (read' ≡ read))
       ⊎ ((f ≡ Read) × Failed read read')
 
+-- at `Ok` the result is the measure of a reading that did not fail; at a fault the reading has no measure
 abbrev pub Measures : ℕ → Option (List ℕ) → Option (List ℕ) → ℕ → ℕ → Result Measured Fault → Type 0
 Measures limit left left' read read' r =
     MatchResult r (λ m. IsMeasure limit left left' m × (read' ≡ read))

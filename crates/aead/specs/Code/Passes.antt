@@ -33,6 +33,7 @@ pub record HasFilledRoom {M : Type 0} (holds : M → Task → List ℕ → Type 
   pub short : n ≤ room
   pub end : n < room → IsAtEnd left'
 
+-- at `Ok` the result is how many bytes passed; at a fault the pass has stopped
 abbrev pub Passed : {M : Type 0} → (M → Task → List ℕ → Type 0) → Task → List ℕ → ℕ → Option (List ℕ)
     → Option (List ℕ) → Option (List ℕ) → Option (List ℕ) → M → Result ℕ Fault → Type 0
 Passed holds t fed room left left' taken taken' after r =

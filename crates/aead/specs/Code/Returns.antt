@@ -14,6 +14,7 @@ use Rattle.aead.specs.Sealing.{Setting, mask_of}
 use Rattle.aead.specs.Measure.{last_16}
 use Rattle.aead.specs.Code.Findings.{IsFinding}
 
+-- the result of the measure step over a reading of the bytes m
 abbrev pub MeasureReturns : ℕ → List ℕ → ℕ → ℕ → Result Measured Fault → Type 0
 MeasureReturns limit m read read' r =
     MatchResult r (λ a. (a.length ≡ length m) × (a.tag ≡ last_16 m) × (16 ≤ length m)
@@ -34,11 +35,13 @@ write_answer Sealed = Ok tt
 write_answer Unsealed = Err SourceChanged
 write_answer Differs = Err SourceChanged
 
+-- the result of the verify step over a reading of the bytes v
 abbrev pub VerifyReturns : Setting → List ℕ → ℕ → List ℕ → ℕ → ℕ → Result (Unit {0}) Fault → Type 0
 VerifyReturns s tag len v read read' r =
     ((f : Finding) × (r ≡ verify_answer f) × IsFinding s tag len v f × (read' ≡ read))
     ⊎ ((r ≡ Err Read) × Failed read read')
 
+-- the result of the write step over a reading of the bytes w, and the bytes that it writes
 abbrev pub WriteReturns : Setting → List ℕ → ℕ → List ℕ → Option (List ℕ) → Option (List ℕ) → ℕ → ℕ → ℕ → ℕ
     → Result (Unit {0}) Fault → Type 0
 WriteReturns s tag len w taken taken' read read' wrote wrote' r =
