@@ -1,4 +1,4 @@
--- Structs of different suites, numbers or kinds are different.
+-- Suites with different numbers or marks are different.
 use Rattle.std.proofs.Common.{◌≡◌, ◌≤◌, ℕ, nat_eq, refl, sym, ap, ◌∙◌, arith, Option, Some, None}
 use Rattle.std.specs.Prelude.{if◌then◌else◌}
 use Rattle.aead.specs.declared.suite.Suite.{Suite}
@@ -22,7 +22,7 @@ suite_of n =
     (if nat_eq n 4 then Aes256Gcm else
     (if nat_eq n 5 then Aes128GcmSiv else Aes256GcmSiv))))
 
--- a suite is that of its number
+-- the suite of a suite's number is that suite
 of_number : (s : Suite) → suite_of (suite_number s) ≡ s
 unfolding suite_of
 of_number ChaCha20Poly1305 = refl
@@ -32,15 +32,15 @@ of_number Aes256Gcm = refl
 of_number Aes128GcmSiv = refl
 of_number Aes256GcmSiv = refl
 
--- suites with one number are one
+-- suites with the same number are the same
 pub one_number : (s t : Suite) → suite_number s ≡ suite_number t → s ≡ t
 one_number s t e = sym (of_number s) ∙ ap suite_of e ∙ of_number t
 
--- suites with one mark are one
+-- suites with the same mark are the same
 pub one_suite : (s t : Suite) → key_mark s ≡ key_mark t → s ≡ t
 one_suite s t e = one_number s t (omega (arith, e))
 
--- there are six suites
+-- the numbers of the suites go up to 6
 pub six : (s : Suite) → suite_number s ≤ 6
 six ChaCha20Poly1305 = omega arith
 six Aes128Gcm = omega arith
@@ -49,7 +49,7 @@ six Aes256Gcm = omega arith
 six Aes128GcmSiv = omega arith
 six Aes256GcmSiv = omega arith
 
--- what is no suite is none
+-- an option that is not any suite is `None`
 pub none_of : (r : Option Suite) → ((s : Suite) → r ≡ Some s → ⊥) → r ≡ None
 none_of None never = refl
 none_of (Some s) never = absurd (never s refl)

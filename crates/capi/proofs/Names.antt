@@ -1,4 +1,4 @@
--- The names of the suites are text, and no suite has the number 0.
+-- The names of the suites are UTF-8, and no suite has the number 0.
 use Rattle.std.proofs.Common.{◌≡◌, refl, arith}
 use Rattle.std.specs.Char.{encode_utf8}
 use Rattle.std.specs.Str.{IsUtf8, is_utf8, chars}

@@ -7,6 +7,7 @@ use Rattle.octets.specs.declared.fault.Fault.TheVariants.{OutOfMemory, StreamEnd
 use Rattle.octets.specs.Numbers.{HasOutcome, fault_number, outcome_number}
 use Rattle.capi.specs.Suites.{not_begun}
 
+-- no fault has the number 0
 not_zero : (f : Fault) → fault_number f ≡ 0 → ⊥
 not_zero KeyLength e = omega (arith, e)
 not_zero NonceLength e = omega (arith, e)
@@ -27,7 +28,7 @@ pub done : (n : ℕ) (D : Type 0) (R : Fault → Type 0) → HasOutcome n D R �
 done n D R (Ok x, (e, d)) z = d
 done n D R (Err f, (e, r)) z = absurd (not_zero f (sym e ∙ z))
 
--- what a call does is changed to what follows from it
+-- a fact that holds after success may be replaced by one that follows from it
 pub done_as : (r : Result (Unit {0}) Fault) (D E : Type 0) (R : Fault → Type 0) → (D → E)
     → MatchResult r (λ _. D) R → MatchResult r (λ _. E) R
 done_as (Ok x) D E R f h = f h
@@ -49,7 +50,7 @@ fault_begun Read e = omega (arith, e)
 fault_begun Write e = omega (arith, e)
 fault_begun SourceChanged e = omega (arith, e)
 
--- nor has an outcome
+-- no outcome has the number of a call on a struct in which nothing is begun
 pub begun : (n : ℕ) (r : Result (Unit {0}) Fault) → n ≡ outcome_number r → n ≡ not_begun → ⊥
 begun n (Ok x) e none = omega (arith, e, none)
 begun n (Err f) e none = fault_begun f (sym e ∙ none)

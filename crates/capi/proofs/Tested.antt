@@ -4,7 +4,7 @@ use Rattle.std.proofs.lemmas.Option.{none-some, same_Some}
 use Rattle.aead.specs.declared.suite.Suite.{Suite}
 use Rattle.aead.specs.Suites.{ByGcmSiv, construction_of, is_one_pass, suite_number}
 
--- one that was found and passes
+-- a suite was found and passes the test
 pub passed : (T : Suite → Type 0) (number : ℕ) (r : Option Suite) (s : Suite)
     → ((t : Suite) → (r ≡ Some t) ↔ (number ≡ suite_number t)) → r ≡ Some s → T s
     → (t : Suite) → (Some s ≡ Some t) ↔ (T t × (number ≡ suite_number t))
@@ -13,7 +13,7 @@ passed T number r s law is holds t = (
   λ h. sym is ∙ (law t).1 h.1,
 )
 
--- one that was found and fails
+-- a suite was found and fails the test
 pub failed : (T : Suite → Type 0) (number : ℕ) (r : Option Suite) (s : Suite)
     → ((t : Suite) → (r ≡ Some t) ↔ (number ≡ suite_number t)) → r ≡ Some s → (T s → ⊥)
     → (t : Suite) → (None ≡ Some t) ↔ (T t × (number ≡ suite_number t))
@@ -22,12 +22,12 @@ failed T number r s law is fails t = (
   λ h. absurd (fails (subst T (sym (same_Some s t (sym is ∙ (law t).1 h.1))) h.0)),
 )
 
--- none was found
+-- no suite was found
 pub unknown : (T : Suite → Type 0) (number : ℕ) (r : Option Suite)
     → ((t : Suite) → (r ≡ Some t) ↔ (number ≡ suite_number t)) → r ≡ None
     → (t : Suite) → (None ≡ Some t) ↔ (T t × (number ≡ suite_number t))
 unknown T number r law is t = (λ same. absurd (none-some t same), λ h. sym is ∙ (law t).1 h.1)
 
--- no suite is of both kinds
+-- no suite is one of AES-GCM-SIV and has its tag over the ciphertext
 pub not_both : (s : Suite) → construction_of s ≡ ByGcmSiv → is_one_pass (construction_of s) ≡ true → ⊥
 not_both s siv one = true≢false (sym one ∙ ap is_one_pass siv)

@@ -1,7 +1,7 @@
--- The texts of statuses at C.
+-- The texts of the statuses at C.
 use Rattle.std.specs.Prelude.{ℕ, List, [], codes, nat_eq, if◌then◌else◌}
 
--- the text of a status; empty for a number of none
+-- the text of a status; empty if the number is not a status
 abbrev pub status_text : ℕ → List ℕ
 status_text n =
     if nat_eq n 0 then codes "done" else

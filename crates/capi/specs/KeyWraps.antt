@@ -1,4 +1,4 @@
--- The outcomes of C's calls of key wrap, each into another output.
+-- The outcomes of the calls for C that wrap and unwrap into another output (RFC 3394; RFC 5649).
 use Rattle.std.specs.Prelude.{◌≡◌, ◌≢◌, ℕ, ◌+◌, ◌-◌, ◌%◌, ◌^◌, ◌≤◌, List, length}
 use Rattle.octets.specs.declared.fault.Fault.{Fault}
 use Rattle.octets.specs.declared.fault.Fault.TheVariants.{WrapIntegrity}
@@ -10,8 +10,8 @@ use Rattle.keywrap.specs.Refusals.{PaddedWrapToRefused, PaddedUnwrapToRefused}
 use Rattle.capi.specs.Suites.{output_length, HasOutcomeOr}
 use Rattle.capi.specs.Refusals.{KeyedRefused}
 
--- the status of wrapping a text into an output: the output is the wrapping; or it is as it was, by a length that is not
--- allowed, or as not as long as the wrapping
+-- the status of wrapping a text into an output (RFC 3394, 2.2.1): either the output is the wrapping; or it is as it was, since a
+-- length is not allowed or the output is not as long as the wrapping
 abbrev pub WrapsTo : (status : ℕ) → (key text wrapped wrapped' : List ℕ) → Type 0
 WrapsTo status key text wrapped wrapped' =
     HasOutcomeOr output_length status (IsKey key × Unwrapped key wrapped' text)
@@ -19,14 +19,14 @@ WrapsTo status key text wrapped wrapped' =
     ((wrapped' ≡ wrapped) × IsKeyLength (length key) × HasTextLength text
     × (length wrapped ≢ length text + 8))
 
--- why a wrapping is not unwrapped into an output for its text: for a length, or as not a valid wrapping
+-- why bytes are not unwrapped into an output for their text: a length is not allowed, or they are not a valid wrapping
 abbrev pub WrappedRefused : (key wrapped text : List ℕ) → Fault → Type 0
 WrappedRefused key wrapped text WrapIntegrity =
     (length wrapped ≡ length text + 8) × UnwrapToRefused key wrapped WrapIntegrity
 WrappedRefused key wrapped text fault = UnwrapToRefused key wrapped fault
 
--- the status of unwrapping into an output: the output is the text; or nothing is unwrapped; or the output, as it was, is not
--- as long as the text
+-- the status of unwrapping into an output (RFC 3394, 2.2.2): either the output is the text; or nothing is unwrapped; or the
+-- output is not as long as the text, and is as it was
 abbrev pub UnwrapsTo : (status : ℕ) → (key wrapped text text' : List ℕ) → Type 0
 UnwrapsTo status key wrapped text text' =
     HasOutcomeOr output_length status (IsKey key × Unwrapped key wrapped text')
@@ -34,7 +34,8 @@ UnwrapsTo status key wrapped text text' =
     ((text' ≡ text) × IsKeyLength (length key) × HasWrappedLength wrapped
     × (length wrapped ≢ length text + 8))
 
--- the status of wrapping a text with padding into an output
+-- the status of wrapping a text with padding into an output (RFC 5649, 4.1): either the output is the wrapping; or it is as it
+-- was, since a length is not allowed or the output is not as long as the wrapping
 abbrev pub WrapsPaddedTo : (status : ℕ) → (key text wrapped wrapped' : List ℕ) → Type 0
 WrapsPaddedTo status key text wrapped wrapped' =
     HasOutcomeOr output_length status (IsKey key × UnwrappedPadded key wrapped' text)
@@ -42,15 +43,16 @@ WrapsPaddedTo status key text wrapped wrapped' =
     ((wrapped' ≡ wrapped) × IsKeyLength (length key) × HasPaddableLength text
     × (length wrapped ≢ 8 + (length text + (8 - length text % 8) % 8)))
 
--- why a wrapping with padding is not unwrapped into an output: for a length, or as not a valid wrapping
+-- why bytes are not unwrapped with padding into an output for their text: a length is not allowed, or they are not a valid
+-- wrapping
 abbrev pub PaddedRefused : (key wrapped text : List ℕ) → Fault → Type 0
 PaddedRefused key wrapped text WrapIntegrity =
     (length wrapped ≡ length text + 8) × PaddedUnwrapToRefused key wrapped WrapIntegrity
 PaddedRefused key wrapped text fault = PaddedUnwrapToRefused key wrapped fault
 
--- the status of unwrapping with padding into an output and a number n, which become the text and zeros, and the text's length;
--- or nothing is unwrapped, and the number is as it was; or both are as they were, as the output is not eight bytes shorter
--- than the wrapping
+-- the status of unwrapping with padding into an output and a number n (RFC 5649, 4.2): either these become the text with the
+-- zeros of its padding, and the text's length; or nothing is unwrapped, and n is as it was; or the output is not 8 bytes shorter
+-- than the wrapping, and both are as they were
 abbrev pub UnwrapsPaddedTo : (status : ℕ) → (key wrapped text text' : List ℕ) → (n n' : ℕ) → Type 0
 UnwrapsPaddedTo status key wrapped text text' n n' =
     HasOutcomeOr output_length status (IsKey key × UnwrappedPaddedTo key wrapped n' text')

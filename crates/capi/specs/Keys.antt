@@ -13,6 +13,6 @@ key_mark suite = 0x6369706865720200 + suite_number suite
 abbrev pub first_key : Suite → List ℕ → List ℕ
 first_key suite bytes = take (key_length suite) bytes
 
--- why no key is kept
+-- why a key is not kept: it does not have the suite's length
 abbrev pub KeyRefused : Suite → List ℕ → Fault → Type 0
 KeyRefused suite key fault = (fault ≡ KeyLength) × (length key ≢ key_length suite)

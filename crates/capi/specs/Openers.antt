@@ -16,11 +16,11 @@ use Rattle.aead.specs.Suites.{suite_number}
 abbrev pub checking : ℕ
 checking = 0x6f70656e65720200
 
--- and in the second pass: `opened`
+-- the kind of struct in the second pass: `opened` in ASCII, and the version of the layout
 abbrev pub opening : ℕ
 opening = 0x6f70656e65640200
 
--- the mark is that of no suite, in this pass
+-- the mark is not that of a suite in this pass
 abbrev pub NotIn : ℕ → StoredOpener → Type 0
 NotIn kind p = (suite : Suite) → p.mark ≢ kind + suite_number suite
 
@@ -28,12 +28,13 @@ NotIn kind p = (suite : Suite) → p.mark ≢ kind + suite_number suite
 abbrev pub zeros : StoredOpener
 zeros = record { mark = 0; opener = zero_opener }
 
--- p is in the first pass of opening a ciphertext under this tag, and has taken in these bytes of it
+-- p is in the first pass of opening a ciphertext under this tag, and has taken in these bytes of the ciphertext
 pub record HoldsChecking (p : StoredOpener) (s : Setting) (tag bytes : List ℕ) : Type 0 where
   pub mark_is : p.mark ≡ checking + suite_number s.suite
   pub opener : HoldsFirstPass p.opener s tag bytes
 
--- p is in the second pass, after a first one of this many bytes that was over a sealing, and has taken in these
+-- p is in the second pass, and has taken in these bytes of the ciphertext. The first pass was over a valid sealing, with this
+-- many bytes of ciphertext
 pub record HoldsOpening (p : StoredOpener) (s : Setting) (tag : List ℕ) (first : ℕ) (bytes : List ℕ) : Type 0
   where
     pub mark_is : p.mark ≡ opening + suite_number s.suite
@@ -47,15 +48,15 @@ Checks p q piece status s tag bytes =
     HoldsChecking p s tag bytes → HasOutcome status (HoldsChecking q s tag (bytes ++ piece))
     (λ e. SealRefused s (bytes ++ piece) e)
 
--- p becomes q: the first pass was over a sealing, and the second begins; or what it took in is none
+-- p becomes q: either the first pass was over a valid sealing, and the second begins; or it was not
 abbrev pub BeginsSecond : (p q : StoredOpener) (status : ℕ) → Setting → (tag bytes : List ℕ) → Type 0
 BeginsSecond p q status s tag bytes =
     HoldsChecking p s tag bytes
     → HasOutcome status (HoldsOpening q s tag (length bytes) [] × Opens s tag bytes)
     (λ e. (e ≡ TagMismatch) × IsNoSealing s (bytes ++ tag))
 
--- p becomes q, and was becomes now: a piece is taken in and decrypted, after a first pass over a sealing, or the
--- second pass would be longer than the first
+-- p becomes q, and the bytes `was` become `now`: either a piece is taken in and decrypted, after a first pass over a valid
+-- sealing; or the second pass would be longer than the first
 abbrev pub Decrypts : (p q : StoredOpener) (was now : List ℕ) (status : ℕ) → Setting → (tag : List ℕ)
     (first : ℕ) (bytes : List ℕ) → Type 0
 Decrypts p q was now status s tag first bytes =
@@ -64,7 +65,7 @@ Decrypts p q was now status s tag first bytes =
     × WasOverASealing s tag first)
     (λ e. (e ≡ SourceChanged) × (first < length (bytes ++ was)))
 
--- the second pass was over a sealing, whose text it gave; or what it took in is none
+-- either the second pass was over a valid sealing, whose text it gave; or it was not
 abbrev pub Ends : (p : StoredOpener) (status : ℕ) → Setting → (tag : List ℕ) (first : ℕ) (bytes : List ℕ)
     → Type 0
 Ends p status s tag first bytes =

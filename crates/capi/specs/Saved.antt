@@ -1,4 +1,4 @@
--- Sealings and openings in pieces that are saved and gone on from.
+-- Sealings and openings in pieces that are saved and resumed.
 use Rattle.std.specs.Prelude.{◌≡◌, ◌≢◌, ℕ, ◌+◌, true, List}
 use Rattle.octets.specs.Numbers.{HasOutcome}
 use Rattle.aead.specs.declared.suite.Suite.{Suite}
@@ -9,20 +9,21 @@ use Rattle.aead.specs.PassStates.{HasHashKey}
 use Rattle.aead.specs.KeyedPasses.{setting_of, ResumeRefused}
 use Rattle.capi.specs.Sealers.{sealer_mark}
 
--- the mark is that of no suite, in this kind of struct
+-- the mark is not that of a suite in this kind of struct
 abbrev pub NotMarked : (kind mark : ℕ) → Type 0
 NotMarked kind mark = (suite : Suite) → mark ≢ kind + suite_number suite
 
--- the mark is that of no suite of one reading, in a sealing in pieces
+-- the mark is not that of a sealing in pieces under a suite whose tag is over the ciphertext
 abbrev pub NotOfSealer : (mark : ℕ) → Type 0
 NotOfSealer mark = (suite : Suite) → is_one_pass (construction_of suite) ≡ true → mark ≢ sealer_mark suite
 
--- the mark is that of no suite of AES-GCM-SIV, in this kind of struct
+-- the mark is not that of a suite of AES-GCM-SIV in this kind of struct
 abbrev pub NotOfSiv : (kind mark : ℕ) → Type 0
 NotOfSiv kind mark = (suite : Suite) → construction_of suite ≡ ByGcmSiv → mark ≢ kind + suite_number suite
 
--- under the bytes of a key and of a nonce, from which the keys of the hash in these numbers come, what is saved under any
--- associated data is gone on from; or a length is wrong, or the numbers are of another key or nonce
+-- the status of resuming saved numbers under a key and a nonce: either the hash key in the numbers is that of the key and the
+-- nonce, and the call goes on from what was saved, whatever its associated data is; or a length is wrong, or the numbers are of
+-- another key or nonce
 abbrev pub Resumes : (status : ℕ) → PassState → Suite → (key nonce : List ℕ) → (Setting → Type 0) → Type 0
 Resumes status n suite key nonce GoesOn = HasOutcome status
     (HasHashKey n (setting_of suite key nonce) × ((aad : List ℕ) → GoesOn (setting_of suite key nonce aad)))

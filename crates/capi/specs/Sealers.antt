@@ -13,7 +13,7 @@ use Rattle.capi.specs.declared.sealer.StoredSealer.{StoredSealer}
 abbrev pub sealer_mark : Suite → ℕ
 sealer_mark suite = 0x7365616c65720200 + suite_number suite
 
--- the mark is that of no suite whose tag is over the ciphertext
+-- the mark is not that of a suite whose tag is over the ciphertext
 abbrev pub NotBegun : StoredSealer → Type 0
 NotBegun p = (suite : Suite) → is_one_pass (construction_of suite) ≡ true → p.mark ≢ sealer_mark suite
 
@@ -26,7 +26,8 @@ pub record HoldsText (p : StoredSealer) (s : Setting) (text : List ℕ) : Type 0
   pub mark_is : p.mark ≡ sealer_mark s.suite
   pub sealer : HoldsKeyedText p.sealer s text
 
--- p becomes q, and was becomes now: if p holds the text, a piece is added and masked, or the text would be too long
+-- p becomes q, and the bytes `was` become `now`: if p holds the text, either a piece is added and masked, or the text would be
+-- too long
 abbrev pub Updates : (p q : StoredSealer) (was now : List ℕ) (status : ℕ) → Setting → List ℕ → Type 0
 Updates p q was now status s text =
     HoldsText p s text → HasOutcome status

@@ -1,4 +1,4 @@
--- Sealings in pieces by two readings in C's memory.
+-- Sealings in pieces in two readings in C's memory.
 use Rattle.std.specs.Prelude.{◌≡◌, ◌≢◌, ◌<◌, ℕ, ◌+◌, List, [], ◌++◌, length}
 use Rattle.octets.specs.Masked.{masked}
 use Rattle.octets.specs.Numbers.{HasOutcome}
@@ -16,11 +16,11 @@ use Rattle.capi.specs.declared.siv.StoredSiv.{StoredSiv}
 abbrev pub absorbing : ℕ
 absorbing = 0x7369766f6e650200
 
--- and in the second reading: `sivtwo`
+-- the kind of struct in the second reading: `sivtwo` in ASCII, and the version of the layout
 abbrev pub writing : ℕ
 writing = 0x73697674776f0200
 
--- the mark is that of no suite of AES-GCM-SIV, in this reading
+-- the mark is not that of a suite of AES-GCM-SIV in this reading
 abbrev pub NotIn : ℕ → StoredSiv → Type 0
 NotIn kind p = (suite : Suite) → construction_of suite ≡ ByGcmSiv → p.mark ≢ kind + suite_number suite
 
@@ -33,7 +33,7 @@ pub record HoldsAbsorbing (p : StoredSiv) (s : Setting) (text : List ℕ) : Type
   pub mark_is : p.mark ≡ absorbing + suite_number s.suite
   pub siv : HoldsFirstReading p.siv s text
 
--- p is in the second reading, after a first one of another text, and has taken in this one, which is no longer
+-- p is in the second reading, and has taken in this text; the text `first` of the first reading is not shorter
 pub record HoldsWriting (p : StoredSiv) (s : Setting) (first text : List ℕ) : Type 0 where
   pub mark_is : p.mark ≡ writing + suite_number s.suite
   pub siv : HoldsSecondReading p.siv s first text
@@ -51,8 +51,8 @@ abbrev pub BeginsSecond : (p q : StoredSiv) (tag : List ℕ) (status : ℕ) → 
 BeginsSecond p q tag status s text =
     HoldsAbsorbing p s text → (status ≡ 0) × (tag ≡ tag_of s text) × HoldsWriting q s text []
 
--- p becomes q, and was becomes now: a piece is taken in and encrypted, or the second text would be longer than
--- the first
+-- p becomes q, and the bytes `was` become `now`: either a piece is taken in and encrypted, or the second text would be longer
+-- than the first
 abbrev pub Encrypts : (p q : StoredSiv) (was now : List ℕ) (status : ℕ) → Setting → (first text : List ℕ)
     → Type 0
 Encrypts p q was now status s first text =
@@ -60,7 +60,7 @@ Encrypts p q was now status s first text =
     (HoldsWriting q s first (text ++ was) × (now ≡ masked (mask_of s (tag_of s first)) (length text) was))
     (λ e. (e ≡ SourceChanged) × (length first < length (text ++ was)))
 
--- the second text has the length and the tag of the first, or not
+-- either the second text has the length and the tag of the first, or it does not
 abbrev pub Ends : (p : StoredSiv) (status : ℕ) → Setting → (first text : List ℕ) → Type 0
 Ends p status s first text =
     HoldsWriting p s first text → HasOutcome status (Repeats s first text)

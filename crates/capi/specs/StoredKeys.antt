@@ -12,17 +12,17 @@ pub record KeepsKey (p : StoredKey) (suite : Suite) (key : List ℕ) : Type 0 wh
   pub mark_is : p.numbers.mark ≡ key_mark suite
   pub key_is : key ≡ first_key suite p.numbers.key
 
--- n are the numbers of a struct that keeps this key for this suite: what is made of the key is there, and zeros after
--- the key, so that nothing of an earlier key is left
+-- n are the numbers of a struct that keeps this key for this suite, with the values that depend on the key. After the key there
+-- are zeros, so that nothing of an earlier key is left
 pub record AreOfKey (n : KeyNumbers) (suite : Suite) (key : List ℕ) : Type 0 where
   pub keeps : (p : StoredKey) × ((p.numbers ≡ n) × KeepsKey p suite key)
   pub padded : drop (key_length suite) n.key ≡ replicate (32 - key_length suite) 0
 
--- the mark is that of no suite
+-- the mark is not that of a suite
 abbrev pub KeepsNone : KeyNumbers → Type 0
 KeepsNone n = (suite : Suite) → n.mark ≢ key_mark suite
 
--- n is zeros: neither a key nor anything that was made of one is left in it
+-- n is zeros: neither a key nor a value that depends on one is left in it
 pub record IsCleared (n : KeyNumbers) : Type 0 where
   pub mark_is : n.mark ≡ 0
   pub key_is : n.key ≡ replicate 32 0

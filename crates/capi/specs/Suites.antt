@@ -7,7 +7,7 @@ use Rattle.octets.specs.declared.fault.Fault.{Fault}
 abbrev pub unknown_suite : ℕ
 unknown_suite = 14
 
--- the status of a call on a struct in which nothing is begun
+-- the status of a call on a struct in which nothing is begun or kept
 abbrev pub not_begun : ℕ
 not_begun = 15
 
@@ -15,12 +15,13 @@ not_begun = 15
 abbrev pub output_length : ℕ
 output_length = 16
 
--- the status is that of an outcome with these facts, or another one with this fact
+-- the status is that of an outcome with these facts, or it is `other` and the fact `misfit` holds
 abbrev pub HasOutcomeOr : (other status : ℕ) (done : Type 0) (refused : Fault → Type 0) (misfit : Type 0) → Type 0
 HasOutcomeOr other status done refused misfit =
     HasOutcome status done refused ⊎ ((status ≡ other) × misfit)
 
--- the status of a call that adds bytes to those counted so far: all are within the limit, or past it with this fault
+-- the status of a call that adds bytes to those counted so far: 0 if all of them are within the limit, and this fault if they are
+-- past it
 abbrev pub FitsOr : Fault → (status count added limit : ℕ) → Type 0
 FitsOr fault status count added limit =
     HasOutcome status (count + added ≤ limit) (λ e. (e ≡ fault) × (limit < count + added))

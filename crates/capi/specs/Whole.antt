@@ -1,4 +1,4 @@
--- The outcomes of C's calls on whole messages.
+-- The outcomes of the calls for C on whole messages.
 use Rattle.std.specs.Prelude.{◌≡◌, ◌≢◌, ℕ, ◌+◌, ◌<◌, ◌≤◌, List, ◌++◌, length, replicate}
 use Rattle.octets.specs.declared.fault.Fault.{Fault}
 use Rattle.octets.specs.declared.fault.Fault.TheVariants.{KeyLength, NonceLength, TextTooLong, AadTooLong}
@@ -22,7 +22,7 @@ LengthRefused s text fault = BeginRefused s fault
 abbrev pub WasSealed : Setting → (text text' tag' : List ℕ) → Type 0
 WasSealed s text text' tag' = HasLengths s × Opened s (text' ++ tag') text
 
--- a length refused the text, and neither it nor the room for the tag was changed
+-- a length does not fit, and neither the text nor the room for the tag was changed
 abbrev pub WasNotSealed : Setting → (text tag text' tag' : List ℕ) → Fault → Type 0
 WasNotSealed s text tag text' tag' fault = (text' ≡ text) × (tag' ≡ tag) × LengthRefused s text fault
 
@@ -30,12 +30,12 @@ WasNotSealed s text tag text' tag' fault = (text' ≡ text) × (tag' ≡ tag) ×
 abbrev pub WasOpened : Setting → (text tag text' : List ℕ) → Type 0
 WasOpened s text tag text' = HasLengths s × Opened s (text ++ tag) text'
 
--- why a ciphertext and a tag are not opened: for a length, or as not a valid sealing
+-- why a ciphertext and a tag are not opened: a length does not fit, or they are not a valid sealing
 abbrev pub BodyRefused : Setting → (text tag : List ℕ) → Fault → Type 0
 BodyRefused s text tag TagMismatch = HasLengths s × Fits s text × IsNoSealing s (text ++ tag)
 BodyRefused s text tag fault = LengthRefused s text fault
 
--- a length that refuses a text refuses a ciphertext
+-- if a length does not fit for sealing a text, it does not fit for opening a ciphertext
 pub length_refuses : (s : Setting) (text tag : List ℕ) (fault : Fault) → LengthRefused s text fault
     → BodyRefused s text tag fault
 length_refuses s text tag KeyLength h = h
@@ -52,21 +52,21 @@ length_refuses s text tag Read h = h
 length_refuses s text tag Write h = h
 length_refuses s text tag SourceChanged h = h
 
--- they were not opened, and none of the bytes was changed
+-- a ciphertext and a tag were not opened, and no byte was changed
 abbrev pub WasNotOpened : Setting → (text tag text' : List ℕ) → Fault → Type 0
 WasNotOpened s text tag text' fault = (text' ≡ text) × BodyRefused s text tag fault
 
 -- ---- into another output, with the tag behind the ciphertext
 
--- the status of sealing a text into an output: the output is the sealing; or it is as it was, by a length that does not fit,
--- or as not as long as the sealing
+-- the status of sealing a text into an output: either the output is the sealing; or it is as it was, since a length does not fit
+-- or the output is not as long as the sealing
 abbrev pub SealsTo : (status : ℕ) → Setting → (text sealed sealed' : List ℕ) → Type 0
 SealsTo status s text sealed sealed' =
     HasOutcomeOr output_length status (HasLengths s × Opened s sealed' text)
     (λ e. (sealed' ≡ sealed) × LengthRefused s text e)
     ((sealed' ≡ sealed) × HasLengths s × Fits s text × (length sealed ≢ length text + 16))
 
--- why a sealing is not opened into an output for its text: for a length, or as not a valid sealing
+-- why bytes are not opened into an output for their text: a length does not fit, or they are not a valid sealing
 abbrev pub SealedRefused : Setting → (sealed text : List ℕ) → Fault → Type 0
 SealedRefused s sealed text TooShort =
     HasLengths s × (length s.aad ≤ aad_limit s.suite) × (length sealed < 16)
@@ -76,13 +76,13 @@ SealedRefused s sealed text TagMismatch =
     HasLengths s × FitsSealed s sealed × (length sealed ≡ length text + 16) × IsNoSealing s sealed
 SealedRefused s sealed text fault = BeginRefused s fault
 
--- what is left in the output at a fault: zeros if the sealing is not valid, else its bytes
+-- the output after a fault: zeros if the sealing is not valid, else as it was
 abbrev pub left_at : Fault → List ℕ → List ℕ
 left_at TagMismatch text = replicate (length text) 0
 left_at fault text = text
 
--- the status of opening a sealing into an output: the output is the text; or nothing is opened; or the output, as it was, is
--- not as long as the text
+-- the status of opening a sealing into an output: either the output is the text; or nothing is opened; or the output is not as
+-- long as the text, and is as it was
 abbrev pub OpensTo : (status : ℕ) → Setting → (sealed text text' : List ℕ) → Type 0
 OpensTo status s sealed text text' =
     HasOutcomeOr output_length status (HasLengths s × Opened s sealed text')

@@ -1,4 +1,4 @@
-//! The calls for C that tell facts: of the suites, of the statuses and of the library.
+//! The calls for C that return facts about the suites, the statuses and the library.
 
 ghost use Rattle.std.specs.Prelude.{◌≡◌, ◌≢◌, ◌↔◌, ◌++◌, length, take, drop};
 ghost use Rattle.aead.specs.declared.suite.Suite.{Suite};
@@ -9,7 +9,7 @@ use crate::suites::suite_numbered;
 use aead::Suite;
 use std::str::from_utf8;
 
-/// The bytes of a suite's key; 0 if no suite has the number.
+/// Returns the length of a suite's key in bytes: 16, 24 or 32; 0 if no suite has the number.
 #[unsafe(no_mangle)]
 pub extern "C" fn aeadkit_key_length(suite: u32) -> usize
     ensures known { (named : Suite) → suite ≡ suite_number named → result ≡ key_length named }
@@ -21,7 +21,8 @@ pub extern "C" fn aeadkit_key_length(suite: u32) -> usize
     }
 }
 
-/// The most bytes of a suite's text; 0 if no suite has the number.
+/// Returns the length of the longest text under a suite, in bytes: 2^38 - 64 (RFC 8439, 2.8), 2^36 - 32 (SP 800-38D, 5.2.1.1) or
+/// 2^36 (RFC 8452, 6); 0 if no suite has the number.
 #[unsafe(no_mangle)]
 pub extern "C" fn aeadkit_text_limit(suite: u32) -> u64
     ensures known { (named : Suite) → suite ≡ suite_number named → result ≡ text_limit named }
@@ -33,7 +34,8 @@ pub extern "C" fn aeadkit_text_limit(suite: u32) -> u64
     }
 }
 
-/// The most bytes of a suite's associated data; 0 if no suite has the number.
+/// Returns the length of the longest associated data under a suite, in bytes: 2^64 - 1 (RFC 8439, 2.8), 2^61 - 1 (SP 800-38D,
+/// 5.2.1.1, which counts bits) or 2^36 (RFC 8452, 6); 0 if no suite has the number.
 #[unsafe(no_mangle)]
 pub extern "C" fn aeadkit_aad_limit(suite: u32) -> u64
     ensures known { (named : Suite) → suite ≡ suite_number named → result ≡ aad_limit named }
@@ -45,8 +47,8 @@ pub extern "C" fn aeadkit_aad_limit(suite: u32) -> u64
     }
 }
 
-/// The number of the suite of a name: `chacha20-poly1305`, `aes-128-gcm`, `aes-192-gcm`, `aes-256-gcm`, `aes-128-gcm-siv` or
-/// `aes-256-gcm-siv`; 0 if no suite has the name.
+/// Returns the number of the suite with a name, from 1 to 6 in this order: `chacha20-poly1305`, `aes-128-gcm`, `aes-192-gcm`,
+/// `aes-256-gcm`, `aes-128-gcm-siv`, `aes-256-gcm-siv`; 0 if no suite has the name.
 #[unsafe(no_mangle)]
 pub extern "C" fn aeadkit_suite_named(name: &[u8]) -> u32
     ensures named { (suite : Suite) → (result ≡ suite_number suite) ↔ (name.now ≡ suite_name suite) }
@@ -61,7 +63,7 @@ pub extern "C" fn aeadkit_suite_named(name: &[u8]) -> u32
     }
 }
 
-// The text of a status; the empty text if the number is not a status.
+// Returns the text of a status; the empty text if the number is not a status.
 fn text_of(status: u32) -> &'static str
     ensures { result.now ≡ status_text status }
 {
@@ -83,8 +85,9 @@ fn text_of(status: u32) -> &'static str
     }
 }
 
-/// Writes as much of a status's text as there is room for, in ASCII with no zero at its end, and leaves the bytes behind it as
-/// they were. Returns the bytes of the whole text; 0 for a number that is no status.
+/// Writes the text of a status, in ASCII without a zero at its end: as much of it as there is room for. The bytes of `text`
+/// behind it stay as they were. Returns the length of the whole text in bytes, which may be more than there is room for; 0 if the
+/// number is not a status.
 #[unsafe(no_mangle)]
 pub extern "C" fn aeadkit_status_text(status: u32, text: &mut [u8]) -> usize
     ensures whole { result ≡ length (status_text status) }
@@ -97,7 +100,7 @@ pub extern "C" fn aeadkit_status_text(status: u32, text: &mut [u8]) -> usize
     whole.len()
 }
 
-/// The version of the library: its three numbers, as major * 10000 + minor * 100 + patch.
+/// Returns the version of the library, as major * 10000 + minor * 100 + patch.
 #[unsafe(no_mangle)]
 pub extern "C" fn aeadkit_version() -> u32
     ensures { result ≡ 30000 }

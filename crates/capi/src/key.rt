@@ -1,4 +1,4 @@
-//! The calls for C on a key that is kept between messages: what is made of the key alone is made once.
+//! The calls for C on a key that is kept between messages. The values that depend on the key alone are computed once.
 
 ghost use Rattle.std.specs.Prelude.{◌≡◌, ◌≢◌, ◌≤◌, ℕ, List, [], length, true, false, MatchResult, OnErr};
 ghost use Rattle.octets.specs.Numbers.{HasOutcome};
@@ -23,8 +23,9 @@ use crate::whole::{Direction, Keys, Opening, Sealing, open_to, run_gcm, run_in_p
 use aead::{BorrowedGcm, ChaChaPoly, GcmSiv, KeyedOpener, KeyedSealer, KeyedSiv, Suite};
 use octets::{Fault, Key32, Nonce, WIDE, outcome_number};
 
-// Whether the multiples that are kept hash a message sooner than others made for it. Made ones start at multiples of 16
-// bytes in memory, so that a sum takes one from there without a load before it; wide vectors spare that load anywhere.
+// Whether a message is hashed sooner with the kept multiples than with others that are computed for it. Those computed for it are
+// aligned to 16 bytes, so that an XOR takes one straight from memory, without a load before it; with wide vectors an XOR does so
+// at any address.
 fn is_short(aad: &[u8], text: &[u8]) -> bool {
     WIDE || aad.len() < 64 && text.len() < 96
 }
@@ -69,7 +70,7 @@ fn run_by_kept<D: Direction>(
     }
 }
 
-// A key that is kept, of this suite.
+// A kept key of this suite.
 #[derive(Drop)]
 struct ByKept<'a> {
     suite: Suite,
@@ -84,7 +85,7 @@ impl<'a> Keys for ByKept<'a> {
         self.suite
     }
 
-    // A kept key has its suite's length, so the compiler leaves out the comparison, by which the proof sees it.
+    // A kept key always has its suite's length. The comparison shows this to the prover, and the compiler leaves it out.
     fn check_key(&self) -> Result<(), Fault> {
         if self.kept.key(self.suite).len() != self.suite.key_length() {
             return Err(Fault::KeyLength);
@@ -103,7 +104,7 @@ impl<'a> Keys for ByKept<'a> {
     }
 }
 
-// Begins the sealing of the empty text, under a kept key and the bytes of a nonce.
+// Begins a sealing in pieces, which holds the empty text, under a kept key and the bytes of a nonce.
 fn begin_sealer(
     sealer: &mut KeyedSealer,
     kept: &StoredKey,
@@ -128,7 +129,7 @@ fn begin_sealer(
     )
 }
 
-// Begins the first pass of an opening, under a kept key, the bytes of a nonce and a tag.
+// Begins the first pass of an opening, under a kept key, the bytes of a nonce, and a tag.
 fn begin_opener(
     opener: &mut KeyedOpener,
     kept: &StoredKey,
@@ -179,7 +180,7 @@ fn begin_siv(
     )
 }
 
-/// Leaves zeros in the struct, whatever it was: it keeps no key then, and nothing that was made of one.
+/// Leaves zeros in the struct, whatever bytes it held: it then keeps neither a key nor a value that depends on one.
 #[unsafe(no_mangle)]
 pub extern "C" fn aeadkit_key_wipe(kept: &mut KeyNumbers)
     ensures none { KeepsNone kept.new }
@@ -188,8 +189,9 @@ pub extern "C" fn aeadkit_key_wipe(kept: &mut KeyNumbers)
     *kept = KeyNumbers::zeros();
 }
 
-/// Keeps a key of a suite. What the struct was before makes no difference. `UNKNOWN_SUITE`, then `KeyLength`:
-/// both leave zeros in the struct, which keeps no key.
+/// Puts a key of a suite into the struct, with the values that depend on the key alone. What the struct held before makes no
+/// difference. Returns 0, or the first of these that applies: `UNKNOWN_SUITE` if no suite has the number, `KeyLength` if the key
+/// does not have the suite's length. On both, zeros are left in the struct, which then keeps no key.
 #[unsafe(no_mangle)]
 pub extern "C" fn aeadkit_key_init(kept: &mut KeyNumbers, suite: u32, key: &[u8]) -> u32
     ensures known { (named : Suite) → suite ≡ suite_number named
@@ -209,12 +211,13 @@ pub extern "C" fn aeadkit_key_init(kept: &mut KeyNumbers, suite: u32, key: &[u8]
     outcome_number(Ok(()))
 }
 
-/// Seals in place under a kept key, as `aeadkit_seal_in_place` does under its bytes. `NOT_BEGUN` if the struct keeps no
-/// key.
+/// Seals in place under a kept key, as `aeadkit_seal_in_place` does under the bytes of a key. Returns 0, or the first of these
+/// that applies: `NOT_BEGUN` if the struct keeps no key, `NonceLength`, `AadTooLong`, `TextTooLong`. On each of them nothing is
+/// changed.
 ///
-/// The nonce must never be used twice under one key. Under ChaCha20-Poly1305 and AES-GCM a repeat gives away the XOR of
-/// the two texts, and enough to forge messages; under AES-GCM-SIV it gives away only whether the texts and the
-/// associated data were the same.
+/// The nonce must never be used twice under one key. Under ChaCha20-Poly1305 and AES-GCM a repeat gives away the XOR of the two
+/// texts, and enough to forge messages; under AES-GCM-SIV it gives away only whether the texts and the associated data were the
+/// same.
 #[unsafe(no_mangle)]
 pub extern "C" fn aeadkit_seal_in_place_with(
     kept: &StoredKey,
@@ -239,8 +242,9 @@ pub extern "C" fn aeadkit_seal_in_place_with(
     }
 }
 
-/// Opens in place under a kept key, as `aeadkit_open_in_place` does under its bytes. `NOT_BEGUN` if the struct keeps no
-/// key.
+/// Opens in place under a kept key, as `aeadkit_open_in_place` does under the bytes of a key. Returns 0, or the first of these
+/// that applies: `NOT_BEGUN` if the struct keeps no key, `NonceLength`, `AadTooLong`, `TextTooLong`, `TagMismatch`. On each of
+/// them nothing is changed.
 #[unsafe(no_mangle)]
 pub extern "C" fn aeadkit_open_in_place_with(
     kept: &StoredKey,
@@ -265,12 +269,13 @@ pub extern "C" fn aeadkit_open_in_place_with(
     }
 }
 
-/// Seals a text into another output under a kept key, as `aeadkit_seal` does under its bytes. `NOT_BEGUN` if the struct keeps
-/// no key.
+/// Seals a text into another output under a kept key, as `aeadkit_seal` does under the bytes of a key. Returns 0, or the first of
+/// these that applies: `NOT_BEGUN` if the struct keeps no key, `NonceLength`, `AadTooLong`, `TextTooLong`, `OUTPUT_LENGTH`. On
+/// each of them nothing is written.
 ///
-/// The nonce must never be used twice under one key. Under ChaCha20-Poly1305 and AES-GCM a repeat gives away the XOR of
-/// the two texts, and enough to forge messages; under AES-GCM-SIV it gives away only whether the texts and the
-/// associated data were the same.
+/// The nonce must never be used twice under one key. Under ChaCha20-Poly1305 and AES-GCM a repeat gives away the XOR of the two
+/// texts, and enough to forge messages; under AES-GCM-SIV it gives away only whether the texts and the associated data were the
+/// same.
 #[unsafe(no_mangle)]
 pub extern "C" fn aeadkit_seal_with(
     kept: &StoredKey,
@@ -289,8 +294,9 @@ pub extern "C" fn aeadkit_seal_with(
     }
 }
 
-/// Opens a sealing into another output under a kept key, as `aeadkit_open` does under its bytes. `NOT_BEGUN` if the struct
-/// keeps no key.
+/// Opens a sealing into another output under a kept key, as `aeadkit_open` does under the bytes of a key. Returns 0, or the first
+/// of these that applies: `NOT_BEGUN` if the struct keeps no key, `NonceLength`, `AadTooLong`, `TooShort`, `TextTooLong`,
+/// `OUTPUT_LENGTH`, `TagMismatch`. On `TagMismatch` the whole of `text` is zeros; on the others nothing is written.
 #[unsafe(no_mangle)]
 pub extern "C" fn aeadkit_open_with(
     kept: &StoredKey,
@@ -309,12 +315,12 @@ pub extern "C" fn aeadkit_open_with(
     }
 }
 
-/// Begins a sealing in pieces under a kept key, as `aeadkit_sealer_init` does under its bytes. `NOT_BEGUN` if the
-/// struct keeps no key, then `UNKNOWN_SUITE` if its suite reads a text twice. What the sealer was before makes no
-/// difference. On error zeros are left in it.
+/// Begins a sealing in pieces under a kept key, as `aeadkit_sealer_init` does under the bytes of a key. What the sealer held
+/// before makes no difference. Returns 0, or the first of these that applies: `NOT_BEGUN` if the struct keeps no key,
+/// `UNKNOWN_SUITE` if its suite is one of AES-GCM-SIV, which reads a text twice, `NonceLength`, `AadTooLong`. On each of them
+/// zeros are left in the sealer.
 ///
-/// The nonce must never be used twice under one key: a repeat gives away the XOR of the two texts, and enough to
-/// forge messages.
+/// The nonce must never be used twice under one key: a repeat gives away the XOR of the two texts, and enough to forge messages.
 #[unsafe(no_mangle)]
 pub extern "C" fn aeadkit_sealer_init_with(
     sealer: &mut StoredSealer,
@@ -341,8 +347,9 @@ pub extern "C" fn aeadkit_sealer_init_with(
     sealer.begin(suite, begun)
 }
 
-/// Begins an opening in pieces under a kept key, as `aeadkit_opener_init` does under its bytes. `NOT_BEGUN` if the
-/// struct keeps no key. What the opener was before makes no difference. On error zeros are left in it.
+/// Begins an opening in pieces under a kept key, as `aeadkit_opener_init` does under the bytes of a key. What the opener held
+/// before makes no difference. Returns 0, or the first of these that applies: `NOT_BEGUN` if the struct keeps no key,
+/// `NonceLength`, `AadTooLong`. On each of them zeros are left in the opener.
 #[unsafe(no_mangle)]
 pub extern "C" fn aeadkit_opener_init_with(
     opener: &mut StoredOpener,
@@ -365,12 +372,12 @@ pub extern "C" fn aeadkit_opener_init_with(
     opener.begin(suite, begun)
 }
 
-/// Begins a sealing by two readings under a kept key, as `aeadkit_siv_init` does under its bytes. `NOT_BEGUN` if the
-/// struct keeps no key, then `UNKNOWN_SUITE` if its suite reads a text once. What the struct of the sealing was before
-/// makes no difference. On error zeros are left in it.
+/// Begins a sealing in two readings under a kept key, as `aeadkit_siv_init` does under the bytes of a key. What `siv` held before
+/// makes no difference. Returns 0, or the first of these that applies: `NOT_BEGUN` if the struct keeps no key, `UNKNOWN_SUITE` if
+/// its suite is not one of AES-GCM-SIV, `NonceLength`, `AadTooLong`. On each of them zeros are left in `siv`.
 ///
-/// The nonce must never be used twice under one key: a repeat gives away whether the texts and the associated data
-/// were the same, and nothing else.
+/// The nonce must never be used twice under one key: a repeat gives away whether the texts and the associated data were the same,
+/// and nothing else.
 #[unsafe(no_mangle)]
 pub extern "C" fn aeadkit_siv_init_with(
     siv: &mut StoredSiv,
@@ -397,7 +404,7 @@ pub extern "C" fn aeadkit_siv_init_with(
     siv.begin(suite, begun)
 }
 
-/// The bytes of a struct that keeps a key.
+/// Returns the size of the struct that keeps a key: 808 bytes.
 #[unsafe(no_mangle)]
 pub extern "C" fn aeadkit_key_size() -> usize
     ensures { result ≡ 808 }

@@ -1,6 +1,5 @@
-//! Key wrap for C (RFC 3394; RFC 5649), into another output. Each call makes the key's schedule anew. It returns, in this order:
-//! `KeyLength` if the key is not 16, 24 or 32 bytes long, the fault of the input's length that the call of `keywrap` has,
-//! `OUTPUT_LENGTH` if the output is not as long as the result, and otherwise what the call of `keywrap` returns.
+//! Key wrap for C (RFC 3394; RFC 5649), into another output. Each call computes the schedule of the wrapping key anew. Not
+//! constant time: see the page of `keywrap`.
 
 ghost use Rattle.capi.specs.KeyWraps.{WrapsTo, UnwrapsTo, WrapsPaddedTo, UnwrapsPaddedTo};
 
@@ -9,7 +8,9 @@ use aes::AesKey;
 use keywrap::{unwrap_padded_to, unwrap_to, wrap_padded_to, wrap_to};
 use octets::{Fault, outcome_number};
 
-/// Wraps as `wrap_to`: `wrapped`, eight bytes longer than the text, becomes its wrapping. At any status but 0 nothing is
+/// Wraps a text into `wrapped`, which is 8 bytes longer than the text (RFC 3394, 2.2.1). Returns 0, or the first of these that
+/// applies: `KeyLength` if the key is not 16, 24 or 32 bytes long, `WrapLength` if the text is shorter than 16 bytes or its
+/// length is not a multiple of 8, `OUTPUT_LENGTH` if `wrapped` is not 8 bytes longer than the text. On each of them nothing is
 /// written.
 #[unsafe(no_mangle)]
 pub extern "C" fn aeadkit_wrap(key: &[u8], text: &[u8], wrapped: &mut [u8]) -> u32
@@ -29,8 +30,11 @@ pub extern "C" fn aeadkit_wrap(key: &[u8], text: &[u8], wrapped: &mut [u8]) -> u
     }
 }
 
-/// Unwraps as `unwrap_to`: `text`, eight bytes shorter than the wrapping, becomes its text. At `WrapIntegrity` the whole output
-/// is zeros; at any other status but 0 nothing is written.
+/// Unwraps into `text`, which is 8 bytes shorter than the wrapping (RFC 3394, 2.2.2). Returns 0, or the first of these that
+/// applies: `KeyLength` if the key is not 16, 24 or 32 bytes long, `WrapLength` if the wrapping is shorter than 24 bytes or its
+/// length is not a multiple of 8, `OUTPUT_LENGTH` if `text` is not 8 bytes shorter than the wrapping, `WrapIntegrity` if the
+/// bytes are not a valid wrapping under this key. On `WrapIntegrity` the whole of `text` is zeros; on the others nothing is
+/// written.
 #[unsafe(no_mangle)]
 pub extern "C" fn aeadkit_unwrap(key: &[u8], wrapped: &[u8], text: &mut [u8]) -> u32
     ensures { UnwrapsTo result key.now wrapped.now text.old text.new }
@@ -49,8 +53,10 @@ pub extern "C" fn aeadkit_unwrap(key: &[u8], wrapped: &[u8], text: &mut [u8]) ->
     }
 }
 
-/// Wraps as `wrap_padded_to`: `wrapped`, eight bytes longer than the padded text, becomes the text's wrapping. At any status but
-/// 0 nothing is written.
+/// Wraps a text with padding into `wrapped`, which is 8 bytes longer than the padded text (RFC 5649, 4.1). Returns 0, or the
+/// first of these that applies: `KeyLength` if the key is not 16, 24 or 32 bytes long, `WrapLength` if the text is empty,
+/// `TextTooLong` if it is longer than 2^32 - 1 bytes, `OUTPUT_LENGTH` if `wrapped` is not 8 bytes longer than the padded text. On
+/// each of them nothing is written.
 #[unsafe(no_mangle)]
 pub extern "C" fn aeadkit_wrap_padded(key: &[u8], text: &[u8], wrapped: &mut [u8]) -> u32
     ensures { WrapsPaddedTo result key.now text.now wrapped.old wrapped.new }
@@ -72,8 +78,12 @@ pub extern "C" fn aeadkit_wrap_padded(key: &[u8], text: &[u8], wrapped: &mut [u8
     }
 }
 
-/// Unwraps as `unwrap_padded_to`: `text`, eight bytes shorter than the wrapping, becomes its text and zeros, and `text_length`
-/// the text's length. At `WrapIntegrity` the whole output is zeros; at any other status but 0 nothing is written.
+/// Unwraps with padding into `text`, which is 8 bytes shorter than the wrapping (RFC 5649, 4.2): `text` becomes the text and the
+/// zeros of its padding, and `text_length` the text's length. Returns 0, or the first of these that applies: `KeyLength` if the
+/// key is not 16, 24 or 32 bytes long, `WrapLength` if the wrapping is shorter than 16 bytes or its length is not a multiple of
+/// 8, `TextTooLong` if it is longer than 2^32 + 8 bytes, `OUTPUT_LENGTH` if `text` is not 8 bytes shorter than the wrapping,
+/// `WrapIntegrity` if the bytes are not a valid wrapping with padding under this key. On `WrapIntegrity` the whole of `text` is
+/// zeros; on the others nothing is written. On each of them `text_length` is as it was.
 #[unsafe(no_mangle)]
 pub extern "C" fn aeadkit_unwrap_padded(
     key: &[u8],

@@ -1,9 +1,16 @@
-//! The calls for C, a thin static library over public calls. Each export is one call of `keywrap` under the bytes of a key; or
-//! seals or opens a whole message by a cipher of `aead`, in place or into another output, under the bytes of a key or a key that is
-//! kept in a struct; or is one call of a state in pieces of `aead`, which stands in a struct behind a mark; or tells a fact of a
-//! suite, a status or the library. It states the clauses of that call again. A slice crosses as a pointer and a length, and a suite
-//! as its number. The status is 0, the number of a fault, 14 if no suite has the number, 15 if nothing is begun or kept in the
-//! struct, or 16 if the output is not as long as the result. The header `bindings/include/aeadkit.h` is the manual for C.
+//! The calls for C: a thin static library over public calls of `keywrap` and `aead`, whose clauses each export states again. An
+//! export does one of these:
+//! - It wraps or unwraps under the bytes of a key (`key_wrap`).
+//! - It seals or opens a whole message, in place or into another output, under the bytes of a key (`whole`) or under a key that a
+//!   struct keeps (`key`).
+//! - It makes one step of a sealing in one reading (`sealer`), a sealing in two readings (`siv`) or an opening in two passes
+//!   (`opener`). The state stands in a struct behind a mark, and can be saved and resumed.
+//! - It returns a fact about a suite, a status or the library (`facts`).
+//!
+//! A slice crosses as a pointer and a length, and a suite as its number. The status is 0, the number of a fault, 14 if the call
+//! takes no suite with the number, 15 if nothing is begun or kept in the struct, or 16 if the output is not as long as the
+//! result. Not constant time: AES and the hashes of AES-GCM and AES-GCM-SIV look up tables by secret bytes. The header
+//! `bindings/include/aeadkit.h` is the manual for C.
 //!
 //! A text is sealed into other memory, with the tag at the end, and opened from there. From `bindings/c/message.c`:
 //! ```c

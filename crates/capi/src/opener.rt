@@ -1,5 +1,6 @@
-//! The calls for C that open a sealing in pieces. A first pass over the ciphertext gives nothing; only if it was over a
-//! sealing does a second pass decrypt.
+//! The calls for C that open a sealing in pieces in two passes (RFC 8439, 2.8; SP 800-38D, 7.2; RFC 8452, 5). The first pass over
+//! the ciphertext authenticates it and gives no text. The second one decrypts, and begins only if the first was over a valid
+//! sealing.
 
 ghost use Rattle.std.specs.Prelude.{◌≡◌, ◌≢◌, ◌+◌, ℕ, List, [], length, MatchResult, OnErr};
 ghost use Rattle.octets.specs.Numbers.{HasOutcome};
@@ -19,24 +20,24 @@ use crate::suites::{NOT_BEGUN, UNKNOWN_SUITE, mark_of, marked, suite_numbered};
 use aead::{KeyedOpener, Suite};
 use octets::{Fault, outcome_number};
 
-// The kind of struct in the first pass, to which its mark adds the suite's number: `opener` in ASCII, and the
-// version of its layout.
+// The number of this kind of struct in the first pass: `opener` in ASCII, and the version of its layout. A mark is this number
+// plus the suite's.
 const CHECKING: u64 = 0x6f70_656e_6572_0200;
 
-// The kind of struct in the second pass: `opened`.
+// The number of this kind of struct in the second pass: `opened` in ASCII, and the version of its layout.
 const OPENING: u64 = 0x6f70_656e_6564_0200;
 
-/// An opening in pieces. Each number may have any value.
+/// An opening in pieces in two passes, 192 bytes. Each of its numbers may have any value.
 #[repr(C)]
 #[derive(Clone, Copy)]
 pub struct StoredOpener {
-    // The kind of struct, its pass, the version of its layout and the suite; anything else if no opening is begun.
+    // The mark of an opening in one of its passes, under a suite; any other number if no opening is begun.
     mark: u64,
     pub(crate) opener: KeyedOpener,
 }
 
 impl StoredOpener {
-    // All zeros: it holds no opening.
+    // Returns a struct of zeros. It holds no opening.
     pub(crate) fn zeros() -> StoredOpener
         ensures { result ≡ zeros }
     {
@@ -46,7 +47,7 @@ impl StoredOpener {
         }
     }
 
-    // Marks what was begun in it, or stays zeros if that was refused. Returns the status.
+    // Marks the struct if the opening was begun in it. If that was refused, the struct stays zeros. Returns the status.
     #[inline(always)]
     pub(crate) fn begin(&mut self, suite: Suite, begun: Result<(), Fault>) -> u32
         requires { OnErr begun (self.old ≡ zeros) }
@@ -65,7 +66,7 @@ impl StoredOpener {
     }
 }
 
-// The suite of a mark in either pass.
+// Returns the suite of a mark, if it is the mark of an opening in either pass.
 fn in_a_pass(mark: u64) -> Option<Suite>
     ensures first { (suite : Suite) → mark ≡ checking + suite_number suite → result ≡ Some suite }
     ensures second { (suite : Suite) → mark ≡ opening + suite_number suite → result ≡ Some suite }
@@ -77,8 +78,11 @@ fn in_a_pass(mark: u64) -> Option<Suite>
     }
 }
 
-/// Begins an opening in pieces under the tag of the sealing: its first pass has taken in nothing yet. What the
-/// struct was before makes no difference. On error zeros are left in it.
+/// Begins the first pass of an opening in pieces (RFC 8439, 2.8; SP 800-38D, 7.2; RFC 8452, 5), which has taken in nothing yet.
+/// `tag` is the last 16 bytes of the sealing. What the struct held before makes no difference. Returns 0, or the first of these
+/// that applies: `UNKNOWN_SUITE` if no suite has the number, `KeyLength` if the key does not have the suite's length,
+/// `NonceLength` if the nonce is not 12 bytes long, `AadTooLong` if the associated data is past the suite's limit. On each of
+/// them zeros are left in the struct.
 #[unsafe(no_mangle)]
 pub extern "C" fn aeadkit_opener_init(
     opener: &mut StoredOpener,
@@ -102,8 +106,8 @@ pub extern "C" fn aeadkit_opener_init(
     opener.begin(suite, begun)
 }
 
-/// Takes in a piece of the ciphertext in the first pass. `TextTooLong` if the ciphertext would be past the
-/// suite's limit: the struct is then as before.
+/// Takes in a piece of the ciphertext, of any length, in the first pass. Returns 0, `NOT_BEGUN` if the struct is not in its first
+/// pass, or `TextTooLong` if the ciphertext would be past the suite's limit. On both, the struct is as before.
 #[unsafe(no_mangle)]
 pub extern "C" fn aeadkit_opener_check(opener: &mut StoredOpener, piece: &[u8]) -> u32
     ensures holds { (s : Setting) (tag bytes : List ℕ)
@@ -120,8 +124,9 @@ pub extern "C" fn aeadkit_opener_check(opener: &mut StoredOpener, piece: &[u8]) 
     outcome_number(opener.opener.check(suite, piece))
 }
 
-/// Ends the first pass, and begins the second one, which has taken in nothing yet. `TagMismatch` if authentication
-/// failed: the struct is then zeros.
+/// Ends the first pass. If it was over a valid sealing, the second pass begins, which has taken in nothing yet. Returns 0,
+/// `NOT_BEGUN` if the struct is not in its first pass, or `TagMismatch` if authentication failed. On `NOT_BEGUN` the struct is as
+/// before; on `TagMismatch` zeros are left in it.
 #[unsafe(no_mangle)]
 pub extern "C" fn aeadkit_opener_begin_second(opener: &mut StoredOpener) -> u32
     ensures holds { (s : Setting) (tag bytes : List ℕ) → BeginsSecond opener.old opener.new result s tag bytes }
@@ -146,8 +151,9 @@ pub extern "C" fn aeadkit_opener_begin_second(opener: &mut StoredOpener) -> u32
     }
 }
 
-/// Takes in a piece of the ciphertext in the second pass, and leaves its text in its place. `SourceChanged` if the
-/// second pass would be longer than the first: struct and piece are then as before.
+/// Takes in a piece of the ciphertext, of any length, in the second pass, and leaves its text in its place. Returns 0,
+/// `NOT_BEGUN` if the struct is not in its second pass, or `SourceChanged` if the second pass would be longer than the first. On
+/// both, the struct and the piece are as before.
 #[unsafe(no_mangle)]
 pub extern "C" fn aeadkit_opener_update(opener: &mut StoredOpener, piece: &mut [u8]) -> u32
     ensures holds { (s : Setting) (tag : List ℕ) (first : ℕ) (bytes : List ℕ)
@@ -163,8 +169,9 @@ pub extern "C" fn aeadkit_opener_update(opener: &mut StoredOpener, piece: &mut [
     outcome_number(opener.opener.update(suite, piece))
 }
 
-/// Ends the second pass, and leaves zeros in the struct. `SourceChanged` if authentication of what this pass took in
-/// failed: what update gave is then to be thrown away.
+/// Ends the second pass. Returns 0 if it was over a valid sealing, else `SourceChanged`: the caller then has to throw away the
+/// text that `aeadkit_opener_update` gave. On both, zeros are left in the struct. Returns `NOT_BEGUN` if the struct is not in its
+/// second pass: it is then as before.
 #[unsafe(no_mangle)]
 pub extern "C" fn aeadkit_opener_finish(opener: &mut StoredOpener) -> u32
     ensures holds { (s : Setting) (tag : List ℕ) (first : ℕ) (bytes : List ℕ)
@@ -183,8 +190,8 @@ pub extern "C" fn aeadkit_opener_finish(opener: &mut StoredOpener) -> u32
     outcome_number(outcome)
 }
 
-/// Saves what the opening has taken in, in either pass, without its key and nonce, to go on from it later. The opening itself
-/// stays as it is.
+/// Saves the opening, in either pass, in `saved`, without its key and nonce, for `aeadkit_opener_resume`. The opening itself
+/// stays as it is. Returns 0, or `NOT_BEGUN` if no opening is begun in the struct. Then `saved` is as before.
 #[unsafe(no_mangle)]
 pub extern "C" fn aeadkit_opener_save(opener: &StoredOpener, saved: &mut SavedPasses) -> u32
     ensures first { (s : Setting) (tag bytes : List ℕ) → HoldsChecking opener.now s tag bytes
@@ -207,9 +214,10 @@ pub extern "C" fn aeadkit_opener_save(opener: &StoredOpener, saved: &mut SavedPa
     outcome_number(Ok(()))
 }
 
-/// Goes on from what was saved, in the pass that it was in, under the key and the nonce of the opening. `NOT_BEGUN` if no
-/// opening was saved, `KeyLength`, `NonceLength`, then `TagMismatch` if it was saved under another key or nonce. What the
-/// struct was before makes no difference. On error zeros are left in it.
+/// Resumes a saved opening, in the pass that it was in, under the key and the nonce that it was begun with. What the struct held
+/// before makes no difference. Returns 0, or the first of these that applies: `NOT_BEGUN` if `saved` does not have the mark of an
+/// opening, `KeyLength` if the key does not have the suite's length, `NonceLength` if the nonce is not 12 bytes long,
+/// `TagMismatch` if the opening was saved under another key or nonce. On each of them zeros are left in the struct.
 #[unsafe(no_mangle)]
 pub extern "C" fn aeadkit_opener_resume(
     opener: &mut StoredOpener,
@@ -243,7 +251,7 @@ pub extern "C" fn aeadkit_opener_resume(
     }
 }
 
-/// Leaves zeros in the struct, whatever it was: with them an opening is given up, and its key is not left in memory.
+/// Leaves zeros in the struct, whatever bytes it held: for an opening that is given up. Its key is then no longer in the struct.
 #[unsafe(no_mangle)]
 pub extern "C" fn aeadkit_opener_wipe(opener: &mut StoredOpener)
     ensures { opener.new ≡ zeros }
@@ -252,7 +260,7 @@ pub extern "C" fn aeadkit_opener_wipe(opener: &mut StoredOpener)
     opener.opener = KeyedOpener::zeros();
 }
 
-/// The bytes of the struct that the calls of an opening in pieces take.
+/// Returns the size of the struct of an opening in pieces: 192 bytes.
 #[unsafe(no_mangle)]
 pub extern "C" fn aeadkit_opener_size() -> usize
     ensures { result ≡ 192 }

@@ -1,8 +1,8 @@
-//! What a sealing or an opening in pieces is saved as, without its key and nonce, to go on from later.
+//! The saved states of sealings and openings in pieces, which can be resumed later. They contain neither the key nor the nonce.
 
 use aead::{PassState, TwoPassState};
 
-/// The numbers of a sealing in pieces. Each may have any value.
+/// The saved state of a sealing in pieces in one reading, 96 bytes. Each of its numbers may have any value.
 #[repr(C)]
 #[derive(Clone, Copy)]
 pub struct SavedSealer {
@@ -11,7 +11,8 @@ pub struct SavedSealer {
     pub(crate) state: PassState,
 }
 
-/// The numbers of a sealing by two readings or of an opening, in either reading or pass. Each may have any value.
+/// The saved state of a sealing in two readings, or of an opening in two passes, in either of them: 144 bytes. Each of its
+/// numbers may have any value.
 #[repr(C)]
 #[derive(Clone, Copy)]
 pub struct SavedPasses {

@@ -1,4 +1,5 @@
-//! The calls for C that seal a text in pieces, under the suites whose tag is over the ciphertext.
+//! The calls for C that seal a text in pieces in one reading, under the suites whose tag is over the ciphertext:
+//! ChaCha20-Poly1305 (RFC 8439, 2.8) and AES-GCM (SP 800-38D, 7.1).
 
 ghost use Rattle.std.specs.Prelude.{◌≡◌, ◌≢◌, ℕ, List, [], length, true, MatchResult, OnErr};
 ghost use Rattle.octets.specs.Numbers.{HasOutcome};
@@ -17,20 +18,20 @@ use crate::suites::{NOT_BEGUN, UNKNOWN_SUITE, mark_of, one_pass_marked, one_pass
 use aead::{KeyedSealer, Suite};
 use octets::{Fault, outcome_number};
 
-// The kind of struct, to which its mark adds the suite's number: `sealer` in ASCII, and the version of its layout.
+// The number of this kind of struct: `sealer` in ASCII, and the version of its layout. A mark is this number plus the suite's.
 const SEALER: u64 = 0x7365_616c_6572_0200;
 
-/// A sealing in pieces. Each number may have any value.
+/// A sealing in pieces in one reading, 144 bytes. Each of its numbers may have any value.
 #[repr(C)]
 #[derive(Clone, Copy)]
 pub struct StoredSealer {
-    // The kind of struct, the version of its layout and the suite; anything else if no sealing is begun.
+    // The mark of a sealing under a suite; any other number if no sealing is begun.
     mark: u64,
     pub(crate) sealer: KeyedSealer,
 }
 
 impl StoredSealer {
-    // All zeros: it holds no sealing.
+    // Returns a struct of zeros. It holds no sealing.
     pub(crate) fn zeros() -> StoredSealer
         ensures { result ≡ zeros }
     {
@@ -40,7 +41,7 @@ impl StoredSealer {
         }
     }
 
-    // Marks what was begun in it, or stays zeros if that was refused. Returns the status.
+    // Marks the struct if the sealing was begun in it. If that was refused, the struct stays zeros. Returns the status.
     #[inline(always)]
     pub(crate) fn begin(&mut self, suite: Suite, begun: Result<(), Fault>) -> u32
         requires { OnErr begun (self.old ≡ zeros) }
@@ -59,11 +60,12 @@ impl StoredSealer {
     }
 }
 
-/// Begins a sealing in pieces, of the empty text. What the struct was before makes no difference. On error zeros are left
-/// in it.
+/// Begins a sealing in pieces (RFC 8439, 2.8; SP 800-38D, 7.1), which then holds the empty text. What the struct held before
+/// makes no difference. Returns 0, or the first of these that applies: `UNKNOWN_SUITE` if the number is not that of a suite whose
+/// tag is over the ciphertext, `KeyLength` if the key does not have the suite's length, `NonceLength` if the nonce is not 12
+/// bytes long, `AadTooLong` if the associated data is past the suite's limit. On each of them zeros are left in the struct.
 ///
-/// The nonce must never be used twice under one key: a repeat gives away the XOR of the two texts, and enough to
-/// forge messages.
+/// The nonce must never be used twice under one key: a repeat gives away the XOR of the two texts, and enough to forge messages.
 #[unsafe(no_mangle)]
 pub extern "C" fn aeadkit_sealer_init(
     sealer: &mut StoredSealer,
@@ -87,8 +89,9 @@ pub extern "C" fn aeadkit_sealer_init(
     sealer.begin(suite, begun)
 }
 
-/// Adds a piece to the text, and leaves its ciphertext in its place. `TextTooLong` if the text would be past the suite's
-/// limit: struct and piece are then as before.
+/// Adds a piece, of any length, to the text, and leaves its ciphertext in its place. Returns 0, `NOT_BEGUN` if no sealing is
+/// begun in the struct, or `TextTooLong` if the text would be past the suite's limit. On both, the struct and the piece are as
+/// before.
 #[unsafe(no_mangle)]
 pub extern "C" fn aeadkit_sealer_update(sealer: &mut StoredSealer, piece: &mut [u8]) -> u32
     ensures holds { (s : Setting) (text : List ℕ)
@@ -106,7 +109,8 @@ pub extern "C" fn aeadkit_sealer_update(sealer: &mut StoredSealer, piece: &mut [
     outcome_number(sealer.sealer.update(suite, piece))
 }
 
-/// Gives the tag of the text, and leaves zeros in the struct.
+/// Ends the sealing: `tag` becomes the tag of the text, 16 bytes, and zeros are left in the struct. Returns 0, or `NOT_BEGUN` if
+/// no sealing is begun in the struct. Then the struct and `tag` are as before.
 #[unsafe(no_mangle)]
 pub extern "C" fn aeadkit_sealer_finish(sealer: &mut StoredSealer, tag: &mut [u8; 16]) -> u32
     ensures holds { (s : Setting) (text : List ℕ) → HoldsText sealer.old s text
@@ -125,9 +129,10 @@ pub extern "C" fn aeadkit_sealer_finish(sealer: &mut StoredSealer, tag: &mut [u8
     0
 }
 
-/// Saves what the sealing holds, without its key and nonce, to go on from it later. The sealing itself stays as it is.
+/// Saves the sealing in `saved`, without its key and nonce, for `aeadkit_sealer_resume`. The sealing itself stays as it is.
+/// Returns 0, or `NOT_BEGUN` if no sealing is begun in the struct. Then `saved` is as before.
 ///
-/// Only one of the two may go on, and only once: two texts that begin alike would be sealed under one nonce.
+/// Only one of the two may go on, and only once: otherwise two texts that begin alike are sealed under one nonce.
 #[unsafe(no_mangle)]
 pub extern "C" fn aeadkit_sealer_save(sealer: &StoredSealer, saved: &mut SavedSealer) -> u32
     ensures holds { (s : Setting) (text : List ℕ) → HoldsText sealer.now s text
@@ -147,9 +152,12 @@ pub extern "C" fn aeadkit_sealer_save(sealer: &StoredSealer, saved: &mut SavedSe
     outcome_number(Ok(()))
 }
 
-/// Goes on from what was saved, under the key and the nonce of the sealing. `NOT_BEGUN` if no sealing in pieces was saved,
-/// `KeyLength`, `NonceLength`, then `TagMismatch` if it was saved under another key or nonce. What the struct was before makes
-/// no difference. On error zeros are left in it.
+/// Resumes a saved sealing, under the key and the nonce that it was begun with. What the struct held before makes no difference.
+/// Returns 0, or the first of these that applies: `NOT_BEGUN` if `saved` does not have the mark of a sealing in pieces,
+/// `KeyLength` if the key does not have the suite's length, `NonceLength` if the nonce is not 12 bytes long, `TagMismatch` if the
+/// sealing was saved under another key or nonce. On each of them zeros are left in the struct.
+///
+/// A saved sealing must be resumed only once: otherwise two texts that begin alike are sealed under one nonce.
 #[unsafe(no_mangle)]
 pub extern "C" fn aeadkit_sealer_resume(
     sealer: &mut StoredSealer,
@@ -179,7 +187,7 @@ pub extern "C" fn aeadkit_sealer_resume(
     }
 }
 
-/// Leaves zeros in the struct, whatever it was: with them a sealing is given up, and its key is not left in memory.
+/// Leaves zeros in the struct, whatever bytes it held: for a sealing that is given up. Its key is then no longer in the struct.
 #[unsafe(no_mangle)]
 pub extern "C" fn aeadkit_sealer_wipe(sealer: &mut StoredSealer)
     ensures { sealer.new ≡ zeros }
@@ -188,7 +196,7 @@ pub extern "C" fn aeadkit_sealer_wipe(sealer: &mut StoredSealer)
     sealer.sealer = KeyedSealer::zeros();
 }
 
-/// The bytes of the struct that the calls in pieces take.
+/// Returns the size of the struct of a sealing in pieces in one reading: 144 bytes.
 #[unsafe(no_mangle)]
 pub extern "C" fn aeadkit_sealer_size() -> usize
     ensures { result ≡ 144 }

@@ -1,5 +1,5 @@
-//! The calls for C that seal a text in pieces under AES-GCM-SIV (RFC 8452): a first reading of the text gives its tag, and
-//! a second one encrypts it.
+//! The calls for C that seal a text in pieces in two readings, under AES-GCM-SIV (RFC 8452, 4): the first reading gives the tag,
+//! and the second one encrypts the text.
 
 ghost use Rattle.std.specs.Prelude.{◌≡◌, ◌≢◌, ◌+◌, ℕ, List, [], length, MatchResult, OnErr};
 ghost use Rattle.octets.specs.Numbers.{HasOutcome};
@@ -19,24 +19,24 @@ use crate::suites::{NOT_BEGUN, UNKNOWN_SUITE, mark_of, siv_marked, siv_numbered}
 use aead::{KeyedSiv, Suite};
 use octets::{Fault, outcome_number};
 
-// The kind of struct in the first reading, to which its mark adds the suite's number: `sivone` in ASCII, and the
-// version of its layout.
+// The number of this kind of struct in the first reading: `sivone` in ASCII, and the version of its layout. A mark is this number
+// plus the suite's.
 const ABSORBING: u64 = 0x7369_766f_6e65_0200;
 
-// The kind of struct in the second reading: `sivtwo`.
+// The number of this kind of struct in the second reading: `sivtwo` in ASCII, and the version of its layout.
 const WRITING: u64 = 0x7369_7674_776f_0200;
 
-/// A sealing in pieces by two readings. Each number may have any value.
+/// A sealing in pieces in two readings, 192 bytes. Each of its numbers may have any value.
 #[repr(C)]
 #[derive(Clone, Copy)]
 pub struct StoredSiv {
-    // The kind of struct, its reading, the version of its layout and the suite; anything else if no sealing is begun.
+    // The mark of a sealing in one of its readings, under a suite; any other number if no sealing is begun.
     mark: u64,
     pub(crate) siv: KeyedSiv,
 }
 
 impl StoredSiv {
-    // All zeros: it holds no sealing.
+    // Returns a struct of zeros. It holds no sealing.
     pub(crate) fn zeros() -> StoredSiv
         ensures { result ≡ zeros }
     {
@@ -46,7 +46,7 @@ impl StoredSiv {
         }
     }
 
-    // Marks what was begun in it, or stays zeros if that was refused. Returns the status.
+    // Marks the struct if the sealing was begun in it. If that was refused, the struct stays zeros. Returns the status.
     #[inline(always)]
     pub(crate) fn begin(&mut self, suite: Suite, begun: Result<(), Fault>) -> u32
         requires { OnErr begun (self.old ≡ zeros) }
@@ -65,7 +65,7 @@ impl StoredSiv {
     }
 }
 
-// The suite of a mark in either reading.
+// Returns the suite of a mark, if it is the mark of a sealing in either reading.
 fn in_a_reading(mark: u64) -> Option<Suite>
     ensures first { (suite : Suite) → construction_of suite ≡ ByGcmSiv
         → mark ≡ absorbing + suite_number suite → result ≡ Some suite }
@@ -80,11 +80,13 @@ fn in_a_reading(mark: u64) -> Option<Suite>
     }
 }
 
-/// Begins a sealing by two readings, in its first one, of the empty text. What the struct was before makes no
-/// difference. On error zeros are left in it.
+/// Begins the first reading of a sealing (RFC 8452, 4), which then holds the empty text. What the struct held before makes no
+/// difference. Returns 0, or the first of these that applies: `UNKNOWN_SUITE` if the number is not that of a suite of
+/// AES-GCM-SIV, `KeyLength` if the key does not have the suite's length, `NonceLength` if the nonce is not 12 bytes long,
+/// `AadTooLong` if the associated data is past the suite's limit. On each of them zeros are left in the struct.
 ///
-/// The nonce must never be used twice under one key: a repeat gives away whether the texts and the associated data
-/// were the same, and nothing else.
+/// The nonce must never be used twice under one key: a repeat gives away whether the texts and the associated data were the same,
+/// and nothing else.
 #[unsafe(no_mangle)]
 pub extern "C" fn aeadkit_siv_init(
     siv: &mut StoredSiv,
@@ -108,8 +110,8 @@ pub extern "C" fn aeadkit_siv_init(
     siv.begin(suite, begun)
 }
 
-/// Takes in a piece of the text in the first reading. `TextTooLong` if the text would be past the suite's limit:
-/// the struct is then as before.
+/// Takes in a piece of the text, of any length, in the first reading. Returns 0, `NOT_BEGUN` if the struct is not in its first
+/// reading, or `TextTooLong` if the text would be past the suite's limit. On both, the struct is as before.
 #[unsafe(no_mangle)]
 pub extern "C" fn aeadkit_siv_absorb(siv: &mut StoredSiv, piece: &[u8]) -> u32
     ensures holds { (s : Setting) (text : List ℕ) → Absorbs siv.old siv.new piece.now result s text }
@@ -125,8 +127,8 @@ pub extern "C" fn aeadkit_siv_absorb(siv: &mut StoredSiv, piece: &[u8]) -> u32
     outcome_number(siv.siv.absorb(suite, piece))
 }
 
-/// Ends the first reading, gives the tag of its text, and begins the second reading, which has taken in nothing
-/// yet.
+/// Ends the first reading: `tag` becomes the tag of its text, 16 bytes, and the second reading begins, which has taken in nothing
+/// yet. Returns 0, or `NOT_BEGUN` if the struct is not in its first reading. Then the struct and `tag` are as before.
 #[unsafe(no_mangle)]
 pub extern "C" fn aeadkit_siv_begin_second(siv: &mut StoredSiv, tag: &mut [u8; 16]) -> u32
     ensures holds { (s : Setting) (text : List ℕ) → BeginsSecond siv.old siv.new tag.new result s text }
@@ -143,8 +145,9 @@ pub extern "C" fn aeadkit_siv_begin_second(siv: &mut StoredSiv, tag: &mut [u8; 1
     0
 }
 
-/// Takes in a piece of the text in the second reading, and leaves its ciphertext in its place. `SourceChanged` if
-/// the second text would be longer than the first: struct and piece are then as before.
+/// Takes in a piece of the text, of any length, in the second reading, and leaves its ciphertext in its place. Returns 0,
+/// `NOT_BEGUN` if the struct is not in its second reading, or `SourceChanged` if the second text would be longer than the first.
+/// On both, the struct and the piece are as before.
 #[unsafe(no_mangle)]
 pub extern "C" fn aeadkit_siv_update(siv: &mut StoredSiv, piece: &mut [u8]) -> u32
     ensures holds { (s : Setting) (first text : List ℕ)
@@ -160,8 +163,9 @@ pub extern "C" fn aeadkit_siv_update(siv: &mut StoredSiv, piece: &mut [u8]) -> u
     outcome_number(siv.siv.update(suite, piece))
 }
 
-/// Ends the second reading, and leaves zeros in the struct. `SourceChanged` if its text has another length or
-/// another tag than that of the first one: what update gave is then to be thrown away.
+/// Ends the second reading. Returns 0 if its text has the length and the tag of the first one, else `SourceChanged`: the caller
+/// then has to throw away the ciphertext that `aeadkit_siv_update` gave. On both, zeros are left in the struct. Returns
+/// `NOT_BEGUN` if the struct is not in its second reading: it is then as before.
 #[unsafe(no_mangle)]
 pub extern "C" fn aeadkit_siv_finish(siv: &mut StoredSiv) -> u32
     ensures holds { (s : Setting) (first text : List ℕ) → Ends siv.old result s first text }
@@ -179,8 +183,10 @@ pub extern "C" fn aeadkit_siv_finish(siv: &mut StoredSiv) -> u32
     outcome_number(outcome)
 }
 
-/// Saves what the sealing has taken in, in either reading, without its key and nonce, to go on from it later. The sealing
-/// itself stays as it is.
+/// Saves the sealing, in either reading, in `saved`, without its keys and nonce, for `aeadkit_siv_resume`. The sealing itself
+/// stays as it is. Returns 0, or `NOT_BEGUN` if no sealing is begun in the struct. Then `saved` is as before.
+///
+/// Only one of the two may go on, and only once: otherwise two texts may be encrypted with one mask, which gives away their XOR.
 #[unsafe(no_mangle)]
 pub extern "C" fn aeadkit_siv_save(siv: &StoredSiv, saved: &mut SavedPasses) -> u32
     ensures first { (s : Setting) (text : List ℕ) → HoldsAbsorbing siv.now s text
@@ -204,9 +210,12 @@ pub extern "C" fn aeadkit_siv_save(siv: &StoredSiv, saved: &mut SavedPasses) -> 
     outcome_number(Ok(()))
 }
 
-/// Goes on from what was saved, in the reading that it was in, under the key and the nonce of the sealing. `NOT_BEGUN` if no
-/// sealing by two readings was saved, `KeyLength`, `NonceLength`, then `TagMismatch` if it was saved under another key or nonce.
-/// What the struct was before makes no difference. On error zeros are left in it.
+/// Resumes a saved sealing, in the reading that it was in, under the key and the nonce that it was begun with. What the struct
+/// held before makes no difference. Returns 0, or the first of these that applies: `NOT_BEGUN` if `saved` does not have the mark
+/// of a sealing in two readings, `KeyLength` if the key does not have the suite's length, `NonceLength` if the nonce is not 12
+/// bytes long, `TagMismatch` if the sealing was saved under another key or nonce. On each of them zeros are left in the struct.
+///
+/// A saved sealing must be resumed only once: otherwise two texts may be encrypted with one mask, which gives away their XOR.
 #[unsafe(no_mangle)]
 pub extern "C" fn aeadkit_siv_resume(
     siv: &mut StoredSiv,
@@ -242,7 +251,7 @@ pub extern "C" fn aeadkit_siv_resume(
     }
 }
 
-/// Leaves zeros in the struct, whatever it was: with them a sealing is given up, and its key is not left in memory.
+/// Leaves zeros in the struct, whatever bytes it held: for a sealing that is given up. Its keys are then no longer in the struct.
 #[unsafe(no_mangle)]
 pub extern "C" fn aeadkit_siv_wipe(siv: &mut StoredSiv)
     ensures { siv.new ≡ zeros }
@@ -251,7 +260,7 @@ pub extern "C" fn aeadkit_siv_wipe(siv: &mut StoredSiv)
     siv.siv = KeyedSiv::zeros();
 }
 
-/// The bytes of the struct that the calls of a sealing by two readings take.
+/// Returns the size of the struct of a sealing in two readings: 192 bytes.
 #[unsafe(no_mangle)]
 pub extern "C" fn aeadkit_siv_size() -> usize
     ensures { result ≡ 192 }

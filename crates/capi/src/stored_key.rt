@@ -1,4 +1,4 @@
-//! A key that is stored in the memory of a caller in C, with what is made of it alone.
+//! A key that a caller in C keeps in its memory, with the values that depend on the key alone.
 
 ghost use Rattle.std.specs.Prelude.{◌≡◌, ◌-◌, length, drop, replicate};
 ghost use Rattle.aes.specs.Cipher.{IsKey, IsKeyLength};
@@ -15,20 +15,21 @@ use aes::AesKey;
 use gf128::{KeptMul, KeptMultiples, Keyed128, Multiply, TableMul};
 use octets::Block;
 
-// The kind of struct, to which its mark adds the suite's number: `cipher` in ASCII, and the version of its layout.
+// The number of this kind of struct: `cipher` in ASCII, and the version of its layout. A mark is this number plus the suite's.
 pub(crate) const KEY: u64 = 0x6369_7068_6572_0200;
 
-/// The numbers of a stored key. Each may have any value.
+/// The numbers of a struct that may keep a key. Each may have any value.
 #[repr(C)]
 #[derive(Clone, Copy)]
 pub struct KeyNumbers {
-    // The kind of struct, the version of its layout and the suite; anything else if no key is kept.
+    // The mark of a kept key of a suite; any other number if no key is kept.
     pub(crate) mark: u64,
     // The key, and zeros after it.
     pub(crate) key: [u8; 32],
-    // The schedule of AES, and zeros after it. It and what follows are there whatever the suite.
+    // The schedule of AES under the key, and zeros after it. It is there whatever the suite is, and so are the fields that
+    // follow.
     words: [u32; 60],
-    // The key of GHASH and its multiples.
+    // The key of GHASH, and its multiples.
     ghash_key: [u8; 16],
     multiples: KeptMultiples,
 }
@@ -36,7 +37,7 @@ pub struct KeyNumbers {
 impl KeyNumbers {
     ghost use Rattle.capi.specs.StoredKeys.{IsCleared};
 
-    // All zeros: they keep no key.
+    // Returns numbers that are all zero. They keep no key.
     pub(crate) fn zeros() -> KeyNumbers
         ensures mark { result.mark ≡ 0 }
         ensures cleared { IsCleared result }
@@ -51,7 +52,7 @@ impl KeyNumbers {
     }
 }
 
-// The schedule of a key of 16, 24 or 32 bytes.
+// Returns the schedule of a key of 16, 24 or 32 bytes.
 fn expanded(bytes: &[u8]) -> AesKey
     requires { IsKeyLength (length bytes.now) }
     ensures { result ≡ bytes.now }
@@ -59,8 +60,8 @@ fn expanded(bytes: &[u8]) -> AesKey
     AesKey::from_slice(bytes).unwrap()
 }
 
-/// A key of a suite with what is made of it alone. C owes it that a struct with the mark of a suite is as
-/// `aeadkit_key_init` left it; any other struct is refused.
+/// A key of a suite with the values that depend on the key alone, in 808 bytes. The caller in C has to see to it that a struct
+/// with the mark of a suite is as `aeadkit_key_init` left it. A struct with any other mark is refused.
 #[repr(C)]
 #[derive(Clone, Copy)]
 pub struct StoredKey {
@@ -76,7 +77,7 @@ pub struct StoredKey {
 impl StoredKey {
     ghost use Rattle.capi.specs.StoredKeys.{KeepsKey};
 
-    // Keeps the bytes of a key of the suite's length.
+    // Makes the struct that keeps a key, whose bytes have the suite's length.
     pub(crate) fn new(suite: Suite, key: &[u8]) -> StoredKey
         requires { length key.now ≡ key_length suite }
         ensures keeps { KeepsKey result suite key.now }
@@ -96,7 +97,7 @@ impl StoredKey {
         StoredKey { numbers }
     }
 
-    // The key of a suite that the bytes begin with.
+    // Returns the bytes of the key, as many as the suite's keys have.
     #[inline(always)]
     pub(crate) fn key(&self, suite: Suite) -> &[u8]
         ensures { result.now ≡ first_key suite self.now.numbers.key }
@@ -104,7 +105,7 @@ impl StoredKey {
         &self.numbers.key[..suite.key_length()]
     }
 
-    // AES under the key.
+    // Returns AES under the key.
     #[inline(always)]
     pub(crate) fn aes(&self, suite: Suite) -> AesKey
         requires marked { self.now.numbers.mark ≡ key_mark suite }
@@ -114,7 +115,7 @@ impl StoredKey {
         AesKey::from_words(&self.numbers.words, &self.numbers.key[..suite.key_length()])
     }
 
-    // The key of GHASH.
+    // Returns the key of GHASH.
     #[inline(always)]
     pub(crate) fn ghash_key(&self, suite: Suite) -> Block
         requires marked { self.now.numbers.mark ≡ key_mark suite }
@@ -123,7 +124,7 @@ impl StoredKey {
         Block::new(self.numbers.ghash_key)
     }
 
-    // The multiplier by the key of GHASH.
+    // Returns the multiplier by the key of GHASH.
     #[inline(always)]
     pub(crate) fn multiplier<'a>(&'a self, suite: Suite) -> KeptMul<'a>
         requires marked { self.now.numbers.mark ≡ key_mark suite }

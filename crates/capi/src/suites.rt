@@ -1,4 +1,4 @@
-//! Suites by their numbers at C, and the marks of the structs.
+//! The suites by the numbers that C gives, and the marks of the structs.
 
 ghost use Rattle.std.specs.Prelude.{◌≡◌, ◌↔◌, ◌+◌, ◌<◌, ◌^◌, true, false};
 ghost use Rattle.aead.specs.declared.suite.Suite.{Suite};
@@ -6,16 +6,16 @@ ghost use Rattle.aead.specs.Suites.{ByGcmSiv, construction_of, is_one_pass, suit
 
 use aead::Suite;
 
-// The status of a call at C whose suite number is unknown.
+// The status of a call that takes no suite with the given number.
 pub(crate) const UNKNOWN_SUITE: u32 = 14;
 
-// The status of a call at C on a struct in which nothing is begun.
+// The status of a call on a struct in which nothing is begun or kept.
 pub(crate) const NOT_BEGUN: u32 = 15;
 
-// The status of a call at C whose output is not as long as its result.
+// The status of a call whose output is not as long as its result.
 pub(crate) const OUTPUT_LENGTH: u32 = 16;
 
-// The suite of a number.
+// Returns the suite with a number, if there is one.
 pub(crate) fn suite_numbered(number: u64) -> Option<Suite>
     ensures { (suite : Suite) → (result ≡ Some suite) ↔ (number ≡ suite_number suite) }
 {
@@ -25,7 +25,7 @@ pub(crate) fn suite_numbered(number: u64) -> Option<Suite>
     }
 }
 
-// The suite of a number, if its tag is over the ciphertext.
+// Returns the suite with a number, if there is one and its tag is over the ciphertext.
 pub(crate) fn one_pass_numbered(number: u64) -> Option<Suite>
     ensures { (suite : Suite) → (result ≡ Some suite)
         ↔ (is_one_pass (construction_of suite) ≡ true × (number ≡ suite_number suite)) }
@@ -36,7 +36,7 @@ pub(crate) fn one_pass_numbered(number: u64) -> Option<Suite>
     }
 }
 
-// The suite of a number, if it is one of AES-GCM-SIV.
+// Returns the suite with a number, if there is one and it is one of AES-GCM-SIV.
 pub(crate) fn siv_numbered(number: u64) -> Option<Suite>
     ensures { (suite : Suite) → (result ≡ Some suite)
         ↔ ((construction_of suite ≡ ByGcmSiv) × (number ≡ suite_number suite)) }
@@ -47,7 +47,7 @@ pub(crate) fn siv_numbered(number: u64) -> Option<Suite>
     }
 }
 
-// The mark of a kind of struct under a suite.
+// Returns the mark of a struct of this kind under a suite.
 pub(crate) fn mark_of(kind: u64, suite: Suite) -> u64
     requires { kind < 2 ^ 63 }
     ensures { result ≡ kind + suite_number suite }
@@ -55,7 +55,7 @@ pub(crate) fn mark_of(kind: u64, suite: Suite) -> u64
     kind + u64::from(suite.number())
 }
 
-// The suite of a mark of a kind of struct.
+// Returns the suite of a mark, if it is the mark of a struct of this kind.
 pub(crate) fn marked(kind: u64, mark: u64) -> Option<Suite>
     ensures { (suite : Suite) → (result ≡ Some suite) ↔ (mark ≡ kind + suite_number suite) }
 {
@@ -65,7 +65,7 @@ pub(crate) fn marked(kind: u64, mark: u64) -> Option<Suite>
     }
 }
 
-// The suite of a mark of a kind of struct, if the suite's tag is over the ciphertext.
+// Returns the suite of a mark, if it is the mark of a struct of this kind and the suite's tag is over the ciphertext.
 pub(crate) fn one_pass_marked(kind: u64, mark: u64) -> Option<Suite>
     ensures { (suite : Suite) → (result ≡ Some suite)
         ↔ (is_one_pass (construction_of suite) ≡ true × (mark ≡ kind + suite_number suite)) }
@@ -76,7 +76,7 @@ pub(crate) fn one_pass_marked(kind: u64, mark: u64) -> Option<Suite>
     }
 }
 
-// The suite of a mark of a kind of struct, if it is one of AES-GCM-SIV.
+// Returns the suite of a mark, if it is the mark of a struct of this kind and the suite is one of AES-GCM-SIV.
 pub(crate) fn siv_marked(kind: u64, mark: u64) -> Option<Suite>
     ensures { (suite : Suite) → (result ≡ Some suite)
         ↔ ((construction_of suite ≡ ByGcmSiv) × (mark ≡ kind + suite_number suite)) }

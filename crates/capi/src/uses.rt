@@ -1,4 +1,4 @@
-//! How a caller uses the calls for C in pieces: what a whole sequence of calls proves if each of them returns 0.
+//! Callers of the calls for C in pieces, with what a whole sequence of calls proves if each of them returns 0.
 
 ghost use Rattle.std.specs.Prelude.{◌≡◌, ◌++◌, true};
 ghost use Rattle.aead.specs.declared.suite.Suite.{Suite};
@@ -22,7 +22,7 @@ use crate::siv::{
 };
 use aead::{masked_pieces_join, masked_pieces_make_a_sealing, pieces_make_a_sealing};
 
-// Seals a text in two pieces: the ciphertext that is left in them and the tag are one sealing.
+// Seals a text in two pieces: the ciphertext that is left in them, followed by the tag, is the sealing of the whole text.
 fn sealed_in_two(
     sealer: &mut StoredSealer,
     suite: u32,
@@ -53,8 +53,8 @@ fn sealed_in_two(
     aeadkit_sealer_finish(sealer, tag)
 }
 
-// Seals a text in two pieces as `sealed_in_two`, but saves the sealing after the first piece, wipes it, and goes on in another
-// struct: the ciphertext and the tag are still one sealing.
+// Seals a text in two pieces as `sealed_in_two` does, but saves the sealing after the first piece, wipes it, and goes on in
+// another struct: the ciphertext and the tag are the same sealing.
 fn sealed_over_a_save(
     sealer: &mut StoredSealer,
     saved: &mut SavedSealer,
@@ -96,8 +96,8 @@ fn sealed_over_a_save(
     aeadkit_sealer_finish(resumed, tag)
 }
 
-// Seals a text by two readings under AES-GCM-SIV, which may cut it differently: the ciphertext that the second one
-// leaves and the tag are one sealing.
+// Seals a text in two readings under AES-GCM-SIV, which may cut the text differently: the ciphertext that the second reading
+// leaves, followed by the tag, is the sealing of the text.
 fn sealed_by_two_readings(
     siv: &mut StoredSiv,
     suite: u32,
@@ -142,7 +142,7 @@ fn sealed_by_two_readings(
     aeadkit_siv_finish(siv)
 }
 
-// Opens a ciphertext in two passes, which may cut it differently: what the second one leaves is the text of the sealing.
+// Opens a ciphertext in two passes, which may cut it differently: the second pass leaves the text of the sealing.
 fn opened_by_two_passes(
     opener: &mut StoredOpener,
     suite: u32,
@@ -187,8 +187,8 @@ fn opened_by_two_passes(
     aeadkit_opener_finish(opener)
 }
 
-// Opens a ciphertext as `opened_by_two_passes`, but saves the opening between the passes, wipes it, and goes on in another
-// struct: what the second pass leaves is still the text of the sealing.
+// Opens a ciphertext as `opened_by_two_passes` does, but saves the opening between the passes, wipes it, and goes on in another
+// struct: the second pass still leaves the text of the sealing.
 fn opened_over_a_save(
     opener: &mut StoredOpener,
     saved: &mut SavedPasses,

@@ -1,5 +1,5 @@
-//! The calls for C on whole messages: in place with the tag apart, or into another output. Each makes what it needs of the key
-//! anew.
+//! The calls for C on whole messages (RFC 8439, 2.8; SP 800-38D, 7; RFC 8452, 4 and 5), in place with the tag apart, or into
+//! another output. A call with the bytes of a key computes anew the values that depend on the key alone.
 
 ghost use Rattle.std.specs.Prelude.{◌≡◌, ◌≢◌, ◌≤◌, ◌++◌, ℕ, List, length, refl, MatchResult};
 ghost use Rattle.octets.specs.declared.fault.Fault.{Fault};
@@ -36,7 +36,7 @@ pub(crate) trait Direction {
     // The text and the tag before and after a call that is refused, and its fault.
     ghost refused: { Setting → (text tag text' tag' : List ℕ) → Fault → Type 0 };
 
-    // Seals or opens by a cipher with a nonce.
+    // Seals or opens with a cipher and a nonce.
     fn run<C: Aead>(
         cipher: &C,
         nonce: &Nonce,
@@ -99,7 +99,7 @@ impl Direction for Opening {
     }
 }
 
-// Seals or opens under AES-GCM by its key and hash subkey, with multiples that are made for the message.
+// Seals or opens under AES-GCM with a key and its hash subkey, whose multiples are computed for this message.
 #[inline(always)]
 pub(crate) fn run_gcm<D: Direction>(
     suite: Suite,
@@ -123,7 +123,7 @@ pub(crate) fn run_gcm<D: Direction>(
     D::run(&GcmKeys::new(suite, key, ghash_key), nonce, aad, text, tag)
 }
 
-// A suite and a key, as bytes or kept in a struct.
+// A suite and a key, which is given as bytes or kept in a struct.
 pub(crate) trait Keys {
     // The suite and the key.
     ghost keyed: { Self → Keyed };
@@ -132,7 +132,7 @@ pub(crate) trait Keys {
     fn suite(&self) -> Suite
         ensures { result ≡ (keyed self.now).suite };
 
-    // `KeyLength`, the only fault, if the key has another length than the suite's.
+    // Returns `KeyLength`, the only fault, if the key does not have the suite's length.
     fn check_key(&self) -> Result<(), Fault>
         ensures { let k = keyed self.now in MatchResult result (λ _. length k.key ≡ key_length k.suite)
             (λ e. (e ≡ Fault.KeyLength) × (length k.key ≢ key_length k.suite)) };
@@ -174,8 +174,8 @@ impl<'a> Keys for ByBytes<'a> {
         Ok(())
     }
 
-    // A cipher for one suite is smaller than one for any suite. Inlined, since a short message takes 5 % longer if it goes through
-    // one more frame.
+    // Each arm makes the cipher of its suite, which is smaller than one for any suite. The function is inlined, since a short
+    // message takes 5 % longer if it goes through one more frame.
     #[inline(always)]
     fn run<D: Direction>(
         &self,
@@ -202,7 +202,8 @@ impl<'a> Keys for ByBytes<'a> {
     }
 }
 
-// `KeyLength`, then `NonceLength`, then `AadTooLong`, if a length does not fit the suite.
+// Compares lengths with those of the suite. Faults, in this order: `KeyLength` if the key does not have the suite's length,
+// `NonceLength` if the nonce is not 12 bytes long, `AadTooLong` if the associated data is past the suite's limit.
 fn check_lengths<K: Keys>(keys: &K, nonce: &[u8], aad: &[u8]) -> Result<(), Fault>
     ensures { let s = setting (K.keyed keys.now) nonce.now aad.now in
         MatchResult result (λ _. HasLengths s × (length aad.now ≤ aad_limit s.suite)) (BeginRefused s) }
@@ -214,8 +215,8 @@ fn check_lengths<K: Keys>(keys: &K, nonce: &[u8], aad: &[u8]) -> Result<(), Faul
     keys.suite().check_aad(aad)
 }
 
-// Seals or opens in place under the bytes of a nonce. `KeyLength`, `NonceLength`, `AadTooLong`, then `TextTooLong`, if a length
-// does not fit the suite: nothing is changed then.
+// Seals or opens in place, with a nonce that comes as bytes. Faults, in this order: those of `check_lengths`, `TextTooLong` if
+// the text is past the suite's limit, and those of the direction. If a length does not fit, nothing is changed.
 pub(crate) fn run_in_place<D: Direction, K: Keys>(
     keys: &K,
     nonce: &[u8],
@@ -236,7 +237,7 @@ pub(crate) fn run_in_place<D: Direction, K: Keys>(
     keys.run::<D>(&nonce_of(nonce), aad, text, tag)
 }
 
-// Seals a text into an output of 16 bytes more.
+// Seals a text into an output, which has to be 16 bytes longer. Returns the status.
 pub(crate) fn seal_to<K: Keys>(
     keys: &K,
     nonce: &[u8],
@@ -262,7 +263,7 @@ pub(crate) fn seal_to<K: Keys>(
     outcome_number(keys.run::<Sealing>(&nonce_of(nonce), aad, body, tag))
 }
 
-// Opens a sealing into an output of 16 bytes less.
+// Opens a sealing into an output, which has to be 16 bytes shorter. Returns the status.
 pub(crate) fn open_to<K: Keys>(
     keys: &K,
     nonce: &[u8],
@@ -295,11 +296,14 @@ pub(crate) fn open_to<K: Keys>(
     }
 }
 
-/// Seals in place: a text becomes its ciphertext, and its tag is written beside it. At any status but 0 nothing is changed.
+/// Seals in place (RFC 8439, 2.8; SP 800-38D, 7.1; RFC 8452, 4): `text` becomes its ciphertext, and `tag` its tag of 16 bytes.
+/// Returns 0, or the first of these that applies: `UNKNOWN_SUITE` if no suite has the number, `KeyLength` if the key does not
+/// have the suite's length, `NonceLength` if the nonce is not 12 bytes long, `AadTooLong` if the associated data is past the
+/// suite's limit, `TextTooLong` if the text is. On each of them nothing is changed.
 ///
-/// The nonce must never be used twice under one key. Under ChaCha20-Poly1305 and AES-GCM a repeat gives away the XOR of
-/// the two texts, and enough to forge messages; under AES-GCM-SIV it gives away only whether the texts and the
-/// associated data were the same.
+/// The nonce must never be used twice under one key. Under ChaCha20-Poly1305 and AES-GCM a repeat gives away the XOR of the two
+/// texts, and enough to forge messages; under AES-GCM-SIV it gives away only whether the texts and the associated data were the
+/// same.
 #[unsafe(no_mangle)]
 pub extern "C" fn aeadkit_seal_in_place(
     suite: u32,
@@ -325,7 +329,10 @@ pub extern "C" fn aeadkit_seal_in_place(
     }
 }
 
-/// Opens in place: a ciphertext becomes its text, if authentication succeeds. At any status but 0 nothing is changed.
+/// Opens in place (RFC 8439, 2.8; SP 800-38D, 7.2; RFC 8452, 5): `text`, a ciphertext, becomes its text if authentication with
+/// `tag`, 16 bytes, succeeds. Returns 0, or the first of these that applies: `UNKNOWN_SUITE`, `KeyLength`, `NonceLength`,
+/// `AadTooLong` and `TextTooLong` as `aeadkit_seal_in_place` does, `TagMismatch` if authentication failed. On each of them
+/// nothing is changed.
 #[unsafe(no_mangle)]
 pub extern "C" fn aeadkit_open_in_place(
     suite: u32,
@@ -352,12 +359,14 @@ pub extern "C" fn aeadkit_open_in_place(
     }
 }
 
-/// Seals a text into another output, which is as long as the text and its tag: `OUTPUT_LENGTH` if it is not, after the other
-/// statuses. At any status but 0 nothing is written.
+/// Seals a text into another output (RFC 8439, 2.8; SP 800-38D, 7.1; RFC 8452, 4): `sealed` becomes the ciphertext, followed by
+/// the tag of 16 bytes. Returns 0, or the first of these that applies: `UNKNOWN_SUITE`, `KeyLength`, `NonceLength`, `AadTooLong`
+/// and `TextTooLong` as `aeadkit_seal_in_place` does, `OUTPUT_LENGTH` if `sealed` is not 16 bytes longer than the text. On each
+/// of them nothing is written.
 ///
-/// The nonce must never be used twice under one key. Under ChaCha20-Poly1305 and AES-GCM a repeat gives away the XOR of
-/// the two texts, and enough to forge messages; under AES-GCM-SIV it gives away only whether the texts and the
-/// associated data were the same.
+/// The nonce must never be used twice under one key. Under ChaCha20-Poly1305 and AES-GCM a repeat gives away the XOR of the two
+/// texts, and enough to forge messages; under AES-GCM-SIV it gives away only whether the texts and the associated data were the
+/// same.
 #[unsafe(no_mangle)]
 pub extern "C" fn aeadkit_seal(
     suite: u32,
@@ -378,8 +387,11 @@ pub extern "C" fn aeadkit_seal(
     }
 }
 
-/// Opens a sealing into another output, which is 16 bytes shorter: `OUTPUT_LENGTH` if it is not, after the statuses of the other
-/// lengths. At `TagMismatch` the whole output is zeros; at any other status but 0 nothing is written.
+/// Opens a sealing, a ciphertext followed by its tag of 16 bytes, into another output (RFC 8439, 2.8; SP 800-38D, 7.2; RFC 8452,
+/// 5): `text` becomes the text. Returns 0, or the first of these that applies: `UNKNOWN_SUITE`, `KeyLength`, `NonceLength` and
+/// `AadTooLong` as `aeadkit_seal_in_place` does, `TooShort` if the sealing is shorter than a tag, `TextTooLong` if its ciphertext
+/// is past the suite's limit, `OUTPUT_LENGTH` if `text` is not 16 bytes shorter than the sealing, `TagMismatch` if authentication
+/// failed. On `TagMismatch` the whole of `text` is zeros; on the others nothing is written.
 #[unsafe(no_mangle)]
 pub extern "C" fn aeadkit_open(
     suite: u32,

@@ -1,4 +1,4 @@
--- A value that a command returns, once it is printed.
+-- The answer of a command whose value is printed.
 use Rattle.std.proofs.Common.{◌≡◌, ℕ, inl, inr, List, Ok, Err, MatchResult}
 use Rattle.std.specs.declared.option.Option.{Option}
 use Rattle.std.specs.declared.result.Result.{Result}
@@ -7,7 +7,7 @@ use Rattle.command.specs.declared.failure.Failure.{Failure}
 use Rattle.command.specs.Answers.{Printed, Silent, IsOutputFailure}
 use Rattle.command.specs.Hex.{hex_line}
 
--- a value with this property was printed, or it was refused, or standard output failed
+-- either a value with this property was printed, or the command was refused, or standard output failed
 pub printed : {V : Type 0} (items : V → List ℕ) (property : List ℕ → Type 0) (refused : Failure → Type 0)
     (before after : Option (List ℕ)) (value : Result V Failure) (result : Result ℕ Failure)
     → MatchResult value (λ v. property (items v)) refused

@@ -1,4 +1,4 @@
--- Devices that the faults of the engines, of the inputs and of the written file blame.
+-- Which devices the faults of the engines, of the inputs and of the written file blame.
 use Rattle.std.proofs.Common.{◌≡◌, ℕ, ◌⊎◌, inl, inr, Bool, true, false, List, [], ◌∷◌, Ok, Err, ◌<◌}
 use Rattle.std.proofs.Common.{Result, IfErr, is_ok, refl, sym, ◌∙◌, ap, arith, true≢false}
 use Rattle.std.proofs.lemmas.Bool.{and_parts}
@@ -20,7 +20,7 @@ blames_none Read = false
 blames_none Write = false
 blames_none _ = true
 
--- each of such faults blames none
+-- if no fault of a list blames a device, a fault from the list blames none
 one_of_none : (own : List Fault) (f : Fault) → list_all blames_none own ≡ true → IsOneOf own f
     → blames_none f ≡ true
 one_of_none [] f clean h = absurd h
@@ -28,7 +28,7 @@ one_of_none (g ∷ own) f clean h =
     let both = and_parts (blames_none g) (list_all blames_none own) clean in
     elim h [ inl x ↦ rw x both.0 | inr x ↦ one_of_none own f both.1 x ]
 
--- a call over devices whose own faults blame none blames devices that failed
+-- a call over devices, whose own faults blame no device, blames only devices that failed
 due_blames : {T : Type 0} (own : List Fault) (none reading output input : Type 0) (r : Result T Fault)
     → list_all blames_none own ≡ true → (reading → input) → DueTo own none reading output r
     → Blames (λ f. f) input output r
@@ -44,7 +44,7 @@ due_blames own none reading output input (Err f) clean to h = (
   ],
 )
 
--- sealing in one reading
+-- sealing in one reading blames only devices that failed
 pub seal_blames : {D : Type 0} (may_fail : ℕ → Bool) (failures : D → ℕ) (text text' : D) (wrote wrote' : ℕ)
     (r : Result (Unit {0}) Fault)
     → DueToBoth (AadTooLong ∷ TextTooLong ∷ []) (failures text) (failures text') wrote wrote' r
@@ -54,7 +54,7 @@ seal_blames may_fail failures text text' wrote wrote' r h =
     (Failed (failures text) (failures text')) (Failed wrote wrote') (InputMayFail may_fail failures) r refl
     (λ x. inr ∣ (text, text', x) ∣₁) h
 
--- sealing in two readings
+-- sealing in two readings blames only devices that failed
 pub siv_blames : {D : Type 0} (may_fail : ℕ → Bool) (failures : D → ℕ) (first first' second second' : D)
     (wrote wrote' : ℕ) (r : Result (Unit {0}) Fault)
     → SivBlames (AadTooLong ∷ TextTooLong ∷ SourceChanged ∷ [])
@@ -71,7 +71,7 @@ siv_blames may_fail failures first first' second second' wrote wrote' r h =
     (Failed (failures first) (failures first') ⊎ Failed (failures second) (failures second'))
     (Failed wrote wrote') (InputMayFail may_fail failures) r refl to h
 
--- opening
+-- opening blames only devices that failed
 pub open_blames : {D : Type 0} (may_fail : ℕ → Bool) (failures : D → ℕ)
     (measure measure' verify verify' write write' : D) (wrote wrote' : ℕ) (r : Result (Unit {0}) Fault)
     → BlamesRightly (counted (failures measure) (failures verify) (failures write) wrote)
@@ -91,7 +91,7 @@ open_blames may_fail failures measure measure' verify verify' write write' wrote
     ⊎ Failed (failures write) (failures write'))
     (Failed wrote wrote') (InputMayFail may_fail failures) r refl to h
 
--- a file that is not opened
+-- a file that could not be opened blames only an input that can fail
 pub unopened_blames : {D : Type 0} (may_fail : ℕ → Bool) (failures : D → ℕ) (output : Type 0) (reading : ℕ)
     (f : Fault) → ((f ≡ Read) × (may_fail reading ≡ true)) ⊎ (f ≡ OutOfMemory)
     → Blames {T = Unit {0}} (λ f. f) (InputMayFail may_fail failures) output (Err f)
@@ -100,7 +100,7 @@ unopened_blames may_fail failures output reading f h = (
   λ e. elim h [ inl x ↦ let p : f ≡ Read = x.0 in absurd (cc) | inr x ↦ absurd (cc) ],
 )
 
--- a fault as what stops the program
+-- as the failure that stops the program, a fault blames the same devices
 pub fault_blames : (input output : Type 0) (f : Fault) → Blames {T = Unit {0}} (λ f. f) input output (Err f)
     → Blames {T = Unit {0}} OfFault input output (Err (OfFault f))
 fault_blames input output f h = (
@@ -108,7 +108,7 @@ fault_blames input output f h = (
   λ e. let p : f ≡ Write = (cc) in h.1 p,
 )
 
--- a failed count is not 0
+-- the count of a device that failed is not 0
 failed_some : (before after : ℕ) → Failed before after → 0 < after
 failed_some before after h = elim h [ inl x ↦ omega arith | inr x ↦ omega arith ]
 
@@ -118,12 +118,12 @@ pub count_blames : (input output : Type 0) (before after : ℕ) (e : Failure) �
     → Blames {T = Unit {0}} OfFault input output (Err e)
 count_blames input output before after e to h = (h.0, λ p. to (failed_some before after (h.1 p)))
 
--- the making of a file may fail in this storage
+-- if making a file may fail in this storage, the output may fail
 pub making_may_fail : {S D : Type 0} (may_fail : S → Bool) (failures : D → ℕ) (files : S)
     → may_fail files ≡ true → OutputMayFail may_fail failures
 making_may_fail may_fail failures files h = ∣ inl (files, h) ∣₁
 
--- a file was not synced
+-- if a file could not be synced, the output may fail
 pub syncing_may_fail : {S D T E : Type 0} (may_fail : S → Bool) (failures : D → ℕ) (files : S) (r : Result T E)
     → IfErr r (λ _. may_fail files ≡ true) → is_ok r ≡ false → OutputMayFail may_fail failures
 syncing_may_fail may_fail failures files (Ok x) h e = absurd (cc)

@@ -28,7 +28,7 @@ use Rattle.command.specs.Files.{NoCall, FileDone, FileStopped, StopsLate, Engine
 use Rattle.command.specs.Code.Engines.{EngineRan, Ran}
 use Rattle.command.specs.NewFiles.{held}
 
--- one reading of a text
+-- what is sealed from one reading of a text, if its bytes are known
 pub sealed_once : (a left taken taken' : Option (List ℕ)) (s : Setting) (read read' wrote wrote' : ℕ)
     (r : Answer) → IfSome a (λ x. left ≡ Some x)
     → IfTextKnown left taken taken' (λ x given. SealsStream s x given read read' wrote wrote' r)
@@ -41,20 +41,20 @@ sealed_once (Some x) left (Some t) taken' s read read' wrote wrote' r e h =
     let k = subst P e h in
     (k.0, k.1, record { read = read; read' = read'; wrote = wrote; wrote' = wrote'; is = k.2 })
 
--- a suite that is sealed in one reading
+-- under a suite whose tag is over the ciphertext, sealing in one reading is sealing
 pub sealing_once : (readings : ℕ → Option (List ℕ)) (giving : Giving) (s : Setting) (r : Answer)
     → is_one_pass (construction_of s.suite) ≡ true → SealingBy true readings giving s r
     → Sealing readings giving s r
 sealing_once readings giving s r e h =
     let P : Bool → Type 0 = λ one. SealingBy one readings giving s r in subst P (sym e) h
 
--- a suite that is sealed in two readings
+-- under AES-GCM-SIV, sealing in two readings is sealing
 pub sealing_twice : (readings : ℕ → Option (List ℕ)) (giving : Giving) (s : Setting) (r : Answer)
     → construction_of s.suite ≡ ByGcmSiv → SealingBy false readings giving s r → Sealing readings giving s r
 sealing_twice readings giving s r e h =
     let P : Bool → Type 0 = λ one. SealingBy one readings giving s r in subst P (sym (ap is_one_pass e)) h
 
--- two readings of a text
+-- what is sealed from two readings of a text, if their bytes are known
 pub sealed_twice : (a b left right taken taken' : Option (List ℕ)) (s : Setting) (before after : SivCounts)
     (r : Answer) → IfSome a (λ x. left ≡ Some x) → IfSome b (λ y. right ≡ Some y)
     → IfBothKnown left right taken taken' (λ x y given. SealsSivStream s x y given before after r)
@@ -70,7 +70,7 @@ sealed_twice (Some x) (Some y) left right (Some t) taken' s before after r e f h
     let k = subst Q f (subst P e h) in
     (k.0, k.1, record { before = before; after = after; is = k.2 })
 
--- three readings of sealed bytes
+-- what is opened from three readings of sealed bytes, if their bytes are known
 pub opened_thrice : (a b c measure verify write taken taken' : Option (List ℕ)) (s : Setting)
     (before after : FailureCounts) (r : Answer) → IfSome a (λ x. measure ≡ Some x)
     → IfSome b (λ y. verify ≡ Some y) → IfSome c (λ z. write ≡ Some z)
@@ -94,13 +94,13 @@ opened_thrice (Some x) (Some y) (Some z) measure verify write (Some t) taken' s 
 none_left : (w : ℕ) (p : List ℕ) → p ≡ [] → drop w p ≡ []
 none_left w p e = rw e (drop_all {X = ℕ} w [] (omega arith))
 
--- known bytes that are the same are kept
+-- bytes that stay the same are kept
 keeps_same : (a b : Option (List ℕ)) → b ≡ a → Keeps a b
 keeps_same None b e = tt
 keeps_same (Some x) None e = absurd (cc)
 keeps_same (Some x) (Some y) e = (cc)
 
--- a file holds all that was given, once nothing is pending
+-- once nothing is pending, a file holds all that was given
 holds_all : (P : List ℕ → Type 0) (taken taken' held : Option (List ℕ)) (pending : List ℕ)
     → OutletTakes taken taken' P → Keeps taken' (append_known held pending) → pending ≡ [] → HoldsAll taken held P
 holds_all P None taken' held pending t k e = tt
@@ -109,7 +109,7 @@ holds_all P (Some x) (Some y) None pending t k e = absurd k
 holds_all P (Some x) (Some y) (Some h) pending t k e =
     (t.0, ap Some (sym (append-nil h) ∙ ap (λ l. h ++ l) (sym e) ∙ k ∙ t.1), t.2)
 
--- a file holds a beginning of what was given
+-- a file holds a prefix of what was given
 holds_start : (P : List ℕ → Type 0) (taken taken' held : Option (List ℕ)) (pending : List ℕ)
     → OutletTakes taken taken' P → Keeps taken' (append_known held pending) → HoldsStart taken held P
 holds_start P None taken' held pending t k = tt
@@ -121,7 +121,7 @@ holds_start P (Some x) (Some y) (Some h) pending t k = (
   t.2,
 )
 
--- a file that is made when it is needed holds a beginning of what was given
+-- a file that is made when it is needed holds a prefix of what was given
 holds_start_in : {O : Type 0} (P : List ℕ → Type 0) (taken taken' blank : Option (List ℕ))
     (contents : O → Option (List ℕ)) (file : Option O) (pending : List ℕ) → OutletTakes taken taken' P
     → Keeps taken' (append_known (held blank contents file) pending)
@@ -132,20 +132,20 @@ holds_start_in P (Some x) taken' blank contents None pending t k =
 holds_start_in P taken taken' blank contents (Some o) pending t k =
     holds_start P taken taken' (contents o) pending t k
 
--- an engine's result over one reading, for what is given in another way
+-- a fact of one reading, if it is known, may be replaced by one that follows from it
 map_one : (a : Option (List ℕ)) (X Y : List ℕ → Type 0) → ((x : List ℕ) → X x → Y x)
     → IfSome a (λ x. X x) → IfSome a (λ x. Y x)
 map_one None X Y f h = tt
 map_one (Some x) X Y f h = f x h
 
--- an engine's result over two readings, for what is given in another way
+-- a fact of two readings, if they are known, may be replaced by one that follows from it
 map_two : (a b : Option (List ℕ)) (X Y : List ℕ → List ℕ → Type 0) → ((x y : List ℕ) → X x y → Y x y)
     → IfSome a (λ x. IfSome b (λ y. X x y)) → IfSome a (λ x. IfSome b (λ y. Y x y))
 map_two None b X Y f h = tt
 map_two (Some x) None X Y f h = tt
 map_two (Some x) (Some y) X Y f h = f x y h
 
--- an engine's result over three readings, for what is given in another way
+-- a fact of three readings, if they are known, may be replaced by one that follows from it
 map_three : (a b c : Option (List ℕ)) (X Y : List ℕ → List ℕ → List ℕ → Type 0)
     → ((x y z : List ℕ) → X x y z → Y x y z) → IfSome a (λ x. IfSome b (λ y. IfSome c (λ z. X x y z)))
     → IfSome a (λ x. IfSome b (λ y. IfSome c (λ z. Y x y z)))
@@ -154,12 +154,12 @@ map_three (Some x) None c X Y f h = tt
 map_three (Some x) (Some y) None X Y f h = tt
 map_three (Some x) (Some y) (Some z) X Y f h = f x y z h
 
--- an engine's relation that holds for a way of giving also holds for each weaker one
+-- a relation of an engine that holds with one statement about the given bytes also holds with each weaker one
 abbrev Weakens : (Giving → Setting → Answer → Type 0) → Type 1
 Weakens engine = (G H : Giving) → ((P : List ℕ → Type 0) → G P → H P) → (s : Setting) (r : Answer)
     → engine G s r → engine H s r
 
--- sealing, in one reading or in two, also holds for each weaker way of giving
+-- sealing, in one reading or in two, also holds with each weaker statement about the given bytes
 sealing_by_weakens : (one : Bool) (readings : ℕ → Option (List ℕ)) → Weakens (SealingBy one readings)
 sealing_by_weakens true readings G H f s r h =
     map_one (readings 0) (λ a. G (λ given. SealsOnce s a given r)) (λ a. H (λ given. SealsOnce s a given r))
@@ -168,7 +168,7 @@ sealing_by_weakens false readings G H f s r h =
     map_two (readings 0) (readings 1) (λ a b. G (λ given. SealsTwice s a b given r))
     (λ a b. H (λ given. SealsTwice s a b given r)) (λ a b. f (λ given. SealsTwice s a b given r)) h
 
--- the engine of a file command also holds for each weaker way of giving
+-- the engine of a file command also holds with each weaker statement about the given bytes
 engine_weakens : (command : FileCommand) (readings : ℕ → Option (List ℕ))
     → Weakens (Engine command readings)
 engine_weakens Seal readings G H f s r h =
@@ -177,7 +177,7 @@ engine_weakens Open readings G H f s r h =
     map_three (readings 0) (readings 1) (readings 2) (λ m v w. G (λ given. OpensThrice s m v w given r))
     (λ m v w. H (λ given. OpensThrice s m v w given r)) (λ m v w. f (λ given. OpensThrice s m v w given r)) h
 
--- an engine that is done opened its files
+-- if the run of an engine succeeded, all readings were opened, and the engine succeeded
 pub ran_ok : (engine : Giving → Setting → Answer → Type 0) (s : Setting) (taken taken' : Option (List ℕ))
     (same : Type 0) (u : Unit {0}) → EngineRan engine s taken taken' same (Ok u)
     → engine (OutletTakes taken taken') s (Ok u)
@@ -185,7 +185,7 @@ ran_ok engine s taken taken' same u (inl h) =
     let no : ⊥ = elim h.0 [ inl e ↦ (cc) | inr e ↦ (cc) ] in absurd no
 ran_ok engine s taken taken' same u (inr h) = h
 
--- an engine's fault, under inputs that are ready
+-- if the run of an engine failed on inputs that are ready, either no call was made or the engine returned the fault
 pub ran_err : (engine : Giving → Setting → Answer → Type 0) (words : Inputs) (keyed : Keyed)
     (nonce aad body : List ℕ) (taken taken' : Option (List ℕ)) (same : Type 0) (f : Fault)
     → IsReady words keyed nonce aad body → EngineRan engine (setting keyed nonce aad) taken taken' same (Err f)
@@ -208,7 +208,7 @@ ran_err engine words keyed nonce aad body taken taken' same f ready (inr h) = in
   call = record { keyed = keyed; nonce = nonce; aad = aad; body = body; ready = ready; is = h };
 })
 
--- a call for which P holds is one for which Q holds, if P implies Q
+-- if P implies Q, a call for which P holds is one for which Q holds
 map_call : (words : Inputs) (P Q : Setting → List ℕ → Type 0)
     → ((s : Setting) (body : List ℕ) → P s body → Q s body) → IsCalled words P → IsCalled words Q
 map_call words P Q f h = record {
@@ -220,7 +220,7 @@ map_call words P Q f h = record {
   is = f (setting h.keyed h.nonce h.aad) h.body h.is;
 }
 
--- a file command whose engine did not run, or returned a fault, is stopped
+-- a file command whose engine did not run, or returned a fault, failed
 pub exit_err : {O : Type 0} (command : FileCommand) (readings : ℕ → Option (List ℕ)) (words : Inputs)
     (taken blank : Option (List ℕ)) (contents : O → Option (List ℕ)) (file : Option O) (pending : List ℕ)
     (same same' : Type 0) (e : Failure) → (same → same')
@@ -238,7 +238,7 @@ exit_err command readings words taken blank contents file pending same same' e t
           s (Err h.fault) k)) h.call;
     })
 
--- a file command whose last write failed is stopped with `Write`
+-- a file command whose last write failed, failed with `Write`
 pub exit_write : {O : Type 0} (command : FileCommand) (readings : ℕ → Option (List ℕ)) (words : Inputs)
     (taken given blank : Option (List ℕ)) (contents : O → Option (List ℕ)) (file : Option O)
     (pending : List ℕ) (same : Type 0)
@@ -256,7 +256,7 @@ exit_write command readings words taken given blank contents file pending same h
   )) h;
 })
 
--- a file command whose engine is done is done once the file is made and nothing is pending
+-- a file command whose engine succeeded has succeeded once the file is made and nothing is pending
 pub exit_done : {O : Type 0} (command : FileCommand) (readings : ℕ → Option (List ℕ)) (words : Inputs)
     (taken given blank : Option (List ℕ)) (contents : O → Option (List ℕ)) (file : Option O) (w : ℕ)
     (pending : List ℕ)
@@ -274,7 +274,7 @@ pub write_is_late : (command : FileCommand) (e : Failure) → e ≡ OfFault Writ
 write_is_late Seal e p = rw p (inr (inr (inr (inl refl))))
 write_is_late Open e p = rw p (inr (inr (inl refl)))
 
--- out of memory before a file is named
+-- a request that ran out of memory before its file was made
 pub unwritten : {O : Type 0} (contents : List ℕ → ℕ → Option (List ℕ)) (blank : List ℕ → Option (List ℕ))
     (taken : O → Option (List ℕ)) (request : FileRequest) (r : Result ℕ Failure)
     → r ≡ Err (OfFault OutOfMemory) → Wrote contents blank taken request r
@@ -285,7 +285,7 @@ unwritten contents blank taken request r e = rw e (record {
   unmade = inr refl;
 })
 
--- a file that was not made before its request is done
+-- the result of a request whose file was not made before
 pub wrote : {O : Type 0} (contents : List ℕ → ℕ → Option (List ℕ)) (blank : List ℕ → Option (List ℕ))
     (taken : O → Option (List ℕ)) (request : FileRequest) (before : Option (List ℕ)) (file file' : Option O)
     (r : Result ℕ Failure) → before ≡ blank request.output.now → file ≡ None

@@ -5,7 +5,7 @@ use Rattle.std.proofs.lemmas.List.{append-nil, drop_all, drop-append-le, take_re
 use Rattle.std.proofs.Math.Seq.{drop-drop}
 use Rattle.std.specs.Io.KnownBytes.{Appends, Keeps, append_known}
 
--- if some of the pending bytes are written, the written and the pending bytes together stay the same
+-- if some of the pending bytes are written, the bytes of the file and the pending bytes together stay the same
 pub wrote : (old new : Option (List ℕ)) (p q : List ℕ) (w n : ℕ) → q ≡ p
     → Appends old new (take n (take (length q - w) (drop w q)))
     → Keeps (append_known old (drop w p)) (append_known new (drop (w + n) p))
@@ -19,7 +19,7 @@ wrote (Some x) (Some y) p q w n e h =
     ∙ ap (λ l. x ++ (take n (drop w p) ++ l)) (sym (drop-drop n w p))
     ∙ ap (λ l. x ++ l) (take-append-drop n (drop w p))
 
--- all that was pending is written
+-- once all pending bytes are written, none is pending
 pub none_pending : (old new : Option (List ℕ)) (p : List ℕ) (w : ℕ) → length p ≤ w
     → Keeps old (append_known new (drop w p)) → Keeps old (append_known new [])
 none_pending old new p w h k = rw (← drop_all w p h) k
@@ -31,7 +31,7 @@ keeps_more (Some x) None c p q = absurd p
 keeps_more (Some x) (Some y) None p q = absurd q
 keeps_more (Some x) (Some y) (Some z) p q = q ∙ p
 
--- more bytes are pending
+-- if bytes are added to the pending ones, they follow the bytes of the file and those that were pending before
 pub pends : (old held : Option (List ℕ)) (p x : List ℕ) (w : ℕ) → w ≤ length p
     → Keeps old (append_known held (drop w p)) → Appends old (append_known held (drop w (p ++ x))) x
 pends None held p x w h k = tt
@@ -39,7 +39,7 @@ pends (Some u) None p x w h k = absurd k
 pends (Some u) (Some v) p x w h k =
     ap (λ l. v ++ l) (drop-append-le w p x h) ∙ sym (append_assoc v (drop w p) x) ∙ ap (λ l. l ++ x) k
 
--- nothing is pending
+-- if nothing is pending, the bytes of the file are all
 pub append_none : (x : Option (List ℕ)) → append_known x [] ≡ x
 append_none None = refl
 append_none (Some xs) = ap Some (append-nil xs)

@@ -11,35 +11,35 @@ use Rattle.octets.proofs.Xors.{length-xor_bytes}
 use Rattle.aes.specs.Cipher.{cipher, IsKey, IsPermutation}
 use Rattle.keywrap.specs.Wrapping.{step, steps}
 
--- each item is below 256; the lists below are so
+-- each item of the list is below 256: in the comments below, the list is small
 abbrev AreSmall : List ℕ → Type 0
 AreSmall xs = (i : ℕ) → get_or xs i 0 < 256
 
--- a list of no items
+-- the empty list is small
 small_none : AreSmall []
 small_none i = omega arith
 
--- with one item more in front
+-- a small list with a byte in front is small
 small_cons : (x : ℕ) (xs : List ℕ) → x < 256 → AreSmall xs → AreSmall (x ∷ xs)
 small_cons x xs h b zero = h
 small_cons x xs h b (suc i) = b i
 
--- two such lists joined
+-- two small lists, joined, are small
 small_append : (xs ys : List ℕ) → AreSmall xs → AreSmall ys → AreSmall (xs ++ ys)
 small_append [] ys b d = d
 small_append (x ∷ xs) ys b d = small_cons x (xs ++ ys) (b 0) (small_append xs ys (λ i. b (suc i)) d)
 
--- the first items of one
+-- the first items of a small list are small
 small_take : (n : ℕ) (xs : List ℕ) → AreSmall xs → AreSmall (take n xs)
 small_take zero xs b = small_none
 small_take (suc n) [] b = small_none
 small_take (suc n) (x ∷ xs) b = small_cons x (take n xs) (b 0) (small_take n xs (λ i. b (suc i)))
 
--- the items of one after the first n
+-- the items of a small list after the first n are small
 small_drop : (n : ℕ) (xs : List ℕ) → AreSmall xs → AreSmall (drop n xs)
 small_drop n xs b i = let h : get_or xs (n + i) 0 < 256 = b (n + i) in rw (get_or-drop n xs i 0) h
 
--- the XOR of two
+-- the XOR of two small lists is small
 small_xor : (xs ys : List ℕ) → AreSmall xs → AreSmall ys → AreSmall (xor_bytes xs ys)
 unfolding xor_bytes
 small_xor [] ys b d = small_none
@@ -53,39 +53,39 @@ small_byte_at : (k n : ℕ) → byte_at k n < 256
 small_byte_at zero n = omega arith
 small_byte_at (suc k) n = omega arith
 
--- the bytes of a number
+-- the bytes of a number are small
 small_number : (k n : ℕ) → AreSmall (bytes_high_first k n)
 small_number zero n = small_none
 small_number (suc k) n = small_cons (byte_at k n) (bytes_high_first k n) (small_byte_at k n)
     (small_number k n)
 
--- one byte many times
+-- copies of one byte are small
 small_replicate : (n x : ℕ) → x < 256 → AreSmall (replicate n x)
 small_replicate zero x h = small_none
 small_replicate (suc n) x h = small_cons x (replicate n x) h (small_replicate n x h)
 
--- n copies have length n
+-- n copies are a list of length n
 length-replicate : (n x : ℕ) → length (replicate n x) ≡ n
 length-replicate zero x = refl
 length-replicate (suc n) x = ap suc (length-replicate n x)
 
--- a number in k bytes has k bytes
+-- a number written in k bytes has length k
 pub length_number : (k n : ℕ) → length (bytes_high_first k n) ≡ k
 length_number zero n = refl
 length_number (suc k) n = ap suc (length_number k n)
 
--- m bytes are n bytes if m is n
+-- if m is n, m bytes are n bytes
 pub bytes_resized : (m n : ℕ) (xs : List ℕ) → m ≡ n → AreBytes m xs → AreBytes n xs
 bytes_resized m n xs e b = subst (λ (k : ℕ). AreBytes k xs) e b
 
--- bytes joined are bytes
+-- m bytes and n bytes, joined, are m + n bytes
 pub bytes_append : (m n : ℕ) (xs ys : List ℕ) → AreBytes m xs → AreBytes n ys → AreBytes (m + n) (xs ++ ys)
 bytes_append m n xs ys b d = record {
   length_is = length-append xs ys ∙ ap₂ (λ i j. i + j) b.length_is d.length_is;
   bytes = small_append xs ys b.bytes d.bytes;
 }
 
--- the first n of m bytes are bytes
+-- the first n of m bytes are n bytes
 pub bytes_take : (n m : ℕ) (xs : List ℕ) → n ≤ m → AreBytes m xs → AreBytes n (take n xs)
 bytes_take n m xs l b = record {
   length_is = length-take-le n xs (omega (arith, b.length_is));
@@ -93,7 +93,7 @@ bytes_take n m xs l b = record {
       small_take n xs b.bytes;
 }
 
--- the bytes after the first n are bytes
+-- m bytes without the first n are m - n bytes
 pub bytes_drop : (n m : ℕ) (xs : List ℕ) → AreBytes m xs → AreBytes (m - n) (drop n xs)
 bytes_drop n m xs b = record {
   length_is = length-drop n xs ∙ ap (λ i. i - n) b.length_is;
@@ -143,7 +143,7 @@ next_first : (x : List ℕ) (t : ℕ) → IsBlock x → AreBytes 8 (xor_bytes (t
 next_first x t b = bytes_xor 8 (take 8 x) (bytes_high_first 8 t) (bytes_take 8 16 x (omega arith) b)
     (bytes_number 8 t)
 
--- a step keeps the register's length, and makes bytes of bytes
+-- a step takes n bytes to n bytes
 pub step_bytes : (key s : List ℕ) (t n : ℕ) → IsPermutation → IsKey key → AreBytes n s → 16 ≤ n
     → AreBytes n (step key t s)
 unfolding step
@@ -156,7 +156,7 @@ step_bytes key s t n law k b l =
     (drop 16 s ++ drop 8 x) (next_first x t block)
     (bytes_append (n - 16) (16 - 8) (drop 16 s) (drop 8 x) (bytes_drop 16 n s b) (bytes_drop 8 16 x block)))
 
--- many steps take bytes to bytes
+-- any number of steps takes n bytes to n bytes
 pub steps_bytes : (key s : List ℕ) (t n : ℕ) → IsPermutation → IsKey key → AreBytes n s → 16 ≤ n
     → AreBytes n (steps key t s)
 unfolding steps
@@ -164,7 +164,7 @@ steps_bytes key s zero n law k b l = b
 steps_bytes key s (suc t) n law k b l =
     step_bytes key (steps key t s) (suc t) n law k (steps_bytes key s t n law k b l) l
 
--- a step takes no two registers of bytes to the same
+-- a step takes different registers of bytes to different ones
 pub step_one_to_one : (key s r : List ℕ) (t n : ℕ) → IsPermutation → IsKey key → AreBytes n s → AreBytes n r
     → 16 ≤ n
     → step key t s ≡ step key t r → s ≡ r
@@ -199,7 +199,7 @@ step_one_to_one key s r t n law k b d l h =
     (law key k).1 (take 16 s) (take 16 r) (bytes_take 16 n s l b) (bytes_take 16 n r l d) ciphers in
     sym (take-append-drop 16 s) ∙ ap₂ (λ u v. u ++ v) block middle ∙ take-append-drop 16 r
 
--- many steps are one to one
+-- any number of steps takes different registers of bytes to different ones
 pub steps_one_to_one : (key s r : List ℕ) (t n : ℕ) → IsPermutation → IsKey key → AreBytes n s → AreBytes n r
     → 16 ≤ n
     → steps key t s ≡ steps key t r → s ≡ r

@@ -1,4 +1,4 @@
--- Padded texts, the registers that their wrapping starts from, and the transformation of these.
+-- Padded texts, the registers that their wrappings start from, and the transformation of these registers.
 use Rattle.std.proofs.Common.{◌≡◌, ◌≢◌, ℕ, zero, suc, ◌+◌, ◌-◌, ◌*◌, ◌/◌, ◌%◌, ◌^◌, ◌<◌, ◌≤◌, ◌==◌, Bool}
 use Rattle.std.proofs.Common.{true, false, eqb, List, [], ◌∷◌, ◌++◌, take, drop, length, replicate, refl}
 use Rattle.std.proofs.Common.{sym, ap, ap₂, ◌∙◌, subst, arith, length-append, length-drop, append_assoc}
@@ -32,7 +32,7 @@ transformed_one key s e = rw e refl
 differs : (m n : ℕ) → m ≢ n → eqb m n ≡ false
 differs m n d = grind arith
 
--- A and more blocks than one are transformed by the steps
+-- A and two or more blocks are transformed by the steps
 pub transformed_more : (key s : List ℕ) → length s ≢ 16
     → transformed key s ≡ steps key (6 * ((length s - 8) / 8)) s
 unfolding transformed
@@ -42,7 +42,7 @@ transformed_more key s d = rw (differs (length s) 16 d) refl
 fails : eqb 16 16 ≡ false → ⊥
 fails e = cc
 
--- 16 bytes or more are transformed into as many bytes
+-- the transformation takes n bytes to n bytes, if n is at least 16
 made_bytes : (b : Bool) (key s : List ℕ) (n : ℕ) → eqb n 16 ≡ b → IsPermutation → IsKey key → AreBytes n s
     → 16 ≤ n → AreBytes n (transformed key s)
 made_bytes true key s n e law k h l =
@@ -85,7 +85,7 @@ padded_long text =
 abbrev pub start : List ℕ → List ℕ
 start text = alternative_value (length text) ++ padded text
 
--- the register of a text is made of bytes, eight more than the padded text
+-- the register of a text consists of bytes, eight more than the padded text has
 pub start_bytes : (text : List ℕ) → AreBytes (length text) text
     → AreBytes (8 + length (padded text)) (start text)
 start_bytes text b =
@@ -124,7 +124,7 @@ one_start text other h i e =
 pub start_long : (text : List ℕ) → 1 ≤ length text → 16 ≤ 8 + length (padded text)
 start_long text h = omega (arith, (padded_long text).0, (padded_long text).1)
 
--- a wrapping with padding has the length of the register
+-- a wrapping with padding is as long as the register of its text
 pub wrapped_bytes : (key wrapped text : List ℕ) → IsPermutation → IsKey key
     → UnwrappedPadded key wrapped text → AreBytes (8 + length (padded text)) wrapped
 wrapped_bytes key wrapped text law k u =
@@ -142,7 +142,7 @@ only_start key wrapped text s law k b e u =
     (start_bytes text u.bytes)
     (start_long text u.length_is.least) (e ∙ u.is)
 
--- a wrapping with padding has one text
+-- a wrapping with padding has only one text
 pub one_text : IsPermutation → HasOnePaddedText
 one_text law key k wrapped text u = (
   (wrapped_bytes key wrapped text law k u).length_is ∙ omega arith,
@@ -155,19 +155,19 @@ one_text law key k wrapped text u = (
       (start_bytes other v.bytes)) (sym v.is) u),
 )
 
--- a list whose items are all 0 is as many zeros
+-- a list whose items are all 0 is a list of zeros
 pub zeros : (xs : List ℕ) → list_all (λ b. b == 0) xs ≡ true → xs ≡ replicate (length xs) 0
 zeros [] h = refl
 zeros (x ∷ xs) h =
     let both = and_parts (eqb x 0) (list_all (λ b. b == 0) xs) h in
     ap₂ (λ y ys. y ∷ ys) (eqb-true x 0 both.0) (zeros xs both.1)
 
--- n zeros are all 0
+-- n zeros pass the test that all items are 0
 pub are_zeros : (n : ℕ) → list_all (λ b. b == 0) (replicate n 0) ≡ true
 are_zeros zero = refl
 are_zeros (suc n) = are_zeros n
 
--- blocks whose bytes past the text are the fewest zeros
+-- whole blocks that have fewer than 8 bytes after the first n, all of them 0, are those n bytes with their padding
 pub padded_by : (n : ℕ) (blocks : List ℕ) → length blocks % 8 ≡ 0 → n ≤ length blocks → length blocks < n + 8
     → list_all (λ b. b == 0) (drop n blocks) ≡ true
     → blocks ≡ padded (take n blocks)
@@ -212,14 +212,14 @@ wrapped_long key wrapped text u =
       omega (arith, long, fits.0, fits.2, u.length_is.most),
     )
 
--- A and the blocks of a wrapping, taken apart
+-- A and the blocks of a wrapping, joined again, are the wrapping
 pub parts : (wrapped a blocks : List ℕ) → a ≡ take 8 wrapped
     → blocks ≡ take (length wrapped - 8) (drop 8 wrapped) → a ++ blocks ≡ wrapped
 parts wrapped a blocks e f =
     ap₂ (λ x y. x ++ y) e (f ∙ take_all (length wrapped - 8) (drop 8 wrapped)
     (omega (arith, length-drop 8 wrapped))) ∙ take-append-drop 8 wrapped
 
--- if the register found is that of the first n bytes of its blocks, these are the text of the wrapping
+-- if a register leads to the wrapping and begins the first n bytes of its blocks, these are the text of the wrapping
 pub unwrapped_by : (key wrapped first rest : List ℕ) (n : ℕ) → n ≤ length rest → AreBytes (length rest) rest
     → IsStartOf (take n rest) first rest
     → transformed key (first ++ rest) ≡ wrapped → UnwrappedPadded key wrapped (take n rest)
@@ -230,7 +230,7 @@ unwrapped_by key wrapped first rest n l b s e = record {
   is = sym e ∙ ap (transformed key) (ap₂ (λ x y. x ++ y) s.first_is s.blocks_are);
 }
 
--- if the register found is not that of a text, the bytes are not a valid wrapping
+-- if a register leads to the bytes and does not begin any text, the bytes are not a valid wrapping
 pub no_wrapping : (key wrapped first rest : List ℕ) → IsPermutation → IsKey key
     → AreBytes (length wrapped) (first ++ rest) → length first ≡ 8
     → transformed key (first ++ rest) ≡ wrapped → ((text : List ℕ) → IsStartOf text first rest → ⊥)
@@ -252,7 +252,7 @@ zeros_past text blocks n e is =
     ∙ ap (drop n) is ∙ drop_at text (replicate ((8 - length text % 8) % 8) 0) n (sym e) in
     ap (list_all (λ b. b == 0)) past ∙ are_zeros ((8 - length text % 8) % 8)
 
--- the first of eight zeros
+-- the first n of eight zeros are n zeros
 pub few_zeros : (n : ℕ) → n ≤ 8 → take {A = ℕ} n (0 ∷ 0 ∷ 0 ∷ 0 ∷ 0 ∷ 0 ∷ 0 ∷ 0 ∷ []) ≡ replicate n 0
 few_zeros n l = take_zeros 8 n l where
   take_zeros : (m n : ℕ) → n ≤ m → take {A = ℕ} n (replicate m 0) ≡ replicate n 0
@@ -260,7 +260,8 @@ few_zeros n l = take_zeros 8 n l where
   take_zeros zero (suc n) l = absurd (omega arith)
   take_zeros (suc m) (suc n) l = ap (λ (xs : List ℕ). 0 ∷ xs) (take_zeros m n (omega arith))
 
--- a start that was put together part by part
+-- the alternative initial value, then the text, then the zeros after it, written one after the other, are the register of the
+-- text
 pub started : (text value first second last : List ℕ) → value ≡ alternative_value (length text)
     → first ≡ value → second ≡ first ++ text
     → last ≡ second ++ take {A = ℕ} ((8 - length text % 8) % 8) (0 ∷ 0 ∷ 0 ∷ 0 ∷ 0 ∷ 0 ∷ 0 ∷ 0 ∷ [])
@@ -271,7 +272,8 @@ started text value first second last a b e f =
     (few_zeros ((8 - length text % 8) % 8) (omega arith))
     ∙ append_assoc (alternative_value (length text)) text z
 
--- the text in its room, with A written in front and zeros past it
+-- if A is written into the room before a text, and zeros into the room behind it, the transformation of these bytes is the
+-- wrapping of the text
 pub wrapped_in_room : (key bytes value zeros wrapped : List ℕ) (n : ℕ) → HasPaddedRoom bytes n → n < 2 ^ 32
     → AreBytes (length bytes) bytes
     → value ≡ alternative_value n → zeros
@@ -308,7 +310,8 @@ wrapped_in_room key bytes value zeros wrapped n room most b v z e =
           (sym long));
     }
 
--- a text copied to its room in an output, with A written in front and zeros past it
+-- if a text is copied into an output, A is written before it and zeros behind it, the transformation of these bytes is the
+-- wrapping of the text
 pub wrapped_in_output : (key old text copied value zeros wrapped : List ℕ) → 1 ≤ length text
     → length text < 2 ^ 32
     → length old ≡ 8 + (length text + (8 - length text % 8) % 8) → AreBytes (length old) old
@@ -339,7 +342,7 @@ wrapped_in_output key old text copied value zeros wrapped least most size b d is
     v
     (z ∙ ap (λ m. take {A = ℕ} (m - 8 - n) (0 ∷ 0 ∷ 0 ∷ 0 ∷ 0 ∷ 0 ∷ 0 ∷ 0 ∷ [])) (sym long)) e)
 
--- if a length is found, the register is that of the text of this length
+-- if a length is found, the register is that of the text with this length
 pub start_found : (first rest : List ℕ) (found : Option ℕ)
     → MatchOption found ((text : List ℕ) → ¬ IsStartOf text first rest)
     (λ n. (n ≤ length rest) × IsStartOf (take n rest) first rest)
@@ -347,7 +350,7 @@ pub start_found : (first rest : List ℕ) (found : Option ℕ)
 start_found first rest None h = tt
 start_found first rest (Some n) h = h.1
 
--- a length that is found is that of the text of the wrapping, and if none is found, there is no text
+-- if a length is found, it is that of the wrapping's text; if none is found, the bytes are not a valid wrapping
 pub found_by : (key wrapped first rest : List ℕ) (found : Option ℕ) → IsPermutation → IsKey key
     → AreBytes (length wrapped) (first ++ rest) → length first ≡ 8
     → AreBytes (length rest) rest → transformed key (first ++ rest) ≡ wrapped
@@ -359,7 +362,7 @@ found_by key wrapped first rest None law k b long r e h = no_wrapping key wrappe
 found_by key wrapped first rest (Some n) law k b long r e h =
     (h.0, unwrapped_by key wrapped first rest n h.0 r h.1 e)
 
--- the blocks of a register after they were written
+-- if the blocks of a register are written, they are its bytes after the first eight
 pub blocks_in_place : (xs ys : List ℕ) → 16 ≤ length xs → length ys ≡ length xs - 8
     → drop 8 (put_mid 8 (length xs - 8) xs ys) ≡ ys
 blocks_in_place xs ys l ly =
@@ -368,7 +371,7 @@ blocks_in_place xs ys l ly =
     ∙ ap (λ v. ys ++ v) (drop_all (length xs - 8) (drop 8 xs) (omega (arith, length-drop 8 xs)))
     ∙ append-nil ys
 
--- the blocks of a register of which A was written again
+-- if the blocks of a register are written, and then A, the blocks are still its bytes after the first eight
 pub rest_in_place : (x xs ys : List ℕ) → length x ≡ 8 → 16 ≤ length xs → length ys ≡ length xs - 8
     → drop 8 (x ++ drop 8 (put_mid 8 (length xs - 8) xs ys)) ≡ ys
 rest_in_place x xs ys lx l ly =

@@ -20,7 +20,7 @@ halves x z y a b e f long rest =
     (ap (drop 8) (drop_at x z 8 l) ∙ drop_all 8 z (omega arith))
     ∙ ap (λ v. a ++ v) (append-nil y ∙ f)
 
--- a list cut before and after eight places
+-- a list is its first p items, the next eight, and the rest
 pub cut : (p : ℕ) (s : List ℕ) → s ≡ take p s ++ (take 8 (drop p s) ++ drop 8 (drop p s))
 cut p s = sym (ap (λ v. take p s ++ v) (take-append-drop 8 (drop p s)) ∙ take-append-drop p s)
 
@@ -68,7 +68,7 @@ unfolding register
 register_end place a s l =
     ap (λ v. a ++ v) (ap₂ (λ d t. d ++ t) (drop_all place s l) (take_all place s l))
 
--- one step forwards on the block at a place
+-- step t of wrapping, on the block at place p
 pub wrapped_at : (key : List ℕ) (t p k : ℕ) (a s b h : List ℕ) → k ≡ 8 → length a ≡ 8 → p + 8 ≤ length s
     → length b ≡ 16
     → b ≡ cipher key (a ++ take k (drop p s)) → h ≡ drop 8 b
@@ -88,7 +88,7 @@ wrapped_at key t p k a s b h k8 la room lb e f =
     ∙ sym (ap (λ v. step key t (register p a v)) (cut p s) ∙ ap (step key t) (register_before p a m r z lm)
     ∙ step_at key t a r (z ++ m) la lr)
 
--- one step backwards on the block at a place, if the cipher takes d to A XOR t and that block
+-- step t of unwrapping, on the block at place p, if the cipher takes d to A XOR t and that block
 pub unwrapped_at : (key : List ℕ) (t p k : ℕ) (a s d h : List ℕ) → k ≡ 8 → length a ≡ 8 → p + 8 ≤ length s
     → length d ≡ 16
     → cipher key d ≡ xor_bytes a (bytes_high_first 8 t) ++ take k (drop p s) → h ≡ drop 8 d

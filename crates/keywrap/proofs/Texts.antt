@@ -40,7 +40,7 @@ step_length key s t l =
     length-append (xor_bytes (take 8 b) n) (drop 16 s ++ drop 8 b)
     ∙ omega (arith, first, rest, length-drop 16 s, length-drop 8 b)
 
--- many steps keep the length
+-- any number of steps keeps the register's length, whatever the key
 pub steps_length : (key s : List ℕ) (t : ℕ) → 16 ≤ length s → length (steps key t s) ≡ length s
 unfolding steps
 steps_length key s zero l = refl
@@ -57,7 +57,7 @@ wrapped_length key wrapped text u =
     ap length u.is ∙ steps_length key (initial_value ++ text) (6 * (length text / 8)) (omega arith) ∙ start in
     record { least = omega arith; whole = omega (arith, long, u.length_is.whole) }
 
--- a register from which the steps lead to a wrapping of the text begins with the initial value and the text
+-- a register from which the steps lead to a wrapping of a text is the initial value and the text
 pub one_start : (key wrapped text start : List ℕ) → IsPermutation → IsKey key
     → AreBytes (length wrapped) start
     → steps key (6 * ((length wrapped - 8) / 8)) start ≡ wrapped → Unwrapped key wrapped text
@@ -71,7 +71,7 @@ one_start key wrapped text start law k b e u =
     (omega arith)
     (ap (λ n. steps key (6 * (n / 8)) start) blocks ∙ e ∙ u.is)
 
--- a wrapping has one text
+-- a wrapping has only one text
 pub one_text : IsPermutation → HasOneText
 one_text law key k wrapped text u = (
   (wrapped_bytes key wrapped text law k u).length_is ∙ omega arith,
@@ -85,14 +85,14 @@ one_text law key k wrapped text u = (
       (ap (λ n. steps key (6 * (n / 8)) (initial_value ++ other)) blocks ∙ sym v.is) u),
 )
 
--- if the steps lead to the bytes from another first value, the bytes are not a valid wrapping
+-- if the steps lead to the bytes from a register that does not begin with the initial value, the bytes are not a valid wrapping
 pub no_wrapping : (key wrapped start : List ℕ) → IsPermutation → IsKey key → AreBytes (length wrapped) start
     → steps key (6 * ((length wrapped - 8) / 8)) start ≡ wrapped → (take 8 start ≡ initial_value → ⊥)
     → IsNoWrapping key wrapped
 no_wrapping key wrapped start law k b e other text u =
     other (ap (take 8) (one_start key wrapped text start law k b e u) ∙ take_at initial_value text 8 refl)
 
--- if the steps lead from the initial value and a text to the bytes, these are the text's wrapping
+-- if the steps lead from the initial value and a text to bytes of the length of a wrapping, these are the text's wrapping
 pub unwrapped_by : (key wrapped start text : List ℕ) → HasWrappedLength wrapped
     → AreBytes (length wrapped - 8) text
     → start ≡ initial_value ++ text → steps key (6 * ((length wrapped - 8) / 8)) start ≡ wrapped
@@ -106,7 +106,7 @@ unwrapped_by key wrapped start text l b begins e =
       is = sym e ∙ ap₂ (λ n s. steps key (6 * (n / 8)) s) (sym long) begins;
     }
 
--- the bytes to which the steps lead from the initial value and a text are the text's wrapping
+-- for a text that can be wrapped, the bytes to which the steps lead from the initial value and the text are its wrapping
 pub wrapping_by : (key wrapped start text : List ℕ) → AreBytes (length text) text → HasTextLength text
     → start ≡ initial_value ++ text
     → wrapped ≡ steps key (6 * ((length start - 8) / 8)) start → Unwrapped key wrapped text
@@ -115,7 +115,7 @@ wrapping_by key wrapped start text b l begins e =
     let blocks : length start - 8 ≡ length text = omega arith in
     record { length_is = l; bytes = b; is = e ∙ ap₂ (λ n s. steps key (6 * (n / 8)) s) blocks begins }
 
--- the steps lead to the bytes if they lead to A and the blocks that were taken apart
+-- if the steps lead to A and the blocks of a wrapping, they lead to the wrapping
 pub start_of_parts : (key wrapped a blocks first rest : List ℕ) → a ≡ take 8 wrapped
     → blocks ≡ take (length wrapped - 8) (drop 8 wrapped)
     → steps key (6 * (length blocks / 8)) (first ++ rest) ≡ a ++ blocks

@@ -28,7 +28,6 @@ s1 =
     ∷ 0xff ∷
     0x74 ∷ 0xce ∷ 0x86 ∷ 0xfb ∷ 0xd7 ∷ 0xb8 ∷ 0x05 ∷ 0xe7 ∷ []
 
--- the step leads there
 step1 : step key128 1 s0 ≡ s1
 unfolding key128 words128 cipher_computed rounds_computed add_round_key shift_rows sub_by_table
     mix_by_doubling s0 s1 step xor_bytes
@@ -44,7 +43,6 @@ s2 =
     ∷ 0xe7 ∷
     0xd1 ∷ 0x32 ∷ 0xee ∷ 0x38 ∷ 0x14 ∷ 0x7e ∷ 0x76 ∷ 0xf8 ∷ []
 
--- the step leads there
 step2 : step key128 2 s1 ≡ s2
 unfolding key128 words128 cipher_computed rounds_computed add_round_key shift_rows sub_by_table
     mix_by_doubling s1 s2 step xor_bytes
@@ -60,7 +58,6 @@ s3 =
     ∷ 0xf8 ∷
     0xfe ∷ 0x6e ∷ 0x8d ∷ 0x67 ∷ 0x9c ∷ 0x5d ∷ 0x34 ∷ 0x60 ∷ []
 
--- the step leads there
 step3 : step key128 3 s2 ≡ s3
 unfolding key128 words128 cipher_computed rounds_computed add_round_key shift_rows sub_by_table
     mix_by_doubling s2 s3 step xor_bytes
@@ -76,7 +73,6 @@ s4 =
     ∷ 0x60 ∷
     0x07 ∷ 0xb2 ∷ 0xbd ∷ 0x97 ∷ 0x3e ∷ 0x36 ∷ 0xa6 ∷ 0xfc ∷ []
 
--- the step leads there
 step4 : step key128 4 s3 ≡ s4
 unfolding key128 words128 cipher_computed rounds_computed add_round_key shift_rows sub_by_table
     mix_by_doubling s3 s4 step xor_bytes
@@ -92,7 +88,6 @@ s5 =
     ∷ 0xfc ∷
     0x25 ∷ 0xf5 ∷ 0xa3 ∷ 0xad ∷ 0xc2 ∷ 0x19 ∷ 0x54 ∷ 0x01 ∷ []
 
--- the step leads there
 step5 : step key128 5 s4 ≡ s5
 unfolding key128 words128 cipher_computed rounds_computed add_round_key shift_rows sub_by_table
     mix_by_doubling s4 s5 step xor_bytes
@@ -108,7 +103,6 @@ s6 =
     ∷ 0x01 ∷
     0xf1 ∷ 0x48 ∷ 0x63 ∷ 0xbb ∷ 0x1e ∷ 0x9c ∷ 0xa9 ∷ 0x0a ∷ []
 
--- the step leads there
 step6 : step key128 6 s5 ≡ s6
 unfolding key128 words128 cipher_computed rounds_computed add_round_key shift_rows sub_by_table
     mix_by_doubling s5 s6 step xor_bytes
@@ -124,7 +118,6 @@ s7 =
     ∷ 0x0a ∷
     0xb5 ∷ 0x56 ∷ 0xd3 ∷ 0x5e ∷ 0xd8 ∷ 0xce ∷ 0xf0 ∷ 0x52 ∷ []
 
--- the step leads there
 step7 : step key128 7 s6 ≡ s7
 unfolding key128 words128 cipher_computed rounds_computed add_round_key shift_rows sub_by_table
     mix_by_doubling s6 s7 step xor_bytes
@@ -140,7 +133,6 @@ s8 =
     ∷ 0x52 ∷
     0x64 ∷ 0xba ∷ 0xe5 ∷ 0x81 ∷ 0x8d ∷ 0x05 ∷ 0x70 ∷ 0xbb ∷ []
 
--- the step leads there
 step8 : step key128 8 s7 ≡ s8
 unfolding key128 words128 cipher_computed rounds_computed add_round_key shift_rows sub_by_table
     mix_by_doubling s7 s8 step xor_bytes
@@ -156,7 +148,6 @@ s9 =
     ∷ 0xbb ∷
     0xbe ∷ 0x11 ∷ 0x4b ∷ 0x34 ∷ 0x3e ∷ 0xb0 ∷ 0x09 ∷ 0x81 ∷ []
 
--- the step leads there
 step9 : step key128 9 s8 ≡ s9
 unfolding key128 words128 cipher_computed rounds_computed add_round_key shift_rows sub_by_table
     mix_by_doubling s8 s9 step xor_bytes
@@ -172,7 +163,6 @@ s10 =
     ∷ 0x81 ∷
     0x4f ∷ 0xd3 ∷ 0xd2 ∷ 0xb7 ∷ 0xd7 ∷ 0x4f ∷ 0xbb ∷ 0x42 ∷ []
 
--- the step leads there
 step10 : step key128 10 s9 ≡ s10
 unfolding key128 words128 cipher_computed rounds_computed add_round_key shift_rows sub_by_table
     mix_by_doubling s9 s10 step xor_bytes
@@ -188,7 +178,6 @@ s11 =
     ∷ 0x42 ∷
     0xae ∷ 0xf3 ∷ 0x4b ∷ 0xd8 ∷ 0xfb ∷ 0x5a ∷ 0x7b ∷ 0x82 ∷ []
 
--- the step leads there
 step11 : step key128 11 s10 ≡ s11
 unfolding key128 words128 cipher_computed rounds_computed add_round_key shift_rows sub_by_table
     mix_by_doubling s10 s11 step xor_bytes
@@ -204,7 +193,6 @@ s12 =
     ∷ 0x82 ∷
     0x9d ∷ 0x3e ∷ 0x86 ∷ 0x23 ∷ 0x71 ∷ 0xd2 ∷ 0xcf ∷ 0xe5 ∷ []
 
--- the step leads there
 step12 : step key128 12 s11 ≡ s12
 unfolding key128 words128 cipher_computed rounds_computed add_round_key shift_rows sub_by_table
     mix_by_doubling s11 s12 step xor_bytes
@@ -213,62 +201,51 @@ step12 =
     ap (λ b. xor_bytes (take 8 b) (bytes_high_first 8 12) ++ (drop 16 s11 ++ drop 8 b))
     (cipher_is_computed key128 (take 16 s11) words128 is_key128 block schedule128) ∙ refl
 
--- after 1 step
+-- the steps 1 to n, for n from 1 to 12
 after1 : steps key128 1 s0 ≡ s1
 unfolding steps
 after1 = step1
 
--- after 2 steps
 after2 : steps key128 2 s0 ≡ s2
 unfolding steps
 after2 = ap (step key128 2) after1 ∙ step2
 
--- after 3 steps
 after3 : steps key128 3 s0 ≡ s3
 unfolding steps
 after3 = ap (step key128 3) after2 ∙ step3
 
--- after 4 steps
 after4 : steps key128 4 s0 ≡ s4
 unfolding steps
 after4 = ap (step key128 4) after3 ∙ step4
 
--- after 5 steps
 after5 : steps key128 5 s0 ≡ s5
 unfolding steps
 after5 = ap (step key128 5) after4 ∙ step5
 
--- after 6 steps
 after6 : steps key128 6 s0 ≡ s6
 unfolding steps
 after6 = ap (step key128 6) after5 ∙ step6
 
--- after 7 steps
 after7 : steps key128 7 s0 ≡ s7
 unfolding steps
 after7 = ap (step key128 7) after6 ∙ step7
 
--- after 8 steps
 after8 : steps key128 8 s0 ≡ s8
 unfolding steps
 after8 = ap (step key128 8) after7 ∙ step8
 
--- after 9 steps
 after9 : steps key128 9 s0 ≡ s9
 unfolding steps
 after9 = ap (step key128 9) after8 ∙ step9
 
--- after 10 steps
 after10 : steps key128 10 s0 ≡ s10
 unfolding steps
 after10 = ap (step key128 10) after9 ∙ step10
 
--- after 11 steps
 after11 : steps key128 11 s0 ≡ s11
 unfolding steps
 after11 = ap (step key128 11) after10 ∙ step11
 
--- after 12 steps
 after12 : steps key128 12 s0 ≡ s12
 unfolding steps
 after12 = ap (step key128 12) after11 ∙ step12
@@ -283,14 +260,14 @@ wrapped = record {
 }
 
 -- ---- RFC 5649, 6: the text of seven bytes
--- the key of RFC 5649, 6
+-- the key
 unfoldable pub key192 : List ℕ
 key192 =
     0x58 ∷ 0x40 ∷ 0xdf ∷ 0x6e ∷ 0x29 ∷ 0xb0 ∷ 0x2a ∷ 0xf1 ∷ 0xab ∷ 0x49 ∷ 0x3b ∷ 0x70 ∷ 0x5b ∷ 0xf1 ∷ 0x6e
     ∷ 0xa1 ∷
     0xae ∷ 0x83 ∷ 0x38 ∷ 0xf4 ∷ 0xdc ∷ 0xc1 ∷ 0x76 ∷ 0xa8 ∷ []
 
--- the words of its schedule
+-- the words of the key's schedule
 words192 : List (List ℕ)
 words192 =
     (0x58 ∷ 0x40 ∷ 0xdf ∷ 0x6e ∷ []) ∷ (0x29 ∷ 0xb0 ∷ 0x2a ∷ 0xf1 ∷ []) ∷
@@ -320,12 +297,12 @@ words192 =
     (0x37 ∷ 0xa7 ∷ 0xc3 ∷ 0x92 ∷ []) ∷ (0x41 ∷ 0xbf ∷ 0xa0 ∷ 0xcd ∷ []) ∷
     (0xe2 ∷ 0xc7 ∷ 0xc5 ∷ 0x78 ∷ []) ∷ (0xb0 ∷ 0x8e ∷ 0x92 ∷ 0xec ∷ []) ∷ []
 
--- as the definition makes them
+-- the definition computes these words
 schedule192 : schedule_by_table key192 ≡ words192
 unfolding key192 words192 words_by_table xor_word rcon residue
 schedule192 = refl
 
--- it is a key
+-- the key is one of AES
 is_key192 : IsKey key192
 unfolding key192
 is_key192 = record { length_is = inr (inl refl); bytes = all_small key192 refl }
@@ -334,35 +311,35 @@ is_key192 = record { length_is = inr (inl refl); bytes = all_small key192 refl }
 unfoldable pub seven : List ℕ
 seven = 0x46 ∷ 0x6f ∷ 0x72 ∷ 0x50 ∷ 0x61 ∷ 0x73 ∷ 0x69 ∷ []
 
--- its wrapping, as published
+-- the published wrapping
 unfoldable pub seven_wrapped : List ℕ
 seven_wrapped =
     0xaf ∷ 0xbe ∷ 0xb0 ∷ 0xf0 ∷ 0x7d ∷ 0xfb ∷ 0xf5 ∷ 0x41 ∷ 0x92 ∷ 0x00 ∷ 0xf2 ∷ 0xcc ∷ 0xb5 ∷ 0x0b ∷ 0xb2
     ∷ 0x4f ∷ []
 
--- the block that is enciphered
+-- the block that is encrypted
 seven_block : List ℕ
 seven_block =
     0xa6 ∷ 0x59 ∷ 0x59 ∷ 0xa6 ∷ 0x00 ∷ 0x00 ∷ 0x00 ∷ 0x07 ∷ 0x46 ∷ 0x6f ∷ 0x72 ∷ 0x50 ∷ 0x61 ∷ 0x73 ∷ 0x69
     ∷ 0x00 ∷ []
 
--- its alternative initial value, the text and one zero byte
+-- the block consists of the alternative initial value, the text and one zero byte
 seven_start : alternative_value (length seven) ++ padded seven ≡ seven_block
 unfolding seven seven_block
 seven_start = refl
 
--- it is a block
+-- the block is 16 bytes long
 seven_is_block : IsBlock seven_block
 unfolding seven_block
 seven_is_block = record { length_is = refl; bytes = all_small seven_block refl }
 
--- its cipher is the wrapping
+-- the cipher of the block is the published wrapping
 seven_cipher : cipher key192 seven_block ≡ seven_wrapped
 unfolding key192 words192 seven_block seven_wrapped cipher_computed rounds_computed add_round_key shift_rows
     sub_by_table mix_by_doubling
 seven_cipher = cipher_is_computed key192 seven_block words192 is_key192 seven_is_block schedule192 ∙ refl
 
--- and its wrapping
+-- the text of RFC 5649, 6, and its wrapping
 pub wrapped_padded : UnwrappedPadded key192 seven_wrapped seven
 unfolding seven
 wrapped_padded = record {

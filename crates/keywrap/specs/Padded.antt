@@ -18,7 +18,7 @@ alternative_value n = constant ++ bytes_high_first 4 n
 abbrev pub padded : List ℕ → List ℕ
 padded text = text ++ replicate ((8 - length text % 8) % 8) 0
 
--- A and n blocks, encrypted: their cipher if n is 1, and else the register after the 6n steps of RFC 3394 (4.1)
+-- the transformation of A and n blocks: their cipher if n is 1, else the register after the 6n steps of RFC 3394 (4.1)
 unfoldable pub transformed : List ℕ → List ℕ → List ℕ
 transformed key s = if length s == 16 then cipher key s else steps key (6 * ((length s - 8) / 8)) s
 
@@ -65,11 +65,11 @@ UnwrappedPaddedTo key wrapped n output = (n ≤ length output)
     × UnwrappedPadded key wrapped (take n output)
     × (output ≡ padded (take n output))
 
--- wrapped is not a valid wrapping with padding: it is the wrapping of no text
+-- wrapped is not a valid wrapping with padding: it is not the wrapping of any text
 abbrev pub IsNoPaddedWrapping : List ℕ → List ℕ → Type 0
 IsNoPaddedWrapping key wrapped = (text : List ℕ) → ¬ UnwrappedPadded key wrapped text
 
--- a wrapping with padding has one text, and is eight bytes longer than the padded text
+-- a wrapping with padding has only one text, and is eight bytes longer than the padded text
 abbrev pub HasOnePaddedText : Type 0
 HasOnePaddedText = (key : List ℕ) → IsKey key → (wrapped text : List ℕ) → UnwrappedPadded key wrapped text
     → (length wrapped ≡ length (padded text) + 8)

@@ -13,7 +13,7 @@ use Rattle.poly1305.specs.declared.poly.PolySum.{PolySum}
 use Rattle.poly1305.specs.declared.partial_sum.PartialSum.{PartialSum}
 use Rattle.poly1305.proofs.Texts.{block_sum-append, block_taken, whole_number}
 
--- a new partial sum: nothing is left
+-- a new partial sum holds the whole blocks so far, and has nothing left to take in
 pub begun : {M : Type 0} (factor : M → ℕ) (t : PartialSum M) (k m : List ℕ) → factor t.multiplier.now ≡ r_of k
     → length m % 16 ≡ 0 → pair t.sum.low t.sum.high % prime ≡ block_sum (r_of k) m (length m / 16) % prime
     → PartialSumHolds factor t [] k m
@@ -58,7 +58,7 @@ stepped factor t u k m left rest block w h f eb er size ew step =
           ∙ ap (λ (x : ℕ). block_sum r front x % prime) next;
     }
 
--- a state with the partial sum has absorbed the text, if nothing is left
+-- if nothing is left, a state with the partial sum has absorbed the text
 pub taken_holds : {M : Type 0} (factor : M → ℕ) (t : PartialSum M) (c : PolySum M) (k m : List ℕ)
     → PartialSumHolds factor t [] k m
     → factor c.multiplier ≡ r_of k → c.addend ≡ s_of k

@@ -18,7 +18,7 @@ use Rattle.poly1305.specs.Code.Residue.{pair, IsClamped}
 use Rattle.poly1305.specs.Code.States.{PolySumHolds}
 use Rattle.poly1305.specs.declared.poly.PolySum.{PolySum}
 
--- the sum over one block more
+-- the sum over one more block
 pub block_sum_more : (r : ℕ) (m : List ℕ) (k : ℕ)
     → block_sum r m (k + 1) ≡ (block_sum r m k + block_number (block_at m k)) * r
 unfolding block_sum
@@ -33,7 +33,7 @@ block_sum-append r m x k h =
     (λ i. block_number (block_at m i) * r ^ (k - i)) k
     (λ i l. ap (λ (b : List ℕ). block_number b * r ^ (k - i)) (block_at-append m x i (omega arith)))
 
--- one block more, modulo p
+-- congruent sums stay congruent after a block is added and the sum is multiplied
 pub taken : (p a t c r : ℕ) → a % p ≡ t % p → (a + c) * r % p ≡ (t + c) * r % p
 taken p a t c r e =
     sym (mul-mod_first (a + c) r p) ∙ ap (λ (x : ℕ). x * r % p) (sym (mod-add-mod a p c)
@@ -60,12 +60,11 @@ whole_block_taken r f m q i s w v before number same step =
     (step ∙ ap (λ (x : ℕ). x * f % prime) sums ∙ ap (λ (x : ℕ). (s + (w + 1 * 2 ^ 128)) * x % prime) same)
     ∙ ap (λ (x : ℕ). block_sum r m x % prime) next
 
--- a whole block's number
+-- the number of a whole block is the word that it spells, and its added bit
 pub whole_number : (b : List ℕ) → length b ≡ 16 → block_number b ≡ from_le_bytes w128 b + 1 * 2 ^ 128
 whole_number b len = rw (len, le_word b len) refl
 
--- the word read from chunk i of whole blocks x that follow whole blocks m is what the block counts, but for
--- its added bit
+-- the number of a block is the word read from chunk i of whole blocks x, which follow whole blocks m, and its added bit
 pub whole_block_read : (m x : List ℕ) (chunks : List (List ℕ)) (i w : ℕ) → length m % 16 ≡ 0
     → (i + 1) * 16 ≤ length x
     → chunks ≡ first_chunks 16 (length x / 16) x → w ≡ from_le_bytes w128 (get_or chunks i [])
@@ -78,7 +77,7 @@ whole_block_read m x chunks i w whole room ec ew =
     ap (λ (y : ℕ). y + 1 * 2 ^ 128) (ew ∙ ap (from_le_bytes w128) read) ∙ sym (whole_number b n)
     ∙ ap block_number (sym (next_block m x i whole))
 
--- a short block with one bit more, as `short_block_number` writes it
+-- a short block with its added bit, as `short_block_number` writes it
 pub ended_block : (bytes ys : List ℕ) → length bytes < 16 → ys ≡ bytes
     → set (put_mid 0 (length bytes) (replicate 16 0) ys) (length bytes) 1
     ≡ bytes ++ 1 ∷ replicate (15 - length bytes) 0
@@ -89,7 +88,7 @@ ended_block bytes ys h e =
     ∙ rw s refl in
     rw (e, tail) (set_at bytes 0 (replicate (15 - u) 0) 1 u refl)
 
--- the word that it spells is what the block counts
+-- the word that these bytes spell is the number of the short block
 pub ended_number : (front block : List ℕ) (u : ℕ) → u < 16 → length front ≡ u
     → block ≡ front ++ 1 ∷ replicate (15 - u) 0
     → from_le_bytes w128 block ≡ block_number front
@@ -99,7 +98,7 @@ ended_number front block u h n e =
     sym (le_word block whole) ∙ ap le e ∙ le_ended front (15 - u) ∙ ap (λ (x : ℕ). le front + x)
     (power_of_bytes (length front))
 
--- the mask leaves a clamped number
+-- the mask makes every number clamped
 pub clamped : (x : ℕ) → IsClamped (bit_and x 0x0ffffffc0ffffffc0ffffffc0fffffff)
 clamped x =
     let mask : ℕ = 0x0ffffffc0ffffffc0ffffffc0fffffff in
@@ -159,7 +158,7 @@ holds_partial factor c k m start last v h some el es ev =
     ∙ ap (λ (x : ℕ). (s + last) * x % prime) h.factor_is)
     ∙ ap (λ (x : ℕ). block_sum (r_of k) m x % prime) (sym count)
 
--- a pair that is a residue is read again as it is
+-- a pair that is a residue keeps its residue if all but the lowest two bits of its high word are cleared
 pub read_sum : (low high t : ℕ) → pair low high ≡ t % prime → pair low (high % 4) % prime ≡ t % prime
 read_sum low high t e =
     let below : t % prime < prime = mod-lt t (omega arith) in

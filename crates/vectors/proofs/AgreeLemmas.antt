@@ -1,4 +1,4 @@
--- From what the sealed bytes hold to whether a record agrees.
+-- Whether a record agrees, from what its sealed bytes hold.
 use Rattle.std.proofs.Common.{◌≡◌, ℕ, ◌+◌, Bool, true, false, inl, inr, List, [], ◌∷◌, ◌++◌, Option, Some}
 use Rattle.std.proofs.Common.{None, Result, Ok, Err, refl, sym, ap, ◌∙◌, subst}
 use Rattle.std.specs.Prelude.{◌↔◌, IsTrue, IfOk, OnOk, if◌then◌else◌, is_some, not}
@@ -9,7 +9,7 @@ use Rattle.vectors.specs.declared.digits.Digits.{Digits}
 use Rattle.vectors.specs.Code.Views.{bytes_in, text_view}
 use Rattle.vectors.specs.Code.Judging.{Judges}
 
--- a record that was judged and counted makes the report of one more record
+-- after a record was judged and counted, the report is the one with that record too
 pub judges : {E : Type 0} (result : Result (Unit {0}) E) (count more : ℕ) (bad worse : List ℕ) (r : Record)
     (b : Bool)
     → IsTrue b ↔ Agrees r
@@ -30,7 +30,7 @@ none_is P (Some d) false nothing e = (λ t. absurd cc, λ p. absurd (nothing (by
 none_is P None true nothing e = (λ t. nothing, λ p. refl)
 none_is P None false nothing e = absurd cc
 
--- a result that decides by the record's own suite what the sealed bytes hold decides whether the record agrees
+-- a result that says, under the record's own suite, whether the sealed bytes hold the text, says whether the record agrees
 pub held_agrees : {E : Type 0} (e : Record) (b : Result Bool E) (suite : Algorithm) → e.suite ≡ suite
     → IfOk b (λ b. IsTrue b ↔ TextIs (HoldsBy suite e) e.text) → IfOk b (λ b. IsTrue b ↔ Agrees e)
 held_agrees e b suite is h =

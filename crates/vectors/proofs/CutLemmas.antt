@@ -30,7 +30,7 @@ no_place bs e = grind (arith, common_steps)
 behind : (bs : List ℕ) (k : ℕ) → take (length bs - k) (drop k bs) ≡ drop k bs
 behind bs k = grind (arith, common_steps)
 
--- the parts of a text with a comma at i
+-- the parts of a text whose first comma is at i
 pub parts_some : (bs : List ℕ) (i : ℕ) → Some i ≡ position is_comma bs
     → slice_split is_comma bs
     ≡ take i bs ∷ slice_split is_comma (take (length bs - (i + 1)) (drop (i + 1) bs))
@@ -40,7 +40,7 @@ parts_some bs i e =
     ∙ ap (λ k. take k bs ∷ slice_split is_comma (drop (k + 1) bs)) (sym at.1)
     ∙ ap (λ (rest : List ℕ). take i bs ∷ slice_split is_comma rest) (sym (behind bs (i + 1)))
 
--- with no comma the text is the one part
+-- without a comma, the whole text is the only part
 pub parts_none : (bs : List ℕ) → None ≡ position is_comma bs → slice_split is_comma bs ≡ bs ∷ []
 parts_none bs e = slice_split_none is_comma bs
     (λ k d lt. fails_before_first is_comma bs k d (let l = no_place bs e in omega (arith, l)))
@@ -51,7 +51,7 @@ parts_none bs e = slice_split_none is_comma bs
 abbrev digit : ℕ → ℕ
 digit b = b - 48
 
--- the value of one digit more is ten times the value, plus the digit's
+-- the value of one more digit is ten times the value before, plus the digit's
 pub value_more : (text : List ℕ) (i : ℕ) → i < length text
     → decimal_value (take (i + 1) text) ≡ decimal_value (take i text) * 10 + (get_or text i 0 - 48)
 unfolding decimal_value
@@ -61,7 +61,7 @@ value_more text i l =
     ∙ ap₂ (λ a b. a * 10 + b) (ap (number_from_digits 10) (take-map digit i text))
     (get_or-map digit text i 0 0 l)
 
--- the value of the first digits is at most that of all
+-- the value of the first digits is at most that of all digits
 value_grows : (text : List ℕ) (i : ℕ) → decimal_value (take i text) ≤ decimal_value text
 unfolding decimal_value
 value_grows text i =
@@ -116,7 +116,7 @@ none_large text i h =
     (both_fail (list_all is_digit text) (nat_lt (decimal_value text) (2 ^ 64))
     (no_less (decimal_value text) (2 ^ 64) (omega (arith, h, value_grows text i))))
 
--- if m is less than n, the test whether it is passes
+-- if m is less than n, the test whether m is less than n passes
 less : (m n : ℕ) → m < n → nat_lt m n ≡ true
 less m n h = grind arith
 

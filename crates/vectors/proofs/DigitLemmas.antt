@@ -111,7 +111,7 @@ unfolding twice
 twice_is zero = refl
 twice_is (suc k) = let h = twice_is k in omega (arith, h)
 
--- the pairs of the first 2k digits have the first k bytes
+-- the pairs of the first 2k digits are the first k bytes
 take-pairs : (k : ℕ) (s : List ℕ) → pairs (take (twice k) s) ≡ take k (pairs s)
 unfolding twice pairs
 take-pairs zero s = refl
@@ -119,7 +119,7 @@ take-pairs (suc k) [] = refl
 take-pairs (suc k) (c ∷ []) = refl
 take-pairs (suc k) (a ∷ b ∷ rest) = ap (λ (xs : List ℕ). (digit a * 16 + digit b) ∷ xs) (take-pairs k rest)
 
--- the pairs of the digits after the first 2k have the bytes after the first k
+-- the pairs of the digits after the first 2k are the bytes after the first k
 drop-pairs : (k : ℕ) (s : List ℕ) → pairs (drop (twice k) s) ≡ drop k (pairs s)
 unfolding twice pairs
 drop-pairs zero s = refl
@@ -161,7 +161,7 @@ back_bytes digits k h fits =
     ∙ drop-pairs k digits
     ∙ ap (drop k) (sym (bytes_are digits h))
 
--- each item of a text of hexadecimal digits is one
+-- each byte of an even number of hexadecimal digits is a hexadecimal digit
 pub digit_at : (digits : List ℕ) (i : ℕ) → is_hex digits ≡ true → i < length digits
     → is_hex_digit (get_or digits i 0) ≡ true
 unfolding is_hex
@@ -172,7 +172,7 @@ digit_at digits i h l =
           ∙ list_all_at is_hex_digit digits i 0 l other)
     ]
 
--- the byte of a pair of digits
+-- the byte of pair k, from its two digits
 pair_at : (s : List ℕ) (k : ℕ) → k < length (pairs s)
     → get_or (pairs s) k 0 ≡ digit (get_or s (twice k) 0) * 16 + digit (get_or s (suc (twice k)) 0)
 unfolding pairs twice
@@ -181,7 +181,7 @@ pair_at (c ∷ []) k l = absurd (omega arith)
 pair_at (a ∷ b ∷ rest) zero l = refl
 pair_at (a ∷ b ∷ rest) (suc k) l = pair_at rest k (omega arith)
 
--- a byte, of the values of its two digits
+-- a byte is 16 times the value of its first digit plus that of its second
 pub byte_at : (digits : List ℕ) (k a b : ℕ) → is_hex digits ≡ true → k < length (bytes_of digits)
     → hex_digit_value (get_or digits (2 * k) 0) ≡ Some a
     → hex_digit_value (get_or digits (2 * k + 1) 0) ≡ Some b
@@ -198,7 +198,7 @@ byte_at digits k a b h l high low =
       next : (k : ℕ) → suc (twice k) ≡ 2 * k + 1
       next k = let e = twice_is k in omega (arith, e)
 
--- if the first i bytes in the room are right and byte i is written, the first i + 1 are right
+-- if the first i bytes in the room are right, and byte i is written, the first i + 1 are right
 pub written_more : (bytes room : List ℕ) (i v : ℕ) → i < length room → v ≡ get_or bytes i 0
     → ((k : ℕ) → k < i → get_or room k 0 ≡ get_or bytes k 0)
     → (k : ℕ) → k < i + 1 → get_or (set room i v) k 0 ≡ get_or bytes k 0

@@ -43,7 +43,7 @@ found_ok d (Some y) x e = cc
 pub ok_is : {A : Type 0} (x y : A) → ◌≡◌ {A = Result A Cause} (Ok x) (Ok y) → x ≡ y
 ok_is x y e = cc
 
--- a value that was read had the name
+-- if a value is read, the line is a value line with the name that is asked for
 named_ok : (name v : List ℕ) (f : Option (List ℕ × List ℕ)) → named_value name f ≡ Ok v → f ≡ Some (name, v)
 named_ok name v None e = absurd cc
 named_ok name v (Some f) e =

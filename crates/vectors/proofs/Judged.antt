@@ -19,7 +19,7 @@ use Rattle.vectors.proofs.Progress.{Progress, begins, goes_on, shift, same, faul
 use Rattle.vectors.proofs.Progress.{count_is, ended}
 use Rattle.std.proofs.lemmas.List.{append-nil}
 
--- n lines were read to this place, and this many records with these bad ones
+-- n lines were read, to this place, and this many records, of which those with the numbers `bad` disagree
 pub record Judged (lines rest : List (List ℕ)) (n : ℕ) (p : Place) (records : ℕ) (bad : List ℕ) : Type 0 where
   pub entries : List Record
   pub progress : Progress lines rest n p entries
@@ -27,7 +27,7 @@ pub record Judged (lines rest : List (List ℕ)) (n : ℕ) (p : Place) (records 
   pub judged : IsBad 1 entries bad
   pub room : records ≤ n
 
--- one more record that agrees leaves the bad numbers as they are
+-- one more record that agrees leaves the numbers of the bad records as they are
 bad_yes : (n : ℕ) (rs : List Record) (r : Record) (bad : List ℕ) → IsBad n rs bad → Agrees r
     → IsBad n (rs ++ r ∷ []) bad
 bad_yes n [] r [] ends a = agrees a ends
@@ -35,7 +35,7 @@ bad_yes n [] r (_ ∷ bad) h a = elim h [ ]
 bad_yes n (s ∷ rs) r bad (agrees h t) a = agrees h (bad_yes (n + 1) rs r bad t a)
 bad_yes n (s ∷ rs) r (_ ∷ bad) (disagrees h t) a = disagrees h (bad_yes (n + 1) rs r bad t a)
 
--- one more record that doesn't agree adds its number to the bad ones
+-- one more record that doesn't agree adds its number to those of the bad records
 bad_no : (n m : ℕ) (rs : List Record) (r : Record) (bad : List ℕ) → m ≡ n + length rs → IsBad n rs bad
     → ¬ Agrees r → IsBad n (rs ++ r ∷ []) (bad ++ m ∷ [])
 bad_no n m [] r [] e ends a =
@@ -46,7 +46,7 @@ bad_no n m (s ∷ rs) r bad e (agrees h t) a = agrees h (bad_no (n + 1) m rs r b
 bad_no n m (s ∷ rs) r (_ ∷ bad) e (disagrees h t) a =
     disagrees h (bad_no (n + 1) m rs r bad (omega arith) t a)
 
--- one more record, as it was judged
+-- the numbers of the bad records after one more record was judged
 judged_more : (records more : ℕ) (rs : List Record) (r : Record) (bad worse : List ℕ) → records ≡ length rs
     → IsBad 1 rs bad → Judges records bad r more worse → IsBad 1 (rs ++ r ∷ []) worse
 judged_more records more rs r bad worse c h (m, inl j) =
@@ -54,7 +54,7 @@ judged_more records more rs r bad worse c h (m, inl j) =
 judged_more records more rs r bad worse c h (m, inr j) =
     subst (λ (b : List ℕ). IsBad 1 (rs ++ r ∷ []) b) (sym j.1) (bad_no 1 more rs r bad (omega arith) h j.0)
 
--- no line was read
+-- at the start no line was read
 pub start : (lines : List (List ℕ)) (bad : List ℕ) → bad ≡ [] → Judged lines lines 0 steps.start 0 bad
 start lines bad e = record {
   entries = [];
@@ -65,7 +65,7 @@ start lines bad e = record {
   room = omega arith;
 }
 
--- a line that doesn't end a record
+-- after a line that doesn't end a record, the records are the same
 pub after_line : (lines other : List (List ℕ)) (l : List ℕ) (rest : List (List ℕ)) (n : ℕ) (p q : Place)
     (records : ℕ) (bad : List ℕ)
     → Judged lines other n p records bad → other ≡ l ∷ rest → step p l ≡ Ok (q, [])
@@ -80,7 +80,7 @@ after_line lines other l rest n p q records bad h e s = record {
   room = omega (arith, h.room);
 }
 
--- a line that ends a record
+-- after a line that ends a record, there is one more record, as it was judged
 pub after_record : (lines other : List (List ℕ)) (l : List ℕ) (rest : List (List ℕ)) (n : ℕ) (p q : Place)
     (r : Record) (records more : ℕ) (bad worse : List ℕ)
     → Judged lines other n p records bad → other ≡ l ∷ rest → step p l ≡ Ok (q, r ∷ [])
@@ -94,14 +94,14 @@ after_record lines other l rest n p q r records more bad worse h e s j = record 
   room = omega (arith, h.room, j.0);
 }
 
--- the fault at a line
+-- if the step of a line fails, this is the fault of the file
 pub at_fault : (lines other : List (List ℕ)) (l : List ℕ) (rest : List (List ℕ)) (n : ℕ) (p : Place)
     (c : Cause) (records : ℕ) (bad : List ℕ)
     → Judged lines other n p records bad → other ≡ l ∷ rest → step p l ≡ Err c → IsFaultAt lines (n + 1) c
 at_fault lines other l rest n p c records bad h e s =
     fault lines l rest n p h.entries c (shift lines other (l ∷ rest) n p h.entries h.progress e) s
 
--- the report at the end of a file
+-- at the end, the records make the report of the file
 pub at_end : (lines other : List (List ℕ)) (n records : ℕ) (bad : List ℕ) (F : Format)
     → Judged lines other n (steps.between F) records bad → other ≡ [] → records ≢ 0
     → IsReport lines records bad
@@ -113,7 +113,7 @@ at_end lines other n records bad F h e some = record {
   judged = h.judged;
 }
 
--- the fault of a file that was cut
+-- if the lines end inside a record or without a record, the file is cut off
 pub at_cut : (lines other : List (List ℕ)) (n : ℕ) (p : Place) (inside : Bool) (records : ℕ) (bad : List ℕ)
     → Judged lines other n p records bad → other ≡ [] → ((F : Format) → p ≡ steps.between F → records ≡ 0)
     → is_inside (expected p) ≡ inside → IsCutOff lines inside
@@ -127,7 +127,7 @@ pub lines_read : (lines other : List (List ℕ)) (n : ℕ) (p : Place) (records 
 lines_read lines other n p records bad h e =
     sym (count_is lines n p h.entries (shift lines other [] n p h.entries h.progress e))
 
--- records and one more are not empty
+-- records with one more at the end are not empty
 snoc_some : (rs : List Record) (r : Record) → (rs ++ r ∷ []) ≢ []
 snoc_some [] r e = cc
 snoc_some (s ∷ rs) r e = cc
@@ -141,7 +141,7 @@ sized_at_end lines other l rest n p q r records bad h e s =
     (shift lines other (l ∷ rest) n p h.entries h.progress e) s in
     last_read_sized after.before q h.entries r after.read
 
--- if the next line ends a record, the first of the lines are a file
+-- if the next line ends a record, some first lines are a file
 pub ended_at : (lines other : List (List ℕ)) (l : List ℕ) (rest : List (List ℕ)) (n : ℕ) (p q : Place)
     (r : Record) (records : ℕ) (bad : List ℕ)
     → Judged lines other n p records bad → other ≡ l ∷ rest → step p l ≡ Ok (q, r ∷ []) → HasEnded lines

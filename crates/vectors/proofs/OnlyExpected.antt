@@ -1,4 +1,4 @@
--- Only one thing is expected after lines that were read.
+-- After lines that were read, only one kind of line is expected.
 use Rattle.std.proofs.Common.{◌≡◌, ℕ, List, [], ◌∷◌, ◌++◌, Ok, refl, sym, ap, ◌∙◌}
 use Rattle.vectors.specs.declared.suite.Format.{Format}
 use Rattle.vectors.specs.Suites.{fields_of}
@@ -12,14 +12,14 @@ use Rattle.vectors.proofs.Runs.{both, one, first, suite-line, cuts-line, fills_r
 use Rattle.vectors.proofs.Runs.{complete}
 use Rattle.vectors.proofs.Places.{expected}
 
--- lines that were read from a place on to one where this is expected
+-- the lines are read from the place to one where this line is expected
 record LeadsTo (p : Place) (ls : List (List ℕ)) (e : Expected) : Type 0 where
   pub place : Place
   pub records : List Record
   pub read : run p ls ≡ Ok (place, records)
   pub is : expected place ≡ e
 
--- the lines of a record that was begun are read
+-- the first lines of a record that has not ended are read
 begun_read : (F : Format) (ms : List (List ℕ)) (e : Expected) → Begun F ms e → LeadsTo (steps.between F) ms e
 begun_read F _ _ (faults.some_fields {suite = s} {l = l} {ms = ms} {r = r} {f = f} {fs = fs} gs a order h) =
     record {
@@ -50,7 +50,7 @@ begun_read F _ _ (faults.cuts {suite = s} {l = l} {c = c} {ms = ms} {r = r} a h 
   is = refl;
 }
 
--- lines after which something is expected are read to a place that expects it
+-- lines after which a line is expected are read to a place where it is expected
 expects_read : (ls : List (List ℕ)) (e : Expected) → Expects ls e → LeadsTo steps.start ls e
 expects_read _ _ (faults.unformatted {ls = ls} h) =
     record { place = steps.start; records = []; read = gaps_read ls h; is = refl }
@@ -66,7 +66,7 @@ expects_read _ _ (faults.inside {F = F} {ls = ls} {ms = ms} {rs = rs} {e = e} h 
       is = begun.is;
     }
 
--- if something is expected after lines that were read, it is what the place that they lead to expects
+-- if a line is expected after lines that were read, it is the one that is expected at the place that they lead to
 pub only_expected : (ls : List (List ℕ)) (x : Next) (e : Expected) → run steps.start ls ≡ Ok x
     → Expects ls e → e ≡ expected x.0
 only_expected ls x e h there =

@@ -19,7 +19,7 @@ use Rattle.vectors.proofs.FieldLemmas.{Next, Ended, by_text, by_cuts, bind_ok, o
 use Rattle.vectors.proofs.FieldLemmas.{suite_ok, text_ok, end_ok}
 use Rattle.vectors.proofs.Runs.{run-nil, run-parts}
 
--- lines that end in a record of which these fields are left
+-- lines that end in the beginning of a record of which these fields are left
 pub record InFields (F : Format) (left : List Field) (r : Record) (ls : List (List ℕ)) (rs : List Record) :
     Type 0 where
   pub front : List (List ℕ)
@@ -33,7 +33,7 @@ pub record InFields (F : Format) (left : List Field) (r : Record) (ls : List (Li
   pub fills : Fills read (unread suite) ms r
   pub whole : ls ≡ front ++ l ∷ ms
 
--- lines that end in a record, directly after its cuts
+-- lines that end in the beginning of a record, directly after its cuts
 pub record BehindCuts (F : Format) (r : Record) (ls : List (List ℕ)) (rs : List Record) : Type 0 where
   pub front : List (List ℕ)
   pub formatted : Formatted F front rs
@@ -47,14 +47,14 @@ pub record BehindCuts (F : Format) (r : Record) (ls : List (List ℕ)) (rs : Lis
   pub cuts : IsCutsLine r c
   pub whole : ls ≡ front ++ l ∷ (ms ++ c ∷ [])
 
--- these lines come before a place, and have these records
+-- these lines come before a place, and contain these records
 abbrev pub At : Place → List (List ℕ) → List Record → Type 0
 At steps.start ls rs = (list_all is_gap ls ≡ true) × (rs ≡ [])
 At (steps.between F) ls rs = Formatted F ls rs
 At (steps.fields F left r) ls rs = InFields F left r ls rs
 At (steps.text F r) ls rs = BehindCuts F r ls rs
 
--- the lines before the next place, with its records
+-- the lines before the next place, with its record if one ended
 abbrev AtNext : List (List ℕ) → List Record → Next → Type 0
 AtNext ls rs x = At x.0 ls (rs ++ x.1)
 
@@ -92,7 +92,7 @@ longer : (ls front ms : List (List ℕ)) (a l : List ℕ) → ls ≡ front ++ a 
     → ls ++ l ∷ [] ≡ front ++ a ∷ (ms ++ l ∷ [])
 longer ls front ms a l e = ap (λ (x : List (List ℕ)). x ++ l ∷ []) e ∙ append_assoc front (a ∷ ms) (l ∷ [])
 
--- the lines with one more, read at the start, come before the next place
+-- lines before the format line, and a line that is read there, come before the next place
 from_start : (b : Bool) (l : List ℕ) (ls : List (List ℕ)) (rs : List Record) (x : Next) → is_gap l ≡ b
     → At steps.start ls rs
     → cond b (Ok (steps.start, [])) (format_at l >>= λ F. Ok (steps.between F, [])) ≡ Ok x
@@ -105,7 +105,7 @@ from_start false l ls rs x g h e =
     (subst (λ (ss : List Record). Formatted F.0 (ls ++ l ∷ []) ss) (sym h.1)
     (grammar.starts ls h.0 (format_ok l F.0 F.1)))
 
--- the lines with one more, read between records, come before the next place
+-- lines before a record, and a line that is read there, come before the next place
 from_between : (b : Bool) (F : Format) (l : List ℕ) (ls : List (List ℕ)) (rs : List Record) (x : Next)
     → is_gap l ≡ b → Formatted F ls rs
     → cond b (Ok (steps.between F, []))
@@ -129,7 +129,7 @@ from_between false F l ls rs x g h e =
       whole = refl;
     })
 
--- the lines with one more, read as the line of a field, come before the next place
+-- lines before a field, and the line of the field, come before the next place
 from_fields : (F : Format) (f : Field) (fs : List Field) (r : Record) (l : List ℕ) (ls : List (List ℕ))
     (rs : List Record) (x : Next)
     → InFields F (f ∷ fs) r ls rs
@@ -162,7 +162,7 @@ added F front ms es ls l s r t rs x h a f e whole same =
     (subst (λ (ks : List (List ℕ)). Formatted F ks (rs ++ with_text t r ∷ [])) (sym whole)
     (grammar.adds h (grammar.made a f e)))
 
--- the lines with one more, read after all fields, come before the next place
+-- lines that end in all fields of a record, and a line that is read there, come before the next place
 from_end : (F : Format) (r : Record) (l : List ℕ) (ls : List (List ℕ)) (rs : List Record) (x : Next)
     → InFields F [] r ls rs → Ended F r l x → AtNext (ls ++ l ∷ []) rs x
 from_end F r l ls rs x h (by_text t e same) =
@@ -183,7 +183,7 @@ from_end F r l ls rs x h (by_cuts m k same) =
       whole = longer ls h.front h.ms h.l l h.whole;
     })
 
--- the lines with one more, read after cuts, come before the next place
+-- lines that end in cuts, and a text line, come before the next place
 from_text : (F : Format) (r : Record) (l : List ℕ) (ls : List (List ℕ)) (rs : List Record) (x : Next)
     → BehindCuts F r ls rs → text_at F r l ≡ Ok x → AtNext (ls ++ l ∷ []) rs x
 from_text F r l ls rs x h e =
@@ -193,7 +193,7 @@ from_text F r l ls rs x h e =
     (longer ls h.front (h.ms ++ h.c ∷ []) h.l l h.whole
     ∙ ap (λ (k : List (List ℕ)). h.front ++ h.l ∷ k) (append_assoc h.ms (h.c ∷ []) (l ∷ []))) t.2
 
--- the lines with one more, read by a step, come before the next place
+-- lines before a place, and a line that is read there, come before the next place
 step_at : (p : Place) (l : List ℕ) (ls : List (List ℕ)) (rs : List Record) (x : Next) → At p ls rs
     → step p l ≡ Ok x → AtNext (ls ++ l ∷ []) rs x
 unfolding step
@@ -203,7 +203,7 @@ step_at (steps.fields F [] r) l ls rs x h e = from_end F r l ls rs x h (end_ok F
 step_at (steps.fields F (f ∷ fs) r) l ls rs x h e = from_fields F f fs r l ls rs x h e
 step_at (steps.text F r) l ls rs x h e = from_text F r l ls rs x h e
 
--- the lines with others, read by a run, come before the place that the run leads to
+-- lines before a place, and the lines of a run from there, come before the place that the run leads to
 run_at : (ms : List (List ℕ)) (p : Place) (ls : List (List ℕ)) (rs : List Record) (x : Next) → At p ls rs
     → run p ms ≡ Ok x → At x.0 (ls ++ ms) (rs ++ x.1)
 run_at [] p ls rs x h e =
@@ -250,7 +250,7 @@ at_expects (steps.text F r) ls rs h =
 pub expects : (ls : List (List ℕ)) (x : Next) → run steps.start ls ≡ Ok x → Expects ls (expected x.0)
 expects ls x e = at_expects x.0 ls x.1 (lines_at ls x e)
 
--- if the lines before a place have at least one record, the first of them are a file
+-- if the lines before a place contain a record, some first lines are a file
 pub file_at : (p : Place) (ls : List (List ℕ)) (rs : List Record) → At p ls rs → rs ≢ [] → HasEnded ls
 file_at steps.start ls rs h some = absurd (some h.1)
 file_at (steps.between F) ls rs h some = record {

@@ -25,7 +25,7 @@ use Rattle.vectors.proofs.Places.{expected, expects, lines_at, file_at}
 use Rattle.vectors.proofs.OnlyExpected.{only_expected}
 use Rattle.vectors.proofs.RowLemmas.{wrong}
 
--- n lines were read, to this place and these records, and the rest are left
+-- n lines were read, to this place and these records, and `rest` is left
 pub record Progress (lines rest : List (List ℕ)) (n : ℕ) (p : Place) (rs : List Record) : Type 0 where
   pub before : List (List ℕ)
   pub whole : lines ≡ before ++ rest
@@ -121,14 +121,14 @@ pair_is p q rs ss e =
     let same = ok_is (p, rs) (q, ss) e in
     (ap (λ (x : Place × List Record). x.0) same, ap (λ (x : Place × List Record). x.1) same)
 
--- lines are a file of one list of records
+-- lines are a file of only one list of records
 pub one_reading : (lines : List (List ℕ)) (rs ss : List Record) → IsFile lines rs → IsFile lines ss → rs ≡ ss
 one_reading lines rs ss f g =
     let read = complete f.format lines rs f.formatted in
     let again = complete g.format lines ss g.formatted in
     (pair_is (steps.between f.format) (steps.between g.format) rs ss (sym read ∙ again)).1
 
--- lines that end elsewhere, or with no record, are cut off
+-- lines that do not end between records, or without a record, are cut off
 pub cut_off : (lines : List (List ℕ)) (n : ℕ) (p : Place) (rs : List Record) (inside : Bool)
     → Progress lines [] n p rs → ((F : Format) → p ≡ steps.between F → rs ≡ [])
     → is_inside (expected p) ≡ inside → IsCutOff lines inside
@@ -157,7 +157,7 @@ no_fault lines n c rs f file =
     in
     f.faulty (viable (f.before ++ f.line ∷ []) front.0 front.1)
 
--- if at least one record was read, the first of the lines are a file
+-- if at least one record was read, some first lines are a file
 pub ended : (lines rest : List (List ℕ)) (n : ℕ) (p : Place) (rs : List Record) → Progress lines rest n p rs
     → rs ≢ [] → HasEnded lines
 ended lines rest n p rs h some =
@@ -192,7 +192,7 @@ inside_fields : (F : Format) (left : List Field) (r : Record)
 inside_fields F [] r = inside_end (may_cut F r.suite) (most_cut r)
 inside_fields F (f ∷ fs) r = refl
 
--- a place that is neither of the first two is inside a record
+-- a place other than the start and those between records is inside a record
 pub inside_is : (p : program.Place) → p ≢ Start → ((F : Format) → p ≢ Between F)
     → is_inside (expected (view p)) ≡ true
 inside_is Start f b = absurd (f refl)

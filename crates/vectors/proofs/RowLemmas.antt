@@ -1,4 +1,5 @@
--- A line that can't be read is at fault by the table.
+-- If a line can't be read, the cause is the fault that the table gives. A lemma named for rows of the table says: if the part of
+-- a line that these rows concern can't be read, the first row that fits gives the cause.
 use Rattle.std.proofs.Common.{◌≡◌, ℕ, Bool, true, false, cond, not, List, [], ◌∷◌, Option, Some, None}
 use Rattle.std.proofs.Common.{Result, Ok, Err, refl, sym, ap, ◌∙◌, subst}
 use Rattle.std.specs.Prelude.{codes, is_none, is_some, ◌&&◌, ◌||◌}
@@ -21,7 +22,7 @@ use Rattle.std.proofs.lemmas.Slice.Eq.{bytes_eq-Decides}
 use Rattle.vectors.proofs.FieldLemmas.{Next}
 use Rattle.vectors.proofs.Places.{expected}
 
--- if the second step can't fail, a fault of both steps is the first step's
+-- if the second step can't fail, a fault of both steps is one of the first step
 bind_err : {A B : Type 0} (r : Result A Cause) (f : A → B) (c : Cause) → (r >>= λ x. Ok (f x)) ≡ Err c
     → r ≡ Err c
 bind_err (Ok x) f c e = absurd cc
@@ -50,7 +51,7 @@ hex_rows : (name : List ℕ) (f : Option (List ℕ × List ℕ)) (c : Cause)
 hex_rows name None c e = cc
 hex_rows name (Some f) c e = name_row (bytes_eq f.0 name) f.1 c e
 
--- the bytes, if they have the length that is asked for, or `BadLength`
+-- the bytes, if they have the required length, or `BadLength`
 abbrev sized : Option ℕ → List ℕ → Result (List ℕ) Cause
 sized n bytes = cond (has_length n bytes) (Ok bytes) (Err BadLength)
 
@@ -136,15 +137,15 @@ format_rows false (Some f) c e =
 
 -- ---- the line after all fields
 
--- the next place and the record that ends, by the bytes of a text line
+-- the next place and the record that ends, given the bytes of a text line
 abbrev text_behind : Format → Record → Result (List ℕ) Cause → Result Next Cause
 text_behind F r read = read >>= λ bytes. Ok (steps.between F, with_text (Some bytes) r ∷ [])
 
--- the next place and the record that ends, by a text line
+-- the next place and the record that ends, given a text line
 abbrev text_next : Format → Record → Option (List ℕ × List ℕ) → Result Next Cause
 text_next F r f = text_behind F r (named_value (codes "text") f >>= bytes_at)
 
--- the next place, by a line of cuts
+-- the next place, given a line of cuts
 abbrev cuts_next : Format → Record → Option (List ℕ × List ℕ) → Result Next Cause
 cuts_next F r f = named_value (codes "cuts") f >>= λ value.
     cond (are_cuts (most_cut r) value) (Ok (steps.text F r, [])) (Err BadCuts)
@@ -166,7 +167,7 @@ no_text : (name : List ℕ) (t : Bool) → bytes_eq name (codes "cuts") ≡ true
 no_text name t k e = sym e
     ∙ ap (λ (x : List ℕ). bytes_eq x (codes "text")) ((bytes_eq-Decides name (codes "cuts")).0 k)
 
--- this is the first cause that fits, of the rows of the names, the digits and the cuts
+-- c is the first cause that fits, of the rows of the names, the digits and the cuts
 names_rows : (t k hex cuts : Bool) (c : Cause) → Type 0
 names_rows t k hex cuts c =
     first_fitting ((not t && not k, WrongName) ∷ (t && not hex, BadHex) ∷ (k && not cuts, BadCuts) ∷ [])

@@ -27,13 +27,13 @@ AreSized : List Record → Type 0
 AreSized [] = Unit {0}
 AreSized (r ∷ rs) = IsSized r × AreSized rs
 
--- records of their suites' lengths, and one more, have their suites' lengths
+-- records of their suites' lengths, with one more such record, have their suites' lengths
 more_sized : (rs : List Record) (r : Record) → AreSized rs → IsSized r → AreSized (rs ++ r ∷ [])
 unfolding AreSized
 more_sized [] r h k = (k, tt)
 more_sized (s ∷ rs) r h k = (h.0, more_sized rs r h.1 k)
 
--- the last of records of their suites' lengths has its suite's lengths
+-- the last of some records of their suites' lengths has its suite's lengths
 last_sized : (rs : List Record) (r : Record) → AreSized (rs ++ r ∷ []) → IsSized r
 unfolding AreSized
 last_sized [] r h = h.0

@@ -1,6 +1,5 @@
--- A vector file, read and judged by the definitions: a published sealing (RFC 8439, 2.8.2), a published
--- wrapping with padding (RFC 5649, 6), its first half, which is no wrapping, and the wrapping again,
--- which says `invalid` and so disagrees.
+-- A vector file, read and judged by the definitions: a published sealing (RFC 8439, 2.8.2), a published wrapping with padding
+-- (RFC 5649, 6), its first half, which is not a valid wrapping, and the wrapping again, which says `invalid` and so disagrees.
 use Rattle.std.proofs.Common.{◌≡◌, ℕ, List, [], ◌∷◌, ◌++◌, ◌≤◌, Option, Some, None, refl, sym, subst, arith}
 use Rattle.std.proofs.Common.{lit≤, drop}
 use Rattle.std.specs.Prelude.{codes}
@@ -72,12 +71,12 @@ ladies_sealed =
 abbrev lady : Setting
 lady = record { suite = ChaCha20Poly1305; key = key; nonce = nonce; aad = aad }
 
--- as the definition makes it
+-- the definition gives the published sealing
 ladies_made : sealing lady ladies ≡ ladies_sealed
 unfolding key nonce aad ladies ladies_sealed
 ladies_made = one_sealing
 
--- it is the sealing of the text
+-- the published sealing is that of the text
 ladies_opened : Opened lady ladies_sealed ladies
 unfolding aad ladies
 ladies_opened = record {
@@ -144,7 +143,7 @@ file =
     ++ (fed suite_text ++ (fed key_text ++ (fed half_text ++ fed (codes "invalid"))))
     ++ (fed suite_text ++ (fed key_text ++ (fed sealed_text ++ fed (codes "invalid"))))
 
--- its lines
+-- the lines of the file
 file_lines : List Line
 file_lines =
     codes "format = 2"
@@ -153,7 +152,7 @@ file_lines =
     ∷ suite_text ∷ key_text ∷ half_text ∷ codes "invalid"
     ∷ suite_text ∷ key_text ∷ sealed_text ∷ codes "invalid" ∷ []
 
--- as the definition cuts them
+-- the definition cuts the file into these lines
 cut : lines_of file ≡ file_lines
 unfolding file file_lines lines_of aead_suite_text aead_key_text nonce_text aad_text ladies_sealed_text
     ladies_text suite_text key_text sealed_text half_text text_text
@@ -165,7 +164,7 @@ aead_suite_line : IsSuiteLine Two aead_suite_text (Aead ChaCha20Poly1305)
 unfolding aead_suite_text value_line field_of suite_named
 aead_suite_line = record { name = codes "chacha20-poly1305"; field = refl; known = refl }
 
--- its key
+-- the key line of the sealing
 aead_key_line : IsFieldLine (Aead ChaCha20Poly1305) Key aead_key_text key
 unfolding aead_key_text value_line field_of decode_pairs key
 aead_key_line = record {
@@ -178,7 +177,7 @@ aead_key_line = record {
   size = refl;
 }
 
--- its nonce
+-- the nonce line of the sealing
 nonce_line : IsFieldLine (Aead ChaCha20Poly1305) Nonce nonce_text nonce
 unfolding nonce_text value_line field_of decode_pairs nonce
 nonce_line = record {
@@ -187,7 +186,7 @@ nonce_line = record {
   size = refl;
 }
 
--- its associated data
+-- the line of the sealing's associated data
 aad_line : IsFieldLine (Aead ChaCha20Poly1305) Aad aad_text aad
 unfolding aad_text value_line field_of decode_pairs aad
 aad_line = record {
@@ -195,13 +194,13 @@ aad_line = record {
   size = refl;
 }
 
--- its bytes
+-- the line of the sealed bytes
 ladies_sealed_line : IsFieldLine (Aead ChaCha20Poly1305) Sealed ladies_sealed_text ladies_sealed
 unfolding ladies_sealed_text value_line field_of decode_pairs ladies_sealed
 ladies_sealed_line = record
     { hex = record { digits = drop 9 ladies_sealed_text; field = refl; spelled = refl }; size = refl }
 
--- its text
+-- the text line of the sealing
 ladies_line : IsHexField ladies_text (codes "text") ladies
 unfolding ladies_text value_line field_of decode_pairs ladies
 ladies_line = record { digits = drop 7 ladies_text; field = refl; spelled = refl }
@@ -218,7 +217,7 @@ sealing_entry text = record {
       text;
 }
 
--- the suite line
+-- the suite line of the wrapping
 suite_line : IsSuiteLine Two suite_text (WrapPad Bits192)
 unfolding suite_text value_line field_of suite_named
 suite_line = record { name = codes "aes-192-wrap-pad"; field = refl; known = refl }
@@ -246,7 +245,7 @@ sealed_line = record {
   size = refl;
 }
 
--- the first half of them
+-- the first half of the sealed bytes
 half : List ℕ
 half = 0xaf ∷ 0xbe ∷ 0xb0 ∷ 0xf0 ∷ 0x7d ∷ 0xfb ∷ 0xf5 ∷ 0x41 ∷ []
 
@@ -268,7 +267,7 @@ abbrev entry : List ℕ → Option (List ℕ) → Record
 entry sealed text = record
     { suite = WrapPad Bits192; key = key192; nonce = []; aad = []; sealed = sealed; text = text }
 
--- its fields
+-- the fields of such a record
 fields : {line : Line} {bytes : List ℕ} → IsFieldLine (WrapPad Bits192) Sealed line bytes
     → Fills (Key ∷ Sealed ∷ []) (unread (WrapPad Bits192)) (key_text ∷ line ∷ []) (entry bytes None)
 fields h = grammar.field key_line (grammar.field h grammar.nothing)
@@ -283,7 +282,7 @@ records : List Record
 records = sealing_entry (Some ladies) ∷ entry seven_wrapped (Some seven) ∷ entry half None
     ∷ entry seven_wrapped None ∷ []
 
--- its lines are in the grammar, with these records
+-- the lines follow the grammar, and have these records
 formatted : Formatted Two file_lines records
 unfolding file_lines records
 formatted =
@@ -296,7 +295,7 @@ formatted =
     (grammar.made suite_line (fields sealed_line) grammar.invalid)
 
 -- ---- the report
--- no wrapping is so short
+-- the half is too short for a wrapping
 half_is_none : IsNoPaddedWrapping key192 half
 unfolding half
 half_is_none text h = few (wrapped_long key192 half text h).0.least where

@@ -1,4 +1,4 @@
--- Lines that were read can be ended, and no others.
+-- Lines are viable if and only if they can be read.
 use Rattle.std.proofs.Common.{◌≡◌, ◌≢◌, ℕ, suc, ◌*◌, ◌≤◌, List, [], ◌∷◌, ◌++◌, length, replicate, None, Some}
 use Rattle.std.proofs.Common.{Ok, refl, ap, arith, length-append}
 use Rattle.std.specs.Prelude.{codes}
@@ -177,7 +177,7 @@ append_some : (rs ss : List Record) → ss ≢ [] → (rs ++ ss) ≢ []
 append_some [] ss h = h
 append_some (r ∷ rs) ss h = cons_some r (rs ++ ss)
 
--- lines that were read are viable
+-- lines that can be read are viable
 pub viable : (ls : List (List ℕ)) (x : Next) → run steps.start ls ≡ Ok x → IsViable ls
 viable ls x e =
     let end = endable x.0 ls x.1 (lines_at ls x e) in
@@ -195,7 +195,7 @@ viable ls x e =
       };
     }
 
--- and viable lines are read
+-- viable lines can be read
 pub viable_reads : (ls : List (List ℕ)) → IsViable ls → (x : Next) × (run steps.start ls ≡ Ok x)
 viable_reads ls v = run-front steps.start ls v.more (steps.between v.file.format, v.records)
     (complete v.file.format (ls ++ v.more) v.records v.file.formatted)

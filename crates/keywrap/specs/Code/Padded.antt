@@ -2,7 +2,7 @@
 use Rattle.std.specs.Prelude.{◌≡◌, ℕ, List, length}
 use Rattle.keywrap.specs.Padded.{HasPaddableLength, alternative_value, padded}
 
--- A and the blocks are what the wrapping of the text encrypts
+-- A and the blocks are the register with which the wrapping of the text begins
 pub record IsStartOf (text first blocks : List ℕ) : Type 0 where
   pub length_is : HasPaddableLength text
   pub first_is : first ≡ alternative_value (length text)

@@ -3,7 +3,7 @@ use Rattle.std.specs.Str.{IsUtf8}
 use Rattle.capi.proofs.Names.{name_is_text, number_is_positive}
 use Rattle.capi.proofs.facts.aeadkit_suite_named.Goals as goal
 
--- bytes that are no text are no name
+-- bytes that are not UTF-8 are not the name of a suite
 pub returns-in_default-clause-named : goal.returns-in_default-clause-named
 returns-in_default-clause-named c = λ suite. (
   λ zero_is. absurd (number_is_positive suite (sym zero_is)),
