@@ -14,7 +14,7 @@ use Rattle.octets.specs.Bytes.{AreBytes}
 use Rattle.aes.specs.Cipher.{cipher, IsKey, IsPermutation}
 use Rattle.keywrap.specs.Wrapping.{steps}
 use Rattle.keywrap.specs.Padded.{constant, alternative_value, padded, transformed, HasPaddableLength}
-use Rattle.keywrap.specs.Padded.{HasBlocks, HasPaddedRoom, UnwrappedPadded, IsNoPaddedWrapping}
+use Rattle.keywrap.specs.Padded.{HasBlocks, HasPaddedRoom, UnwrappedPadded, IsPaddedWrapping}
 use Rattle.keywrap.specs.Code.Padded.{IsStartOf}
 use Rattle.keywrap.specs.Padded.{HasOnePaddedText}
 use borrow.Rule.Slice.PartMut.{put_mid}
@@ -234,8 +234,8 @@ unwrapped_by key wrapped first rest n l b s e = record {
 pub no_wrapping : (key wrapped first rest : List ℕ) → IsPermutation → IsKey key
     → AreBytes (length wrapped) (first ++ rest) → length first ≡ 8
     → transformed key (first ++ rest) ≡ wrapped → ((text : List ℕ) → IsStartOf text first rest → ⊥)
-    → IsNoPaddedWrapping key wrapped
-no_wrapping key wrapped first rest law k b long e none text u =
+    → ¬ IsPaddedWrapping key wrapped
+no_wrapping key wrapped first rest law k b long e none (text, u) =
     let same : first ++ rest ≡ start text = only_start key wrapped text (first ++ rest) law k b e u in
     none text (record {
       length_is = u.length_is;
@@ -356,7 +356,7 @@ pub found_by : (key wrapped first rest : List ℕ) (found : Option ℕ) → IsPe
     → AreBytes (length rest) rest → transformed key (first ++ rest) ≡ wrapped
     → MatchOption found ((text : List ℕ) → ¬ IsStartOf text first rest)
     (λ n. (n ≤ length rest) × IsStartOf (take n rest) first rest)
-    → MatchOption found (IsNoPaddedWrapping key wrapped)
+    → MatchOption found (¬ IsPaddedWrapping key wrapped)
     (λ n. (n ≤ length rest) × UnwrappedPadded key wrapped (take n rest))
 found_by key wrapped first rest None law k b long r e h = no_wrapping key wrapped first rest law k b long e h
 found_by key wrapped first rest (Some n) law k b long r e h =

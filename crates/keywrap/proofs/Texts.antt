@@ -7,7 +7,7 @@ use Rattle.octets.specs.Bytes.{AreBytes, xor_bytes}
 use Rattle.octets.proofs.Xors.{length-xor_bytes}
 use Rattle.aes.specs.Cipher.{cipher, IsKey, IsPermutation}
 use Rattle.keywrap.specs.Wrapping.{step, steps, initial_value, HasTextLength, HasWrappedLength, Unwrapped}
-use Rattle.keywrap.specs.Wrapping.{IsNoWrapping, HasOneText}
+use Rattle.keywrap.specs.Wrapping.{IsWrapping, HasOneText}
 use Rattle.keywrap.proofs.Blocks.{length_cipher}
 use Rattle.keywrap.proofs.Bytes.{length_number, bytes_append, bytes_resized, bytes_replicate, same_back}
 use Rattle.keywrap.proofs.Bytes.{steps_bytes, steps_one_to_one}
@@ -88,8 +88,8 @@ one_text law key k wrapped text u = (
 -- if the steps lead to the bytes from a register that does not begin with the initial value, the bytes are not a valid wrapping
 pub no_wrapping : (key wrapped start : List ℕ) → IsPermutation → IsKey key → AreBytes (length wrapped) start
     → steps key (6 * ((length wrapped - 8) / 8)) start ≡ wrapped → (take 8 start ≡ initial_value → ⊥)
-    → IsNoWrapping key wrapped
-no_wrapping key wrapped start law k b e other text u =
+    → ¬ IsWrapping key wrapped
+no_wrapping key wrapped start law k b e other (text, u) =
     other (ap (take 8) (one_start key wrapped text start law k b e u) ∙ take_at initial_value text 8 refl)
 
 -- if the steps lead from the initial value and a text to bytes of the length of a wrapping, these are the text's wrapping

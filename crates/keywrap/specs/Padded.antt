@@ -65,9 +65,9 @@ UnwrappedPaddedTo key wrapped n output = (n ≤ length output)
     × UnwrappedPadded key wrapped (take n output)
     × (output ≡ padded (take n output))
 
--- wrapped is not a valid wrapping with padding: it is not the wrapping of any text
-abbrev pub IsNoPaddedWrapping : List ℕ → List ℕ → Type 0
-IsNoPaddedWrapping key wrapped = (text : List ℕ) → ¬ UnwrappedPadded key wrapped text
+-- wrapped is a valid wrapping with padding: it is the wrapping of some text
+abbrev pub IsPaddedWrapping : List ℕ → List ℕ → Type 0
+IsPaddedWrapping key wrapped = (text : List ℕ) × UnwrappedPadded key wrapped text
 
 -- a wrapping with padding has only one text, and is eight bytes longer than the padded text
 abbrev pub HasOnePaddedText : Type 0

@@ -1,89 +1,76 @@
--- The cause of each refusal. A fault that a call never returns has no row.
-use Rattle.std.specs.Prelude.{◌≡◌, ℕ, ◌+◌, ◌^◌, ◌<◌, ◌≤◌, List, length, replicate}
+-- The cause of each refusal: a call's checks in their order. A fault that a call never returns stands at no check.
+use Rattle.std.specs.Prelude.{ℕ, ◌+◌, ◌^◌, ◌<◌, ◌≤◌, ◌==◌, Bool, true, false, ⊤, List, [], ◌∷◌, length, replicate}
+use Rattle.octets.specs.Numbers.{fault_number}
 use Rattle.octets.specs.declared.fault.Fault.{Fault}
 use Rattle.octets.specs.declared.fault.Fault.TheVariants.{TextTooLong, WrapLength, WrapIntegrity, OutOfMemory}
-use Rattle.keywrap.specs.Wrapping.{HasTextLength, HasWrappedLength, IsNoWrapping}
-use Rattle.keywrap.specs.Padded.{HasPaddableLength, HasBlocks, HasPaddedRoom, IsNoPaddedWrapping}
+use Rattle.keywrap.specs.Wrapping.{HasTextLength, HasWrappedLength, IsWrapping}
+use Rattle.keywrap.specs.Padded.{HasBlocks, HasPaddedRoom, IsPaddedWrapping}
+
+-- a check of a call: one that refuses with this fault unless something holds, or an allocation, which may fail at any time
+infix 70 ◌unless◌
+pub data Check : Type 1 where
+  ◌unless◌ : Fault → Type 0 → Check
+  perhaps : Fault → Check
+
+-- the first of two statements if the test is true, else the second
+abbrev pub either : Bool → Type 0 → Type 0 → Type 0
+either true p q = p
+either false p q = q
+
+-- the fault is that of the first check that fails: this one fails, and what those before it demand holds
+abbrev pub FirstOf : List Check → Fault → Type 0
+FirstOf [] e = ⊥
+FirstOf (f unless p ∷ checks) e = either (fault_number e == fault_number f) (¬ p) (p × FirstOf checks e)
+FirstOf (perhaps f ∷ checks) e = either (fault_number e == fault_number f) ⊤ (FirstOf checks e)
 
 -- why a text is not wrapped into a vector, which holds at most `most` bytes
 abbrev pub WrapRefused : ℕ → List ℕ → Fault → Type 0
-WrapRefused most text WrapLength = ¬ HasTextLength text
-WrapRefused most text TextTooLong = HasTextLength text × (most < length text + 8)
-WrapRefused most text OutOfMemory = HasTextLength text × (length text + 8 ≤ most)
-WrapRefused most text _ = ⊥
+WrapRefused most text = FirstOf (WrapLength unless HasTextLength text
+    ∷ TextTooLong unless (length text + 8 ≤ most) ∷ perhaps OutOfMemory ∷ [])
 
 -- why bytes are not unwrapped into a vector
 abbrev pub UnwrapRefused : List ℕ → List ℕ → Fault → Type 0
-UnwrapRefused key wrapped WrapLength = ¬ HasWrappedLength wrapped
-UnwrapRefused key wrapped OutOfMemory = HasWrappedLength wrapped
-UnwrapRefused key wrapped WrapIntegrity = HasWrappedLength wrapped × IsNoWrapping key wrapped
-UnwrapRefused key wrapped _ = ⊥
+UnwrapRefused key wrapped = FirstOf (WrapLength unless HasWrappedLength wrapped
+    ∷ perhaps OutOfMemory ∷ WrapIntegrity unless IsWrapping key wrapped ∷ [])
 
 -- why a text is not wrapped in place, in bytes that begin with room for A
 abbrev pub WrapInPlaceRefused : List ℕ → Fault → Type 0
-WrapInPlaceRefused bytes WrapLength = ¬ HasWrappedLength bytes
-WrapInPlaceRefused bytes _ = ⊥
-
--- why bytes are not unwrapped in place
-abbrev pub UnwrapInPlaceRefused : List ℕ → List ℕ → Fault → Type 0
-UnwrapInPlaceRefused key wrapped WrapLength = ¬ HasWrappedLength wrapped
-UnwrapInPlaceRefused key wrapped WrapIntegrity = HasWrappedLength wrapped × IsNoWrapping key wrapped
-UnwrapInPlaceRefused key wrapped _ = ⊥
+WrapInPlaceRefused bytes = FirstOf (WrapLength unless HasWrappedLength bytes ∷ [])
 
 -- why a text is not wrapped with padding
 abbrev pub PaddedWrapRefused : List ℕ → Fault → Type 0
-PaddedWrapRefused text WrapLength = length text ≡ 0
-PaddedWrapRefused text TextTooLong = 2 ^ 32 ≤ length text
-PaddedWrapRefused text OutOfMemory = HasPaddableLength text
-PaddedWrapRefused text _ = ⊥
+PaddedWrapRefused text = FirstOf (WrapLength unless (1 ≤ length text)
+    ∷ TextTooLong unless (length text < 2 ^ 32) ∷ perhaps OutOfMemory ∷ [])
 
 -- why bytes are not unwrapped with padding
 abbrev pub PaddedUnwrapRefused : List ℕ → List ℕ → Fault → Type 0
-PaddedUnwrapRefused key wrapped WrapLength = ¬ HasBlocks wrapped
-PaddedUnwrapRefused key wrapped TextTooLong = HasBlocks wrapped × (2 ^ 32 + 8 < length wrapped)
-PaddedUnwrapRefused key wrapped OutOfMemory = HasBlocks wrapped × (length wrapped ≤ 2 ^ 32 + 8)
-PaddedUnwrapRefused key wrapped WrapIntegrity =
-    HasBlocks wrapped × (length wrapped ≤ 2 ^ 32 + 8) × IsNoPaddedWrapping key wrapped
-PaddedUnwrapRefused key wrapped _ = ⊥
+PaddedUnwrapRefused key wrapped = FirstOf (WrapLength unless HasBlocks wrapped
+    ∷ TextTooLong unless (length wrapped ≤ 2 ^ 32 + 8) ∷ perhaps OutOfMemory
+    ∷ WrapIntegrity unless IsPaddedWrapping key wrapped ∷ [])
 
 -- why a text of n bytes is not wrapped with padding in place
 abbrev pub PaddedWrapInPlaceRefused : List ℕ → ℕ → Fault → Type 0
-PaddedWrapInPlaceRefused bytes n WrapLength = ¬ HasPaddedRoom bytes n
-PaddedWrapInPlaceRefused bytes n TextTooLong = HasPaddedRoom bytes n × (2 ^ 32 ≤ n)
-PaddedWrapInPlaceRefused bytes n _ = ⊥
-
--- why bytes are not unwrapped with padding in place
-abbrev pub PaddedUnwrapInPlaceRefused : List ℕ → List ℕ → Fault → Type 0
-PaddedUnwrapInPlaceRefused key wrapped WrapLength = ¬ HasBlocks wrapped
-PaddedUnwrapInPlaceRefused key wrapped TextTooLong = HasBlocks wrapped × (2 ^ 32 + 8 < length wrapped)
-PaddedUnwrapInPlaceRefused key wrapped WrapIntegrity =
-    HasBlocks wrapped × (length wrapped ≤ 2 ^ 32 + 8) × IsNoPaddedWrapping key wrapped
-PaddedUnwrapInPlaceRefused key wrapped _ = ⊥
+PaddedWrapInPlaceRefused bytes n = FirstOf (WrapLength unless HasPaddedRoom bytes n
+    ∷ TextTooLong unless (n < 2 ^ 32) ∷ [])
 
 -- why a text is not wrapped into another output
 abbrev pub WrapToRefused : List ℕ → Fault → Type 0
-WrapToRefused text WrapLength = ¬ HasTextLength text
-WrapToRefused text _ = ⊥
+WrapToRefused text = FirstOf (WrapLength unless HasTextLength text ∷ [])
 
--- why bytes are not unwrapped into another output
+-- why bytes are not unwrapped into another output, or in place
 abbrev pub UnwrapToRefused : List ℕ → List ℕ → Fault → Type 0
-UnwrapToRefused key wrapped WrapLength = ¬ HasWrappedLength wrapped
-UnwrapToRefused key wrapped WrapIntegrity = HasWrappedLength wrapped × IsNoWrapping key wrapped
-UnwrapToRefused key wrapped _ = ⊥
+UnwrapToRefused key wrapped = FirstOf (WrapLength unless HasWrappedLength wrapped
+    ∷ WrapIntegrity unless IsWrapping key wrapped ∷ [])
 
 -- why a text is not wrapped with padding into another output
 abbrev pub PaddedWrapToRefused : List ℕ → Fault → Type 0
-PaddedWrapToRefused text WrapLength = length text ≡ 0
-PaddedWrapToRefused text TextTooLong = 2 ^ 32 ≤ length text
-PaddedWrapToRefused text _ = ⊥
+PaddedWrapToRefused text = FirstOf (WrapLength unless (1 ≤ length text)
+    ∷ TextTooLong unless (length text < 2 ^ 32) ∷ [])
 
--- why bytes are not unwrapped with padding into another output
+-- why bytes are not unwrapped with padding into another output, or in place
 abbrev pub PaddedUnwrapToRefused : List ℕ → List ℕ → Fault → Type 0
-PaddedUnwrapToRefused key wrapped WrapLength = ¬ HasBlocks wrapped
-PaddedUnwrapToRefused key wrapped TextTooLong = HasBlocks wrapped × (2 ^ 32 + 8 < length wrapped)
-PaddedUnwrapToRefused key wrapped WrapIntegrity =
-    HasBlocks wrapped × (length wrapped ≤ 2 ^ 32 + 8) × IsNoPaddedWrapping key wrapped
-PaddedUnwrapToRefused key wrapped _ = ⊥
+PaddedUnwrapToRefused key wrapped = FirstOf (WrapLength unless HasBlocks wrapped
+    ∷ TextTooLong unless (length wrapped ≤ 2 ^ 32 + 8) ∷ WrapIntegrity unless IsPaddedWrapping key wrapped ∷ [])
 
 -- the output of a call that unwraps, on a fault: zeros if the bytes are not a valid wrapping, else unchanged
 abbrev pub left_at : Fault → List ℕ → List ℕ

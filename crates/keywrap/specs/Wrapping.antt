@@ -50,9 +50,9 @@ pub record Unwrapped (key : List ℕ) (wrapped : List ℕ) (text : List ℕ) : T
 abbrev pub UnwrappedInPlace : List ℕ → List ℕ → List ℕ → Type 0
 UnwrappedInPlace key wrapped bytes = Unwrapped key wrapped (drop 8 bytes) × (take 8 bytes ≡ initial_value)
 
--- wrapped is not a valid wrapping: it is not the wrapping of any text
-abbrev pub IsNoWrapping : List ℕ → List ℕ → Type 0
-IsNoWrapping key wrapped = (text : List ℕ) → ¬ Unwrapped key wrapped text
+-- wrapped is a valid wrapping: it is the wrapping of some text
+abbrev pub IsWrapping : List ℕ → List ℕ → Type 0
+IsWrapping key wrapped = (text : List ℕ) × Unwrapped key wrapped text
 
 -- a wrapping has only one text, and is eight bytes longer
 abbrev pub HasOneText : Type 0

@@ -2,7 +2,7 @@
 
 ghost use Rattle.std.specs.Prelude.{◌≡◌, ℕ, List, drop, MatchResult, IsOk, OnErr};
 ghost use Rattle.keywrap.specs.Wrapping.{Unwrapped, UnwrappedInPlace};
-ghost use Rattle.keywrap.specs.Refusals.{WrapInPlaceRefused, UnwrapInPlaceRefused};
+ghost use Rattle.keywrap.specs.Refusals.{WrapInPlaceRefused, UnwrapToRefused};
 
 use crate::steps::{
     INITIAL_VALUE, first_eight, has_wrapped_length, is_initial_value, unwrap_register,
@@ -34,7 +34,7 @@ pub fn wrap_in_place(key: &AesKey, bytes: &mut [u8]) -> Result<(), Fault>
 /// time: see the crate's page.
 pub fn unwrap_in_place(key: &AesKey, bytes: &mut [u8]) -> Result<(), Fault>
     ensures answer { MatchResult result (λ _. UnwrappedInPlace key.now bytes.old bytes.new)
-        (UnwrapInPlaceRefused key.now bytes.old) }
+        (UnwrapToRefused key.now bytes.old) }
     ensures found { (text : List ℕ) → Unwrapped key.now bytes.old text
         → IsOk result × (drop 8 bytes.new ≡ text) }
     ensures unchanged { OnErr result (bytes.new ≡ bytes.old) }

@@ -7,7 +7,7 @@ ghost use Rattle.octets.specs.Bytes.{AreBytes};
 ghost use Rattle.aes.specs.Cipher.{IsKey};
 ghost use Rattle.keywrap.specs.Padded.{alternative_value, padded, transformed, HasBlocks};
 ghost use Rattle.keywrap.specs.Code.Padded.{IsStartOf};
-ghost use Rattle.keywrap.specs.Padded.{UnwrappedPadded, IsNoPaddedWrapping};
+ghost use Rattle.keywrap.specs.Padded.{UnwrappedPadded, IsPaddedWrapping};
 ghost use Rattle.keywrap.specs.Refusals.{PaddedWrapRefused, PaddedUnwrapRefused};
 
 use crate::steps::{first_eight, halves, join_halves, unwrap_blocks, wrap_register};
@@ -106,7 +106,7 @@ pub(crate) fn unwrap_padded_register(
 ) -> Option<usize>
     requires least { 8 ≤ length blocks.old }
     requires whole { length blocks.old % 8 ≡ 0 }
-    ensures found { MatchOption result (IsNoPaddedWrapping key.now (first.old ++ blocks.old))
+    ensures found { MatchOption result (¬ IsPaddedWrapping key.now (first.old ++ blocks.old))
         (λ n. (n ≤ length blocks.new)
         × UnwrappedPadded key.now (first.old ++ blocks.old) (take n blocks.new)) }
     ensures start { IfSome result (λ n. IsStartOf (take n blocks.new) first.new blocks.new) }

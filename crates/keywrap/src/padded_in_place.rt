@@ -3,7 +3,7 @@
 ghost use Rattle.std.specs.Prelude.{◌≡◌, ℕ, ◌↔◌, List, take, drop, IsTrue, MatchResult, OnErr};
 ghost use Rattle.keywrap.specs.Padded.{HasPaddedRoom, UnwrappedPadded};
 ghost use Rattle.keywrap.specs.Padded.{WrappedPaddedInPlace, UnwrappedPaddedInPlace};
-ghost use Rattle.keywrap.specs.Refusals.{PaddedWrapInPlaceRefused, PaddedUnwrapInPlaceRefused};
+ghost use Rattle.keywrap.specs.Refusals.{PaddedWrapInPlaceRefused, PaddedUnwrapToRefused};
 
 use crate::padded::{alternative_value, encrypt_register, has_blocks, unwrap_padded_register};
 use crate::steps::first_eight;
@@ -51,7 +51,7 @@ pub fn wrap_padded_in_place(key: &AesKey, bytes: &mut [u8], text_length: usize) 
 /// see the crate's page.
 pub fn unwrap_padded_in_place(key: &AesKey, bytes: &mut [u8]) -> Result<usize, Fault>
     ensures answer { MatchResult result (λ n. UnwrappedPaddedInPlace key.now bytes.old n bytes.new)
-        (PaddedUnwrapInPlaceRefused key.now bytes.old) }
+        (PaddedUnwrapToRefused key.now bytes.old) }
     ensures found { (text : List ℕ) → UnwrappedPadded key.now bytes.old text
         → MatchResult result (λ n. take n (drop 8 bytes.new) ≡ text) (λ _. ⊥) }
     ensures unchanged { OnErr result (bytes.new ≡ bytes.old) }

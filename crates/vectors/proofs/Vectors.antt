@@ -8,7 +8,7 @@ use Rattle.aead.specs.declared.suite.Suite.TheVariants.{ChaCha20Poly1305}
 use Rattle.aead.specs.Sealing.{sealing, Setting, Opened}
 use Rattle.aead.proofs.Vectors.{one_sealing}
 use Rattle.aes.proofs.Small.{all_small}
-use Rattle.keywrap.specs.Padded.{IsNoPaddedWrapping}
+use Rattle.keywrap.specs.Padded.{UnwrappedPadded}
 use Rattle.keywrap.proofs.PaddedTexts.{wrapped_long}
 use Rattle.keywrap.proofs.Vectors.{key192, seven, seven_wrapped, wrapped_padded}
 use Rattle.vectors.specs.declared.suite.Format.TheVariants.{Two}
@@ -296,7 +296,7 @@ formatted =
 
 -- ---- the report
 -- the half is too short for a wrapping
-half_is_none : IsNoPaddedWrapping key192 half
+half_is_none : (text : List ℕ) → ¬ UnwrappedPadded key192 half text
 unfolding half
 half_is_none text h = few (wrapped_long key192 half text h).0.least where
   few : 16 ≤ 8 → ⊥

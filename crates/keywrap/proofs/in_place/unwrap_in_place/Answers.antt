@@ -41,7 +41,7 @@ returns-then-is_initial_value-clause-found c text u = (
 )
 
 pub returns-clause-found : goal.returns-clause-found
-returns-clause-found c text u = absurd ((returns-clause-answer c).1 text u)
+returns-clause-found c text u = absurd ((returns-clause-answer c).1 (text, u))
 
 pub returns-clause-unchanged : goal.returns-clause-unchanged
 returns-clause-unchanged c =

@@ -50,4 +50,4 @@ returns-clause-answer c =
     )
 
 pub returns-clause-found : goal.returns-clause-found
-returns-clause-found c text u = (returns-clause-answer c).1.1 text u
+returns-clause-found c text u = (returns-clause-answer c).1.1 (text, u)

@@ -1,7 +1,7 @@
 use Rattle.std.proofs.Common.{◌≡◌, ℕ, List, ◌++◌, take, drop, length, sym, ap, ◌∙◌, subst, arith, refl}
 use Rattle.std.proofs.Common.{true≢false}
 use Rattle.std.proofs.lemmas.List.{take_at}
-use Rattle.keywrap.specs.Padded.{UnwrappedPadded, IsNoPaddedWrapping}
+use Rattle.keywrap.specs.Padded.{UnwrappedPadded, IsPaddedWrapping}
 use Rattle.aes.proofs.Permutation.{is_permutation}
 use Rattle.keywrap.proofs.PaddedTexts.{one_text, wrapped_long, parts}
 use Rattle.keywrap.proofs.padded.unwrap_padded.Goals as goal
@@ -38,9 +38,8 @@ returns-in-None-clause-answer g c =
     let whole = parts c.args.wrapped.now c.first_eight-first.result c.deref_mut.result.now
     c.first_eight-first.ensures (c.deref_mut.ensures.value ∙ c.in_ok-text.ensures.items) in (
       c.if-not-has_blocks.ensures.0 refl,
-      omega arith,
-      subst (λ (xs : List ℕ). IsNoPaddedWrapping c.args.key.now xs) whole c.in-None.ensures.found,
+      (omega arith, subst (λ (xs : List ℕ). ¬ IsPaddedWrapping c.args.key.now xs) whole c.in-None.ensures.found),
     )
 
 pub returns-in-None-clause-found : goal.returns-in-None-clause-found
-returns-in-None-clause-found g c text u = absurd ((returns-in-None-clause-answer g c).2 text u)
+returns-in-None-clause-found g c text u = absurd ((returns-in-None-clause-answer g c).1.1 (text, u))

@@ -4,7 +4,7 @@ use Rattle.std.proofs.Common.{true≢false, length-drop}
 use Rattle.aes.proofs.Permutation.{is_permutation}
 use Rattle.std.proofs.lemmas.List.{length-take-le}
 use Rattle.keywrap.specs.Padded.{alternative_value, padded, transformed, HasBlocks, UnwrappedPadded}
-use Rattle.keywrap.specs.Padded.{IsNoPaddedWrapping}
+use Rattle.keywrap.specs.Padded.{IsPaddedWrapping}
 use Rattle.keywrap.proofs.PaddedTexts.{one_text, wrapped_long, parts, blocks_in_place, rest_in_place}
 use Rattle.keywrap.proofs.padded_in_place.unwrap_padded_in_place.Goals as goal
 use borrow.Rule.Slice.PartMut.{put_mid}
@@ -61,12 +61,14 @@ returns-in-None-clause-answer c =
     let whole = parts wrapped c.first_eight-first.result (take (length wrapped - 8) (drop 8 wrapped))
     c.first_eight-first.ensures refl in (
       c.if-not-has_blocks.ensures.0 refl,
-      omega (arith, c.if-bytes.false),
-      subst (λ (xs : List ℕ). IsNoPaddedWrapping c.args.key.now xs) whole c.in-None.ensures.found,
+      (
+        omega (arith, c.if-bytes.false),
+        subst (λ (xs : List ℕ). ¬ IsPaddedWrapping c.args.key.now xs) whole c.in-None.ensures.found,
+      ),
     )
 
 pub returns-in-None-clause-found : goal.returns-in-None-clause-found
-returns-in-None-clause-found c text u = (returns-in-None-clause-answer c).2 text u
+returns-in-None-clause-found c text u = (returns-in-None-clause-answer c).1.1 (text, u)
 
 pub returns-in-None-clause-unchanged : goal.returns-in-None-clause-unchanged
 returns-in-None-clause-unchanged c =

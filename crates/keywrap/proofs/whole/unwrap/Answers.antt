@@ -69,7 +69,7 @@ returns-else-is_initial_value-clause-answer g c =
 
 pub returns-else-is_initial_value-clause-found : goal.returns-else-is_initial_value-clause-found
 returns-else-is_initial_value-clause-found g c text u =
-    absurd ((returns-else-is_initial_value-clause-answer g c).1 text u)
+    absurd ((returns-else-is_initial_value-clause-answer g c).1 (text, u))
 
 pub returns-then-not-has_wrapped_length-clause-found : goal.returns-then-not-has_wrapped_length-clause-found
 returns-then-not-has_wrapped_length-clause-found g c text u =
