@@ -1,6 +1,8 @@
 -- The key and the nonce of a message, as plain numbers.
 use Rattle.std.specs.Prelude.{◌≡◌, ◌≢◌, ℕ, ◌<◌, List, [], length, take, replicate}
 use Rattle.octets.specs.Masked.{masked}
+use Rattle.aes.specs.declared.counter.KnownBlock.{KnownBlock}
+use Rattle.aes.specs.Code.Streams.{KnowsCipher}
 use Rattle.octets.specs.declared.fault.Fault.{Fault}
 use Rattle.octets.specs.declared.fault.Fault.TheVariants.{KeyLength, NonceLength, AadTooLong, TagMismatch}
 use Rattle.aead.specs.declared.suite.Suite.{Suite}
@@ -40,6 +42,10 @@ abbrev pub cipher_key : Construction → Setting → List ℕ
 cipher_key ByChaCha s = s.key
 cipher_key ByGcm s = s.key
 cipher_key ByGcmSiv s = encryption_key s.key s.nonce
+
+-- the block that b knows has its cipher under the key of the cipher of a message
+abbrev pub KnowsCipherOf : KnownBlock → Setting → Type 0
+KnowsCipherOf b s = KnowsCipher b (cipher_key (construction_of s.suite) s)
 
 -- a key and a nonce that are all zeros
 abbrev pub zero_keys : KeyAndNonce

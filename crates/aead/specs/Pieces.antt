@@ -16,7 +16,7 @@ use Rattle.aead.specs.declared.two_pass_state.TwoPassState.{TwoPassState}
 use Rattle.aead.specs.Suites.{ByGcmSiv, construction_of, is_one_pass, text_limit}
 use Rattle.aead.specs.Sealing.{Setting, Opened, authentication_key, encryption_key, mask_of, tag_of, sealing}
 use Rattle.aead.specs.PassStates.{HoldsNumbers, HoldsState, IsStart}
-use Rattle.aead.specs.KeyedPasses.{HasKeys, authenticated_by}
+use Rattle.aead.specs.KeyedPasses.{HasKeys, KnowsCipherOf, authenticated_by}
 use Rattle.aead.specs.Code.MessageKeys.{AreKeysOf}
 
 -- the sealer has the keys of a message and has taken in this text
@@ -24,6 +24,7 @@ pub record HoldsSealer (sealer : Sealer) (s : Setting) (text : List ℕ) : Type 
   pub keys : AreKeysOf sealer.keys s
   pub one_pass : is_one_pass (construction_of s.suite) ≡ true
   pub state : HoldsState sealer.state s text
+  pub known : KnowsCipherOf sealer.known s
 
 -- k holds the derived keys of a message of AES-GCM-SIV, and its nonce
 pub record AreKeys (k : SivKeys) (s : Setting) : Type 0 where
@@ -56,6 +57,7 @@ pub record HoldsAbsorb (a : SivAbsorb) (s : Setting) (text : List ℕ) : Type 0 
 pub record HoldsWriter (w : SivWriter) (s : Setting) (first text : List ℕ) : Type 0 where
   pub keys : AreKeys w.keys s
   pub state : IsInSecondReading w.state s first text
+  pub known : KnowsCipherOf w.known s
 
 -- ---- an opening in two passes
 
@@ -107,6 +109,7 @@ pub record HoldsOpenWriter (w : OpenWriter) (s : Setting) (tag : List ℕ) (firs
   pub keys : OpensUnder w.keys s
   pub bytes : MasksByBytes s
   pub state : IsInSecondPass w.state s tag first body
+  pub known : KnowsCipherOf w.known s
 
 -- ---- pieces that are joined
 

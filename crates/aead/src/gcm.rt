@@ -3,6 +3,7 @@
 ghost use Rattle.std.specs.Prelude.{◌≡◌, ◌≢◌, ◌<◌, ◌≤◌, ◌^◌, ◌++◌, ◌∷◌, ℕ, List, [], length, MatchResult};
 ghost use Rattle.std.proofs.Common.{ap};
 ghost use Rattle.aes.specs.Cipher.{cipher, IsKey};
+ghost use Rattle.aes.specs.Code.Streams.{KnowsCipher};
 ghost use Rattle.aead.specs.declared.suite.Suite.{Suite};
 ghost use Rattle.aead.specs.Suites.{construction_of, is_one_pass, key_length, text_limit, aad_limit, ByGcm};
 ghost use Rattle.aead.specs.Sealing.{Setting, Opened, hash_key, j0};
@@ -17,7 +18,7 @@ use crate::hashes::GhashTag;
 use crate::multiples::{Multiples, worth};
 use crate::one_pass::{OnePass, open_whole, seal_whole};
 use crate::suite::Suite;
-use aes::{AesKey, CtrBe, KeptKey};
+use aes::{AesKey, CtrBe, KeptKey, KnownBlock};
 use gf128::{Ghash, Keyed128, Multiply, TableMul, WideMul};
 use octets::{Block, Fault, Nonce, Tag};
 use std::marker::Model;
@@ -165,12 +166,12 @@ pub(crate) fn hash_keys(key: &AesKey, ghash_key: &Block, nonce: &Nonce) -> [u8; 
 }
 
 // The counter stream of a text of which `made` bytes were masked.
-pub(crate) fn mask_at<K: KeptKey>(key: K, nonce: &Nonce, made: u64) -> CtrBe<K>
+pub(crate) fn mask_at<K: KeptKey>(key: K, nonce: &Nonce, made: u64, known: &KnownBlock) -> CtrBe<K>
     requires { made < 2 ^ 63 }
     ensures { (s : Setting) (tag : List ℕ) → construction_of s.suite ≡ ByGcm → s.key ≡ K.bytes key
-        → s.nonce ≡ nonce.now → MadeByGcm K.bytes result s tag made }
+        → s.nonce ≡ nonce.now → KnowsCipher known.now s.key → MadeByGcm K.bytes result s tag made }
 {
-    CtrBe::at(key, &counter_block(nonce, 2), made)
+    CtrBe::at_known(key, &counter_block(nonce, 2), made, known)
 }
 
 // The nonce and a counter (SP 800-38D, 7.1). The last word is written as one, since the cipher reads words.

@@ -6,7 +6,7 @@ ghost use Rattle.aead.specs.Sealing.{Setting, hash_key, tag_over};
 ghost use Rattle.aead.specs.PassStates.{HoldsNumbers};
 ghost use Rattle.aead.specs.Code.Masks.{hashed_by};
 ghost use Rattle.aead.specs.Code.MessageKeys.{AreGcmKeys};
-ghost use Rattle.aead.specs.Code.PassSteps.{MasksPiece, TakesPiece};
+ghost use Rattle.aead.specs.Code.PassSteps.{MasksPieceKnowing, TakesPiece};
 
 use crate::beside::Order;
 use crate::gcm::{hash_keys, mask_at};
@@ -14,7 +14,7 @@ use crate::hashes::GhashKeys;
 use crate::keys::{AesKeys, ExpandedKey, KeyBytes};
 use crate::multiples::{Multiples, worth};
 use crate::pass_state::PassState;
-use aes::AesKey;
+use aes::{AesKey, KnownBlock};
 use gf128::{Keyed128, TableMul, WideMul};
 use octets::{Block, Nonce, Tag};
 
@@ -66,35 +66,44 @@ fn mask_by<M: Keyed128>(
     state: &mut PassState,
     key: &AesKey,
     nonce: &Nonce,
+    known: &mut KnownBlock,
     order: Order,
     piece: &mut [u8],
 )
     requires { state.old.length + length piece.old ≤ 2 ^ 36 }
     ensures { (s : Setting) (tag fed : List ℕ) → construction_of s.suite ≡ ByGcm → key.now ≡ s.key
         → nonce.now ≡ s.nonce
-        → MasksPiece (hashed_by order) state.old state.new piece.old piece.new s tag fed }
+        → MasksPieceKnowing (hashed_by order) state.old state.new known.old known.new piece.old piece.new s.key s tag fed }
 {
     let mut multiplier = M::none();
     multiplier.set(&state.multiplier_key());
     let keys = GhashKeys {
         multiplier: &multiplier,
     };
-    let mut mask = mask_at(key, nonce, state.length);
+    let mut mask = mask_at(key, nonce, state.length, known);
     state.step(&keys, &mut mask, order, piece);
+    *known = mask.known_block();
 }
 
 // Masks and authenticates a piece by the bytes of a key, whose schedule stands on the stack of this call alone.
 #[inline(never)]
-fn mask_anew(state: &mut PassState, bytes: KeyBytes, nonce: &Nonce, order: Order, piece: &mut [u8])
+fn mask_anew(
+    state: &mut PassState,
+    bytes: KeyBytes,
+    nonce: &Nonce,
+    known: &mut KnownBlock,
+    order: Order,
+    piece: &mut [u8],
+)
     requires { state.old.length + length piece.old ≤ 2 ^ 36 }
     ensures { (s : Setting) (tag fed : List ℕ) → construction_of s.suite ≡ ByGcm
         → AreGcmKeys (AesKeys.Bytes bytes.entry) s → nonce.now ≡ s.nonce
-        → MasksPiece (hashed_by order) state.old state.new piece.old piece.new s tag fed }
+        → MasksPieceKnowing (hashed_by order) state.old state.new known.old known.new piece.old piece.new s.key s tag fed }
 {
     let key = bytes.schedule();
     match worth(piece.len() as u64) {
-        Multiples::Few => mask_by::<TableMul>(state, &key, nonce, order, piece),
-        Multiples::OfFourPowers => mask_by::<WideMul>(state, &key, nonce, order, piece),
+        Multiples::Few => mask_by::<TableMul>(state, &key, nonce, known, order, piece),
+        Multiples::OfFourPowers => mask_by::<WideMul>(state, &key, nonce, known, order, piece),
     }
 }
 
@@ -103,23 +112,25 @@ fn mask_expanded(
     state: &mut PassState,
     keys: ExpandedKey,
     nonce: &Nonce,
+    known: &mut KnownBlock,
     order: Order,
     piece: &mut [u8],
 )
     requires { state.old.length + length piece.old ≤ 2 ^ 36 }
     ensures { (s : Setting) (tag fed : List ℕ) → construction_of s.suite ≡ ByGcm
         → AreGcmKeys (AesKeys.Expanded keys.entry) s → nonce.now ≡ s.nonce
-        → MasksPiece (hashed_by order) state.old state.new piece.old piece.new s tag fed }
+        → MasksPieceKnowing (hashed_by order) state.old state.new known.old known.new piece.old piece.new s.key s tag fed }
 {
     match worth(piece.len() as u64) {
         Multiples::Few => {
             let hash_keys = GhashKeys {
                 multiplier: keys.few,
             };
-            let mut mask = mask_at(keys.key, nonce, state.length);
+            let mut mask = mask_at(keys.key, nonce, state.length, known);
             state.step(&hash_keys, &mut mask, order, piece);
+            *known = mask.known_block();
         }
-        Multiples::OfFourPowers => mask_by::<WideMul>(state, keys.key, nonce, order, piece),
+        Multiples::OfFourPowers => mask_by::<WideMul>(state, keys.key, nonce, known, order, piece),
     }
 }
 
@@ -129,17 +140,18 @@ pub(crate) fn mask(
     state: &mut PassState,
     keys: AesKeys,
     nonce: &Nonce,
+    known: &mut KnownBlock,
     order: Order,
     piece: &mut [u8],
 )
     requires { state.old.length + length piece.old ≤ 2 ^ 36 }
     ensures { (s : Setting) (tag fed : List ℕ) → construction_of s.suite ≡ ByGcm → AreGcmKeys keys.entry s
         → nonce.now ≡ s.nonce
-        → MasksPiece (hashed_by order) state.old state.new piece.old piece.new s tag fed }
+        → MasksPieceKnowing (hashed_by order) state.old state.new known.old known.new piece.old piece.new s.key s tag fed }
 {
     match keys {
-        AesKeys::Expanded(keys) => mask_expanded(state, keys, nonce, order, piece),
-        AesKeys::Bytes(bytes) => mask_anew(state, bytes, nonce, order, piece),
+        AesKeys::Expanded(keys) => mask_expanded(state, keys, nonce, known, order, piece),
+        AesKeys::Bytes(bytes) => mask_anew(state, bytes, nonce, known, order, piece),
     }
 }
 

@@ -3,6 +3,7 @@
 
 ghost use Rattle.std.specs.Prelude.{◌≡◌, ◌≢◌, ◌<◌, ◌≤◌, ◌^◌, ◌++◌, length, MatchResult};
 ghost use Rattle.octets.specs.Bytes.{IsBlock};
+ghost use Rattle.aes.specs.Code.Streams.{KnowsCipher};
 ghost use Rattle.gf128.specs.Polyval.{IsReversedMulX};
 ghost use Rattle.gf128.specs.Code.States.{key_of};
 ghost use Rattle.aead.specs.declared.suite.Suite.{Suite};
@@ -18,7 +19,7 @@ use crate::hashes::PolyvalTag;
 use crate::multiples::{Multiples, worth};
 use crate::suite::Suite;
 use crate::two_pass::{TwoPass, open_whole, seal_whole};
-use aes::{AesKey, CtrLe, KeptKey};
+use aes::{AesKey, CtrLe, KeptKey, KnownBlock};
 use gf128::{Keyed128, Multiply, Polyval, TableMul, WideMul};
 use octets::{Block, Fault, Nonce, Tag};
 use std::marker::Model;
@@ -181,13 +182,18 @@ pub(crate) fn tag_mask<K: KeptKey>(encryption: K, tag: &Tag) -> CtrLe<K>
 
 // Returns the mask of the message with this tag, after its first `made` bytes.
 #[inline(always)]
-pub(crate) fn mask_at<K: KeptKey>(encryption: K, tag: &[u8; 16], made: u64) -> CtrLe<K>
+pub(crate) fn mask_at<K: KeptKey>(
+    encryption: K,
+    tag: &[u8; 16],
+    made: u64,
+    known: &KnownBlock,
+) -> CtrLe<K>
     requires { made < 2 ^ 63 }
     ensures { (s : Setting) → construction_of s.suite ≡ ByGcmSiv
-        → K.bytes encryption ≡ encryption_key s.key s.nonce
+        → K.bytes encryption ≡ encryption_key s.key s.nonce → KnowsCipher known.now (K.bytes encryption)
         → MadeByGcmSiv K.bytes result s tag.now made }
 {
-    CtrLe::at(encryption, &Block::new(counter_block(tag)), made)
+    CtrLe::at_known(encryption, &Block::new(counter_block(tag)), made, known)
 }
 
 // A cipher with a nonce, the message's encryption key, and a multiplier by its authentication key.

@@ -13,7 +13,7 @@ ghost use Rattle.aead.specs.Pieces.{IsInFirstPass, IsInSecondPass, Opens, WasOve
 use crate::key_and_nonce::KeyAndNonce;
 use crate::suite::Suite;
 use crate::two_pass_state::TwoPassState;
-use aes::AesKey;
+use aes::{AesKey, KnownBlock};
 use octets::{Block, Fault};
 
 /// A ciphertext that is opened piece by piece in two passes under the tag of its sealing, with the bytes of its keys. Each number
@@ -176,7 +176,8 @@ impl KeyedOpener {
         ensures kept { OnErr result ((self.new ≡ self.old) × (piece.new ≡ piece.old)) }
         ensures fault { MatchResult result (λ _. Unit {0}) (λ e. e ≡ Fault.SourceChanged) }
     {
-        self.state.open(&self.keys.keys(suite), piece)
+        let mut known = KnownBlock::none();
+        self.state.open(&self.keys.keys(suite), &mut known, piece)
     }
 
     /// Returns `Ok` if what the second pass took in is the ciphertext of the sealing, else `SourceChanged`: what `update` gave is

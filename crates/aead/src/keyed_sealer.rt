@@ -11,7 +11,7 @@ ghost use Rattle.aead.specs.KeyedPasses.{setting_of, BeginRefused, ResumeRefused
 use crate::key_and_nonce::KeyAndNonce;
 use crate::pass_state::PassState;
 use crate::suite::Suite;
-use aes::AesKey;
+use aes::{AesKey, KnownBlock};
 use octets::{Block, Fault, Tag};
 
 /// A text that is sealed piece by piece in one reading, with the bytes of its key and nonce. Each number may have any value.
@@ -119,7 +119,8 @@ impl KeyedSealer {
         ensures kept { OnErr result ((self.new ≡ self.old) × (piece.new ≡ piece.old)) }
         ensures fault { FitsIn Fault.TextTooLong result (sealer_count self.old) (length piece.old) (text_limit suite) }
     {
-        self.state.seal(&self.keys.keys(suite), piece)
+        let mut known = KnownBlock::none();
+        self.state.seal(&self.keys.keys(suite), &mut known, piece)
     }
 
     /// Returns the tag of the text under its suite, 16 bytes.

@@ -13,7 +13,7 @@ ghost use Rattle.aead.specs.PassStates.{HasHashKey};
 use crate::key_and_nonce::KeyAndNonce;
 use crate::suite::Suite;
 use crate::two_pass_state::TwoPassState;
-use aes::AesKey;
+use aes::{AesKey, KnownBlock};
 use octets::{Block, Fault, Tag};
 
 /// A text that is sealed piece by piece in two readings under AES-GCM-SIV, with the bytes of its keys. Each number may have any
@@ -170,7 +170,8 @@ impl KeyedSiv {
         ensures kept { OnErr result ((self.new ≡ self.old) × (piece.new ≡ piece.old)) }
         ensures fault { MatchResult result (λ _. Unit {0}) (λ e. e ≡ Fault.SourceChanged) }
     {
-        self.state.write(&self.keys.keys(suite), piece)
+        let mut known = KnownBlock::none();
+        self.state.write(&self.keys.keys(suite), &mut known, piece)
     }
 
     /// Returns `Ok` if the second text has the length and the tag of the first, else `SourceChanged`.

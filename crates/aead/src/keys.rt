@@ -5,9 +5,9 @@ ghost use Rattle.std.specs.Prelude.{◌≡◌, ◌+◌, ◌-◌, ◌≤◌, ◌^
 ghost use Rattle.aead.specs.Suites.{ByChaCha, construction_of, key_length, text_limit_by};
 ghost use Rattle.aead.specs.Sealing.{Setting, tag_over};
 ghost use Rattle.aead.specs.PassStates.{HoldsNumbers};
-ghost use Rattle.aead.specs.KeyedPasses.{authenticated_by};
+ghost use Rattle.aead.specs.KeyedPasses.{authenticated_by, cipher_key};
 ghost use Rattle.aead.specs.Code.Masks.{hashed_by};
-ghost use Rattle.aead.specs.Code.PassSteps.{MasksPiece, TakesPiece, ChecksPiece, OpensPiece};
+ghost use Rattle.aead.specs.Code.PassSteps.{MasksPiece, MasksPieceKnowing, TakesPiece, ChecksPiece, OpensPiece};
 
 use crate::beside::Order;
 use crate::derived_keys::expanded;
@@ -15,7 +15,7 @@ use crate::hashes::PolyKeys;
 use crate::pass_state::PassState;
 use crate::suite::Suite;
 use crate::{chacha_poly, gcm_pass, siv_pass};
-use aes::AesKey;
+use aes::{AesKey, KnownBlock};
 use gf128::TableMul;
 use octets::{Key32, Nonce, Tag};
 
@@ -93,16 +93,24 @@ impl<'a> MessageKeys<'a> {
 
     // Masks a piece of the message with this tag and authenticates it. Only under AES-GCM-SIV does the mask depend on the tag.
     #[inline(always)]
-    pub(crate) fn mask(&self, state: &mut PassState, order: Order, tag: &[u8; 16], piece: &mut [u8])
+    pub(crate) fn mask(
+        &self,
+        state: &mut PassState,
+        known: &mut KnownBlock,
+        order: Order,
+        tag: &[u8; 16],
+        piece: &mut [u8],
+    )
         requires { state.old.length + length piece.old ≤ text_limit_by (construction_by self.now.cipher) }
         ensures { (s : Setting) (fed : List ℕ) → AreKeysOf self.now s
-            → MasksPiece (hashed_by order) state.old state.new piece.old piece.new s tag.now fed }
+            → MasksPieceKnowing (hashed_by order) state.old state.new known.old known.new piece.old piece.new
+            (cipher_key (construction_of s.suite) s) s tag.now fed }
     {
         let nonce = Nonce::new(self.nonce);
         match self.cipher {
             CipherKeys::ChaCha(key) => mask_chacha(state, key, &nonce, order, piece),
-            CipherKeys::Gcm(keys) => gcm_pass::mask(state, keys, &nonce, order, piece),
-            CipherKeys::Siv(keys) => siv_pass::mask(state, keys, &nonce, tag, order, piece),
+            CipherKeys::Gcm(keys) => gcm_pass::mask(state, keys, &nonce, known, order, piece),
+            CipherKeys::Siv(keys) => siv_pass::mask(state, keys, &nonce, tag, known, order, piece),
         }
     }
 
@@ -153,12 +161,18 @@ impl<'a> MessageKeys<'a> {
 
     // Decrypts a piece of the ciphertext with this tag, and authenticates it.
     #[inline(always)]
-    pub(crate) fn open(&self, state: &mut PassState, tag: &[u8; 16], piece: &mut [u8])
+    pub(crate) fn open(
+        &self,
+        state: &mut PassState,
+        known: &mut KnownBlock,
+        tag: &[u8; 16],
+        piece: &mut [u8],
+    )
         requires { state.old.length + length piece.old ≤ text_limit_by (construction_by self.now.cipher) }
         ensures { (s : Setting) (body : List ℕ) → AreKeysOf self.now s
-            → OpensPiece state.old state.new piece.old piece.new s tag.now body }
+            → OpensPiece state.old state.new known.old known.new piece.old piece.new s tag.now body }
     {
-        self.mask(state, self.order_of_opening(), tag, piece);
+        self.mask(state, known, self.order_of_opening(), tag, piece);
     }
 
     // The tag of what was authenticated.

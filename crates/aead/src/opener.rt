@@ -19,6 +19,7 @@ use crate::keys::MessageKeys;
 use crate::pass_state::PassState;
 use crate::suite::Suite;
 use crate::two_pass_state::TwoPassState;
+use aes::KnownBlock;
 use octets::{Fault, Nonce, Tag};
 
 // The encryption key of a message of AES-GCM-SIV, with its suite and nonce.
@@ -171,7 +172,11 @@ impl<'a> Opener<'a> {
     {
         let (keys, mut state) = (self.keys, self.state);
         match state.begin_second_pass(&keys.keys()) {
-            Ok(()) => Ok(OpenWriter { keys, state }),
+            Ok(()) => Ok(OpenWriter {
+                keys,
+                state,
+                known: KnownBlock::none(),
+            }),
             Err(fault) => Err(fault),
         }
     }
@@ -182,6 +187,8 @@ impl<'a> Opener<'a> {
 pub struct OpenWriter<'a> {
     keys: OpenerKeys<'a>,
     state: TwoPassState,
+    // The block of AES that the ciphertext ends inside.
+    known: KnownBlock,
 }
 
 impl<'a> OpenWriter<'a> {
@@ -206,6 +213,7 @@ impl<'a> OpenWriter<'a> {
             Ok(keys) => Ok(OpenWriter {
                 keys,
                 state: *state,
+                known: KnownBlock::none(),
             }),
             Err(fault) => Err(fault),
         }
@@ -233,7 +241,7 @@ impl<'a> OpenWriter<'a> {
         ensures kept { OnErr result ((self.new ≡ self.old) × (piece.new ≡ piece.old)) }
         ensures fault { MatchResult result (λ _. Unit {0}) (λ e. e ≡ Fault.SourceChanged) }
     {
-        self.state.open(&self.keys.keys(), piece)
+        self.state.open(&self.keys.keys(), &mut self.known, piece)
     }
 
     /// Returns `Ok` if what the second pass took in is the ciphertext of the sealing, else `SourceChanged`: what `update` gave is

@@ -16,6 +16,7 @@ use crate::hashes::{HashKeys, TagHash, last_block};
 use crate::keys::MessageKeys;
 use crate::mask::MaskStream;
 use crate::taken_text::take_text;
+use aes::KnownBlock;
 use octets::{Block, Fault, Tag, same};
 
 // 2^64.
@@ -67,6 +68,7 @@ impl Sum {
 
 impl PassState {
     ghost use Rattle.aead.specs.PassStates.{zero_state, IsHashKey, IsStart, HoldsNumbers, HoldsState};
+    ghost use Rattle.aead.specs.KeyedPasses.{KnowsCipherOf};
     ghost use Rattle.aead.specs.KeyedPieces.{FitsIn};
     ghost use Rattle.aead.specs.Code.Masks.{hashed_by};
     ghost use Rattle.aead.specs.Code.MessageKeys.{construction_by, AreKeysOf};
@@ -199,6 +201,11 @@ impl PassState {
         ensures masks { (s : Setting) (tag fed : List ℕ) → K.serves keys.now s
             → S.made mask.old s tag self.old.length
             → MasksPiece (hashed_by order) self.old self.new piece.old piece.new s tag fed }
+        ensures mask { (s : Setting) (tag fed : List ℕ) → K.serves keys.now s
+            → S.made mask.old s tag self.old.length → self.old.length ≡ length fed
+            → self.old.length + length piece.old ≤ text_limit s.suite
+            → HoldsNumbers self.old s (hashed_by order (mask_of s tag) fed)
+            → S.made mask.new s tag (length (fed ++ piece.old)) }
         ensures length { self.new.length ≡ self.old.length + length piece.old }
     {
         let mut taken = self.taken(keys);
@@ -277,24 +284,30 @@ impl PassState {
 
     // ---- a text that is sealed in one reading
 
-    // Adds a piece to the text, and leaves its ciphertext in its place. `TextTooLong` if the text would be past its limit: state
-    // and piece are then as they were.
+    // Adds a piece to the text, and leaves its ciphertext in its place. `TextTooLong` if the text would be past its limit: then
+    // nothing changes.
     #[inline(always)]
-    pub(crate) fn seal(&mut self, keys: &MessageKeys, piece: &mut [u8]) -> Result<(), Fault>
+    pub(crate) fn seal(
+        &mut self,
+        keys: &MessageKeys,
+        known: &mut KnownBlock,
+        piece: &mut [u8],
+    ) -> Result<(), Fault>
         ensures answer { (s : Setting) (text : List ℕ) → AreKeysOf keys.now s
-            → is_one_pass (construction_of s.suite) ≡ true → HoldsState self.old s text → MatchResult result
+            → is_one_pass (construction_of s.suite) ≡ true → HoldsState self.old s text → KnowsCipherOf known.old s
+            → MatchResult result
             (λ _. HoldsState self.new s (text ++ piece.old)
             × ((tag : List ℕ) → piece.new ≡ masked (mask_of s tag) (length text) piece.old)
-            × (length (text ++ piece.old) ≤ text_limit s.suite))
+            × (length (text ++ piece.old) ≤ text_limit s.suite) × KnowsCipherOf known.new s)
             (λ e. SealRefused s (text ++ piece.old) e) }
-        ensures kept { OnErr result ((self.new ≡ self.old) × (piece.new ≡ piece.old)) }
+        ensures kept { OnErr result ((self.new ≡ self.old) × (piece.new ≡ piece.old) × (known.new ≡ known.old)) }
         ensures fault { FitsIn Fault.TextTooLong result self.old.length (length piece.old)
             (text_limit_by (construction_by keys.now.cipher)) }
     {
         if !self.has_room(keys.text_limit(), piece) {
             return Err(Fault::TextTooLong);
         }
-        keys.mask(self, Order::MaskFirst, &[0; 16], piece);
+        keys.mask(self, known, Order::MaskFirst, &[0; 16], piece);
         Ok(())
     }
 }

@@ -14,6 +14,7 @@ use crate::aead::Aead;
 use crate::any::AnyOnePass;
 use crate::keys::MessageKeys;
 use crate::pass_state::PassState;
+use aes::KnownBlock;
 use octets::{Fault, Nonce, Tag};
 
 /// A text that is sealed piece by piece in one reading: the keys that a cipher lends, a nonce, and the numbers of what was
@@ -22,6 +23,8 @@ use octets::{Fault, Nonce, Tag};
 pub struct Sealer<'a> {
     keys: MessageKeys<'a>,
     state: PassState,
+    // The block of AES that the text ends inside.
+    known: KnownBlock,
 }
 
 impl<'a> Sealer<'a> {
@@ -40,6 +43,7 @@ impl<'a> Sealer<'a> {
         Ok(Sealer {
             keys: cipher.keys(nonce),
             state: cipher.begun(nonce, aad),
+            known: KnownBlock::none(),
         })
     }
 
@@ -64,6 +68,7 @@ impl<'a> Sealer<'a> {
         Ok(Sealer {
             keys: cipher.keys(nonce),
             state: *state,
+            known: KnownBlock::none(),
         })
     }
 
@@ -85,7 +90,7 @@ impl<'a> Sealer<'a> {
         ensures kept { OnErr result ((self.new ≡ self.old) × (piece.new ≡ piece.old)) }
         ensures fault { MatchResult result (λ _. Unit {0}) (λ e. e ≡ Fault.TextTooLong) }
     {
-        self.state.seal(&self.keys, piece)
+        self.state.seal(&self.keys, &mut self.known, piece)
     }
 
     /// Returns the tag of the text, 16 bytes. Consumes the state.

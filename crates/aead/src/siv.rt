@@ -13,6 +13,7 @@ use crate::aead::Aead;
 use crate::gcm_siv::GcmSiv;
 use crate::siv_keys::SivKeys;
 use crate::two_pass_state::TwoPassState;
+use aes::KnownBlock;
 use octets::{Fault, Nonce, Tag};
 
 /// The first reading of a text that is sealed by AES-GCM-SIV.
@@ -85,7 +86,14 @@ impl SivAbsorb {
     {
         let SivAbsorb { keys, mut state } = self;
         let tag = state.begin_second_reading(&keys.keys());
-        (tag, SivWriter { keys, state })
+        (
+            tag,
+            SivWriter {
+                keys,
+                state,
+                known: KnownBlock::none(),
+            },
+        )
     }
 }
 
@@ -94,6 +102,8 @@ impl SivAbsorb {
 pub struct SivWriter {
     keys: SivKeys,
     state: TwoPassState,
+    // The block of AES that the second text ends inside.
+    known: KnownBlock,
 }
 
 impl SivWriter {
@@ -112,6 +122,7 @@ impl SivWriter {
             Ok(keys) => Ok(SivWriter {
                 keys,
                 state: *state,
+                known: KnownBlock::none(),
             }),
             Err(fault) => Err(fault),
         }
@@ -136,7 +147,7 @@ impl SivWriter {
         ensures kept { OnErr result ((self.new ≡ self.old) × (piece.new ≡ piece.old)) }
         ensures fault { MatchResult result (λ _. Unit {0}) (λ e. e ≡ Fault.SourceChanged) }
     {
-        self.state.write(&self.keys.keys(), piece)
+        self.state.write(&self.keys.keys(), &mut self.known, piece)
     }
 
     /// Returns `Ok` if the second text has the length and the tag of the first, else `SourceChanged`.

@@ -8,7 +8,7 @@ ghost use Rattle.aead.specs.Sealing.{Setting, authentication_key, encryption_key
 ghost use Rattle.aead.specs.PassStates.{IsHashKey, HoldsNumbers};
 ghost use Rattle.aead.specs.Code.Masks.{hashed_by};
 ghost use Rattle.aead.specs.Code.MessageKeys.{AreSivKeys};
-ghost use Rattle.aead.specs.Code.PassSteps.{MasksPiece, TakesPiece, TakesPieceText};
+ghost use Rattle.aead.specs.Code.PassSteps.{MasksPieceKnowing, TakesPiece, TakesPieceText};
 
 use crate::beside::Order;
 use crate::derived_keys::{expanded, joined};
@@ -17,7 +17,7 @@ use crate::hashes::PolyvalKeys;
 use crate::keys::{AesKeys, ExpandedKey, KeyBytes};
 use crate::multiples::{Multiples, worth};
 use crate::pass_state::PassState;
-use aes::AesKey;
+use aes::{AesKey, KnownBlock};
 use gf128::{Keyed128, TableMul, WideMul};
 use octets::{Block, Nonce, Tag};
 
@@ -91,13 +91,15 @@ fn mask_by<M: Keyed128>(
     key: &AesKey,
     nonce: &Nonce,
     tag: &[u8; 16],
+    known: &mut KnownBlock,
     order: Order,
     piece: &mut [u8],
 )
     requires { state.old.length + length piece.old ≤ 2 ^ 36 }
     ensures { (s : Setting) (fed : List ℕ) → construction_of s.suite ≡ ByGcmSiv
         → key.now ≡ encryption_key s.key s.nonce → nonce.now ≡ s.nonce
-        → MasksPiece (hashed_by order) state.old state.new piece.old piece.new s tag.now fed }
+        → MasksPieceKnowing (hashed_by order) state.old state.new known.old known.new piece.old piece.new
+        (encryption_key s.key s.nonce) s tag.now fed }
 {
     let mut multiplier = M::none();
     multiplier.set(&state.multiplier_key());
@@ -106,8 +108,9 @@ fn mask_by<M: Keyed128>(
         key,
         nonce,
     };
-    let mut mask = mask_at(key, tag, state.length);
+    let mut mask = mask_at(key, tag, state.length, known);
     state.step(&keys, &mut mask, order, piece);
+    *known = mask.known_block();
 }
 
 // Masks and authenticates a piece by the bytes of a key, whose schedule stands on the stack of this call alone.
@@ -117,18 +120,20 @@ fn mask_anew(
     bytes: KeyBytes,
     nonce: &Nonce,
     tag: &[u8; 16],
+    known: &mut KnownBlock,
     order: Order,
     piece: &mut [u8],
 )
     requires { state.old.length + length piece.old ≤ 2 ^ 36 }
     ensures { (s : Setting) (fed : List ℕ) → construction_of s.suite ≡ ByGcmSiv
         → AreSivKeys (AesKeys.Bytes bytes.entry) s → nonce.now ≡ s.nonce
-        → MasksPiece (hashed_by order) state.old state.new piece.old piece.new s tag.now fed }
+        → MasksPieceKnowing (hashed_by order) state.old state.new known.old known.new piece.old piece.new
+        (encryption_key s.key s.nonce) s tag.now fed }
 {
     let key = bytes.schedule();
     match worth(piece.len() as u64) {
-        Multiples::Few => mask_by::<TableMul>(state, &key, nonce, tag, order, piece),
-        Multiples::OfFourPowers => mask_by::<WideMul>(state, &key, nonce, tag, order, piece),
+        Multiples::Few => mask_by::<TableMul>(state, &key, nonce, tag, known, order, piece),
+        Multiples::OfFourPowers => mask_by::<WideMul>(state, &key, nonce, tag, known, order, piece),
     }
 }
 
@@ -138,13 +143,15 @@ fn mask_expanded(
     keys: ExpandedKey,
     nonce: &Nonce,
     tag: &[u8; 16],
+    known: &mut KnownBlock,
     order: Order,
     piece: &mut [u8],
 )
     requires { state.old.length + length piece.old ≤ 2 ^ 36 }
     ensures { (s : Setting) (fed : List ℕ) → construction_of s.suite ≡ ByGcmSiv
         → AreSivKeys (AesKeys.Expanded keys.entry) s → nonce.now ≡ s.nonce
-        → MasksPiece (hashed_by order) state.old state.new piece.old piece.new s tag.now fed }
+        → MasksPieceKnowing (hashed_by order) state.old state.new known.old known.new piece.old piece.new
+        (encryption_key s.key s.nonce) s tag.now fed }
 {
     match worth(piece.len() as u64) {
         Multiples::Few => {
@@ -153,10 +160,13 @@ fn mask_expanded(
                 key: keys.key,
                 nonce,
             };
-            let mut mask = mask_at(keys.key, tag, state.length);
+            let mut mask = mask_at(keys.key, tag, state.length, known);
             state.step(&hash_keys, &mut mask, order, piece);
+            *known = mask.known_block();
         }
-        Multiples::OfFourPowers => { mask_by::<WideMul>(state, keys.key, nonce, tag, order, piece) }
+        Multiples::OfFourPowers => {
+            mask_by::<WideMul>(state, keys.key, nonce, tag, known, order, piece)
+        }
     }
 }
 
@@ -167,17 +177,19 @@ pub(crate) fn mask(
     keys: AesKeys,
     nonce: &Nonce,
     tag: &[u8; 16],
+    known: &mut KnownBlock,
     order: Order,
     piece: &mut [u8],
 )
     requires { state.old.length + length piece.old ≤ 2 ^ 36 }
     ensures { (s : Setting) (fed : List ℕ) → construction_of s.suite ≡ ByGcmSiv → AreSivKeys keys.entry s
         → nonce.now ≡ s.nonce
-        → MasksPiece (hashed_by order) state.old state.new piece.old piece.new s tag.now fed }
+        → MasksPieceKnowing (hashed_by order) state.old state.new known.old known.new piece.old piece.new
+        (encryption_key s.key s.nonce) s tag.now fed }
 {
     match keys {
-        AesKeys::Expanded(keys) => mask_expanded(state, keys, nonce, tag, order, piece),
-        AesKeys::Bytes(bytes) => mask_anew(state, bytes, nonce, tag, order, piece),
+        AesKeys::Expanded(keys) => mask_expanded(state, keys, nonce, tag, known, order, piece),
+        AesKeys::Bytes(bytes) => mask_anew(state, bytes, nonce, tag, known, order, piece),
     }
 }
 
@@ -269,7 +281,7 @@ fn take_text_by<M: Keyed128>(
         key,
         nonce,
     };
-    let mut mask = mask_at(key, tag, state.length);
+    let mut mask = mask_at(key, tag, state.length, &KnownBlock::none());
     state.take_text(&keys, &mut mask, piece);
 }
 

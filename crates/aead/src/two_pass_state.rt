@@ -12,6 +12,7 @@ ghost use Rattle.aead.specs.PassStates.{HoldsNumbers, IsStart};
 use crate::beside::Order;
 use crate::keys::MessageKeys;
 use crate::pass_state::{PassState, Sum};
+use aes::KnownBlock;
 use octets::{Fault, Tag, same};
 
 /// What a sealing by two readings under AES-GCM-SIV, or an opening in two passes under any suite, has taken in, as plain
@@ -32,6 +33,7 @@ pub struct TwoPassState {
 }
 
 impl TwoPassState {
+    ghost use Rattle.aead.specs.KeyedPasses.{KnowsCipherOf};
     ghost use Rattle.aead.specs.KeyedPieces.{zero_passes, FitsIn};
     ghost use Rattle.aead.specs.Code.MessageKeys.{construction_by, AreKeysOf};
     ghost use Rattle.aead.specs.Pieces.{IsInFirstReading, IsInSecondReading, Repeats};
@@ -120,14 +122,19 @@ impl TwoPassState {
     // Adds a piece to the text in the second reading, and leaves its ciphertext in its place. `SourceChanged` if that text would be
     // longer than the first: state and piece are then as they were.
     #[inline(always)]
-    pub(crate) fn write(&mut self, keys: &MessageKeys, piece: &mut [u8]) -> Result<(), Fault>
+    pub(crate) fn write(
+        &mut self,
+        keys: &MessageKeys,
+        known: &mut KnownBlock,
+        piece: &mut [u8],
+    ) -> Result<(), Fault>
         ensures answer { (s : Setting) (first text : List ℕ) → AreKeysOf keys.now s
-            → IsInSecondReading self.old s first text → MatchResult result
+            → IsInSecondReading self.old s first text → KnowsCipherOf known.old s → MatchResult result
             (λ _. IsInSecondReading self.new s first (text ++ piece.old)
             × (piece.new ≡ masked (mask_of s (tag_of s first)) (length text) piece.old)
-            × (length text + length piece.old ≤ length first))
+            × (length text + length piece.old ≤ length first) × KnowsCipherOf known.new s)
             (λ e. (e ≡ Fault.SourceChanged) × (length first < length text + length piece.old)) }
-        ensures kept { OnErr result ((self.new ≡ self.old) × (piece.new ≡ piece.old)) }
+        ensures kept { OnErr result ((self.new ≡ self.old) × (piece.new ≡ piece.old) × (known.new ≡ known.old)) }
         ensures fault { MatchResult result (λ _. Unit {0}) (λ e. e ≡ Fault.SourceChanged) }
     {
         let limit = self.first.min(keys.text_limit());
@@ -135,7 +142,7 @@ impl TwoPassState {
             return Err(Fault::SourceChanged);
         }
         let tag = self.tag;
-        keys.mask(&mut self.pass, Order::HashFirst, &tag, piece);
+        keys.mask(&mut self.pass, known, Order::HashFirst, &tag, piece);
         Ok(())
     }
 
@@ -206,14 +213,19 @@ impl TwoPassState {
     // Takes in a piece of the ciphertext in the second pass, and leaves its text in its place. `SourceChanged` if the second pass
     // would be longer than the first: state and piece are then as they were.
     #[inline(always)]
-    pub(crate) fn open(&mut self, keys: &MessageKeys, piece: &mut [u8]) -> Result<(), Fault>
+    pub(crate) fn open(
+        &mut self,
+        keys: &MessageKeys,
+        known: &mut KnownBlock,
+        piece: &mut [u8],
+    ) -> Result<(), Fault>
         ensures answer { (s : Setting) (tag : List ℕ) (first : ℕ) (body : List ℕ) → AreKeysOf keys.now s
-            → MasksByBytes s → IsInSecondPass self.old s tag first body → MatchResult result
+            → MasksByBytes s → IsInSecondPass self.old s tag first body → KnowsCipherOf known.old s → MatchResult result
             (λ _. IsInSecondPass self.new s tag first (body ++ piece.old)
             × (piece.new ≡ masked (mask_of s tag) (length body) piece.old) × WasOverASealing s tag first
-            × (length (body ++ piece.old) ≤ first))
+            × (length (body ++ piece.old) ≤ first) × KnowsCipherOf known.new s)
             (λ e. (e ≡ Fault.SourceChanged) × (first < length (body ++ piece.old))) }
-        ensures kept { OnErr result ((self.new ≡ self.old) × (piece.new ≡ piece.old)) }
+        ensures kept { OnErr result ((self.new ≡ self.old) × (piece.new ≡ piece.old) × (known.new ≡ known.old)) }
         ensures fault { MatchResult result (λ _. Unit {0}) (λ e. e ≡ Fault.SourceChanged) }
     {
         let limit = keys.text_limit().min(self.first);
@@ -221,7 +233,7 @@ impl TwoPassState {
             return Err(Fault::SourceChanged);
         }
         let tag = self.tag;
-        keys.open(&mut self.pass, &tag, piece);
+        keys.open(&mut self.pass, known, &tag, piece);
         Ok(())
     }
 

@@ -13,7 +13,7 @@ use crate::key::{AesKey, KeptKey};
 use crate::key_planes::KeyPlanes;
 use crate::planes::Planes;
 use byteorder::{BigEndian, ByteOrder, LittleEndian};
-use octets::{Block, Stream, WIDE, xor_into};
+use octets::{Block, Stream, WIDE, same, xor_into};
 use std::marker::PhantomData;
 
 /// The law of counting blocks (SP 800-38D, 6.2; RFC 8452, 4): 0 steps lead from a block of 16 bytes to
@@ -123,6 +123,42 @@ impl Count for FirstFour {
     fn counts_in_nibble() {}
 }
 
+/// A counter block whose cipher is known, or none: a stream that goes on inside that block need not encrypt it again. As secret as
+/// the text there, since it is what the text is XORed with.
+#[derive(Clone, Copy)]
+pub struct KnownBlock {
+    block: [u8; 16],
+    cipher: [u8; 16],
+    is_known: bool,
+}
+
+impl KnownBlock {
+    ghost use Rattle.aes.specs.Cipher.{cipher};
+    ghost use Rattle.aes.specs.Code.Streams.{KnowsCipher};
+
+    /// No block.
+    #[inline(always)]
+    pub fn none() -> KnownBlock
+        ensures { (key : List ℕ) → KnowsCipher result key }
+    {
+        KnownBlock {
+            block: [0; 16],
+            cipher: [0; 16],
+            is_known: false,
+        }
+    }
+
+    // Returns the cipher of a block, which is encrypted unless it is this one.
+    fn encrypt(&self, key: &AesKey, block: &Block) -> Block
+        ensures { KnowsCipher self.now key.now → result ≡ cipher key.now block.now }
+    {
+        if self.is_known && same(&self.block, block.bytes()) {
+            return Block::new(self.cipher);
+        }
+        key.encrypt(block)
+    }
+}
+
 // The shortest text, in bytes, for which making the round keys in planes pays.
 const PLANES_PAY: usize = if WIDE { 193 } else { 97 };
 
@@ -160,7 +196,7 @@ struct Counter<C> {
 }
 
 impl<C: Count> Counter<C> {
-    ghost use Rattle.aes.specs.Code.Streams.{Makes, Advances, AdvancesFront};
+    ghost use Rattle.aes.specs.Code.Streams.{Makes, Advances, AdvancesFront, KnowsCipher};
     ghost use Rattle.aes.specs.Code.Lanes.{IsReady};
     ghost use Rattle.aes.specs.Code.Planes.{AreReady, AreMasks, HoldsSixteen};
     ghost use Rattle.aes.specs.Schedule.{schedule, round_count};
@@ -180,15 +216,15 @@ impl<C: Count> Counter<C> {
     }
 
     // The state of the stream after its first `position` bytes.
-    fn at(key: &AesKey, first: &Block, position: u64) -> Counter<C>
+    fn at(key: &AesKey, first: &Block, position: u64, known: &KnownBlock) -> Counter<C>
         requires { position < 2 ^ 63 }
-        ensures { Makes C.up result key.now first.now position }
+        ensures { KnowsCipher known.now key.now → Makes C.up result key.now first.now position }
     {
         let used = (position % 16) as usize;
         let mask = if used == 0 {
             *first
         } else {
-            key.encrypt(&C::block(first, (position / 16 % 0x1_0000_0000) as u32))
+            known.encrypt(key, &C::block(first, (position / 16 % 0x1_0000_0000) as u32))
         };
         Counter {
             first: *first,
@@ -439,7 +475,7 @@ pub type CtrBe<K> = Ctr<LastFour, K>;
 pub type CtrLe<K> = Ctr<FirstFour, K>;
 
 impl<C: Count, K: KeptKey> Ctr<C, K> {
-    ghost use Rattle.aes.specs.Code.Streams.{Holds};
+    ghost use Rattle.aes.specs.Code.Streams.{Holds, KnowsCipher};
 
     /// Makes the stream whose first block is the cipher of `first`, under a key that it owns or borrows.
     ///
@@ -464,8 +500,32 @@ impl<C: Count, K: KeptKey> Ctr<C, K> {
         requires { position < 2 ^ 63 }
         ensures { Holds C.up K.bytes result (K.bytes key) first.now position }
     {
-        let counter = Counter::at(key.kept(), first, position);
+        Ctr::at_known(key, first, position, &KnownBlock::none())
+    }
+
+    /// Makes the stream as [`Ctr::at`] does, by a block whose cipher is known under this key: if `position` is inside that
+    /// block, nothing is encrypted.
+    pub fn at_known(key: K, first: &Block, position: u64, known: &KnownBlock) -> Ctr<C, K>
+        requires { position < 2 ^ 63 }
+        ensures { KnowsCipher known.now (K.bytes key) → Holds C.up K.bytes result (K.bytes key) first.now position }
+    {
+        let counter = Counter::at(key.kept(), first, position, known);
         Ctr { key, counter }
+    }
+
+    /// Returns the block that the stream stands inside, or none if it stands between two blocks.
+    #[inline(always)]
+    pub fn known_block(&self) -> KnownBlock
+        ensures { (key first : List ℕ) (position : ℕ) → Holds C.up K.bytes self.now key first position
+            → KnowsCipher result key }
+    {
+        let counter = &self.counter;
+        let block = C::block(&counter.first, counter.block_count.wrapping_sub(1));
+        KnownBlock {
+            block: *block.bytes(),
+            cipher: *counter.mask.bytes(),
+            is_known: counter.used != 0,
+        }
     }
 
     /// XORs the next bytes of the stream into `bytes`, of any length. The result does not depend on how a text is split into

@@ -32,7 +32,7 @@ mod uses;
 
 pub use cipher::is_permutation;
 pub use columns::round;
-pub use counter::{Ctr, CtrBe, CtrLe, blocks_count_on};
+pub use counter::{Ctr, CtrBe, CtrLe, KnownBlock, blocks_count_on};
 pub use inverse_key::InverseKey;
 pub use key::{AesKey, KeptKey};
 pub use sbox::inverse_is_the_only;

@@ -1,10 +1,11 @@
 -- The states of the counter streams.
-use Rattle.std.specs.Prelude.{◌≡◌, ℕ, ◌+◌, ◌/◌, ◌%◌, ◌^◌, ◌<◌, ◌≤◌, List, length, take, drop}
+use Rattle.std.specs.Prelude.{◌≡◌, ℕ, ◌+◌, ◌/◌, ◌%◌, ◌^◌, ◌<◌, ◌≤◌, List, length, take, drop, true}
 use Rattle.octets.specs.Masked.{masked}
 use Rattle.aes.specs.Cipher.{cipher}
 use Rattle.aes.specs.Counters.{counter_byte}
 use Rattle.aes.specs.declared.counter.Counter.{Counter}
 use Rattle.aes.specs.declared.counter.Ctr.{Ctr}
+use Rattle.aes.specs.declared.counter.KnownBlock.{KnownBlock}
 
 -- s has produced this many bytes of the stream that begins with the first block, under the key: it counts the blocks of these
 -- bytes modulo 2^32, and if the last block is not used up, it holds the cipher of that block
@@ -14,6 +15,10 @@ pub record Makes {C : Type 0} (up : List ℕ → ℕ → List ℕ) (s : Counter 
   pub block_count_is : s.block_count ≡ (position + 15) / 16 % 2 ^ 32
   pub used_is : s.used ≡ position % 16
   pub mask_is : 0 < position % 16 → s.mask ≡ cipher key (up first (position / 16))
+
+-- the block that b knows, if it knows one, has this cipher under the key
+abbrev pub KnowsCipher : KnownBlock → (key : List ℕ) → Type 0
+KnowsCipher b key = b.is_known ≡ true → b.cipher ≡ cipher key b.block
 
 -- s becomes t, and was becomes now: after any number of bytes that s has produced under the key, the next ones are XORed in,
 -- and t has produced these too

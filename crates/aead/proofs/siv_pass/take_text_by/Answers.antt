@@ -10,4 +10,5 @@ returns g c = λ s fed by key nonce long fits h.
     let hash = subst (λ (x : Construction). IsHashKey x c.args.state.now.hash_key s) by h.hash_key_is in
     let serves = subst (λ (k : List ℕ). Serves Reversed (authentication_key s.key s.nonce) k)
     (sym (c.set.ensures ∙ c.multiplier_key.ensures)) hash.0 in
-    c.take_text.ensures.takes s c.args.tag.now fed (by, serves, key, nonce) (c.mask_at-mask.ensures s by key) long fits h
+    c.take_text.ensures.takes s c.args.tag.now fed (by, serves, key, nonce) (c.mask_at-mask.ensures s by key (c.none.ensures _))
+    long fits h

@@ -7,7 +7,8 @@ use Rattle.aead.proofs.keyed_opener.KeyedOpener.update.Goals as goal
 pub returns-clause-answer : goal.returns-clause-answer
 returns-clause-answer c = λ s tag first body same h.
     MatchResult-weaker c.open.result
-    (c.open.ensures.answer s tag first body (c.keys.ensures.keys s same h.keys) h.bytes h.state)
+    (c.open.ensures.answer s tag first body (c.keys.ensures.keys s same h.keys) h.bytes h.state
+    (c.none-known.ensures _))
     (λ _ m. (record { keys = h.keys; bytes = h.bytes; state = m.0 }, m.1, m.2)) (λ _ e. e)
 
 pub returns-clause-kept : goal.returns-clause-kept

@@ -8,7 +8,8 @@ use Rattle.aead.proofs.keyed_sealer.KeyedSealer.update.Goals as goal
 pub returns-clause-answer : goal.returns-clause-answer
 returns-clause-answer c = λ s text same h.
     MatchResult-weaker c.seal.result
-    (c.seal.ensures.answer s text (c.keys.ensures.keys s same h.keys) h.one_pass h.state)
+    (c.seal.ensures.answer s text (c.keys.ensures.keys s same h.keys) h.one_pass h.state
+    (c.none-known.ensures _))
     (λ _ m. (record { one_pass = h.one_pass; keys = h.keys; state = m.0 }, m.1)) (λ _ e. e)
 
 pub returns-clause-kept : goal.returns-clause-kept

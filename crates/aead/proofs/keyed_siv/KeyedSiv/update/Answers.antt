@@ -7,7 +7,7 @@ use Rattle.aead.proofs.keyed_siv.KeyedSiv.update.Goals as goal
 pub returns-clause-answer : goal.returns-clause-answer
 returns-clause-answer c = λ s first text same h.
     MatchResult-weaker c.write.result
-    (c.write.ensures.answer s first text (c.keys.ensures.keys s same h.keys) h.state)
+    (c.write.ensures.answer s first text (c.keys.ensures.keys s same h.keys) h.state (c.none-known.ensures _))
     (λ _ m. (record { by_gcm_siv = h.by_gcm_siv; keys = h.keys; state = m.0 }, m.1))
     (λ _ e. (e.0, omega (arith, length-append text c.args.piece.now, e.1)))
 

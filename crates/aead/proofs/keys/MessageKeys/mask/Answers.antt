@@ -1,6 +1,9 @@
-use Rattle.std.proofs.Common.{ap, arith, subst, ◌∙◌}
+use Rattle.std.proofs.Common.{ap, arith, subst, sym, ◌∙◌}
+use Rattle.aes.specs.declared.counter.KnownBlock.{KnownBlock}
+use Rattle.aes.specs.Code.Streams.{KnowsCipher}
 use Rattle.aead.specs.declared.keys.CipherKeys.{CipherKeys}
-use Rattle.aead.specs.Suites.{text_limit_by}
+use Rattle.aead.specs.Suites.{Construction, text_limit_by}
+use Rattle.aead.specs.KeyedPasses.{cipher_key}
 use Rattle.aead.specs.Code.MessageKeys.{construction_by, AreCipherKeys}
 use Rattle.aead.proofs.keys.MessageKeys.mask.Goals as goal
 
@@ -17,18 +20,26 @@ mask-requires-in-Siv c =
     omega (arith, c.requires, ap (λ (x : CipherKeys). text_limit_by (construction_by x)) c.in-Siv.is)
 
 pub returns-in-ChaCha : goal.returns-in-ChaCha
-returns-in-ChaCha c = λ s fed k.
+returns-in-ChaCha c = λ s fed k long fits h knows.
     let own = subst (λ (x : CipherKeys). AreCipherKeys x s) c.in-ChaCha.is k.cipher in
-    c.mask_chacha.ensures s c.args.tag.now fed (k.by ∙ ap construction_by c.in-ChaCha.is) own
-    (c.new-nonce.ensures.value ∙ k.nonce_is)
+    let m = c.mask_chacha.ensures s c.args.tag.now fed (k.by ∙ ap construction_by c.in-ChaCha.is) own
+    (c.new-nonce.ensures.value ∙ k.nonce_is) long fits h in
+    (m.0, m.1, knows)
 
 pub returns-in-Gcm : goal.returns-in-Gcm
-returns-in-Gcm c = λ s fed k.
+returns-in-Gcm c = λ s fed k long fits h knows.
     let own = subst (λ (x : CipherKeys). AreCipherKeys x s) c.in-Gcm.is k.cipher in
-    c.mask.ensures s c.args.tag.now fed (k.by ∙ ap construction_by c.in-Gcm.is) own
-    (c.new-nonce.ensures.value ∙ k.nonce_is)
+    let by = k.by ∙ ap construction_by c.in-Gcm.is in
+    let under = λ (b : KnownBlock) (x : Construction). KnowsCipher b (cipher_key x s) in
+    let m = c.mask.ensures s c.args.tag.now fed by own (c.new-nonce.ensures.value ∙ k.nonce_is) long fits h
+    (subst (under c.args.known.now) by knows) in
+    (m.0, m.1, subst (under c.mask.new.known) (sym by) m.2)
 
 pub returns-in-Siv : goal.returns-in-Siv
-returns-in-Siv c = λ s fed k.
+returns-in-Siv c = λ s fed k long fits h knows.
     let own = subst (λ (x : CipherKeys). AreCipherKeys x s) c.in-Siv.is k.cipher in
-    c.mask-in-Siv.ensures s fed (k.by ∙ ap construction_by c.in-Siv.is) own (c.new-nonce.ensures.value ∙ k.nonce_is)
+    let by = k.by ∙ ap construction_by c.in-Siv.is in
+    let under = λ (b : KnownBlock) (x : Construction). KnowsCipher b (cipher_key x s) in
+    let m = c.mask-in-Siv.ensures s fed by own (c.new-nonce.ensures.value ∙ k.nonce_is) long fits h
+    (subst (under c.args.known.now) by knows) in
+    (m.0, m.1, subst (under c.mask-in-Siv.new.known) (sym by) m.2)

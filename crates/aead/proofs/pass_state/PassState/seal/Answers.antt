@@ -6,7 +6,7 @@ use Rattle.aead.proofs.KeyedPieces.{any_tag, text_length}
 use Rattle.aead.proofs.pass_state.PassState.seal.Goals as goal
 
 pub returns-then-not-has_room-clause-answer : goal.returns-then-not-has_room-clause-answer
-returns-then-not-has_room-clause-answer c = λ s text k one h. (
+returns-then-not-has_room-clause-answer c = λ s text k one h _. (
   (h []).fits.aad_fits,
   omega (
     arith,
@@ -19,14 +19,15 @@ returns-then-not-has_room-clause-answer c = λ s text k one h. (
 )
 
 pub returns-clause-answer : goal.returns-clause-answer
-returns-clause-answer c = λ s text k one h.
+returns-clause-answer c = λ s text k one h knows.
     let fits : c.args.self.now.length + length c.args.piece.now ≤ text_limit s.suite =
     omega (arith, ap text_limit_by k.by, c.text_limit.ensures, c.has_room.ensures.fits c.if-not-has_room.false) in
     let within : length (text ++ c.args.piece.now) ≤ text_limit s.suite =
     omega (arith, length-append text c.args.piece.now, text_length c.args.self.now s text h, fits) in
     let zeros = replicate 16 0 in
-    let m = c.mask.ensures s text k (text_length c.args.self.now s text h) fits (h zeros) in (
+    let m = c.mask.ensures s text k (text_length c.args.self.now s text h) fits (h zeros) knows in (
       any_tag _ s zeros (text ++ c.args.piece.now) one m.0,
       λ tag. m.1 ∙ ap (λ f. masked f (length text) c.args.piece.now) (same_mask s zeros tag one),
       within,
+      m.2,
     )

@@ -10,4 +10,5 @@ returns c =
       keys = (c.keys.ensures c.args.aad.now).0;
       one_pass = (c.keys.ensures c.args.aad.now).2;
       state = empty_text _ s c.begun.ensures;
+      known = c.none.ensures _;
     }

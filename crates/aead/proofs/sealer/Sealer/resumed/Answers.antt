@@ -14,7 +14,7 @@ returns-then-not-has_hash_key_of-clause-answer c =
 
 pub returns-clause-answer : goal.returns-clause-answer
 returns-clause-answer c = λ aad text h.
-    record { keys = (c.keys.ensures aad).0; one_pass = (c.keys.ensures aad).2; state = h }
+    record { keys = (c.keys.ensures aad).0; one_pass = (c.keys.ensures aad).2; state = h; known = c.none.ensures _ }
 
 pub returns-clause-key : goal.returns-clause-key
 returns-clause-key c =

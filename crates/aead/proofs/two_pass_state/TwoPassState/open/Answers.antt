@@ -4,6 +4,7 @@ use Rattle.octets.specs.Masked.{masked}
 use Rattle.octets.proofs.Masks.{masked_twice}
 use Rattle.aead.specs.Suites.{text_limit, text_limit_by}
 use Rattle.aead.specs.Sealing.{mask_of}
+use Rattle.aead.specs.KeyedPasses.{KnowsCipherOf}
 use Rattle.aead.specs.Pieces.{HasTakenIn}
 use Rattle.aead.proofs.ByteMasks.{masked_small}
 use Rattle.aead.proofs.KeyedPieces.{taken_length}
@@ -11,7 +12,7 @@ use Rattle.aead.proofs.Passing.{small-append}
 use Rattle.aead.proofs.two_pass_state.TwoPassState.open.Goals as goal
 
 pub returns-then-not-has_room-clause-answer : goal.returns-then-not-has_room-clause-answer
-returns-then-not-has_room-clause-answer c = λ s tag first body k bytes n. (
+returns-then-not-has_room-clause-answer c = λ s tag first body k bytes n _. (
   refl,
   omega (
     arith,
@@ -26,14 +27,14 @@ returns-then-not-has_room-clause-answer c = λ s tag first body k bytes n. (
 )
 
 pub returns-clause-answer : goal.returns-clause-answer
-returns-clause-answer c = λ s tag first body k bytes n.
+returns-clause-answer c = λ s tag first body k bytes n knows.
     let h = n.pass in
     let p = c.args.self.now.pass in
     let fits : p.length + length c.args.piece.now ≤ text_limit s.suite =
     omega (arith, ap text_limit_by k.by, c.text_limit.ensures, c.has_room.ensures.fits c.if-not-has_room.false) in
     let m = subst (λ (t : List ℕ). HasTakenIn c.open.new.state s t (body ++ c.args.piece.now)
-    × (c.open.new.piece ≡ masked (mask_of s t) (length body) c.args.piece.now)) h.tag_is
-    (c.open.ensures s body k fits (subst (λ (t : List ℕ). HasTakenIn p s t body) (sym h.tag_is) h.pass)) in
+    × (c.open.new.piece ≡ masked (mask_of s t) (length body) c.args.piece.now) × KnowsCipherOf c.open.new.known s) h.tag_is
+    (c.open.ensures s body k fits (subst (λ (t : List ℕ). HasTakenIn p s t body) (sym h.tag_is) h.pass) knows) in
     let mask : ℕ → ℕ = mask_of s tag in
     let at : ℕ = length body in
     let again : masked mask at c.open.new.piece ≡ c.args.piece.now =
@@ -65,4 +66,5 @@ returns-clause-answer c = λ s tag first body k bytes n.
       m.1,
       n.passed,
       within,
+      m.2,
     )

@@ -7,7 +7,7 @@ none : (n : ℕ) → 0 < n → n ≡ 0 → ⊥
 none n l e = omega (arith, l, e)
 
 pub returns : goal.returns
-returns g c = record {
+returns g c = λ knows. record {
   first_is = refl;
   block_count_is = refl;
   used_is = refl;
@@ -16,7 +16,7 @@ returns g c = record {
       let key = c.args.key.now in
       elim c.if-used-eq0.branch [
         | then-used-eq0 w ↦ absurd (none (c.args.position % 16) some w.if-used-eq0.true)
-        | else-used-eq0 w ↦ w.mask-is ∙ w.encrypt-mask.ensures.value ∙ ap (cipher key) (w.block.ensures
+        | else-used-eq0 w ↦ w.mask-is ∙ w.encrypt-mask.ensures knows ∙ ap (cipher key) (w.block.ensures
             ∙ g.met.C.Count.wraps first (c.args.position / 16))
       ];
 }
