@@ -16,12 +16,13 @@ use Rattle.aes.specs.Field.{times, sbox}
 use Rattle.aes.specs.Cipher.{at, grid, column, mix_column, sub_bytes, shift_rows, mix_columns, add_round_key}
 use Rattle.aes.specs.Code.Columns.{column_of, columns_of}
 use Rattle.aes.specs.Code.Lanes.{HasLanes, HoldsBlocks, HoldsInBasis, byte_of, key_byte, ready_byte}
-use Rattle.aes.specs.Code.Lanes.{row_source, row_below, row_above, in_basis, linear_sbox}
+use Rattle.aes.specs.Code.Lanes.{row_source, row_below, row_above, in_basis, linear_sbox, IsInBasis}
 use Rattle.aes.specs.Schedule.{round_count, schedule}
 use Rattle.aes.proofs.Expanded.{HasSchedule}
 use Rattle.aes.proofs.Tested.{all_below, all_below_at}
 use Rattle.aes.proofs.Multiples.{single_is, triple_is}
 use Rattle.aes.proofs.Rows.{dot_is}
+use Rattle.aes.proofs.ColumnWords.{column_small}
 use Rattle.aes.proofs.Sums.{times_xor, xor_exchange}
 use Rattle.aes.proofs.Steps.{sbox_small, times_small, sub_block, shift_block}
 use Rattle.aes.proofs.FourBlocks.{same_lanes, in_basis_xor, linear_small}
@@ -456,3 +457,41 @@ pub ready_same : (ws : List (List ℕ)) (key : List ℕ) (n i : ℕ) → HasSche
     → i < 16 → ready_byte ws n i ≡ ready_byte (schedule key) n i
 ready_same ws key n i has h l =
     ap (λ w. bit_xor (in_basis (get_or w (i % 4) 0)) 0x7c) (has (4 * n + i / 4) (omega arith))
+
+-- a byte of the first round key of k made ready is that of round key n of ws, if their words are equal
+pub ready_moved : (k ws : List (List ℕ)) (n i : ℕ) → i < 16
+    → ((c : ℕ) → c < 4 → get_or k c [] ≡ get_or ws (4 * n + c) []) → ready_byte k 0 i ≡ ready_byte ws n i
+ready_moved k ws n i l same =
+    let first : 4 * 0 + i / 4 ≡ i / 4 = omega arith in
+    ap (λ (j : ℕ). bit_xor (in_basis (get_or (get_or k j []) (i % 4) 0)) 0x7c) first
+    ∙ ap (λ w. bit_xor (in_basis (get_or w (i % 4) 0)) 0x7c) (same (i / 4) (omega arith))
+
+-- ---- one block, as four copies of it
+-- a vector with four copies of the lanes of a block in the basis holds four times that block in the basis
+pub copies_in_basis : (v x b : List ℕ) → HasLanes v (λ i. get_or x (i % 16) 0) → IsInBasis x b
+    → HoldsInBasis v (λ q. b)
+copies_in_basis v x b held is = same_lanes v held (λ i l. is.each (i % 16) (omega arith))
+
+-- the first sixteen lanes of a vector that holds four times a block in the basis hold the block in the basis
+pub first_in_basis : (x v b : List ℕ) → ((i : ℕ) → i < 16 → get_or x i 0 ≡ get_or v i 0)
+    → HoldsInBasis v (λ q. b) → IsInBasis x b
+first_in_basis x v b first held = record {
+  each = λ i l.
+      let own : i % 16 ≡ i = omega arith in
+      first i l ∙ held.each i (omega arith) ∙ ap (λ k. in_basis (get_or b k 0)) own;
+}
+
+-- the first sixteen lanes of a vector that holds four times a block are the block
+pub first_block : (x v b : List ℕ) → length x ≡ 16 → length b ≡ 16
+    → ((i : ℕ) → i < 16 → get_or x i 0 ≡ get_or v i 0) → HoldsBlocks v (λ q. b) → x ≡ b
+first_block x v b long size first held =
+    ext_get_or 0 x b (long ∙ sym size) (λ i l.
+    let within : i < 16 = omega (arith, long) in
+    let own : i % 16 ≡ i = omega arith in
+    first i within ∙ held.each i (omega arith) ∙ ap (λ k. get_or b k 0) own)
+
+-- the bytes of columns of words are bytes
+pub word_small : (ws : List ℕ) (k r : ℕ) → get_or (get_or (columns_of ws) k []) r 0 < 256
+word_small [] k r = omega arith
+word_small (w ∷ ws) zero r = column_small w r
+word_small (w ∷ ws) (suc k) r = word_small ws k r

@@ -14,7 +14,9 @@ use crate::columns::{add_key, last_round, load, round, round_key, store};
 use crate::inverse::unmix_words;
 use crate::inverse_key::InverseKey;
 use crate::key_planes::{KeyPlanes, ready_planes, unpack};
-use crate::lanes::{first_four, last_four, ready_keys, round_four, spread};
+use crate::lanes::{
+    first_four, first_one, last_four, last_one, ready_keys, round_four, round_one, spread,
+};
 use crate::planes::{self, BitPlanes, HalfPlanes, Planes, both_halves, lower, upper};
 use crate::schedule::expand;
 use octets::{Block, Fault, Key16, Key24, Key32, WIDE};
@@ -169,6 +171,22 @@ impl AesKey {
             state = next;
         }
         Block::new(store(last_round(state, round_key(&self.words, count))))
+    }
+
+    /// Returns the block of 16 bytes that the cipher takes `block` to, as `encrypt` does (FIPS 197, 5.1). It looks up no table
+    /// in memory: its tables of 16 bytes are vectors, as are the bytes that index them.
+    pub fn encrypt_in_registers(&self, block: &Block) -> Block
+        ensures value { result ≡ cipher self.now block.now }
+        ensures is_block { IsBlock result }
+        ensures is_key { IsKey self.now }
+    {
+        let count = self.size + 6;
+        let mut lanes = first_one(block.bytes(), round_key(&self.words, 0));
+        for done in 0..count - 1 {
+            let next = round_one(lanes, round_key(&self.words, done + 1));
+            lanes = next;
+        }
+        Block::new(last_one(lanes, round_key(&self.words, count)))
     }
 
     // The round keys in the basis that `encrypt_ready` uses.

@@ -102,7 +102,7 @@ fn key_bytes(words: &[u32; 60], round: usize) -> u8x16
     ensures long { length result ≡ 16 }
     ensures bytes { (i : ℕ) → i < 16 → slice_index result i ≡ word_byte (columns_of words.now) round i }
 {
-    u8x16::from_array(first_sixteen(spread_four(round_key(words, round))))
+    first_sixteen(spread_four(round_key(words, round)))
 }
 
 // Adds the constant of the S-box, which the S-box in planes leaves out, to each byte of a round key.

@@ -1,6 +1,6 @@
-//! Four blocks at once (FIPS 197, 5.1), with look-ups in tables of sixteen bytes. The tables are vectors: none is read from
-//! memory. The field of 256 elements is seen as an extension of its subfield of 16, so that an inverse takes five look-ups.
-//! 0x80 stands for the inverse of 0.
+//! Four blocks at once, or one (FIPS 197, 5.1), with look-ups in tables of sixteen bytes. The tables are vectors: none is read
+//! from memory. The field of 256 elements is seen as an extension of its subfield of 16, so that an inverse takes five
+//! look-ups. 0x80 stands for the inverse of 0.
 
 ghost use Rattle.std.specs.Prelude.{◌≡◌, ℕ, ◌%◌, ◌<◌, ◌≤◌, ◌/◌, List, [], slice_index, slice_index_or};
 ghost use Rattle.std.specs.Prelude.{length, bit_xor};
@@ -9,7 +9,7 @@ ghost use Rattle.aes.specs.Field.{times, sbox};
 ghost use Rattle.aes.specs.Cipher.{sub_bytes, shift_rows, mix_columns, add_round_key};
 ghost use Rattle.aes.specs.Code.Columns.{columns_of};
 ghost use Rattle.aes.specs.Code.Lanes.{HasLanes, IsPlace, entry, key_byte, row_source, row_below, row_above};
-ghost use Rattle.aes.specs.Code.Lanes.{in_basis, linear_sbox, HoldsBlocks, HoldsInBasis, ready_byte};
+ghost use Rattle.aes.specs.Code.Lanes.{in_basis, linear_sbox, HoldsBlocks, HoldsInBasis, IsInBasis, ready_byte};
 
 use crate::columns::round_key;
 use std::simd::prelude::*;
@@ -209,14 +209,21 @@ pub(crate) fn first_four(x: u8x64, key: u8x64) -> u8x64
 
 // The first sixteen lanes.
 #[inline(always)]
-pub(crate) fn first_sixteen(x: u8x64) -> [u8; 16]
+pub(crate) fn first_sixteen(x: u8x64) -> u8x16
     ensures { (i : ℕ) → i < 16 → slice_index result i ≡ slice_index x i }
 {
-    let first: u8x16 = x.swizzle([0, 1, 2, 3, 4, 5, 6, 7, 8, 9, 10, 11, 12, 13, 14, 15]);
-    first.to_array()
+    x.swizzle([0, 1, 2, 3, 4, 5, 6, 7, 8, 9, 10, 11, 12, 13, 14, 15])
 }
 
-// The round keys in the basis, with the constant of the S-box added, which `substitute` leaves out.
+// A round key in the basis, with the constant of the S-box added, which `substitute` leaves out.
+#[inline(always)]
+fn ready_key(key: [u32; 4]) -> [u8; 16]
+    ensures { (i : ℕ) → i < 16 → slice_index result i ≡ ready_byte (columns_of key) 0 i }
+{
+    first_sixteen(sum(to_basis(spread(key)), u8x64::splat(0x7c))).to_array()
+}
+
+// The round keys in the basis, each as `ready_key` makes it.
 pub(crate) fn ready_keys(words: &[u32; 60], last: usize) -> [[u8; 16]; 15]
     requires { last < 15 }
     ensures { (n i : ℕ) → n ≤ last → i < 16
@@ -224,8 +231,7 @@ pub(crate) fn ready_keys(words: &[u32; 60], last: usize) -> [[u8; 16]; 15]
 {
     let mut keys = [[0; 16]; 15];
     for n in 0..last + 1 {
-        let key = sum(to_basis(spread(round_key(words, n))), u8x64::splat(0x7c));
-        keys[n] = first_sixteen(key);
+        keys[n] = ready_key(round_key(words, n));
     }
     keys
 }
@@ -253,4 +259,31 @@ pub(crate) fn last_four(x: u8x64, key: u8x64) -> u8x64
 {
     let (plain, _, _) = substitute(shift_rows(x));
     sum(plain, sum(key, u8x64::splat(0x63)))
+}
+
+// AddRoundKey before the first round of one block, and then the change of basis. The steps for one block are those for four
+// copies of it. The lanes of three copies are not used, so LLVM leaves out their instructions.
+#[inline(always)]
+pub(crate) fn first_one(block: &[u8; 16], key: [u32; 4]) -> u8x16
+    ensures { IsInBasis result (add_round_key (columns_of key) 0 block.now) }
+{
+    first_sixteen(first_four(four_times(u8x16::from_array(*block)), spread(key)))
+}
+
+// Any round but the last of one block (FIPS 197, 5.1).
+#[inline(always)]
+pub(crate) fn round_one(x: u8x16, key: [u32; 4]) -> u8x16
+    ensures { (b : List ℕ) → IsBlock b → IsInBasis x b
+        → IsInBasis result (add_round_key (columns_of key) 0 (mix_columns (shift_rows (sub_bytes b)))) }
+{
+    first_sixteen(round_four(four_times(x), ready_key(key)))
+}
+
+// The last round of one block, whose result is no longer in the basis.
+#[inline(always)]
+pub(crate) fn last_one(x: u8x16, key: [u32; 4]) -> [u8; 16]
+    ensures { (b : List ℕ) → IsBlock b → IsInBasis x b
+        → result ≡ add_round_key (columns_of key) 0 (shift_rows (sub_bytes b)) }
+{
+    first_sixteen(last_four(four_times(x), spread(key))).to_array()
 }

@@ -1,4 +1,4 @@
--- Four blocks in a vector of 64 bytes, and the bytes of the field in another basis.
+-- Four blocks in a vector of 64 bytes, one in a vector of 16, and the bytes of the field in another basis.
 use Rattle.std.specs.Prelude.{◌≤◌, ◌≡◌, ℕ, ◌+◌, ◌*◌, ◌/◌, ◌%◌, ◌<◌, true, ◌||◌, nat_le, nat_lt, List, []}
 use Rattle.std.specs.Prelude.{length, slice_index, slice_index_or, if◌then◌else◌, bit_xor}
 use Rattle.aes.specs.Field.{sbox}
@@ -62,3 +62,7 @@ HoldsBlocks v f = HasLanes v (byte_of f)
 -- v holds them in that basis
 abbrev pub HoldsInBasis : List ℕ → (ℕ → List ℕ) → Type 0
 HoldsInBasis v f = HasLanes v (λ i. in_basis (byte_of f i))
+
+-- v holds the block b in the basis
+pub record IsInBasis (v b : List ℕ) : Type 0 where
+  pub each : (i : ℕ) → i < 16 → slice_index v i ≡ in_basis (slice_index b i)
