@@ -1,7 +1,8 @@
 //! Finds libaeadkit.a: in the folder `lib` of the prefix that AEADKIT_PREFIX names; else in the prefix that this crate was
 //! laid out in; else where pkg-config says. If the program is compiled for processors with AVX2, the archive comes from the
 //! folder `x86-64-v3` there, if it has one. An archive of another major version is refused: its calls have the same names and may
-//! take other arguments, which no linker notices.
+//! take other arguments, which no linker notices. Where no file for pkg-config names the version, the linker does not find the name
+//! `AEADKIT_3` in such an archive.
 
 use std::path::{Path, PathBuf};
 use std::process::Command;
