@@ -86,18 +86,16 @@ if makes "$room/probe.c" cc; then
         cc $include "$room/version.c" "$file" -Wl,-rpath,"$(dirname "$file")" -o "$room/version"
         "$room/version" || { echo "$build is not of version $version" >&2; exit 1; }
     done
-    # So build.sh takes those away that it does not build anew. It is run with an rt that builds nothing.
-    mkdir -p "$room/stub" "$room/again/lib/glibc-hwcaps/x86-64-v3" "$room/again/lib/x86-64-v3" "$room/again/.aeadkit"
-    printf '#!/bin/sh\necho logic=proved\n' > "$room/stub/rt"
+    # So build.sh takes away those that it does not build anew, before it builds: here by an rt that fails.
+    mkdir -p "$room/stub" "$room/again/lib/glibc-hwcaps/x86-64-v3" "$room/again/lib/x86-64-v3"
+    printf '#!/bin/sh\nexit 1\n' > "$room/stub/rt"
     chmod +x "$room/stub/rt"
     touch "$room/again/lib/glibc-hwcaps/x86-64-v3/libaeadkit.so.3" "$room/again/lib/x86-64-v3/libaeadkit.a"
     for name in $(sed -E 's/[ :].*//' ../crates.txt); do
         mkdir -p "$room/again/.aeadkit/crates/$name/out"
     done
-    cp "$out/libaeadkit.a" "$room/again/.aeadkit/crates/capi/out/libcapi.a"
-    PATH=$room/stub:$PATH ./build.sh --library .. "$room/again" > "$room/log"
-    [ "$(cd "$room/again" && find lib -name 'libaeadkit.*' | sort | tr '\n' ' ')" = \
-        "lib/libaeadkit.a lib/libaeadkit.so lib/libaeadkit.so.${version%%.*} lib/libaeadkit.so.$version " ] \
+    ! AEADKIT_WORK= PATH=$room/stub:$PATH ./build.sh --library .. "$room/again" > "$room/log" 2>&1
+    [ -z "$(find "$room/again/lib" -name 'libaeadkit.*')" ] \
         || { echo "build.sh --library leaves an earlier build for AVX2" >&2; exit 1; }
     if makes "$room/probe.c" cc $sanitizers; then
         cc -std=c11 -g $warnings $sanitizers $include c/calls.c "$out/libaeadkit.a" -o "$room/c-sanitized"
