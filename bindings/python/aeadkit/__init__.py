@@ -599,8 +599,9 @@ class _InPieces(_HasStruct):
             self._warn_of_giving_up(warnings.warn)
 
     def _warn_of_giving_up(self, warn: Callable[..., None]) -> None:
-        # as of a file that was not closed: python -X dev and test runners show it
-        warn(f"a {type(self).__name__} was given up before finish, save or close", ResourceWarning, source=self)
+        # As of a file that was not closed: python -X dev and test runners show it. It names the caller's line, since of several
+        # warnings of one line only the first is shown.
+        warn(f"a {type(self).__name__} was given up before finish, save or close", ResourceWarning, stacklevel=3, source=self)
 
     def __del__(self, _warn: Callable[..., None] = warnings.warn) -> None:
         if self._is_unfinished():

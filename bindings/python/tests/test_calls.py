@@ -539,8 +539,8 @@ class Closing(unittest.TestCase):
                     next(made)
                     end(made)
                     del made
-            self.assertEqual([(one.category, str(one.message)) for one in caught],
-                             [(ResourceWarning, f"a {name} was given up before finish, save or close")] * 3)
+            self.assertEqual([(one.category, str(one.message), one.filename) for one in caught],
+                             [(ResourceWarning, f"a {name} was given up before finish, save or close", __file__)] * 3)
         for kind, use in [(kind, nothing) for kind in begin] + [("opener", checked), ("opener", mismatch), ("opener", changed)]:
             with begin[kind]() as state:
                 use(state)
