@@ -143,6 +143,18 @@ not_linked newest AEADKIT_3
 mv "$room/newer/lib/pkgconfig/aeadkit.pc" "$room/older/"
 (export AEADKIT_PREFIX="$room/newer" && in_crate other run)
 
+# A program for another processor or calling convention.
+rustc --edition 2024 -D warnings "$prefix/share/aeadkit/rust/build.rs" -o "$room/build"
+built_for() {
+    CARGO_CFG_TARGET_ARCH=$1 CARGO_CFG_TARGET_POINTER_WIDTH=$2 CARGO_CFG_TARGET_OS=$3 CARGO_MANIFEST_DIR=/ AEADKIT_PREFIX=$prefix \
+        CARGO_PKG_VERSION_MAJOR=3 "$room/build" > "$room/log"
+    ! grep '^cargo::error=' "$room/log"
+}
+built_for x86_64 64 linux
+for target in "aarch64 64 linux" "x86_64 32 linux" "x86_64 64 windows"; do
+    ! built_for $target > "$room/other.log" || { echo "the archive is linked for $target" >&2; exit 1; }
+done
+
 # A program without std, and without an allocator.
 user bare ', default-features = false'
 cat > "$room/bare/src/main.rs" <<'RUST'

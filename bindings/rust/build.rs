@@ -32,6 +32,12 @@ fn is_fast() -> bool {
     FAST.iter().all(|wanted| features.split(',').any(|feature| feature == *wanted))
 }
 
+/// Whether the program has the archive's processor and calling convention. Not every linker refuses an archive of another one.
+fn is_for_the_archive() -> bool {
+    let of_target = |name: &str| env::var(format!("CARGO_CFG_TARGET_{name}")).unwrap_or_default();
+    of_target("ARCH") == "x86_64" && of_target("POINTER_WIDTH") == "64" && !["windows", "uefi"].contains(&&*of_target("OS"))
+}
+
 /// The version of the library in a folder, if pkg-config's file there names one of another major version than this crate has.
 fn other_version(lib: &Path) -> Option<String> {
     let words = fs::read_to_string(lib.join("pkgconfig/aeadkit.pc")).ok()?;
@@ -44,6 +50,11 @@ fn other_version(lib: &Path) -> Option<String> {
 fn main() {
     for name in ["AEADKIT_PREFIX", "PKG_CONFIG", "PKG_CONFIG_PATH"] {
         println!("cargo::rerun-if-env-changed={name}");
+    }
+    if !is_for_the_archive() {
+        let target = env::var("TARGET").unwrap_or_default();
+        println!("cargo::error=libaeadkit.a is for x86-64 with the calling convention of System V, and not for {target}");
+        return;
     }
     let lib = env::var_os("AEADKIT_PREFIX")
         .map(|prefix| Path::new(&prefix).join("lib"))
