@@ -45,6 +45,10 @@ version=$(version_of "$repository")
 mkdir -p "$room" "$prefix/include" "$prefix/lib/pkgconfig"
 copy "$repository" "$room"
 
+# What an earlier run laid out for AVX2 and this one does not build anew would be taken in the place of this library.
+if [ $whole = no ] || [ $fast = no ]; then
+    rm -f "$prefix/lib/x86-64-v3/libaeadkit.a" "$prefix/lib/glibc-hwcaps/x86-64-v3/libaeadkit.so"*
+fi
 builds=$prefix/libexec/aeadkit
 [ $whole = no ] || rm -rf "$builds"
 both=no

@@ -186,6 +186,15 @@ not_opened "$room/key" label "$room/no-file"
 wanted="usage"
 not_opened "$room/key" label
 does 1 "$room/file" seal "$room/key" label "$folder/opened" "$room/no-folder/sealed"
+# a pipe, a link or a device stays what it is
+mkfifo "$room/pipe"
+ln -s opened "$folder/link"
+for other in "$room/pipe" "$folder/link"; do
+    does 1 "$room/file" seal "$room/key" label "$folder/opened" "$other"
+    grep -q "not a regular file" "$room/fault"
+done
+[ -p "$room/pipe" ] && [ -L "$folder/link" ] || { echo "an output that is not a file is replaced by one" >&2; exit 1; }
+rm "$folder/link"
 # what has more bytes than its length says would be cut
 does 1 "$room/file" seal "$room/key" label /dev/zero "$folder/opened"
 grep -q "longer than it was" "$room/fault"

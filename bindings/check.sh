@@ -53,8 +53,8 @@ called=$(nm -D --undefined-only "$out/libaeadkit.so" | awk '$1 == "U" { print $2
 [ -z "$called" ] || { echo "the library calls $called" >&2; exit 1; }
 soname=libaeadkit.so.${version%%.*}
 objdump -p "$out/libaeadkit.so" | grep -q "SONAME *$soname\$" || { echo "the library is not named $soname" >&2; exit 1; }
-# The archive has the same names, which are hidden from whoever does not link it, and no others.
-wanted=$(grep -oE 'aeadkit_[a-z_]+' exports.map | sort | sed 's/$/ HIDDEN/')
+# The archive has the same names and that of the node, which are hidden from whoever does not link it, and no others.
+wanted=$(grep -oE "aeadkit_[a-z_]+|$node" exports.map | sort | sed 's/$/ HIDDEN/')
 for archive in "$out/libaeadkit.a" "$out/x86-64-v3/libaeadkit.a"; do
     [ -e "$archive" ] || continue
     named=$(readelf -sW "$archive" | awk '($5 == "GLOBAL" || $5 == "WEAK") && $7 != "UND" { print $8, $6 }' | sort)
@@ -77,6 +77,26 @@ if makes "$room/probe.c" cc; then
     else
         echo "left out: C by pkg-config, which is not there"
     fi
+    # Each build that is laid out is of this version: the loader, or the Rust crate, would take one for AVX2 that is older.
+    number=$(echo "$version" | awk -F. '{ print $1 * 10000 + $2 * 100 + $3 }')
+    printf '#include <aeadkit.h>\nint main(void) { return aeadkit_version() != %s; }\n' "$number" > "$room/version.c"
+    for build in lib/libaeadkit.a lib/libaeadkit.so lib/x86-64-v3/libaeadkit.a lib/glibc-hwcaps/x86-64-v3/libaeadkit.so; do
+        file=$prefix/$build
+        [ -e "$file" ] || continue
+        cc $include "$room/version.c" "$file" -Wl,-rpath,"$(dirname "$file")" -o "$room/version"
+        "$room/version" || { echo "$build is not of version $version" >&2; exit 1; }
+    done
+    # So build.sh takes away those that it does not build anew, before it builds: here by an rt that fails.
+    mkdir -p "$room/stub" "$room/again/lib/glibc-hwcaps/x86-64-v3" "$room/again/lib/x86-64-v3"
+    printf '#!/bin/sh\nexit 1\n' > "$room/stub/rt"
+    chmod +x "$room/stub/rt"
+    touch "$room/again/lib/glibc-hwcaps/x86-64-v3/libaeadkit.so.3" "$room/again/lib/x86-64-v3/libaeadkit.a"
+    for name in $(sed -E 's/[ :].*//' ../crates.txt); do
+        mkdir -p "$room/again/.aeadkit/crates/$name/out"
+    done
+    ! AEADKIT_WORK= PATH=$room/stub:$PATH ./build.sh --library .. "$room/again" > "$room/log" 2>&1
+    [ -z "$(find "$room/again/lib" -name 'libaeadkit.*')" ] \
+        || { echo "build.sh --library leaves an earlier build for AVX2" >&2; exit 1; }
     if makes "$room/probe.c" cc $sanitizers; then
         cc -std=c11 -g $warnings $sanitizers $include c/calls.c "$out/libaeadkit.a" -o "$room/c-sanitized"
         ASAN_OPTIONS=detect_leaks=0 "$room/c-sanitized"

@@ -70,10 +70,13 @@ archive() {
 # Makes FOLDER/libaeadkit.a of ROOM/aeadkit.a: hidden ROOM FOLDER EXPORTS
 # Its only global names are the exported ones, and here they become hidden: a program or a plug-in that links the archive keeps
 # them to itself. Otherwise other libraries in the process would call it, whichever version they were linked with. A name is
-# hidden if one of the objects that are linked says so.
+# hidden if one of the objects that are linked says so. Beside them the archive has the name of the version node: the Rust crate
+# asks the linker for that of its own major version, so that no other archive is linked.
 hidden() {
     {
         grep -oE 'aeadkit_[a-z_]+' "$3" | sed 's/.*/.globl &\n.hidden &/'
+        echo '.section .rodata'
+        sed -nE 's/^(AEADKIT_[0-9]+) .*/.globl \1\n.hidden \1\n\1: .byte 1/p' "$3"
         echo '.section .note.GNU-stack,"",@progbits'
     } | cc -x assembler -c - -o "$1/hidden.o"
     ld -r -o "$1/aeadkit.o" --whole-archive "$1/aeadkit.a" "$1/hidden.o"

@@ -65,13 +65,13 @@ in_crate user test
 cp -R "$prefix/share/aeadkit/rust" "$room/aeadkit"
 (export AEADKIT_PREFIX="$prefix" && in_crate aeadkit test --doc && in_crate aeadkit doc)
 
-# What does not compile: a tag or a saved sealing that is dropped, a text exchanged with its associated data, a key to wrap
-# exchanged with the key that wraps it, a nonce of another length, a copy of a state, a sealing that goes on after it was saved,
-# and the calls of 2.1 that took room for a tag.
+# What does not compile: a tag, a saved sealing or the part of an output that is the text, if it is dropped, a text exchanged with
+# its associated data, a key to wrap exchanged with the key that wraps it, a nonce of another length, a copy of a state, a sealing
+# that goes on after it was saved, and the calls of 2.1 that took room for a tag.
 user wrong
 # Whether a line compiles: compiles LINE
 compiles() {
-    printf '#![allow(unused_imports, unused_mut)]
+    printf '#![allow(unused_imports, unused_mut, unused_variables)]
 use aeadkit::{Aad, WrappingKey};
 fn main() -> Result<(), aeadkit::Fault> {
     let (key, mut text) = (aeadkit::Key::new(aeadkit::Suite::Aes128Gcm, &[0; 16])?, [0; 32]);
@@ -95,6 +95,7 @@ refused 'unused `Tag` that must be used' 'key.seal_in_place(&[0; 12], &mut text,
 refused 'unused `Tag` that must be used' 'key.sealer(&[0; 12], Aad(b"aad"))?.finish();'
 refused 'unused `Sealer` that must be used' 'key.sealer(&[0; 12], Aad(b"aad"))?;'
 refused 'that must be used' 'key.sealer(&[0; 12], Aad(b"aad"))?.save();'
+refused 'unused `PaddedText` that must be used' 'aeadkit::unwrap_padded(WrappingKey(&[0; 16]), &[0; 40], &mut text)?;'
 refused E0308 'let _ = key.seal_in_place(&[0; 12], b"aad", &mut text)?;'
 refused E0308 'key.seal_to_vec(&[0; 12], Aad(b"aad"), &text)?;'
 for call in seal_to_vec open_to_vec; do
@@ -115,7 +116,8 @@ refused E0061 'aeadkit::wrap(&[0; 16], &mut text)?;'
 refused E0308 'aeadkit::wrap_padded(&[0; 16], &mut text, 7)?;'
 refused E0599 'let mut text = text.to_vec(); key.seal_vec(&[0; 12], &mut text, b"aad")?;'
 
-# A library of another version: one that says so, and one as before 3.0, whose calls have the same names and other arguments.
+# A library of another version: one that says so; one as before 3.0, whose calls have the same names and other arguments; and an
+# archive of version 4 with nothing beside it that says so.
 user other
 cat > "$room/other/src/main.rs" <<'RUST'
 fn main() {
@@ -134,9 +136,24 @@ not_linked newer "has version 4.1.2, and this crate"
 echo 'int aeadkit_seal(void) { return 0; } int aeadkit_open(void) { return 0; }' > "$room/older.c"
 cc -c "$room/older.c" -o "$room/older.o"
 ar rc "$room/older/lib/libaeadkit.a" "$room/older.o"
-not_linked older "aeadkit_version"
+not_linked older AEADKIT_3
+mkdir -p "$room/newest/lib"
+objcopy --redefine-sym AEADKIT_3=AEADKIT_4 "$prefix/lib/libaeadkit.a" "$room/newest/lib/libaeadkit.a"
+not_linked newest AEADKIT_3
 mv "$room/newer/lib/pkgconfig/aeadkit.pc" "$room/older/"
 (export AEADKIT_PREFIX="$room/newer" && in_crate other run)
+
+# A program for another processor or calling convention.
+rustc --edition 2024 -D warnings "$prefix/share/aeadkit/rust/build.rs" -o "$room/build"
+built_for() {
+    CARGO_CFG_TARGET_ARCH=$1 CARGO_CFG_TARGET_POINTER_WIDTH=$2 CARGO_CFG_TARGET_OS=$3 CARGO_MANIFEST_DIR=/ AEADKIT_PREFIX=$prefix \
+        CARGO_PKG_VERSION_MAJOR=3 "$room/build" > "$room/log"
+    ! grep '^cargo::error=' "$room/log"
+}
+built_for x86_64 64 linux
+for target in "aarch64 64 linux" "x86_64 32 linux" "x86_64 64 windows"; do
+    ! built_for $target > "$room/other.log" || { echo "the archive is linked for $target" >&2; exit 1; }
+done
 
 # A program without std, and without an allocator.
 user bare ', default-features = false'

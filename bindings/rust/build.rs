@@ -1,7 +1,8 @@
 //! Finds libaeadkit.a: in the folder `lib` of the prefix that AEADKIT_PREFIX names; else in the prefix that this crate was
 //! laid out in; else where pkg-config says. If the program is compiled for processors with AVX2, the archive comes from the
 //! folder `x86-64-v3` there, if it has one. An archive of another major version is refused: its calls have the same names and may
-//! take other arguments, which no linker notices.
+//! take other arguments, which no linker notices. Where no file for pkg-config names the version, the linker does not find the name
+//! `AEADKIT_3` in such an archive.
 
 use std::path::{Path, PathBuf};
 use std::process::Command;
@@ -31,6 +32,12 @@ fn is_fast() -> bool {
     FAST.iter().all(|wanted| features.split(',').any(|feature| feature == *wanted))
 }
 
+/// Whether the program has the archive's processor and calling convention. Not every linker refuses an archive of another one.
+fn is_for_the_archive() -> bool {
+    let of_target = |name: &str| env::var(format!("CARGO_CFG_TARGET_{name}")).unwrap_or_default();
+    of_target("ARCH") == "x86_64" && of_target("POINTER_WIDTH") == "64" && !["windows", "uefi"].contains(&&*of_target("OS"))
+}
+
 /// The version of the library in a folder, if pkg-config's file there names one of another major version than this crate has.
 fn other_version(lib: &Path) -> Option<String> {
     let words = fs::read_to_string(lib.join("pkgconfig/aeadkit.pc")).ok()?;
@@ -43,6 +50,11 @@ fn other_version(lib: &Path) -> Option<String> {
 fn main() {
     for name in ["AEADKIT_PREFIX", "PKG_CONFIG", "PKG_CONFIG_PATH"] {
         println!("cargo::rerun-if-env-changed={name}");
+    }
+    if !is_for_the_archive() {
+        let target = env::var("TARGET").unwrap_or_default();
+        println!("cargo::error=libaeadkit.a is for x86-64 with the calling convention of System V, and not for {target}");
+        return;
     }
     let lib = env::var_os("AEADKIT_PREFIX")
         .map(|prefix| Path::new(&prefix).join("lib"))

@@ -57,7 +57,8 @@ export interface Options {
 }
 
 /**
- * The calls of aeadkit.wasm that seal and open. The constructor takes the bytes of that file.
+ * The calls of aeadkit.wasm that seal and open. The constructor takes the bytes of that file. It throws a `TypeError` if they are
+ * those of another module, or of another major version, which may come from a cache.
  *
  * A call that throws has changed none of its arguments. Each result is a new array, and only the calls named InPlace change an
  * argument.
@@ -399,8 +400,8 @@ export class SivSealer {
 }
 
 /**
- * The calls of aeadkit.wasm that wrap and unwrap. The constructor takes the bytes of that file. A key is 16, 24 or 32 bytes
- * long, or the fault is `KeyLength`.
+ * The calls of aeadkit.wasm that wrap and unwrap. The constructor takes the bytes of that file, as that of `Aead` does. A key is
+ * 16, 24 or 32 bytes long, or the fault is `KeyLength`.
  */
 export class KeyWrap {
     constructor(bytes: ArrayBuffer | ArrayBufferView);

@@ -177,6 +177,10 @@ const constant = (from) => ({ from, hasLength: false });
 const result = (to) => ({ to, hasLength: false });
 const struct = (bytes) => ({ from: bytes, to: bytes, hasLength: false });
 
+// The major version of the modules that are called here. The calls of another version have the same names and may take other
+// arguments, of which a host drops those that are too many: a seal of version 2.1 would leave the result as zeros, with status 0.
+const MAJOR = 3;
+
 // A module with its own memory. The bytes of a call stand past what the module itself uses; between two calls there are zeros.
 class Module {
     #begin;
@@ -187,6 +191,11 @@ class Module {
         const module = new WebAssembly.Module(bytes);
         this.#begin = () => new WebAssembly.Instance(module, {}).exports;
         this.#exports = this.#begin();
+        // a module before 3.0 does not say which version it has
+        const version = this.#exports.aeadkit_version?.() ?? 0;
+        if (Math.floor(version / 10000) !== MAJOR) {
+            throw new TypeError(`the bytes are not those of an aeadkit.wasm of version ${MAJOR}`);
+        }
         this.#heap = aligned(Number(this.#exports.__heap_base.value));
     }
 

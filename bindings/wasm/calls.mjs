@@ -287,6 +287,29 @@ for (const other of [undefined, null, {}, "aead", keywrap, structuredClone(aead)
     }
 }
 
+// A module of another major version has calls of the same names with other arguments: this one says that each seal is done, and
+// writes nothing. Before 3.0 a module does not say its version.
+const sized = (bytes) => [bytes.length, ...bytes];
+const signed = (number) => [number & 127 | 128, number >> 7 & 127 | 128, number >> 14];
+const exported = (name, ...index) => [...sized(Buffer.from(name)), ...index];
+const moduleOf = (version) => Uint8Array.from([
+    0, 97, 115, 109, 1, 0, 0, 0,
+    1, ...sized([2, 0x60, 0, 1, 0x7f, 0x60, ...sized([0x7f, ...new Array(8).fill(0x7e)]), 1, 0x7f]), 3, 3, 2, 0, 1, 5, 3, 1, 4, 1,
+    6, ...sized([1, 0x7e, 0, 0x42, 0, 0x0b]),
+    7, ...sized([4, ...exported(version ? "aeadkit_version" : "version", 0, 0), ...exported("aeadkit_seal", 0, 1),
+        ...exported("memory", 2, 0), ...exported("__heap_base", 3, 0)]),
+    10, ...sized([2, ...sized([0, 0x41, ...signed(version), 0x0b]), ...sized([0, 0x41, 0, 0x0b])]),
+]);
+const newer = new Aead(moduleOf(30102));
+assert.equal(newer.version, "3.1.2");
+assert.deepEqual(newer.seal(suite, key, nonce, text), new Uint8Array(text.length + 16));
+for (const Class of [Aead, aeadkit.KeyWrap]) {
+    for (const version of [0, 20100, 29999, 40000]) {
+        assert.throws(() => new Class(moduleOf(version)),
+            { name: "TypeError", message: "the bytes are not those of an aeadkit.wasm of version 3" });
+    }
+}
+
 // The keys and states of two Aeads go on side by side, each in the memory of its own.
 const second = new Aead(readFileSync(new URL(import.meta.resolve("aeadkit/aeadkit.wasm"))));
 const [one, two] = [aead, second].map((from) => new Key(from, suite, key));

@@ -36,7 +36,9 @@ a key (SP 800-38D, 8.3).
 
 A call that is refused raises a subclass of Refused. Faults of a suite and of lengths are ValueErrors too. A with statement over
 a sealing or an opening in pieces raises NotFinished if it ends before finish, save or close, and without another exception. If
-such an object is deleted before that, without a with statement, there is a ResourceWarning, which python -X dev shows.
+such an object is deleted before that, without a with statement, there is a ResourceWarning, which python -X dev shows; and also
+if a generator is closed before that, within the with statement: what it yielded is a ciphertext without its tag then, or a text
+that is not to be used.
 
 The time that a call takes may depend on secrets, since AES looks tables up by secret bytes. A Key, a Sealer, an Opener and a
 SivSealer wipe the memory in which they hold the key when they are closed or deleted; a with statement closes them. The bytes of
@@ -535,7 +537,7 @@ class _InPieces(_HasStruct):
     _kind: _library.Kind
     # the functions that end it, or a pass after which nothing has to follow
     _ends: Tuple[Callable[..., int], ...] = ()
-    # whether a call was done since it was begun or such an end
+    # whether a call was done since it was begun or such an end, or since it was resumed
     _unfinished = False
 
     def _call(self, function: Callable[..., int], *arguments: Any) -> int:
@@ -582,17 +584,28 @@ class _InPieces(_HasStruct):
             self._end(error)
             raise
 
-    def __exit__(self, kind: object = None, *exception: object) -> None:
+    def _is_unfinished(self) -> bool:
+        """Whether finish, save or close has to follow in this process."""
         struct = self._struct
+        return self._unfinished and struct is not None and not struct.is_forked()
+
+    def __exit__(self, kind: Optional[Type[BaseException]] = None, *exception: object) -> None:
+        unfinished = self._is_unfinished()
         self.close()
-        if kind is None and self._unfinished and struct is not None and not struct.is_forked():
+        if unfinished and kind is None:
             raise NotFinished()
+        # A generator that is closed within the statement, or deleted, tells nobody of its exception.
+        if unfinished and kind is not None and issubclass(kind, GeneratorExit):
+            self._warn_of_giving_up(warnings.warn)
+
+    def _warn_of_giving_up(self, warn: Callable[..., None]) -> None:
+        # As of a file that was not closed: python -X dev and test runners show it. It names the caller's line, since of several
+        # warnings of one line only the first is shown.
+        warn(f"a {type(self).__name__} was given up before finish, save or close", ResourceWarning, stacklevel=3, source=self)
 
     def __del__(self, _warn: Callable[..., None] = warnings.warn) -> None:
-        # as of a file that was not closed: python -X dev and test runners show it
-        struct = self._struct
-        if self._unfinished and struct is not None and not struct.is_forked():
-            _warn(f"a {type(self).__name__} was given up before finish, save or close", ResourceWarning, source=self)
+        if self._is_unfinished():
+            self._warn_of_giving_up(_warn)
 
     def _end(self, error: BaseException) -> None:
         """Closes the object, also for the calls of other threads, unless the library or the package refused a call."""
@@ -790,7 +803,9 @@ class _Saves(_InPieces):
             struct = _begin(cls._kind, member, cls._saved.resume, *slices, cls._saved.memory.from_buffer_copy(data))
         except (NotBegun, TagMismatch):
             raise NotSaved() from None
-        return cls._of(struct)
+        made = cls._of(struct)
+        made._unfinished = True
+        return made
 
 
 # ---- Messages in pieces

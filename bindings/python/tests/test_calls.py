@@ -505,8 +505,11 @@ class Closing(unittest.TestCase):
                 state.__init__(state.suite, KEY, NONCE, *((tag,) if kind == "opener" else ()))
             saved = begin[kind]()
             use(saved)
-            with type(saved).resume(saved.suite, KEY, NONCE, saved.save()) as state:
-                pass
+            # what was resumed has to be finished, also if no call follows
+            with self.assertRaises(aeadkit.NotFinished):
+                with type(saved).resume(saved.suite, KEY, NONCE, saved.save()) as state:
+                    pass
+            self.assertRaisesRegex(aeadkit.NotBegun, "closed", state.finish)
         for kind, use in unfinished:
             with warnings.catch_warnings(record=True) as caught:
                 warnings.simplefilter("always")
@@ -523,8 +526,21 @@ class Closing(unittest.TestCase):
                 use(state)
                 self.assertRaises(aeadkit.NotFinished, state.__exit__)
                 del state
-            self.assertEqual([(one.category, str(one.message)) for one in caught],
-                             [(ResourceWarning, f"a {name} was given up before finish, save or close")])
+
+                def generator():
+                    with begin[kind]() as state:
+                        use(state)
+                        yield
+                        state.close()
+
+                # closed before its end, deleted, and run to its end
+                for end in (lambda made: made.close(), lambda made: None, list):
+                    made = generator()
+                    next(made)
+                    end(made)
+                    del made
+            self.assertEqual([(one.category, str(one.message), one.filename) for one in caught],
+                             [(ResourceWarning, f"a {name} was given up before finish, save or close", __file__)] * 3)
         for kind, use in [(kind, nothing) for kind in begin] + [("opener", checked), ("opener", mismatch), ("opener", changed)]:
             with begin[kind]() as state:
                 use(state)

@@ -196,7 +196,7 @@ fn padded() -> Result<(), Fault> {
     let mut unwrapped = [1; 8];
     assert_eq!(unwrap_padded(WrappingKey(&[0; 16]), &wrapped, &mut unwrapped), Err(Fault::WrapIntegrity));
     assert_eq!(unwrapped, [0; 8]);
-    assert_eq!(unwrap_padded(WrappingKey(&key), &wrapped, &mut unwrapped)?, &text);
+    assert_eq!(unwrap_padded(WrappingKey(&key), &wrapped, &mut unwrapped)?[..], text);
     assert_eq!(unwrap_padded_to_vec(WrappingKey(&key), &wrapped)?, text);
     assert_eq!(wrap_padded_to_vec(WrappingKey(&key), &[]), Err(Fault::WrapLength));
     Ok(())

@@ -77,7 +77,7 @@ pub use tag::Tag;
 pub use whole::{open, open_in_place, seal, seal_in_place};
 #[cfg(feature = "alloc")]
 pub use whole::{open_to_vec, seal_to_vec};
-pub use wrap::{WrappingKey, unwrap, unwrap_padded, wrap, wrap_padded};
+pub use wrap::{PaddedText, WrappingKey, unwrap, unwrap_padded, wrap, wrap_padded};
 #[cfg(feature = "alloc")]
 pub use wrap::{unwrap_padded_to_vec, unwrap_to_vec, wrap_padded_to_vec, wrap_to_vec};
 

@@ -7,12 +7,12 @@
 
 pub mod saved;
 
-/// A library before 3.0 has calls of the same names with other arguments. It lacks this one, and is not linked.
+/// An archive of another major version has calls of the same names with other arguments. It lacks this name, and is not linked.
 #[used]
-static OF_THIS_MAJOR_VERSION: unsafe extern "C" fn() -> u32 = aeadkit_version;
+static OF_THIS_MAJOR_VERSION: &u8 = &AEADKIT_3;
 
 unsafe extern "C" {
-    fn aeadkit_version() -> u32;
+    safe static AEADKIT_3: u8;
 
     #[rustfmt::skip]
     fn aeadkit_seal_in_place(suite: u32, key: *const u8, key_length: usize, nonce: *const u8, nonce_length: usize,

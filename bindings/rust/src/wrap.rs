@@ -8,6 +8,7 @@ use crate::{Fault, outcome, raw};
 #[cfg(feature = "alloc")]
 use alloc::{vec, vec::Vec};
 use core::fmt;
+use core::ops::{Deref, DerefMut};
 
 /// A key that wraps other keys, of 16, 24 or 32 bytes, written as `WrappingKey(&bytes)`.
 ///
@@ -20,6 +21,42 @@ pub struct WrappingKey<'a>(pub &'a [u8]);
 impl fmt::Debug for WrappingKey<'_> {
     fn fmt(&self, f: &mut fmt::Formatter<'_>) -> fmt::Result {
         f.write_str("WrappingKey")
+    }
+}
+
+/// The text of a wrapping with padding: the part of the output of [`unwrap_padded`] that is the text. It can be used as a slice:
+/// `&text` is a `&[u8]`.
+///
+/// The compiler warns if it is dropped, also behind `?`, since up to 7 zeros follow the text in the output.
+#[must_use = "up to 7 zeros follow the text in the output: use this part of it"]
+#[derive(PartialEq, Eq)]
+pub struct PaddedText<'a>(&'a mut [u8]);
+
+impl Deref for PaddedText<'_> {
+    type Target = [u8];
+
+    fn deref(&self) -> &[u8] {
+        self.0
+    }
+}
+
+impl DerefMut for PaddedText<'_> {
+    fn deref_mut(&mut self) -> &mut [u8] {
+        self.0
+    }
+}
+
+/// The same part of the output, for as long as the output is borrowed.
+impl<'a> From<PaddedText<'a>> for &'a mut [u8] {
+    fn from(text: PaddedText<'a>) -> &'a mut [u8] {
+        text.0
+    }
+}
+
+/// Shows nothing of the text, which is a key as a rule.
+impl fmt::Debug for PaddedText<'_> {
+    fn fmt(&self, f: &mut fmt::Formatter<'_>) -> fmt::Result {
+        f.write_str("PaddedText")
     }
 }
 
@@ -70,7 +107,7 @@ pub fn wrap_padded(key: WrappingKey<'_>, text: &[u8], wrapped: &mut [u8]) -> Res
 
 /// Unwraps to other memory what [`wrap_padded`] made, and returns the part of `text` that is the text.
 ///
-/// On success `text` is the text and then at most 7 zeros.
+/// On success `text` is the text and then at most 7 zeros. Only the result tells where the text ends.
 ///
 /// # Errors
 ///
@@ -80,10 +117,10 @@ pub fn wrap_padded(key: WrappingKey<'_>, text: &[u8], wrapped: &mut [u8]) -> Res
 /// - `TextTooLong`: the text is longer than 2^32 - 1 bytes
 /// - `OutputLength`: `text` is not 8 bytes shorter than `wrapped`
 /// - `WrapIntegrity`: `wrapped` is not a valid wrapping with padding under this key
-pub fn unwrap_padded<'a>(key: WrappingKey<'_>, wrapped: &[u8], text: &'a mut [u8]) -> Result<&'a mut [u8], Fault> {
+pub fn unwrap_padded<'a>(key: WrappingKey<'_>, wrapped: &[u8], text: &'a mut [u8]) -> Result<PaddedText<'a>, Fault> {
     let (status, length) = raw::unwrap_padded(key.0, wrapped, text);
     outcome(status)?;
-    Ok(&mut text[..length])
+    Ok(PaddedText(&mut text[..length]))
 }
 
 /// Wraps a text as [`wrap`] does, and returns the wrapping.

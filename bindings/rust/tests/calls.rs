@@ -164,7 +164,12 @@ fn wrappings() {
                 assert_eq!(unwrap_padded(WrappingKey(key), &wrapped, &mut output[..wrong]), Err(Fault::OutputLength));
             }
             assert_eq!(output, vec![0xaa; room + 9]);
-            assert_eq!(unwrap_padded(WrappingKey(key), &wrapped, &mut output[..room]).unwrap(), text);
+            let mut part = unwrap_padded(WrappingKey(key), &wrapped, &mut output[..room]).unwrap();
+            assert_eq!((&part[..], part.len(), format!("{part:?}")), (&text[..], length, "PaddedText".into()));
+            part[0] ^= 1;
+            let part: &mut [u8] = part.into();
+            part[0] ^= 1;
+            assert_eq!(part, text);
             assert_eq!(output[..room], [text, vec![0; room - length]].concat());
             wrapped[3] ^= 1;
             assert_eq!(unwrap_padded(WrappingKey(key), &wrapped, &mut output[..room]), Err(Fault::WrapIntegrity));
