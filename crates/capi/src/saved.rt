@@ -1,4 +1,5 @@
-//! The saved states of sealings and openings in pieces, which can be resumed later. They contain neither the key nor the nonce.
+//! The saved states of sealings and openings in pieces, which can be resumed later. A saved state contains neither the key nor
+//! the nonce, but the key of the message's hash, with which sealings can be forged: it has to be kept as secret as the key.
 
 use aead::{PassState, TwoPassState};
 

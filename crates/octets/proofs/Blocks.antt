@@ -6,13 +6,13 @@ use Rattle.std.proofs.Math.Seq.{drop-append-add}
 use Rattle.std.specs.Simd.{first_chunks}
 use Rattle.octets.specs.Bytes.{block_at}
 
--- a whole block of m is that of a longer text
+-- a whole block of a text is also that block of a longer text
 pub block_at-append : (m x : List ℕ) (i : ℕ) → (i + 1) * 16 ≤ length m → block_at (m ++ x) i ≡ block_at m i
 block_at-append m x i h =
     rw (drop-append-le (i * 16) m x (omega arith))
     (take-append-le 16 (drop (i * 16) m) x (omega (arith, length-drop (i * 16) m)))
 
--- block i of the blocks that follow whole blocks
+-- after whole blocks, block i of x is the block that many blocks later
 pub next_block : (m x : List ℕ) (i : ℕ) → length m % 16 ≡ 0
     → block_at (m ++ x) (length m / 16 + i) ≡ block_at x i
 next_block m x i whole =
@@ -29,7 +29,7 @@ chunk_at n (suc k) (suc i) xs h =
     chunk_at n k i (drop n xs) (omega arith) ∙ ap (take n) (drop-drop (i * n) n xs)
     ∙ ap (λ (j : ℕ). take n (drop j xs)) e
 
--- block j of chunk i of a text cut into blocks, and those into fours
+-- if blocks are cut into chunks of four, block j of chunk i is block 4i + j of the text
 pub four_at : (xs : List ℕ) (whole : List (List ℕ)) (fours : List (List (List ℕ))) (i j : ℕ)
     → whole ≡ first_chunks 16 (length xs / 16) xs → length whole ≡ length xs / 16
     → fours ≡ first_chunks 4 (length whole / 4) whole
@@ -41,7 +41,7 @@ four_at xs whole fours i j ew lw ef li lj =
     ∙ ap (λ (y : List (List ℕ)). get_or y (i * 4 + j) []) ew
     ∙ chunk_at 16 (length xs / 16) (i * 4 + j) xs (omega arith)
 
--- block i after the fours
+-- block i after the chunks of four blocks
 pub after_fours : (xs : List ℕ) (whole rest : List (List ℕ)) (i : ℕ)
     → whole ≡ first_chunks 16 (length xs / 16) xs → length whole ≡ length xs / 16
     → rest ≡ drop (length whole / 4 * 4) whole

@@ -2,7 +2,7 @@
 use Rattle.std.proofs.Common.{◌≡◌, ℕ, ◌-◌, List, length, drop, sym, ap, arith}
 use Rattle.octets.specs.Ends.{IsEnd}
 
--- of all bytes, all are left
+-- if no block was taken in, all bytes are left
 pub all_left : (xs : List ℕ) → IsEnd xs xs
 all_left xs =
     let none : length xs - length xs ≡ 0 = omega arith in

@@ -11,7 +11,7 @@ unfolding masked
 length-masked f at [] = refl
 length-masked f at (x ∷ xs) = ap suc (length-masked f (suc at) xs)
 
--- two pieces, one after the other
+-- a masked list of two parts is both parts, each masked from its own offset
 pub masked-append : (f : ℕ → ℕ) (at : ℕ) (xs ys : List ℕ)
     → masked f at (xs ++ ys) ≡ masked f at xs ++ masked f (at + length xs) ys
 unfolding masked
@@ -21,7 +21,7 @@ masked-append f at (x ∷ xs) ys =
     ap (λ l. bit_xor x (f at) ∷ l)
     (masked-append f (suc at) xs ys ∙ ap (λ i. masked f (suc at) xs ++ masked f i ys) e)
 
--- the first bytes
+-- the first bytes of a masked list are those bytes, masked
 pub take-masked : (f : ℕ → ℕ) (n at : ℕ) (xs : List ℕ) → take n (masked f at xs) ≡ masked f at (take n xs)
 unfolding masked
 take-masked f zero at xs = refl
@@ -37,7 +37,7 @@ masked_twice f at (x ∷ xs) =
     (xor_assoc x (f at) (f at) ∙ ap (λ z. bit_xor x z) (xor_self (f at)) ∙ xor_zero_r x)
     ∙ ap (λ l. x ∷ l) (masked_twice f (suc at) xs)
 
--- the XOR with bytes of a stream
+-- the XOR with the bytes of a stream is the masked list
 pub xor_bytes-masked : (f : ℕ → ℕ) (at : ℕ) (xs ys : List ℕ) → length ys ≡ length xs
     → ((i : ℕ) → i < length xs → get_or ys i 0 ≡ f (at + i)) → xor_bytes xs ys ≡ masked f at xs
 unfolding xor_bytes masked

@@ -1,4 +1,4 @@
--- The numbers that byteorder's reads return are those that `le` and `be` say.
+-- The numbers that the reads of byteorder return are `le` and `be` of the bytes.
 use Rattle.std.proofs.Common.{◌≡◌, ℕ, zero, suc, ◌+◌, ◌*◌, ◌^◌, ◌≤◌, List, [], ◌∷◌, length, take, refl, ap}
 use Rattle.std.proofs.Common.{◌∙◌, sym, arith}
 use Rattle.std.proofs.Math.Nat.{pow-suc, pow-zero, add-mul, mul_assoc, mul_comm}
@@ -7,7 +7,7 @@ use Rattle.byteorder.specs.Endian.{little_number, big_from, big_number}
 use Rattle.byteorder.specs.Numbers.{little_from-cons, big_from-cons}
 use Rattle.octets.specs.Bytes.{le, be}
 
--- the first n bytes, least significant first
+-- the number read from the first n bytes, least significant byte first, is `le` of them
 pub little_number_is : (n : ℕ) (xs : List ℕ) → n ≤ length xs → little_number n xs ≡ le (take n xs)
 unfolding le
 little_number_is zero xs h = refl
@@ -31,7 +31,7 @@ big_after (suc n) m (x ∷ xs) h =
     ∙ sym (mul_assoc m 256 p) in
     omega (arith, rest, moved, spread, power)
 
--- the first n bytes, most significant first
+-- the number read from the first n bytes, most significant byte first, is `be` of them
 pub big_number_is : (n : ℕ) (xs : List ℕ) → n ≤ length xs → big_number n xs ≡ be (take n xs)
 unfolding be
 big_number_is n xs h = let e = big_after n 0 xs h in omega (arith, e)

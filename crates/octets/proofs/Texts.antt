@@ -8,7 +8,7 @@ use Rattle.octets.specs.Bytes.{padding, pad16}
 use Rattle.octets.specs.Code.Pieces.{HoldsPieces}
 use Rattle.octets.specs.declared.pieces.Pieces.{Pieces}
 
--- bytes that end no block
+-- after bytes that do not complete a block, the state holds the text with them
 pub holds_kept : {A : Type 0} (absorbed : A → List ℕ → List ℕ → Type 0) (p n : Pieces A) (k m x : List ℕ)
     → HoldsPieces absorbed p k m
     → p.used + length x < 16 → n.core ≡ p.core
@@ -30,7 +30,7 @@ holds_kept absorbed p n k m x h short ec eb eu ez =
       zeros = ez;
     }
 
--- bytes up to the end of a block
+-- after bytes that complete blocks, the state holds the text with them
 pub holds_blocks : {A : Type 0} (absorbed : A → List ℕ → List ℕ → Type 0) (p n : Pieces A)
     (k m x blocks : List ℕ) → HoldsPieces absorbed p k m
     → (p.used + length x) % 16 ≡ 0 → blocks ≡ take p.used p.buffer ++ x
@@ -58,7 +58,7 @@ holds_blocks absorbed p n k m x blocks h whole eb step eu ez =
       zeros = ez;
     }
 
--- whole blocks and bytes that end no block, if the buffer is empty
+-- after whole blocks and bytes that do not complete a block, from an empty buffer, the state holds the text with them
 pub holds_more : {A : Type 0} (absorbed : A → List ℕ → List ℕ → Type 0) (p n : Pieces A)
     (k m x blocks rest : List ℕ) → HoldsPieces absorbed p k m → p.used ≡ 0
     → length blocks % 16 ≡ 0 → length rest < 16
@@ -76,7 +76,8 @@ holds_more absorbed p n k m x blocks rest h none whole short step eb eu ez joine
     (holds_kept absorbed mid n k (m ++ blocks) rest first (omega arith) refl
     (rw (size, none) eb) (eu ∙ sym size) ez)
 
--- bytes of any length, if the buffer is empty and then has those after the last whole block, with zeros after them
+-- after bytes of any length, from an empty buffer, the state holds the text with them, if the buffer then has those after the
+-- last whole block and zeros
 pub holds_rest : {A : Type 0} (absorbed : A → List ℕ → List ℕ → Type 0) (p n : Pieces A) (k m x rest : List ℕ)
     → HoldsPieces absorbed p k m → p.used ≡ 0 → rest ≡ drop (length x / 16 * 16) x
     → ((j t : List ℕ) → length t % 16 ≡ 0 → absorbed p.core j t
@@ -92,13 +93,13 @@ holds_rest absorbed p n k m x rest h none is step eb eu =
     (rw eu (ap (drop (length rest)) eb ∙ drop-append_seam rest zeros))
     (ap (λ (r : List ℕ). take w x ++ r) is ∙ take-append-drop w x)
 
--- whole blocks need no zeros
+-- the padding of whole blocks is empty
 pub pad16_none : (m : List ℕ) → length m % 16 ≡ 0 → pad16 m ≡ m
 pad16_none m whole =
     let none : (16 - length m % 16) % 16 ≡ 0 = omega (arith, whole) in
     ap (λ (n : ℕ). m ++ replicate n 0) none ∙ append-nil m
 
--- the block begun, filled with zeros, and whole blocks
+-- after the buffered block was filled with zeros, and then whole blocks, the state holds the padded text with them
 pub holds_padded : {A : Type 0} (absorbed : A → List ℕ → List ℕ → Type 0) (p n : Pieces A)
     (k m x y blocks : List ℕ) → HoldsPieces absorbed p k m → 0 < p.used
     → length x % 16 ≡ 0 → blocks ≡ p.buffer ++ x
@@ -117,7 +118,7 @@ holds_padded absorbed p n k m x y blocks h some whole eb step eu ez joined =
     (holds_blocks absorbed p n k m (padding m ++ x) blocks h (omega (arith, size, whole, p.in_range))
     (eb ∙ ap (λ (z : List ℕ). z ++ x) filled ∙ append_assoc (take p.used p.buffer) (padding m) x) step eu ez)
 
--- a padded text is whole blocks
+-- a padded text consists of whole blocks
 pub whole_padded : (m : List ℕ) → length (pad16 m) % 16 ≡ 0
 whole_padded m = omega (
   arith,
