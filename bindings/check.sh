@@ -90,13 +90,18 @@ if makes "$room/probe.c" cc; then
     mkdir -p "$room/stub" "$room/again/lib/glibc-hwcaps/x86-64-v3" "$room/again/lib/x86-64-v3"
     printf '#!/bin/sh\nexit 1\n' > "$room/stub/rt"
     chmod +x "$room/stub/rt"
-    touch "$room/again/lib/glibc-hwcaps/x86-64-v3/libaeadkit.so.3" "$room/again/lib/x86-64-v3/libaeadkit.a"
+    touch "$room/again/lib/glibc-hwcaps/x86-64-v3/libaeadkit.so" "$room/again/lib/x86-64-v3/libaeadkit.a"
+    for major in $((${version%%.*} - 1)) ${version%%.*}; do
+        touch "$room/again/lib/glibc-hwcaps/x86-64-v3/libaeadkit.so.$major" \
+            "$room/again/lib/glibc-hwcaps/x86-64-v3/libaeadkit.so.$major.0.0"
+    done
     for name in $(sed -E 's/[ :].*//' ../crates.txt); do
         mkdir -p "$room/again/.aeadkit/crates/$name/out"
     done
     ! AEADKIT_WORK= PATH=$room/stub:$PATH ./build.sh --library .. "$room/again" > "$room/log" 2>&1
-    [ -z "$(find "$room/again/lib" -name 'libaeadkit.*')" ] \
-        || { echo "build.sh --library leaves an earlier build for AVX2" >&2; exit 1; }
+    left=$(find "$room/again/lib" -name 'libaeadkit.*' ! -name "libaeadkit.so.$((${version%%.*} - 1))*" | wc -l)
+    [ "$left $(find "$room/again/lib" -name 'libaeadkit.*' | wc -l)" = "0 2" ] \
+        || { echo "build.sh --library leaves an earlier build for AVX2, or removes one of another major version" >&2; exit 1; }
     if makes "$room/probe.c" cc $sanitizers; then
         cc -std=c11 -g $warnings $sanitizers $include c/calls.c "$out/libaeadkit.a" -o "$room/c-sanitized"
         ASAN_OPTIONS=detect_leaks=0 "$room/c-sanitized"

@@ -4,8 +4,9 @@ KEYFILE holds 32 bytes. OUT becomes the nonce, the ciphertext and the tag. If th
 each turn of its loop begins with the step in OUT.step, so a restart is a turn like any other. A step has a piece of OUT, and
 the state that comes after the piece. The next step replaces it on the disk before its own piece is written to OUT: of what is
 sealed from one state no two pieces are ever seen, even if IN is changed between two runs. But OUT would then be the sealing of
-a text that never was: if IN has another length or time of change than at first, it is refused. Two runs at once would go on
-from one state: the second one is refused.
+a text that never was: if IN has another length or time of change than at first, it is refused. So is an OUT that was removed, or
+has another length: it would get the rest of the sealing alone. Two runs at once would go on from one state: the second one is
+refused.
 
 OUT.step is as secret as KEYFILE, and must lie where nobody else can write. It is removed when OUT is whole.
 """
@@ -52,9 +53,12 @@ def seal_file(key: bytes, source_name: str, target_name: str) -> None:
             store(path, [state_of(source), nonce.hex(), 0, nonce.hex(), Sealer(SUITE, key, nonce).save().hex()])
         while True:
             with open(path) as file:
-                first_state, hex_nonce, at, piece, saved = json.load(file)
+                first_state, hex_nonce, at, hex_piece, saved = json.load(file)
+            piece = bytes.fromhex(hex_piece)
+            if not at <= os.fstat(target.fileno()).st_size <= at + len(piece):
+                raise ValueError("OUT is not as it was: remove OUT.step to begin anew")
             target.seek(at)
-            target.write(bytes.fromhex(piece))
+            target.write(piece)
             target.flush()
             os.fsync(target.fileno())
             if not saved:

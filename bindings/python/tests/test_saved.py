@@ -340,6 +340,23 @@ class Example(unittest.TestCase):
             self.assertRaises(ValueError, self.example.seal_file, KEY, str(self.source), str(target))
             self.assertEqual(self.source.read_bytes(), TEXT)
 
+    def test_an_output_that_changes(self):
+        """What was removed, cut or made longer would not be a sealing in the end, though its text may be gone by then."""
+        self.source.write_bytes(TEXT)
+        self.stop_at(3, True)
+        self.assertRaises(Stopped, self.seal)
+        self.example.store = self.store
+        whole = self.target.read_bytes()
+        for changed in (None, b"", whole[:-1], whole + bytes(200)):
+            if changed is None:
+                self.target.unlink()
+            else:
+                self.target.write_bytes(changed)
+            self.assertRaisesRegex(ValueError, "OUT is not as it was", self.seal)
+        self.target.write_bytes(whole)
+        self.seal()
+        self.assertEqual(self.opened(), TEXT)
+
     def test_another_key(self):
         """A key file that was exchanged between two runs ends the second one, and the first key goes on."""
         self.source.write_bytes(TEXT)
