@@ -188,7 +188,7 @@ impl<C: Count> Counter<C> {
         let mask = if used == 0 {
             *first
         } else {
-            key.encrypt(&C::block(first, (position / 16 % 0x1_0000_0000) as u32))
+            key.encrypt_in_registers(&C::block(first, (position / 16 % 0x1_0000_0000) as u32))
         };
         Counter {
             first: *first,
@@ -240,7 +240,7 @@ impl<C: Count> Counter<C> {
         ensures advances { Advances C.up key.now self.old self.new bytes.old bytes.new }
         ensures used { self.new.used ≡ length bytes.old % 16 }
     {
-        let mask = key.encrypt(&C::block(&self.first, self.block_count));
+        let mask = key.encrypt_in_registers(&C::block(&self.first, self.block_count));
         self.mask_with(mask.bytes(), bytes);
     }
 
@@ -447,7 +447,7 @@ impl<C: Count, K: KeptKey> Ctr<C, K> {
     /// alone. Two texts that are XORed with the same part of a stream give away their XOR. [`CtrBe`] and [`CtrLe`] say what
     /// else a repeat gives away.
     ///
-    /// Not constant time: single blocks go through `AesKey::encrypt`.
+    /// It looks up no table in memory: see [`AesKey`].
     #[inline(always)]
     pub fn new(key: K, first: &Block) -> Ctr<C, K>
         ensures { Holds C.up K.bytes result (K.bytes key) first.now 0 }

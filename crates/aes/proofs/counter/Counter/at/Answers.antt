@@ -16,7 +16,7 @@ returns g c = record {
       let key = c.args.key.now in
       elim c.if-used-eq0.branch [
         | then-used-eq0 w ↦ absurd (none (c.args.position % 16) some w.if-used-eq0.true)
-        | else-used-eq0 w ↦ w.mask-is ∙ w.encrypt-mask.ensures.value ∙ ap (cipher key) (w.block.ensures
+        | else-used-eq0 w ↦ w.mask-is ∙ w.encrypt_in_registers-mask.ensures.value ∙ ap (cipher key) (w.block.ensures
             ∙ g.met.C.Count.wraps first (c.args.position / 16))
       ];
 }
