@@ -21,14 +21,14 @@ pub record HasLengths (s : Setting) : Type 0 where
   pub key_fits : length s.key ≡ key_length s.suite
   pub nonce_fits : length s.nonce ≡ 12
 
--- why nothing is begun: the first of these lengths that does not fit
+-- why a pass does not begin: the first of these lengths that does not fit
 abbrev pub BeginRefused : Setting → Fault → Type 0
 BeginRefused s KeyLength = length s.key ≢ key_length s.suite
 BeginRefused s NonceLength = (length s.key ≡ key_length s.suite) × (length s.nonce ≢ 12)
 BeginRefused s AadTooLong = HasLengths s × (aad_limit s.suite < length s.aad)
 BeginRefused s _ = ⊥
 
--- why numbers are not resumed: the first of these lengths that does not fit; or they are of another key or nonce
+-- why a pass does not go on from a state: the first of these lengths that does not fit; or the state is of another key or nonce
 abbrev pub ResumeRefused : PassState → Suite → (key nonce : List ℕ) → Fault → Type 0
 ResumeRefused n suite key nonce KeyLength = length key ≢ key_length suite
 ResumeRefused n suite key nonce NonceLength = (length key ≡ key_length suite) × (length nonce ≢ 12)
@@ -46,7 +46,7 @@ cipher_key ByGcmSiv s = encryption_key s.key s.nonce
 abbrev pub KnowsCipherOf : KnownBlock → Setting → Type 0
 KnowsCipherOf b s = KnowsCipher b (cipher_key (construction_of s.suite) s)
 
--- those of zeros
+-- the key and the nonce of all zeros
 abbrev pub zero_keys : KeyAndNonce
 zero_keys = record { key = replicate 32 0; nonce = replicate 12 0 }
 

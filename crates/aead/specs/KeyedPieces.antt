@@ -18,11 +18,11 @@ FitsIn fault r count added limit =
 
 -- ---- a sealing in one reading
 
--- the one of zeros
+-- the sealer of all zeros
 abbrev pub zero_sealer : KeyedSealer
 zero_sealer = record { keys = zero_keys; state = zero_state }
 
--- how many bytes it counted
+-- the length of its text so far
 abbrev pub sealer_count : KeyedSealer → ℕ
 sealer_count p = p.state.length
 
@@ -34,26 +34,27 @@ pub record HoldsKeyedText (p : KeyedSealer) (s : Setting) (text : List ℕ) : Ty
 
 -- ---- two passes
 
--- those of zeros
+-- the state of two passes that is all zeros
 abbrev pub zero_passes : TwoPassState
 zero_passes = record { pass = zero_state; start = zero_sum; tag = replicate 16 0; first = 0 }
 
 -- ---- a sealing in two readings
 
+-- the sealing of all zeros
 abbrev pub zero_siv : KeyedSiv
 zero_siv = record { keys = zero_keys; state = zero_passes }
 
--- how many bytes the reading counted
+-- the length of the reading so far
 abbrev pub siv_count : KeyedSiv → ℕ
 siv_count p = p.state.pass.length
 
--- p is in the first reading, and has taken in this text
+-- p is in the first reading, and holds this text
 pub record HoldsFirstReading (p : KeyedSiv) (s : Setting) (text : List ℕ) : Type 0 where
   pub by_gcm_siv : construction_of s.suite ≡ ByGcmSiv
   pub keys : HasKeys p.keys s
   pub state : IsInFirstReading p.state s text
 
--- p is in the second reading, after a first one of another text, and has taken in this one, which is no longer
+-- p is in the second reading and holds this text, after a first reading of another, which is no shorter
 pub record HoldsSecondReading (p : KeyedSiv) (s : Setting) (first text : List ℕ) : Type 0 where
   pub by_gcm_siv : construction_of s.suite ≡ ByGcmSiv
   pub keys : HasKeys p.keys s
@@ -61,20 +62,21 @@ pub record HoldsSecondReading (p : KeyedSiv) (s : Setting) (first text : List �
 
 -- ---- an opening
 
+-- the opening of all zeros
 abbrev pub zero_opener : KeyedOpener
 zero_opener = record { keys = zero_keys; state = zero_passes }
 
--- how many bytes the pass counted
+-- the length of the pass so far
 abbrev pub opener_count : KeyedOpener → ℕ
 opener_count p = p.state.pass.length
 
--- p is in the first pass of opening a ciphertext under this tag, and has taken in these bytes of it
+-- p is in the first pass of an opening under this tag, after these bytes of the ciphertext
 pub record HoldsFirstPass (p : KeyedOpener) (s : Setting) (tag body : List ℕ) : Type 0 where
   pub keys : HasKeys p.keys s
   pub bytes : MasksByBytes s
   pub state : IsInFirstPass p.state s tag body
 
--- p is in the second pass, after a first one of this many bytes that was over a sealing, and has taken in these
+-- p is in the second pass, after these bytes, and after a first pass of this many bytes that was over a sealing
 pub record HoldsSecondPass (p : KeyedOpener) (s : Setting) (tag : List ℕ) (first : ℕ) (body : List ℕ) : Type 0 where
   pub keys : HasKeys p.keys s
   pub bytes : MasksByBytes s

@@ -1,4 +1,4 @@
--- What a pass over a message has taken in, as plain numbers.
+-- The state of a pass over a message, as plain numbers.
 use Rattle.std.specs.Prelude.{◌≡◌, ℕ, ◌+◌, ◌*◌, ◌/◌, ◌%◌, ◌^◌, List, ◌++◌, length, take, drop, replicate}
 use Rattle.octets.specs.Bytes.{pad16}
 use Rattle.octets.specs.Masked.{masked}
@@ -24,7 +24,7 @@ IsSumOf ByChaCha low high s m = poly1305.IsSum (poly_key s.key s.nonce) m low hi
 IsSumOf ByGcm low high s m = gf128.IsSum Straight (hash_key s.key) m low
 IsSumOf ByGcmSiv low high s m = ∥ gf128.IsSum Reversed (authentication_key s.key s.nonce) m low ∥₁
 
--- the numbers of these bytes after the associated data
+-- n is the state after the associated data and these bytes
 pub record HoldsNumbers (n : PassState) (s : Setting) (bytes : List ℕ) : Type 0 where
   pub hash_key_is : IsHashKey (construction_of s.suite) n.hash_key s
   pub sum_is : IsSumOf (construction_of s.suite) (n.low + n.middle * 2 ^ 64) n.high s (pad16 s.aad ++ bytes)
@@ -34,19 +34,19 @@ pub record HoldsNumbers (n : PassState) (s : Setting) (bytes : List ℕ) : Type 
   pub length_is : n.length ≡ length bytes
   pub fits : Fits s bytes
 
--- the numbers hold no bytes after any associated data, of messages that differ in it alone
+-- n is not a state of any of these messages, which differ only in the associated data
 abbrev pub HoldsNone : PassState → (under : List ℕ → Setting) → Type 0
 HoldsNone n under = (aad bytes : List ℕ) → ¬ (HoldsNumbers n (under aad) bytes)
 
--- the numbers have the keys of the hash of these messages
+-- n has the key of the hash of each of these messages
 abbrev pub HasHashKey : PassState → (under : List ℕ → Setting) → Type 0
 HasHashKey n under = (aad : List ℕ) → IsHashKey (construction_of (under aad).suite) n.hash_key (under aad)
 
--- the numbers of this text under a suite of one reading: of its ciphertext, whose mask does not depend on the tag
+-- n is the state after this text under a suite of one reading: it is over the ciphertext, whose mask does not depend on the tag
 abbrev pub HoldsState : PassState → Setting → List ℕ → Type 0
 HoldsState n s text = (tag : List ℕ) → HoldsNumbers n s (masked (mask_of s tag) 0 text)
 
--- the sum over the padded associated data, with which a pass begins
+-- n is the sum over the padded associated data, where a pass begins
 abbrev pub IsStart : Sum → Setting → Type 0
 IsStart n s = IsSumOf (construction_of s.suite) (n.low + n.middle * 2 ^ 64) n.high s (pad16 s.aad)
 
@@ -54,7 +54,7 @@ IsStart n s = IsSumOf (construction_of s.suite) (n.low + n.middle * 2 ^ 64) n.hi
 abbrev pub zero_sum : Sum
 zero_sum = record { low = 0; middle = 0; high = 0 }
 
--- the numbers that are all zeros
+-- the state of all zeros
 abbrev pub zero_state : PassState
 zero_state = record {
   hash_key = replicate 32 0;

@@ -1,4 +1,4 @@
--- The state of a sealing or an opening in pieces, by what it was fed.
+-- The state of a sealing or an opening in pieces, by the text or the ciphertext so far.
 use Rattle.std.specs.Prelude.{◌≡◌, ℕ, ◌<◌, ◌≤◌, true, List, ◌++◌, length, get_or}
 use Rattle.octets.specs.Masked.{masked}
 use Rattle.gf128.specs.Orders.{Reversed, Serves}
@@ -19,7 +19,7 @@ use Rattle.aead.specs.PassStates.{HoldsNumbers, HoldsState, IsStart}
 use Rattle.aead.specs.KeyedPasses.{HasKeys, KnowsCipherOf, authenticated_by}
 use Rattle.aead.specs.Code.MessageKeys.{AreKeysOf}
 
--- a sealer was fed this text
+-- a sealer holds this text
 pub record HoldsSealer (sealer : Sealer) (s : Setting) (text : List ℕ) : Type 0 where
   pub keys : AreKeysOf sealer.keys s
   pub one_pass : is_one_pass (construction_of s.suite) ≡ true
@@ -34,12 +34,12 @@ pub record AreKeys (k : SivKeys) (s : Setting) : Type 0 where
   pub multiplier_is : key_of k.multiplier ≡ k.hash_key
   pub nonce_is : k.nonce ≡ s.nonce
 
--- the numbers of a first reading of this text
+-- n is the state of a first reading of this text
 pub record IsInFirstReading (n : TwoPassState) (s : Setting) (text : List ℕ) : Type 0 where
   pub pass : HoldsNumbers n.pass s text
   pub start : IsStart n.start s
 
--- the numbers of a second reading of this text, after a first one of another, which is no shorter
+-- n is the state of a second reading of this text, after a first reading of another, which is no shorter
 pub record IsInSecondReading (n : TwoPassState) (s : Setting) (first text : List ℕ) : Type 0 where
   pub pass : HoldsNumbers n.pass s text
   pub start : IsStart n.start s
@@ -48,12 +48,12 @@ pub record IsInSecondReading (n : TwoPassState) (s : Setting) (first text : List
   pub first_fits : length first ≤ text_limit s.suite
   pub within : length text ≤ length first
 
--- the first reading was fed this text
+-- a is in the first reading and holds this text
 pub record HoldsAbsorb (a : SivAbsorb) (s : Setting) (text : List ℕ) : Type 0 where
   pub keys : AreKeys a.keys s
   pub state : IsInFirstReading a.state s text
 
--- the second reading was fed this text, after the first one gave another
+-- w is in the second reading and holds this text, after a first reading of another
 pub record HoldsWriter (w : SivWriter) (s : Setting) (first text : List ℕ) : Type 0 where
   pub keys : AreKeys w.keys s
   pub state : IsInSecondReading w.state s first text
@@ -69,11 +69,11 @@ Opens s tag body = Opened s (body ++ tag) (masked (mask_of s tag) 0 body)
 abbrev pub WasOverASealing : Setting → (tag : List ℕ) → (first : ℕ) → Type 0
 WasOverASealing s tag first = (body : List ℕ) × (length body ≡ first) × Opens s tag body
 
--- the numbers have taken in what is authenticated of this ciphertext under a tag
+-- n is the state after this ciphertext under a tag: of its text under AES-GCM-SIV, else of the ciphertext itself
 abbrev pub HasTakenIn : PassState → Setting → (tag body : List ℕ) → Type 0
 HasTakenIn n s tag body = HoldsNumbers n s (authenticated_by (construction_of s.suite) (mask_of s tag) body)
 
--- the numbers of a first pass over these bytes of a ciphertext under this tag
+-- n is the state of a first pass over these bytes of a ciphertext under this tag
 pub record IsInFirstPass (n : TwoPassState) (s : Setting) (tag body : List ℕ) : Type 0 where
   pub pass : HasTakenIn n.pass s tag body
   pub start : IsStart n.start s
@@ -81,7 +81,7 @@ pub record IsInFirstPass (n : TwoPassState) (s : Setting) (tag body : List ℕ) 
   pub tag_long : length tag ≡ 16
   pub small : (i : ℕ) → get_or body i 0 < 256
 
--- the numbers of a second pass over these bytes, after a first one of this many bytes that was over a sealing
+-- n is the state of a second pass over these bytes, after a first pass of this many bytes that was over a sealing
 pub record IsInSecondPass (n : TwoPassState) (s : Setting) (tag : List ℕ) (first : ℕ) (body : List ℕ) : Type 0 where
   pub pass : IsInFirstPass n s tag body
   pub first_is : n.first ≡ first
@@ -93,18 +93,18 @@ pub record IsInSecondPass (n : TwoPassState) (s : Setting) (tag : List ℕ) (fir
 abbrev pub MasksByBytes : Setting → Type 0
 MasksByBytes s = (tag : List ℕ) (i : ℕ) → mask_of s tag i < 256
 
--- the keys of an opening are those of a message: they are lent by a cipher, or are its own
+-- the keys of an opening are the keys of a message: a cipher lends them, or they are the message's own
 abbrev pub OpensUnder : OpenerKeys → Setting → Type 0
 OpensUnder (OnePass k) s = AreKeysOf k s
 OpensUnder (Siv k) s = (k.suite ≡ s.suite) × HasKeys k.own s
 
--- the first pass has taken in these bytes of a ciphertext under this tag
+-- o is in the first pass, after these bytes of a ciphertext under this tag
 pub record HoldsOpener (o : Opener) (s : Setting) (tag body : List ℕ) : Type 0 where
   pub keys : OpensUnder o.keys s
   pub bytes : MasksByBytes s
   pub state : IsInFirstPass o.state s tag body
 
--- the second pass has taken in these, after a first one of this many bytes that was over a sealing
+-- w is in the second pass, after these bytes, and after a first pass of this many bytes that was over a sealing
 pub record HoldsOpenWriter (w : OpenWriter) (s : Setting) (tag : List ℕ) (first : ℕ) (body : List ℕ) : Type 0 where
   pub keys : OpensUnder w.keys s
   pub bytes : MasksByBytes s

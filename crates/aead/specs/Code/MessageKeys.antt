@@ -16,19 +16,19 @@ construction_by (ChaCha key) = ByChaCha
 construction_by (Gcm keys) = ByGcm
 construction_by (Siv keys) = ByGcmSiv
 
--- keys of AES under AES-GCM: the schedule, and multiples of the hash key; or the key's bytes
+-- the AES keys of a message under AES-GCM: the schedule, and the table of the hash key; or the bytes of the key
 abbrev pub AreGcmKeys : AesKeys → Setting → Type 0
 AreGcmKeys (Expanded k) s = (k.key.now ≡ s.key) × (key_of k.few.now ≡ hash_key s.key)
 AreGcmKeys (Bytes b) s = take (key_length b.suite) b.key.now ≡ s.key
 
--- under AES-GCM-SIV: those of the encryption key, and multiples that serve POLYVAL
+-- the AES keys of a message under AES-GCM-SIV: the schedule of the encryption key, and a table that serves POLYVAL; or its bytes
 abbrev pub AreSivKeys : AesKeys → Setting → Type 0
 AreSivKeys (Expanded k) s =
     (k.key.now ≡ encryption_key s.key s.nonce)
     × Serves Reversed (authentication_key s.key s.nonce) (key_of k.few.now)
 AreSivKeys (Bytes b) s = take (key_length b.suite) b.key.now ≡ encryption_key s.key s.nonce
 
--- by construction
+-- the keys of a message under any construction
 abbrev pub AreCipherKeys : CipherKeys → Setting → Type 0
 AreCipherKeys (ChaCha key) s = key.now ≡ s.key
 AreCipherKeys (Gcm keys) s = AreGcmKeys keys s

@@ -10,8 +10,8 @@ use Rattle.aead.specs.PassStates.{HoldsNumbers}
 use Rattle.aead.specs.KeyedPasses.{KnowsCipherOf}
 use Rattle.aead.specs.Pieces.{HasTakenIn}
 
--- p becomes q, and was becomes now: if p holds what of these bytes is authenticated, a piece within the limit is added and
--- masked
+-- p becomes q, and was becomes now: if p is the state after these bytes, authenticated in this order, a piece within the limit
+-- is added and masked
 abbrev pub MasksPiece : (hashed : (ℕ → ℕ) → List ℕ → List ℕ) (p q : PassState) (was now : List ℕ)
     → Setting → (tag fed : List ℕ) → Type 0
 MasksPiece hashed p q was now s tag fed =
@@ -28,25 +28,25 @@ MasksPieceKnowing hashed p q b c was now key s tag fed =
     → HoldsNumbers q s (hashed (mask_of s tag) (fed ++ was)) × (now ≡ masked (mask_of s tag) (length fed) was)
     × KnowsCipher c key
 
--- p becomes q: if p holds the text of these bytes of a ciphertext, the text of a piece within the limit is added
+-- p becomes q: if p is the state after the text of these bytes of a ciphertext, the text of a piece within the limit is added
 abbrev pub TakesPieceText : (p q : PassState) (piece : List ℕ) → Setting → (tag fed : List ℕ) → Type 0
 TakesPieceText p q piece s tag fed =
     p.length ≡ length fed → p.length + length piece ≤ text_limit s.suite
     → HoldsNumbers p s (masked (mask_of s tag) 0 fed)
     → HoldsNumbers q s (masked (mask_of s tag) 0 (fed ++ piece))
 
--- p becomes q: if p holds these bytes, a piece within the limit is added
+-- p becomes q: if p is the state after these bytes, a piece within the limit is added
 abbrev pub TakesPiece : (p q : PassState) (piece : List ℕ) → Setting → (bytes : List ℕ) → Type 0
 TakesPiece p q piece s bytes =
     p.length + length piece ≤ text_limit s.suite → HoldsNumbers p s bytes → HoldsNumbers q s (bytes ++ piece)
 
--- p becomes q: if p has taken in this ciphertext under a tag, a piece within the limit is added
+-- p becomes q: if p is the state after this ciphertext under a tag, a piece within the limit is added
 abbrev pub ChecksPiece : (p q : PassState) (piece : List ℕ) → Setting → (tag body : List ℕ) → Type 0
 ChecksPiece p q piece s tag body =
     p.length + length piece ≤ text_limit s.suite → HasTakenIn p s tag body → HasTakenIn q s tag (body ++ piece)
 
--- p becomes q, and was becomes now: if p has taken in this ciphertext under a tag, a piece within the limit is added and
--- decrypted. The block that is known goes from b to c
+-- p becomes q, and was becomes now: if p is the state after this ciphertext under a tag, a piece within the limit is added and
+-- decrypted. If the block that b knows has its cipher under the key, so has the block that c knows
 abbrev pub OpensPiece : (p q : PassState) (b c : KnownBlock) (was now : List ℕ) → Setting → (tag body : List ℕ) → Type 0
 OpensPiece p q b c was now s tag body =
     p.length + length was ≤ text_limit s.suite → HasTakenIn p s tag body → KnowsCipherOf b s
