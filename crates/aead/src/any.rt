@@ -63,18 +63,18 @@ impl AnyOnePass {
         }
     }
 
-    // The numbers of no bytes after associated data.
-    pub(crate) fn begun(&self, nonce: &Nonce, aad: &[u8]) -> PassState
+    // The initial state for this nonce and associated data.
+    pub(crate) fn initial_state(&self, nonce: &Nonce, aad: &[u8]) -> PassState
         requires { length aad.now ≤ aad_limit (one_pass_keyed self.now).suite }
         ensures { HoldsNumbers result (setting (one_pass_keyed self.now) nonce.now aad.now) [] }
     {
         match self {
             AnyOnePass::ChaCha(cipher) => {
-                PassState::begun(&PolyKeys, one_time_key(cipher.key(), nonce), aad)
+                PassState::initial(&PolyKeys, one_time_key(cipher.key(), nonce), aad)
             }
             AnyOnePass::Gcm(cipher) => {
                 let (key, ghash_key, few) = cipher.keys();
-                gcm_pass::begun(ExpandedKey { key, few }, ghash_key, nonce, aad)
+                gcm_pass::initial_state(ExpandedKey { key, few }, ghash_key, nonce, aad)
             }
         }
     }

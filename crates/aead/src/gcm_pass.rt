@@ -18,15 +18,20 @@ use aes::{AesKey, KnownBlock};
 use gf128::{Keyed128, TableMul, WideMul};
 use octets::{Block, Nonce, Tag};
 
-// The numbers of no bytes after associated data.
-pub(crate) fn begun(keys: ExpandedKey, ghash_key: &Block, nonce: &Nonce, aad: &[u8]) -> PassState
+// The initial state for a nonce and associated data.
+pub(crate) fn initial_state(
+    keys: ExpandedKey,
+    ghash_key: &Block,
+    nonce: &Nonce,
+    aad: &[u8],
+) -> PassState
     requires { ghash_key.now ≡ hash_key keys.key.now }
     ensures { (s : Setting) → construction_of s.suite ≡ ByGcm → AreGcmKeys (AesKeys.Expanded keys.entry) s
         → s.nonce ≡ nonce.now
         → s.aad ≡ aad.now → length aad.now ≤ aad_limit s.suite → HoldsNumbers result s [] }
 {
     let hash_keys = hash_keys(keys.key, ghash_key, nonce);
-    PassState::begun(
+    PassState::initial(
         &GhashKeys {
             multiplier: keys.few,
         },
@@ -35,19 +40,24 @@ pub(crate) fn begun(keys: ExpandedKey, ghash_key: &Block, nonce: &Nonce, aad: &[
     )
 }
 
-// Those by multiples that are made here. They stand on the stack of this call alone.
+// The initial state for associated data, with a table that is made here, so that only this call has it on its stack.
 #[inline(never)]
-fn hashed_anew(key: &AesKey, ghash_key: &Block, nonce: &Nonce, aad: &[u8]) -> PassState
+fn state_after_aad(key: &AesKey, ghash_key: &Block, nonce: &Nonce, aad: &[u8]) -> PassState
     requires { ghash_key.now ≡ hash_key key.now }
     ensures { (s : Setting) → construction_of s.suite ≡ ByGcm → s.key ≡ key.now → s.nonce ≡ nonce.now
         → s.aad ≡ aad.now → length aad.now ≤ aad_limit s.suite → HoldsNumbers result s [] }
 {
     let few = TableMul::of(ghash_key);
-    begun(ExpandedKey { key, few: &few }, ghash_key, nonce, aad)
+    initial_state(ExpandedKey { key, few: &few }, ghash_key, nonce, aad)
 }
 
-// Those by the schedule alone. If there is no associated data, no multiples are needed.
-pub(crate) fn begun_anew(key: &AesKey, ghash_key: &Block, nonce: &Nonce, aad: &[u8]) -> PassState
+// The initial state, from the key schedule alone. Without associated data no table is needed.
+pub(crate) fn initial_state_by_key(
+    key: &AesKey,
+    ghash_key: &Block,
+    nonce: &Nonce,
+    aad: &[u8],
+) -> PassState
     requires { ghash_key.now ≡ hash_key key.now }
     ensures { (s : Setting) → construction_of s.suite ≡ ByGcm → s.key ≡ key.now → s.nonce ≡ nonce.now
         → s.aad ≡ aad.now → length aad.now ≤ aad_limit s.suite → HoldsNumbers result s [] }
@@ -55,12 +65,11 @@ pub(crate) fn begun_anew(key: &AesKey, ghash_key: &Block, nonce: &Nonce, aad: &[
     if aad.is_empty() {
         PassState::empty(hash_keys(key, ghash_key, nonce))
     } else {
-        hashed_anew(key, ghash_key, nonce, aad)
+        state_after_aad(key, ghash_key, nonce, aad)
     }
 }
 
-// Masks and authenticates a piece by a multiplier of the type `M`, which is made here: it stands on the stack of this call
-// alone.
+// Masks and authenticates a piece with a multiplier of type `M` that is made here, so that only this call has it on its stack.
 #[inline(never)]
 fn mask_by<M: Keyed128>(
     state: &mut PassState,
@@ -85,7 +94,7 @@ fn mask_by<M: Keyed128>(
     *known = mask.known_block();
 }
 
-// Masks and authenticates a piece by the bytes of a key, whose schedule stands on the stack of this call alone.
+// Masks and authenticates a piece under the bytes of a key. Only this call has the key schedule on its stack.
 #[inline(never)]
 fn mask_anew(
     state: &mut PassState,
@@ -107,7 +116,7 @@ fn mask_anew(
     }
 }
 
-// Masks and authenticates a piece by the schedule of a key, with the few multiples if it is short.
+// Masks and authenticates a piece with a key schedule, and with the small table if the piece is short.
 fn mask_expanded(
     state: &mut PassState,
     keys: ExpandedKey,
@@ -155,7 +164,7 @@ pub(crate) fn mask(
     }
 }
 
-// Authenticates a piece by a multiplier of the type `M`, which is made here: it stands on the stack of this call alone.
+// Authenticates a piece with a multiplier of type `M` that is made here, so that only this call has it on its stack.
 #[inline(never)]
 fn take_by<M: Keyed128>(state: &mut PassState, piece: &[u8])
     requires { state.old.length + length piece.now < 2 ^ 64 }
@@ -170,7 +179,7 @@ fn take_by<M: Keyed128>(state: &mut PassState, piece: &[u8])
     state.take(&keys, piece);
 }
 
-// Authenticates a piece. No schedule is needed.
+// Authenticates a piece. GHASH needs no key schedule.
 #[inline(always)]
 pub(crate) fn take(state: &mut PassState, keys: AesKeys, piece: &[u8])
     requires { state.old.length + length piece.now < 2 ^ 64 }
@@ -191,7 +200,7 @@ pub(crate) fn take(state: &mut PassState, keys: AesKeys, piece: &[u8])
     }
 }
 
-// The tag of what was authenticated, by multiples that are made here.
+// Returns the tag, with a table that is made here.
 #[inline(never)]
 fn tag_anew(state: &PassState) -> Tag
     ensures { (s : Setting) (bytes : List ℕ) → construction_of s.suite ≡ ByGcm → HoldsNumbers state.now s bytes
@@ -203,7 +212,7 @@ fn tag_anew(state: &PassState) -> Tag
     })
 }
 
-// The tag of what was authenticated.
+// Returns the tag of what was authenticated.
 #[inline(always)]
 pub(crate) fn tag(state: &PassState, keys: AesKeys) -> Tag
     ensures { (s : Setting) (bytes : List ℕ) → construction_of s.suite ≡ ByGcm → AreGcmKeys keys.entry s

@@ -90,6 +90,7 @@ impl GcmSiv {
         ensures block { IsBlock (authentication_key self.now.key nonce.now) }
         ensures hash_key { IsReversedMulX (authentication_key self.now.key nonce.now) result.hash_key }
         ensures encryption { result.encryption ≡ encryption_key self.now.key nonce.now }
+        ensures by { construction_of self.now.suite ≡ ByGcmSiv }
     {
         DerivedKeys::new(self.suite, &self.key, nonce)
     }

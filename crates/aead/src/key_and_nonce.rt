@@ -1,5 +1,5 @@
-//! The key and the nonce of a message as plain numbers, under any suite, for a caller that keeps its state in its own memory. Of
-//! the key only the bytes are kept: each step makes the key schedule and the multiples of the hash key that it needs.
+//! The key and the nonce of a message as plain numbers, under any suite, for a caller that stores its state in its own memory. Only
+//! the bytes of the key are stored: each step makes the key schedule and the table of the hash key that it needs.
 
 ghost use Rattle.std.specs.Prelude.{◌≡◌, ◌≤◌, ℕ, List, [], length, take, MatchResult, IfOk, OnErr};
 ghost use Rattle.aes.specs.Cipher.{IsKey};
@@ -104,7 +104,7 @@ impl KeyAndNonce {
         ensures { let s = setting_of suite key.now nonce.now aad.now in HasKeys self.new s × HoldsNumbers state.new s [] }
     {
         *self = KeyAndNonce::of(key.bytes(), nonce);
-        *state = PassState::begun(&PolyKeys, one_time_key(key, nonce), aad);
+        *state = PassState::initial(&PolyKeys, one_time_key(key, nonce), aad);
     }
 
     // Begins a pass under AES-GCM.
@@ -127,10 +127,10 @@ impl KeyAndNonce {
         ensures { let s = setting_of suite key.now nonce.now aad.now in HasKeys self.new s × HoldsNumbers state.new s [] }
     {
         *self = KeyAndNonce::of(key, nonce);
-        *state = gcm_pass::begun_anew(cipher, ghash_key, nonce, aad);
+        *state = gcm_pass::initial_state_by_key(cipher, ghash_key, nonce, aad);
     }
 
-    // Begins a pass under AES-GCM, by the bytes of a key.
+    // Begins a pass under AES-GCM, from the bytes of a key.
     #[inline(never)]
     fn begin_gcm_anew(
         &mut self,
@@ -157,7 +157,7 @@ impl KeyAndNonce {
         );
     }
 
-    // Begins a pass under AES-GCM-SIV, by the encryption key and the hash key of the message.
+    // Begins a pass under AES-GCM-SIV, from the encryption key and the hash key of the message.
     fn begin_derived(
         &mut self,
         state: &mut PassState,
@@ -176,10 +176,10 @@ impl KeyAndNonce {
             → HasKeys self.new s × HoldsNumbers state.new s [] }
     {
         *self = KeyAndNonce::of(key, nonce);
-        *state = siv_pass::begun_anew(key, hash_key, nonce, aad);
+        *state = siv_pass::initial_state_by_key(key, hash_key, nonce, aad);
     }
 
-    // Begins a pass under AES-GCM-SIV, by the key that the message's keys are derived from.
+    // Begins a pass under AES-GCM-SIV, from the key that the message's keys are derived from.
     #[inline(never)]
     pub(crate) fn begin_siv(
         &mut self,
@@ -210,7 +210,7 @@ impl KeyAndNonce {
         }
     }
 
-    // Begins a pass under AES-GCM-SIV, by the bytes of the key that the message's keys are derived from.
+    // Begins a pass under AES-GCM-SIV, from the bytes of the key that the message's keys are derived from.
     #[inline(never)]
     fn begin_siv_anew(
         &mut self,
@@ -228,8 +228,8 @@ impl KeyAndNonce {
         self.begin_siv(state, suite, &expanded(key), nonce, aad);
     }
 
-    // Begins a pass by the bytes of a key and a nonce. Faults: `KeyLength`, `NonceLength`, then `AadTooLong`. On error keys and
-    // state are as they were.
+    // Begins a pass from the bytes of a key and a nonce. Faults: `KeyLength`, `NonceLength`, then `AadTooLong`. On error neither
+    // the keys nor the state change.
     pub(crate) fn begin(
         &mut self,
         state: &mut PassState,
@@ -264,7 +264,7 @@ impl KeyAndNonce {
         }
     }
 
-    // Begins a pass as `begin` does, by what was made of the key before: its schedule and the key of GHASH.
+    // Begins a pass as `begin` does, with the key schedule and the key of GHASH.
     pub(crate) fn begin_by(
         &mut self,
         state: &mut PassState,
@@ -303,8 +303,8 @@ impl KeyAndNonce {
 
     // ---- resumption
 
-    // Returns the key and the nonce of a message, for numbers of a pass over it. Faults: `KeyLength`, `NonceLength`, then
-    // `TagMismatch` if the numbers are of another key or nonce.
+    // Returns the key and the nonce of a message, to go on from a saved state. Faults: `KeyLength`, `NonceLength`, then
+    // `TagMismatch` if the state belongs to another key or nonce.
     pub(crate) fn resumed(
         suite: Suite,
         key: &[u8],

@@ -1,5 +1,5 @@
-//! An opening in pieces together with its keys, as plain numbers: for a caller that keeps all of it in its own memory. A first
-//! pass over the ciphertext gives nothing; only if it was over a sealing does a second pass decrypt.
+//! An opening in pieces together with its keys, as plain numbers, for a caller that stores them in its own memory. The first pass
+//! over the ciphertext returns no text; only if it was over a valid sealing does a second pass decrypt.
 
 ghost use Rattle.std.specs.Prelude.{◌≡◌, ◌+◌, ◌<◌, ◌≤◌, ◌++◌, ℕ, List, [], length, MatchResult, IfOk, OnErr};
 ghost use Rattle.octets.specs.Masked.{masked};
@@ -38,10 +38,9 @@ impl KeyedOpener {
         }
     }
 
-    /// Begins the first pass, which has taken in nothing yet, under a suite, the bytes of a key and of a nonce, associated data
-    /// and the tag of the sealing. What the state was before makes no difference. `KeyLength` if the key has not the suite's
-    /// length, `NonceLength` if the nonce is not 12 bytes long, then `AadTooLong` if the data is past the suite's limit: the
-    /// state is then as it was.
+    /// Begins the first pass, under a suite, the bytes of a key and of a nonce, associated data and the tag of the sealing. The
+    /// state before makes no difference. `KeyLength` if the key does not have the suite's length, then `NonceLength` if the nonce
+    /// is not 12 bytes long, then `AadTooLong` if the data is longer than the suite's limit: the state does not change then.
     pub fn begin(
         &mut self,
         suite: Suite,
@@ -66,8 +65,7 @@ impl KeyedOpener {
         }
     }
 
-    /// As [`KeyedOpener::begin`], by what was made of the key before: its schedule and the key of GHASH, which is the cipher of a
-    /// block of zeros.
+    /// Begins as [`KeyedOpener::begin`] does, with the key schedule and the key of GHASH, which is the cipher of a block of zeros.
     pub fn begin_by(
         &mut self,
         suite: Suite,
@@ -102,9 +100,9 @@ impl KeyedOpener {
         }
     }
 
-    /// Returns a state by the numbers of another one under the same suite, key and nonce, as [`KeyedOpener::state`] returns
-    /// them: it is in the pass that they are of, if they are of one. `KeyLength` if the key has not the suite's length,
-    /// `NonceLength` if the nonce is not 12 bytes long, then `TagMismatch` if the numbers are of another key or nonce.
+    /// Goes on in the same pass from a saved `state`, which [`KeyedOpener::state`] returned under the same suite, key and nonce.
+    /// `KeyLength` if the key does not have the suite's length, then `NonceLength` if the nonce is not 12 bytes long, then
+    /// `TagMismatch` if the state belongs to another key or nonce.
     pub fn resumed(
         suite: Suite,
         key: &[u8],
@@ -130,7 +128,7 @@ impl KeyedOpener {
         }
     }
 
-    /// Returns the numbers of the pass, without the keys and the nonce, to go on from later.
+    /// Returns the state without the key and the nonce, for [`KeyedOpener::resumed`].
     pub fn state(&self) -> TwoPassState
         ensures first { (s : Setting) (tag body : List ℕ) → HoldsFirstPass self.now s tag body
             → IsInFirstPass result s tag body }
@@ -141,8 +139,8 @@ impl KeyedOpener {
         *state
     }
 
-    /// Takes in a piece of the ciphertext in the first pass, under its suite. `TextTooLong` if the ciphertext would be past the
-    /// suite's limit: the state is then as it was.
+    /// Authenticates a piece of the ciphertext in the first pass, under its suite. `TextTooLong` if the ciphertext would be longer
+    /// than the suite's limit: the state does not change then.
     pub fn check(&mut self, suite: Suite, piece: &[u8]) -> Result<(), Fault>
         ensures answer { (s : Setting) (tag body : List ℕ) → s.suite ≡ suite → HoldsFirstPass self.old s tag body
             → MatchResult result (λ _. HoldsFirstPass self.new s tag (body ++ piece.now))
@@ -153,8 +151,8 @@ impl KeyedOpener {
         self.state.check(&self.keys.keys(suite), piece)
     }
 
-    /// Ends the first pass. `Ok` if it was over a sealing: the state is then in its second pass, which has taken in nothing yet.
-    /// `TagMismatch` if authentication failed: the state is then as it was, and must not be used any more.
+    /// Ends the first pass. `Ok` if it was over a valid sealing: the second pass begins. `TagMismatch` if authentication failed:
+    /// the state does not change then, and must not be used any more.
     pub fn begin_second(&mut self, suite: Suite) -> Result<(), Fault>
         ensures answer { (s : Setting) (tag body : List ℕ) → s.suite ≡ suite → HoldsFirstPass self.old s tag body
             → MatchResult result (λ _. HoldsSecondPass self.new s tag (length body) [] × Opens s tag body)
@@ -165,8 +163,8 @@ impl KeyedOpener {
         self.state.begin_second_pass(&self.keys.keys(suite))
     }
 
-    /// Takes in a piece of the ciphertext in the second pass, under its suite, and leaves its text in its place.
-    /// `SourceChanged` if the second pass would be longer than the first: state and piece are then as they were.
+    /// Replaces a piece of the ciphertext by its text in the second pass, under its suite. `SourceChanged` if the second pass
+    /// would be longer than the first: the state and the piece do not change then.
     pub fn update(&mut self, suite: Suite, piece: &mut [u8]) -> Result<(), Fault>
         ensures answer { (s : Setting) (tag : List ℕ) (first : ℕ) (body : List ℕ) → s.suite ≡ suite
             → HoldsSecondPass self.old s tag first body → MatchResult result
@@ -180,8 +178,8 @@ impl KeyedOpener {
         self.state.open(&self.keys.keys(suite), &mut known, piece)
     }
 
-    /// Returns `Ok` if what the second pass took in is the ciphertext of the sealing, else `SourceChanged`: what `update` gave is
-    /// then to be thrown away.
+    /// Returns `Ok` if the second pass was over the ciphertext of the sealing, else `SourceChanged`: the text that `update` wrote
+    /// must then be thrown away.
     pub fn finish(&self, suite: Suite) -> Result<(), Fault>
         ensures answer { (s : Setting) (tag : List ℕ) (first : ℕ) (body : List ℕ) → s.suite ≡ suite
             → HoldsSecondPass self.now s tag first body → MatchResult result (λ _. Opens s tag body)

@@ -1,4 +1,4 @@
-//! A sealing in pieces together with its keys, as plain numbers: for a caller that keeps all of it in its own memory.
+//! A sealing in pieces together with its keys, as plain numbers, for a caller that stores them in its own memory.
 
 ghost use Rattle.std.specs.Prelude.{◌≡◌, ◌+◌, ◌<◌, ◌≤◌, ◌++◌, ℕ, List, [], length, true, MatchResult, IfOk, OnErr};
 ghost use Rattle.octets.specs.Masked.{masked};
@@ -15,7 +15,7 @@ use aes::{AesKey, KnownBlock};
 use octets::{Block, Fault, Tag};
 
 /// A text that is sealed piece by piece in one reading, with the bytes of its key and nonce. Each number may have any value.
-/// [`crate::Sealer`] is faster for short pieces: a call here makes the key's schedule anew.
+/// [`crate::Sealer`] is faster for short pieces: each call here makes the key schedule again.
 #[repr(C)]
 #[derive(Clone, Copy)]
 pub struct KeyedSealer {
@@ -36,9 +36,10 @@ impl KeyedSealer {
         }
     }
 
-    /// Begins the empty text, under a suite whose tag is over the ciphertext, the bytes of a key and of a nonce, and associated
-    /// data. What the state was before makes no difference. `KeyLength` if the key has not the suite's length, `NonceLength` if
-    /// the nonce is not 12 bytes long, then `AadTooLong` if the data is past the suite's limit: the state is then as it was.
+    /// Begins with the empty text, under a suite whose tag is over the ciphertext, the bytes of a key and of a nonce, and
+    /// associated data. The state before makes no difference. `KeyLength` if the key does not have the suite's length, then
+    /// `NonceLength` if the nonce is not 12 bytes long, then `AadTooLong` if the data is longer than the suite's limit: the state
+    /// does not change then.
     ///
     /// The nonce must never be used twice under one key: a repeat gives away the XOR of the two texts, and enough to
     /// forge messages.
@@ -51,8 +52,7 @@ impl KeyedSealer {
         self.keys.begin(&mut self.state, suite, key, nonce, aad)
     }
 
-    /// As [`KeyedSealer::begin`], by what was made of the key before: its schedule and the key of GHASH, which is the cipher
-    /// of a block of zeros.
+    /// Begins as [`KeyedSealer::begin`] does, with the key schedule and the key of GHASH, which is the cipher of a block of zeros.
     pub fn begin_by(
         &mut self,
         suite: Suite,
@@ -74,9 +74,9 @@ impl KeyedSealer {
             .begin_by(&mut self.state, suite, key, cipher, ghash_key, nonce, aad)
     }
 
-    /// Returns a state by the numbers of another one under the same suite, key and nonce, as [`KeyedSealer::state`] returns
-    /// them: it holds the text that they hold, if they hold one. `KeyLength` if the key has not the suite's length,
-    /// `NonceLength` if the nonce is not 12 bytes long, then `TagMismatch` if the numbers are of another key or nonce.
+    /// Goes on from a saved `state`, which [`KeyedSealer::state`] returned under the same suite, key and nonce. `KeyLength` if the
+    /// key does not have the suite's length, then `NonceLength` if the nonce is not 12 bytes long, then `TagMismatch` if the state
+    /// belongs to another key or nonce.
     pub fn resumed(
         suite: Suite,
         key: &[u8],
@@ -99,7 +99,7 @@ impl KeyedSealer {
         }
     }
 
-    /// Returns the numbers that hold the text, without the key and the nonce, to go on from later.
+    /// Returns the state without the key and the nonce, for [`KeyedSealer::resumed`].
     pub fn state(&self) -> PassState
         ensures { (s : Setting) (text : List ℕ) → HoldsKeyedText self.now s text → HoldsState result s text }
     {
@@ -107,8 +107,8 @@ impl KeyedSealer {
         *state
     }
 
-    /// Adds `piece`, of any length, to the text, under its suite, and leaves its ciphertext in its place. `TextTooLong` if the
-    /// text would be past its limit: state and piece are then as they were.
+    /// Adds `piece`, of any length, to the text, under its suite, and replaces it by its ciphertext. `TextTooLong` if the text
+    /// would be longer than the suite's limit: the state and the piece do not change then.
     pub fn update(&mut self, suite: Suite, piece: &mut [u8]) -> Result<(), Fault>
         requires { is_one_pass (construction_of suite) ≡ true }
         ensures answer { (s : Setting) (text : List ℕ) → s.suite ≡ suite → HoldsKeyedText self.old s text

@@ -1,5 +1,5 @@
-//! A sealing in pieces under AES-GCM-SIV (RFC 8452) together with its keys, as plain numbers: for a caller that keeps all of it
-//! in its own memory. A first reading of the text gives its tag, and a second one encrypts it.
+//! A sealing in pieces under AES-GCM-SIV (RFC 8452) together with its keys, as plain numbers, for a caller that stores them in its
+//! own memory. The first reading of the text gives its tag, and the second one encrypts it.
 
 ghost use Rattle.std.specs.Prelude.{◌≡◌, ◌+◌, ◌<◌, ◌≤◌, ◌++◌, ℕ, List, [], length, MatchResult, IfOk, OnErr};
 ghost use Rattle.octets.specs.Masked.{masked};
@@ -17,7 +17,7 @@ use aes::{AesKey, KnownBlock};
 use octets::{Block, Fault, Tag};
 
 /// A text that is sealed piece by piece in two readings under AES-GCM-SIV, with the bytes of its keys. Each number may have any
-/// value. [`crate::SivAbsorb`] is faster for short pieces: a call here makes the key's schedule anew.
+/// value. [`crate::SivAbsorb`] is faster for short pieces: each call here makes the key schedule again.
 #[repr(C)]
 #[derive(Clone, Copy)]
 pub struct KeyedSiv {
@@ -38,9 +38,10 @@ impl KeyedSiv {
         }
     }
 
-    /// Begins the first reading, of the empty text, under a suite of AES-GCM-SIV, the bytes of a key and of a nonce, and associated
-    /// data. What the state was before makes no difference. `KeyLength` if the key has not the suite's length, `NonceLength` if
-    /// the nonce is not 12 bytes long, then `AadTooLong` if the data is past the suite's limit: the state is then as it was.
+    /// Begins the first reading with the empty text, under a suite of AES-GCM-SIV, the bytes of a key and of a nonce, and
+    /// associated data. The state before makes no difference. `KeyLength` if the key does not have the suite's length, then
+    /// `NonceLength` if the nonce is not 12 bytes long, then `AadTooLong` if the data is longer than the suite's limit: the state
+    /// does not change then.
     ///
     /// The nonce must never be used twice under one key: a repeat gives away whether the texts and the associated data
     /// were the same, and nothing else.
@@ -62,8 +63,7 @@ impl KeyedSiv {
         }
     }
 
-    /// As [`KeyedSiv::begin`], by what was made of the key before: its schedule and the key of GHASH, which is the cipher of a
-    /// block of zeros.
+    /// Begins as [`KeyedSiv::begin`] does, with the key schedule and the key of GHASH, which is the cipher of a block of zeros.
     pub fn begin_by(
         &mut self,
         suite: Suite,
@@ -98,9 +98,9 @@ impl KeyedSiv {
         }
     }
 
-    /// Returns a state by the numbers of another one under the same suite, key and nonce, as [`KeyedSiv::state`] returns them:
-    /// it is in the reading of a text that they are of, if they are of one. `KeyLength` if the key has not the suite's length,
-    /// `NonceLength` if the nonce is not 12 bytes long, then `TagMismatch` if the numbers are of another key or nonce.
+    /// Goes on in the same reading from a saved `state`, which [`KeyedSiv::state`] returned under the same suite, key and nonce.
+    /// `KeyLength` if the key does not have the suite's length, then `NonceLength` if the nonce is not 12 bytes long, then
+    /// `TagMismatch` if the state belongs to another key or nonce.
     pub fn resumed(
         suite: Suite,
         key: &[u8],
@@ -127,7 +127,7 @@ impl KeyedSiv {
         }
     }
 
-    /// Returns the numbers of the reading, without the keys and the nonce, to go on from later.
+    /// Returns the state without the key and the nonce, for [`KeyedSiv::resumed`].
     pub fn state(&self) -> TwoPassState
         ensures first { (s : Setting) (text : List ℕ) → HoldsFirstReading self.now s text
             → IsInFirstReading result s text }
@@ -138,8 +138,8 @@ impl KeyedSiv {
         *state
     }
 
-    /// Adds `piece`, of any length, to the text in the first reading, under its suite. `TextTooLong` if the text would be past
-    /// its limit: the state is then as it was.
+    /// Adds `piece`, of any length, to the text in the first reading, under its suite. `TextTooLong` if the text would be longer
+    /// than the suite's limit: the state does not change then.
     pub fn absorb(&mut self, suite: Suite, piece: &[u8]) -> Result<(), Fault>
         ensures answer { (s : Setting) (text : List ℕ) → s.suite ≡ suite → HoldsFirstReading self.old s text
             → MatchResult result (λ _. HoldsFirstReading self.new s (text ++ piece.now))
@@ -150,8 +150,7 @@ impl KeyedSiv {
         self.state.absorb(&self.keys.keys(suite), piece)
     }
 
-    /// Ends the first reading and returns the tag of its text, 16 bytes. The state is then in its second reading, which has
-    /// taken in nothing yet.
+    /// Ends the first reading and returns the tag of its text, 16 bytes. The second reading begins.
     pub fn begin_second(&mut self, suite: Suite) -> Tag
         ensures { (s : Setting) (text : List ℕ) → s.suite ≡ suite → HoldsFirstReading self.old s text
             → (result ≡ tag_of s text) × HoldsSecondReading self.new s text [] }
@@ -159,8 +158,8 @@ impl KeyedSiv {
         self.state.begin_second_reading(&self.keys.keys(suite))
     }
 
-    /// Adds `piece`, of any length, to the text in the second reading, under its suite, and leaves its ciphertext in its place.
-    /// `SourceChanged` if that text would be longer than the first: state and piece are then as they were.
+    /// Adds `piece`, of any length, to the text in the second reading, under its suite, and replaces it by its ciphertext.
+    /// `SourceChanged` if that text would be longer than the first: the state and the piece do not change then.
     pub fn update(&mut self, suite: Suite, piece: &mut [u8]) -> Result<(), Fault>
         ensures answer { (s : Setting) (first text : List ℕ) → s.suite ≡ suite
             → HoldsSecondReading self.old s first text → MatchResult result

@@ -1,5 +1,5 @@
-//! The keys of a message with its nonce, and the steps of a pass over the message by them, under any suite. A cipher or a state
-//! lends the keys for a step, whether it keeps a schedule and multiples or bytes alone.
+//! The keys of a message with its nonce, and the steps of a pass over the message under them, in any suite. A cipher or a state
+//! lends the keys for a step: either a key schedule and a table of the hash key, or the bytes of the key.
 
 ghost use Rattle.std.specs.Prelude.{◌≡◌, ◌+◌, ◌-◌, ◌≤◌, ◌^◌, ◌++◌, ℕ, List, length, take};
 ghost use Rattle.aead.specs.Suites.{ByChaCha, construction_of, key_length, text_limit_by};
@@ -19,14 +19,14 @@ use aes::{AesKey, KnownBlock};
 use gf128::TableMul;
 use octets::{Key32, Nonce, Tag};
 
-// The schedule of a key of AES, with the few multiples of the hash key that a short piece takes.
+// The schedule of an AES key, with the small table of the hash key, for short pieces.
 #[derive(Drop, Clone, Copy)]
 pub(crate) struct ExpandedKey<'a> {
     pub(crate) key: &'a AesKey,
     pub(crate) few: &'a TableMul,
 }
 
-// The bytes of a key, and others after it.
+// The bytes of a key, and zeros after them.
 #[derive(Drop, Clone, Copy)]
 pub(crate) struct KeyBytes<'a> {
     pub(crate) suite: Suite,
@@ -42,7 +42,7 @@ impl<'a> KeyBytes<'a> {
     }
 }
 
-// A key of AES for a step: of bytes alone the step makes the schedule and the multiples that it needs.
+// An AES key for a step, which makes the schedule and the table that it needs if it has only the bytes.
 #[derive(Drop, Clone, Copy)]
 pub(crate) enum AesKeys<'a> {
     Expanded(ExpandedKey<'a>),
@@ -57,7 +57,7 @@ pub(crate) enum CipherKeys<'a> {
     Siv(AesKeys<'a>),
 }
 
-// That with the nonce of the message.
+// The key of a message and its nonce.
 #[derive(Drop, Clone, Copy)]
 pub(crate) struct MessageKeys<'a> {
     pub(crate) cipher: CipherKeys<'a>,
@@ -91,7 +91,9 @@ impl<'a> MessageKeys<'a> {
         }
     }
 
-    // Masks a piece of the message with this tag and authenticates it. Only under AES-GCM-SIV does the mask depend on the tag.
+    // Masks a piece of the message with this tag and authenticates it. Only under AES-GCM-SIV does the mask depend on the tag. If
+    // the piece begins inside the block of AES that is known, this block is not encrypted again; `known` becomes the block that
+    // the piece ends inside.
     #[inline(always)]
     pub(crate) fn mask(
         &self,
@@ -175,7 +177,7 @@ impl<'a> MessageKeys<'a> {
         self.mask(state, known, self.order_of_opening(), tag, piece);
     }
 
-    // The tag of what was authenticated.
+    // Returns the tag of what was authenticated.
     #[inline(always)]
     pub(crate) fn tag(&self, state: &PassState) -> Tag
         ensures { (s : Setting) (bytes : List ℕ) → AreKeysOf self.now s → HoldsNumbers state.now s bytes

@@ -45,7 +45,7 @@ mod siv;
 mod siv_keys;
 mod siv_pass;
 mod suite;
-mod taken_text;
+mod text_parts;
 mod two_pass;
 mod two_pass_state;
 mod uses;

@@ -1,4 +1,4 @@
-//! Which table of multiples of its key GHASH or POLYVAL gets, by the length of the text or the piece.
+//! Which table of multiples of its key GHASH or POLYVAL uses, depending on the length of the text or the piece.
 
 // The length in bytes from which on a table of four powers of the key saves more time than it takes to make.
 const LONG: u64 = 704;

@@ -1,5 +1,5 @@
-//! Opening piece by piece in two passes, under any suite. A first pass over the ciphertext gives nothing; only if it was over a
-//! sealing does a second pass decrypt.
+//! Opening piece by piece in two passes, under any suite. The first pass over the ciphertext returns no text; only if it was over
+//! a valid sealing does a second pass decrypt.
 
 ghost use Rattle.std.specs.Prelude.{◌≡◌, ◌<◌, ◌≤◌, ◌++◌, ℕ, List, [], length, MatchResult, IfOk, OnErr};
 ghost use Rattle.octets.specs.Masked.{masked};
@@ -29,7 +29,7 @@ pub(crate) struct OwnKey {
     own: KeyAndNonce,
 }
 
-// The keys of a message that is opened: those that its cipher lends, or the message's own.
+// The keys of a message that is opened: a cipher lends them, or they are the message's own.
 #[derive(Drop, Clone, Copy)]
 pub(crate) enum OpenerKeys<'a> {
     OnePass(MessageKeys<'a>),
@@ -48,8 +48,8 @@ impl<'a> OpenerKeys<'a> {
     }
 }
 
-// The keys of a message under a cipher with this nonce, and the numbers of no bytes after associated data.
-fn begun<'a>(cipher: &'a AnyAead, nonce: &Nonce, aad: &[u8]) -> (OpenerKeys<'a>, PassState)
+// The keys of the message with this nonce, and the initial state for associated data.
+fn keys_and_state<'a>(cipher: &'a AnyAead, nonce: &Nonce, aad: &[u8]) -> (OpenerKeys<'a>, PassState)
     requires { length aad.now ≤ aad_limit (keyed_of cipher.now).suite }
     ensures keys { (any : List ℕ) → let s = setting (keyed_of cipher.now) nonce.now any in
         OpensUnder result.0 s × MasksByBytes s }
@@ -58,7 +58,7 @@ fn begun<'a>(cipher: &'a AnyAead, nonce: &Nonce, aad: &[u8]) -> (OpenerKeys<'a>,
     match cipher {
         AnyAead::OnePass(cipher) => (
             OpenerKeys::OnePass(cipher.keys(nonce)),
-            cipher.begun(nonce, aad),
+            cipher.initial_state(nonce, aad),
         ),
         AnyAead::Siv(cipher) => {
             let suite = cipher.suite();
@@ -70,9 +70,9 @@ fn begun<'a>(cipher: &'a AnyAead, nonce: &Nonce, aad: &[u8]) -> (OpenerKeys<'a>,
     }
 }
 
-// The keys of a message under a cipher with this nonce, for numbers of a pass under them. `TagMismatch` if the numbers are of
-// another key or nonce.
-fn resumed<'a>(
+// The keys of the message with this nonce, to go on from a saved state. `TagMismatch` if the state belongs to another key or
+// nonce.
+fn keys_for_state<'a>(
     cipher: &'a AnyAead,
     nonce: &Nonce,
     state: &TwoPassState,
@@ -84,7 +84,7 @@ fn resumed<'a>(
         × HoldsNone state.now.pass (setting (keyed_of cipher.now) nonce.now)) }
     ensures key { IfOk result (λ _. HasHashKey state.now.pass (setting (keyed_of cipher.now) nonce.now)) }
 {
-    let (keys, fresh) = begun(cipher, nonce, &[]);
+    let (keys, fresh) = keys_and_state(cipher, nonce, &[]);
     if state.pass.has_hash_key_of(&fresh) {
         Ok(keys)
     } else {
@@ -102,8 +102,8 @@ pub struct Opener<'a> {
 impl<'a> Opener<'a> {
     ghost use Rattle.aead.specs.Pieces.{HoldsOpener, HoldsOpenWriter};
 
-    /// Returns a state that has taken in nothing yet, under a nonce with associated data and the tag of the sealing.
-    /// `AadTooLong` if the data is past the suite's limit.
+    /// Begins the first pass, under a nonce with associated data and the tag of the sealing. `AadTooLong` if the data is longer
+    /// than the suite's limit.
     pub fn new(
         cipher: &'a AnyAead,
         nonce: &Nonce,
@@ -114,13 +114,13 @@ impl<'a> Opener<'a> {
             MatchResult result (λ opener. HoldsOpener opener s tag.now []) (λ e. SealRefused s [] e) }
     {
         cipher.suite().check_aad(aad)?;
-        let (keys, pass) = begun(cipher, nonce, aad);
+        let (keys, pass) = keys_and_state(cipher, nonce, aad);
         let state = TwoPassState::first(pass, tag.bytes());
         Ok(Opener { keys, state })
     }
 
-    /// Returns a state by the numbers of another one under the same cipher and nonce, as [`Opener::state`] returns them: it
-    /// has taken in the bytes that they hold, if they hold some. `TagMismatch` if the numbers are of another key or nonce.
+    /// Goes on from a saved `state`, which [`Opener::state`] returned under the same cipher and nonce. `TagMismatch` if the state
+    /// belongs to another key or nonce.
     pub fn resumed(
         cipher: &'a AnyAead,
         nonce: &Nonce,
@@ -133,7 +133,7 @@ impl<'a> Opener<'a> {
             × HoldsNone state.now.pass (setting (keyed_of cipher.now) nonce.now)) }
         ensures key { IfOk result (λ _. HasHashKey state.now.pass (setting (keyed_of cipher.now) nonce.now)) }
     {
-        match resumed(cipher, nonce, state) {
+        match keys_for_state(cipher, nonce, state) {
             Ok(keys) => Ok(Opener {
                 keys,
                 state: *state,
@@ -142,7 +142,7 @@ impl<'a> Opener<'a> {
         }
     }
 
-    /// Returns the numbers that hold the tag and what was taken in, to go on from later.
+    /// Returns the state as plain numbers, for [`Opener::resumed`]: they hold the tag.
     pub fn state(&self) -> TwoPassState
         ensures { (s : Setting) (tag body : List ℕ) → HoldsOpener self.now s tag body
             → IsInFirstPass result s tag body }
@@ -150,8 +150,8 @@ impl<'a> Opener<'a> {
         self.state
     }
 
-    /// Takes in a piece of the ciphertext, of any length. `TextTooLong` if the ciphertext would be past the suite's limit: the
-    /// state is then as it was.
+    /// Authenticates a piece of the ciphertext, of any length. `TextTooLong` if the ciphertext would be longer than the suite's
+    /// limit: the state does not change then.
     pub fn update(&mut self, piece: &[u8]) -> Result<(), Fault>
         ensures answer { (s : Setting) (tag body : List ℕ) → HoldsOpener self.old s tag body → MatchResult result
             (λ _. HoldsOpener self.new s tag (body ++ piece.now)
@@ -162,8 +162,8 @@ impl<'a> Opener<'a> {
         self.state.check(&self.keys.keys(), piece)
     }
 
-    /// Returns the state of the second pass, which has taken in nothing yet, if what the first one took in is the ciphertext of
-    /// a sealing with this tag. `TagMismatch` if authentication failed. Consumes this one.
+    /// Returns the state of the second pass if the bytes of the first pass and the tag are a valid sealing. `TagMismatch` if
+    /// authentication failed. Consumes the state of the first pass.
     pub fn finish(self) -> Result<OpenWriter<'a>, Fault>
         ensures answer { (s : Setting) (tag body : List ℕ) → HoldsOpener self.entry s tag body → MatchResult result
             (λ writer. HoldsOpenWriter writer s tag (length body) [] × Opens s tag body)
@@ -182,7 +182,7 @@ impl<'a> Opener<'a> {
     }
 }
 
-/// The second pass over a ciphertext that is opened, after a first one that was over a sealing.
+/// The second pass over a ciphertext that is opened, after a first one that was over a valid sealing.
 #[derive(Drop)]
 pub struct OpenWriter<'a> {
     keys: OpenerKeys<'a>,
@@ -194,8 +194,8 @@ pub struct OpenWriter<'a> {
 impl<'a> OpenWriter<'a> {
     ghost use Rattle.aead.specs.Pieces.{HoldsOpenWriter};
 
-    /// Returns a state by the numbers of another one under the same cipher and nonce, as [`OpenWriter::state`] returns them: it
-    /// has taken in the bytes that they hold, if they hold some. `TagMismatch` if the numbers are of another key or nonce.
+    /// Goes on from a saved `state`, which [`OpenWriter::state`] returned under the same cipher and nonce. `TagMismatch` if the
+    /// state belongs to another key or nonce.
     pub fn resumed(
         cipher: &'a AnyAead,
         nonce: &Nonce,
@@ -209,7 +209,7 @@ impl<'a> OpenWriter<'a> {
             × HoldsNone state.now.pass (setting (keyed_of cipher.now) nonce.now)) }
         ensures key { IfOk result (λ _. HasHashKey state.now.pass (setting (keyed_of cipher.now) nonce.now)) }
     {
-        match resumed(cipher, nonce, state) {
+        match keys_for_state(cipher, nonce, state) {
             Ok(keys) => Ok(OpenWriter {
                 keys,
                 state: *state,
@@ -219,8 +219,7 @@ impl<'a> OpenWriter<'a> {
         }
     }
 
-    /// Returns the numbers that hold the tag, the length of the first pass and what the second one took in, to go on from
-    /// later.
+    /// Returns the state as plain numbers, for [`OpenWriter::resumed`]: they hold the tag and the length of the first pass.
     pub fn state(&self) -> TwoPassState
         ensures { (s : Setting) (tag : List ℕ) (first : ℕ) (body : List ℕ) → HoldsOpenWriter self.now s tag first body
             → IsInSecondPass result s tag first body }
@@ -229,8 +228,8 @@ impl<'a> OpenWriter<'a> {
         *state
     }
 
-    /// Takes in a piece of the ciphertext, of any length, and leaves its text in its place. `SourceChanged` if the second pass
-    /// would be longer than the first: state and piece are then as they were.
+    /// Replaces a piece of the ciphertext, of any length, by its text. `SourceChanged` if the second pass would be longer than the
+    /// first: the state and the piece do not change then.
     pub fn update(&mut self, piece: &mut [u8]) -> Result<(), Fault>
         ensures answer { (s : Setting) (tag : List ℕ) (first : ℕ) (body : List ℕ)
             → HoldsOpenWriter self.old s tag first body → MatchResult result
@@ -244,8 +243,8 @@ impl<'a> OpenWriter<'a> {
         self.state.open(&self.keys.keys(), &mut self.known, piece)
     }
 
-    /// Returns `Ok` if what the second pass took in is the ciphertext of the sealing, else `SourceChanged`: what `update` gave is
-    /// then to be thrown away. Consumes the state.
+    /// Returns `Ok` if the second pass was over the ciphertext of the sealing, else `SourceChanged`: the text that `update` wrote
+    /// must then be thrown away. Consumes the state.
     pub fn finish(self) -> Result<(), Fault>
         ensures answer { (s : Setting) (tag : List ℕ) (first : ℕ) (body : List ℕ)
             → HoldsOpenWriter self.entry s tag first body → MatchResult result (λ _. Opens s tag body)

@@ -1,5 +1,5 @@
-//! What a pass over a message has taken in, as plain numbers: the sum of its hash, the bytes after the last whole block, and
-//! both lengths. They are what a state in pieces is saved as, and what a caller in C keeps.
+//! The state of a pass over a message as plain numbers: the sum of its hash, the bytes after the last whole block, and both
+//! lengths. It is what a caller saves, and what a caller in C has in its own memory.
 
 ghost use Rattle.std.specs.Prelude.{◌≡◌, ◌↔◌, ◌+◌, ◌*◌, ◌<◌, ◌≤◌, ◌^◌, ◌++◌, ℕ, List, [], length, take, true, false};
 ghost use Rattle.std.specs.Prelude.{MatchResult, OnErr};
@@ -15,15 +15,14 @@ use crate::beside::{Order, step};
 use crate::hashes::{HashKeys, TagHash, last_block};
 use crate::keys::MessageKeys;
 use crate::mask::MaskStream;
-use crate::taken_text::take_text;
+use crate::text_parts::take_text;
 use aes::KnownBlock;
 use octets::{Block, Fault, Tag, same};
 
 // 2^64.
 const WORD: u128 = 0x1_0000_0000_0000_0000;
 
-/// What a pass over a message has taken in, as plain numbers, without the message's key and nonce. Each number may have any
-/// value: they are read with checks, and what carries a fact is made again.
+/// The state of a pass over a message as plain numbers, without the message's key and nonce. Each number may have any value.
 ///
 /// Keep the numbers as secret as the key: whoever has them can forge sealings, under every suite. They give away the one-time key
 /// of ChaCha20-Poly1305; the key of GHASH and the cipher of J0 under AES-GCM; or the authentication key of AES-GCM-SIV.
@@ -54,7 +53,7 @@ pub(crate) struct Sum {
 impl Sum {
     ghost use Rattle.aead.specs.PassStates.{zero_sum};
 
-    // The sum over no bytes.
+    // The sum of zeros.
     pub(crate) fn zero() -> Sum
         ensures { result ≡ zero_sum }
     {
@@ -89,15 +88,15 @@ impl PassState {
         }
     }
 
-    // The numbers of what was taken in.
+    // The state of an authenticator.
     #[inline(always)]
-    fn of<H: TagHash>(hash_key: [u8; 32], taken: &Authenticator<H>) -> PassState
+    fn of<H: TagHash>(hash_key: [u8; 32], authenticator: &Authenticator<H>) -> PassState
         ensures holds { (s : Setting) (bytes : List ℕ) → IsHashKey (construction_of s.suite) hash_key s
-            → HoldsAuthenticator H.held taken.now s bytes → HoldsNumbers result s bytes }
-        ensures length { result.length ≡ taken.now.length }
+            → HoldsAuthenticator H.held authenticator.now s bytes → HoldsNumbers result s bytes }
+        ensures length { result.length ≡ authenticator.now.length }
     {
-        let (low, high) = taken.hash.sum();
-        let last = taken.hash.rest();
+        let (low, high) = authenticator.hash.sum();
+        let last = authenticator.hash.rest();
         let mut rest = [0; 16];
         rest[..last.len()].copy_from_slice(last);
         PassState {
@@ -106,8 +105,8 @@ impl PassState {
             low: (low % WORD) as u64,
             middle: (low >> 64) as u64,
             high,
-            aad_length: taken.aad_length,
-            length: taken.length,
+            aad_length: authenticator.aad_length,
+            length: authenticator.length,
         }
     }
 
@@ -118,9 +117,9 @@ impl PassState {
         u128::from(self.low) + u128::from(self.middle) * WORD
     }
 
-    // The authenticator that has taken in the bytes so far.
+    // The authenticator with this state.
     #[inline(always)]
-    fn taken<K: HashKeys>(&self, keys: &K) -> Authenticator<K::Hash>
+    fn authenticator<K: HashKeys>(&self, keys: &K) -> Authenticator<K::Hash>
         ensures holds { (s : Setting) (bytes : List ℕ) → K.serves keys.now s → HoldsNumbers self.now s bytes
             → HoldsAuthenticator K.Hash.held result s bytes }
         ensures length { result.length ≡ self.now.length }
@@ -152,7 +151,7 @@ impl PassState {
         same(first.bytes(), other_first.bytes()) && same(last.bytes(), other_last.bytes())
     }
 
-    // Whether a piece after what was taken in is within a limit.
+    // Whether the text may be longer by a piece under this limit.
     pub(crate) fn has_room(&self, limit: u64, piece: &[u8]) -> bool
         ensures fits { result ≡ true → self.now.length + length piece.now ≤ limit }
         ensures past { result ≡ false → limit < self.now.length + length piece.now }
@@ -160,7 +159,7 @@ impl PassState {
         self.length <= limit && piece.len() as u64 <= limit - self.length
     }
 
-    // The numbers of no bytes after no associated data: they need no multiples of the hash's key.
+    // The initial state without associated data. It needs no table of the hash key.
     #[inline(always)]
     pub(crate) fn empty(hash_key: [u8; 32]) -> PassState
         ensures { (s : Setting) → IsHashKey (construction_of s.suite) hash_key s → length s.aad ≡ 0
@@ -177,18 +176,18 @@ impl PassState {
         }
     }
 
-    // The numbers of no bytes after associated data.
+    // The initial state for associated data.
     #[inline(always)]
-    pub(crate) fn begun<K: HashKeys>(keys: &K, hash_key: [u8; 32], aad: &[u8]) -> PassState
+    pub(crate) fn initial<K: HashKeys>(keys: &K, hash_key: [u8; 32], aad: &[u8]) -> PassState
         ensures { (s : Setting) → K.serves keys.now s → IsHashKey (construction_of s.suite) hash_key s
             → s.aad ≡ aad.now → length aad.now ≤ aad_limit s.suite → HoldsNumbers result s [] }
     {
-        let mut taken = Authenticator::empty(keys.resumed(&hash_key, 0, 0, &[]));
-        taken.begin(aad);
-        PassState::of(hash_key, &taken)
+        let mut authenticator = Authenticator::empty(keys.resumed(&hash_key, 0, 0, &[]));
+        authenticator.begin(aad);
+        PassState::of(hash_key, &authenticator)
     }
 
-    // Masks a piece, by a mask of which as many bytes were made as were taken in, and takes in what is authenticated of it.
+    // Masks a piece and authenticates it. The mask stands where the piece begins.
     #[inline(never)]
     pub(crate) fn step<K: HashKeys, S: MaskStream>(
         &mut self,
@@ -208,12 +207,12 @@ impl PassState {
             → S.made mask.new s tag (length (fed ++ piece.old)) }
         ensures length { self.new.length ≡ self.old.length + length piece.old }
     {
-        let mut taken = self.taken(keys);
-        step(order, mask, &mut taken, piece);
-        *self = PassState::of(self.hash_key, &taken);
+        let mut authenticator = self.authenticator(keys);
+        step(order, mask, &mut authenticator, piece);
+        *self = PassState::of(self.hash_key, &authenticator);
     }
 
-    // Takes in a piece.
+    // Authenticates a piece.
     #[inline(never)]
     pub(crate) fn take<K: HashKeys>(&mut self, keys: &K, piece: &[u8])
         requires { self.old.length + length piece.now < 2 ^ 64 }
@@ -221,12 +220,12 @@ impl PassState {
             → TakesPiece self.old self.new piece.now s bytes }
         ensures length { self.new.length ≡ self.old.length + length piece.now }
     {
-        let mut taken = self.taken(keys);
-        taken.update(piece);
-        *self = PassState::of(self.hash_key, &taken);
+        let mut authenticator = self.authenticator(keys);
+        authenticator.update(piece);
+        *self = PassState::of(self.hash_key, &authenticator);
     }
 
-    // Takes in the text of a piece of a ciphertext, by a mask of which as many bytes were made as were taken in.
+    // Authenticates the text of a piece of a ciphertext. The mask stands where the piece begins.
     #[inline(never)]
     pub(crate) fn take_text<K: HashKeys, S: MaskStream>(
         &mut self,
@@ -240,18 +239,18 @@ impl PassState {
             → TakesPieceText self.old self.new piece.now s tag fed }
         ensures length { self.new.length ≡ self.old.length + length piece.now }
     {
-        let mut taken = self.taken(keys);
-        take_text(mask, &mut taken, piece);
-        *self = PassState::of(self.hash_key, &taken);
+        let mut authenticator = self.authenticator(keys);
+        take_text(mask, &mut authenticator, piece);
+        *self = PassState::of(self.hash_key, &authenticator);
     }
 
-    // The tag over what was taken in.
+    // Returns the tag of what was authenticated.
     #[inline(never)]
     pub(crate) fn tag<K: HashKeys>(&self, keys: &K) -> Tag
         ensures { (s : Setting) (bytes : List ℕ) → K.serves keys.now s → HoldsNumbers self.now s bytes
             → result ≡ tag_over s.suite s.key s.nonce s.aad bytes }
     {
-        self.taken(keys).finish()
+        self.authenticator(keys).finish()
     }
 
     // The sum over the whole blocks.
@@ -265,7 +264,7 @@ impl PassState {
         }
     }
 
-    // The numbers of no bytes after the same associated data, of which this is the sum.
+    // The initial state for the same key, nonce and associated data. `start` is the sum over the associated data.
     pub(crate) fn restarted(&self, start: Sum) -> PassState
         ensures holds { (s : Setting) (bytes : List ℕ) → HoldsNumbers self.now s bytes → IsStart start s
             → HoldsNumbers result s [] }
@@ -284,8 +283,8 @@ impl PassState {
 
     // ---- a text that is sealed in one reading
 
-    // Adds a piece to the text, and leaves its ciphertext in its place. `TextTooLong` if the text would be past its limit: then
-    // nothing changes.
+    // Adds a piece to the text, and replaces it by its ciphertext. `TextTooLong` if the text would be longer than the suite's limit:
+    // nothing changes then. `known` is the block of AES that the text ends inside, if it is known.
     #[inline(always)]
     pub(crate) fn seal(
         &mut self,

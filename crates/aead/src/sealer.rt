@@ -17,8 +17,7 @@ use crate::pass_state::PassState;
 use aes::KnownBlock;
 use octets::{Fault, Nonce, Tag};
 
-/// A text that is sealed piece by piece in one reading: the keys that a cipher lends, a nonce, and the numbers of what was
-/// taken in.
+/// A text that is sealed piece by piece in one reading, under a nonce and the keys that a cipher lends.
 #[derive(Drop)]
 pub struct Sealer<'a> {
     keys: MessageKeys<'a>,
@@ -30,8 +29,8 @@ pub struct Sealer<'a> {
 impl<'a> Sealer<'a> {
     ghost use Rattle.aead.specs.Pieces.{HoldsSealer};
 
-    /// Returns a state that holds the empty text, under a nonce with associated data. `AadTooLong` if the
-    /// data is past the suite's limit.
+    /// Begins with the empty text, under a nonce with associated data. `AadTooLong` if the data is longer than the suite's
+    /// limit.
     ///
     /// The nonce must never be used twice under one key: a repeat gives away the XOR of the two texts, and enough to
     /// forge messages.
@@ -42,13 +41,13 @@ impl<'a> Sealer<'a> {
         cipher.suite().check_aad(aad)?;
         Ok(Sealer {
             keys: cipher.keys(nonce),
-            state: cipher.begun(nonce, aad),
+            state: cipher.initial_state(nonce, aad),
             known: KnownBlock::none(),
         })
     }
 
-    /// Returns a state by the numbers of another one under the same cipher and nonce, as [`Sealer::state`] returns them: it
-    /// holds the text that they hold, if they hold one. `TagMismatch` if the numbers are of another key or nonce.
+    /// Goes on from a saved `state`, which [`Sealer::state`] returned under the same cipher and nonce. `TagMismatch` if the
+    /// state belongs to another key or nonce.
     pub fn resumed(
         cipher: &'a AnyOnePass,
         nonce: &Nonce,
@@ -61,7 +60,7 @@ impl<'a> Sealer<'a> {
             × HoldsNone state.now (setting (one_pass_keyed cipher.now) nonce.now)) }
         ensures key { IfOk result (λ _. HasHashKey state.now (setting (one_pass_keyed cipher.now) nonce.now)) }
     {
-        let fresh = cipher.begun(nonce, &[]);
+        let fresh = cipher.initial_state(nonce, &[]);
         if !state.has_hash_key_of(&fresh) {
             return Err(Fault::TagMismatch);
         }
@@ -72,15 +71,15 @@ impl<'a> Sealer<'a> {
         })
     }
 
-    /// Returns the numbers that hold the text, to go on from later.
+    /// Returns the state as plain numbers, for [`Sealer::resumed`].
     pub fn state(&self) -> PassState
         ensures { (s : Setting) (text : List ℕ) → HoldsSealer self.now s text → HoldsState result s text }
     {
         self.state
     }
 
-    /// Adds `piece`, of any length, to the text, and leaves its ciphertext in its place. `TextTooLong` if the
-    /// text would be past its limit: state and piece are then as they were.
+    /// Adds `piece`, of any length, to the text, and replaces it by its ciphertext. `TextTooLong` if the text would be longer
+    /// than the suite's limit: the state and the piece do not change then.
     pub fn update(&mut self, piece: &mut [u8]) -> Result<(), Fault>
         ensures answer { (s : Setting) (text : List ℕ) → HoldsSealer self.old s text → MatchResult result
             (λ _. HoldsSealer self.new s (text ++ piece.old)

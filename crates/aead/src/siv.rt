@@ -26,8 +26,8 @@ pub struct SivAbsorb {
 impl SivAbsorb {
     ghost use Rattle.aead.specs.Pieces.{HoldsAbsorb, HoldsWriter, IsInFirstReading};
 
-    /// Returns a state that holds the empty text, under a nonce with associated data. `AadTooLong` if the
-    /// data is past the suite's limit.
+    /// Begins with the empty text, under a nonce with associated data. `AadTooLong` if the data is longer than the suite's
+    /// limit.
     ///
     /// The nonce must never be used twice under one key: a repeat gives away whether the texts and the associated data
     /// were the same, and nothing else.
@@ -37,12 +37,12 @@ impl SivAbsorb {
     {
         cipher.suite().check_aad(aad)?;
         let keys = SivKeys::new(cipher, nonce);
-        let state = TwoPassState::first(keys.begun(aad), &[0; 16]);
+        let state = TwoPassState::first(keys.initial_state(aad), &[0; 16]);
         Ok(SivAbsorb { keys, state })
     }
 
-    /// Returns a state by the numbers of another one under the same cipher and nonce, as [`SivAbsorb::state`] returns them: it
-    /// holds the text that they hold, if they hold one. `TagMismatch` if the numbers are of another key or nonce.
+    /// Goes on from a saved `state`, which [`SivAbsorb::state`] returned under the same cipher and nonce. `TagMismatch` if the
+    /// state belongs to another key or nonce.
     pub fn resumed(cipher: &GcmSiv, nonce: &Nonce, state: &TwoPassState) -> Result<SivAbsorb, Fault>
         ensures answer { MatchResult result
             (λ absorb. (aad text : List ℕ) → let s = setting cipher.now nonce.now aad in
@@ -59,15 +59,15 @@ impl SivAbsorb {
         }
     }
 
-    /// Returns the numbers that hold the text, to go on from later.
+    /// Returns the state as plain numbers, for [`SivAbsorb::resumed`].
     pub fn state(&self) -> TwoPassState
         ensures { (s : Setting) (text : List ℕ) → HoldsAbsorb self.now s text → IsInFirstReading result s text }
     {
         self.state
     }
 
-    /// Adds `piece`, of any length, to the text. `TextTooLong` if the text would be past its limit: the
-    /// state is then as it was.
+    /// Adds `piece`, of any length, to the text. `TextTooLong` if the text would be longer than the suite's limit: the state
+    /// does not change then.
     pub fn update(&mut self, piece: &[u8]) -> Result<(), Fault>
         ensures answer { (s : Setting) (text : List ℕ) → HoldsAbsorb self.old s text → MatchResult result
             (λ _. HoldsAbsorb self.new s (text ++ piece.now)
@@ -78,8 +78,7 @@ impl SivAbsorb {
         self.state.absorb(&self.keys.keys(), piece)
     }
 
-    /// Returns the tag of the text, 16 bytes, and the state that encrypts the second reading. Consumes this
-    /// one.
+    /// Returns the tag of the text, 16 bytes, and the state that encrypts the second reading. Consumes the state of the first.
     pub fn finish(self) -> (Tag, SivWriter)
         ensures { (s : Setting) (text : List ℕ) → HoldsAbsorb self s text
             → (result.0 ≡ tag_of s text) × HoldsWriter result.1 s text [] }
@@ -109,8 +108,8 @@ pub struct SivWriter {
 impl SivWriter {
     ghost use Rattle.aead.specs.Pieces.{HoldsWriter, IsInSecondReading, Repeats};
 
-    /// Returns a state by the numbers of another one under the same cipher and nonce, as [`SivWriter::state`] returns them: it
-    /// holds the texts that they hold, if they hold some. `TagMismatch` if the numbers are of another key or nonce.
+    /// Goes on from a saved `state`, which [`SivWriter::state`] returned under the same cipher and nonce. `TagMismatch` if the
+    /// state belongs to another key or nonce.
     pub fn resumed(cipher: &GcmSiv, nonce: &Nonce, state: &TwoPassState) -> Result<SivWriter, Fault>
         ensures answer { MatchResult result
             (λ writer. (aad first text : List ℕ) → let s = setting cipher.now nonce.now aad in
@@ -128,7 +127,7 @@ impl SivWriter {
         }
     }
 
-    /// Returns the numbers that hold the first text's tag and length and the second text, to go on from later.
+    /// Returns the state as plain numbers, for [`SivWriter::resumed`]: they hold the tag and the length of the first text.
     pub fn state(&self) -> TwoPassState
         ensures { (s : Setting) (first text : List ℕ) → HoldsWriter self.now s first text
             → IsInSecondReading result s first text }
@@ -136,8 +135,8 @@ impl SivWriter {
         self.state
     }
 
-    /// Adds `piece`, of any length, to the second text, and leaves its ciphertext in its place.
-    /// `SourceChanged` if that text would be longer than the first: state and piece are then as they were.
+    /// Adds `piece`, of any length, to the second text, and replaces it by its ciphertext. `SourceChanged` if that text would
+    /// be longer than the first: the state and the piece do not change then.
     pub fn update(&mut self, piece: &mut [u8]) -> Result<(), Fault>
         ensures answer { (s : Setting) (first text : List ℕ) → HoldsWriter self.old s first text →
             MatchResult result (λ _. HoldsWriter self.new s first (text ++ piece.old)

@@ -1,4 +1,4 @@
-//! The keys of a message of AES-GCM-SIV (RFC 8452, 4) with its nonce, and what is made of them once.
+//! The keys of a message of AES-GCM-SIV (RFC 8452, 4) and its nonce, with the key schedule and the small table of the hash key.
 
 ghost use Rattle.std.specs.Prelude.{◌≡◌, ◌≤◌, ℕ, List, [], length, MatchResult, IfOk};
 ghost use Rattle.aead.specs.Suites.{aad_limit};
@@ -6,7 +6,6 @@ ghost use Rattle.aead.specs.Sealing.{Setting};
 ghost use Rattle.aead.specs.Ciphers.{setting};
 ghost use Rattle.aead.specs.PassStates.{HasHashKey, HoldsNone, HoldsNumbers};
 
-use crate::aead::Aead;
 use crate::gcm_siv::GcmSiv;
 use crate::keys::{AesKeys, CipherKeys, ExpandedKey, MessageKeys};
 use crate::pass_state::PassState;
@@ -19,9 +18,9 @@ use octets::{Block, Fault, Nonce};
 #[derive(Drop)]
 pub(crate) struct SivKeys {
     encryption: AesKey,
-    // Of POLYVAL's multiplier in GHASH's field.
+    // The key of POLYVAL's multiplier in GHASH's field.
     hash_key: Block,
-    // The few multiples that a short piece takes.
+    // The small table of the hash key, for short pieces.
     multiplier: TableMul,
     nonce: Nonce,
 }
@@ -30,12 +29,10 @@ impl SivKeys {
     ghost use Rattle.aead.specs.Pieces.{AreKeys};
     ghost use Rattle.aead.specs.Code.MessageKeys.{AreKeysOf};
 
-    // Those under a cipher with a nonce.
+    // Derives the keys of the message with this nonce.
     pub(crate) fn new(cipher: &GcmSiv, nonce: &Nonce) -> SivKeys
         ensures { (aad : List ℕ) → AreKeys result (setting cipher.now nonce.now aad) }
     {
-        // The proof sees the construction.
-        let _suite = cipher.suite();
         let keys = cipher.derive(nonce);
         SivKeys {
             encryption: keys.encryption,
@@ -45,8 +42,8 @@ impl SivKeys {
         }
     }
 
-    // Those under a cipher with a nonce, for numbers of a reading under them. `TagMismatch` if the numbers are of another key or
-    // nonce.
+    // Derives the keys of the message with this nonce, to go on from a saved state. `TagMismatch` if the state belongs to another
+    // key or nonce.
     pub(crate) fn resumed(
         cipher: &GcmSiv,
         nonce: &Nonce,
@@ -58,7 +55,7 @@ impl SivKeys {
         ensures key { IfOk result (λ _. HasHashKey state.now (setting cipher.now nonce.now)) }
     {
         let keys = SivKeys::new(cipher, nonce);
-        let fresh = keys.begun(&[]);
+        let fresh = keys.initial_state(&[]);
         if state.has_hash_key_of(&fresh) {
             Ok(keys)
         } else {
@@ -66,7 +63,7 @@ impl SivKeys {
         }
     }
 
-    // What a step makes use of without making it.
+    // Lends the key schedule and the small table.
     fn expanded<'a>(&'a self) -> ExpandedKey<'a>
         ensures key { result.key.now ≡ self.now.encryption }
         ensures few { result.few.now ≡ self.now.multiplier }
@@ -87,11 +84,11 @@ impl SivKeys {
         }
     }
 
-    // The numbers of no text after associated data.
-    pub(crate) fn begun(&self, aad: &[u8]) -> PassState
+    // The initial state for associated data.
+    pub(crate) fn initial_state(&self, aad: &[u8]) -> PassState
         ensures { (s : Setting) → AreKeys self.now s → s.aad ≡ aad.now → length aad.now ≤ aad_limit s.suite
             → HoldsNumbers result s [] }
     {
-        siv_pass::begun(self.expanded(), &self.hash_key, &self.nonce, aad)
+        siv_pass::initial_state(self.expanded(), &self.hash_key, &self.nonce, aad)
     }
 }

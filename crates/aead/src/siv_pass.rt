@@ -21,7 +21,7 @@ use aes::{AesKey, KnownBlock};
 use gf128::{Keyed128, TableMul, WideMul};
 use octets::{Block, Nonce, Tag};
 
-// The numbers that hold the hash key: that of POLYVAL's multiplier, and zeros.
+// The hash key as a state holds it: the key of POLYVAL's multiplier, and zeros.
 fn hash_keys(hash_key: &Block) -> [u8; 32]
     ensures { (s : Setting) → construction_of s.suite ≡ ByGcmSiv
         → Serves Reversed (authentication_key s.key s.nonce) hash_key.now
@@ -30,14 +30,19 @@ fn hash_keys(hash_key: &Block) -> [u8; 32]
     joined(hash_key.bytes(), &[0; 16])
 }
 
-// The numbers of no bytes after associated data.
-pub(crate) fn begun(keys: ExpandedKey, hash_key: &Block, nonce: &Nonce, aad: &[u8]) -> PassState
+// The initial state for a nonce and associated data.
+pub(crate) fn initial_state(
+    keys: ExpandedKey,
+    hash_key: &Block,
+    nonce: &Nonce,
+    aad: &[u8],
+) -> PassState
     ensures { (s : Setting) → construction_of s.suite ≡ ByGcmSiv → AreSivKeys (AesKeys.Expanded keys.entry) s
         → Serves Reversed (authentication_key s.key s.nonce) hash_key.now → nonce.now ≡ s.nonce
         → s.aad ≡ aad.now → length aad.now ≤ aad_limit s.suite → HoldsNumbers result s [] }
 {
     let hash_keys = hash_keys(hash_key);
-    PassState::begun(
+    PassState::initial(
         &PolyvalKeys {
             multiplier: keys.few,
             key: keys.key,
@@ -48,9 +53,10 @@ pub(crate) fn begun(keys: ExpandedKey, hash_key: &Block, nonce: &Nonce, aad: &[u
     )
 }
 
-// Those by the bytes of the encryption key. Its schedule and multiples stand on the stack of this call alone.
+// The initial state for associated data, from the bytes of the encryption key. Only this call has the key schedule and the table
+// on its stack.
 #[inline(never)]
-fn hashed_anew(key: &[u8], hash_key: &Block, nonce: &Nonce, aad: &[u8]) -> PassState
+fn state_after_aad(key: &[u8], hash_key: &Block, nonce: &Nonce, aad: &[u8]) -> PassState
     requires { IsKeyLength (length key.now) }
     ensures { (s : Setting) → construction_of s.suite ≡ ByGcmSiv → key.now ≡ encryption_key s.key s.nonce
         → Serves Reversed (authentication_key s.key s.nonce) hash_key.now → nonce.now ≡ s.nonce
@@ -58,7 +64,7 @@ fn hashed_anew(key: &[u8], hash_key: &Block, nonce: &Nonce, aad: &[u8]) -> PassS
 {
     let key = expanded(key);
     let few = TableMul::of(hash_key);
-    begun(
+    initial_state(
         ExpandedKey {
             key: &key,
             few: &few,
@@ -69,8 +75,13 @@ fn hashed_anew(key: &[u8], hash_key: &Block, nonce: &Nonce, aad: &[u8]) -> PassS
     )
 }
 
-// Those by the bytes of the encryption key. If there is no associated data, neither schedule nor multiples are needed.
-pub(crate) fn begun_anew(key: &[u8], hash_key: &Block, nonce: &Nonce, aad: &[u8]) -> PassState
+// The initial state, from the bytes of the encryption key. Without associated data neither a schedule nor a table is needed.
+pub(crate) fn initial_state_by_key(
+    key: &[u8],
+    hash_key: &Block,
+    nonce: &Nonce,
+    aad: &[u8],
+) -> PassState
     requires { IsKeyLength (length key.now) }
     ensures { (s : Setting) → construction_of s.suite ≡ ByGcmSiv → key.now ≡ encryption_key s.key s.nonce
         → Serves Reversed (authentication_key s.key s.nonce) hash_key.now → nonce.now ≡ s.nonce
@@ -79,12 +90,11 @@ pub(crate) fn begun_anew(key: &[u8], hash_key: &Block, nonce: &Nonce, aad: &[u8]
     if aad.is_empty() {
         PassState::empty(hash_keys(hash_key))
     } else {
-        hashed_anew(key, hash_key, nonce, aad)
+        state_after_aad(key, hash_key, nonce, aad)
     }
 }
 
-// Masks and authenticates a piece by a multiplier of the type `M`, which is made here: it stands on the stack of this call
-// alone.
+// Masks and authenticates a piece with a multiplier of type `M` that is made here, so that only this call has it on its stack.
 #[inline(never)]
 fn mask_by<M: Keyed128>(
     state: &mut PassState,
@@ -113,7 +123,7 @@ fn mask_by<M: Keyed128>(
     *known = mask.known_block();
 }
 
-// Masks and authenticates a piece by the bytes of a key, whose schedule stands on the stack of this call alone.
+// Masks and authenticates a piece under the bytes of a key. Only this call has the key schedule on its stack.
 #[inline(never)]
 fn mask_anew(
     state: &mut PassState,
@@ -137,7 +147,7 @@ fn mask_anew(
     }
 }
 
-// Masks and authenticates a piece by the schedule of a key, with the few multiples if it is short.
+// Masks and authenticates a piece with a key schedule, and with the small table if the piece is short.
 fn mask_expanded(
     state: &mut PassState,
     keys: ExpandedKey,
@@ -193,7 +203,7 @@ pub(crate) fn mask(
     }
 }
 
-// Authenticates a piece by a multiplier of the type `M`, which is made here: it stands on the stack of this call alone.
+// Authenticates a piece with a multiplier of type `M` that is made here, so that only this call has it on its stack.
 #[inline(never)]
 fn take_by<M: Keyed128>(state: &mut PassState, key: &AesKey, nonce: &Nonce, piece: &[u8])
     requires { state.old.length + length piece.now < 2 ^ 64 }
@@ -211,7 +221,7 @@ fn take_by<M: Keyed128>(state: &mut PassState, key: &AesKey, nonce: &Nonce, piec
     state.take(&keys, piece);
 }
 
-// Authenticates a piece by the bytes of a key, whose schedule stands on the stack of this call alone.
+// Authenticates a piece under the bytes of a key. Only this call has the key schedule on its stack.
 #[inline(never)]
 fn take_anew(state: &mut PassState, bytes: KeyBytes, nonce: &Nonce, piece: &[u8])
     requires { state.old.length + length piece.now < 2 ^ 64 }
@@ -226,7 +236,7 @@ fn take_anew(state: &mut PassState, bytes: KeyBytes, nonce: &Nonce, piece: &[u8]
     }
 }
 
-// Authenticates a piece by the schedule of a key, with the few multiples if it is short.
+// Authenticates a piece with a key schedule, and with the small table if the piece is short.
 fn take_expanded(state: &mut PassState, keys: ExpandedKey, nonce: &Nonce, piece: &[u8])
     requires { state.old.length + length piece.now < 2 ^ 64 }
     ensures { (s : Setting) (fed : List ℕ) → construction_of s.suite ≡ ByGcmSiv
@@ -259,8 +269,8 @@ pub(crate) fn take(state: &mut PassState, keys: AesKeys, nonce: &Nonce, piece: &
     }
 }
 
-// Authenticates the text of a piece of a ciphertext by a multiplier of the type `M`, which is made here: it stands on the stack
-// of this call alone.
+// Authenticates the text of a piece of a ciphertext with a multiplier of type `M` that is made here, so that only this call has it
+// on its stack.
 #[inline(never)]
 fn take_text_by<M: Keyed128>(
     state: &mut PassState,
@@ -285,7 +295,7 @@ fn take_text_by<M: Keyed128>(
     state.take_text(&keys, &mut mask, piece);
 }
 
-// Authenticates the text of a piece of a ciphertext by a schedule.
+// Authenticates the text of a piece of a ciphertext with a key schedule.
 fn take_text_under(state: &mut PassState, key: &AesKey, nonce: &Nonce, tag: &[u8; 16], piece: &[u8])
     requires { state.old.length + length piece.now ≤ 2 ^ 36 }
     ensures { (s : Setting) (fed : List ℕ) → construction_of s.suite ≡ ByGcmSiv
@@ -318,7 +328,7 @@ pub(crate) fn take_text(
     }
 }
 
-// The tag of what was authenticated, by a schedule and multiples that are made here.
+// Returns the tag, with a key schedule and a table that are made here.
 #[inline(never)]
 fn tag_anew(state: &PassState, bytes: KeyBytes, nonce: &Nonce) -> Tag
     ensures { (s : Setting) (bytes' : List ℕ) → construction_of s.suite ≡ ByGcmSiv
@@ -334,7 +344,7 @@ fn tag_anew(state: &PassState, bytes: KeyBytes, nonce: &Nonce) -> Tag
     })
 }
 
-// The tag of what was authenticated.
+// Returns the tag of what was authenticated.
 #[inline(always)]
 pub(crate) fn tag(state: &PassState, keys: AesKeys, nonce: &Nonce) -> Tag
     ensures { (s : Setting) (bytes : List ℕ) → construction_of s.suite ≡ ByGcmSiv → AreSivKeys keys.entry s

@@ -1,5 +1,5 @@
-//! What a sealing by two readings or an opening in two passes has taken in, as plain numbers: what a state in pieces is saved as.
-//! A message in pieces goes on by the same steps whether its keys are lent by a cipher or kept as bytes.
+//! The state of a sealing in two readings or of an opening in two passes, as plain numbers, which a caller can save. The steps are
+//! the same whether a cipher lends the keys or the caller has them as bytes.
 
 ghost use Rattle.std.specs.Prelude.{◌≡◌, ◌+◌, ◌<◌, ◌≤◌, ◌++◌, ℕ, List, [], length, true, false};
 ghost use Rattle.std.specs.Prelude.{MatchResult, OnErr};
@@ -15,16 +15,16 @@ use crate::pass_state::{PassState, Sum};
 use aes::KnownBlock;
 use octets::{Fault, Tag, same};
 
-/// What a sealing by two readings under AES-GCM-SIV, or an opening in two passes under any suite, has taken in, as plain
-/// numbers, without the message's key and nonce. Each number may have any value.
+/// The state of a sealing in two readings under AES-GCM-SIV, or of an opening in two passes under any suite, as plain numbers,
+/// without the message's key and nonce. Each number may have any value.
 ///
 /// Keep the numbers as secret as the key: whoever has them can forge sealings, as with those of a [`PassState`].
 #[repr(C)]
 #[derive(Clone, Copy)]
 pub struct TwoPassState {
-    // What the reading or the pass has taken in so far.
+    // The state of the reading or the pass.
     pub(crate) pass: PassState,
-    // The hash's sum over the padded associated data, with which each of both begins.
+    // The sum of the hash over the padded associated data, where both readings or passes begin.
     pub(crate) start: Sum,
     // The tag and the length of the first text, in the second reading; or the tag of the sealing in both passes, and the length of
     // the first in the second.
@@ -51,7 +51,7 @@ impl TwoPassState {
         }
     }
 
-    // The first reading or pass, by numbers that have taken in nothing yet.
+    // The state of a first reading or pass that begins in this initial state.
     pub(crate) fn first(pass: PassState, tag: &[u8; 16]) -> TwoPassState
         ensures pass { result.pass ≡ pass }
         ensures start { (s : Setting) → HoldsNumbers pass s [] → IsStart result.start s }
@@ -65,7 +65,7 @@ impl TwoPassState {
         }
     }
 
-    // The second reading or pass, which has taken in nothing yet, after a first one with this tag.
+    // The state at the start of the second reading or pass, after a first one with this tag.
     fn second(&self, tag: &[u8; 16]) -> TwoPassState
         ensures pass { (s : Setting) (text : List ℕ) → HoldsNumbers self.now.pass s text → IsStart self.now.start s
             → HoldsNumbers result.pass s [] }
@@ -83,7 +83,8 @@ impl TwoPassState {
 
     // ---- a sealing in two readings
 
-    // Adds a piece to the text in the first reading. `TextTooLong` if the text would be past its limit: the state is then as it was.
+    // Adds a piece to the text in the first reading. `TextTooLong` if the text would be longer than the suite's limit: the state
+    // does not change then.
     #[inline(always)]
     pub(crate) fn absorb(&mut self, keys: &MessageKeys, piece: &[u8]) -> Result<(), Fault>
         ensures answer { (s : Setting) (text : List ℕ) → AreKeysOf keys.now s → IsInFirstReading self.old s text
@@ -108,7 +109,7 @@ impl TwoPassState {
         keys.tag(&self.pass)
     }
 
-    // Ends the first reading, and returns the tag of its text. The second reading has taken in nothing yet.
+    // Ends the first reading, and returns the tag of its text. The second reading begins.
     pub(crate) fn begin_second_reading(&mut self, keys: &MessageKeys) -> Tag
         ensures { (s : Setting) (text : List ℕ) → construction_of s.suite ≡ ByGcmSiv → AreKeysOf keys.now s
             → IsInFirstReading self.old s text
@@ -119,8 +120,8 @@ impl TwoPassState {
         tag
     }
 
-    // Adds a piece to the text in the second reading, and leaves its ciphertext in its place. `SourceChanged` if that text would be
-    // longer than the first: state and piece are then as they were.
+    // Adds a piece to the text in the second reading, and replaces it by its ciphertext. `SourceChanged` if that text would be longer
+    // than the first: nothing changes then. `known` is the block of AES that the text ends inside, if it is known.
     #[inline(always)]
     pub(crate) fn write(
         &mut self,
@@ -164,8 +165,8 @@ impl TwoPassState {
 
     // ---- an opening in two passes
 
-    // Takes in a piece of the ciphertext in the first pass. `TextTooLong` if the ciphertext would be past the suite's limit: the
-    // state is then as it was.
+    // Authenticates a piece of the ciphertext in the first pass. `TextTooLong` if the ciphertext would be longer than the suite's
+    // limit: the state does not change then.
     #[inline(always)]
     pub(crate) fn check(&mut self, keys: &MessageKeys, piece: &[u8]) -> Result<(), Fault>
         ensures answer { (s : Setting) (tag body : List ℕ) → AreKeysOf keys.now s → IsInFirstPass self.old s tag body
@@ -183,7 +184,7 @@ impl TwoPassState {
         Ok(())
     }
 
-    // Whether what the pass has taken in is the ciphertext of a sealing with the tag.
+    // Whether the bytes of the pass and the tag are a valid sealing.
     fn is_sealing(&self, keys: &MessageKeys) -> bool
         ensures sealing { (s : Setting) (tag body : List ℕ) → AreKeysOf keys.now s → MasksByBytes s
             → IsInFirstPass self.now s tag body → result ≡ true → Opens s tag body }
@@ -193,8 +194,8 @@ impl TwoPassState {
         same(keys.tag(&self.pass).bytes(), &self.tag)
     }
 
-    // Ends the first pass. `Ok` if it was over a sealing: the second pass has taken in nothing yet. `TagMismatch` if authentication
-    // failed: the state is then as it was.
+    // Ends the first pass. `Ok` if it was over a valid sealing: the second pass begins. `TagMismatch` if authentication failed: the
+    // state does not change then.
     pub(crate) fn begin_second_pass(&mut self, keys: &MessageKeys) -> Result<(), Fault>
         ensures answer { (s : Setting) (tag body : List ℕ) → AreKeysOf keys.now s → MasksByBytes s
             → IsInFirstPass self.old s tag body
@@ -210,8 +211,8 @@ impl TwoPassState {
         Ok(())
     }
 
-    // Takes in a piece of the ciphertext in the second pass, and leaves its text in its place. `SourceChanged` if the second pass
-    // would be longer than the first: state and piece are then as they were.
+    // Replaces a piece of the ciphertext by its text in the second pass, and authenticates it. `SourceChanged` if the second pass
+    // would be longer than the first: nothing changes then. `known` is the block of AES that the pass ends inside, if it is known.
     #[inline(always)]
     pub(crate) fn open(
         &mut self,
@@ -237,7 +238,7 @@ impl TwoPassState {
         Ok(())
     }
 
-    // Returns `Ok` if what the second pass took in is the ciphertext of the sealing, else `SourceChanged`.
+    // Returns `Ok` if the second pass was over the ciphertext of the sealing, else `SourceChanged`.
     pub(crate) fn end_pass(&self, keys: &MessageKeys) -> Result<(), Fault>
         ensures answer { (s : Setting) (tag : List ℕ) (first : ℕ) (body : List ℕ) → AreKeysOf keys.now s
             → MasksByBytes s → IsInSecondPass self.now s tag first body → MatchResult result (λ _. Opens s tag body)

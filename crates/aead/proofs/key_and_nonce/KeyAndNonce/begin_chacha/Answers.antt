@@ -19,5 +19,5 @@ returns c =
       has_keys c.of.result s c.bytes.result.now
           (c.bytes.ensures.value ∙ ap (λ (x : Construction). cipher_key x s) by) (ap length c.bytes.ensures.value ∙ long)
           long c.of.ensures.nonce_length c.of.ensures.key c.of.ensures.nonce,
-      c.begun.ensures s c.requires.by keyed refl c.requires.fits,
+      c.initial.ensures s c.requires.by keyed refl c.requires.fits,
     )

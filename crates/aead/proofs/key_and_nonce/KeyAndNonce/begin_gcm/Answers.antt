@@ -5,13 +5,13 @@ use Rattle.aead.specs.KeyedPasses.{setting_of, cipher_key}
 use Rattle.aead.proofs.KeyedPasses.{has_keys}
 use Rattle.aead.proofs.key_and_nonce.KeyAndNonce.begin_gcm.Goals as goal
 
-pub begun_anew-requires : goal.begun_anew-requires
-begun_anew-requires c = c.requires.ghash_key ∙ ap hash_key (sym c.requires.cipher)
+pub initial_state_by_key-requires : goal.initial_state_by_key-requires
+initial_state_by_key-requires c = c.requires.ghash_key ∙ ap hash_key (sym c.requires.cipher)
 
 pub returns : goal.returns
 returns c =
     let s : Setting = setting_of c.args.suite c.args.key.now c.args.nonce.now c.args.aad.now in (
       has_keys c.of.result s c.args.key.now (ap (λ (x : Construction). cipher_key x s) (sym c.requires.by))
           c.requires.long c.requires.long c.of.ensures.nonce_length c.of.ensures.key c.of.ensures.nonce,
-      c.begun_anew.ensures s c.requires.by (sym c.requires.cipher) refl refl c.requires.fits,
+      c.initial_state_by_key.ensures s c.requires.by (sym c.requires.cipher) refl refl c.requires.fits,
     )

@@ -16,7 +16,7 @@ returns-clause-holds g c = λ s bytes keyed held.
     let last = c.rest-last.result.now in
     let after = c.copy_from_slice.ensures.after in
     let rest_is : last ≡ drop (length m / 16 * 16) m = c.rest-last.ensures.value s m held.hashed in
-    let used : c.args.taken.now.length % 16 ≡ length last =
+    let used : c.args.authenticator.now.length % 16 ≡ length last =
     omega (
       arith,
       held.length_is,
@@ -29,7 +29,7 @@ returns-clause-holds g c = λ s bytes keyed held.
       hash_key_is = keyed;
       sum_is = subst (λ (x : ℕ). IsSumOf (construction_of s.suite) x c.sum-low.result.1 s m) whole
           (c.sum-low.ensures s m held.hashed);
-      rest_is = take-put_mid 0 (length last) (replicate 16 0) c.copy_from_slice.new.self (c.args.taken.now.length % 16)
+      rest_is = take-put_mid 0 (length last) (replicate 16 0) c.copy_from_slice.new.self (c.args.authenticator.now.length % 16)
           (omega (arith, used, ap length after)) (omega arith) ∙ after ∙ rest_is;
       aad_length_is = held.aad_length_is;
       length_is = held.length_is;

@@ -9,6 +9,6 @@ returns c =
     record {
       keys = (c.keys.ensures c.args.aad.now).0;
       one_pass = (c.keys.ensures c.args.aad.now).2;
-      state = empty_text _ s c.begun.ensures;
+      state = empty_text _ s c.initial_state.ensures;
       known = c.none.ensures _;
     }

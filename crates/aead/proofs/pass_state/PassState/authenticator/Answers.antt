@@ -2,7 +2,7 @@ use Rattle.std.proofs.Common.{ℕ, ◌++◌, sym, subst}
 use Rattle.octets.specs.Bytes.{pad16}
 use Rattle.aead.specs.Suites.{construction_of}
 use Rattle.aead.specs.PassStates.{IsSumOf}
-use Rattle.aead.proofs.pass_state.PassState.taken.Goals as goal
+use Rattle.aead.proofs.pass_state.PassState.authenticator.Goals as goal
 
 pub returns-clause-holds : goal.returns-clause-holds
 returns-clause-holds g c = λ s bytes serves t.

@@ -12,7 +12,7 @@ use Rattle.aead.specs.Code.MessageKeys.{AreKeysOf}
 use Rattle.aead.specs.Pieces.{MasksByBytes}
 use Rattle.aead.proofs.ByteMasks.{mask_of_small}
 use Rattle.aead.proofs.KeyedPasses.{has_keys_with}
-use Rattle.aead.proofs.opener.begun.Goals as goal
+use Rattle.aead.proofs.opener.keys_and_state.Goals as goal
 
 pub returns-in-OnePass-clause-keys : goal.returns-in-OnePass-clause-keys
 returns-in-OnePass-clause-keys c = λ any.
@@ -22,8 +22,8 @@ returns-in-OnePass-clause-keys c = λ any.
 
 pub returns-in-OnePass-clause-holds : goal.returns-in-OnePass-clause-holds
 returns-in-OnePass-clause-holds c =
-    subst (λ (k : Keyed). HoldsNumbers c.begun.result (setting k c.args.nonce.now c.args.aad.now) [])
-    (sym (ap keyed_of c.in-OnePass.is)) c.begun.ensures
+    subst (λ (k : Keyed). HoldsNumbers c.initial_state.result (setting k c.args.nonce.now c.args.aad.now) [])
+    (sym (ap keyed_of c.in-OnePass.is)) c.initial_state.ensures
 
 pub returns-in-Siv-clause-keys : goal.returns-in-Siv-clause-keys
 returns-in-Siv-clause-keys c = λ any.

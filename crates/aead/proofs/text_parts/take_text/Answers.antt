@@ -3,13 +3,13 @@ use Rattle.std.proofs.Math.Seq.{take-add}
 use Rattle.std.proofs.lemmas.List.{take_all}
 use Rattle.aead.specs.Code.Masks.{TakesText}
 use Rattle.aead.proofs.Parts.{no_text, more_text}
-use Rattle.aead.proofs.taken_text.take_text.Goals as goal
+use Rattle.aead.proofs.text_parts.take_text.Goals as goal
 
 pub parts-init : goal.parts-init
 parts-init g c = (
   omega arith,
   omega arith,
-  no_text g.S.MaskStream.made g.H.TagHash.held c.args.mask.now c.args.taken.now,
+  no_text g.S.MaskStream.made g.H.TagHash.held c.args.mask.now c.args.authenticator.now,
 )
 
 pub parts-preserved : goal.parts-preserved
@@ -32,5 +32,5 @@ returns-clause-takes g c =
     let p : List ℕ = c.args.piece.now in
     let d : ℕ = c.parts.done in
     let all : take d p ≡ p = take_all d p (omega (arith, c.parts-test.false)) in
-    subst (λ x. TakesText g.S.MaskStream.made g.H.TagHash.held c.args.mask.now c.parts.mask c.args.taken.now
-    c.parts.taken x) all c.parts.invariant.2
+    subst (λ x. TakesText g.S.MaskStream.made g.H.TagHash.held c.args.mask.now c.parts.mask c.args.authenticator.now
+    c.parts.authenticator x) all c.parts.invariant.2

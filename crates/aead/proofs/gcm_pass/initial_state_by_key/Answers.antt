@@ -2,7 +2,7 @@ use Rattle.std.proofs.Common.{◌≡◌, sym, ap, subst, arith, length, ◌∙�
 use Rattle.std.proofs.lemmas.Grind.{common_steps}
 use Rattle.aead.specs.Suites.{Construction}
 use Rattle.aead.specs.PassStates.{IsHashKey}
-use Rattle.aead.proofs.gcm_pass.begun_anew.Goals as goal
+use Rattle.aead.proofs.gcm_pass.initial_state_by_key.Goals as goal
 
 pub returns-then-is_empty : goal.returns-then-is_empty
 returns-then-is_empty c = λ s by key nonce aad fits.

@@ -1,6 +1,6 @@
 use Rattle.std.proofs.Common.{◌≡◌, ap, arith, length, ◌∙◌}
 use Rattle.std.proofs.lemmas.Grind.{common_steps}
-use Rattle.aead.proofs.siv_pass.begun_anew.Goals as goal
+use Rattle.aead.proofs.siv_pass.initial_state_by_key.Goals as goal
 
 pub returns-then-is_empty : goal.returns-then-is_empty
 returns-then-is_empty c = λ s by key serves nonce aad fits.

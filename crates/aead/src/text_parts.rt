@@ -1,0 +1,48 @@
+//! Authenticates the text of a ciphertext under AES-GCM-SIV in a pass that returns no text: it is decrypted part by part in a
+//! buffer.
+
+ghost use Rattle.std.specs.Prelude.{◌≡◌, ◌+◌, ◌<◌, ◌≤◌, ◌^◌, length};
+ghost use Rattle.aead.specs.Code.Masks.{TakesText};
+
+use crate::authenticator::Authenticator;
+use crate::beside::{Order, step};
+use crate::hashes::TagHash;
+use crate::mask::MaskStream;
+
+// The length of the buffer in bytes.
+const PART: usize = 2048;
+
+// Authenticates the text of a part of a ciphertext.
+fn take_part<S: MaskStream, H: TagHash>(
+    mask: &mut S,
+    authenticator: &mut Authenticator<H>,
+    part: &[u8],
+)
+    requires small { length part.now ≤ 2048 }
+    requires room { authenticator.old.length + length part.now < 2 ^ 64 }
+    ensures takes { TakesText S.made H.held mask.old mask.new authenticator.old authenticator.new part.now }
+    ensures length { authenticator.new.length ≡ authenticator.old.length + length part.now }
+{
+    let mut buf = [0; PART];
+    let text = &mut buf[..part.len()];
+    text.copy_from_slice(part);
+    step(Order::MaskFirst, mask, authenticator, text);
+}
+
+// Authenticates the text of a piece of a ciphertext.
+pub(crate) fn take_text<S: MaskStream, H: TagHash>(
+    mask: &mut S,
+    authenticator: &mut Authenticator<H>,
+    piece: &[u8],
+)
+    requires { authenticator.old.length + length piece.now < 2 ^ 64 }
+    ensures takes { TakesText S.made H.held mask.old mask.new authenticator.old authenticator.new piece.now }
+    ensures length { authenticator.new.length ≡ authenticator.old.length + length piece.now }
+{
+    let mut done = 0;
+    'parts: while done < piece.len() {
+        let next = (piece.len() - done).min(PART);
+        take_part(mask, authenticator, &piece[done..done + next]);
+        done += next;
+    }
+}
