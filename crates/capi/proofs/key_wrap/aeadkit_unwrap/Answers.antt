@@ -7,3 +7,6 @@ returns-then-wrapped-lt24 c = inl (Err WrapLength, search rules)
 
 pub returns-in-Err : goal.returns-in-Err
 returns-in-Err c = inl (Err c.in-Err.fault, search rules)
+
+pub returns-else-text-wrapped : goal.returns-else-text-wrapped
+returns-else-text-wrapped c = inl (c.unwrap_to.result, search rules)
