@@ -48,9 +48,10 @@ def seal_file(key: bytes, source_name: str, target_name: str) -> None:
             raise ValueError("IN and OUT are one file, which would be lost")
         fcntl.flock(target, fcntl.LOCK_EX | fcntl.LOCK_NB)
         if not os.path.exists(path):
-            target.truncate()
             nonce = os.urandom(NONCE)
-            store(path, [state_of(source), nonce.hex(), 0, nonce.hex(), Sealer(SUITE, key, nonce).save().hex()])
+            begun = Sealer(SUITE, key, nonce).save()  # a key of another length is refused while OUT is as it was
+            target.truncate()
+            store(path, [state_of(source), nonce.hex(), 0, nonce.hex(), begun.hex()])
         while True:
             with open(path) as file:
                 first_state, hex_nonce, at, hex_piece, saved = json.load(file)

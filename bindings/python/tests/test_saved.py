@@ -357,6 +357,12 @@ class Example(unittest.TestCase):
         self.seal()
         self.assertEqual(self.opened(), TEXT)
 
+    def test_a_key_of_another_length(self):
+        self.source.write_bytes(TEXT)
+        self.target.write_bytes(b"an earlier sealing")
+        self.assertRaises(aeadkit.KeyLength, self.example.seal_file, KEY + b"\n", str(self.source), str(self.target))
+        self.assertEqual(self.target.read_bytes(), b"an earlier sealing")
+
     def test_another_key(self):
         """A key file that was exchanged between two runs ends the second one, and the first key goes on."""
         self.source.write_bytes(TEXT)
