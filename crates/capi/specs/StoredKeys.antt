@@ -1,6 +1,6 @@
 -- A key that is kept in C's memory between messages.
 use Rattle.std.specs.Prelude.{◌≡◌, ◌≢◌, ℕ, ◌-◌, List, drop, replicate}
-use Rattle.gf128.specs.Code.KeptMultiples.{KeepsMultiples}
+use Rattle.gf128.specs.Code.PlainMultiples.{HasMultiples}
 use Rattle.aead.specs.declared.suite.Suite.{Suite}
 use Rattle.aead.specs.Suites.{key_length}
 use Rattle.capi.specs.declared.stored_key.KeyNumbers.{KeyNumbers}
@@ -28,4 +28,4 @@ pub record IsCleared (n : KeyNumbers) : Type 0 where
   pub key_is : n.key ≡ replicate 32 0
   pub words_are : n.words ≡ replicate 60 0
   pub ghash_key_is : n.ghash_key ≡ replicate 16 0
-  pub multiples_are : KeepsMultiples n.multiples (replicate 16 0)
+  pub multiples_are : HasMultiples n.multiples (replicate 16 0)

@@ -3,7 +3,7 @@
 ghost use Rattle.std.specs.Prelude.{◌≡◌, ◌-◌, length, drop, replicate};
 ghost use Rattle.aes.specs.Cipher.{IsKey, IsKeyLength};
 ghost use Rattle.aes.specs.Code.KeptWords.{KeepsSchedule};
-ghost use Rattle.gf128.specs.Code.KeptMultiples.{KeepsMultiples};
+ghost use Rattle.gf128.specs.Code.PlainMultiples.{HasMultiples};
 ghost use Rattle.aead.specs.declared.suite.Suite.{Suite};
 ghost use Rattle.aead.specs.Suites.{key_length};
 ghost use Rattle.aead.specs.Sealing.{hash_key};
@@ -12,7 +12,7 @@ ghost use Rattle.capi.specs.Keys.{key_mark, first_key};
 use crate::suites::mark_of;
 use aead::{Suite, hash_subkey};
 use aes::AesKey;
-use gf128::{KeptMul, KeptMultiples, Keyed128, Multiply, TableMul};
+use gf128::{Keyed128, Multiply, PlainMul, PlainMultiples, TableMul};
 use octets::Block;
 
 // The number of this kind of struct: `cipher` in ASCII, and the version of its layout. A mark is this number plus the suite's.
@@ -31,7 +31,7 @@ pub struct KeyNumbers {
     words: [u32; 60],
     // The key of GHASH, and its multiples.
     ghash_key: [u8; 16],
-    multiples: KeptMultiples,
+    multiples: PlainMultiples,
 }
 
 impl KeyNumbers {
@@ -47,7 +47,7 @@ impl KeyNumbers {
             key: [0; 32],
             words: [0; 60],
             ghash_key: [0; 16],
-            multiples: TableMul::none().kept(),
+            multiples: TableMul::none().plain_multiples(),
         }
     }
 }
@@ -71,7 +71,7 @@ pub struct StoredKey {
     ghost hashes: { (suite : Suite) → numbers.mark ≡ key_mark suite
         → numbers.ghash_key ≡ hash_key (first_key suite numbers.key) },
     ghost multiplied: { (suite : Suite) → numbers.mark ≡ key_mark suite
-        → KeepsMultiples numbers.multiples (hash_key (first_key suite numbers.key)) },
+        → HasMultiples numbers.multiples (hash_key (first_key suite numbers.key)) },
 }
 
 impl StoredKey {
@@ -92,7 +92,7 @@ impl StoredKey {
             key: padded,
             words: aes.words(),
             ghash_key: *ghash_key.bytes(),
-            multiples: TableMul::of(&ghash_key).kept(),
+            multiples: TableMul::of(&ghash_key).plain_multiples(),
         };
         StoredKey { numbers }
     }
@@ -126,11 +126,11 @@ impl StoredKey {
 
     // Returns the multiplier by the key of GHASH.
     #[inline(always)]
-    pub(crate) fn multiplier<'a>(&'a self, suite: Suite) -> KeptMul<'a>
+    pub(crate) fn multiplier<'a>(&'a self, suite: Suite) -> PlainMul<'a>
         requires marked { self.now.numbers.mark ≡ key_mark suite }
-        ensures { ⟦<KeptMul<'a> as Multiply>⟧.key_bytes result
+        ensures { ⟦<PlainMul<'a> as Multiply>⟧.key_bytes result
             ≡ hash_key (first_key suite self.now.numbers.key) }
     {
-        KeptMul::new(&self.ghash_key(suite), &self.numbers.multiples)
+        PlainMul::new(&self.ghash_key(suite), &self.numbers.multiples)
     }
 }

@@ -2,7 +2,7 @@
 use Rattle.std.proofs.Common.{◌≡◌, ℕ, ◌+◌, ◌*◌, ◌^◌, ◌≤◌, List, ◌∙◌, ap, ap₂, arith, length}
 use Rattle.octets.specs.Masked.{masked}
 use Rattle.chacha.specs.Stream.{key_stream_byte}
-use Rattle.chacha.specs.States.{Holds, Applied}
+use Rattle.chacha.specs.Code.States.{Holds, Applied}
 use Rattle.chacha.specs.declared.stream.ChaStream.{ChaStream}
 use Rattle.chacha.proofs.Masking.{masked_same, key_stream_byte-first}
 

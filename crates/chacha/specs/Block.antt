@@ -1,5 +1,4 @@
--- The ChaCha20 block (RFC 8439, 2.1 to 2.3). A word is a number below 2^32, a state a list of sixteen
--- words.
+-- The ChaCha20 block (RFC 8439, 2.1 to 2.3). A word is a number below 2^32, and a state is a list of sixteen words.
 use Rattle.std.specs.Prelude.{ℕ, zero, suc, ◌+◌, ◌*◌, ◌%◌, ◌^◌, List, [], ◌∷◌, ◌++◌}
 use Rattle.std.specs.Prelude.{take, drop, map, flat_map, bit_xor, slice_index, slice_set}
 use Rattle.std.specs.List.{range_with_len}

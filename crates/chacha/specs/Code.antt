@@ -1,4 +1,5 @@
--- How the code makes several blocks at once. The key stream is defined without it.
+-- Where a state of the key stream is, and how the code computes several blocks at once. The key stream is defined without it.
+pub mod States
 pub mod Halves
 pub mod Lanes
 pub mod Rows

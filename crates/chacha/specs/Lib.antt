@@ -1,4 +1,3 @@
 pub mod Block
 pub mod Stream
-pub mod States
 pub mod Code

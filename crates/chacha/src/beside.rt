@@ -1,7 +1,8 @@
-//! The key stream of ChaCha20 (RFC 8439, 2.4), XORed into a text beside a hash of the same text, by whole runs where there are
-//! some.
+//! The key stream of ChaCha20 (RFC 8439, 2.4), XORed into a text beside a hash of the same text: first the whole runs of the text,
+//! and then the rest.
 
-ghost use Rattle.std.specs.Prelude.{◌≡◌, ℕ, ◌+◌, ◌-◌, ◌*◌, ◌/◌, ◌%◌, ◌^◌, ◌<◌, ◌≤◌, ◌++◌, [], List, length, take, drop};
+ghost use Rattle.std.specs.Prelude.{◌≡◌, ℕ, ◌+◌, ◌-◌, ◌*◌, ◌/◌, ◌%◌, ◌^◌, ◌<◌, ◌≤◌};
+ghost use Rattle.std.specs.Prelude.{◌++◌, [], List, length, take, drop};
 ghost use Rattle.octets.specs.Ends.{whole_blocks};
 ghost use Rattle.octets.specs.Masked.{masked};
 ghost use Rattle.chacha.specs.Stream.{key_stream_byte};
@@ -12,8 +13,8 @@ use octets::{Beside, BlockWork, Idle, Key32, Nonce, WIDE};
 use std::simd::{u32x4, u32x8};
 
 // XORs whole runs of the key stream from an offset on into the bytes after the first `begun`, while `hash` takes in bytes that
-// are masked, from the first on. Returns how many bytes are masked now, and how many of them are hashed. There is no run within
-// a block.
+// are masked, from the first on. Returns the number of bytes before the first that is not masked, and how many of them are
+// hashed. If the offset is inside a block, there is no run.
 fn mask_runs<W: BlockWork>(
     key: &Key32,
     nonce: &Nonce,
@@ -56,8 +57,8 @@ fn mask_runs<W: BlockWork>(
     (begun, 0)
 }
 
-// XORs the key stream from an offset on into the bytes after the first `done`, whole blocks, while `hash` takes in the whole
-// blocks of all bytes after the first `taken`, as they leave.
+// XORs the key stream from an offset on into the bytes after the first `done`, while `hash` takes in the bytes after the first
+// `taken`, as far as they are whole blocks, each after it is masked. Both numbers are of whole blocks of 16 bytes.
 fn mask_last<W: BlockWork>(
     key: &Key32,
     nonce: &Nonce,
@@ -88,7 +89,7 @@ fn mask_last<W: BlockWork>(
     hash.take_all(&bytes[left..whole]);
 }
 
-// XORs the key stream from an offset on into the bytes after the first `begun`, and then hashes the whole blocks of all.
+// XORs the key stream from an offset on into the bytes after the first `begun`, and then hashes the whole blocks of all bytes.
 fn mask_plainly<W: BlockWork>(
     key: &Key32,
     nonce: &Nonce,
@@ -111,7 +112,7 @@ fn mask_plainly<W: BlockWork>(
 }
 
 // XORs the key stream from an offset on into the bytes after the first `begun`, while `hash` takes in the whole blocks of all
-// bytes, as they leave.
+// bytes, each byte after it is masked.
 pub(crate) fn mask_beside<W: BlockWork>(
     key: &Key32,
     nonce: &Nonce,
@@ -143,8 +144,8 @@ pub(crate) fn mask_beside<W: BlockWork>(
     );
 }
 
-// XORs whole runs of the key stream from an offset on into the bytes, while `hash` takes in those bytes, each before it is
-// masked. Returns how many bytes that is. There is no run within a block.
+// XORs whole runs of the key stream from an offset on into the bytes, while `hash` takes in the bytes of the runs, each before it
+// is masked. Returns the length of the runs in bytes. If the offset is inside a block, there is no run.
 fn hash_runs<W: BlockWork>(
     key: &Key32,
     nonce: &Nonce,
@@ -180,7 +181,7 @@ fn hash_last<W: BlockWork>(key: &Key32, nonce: &Nonce, offset: u64, bytes: &mut 
     xor_stream(key, nonce, offset, bytes, &mut Idle::new());
 }
 
-// XORs the key stream from an offset on into the bytes, while `hash` takes in their whole blocks, as they come.
+// XORs the key stream from an offset on into the bytes, while `hash` takes in their whole blocks, each byte before it is masked.
 pub(crate) fn hash_beside<W: BlockWork>(
     key: &Key32,
     nonce: &Nonce,

@@ -72,8 +72,8 @@ pub(crate) fn quarter_round<const N: usize, const K: usize>(
     add_xor_rotate(x, c, d, b, 7);
 }
 
-// The first half of the round of the columns in each lane, by 16 and 12, or the second, by 8 and 7. Each operation is
-// done on all four quarter rounds before the next: so LLVM keeps 15 of the 16 words in registers.
+// Half of the round of the columns in each lane: the first half, which rotates by 16 and 12, or the second, by 8 and 7. Each
+// operation is done on all four quarter rounds before the next one, so that LLVM keeps 15 of the 16 words in registers.
 #[inline(always)]
 pub(crate) fn half_columns<const N: usize>(x: &mut [Simd<u32, N>; 16], n: u32, m: u32)
     requires { (0 < n) × (n < 32) × (0 < m) × (m < 32) }
@@ -89,7 +89,7 @@ pub(crate) fn half_columns<const N: usize>(x: &mut [Simd<u32, N>; 16], n: u32, m
     add_xor_rotate(x, 11, 15, 7, m);
 }
 
-// The first half of the round of the diagonals in each lane, or the second.
+// Half of the round of the diagonals in each lane: the first half, which rotates by 16 and 12, or the second, by 8 and 7.
 #[inline(always)]
 pub(crate) fn half_diagonals<const N: usize>(x: &mut [Simd<u32, N>; 16], n: u32, m: u32)
     requires { (0 < n) × (n < 32) × (0 < m) × (m < 32) }
@@ -105,14 +105,14 @@ pub(crate) fn half_diagonals<const N: usize>(x: &mut [Simd<u32, N>; 16], n: u32,
     add_xor_rotate(x, 9, 14, 4, m);
 }
 
-// How many steps of other work are left for later after the second half of a round. A run of four blocks has 40 places for a
-// step and about 16 steps to do: done at the first places, they would fill the processor there and leave it idle at the others.
-// So it does none at every second place, unless more are left than there are other places. A run of eight blocks has 32 steps.
+// After the second half of a round a step of other work is done only if more steps than this are left. A run of four blocks has
+// 40 places for a step, and about 16 steps to do. If the first places took them all, they would fill the processor there and
+// leave it idle at the others. A run of eight blocks has 32 steps to do, and needs no reserve.
 pub(crate) const RESERVE: usize = if WIDE { 0 } else { 20 };
 
-// Ten double rounds in halves of rounds, with a step of other work after each half. The steps are done on a copy: it
-// stays in registers, which a reference would not. A step is a branch, and so keeps the halves of a round apart: if
-// both are in one basic block, LLVM makes two shuffles of the rotation by 8, one for each side of the XOR before it.
+// Ten double rounds in halves of rounds, with a step of other work after each half. The steps are done on a copy, which stays in
+// registers where a reference would not. A step is a branch, and so it keeps the halves of a round apart: in one basic block
+// LLVM would make two shuffles of the rotation by 8, one for each side of the XOR before it.
 #[inline(always)]
 fn ten_rounds<const N: usize, W: Work>(x: &mut [Simd<u32, N>; 16], work: &mut W)
     ensures lanes { (j : ℕ) → j < N → lane j x.new ≡ double_rounds 10 (lane j x.old) }
@@ -160,8 +160,8 @@ pub(crate) fn set_starts<const N: usize>(
     x[12] = counters;
 }
 
-// Computes the words of the blocks that start from the states in the lanes. The counters in these states then rise by the number
-// of lanes.
+// Returns the words of the blocks that start from the states in the lanes, and adds the number of lanes to the counters in these
+// states.
 #[inline(always)]
 pub(crate) fn next_blocks<const N: usize, W: Work>(
     start: &mut [Simd<u32, N>; 16],
@@ -191,8 +191,8 @@ pub(crate) fn four_counters(counter: u32) -> u32x4
 }
 
 /// Sets the states from which the blocks with the counters `counter` to `counter + 3` start (RFC 8439, 2.3), one in each
-/// lane, for [`four_blocks`]. The nonce is as for [`crate::ChaStream::new`]. The caller shows that the last counter is below
-/// 2^32.
+/// lane, for [`four_blocks`]. As for [`crate::ChaStream::new`], a nonce must never be used twice under one key. The caller shows
+/// that the last counter is below 2^32.
 #[inline(always)]
 pub fn set_four_starts(start: &mut [u32x4; 16], key: &Key32, counter: u32, nonce: &Nonce)
     requires { counter + 3 < 2 ^ 32 }
@@ -201,11 +201,11 @@ pub fn set_four_starts(start: &mut [u32x4; 16], key: &Key32, counter: u32, nonce
     set_starts(start, key, nonce, four_counters(counter));
 }
 
-/// Returns the words of four blocks at once (RFC 8439, 2.3): vector i has word i of each, and lane j is the block with the
-/// counter `counter + j`, if `start` has the states from which these start, as [`set_four_starts`] sets them. Afterwards
-/// `start` has the states of the next four, so a long text sets them once. Steps of `work` are done meanwhile.
+/// Returns the words of four blocks at once (RFC 8439, 2.3): vector i has word i of each block, and lane j has the block with the
+/// counter `counter + j`, if `start` has the states from which these blocks start, as [`set_four_starts`] sets them. Afterwards
+/// `start` has the states of the next four, so a long text sets them once. Steps of `work` are done at the same time.
 ///
-/// The caller shows that the last of the four counters is below 2^32: no block past counter 2^32 - 1 is made.
+/// The caller shows that the last of the four counters is below 2^32, so that no block past counter 2^32 - 1 is computed.
 #[inline(always)]
 pub fn four_blocks<W: Work>(start: &mut [u32x4; 16], work: &mut W) -> [u32x4; 16]
     requires { AreStarts 4 start.old }
@@ -334,7 +334,7 @@ fn bytes_of_eight(lanes: u32x8) -> u8x32
     lanes.to_le_bytes()
 }
 
-// XORs 32 bytes into 32 others, all at once.
+// XORs 32 bytes into 32 others at once.
 #[inline(always)]
 pub(crate) fn xor_thirty_two(bytes: &mut [u8], by: u8x32)
     requires { length bytes.old ≡ 32 }
@@ -470,8 +470,8 @@ pub(crate) fn xor_eight_serialized(x: &[u32x8; 16], bytes: &mut [u8])
 }
 
 // XORs the key stream from a counter on into whole runs of 256 bytes, and does forty steps of other work in each. The
-// states from which blocks start are made once. It is a function of its own, since its frame would slow down runs of
-// eight blocks.
+// states from which blocks start are set once. It is a separate function, since its frame would slow down runs of eight
+// blocks.
 #[inline(never)]
 pub(crate) fn xor_fours<W: Work>(
     key: &Key32,
@@ -525,7 +525,7 @@ pub(crate) fn xor_eights<W: Work>(
 }
 
 // XORs the first 512 bytes of the key stream from a counter on into twice 256 bytes, and does forty steps of other work. It
-// is a function of its own, since inlined it would slow down the other widths.
+// is a separate function, since inlining it would slow down the other widths.
 #[inline(never)]
 pub(crate) fn xor_eight<W: Work>(
     key: &Key32,

@@ -1,10 +1,10 @@
 //! ChaCha20 (RFC 8439, 2.1 to 2.4): the block, four blocks at once, the key stream in pieces, and its first blocks.
 //!
-//! A text is encrypted and decrypted by the same call. It is not authenticated: for that take the crate `aead`.
+//! One call encrypts and decrypts. It does not authenticate the text: the crate `aead` does.
 //!
 //! From `crates/chacha/src/uses.rt`:
 //! ```
-//! // Encrypts the bytes in place by the key stream from block 1 on: the nonce serves for this text alone.
+//! // Encrypts the bytes in place with the key stream from block 1 on. The nonce must not be used for another text.
 //! fn encrypt(key: &Key32, nonce: &Nonce, bytes: &mut [u8]) -> Result<(), Fault>
 //!     ensures done { OnOk result (bytes.new ≡ masked (key_stream_byte key.now nonce.now 1) 0 bytes.old) }
 //!     ensures kept { OnErr result (bytes.new ≡ bytes.old) }

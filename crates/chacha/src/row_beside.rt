@@ -45,7 +45,8 @@ fn ten_rounds<const N: usize, W: Work>(
     *work = own;
 }
 
-// Computes the words of one block in each lane, by the counter of the lane. Returns the block of one more counter beside them.
+// Computes the words of one block in each lane, from the counter of the lane, and returns the block of `counter`, which is
+// computed beside them.
 #[inline(always)]
 fn set_blocks<const N: usize, W: Work>(
     x: &mut [Simd<u32, N>; 16],
@@ -69,8 +70,8 @@ fn set_blocks<const N: usize, W: Work>(
     serialized_rows(&row, &row_start)
 }
 
-// XORs the first 320 bytes of the key stream from a counter on, and does forty steps of other work. It is a
-// function of its own, since its frame would slow down runs of eight blocks.
+// XORs the first 320 bytes of the key stream from a counter on into `bytes`, and does forty steps of other work. It is a
+// separate function, since its frame would slow down runs of eight blocks.
 #[inline(never)]
 pub(crate) fn xor_five_blocks<W: Work>(
     key: &Key32,
@@ -98,7 +99,7 @@ pub(crate) fn xor_five_blocks<W: Work>(
     xor_serialized(&x, back);
 }
 
-// XORs the first 576 bytes of the key stream from a counter on.
+// XORs the first 576 bytes of the key stream from a counter on into `bytes`.
 pub(crate) fn xor_nine_blocks(key: &Key32, counter: u32, nonce: &Nonce, bytes: &mut [u8])
     requires counters { counter + 8 < 2 ^ 32 }
     requires size { length bytes.old ≡ 576 }

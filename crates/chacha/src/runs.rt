@@ -1,5 +1,5 @@
-//! Whole runs of blocks of ChaCha20 (RFC 8439, 2.4) beside a hash of the same text: a sealing hashes bytes that are masked, an
-//! opening those that are not yet.
+//! Whole runs of blocks of ChaCha20 (RFC 8439, 2.4) beside a hash of the same text: a sealing hashes the bytes after they are
+//! masked, an opening before.
 
 ghost use Rattle.std.specs.Prelude.{◌≡◌, ℕ, ◌+◌, ◌-◌, ◌/◌, ◌%◌, ◌^◌, ◌<◌, ◌≤◌, ◌++◌, [], List, length, take, drop};
 ghost use Rattle.octets.specs.Masked.{masked};
@@ -12,26 +12,26 @@ use crate::lanes::{
 use octets::{Beside, BlockWork, Key32, Nonce, Work};
 use std::simd::{u32x4, u32x8};
 
-// Blocks that are made side by side, one in each lane: the states from which they start, or their words.
+// Blocks that are computed side by side, one in each lane: the states from which they start, or their words.
 pub(crate) trait Run: Copy {
-    // It has the states of the blocks with the counters from one on.
+    // It has the states from which the blocks with the counters `counter`, `counter + 1` and so on start.
     ghost starts: { Self → (key : List ℕ) → (counter : ℕ) → (nonce : List ℕ) → Type 0 };
 
-    // It has the words of the blocks with the counters from one on.
+    // It has the words of the blocks with the counters `counter`, `counter + 1` and so on.
     ghost blocks: { Self → (key : List ℕ) → (counter : ℕ) → (nonce : List ℕ) → Type 0 };
 
-    // The bytes of its blocks.
+    // The length in bytes of its blocks.
     ghost SIZE: { ℕ };
 
     const SIZE: usize;
 
-    // The states of the blocks with the counters from one on.
+    // Returns the states from which the blocks with the counters `counter`, `counter + 1` and so on start.
     fn starts_at(key: &Key32, counter: u32, nonce: &Nonce) -> Self
         requires { counter + SIZE / 64 ≤ 2 ^ 32 }
         ensures { starts result key.now counter nonce.now };
 
-    // Returns the words of the blocks that start from these states, and does steps of other work meanwhile. The states are then
-    // those of the next blocks.
+    // Returns the words of the blocks that start from these states, and does steps of other work at the same time. Afterwards
+    // the states are those of the next blocks.
     fn next<W: Work>(&mut self, work: &mut W) -> Self
         ensures made { (key nonce : List ℕ) (counter : ℕ) → starts self.old key counter nonce
             → counter + SIZE / 64 ≤ 2 ^ 32 → blocks result key counter nonce }
@@ -39,13 +39,13 @@ pub(crate) trait Run: Copy {
             → starts self.new key (counter + SIZE / 64) nonce }
         ensures work { (w : W) → W.reaches w work.old → W.reaches w work.new };
 
-    // XORs the blocks with these words, serialized one after the other, into as many bytes.
+    // XORs the blocks with these words, serialized one after the other, into bytes of the same length.
     fn xor_serialized(&self, bytes: &mut [u8])
         requires { length bytes.old ≡ SIZE }
         ensures { (key nonce : List ℕ) (counter : ℕ) → blocks self.now key counter nonce
             → bytes.new ≡ masked (key_stream_byte key nonce counter) 0 bytes.old };
 
-    // A run is whole blocks.
+    // A run is at least one block, and has whole blocks.
     ghost whole: { (0 < SIZE) × (SIZE % 64 ≡ 0) };
 }
 
@@ -107,9 +107,9 @@ impl Run for [u32x8; 16] {
     }
 }
 
-// XORs the key stream from a counter on into the bytes after the first `begun`, as many whole runs as there are. `hash` takes
-// in the bytes from the first on, each after it is masked: in a run those that were masked before it. Returns how many bytes
-// are masked now, and how many of them are hashed.
+// XORs the key stream from a counter on into all whole runs of the bytes after the first `begun`. `hash` takes in the bytes from
+// the first on: while a run is computed, bytes before that run, which are masked. Returns the number of bytes before the first
+// that is not masked, and how many of them are hashed.
 #[inline(never)]
 pub(crate) fn mask_then_hash<R: Run, W: BlockWork>(
     key: &Key32,
@@ -150,8 +150,8 @@ pub(crate) fn mask_then_hash<R: Run, W: BlockWork>(
     (done, taken)
 }
 
-// XORs the key stream from a counter on into as many whole runs as there are. `hash` takes in each run while its blocks are
-// made, before they are XORed in. Returns how many bytes that is.
+// XORs the key stream from a counter on into all whole runs of the bytes. `hash` takes in each run while its blocks are
+// computed, before they are XORed in. Returns the length of the runs in bytes.
 #[inline(never)]
 pub(crate) fn hash_then_mask<R: Run, W: BlockWork>(
     key: &Key32,

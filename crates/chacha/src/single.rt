@@ -1,4 +1,4 @@
-//! One block of ChaCha20 at a time, step by step as RFC 8439, 2.1 to 2.3, has it. A reader of the crate begins here.
+//! One block of ChaCha20 at a time, in the steps of RFC 8439, 2.1 to 2.3. A reader of the crate begins here.
 
 ghost use Rattle.std.specs.Prelude.{◌≡◌, ◌+◌, ◌<◌, ◌≤◌, ◌++◌, length, take, drop};
 ghost use Rattle.octets.specs.Bytes.{AreBytes};
@@ -103,8 +103,8 @@ fn block_from(start: &[u32; 16]) -> [u8; 64]
 
 /// Returns the block of 64 bytes of a key, a counter and a nonce (RFC 8439, 2.3).
 ///
-/// A block must never be used twice: under one key each pair of a nonce and a counter serves for 64 bytes alone. Two texts
-/// that are XORed with one block give away their XOR, and who knows one of them knows the block and the other.
+/// A block must never be used twice: under one key each pair of a nonce and a counter masks at most 64 bytes. Two texts that
+/// are XORed with one block give away their XOR, and whoever knows one of them knows the block and the other.
 #[tactic(auto, unfolding(crate::specs::Block::block))]
 pub fn block(key: &Key32, counter: u32, nonce: &Nonce) -> [u8; 64]
     ensures value { result ≡ block key.now counter nonce.now }

@@ -1,5 +1,5 @@
-//! The first blocks of a key stream (RFC 8439, 2.4), made at once: how many of them a text takes, how long they are, and the
-//! form that makes them.
+//! The first blocks of a key stream (RFC 8439, 2.4), computed at once: a type for each number of blocks, and the number that suits
+//! the length of a text.
 
 ghost use Rattle.std.specs.Prelude.{◌≡◌, ◌%◌, ◌<◌, ◌≤◌, ℕ, List, length, slice_index};
 ghost use Rattle.chacha.specs.Stream.{key_stream_byte};
@@ -7,27 +7,28 @@ ghost use Rattle.chacha.specs.Stream.{key_stream_byte};
 use crate::{lanes, row_beside, rows};
 use octets::{Idle, Key32, Nonce, WIDE};
 
-/// The length in bytes of a text that the blocks with the counters 1 to 7 mask.
+/// The length in bytes of the longest text that the blocks with the counters 1 to 7 mask.
 pub const SEVEN_BLOCKS: usize = 448;
 
-/// How many blocks of a key stream are made at once, from counter 0 on.
+/// How many blocks of a key stream are computed at once, from counter 0 on.
 #[derive(Clone, Copy)]
 pub enum BlocksAtOnce {
-    /// As [`TwoBlocks`].
+    /// The blocks of [`TwoBlocks`].
     Two,
-    /// As [`FourBlocks`].
+    /// The blocks of [`FourBlocks`].
     Four,
-    /// As [`FiveBlocks`].
+    /// The blocks of [`FiveBlocks`].
     Five,
-    /// As [`EightBlocks`].
+    /// The blocks of [`EightBlocks`].
     Eight,
-    /// As [`NineBlocks`].
+    /// The blocks of [`NineBlocks`].
     Nine,
 }
 
 impl BlocksAtOnce {
-    /// How many are made for a text of `length` bytes that is masked from counter 1 on. A block beside four or eight others
-    /// costs little, and the blocks after them go by four or eight, so that few are made for a last part.
+    /// Returns how many blocks are computed at once for a text of `length` bytes that is masked from counter 1 on. A block beside
+    /// four or eight others costs little. The later blocks are computed four or eight at a time, and the number is such that few
+    /// of the last ones are in vain.
     pub fn for_text(length: usize) -> BlocksAtOnce {
         if WIDE && length > 192 {
             return match length {
@@ -51,9 +52,8 @@ pub trait KeyStreamStart: Drop + Sized {
     // The bytes of the blocks.
     ghost bytes: { Self → List ℕ };
 
-    /// Makes the first blocks of the key stream. A nonce must never be used twice under one key, as for
-    /// [`crate::ChaStream::new`]: AEAD_CHACHA20_POLY1305 takes its one-time key from the first 32 bytes (2.6), which serve for
-    /// nothing else.
+    /// Computes the first blocks of the key stream. As for [`crate::ChaStream::new`], a nonce must never be used twice under one
+    /// key. AEAD_CHACHA20_POLY1305 takes its one-time key from the first 32 bytes (2.6), which must not mask a text.
     fn make(key: &Key32, nonce: &Nonce) -> Self
         ensures { (i : ℕ) → i < length (bytes result)
             → slice_index (bytes result) i ≡ key_stream_byte key.now nonce.now 0 i };

@@ -1,5 +1,5 @@
-//! The key stream of ChaCha20 (RFC 8439, 2.4), XORed into a text that comes in pieces, by the form of `lanes`, `row_beside`,
-//! `rows` or `single` that fits.
+//! The key stream of ChaCha20 (RFC 8439, 2.4), XORed into a text that comes in pieces. Each part of a piece takes the form of
+//! `lanes`, `row_beside`, `rows` or `single` that fits it.
 
 ghost use Rattle.std.specs.Prelude.{◌≡◌, ℕ, ◌+◌, ◌-◌, ◌*◌, ◌^◌, ◌<◌, ◌≤◌, ◌++◌, List, [], length, take, drop};
 ghost use Rattle.std.specs.Prelude.{min, MatchResult};
@@ -14,11 +14,11 @@ use octets::{BlockWork, Fault, Idle, Key32, Nonce, Order, Stream, WIDE, Work, xo
 // The length in bytes of the key stream from counter 0 on: 2^32 blocks of 64 bytes.
 const END: u64 = 0x40_0000_0000;
 
-/// The length in bytes of a run, whose blocks are made side by side and beside other work: eight blocks where they fit the
-/// registers, and else four.
+/// The length in bytes of a run, whose blocks are computed side by side and beside other work: eight blocks if they fit into the
+/// registers, else four.
 pub const RUN: usize = if WIDE { 512 } else { 256 };
 
-/// A ChaCha20 key stream, of which some bytes were used (RFC 8439, 2.4). It serves for one text.
+/// A ChaCha20 key stream and the position of its next byte (RFC 8439, 2.4). A stream is for one text.
 #[derive(Clone, Copy)]
 pub struct ChaStream {
     key: Key32,
@@ -29,21 +29,21 @@ pub struct ChaStream {
 }
 
 impl ChaStream {
-    ghost use Rattle.chacha.specs.States.{Holds, Applied, Refused, Did};
+    ghost use Rattle.chacha.specs.Code.States.{Holds, Applied, Refused, Did};
     ghost use Rattle.octets.specs.Ends.{whole_blocks};
 
-    /// The key stream from the block with counter `first` on (RFC 8439, 2.4), of which no byte is used yet.
+    /// Returns the key stream that starts with the block of counter `first` (RFC 8439, 2.4), at its first byte.
     ///
     /// A nonce must never be used twice under one key. Two texts that are XORed with the same part of a key stream give away
-    /// their XOR, and who knows one of them knows the other. The stream authenticates nothing.
+    /// their XOR, and whoever knows one of them knows the other. The stream authenticates nothing.
     pub fn new(key: &Key32, nonce: &Nonce, first: u32) -> ChaStream
         ensures { Holds result key.now nonce.now first 0 }
     {
         ChaStream::at(key, nonce, first as u64 * 64)
     }
 
-    /// The key stream whose next byte is at `offset` of the key stream that starts at counter 0, at most at its end. The
-    /// nonce is as for [`ChaStream::new`]: no byte of the stream may mask two texts.
+    /// Returns the key stream that starts at counter 0, at the byte at `offset`, which is at most its length. As for
+    /// [`ChaStream::new`], no byte of the stream may mask two texts.
     pub fn at(key: &Key32, nonce: &Nonce, offset: u64) -> ChaStream
         requires { offset ≤ 2 ^ 38 }
         ensures { (first made : ℕ) → offset ≡ first * 64 + made
@@ -59,8 +59,8 @@ impl ChaStream {
     /// XORs the next bytes of the key stream into `bytes`, of any length (RFC 8439, 2.4). The result does not depend on
     /// how a text is split into calls.
     ///
-    /// Returns `StreamEnd` if a block past counter 2^32 - 1 would be needed, which empty `bytes` never do. Then the
-    /// stream and the bytes are as they were.
+    /// Returns `StreamEnd` if a block past counter 2^32 - 1 would be needed, and then leaves the stream and the bytes as they
+    /// were. Empty `bytes` need no block.
     pub fn apply(&mut self, bytes: &mut [u8]) -> Result<(), Fault>
         ensures { (key nonce : List ℕ) (first made : ℕ) → Holds self.old key nonce first made
             → MatchResult result (λ _. Applied self.new key nonce first made bytes.old bytes.new)
@@ -75,9 +75,9 @@ impl ChaStream {
     }
 
     /// XORs the next bytes of the key stream into `bytes` after the first `begun`, while `hash` takes in the whole blocks of all
-    /// `bytes`, as they leave.
+    /// `bytes`, each byte after it is masked.
     ///
-    /// Where a block past counter 2^32 - 1 would be needed, it XORs nothing in, and all is hashed as it is.
+    /// If a block past counter 2^32 - 1 would be needed, `bytes` stay as they are, and `hash` takes in their whole blocks.
     pub fn apply_after<W: BlockWork>(&mut self, bytes: &mut [u8], begun: usize, hash: &mut W)
         requires { begun ≤ length bytes.old }
         ensures did { Did self.old self.new (drop begun bytes.old) (drop begun bytes.new) }
@@ -93,7 +93,7 @@ impl ChaStream {
         self.offset += (bytes.len() - begun) as u64;
     }
 
-    // XORs the next bytes of the key stream into `bytes`, while `hash` takes in their whole blocks, as they come.
+    // XORs the next bytes of the key stream into `bytes`, while `hash` takes in their whole blocks, each byte before it is masked.
     fn apply_to_hashed<W: BlockWork>(&mut self, bytes: &mut [u8], hash: &mut W)
         ensures did { Did self.old self.new bytes.old bytes.new }
         ensures hashed { (k m : List ℕ) → W.comes_to hash.old [] k m
@@ -109,7 +109,7 @@ impl ChaStream {
 }
 
 impl Stream for ChaStream {
-    ghost use Rattle.chacha.specs.States.{Did};
+    ghost use Rattle.chacha.specs.Code.States.{Did};
 
     ghost did = { Did };
 
@@ -143,7 +143,7 @@ pub(crate) fn xor_stream<W: Work>(
     }
 }
 
-// XORs the key stream from an offset on into the first bytes, by the widest form that fits, and returns the number of these
+// XORs the key stream from an offset on into the first bytes, in the widest form that fits, and returns the number of these
 // bytes.
 fn xor_run<W: Work>(
     key: &Key32,
@@ -173,7 +173,7 @@ fn xor_run<W: Work>(
         return whole;
     }
     if WIDE && skip == 0 && bytes.len() >= 256 && counter <= u32::MAX - 7 {
-        // Half of the run is masked in place, and only the other half through a buffer.
+        // Half of the run is masked in place, and only the other half by way of a buffer.
         let mut stream = [0; 256];
         let (front, back) = bytes.split_at_mut(256);
         lanes::xor_eight(key, counter, nonce, front, &mut stream, work);

@@ -2,4 +2,4 @@
 -- text that a state in pieces holds. GHASH and POLYVAL are defined without it.
 pub mod Words
 pub mod States
-pub mod KeptMultiples
+pub mod PlainMultiples

@@ -34,11 +34,11 @@ pub use ghash::{Ghash, GhashOrder, ghash_is_the_only};
 pub use hash::BlockHash;
 pub use hash_order::HashOrder;
 pub use keyed::{Keyed128, Multiply};
-pub use multiples::KeptMultiples;
+pub use multiples::PlainMultiples;
 pub use polyval::{
     Polyval, PolyvalOrder, dot_is_the_only, polyval_by_ghash, polyval_is_the_only, reversed_mul_x,
 };
-pub use table_mul::{KeptMul, TableMul};
+pub use table_mul::{PlainMul, TableMul};
 pub use wide_mul::WideMul;
 
 /// The multiplier to take if the length of the text is not known: its table is small and quickly made.

@@ -180,12 +180,12 @@ pub(crate) trait ByteMultiples {
 /// numbers of 128 bits.
 #[repr(C)]
 #[derive(Clone, Copy)]
-pub struct KeptMultiples {
+pub struct PlainMultiples {
     high: [u64; 32],
     low: [u64; 32],
 }
 
-impl KeptMultiples {
+impl PlainMultiples {
     // The multiple for `byte`: one entry from each table, XORed.
     #[inline(always)]
     pub(crate) fn sum_at(&self, byte: u8) -> Lanes
@@ -223,10 +223,10 @@ impl Multiples32 {
     }
 
     // Returns the 32 multiples as plain numbers.
-    pub(crate) fn numbers(&self) -> KeptMultiples
+    pub(crate) fn numbers(&self) -> PlainMultiples
         ensures { AreMultiples (of_word self.now.word) (stored_number result.high) (stored_number result.low) }
     {
-        KeptMultiples {
+        PlainMultiples {
             high: halves_of(&self.high),
             low: halves_of(&self.low),
         }

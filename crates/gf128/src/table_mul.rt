@@ -3,10 +3,10 @@
 ghost use Rattle.std.specs.Prelude.{◌≡◌};
 ghost use Rattle.std.specs.Int.{w128, to_be_bytes};
 ghost use Rattle.gf128.specs.Code.Words.{of_word, AreMultiples, stored_number};
-ghost use Rattle.gf128.specs.Code.KeptMultiples.{KeepsMultiples};
+ghost use Rattle.gf128.specs.Code.PlainMultiples.{HasMultiples};
 
 use crate::lanes::Lanes;
-use crate::multiples::{ByteMultiples, KeptMultiples, Multiples32};
+use crate::multiples::{ByteMultiples, Multiples32, PlainMultiples};
 use crate::polynomial_word::word_of;
 use crate::{Keyed128, Multiply};
 use octets::Block;
@@ -23,9 +23,9 @@ pub struct TableMul {
 }
 
 impl TableMul {
-    /// Returns the multiples of the key as plain numbers, for [`KeptMul`].
-    pub fn kept(&self) -> KeptMultiples
-        ensures { KeepsMultiples result (⟦<TableMul as Multiply>⟧.key_bytes self.now) }
+    /// Returns the multiples of the key as plain numbers, for [`PlainMul`].
+    pub fn plain_multiples(&self) -> PlainMultiples
+        ensures { HasMultiples result (⟦<TableMul as Multiply>⟧.key_bytes self.now) }
     {
         self.multiples.numbers()
     }
@@ -51,31 +51,31 @@ impl Keyed128 for TableMul {
     }
 }
 
-/// The multiplier that borrows the plain numbers that [`TableMul::kept`] returned. It makes no table, and takes a little longer
-/// than [`TableMul`] for each block. Not constant time: it looks up the same entries as [`TableMul`].
+/// The multiplier that borrows the plain numbers that [`TableMul::plain_multiples`] returned. It makes no table, and takes a little
+/// longer than [`TableMul`] for each block. Not constant time: it looks up the same entries as [`TableMul`].
 #[derive(Drop, Clone, Copy)]
-pub struct KeptMul<'a> {
+pub struct PlainMul<'a> {
     word: u128,
-    numbers: &'a KeptMultiples,
+    numbers: &'a PlainMultiples,
     ghost filled: { AreMultiples (of_word word) (stored_number numbers.now.high) (stored_number numbers.now.low) },
 }
 
-impl<'a> KeptMul<'a> {
-    /// Makes the multiplier of `key`, with the multiples that [`TableMul::kept`] returned for it. The caller shows that the
-    /// numbers are the multiples of the key.
+impl<'a> PlainMul<'a> {
+    /// Makes the multiplier of `key`, with the multiples that [`TableMul::plain_multiples`] returned for it. The caller shows that
+    /// the numbers are the multiples of the key.
     #[inline(always)]
-    pub fn new(key: &Block, numbers: &'a KeptMultiples) -> KeptMul<'a>
-        requires { KeepsMultiples numbers.now key.now }
-        ensures { ⟦<KeptMul<'a> as Multiply>⟧.key_bytes result ≡ key.now }
+    pub fn new(key: &Block, numbers: &'a PlainMultiples) -> PlainMul<'a>
+        requires { HasMultiples numbers.now key.now }
+        ensures { ⟦<PlainMul<'a> as Multiply>⟧.key_bytes result ≡ key.now }
     {
-        KeptMul {
+        PlainMul {
             word: word_of(key.bytes()),
             numbers,
         }
     }
 }
 
-impl<'a> ByteMultiples for KeptMul<'a> {
+impl<'a> ByteMultiples for PlainMul<'a> {
     ghost factor = { λ s. s.word };
 
     #[inline(always)]
@@ -84,7 +84,7 @@ impl<'a> ByteMultiples for KeptMul<'a> {
     }
 }
 
-impl<'a> Multiply for KeptMul<'a> {
+impl<'a> Multiply for PlainMul<'a> {
     ghost key_bytes = { λ s. to_be_bytes w128 s.word };
 
     fn times(&self, x: &Block) -> Block {

@@ -1,7 +1,7 @@
 -- ChaCha20's mask whose first bytes are computed in advance, and how many of its bytes were used.
 use Rattle.std.specs.Prelude.{◌≡◌, ℕ, ◌+◌, ◌<◌, List, length, min, max, slice_index}
 use Rattle.chacha.specs.Stream.{key_stream_byte}
-use Rattle.chacha.specs.States as chacha
+use Rattle.chacha.specs.Code.States as chacha
 use Rattle.aead.specs.declared.buffered_stream.BufferedStream.{BufferedStream}
 use Rattle.aead.specs.Suites.{ByChaCha, construction_of}
 use Rattle.aead.specs.Sealing.{Setting}

@@ -3,7 +3,7 @@ use Rattle.std.specs.Prelude.{◌≡◌, ℕ, ◌+◌, ◌-◌, ◌^◌, ◌≤�
 use Rattle.std.proofs.Common.{◌∙◌, refl, sym, ap, arith}
 use Rattle.octets.specs.Masked.{masked}
 use Rattle.chacha.specs.declared.stream.ChaStream.{ChaStream}
-use Rattle.chacha.specs.States as chacha
+use Rattle.chacha.specs.Code.States as chacha
 use Rattle.aes.specs.declared.counter.Ctr.{Ctr}
 use Rattle.aes.specs.Code.Streams.{Did}
 use Rattle.aead.specs.Suites.{text_limit, text_limit_by}

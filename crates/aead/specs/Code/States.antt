@@ -2,7 +2,7 @@
 use Rattle.std.specs.Prelude.{◌≡◌, ℕ, List, ◌++◌, length}
 use Rattle.octets.specs.Bytes.{pad16}
 use Rattle.chacha.specs.declared.stream.ChaStream.{ChaStream}
-use Rattle.chacha.specs.States as chacha
+use Rattle.chacha.specs.Code.States as chacha
 use Rattle.poly1305.specs.declared.poly.PolyBy.{PolyBy}
 use Rattle.poly1305.specs.declared.word_mul.WordMul.{WordMul}
 use Rattle.poly1305.specs.Code.States as poly1305

@@ -2,7 +2,7 @@
 use super::digits::{bytes, sixteen};
 use super::shows;
 use gf128::{
-    BitMul, BlockHash, GhashOrder, HashOrder, KeptMul, Keyed128, Multiply, PolyvalOrder, TableMul,
+    BitMul, BlockHash, GhashOrder, HashOrder, Keyed128, Multiply, PlainMul, PolyvalOrder, TableMul,
     WideMul,
 };
 use octets::Block;
@@ -16,7 +16,7 @@ fn hash_of<M: Keyed128, O: HashOrder>(key: &Block, text: &[u8]) -> [u8; 16] {
     *state.finish().bytes()
 }
 
-// The hash of a text in two pieces, by a multiplier that is kept.
+// The hash of a text in two pieces, by this multiplier.
 fn hash_by<M: Multiply, O: HashOrder>(multiplier: M, text: &[u8]) -> [u8; 16] {
     let (front, back) = text.split_at(text.len() / 3);
     let mut state = BlockHash::<M, O>::with(multiplier);
@@ -25,10 +25,10 @@ fn hash_by<M: Multiply, O: HashOrder>(multiplier: M, text: &[u8]) -> [u8; 16] {
     *state.finish().bytes()
 }
 
-// The hash of a text, by the multiples of a multiplier's key that are kept as plain numbers.
-fn hash_by_kept<O: HashOrder>(multiplied: &Block, text: &[u8]) -> [u8; 16] {
-    let kept = TableMul::of(multiplied).kept();
-    hash_by::<KeptMul, O>(KeptMul::new(multiplied, &kept), text)
+// The hash of a text, by the multiples of a multiplier's key as plain numbers.
+fn hash_by_plain<O: HashOrder>(multiplied: &Block, text: &[u8]) -> [u8; 16] {
+    let multiples = TableMul::of(multiplied).plain_multiples();
+    hash_by::<PlainMul, O>(PlainMul::new(multiplied, &multiples), text)
 }
 
 // Whether each multiplier gives this hash.
@@ -39,7 +39,7 @@ fn is_hash<O: HashOrder>(key: &Block, text: &[u8], hash: &[u8; 16]) -> bool {
         && hash_of::<WideMul, O>(key, text) == *hash
         && hash_by::<&WideMul, O>(&WideMul::of(&multiplied), text) == *hash
         && hash_by::<&TableMul, O>(&TableMul::of(&multiplied), text) == *hash
-        && hash_by_kept::<O>(&multiplied, text) == *hash
+        && hash_by_plain::<O>(&multiplied, text) == *hash
 }
 
 // A key, a text and its GHASH.

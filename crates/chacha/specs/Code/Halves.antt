@@ -8,7 +8,7 @@ half_columns n m s =
     add_xor_rotate 11 15 7 m (add_xor_rotate 10 14 6 m (add_xor_rotate 9 13 5 m (add_xor_rotate 8 12 4 m
     (add_xor_rotate 3 7 15 n (add_xor_rotate 2 6 14 n (add_xor_rotate 1 5 13 n (add_xor_rotate 0 4 12 n s)))))))
 
--- those on the diagonals
+-- the halves of the quarter rounds on the diagonals that rotate by n and by m
 unfoldable pub half_diagonals : ℕ → ℕ → List ℕ → List ℕ
 half_diagonals n m s =
     add_xor_rotate 9 14 4 m (add_xor_rotate 8 13 7 m (add_xor_rotate 11 12 6 m (add_xor_rotate 10 15 5 m

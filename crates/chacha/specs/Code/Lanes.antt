@@ -7,21 +7,21 @@ use Rattle.chacha.specs.Block.{initial_state, serialized, block}
 unfoldable pub lane : ℕ → List (List ℕ) → List ℕ
 lane j x = map (λ v. slice_index v j) x
 
--- the first n lanes have the words of the blocks with the counters from one on, a block in each
+-- lane j of the first n has the words of the block with the counter `counter + j`
 abbrev pub HasBlocks : ℕ → List (List ℕ) → List ℕ → ℕ → List ℕ → Type 0
 HasBlocks n x key counter nonce = (j : ℕ) → j < n → serialized (lane j x) ≡ block key (counter + j) nonce
 
--- the first n lanes have the states from which the blocks with the counters from one on start, modulo 2^32
+-- lane j of the first n has the state from which the block with the counter `counter + j` modulo 2^32 starts
 abbrev pub HasStarts : ℕ → List (List ℕ) → List ℕ → ℕ → List ℕ → Type 0
 HasStarts n x key counter nonce =
     (j : ℕ) → j < n → lane j x ≡ initial_state key ((counter + j) % 2 ^ 32) nonce
 
--- they are those of some key and nonce, and the last counter is below 2^32
+-- the first n lanes have the states from which blocks of some key and nonce start, and the last counter is below 2^32
 abbrev pub AreStarts : ℕ → List (List ℕ) → Type 0
 AreStarts n x = (key : List ℕ) × ((nonce : List ℕ) × ((counter : ℕ)
     × ((counter + n ≤ 2 ^ 32) × HasStarts n x key counter nonce)))
 
--- the bytes of four blocks, and of eight
+-- 256 bytes are whole blocks, and 512 are
 pub four_size : (0 < 256) × (256 % 64 ≡ 0)
 four_size = (omega arith, omega arith)
 

@@ -1,5 +1,5 @@
 use Rattle.std.proofs.Common.{ℕ, List, subst, sym, arith}
-use Rattle.chacha.specs.States.{Holds}
+use Rattle.chacha.specs.Code.States.{Holds}
 use Rattle.aead.proofs.chacha_poly.mask_at.Goals as goal
 
 pub returns : goal.returns

@@ -4,7 +4,7 @@ use Rattle.std.proofs.lemmas.List.{length-drop, take_at, drop_at, take-append-dr
 use Rattle.octets.specs.Bytes.{xor_bytes}
 use Rattle.octets.specs.Masked.{masked}
 use Rattle.chacha.specs.Stream.{key_stream_byte}
-use Rattle.chacha.specs.States.{Holds}
+use Rattle.chacha.specs.Code.States.{Holds}
 use Rattle.aead.specs.Suites.{text_limit, text_limit_by}
 use Rattle.aead.specs.Code.Masks.{chacha_mask}
 use Rattle.aead.proofs.BufferedStreams.{buffered_masked}

@@ -1,5 +1,5 @@
 use Rattle.std.proofs.Common.{refl, subst}
-use Rattle.gf128.specs.Code.KeptMultiples.{KeepsMultiples}
+use Rattle.gf128.specs.Code.PlainMultiples.{HasMultiples}
 use Rattle.capi.proofs.stored_key.KeyNumbers.zeros.Goals as goal
 
 pub returns-clause-cleared : goal.returns-clause-cleared
@@ -8,5 +8,5 @@ returns-clause-cleared c = record {
   key_is = refl;
   words_are = refl;
   ghash_key_is = refl;
-  multiples_are = subst (KeepsMultiples c.kept.result) c.none.ensures c.kept.ensures;
+  multiples_are = subst (HasMultiples c.plain_multiples.result) c.none.ensures c.plain_multiples.ensures;
 }

@@ -2,7 +2,7 @@ use Rattle.std.proofs.Common.{◌≡◌, ◌∙◌, sym, ap, subst, arith, lengt
 use Rattle.std.proofs.lemmas.List.{drop-replicate}
 use Rattle.std.proofs.lemmas.Slice.{take-put_mid, drop-put_mid}
 use Rattle.aes.specs.Code.KeptWords.{KeepsSchedule}
-use Rattle.gf128.specs.Code.KeptMultiples.{KeepsMultiples}
+use Rattle.gf128.specs.Code.PlainMultiples.{HasMultiples}
 use Rattle.aead.specs.declared.suite.Suite.{Suite}
 use Rattle.aead.specs.Suites.{key_length}
 use Rattle.capi.specs.Keys.{key_mark}
@@ -23,7 +23,7 @@ invariant_of-result c =
     record {
       schedule = λ s is. subst (KeepsSchedule c.words.result) (own s is) c.words.ensures;
       hashes = λ s is. c.bytes.ensures.value ∙ hashed s is;
-      multiplied = λ s is. subst (KeepsMultiples c.kept.result) (c.of.ensures ∙ hashed s is) c.kept.ensures;
+      multiplied = λ s is. subst (HasMultiples c.plain_multiples.result) (c.of.ensures ∙ hashed s is) c.plain_multiples.ensures;
     }
 
 pub returns-clause-keeps : goal.returns-clause-keeps

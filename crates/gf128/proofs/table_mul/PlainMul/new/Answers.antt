@@ -1,7 +1,7 @@
 use Rattle.std.proofs.Common.{◌∙◌, ap}
 use Rattle.octets.specs.Bits.{g}
 use Rattle.gf128.proofs.WordLemmas.{bytes_of_word}
-use Rattle.gf128.proofs.table_mul.KeptMul.new.Goals as goal
+use Rattle.gf128.proofs.table_mul.PlainMul.new.Goals as goal
 
 pub invariant_of-result : goal.invariant_of-result
 invariant_of-result c = record { filled = rw (c.word_of.ensures ∙ ap g c.bytes.ensures.value) c.requires }

@@ -2,8 +2,8 @@
 use Rattle.std.specs.Prelude.{ℕ, List}
 use Rattle.octets.specs.Bits.{g}
 use Rattle.gf128.specs.Code.Words.{AreMultiples, stored_number}
-use Rattle.gf128.specs.declared.multiples.KeptMultiples.{KeptMultiples}
+use Rattle.gf128.specs.declared.multiples.PlainMultiples.{PlainMultiples}
 
 -- the numbers are the multiples of the key
-abbrev pub KeepsMultiples : KeptMultiples → List ℕ → Type 0
-KeepsMultiples m key = AreMultiples (g key) (stored_number m.high) (stored_number m.low)
+abbrev pub HasMultiples : PlainMultiples → List ℕ → Type 0
+HasMultiples m key = AreMultiples (g key) (stored_number m.high) (stored_number m.low)

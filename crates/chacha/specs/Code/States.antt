@@ -1,4 +1,4 @@
--- The ChaCha20 key stream used in pieces (RFC 8439, 2.4).
+-- The ChaCha20 key stream, XORed into a text in pieces (RFC 8439, 2.4).
 use Rattle.std.specs.Prelude.{◌≡◌, ℕ, ◌+◌, ◌-◌, ◌*◌, ◌^◌, ◌<◌, ◌≤◌, List, length}
 use Rattle.octets.specs.Masked.{masked}
 use Rattle.octets.specs.declared.fault.Fault.{Fault}
@@ -6,13 +6,13 @@ use Rattle.octets.specs.declared.fault.Fault.TheVariants.{StreamEnd}
 use Rattle.chacha.specs.Stream.{key_stream_byte, HasByte}
 use Rattle.chacha.specs.declared.stream.ChaStream.{ChaStream}
 
--- s has made the first bytes of the key stream from counter first on
+-- s is at byte `made` of the key stream from counter first on
 pub record Holds (s : ChaStream) (key nonce : List ℕ) (first made : ℕ) : Type 0 where
   pub key_is : s.key ≡ key
   pub nonce_is : s.nonce ≡ nonce
   pub offset_is : s.offset ≡ first * 64 + made
 
--- the next bytes of the key stream were there, and are XORed in
+-- the next bytes of the key stream exist, and were XORed in
 pub record Applied (after : ChaStream) (key nonce : List ℕ) (first made : ℕ) (was now : List ℕ) : Type 0
   where
     pub holds : Holds after key nonce first (made + length was)
@@ -20,7 +20,7 @@ pub record Applied (after : ChaStream) (key nonce : List ℕ) (first made : ℕ)
     pub within : first * 64 + made + length was ≤ 2 ^ 38
     pub masked_is : now ≡ masked (key_stream_byte key nonce first) made was
 
--- the last of the next bytes of the key stream was not there, and nothing was changed
+-- the last of the next bytes of the key stream does not exist, and nothing was changed
 pub record Refused (fault : Fault) (before after : ChaStream) (first made : ℕ) (was now : List ℕ) : Type 0
   where
     pub fault_is : fault ≡ StreamEnd
@@ -29,7 +29,7 @@ pub record Refused (fault : Fault) (before after : ChaStream) (first made : ℕ)
     pub stream_unchanged : after ≡ before
     pub bytes_unchanged : now ≡ was
 
--- a call beside other work XORs in the next bytes of the key stream, if there are as many
+-- a call beside other work XORs in the next bytes of the key stream, if they all exist
 abbrev pub Did : ChaStream → ChaStream → List ℕ → List ℕ → Type 0
 Did before after was now =
     (key nonce : List ℕ) (first made : ℕ) → Holds before key nonce first made
