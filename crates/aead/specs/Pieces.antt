@@ -69,7 +69,7 @@ Opens s tag body = Opened s (body ++ tag) (masked (mask_of s tag) 0 body)
 abbrev pub WasOverASealing : Setting → (tag : List ℕ) → (first : ℕ) → Type 0
 WasOverASealing s tag first = (body : List ℕ) × (length body ≡ first) × Opens s tag body
 
--- n is the state after this ciphertext under a tag: of its text under AES-GCM-SIV, else of the ciphertext itself
+-- n is the state after this ciphertext under a tag. Under AES-GCM-SIV the text is authenticated, else the ciphertext
 abbrev pub HasTakenIn : PassState → Setting → (tag body : List ℕ) → Type 0
 HasTakenIn n s tag body = HoldsNumbers n s (authenticated_by (construction_of s.suite) (mask_of s tag) body)
 
