@@ -163,7 +163,7 @@ impl KeyedOpener {
         self.state.begin_second_pass(&self.keys.keys(suite))
     }
 
-    /// Replaces a piece of the ciphertext by its text in the second pass, under its suite. `SourceChanged` if the second pass
+    /// Replaces a piece of the ciphertext with its text in the second pass, under its suite. `SourceChanged` if the second pass
     /// would be longer than the first: the state and the piece do not change then.
     pub fn update(&mut self, suite: Suite, piece: &mut [u8]) -> Result<(), Fault>
         ensures answer { (s : Setting) (tag : List ℕ) (first : ℕ) (body : List ℕ) → s.suite ≡ suite

@@ -107,7 +107,7 @@ impl KeyedSealer {
         *state
     }
 
-    /// Adds `piece`, of any length, to the text, under its suite, and replaces it by its ciphertext. `TextTooLong` if the text
+    /// Adds `piece`, of any length, to the text, under its suite, and replaces it with its ciphertext. `TextTooLong` if the text
     /// would be longer than the suite's limit: the state and the piece do not change then.
     pub fn update(&mut self, suite: Suite, piece: &mut [u8]) -> Result<(), Fault>
         requires { is_one_pass (construction_of suite) ≡ true }

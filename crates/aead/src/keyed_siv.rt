@@ -158,7 +158,7 @@ impl KeyedSiv {
         self.state.begin_second_reading(&self.keys.keys(suite))
     }
 
-    /// Adds `piece`, of any length, to the text in the second reading, under its suite, and replaces it by its ciphertext.
+    /// Adds `piece`, of any length, to the text in the second reading, under its suite, and replaces it with its ciphertext.
     /// `SourceChanged` if that text would be longer than the first: the state and the piece do not change then.
     pub fn update(&mut self, suite: Suite, piece: &mut [u8]) -> Result<(), Fault>
         ensures answer { (s : Setting) (first text : List ℕ) → s.suite ≡ suite

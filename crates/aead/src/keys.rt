@@ -79,7 +79,7 @@ fn mask_chacha(state: &mut PassState, key: &[u8; 32], nonce: &Nonce, order: Orde
 impl<'a> MessageKeys<'a> {
     ghost use Rattle.aead.specs.Code.MessageKeys.{construction_by, AreKeysOf};
 
-    // The most bytes of a text.
+    // The limit of a text in bytes.
     #[inline(always)]
     pub(crate) fn text_limit(&self) -> u64
         ensures { result ≡ text_limit_by (construction_by self.now.cipher) }

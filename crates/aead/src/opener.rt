@@ -228,7 +228,7 @@ impl<'a> OpenWriter<'a> {
         *state
     }
 
-    /// Replaces a piece of the ciphertext, of any length, by its text. `SourceChanged` if the second pass would be longer than the
+    /// Replaces a piece of the ciphertext, of any length, with its text. `SourceChanged` if the second pass would be longer than the
     /// first: the state and the piece do not change then.
     pub fn update(&mut self, piece: &mut [u8]) -> Result<(), Fault>
         ensures answer { (s : Setting) (tag : List ℕ) (first : ℕ) (body : List ℕ)

@@ -141,7 +141,7 @@ impl PassState {
         Block::new(first)
     }
 
-    // Whether the keys of the hash are those of another state.
+    // Whether both states have the same hash key.
     pub(crate) fn has_hash_key_of(&self, other: &PassState) -> bool
         ensures same { (result ≡ true) ↔ (self.now.hash_key ≡ other.now.hash_key) }
         ensures are_blocks { IsBlock (take 16 self.now.hash_key) × IsBlock (take 16 other.now.hash_key) }
@@ -151,7 +151,7 @@ impl PassState {
         same(first.bytes(), other_first.bytes()) && same(last.bytes(), other_last.bytes())
     }
 
-    // Whether the text may be longer by a piece under this limit.
+    // Whether the text so far and the piece are together within this limit.
     pub(crate) fn has_room(&self, limit: u64, piece: &[u8]) -> bool
         ensures fits { result ≡ true → self.now.length + length piece.now ≤ limit }
         ensures past { result ≡ false → limit < self.now.length + length piece.now }
@@ -283,7 +283,7 @@ impl PassState {
 
     // ---- a text that is sealed in one reading
 
-    // Adds a piece to the text, and replaces it by its ciphertext. `TextTooLong` if the text would be longer than the suite's limit:
+    // Adds a piece to the text, and replaces it with its ciphertext. `TextTooLong` if the text would be longer than the suite's limit:
     // nothing changes then. `known` is the block of AES that the text ends inside, if it is known.
     #[inline(always)]
     pub(crate) fn seal(

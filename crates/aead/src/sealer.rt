@@ -78,7 +78,7 @@ impl<'a> Sealer<'a> {
         self.state
     }
 
-    /// Adds `piece`, of any length, to the text, and replaces it by its ciphertext. `TextTooLong` if the text would be longer
+    /// Adds `piece`, of any length, to the text, and replaces it with its ciphertext. `TextTooLong` if the text would be longer
     /// than the suite's limit: the state and the piece do not change then.
     pub fn update(&mut self, piece: &mut [u8]) -> Result<(), Fault>
         ensures answer { (s : Setting) (text : List ℕ) → HoldsSealer self.old s text → MatchResult result

@@ -135,7 +135,7 @@ impl SivWriter {
         self.state
     }
 
-    /// Adds `piece`, of any length, to the second text, and replaces it by its ciphertext. `SourceChanged` if that text would
+    /// Adds `piece`, of any length, to the second text, and replaces it with its ciphertext. `SourceChanged` if that text would
     /// be longer than the first: the state and the piece do not change then.
     pub fn update(&mut self, piece: &mut [u8]) -> Result<(), Fault>
         ensures answer { (s : Setting) (first text : List ℕ) → HoldsWriter self.old s first text →

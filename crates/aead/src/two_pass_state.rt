@@ -26,9 +26,9 @@ pub struct TwoPassState {
     pub(crate) pass: PassState,
     // The sum of the hash over the padded associated data, where both readings or passes begin.
     pub(crate) start: Sum,
-    // The tag and the length of the first text, in the second reading; or the tag of the sealing in both passes, and the length of
-    // the first in the second.
+    // The tag of the first text, in the second reading; or the tag of the sealing, in both passes.
     pub(crate) tag: [u8; 16],
+    // The length of the first reading or pass, in the second.
     pub(crate) first: u64,
 }
 
@@ -101,7 +101,7 @@ impl TwoPassState {
         Ok(())
     }
 
-    // The tag of the text of a reading.
+    // Returns the tag of the text of a reading.
     fn reading_tag(&self, keys: &MessageKeys) -> Tag
         ensures { (s : Setting) (text : List ℕ) → construction_of s.suite ≡ ByGcmSiv → AreKeysOf keys.now s
             → HoldsNumbers self.now.pass s text → result ≡ tag_of s text }
@@ -120,7 +120,7 @@ impl TwoPassState {
         tag
     }
 
-    // Adds a piece to the text in the second reading, and replaces it by its ciphertext. `SourceChanged` if that text would be longer
+    // Adds a piece to the text in the second reading, and replaces it with its ciphertext. `SourceChanged` if that text would be longer
     // than the first: nothing changes then. `known` is the block of AES that the text ends inside, if it is known.
     #[inline(always)]
     pub(crate) fn write(
@@ -211,7 +211,7 @@ impl TwoPassState {
         Ok(())
     }
 
-    // Replaces a piece of the ciphertext by its text in the second pass, and authenticates it. `SourceChanged` if the second pass
+    // Replaces a piece of the ciphertext with its text in the second pass, and authenticates it. `SourceChanged` if the second pass
     // would be longer than the first: nothing changes then. `known` is the block of AES that the pass ends inside, if it is known.
     #[inline(always)]
     pub(crate) fn open(

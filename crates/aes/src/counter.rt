@@ -123,8 +123,8 @@ impl Count for FirstFour {
     fn counts_in_nibble() {}
 }
 
-/// A counter block whose cipher is known, or none: a stream that goes on inside that block need not encrypt it again. As secret as
-/// the text there, since it is what the text is XORed with.
+/// A counter block with its cipher, or neither. A stream that begins inside this block need not encrypt it again. The cipher is as
+/// secret as the text that is XORed with it.
 #[derive(Clone, Copy)]
 pub struct KnownBlock {
     block: [u8; 16],
@@ -148,7 +148,7 @@ impl KnownBlock {
         }
     }
 
-    // Returns the cipher of a block, which is encrypted unless it is this one.
+    // Returns the cipher of a block. It is encrypted only if it is not the known one.
     fn encrypt(&self, key: &AesKey, block: &Block) -> Block
         ensures { KnowsCipher self.now key.now → result ≡ cipher key.now block.now }
     {
@@ -503,7 +503,7 @@ impl<C: Count, K: KeptKey> Ctr<C, K> {
         Ctr::at_known(key, first, position, &KnownBlock::none())
     }
 
-    /// Makes the stream as [`Ctr::at`] does, by a block whose cipher is known under this key: if `position` is inside that
+    /// Makes the stream as [`Ctr::at`] does, with a block whose cipher under this key is known: if `position` is inside that
     /// block, nothing is encrypted.
     pub fn at_known(key: K, first: &Block, position: u64, known: &KnownBlock) -> Ctr<C, K>
         requires { position < 2 ^ 63 }
