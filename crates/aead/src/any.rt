@@ -63,7 +63,7 @@ impl AnyOnePass {
         }
     }
 
-    // The initial state for this nonce and associated data.
+    // Returns the initial state for this nonce and associated data.
     pub(crate) fn initial_state(&self, nonce: &Nonce, aad: &[u8]) -> PassState
         requires { length aad.now ≤ aad_limit (one_pass_keyed self.now).suite }
         ensures { HoldsNumbers result (setting (one_pass_keyed self.now) nonce.now aad.now) [] }
@@ -181,7 +181,8 @@ impl Aead for AnyAead {
 
     fn seal_fitting(&self, nonce: &Nonce, aad: &[u8], text: &mut [u8]) -> Tag {
         match self {
-            AnyAead::OnePass(cipher) => cipher.seal_fitting(nonce, aad, text),
+            AnyAead::OnePass(AnyOnePass::ChaCha(cipher)) => cipher.seal_fitting(nonce, aad, text),
+            AnyAead::OnePass(AnyOnePass::Gcm(cipher)) => cipher.seal_fitting(nonce, aad, text),
             AnyAead::Siv(cipher) => cipher.seal_fitting(nonce, aad, text),
         }
     }
@@ -194,7 +195,12 @@ impl Aead for AnyAead {
         tag: &Tag,
     ) -> Result<(), Fault> {
         match self {
-            AnyAead::OnePass(cipher) => cipher.open_fitting(nonce, aad, body, tag),
+            AnyAead::OnePass(AnyOnePass::ChaCha(cipher)) => {
+                cipher.open_fitting(nonce, aad, body, tag)
+            }
+            AnyAead::OnePass(AnyOnePass::Gcm(cipher)) => {
+                cipher.open_fitting(nonce, aad, body, tag)
+            }
             AnyAead::Siv(cipher) => cipher.open_fitting(nonce, aad, body, tag),
         }
     }

@@ -65,7 +65,8 @@ impl<H: TagHash> Authenticator<H> {
         self.length += bytes.len() as u64;
     }
 
-    // Hashes the next bytes, as they come or as they leave, and XORs the next bytes of `stream` into them.
+    // XORs the next bytes of `stream` into a piece, and hashes its bytes: in the order `MaskFirst` as they are afterwards, and in
+    // the order `HashFirst` as they were before.
     #[inline(always)]
     pub(crate) fn update_beside<S: Stream>(
         &mut self,

@@ -1,5 +1,5 @@
 //! A mask and a hash over one piece, in one of two orders: with the mask first, the masked bytes are authenticated; with the hash
-//! first, the bytes as they come.
+//! first, the bytes as they were before.
 
 ghost use Rattle.std.specs.Prelude.{◌≡◌, ◌+◌, ◌<◌, ◌^◌, length};
 ghost use Rattle.octets.specs.Ends.{hashed_of};

@@ -85,8 +85,8 @@ impl<'a> MaskStream for BufferedStream<'a> {
     ghost made = { MadeByBuffered };
 
     fn pays_beside_a_hash(&self, length: usize) -> bool {
-        let begun = self.start.len() - self.used;
-        length > begun + if begun < RUN / 2 { RUN } else { 0 }
+        let ready = self.start.len() - self.used;
+        length > ready + if ready < RUN / 2 { RUN } else { 0 }
     }
 
     ghost masks = { buffered_masks };

@@ -53,7 +53,7 @@ impl ChaChaPoly {
         &self.key
     }
 
-    // The cipher with a nonce, for a text in pieces.
+    // Returns what a message needs: the key and the nonce.
     pub(crate) fn nonced<'a>(&'a self, nonce: &'a Nonce) -> NoncedChaCha<'a>
         ensures keyed { ⟦<NoncedChaCha<'a> as OnePass>⟧.keyed result ≡ self.now }
         ensures nonce { ⟦<NoncedChaCha<'a> as OnePass>⟧.nonce result ≡ nonce.now }
@@ -64,7 +64,7 @@ impl ChaChaPoly {
         }
     }
 
-    // Seals with the blocks `S` of the key stream made at once.
+    // Seals a text. The first blocks of the key stream are made together, as many as `S` says.
     #[inline(never)]
     fn seal_from<S: KeyStreamStart>(&self, nonce: &Nonce, aad: &[u8], text: &mut [u8]) -> Tag
         requires aad_fits { length aad.now ≤ aad_limit self.now.suite }
@@ -77,7 +77,7 @@ impl ChaChaPoly {
         seal_whole(&BufferedChaCha { key, nonce, start }, aad, text)
     }
 
-    // Opens with the blocks `S` of the key stream made at once.
+    // Opens a ciphertext. The first blocks of the key stream are made together, as many as `S` says.
     #[inline(never)]
     fn open_from<S: KeyStreamStart>(
         &self,
@@ -118,23 +118,23 @@ impl ChaChaPoly {
     }
 }
 
-// The one-time key of Poly1305: the first 32 bytes of the block with counter 0 (RFC 8439, 2.6).
+// Returns the one-time key of Poly1305: the first 32 bytes of the block with counter 0 (RFC 8439, 2.6).
 pub(crate) fn one_time_key(key: &Key32, nonce: &Nonce) -> [u8; 32]
     ensures { result ≡ poly_key key.now nonce.now }
 {
     first_half(&block(key, 0, nonce))
 }
 
-// The key stream of a text of which `made` bytes were masked.
-pub(crate) fn mask_at(key: &Key32, nonce: &Nonce, made: u64) -> ChaStream
-    requires { made ≤ 2 ^ 38 - 64 }
+// Returns the mask of a message, after its first `done` bytes.
+pub(crate) fn mask_at(key: &Key32, nonce: &Nonce, done: u64) -> ChaStream
+    requires { done ≤ 2 ^ 38 - 64 }
     ensures { (s : Setting) (tag : List ℕ) → construction_of s.suite ≡ ByChaCha → s.key ≡ key.now
-        → s.nonce ≡ nonce.now → MadeByChaCha result s tag made }
+        → s.nonce ≡ nonce.now → MadeByChaCha result s tag done }
 {
-    ChaStream::at(key, nonce, 64 + made)
+    ChaStream::at(key, nonce, 64 + done)
 }
 
-// The first 32 bytes.
+// Returns the first 32 bytes.
 pub(crate) fn first_half(start: &[u8]) -> [u8; 32]
     requires { 32 ≤ length start.now }
     ensures { result ≡ take 32 start.now }
@@ -144,7 +144,7 @@ pub(crate) fn first_half(start: &[u8]) -> [u8; 32]
     first
 }
 
-// The cipher with a nonce, for a text in pieces.
+// What a message needs: the key and the nonce.
 #[derive(Drop)]
 pub(crate) struct NoncedChaCha<'a> {
     key: &'a Key32,
@@ -164,9 +164,8 @@ impl<'a> OnePass for NoncedChaCha<'a> {
         Suite::ChaCha20Poly1305
     }
 
-    // Under the first 32 bytes of the block with counter 0 (RFC 8439, 2.6).
     fn hash(&self) -> Poly {
-        Poly::new(&first_half(&block(self.key, 0, self.nonce)))
+        Poly::new(&one_time_key(self.key, self.nonce))
     }
 
     fn mask(&self) -> ChaStream {
@@ -176,7 +175,7 @@ impl<'a> OnePass for NoncedChaCha<'a> {
     ghost one_pass = { λ _. refl };
 }
 
-// A cipher with a nonce and the first blocks of its key stream from counter 0 on, for a whole text.
+// What a whole message needs: the key, the nonce, and the first blocks of the key stream, from counter 0 on.
 #[derive(Drop)]
 struct BufferedChaCha<'a> {
     key: &'a Key32,
@@ -202,6 +201,7 @@ impl<'a> OnePass for BufferedChaCha<'a> {
         Suite::ChaCha20Poly1305
     }
 
+    // The one-time key is at the start of the block with counter 0 (RFC 8439, 2.6).
     fn hash(&self) -> Poly {
         Poly::new(&first_half(self.start))
     }

@@ -13,7 +13,7 @@ use crate::whole::seal;
 use octets::{Fault, Nonce};
 use std::alloc::{AllocError, Allocator};
 
-// Adds a piece.
+// Appends a copy of `piece`.
 fn add<A: Allocator + Copy>(
     alloc: A,
     pieces: &mut Vec<Vec<u8, A>, A>,

@@ -13,7 +13,7 @@ use aes::AesKey;
 use gf128::reversed_mul_x;
 use octets::{Block, Nonce};
 
-// Two arrays of one length, one after the other.
+// Returns two arrays of one length, joined.
 pub(crate) fn joined<const N: usize, const T: usize>(first: &[u8; N], second: &[u8; N]) -> [u8; T]
     requires { T ≡ N + N }
     ensures { result ≡ first.now ++ second.now }
@@ -25,7 +25,7 @@ pub(crate) fn joined<const N: usize, const T: usize>(first: &[u8; N], second: &[
     both
 }
 
-// The first half of a block.
+// Returns the first half of a block.
 fn first_half(block: &[u8; 16]) -> [u8; 8]
     ensures { result ≡ take 8 block.now }
 {
@@ -34,7 +34,7 @@ fn first_half(block: &[u8; 16]) -> [u8; 8]
     first
 }
 
-// A number and a nonce.
+// Returns the block of a number and a nonce (RFC 8452, 4).
 fn numbered(i: u32, nonce: &[u8; 12]) -> [u8; 16]
     ensures { result ≡ to_le_bytes w32 i ++ nonce.now }
 {
@@ -44,7 +44,7 @@ fn numbered(i: u32, nonce: &[u8; 12]) -> [u8; 16]
     block
 }
 
-// The blocks with the numbers 0 to 3.
+// Returns the blocks with the numbers 0 to 3.
 fn first_numbered(nonce: &[u8; 12]) -> [u8; 64]
     ensures { (q : ℕ) → q < 4 → block_at result q ≡ to_le_bytes w32 q ++ nonce.now }
 {
@@ -53,8 +53,8 @@ fn first_numbered(nonce: &[u8; 12]) -> [u8; 64]
     joined(&front, &back)
 }
 
-// Parts 0 to 3 of the derived keys, each the first half of a block (RFC 8452, 4): four blocks are
-// encrypted at once.
+// Parts 0 to 3 of the derived keys, each the first half of an encrypted block (RFC 8452, 4). The four blocks are encrypted at
+// once.
 #[derive(Drop)]
 pub(crate) struct KeyParts<'a> {
     key: &'a AesKey,
@@ -64,7 +64,7 @@ pub(crate) struct KeyParts<'a> {
 }
 
 impl<'a> KeyParts<'a> {
-    // The parts under a key with a nonce.
+    // Derives parts 0 to 3 from a key and a nonce.
     pub(crate) fn new(key: &'a AesKey, nonce: &'a Nonce) -> KeyParts<'a>
         ensures key { result.key.now ≡ key.now }
         ensures nonce { result.nonce.now ≡ nonce.now }
@@ -76,7 +76,7 @@ impl<'a> KeyParts<'a> {
         }
     }
 
-    // Part `i`: 8 bytes.
+    // Returns part `i`, 8 bytes.
     fn at(&self, i: usize) -> [u8; 8]
         requires { i < 4 }
         ensures { result ≡ key_part self.now.key.now self.now.nonce.now i }
@@ -87,7 +87,7 @@ impl<'a> KeyParts<'a> {
     }
 }
 
-// Part `i` of the derived keys: 8 bytes (RFC 8452, 4).
+// Derives part `i` of the keys, 8 bytes (RFC 8452, 4).
 fn key_part(key: &AesKey, nonce: &Nonce, i: u32) -> [u8; 8]
     ensures { result ≡ key_part key.now nonce.now i }
 {
@@ -95,7 +95,7 @@ fn key_part(key: &AesKey, nonce: &Nonce, i: u32) -> [u8; 8]
     first_half(block.bytes())
 }
 
-// The encryption key of 16 bytes: parts 2 and 3 (RFC 8452, 4).
+// Returns the encryption key of 16 bytes: parts 2 and 3 (RFC 8452, 4).
 pub(crate) fn short_encryption_key(parts: &KeyParts) -> [u8; 16]
     requires { length parts.now.key.now ≡ 16 }
     ensures { result ≡ encryption_key parts.now.key.now parts.now.nonce.now }
@@ -103,7 +103,7 @@ pub(crate) fn short_encryption_key(parts: &KeyParts) -> [u8; 16]
     joined(&parts.at(2), &parts.at(3))
 }
 
-// The encryption key of 32 bytes: parts 2 to 5.
+// Returns the encryption key of 32 bytes: parts 2 to 5 (RFC 8452, 4).
 pub(crate) fn long_encryption_key(parts: &KeyParts) -> [u8; 32]
     requires { length parts.now.key.now ≡ 32 }
     ensures { result ≡ encryption_key parts.now.key.now parts.now.nonce.now }
@@ -116,7 +116,7 @@ pub(crate) fn long_encryption_key(parts: &KeyParts) -> [u8; 32]
     joined(&first, &second)
 }
 
-// The expanded key of 16 or 32 bytes.
+// Expands a key of 16, 24 or 32 bytes.
 pub(crate) fn expanded(bytes: &[u8]) -> AesKey
     requires { IsKeyLength (length bytes.now) }
     ensures { result ≡ bytes.now }
@@ -124,7 +124,7 @@ pub(crate) fn expanded(bytes: &[u8]) -> AesKey
     AesKey::from_slice(bytes).unwrap()
 }
 
-// The key of POLYVAL's multiplier in GHASH's field (RFC 8452, appendix A). POLYVAL's key is parts 0 and 1 (4).
+// Returns the key of POLYVAL's multiplier in GHASH's field (RFC 8452, appendix A). POLYVAL's key is parts 0 and 1 (RFC 8452, 4).
 pub(crate) fn hash_key(parts: &KeyParts) -> Block
     ensures value { IsReversedMulX (authentication_key parts.now.key.now parts.now.nonce.now) result }
     ensures of_block { IsBlock (authentication_key parts.now.key.now parts.now.nonce.now) }
@@ -136,13 +136,13 @@ pub(crate) fn hash_key(parts: &KeyParts) -> Block
 // The keys of one message.
 #[derive(Drop)]
 pub(crate) struct DerivedKeys {
-    // Of POLYVAL's multiplier in GHASH's field.
+    // The key of POLYVAL's multiplier in GHASH's field.
     pub(crate) hash_key: Block,
     pub(crate) encryption: AesKey,
 }
 
 impl DerivedKeys {
-    // Those under a suite's key with a nonce.
+    // Derives the keys of a message from a suite's key and a nonce (RFC 8452, 4).
     pub(crate) fn new(suite: Suite, key: &AesKey, nonce: &Nonce) -> DerivedKeys
         requires by_gcm_siv { construction_of suite ≡ ByGcmSiv }
         requires long { length key.now ≡ key_length suite }

@@ -34,7 +34,7 @@ use std::marker::Model;
 pub struct Gcm {
     key: AesKey,
     ghash_key: Block,
-    // The small table, for short texts: it moves with the key.
+    // The small table, for short texts.
     multiplier: TableMul,
     // Behind the key: before it, the bytes between them make LLVM move the key twice.
     suite: Suite,
@@ -72,7 +72,7 @@ impl Gcm {
         }
     }
 
-    // The cipher of one of the three suites under a key.
+    // Returns the cipher of one of the three suites under a key.
     #[inline(always)]
     pub(crate) fn new(suite: Suite, key: AesKey) -> Gcm
         requires { construction_of suite ≡ ByGcm }
@@ -87,9 +87,9 @@ impl Gcm {
         }
     }
 
-    // Borrows everything this cipher holds.
+    // Borrows everything that this cipher holds.
     #[inline(always)]
-    fn kept<'a>(&'a self) -> BorrowedGcm<'a, &'a TableMul>
+    fn borrowed<'a>(&'a self) -> BorrowedGcm<'a, &'a TableMul>
         ensures { ⟦<BorrowedGcm<'a, &'a TableMul> as Aead>⟧.keyed result ≡ self.now }
     {
         BorrowedGcm::new(self.suite, &self.key, &self.ghash_key, &self.multiplier)
@@ -102,7 +102,7 @@ impl Gcm {
         &self.key
     }
 
-    // The cipher with a nonce, by its key, which is held or borrowed, and a multiplier of its hash key.
+    // Returns what a message needs: the cipher, the nonce, the key, which is held or borrowed, and a multiplier by the hash key.
     pub(crate) fn nonced<'a, M: Multiply + Copy, K: KeptKey + Copy>(
         &self,
         nonce: &'a Nonce,
@@ -134,7 +134,7 @@ impl Gcm {
         (&self.key, &self.ghash_key, &self.multiplier)
     }
 
-    // A multiplier of its hash key. It is inlined, since a large one would be moved.
+    // Returns a multiplier by the hash key. This is inlined, since a large one would be moved.
     #[inline(always)]
     pub(crate) fn multiplier_of<M: Keyed128>(&self) -> M
         ensures { M.key_bytes result ≡ hash_key self.now.key }
@@ -154,7 +154,7 @@ pub fn hash_subkey(key: &AesKey) -> Block
     key.encrypt(&Block::new([0; 16]))
 }
 
-// The keys of the hash of a message: that of GHASH, and the block that the tag is masked with.
+// Returns the keys of the hash of a message: that of GHASH, and the block that the tag is masked with.
 pub(crate) fn hash_keys(key: &AesKey, ghash_key: &Block, nonce: &Nonce) -> [u8; 32]
     requires { ghash_key.now ≡ hash_key key.now }
     ensures { (s : Setting) → s.key ≡ key.now → s.nonce ≡ nonce.now → IsHashKey ByGcm result s }
@@ -165,16 +165,16 @@ pub(crate) fn hash_keys(key: &AesKey, ghash_key: &Block, nonce: &Nonce) -> [u8; 
     )
 }
 
-// The counter stream of a text of which `made` bytes were masked.
-pub(crate) fn mask_at<K: KeptKey>(key: K, nonce: &Nonce, made: u64, known: &KnownBlock) -> CtrBe<K>
-    requires { made < 2 ^ 63 }
+// Returns the mask of a message, after its first `done` bytes.
+pub(crate) fn mask_at<K: KeptKey>(key: K, nonce: &Nonce, done: u64, known: &KnownBlock) -> CtrBe<K>
+    requires { done < 2 ^ 63 }
     ensures { (s : Setting) (tag : List ℕ) → construction_of s.suite ≡ ByGcm → s.key ≡ K.bytes key
         → s.nonce ≡ nonce.now → KnowsCipher known.now s.key → MadeByGcm K.bytes result s tag made }
 {
     CtrBe::at_known(key, &counter_block(nonce, 2), made, known)
 }
 
-// The nonce and a counter (SP 800-38D, 7.1). The last word is written as one, since the cipher reads words.
+// Returns the block of the nonce and a counter (SP 800-38D, 7.1). The last word is written as one, since the cipher reads words.
 #[inline(always)]
 pub(crate) fn counter_block(nonce: &Nonce, counter: u8) -> Block
     ensures value { result ≡ nonce.now ++ 0 ∷ 0 ∷ 0 ∷ counter ∷ [] }
@@ -186,7 +186,7 @@ pub(crate) fn counter_block(nonce: &Nonce, counter: u8) -> Block
     Block::new(bytes)
 }
 
-// The cipher with a nonce, its key, and a multiplier of its hash key.
+// What a message needs: the suite, the key, the nonce, and a multiplier by the hash key.
 #[derive(Drop)]
 pub(crate) struct NoncedGcm<'a, M: Multiply, K: KeptKey> {
     suite: Suite,
@@ -254,7 +254,7 @@ impl<'a> GcmKeys<'a> {
         }
     }
 
-    // The cipher with a nonce, by a multiplier of its hash key.
+    // Returns what a message needs, with this multiplier by the hash key.
     #[inline(always)]
     fn nonced<'b, N: Multiply + Copy>(
         &self,
@@ -274,7 +274,8 @@ impl<'a> GcmKeys<'a> {
         }
     }
 
-    // Seals by a multiplier of the type `N`.
+    // Seals a text, and multiplies by the hash key with a multiplier of the type `N`. It is not inlined, so that the large table
+    // is on the stack only for a long text.
     #[inline(never)]
     fn seal_by<N: Keyed128>(&self, nonce: &Nonce, aad: &[u8], text: &mut [u8]) -> Tag
         requires aad_fits { length aad.now ≤ aad_limit self.now.suite }
@@ -282,12 +283,12 @@ impl<'a> GcmKeys<'a> {
         ensures { Opened (setting (⟦<GcmKeys<'a> as Aead>⟧.keyed self.now) nonce.now aad.now) (text.new ++ result)
             text.old }
     {
-        let mut made = N::none();
-        made.set(self.ghash_key);
-        seal_whole(&self.nonced(nonce, &made), aad, text)
+        let mut multiplier = N::none();
+        multiplier.set(self.ghash_key);
+        seal_whole(&self.nonced(nonce, &multiplier), aad, text)
     }
 
-    // Opens by a multiplier of the type `N`.
+    // Opens a ciphertext, and multiplies by the hash key with a multiplier of the type `N`. It is not inlined, for the same reason.
     #[inline(never)]
     fn open_by<N: Keyed128>(
         &self,
@@ -301,9 +302,9 @@ impl<'a> GcmKeys<'a> {
         ensures { OpensInPlace (setting (⟦<GcmKeys<'a> as Aead>⟧.keyed self.now) nonce.now aad.now) tag.now body.old
             body.new result }
     {
-        let mut made = N::none();
-        made.set(self.ghash_key);
-        open_whole(&self.nonced(nonce, &made), aad, body, tag)
+        let mut multiplier = N::none();
+        multiplier.set(self.ghash_key);
+        open_whole(&self.nonced(nonce, &multiplier), aad, body, tag)
     }
 }
 
@@ -418,7 +419,7 @@ impl Aead for Gcm {
     }
 
     fn seal_fitting(&self, nonce: &Nonce, aad: &[u8], text: &mut [u8]) -> Tag {
-        self.kept().seal_fitting(nonce, aad, text)
+        self.borrowed().seal_fitting(nonce, aad, text)
     }
 
     fn open_fitting(
@@ -428,6 +429,6 @@ impl Aead for Gcm {
         body: &mut [u8],
         tag: &Tag,
     ) -> Result<(), Fault> {
-        self.kept().open_fitting(nonce, aad, body, tag)
+        self.borrowed().open_fitting(nonce, aad, body, tag)
     }
 }

@@ -181,23 +181,23 @@ pub(crate) fn tag_mask<K: KeptKey>(encryption: K, tag: &Tag) -> CtrLe<K>
     CtrLe::new(encryption, &Block::new(counter_block(tag.bytes())))
 }
 
-// Returns the mask of the message with this tag, after its first `made` bytes.
+// Returns the mask of the message with this tag, after its first `done` bytes.
 #[inline(always)]
 pub(crate) fn mask_at<K: KeptKey>(
     encryption: K,
     tag: &[u8; 16],
-    made: u64,
+    done: u64,
     known: &KnownBlock,
 ) -> CtrLe<K>
-    requires { made < 2 ^ 63 }
+    requires { done < 2 ^ 63 }
     ensures { (s : Setting) → construction_of s.suite ≡ ByGcmSiv
         → K.bytes encryption ≡ encryption_key s.key s.nonce → KnowsCipher known.now (K.bytes encryption)
-        → MadeByGcmSiv K.bytes result s tag.now made }
+        → MadeByGcmSiv K.bytes result s tag.now done }
 {
-    CtrLe::at_known(encryption, &Block::new(counter_block(tag)), made, known)
+    CtrLe::at_known(encryption, &Block::new(counter_block(tag)), done, known)
 }
 
-// A cipher with a nonce, the message's encryption key, and a multiplier by its authentication key.
+// What a message needs: the suite, the key, the nonce, the message's encryption key, and a multiplier by its authentication key.
 #[derive(Drop)]
 pub(crate) struct NoncedGcmSiv<'a, M: Multiply, K: KeptKey> {
     suite: Suite,

@@ -18,14 +18,15 @@ use poly1305::Poly;
 
 // The hash of a construction under the keys of a message, and the tag that it ends in.
 pub(crate) trait TagHash: Drop {
-    // It holds this text under the keys of a message.
+    // The hash holds this text under the keys of a message.
     ghost held: { Self → Setting → List ℕ → Type 0 };
 
     // Takes in the next bytes.
     fn take_in(&mut self, bytes: &[u8])
         ensures { (s : Setting) (m : List ℕ) → held self.old s m → held self.new s (m ++ bytes.now) };
 
-    // Takes in the next bytes, as they come or as they leave, and XORs the next bytes of `stream` into them.
+    // XORs the next bytes of `stream` into a piece, and takes in its bytes: in the order `MaskFirst` as they are afterwards, and in
+    // the order `HashFirst` as they were before.
     fn take_in_beside<S: Stream>(&mut self, order: Order, stream: &mut S, piece: &mut [u8])
         ensures held { (s : Setting) (m : List ℕ) → held self.old s m
             → held self.new s (m ++ hashed_of order piece.old piece.new) }
@@ -43,30 +44,30 @@ pub(crate) trait TagHash: Drop {
         }
     }
 
-    // Takes in zeros up to whole blocks.
+    // Pads with zeros to whole blocks.
     fn pad(&mut self)
         ensures { (s : Setting) (m : List ℕ) → held self.old s m → held self.new s (pad16 m) };
 
-    // Its sum over the whole blocks of the text: the lower 128 bits, and the rest.
+    // Returns the sum over the whole blocks of the text: the lower 128 bits, and the bits above them.
     fn sum(&self) -> (u128, u64)
         ensures { (s : Setting) (m : List ℕ) → held self.now s m
             → IsSumOf (construction_of s.suite) result.0 result.1 s m };
 
-    // The bytes of the text after the last whole block.
+    // Returns the bytes of the text after the last whole block.
     fn rest(&self) -> &[u8]
         ensures value { (s : Setting) (m : List ℕ) → held self.now s m
             → result.now ≡ drop (length m / 16 * 16) m }
         ensures short { length result.now < 16 };
 
-    // The tag of padded associated data and the bytes after it: zeros up to whole blocks and both lengths are taken in
-    // last. The hash must not be used after it.
+    // Pads the bytes after the associated data, takes in both lengths, and returns the tag. The hash must not be used
+    // afterwards.
     fn tag_with_lengths(&mut self, aad_length: u64, bytes_length: u64) -> Tag
         ensures { (s : Setting) (m : List ℕ) → held self.old s (pad16 s.aad ++ m) → Fits s m
             → aad_length ≡ length s.aad
             → bytes_length ≡ length m → result ≡ tag_over s.suite s.key s.nonce s.aad m };
 }
 
-// The number of bits in `bytes` bytes.
+// Returns the number of bits in `bytes` bytes.
 fn bits(bytes: u64) -> u64
     ensures { bytes < 2 ^ 61 → result ≡ 8 * bytes }
 {
@@ -103,7 +104,7 @@ impl TagHash for Poly {
     }
 }
 
-// GHASH, and the cipher of J0; the lengths are in bits (SP 800-38D, 7.1).
+// GHASH, and the encrypted block J0; the lengths are in bits (SP 800-38D, 7.1).
 #[derive(Drop)]
 pub(crate) struct GhashTag<M> {
     pub(crate) hash: Ghash<M>,
@@ -137,7 +138,7 @@ impl<M: Multiply> TagHash for GhashTag<M> {
     }
 }
 
-// The block whose cipher is the tag (RFC 8452, 4).
+// Returns the block that is encrypted to the tag (RFC 8452, 4).
 fn tag_block(hash: &[u8; 16], nonce: &[u8; 12]) -> [u8; 16]
     ensures { result ≡ tag_block hash.now nonce.now }
 {
@@ -186,14 +187,14 @@ impl<M: Multiply, K: KeptKey> TagHash for PolyvalTag<M, K> {
 
 // ---- a hash made again from numbers
 
-// The keys of a hash, with which it is made again from numbers.
+// The keys of a hash, by which it is made again from plain numbers.
 pub(crate) trait HashKeys {
     type Hash: TagHash;
 
-    // They are those of a message.
+    // The keys are those of a message.
     ghost serves: { Self → Setting → Type 0 };
 
-    // The hash of a text again, by the bytes of its keys, its sum over the whole blocks and the bytes after them.
+    // Makes the hash of a text again from the bytes of its keys, its sum over the whole blocks, and the bytes after them.
     fn resumed(&self, hash_key: &[u8; 32], low: u128, high: u64, rest: &[u8]) -> Self::Hash
         requires { length rest.now < 16 }
         ensures { (s : Setting) (m : List ℕ) → serves self.now s → IsHashKey (construction_of s.suite) hash_key.now s
@@ -201,7 +202,7 @@ pub(crate) trait HashKeys {
             → Self.Hash.held result s m };
 }
 
-// Poly1305, whose key is among the numbers.
+// The key of Poly1305, which is among the numbers.
 #[derive(Drop)]
 pub(crate) struct PolyKeys;
 
@@ -216,7 +217,7 @@ impl HashKeys for PolyKeys {
     }
 }
 
-// GHASH by a multiplier of its key. The cipher of J0 is among the numbers.
+// A multiplier by the key of GHASH. The encrypted block J0 is among the numbers.
 #[derive(Drop)]
 pub(crate) struct GhashKeys<'a, M> {
     pub(crate) multiplier: &'a M,
@@ -237,7 +238,7 @@ impl<'a, M: Multiply> HashKeys for GhashKeys<'a, M> {
     }
 }
 
-// POLYVAL by a multiplier of its key, with the encryption key and the nonce.
+// A multiplier by the key of POLYVAL, with the encryption key and the nonce.
 #[derive(Drop)]
 pub(crate) struct PolyvalKeys<'a, M> {
     pub(crate) multiplier: &'a M,
@@ -268,7 +269,7 @@ impl<'a, M: Multiply> HashKeys for PolyvalKeys<'a, M> {
     }
 }
 
-// The last 16 bytes.
+// Returns the last 16 bytes.
 pub(crate) fn last_block(bytes: &[u8; 32]) -> Block
     ensures { result ≡ drop 16 bytes.now }
 {

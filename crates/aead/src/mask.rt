@@ -12,12 +12,12 @@ use aes::{CtrBe, CtrLe, KeptKey};
 use chacha::{ChaStream, RUN};
 use octets::Stream;
 
-// The mask of a message, of which some bytes were made.
+// The mask of a message, made so far up to some byte.
 pub(crate) trait MaskStream: Stream + Drop {
-    // The mask is that of a message with a tag, and this many bytes of it were made.
+    // The mask is that of a message with this setting and this tag, and this many bytes of it were made.
     ghost made: { Self → Setting → List ℕ → ℕ → Type 0 };
 
-    // Whether a hash beside the mask of the next `length` bytes takes less time than one after it.
+    // Returns whether to hash beside the mask of the next `length` bytes takes less time than to hash after it.
     fn pays_beside_a_hash(&self, length: usize) -> bool;
 
     // XORs the next bytes of the mask into `piece`.
@@ -29,7 +29,7 @@ pub(crate) trait MaskStream: Stream + Drop {
         self.apply_next(piece);
     }
 
-    // A call masks the next bytes.
+    // What a call of the stream does is to mask the next bytes.
     ghost masks: { (a b : Self) (was now : List ℕ) → Self.did a b was now → Masks made a b was now };
 }
 

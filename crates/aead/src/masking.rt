@@ -1,4 +1,4 @@
-//! The state of a message that is masked and authenticated piece by piece, under any construction.
+//! The state of a message that a stream engine masks and authenticates piece by piece, under any construction.
 
 ghost use Rattle.std.specs.Prelude.{◌≡◌, ◌+◌, ◌<◌, ◌≤◌, ◌^◌, ◌++◌, ℕ, List, [], length};
 ghost use Rattle.octets.specs.Masked.{masked};
@@ -69,17 +69,6 @@ impl<S: MaskStream, H: TagHash> Masking<S, H> {
         ensures limit { self.new.limit ≡ self.old.limit }
     {
         step(order, &mut self.mask, &mut self.authenticator, piece);
-    }
-
-    // Returns the tag of all pieces. The state must not be used afterwards.
-    #[inline(always)]
-    pub(crate) fn tag(&mut self) -> Tag
-        ensures { (hashed : (ℕ → ℕ) → List ℕ → List ℕ) (t : Task) (fed : List ℕ)
-            → HoldsMasking S.made H.held hashed self.old t fed
-            → result ≡ tag_over t.setting.suite t.setting.key t.setting.nonce t.setting.aad
-            (hashed (task_mask t) fed) }
-    {
-        self.authenticator.tag()
     }
 
     // Returns the tag of all pieces, and consumes the state.

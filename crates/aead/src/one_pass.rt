@@ -9,14 +9,13 @@ ghost use Rattle.aead.specs.Refusals.{OpenRefused};
 ghost use Rattle.aead.specs.InPlace.{OpensInPlace};
 
 use crate::authenticator::Authenticator;
-use crate::beside::Order;
+use crate::beside::{Order, step};
 use crate::hashes::TagHash;
 use crate::mask::MaskStream;
-use crate::masking::Masking;
 use crate::suite::Suite;
 use octets::{Fault, Tag, same};
 
-// A cipher with a nonce, by what a message under them needs: the mask of its text, and the hash of its ciphertext.
+// What a message under a cipher and a nonce needs: the mask of its text, and the hash of its ciphertext.
 pub(crate) trait OnePass {
     type Stream: MaskStream;
 
@@ -29,11 +28,11 @@ pub(crate) trait OnePass {
     fn suite(&self) -> Suite
         ensures { result ≡ (keyed self.now).suite };
 
-    // The hash that the tag ends: no byte is taken in.
+    // Returns the hash that ends in the tag, before any byte is taken in.
     fn hash(&self) -> Self::Hash
         ensures { (aad : List ℕ) → Self.Hash.held result (setting (keyed self.now) (nonce self.now) aad) [] };
 
-    // The mask, which needs no tag.
+    // Returns the mask, which does not depend on the tag.
     fn mask(&self) -> Self::Stream
         ensures { (aad tag : List ℕ)
             → Self.Stream.made result (setting (keyed self.now) (nonce self.now) aad) tag 0 };
@@ -41,12 +40,12 @@ pub(crate) trait OnePass {
     ghost one_pass: { (n : Self) → is_one_pass (construction_of (keyed n).suite) ≡ true };
 }
 
-// Does nothing: a caller learns that each byte of a slice is below 256.
+// Does nothing when it runs. It tells the proof of its caller that each byte of a slice is below 256.
 fn tells_bytes(bytes: &[u8])
     ensures { (i : ℕ) → get_or bytes.now i 0 < 256 }
 {}
 
-// Turns a text into its ciphertext, and returns the tag over that.
+// Encrypts a text in place, and returns the tag over the ciphertext.
 pub(crate) fn seal_whole<N: OnePass>(message: &N, aad: &[u8], text: &mut [u8]) -> Tag
     requires aad_fits { length aad.now ≤ aad_limit (N.keyed message.now).suite }
     requires text_fits { length text.old ≤ text_limit (N.keyed message.now).suite }
@@ -54,14 +53,14 @@ pub(crate) fn seal_whole<N: OnePass>(message: &N, aad: &[u8], text: &mut [u8]) -
         text.old }
 {
     tells_bytes(text);
-    let limit = message.suite().text_limit();
-    let mut sealing = Masking::empty(message.mask(), message.hash(), limit);
-    sealing.begin(aad);
-    sealing.update(Order::MaskFirst, text);
-    sealing.tag()
+    let mut mask = message.mask();
+    let mut authenticator = Authenticator::empty(message.hash());
+    authenticator.begin(aad);
+    step(Order::MaskFirst, &mut mask, &mut authenticator, text);
+    authenticator.tag()
 }
 
-// Turns a ciphertext into its text if the tag is its own, and else leaves every byte as it was.
+// Authenticates a ciphertext, and then decrypts it in place. If authentication fails, every byte is as it was.
 pub(crate) fn open_whole<N: OnePass>(
     message: &N,
     aad: &[u8],
@@ -84,7 +83,7 @@ pub(crate) fn open_whole<N: OnePass>(
     Ok(())
 }
 
-// Turns a ciphertext into its text while it is authenticated. On error the bytes are what the ciphertext would open to.
+// Decrypts a ciphertext in place while it is authenticated. On error the bytes are what the ciphertext would open to.
 pub(crate) fn open_beside<N: OnePass>(
     message: &N,
     aad: &[u8],
@@ -99,18 +98,18 @@ pub(crate) fn open_beside<N: OnePass>(
         body.new ≡ masked (mask_of s tag.now) 0 body.old }
 {
     let given = tag.bytes();
-    let limit = message.suite().text_limit();
-    let mut opening = Masking::empty(message.mask(), message.hash(), limit);
-    opening.begin(aad);
-    opening.update(Order::HashFirst, body);
-    if same(opening.tag().bytes(), given) {
+    let mut mask = message.mask();
+    let mut authenticator = Authenticator::empty(message.hash());
+    authenticator.begin(aad);
+    step(Order::HashFirst, &mut mask, &mut authenticator, body);
+    if same(authenticator.tag().bytes(), given) {
         Ok(())
     } else {
         Err(Fault::TagMismatch)
     }
 }
 
-// Turns a ciphertext into its text while it is authenticated. If authentication fails, the mask is XORed in again, and every
+// Decrypts a ciphertext in place while it is authenticated. If authentication fails, the mask is XORed in again, so that every
 // byte is as it was.
 pub(crate) fn open_and_restore<N: OnePass>(
     message: &N,

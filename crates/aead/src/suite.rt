@@ -24,14 +24,14 @@ pub enum Suite {
 }
 
 impl Suite {
-    /// The bytes of a nonce, in each suite.
+    /// The length of a nonce in bytes, in each suite.
     pub const NONCE_LENGTH: usize = 12;
 
-    /// The bytes of a tag, in each suite: the ciphertext overhead.
+    /// The length of a tag in bytes, in each suite: how much longer a sealing is than its text.
     pub const TAG_LENGTH: usize = 16;
 
-    /// The suite of a name: `chacha20-poly1305`, `aes-128-gcm`, `aes-192-gcm`, `aes-256-gcm`,
-    /// `aes-128-gcm-siv` or `aes-256-gcm-siv`. No other text names one.
+    /// Returns the suite of a name: `chacha20-poly1305`, `aes-128-gcm`, `aes-192-gcm`, `aes-256-gcm`,
+    /// `aes-128-gcm-siv` or `aes-256-gcm-siv`. For any other text the result is `None`.
     pub fn named(name: &str) -> Option<Suite>
         ensures { (suite : Suite) → (result ≡ Some suite) ↔ (name.now ≡ suite_name suite) }
     {
@@ -46,7 +46,7 @@ impl Suite {
         }
     }
 
-    /// The name of a suite.
+    /// Returns the name of a suite.
     pub fn name(self) -> &'static str
         ensures { result.now ≡ suite_name self }
     {
@@ -60,7 +60,7 @@ impl Suite {
         }
     }
 
-    /// The suite of a number: 1 to 6, in the order of this type's suites. No other number has one.
+    /// Returns the suite of a number: 1 to 6, in the order of this type's suites. For any other number the result is `None`.
     #[inline]
     pub fn from_number(number: u32) -> Option<Suite>
         ensures { (suite : Suite) → (result ≡ Some suite) ↔ (number ≡ suite_number suite) }
@@ -76,7 +76,7 @@ impl Suite {
         }
     }
 
-    /// The number of a suite, which stands for it at C and in stored states: 1 to 6.
+    /// Returns the number of a suite, 1 to 6, which stands for it at C and in saved states.
     #[inline]
     pub fn number(self) -> u32
         ensures { result ≡ suite_number self }
@@ -91,7 +91,7 @@ impl Suite {
         }
     }
 
-    /// The bytes of a key: 16, 24 or 32.
+    /// Returns the length of a key in bytes: 16, 24 or 32.
     pub fn key_length(self) -> usize
         ensures { result ≡ key_length self }
     {
@@ -102,7 +102,7 @@ impl Suite {
         }
     }
 
-    /// The most bytes of a text: 2^38 - 64 (RFC 8439, 2.8), 2^36 - 32 (SP 800-38D, 5.2.1.1) or 2^36 (RFC
+    /// Returns the most bytes that a text may have: 2^38 - 64 (RFC 8439, 2.8), 2^36 - 32 (SP 800-38D, 5.2.1.1) or 2^36 (RFC
     /// 8452, 6). A longer one is refused as `TextTooLong`.
     pub fn text_limit(self) -> u64
         ensures { result ≡ text_limit self }
@@ -114,7 +114,7 @@ impl Suite {
         }
     }
 
-    /// The most bytes of associated data: 2^64 - 1 (RFC 8439, 2.8), 2^61 - 1 (SP 800-38D, 5.2.1.1, which
+    /// Returns the most bytes that associated data may have: 2^64 - 1 (RFC 8439, 2.8), 2^61 - 1 (SP 800-38D, 5.2.1.1, which
     /// counts bits) or 2^36 (RFC 8452, 6). A longer one is refused as `AadTooLong`.
     pub fn aad_limit(self) -> u64
         ensures { result ≡ aad_limit self }
@@ -126,7 +126,8 @@ impl Suite {
         }
     }
 
-    /// `TextTooLong`, the only fault, if a text is longer than [`Suite::text_limit`].
+    /// Compares the length of a text with the limit. The only fault is `TextTooLong`, if it is longer than
+    /// [`Suite::text_limit`].
     pub fn check_text(self, text: &[u8]) -> Result<(), Fault>
         ensures { MatchResult result (λ _. length text.now ≤ text_limit self)
             (λ e. (e ≡ Fault.TextTooLong) × (text_limit self < length text.now)) }
@@ -137,7 +138,8 @@ impl Suite {
         Ok(())
     }
 
-    /// `AadTooLong`, the only fault, if associated data is longer than [`Suite::aad_limit`].
+    /// Compares the length of associated data with the limit. The only fault is `AadTooLong`, if it is longer than
+    /// [`Suite::aad_limit`].
     pub fn check_aad(self, aad: &[u8]) -> Result<(), Fault>
         ensures { MatchResult result (λ _. length aad.now ≤ aad_limit self)
             (λ e. (e ≡ Fault.AadTooLong) × (aad_limit self < length aad.now)) }

@@ -7,14 +7,13 @@ ghost use Rattle.aead.specs.Ciphers.{Keyed, setting};
 ghost use Rattle.aead.specs.InPlace.{OpensInPlace};
 
 use crate::authenticator::Authenticator;
-use crate::beside::Order;
+use crate::beside::{Order, step};
 use crate::hashes::TagHash;
 use crate::mask::MaskStream;
-use crate::masking::Masking;
 use crate::suite::Suite;
 use octets::{Fault, Tag, same};
 
-// A cipher with a nonce, by what a message under them needs: the hash of its text, and the mask that the tag begins.
+// What a message under a cipher and a nonce needs: the hash of its text, and the mask that begins with the tag.
 pub(crate) trait TwoPass {
     type Stream: MaskStream;
 
@@ -27,11 +26,11 @@ pub(crate) trait TwoPass {
     fn suite(&self) -> Suite
         ensures { result ≡ (keyed self.now).suite };
 
-    // The hash that the tag ends: no byte is taken in.
+    // Returns the hash that ends in the tag, before any byte is taken in.
     fn hash(&self) -> Self::Hash
         ensures { (aad : List ℕ) → Self.Hash.held result (setting (keyed self.now) (nonce self.now) aad) [] };
 
-    // The mask under a tag.
+    // Returns the mask of the message with this tag.
     fn mask(&self, tag: &Tag) -> Self::Stream
         ensures { (aad : List ℕ)
             → Self.Stream.made result (setting (keyed self.now) (nonce self.now) aad) tag.now 0 };
@@ -39,7 +38,7 @@ pub(crate) trait TwoPass {
     ghost by_gcm_siv: { (n : Self) → construction_of (keyed n).suite ≡ ByGcmSiv };
 }
 
-// Turns a text into its ciphertext, and returns the text's tag.
+// Authenticates a text, then encrypts it in place under its tag, and returns the tag.
 pub(crate) fn seal_whole<N: TwoPass>(message: &N, aad: &[u8], text: &mut [u8]) -> Tag
     requires aad_fits { length aad.now ≤ aad_limit (N.keyed message.now).suite }
     requires text_fits { length text.old ≤ text_limit (N.keyed message.now).suite }
@@ -54,7 +53,8 @@ pub(crate) fn seal_whole<N: TwoPass>(message: &N, aad: &[u8], text: &mut [u8]) -
     tag
 }
 
-// Turns a ciphertext into its text if the tag is the text's, and else leaves every byte as it was.
+// Decrypts a ciphertext in place and authenticates the text. If authentication fails, the text is encrypted again, so that every
+// byte is as it was.
 pub(crate) fn open_whole<N: TwoPass>(
     message: &N,
     aad: &[u8],
@@ -67,11 +67,11 @@ pub(crate) fn open_whole<N: TwoPass>(
         body.new result }
 {
     let given = tag.bytes();
-    let limit = message.suite().text_limit();
-    let mut opening = Masking::empty(message.mask(tag), message.hash(), limit);
-    opening.begin(aad);
-    opening.update(Order::MaskFirst, body);
-    if same(opening.tag().bytes(), given) {
+    let mut mask = message.mask(tag);
+    let mut authenticator = Authenticator::empty(message.hash());
+    authenticator.begin(aad);
+    step(Order::MaskFirst, &mut mask, &mut authenticator, body);
+    if same(authenticator.tag().bytes(), given) {
         return Ok(());
     }
     message.mask(tag).apply_to(body);

@@ -13,7 +13,7 @@ use crate::suite::Suite;
 use octets::{Fault, Nonce, Tag};
 use std::alloc::Allocator;
 
-// The text of a ciphertext and its tag.
+// Returns the text of a sealing, with the faults of [`open`].
 fn opened_text<A: Allocator>(
     alloc: A,
     cipher: &AnyAead,

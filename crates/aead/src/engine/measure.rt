@@ -1,4 +1,4 @@
-//! The first of the three readings of the stream opener, which is measured: its length and its last 16 bytes.
+//! The first of the three readings of the stream opener, which measures the sealing: its length and its last 16 bytes.
 
 ghost use Rattle.std.specs.Prelude.{◌≡◌, ◌++◌, ◌<◌, ◌≤◌, ◌^◌, drop, length};
 ghost use Rattle.octets.specs.Bytes.{IsBlock};
@@ -14,7 +14,7 @@ pub(crate) struct Measured {
     ghost tag_is: { IsBlock tag },
 }
 
-// Keeps the last 16 of these bytes and a piece after them.
+// Updates `last` to the last 16 bytes of the reading after a piece.
 fn slide(last: &mut [u8; 16], piece: &[u8])
     ensures { last.new ≡ drop (length piece.now) (last.old ++ piece.now) }
 {
@@ -30,8 +30,8 @@ fn slide(last: &mut [u8; 16], piece: &[u8])
 impl Measured {
     ghost use Rattle.aead.specs.Code.Measures.{Measures};
 
-    // Reads to the end. Faults: `TextTooLong` as soon as a byte more than `limit` and 16 was taken, and none
-    // is taken after it; `TooShort` if there are fewer than 16.
+    // Measures a reading by taking it to its end. Faults: `TextTooLong` as soon as more than `limit` and 16 bytes were taken,
+    // and no byte is taken after that; `TooShort` if there are fewer than 16; `Read` if the reading failed.
     pub(crate) fn of<I: Intake>(intake: &mut I, limit: u64) -> Result<Measured, Fault>
         requires { limit < 2 ^ 39 }
         ensures { Measures limit (I.left intake.old) (I.left intake.new) (I.failures intake.old)

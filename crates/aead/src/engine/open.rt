@@ -12,7 +12,7 @@ ghost use Rattle.aead.specs.Code.Returns.{write_answer};
 ghost use Rattle.aead.specs.Code.Findings.{PassedWhole};
 
 use crate::aead::Aead;
-use crate::any::AnyAead;
+use crate::any::{AnyAead, AnyOnePass};
 use crate::engine::measure::Measured;
 use crate::engine::opening::pass_opening;
 use crate::engine::passes::Finding;
@@ -21,7 +21,7 @@ use crate::suite::Suite;
 use gf128::WideMul;
 use octets::{DeviceFault, Fault, Intake, Nonce, Outlet};
 
-// Takes all bytes and keeps none.
+// An outlet that drops every byte.
 #[derive(Drop)]
 struct Discard;
 
@@ -35,7 +35,7 @@ impl Outlet for Discard {
     }
 }
 
-// The first step: the measured length and tag.
+// The first step: measures the length and the tag.
 fn measure_step<I: Intake>(suite: Suite, intake: &mut I) -> Result<Measured, Fault>
     ensures high { IfOk result (λ m. m.length ≤ text_limit suite + 16) }
     ensures blame { DueToReading (Fault.TextTooLong ∷ Fault.TooShort ∷ []) (I.failures intake.old)
@@ -46,7 +46,7 @@ fn measure_step<I: Intake>(suite: Suite, intake: &mut I) -> Result<Measured, Fau
     Measured::of(intake, suite.text_limit())
 }
 
-// The result for what the verify reading showed.
+// Returns the result for the finding of the verify reading.
 fn answer_verify(finding: Finding) -> Result<(), Fault>
     ensures { result ≡ verify_answer finding }
 {
@@ -57,7 +57,7 @@ fn answer_verify(finding: Finding) -> Result<(), Fault>
     }
 }
 
-// The result for what the write reading showed.
+// Returns the result for the finding of the write reading.
 fn answer_write(finding: Finding) -> Result<(), Fault>
     ensures { result ≡ write_answer finding }
 {
@@ -67,7 +67,7 @@ fn answer_write(finding: Finding) -> Result<(), Fault>
     }
 }
 
-// Verifies a whole reading and gives nothing: it is decrypted only if the tag is over the text.
+// Authenticates a whole reading and gives nothing. It is decrypted only under AES-GCM-SIV, whose tag is over the text.
 fn verify_reading<I: Intake>(
     cipher: &AnyAead,
     nonce: &Nonce,
@@ -82,7 +82,18 @@ fn verify_reading<I: Intake>(
     ensures blame { DueToReading [] (I.failures intake.old) (I.failures intake.new) result }
 {
     match cipher {
-        AnyAead::OnePass(cipher) => verify_one_pass(cipher, nonce, aad, intake, measured),
+        AnyAead::OnePass(AnyOnePass::ChaCha(cipher)) => {
+            verify_one_pass(&cipher.nonced(nonce), aad, intake, measured)
+        }
+        AnyAead::OnePass(AnyOnePass::Gcm(cipher)) => {
+            let multiplier = cipher.multiplier_of::<WideMul>();
+            verify_one_pass(
+                &cipher.nonced(nonce, cipher.key(), &multiplier),
+                aad,
+                intake,
+                measured,
+            )
+        }
         AnyAead::Siv(_) => {
             match pass_opening::<WideMul, I, Discard>(
                 cipher,
@@ -99,7 +110,7 @@ fn verify_reading<I: Intake>(
     }
 }
 
-// The second step: whether the reading is a sealing of the measured length and tag.
+// The second step: succeeds only if the reading is a valid sealing with the measured length and tag.
 fn verify_step<I: Intake>(
     cipher: &AnyAead,
     nonce: &Nonce,
@@ -121,7 +132,7 @@ fn verify_step<I: Intake>(
     }
 }
 
-// The third step: each piece is authenticated again, decrypted and given.
+// The third step: authenticates, decrypts and gives each piece.
 fn write_step<I: Intake, O: Outlet>(
     cipher: &AnyAead,
     nonce: &Nonce,
@@ -146,7 +157,7 @@ fn write_step<I: Intake, O: Outlet>(
     }
 }
 
-/// Opens a sealed stream by three readings: it is measured, verified as a sealing, and then decrypted, each
+/// Opens a sealed stream in three readings: it is measured, verified as a sealing, and then decrypted, each
 /// piece being given before the next one is taken. Does not allocate, and holds buffers of a fixed size.
 ///
 /// Faults: `AadTooLong` before any reading; `TextTooLong` as soon as the first reading has given 17 bytes
@@ -155,7 +166,7 @@ fn write_step<I: Intake, O: Outlet>(
 /// given up to here. Then `SourceChanged` if the third reading has another length or other last 16 bytes, or
 /// is not a sealing. `Read` if a reading failed, `Write` if the outlet did. After `AadTooLong`, `TextTooLong`,
 /// `TooShort` and `TagMismatch` the outlet is as it was. After `SourceChanged`, `Read` and `Write` it may have
-/// taken a beginning of a text, which is to be thrown away.
+/// taken a beginning of a text, which must be thrown away.
 pub fn open_stream<I: Intake, J: Intake, K: Intake, O: Outlet>(
     cipher: &AnyAead,
     nonce: &Nonce,

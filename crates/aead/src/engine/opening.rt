@@ -84,14 +84,14 @@ pub(crate) fn pass_opening<M: Keyed128, I: Intake, O: Outlet>(
             open_one_pass(&cipher.nonced(nonce), aad, intake, measured, outlet)
         }
         AnyAead::OnePass(AnyOnePass::Gcm(cipher)) => {
-            let made = cipher.multiplier_of::<M>();
-            let message = cipher.nonced(nonce, cipher.key(), &made);
+            let multiplier = cipher.multiplier_of::<M>();
+            let message = cipher.nonced(nonce, cipher.key(), &multiplier);
             open_one_pass(&message, aad, intake, measured, outlet)
         }
         AnyAead::Siv(cipher) => {
             let keys = cipher.derive(nonce);
-            let made = M::of(&keys.hash_key);
-            let message = cipher.nonced(nonce, &keys.encryption, &made);
+            let multiplier = M::of(&keys.hash_key);
+            let message = cipher.nonced(nonce, &keys.encryption, &multiplier);
             open_two_pass(&message, aad, intake, measured, outlet)
         }
     }

@@ -18,18 +18,18 @@ use octets::{Fault, Intake, Outlet, Tag, fill, give_all, same};
 // How a reading compares with the measured one.
 #[derive(Drop)]
 pub(crate) enum Finding {
-    // It has another length or other last 16 bytes.
+    // Its length or its last 16 bytes are not those that were measured.
     Differs,
-    // It has these, and is no sealing.
+    // Its length and its last 16 bytes are those that were measured, and authentication failed.
     Unsealed,
-    // It has these, and is one.
+    // It is a valid sealing with the measured length and last 16 bytes.
     Sealed,
 }
 
 ghost use Rattle.aead.specs.Code.Findings.{PassedWhole, PassesBody, MakesTextTag, Ends};
 ghost use Rattle.aead.specs.Code.Extents.{PassedAll, HasMore};
 
-// One piece: at most what the buffer holds.
+// Passes one piece: fills the buffer as far as the reading goes, masks and authenticates the bytes, and gives them.
 fn pass_piece<I: Intake, O: Outlet, S: MaskStream, H: TagHash>(
     order: Order,
     intake: &mut I,
@@ -60,7 +60,7 @@ fn pass_piece<I: Intake, O: Outlet, S: MaskStream, H: TagHash>(
     }
 }
 
-// At most `length` bytes.
+// Passes at most `length` bytes, and returns how many came.
 pub(crate) fn pass_body<I: Intake, O: Outlet, S: MaskStream, H: TagHash>(
     order: Order,
     intake: &mut I,
@@ -88,7 +88,7 @@ pub(crate) fn pass_body<I: Intake, O: Outlet, S: MaskStream, H: TagHash>(
     Ok(done)
 }
 
-// Whether what is left of a reading is this tag and nothing more.
+// Returns whether what is left of a reading is this tag and nothing more.
 fn ends_with<I: Intake>(intake: &mut I, tag: &Tag) -> Result<bool, Fault>
     ensures ends { Ends tag.now (I.left intake.old) (I.left intake.new) result }
     ensures blame { DueToReading [] (I.failures intake.old) (I.failures intake.new) result }
@@ -100,16 +100,16 @@ fn ends_with<I: Intake>(intake: &mut I, tag: &Tag) -> Result<bool, Fault>
     }
 }
 
-// How a reading compares with the measured one. So many bytes of its body came, and they make this tag: what
-// is left has to be the measured tag and nothing more.
+// Returns how a reading compares with the measured one, after `came` bytes of its body, whose tag is `computed`: what is left
+// must be the measured tag and nothing more.
 pub(crate) fn finding_of<I: Intake>(
     intake: &mut I,
     measured: &Measured,
     came: u64,
-    made: Tag,
+    computed: Tag,
 ) -> Result<Finding, Fault>
     ensures found { (s : Setting) (left taken taken' : Option (List ℕ)) →
-        PassesBody s measured.now.tag measured.now.length left (I.left intake.old) taken taken' came made →
+        PassesBody s measured.now.tag measured.now.length left (I.left intake.old) taken taken' came computed →
         PassedWhole s measured.now.tag measured.now.length left (I.left intake.new) taken taken' result }
     ensures blame { DueToReading [] (I.failures intake.old) (I.failures intake.new) result }
 {
@@ -118,7 +118,7 @@ pub(crate) fn finding_of<I: Intake>(
     }
     match ends_with(intake, &measured.tag) {
         Ok(true) => {
-            if same(made.bytes(), measured.tag.bytes()) {
+            if same(computed.bytes(), measured.tag.bytes()) {
                 Ok(Finding::Sealed)
             } else {
                 Ok(Finding::Unsealed)
@@ -129,7 +129,7 @@ pub(crate) fn finding_of<I: Intake>(
     }
 }
 
-// A whole reading: the body of the measured length, the measured tag, the end.
+// Passes a whole reading: the body of the measured length, the measured tag, and the end.
 pub(crate) fn pass<I: Intake, O: Outlet, S: MaskStream, H: TagHash>(
     order: Order,
     intake: &mut I,
@@ -152,7 +152,7 @@ pub(crate) fn pass<I: Intake, O: Outlet, S: MaskStream, H: TagHash>(
     }
 }
 
-// Whether anything is left of a reading.
+// Returns whether anything is left of a reading.
 pub(crate) fn has_more<I: Intake>(intake: &mut I) -> Result<bool, Fault>
     ensures more { HasMore (I.left intake.old) (I.left intake.new) result }
     ensures blame { DueToReading [] (I.failures intake.old) (I.failures intake.new) result }
@@ -164,7 +164,8 @@ pub(crate) fn has_more<I: Intake>(intake: &mut I) -> Result<bool, Fault>
     }
 }
 
-// A reading to its end, and how many bytes it has; of more than `length` the first ones, and `None`.
+// Passes a reading to its end, and returns its length. If it is longer than `length` bytes, only the first `length` are passed,
+// and the result is `None`.
 pub(crate) fn pass_all<I: Intake, O: Outlet, S: MaskStream, H: TagHash>(
     order: Order,
     intake: &mut I,

@@ -16,7 +16,7 @@ use crate::one_pass::OnePass;
 use gf128::WideMul;
 use octets::{Fault, Intake, Nonce, Outlet, give_all};
 
-// Seals a stream by a cipher with a nonce.
+// Seals a stream in one reading, by a cipher with a nonce.
 fn seal_over<N: OnePass, I: Intake, O: Outlet>(
     message: &N,
     aad: &[u8],
@@ -43,12 +43,12 @@ fn seal_over<N: OnePass, I: Intake, O: Outlet>(
     }
 }
 
-/// Seals a stream by one reading: each piece is encrypted and given before the next one is taken, and the
+/// Seals a stream in one reading: each piece is encrypted and given before the next one is taken, and the
 /// tag is given last. Does not allocate, and holds a buffer of a fixed size.
 ///
-/// Faults: `AadTooLong` before any reading, which leaves the outlet as it was; `TextTooLong` once more than
-/// the suite's limit of a text was taken, `Read` if the reading failed, `Write` if the outlet did. After these
-/// three the outlet may have taken a beginning of ciphertext and tag, which is to be thrown away.
+/// Faults: `AadTooLong` before any reading, which leaves the outlet as it was; `TextTooLong` once the text is
+/// longer than the suite's limit, `Read` if the reading failed, `Write` if the outlet did. After these three
+/// the outlet may have taken a beginning of ciphertext and tag, which must be thrown away.
 ///
 /// The nonce must never be used twice under one key: a repeat gives away the XOR of the two texts, and enough to
 /// forge messages.

@@ -26,7 +26,7 @@ use crate::two_pass::TwoPass;
 use gf128::{Keyed128, WideMul};
 use octets::{Fault, Intake, Nonce, Outlet, Tag, give_all, same};
 
-// Takes in a reading to its end, and returns whether that was within a limit.
+// Authenticates a reading to its end, and returns whether its length is within a limit.
 fn absorb_all<I: Intake, H: TagHash>(
     intake: &mut I,
     reading: &mut Authenticator<H>,
@@ -51,7 +51,7 @@ fn absorb_all<I: Intake, H: TagHash>(
     }
 }
 
-// Whether a second reading had the length of the first one, and has its tag.
+// Returns whether a second reading has the length and the tag of the first one.
 fn repeats<S: MaskStream, H: TagHash>(again: Masking<S, H>, tag: &Tag) -> bool
     ensures { (s : Setting) (first text : List ℕ) → construction_of s.suite ≡ ByGcmSiv
         → tag.now ≡ tag_of s first
@@ -62,7 +62,7 @@ fn repeats<S: MaskStream, H: TagHash>(again: Masking<S, H>, tag: &Tag) -> bool
     missing == 0 && same(again.finish().bytes(), tag.bytes())
 }
 
-// Encrypts and gives a second reading, and then the tag if it repeats the first one.
+// Encrypts a second reading and gives it, and then gives the tag if the reading repeats the first one.
 fn write_again<J: Intake, O: Outlet, S: MaskStream, H: TagHash>(
     intake: &mut J,
     mut again: Masking<S, H>,
@@ -95,7 +95,7 @@ fn write_again<J: Intake, O: Outlet, S: MaskStream, H: TagHash>(
     }
 }
 
-// Seals a stream in two readings by a cipher with a nonce.
+// Seals a stream in two readings, by a cipher with a nonce.
 fn seal_over<N: TwoPass, I: Intake, J: Intake, O: Outlet>(
     message: &N,
     aad: &[u8],
@@ -131,7 +131,7 @@ fn seal_over<N: TwoPass, I: Intake, J: Intake, O: Outlet>(
     }
 }
 
-// Seals a stream by two readings, with a multiplier of the type `M`.
+// Seals a stream in two readings, with a multiplier of the type `M`.
 fn seal_by<M: Keyed128, I: Intake, J: Intake, O: Outlet>(
     cipher: &GcmSiv,
     nonce: &Nonce,
@@ -153,20 +153,20 @@ fn seal_by<M: Keyed128, I: Intake, J: Intake, O: Outlet>(
     ensures untouched { UntouchedUnless late_in_readings out.old out.new result }
 {
     let keys = cipher.derive(nonce);
-    let made = M::of(&keys.hash_key);
-    let message = cipher.nonced(nonce, &keys.encryption, &made);
+    let multiplier = M::of(&keys.hash_key);
+    let message = cipher.nonced(nonce, &keys.encryption, &multiplier);
     seal_over(&message, aad, first, second, out)
 }
 
-/// Seals a stream by two readings under AES-GCM-SIV: the first is authenticated, and of the second each
-/// piece is encrypted and given before the next one is taken; the tag is given last, after the second
-/// reading was found to have the length and the tag of the first. Does not allocate, and holds buffers of a
+/// Seals a stream in two readings under AES-GCM-SIV: the first is authenticated, and of the second each
+/// piece is encrypted and given before the next one is taken; the tag is given last, once the second
+/// reading has shown the length and the tag of the first. Does not allocate, and holds buffers of a
 /// fixed size.
 ///
-/// Faults: `AadTooLong` before any reading, `TextTooLong` once more than the suite's limit of a text was
-/// taken; both leave the outlet as it was. `SourceChanged` if the second reading has another length or tag,
+/// Faults: `AadTooLong` before any reading, `TextTooLong` once the text is longer than the suite's limit;
+/// both leave the outlet as it was. `SourceChanged` if the second reading has another length or tag,
 /// `Read` if a reading failed, `Write` if the outlet did. After these three the outlet may have taken some
-/// bytes, which are to be thrown away.
+/// bytes, which must be thrown away.
 ///
 /// The nonce must never be used twice under one key: a repeat gives away whether the texts and the associated data
 /// were the same, and nothing else.

@@ -1,4 +1,4 @@
-//! A whole reading of a sealing whose tag is over the ciphertext: it is authenticated, and not decrypted.
+//! The second reading of the stream opener, if the tag is over the ciphertext: the reading is authenticated, and not decrypted.
 
 ghost use Rattle.std.specs.Prelude.{◌≡◌, ◌+◌, ◌≤◌, ◌<◌, ◌^◌, ℕ, List, [], None, length, IfOk};
 ghost use Rattle.aes.specs.Cipher.{IsKey};
@@ -6,21 +6,18 @@ ghost use Rattle.aead.specs.Refusals.{DueToReading};
 ghost use Rattle.aead.specs.Suites.{ByGcm, construction_of, text_limit, aad_limit};
 ghost use Rattle.aead.specs.Sealing.{Setting};
 ghost use Rattle.aead.specs.Ciphers.{setting};
-ghost use Rattle.aead.specs.AnyCiphers.{one_pass_keyed};
 ghost use Rattle.aead.specs.Code.States.{HoldsAuthenticator};
 ghost use Rattle.aead.specs.Code.Absorbed.{AbsorbsPiece};
 ghost use Rattle.aead.specs.Code.Findings.{PassedWhole};
 
-use crate::any::AnyOnePass;
 use crate::authenticator::Authenticator;
 use crate::engine::measure::Measured;
 use crate::engine::passes::{Finding, finding_of};
 use crate::hashes::TagHash;
 use crate::one_pass::OnePass;
-use gf128::WideMul;
-use octets::{Fault, Intake, Nonce, fill};
+use octets::{Fault, Intake, fill};
 
-// Takes in one piece: at most what the buffer holds.
+// Authenticates one piece: fills the buffer as far as the reading goes.
 fn absorb_piece<I: Intake, H: TagHash>(
     intake: &mut I,
     reading: &mut Authenticator<H>,
@@ -42,7 +39,7 @@ fn absorb_piece<I: Intake, H: TagHash>(
     Ok(n)
 }
 
-// Takes in at most `length` bytes.
+// Authenticates at most `length` bytes, and returns how many came.
 pub(crate) fn absorb_body<I: Intake, H: TagHash>(
     intake: &mut I,
     reading: &mut Authenticator<H>,
@@ -71,8 +68,8 @@ pub(crate) fn absorb_body<I: Intake, H: TagHash>(
     Ok(done)
 }
 
-// A whole reading, by a cipher with a nonce.
-fn verify_over<N: OnePass, I: Intake>(
+// Authenticates a whole reading, by a cipher with a nonce.
+pub(crate) fn verify_one_pass<N: OnePass, I: Intake>(
     message: &N,
     aad: &[u8],
     intake: &mut I,
@@ -90,33 +87,5 @@ fn verify_over<N: OnePass, I: Intake>(
     match absorb_body(intake, &mut reading, measured.length - 16) {
         Ok(n) => finding_of(intake, measured, n, reading.finish()),
         Err(fault) => Err(fault),
-    }
-}
-
-// A whole reading by a cipher of any suite whose tag is over the ciphertext.
-pub(crate) fn verify_one_pass<I: Intake>(
-    cipher: &AnyOnePass,
-    nonce: &Nonce,
-    aad: &[u8],
-    intake: &mut I,
-    measured: &Measured,
-) -> Result<Finding, Fault>
-    requires aad_fits { length aad.now ≤ aad_limit (one_pass_keyed cipher.now).suite }
-    requires high { measured.now.length ≤ text_limit (one_pass_keyed cipher.now).suite + 16 }
-    ensures passed { PassedWhole (setting (one_pass_keyed cipher.now) nonce.now aad.now)
-        measured.now.tag measured.now.length (I.left intake.old) (I.left intake.new) None None result }
-    ensures blame { DueToReading [] (I.failures intake.old) (I.failures intake.new) result }
-{
-    match cipher {
-        AnyOnePass::ChaCha(cipher) => verify_over(&cipher.nonced(nonce), aad, intake, measured),
-        AnyOnePass::Gcm(cipher) => {
-            let made = cipher.multiplier_of::<WideMul>();
-            verify_over(
-                &cipher.nonced(nonce, cipher.key(), &made),
-                aad,
-                intake,
-                measured,
-            )
-        }
     }
 }

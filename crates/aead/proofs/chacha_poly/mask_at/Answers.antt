@@ -5,7 +5,7 @@ use Rattle.aead.proofs.chacha_poly.mask_at.Goals as goal
 pub returns : goal.returns
 returns c = λ s tag by key nonce. (
   by,
-  subst (λ (k : List ℕ). Holds c.at.result k s.nonce 1 c.args.made) (sym key)
-      (subst (λ (n : List ℕ). Holds c.at.result c.args.key.now n 1 c.args.made) (sym nonce)
-      (c.at.ensures 1 c.args.made (omega arith))),
+  subst (λ (k : List ℕ). Holds c.at.result k s.nonce 1 c.args.done) (sym key)
+      (subst (λ (n : List ℕ). Holds c.at.result c.args.key.now n 1 c.args.done) (sym nonce)
+      (c.at.ensures 1 c.args.done (omega arith))),
 )

@@ -1,9 +1,6 @@
-use Rattle.std.proofs.Common.{◌∙◌, [], sym, refl, ap, arith, true≢false}
-use Rattle.aead.specs.Suites.{text_limit}
+use Rattle.std.proofs.Common.{◌∙◌, [], sym, refl, arith, true≢false}
 use Rattle.aead.specs.Sealing.{Setting, Fits}
 use Rattle.aead.specs.Ciphers.{setting}
-use Rattle.octets.specs.declared.work.Order.TheVariants.{HashFirst}
-use Rattle.aead.specs.Code.Maskings.{message_task}
 use Rattle.aead.proofs.Opens.{no_sealing, opened_as, body_tag}
 use Rattle.aead.proofs.one_pass.open_beside.Goals as goal
 
@@ -13,16 +10,13 @@ returns-then-same-clause-opened g c =
     c.args.aad.now in
     let fits : Fits s c.args.body.now =
     record { aad_fits = c.requires.aad_fits; text_fits = c.requires.text_fits } in
-    let t = message_task s c.args.tag.now in
-    let empty = c.empty-opening.ensures in
-    let mask = rw (sym empty.mask) at (c.mask.ensures c.args.aad.now c.args.tag.now) in
-    let hash = rw (sym empty.hash) at (c.hash.ensures c.args.aad.now) in
-    let limit = empty.limit ∙ c.text_limit-limit.ensures ∙ ap text_limit c.suite.ensures in
-    let begun = c.begin.ensures.holds HashFirst t mask hash refl c.requires.aad_fits limit (omega arith) in
-    let fed = c.update.ensures.masked t [] begun in
-    opened_as s c.args.body.now c.args.tag.now c.update.new.piece fits (λ i. (c.type_inv.body i).fits) fed.1
+    let mask = c.mask-mask.ensures c.args.aad.now c.args.tag.now in
+    let hash = rw (sym c.empty-authenticator.ensures.0) at (c.hash.ensures c.args.aad.now) in
+    let none = c.begin.ensures.holds s refl c.requires.aad_fits hash in
+    let fed = c.step.ensures.step s c.args.tag.now [] mask none (omega (arith, c.requires.text_fits)) in
+    opened_as s c.args.body.now c.args.tag.now c.step.new.piece fits (λ i. (c.type_inv.body i).fits) fed.2
     (body_tag s c.args.tag.now c.args.body.now (g.met.N.OnePass.one_pass c.args.message.now)
-    ∙ sym (c.tag.ensures _ t c.args.body.now fed.0) ∙ sym c.bytes.ensures.value
+    ∙ sym (c.tag.ensures.tag s c.args.body.now fed.1) ∙ sym c.bytes.ensures.value
     ∙ c.same.ensures.0 c.if-same.true ∙ c.bytes-given.ensures.value)
 
 pub returns-clause-opened : goal.returns-clause-opened
@@ -31,18 +25,15 @@ returns-clause-opened g c =
     c.args.aad.now in
     let fits : Fits s c.args.body.now =
     record { aad_fits = c.requires.aad_fits; text_fits = c.requires.text_fits } in
-    let t = message_task s c.args.tag.now in
-    let empty = c.empty-opening.ensures in
-    let mask = rw (sym empty.mask) at (c.mask.ensures c.args.aad.now c.args.tag.now) in
-    let hash = rw (sym empty.hash) at (c.hash.ensures c.args.aad.now) in
-    let limit = empty.limit ∙ c.text_limit-limit.ensures ∙ ap text_limit c.suite.ensures in
-    let begun = c.begin.ensures.holds HashFirst t mask hash refl c.requires.aad_fits limit (omega arith) in
-    let fed = c.update.ensures.masked t [] begun in (
+    let mask = c.mask-mask.ensures c.args.aad.now c.args.tag.now in
+    let hash = rw (sym c.empty-authenticator.ensures.0) at (c.hash.ensures c.args.aad.now) in
+    let none = c.begin.ensures.holds s refl c.requires.aad_fits hash in
+    let fed = c.step.ensures.step s c.args.tag.now [] mask none (omega (arith, c.requires.text_fits)) in (
       fits,
       no_sealing s c.args.body.now c.args.tag.now c.bytes-given.ensures.are_bytes.length_is
           (λ e. true≢false
           (sym (c.same.ensures.1
-          (c.bytes.ensures.value ∙ c.tag.ensures _ t c.args.body.now fed.0
+          (c.bytes.ensures.value ∙ c.tag.ensures.tag s c.args.body.now fed.1
           ∙ sym (body_tag s c.args.tag.now c.args.body.now (g.met.N.OnePass.one_pass c.args.message.now))
           ∙ e ∙ sym c.bytes-given.ensures.value))
           ∙ c.if-same.false)),
@@ -52,22 +43,16 @@ pub returns-then-same-clause-masked : goal.returns-then-same-clause-masked
 returns-then-same-clause-masked g c =
     let s : Setting = setting (g.N.OnePass.keyed c.args.message.now) (g.N.OnePass.nonce c.args.message.now)
     c.args.aad.now in
-    let t = message_task s c.args.tag.now in
-    let empty = c.empty-opening.ensures in
-    let mask = rw (sym empty.mask) at (c.mask.ensures c.args.aad.now c.args.tag.now) in
-    let hash = rw (sym empty.hash) at (c.hash.ensures c.args.aad.now) in
-    let limit = empty.limit ∙ c.text_limit-limit.ensures ∙ ap text_limit c.suite.ensures in
-    (c.update.ensures.masked t []
-    (c.begin.ensures.holds HashFirst t mask hash refl c.requires.aad_fits limit (omega arith))).1
+    let mask = c.mask-mask.ensures c.args.aad.now c.args.tag.now in
+    let hash = rw (sym c.empty-authenticator.ensures.0) at (c.hash.ensures c.args.aad.now) in
+    let none = c.begin.ensures.holds s refl c.requires.aad_fits hash in
+    (c.step.ensures.step s c.args.tag.now [] mask none (omega (arith, c.requires.text_fits))).2
 
 pub returns-clause-masked : goal.returns-clause-masked
 returns-clause-masked g c =
     let s : Setting = setting (g.N.OnePass.keyed c.args.message.now) (g.N.OnePass.nonce c.args.message.now)
     c.args.aad.now in
-    let t = message_task s c.args.tag.now in
-    let empty = c.empty-opening.ensures in
-    let mask = rw (sym empty.mask) at (c.mask.ensures c.args.aad.now c.args.tag.now) in
-    let hash = rw (sym empty.hash) at (c.hash.ensures c.args.aad.now) in
-    let limit = empty.limit ∙ c.text_limit-limit.ensures ∙ ap text_limit c.suite.ensures in
-    (c.update.ensures.masked t []
-    (c.begin.ensures.holds HashFirst t mask hash refl c.requires.aad_fits limit (omega arith))).1
+    let mask = c.mask-mask.ensures c.args.aad.now c.args.tag.now in
+    let hash = rw (sym c.empty-authenticator.ensures.0) at (c.hash.ensures c.args.aad.now) in
+    let none = c.begin.ensures.holds s refl c.requires.aad_fits hash in
+    (c.step.ensures.step s c.args.tag.now [] mask none (omega (arith, c.requires.text_fits))).2

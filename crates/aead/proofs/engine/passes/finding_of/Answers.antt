@@ -12,7 +12,7 @@ pub returns-then-same-clause-found : goal.returns-then-same-clause-found
 returns-then-same-clause-found g c = λ s l o o' q.
     let full : c.args.measured.now.length - 16 ≤ c.args.came = omega arith in
     let tail = c.in-Ok-true.ensures.ends in
-    let same : c.args.made ≡ c.args.measured.now.tag =
+    let same : c.args.computed ≡ c.args.measured.now.tag =
     sym c.bytes.ensures.value ∙ c.same.ensures.0 c.if-same.true ∙ c.bytes-in-Ok-true.ensures.value in
     whole_tail s _ _ _ _ _ _ _ _ _ _ _ c.args.measured.now.low q full tail
     (λ size. sealed_found s _ q.bytes tail.bytes _ size (sym tail.equal ∙ c.in-Ok-true.field-0-test)

@@ -3,7 +3,7 @@ use Rattle.aead.specs.Suites.{text_limit}
 use Rattle.aead.specs.Sealing.{Setting}
 use Rattle.aead.specs.Ciphers.{setting}
 use Rattle.aead.proofs.Findings.{took_read, stopped_read}
-use Rattle.aead.proofs.engine.verifying.verify_over.Goals as goal
+use Rattle.aead.proofs.engine.verifying.verify_one_pass.Goals as goal
 
 pub returns-in-Ok-clause-passed : goal.returns-in-Ok-clause-passed
 returns-in-Ok-clause-passed g c =
