@@ -169,9 +169,9 @@ pub(crate) fn hash_keys(key: &AesKey, ghash_key: &Block, nonce: &Nonce) -> [u8; 
 pub(crate) fn mask_at<K: KeptKey>(key: K, nonce: &Nonce, done: u64, known: &KnownBlock) -> CtrBe<K>
     requires { done < 2 ^ 63 }
     ensures { (s : Setting) (tag : List ℕ) → construction_of s.suite ≡ ByGcm → s.key ≡ K.bytes key
-        → s.nonce ≡ nonce.now → KnowsCipher known.now s.key → MadeByGcm K.bytes result s tag made }
+        → s.nonce ≡ nonce.now → KnowsCipher known.now s.key → MadeByGcm K.bytes result s tag done }
 {
-    CtrBe::at_known(key, &counter_block(nonce, 2), made, known)
+    CtrBe::at_known(key, &counter_block(nonce, 2), done, known)
 }
 
 // Returns the block of the nonce and a counter (SP 800-38D, 7.1). The last word is written as one, since the cipher reads words.
