@@ -36,8 +36,9 @@
 //! [`open`], [`unwrap`] or [`unwrap_padded`] fails to authenticate, its output is all zeros; and a second pass or reading in
 //! pieces may end with [`Fault::SourceChanged`] after it changed its pieces. Only the calls that return a vector allocate.
 //!
-//! Nothing is claimed about timing, since AES looks tables up by secret bytes. [`Key`] and the states in pieces are wiped when they
-//! are dropped. The caller's slices, the stack, and the places that a key or a state was moved from are not.
+//! Nothing is claimed about timing: the hashes of AES-GCM and AES-GCM-SIV, and unwrapping, look up tables by secret bytes. [`Key`]
+//! and the states in pieces are wiped when they are dropped. The caller's slices, the stack, and the places that a key or a state
+//! was moved from are not.
 //!
 //! The crate is `no_std`. Without its default feature `alloc` it has no calls that return vectors. The library calls
 //! `memcpy`, `memmove`, `memset` and `bcmp`, which the C library has. If the program is compiled for processors with AVX2, as
