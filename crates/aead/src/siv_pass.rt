@@ -120,7 +120,7 @@ fn mask_by<M: Keyed128>(
     };
     let mut mask = mask_at(key, tag, state.length, known);
     state.step(&keys, &mut mask, order, piece);
-    *known = mask.known_block();
+    mask.set_known(known);
 }
 
 // Masks and authenticates a piece under the bytes of a key. Only this call has the key schedule on its stack.
@@ -172,7 +172,7 @@ fn mask_expanded(
             };
             let mut mask = mask_at(keys.key, tag, state.length, known);
             state.step(&hash_keys, &mut mask, order, piece);
-            *known = mask.known_block();
+            mask.set_known(known);
         }
         Multiples::OfFourPowers => {
             mask_by::<WideMul>(state, keys.key, nonce, tag, known, order, piece)

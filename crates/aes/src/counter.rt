@@ -513,19 +513,22 @@ impl<C: Count, K: KeptKey> Ctr<C, K> {
         Ctr { key, counter }
     }
 
-    /// Returns the block that the stream stands inside, or none if it stands between two blocks.
+    /// Sets `known` to the block that the stream stands inside. If it stands between two blocks, `known` does not change.
     #[inline(always)]
-    pub fn known_block(&self) -> KnownBlock
+    pub fn set_known(&self, known: &mut KnownBlock)
         ensures { (key first : List ℕ) (position : ℕ) → Holds C.up K.bytes self.now key first position
-            → KnowsCipher result key }
+            → KnowsCipher known.old key → KnowsCipher known.new key }
     {
         let counter = &self.counter;
+        if counter.used == 0 {
+            return;
+        }
         let block = C::block(&counter.first, counter.block_count.wrapping_sub(1));
-        KnownBlock {
+        *known = KnownBlock {
             block: *block.bytes(),
             cipher: *counter.mask.bytes(),
-            is_known: counter.used != 0,
-        }
+            is_known: true,
+        };
     }
 
     /// XORs the next bytes of the stream into `bytes`, of any length. The result does not depend on how a text is split into

@@ -9,4 +9,4 @@ returns g c = λ s tag fed by key nonce long fits h knows.
     let multiplier = c.set.ensures ∙ c.multiplier_key.ensures ∙ hash.0 in
     let made = c.mask_at-mask.ensures s tag by (sym key) (sym nonce) knows in
     let m = c.step.ensures.masks s tag fed (by, multiplier) made long fits h in
-    (m.0, m.1, c.known_block.ensures _ _ _ (c.step.ensures.mask s tag fed (by, multiplier) made long fits h).1)
+    (m.0, m.1, c.set_known.ensures _ _ _ (c.step.ensures.mask s tag fed (by, multiplier) made long fits h).1 knows)

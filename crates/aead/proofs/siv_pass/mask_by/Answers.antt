@@ -14,4 +14,4 @@ returns g c = λ s fed by key nonce long fits h knows.
     let made = c.mask_at-mask.ensures s by key (subst (KnowsCipher c.args.known.now) (sym key) knows) in
     let m = c.step.ensures.masks s c.args.tag.now fed (by, serves, key, nonce) made long fits h in
     let mask = c.step.ensures.mask s c.args.tag.now fed (by, serves, key, nonce) made long fits h in
-    (m.0, m.1, c.known_block.ensures _ _ _ mask.1)
+    (m.0, m.1, c.set_known.ensures _ _ _ mask.1 knows)
