@@ -1,13 +1,12 @@
 -- Rounds of four blocks, byte by byte.
 use Rattle.std.proofs.Common.{◌≡◌, ℕ, zero, suc, ◌+◌, ◌*◌, ◌/◌, ◌%◌, ◌^◌, ◌<◌, ◌≤◌, true, ◌&&◌, ◌==◌, List}
 use Rattle.std.proofs.Common.{[], ◌∷◌, get_or, length, replicate, refl, sym, ap, ap₂, ◌∙◌, arith, bit_xor}
-use Rattle.std.proofs.Common.{zero-add, take, drop, inl, inr, ◌++◌, w32}
-use Rattle.std.specs.Int.{from_le_bytes}
+use Rattle.std.proofs.Common.{zero-add, take, drop, inl, inr}
 use Rattle.std.specs.Int.Bits.{xor_zero_r, xor_comm, xor_assoc}
 use Rattle.std.proofs.lemmas.Nat.{xor_of_8}
 use Rattle.std.proofs.lemmas.Bool.{and_parts, eqb-true, cases_lt}
 use Rattle.std.proofs.lemmas.List.{get_or-replicate, length-replicate, get_or-map, get_or-take, get_or-drop}
-use Rattle.std.proofs.lemmas.List.{get_or_append_left, get_or_past, length-take, length-take-le, length-drop, ext_get_or}
+use Rattle.std.proofs.lemmas.List.{get_or_past, length-take, length-take-le, length-drop, ext_get_or}
 use Rattle.std.proofs.lemmas.List.FromFn.{get_or-map-range_with_len}
 use Rattle.std.proofs.lemmas.Simd.{get_or_narrower}
 use lib.Lanes.{Each1, number_l, digits_l}
@@ -18,12 +17,12 @@ use Rattle.aes.specs.Cipher.{at, grid, column, mix_column, sub_bytes, shift_rows
 use Rattle.aes.specs.Code.Columns.{column_of, columns_of}
 use Rattle.aes.specs.Code.Lanes.{HasLanes, HoldsBlocks, HoldsInBasis, byte_of, key_byte, ready_byte}
 use Rattle.aes.specs.Code.Lanes.{row_source, row_below, row_above, in_basis, linear_sbox, IsInBasis}
-use Rattle.aes.specs.Schedule.{round_count, schedule, sub_word}
+use Rattle.aes.specs.Schedule.{round_count, schedule}
 use Rattle.aes.proofs.Expanded.{HasSchedule}
 use Rattle.aes.proofs.Tested.{all_below, all_below_at}
 use Rattle.aes.proofs.Multiples.{single_is, triple_is}
-use Rattle.aes.proofs.Rows.{dot_is, four}
-use Rattle.aes.proofs.ColumnWords.{column_small, column_back, sub_column}
+use Rattle.aes.proofs.Rows.{dot_is}
+use Rattle.aes.proofs.ColumnWords.{column_small}
 use Rattle.aes.proofs.Sums.{times_xor, xor_exchange}
 use Rattle.aes.proofs.Steps.{sbox_small, times_small, sub_block, shift_block}
 use Rattle.aes.proofs.FourBlocks.{same_lanes, in_basis_xor, linear_small}
@@ -496,25 +495,3 @@ pub word_small : (ws : List ℕ) (k r : ℕ) → get_or (get_or (columns_of ws) 
 word_small [] k r = omega arith
 word_small (w ∷ ws) zero r = column_small w r
 word_small (w ∷ ws) (suc k) r = word_small ws k r
-
--- ---- SubWord
--- a byte of the S-box by its value without the constant
-linear_back : (x : ℕ) → bit_xor (linear_sbox x) 0x63 ≡ sbox x
-linear_back x = lane_last x 0 ∙ xor_zero_r (sbox x)
-
--- the word that the first four lanes spell, where they hold the S-box at the bytes of w
-pub word_substituted : (w n : ℕ) (v : List ℕ)
-    → HasLanes v (λ k. bit_xor (linear_sbox (key_byte (columns_of (w ∷ w ∷ w ∷ w ∷ [])) k)) 0x63)
-    → n ≡ from_le_bytes w32 (get_or (v ++ v) 0 0 ∷ get_or (v ++ v) 1 0 ∷ get_or (v ++ v) 2 0 ∷ get_or (v ++ v) 3 0 ∷ [])
-    → column_of n ≡ sub_word (column_of w)
-word_substituted w n v held is =
-    let b : ℕ → ℕ = λ k. sbox (get_or (column_of w) k 0) in
-    let all : length v ≡ 64 = held.long in
-    let lane : (k : ℕ) → k < 4 → get_or (v ++ v) k 0 ≡ sbox (key_byte (columns_of (w ∷ w ∷ w ∷ w ∷ [])) k) =
-    λ k l. get_or_append_left v v 0 k (omega (arith, all)) ∙ held.each k (omega arith)
-    ∙ linear_back (key_byte (columns_of (w ∷ w ∷ w ∷ w ∷ [])) k) in
-    let small : (k : ℕ) → b k < 256 = λ k. sbox_small (get_or (column_of w) k 0) (column_small w k) in
-    column_back (b 0) (b 1) (b 2) (b 3) n (small 0) (small 1) (small 2) (small 3)
-    (is ∙ ap (from_le_bytes w32)
-    (four (lane 0 (omega arith)) (lane 1 (omega arith)) (lane 2 (omega arith)) (lane 3 (omega arith))))
-    ∙ sub_column w

@@ -7,14 +7,13 @@ ghost use Rattle.std.specs.Prelude.{length, bit_xor};
 ghost use Rattle.octets.specs.Bytes.{IsBlock};
 ghost use Rattle.aes.specs.Field.{times, sbox};
 ghost use Rattle.aes.specs.Cipher.{sub_bytes, shift_rows, mix_columns, add_round_key};
-ghost use Rattle.aes.specs.Schedule.{sub_word};
-ghost use Rattle.aes.specs.Code.Columns.{column_of, columns_of};
+ghost use Rattle.aes.specs.Code.Columns.{columns_of};
 ghost use Rattle.aes.specs.Code.Lanes.{HasLanes, IsPlace, entry, key_byte, row_source, row_below, row_above};
 ghost use Rattle.aes.specs.Code.Lanes.{in_basis, linear_sbox, HoldsBlocks, HoldsInBasis, IsInBasis, ready_byte};
 
 use crate::columns::round_key;
 use std::simd::prelude::*;
-use std::simd::{u8x4, u8x16, u8x64, u32x4};
+use std::simd::{u8x16, u8x64, u32x4};
 
 // The bytes below 16, in the basis.
 const TO_LOW: [u8; 16] = [
@@ -287,14 +286,4 @@ pub(crate) fn last_one(x: u8x16, key: [u32; 4]) -> [u8; 16]
         → result ≡ add_round_key (columns_of key) 0 (shift_rows (sub_bytes b)) }
 {
     first_sixteen(last_four(four_times(x), spread(key))).to_array()
-}
-
-// SubWord (FIPS 197, 5.2): the S-box at each byte of a word. Only the first four lanes are used.
-#[inline(always)]
-pub(crate) fn sub_word(w: u32) -> u32
-    ensures { column_of result ≡ sub_word (column_of w) }
-{
-    let (plain, _, _) = substitute(to_basis(spread([w, w, w, w])));
-    let bytes: u8x4 = sum(plain, u8x64::splat(0x63)).swizzle([0, 1, 2, 3]);
-    u32::from_le_bytes(bytes.to_array())
 }

@@ -6,8 +6,17 @@ ghost use Rattle.aes.specs.Schedule.{xor_word, sub_word, rot_word, rcon, temp, M
 ghost use Rattle.aes.specs.Code.KeptWords.{table};
 ghost use Rattle.aes.specs.Code.ExpandedKey.{IsKeySize};
 
-use crate::lanes::sub_word;
+use crate::sbox::substitute;
 use byteorder::{ByteOrder, LittleEndian};
+
+// SubWord: the S-box at each byte.
+#[inline(always)]
+fn sub_word(w: u32) -> u32
+    ensures { column_of result ≡ sub_word (column_of w) }
+{
+    let [a, b, c, d] = w.to_le_bytes();
+    u32::from_le_bytes([substitute(a), substitute(b), substitute(c), substitute(d)])
+}
 
 // RotWord: (a, b, c, d) becomes (b, c, d, a).
 fn rot_word(w: u32) -> u32
