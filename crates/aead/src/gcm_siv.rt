@@ -29,7 +29,8 @@ use std::marker::Model;
 ///
 /// Not constant time: secret bytes index tables. POLYVAL looks up two tables of 16 multiples of its key by the halves of each
 /// byte of a block XORed with the sum so far; for a long text it looks up 256 multiples of each of four powers of the key by
-/// the bytes of four blocks, the first of them XORed with the sum. AES looks up no table in memory.
+/// the bytes of four blocks, the first of them XORed with the sum. Bytes of the key
+/// schedule index the S-box; AES looks up no other table in memory.
 #[derive(Drop)]
 pub struct GcmSiv {
     key: AesKey,

@@ -26,13 +26,13 @@ use std::simd::u8x64;
 
 /// A key of AES with its schedule (FIPS 197, 5.2). Contracts see the key's bytes: 16, 24 or 32.
 ///
-/// Making a key, `encrypt_in_registers` and `encrypt_four` have their tables of 16 bytes in vectors, and read no table in memory
-/// by a byte of the key or of the state; their time is not claimed to be constant either.
+/// Not constant time. Making a key looks up the S-box, a table of 256 bytes, by bytes of the schedule, and so of the key.
+/// `encrypt` looks up four tables of 256 words, 4 KiB in all, by each byte of the state in each round; the first state is the
+/// block XORed with a round key. `inverse` and `decrypt` look up tables by bytes of the schedule and of the state: see
+/// [`InverseKey`]. Code on the same processor may learn from the cache which entries were read, and from these the key.
 ///
-/// Not constant time. `encrypt` looks up four tables of 256 words, 4 KiB in all, by each byte of the state in each round; the
-/// first state is the block XORed with a round key. `inverse` and `decrypt` look up tables by bytes of the schedule and of the
-/// state: see [`InverseKey`]. Code on the same processor may learn from the cache which entries were read, and from these the
-/// key.
+/// `encrypt_in_registers` and `encrypt_four` have their tables of 16 bytes in vectors, and read no table in memory by a byte of
+/// the key or of the state. Their time is not claimed to be constant either.
 #[derive(Clone, Copy)]
 pub struct AesKey {
     words: [u32; 60],
@@ -116,7 +116,8 @@ impl AesKey {
         }
     }
 
-    /// Makes the key with these bytes: 16, 24 or 32. Any other length is `KeyLength`, the only fault (FIPS 197, 5).
+    /// Makes the key with these bytes: 16, 24 or 32. Any other length is `KeyLength`, the only fault (FIPS 197, 5). Not
+    /// constant time: the schedule looks up the S-box by bytes of the key.
     pub fn from_slice(key: &[u8]) -> Result<AesKey, Fault>
         ensures { MatchResult result (λ k. (k ≡ key.now) × IsKey key.now)
             (λ e. (e ≡ Fault.KeyLength) × ¬ IsKeyLength (length key.now)) }
