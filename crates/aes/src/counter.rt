@@ -224,7 +224,10 @@ impl<C: Count> Counter<C> {
         let mask = if used == 0 {
             *first
         } else {
-            known.encrypt(key, &C::block(first, (position / 16 % 0x1_0000_0000) as u32))
+            known.encrypt(
+                key,
+                &C::block(first, (position / 16 % 0x1_0000_0000) as u32),
+            )
         };
         Counter {
             first: *first,
