@@ -1,5 +1,5 @@
-//! The program `aeadkit`: authenticated encryption and key wrapping by published standards. Its command line is the
-//! crate `command`; the tests of all crates stand here.
+//! The program `aeadkit`: authenticated encryption and key wrapping by published standards. Its command line is in the
+//! crate `command`; the tests of all crates are in this one.
 #![tactic(auto)]
 
 #[cfg(test)]
@@ -14,7 +14,7 @@ use std::process::ExitCode;
 const NO_STREAM: &str = "/";
 
 fn main(rt: HostRuntime) -> ExitCode {
-    // A file that a command opens takes the lowest free descriptor, which must be no standard stream's.
+    // A file that a command opens takes the lowest free descriptor, which must not be that of a standard stream.
     let _no_streams = [
         fs::open(&rt, NO_STREAM),
         fs::open(&rt, NO_STREAM),

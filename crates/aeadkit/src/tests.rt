@@ -1,4 +1,4 @@
-//! The tests of all crates. `of_NAME` tests the crate NAME; the other modules are what several of these use.
+//! The tests of all crates. `of_NAME` tests the crate NAME; the other modules are shared by several of these.
 mod devices;
 mod digits;
 mod memory;
@@ -17,12 +17,12 @@ mod vector_files;
 
 use std::process::Abort;
 
-// Ends the test if this is not so. A call of it is cheaper to prove than an assertion in its place.
+// Fails the test unless `is_so`. A call of this function is cheaper to prove than an assertion in its place.
 fn shows(rt: &impl Abort, is_so: bool, what: &str) {
     assert!(rt; is_so, "{what}");
 }
 
-// Ends the test if this is not so of a number.
+// Fails the test unless `is_so`. The message ends with a number.
 fn shows_at(rt: &impl Abort, is_so: bool, what: &str, number: u64) {
     assert!(rt; is_so, "{what} {number}");
 }

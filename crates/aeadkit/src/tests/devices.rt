@@ -5,8 +5,8 @@ use command::Storage;
 use octets::{FromRead, ToWrite};
 use std::io;
 
-/// At every path a file that gives its bytes, and then ends, or fails if it has a failure; or a file whose
-/// opening fails.
+/// The same file at every path. If it opens, it gives its bytes, and then ends or fails with its failure. If not,
+/// opening it fails with its failure.
 #[derive(Drop)]
 pub struct OneFile<'a> {
     pub opens: bool,
@@ -45,7 +45,7 @@ impl<'a> Storage for OneFile<'a> {
     }
 }
 
-/// The bytes of a reading that are left, and its failure after them.
+/// The bytes that are left in a reading, and the failure that follows them, if any.
 #[derive(Drop)]
 pub struct Source<'a> {
     rest: &'a [u8],
@@ -67,7 +67,7 @@ impl io::Read for Source<'_> {
     }
 }
 
-/// A writer that takes these many bytes and then fails.
+/// A writer that takes `room` bytes and then fails.
 #[derive(Drop)]
 pub struct FailsAfter {
     pub room: usize,
@@ -90,7 +90,7 @@ impl io::Write for FailsAfter {
     }
 }
 
-/// A writer that takes all bytes. They wait until it is flushed, which may fail.
+/// A writer that takes all bytes and counts them until it is flushed. Flushing may fail.
 #[derive(Drop)]
 pub struct Waiting {
     pub count: usize,

@@ -12,7 +12,7 @@ pub fn sixteen(rt: &(impl Abort + Alloc<A = Global>), digits: &str) -> [u8; 16] 
     *bytes(rt, digits).first_chunk::<16>().expect(rt, "a block")
 }
 
-/// Changes a bit, numbered from the lowest one of the first byte on.
+/// Flips a bit. Bits are numbered from the lowest one of the first byte.
 pub fn flip(bytes: &mut [u8], bit: usize) {
     if let Some(byte) = bytes.get_mut(bit / 8) {
         *byte ^= 1 << (bit % 8);

@@ -1,7 +1,7 @@
-//! Memory with an exact room, by which each request of a call for memory is refused in turn.
+//! Memory with an exact room, so that each request of a call for memory can be refused in turn.
 //!
-//! Each request takes bytes of its own, and none come back. So a room that is smaller than what a call takes refuses a
-//! request, and the rooms from there down to 0 refuse all requests, from the last to the first.
+//! Each request takes new bytes, and no bytes are given back. So a room that is smaller than what a call takes refuses
+//! a request, and the rooms from there down to 0 refuse each request in turn, from the last to the first.
 use bumpalo::Bump;
 use std::alloc::Global;
 use std::process::Abort;
@@ -9,16 +9,16 @@ use std::process::Abort;
 /// A room that is large enough for each call of the tests, and a multiple of 16.
 pub const AMPLE: usize = 1_048_576;
 
-// Takes bytes from the current chunk, or else from a new one.
+// Takes bytes from the current chunk, or from a new one if they do not fit.
 fn take<'m>(rt: &impl Abort, memory: &'m Bump, count: usize) -> Vec<u8, &'m Bump> {
     Vec::with_capacity(memory, count).expect(rt, "memory")
 }
 
-/// Memory with this room: at most `AMPLE` and 15 bytes.
+/// Memory with this room, which is at most `AMPLE` + 15 bytes.
 pub fn memory_of(rt: &(impl Abort + Alloc<A = Global>), room: usize) -> Bump {
     let memory = Bump::try_with_capacity(rt.alloc(), AMPLE).expect(rt, "memory");
     {
-        // With a second chunk no block is freed or grown in place.
+        // Once there is a second chunk, no block is freed or grown in place.
         let _first = take(rt, &memory, memory.chunk_capacity());
         let _second = take(rt, &memory, 1);
         let _rest = take(rt, &memory, memory.chunk_capacity().saturating_sub(room));
@@ -27,19 +27,19 @@ pub fn memory_of(rt: &(impl Abort + Alloc<A = Global>), room: usize) -> Bump {
     memory
 }
 
-/// How many bytes of its room were taken.
+/// How many bytes of the room were taken.
 pub fn taken(memory: &Bump, room: usize) -> usize {
     room.saturating_sub(memory.chunk_capacity())
 }
 
-/// An ample room in which blocks are aligned as in this one: a call takes more of it than `room` exactly if `room` refuses
-/// one of its requests.
+/// An ample room in which blocks are aligned as in `room`: a call takes more than `room` bytes of it exactly if `room`
+/// refuses one of its requests.
 pub fn ample(room: usize) -> usize {
     AMPLE + room % 16
 }
 
-/// The next smaller room to try after one of which a call took some bytes. It skips no request: of other rooms a call takes at
-/// most 15 bytes more for the same requests, since only the first alignment differs.
+/// The next smaller room to try, after a call that took `taken` bytes of this one. It skips no request: in another room
+/// a call takes at most 15 bytes more for the same requests, since only the first alignment differs.
 pub fn smaller(room: usize, taken: usize) -> usize {
     room.saturating_sub(1).min(taken.saturating_add(15))
 }

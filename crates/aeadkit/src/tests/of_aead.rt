@@ -16,7 +16,7 @@ use samples::{Sample, are_sealed, sample_of};
 use std::alloc::Global;
 use std::process::Abort;
 
-// A text is sealed and opened in place.
+// Seals a text in place, compares the sealing with the published one, and opens it again.
 fn is_sealed(rt: &impl Abort, sample: &Sample, bytes: &mut [u8]) {
     let Sample { nonce, aad, .. } = sample;
     let sealed = sample.cipher.seal_in_place(nonce, aad, bytes);
@@ -30,7 +30,7 @@ fn is_sealed(rt: &impl Abort, sample: &Sample, bytes: &mut [u8]) {
     );
 }
 
-// Whether the sealing is none with any of its bits changed, and what was to be opened stays.
+// Whether the sealing is refused with any one of its bits flipped, and the bytes are left as they were.
 fn needs_each_bit(sample: &Sample, sealed: &mut [u8]) -> bool {
     let mut is_needed = true;
     for bit in 0..sealed.len().saturating_mul(8) {
@@ -47,7 +47,7 @@ fn needs_each_bit(sample: &Sample, sealed: &mut [u8]) -> bool {
     is_needed
 }
 
-// Each published vector, by the cipher of its suite's name.
+// Each published vector, with the cipher that its suite names.
 #[test]
 fn published_sealings(rt: HostRuntime) {
     for line in &VECTORS {

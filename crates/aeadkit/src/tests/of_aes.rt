@@ -1,9 +1,9 @@
-//! AES and its streams of counting blocks.
+//! AES and its streams of counter blocks.
 use super::shows;
 use aes::{AesKey, CtrBe, CtrLe};
 use octets::{Block, Key16, Key24, Key32};
 
-// A key of n bytes is the first n of these.
+// A key of n bytes is the first n of these bytes.
 const BYTES: [u8; 32] = [
     0, 1, 2, 3, 4, 5, 6, 7, 8, 9, 10, 11, 12, 13, 14, 15, 16, 17, 18, 19, 20, 21, 22, 23, 24, 25,
     26, 27, 28, 29, 30, 31,
@@ -11,14 +11,14 @@ const BYTES: [u8; 32] = [
 
 const TEXT: [u8; 16] = *b"\x00\x11\x22\x33\x44\x55\x66\x77\x88\x99\xaa\xbb\xcc\xdd\xee\xff";
 
-// FIPS 197, appendices C.1 to C.3: the ciphers of the text under the keys of 16, 24 and 32 bytes.
+// FIPS 197, appendices C.1 to C.3: the ciphertexts of `TEXT` under the keys of 16, 24 and 32 bytes.
 const CIPHERS: [[u8; 16]; 3] = [
     *b"\x69\xc4\xe0\xd8\x6a\x7b\x04\x30\xd8\xcd\xb7\x80\x70\xb4\xc5\x5a",
     *b"\xdd\xa9\x7c\xa4\x86\x4c\xdf\xe0\x6e\xaf\x70\xa0\xec\x0d\x71\x91",
     *b"\x8e\xa2\xb7\xca\x51\x67\x45\xbf\xea\xfc\x49\x90\x4b\x49\x60\x89",
 ];
 
-// Whether the text is enciphered so, alone and as the last of four blocks, and deciphered.
+// Whether the text is encrypted to this block, alone and as the last of four blocks, and decrypted again.
 fn is_cipher(key: &AesKey, cipher: &[u8; 16]) -> bool {
     let block = key.encrypt(&Block::new(TEXT));
     let mut four = [0; 64];
@@ -50,7 +50,7 @@ fn published_ciphers(rt: HostRuntime) {
     );
 }
 
-// The block of sixteen zeros comes after that of twelve zeros and ffffffff.
+// The counter block of twelve zeros and ffffffff is followed by the block of sixteen zeros.
 #[test]
 fn zeros_after_the_last_count(rt: HostRuntime) {
     let key = AesKey::from_slice(&[0; 16]).expect(&rt, "a key");
@@ -62,7 +62,7 @@ fn zeros_after_the_last_count(rt: HostRuntime) {
     shows(&rt, bytes.ends_with(&due), "the last block");
 }
 
-// After the block that begins with ffffffff comes that of four zeros and the same last twelve bytes.
+// A counter block that begins with ffffffff is followed by the block of four zeros and the same last twelve bytes.
 #[test]
 fn zeros_before_the_last_twelve(rt: HostRuntime) {
     let key = AesKey::from_slice(&BYTES[..16]).expect(&rt, "a key");

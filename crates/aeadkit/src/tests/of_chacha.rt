@@ -41,7 +41,7 @@ fn published_blocks(rt: HostRuntime) {
     }
 }
 
-// Whether the words of another implementation from a block on are these bytes.
+// Whether another implementation gives these bytes as the block of this counter.
 fn are_words(other: &mut ChaCha20Rng, counter: u32, block: &[u8; 64]) -> bool {
     other.set_word_pos(16 * counter as u128);
     let mut agree = true;
@@ -67,7 +67,7 @@ fn blocks_of_another_implementation(rt: HostRuntime) {
     }
 }
 
-// Ten blocks from a counter on, each made by itself.
+// Ten blocks from the counter `first` on, each computed by a call of its own.
 fn ten_blocks(first: u32) -> [[u8; 64]; 10] {
     let mut blocks = [[0; 64]; 10];
     for (i, made) in blocks.iter_mut().enumerate() {
@@ -80,13 +80,13 @@ fn ten_blocks(first: u32) -> [[u8; 64]; 10] {
     blocks
 }
 
-// The key stream from a block on.
+// The key stream from block `first` on.
 fn stream(first: u32) -> ChaStream {
     ChaStream::new(&Key32::new(KEY), &Nonce::new([7; 12]), first)
 }
 
-// Whether a stream from a block on gives `length` bytes of the blocks that are made one by one, in pieces of a
-// size, and changes no byte after them.
+// Whether a stream from block `first` on gives, in pieces of `size` bytes, the first `length` bytes of the blocks that
+// are computed one by one, and changes no byte after them.
 fn gives(first: u32, length: usize, size: usize) -> bool
     requires length { length ≤ 640 }
     requires size { 0 < size }
@@ -115,7 +115,7 @@ fn pieces_of_each_size(rt: HostRuntime) {
     }
 }
 
-// A block near the last one, how many bytes go from there, and the size of the pieces.
+// A block near the last one, how many bytes are encrypted from there, and the size of the pieces.
 const LAST: [(u32, usize, usize); 5] = [
     (u32::MAX, 64, 64),
     (u32::MAX, 64, 63),
@@ -137,14 +137,15 @@ fn the_last_blocks(rt: HostRuntime) {
     }
 }
 
-// A block near the last one, how many bytes go from there, how many are then refused, and how many go after that.
+// A block near the last one, how many bytes are encrypted from there, how many are then refused, and how many are
+// encrypted after that.
 const PAST: [(u32, usize, usize, usize); 3] = [
     (u32::MAX, 64, 1, 0),
     (u32::MAX, 0, 65, 64),
     (u32::MAX - 2, 0, 193, 192),
 ];
 
-// Bytes past the last block are refused and stay, and the stream stays where it was.
+// Bytes past the last block are refused and left as they were, and the stream keeps its position.
 #[test]
 fn past_the_last_block(rt: HostRuntime) {
     for (first, before, refused, after) in &PAST {

@@ -9,14 +9,14 @@ use octets::Block;
 use std::alloc::Global;
 use std::process::Abort;
 
-// The hash of a text, by the multiplier that is made of its key.
+// The hash of a text, with a multiplier that is made from the key.
 fn hash_of<M: Keyed128, O: HashOrder>(key: &Block, text: &[u8]) -> [u8; 16] {
     let mut state = BlockHash::<M, O>::new(key);
     state.update(text);
     *state.finish().bytes()
 }
 
-// The hash of a text in two pieces, by this multiplier.
+// The hash of a text in two pieces, with this multiplier.
 fn hash_by<M: Multiply, O: HashOrder>(multiplier: M, text: &[u8]) -> [u8; 16] {
     let (front, back) = text.split_at(text.len() / 3);
     let mut state = BlockHash::<M, O>::with(multiplier);
@@ -25,7 +25,7 @@ fn hash_by<M: Multiply, O: HashOrder>(multiplier: M, text: &[u8]) -> [u8; 16] {
     *state.finish().bytes()
 }
 
-// The hash of a text, by the multiples of a multiplier's key as plain numbers.
+// The hash of a text, with the multiples of the multiplier's key as plain numbers.
 fn hash_by_plain<O: HashOrder>(multiplied: &Block, text: &[u8]) -> [u8; 16] {
     let multiples = TableMul::of(multiplied).plain_multiples();
     hash_by::<PlainMul, O>(PlainMul::new(multiplied, &multiples), text)
@@ -67,7 +67,7 @@ const GHASHES: [(&str, &str, &str); 4] = [
 
 const LONG_KEY: &str = "b83b533708bf535d0aa6e52980d53b78";
 
-// Four blocks that are multiplied together, and one more.
+// Four blocks that are multiplied together, and one more block.
 const LONG: &str =
     "42831ec2217774244b7221b784d0d49ce3aa212f2c02a4e035c17e2329aca12e21d514b25466931c\
     7d8f6a5aac84aa051ba30b396a0aac973d58e091473f598500000000000000000000000000000200";
@@ -86,11 +86,11 @@ const POLYVALS: [(&str, &str, &str); 3] = [
         "4f4f95668c83dfb6401762bb2d01a262d1a24ddd2721d006bbe45f20d3c9f362",
         "f7a3b47b846119fae5b7866cf5e5b77e",
     ),
-    // Worked bit by bit.
+    // Computed bit by bit.
     (LONG_KEY, LONG, "d6f222e6d011417a59dc2bd5eefd4e24"),
 ];
 
-// The texts of a table have their hashes.
+// Compares the hash of each text of a table.
 fn are_hashes<O: HashOrder>(rt: &(impl Abort + Alloc<A = Global>), table: &[(&str, &str, &str)]) {
     for (key, text, hash) in table {
         let key = Block::new(sixteen(rt, key));

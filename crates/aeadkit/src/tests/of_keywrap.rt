@@ -17,7 +17,7 @@ struct Sample {
     wrapped: Vec<u8>,
 }
 
-// The bytes of a wrapping's line.
+// The sample that a line of `published` describes.
 fn sample_of(rt: &(impl Abort + Alloc<A = Global>), line: &str) -> Sample {
     let Wrapping { key, wrapped, text } = Wrapping::of(line);
     Sample {
@@ -28,7 +28,7 @@ fn sample_of(rt: &(impl Abort + Alloc<A = Global>), line: &str) -> Sample {
     }
 }
 
-// Wraps the text, which starts at offset 8.
+// Wraps the text in place: it starts at offset 8 of the room.
 fn wrap(sample: &Sample, room: &mut [u8]) -> Result<(), Fault> {
     room.fill(0);
     for (byte, given) in room.iter_mut().skip(8).zip(&sample.text) {
@@ -41,7 +41,7 @@ fn wrap(sample: &Sample, room: &mut [u8]) -> Result<(), Fault> {
     }
 }
 
-// Unwraps, and returns the text's length.
+// Unwraps what the room holds, and returns the text's length.
 fn unwrap(sample: &Sample, room: &mut [u8]) -> Result<usize, Fault> {
     if sample.is_padded {
         unwrap_padded_in_place(&sample.key, room)
@@ -51,7 +51,7 @@ fn unwrap(sample: &Sample, room: &mut [u8]) -> Result<usize, Fault> {
     }
 }
 
-// Whether a text is wrapped and unwrapped.
+// Whether the text is wrapped as published, and unwrapped again.
 fn is_wrapped(sample: &Sample, room: &mut [u8]) -> bool {
     let text = sample.text.as_slice();
     wrap(sample, room).is_ok()
@@ -60,7 +60,7 @@ fn is_wrapped(sample: &Sample, room: &mut [u8]) -> bool {
         && room.get(8..text.len().saturating_add(8)) == Some(text)
 }
 
-// Whether the wrapping is none with any of its bits changed, and stays.
+// Whether the wrapping is refused with any one of its bits flipped, and the bytes are left as they were.
 fn needs_each_bit(sample: &Sample, room: &mut [u8]) -> bool {
     let mut is_needed = true;
     for bit in 0..room.len().saturating_mul(8) {
@@ -72,7 +72,8 @@ fn needs_each_bit(sample: &Sample, room: &mut [u8]) -> bool {
     is_needed
 }
 
-// Whether no beginning of the wrapping is one. Whole blocks, three or with padding two at least, might be.
+// Whether each shorter beginning of the wrapping is refused. The fault is `WrapIntegrity` if it has whole blocks of 8
+// bytes, at least three or with padding two, and `WrapLength` otherwise.
 fn needs_its_end(sample: &Sample, room: &mut [u8]) -> bool {
     let least = if sample.is_padded { 16 } else { 24 };
     let mut is_needed = true;

@@ -1,4 +1,4 @@
-//! Which steps the devices of a script make, and that an outlet fails only if an allocation failed.
+//! The steps of scripted devices, and an outlet into memory, which fails only if an allocation fails.
 use super::memory::{AMPLE, ample, memory_of, smaller, taken};
 use super::{shows, shows_at};
 use octets::{Intake, Outlet, ScriptIntake, ScriptOutlet, Step, VecOutlet};
@@ -12,8 +12,8 @@ fn vector<T: Copy>(rt: &(impl Abort + Alloc<A = Global>), items: &[T]) -> Vec<T>
     Vec::from_slice(rt.alloc(), items).expect(rt, "memory")
 }
 
-// A call of 0 bytes counts as one of 1, no call moves more than fits or than there is, and after the last step
-// comes all that fits or is given. The number of a call that fails is 99.
+// `Give(0)` moves one byte. No call moves more than fits or than there is. After the last step a call moves all that
+// fits or is given. A call that fails is written as 99.
 #[test]
 fn scripts_are_followed(rt: HostRuntime) {
     let steps = [Step::Give(3), Step::Give(0), Step::Fail, Step::Give(100)];
@@ -32,8 +32,9 @@ fn scripts_are_followed(rt: HostRuntime) {
 // The pieces that an outlet is given, joined.
 const JOINED: [u8; 20] = [0, 0, 1, 2, 3, 4, 5, 6, 7, 8, 0, 1, 2, 3, 4, 5, 6, 7, 8, 9];
 
-// Gives pieces of three lengths to an outlet in this room, and returns how much of it was taken until a piece was refused, or
-// in all. If this one is, a piece is refused, all memory is there from then on, and the piece is given once more.
+// Gives pieces of three lengths to an outlet with this room. Returns how much of the room was taken before a piece was
+// refused, or in all. A piece is refused if `is_refused`. Then the limit on memory is lifted, and the same piece is
+// given again.
 fn gives(rt: &(impl Abort + Alloc<A = Global>), room: usize, is_refused: bool) -> usize {
     let memory = memory_of(rt, room);
     let mut outlet = VecOutlet::new(&memory);
@@ -52,7 +53,8 @@ fn gives(rt: &(impl Abort + Alloc<A = Global>), room: usize, is_refused: bool) -
     taken_first.unwrap_or(taken(&memory, room))
 }
 
-// Each request for memory of an outlet is refused in turn, and a piece is refused exactly then. At least one request is.
+// Each request of an outlet for memory is refused in turn, and a piece is refused exactly if a request is. There is at
+// least one request.
 #[test]
 fn outlets_fail_only_without_memory(rt: HostRuntime) {
     let needed = gives(&rt, AMPLE, false);

@@ -6,7 +6,7 @@ use super::shows_at;
 use octets::Tag;
 use poly1305::{Multiplier, NibbleMul, PolyBy, WordMul};
 
-// The tag of a text cut into pieces of a size and padded so often.
+// The tag of a text that is cut into pieces of `size` bytes and then padded `pads` times.
 fn tag_by<M: Multiplier>(key: &[u8; 32], text: &[u8], size: usize, pads: usize) -> Tag
     requires { 0 < size }
 {
@@ -80,9 +80,10 @@ const TAGS: [([u8; 32], &str, usize, &str); 9] = [
         0,
         "a8061dc1305136c6c22b8baf0c0127a9",
     ),
-    // The tag of no text is s.
+    // The tag of an empty text is s.
     (PUBLISHED, "", 0, "0103808afb0db2fd4abff6af4149f51b"),
-    // Padding is part of the text: 2^8 is counted without it, 2^128 with it. It adds nothing to whole blocks.
+    // Padding is part of the text: a zero byte counts as 2^8 without padding, and as 2^128 with it. Padding adds
+    // nothing to whole blocks.
     (ONE, "00", 0, "00010000000000000000000000000000"),
     (ONE, "00", 1, ZERO),
     (ONE, "00", 2, ZERO),

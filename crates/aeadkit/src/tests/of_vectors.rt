@@ -1,4 +1,4 @@
-//! Vector files, in both formats, as the program checks them.
+//! The command `check` on vector files of both formats.
 mod cut;
 mod edited;
 
@@ -10,7 +10,7 @@ use std::alloc::Global;
 use std::process::Abort;
 use std::str::from_utf8;
 
-// Checks a file, which prints this report, or is refused with this fault.
+// Runs `check` on a file, which prints this report, or refuses the file with this fault.
 fn check_gives(rt: &(impl Abort + Alloc<A = Global>), file: &[u8], due: &str) {
     let files = OneFile {
         opens: true,
@@ -25,7 +25,7 @@ fn check_gives(rt: &(impl Abort + Alloc<A = Global>), file: &[u8], due: &str) {
     }
 }
 
-// The digit whose lowest bit is another.
+// A hex digit with its lowest bit flipped.
 fn changed(digit: u8) -> u8 {
     match digit {
         b'a' => b'b',
@@ -38,7 +38,7 @@ fn changed(digit: u8) -> u8 {
     }
 }
 
-// A file with the lowest bit of each record's sealed bytes changed, and `invalid` for its text.
+// The file with the lowest bit of each record's sealed bytes flipped, and `invalid` in place of each text.
 fn changed_records(rt: &(impl Abort + Alloc<A = Global>), file: &str) -> Vec<u8> {
     let mut out = Vec::new(rt.alloc());
     for line in file.lines() {
@@ -53,7 +53,8 @@ fn changed_records(rt: &(impl Abort + Alloc<A = Global>), file: &str) -> Vec<u8>
     out
 }
 
-// The published vectors agree; changed, each is no sealing; and the fifth disagrees with `invalid`.
+// The published vectors agree. With a bit flipped, none of them is a valid sealing or wrapping. The fifth disagrees if
+// it says `invalid`.
 #[test]
 fn published_vectors_in_both_formats(rt: HostRuntime) {
     for format in ["1", "2"] {
@@ -66,7 +67,8 @@ fn published_vectors_in_both_formats(rt: HostRuntime) {
     }
 }
 
-// The others, of format 2: a long text, a count of blocks that passes 2^32, and texts wrapped with padding.
+// Other published vectors, in format 2: a long text, a block counter that wraps at 2^32, and texts wrapped with
+// padding.
 #[test]
 fn more_published_vectors(rt: HostRuntime) {
     let file = file_of(&rt, "2", &[CHACHA_A5, GCM_SIV_WRAPS], &PADDED);

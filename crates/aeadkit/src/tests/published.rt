@@ -1,6 +1,6 @@
-//! Published vectors: the words of each in a line, one space after the other, and `-` for the empty word.
+//! Published vectors. Each is a line of words that are separated by single spaces; `-` is the empty word.
 
-/// A word of a line.
+/// A word of a line. It is empty for `-`, and if the line has ended.
 pub fn word(given: Option<&str>) -> &str {
     match given {
         Some("-") | None => "",
@@ -20,7 +20,7 @@ pub struct Vector<'a> {
 }
 
 impl<'a> Vector<'a> {
-    /// The vector of a line.
+    /// The vector that a line describes.
     pub fn of(line: &'a str) -> Vector<'a> {
         let mut words = line.split(' ');
         Vector {
@@ -33,7 +33,7 @@ impl<'a> Vector<'a> {
         }
     }
 
-    /// The words of a command under the inputs, with one more option.
+    /// The words of a command with these inputs, and with one more option.
     pub fn words(&self, command: &'a str, option: &'a str, body: &'a str) -> [&'a str; 11] {
         [
             command, "--suite", self.suite, "--key", self.key, "--nonce", self.nonce, "--aad",
@@ -69,7 +69,7 @@ pub const CHACHA_A5: &str =
     6f7220746f2063697465207468656d206f74686572207468616e206173202fe2809c776f726b20696e2070726f677\
     26573732e2fe2809d";
 
-/// The sealed bytes of `CHACHA` with another last byte, which are no sealing.
+/// The sealed bytes of `CHACHA` with another last byte, which are not a valid sealing.
 pub const CHANGED: &str =
     "d31a8d34648e60db7b86afbc53ef7ec2a4aded51296e08fea9e2b5a736ee62d63dbea45e8ca9671282fafb69da927\
     28b1a71de0a9e060b2905d6a5b67ecd3b3692ddbd7f2d778b8c9803aee328091b58fab324e4fad675945585808b48\
@@ -91,7 +91,7 @@ pub const GCM_SIV: &str =
     "aes-128-gcm-siv 01000000000000000000000000000000 030000000000000000000000 - \
     b5d839330ac7b786578782fff6013b815b287c22493a364c 0100000000000000";
 
-/// RFC 8452, appendix C.3, the first: the count of blocks passes 2^32.
+/// RFC 8452, appendix C.3, the first vector: the block counter wraps at 2^32.
 pub const GCM_SIV_WRAPS: &str =
     "aes-256-gcm-siv 0000000000000000000000000000000000000000000000000000000000000000 \
     000000000000000000000000 - f3f80f2cf0cb2dd9c5984fcda908456cc537703b5ba70324a6793a7bf218d3eaff\
@@ -125,7 +125,7 @@ pub const VECTORS: [&str; 12] = [
     030000000000000000000000 - c2ef328e5c71c83b843122130f7364b761e0b97427e3df28 0100000000000000",
 ];
 
-/// A key, the wrapping of a text, and the text. A line begins with the suite's name.
+/// A key, the wrapping of a text, and the text. In a line the suite's name comes before them.
 #[derive(Clone, Copy)]
 pub struct Wrapping<'a> {
     pub key: &'a str,
@@ -134,7 +134,7 @@ pub struct Wrapping<'a> {
 }
 
 impl<'a> Wrapping<'a> {
-    /// The wrapping of a line.
+    /// The wrapping that a line describes.
     pub fn of(line: &'a str) -> Wrapping<'a> {
         let mut words = line.split(' ').skip(1);
         Wrapping {

@@ -1,4 +1,4 @@
-//! Runs of the program on words, each compared with its status, its fault and what it prints.
+//! Runs of the program on the words of a command line, which compare the status, the fault and what is printed.
 use super::devices::NO_FILES;
 use super::published::word;
 use command::{Storage, run};
@@ -9,12 +9,12 @@ use std::process::Abort;
 /// The words that check a vector file.
 pub const CHECK: [&str; 2] = ["check", "vectors.txt"];
 
-/// Whether bytes are this line and its LF.
+/// Whether the bytes are this line and an LF.
 pub fn is_line(bytes: &[u8], line: &str) -> bool {
     bytes.strip_suffix(b"\n".as_slice()) == Some(line.as_bytes())
 }
 
-/// Whether standard error has the line of a fault, or nothing if it is the empty one.
+/// Whether standard error has the line of this fault, or nothing if the fault is empty.
 pub fn names(err: &[u8], fault: &str) -> bool {
     match err.strip_prefix(b"aeadkit: ".as_slice()) {
         Some(line) => is_line(line, fault),
@@ -22,7 +22,7 @@ pub fn names(err: &[u8], fault: &str) -> bool {
     }
 }
 
-/// Runs the words over files and into a writer, and compares the status and the fault.
+/// Runs the words over these files, with `out` as standard output, and compares the status and the fault.
 pub fn runs_into<F: Storage, W: Write>(
     rt: &(impl Abort + Alloc<A = Global>),
     files: &F,
@@ -39,7 +39,8 @@ pub fn runs_into<F: Storage, W: Write>(
     );
 }
 
-/// Runs the words over files, and compares the status, the fault and standard output: these lines, or nothing.
+/// Runs the words over these files, and compares the status, the fault and standard output, which is these lines or
+/// nothing.
 pub fn runs_over<F: Storage>(
     rt: &(impl Abort + Alloc<A = Global>),
     files: &F,
@@ -57,7 +58,7 @@ pub fn runs_over<F: Storage>(
     assert!(rt; is_printed, "{words:?}");
 }
 
-/// The words of a line after the first ones; `-` is the empty word.
+/// The words of a line without the first `first` words; `-` is the empty word.
 pub fn words_after<'a>(
     rt: &(impl Abort + Alloc<A = Global>),
     line: &'a str,
@@ -70,7 +71,7 @@ pub fn words_after<'a>(
     words
 }
 
-/// Runs the words of a row over files, after its status and its fault. They print nothing.
+/// Runs a row over these files: a status, a fault, and the words that have them. Standard output is empty.
 pub fn runs_row<F: Storage>(rt: &(impl Abort + Alloc<A = Global>), files: &F, row: &str) {
     let mut words = row.split(' ');
     let status = word(words.next()).parse().unwrap_or(9);
@@ -78,7 +79,7 @@ pub fn runs_row<F: Storage>(rt: &(impl Abort + Alloc<A = Global>), files: &F, ro
     runs_over(rt, files, &words_after(rt, row, 2), status, None, fault);
 }
 
-/// The words print one line, with status 0, and nothing to standard error.
+/// Runs the words, which print this line with status 0, and nothing to standard error.
 pub fn prints(rt: &(impl Abort + Alloc<A = Global>), words: &[&str], line: &str) {
     runs_over(rt, &NO_FILES, words, 0, Some(line), "");
 }

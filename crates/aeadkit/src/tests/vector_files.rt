@@ -1,9 +1,9 @@
-//! Vector files, and files made of others.
+//! Vector files, and copies of them with some lines replaced.
 use super::published::{VECTORS, WRAPPINGS, word};
 use std::alloc::Global;
 use std::process::Abort;
 
-/// Two records: a published vector of GCM, and the same with another last byte.
+/// Two records: a published vector of GCM, and the same vector with another last byte, which is invalid.
 pub const TWO_RECORDS: &str = "# two records
 format = 1
 suite = aes-128-gcm
@@ -36,7 +36,7 @@ sealed = afbeb0f07dfbf5419200f2ccb50bb24f
 text = 466f7250617369
 ";
 
-/// Adds a line of these parts, and its LF.
+/// Adds a line that is made of these parts, and an LF.
 pub fn add(rt: &(impl Abort + Alloc<A = Global>), file: &mut Vec<u8>, parts: &[&[u8]]) {
     for part in parts {
         file.extend_from_slice(part).expect(rt, "memory");
@@ -44,7 +44,7 @@ pub fn add(rt: &(impl Abort + Alloc<A = Global>), file: &mut Vec<u8>, parts: &[&
     file.push(b'\n').expect(rt, "memory");
 }
 
-// Adds a value line for each word of a published vector.
+// Adds a line `name = value` for each word of a published vector.
 fn add_record(
     rt: &(impl Abort + Alloc<A = Global>),
     file: &mut Vec<u8>,
@@ -60,7 +60,7 @@ fn add_record(
     }
 }
 
-/// A file of these vectors of sealing and of wrapping.
+/// A vector file of these sealings and wrappings.
 pub fn file_of(
     rt: &(impl Abort + Alloc<A = Global>),
     format: &str,
@@ -83,12 +83,12 @@ pub fn file_of(
     file
 }
 
-/// The published vectors of sealing and of wrapping without padding, as a file of 18 records.
+/// The published sealings and wrappings without padding, as a file of 18 records.
 pub fn published(rt: &(impl Abort + Alloc<A = Global>), format: &str) -> Vec<u8> {
     file_of(rt, format, &VECTORS, &WRAPPINGS)
 }
 
-// The number that digits spell; 0 if there are none.
+// The number that the digits spell, or 0 if there are no digits.
 fn number_of(digits: Option<&str>) -> usize {
     match digits {
         Some(digits) => digits.parse().unwrap_or(0),
@@ -96,8 +96,8 @@ fn number_of(digits: Option<&str>) -> usize {
     }
 }
 
-/// A file with other lines: of each line that is another the number, and what stands for it and its LF, all
-/// parted by bars.
+/// The file with some lines replaced. For each of these the edits give its number, and what replaces the line and its
+/// LF; bars separate all parts.
 pub fn with_lines(rt: &(impl Abort + Alloc<A = Global>), file: &str, edits: &str) -> Vec<u8> {
     let mut out = Vec::new(rt.alloc());
     let mut parts = edits.split('|');

@@ -1,4 +1,4 @@
-//! Sealing in the pieces that cuts fix.
+//! Sealing in pieces that begin at given cuts.
 ghost use Rattle.aead.specs.Cuts.{Rise};
 
 use super::super::published::{CHACHA, GCM_SIV};
@@ -8,7 +8,7 @@ use aead::seal_cut;
 use std::alloc::{Allocator, Global};
 use std::process::Abort;
 
-// Whether pieces have these lengths.
+// Whether the pieces have these lengths.
 fn have_lengths<A: Allocator>(pieces: &[Vec<u8, A>], lengths: &[usize]) -> bool {
     for (piece, length) in pieces.iter().zip(lengths) {
         if piece.len() != *length {
@@ -18,7 +18,7 @@ fn have_lengths<A: Allocator>(pieces: &[Vec<u8, A>], lengths: &[usize]) -> bool 
     pieces.len() == lengths.len()
 }
 
-// Sealed with these cuts, a text has pieces of these lengths, which joined are its sealing.
+// Seals a text with these cuts. The pieces have these lengths, and joined they are the published sealing.
 fn has_pieces(
     rt: &(impl Abort + Alloc<A = Global>),
     sample: &Sample,
@@ -39,7 +39,7 @@ fn has_pieces(
     shows(rt, have_lengths(&pieces, lengths), "lengths");
 }
 
-// A text that is read once, cut at each place and at three, and one that is read twice.
+// A suite that reads the text once, with one cut at each place and with three cuts, and a suite that reads it twice.
 #[test]
 fn pieces_begin_at_the_cuts(rt: HostRuntime) {
     let chacha = sample_of(&rt, CHACHA);

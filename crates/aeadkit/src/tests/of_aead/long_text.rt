@@ -6,13 +6,13 @@ use octets::{Nonce, Tag};
 use std::alloc::Global;
 use std::process::Abort;
 
-// A key of n bytes is the first n of these, the nonce the first twelve.
+// A key of n bytes is the first n of these bytes; the nonce is the first twelve.
 const KEY: [u8; 32] = [
     0, 1, 2, 3, 4, 5, 6, 7, 8, 9, 10, 11, 12, 13, 14, 15, 16, 17, 18, 19, 20, 21, 22, 23, 24, 25,
     26, 27, 28, 29, 30, 31,
 ];
 
-// Four runs of sixteen blocks, a block and a byte: byte i is 7 i + i / 256.
+// Four runs of sixteen blocks, one more block and one more byte. Byte i is 7 i + i / 256, modulo 256.
 fn text() -> [u8; 1041] {
     let mut bytes = [0; 1041];
     for (i, byte) in bytes.iter_mut().enumerate() {
@@ -23,7 +23,7 @@ fn text() -> [u8; 1041] {
     bytes
 }
 
-// Sealing a text in place has this tag.
+// Seals a text in place, and compares its tag with this one.
 fn has_tag(
     rt: &(impl Abort + Alloc<A = Global>),
     suite: Suite,
@@ -42,8 +42,8 @@ fn has_tag(
     );
 }
 
-// The suite, the tag, and a digest of the ciphertext: the tag by ChaCha20-Poly1305 of no text with it as
-// associated data.
+// The suite, the tag, and a digest of the ciphertext. The digest is the tag of ChaCha20-Poly1305 for an empty text
+// whose associated data is the ciphertext.
 const SEALINGS: [(Suite, &str, &str); 6] = [
     (
         Suite::ChaCha20Poly1305,
@@ -86,7 +86,8 @@ fn a_long_text(rt: HostRuntime) {
     }
 }
 
-// The tag of a text in a long piece and a short one, by one reading; the state is saved between them.
+// Seals a text that is read once, in a long piece and a short one, and returns the tag. The state is saved and resumed
+// between the two.
 fn by_one_reading(rt: &impl Abort, cipher: &AnyOnePass, nonce: &Nonce, text: &mut [u8]) -> Tag {
     let (front, back) = text.split_at_mut(text.len().min(721));
     let mut sealer = Sealer::new(cipher, nonce, &[]).expect(rt, "a sealer");
@@ -96,7 +97,8 @@ fn by_one_reading(rt: &impl Abort, cipher: &AnyOnePass, nonce: &Nonce, text: &mu
     sealer.finish()
 }
 
-// The same by two readings.
+// Seals a text that is read twice, in a long piece and a short one, and returns the tag. In each reading the state is
+// saved and resumed between the two.
 fn by_two_readings(rt: &impl Abort, cipher: &GcmSiv, nonce: &Nonce, text: &mut [u8]) -> Tag {
     let (front, back) = text.split_at_mut(text.len().min(721));
     let mut absorb = SivAbsorb::new(cipher, nonce, &[]).expect(rt, "a state");

@@ -1,4 +1,4 @@
-//! Opening streams, whose three readings may differ, over devices that fail or move few bytes at a time.
+//! Opening a stream whose three readings may differ, over devices that fail or move few bytes at a time.
 use super::super::digits::flip;
 use super::super::published::{CHACHA, GCM_SIV};
 use super::super::shows;
@@ -8,9 +8,10 @@ use octets::{Fault, ScriptIntake, ScriptOutlet, SliceIntake, Step, VecOutlet};
 use std::alloc::Global;
 use std::process::Abort;
 
-// What each of the three readings finds and the outlet takes, the result, and the text that is given; after `Read` only a
-// beginning of it is. The byte that is `changed-at` a place has another lowest bit, and a device that works `by` some
-// bytes moves that many in each of its first calls.
+// Each row says what each of the three readings finds, what the outlet takes, the result, and the text that is written.
+// If the result is `Read`, only a beginning of that text is written. `first-N` is the first N bytes alone;
+// `changed-at-N` has the lowest bit of byte N flipped; a device with `by-N` moves N bytes in each of its first calls;
+// one with `failing-after-N` moves N bytes and then fails.
 const OF_CHACHA: &str = "\
 measure whole verify whole write whole outlet all result done text whole
 measure whole,by-1 verify whole,by-1 write whole,by-1 outlet all result done text whole
@@ -34,12 +35,12 @@ measure whole verify whole write whole,failing-after-3 outlet all result Read te
 measure whole verify whole write whole outlet all,failing-after-0 result Write text first-0
 measure whole verify whole write whole outlet all,failing-after-3 result Write text first-3";
 
-// The number that digits spell.
+// The number that the digits spell.
 fn number_of(digits: &str) -> usize {
     digits.parse().unwrap_or(0)
 }
 
-// A copy of bytes in a form.
+// A copy of the bytes in the form that a row names.
 fn copy_of(rt: &(impl Abort + Alloc<A = Global>), bytes: &[u8], form: &str) -> Vec<u8> {
     let count = match form.strip_prefix("first-") {
         Some(digits) => number_of(digits),
@@ -55,7 +56,7 @@ fn copy_of(rt: &(impl Abort + Alloc<A = Global>), bytes: &[u8], form: &str) -> V
     copy
 }
 
-// The steps of a device.
+// The steps of a device as a row describes it.
 fn steps(rt: &(impl Abort + Alloc<A = Global>), device: &str) -> Vec<Step> {
     let mut steps = Vec::new(rt.alloc());
     if let Some((_, digits)) = device.split_once(",by-") {
@@ -76,7 +77,7 @@ fn steps(rt: &(impl Abort + Alloc<A = Global>), device: &str) -> Vec<Step> {
     steps
 }
 
-// A reading of bytes.
+// A reading of the bytes as a row describes it.
 fn reading(
     rt: &(impl Abort + Alloc<A = Global>),
     bytes: &[u8],
@@ -86,7 +87,7 @@ fn reading(
     ScriptIntake::new(copy_of(rt, bytes, form), steps(rt, device))
 }
 
-// The result of a name.
+// The result that a row names.
 fn result_of(name: &str) -> Result<(), Fault> {
     match name {
         "TooShort" => Err(Fault::TooShort),
@@ -98,7 +99,7 @@ fn result_of(name: &str) -> Result<(), Fault> {
     }
 }
 
-// The word of a row after a name.
+// The word that follows a name in a row.
 fn word_after<'a>(row: &'a str, name: &str) -> &'a str {
     let mut is_next = false;
     for word in row.split(' ') {
@@ -110,7 +111,7 @@ fn word_after<'a>(row: &'a str, name: &str) -> &'a str {
     ""
 }
 
-// Opens sealed bytes as a row says.
+// Opens the sealed bytes over the devices of a row, and compares the result and the text.
 fn opens(rt: &(impl Abort + Alloc<A = Global>), sample: &Sample, row: &str) {
     let mut measure = reading(rt, &sample.sealed, word_after(row, "measure"));
     let mut verify = reading(rt, &sample.sealed, word_after(row, "verify"));
@@ -136,7 +137,7 @@ fn opens(rt: &(impl Abort + Alloc<A = Global>), sample: &Sample, row: &str) {
     );
 }
 
-// Opens sealed bytes of a slice into a vector.
+// Opens the sealed bytes from slices into a vector.
 fn opens_slices(rt: &(impl Abort + Alloc<A = Global>), sample: &Sample) {
     let mut out = VecOutlet::new(rt.alloc());
     let answer = open_stream(

@@ -8,7 +8,7 @@ use octets::{Fault, Tag};
 use std::alloc::Global;
 use std::process::Abort;
 
-// Sealed in pieces of these lengths, a text has its sealing.
+// Seals a text in pieces of these lengths, and compares the sealing with the published one.
 fn is_sealed(rt: &impl Abort, sample: &Sample, text: &mut [u8], lengths: &[usize]) {
     let cipher = one_pass(&sample.cipher).expect(rt, "one reading");
     let mut sealer = Sealer::new(cipher, &sample.nonce, &sample.aad).expect(rt, "a sealer");
@@ -38,7 +38,8 @@ fn sealer_takes_any_pieces(rt: HostRuntime) {
     is_sealed(&rt, &sample_of(&rt, GCM_4), &mut text, &[1, 15, 0, 17, 27]);
 }
 
-// The tag of a text in pieces of 3, 0 and 5 bytes, and what encrypts a second reading.
+// Reads a text for the first time, in pieces of 3, 0 and 5 bytes. Returns the tag, and the writer that encrypts the
+// second reading.
 fn absorbed(rt: &impl Abort, sample: &Sample) -> (Tag, SivWriter) {
     let cipher = two_pass(&sample.cipher).expect(rt, "two readings");
     let mut absorb = SivAbsorb::new(cipher, &sample.nonce, &sample.aad).expect(rt, "a state");
@@ -48,8 +49,9 @@ fn absorbed(rt: &impl Abort, sample: &Sample) -> (Tag, SivWriter) {
     absorb.finish()
 }
 
-// A second reading in pieces of 3 and 0 bytes and the rest ends so, with the sealing if it is `Ok`. A byte past the
-// first text is refused and stays, and the end is as if it had not come.
+// Encrypts a second reading in pieces of 3 bytes, 0 bytes and the rest. The result at its end is `due`, and if that is
+// `Ok`, the sealing is the published one. Bytes past the length of the first reading are refused and left as they were,
+// and they do not change the end.
 fn ends(rt: &impl Abort, sample: &Sample, second: &mut [u8], due: Result<(), Fault>) {
     let (tag, mut writer) = absorbed(rt, sample);
     let mut past = [7; 2];
@@ -68,7 +70,7 @@ fn ends(rt: &impl Abort, sample: &Sample, second: &mut [u8], due: Result<(), Fau
     shows(rt, due.is_err() || is_sealing, "a sealing");
 }
 
-// A second reading of the same text agrees, and one of another or of a shorter one does not.
+// A second reading of the same text agrees. One of another text or of a shorter one does not.
 #[test]
 fn second_readings(rt: HostRuntime) {
     let sample = sample_of(&rt, GCM_SIV);
@@ -78,7 +80,8 @@ fn second_readings(rt: HostRuntime) {
     ends(&rt, &sample, &mut [1, 0, 0, 0, 0, 0, 0], changed);
 }
 
-// The second pass over a ciphertext of which the first one took in all but the last byte and then that, with a pause between.
+// The writer for the second pass over a ciphertext. The first pass reads all but the last byte, and then the last byte;
+// the state is saved and resumed between the two.
 fn checked<'a>(
     rt: &impl Abort,
     sample: &'a Sample,
@@ -95,8 +98,9 @@ fn checked<'a>(
     resumed.finish()
 }
 
-// A published sealing is opened in pieces to its text, with a pause between two pieces, and not if a bit was changed before the
-// first pass or between both. A byte past the first pass is refused.
+// Opens a published sealing in pieces to its text, with the state saved and resumed between two pieces. A bit that is
+// flipped before the first pass is noticed, and so is a second pass over other bytes. A byte past the length of the
+// first pass is refused.
 fn is_opened(rt: &(impl Abort + Alloc<A = Global>), line: &str) {
     let sample = sample_of(rt, line);
     let mut body = bytes(rt, Vector::of(line).text);
@@ -127,7 +131,7 @@ fn is_opened(rt: &(impl Abort + Alloc<A = Global>), line: &str) {
     shows(rt, refused, "another second pass");
 }
 
-// Under each construction.
+// Openings under each construction.
 #[test]
 fn openings_in_two_passes(rt: HostRuntime) {
     for line in [CHACHA, GCM_4, GCM_SIV] {

@@ -1,4 +1,4 @@
-//! Each request for memory of sealing in pieces is refused in turn.
+//! Sealing in pieces, with each request for memory refused in turn.
 use super::super::memory::{AMPLE, ample, memory_of, smaller, taken};
 use super::super::published::{CHACHA, GCM, GCM_SIV};
 use super::super::{shows, shows_at};
@@ -8,7 +8,7 @@ use octets::Fault;
 use std::alloc::{Allocator, Global};
 use std::process::Abort;
 
-// Whether a text in pieces has its sealing.
+// Seals a text in pieces, and returns whether they are the published sealing.
 fn is_right<A: Allocator + Copy>(alloc: A, sample: &Sample) -> Result<bool, Fault> {
     let Sample {
         cipher,
@@ -21,7 +21,7 @@ fn is_right<A: Allocator + Copy>(alloc: A, sample: &Sample) -> Result<bool, Faul
     Ok(are_joined(&pieces, sealed))
 }
 
-// Seals in this room, and returns how much of it was taken. The result is this one.
+// Seals in this room, compares the result with `due`, and returns how much of the room was taken.
 fn seals(
     rt: &(impl Abort + Alloc<A = Global>),
     sample: &Sample,
@@ -34,8 +34,8 @@ fn seals(
     taken(&memory, room)
 }
 
-// Seals in an ample room and in this one, and returns how much of this one was taken. If a request was refused, the
-// result is `OutOfMemory`, and else right.
+// Seals in an ample room and in this one, and returns how much of this one was taken. If a request is refused, the
+// result is `OutOfMemory`. Otherwise it is the published sealing.
 fn seals_or_refuses(rt: &(impl Abort + Alloc<A = Global>), sample: &Sample, room: usize) -> usize {
     let needed = seals(rt, sample, ample(room), Ok(true));
     let due = if room < needed {
@@ -46,7 +46,7 @@ fn seals_or_refuses(rt: &(impl Abort + Alloc<A = Global>), sample: &Sample, room
     seals(rt, sample, room, due)
 }
 
-// At least one is refused.
+// Each request is refused in turn, and there is at least one request.
 #[test]
 fn requests_are_refused_in_turn(rt: HostRuntime) {
     for line in [CHACHA, GCM, GCM_SIV] {

@@ -6,7 +6,7 @@ use octets::{Nonce, Tag};
 use std::alloc::{Allocator, Global};
 use std::process::Abort;
 
-/// A published sealing.
+/// A published sealing, with its cipher.
 #[derive(Drop)]
 pub struct Sample {
     pub cipher: AnyAead,
@@ -16,7 +16,7 @@ pub struct Sample {
     pub sealed: Vec<u8>,
 }
 
-/// The bytes of a vector's line.
+/// The sample that a line of `published` describes.
 pub fn sample_of(rt: &(impl Abort + Alloc<A = Global>), line: &str) -> Sample {
     let vector = Vector::of(line);
     let suite = Suite::named(vector.suite).expect(rt, "a suite's name");
@@ -29,7 +29,7 @@ pub fn sample_of(rt: &(impl Abort + Alloc<A = Global>), line: &str) -> Sample {
     }
 }
 
-/// A cipher of one reading.
+/// The cipher, if its suite reads the text once.
 pub fn one_pass(cipher: &AnyAead) -> Option<&AnyOnePass> {
     match cipher {
         AnyAead::OnePass(cipher) => Some(cipher),
@@ -37,7 +37,7 @@ pub fn one_pass(cipher: &AnyAead) -> Option<&AnyOnePass> {
     }
 }
 
-/// A cipher of two readings.
+/// The cipher, if its suite reads the text twice.
 pub fn two_pass(cipher: &AnyAead) -> Option<&GcmSiv> {
     match cipher {
         AnyAead::OnePass(_) => None,
@@ -45,7 +45,7 @@ pub fn two_pass(cipher: &AnyAead) -> Option<&GcmSiv> {
     }
 }
 
-/// The first bytes of these, so many.
+/// The first `count` bytes, or all bytes if there are fewer.
 pub fn first(bytes: &[u8], count: usize) -> &[u8] {
     &bytes[..count.min(bytes.len())]
 }

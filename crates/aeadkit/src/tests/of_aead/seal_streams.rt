@@ -1,4 +1,4 @@
-//! Sealing streams of which the second reading is another, or of which a call fails.
+//! Sealing a stream whose second reading differs from the first, or one of whose calls fails.
 use super::super::published::{GCM_4, GCM_SIV};
 use super::super::{shows, shows_at};
 use super::samples::{Sample, sample_of, two_pass};
@@ -7,7 +7,7 @@ use octets::{Fault, ScriptIntake, ScriptOutlet, SliceIntake, Step, VecOutlet};
 use std::alloc::Global;
 use std::process::Abort;
 
-// A stream with this second reading is refused, and gives a beginning of these bytes, which has no tag.
+// A stream with this second reading is refused. What is written by then is a beginning of `most`, without a tag.
 fn is_refused(rt: &(impl Abort + Alloc<A = Global>), sample: &Sample, second: &[u8], most: &[u8]) {
     let cipher = two_pass(&sample.cipher).expect(rt, "two readings");
     let mut first = SliceIntake::new(&sample.text);
@@ -28,7 +28,7 @@ fn is_refused(rt: &(impl Abort + Alloc<A = Global>), sample: &Sample, second: &[
     );
 }
 
-// A text of the same length, and one of three bytes.
+// A second reading of another text of the same length, and one of three bytes.
 #[test]
 fn other_second_texts(rt: HostRuntime) {
     let sample = sample_of(&rt, GCM_SIV);
@@ -37,14 +37,14 @@ fn other_second_texts(rt: HostRuntime) {
     is_refused(&rt, &sample, &[1, 0, 0], &most[..3]);
 }
 
-// The devices of a sealing, and the fault of a call that fails.
+// The devices of a sealing, each with its fault when a call fails.
 const DEVICES: [(&str, Fault); 3] = [
     ("first", Fault::Read),
     ("second", Fault::Read),
     ("out", Fault::Write),
 ];
 
-// The steps of a device: one byte each, and then a failure, if it is the device whose call fails.
+// The steps of a device. If it is the one that fails, it moves one byte in each of `before` calls, and then fails.
 fn steps(rt: &(impl Abort + Alloc<A = Global>), fails: bool, before: u32) -> Vec<Step> {
     let mut steps = Vec::new(rt.alloc());
     if fails {
@@ -56,7 +56,7 @@ fn steps(rt: &(impl Abort + Alloc<A = Global>), fails: bool, before: u32) -> Vec
     steps
 }
 
-// A reading of a sample's text.
+// A reading of a sample's text in these steps.
 fn text_of(
     rt: &(impl Abort + Alloc<A = Global>),
     sample: &Sample,
@@ -66,8 +66,8 @@ fn text_of(
     ScriptIntake::new(text, steps)
 }
 
-// Seals a sample's text with one call of a device failing, after so many of one byte, and returns whether it was done
-// before that call. If it was not, a beginning of the sealing was given.
+// Seals a sample's text over a device that fails after `before` calls of one byte each, and returns whether the sealing
+// was done before the failure. If it was not, a beginning of the sealing was written.
 fn is_done(
     rt: &(impl Abort + Alloc<A = Global>),
     sample: &Sample,
@@ -93,8 +93,8 @@ fn is_done(
     answer.is_ok()
 }
 
-// Each call of each device fails in turn, until a sealing is done before the call that would fail. There are such calls
-// of each device but a second reading that the suite does not make.
+// Each call of each device fails in turn, until a sealing is done before the call that would fail. Each device has such
+// calls, except the second reading of a suite that reads the text once.
 fn each_call_fails(rt: &(impl Abort + Alloc<A = Global>), line: &str) {
     let sample = sample_of(rt, line);
     let reads_twice = two_pass(&sample.cipher).is_some();

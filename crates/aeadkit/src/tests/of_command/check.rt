@@ -4,8 +4,8 @@ use super::super::runs::{CHECK, runs_over};
 use super::super::vector_files::TWO_RECORDS;
 use std::io;
 
-// A file that can't be opened or read, whatever the system's error, is `Read`; an allocation failure in
-// opening it is `OutOfMemory`.
+// If a file can't be opened or read, the fault is `Read`, whatever the system's error is. If an allocation fails in
+// opening it, the fault is `OutOfMemory`.
 #[test]
 fn unreadable_files(rt: HostRuntime) {
     runs_over(&rt, &NO_FILES, &CHECK, 3, None, "Read");
@@ -19,7 +19,7 @@ fn unreadable_files(rt: HostRuntime) {
     }
 }
 
-// Whether a file is opened, its bytes, how it fails then, and the status and the fault.
+// Whether the file can be opened, its bytes, its failure, the status, and the fault.
 const UNREADABLE: [(bool, &str, io::ErrorKind, u8, &str); 5] = [
     (true, "", io::ErrorKind::IsADirectory, 3, "Read"),
     (true, TWO_RECORDS, io::ErrorKind::IsADirectory, 3, "Read"),

@@ -1,4 +1,4 @@
-//! The file commands, if a call to their files goes wrong.
+//! The file commands, with a call to their files that goes wrong.
 use super::super::devices::NO_FILES;
 use super::super::digits::bytes;
 use super::super::published::{CHACHA, GCM_SIV, Vector};
@@ -9,8 +9,8 @@ use command::run;
 use std::alloc::Global;
 use std::process::Abort;
 
-// Whether the failure names the side that went wrong, and the written file holds a beginning of what it
-// should; none was made if a reading before the last one went wrong.
+// Whether the fault names the side that went wrong, and the output file holds a beginning of what it should. If a
+// reading before the last one went wrong, no output file was created.
 fn is_stopped(log: &Log, err: &[u8], to: &[u8], last: u8) -> bool {
     let (fault, may_be_made) = match log.reading.get() {
         Some(reading) => ("Read", last <= reading),
@@ -19,7 +19,7 @@ fn is_stopped(log: &Log, err: &[u8], to: &[u8], last: u8) -> bool {
     names(err, fault) && log.begins(to) && (may_be_made || !log.made.get())
 }
 
-// Runs a file command with one call that goes wrong, and returns whether it was done before that call.
+// Runs a file command with one call that goes wrong, and returns whether the command ended before that call.
 fn is_over_before(
     rt: &(impl Abort + Alloc<A = Global>),
     words: &[&str],
@@ -53,8 +53,7 @@ fn is_over_before(
     is_over
 }
 
-// Runs a file command with each of its calls going wrong in turn, until a run is done before the call that
-// would.
+// Runs a file command with each of its calls going wrong in turn, until a run ends before the call that would go wrong.
 fn each_call_goes_wrong(
     rt: &(impl Abort + Alloc<A = Global>),
     words: &[&str],
@@ -74,7 +73,7 @@ fn each_call_goes_wrong(
     shows_at(rt, 4 < count && count < 999, "calls", u64::from(count));
 }
 
-// The words of a file command from `a` to `b` under a vector's inputs.
+// The words of a file command from `a` to `b` with a vector's inputs.
 fn file_words<'a>(command: &'a str, vector: &Vector<'a>) -> [&'a str; 13] {
     [
         command,
@@ -93,7 +92,8 @@ fn file_words<'a>(command: &'a str, vector: &Vector<'a>) -> [&'a str; 13] {
     ]
 }
 
-// Seals and opens a vector's text with each call going wrong in turn; sealing ends with the given reading.
+// Seals and opens a vector's text with each call going wrong in turn. `last` is the number of sealing's last reading,
+// from 0 on.
 fn each_call_of(rt: &(impl Abort + Alloc<A = Global>), line: &str, last: u8, how: (Wrong, bool)) {
     let vector = Vector::of(line);
     let text = bytes(rt, vector.text);
@@ -104,8 +104,8 @@ fn each_call_of(rt: &(impl Abort + Alloc<A = Global>), line: &str, last: u8, how
     each_call_goes_wrong(rt, &words, &sealed, &text, 2, how);
 }
 
-// Each opening, read, making, write and sync in turn fails, or is interrupted, which is a failure, or moves
-// one byte alone, which changes nothing; and each of them fails while all others move one byte.
+// Each open, read, creation, write and sync in turn fails, or is interrupted, which is a failure too, or moves only one
+// byte, which changes nothing. Each of them also fails while all others move one byte each.
 #[test]
 fn calls_that_go_wrong(rt: HostRuntime) {
     for how in [
@@ -119,8 +119,9 @@ fn calls_that_go_wrong(rt: HostRuntime) {
     }
 }
 
-// A status, a fault and the words that have them, with an IN that can't be opened. The words are looked at in this order:
-// the suite's name, the hex of key, nonce and associated data, the key's length, the nonce's, and then the files.
+// A status, a fault and the words that have them, with an IN that can't be opened. The words are checked in this order:
+// the suite's name, the hex of key, nonce and associated data, the key's length, the nonce's length, and then the
+// files.
 const REFUSED: &str = "\
 2 UnknownSuite seal-file --suite des --key 0 --nonce 0 --aad 0 --in a --out b
 2 BadHex seal-file --suite aes-128-gcm --key 0 --nonce 00 --aad - --in a --out b

@@ -1,5 +1,5 @@
-//! Each request for memory of a command is refused in turn. The result is `OutOfMemory` if one was refused, or `Write` if
-//! the making of a file asked for it; else it is right.
+//! Commands with each of their requests for memory refused in turn. The fault is `OutOfMemory`, or `Write` if the
+//! refused request came from the creation of the output file. If no request is refused, the result is right.
 use super::super::digits::bytes;
 use super::super::memory::{AMPLE, ample, memory_of, smaller, taken};
 use super::super::published::{CHACHA, GCM, GCM_SIV, PADDED, Vector, WRAPPINGS, Wrapping};
@@ -19,17 +19,16 @@ use std::io::BufReader;
 use std::process::Abort;
 use std::str::from_utf8;
 
-// Files in memory that ask for memory: each opening does, for a buffer, and the making of the file that is
-// written.
+// Files in memory whose calls allocate: each open does, for a buffer, and so does the creation of the output file.
 #[derive(Drop)]
 struct AllocatingFiles<'b, 'l, 'm, A: Allocator> {
     files: Scripted<'b, 'l>,
     memory: &'m A,
-    // Whether the making was refused.
+    // Whether the creation of the output file was refused its memory.
     unmade: Cell<bool>,
 }
 
-// Asks for memory, and gives it back.
+// Allocates one byte, and gives it back.
 fn allocate<A: Allocator>(memory: &A) -> io::Result<()> {
     match Vec::<u8, &A>::with_capacity(memory, 1) {
         Ok(_) => Ok(()),
@@ -64,7 +63,8 @@ impl<'b, 'l, 'm, A: Allocator> Storage for AllocatingFiles<'b, 'l, 'm, A> {
     }
 }
 
-// A request, the file that it reads, its status, the line that it prints, and what the file that it writes holds.
+// A request, the contents of the file that it reads, its status, the line that it prints, and the contents of the file
+// that it writes.
 #[derive(Drop)]
 struct Case<'a> {
     request: Request<'a>,
@@ -74,7 +74,7 @@ struct Case<'a> {
     to: &'a [u8],
 }
 
-// Does what a request asks for, and returns the status.
+// Performs a request, and returns the status.
 fn status_of<A: Allocator, F: Storage>(
     memory: &A,
     files: &F,
@@ -92,7 +92,7 @@ fn status_of<A: Allocator, F: Storage>(
     }
 }
 
-// Whether a request that is done printed its line, or wrote its file.
+// Whether a request that was performed printed its line, or wrote its file.
 fn is_done(case: &Case<'_>, out: &[u8], log: &Log) -> bool {
     match case.request {
         Request::Print(_) => is_line(out, case.line),
@@ -100,9 +100,9 @@ fn is_done(case: &Case<'_>, out: &[u8], log: &Log) -> bool {
     }
 }
 
-// Does what a request asks for in this room, and returns the status that is due, with how much of the room was taken. If a
-// request for memory is refused there, the status is 3 if the making of the file asked for it, and else 4; then nothing is
-// printed, and no file is made.
+// Performs a request in this room, and returns the status that is due, with how much of the room was taken. If a
+// request for memory is refused, the status is 3 if it came from the creation of the output file, and 4 otherwise. Then
+// nothing is printed, and no file is created.
 fn runs(
     rt: &(impl Abort + Alloc<A = Global>),
     case: &Case<'_>,
@@ -144,8 +144,8 @@ fn runs(
     (due, taken(&memory, room))
 }
 
-// Does what a request asks for, with each of its requests for memory refused in turn, from the last to the first. The last
-// one has this status.
+// Performs a request with each of its requests for memory refused in turn, from the last to the first. If the last one
+// is refused, the status is `last`.
 fn each_is_refused(rt: &(impl Abort + Alloc<A = Global>), case: &Case<'_>, last: u8) {
     let (_, needed) = runs(rt, case, AMPLE, false);
     let mut room = smaller(AMPLE, needed);
@@ -166,7 +166,7 @@ fn each_is_refused(rt: &(impl Abort + Alloc<A = Global>), case: &Case<'_>, last:
     shows(rt, first_status == Some(last), "the last request");
 }
 
-// Does what a request asks for, which prints a line and reads this file.
+// Performs a request that reads this file and prints a line, with each of its requests for memory refused in turn.
 fn prints(
     rt: &(impl Abort + Alloc<A = Global>),
     request: PrintRequest<'_>,
@@ -216,7 +216,7 @@ fn wrapping_and_unwrapping(rt: HostRuntime) {
     }
 }
 
-// Two records, and 18 of which the fifth disagrees.
+// A file of two records, and one of 18 records, the fifth of which disagrees.
 #[test]
 fn checking(rt: HostRuntime) {
     let request = PrintRequest::Check { path: "" };
@@ -228,7 +228,8 @@ fn checking(rt: HostRuntime) {
     prints(&rt, request, &fifth, 1, "records 18\nbad 5");
 }
 
-// Seals a file of a vector's text, or opens one of the sealed bytes. The making of the file asks last.
+// Seals a file with a vector's text, or opens one with its sealed bytes. The last request for memory comes from the
+// creation of the output file.
 fn writes(
     rt: &(impl Abort + Alloc<A = Global>),
     command: FileCommand,

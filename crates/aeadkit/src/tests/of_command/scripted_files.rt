@@ -1,4 +1,4 @@
-//! Files in memory, of which one call goes wrong.
+//! Files in memory, one of whose calls goes wrong.
 ghost use Rattle.std.specs.Prelude.{◌≤◌, IfOk};
 
 use command::Storage;
@@ -21,20 +21,20 @@ pub enum Wrong {
 /// The record of a run.
 #[derive(Drop)]
 pub struct Log {
-    /// How many calls were made: openings, reads, makings, writes and syncs.
+    /// How many calls were made: opens, reads, creations, writes and syncs.
     pub calls: Cell<u32>,
-    /// The reading for which the wrong call was made, if it was made for one.
+    /// The reading to which the call that went wrong belongs, if it belongs to one.
     pub reading: Cell<Option<u8>>,
-    /// Whether the written file was made.
+    /// Whether the output file was created.
     pub made: Cell<bool>,
-    /// Whether it was synced after its last byte.
+    /// Whether the output file was synced after its last byte.
     pub synced: Cell<bool>,
-    /// The contents of the written file.
+    /// The contents of the output file.
     pub written: RefCell<Vec<u8>>,
 }
 
 impl Log {
-    /// Nothing was called.
+    /// The record before any call.
     pub fn new(alloc: Global) -> Log {
         Log {
             calls: Cell::new(0),
@@ -45,7 +45,7 @@ impl Log {
         }
     }
 
-    /// Whether the written file was made and synced, and holds these bytes.
+    /// Whether the output file was created and synced, and holds these bytes.
     pub fn holds(&self, bytes: &[u8]) -> bool {
         match self.written.try_borrow() {
             Ok(held) => self.made.get() && self.synced.get() && held.as_slice() == bytes,
@@ -53,7 +53,7 @@ impl Log {
         }
     }
 
-    /// Whether the written file holds a beginning of these bytes.
+    /// Whether the output file holds a beginning of these bytes.
     pub fn begins(&self, bytes: &[u8]) -> bool {
         match self.written.try_borrow() {
             Ok(held) => bytes.starts_with(held.as_slice()),
@@ -62,8 +62,8 @@ impl Log {
     }
 }
 
-/// The call that goes wrong, by its number from 1 on, and how; 0 is none. With `trickle` each call moves one
-/// byte.
+/// The number of the call that goes wrong, from 1 on or 0 for none, and how it goes wrong. With `trickle` each call
+/// moves one byte.
 #[derive(Clone, Copy)]
 pub struct Script<'a> {
     pub at: u32,
@@ -73,7 +73,7 @@ pub struct Script<'a> {
 }
 
 impl<'a> Script<'a> {
-    /// No call goes wrong.
+    /// A script in which no call goes wrong.
     pub fn of_none(log: &'a Log) -> Script<'a> {
         Script {
             at: 0,
@@ -104,14 +104,14 @@ impl<'a> Script<'a> {
     }
 }
 
-/// A file that is read, the same at every path, and one that is written.
+/// An input file, the same at every path, and an output file.
 #[derive(Drop)]
 pub struct Scripted<'b, 'l> {
     pub bytes: &'b [u8],
     pub script: Script<'l>,
 }
 
-/// The rest of a reading.
+/// The bytes that are left in a reading.
 #[derive(Drop)]
 pub struct Source<'b, 'l> {
     reading: u8,
@@ -119,7 +119,7 @@ pub struct Source<'b, 'l> {
     script: Script<'l>,
 }
 
-/// The file that is written.
+/// The output file.
 #[derive(Drop)]
 pub struct Sink<'l> {
     script: Script<'l>,

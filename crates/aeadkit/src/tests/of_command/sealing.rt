@@ -45,7 +45,7 @@ fn standard_vectors(rt: HostRuntime) {
     is_sealed(&rt, GCM_SIV_WRAPS);
 }
 
-// A row of `seal`, and the same of `open`.
+// Runs a row of `seal`, and the same row for `open`.
 fn is_refused_both_ways(rt: &(impl Abort + Alloc<A = Global>), row: &str) {
     runs_row(rt, &NO_FILES, row);
     let opening = row
@@ -57,8 +57,8 @@ fn is_refused_both_ways(rt: &(impl Abort + Alloc<A = Global>), row: &str) {
     runs_row(rt, &NO_FILES, &opening);
 }
 
-// The suite's name comes first, then the hex of key, nonce, associated data and body, then the key's
-// length, then the nonce's, for sealing and opening.
+// For sealing and for opening, the suite's name is checked first, then the hex of key, nonce, associated data and body,
+// then the key's length, then the nonce's length.
 #[test]
 fn refusals_in_order(rt: HostRuntime) {
     for row in REFUSED.lines() {
@@ -66,7 +66,7 @@ fn refusals_in_order(rt: HostRuntime) {
     }
 }
 
-// Bytes are no sealing under a vector's inputs.
+// These bytes are not a valid sealing under a vector's inputs, and have this fault.
 fn is_no_sealing(
     rt: &(impl Abort + Alloc<A = Global>),
     vector: &Vector<'_>,
@@ -77,7 +77,7 @@ fn is_no_sealing(
     runs_over(rt, &NO_FILES, &words, 1, None, fault);
 }
 
-// The beginnings of a sealing are none.
+// A shorter beginning of a sealing is not a valid sealing.
 #[test]
 fn cut_sealings(rt: HostRuntime) {
     for line in [CHACHA, GCM_4] {
@@ -94,7 +94,7 @@ fn cut_sealings(rt: HostRuntime) {
     }
 }
 
-// Other associated data makes another sealing.
+// A sealing is not valid under other associated data.
 #[test]
 fn other_associated_data(rt: HostRuntime) {
     let mut vector = Vector::of(CHACHA);

@@ -12,7 +12,7 @@ const KEY: &str = "000102030405060708090a0b0c0d0e0f";
 
 const TEXT: &str = "00112233445566778899aabbccddeeff";
 
-// Words, the failure of standard output, and the status and the fault.
+// Words, the failure of standard output, the status, and the fault.
 const UNPRINTED: [(&[&str], io::ErrorKind, u8, &str); 5] = [
     (
         &["wrap", "--key", KEY, "--text", TEXT],
@@ -31,8 +31,8 @@ const UNPRINTED: [(&[&str], io::ErrorKind, u8, &str); 5] = [
     (&CHECK, io::ErrorKind::StorageFull, 3, "Write"),
 ];
 
-// Words print to a standard output that has to be flushed, which waits for nothing in the end. A failing flush is
-// `Write`.
+// Runs the words with a standard output that has to be flushed: at the end all its bytes are flushed. If the flush
+// fails, the fault is `Write`.
 fn are_flushed<F: Storage>(rt: &(impl Abort + Alloc<A = Global>), files: &F, words: &[&str]) {
     for (flush_fails, status, fault) in [(false, 0, ""), (true, 3, "Write")] {
         let mut out = Waiting {
@@ -44,7 +44,8 @@ fn are_flushed<F: Storage>(rt: &(impl Abort + Alloc<A = Global>), files: &F, wor
     }
 }
 
-// A failing standard output is `Write`, and an allocation failure there is `OutOfMemory`. It is flushed.
+// If standard output fails, the fault is `Write`, or `OutOfMemory` if the failure is one of allocation. Standard output
+// is flushed.
 #[test]
 fn failing_output(rt: HostRuntime) {
     let files = OneFile {
@@ -62,7 +63,7 @@ fn failing_output(rt: HostRuntime) {
     }
 }
 
-// A failing standard error changes no status.
+// A standard error that fails does not change the status.
 #[test]
 fn failing_error(rt: HostRuntime) {
     for (key, status) in [("0", 2), (KEY, 0)] {

@@ -1,4 +1,4 @@
-//! The system's files, in a folder of the test's own.
+//! Files of the system, in a folder that the test creates and removes.
 use super::super::digits::bytes;
 use super::super::published::{CHACHA, CHANGED, GCM, Vector};
 use super::super::runs::{runs_over, runs_row};
@@ -33,15 +33,15 @@ const LONG: &str = "aeadkit_files/long";
 
 const LONG_TWICE: &str = "aeadkit_files/long_twice";
 
-// Makes a file of these bytes.
+// Writes a file with these bytes.
 fn is_made(rt: &(impl Abort + Files), path: &str, bytes: &[u8]) {
     shows(rt, fs::write(rt, path, bytes).is_ok(), path);
 }
 
-// A status, a fault and the words that have them. A file is sealed and opened again; a forged one makes no OUT, and
-// leaves one that is there; an empty text makes an empty OUT. A path that leads nowhere is `Read` for IN, and `Write`
-// for OUT. A folder, a path of no file and an empty one are `Read`; so is a long file that is sealed onto another name
-// of it, in one reading or in two, since it ends before the length that it had.
+// A status, a fault and the words that have them. A file is sealed and opened again. A forged file creates no OUT, and
+// leaves an existing OUT as it was. An empty text gives an empty OUT. A path that leads nowhere is `Read` for IN and
+// `Write` for OUT. A folder, a path without a file and an empty path are `Read`. So is a long file that is sealed onto
+// itself under another path, in one reading or in two, since it ends before the length that it had.
 const ROWS: &str = "\
 0 - seal-file --suite chacha20-poly1305 --key 808182838485868788898a8b8c8d8e8f909192939495969798999a9b9c9d9e9f \
     --nonce 070000004041424344454647 --aad 50515253c0c1c2c3c4c5c6c7 --in aeadkit_files/text --out aeadkit_files/sealed
@@ -64,7 +64,7 @@ const ROWS: &str = "\
 3 Read check aeadkit_files/unmade
 3 Read check -";
 
-// A vector file is read. A buffer that can't be allocated is `OutOfMemory`.
+// `check` reads a vector file. If the buffer can't be allocated, the fault is `OutOfMemory`.
 fn checks(rt: &(impl Abort + Alloc<A = Global> + Files)) {
     let files = Disk {
         runtime: rt,
@@ -80,7 +80,7 @@ fn checks(rt: &(impl Abort + Alloc<A = Global> + Files)) {
     runs_over(rt, &files, &["check", VECTORS], 4, None, "OutOfMemory");
 }
 
-// Makes the files that the rows read, and two that they write: both are longer than what is written there.
+// Writes the files that the rows read, and two that the rows overwrite, which are longer than their new contents.
 fn makes(rt: &(impl Abort + Alloc<A = Global> + Files)) {
     let text = Vector::of(CHACHA).text;
     let empty = Vector::of(GCM).sealed;
@@ -105,7 +105,7 @@ fn runs_rows(rt: &(impl Abort + Alloc<A = Global> + Files)) {
     }
 }
 
-// A file holds the bytes that digits spell.
+// Compares the contents of a file with the bytes that the digits spell.
 fn holds(rt: &(impl Abort + Alloc<A = Global> + Files), path: &str, digits: &str) {
     let held = fs::read(rt, path).expect(rt, "a file");
     shows(rt, held.as_slice() == bytes(rt, digits).as_slice(), path);

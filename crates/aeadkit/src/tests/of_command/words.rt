@@ -7,10 +7,10 @@ use command::VERSION;
 use std::alloc::Global;
 use std::process::Abort;
 
-// Each line of what follows has a status, a fault and the words that are refused with them; `-` is the empty word.
+// Each line of these tables has a status, a fault and the words that are refused with them; `-` is the empty word.
 
-// Wrapping and unwrapping: the hex of the key comes first, then that of the text, then the key's length, then
-// the text's.
+// Wrapping and unwrapping: the hex of the key is checked first, then the hex of the text, then the key's length, then
+// the text's length.
 const OF_WRAPPING: &str = "\
 2 BadHex wrap --key 0 --text 0
 2 BadHex unwrap --key 0 --sealed 0
@@ -31,9 +31,10 @@ const OF_WRAPPING: &str = "\
 2 WrapLength wrap --key 000102030405060708090a0b0c0d0e0f --text 00112233445566778899aabbccddeeff00112233
 2 WrapLength unwrap --key 000102030405060708090a0b0c0d0e0f --sealed 00112233445566778899aabbccddeeff";
 
-// No text of no bytes is padded; a wrapping with padding has 16 bytes at least, in whole blocks. The two forms
-// refuse one another's wrappings. The last four are a block enciphered: a65959a6, a length of 0, 9 or 7 bytes, and
-// bytes that are no text of that length with zeros after it; and a65959a7 in the place of a65959a6.
+// An empty text can't be wrapped with padding. A wrapping with padding has at least 16 bytes, in whole blocks of 8.
+// Each form refuses the wrappings of the other. The last four rows unwrap one encrypted block. Three of these blocks
+// are a65959a6, a length of 0, 9 or 7 bytes, and bytes that are not a text of that length followed by zeros. The fourth
+// block has a65959a7 in place of a65959a6.
 const OF_PADDING: &str = "\
 2 WrapLength wrap --pad --key 000102030405060708090a0b0c0d0e0f --text -
 2 WrapLength unwrap --pad --key 000102030405060708090a0b0c0d0e0f --sealed 0011223344556677
@@ -46,11 +47,11 @@ const OF_PADDING: &str = "\
 1 WrapIntegrity unwrap --pad --key 5840df6e29b02af1ab493b705bf16ea1ae8338f4dcc176a8 --sealed 0176a4c40ddf6166ab242832acce88d8
 1 WrapIntegrity unwrap --pad --key 5840df6e29b02af1ab493b705bf16ea1ae8338f4dcc176a8 --sealed d3bc14fb6dc0b7f3ffa6695290398efb";
 
-// Changed bytes are no wrapping.
+// Changed bytes are not a valid wrapping.
 const OF_BYTES: &str = "\
 1 WrapIntegrity unwrap --key 000102030405060708090a0b0c0d0e0f --sealed 1fa68b0a8112b447aef34bd8fb5a7b829d3e862371d2cfe4";
 
-// Arguments that are no command line.
+// Arguments that are not a valid command line.
 const OF_WORDS: &str = "\
 2 Words
 2 Words -
@@ -70,7 +71,7 @@ const OF_WORDS: &str = "\
 2 Words help frob
 2 Words seal --version";
 
-// One path for both files, whatever the suite is.
+// The same path for both files is refused, whatever the suite is.
 const OF_PATHS: &str = "\
 2 Words seal-file --suite chacha20-poly1305 --key 808182838485868788898a8b8c8d8e8f909192939495969798999a9b9c9d9e9f \
     --nonce 070000004041424344454647 --aad 50515253c0c1c2c3c4c5c6c7 --in a --out a
@@ -110,8 +111,8 @@ fn wrapping_vectors(rt: HostRuntime) {
     }
 }
 
-// A line, and the words that print it: hex digits may be of either case, a value may follow `=`, and an option that is
-// not given has an empty value.
+// A line, and the words that print it. Hex digits may be in upper or lower case, a value may follow `=`, and an option
+// that is not given has an empty value.
 const PRINTED: &str = "\
 00112233445566778899aabbccddeeff unwrap --sealed=1FA68B0A8112B447AEF34BD8FB5A7B829D3E862371D2CFE5 --key=000102030405060708090A0b0c0d0E0F
 58e2fccefa7e3061367f1d57a4e7455a seal --suite aes-128-gcm --key 00000000000000000000000000000000 --nonce 000000000000000000000000
@@ -124,7 +125,7 @@ fn printed_lines(rt: HostRuntime) {
     }
 }
 
-// Lines of words that ask for help.
+// Command lines that ask for help.
 const HELP: &str = "\
 --help
 -h
@@ -146,7 +147,7 @@ fn help(rt: HostRuntime) {
     }
 }
 
-// The version is one line there.
+// The version is one line on standard output.
 #[test]
 fn version(rt: HostRuntime) {
     let line = format!(in rt.alloc(); "aeadkit {VERSION}").expect(&rt, "memory");

@@ -1,11 +1,11 @@
-//! The file of two records, cut after each line and inside it.
+//! The file of two records, cut off after each line and inside it.
 use super::super::vector_files::TWO_RECORDS;
 use super::check_gives;
 use std::alloc::Global;
 use std::process::Abort;
 
-// The results for each line, if the file ends with the whole line, inside its name, or after an even or an odd number of
-// digits of its value.
+// The results for each line: if the file ends after the whole line, inside its name, or after an even or an odd number
+// of digits of its value.
 const RESULTS: &str = "\
 whole: NoRecords|name: NoRecords
 whole: NoRecords|name: BadFormat at line 2|even: BadFormat at line 2|odd: BadFormat at line 2
@@ -23,7 +23,7 @@ whole: Unfinished at line 13|name: BadLine at line 13
 whole: Unfinished at line 14|name: BadLine at line 14|even: Unfinished at line 14|odd: BadHex at line 14
 whole: records 2|name: BadLine at line 15";
 
-// The name of the result if this is the last line, or a part of it.
+// The name of the result, if the file ends with this line or this part of a line.
 fn result_name(part: &str, is_whole: bool) -> &'static str {
     match part.split_once('=') {
         _ if is_whole => "whole: ",
@@ -33,7 +33,7 @@ fn result_name(part: &str, is_whole: bool) -> &'static str {
     }
 }
 
-// The result of the first bytes of the file, which end with a line or inside one.
+// The result for the first bytes of the file, which end after a whole line or inside one.
 fn result_of(kept: &str, is_whole: bool) -> &'static str {
     let Some(part) = kept.lines().last() else {
         return "NoRecords";
@@ -48,7 +48,7 @@ fn result_of(kept: &str, is_whole: bool) -> &'static str {
     ""
 }
 
-// After each line with its LF and without it, and at each place inside it.
+// The file is cut off after each line, with its LF and without it, and at each place inside the line.
 #[test]
 fn cut_at_each_place(rt: HostRuntime) {
     for end in 0..=TWO_RECORDS.len() {
